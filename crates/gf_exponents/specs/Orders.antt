@@ -1,0 +1,81 @@
+-- The orders of monomials: as comparisons of two exponent lists of one length, and as relations on all monomials.
+-- A first variable is greatest. Each order is said once as a relation (`Is..Below x y`: x is below y) by the first or
+-- last exponent that differs; lex and deglex are also said as the comparison that code computes.
+-- Laws: proofs/OrderLaws.antt. Source: Cox, Little, O'Shea, Ideals, Varieties, and Algorithms, 2.2.
+use Rattle.std.specs.Prelude.{◌≡◌, ◌⊎◌, ℕ, ◌+◌, ◌<◌, true, List}
+use Rattle.std.specs.Ordering.{nat_cmp, ordering_then}
+use Rattle.std.specs.Cmp.Lexicographic.{slice_cmp}
+use Rattle.std.specs.declared.cmp.Ordering.{Ordering}
+use Rattle.gf_exponents.specs.Exponents.{Exponents, entry, same, plus, degree, weight}
+
+-- ---- comparisons of two lists of one length
+
+-- lex: the first exponent that differs decides
+abbrev pub lex : Exponents → Exponents → Ordering
+lex x y = slice_cmp nat_cmp x y
+
+-- deglex: the total degree, then lex
+abbrev pub deglex : Exponents → Exponents → Ordering
+deglex x y = ordering_then (nat_cmp (degree x) (degree y)) (lex x y)
+
+-- ---- what a comparison of monomials is
+
+-- a strict comparison: it goes by the monomials that are meant, and products keep it
+pub record IsStrict (below : Exponents → Exponents → Type 0) : Type 0 where
+  pub irreflexive : (x y : Exponents) → same x y ≡ true → below x y → ⊥
+  pub transitive : (x y z : Exponents) → below x y → below y z → below x z
+  pub invariant : (z x y : Exponents) → below x y → below (plus z x) (plus z y)
+  pub along_left : (x y z : Exponents) → same x y ≡ true → below x z → below y z
+  pub along_right : (x y z : Exponents) → same y z ≡ true → below x y → below x z
+
+-- a monomial order: a strict comparison of which one of three holds of any two monomials
+pub record IsMonomialOrder (below : Exponents → Exponents → Type 0) : Type 0 where
+  pub strict : IsStrict below
+  pub total : (x y : Exponents) → below x y ⊎ (same x y ≡ true) ⊎ below y x
+
+-- ---- the orders as relations
+
+-- lex: the first exponent that differs is smaller
+pub record IsLexBelow (x y : Exponents) : Type 0 where
+  pub at : ℕ
+  pub before : (i : ℕ) → i < at → entry x i ≡ entry y i
+  pub here : entry x at < entry y at
+
+-- revlex: the last exponent that differs is greater
+pub record IsRevlexBelow (x y : Exponents) : Type 0 where
+  pub at : ℕ
+  pub after : (i : ℕ) → at < i → entry x i ≡ entry y i
+  pub here : entry y at < entry x at
+
+-- deglex: the degree is smaller, or equal and lex says so
+abbrev pub IsDeglexBelow : Exponents → Exponents → Type 0
+IsDeglexBelow x y = (degree x < degree y) ⊎ ((degree x ≡ degree y) × IsLexBelow x y)
+
+-- the weight alone is smaller
+abbrev pub lighter : List ℕ → Exponents → Exponents → Type 0
+lighter w x y = weight w x < weight w y
+
+-- weighted(w): the weight is smaller, or equal and lex says so
+abbrev pub IsWeightedBelow : List ℕ → Exponents → Exponents → Type 0
+IsWeightedBelow w x y = (weight w x < weight w y) ⊎ ((weight w x ≡ weight w y) × IsLexBelow x y)
+
+-- weighted_revlex(w): the weight is smaller, or equal and revlex says so
+abbrev pub IsWeightedRevlexBelow : List ℕ → Exponents → Exponents → Type 0
+IsWeightedRevlexBelow w x y = (weight w x < weight w y) ⊎ ((weight w x ≡ weight w y) × IsRevlexBelow x y)
+
+-- an integer weight: what counts for an exponent, and what counts against it
+pub record Row : Type 0 where
+  pub gain : List ℕ
+  pub loss : List ℕ
+
+-- the row is smaller at x than at y
+abbrev pub is_less : Row → Exponents → Exponents → Type 0
+is_less r x y = weight r.gain x + weight r.loss y < weight r.gain y + weight r.loss x
+
+-- the row is the same at both
+abbrev pub is_alike : Row → Exponents → Exponents → Type 0
+is_alike r x y = weight r.gain x + weight r.loss y ≡ weight r.gain y + weight r.loss x
+
+-- facet, by the row of the negated normal: the row is smaller, or equal and lex says so
+abbrev pub IsFacetBelow : Row → Exponents → Exponents → Type 0
+IsFacetBelow r x y = is_less r x y ⊎ (is_alike r x y × IsLexBelow x y)
