@@ -1,0 +1,14 @@
+use Rattle.std.proofs.Common.{◌≤◌, length, take, ◌-◌}
+use Rattle.std.specs.Io.KnownBytes.{Appends}
+use Rattle.gf_outside.proofs.sink.write_all.Given as goal
+
+-- what was done is what the sink gained, and the count of faults hasn't fallen
+abbrev pub invariant-loop-done : goal.invariant-loop-done
+invariant-loop-done g l = record {
+  within : l.done ≤ length l.piece;
+  held : Appends (g.K.Sink.held l.initial.sink) (g.K.Sink.held l.sink) (take l.done l.piece);
+  later : g.K.Sink.faults l.initial.sink ≤ g.K.Sink.faults l.sink;
+}
+
+abbrev pub decreases-loop-done : goal.decreases-loop-done
+decreases-loop-done g l = length l.piece - l.done

@@ -1,0 +1,4 @@
+-- when a fault may be answered
+pub mod Faults
+-- what a call took from a source or added to a sink
+pub mod Moved
