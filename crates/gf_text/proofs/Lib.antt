@@ -1,0 +1,4 @@
+pub mod TokensLaws  -- the tokens of a text, one after another
+pub mod SpelledLaws  -- texts whose tokens are one byte each
+pub mod MachineLaws  -- what machines read, and what grammars say of it
+pub mod RingTextLaws  -- the machine of rings reads what the grammar says; printed rings are read again

@@ -1,0 +1,86 @@
+-- The tokens of a text, one after another.
+-- To cite: next_token, no_token, behind-lexeme. The rest are steps.
+use Rattle.std.proofs.Common.{◌≡◌, ◌<◌, ◌≤◌, ℕ, zero, suc, ◌+◌, ◌-◌, Bool, true, false, cond, List, [], ◌∷◌, length, drop, take, get_or, refl, sym, ap, ◌∙◌, arith, if◌then◌else◌}
+use Rattle.std.proofs.Math.Seq.{drop-cons}
+use Rattle.std.proofs.lemmas.List.{drop-drop, length-take, length-drop}
+use Rattle.std.specs.List.{prefix_len}
+use Rattle.gf_text.specs.Machine.{Lexeme, behind}
+use Rattle.gf_text.specs.Tokens.{is_space, lex, lexemes, lexeme}
+
+module _ (more : List ℕ → ℕ) where
+  -- bytes of a token before are passed over
+  lex-skip : (k at : ℕ) (bytes : List ℕ) → lex more k at bytes ≡ lex more 0 (at + k) (drop k bytes)
+  unfolding lex
+  lex-skip zero at bytes = ap (λ n. lex more 0 n bytes) (omega arith)
+  lex-skip (suc k) at [] = refl
+  lex-skip (suc k) at (b ∷ bs) = let places : (at + 1) + k ≡ at + suc k = omega arith in lex-skip k (at + 1) bs ∙ ap (λ n. lex more 0 n (drop k bs)) places
+
+  -- the token behind k bytes, and the tokens behind it
+  from_token : ℕ → List ℕ → ℕ → List Lexeme
+  from_token at bytes k = record { text = get_or bytes k 0 ∷ take (more (drop k bytes)) (drop (suc k) bytes); at = at + k } ∷ lex more (more (drop k bytes)) ((at + k) + 1) (drop (suc k) bytes)
+
+  first_by : (b : ℕ) (bs : List ℕ) (at : ℕ) (v : Bool)
+      → (prefix_len is_space bs < length bs → lex more 0 (at + 1) bs ≡ from_token (at + 1) bs (prefix_len is_space bs))
+      → cond v (1 + prefix_len is_space bs) 0 < suc (length bs)
+      → (if v then lex more 0 (at + 1) bs else record { text = b ∷ take (more (b ∷ bs)) bs; at = at } ∷ lex more (more (b ∷ bs)) (at + 1) bs) ≡ from_token at (b ∷ bs) (cond v (1 + prefix_len is_space bs) 0)
+  unfolding from_token
+  first_by b bs at true later h =
+      let k = prefix_len is_space bs in
+      let next : 1 + k ≡ suc k = omega arith in
+      let place : (at + 1) + k ≡ at + suc k = omega arith in
+      later (omega arith) ∙ rw (next, place) refl
+  first_by b bs at false later h = let place : at + 0 ≡ at = omega arith in rw place refl
+
+  first_token : (at : ℕ) (bytes : List ℕ) → prefix_len is_space bytes < length bytes → lex more 0 at bytes ≡ from_token at bytes (prefix_len is_space bytes)
+  unfolding lex
+  first_token at [] h = absurd (omega arith)
+  first_token at (b ∷ bs) h = first_by b bs at (is_space b) (first_token (at + 1) bs) h
+
+  none_by : (b : ℕ) (bs : List ℕ) (at : ℕ) (v : Bool) → (length bs ≤ prefix_len is_space bs → lex more 0 (at + 1) bs ≡ []) → suc (length bs) ≤ cond v (1 + prefix_len is_space bs) 0
+      → (if v then lex more 0 (at + 1) bs else record { text = b ∷ take (more (b ∷ bs)) bs; at = at } ∷ lex more (more (b ∷ bs)) (at + 1) bs) ≡ []
+  none_by b bs at true later h = later (omega arith)
+  none_by b bs at false later h = absurd (omega arith)
+
+  spaces_only : (at : ℕ) (bytes : List ℕ) → length bytes ≤ prefix_len is_space bytes → lex more 0 at bytes ≡ []
+  unfolding lex
+  spaces_only at [] h = refl
+  spaces_only at (b ∷ bs) h = none_by b bs at (is_space b) (spaces_only (at + 1) bs) h
+
+  -- white space up to the end: no token
+  pub no_token : (source : List ℕ) (at : ℕ) → length (drop at source) ≤ prefix_len is_space (drop at source) → lexemes more source at ≡ []
+  no_token source at h = spaces_only at (drop at source) h
+
+  -- the first token at a place or behind it
+  pub next_token : (source : List ℕ) (at start end : ℕ) → prefix_len is_space (drop at source) < length (drop at source)
+      → start ≡ at + prefix_len is_space (drop at source) → end ≡ start + 1 + more (drop start source)
+      → lexemes more source at ≡ lexeme source start end ∷ lexemes more source end
+  unfolding from_token
+  next_token source at start end h starts ends =
+      let bytes = drop at source in
+      let k = prefix_len is_space bytes in
+      let first = get_or bytes k 0 in
+      let rest = drop start source in
+      let later = drop (suc start) source in
+      let n = more rest in
+      let place : at + k ≡ start = omega arith in
+      let here : drop k bytes ≡ rest = drop-drop k at source ∙ ap (λ i. drop i source) place in
+      let place_later : at + suc k ≡ suc start = omega arith in
+      let there : drop (suc k) bytes ≡ later = drop-drop (suc k) at source ∙ ap (λ i. drop i source) place_later in
+      let front : rest ≡ first ∷ later = sym here ∙ drop-cons bytes k 0 h ∙ ap (λ l. first ∷ l) there in
+      let shape = λ (r l : List ℕ) (p : ℕ). record { text = first ∷ take (more r) l; at = p } ∷ lex more (more r) (p + 1) l in
+      let len : end - start ≡ suc n = omega arith in
+      let text : first ∷ take n later ≡ take (end - start) rest = rw (len, front) refl in
+      let end_place : suc start + n ≡ end = omega arith in
+      let end_place_again : (start + 1) + n ≡ end = omega arith in
+      let tail : lex more n (start + 1) later ≡ lexemes more source end =
+      lex-skip n (start + 1) later ∙ ap (λ l. lex more 0 ((start + 1) + n) l) (drop-drop n (suc start) source ∙ ap (λ i. drop i source) end_place) ∙ ap (λ p. lex more 0 p (drop end source)) end_place_again in
+      first_token at bytes h
+      ∙ ap (λ r. shape r (drop (suc k) bytes) (at + k)) here
+      ∙ ap (λ l. shape rest l (at + k)) there
+      ∙ ap (λ p. shape rest later p) place
+      ∙ ap (λ t. record { text = t; at = start } ∷ lex more n (start + 1) later) text
+      ∙ ap (λ xs. lexeme source start end ∷ xs) tail
+
+-- the place behind a token between two places is the second
+pub behind-lexeme : (source : List ℕ) (start end : ℕ) → start < end → end ≤ length source → behind (lexeme source start end) ≡ end
+behind-lexeme source start end rises within = omega (arith, length-take (end - start) (drop start source), length-drop start source)

@@ -1,0 +1,4 @@
+pub mod Machine  -- machines that read tokens
+pub mod Tokens  -- white space, the tokens of a text
+pub mod RingText  -- rings: grammar, machine, printed text
+pub mod Given  -- what a reader gave

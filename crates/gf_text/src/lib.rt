@@ -1,0 +1,20 @@
+//! Rings and sets of polynomials as text: what is read, and what is written.
+//!
+//! A text is cut into tokens (`specs/Tokens.antt`), machines read them (`specs/Machine.antt`), and what a text means is
+//! said apart from the machines, by grammars over its tokens (`specs/RingText.antt`).
+#![tactic(auto)]
+
+mod error;
+mod names;
+mod printer;
+mod reader;
+mod ring_reader;
+#[cfg(test)]
+mod tests;
+mod tokens;
+
+pub use error::{Kind, Syntax, TextError};
+pub use names::{Name, Names, Ring};
+pub use printer::{Printer, rings_are_read_again, rings_have_one_meaning};
+pub use reader::Reader;
+pub use tokens::Token;

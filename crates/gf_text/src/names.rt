@@ -1,0 +1,138 @@
+//! The names of a ring's variables.
+ghost use Rattle.std.specs.Prelude.{◌≡◌, ◌++◌, ◌∷◌, ◌<◌, ◌≤◌, [], IfOk, OnOk, OnErr, length, slice_get};
+ghost use Rattle.gf_text.specs.RingText.{has, IsRing};
+
+use std::alloc::{AllocError, Global};
+use std::marker::Model;
+
+/// A name, seen as its bytes.
+#[derive(Drop)]
+pub struct Name {
+    bytes: Vec<u8>,
+}
+
+impl Model for Name {
+    ghost use Rattle.std.specs.Prelude.{List, ℕ};
+
+    ghost Value = { List ℕ };
+
+    ghost view = { λ n. n.bytes.items };
+}
+
+impl Name {
+    /// The name with these bytes.
+    fn from_slice(alloc: Global, bytes: &[u8]) -> Result<Name, AllocError>
+        ensures { IfOk result (λ n. n ≡ bytes.now) }
+    {
+        Ok(Name {
+            bytes: Vec::from_slice(alloc, bytes)?,
+        })
+    }
+
+    /// Its bytes.
+    pub fn as_slice(&self) -> &[u8]
+        ensures { result.now ≡ self.now }
+    {
+        self.bytes.as_slice()
+    }
+}
+
+/// Names, seen as the list of them.
+#[derive(Drop)]
+pub struct Names {
+    items: Vec<Name>,
+}
+
+impl Model for Names {
+    ghost use Rattle.std.specs.Prelude.{List, ℕ};
+
+    ghost Value = { List (List ℕ) };
+
+    ghost view = { λ n. n.items.items };
+}
+
+impl Names {
+    /// No names.
+    pub fn new(alloc: Global) -> Names
+        ensures { result ≡ [] }
+    {
+        Names {
+            items: Vec::new(alloc),
+        }
+    }
+
+    /// Adds a name as the last one.
+    pub fn push(&mut self, alloc: Global, name: &[u8]) -> Result<(), AllocError>
+        ensures ok { OnOk result (self.new ≡ self.old ++ name.now ∷ []) }
+        ensures err { OnErr result (self.new ≡ self.old) }
+    {
+        let name = Name::from_slice(alloc, name)?;
+        self.items.push(name)?;
+        Ok(())
+    }
+
+    /// The names, one after another.
+    pub fn as_slice(&self) -> &[Name]
+        ensures { result.now ≡ self.now }
+    {
+        self.items.as_slice()
+    }
+
+    /// Whether the name is one of them.
+    pub fn has(&self, name: &[u8]) -> bool
+        ensures { result ≡ has self.now name.now }
+    {
+        self.items.iter().any(|n| n.as_slice() == name)
+    }
+}
+
+/// A ring of polynomials, seen as the list of the names of its variables.
+#[derive(Drop)]
+pub struct Ring {
+    names: Names,
+}
+
+impl Model for Ring {
+    ghost use Rattle.std.specs.Prelude.{List, ℕ};
+    ghost use Rattle.gf_text.specs.RingText.{IsRing};
+
+    ghost Value = { List (List ℕ) };
+
+    ghost view = { λ r. r.names };
+
+    ghost invariant = { λ r. IsRing r.names };
+}
+
+impl Ring {
+    /// The ring of these variables.
+    pub(crate) fn of(names: Names) -> Ring
+        requires { IsRing names }
+        ensures { result ≡ names }
+    {
+        Ring { names }
+    }
+
+    /// How many variables it has: 1 to 16.
+    pub fn len(&self) -> u32
+        ensures value { result ≡ length self.now }
+        ensures some { 0 < result }
+        ensures few { result ≤ 16 }
+    {
+        self.names.as_slice().len() as u32
+    }
+
+    /// Its names.
+    pub(crate) fn names(&self) -> &[Name]
+        ensures { result.now ≡ self.now }
+    {
+        self.names.as_slice()
+    }
+
+    /// The name of variable i, counted from 0.
+    pub fn name(&self, i: usize) -> &[u8]
+        requires { i < length self.now }
+        ensures { slice_get self.now i ≡ Some result.now }
+    {
+        self.names.as_slice()[i].as_slice()
+    }
+}

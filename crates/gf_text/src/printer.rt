@@ -1,0 +1,59 @@
+//! The writing of rings and polynomials.
+ghost use Rattle.std.specs.Prelude.{◌≡◌, ◌++◌, ◌∷◌, [], OnOk, OnErr, flat_map};
+ghost use Rattle.gf_text.specs.RingText.{ring_text, names_text, RingsAreReadAgain, IsRingText};
+ghost use Rattle.gf_text.specs.Machine.{HasOneMeaning};
+
+use crate::names::{Name, Ring};
+use std::alloc::AllocError;
+
+/// Writes rings and polynomials behind what a vector of bytes holds.
+#[derive(Clone, Copy, Debug)]
+pub struct Printer;
+
+/// Adds names with a comma before each.
+fn push_more(out: &mut Vec<u8>, names: &[Name]) -> Result<(), AllocError>
+    ensures { OnOk result (out.new.items ≡ out.old.items ++ flat_map (λ m. 44 ∷ m) names.now) }
+{
+    for name in names {
+        out.push(b',')?;
+        out.extend_from_slice(name.as_slice())?;
+    }
+    Ok(())
+}
+
+/// Adds names with commas between them.
+fn push_names(out: &mut Vec<u8>, names: &[Name]) -> Result<(), AllocError>
+    ensures { OnOk result (out.new.items ≡ out.old.items ++ names_text names.now) }
+{
+    if let [first, rest @ ..] = names {
+        out.extend_from_slice(first.as_slice())?;
+        push_more(out, rest)?;
+    }
+    Ok(())
+}
+
+impl Printer {
+    /// Adds the line of a ring: `Q[`, its names joined by commas, `]` and a line end.
+    ///
+    /// # Errors
+    /// Where memory runs out; then the vector is as before.
+    pub fn ring(out: &mut Vec<u8>, ring: &Ring) -> Result<(), AllocError>
+        ensures ok { OnOk result (out.new.items ≡ out.old.items ++ ring_text ring.now) }
+        ensures err { OnErr result (out.new.items ≡ out.old.items) }
+    {
+        let mut text = Vec::from_slice(*out.allocator(), b"Q[")?;
+        push_names(&mut text, ring.names())?;
+        text.extend_from_slice(b"]\n")?;
+        out.extend_from_slice(&text)
+    }
+}
+
+/// A printed ring is read again as what it is, wherever it stands and whatever follows it.
+pub fn rings_are_read_again()
+    ensures { RingsAreReadAgain }
+{}
+
+/// A text is the text of one ring at most.
+pub fn rings_have_one_meaning()
+    ensures { HasOneMeaning IsRingText }
+{}
