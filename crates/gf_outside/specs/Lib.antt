@@ -2,3 +2,5 @@
 pub mod Faults
 -- what a call took from a source or added to a sink
 pub mod Moved
+-- sources and sinks in memory
+pub mod Memory

@@ -1,10 +1,16 @@
 //! A source and a sink in memory that move a few bytes a call and fail at given calls.
 //!
 //! Calls are counted from 0, the failing ones too.
-ghost use Rattle.std.specs.Prelude.{◌≡◌, ◌≤◌, ◌<◌, ℕ, drop, Some, [], length};
+ghost use Rattle.std.specs.Prelude.{◌≡◌, ◌≤◌, ◌<◌, ◌↔◌, ℕ, List, [], length, min, Ok, Some, IsErr, IfOk};
+ghost use Rattle.std.specs.Io.{ReadsAtMost, WritesAtMost};
+ghost use Rattle.std.specs.Io.KnownBytes.{ReadConsumes, WriteAppends};
+ghost use Rattle.gf_outside.specs.Faults.{HasCause, Rose};
+ghost use Rattle.gf_outside.specs.Moved.{CountsMoved};
+ghost use Rattle.gf_outside.specs.Memory.{next_call, FailsNow};
 
 use crate::{Failed, Sink, Source};
 use std::alloc::Global;
+use std::marker::Model;
 
 /// A source over bytes in memory.
 #[derive(Drop)]
@@ -15,8 +21,22 @@ pub struct MemSource {
     failing: Vec<u64>,
     calls: u64,
     faults: u64,
-    ghost moves: { 1 ≤ most },
-    ghost within: { at ≤ length bytes.items },
+}
+
+impl Model for MemSource {
+    ghost use Rattle.std.specs.Prelude.{◌≤◌, length, drop};
+    ghost use Rattle.gf_outside.specs.Memory.{SourceInMemory};
+
+    ghost Value = { SourceInMemory };
+
+    ghost view = { λ s. record {
+      left = drop s.at s.bytes.items;
+      given = s.at;
+      script = record { most = s.most; failing = s.failing.items; calls = s.calls };
+      faults = s.faults;
+    } };
+
+    ghost invariant = { λ s. (1 ≤ s.most) × (s.at ≤ length s.bytes.items) };
 }
 
 impl MemSource {
@@ -24,9 +44,12 @@ impl MemSource {
     /// `failing`, counted from 0, fail.
     pub fn new(bytes: Vec<u8>, most: usize, failing: Vec<u64>) -> MemSource
         requires { 1 ≤ most }
-        ensures left { ⟦<MemSource as Source>⟧.left result ≡ Some bytes.items }
-        ensures given { ⟦<MemSource as Source>⟧.given result ≡ 0 }
-        ensures faults { ⟦<MemSource as Source>⟧.faults result ≡ 0 }
+        ensures { result ≡ record {
+          left = bytes.items;
+          given = 0;
+          script = record { most = most; failing = failing.items; calls = 0 };
+          faults = 0;
+        } }
     {
         MemSource {
             bytes,
@@ -40,13 +63,24 @@ impl MemSource {
 }
 
 impl Source for MemSource {
-    ghost left = { λ s. Some (drop s.at s.bytes.items) };
+    ghost left = { λ s. Some s.left };
 
-    ghost given = { λ s. s.at };
+    ghost given = { λ s. s.given };
 
     ghost faults = { λ s. s.faults };
 
-    fn read(&mut self, into: &mut [u8]) -> Result<usize, Failed> {
+    fn read(&mut self, into: &mut [u8]) -> Result<usize, Failed>
+        ensures bound { ReadsAtMost result into.new }
+        ensures bytes { ReadConsumes (Some self.old.left) (Some self.new.left) result into.new }
+        ensures count { CountsMoved self.old.given self.new.given result }
+        ensures cause { HasCause self.old.faults self.new.faults result }
+
+        // It fails at the calls of its script, and else moves as much as it may.
+        ensures fails { IsErr result ↔ FailsNow self.old.script }
+        ensures moves { IfOk result (λ n. n
+            ≡ min (min (length into.old) self.old.script.most) (length self.old.left)) }
+        ensures script { self.new.script ≡ next_call self.old.script }
+    {
         let call = self.calls;
         self.calls = self.calls.saturating_add(1);
         if self.failing.contains(&call) {
@@ -71,12 +105,27 @@ pub struct MemSink {
     faults: u64,
 }
 
+impl Model for MemSink {
+    ghost use Rattle.gf_outside.specs.Memory.{SinkInMemory};
+
+    ghost Value = { SinkInMemory };
+
+    ghost view = { λ s. record {
+      held = s.bytes.items;
+      script = record { most = s.most; failing = s.failing.items; calls = s.calls };
+      faults = s.faults;
+    } };
+}
+
 impl MemSink {
     /// An empty sink that takes at most `most` bytes a call; the calls whose numbers are in
     /// `failing`, counted from 0, fail.
     pub fn new(alloc: Global, most: usize, failing: Vec<u64>) -> MemSink
-        ensures held { ⟦<MemSink as Sink>⟧.held result ≡ Some [] }
-        ensures faults { ⟦<MemSink as Sink>⟧.faults result ≡ 0 }
+        ensures { result ≡ record {
+          held = [];
+          script = record { most = most; failing = failing.items; calls = 0 };
+          faults = 0;
+        } }
     {
         MemSink {
             bytes: Vec::new(alloc),
@@ -89,18 +138,28 @@ impl MemSink {
 
     /// The bytes that were written so far.
     pub fn bytes(&self) -> &[u8]
-        ensures { ⟦<MemSink as Sink>⟧.held self.now ≡ Some result.now }
+        ensures { result.now ≡ self.now.held }
     {
         &self.bytes
     }
 }
 
 impl Sink for MemSink {
-    ghost held = { λ s. Some s.bytes.items };
+    ghost held = { λ s. Some s.held };
 
     ghost faults = { λ s. s.faults };
 
-    fn write(&mut self, piece: &[u8]) -> Result<usize, Failed> {
+    fn write(&mut self, piece: &[u8]) -> Result<usize, Failed>
+        ensures bound { WritesAtMost result piece.now }
+        ensures bytes { WriteAppends (Some self.old.held) (Some self.new.held) result piece.now }
+        ensures cause { HasCause self.old.faults self.new.faults result }
+        ensures stuck { result ≡ Ok 0 → 0 < length piece.now → Rose self.old.faults self.new.faults }
+
+        // It fails at the calls of its script, and else, memory aside, moves as much as it may.
+        ensures fails { FailsNow self.old.script → IsErr result }
+        ensures moves { IfOk result (λ n. n ≡ min (length piece.now) self.old.script.most) }
+        ensures script { self.new.script ≡ next_call self.old.script }
+    {
         let call = self.calls;
         self.calls = self.calls.saturating_add(1);
         let count = piece.len().min(self.most);
