@@ -1,0 +1,3 @@
+pub mod FractionLaws  -- the field of fractions
+mod PartsLaws  -- the two numbers of a fraction as the code works them out
+mod WorkingLaws  -- what the code works out is the sum, or the product, of the fractions
