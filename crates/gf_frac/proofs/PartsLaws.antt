@@ -4,9 +4,10 @@ use Rattle.std.specs.Int.{w128, cast_signed, cast_unsigned, IsGcd}
 use Rattle.std.specs.Int.RustNames.{unsigned_abs, int_div}
 use Rattle.std.proofs.Common.{arith, ap, sym, ◌∙◌, subst, ◌≤◌, refl}
 use Rattle.std.proofs.lemmas.Int.{ints, to_z-of_z}
-use Rattle.std.proofs.lemmas.Nat.Gcd.{IsGcd-swap}
+use Rattle.std.proofs.lemmas.Nat.Gcd.{IsGcd-swap, dvd_refl}
+use Rattle.std.proofs.Math.Nat.{one-dvd}
 use lib.IntN.{neg_ℤ}
-use Rattle.gf_int.specs.Gcd.{gcd}
+use Rattle.gf_int.specs.Gcd.{gcd, gcd-is, gcd-same}
 use Rattle.gf_int.specs.Range.{InRange}
 use Rattle.gf_frac.specs.Fraction.{Fraction, over, over-parts, neg_ℚ, signed_as, reciprocal_ℚ, zero_ℚ}
 use Rattle.gf_frac.specs.Fields.{IsLowest, parts_back}
@@ -104,3 +105,25 @@ reduced p n q d r h l en ed =
       };
       value = ap (λ z. over z (d - 1)) a ∙ ap (λ z. over x.num (z - 1)) b ∙ over-parts x;
     }
+
+-- the same by any number with which the numerator has the same common divisor
+pub reduced_by : (p n : ℤ) (q g t d : ℕ) → InRange p → 0 < q → q < 2 ^ 127 → gcd (unsigned_abs p) q ≡ gcd (unsigned_abs p) g → t ≡ gcd (unsigned_abs p) g → n ≡ int_div p (pos t) → d ≡ q / t → IsReduced p q (n, d)
+reduced_by p n q g t d r h l e f en ed =
+    let k : t ≡ gcd (unsigned_abs p) q = f ∙ sym e in
+    reduced p n q d r h l (en ∙ ap (λ z. int_div p (pos z)) k) (ed ∙ ap (λ z. q / z) k)
+
+-- numbers without a common divisor are in lowest terms
+pub reduced_one : (p : ℤ) (q g : ℕ) → InRange p → 0 < q → q < 2 ^ 127 → gcd (unsigned_abs p) q ≡ gcd (unsigned_abs p) g → g ≡ 1 → IsReduced p q (p, q)
+reduced_one p q g r h l e f = record {
+  lowest = record {
+    positive = h;
+    numerator = r;
+    denominator = l;
+    lowest = subst (IsGcd (unsigned_abs p) q) (e ∙ ap (gcd (unsigned_abs p)) f ∙ sym (gcd-same (unsigned_abs p) 1 1 (one-dvd _, dvd_refl 1, λ d x y. y))) (gcd-is (unsigned_abs p) q);
+  };
+  value = refl;
+}
+
+-- a whole number is in lowest terms
+pub IsLowest-whole : (p : ℤ) → InRange p → IsLowest p 1
+IsLowest-whole p r = record { positive = omega arith; numerator = r; denominator = omega arith; lowest = (one-dvd _, dvd_refl 1, λ d x y. y) }

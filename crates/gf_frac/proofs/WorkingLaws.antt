@@ -1,13 +1,19 @@
 -- What the code works out is the sum, or the product, of the fractions.
-use Rattle.std.specs.Prelude.{◌≡◌, ℕ, zero, suc, ◌-◌, ◌*◌, ◌/◌, ◌<◌, ◌^◌, ℤ, pos, ◌+ℤ◌, ◌*ℤ◌}
+use Rattle.std.specs.Prelude.{◌≡◌, ℕ, zero, suc, ◌-◌, ◌*◌, ◌/◌, ◌<◌, ◌≤◌, ◌^◌, ℤ, pos, negsuc, ◌+ℤ◌, ◌*ℤ◌}
 use Rattle.std.specs.Int.RustNames.{unsigned_abs, int_div}
-use Rattle.std.proofs.Common.{arith, ap, sym, ◌∙◌, subst}
-use Rattle.std.proofs.Math.Nat.{mul-div_cancel', mul-pos}
-use Rattle.gf_int.specs.Gcd.{gcd, gcd-is}
+use Rattle.std.proofs.Common.{arith, refl, ap, sym, ◌∙◌, subst}
+use Rattle.std.proofs.Math.Nat.{mul-div_cancel', mul-pos, one-dvd}
+use Rattle.std.specs.Int.{IsGcd}
+use Rattle.std.proofs.lemmas.Int.{ints}
+use Rattle.std.proofs.lemmas.Nat.Gcd.{dvd_refl, le_of_dvd}
+use Rattle.gf_int.specs.Gcd.{gcd, gcd-is, gcd-same, gcd-positive}
 use Rattle.gf_int.specs.Range.{InRange}
 use Rattle.gf_int.specs.Integers.{each, naturals, diff-eq}
 use Rattle.gf_frac.specs.Fraction.{Fraction, over, over-eq, ◌+ℚ◌, ◌*ℚ◌, div-times}
-use Rattle.gf_frac.specs.Fits.{FitsAdd, FitsMul, IsReduced, IsSum, sum_numerator, sum_denominator, IsProduct, product_numerator, product_denominator}
+use Rattle.gf_frac.specs.Fields.{IsLowest}
+use Rattle.gf_frac.proofs.PartsLaws.{IsLowest-whole}
+use Rattle.gf_frac.proofs.LowestLaws.{lowest_product, sum_common}
+use Rattle.gf_frac.specs.Fits.{FitsAdd, FitsMul, FitsSum, FitsProduct, IsReduced, IsSum, IsSumWorking, sum_numerator, sum_denominator, IsProduct, product_numerator, product_denominator}
 
 factor_positive : (g x y : ℕ) → g * x ≡ y → 0 < y → 0 < x
 factor_positive g zero y e h = absurd (omega arith)
@@ -45,21 +51,34 @@ sum_of x y a c b d n m ea eb ec ed h =
     subst (λ z. IsSum x.num x.den y.num z (n, m)) ed (subst (λ z. IsSum x.num x.den z d (n, m)) ec (subst (λ z. IsSum x.num z c d (n, m)) eb (subst (λ z. IsSum z b c d (n, m)) ea h))) in
     (k.value ∙ sum_is x y, k.fits)
 
--- as the code names them
-pub common_positive : (b d g m : ℕ) → 0 < b → 0 < d → g ≡ gcd b d → m ≡ b * (d / g) → 0 < m
-common_positive b d g m h k e f = subst (λ z. 0 < z) (sym (f ∙ ap (λ z. b * (d / z)) e)) (sum_denominator-positive b d h k)
+-- the denominator that the code works out is positive
+pub working_positive : (a c n : ℤ) (b d m g : ℕ) → IsLowest a b → IsLowest c d → IsSumWorking a b c d (n, m, g) → 0 < m
+working_positive a c n b d m g la lc w = subst (λ z. 0 < z) (sym w.denominator) (sum_denominator-positive b d la.positive lc.positive)
 
-pub sum_made : (a c l r n : ℤ) (b d g m : ℕ) (s : ℤ × ℕ) → g ≡ gcd b d → (l ≡ a *ℤ pos (d / g)) × InRange l → (r ≡ c *ℤ pos (b / g)) × InRange r → (n ≡ l +ℤ r) × InRange n → (m ≡ b * (d / g)) × (m < 2 ^ 127) → IsReduced n m s → IsSum a b c d s
-sum_made a c l r n b d g m s e hl hr hn hm h =
-    let el : l ≡ a *ℤ pos (d / gcd b d) = hl.0 ∙ ap (λ z. a *ℤ pos (d / z)) e in
-    let er : r ≡ c *ℤ pos (b / gcd b d) = hr.0 ∙ ap (λ z. c *ℤ pos (b / z)) e in
-    let en : n ≡ sum_numerator a b c d = hn.0 ∙ ap (λ z. z +ℤ r) el ∙ ap (λ z. a *ℤ pos (d / gcd b d) +ℤ z) er in
-    let em : m ≡ sum_denominator b d = hm.0 ∙ ap (λ z. b * (d / z)) e in
-    record {
-      fits = record { left = subst InRange el hl.1; right = subst InRange er hr.1; sum = subst InRange en hn.1; denominator = subst (λ z. z < 2 ^ 127) em hm.1 };
-      lowest = h.lowest;
-      value = h.value ∙ ap (λ z. over z (m - 1)) en ∙ ap (λ z. over (sum_numerator a b c d) (z - 1)) em;
-    }
+-- with it the numerator has the same common divisor as with g
+pub working_common : (a c n : ℤ) (b d m g : ℕ) → IsLowest a b → IsLowest c d → IsSumWorking a b c d (n, m, g) → gcd (unsigned_abs n) m ≡ gcd (unsigned_abs n) g
+working_common a c n b d m g la lc w = subst (λ z. gcd (unsigned_abs z) m ≡ gcd (unsigned_abs z) g) (sym w.numerator) (
+    ap (gcd (unsigned_abs (sum_numerator a b c d))) w.denominator
+    ∙ sum_common a c b d lc.positive la.lowest lc.lowest
+    ∙ ap (gcd (unsigned_abs (sum_numerator a b c d))) (sym w.divisor)
+    )
+
+-- both are in range, and so is g
+pub working_range : (a c n : ℤ) (b d m g : ℕ) → IsLowest c d → IsSumWorking a b c d (n, m, g) → InRange n × (m < 2 ^ 127) × (0 < g) × (g < 2 ^ 127)
+working_range a c n b d m g lc w = (
+  subst InRange (sym w.numerator) w.fits.sum,
+  subst (λ z. z < 2 ^ 127) (sym w.denominator) w.fits.denominator,
+  subst (λ z. 0 < z) (sym w.divisor) (gcd-positive b d lc.positive),
+  subst (λ z. z < 2 ^ 127) (sym w.divisor) (let h : gcd b d ≤ d = le_of_dvd lc.positive (gcd-is b d).1 in omega (arith, h, lc.denominator)),
+)
+
+-- its lowest terms are the sum's
+pub sum_made : (a c n : ℤ) (b d m g : ℕ) (s : ℤ × ℕ) → IsSumWorking a b c d (n, m, g) → IsReduced n m s → IsSum a b c d s
+sum_made a c n b d m g s w h = record {
+  fits = w.fits;
+  lowest = h.lowest;
+  value = h.value ∙ ap (λ z. over z (m - 1)) w.numerator ∙ ap (λ z. over (sum_numerator a b c d) (z - 1)) w.denominator;
+}
 
 -- ---- products
 
@@ -98,17 +117,85 @@ product_of x y a c b d n m ea eb ec ed h =
     (k.value ∙ product_is x y, k.fits)
 
 -- as the code names them
-pub factors_positive : (a c : ℤ) (b d g h m : ℕ) → 0 < b → 0 < d → g ≡ gcd (unsigned_abs a) d → h ≡ gcd (unsigned_abs c) b → m ≡ (b / h) * (d / g) → 0 < m
-factors_positive a c b d g h m hb hd eg eh f = subst (λ z. 0 < z) (sym (f ∙ ap (λ z. (b / z) * (d / g)) eh ∙ ap (λ z. (b / gcd (unsigned_abs c) b) * (d / z)) eg)) (product_denominator-positive a c b d hb hd)
-
-pub product_made : (a c x y n : ℤ) (b d g h m : ℕ) (s : ℤ × ℕ) → g ≡ gcd (unsigned_abs a) d → h ≡ gcd (unsigned_abs c) b → x ≡ int_div a (pos g) → y ≡ int_div c (pos h) → (n ≡ x *ℤ y) × InRange n → (m ≡ (b / h) * (d / g)) × (m < 2 ^ 127) → IsReduced n m s → IsProduct a b c d s
-product_made a c x y n b d g h m s eg eh ex ey hn hm k =
+pub product_made : (a c x y n : ℤ) (b d g h u v m : ℕ) → IsLowest a b → IsLowest c d → g ≡ gcd (unsigned_abs a) d → h ≡ gcd (unsigned_abs c) b → x ≡ int_div a (pos g) → y ≡ int_div c (pos h) → (n ≡ x *ℤ y) × InRange n → u ≡ b / h → v ≡ d / g → (m ≡ u * v) × (m < 2 ^ 127) → IsProduct a b c d (n, m)
+product_made a c x y n b d g h u v m la lc eg eh ex ey hn eu ev hm =
     let fx : x ≡ int_div a (pos (gcd (unsigned_abs a) d)) = ex ∙ ap (λ z. int_div a (pos z)) eg in
     let fy : y ≡ int_div c (pos (gcd (unsigned_abs c) b)) = ey ∙ ap (λ z. int_div c (pos z)) eh in
     let en : n ≡ product_numerator a b c d = hn.0 ∙ ap (λ z. z *ℤ y) fx ∙ ap (λ z. int_div a (pos (gcd (unsigned_abs a) d)) *ℤ z) fy in
-    let em : m ≡ product_denominator a b c d = hm.0 ∙ ap (λ z. (b / z) * (d / g)) eh ∙ ap (λ z. (b / gcd (unsigned_abs c) b) * (d / z)) eg in
+    let em : m ≡ product_denominator a b c d = hm.0 ∙ ap (λ z. z * v) eu ∙ ap (λ z. (b / h) * z) ev ∙ ap (λ z. (b / z) * (d / g)) eh ∙ ap (λ z. (b / gcd (unsigned_abs c) b) * (d / z)) eg in
     record {
       fits = record { numerator = subst InRange en hn.1; denominator = subst (λ z. z < 2 ^ 127) em hm.1 };
-      lowest = k.lowest;
-      value = k.value ∙ ap (λ z. over z (m - 1)) en ∙ ap (λ z. over (product_numerator a b c d) (z - 1)) em;
+      lowest = record {
+        positive = subst (λ z. 0 < z) (sym em) (product_denominator-positive a c b d la.positive lc.positive);
+        numerator = hn.1;
+        denominator = hm.1;
+        lowest = subst (λ z. IsGcd (unsigned_abs z) m 1) (sym en) (subst (λ z. IsGcd (unsigned_abs (product_numerator a b c d)) z 1) (sym em) (lowest_product a c b d la.positive lc.positive la.lowest lc.lowest));
+      };
+      value = ap (λ z. over z (m - 1)) en ∙ ap (λ z. over (product_numerator a b c d) (z - 1)) em;
     }
+
+-- ---- whole numbers
+
+gcd-one : gcd 1 1 ≡ 1
+unfolding gcd
+gcd-one = refl
+
+gcd-by_one : (n : ℕ) → gcd n 1 ≡ 1
+gcd-by_one n = sym (gcd-same n 1 1 (one-dvd n, dvd_refl 1, λ d x y. y))
+
+by_one : (a : ℤ) → int_div a (pos 1) ≡ a
+by_one (pos n) = omega (arith, ints)
+by_one (negsuc n) = omega (arith, ints)
+
+times_one : (a : ℤ) (g : ℕ) → g ≡ 1 → a *ℤ pos (1 / g) ≡ a
+times_one a g e = rw e (unit a)
+  where
+    unit : (a : ℤ) → a *ℤ pos 1 ≡ a
+    unit a = omega (arith, ints)
+
+whole_sum_numerator : (a c : ℤ) → sum_numerator a 1 c 1 ≡ a +ℤ c
+whole_sum_numerator a c = ap (λ z. z +ℤ c *ℤ pos (1 / gcd 1 1)) (times_one a _ gcd-one) ∙ ap (λ z. a +ℤ z) (times_one c _ gcd-one)
+
+whole_sum_denominator : sum_denominator 1 1 ≡ 1
+whole_sum_denominator = ap (λ z. 1 * (1 / z)) gcd-one
+
+-- the working of a sum of whole numbers is the sum
+pub whole_sum_fits : (a c : ℤ) → FitsSum a 1 c 1 → InRange (a +ℤ c)
+whole_sum_fits a c h = subst InRange (whole_sum_numerator a c) h.sum
+
+-- what the code works out of whole numbers
+pub whole_sum_made : (a c n : ℤ) → InRange a → InRange c → n ≡ a +ℤ c → InRange n → IsSum a 1 c 1 (n, 1)
+whole_sum_made a c n ha hc e h = record {
+  fits = record {
+    left = subst InRange (sym (times_one a _ gcd-one)) ha;
+    right = subst InRange (sym (times_one c _ gcd-one)) hc;
+    sum = subst InRange (e ∙ sym (whole_sum_numerator a c)) h;
+    denominator = subst (λ z. z < 2 ^ 127) (sym whole_sum_denominator) (omega arith);
+  };
+  lowest = IsLowest-whole n h;
+  value = ap (λ z. over z 0) (e ∙ sym (whole_sum_numerator a c)) ∙ ap (λ z. over (sum_numerator a 1 c 1) (z - 1)) (sym whole_sum_denominator);
+}
+
+whole_product_numerator : (a c : ℤ) → product_numerator a 1 c 1 ≡ a *ℤ c
+whole_product_numerator a c =
+    ap (λ z. int_div a (pos z) *ℤ int_div c (pos (gcd (unsigned_abs c) 1))) (gcd-by_one (unsigned_abs a))
+    ∙ ap (λ z. int_div a (pos 1) *ℤ int_div c (pos z)) (gcd-by_one (unsigned_abs c))
+    ∙ ap (λ z. z *ℤ int_div c (pos 1)) (by_one a) ∙ ap (λ z. a *ℤ z) (by_one c)
+
+whole_product_denominator : (a c : ℤ) → product_denominator a 1 c 1 ≡ 1
+whole_product_denominator a c = ap (λ z. (1 / z) * (1 / gcd (unsigned_abs a) 1)) (gcd-by_one (unsigned_abs c)) ∙ ap (λ z. (1 / 1) * (1 / z)) (gcd-by_one (unsigned_abs a))
+
+-- the working of a product of whole numbers is the product
+pub whole_product_fits : (a c : ℤ) → FitsProduct a 1 c 1 → InRange (a *ℤ c)
+whole_product_fits a c h = subst InRange (whole_product_numerator a c) h.numerator
+
+-- what the code works out of whole numbers
+pub whole_product_made : (a c n : ℤ) → n ≡ a *ℤ c → InRange n → IsProduct a 1 c 1 (n, 1)
+whole_product_made a c n e h = record {
+  fits = record {
+    numerator = subst InRange (e ∙ sym (whole_product_numerator a c)) h;
+    denominator = subst (λ z. z < 2 ^ 127) (sym (whole_product_denominator a c)) (omega arith);
+  };
+  lowest = IsLowest-whole n h;
+  value = ap (λ z. over z 0) (e ∙ sym (whole_product_numerator a c)) ∙ ap (λ z. over (product_numerator a 1 c 1) (z - 1)) (sym (whole_product_denominator a c));
+}

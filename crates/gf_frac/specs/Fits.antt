@@ -74,6 +74,13 @@ pub record IsSum (a : ℤ) (b : ℕ) (c : ℤ) (d : ℕ) (r : ℤ × ℕ) : Type
   pub lowest : IsLowest r.0 r.1
   pub value : over r.0 (r.1 - 1) ≡ over (sum_numerator a b c d) (sum_denominator b d - 1)
 
+-- r is the numerator and the denominator of a sum's working, in range, and the denominators' common divisor
+pub record IsSumWorking (a : ℤ) (b : ℕ) (c : ℤ) (d : ℕ) (r : ℤ × ℕ × ℕ) : Type 0 where
+  pub fits : FitsSum a b c d
+  pub numerator : r.0 ≡ sum_numerator a b c d
+  pub denominator : r.1 ≡ sum_denominator b d
+  pub divisor : r.2 ≡ gcd b d
+
 -- r is the product in lowest terms, and its working stayed in range
 pub record IsProduct (a : ℤ) (b : ℕ) (c : ℤ) (d : ℕ) (r : ℤ × ℕ) : Type 0 where
   pub fits : FitsProduct a b c d

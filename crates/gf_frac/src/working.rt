@@ -1,12 +1,12 @@
 //! The working of sums and products on plain numbers.
 
-ghost use Rattle.std.specs.Prelude.{◌≡◌, ◌*◌, ◌<◌, ◌≤◌, ◌^◌, pos, ◌+ℤ◌, ◌*ℤ◌, neg_ℤ, MatchOption};
-ghost use Rattle.std.specs.Int.RustNames.{int_div};
+ghost use Rattle.std.specs.Prelude.{◌≡◌, ◌*◌, ◌/◌, ◌<◌, ◌≤◌, ◌^◌, pos, ◌+ℤ◌, ◌*ℤ◌, neg_ℤ, MatchOption};
+ghost use Rattle.std.specs.Int.RustNames.{int_div, unsigned_abs};
 ghost use Rattle.gf_int.specs.Range.{InRange};
 ghost use Rattle.gf_int.specs.Gcd.{gcd as greatest_common};
 ghost use Rattle.gf_frac.specs.Fraction.{signed_as};
 ghost use Rattle.gf_frac.specs.Fields.{IsLowest};
-ghost use Rattle.gf_frac.specs.Fits.{FitsSum, IsSum, FitsProduct, IsProduct, IsReduced};
+ghost use Rattle.gf_frac.specs.Fits.{FitsSum, IsSum, IsSumWorking, FitsProduct, IsProduct, IsReduced};
 
 use gf_int::gcd;
 use std::cmp::Ordering;
@@ -16,16 +16,26 @@ fn scaled(a: i128, k: u128) -> Option<i128>
     requires { k < 2 ^ 127 }
     ensures { MatchOption result (¬ (InRange (a *ℤ pos k))) (λ z. (z ≡ a *ℤ pos k) × InRange z) }
 {
-    let z = a.checked_mul(k as i128)?;
-    if z == i128::MIN { None } else { Some(z) }
+    product(a, k as i128)
 }
 
-// The product, where it is in range.
+// The product, where it is in range; of numbers of 64 bits it always is.
 fn product(a: i128, c: i128) -> Option<i128>
     ensures { MatchOption result (¬ (InRange (a *ℤ c))) (λ z. (z ≡ a *ℤ c) × InRange z) }
 {
+    if let (Ok(narrow), Ok(other)) = (i64::try_from(a), i64::try_from(c)) {
+        return Some(narrow_product(narrow, other));
+    }
     let z = a.checked_mul(c)?;
     if z == i128::MIN { None } else { Some(z) }
+}
+
+// The product of numbers of 64 bits.
+fn narrow_product(a: i64, c: i64) -> i128
+    ensures value { result ≡ a *ℤ c }
+    ensures range { InRange result }
+{
+    i128::from(a) * i128::from(c)
 }
 
 // The sum, where it is in range.
@@ -40,8 +50,18 @@ fn total(a: i128, b: i128) -> Option<i128>
 fn common_multiple(b: u128, k: u128) -> Option<u128>
     ensures { MatchOption result (2 ^ 127 ≤ b * k) (λ z. (z ≡ b * k) × (z < 2 ^ 127)) }
 {
-    let z = b.checked_mul(k)?;
+    let z = natural_product(b, k)?;
     if z >> 127 == 0 { Some(z) } else { None }
+}
+
+// The product of natural numbers, where it is below 2^128; of numbers of 64 bits it always is.
+fn natural_product(b: u128, k: u128) -> Option<u128>
+    ensures { MatchOption result (2 ^ 128 ≤ b * k) (λ z. z ≡ b * k) }
+{
+    if let (Ok(narrow), Ok(other)) = (u64::try_from(b), u64::try_from(k)) {
+        return Some(u128::from(narrow) * u128::from(other));
+    }
+    b.checked_mul(k)
 }
 
 // The greatest common divisor with a positive number.
@@ -51,7 +71,10 @@ fn common(a: u128, b: u128) -> u128
     ensures positive { 0 < result }
     ensures bound { result ≤ b }
 {
-    gcd(a, b)
+    if a >> 64 == 0 {
+        return gcd(a, b);
+    }
+    gcd(b, a % b)
 }
 
 // The negative of a number in range.
@@ -80,7 +103,24 @@ fn quotient(a: i128, g: u128) -> i128
     requires fits { g < 2 ^ 127 }
     ensures { result ≡ int_div a (pos g) }
 {
+    if g == 1 {
+        return a;
+    }
     a / g as i128
+}
+
+// The quotient of natural numbers.
+fn natural_quotient(q: u128, g: u128) -> u128
+    requires { 0 < g }
+    ensures { result ≡ q / g }
+{
+    if g == 1 {
+        return q;
+    }
+    if let (Ok(narrow), Ok(other)) = (u64::try_from(q), u64::try_from(g)) {
+        return u128::from(narrow / other);
+    }
+    q / g
 }
 
 /// The numbers of the lowest terms of `p/q`, which are in range.
@@ -91,7 +131,24 @@ pub fn lowest(p: i128, q: u128) -> (i128, u128)
     ensures { IsReduced p q result }
 {
     let g = common(p.unsigned_abs(), q);
-    (quotient(p, g), q / g)
+    (quotient(p, g), natural_quotient(q, g))
+}
+
+// The numbers of the lowest terms of `p/q`, whose common divisors are those of `p` and `g`.
+fn lowest_by(p: i128, q: u128, g: u128) -> (i128, u128)
+    requires numerator { InRange p }
+    requires positive { 0 < q }
+    requires fits { q < 2 ^ 127 }
+    requires divisor { 0 < g }
+    requires divisor_fits { g < 2 ^ 127 }
+    requires common { greatest_common (unsigned_abs p) q ≡ greatest_common (unsigned_abs p) g }
+    ensures { IsReduced p q result }
+{
+    if g == 1 {
+        return (p, q);
+    }
+    let t = common(p.unsigned_abs(), g);
+    (quotient(p, t), natural_quotient(q, t))
 }
 
 /// The numbers of the sum of `a/b` and `c/d` in lowest terms, where the working stays in range.
@@ -100,24 +157,83 @@ pub fn sum_parts(a: i128, b: u128, c: i128, d: u128) -> Option<(i128, u128)>
     requires right { IsLowest c d }
     ensures { MatchOption result (¬ (FitsSum a b c d)) (IsSum a b c d) }
 {
-    let g = common(b, d);
-    let Some(left) = scaled(a, d / g) else {
+    if b == 1 && d == 1 {
+        return whole_sum(a, c);
+    }
+    sum_of_quotients(a, b, c, d)
+}
+
+// The same of whole numbers.
+fn whole_sum(a: i128, c: i128) -> Option<(i128, u128)>
+    requires left { InRange a }
+    requires right { InRange c }
+    ensures { MatchOption result (¬ (FitsSum a 1 c 1)) (IsSum a 1 c 1) }
+{
+    let Some(numerator) = total(a, c) else {
         return None;
     };
-    let Some(right) = scaled(c, b / g) else {
+    Some((numerator, 1))
+}
+
+// The same of any fractions.
+fn sum_of_quotients(a: i128, b: u128, c: i128, d: u128) -> Option<(i128, u128)>
+    requires left { IsLowest a b }
+    requires right { IsLowest c d }
+    ensures { MatchOption result (¬ (FitsSum a b c d)) (IsSum a b c d) }
+{
+    let Some((numerator, denominator, divisor)) = sum_working(a, b, c, d) else {
+        return None;
+    };
+    Some(lowest_by(numerator, denominator, divisor))
+}
+
+// The numbers of a sum's working, and the common divisor of the denominators, where they are in range.
+fn sum_working(a: i128, b: u128, c: i128, d: u128) -> Option<(i128, u128, u128)>
+    requires left { IsLowest a b }
+    requires right { IsLowest c d }
+    ensures { MatchOption result (¬ (FitsSum a b c d)) (IsSumWorking a b c d) }
+{
+    let g = common(b, d);
+    let share = natural_quotient(d, g);
+    let Some(left) = scaled(a, share) else {
+        return None;
+    };
+    let Some(right) = scaled(c, natural_quotient(b, g)) else {
         return None;
     };
     let Some(numerator) = total(left, right) else {
         return None;
     };
-    let Some(denominator) = common_multiple(b, d / g) else {
+    let Some(denominator) = common_multiple(b, share) else {
         return None;
     };
-    Some(lowest(numerator, denominator))
+    Some((numerator, denominator, g))
 }
 
 /// The numbers of the product of `a/b` and `c/d` in lowest terms, where the working stays in range.
 pub fn product_parts(a: i128, b: u128, c: i128, d: u128) -> Option<(i128, u128)>
+    requires left { IsLowest a b }
+    requires right { IsLowest c d }
+    ensures { MatchOption result (¬ (FitsProduct a b c d)) (IsProduct a b c d) }
+{
+    if b == 1 && d == 1 {
+        return whole_product(a, c);
+    }
+    product_of_quotients(a, b, c, d)
+}
+
+// The same of whole numbers.
+fn whole_product(a: i128, c: i128) -> Option<(i128, u128)>
+    ensures { MatchOption result (¬ (FitsProduct a 1 c 1)) (IsProduct a 1 c 1) }
+{
+    let Some(numerator) = product(a, c) else {
+        return None;
+    };
+    Some((numerator, 1))
+}
+
+// The same of any fractions.
+fn product_of_quotients(a: i128, b: u128, c: i128, d: u128) -> Option<(i128, u128)>
     requires left { IsLowest a b }
     requires right { IsLowest c d }
     ensures { MatchOption result (¬ (FitsProduct a b c d)) (IsProduct a b c d) }
@@ -127,8 +243,8 @@ pub fn product_parts(a: i128, b: u128, c: i128, d: u128) -> Option<(i128, u128)>
     let Some(numerator) = product(quotient(a, g), quotient(c, h)) else {
         return None;
     };
-    let Some(denominator) = common_multiple(b / h, d / g) else {
+    let Some(denominator) = common_multiple(natural_quotient(b, h), natural_quotient(d, g)) else {
         return None;
     };
-    Some(lowest(numerator, denominator))
+    Some((numerator, denominator))
 }

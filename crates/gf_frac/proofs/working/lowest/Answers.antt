@@ -13,4 +13,4 @@ returns c =
     let fq : FitsSigned w128 c.quotient.result = search rules in
     let eg : c.common-g.result ≡ gcd (unsigned_abs c.args.p) c.args.q = c.common-g.ensures.value ∙ ap (λ z. gcd z c.args.q) (c.unsigned_abs.ensures.value ∙ ap unsigned_abs (to_z-of_z w128 c.args.p fp)) in
     let e : c.quotient.result ≡ int_div c.args.p (pos (gcd (unsigned_abs c.args.p) c.args.q)) = c.quotient.ensures ∙ ap (λ z. int_div z (pos c.common-g.result)) (to_z-of_z w128 c.args.p fp) ∙ ap (λ z. int_div c.args.p (pos z)) eg in
-    reduced _ _ _ _ c.requires.numerator c.requires.positive c.requires.fits (through _ _ fq e) (ap (λ z. c.args.q / z) eg)
+    reduced _ _ _ _ c.requires.numerator c.requires.positive c.requires.fits (through _ _ fq e) (c.natural_quotient.ensures ∙ ap (λ z. c.args.q / z) eg)
