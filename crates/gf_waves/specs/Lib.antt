@@ -1,0 +1,2 @@
+pub mod Stretches  -- a list in stretches: ready nodes, then what a walker has left
+pub mod Parts  -- what a job and a cut do to a part
