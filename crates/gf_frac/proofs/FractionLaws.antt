@@ -1,6 +1,6 @@
 -- The field of fractions.
 -- To cite: `over-+`, `over-*`, `over-neg` (the ruleset `overs`), `each_q` with `over-eq` for an identity in one line,
--- the laws of the ring, `*ℚ-reciprocal_ℚ`, `zero_of_*ℚ`, `zero_by_num`. An identity between fractions:
+-- the laws of the ring, `*ℚ-reciprocal_ℚ`, `zero_of_*ℚ`, `zero_by_num`, `Decides-fraction_eq`. An identity between fractions:
 --   each_q _ (λ a a' k. each_q _ (λ b b' l. simp overs (over-eq _ _ _ _ (simp dens (simp naturals (diff-eq _ _ _ _ (omega arith)))))))
 use Rattle.std.specs.Prelude.{◌≡◌, ℕ, zero, suc, ◌+◌, ◌-◌, ◌*◌, ◌<◌, ℤ, pos, negsuc, ◌+ℤ◌, ◌*ℤ◌, ◌⊎◌}
 use Rattle.std.specs.Int.RustNames.{unsigned_abs}
@@ -11,7 +11,10 @@ use lib.IntN.{neg_ℤ}
 use Rattle.gf_int.specs.Gcd.{gcd}
 use Rattle.gf_int.specs.Integers.{diff, each, diffs, diff-is, diff-eq, naturals, swap_middle}
 use borrow.Author.Differences.{up, down}
-use Rattle.gf_frac.specs.Fraction.{Fraction, over, over-is, over-eq, over-parts, same_crosswise, each_fraction, ◌+ℚ◌, ◌*ℚ◌, neg_ℚ, signed_as, reciprocal_ℚ, zero_ℚ, one_ℚ}
+use Rattle.std.specs.Bool.{Decides}
+use Rattle.std.proofs.lemmas.Bool.Decides.{Decides-int_eq, Decides-eqb, Decides-and}
+use Rattle.gf_frac.specs.Equality.{fraction_eq}
+use Rattle.gf_frac.specs.Fraction.{same_parts, Fraction, over, over-is, over-eq, over-parts, same_crosswise, each_fraction, ◌+ℚ◌, ◌*ℚ◌, neg_ℚ, signed_as, reciprocal_ℚ, zero_ℚ, one_ℚ}
 
 -- ---- operations on p / (n + 1)
 
@@ -290,3 +293,15 @@ sum-crosswise x y = subst (λ z. (x +ℚ y).num *ℤ pos z ≡ (x.num *ℤ pos y
 pub product-crosswise : (x y : Fraction) → (x *ℚ y).num *ℤ pos (x.den * y.den) ≡ (x.num *ℤ y.num) *ℤ pos (x *ℚ y).den
 unfolding ◌*ℚ◌
 product-crosswise x y = subst (λ z. (x *ℚ y).num *ℤ pos z ≡ (x.num *ℤ y.num) *ℤ pos (x *ℚ y).den) (less_one x y) (over-is _ _)
+
+-- ---- equality
+
+both_numbers : (x y : Fraction) → Decides (fraction_eq x y) ((x.num ≡ y.num) × (x.den ≡ y.den))
+both_numbers x y = Decides-and _ _ (Decides-int_eq x.num y.num) (Decides-eqb x.den y.den)
+
+-- `==` answers true exactly where the fractions are one
+pub Decides-fraction_eq : (x y : Fraction) → Decides (fraction_eq x y) (x ≡ y)
+Decides-fraction_eq x y = (
+  λ h. let p = (both_numbers x y).0 h in same_parts x y p.0 p.1,
+  λ e. (both_numbers x y).1 (ap (λ (z : Fraction). z.num) e, ap (λ (z : Fraction). z.den) e),
+)
