@@ -1,0 +1,8 @@
+pub mod MonomialLaws  -- exponents entry by entry, and as slices
+pub mod PolynomialLaws  -- sums and products of polynomials
+pub mod DescendingLaws  -- deglex, descending lists
+pub mod CoefficientLaws  -- coefficients of descending lists, which are known by them
+pub mod MergeLaws  -- one step of a merge
+pub mod ProductLaws  -- products term by term
+pub mod CollectLaws  -- sums of like terms, in a list in order
+pub mod SortLaws  -- a stable sort keeps coefficients and like terms

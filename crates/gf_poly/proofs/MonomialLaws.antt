@@ -1,0 +1,162 @@
+-- Exponents as slices, and what a loop over the variables has done.
+-- To cite: entry-get_or, taken_is, plus-minus, length-plus, length-minus, length-join, divides_by_entries, entries_by_divides.
+use Rattle.std.specs.Prelude.{◌≡◌, ℕ, zero, suc, ◌+◌, ◌<◌, ◌≤◌, ◌^◌, ◌⊎◌, List, [], ◌∷◌, length, take, All}
+use Rattle.std.proofs.Common.{arith, refl, sym, ap, subst, ◌∙◌, inl, inr, get_or, add-one}
+use Rattle.std.proofs.Math.ListN.{set}
+use Rattle.std.proofs.lemmas.Bool.{cases_lt}
+use Rattle.std.proofs.lemmas.List.{get_or-set_other, length-set}
+use Rattle.std.proofs.lemmas.List.Elements.{All-get_or, All-from_get_or}
+use Rattle.std.proofs.lemmas.Grind.{get_or-set_at}
+use Rattle.gf_exponents.specs.Exponents.{Exponents, entry, plus, minus, join, degree, Divides}
+use Rattle.gf_poly.specs.declared.TheConstants.{ROOM}
+use Rattle.gf_poly.specs.Monomial.{IsMonomial, ProductFits, IsFirstOverflow}
+use Rattle.gf_poly.specs.declared.monomial.ExponentOverflow.{ExponentOverflow}
+use Rattle.gf_exponents.proofs.ExponentsLaws.{entry-past, entry-plus, entry-minus, entry-join, entries_same, same_by_entries}
+
+-- ---- entries
+pub entry-get_or : (x : Exponents) (i : ℕ) → get_or x i 0 ≡ entry x i
+entry-get_or [] i = refl
+entry-get_or (a ∷ x) zero = refl
+entry-get_or (a ∷ x) (suc i) = entry-get_or x i
+
+-- the first n entries of all are x
+pub taken_is : (n : ℕ) (all x : List ℕ) → length x ≡ n → n ≤ length all → ((i : ℕ) → i < n → get_or all i 0 ≡ entry x i) → take n all ≡ x
+taken_is zero all [] e l h = refl
+taken_is zero all (a ∷ x) e l h = absurd (omega arith)
+taken_is (suc n) all [] e l h = absurd (omega arith)
+taken_is (suc n) [] (a ∷ x) e l h = absurd (omega arith)
+taken_is (suc n) (b ∷ all) (a ∷ x) e l h =
+    ap (λ c. c ∷ take n all) (h 0 (omega arith)) ∙ ap (λ z. a ∷ z) (taken_is n all x (omega arith) (omega arith) (λ i k. h (suc i) (omega arith)))
+
+-- ---- lengths
+pub length-plus : (x y : Exponents) → length x ≡ length y → length (plus x y) ≡ length x
+length-plus [] [] h = refl
+length-plus [] (b ∷ y) h = absurd (omega arith)
+length-plus (a ∷ x) [] h = refl
+length-plus (a ∷ x) (b ∷ y) h = ap suc (length-plus x y (omega arith))
+
+pub length-minus : (x y : Exponents) → length x ≡ length y → length (minus x y) ≡ length x
+length-minus [] y h = refl
+length-minus (a ∷ x) [] h = refl
+length-minus (a ∷ x) (b ∷ y) h = ap suc (length-minus x y (omega arith))
+
+pub length-join : (x y : Exponents) → length x ≡ length y → length (join x y) ≡ length x
+length-join [] [] h = refl
+length-join [] (b ∷ y) h = absurd (omega arith)
+length-join (a ∷ x) [] h = refl
+length-join (a ∷ x) (b ∷ y) h = ap suc (length-join x y (omega arith))
+
+-- ---- divisibility
+pub divides_by_entries : (x y : Exponents) → ((i : ℕ) → entry x i ≤ entry y i) → Divides x y
+divides_by_entries x y h = record {
+  rest = minus y x;
+  product = same_by_entries y (plus (minus y x) x) (λ i. omega (arith, h i, entry-plus (minus y x) x i, entry-minus y x i));
+}
+
+pub entries_by_divides : (x y : Exponents) → Divides x y → (i : ℕ) → entry x i ≤ entry y i
+entries_by_divides x y d i = omega (arith, entries_same y (plus d.rest x) d.product i, entry-plus d.rest x i)
+
+pub same_lists : (x y : Exponents) → length x ≡ length y → ((i : ℕ) → entry x i ≡ entry y i) → x ≡ y
+same_lists [] [] e h = refl
+same_lists [] (b ∷ y) e h = absurd (omega arith)
+same_lists (a ∷ x) [] e h = absurd (omega arith)
+same_lists (a ∷ x) (b ∷ y) e h = ap (λ c. c ∷ x) (h 0) ∙ ap (λ z. b ∷ z) (same_lists x y (omega arith) (λ i. h (suc i)))
+
+-- a quotient times the divisor
+pub plus-minus : (x y : Exponents) → length x ≡ length y → Divides y x → plus (minus x y) y ≡ x
+plus-minus x y e d =
+    same_lists (plus (minus x y) y) x (length-plus (minus x y) y (length-minus x y e ∙ e) ∙ length-minus x y e)
+    (λ i. omega (arith, entries_by_divides y x d i, entry-plus (minus x y) y i, entry-minus x y i))
+
+-- ---- what a loop over the variables has done
+-- the first i places of all hold f of the two exponents
+pub record AreEntries (f : ℕ → ℕ → ℕ) (x y : Exponents) (all : List ℕ) (i : ℕ) : Type 0 where
+  pub room : length all ≡ ROOM
+  pub at : (k : ℕ) → k < i → get_or all k 0 ≡ f (entry x k) (entry y k)
+
+pub AreEntries-more : (f : ℕ → ℕ → ℕ) (x y : Exponents) (all : List ℕ) (i v : ℕ) → i < ROOM → v ≡ f (entry x i) (entry y i) → AreEntries f x y all i → AreEntries f x y (set all i v) (i + 1)
+AreEntries-more f x y all i v l e h = record { room = length-set all i v ∙ h.room; at = λ k b. place k b (cases_lt k i) }
+  where
+    place : (k : ℕ) → k < i + 1 → (k < i) ⊎ (i ≤ k) → get_or (set all i v) k 0 ≡ f (entry x k) (entry y k)
+    place k b (inl m) = get_or-set_other all i k v 0 (λ q. absurd (omega arith)) ∙ h.at k m
+    place k b (inr m) =
+        let q : k ≡ i = omega arith in
+        get_or-set_at all i k v 0 q (omega (arith, h.room)) ∙ e ∙ ap (λ j. f (entry x j) (entry y j)) (sym q)
+
+-- all places are done
+pub AreEntries-end : (f : ℕ → ℕ → ℕ) (x y z : Exponents) (all : List ℕ) (i : ℕ) → length x ≤ i → length x ≤ ROOM → length z ≡ length x → ((k : ℕ) → entry z k ≡ f (entry x k) (entry y k)) → AreEntries f x y all i → take (length x) all ≡ z
+AreEntries-end f x y z all i l r e g h = taken_is (length x) all z e (omega (arith, h.room)) (λ k b. h.at k (omega arith) ∙ sym (g k))
+
+-- so far the sums of the exponents are below the limit
+pub record FitsBelow (x y : Exponents) (i : ℕ) : Type 0 where
+  pub at : (k : ℕ) → k < i → entry x k + entry y k < 2 ^ 31
+
+pub FitsBelow-more : (x y : Exponents) (i : ℕ) → entry x i + entry y i < 2 ^ 31 → FitsBelow x y i → FitsBelow x y (i + 1)
+FitsBelow-more x y i l h = record { at = λ k b. place k b (cases_lt k i) }
+  where
+    place : (k : ℕ) → k < i + 1 → (k < i) ⊎ (i ≤ k) → entry x k + entry y k < 2 ^ 31
+    place k b (inl m) = h.at k m
+    place k b (inr m) = let q : i ≡ k = omega arith in subst (λ (j : ℕ). entry x j + entry y j < 2 ^ 31) q l
+
+pub FitsBelow-end : (x y : Exponents) (i : ℕ) → length x ≡ length y → length x ≤ i → FitsBelow x y i → ProductFits x y
+FitsBelow-end x y i e l h = record { at = λ k. place k (cases_lt k i) }
+  where
+    place : (k : ℕ) → (k < i) ⊎ (i ≤ k) → entry x k + entry y k < 2 ^ 31
+    place k (inl m) = h.at k m
+    place k (inr m) = omega (arith, entry-past x k (omega arith), entry-past y k (omega arith))
+
+-- so far the exponents of x are at most those of y
+pub record IsBelowSoFar (x y : Exponents) (i : ℕ) : Type 0 where
+  pub at : (k : ℕ) → k < i → entry x k ≤ entry y k
+
+pub IsBelowSoFar-more : (x y : Exponents) (i : ℕ) → get_or x i 0 ≤ get_or y i 0 → IsBelowSoFar x y i → IsBelowSoFar x y (i + 1)
+IsBelowSoFar-more x y i l h = record { at = λ k b. place k b (cases_lt k i) }
+  where
+    here : entry x i ≤ entry y i
+    here = omega (arith, entry-get_or x i, entry-get_or y i)
+
+    place : (k : ℕ) → k < i + 1 → (k < i) ⊎ (i ≤ k) → entry x k ≤ entry y k
+    place k b (inl m) = h.at k m
+    place k b (inr m) = let q : i ≡ k = omega arith in subst (λ (j : ℕ). entry x j ≤ entry y j) q here
+
+pub IsBelowSoFar-end : (x y : Exponents) (i : ℕ) → length x ≤ i → IsBelowSoFar x y i → Divides x y
+IsBelowSoFar-end x y i l h = divides_by_entries x y (λ k. place k (cases_lt k i))
+  where
+    place : (k : ℕ) → (k < i) ⊎ (i ≤ k) → entry x k ≤ entry y k
+    place k (inl m) = h.at k m
+    place k (inr m) = omega (arith, entry-past x k (omega arith))
+
+pub not_divides_at : (x y : Exponents) (i : ℕ) → get_or y i 0 < get_or x i 0 → ¬ (Divides x y)
+not_divides_at x y i l d = absurd (omega (arith, entries_by_divides x y d i, entry-get_or x i, entry-get_or y i))
+
+-- ---- limits
+pub limit_by_entries : (x : List ℕ) → ((i : ℕ) → entry x i < 2 ^ 31) → All (λ k. k < 2 ^ 31) x
+limit_by_entries x h = All-from_get_or (λ k. k < 2 ^ 31) x 0 (λ i l. omega (arith, h i, entry-get_or x i))
+
+pub entry-limit : (x : List ℕ) → All (λ k. k < 2 ^ 31) x → (i : ℕ) → entry x i < 2 ^ 31
+entry-limit x h i = elim (cases_lt i (length x)) [
+  | inl l ↦ omega (arith, All-get_or (λ k. k < 2 ^ 31) x i 0 l h, entry-get_or x i)
+  | inr g ↦ omega (arith, entry-past x i g)
+]
+
+pub IsMonomial-plus : (x y : Exponents) → length x ≡ length y → IsMonomial x → ProductFits x y → IsMonomial (plus x y)
+IsMonomial-plus x y e h p = record { room = omega (arith, length-plus x y e, h.room); limit = limit_by_entries (plus x y) (λ i. omega (arith, p.at i, entry-plus x y i)) }
+
+pub IsMonomial-minus : (x y : Exponents) → length x ≡ length y → IsMonomial x → IsMonomial (minus x y)
+IsMonomial-minus x y e h = record { room = omega (arith, length-minus x y e, h.room); limit = limit_by_entries (minus x y) (λ i. omega (arith, entry-limit x h.limit i, entry-minus x y i)) }
+
+pub IsMonomial-join : (x y : Exponents) → length x ≡ length y → IsMonomial x → IsMonomial y → IsMonomial (join x y)
+IsMonomial-join x y e h k = record { room = omega (arith, length-join x y e, h.room); limit = limit_by_entries (join x y) (λ i. omega (arith, entry-limit x h.limit i, entry-limit y k.limit i, entry-join x y i)) }
+
+-- a product that fits has no first overflow
+pub no_overflow : (x y : Exponents) (o : ExponentOverflow) → IsFirstOverflow x y o → ¬ (ProductFits x y)
+no_overflow x y o h p = absurd (omega (arith, h.leaves, p.at h.at))
+
+-- ---- the total degree, entry by entry
+pub degree-take : (x : List ℕ) (i : ℕ) → i < length x → degree (take (i + 1) x) ≡ degree (take i x) + get_or x i 0
+degree-take x i l = ap (λ j. degree (take j x)) (add-one i) ∙ at x i l
+  where
+    at : (x : List ℕ) (i : ℕ) → i < length x → degree (take (suc i) x) ≡ degree (take i x) + get_or x i 0
+    at [] i l = absurd (omega arith)
+    at (a ∷ x) zero l = omega arith
+    at (a ∷ x) (suc i) l = omega (arith, at x i (omega arith))

@@ -1,0 +1,6 @@
+pub mod Monomial  -- what is kept of a monomial, sums of exponents within the limit
+pub mod Polynomial  -- term lists, coefficients, descending lists
+pub mod Sums  -- sums and differences, and where they leave the range
+pub mod Products  -- products with a term or a fraction, and where they leave their ranges
+pub mod Collecting  -- sums of like terms from the left
+pub mod Marking  -- marked polynomials

@@ -1,0 +1,32 @@
+-- Monomials as they are kept, and where a product of two has exponents within the limit.
+-- Exponents are below 2^31; a variable past the end has exponent 0, so the words need no equal lengths.
+-- Laws: proofs/MonomialLaws.antt.
+use Rattle.std.specs.Prelude.{◌≡◌, ℕ, ◌+◌, ◌<◌, ◌≤◌, ◌^◌, length, All}
+use Rattle.smallvec.specs.SmallVec.{SmallVec}
+use Rattle.gf_exponents.specs.Exponents.{Exponents, entry, degree}
+use Rattle.gf_poly.specs.declared.TheConstants.{ROOM}
+use Rattle.gf_poly.specs.declared.monomial.ExponentOverflow.{ExponentOverflow}
+
+-- what is kept of a monomial: its exponents, inline, and their sum
+pub record IsMono (total : ℕ) (v : SmallVec ℕ) : Type 0 where
+  pub room : length v.items ≤ ROOM
+  pub limit : All (λ x. x < 2 ^ 31) v.items
+  pub inline : v.capacity ≡ ROOM
+  pub total_degree : total ≡ degree v.items
+
+-- at most as many variables as there is room for, and exponents within the limit
+pub record IsMonomial (x : Exponents) : Type 0 where
+  pub room : length x ≤ ROOM
+  pub limit : All (λ k. k < 2 ^ 31) x
+
+-- the exponents of the product of x and y are within the limit
+pub record ProductFits (x y : Exponents) : Type 0 where
+  pub at : (i : ℕ) → entry x i + entry y i < 2 ^ 31
+
+-- the exponents of the first variable whose sum passes the limit
+pub record IsFirstOverflow (x y : Exponents) (o : ExponentOverflow) : Type 0 where
+  pub at : ℕ
+  pub left : o.left ≡ entry x at
+  pub right : o.right ≡ entry y at
+  pub leaves : 2 ^ 31 ≤ entry x at + entry y at
+  pub before : (i : ℕ) → i < at → entry x i + entry y i < 2 ^ 31

@@ -1,0 +1,45 @@
+//! Polynomials over the rational numbers, in up to `ROOM` variables.
+//!
+//! A polynomial is the list of its terms, descending in deglex: the total degree first, then the first exponent that
+//! differs. Start at `Poly::from_terms`. The words of the contracts are in `specs/Polynomial.antt`: what a list of terms
+//! stands for is its coefficient at each monomial.
+#![tactic(auto)]
+
+ghost use Rattle.std.specs.Prelude.{◌≡◌};
+
+mod collect;
+mod error;
+mod merge;
+mod monomial;
+mod polynomial;
+mod products;
+
+pub use error::PolyError;
+use gf_frac::Frac;
+pub use monomial::{ExponentOverflow, Mono};
+pub use polynomial::Poly;
+
+/// The number of variables that a monomial has room for, without an allocation.
+pub const ROOM: usize = 16;
+
+/// A term of a polynomial: a coefficient and a monomial.
+#[derive(Drop)]
+pub struct Term {
+    pub coef: Frac,
+    pub mono: Mono,
+}
+
+impl Term {
+    /// An equal term.
+    pub fn copy(&self) -> Term
+        ensures { result ≡ self.now }
+    {
+        Term {
+            coef: self.coef,
+            mono: self.mono.copy(),
+        }
+    }
+}
+
+#[cfg(test)]
+mod tests;

@@ -1,0 +1,173 @@
+ghost use Rattle.std.specs.Prelude.{◌≡◌, ◌∷◌, [], IfOk};
+ghost use Rattle.gf_poly.specs.Polynomial.{HasVariables};
+
+use super::*;
+use gf_frac::Op;
+use std::alloc::Global;
+use std::test::Fail;
+
+// the greatest exponent
+const MOST: u32 = 2_147_483_647;
+
+// c * a^x * b^y * c^z
+fn term(alloc: Global, coef: i64, x: u8, y: u8, z: u8) -> Term
+    ensures { result.mono ≡ x ∷ y ∷ z ∷ [] }
+{
+    let exponents = [u32::from(x), u32::from(y), u32::from(z)];
+    Term {
+        coef: Frac::new(i128::from(coef), 1),
+        mono: Mono::new(alloc, &exponents),
+    }
+}
+
+// The sum of two terms.
+fn two(first: Term, second: Term, alloc: Global) -> Result<Poly, PolyError>
+    requires left { HasVariables 3 (first ∷ []) }
+    requires right { HasVariables 3 (second ∷ []) }
+    ensures { IfOk result (HasVariables 3) }
+{
+    let terms = vec![in alloc; first, second]?;
+    Poly::from_terms(terms)
+}
+
+// Whether these are the terms of the polynomial.
+fn lists(p: &Poly, expected: &[(i128, i128, [u32; 3])]) -> bool {
+    let terms = p.terms();
+    if terms.len() != expected.len() {
+        return false;
+    }
+    for i in 0..terms.len() {
+        let (numerator, denominator, exponents) = expected[i];
+        let t = &terms[i];
+        if t.coef.numer() != numerator
+            || t.coef.denom() != denominator
+            || t.mono.exponents() != exponents.as_slice()
+        {
+            return false;
+        }
+    }
+    true
+}
+
+// Whether the refusal is that of a sum of these two whole numbers.
+fn names_sum(e: PolyError, left: i128, right: i128) -> bool {
+    match e {
+        PolyError::Overflow(o) => o.op == Op::Add
+            && o.left.numer() == left
+            && o.right.numer() == right,
+        _ => false,
+    }
+}
+
+// a worked value of the documentation: a - b and b - c make a - c
+#[test]
+fn sum_of_differences(rt: HostRuntime) -> Result<(), Fail> {
+    let alloc = rt.alloc();
+    let first = two(term(alloc, 1, 1, 0, 0), term(alloc, -1, 0, 1, 0), alloc)?;
+    let second = two(term(alloc, 1, 0, 1, 0), term(alloc, -1, 0, 0, 1), alloc)?;
+    let sum = first.add(&second)?;
+    assert!(rt; lists(&sum, &[(1, 1, [1, 0, 0]), (-1, 1, [0, 0, 1])]));
+    assert!(rt; lists(&sum.copy()?, &[(1, 1, [1, 0, 0]), (-1, 1, [0, 0, 1])]));
+    assert!(rt; first.sub(&first)?.is_zero());
+    assert!(rt;
+        lists(
+            &first.sub(&second)?,
+            &[(1, 1, [1, 0, 0]), (-2, 1, [0, 1, 0]), (1, 1, [0, 0, 1])]
+        )
+    );
+    Ok(())
+}
+
+// a worked value of the documentation: 2a times a - b
+#[test]
+fn product_with_term(rt: HostRuntime) -> Result<(), Fail> {
+    let alloc = rt.alloc();
+    let first = two(term(alloc, 1, 1, 0, 0), term(alloc, -1, 0, 1, 0), alloc)?;
+    let by = term(alloc, 2, 1, 0, 0);
+    let product = first.mul_term(by.coef, &by.mono)?;
+    assert!(rt; lists(&product, &[(2, 1, [2, 0, 0]), (-2, 1, [1, 1, 0])]));
+    assert_eq!(rt; first.coefficient(&by.mono).numer(), 1);
+    assert!(rt; first.scale(Frac::new(0, 1))?.is_zero());
+    assert!(rt;
+        lists(
+            &first.scale(Frac::new(-1, 2))?,
+            &[(-1, 2, [1, 0, 0]), (1, 2, [0, 1, 0])]
+        )
+    );
+    Ok(())
+}
+
+// by hand: like terms are added, zeros are left out, the degree decides before the first exponent
+#[test]
+fn collected_terms(rt: HostRuntime) -> Result<(), Fail> {
+    let alloc = rt.alloc();
+    let terms = vec![in alloc;
+        term(alloc, 3, 1, 0, 0),
+        term(alloc, 5, 0, 0, 2),
+        term(alloc, 0, 0, 1, 0),
+        term(alloc, -3, 1, 0, 0),
+        term(alloc, 2, 0, 0, 2),
+        term(alloc, 1, 0, 2, 0),
+        term(alloc, 4, 0, 0, 0),
+    ]?;
+    let sum = Poly::from_terms(terms)?;
+    assert!(rt;
+        lists(
+            &sum,
+            &[(1, 1, [0, 2, 0]), (7, 1, [0, 0, 2]), (4, 1, [0, 0, 0])]
+        )
+    );
+    let none = Poly::from_terms(vec![in alloc;]?)?;
+    assert!(rt; none.is_zero());
+    assert!(rt; Poly::zero(alloc).is_zero());
+    Ok(())
+}
+
+// by hand: the first sum from the left that passes 2^127 - 1
+#[test]
+fn wide_coefficients(rt: HostRuntime) -> Result<(), Fail> {
+    let alloc = rt.alloc();
+    let mut wide = term(alloc, 1, 1, 0, 0);
+    wide.coef = Frac::new(i128::MAX, 1);
+    let terms = vec![in alloc;
+        wide.copy(),
+        term(alloc, -1, 1, 0, 0),
+        term(alloc, 2, 1, 0, 0),
+    ]?;
+    let refused = match Poly::from_terms(terms).err() {
+        Some(e) => names_sum(e, i128::MAX - 1, 2),
+        None => false,
+    };
+    assert!(rt; refused);
+    Ok(())
+}
+
+// by hand: the exponents of the first variable whose sum passes 2^31 - 1
+#[test]
+fn wide_exponents(rt: HostRuntime) -> Result<(), Fail> {
+    let alloc = rt.alloc();
+    let first = Mono::new(alloc, &[1, MOST, 2]);
+    let second = Mono::new(alloc, &[0, 1, MOST]);
+    let refused = match first.mul(&second) {
+        Err(o) => o.left == 2_147_483_647 && o.right == 1,
+        Ok(_) => false,
+    };
+    assert!(rt; refused);
+    Ok(())
+}
+
+// by hand
+#[test]
+fn monomials(rt: HostRuntime) -> Result<(), Fail> {
+    let alloc = rt.alloc();
+    let first = Mono::new(alloc, &[1, 0, 2]);
+    let second = Mono::new(alloc, &[0, 3, 2]);
+    let join = first.lcm(&second);
+    assert_eq!(rt; join.exponents(), [1, 3, 2].as_slice());
+    assert_eq!(rt; join.degree(), 6);
+    assert!(rt; first.divides(&join));
+    assert!(rt; !first.divides(&second));
+    assert_eq!(rt; join.quotient(&first).exponents(), [0, 3, 0].as_slice());
+    assert_eq!(rt; first.mul(&second)?.exponents(), [1, 3, 4].as_slice());
+    Ok(())
+}
