@@ -1,0 +1,49 @@
+-- What holds of each listed term holds of each monomial: from the lists that a program keeps to polynomials.
+-- To cite: variables_by_terms, fits_by_terms, marked_by_terms.
+use Rattle.std.specs.Prelude.{◌≡◌, ◌⊎◌, ℕ, true, [], ◌∷◌}
+use Rattle.std.proofs.Common.{arith, sym, ap, ◌∙◌, inl, inr}
+use Rattle.gf_frac.specs.Fraction.{one_ℚ}
+use Rattle.gf_exponents.specs.Exponents.{Exponents, same, IsInRing}
+use Rattle.gf_exponents.specs.Orders.{IsStrict}
+use Rattle.gf_exponents.proofs.ExponentsLaws.{same_flip, same_trans, entries_same, entry-past}
+use Rattle.gf_poly.specs.declared.Term.{Term}
+use Rattle.gf_poly.specs.Polynomial.{Terms, coefficient, HasVariables}
+use Rattle.gf_poly.specs.Marking.{MarkedPolynomial, Each}
+use Rattle.gf_poly.proofs.PolynomialLaws.{times-plain}
+use Rattle.gf_ideal.specs.Membership.{HasMonomial, IsInVariables}
+use Rattle.gf_ideal.specs.Marks.{IsMarked}
+use Rattle.gf_ideal.specs.Measure.{IsInBox, FitsBox}
+use Rattle.gf_ideal.proofs.TermLaws.{found_term}
+
+-- a monomial of f is that of one of its terms
+pub listed : (Q : Term → Type 0) (f : Terms) (x : Exponents) → Each Q f → HasMonomial f x →
+    (t : Term) × Q t × (same x t.mono ≡ true)
+listed Q f x h n = found_term Q one_ℚ [] f x h (λ z. n (sym (ap (λ g. coefficient g x) (times-plain f)) ∙ z))
+
+-- what holds of each listed monomial holds of each monomial
+pub by_terms : (B : Exponents → Type 0) (f : Terms) → ((x y : Exponents) → same x y ≡ true → B x → B y) →
+    Each (λ (t : Term). B t.mono) f → (x : Exponents) → HasMonomial f x → B x
+by_terms B f along h x n = let r = listed (λ (t : Term). B t.mono) f x h n in along r.0.mono x (same_flip x r.0.mono r.2) r.1
+
+-- lists whose monomials have n exponents are polynomials in n variables
+pub variables_by_terms : (n : ℕ) (f : Terms) → HasVariables n f → IsInVariables n f
+variables_by_terms n f h = by_terms (IsInRing n) f (λ x y s r i l. sym (entries_same x y s i) ∙ r i l) (each f h)
+  where
+    each : (f : Terms) → HasVariables n f → Each (λ (t : Term). IsInRing n t.mono) f
+    each [] h = tt
+    each (t ∷ f) h = (λ i l. entry-past t.mono i (omega (arith, h.0)), each f h.1)
+
+-- lists whose monomials fit are polynomials that fit
+pub fits_by_terms : (limit n : ℕ) (f : Terms) → Each (λ (t : Term). IsInBox limit n t.mono) f → FitsBox limit n f
+fits_by_terms limit n f h = by_terms (IsInBox limit n) f (λ x y s b. record { below = λ i. omega (arith, b.below i, entries_same x y s i); beyond = λ i l. sym (entries_same x y s i) ∙ b.beyond i l }) h
+
+-- a polynomial whose listed terms are at the mark or below it
+pub marked_by_terms : (below : Exponents → Exponents → Type 0) (b : MarkedPolynomial) → IsStrict below →
+    coefficient b.poly b.head ≡ one_ℚ → Each (λ (t : Term). (same t.mono b.head ≡ true) ⊎ below t.mono b.head) b.poly →
+    IsMarked below b
+marked_by_terms below b o one h = record { monic = one; tail = by_terms (λ x. (same x b.head ≡ true) ⊎ below x b.head) b.poly along h }
+  where
+    along : (x y : Exponents) → same x y ≡ true → (same x b.head ≡ true) ⊎ below x b.head →
+        (same y b.head ≡ true) ⊎ below y b.head
+    along x y s (inl e) = inl (same_trans y x b.head (same_flip x y s) e)
+    along x y s (inr l) = inr (o.along_left x y b.head s l)

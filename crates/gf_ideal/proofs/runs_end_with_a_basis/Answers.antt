@@ -1,0 +1,5 @@
+use Rattle.gf_ideal.proofs.TheoremsHold.{runs_end_with_a_basis as law}
+use Rattle.gf_ideal.proofs.runs_end_with_a_basis.Goals as goal
+
+pub returns : goal.returns
+returns c = law
