@@ -7,7 +7,7 @@ use Rattle.gf_poly.specs.Polynomial.{Terms}
 use Rattle.gf_poly.specs.Marking.{MarkedPolynomial, polys}
 use Rattle.gf_ideal.specs.Membership.{AreInVariables}
 use Rattle.gf_ideal.specs.Marks.{AreMarked}
-use Rattle.gf_ideal.specs.Reduction.{Reached, IsSPolynomial, IsKept, IsMonomial}
+use Rattle.gf_ideal.specs.Reduction.{Reached, IsSPolynomial, IsKept, HasOneMonomial}
 use Rattle.gf_ideal.specs.Settled.{IsMultipleBelow, IntegerPiece, IsSettledPair, ArePairsSettled, IsSettledAtJoin}
 use Rattle.gf_ideal.proofs.ListLaws.{Each-weaker}
 use Rattle.gf_ideal.proofs.SettledLaws.{settled_everywhere, settled_at_join, settled_turned, settled_by_chain, all_pairs}
@@ -29,8 +29,8 @@ pair_by_product n bs below b c v o m hb hc q = pair_of_settled n bs below b c v 
 
 -- both are monomials
 pub pair_by_monomials : (n : ℕ) (bs : List MarkedPolynomial) (below : Exponents → Exponents → Type 0) (b c : MarkedPolynomial) →
-    AreInVariables n (polys bs) → IsStrict below → AreMarked below bs → Contains bs b → Contains bs c → IsMonomial b →
-    IsMonomial c → IsSettledPair n bs below b c
+    AreInVariables n (polys bs) → IsStrict below → AreMarked below bs → Contains bs b → Contains bs c → HasOneMonomial b →
+    HasOneMonomial c → IsSettledPair n bs below b c
 pair_by_monomials n bs below b c v o m hb hc p q = pair_of_settled n bs below b c v o m hb hc (settled_monomials (Contains bs) below b c (m b hb).monic (m c hc).monic p q)
 
 -- the mark of a third member divides the least common multiple, and its pairs with both are settled

@@ -8,7 +8,7 @@ use Rattle.gf_ideal.specs.Laws.{MembersAreSpanned, IdealsAreClosed, StepsKeepThe
 use Rattle.gf_ideal.proofs.MembershipLaws.{member-equal, member-zero, member-generator, member-++, member-times, member-difference, spans_of_member, variables_of_member, member_of_spans, member-trans}
 use Rattle.gf_ideal.proofs.StepLaws.{member-reached, member-reached_back, member-s_polynomial}
 use Rattle.gf_ideal.proofs.GeneratorLaws.{dropped_generator, reduced_generator, monic_generator, member-monic, monic_list}
-use Rattle.gf_ideal.proofs.MeasureLaws.{work_left-smaller}
+use Rattle.gf_ideal.proofs.MeasureLaws.{work_left-smaller, work_left-smaller_at}
 use Rattle.gf_ideal.proofs.OrderWeights.{order-is, order-weights, lex-weights, deglex-weights, weighted-weights}
 use Rattle.gf_ideal.proofs.MarkWeights.{marked_positive, order-marks, list_traded, monic-weights}
 
@@ -39,7 +39,7 @@ generators_may_be_exchanged = record {
 }
 
 pub steps_leave_less_work : StepsLeaveLessWork
-steps_leave_less_work = work_left-smaller
+steps_leave_less_work = record { step = work_left-smaller_at; fitting = work_left-smaller }
 
 pub orders_are_weights : OrdersAreWeights
 orders_are_weights o n grade ps a g b = list_traded (IsOfGrade n grade) (below_of o) n ps (order-weights o n grade a) g b

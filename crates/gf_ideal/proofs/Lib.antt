@@ -20,6 +20,7 @@ pub mod DivisionLaws  -- division
 pub mod LeadingLaws  -- leading monomials
 pub mod BasisLaws  -- what a basis gives, and what gives a basis
 pub mod UniquenessLaws  -- the reduced basis is the only one
+pub mod ArrangedLists  -- arranged bases that are the same are equal
 pub mod InterreductionLaws  -- interreduction
 pub mod ArrangementLaws  -- bases in any order
 pub mod IntegerPairLaws  -- settled in whole numbers

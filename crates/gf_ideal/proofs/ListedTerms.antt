@@ -1,18 +1,22 @@
 -- What holds of each listed term holds of each monomial: from the lists that a program keeps to polynomials.
--- To cite: variables_by_terms, fits_by_terms, marked_by_terms.
-use Rattle.std.specs.Prelude.{◌≡◌, ◌⊎◌, ℕ, true, [], ◌∷◌}
+-- To cite: variables_by_terms, fits_by_terms, fits_by_monomials, box_of_monomial, marked_by_terms.
+use Rattle.std.specs.Prelude.{◌≡◌, ◌⊎◌, ℕ, true, [], ◌∷◌, ◌^◌}
 use Rattle.std.proofs.Common.{arith, sym, ap, ◌∙◌, inl, inr}
 use Rattle.gf_frac.specs.Fraction.{one_ℚ}
 use Rattle.gf_exponents.specs.Exponents.{Exponents, same, IsInRing}
 use Rattle.gf_exponents.specs.Orders.{IsStrict}
 use Rattle.gf_exponents.proofs.ExponentsLaws.{same_flip, same_trans, entries_same, entry-past}
 use Rattle.gf_poly.specs.declared.Term.{Term}
+use Rattle.gf_poly.specs.declared.TheConstants.{ROOM}
+use Rattle.gf_poly.specs.Monomial.{IsMonomial}
+use Rattle.gf_poly.proofs.MonomialLaws.{entry-limit}
 use Rattle.gf_poly.specs.Polynomial.{Terms, coefficient, HasVariables}
 use Rattle.gf_poly.specs.Marking.{MarkedPolynomial, Each}
 use Rattle.gf_poly.proofs.PolynomialLaws.{times-plain}
 use Rattle.gf_ideal.specs.Membership.{HasMonomial, IsInVariables}
 use Rattle.gf_ideal.specs.Marks.{IsMarked}
 use Rattle.gf_ideal.specs.Measure.{IsInBox, FitsBox}
+use Rattle.gf_ideal.proofs.ListLaws.{Each-weaker}
 use Rattle.gf_ideal.proofs.TermLaws.{found_term}
 
 -- a monomial of f is that of one of its terms
@@ -47,3 +51,11 @@ marked_by_terms below b o one h = record { monic = one; tail = by_terms (λ x. (
         (same y b.head ≡ true) ⊎ below y b.head
     along x y s (inl e) = inl (same_trans y x b.head (same_flip x y s) e)
     along x y s (inr l) = inr (o.along_left x y b.head s l)
+
+-- a monomial that a program keeps is in the box of its limits
+pub box_of_monomial : (x : Exponents) → IsMonomial x → IsInBox (2 ^ 31) ROOM x
+box_of_monomial x h = record { below = entry-limit x h.limit; beyond = λ i l. entry-past x i (omega (arith, h.room)) }
+
+-- a polynomial whose listed monomials are such fits
+pub fits_by_monomials : (f : Terms) → Each (λ (t : Term). IsMonomial t.mono) f → FitsBox (2 ^ 31) ROOM f
+fits_by_monomials f h = fits_by_terms (2 ^ 31) ROOM f (Each-weaker (λ (t : Term). IsMonomial t.mono) (λ (t : Term). IsInBox (2 ^ 31) ROOM t.mono) (λ t m. box_of_monomial t.mono m) f h)

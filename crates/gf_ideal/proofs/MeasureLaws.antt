@@ -1,5 +1,5 @@
 -- A step of reduction leaves less work, wherever some weight sets each mark above the rest.
--- To cite: work_left-smaller, work_left-step. The rest are steps: lists of monomials and what they sum to, the monomials of a polynomial,
+-- To cite: work_left-smaller, work_left-smaller_at, work_left-step. The rest are steps: lists of monomials and what they sum to, the monomials of a polynomial,
 -- heights that no longer change once they are as deep as the box is large, the box itself.
 use Rattle.std.specs.Prelude.{◌≡◌, ◌⊎◌, ℕ, zero, suc, ◌+◌, ◌<◌, ◌≤◌, ◌||◌, ℤ, pos, negsuc, Bool, true, false, if◌then◌else◌, List, [], ◌∷◌, ◌++◌, length, Contains}
 use Rattle.std.proofs.Common.{arith, refl, sym, ap, ◌∙◌, subst, inl, inr}
@@ -469,12 +469,23 @@ each_marked : (w : List ℕ) (bs cs : List MarkedPolynomial) → AreMarked (ligh
 each_marked w bs [] m h = tt
 each_marked w bs (c ∷ cs) m h = (m c (h c (0, omega arith, refl)), each_marked w bs cs m (λ b k. h b (suc k.0, omega (arith, k.1), k.2)))
 
+-- a step at a monomial in the box leaves less work
+pub work_left-at : (limit m : ℕ) (w : List ℕ) (bs : List MarkedPolynomial) (f g : Terms) →
+    AreMarked (lighter w) bs → (s : IsStep (Contains bs) f g) → IsInBox limit m s.at →
+    work_left limit m bs g < work_left limit m bs f
+work_left-at limit m w bs f g h s b = work_in-step (box limit m) w bs f g s h (each_marked w bs bs h (λ b k. k)) (within-box limit m s.at b)
+
 -- a step from a polynomial in the box leaves less work
 pub work_left-step : (limit n : ℕ) (w : List ℕ) (bs : List MarkedPolynomial) (f g : Terms) → AreMarked (lighter w) bs →
     FitsBox limit n f → IsStep (Contains bs) f g → work_left limit n bs g < work_left limit n bs f
-work_left-step limit n w bs f g m fits s = work_in-step (box limit n) w bs f g s m (each_marked w bs bs m (λ b k. k)) (within-box limit n s.at (fits s.at s.there))
+work_left-step limit n w bs f g m fits s = work_left-at limit n w bs f g m s (fits s.at s.there)
 
 -- so a loop of steps ends, by members that some positive weight marks
 pub work_left-smaller : (limit m n : ℕ) (bs : List MarkedPolynomial) (f g : Terms) → HasPositiveWeight n bs →
     FitsBox limit m f → IsStep (Contains bs) f g → work_left limit m bs g < work_left limit m bs f
 work_left-smaller limit m n bs f g h fits s = work_left-step limit m h.0 bs f g h.2 fits s
+
+-- where only the monomial of the step is known to be in the box
+pub work_left-smaller_at : (limit m n : ℕ) (bs : List MarkedPolynomial) (f g : Terms) → HasPositiveWeight n bs →
+    (s : IsStep (Contains bs) f g) → IsInBox limit m s.at → work_left limit m bs g < work_left limit m bs f
+work_left-smaller_at limit m n bs f g h s b = work_left-at limit m h.0 bs f g h.2 s b

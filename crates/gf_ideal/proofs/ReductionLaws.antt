@@ -11,7 +11,7 @@ use Rattle.gf_poly.specs.Polynomial.{Terms, coefficient, times}
 use Rattle.gf_poly.specs.Marking.{MarkedPolynomial, Each}
 use Rattle.gf_poly.proofs.PolynomialLaws.{coefficient-++, coefficient-factor}
 use Rattle.gf_ideal.specs.Marks.{IsMarked, Piece, level, value}
-use Rattle.gf_ideal.specs.Reduction.{Reached, IsSPolynomial, IsKept, IsMonomial}
+use Rattle.gf_ideal.specs.Reduction.{Reached, IsSPolynomial, IsKept, HasOneMonomial}
 use Rattle.gf_ideal.specs.Settled.{IsPieceBelow, IsBridged, IsSettledAtJoin}
 use Rattle.gf_ideal.proofs.Identities.{taken_over, neg_one}
 use Rattle.gf_ideal.proofs.ListLaws.{Each-weaker}
@@ -83,13 +83,13 @@ settled_by_steps by kept below b c s r o m more hb hc q steps k =
 
 -- ---- two monomials
 
-single_else : (b : MarkedPolynomial) (u x : Exponents) → IsMonomial b → same x (plus u b.head) ≡ false →
+single_else : (b : MarkedPolynomial) (u x : Exponents) → HasOneMonomial b → same x (plus u b.head) ≡ false →
     coefficient (times one_ℚ u b.poly) x ≡ zero_ℚ
 single_else b u x h n = nothing_there one_ℚ u b.poly x (λ y m s. let t : same x (plus u b.head) ≡ true = same_trans x (plus u y) (plus u b.head) s (same_shift u y b.head (h y m)) in absurd (cc))
 
 -- the S-polynomial of two monomials is zero
 pub settled_monomials : (by : MarkedPolynomial → Type 0) (below : Exponents → Exponents → Type 0) (b c : MarkedPolynomial) →
-    coefficient b.poly b.head ≡ one_ℚ → coefficient c.poly c.head ≡ one_ℚ → IsMonomial b → IsMonomial c →
+    coefficient b.poly b.head ≡ one_ℚ → coefficient c.poly c.head ≡ one_ℚ → HasOneMonomial b → HasOneMonomial c →
     IsSettledAtJoin by below b c
 settled_monomials by below b c mb mc hb hc = record {
   left = minus (join b.head c.head) b.head;

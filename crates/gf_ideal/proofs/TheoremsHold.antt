@@ -22,6 +22,7 @@ use Rattle.gf_ideal.proofs.SettledLaws.{settled_everywhere}
 use Rattle.gf_ideal.proofs.BasisLaws.{remainder_zero, settled_of_basis, basis_by_pairs, groebner_by_weight, groebner_by_order, basis_of_groebner, basis_of_groebner_for}
 use Rattle.gf_ideal.proofs.InterreductionLaws.{basis-kept, basis-of_tails, tail-marked, reduced_by_weight, reduced_by_order, interreduced, reduced-tails, apart-tails}
 use Rattle.gf_ideal.proofs.ArrangementLaws.{basis-arranged, reduced-arranged}
+use Rattle.gf_ideal.proofs.ArrangedLists.{arranged_equal}
 use Rattle.gf_ideal.proofs.UniquenessLaws.{unique_by_weight, unique_by_order}
 use Rattle.gf_ideal.proofs.IntegerPairLaws.{pair_of_settled}
 use Rattle.gf_ideal.proofs.CriteriaLaws.{pair_by_steps, pair_by_product, pair_by_monomials, pair_by_chain, pair_turned, pair_more, pairs_at_join}
@@ -138,6 +139,7 @@ pub reduced_bases_are_unique : ReducedBasesAreUnique
 reduced_bases_are_unique = record {
   for_weight = unique_by_weight;
   for_order = λ o n fs bs cs p q. unique_by_order n fs (below_of o) bs cs (order-is o) p q;
+  arranged = arranged_equal;
 }
 
 pub runs_end_with_a_basis : RunsEndWithABasis

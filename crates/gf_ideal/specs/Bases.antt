@@ -2,10 +2,10 @@
 -- "For a weight" looks at the terms of greatest weight of each member, "for an order" at the greatest term.
 -- Laws: proofs/BasisLaws.antt, proofs/UniquenessLaws.antt. Source: Cox, Little, O'Shea, Ideals, Varieties, and
 -- Algorithms, 2.5 to 2.7; Fukuda, Jensen, Thomas, Computing Gröbner fans, 2.
-use Rattle.std.specs.Prelude.{◌≡◌, ◌⊎◌, ℕ, ◌≤◌, true, List, [], ◌∷◌, Contains}
+use Rattle.std.specs.Prelude.{◌≡◌, ◌⊎◌, ℕ, ◌≤◌, true, List, [], ◌∷◌, Contains, length}
 use Rattle.gf_exponents.specs.Exponents.{Exponents, same, weight, NoMultiple}
-use Rattle.gf_exponents.specs.Orders.{lighter}
-use Rattle.gf_poly.specs.Polynomial.{Terms, SamePolynomial}
+use Rattle.gf_exponents.specs.Orders.{lighter, IsLexBelow}
+use Rattle.gf_poly.specs.Polynomial.{Terms, SamePolynomial, HasVariables, IsDescending}
 use Rattle.gf_poly.specs.Marking.{MarkedPolynomial, Each}
 use Rattle.gf_ideal.specs.Membership.{HasMonomial, IsMember}
 use Rattle.gf_ideal.specs.Marks.{AreMarked, IsPositive, HasPositiveWeight}
@@ -93,3 +93,21 @@ pub record IsTwin (b c : MarkedPolynomial) : Type 0 where
 pub record AreSameBasis (bs cs : List MarkedPolynomial) : Type 0 where
   pub there : (b : MarkedPolynomial) → Contains bs b → (c : MarkedPolynomial) × Contains cs c × IsTwin b c
   pub back : (c : MarkedPolynomial) → Contains cs c → (b : MarkedPolynomial) × Contains bs b × IsTwin b c
+
+-- ---- bases as a program keeps them
+
+-- in n variables, with terms that descend in deglex and count
+pub record IsCanonical (n : ℕ) (b : MarkedPolynomial) : Type 0 where
+  pub variables : HasVariables n b.poly
+  pub descending : IsDescending b.poly
+  pub head : length b.head ≡ n
+
+-- the marks ascend by lex, no two the same
+abbrev pub AreAscending : List MarkedPolynomial → Type 0
+AreAscending [] = Unit {0}
+AreAscending (b ∷ bs) = Each (λ (c : MarkedPolynomial). IsLexBelow b.head c.head) bs × AreAscending bs
+
+-- each member is kept so, and the marks ascend
+pub record AreArranged (n : ℕ) (bs : List MarkedPolynomial) : Type 0 where
+  pub canonical : (b : MarkedPolynomial) → Contains bs b → IsCanonical n b
+  pub ascending : AreAscending bs

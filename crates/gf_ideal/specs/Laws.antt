@@ -10,7 +10,7 @@ use Rattle.gf_ideal.specs.Marks.{AreMarked, IsPositive, HasPositiveWeight, IsRea
 use Rattle.gf_ideal.specs.Reduction.{IsStep, Reached, IsSPolynomial, IsMonicForm, AreMonicForms}
 use Rattle.gf_ideal.specs.Bases.{AreMembers}
 use Rattle.gf_ideal.specs.MonomialOrders.{MonomialOrder, below_of, IsOfGrade, IsHomogeneous, IsAdmissible, ArePairs}
-use Rattle.gf_ideal.specs.Measure.{FitsBox, work_left}
+use Rattle.gf_ideal.specs.Measure.{IsInBox, FitsBox, work_left}
 
 -- the ideal of generators in n variables: the polynomials in n variables that are sums of multiples of them
 pub record MembersAreSpanned : Type 0 where
@@ -58,10 +58,13 @@ pub record GeneratorsMayBeExchanged : Type 0 where
   pub all_monic : (n : ℕ) (bs cs : List MarkedPolynomial) → AreInVariables n (polys bs) → AreMonicForms bs cs →
       AreSameIdeal n (polys bs) (polys cs)
 
--- division ends: a step leaves less work, wherever some positive weight sets each mark above the rest
-abbrev pub StepsLeaveLessWork : Type 0
-StepsLeaveLessWork = (limit m n : ℕ) (bs : List MarkedPolynomial) (f g : Terms) → HasPositiveWeight n bs →
-    FitsBox limit m f → IsStep (Contains bs) f g → work_left limit m bs g < work_left limit m bs f
+-- division ends: a step leaves less work, wherever some positive weight sets each mark above the rest, and the monomial
+-- that the step takes away, or each monomial of f, is within the limits
+pub record StepsLeaveLessWork : Type 0 where
+  pub step : (limit m n : ℕ) (bs : List MarkedPolynomial) (f g : Terms) → HasPositiveWeight n bs →
+      (s : IsStep (Contains bs) f g) → IsInBox limit m s.at → work_left limit m bs g < work_left limit m bs f
+  pub fitting : (limit m n : ℕ) (bs : List MarkedPolynomial) (f g : Terms) → HasPositiveWeight n bs →
+      FitsBox limit m f → IsStep (Contains bs) f g → work_left limit m bs g < work_left limit m bs f
 
 -- an order is a weight on finitely many comparisons
 abbrev pub OrdersAreWeights : Type 0

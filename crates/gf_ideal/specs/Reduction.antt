@@ -59,5 +59,5 @@ abbrev pub IsKept : (MarkedPolynomial → Type 0) → Terms → Type 0
 IsKept by r = SamePolynomial r [] ⊎ ((b : MarkedPolynomial) × by b × IsMonicForm r b)
 
 -- b has no monomial but the marked one
-abbrev pub IsMonomial : MarkedPolynomial → Type 0
-IsMonomial b = (x : Exponents) → HasMonomial b.poly x → same x b.head ≡ true
+abbrev pub HasOneMonomial : MarkedPolynomial → Type 0
+HasOneMonomial b = (x : Exponents) → HasMonomial b.poly x → same x b.head ≡ true

@@ -6,9 +6,9 @@ use Rattle.gf_poly.specs.Polynomial.{Terms, SamePolynomial}
 use Rattle.gf_poly.specs.Marking.{MarkedPolynomial, polys}
 use Rattle.gf_ideal.specs.Membership.{IsInVariables, AreInVariables, IsMember}
 use Rattle.gf_ideal.specs.Marks.{IsMarked, AreMarked, IsPositive}
-use Rattle.gf_ideal.specs.Reduction.{IsDivisible, IsIrreducible, Reached, IsSPolynomial, IsKept, IsMonomial}
+use Rattle.gf_ideal.specs.Reduction.{IsDivisible, IsIrreducible, Reached, IsSPolynomial, IsKept, HasOneMonomial}
 use Rattle.gf_ideal.specs.MonomialOrders.{MonomialOrder, below_of, IsHomogeneous, IsAdmissible, Comparison, compared_by}
-use Rattle.gf_ideal.specs.Bases.{AreMembers, IsBasis, AreApart, HasReducedTails, IsGroebnerBasis, IsGroebnerBasisFor, IsReducedBasis, IsReducedBasisFor, AreSameBasis}
+use Rattle.gf_ideal.specs.Bases.{AreMembers, IsBasis, AreApart, HasReducedTails, IsGroebnerBasis, IsGroebnerBasisFor, IsReducedBasis, IsReducedBasisFor, AreSameBasis, AreArranged}
 use Rattle.gf_ideal.specs.Settled.{IsAt, IsSettledPair, ArePairsSettled}
 use Rattle.gf_ideal.specs.NormalForms.{IsNormalForm}
 use Rattle.gf_ideal.specs.WorkLists.{IsWorkList, IsTail, AreReducedTails}
@@ -56,8 +56,8 @@ pub record PairsAreSettled : Type 0 where
       AreInVariables n (polys bs) → AreMarked (compared_by k) bs → Contains bs b → Contains bs c →
       AreCoprime b.head c.head → IsSettledPair n bs (compared_by k) b c
   pub by_monomials : (k : Comparison) (n : ℕ) (bs : List MarkedPolynomial) (b c : MarkedPolynomial) →
-      AreInVariables n (polys bs) → AreMarked (compared_by k) bs → Contains bs b → Contains bs c → IsMonomial b →
-      IsMonomial c → IsSettledPair n bs (compared_by k) b c
+      AreInVariables n (polys bs) → AreMarked (compared_by k) bs → Contains bs b → Contains bs c → HasOneMonomial b →
+      HasOneMonomial c → IsSettledPair n bs (compared_by k) b c
   pub by_chain : (k : Comparison) (n : ℕ) (bs : List MarkedPolynomial) (b c d : MarkedPolynomial) (rest : Exponents) →
       AreInVariables n (polys bs) → AreMarked (compared_by k) bs → Contains bs b → Contains bs c →
       same (join b.head c.head) (plus rest d.head) ≡ true → IsSettledPair n bs (compared_by k) b d →
@@ -143,12 +143,14 @@ pub record BasesMayBeArranged : Type 0 where
 
 -- ---- uniqueness
 
--- an ideal has one reduced Gröbner basis at most for each weight, and for each order
+-- an ideal has one reduced Gröbner basis at most for each weight, and for each order; arranged it is one list
 pub record ReducedBasesAreUnique : Type 0 where
   pub for_weight : (n : ℕ) (fs : List Terms) (w : List ℕ) (bs cs : List MarkedPolynomial) → IsReducedBasis n fs w bs →
       IsReducedBasis n fs w cs → AreSameBasis bs cs
   pub for_order : (o : MonomialOrder) (n : ℕ) (fs : List Terms) (bs cs : List MarkedPolynomial) →
       IsReducedBasisFor n fs (below_of o) bs → IsReducedBasisFor n fs (below_of o) cs → AreSameBasis bs cs
+  pub arranged : (n : ℕ) (bs cs : List MarkedPolynomial) → AreArranged n bs → AreArranged n cs → AreSameBasis bs cs →
+      bs ≡ cs
 
 -- ---- Buchberger's algorithm
 
