@@ -6,3 +6,4 @@ pub mod MergeLaws  -- one step of a merge
 pub mod ProductLaws  -- products term by term
 pub mod CollectLaws  -- sums of like terms, in a list in order
 pub mod SortLaws  -- a stable sort keeps coefficients and like terms
+pub mod MarkingLaws  -- marked terms, monic polynomials, lists of them

@@ -4,3 +4,4 @@ pub mod Sums  -- sums and differences, and where they leave the range
 pub mod Products  -- products with a term or a fraction, and where they leave their ranges
 pub mod Collecting  -- sums of like terms from the left
 pub mod Marking  -- marked polynomials
+pub mod Laws  -- what a function of this crate names

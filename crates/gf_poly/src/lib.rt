@@ -9,6 +9,10 @@ ghost use Rattle.std.specs.Prelude.{◌≡◌};
 
 mod collect;
 mod error;
+mod laws;
+mod lists;
+mod marked;
+mod marked_set;
 mod merge;
 mod monomial;
 mod polynomial;
@@ -16,6 +20,10 @@ mod products;
 
 pub use error::PolyError;
 use gf_frac::Frac;
+pub use laws::unique_terms;
+pub use lists::{Pairs, Polys};
+pub use marked::Marked;
+pub use marked_set::MarkedSet;
 pub use monomial::{ExponentOverflow, Mono};
 pub use polynomial::Poly;
 

@@ -1,9 +1,9 @@
 //! Polynomials: descending lists of terms.
 
 ghost use Rattle.std.specs.Prelude.{◌≡◌, ◌≢◌, ◌↔◌, ℕ, [], length, IfOk, IfErr, IsTrue};
-ghost use Rattle.gf_frac.specs.Fraction.{zero_ℚ};
+ghost use Rattle.gf_frac.specs.Fraction.{reciprocal_ℚ, zero_ℚ};
 ghost use Rattle.gf_frac.specs.declared.refusal.Op.TheVariants.{Add, Sub};
-ghost use Rattle.gf_poly.specs.declared.products.Scaling.TheVariants.{Times};
+ghost use Rattle.gf_poly.specs.declared.products.Scaling.TheVariants.{Times, Over};
 ghost use Rattle.gf_poly.specs.Polynomial.{coefficient, times, SamePolynomial, IsDescending, HasVariables, KeepsVariables, KeepsBothVariables};
 ghost use Rattle.gf_poly.specs.Collecting.{LikeSumsFit, IsLikeSumCause};
 ghost use Rattle.gf_poly.specs.Products.{HasProducts, IsScaled, IsScaleCause, ScalesFit, IsProductCause, ProductsFit};
@@ -209,6 +209,18 @@ impl Poly {
     {
         let alloc = *self.terms.allocator();
         let terms = multiplied(alloc, self.terms(), &coef, mono)?;
+        Ok(Poly { terms })
+    }
+
+    /// The quotient by the fraction `by`, which isn't zero: the product with its reciprocal.
+    pub fn divided(&self, by: &Frac) -> Result<Poly, PolyError>
+        requires { by.now ≢ zero_ℚ }
+        ensures terms { IfOk result (HasProducts (reciprocal_ℚ by.now) [] self.now) }
+        ensures fits { IfOk result (λ h. ScalesFit Over by.now self.now) }
+        ensures cause { IfErr result (IsScaleCause Over by.now self.now) }
+    {
+        let alloc = *self.terms.allocator();
+        let terms = scaled(alloc, self.terms(), by, Scaling::Over)?;
         Ok(Poly { terms })
     }
 }

@@ -1,4 +1,5 @@
 ghost use Rattle.std.specs.Prelude.{◌≡◌, ◌∷◌, [], IfOk};
+ghost use Rattle.gf_poly.specs.Marking.{HaveVariables};
 ghost use Rattle.gf_poly.specs.Polynomial.{HasVariables};
 
 use super::*;
@@ -94,6 +95,73 @@ fn product_with_term(rt: HostRuntime) -> Result<(), Fail> {
             &[(-1, 2, [1, 0, 0]), (1, 2, [0, 1, 0])]
         )
     );
+    Ok(())
+}
+
+// The polynomial with a mark at this place.
+fn marked(p: Poly, index: usize) -> Result<Marked, PolyError>
+    requires { HasVariables 3 p }
+    ensures { IfOk result (λ b. HasVariables 3 b.poly) }
+{
+    if p.terms().len() <= index {
+        return Err(PolyError::Memory);
+    }
+    Ok(Marked::mark(p, index))
+}
+
+// The list of two marked polynomials.
+fn set_of(first: Marked, second: Marked, alloc: Global) -> Result<MarkedSet, PolyError>
+    requires left { HaveVariables 3 (first ∷ []) }
+    requires right { HaveVariables 3 (second ∷ []) }
+{
+    let items = vec![in alloc; first, second]?;
+    Ok(MarkedSet::new(3, items))
+}
+
+// Whether the list has two members with these marks.
+fn has_heads(set: &MarkedSet, first: [u32; 3], second: [u32; 3]) -> bool {
+    let items = set.items();
+    items.len() == 2
+        && items[0].head().exponents() == first.as_slice()
+        && items[1].head().exponents() == second.as_slice()
+}
+
+// a worked value of the documentation: 2a + b, marked at 2a, is made monic
+#[test]
+fn monic_polynomial(rt: HostRuntime) -> Result<(), Fail> {
+    let alloc = rt.alloc();
+    let sum = two(term(alloc, 2, 1, 0, 0), term(alloc, 1, 0, 1, 0), alloc)?;
+    let monic = marked(sum, 0)?.monic()?;
+    assert!(rt; lists(monic.poly(), &[(1, 1, [1, 0, 0]), (1, 2, [0, 1, 0])]));
+    assert_eq!(rt; monic.head().exponents(), [1, 0, 0].as_slice());
+    assert_eq!(rt; monic.index(), 0);
+    assert_eq!(rt; monic.copy()?.coefficient().numer(), 1);
+    Ok(())
+}
+
+// a worked value of the documentation: a*b + c and b^2 + c, marked at a*b and b^2, change places
+#[test]
+fn arranged_list(rt: HostRuntime) -> Result<(), Fail> {
+    let alloc = rt.alloc();
+    let first = two(term(alloc, 1, 1, 1, 0), term(alloc, 1, 0, 0, 1), alloc)?;
+    let second = two(term(alloc, 1, 0, 2, 0), term(alloc, 1, 0, 0, 1), alloc)?;
+    let set = set_of(marked(first, 0)?, marked(second, 0)?, alloc)?;
+    assert_eq!(rt; set.variables(), 3);
+    let copied = set.copy()?;
+    let arranged = set.arrange()?;
+    assert!(rt; has_heads(&copied, [1, 1, 0], [0, 2, 0]));
+    assert!(rt; has_heads(&arranged, [0, 2, 0], [1, 1, 0]));
+    Ok(())
+}
+
+// by hand
+#[test]
+fn plain_lists(rt: HostRuntime) -> Result<(), Fail> {
+    let alloc = rt.alloc();
+    let polys = Polys::new(vec![in alloc; Poly::zero(alloc)]?);
+    assert_eq!(rt; polys.items().len(), 1);
+    let pairs = Pairs::new(vec![in alloc; (0, 1), (0, 2)]?);
+    assert_eq!(rt; pairs.items().len(), 2);
     Ok(())
 }
 
