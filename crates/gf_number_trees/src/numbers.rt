@@ -1,0 +1,131 @@
+//! The tree of the numbers up to a limit.
+ghost use Rattle.std.specs.Prelude.{◌≡◌, ◌<◌, length, IfErr};
+ghost use Rattle.gf_number_trees.specs.Numbers.{IsNumber, IsHalf, IsChosen, IsMemory, Refuses, memory_refuses, numbers_strict, numbers_tree, numbers_nodes};
+ghost use Rattle.gf_number_trees.specs.Finite.{down_to_one, numbers_fall, numbers_finite};
+ghost use Rattle.gf_number_trees.specs.declared.numbers.NumberError.TheVariants.{Memory};
+ghost use Rattle.std.proofs.Common.{refl, rules};
+
+use gf_walk::{FiniteTree, Tree};
+use std::alloc::{AllocError, Global};
+
+/// What a call of the tree is refused by.
+#[derive(Clone, Copy, Debug, Drop, PartialEq)]
+pub enum NumberError {
+    /// Want of memory.
+    Memory,
+    /// The number at which the call was made was chosen to refuse.
+    Chosen(u64),
+}
+
+impl From<AllocError> for NumberError {
+    ghost from_gives = { λ _ e. e ≡ Memory };
+
+    fn from(_error: AllocError) -> NumberError {
+        NumberError::Memory
+    }
+}
+
+/// The tree of the numbers from 1 to a limit. Calls at the two chosen numbers refuse; 0 is no number of the tree.
+#[derive(Drop)]
+pub struct Numbers {
+    pub limit: u64,
+    pub chosen: (u64, u64),
+    pub alloc: Global,
+}
+
+impl Numbers {
+    /// Refuses at a chosen number.
+    fn ask(&self, node: u64) -> Result<(), NumberError>
+        ensures { IfErr result (Refuses self.now.chosen node) }
+    {
+        if node == self.chosen.0 || node == self.chosen.1 {
+            return Err(NumberError::Chosen(node));
+        }
+        Ok(())
+    }
+}
+
+impl Tree for Numbers {
+    type Node = u64;
+
+    type Label = u64;
+
+    type Error = NumberError;
+
+    ghost before = { λ a b. a < b };
+
+    ghost is_node = { λ t v. IsNumber t.limit v };
+
+    ghost up = { λ t. IsHalf t.limit };
+
+    ghost is_memory = { IsMemory };
+
+    ghost refuses = { λ t v e. Refuses t.chosen v e };
+
+    ghost from_memory = { λ a e h. Prim.search rules };
+
+    ghost memory = { λ t. memory_refuses t.chosen };
+
+    ghost strict = { numbers_strict };
+
+    ghost tree = { λ t. numbers_tree t.limit };
+
+    ghost nodes = { λ t. numbers_nodes t.limit };
+
+    /// The bits, and a label that leads nowhere.
+    fn labels(&self, node: &u64) -> Result<Vec<u64>, NumberError> {
+        self.ask(*node)?;
+        match vec![in self.alloc; 0, 1, 2] {
+            Ok(labels) => Ok(labels),
+            Err(refused) => Err(AllocError::from(refused).into()),
+        }
+    }
+
+    fn precedes(&self, a: &u64, b: &u64) -> bool {
+        *a < *b
+    }
+
+    fn child(&self, node: &u64, label: &u64) -> Result<Option<u64>, NumberError> {
+        self.ask(*node)?;
+        if *label > 1 || *node > self.limit / 2 {
+            return Ok(None);
+        }
+        let double = 2 * *node;
+        if *label > self.limit - double {
+            return Ok(None);
+        }
+        Ok(Some(double + *label))
+    }
+
+    fn parent(&self, node: &u64) -> Result<Option<(u64, u64)>, NumberError> {
+        self.ask(*node)?;
+        if *node == 1 {
+            return Ok(None);
+        }
+        Ok(Some((*node % 2, *node / 2)))
+    }
+
+    fn copy(&self, node: &u64) -> Result<u64, NumberError> {
+        Ok(*node)
+    }
+
+    fn again(&self) -> Result<Self, NumberError> {
+        Ok(Numbers {
+            limit: self.limit,
+            chosen: self.chosen,
+            alloc: self.alloc,
+        })
+    }
+}
+
+impl FiniteTree for Numbers {
+    ghost rank = { λ _ v. v };
+
+    ghost count = { λ t _. length (down_to_one t.limit) };
+
+    ghost falls = { λ t. numbers_fall t.limit };
+
+    ghost level = { λ t v c u h. refl };
+
+    ghost finite = { λ t. numbers_finite t.limit };
+}

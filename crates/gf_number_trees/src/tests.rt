@@ -1,0 +1,253 @@
+//! Reverse search over the numbers: lists by hand, one list for every number of workers, refusals, going on, the gate.
+ghost use Rattle.std.specs.Prelude.{◌≡◌};
+
+use crate::{NumberError, Numbers};
+use gf_walk::{Mark, Nodes, Split, Walker, list_all, to_root};
+use gf_waves::{FreeGate, Gate, Waves};
+use std::alloc::Global;
+use std::sync::atomic::{AtomicU64, Ordering};
+use std::test::Fail;
+use std::thread::Threads;
+
+/// The tree up to a limit, where no call refuses.
+fn numbers(alloc: Global, limit: u64) -> Numbers
+    ensures { result.limit ≡ limit }
+{
+    Numbers {
+        limit,
+        chosen: (0, 0),
+        alloc,
+    }
+}
+
+/// What waves give, at most so many, and the refusal that ended it.
+fn written<R: Threads + Sync, G: Gate>(
+    rt: &R,
+    alloc: Global,
+    waves: &mut Waves<'_, Numbers, G>,
+    most: u64,
+) -> Result<(Vec<u64>, Option<NumberError>), NumberError> {
+    let mut all = Vec::new(alloc);
+    for _ in 0..most {
+        match waves.next_written(rt) {
+            Ok(Some(number)) => {
+                if all.push(number).is_err() {
+                    return Err(NumberError::Memory);
+                }
+            }
+            Ok(None) => return Ok((all, None)),
+            Err(error) => return Ok((all, Some(error))),
+        }
+    }
+    Ok((all, None))
+}
+
+#[test]
+fn lists_in_path_order(rt: HostRuntime) -> Result<(), Fail> {
+    // by hand: each number before 2k and 2k + 1, the even one first
+    let all = list_all(rt.alloc(), numbers(rt.alloc(), 7), 1)?;
+    assert_eq!(rt; all.as_slice(), [1, 2, 4, 5, 3, 6, 7].as_slice());
+    let below = list_all(rt.alloc(), numbers(rt.alloc(), 11), 2)?;
+    assert_eq!(rt; below.as_slice(), [2, 4, 8, 9, 5, 10, 11].as_slice());
+    assert_eq!(rt; to_root(rt.alloc(), &numbers(rt.alloc(), 7), 6)?, 1);
+    Ok(())
+}
+
+#[test]
+fn an_iterator_ends_after_its_refusal(rt: HostRuntime) -> Result<(), Fail> {
+    let tree = Numbers {
+        limit: 7,
+        chosen: (5, 0),
+        alloc: rt.alloc(),
+    };
+    let mut nodes = Nodes::new(rt.alloc(), Walker::at(rt.alloc(), tree, 1));
+    for number in [1, 2, 4, 5] {
+        assert!(rt; nodes.next() == Some(Ok(number)));
+    }
+    assert!(rt; nodes.next() == Some(Err(NumberError::Chosen(5))));
+    assert!(rt; nodes.next().is_none());
+    // the walker stands where it was, and is refused so again
+    let mut walker = nodes.into_walker();
+    assert_eq!(rt; *walker.position().here, 5);
+    assert!(rt; walker.advance() == Err(NumberError::Chosen(5)));
+    Ok(())
+}
+
+#[test]
+fn a_split_after_the_first(rt: HostRuntime) -> Result<(), Fail> {
+    let mut walker = Walker::at(rt.alloc(), numbers(rt.alloc(), 7), 1);
+    assert!(rt; walker.is_at_start());
+    assert_eq!(rt; walker.advance()?, Some(1));
+    assert!(rt; matches!(walker.position().mark, Mark::Listed));
+    let Ok(
+        Split::Parts {
+            mut first,
+            mut rest,
+        },
+    ) = walker.split()
+    else {
+        return Err(Fail::new("two parts"));
+    };
+    for number in [2, 4, 5] {
+        assert_eq!(rt; first.advance()?, Some(number));
+    }
+    assert_eq!(rt; first.advance()?, None);
+    for number in [3, 6, 7] {
+        assert_eq!(rt; rest.advance()?, Some(number));
+    }
+    assert_eq!(rt; rest.advance()?, None);
+    assert_eq!(rt; rest.advance()?, None);
+    assert!(rt; matches!(rest.split(), Ok(Split::Ended)));
+    Ok(())
+}
+
+#[test]
+fn one_list_for_every_number_of_workers(rt: HostRuntime) -> Result<(), Fail> {
+    let alloc = rt.alloc();
+    let expected = list_all(alloc, numbers(alloc, 3000), 1)?;
+    assert_eq!(rt; expected.len(), 3000);
+    for workers in [1, 2, 4, 64] {
+        if 1 <= workers && workers <= 64 {
+            let mut waves = Waves::new(alloc, numbers(alloc, 3000), 1, workers, &FreeGate)?;
+            assert_eq!(rt; waves.workers(), workers);
+            assert_eq!(rt; waves.ready(), 1);
+            let (front, _) = written(&rt, alloc, &mut waves, 1000)?;
+            assert_eq!(rt; front.len(), 1000);
+            assert!(rt; expected.starts_with(front.as_slice()));
+            assert!(rt; waves.ready() > 0 && waves.ready() <= (workers as u64 + 1) * 32);
+            let (back, end) = written(&rt, alloc, &mut waves, 3000)?;
+            assert_eq!(rt; back.len(), 2000);
+            assert!(rt; expected.ends_with(back.as_slice()));
+            assert!(rt; end.is_none());
+            assert_eq!(rt; waves.next_written(&rt)?, None);
+            assert_eq!(rt; waves.ready(), 0);
+        }
+    }
+    Ok(())
+}
+
+#[test]
+fn one_refusal_for_every_number_of_workers(rt: HostRuntime) -> Result<(), Fail> {
+    let alloc = rt.alloc();
+    let all = list_all(alloc, numbers(alloc, 3000), 1)?;
+    // 300 is 100101100 and 701 is 1010111101 in binary, so the list comes to 300 first
+    let place = all.iter().position(|number| *number == 300).unwrap_or(0);
+    for workers in [1, 2, 4, 64] {
+        if 1 <= workers && workers <= 64 {
+            let tree = Numbers {
+                limit: 3000,
+                chosen: (701, 300),
+                alloc,
+            };
+            let mut waves = Waves::new(alloc, tree, 1, workers, &FreeGate)?;
+            let (front, end) = written(&rt, alloc, &mut waves, 4000)?;
+            assert_eq!(rt; front.len(), place + 1);
+            assert!(rt; all.starts_with(front.as_slice()));
+            assert_eq!(rt; end, Some(NumberError::Chosen(300)));
+            assert_eq!(rt; waves.next_written(&rt), Err(NumberError::Chosen(300)));
+        }
+    }
+    Ok(())
+}
+
+#[test]
+fn a_list_goes_on_after_any_node(rt: HostRuntime) -> Result<(), Fail> {
+    let alloc = rt.alloc();
+    let all = list_all(alloc, numbers(alloc, 100), 1)?;
+    for place in 0..all.len() {
+        let node = all[place];
+        if 1 <= node && node <= 100 {
+            let walker = Walker::after(alloc, numbers(alloc, 100), node)?;
+            assert_eq!(rt; *walker.position().here, node);
+            let mut waves = Waves::resume(alloc, walker, 4, &FreeGate)?;
+            let (rest, end) = written(&rt, alloc, &mut waves, 200)?;
+            assert_eq!(rt; rest.as_slice(), &all[place + 1..]);
+            assert!(rt; end.is_none());
+        }
+    }
+    Ok(())
+}
+
+/// Counts the jobs, and keeps the greatest number.
+#[derive(Drop)]
+struct Counting {
+    jobs: AtomicU64,
+    greatest: AtomicU64,
+}
+
+impl Gate for Counting {
+    fn at(&self, job: u64) {
+        self.jobs.fetch_add(1, Ordering::SeqCst);
+        self.greatest.fetch_max(job, Ordering::SeqCst);
+    }
+}
+
+#[test]
+fn jobs_are_numbered_in_turn(rt: HostRuntime) -> Result<(), Fail> {
+    let alloc = rt.alloc();
+    for workers in [1, 4] {
+        if 1 <= workers && workers <= 64 {
+            let gate = Counting {
+                jobs: AtomicU64::new(0),
+                greatest: AtomicU64::new(0),
+            };
+            let mut waves = Waves::new(alloc, numbers(alloc, 500), 1, workers, &gate)?;
+            let (all, _) = written(&rt, alloc, &mut waves, 600)?;
+            assert_eq!(rt; all.len(), 500);
+            let jobs = gate.jobs.load(Ordering::SeqCst);
+            assert!(rt; jobs > 0);
+            assert_eq!(rt; gate.greatest.load(Ordering::SeqCst), jobs - 1);
+        }
+    }
+    Ok(())
+}
+
+/// Lets jobs 0 and 1 meet: each sets its own flag and looks for the other's, for so many turns.
+#[derive(Drop)]
+struct Meeting {
+    first: AtomicU64,
+    second: AtomicU64,
+    spent: AtomicU64,
+}
+
+const TURNS: u64 = 100_000_000;
+
+impl Meeting {
+    fn meet(&self, own: &AtomicU64, other: &AtomicU64) {
+        own.store(1, Ordering::SeqCst);
+        for _ in 0..TURNS {
+            if other.load(Ordering::SeqCst) == 1 {
+                return;
+            }
+        }
+        self.spent.store(1, Ordering::SeqCst);
+    }
+}
+
+impl Gate for Meeting {
+    fn at(&self, job: u64) {
+        if job == 0 {
+            self.meet(&self.first, &self.second);
+        }
+        if job == 1 {
+            self.meet(&self.second, &self.first);
+        }
+    }
+}
+
+#[test]
+fn two_jobs_run_at_the_same_time(rt: HostRuntime) -> Result<(), Fail> {
+    let alloc = rt.alloc();
+    let gate = Meeting {
+        first: AtomicU64::new(0),
+        second: AtomicU64::new(0),
+        spent: AtomicU64::new(0),
+    };
+    let mut waves = Waves::new(alloc, numbers(alloc, 200), 1, 2, &gate)?;
+    let (all, _) = written(&rt, alloc, &mut waves, 300)?;
+    assert_eq!(rt; all.len(), 200);
+    assert_eq!(rt; gate.first.load(Ordering::SeqCst), 1);
+    assert_eq!(rt; gate.second.load(Ordering::SeqCst), 1);
+    assert_eq!(rt; gate.spent.load(Ordering::SeqCst), 0);
+    Ok(())
+}
