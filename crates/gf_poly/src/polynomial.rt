@@ -213,6 +213,11 @@ impl Poly {
     }
 
     /// The quotient by the fraction `by`, which isn't zero: the product with its reciprocal.
+    ///
+    /// # Errors
+    ///
+    /// `Overflow` exactly where the quotient of a coefficient by `by` leaves its range; it holds them, for the greatest
+    /// such monomial.
     pub fn divided(&self, by: &Frac) -> Result<Poly, PolyError>
         requires { by.now ≢ zero_ℚ }
         ensures terms { IfOk result (HasProducts (reciprocal_ℚ by.now) [] self.now) }
