@@ -1,0 +1,230 @@
+ghost use Rattle.std.specs.Prelude.{◌≡◌, IfOk, length};
+ghost use Rattle.gf_gordan.specs.Alternative.{AreRows};
+
+use super::*;
+use gf_int::gcd;
+use gf_vec::{IntVec, VecOp, WideVector, dot_slices, product, total};
+use std::alloc::Global;
+use std::test::Fail;
+
+const LARGEST: i128 = i128::MAX;
+
+// Whether every row is positive and every equation zero on the vector.
+fn solves(rows: &[IntVec], equations: &[IntVec], v: &[i128]) -> Result<bool, WideVector> {
+    for row in rows {
+        if row.as_slice().len() != v.len() || dot_slices(row.as_slice(), v)? <= 0 {
+            return Ok(false);
+        }
+    }
+    for equation in equations {
+        if equation.as_slice().len() != v.len() || dot_slices(equation.as_slice(), v)? != 0 {
+            return Ok(false);
+        }
+    }
+    Ok(true)
+}
+
+// What a column of the vectors comes to, each taken as often as its multiplier says.
+fn column_sum(c: usize, vectors: &[IntVec], multipliers: &[i128]) -> Result<i128, WideVector> {
+    let mut sum = 0;
+    for (i, vector) in vectors.iter().enumerate() {
+        if let (Some(m), Some(x)) = (multipliers.get(i), vector.as_slice().get(c)) {
+            sum = total(sum, product(*m, *x)?)?;
+        }
+    }
+    Ok(sum)
+}
+
+// Whether the multipliers refute the system, and have no common divisor.
+fn refutes(
+    n: usize,
+    rows: &[IntVec],
+    equations: &[IntVec],
+    ms: &[i128],
+    es: &[i128],
+) -> Result<bool, WideVector> {
+    let mut some = false;
+    let mut common = 0;
+    for m in ms {
+        if *m < 0 {
+            return Ok(false);
+        }
+        some = some || *m > 0;
+        common = gcd(common, m.unsigned_abs());
+    }
+    for m in es {
+        common = gcd(common, m.unsigned_abs());
+    }
+    for c in 0..n {
+        if total(column_sum(c, rows, ms)?, column_sum(c, equations, es)?)? != 0 {
+            return Ok(false);
+        }
+    }
+    Ok(some && common == 1 && ms.len() == rows.len() && es.len() == equations.len())
+}
+
+fn is_right(
+    n: usize,
+    rows: &[IntVec],
+    equations: &[IntVec],
+    answer: &Answer,
+) -> Result<bool, WideVector> {
+    match answer {
+        Answer::Point(v) => solves(rows, equations, v.as_slice()),
+        Answer::Farkas {
+            rows: ms,
+            equations: es,
+        } => refutes(n, rows, equations, ms.as_slice(), es.as_slice()),
+    }
+}
+
+fn is_point(answer: &Answer) -> bool {
+    match answer {
+        Answer::Point(_v) => true,
+        Answer::Farkas {
+            rows: _ms,
+            equations: _es,
+        } => false,
+    }
+}
+
+fn is_farkas(answer: &Answer, multipliers: &[i128], others: &[i128]) -> bool {
+    match answer {
+        Answer::Point(_v) => false,
+        Answer::Farkas {
+            rows: ms,
+            equations: es,
+        } => ms.as_slice() == multipliers && es.as_slice() == others,
+    }
+}
+
+fn next(seed: u64) -> u64 {
+    seed.wrapping_mul(6364136223846793005)
+        .wrapping_add(1442695040888963407)
+}
+
+// A row of entries from -3 to 3.
+fn random_row(alloc: Global, n: usize, start: u64) -> Result<IntVec, GordanError>
+    ensures { IfOk result (λ v. length v ≡ n) }
+{
+    let mut seed = start;
+    let mut entries = Vec::new(alloc);
+    while entries.len() < n {
+        seed = next(seed);
+        entries.push((seed >> 33) as i128 % 7 - 3)?;
+    }
+    Ok(IntVec::from_vec(entries))
+}
+
+fn random_rows(alloc: Global, n: usize, count: u64, start: u64) -> Result<Vec<IntVec>, GordanError>
+    ensures { IfOk result (λ rows. AreRows n rows.items) }
+{
+    let mut rows = Vec::new(alloc);
+    for k in 0..count {
+        rows.push(random_row(alloc, n, next(start ^ k))?)?;
+    }
+    Ok(rows)
+}
+
+// by hand: x > 0 and -x > 0
+#[test]
+fn opposite_rows(rt: HostRuntime) -> Result<(), Fail> {
+    let alloc = rt.alloc();
+    let rows = [
+        IntVec::from_slice(alloc, &[1])?,
+        IntVec::from_slice(alloc, &[-1])?,
+    ];
+    let answer = strict(alloc, 1, &rows, &[])?;
+    assert!(rt; is_farkas(&answer, &[1, 1], &[]));
+    Ok(())
+}
+
+// by hand: both coordinates positive
+#[test]
+fn unit_rows(rt: HostRuntime) -> Result<(), Fail> {
+    let alloc = rt.alloc();
+    let rows = [
+        IntVec::from_slice(alloc, &[1, 0])?,
+        IntVec::from_slice(alloc, &[0, 1])?,
+    ];
+    let answer = strict(alloc, 2, &rows, &[])?;
+    assert!(rt; is_point(&answer) && is_right(2, &rows, &[], &answer)?);
+    Ok(())
+}
+
+// by hand: the row is an equation too
+#[test]
+fn row_and_equation(rt: HostRuntime) -> Result<(), Fail> {
+    let alloc = rt.alloc();
+    let rows = [IntVec::from_slice(alloc, &[1, 0])?];
+    let equations = [IntVec::from_slice(alloc, &[1, 0])?];
+    let answer = strict(alloc, 2, &rows, &equations)?;
+    assert!(rt; is_farkas(&answer, &[1], &[-1]));
+    Ok(())
+}
+
+// the point of the first row is positive on the others, so nothing is eliminated by a wide row
+#[test]
+fn wide_rows(rt: HostRuntime) -> Result<(), Fail> {
+    let alloc = rt.alloc();
+    let rows = [
+        IntVec::from_slice(alloc, &[1, 1])?,
+        IntVec::from_slice(alloc, &[LARGEST, 0])?,
+        IntVec::from_slice(alloc, &[0, LARGEST])?,
+    ];
+    assert!(rt; is_point(&strict(alloc, 2, &rows, &[])?));
+    Ok(())
+}
+
+// by hand: the second row is tested on the point (1), and the third on the same
+#[test]
+fn overflow_at_a_row(rt: HostRuntime) -> Result<(), Fail> {
+    let alloc = rt.alloc();
+    let rows = [
+        IntVec::from_slice(alloc, &[1, 1])?,
+        IntVec::from_slice(alloc, &[LARGEST, LARGEST])?,
+    ];
+    let step = ConeOverflow {
+        row: 1,
+        op: VecOp::Add,
+        left: LARGEST,
+        right: LARGEST,
+    };
+    match strict(alloc, 2, &rows, &[]) {
+        Ok(_answer) => assert!(rt; false),
+        Err(error) => assert_eq!(rt; error, GordanError::Cone(step)),
+    }
+    Ok(())
+}
+
+// by hand: no rows and no columns; a zero row; a zero equation
+#[test]
+fn empty_and_zero(rt: HostRuntime) -> Result<(), Fail> {
+    let alloc = rt.alloc();
+    assert!(rt; is_point(&strict(alloc, 0, &[], &[])?));
+    assert!(rt; is_point(&strict(alloc, 3, &[], &[])?));
+    let empty = [IntVec::from_slice(alloc, &[])?];
+    assert!(rt; is_farkas(&strict(alloc, 0, &empty, &[])?, &[1], &[]));
+    let rows = [
+        IntVec::from_slice(alloc, &[1, 0])?,
+        IntVec::from_slice(alloc, &[0, 0])?,
+    ];
+    assert!(rt; is_farkas(&strict(alloc, 2, &rows, &[])?, &[0, 1], &[]));
+    let zero = [IntVec::from_slice(alloc, &[0, 0])?];
+    assert!(rt; is_farkas(&strict(alloc, 2, &rows, &zero)?, &[0, 1], &[0]));
+    Ok(())
+}
+
+// each answer by its definition: 200 systems of up to 4 columns, 7 rows and 2 equations
+#[test]
+fn random_systems(rt: HostRuntime) -> Result<(), Fail> {
+    let alloc = rt.alloc();
+    for k in 0..200 {
+        let n = 1 + k % 4;
+        let rows = random_rows(alloc, n as usize, 1 + k as u64 % 7, k as u64)?;
+        let equations = random_rows(alloc, n as usize, k as u64 % 3, 1000 + k as u64)?;
+        let answer = strict(alloc, n, &rows, &equations)?;
+        assert!(rt; is_right(n as usize, &rows, &equations, &answer)?);
+    }
+    Ok(())
+}
