@@ -8,6 +8,7 @@ use Rattle.gf_walk.specs.Whole.{Parent, IsFinite}
 use Rattle.gf_walk.proofs.FinitenessLaws.{finite_tree}
 use Rattle.gf_number_trees.specs.Numbers.{IsNumber, IsHalf, numbers_strict, numbers_tree, numbers_nodes}
 
+-- a number is below its half
 pub numbers_fall : (limit v c u : ℕ) → IsHalf limit v c u → u < v
 numbers_fall limit v c u h = (let e = h.whole in let x = h.some in omega arith)
 
@@ -29,6 +30,7 @@ root_is_one limit a n r = elim (cases_order a 1) [
   ]
 ]
 
+-- the numbers from n down to 1
 abbrev pub down_to_one : ℕ → List ℕ
 down_to_one zero = []
 down_to_one (suc n) = suc n ∷ down_to_one n
@@ -48,6 +50,7 @@ number_among (suc n) x p = elim (cases_order x (suc n)) [
   ]
 ]
 
+-- what is below a number can be listed
 pub numbers_finite : (limit top : ℕ) → IsNumber limit top → IsFinite {N = ℕ} {L = ℕ} (λ a b. a < b) (IsHalf limit) top (length (down_to_one limit))
 numbers_finite limit top node = finite_tree (IsHalf limit) (IsNumber limit) (numbers_nodes limit) (λ v. v) (numbers_fall limit) (climbs limit) (λ a b. a < b) numbers_strict (numbers_tree limit)
     (down_to_one limit) (number_among limit) (among_number limit) (λ a b n r m s. root_is_one limit a n r ∙ sym (root_is_one limit b m s)) top node

@@ -19,6 +19,7 @@ pub record IsHalf (limit v c u : ℕ) : Type 0 where
   pub bit : c ≤ 1
   pub whole : v ≡ 2 * u + c
 
+-- numbers are strictly ordered
 pub numbers_strict : IsStrict {L = ℕ} (λ a b. a < b)
 numbers_strict = record {
   irreflexive = λ a h. omega arith;
@@ -26,6 +27,7 @@ numbers_strict = record {
   total = λ a b. elim (cases_order a b) [ inl e ↦ inr (inl e) | inr k ↦ elim k [ inl h ↦ inl h | inr h ↦ inr (inr h) ] ];
 }
 
+-- a number is twice its half and a bit, in one way
 pub numbers_tree : (limit : ℕ) → IsTree {N = ℕ} {L = ℕ} (IsHalf limit)
 numbers_tree limit = record {
   one_label = λ v u w b c h k. (let e = h.whole in let f = k.whole in let x = h.bit in let y = k.bit in omega arith);
@@ -33,9 +35,11 @@ numbers_tree limit = record {
   one_child = λ v w u c h k. h.whole ∙ sym k.whole;
 }
 
+-- halves of numbers are numbers
 pub numbers_nodes : (limit v c u : ℕ) → IsHalf limit v c u → IsNumber limit v × IsNumber limit u
 numbers_nodes limit v c u h = (let e = h.whole in let x = h.some in let y = h.inside in ((omega arith, omega arith), (omega arith, omega arith)))
 
+-- the bits are among the labels
 pub bits_all : (limit u : ℕ) (cs : List ℕ) → cs ≡ 0 ∷ 1 ∷ 2 ∷ [] → HasLabels {N = ℕ} {L = ℕ} (IsHalf limit) u cs
 bits_all limit u cs e v c h = subst (λ w. Contains w c) (sym e) (has c h.bit)
   where
@@ -53,10 +57,12 @@ abbrev pub Refuses : ℕ × ℕ → ℕ → NumberError → Type 0
 Refuses chosen v Memory = Unit {0}
 Refuses chosen v (Chosen w) = (w ≡ v) × IsChosen chosen v
 
+-- want of memory
 abbrev pub IsMemory : NumberError → Type 0
 IsMemory Memory = Unit {0}
 IsMemory (Chosen w) = ⊥
 
+-- any call may be refused for want of memory
 pub memory_refuses : (chosen : ℕ × ℕ) (v : ℕ) (e : NumberError) → IsMemory e → Refuses chosen v e
 memory_refuses chosen v Memory h = h
 memory_refuses chosen v (Chosen w) h = absurd h

@@ -1,5 +1,5 @@
 //! The whole list of a finite tree.
-ghost use Rattle.std.specs.Prelude.{IfOk, IfErr, ◌⊎◌};
+ghost use Rattle.std.specs.Prelude.{IfOk, IfErr};
 ghost use Rattle.gf_walk.specs.Whole.{IsWholeList};
 
 use crate::{FiniteTree, Walker};
@@ -16,7 +16,8 @@ pub fn list_all<T: FiniteTree>(
     top: T::Node,
 ) -> Result<Vec<T::Node>, T::Error>
     requires { T.is_node tree top }
-    ensures { IfOk result (λ v. IsWholeList T.before (T.up tree) top v.items) }
+    ensures whole { IfOk result (λ v. IsWholeList T.before (T.up tree) top v.items) }
+    ensures refused { IfErr result (λ e. (v : T.Node) × T.refuses tree v e) }
 {
     let mut walker = Walker::at(alloc, tree, top);
     let mut all = Vec::new(alloc);

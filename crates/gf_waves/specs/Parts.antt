@@ -8,9 +8,11 @@ use Rattle.gf_waves.specs.Stretches.{Stretch, Follows, StretchesLeave, RunRefuse
 
 -- ---- a part as a stretch
 
+-- its ready nodes, and where its walker stands
 abbrev pub stretch : {T N L E : Type 0} → Part T N L E → Stretch T N L
 stretch p = record { ready = p.ready.items; run = p.run }
 
+-- the same of each part
 abbrev pub stretches : {T N L E : Type 0} → List (Part T N L E) → List (Stretch T N L)
 stretches ps = map stretch ps
 
@@ -26,6 +28,7 @@ PartsLeave left ps nodes = StretchesLeave left (stretches ps) nodes
 abbrev pub Keeps : {T N L E : Type 0} → (Place T N L → List N → Type 0) → Part T N L E → Part T N L E → Type 0
 Keeps {N = N} left old new = (nodes : List N) → PartLeaves left old nodes → PartLeaves left new nodes
 
+-- what was left of all parts is left
 abbrev pub KeepsAll : {T N L E : Type 0} → (Place T N L → List N → Type 0) → List (Part T N L E) → List (Part T N L E) → Type 0
 KeepsAll {N = N} left olds news = (nodes : List N) → PartsLeave left olds nodes → PartsLeave left news nodes
 

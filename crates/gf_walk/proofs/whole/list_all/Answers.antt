@@ -27,8 +27,8 @@ loop-all-preserved g c =
           (f.0, one_more nodes c.loop-all.all.items r.0 f.0 c.push.new.self.items c.in-Some.node r.1 f.1 c.in_default-push.ensures.items, f.2);
     }
 
-pub returns : goal.returns
-returns g c =
+pub returns-clause-whole : goal.returns-clause-whole
+returns-clause-whole g c =
     let lt = g.T.Tree.before in
     let up = g.T.Tree.up c.args.tree in
     let n = g.met.T.FiniteTree.finite c.args.tree c.args.top c.requires in
