@@ -1,4 +1,6 @@
 pub mod Machine  -- machines that read tokens
 pub mod Tokens  -- white space, the tokens of a text
 pub mod RingText  -- rings: grammar, machine, printed text
+pub mod SetText  -- sets of polynomials: grammar, machine
 pub mod Given  -- what a reader gave
+pub mod GivenSet  -- the same of sets

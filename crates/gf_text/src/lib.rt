@@ -9,12 +9,15 @@ mod names;
 mod printer;
 mod reader;
 mod ring_reader;
+mod set_reader;
 #[cfg(test)]
 mod tests;
 mod tokens;
+mod tree;
 
 pub use error::{Kind, Syntax, TextError};
 pub use names::{Name, Names, Ring};
 pub use printer::{Printer, rings_are_read_again, rings_have_one_meaning};
 pub use reader::Reader;
 pub use tokens::Token;
+pub use tree::{Variables, WrittenSet, WrittenTerm, WrittenTerms};

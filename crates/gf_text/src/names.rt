@@ -1,6 +1,7 @@
 //! The names of a ring's variables.
-ghost use Rattle.std.specs.Prelude.{◌≡◌, ◌++◌, ◌∷◌, ◌<◌, ◌≤◌, [], IfOk, OnOk, OnErr, length, slice_get};
+ghost use Rattle.std.specs.Prelude.{◌≡◌, ◌++◌, ◌∷◌, ◌<◌, ◌≤◌, [], IfOk, IfSome, OnOk, OnErr, length, slice_get};
 ghost use Rattle.gf_text.specs.RingText.{has, IsRing};
+ghost use Rattle.gf_text.specs.SetText.{variable};
 
 use std::alloc::{AllocError, Global};
 use std::marker::Model;
@@ -123,7 +124,8 @@ impl Ring {
 
     /// Its names.
     pub(crate) fn names(&self) -> &[Name]
-        ensures { result.now ≡ self.now }
+        ensures value { result.now ≡ self.now }
+        ensures ring { IsRing self.now }
     {
         self.names.as_slice()
     }
@@ -135,4 +137,22 @@ impl Ring {
     {
         self.names.as_slice()[i].as_slice()
     }
+
+    /// The number of the variable of this name.
+    pub(crate) fn variable(&self, name: &[u8]) -> Option<u8>
+        ensures { result ≡ variable self.now name.now }
+    {
+        match place_of(self.names.as_slice(), name) {
+            Some(i) => Some(i as u8),
+            None => None,
+        }
+    }
+}
+
+/// The place of the name among names.
+fn place_of(names: &[Name], name: &[u8]) -> Option<usize>
+    ensures place { result ≡ variable names.now name.now }
+    ensures within { IfSome result (λ i. i < length names.now) }
+{
+    names.iter().position(|n| n.as_slice() == name)
 }

@@ -33,7 +33,7 @@ pub(crate) const NO_MEANING: Syntax = Syntax {
 };
 
 /// A text that isn't read is refused so.
-fn refused() -> TextError
+pub(crate) fn refused() -> TextError
     ensures { result ≡ TextError.Syntax no_meaning }
 {
     TextError::Syntax(NO_MEANING)

@@ -1,0 +1,9 @@
+use Rattle.std.proofs.Common.{◌≡◌}
+use Rattle.gf_text.proofs.SetTextLaws.{set_reads, set_refused}
+use Rattle.gf_text.proofs.set_reader.set_from.Goals as goal
+
+pub returns-in-Ok-clause-text : goal.returns-in-Ok-clause-text
+returns-in-Ok-clause-text c = set_reads c.args.ring.now c.args.source.now c.args.from c.in-Ok.set c.in-Ok.end c.in-Ok.ensures.set
+
+pub returns-in-Err-clause-text : goal.returns-in-Err-clause-text
+returns-in-Err-clause-text c = set_refused c.args.ring.now c.names-names.ensures.ring c.args.source.now c.args.from c.in-Err.error c.in-Err.ensures.set
