@@ -10,6 +10,7 @@ mod printer;
 mod reader;
 mod ring_reader;
 mod set_reader;
+mod term_printer;
 #[cfg(test)]
 mod tests;
 mod tokens;
