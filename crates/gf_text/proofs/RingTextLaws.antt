@@ -10,9 +10,9 @@ use Rattle.gf_text.specs.Given.{Fails, HasNone}
 use Rattle.gf_text.specs.declared.ring_reader.RingPlace.TheVariants as at
 use Rattle.gf_text.specs.Machine.{Move, go, done, halt, after, Fault, Reads, HasOneMeaning}
 use Rattle.gf_text.specs.Tokens.{lexemes, one_byte, is_space}
-use Rattle.gf_text.specs.RingText.{is_name, is_new, has, AreNew, IsRing, IsRingText, ring_tokens, more_names, letter_q, bracket, comma, bracket_end, RingState, ring_step, ring_at, ring_words, RingsAreReadAgain}
+use Rattle.gf_text.specs.RingText.{is_name, is_new, has, AreNew, IsRing, IsRingText, ring_tokens, more_names, letter_q, bracket, comma, bracket_end, RingState, ring_step, ring_at, ring_words, names_text, RingsAreReadAgain}
 use Rattle.gf_text.proofs.MachineLaws.{after-go, after-done, first, not_yet, reads, is_read, one_meaning}
-use Rattle.gf_text.proofs.SpelledLaws.{AreNoSpace, AreNoSpace-++, singles, singles-++, spelled, spelled_at, texts-spelled, behind-spelled, letter_no_space}
+use Rattle.gf_text.proofs.SpelledLaws.{spaced, spaced_at, texts-spaced, behind-spaced, tokens_of, tokens_of-++, letter_no_space}
 
 -- ---- what the machine does at a token
 
@@ -219,35 +219,30 @@ letter_of [] e = cc
 letter_of (b ∷ []) e = (b, refl, letter_no_space b e)
 letter_of (b ∷ c ∷ bs) e = cc
 
-names_again : (before ns : Names) → AreNew before ns → AreNoSpace (flat_map (λ m. 44 ∷ m) ns) × (singles (flat_map (λ m. 44 ∷ m) ns) ≡ more_names ns)
-names_again before [] new = (tt, refl)
+names_again : (before ns : Names) → AreNew before ns → tokens_of (flat_map (λ m. 44 ∷ m) ns) ≡ more_names ns
+names_again before [] new = refl
 names_again before (n ∷ ns) new =
     let named = letter_of n new.0 in
     let later = names_again (before ++ n ∷ []) ns new.2 in
-    let P : List ℕ → Type 0 = λ m. AreNoSpace (44 ∷ m ++ flat_map (λ m. 44 ∷ m) ns) × (singles (44 ∷ m ++ flat_map (λ m. 44 ∷ m) ns) ≡ comma ∷ m ∷ more_names ns) in
-    subst P (sym named.1) ((refl, (named.2, later.0)), ap (λ l. comma ∷ (named.0 ∷ []) ∷ l) later.1)
+    let P : List ℕ → Type 0 = λ m. tokens_of (44 ∷ m ++ flat_map (λ m. 44 ∷ m) ns) ≡ comma ∷ m ∷ more_names ns in
+    subst P (sym named.1) (rw named.2 (ap (λ l. comma ∷ (named.0 ∷ []) ∷ l) later))
 
-words_again : (names : Names) → IsRing names → AreNoSpace (ring_words names) × (singles (ring_words names) ≡ ring_tokens names)
+words_again : (names : Names) → IsRing names → tokens_of (ring_words names) ≡ ring_tokens names
 words_again [] ring = absurd (omega (arith, ring.some))
 words_again (n ∷ ns) ring =
     let named = letter_of n ring.different.0 in
     let later = names_again (n ∷ []) ns ring.different.2 in
     let more = flat_map (λ m. 44 ∷ m) ns in
-    let P : List ℕ → Type 0 = λ m. AreNoSpace (81 ∷ 91 ∷ ((m ++ more) ++ 93 ∷ [])) × (singles (81 ∷ 91 ∷ ((m ++ more) ++ 93 ∷ [])) ≡ letter_q ∷ bracket ∷ m ∷ (more_names ns ++ bracket_end ∷ [])) in
-    subst P (sym named.1) (
-      (refl, (refl, (named.2, AreNoSpace-++ more (93 ∷ []) later.0 (refl, tt)))),
-      ap (λ l. letter_q ∷ bracket ∷ (named.0 ∷ []) ∷ l) (singles-++ more (93 ∷ []) ∙ ap (λ l. l ++ bracket_end ∷ []) later.1),
-    )
+    let P : List ℕ → Type 0 = λ m. tokens_of (81 ∷ 91 ∷ ((m ++ more) ++ 93 ∷ [])) ≡ letter_q ∷ bracket ∷ m ∷ (more_names ns ++ bracket_end ∷ []) in
+    subst P (sym named.1) (rw named.2 (ap (λ l. letter_q ∷ bracket ∷ (named.0 ∷ []) ∷ l) (tokens_of-++ more (93 ∷ []) ∙ ap (λ l. l ++ bracket_end ∷ []) later)))
 
 pub rings_again : RingsAreReadAgain
 rings_again names before text ring =
     let words = ring_words names in
-    let again = words_again names ring in
-    let tokens = spelled_at before words text again.0 in
     ring_is_read (before ++ (words ++ text)) (length before) names (length before + length words) (record {
-      front = spelled (length before) words;
+      front = spaced (length before) words;
       back = lexemes one_byte (before ++ (words ++ text)) (length before + length words);
-      whole = tokens;
-      text = record { tokens = texts-spelled (length before) words ∙ again.1; ring = ring };
-      end = behind-spelled 0 (length before) words (λ none. cc);
+      whole = spaced_at before words text;
+      text = record { tokens = texts-spaced (length before) words ∙ words_again names ring; ring = ring };
+      end = behind-spaced 0 (length before) (81 ∷ 91 ∷ names_text names) 93 refl;
     })
