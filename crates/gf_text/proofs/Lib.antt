@@ -6,3 +6,4 @@ pub mod PrintedTextLaws  -- the pieces of printed terms
 pub mod SetReadLaws  -- the machine of sets reads no more than the grammar says
 pub mod SetTextLaws  -- it reads what the grammar says
 pub mod WrittenTextLaws  -- the tokens by which a set is said are a text of it
+pub mod CombiningLaws  -- terms and sums of terms, one after another

@@ -207,6 +207,8 @@ no_ring source from fault e names place r = let read = ring_is_read source from 
 pub ring_refused : (source : List ℕ) (from : ℕ) (error : TextError) → Fails error (ring_at source from) → HasNone error IsRingText (lexemes one_byte source from)
 ring_refused source from (errors.Syntax s) failed = λ names place r. no_ring source from failed.0 failed.1 names place r
 ring_refused source from errors.Memory failed = tt
+ring_refused source from (errors.Overflow o) failed = absurd failed
+ring_refused source from (errors.Exponent o) failed = absurd failed
 
 pub one_ring : HasOneMeaning IsRingText
 one_ring = one_meaning ring_step IsRingText (at.Letter, []) ring_given

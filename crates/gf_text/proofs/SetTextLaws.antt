@@ -229,6 +229,8 @@ no_set ring is source from fault e ps place r = let read = set_is_read ring is s
 pub set_refused : (ring : Texts) → IsRing ring → (source : List ℕ) (from : ℕ) (error : TextError) → Fails error (set_at ring source from) → HasNone error (IsSetText ring) (lexemes one_byte source from)
 set_refused ring is source from (errors.Syntax s) failed = λ ps place r. no_set ring is source from failed.0 failed.1 ps place r
 set_refused ring is source from errors.Memory failed = tt
+set_refused ring is source from (errors.Overflow o) failed = absurd failed
+set_refused ring is source from (errors.Exponent o) failed = absurd failed
 
 pub one_set : (ring : Texts) → IsRing ring → HasOneMeaning (IsSetText ring)
 one_set ring is = one_meaning (set_step ring) (IsSetText ring) (at.Brace, empty) (set_given ring is)

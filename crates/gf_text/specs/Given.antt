@@ -17,6 +17,8 @@ no_meaning = record { at = 0; kind = kind.Unexpected }
 -- nothing is read, and the refusal says so
 abbrev pub Fails : {Y : Type 0} → TextError → Result Y Fault → Type 0
 Fails (errors.Syntax s) read = (f : Fault) × (read ≡ Err f) × (s ≡ no_meaning)
+Fails (errors.Overflow o) read = ⊥
+Fails (errors.Exponent o) read = ⊥
 Fails errors.Memory read = Unit {0}
 
 -- A result, seen by view, is what is read, unless memory ran out.
@@ -27,6 +29,8 @@ Gives view (Err e) read = Fails e read
 -- no tokens at the front of these are a text of the grammar, unless memory ran out
 abbrev pub HasNone : {Y : Type 0} → TextError → (List (List ℕ) → Y → Type 0) → List Lexeme → Type 0
 HasNone {Y} (errors.Syntax s) grammar xs = (a : Y) (place : ℕ) → Reads grammar xs a place → ⊥
+HasNone (errors.Overflow o) grammar xs = Unit {0}
+HasNone (errors.Exponent o) grammar xs = Unit {0}
 HasNone errors.Memory grammar xs = Unit {0}
 
 -- A result, seen by view as a meaning and the place behind its text, is what the grammar says of the first tokens; where

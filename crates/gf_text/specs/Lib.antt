@@ -2,7 +2,9 @@ pub mod Machine  -- machines that read tokens
 pub mod Tokens  -- white space, the tokens of a text
 pub mod RingText  -- rings: grammar, machine, printed text
 pub mod SetText  -- sets of polynomials: grammar, machine
+pub mod Combining  -- products of variables, sums of terms, the marked term
 pub mod WrittenText  -- the tokens by which a set is said
 pub mod PrintedText  -- signs, coefficients, powers, terms as they are printed
 pub mod Given  -- what a reader gave
 pub mod GivenSet  -- the same of sets
+pub mod Sets  -- the polynomials of a text

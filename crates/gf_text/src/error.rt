@@ -2,6 +2,8 @@
 ghost use Rattle.std.specs.Prelude.{◌≡◌};
 ghost use Rattle.gf_text.specs.declared.error.TextError.TheVariants.{Memory};
 
+use gf_frac::Overflow;
+use gf_poly::ExponentOverflow;
 use std::alloc::{AllocError, AllocFailed};
 
 /// What is wrong at a place of a text.
@@ -27,6 +29,11 @@ pub struct Syntax {
 /// Why a text isn't read.
 #[derive(Clone, Copy, Debug, PartialEq, Eq)]
 pub enum TextError {
+    /// The sum of two coefficients of like terms leaves its range.
+    Overflow(Overflow),
+    /// An exponent passes its limit.
+    Exponent(ExponentOverflow),
+    /// The text has a fault.
     Syntax(Syntax),
     Memory,
 }
@@ -38,6 +45,16 @@ impl From<Syntax> for TextError {
 
     fn from(syntax: Syntax) -> TextError {
         TextError::Syntax(syntax)
+    }
+}
+
+impl From<ExponentOverflow> for TextError {
+    ghost use Rattle.gf_text.specs.declared.error.TextError.TheVariants as errors;
+
+    ghost from_gives = { λ o e. e ≡ errors.Exponent o };
+
+    fn from(overflow: ExponentOverflow) -> TextError {
+        TextError::Exponent(overflow)
     }
 }
 

@@ -4,6 +4,7 @@
 //! said apart from the machines, by grammars over its tokens (`specs/RingText.antt`).
 #![tactic(auto)]
 
+mod combine;
 mod error;
 mod names;
 mod printer;
@@ -15,10 +16,12 @@ mod term_printer;
 mod tests;
 mod tokens;
 mod tree;
+mod written;
 
 pub use error::{Kind, Syntax, TextError};
 pub use names::{Name, Names, Ring};
 pub use printer::{Printer, rings_are_read_again, rings_have_one_meaning};
 pub use reader::Reader;
 pub use tokens::Token;
+pub use written::Written;
 pub use tree::{Variables, WrittenSet, WrittenTerm, WrittenTerms};

@@ -1,11 +1,14 @@
 //! A reader of rings and sets of polynomials.
-ghost use Rattle.std.specs.Prelude.{◌≡◌, IfErr, OnOk};
+ghost use Rattle.std.specs.Prelude.{◌≡◌, IfOk, IfErr, OnOk, OnErr};
 ghost use Rattle.gf_text.specs.Tokens.{lexemes, one_byte, IsBlank, rest};
 ghost use Rattle.gf_text.specs.RingText.{ring_at, IsRingText};
 ghost use Rattle.gf_text.specs.Given.{Takes, Means, no_meaning};
+ghost use Rattle.gf_text.specs.Sets.{IsSetRead, IsSetCause};
 
 use crate::error::{Syntax, TextError};
 use crate::names::Ring;
+use crate::set_reader::written_at;
+use crate::written::Written;
 use crate::ring_reader::{NO_MEANING, ring_from};
 use crate::tokens::spaces;
 use std::alloc::Global;
@@ -48,6 +51,26 @@ impl<'a> Reader<'a> {
         let (ring, at) = ring_from(alloc, self.source, self.at)?;
         self.at = at;
         Ok(ring)
+    }
+
+    /// Reads the set that stands at the reader's place, and goes behind it. Like terms are added from the left in the
+    /// order in which they are written, and each polynomial is marked at the first of its terms that remains.
+    ///
+    /// # Errors
+    /// - `Syntax { at: 0, kind: Unexpected }` where no set stands there.
+    /// - `Exponent` where an exponent passes `2^31 - 1`, with it and 1.
+    /// - `Overflow` where a sum of coefficients of like terms leaves its range, with its operands.
+    ///
+    /// After a refusal the reader is where it was.
+    pub fn read_set(&mut self, alloc: Global, ring: &Ring) -> Result<Vec<Written>, TextError>
+        ensures ok { IfOk result (λ ws. IsSetRead ring.now self.old self.new.at ws.items) }
+        ensures source { self.new.source ≡ self.old.source }
+        ensures err { IfErr result (IsSetCause ring.now self.old) }
+        ensures unchanged { OnErr result (self.new ≡ self.old) }
+    {
+        let (set, at) = written_at(alloc, ring, self.source, self.at)?;
+        self.at = at;
+        Ok(set)
     }
 
     /// Whether nothing but white space follows.

@@ -1,14 +1,17 @@
 //! The reading of a set.
-ghost use Rattle.std.specs.Prelude.{◌≡◌, ◌≤◌, IfOk, OnOk, length};
+ghost use Rattle.std.specs.Prelude.{◌≡◌, ◌≤◌, IfOk, IfErr, OnOk, length};
 ghost use Rattle.gf_text.specs.Tokens.{lexemes, one_byte};
 ghost use Rattle.gf_text.specs.SetText.{IsSetText, set_at, set_step, token_step, front_step, with_variable, next_term, next_polynomial, empty, plus, minus, comma, brace, brace_end};
 ghost use Rattle.gf_text.specs.Given.{Gives, Means, no_meaning};
 ghost use Rattle.gf_text.specs.GivenSet.{set_move};
+ghost use Rattle.gf_text.specs.Sets.{IsSetRead, IsSetCause};
 
 use crate::error::TextError;
 use crate::names::Ring;
 use crate::ring_reader::refused;
 use crate::tokens::token_from;
+use crate::combine::{all_summed, sums_from};
+use crate::written::Written;
 use crate::tree::{Variables, WrittenSet, WrittenTerm, WrittenTerms};
 use std::alloc::{AllocError, Global};
 use std::mem;
@@ -189,6 +192,28 @@ pub(crate) fn set_from(alloc: Global, ring: &Ring, source: &[u8], from: usize) -
     let _names = ring.names();
     match written_from(alloc, ring, source, from) {
         Ok((set, end)) => Ok((set, end)),
+        Err(error) => Err(error),
+    }
+}
+
+/// The polynomials of the set that stands in the source from this place on, and the place behind it.
+pub(crate) fn written_at(alloc: Global, ring: &Ring, source: &[u8], from: usize) -> Result<(Vec<Written>, usize), TextError>
+    requires { from ≤ length source.now }
+    ensures ok { IfOk result (λ x. IsSetRead ring.now (record { source = source.now; at = from }) x.1 x.0.items) }
+    ensures err { IfErr result (IsSetCause ring.now (record { source = source.now; at = from })) }
+    ensures within { IfOk result (λ x. x.1 ≤ length source.now) }
+{
+    let n = ring.len() as usize;
+    let (set, end) = match set_from(alloc, ring, source, from) {
+        Ok((set, end)) => (set, end),
+        Err(error) => return Err(error),
+    };
+    let sums = match sums_from(alloc, n, &set) {
+        Ok(sums) => sums,
+        Err(error) => return Err(error),
+    };
+    match all_summed(alloc, n, &sums) {
+        Ok(written) => Ok((written, end)),
         Err(error) => Err(error),
     }
 }

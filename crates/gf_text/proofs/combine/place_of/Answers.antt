@@ -1,0 +1,13 @@
+use Rattle.std.proofs.Common.{sym, arith}
+use Rattle.gf_poly.proofs.CoefficientLaws.{skipped_at, passed_at, not_found_at}
+use Rattle.gf_text.proofs.CombiningLaws.{nonzero_at}
+use Rattle.gf_text.proofs.combine.place_of.Goals as goal
+
+pub terms-preserved : goal.terms-preserved
+terms-preserved c = skipped_at _ _ _ c.index-terms-i.result c.terms-test.true c.index-terms-i.is (sym c.in-Greater.ensures) c.terms.invariant
+
+pub returns-in-Equal : goal.returns-in-Equal
+returns-in-Equal c = nonzero_at _ _ _ c.index-terms-i.result c.terms-test.true c.index-terms-i.is (sym c.in-Equal.ensures) c.terms.invariant
+
+pub returns-in-Less : goal.returns-in-Less
+returns-in-Less c = sym (passed_at _ _ _ c.index-terms-i.result c.terms-test.true c.index-terms-i.is (sym c.in-Less.ensures) c.terms.invariant)
