@@ -7,3 +7,5 @@ pub mod SetReadLaws  -- the machine of sets reads no more than the grammar says
 pub mod SetTextLaws  -- it reads what the grammar says
 pub mod WrittenTextLaws  -- the tokens by which a set is said are a text of it
 pub mod CombiningLaws  -- terms and sums of terms, one after another
+pub mod SetsLaws  -- sums of terms, one after another
+pub mod PrintedSetsLaws  -- the pieces of printed polynomials and sets

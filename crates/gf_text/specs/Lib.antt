@@ -8,3 +8,4 @@ pub mod PrintedText  -- signs, coefficients, powers, terms as they are printed
 pub mod Given  -- what a reader gave
 pub mod GivenSet  -- the same of sets
 pub mod Sets  -- the polynomials of a text
+pub mod PrintedSets  -- polynomials and sets as they are printed

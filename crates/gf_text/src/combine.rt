@@ -244,8 +244,10 @@ pub(crate) fn all_summed(alloc: Global, n: usize, sums: &Sums) -> Result<Vec<Wri
 {
     let mut out = Vec::new(alloc);
     'sums: for sum in sums.as_slice() {
-        let next = summed(alloc, n, sum.terms())?;
-        out.push(next)?;
+        match summed(alloc, n, sum.terms()) {
+            Ok(next) => out.push(next)?,
+            Err(error) => return Err(error),
+        }
     }
     Ok(out)
 }

@@ -10,6 +10,7 @@ mod names;
 mod printer;
 mod reader;
 mod ring_reader;
+mod set_printer;
 mod set_reader;
 mod term_printer;
 #[cfg(test)]

@@ -1,9 +1,13 @@
 //! The writing of rings and polynomials.
-ghost use Rattle.std.specs.Prelude.{◌≡◌, ◌++◌, ◌∷◌, [], OnOk, OnErr, flat_map};
+ghost use Rattle.std.specs.Prelude.{◌≡◌, ◌++◌, ◌∷◌, [], OnOk, OnErr, flat_map, length};
 ghost use Rattle.gf_text.specs.RingText.{ring_text, names_text, RingsAreReadAgain, IsRingText};
 ghost use Rattle.gf_text.specs.Machine.{HasOneMeaning};
+ghost use Rattle.gf_text.specs.PrintedSets.{IsIn, polynomial_text, basis_text};
 
 use crate::names::{Name, Ring};
+use crate::set_printer::{push_marked, push_members};
+use crate::written::Written;
+use gf_poly::MarkedSet;
 use std::alloc::AllocError;
 
 /// Writes rings and polynomials behind what a vector of bytes holds.
@@ -44,6 +48,40 @@ impl Printer {
         let mut text = Vec::from_slice(*out.allocator(), b"Q[")?;
         push_names(&mut text, ring.names())?;
         text.extend_from_slice(b"]\n")?;
+        out.extend_from_slice(&text)
+    }
+
+    /// Adds a polynomial in the ring's variables: the marked term first, then the others, descending in deglex; the
+    /// zero polynomial is `0`.
+    ///
+    /// # Errors
+    /// Where memory runs out; then the vector is as before.
+    pub fn poly(out: &mut Vec<u8>, ring: &Ring, poly: &Written) -> Result<(), AllocError>
+        requires { IsIn (length ring.now) poly.now }
+        ensures ok { OnOk result (out.new.items ≡ out.old.items ++ polynomial_text ring.now poly.now) }
+        ensures err { OnErr result (out.new.items ≡ out.old.items) }
+    {
+        let mut text = Vec::new(*out.allocator());
+        match poly {
+            Written::Zero => text.push(b'0')?,
+            Written::Nonzero(marked) => push_marked(&mut text, ring, marked)?,
+        }
+        out.extend_from_slice(&text)
+    }
+
+    /// Adds a basis in the ring's variables: a brace and a line end, its members in their order with a comma and a line
+    /// end between them, a brace.
+    ///
+    /// # Errors
+    /// Where memory runs out; then the vector is as before.
+    pub fn basis(out: &mut Vec<u8>, ring: &Ring, set: &MarkedSet) -> Result<(), AllocError>
+        requires { set.now.variables ≡ length ring.now }
+        ensures ok { OnOk result (out.new.items ≡ out.old.items ++ basis_text ring.now set.now.items) }
+        ensures err { OnErr result (out.new.items ≡ out.old.items) }
+    {
+        let mut text = Vec::from_slice(*out.allocator(), b"{\n")?;
+        push_members(&mut text, ring, set.items())?;
+        text.extend_from_slice(b"}")?;
         out.extend_from_slice(&text)
     }
 }
