@@ -17,7 +17,7 @@ use Rattle.gf_poly.specs.Polynomial.{Terms, IsDescending, HasVariables, SamePoly
 use Rattle.gf_poly.proofs.CoefficientLaws.{Finding, found_at}
 use Rattle.gf_poly.proofs.DescendingLaws.{equal_same}
 use Rattle.gf_text.specs.declared.tree.WrittenTerm.{WrittenTerm}
-use Rattle.gf_text.specs.Combining.{raised, then_variables, times_variables, term_of, terms_of, sums_of, HaveVariables, before_all, with_coefficient, unit, IsPlaceOf, IsFirstRemaining, IsFirstRemainingAt, NoneRemains}
+use Rattle.gf_text.specs.Combining.{raised, then_variables, times_variables, term_of, terms_of, sums_of, HaveVariables, before_all, with_coefficient, unit, IsPlaceOf, IsFirstRemainingAt, NoneRemains}
 
 -- ---- variables, one after another
 
@@ -105,18 +105,18 @@ pub none_next : (f g : Terms) (i : ℕ) (d : Term) → i < length f → SamePoly
 none_next f g i d h same none before k below = elim (cases_lt k i) [
   | inl lt ↦ before k lt
   | inr ge ↦
-    let eq : i ≡ k = omega arith in
-    let P : ℕ → Type 0 = λ j. IfSome (slice_get f j) (λ t. coefficient f t.mono ≡ zero_ℚ) in
-    let here : IfSome (slice_get f i) (λ t. coefficient f t.mono ≡ zero_ℚ) = rw (slice_get-get_or f i d h) (sym (same (get_or f i d).mono) ∙ none) in
-    subst P eq here
+      let eq : i ≡ k = omega arith in
+      let P : ℕ → Type 0 = λ j. IfSome (slice_get f j) (λ t. coefficient f t.mono ≡ zero_ℚ) in
+      let here : IfSome (slice_get f i) (λ t. coefficient f t.mono ≡ zero_ℚ) = rw (slice_get-get_or f i d h) (sym (same (get_or f i d).mono) ∙ none) in
+      subst P eq here
 ]
 
 pub none_left : (f : Terms) (i : ℕ) → length f ≤ i → ((k : ℕ) → k < i → IfSome (slice_get f k) (λ t. coefficient f t.mono ≡ zero_ℚ)) → NoneRemains f
 none_left f i h before k = elim (cases_lt k i) [
   | inl lt ↦ before k lt
   | inr ge ↦
-    let past : length f ≤ k = omega arith in
-    rw (slice_get_past f k past) tt
+      let past : length f ≤ k = omega arith in
+      rw (slice_get_past f k past) tt
 ]
 
 -- ---- places

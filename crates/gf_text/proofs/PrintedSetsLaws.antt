@@ -1,7 +1,6 @@
 -- The pieces of printed polynomials and sets.
 -- To cite: marked_pieces, members_pieces. The rest are steps.
-use Rattle.std.proofs.Common.{◌≡◌, ◌<◌, ◌≤◌, ℕ, zero, suc, List, [], ◌∷◌, ◌++◌, length, drop, get_or, flat_map, Contains, refl, sym, ap, subst, ◌∙◌, arith, append_assoc}
-use Rattle.gf_frac.specs.Fraction.{Fraction}
+use Rattle.std.proofs.Common.{◌≡◌, ◌<◌, ◌≤◌, ℕ, zero, suc, List, [], ◌∷◌, ◌++◌, length, drop, get_or, flat_map, refl, sym, ap, ◌∙◌, arith, append_assoc}
 use Rattle.gf_exponents.specs.Exponents.{Exponents}
 use Rattle.gf_poly.specs.declared.Term.{Term}
 use Rattle.gf_poly.specs.Polynomial.{Terms, IsDescending, HasVariables, coefficient}
@@ -28,15 +27,15 @@ coefficient_at n f i d h variables descending =
     coefficient-contains n f t variables descending (i, h, same_at f i t d h) (variables_at_place n f i d variables h)
 
 -- the marked term, and then the others
-pub marked_pieces : (names : List (List ℕ)) (m : MarkedPolynomial) (terms : Terms) (n i : ℕ) (d : Term) (exponents : Exponents) (out mid new : List ℕ)
-    → terms ≡ m.poly → i < length m.poly → HasVariables n m.poly → IsDescending m.poly → head_of m.poly i ≡ m.head
-    → exponents ≡ (get_or terms i d).mono → mid ≡ out ++ first_text names (get_or terms i d).coef exponents → new ≡ mid ++ flat_map (other_text names exponents) terms
+pub marked_pieces : (names : List (List ℕ)) (m : MarkedPolynomial) (terms : Terms) (n i : ℕ) (t : Term) (exponents : Exponents) (out mid new : List ℕ)
+    → terms ≡ m.poly → t ≡ get_or terms i t → i < length m.poly → HasVariables n m.poly → IsDescending m.poly → head_of m.poly i ≡ m.head
+    → exponents ≡ t.mono → mid ≡ out ++ first_text names t.coef exponents → new ≡ mid ++ flat_map (other_text names exponents) terms
     → new ≡ out ++ marked_text names m
-marked_pieces names m terms n i d exponents out mid new same h variables descending head is first others =
-    let t = get_or m.poly i d in
-    let exps : exponents ≡ m.head = is ∙ ap (λ f. (get_or f i d).mono) same ∙ sym (head_of-get m.poly i d h) ∙ head in
-    let coef : (get_or terms i d).coef ≡ coefficient m.poly m.head =
-    ap (λ f. (get_or f i d).coef) same ∙ sym (coefficient_at n m.poly i d h variables descending) ∙ ap (coefficient m.poly) (sym (head_of-get m.poly i d h) ∙ head) in
+marked_pieces names m terms n i t exponents out mid new same is h variables descending head exponents_are first others =
+    let term : t ≡ get_or m.poly i t = is ∙ ap (λ f. get_or f i t) same in
+    let exps : exponents ≡ m.head = exponents_are ∙ ap (λ (s : Term). s.mono) term ∙ sym (head_of-get m.poly i t h) ∙ head in
+    let coef : t.coef ≡ coefficient m.poly m.head =
+    ap (λ (s : Term). s.coef) term ∙ sym (coefficient_at n m.poly i t h variables descending) ∙ ap (coefficient m.poly) (sym (head_of-get m.poly i t h) ∙ head) in
     let start = first_text names (coefficient m.poly m.head) m.head in
     others
     ∙ ap (λ f. mid ++ flat_map (other_text names exponents) f) same

@@ -1,14 +1,14 @@
 -- The machine of sets reads no more than the grammar of sets says.
 -- To cite: set_said. The rest are steps.
-use Rattle.std.proofs.Common.{◌≡◌, ◌<◌, ℕ, Bool, true, false, List, [], ◌∷◌, ◌++◌, length, Option, Some, None, refl, sym, ap, subst, ◌∙◌, ◌⊎◌, inl, inr, append_assoc, append-nil, bytes_eq, arith, if◌then◌else◌}
+use Rattle.std.proofs.Common.{◌≡◌, ℕ, Bool, true, false, List, [], ◌∷◌, ◌++◌, Option, Some, None, refl, sym, ap, subst, ◌∙◌, ◌⊎◌, inl, inr, append_assoc, append-nil, bytes_eq, arith, if◌then◌else◌}
 use Rattle.std.proofs.lemmas.Slice.Eq.{bytes_eq-Decides}
 use Rattle.gf_text.specs.declared.error.Kind.TheVariants.{Unexpected}
 use Rattle.gf_text.specs.declared.tree.WrittenTerm.{WrittenTerm}
 use Rattle.gf_text.specs.declared.set_reader.SetPlace.{SetPlace}
 use Rattle.gf_text.specs.declared.set_reader.SetPlace.TheVariants as at
 use Rattle.gf_text.specs.declared.set_reader.Part.{Part}
-use Rattle.gf_text.specs.Machine.{Move, go, done, halt, after}
-use Rattle.gf_text.specs.SetText.{variable, plus, minus, comma, brace, brace_end, sign, AreNames, IsTermText, AreMoreTerms, IsFrontSign, IsPolynomialText, AreMorePolynomials, IsSetText, SetState, SetMove, with_variable, with_sign, terms_of, next_term, all_of, next_polynomial, taken_or, front_step, token_step, set_step, empty}
+use Rattle.gf_text.specs.Machine.{go, done, halt, after}
+use Rattle.gf_text.specs.SetText.{variable, plus, minus, comma, brace, brace_end, sign, AreNames, AreMoreTerms, IsPolynomialText, AreMorePolynomials, IsSetText, SetState, SetMove, with_variable, with_sign, terms_of, next_term, all_of, next_polynomial, taken_or, front_step, token_step, set_step, empty}
 use Rattle.gf_text.proofs.MachineLaws.{first, not_yet}
 
 abbrev Texts : Type 0
@@ -173,8 +173,8 @@ module _ (ring : List (List ℕ)) where
         are_terms = (n.name ∷ i.names, i.terms, refl, (omega arith, (n.is_name, i.are_names)), i.are_terms);
         are_polynomials = i.are_polynomials;
         all = i.all
-        ∙ ap (λ l. p.polynomials ++ l ∷ i.qs) (append_assoc p.terms (record { minus = p.minus; variables = p.variables } ∷ []) (said ∷ i.us))
-        ∙ ap (λ l. p.polynomials ++ (p.terms ++ record { minus = p.minus; variables = l } ∷ said ∷ i.us) ∷ i.qs) (sym (append-nil p.variables));
+            ∙ ap (λ l. p.polynomials ++ l ∷ i.qs) (append_assoc p.terms (record { minus = p.minus; variables = p.variables } ∷ []) (said ∷ i.us))
+            ∙ ap (λ l. p.polynomials ++ (p.terms ++ record { minus = p.minus; variables = l } ∷ said ∷ i.us) ∷ i.qs) (sym (append-nil p.variables));
       }
 
   more_polynomials : (p : Part) (t : List ℕ) (ts : Texts) (ps : Sets) → t ≡ comma → Polynomial (next_polynomial p) ts ps → Inside p (t ∷ ts) ps
@@ -190,7 +190,7 @@ module _ (ring : List (List ℕ)) where
     are_terms = refl;
     are_polynomials = (f.first_texts, f.polynomials, refl, f.is_polynomial, f.are_polynomials);
     all = f.all ∙ append_assoc p.polynomials (terms_of p ∷ []) (f.first ∷ f.qs)
-    ∙ ap (λ l. p.polynomials ++ (p.terms ++ record { minus = p.minus; variables = l } ∷ []) ∷ f.first ∷ f.qs) (sym (append-nil p.variables));
+        ∙ ap (λ l. p.polynomials ++ (p.terms ++ record { minus = p.minus; variables = l } ∷ []) ∷ f.first ∷ f.qs) (sym (append-nil p.variables));
   }
 
   at_end : (p : Part) (t : List ℕ) (ts : Texts) (ps : Sets) → t ≡ brace_end → ts ≡ [] → all_of p ≡ ps → Inside p (t ∷ ts) ps
@@ -285,8 +285,8 @@ module _ (ring : List (List ℕ)) where
   on_token t ts later at.Brace p ps e = elim (first (set_step ring) (at.Brace, p) t ts ps e) [
     | inr d ↦ brace_never p (bytes_eq t brace) ps d.0
     | inl g ↦
-      let is = brace_goes p t (bytes_eq t brace) g.0 refl g.1 in
-      (ts, ap (λ x. x ∷ ts) is.0, later at.First p ps (after_that g.0 (at.First, p) ts ps is.1 g.2))
+        let is = brace_goes p t (bytes_eq t brace) g.0 refl g.1 in
+        (ts, ap (λ x. x ∷ ts) is.0, later at.First p ps (after_that g.0 (at.First, p) ts ps is.1 g.2))
   ]
   on_token t ts later at.First p ps e = elim (first (set_step ring) (at.First, p) t ts ps e) [
     | inl g ↦ inr (from_front p t ts ps later g.0 (first_goes p (bytes_eq t brace_end) (front_step ring p t) g.0 g.1) g.2)
@@ -302,14 +302,14 @@ module _ (ring : List (List ℕ)) where
   on_token t ts later at.Term p ps e = elim (first (set_step ring) (at.Term, p) t ts ps e) [
     | inr d ↦ term_never p (variable ring t) ps d.0
     | inl g ↦
-      let is = term_goes p (variable ring t) g.0 g.1 in
-      record { name = t; number = is.0; rest = ts; tokens = refl; is_name = is.1; inside = later at.Inside (with_variable p is.0) ps (after_that g.0 (at.Inside, with_variable p is.0) ts ps is.2 g.2) }
+        let is = term_goes p (variable ring t) g.0 g.1 in
+        record { name = t; number = is.0; rest = ts; tokens = refl; is_name = is.1; inside = later at.Inside (with_variable p is.0) ps (after_that g.0 (at.Inside, with_variable p is.0) ts ps is.2 g.2) }
   ]
   on_token t ts later at.Inside p ps e = elim (first (set_step ring) (at.Inside, p) t ts ps e) [
     | inl g ↦ from_inside p t ts ps later g.0 g.1 g.2
     | inr d ↦
-      let is = inside_ends p t (variable ring t) (bytes_eq t plus) (bytes_eq t minus) (bytes_eq t comma) (bytes_eq t brace_end) refl ps d.0 in
-      at_end p t ts ps is.0 d.1 is.1
+        let is = inside_ends p t (variable ring t) (bytes_eq t plus) (bytes_eq t minus) (bytes_eq t comma) (bytes_eq t brace_end) refl ps d.0 in
+        at_end p t ts ps is.0 d.1 is.1
   ]
 
   said : (ts : Texts) → Later ts

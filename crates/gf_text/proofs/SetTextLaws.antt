@@ -1,20 +1,19 @@
 -- The machine of sets reads what the grammar of sets says.
 -- To cite: set_reads, set_is_read, set_refused, one_set. The rest are steps.
-use Rattle.std.proofs.Common.{◌≡◌, ◌≢◌, ◌<◌, ◌≤◌, ℕ, ◌+◌, Bool, true, false, cond, List, [], ◌∷◌, ◌++◌, length, Option, Some, None, Ok, Err, refl, sym, ap, subst, ◌∙◌, ◌⊎◌, inl, inr, append_assoc, append-nil, bytes_eq, arith, if◌then◌else◌}
+use Rattle.std.proofs.Common.{◌≡◌, ℕ, ◌+◌, Bool, true, false, cond, List, [], ◌∷◌, ◌++◌, length, Some, None, Ok, Err, refl, sym, ap, ◌∙◌, inl, inr, append_assoc, append-nil, bytes_eq, arith}
 use Rattle.std.proofs.lemmas.Slice.Eq.{bytes_eq-Decides}
 use Rattle.std.specs.List.{position_from}
 use Rattle.gf_text.specs.declared.error.TextError.{TextError}
 use Rattle.gf_text.specs.declared.error.TextError.TheVariants as errors
-use Rattle.gf_text.specs.declared.error.Kind.TheVariants.{Unexpected}
 use Rattle.gf_text.specs.declared.tree.WrittenTerm.{WrittenTerm}
 use Rattle.gf_text.specs.declared.set_reader.SetPlace.{SetPlace}
 use Rattle.gf_text.specs.declared.set_reader.SetPlace.TheVariants as at
 use Rattle.gf_text.specs.declared.set_reader.Part.{Part}
-use Rattle.gf_text.specs.Machine.{Move, go, done, halt, after, Fault, Reads, HasOneMeaning}
+use Rattle.gf_text.specs.Machine.{done, after, Fault, Reads, HasOneMeaning}
 use Rattle.gf_text.specs.Tokens.{lexemes, one_byte}
 use Rattle.gf_text.specs.Given.{Fails, HasNone}
 use Rattle.gf_text.specs.RingText.{is_letter, is_name, AreNew, IsRing}
-use Rattle.gf_text.specs.SetText.{variable, plus, minus, comma, brace, brace_end, sign, AreNames, IsTermText, AreMoreTerms, IsFrontSign, IsPolynomialText, AreMorePolynomials, IsSetText, SetState, SetMove, with_variable, with_sign, terms_of, next_term, all_of, next_polynomial, taken_or, front_step, token_step, set_step, empty, set_at}
+use Rattle.gf_text.specs.SetText.{variable, plus, minus, comma, brace, brace_end, sign, AreNames, IsTermText, AreMoreTerms, IsFrontSign, IsPolynomialText, AreMorePolynomials, IsSetText, SetState, with_variable, with_sign, terms_of, next_term, all_of, next_polynomial, set_step, empty, set_at}
 use Rattle.gf_text.proofs.MachineLaws.{after-go, after-done, reads, is_read, one_meaning}
 use Rattle.gf_text.proofs.SetReadLaws.{set_said}
 
@@ -146,10 +145,10 @@ module _ (ring : List (List ℕ)) (is_ring : IsRing ring) where
       record {
         part = r.part;
         on = ap (λ l. after (set_step ring) (at.Inside, p) (l ++ rest)) is
-        ∙ sign_go p u.minus ((names ++ more) ++ rest)
-        ∙ ap (after (set_step ring) (at.Term, next_term p u.minus)) (append_assoc names more rest)
-        ∙ term_read at.Term first_variable_go names u.variables term (next_term p u.minus) refl (more ++ rest)
-        ∙ r.on;
+            ∙ sign_go p u.minus ((names ++ more) ++ rest)
+            ∙ ap (after (set_step ring) (at.Term, next_term p u.minus)) (append_assoc names more rest)
+            ∙ term_read at.Term first_variable_go names u.variables term (next_term p u.minus) refl (more ++ rest)
+            ∙ r.on;
         terms_are = r.terms_are ∙ append_assoc (terms_of p) (u ∷ []) us;
         same = r.same;
       }
@@ -181,9 +180,9 @@ module _ (ring : List (List ℕ)) (is_ring : IsRing ring) where
       record {
         part = r.part;
         on = ap (λ l. after (set_step ring) (place, p) (l ++ rest)) is
-        ∙ ap (after (set_step ring) (place, p)) regrouped
-        ∙ front_read place b p fresh front u.minus names u.variables (more ++ rest) signed term
-        ∙ r.on;
+            ∙ ap (after (set_step ring) (place, p)) regrouped
+            ∙ front_read place b p fresh front u.minus names u.variables (more ++ rest) signed term
+            ∙ r.on;
         terms_are = r.terms_are ∙ ap (λ l. (l ++ u ∷ []) ++ us) fresh.terms;
         same = r.same;
       }

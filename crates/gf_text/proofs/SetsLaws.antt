@@ -1,6 +1,6 @@
 -- Sums of terms, one after another.
--- To cite: written_next, fits_next, sums_cause, marked_sum. The rest are steps.
-use Rattle.std.proofs.Common.{◌≡◌, ◌<◌, ℕ, zero, suc, ◌+◌, List, [], ◌∷◌, ◌++◌, length, take, drop, get_or, Some, slice_get, subst, sym, ap, arith, add-one}
+-- To cite: written_next, fits_next, sums_cause, marked_sum, written_variables, in_at. The rest are steps.
+use Rattle.std.proofs.Common.{◌≡◌, ◌<◌, ℕ, zero, suc, ◌+◌, List, [], ◌∷◌, ◌++◌, length, take, drop, get_or, Some, slice_get, subst, sym, ap, arith}
 use Rattle.std.proofs.Math.Seq.{split_at}
 use Rattle.std.proofs.lemmas.List.{take_more}
 use Rattle.gf_poly.specs.declared.Term.{Term}
@@ -10,8 +10,9 @@ use Rattle.gf_poly.specs.Marking.{head_of}
 use Rattle.gf_text.specs.declared.error.TextError.{TextError}
 use Rattle.gf_text.specs.declared.error.TextError.TheVariants as errors
 use Rattle.gf_text.specs.declared.written.Written.{Written}
-use Rattle.gf_text.specs.Combining.{IsFirstRemaining, IsFirstRemainingAt, IsSumMarked}
-use Rattle.gf_text.specs.Sets.{IsWritten, AreWritten, SumsFit, IsSumCause, IsSumsCause}
+use Rattle.gf_text.specs.declared.written.Written.TheVariants as written
+use Rattle.gf_text.specs.Combining.{HaveVariables, IsFirstRemaining, IsFirstRemainingAt, IsSumMarked}
+use Rattle.gf_text.specs.Sets.{IsWritten, AreWritten, IsIn, AreIn, SumsFit, IsSumCause, IsSumsCause}
 
 written_push : (fs : List Terms) (ws : List Written) (f : Terms) (w : Written) → AreWritten fs ws → IsWritten f w → AreWritten (fs ++ f ∷ []) (ws ++ w ∷ [])
 written_push [] [] f w h k = (k, tt)
@@ -56,3 +57,17 @@ marked_sum f g place sum descending variables first = record {
   variables = variables;
   marked = subst (IsFirstRemaining f) (sym (head_of-place g place first.term first.stands)) first.first;
 }
+
+-- what is left of sums in n variables has n variables
+pub written_variables : (n : ℕ) (fs : List Terms) (ws : List Written) → HaveVariables n fs → AreWritten fs ws → AreIn n ws
+written_variables n [] [] h k = tt
+written_variables n [] (w ∷ ws) h k = absurd k
+written_variables n (f ∷ fs) [] h k = absurd k
+written_variables n (f ∷ fs) (written.Zero ∷ ws) h k = (tt, written_variables n fs ws h.1 k.1)
+written_variables n (f ∷ fs) (written.Nonzero m ∷ ws) h k = (k.0.variables.at n h.0, written_variables n fs ws h.1 k.1)
+
+-- the polynomial at a place
+pub in_at : (n : ℕ) (ws : List Written) (i : ℕ) (d : Written) → AreIn n ws → i < length ws → IsIn n (get_or ws i d)
+in_at n [] i d h k = absurd (omega arith)
+in_at n (w ∷ ws) zero d h k = h.0
+in_at n (w ∷ ws) (suc i) d h k = in_at n ws i d h.1 (omega arith)

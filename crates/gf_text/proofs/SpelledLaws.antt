@@ -1,6 +1,6 @@
 -- The tokens of a text whose tokens are one byte each: its bytes, less the white space.
 -- To cite: spaced_at, texts-spaced, behind-spaced, tokens_of-++, letter_no_space. The rest are steps.
-use Rattle.std.proofs.Common.{suc, Bool, true, if◌then◌else◌, ◌≡◌, ◌≢◌, ◌≤◌, ℕ, ◌+◌, true, false, List, [], ◌∷◌, ◌++◌, length, map, refl, ap, ◌∙◌, inl, inr, arith, ◌==◌}
+use Rattle.std.proofs.Common.{suc, Bool, true, if◌then◌else◌, ◌≡◌, ◌≢◌, ◌≤◌, ℕ, ◌+◌, true, false, List, [], ◌∷◌, ◌++◌, length, refl, ap, ◌∙◌, inl, inr, arith, ◌==◌}
 use Rattle.std.proofs.lemmas.Bool.Decides.{nat_tests, eqb_tells}
 use Rattle.std.proofs.Math.Seq.{drop-append_seam, drop-append-add}
 use Rattle.gf_text.specs.Machine.{Lexeme, texts, behind_all}

@@ -1,13 +1,13 @@
 -- The tokens by which a set is said are a text of it.
 -- To cite: set_tokens_said. The rest are steps.
-use Rattle.std.proofs.Common.{◌≡◌, ◌<◌, ℕ, zero, suc, ◌+◌, Bool, true, false, cond, List, [], ◌∷◌, ◌++◌, length, get_or, Option, Some, None, refl, sym, ap, ◌∙◌, inl, inr, append_assoc, bytes_eq, flat_map, arith, if◌then◌else◌, ◌||◌}
+use Rattle.std.proofs.Common.{◌≡◌, ◌<◌, ℕ, zero, suc, ◌+◌, Bool, true, false, List, [], ◌∷◌, ◌++◌, length, get_or, Some, refl, sym, ap, ◌∙◌, inl, inr, append_assoc, bytes_eq, flat_map, arith, if◌then◌else◌, ◌||◌}
 use Rattle.std.proofs.lemmas.List.Folds.{list_any-append}
 use Rattle.std.proofs.lemmas.Slice.Eq.{bytes_eq-Decides}
-use Rattle.std.specs.List.{position_from, list_any}
+use Rattle.std.specs.List.{position_from}
 use Rattle.gf_text.specs.declared.tree.WrittenTerm.{WrittenTerm}
 use Rattle.gf_text.specs.RingText.{has, AreNew, IsRing}
-use Rattle.gf_text.specs.SetText.{variable, minus, plus, comma, brace, brace_end, sign, AreNames, IsTermText, AreMoreTerms, IsFrontSign, IsPolynomialText, AreMorePolynomials, IsSetText}
-use Rattle.gf_text.specs.WrittenText.{name_of, names_of, AreVariables, AreTerms, AreSums, first_tokens, later_tokens, polynomial_tokens, more_tokens, set_tokens}
+use Rattle.gf_text.specs.SetText.{variable, minus, AreNames, AreMoreTerms, IsFrontSign, IsPolynomialText, AreMorePolynomials, IsSetText}
+use Rattle.gf_text.specs.WrittenText.{name_of, names_of, AreVariables, AreTerms, AreSums, later_tokens, polynomial_tokens, more_tokens, set_tokens}
 
 -- ---- each name of a ring is the name of its own variable
 
@@ -57,9 +57,15 @@ module _ (ring : List (List ℕ)) (is_ring : IsRing ring) where
 
   polynomial_said : (q : List WrittenTerm) → 0 < length q → AreTerms ring q → IsPolynomialText ring (polynomial_tokens ring q) q
   polynomial_said [] some h = absurd (omega arith)
-  polynomial_said (u ∷ us) some h =
-      (if u.minus then minus ∷ [] else [], names_of ring u.variables, flat_map (later_tokens ring) us,
-        append_assoc (if u.minus then minus ∷ [] else []) (names_of ring u.variables) (flat_map (later_tokens ring) us), front_sign u.minus, (h.0, names_said u.variables h.1), more_said us h.2)
+  polynomial_said (u ∷ us) some h = (
+    if u.minus then minus ∷ [] else [],
+    names_of ring u.variables,
+    flat_map (later_tokens ring) us,
+    append_assoc (if u.minus then minus ∷ [] else []) (names_of ring u.variables) (flat_map (later_tokens ring) us),
+    front_sign u.minus,
+    (h.0, names_said u.variables h.1),
+    more_said us h.2,
+  )
 
   polynomials_said : (qs : List (List WrittenTerm)) → AreSums ring qs → AreMorePolynomials ring (more_tokens ring qs) qs
   polynomials_said [] h = refl

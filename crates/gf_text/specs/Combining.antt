@@ -1,14 +1,12 @@
 -- From what a text of a set says to polynomials: products of variables, sums of terms, and the marked term.
 -- Equal variables of a term are counted; like terms are added; the first term, as written, that remains is marked.
 -- Laws: proofs/CombiningLaws.antt.
-use Rattle.std.specs.Prelude.{◌≡◌, ◌≢◌, ℕ, ◌+◌, ◌-◌, ◌^◌, ◌<◌, Bool, true, false, nat_lt, List, [], ◌∷◌, ◌++◌, Option, Some, IfSome, Result, Ok, Err, slice_get, slice_index, slice_set, replicate, if◌then◌else◌}
+use Rattle.std.specs.Prelude.{◌≡◌, ◌≢◌, ℕ, ◌+◌, ◌-◌, ◌^◌, ◌<◌, Bool, true, false, nat_lt, List, [], ◌∷◌, Some, IfSome, Result, Ok, Err, slice_get, slice_index, slice_set, replicate, if◌then◌else◌}
 use Rattle.gf_frac.specs.Fraction.{Fraction, zero_ℚ, one_ℚ, neg_ℚ}
-use Rattle.gf_frac.specs.declared.refusal.Overflow.{Overflow}
 use Rattle.gf_exponents.specs.Exponents.{Exponents}
 use Rattle.gf_poly.specs.declared.Term.{Term}
 use Rattle.gf_poly.specs.declared.monomial.ExponentOverflow.{ExponentOverflow}
 use Rattle.gf_poly.specs.Polynomial.{Terms, coefficient, SamePolynomial, IsDescending, HasVariables, KeepsVariables}
-use Rattle.gf_poly.specs.Collecting.{LikeSumsFit, IsLikeSumOverflow}
 use Rattle.gf_poly.specs.Marking.{MarkedPolynomial}
 use Rattle.gf_text.specs.declared.tree.WrittenTerm.{WrittenTerm}
 

@@ -1,5 +1,5 @@
 -- What the reader of sets did, against the machine of sets.
-use Rattle.gf_text.specs.Machine.{Move, go, done, halt}
+use Rattle.gf_text.specs.Machine.{go, done, halt}
 use Rattle.gf_text.specs.SetText.{SetMove}
 use Rattle.gf_text.specs.declared.error.Kind.TheVariants as kind
 use Rattle.gf_text.specs.declared.set_reader.Part.{Part}

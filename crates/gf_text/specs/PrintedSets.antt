@@ -1,9 +1,9 @@
 -- What is printed of polynomials and sets.
 -- The marked term stands first, then the others, descending in deglex.
-use Rattle.std.specs.Prelude.{◌≡◌, ℕ, List, [], ◌∷◌, ◌++◌, flat_map, bytes_eq, length, if◌then◌else◌}
+use Rattle.std.specs.Prelude.{ℕ, List, [], ◌∷◌, ◌++◌, flat_map, bytes_eq, if◌then◌else◌}
 use Rattle.gf_exponents.specs.Exponents.{Exponents}
 use Rattle.gf_poly.specs.declared.Term.{Term}
-use Rattle.gf_poly.specs.Polynomial.{coefficient, HasVariables}
+use Rattle.gf_poly.specs.Polynomial.{coefficient}
 use Rattle.gf_poly.specs.Marking.{MarkedPolynomial}
 use Rattle.gf_text.specs.declared.written.Written.{Written}
 use Rattle.gf_text.specs.declared.written.Written.TheVariants as written
@@ -21,11 +21,6 @@ marked_text names m = first_text names (coefficient m.poly m.head) m.head ++ fla
 abbrev pub polynomial_text : List (List ℕ) → Written → List ℕ
 polynomial_text names written.Zero = 48 ∷ []
 polynomial_text names (written.Nonzero m) = marked_text names m
-
--- the polynomial has n variables
-abbrev pub IsIn : ℕ → Written → Type 0
-IsIn n written.Zero = Unit {0}
-IsIn n (written.Nonzero m) = HasVariables n m.poly
 
 -- polynomials with a comma and a line end between them
 abbrev pub members_text : List (List ℕ) → List MarkedPolynomial → List ℕ

@@ -4,7 +4,7 @@ use Rattle.gf_frac.specs.declared.refusal.Overflow.{Overflow}
 use Rattle.gf_poly.specs.declared.monomial.ExponentOverflow.{ExponentOverflow}
 use Rattle.gf_poly.specs.declared.error.PolyError.{PolyError}
 use Rattle.gf_poly.specs.declared.error.PolyError.TheVariants as polys
-use Rattle.gf_poly.specs.Polynomial.{Terms}
+use Rattle.gf_poly.specs.Polynomial.{Terms, HasVariables}
 use Rattle.gf_poly.specs.Collecting.{LikeSumsFit, IsLikeSumOverflow}
 use Rattle.gf_text.specs.declared.error.TextError.{TextError}
 use Rattle.gf_text.specs.declared.error.TextError.TheVariants as errors
@@ -28,6 +28,16 @@ AreWritten [] [] = Unit {0}
 AreWritten [] (w ∷ ws) = ⊥
 AreWritten (f ∷ fs) [] = ⊥
 AreWritten (f ∷ fs) (w ∷ ws) = IsWritten f w × AreWritten fs ws
+
+-- the polynomial has n variables
+abbrev pub IsIn : ℕ → Written → Type 0
+IsIn n written.Zero = Unit {0}
+IsIn n (written.Nonzero m) = HasVariables n m.poly
+
+-- each of them has
+abbrev pub AreIn : ℕ → List Written → Type 0
+AreIn n [] = Unit {0}
+AreIn n (w ∷ ws) = IsIn n w × AreIn n ws
 
 -- why a text's terms are refused: an exponent
 abbrev pub IsExponentCause : {Y : Type 0} → Result Y ExponentOverflow → TextError → Type 0

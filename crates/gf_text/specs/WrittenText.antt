@@ -1,6 +1,6 @@
 -- The tokens by which a set is said: each term with the names of its variables, a sign where one is needed.
 -- Laws: proofs/WrittenTextLaws.antt.
-use Rattle.std.specs.Prelude.{◌≡◌, ℕ, ◌<◌, Bool, true, false, List, [], ◌∷◌, ◌++◌, length, map, flat_map, slice_index_or, if◌then◌else◌}
+use Rattle.std.specs.Prelude.{ℕ, ◌<◌, List, [], ◌∷◌, ◌++◌, length, map, flat_map, slice_index_or, if◌then◌else◌}
 use Rattle.gf_text.specs.declared.tree.WrittenTerm.{WrittenTerm}
 use Rattle.gf_text.specs.SetText.{minus, comma, brace, brace_end, sign}
 

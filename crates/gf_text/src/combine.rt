@@ -4,7 +4,7 @@ ghost use Rattle.gf_frac.specs.Fraction.{zero_ℚ};
 ghost use Rattle.gf_poly.specs.Polynomial.{coefficient, SamePolynomial, IsDescending, HasVariables};
 ghost use Rattle.gf_poly.specs.Collecting.{LikeSumsFit, IsLikeSumCause};
 ghost use Rattle.gf_text.specs.Combining.{raised, times_variables, unit, term_of, terms_of, sums_of, HaveVariables, NoneRemains, IsPlaceOf, IsFirstRemainingAt};
-ghost use Rattle.gf_text.specs.Sets.{IsWritten, IsExponentCause, IsSumCause, IsSumsCause, AreWritten, SumsFit, from_poly};
+ghost use Rattle.gf_text.specs.Sets.{IsWritten, IsExponentCause, IsSumCause, IsSumsCause, AreWritten, AreIn, SumsFit, from_poly};
 
 use crate::error::TextError;
 use crate::tree::{WrittenSet, WrittenTerm, WrittenTerms};
@@ -75,7 +75,11 @@ fn term_of(alloc: Global, n: usize, term: &WrittenTerm) -> Result<Term, Exponent
 }
 
 /// The terms that are written, in n variables.
-pub(crate) fn terms_from(alloc: Global, n: usize, terms: &WrittenTerms) -> Result<Vec<Term>, TextError>
+pub(crate) fn terms_from(
+    alloc: Global,
+    n: usize,
+    terms: &WrittenTerms,
+) -> Result<Vec<Term>, TextError>
     requires { n ≤ ROOM }
     ensures ok { IfOk result (λ ts. terms_of n terms.now ≡ Ok ts.items) }
     ensures err { IfErr result (IsExponentCause (terms_of n terms.now)) }
@@ -239,6 +243,7 @@ pub(crate) fn sums_from(alloc: Global, n: usize, set: &WrittenSet) -> Result<Sum
 pub(crate) fn all_summed(alloc: Global, n: usize, sums: &Sums) -> Result<Vec<Written>, TextError>
     requires { HaveVariables n sums.now }
     ensures ok { IfOk result (λ ws. AreWritten sums.now ws.items) }
+    ensures variables { IfOk result (λ ws. AreIn n ws.items) }
     ensures fits { IfOk result (λ ws. SumsFit sums.now) }
     ensures err { IfErr result (IsSumsCause sums.now) }
 {

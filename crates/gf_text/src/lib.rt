@@ -24,5 +24,5 @@ pub use names::{Name, Names, Ring};
 pub use printer::{Printer, rings_are_read_again, rings_have_one_meaning};
 pub use reader::Reader;
 pub use tokens::Token;
-pub use written::Written;
 pub use tree::{Variables, WrittenSet, WrittenTerm, WrittenTerms};
+pub use written::Written;

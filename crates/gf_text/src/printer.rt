@@ -2,7 +2,8 @@
 ghost use Rattle.std.specs.Prelude.{◌≡◌, ◌++◌, ◌∷◌, [], OnOk, OnErr, flat_map, length};
 ghost use Rattle.gf_text.specs.RingText.{ring_text, names_text, RingsAreReadAgain, IsRingText};
 ghost use Rattle.gf_text.specs.Machine.{HasOneMeaning};
-ghost use Rattle.gf_text.specs.PrintedSets.{IsIn, polynomial_text, basis_text};
+ghost use Rattle.gf_text.specs.PrintedSets.{polynomial_text, basis_text};
+ghost use Rattle.gf_text.specs.Sets.{IsIn};
 
 use crate::names::{Name, Ring};
 use crate::set_printer::{push_marked, push_members};

@@ -1,16 +1,16 @@
 //! A reader of rings and sets of polynomials.
-ghost use Rattle.std.specs.Prelude.{◌≡◌, IfOk, IfErr, OnOk, OnErr};
+ghost use Rattle.std.specs.Prelude.{◌≡◌, length, IfOk, IfErr, OnOk, OnErr};
 ghost use Rattle.gf_text.specs.Tokens.{lexemes, one_byte, IsBlank, rest};
 ghost use Rattle.gf_text.specs.RingText.{ring_at, IsRingText};
 ghost use Rattle.gf_text.specs.Given.{Takes, Means, no_meaning};
-ghost use Rattle.gf_text.specs.Sets.{IsSetRead, IsSetCause};
+ghost use Rattle.gf_text.specs.Sets.{IsSetRead, IsSetCause, AreIn};
 
 use crate::error::{Syntax, TextError};
 use crate::names::Ring;
-use crate::set_reader::written_at;
-use crate::written::Written;
 use crate::ring_reader::{NO_MEANING, ring_from};
+use crate::set_reader::written_at;
 use crate::tokens::spaces;
+use crate::written::Written;
 use std::alloc::Global;
 use std::marker::Model;
 
@@ -64,6 +64,7 @@ impl<'a> Reader<'a> {
     /// After a refusal the reader is where it was.
     pub fn read_set(&mut self, alloc: Global, ring: &Ring) -> Result<Vec<Written>, TextError>
         ensures ok { IfOk result (λ ws. IsSetRead ring.now self.old self.new.at ws.items) }
+        ensures variables { IfOk result (λ ws. AreIn (length ring.now) ws.items) }
         ensures source { self.new.source ≡ self.old.source }
         ensures err { IfErr result (IsSetCause ring.now self.old) }
         ensures unchanged { OnErr result (self.new ≡ self.old) }

@@ -22,7 +22,12 @@ fn push_other(out: &mut Vec<u8>, ring: &Ring, head: &[u32], term: &Term) -> Resu
 }
 
 /// Adds the terms that aren't at the marked monomial.
-fn push_others(out: &mut Vec<u8>, ring: &Ring, head: &[u32], terms: &[Term]) -> Result<(), AllocError>
+fn push_others(
+    out: &mut Vec<u8>,
+    ring: &Ring,
+    head: &[u32],
+    terms: &[Term],
+) -> Result<(), AllocError>
     requires { HasVariables (length ring.now) terms.now }
     ensures { OnOk result (out.new.items ≡ out.old.items ++ flat_map (other_text ring.now head.now) terms.now) }
 {
@@ -59,7 +64,11 @@ fn push_more(out: &mut Vec<u8>, ring: &Ring, items: &[Marked]) -> Result<(), All
 }
 
 /// Adds polynomials with a comma and a line end between them.
-pub(crate) fn push_members(out: &mut Vec<u8>, ring: &Ring, items: &[Marked]) -> Result<(), AllocError>
+pub(crate) fn push_members(
+    out: &mut Vec<u8>,
+    ring: &Ring,
+    items: &[Marked],
+) -> Result<(), AllocError>
     requires { HaveVariables (length ring.now) items.now }
     ensures { OnOk result (out.new.items ≡ out.old.items ++ members_text ring.now items.now) }
 {

@@ -4,15 +4,15 @@ ghost use Rattle.gf_text.specs.Tokens.{lexemes, one_byte};
 ghost use Rattle.gf_text.specs.SetText.{IsSetText, set_at, set_step, token_step, front_step, with_variable, next_term, next_polynomial, empty, plus, minus, comma, brace, brace_end};
 ghost use Rattle.gf_text.specs.Given.{Gives, Means, no_meaning};
 ghost use Rattle.gf_text.specs.GivenSet.{set_move};
-ghost use Rattle.gf_text.specs.Sets.{IsSetRead, IsSetCause};
+ghost use Rattle.gf_text.specs.Sets.{IsSetRead, IsSetCause, AreIn};
 
+use crate::combine::{all_summed, sums_from};
 use crate::error::TextError;
 use crate::names::Ring;
 use crate::ring_reader::refused;
 use crate::tokens::token_from;
-use crate::combine::{all_summed, sums_from};
-use crate::written::Written;
 use crate::tree::{Variables, WrittenSet, WrittenTerm, WrittenTerms};
+use crate::written::Written;
 use std::alloc::{AllocError, Global};
 use std::mem;
 
@@ -110,7 +110,12 @@ impl Part {
     }
 
     /// What follows a variable.
-    fn behind_variable(&mut self, alloc: Global, ring: &Ring, t: &[u8]) -> Result<SetStep, AllocError>
+    fn behind_variable(
+        &mut self,
+        alloc: Global,
+        ring: &Ring,
+        t: &[u8],
+    ) -> Result<SetStep, AllocError>
         ensures { IfOk result (λ m. set_move m self.new ≡ token_step ring.now SetPlace.Inside self.old t.now) }
     {
         if let Some(variable) = ring.variable(t) {
@@ -137,7 +142,13 @@ impl Part {
     }
 
     /// What a token does.
-    fn step(&mut self, alloc: Global, ring: &Ring, place: SetPlace, t: &[u8]) -> Result<SetStep, AllocError>
+    fn step(
+        &mut self,
+        alloc: Global,
+        ring: &Ring,
+        place: SetPlace,
+        t: &[u8],
+    ) -> Result<SetStep, AllocError>
         ensures { IfOk result (λ m. set_move m self.new ≡ set_step ring.now (place, self.old) t.now) }
     {
         match place {
@@ -161,7 +172,12 @@ impl Part {
 }
 
 /// What the set says that stands in the source from this place on, and the place behind it.
-fn written_from(alloc: Global, ring: &Ring, source: &[u8], from: usize) -> Result<(WrittenSet, usize), TextError>
+fn written_from(
+    alloc: Global,
+    ring: &Ring,
+    source: &[u8],
+    from: usize,
+) -> Result<(WrittenSet, usize), TextError>
     requires { from ≤ length source.now }
     ensures set { Gives (λ x. (x.0, x.1)) result (set_at ring.now source.now from) }
     ensures within { IfOk result (λ x. x.1 ≤ length source.now) }
@@ -183,7 +199,12 @@ fn written_from(alloc: Global, ring: &Ring, source: &[u8], from: usize) -> Resul
 }
 
 /// The same, as the grammar says it.
-pub(crate) fn set_from(alloc: Global, ring: &Ring, source: &[u8], from: usize) -> Result<(WrittenSet, usize), TextError>
+pub(crate) fn set_from(
+    alloc: Global,
+    ring: &Ring,
+    source: &[u8],
+    from: usize,
+) -> Result<(WrittenSet, usize), TextError>
     requires { from ≤ length source.now }
     ensures set { Gives (λ x. (x.0, x.1)) result (set_at ring.now source.now from) }
     ensures text { Means (λ x. (x.0, x.1)) result (IsSetText ring.now) (lexemes one_byte source.now from) }
@@ -197,9 +218,15 @@ pub(crate) fn set_from(alloc: Global, ring: &Ring, source: &[u8], from: usize) -
 }
 
 /// The polynomials of the set that stands in the source from this place on, and the place behind it.
-pub(crate) fn written_at(alloc: Global, ring: &Ring, source: &[u8], from: usize) -> Result<(Vec<Written>, usize), TextError>
+pub(crate) fn written_at(
+    alloc: Global,
+    ring: &Ring,
+    source: &[u8],
+    from: usize,
+) -> Result<(Vec<Written>, usize), TextError>
     requires { from ≤ length source.now }
     ensures ok { IfOk result (λ x. IsSetRead ring.now (record { source = source.now; at = from }) x.1 x.0.items) }
+    ensures variables { IfOk result (λ x. AreIn (length ring.now) x.0.items) }
     ensures err { IfErr result (IsSetCause ring.now (record { source = source.now; at = from })) }
     ensures within { IfOk result (λ x. x.1 ≤ length source.now) }
 {

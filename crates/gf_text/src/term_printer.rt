@@ -72,7 +72,12 @@ fn push_next(out: &mut Vec<u8>, some: bool, name: &[u8], exponent: u32) -> Resul
 }
 
 /// Adds the powers of a monomial, with a `*` before each but one at the front.
-fn push_powers(out: &mut Vec<u8>, ring: &Ring, behind: bool, exponents: &[u32]) -> Result<(), AllocError>
+fn push_powers(
+    out: &mut Vec<u8>,
+    ring: &Ring,
+    behind: bool,
+    exponents: &[u32],
+) -> Result<(), AllocError>
     requires { length exponents.now ≡ length ring.now }
     ensures { OnOk result (out.new.items ≡ out.old.items ++ powers_text behind (powers ring.now exponents.now)) }
 {
@@ -98,7 +103,12 @@ fn is_bare(coefficient: &Frac, exponents: &[u32]) -> bool
 }
 
 /// Adds a term without its sign.
-fn push_unsigned(out: &mut Vec<u8>, ring: &Ring, coefficient: &Frac, exponents: &[u32]) -> Result<(), AllocError>
+fn push_unsigned(
+    out: &mut Vec<u8>,
+    ring: &Ring,
+    coefficient: &Frac,
+    exponents: &[u32],
+) -> Result<(), AllocError>
     requires { length exponents.now ≡ length ring.now }
     ensures { OnOk result (out.new.items ≡ out.old.items ++ unsigned_text ring.now coefficient.now exponents.now) }
 {
@@ -112,7 +122,12 @@ fn push_unsigned(out: &mut Vec<u8>, ring: &Ring, coefficient: &Frac, exponents: 
 }
 
 /// Adds the first term of a polynomial.
-pub(crate) fn push_first(out: &mut Vec<u8>, ring: &Ring, coefficient: &Frac, exponents: &[u32]) -> Result<(), AllocError>
+pub(crate) fn push_first(
+    out: &mut Vec<u8>,
+    ring: &Ring,
+    coefficient: &Frac,
+    exponents: &[u32],
+) -> Result<(), AllocError>
     requires { length exponents.now ≡ length ring.now }
     ensures { OnOk result (out.new.items ≡ out.old.items ++ first_text ring.now coefficient.now exponents.now) }
 {
@@ -123,10 +138,19 @@ pub(crate) fn push_first(out: &mut Vec<u8>, ring: &Ring, coefficient: &Frac, exp
 }
 
 /// Adds a later term of a polynomial.
-pub(crate) fn push_later(out: &mut Vec<u8>, ring: &Ring, coefficient: &Frac, exponents: &[u32]) -> Result<(), AllocError>
+pub(crate) fn push_later(
+    out: &mut Vec<u8>,
+    ring: &Ring,
+    coefficient: &Frac,
+    exponents: &[u32],
+) -> Result<(), AllocError>
     requires { length exponents.now ≡ length ring.now }
     ensures { OnOk result (out.new.items ≡ out.old.items ++ later_text ring.now coefficient.now exponents.now) }
 {
-    out.push(if is_below_zero(coefficient) { b'-' } else { b'+' })?;
+    out.push(if is_below_zero(coefficient) {
+        b'-'
+    } else {
+        b'+'
+    })?;
     push_unsigned(out, ring, coefficient, exponents)
 }

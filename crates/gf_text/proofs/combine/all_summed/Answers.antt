@@ -1,9 +1,10 @@
-use Rattle.std.proofs.Common.{◌≡◌, ◌∙◌, sym, take, subst, get_or}
+use Rattle.std.proofs.Common.{◌∙◌, sym, subst}
+use Rattle.std.proofs.lemmas.List.{take_all}
 use Rattle.gf_poly.specs.Polynomial.{HasVariables}
 use Rattle.gf_poly.specs.Collecting.{LikeSumsFit}
-use Rattle.gf_text.specs.Sets.{IsWritten, IsSumCause, IsSumsCause}
+use Rattle.gf_text.specs.Sets.{IsWritten, AreWritten, IsSumCause}
 use Rattle.gf_text.proofs.CombiningLaws.{have_at}
-use Rattle.gf_text.proofs.SetsLaws.{written_next, fits_next, sums_cause}
+use Rattle.gf_text.proofs.SetsLaws.{written_next, fits_next, sums_cause, written_variables}
 use Rattle.gf_text.proofs.combine.all_summed.Goals as goal
 
 pub summed-requires : goal.summed-requires
@@ -28,3 +29,10 @@ sums-preserved c =
       written = rw c.in_ok-push-in-Ok.ensures.items (written_next all c.sums.out.items c.sums.sum-index c.sum-item.result c.in-Ok.next c.sums-test.true c.sums.invariant.written written);
       fits = fits_next all c.sums.sum-index c.sum-item.result c.sums-test.true c.sums.invariant.fits fits;
     }
+
+pub returns-clause-variables : goal.returns-clause-variables
+returns-clause-variables c =
+    let all = c.as_slice-sum-items.result.now in
+    let have = rw (← c.as_slice-sum-items.ensures) at c.requires in
+    let whole = take_all c.sums.sum-index all c.sums-test.false in
+    written_variables c.args.n all c.sums.out.items have (subst (λ fs. AreWritten fs c.sums.out.items) whole c.sums.invariant.written)

@@ -1,4 +1,4 @@
-use Rattle.std.proofs.Common.{◌≡◌, ◌<◌, ◌^◌, All, drop, length}
+use Rattle.std.proofs.Common.{◌≡◌, ◌<◌, ◌^◌, All, drop}
 use Rattle.gf_text.specs.Combining.{times_variables}
 use Rattle.gf_text.proofs.combine.count.Given as goal
 

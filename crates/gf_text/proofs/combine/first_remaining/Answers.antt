@@ -1,5 +1,3 @@
-use Rattle.std.proofs.Common.{◌≡◌, ◌≤◌, ℕ, sym, subst, arith, length, get_or}
-use Rattle.gf_poly.specs.Polynomial.{HasVariables}
 use Rattle.gf_text.proofs.CombiningLaws.{variables_at_place, first_found, none_next, none_left}
 use Rattle.gf_text.proofs.combine.first_remaining.Goals as goal
 

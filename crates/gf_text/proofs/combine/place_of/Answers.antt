@@ -1,5 +1,5 @@
-use Rattle.std.proofs.Common.{sym, arith}
-use Rattle.gf_poly.proofs.CoefficientLaws.{skipped_at, passed_at, not_found_at}
+use Rattle.std.proofs.Common.{sym}
+use Rattle.gf_poly.proofs.CoefficientLaws.{skipped_at, passed_at}
 use Rattle.gf_text.proofs.CombiningLaws.{nonzero_at}
 use Rattle.gf_text.proofs.combine.place_of.Goals as goal
 

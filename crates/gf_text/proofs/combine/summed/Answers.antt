@@ -1,4 +1,3 @@
-use Rattle.std.proofs.Common.{◌≡◌, ◌<◌, length}
 use Rattle.gf_text.proofs.CombiningLaws.{within_by}
 use Rattle.gf_text.proofs.SetsLaws.{marked_sum}
 use Rattle.gf_text.proofs.combine.summed.Goals as goal

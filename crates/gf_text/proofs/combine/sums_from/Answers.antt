@@ -1,4 +1,4 @@
-use Rattle.std.proofs.Common.{◌≡◌, ◌∙◌, sym}
+use Rattle.std.proofs.Common.{◌∙◌, sym}
 use Rattle.gf_text.proofs.CombiningLaws.{sums_variables, sums_end}
 use Rattle.gf_text.proofs.combine.sums_from.Goals as goal
 

@@ -1,4 +1,4 @@
-use Rattle.std.proofs.Common.{◌≡◌, ◌∙◌, ap, length}
+use Rattle.std.proofs.Common.{◌∙◌, ap, length}
 use Rattle.gf_poly.specs.declared.Term.{Term}
 use Rattle.gf_text.proofs.CombiningLaws.{variables_at_place}
 use Rattle.gf_text.proofs.set_printer.push_others.Goals as goal

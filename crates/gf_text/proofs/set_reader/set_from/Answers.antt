@@ -1,4 +1,3 @@
-use Rattle.std.proofs.Common.{◌≡◌}
 use Rattle.gf_text.proofs.SetTextLaws.{set_reads, set_refused}
 use Rattle.gf_text.proofs.set_reader.set_from.Goals as goal
 

@@ -1,4 +1,4 @@
-use Rattle.std.proofs.Common.{◌≡◌, ◌∙◌}
+use Rattle.std.proofs.Common.{◌∙◌}
 use Rattle.gf_text.proofs.PrintedTextLaws.{powers_next}
 use Rattle.gf_text.proofs.term_printer.push_powers.Goals as goal
 

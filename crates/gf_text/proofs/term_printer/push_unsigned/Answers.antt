@@ -1,4 +1,4 @@
-use Rattle.std.proofs.Common.{◌≡◌, ◌∙◌, ap, sym, ◌++◌, append_assoc, true}
+use Rattle.std.proofs.Common.{◌∙◌, ap, sym, ◌++◌, append_assoc, true}
 use Rattle.gf_text.specs.PrintedText.{size_text, powers, powers_text}
 use Rattle.gf_text.proofs.PrintedTextLaws.{bare_text, sized_text}
 use Rattle.gf_text.proofs.term_printer.push_unsigned.Goals as goal
