@@ -1,6 +1,6 @@
 -- Marked polynomials under a comparison of monomials, and sums of their multiples.
 -- A list of members is often given by a predicate `by`, as `Contains bs`, so that longer lists need no places.
--- Laws: proofs/PieceLaws.antt, proofs/WeightsOfMarks.antt. Source: Sturmfels, Gröbner Bases and Convex Polytopes, 1 and 3.
+-- Laws: proofs/PieceLaws.antt, proofs/MarkWeights.antt. Source: Sturmfels, Gröbner Bases and Convex Polytopes, 1 and 3.
 use Rattle.std.specs.Prelude.{◌≡◌, ◌⊎◌, ℕ, ◌<◌, ◌≤◌, true, List, [], ◌∷◌, ◌++◌, Contains}
 use Rattle.gf_frac.specs.Fraction.{Fraction, one_ℚ}
 use Rattle.gf_exponents.specs.Exponents.{Exponents, entry, same, plus}

@@ -1,8 +1,8 @@
 -- When the pair of two marked polynomials is settled: its S-polynomial is a sum of multiples of members below the least
 -- common multiple of the marks. `IsSettledPair` is the form that a reader checks, in whole numbers and in the ring's
 -- variables; the working forms have fractions, any variables, and the two polynomials on two sides of an equation.
--- Laws: proofs/SettledLaws.antt, proofs/CriteriaLaws.antt. Source: Becker, Weispfenning, Gröbner Bases, 5.5
--- (t-representations); Cox, Little, O'Shea, Ideals, Varieties, and Algorithms, 2.9 (lcm representations).
+-- Laws: proofs/SettledLaws.antt, proofs/CriteriaLaws.antt. Source: Becker, Weispfenning, Gröbner Bases
+-- (t-representations); Cox, Little, O'Shea, Ideals, Varieties, and Algorithms, chapter 2 (lcm representations).
 use Rattle.std.specs.Prelude.{◌≡◌, ℕ, ◌<◌, ℤ, pos, true, List, [], ◌∷◌, ◌++◌, length, Contains, slice_index_or}
 use Rattle.gf_frac.specs.Fraction.{whole, ◌+ℚ◌, ◌*ℚ◌, one_ℚ}
 use Rattle.gf_exponents.specs.Exponents.{Exponents, same, plus, join, IsInRing}

@@ -1,6 +1,6 @@
 -- The lists that Buchberger's algorithm may have on its way, the tails of their members, and the operations of such a
 -- run. These are relations: they hold of all lists that some choice of pairs and reductions leads to.
--- Laws: proofs/WorkLaws.antt. Source: Cox, Little, O'Shea, Ideals, Varieties, and Algorithms, 2.7 and 2.10.
+-- Laws: proofs/WorkLaws.antt. Source: Cox, Little, O'Shea, Ideals, Varieties, and Algorithms, 2.7.
 use Rattle.std.specs.Prelude.{◌≡◌, ◌⊎◌, ℕ, true, false, List, [], ◌∷◌, ◌++◌, Contains}
 use Rattle.gf_frac.specs.Fraction.{Fraction}
 use Rattle.gf_frac.specs.declared.refusal.Op.{Op}

@@ -1,6 +1,7 @@
 //! Ideals of polynomials over the rational numbers, reduction, Gröbner bases: definitions and laws.
 //!
-//! Start at `specs/Membership.antt` and read on as `specs/Lib.antt` lists the files; `specs/Laws.antt` has the theorems.
+//! Start at `specs/Membership.antt` and read on as `specs/Lib.antt` lists the files; `specs/Laws.antt` and
+//! `specs/Theorems.antt` have the theorems.
 //! The functions compute nothing: each one's contract is a theorem, so that the check proves it.
 #![tactic(auto)]
 
@@ -33,7 +34,7 @@ pub fn steps_leave_less_work()
     ensures { StepsLeaveLessWork }
 {}
 
-/// On finitely many comparisons an order is a positive weight (Robbiano; Sturmfels, proposition 1.11).
+/// On finitely many comparisons an order is a positive weight (Sturmfels, *Gröbner Bases and Convex Polytopes*, 1).
 pub fn orders_are_weights()
     ensures { OrdersAreWeights }
 {}
@@ -50,7 +51,7 @@ pub fn orders_are_monomial_orders()
 
 /// Buchberger's criterion, for a weight and for an order: a marked list is a Gröbner basis of the ideal that it
 /// generates exactly where the S-polynomial of each pair is a sum of multiples below the least common multiple of the
-/// marks; it is one where all S-polynomials reduce to zero (Becker, Weispfenning, theorems 5.35 and 5.64).
+/// marks; it is one where all S-polynomials reduce to zero (Becker, Weispfenning, *Gröbner Bases*).
 pub fn buchberger_criterion()
     ensures { BuchbergersCriterion }
 {}
