@@ -9,10 +9,10 @@ use Rattle.gf_text.specs.declared.error.TextError.TheVariants as errors
 use Rattle.gf_text.specs.Given.{Fails, HasNone}
 use Rattle.gf_text.specs.declared.ring_reader.RingPlace.TheVariants as at
 use Rattle.gf_text.specs.Machine.{Move, go, done, halt, after, Fault, Reads, HasOneMeaning}
-use Rattle.gf_text.specs.Tokens.{lexemes, one_byte, is_space}
+use Rattle.gf_text.specs.Tokens.{lexemes, one_byte}
 use Rattle.gf_text.specs.RingText.{is_name, is_new, has, AreNew, IsRing, IsRingText, ring_tokens, more_names, letter_q, bracket, comma, bracket_end, RingState, ring_step, ring_at, ring_words, names_text, RingsAreReadAgain}
 use Rattle.gf_text.proofs.MachineLaws.{after-go, after-done, first, not_yet, reads, is_read, one_meaning}
-use Rattle.gf_text.proofs.SpelledLaws.{spaced, spaced_at, texts-spaced, behind-spaced, tokens_of, tokens_of-++, letter_no_space}
+use Rattle.gf_text.proofs.SpelledLaws.{spaced, spaced_at, texts-spaced, behind-spaced, tokens_of, tokens_of-++, letter_of}
 
 -- ---- what the machine does at a token
 
@@ -214,12 +214,6 @@ pub one_ring : HasOneMeaning IsRingText
 one_ring = one_meaning ring_step IsRingText (at.Letter, []) ring_given
 
 -- ---- a printed ring is read again
-
--- a name is one letter, and a letter is no white space
-letter_of : (n : List ℕ) → is_name n ≡ true → (b : ℕ) × (n ≡ b ∷ []) × (is_space b ≡ false)
-letter_of [] e = cc
-letter_of (b ∷ []) e = (b, refl, letter_no_space b e)
-letter_of (b ∷ c ∷ bs) e = cc
 
 names_again : (before ns : Names) → AreNew before ns → tokens_of (flat_map (λ m. 44 ∷ m) ns) ≡ more_names ns
 names_again before [] new = refl

@@ -1,11 +1,11 @@
 -- The tokens of a text whose tokens are one byte each: its bytes, less the white space.
--- To cite: spaced_at, texts-spaced, behind-spaced, tokens_of-++, letter_no_space. The rest are steps.
+-- To cite: spaced_at, texts-spaced, behind-spaced, tokens_of-++, letter_of. The rest are steps.
 use Rattle.std.proofs.Common.{suc, Bool, true, if◌then◌else◌, ◌≡◌, ◌≢◌, ◌≤◌, ℕ, ◌+◌, true, false, List, [], ◌∷◌, ◌++◌, length, refl, ap, ◌∙◌, inl, inr, arith, ◌==◌}
 use Rattle.std.proofs.lemmas.Bool.Decides.{nat_tests, eqb_tells}
 use Rattle.std.proofs.Math.Seq.{drop-append_seam, drop-append-add}
 use Rattle.gf_text.specs.Machine.{Lexeme, texts, behind_all}
 use Rattle.gf_text.specs.Tokens.{is_space, lex, lexemes, one_byte}
-use Rattle.gf_text.specs.RingText.{is_letter}
+use Rattle.gf_text.specs.RingText.{is_letter, is_name}
 
 -- each byte that isn't white space as a token
 abbrev pub spaced : ℕ → List ℕ → List Lexeme
@@ -70,7 +70,13 @@ behind-spaced d at (x ∷ bs) b h =
 different : (a b : ℕ) → a ≢ b → (a == b) ≡ false
 different a b n = elim (eqb_tells a b) [ inl h ↦ absurd (n h.1) | inr h ↦ h.0 ]
 
-pub letter_no_space : (b : ℕ) → is_letter b ≡ true → is_space b ≡ false
+letter_no_space : (b : ℕ) → is_letter b ≡ true → is_space b ≡ false
 letter_no_space b h =
     let above : 65 ≤ b = grind (arith, nat_tests, h) in
     rw (different b 32 (λ e. absurd (omega arith)), different b 9 (λ e. absurd (omega arith)), different b 13 (λ e. absurd (omega arith)), different b 10 (λ e. absurd (omega arith))) refl
+
+-- a name is one letter, and a letter is no white space
+pub letter_of : (n : List ℕ) → is_name n ≡ true → (b : ℕ) × (n ≡ b ∷ []) × (is_space b ≡ false)
+letter_of [] e = cc
+letter_of (b ∷ []) e = (b, refl, letter_no_space b e)
+letter_of (b ∷ c ∷ bs) e = cc

@@ -1,13 +1,18 @@
 -- The tokens by which a set is said are a text of it.
--- To cite: set_tokens_said. The rest are steps.
-use Rattle.std.proofs.Common.{◌≡◌, ◌<◌, ℕ, zero, suc, ◌+◌, Bool, true, false, List, [], ◌∷◌, ◌++◌, length, get_or, Some, refl, sym, ap, ◌∙◌, inl, inr, append_assoc, bytes_eq, flat_map, arith, if◌then◌else◌, ◌||◌}
+-- To cite: sets_again. The rest are steps.
+use Rattle.std.proofs.Common.{◌≡◌, ◌<◌, ℕ, zero, suc, ◌+◌, Bool, true, false, ◌||◌, List, [], ◌∷◌, ◌++◌, length, get_or, Some, refl, sym, ap, subst, ◌∙◌, inl, inr, append_assoc, bytes_eq, flat_map, arith, if◌then◌else◌}
+use Rattle.std.proofs.lemmas.Grind.{flat_map-append}
+use Rattle.gf_text.specs.Machine.{texts, behind_all}
+use Rattle.gf_text.specs.Tokens.{is_space, lexemes, one_byte}
+use Rattle.gf_text.proofs.SpelledLaws.{spaced, spaced_at, texts-spaced, behind-spaced, tokens_of, letter_of}
+use Rattle.gf_text.proofs.SetTextLaws.{set_is_read}
 use Rattle.std.proofs.lemmas.List.Folds.{list_any-append}
 use Rattle.std.proofs.lemmas.Slice.Eq.{bytes_eq-Decides}
 use Rattle.std.specs.List.{position_from}
 use Rattle.gf_text.specs.declared.tree.WrittenTerm.{WrittenTerm}
 use Rattle.gf_text.specs.RingText.{has, AreNew, IsRing}
-use Rattle.gf_text.specs.SetText.{variable, minus, AreNames, AreMoreTerms, IsFrontSign, IsPolynomialText, AreMorePolynomials, IsSetText}
-use Rattle.gf_text.specs.WrittenText.{name_of, names_of, AreVariables, AreTerms, AreSums, later_tokens, polynomial_tokens, more_tokens, set_tokens}
+use Rattle.gf_text.specs.SetText.{variable, minus, brace_end, sign, AreNames, AreMoreTerms, IsFrontSign, IsPolynomialText, AreMorePolynomials, IsSetText}
+use Rattle.gf_text.specs.WrittenText.{name_of, names_of, AreVariables, AreTerms, AreSums, first_tokens, later_tokens, polynomial_tokens, more_tokens, set_tokens, set_words, SetsAreReadAgain}
 
 -- ---- each name of a ring is the name of its own variable
 
@@ -74,3 +79,90 @@ module _ (ring : List (List ℕ)) (is_ring : IsRing ring) where
   pub set_tokens_said : (qs : List (List WrittenTerm)) → AreSums ring qs → IsSetText ring (set_tokens ring qs) qs
   set_tokens_said [] h = refl
   set_tokens_said (q ∷ qs) h = (polynomial_tokens ring q, more_tokens ring qs, refl, polynomial_said q h.0 h.1, polynomials_said qs h.2)
+
+-- ---- each token is one byte that isn't white space
+
+abbrev pub IsByte : List ℕ → Type 0
+IsByte t = (b : ℕ) × (t ≡ b ∷ []) × (is_space b ≡ false)
+
+abbrev pub AreBytes : List (List ℕ) → Type 0
+AreBytes [] = Unit {0}
+AreBytes (t ∷ ts) = IsByte t × AreBytes ts
+
+bytes-++ : (ts us : List (List ℕ)) → AreBytes ts → AreBytes us → AreBytes (ts ++ us)
+bytes-++ [] us h k = k
+bytes-++ (t ∷ ts) us h k = (h.0, bytes-++ ts us h.1 k)
+
+-- the tokens of such tokens, one after another
+tokens_back : (ts : List (List ℕ)) → AreBytes ts → tokens_of (flat_map (λ t. t) ts) ≡ ts
+tokens_back [] h = refl
+tokens_back (t ∷ ts) h =
+    let P : List ℕ → Type 0 = λ u. tokens_of (u ++ flat_map (λ x. x) ts) ≡ u ∷ ts in
+    subst P (sym h.0.1) (rw (h.0.2) (ap (λ l. (h.0.0 ∷ []) ∷ l) (tokens_back ts h.1)))
+
+name_bytes : (before ns : List (List ℕ)) (v : ℕ) → AreNew before ns → v < length ns → IsByte (get_or ns v [])
+name_bytes before [] v new h = absurd (omega arith)
+name_bytes before (n ∷ ns) zero new h = letter_of n new.0
+name_bytes before (n ∷ ns) (suc v) new h = name_bytes (before ++ n ∷ []) ns v new.2 (omega arith)
+
+module _ (ring : List (List ℕ)) (is_ring : IsRing ring) where
+  names_bytes : (vs : List ℕ) → AreVariables ring vs → AreBytes (names_of ring vs)
+  names_bytes [] h = tt
+  names_bytes (v ∷ vs) h = (name_bytes [] ring v is_ring.different h.0, names_bytes vs h.1)
+
+  sign_byte : (m : Bool) → IsByte (sign m)
+  sign_byte true = (45, refl, refl)
+  sign_byte false = (43, refl, refl)
+
+  later_bytes : (us : List WrittenTerm) → AreTerms ring us → AreBytes (flat_map (later_tokens ring) us)
+  later_bytes [] h = tt
+  later_bytes (u ∷ us) h = (sign_byte u.minus, bytes-++ (names_of ring u.variables) (flat_map (later_tokens ring) us) (names_bytes u.variables h.1) (later_bytes us h.2))
+
+  first_sign_bytes : (m : Bool) → AreBytes (if m then minus ∷ [] else [])
+  first_sign_bytes true = ((45, refl, refl), tt)
+  first_sign_bytes false = tt
+
+  polynomial_bytes : (q : List WrittenTerm) → AreTerms ring q → AreBytes (polynomial_tokens ring q)
+  polynomial_bytes [] h = tt
+  polynomial_bytes (u ∷ us) h =
+      bytes-++ (first_tokens ring u) (flat_map (later_tokens ring) us)
+      (bytes-++ (if u.minus then minus ∷ [] else []) (names_of ring u.variables) (first_sign_bytes u.minus) (names_bytes u.variables h.1))
+      (later_bytes us h.2)
+
+  more_bytes : (qs : List (List WrittenTerm)) → AreSums ring qs → AreBytes (more_tokens ring qs)
+  more_bytes [] h = tt
+  more_bytes (q ∷ qs) h = ((44, refl, refl), bytes-++ (polynomial_tokens ring q) (more_tokens ring qs) (polynomial_bytes q h.1) (more_bytes qs h.2))
+
+  set_bytes : (qs : List (List WrittenTerm)) → AreSums ring qs → AreBytes (set_tokens ring qs)
+  set_bytes [] h = ((123, refl, refl), ((125, refl, refl), tt))
+  set_bytes (q ∷ qs) h =
+      ((123, refl, refl), bytes-++ (polynomial_tokens ring q) (more_tokens ring qs ++ brace_end ∷ []) (polynomial_bytes q h.1) (bytes-++ (more_tokens ring qs) (brace_end ∷ []) (more_bytes qs h.2) ((125, refl, refl), tt)))
+
+  -- the text of a set ends with the brace
+  last_brace : (qs : List (List WrittenTerm)) → (front : List ℕ) × (set_words ring qs ≡ front ++ 125 ∷ [])
+  last_brace [] = (123 ∷ [], refl)
+  last_brace (q ∷ qs) =
+      let a = polynomial_tokens ring q in
+      let b = more_tokens ring qs in
+      let front = 123 ∷ (flat_map (λ (t : List ℕ). t) a ++ flat_map (λ (t : List ℕ). t) b) in
+      let all : flat_map (λ (t : List ℕ). t) (a ++ (b ++ brace_end ∷ [])) ≡ (flat_map (λ (t : List ℕ). t) a ++ flat_map (λ (t : List ℕ). t) b) ++ 125 ∷ [] =
+      flat_map-append (λ (t : List ℕ). t) a (b ++ brace_end ∷ []) ∙ ap (λ l. flat_map (λ (t : List ℕ). t) a ++ l) (flat_map-append (λ (t : List ℕ). t) b (brace_end ∷ []))
+      ∙ sym (append_assoc (flat_map (λ (t : List ℕ). t) a) (flat_map (λ (t : List ℕ). t) b) (125 ∷ [])) in
+      (front, ap (λ l. 123 ∷ l) all)
+
+-- a set's text is read again
+pub sets_again : SetsAreReadAgain
+sets_again ring qs before text is sums =
+    let words = set_words ring qs in
+    let last = last_brace ring is qs in
+    let place : behind_all 0 (spaced (length before) words) ≡ length before + length words =
+    let P : List ℕ → Type 0 = λ w. behind_all 0 (spaced (length before) w) ≡ length before + length w in
+    subst P (sym last.1) (behind-spaced 0 (length before) last.0 125 refl) in
+    let tokens : texts (spaced (length before) words) ≡ set_tokens ring qs = texts-spaced (length before) words ∙ tokens_back (set_tokens ring qs) (set_bytes ring is qs sums) in
+    set_is_read ring is (before ++ (words ++ text)) (length before) qs (length before + length words) (record {
+      front = spaced (length before) words;
+      back = lexemes one_byte (before ++ (words ++ text)) (length before + length words);
+      whole = spaced_at before words text;
+      text = subst (λ ts. IsSetText ring ts qs) (sym tokens) (set_tokens_said ring is qs sums);
+      end = place;
+    })

@@ -1,8 +1,10 @@
 -- The tokens by which a set is said: each term with the names of its variables, a sign where one is needed.
 -- Laws: proofs/WrittenTextLaws.antt.
-use Rattle.std.specs.Prelude.{ℕ, ◌<◌, List, [], ◌∷◌, ◌++◌, length, map, flat_map, slice_index_or, if◌then◌else◌}
+use Rattle.std.specs.Prelude.{◌≡◌, ℕ, ◌+◌, ◌<◌, List, [], ◌∷◌, ◌++◌, length, map, flat_map, slice_index_or, if◌then◌else◌, Ok}
+use Rattle.gf_text.specs.Machine.{HasOneMeaning}
+use Rattle.gf_text.specs.RingText.{IsRing}
 use Rattle.gf_text.specs.declared.tree.WrittenTerm.{WrittenTerm}
-use Rattle.gf_text.specs.SetText.{minus, comma, brace, brace_end, sign}
+use Rattle.gf_text.specs.SetText.{minus, comma, brace, brace_end, sign, IsSetText, set_at}
 
 -- the name of a variable
 abbrev pub name_of : List (List ℕ) → ℕ → List ℕ
@@ -44,3 +46,16 @@ more_tokens ring qs = flat_map (λ q. comma ∷ polynomial_tokens ring q) qs
 abbrev pub set_tokens : List (List ℕ) → List (List WrittenTerm) → List (List ℕ)
 set_tokens ring [] = brace ∷ brace_end ∷ []
 set_tokens ring (q ∷ qs) = brace ∷ (polynomial_tokens ring q ++ (more_tokens ring qs ++ brace_end ∷ []))
+
+-- the text of a set: its tokens, one after another
+abbrev pub set_words : List (List ℕ) → List (List WrittenTerm) → List ℕ
+set_words ring qs = flat_map (λ t. t) (set_tokens ring qs)
+
+-- A set's text that stands anywhere in a text is read as what it says, whatever follows it.
+abbrev pub SetsAreReadAgain : Type 0
+SetsAreReadAgain = (ring : List (List ℕ)) (qs : List (List WrittenTerm)) (before text : List ℕ) → IsRing ring → AreSums ring qs
+    → set_at ring (before ++ (set_words ring qs ++ text)) (length before) ≡ Ok (qs, length before + length (set_words ring qs))
+
+-- a text is the text of one set at most
+abbrev pub SetsHaveOneMeaning : Type 0
+SetsHaveOneMeaning = (ring : List (List ℕ)) → IsRing ring → HasOneMeaning (IsSetText ring)

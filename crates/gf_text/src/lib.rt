@@ -21,7 +21,10 @@ mod written;
 
 pub use error::{Kind, Syntax, TextError};
 pub use names::{Name, Names, Ring};
-pub use printer::{Printer, rings_are_read_again, rings_have_one_meaning};
+pub use printer::{
+    Printer, rings_are_read_again, rings_have_one_meaning, sets_are_read_again,
+    sets_have_one_meaning,
+};
 pub use reader::Reader;
 pub use tokens::Token;
 pub use tree::{Variables, WrittenSet, WrittenTerm, WrittenTerms};

@@ -4,6 +4,7 @@ ghost use Rattle.gf_text.specs.RingText.{ring_text, names_text, RingsAreReadAgai
 ghost use Rattle.gf_text.specs.Machine.{HasOneMeaning};
 ghost use Rattle.gf_text.specs.PrintedSets.{polynomial_text, basis_text};
 ghost use Rattle.gf_text.specs.Sets.{IsIn};
+ghost use Rattle.gf_text.specs.WrittenText.{SetsAreReadAgain, SetsHaveOneMeaning};
 
 use crate::names::{Name, Ring};
 use crate::set_printer::{push_marked, push_members};
@@ -95,4 +96,14 @@ pub fn rings_are_read_again()
 /// A text is the text of one ring at most.
 pub fn rings_have_one_meaning()
     ensures { HasOneMeaning IsRingText }
+{}
+
+/// Each set that can be said in a ring has a text, which is read again as what it says, wherever it stands.
+pub fn sets_are_read_again()
+    ensures { SetsAreReadAgain }
+{}
+
+/// A text is the text of one set at most.
+pub fn sets_have_one_meaning()
+    ensures { SetsHaveOneMeaning }
 {}
