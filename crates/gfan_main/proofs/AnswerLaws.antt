@@ -17,7 +17,7 @@ use Rattle.gf_ideal.proofs.ListLaws.{contained_each}
 use Rattle.gfan_main.specs.declared.buchberger.bases.BasisError.{BasisError}
 use Rattle.gfan_main.specs.declared.buchberger.bases.BasisError.TheVariants as basis_errors
 use Rattle.gfan_main.specs.declared.refusal.Refusal.TheVariants as refusals
-use Rattle.gfan_main.specs.Answers.{nonzero, BeginsWithRing, IsRead, IsPrinted, IsAnswer, HasNoMeaning, BasisFails, of_text, of_basis, IsAnswerRefusal}
+use Rattle.gfan_main.specs.Answers.{nonzero, BeginsWithRing, IsRead, IsPrinted, IsAnswer, HasNoMeaning, BasisFails, of_text, of_basis, IsAnswerRefusal, budget}
 use Rattle.gfan_main.specs.Bases.{IsLexBasis, IsBasisRefusal}
 use Rattle.gfan_main.specs.Generators.{AreInRing}
 
@@ -87,13 +87,13 @@ set_refused source ring p text_errors.Memory b h = tt
 pub end_refused : (source : List ℕ) (ring : List (List ℕ)) (set : List Written) (p q : Position) (s : Syntax) → IsBehindRing source ring p → IsSetRead ring p q.at set → q.source ≡ p.source → (s ≡ no_meaning) × (IsBlank (rest q) → ⊥) → IsAnswerRefusal source (refusals.Syntax s)
 end_refused source ring set p q s b r e h = (h.0, HasNoMeaning.more ring set p.at q.at b.text (subst (λ (z : Position). IsSetRead ring z q.at set) (at_source source p b.source_is) r) (λ k. h.1 (subst (λ (z : Position). IsBlank (rest z)) (sym (at_source source q (e ∙ b.source_is))) k)))
 
-pub basis_refused : (source : List ℕ) (ring : List (List ℕ)) (set : List Written) (fs : List Terms) (n : ℕ) (e : BasisError) → IsRead source ring set → n ≡ length ring → fs ≡ nonzero set → IsBasisRefusal n fs e → IsAnswerRefusal source (of_basis e)
-basis_refused source ring set fs n e r en ef h = at e (subst (λ (k : ℕ). IsBasisRefusal k (nonzero set) e) en (subst (λ (gs : List Terms). IsBasisRefusal n gs e) ef h))
+pub basis_refused : (source : List ℕ) (ring : List (List ℕ)) (set : List Written) (fs : List Terms) (n : ℕ) (e : BasisError) → IsRead source ring set → n ≡ length ring → fs ≡ nonzero set → IsBasisRefusal n fs budget e → IsAnswerRefusal source (of_basis e)
+basis_refused source ring set fs n e r en ef h = at e (subst (λ (k : ℕ). IsBasisRefusal k (nonzero set) budget e) en (subst (λ (gs : List Terms). IsBasisRefusal n gs budget e) ef h))
   where
-    fails : (e : BasisError) → IsBasisRefusal (length ring) (nonzero set) e → BasisFails source e
+    fails : (e : BasisError) → IsBasisRefusal (length ring) (nonzero set) budget e → BasisFails source e
     fails e h = record { ring = ring; set = set; read = r; fails = h }
 
-    at : (e : BasisError) → IsBasisRefusal (length ring) (nonzero set) e → IsAnswerRefusal source (of_basis e)
+    at : (e : BasisError) → IsBasisRefusal (length ring) (nonzero set) budget e → IsAnswerRefusal source (of_basis e)
     at (basis_errors.Overflow o) h = inr (fails (basis_errors.Overflow o) h)
     at (basis_errors.Exponent o) h = inr (fails (basis_errors.Exponent o) h)
     at (basis_errors.PairBudget b u) h = fails (basis_errors.PairBudget b u) h

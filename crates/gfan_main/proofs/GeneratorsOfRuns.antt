@@ -17,7 +17,9 @@ use Rattle.gf_ideal.proofs.ListedTerms.{variables_by_terms}
 use Rattle.gf_ideal.proofs.WorkLaws.{work-marked}
 use Rattle.gfan_main.specs.Division.{ShareVariables, ReachedBeside, IsIrreducibleBeside, IsReductionCause}
 use Rattle.gfan_main.specs.Generators.{IsEntered, IsRefusedEntry, IsEntryRefusal, AreInRing, AreInSomeRing, HasEntered, IsGeneratorRefusal}
+use Rattle.gfan_main.specs.Pairs.{settled_count}
 use Rattle.gfan_main.specs.Runs.{State, IsState, IsRun, IsAppended, IsMonicRefusal}
+use Rattle.gfan_main.proofs.PairsLaws.{settled_count-member}
 use Rattle.gfan_main.proofs.RunSteps.{state_eq, in_variables, reached_by_steps, run-appended}
 
 -- ---- the run without members
@@ -33,6 +35,7 @@ run-none n fs = record {
 
 pub entered-none : (fs : List Terms) (s : State) → s.members ≡ [] → s.table ≡ record { members = 0; marks = [] } → s.queue ≡ [] → HasEntered fs 0 s
 entered-none fs s em et eq = record {
+  unsettled = ap settled_count et;
   run = λ n v. subst (IsRun n fs) (sym (state_eq s (record { members = []; table = record { members = 0; marks = [] }; queue = [] }) em et eq)) (run-none n fs);
   inside = λ n v k f l e. absurd (omega arith);
 }
@@ -85,10 +88,15 @@ entered_one n fs g old new v c run h = at h.left
 
 pub entered-more : (fs : List Terms) (i : ℕ) (g : Terms) (p : Terms) (old new : State) → i < length fs → g ≡ slice_index_or fs i g → p ≡ g → HasEntered fs i old → IsEntered p old new → HasEntered fs (i + 1) new
 entered-more fs i g p old new l e q h a = record {
+  unsettled = count a.left;
   run = λ n v. (one n v).0;
   inside = λ n v k f m d. here n v k f m d (cases_lt k i);
 }
   where
+    count : ((a.r ≡ []) × (new ≡ old)) ⊎ ((a.r ≢ []) × IsAppended a.r old new) → settled_count new.table ≡ 0
+    count (inl z) = ap (λ (s : State). settled_count s.table) z.1 ∙ h.unsettled
+    count (inr z) = ap settled_count z.1.table ∙ settled_count-member old.table ∙ h.unsettled
+
     one : (n : ℕ) → AreInRing n fs → IsRun n fs new × IsMember n (polys new.members) g × ((f : Terms) → IsMember n (polys old.members) f → IsMember n (polys new.members) f)
     one n v = entered_one n fs g old new v (i, l, sym e) (h.run n v) (subst (λ (z : Terms). IsEntered z old new) q a)
 

@@ -68,12 +68,16 @@ pub record SetFails (source : List ℕ) (fails : List (List ℕ) → Position �
   pub ring_text : BeginsWithRing source ring at
   pub set_fails : fails ring (record { source = source; at = at })
 
+-- how many pairs are settled at most
+abbrev pub budget : ℕ
+budget = 100000000
+
 -- the basis of what is read is refused in this way
 pub record BasisFails (source : List ℕ) (e : BasisError) : Type 0 where
   pub ring : List (List ℕ)
   pub set : List Written
   pub read : IsRead source ring set
-  pub fails : IsBasisRefusal (length ring) (nonzero set) e
+  pub fails : IsBasisRefusal (length ring) (nonzero set) budget e
 
 -- a refusal of a text, and of a basis, as one of the run
 abbrev pub of_text : TextError → Refusal

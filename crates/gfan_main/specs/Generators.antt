@@ -7,6 +7,7 @@ use Rattle.gf_poly.specs.Polynomial.{Terms, HasVariables, KeepsVariables}
 use Rattle.gf_poly.specs.Marking.{polys}
 use Rattle.gf_ideal.specs.Membership.{IsMember}
 use Rattle.gfan_main.specs.Division.{ReachedBeside, IsIrreducibleBeside, IsReductionCause}
+use Rattle.gfan_main.specs.Pairs.{settled_count}
 use Rattle.gfan_main.specs.Runs.{State, IsRun, IsAppended, IsMonicRefusal}
 
 -- r is what reduction leaves of f: zero, and the state is as before, or a new member
@@ -38,8 +39,9 @@ pub record AreInSomeRing (fs : List Terms) : Type 0 where
   pub n : ℕ
   pub each : AreInRing n fs
 
--- s is a state of a run on the polynomials, the first i of which are in the ideal of its members
+-- s is a state of a run on the polynomials, the first i of which are in the ideal of its members; no pair is settled yet
 pub record HasEntered (fs : List Terms) (i : ℕ) (s : State) : Type 0 where
+  pub unsettled : settled_count s.table ≡ 0
   pub run : (n : ℕ) → AreInRing n fs → IsRun n fs s
   pub inside : (n : ℕ) → AreInRing n fs → (k : ℕ) (f : Terms) → k < i → slice_index_or fs k f ≡ f → IsMember n (polys s.members) f
 

@@ -70,7 +70,7 @@ fn stopped(alloc: Global, n: u32, stop: Stop) -> BasisError
 pub fn basis(alloc: Global, n: u32, set: &[Poly], pairs: u64) -> Result<MarkedSet, BasisError>
     requires { AreInRing n set.now }
     ensures ok { IfOk result (IsLexBasis n set.now) }
-    ensures err { IfErr result (IsBasisRefusal n set.now) }
+    ensures err { IfErr result (IsBasisRefusal n set.now pairs) }
 {
     let start = match entered(alloc, set) {
         Ok(start) => start,
