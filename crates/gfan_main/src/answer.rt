@@ -26,8 +26,8 @@ fn with_nonzero(found: Vec<Poly>, read: &Written) -> Result<Vec<Poly>, AllocErro
     }
 }
 
-/// The polynomials of a set, without those of which nothing remains.
-pub fn polynomials(alloc: Global, set: &[Written]) -> Result<Vec<Poly>, AllocError>
+// The polynomials of a set, without those of which nothing remains.
+fn polynomials(alloc: Global, set: &[Written]) -> Result<Vec<Poly>, AllocError>
     ensures { IfOk result (λ fs. fs.items ≡ nonzero set.now) }
 {
     let mut found = Vec::new(alloc);

@@ -16,11 +16,16 @@ mod tests;
 use crate::run::run;
 use gf_outside::{StdSink, StdSource};
 use std::env;
+use std::io::ErrorKind;
 use std::process::ExitCode;
 
 fn main(rt: HostRuntime) -> ExitCode {
-    let Ok(args) = env::args(&rt) else {
-        return ExitCode::from(2);
+    let args = match env::args(&rt) {
+        Ok(args) => args,
+        Err(error) => {
+            let no_memory = error.kind() == ErrorKind::OutOfMemory;
+            return ExitCode::from(if no_memory { 7 } else { 2 });
+        }
     };
     let Ok(words) = args.skip(1).collect::<Vec<String>>(rt.alloc()) else {
         return ExitCode::from(7);

@@ -1,9 +1,6 @@
 // Whole runs over memory: what is written, and the status.
-use crate::answer::polynomials;
-use crate::buchberger::bases::{BasisError, basis};
 use crate::run::run;
 use gf_outside::{MAX_INPUT, MemSink, MemSource};
-use gf_text::Reader;
 use std::alloc::Global;
 use std::test::Fail;
 
@@ -146,21 +143,5 @@ fn a_byte_too_many_is_refused(rt: HostRuntime) -> Result<(), Fail> {
     )?;
     assert_eq!(rt; end.code, 1);
     assert_eq!(rt; end.written.as_slice(), b"".as_slice());
-    Ok(())
-}
-
-/// One pair isn't enough for the three cubics.
-#[test]
-fn a_spent_budget_is_answered(rt: HostRuntime) -> Result<(), Fail> {
-    let alloc = rt.alloc();
-    let mut reader = Reader::new(THREE_CUBICS);
-    let ring = reader.read_ring(alloc).ok().ok_or("a ring")?;
-    let set = reader.read_set(alloc, &ring).ok().ok_or("a set")?;
-    let generators = polynomials(alloc, &set)?;
-    let spent = match basis(alloc, ring.len(), &generators, 1) {
-        Err(BasisError::PairBudget { .. }) => true,
-        _ => false,
-    };
-    assert!(rt; spent);
     Ok(())
 }
