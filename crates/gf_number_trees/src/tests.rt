@@ -168,17 +168,19 @@ fn a_list_goes_on_after_any_node(rt: HostRuntime) -> Result<(), Fail> {
     Ok(())
 }
 
-/// Counts the jobs, and keeps the greatest number.
+/// Counts the jobs, and keeps which of the first 64 numbers came.
 #[derive(Drop)]
 struct Counting {
     jobs: AtomicU64,
-    greatest: AtomicU64,
+    numbers: AtomicU64,
 }
 
 impl Gate for Counting {
     fn at(&self, job: u64) {
         self.jobs.fetch_add(1, Ordering::SeqCst);
-        self.greatest.fetch_max(job, Ordering::SeqCst);
+        if job < 64 {
+            self.numbers.fetch_or(1 << job, Ordering::SeqCst);
+        }
     }
 }
 
@@ -189,14 +191,19 @@ fn jobs_are_numbered_in_turn(rt: HostRuntime) -> Result<(), Fail> {
         if 1 <= workers && workers <= 64 {
             let gate = Counting {
                 jobs: AtomicU64::new(0),
-                greatest: AtomicU64::new(0),
+                numbers: AtomicU64::new(0),
             };
             let mut waves = Waves::new(alloc, numbers(alloc, 500), 1, workers, &gate)?;
             let (all, _) = written(&rt, alloc, &mut waves, 600)?;
             assert_eq!(rt; all.len(), 500);
+            // as many as there were jobs, from 0 on: so each came once
             let jobs = gate.jobs.load(Ordering::SeqCst);
-            assert!(rt; jobs > 0);
-            assert_eq!(rt; gate.greatest.load(Ordering::SeqCst), jobs - 1);
+            let expected = if 1 <= jobs && jobs <= 64 {
+                u64::MAX >> (64 - jobs)
+            } else {
+                0
+            };
+            assert_eq!(rt; gate.numbers.load(Ordering::SeqCst), expected);
         }
     }
     Ok(())

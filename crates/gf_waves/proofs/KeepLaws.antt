@@ -1,12 +1,14 @@
 -- What is left stays the same, whatever is cut, listed or taken away.
--- To cite: halves_at, cut_keeps, set_keeps, removed_keeps, jobs_all, keeps_jobs, served_unspent, trimmed, trimmed_all, starts, refused_first.
-use Rattle.std.proofs.Common.{◌≡◌, ℕ, zero, suc, ◌<◌, ◌≤◌, ◌+◌, List, [], ◌∷◌, ◌++◌, ◌⊎◌, length, refl, sym, ap, inl, inr, subst, ◌∙◌, append_assoc, append-nil, add-one, Option, Some, None, IfSome, IsSome, get_or, set, take, drop, arith, cond, true, false, not, nat_eq, Bool, is_none, rules, sum_by}
+-- To cite: halves_at, cut_keeps, set_keeps, removed_keeps, jobs_all, keeps_jobs, served_unspent, trimmed, trimmed_all, trimmed_held, starts, refused_first, bounds.
+use Rattle.std.proofs.Common.{◌≡◌, ℕ, zero, suc, ◌<◌, ◌≤◌, ◌+◌, List, [], ◌∷◌, ◌++◌, ◌⊎◌, length, refl, sym, ap, inl, inr, subst, ◌∙◌, append_assoc, append-nil, add-one, Option, Some, None, IfSome, IsSome, get_or, map, set, take, drop, arith, cond, true, false, not, nat_eq, Bool, is_none, rules, sum_by}
 use Rattle.std.specs.List.{All, filter, fold, insert, remove}
-use Rattle.std.proofs.lemmas.List.Elements.{All-append, All-take, All-drop, All-cons, All-set, All-filter, filter_passes}
+use Rattle.std.proofs.lemmas.List.Elements.{All-append, All-take, All-drop, All-cons, All-set, All-filter, All-map, filter_passes}
+use Rattle.std.proofs.lemmas.List.{length-map}
 use Rattle.gf_walk.specs.Place.{Place}
+use Rattle.gf_walk.specs.Listing.{IsLeftAt}
 use Rattle.gf_waves.specs.declared.part.Part.{Part}
-use Rattle.gf_waves.specs.Stretches.{Stretch, RunLeaves, Follows, RunRefuses, IsFirstRefused}
-use Rattle.gf_waves.specs.Parts.{stretch, stretches, IsHeld, PartLeaves, PartsLeave, Keeps, KeepsAll, Halves, is_spent, IsJob, IsWithin, IsFilled, IsFresh, AreJobs, IsServed}
+use Rattle.gf_waves.specs.Stretches.{Stretch, RunLeaves, Follows, RunRefuses, IsBounded, IsFirstRefused, is_spent}
+use Rattle.gf_waves.specs.Parts.{stretch, stretches, IsHeld, PartLeaves, PartsLeave, Keeps, KeepsAll, Halves, IsJob, IsWithin, IsFilled, IsFresh, AreJobs, IsServed}
 
 module _ {W N : Type 0} (left : W → List N → Type 0) where
   spent_leaves : (ready : List N) (run : Option W) → cond (nat_eq (length ready) 0) (is_none run) false ≡ true → (items : List N) → Follows left ready run items → items ≡ []
@@ -47,30 +49,23 @@ module _ {T N L E : Type 0} (left : Place T N L → List N → Type 0) where
       (h.0, h.1 ++ l.1, l.2 ∙ ap (λ y. y ++ l.1) h.2 ∙ append_assoc h.0 h.1 l.1, h.3, (h.1, l.1, refl, h.4, l.4))
   keeps_cut (x ∷ ps) (suc i) p q r inside at k = keeps_tail x ps (insert (set ps i q) (suc i) r) (keeps_cut ps i p q r (omega arith) at k)
 
-  -- jobs
-  pub keeps_jobs : (refuses : Place T N L → E → Type 0) (ps qs : List (Part T N L E)) → length qs ≡ length ps → ((i : ℕ) (d : Part T N L E) → i < length ps → IsJob refuses left (get_or ps i d) (get_or qs i d)) → KeepsAll left ps qs
-  keeps_jobs refuses [] [] e z = λ items l. l
-  keeps_jobs refuses [] (q ∷ qs) e z = absurd (omega arith)
-  keeps_jobs refuses (p ∷ ps) [] e z = absurd (omega arith)
-  keeps_jobs refuses (p ∷ ps) (q ∷ qs) e z = λ items l. (l.0, l.1, l.2, (z zero p (omega arith)).kept l.0 l.3, keeps_jobs refuses ps qs (omega arith) (λ i d h. z (suc i) d (omega arith)) l.1 l.4)
-
-  by_test : (p : Part T N L E) (ps rest : List (Part T N L E)) → KeepsAll left ps rest → (b : Bool) → is_spent p ≡ b → KeepsAll left (p ∷ ps) (cond (not b) (p ∷ rest) rest)
+  by_test : (p : Part T N L E) (ps rest : List (Part T N L E)) → KeepsAll left ps rest → (b : Bool) → is_spent (stretch p) ≡ b → KeepsAll left (p ∷ ps) (cond (not b) (p ∷ rest) rest)
   by_test p ps rest h true e = λ items l. subst (PartsLeave left rest) (sym (l.2 ∙ ap (λ x. x ++ l.1) (spent_leaves left p.ready.items p.run e l.0 l.3))) (h l.1 l.4)
   by_test p ps rest h false e = keeps_tail p ps rest h
 
-  pub keeps_unspent : (ps : List (Part T N L E)) → KeepsAll left ps (filter (λ p. not (is_spent p)) ps)
+  pub keeps_unspent : (ps : List (Part T N L E)) → KeepsAll left ps (filter (λ p. not (is_spent (stretch p))) ps)
   keeps_unspent [] = λ items l. l
-  keeps_unspent (p ∷ ps) = by_test p ps (filter (λ p. not (is_spent p)) ps) (keeps_unspent ps) (is_spent p) refl
+  keeps_unspent (p ∷ ps) = by_test p ps (filter (λ p. not (is_spent (stretch p))) ps) (keeps_unspent ps) (is_spent (stretch p)) refl
 
   -- a part that has nothing left may go
-  keeps_gone : (ps : List (Part T N L E)) (i : ℕ) (p q : Part T N L E) → i < length ps → get_or ps i p ≡ p → Keeps left p q → is_spent q ≡ true → KeepsAll left ps (remove (set ps i q) i)
+  keeps_gone : (ps : List (Part T N L E)) (i : ℕ) (p q : Part T N L E) → i < length ps → get_or ps i p ≡ p → Keeps left p q → is_spent (stretch q) ≡ true → KeepsAll left ps (remove (set ps i q) i)
   keeps_gone [] i p q inside at k e = absurd (omega arith)
   keeps_gone (x ∷ ps) zero p q inside at k e = λ nodes l.
       let f = k l.0 (subst (λ y. PartLeaves left y l.0) at l.3) in
       subst (PartsLeave left ps) (sym (l.2 ∙ ap (λ y. y ++ l.1) (spent_leaves left q.ready.items q.run e l.0 f))) l.4
   keeps_gone (x ∷ ps) (suc i) p q inside at k e = keeps_tail x ps (remove (set ps i q) i) (keeps_gone ps i p q (omega arith) at k e)
 
-  pub removed_keeps : (ps rs news : List (Part T N L E)) (i : ℕ) (p q : Part T N L E) → rs ≡ ps → i < length ps → p ≡ get_or rs i p → news ≡ remove (set rs i q) i → Keeps left p q → is_spent q ≡ true → KeepsAll left ps news
+  pub removed_keeps : (ps rs news : List (Part T N L E)) (i : ℕ) (p q : Part T N L E) → rs ≡ ps → i < length ps → p ≡ get_or rs i p → news ≡ remove (set rs i q) i → Keeps left p q → is_spent (stretch q) ≡ true → KeepsAll left ps news
   removed_keeps ps rs news i p q e inside at is k spent =
       subst (λ y. KeepsAll left ps y) (sym (is ∙ ap (λ y. remove (set y i q) i) e)) (keeps_gone ps i p q inside (subst (λ y. get_or y i p ≡ p) e (sym at)) k spent)
 
@@ -94,26 +89,42 @@ served_by (x ∷ ready) run fault e (inr (inl h)) = inl (omega arith)
 served_by [] run fault e (inr (inl h)) = absurd (let k : not (is_none run) ≡ true = e in let f : not (is_none run) ≡ false = ap (λ r. not (is_none r)) h in let w : true ≡ false = sym k ∙ f in cc)
 
 -- after a wave the first part that is left has an item or was refused
-pub served : {T N L E : Type 0} (refuses : Place T N L → E → Type 0) (ps : List (Part T N L E)) → All IsFilled ps → All (IsFresh refuses) ps → All (λ p. not (is_spent p) ≡ true) ps → IsServed refuses ps
+pub served : {T N L E : Type 0} (refuses : Place T N L → E → Type 0) (ps : List (Part T N L E)) → All IsFilled ps → All (IsFresh refuses) ps → All (λ p. not (is_spent (stretch p)) ≡ true) ps → IsServed refuses ps
 served refuses [] filled fresh unspent = tt
 served refuses (p ∷ ps) filled fresh unspent = elim (served_by p.ready.items p.run p.fault (unspent zero p (omega arith)) (filled zero p (omega arith))) [ inl h ↦ inl h | inr h ↦ inr (h, fresh zero p (omega arith)) ]
 
-pub served_unspent : {T N L E : Type 0} (refuses : Place T N L → E → Type 0) (ps news : List (Part T N L E)) → news ≡ filter (λ p. not (is_spent p)) ps → All IsFilled ps → All (IsFresh refuses) ps → IsServed refuses news
+pub served_unspent : {T N L E : Type 0} (refuses : Place T N L → E → Type 0) (ps news : List (Part T N L E)) → news ≡ filter (λ p. not (is_spent (stretch p))) ps → All IsFilled ps → All (IsFresh refuses) ps → IsServed refuses news
 served_unspent refuses ps news e filled fresh =
-    subst (IsServed refuses) (sym e) (served refuses (filter (λ p. not (is_spent p)) ps) (All-filter (λ p. not (is_spent p)) IsFilled ps filled) (All-filter (λ p. not (is_spent p)) (IsFresh refuses) ps fresh) (filter_passes (λ p. not (is_spent p)) ps))
+    subst (IsServed refuses) (sym e) (served refuses (filter (λ p. not (is_spent (stretch p))) ps) (All-filter (λ p. not (is_spent (stretch p))) IsFilled ps filled) (All-filter (λ p. not (is_spent (stretch p))) (IsFresh refuses) ps fresh) (filter_passes (λ p. not (is_spent (stretch p))) ps))
 
-pub jobs_all : {T N L E : Type 0} (refuses : Place T N L → E → Type 0) (left : Place T N L → List N → Type 0) (ps qs : List (Part T N L E)) → AreJobs refuses left ps qs → All IsWithin qs × All IsFilled qs × All (IsFresh refuses) qs
-jobs_all refuses left ps qs jobs = (
-  (λ i d h. (jobs.each i d (let e = jobs.same_length in omega arith)).within),
-  (λ i d h. (jobs.each i d (let e = jobs.same_length in omega arith)).filled),
-  (λ i d h. (jobs.each i d (let e = jobs.same_length in omega arith)).fresh),
-)
+module _ {T N L E : Type 0} (lt : L → L → Type 0) (up : T → N → L → N → Type 0) (refuses : Place T N L → E → Type 0) where
+  -- jobs
+  pub keeps_jobs : (ps qs : List (Part T N L E)) → length qs ≡ length ps → ((i : ℕ) (d : Part T N L E) → i < length ps → IsJob lt up refuses (get_or ps i d) (get_or qs i d)) → KeepsAll (IsLeftAt lt up) ps qs
+  keeps_jobs [] [] e z = λ items l. l
+  keeps_jobs [] (q ∷ qs) e z = absurd (omega arith)
+  keeps_jobs (p ∷ ps) [] e z = absurd (omega arith)
+  keeps_jobs (p ∷ ps) (q ∷ qs) e z = λ items l. (l.0, l.1, l.2, (z zero p (omega arith)).kept l.0 l.3, keeps_jobs ps qs (omega arith) (λ i d h. z (suc i) d (omega arith)) l.1 l.4)
 
-pub trimmed : {T N L E : Type 0} (left : Place T N L → List N → Type 0) (ps news : List (Part T N L E)) → news ≡ filter (λ p. not (is_spent p)) ps → KeepsAll left ps news
+  pub jobs_all : (ps qs : List (Part T N L E)) → AreJobs lt up refuses ps qs → All IsWithin qs × All IsFilled qs × All (IsFresh refuses) qs
+  jobs_all ps qs jobs = (
+    (λ i d h. (jobs.each i d (let e = jobs.same_length in omega arith)).within),
+    (λ i d h. (jobs.each i d (let e = jobs.same_length in omega arith)).filled),
+    (λ i d h. (jobs.each i d (let e = jobs.same_length in omega arith)).fresh),
+  )
+
+pub trimmed : {T N L E : Type 0} (left : Place T N L → List N → Type 0) (ps news : List (Part T N L E)) → news ≡ filter (λ p. not (is_spent (stretch p))) ps → KeepsAll left ps news
 trimmed left ps news e = subst (KeepsAll left ps) (sym e) (keeps_unspent left ps)
 
-pub trimmed_all : {T N L E : Type 0} (P : Part T N L E → Type 0) (ps news : List (Part T N L E)) → news ≡ filter (λ p. not (is_spent p)) ps → All P ps → All P news
-trimmed_all P ps news e all = subst (All P) (sym e) (All-filter (λ p. not (is_spent p)) P ps all)
+pub trimmed_all : {T N L E : Type 0} (P : Part T N L E → Type 0) (ps news : List (Part T N L E)) → news ≡ filter (λ p. not (is_spent (stretch p))) ps → All P ps → All P news
+trimmed_all P ps news e all = subst (All P) (sym e) (All-filter (λ p. not (is_spent (stretch p))) P ps all)
+
+pub trimmed_held : {T N L E : Type 0} (workers : ℕ) (ps news : List (Part T N L E)) → news ≡ filter (λ p. not (is_spent (stretch p))) ps → length news ≤ length ps → IsHeld workers ps → IsHeld workers news
+trimmed_held workers ps news e fewer held = record {
+  within = trimmed_all IsWithin ps news e held.within;
+  few = (let a = held.few in omega arith);
+  some = held.some;
+  most = held.most;
+}
 
 -- one part: what is ready, and then what the walker has left
 pub starts : {T N L E : Type 0} (left : Place T N L → List N → Type 0) (run : Place T N L) (ready : List N) (p : Part T N L E) (parts parts0 : List (Part T N L E)) → parts0 ≡ [] → parts ≡ parts0 ++ p ∷ [] → p.run ≡ Some run → p.ready.items ≡ ready →
@@ -183,3 +194,10 @@ fold_ready n (p ∷ ps) = fold_ready (n + length p.ready.items) ps
 -- what is ready in the stretches is what is ready in the parts
 pub sum_ready : {T N L E : Type 0} (ps : List (Part T N L E)) → sum_by (λ s. length s.ready) (stretches ps) ≡ sum_by (λ p. length p.ready.items) ps
 sum_ready ps = fold_ready 0 ps
+
+-- parts within their bounds are stretches within theirs
+pub bounds : {T N L E : Type 0} (workers jobs : ℕ) (ps : List (Part T N L E)) → IsHeld workers ps → IsBounded (record { workers = workers; jobs = jobs; stretches = stretches ps })
+bounds workers jobs ps held = record {
+  within = All-map (λ t. length t.ready ≤ 32) stretch ps held.within;
+  few = (let e : length (stretches ps) ≡ length ps = length-map ps stretch in let f = held.few in omega arith);
+}

@@ -2,8 +2,9 @@
 ghost use Rattle.std.specs.Prelude.{◌≡◌, ◌≤◌, ◌*◌, length, sum_by};
 ghost use Rattle.std.specs.List.{All};
 ghost use Rattle.gf_walk.specs.Listing.{IsLeftAt};
-ghost use Rattle.gf_waves.specs.Parts.{Keeps, IsWithin, IsFilled, IsFresh, is_spent};
-ghost use Rattle.gf_waves.specs.Stretches.{RefusesAt};
+ghost use Rattle.gf_waves.specs.Parts.{Keeps, IsWithin, IsFilled, IsFresh, IsMore, IsIdle, stretch};
+ghost use Rattle.gf_waves.specs.Stretches.{RefusesAt, is_spent};
+ghost use Rattle.gf_waves.specs.Wave.{is_due};
 
 use gf_walk::{Split, Tree, Walker};
 use std::alloc::AllocError;
@@ -25,12 +26,15 @@ pub struct Part<T: Tree> {
 }
 
 /// Lists until the part is full, or its walker ends or is refused.
+#[tactic(auto, using(crate::proofs::PieceLaws::given_at_first))]
 pub fn list_on<T: Tree>(part: &mut Part<T>)
     requires { IsWithin part.old }
     ensures kept { Keeps (IsLeftAt T.before T.up) part.old part.new }
     ensures within { IsWithin part.new }
     ensures filled { IsFilled part.new }
     ensures fresh { IsFresh (RefusesAt T.up T.refuses) part.new }
+    ensures more { IsMore T.before T.up part.old part.new }
+    ensures idle { IsIdle part.old part.new }
 {
     part.fault = None;
     while part.ready.len() < CAP {
@@ -61,9 +65,16 @@ pub fn list_on<T: Tree>(part: &mut Part<T>)
 
 /// Whether a part has nothing left.
 pub fn is_spent<T: Tree>(part: &Part<T>) -> bool
-    ensures { result ≡ is_spent part.now }
+    ensures { result ≡ is_spent (stretch part.now) }
 {
     part.ready.is_empty() && part.run.is_none()
+}
+
+/// Whether a part is to be a job of the next wave: its walker is under way and it isn't full.
+pub fn is_due<T: Tree>(part: &Part<T>) -> bool
+    ensures { result ≡ is_due (stretch part.now) }
+{
+    part.run.is_some() && part.ready.len() < CAP
 }
 
 /// How many nodes are ready in all parts.

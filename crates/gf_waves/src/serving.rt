@@ -1,20 +1,21 @@
 //! Working the list off until its next node is ready, and giving it.
-ghost use Rattle.std.specs.Prelude.{◌≡◌, ◌≤◌, ℕ, length, List, false, IfOk, IfErr, OnErr, IsOk};
-ghost use Rattle.std.specs.List.{All};
+ghost use Rattle.std.specs.Prelude.{◌≡◌, ◌+◌, ◌≤◌, ℕ, List, map, count_by, if◌then◌else◌, Some, None, false, IfOk, IfErr, OnErr};
 ghost use Rattle.gf_walk.specs.Listing.{IsLeftAt, IsFirstOf};
-ghost use Rattle.gf_waves.specs.Parts.{KeepsAll, PartsLeave, IsHeld, IsServed, IsWithin, stretches};
-ghost use Rattle.gf_waves.specs.Stretches.{IsFirstRefused, RefusesAt};
+ghost use Rattle.gf_waves.specs.Parts.{KeepsAll, PartsLeave, IsHeld, IsServed, job_numbers, stretch, stretches};
+ghost use Rattle.gf_waves.specs.Stretches.{IsFirstRefused, RefusesAt, unspent};
+ghost use Rattle.gf_waves.specs.Wave.{IsTaken, IsWorkedOff, is_due, is_starved, job_number};
 
 use crate::Gate;
 use crate::cutting::{cut_all, trim};
-use crate::part::{CAP, Part};
+use crate::part::{self, Part};
 use crate::wave::wave;
 use gf_walk::Tree;
 use std::thread::Threads;
 
 /// Whether the first part has nothing ready.
 fn is_starved<T: Tree>(parts: &[Part<T>]) -> bool
-    ensures { result ≡ false → IsServed (RefusesAt T.up T.refuses) parts.now }
+    ensures is { result ≡ is_starved (stretches parts.now) }
+    ensures served { result ≡ false → IsServed (RefusesAt T.up T.refuses) parts.now }
 {
     match parts.first() {
         Some(part) => part.ready.is_empty(),
@@ -22,30 +23,32 @@ fn is_starved<T: Tree>(parts: &[Part<T>]) -> bool
     }
 }
 
-/// Whether a part is to be a job of the next wave: its walker is under way and it isn't full.
-fn is_due<T: Tree>(part: &Part<T>) -> bool {
-    part.run.is_some() && part.ready.len() < CAP
-}
-
-/// Gives a part the next job's number, where it is to be a job. At its last value the number stays.
-fn number_job<T: Tree>(part: &mut Part<T>, jobs: &mut u64)
-    ensures ready { part.new.ready.items ≡ part.old.ready.items }
-    ensures run { part.new.run ≡ part.old.run }
+/// Gives a part the next job's number, where it is to be a job. Answers the next number; at its last value it stays.
+fn number_job<T: Tree>(part: &mut Part<T>, next: u64) -> u64
+    ensures same { stretch part.new ≡ stretch part.old }
+    ensures number { part.new.job ≡ (if is_due (stretch part.old) then Some next else None) }
+    ensures next { result ≡ (if is_due (stretch part.old) then job_number (next + 1) else next) }
 {
-    part.job = None;
-    if is_due(part) {
-        part.job = Some(*jobs);
-        *jobs = jobs.saturating_add(1);
+    if !part::is_due(part) {
+        part.job = None;
+        return next;
     }
+    part.job = Some(next);
+    next.saturating_add(1)
 }
 
-/// Numbers the jobs of the next wave, in list order.
-fn number_jobs<T: Tree>(parts: &mut Vec<Part<T>>, jobs: &mut u64)
+/// Numbers the jobs of the next wave, in list order. Answers the next number.
+fn number_jobs<T: Tree>(parts: &mut Vec<Part<T>>, first: u64) -> u64
     ensures same { stretches parts.new.items ≡ stretches parts.old.items }
+    ensures numbers { map (λ p. p.job) parts.new.items ≡ job_numbers first (stretches parts.old.items) }
+    ensures next { result ≡ job_number (first + count_by is_due (stretches parts.old.items)) }
+    ensures grows { first ≤ result }
 {
+    let mut next = first;
     for index in 0..parts.len() {
-        number_job(&mut parts[index], jobs);
+        next = number_job(&mut parts[index], next);
     }
+    next
 }
 
 /// Works the list off until the first part has a node ready, or was refused.
@@ -64,11 +67,13 @@ where
     ensures kept { KeepsAll (IsLeftAt T.before T.up) parts.old.items parts.new.items }
     ensures held { IsHeld workers parts.new.items }
     ensures served { IsServed (RefusesAt T.up T.refuses) parts.new.items }
+    ensures jobs { jobs.old ≤ jobs.new }
+    ensures work { IsWorkedOff T.before T.up (RefusesAt T.up T.refuses) workers jobs.old (unspent (stretches parts.old.items)) jobs.new (stretches parts.new.items) }
 {
     trim(parts);
     if is_starved(parts.as_slice()) {
         cut_all(parts, workers);
-        number_jobs(parts, jobs);
+        *jobs = number_jobs(parts, *jobs);
         wave(rt, gate, parts);
         trim(parts);
     }
@@ -78,6 +83,7 @@ where
 pub fn give<T: Tree>(parts: &mut Vec<Part<T>>) -> Result<Option<T::Node>, T::Error>
     requires { IsServed (RefusesAt T.up T.refuses) parts.old.items }
     ensures ok { IfOk result (λ o. (nodes : List T.Node) → PartsLeave (IsLeftAt T.before T.up) parts.old.items nodes → IsFirstOf (PartsLeave (IsLeftAt T.before T.up) parts.new.items) nodes o) }
+    ensures taken { IsTaken (stretches parts.old.items) result (stretches parts.new.items) }
     ensures err { OnErr result (stretches parts.new.items ≡ stretches parts.old.items) }
     ensures refused { IfErr result (IsFirstRefused (RefusesAt T.up T.refuses) (stretches parts.new.items)) }
     ensures held { (workers : ℕ) → IsHeld workers parts.old.items → IsHeld workers parts.new.items }

@@ -1,7 +1,6 @@
 //! One wave: a job at each part, side by side.
 ghost use Rattle.std.specs.Prelude.{◌≡◌, ◌<◌, length, List};
 ghost use Rattle.std.specs.List.{All};
-ghost use Rattle.gf_walk.specs.Listing.{IsLeftAt};
 ghost use Rattle.gf_waves.specs.Parts.{AreJobs, IsWithin, IsJob};
 ghost use Rattle.gf_waves.specs.Stretches.{RefusesAt};
 
@@ -13,7 +12,7 @@ use std::thread::{self, Threads};
 /// A part's job, where it was given a number.
 fn work<T: Tree, G: Gate>(gate: &G, part: &mut Part<T>)
     requires { IsWithin part.old }
-    ensures { IsJob (RefusesAt T.up T.refuses) (IsLeftAt T.before T.up) part.old part.new }
+    ensures { IsJob T.before T.up (RefusesAt T.up T.refuses) part.old part.new }
 {
     if let Some(job) = part.job {
         gate.at(job);
@@ -28,14 +27,14 @@ where
     T::Label: Send,
     T::Error: Send,
     requires { All IsWithin parts.old }
-    ensures { AreJobs (RefusesAt T.up T.refuses) (IsLeftAt T.before T.up) parts.old parts.new }
+    ensures { AreJobs T.before T.up (RefusesAt T.up T.refuses) parts.old parts.new }
 {
     if parts.is_empty() {
         return;
     }
     let each = |_: usize, part: &mut Part<T>|
         requires { IsWithin part.now }
-        ensures { IsJob (RefusesAt T.up T.refuses) (IsLeftAt T.before T.up) part.entry.now part.exit.now }
+        ensures { IsJob T.before T.up (RefusesAt T.up T.refuses) part.entry.now part.exit.now }
     { work(gate, part) };
     thread::for_each_mut(rt, parts, parts.len(), &each);
 }
@@ -47,7 +46,7 @@ where
     T::Label: Send,
     T::Error: Send,
     requires { All IsWithin parts.old.items }
-    ensures { AreJobs (RefusesAt T.up T.refuses) (IsLeftAt T.before T.up) parts.old.items parts.new.items }
+    ensures { AreJobs T.before T.up (RefusesAt T.up T.refuses) parts.old.items parts.new.items }
 {
     wave_slice(rt, gate, parts.as_mut_slice());
 }

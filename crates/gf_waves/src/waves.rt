@@ -2,9 +2,10 @@
 //!
 //! What is left of the list is said in `specs/Stretches.antt`.
 ghost use Rattle.std.specs.Prelude.{◌≡◌, ◌+◌, ◌*◌, ◌≤◌, length, List, [], ◌∷◌, ◌++◌, IfOk, IfErr, OnErr, sum_by, Some};
-ghost use Rattle.gf_walk.specs.declared.mark.Mark.TheVariants.{Before};
+ghost use Rattle.gf_walk.specs.declared.mark.Mark.TheVariants.{Before, Listed};
 ghost use Rattle.gf_walk.specs.Listing.{Leaves, IsLeftAt, IsFirstOf};
-ghost use Rattle.gf_waves.specs.Stretches.{StretchesLeave, IsKept, IsFirstRefused, RefusesAt};
+ghost use Rattle.gf_waves.specs.Stretches.{StretchesLeave, IsKept, IsBounded, IsFirstRefused, RefusesAt};
+ghost use Rattle.gf_waves.specs.Wave.{IsCall};
 
 use crate::Gate;
 use crate::part::{Part, count_ready};
@@ -30,7 +31,7 @@ impl<'g, T: Tree, G: Gate> Model for Waves<'g, T, G> {
 
     ghost use Rattle.gf_waves.specs.Parts.{stretches, IsHeld};
 
-    ghost view = { λ w. record { workers = w.workers; stretches = stretches w.parts.items } };
+    ghost view = { λ w. record { workers = w.workers; jobs = w.jobs; stretches = stretches w.parts.items } };
 
     ghost invariant = { λ w. IsHeld w.workers w.parts.items };
 }
@@ -51,7 +52,7 @@ impl<'g, T: Tree, G: Gate> Waves<'g, T, G> {
         requires node { T.is_node tree root }
         requires some { 1 ≤ workers }
         requires most { workers ≤ 64 }
-        ensures workers { IfOk result (λ w. w.workers ≡ workers) }
+        ensures start { IfOk result (λ w. w ≡ record { workers = workers; jobs = 0; stretches = record { ready = root ∷ []; run = Some (record { tree = tree; here = root; mark = Listed; depth = 0 }) } ∷ [] }) }
         ensures list { IfOk result (λ w. (nodes : List T.Node) → Leaves T.before (T.up tree) Before root 0 nodes → StretchesLeave (IsLeftAt T.before T.up) w.stretches nodes) }
         ensures memory { IfErr result T.is_memory }
     {
@@ -82,7 +83,7 @@ impl<'g, T: Tree, G: Gate> Waves<'g, T, G> {
     ) -> Result<Self, T::Error>
         requires some { 1 ≤ workers }
         requires most { workers ≤ 64 }
-        ensures workers { IfOk result (λ w. w.workers ≡ workers) }
+        ensures start { IfOk result (λ w. w ≡ record { workers = workers; jobs = 0; stretches = record { ready = []; run = Some walker } ∷ [] }) }
         ensures list { IfOk result (λ w. (nodes : List T.Node) → IsLeftAt T.before T.up walker nodes → StretchesLeave (IsLeftAt T.before T.up) w.stretches nodes) }
         ensures memory { IfErr result T.is_memory }
     {
@@ -100,7 +101,7 @@ impl<'g, T: Tree, G: Gate> Waves<'g, T, G> {
         requires within { length ready.items ≤ 32 }
         requires some { 1 ≤ workers }
         requires most { workers ≤ 64 }
-        ensures workers { IfOk result (λ w. w.workers ≡ workers) }
+        ensures start { IfOk result (λ w. w ≡ record { workers = workers; jobs = 0; stretches = record { ready = ready.items; run = Some walker } ∷ [] }) }
         ensures list { IfOk result (λ w. (nodes rest : List T.Node) → nodes ≡ ready.items ++ rest → IsLeftAt T.before T.up walker rest → StretchesLeave (IsLeftAt T.before T.up) w.stretches nodes) }
         ensures memory { IfErr result T.is_memory }
     {
@@ -157,6 +158,9 @@ where
         ensures unchanged { OnErr result (IsKept (IsLeftAt T.before T.up) self.old.stretches self.new.stretches) }
         ensures refused { IfErr result (IsFirstRefused (RefusesAt T.up T.refuses) self.new.stretches) }
         ensures workers { self.new.workers ≡ self.old.workers }
+        ensures bounds { IsBounded self.new }
+        ensures jobs { self.old.jobs ≤ self.new.jobs }
+        ensures call { IsCall T.before T.up (RefusesAt T.up T.refuses) self.old result self.new }
     {
         serve(
             rt,

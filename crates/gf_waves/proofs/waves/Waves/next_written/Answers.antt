@@ -3,6 +3,7 @@ use Rattle.std.proofs.lemmas.Result.{IfOk-weaker, IfErr-weaker}
 use Rattle.gf_walk.specs.Listing.{IsLeftAt, IsFirstOf}
 use Rattle.gf_waves.specs.Stretches.{StretchesLeave, IsKept}
 use Rattle.gf_waves.specs.Parts.{stretches, PartsLeave}
+use Rattle.gf_waves.proofs.KeepLaws.{bounds}
 use Rattle.gf_waves.proofs.waves.Waves.next_written.Goals as goal
 
 pub invariant_of-self : goal.invariant_of-self
@@ -21,3 +22,6 @@ returns-clause-unchanged g c =
     rw (← c.self.view_is)
     (IfErr-weaker c.give.result (λ _. stretches c.give.new.parts.items ≡ stretches c.serve.new.parts.items) (λ _. IsKept left (stretches c.self.inside.parts.items) (stretches c.give.new.parts.items))
     (λ e h nodes l. subst (λ s. StretchesLeave left s nodes) (sym h) (c.serve.ensures.kept nodes l)) c.give.ensures.err)
+
+pub returns-clause-bounds : goal.returns-clause-bounds
+returns-clause-bounds g c = bounds c.self.inside.workers c.serve.new.jobs c.give.new.parts.items (c.give.ensures.held c.self.inside.workers c.serve.ensures.held)
