@@ -1,6 +1,6 @@
-mod EntriesLaws  -- entries that a loop appends; a reduced row in two parts
+mod EntriesLaws  -- entries that a loop appends or multiplies; a reduced row in two parts
 mod SystemLaws  -- the system by a vector, one vector further
-mod LiftLaws  -- lifted points in parts, the factor of a push, a push one entry further
+mod LiftLaws  -- what a row gives behind its pivot, the factor of a push, a push one entry further
 mod CarryLaws  -- the scale, the takings and the multipliers carried back, one entry further
 mod PointLaws  -- points of the recursion are positive on each row
 mod ScaleLaws  -- the scale is a multiple of each content that counts

@@ -6,13 +6,14 @@ ghost use Rattle.gf_gordan.specs.Steps.{Failed, IsWideStep, IsScaling, IsTakingO
 
 use crate::entries::over_content;
 use crate::error::{ConeOverflow, GordanError};
-use crate::operations::{against, product_at, quotient, total_at};
+use crate::operations::{against, product_at, total_at};
 use crate::system::System;
 use gf_int::gcd;
-use gf_vec::{IntVec, VecOp};
+use gf_vec::{IntVec, VecOp, quotient};
 use std::alloc::Global;
 
 /// The least common multiple of a scale and a content, or the scale where the multiplier is zero.
+/// Where the content is 1 that is the scale too.
 ///
 /// # Errors
 /// The product that the multiple is, where this leaves the range.
@@ -23,7 +24,7 @@ fn scaled_with(all: u64, scale: i128, content: i128, m: i128) -> Result<i128, Co
     ensures ok { IfOk result (λ z. (z ≡ scale_with scale content m) × InRange z) }
     ensures err { IfErr result (λ s. (m ≢ pos 0) × IsWideStep all VecOp.Mul (scale_part scale content) content s) }
 {
-    if m == 0 {
+    if m == 0 || content == 1 {
         return Ok(scale);
     }
     let common = gcd(scale.unsigned_abs(), content.unsigned_abs()) as i128;
@@ -48,24 +49,27 @@ fn scale(all: u64, contents: &[i128], multipliers: &[i128]) -> Result<i128, Cone
     Ok(scale)
 }
 
-/// How often a vector is taken, times the pivot and times its entry in the pivot's column.
+/// How often a vector is taken, its multiplier times what its content lacks of the scale: this times the pivot, and times
+/// its entry in the pivot's column.
 ///
 /// # Errors
 /// The first product that leaves the range.
 fn taken_once(
     row: u64,
     m: i128,
-    factor: i128,
+    scale: i128,
+    content: i128,
     size: i128,
     x: i128,
 ) -> Result<(i128, i128), ConeOverflow>
-    ensures ok { IfOk result (λ p. (p.0 ≡ size *ℤ (m *ℤ factor)) × InRange p.0 × (p.1 ≡ m *ℤ factor *ℤ x) × InRange p.1) }
-    ensures err { IfErr result (IsTakingOne row m factor size x) }
+    requires { pos 0 <ℤ content }
+    ensures ok { IfOk result (λ p. (p.0 ≡ size *ℤ (m *ℤ int_div scale content)) × InRange p.0 × (p.1 ≡ m *ℤ int_div scale content *ℤ x) × InRange p.1) }
+    ensures err { IfErr result (IsTakingOne row m (int_div scale content) size x) }
 {
     if m == 0 {
         return Ok((0, 0));
     }
-    let times = product_at(row, m, factor)?;
+    let times = product_at(row, m, quotient(scale, content))?;
     let own = product_at(row, times, size)?;
     let weighed = product_at(row, times, x)?;
     Ok((own, weighed))
@@ -101,8 +105,7 @@ pub(crate) fn carry(
     let mut out = Vec::with_capacity(alloc, multipliers.len())?;
     let mut sum = 0;
     for (i, m) in multipliers.iter().enumerate() {
-        let factor = quotient(scale, contents[i]);
-        let (own, weighed) = taken_once(i as u64, *m, factor, size, column[i])?;
+        let (own, weighed) = taken_once(i as u64, *m, scale, contents[i], size, column[i])?;
         out.push(own)?;
         sum = total_at(row, sum, weighed)?;
     }

@@ -9,6 +9,7 @@ use crate::answer::Answer;
 use crate::error::GordanError;
 use crate::found::Found;
 use crate::recursion::solve;
+use crate::workspace::Workspace;
 use gf_vec::IntVec;
 use std::alloc::Global;
 
@@ -32,7 +33,8 @@ pub fn strict(
     ensures err { IfErr result (Failed (IsStepOn (length rows.now + length equations.now) n rows.now equations.now)) }
 {
     let all = (rows.len() + equations.len()) as u64;
-    match solve(alloc, all, n as usize, rows, equations)? {
+    let found = solve(&mut Workspace::new(alloc), all, n as usize, rows, equations)?;
+    match found {
         Found::Point(v) => Ok(Answer::Point(v)),
         Found::Farkas(ms) => {
             let (first, second) = ms.as_slice().split_at(rows.len());

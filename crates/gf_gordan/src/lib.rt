@@ -18,6 +18,7 @@ mod lift;
 mod operations;
 mod recursion;
 mod system;
+mod workspace;
 
 pub use answer::Answer;
 pub use error::{ConeOverflow, GordanError};

@@ -176,9 +176,16 @@ fn wide_rows(rt: HostRuntime) -> Result<(), Fail> {
     Ok(())
 }
 
-// by hand: the second row is tested on the point (1), and the third on the same
+fn step_of(answer: Result<Answer, GordanError>) -> Option<ConeOverflow> {
+    match answer {
+        Err(GordanError::Cone(step)) => Some(step),
+        _ => None,
+    }
+}
+
+// by hand: the first row is tested on zero, the second on (1, 1)
 #[test]
-fn overflow_at_a_row(rt: HostRuntime) -> Result<(), Fail> {
+fn overflow_of_a_test(rt: HostRuntime) -> Result<(), Fail> {
     let alloc = rt.alloc();
     let rows = [
         IntVec::from_slice(alloc, &[1, 1])?,
@@ -190,10 +197,87 @@ fn overflow_at_a_row(rt: HostRuntime) -> Result<(), Fail> {
         left: LARGEST,
         right: LARGEST,
     };
-    match strict(alloc, 2, &rows, &[]) {
-        Ok(_answer) => assert!(rt; false),
-        Err(error) => assert_eq!(rt; error, GordanError::Cone(step)),
-    }
+    assert_eq!(rt; step_of(strict(alloc, 2, &rows, &[])), Some(step));
+    Ok(())
+}
+
+// by hand: the first row is reduced by the second, and its first product or its difference is too wide
+#[test]
+fn overflow_of_a_reduction(rt: HostRuntime) -> Result<(), Fail> {
+    let alloc = rt.alloc();
+    let rows = [
+        IntVec::from_slice(alloc, &[1, 3])?,
+        IntVec::from_slice(alloc, &[-LARGEST, 1])?,
+    ];
+    let step = ConeOverflow {
+        row: 0,
+        op: VecOp::Mul,
+        left: LARGEST,
+        right: 3,
+    };
+    assert_eq!(rt; step_of(strict(alloc, 2, &rows, &[])), Some(step));
+    let rows = [
+        IntVec::from_slice(alloc, &[1, LARGEST, LARGEST])?,
+        IntVec::from_slice(alloc, &[-1, 1, -1])?,
+    ];
+    let step = ConeOverflow {
+        row: 0,
+        op: VecOp::Sub,
+        left: LARGEST,
+        right: -1,
+    };
+    assert_eq!(rt; step_of(strict(alloc, 3, &rows, &[])), Some(step));
+    Ok(())
+}
+
+// by hand: what the first row gives on the second is too wide for the factor of a push; three times 2^126 for a lift by
+// the equation, whose number is that of the rows
+#[test]
+fn overflow_of_a_point(rt: HostRuntime) -> Result<(), Fail> {
+    let alloc = rt.alloc();
+    let rows = [
+        IntVec::from_slice(alloc, &[1 << 64, 0])?,
+        IntVec::from_slice(alloc, &[-(1 << 64), 1])?,
+    ];
+    let step = ConeOverflow {
+        row: 1,
+        op: VecOp::Mul,
+        left: 1 << 64,
+        right: -(1 << 64),
+    };
+    assert_eq!(rt; step_of(strict(alloc, 2, &rows, &[])), Some(step));
+    let rows = [
+        IntVec::from_slice(alloc, &[0, 1, 0])?,
+        IntVec::from_slice(alloc, &[0, -1, 1])?,
+    ];
+    let equations = [IntVec::from_slice(alloc, &[1 << 126, 0, 0])?];
+    let step = ConeOverflow {
+        row: 2,
+        op: VecOp::Mul,
+        left: 1 << 126,
+        right: 3,
+    };
+    assert_eq!(rt; step_of(strict(alloc, 3, &rows, &equations)), Some(step));
+    Ok(())
+}
+
+// by hand: the contents are 2^64 and 2^64 - 1, and their common multiple belongs to no row
+#[test]
+fn overflow_at_no_row(rt: HostRuntime) -> Result<(), Fail> {
+    let alloc = rt.alloc();
+    let rows = [
+        IntVec::from_slice(alloc, &[1, 0, 1])?,
+        IntVec::from_slice(alloc, &[1, 1 << 64, 0])?,
+        IntVec::from_slice(alloc, &[1, 1 - (1 << 64), 0])?,
+        IntVec::from_slice(alloc, &[-1, 0, 0])?,
+    ];
+    let step = ConeOverflow {
+        row: 4,
+        op: VecOp::Mul,
+        left: 1 << 64,
+        right: (1 << 64) - 1,
+    };
+    assert_eq!(rt; step_of(strict(alloc, 3, &rows, &[])), Some(step));
     Ok(())
 }
 

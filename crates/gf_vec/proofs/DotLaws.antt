@@ -1,6 +1,6 @@
 -- A dot product and its steps, one entry further.
 use Rattle.std.proofs.Common.{◌≡◌, List, ◌∷◌, ℤ, pos, length, ℕ, ◌+◌, ◌<◌, get_or, drop, ◌+ℤ◌, ◌*ℤ◌, arith, refl, sym, ◌∙◌, ap, subst, inl, inr}
-use Rattle.std.proofs.Math.IntN.{+ℤ_assoc, +ℤ_idl}
+use Rattle.std.proofs.Math.IntN.{+ℤ_assoc}
 use Rattle.std.proofs.lemmas.List.{drop_more}
 use Rattle.gf_vec.specs.Vector.{dot}
 use Rattle.gf_int.specs.Range.{InRange}
@@ -57,6 +57,3 @@ Kept-add xs ys i sum x y p w h e ex ey ep fp ew iw k =
     let pe : p ≡ get_or xs i (pos 0) *ℤ get_or ys i (pos 0) = cc in
     let fp' : InRange (get_or xs i (pos 0) *ℤ get_or ys i (pos 0)) = subst (λ z. InRange z) pe fp in
     k.first w (rw (split sum xs ys i h e) (inr (fp', inl (rw (← pe) (sym ew), iw))))
-
-pub Kept-none : (xs ys : List ℤ) → Kept xs ys 0 (pos 0)
-Kept-none xs ys = record { range = record { within = omega arith }; value = +ℤ_idl (dot xs ys); none = λ n. n; first = λ w f. f }

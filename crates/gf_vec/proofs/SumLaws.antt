@@ -39,9 +39,6 @@ split : (xs ys : List ℤ) (i : ℕ) → i < length xs → length xs ≡ length 
     sum_steps (drop i xs) (drop i ys) ≡ record { op = Add; left = get_or xs i (pos 0); right = get_or ys i (pos 0) } ∷ sum_steps (drop (i + 1) xs) (drop (i + 1) ys)
 split xs ys i h e = let k : i < length ys = omega arith in rw (drop_more xs i (pos 0), drop_more ys i (pos 0)) refl
 
-pub Summed-none : (xs ys : List ℤ) → Summed xs ys xs 0
-Summed-none xs ys = record { items = refl; range = tt; none = λ n. n; first = λ e f. f }
-
 -- the entry at i is as it was
 pub Summed-entry : (xs ys now : List ℤ) (i : ℕ) → i < length xs → length xs ≡ length ys → Summed xs ys now i → get_or now i (pos 0) ≡ get_or xs i (pos 0)
 Summed-entry xs ys now i h e s =
@@ -67,11 +64,6 @@ Summed-more xs ys now next i z h e ez fz en s =
 pub Summed-wide : (xs ys now : List ℤ) (i : ℕ) (x y : ℤ) (w : WideVector) → i < length xs → length xs ≡ length ys →
     x ≡ get_or xs i (pos 0) → y ≡ get_or ys i (pos 0) → w ≡ record { op = Add; left = x; right = y } → IsWide w → Summed xs ys now i → IsFirstWide w (sum_steps xs ys)
 Summed-wide xs ys now i x y w h e ex ey ew iw s = s.first w (rw (split xs ys i h e) (inl (rw (← ex, ← ey) (sym ew), iw)))
-
-pub Summed-all : (xs ys now : List ℤ) (i : ℕ) → length xs ≤ i → length xs ≡ length ys → Summed xs ys now i → All InRange now
-Summed-all xs ys now i h e s =
-    let d : drop i xs ≡ [] = drop_all i xs h in
-    subst (All InRange) (sym (s.items ∙ ap (λ l. plus (take i xs) (take i ys) ++ l) d ∙ append-nil _)) (All-from_recursion InRange _ s.range)
 
 -- a slice that was lent and comes back as long as before
 pub put_back : (len : ℕ) (new rest : List ℤ) → length new ≡ len → take len (new ++ rest) ≡ new

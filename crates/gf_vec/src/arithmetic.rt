@@ -1,7 +1,7 @@
 //! One operation on two entries: the exact outcome, or the refusal that names the operation.
 //!
-//! Operands of 64 bits take a short way: their product always fits.
-ghost use Rattle.std.specs.Prelude.{◌≡◌, ◌*ℤ◌, ◌↔◌, IsTrue, FitsSigned};
+//! Operands of 64 bits take a short way: their product always fits, and their quotient is worked out in 64 bits.
+ghost use Rattle.std.specs.Prelude.{◌≡◌, ◌*ℤ◌, ◌<ℤ◌, ◌↔◌, pos, int_div, IsTrue, FitsSigned};
 ghost use Rattle.std.specs.Int.{w64};
 ghost use Rattle.gf_int.specs.Range.{InRange};
 ghost use Rattle.gf_vec.specs.Steps.{Operates};
@@ -75,4 +75,23 @@ pub fn difference(x: i128, y: i128) -> Result<i128, WideVector>
             right: y,
         }),
     }
+}
+
+/// The quotient by a positive number, toward zero.
+pub fn quotient(x: i128, by: i128) -> i128
+    requires { pos 0 <ℤ by }
+    ensures { result ≡ int_div x by }
+{
+    if is_small(x) && is_small(by) {
+        return small_quotient(x as i64, by as i64);
+    }
+    x / by
+}
+
+/// The quotient of two numbers of 64 bits, by a positive one, toward zero.
+fn small_quotient(x: i64, by: i64) -> i128
+    requires { pos 0 <ℤ by }
+    ensures { result ≡ int_div x by }
+{
+    (x / by) as i128
 }

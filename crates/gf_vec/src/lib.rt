@@ -13,7 +13,7 @@ mod root_sign;
 mod sum;
 mod vector;
 
-pub use arithmetic::{difference, product, total};
+pub use arithmetic::{difference, product, quotient, total};
 pub use content::divide_by_content;
 pub use dot::dot_slices;
 pub use error::{VecError, VecOp, WideVector};

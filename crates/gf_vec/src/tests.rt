@@ -12,6 +12,8 @@ fn small_vectors(rt: HostRuntime) -> Result<(), Fail> {
     let second = IntVec::from_slice(rt.alloc(), &[3, -1])?;
     assert_eq!(rt; first.dot(&second), Ok(1));
     assert_eq!(rt; first.add(&second)?.as_slice(), [4, 1].as_slice());
+    let unit = IntVec::from_slice(rt.alloc(), &[1, 0])?;
+    assert_eq!(rt; unit.add(&first)?.as_slice(), [2, 2].as_slice());
     assert_eq!(rt; first.copy()? == first, true);
     assert_eq!(rt; first.lex_cmp(&second), Ordering::Less);
     let mut turned = IntVec::from_slice(rt.alloc(), &[0, -2, LARGEST])?;
@@ -53,6 +55,14 @@ fn wide_operations(rt: HostRuntime) -> Result<(), Fail> {
     };
     assert_eq!(rt; product(1 << 64, 1 << 63), Err(square));
     assert_eq!(rt; product(i64::MIN as i128, i64::MIN as i128), Ok(1 << 126));
+    let least = WideVector {
+        op: VecOp::Sub,
+        left: -LARGEST,
+        right: 1,
+    };
+    assert_eq!(rt; difference(-LARGEST, 1), Err(least));
+    assert_eq!(rt; quotient(-LARGEST, 2), -LARGEST / 2);
+    assert_eq!(rt; quotient(-7, 2), -3);
     let third = IntVec::from_slice(rt.alloc(), &[0, 1, LARGEST])?;
     match first.add(&third) {
         Ok(_) => assert!(rt; false),

@@ -53,6 +53,15 @@ impl IntVec {
         IntVec { entries }
     }
 
+    /// The entries, and the room that they are in.
+    pub fn into_vec(self) -> Vec<i128>
+        ensures value { result.items ≡ self }
+        ensures range { All InRange result.items }
+    {
+        let IntVec { entries } = self;
+        entries
+    }
+
     /// An equal vector.
     ///
     /// # Errors

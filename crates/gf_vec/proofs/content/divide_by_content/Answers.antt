@@ -2,8 +2,11 @@ use Rattle.std.proofs.Common.{◌≡◌, pos, arith, subst}
 use Rattle.std.specs.Int.{w128}
 use Rattle.std.proofs.lemmas.Int.{ints, to_z_pos}
 use Rattle.gf_int.specs.Content.{IsContent, quotients}
-use Rattle.gf_vec.proofs.DividedLaws.{IsDivided-one, IsDivided-quotients, range-quotients}
+use Rattle.gf_vec.proofs.DividedLaws.{IsContent-unit, IsDivided-one, IsDivided-quotients, range-quotients}
 use Rattle.gf_vec.proofs.content.divide_by_content.Goals as goal
+
+pub returns-then-has_unit-clause-divided : goal.returns-then-has_unit-clause-divided
+returns-then-has_unit-clause-divided c = IsDivided-one c.args.xs.now (IsContent-unit c.args.xs.now (c.has_unit.ensures.0 c.if-has_unit.true))
 
 pub returns-then-by-ne1-clause-divided : goal.returns-then-by-ne1-clause-divided
 returns-then-by-ne1-clause-divided c =
