@@ -1,8 +1,8 @@
 -- Monomials form a commutative monoid with cancellation; divisibility, least common multiples, quotients.
--- To cite: plus_assoc, plus_comm, same_trans, same_flip, same-plus, multiple_or_not, same_by_entries and entries_same,
--- by which a fact on exponent vectors becomes one on each entry. The rest are steps.
+-- To cite: plus_assoc, plus_comm, same_trans, same_flip, same-plus, multiple_or_not, same_by_entries, entries_same and
+-- same_lists, by which a fact on exponent vectors becomes one on each entry. The rest are steps.
 use Rattle.std.specs.Prelude.{◌≡◌, ◌⊎◌, ℕ, zero, suc, ◌+◌, ◌-◌, ◌≤◌, Bool, true, false, ◌&&◌, ◌==◌, [], ◌∷◌, max, length}
-use Rattle.std.proofs.Common.{arith, refl, sym, ap, ◌∙◌, inl, inr}
+use Rattle.std.proofs.Common.{arith, refl, sym, ap, ◌∙◌, inl, inr, get_or}
 use Rattle.std.proofs.lemmas.Bool.Decides.{nat_tests}
 use Rattle.std.proofs.lemmas.Bool.{cases_lt}
 use Rattle.gf_exponents.specs.Exponents.{Exponents, entry, same, plus, join, minus, AreCoprime, NoMultiple}
@@ -199,6 +199,18 @@ entries_same (a ∷ x) [] h zero = eq_by a 0 (both_true (a == 0) (same x []) h).
 entries_same (a ∷ x) [] h (suc i) = entries_same x [] (both_true (a == 0) (same x []) h).1 i
 entries_same (a ∷ x) (b ∷ y) h zero = eq_by a b (both_true (a == b) (same x y) h).0
 entries_same (a ∷ x) (b ∷ y) h (suc i) = entries_same x y (both_true (a == b) (same x y) h).1 i
+
+pub entry-get_or : (x : Exponents) (i : ℕ) → get_or x i 0 ≡ entry x i
+entry-get_or [] i = refl
+entry-get_or (a ∷ x) zero = refl
+entry-get_or (a ∷ x) (suc i) = entry-get_or x i
+
+-- two lists of one length with the same entries
+pub same_lists : (x y : Exponents) → length x ≡ length y → ((i : ℕ) → entry x i ≡ entry y i) → x ≡ y
+same_lists [] [] e h = refl
+same_lists [] (b ∷ y) e h = absurd (omega arith)
+same_lists (a ∷ x) [] e h = absurd (omega arith)
+same_lists (a ∷ x) (b ∷ y) e h = ap (λ c. c ∷ x) (h 0) ∙ ap (λ z. b ∷ z) (same_lists x y (omega arith) (λ i. h (suc i)))
 
 -- what the common multiple is made of: u, where x^u h is a multiple of the least one, x^l h
 pub over_join : (h k u v l : Exponents) → same (plus u h) (plus v k) ≡ true → same (plus l h) (join h k) ≡ true → same u (plus (minus (plus u h) (join h k)) l) ≡ true

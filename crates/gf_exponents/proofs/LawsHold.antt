@@ -1,9 +1,11 @@
 -- The laws that functions of this crate name.
 use Rattle.std.proofs.Common.{arith}
 use Rattle.gf_exponents.specs.Exponents.{plus, join, minus}
-use Rattle.gf_exponents.specs.Laws.{ProductsOfMonomials, LeastCommonMultiples, MonomialOrders, ComparisonsAreOrders}
+use Rattle.gf_exponents.specs.Laws.{ProductsOfMonomials, LeastCommonMultiples, MonomialOrders, TermOrders, RowsAreWholeWeights, ComparisonsAreOrders}
 use Rattle.gf_exponents.proofs.ExponentsLaws.{plus_assoc, plus_comm, same-plus, same_flip, minus_left, minus_right, same_by_entries, entries_same, entry-plus, entry-join, entry-minus}
-use Rattle.gf_exponents.proofs.OrderLaws.{lex-order, deglex-order, revlex-order, weighted-order, weighted_revlex-order, lex-compares, deglex-compares}
+use Rattle.gf_exponents.proofs.OrderLaws.{lex-compares, deglex-compares}
+use Rattle.gf_exponents.proofs.WholeWeightLaws.{row-less, row-alike, negated-less, negated-alike, natural-weight}
+use Rattle.gf_exponents.proofs.SixOrdersLaws.{order-is, term-order, term-weights}
 
 pub products : ProductsOfMonomials
 products = record { associative = plus_assoc; commutative = plus_comm; cancellative = same-plus }
@@ -19,7 +21,13 @@ least_common_multiples = record {
 }
 
 pub monomial_orders : MonomialOrders
-monomial_orders = record { by_lex = lex-order; by_deglex = deglex-order; by_revlex = revlex-order; by_weight = weighted-order; by_weight_and_revlex = weighted_revlex-order }
+monomial_orders = order-is
+
+pub term_orders : TermOrders
+term_orders = record { if_weights = term-order; only_if = term-weights }
+
+pub rows : RowsAreWholeWeights
+rows = record { less = row-less; alike = row-alike; negated_less = negated-less; negated_alike = negated-alike; natural = natural-weight }
 
 pub comparisons : ComparisonsAreOrders
 comparisons = record { by_lex = lex-compares; by_deglex = deglex-compares }

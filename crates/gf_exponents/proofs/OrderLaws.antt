@@ -75,7 +75,8 @@ lex-pad_left y h = record { at = h.at; before = λ i l. omega (arith, h.before i
     zeros zero = refl
     zeros (suc i) = refl
 
-first_zero : (y : Exponents) → IsLexBelow [] y ⊎ (same [] y ≡ true)
+-- 1 is below each other monomial, by lex
+pub first_zero : (y : Exponents) → IsLexBelow [] y ⊎ (same [] y ≡ true)
 first_zero [] = inr refl
 first_zero (suc b ∷ y) = inl (record { at = 0; before = λ i l. absurd (omega arith); here = omega arith })
 first_zero (zero ∷ y) = elim (first_zero y) [

@@ -1,9 +1,13 @@
 -- Weights and degrees of products, and of the same monomial.
--- To cite: weight-plus, weight-same, degree-plus, degree-same.
+-- To cite: weight-nil, weight-plus, weight-same, degree-plus, degree-same.
 use Rattle.std.specs.Prelude.{◌≡◌, ℕ, ◌+◌, ◌==◌, true, List, [], ◌∷◌}
 use Rattle.std.proofs.Common.{arith, refl, sym, ◌∙◌}
 use Rattle.gf_exponents.specs.Exponents.{Exponents, plus, same, weight, degree}
 use Rattle.gf_exponents.proofs.ExponentsLaws.{same-sym, both_true, eq_by}
+
+pub weight-nil : (w : List ℕ) → weight w [] ≡ 0
+weight-nil [] = refl
+weight-nil (w ∷ ws) = refl
 
 pub weight-plus : (w : List ℕ) (x y : Exponents) → weight w (plus x y) ≡ weight w x + weight w y
 weight-plus [] x y = refl

@@ -2,7 +2,7 @@
 -- The first variable comes first, and a variable past the end has exponent 0, so that two lists mean the
 -- same monomial where they differ by zeros at the end alone (`same`). No definition needs equal lengths.
 -- Laws: proofs/ExponentsLaws.antt, proofs/WeightLaws.antt. Source: Cox, Little, O'Shea, Ideals, Varieties, and Algorithms, 2.2.
-use Rattle.std.specs.Prelude.{◌≡◌, ◌⊎◌, ℕ, zero, suc, ◌+◌, ◌-◌, ◌*◌, ◌≤◌, Bool, true, false, ◌&&◌, ◌==◌, List, [], ◌∷◌, max}
+use Rattle.std.specs.Prelude.{◌≡◌, ◌⊎◌, ℕ, zero, suc, ◌+◌, ◌-◌, ◌*◌, ◌≤◌, Bool, true, false, ◌&&◌, ◌==◌, List, [], ◌∷◌, max, ℤ, pos, ◌+ℤ◌, ◌*ℤ◌}
 
 -- a monomial: the exponent of each variable
 abbrev pub Exponents : Type 0
@@ -70,3 +70,9 @@ abbrev pub weight : List ℕ → Exponents → ℕ
 weight [] x = 0
 weight (w ∷ ws) [] = 0
 weight (w ∷ ws) (a ∷ x) = w * a + weight ws x
+
+-- the weight of x by whole numbers w, which may be negative: the same sum
+abbrev pub whole_weight : List ℤ → Exponents → ℤ
+whole_weight [] x = pos 0
+whole_weight (w ∷ ws) [] = pos 0
+whole_weight (w ∷ ws) (a ∷ x) = w *ℤ pos a +ℤ whole_weight ws x

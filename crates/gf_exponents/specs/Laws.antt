@@ -1,8 +1,9 @@
 -- The laws of monomials and their orders that functions of this crate name.
-use Rattle.std.specs.Prelude.{◌≡◌, ℕ, List, length}
+use Rattle.std.specs.Prelude.{◌≡◌, ◌↔◌, ℕ, List, length, All, ℤ, pos, ◌<ℤ◌, ◌≤ℤ◌}
 use Rattle.std.specs.Ordering.{MatchOrdering}
-use Rattle.gf_exponents.specs.Exponents.{Exponents, same, plus, join, Divides}
-use Rattle.gf_exponents.specs.Orders.{IsMonomialOrder, IsLexBelow, IsDeglexBelow, IsRevlexBelow, IsWeightedBelow, IsWeightedRevlexBelow, lex, deglex}
+use Rattle.gf_exponents.specs.Exponents.{Exponents, same, plus, join, Divides, weight, whole_weight}
+use Rattle.gf_exponents.specs.Orders.{IsMonomialOrder, IsTermOrder, IsLexBelow, IsDeglexBelow, is_less, is_alike, row_of, negated_row_of, gains, lex, deglex}
+use Rattle.gf_exponents.specs.SixOrders.{MonomialOrder, below_of, HasTermWeights}
 
 -- products of monomials: associative, commutative, and a common factor cancels
 pub record ProductsOfMonomials : Type 0 where
@@ -16,13 +17,25 @@ pub record LeastCommonMultiples : Type 0 where
   pub right : (x y : Exponents) → Divides y (join x y)
   pub least : (x y z : Exponents) → Divides x z → Divides y z → Divides (join x y) z
 
--- lex, deglex, revlex and the two weighted orders are monomial orders
-pub record MonomialOrders : Type 0 where
-  pub by_lex : IsMonomialOrder IsLexBelow
-  pub by_deglex : IsMonomialOrder IsDeglexBelow
-  pub by_revlex : IsMonomialOrder IsRevlexBelow
-  pub by_weight : (w : List ℕ) → IsMonomialOrder (IsWeightedBelow w)
-  pub by_weight_and_revlex : (w : List ℕ) → IsMonomialOrder (IsWeightedRevlexBelow w)
+-- each of the six orders is a monomial order: total, transitive and kept by products
+abbrev pub MonomialOrders : Type 0
+MonomialOrders = (o : MonomialOrder) → IsMonomialOrder (below_of o)
+
+-- in n variables they are term orders exactly where their weights are those of one
+pub record TermOrders : Type 0 where
+  pub if_weights : (n : ℕ) (o : MonomialOrder) → HasTermWeights n o → IsTermOrder n (below_of o)
+  pub only_if : (n : ℕ) (o : MonomialOrder) → IsTermOrder n (below_of o) → HasTermWeights n o
+
+-- the row of whole weights compares as they do, and the row of their negatives the other way; where none is negative,
+-- what counts for an exponent is all
+pub record RowsAreWholeWeights : Type 0 where
+  pub less : (w : List ℤ) (x y : Exponents) → is_less (row_of w) x y ↔ whole_weight w x <ℤ whole_weight w y
+  pub alike : (w : List ℤ) (x y : Exponents) → is_alike (row_of w) x y ↔ (whole_weight w x ≡ whole_weight w y)
+  pub negated_less : (w : List ℤ) (x y : Exponents) →
+      is_less (negated_row_of w) x y ↔ whole_weight w y <ℤ whole_weight w x
+  pub negated_alike : (w : List ℤ) (x y : Exponents) →
+      is_alike (negated_row_of w) x y ↔ (whole_weight w x ≡ whole_weight w y)
+  pub natural : (w : List ℤ) (x : Exponents) → All (λ k. pos 0 ≤ℤ k) w → pos (weight (gains w) x) ≡ whole_weight w x
 
 -- the comparisons of lists of one length are these orders
 pub record ComparisonsAreOrders : Type 0 where

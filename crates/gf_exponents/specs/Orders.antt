@@ -2,11 +2,11 @@
 -- A first variable is greatest. Each order is said once as a relation (`Is..Below x y`: x is below y) by the first or
 -- last exponent that differs; lex and deglex are also said as the comparison that code computes.
 -- Laws: proofs/OrderLaws.antt. Source: Cox, Little, O'Shea, Ideals, Varieties, and Algorithms, 2.2.
-use Rattle.std.specs.Prelude.{◌≡◌, ◌⊎◌, ℕ, ◌+◌, ◌<◌, true, List}
+use Rattle.std.specs.Prelude.{◌≡◌, ◌⊎◌, ℕ, suc, ◌+◌, ◌<◌, true, List, [], ◌∷◌, ℤ, pos, negsuc}
 use Rattle.std.specs.Ordering.{nat_cmp, ordering_then}
 use Rattle.std.specs.Cmp.Lexicographic.{slice_cmp}
 use Rattle.std.specs.declared.cmp.Ordering.{Ordering}
-use Rattle.gf_exponents.specs.Exponents.{Exponents, entry, same, plus, degree, weight}
+use Rattle.gf_exponents.specs.Exponents.{Exponents, entry, same, plus, IsInRing, degree, weight}
 
 -- ---- comparisons of two lists of one length
 
@@ -32,6 +32,11 @@ pub record IsStrict (below : Exponents → Exponents → Type 0) : Type 0 where
 pub record IsMonomialOrder (below : Exponents → Exponents → Type 0) : Type 0 where
   pub strict : IsStrict below
   pub total : (x y : Exponents) → below x y ⊎ (same x y ≡ true) ⊎ below y x
+
+-- a term order of the monomials in n variables: a monomial order by which 1 is the least of them
+pub record IsTermOrder (n : ℕ) (below : Exponents → Exponents → Type 0) : Type 0 where
+  pub order : IsMonomialOrder below
+  pub least : (x : Exponents) → IsInRing n x → (same [] x ≡ true) ⊎ below [] x
 
 -- ---- the orders as relations
 
@@ -79,3 +84,23 @@ is_alike r x y = weight r.gain x + weight r.loss y ≡ weight r.gain y + weight 
 -- facet, by the row of the negated normal: the row is smaller, or equal and lex says so
 abbrev pub IsFacetBelow : Row → Exponents → Exponents → Type 0
 IsFacetBelow r x y = is_less r x y ⊎ (is_alike r x y × IsLexBelow x y)
+
+-- of whole weights, what counts for an exponent: the entries that aren't negative
+abbrev pub gains : List ℤ → List ℕ
+gains [] = []
+gains (pos k ∷ ws) = k ∷ gains ws
+gains (negsuc k ∷ ws) = 0 ∷ gains ws
+
+-- of whole weights, what counts against it: the entries that are negative, without their sign
+abbrev pub losses : List ℤ → List ℕ
+losses [] = []
+losses (pos k ∷ ws) = 0 ∷ losses ws
+losses (negsuc k ∷ ws) = suc k ∷ losses ws
+
+-- whole weights as a row
+abbrev pub row_of : List ℤ → Row
+row_of ws = record { gain = gains ws; loss = losses ws }
+
+-- their negatives as a row
+abbrev pub negated_row_of : List ℤ → Row
+negated_row_of ws = record { gain = losses ws; loss = gains ws }

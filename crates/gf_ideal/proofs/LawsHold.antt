@@ -4,12 +4,12 @@ use Rattle.std.proofs.Common.{refl}
 use Rattle.gf_exponents.specs.Exponents.{Exponents}
 use Rattle.gf_exponents.specs.Orders.{IsLexBelow, IsDeglexBelow, IsWeightedBelow}
 use Rattle.gf_ideal.specs.MonomialOrders.{below_of, IsOfGrade}
-use Rattle.gf_ideal.specs.Laws.{MembersAreSpanned, IdealsAreClosed, StepsKeepTheIdeal, GeneratorsMayBeExchanged, StepsLeaveLessWork, OrdersAreWeights, MarksHaveWeights, OrdersAreMonomialOrders}
+use Rattle.gf_ideal.specs.Laws.{MembersAreSpanned, IdealsAreClosed, StepsKeepTheIdeal, GeneratorsMayBeExchanged, StepsLeaveLessWork, OrdersAreWeights, MarksHaveWeights}
 use Rattle.gf_ideal.proofs.MembershipLaws.{member-equal, member-zero, member-generator, member-++, member-times, member-difference, spans_of_member, variables_of_member, member_of_spans, member-trans}
 use Rattle.gf_ideal.proofs.StepLaws.{member-reached, member-reached_back, member-s_polynomial}
 use Rattle.gf_ideal.proofs.GeneratorLaws.{dropped_generator, reduced_generator, monic_generator, member-monic, monic_list}
 use Rattle.gf_ideal.proofs.MeasureLaws.{work_left-smaller, work_left-smaller_at}
-use Rattle.gf_ideal.proofs.OrderWeights.{order-is, order-weights, lex-weights, deglex-weights, weighted-weights}
+use Rattle.gf_ideal.proofs.OrderWeights.{order-weights, lex-weights, deglex-weights, weighted-weights}
 use Rattle.gf_ideal.proofs.MarkWeights.{marked_positive, order-marks, list_traded, monic-weights}
 
 -- any two monomials
@@ -52,6 +52,3 @@ marks_have_weights = record {
   by_order = order-marks;
   of_monic_forms = monic-weights;
 }
-
-pub orders_are_monomial_orders : OrdersAreMonomialOrders
-orders_are_monomial_orders = order-is

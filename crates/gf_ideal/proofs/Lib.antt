@@ -11,6 +11,7 @@ pub mod RowLaws  -- comparisons by rows of weights, and one weight for all rows
 pub mod OrderWeights  -- the trade of an order for a weight
 pub mod GeneratorLaws  -- lists of generators with the same ideal
 pub mod MarkWeights  -- marks by an order are marks by a positive weight
+pub mod OrderTableLaws  -- the six orders row by row
 pub mod ListedTerms  -- from the lists that a program keeps to polynomials
 pub mod CriterionLaws  -- Buchberger's criterion for a weight
 pub mod SettledLaws  -- settled pairs

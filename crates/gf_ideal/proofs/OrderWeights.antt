@@ -1,16 +1,16 @@
 -- The trade of an order for a weight: inside a box of exponents, and among monomials of one grade, some weight compares
--- as the order does; and the six orders are monomial orders.
+-- as the order does.
 -- To cite: order-is, order-weights, order-positive, grading; IsShort, IsGrading, HasWeightsFor. The rest are steps.
 use Rattle.std.specs.Prelude.{◌≡◌, ◌⊎◌, ℕ, zero, suc, ◌+◌, ◌-◌, ◌*◌, ◌<◌, ◌≤◌, true, List, [], ◌∷◌, max}
 use Rattle.std.proofs.Common.{arith, refl, sym, ap, ◌∙◌, inl, inr}
 use Rattle.std.proofs.Math.Nat.{mul-le-mul_left}
 use Rattle.std.proofs.lemmas.Bool.{cases_lt}
 use Rattle.gf_exponents.specs.Exponents.{Exponents, entry, same, plus, degree, weight}
-use Rattle.gf_exponents.specs.Orders.{lighter, IsStrict, IsMonomialOrder, Row, is_less, is_alike, IsLexBelow, IsDeglexBelow, IsRevlexBelow, IsWeightedBelow, IsWeightedRevlexBelow, IsFacetBelow}
+use Rattle.gf_exponents.specs.Orders.{lighter, Row, is_less, is_alike, IsLexBelow, IsDeglexBelow, IsRevlexBelow, IsWeightedBelow, IsWeightedRevlexBelow, IsFacetBelow}
 use Rattle.gf_exponents.proofs.ExponentsLaws.{entry-plus, entries_same, same_by_entries}
-use Rattle.gf_exponents.proofs.WeightLaws.{weight-plus, weight-same}
-use Rattle.gf_exponents.proofs.OrderLaws.{lex-order, lex-strict, lex-total, deglex-order, revlex-order, weighted-order, weighted_revlex-order}
+use Rattle.gf_exponents.proofs.WeightLaws.{weight-nil, weight-plus, weight-same}
 use Rattle.gf_ideal.specs.Marks.{IsPositive}
+pub use Rattle.gf_exponents.proofs.SixOrdersLaws.{order-is}
 use Rattle.gf_ideal.specs.MonomialOrders.{MonomialOrder, below_of, IsOfGrade, HasNoLoss, IsAdmissible}
 use Rattle.gf_ideal.proofs.RingLaws.{rest, entry-rest, beyond}
 use Rattle.gf_ideal.proofs.RowLaws.{below_by, total, multiple, both_of, weight-multiple, weight-both, entry-both, weight-boxed, times_up, weights_for, lighter-by_rows, lex_rows, lex-by_rows, revlex_rows, revlex-by_rows}
@@ -111,12 +111,12 @@ abbrev pub ones : ℕ → List ℕ
 ones zero = []
 ones (suc n) = 1 ∷ ones n
 
-entry-ones : (n i : ℕ) → i < n → entry (ones n) i ≡ 1
+pub entry-ones : (n i : ℕ) → i < n → entry (ones n) i ≡ 1
 entry-ones zero i l = absurd (omega arith)
 entry-ones (suc n) zero l = refl
 entry-ones (suc n) (suc i) l = entry-ones n i (omega arith)
 
-degree-ones : (k : ℕ) (x : Exponents) → ((i : ℕ) → k ≤ i → entry x i ≡ 0) → weight (ones k) x ≡ degree x
+pub degree-ones : (k : ℕ) (x : Exponents) → ((i : ℕ) → k ≤ i → entry x i ≡ 0) → weight (ones k) x ≡ degree x
 degree-ones zero [] h = refl
 degree-ones zero (a ∷ x) h = omega (arith, h 0 (omega arith), degree-ones zero x (λ i l. h (suc i) (omega arith)))
 degree-ones (suc k) [] h = refl
@@ -165,23 +165,15 @@ abbrev lifted : ℕ → ℕ → List ℕ → List ℕ → List ℕ → List ℕ
 lifted zero c gain v loss = []
 lifted (suc n) c gain v loss = (entry gain 0 + c * entry v 0 - entry loss 0) ∷ lifted n c (rest gain) (rest v) (rest loss)
 
-weight-parts : (w : List ℕ) (x : Exponents) → weight w x ≡ entry w 0 * entry x 0 + weight (rest w) (rest x)
+pub weight-parts : (w : List ℕ) (x : Exponents) → weight w x ≡ entry w 0 * entry x 0 + weight (rest w) (rest x)
 unfolding rest
 weight-parts [] x = omega arith
-weight-parts (a ∷ w) [] = omega (arith, nothing w)
-  where
-    nothing : (w : List ℕ) → weight w [] ≡ 0
-    nothing [] = refl
-    nothing (w ∷ ws) = refl
+weight-parts (a ∷ w) [] = omega (arith, weight-nil w)
 weight-parts (a ∷ w) (b ∷ x) = refl
 
 front_weight : (a : ℕ) (w : List ℕ) (x : Exponents) → weight (a ∷ w) x ≡ a * entry x 0 + weight w (rest x)
 unfolding rest
-front_weight a w [] = omega (arith, nothing w)
-  where
-    nothing : (w : List ℕ) → weight w [] ≡ 0
-    nothing [] = refl
-    nothing (w ∷ ws) = refl
+front_weight a w [] = omega (arith, weight-nil w)
 front_weight a w (b ∷ x) = refl
 
 rest_agree : (n : ℕ) (x y : Exponents) → ((i : ℕ) → suc n ≤ i → entry x i ≡ entry y i) → (i : ℕ) → n ≤ i →
@@ -258,56 +250,7 @@ pub facet_gain-weights : (Alike : Exponents → Exponents → Type 0) (r : Row) 
     HasWeightsFor Alike (IsFacetBelow r)
 facet_gain-weights Alike r h = by_row Alike (is_less r) (is_alike r) (λ k. (r.gain, λ x y p q a. (λ l. omega (arith, l, weight-zeros r.loss x h, weight-zeros r.loss y h), λ e. omega (arith, e, weight-zeros r.loss x h, weight-zeros r.loss y h))))
 
--- ---- facet is a monomial order
-
-facet-strict : (r : Row) → IsStrict (IsFacetBelow r)
-facet-strict r = record { irreflexive = never; transitive = chain; invariant = shift; along_left = left; along_right = right }
-  where
-    never : (x y : Exponents) → same x y ≡ true → IsFacetBelow r x y → ⊥
-    never x y s (inl h) = absurd (omega (arith, h, weight-same r.gain x y s, weight-same r.loss x y s))
-    never x y s (inr h) = lex-strict.irreflexive x y s h.1
-
-    chain : (x y z : Exponents) → IsFacetBelow r x y → IsFacetBelow r y z → IsFacetBelow r x z
-    chain x y z (inl h) (inl k) = inl (omega (arith, h, k))
-    chain x y z (inl h) (inr k) = inl (omega (arith, h, k.0))
-    chain x y z (inr h) (inl k) = inl (omega (arith, h.0, k))
-    chain x y z (inr h) (inr k) = inr (omega (arith, h.0, k.0), lex-strict.transitive x y z h.1 k.1)
-
-    shift : (z x y : Exponents) → IsFacetBelow r x y → IsFacetBelow r (plus z x) (plus z y)
-    shift z x y (inl h) = inl (omega (arith, h, weight-plus r.gain z x, weight-plus r.gain z y, weight-plus r.loss z x, weight-plus r.loss z y))
-    shift z x y (inr h) = inr (omega (arith, h.0, weight-plus r.gain z x, weight-plus r.gain z y, weight-plus r.loss z x, weight-plus r.loss z y), lex-strict.invariant z x y h.1)
-
-    left : (x y z : Exponents) → same x y ≡ true → IsFacetBelow r x z → IsFacetBelow r y z
-    left x y z s (inl h) = inl (omega (arith, h, weight-same r.gain x y s, weight-same r.loss x y s))
-    left x y z s (inr h) = inr (omega (arith, h.0, weight-same r.gain x y s, weight-same r.loss x y s), lex-strict.along_left x y z s h.1)
-
-    right : (x y z : Exponents) → same y z ≡ true → IsFacetBelow r x y → IsFacetBelow r x z
-    right x y z s (inl h) = inl (omega (arith, h, weight-same r.gain y z s, weight-same r.loss y z s))
-    right x y z s (inr h) = inr (omega (arith, h.0, weight-same r.gain y z s, weight-same r.loss y z s), lex-strict.along_right x y z s h.1)
-
-facet-total : (r : Row) (x y : Exponents) → IsFacetBelow r x y ⊎ (same x y ≡ true) ⊎ IsFacetBelow r y x
-facet-total r x y = at (cases_lt (weight r.gain x + weight r.loss y) (weight r.gain y + weight r.loss x)) (cases_lt (weight r.gain y + weight r.loss x) (weight r.gain x + weight r.loss y)) (lex-total x y)
-  where
-    at : is_less r x y ⊎ (weight r.gain y + weight r.loss x ≤ weight r.gain x + weight r.loss y) →
-        (weight r.gain y + weight r.loss x < weight r.gain x + weight r.loss y) ⊎ (weight r.gain x + weight r.loss y ≤ weight r.gain y + weight r.loss x) →
-        IsLexBelow x y ⊎ (same x y ≡ true) ⊎ IsLexBelow y x →
-        IsFacetBelow r x y ⊎ (same x y ≡ true) ⊎ IsFacetBelow r y x
-    at (inl l) q i = inl (inl l)
-    at (inr g) (inl l) i = inr (inr (inl l))
-    at (inr g) (inr h) (inl l) = inl (inr (omega arith, l))
-    at (inr g) (inr h) (inr (inl e)) = inr (inl e)
-    at (inr g) (inr h) (inr (inr l)) = inr (inr (inr (omega arith, l)))
-
 -- ---- the six orders
-
--- each of the six is a monomial order
-pub order-is : (o : MonomialOrder) → IsMonomialOrder (below_of o)
-order-is MonomialOrder.lex = lex-order
-order-is MonomialOrder.deglex = deglex-order
-order-is MonomialOrder.revlex = revlex-order
-order-is (MonomialOrder.weighted w) = weighted-order w
-order-is (MonomialOrder.weighted_revlex w) = weighted_revlex-order w
-order-is (MonomialOrder.facet r) = record { strict = facet-strict r; total = facet-total r }
 
 -- each of the six goes by weights where it is admissible
 pub order-weights : (o : MonomialOrder) (n : ℕ) (grade : List ℕ) → IsAdmissible o n grade →

@@ -56,11 +56,6 @@ entry-both (v ∷ vs) [] (suc i) = omega arith
 entry-both (v ∷ vs) (w ∷ ws) zero = refl
 entry-both (v ∷ vs) (w ∷ ws) (suc i) = entry-both vs ws i
 
--- the weight of 1
-pub weight-nil : (w : List ℕ) → weight w [] ≡ 0
-weight-nil [] = refl
-weight-nil (w ∷ ws) = refl
-
 -- weights in a box are bounded
 pub weight-boxed : (k : ℕ) (w : List ℕ) (x : Exponents) → IsBoxed k x → weight w x ≤ total w * k
 weight-boxed k [] x h = omega arith

@@ -2,7 +2,7 @@
 use Rattle.std.specs.Prelude.{ℕ, ◌<◌, List, [], ◌∷◌, ◌++◌, Contains}
 use Rattle.gf_frac.specs.Fraction.{Fraction, neg_ℚ, one_ℚ}
 use Rattle.gf_exponents.specs.Exponents.{Exponents, IsInRing}
-use Rattle.gf_exponents.specs.Orders.{lighter, IsMonomialOrder, IsLexBelow, IsDeglexBelow, IsWeightedBelow}
+use Rattle.gf_exponents.specs.Orders.{lighter, IsLexBelow, IsDeglexBelow, IsWeightedBelow}
 use Rattle.gf_poly.specs.Polynomial.{Terms, SamePolynomial, times}
 use Rattle.gf_poly.specs.Marking.{MarkedPolynomial, polys}
 use Rattle.gf_ideal.specs.Membership.{HasMonomial, IsInVariables, AreInVariables, IsMember, AreSameIdeal, Spans}
@@ -83,7 +83,3 @@ pub record MarksHaveWeights : Type 0 where
       HasPositiveWeight n bs
   pub of_monic_forms : (n : ℕ) (bs cs : List MarkedPolynomial) → IsRealisable n bs → AreMonicForms bs cs →
       HasPositiveWeight n cs
-
--- each of the six orders is total, transitive and kept by products
-abbrev pub OrdersAreMonomialOrders : Type 0
-OrdersAreMonomialOrders = (o : MonomialOrder) → IsMonomialOrder (below_of o)

@@ -4,6 +4,7 @@ pub mod Reduction  -- steps, S-polynomials, monic forms
 pub mod Operands  -- the numbers that a step works on
 pub mod Measure  -- how much work a reduction may still have
 pub mod MonomialOrders  -- the six orders, and where each may be used
+pub mod OrderTable  -- the six orders row by row, as weights
 pub mod Bases  -- Gröbner bases, and the reduced ones
 pub mod Settled  -- when a pair is settled
 pub mod NormalForms  -- the normal form by a rule without choice

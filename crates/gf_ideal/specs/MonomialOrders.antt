@@ -1,33 +1,16 @@
--- The orders of a Gröbner basis computation, and on which polynomials each may be used.
+-- On which polynomials each of the six orders may be used, and what marks are compared by.
 -- An order that isn't a term order is good on polynomials that are homogeneous by a positive grading. So each case
 -- names a grading: the weights `grade` and the number n of variables; with no weights every polynomial is homogeneous.
 -- Laws: proofs/OrderWeights.antt. Source: Cox, Little, O'Shea, Ideals, Varieties, and Algorithms, 2.2; Sturmfels,
 -- Gröbner Bases and Convex Polytopes, 1 (weights in place of orders).
 use Rattle.std.specs.Prelude.{◌≡◌, ◌⊎◌, ℕ, ◌≤◌, List}
 use Rattle.gf_exponents.specs.Exponents.{Exponents, entry, weight}
-use Rattle.gf_exponents.specs.Orders.{Row, lighter, IsLexBelow, IsDeglexBelow, IsRevlexBelow, IsWeightedBelow, IsWeightedRevlexBelow, IsFacetBelow}
+use Rattle.gf_exponents.specs.Orders.{Row, lighter}
+pub use Rattle.gf_exponents.specs.SixOrders.{MonomialOrder, below_of}
 use Rattle.gf_poly.specs.Polynomial.{Terms}
 use Rattle.gf_poly.specs.Marking.{Each}
 use Rattle.gf_ideal.specs.Membership.{HasMonomial}
 use Rattle.gf_ideal.specs.Marks.{IsPositive}
-
--- the six orders; `facet` has the row of the negated normal of the facet
-pub data MonomialOrder : Type 0 where
-  lex : MonomialOrder
-  deglex : MonomialOrder
-  revlex : MonomialOrder
-  weighted : List ℕ → MonomialOrder
-  weighted_revlex : List ℕ → MonomialOrder
-  facet : Row → MonomialOrder
-
--- x is below y by the order
-abbrev pub below_of : MonomialOrder → Exponents → Exponents → Type 0
-below_of MonomialOrder.lex = IsLexBelow
-below_of MonomialOrder.deglex = IsDeglexBelow
-below_of MonomialOrder.revlex = IsRevlexBelow
-below_of (MonomialOrder.weighted w) = IsWeightedBelow w
-below_of (MonomialOrder.weighted_revlex w) = IsWeightedRevlexBelow w
-below_of (MonomialOrder.facet r) = IsFacetBelow r
 
 -- x and y have one grade, and agree past the first n variables
 abbrev pub IsOfGrade : ℕ → List ℕ → Exponents → Exponents → Type 0

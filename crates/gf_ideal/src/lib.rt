@@ -6,7 +6,8 @@
 #![tactic(auto)]
 
 ghost use Rattle.gf_ideal.specs.Theorems.{BuchbergersCriterion, PairsAreSettled, BasesGoByTheirMarks, MembershipIsDecided, NormalFormsAreUnique, BasesMayBeInterreduced, BasesMayBeArranged, ReducedBasesAreUnique, RunsEndWithABasis, SmallIdealsHaveBases};
-ghost use Rattle.gf_ideal.specs.Laws.{MembersAreSpanned, IdealsAreClosed, StepsKeepTheIdeal, GeneratorsMayBeExchanged, StepsLeaveLessWork, OrdersAreWeights, MarksHaveWeights, OrdersAreMonomialOrders};
+ghost use Rattle.gf_ideal.specs.OrderTable.{OrderTable, MultiplesAreHomogeneous};
+ghost use Rattle.gf_ideal.specs.Laws.{MembersAreSpanned, IdealsAreClosed, StepsKeepTheIdeal, GeneratorsMayBeExchanged, StepsLeaveLessWork, OrdersAreWeights, MarksHaveWeights};
 
 /// The members of an ideal, in whole numbers and in the ring's own variables, are the polynomials in these variables
 /// that are sums of multiples of the generators.
@@ -39,14 +40,20 @@ pub fn orders_are_weights()
     ensures { OrdersAreWeights }
 {}
 
+/// Order by order, on which monomials finitely many comparisons are made by one positive weight.
+pub fn order_table()
+    ensures { OrderTable }
+{}
+
+/// Polynomials that an order along a facet is good on: exponents that are multiples of the normal apart make a
+/// polynomial homogeneous by each weight that is orthogonal to the normal.
+pub fn multiples_are_homogeneous()
+    ensures { MultiplesAreHomogeneous }
+{}
+
 /// Marks that an order gives are given by a positive weight.
 pub fn marks_have_weights()
     ensures { MarksHaveWeights }
-{}
-
-/// Lex, deglex, revlex, the weighted orders and the order of a facet are total, and products keep them.
-pub fn orders_are_monomial_orders()
-    ensures { OrdersAreMonomialOrders }
 {}
 
 /// Buchberger's criterion, for a weight and for an order: a marked list is a Gröbner basis of the ideal that it

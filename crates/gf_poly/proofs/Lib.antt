@@ -7,3 +7,4 @@ pub mod ProductLaws  -- products term by term
 pub mod CollectLaws  -- sums of like terms, in a list in order
 pub mod SortLaws  -- a stable sort keeps coefficients and like terms
 pub mod MarkingLaws  -- marked terms, monic polynomials, lists of them
+pub mod InitialFormLaws  -- the terms of greatest weight

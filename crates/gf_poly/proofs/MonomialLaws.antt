@@ -11,14 +11,10 @@ use Rattle.gf_exponents.specs.Exponents.{Exponents, entry, plus, minus, join, de
 use Rattle.gf_poly.specs.declared.TheConstants.{ROOM}
 use Rattle.gf_poly.specs.Monomial.{IsMonomial, ProductFits, IsFirstOverflow}
 use Rattle.gf_poly.specs.declared.monomial.ExponentOverflow.{ExponentOverflow}
+pub use Rattle.gf_exponents.proofs.ExponentsLaws.{entry-get_or, same_lists}
 use Rattle.gf_exponents.proofs.ExponentsLaws.{entry-past, entry-plus, entry-minus, entry-join, entries_same, same_by_entries}
 
 -- ---- entries
-pub entry-get_or : (x : Exponents) (i : ℕ) → get_or x i 0 ≡ entry x i
-entry-get_or [] i = refl
-entry-get_or (a ∷ x) zero = refl
-entry-get_or (a ∷ x) (suc i) = entry-get_or x i
-
 -- the first n entries of all are x
 pub taken_is : (n : ℕ) (all x : List ℕ) → length x ≡ n → n ≤ length all → ((i : ℕ) → i < n → get_or all i 0 ≡ entry x i) → take n all ≡ x
 taken_is zero all [] e l h = refl
@@ -55,12 +51,6 @@ divides_by_entries x y h = record {
 
 pub entries_by_divides : (x y : Exponents) → Divides x y → (i : ℕ) → entry x i ≤ entry y i
 entries_by_divides x y d i = omega (arith, entries_same y (plus d.rest x) d.product i, entry-plus d.rest x i)
-
-pub same_lists : (x y : Exponents) → length x ≡ length y → ((i : ℕ) → entry x i ≡ entry y i) → x ≡ y
-same_lists [] [] e h = refl
-same_lists [] (b ∷ y) e h = absurd (omega arith)
-same_lists (a ∷ x) [] e h = absurd (omega arith)
-same_lists (a ∷ x) (b ∷ y) e h = ap (λ c. c ∷ x) (h 0) ∙ ap (λ z. b ∷ z) (same_lists x y (omega arith) (λ i. h (suc i)))
 
 -- a quotient times the divisor
 pub plus-minus : (x y : Exponents) → length x ≡ length y → Divides y x → plus (minus x y) y ≡ x

@@ -20,7 +20,7 @@ mod products;
 
 pub use error::PolyError;
 use gf_frac::Frac;
-pub use laws::unique_terms;
+pub use laws::{unique_initial_forms, unique_terms};
 pub use lists::{Pairs, Polys};
 pub use marked::Marked;
 pub use marked_set::MarkedSet;

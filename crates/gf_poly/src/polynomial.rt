@@ -9,6 +9,8 @@ ghost use Rattle.gf_poly.specs.Collecting.{LikeSumsFit, IsLikeSumCause};
 ghost use Rattle.gf_poly.specs.Products.{HasProducts, IsScaled, IsScaleCause, ScalesFit, IsProductCause, ProductsFit};
 ghost use Rattle.gf_poly.specs.Sums.{IsSum, IsDifference, LikeTermsFit, IsLikeCause};
 
+mod initial_form;
+
 use super::Term;
 use super::collect::{collected, sorted};
 use super::error::PolyError;
@@ -101,6 +103,23 @@ impl Poly {
         let ordered = sorted(terms)?;
         let terms = collected(alloc, &ordered)?;
         Ok(Poly { terms })
+    }
+
+    /// The polynomial with these terms, which descend in deglex and have nonzero coefficients; nothing is copied.
+    pub fn from_descending(terms: Vec<Term>) -> Poly
+        requires { IsDescending terms.items }
+        ensures { result ≡ terms.items }
+    {
+        Poly { terms }
+    }
+
+    /// Its terms, descending in deglex; nothing is copied.
+    pub fn into_terms(self) -> Vec<Term>
+        ensures value { result.items ≡ self }
+        ensures descending { IsDescending self }
+    {
+        let Poly { terms } = self;
+        terms
     }
 
     /// The terms, descending in deglex.

@@ -4,6 +4,7 @@ ghost use Rattle.gf_poly.specs.Polynomial.{HasVariables};
 
 use super::*;
 use gf_frac::Op;
+use gf_vec::IntVec;
 use std::alloc::Global;
 use std::test::Fail;
 
@@ -28,6 +29,15 @@ fn two(first: Term, second: Term, alloc: Global) -> Result<Poly, PolyError>
     ensures { IfOk result (HasVariables 3) }
 {
     let terms = vec![in alloc; first, second]?;
+    Poly::from_terms(terms)
+}
+
+// The sum of three terms.
+fn three(first: Term, second: Term, third: Term, alloc: Global) -> Result<Poly, PolyError>
+    requires { HasVariables 3 (first ∷ second ∷ third ∷ []) }
+    ensures { IfOk result (HasVariables 3) }
+{
+    let terms = vec![in alloc; first, second, third]?;
     Poly::from_terms(terms)
 }
 
@@ -237,5 +247,35 @@ fn monomials(rt: HostRuntime) -> Result<(), Fail> {
     assert!(rt; !first.divides(&second));
     assert_eq!(rt; join.quotient(&first).exponents(), [0, 3, 0].as_slice());
     assert_eq!(rt; first.mul(&second)?.exponents(), [1, 3, 4].as_slice());
+    Ok(())
+}
+
+// a worked value of the documentation, a + b for the weight (1,1) of a + b + 1; a negative weight; the widest one
+#[test]
+fn initial_forms(rt: HostRuntime) -> Result<(), Fail> {
+    let alloc = rt.alloc();
+    let sum = three(
+        term(alloc, 1, 1, 0, 0),
+        term(alloc, 1, 0, 1, 0),
+        term(alloc, 1, 0, 0, 0),
+        alloc,
+    )?;
+    let weight = IntVec::from_slice(alloc, &[1, 1, 0])?;
+    assert!(rt;
+        lists(
+            &sum.initial_form(&weight)?,
+            &[(1, 1, [1, 0, 0]), (1, 1, [0, 1, 0])]
+        )
+    );
+    let weight = IntVec::from_slice(alloc, &[-1, 0, 5])?;
+    assert!(rt;
+        lists(
+            &sum.initial_form(&weight)?,
+            &[(1, 1, [0, 1, 0]), (1, 1, [0, 0, 0])]
+        )
+    );
+    let weight = IntVec::from_slice(alloc, &[1 << 63, -(1 << 63), 0])?;
+    assert!(rt; lists(&sum.initial_form(&weight)?, &[(1, 1, [1, 0, 0])]));
+    assert!(rt; Poly::zero(alloc).initial_form(&weight)?.is_zero());
     Ok(())
 }

@@ -1,0 +1,5 @@
+use Rattle.gf_exponents.proofs.WholeWeightLaws.{length-losses}
+use Rattle.gf_order.proofs.order.Order.facet.Goals as goal
+
+pub returns-clause-entries : goal.returns-clause-entries
+returns-clause-entries c = length-losses c.args.normal
