@@ -1,0 +1,111 @@
+-- Moves of the place in a polynomial under reduction.
+-- To cite: moved, not_empty, over_last, none_passed, one_passed, descends_at, first_there, shorter, none_up, one_up, terms_up,
+-- first_coefficient, first_nonzero, first_length.
+use Rattle.std.specs.Prelude.{◌≡◌, ◌≢◌, ℕ, zero, suc, ◌-◌, ◌<◌, [], ◌∷◌, ◌++◌, length, reverse}
+use Rattle.std.specs.declared.cmp.Ordering.{Ordering}
+use Rattle.std.specs.declared.cmp.Ordering.TheVariants.{Less, Greater}
+use Rattle.std.proofs.Common.{arith, refl, sym, ap, ◌∙◌, subst, get_or, append_assoc, append-nil}
+use Rattle.std.proofs.lemmas.List.{reverse-append, length-reverse}
+use Rattle.gf_exponents.specs.Exponents.{Exponents}
+use Rattle.gf_exponents.specs.Orders.{deglex}
+use Rattle.gf_poly.specs.declared.Term.{Term}
+use Rattle.gf_frac.specs.Fraction.{zero_ℚ}
+use Rattle.gf_poly.specs.Polynomial.{Terms, coefficient, IsDescending, HasVariables}
+use Rattle.gf_poly.specs.Marking.{head_of}
+use Rattle.gf_poly.proofs.DescendingLaws.{greater_trans}
+use Rattle.gf_ideal.proofs.ListLaws.{Each-++}
+use Rattle.gf_division.proofs.DescendingParts.{descending-back, variables-back, coefficient-midst}
+use Rattle.gf_division.specs.Dividends.{Split, terms_of, IsSound, IsFirst, AreOver, Advances, FirstIs, Descends, MovesUp}
+
+-- ---- one term over the place
+
+pub moved : (a b c d : Terms) (t : Term) → b ≡ d ++ t ∷ [] → c ≡ a ++ t ∷ [] → Advances (record { above = a; below = reverse b }) (record { above = c; below = reverse d })
+moved a b c d t e k = record { term = t; below = ap reverse e ∙ reverse-append d (t ∷ []); above = k }
+
+-- a list that isn't empty below the place
+pub not_empty : (b : Terms) → reverse b ≢ [] → 0 < length b
+not_empty [] n = absurd (n refl)
+not_empty (t ∷ b) n = omega arith
+
+-- ---- the last term above the place
+
+at_last : (x : Exponents) (f : Terms) (k : ℕ) (t : Term) → length f ≡ suc k → t ≡ get_or f k t → deglex t.mono x ≡ Greater → IsDescending f → AreOver x f
+at_last x [] k t l e g d = absurd (omega arith)
+at_last x (s ∷ []) zero t l e g d = (ap (λ (u : Term). deglex u.mono x) (sym e) ∙ g, tt)
+at_last x (s ∷ []) (suc k) t l e g d = absurd (omega arith)
+at_last x (s ∷ u ∷ f) zero t l e g d = absurd (omega arith)
+at_last x (s ∷ u ∷ f) (suc k) t l e g d =
+    let r = at_last x (u ∷ f) k t (omega arith) e g d.2 in
+    (greater_trans s.mono u.mono x d.1.0 r.0, r)
+
+pub over_last : (x : Exponents) (f : Terms) (n : ℕ) (t : Term) → n ≡ length f → n ≢ 0 → t ≡ get_or f (n - 1) t → deglex t.mono x ≡ Greater → IsDescending f → AreOver x f
+over_last x f zero t l z e g d = absurd (z refl)
+over_last x f (suc n) t l z e g d =
+    let q : suc n - 1 ≡ n = omega arith in
+    at_last x f n t (sym l) (subst (λ (k : ℕ). t ≡ get_or f k t) q e) g d
+
+-- ---- many terms down
+
+-- old became new as terms greater than x went above the place
+pub record Descending (x : Exponents) (old new : Split) : Type 0 where
+  pub passed : Terms
+  pub above : new.above ≡ old.above ++ passed
+  pub below : old.below ≡ passed ++ new.below
+  pub over : AreOver x passed
+
+pub none_passed : (x : Exponents) (s : Split) → Descending x s s
+none_passed x s = record { passed = []; above = sym (append-nil s.above); below = refl; over = tt }
+
+pub one_passed : (x : Exponents) (old s new : Split) → FirstIs s.below x Greater → Descending x old s → Advances s new → Descending x old new
+one_passed x old s new f d a = record {
+  passed = d.passed ++ a.term ∷ [];
+  above = a.above ∙ ap (λ (z : Terms). z ++ a.term ∷ []) d.above ∙ append_assoc old.above d.passed (a.term ∷ []);
+  below = d.below ∙ ap (λ (z : Terms). d.passed ++ z) a.below ∙ sym (append_assoc d.passed (a.term ∷ []) new.below);
+  over = Each-++ (λ (t : Term). deglex t.mono x ≡ Greater) d.passed (a.term ∷ []) d.over (sym (subst (λ (z : Terms). FirstIs z x Greater) a.below f), tt);
+}
+
+pub descends_at : (x : Exponents) (old new : Split) (o : Ordering) → o ≢ Greater → FirstIs new.below x o → Descending x old new → Descends x old new o
+descends_at x old new o n f d = record { passed = d.passed; above = d.above; below = d.below; over = d.over; first = f; ends = n }
+
+-- the first term is there
+pub first_there : (f : Terms) (x : Exponents) → FirstIs f x Greater → f ≢ []
+first_there [] x h = let q : Greater ≡ Less = h in absurd (cc)
+first_there (t ∷ f) x h = λ e. cc
+
+pub shorter : (old new : Split) (b d : Terms) → old.below ≡ reverse b → new.below ≡ reverse d → Advances old new → length d < length b
+shorter old new b d e k a = omega (arith, ap length a.below, ap length e, ap length k, length-reverse b, length-reverse d)
+
+-- ---- many terms up
+
+pub none_up : (s : Split) → MovesUp s s
+none_up s = record { passed = []; above = sym (append-nil s.above); below = refl }
+
+pub one_up : (old s new : Split) → MovesUp old s → Advances new s → MovesUp old new
+one_up old s new m a = record {
+  passed = a.term ∷ m.passed;
+  above = m.above ∙ ap (λ (z : Terms). z ++ m.passed) a.above ∙ append_assoc new.above (a.term ∷ []) m.passed;
+  below = a.below ∙ ap (λ (z : Terms). a.term ∷ z) m.below;
+}
+
+-- moves keep the terms
+pub terms_up : (old new : Split) → MovesUp old new → terms_of new ≡ terms_of old
+terms_up old new m = ap (λ (z : Terms). new.above ++ z) m.below ∙ sym (append_assoc new.above m.passed old.below) ∙ ap (λ (z : Terms). z ++ old.below) (sym m.above)
+
+pub terms_down : (old new : Split) → Advances old new → terms_of new ≡ terms_of old
+terms_down old new a = ap (λ (z : Terms). z ++ new.below) a.above ∙ append_assoc old.above (a.term ∷ []) new.below ∙ ap (λ (z : Terms). old.above ++ z) (sym a.below)
+
+-- ---- the first term below the place
+
+pub first_coefficient : (n : ℕ) (s : Split) (t : Term) → IsSound n s → IsFirst s.below t → coefficient (terms_of s) (head_of s.below zero) ≡ t.coef
+first_coefficient n s t h f =
+    subst (λ (z : Terms). coefficient (s.above ++ z) (head_of z zero) ≡ t.coef) (sym f.is)
+    (coefficient-midst n s.above t f.rest (subst (λ (z : Terms). HasVariables n (s.above ++ z)) f.is h.variables) (subst (λ (z : Terms). IsDescending (s.above ++ z)) f.is h.descending))
+
+pub first_nonzero : (n : ℕ) (s : Split) (t : Term) → IsSound n s → IsFirst s.below t → t.coef ≢ zero_ℚ
+first_nonzero n s t h f = (subst IsDescending f.is (descending-back s.above s.below h.descending)).0
+
+pub first_length : (n : ℕ) (s : Split) (t : Term) → IsSound n s → IsFirst s.below t → length t.mono ≡ n
+first_length n s t h f = (subst (HasVariables n) f.is (variables-back n s.above s.below h.variables)).0
+
+pub first_head : (f : Terms) (t : Term) → IsFirst f t → t.mono ≡ head_of f zero
+first_head f t h = sym (ap (λ (z : Terms). head_of z zero) h.is)

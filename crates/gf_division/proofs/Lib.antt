@@ -1,0 +1,15 @@
+pub mod DescendingParts  -- descending lists, one after the other
+pub mod DividendLaws  -- moves of the place
+pub mod SubtractionLaws  -- a subtraction from the place down
+pub mod StepLaws  -- one step
+pub mod ReducerLaws  -- the search for a reducer
+pub mod RuleLaws  -- the steps of the rule
+pub mod NormalFormLaws  -- the loop of a normal form
+pub mod PlaceLaws  -- the step at a monomial
+pub mod SPolynomialLaws  -- S-polynomials as code forms them
+pub mod MonicLaws  -- marked polynomials made monic
+pub mod NeededLaws  -- which members are needed
+pub mod TailLaws  -- one tail
+pub mod AutoreductionLaws  -- all tails, and the whole
+pub mod QuotientLaws  -- quotients as they are kept
+pub mod DivisionLaws  -- the loop of a division

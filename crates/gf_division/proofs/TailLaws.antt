@@ -1,0 +1,197 @@
+-- One tail, reduced: the steps at unmarked monomials, and what they end with.
+-- To cite: AreElsewhere, elsewhere_none, elsewhere_more, elsewhere_end, head_at_place, Tailing, tailing-none, tailing-more,
+-- tail_refused, TailFacts, tail_facts, tail_variables, tail_there, reduced_tail_at, kept_form_at.
+use Rattle.std.specs.Prelude.{◌≡◌, ℕ, zero, suc, ◌+◌, ◌<◌, ◌≤◌, Bool, true, false, List, [], ◌∷◌, ◌++◌, length, Contains, Some, take}
+use Rattle.std.specs.declared.option.Option.{Option}
+use Rattle.std.specs.Ordering.{MatchOrdering}
+use Rattle.std.specs.declared.cmp.Ordering.{Ordering}
+use Rattle.std.specs.declared.cmp.Ordering.TheVariants.{Less, Equal, Greater}
+use Rattle.std.proofs.Common.{arith, refl, sym, ap, ◌∙◌, subst, get_or}
+use Rattle.std.proofs.lemmas.List.{take_more, take_all}
+use Rattle.gf_exponents.specs.Exponents.{Exponents, same}
+use Rattle.gf_exponents.specs.Orders.{deglex, lighter, IsDeglexBelow}
+use Rattle.gf_exponents.proofs.ExponentsLaws.{same-refl, same_flip, same_along}
+use Rattle.gf_exponents.proofs.OrderLaws.{deglex-compares, deglex-order, lighter-strict}
+use Rattle.gf_poly.specs.declared.Term.{Term}
+use Rattle.gf_poly.specs.declared.error.PolyError.{PolyError}
+use Rattle.gf_poly.specs.declared.error.PolyError.TheVariants as errors
+use Rattle.gf_poly.specs.Polynomial.{Terms, IsDescending, HasVariables, KeepsVariables}
+use Rattle.gf_poly.specs.Marking.{MarkedPolynomial, Each, head_of, IsMarked}
+use Rattle.gf_poly.proofs.DescendingLaws.{equal_same}
+use Rattle.gf_ideal.specs.Membership.{HasMonomial}
+use Rattle.gf_ideal.specs.Reduction.{IsDivisible}
+use Rattle.gf_ideal.specs.WorkLists.{IsTail, IsReducedTail}
+use Rattle.gf_ideal.proofs.ListLaws.{Each-++}
+use Rattle.gf_ideal.proofs.ListedTerms.{listed}
+use Rattle.gf_ideal.proofs.MarkWeights.{mark-there}
+use Rattle.gf_ideal.proofs.InterreductionLaws.{tail-marked}
+use Rattle.gf_division.specs.Steps.{IsStepRefusal}
+use Rattle.gf_division.specs.NormalForms.{HasSomeWeight}
+use Rattle.gf_division.specs.Dividends.{Split, terms_of, TakesStep}
+use Rattle.gf_division.specs.Reducers.{IsBeside, HasLength, AreIrreducible, ShareVariables}
+use Rattle.gf_division.specs.Autoreduction.{IsTailRefusal, HaveSomeVariables, IsKeptForm}
+use Rattle.gf_division.proofs.DividendLaws.{first_head}
+use Rattle.gf_division.proofs.StepLaws.{head_length}
+use Rattle.gf_division.proofs.ReducerLaws.{member_contained, member_variables}
+use Rattle.gf_division.proofs.RuleLaws.{RuleFacts, step_by, share_step, keeps_step, keeps_along, front_irreducible, all_above, operation_more, exponents_more, only, divisible_along}
+
+-- ---- the place of a monomial
+
+-- none of the terms before the place i is at x
+abbrev pub AreElsewhere : Exponents → ℕ → Terms → Type 0
+AreElsewhere x i f = Each (λ (t : Term). deglex t.mono x ≡ Equal → ⊥) (take i f)
+
+pub elsewhere_more : (x : Exponents) (i : ℕ) (f : Terms) (t : Term) → i < length f → t ≡ get_or f i t → (deglex t.mono x ≡ Equal → ⊥) → AreElsewhere x i f → AreElsewhere x (i + 1) f
+elsewhere_more x i f t l e n h = subst (Each (λ (t : Term). deglex t.mono x ≡ Equal → ⊥)) (sym (take_more f i t l ∙ ap (λ (z : Term). take i f ++ z ∷ []) (sym e))) (Each-++ (λ (t : Term). deglex t.mono x ≡ Equal → ⊥) (take i f) (t ∷ []) h (n, tt))
+
+-- the same monomials of one length compare as equal
+compares_equal : (x y : Exponents) → length x ≡ length y → same x y ≡ true → deglex x y ≡ Equal
+compares_equal x y l s = at (deglex x y) (deglex-compares x y l)
+  where
+    never : IsDeglexBelow x y → ⊥
+    never b = deglex-order.strict.irreflexive x x (same-refl x) (deglex-order.strict.along_right x y x (same_flip x y s) b)
+
+    at : (o : Ordering) → MatchOrdering o (IsDeglexBelow x y) (x ≡ y) (IsDeglexBelow y x) → o ≡ Equal
+    at Less h = absurd (never h)
+    at Equal h = refl
+    at Greater h = absurd (deglex-order.strict.irreflexive y y (same-refl y) (deglex-order.strict.along_right y x y s h))
+
+with_lengths : (x : Exponents) (f : Terms) → HasVariables (length x) f → Each (λ (t : Term). deglex t.mono x ≡ Equal → ⊥) f → Each (λ (t : Term). (deglex t.mono x ≡ Equal → ⊥) × (length t.mono ≡ length x)) f
+with_lengths x [] v h = tt
+with_lengths x (t ∷ f) v h = ((h.0, v.0), with_lengths x f v.1 h.1)
+
+pub elsewhere_end : (x : Exponents) (i : ℕ) (f : Terms) → HasVariables (length x) f → HasMonomial f x → length f ≤ i → AreElsewhere x i f → ⊥
+elsewhere_end x i f v m l h = at (listed (λ (t : Term). (deglex t.mono x ≡ Equal → ⊥) × (length t.mono ≡ length x)) f x (with_lengths x f v (subst (Each (λ (t : Term). deglex t.mono x ≡ Equal → ⊥)) (take_all i f l) h)) m)
+  where
+    at : (t : Term) × ((deglex t.mono x ≡ Equal → ⊥) × (length t.mono ≡ length x)) × (same x t.mono ≡ true) → ⊥
+    at r = r.1.0 (compares_equal r.0.mono x r.1.1 (same_flip x r.0.mono r.2))
+
+head_at : (f : Terms) (i : ℕ) (t : Term) → i < length f → t ≡ get_or f i t → head_of f i ≡ t.mono
+head_at [] i t l e = absurd (omega arith)
+head_at (s ∷ f) zero t l e = ap (λ (u : Term). u.mono) (sym e)
+head_at (s ∷ f) (suc i) t l e = head_at f i t (omega arith) e
+
+pub head_at_place : (x : Exponents) (f : Terms) (i : ℕ) (t : Term) → i < length f → t ≡ get_or f i t → deglex t.mono x ≡ Equal → head_of f i ≡ x
+head_at_place x f i t l e q = head_at f i t l e ∙ equal_same t.mono x q
+
+-- ---- the steps
+
+-- what holds after some steps that spare the mark of b
+pub record Tailing (ks : List MarkedPolynomial) (b : MarkedPolynomial) (spared : Option Exponents) (s : Split) : Type 0 where
+  pub spare : spared ≡ Some b.head
+  pub tail : IsTail ks (record { poly = terms_of s; head = b.head })
+  pub variables : ShareVariables s ks spared
+  pub above : AreIrreducible ks spared s.above
+  pub kept : KeepsVariables b.poly (terms_of s)
+
+pub tailing-none : (ks : List MarkedPolynomial) (b : MarkedPolynomial) (spared : Option Exponents) (f : Terms) (s : Split) → spared ≡ Some b.head → f ≡ b.poly → IsDescending f → HaveSomeVariables ks → Contains ks b → IsMarked b → s ≡ record { above = []; below = f } → Tailing ks b spared s
+tailing-none ks b spared f s es ef d v c m e = subst (Tailing ks b spared) (sym e) (subst (λ (z : Option Exponents). Tailing ks b z (record { above = []; below = f })) (sym es) (record {
+  spare = refl;
+  tail = subst (λ (g : Terms). IsTail ks (record { poly = g; head = b.head })) (sym ef) (IsTail.member b c);
+  variables = record {
+    n = v.n;
+    sound = record { descending = d; variables = subst (HasVariables v.n) (sym ef) w };
+    members = v.each;
+    spare = head_length v.n b w m;
+  };
+  above = tt;
+  kept = record { at = λ n h. subst (HasVariables n) (sym ef) h };
+}))
+  where
+    w : HasVariables v.n b.poly
+    w = member_variables v.n ks b v.each c
+
+unmarked : (ks : List MarkedPolynomial) (b : MarkedPolynomial) (spared : Option Exponents) (s : Split) (j : ℕ) (c : MarkedPolynomial) → spared ≡ Some b.head → (k : RuleFacts ks spared s j c) → same k.term.mono b.head ≡ false
+unmarked ks b spared s j c e k = subst (λ (z : Option Exponents). IsBeside z k.term.mono) e k.beside
+
+pub tailing-more : (ks : List MarkedPolynomial) (b : MarkedPolynomial) (spared : Option Exponents) (old s t : Split) (j : ℕ) (c : MarkedPolynomial) (q : Term) → terms_of s ≡ terms_of old → RuleFacts ks spared s j c → TakesStep c s q t → Tailing ks b spared old → Tailing ks b spared t
+tailing-more ks b spared old s t j c q e k w h = record {
+  spare = h.spare;
+  tail = IsTail.step (record { poly = terms_of s; head = b.head }) (record { poly = terms_of t; head = b.head }) (subst (λ (g : Terms). IsTail ks (record { poly = g; head = b.head })) (sym e) h.tail) (same-refl b.head) (step_by ks spared s t j c q k w) (unmarked ks b spared s j c h.spare k);
+  variables = share_step ks spared s t j c q k w;
+  above = front_irreducible ks spared t.above w.passed s.above w.above k.above;
+  kept = keeps_step ks spared b.poly s t j c q k w (keeps_along b.poly (terms_of old) (terms_of s) e h.kept);
+}
+
+-- a refusal of the step
+pub tail_refused : (ks : List MarkedPolynomial) (b : MarkedPolynomial) (spared : Option Exponents) (old s : Split) (j : ℕ) (c : MarkedPolynomial) (e : PolyError) → terms_of s ≡ terms_of old → RuleFacts ks spared s j c → Tailing ks b spared old → IsStepRefusal (terms_of s) c (head_of s.below 0) e → IsTailRefusal ks e
+tail_refused ks b spared old s j c e q k h r = at e r
+  where
+    from : IsTail ks (record { poly = terms_of s; head = b.head })
+    from = subst (λ (g : Terms). IsTail ks (record { poly = g; head = b.head })) (sym q) h.tail
+
+    beside : same (head_of s.below 0) b.head ≡ false
+    beside = subst (λ (x : Exponents). same x b.head ≡ false) (first_head s.below k.term k.is) (unmarked ks b spared s j c h.spare k)
+
+    more : (d : MarkedPolynomial) → d ≡ c → Contains ks d
+    more d g = only ks c (member_contained ks j c k.at) d g
+
+    at : (e : PolyError) → IsStepRefusal (terms_of s) c (head_of s.below 0) e → IsTailRefusal ks e
+    at (errors.Overflow o) r = (
+      record {
+        from = record { poly = terms_of s; head = b.head };
+        tail = from;
+        at = head_of s.below 0;
+        unmarked = beside;
+        operation = operation_more (λ (d : MarkedPolynomial). d ≡ c) (Contains ks) more (terms_of s) (head_of s.below 0) o.op o.left o.right r.0;
+      },
+      r.1,
+    )
+    at (errors.Exponent o) r = (
+      record {
+        from = record { poly = terms_of s; head = b.head };
+        tail = from;
+        at = head_of s.below 0;
+        unmarked = beside;
+        sum = exponents_more (λ (d : MarkedPolynomial). d ≡ c) (Contains ks) more (terms_of s) (head_of s.below 0) o.left o.right r.0;
+      },
+      r.1,
+    )
+    at errors.Memory r = tt
+
+-- ---- the end
+
+-- g is the polynomial of b with its tail reduced by ks
+pub record TailFacts (ks : List MarkedPolynomial) (b : MarkedPolynomial) (g : Terms) : Type 0 where
+  pub tail : IsTail ks (record { poly = g; head = b.head })
+  pub irreducible : (x : Exponents) → HasMonomial g x → IsDivisible (Contains ks) x → same x b.head ≡ true
+  pub kept : KeepsVariables b.poly g
+  pub descending : IsDescending g
+  pub variables : HasVariables (length b.head) g
+  pub marked : IsMarked b
+
+irreducible_beside : (ks : List MarkedPolynomial) (x : Exponents) (f : Terms) → AreIrreducible ks (Some x) f → (y : Exponents) → HasMonomial f y → IsDivisible (Contains ks) y → same y x ≡ true
+irreducible_beside ks x f a y m d = at (same y x) refl
+  where
+    there : (same y x ≡ false) → (t : Term) × (IsBeside (Some x) t.mono → IsDivisible (Contains ks) t.mono → ⊥) × (same y t.mono ≡ true) → ⊥
+    there n r = r.1 (sym (same_along y r.0.mono x r.2) ∙ n) (divisible_along (Contains ks) y r.0.mono r.2 d)
+
+    at : (r : Bool) → same y x ≡ r → same y x ≡ true
+    at true e = e
+    at false e = absurd (there e (listed (λ (t : Term). IsBeside (Some x) t.mono → IsDivisible (Contains ks) t.mono → ⊥) f y a m))
+
+pub tail_facts : (ks : List MarkedPolynomial) (b : MarkedPolynomial) (spared : Option Exponents) (old s : Split) (g : Terms) → IsMarked b → terms_of s ≡ terms_of old → s.below ≡ [] → g ≡ terms_of s → AreIrreducible ks spared s.above → Tailing ks b spared old → TailFacts ks b g
+tail_facts ks b spared old s g m e n q a h = record {
+  tail = subst (λ (f : Terms). IsTail ks (record { poly = f; head = b.head })) (sym whole) h.tail;
+  irreducible = irreducible_beside ks b.head g (subst (AreIrreducible ks (Some b.head)) (sym (q ∙ all_above s n)) (subst (λ (z : Option Exponents). AreIrreducible ks z s.above) h.spare a));
+  kept = keeps_along b.poly (terms_of old) g whole h.kept;
+  descending = subst IsDescending (sym whole) h.variables.sound.descending;
+  variables = subst (HasVariables (length b.head)) (sym whole) (subst (λ (k : ℕ). HasVariables k (terms_of old)) (sym long) h.variables.sound.variables);
+  marked = m;
+}
+  where
+    whole : g ≡ terms_of old
+    whole = q ∙ e
+
+    long : length b.head ≡ h.variables.n
+    long = subst (HasLength h.variables.n) h.spare h.variables.spare
+
+-- the mark is a monomial of it
+pub tail_there : (ks : List MarkedPolynomial) (b : MarkedPolynomial) (g : Terms) → HasSomeWeight ks → TailFacts ks b g → HasMonomial g b.head
+tail_there ks b g w t = mark-there (lighter w.0) (record { poly = g; head = b.head }) (tail-marked (lighter w.0) ks (record { poly = g; head = b.head }) (lighter-strict w.0) w.1 t.tail)
+
+pub reduced_tail_at : (ks : List MarkedPolynomial) (b : MarkedPolynomial) (g : Terms) (x : Exponents) (c : MarkedPolynomial) → ◌≡◌ {A = MarkedPolynomial} c (record { poly = g; head = x }) → x ≡ b.head → TailFacts ks b g → IsReducedTail ks b c
+reduced_tail_at ks b g x c q e t = subst (IsReducedTail ks b) (sym q) (subst (λ (y : Exponents). IsReducedTail ks b (record { poly = g; head = y })) (sym e) (record { tail = t.tail; head = same-refl b.head; irreducible = t.irreducible }))
+
+pub kept_form_at : (ks : List MarkedPolynomial) (b : MarkedPolynomial) (g : Terms) (x : Exponents) (c : MarkedPolynomial) → ◌≡◌ {A = MarkedPolynomial} c (record { poly = g; head = x }) → x ≡ b.head → TailFacts ks b g → IsKeptForm b c
+kept_form_at ks b g x c q e t = subst (IsKeptForm b) (sym q) (record { at = λ n v. record { variables = t.kept.at n v; descending = t.descending; head = ap length e ∙ head_length n b v t.marked } })

@@ -1,0 +1,5 @@
+use Rattle.gf_division.proofs.MonicLaws.{mark_one, monic_already}
+use Rattle.gf_division.proofs.monic.is_monic.Goals as goal
+
+pub returns : goal.returns
+returns c = λ t. monic_already c.args.b.now c.requires c.head.ensures.marked (mark_one c.args.b.now c.coefficient.result c.one.result c.eq.result c.coefficient.ensures.term c.one.ensures c.eq.ensures t)

@@ -1,0 +1,10 @@
+use Rattle.std.proofs.Common.{length}
+use Rattle.gf_division.specs.Dividends.{split_of}
+use Rattle.gf_division.proofs.ReducerLaws.{Seeking}
+use Rattle.gf_division.proofs.reducers.seek.Given as goal
+
+abbrev pub invariant-terms : goal.invariant-terms
+invariant-terms l = Seeking l.by l.spared (split_of l.initial.rest) (split_of l.rest)
+
+abbrev pub decreases-terms : goal.decreases-terms
+decreases-terms l = length l.rest.below.items

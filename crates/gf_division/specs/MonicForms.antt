@@ -1,0 +1,26 @@
+-- Marked polynomials made monic: divided by the marked coefficient, the mark kept.
+-- Laws: proofs/MonicLaws.antt.
+use Rattle.std.specs.Prelude.{◌≡◌, ℕ}
+use Rattle.gf_frac.specs.Fits.{Fits}
+use Rattle.gf_poly.specs.declared.error.PolyError.{PolyError}
+use Rattle.gf_poly.specs.declared.error.PolyError.TheVariants as errors
+use Rattle.gf_poly.specs.Polynomial.{HasVariables}
+use Rattle.gf_poly.specs.Marking.{MarkedPolynomial}
+use Rattle.gf_ideal.specs.Reduction.{IsMonicForm}
+use Rattle.gf_ideal.specs.Operands.{IsMonicOperation}
+
+-- b is f divided by its marked coefficient, with the same mark
+pub record IsMadeMonic (f b : MarkedPolynomial) : Type 0 where
+  pub form : IsMonicForm f.poly b
+  pub head : b.head ≡ f.head
+
+-- why f isn't made monic: a coefficient and the marked one, whose quotient doesn't fit
+abbrev pub IsMonicRefusal : MarkedPolynomial → PolyError → Type 0
+IsMonicRefusal f (errors.Overflow o) = IsMonicOperation f.poly f.head o.op o.left o.right × ¬ (Fits o.op o.left o.right)
+IsMonicRefusal f (errors.Exponent o) = ⊥
+IsMonicRefusal f errors.Memory = Unit {0}
+
+-- all monomials have the same number of variables
+pub record HasSomeVariables (f : MarkedPolynomial) : Type 0 where
+  pub n : ℕ
+  pub each : HasVariables n f.poly

@@ -1,0 +1,279 @@
+//! A polynomial that is being reduced, with a place in it.
+
+ghost use Rattle.std.specs.Prelude.{false, zero, ◌≡◌, ◌≢◌, ◌≤◌, [], ◌++◌, length, reverse, MatchOption, IfOk, IfErr, IsTrue, OnOk};
+ghost use Rattle.gf_frac.specs.Fraction.{◌-ℚ◌, ◌*ℚ◌, zero_ℚ};
+ghost use Rattle.gf_exponents.specs.Exponents.{plus};
+ghost use Rattle.gf_poly.specs.Marking.{head_of};
+ghost use Rattle.gf_poly.specs.Polynomial.{coefficient as coefficient_at, IsDescending, HasVariables};
+ghost use Rattle.gf_poly.specs.Sums.{PushesNonzero};
+ghost use Rattle.gf_division.specs.Steps.{IsStepRefusal};
+ghost use Rattle.gf_division.specs.Dividends.{split_of, terms_of, IsSound, IsFirst, DividesFirst, AreOver, AreOverProducts, Advances, FirstIs, Descends, MovesUp, TakesFromFirst, IsFirstRefusal, TakesAway, IsDifferenceRefusal, IsProductOverflow, Subtracts, IsSubtractionRefusal, SharesVariables, TakesStep};
+
+use gf_frac::{Frac, Overflow};
+use gf_poly::{Marked, Mono, Poly, PolyError, Term};
+use std::alloc::{AllocError, Global};
+use std::cmp::Ordering;
+
+/// The terms above the place, the greatest first, and the terms below it, the greatest last.
+///
+/// A step of reduction works at the place: it copies no term, and moves none that it doesn't pass.
+#[derive(Drop)]
+pub struct Dividend {
+    above: Vec<Term>,
+    below: Vec<Term>,
+}
+
+// The product; by 1 it is the other number.
+fn product(a: &Frac, b: &Frac) -> Result<Frac, Overflow>
+    ensures value { IfOk result (λ x. x ≡ a.now *ℚ b.now) }
+    ensures overflow { IfErr result (IsProductOverflow a.now b.now) }
+{
+    if *a == Frac::ONE {
+        return Ok(*b);
+    }
+    a.mul(b)
+}
+
+// Adds what is left of the term once `coef` is taken away, unless nothing is left.
+fn push_difference(above: &mut Vec<Term>, t: Term, coef: &Frac) -> Result<(), PolyError>
+    ensures ok { OnOk result (PushesNonzero above.old.items above.new.items (record { coef = t.coef -ℚ coef.now; mono = t.mono })) }
+    ensures cause { IfErr result (IsDifferenceRefusal t.coef coef.now) }
+{
+    let difference = t.coef.sub(coef)?;
+    if difference.is_zero() {
+        return Ok(());
+    }
+    above.push(Term {
+        coef: difference,
+        mono: t.mono,
+    })?;
+    Ok(())
+}
+
+// The terms above the place and those below it, in one list.
+fn joined(above: Vec<Term>, below: Vec<Term>) -> Result<Vec<Term>, AllocError>
+    ensures { IfOk result (λ h. h.items ≡ above.items ++ reverse below.items) }
+{
+    let mut all = above;
+    let mut rest = below;
+    'terms: while let Some(t) = rest.pop() {
+        all.push(t)?;
+    }
+    Ok(all)
+}
+
+impl Dividend {
+    /// The polynomial with the place above all terms; nothing is copied.
+    pub fn new(alloc: Global, f: Poly) -> Dividend
+        ensures value { split_of result ≡ record { above = []; below = f } }
+        ensures descending { IsDescending f }
+    {
+        let mut below = f.into_terms();
+        below.reverse();
+        Dividend {
+            above: Vec::new(alloc),
+            below,
+        }
+    }
+
+    /// The polynomial; nothing is copied, and terms that are still below the place are moved.
+    pub fn into_poly(self) -> Result<Poly, AllocError>
+        requires { IsDescending (terms_of (split_of self)) }
+        ensures { IfOk result (λ f. f ≡ terms_of (split_of self)) }
+    {
+        let Dividend { above, below } = self;
+        let terms = joined(above, below)?;
+        Ok(Poly::from_descending(terms))
+    }
+
+    /// The first term below the place.
+    pub fn next(&self) -> Option<&Term>
+        ensures { MatchOption result ((split_of self.now).below ≡ []) (λ t. IsFirst (split_of self.now).below t.now) }
+    {
+        let n = self.below.len();
+        if n == 0 {
+            return None;
+        }
+        Some(&self.below[n - 1])
+    }
+
+    /// Carries the first term below the place over it.
+    pub fn advance(&mut self) -> Result<(), AllocError>
+        requires { (split_of self.old).below ≢ [] }
+        ensures { OnOk result (Advances (split_of self.old) (split_of self.new)) }
+    {
+        if let Some(t) = self.below.pop() {
+            self.above.push(t)?;
+        }
+        Ok(())
+    }
+
+    // Carries the last term above the place back.
+    fn retreat(&mut self) -> Result<(), AllocError>
+        requires { self.old.above.items ≢ [] }
+        ensures { OnOk result (Advances (split_of self.new) (split_of self.old)) }
+    {
+        if let Some(t) = self.above.pop() {
+            self.below.push(t)?;
+        }
+        Ok(())
+    }
+
+    // How the first term below the place compares with `x`; where there is none it counts as less.
+    fn compare_next(&self, x: &Mono) -> Ordering
+        ensures { FirstIs (split_of self.now).below x.now result }
+    {
+        match self.next() {
+            Some(t) => t.mono.compare(x),
+            None => Ordering::Less,
+        }
+    }
+
+    // Whether the last term above the place isn't greater than `x`.
+    fn has_passed(&self, x: &Mono) -> bool
+        ensures yes { IsTrue result → self.now.above.items ≢ [] }
+        ensures no { result ≡ false → IsDescending self.now.above.items → AreOver x.now self.now.above.items }
+    {
+        let n = self.above.len();
+        if n == 0 {
+            return false;
+        }
+        match self.above[n - 1].mono.compare(x) {
+            Ordering::Greater => false,
+            _ => true,
+        }
+    }
+
+    /// Moves the place down to the first term that isn't greater than `x`, and answers how that one compares with it.
+    pub fn descend(&mut self, x: &Mono) -> Result<Ordering, AllocError>
+        ensures { IfOk result (Descends x.now (split_of self.old) (split_of self.new)) }
+    {
+        'terms: loop {
+            match self.compare_next(x) {
+                Ordering::Greater => self.advance()?,
+                unpassed => return Ok(unpassed),
+            }
+        }
+    }
+
+    // Moves the place up until all terms above it are greater than `x`.
+    fn ascend(&mut self, x: &Mono) -> Result<(), AllocError>
+        requires { IsDescending self.old.above.items }
+        ensures moves { OnOk result (MovesUp (split_of self.old) (split_of self.new)) }
+        ensures over { OnOk result (AreOver x.now self.new.above.items) }
+    {
+        'terms: while self.has_passed(x) {
+            self.retreat()?;
+        }
+        Ok(())
+    }
+
+    // Moves the place up until `n` terms are above it.
+    fn rise(&mut self, n: usize) -> Result<(), AllocError>
+        requires { n ≤ length self.old.above.items }
+        ensures moves { OnOk result (MovesUp (split_of self.old) (split_of self.new)) }
+        ensures place { OnOk result (length self.new.above.items ≡ n) }
+    {
+        'terms: while self.above.len() > n {
+            self.retreat()?;
+        }
+        Ok(())
+    }
+
+    // Takes `coef` from the coefficient of the first term below the place; what is left of the term goes above it.
+    fn take_from_next(&mut self, coef: &Frac) -> Result<(), PolyError>
+        requires { (split_of self.old).below ≢ [] }
+        ensures ok { OnOk result (TakesFromFirst coef.now (split_of self.old) (split_of self.new)) }
+        ensures cause { IfErr result (IsFirstRefusal (split_of self.old).below coef.now) }
+    {
+        match self.below.pop() {
+            Some(t) => push_difference(&mut self.above, t, coef),
+            None => Ok(()),
+        }
+    }
+
+    // Takes `coef` times `mono` away, which is below the terms above the place; the place is below it then.
+    fn take_away(&mut self, coef: &Frac, mono: Mono) -> Result<(), PolyError>
+        requires sound { IsSound (length mono) (split_of self.old) }
+        requires over { AreOver mono self.old.above.items }
+        requires nonzero { coef.now ≢ zero_ℚ }
+        ensures ok { OnOk result (TakesAway coef.now mono (split_of self.old) (split_of self.new)) }
+        ensures cause { IfErr result (IsDifferenceRefusal (coefficient_at (terms_of (split_of self.old)) mono) coef.now) }
+    {
+        match self.descend(&mono)? {
+            Ordering::Equal => self.take_from_next(coef),
+            _ => {
+                self.above.push(Term {
+                    coef: coef.neg(),
+                    mono,
+                })?;
+                Ok(())
+            }
+        }
+    }
+
+    /// Takes `coef` times `shift` times the sum of `terms` away, in one pass from the place down.
+    ///
+    /// # Errors
+    ///
+    /// `Overflow` and `Exponent` where a product of `coef` and a coefficient, one of `shift` and a monomial, or a
+    /// difference of coefficients leaves its range.
+    pub fn subtract(&mut self, coef: &Frac, shift: &Mono, terms: &[Term]) -> Result<(), PolyError>
+        requires sound { IsSound (length shift.now) (split_of self.old) }
+        requires variables { HasVariables (length shift.now) terms.now }
+        requires descending { IsDescending terms.now }
+        requires over { AreOverProducts shift.now terms.now self.old.above.items }
+        requires nonzero { coef.now ≢ zero_ℚ }
+        ensures ok { OnOk result (Subtracts coef.now shift.now terms.now (split_of self.old) (split_of self.new)) }
+        ensures cause { IfErr result (IsSubtractionRefusal (terms_of (split_of self.old)) coef.now shift.now terms.now) }
+    {
+        'terms: for i in 0..terms.len() {
+            let t = &terms[i];
+            let difference = product(coef, &t.coef)?;
+            let mono = shift.mul(&t.mono)?;
+            self.take_away(&difference, mono)?;
+        }
+        Ok(())
+    }
+
+    // The quotient of the first term below the place by `by`, which divides it.
+    fn quotient(&self, by: &Mono) -> Term
+        requires sound { IsSound (length by.now) (split_of self.now) }
+        requires divides { DividesFirst by.now (split_of self.now).below }
+        ensures coefficient { coefficient_at (terms_of (split_of self.now)) (head_of (split_of self.now).below zero) ≡ result.coef }
+        ensures nonzero { result.coef ≢ zero_ℚ }
+        ensures product { plus result.mono by.now ≡ head_of (split_of self.now).below zero }
+        ensures variables { length result.mono ≡ length by.now }
+    {
+        match self.next() {
+            Some(t) => Term {
+                coef: t.coef,
+                mono: t.mono.quotient(by),
+            },
+            None => unreachable!(),
+        }
+    }
+
+    /// The step at the first term below the place by `by`, whose mark divides it; answers the quotient of the term by the
+    /// mark. No term is above the place that wasn't there.
+    ///
+    /// # Errors
+    ///
+    /// `Overflow` and `Exponent` only where two numbers of this step don't fit, which it holds.
+    pub fn step(&mut self, by: &Marked) -> Result<Term, PolyError>
+        requires variables { SharesVariables by.now (split_of self.old) }
+        requires divides { DividesFirst by.now.head (split_of self.old).below }
+        ensures step { IfOk result (λ q. TakesStep by.now (split_of self.old) q (split_of self.new)) }
+        ensures cause { IfErr result (IsStepRefusal (terms_of (split_of self.old)) by.now (head_of (split_of self.old).below zero)) }
+    {
+        let quotient = self.quotient(by.head());
+        let terms = by.poly().terms();
+        let first = &terms[0];
+        let greatest = quotient.mono.mul(&first.mono)?;
+        self.ascend(&greatest)?;
+        let place = self.above.len();
+        self.subtract(&quotient.coef, &quotient.mono, terms)?;
+        self.rise(place)?;
+        Ok(quotient)
+    }
+}

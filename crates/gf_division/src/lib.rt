@@ -1,0 +1,17 @@
+//! S-polynomials, division with remainder, normal forms and interreduction of marked polynomials.
+#![tactic(auto)]
+
+mod autoreduction;
+mod dividend;
+mod divisions;
+mod monic;
+mod normal_forms;
+mod reducers;
+mod s_polynomials;
+mod steps;
+
+pub use autoreduction::autoreduce;
+pub use divisions::{Division, divide};
+pub use normal_forms::{normal_form, reduced};
+pub use s_polynomials::s_poly;
+pub use steps::reduce_step;
