@@ -1,37 +1,43 @@
 -- Terms and sums of terms, one after another.
--- To cite: variables_on, variables_refused, variables_end; terms_on, terms_refused, terms_end; nonzero_at. The rest are steps.
-use Rattle.std.proofs.Common.{◌≡◌, ◌<◌, ◌≤◌, ℕ, zero, suc, ◌+◌, ◌-◌, ◌^◌, Bool, true, false, nat_lt, slice_index, slice_set, replicate, IfSome, inl, inr, arith, if◌then◌else◌, List, [], ◌∷◌, ◌++◌, length, drop, get_or, Result, Ok, Err, Some, slice_get, refl, sym, ap, subst, ◌∙◌, add-one, append_assoc, append-nil}
+-- To cite: factors_on, factors_refused, factors_end; terms_on, terms_refused, terms_end, terms_fit; sums_on, sums_refused, sums_end; found_place; not_yet, none_left, first_found. The rest are steps.
+use Rattle.std.proofs.Common.{◌≡◌, ◌≢◌, ◌<◌, ◌≤◌, ℕ, zero, suc, ◌+◌, ◌-◌, ◌^◌, Bool, true, false, nat_lt, slice_index, slice_set, replicate, IfSome, IfOk, inl, inr, arith, if◌then◌else◌, List, [], ◌∷◌, ◌++◌, length, drop, get_or, Result, Ok, Err, Option, Some, None, MatchOption, slice_get, refl, sym, ap, subst, ◌∙◌, add-one, append_assoc, append-nil}
 use Rattle.std.proofs.Math.Seq.{drop-cons}
 use Rattle.std.proofs.lemmas.List.{drop_all}
 use Rattle.std.proofs.lemmas.Option.{slice_get-get_or, slice_get_past}
 use Rattle.std.proofs.lemmas.Bool.{cases_lt}
 use Rattle.std.proofs.lemmas.List.{length-replicate}
 use Rattle.std.proofs.Math.ListN.{length-set}
-use Rattle.gf_frac.specs.Fraction.{zero_ℚ}
-use Rattle.std.specs.declared.cmp.Ordering.TheVariants.{Equal}
-use Rattle.gf_exponents.specs.Exponents.{Exponents}
+use Rattle.std.specs.Result.{result_ok}
+use Rattle.std.specs.Ordering.{ordering_index, ordering_reverse}
+use Rattle.std.specs.List.Sorted.{IsNonDecreasingBy, IsSearchInRange, IsBinarySearchResult}
+use Rattle.gf_frac.specs.Fraction.{Fraction, ◌+ℚ◌, zero_ℚ}
+use Rattle.gf_frac.proofs.FractionLaws.{zero-+ℚ}
+use Rattle.std.specs.declared.cmp.Ordering.{Ordering}
+use Rattle.std.specs.declared.cmp.Ordering.TheVariants.{Less, Equal, Greater}
+use Rattle.gf_exponents.specs.Exponents.{Exponents, same}
 use Rattle.gf_exponents.specs.Orders.{deglex}
 use Rattle.gf_poly.specs.declared.Term.{Term}
 use Rattle.gf_poly.specs.declared.monomial.ExponentOverflow.{ExponentOverflow}
-use Rattle.gf_poly.specs.Polynomial.{Terms, IsDescending, HasVariables, SamePolynomial, coefficient}
-use Rattle.gf_poly.proofs.CoefficientLaws.{Finding, found_at}
-use Rattle.gf_poly.proofs.DescendingLaws.{equal_same}
+use Rattle.gf_poly.specs.Polynomial.{Terms, IsAbove, IsDescending, HasVariables, SamePolynomial, coefficient}
+use Rattle.gf_poly.proofs.CoefficientLaws.{apart, coefficient-contains}
+use Rattle.gf_poly.proofs.DescendingLaws.{equal_same, deglex-total, greater_trans, never_greater}
+use Rattle.gf_text.specs.declared.tree.Factor.{Factor}
 use Rattle.gf_text.specs.declared.tree.WrittenTerm.{WrittenTerm}
-use Rattle.gf_text.specs.Combining.{raised, then_variables, times_variables, term_of, terms_of, sums_of, HaveVariables, before_all, with_coefficient, unit, IsPlaceOf, IsFirstRemainingAt, NoneRemains}
+use Rattle.gf_text.specs.Combining.{raised, then_factors, times_factors, exponents_of, coefficient_of, term_of, terms_of, sums_of, ExponentsFit, AllExponentsFit, HaveVariables, before_all, with_coefficient, IsPlaceOf, IsFirstRemainingAt, NoneRemains, FindsFirst, IsSumOf}
 
--- ---- variables, one after another
+-- ---- powers, one after another
 
-variables_at : (x : Exponents) (vs : List ℕ) (i : ℕ) → i < length vs → times_variables x (drop i vs) ≡ then_variables (raised x (get_or vs i 0)) (λ y. times_variables y (drop (i + 1) vs))
-variables_at x vs i h = let front : drop i vs ≡ get_or vs i 0 ∷ drop (i + 1) vs = rw add-one (drop-cons vs i 0 h) in ap (times_variables x) front
+factors_at : (x : Exponents) (fs : List Factor) (i : ℕ) (d : Factor) → i < length fs → times_factors x (drop i fs) ≡ then_factors (raised x (get_or fs i d)) (λ y. times_factors y (drop (i + 1) fs))
+factors_at x fs i d h = let front : drop i fs ≡ get_or fs i d ∷ drop (i + 1) fs = rw add-one (drop-cons fs i d h) in ap (times_factors x) front
 
-pub variables_on : (x y : Exponents) (vs : List ℕ) (i : ℕ) → i < length vs → raised x (get_or vs i 0) ≡ Ok y → times_variables x (drop i vs) ≡ times_variables y (drop (i + 1) vs)
-variables_on x y vs i h e = variables_at x vs i h ∙ ap (λ r. then_variables r (λ z. times_variables z (drop (i + 1) vs))) e
+pub factors_on : (x y : Exponents) (fs : List Factor) (i : ℕ) (d : Factor) → i < length fs → raised x (get_or fs i d) ≡ Ok y → times_factors x (drop i fs) ≡ times_factors y (drop (i + 1) fs)
+factors_on x y fs i d h e = factors_at x fs i d h ∙ ap (λ r. then_factors r (λ z. times_factors z (drop (i + 1) fs))) e
 
-pub variables_refused : (x : Exponents) (o : ExponentOverflow) (vs : List ℕ) (i : ℕ) → i < length vs → raised x (get_or vs i 0) ≡ Err o → times_variables x (drop i vs) ≡ Err o
-variables_refused x o vs i h e = variables_at x vs i h ∙ ap (λ r. then_variables r (λ z. times_variables z (drop (i + 1) vs))) e
+pub factors_refused : (x : Exponents) (o : ExponentOverflow) (fs : List Factor) (i : ℕ) (d : Factor) → i < length fs → raised x (get_or fs i d) ≡ Err o → times_factors x (drop i fs) ≡ Err o
+factors_refused x o fs i d h e = factors_at x fs i d h ∙ ap (λ r. then_factors r (λ z. times_factors z (drop (i + 1) fs))) e
 
-pub variables_end : (x : Exponents) (vs : List ℕ) (i : ℕ) → length vs ≤ i → times_variables x (drop i vs) ≡ Ok x
-variables_end x vs i h = ap (times_variables x) (drop_all i vs h)
+pub factors_end : (x : Exponents) (fs : List Factor) (i : ℕ) → length fs ≤ i → times_factors x (drop i fs) ≡ Ok x
+factors_end x fs i h = ap (times_factors x) (drop_all i fs h)
 
 -- ---- terms, one after another
 
@@ -44,7 +50,7 @@ onto_next : {A : Type 0} (xs : List A) (x : A) (r : Result (List A) ExponentOver
 onto_next xs x (Ok ys) = ap (λ l. Ok l) (sym (append_assoc xs (x ∷ []) ys))
 onto_next xs x (Err o) = refl
 
-onto_nothing : {A : Type 0} (r : Result (List A) ExponentOverflow) → onto [] r ≡ r
+pub onto_nothing : {A : Type 0} (r : Result (List A) ExponentOverflow) → onto [] r ≡ r
 onto_nothing (Ok ys) = refl
 onto_nothing (Err o) = refl
 
@@ -62,21 +68,87 @@ terms_refused n out o us i d h e = ap (onto out) (terms_at n us i d h ∙ ap (λ
 pub terms_end : (n : ℕ) (out : Terms) (us : List WrittenTerm) (i : ℕ) → length us ≤ i → onto out (terms_of n (drop i us)) ≡ Ok out
 terms_end n out us i h = ap (λ l. onto out (terms_of n l)) (drop_all i us h) ∙ ap (λ l. Ok l) (append-nil out)
 
+-- the first i terms, none of which is refused
+pub record Taken (n : ℕ) (us : List WrittenTerm) (i : ℕ) : Type 0 where
+  pub terms : Terms
+  pub all : onto terms (terms_of n (drop i us)) ≡ terms_of n us
+
+pub said_term : (n : ℕ) (u : WrittenTerm) (x : Exponents) → exponents_of n u ≡ Ok x → term_of n u ≡ Ok (record { coef = coefficient_of u; mono = x })
+said_term n u x e = ap (with_coefficient (coefficient_of u)) e
+
+refused_term : (n : ℕ) (u : WrittenTerm) (o : ExponentOverflow) → exponents_of n u ≡ Err o → term_of n u ≡ Err o
+refused_term n u o e = ap (with_coefficient (coefficient_of u)) e
+
+abbrev pub taken_none : (n : ℕ) (us : List WrittenTerm) → Taken n us 0
+taken_none n us = record { terms = []; all = onto_nothing (terms_of n us) }
+
+abbrev pub taken_on : (n : ℕ) (us : List WrittenTerm) (i : ℕ) (d : WrittenTerm) (x : Exponents) → i < length us → exponents_of n (get_or us i d) ≡ Ok x → Taken n us i → Taken n us (i + 1)
+taken_on n us i d x h e t =
+    let next : Term = record { coef = coefficient_of (get_or us i d); mono = x } in
+    record { terms = t.terms ++ next ∷ []; all = sym (terms_on n t.terms next us i d h (said_term n (get_or us i d) x e)) ∙ t.all }
+
+pub taken_refused : (n : ℕ) (us : List WrittenTerm) (i : ℕ) (d : WrittenTerm) (o : ExponentOverflow) → i < length us → exponents_of n (get_or us i d) ≡ Err o → Taken n us i → terms_of n us ≡ Err o
+taken_refused n us i d o h e t = sym t.all ∙ terms_refused n t.terms o us i d h (refused_term n (get_or us i d) o e)
+
+pub taken_all : (n : ℕ) (us : List WrittenTerm) (i : ℕ) → length us ≤ i → Taken n us i → ExponentsFit n us
+taken_all n us i h t = (t.terms, sym t.all ∙ terms_end n t.terms us i h)
+
 -- ---- places in a sum
 
--- the term at the place that was found isn't zero
-pub nonzero_at : (f : Terms) (e : Exponents) (i : ℕ) (t : Term) → i < length f → t ≡ get_or f i t → deglex t.mono e ≡ Equal → Finding f e (drop i f) → IsPlaceOf f e i
-nonzero_at f e i t h is same found =
-    let front : drop i f ≡ t ∷ drop (i + 1) f = rw add-one (drop-cons f i t h ∙ ap (λ x. x ∷ drop (suc i) f) (sym is)) in
-    let descending = subst IsDescending front found.descending in
-    record {
-      term = t;
-      stands = slice_get-get_or f i t h ∙ ap (λ x. Some x) (sym is);
-      monomial = equal_same t.mono e same;
-      nonzero = λ zero. descending.0 (found_at f e i t h is same found ∙ zero);
-    }
+-- monomials descend
+above_at : (x : Exponents) (f : Terms) (j : ℕ) (d : Term) → IsAbove x f → j < length f → deglex x (get_or f j d).mono ≡ Greater
+above_at x [] j d h k = absurd (omega arith)
+above_at x (t ∷ f) zero d h k = h.0
+above_at x (t ∷ f) (suc j) d h k = above_at x f j d h.1 (omega arith)
 
--- ---- the first term that remains
+descends : (f : Terms) (i j : ℕ) (d : Term) → IsDescending f → i < j → j < length f → deglex (get_or f i d).mono (get_or f j d).mono ≡ Greater
+descends [] i j d h k l = absurd (omega arith)
+descends (t ∷ f) i zero d h k l = absurd (omega arith)
+descends (t ∷ f) zero (suc j) d h k l = above_at t.mono f j d h.1 (omega arith)
+descends (t ∷ f) (suc i) (suc j) d h k l = descends f i j d h.2 (omega arith) (omega arith)
+
+-- what lies below a monomial that isn't below e
+rises_by : (e x y : Exponents) (o : Ordering) → deglex e x ≡ o → deglex x y ≡ Greater → ordering_index o ≤ ordering_index (deglex e y)
+rises_by e x y Less is g = omega arith
+rises_by e x y Equal is g =
+    let below : deglex e y ≡ Greater = subst (λ z. deglex z y ≡ Greater) (sym (equal_same e x is)) g in
+    rw below (omega arith)
+rises_by e x y Greater is g = let below : deglex e y ≡ Greater = greater_trans e x y is g in rw below (omega arith)
+
+rises : (f : Terms) (e : Exponents) → IsDescending f → IsNonDecreasingBy (λ (t : Term). ordering_index (deglex e t.mono)) f
+rises f e descending i j d up within = elim (cases_lt i j) [
+  | inl lt ↦ rises_by e (get_or f i d).mono (get_or f j d).mono (deglex e (get_or f i d).mono) refl (descends f i j d descending lt within)
+  | inr ge ↦
+      let eq : i ≡ j = omega arith in
+      subst (λ k. ordering_index (deglex e (get_or f i d).mono) ≤ ordering_index (deglex e (get_or f k d).mono)) eq (omega arith)
+]
+
+deglex-self : (e : Exponents) → deglex e e ≡ Equal
+deglex-self e = by (deglex e e) refl
+  where
+    by : (o : Ordering) → deglex e e ≡ o → deglex e e ≡ Equal
+    by Less is = let flipped = deglex-total.antisymm e e ∙ ap ordering_reverse is in let a : Less ≡ Greater = sym is ∙ flipped in cc
+    by Equal is = is
+    by Greater is = absurd (never_greater e is)
+
+-- no monomial is e
+no_coefficient : (f : Terms) (e : Exponents) → HasVariables (length e) f → ((k : ℕ) (d : Term) → k < length f → deglex e (get_or f k d).mono ≢ Equal) → coefficient f e ≡ zero_ℚ
+no_coefficient [] e h other = refl
+no_coefficient (t ∷ f) e h other =
+    let differs : e ≡ t.mono → ⊥ = λ is. other 0 t (omega arith) (subst (λ z. deglex e z ≡ Equal) is (deglex-self e)) in
+    ap (λ b. (if b then t.coef else zero_ℚ) +ℚ coefficient f e) (apart e t.mono (sym h.0) differs)
+    ∙ zero-+ℚ (coefficient f e)
+    ∙ no_coefficient f e h.1 (λ k d within. other (suc k) d (omega arith))
+
+nonzero_in : (f : Terms) (i : ℕ) (d : Term) → IsDescending f → i < length f → (get_or f i d).coef ≢ zero_ℚ
+nonzero_in [] i d h k = absurd (omega arith)
+nonzero_in (t ∷ f) zero d h k = h.0
+nonzero_in (t ∷ f) (suc i) d h k = nonzero_in f i d h.2 (omega arith)
+
+same_at : (f : Terms) (i : ℕ) (s t : Term) → i < length f → get_or f i s ≡ get_or f i t
+same_at [] i s t h = absurd (omega arith)
+same_at (u ∷ f) zero s t h = refl
+same_at (u ∷ f) (suc i) s t h = same_at f i s t (omega arith)
 
 -- the number of variables of a term
 pub variables_at_place : (n : ℕ) (f : Terms) (i : ℕ) (d : Term) → HasVariables n f → i < length f → length (get_or f i d).mono ≡ n
@@ -84,40 +156,115 @@ variables_at_place n [] i d h k = absurd (omega arith)
 variables_at_place n (t ∷ f) zero d h k = h.0
 variables_at_place n (t ∷ f) (suc i) d h k = variables_at_place n f i d h.1 (omega arith)
 
-pub first_found : (f g : Terms) (i place : ℕ) (d : Term) → i < length f → SamePolynomial g f → IsPlaceOf g (get_or f i d).mono place
-    → ((k : ℕ) → k < i → IfSome (slice_get f k) (λ t. coefficient f t.mono ≡ zero_ℚ)) → IsFirstRemainingAt f g place
-first_found f g i place d h same found before = record {
-  term = found.term;
-  stands = found.stands;
-  first = record {
-    at = i;
-    term = get_or f i d;
-    stands = slice_get-get_or f i d h;
-    monomial = sym found.monomial;
-    remains = λ zero. found.nonzero (same (get_or f i d).mono ∙ ap (coefficient f) (sym found.monomial) ∙ zero);
-    before = before;
-  };
+-- the term at a place where the monomial is e
+is_place : (f : Terms) (e : Exponents) (i : ℕ) (d : Term) → i < length f → IsDescending f → HasVariables (length e) f → deglex e (get_or f i d).mono ≡ Equal → IsPlaceOf f e i
+is_place f e i d within descending variables is =
+    let t = get_or f i d in
+    let at : e ≡ t.mono = equal_same e t.mono is in
+    let here : coefficient f t.mono ≡ t.coef = coefficient-contains (length e) f t variables descending (i, within, same_at f i t d within) (variables_at_place (length e) f i d variables within) in
+    record {
+      term = t;
+      stands = slice_get-get_or f i d within;
+      monomial = sym at;
+      nonzero = λ none. nonzero_in f i d descending within (sym here ∙ ap (coefficient f) (sym at) ∙ none);
+    }
+
+never : (o : Ordering) → ((o ≡ Less) × (o ≡ Equal)) → ⊥
+never o h = let a = h.0 in let b = h.1 in cc
+
+never_over : (o : Ordering) → ((o ≡ Greater) × (o ≡ Equal)) → ⊥
+never_over o h = let a = h.0 in let b = h.1 in cc
+
+-- what a search finds
+pub found_place : (f : Terms) (e : Exponents) (r : Result ℕ ℕ) → IsDescending f → HasVariables (length e) f → IsSearchInRange r (length f) → IsBinarySearchResult (λ (t : Term). deglex e t.mono) f r
+    → MatchOption (result_ok r) (coefficient f e ≡ zero_ℚ) (IsPlaceOf f e)
+found_place [] e (Ok i) descending variables within found = absurd (omega arith)
+found_place (t ∷ f) e (Ok i) descending variables within found = is_place (t ∷ f) e i t within descending variables (found t)
+found_place f e (Err i) descending variables within found =
+    let parts = found (rises f e descending) in
+    no_coefficient f e variables (λ k u below same. elim (cases_lt k i) [
+      | inl lt ↦ never (deglex e (get_or f k u).mono) (parts.0 k u (omega arith) lt, same)
+      | inr ge ↦ never_over (deglex e (get_or f k u).mono) (parts.1 k u ge below, same)
+    ])
+
+-- ---- the first term that remains
+
+-- each of these terms vanishes in g
+abbrev pub Vanish : Terms → Terms → Type 0
+Vanish g [] = Unit {0}
+Vanish g (t ∷ f) = (coefficient g t.mono ≡ zero_ℚ) × Vanish g f
+
+vanish_push : (g f : Terms) (t : Term) → Vanish g f → coefficient g t.mono ≡ zero_ℚ → Vanish g (f ++ t ∷ [])
+vanish_push g [] t h e = (e, tt)
+vanish_push g (s ∷ f) t h e = (h.0, vanish_push g f t h.1 e)
+
+vanish_at : (g f others : Terms) (k : ℕ) → Vanish g f → k < length f → IfSome (slice_get (f ++ others) k) (λ t. coefficient g t.mono ≡ zero_ℚ)
+vanish_at g [] others k h below = absurd (omega arith)
+vanish_at g (t ∷ f) others zero h below = h.0
+vanish_at g (t ∷ f) others (suc k) h below = vanish_at g f others k h.1 (omega arith)
+
+stands_behind : (f others : Terms) (t : Term) → slice_get (f ++ t ∷ others) (length f) ≡ Some t
+stands_behind [] others t = refl
+stands_behind (s ∷ f) others t = stands_behind f others t
+
+-- the same coefficients in f
+same_zero : (f g : Terms) (k : ℕ) → SamePolynomial g f → IfSome (slice_get f k) (λ t. coefficient g t.mono ≡ zero_ℚ) → IfSome (slice_get f k) (λ t. coefficient f t.mono ≡ zero_ℚ)
+same_zero f g k same h = by (slice_get f k) h
+  where
+    by : (o : Option Term) → IfSome o (λ t. coefficient g t.mono ≡ zero_ℚ) → IfSome o (λ t. coefficient f t.mono ≡ zero_ℚ)
+    by (Some t) e = sym (same t.mono) ∙ e
+    by None e = tt
+
+-- the first i terms, each of which vanishes in g
+pub record Passed (n : ℕ) (us : List WrittenTerm) (g : Terms) (i : ℕ) : Type 0 where
+  pub taken : Taken n us i
+  pub vanish : Vanish g taken.terms
+
+pub passed_none : (n : ℕ) (us : List WrittenTerm) (g : Terms) → Passed n us g 0
+passed_none n us g = record { taken = taken_none n us; vanish = tt }
+
+pub passed_on : (n : ℕ) (us : List WrittenTerm) (g : Terms) (i : ℕ) (d : WrittenTerm) (x : Exponents) → i < length us → exponents_of n (get_or us i d) ≡ Ok x → coefficient g x ≡ zero_ℚ → Passed n us g i → Passed n us g (i + 1)
+passed_on n us g i d x h e none p = record {
+  taken = taken_on n us i d x h e p.taken;
+  vanish = vanish_push g p.taken.terms (record { coef = coefficient_of (get_or us i d); mono = x }) p.vanish none;
 }
 
-pub none_next : (f g : Terms) (i : ℕ) (d : Term) → i < length f → SamePolynomial g f → coefficient g (get_or f i d).mono ≡ zero_ℚ
-    → ((k : ℕ) → k < i → IfSome (slice_get f k) (λ t. coefficient f t.mono ≡ zero_ℚ))
-    → (k : ℕ) → k < i + 1 → IfSome (slice_get f k) (λ t. coefficient f t.mono ≡ zero_ℚ)
-none_next f g i d h same none before k below = elim (cases_lt k i) [
-  | inl lt ↦ before k lt
-  | inr ge ↦
-      let eq : i ≡ k = omega arith in
-      let P : ℕ → Type 0 = λ j. IfSome (slice_get f j) (λ t. coefficient f t.mono ≡ zero_ℚ) in
-      let here : IfSome (slice_get f i) (λ t. coefficient f t.mono ≡ zero_ℚ) = rw (slice_get-get_or f i d h) (sym (same (get_or f i d).mono) ∙ none) in
-      subst P eq here
-]
+found_by : (g f F : Terms) (t : Term) (place : ℕ) (r : Result Terms ExponentOverflow) → onto f (before_all (Ok t) r) ≡ Ok F → SamePolynomial g F → Vanish g f → IsPlaceOf g t.mono place → IsFirstRemainingAt F g place
+found_by g f F t place (Err o) e same vanish found = cc
+found_by g f F t place (Ok others) e same vanish found =
+    let whole : f ++ t ∷ others ≡ F = cc in
+    record {
+      term = found.term;
+      stands = found.stands;
+      first = record {
+        at = length f;
+        term = t;
+        stands = subst (λ l. slice_get l (length f) ≡ Some t) whole (stands_behind f others t);
+        monomial = sym found.monomial;
+        remains = λ zero. found.nonzero (same t.mono ∙ ap (coefficient F) (sym found.monomial) ∙ zero);
+        before = λ k below. same_zero F g k same (subst (λ l. IfSome (slice_get l k) (λ s. coefficient g s.mono ≡ zero_ℚ)) whole (vanish_at g f (t ∷ others) k vanish below));
+      };
+    }
 
-pub none_left : (f : Terms) (i : ℕ) → length f ≤ i → ((k : ℕ) → k < i → IfSome (slice_get f k) (λ t. coefficient f t.mono ≡ zero_ℚ)) → NoneRemains f
-none_left f i h before k = elim (cases_lt k i) [
-  | inl lt ↦ before k lt
-  | inr ge ↦
-      let past : length f ≤ k = omega arith in
-      rw (slice_get_past f k past) tt
-]
+pub passed_found : (n : ℕ) (us : List WrittenTerm) (g : Terms) (i : ℕ) (d : WrittenTerm) (x : Exponents) (place : ℕ) → i < length us → exponents_of n (get_or us i d) ≡ Ok x → IsSumOf n us g → IsPlaceOf g x place → Passed n us g i → FindsFirst n us g (Some place)
+passed_found n us g i d x place h e sum found p = λ F all.
+    let next : Term = record { coef = coefficient_of (get_or us i d); mono = x } in
+    let rest = terms_of n (drop (i + 1) us) in
+    let start : terms_of n (drop i us) ≡ before_all (Ok next) rest = terms_at n us i d h ∙ ap (λ r. before_all r rest) (said_term n (get_or us i d) x e) in
+    let whole : onto p.taken.terms (before_all (Ok next) rest) ≡ Ok F = ap (onto p.taken.terms) (sym start) ∙ p.taken.all ∙ all in
+    found_by g p.taken.terms F next place rest whole (sum F all) p.vanish found
+
+pub passed_end : (n : ℕ) (us : List WrittenTerm) (g : Terms) (i : ℕ) → length us ≤ i → IsSumOf n us g → Passed n us g i → FindsFirst n us g None
+passed_end n us g i h sum p = λ F all.
+    let f = p.taken.terms in
+    let got : terms_of n us ≡ Ok f = sym p.taken.all ∙ terms_end n f us i h in
+    let whole : f ≡ F = cc in
+    λ k. same_zero F g k (sum F all) (subst (λ l. IfSome (slice_get l k) (λ s. coefficient g s.mono ≡ zero_ℚ)) whole (none_left g f k p.vanish))
+  where
+    none_left : (g f : Terms) (k : ℕ) → Vanish g f → IfSome (slice_get f k) (λ t. coefficient g t.mono ≡ zero_ℚ)
+    none_left g [] k h = subst (λ (o : Option Term). IfSome o (λ t. coefficient g t.mono ≡ zero_ℚ)) (sym (slice_get_past {X = Term} [] k (omega arith))) tt
+    none_left g (t ∷ f) zero h = h.0
+    none_left g (t ∷ f) (suc k) h = none_left g f k h.1
 
 -- ---- places
 
@@ -127,28 +274,31 @@ within_by (s ∷ f) zero t e = omega arith
 within_by (s ∷ f) (suc i) t e = let h = within_by f i t e in omega arith
 
 -- terms that are written have a ring's variables
-raised_length : (x y : Exponents) (v : ℕ) → raised x v ≡ Ok y → length y ≡ length x
-raised_length x y v e = by (nat_lt (slice_index x v) (2 ^ 31 - 1)) (record { left = slice_index x v; right = 1 }) e
+raised_length : (x y : Exponents) (f : Factor) → raised x f ≡ Ok y → length y ≡ length x
+raised_length x y f e = by (nat_lt (slice_index x f.variable + f.exponent) (2 ^ 31)) (record { left = slice_index x f.variable; right = f.exponent }) e
   where
-    by : (b : Bool) (o : ExponentOverflow) → (if b then Ok (slice_set x v (slice_index x v + 1)) else Err o) ≡ Ok y → length y ≡ length x
-    by true o h = let is : slice_set x v (slice_index x v + 1) ≡ y = cc in ap length (sym is) ∙ length-set x v (slice_index x v + 1)
+    by : (b : Bool) (o : ExponentOverflow) → (if b then Ok (slice_set x f.variable (slice_index x f.variable + f.exponent)) else Err o) ≡ Ok y → length y ≡ length x
+    by true o h = let is : slice_set x f.variable (slice_index x f.variable + f.exponent) ≡ y = cc in ap length (sym is) ∙ length-set x f.variable (slice_index x f.variable + f.exponent)
     by false o h = cc
 
-times_length : (vs : List ℕ) (x y : Exponents) → times_variables x vs ≡ Ok y → length y ≡ length x
+times_length : (fs : List Factor) (x y : Exponents) → times_factors x fs ≡ Ok y → length y ≡ length x
 times_length [] x y e = let is : x ≡ y = cc in ap length (sym is)
-times_length (v ∷ vs) x y e = by (λ z h. times_length vs z y h) (raised x v) refl e
+times_length (f ∷ fs) x y e = by (λ z h. times_length fs z y h) (raised x f) refl e
   where
-    by : ((z : Exponents) → times_variables z vs ≡ Ok y → length y ≡ length z) → (r : Result Exponents ExponentOverflow) → raised x v ≡ r → then_variables r (λ z. times_variables z vs) ≡ Ok y → length y ≡ length x
-    by later (Ok z) is h = later z h ∙ raised_length x z v is
+    by : ((z : Exponents) → times_factors z fs ≡ Ok y → length y ≡ length z) → (r : Result Exponents ExponentOverflow) → raised x f ≡ r → then_factors r (λ z. times_factors z fs) ≡ Ok y → length y ≡ length x
+    by later (Ok z) is h = later z h ∙ raised_length x z f is
     by later (Err o) is h = cc
 
+pub exponents_length : (n : ℕ) (u : WrittenTerm) (x : Exponents) → exponents_of n u ≡ Ok x → length x ≡ n
+exponents_length n u x e = times_length u.factors (replicate n 0) x e ∙ length-replicate n 0
+
 term_length : (n : ℕ) (u : WrittenTerm) (t : Term) → term_of n u ≡ Ok t → length t.mono ≡ n
-term_length n u t e = by (times_variables (replicate n 0) u.variables) refl e
+term_length n u t e = by (exponents_of n u) refl e
   where
-    by : (r : Result Exponents ExponentOverflow) → times_variables (replicate n 0) u.variables ≡ r → with_coefficient (unit u.minus) r ≡ Ok t → length t.mono ≡ n
+    by : (r : Result Exponents ExponentOverflow) → exponents_of n u ≡ r → with_coefficient (coefficient_of u) r ≡ Ok t → length t.mono ≡ n
     by (Ok x) is h =
-        let same : record { coef = unit u.minus; mono = x } ≡ t = cc in
-        ap (λ (s : Term). length s.mono) (sym same) ∙ times_length u.variables (replicate n 0) x is ∙ length-replicate n 0
+        let same : record { coef = coefficient_of u; mono = x } ≡ t = cc in
+        ap (λ (s : Term). length s.mono) (sym same) ∙ exponents_length n u x is
     by (Err o) is h = cc
 
 pub terms_variables : (n : ℕ) (us : List WrittenTerm) (ts : Terms) → terms_of n us ≡ Ok ts → HasVariables n ts
@@ -162,7 +312,7 @@ terms_variables n (u ∷ us) ts e = by (term_of n u) (terms_of n us) refl refl (
 
 -- ---- polynomials, one after another
 
-sums_at : (n : ℕ) (qs : List (List WrittenTerm)) (i : ℕ) (d : List WrittenTerm) → i < length qs → sums_of n (drop i qs) ≡ before_all (terms_of n (get_or qs i d)) (sums_of n (drop (i + 1) qs))
+pub sums_at : (n : ℕ) (qs : List (List WrittenTerm)) (i : ℕ) (d : List WrittenTerm) → i < length qs → sums_of n (drop i qs) ≡ before_all (terms_of n (get_or qs i d)) (sums_of n (drop (i + 1) qs))
 sums_at n qs i d h = let front : drop i qs ≡ get_or qs i d ∷ drop (i + 1) qs = rw add-one (drop-cons qs i d h) in ap (sums_of n) front
 
 pub sums_on : (n : ℕ) (out : List Terms) (f : Terms) (qs : List (List WrittenTerm)) (i : ℕ) (d : List WrittenTerm) → i < length qs → terms_of n (get_or qs i d) ≡ Ok f
@@ -174,6 +324,20 @@ sums_refused n out o qs i d h e = ap (onto out) (sums_at n qs i d h ∙ ap (λ r
 
 pub sums_end : (n : ℕ) (out : List Terms) (qs : List (List WrittenTerm)) (i : ℕ) → length qs ≤ i → onto out (sums_of n (drop i qs)) ≡ Ok out
 sums_end n out qs i h = ap (λ l. onto out (sums_of n l)) (drop_all i qs h) ∙ ap (λ l. Ok l) (append-nil out)
+
+-- the first i polynomials, no term of which is refused
+pub record TakenSums (n : ℕ) (qs : List (List WrittenTerm)) (i : ℕ) : Type 0 where
+  pub sums : List Terms
+  pub all : onto sums (sums_of n (drop i qs)) ≡ sums_of n qs
+
+abbrev pub taken_sums_none : (n : ℕ) (qs : List (List WrittenTerm)) → TakenSums n qs 0
+taken_sums_none n qs = record { sums = []; all = onto_nothing (sums_of n qs) }
+
+abbrev pub taken_sums_on : (n : ℕ) (qs : List (List WrittenTerm)) (i : ℕ) (d : List WrittenTerm) → i < length qs → ExponentsFit n (get_or qs i d) → TakenSums n qs i → TakenSums n qs (i + 1)
+taken_sums_on n qs i d h fit t = record { sums = t.sums ++ fit.0 ∷ []; all = sym (sums_on n t.sums fit.0 qs i d h fit.1) ∙ t.all }
+
+pub taken_sums_all : (n : ℕ) (qs : List (List WrittenTerm)) (i : ℕ) → length qs ≤ i → TakenSums n qs i → AllExponentsFit n qs
+taken_sums_all n qs i h t = (t.sums, sym t.all ∙ sums_end n t.sums qs i h)
 
 pub sums_variables : (n : ℕ) (qs : List (List WrittenTerm)) (fs : List Terms) → sums_of n qs ≡ Ok fs → HaveVariables n fs
 sums_variables n [] fs e = let none : [] ≡ fs = cc in subst (HaveVariables n) none tt

@@ -1,11 +1,24 @@
 pub mod TokensLaws  -- the tokens of a text, one after another
-pub mod SpelledLaws  -- the tokens of a text whose tokens are one byte each
+pub mod SpelledLaws  -- bytes that spell tokens
 pub mod MachineLaws  -- what machines read, and what grammars say of it
+pub mod NamesLaws  -- different names, kept as keys of a set
 pub mod RingTextLaws  -- the machine of rings reads what the grammar says; printed rings are read again
 pub mod PrintedTextLaws  -- the pieces of printed terms
-pub mod SetReadLaws  -- the machine of sets reads no more than the grammar says
-pub mod SetTextLaws  -- it reads what the grammar says
-pub mod WrittenTextLaws  -- the tokens by which a set is said are a text of it
+pub mod LimitsLaws  -- what a text says is within its limits
 pub mod CombiningLaws  -- terms and sums of terms, one after another
 pub mod SetsLaws  -- sums of terms, one after another
 pub mod PrintedSetsLaws  -- the pieces of printed polynomials and sets
+pub mod SetTokensLaws  -- names, numbers and marks of a set
+pub mod SetFactorsLaws  -- the machine of sets at powers of variables
+pub mod SetTextLaws  -- the machine of sets reads what the grammar says
+pub mod SetPartsLaws  -- what is read from each place of a set on
+pub mod SetReadLaws  -- the machine of sets reads no more than the grammar says
+pub mod SetStopsLaws  -- why the machine of sets can't take a token
+pub mod SetMachineLaws  -- sets are read as the grammar says, and each state goes on to one
+pub mod SetKindsLaws  -- of which kind a fault of a set is
+pub mod PrintedTokensLaws  -- the tokens of printed numbers, names and powers
+pub mod PrintedTermsLaws  -- what printed terms say
+pub mod PrintedPolynomialsLaws  -- what printed polynomials and sets say
+pub mod CombinedAgainLaws  -- what is said of polynomials is combined to them
+pub mod ReadAgainLaws  -- printed sets are read again
+pub mod KeptLaws  -- what the program keeps is in range

@@ -1,9 +1,15 @@
 -- What machines read: turn by turn, and against what they do at the texts of tokens.
--- To cite: run_go, run_done, run_halt, run_ended for a loop; reads, is_read for grammars; after-go, after-done, after-++, first, not_yet. The rest are steps.
-use Rattle.std.proofs.Common.{◌≡◌, ℕ, Ok, Err, List, [], ◌∷◌, ◌++◌, refl, ap, ◌∙◌, ◌⊎◌, inl, inr}
-use Rattle.gf_text.specs.declared.error.Kind.{Kind}
-use Rattle.gf_text.specs.declared.error.Kind.TheVariants.{Ended}
-use Rattle.gf_text.specs.Machine.{Lexeme, behind, texts, behind_all, Move, go, done, halt, moved, run, followed, after, Reads, HasOneMeaning}
+-- To cite: run_go, run_done, run_halt, run_ended for a loop; reads, is_read for grammars; failed, IsMachineOf with fault, no_text, refused, caused for refusals,
+-- stopped, goes_on, never for their kinds;
+-- after-go, after-done, after-++, first, not_yet. The rest are steps.
+use Rattle.std.proofs.Common.{◌≡◌, ℕ, Result, Ok, Err, List, [], ◌∷◌, ◌++◌, refl, sym, ap, ◌∙◌, subst, ◌⊎◌, inl, inr, append_assoc}
+use Rattle.gf_text.specs.declared.error.Cause.{Cause}
+use Rattle.gf_text.specs.declared.error.Cause.TheVariants.{Ended, Unexpected, RepeatedName, ZeroDenominator, TooWide, UnknownName}
+use Rattle.gf_text.specs.declared.error.TextError.{TextError}
+use Rattle.gf_text.specs.declared.error.TextError.TheVariants as errors
+use Rattle.gf_text.specs.Machine.{Lexeme, behind, texts, behind_all, Move, go, done, halt, Fault, moved, run, followed, after, Reads, GoesOn, StandsAt, IsFaultAt, IsFault, HasOneMeaning}
+use Rattle.gf_text.specs.Given.{IsRefused, Fails, IsNoText, HasNone}
+use Rattle.gf_text.specs.Refusing.{refusal_at}
 
 module _ {S A : Type 0} (step : S → List ℕ → Move S A) where
   -- ---- one turn of a loop, whose next token is x
@@ -18,10 +24,10 @@ module _ {S A : Type 0} (step : S → List ℕ → Move S A) where
   pub run_done : (s : S) (a : A) (end : ℕ) (all : List Lexeme) (x : Lexeme) (xs : List Lexeme) → all ≡ x ∷ xs → step s x.text ≡ done a → run step s end all ≡ Ok (a, behind x)
   run_done s a end all x xs tokens e = run_at s end all x xs (done a) tokens e
 
-  pub run_halt : (s : S) (kind : Kind) (end : ℕ) (all : List Lexeme) (x : Lexeme) (xs : List Lexeme) → all ≡ x ∷ xs → step s x.text ≡ halt kind → run step s end all ≡ Err (record { at = x.at; kind = kind })
-  run_halt s kind end all x xs tokens e = run_at s end all x xs (halt kind) tokens e
+  pub run_halt : (s : S) (cause : Cause) (end : ℕ) (all : List Lexeme) (x : Lexeme) (xs : List Lexeme) → all ≡ x ∷ xs → step s x.text ≡ halt cause → run step s end all ≡ Err (record { at = x.at; cause = cause })
+  run_halt s cause end all x xs tokens e = run_at s end all x xs (halt cause) tokens e
 
-  pub run_ended : (s : S) (end : ℕ) (all : List Lexeme) → all ≡ [] → run step s end all ≡ Err (record { at = end; kind = Ended })
+  pub run_ended : (s : S) (end : ℕ) (all : List Lexeme) → all ≡ [] → run step s end all ≡ Err (record { at = end; cause = Ended })
   unfolding run
   run_ended s end all tokens = ap (run step s end) tokens
 
@@ -30,6 +36,14 @@ module _ {S A : Type 0} (step : S → List ℕ → Move S A) where
   pub after-go : (s t : S) (x : List ℕ) (xs : List (List ℕ)) → step s x ≡ go t → after step s (x ∷ xs) ≡ after step t xs
   unfolding after
   after-go s t x xs e = ap (λ m. followed m xs (λ u. after step u xs)) e
+
+  pub after-none : (s : S) → after step s [] ≡ go s
+  unfolding after
+  after-none s = refl
+
+  after-halt : (s : S) (cause : Cause) (x : List ℕ) (xs : List (List ℕ)) → step s x ≡ halt cause → after step s (x ∷ xs) ≡ halt cause
+  unfolding after
+  after-halt s cause x xs e = ap (λ m. followed m xs (λ u. after step u xs)) e
 
   pub after-done : (s : S) (a : A) (x : List ℕ) → step s x ≡ done a → after step s (x ∷ []) ≡ done a
   unfolding after
@@ -41,7 +55,7 @@ module _ {S A : Type 0} (step : S → List ℕ → Move S A) where
   then_by (go u) xs ys t later e = later u e
   then_by (done a) [] ys t later e = cc
   then_by (done a) (x ∷ xs) ys t later e = cc
-  then_by (halt kind) xs ys t later e = cc
+  then_by (halt cause) xs ys t later e = cc
 
   pub after-++ : (s t : S) (xs ys : List (List ℕ)) → after step s xs ≡ go t → after step s (xs ++ ys) ≡ after step t ys
   unfolding after
@@ -54,7 +68,7 @@ module _ {S A : Type 0} (step : S → List ℕ → Move S A) where
   first_by (go u) xs a e = inl (u, refl, e)
   first_by (done b) [] a e = inr (e, refl)
   first_by (done b) (x ∷ xs) a e = cc
-  first_by (halt kind) xs a e = cc
+  first_by (halt cause) xs a e = cc
 
   pub first : (s : S) (x : List ℕ) (xs : List (List ℕ)) (a : A) → after step s (x ∷ xs) ≡ done a
       → ((u : S) × (step s x ≡ go u) × (after step u xs ≡ done a)) ⊎ ((step s x ≡ done a) × (xs ≡ []))
@@ -74,7 +88,7 @@ module _ {S A : Type 0} (step : S → List ℕ → Move S A) where
   read_by (go t) x front back a end later e = later t e
   read_by (done b) x [] back a end later e = let same : b ≡ a = cc in ap (λ c. Ok (c, behind x)) same
   read_by (done b) x (y ∷ front) back a end later e = cc
-  read_by (halt kind) x front back a end later e = cc
+  read_by (halt cause) x front back a end later e = cc
 
   -- tokens with which the machine is done are read, whatever follows them
   pub read : (s : S) (d end : ℕ) (front back : List Lexeme) (a : A) → after step s (texts front) ≡ done a → run step s end (front ++ back) ≡ Ok (a, behind_all d front)
@@ -113,7 +127,7 @@ module _ {S A : Type 0} (step : S → List ℕ → Move S A) where
         text = after-done s b x.text is ∙ ap (λ p. done (p.0)) pair;
         end = ap (λ p. p.1) pair;
       }
-  taken_by s (halt kind) d x xs a end place is later e = cc
+  taken_by s (halt cause) d x xs a end place is later e = cc
 
   taken : (s : S) (d end : ℕ) (xs : List Lexeme) (a : A) (place : ℕ) → run step s end xs ≡ Ok (a, place) → Taken s d xs a place
   unfolding run
@@ -143,3 +157,147 @@ module _ {S A : Type 0} (step : S → List ℕ → Move S A) where
       let again : A × ℕ = (b, other) in
       let pair : got ≡ again = cc in
       (ap (λ p. p.0) pair, ap (λ p. p.1) pair)
+
+  -- ---- where reading stops
+
+  -- the machine goes on at tokens of the front, and can't take the next one
+  pub record Halted (s : S) (xs : List Lexeme) (f : Fault) : Type 0 where
+    pub front : List Lexeme
+    pub token : Lexeme
+    pub back : List Lexeme
+    pub state : S
+    pub whole : xs ≡ front ++ token ∷ back
+    pub reached : after step s (texts front) ≡ go state
+    pub halts : step state token.text ≡ halt f.cause
+    pub at : token.at ≡ f.at
+
+  -- the machine goes on at all tokens
+  pub record Unfinished (s : S) (xs : List Lexeme) (end : ℕ) (f : Fault) : Type 0 where
+    pub state : S
+    pub reached : after step s (texts xs) ≡ go state
+    pub fault : f ≡ record { at = end; cause = Ended }
+
+  stopped_by : (s : S) (m : Move S A) (x : Lexeme) (xs : List Lexeme) (end : ℕ) (f : Fault) → step s x.text ≡ m
+      → ((t : S) → run step t end xs ≡ Err f → Halted t xs f ⊎ Unfinished t xs end f)
+      → moved m x (λ t. run step t end xs) ≡ Err f → Halted s (x ∷ xs) f ⊎ Unfinished s (x ∷ xs) end f
+  stopped_by s (go t) x xs end f is later e = elim (later t e) [
+    | inl h ↦ inl (record {
+      front = x ∷ h.front;
+      token = h.token;
+      back = h.back;
+      state = h.state;
+      whole = ap (λ l. x ∷ l) h.whole;
+      reached = after-go s t x.text (texts h.front) is ∙ h.reached;
+      halts = h.halts;
+      at = h.at;
+    })
+    | inr u ↦ inr (record { state = u.state; reached = after-go s t x.text (texts xs) is ∙ u.reached; fault = u.fault })
+  ]
+  stopped_by s (done a) x xs end f is later e = cc
+  stopped_by s (halt cause) x xs end f is later e =
+      let got : Fault = record { at = x.at; cause = cause } in
+      let same : got ≡ f = cc in
+      inl (record {
+        front = [];
+        token = x;
+        back = xs;
+        state = s;
+        whole = refl;
+        reached = after-none s;
+        halts = is ∙ ap (λ g. halt (g.cause)) same;
+        at = ap (λ g. g.at) same;
+      })
+
+  pub stopped : (s : S) (end : ℕ) (xs : List Lexeme) (f : Fault) → run step s end xs ≡ Err f → Halted s xs f ⊎ Unfinished s xs end f
+  unfolding run
+  stopped s end [] f e =
+      let got : Fault = record { at = end; cause = Ended } in
+      let same : got ≡ f = cc in
+      inr (record { state = s; reached = after-none s; fault = sym same })
+  stopped s end (x ∷ xs) f e = stopped_by s (step s x.text) x xs end f refl (λ t g. stopped t end xs f g) e
+
+  -- a fault's cause is the end of the text, or what the machine halts with at a token
+  pub caused : (P : Cause → Type 0) → P Ended → ((u : S) (t : List ℕ) (cause : Cause) → step u t ≡ halt cause → P cause)
+      → (s : S) (end : ℕ) (xs : List Lexeme) (f : Fault) → run step s end xs ≡ Err f → P f.cause
+  caused P at_end at_token s end xs f e = elim (stopped s end xs f e) [
+    | inl h ↦ at_token h.state h.token.text f.cause h.halts
+    | inr u ↦ subst (λ (g : Fault). P g.cause) (sym u.fault) at_end
+  ]
+
+-- The machine, begun in this state, is done with exactly the texts of the grammar; from each state it gets done with some
+-- tokens, and at no token it says that the text has ended.
+pub record IsMachineOf {S A : Type 0} (step : S → List ℕ → Move S A) (start : S) (grammar : List (List ℕ) → A → Type 0) : Type 0 where
+  pub said : (ts : List (List ℕ)) (a : A) → after step start ts ≡ done a → grammar ts a
+  pub given : (ts : List (List ℕ)) (a : A) → grammar ts a → after step start ts ≡ done a
+  pub live : (s : S) → (ts : List (List ℕ)) × (a : A) × (after step s ts ≡ done a)
+  pub tells : (s : S) (t : List ℕ) → step s t ≡ halt Ended → ⊥
+
+module _ {S A : Type 0} {step : S → List ℕ → Move S A} {start : S} {grammar : List (List ℕ) → A → Type 0} (is : IsMachineOf step start grammar) where
+  -- tokens at which the machine goes on go on to a text
+  pub goes_on : (ts : List (List ℕ)) (s : S) → after step start ts ≡ go s → GoesOn grammar ts
+  goes_on ts s e =
+      let l = is.live s in
+      (l.0, l.1, is.said (ts ++ l.0) l.1 (after-++ step start s ts l.0 e ∙ l.2))
+
+  -- and with a token that it can't take they never do
+  pub never : (ts : List (List ℕ)) (s : S) (t : List ℕ) (cause : Cause) → after step start ts ≡ go s → step s t ≡ halt cause → GoesOn grammar (ts ++ t ∷ []) → ⊥
+  never ts s t cause e h g =
+      let whole = is.given ((ts ++ t ∷ []) ++ g.0) g.1 g.2 in
+      let stops = ap (after step start) (append_assoc ts (t ∷ []) g.0) ∙ after-++ step start s ts (t ∷ g.0) e ∙ after-halt step s cause t g.0 h in
+      cc
+
+  stands_at : (xs : List Lexeme) (f : Fault) → Halted step start xs f → StandsAt grammar xs f.at
+  stands_at xs f h = record {
+    front = h.front;
+    token = h.token;
+    back = h.back;
+    whole = h.whole;
+    at = h.at;
+    before = goes_on (texts h.front) h.state h.reached;
+    never = never (texts h.front) h.state h.token.text f.cause h.reached h.halts;
+  }
+
+  is_fault_at : (xs : List Lexeme) (end place : ℕ) (cause : Cause) → StandsAt grammar xs place → (cause ≡ Ended → ⊥) → IsFaultAt grammar xs end place cause
+  is_fault_at xs end place Ended h other = absurd (other refl)
+  is_fault_at xs end place Unexpected h other = h
+  is_fault_at xs end place RepeatedName h other = h
+  is_fault_at xs end place ZeroDenominator h other = h
+  is_fault_at xs end place TooWide h other = h
+  is_fault_at xs end place UnknownName h other = h
+
+  -- a fault stands at the first token after which nothing goes on, or at the end of a text that goes on
+  pub fault : (end : ℕ) (xs : List Lexeme) (f : Fault) → run step start end xs ≡ Err f → IsFault grammar xs end f
+  fault end xs f e = elim (stopped step start end xs f e) [
+    | inl h ↦ is_fault_at xs end f.at f.cause (stands_at xs f h) (λ ended. is.tells h.state h.token.text (h.halts ∙ ap (λ c. halt c) ended))
+    | inr u ↦
+        let P : Fault → Type 0 = λ g. IsFault grammar xs end g in
+        subst P (sym u.fault) (refl, goes_on (texts xs) u.state u.reached)
+  ]
+
+  pub no_text : (end : ℕ) (xs : List Lexeme) (e : TextError) → IsRefused e (run step start end xs) → IsNoText grammar xs end e
+  no_text end xs e refused = record {
+    fault = refused.0;
+    refused = refused.2;
+    place = fault end xs refused.0 refused.1;
+    none = λ a place r. (let read = is_read step grammar start end xs a place (λ ts. is.given ts a) r in let not_read = refused.1 in cc);
+  }
+
+  -- a text that the machine doesn't read is no text of the grammar
+  pub refused : (end : ℕ) (xs : List Lexeme) (e : TextError) → Fails e (run step start end xs) → HasNone e grammar xs end
+  refused end xs (errors.Overflow o) h = absurd h
+  refused end xs (errors.Exponent o) h = absurd h
+  refused end xs (errors.Syntax s) h = no_text end xs (errors.Syntax s) h
+  refused end xs (errors.TooWide place) h = no_text end xs (errors.TooWide place) h
+  refused end xs (errors.UnknownName place) h = no_text end xs (errors.UnknownName place) h
+  refused end xs (errors.TooManyVariables count) h = absurd h
+  refused end xs (errors.ZeroPolynomial set index) h = absurd h
+  refused end xs errors.Memory h = tt
+
+-- a fault is refused as what it is
+pub failed : {Y : Type 0} (read : Result Y Fault) (place : ℕ) (cause : Cause) → read ≡ Err (record { at = place; cause = cause }) → Fails (refusal_at place cause) read
+failed read place Ended e = (record { at = place; cause = Ended }, e, refl)
+failed read place Unexpected e = (record { at = place; cause = Unexpected }, e, refl)
+failed read place RepeatedName e = (record { at = place; cause = RepeatedName }, e, refl)
+failed read place ZeroDenominator e = (record { at = place; cause = ZeroDenominator }, e, refl)
+failed read place TooWide e = (record { at = place; cause = TooWide }, e, refl)
+failed read place UnknownName e = (record { at = place; cause = UnknownName }, e, refl)

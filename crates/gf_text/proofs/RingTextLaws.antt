@@ -1,18 +1,22 @@
--- The machine of rings reads what the grammar of rings says.
--- To cite: ring_reads, ring_is_read, ring_refused, one_ring, rings_again. The rest are steps.
-use Rattle.std.proofs.Common.{Ok, Err, subst, flat_map, ◌≡◌, ◌<◌, ◌≤◌, ℕ, ◌+◌, Bool, true, false, ◌&&◌, not, nat_lt, List, [], ◌∷◌, ◌++◌, length, refl, sym, ap, ◌∙◌, inl, inr, append_assoc, append-nil, length-append, bytes_eq, arith, if◌then◌else◌}
-use Rattle.std.proofs.lemmas.Bool.Decides.{nat_tests}
+-- The machine of rings reads exactly what the grammar of rings says, and a printed ring is read again.
+-- To cite: ring_machine, ring_reads, ring_is_read, ring_read, ring_refused, one_ring, rings_again. The rest are steps.
+use Rattle.std.proofs.Common.{◌≡◌, ◌<◌, ◌≤◌, ℕ, zero, suc, ◌+◌, Bool, true, false, ◌||◌, List, [], ◌∷◌, ◌++◌, length, flat_map, Ok, Err, refl, sym, ap, ◌∙◌, subst, inl, inr, append_assoc, append-nil, length-append, bytes_eq, arith, if◌then◌else◌, replicate}
 use Rattle.std.proofs.lemmas.Slice.Eq.{bytes_eq-Decides}
-use Rattle.gf_text.specs.declared.error.Kind.TheVariants.{Unexpected}
+use Rattle.std.proofs.lemmas.List.{length-replicate}
+use Rattle.std.specs.List.{list_all}
+use Rattle.gf_text.specs.declared.error.Cause.{Cause}
+use Rattle.gf_text.specs.declared.error.Cause.TheVariants.{Ended, Unexpected, RepeatedName, ZeroDenominator, TooWide, UnknownName}
 use Rattle.gf_text.specs.declared.error.TextError.{TextError}
 use Rattle.gf_text.specs.declared.error.TextError.TheVariants as errors
-use Rattle.gf_text.specs.Given.{Fails, HasNone}
 use Rattle.gf_text.specs.declared.ring_reader.RingPlace.TheVariants as at
-use Rattle.gf_text.specs.Machine.{Move, go, done, halt, after, Fault, Reads, HasOneMeaning}
-use Rattle.gf_text.specs.Tokens.{lexemes, one_byte}
-use Rattle.gf_text.specs.RingText.{is_name, is_new, has, AreNew, IsRing, IsRingText, ring_tokens, more_names, letter_q, bracket, comma, bracket_end, RingState, ring_step, ring_at, ring_words, names_text, RingsAreReadAgain}
-use Rattle.gf_text.proofs.MachineLaws.{after-go, after-done, first, not_yet, reads, is_read, one_meaning}
-use Rattle.gf_text.proofs.SpelledLaws.{spaced, spaced_at, texts-spaced, behind-spaced, tokens_of, tokens_of-++, letter_of}
+use Rattle.gf_text.specs.Given.{Fails}
+use Rattle.gf_text.specs.Refusing.{refusal_at}
+use Rattle.gf_text.specs.Machine.{Move, go, done, halt, after, Fault, run, Reads, HasOneMeaning}
+use Rattle.gf_text.specs.Rings.{IsRingRead, HasNoRing, IsRingCause}
+use Rattle.gf_text.specs.RingText.{is_name, has, AreNew, IsRing, IsRingText, ring_tokens, more_names, letter_q, bracket, comma, bracket_end, RingState, ring_step, ring_at, ring_words, names_text, RingsAreReadAgain}
+use Rattle.gf_text.specs.Tokens.{is_space, is_name_byte, lexemes, word_more, Position}
+use Rattle.gf_text.proofs.MachineLaws.{after-go, after-done, first, not_yet, reads, is_read, one_meaning, caused, IsMachineOf, no_text}
+use Rattle.gf_text.proofs.SpelledLaws.{IsToken, IsSpelled, goes_on, spelled-none, spelled-token, spelled-++, spelled-read, word_token}
 
 -- ---- what the machine does at a token
 
@@ -22,46 +26,49 @@ Names = List (List ℕ)
 abbrev goes : RingState → Move RingState Names
 goes s = go s
 
-abbrev stops : Move RingState Names
-stops = halt Unexpected
+abbrev stops : Cause → Move RingState Names
+stops cause = halt cause
 
 abbrev ends : Names → Move RingState Names
 ends names = done names
 
-new_by : (a b c : Bool) → (a && (b && not c)) ≡ true → (a ≡ true) × (b ≡ true) × (c ≡ false)
-new_by true true false e = (refl, refl, refl)
-new_by true true true e = cc
-new_by true false c e = cc
-new_by false b c e = cc
+is_mark : (t mark : List ℕ) → bytes_eq t mark ≡ true → t ≡ mark
+is_mark t mark is = (bytes_eq-Decides t mark).0 is
 
-short : (n : ℕ) → nat_lt n 16 ≡ true → n < 16
-short n h = grind (arith, nat_tests, h)
-
-short_enough : (n : ℕ) → n < 16 → nat_lt n 16 ≡ true
-short_enough n h = grind (arith, nat_tests, h)
-
-is_letter_q : (before : Names) (t : List ℕ) (v : Bool) → bytes_eq t letter_q ≡ v → (u : RingState) → (if v then goes (at.Bracket, before) else stops) ≡ goes u → (t ≡ letter_q) × (u ≡ (at.Bracket, before))
-is_letter_q before t true is u e = ((bytes_eq-Decides t letter_q).0 is, cc)
+is_letter_q : (before : Names) (t : List ℕ) (v : Bool) → bytes_eq t letter_q ≡ v → (u : RingState) → (if v then goes (at.Bracket, before) else stops Unexpected) ≡ goes u → (t ≡ letter_q) × (u ≡ (at.Bracket, before))
+is_letter_q before t true is u e = (is_mark t letter_q is, cc)
 is_letter_q before t false is u e = cc
 
-is_bracket : (before : Names) (t : List ℕ) (v : Bool) → bytes_eq t bracket ≡ v → (u : RingState) → (if v then goes (at.Variable, before) else stops) ≡ goes u → (t ≡ bracket) × (u ≡ (at.Variable, before))
-is_bracket before t true is u e = ((bytes_eq-Decides t bracket).0 is, cc)
+is_bracket : (before : Names) (t : List ℕ) (v : Bool) → bytes_eq t bracket ≡ v → (u : RingState) → (if v then goes (at.Variable, before) else stops Unexpected) ≡ goes u → (t ≡ bracket) × (u ≡ (at.Variable, before))
+is_bracket before t true is u e = (is_mark t bracket is, cc)
 is_bracket before t false is u e = cc
 
-is_variable : (before : Names) (t : List ℕ) (v : Bool) → is_new before t ≡ v → (u : RingState) → (if v then goes (at.Behind, before ++ t ∷ []) else stops) ≡ goes u
-    → (is_new before t ≡ true) × (u ≡ (at.Behind, before ++ t ∷ []))
-is_variable before t true is u e = (is, cc)
-is_variable before t false is u e = cc
+is_variable : (before : Names) (t : List ℕ) (v w : Bool) → is_name t ≡ v → has before t ≡ w → (u : RingState)
+    → (if v then (if w then stops RepeatedName else goes (at.Behind, before ++ t ∷ [])) else stops Unexpected) ≡ goes u
+    → (is_name t ≡ true) × (has before t ≡ false) × (u ≡ (at.Behind, before ++ t ∷ []))
+is_variable before t true true named new u e = cc
+is_variable before t true false named new u e = (named, new, cc)
+is_variable before t false w named new u e = cc
 
-is_comma : (before : Names) (t : List ℕ) (v w : Bool) → bytes_eq t comma ≡ v → (u : RingState) → (if v then goes (at.Variable, before) else if w then ends before else stops) ≡ goes u → (t ≡ comma) × (u ≡ (at.Variable, before))
-is_comma before t true w is u e = ((bytes_eq-Decides t comma).0 is, cc)
+is_comma : (before : Names) (t : List ℕ) (v w : Bool) → bytes_eq t comma ≡ v → (u : RingState) → (if v then goes (at.Variable, before) else if w then ends before else stops Unexpected) ≡ goes u → (t ≡ comma) × (u ≡ (at.Variable, before))
+is_comma before t true w is u e = (is_mark t comma is, cc)
 is_comma before t false true is u e = cc
 is_comma before t false false is u e = cc
 
-is_end : (before names : Names) (t : List ℕ) (v w : Bool) → bytes_eq t bracket_end ≡ w → (if v then goes (at.Variable, before) else if w then ends before else stops) ≡ ends names → (t ≡ bracket_end) × (before ≡ names)
+is_end : (before names : Names) (t : List ℕ) (v w : Bool) → bytes_eq t bracket_end ≡ w → (if v then goes (at.Variable, before) else if w then ends before else stops Unexpected) ≡ ends names → (t ≡ bracket_end) × (before ≡ names)
 is_end before names t true w is e = cc
-is_end before names t false true is e = ((bytes_eq-Decides t bracket_end).0 is, cc)
+is_end before names t false true is e = (is_mark t bracket_end is, cc)
 is_end before names t false false is e = cc
+
+-- at a token it is done behind names alone
+never_first : {X : Type 0} (u : RingState) (v : Bool) (names : Names) → (if v then goes u else stops Unexpected) ≡ ends names → X
+never_first u true names e = cc
+never_first u false names e = cc
+
+never_name : {X : Type 0} (u : RingState) (v w : Bool) (names : Names) → (if v then (if w then stops RepeatedName else goes u) else stops Unexpected) ≡ ends names → X
+never_name u true true names e = cc
+never_name u true false names e = cc
+never_name u false w names e = cc
 
 -- ---- what is read is a ring's text
 
@@ -71,46 +78,37 @@ record More (before names : Names) (ts : Names) : Type 0 where
   all : names ≡ before ++ later
   tokens : ts ≡ more_names later ++ bracket_end ∷ []
   new : AreNew before later
-  few : length before ≤ 16 → length names ≤ 16
 
 -- where a name is expected: one, and what follows it
 record Named (before names : Names) (ts : Names) : Type 0 where
   name : List ℕ
   rest : Names
   tokens : ts ≡ name ∷ rest
-  new : is_new before name ≡ true
+  named : is_name name ≡ true
+  new : has before name ≡ false
   more : More (before ++ name ∷ []) names rest
 
--- the machine never is done where a name is expected
-never : {X : Type 0} (before names : Names) (t : List ℕ) (v : Bool) → (if v then goes (at.Behind, before ++ t ∷ []) else stops) ≡ ends names → X
-never before names t true e = cc
-never before names t false e = cc
-
 with_comma : (before names : Names) (t : List ℕ) (ts : Names) → t ≡ comma → Named before names ts → More before names (t ∷ ts)
-with_comma before names t ts is n =
-    let facts = new_by (is_name n.name) (nat_lt (length before) 16) (has before n.name) n.new in
-    let room = short (length before) facts.1 in
-    record {
-      later = n.name ∷ n.more.later;
-      all = n.more.all ∙ append_assoc before (n.name ∷ []) n.more.later;
-      tokens = ap (λ x. x ∷ ts) is ∙ ap (λ l. comma ∷ l) (n.tokens ∙ ap (λ l. n.name ∷ l) n.more.tokens);
-      new = (facts.0, facts.2, n.more.new);
-      few = λ h. n.more.few (omega (arith, length-append before (n.name ∷ [])));
-    }
+with_comma before names t ts is n = record {
+  later = n.name ∷ n.more.later;
+  all = n.more.all ∙ append_assoc before (n.name ∷ []) n.more.later;
+  tokens = ap (λ x. x ∷ ts) is ∙ ap (λ l. comma ∷ l) (n.tokens ∙ ap (λ l. n.name ∷ l) n.more.tokens);
+  new = (n.named, n.new, n.more.new);
+}
 
 named_said : (t : List ℕ) (ts before names : Names) → ((u : Names) → after ring_step (at.Behind, u) ts ≡ done names → More u names ts) → after ring_step (at.Variable, before) (t ∷ ts) ≡ done names → Named before names (t ∷ ts)
 named_said t ts before names later e = elim (first ring_step (at.Variable, before) t ts names e) [
-  | inr d ↦ never before names t (is_new before t) d.0
+  | inr d ↦ never_name (at.Behind, before ++ t ∷ []) (is_name t) (has before t) names d.0
   | inl g ↦
-      let is = is_variable before t (is_new before t) refl g.0 g.1 in
-      record { name = t; rest = ts; tokens = refl; new = is.0; more = later (before ++ t ∷ []) (ap (λ u. after ring_step u ts) (sym is.1) ∙ g.2) }
+      let is = is_variable before t (is_name t) (has before t) refl refl g.0 g.1 in
+      record { name = t; rest = ts; tokens = refl; named = is.0; new = is.1; more = later (before ++ t ∷ []) (ap (λ u. after ring_step u ts) (sym is.2) ∙ g.2) }
 ]
 
 comma_said : (t : List ℕ) (before names ts : Names) → (after ring_step (at.Variable, before) ts ≡ done names → Named before names ts) → after ring_step (at.Behind, before) (t ∷ ts) ≡ done names → More before names (t ∷ ts)
 comma_said t before names ts later e = elim (first ring_step (at.Behind, before) t ts names e) [
   | inr d ↦
       let is = is_end before names t (bytes_eq t comma) (bytes_eq t bracket_end) refl d.0 in
-      record { later = []; all = sym is.1 ∙ sym (append-nil before); tokens = ap (λ x. x ∷ ts) is.0 ∙ ap (λ l. bracket_end ∷ l) d.1; new = tt; few = λ h. rw (← is.1) h }
+      record { later = []; all = sym is.1 ∙ sym (append-nil before); tokens = ap (λ x. x ∷ ts) is.0 ∙ ap (λ l. bracket_end ∷ l) d.1; new = tt }
   | inl g ↦
       let is = is_comma before t (bytes_eq t comma) (bytes_eq t bracket_end) refl g.0 g.1 in
       with_comma before names t ts is.0 (later (ap (λ u. after ring_step u ts) (sym is.1) ∙ g.2))
@@ -128,117 +126,245 @@ name_said (t ∷ ts) before names e = named_said t ts before names (λ u. more_s
 bracket_said : (ts names : Names) → after ring_step (at.Bracket, []) ts ≡ done names → (rest : Names) × (ts ≡ bracket ∷ rest) × Named [] names rest
 bracket_said [] names e = absurd (not_yet ring_step (at.Bracket, []) names e)
 bracket_said (t ∷ ts) names e = elim (first ring_step (at.Bracket, []) t ts names e) [
-  | inr d ↦ absurd (never_bracket (bytes_eq t bracket) d.0)
+  | inr d ↦ never_first (at.Variable, []) (bytes_eq t bracket) names d.0
   | inl g ↦
       let is = is_bracket [] t (bytes_eq t bracket) refl g.0 g.1 in
       (ts, ap (λ x. x ∷ ts) is.0, name_said ts [] names (ap (λ u. after ring_step u ts) (sym is.1) ∙ g.2))
 ]
-  where
-    never_bracket : (v : Bool) → (if v then goes (at.Variable, []) else stops) ≡ ends names → ⊥
-    never_bracket true e = cc
-    never_bracket false e = cc
 
 ring_by : (names ts : Names) → (rest : Names) × (ts ≡ letter_q ∷ bracket ∷ rest) × Named [] names rest → IsRingText ts names
 ring_by names ts (rest, is, n) =
-    let facts = new_by (is_name n.name) (nat_lt 0 16) (has [] n.name) n.new in
     let whole : names ≡ n.name ∷ n.more.later = n.more.all in
     let said : IsRingText ts (n.name ∷ n.more.later) = record {
       tokens = is ∙ ap (λ l. letter_q ∷ bracket ∷ l) (n.tokens ∙ ap (λ l. n.name ∷ l) n.more.tokens);
-      ring = record { some = omega arith; few = rw whole at (n.more.few (omega arith)); different = (facts.0, facts.2, n.more.new) };
+      some = omega arith;
+      different = (n.named, n.new, n.more.new);
     } in
     rw whole said
 
 ring_said : (ts names : Names) → after ring_step (at.Letter, []) ts ≡ done names → IsRingText ts names
 ring_said [] names e = absurd (not_yet ring_step (at.Letter, []) names e)
 ring_said (t ∷ ts) names e = elim (first ring_step (at.Letter, []) t ts names e) [
-  | inr d ↦ absurd (never_letter (bytes_eq t letter_q) d.0)
+  | inr d ↦ never_first (at.Bracket, []) (bytes_eq t letter_q) names d.0
   | inl g ↦
       let is = is_letter_q [] t (bytes_eq t letter_q) refl g.0 g.1 in
       let r = bracket_said ts names (ap (λ u. after ring_step u ts) (sym is.1) ∙ g.2) in
       ring_by names (t ∷ ts) (r.0, ap (λ x. x ∷ ts) is.0 ∙ ap (λ l. letter_q ∷ l) r.1, r.2)
 ]
-  where
-    never_letter : (v : Bool) → (if v then goes (at.Bracket, []) else stops) ≡ ends names → ⊥
-    never_letter true e = cc
-    never_letter false e = cc
 
 -- ---- a ring's text is read
 
-new_name : (before : Names) (n : List ℕ) → is_name n ≡ true → has before n ≡ false → length before < 16 → is_new before n ≡ true
-new_name before n named new room = rw (named, short_enough (length before) room, new) refl
+variable_go : (before : Names) (n : List ℕ) (ts : Names) → is_name n ≡ true → has before n ≡ false → after ring_step (at.Variable, before) (n ∷ ts) ≡ after ring_step (at.Behind, before ++ n ∷ []) ts
+variable_go before n ts named new = after-go ring_step (at.Variable, before) (at.Behind, before ++ n ∷ []) n ts (rw (named, new) refl)
 
-variable_go : (before : Names) (n : List ℕ) (ts : Names) → is_new before n ≡ true → after ring_step (at.Variable, before) (n ∷ ts) ≡ after ring_step (at.Behind, before ++ n ∷ []) ts
-variable_go before n ts new = after-go ring_step (at.Variable, before) (at.Behind, before ++ n ∷ []) n ts (rw new refl)
-
-more_given : (ns before : Names) → AreNew before ns → length before + length ns ≤ 16 → after ring_step (at.Behind, before) (more_names ns ++ bracket_end ∷ []) ≡ done (before ++ ns)
-more_given [] before new room = after-done ring_step (at.Behind, before) before bracket_end refl ∙ ap (λ l. done l) (sym (append-nil before))
-more_given (n ∷ ns) before new room =
+more_given : (ns before : Names) → AreNew before ns → after ring_step (at.Behind, before) (more_names ns ++ bracket_end ∷ []) ≡ done (before ++ ns)
+more_given [] before new = after-done ring_step (at.Behind, before) before bracket_end refl ∙ ap (λ l. done l) (sym (append-nil before))
+more_given (n ∷ ns) before new =
     after-go ring_step (at.Behind, before) (at.Variable, before) comma (n ∷ (more_names ns ++ bracket_end ∷ [])) refl
-    ∙ variable_go before n (more_names ns ++ bracket_end ∷ []) (new_name before n new.0 new.1 (omega arith))
-    ∙ more_given ns (before ++ n ∷ []) new.2 (omega (arith, length-append before (n ∷ [])))
+    ∙ variable_go before n (more_names ns ++ bracket_end ∷ []) new.0 new.1
+    ∙ more_given ns (before ++ n ∷ []) new.2
     ∙ ap (λ l. done l) (append_assoc before (n ∷ []) ns)
 
-ring_given_by : (names : Names) → IsRing names → after ring_step (at.Letter, []) (ring_tokens names) ≡ done names
-ring_given_by [] ring = absurd (omega (arith, ring.some))
-ring_given_by (n ∷ ns) ring =
+ring_given_by : (names : Names) → 0 < length names → AreNew [] names → after ring_step (at.Letter, []) (ring_tokens names) ≡ done names
+ring_given_by [] some new = absurd (omega arith)
+ring_given_by (n ∷ ns) some new =
     let rest = more_names ns ++ bracket_end ∷ [] in
     after-go ring_step (at.Letter, []) (at.Bracket, []) letter_q (bracket ∷ n ∷ rest) refl
     ∙ after-go ring_step (at.Bracket, []) (at.Variable, []) bracket (n ∷ rest) refl
-    ∙ variable_go [] n rest (new_name [] n ring.different.0 ring.different.1 (omega arith))
-    ∙ more_given ns (n ∷ []) ring.different.2 (omega (arith, ring.few))
+    ∙ variable_go [] n rest new.0 new.1
+    ∙ more_given ns (n ∷ []) new.2
 
 ring_given : (ts names : Names) → IsRingText ts names → after ring_step (at.Letter, []) ts ≡ done names
-ring_given ts names h = ap (after ring_step (at.Letter, [])) h.tokens ∙ ring_given_by names h.ring
+ring_given ts names h = ap (after ring_step (at.Letter, [])) h.tokens ∙ ring_given_by names h.some h.different
+
+-- ---- from each state a ring is read to its end: a new name can always follow
+
+lengths : Names → ℕ
+lengths [] = 0
+lengths (n ∷ ns) = length n + lengths ns
+
+-- a name longer than all of these
+long_name : Names → List ℕ
+long_name names = 97 ∷ replicate (lengths names) 97
+
+letters : (k : ℕ) → list_all is_name_byte (replicate k 97) ≡ true
+letters zero = refl
+letters (suc k) = letters k
+
+long_is_name : (names : Names) → is_name (long_name names) ≡ true
+unfolding long_name
+long_is_name names = letters (lengths names)
+
+longer_is_new : (names : Names) (n : List ℕ) → lengths names < length n → has names n ≡ false
+unfolding lengths
+longer_is_new [] n h = refl
+longer_is_new (m ∷ ms) n h = by (bytes_eq m n) refl (longer_is_new ms n (omega arith))
+  where
+    by : (v : Bool) → bytes_eq m n ≡ v → has ms n ≡ false → (v || has ms n) ≡ false
+    by true is later = let same = is_mark m n is in absurd (omega (arith, ap (λ (l : List ℕ). length l) same))
+    by false is later = later
+
+long_is_new : (names : Names) → has names (long_name names) ≡ false
+unfolding long_name
+long_is_new names = longer_is_new names (long_name names) (omega (arith, length-replicate {A = ℕ} (lengths names) 97))
+
+Live : RingState → Type 0
+Live s = (ts : Names) × (names : Names) × (after ring_step s ts ≡ done names)
+
+live-go : (s u : RingState) (t : List ℕ) → ring_step s t ≡ go u → Live u → Live s
+unfolding Live
+live-go s u t e l = (t ∷ l.0, l.1, after-go ring_step s u t l.0 e ∙ l.2)
+
+live_behind : (names : Names) → Live (at.Behind, names)
+unfolding Live
+live_behind names = (bracket_end ∷ [], names, after-done ring_step (at.Behind, names) names bracket_end refl)
+
+live_variable : (names : Names) → Live (at.Variable, names)
+live_variable names =
+    let n = long_name names in
+    live-go (at.Variable, names) (at.Behind, names ++ n ∷ []) n (rw (long_is_name names, long_is_new names) refl) (live_behind (names ++ n ∷ []))
+
+live_bracket : (names : Names) → Live (at.Bracket, names)
+live_bracket names = live-go (at.Bracket, names) (at.Variable, names) bracket refl (live_variable names)
+
+is_live : (s : RingState) → Live s
+is_live (at.Letter, names) = live-go (at.Letter, names) (at.Bracket, names) letter_q refl (live_bracket names)
+is_live (at.Bracket, names) = live_bracket names
+is_live (at.Variable, names) = live_variable names
+is_live (at.Behind, names) = live_behind names
+
+-- ---- it halts at what can't stand there, and at a name that was there
+
+IsRingHalt : Cause → Type 0
+IsRingHalt Ended = ⊥
+IsRingHalt Unexpected = Unit {0}
+IsRingHalt RepeatedName = Unit {0}
+IsRingHalt ZeroDenominator = ⊥
+IsRingHalt TooWide = ⊥
+IsRingHalt UnknownName = ⊥
+
+halts_with : (here cause : Cause) → stops here ≡ stops cause → IsRingHalt here → IsRingHalt cause
+halts_with here cause e h = let same : here ≡ cause = cc in subst IsRingHalt same h
+
+ring_halts : (s : RingState) (t : List ℕ) (cause : Cause) → ring_step s t ≡ halt cause → IsRingHalt cause
+unfolding IsRingHalt
+ring_halts (at.Letter, names) t cause e = by (bytes_eq t letter_q) e
+  where
+    by : (v : Bool) → (if v then goes (at.Bracket, names) else stops Unexpected) ≡ stops cause → IsRingHalt cause
+    by true e = cc
+    by false e = halts_with Unexpected cause e tt
+ring_halts (at.Bracket, names) t cause e = by (bytes_eq t bracket) e
+  where
+    by : (v : Bool) → (if v then goes (at.Variable, names) else stops Unexpected) ≡ stops cause → IsRingHalt cause
+    by true e = cc
+    by false e = halts_with Unexpected cause e tt
+ring_halts (at.Variable, names) t cause e = by (is_name t) (has names t) e
+  where
+    by : (v w : Bool) → (if v then (if w then stops RepeatedName else goes (at.Behind, names ++ t ∷ [])) else stops Unexpected) ≡ stops cause → IsRingHalt cause
+    by true true e = halts_with RepeatedName cause e tt
+    by true false e = cc
+    by false w e = halts_with Unexpected cause e tt
+ring_halts (at.Behind, names) t cause e = by (bytes_eq t comma) (bytes_eq t bracket_end) e
+  where
+    by : (v w : Bool) → (if v then goes (at.Variable, names) else if w then ends names else stops Unexpected) ≡ stops cause → IsRingHalt cause
+    by true w e = cc
+    by false true e = cc
+    by false false e = halts_with Unexpected cause e tt
 
 -- ---- what is read is what the grammar says
 
-pub ring_reads : (source : List ℕ) (from : ℕ) (names : Names) (place : ℕ) → ring_at source from ≡ Ok (names, place) → Reads IsRingText (lexemes one_byte source from) names place
-ring_reads source from names place e = reads ring_step IsRingText (at.Letter, []) (length source) (lexemes one_byte source from) names place (λ ts. ring_said ts names) e
+-- the machine reads exactly the grammar
+pub ring_machine : IsMachineOf ring_step (at.Letter, []) IsRingText
+unfolding Live IsRingHalt
+ring_machine = record {
+  said = ring_said;
+  given = ring_given;
+  live = is_live;
+  tells = λ s t e. ring_halts s t Ended e;
+}
 
-pub ring_is_read : (source : List ℕ) (from : ℕ) (names : Names) (place : ℕ) → Reads IsRingText (lexemes one_byte source from) names place → ring_at source from ≡ Ok (names, place)
-ring_is_read source from names place r = is_read ring_step IsRingText (at.Letter, []) (length source) (lexemes one_byte source from) names place (λ ts. ring_given ts names) r
+pub ring_reads : (source : List ℕ) (from : ℕ) (names : Names) (place : ℕ) → ring_at source from ≡ Ok (names, place) → Reads IsRingText (lexemes word_more source from) names place
+ring_reads source from names place e = reads ring_step IsRingText (at.Letter, []) (length source) (lexemes word_more source from) names place (λ ts. ring_said ts names) e
 
-pub ring_read : (source : List ℕ) (from : ℕ) (names : Names) (place : ℕ) → ring_at source from ≡ Ok (names, place) → IsRing names
-ring_read source from names place e = (ring_reads source from names place e).text.ring
+pub ring_is_read : (source : List ℕ) (from : ℕ) (names : Names) (place : ℕ) → Reads IsRingText (lexemes word_more source from) names place → ring_at source from ≡ Ok (names, place)
+ring_is_read source from names place r = is_read ring_step IsRingText (at.Letter, []) (length source) (lexemes word_more source from) names place (λ ts. ring_given ts names) r
 
-no_ring : (source : List ℕ) (from : ℕ) (fault : Fault) → ring_at source from ≡ Err fault → (names : Names) (place : ℕ) → Reads IsRingText (lexemes one_byte source from) names place → ⊥
-no_ring source from fault e names place r = let read = ring_is_read source from names place r in cc
+pub ring_read : (source : List ℕ) (from : ℕ) (names : Names) (place : ℕ) → ring_at source from ≡ Ok (names, place) → length names ≤ 16 → IsRingRead (record { source = source; at = from }) place names
+ring_read source from names place e few =
+    let r = ring_reads source from names place e in
+    record { read = e; text = r; ring = record { some = r.text.some; few = few; different = r.text.different } }
 
-pub ring_refused : (source : List ℕ) (from : ℕ) (error : TextError) → Fails error (ring_at source from) → HasNone error IsRingText (lexemes one_byte source from)
-ring_refused source from (errors.Syntax s) failed = λ names place r. no_ring source from failed.0 failed.1 names place r
-ring_refused source from errors.Memory failed = tt
-ring_refused source from (errors.Overflow o) failed = absurd failed
-ring_refused source from (errors.Exponent o) failed = absurd failed
+-- a fault of a ring's text isn't that a number is too wide, nor that a name is unknown
+not_refused_as : (source : List ℕ) (from : ℕ) (f : Fault) → ring_at source from ≡ Err f → (f.cause ≡ TooWide → ⊥) × (f.cause ≡ UnknownName → ⊥)
+unfolding IsRingHalt
+not_refused_as source from f e =
+    let P : Cause → Type 0 = λ c. (c ≡ TooWide → ⊥) × (c ≡ UnknownName → ⊥) in
+    caused ring_step P (λ h. cc, λ h. cc) (λ s t cause h. (λ is. subst IsRingHalt is (ring_halts s t cause h), λ is. subst IsRingHalt is (ring_halts s t cause h)))
+    (at.Letter, []) (length source) (lexemes word_more source from) f e
+
+is_too_wide : (place : ℕ) (cause : Cause) (at : ℕ) → refusal_at place cause ≡ errors.TooWide at → cause ≡ TooWide
+is_too_wide place Ended at e = cc
+is_too_wide place Unexpected at e = cc
+is_too_wide place RepeatedName at e = cc
+is_too_wide place ZeroDenominator at e = cc
+is_too_wide place TooWide at e = refl
+is_too_wide place UnknownName at e = cc
+
+is_unknown : (place : ℕ) (cause : Cause) (at : ℕ) → refusal_at place cause ≡ errors.UnknownName at → cause ≡ UnknownName
+is_unknown place Ended at e = cc
+is_unknown place Unexpected at e = cc
+is_unknown place RepeatedName at e = cc
+is_unknown place ZeroDenominator at e = cc
+is_unknown place TooWide at e = cc
+is_unknown place UnknownName at e = refl
+
+-- why no ring is read
+pub ring_refused : (source : List ℕ) (from : ℕ) (error : TextError) → Fails error (ring_at source from) → IsRingCause (record { source = source; at = from }) error
+ring_refused source from (errors.Overflow o) h = absurd h
+ring_refused source from (errors.Exponent o) h = absurd h
+ring_refused source from (errors.Syntax s) h = record { read = h; text = no_text ring_machine (length source) (lexemes word_more source from) (errors.Syntax s) h }
+ring_refused source from (errors.TooWide place) h = absurd ((not_refused_as source from h.0 h.1).0 (is_too_wide h.0.at h.0.cause place h.2))
+ring_refused source from (errors.UnknownName place) h = absurd ((not_refused_as source from h.0 h.1).1 (is_unknown h.0.at h.0.cause place h.2))
+ring_refused source from (errors.TooManyVariables count) h = absurd h
+ring_refused source from (errors.ZeroPolynomial set index) h = absurd h
+ring_refused source from errors.Memory h = tt
 
 pub one_ring : HasOneMeaning IsRingText
 one_ring = one_meaning ring_step IsRingText (at.Letter, []) ring_given
 
 -- ---- a printed ring is read again
 
-names_again : (before ns : Names) → AreNew before ns → tokens_of (flat_map (λ m. 44 ∷ m) ns) ≡ more_names ns
-names_again before [] new = refl
-names_again before (n ∷ ns) new =
-    let named = letter_of n new.0 in
-    let later = names_again (before ++ n ∷ []) ns new.2 in
-    let P : List ℕ → Type 0 = λ m. tokens_of (44 ∷ m ++ flat_map (λ m. 44 ∷ m) ns) ≡ comma ∷ m ∷ more_names ns in
-    subst P (sym named.1) (rw named.2 (ap (λ l. comma ∷ (named.0 ∷ []) ∷ l) later))
+-- behind a name no name goes on
+name_stops : (ns : Names) (text : List ℕ) → goes_on (flat_map (λ m. 44 ∷ m) ns ++ 93 ∷ text) ≡ false
+name_stops [] text = refl
+name_stops (n ∷ ns) text = refl
 
-words_again : (names : Names) → IsRing names → tokens_of (ring_words names) ≡ ring_tokens names
-words_again [] ring = absurd (omega (arith, ring.some))
-words_again (n ∷ ns) ring =
-    let named = letter_of n ring.different.0 in
-    let later = names_again (n ∷ []) ns ring.different.2 in
+mark_token : (b : ℕ) (rest : List ℕ) → is_space b ≡ false → word_more (b ∷ rest) ≡ 0 → IsToken word_more (b ∷ []) rest
+mark_token b rest visible whole = record { first = b; others = []; shape = refl; visible = visible; whole = whole }
+
+names_spelled : (before ns : Names) (text : List ℕ) → AreNew before ns → IsSpelled word_more (flat_map (λ m. 44 ∷ m) ns) (93 ∷ text) (more_names ns)
+names_spelled before [] text new = spelled-none word_more (93 ∷ text)
+names_spelled before (n ∷ ns) text new =
     let more = flat_map (λ m. 44 ∷ m) ns in
-    let P : List ℕ → Type 0 = λ m. tokens_of (81 ∷ 91 ∷ ((m ++ more) ++ 93 ∷ [])) ≡ letter_q ∷ bracket ∷ m ∷ (more_names ns ++ bracket_end ∷ []) in
-    subst P (sym named.1) (rw named.2 (ap (λ l. letter_q ∷ bracket ∷ (named.0 ∷ []) ∷ l) (tokens_of-++ more (93 ∷ []) ∙ ap (λ l. l ++ bracket_end ∷ []) later)))
+    let rest = more ++ 93 ∷ text in
+    let name : IsSpelled word_more n rest (n ∷ []) = spelled-token word_more n rest (word_token n rest new.0 (name_stops ns text)) in
+    let later = names_spelled (before ++ n ∷ []) ns text new.2 in
+    let names : IsSpelled word_more (n ++ more) (93 ∷ text) (n ∷ more_names ns) = spelled-++ word_more n more (93 ∷ text) (n ∷ []) (more_names ns) name later in
+    let mark = spelled-token word_more comma ((n ++ more) ++ 93 ∷ text) (mark_token 44 ((n ++ more) ++ 93 ∷ text) refl refl) in
+    spelled-++ word_more comma (n ++ more) (93 ∷ text) (comma ∷ []) (n ∷ more_names ns) mark names
 
 pub rings_again : RingsAreReadAgain
-rings_again names before text ring =
-    let words = ring_words names in
-    ring_is_read (before ++ (words ++ text)) (length before) names (length before + length words) (record {
-      front = spaced (length before) words;
-      back = lexemes one_byte (before ++ (words ++ text)) (length before + length words);
-      whole = spaced_at before words text;
-      text = record { tokens = texts-spaced (length before) words ∙ words_again names ring; ring = ring };
-      end = behind-spaced 0 (length before) (81 ∷ 91 ∷ names_text names) 93 refl;
-    })
+rings_again [] before text ring = absurd (omega (arith, ring.some))
+rings_again (n ∷ ns) before text ring =
+    let more = flat_map (λ m. 44 ∷ m) ns in
+    let end = 93 ∷ text in
+    let name : IsSpelled word_more n (more ++ end) (n ∷ []) = spelled-token word_more n (more ++ end) (word_token n (more ++ end) ring.different.0 (name_stops ns text)) in
+    let later = names_spelled (n ∷ []) ns text ring.different.2 in
+    let names : IsSpelled word_more (n ++ more) end (n ∷ more_names ns) = spelled-++ word_more n more end (n ∷ []) (more_names ns) name later in
+    let opened : IsSpelled word_more (91 ∷ (n ++ more)) end (bracket ∷ n ∷ more_names ns) =
+    spelled-++ word_more bracket (n ++ more) end (bracket ∷ []) (n ∷ more_names ns) (spelled-token word_more bracket ((n ++ more) ++ end) (mark_token 91 ((n ++ more) ++ end) refl refl)) names in
+    let whole : IsSpelled word_more (81 ∷ 91 ∷ (n ++ more)) end (letter_q ∷ bracket ∷ n ∷ more_names ns) =
+    spelled-++ word_more letter_q (91 ∷ (n ++ more)) end (letter_q ∷ []) (bracket ∷ n ∷ more_names ns) (spelled-token word_more letter_q (91 ∷ ((n ++ more) ++ end)) (mark_token 81 (91 ∷ ((n ++ more) ++ end)) refl refl)) opened in
+    let said : IsRingText ((letter_q ∷ bracket ∷ n ∷ more_names ns) ++ bracket_end ∷ []) (n ∷ ns) = record { tokens = refl; some = ring.some; different = ring.different } in
+    ring_is_read (before ++ (ring_words (n ∷ ns) ++ text)) (length before) (n ∷ ns) (length before + length (ring_words (n ∷ ns)))
+    (spelled-read word_more IsRingText (n ∷ ns) before (81 ∷ 91 ∷ (n ++ more)) bracket_end text (letter_q ∷ bracket ∷ n ∷ more_names ns) whole (mark_token 93 text refl refl) said)

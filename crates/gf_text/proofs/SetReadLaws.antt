@@ -1,15 +1,18 @@
 -- The machine of sets reads no more than the grammar of sets says.
--- To cite: set_said. The rest are steps.
-use Rattle.std.proofs.Common.{◌≡◌, ℕ, Bool, true, false, List, [], ◌∷◌, ◌++◌, Option, Some, None, refl, sym, ap, subst, ◌∙◌, ◌⊎◌, inl, inr, append_assoc, append-nil, bytes_eq, arith, if◌then◌else◌}
-use Rattle.std.proofs.lemmas.Slice.Eq.{bytes_eq-Decides}
-use Rattle.gf_text.specs.declared.error.Kind.TheVariants.{Unexpected}
+-- To cite: set_said. The rest are steps: a move and what follows it, what is read at each place, token by token.
+use Rattle.std.proofs.Common.{◌≡◌, ℕ, ◌==◌, nat_le, Bool, true, false, ◌&&◌, List, [], ◌∷◌, Option, Some, None, refl, sym, ap, subst, ◌∙◌, ◌⊎◌, inl, inr, bytes_eq, if◌then◌else◌}
+use Rattle.gf_text.specs.declared.error.Cause.{Cause}
+use Rattle.gf_text.specs.declared.error.Cause.TheVariants.{Unexpected, UnknownName, TooWide, ZeroDenominator}
 use Rattle.gf_text.specs.declared.tree.WrittenTerm.{WrittenTerm}
 use Rattle.gf_text.specs.declared.set_reader.SetPlace.{SetPlace}
 use Rattle.gf_text.specs.declared.set_reader.SetPlace.TheVariants as at
 use Rattle.gf_text.specs.declared.set_reader.Part.{Part}
-use Rattle.gf_text.specs.Machine.{go, done, halt, after}
-use Rattle.gf_text.specs.SetText.{variable, plus, minus, comma, brace, brace_end, sign, AreNames, AreMoreTerms, IsPolynomialText, AreMorePolynomials, IsSetText, SetState, SetMove, with_variable, with_sign, terms_of, next_term, all_of, next_polynomial, taken_or, front_step, token_step, set_step, empty}
-use Rattle.gf_text.proofs.MachineLaws.{first, not_yet}
+use Rattle.gf_text.specs.Machine.{go, done, halt, after, followed}
+use Rattle.gf_text.specs.Tokens.{is_number, value}
+use Rattle.gf_text.specs.SetText.{variable, plus, minus, comma, star, slash, caret, brace, brace_end, most, most_exponent, IsNumberText, IsSetText, SetState, SetMove, with_name, with_factor, with_sign, with_numer, with_denom, next_term, all_of, next_polynomial, is_word, name_or_by, number_or, term_or, front_step, end_step, behind_step, token_step, set_step, empty}
+use Rattle.gf_text.proofs.MachineLaws.{not_yet}
+use Rattle.gf_text.proofs.SetPartsLaws.{Behind, Factored, Named, Powered, Numbered, Divided, FreshTerm, Term, Fresh, Polynomial, First, one_factor, more_factors, more_terms, more_polynomials, at_end, factor_term, number_term, signed, bare}
+use Rattle.gf_text.proofs.SetTokensLaws.{is_mark, le_from, positive}
 
 abbrev Texts : Type 0
 Texts = List (List ℕ)
@@ -17,320 +20,192 @@ Texts = List (List ℕ)
 abbrev Sets : Type 0
 Sets = List (List WrittenTerm)
 
-abbrev goes : SetState → SetMove
-goes s = go s
-
-abbrev stops : SetMove
-stops = halt Unexpected
-
-abbrev ends : Sets → SetMove
-ends ps = done ps
-
--- ---- what the machine does at a token
-
--- a mark that was tested for
-is_mark : (t mark : List ℕ) → bytes_eq t mark ≡ true → t ≡ mark
-is_mark t mark h = (bytes_eq-Decides t mark).0 h
-
--- at the front of a polynomial: a variable, or a sign
-abbrev FrontGoes : Part → List ℕ → Option ℕ → SetState → Type 0
-FrontGoes p t o u = ((v : ℕ) × (o ≡ Some v) × (u ≡ (at.Inside, with_variable p v))) ⊎ ((m : Bool) × (t ≡ sign m) × (u ≡ (at.Term, with_sign p m)))
-
-front_goes : (p : Part) (t : List ℕ) (o : Option ℕ) (a b : Bool) → bytes_eq t plus ≡ a → bytes_eq t minus ≡ b → (u : SetState)
-    → taken_or o p (if a then goes (at.Term, with_sign p false) else if b then goes (at.Term, with_sign p true) else stops) ≡ goes u → FrontGoes p t o u
-front_goes p t (Some v) a b ea eb u e = inl (v, refl, cc)
-front_goes p t None true b ea eb u e = inr (false, is_mark t plus ea, cc)
-front_goes p t None false true ea eb u e = inr (true, is_mark t minus eb, cc)
-front_goes p t None false false ea eb u e = cc
-
-front_never : {X : Type 0} (p : Part) (o : Option ℕ) (a b : Bool) (ps : Sets) → taken_or o p (if a then goes (at.Term, with_sign p false) else if b then goes (at.Term, with_sign p true) else stops) ≡ ends ps → X
-front_never p (Some v) a b ps e = cc
-front_never p None true b ps e = cc
-front_never p None false true ps e = cc
-front_never p None false false ps e = cc
-
--- where a term is expected: a variable
-term_goes : (p : Part) (o : Option ℕ) (u : SetState) → taken_or o p stops ≡ goes u → (v : ℕ) × (o ≡ Some v) × (u ≡ (at.Inside, with_variable p v))
-term_goes p (Some v) u e = (v, refl, cc)
-term_goes p None u e = cc
-
-term_never : {X : Type 0} (p : Part) (o : Option ℕ) (ps : Sets) → taken_or o p stops ≡ ends ps → X
-term_never p (Some v) ps e = cc
-term_never p None ps e = cc
-
--- behind a variable: another, a sign, or a comma; or the brace
-abbrev inside_nest : Part → Bool → Bool → Bool → Bool → SetMove
-inside_nest p a b c d = if a then goes (at.Term, next_term p false) else if b then goes (at.Term, next_term p true) else if c then goes (at.Polynomial, next_polynomial p) else if d then ends (all_of p) else stops
-
-abbrev InsideGoes : Part → List ℕ → Option ℕ → SetState → Type 0
-InsideGoes p t o u = ((v : ℕ) × (o ≡ Some v) × (u ≡ (at.Inside, with_variable p v)))
-    ⊎ (((m : Bool) × (t ≡ sign m) × (u ≡ (at.Term, next_term p m))) ⊎ ((t ≡ comma) × (u ≡ (at.Polynomial, next_polynomial p))))
-
-inside_goes : (p : Part) (t : List ℕ) (o : Option ℕ) (a b c d : Bool) → bytes_eq t plus ≡ a → bytes_eq t minus ≡ b → bytes_eq t comma ≡ c → (u : SetState) → taken_or o p (inside_nest p a b c d) ≡ goes u → InsideGoes p t o u
-inside_goes p t (Some v) a b c d ea eb ec u e = inl (v, refl, cc)
-inside_goes p t None true b c d ea eb ec u e = inr (inl (false, is_mark t plus ea, cc))
-inside_goes p t None false true c d ea eb ec u e = inr (inl (true, is_mark t minus eb, cc))
-inside_goes p t None false false true d ea eb ec u e = inr (inr (is_mark t comma ec, cc))
-inside_goes p t None false false false true ea eb ec u e = cc
-inside_goes p t None false false false false ea eb ec u e = cc
-
-inside_ends : (p : Part) (t : List ℕ) (o : Option ℕ) (a b c d : Bool) → bytes_eq t brace_end ≡ d → (ps : Sets) → taken_or o p (inside_nest p a b c d) ≡ ends ps → (t ≡ brace_end) × (all_of p ≡ ps)
-inside_ends p t (Some v) a b c d ed ps e = cc
-inside_ends p t None true b c d ed ps e = cc
-inside_ends p t None false true c d ed ps e = cc
-inside_ends p t None false false true d ed ps e = cc
-inside_ends p t None false false false true ed ps e = (is_mark t brace_end ed, cc)
-inside_ends p t None false false false false ed ps e = cc
-
--- ---- what is read from each place on
-
 module _ (ring : List (List ℕ)) where
-  -- behind a variable: more of the term, more terms, more polynomials, the brace
-  record Inside (p : Part) (ts : Texts) (ps : Sets) : Type 0 where
-    names : Texts
-    vs : List ℕ
-    terms : Texts
-    us : List WrittenTerm
-    polynomials : Texts
-    qs : Sets
-    tokens : ts ≡ names ++ (terms ++ (polynomials ++ brace_end ∷ []))
-    are_names : AreNames ring names vs
-    are_terms : AreMoreTerms ring terms us
-    are_polynomials : AreMorePolynomials ring polynomials qs
-    all : ps ≡ p.polynomials ++ (p.terms ++ record { minus = p.minus; variables = p.variables ++ vs } ∷ us) ∷ qs
+  -- ---- a move, and what follows it
 
-  -- where a term is expected: a variable, and what follows it
-  record Term (p : Part) (ts : Texts) (ps : Sets) : Type 0 where
-    name : List ℕ
-    number : ℕ
-    rest : Texts
-    tokens : ts ≡ name ∷ rest
-    is_name : variable ring name ≡ Some number
-    inside : Inside (with_variable p number) rest ps
+  -- behind this move these tokens are read, and this set
+  abbrev Then : SetMove → Texts → Sets → Type 0
+  Then m ts ps = followed m ts (λ u. after (set_step ring) u ts) ≡ done ps
 
-  -- nothing of a polynomial was read
-  record Fresh (p : Part) : Type 0 where
-    terms : p.terms ≡ []
-    plus_sign : p.minus ≡ false
-    variables : p.variables ≡ []
+  -- what is read from a state on
+  abbrev From : SetState → Texts → Sets → Type 0
+  From s ts ps = after (set_step ring) s ts ≡ done ps
 
-  -- where a polynomial is expected: one, more of them, the brace
-  record Polynomial (p : Part) (ts : Texts) (ps : Sets) : Type 0 where
-    first_texts : Texts
-    first : List WrittenTerm
-    polynomials : Texts
-    qs : Sets
-    tokens : ts ≡ first_texts ++ (polynomials ++ brace_end ∷ [])
-    is_polynomial : IsPolynomialText ring first_texts first
-    are_polynomials : AreMorePolynomials ring polynomials qs
-    all : ps ≡ p.polynomials ++ first ∷ qs
+  move : (s : SetState) (t : List ℕ) (ts : Texts) (ps : Sets) → From s (t ∷ ts) ps → Then (set_step ring s t) ts ps
+  unfolding after
+  move s t ts ps e = e
+
+  chosen : (b : Bool) (x y : SetMove) (ts : Texts) (ps : Sets) → Then (if b then x else y) ts ps → ((b ≡ true) × Then x ts ps) ⊎ ((b ≡ false) × Then y ts ps)
+  chosen true x y ts ps e = inl (refl, e)
+  chosen false x y ts ps e = inr (refl, e)
+
+  halted : {X : Type 0} (cause : Cause) (ts : Texts) (ps : Sets) → Then (halt cause) ts ps → X
+  halted cause ts ps e = cc
+
+  ended : (a : Sets) (ts : Texts) (ps : Sets) → Then (done a) ts ps → (ts ≡ []) × (ps ≡ a)
+  ended a [] ps e = (refl, cc)
+  ended a (t ∷ ts) ps e = cc
+
+  -- a name, or what another token does
+  named_by : (o : Option ℕ) (p : Part) (t : List ℕ) (other : SetMove) (ts : Texts) (ps : Sets) → Then (name_or_by o p t other) ts ps
+      → ((v : ℕ) × (o ≡ Some v) × From (at.Name, with_name p v) ts ps) ⊎ Then other ts ps
+  named_by (Some v) p t other ts ps e = inl (v, refl, e)
+  named_by None p t other ts ps e = elim (chosen (is_word t) (halt UnknownName) other ts ps e) [
+    | inl h ↦ halted UnknownName ts ps h.1
+    | inr h ↦ inr h.1
+  ]
+
+  -- a number, or what another token does
+  numbered : (t : List ℕ) (limit : ℕ) (taken other : SetMove) (ts : Texts) (ps : Sets) → Then (number_or t limit taken other) ts ps
+      → (IsNumberText t (value t) limit × Then taken ts ps) ⊎ Then other ts ps
+  numbered t limit taken other ts ps e = elim (chosen (is_number t) (if nat_le (value t) limit then taken else halt TooWide) other ts ps e) [
+    | inr h ↦ inr h.1
+    | inl h ↦ elim (chosen (nat_le (value t) limit) taken (halt TooWide) ts ps h.1) [
+      | inr k ↦ halted TooWide ts ps k.1
+      | inl k ↦ inl ((h.0, refl, le_from (value t) limit k.0), k.1)
+    ]
+  ]
+
+  -- ---- what is read from each place on
 
   Said : SetPlace → Part → Texts → Sets → Type 0
-  Said at.Brace p ts ps = (rest : Texts) × (ts ≡ brace ∷ rest) × (((rest ≡ brace_end ∷ []) × (ps ≡ p.polynomials)) ⊎ (Fresh p → Polynomial p rest ps))
-  Said at.First p ts ps = ((ts ≡ brace_end ∷ []) × (ps ≡ p.polynomials)) ⊎ (Fresh p → Polynomial p ts ps)
-  Said at.Polynomial p ts ps = Fresh p → Polynomial p ts ps
-  Said at.Term p ts ps = Term p ts ps
-  Said at.Inside p ts ps = Inside p ts ps
+  Said at.Brace p ts ps = (rest : Texts) × (ts ≡ brace ∷ rest) × First ring p rest ps
+  Said at.First p ts ps = First ring p ts ps
+  Said at.Polynomial p ts ps = Fresh p → Polynomial ring p ts ps
+  Said at.Term p ts ps = FreshTerm p → Term ring p ts ps
+  Said at.Number p ts ps = Numbered ring p ts ps
+  Said at.Denominator p ts ps = Divided ring p ts ps
+  Said at.Star p ts ps = Factored ring p ts ps
+  Said at.Name p ts ps = Named ring p ts ps
+  Said at.Exponent p ts ps = Powered ring p ts ps
+  Said at.Behind p ts ps = Behind ring p ts ps
 
   -- what follows a token
   Later : Texts → Type 0
-  Later ts = (place : SetPlace) (p : Part) (ps : Sets) → after (set_step ring) (place, p) ts ≡ done ps → Said place p ts ps
-
-  after_that : (s u : SetState) (ts : Texts) (ps : Sets) → s ≡ u → after (set_step ring) s ts ≡ done ps → after (set_step ring) u ts ≡ done ps
-  after_that s u ts ps is e = ap (λ x. after (set_step ring) x ts) (sym is) ∙ e
-
-  -- ---- a token, and what follows it
-
-  one_more : (p : Part) (t : List ℕ) (v : ℕ) (ts : Texts) (ps : Sets) → variable ring t ≡ Some v → Inside (with_variable p v) ts ps → Inside p (t ∷ ts) ps
-  one_more p t v ts ps h i = record {
-    names = t ∷ i.names;
-    vs = v ∷ i.vs;
-    terms = i.terms;
-    us = i.us;
-    polynomials = i.polynomials;
-    qs = i.qs;
-    tokens = ap (λ l. t ∷ l) i.tokens;
-    are_names = (h, i.are_names);
-    are_terms = i.are_terms;
-    are_polynomials = i.are_polynomials;
-    all = i.all ∙ ap (λ l. p.polynomials ++ (p.terms ++ record { minus = p.minus; variables = l } ∷ i.us) ∷ i.qs) (append_assoc p.variables (v ∷ []) i.vs);
-  }
-
-  more_terms : (p : Part) (m : Bool) (t : List ℕ) (ts : Texts) (ps : Sets) → t ≡ sign m → Term (next_term p m) ts ps → Inside p (t ∷ ts) ps
-  more_terms p m t ts ps h n =
-      let i = n.inside in
-      let end = i.polynomials ++ brace_end ∷ [] in
-      let said : WrittenTerm = record { minus = m; variables = n.number ∷ i.vs } in
-      record {
-        names = [];
-        vs = [];
-        terms = sign m ∷ ((n.name ∷ i.names) ++ i.terms);
-        us = said ∷ i.us;
-        polynomials = i.polynomials;
-        qs = i.qs;
-        tokens = ap (λ x. x ∷ ts) h ∙ ap (λ l. sign m ∷ l) (n.tokens ∙ ap (λ l. n.name ∷ l) (i.tokens ∙ sym (append_assoc i.names i.terms end)));
-        are_names = tt;
-        are_terms = (n.name ∷ i.names, i.terms, refl, (omega arith, (n.is_name, i.are_names)), i.are_terms);
-        are_polynomials = i.are_polynomials;
-        all = i.all
-            ∙ ap (λ l. p.polynomials ++ l ∷ i.qs) (append_assoc p.terms (record { minus = p.minus; variables = p.variables } ∷ []) (said ∷ i.us))
-            ∙ ap (λ l. p.polynomials ++ (p.terms ++ record { minus = p.minus; variables = l } ∷ said ∷ i.us) ∷ i.qs) (sym (append-nil p.variables));
-      }
-
-  more_polynomials : (p : Part) (t : List ℕ) (ts : Texts) (ps : Sets) → t ≡ comma → Polynomial (next_polynomial p) ts ps → Inside p (t ∷ ts) ps
-  more_polynomials p t ts ps h f = record {
-    names = [];
-    vs = [];
-    terms = [];
-    us = [];
-    polynomials = comma ∷ (f.first_texts ++ f.polynomials);
-    qs = f.first ∷ f.qs;
-    tokens = ap (λ x. x ∷ ts) h ∙ ap (λ l. comma ∷ l) (f.tokens ∙ sym (append_assoc f.first_texts f.polynomials (brace_end ∷ [])));
-    are_names = tt;
-    are_terms = refl;
-    are_polynomials = (f.first_texts, f.polynomials, refl, f.is_polynomial, f.are_polynomials);
-    all = f.all ∙ append_assoc p.polynomials (terms_of p ∷ []) (f.first ∷ f.qs)
-        ∙ ap (λ l. p.polynomials ++ (p.terms ++ record { minus = p.minus; variables = l } ∷ []) ∷ f.first ∷ f.qs) (sym (append-nil p.variables));
-  }
-
-  at_end : (p : Part) (t : List ℕ) (ts : Texts) (ps : Sets) → t ≡ brace_end → ts ≡ [] → all_of p ≡ ps → Inside p (t ∷ ts) ps
-  at_end p t ts ps h none e = record {
-    names = [];
-    vs = [];
-    terms = [];
-    us = [];
-    polynomials = [];
-    qs = [];
-    tokens = ap (λ x. x ∷ ts) h ∙ ap (λ l. brace_end ∷ l) none;
-    are_names = tt;
-    are_terms = refl;
-    are_polynomials = refl;
-    all = sym e ∙ ap (λ l. p.polynomials ++ (p.terms ++ record { minus = p.minus; variables = l } ∷ []) ∷ []) (sym (append-nil p.variables));
-  }
-
-  -- the polynomial that was read where nothing of it was read before
-  fresh_all : (p : Part) (m : Bool) (v : ℕ) (vs : List ℕ) (us : List WrittenTerm) (qs : Sets) → Fresh p
-      → p.polynomials ++ (p.terms ++ record { minus = m; variables = (p.variables ++ v ∷ []) ++ vs } ∷ us) ∷ qs ≡ p.polynomials ++ (record { minus = m; variables = v ∷ vs } ∷ us) ∷ qs
-  fresh_all p m v vs us qs fresh =
-      ap (λ l. p.polynomials ++ (l ++ record { minus = m; variables = (p.variables ++ v ∷ []) ++ vs } ∷ us) ∷ qs) fresh.terms
-      ∙ ap (λ l. p.polynomials ++ (record { minus = m; variables = (l ++ v ∷ []) ++ vs } ∷ us) ∷ qs) fresh.variables
-
-  signed : (p : Part) (m : Bool) (t : List ℕ) (ts : Texts) (ps : Sets) → t ≡ sign m → Term (with_sign p m) ts ps → Fresh p → Polynomial p (t ∷ ts) ps
-  signed p m t ts ps h n fresh =
-      let i = n.inside in
-      let end = i.polynomials ++ brace_end ∷ [] in
-      record {
-        first_texts = (t ∷ []) ++ ((n.name ∷ i.names) ++ i.terms);
-        first = record { minus = m; variables = n.number ∷ i.vs } ∷ i.us;
-        polynomials = i.polynomials;
-        qs = i.qs;
-        tokens = ap (λ l. t ∷ l) (n.tokens ∙ ap (λ l. n.name ∷ l) (i.tokens ∙ sym (append_assoc i.names i.terms end)));
-        is_polynomial = (t ∷ [], n.name ∷ i.names, i.terms, refl, inl (ap (λ x. x ∷ []) h), (omega arith, (n.is_name, i.are_names)), i.are_terms);
-        are_polynomials = i.are_polynomials;
-        all = i.all ∙ fresh_all p m n.number i.vs i.us i.qs fresh;
-      }
-
-  bare : (p : Part) (t : List ℕ) (v : ℕ) (ts : Texts) (ps : Sets) → variable ring t ≡ Some v → Inside (with_variable p v) ts ps → Fresh p → Polynomial p (t ∷ ts) ps
-  bare p t v ts ps h i fresh =
-      let end = i.polynomials ++ brace_end ∷ [] in
-      record {
-        first_texts = [] ++ ((t ∷ i.names) ++ i.terms);
-        first = record { minus = false; variables = v ∷ i.vs } ∷ i.us;
-        polynomials = i.polynomials;
-        qs = i.qs;
-        tokens = ap (λ l. t ∷ l) (i.tokens ∙ sym (append_assoc i.names i.terms end));
-        is_polynomial = ([], t ∷ i.names, i.terms, refl, inr (refl, refl), (omega arith, (h, i.are_names)), i.are_terms);
-        are_polynomials = i.are_polynomials;
-        all = i.all ∙ fresh_all p p.minus v i.vs i.us i.qs fresh ∙ ap (λ b. p.polynomials ++ (record { minus = b; variables = v ∷ i.vs } ∷ i.us) ∷ i.qs) fresh.plus_sign;
-      }
+  Later ts = (place : SetPlace) (p : Part) (ps : Sets) → From (place, p) ts ps → Said place p ts ps
 
   -- ---- what is read, token by token
 
-  from_front : (p : Part) (t : List ℕ) (ts : Texts) (ps : Sets) → Later ts → (u : SetState) → front_step ring p t ≡ go u → after (set_step ring) u ts ≡ done ps → Fresh p → Polynomial p (t ∷ ts) ps
-  unfolding Said Later
-  from_front p t ts ps later u is e fresh = elim (front_goes p t (variable ring t) (bytes_eq t plus) (bytes_eq t minus) refl refl u is) [
-    | inl h ↦ bare p t h.0 ts ps h.1 (later at.Inside (with_variable p h.0) ps (after_that u (at.Inside, with_variable p h.0) ts ps h.2 e)) fresh
-    | inr h ↦ signed p h.0 t ts ps h.1 (later at.Term (with_sign p h.0) ps (after_that u (at.Term, with_sign p h.0) ts ps h.2 e)) fresh
-  ]
+  module _ (t : List ℕ) (ts : Texts) (later : Later ts) where
+    name_on : (p : Part) (ps : Sets) (v : ℕ) → variable ring t ≡ Some v → From (at.Name, with_name p v) ts ps → Factored ring p (t ∷ ts) ps
+    unfolding Said Later
+    name_on p ps v named e = one_factor ring p t v ts ps named (later at.Name (with_name p v) ps e)
 
-  from_inside : (p : Part) (t : List ℕ) (ts : Texts) (ps : Sets) → Later ts → (u : SetState) → token_step ring at.Inside p t ≡ go u → after (set_step ring) u ts ≡ done ps → Inside p (t ∷ ts) ps
-  unfolding Said Later
-  from_inside p t ts ps later u is e = elim (inside_goes p t (variable ring t) (bytes_eq t plus) (bytes_eq t minus) (bytes_eq t comma) (bytes_eq t brace_end) refl refl refl u is) [
-    | inl h ↦ one_more p t h.0 ts ps h.1 (later at.Inside (with_variable p h.0) ps (after_that u (at.Inside, with_variable p h.0) ts ps h.2 e))
-    | inr k ↦ elim k [
-      | inl h ↦ more_terms p h.0 t ts ps h.1 (later at.Term (next_term p h.0) ps (after_that u (at.Term, next_term p h.0) ts ps h.2 e))
-      | inr h ↦ more_polynomials p t ts ps h.0 (later at.Polynomial (next_polynomial p) ps (after_that u (at.Polynomial, next_polynomial p) ts ps h.1 e) (record { terms = refl; plus_sign = refl; variables = refl }))
+    -- behind a whole term
+    end_on : (p : Part) (ps : Sets) → Then (end_step p t) ts ps → Behind ring p (t ∷ ts) ps
+    unfolding Said Later
+    end_on p ps e = elim (chosen (bytes_eq t plus) (go (at.Term, next_term p false)) _ ts ps e) [
+      | inl h ↦ more_terms ring p false t ts ps (is_mark t plus h.0) (later at.Term (next_term p false) ps h.1 (record { numer = refl; denom = refl; factors = refl }))
+      | inr h ↦ elim (chosen (bytes_eq t minus) (go (at.Term, next_term p true)) _ ts ps h.1) [
+        | inl k ↦ more_terms ring p true t ts ps (is_mark t minus k.0) (later at.Term (next_term p true) ps k.1 (record { numer = refl; denom = refl; factors = refl }))
+        | inr k ↦ elim (chosen (bytes_eq t comma) (go (at.Polynomial, next_polynomial p)) _ ts ps k.1) [
+          | inl l ↦ more_polynomials ring p t ts ps (is_mark t comma l.0) (later at.Polynomial (next_polynomial p) ps l.1 (record { terms = refl; plus_sign = refl; term = record { numer = refl; denom = refl; factors = refl } }))
+          | inr l ↦ elim (chosen (bytes_eq t brace_end) (done (all_of p)) (halt Unexpected) ts ps l.1) [
+            | inl d ↦ let end = ended (all_of p) ts ps d.1 in at_end ring p t ts ps (is_mark t brace_end d.0) end.0 end.1
+            | inr d ↦ halted Unexpected ts ps d.1
+          ]
+        ]
+      ]
     ]
-  ]
 
-  -- at the front of a set: the brace's end, or a polynomial
-  first_goes : (p : Part) (v : Bool) (m : SetMove) (u : SetState) → (if v then ends p.polynomials else m) ≡ goes u → m ≡ go u
-  first_goes p true m u e = cc
-  first_goes p false m u e = e
-
-  first_ends : (p : Part) (t : List ℕ) (v : Bool) (m : SetMove) (ps : Sets) → bytes_eq t brace_end ≡ v → (if v then ends p.polynomials else m) ≡ ends ps → ((t ≡ brace_end) × (p.polynomials ≡ ps)) ⊎ (m ≡ done ps)
-  first_ends p t true m ps is e = inl (is_mark t brace_end is, cc)
-  first_ends p t false m ps is e = inr e
-
-  brace_goes : (p : Part) (t : List ℕ) (v : Bool) (u : SetState) → bytes_eq t brace ≡ v → (if v then goes (at.First, p) else stops) ≡ goes u → (t ≡ brace) × (u ≡ (at.First, p))
-  brace_goes p t true u is e = (is_mark t brace is, cc)
-  brace_goes p t false u is e = cc
-
-  brace_never : {X : Type 0} (p : Part) (v : Bool) (ps : Sets) → (if v then goes (at.First, p) else stops) ≡ ends ps → X
-  brace_never p true ps e = cc
-  brace_never p false ps e = cc
-
-  on_token : (t : List ℕ) (ts : Texts) → Later ts → (place : SetPlace) (p : Part) (ps : Sets) → after (set_step ring) (place, p) (t ∷ ts) ≡ done ps → Said place p (t ∷ ts) ps
-  unfolding Said Later
-  on_token t ts later at.Brace p ps e = elim (first (set_step ring) (at.Brace, p) t ts ps e) [
-    | inr d ↦ brace_never p (bytes_eq t brace) ps d.0
-    | inl g ↦
-        let is = brace_goes p t (bytes_eq t brace) g.0 refl g.1 in
-        (ts, ap (λ x. x ∷ ts) is.0, later at.First p ps (after_that g.0 (at.First, p) ts ps is.1 g.2))
-  ]
-  on_token t ts later at.First p ps e = elim (first (set_step ring) (at.First, p) t ts ps e) [
-    | inl g ↦ inr (from_front p t ts ps later g.0 (first_goes p (bytes_eq t brace_end) (front_step ring p t) g.0 g.1) g.2)
-    | inr d ↦ elim (first_ends p t (bytes_eq t brace_end) (front_step ring p t) ps refl d.0) [
-      | inl h ↦ inl (ap (λ x. x ∷ ts) h.0 ∙ ap (λ l. brace_end ∷ l) d.1, sym h.1)
-      | inr h ↦ front_never p (variable ring t) (bytes_eq t plus) (bytes_eq t minus) ps h
+    -- behind a factor
+    behind_on : (p : Part) (ps : Sets) → Then (behind_step ring p t) ts ps → Behind ring p (t ∷ ts) ps
+    unfolding Said Later
+    behind_on p ps e = elim (chosen (bytes_eq t star) (go (at.Star, p)) _ ts ps e) [
+      | inl h ↦ more_factors ring p (t ∷ []) ts ps (inr (ap (λ x. x ∷ []) (is_mark t star h.0))) (later at.Star p ps h.1)
+      | inr h ↦ elim (named_by (variable ring t) p t (end_step p t) ts ps h.1) [
+        | inl n ↦ more_factors ring p [] (t ∷ ts) ps (inl refl) (name_on p ps n.0 n.1 n.2)
+        | inr k ↦ end_on p ps k
+      ]
     ]
-  ]
-  on_token t ts later at.Polynomial p ps e = elim (first (set_step ring) (at.Polynomial, p) t ts ps e) [
-    | inl g ↦ from_front p t ts ps later g.0 g.1 g.2
-    | inr d ↦ front_never p (variable ring t) (bytes_eq t plus) (bytes_eq t minus) ps d.0
-  ]
-  on_token t ts later at.Term p ps e = elim (first (set_step ring) (at.Term, p) t ts ps e) [
-    | inr d ↦ term_never p (variable ring t) ps d.0
-    | inl g ↦
-        let is = term_goes p (variable ring t) g.0 g.1 in
-        record { name = t; number = is.0; rest = ts; tokens = refl; is_name = is.1; inside = later at.Inside (with_variable p is.0) ps (after_that g.0 (at.Inside, with_variable p is.0) ts ps is.2 g.2) }
-  ]
-  on_token t ts later at.Inside p ps e = elim (first (set_step ring) (at.Inside, p) t ts ps e) [
-    | inl g ↦ from_inside p t ts ps later g.0 g.1 g.2
-    | inr d ↦
-        let is = inside_ends p t (variable ring t) (bytes_eq t plus) (bytes_eq t minus) (bytes_eq t comma) (bytes_eq t brace_end) refl ps d.0 in
-        at_end p t ts ps is.0 d.1 is.1
-  ]
+
+    -- where a term is expected
+    term_on : (p : Part) (ps : Sets) → Then (term_or ring p t (halt Unexpected)) ts ps → FreshTerm p → Term ring p (t ∷ ts) ps
+    unfolding Said Later
+    term_on p ps e fresh = elim (numbered t most (go (at.Number, with_numer p (value t))) _ ts ps e) [
+      | inl h ↦ number_term ring p t ts ps h.0 (later at.Number (with_numer p (value t)) ps h.1) fresh
+      | inr h ↦ elim (named_by (variable ring t) p t (halt Unexpected) ts ps h) [
+        | inl n ↦ factor_term ring p (t ∷ ts) ps (name_on p ps n.0 n.1 n.2) fresh
+        | inr k ↦ halted Unexpected ts ps k
+      ]
+    ]
+
+    -- where a polynomial is expected
+    front_on : (p : Part) (ps : Sets) → Then (front_step ring p t) ts ps → Fresh p → Polynomial ring p (t ∷ ts) ps
+    unfolding Said Later
+    front_on p ps e fresh = elim (chosen (bytes_eq t plus) (go (at.Term, with_sign p false)) _ ts ps e) [
+      | inl h ↦ signed ring p false t ts ps (is_mark t plus h.0) (later at.Term (with_sign p false) ps h.1 (record { numer = fresh.term.numer; denom = fresh.term.denom; factors = fresh.term.factors })) fresh
+      | inr h ↦ elim (chosen (bytes_eq t minus) (go (at.Term, with_sign p true)) _ ts ps h.1) [
+        | inl k ↦ signed ring p true t ts ps (is_mark t minus k.0) (later at.Term (with_sign p true) ps k.1 (record { numer = fresh.term.numer; denom = fresh.term.denom; factors = fresh.term.factors })) fresh
+        | inr k ↦ bare ring p (t ∷ ts) ps (term_on p ps k.1 fresh.term) fresh
+      ]
+    ]
+
+    on_token : (place : SetPlace) (p : Part) (ps : Sets) → Then (token_step ring place p t) ts ps → Said place p (t ∷ ts) ps
+    unfolding Said Later
+    on_token at.Brace p ps e = elim (chosen (bytes_eq t brace) (go (at.First, p)) (halt Unexpected) ts ps e) [
+      | inl h ↦ (ts, ap (λ x. x ∷ ts) (is_mark t brace h.0), later at.First p ps h.1)
+      | inr h ↦ halted Unexpected ts ps h.1
+    ]
+    on_token at.First p ps e = elim (chosen (bytes_eq t brace_end) (done p.polynomials) (front_step ring p t) ts ps e) [
+      | inl h ↦ let end = ended p.polynomials ts ps h.1 in inl (ap (λ x. x ∷ ts) (is_mark t brace_end h.0) ∙ ap (λ l. brace_end ∷ l) end.0, end.1)
+      | inr h ↦ inr (front_on p ps h.1)
+    ]
+    on_token at.Polynomial p ps e = front_on p ps e
+    on_token at.Term p ps e = term_on p ps e
+    on_token at.Number p ps e = elim (chosen (bytes_eq t slash) (go (at.Denominator, p)) (behind_step ring p t) ts ps e) [
+      | inl h ↦ let n = later at.Denominator p ps h.1 in record {
+        over = slash ∷ n.t ∷ [];
+        d = value n.t;
+        rest = n.rest;
+        tokens = ap (λ x. x ∷ ts) (is_mark t slash h.0) ∙ ap (λ l. slash ∷ l) n.tokens;
+        which = inr (n.t, refl, n.number, n.nonzero);
+        behind = n.behind;
+      }
+      | inr h ↦ record { over = []; d = p.denom; rest = t ∷ ts; tokens = refl; which = inl (refl, refl); behind = behind_on p ps h.1 }
+    ]
+    on_token at.Denominator p ps e = elim (chosen (is_number t && value t == 0) (halt ZeroDenominator) _ ts ps e) [
+      | inl h ↦ halted ZeroDenominator ts ps h.1
+      | inr h ↦ elim (numbered t most (go (at.Behind, with_denom p (value t))) (halt Unexpected) ts ps h.1) [
+        | inl k ↦ record { t = t; rest = ts; tokens = refl; number = k.0; nonzero = positive t (k.0.0) h.0; behind = later at.Behind (with_denom p (value t)) ps k.1 }
+        | inr k ↦ halted Unexpected ts ps k
+      ]
+    ]
+    on_token at.Star p ps e = elim (named_by (variable ring t) p t (halt Unexpected) ts ps e) [
+      | inl n ↦ name_on p ps n.0 n.1 n.2
+      | inr k ↦ halted Unexpected ts ps k
+    ]
+    on_token at.Name p ps e = elim (chosen (bytes_eq t caret) (go (at.Exponent, p)) (behind_step ring (with_factor p 1) t) ts ps e) [
+      | inl h ↦ let n = later at.Exponent p ps h.1 in record {
+        power = caret ∷ n.t ∷ [];
+        k = value n.t;
+        rest = n.rest;
+        tokens = ap (λ x. x ∷ ts) (is_mark t caret h.0) ∙ ap (λ l. caret ∷ l) n.tokens;
+        which = inr (n.t, refl, n.number);
+        behind = n.behind;
+      }
+      | inr h ↦ record { power = []; k = 1; rest = t ∷ ts; tokens = refl; which = inl (refl, refl); behind = behind_on (with_factor p 1) ps h.1 }
+    ]
+    on_token at.Exponent p ps e = elim (numbered t most_exponent (go (at.Behind, with_factor p (value t))) (halt Unexpected) ts ps e) [
+      | inl h ↦ record { t = t; rest = ts; tokens = refl; number = h.0; behind = later at.Behind (with_factor p (value t)) ps h.1 }
+      | inr h ↦ halted Unexpected ts ps h
+    ]
+    on_token at.Behind p ps e = behind_on p ps e
 
   said : (ts : Texts) → Later ts
   unfolding Later
   said [] place p ps e = absurd (not_yet (set_step ring) (place, p) ps e)
-  said (t ∷ ts) place p ps e = on_token t ts (λ q r qs f. said ts q r qs f) place p ps e
+  said (t ∷ ts) place p ps e = on_token t ts (λ q r qs f. said ts q r qs f) place p ps (move (place, p) t ts ps e)
 
-  set_by : (ts : Texts) (ps : Sets) → (rest : Texts) × (ts ≡ brace ∷ rest) × (((rest ≡ brace_end ∷ []) × (ps ≡ [])) ⊎ Polynomial empty rest ps) → IsSetText ring ts ps
-  set_by ts ps (rest, is, inl h) =
+  set_by : (ts rest : Texts) (ps : Sets) → ts ≡ brace ∷ rest → First ring empty rest ps → IsSetText ring ts ps
+  set_by ts rest ps is (inl h) =
       let P : Sets → Type 0 = λ qs. IsSetText ring ts qs in
       subst P (sym h.1) (is ∙ ap (λ l. brace ∷ l) h.0)
-  set_by ts ps (rest, is, inr f) =
+  set_by ts rest ps is (inr f) =
       let P : Sets → Type 0 = λ qs. IsSetText ring ts qs in
-      subst P (sym f.all) (f.first_texts, f.polynomials, is ∙ ap (λ l. brace ∷ l) f.tokens, f.is_polynomial, f.are_polynomials)
+      let n = f (record { terms = refl; plus_sign = refl; term = record { numer = refl; denom = refl; factors = refl } }) in
+      subst P (sym n.all) (n.first_texts, n.polynomials, is ∙ ap (λ l. brace ∷ l) n.tokens, n.is_polynomial, n.are_polynomials)
 
   pub set_said : (ts : Texts) (ps : Sets) → after (set_step ring) (at.Brace, empty) ts ≡ done ps → IsSetText ring ts ps
   unfolding Said Later
-  set_said ts ps e =
-      let s = said ts at.Brace empty ps e in
-      set_by ts ps (s.0, s.1, now s.2)
-    where
-      now : {X Y : Type 0} → X ⊎ (Fresh empty → Y) → X ⊎ Y
-      now (inl x) = inl x
-      now (inr f) = inr (f (record { terms = refl; plus_sign = refl; variables = refl }))
+  set_said ts ps e = let s = said ts at.Brace empty ps e in set_by ts s.0 ps s.1 s.2

@@ -1,21 +1,16 @@
 -- The machine of sets reads what the grammar of sets says.
--- To cite: set_reads, set_is_read, set_refused, one_set. The rest are steps.
-use Rattle.std.proofs.Common.{◌≡◌, ℕ, ◌+◌, Bool, true, false, cond, List, [], ◌∷◌, ◌++◌, length, Some, None, Ok, Err, refl, sym, ap, ◌∙◌, inl, inr, append_assoc, append-nil, bytes_eq, arith}
-use Rattle.std.proofs.lemmas.Slice.Eq.{bytes_eq-Decides}
-use Rattle.std.specs.List.{position_from}
-use Rattle.gf_text.specs.declared.error.TextError.{TextError}
-use Rattle.gf_text.specs.declared.error.TextError.TheVariants as errors
+-- To cite: set_given. The rest are steps: terms, polynomials.
+use Rattle.std.proofs.Common.{◌≡◌, ℕ, ◌==◌, Bool, true, false, List, [], ◌∷◌, ◌++◌, refl, sym, ap, ◌∙◌, inl, inr, append_assoc, append-nil}
 use Rattle.gf_text.specs.declared.tree.WrittenTerm.{WrittenTerm}
-use Rattle.gf_text.specs.declared.set_reader.SetPlace.{SetPlace}
 use Rattle.gf_text.specs.declared.set_reader.SetPlace.TheVariants as at
 use Rattle.gf_text.specs.declared.set_reader.Part.{Part}
-use Rattle.gf_text.specs.Machine.{done, after, Fault, Reads, HasOneMeaning}
-use Rattle.gf_text.specs.Tokens.{lexemes, one_byte}
-use Rattle.gf_text.specs.Given.{Fails, HasNone}
-use Rattle.gf_text.specs.RingText.{is_letter, is_name, AreNew, IsRing}
-use Rattle.gf_text.specs.SetText.{variable, plus, minus, comma, brace, brace_end, sign, AreNames, IsTermText, AreMoreTerms, IsFrontSign, IsPolynomialText, AreMorePolynomials, IsSetText, SetState, with_variable, with_sign, terms_of, next_term, all_of, next_polynomial, set_step, empty, set_at}
-use Rattle.gf_text.proofs.MachineLaws.{after-go, after-done, reads, is_read, one_meaning}
-use Rattle.gf_text.proofs.SetReadLaws.{set_said}
+use Rattle.gf_text.specs.Machine.{done, after}
+use Rattle.gf_text.specs.Tokens.{value}
+use Rattle.gf_text.specs.RingText.{IsRing}
+use Rattle.gf_text.specs.SetText.{plus, minus, slash, brace, brace_end, sign, most, IsNumberText, IsRationalText, IsTermText, AreMoreTerms, IsFrontSign, IsPolynomialText, AreMorePolynomials, IsSetText, SetState, with_name, with_sign, with_numer, with_denom, terms_of, next_term, all_of, next_polynomial, set_step, empty}
+use Rattle.gf_text.proofs.MachineLaws.{after-go, after-done}
+use Rattle.gf_text.proofs.SetFactorsLaws.{Leads, Like, Takes, behind_like, number_like, like_sign, like_comma, like_end, Behind, then_factors, behind_at, factors_read, monomial_read}
+use Rattle.gf_text.proofs.SetTokensLaws.{named_word, word_no_number, word_no_mark, number_no_mark, number_within, not_zero}
 
 abbrev Texts : Type 0
 Texts = List (List ℕ)
@@ -23,213 +18,214 @@ Texts = List (List ℕ)
 abbrev Sets : Type 0
 Sets = List (List WrittenTerm)
 
--- ---- no mark is a variable
-
--- a name is no mark
-name_no_mark : (n : List ℕ) (b : ℕ) → is_name n ≡ true → is_letter b ≡ false → bytes_eq n (b ∷ []) ≡ true → ⊥
-name_no_mark n b named mark same =
-    let is : n ≡ b ∷ [] = (bytes_eq-Decides n (b ∷ [])).0 same in
-    let letter : is_letter b ≡ true = ap is_name (sym is) ∙ named in
-    cc
-
-none_from : (before ns : Texts) (b i : ℕ) → AreNew before ns → is_letter b ≡ false → position_from (λ n. bytes_eq n (b ∷ [])) i ns ≡ None
-none_from before [] b i new mark = refl
-none_from before (n ∷ ns) b i new mark = by (none_from (before ++ n ∷ []) ns b (i + 1) new.2 mark) (bytes_eq n (b ∷ [])) refl
-  where
-    by : position_from (λ n. bytes_eq n (b ∷ [])) (i + 1) ns ≡ None → (v : Bool) → bytes_eq n (b ∷ []) ≡ v → cond v (Some i) (position_from (λ n. bytes_eq n (b ∷ [])) (i + 1) ns) ≡ None
-    by later true is = absurd (name_no_mark n b new.0 mark is)
-    by later false is = later
-
-no_mark : (ring : Texts) (b : ℕ) → IsRing ring → is_letter b ≡ false → variable ring (b ∷ []) ≡ None
-no_mark ring b is mark = none_from [] ring b 0 is.different mark
-
 module _ (ring : List (List ℕ)) (is_ring : IsRing ring) where
-  no_plus : variable ring plus ≡ None
-  no_plus = no_mark ring 43 is_ring refl
+  -- ---- terms
 
-  no_minus : variable ring minus ≡ None
-  no_minus = no_mark ring 45 is_ring refl
+  -- a state where a term may begin
+  record Begins (s : SetState) (p : Part) : Type 0 where
+    number_on : (t : List ℕ) (n : ℕ) (ts : Texts) → IsNumberText t n most → Leads ring s (t ∷ ts) (at.Number, with_numer p (value t)) ts
+    name_on : Takes ring s p
 
-  no_sign : (m : Bool) → variable ring (sign m) ≡ None
-  no_sign true = no_minus
-  no_sign false = no_plus
+  -- nothing of a term was read
+  record Fresh (p : Part) : Type 0 where
+    numer : p.numer ≡ 1
+    denom : p.denom ≡ 1
+    factors : p.factors ≡ []
 
-  -- the brace's end isn't a variable
-  not_end : (t : List ℕ) (v : ℕ) (b : Bool) → variable ring t ≡ Some v → bytes_eq t brace_end ≡ b → b ≡ false
-  not_end t v true named is =
-      let same : t ≡ brace_end = (bytes_eq-Decides t brace_end).0 is in
-      let none : variable ring t ≡ None = ap (variable ring) same ∙ no_mark ring 125 is_ring refl in
-      cc
-  not_end t v false named is = refl
-
-  -- ---- token by token
-
-  variable_go : (p : Part) (t : List ℕ) (v : ℕ) (ts : Texts) → variable ring t ≡ Some v → after (set_step ring) (at.Inside, p) (t ∷ ts) ≡ after (set_step ring) (at.Inside, with_variable p v) ts
-  variable_go p t v ts h = after-go (set_step ring) (at.Inside, p) (at.Inside, with_variable p v) t ts (rw h refl)
-
-  first_variable_go : (p : Part) (t : List ℕ) (v : ℕ) (ts : Texts) → variable ring t ≡ Some v → after (set_step ring) (at.Term, p) (t ∷ ts) ≡ after (set_step ring) (at.Inside, with_variable p v) ts
-  first_variable_go p t v ts h = after-go (set_step ring) (at.Term, p) (at.Inside, with_variable p v) t ts (rw h refl)
-
-  sign_go : (p : Part) (m : Bool) (ts : Texts) → after (set_step ring) (at.Inside, p) (sign m ∷ ts) ≡ after (set_step ring) (at.Term, next_term p m) ts
-  sign_go p true ts = after-go (set_step ring) (at.Inside, p) (at.Term, next_term p true) minus ts (rw no_minus refl)
-  sign_go p false ts = after-go (set_step ring) (at.Inside, p) (at.Term, next_term p false) plus ts (rw no_plus refl)
-
-  comma_go : (p : Part) (ts : Texts) → after (set_step ring) (at.Inside, p) (comma ∷ ts) ≡ after (set_step ring) (at.Polynomial, next_polynomial p) ts
-  comma_go p ts = after-go (set_step ring) (at.Inside, p) (at.Polynomial, next_polynomial p) comma ts (rw (no_mark ring 44 is_ring refl) refl)
-
-  end_done : (p : Part) → after (set_step ring) (at.Inside, p) (brace_end ∷ []) ≡ done (all_of p)
-  end_done p = after-done (set_step ring) (at.Inside, p) (all_of p) brace_end (rw (no_mark ring 125 is_ring refl) refl)
-
-  -- a place at which a polynomial may begin
-  record Begins (place : SetPlace) : Type 0 where
-    sign_on : (p : Part) (m : Bool) (ts : Texts) → after (set_step ring) (place, p) (sign m ∷ ts) ≡ after (set_step ring) (at.Term, with_sign p m) ts
-    variable_on : (p : Part) (t : List ℕ) (v : ℕ) (ts : Texts) → variable ring t ≡ Some v → after (set_step ring) (place, p) (t ∷ ts) ≡ after (set_step ring) (at.Inside, with_variable p v) ts
-
-  polynomial_begins : Begins at.Polynomial
-  polynomial_begins = record {
-    sign_on = on;
-    variable_on = λ p t v ts h. after-go (set_step ring) (at.Polynomial, p) (at.Inside, with_variable p v) t ts (rw h refl);
+  rational_read : (a b : ℕ) (ts : Texts) → IsRationalText ts a b → (rest : Texts) (s : SetState) (p : Part) → Begins s p → p.denom ≡ 1 → Behind ring s ts rest (record p { numer = a; denom = b })
+  rational_read a b ts (inl (t, is, number, one)) rest s p begins fresh = record {
+    state = (at.Number, with_numer p (value t));
+    part = with_numer p (value t);
+    like = number_like ring (with_numer p (value t));
+    same = ap (with_numer p) number.1 ∙ ap (λ d. record p { numer = a; denom = d }) (fresh ∙ sym one);
+    on = ap (λ l. after (set_step ring) s (l ++ rest)) is ∙ begins.number_on t a rest number;
   }
+  rational_read a b ts (inr (t, u, is, number, denom, positive)) rest s p begins fresh =
+      let q = with_numer p (value t) in
+      let digits = denom.0 in
+      let within = number_within u b most denom in
+      let zero = ap (λ n. n == 0) denom.1 ∙ not_zero b positive in
+      record {
+        state = (at.Behind, with_denom q (value u));
+        part = with_denom q (value u);
+        like = behind_like ring (with_denom q (value u));
+        same = ap (λ n. record p { numer = n; denom = value u }) number.1 ∙ ap (λ n. record p { numer = a; denom = n }) denom.1;
+        on = ap (λ l. after (set_step ring) s (l ++ rest)) is
+            ∙ begins.number_on t a (slash ∷ u ∷ rest) number
+            ∙ after-go (set_step ring) (at.Number, q) (at.Denominator, q) slash (u ∷ rest) refl
+            ∙ after-go (set_step ring) (at.Denominator, q) (at.Behind, with_denom q (value u)) u rest (rw (digits, zero, within) refl);
+      }
+
+  term_read : (u : WrittenTerm) (ts : Texts) → IsTermText ring ts u → (rest : Texts) (s : SetState) (p : Part) → Begins s p → Fresh p → Behind ring s ts rest (record p { numer = u.numer; denom = u.denom; factors = u.factors })
+  term_read u ts (inl (rational, others, is, number, later)) rest s p begins fresh =
+      let b = rational_read u.numer u.denom rational number (others ++ rest) s p begins fresh.denom in
+      let r = factors_read ring is_ring u.factors others later rest b.state b.part b.like in
+      behind_at ring is_ring s ts (rational ++ others) rest (record p { numer = u.numer; denom = u.denom; factors = p.factors ++ u.factors }) (record p { numer = u.numer; denom = u.denom; factors = u.factors }) is
+      (ap (λ l. record p { numer = u.numer; denom = u.denom; factors = l ++ u.factors }) fresh.factors)
+      (then_factors ring is_ring s rational others rest (record p { numer = u.numer; denom = u.denom }) u.factors b r)
+  term_read u ts (inr (one, whole, monomial)) rest s p begins fresh =
+      behind_at ring is_ring s ts ts rest (record p { factors = p.factors ++ u.factors }) (record p { numer = u.numer; denom = u.denom; factors = u.factors }) refl
+      (ap (λ l. record p { factors = l ++ u.factors }) fresh.factors
+      ∙ ap (λ n. record p { numer = n; factors = u.factors }) (fresh.numer ∙ sym one)
+      ∙ ap (λ n. record p { numer = u.numer; denom = n; factors = u.factors }) (fresh.denom ∙ sym whole))
+      (monomial_read ring is_ring u.factors ts monomial rest s p begins.name_on)
+
+  -- behind a sign
+  term_begins : (p : Part) → Begins (at.Term, p) p
+  term_begins p = record { number_on = number; name_on = named }
     where
-      on : (p : Part) (m : Bool) (ts : Texts) → after (set_step ring) (at.Polynomial, p) (sign m ∷ ts) ≡ after (set_step ring) (at.Term, with_sign p m) ts
-      on p true ts = after-go (set_step ring) (at.Polynomial, p) (at.Term, with_sign p true) minus ts (rw no_minus refl)
-      on p false ts = after-go (set_step ring) (at.Polynomial, p) (at.Term, with_sign p false) plus ts (rw no_plus refl)
+      number : (t : List ℕ) (n : ℕ) (ts : Texts) → IsNumberText t n most → Leads ring (at.Term, p) (t ∷ ts) (at.Number, with_numer p (value t)) ts
+      number t n ts h =
+          let digits = h.0 in
+          let within = number_within t n most h in
+          after-go (set_step ring) (at.Term, p) (at.Number, with_numer p (value t)) t ts (rw (digits, within) refl)
 
-  first_begins : Begins at.First
-  first_begins = record {
-    sign_on = on;
-    variable_on = λ p t v ts h. after-go (set_step ring) (at.First, p) (at.Inside, with_variable p v) t ts (rw (not_end t v (bytes_eq t brace_end) h refl, h) refl);
-  }
-    where
-      on : (p : Part) (m : Bool) (ts : Texts) → after (set_step ring) (at.First, p) (sign m ∷ ts) ≡ after (set_step ring) (at.Term, with_sign p m) ts
-      on p true ts = after-go (set_step ring) (at.First, p) (at.Term, with_sign p true) minus ts (rw no_minus refl)
-      on p false ts = after-go (set_step ring) (at.First, p) (at.Term, with_sign p false) plus ts (rw no_plus refl)
+      named : Takes ring (at.Term, p) p
+      named t v ts h = after-go (set_step ring) (at.Term, p) (at.Name, with_name p v) t ts (rw (word_no_number t (named_word ring is_ring t v h), h) refl)
 
-  -- ---- names, terms, polynomials
+  -- terms behind a term
 
-  names_read : (ts : Texts) (vs : List ℕ) → AreNames ring ts vs → (p : Part) (rest : Texts) → after (set_step ring) (at.Inside, p) (ts ++ rest) ≡ after (set_step ring) (at.Inside, record p { variables = p.variables ++ vs }) rest
-  names_read [] [] h p rest = ap (λ l. after (set_step ring) (at.Inside, record p { variables = l }) rest) (sym (append-nil p.variables))
-  names_read [] (v ∷ vs) h p rest = absurd h
-  names_read (t ∷ ts) [] h p rest = absurd h
-  names_read (t ∷ ts) (v ∷ vs) h p rest =
-      variable_go p t v (ts ++ rest) h.0 ∙ names_read ts vs h.1 (with_variable p v) rest
-      ∙ ap (λ l. after (set_step ring) (at.Inside, record p { variables = l }) rest) (append_assoc p.variables (v ∷ []) vs)
-
-  -- a term behind a place that takes its first variable
-  term_read : (place : SetPlace) → ((p : Part) (t : List ℕ) (v : ℕ) (ts : Texts) → variable ring t ≡ Some v → after (set_step ring) (place, p) (t ∷ ts) ≡ after (set_step ring) (at.Inside, with_variable p v) ts)
-      → (ts : Texts) (vs : List ℕ) → IsTermText ring ts vs → (p : Part) → p.variables ≡ [] → (rest : Texts) → after (set_step ring) (place, p) (ts ++ rest) ≡ after (set_step ring) (at.Inside, record p { variables = vs }) rest
-  term_read place on [] [] h p none rest = absurd (omega (arith, h.0))
-  term_read place on [] (v ∷ vs) h p none rest = absurd h.1
-  term_read place on (t ∷ ts) [] h p none rest = absurd h.1
-  term_read place on (t ∷ ts) (v ∷ vs) h p none rest =
-      on p t v (ts ++ rest) h.1.0 ∙ names_read ts vs h.1.1 (with_variable p v) rest
-      ∙ ap (λ l. after (set_step ring) (at.Inside, record p { variables = (l ++ v ∷ []) ++ vs }) rest) none
-
-  -- Behind a variable these terms are read, and then what follows.
-  record Behind (s : SetState) (ts : Texts) (rest : Texts) (polynomials : Sets) (terms : List WrittenTerm) : Type 0 where
+  -- Behind ring these tokens these terms are read, and these polynomials before.
+  record Through (s : SetState) (ts rest : Texts) (polynomials : Sets) (terms : List WrittenTerm) : Type 0 where
+    state : SetState
     part : Part
-    on : after (set_step ring) s (ts ++ rest) ≡ after (set_step ring) (at.Inside, part) rest
+    like : Like ring state part
     terms_are : terms_of part ≡ terms
     same : part.polynomials ≡ polynomials
+    on : Leads ring s (ts ++ rest) state rest
 
-  more_read : (us : List WrittenTerm) (ts : Texts) → AreMoreTerms ring ts us → (p : Part) (rest : Texts) → Behind (at.Inside, p) ts rest p.polynomials (terms_of p ++ us)
-  more_read [] ts h p rest = record {
+  terms_read : (us : List WrittenTerm) (ts : Texts) → AreMoreTerms ring ts us → (rest : Texts) (s : SetState) (p : Part) → Like ring s p → Through s ts rest p.polynomials (terms_of p ++ us)
+  terms_read [] ts h rest s p like = record {
+    state = s;
     part = p;
-    on = ap (λ l. after (set_step ring) (at.Inside, p) (l ++ rest)) h;
+    like = like;
     terms_are = sym (append-nil (terms_of p));
     same = refl;
+    on = ap (λ l. after (set_step ring) s (l ++ rest)) h;
   }
-  more_read (u ∷ us) ts (names, more, is, term, later) p rest =
-      let q : Part = record (next_term p u.minus) { variables = u.variables } in
-      let r = more_read us more later q rest in
+  terms_read (u ∷ us) ts (term, more, is, said, later) rest s p like =
+      let q = next_term p u.minus in
+      let b = term_read u term said (more ++ rest) (at.Term, q) q (term_begins q) (record { numer = refl; denom = refl; factors = refl }) in
+      let r = terms_read us more later rest b.state b.part b.like in
       record {
+        state = r.state;
         part = r.part;
-        on = ap (λ l. after (set_step ring) (at.Inside, p) (l ++ rest)) is
-            ∙ sign_go p u.minus ((names ++ more) ++ rest)
-            ∙ ap (after (set_step ring) (at.Term, next_term p u.minus)) (append_assoc names more rest)
-            ∙ term_read at.Term first_variable_go names u.variables term (next_term p u.minus) refl (more ++ rest)
+        like = r.like;
+        terms_are = r.terms_are ∙ ap (λ (x : Part). terms_of x ++ us) b.same ∙ append_assoc (terms_of p) (u ∷ []) us;
+        same = r.same ∙ ap (λ (x : Part). x.polynomials) b.same;
+        on = ap (λ l. after (set_step ring) s (l ++ rest)) is
+            ∙ like_sign ring is_ring s p like u.minus ((term ++ more) ++ rest)
+            ∙ ap (after (set_step ring) (at.Term, q)) (append_assoc term more rest)
+            ∙ b.on
             ∙ r.on;
-        terms_are = r.terms_are ∙ append_assoc (terms_of p) (u ∷ []) us;
-        same = r.same;
       }
 
-  -- nothing of the polynomial was read
-  record Fresh (p : Part) : Type 0 where
-    terms : p.terms ≡ []
-    plus_sign : p.minus ≡ false
-    variables : p.variables ≡ []
+  -- ---- polynomials
+
+  -- a state where a polynomial may begin
+  record Opens (s : SetState) (p : Part) : Type 0 where
+    sign_on : (m : Bool) (ts : Texts) → Leads ring s (sign m ∷ ts) (at.Term, with_sign p m) ts
+    begins : Begins s p
+
+  polynomial_opens : (p : Part) → Opens (at.Polynomial, p) p
+  polynomial_opens p = record { sign_on = signed; begins = record { number_on = number; name_on = named } }
+    where
+      signed : (m : Bool) (ts : Texts) → Leads ring (at.Polynomial, p) (sign m ∷ ts) (at.Term, with_sign p m) ts
+      signed true ts = after-go (set_step ring) (at.Polynomial, p) (at.Term, with_sign p true) minus ts refl
+      signed false ts = after-go (set_step ring) (at.Polynomial, p) (at.Term, with_sign p false) plus ts refl
+
+      number : (t : List ℕ) (n : ℕ) (ts : Texts) → IsNumberText t n most → Leads ring (at.Polynomial, p) (t ∷ ts) (at.Number, with_numer p (value t)) ts
+      number t n ts h =
+          let digits = h.0 in
+          let within = number_within t n most h in
+          after-go (set_step ring) (at.Polynomial, p) (at.Number, with_numer p (value t)) t ts (rw (number_no_mark t 43 digits refl, number_no_mark t 45 digits refl, digits, within) refl)
+
+      named : Takes ring (at.Polynomial, p) p
+      named t v ts h =
+          let word = named_word ring is_ring t v h in
+          after-go (set_step ring) (at.Polynomial, p) (at.Name, with_name p v) t ts (rw (word_no_mark t 43 word refl, word_no_mark t 45 word refl, word_no_number t word, h) refl)
+
+  first_opens : (p : Part) → Opens (at.First, p) p
+  first_opens p = record { sign_on = signed; begins = record { number_on = number; name_on = named } }
+    where
+      signed : (m : Bool) (ts : Texts) → Leads ring (at.First, p) (sign m ∷ ts) (at.Term, with_sign p m) ts
+      signed true ts = after-go (set_step ring) (at.First, p) (at.Term, with_sign p true) minus ts refl
+      signed false ts = after-go (set_step ring) (at.First, p) (at.Term, with_sign p false) plus ts refl
+
+      number : (t : List ℕ) (n : ℕ) (ts : Texts) → IsNumberText t n most → Leads ring (at.First, p) (t ∷ ts) (at.Number, with_numer p (value t)) ts
+      number t n ts h =
+          let digits = h.0 in
+          let within = number_within t n most h in
+          after-go (set_step ring) (at.First, p) (at.Number, with_numer p (value t)) t ts
+          (rw (number_no_mark t 125 digits refl, number_no_mark t 43 digits refl, number_no_mark t 45 digits refl, digits, within) refl)
+
+      named : Takes ring (at.First, p) p
+      named t v ts h =
+          let word = named_word ring is_ring t v h in
+          after-go (set_step ring) (at.First, p) (at.Name, with_name p v) t ts
+          (rw (word_no_mark t 125 word refl, word_no_mark t 43 word refl, word_no_mark t 45 word refl, word_no_number t word, h) refl)
 
   -- the sign at the front, or none, and the term behind it
-  front_read : (place : SetPlace) → Begins place → (p : Part) → Fresh p → (front : Texts) (m : Bool) (names : Texts) (vs : List ℕ) (rest : Texts) → IsFrontSign front m → IsTermText ring names vs
-      → after (set_step ring) (place, p) (front ++ (names ++ rest)) ≡ after (set_step ring) (at.Inside, record p { minus = m; variables = vs }) rest
-  front_read place b p fresh front m names vs rest (inl h) term =
-      ap (λ l. after (set_step ring) (place, p) (l ++ (names ++ rest))) h
-      ∙ b.sign_on p m (names ++ rest)
-      ∙ term_read at.Term first_variable_go names vs term (with_sign p m) fresh.variables rest
-  front_read place b p fresh front m names vs rest (inr h) term =
-      ap (λ l. after (set_step ring) (place, p) (l ++ (names ++ rest))) h.0
-      ∙ term_read place b.variable_on names vs term p fresh.variables rest
-      ∙ ap (λ x. after (set_step ring) (at.Inside, record p { minus = x; variables = vs }) rest) (fresh.plus_sign ∙ sym h.1)
-
-  polynomial_read : (place : SetPlace) → Begins place → (us : List WrittenTerm) (ts : Texts) → IsPolynomialText ring ts us → (p : Part) → Fresh p → (rest : Texts) → Behind (place, p) ts rest p.polynomials us
-  polynomial_read place b [] ts h p fresh rest = absurd h
-  polynomial_read place b (u ∷ us) ts (front, names, more, is, signed, term, later) p fresh rest =
-      let q : Part = record p { minus = u.minus; variables = u.variables } in
-      let r = more_read us more later q rest in
-      let regrouped : (front ++ (names ++ more)) ++ rest ≡ front ++ (names ++ (more ++ rest)) = simp append_assoc in
+  front_read : (u : WrittenTerm) (front term : Texts) → IsFrontSign front u.minus → IsTermText ring term u → (rest : Texts) (s : SetState) (p : Part) → Opens s p → Fresh p → p.minus ≡ false
+      → Behind ring s (front ++ term) rest (record p { minus = u.minus; numer = u.numer; denom = u.denom; factors = u.factors })
+  front_read u front term (inl h) said rest s p opens fresh plus_sign =
+      let b = term_read u term said rest (at.Term, with_sign p u.minus) (with_sign p u.minus) (term_begins (with_sign p u.minus)) (record { numer = fresh.numer; denom = fresh.denom; factors = fresh.factors }) in
       record {
-        part = r.part;
-        on = ap (λ l. after (set_step ring) (place, p) (l ++ rest)) is
-            ∙ ap (after (set_step ring) (place, p)) regrouped
-            ∙ front_read place b p fresh front u.minus names u.variables (more ++ rest) signed term
-            ∙ r.on;
-        terms_are = r.terms_are ∙ ap (λ l. (l ++ u ∷ []) ++ us) fresh.terms;
-        same = r.same;
+        state = b.state;
+        part = b.part;
+        like = b.like;
+        same = b.same;
+        on = ap (λ l. after (set_step ring) s ((l ++ term) ++ rest)) h ∙ opens.sign_on u.minus (term ++ rest) ∙ b.on;
+      }
+  front_read u front term (inr h) said rest s p opens fresh plus_sign =
+      let b = term_read u term said rest s p opens.begins fresh in
+      record {
+        state = b.state;
+        part = b.part;
+        like = b.like;
+        same = b.same ∙ ap (λ m. record p { minus = m; numer = u.numer; denom = u.denom; factors = u.factors; variable = b.part.variable }) (plus_sign ∙ sym h.1);
+        on = ap (λ l. after (set_step ring) s ((l ++ term) ++ rest)) h.0 ∙ b.on;
       }
 
-  polynomials_read : (qs : Sets) (ts : Texts) → AreMorePolynomials ring ts qs → (p : Part) → after (set_step ring) (at.Inside, p) (ts ++ brace_end ∷ []) ≡ done (all_of p ++ qs)
-  polynomials_read [] ts h p = ap (λ l. after (set_step ring) (at.Inside, p) (l ++ brace_end ∷ [])) h ∙ end_done p ∙ ap (λ l. done l) (sym (append-nil (all_of p)))
-  polynomials_read (q ∷ qs) ts (first, more, is, polynomial, later) p =
-      let r = polynomial_read at.Polynomial polynomial_begins q first polynomial (next_polynomial p) (record { terms = refl; plus_sign = refl; variables = refl }) (more ++ brace_end ∷ []) in
-      ap (λ l. after (set_step ring) (at.Inside, p) (l ++ brace_end ∷ [])) is
-      ∙ comma_go p ((first ++ more) ++ brace_end ∷ [])
-      ∙ ap (after (set_step ring) (at.Polynomial, next_polynomial p)) (append_assoc first more (brace_end ∷ []))
+  polynomial_read : (us : List WrittenTerm) (ts : Texts) → IsPolynomialText ring ts us → (rest : Texts) (s : SetState) (p : Part) → Opens s p → Fresh p → p.minus ≡ false → p.terms ≡ [] → Through s ts rest p.polynomials us
+  polynomial_read [] ts h rest s p opens fresh plus_sign none = absurd h
+  polynomial_read (u ∷ us) ts (front, term, more, is, signed, said, later) rest s p opens fresh plus_sign none =
+      let b = front_read u front term signed said (more ++ rest) s p opens fresh plus_sign in
+      let r = terms_read us more later rest b.state b.part b.like in
+      let regrouped : (front ++ (term ++ more)) ++ rest ≡ (front ++ term) ++ (more ++ rest) = simp append_assoc in
+      record {
+        state = r.state;
+        part = r.part;
+        like = r.like;
+        terms_are = r.terms_are ∙ ap (λ (x : Part). terms_of x ++ us) b.same ∙ ap (λ l. (l ++ u ∷ []) ++ us) none;
+        same = r.same ∙ ap (λ (x : Part). x.polynomials) b.same;
+        on = ap (λ l. after (set_step ring) s (l ++ rest)) is ∙ ap (after (set_step ring) s) regrouped ∙ b.on ∙ r.on;
+      }
+
+  polynomials_read : (qs : Sets) (ts : Texts) → AreMorePolynomials ring ts qs → (s : SetState) (p : Part) → Like ring s p → after (set_step ring) s (ts ++ brace_end ∷ []) ≡ done (all_of p ++ qs)
+  polynomials_read [] ts h s p like = ap (λ l. after (set_step ring) s (l ++ brace_end ∷ [])) h ∙ like_end ring is_ring s p like ∙ ap (λ l. done l) (sym (append-nil (all_of p)))
+  polynomials_read (q ∷ qs) ts (first, more, is, polynomial, later) s p like =
+      let n = next_polynomial p in
+      let r = polynomial_read q first polynomial (more ++ brace_end ∷ []) (at.Polynomial, n) n (polynomial_opens n) (record { numer = refl; denom = refl; factors = refl }) refl refl in
+      ap (λ l. after (set_step ring) s (l ++ brace_end ∷ [])) is
+      ∙ like_comma ring is_ring s p like ((first ++ more) ++ brace_end ∷ [])
+      ∙ ap (after (set_step ring) (at.Polynomial, n)) (append_assoc first more (brace_end ∷ []))
       ∙ r.on
-      ∙ polynomials_read qs more later r.part
+      ∙ polynomials_read qs more later r.state r.part r.like
       ∙ ap (λ l. done ((l ++ terms_of r.part ∷ []) ++ qs)) r.same
       ∙ ap (λ l. done ((all_of p ++ l ∷ []) ++ qs)) r.terms_are
       ∙ ap (λ l. done l) (append_assoc (all_of p) (q ∷ []) qs)
 
-  set_given : (ts : Texts) (ps : Sets) → IsSetText ring ts ps → after (set_step ring) (at.Brace, empty) ts ≡ done ps
+  pub set_given : (ts : Texts) (ps : Sets) → IsSetText ring ts ps → after (set_step ring) (at.Brace, empty) ts ≡ done ps
   set_given ts [] h =
       ap (after (set_step ring) (at.Brace, empty)) h
       ∙ after-go (set_step ring) (at.Brace, empty) (at.First, empty) brace (brace_end ∷ []) refl
       ∙ after-done (set_step ring) (at.First, empty) [] brace_end refl
   set_given ts (q ∷ qs) (first, more, is, polynomial, later) =
-      let r = polynomial_read at.First first_begins q first polynomial empty (record { terms = refl; plus_sign = refl; variables = refl }) (more ++ brace_end ∷ []) in
+      let r = polynomial_read q first polynomial (more ++ brace_end ∷ []) (at.First, empty) empty (first_opens empty) (record { numer = refl; denom = refl; factors = refl }) refl refl in
       ap (after (set_step ring) (at.Brace, empty)) is
       ∙ after-go (set_step ring) (at.Brace, empty) (at.First, empty) brace (first ++ (more ++ brace_end ∷ [])) refl
       ∙ r.on
-      ∙ polynomials_read qs more later r.part
+      ∙ polynomials_read qs more later r.state r.part r.like
       ∙ ap (λ l. done ((l ++ terms_of r.part ∷ []) ++ qs)) r.same
       ∙ ap (λ l. done ((l ∷ []) ++ qs)) r.terms_are
-
--- ---- what is read is what the grammar says
-
-pub set_reads : (ring : Texts) (source : List ℕ) (from : ℕ) (ps : Sets) (place : ℕ) → set_at ring source from ≡ Ok (ps, place) → Reads (IsSetText ring) (lexemes one_byte source from) ps place
-set_reads ring source from ps place e = reads (set_step ring) (IsSetText ring) (at.Brace, empty) (length source) (lexemes one_byte source from) ps place (λ ts. set_said ring ts ps) e
-
-pub set_is_read : (ring : Texts) → IsRing ring → (source : List ℕ) (from : ℕ) (ps : Sets) (place : ℕ) → Reads (IsSetText ring) (lexemes one_byte source from) ps place → set_at ring source from ≡ Ok (ps, place)
-set_is_read ring is source from ps place r = is_read (set_step ring) (IsSetText ring) (at.Brace, empty) (length source) (lexemes one_byte source from) ps place (λ ts. set_given ring is ts ps) r
-
-no_set : (ring : Texts) → IsRing ring → (source : List ℕ) (from : ℕ) (fault : Fault) → set_at ring source from ≡ Err fault → (ps : Sets) (place : ℕ) → Reads (IsSetText ring) (lexemes one_byte source from) ps place → ⊥
-no_set ring is source from fault e ps place r = let read = set_is_read ring is source from ps place r in cc
-
-pub set_refused : (ring : Texts) → IsRing ring → (source : List ℕ) (from : ℕ) (error : TextError) → Fails error (set_at ring source from) → HasNone error (IsSetText ring) (lexemes one_byte source from)
-set_refused ring is source from (errors.Syntax s) failed = λ ps place r. no_set ring is source from failed.0 failed.1 ps place r
-set_refused ring is source from errors.Memory failed = tt
-set_refused ring is source from (errors.Overflow o) failed = absurd failed
-set_refused ring is source from (errors.Exponent o) failed = absurd failed
-
-pub one_set : (ring : Texts) → IsRing ring → HasOneMeaning (IsSetText ring)
-one_set ring is = one_meaning (set_step ring) (IsSetText ring) (at.Brace, empty) (set_given ring is)

@@ -1,15 +1,18 @@
 -- The tokens of a text, one after another.
--- To cite: next_token, no_token, behind-lexeme. The rest are steps.
-use Rattle.std.proofs.Common.{◌≡◌, ◌<◌, ◌≤◌, ℕ, zero, suc, ◌+◌, ◌-◌, Bool, true, false, cond, List, [], ◌∷◌, length, drop, take, get_or, refl, sym, ap, ◌∙◌, arith, if◌then◌else◌}
+-- To cite: lex-skip, token_at, no_token, token-fits, behind-lexeme; ring_more-fits; value-passes. The rest are steps.
+use Rattle.std.proofs.Common.{◌≡◌, ◌≢◌, ◌<◌, ◌≤◌, ℕ, zero, suc, ◌+◌, ◌-◌, ◌*◌, Bool, true, false, cond, List, [], ◌∷◌, length, drop, take, take_while, max, nat_eq, get_or, add-one, refl, sym, ap, ◌∙◌, arith, if◌then◌else◌}
 use Rattle.std.proofs.Math.Seq.{drop-cons}
 use Rattle.std.proofs.lemmas.List.{drop-drop, length-take, length-drop}
-use Rattle.std.specs.List.{prefix_len}
+use Rattle.std.proofs.lemmas.List.Sums.{prefix_len-le-length}
+use Rattle.std.proofs.lemmas.List.Folds.{length-prefix_len}
+use Rattle.std.specs.List.{prefix_len, starts_with}
+use lib.Pointwise.{pointwise_long}
 use Rattle.gf_text.specs.Machine.{Lexeme, behind}
-use Rattle.gf_text.specs.Tokens.{is_space, lex, lexemes, lexeme}
+use Rattle.gf_text.specs.Tokens.{is_space, is_digit, is_letter, spaces, value_from, longest, ring_more, lex, lexemes, lexeme}
 
 module _ (more : List ℕ → ℕ) where
   -- bytes of a token before are passed over
-  lex-skip : (k at : ℕ) (bytes : List ℕ) → lex more k at bytes ≡ lex more 0 (at + k) (drop k bytes)
+  pub lex-skip : (k at : ℕ) (bytes : List ℕ) → lex more k at bytes ≡ lex more 0 (at + k) (drop k bytes)
   unfolding lex
   lex-skip zero at bytes = ap (λ n. lex more 0 n bytes) (omega arith)
   lex-skip (suc k) at [] = refl
@@ -47,11 +50,13 @@ module _ (more : List ℕ → ℕ) where
   spaces_only at (b ∷ bs) h = none_by b bs at (is_space b) (spaces_only (at + 1) bs) h
 
   -- white space up to the end: no token
-  pub no_token : (source : List ℕ) (at : ℕ) → length (drop at source) ≤ prefix_len is_space (drop at source) → lexemes more source at ≡ []
-  no_token source at h = spaces_only at (drop at source) h
+  pub no_token : (source : List ℕ) (at k : ℕ) → at ≤ length source → k ≡ length (spaces (drop at source)) → at + k ≡ length source → lexemes more source at ≡ []
+  no_token source at k within h end =
+      let rest = drop at source in
+      spaces_only at rest (omega (arith, length-drop at source, length-prefix_len is_space rest))
 
   -- the first token at a place or behind it
-  pub next_token : (source : List ℕ) (at start end : ℕ) → prefix_len is_space (drop at source) < length (drop at source)
+  next_token : (source : List ℕ) (at start end : ℕ) → prefix_len is_space (drop at source) < length (drop at source)
       → start ≡ at + prefix_len is_space (drop at source) → end ≡ start + 1 + more (drop start source)
       → lexemes more source at ≡ lexeme source start end ∷ lexemes more source end
   unfolding from_token
@@ -81,6 +86,59 @@ module _ (more : List ℕ → ℕ) where
       ∙ ap (λ t. record { text = t; at = start } ∷ lex more n (start + 1) later) text
       ∙ ap (λ xs. lexeme source start end ∷ xs) tail
 
+  -- the first token at a place or behind it: it begins behind k bytes of white space
+  pub token_at : (source : List ℕ) (at k : ℕ) → at ≤ length source → k ≡ length (spaces (drop at source)) → at + k ≢ length source
+      → lexemes more source at ≡ lexeme source (at + k) (at + k + 1 + more (drop (at + k) source)) ∷ lexemes more source (at + k + 1 + more (drop (at + k) source))
+  token_at source at k within h some =
+      let rest = drop at source in
+      let spaces_len = length-prefix_len is_space rest in
+      let fits = prefix_len-le-length is_space rest in
+      next_token source at (at + k) (at + k + 1 + more (drop (at + k) source)) (omega (arith, length-drop at source)) (omega arith) refl
+
+  -- a token is within the source
+  pub token-fits : ((text : List ℕ) → 0 < length text → more text < length text) → (source : List ℕ) (at k : ℕ) → at ≤ length source → k ≡ length (spaces (drop at source)) → at + k ≢ length source
+      → at + k + 1 + more (drop (at + k) source) ≤ length source
+  token-fits fits source at k within h some =
+      let rest = drop at source in
+      let spaces_len = length-prefix_len is_space rest in
+      let all = prefix_len-le-length is_space rest in
+      let starts : at + k < length source = omega (arith, length-drop at source) in
+      omega (arith, length-drop (at + k) source, fits (drop (at + k) source) (omega (arith, length-drop (at + k) source)))
+
 -- the place behind a token between two places is the second
 pub behind-lexeme : (source : List ℕ) (start end : ℕ) → start < end → end ≤ length source → behind (lexeme source start end) ≡ end
 behind-lexeme source start end rises within = omega (arith, length-take (end - start) (drop start source), length-drop start source)
+
+-- ---- the longest name
+
+starts-le : (text n : List ℕ) → (v : Bool) → starts_with nat_eq text n ≡ v → (if v then length n else 0) ≤ length text
+starts-le text n true is = omega (arith, pointwise_long nat_eq n (take (length n) text) is, length-take (length n) text)
+starts-le text n false is = omega arith
+
+longest-le : (ring : List (List ℕ)) (text : List ℕ) → longest ring text ≤ length text
+longest-le [] text = omega arith
+longest-le (n ∷ ns) text = omega (arith, starts-le text n (starts_with nat_eq text n) refl, longest-le ns text)
+
+-- what follows the first byte of a token is within the text
+pub ring_more-fits : (ring : List (List ℕ)) (text : List ℕ) → 0 < length text → ring_more ring text < length text
+ring_more-fits ring [] some = absurd (omega arith)
+ring_more-fits ring (b ∷ bs) some = by (is_digit b) (is_letter b)
+  where
+    by : (v w : Bool) → (if v then length (take_while is_digit bs) else if w then longest ring (b ∷ bs) - 1 else 0) < suc (length bs)
+    by true w = omega (arith, length-prefix_len is_digit bs, prefix_len-le-length is_digit bs)
+    by false true = omega (arith, longest-le ring (b ∷ bs))
+    by false false = omega arith
+
+-- ---- numbers
+
+-- more digits make a number no less
+value-grows : (n : ℕ) (ds : List ℕ) → n ≤ value_from n ds
+value-grows n [] = omega arith
+value-grows n (d ∷ ds) = omega (arith, value-grows (10 * n + (d - 48)) ds)
+
+-- a number that is past a limit before its last digit is past it
+pub value-passes : (n : ℕ) (ds : List ℕ) (i most : ℕ) → i < length ds → most < 10 * n + (get_or ds i 0 - 48) → most < value_from n (drop i ds)
+value-passes n ds i most h past =
+    let d = get_or ds i 0 in
+    let front : drop i ds ≡ d ∷ drop (i + 1) ds = rw add-one (drop-cons ds i 0 h) in
+    rw front (omega (arith, value-grows (10 * n + (d - 48)) (drop (i + 1) ds)))

@@ -1,42 +1,53 @@
--- From what a text of a set says to polynomials: products of variables, sums of terms, and the marked term.
--- Equal variables of a term are counted; like terms are added; the first term, as written, that remains is marked.
+-- From what a text of a set says to polynomials: products of powers, sums of terms, and the marked term.
+-- The exponents of equal variables of a term are added from the left; like terms are added; the first term, as written,
+-- that remains is marked.
 -- Laws: proofs/CombiningLaws.antt.
-use Rattle.std.specs.Prelude.{◌≡◌, ◌≢◌, ℕ, ◌+◌, ◌-◌, ◌^◌, ◌<◌, Bool, true, false, nat_lt, List, [], ◌∷◌, Some, IfSome, Result, Ok, Err, slice_get, slice_index, slice_set, replicate, if◌then◌else◌}
-use Rattle.gf_frac.specs.Fraction.{Fraction, zero_ℚ, one_ℚ, neg_ℚ}
+use Rattle.std.specs.Prelude.{◌≡◌, ◌≢◌, ℕ, pos, ◌+◌, ◌-◌, ◌^◌, ◌<◌, Bool, true, false, nat_lt, List, [], ◌∷◌, Option, Some, IfSome, MatchOption, Result, Ok, Err, slice_get, slice_index, slice_set, replicate, if◌then◌else◌}
+use Rattle.gf_frac.specs.Fraction.{Fraction, over, zero_ℚ, neg_ℚ}
 use Rattle.gf_exponents.specs.Exponents.{Exponents}
 use Rattle.gf_poly.specs.declared.Term.{Term}
 use Rattle.gf_poly.specs.declared.monomial.ExponentOverflow.{ExponentOverflow}
 use Rattle.gf_poly.specs.Polynomial.{Terms, coefficient, SamePolynomial, IsDescending, HasVariables, KeepsVariables}
 use Rattle.gf_poly.specs.Marking.{MarkedPolynomial}
+use Rattle.gf_text.specs.declared.tree.Factor.{Factor}
 use Rattle.gf_text.specs.declared.tree.WrittenTerm.{WrittenTerm}
 
 -- ---- terms
 
--- a monomial times a variable, where the exponent stays within 2^31 - 1
-abbrev pub raised : Exponents → ℕ → Result Exponents ExponentOverflow
-raised x v = if nat_lt (slice_index x v) (2 ^ 31 - 1) then Ok (slice_set x v (slice_index x v + 1)) else Err (record { left = slice_index x v; right = 1 })
+-- a monomial times a power of a variable, where the exponent stays within 2^31 - 1
+abbrev pub raised : Exponents → Factor → Result Exponents ExponentOverflow
+raised x f = if nat_lt (slice_index x f.variable + f.exponent) (2 ^ 31) then Ok (slice_set x f.variable (slice_index x f.variable + f.exponent))
+    else Err (record { left = slice_index x f.variable; right = f.exponent })
 
-abbrev pub then_variables : Result Exponents ExponentOverflow → (Exponents → Result Exponents ExponentOverflow) → Result Exponents ExponentOverflow
-then_variables (Ok x) next = next x
-then_variables (Err o) next = Err o
+abbrev pub then_factors : Result Exponents ExponentOverflow → (Exponents → Result Exponents ExponentOverflow) → Result Exponents ExponentOverflow
+then_factors (Ok x) next = next x
+then_factors (Err o) next = Err o
 
--- a monomial times variables, one after another
-abbrev pub times_variables : Exponents → List ℕ → Result Exponents ExponentOverflow
-times_variables x [] = Ok x
-times_variables x (v ∷ vs) = then_variables (raised x v) (λ y. times_variables y vs)
+-- a monomial times powers, one after another
+abbrev pub times_factors : Exponents → List Factor → Result Exponents ExponentOverflow
+times_factors x [] = Ok x
+times_factors x (f ∷ fs) = then_factors (raised x f) (λ y. times_factors y fs)
 
--- 1 or -1
-abbrev pub unit : Bool → Fraction
-unit true = neg_ℚ one_ℚ
-unit false = one_ℚ
+-- a fraction, or its negative
+abbrev pub signed : Bool → Fraction → Fraction
+signed true c = neg_ℚ c
+signed false c = c
+
+-- the coefficient that is written: the rational number with its sign
+abbrev pub coefficient_of : WrittenTerm → Fraction
+coefficient_of u = signed u.minus (over (pos u.numer) (u.denom - 1))
 
 abbrev pub with_coefficient : Fraction → Result Exponents ExponentOverflow → Result Term ExponentOverflow
 with_coefficient c (Ok x) = Ok (record { coef = c; mono = x })
 with_coefficient c (Err o) = Err o
 
+-- the monomial that is written, in n variables
+abbrev pub exponents_of : ℕ → WrittenTerm → Result Exponents ExponentOverflow
+exponents_of n u = times_factors (replicate n 0) u.factors
+
 -- the term that is written, in n variables
 abbrev pub term_of : ℕ → WrittenTerm → Result Term ExponentOverflow
-term_of n u = with_coefficient (unit u.minus) (times_variables (replicate n 0) u.variables)
+term_of n u = with_coefficient (coefficient_of u) (exponents_of n u)
 
 -- an element before others, where neither is refused
 abbrev pub before_all : {A : Type 0} → Result A ExponentOverflow → Result (List A) ExponentOverflow → Result (List A) ExponentOverflow
@@ -53,6 +64,14 @@ terms_of n (u ∷ us) = before_all (term_of n u) (terms_of n us)
 abbrev pub sums_of : ℕ → List (List WrittenTerm) → Result (List Terms) ExponentOverflow
 sums_of n [] = Ok []
 sums_of n (q ∷ qs) = before_all (terms_of n q) (sums_of n qs)
+
+-- each exponent of these terms stays within its limit
+abbrev pub ExponentsFit : ℕ → List WrittenTerm → Type 0
+ExponentsFit n us = (f : Terms) × (terms_of n us ≡ Ok f)
+
+-- each exponent of these polynomials does
+abbrev pub AllExponentsFit : ℕ → List (List WrittenTerm) → Type 0
+AllExponentsFit n qs = (fs : List Terms) × (sums_of n qs ≡ Ok fs)
 
 -- each sum has n variables
 abbrev pub HaveVariables : ℕ → List Terms → Type 0
@@ -86,6 +105,14 @@ pub record IsFirstRemainingAt (f g : Terms) (i : ℕ) : Type 0 where
   pub term : Term
   pub stands : slice_get g i ≡ Some term
   pub first : IsFirstRemaining f term.mono
+
+-- g is the sum of the terms that are written
+abbrev pub IsSumOf : ℕ → List WrittenTerm → Terms → Type 0
+IsSumOf n us g = (f : Terms) → terms_of n us ≡ Ok f → SamePolynomial g f
+
+-- the place, in the sum g of the terms that are written, of the first that remains; or none remains
+abbrev pub FindsFirst : ℕ → List WrittenTerm → Terms → Option ℕ → Type 0
+FindsFirst n us g place = (f : Terms) → terms_of n us ≡ Ok f → MatchOption place (NoneRemains f) (IsFirstRemainingAt f g)
 
 -- m is the sum of the terms of f, marked at the first that remains
 pub record IsSumMarked (f : Terms) (m : MarkedPolynomial) : Type 0 where

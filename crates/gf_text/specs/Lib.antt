@@ -1,11 +1,16 @@
-pub mod Machine  -- machines that read tokens
+pub mod Machine  -- machines that read tokens, and the places of faults
+pub mod Refusing  -- what a fault is refused as
 pub mod Tokens  -- white space, the tokens of a text
 pub mod RingText  -- rings: grammar, machine, printed text
 pub mod SetText  -- sets of polynomials: grammar, machine
-pub mod Combining  -- products of variables, sums of terms, the marked term
+pub mod SetKinds  -- of which kind a fault of a set is
+pub mod Limits  -- what a text may say
+pub mod Combining  -- products of powers, sums of terms, the marked term
 pub mod WrittenText  -- the tokens by which a set is said
 pub mod PrintedText  -- signs, coefficients, powers, terms as they are printed
 pub mod Given  -- what a reader gave
 pub mod GivenSet  -- the same of sets
+pub mod TokensRead  -- tokens as they are read
+pub mod Rings  -- rings as they are read
 pub mod Sets  -- the polynomials of a text
 pub mod PrintedSets  -- polynomials and sets as they are printed

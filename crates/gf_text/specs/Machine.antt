@@ -3,8 +3,8 @@
 -- their places; `after` says what the machine does at some tokens, whatever their places are.
 -- Laws: proofs/MachineLaws.antt.
 use Rattle.std.specs.Prelude.{◌≡◌, ℕ, ◌+◌, Result, Ok, Err, List, [], ◌∷◌, ◌++◌, length, map}
-use Rattle.gf_text.specs.declared.error.Kind.{Kind}
-use Rattle.gf_text.specs.declared.error.Kind.TheVariants.{Ended, Unexpected}
+use Rattle.gf_text.specs.declared.error.Cause.{Cause}
+use Rattle.gf_text.specs.declared.error.Cause.TheVariants.{Ended, Unexpected, RepeatedName, ZeroDenominator, TooWide, UnknownName}
 
 -- a token: its text, and the place of its first byte
 pub record Lexeme : Type 0 where
@@ -28,23 +28,23 @@ behind_all d (x ∷ xs) = behind_all (behind x) xs
 pub data Move (S A : Type 0) : Type 0 where
   go : S → Move S A
   done : A → Move S A
-  halt : Kind → Move S A
+  halt : Cause → Move S A
 
 -- where reading stopped, and why
 pub record Fault : Type 0 where
   pub at : ℕ
-  pub kind : Kind
+  pub cause : Cause
 
 module _ {S A : Type 0} where
   -- what is read at a token, by the move there
   abbrev pub moved : Move S A → Lexeme → (S → Result (A × ℕ) Fault) → Result (A × ℕ) Fault
   moved (go s) x next = next s
   moved (done a) x next = Ok (a, behind x)
-  moved (halt kind) x next = Err (record { at = x.at; kind = kind })
+  moved (halt cause) x next = Err (record { at = x.at; cause = cause })
 
   -- what the machine reads from a state on, and the place behind it; the text ends at the place `end`
   unfoldable pub run : (S → List ℕ → Move S A) → S → ℕ → List Lexeme → Result (A × ℕ) Fault
-  run step s end [] = Err (record { at = end; kind = Ended })
+  run step s end [] = Err (record { at = end; cause = Ended })
   run step s end (x ∷ xs) = moved (step s x.text) x (λ t. run step t end xs)
 
   -- the move at a token, and what follows it; behind the end nothing can stand
@@ -52,7 +52,7 @@ module _ {S A : Type 0} where
   followed (go s) ts next = next s
   followed (done a) [] next = done a
   followed (done a) (t ∷ ts) next = halt Unexpected
-  followed (halt kind) ts next = halt kind
+  followed (halt cause) ts next = halt cause
 
   -- what the machine does at tokens with these texts
   unfoldable pub after : (S → List ℕ → Move S A) → S → List (List ℕ) → Move S A
@@ -66,6 +66,35 @@ pub record Reads {A : Type 0} (grammar : List (List ℕ) → A → Type 0) (xs :
   pub whole : xs ≡ front ++ back
   pub text : grammar (texts front) a
   pub end : behind_all 0 front ≡ place
+
+-- these tokens go on to a text of the grammar
+abbrev pub GoesOn : {A : Type 0} → (List (List ℕ) → A → Type 0) → List (List ℕ) → Type 0
+GoesOn {A} grammar ts = (later : List (List ℕ)) × (a : A) × grammar (ts ++ later) a
+
+-- At this place stands the first token after which nothing goes on: what stands before it goes on to a text of the
+-- grammar, and with it never does.
+pub record StandsAt {A : Type 0} (grammar : List (List ℕ) → A → Type 0) (xs : List Lexeme) (place : ℕ) : Type 0 where
+  pub front : List Lexeme
+  pub token : Lexeme
+  pub back : List Lexeme
+  pub whole : xs ≡ front ++ token ∷ back
+  pub at : token.at ≡ place
+  pub before : GoesOn grammar (texts front)
+  pub never : GoesOn grammar (texts front ++ token.text ∷ []) → ⊥
+
+-- what a fault of this cause at this place says: the text ends too early, and all of it goes on; or the place is that of
+-- the first token after which nothing goes on
+abbrev pub IsFaultAt : {A : Type 0} → (List (List ℕ) → A → Type 0) → List Lexeme → ℕ → ℕ → Cause → Type 0
+IsFaultAt grammar xs end place Ended = (place ≡ end) × GoesOn grammar (texts xs)
+IsFaultAt grammar xs end place Unexpected = StandsAt grammar xs place
+IsFaultAt grammar xs end place RepeatedName = StandsAt grammar xs place
+IsFaultAt grammar xs end place ZeroDenominator = StandsAt grammar xs place
+IsFaultAt grammar xs end place TooWide = StandsAt grammar xs place
+IsFaultAt grammar xs end place UnknownName = StandsAt grammar xs place
+
+-- what a fault says of these tokens, where the text ends at the place `end`
+abbrev pub IsFault : {A : Type 0} → (List (List ℕ) → A → Type 0) → List Lexeme → ℕ → Fault → Type 0
+IsFault grammar xs end f = IsFaultAt grammar xs end f.at f.cause
 
 -- the same tokens have at most one meaning, and one place behind it
 abbrev pub HasOneMeaning : {A : Type 0} → (List (List ℕ) → A → Type 0) → Type 0

@@ -2,22 +2,17 @@
 -- `IsRingText` is the grammar, `ring_text` what is printed, `ring_step` the machine.
 -- Laws: proofs/RingTextLaws.antt.
 use Rattle.std.specs.Prelude.{◌≡◌, ℕ, ◌≤◌, ◌<◌, Bool, true, false, ◌&&◌, ◌||◌, not, nat_le, nat_lt, List, [], ◌∷◌, ◌++◌, length, bytes_eq, flat_map, if◌then◌else◌, Result, Ok, ◌+◌}
-use Rattle.std.specs.List.{list_any}
+use Rattle.std.specs.List.{list_any, list_all}
 use Rattle.gf_text.specs.Machine.{Move, go, done, halt, Fault, run}
-use Rattle.gf_text.specs.Tokens.{lexemes, one_byte}
-use Rattle.gf_text.specs.declared.error.Kind.TheVariants as kind
+use Rattle.gf_text.specs.Tokens.{is_letter, is_name_byte, lexemes, word_more}
+use Rattle.gf_text.specs.declared.error.Cause.TheVariants as cause
 use Rattle.gf_text.specs.declared.ring_reader.RingPlace.{RingPlace}
 use Rattle.gf_text.specs.declared.ring_reader.RingPlace.TheVariants as at
 
--- a to z or A to Z
-abbrev pub is_letter : ℕ → Bool
-is_letter b = (nat_le 65 b && nat_le b 90) || (nat_le 97 b && nat_le b 122)
-
--- a name is one letter
+-- a name is a letter, then letters, digits and _
 abbrev pub is_name : List ℕ → Bool
 is_name [] = false
-is_name (b ∷ []) = is_letter b
-is_name (b ∷ c ∷ bs) = false
+is_name (b ∷ bs) = is_letter b && list_all is_name_byte bs
 
 -- whether the name is one of these
 abbrev pub has : List (List ℕ) → List ℕ → Bool
@@ -57,32 +52,30 @@ abbrev pub ring_tokens : List (List ℕ) → List (List ℕ)
 ring_tokens [] = []
 ring_tokens (n ∷ ns) = letter_q ∷ bracket ∷ n ∷ (more_names ns ++ bracket_end ∷ [])
 
--- these tokens are the text of this ring
+-- These tokens are the text of a ring with these names, however many they are.
 pub record IsRingText (ts names : List (List ℕ)) : Type 0 where
   pub tokens : ts ≡ ring_tokens names
-  pub ring : IsRing names
+  pub some : 0 < length names
+  pub different : AreNew [] names
 
 -- ---- the machine
-
--- a name can stand behind these
-abbrev pub is_new : List (List ℕ) → List ℕ → Bool
-is_new names t = is_name t && (nat_lt (length names) 16 && not (has names t))
 
 -- what is expected, and the names that were read
 abbrev pub RingState : Type 0
 RingState = RingPlace × List (List ℕ)
 
 abbrev pub ring_step : RingState → List ℕ → Move RingState (List (List ℕ))
-ring_step (at.Letter, names) t = if bytes_eq t letter_q then go (at.Bracket, names) else halt kind.Unexpected
-ring_step (at.Bracket, names) t = if bytes_eq t bracket then go (at.Variable, names) else halt kind.Unexpected
-ring_step (at.Variable, names) t = if is_new names t then go (at.Behind, names ++ t ∷ []) else halt kind.Unexpected
+ring_step (at.Letter, names) t = if bytes_eq t letter_q then go (at.Bracket, names) else halt cause.Unexpected
+ring_step (at.Bracket, names) t = if bytes_eq t bracket then go (at.Variable, names) else halt cause.Unexpected
+ring_step (at.Variable, names) t = if is_name t then (if has names t then halt cause.RepeatedName else go (at.Behind, names ++ t ∷ []))
+    else halt cause.Unexpected
 ring_step (at.Behind, names) t = if bytes_eq t comma then go (at.Variable, names)
     else if bytes_eq t bracket_end then done names
-    else halt kind.Unexpected
+    else halt cause.Unexpected
 
 -- the ring that stands in the source from this place on, and the place behind it
 abbrev pub ring_at : List ℕ → ℕ → Result (List (List ℕ) × ℕ) Fault
-ring_at source from = run ring_step (at.Letter, []) (length source) (lexemes one_byte source from)
+ring_at source from = run ring_step (at.Letter, []) (length source) (lexemes word_more source from)
 
 -- ---- what is printed
 

@@ -6,12 +6,15 @@
 
 mod combine;
 mod error;
+mod marked_reader;
 mod names;
 mod printer;
 mod reader;
 mod ring_reader;
 mod set_printer;
 mod set_reader;
+#[cfg(test)]
+mod set_tests;
 mod term_printer;
 #[cfg(test)]
 mod tests;
@@ -19,13 +22,13 @@ mod tokens;
 mod tree;
 mod written;
 
-pub use error::{Kind, Syntax, TextError};
+pub use error::{Cause, Kind, Syntax, TextError};
 pub use names::{Name, Names, Ring};
 pub use printer::{
-    Printer, rings_are_read_again, rings_have_one_meaning, sets_are_read_again,
-    sets_have_one_meaning,
+    Printer, marked_sets_are_kept, polynomials_are_kept, rings_are_read_again,
+    rings_have_one_meaning, sets_are_read_again, sets_are_read_in_one_way, sets_have_one_meaning,
 };
 pub use reader::Reader;
-pub use tokens::Token;
-pub use tree::{Variables, WrittenSet, WrittenTerm, WrittenTerms};
+pub use tokens::{Number, Token};
+pub use tree::{Factor, Factors, WrittenSet, WrittenTerm, WrittenTerms};
 pub use written::Written;

@@ -1,8 +1,9 @@
 //! The names of a ring's variables.
-ghost use Rattle.std.specs.Prelude.{◌≡◌, ◌++◌, ◌∷◌, ◌<◌, ◌≤◌, [], IfOk, IfSome, OnOk, OnErr, length, slice_get};
+ghost use Rattle.std.specs.Prelude.{◌≡◌, ◌++◌, ◌∷◌, ◌<◌, ◌≤◌, [], IfOk, IfSome, OnOk, OnErr, length, not, slice_get, if◌then◌else◌};
 ghost use Rattle.gf_text.specs.RingText.{has, IsRing};
 ghost use Rattle.gf_text.specs.SetText.{variable};
 
+use indexmap::IndexSet;
 use std::alloc::{AllocError, Global};
 use std::marker::Model;
 
@@ -78,12 +79,57 @@ impl Names {
     {
         self.items.as_slice()
     }
+}
 
-    /// Whether the name is one of them.
-    pub fn has(&self, name: &[u8]) -> bool
-        ensures { result ≡ has self.now name.now }
+/// Different names, seen as the list of them, in the order in which they were added.
+#[derive(Drop)]
+pub(crate) struct DifferentNames {
+    items: IndexSet<Vec<u8>>,
+}
+
+impl Model for DifferentNames {
+    ghost use Rattle.std.specs.Prelude.{List, ℕ, map};
+
+    ghost Value = { List (List ℕ) };
+
+    ghost view = { λ n. map (λ v. v.items) n.items.keys };
+}
+
+impl DifferentNames {
+    /// No names.
+    pub(crate) fn new(alloc: Global) -> DifferentNames
+        ensures { result ≡ [] }
     {
-        self.items.iter().any(|n| n.as_slice() == name)
+        DifferentNames {
+            items: IndexSet::new(alloc),
+        }
+    }
+
+    /// Adds a name as the last one, unless it is there already; whether it was new.
+    pub(crate) fn insert(&mut self, alloc: Global, name: &[u8]) -> Result<bool, AllocError>
+        ensures new { IfOk result (λ new. new ≡ not (has self.old name.now)) }
+        ensures names { OnOk result (self.new ≡ (if has self.old name.now then self.old else self.old ++ name.now ∷ [])) }
+    {
+        let name = Vec::from_slice(alloc, name)?;
+        Ok(self.items.insert(name)?)
+    }
+
+    /// How many names.
+    pub(crate) fn len(&self) -> usize
+        ensures { result ≡ length self.now }
+    {
+        self.items.len()
+    }
+
+    /// The names, copied.
+    pub(crate) fn copied(&self, alloc: Global) -> Result<Names, AllocError>
+        ensures { IfOk result (λ names. names ≡ self.now) }
+    {
+        let mut names = Names::new(alloc);
+        for name in self.items.as_slice() {
+            names.push(alloc, name)?;
+        }
+        Ok(names)
     }
 }
 

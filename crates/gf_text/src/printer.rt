@@ -1,15 +1,16 @@
 //! The writing of rings and polynomials.
-ghost use Rattle.std.specs.Prelude.{◌≡◌, ◌++◌, ◌∷◌, [], OnOk, OnErr, flat_map, length};
+ghost use Rattle.std.specs.Prelude.{◌≡◌, ℕ, ◌++◌, ◌∷◌, [], OnOk, OnErr, flat_map, length};
+ghost use Rattle.gf_poly.specs.Polynomial.{HasVariables};
 ghost use Rattle.gf_text.specs.RingText.{ring_text, names_text, RingsAreReadAgain, IsRingText};
 ghost use Rattle.gf_text.specs.Machine.{HasOneMeaning};
 ghost use Rattle.gf_text.specs.PrintedSets.{polynomial_text, basis_text};
 ghost use Rattle.gf_text.specs.Sets.{IsIn};
-ghost use Rattle.gf_text.specs.WrittenText.{SetsAreReadAgain, SetsHaveOneMeaning};
+ghost use Rattle.gf_text.specs.WrittenText.{SetsHaveOneMeaning, SetsAreReadInOneWay, SetsAreReadAgain, BasesAreReadAgain, IsTermInRange, AreInRange, IsKept, IsWrittenKept, AreKept};
 
 use crate::names::{Name, Ring};
 use crate::set_printer::{push_marked, push_members};
 use crate::written::Written;
-use gf_poly::MarkedSet;
+use gf_poly::{Marked, MarkedSet, Term};
 use std::alloc::AllocError;
 
 /// Writes rings and polynomials behind what a vector of bytes holds.
@@ -98,12 +99,63 @@ pub fn rings_have_one_meaning()
     ensures { HasOneMeaning IsRingText }
 {}
 
-/// Each set that can be said in a ring has a text, which is read again as what it says, wherever it stands.
-pub fn sets_are_read_again()
-    ensures { SetsAreReadAgain }
-{}
-
 /// A text is the text of one set at most.
 pub fn sets_have_one_meaning()
     ensures { SetsHaveOneMeaning }
+{}
+
+/// At a place of a source a set is read in one way at most, and where it is read it is refused but for memory.
+pub fn sets_are_read_in_one_way()
+    ensures { SetsAreReadInOneWay }
+{}
+
+/// The numbers of a term are in range.
+fn term_is_in_range(term: &Term)
+    ensures { IsTermInRange term.now }
+{
+    let _numerator = term.coef.numer();
+    let _denominator = term.coef.denom();
+    let _exponents = term.mono.exponents();
+}
+
+/// Those of each term are.
+fn terms_are_in_range(terms: &[Term])
+    ensures { AreInRange terms.now }
+{
+    'terms: for term in terms {
+        term_is_in_range(term);
+    }
+}
+
+/// A marked polynomial is one of those of which `sets_are_read_again` speaks.
+fn marked_is_kept(marked: &Marked)
+    ensures { (n : ℕ) → HasVariables n marked.now.poly → IsKept n marked.now }
+{
+    let _head = marked.head();
+    terms_are_in_range(marked.poly().terms());
+}
+
+/// Each marked set is one of those of which `sets_are_read_again` speaks.
+pub fn marked_sets_are_kept(set: &MarkedSet)
+    ensures { AreKept set.now.variables set.now.items }
+{
+    'items: for marked in set.items() {
+        marked_is_kept(marked);
+    }
+}
+
+/// So is each polynomial that is read or made.
+pub fn polynomials_are_kept(poly: &Written)
+    ensures { (n : ℕ) → IsIn n poly.now → IsWrittenKept n poly.now }
+{
+    if let Written::Nonzero(marked) = poly {
+        marked_is_kept(marked);
+    }
+}
+
+/// Printed polynomials and bases are read again as what they are, with their marks, wherever they stand and whatever
+/// follows them.
+pub fn sets_are_read_again()
+    ensures sets { SetsAreReadAgain }
+    ensures bases { BasesAreReadAgain }
 {}

@@ -1,16 +1,18 @@
 //! A reader of rings and sets of polynomials.
 ghost use Rattle.std.specs.Prelude.{◌≡◌, length, IfOk, IfErr, OnOk, OnErr};
-ghost use Rattle.gf_text.specs.Tokens.{lexemes, one_byte, IsBlank, rest};
-ghost use Rattle.gf_text.specs.RingText.{ring_at, IsRingText};
-ghost use Rattle.gf_text.specs.Given.{Takes, Means, no_meaning};
-ghost use Rattle.gf_text.specs.Sets.{IsSetRead, IsSetCause, AreIn};
+ghost use Rattle.gf_text.specs.Tokens.{IsBlank, IsMore, rest};
+ghost use Rattle.gf_text.specs.TokensRead.{IsTokenRead, IsTokenCause};
+ghost use Rattle.gf_text.specs.Rings.{IsRingRead, IsRingCause};
+ghost use Rattle.gf_text.specs.Sets.{IsSetRead, IsSetCause, IsMarkedRead, IsMarkedCause, AreIn};
 
-use crate::error::{Syntax, TextError};
+use crate::error::{Cause, Kind, Syntax, TextError, refused_at};
+use crate::marked_reader::marked_at;
 use crate::names::Ring;
-use crate::ring_reader::{NO_MEANING, ring_from};
+use crate::ring_reader::ring_from;
 use crate::set_reader::written_at;
-use crate::tokens::spaces;
+use crate::tokens::{Token, begins_token, spaces, word_from};
 use crate::written::Written;
+use gf_poly::MarkedSet;
 use std::alloc::Global;
 use std::marker::Model;
 
@@ -40,15 +42,49 @@ impl<'a> Reader<'a> {
         Reader { source, at: 0 }
     }
 
+    /// The next token, where a name is as long as it can be; goes behind it.
+    ///
+    /// # Errors
+    /// `Syntax { at, kind: Ended }` with the length of the source where no token follows, and
+    /// `Syntax { at, kind: Unexpected }` at a byte that begins no token. After a refusal the reader is where it was.
+    pub fn token(&mut self) -> Result<Token<'a>, TextError>
+        ensures ok { IfOk result (λ token. IsTokenRead self.old self.new.at token.text.now token.at) }
+        ensures err { IfErr result (IsTokenCause self.old) }
+        ensures source { self.new.source ≡ self.old.source }
+        ensures unchanged { OnErr result (self.new ≡ self.old) }
+    {
+        let Some((start, end)) = word_from(self.source, self.at) else {
+            return Err(refused_at(self.source.len(), Cause::Ended));
+        };
+        let text = &self.source[start..end];
+        if !begins_token(text) {
+            return Err(refused_at(start, Cause::Unexpected));
+        }
+        self.at = end;
+        Ok(Token {
+            text,
+            at: start as u64,
+        })
+    }
+
     /// Reads the ring that stands at the reader's place, and goes behind it.
     ///
     /// # Errors
-    /// Where no ring stands there: `Syntax { at: 0, kind: Unexpected }`. After a refusal the reader is where it was.
+    /// - `Syntax` at the first token after which no text of a ring goes on: `RepeatedName` where a name stands that was
+    ///   there already, `Unexpected` elsewhere, and `Ended` with the length of the source where the text ends before.
+    /// - `TooManyVariables` where the ring has more than 16 names, with their number.
+    ///
+    /// After a refusal the reader is where it was.
     pub fn read_ring(&mut self, alloc: Global) -> Result<Ring, TextError>
-        ensures reads { Takes (λ ring. ring) result self.old self.new ring_at }
-        ensures text { Means (λ ring. (ring, self.new.at)) result IsRingText (lexemes one_byte self.old.source self.old.at) }
+        ensures ok { IfOk result (λ ring. IsRingRead self.old self.new.at ring) }
+        ensures err { IfErr result (IsRingCause self.old) }
+        ensures source { self.new.source ≡ self.old.source }
+        ensures unchanged { OnErr result (self.new ≡ self.old) }
     {
-        let (ring, at) = ring_from(alloc, self.source, self.at)?;
+        let (ring, at) = match ring_from(alloc, self.source, self.at) {
+            Ok((ring, at)) => (ring, at),
+            Err(error) => return Err(error),
+        };
         self.at = at;
         Ok(ring)
     }
@@ -57,8 +93,11 @@ impl<'a> Reader<'a> {
     /// order in which they are written, and each polynomial is marked at the first of its terms that remains.
     ///
     /// # Errors
-    /// - `Syntax { at: 0, kind: Unexpected }` where no set stands there.
-    /// - `Exponent` where an exponent passes `2^31 - 1`, with it and 1.
+    /// - `Syntax`, `TooWide` or `UnknownName` at the first token after which no text of a set goes on: a zero denominator,
+    ///   a number past its limit, a letter where a name of the ring may stand and none does, any other token that can't
+    ///   stand there; `Ended` with the length of the source where the text ends before.
+    /// - `Exponent` where the sum of the exponents of a variable in one term passes `2^31 - 1`, with the sum of those
+    ///   before and the one that is added.
     /// - `Overflow` where a sum of coefficients of like terms leaves its range, with its operands.
     ///
     /// After a refusal the reader is where it was.
@@ -74,18 +113,44 @@ impl<'a> Reader<'a> {
         Ok(set)
     }
 
+    /// Reads the marked set that stands at the reader's place, and goes behind it: a set as `read_set` reads it, of which
+    /// no polynomial is zero.
+    ///
+    /// # Errors
+    /// Those of `read_set`; and `ZeroPolynomial` where nothing remains of a polynomial, with the index of the first one
+    /// among all polynomials of the set, from 0, and 0 for the set. An index that passes `2^32 - 1` is that.
+    ///
+    /// After a refusal the reader is where it was.
+    pub fn read_marked(&mut self, alloc: Global, ring: &Ring) -> Result<MarkedSet, TextError>
+        ensures ok { IfOk result (IsMarkedRead ring.now self.old self.new.at) }
+        ensures source { self.new.source ≡ self.old.source }
+        ensures err { IfErr result (IsMarkedCause ring.now self.old) }
+        ensures unchanged { OnErr result (self.new ≡ self.old) }
+    {
+        let (set, at) = match marked_at(alloc, ring, self.source, self.at) {
+            Ok((set, at)) => (set, at),
+            Err(error) => return Err(error),
+        };
+        self.at = at;
+        Ok(set)
+    }
+
     /// Whether nothing but white space follows.
     ///
     /// # Errors
-    /// Where something else does: `Syntax { at: 0, kind: Unexpected }`.
+    /// Where something else does: `Syntax { at, kind: Unexpected }` at its first byte.
     pub fn end(&mut self) -> Result<(), Syntax>
         ensures end { OnOk result (IsBlank (rest self.old)) }
-        ensures more { IfErr result (λ s. (s ≡ no_meaning) × (IsBlank (rest self.old) → ⊥)) }
+        ensures more { IfErr result (IsMore self.old) }
         ensures same { self.new ≡ self.old }
     {
         let rest = &self.source[self.at..];
-        if spaces(rest) < rest.len() {
-            return Err(NO_MEANING);
+        let spaces = spaces(rest);
+        if spaces < rest.len() {
+            return Err(Syntax {
+                at: (self.at + spaces) as u64,
+                kind: Kind::Unexpected,
+            });
         }
         Ok(())
     }

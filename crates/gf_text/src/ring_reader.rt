@@ -1,12 +1,14 @@
 //! The reading of a ring.
-ghost use Rattle.std.specs.Prelude.{◌≡◌, ◌≤◌, ◌∷◌, IfOk, length, bytes_eq, [], if◌then◌else◌};
-ghost use Rattle.gf_text.specs.RingText.{is_letter, is_name, is_new, ring_step, ring_at, letter_q, bracket, comma, bracket_end, IsRingText};
-ghost use Rattle.gf_text.specs.Given.{Gives, Means, ring_move, no_meaning};
-ghost use Rattle.gf_text.specs.Tokens.{lexemes, one_byte};
+ghost use Rattle.std.specs.Prelude.{◌≡◌, ◌≤◌, ◌∷◌, IfOk, IfErr, length, bytes_eq, [], if◌then◌else◌};
+ghost use Rattle.std.specs.List.{list_all};
+ghost use Rattle.gf_text.specs.Tokens.{is_name_byte};
+ghost use Rattle.gf_text.specs.RingText.{is_name, ring_step, ring_at, letter_q, bracket, comma, bracket_end};
+ghost use Rattle.gf_text.specs.Given.{Gives, ring_move};
+ghost use Rattle.gf_text.specs.Rings.{IsRingRead, IsRingCause};
 
-use crate::error::{Kind, Syntax, TextError};
-use crate::names::{Names, Ring};
-use crate::tokens::token_from;
+use crate::error::{Cause, TextError, refused_at};
+use crate::names::{DifferentNames, Ring};
+use crate::tokens::{is_name_byte, word_from};
 use std::alloc::{AllocError, Global};
 
 /// What may stand next in a ring: the letter Q, the bracket, a name, or what follows a name.
@@ -23,43 +25,33 @@ pub enum RingPlace {
 pub enum RingStep {
     Go(RingPlace),
     Done,
-    Halt,
+    Halt(Cause),
 }
 
-/// A text that isn't read is refused so.
-pub(crate) const NO_MEANING: Syntax = Syntax {
-    at: 0,
-    kind: Kind::Unexpected,
-};
+/// The most variables of a ring.
+const MOST_VARIABLES: usize = 16;
 
-/// A text that isn't read is refused so.
-pub(crate) fn refused() -> TextError
-    ensures { result ≡ TextError.Syntax no_meaning }
+/// Whether all bytes are letters, digits and `_`.
+fn are_name_bytes(bytes: &[u8]) -> bool
+    ensures { result ≡ list_all is_name_byte bytes.now }
 {
-    TextError::Syntax(NO_MEANING)
+    bytes.iter().all(|b| is_name_byte(*b))
 }
 
-/// A name is one letter.
+/// A name is a letter, then letters, digits and `_`.
 fn is_name(t: &[u8]) -> bool
     ensures { result ≡ is_name t.now }
 {
-    match t {
-        [b] => b.is_ascii_alphabetic(),
-        _ => false,
-    }
-}
-
-/// The token can be the next name.
-fn is_new(names: &Names, t: &[u8]) -> bool
-    ensures { result ≡ is_new names.now t.now }
-{
-    is_name(t) && names.as_slice().len() < 16 && !names.has(t)
+    let [first, rest @ ..] = t else {
+        return false;
+    };
+    first.is_ascii_alphabetic() && are_name_bytes(rest)
 }
 
 /// What a token does.
 fn step(
     alloc: Global,
-    names: &mut Names,
+    names: &mut DifferentNames,
     place: RingPlace,
     t: &[u8],
 ) -> Result<RingStep, AllocError>
@@ -69,11 +61,14 @@ fn step(
         RingPlace::Letter => Ok(expect(t, b'Q', RingPlace::Bracket)),
         RingPlace::Bracket => Ok(expect(t, b'[', RingPlace::Variable)),
         RingPlace::Variable => {
-            if !is_new(names, t) {
-                return Ok(RingStep::Halt);
+            if !is_name(t) {
+                return Ok(RingStep::Halt(Cause::Unexpected));
             }
-            names.push(alloc, t)?;
-            Ok(RingStep::Go(RingPlace::Behind))
+            if names.insert(alloc, t)? {
+                Ok(RingStep::Go(RingPlace::Behind))
+            } else {
+                Ok(RingStep::Halt(Cause::RepeatedName))
+            }
         }
         RingPlace::Behind => Ok(behind_name(t)),
     }
@@ -81,18 +76,18 @@ fn step(
 
 /// This mark leads to this place.
 fn expect(t: &[u8], mark: u8, next: RingPlace) -> RingStep
-    ensures { result ≡ (if bytes_eq t.now (mark ∷ []) then RingStep.Go next else RingStep.Halt) }
+    ensures { result ≡ (if bytes_eq t.now (mark ∷ []) then RingStep.Go next else RingStep.Halt Cause.Unexpected) }
 {
     if t == [mark].as_slice() {
         RingStep::Go(next)
     } else {
-        RingStep::Halt
+        RingStep::Halt(Cause::Unexpected)
     }
 }
 
 /// What follows a name.
 fn behind_name(t: &[u8]) -> RingStep
-    ensures { result ≡ (if bytes_eq t.now comma then RingStep.Go RingPlace.Variable else if bytes_eq t.now bracket_end then RingStep.Done else RingStep.Halt) }
+    ensures { result ≡ (if bytes_eq t.now comma then RingStep.Go RingPlace.Variable else if bytes_eq t.now bracket_end then RingStep.Done else RingStep.Halt Cause.Unexpected) }
 {
     if t == b",".as_slice() {
         return RingStep::Go(RingPlace::Variable);
@@ -100,27 +95,31 @@ fn behind_name(t: &[u8]) -> RingStep
     if t == b"]".as_slice() {
         RingStep::Done
     } else {
-        RingStep::Halt
+        RingStep::Halt(Cause::Unexpected)
     }
 }
 
-/// The names of the ring that stands in the source from this place on, and the place behind it.
-fn names_from(alloc: Global, source: &[u8], from: usize) -> Result<(Names, usize), TextError>
+/// The names of the ring that stands in the source from this place on, however many they are, and the place behind it.
+fn names_from(
+    alloc: Global,
+    source: &[u8],
+    from: usize,
+) -> Result<(DifferentNames, usize), TextError>
     requires { from ≤ length source.now }
     ensures ring { Gives (λ x. (x.0, x.1)) result (ring_at source.now from) }
     ensures within { IfOk result (λ x. x.1 ≤ length source.now) }
 {
-    let mut names = Names::new(alloc);
+    let mut names = DifferentNames::new(alloc);
     let mut place = RingPlace::Letter;
     let mut at = from;
     loop {
-        let Some((start, end)) = token_from(source, at) else {
-            return Err(refused());
+        let Some((start, end)) = word_from(source, at) else {
+            return Err(refused_at(source.len(), Cause::Ended));
         };
         match step(alloc, &mut names, place, &source[start..end])? {
             RingStep::Go(next) => place = next,
             RingStep::Done => return Ok((names, end)),
-            RingStep::Halt => return Err(refused()),
+            RingStep::Halt(cause) => return Err(refused_at(start, cause)),
         }
         at = end;
     }
@@ -133,12 +132,19 @@ pub(crate) fn ring_from(
     from: usize,
 ) -> Result<(Ring, usize), TextError>
     requires { from ≤ length source.now }
-    ensures ring { Gives (λ x. (x.0, x.1)) result (ring_at source.now from) }
-    ensures text { Means (λ x. (x.0, x.1)) result IsRingText (lexemes one_byte source.now from) }
+    ensures ok { IfOk result (λ x. IsRingRead (record { source = source.now; at = from }) x.1 x.0) }
+    ensures err { IfErr result (IsRingCause (record { source = source.now; at = from })) }
     ensures within { IfOk result (λ x. x.1 ≤ length source.now) }
 {
-    match names_from(alloc, source, from) {
-        Ok((names, end)) => Ok((Ring::of(names), end)),
-        Err(error) => Err(error),
+    let (names, end) = match names_from(alloc, source, from) {
+        Ok((names, end)) => (names, end),
+        Err(error) => return Err(error),
+    };
+    let count = names.len();
+    if count > MOST_VARIABLES {
+        return Err(TextError::TooManyVariables {
+            count: count as u64,
+        });
     }
+    Ok((Ring::of(names.copied(alloc)?), end))
 }

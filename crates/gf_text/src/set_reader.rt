@@ -1,30 +1,36 @@
 //! The reading of a set.
 ghost use Rattle.std.specs.Prelude.{◌≡◌, ◌≤◌, IfOk, IfErr, OnOk, length};
-ghost use Rattle.gf_text.specs.Tokens.{lexemes, one_byte};
-ghost use Rattle.gf_text.specs.SetText.{IsSetText, set_at, set_step, token_step, front_step, with_variable, next_term, next_polynomial, empty, plus, minus, comma, brace, brace_end};
-ghost use Rattle.gf_text.specs.Given.{Gives, Means, no_meaning};
+ghost use Rattle.gf_text.specs.Tokens.{lexemes, ring_more};
+ghost use Rattle.gf_text.specs.SetText.{IsSetText, set_at, set_step, token_step, front_step, term_or, name_or, end_step, behind_step, denominator_step, exponent_step, is_word, with_name, with_factor, with_numer, with_denom, next_term, next_polynomial, empty, plus, minus, comma, star, slash, caret, brace, brace_end, most, most_exponent};
+ghost use Rattle.gf_text.specs.Given.{Gives, Means};
+ghost use Rattle.gf_text.specs.Limits.{AreWithin};
 ghost use Rattle.gf_text.specs.GivenSet.{set_move};
 ghost use Rattle.gf_text.specs.Sets.{IsSetRead, IsSetCause, AreIn};
 
-use crate::combine::{all_summed, sums_from};
-use crate::error::TextError;
+use crate::combine::combined;
+use crate::error::{Cause, TextError, refused_at};
 use crate::names::Ring;
-use crate::ring_reader::refused;
-use crate::tokens::token_from;
-use crate::tree::{Variables, WrittenSet, WrittenTerm, WrittenTerms};
+use crate::tokens::{Number, number_of, ring_token_from};
+use crate::tree::{Factor, Factors, WrittenSet, WrittenTerm, WrittenTerms};
 use crate::written::Written;
 use std::alloc::{AllocError, Global};
 use std::mem;
 
-/// What may stand next in a set: the brace; behind it the first polynomial or the end; a polynomial; a term; what
-/// follows a variable.
+/// What may stand next in a set: the brace; behind it the first polynomial or the end; a polynomial; a term behind a
+/// sign; what follows a numerator; a denominator; what follows a `*`; what follows a name; an exponent; what follows a
+/// rational number or a power.
 #[derive(Clone, Copy, Debug, PartialEq, Eq)]
 pub enum SetPlace {
     Brace,
     First,
     Polynomial,
     Term,
-    Inside,
+    Number,
+    Denominator,
+    Star,
+    Name,
+    Exponent,
+    Behind,
 }
 
 /// What a token does in a set.
@@ -32,16 +38,36 @@ pub enum SetPlace {
 pub enum SetStep {
     Go(SetPlace),
     Done,
-    Halt,
+    Halt(Cause),
 }
 
-/// What was read so far: polynomials, terms of the one that is read, and the sign and variables of the term that is read.
+/// What was read so far: polynomials, terms of the one that is read, the sign, the rational number and the powers of the
+/// term that is read, and the variable whose exponent isn't read yet.
 #[derive(Drop)]
 pub struct Part {
     pub polynomials: WrittenSet,
     pub terms: WrittenTerms,
     pub minus: bool,
-    pub variables: Variables,
+    pub numer: u128,
+    pub denom: u128,
+    pub factors: Factors,
+    pub variable: u8,
+}
+
+/// The greatest numerator and denominator.
+const MOST: u128 = (1 << 127) - 1;
+
+/// The greatest exponent.
+const MOST_EXPONENT: u128 = (1 << 31) - 1;
+
+/// Whether a token begins with a letter.
+fn is_word(t: &[u8]) -> bool
+    ensures { result ≡ is_word t.now }
+{
+    let [first, ..] = t else {
+        return false;
+    };
+    first.is_ascii_alphabetic()
 }
 
 impl Part {
@@ -52,21 +78,39 @@ impl Part {
             polynomials: WrittenSet::new(alloc),
             terms: WrittenTerms::new(alloc),
             minus: false,
-            variables: Variables::new(alloc),
+            numer: 1,
+            denom: 1,
+            factors: Factors::new(alloc),
+            variable: 0,
         }
+    }
+
+    /// The power of the variable whose name was read.
+    fn end_factor(&mut self, exponent: u32) -> Result<(), AllocError>
+        ensures { OnOk result (self.new ≡ with_factor self.old exponent) }
+    {
+        let factor = Factor {
+            variable: self.variable,
+            exponent,
+        };
+        self.factors.push(factor)
     }
 
     /// The term is read, and one with this sign begins.
     fn end_term(&mut self, alloc: Global, minus: bool) -> Result<(), AllocError>
         ensures { OnOk result (self.new ≡ next_term self.old minus) }
     {
-        let variables = mem::replace(&mut self.variables, Variables::new(alloc));
+        let factors = mem::replace(&mut self.factors, Factors::new(alloc));
         let term = WrittenTerm {
             minus: self.minus,
-            variables,
+            numer: self.numer,
+            denom: self.denom,
+            factors,
         };
         self.terms.push(term)?;
         self.minus = minus;
+        self.numer = 1;
+        self.denom = 1;
         Ok(())
     }
 
@@ -79,49 +123,53 @@ impl Part {
         self.polynomials.push(terms)
     }
 
-    /// A variable or a sign at the front of a polynomial.
-    fn front(&mut self, ring: &Ring, t: &[u8]) -> Result<SetStep, AllocError>
-        ensures { IfOk result (λ m. set_move m self.new ≡ front_step ring.now self.old t.now) }
+    /// A name of the ring; another letter can't stand here; another token does something else.
+    fn name_or(&mut self, ring: &Ring, t: &[u8], other: SetStep) -> SetStep
+        ensures { set_move result self.new ≡ name_or ring.now self.old t.now (set_move other self.old) }
     {
         if let Some(variable) = ring.variable(t) {
-            self.variables.push(variable)?;
-            return Ok(SetStep::Go(SetPlace::Inside));
+            self.variable = variable;
+            return SetStep::Go(SetPlace::Name);
         }
+        if is_word(t) {
+            return SetStep::Halt(Cause::UnknownName);
+        }
+        other
+    }
+
+    /// A number or a name at the front of a term; another token does something else.
+    fn term_or(&mut self, ring: &Ring, t: &[u8], other: SetStep) -> SetStep
+        ensures { set_move result self.new ≡ term_or ring.now self.old t.now (set_move other self.old) }
+    {
+        match number_of(t, MOST) {
+            Number::None => self.name_or(ring, t, other),
+            Number::Wide => SetStep::Halt(Cause::TooWide),
+            Number::Within(n) => {
+                self.numer = n;
+                SetStep::Go(SetPlace::Number)
+            }
+        }
+    }
+
+    /// A sign or a term at the front of a polynomial.
+    fn front(&mut self, ring: &Ring, t: &[u8]) -> SetStep
+        ensures { set_move result self.new ≡ front_step ring.now self.old t.now }
+    {
         if t == b"+".as_slice() {
             self.minus = false;
-            return Ok(SetStep::Go(SetPlace::Term));
+            return SetStep::Go(SetPlace::Term);
         }
         if t == b"-".as_slice() {
             self.minus = true;
-            return Ok(SetStep::Go(SetPlace::Term));
+            return SetStep::Go(SetPlace::Term);
         }
-        Ok(SetStep::Halt)
+        self.term_or(ring, t, SetStep::Halt(Cause::Unexpected))
     }
 
-    /// A variable, where nothing else can stand.
-    fn variable(&mut self, ring: &Ring, t: &[u8]) -> Result<SetStep, AllocError>
-        ensures { IfOk result (λ m. set_move m self.new ≡ token_step ring.now SetPlace.Term self.old t.now) }
+    /// What follows a term.
+    fn end(&mut self, alloc: Global, t: &[u8]) -> Result<SetStep, AllocError>
+        ensures { IfOk result (λ m. set_move m self.new ≡ end_step self.old t.now) }
     {
-        if let Some(variable) = ring.variable(t) {
-            self.variables.push(variable)?;
-            return Ok(SetStep::Go(SetPlace::Inside));
-        }
-        Ok(SetStep::Halt)
-    }
-
-    /// What follows a variable.
-    fn behind_variable(
-        &mut self,
-        alloc: Global,
-        ring: &Ring,
-        t: &[u8],
-    ) -> Result<SetStep, AllocError>
-        ensures { IfOk result (λ m. set_move m self.new ≡ token_step ring.now SetPlace.Inside self.old t.now) }
-    {
-        if let Some(variable) = ring.variable(t) {
-            self.variables.push(variable)?;
-            return Ok(SetStep::Go(SetPlace::Inside));
-        }
         if t == b"+".as_slice() {
             self.end_term(alloc, false)?;
             return Ok(SetStep::Go(SetPlace::Term));
@@ -138,7 +186,64 @@ impl Part {
             self.end_polynomial(alloc)?;
             return Ok(SetStep::Done);
         }
-        Ok(SetStep::Halt)
+        Ok(SetStep::Halt(Cause::Unexpected))
+    }
+
+    /// What follows a rational number or a power.
+    fn behind(&mut self, alloc: Global, ring: &Ring, t: &[u8]) -> Result<SetStep, AllocError>
+        ensures { IfOk result (λ m. set_move m self.new ≡ behind_step ring.now self.old t.now) }
+    {
+        if t == b"*".as_slice() {
+            return Ok(SetStep::Go(SetPlace::Star));
+        }
+        if let Some(variable) = ring.variable(t) {
+            self.variable = variable;
+            return Ok(SetStep::Go(SetPlace::Name));
+        }
+        if is_word(t) {
+            return Ok(SetStep::Halt(Cause::UnknownName));
+        }
+        self.end(alloc, t)
+    }
+
+    /// A denominator.
+    fn denominator(&mut self, t: &[u8]) -> SetStep
+        ensures { set_move result self.new ≡ denominator_step self.old t.now }
+    {
+        match number_of(t, MOST) {
+            Number::None => SetStep::Halt(Cause::Unexpected),
+            Number::Wide => SetStep::Halt(Cause::TooWide),
+            Number::Within(0) => SetStep::Halt(Cause::ZeroDenominator),
+            Number::Within(n) => {
+                self.denom = n;
+                SetStep::Go(SetPlace::Behind)
+            }
+        }
+    }
+
+    /// An exponent.
+    fn exponent(&mut self, t: &[u8]) -> Result<SetStep, AllocError>
+        ensures { IfOk result (λ m. set_move m self.new ≡ exponent_step self.old t.now) }
+    {
+        match number_of(t, MOST_EXPONENT) {
+            Number::None => Ok(SetStep::Halt(Cause::Unexpected)),
+            Number::Wide => Ok(SetStep::Halt(Cause::TooWide)),
+            Number::Within(n) => {
+                self.end_factor(n as u32)?;
+                Ok(SetStep::Go(SetPlace::Behind))
+            }
+        }
+    }
+
+    /// What follows a name.
+    fn behind_name(&mut self, alloc: Global, ring: &Ring, t: &[u8]) -> Result<SetStep, AllocError>
+        ensures { IfOk result (λ m. set_move m self.new ≡ token_step ring.now SetPlace.Name self.old t.now) }
+    {
+        if t == b"^".as_slice() {
+            return Ok(SetStep::Go(SetPlace::Exponent));
+        }
+        self.end_factor(1)?;
+        self.behind(alloc, ring, t)
     }
 
     /// What a token does.
@@ -156,17 +261,27 @@ impl Part {
                 if t == b"{".as_slice() {
                     return Ok(SetStep::Go(SetPlace::First));
                 }
-                Ok(SetStep::Halt)
+                Ok(SetStep::Halt(Cause::Unexpected))
             }
             SetPlace::First => {
                 if t == b"}".as_slice() {
                     return Ok(SetStep::Done);
                 }
-                self.front(ring, t)
+                Ok(self.front(ring, t))
             }
-            SetPlace::Polynomial => self.front(ring, t),
-            SetPlace::Term => self.variable(ring, t),
-            SetPlace::Inside => self.behind_variable(alloc, ring, t),
+            SetPlace::Polynomial => Ok(self.front(ring, t)),
+            SetPlace::Term => Ok(self.term_or(ring, t, SetStep::Halt(Cause::Unexpected))),
+            SetPlace::Number => {
+                if t == b"/".as_slice() {
+                    return Ok(SetStep::Go(SetPlace::Denominator));
+                }
+                self.behind(alloc, ring, t)
+            }
+            SetPlace::Denominator => Ok(self.denominator(t)),
+            SetPlace::Star => Ok(self.name_or(ring, t, SetStep::Halt(Cause::Unexpected))),
+            SetPlace::Name => self.behind_name(alloc, ring, t),
+            SetPlace::Exponent => self.exponent(t),
+            SetPlace::Behind => self.behind(alloc, ring, t),
         }
     }
 }
@@ -186,13 +301,13 @@ fn written_from(
     let mut place = SetPlace::Brace;
     let mut at = from;
     loop {
-        let Some((start, end)) = token_from(source, at) else {
-            return Err(refused());
+        let Some((start, end)) = ring_token_from(ring.names(), source, at) else {
+            return Err(refused_at(source.len(), Cause::Ended));
         };
         match part.step(alloc, ring, place, &source[start..end])? {
             SetStep::Go(next) => place = next,
             SetStep::Done => return Ok((part.polynomials, end)),
-            SetStep::Halt => return Err(refused()),
+            SetStep::Halt(cause) => return Err(refused_at(start, cause)),
         }
         at = end;
     }
@@ -207,7 +322,9 @@ pub(crate) fn set_from(
 ) -> Result<(WrittenSet, usize), TextError>
     requires { from ≤ length source.now }
     ensures set { Gives (λ x. (x.0, x.1)) result (set_at ring.now source.now from) }
-    ensures text { Means (λ x. (x.0, x.1)) result (IsSetText ring.now) (lexemes one_byte source.now from) }
+    ensures text { Means (λ x. (x.0, x.1)) result (IsSetText ring.now) (lexemes (ring_more ring.now) source.now from) (length source.now) }
+    ensures limits { IfOk result (λ x. AreWithin (length ring.now) x.0) }
+    ensures cause { IfErr result (IsSetCause ring.now (record { source = source.now; at = from })) }
     ensures within { IfOk result (λ x. x.1 ≤ length source.now) }
 {
     let _names = ring.names();
@@ -235,11 +352,7 @@ pub(crate) fn written_at(
         Ok((set, end)) => (set, end),
         Err(error) => return Err(error),
     };
-    let sums = match sums_from(alloc, n, &set) {
-        Ok(sums) => sums,
-        Err(error) => return Err(error),
-    };
-    match all_summed(alloc, n, &sums) {
+    match combined(alloc, n, &set) {
         Ok(written) => Ok((written, end)),
         Err(error) => Err(error),
     }

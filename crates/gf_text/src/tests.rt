@@ -1,7 +1,4 @@
-//! Texts of rings and sets, by hand.
-ghost use Rattle.std.specs.Prelude.{length};
-ghost use Rattle.gf_text.specs.Sets.{AreIn};
-
+//! Texts of rings, and printed sets, by hand.
 use super::*;
 use gf_frac::Frac;
 use gf_poly::{Marked, MarkedSet, Mono, Poly, Term};
@@ -9,32 +6,19 @@ use std::alloc::{AllocError, Global};
 use std::process::Abort;
 use std::test::Fail;
 
-/// The line of the ring that a text begins with, or none where it isn't read.
-fn ring_line(alloc: Global, source: &[u8]) -> Result<Vec<u8>, AllocError> {
-    let mut reader = Reader::new(source);
-    let mut line = Vec::new(alloc);
-    match reader.read_ring(alloc) {
-        Ok(ring) => Printer::ring(&mut line, &ring)?,
-        Err(
-            TextError::Syntax(
-                Syntax {
-                    at: 0,
-                    kind: Kind::Unexpected,
-                },
-            ),
-        ) => line.extend_from_slice(b"refused")?,
-        Err(_) => line.extend_from_slice(b"another refusal")?,
-    }
-    Ok(line)
-}
-
+/// The ring that a text begins with is printed as this line.
 fn check_ring(
     rt: &impl Abort,
     alloc: Global,
     source: &[u8],
     wanted: &[u8],
 ) -> Result<(), AllocError> {
-    let line = ring_line(alloc, source)?;
+    let mut reader = Reader::new(source);
+    let mut line = Vec::new(alloc);
+    match reader.read_ring(alloc) {
+        Ok(ring) => Printer::ring(&mut line, &ring)?,
+        Err(_) => line.extend_from_slice(b"refused")?,
+    }
     assert_eq!(rt; line.as_slice(), wanted);
     Ok(())
 }
@@ -42,150 +26,137 @@ fn check_ring(
 #[test]
 fn rings(rt: HostRuntime) -> Result<(), Fail> {
     let alloc = rt.alloc();
-    check_ring(&rt, alloc, b"Q[a]", b"Q[a]\n")?;
-    check_ring(&rt, alloc, b"Q[a,b,c] {aab-c}", b"Q[a,b,c]\n")?;
-    check_ring(&rt, alloc, b" Q\r\n[ a ,\tb ] {", b"Q[a,b]\n")?;
-    check_ring(
-        &rt,
-        alloc,
-        b"Q[a,b,c,d,e,f,g,h,i,j,k,l,m,n,o,P]",
-        b"Q[a,b,c,d,e,f,g,h,i,j,k,l,m,n,o,P]\n",
-    )?;
+    let texts = [
+        (b"Q[a]".as_slice(), b"Q[a]\n".as_slice()),
+        (b"Q[a,b,c] {aab-c}", b"Q[a,b,c]\n"),
+        (b" Q\r\n[ a ,\tb ] {", b"Q[a,b]\n"),
+        (b"Q[a,aa,b]", b"Q[a,aa,b]\n"),
+        (b"Q[x_1,x1 ,Q,X2y_]", b"Q[x_1,x1,Q,X2y_]\n"),
+        (
+            b"Q[a,b,c,d,e,f,g,h,i,j,k,l,m,n,o,P]",
+            b"Q[a,b,c,d,e,f,g,h,i,j,k,l,m,n,o,P]\n",
+        ),
+    ];
+    for (source, wanted) in texts {
+        check_ring(&rt, alloc, source, wanted)?;
+    }
     Ok(())
 }
 
+/// No ring stands in the text: this is wrong at this place.
+fn check_fault(rt: &impl Abort, alloc: Global, source: &[u8], at: u64, kind: Kind) {
+    let mut reader = Reader::new(source);
+    match reader.read_ring(alloc) {
+        Err(TextError::Syntax(fault)) => assert_eq!(rt; fault, Syntax { at, kind }),
+        _ => assert!(rt; false, "a fault at {at}"),
+    }
+}
+
 #[test]
-fn no_rings(rt: HostRuntime) -> Result<(), Fail> {
+fn faults_of_rings(rt: HostRuntime) {
     let alloc = rt.alloc();
-    check_ring(&rt, alloc, b"", b"refused")?;
-    check_ring(&rt, alloc, b"Q", b"refused")?;
-    check_ring(&rt, alloc, b"Q[]", b"refused")?;
-    check_ring(&rt, alloc, b"q[a]", b"refused")?;
-    check_ring(&rt, alloc, b"Q[a,]", b"refused")?;
-    check_ring(&rt, alloc, b"Q[a b]", b"refused")?;
-    check_ring(&rt, alloc, b"Q[ab]", b"refused")?;
-    check_ring(&rt, alloc, b"Q[a,a]", b"refused")?;
-    check_ring(&rt, alloc, b"Q[1]", b"refused")?;
-    check_ring(
+    let whole = b"Q[a,b]";
+    for n in 0..whole.len() {
+        check_fault(&rt, alloc, &whole[..n], n as u64, Kind::Ended);
+    }
+    let texts = [
+        (b" \n".as_slice(), 2, Kind::Ended),
+        (b"Q[a1", 4, Kind::Ended),
+        (b"Q[a,b ", 6, Kind::Ended),
+        (b"q[a]", 0, Kind::Unexpected),
+        (b"Qa[b]", 0, Kind::Unexpected),
+        (b"Q a[b]", 2, Kind::Unexpected),
+        (b"Q{a}", 1, Kind::Unexpected),
+        (b"Q[]", 2, Kind::Unexpected),
+        (b"Q[1]", 2, Kind::Unexpected),
+        (b"Q[1a]", 2, Kind::Unexpected),
+        (b"Q[_a]", 2, Kind::Unexpected),
+        (b"Q[a,]", 4, Kind::Unexpected),
+        (b"Q[a b]", 4, Kind::Unexpected),
+        (b"Q[a;b]", 3, Kind::Unexpected),
+        (b"Q[a\xc3\xa4]", 3, Kind::Unexpected),
+        (b"Q [a,b}", 6, Kind::Unexpected),
+        (b"Q[a,a]{a}", 4, Kind::RepeatedName),
+        (b"Q[ab, a ,ab", 9, Kind::RepeatedName),
+        (
+            b"Q[a,b,c,d,e,f,g,h,i,j,k,l,m,n,o,p,q,a]",
+            36,
+            Kind::RepeatedName,
+        ),
+        (b"Q[a,b,c,d,e,f,g,h,i,j,k,l,m,n,o,p,q", 35, Kind::Ended),
+    ];
+    for (source, at, kind) in texts {
+        check_fault(&rt, alloc, source, at, kind);
+    }
+}
+
+/// The ring that a text begins with has more than 16 names, this many.
+fn check_count(rt: &impl Abort, alloc: Global, source: &[u8], count: u64) {
+    let mut reader = Reader::new(source);
+    match reader.read_ring(alloc) {
+        Err(TextError::TooManyVariables { count: found }) => assert_eq!(rt; found, count),
+        _ => assert!(rt; false, "{count} names"),
+    }
+}
+
+#[test]
+fn too_many_names(rt: HostRuntime) {
+    let alloc = rt.alloc();
+    check_count(&rt, alloc, b"Q[a,b,c,d,e,f,g,h,i,j,k,l,m,n,o,p,q]", 17);
+    check_count(
         &rt,
         alloc,
-        b"Q[a,b,c,d,e,f,g,h,i,j,k,l,m,n,o,p,q]",
-        b"refused",
-    )?;
-    Ok(())
+        b"Q[a,b,c,d,e,f,g,h,i,j,k,l,m,n,o,p,q,aa,ab]{}",
+        19,
+    );
+}
+
+#[test]
+fn tokens(rt: HostRuntime) {
+    let mut reader = Reader::new(b"Qa[x_1, 012b^3/ 4 ;");
+    let tokens = [
+        (b"Qa".as_slice(), 0),
+        (b"[", 2),
+        (b"x_1", 3),
+        (b",", 6),
+        (b"012", 8),
+        (b"b", 11),
+        (b"^", 12),
+        (b"3", 13),
+        (b"/", 14),
+        (b"4", 16),
+    ];
+    for (text, at) in tokens {
+        match reader.token() {
+            Ok(token) => {
+                assert_eq!(rt; token.text, text);
+                assert_eq!(rt; token.at, at);
+            }
+            Err(_) => assert!(rt; false, "a token at {at}"),
+        }
+    }
+    let unknown = Syntax {
+        at: 18,
+        kind: Kind::Unexpected,
+    };
+    assert_eq!(rt; reader.token().err(), Some(TextError::Syntax(unknown)));
+    assert_eq!(rt; reader.end().err(), Some(unknown));
+    let ended = Syntax {
+        at: 2,
+        kind: Kind::Ended,
+    };
+    let mut other = Reader::new(b" \n");
+    assert_eq!(rt; other.token().err(), Some(TextError::Syntax(ended)));
 }
 
 #[test]
 fn names_and_end(rt: HostRuntime) -> Result<(), Fail> {
     let alloc = rt.alloc();
-    let mut reader = Reader::new(b"Q[x,y] \n");
+    let mut reader = Reader::new(b"Q[x,y_2] \n");
     let ring = reader.read_ring(alloc).ok().ok_or("a ring")?;
     assert_eq!(rt; ring.len(), 2);
-    assert_eq!(rt; ring.name(1), b"y".as_slice());
+    assert_eq!(rt; ring.name(1), b"y_2".as_slice());
     assert!(rt; reader.end().is_ok());
-    let mut other = Reader::new(b" \n.");
-    assert!(rt; other.end().is_err());
-    Ok(())
-}
-
-/// Adds polynomials, each behind a bar.
-fn push_all(out: &mut Vec<u8>, ring: &Ring, items: &[Written]) -> Result<(), AllocError>
-    requires { AreIn (length ring.now) items.now }
-{
-    'items: for item in items {
-        out.push(b'|')?;
-        Printer::poly(out, ring, item)?;
-    }
-    Ok(())
-}
-
-/// The polynomials of a whole text, each behind a bar.
-fn set_line(alloc: Global, source: &[u8]) -> Result<Vec<u8>, AllocError> {
-    let mut reader = Reader::new(source);
-    let mut line = Vec::new(alloc);
-    let ring = match reader.read_ring(alloc) {
-        Ok(ring) => ring,
-        Err(error) => {
-            line.extend_from_slice(named(error))?;
-            return Ok(line);
-        }
-    };
-    match reader.read_set(alloc, &ring) {
-        Ok(set) => {
-            push_all(&mut line, &ring, &set)?;
-            if reader.end().is_err() {
-                line.extend_from_slice(b" and more")?;
-            }
-        }
-        Err(error) => line.extend_from_slice(named(error))?,
-    }
-    Ok(line)
-}
-
-/// A refusal, named.
-fn named(error: TextError) -> &'static [u8] {
-    match error {
-        TextError::Syntax(
-            Syntax {
-                at: 0,
-                kind: Kind::Unexpected,
-            },
-        ) => b"refused",
-        _ => b"another refusal",
-    }
-}
-
-fn check_set(
-    rt: &impl Abort,
-    alloc: Global,
-    source: &[u8],
-    wanted: &[u8],
-) -> Result<(), AllocError> {
-    let line = set_line(alloc, source)?;
-    assert_eq!(rt; line.as_slice(), wanted);
-    Ok(())
-}
-
-#[test]
-fn sets(rt: HostRuntime) -> Result<(), Fail> {
-    let alloc = rt.alloc();
-    check_set(&rt, alloc, b"Q[a]{}", b"")?;
-    check_set(
-        &rt,
-        alloc,
-        b"Q[a,b,c] {aab-c,bbc-a,cca-b}",
-        b"|a^2*b-c|b^2*c-a|a*c^2-b",
-    )?;
-    check_set(
-        &rt,
-        alloc,
-        b" Q [ a ,\tb ] { + a b\n- b a , a a - b }\r\n",
-        b"|0|a^2-b",
-    )?;
-    check_set(&rt, alloc, b"Q[a,b]{b-a}", b"|b-a")?;
-    check_set(&rt, alloc, b"Q[a,b]{-b+a-b}", b"|-2*b+a")?;
-    check_set(&rt, alloc, b"Q[a,b]{a-a+b+a}", b"|a+b")?;
-    check_set(&rt, alloc, b"Q[a,b]{a-a+b}", b"|b")?;
-    check_set(&rt, alloc, b"Q[a,b]{b+ab+bb+a}", b"|b+a*b+b^2+a")?;
-    check_set(&rt, alloc, b"Q[a]{a}x", b"|a and more")?;
-    Ok(())
-}
-
-#[test]
-fn no_sets(rt: HostRuntime) -> Result<(), Fail> {
-    let alloc = rt.alloc();
-    check_set(&rt, alloc, b"Q[a,b]", b"refused")?;
-    check_set(&rt, alloc, b"Q[a,b]{", b"refused")?;
-    check_set(&rt, alloc, b"Q[a,b]{a,}", b"refused")?;
-    check_set(&rt, alloc, b"Q[a,b]{,a}", b"refused")?;
-    check_set(&rt, alloc, b"Q[a,b]{a-}", b"refused")?;
-    check_set(&rt, alloc, b"Q[a,b]{a--b}", b"refused")?;
-    check_set(&rt, alloc, b"Q[a,b]{ac}", b"refused")?;
-    check_set(&rt, alloc, b"Q[a,b]{a*b}", b"refused")?;
-    check_set(&rt, alloc, b"Q[a,b]{a^2}", b"refused")?;
-    check_set(&rt, alloc, b"Q[a,b]{2a}", b"refused")?;
-    check_set(&rt, alloc, b"Q[a,b]{a", b"refused")?;
-    check_set(&rt, alloc, b"Q[a,b]{a\0b}", b"refused")?;
     Ok(())
 }
 

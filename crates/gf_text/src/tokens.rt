@@ -1,6 +1,10 @@
 //! The tokens of a text.
-ghost use Rattle.std.specs.Prelude.{◌≡◌, ◌<◌, ◌≤◌, ◌∷◌, [], length, MatchOption, IfSome};
-ghost use Rattle.gf_text.specs.Tokens.{is_space, spaces, lexemes, lexeme, one_byte};
+ghost use Rattle.std.specs.Prelude.{◌≡◌, ◌<◌, ◌≤◌, ◌^◌, ◌-◌, ◌∷◌, [], length, take_while, max, nat_eq, if◌then◌else◌, MatchOption, IfSome, true};
+ghost use Rattle.std.specs.List.{list_all, starts_with};
+ghost use Rattle.gf_text.specs.Tokens.{is_space, is_digit, is_name_byte, is_number, value, spaces, lexemes, lexeme, word_more, ring_more, longest, begins_token};
+ghost use Rattle.gf_text.specs.Given.{IsNumberRead};
+
+use crate::names::Name;
 
 /// A token: its text, and the place of its first byte in the source.
 #[derive(Clone, Copy, Debug)]
@@ -16,6 +20,13 @@ fn is_space(b: u8) -> bool
     b == b' ' || b == b'\t' || b == b'\r' || b == b'\n'
 }
 
+/// A letter, a digit or `_`.
+pub(crate) fn is_name_byte(b: u8) -> bool
+    ensures { result ≡ is_name_byte b }
+{
+    b.is_ascii_alphabetic() || b.is_ascii_digit() || b == b'_'
+}
+
 /// How many bytes of white space a text begins with.
 pub(crate) fn spaces(text: &[u8]) -> usize
     ensures { result ≡ length (spaces text.now) }
@@ -23,15 +34,171 @@ pub(crate) fn spaces(text: &[u8]) -> usize
     text.iter().take_while(|b| is_space(**b)).count()
 }
 
-/// The first token at a place of the source or behind it, and the place behind that token.
-pub(crate) fn token_from(source: &[u8], at: usize) -> Option<(usize, usize)>
+/// How many digits a text begins with.
+fn digits(text: &[u8]) -> usize
+    ensures { result ≡ length (take_while is_digit text.now) }
+{
+    text.iter().take_while(|b| b.is_ascii_digit()).count()
+}
+
+/// How many letters, digits and `_` a text begins with.
+fn name_bytes(text: &[u8]) -> usize
+    ensures { result ≡ length (take_while is_name_byte text.now) }
+{
+    text.iter().take_while(|b| is_name_byte(**b)).count()
+}
+
+/// How many bytes of the token at the front of a text follow its first byte, where names are of any length.
+fn word_more(text: &[u8]) -> usize
+    ensures { result ≡ word_more text.now }
+{
+    let [first, rest @ ..] = text else {
+        return 0;
+    };
+    if first.is_ascii_digit() {
+        return digits(rest);
+    }
+    if first.is_ascii_alphabetic() {
+        return name_bytes(rest);
+    }
+    0
+}
+
+/// The length of the longest of these names that the text begins with, 0 where it begins with none.
+fn longest(names: &[Name], text: &[u8]) -> usize
+    ensures { result ≡ longest names.now text.now }
+{
+    let mut best = 0;
+    for name in names {
+        best = longer(best, name.as_slice(), text);
+    }
+    best
+}
+
+/// The length of the name where the text begins with it and it is greater than `best`, else `best`.
+fn longer(best: usize, name: &[u8], text: &[u8]) -> usize
+    ensures { result ≡ max best (if starts_with nat_eq text.now name.now then length name.now else 0) }
+{
+    if name.len() > best && text.starts_with(name) {
+        name.len()
+    } else {
+        best
+    }
+}
+
+/// How many bytes of the token at the front of a text follow its first byte, where names are those of a ring.
+fn ring_more(names: &[Name], text: &[u8]) -> usize
+    ensures { result ≡ ring_more names.now text.now }
+{
+    let [first, rest @ ..] = text else {
+        return 0;
+    };
+    if first.is_ascii_digit() {
+        return digits(rest);
+    }
+    if first.is_ascii_alphabetic() {
+        return longest(names, text).saturating_sub(1);
+    }
+    0
+}
+
+/// The first token at a place of the source or behind it, and the place behind that token, where names are of any
+/// length.
+pub(crate) fn word_from(source: &[u8], at: usize) -> Option<(usize, usize)>
     requires { at ≤ length source.now }
-    ensures token { MatchOption result (lexemes one_byte source.now at ≡ []) (λ t. lexemes one_byte source.now at ≡ lexeme source.now t.0 t.1 ∷ lexemes one_byte source.now t.1) }
+    ensures token { MatchOption result (lexemes word_more source.now at ≡ []) (λ t. lexemes word_more source.now at ≡ lexeme source.now t.0 t.1 ∷ lexemes word_more source.now t.1) }
     ensures within { IfSome result (λ t. (at ≤ t.0) × (t.0 < t.1) × (t.1 ≤ length source.now)) }
 {
     let start = at + spaces(&source[at..]);
     if start == source.len() {
         return None;
     }
-    Some((start, start + 1))
+    let more = word_more(&source[start..]);
+    Some((start, start + 1 + more))
+}
+
+/// The same, where names are those of a ring.
+pub(crate) fn ring_token_from(names: &[Name], source: &[u8], at: usize) -> Option<(usize, usize)>
+    requires { at ≤ length source.now }
+    ensures token { MatchOption result (lexemes (ring_more names.now) source.now at ≡ []) (λ t. lexemes (ring_more names.now) source.now at ≡ lexeme source.now t.0 t.1 ∷ lexemes (ring_more names.now) source.now t.1) }
+    ensures within { IfSome result (λ t. (at ≤ t.0) × (t.0 < t.1) × (t.1 ≤ length source.now)) }
+{
+    let start = at + spaces(&source[at..]);
+    if start == source.len() {
+        return None;
+    }
+    let more = ring_more(names, &source[start..]);
+    Some((start, start + 1 + more))
+}
+
+/// What a token is as a number with a limit.
+#[derive(Clone, Copy, Debug, PartialEq, Eq)]
+pub enum Number {
+    /// No number.
+    None,
+    /// A number past the limit.
+    Wide,
+    /// This number.
+    Within(u128),
+}
+
+/// Whether all bytes are digits.
+fn are_digits(bytes: &[u8]) -> bool
+    ensures { result ≡ list_all is_digit bytes.now }
+{
+    bytes.iter().all(|b| b.is_ascii_digit())
+}
+
+/// Whether a token is a number: digits, at least one.
+fn is_number(t: &[u8]) -> bool
+    ensures { result ≡ is_number t.now }
+{
+    let [first, rest @ ..] = t else {
+        return false;
+    };
+    first.is_ascii_digit() && are_digits(rest)
+}
+
+/// What a token is as a number up to `most`, which is at most `2^127 - 1`.
+pub(crate) fn number_of(t: &[u8], most: u128) -> Number
+    requires { most ≤ 2 ^ 127 - 1 }
+    ensures { IsNumberRead result t.now most }
+{
+    if !is_number(t) {
+        return Number::None;
+    }
+    match value_within(t, most) {
+        Some(n) => Number::Within(n),
+        None => Number::Wide,
+    }
+}
+
+/// The number that decimal digits stand for, where it is at most `most`.
+fn value_within(digits: &[u8], most: u128) -> Option<u128>
+    requires digits { is_number digits.now ≡ true }
+    requires most { most ≤ 2 ^ 127 - 1 }
+    ensures { MatchOption result (most < value digits.now) (λ n. (n ≡ value digits.now) × (n ≤ most)) }
+{
+    let tenth = most / 10;
+    let mut n = 0u128;
+    for d in digits {
+        if n > tenth {
+            return None;
+        }
+        n = 10 * n + u128::from(d - b'0');
+        if n > most {
+            return None;
+        }
+    }
+    Some(n)
+}
+
+/// Whether a text that begins with no white space begins with a token: a number, a name or a mark.
+pub(crate) fn begins_token(text: &[u8]) -> bool
+    ensures { result ≡ begins_token text.now }
+{
+    let [first, ..] = text else {
+        return false;
+    };
+    first.is_ascii_alphanumeric() || b"[]{}(),+-*/^".contains(first)
 }

@@ -1,54 +1,69 @@
-//! What the text of a set says, before like terms are added: polynomials of terms, each a sign and variables.
+//! What the text of a set says, before like terms are added: polynomials of terms, each a sign, a number and powers.
 ghost use Rattle.std.specs.Prelude.{◌≡◌, ◌++◌, ◌∷◌, [], OnOk};
 
+use smallvec::SmallVec;
 use std::alloc::{AllocError, Global};
 use std::marker::Model;
 
-/// Numbers of variables, one after another.
+/// A power of a variable, as it is written: the variable's number and the exponent.
+#[derive(Clone, Copy, Debug, Default, PartialEq, Eq)]
+pub struct Factor {
+    pub variable: u8,
+    pub exponent: u32,
+}
+
+/// How many powers of a term are kept without an allocation.
+const ROOM: usize = 3;
+
+/// Powers of variables, one after another.
 #[derive(Drop)]
-pub struct Variables {
-    items: Vec<u8>,
+pub struct Factors {
+    items: SmallVec<Factor, ROOM>,
 }
 
-impl Model for Variables {
-    ghost use Rattle.std.specs.Prelude.{List, ℕ};
+impl Model for Factors {
+    ghost use Rattle.std.specs.Prelude.{List};
+    ghost use Rattle.gf_text.specs.declared.tree.Factor.{Factor};
 
-    ghost Value = { List ℕ };
+    ghost Value = { List Factor };
 
-    ghost view = { λ v. v.items.items };
+    ghost view = { λ f. f.items.items };
 }
 
-impl Variables {
-    /// No variables.
-    pub fn new(alloc: Global) -> Variables
+impl Factors {
+    /// No powers.
+    pub fn new(alloc: Global) -> Factors
         ensures { result ≡ [] }
     {
-        Variables {
-            items: Vec::new(alloc),
+        Factors {
+            items: SmallVec::new(alloc),
         }
     }
 
-    /// Adds a variable as the last one.
-    pub fn push(&mut self, variable: u8) -> Result<(), AllocError>
-        ensures { OnOk result (self.new ≡ self.old ++ variable ∷ []) }
+    /// Adds a power as the last one.
+    pub fn push(&mut self, factor: Factor) -> Result<(), AllocError>
+        ensures { OnOk result (self.new ≡ self.old ++ factor ∷ []) }
     {
-        self.items.push(variable)?;
+        self.items.push(factor)?;
         Ok(())
     }
 
-    /// The variables, one after another.
-    pub fn as_slice(&self) -> &[u8]
+    /// The powers, one after another.
+    pub fn as_slice(&self) -> &[Factor]
         ensures { result.now ≡ self.now }
     {
         self.items.as_slice()
     }
 }
 
-/// A term as it is written: a sign and variables, each as often as it stands there.
+/// A term as it is written: a sign, the rational number `numer/denom` (1 where none is written), and powers of
+/// variables, each where it stands.
 #[derive(Drop)]
 pub struct WrittenTerm {
+    pub numer: u128,
+    pub denom: u128,
+    pub factors: Factors,
     pub minus: bool,
-    pub variables: Variables,
 }
 
 /// The terms of a polynomial, as they are written.

@@ -1,5 +1,5 @@
 -- From what the reader, the algorithm and the printer promise to what is answered.
-use Rattle.std.specs.Prelude.{◌≡◌, ℕ, zero, suc, ◌+◌, ◌<◌, List, [], ◌∷◌, ◌++◌, length, take, slice_index_or, Result}
+use Rattle.std.specs.Prelude.{◌≡◌, ℕ, zero, suc, ◌+◌, ◌<◌, List, [], ◌∷◌, ◌++◌, length, take, slice_index_or}
 use Rattle.std.proofs.Common.{arith, refl, sym, ap, ◌∙◌, subst, inl, inr}
 use Rattle.gf_poly.specs.Polynomial.{Terms, HasVariables}
 use Rattle.gf_poly.specs.Marking.{MarkedPolynomials, Each}
@@ -8,16 +8,14 @@ use Rattle.gf_text.specs.declared.error.TextError.{TextError}
 use Rattle.gf_text.specs.declared.error.TextError.TheVariants as text_errors
 use Rattle.gf_text.specs.declared.written.Written.{Written}
 use Rattle.gf_text.specs.declared.written.Written.TheVariants as written
-use Rattle.gf_text.specs.Machine.{Reads, Fault}
-use Rattle.gf_text.specs.Tokens.{lexemes, one_byte, Position, rest, IsBlank}
-use Rattle.gf_text.specs.RingText.{IsRingText}
+use Rattle.gf_text.specs.Tokens.{Position, rest, IsBlank, IsMore}
+use Rattle.gf_text.specs.Rings.{IsRingRead, IsRingCause, HasNoRing, HasTooMany}
 use Rattle.gf_text.specs.Sets.{IsSetRead, IsSetCause, AreIn, HasNoSet, HasSumOverflow, HasExponentOverflow}
-use Rattle.gf_text.specs.Given.{no_meaning, Fails, HasNone}
 use Rattle.gf_ideal.proofs.ListLaws.{contained_each}
 use Rattle.gfan_main.specs.declared.buchberger.bases.BasisError.{BasisError}
 use Rattle.gfan_main.specs.declared.buchberger.bases.BasisError.TheVariants as basis_errors
 use Rattle.gfan_main.specs.declared.refusal.Refusal.TheVariants as refusals
-use Rattle.gfan_main.specs.Answers.{nonzero, BeginsWithRing, IsRead, IsPrinted, IsAnswer, HasNoMeaning, BasisFails, of_text, of_basis, IsAnswerRefusal, budget}
+use Rattle.gfan_main.specs.Answers.{nonzero, BeginsWithRing, IsRead, IsPrinted, IsAnswer, SetFails, HasFault, BasisFails, of_text, of_basis, IsAnswerRefusal}
 use Rattle.gfan_main.specs.Bases.{IsLexBasis, IsBasisRefusal}
 use Rattle.gfan_main.specs.Generators.{AreInRing}
 
@@ -55,8 +53,8 @@ pub record IsBehindRing (source : List ℕ) (ring : List (List ℕ)) (p : Positi
   pub source_is : p.source ≡ source
   pub text : BeginsWithRing source ring p.at
 
-pub behind_ring : (source : List ℕ) (ring : List (List ℕ)) (p q : Position) → p ≡ record { source = source; at = 0 } → q.source ≡ p.source → Reads IsRingText (lexemes one_byte p.source p.at) ring q.at → IsBehindRing source ring q
-behind_ring source ring p q e s r = record { source_is = s ∙ ap (λ (z : Position). z.source) e; text = subst (λ (z : Position). Reads IsRingText (lexemes one_byte z.source z.at) ring q.at) e r }
+pub behind_ring : (source : List ℕ) (ring : List (List ℕ)) (p q : Position) → p ≡ record { source = source; at = 0 } → q.source ≡ p.source → IsRingRead p q.at ring → IsBehindRing source ring q
+behind_ring source ring p q e s r = record { source_is = s ∙ ap (λ (z : Position). z.source) e; text = subst (λ (z : Position). IsRingRead z q.at ring) e r }
 
 at_source : (source : List ℕ) (p : Position) → p.source ≡ source → p ≡ record { source = source; at = p.at }
 at_source source p e = ap (λ (s : List ℕ). let q : Position = record { source = s; at = p.at } in q) e
@@ -72,28 +70,40 @@ is_read source ring set p q b s e k = record {
 
 -- ---- refusals
 
-pub ring_refused : (source : List ℕ) (p : Position) (read : Result (List (List ℕ) × ℕ) Fault) (e : TextError) → p ≡ record { source = source; at = 0 } → Fails e read → HasNone e IsRingText (lexemes one_byte p.source p.at) → IsAnswerRefusal source (of_text e)
-ring_refused source p read (text_errors.Overflow o) q f h = absurd f
-ring_refused source p read (text_errors.Exponent o) q f h = absurd f
-ring_refused source p read (text_errors.Syntax s) q f h = (f.2, HasNoMeaning.no_ring (λ ring at r. h ring at (subst (λ (z : Position). Reads IsRingText (lexemes one_byte z.source z.at) ring at) (sym q) r)))
-ring_refused source p read text_errors.Memory q f h = tt
+pub ring_refused : (pairs : ℕ) (source : List ℕ) (p : Position) (e : TextError) → p ≡ record { source = source; at = 0 } → IsRingCause p e → IsAnswerRefusal pairs source (of_text e)
+ring_refused pairs source p (text_errors.Overflow o) q h = absurd h
+ring_refused pairs source p (text_errors.Exponent o) q h = absurd h
+ring_refused pairs source p (text_errors.Syntax s) q h = HasFault.no_ring (subst (λ (z : Position). HasNoRing z (text_errors.Syntax s)) q h)
+ring_refused pairs source p (text_errors.TooWide at) q h = absurd h
+ring_refused pairs source p (text_errors.UnknownName at) q h = absurd h
+ring_refused pairs source p (text_errors.TooManyVariables count) q h = subst (λ (z : Position). HasTooMany z count) q h
+ring_refused pairs source p (text_errors.ZeroPolynomial set index) q h = absurd h
+ring_refused pairs source p text_errors.Memory q h = tt
 
-pub set_refused : (source : List ℕ) (ring : List (List ℕ)) (p : Position) (e : TextError) → IsBehindRing source ring p → IsSetCause ring p e → IsAnswerRefusal source (of_text e)
-set_refused source ring p (text_errors.Overflow o) b h = inl (record { ring = ring; at = p.at; ring_text = b.text; set_fails = subst (λ (z : Position). HasSumOverflow ring z o) (at_source source p b.source_is) h })
-set_refused source ring p (text_errors.Exponent o) b h = inl (record { ring = ring; at = p.at; ring_text = b.text; set_fails = subst (λ (z : Position). HasExponentOverflow ring z o) (at_source source p b.source_is) h })
-set_refused source ring p (text_errors.Syntax s) b h = (h.0, HasNoMeaning.no_set ring p.at b.text (subst (λ (z : Position). HasNoSet ring z) (at_source source p b.source_is) h.1))
-set_refused source ring p text_errors.Memory b h = tt
+-- the set behind a ring is refused
+set_fails : (source : List ℕ) (ring : List (List ℕ)) (p : Position) (fails : List (List ℕ) → Position → Type 0) → IsBehindRing source ring p → fails ring p → SetFails source fails
+set_fails source ring p fails b h = record { ring = ring; at = p.at; ring_text = b.text; set_fails = subst (fails ring) (at_source source p b.source_is) h }
 
-pub end_refused : (source : List ℕ) (ring : List (List ℕ)) (set : List Written) (p q : Position) (s : Syntax) → IsBehindRing source ring p → IsSetRead ring p q.at set → q.source ≡ p.source → (s ≡ no_meaning) × (IsBlank (rest q) → ⊥) → IsAnswerRefusal source (refusals.Syntax s)
-end_refused source ring set p q s b r e h = (h.0, HasNoMeaning.more ring set p.at q.at b.text (subst (λ (z : Position). IsSetRead ring z q.at set) (at_source source p b.source_is) r) (λ k. h.1 (subst (λ (z : Position). IsBlank (rest z)) (sym (at_source source q (e ∙ b.source_is))) k)))
+pub set_refused : (pairs : ℕ) (source : List ℕ) (ring : List (List ℕ)) (p : Position) (e : TextError) → IsBehindRing source ring p → IsSetCause ring p e → IsAnswerRefusal pairs source (of_text e)
+set_refused pairs source ring p (text_errors.Overflow o) b h = inl (set_fails source ring p (λ r q. HasSumOverflow r q o) b h)
+set_refused pairs source ring p (text_errors.Exponent o) b h = inl (set_fails source ring p (λ r q. HasExponentOverflow r q o) b h)
+set_refused pairs source ring p (text_errors.Syntax s) b h = HasFault.no_set (set_fails source ring p (λ r q. HasNoSet r q (text_errors.Syntax s)) b h)
+set_refused pairs source ring p (text_errors.TooWide at) b h = set_fails source ring p (λ r q. HasNoSet r q (text_errors.TooWide at)) b h
+set_refused pairs source ring p (text_errors.UnknownName at) b h = set_fails source ring p (λ r q. HasNoSet r q (text_errors.UnknownName at)) b h
+set_refused pairs source ring p (text_errors.TooManyVariables count) b h = absurd h
+set_refused pairs source ring p (text_errors.ZeroPolynomial set index) b h = absurd h
+set_refused pairs source ring p text_errors.Memory b h = tt
 
-pub basis_refused : (source : List ℕ) (ring : List (List ℕ)) (set : List Written) (fs : List Terms) (n : ℕ) (e : BasisError) → IsRead source ring set → n ≡ length ring → fs ≡ nonzero set → IsBasisRefusal n fs budget e → IsAnswerRefusal source (of_basis e)
-basis_refused source ring set fs n e r en ef h = at e (subst (λ (k : ℕ). IsBasisRefusal k (nonzero set) budget e) en (subst (λ (gs : List Terms). IsBasisRefusal n gs budget e) ef h))
+pub end_refused : (pairs : ℕ) (source : List ℕ) (ring : List (List ℕ)) (set : List Written) (p q : Position) (s : Syntax) → IsBehindRing source ring p → IsSetRead ring p q.at set → q.source ≡ p.source → IsMore q s → IsAnswerRefusal pairs source (refusals.Syntax s)
+end_refused pairs source ring set p q s b r e h = HasFault.more ring set p.at q.at b.text (subst (λ (z : Position). IsSetRead ring z q.at set) (at_source source p b.source_is) r) (subst (λ (z : Position). IsMore z s) (at_source source q (e ∙ b.source_is)) h)
+
+pub basis_refused : (pairs : ℕ) (source : List ℕ) (ring : List (List ℕ)) (set : List Written) (fs : List Terms) (n : ℕ) (e : BasisError) → IsRead source ring set → n ≡ length ring → fs ≡ nonzero set → IsBasisRefusal n fs pairs e → IsAnswerRefusal pairs source (of_basis e)
+basis_refused pairs source ring set fs n e r en ef h = at e (subst (λ (k : ℕ). IsBasisRefusal k (nonzero set) pairs e) en (subst (λ (gs : List Terms). IsBasisRefusal n gs pairs e) ef h))
   where
-    fails : (e : BasisError) → IsBasisRefusal (length ring) (nonzero set) budget e → BasisFails source e
+    fails : (e : BasisError) → IsBasisRefusal (length ring) (nonzero set) pairs e → BasisFails pairs source e
     fails e h = record { ring = ring; set = set; read = r; fails = h }
 
-    at : (e : BasisError) → IsBasisRefusal (length ring) (nonzero set) budget e → IsAnswerRefusal source (of_basis e)
+    at : (e : BasisError) → IsBasisRefusal (length ring) (nonzero set) pairs e → IsAnswerRefusal pairs source (of_basis e)
     at (basis_errors.Overflow o) h = inr (fails (basis_errors.Overflow o) h)
     at (basis_errors.Exponent o) h = inr (fails (basis_errors.Exponent o) h)
     at (basis_errors.PairBudget b u) h = fails (basis_errors.PairBudget b u) h

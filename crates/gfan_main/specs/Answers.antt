@@ -6,11 +6,11 @@ use Rattle.gf_text.specs.declared.error.TextError.{TextError}
 use Rattle.gf_text.specs.declared.error.TextError.TheVariants as text_errors
 use Rattle.gf_text.specs.declared.written.Written.{Written}
 use Rattle.gf_text.specs.declared.written.Written.TheVariants as written
-use Rattle.gf_text.specs.Machine.{Reads}
-use Rattle.gf_text.specs.Tokens.{lexemes, one_byte, Position, rest, IsBlank}
-use Rattle.gf_text.specs.RingText.{IsRingText, ring_text}
+use Rattle.gf_text.specs.declared.error.Syntax.{Syntax}
+use Rattle.gf_text.specs.Tokens.{Position, rest, IsBlank, IsMore}
+use Rattle.gf_text.specs.RingText.{ring_text}
+use Rattle.gf_text.specs.Rings.{IsRingRead, HasNoRing, HasTooMany}
 use Rattle.gf_text.specs.Sets.{IsSetRead, HasNoSet, HasSumOverflow, HasExponentOverflow}
-use Rattle.gf_text.specs.Given.{no_meaning}
 use Rattle.gf_text.specs.PrintedSets.{basis_text}
 use Rattle.gfan_main.specs.declared.buchberger.bases.BasisError.{BasisError}
 use Rattle.gfan_main.specs.declared.buchberger.bases.BasisError.TheVariants as basis_errors
@@ -28,7 +28,7 @@ nonzero (written.Nonzero m ∷ ws) = m.poly ∷ nonzero ws
 
 -- the source begins with the text of this ring, up to this place
 abbrev pub BeginsWithRing : List ℕ → List (List ℕ) → ℕ → Type 0
-BeginsWithRing source ring at = Reads IsRingText (lexemes one_byte source 0) ring at
+BeginsWithRing source ring at = IsRingRead (record { source = source; at = 0 }) at ring
 
 -- the source is the text of a ring, and then that of a set in it; only white space follows
 pub record IsRead (source : List ℕ) (ring : List (List ℕ)) (set : List Written) : Type 0 where
@@ -55,12 +55,6 @@ pub record IsAnswer (source text : List ℕ) : Type 0 where
 
 -- ---- refusals
 
--- the source isn't the text of a ring and of a set in it
-pub data HasNoMeaning (source : List ℕ) : Type 0 where
-  no_ring : ((ring : List (List ℕ)) (at : ℕ) → BeginsWithRing source ring at → ⊥) → HasNoMeaning source
-  no_set : (ring : List (List ℕ)) (at : ℕ) → BeginsWithRing source ring at → HasNoSet ring (record { source = source; at = at }) → HasNoMeaning source
-  more : (ring : List (List ℕ)) (set : List Written) (at end : ℕ) → BeginsWithRing source ring at → IsSetRead ring (record { source = source; at = at }) end set → (IsBlank (rest (record { source = source; at = end })) → ⊥) → HasNoMeaning source
-
 -- the set of the source is refused in this way
 pub record SetFails (source : List ℕ) (fails : List (List ℕ) → Position → Type 0) : Type 0 where
   pub ring : List (List ℕ)
@@ -68,22 +62,29 @@ pub record SetFails (source : List ℕ) (fails : List (List ℕ) → Position �
   pub ring_text : BeginsWithRing source ring at
   pub set_fails : fails ring (record { source = source; at = at })
 
--- how many pairs are settled at most
-abbrev pub budget : ℕ
-budget = 100000000
+-- The source isn't the text of a ring and of a set in it, and this is its first fault: there is no ring; or no set in
+-- the ring; or something other than white space follows the set.
+pub data HasFault (source : List ℕ) (s : Syntax) : Type 0 where
+  no_ring : HasNoRing (record { source = source; at = 0 }) (text_errors.Syntax s) → HasFault source s
+  no_set : SetFails source (λ ring p. HasNoSet ring p (text_errors.Syntax s)) → HasFault source s
+  more : (ring : List (List ℕ)) (set : List Written) (at end : ℕ) → BeginsWithRing source ring at → IsSetRead ring (record { source = source; at = at }) end set → IsMore (record { source = source; at = end }) s → HasFault source s
 
--- the basis of what is read is refused in this way
-pub record BasisFails (source : List ℕ) (e : BasisError) : Type 0 where
+-- the basis of what is read, with so many pairs settled at most, is refused in this way
+pub record BasisFails (pairs : ℕ) (source : List ℕ) (e : BasisError) : Type 0 where
   pub ring : List (List ℕ)
   pub set : List Written
   pub read : IsRead source ring set
-  pub fails : IsBasisRefusal (length ring) (nonzero set) budget e
+  pub fails : IsBasisRefusal (length ring) (nonzero set) pairs e
 
 -- a refusal of a text, and of a basis, as one of the run
 abbrev pub of_text : TextError → Refusal
 of_text (text_errors.Overflow o) = refusals.Overflow o
 of_text (text_errors.Exponent o) = refusals.Exponent o
 of_text (text_errors.Syntax s) = refusals.Syntax s
+of_text (text_errors.TooWide at) = refusals.TooWide at
+of_text (text_errors.UnknownName at) = refusals.UnknownName at
+of_text (text_errors.TooManyVariables count) = refusals.TooManyVariables count
+of_text (text_errors.ZeroPolynomial set index) = refusals.ZeroPolynomial set index
 of_text text_errors.Memory = refusals.Memory
 
 abbrev pub of_basis : BasisError → Refusal
@@ -92,14 +93,18 @@ of_basis (basis_errors.Exponent o) = refusals.Exponent o
 of_basis (basis_errors.PairBudget basis unsettled) = refusals.PairBudget basis unsettled
 of_basis basis_errors.Memory = refusals.Memory
 
--- why there is no answer
-abbrev pub IsAnswerRefusal : List ℕ → Refusal → Type 0
-IsAnswerRefusal source refusals.Usage = ⊥
-IsAnswerRefusal source refusals.ReadFault = ⊥
-IsAnswerRefusal source refusals.InputTooLong = ⊥
-IsAnswerRefusal source refusals.WriteFault = ⊥
-IsAnswerRefusal source (refusals.Syntax s) = (s ≡ no_meaning) × HasNoMeaning source
-IsAnswerRefusal source (refusals.Overflow o) = SetFails source (λ ring p. HasSumOverflow ring p o) ⊎ BasisFails source (basis_errors.Overflow o)
-IsAnswerRefusal source (refusals.Exponent o) = SetFails source (λ ring p. HasExponentOverflow ring p o) ⊎ BasisFails source (basis_errors.Exponent o)
-IsAnswerRefusal source (refusals.PairBudget basis unsettled) = BasisFails source (basis_errors.PairBudget basis unsettled)
-IsAnswerRefusal source refusals.Memory = Unit {0}
+-- why there is no answer, where so many pairs are settled at most
+abbrev pub IsAnswerRefusal : ℕ → List ℕ → Refusal → Type 0
+IsAnswerRefusal pairs source refusals.Usage = ⊥
+IsAnswerRefusal pairs source refusals.ReadFault = ⊥
+IsAnswerRefusal pairs source refusals.InputTooLong = ⊥
+IsAnswerRefusal pairs source refusals.WriteFault = ⊥
+IsAnswerRefusal pairs source (refusals.Syntax s) = HasFault source s
+IsAnswerRefusal pairs source (refusals.TooWide at) = SetFails source (λ ring p. HasNoSet ring p (text_errors.TooWide at))
+IsAnswerRefusal pairs source (refusals.UnknownName at) = SetFails source (λ ring p. HasNoSet ring p (text_errors.UnknownName at))
+IsAnswerRefusal pairs source (refusals.TooManyVariables count) = HasTooMany (record { source = source; at = 0 }) count
+IsAnswerRefusal pairs source (refusals.ZeroPolynomial set index) = ⊥
+IsAnswerRefusal pairs source (refusals.Overflow o) = SetFails source (λ ring p. HasSumOverflow ring p o) ⊎ BasisFails pairs source (basis_errors.Overflow o)
+IsAnswerRefusal pairs source (refusals.Exponent o) = SetFails source (λ ring p. HasExponentOverflow ring p o) ⊎ BasisFails pairs source (basis_errors.Exponent o)
+IsAnswerRefusal pairs source (refusals.PairBudget basis unsettled) = BasisFails pairs source (basis_errors.PairBudget basis unsettled)
+IsAnswerRefusal pairs source refusals.Memory = Unit {0}

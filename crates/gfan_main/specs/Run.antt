@@ -20,6 +20,10 @@ abbrev pub code_of : Status → ℕ
 code_of statuses.Done = 0
 code_of (statuses.Refused refusals.InputTooLong) = 1
 code_of (statuses.Refused (refusals.Syntax s)) = 1
+code_of (statuses.Refused (refusals.TooWide at)) = 1
+code_of (statuses.Refused (refusals.UnknownName at)) = 1
+code_of (statuses.Refused (refusals.TooManyVariables count)) = 1
+code_of (statuses.Refused (refusals.ZeroPolynomial set index)) = 1
 code_of (statuses.Refused refusals.Usage) = 2
 code_of (statuses.Refused (refusals.Overflow o)) = 3
 code_of (statuses.Refused (refusals.Exponent o)) = 3
@@ -32,6 +36,10 @@ code_of (statuses.Refused refusals.Memory) = 7
 abbrev pub IsOfInput : Refusal → Type 0
 IsOfInput refusals.InputTooLong = ⊥
 IsOfInput (refusals.Syntax s) = Unit {0}
+IsOfInput (refusals.TooWide at) = Unit {0}
+IsOfInput (refusals.UnknownName at) = Unit {0}
+IsOfInput (refusals.TooManyVariables count) = Unit {0}
+IsOfInput (refusals.ZeroPolynomial set index) = Unit {0}
 IsOfInput refusals.Usage = ⊥
 IsOfInput (refusals.Overflow o) = Unit {0}
 IsOfInput (refusals.Exponent o) = Unit {0}
@@ -66,8 +74,12 @@ pub record AnsweredInPart (left leaves : Option (List ℕ)) (given gives : ℕ) 
   pub is_answer : IsAnswer source text
   pub gained : AppendsPrefix held holds text
 
+-- how many pairs are settled at most
+abbrev pub default_pairs : ℕ
+default_pairs = 100000000
+
 -- all of the input was read, and it is refused in this way
 pub record InputRefused (left leaves : Option (List ℕ)) (given gives : ℕ) (refusal : Refusal) : Type 0 where
   pub source : List ℕ
   pub read : ReadWhole left leaves given gives source
-  pub refused : IsAnswerRefusal source refusal
+  pub refused : IsAnswerRefusal default_pairs source refusal

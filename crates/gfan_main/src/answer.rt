@@ -9,9 +9,6 @@ use gf_poly::{MarkedSet, Poly};
 use gf_text::{Printer, Reader, Ring, Written};
 use std::alloc::{AllocError, Global};
 
-/// How many pairs are settled at most.
-pub const PAIRS: u64 = 100_000_000;
-
 // These polynomials, and one more unless nothing of it remains.
 fn with_nonzero(found: Vec<Poly>, read: &Written) -> Result<Vec<Poly>, AllocError>
     ensures { IfOk result (λ fs. fs.items ≡ found.items ++ nonzero (read.now ∷ [])) }
@@ -49,24 +46,26 @@ fn printed(alloc: Global, ring: &Ring, basis: &MarkedSet) -> Result<Vec<u8>, All
     Ok(text)
 }
 
-/// The ring of the source in a line, and then the reduced Gröbner basis by lex of its set.
+/// The ring of the source in a line, and then the reduced Gröbner basis by lex of its set; at most `pairs` pairs are
+/// settled.
 ///
 /// # Errors
 ///
-/// - `Syntax` exactly where the source isn't the text of a ring and of a set in it.
+/// - `Syntax`, `TooWide`, `UnknownName` and `TooManyVariables` exactly where the source isn't the text of a ring and of a
+///   set in it, at the first token after which no such text goes on.
 /// - `Overflow` and `Exponent` only at a sum of the text, or at an operation that a run of Buchberger's algorithm on the
 ///   set may have, and whose operands don't fit.
-/// - `PairBudget` only where more than `PAIRS` pairs would have to be settled.
-pub fn answer(alloc: Global, source: &[u8]) -> Result<Vec<u8>, Refusal>
+/// - `PairBudget` only where more than `pairs` pairs would have to be settled.
+pub fn answer(alloc: Global, source: &[u8], pairs: u64) -> Result<Vec<u8>, Refusal>
     ensures ok { IfOk result (λ text. IsAnswer source.now text.items) }
-    ensures err { IfErr result (IsAnswerRefusal source.now) }
+    ensures err { IfErr result (IsAnswerRefusal pairs source.now) }
 {
     let mut reader = Reader::new(source);
     let ring = reader.read_ring(alloc)?;
     let set = reader.read_set(alloc, &ring)?;
     reader.end()?;
     let generators = polynomials(alloc, &set)?;
-    let found = basis(alloc, ring.len(), &generators, PAIRS)?;
+    let found = basis(alloc, ring.len(), &generators, pairs)?;
     let text = printed(alloc, &ring, &found)?;
     Ok(text)
 }

@@ -19,6 +19,14 @@ pub enum Refusal {
     InputTooLong,
     /// The input isn't the text of a ring and a set.
     Syntax(Syntax),
+    /// The number that begins there passes its limit.
+    TooWide { at: u64 },
+    /// A letter stands there where a name of the ring may stand, and none does.
+    UnknownName { at: u64 },
+    /// The ring has more than 16 variables.
+    TooManyVariables { count: u64 },
+    /// A polynomial of a marked set is zero.
+    ZeroPolynomial { set: u32, index: u32 },
     /// A sum, difference, product or quotient of two fractions leaves its range.
     Overflow(Overflow),
     /// A sum of two exponents leaves its range.
@@ -49,6 +57,10 @@ impl Status {
             Status::Done => 0,
             Status::Refused(Refusal::InputTooLong) => 1,
             Status::Refused(Refusal::Syntax(_)) => 1,
+            Status::Refused(Refusal::TooWide { .. }) => 1,
+            Status::Refused(Refusal::UnknownName { .. }) => 1,
+            Status::Refused(Refusal::TooManyVariables { .. }) => 1,
+            Status::Refused(Refusal::ZeroPolynomial { .. }) => 1,
             Status::Refused(Refusal::Usage) => 2,
             Status::Refused(Refusal::Overflow(_)) => 3,
             Status::Refused(Refusal::Exponent(_)) => 3,
@@ -90,6 +102,10 @@ impl From<TextError> for Refusal {
             TextError::Overflow(o) => Refusal::Overflow(o),
             TextError::Exponent(o) => Refusal::Exponent(o),
             TextError::Syntax(s) => Refusal::Syntax(s),
+            TextError::TooWide { at } => Refusal::TooWide { at },
+            TextError::UnknownName { at } => Refusal::UnknownName { at },
+            TextError::TooManyVariables { count } => Refusal::TooManyVariables { count },
+            TextError::ZeroPolynomial { set, index } => Refusal::ZeroPolynomial { set, index },
             TextError::Memory => Refusal::Memory,
         }
     }

@@ -12,6 +12,9 @@ use crate::refusal::{Refusal, Status};
 use gf_outside::{InputError, Sink, Source, WriteFault, read_all, write_all};
 use std::alloc::Global;
 
+/// How many pairs are settled at most.
+pub const PAIRS: u64 = 100_000_000;
+
 /// Whether the words are the command.
 fn is_command(words: &[String]) -> bool
     ensures ok { result ≡ true → IsCommand (map string_bytes words.now) }
@@ -32,7 +35,8 @@ fn is_command(words: &[String]) -> bool
 /// - `Usage` exactly where the words are no command; nothing is read then.
 /// - `ReadFault` only where a read of this call failed, `InputTooLong` where one byte more than
 ///   67,108,864 was taken.
-/// - `Syntax`, `Overflow`, `Exponent` and `PairBudget` for what the whole input says.
+/// - `Syntax`, `TooWide`, `UnknownName`, `TooManyVariables`, `Overflow`, `Exponent` and `PairBudget` for what the whole
+///   input says.
 /// - `WriteFault` only where a write of this call failed, or took nothing; a prefix of the answer may be
 ///   written then. No other refusal writes anything.
 /// - `Memory` at any growth.
@@ -85,7 +89,7 @@ pub fn run<S: Source, K: Sink>(
         Err(InputError::OpenFault) => return Status::Refused(Refusal::ReadFault),
         Err(InputError::Memory) => return Status::Refused(Refusal::Memory),
     };
-    let text = match answer(alloc, &source) {
+    let text = match answer(alloc, &source, PAIRS) {
         Ok(text) => text,
         Err(refusal) => return Status::Refused(refusal),
     };

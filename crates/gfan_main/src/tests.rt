@@ -53,7 +53,35 @@ fn each_input_has_its_status_and_text(rt: HostRuntime) -> Result<(), Fail> {
         ),
         (b"".as_slice(), 1, b"".as_slice()),
         (b"Q[a] {a} b".as_slice(), 1, b"".as_slice()),
-        (b"Q[a] {aa-1}".as_slice(), 1, b"".as_slice()),
+        (
+            b"Q[x_1,x_12]{2/4x_12 + x_1^2*x_1, 0}".as_slice(),
+            0,
+            b"Q[x_1,x_12]\n{\nx_1^3+1/2*x_12}\n".as_slice(),
+        ),
+        (
+            b"Q[a] {170141183460469231731687303715884105727a}".as_slice(),
+            0,
+            b"Q[a]\n{\na}\n".as_slice(),
+        ),
+        (
+            b"Q[a] {170141183460469231731687303715884105728a}".as_slice(),
+            1,
+            b"".as_slice(),
+        ),
+        (
+            b"Q[a,b] {a-170141183460469231731687303715884105727b,b-2}".as_slice(),
+            3,
+            b"".as_slice(),
+        ),
+        (b"Q[a,b] {a-".as_slice(), 1, b"".as_slice()),
+        (b"Q[a]{ax}".as_slice(), 1, b"".as_slice()),
+        (b"Q[a]{a^2147483647a}".as_slice(), 3, b"".as_slice()),
+        (b"Q[a,a]{a}".as_slice(), 1, b"".as_slice()),
+        (
+            b"Q[a,b,c,d,e,f,g,h,i,j,k,l,m,n,o,p,q]{a}".as_slice(),
+            1,
+            b"".as_slice(),
+        ),
     ];
     for (input, code, text) in rows {
         let end = ended(

@@ -1,9 +1,9 @@
 use Rattle.std.proofs.Common.{◌≡◌, ◌<◌, ◌^◌, All, drop}
-use Rattle.gf_text.specs.Combining.{times_variables}
+use Rattle.gf_text.specs.Combining.{times_factors}
 use Rattle.gf_text.proofs.combine.count.Given as goal
 
-abbrev pub invariant-variables : goal.invariant-variables
-invariant-variables l = record {
+abbrev pub invariant-factors : goal.invariant-factors
+invariant-factors l = record {
   limit : All (λ x. x < 2 ^ 31) l.exponents;
-  same : times_variables l.exponents (drop l.variable-index l.variables) ≡ times_variables l.initial.exponents l.variables;
+  same : times_factors l.exponents (drop l.factor-index l.factors) ≡ times_factors l.initial.exponents l.factors;
 }

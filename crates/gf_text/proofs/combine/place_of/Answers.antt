@@ -1,13 +1,13 @@
-use Rattle.std.proofs.Common.{sym}
-use Rattle.gf_poly.proofs.CoefficientLaws.{skipped_at, passed_at}
-use Rattle.gf_text.proofs.CombiningLaws.{nonzero_at}
+use Rattle.std.proofs.Common.{rules}
+use Rattle.std.proofs.lemmas.Fn.{always_returns_same}
+use Rattle.gf_exponents.specs.Orders.{deglex}
+use Rattle.gf_poly.specs.declared.Term.{Term}
+use Rattle.gf_text.proofs.CombiningLaws.{found_place}
 use Rattle.gf_text.proofs.combine.place_of.Goals as goal
 
-pub terms-preserved : goal.terms-preserved
-terms-preserved c = skipped_at _ _ _ c.index-terms-i.result c.terms-test.true c.index-terms-i.is (sym c.in-Greater.ensures) c.terms.invariant
-
-pub returns-in-Equal : goal.returns-in-Equal
-returns-in-Equal c = nonzero_at _ _ _ c.index-terms-i.result c.terms-test.true c.index-terms-i.is (sym c.in-Equal.ensures) c.terms.invariant
-
-pub returns-in-Less : goal.returns-in-Less
-returns-in-Less c = sym (passed_at _ _ _ c.index-terms-i.result c.terms-test.true c.index-terms-i.is (sym c.in-Less.ensures) c.terms.invariant)
+pub returns : goal.returns
+returns c =
+    let f = c.args.terms.now in
+    let e = c.args.at.now in
+    let found = c.binary_search_by.ensures.position (λ (t : Term). deglex e t.mono) (always_returns_same _ _ _ (λ a r g h. search rules)) in
+    rw c.ok.ensures.value (found_place f e c.binary_search_by.result c.requires.descending c.requires.same_variables c.binary_search_by.ensures.bound found)

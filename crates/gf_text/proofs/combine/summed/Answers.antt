@@ -1,15 +1,38 @@
-use Rattle.gf_text.proofs.CombiningLaws.{within_by}
-use Rattle.gf_text.proofs.SetsLaws.{marked_sum}
+use Rattle.std.proofs.Common.{subst}
+use Rattle.gf_poly.specs.Polynomial.{SamePolynomial}
+use Rattle.gf_text.proofs.CombiningLaws.{within_by, terms_variables}
+use Rattle.gf_text.proofs.SetsLaws.{marked_sum, one_sum}
 use Rattle.gf_text.proofs.combine.summed.Goals as goal
 
-pub first_remaining-requires-clause-sum_variables : goal.first_remaining-requires-clause-sum_variables
-first_remaining-requires-clause-sum_variables c = c.in-Ok.ensures.variables.at c.args.n (rw c.in_ok-copied.ensures c.requires)
+pub first_remaining-requires-clause-sum : goal.first_remaining-requires-clause-sum
+first_remaining-requires-clause-sum c = λ f all. subst (SamePolynomial c.in-Ok.sum) (one_sum c.args.n c.args.terms.now _ f c.in_ok-terms_from.ensures.ok all) c.in-Ok.ensures.value
+
+pub first_remaining-requires-clause-variables : goal.first_remaining-requires-clause-variables
+first_remaining-requires-clause-variables c = c.in-Ok.ensures.variables.at c.args.n (terms_variables c.args.n c.args.terms.now _ c.in_ok-terms_from.ensures.ok)
 
 pub mark-requires : goal.mark-requires
-mark-requires c = within_by c.in-Ok.sum c.in-Some.place c.in-Some.ensures.term c.in-Some.ensures.stands
+mark-requires c =
+    let found = rw c.in-Some.is at (c.in_ok-place.ensures.ok _ c.in_ok-terms_from.ensures.ok) in
+    within_by c.in-Ok.sum c.in-Some.place found.term found.stands
 
 pub returns-in-Some-clause-ok : goal.returns-in-Some-clause-ok
 returns-in-Some-clause-ok c =
-    let sum = rw c.in_ok-copied.ensures at c.in-Ok.ensures.value in
-    let variables = rw c.in_ok-copied.ensures at c.in-Ok.ensures.variables in
-    rw c.mark.ensures (marked_sum c.args.terms.now c.in-Ok.sum c.in-Some.place sum c.in-Ok.ensures.descending variables c.in-Some.ensures)
+    let f = c.in_ok-terms_from.field-0.items in
+    let found = rw c.in-Some.is at (c.in_ok-place.ensures.ok f c.in_ok-terms_from.ensures.ok) in
+    let marked = marked_sum f c.in-Ok.sum c.in-Some.place c.in-Ok.ensures.value c.in-Ok.ensures.descending c.in-Ok.ensures.variables found in
+    record {
+      terms = f;
+      exponents = c.in_ok-terms_from.ensures.ok;
+      fits = c.in-Ok.ensures.fits;
+      written = rw c.mark.ensures marked;
+    }
+
+pub returns-in-None-clause-ok : goal.returns-in-None-clause-ok
+returns-in-None-clause-ok c =
+    let f = c.in_ok-terms_from.field-0.items in
+    record {
+      terms = f;
+      exponents = c.in_ok-terms_from.ensures.ok;
+      fits = c.in-Ok.ensures.fits;
+      written = rw c.in-None.is at (c.in_ok-place.ensures.ok f c.in_ok-terms_from.ensures.ok);
+    }

@@ -4,4 +4,4 @@ use Rattle.gf_text.proofs.CombiningLaws.{onto}
 use Rattle.gf_text.proofs.combine.terms_from.Given as goal
 
 abbrev pub invariant-terms : goal.invariant-terms
-invariant-terms l = onto l.out.items (terms_of l.n (drop l.term-index l.term-items)) ≡ terms_of l.n l.term-items
+invariant-terms l = onto l.out.items (terms_of l.n (drop l.term-index l.terms)) ≡ terms_of l.n l.terms

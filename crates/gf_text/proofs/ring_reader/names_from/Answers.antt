@@ -1,27 +1,27 @@
-use Rattle.std.proofs.Common.{◌∙◌, sym, ap, refl, length, Ok}
+use Rattle.std.proofs.Common.{◌∙◌, sym, ap, length, Ok}
 use Rattle.gf_text.specs.Tokens.{lexeme}
-use Rattle.gf_text.specs.RingText.{ring_step}
+use Rattle.gf_text.specs.RingText.{ring_step, ring_at}
 use Rattle.gf_text.specs.Given.{ring_move}
-use Rattle.gf_text.specs.declared.error.Kind.TheVariants.{Unexpected}
-use Rattle.gf_text.proofs.MachineLaws.{run_go, run_done, run_halt, run_ended}
+use Rattle.gf_text.specs.declared.error.Cause.TheVariants.{Ended}
+use Rattle.gf_text.proofs.MachineLaws.{run_go, run_done, run_halt, run_ended, failed}
 use Rattle.gf_text.proofs.TokensLaws.{behind-lexeme}
 use Rattle.gf_text.proofs.ring_reader.names_from.Goals as goal
 
 pub returns-in_default-clause-ring : goal.returns-in_default-clause-ring
-returns-in_default-clause-ring c = rw c.refused.ensures (
-  _,
-  sym c.loop-start.invariant.same ∙ run_ended ring_step (c.loop-start.place, c.loop-start.names) (length c.args.source.now) _ c.in_default.ensures.token,
-  refl,
-)
+returns-in_default-clause-ring c =
+    let source = c.args.source.now in
+    rw c.refused_at.ensures (
+    failed (ring_at source c.args.from) (length source) Ended
+    (sym c.loop-start.invariant.same ∙ run_ended ring_step (c.loop-start.place, c.loop-start.names) (length source) _ c.in_default.ensures.token)
+    )
 
 pub returns-in-Halt-clause-ring : goal.returns-in-Halt-clause-ring
 returns-in-Halt-clause-ring c =
     let source = c.args.source.now in
     let move = sym c.in_ok-next.ensures ∙ ap (λ m. ring_move m c.step.new.names) c.in-Halt.is in
-    rw c.refused-in-Halt.ensures (
-      _,
-      sym c.loop-start.invariant.same ∙ run_halt ring_step (c.loop-start.place, c.loop-start.names) Unexpected (length source) _ (lexeme source c.in-Some.start c.in-Some.end) _ c.in-Some.ensures.token move,
-      refl,
+    rw c.refused_at-in-Halt.ensures (
+    failed (ring_at source c.args.from) c.in-Some.start c.in-Halt.cause
+    (sym c.loop-start.invariant.same ∙ run_halt ring_step (c.loop-start.place, c.loop-start.names) c.in-Halt.cause (length source) _ (lexeme source c.in-Some.start c.in-Some.end) _ c.in-Some.ensures.token move)
     )
 
 pub returns-in-Done-clause-ring : goal.returns-in-Done-clause-ring

@@ -1,13 +1,13 @@
 use Rattle.std.proofs.Common.{◌≡◌, ◌≤◌, ◌-◌, length}
 use Rattle.gf_text.specs.Machine.{run}
-use Rattle.gf_text.specs.Tokens.{lexemes, one_byte}
+use Rattle.gf_text.specs.Tokens.{lexemes, word_more}
 use Rattle.gf_text.specs.RingText.{ring_step, ring_at}
 use Rattle.gf_text.proofs.ring_reader.names_from.Given as goal
 
 abbrev pub invariant-loop-start : goal.invariant-loop-start
 invariant-loop-start l = record {
   within : l.at ≤ length l.source;
-  same : run ring_step (l.place, l.names) (length l.source) (lexemes one_byte l.source l.at) ≡ ring_at l.source l.from;
+  same : run ring_step (l.place, l.names) (length l.source) (lexemes word_more l.source l.at) ≡ ring_at l.source l.from;
 }
 
 abbrev pub decreases-loop-start : goal.decreases-loop-start

@@ -1,27 +1,26 @@
 use Rattle.std.proofs.Common.{ℕ, ap, sym, subst, ◌∙◌}
 use Rattle.std.proofs.lemmas.Result.{err_from_is_err_and}
-use Rattle.gf_text.specs.RingText.{ring_at}
 use Rattle.gfan_main.specs.Answers.{nonzero}
 use Rattle.gfan_main.specs.Generators.{AreInRing}
-use Rattle.gfan_main.proofs.AnswerLaws.{behind_ring, ring_refused, set_refused, end_refused, basis_refused, in_ring, is_read}
+use Rattle.gfan_main.proofs.AnswerLaws.{behind_ring, ring_refused, set_refused, end_refused, basis_refused, in_ring, is_read, answered}
 use Rattle.gfan_main.proofs.answer.answer.Goals as goal
 
 pub returns-in_err-ring-clause-err : goal.returns-in_err-ring-clause-err
 returns-in_err-ring-clause-err c =
     let p = err_from_is_err_and c.from_residual.result c.from_residual.ensures.1 in
-    rw (p.1, p.2) (ring_refused c.args.source.now c.new-reader.result (ring_at c.new-reader.result.source c.new-reader.result.at) c.in_err-ring.field-0.0 c.new-reader.ensures c.in_err-ring.ensures.reads.0 c.in_err-ring.ensures.text)
+    rw (p.1, p.2) (ring_refused c.args.pairs c.args.source.now c.new-reader.result c.in_err-ring.field-0.0 c.new-reader.ensures c.in_err-ring.ensures.err)
 
 pub returns-in_err-set-clause-err : goal.returns-in_err-set-clause-err
 returns-in_err-set-clause-err c =
     let p = err_from_is_err_and c.from_residual-in_err-set.result c.from_residual-in_err-set.ensures.1 in
-    let b = behind_ring c.args.source.now c.in_ok-ring.ring c.new-reader.result c.read_ring.new.self c.new-reader.ensures c.in_ok-ring.ensures.reads.1 c.in_ok-ring.ensures.text in
-    rw (p.1, p.2) (set_refused c.args.source.now c.in_ok-ring.ring c.read_ring.new.self c.in_err-set.field-0.0 b c.in_err-set.ensures.err)
+    let b = behind_ring c.args.source.now c.in_ok-ring.ring c.new-reader.result c.read_ring.new.self c.new-reader.ensures c.in_ok-ring.ensures.source c.in_ok-ring.ensures.ok in
+    rw (p.1, p.2) (set_refused c.args.pairs c.args.source.now c.in_ok-ring.ring c.read_ring.new.self c.in_err-set.field-0.0 b c.in_err-set.ensures.err)
 
 pub returns-in_err-end-clause-err : goal.returns-in_err-end-clause-err
 returns-in_err-end-clause-err c =
     let p = err_from_is_err_and c.from_residual-in_err-end.result c.from_residual-in_err-end.ensures.1 in
-    let b = behind_ring c.args.source.now c.in_ok-ring.ring c.new-reader.result c.read_ring.new.self c.new-reader.ensures c.in_ok-ring.ensures.reads.1 c.in_ok-ring.ensures.text in
-    rw (p.1, p.2) (end_refused c.args.source.now c.in_ok-ring.ring c.in_ok-set.set.items c.read_ring.new.self c.read_set.new.self c.in_err-end.field-0.0 b c.in_ok-set.ensures.ok c.in_ok-set.ensures.source c.in_err-end.ensures.more)
+    let b = behind_ring c.args.source.now c.in_ok-ring.ring c.new-reader.result c.read_ring.new.self c.new-reader.ensures c.in_ok-ring.ensures.source c.in_ok-ring.ensures.ok in
+    rw (p.1, p.2) (end_refused c.args.pairs c.args.source.now c.in_ok-ring.ring c.in_ok-set.set.items c.read_ring.new.self c.read_set.new.self c.in_err-end.field-0.0 b c.in_ok-set.ensures.ok c.in_ok-set.ensures.source c.in_err-end.ensures.more)
 
 pub basis-requires : goal.basis-requires
 basis-requires c = subst (λ (n : ℕ). AreInRing n c.deref-2.result.now) (sym c.len.ensures.value) (in_ring _ c.in_ok-set.set.items c.deref-2.result.now c.in_ok-set.ensures.variables (c.deref-2.ensures.value ∙ c.in_ok-generators.ensures ∙ ap nonzero c.deref.ensures.value))
@@ -29,6 +28,12 @@ basis-requires c = subst (λ (n : ℕ). AreInRing n c.deref-2.result.now) (sym c
 pub returns-in_err-found-clause-err : goal.returns-in_err-found-clause-err
 returns-in_err-found-clause-err c =
     let p = err_from_is_err_and c.from_residual-in_err-found.result c.from_residual-in_err-found.ensures.1 in
-    let b = behind_ring c.args.source.now c.in_ok-ring.ring c.new-reader.result c.read_ring.new.self c.new-reader.ensures c.in_ok-ring.ensures.reads.1 c.in_ok-ring.ensures.text in
+    let b = behind_ring c.args.source.now c.in_ok-ring.ring c.new-reader.result c.read_ring.new.self c.new-reader.ensures c.in_ok-ring.ensures.source c.in_ok-ring.ensures.ok in
     let r = is_read c.args.source.now c.in_ok-ring.ring c.in_ok-set.set.items c.read_ring.new.self c.read_set.new.self b c.in_ok-set.ensures.ok c.in_ok-set.ensures.source c.in_ok-end.ensures.end in
-    rw (p.1, p.2) (basis_refused c.args.source.now c.in_ok-ring.ring c.in_ok-set.set.items c.deref-2.result.now c.len.result c.in_err-found.field-0.0 r c.len.ensures.value (c.deref-2.ensures.value ∙ c.in_ok-generators.ensures ∙ ap nonzero c.deref.ensures.value) c.in_err-found.ensures.err)
+    rw (p.1, p.2) (basis_refused c.args.pairs c.args.source.now c.in_ok-ring.ring c.in_ok-set.set.items c.deref-2.result.now c.len.result c.in_err-found.field-0.0 r c.len.ensures.value (c.deref-2.ensures.value ∙ c.in_ok-generators.ensures ∙ ap nonzero c.deref.ensures.value) c.in_err-found.ensures.err)
+
+pub returns-clause-ok : goal.returns-clause-ok
+returns-clause-ok c =
+    let b = behind_ring c.args.source.now c.in_ok-ring.ring c.new-reader.result c.read_ring.new.self c.new-reader.ensures c.in_ok-ring.ensures.source c.in_ok-ring.ensures.ok in
+    let r = is_read c.args.source.now c.in_ok-ring.ring c.in_ok-set.set.items c.read_ring.new.self c.read_set.new.self b c.in_ok-set.ensures.ok c.in_ok-set.ensures.source c.in_ok-end.ensures.end in
+    answered c.args.source.now c.in_ok-text.text.items c.in_ok-ring.ring c.in_ok-set.set.items c.deref-2.result.now c.len.result c.in_ok-found.found r c.len.ensures.value (c.deref-2.ensures.value ∙ c.in_ok-generators.ensures ∙ ap nonzero c.deref.ensures.value) c.in_ok-found.ensures.ok c.in_ok-text.ensures
