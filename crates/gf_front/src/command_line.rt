@@ -1,0 +1,151 @@
+//! The words of a command line, and the job that they ask for.
+//!
+//! clap reads the words by the table; what it would say of a fault is never printed.
+ghost use Rattle.std.specs.Prelude.{◌≡◌, [], IfOk, IsErrOf, map, string_bytes, codes, Some};
+ghost use Rattle.clap.specs.Words.{found_of, rows_of, one_of, kind_of};
+ghost use Rattle.gf_front.specs.Table.{most_pairs};
+ghost use Rattle.gf_front.specs.Jobs.{renamed, HasMatch, IsJobOfMatch, IsMatched, IsJobOf, IsWithinLimits, flag_of, number_of, job_of};
+ghost use Rattle.gf_front.specs.Options.{IsFlag, IsNumber, IsBuchberger, IsCommand};
+
+use crate::table::table;
+use clap::ArgMatches;
+use clap::error::ErrorKind;
+use std::alloc::{AllocError, Global};
+
+/// How many pairs are settled at most where the words don't say it.
+const PAIRS: u64 = 100_000_000;
+
+/// What the words ask for: a command with its options.
+#[derive(Debug, Drop, PartialEq, Eq)]
+pub enum Job {
+    /// The reduced Gröbner basis of a set.
+    Buchberger {
+        /// `-w`: a weight is read behind the set.
+        weighted: bool,
+        /// `-r`: the order is revlex, or ties of the weight are broken by revlex.
+        revlex: bool,
+        /// `--pairs N`: how many pairs are settled at most.
+        pairs: u64,
+    },
+    /// Whether a marked set is a Gröbner basis for its marking.
+    IsMarkedGroebnerBasis,
+}
+
+/// Why there is no job.
+#[derive(Clone, Copy, Debug, PartialEq, Eq)]
+pub enum WordsError {
+    /// The table has no match for the words.
+    Usage,
+    Memory,
+}
+
+impl From<AllocError> for WordsError {
+    ghost use Rattle.gf_front.specs.declared.command_line.WordsError.TheVariants as errors;
+
+    ghost from_gives = { λ _ e. e ≡ errors.Memory };
+
+    fn from(_: AllocError) -> WordsError {
+        WordsError::Memory
+    }
+}
+
+/// Whether an option without a value is there.
+fn flag(found: &ArgMatches, id: &str) -> bool
+    requires { IsFlag id.now (rows_of (found_of found.now)) }
+    ensures { result ≡ flag_of id.now (rows_of (found_of found.now)) }
+{
+    found.get_flag(id)
+}
+
+/// The number of an option, and where it isn't there `otherwise`.
+fn number(found: &ArgMatches, id: &str, otherwise: u64) -> u64
+    requires { IsNumber id.now most_pairs (rows_of (found_of found.now)) }
+    ensures { result ≡ number_of id.now otherwise (rows_of (found_of found.now)) }
+{
+    found.get_one::<u64>(id).unwrap_or(otherwise)
+}
+
+/// The job of `_buchberger`.
+fn buchberger(found: &ArgMatches) -> Job
+    requires { IsBuchberger (rows_of (found_of found.now)) }
+    ensures { job_of (codes "_buchberger", rows_of (found_of found.now)) ≡ Some result }
+{
+    Job::Buchberger {
+        weighted: flag(found, "w"),
+        revlex: flag(found, "r"),
+        pairs: number(found, "pairs", PAIRS),
+    }
+}
+
+/// The job of a command with its options.
+fn job_of(name: &str, found: &ArgMatches) -> Job
+    requires { IsCommand (name.now, rows_of (found_of found.now)) }
+    ensures { job_of (name.now, rows_of (found_of found.now)) ≡ Some result }
+{
+    match name {
+        "_buchberger" => buchberger(found),
+        "_ismarkedgroebnerbasis" => Job::IsMarkedGroebnerBasis,
+        _ => unreachable!(),
+    }
+}
+
+/// Why clap refuses the words.
+fn cause(error: &clap::Error) -> WordsError
+    ensures usage { result ≡ WordsError.Usage → kind_of error.now ≡ ErrorKind.OutOfMemory → ⊥ }
+    ensures memory { result ≡ WordsError.Memory → kind_of error.now ≡ ErrorKind.OutOfMemory }
+{
+    match error.kind() {
+        ErrorKind::OutOfMemory => WordsError::Memory,
+        _ => WordsError::Usage,
+    }
+}
+
+/// The job of words that are renamed.
+fn matched<'a>(alloc: Global, words: &'a [&'a str]) -> Result<Job, WordsError>
+    ensures usage { IsErrOf result WordsError.Usage → HasMatch (map (λ w. w.now) words.entry.now) → ⊥ }
+    ensures job { IfOk result (IsJobOfMatch (map (λ w. w.now) words.entry.now)) }
+    ensures limits { IfOk result IsWithinLimits }
+{
+    let matches = match table(alloc)?.try_get_matches_from(words) {
+        Ok(matches) => matches,
+        Err(error) => return Err(cause(&error)),
+    };
+    let Some((name, found)) = matches.subcommand() else {
+        unreachable!()
+    };
+    Ok(job_of(name, found))
+}
+
+/// The word, or what it is read as.
+fn renamed(word: &str) -> &str
+    ensures { result.now ≡ renamed word.now }
+{
+    match word {
+        "-i1" => "--i1",
+        "-i2" => "--i2",
+        other => other,
+    }
+}
+
+/// The job that the words, those after the program's name, ask for.
+///
+/// # Errors
+///
+/// - `Usage` exactly where the table has no match for the words by clap's rules.
+/// - `Memory` at any growth.
+pub fn words(alloc: Global, all: &[String]) -> Result<Job, WordsError>
+    // The table has no match.
+    ensures usage { IsErrOf result WordsError.Usage → IsMatched (map string_bytes all.now) → ⊥ }
+
+    // It has one, and the job is that of the match; its numbers are in their ranges.
+    ensures job { IfOk result (IsJobOf (map string_bytes all.now)) }
+    ensures limits { IfOk result IsWithinLimits }
+{
+    let mut list: Vec<&str> = Vec::new(alloc);
+    for word in all {
+        if list.push(renamed(word.as_str())).is_err() {
+            return Err(WordsError::Memory);
+        }
+    }
+    matched(alloc, list.as_slice())
+}
