@@ -16,7 +16,7 @@ use Rattle.gf_exponents.proofs.ExponentsLaws.{same-refl}
 use Rattle.gf_poly.specs.declared.Term.{Term}
 use Rattle.gf_poly.specs.declared.monomial.ExponentOverflow.{ExponentOverflow}
 use Rattle.gf_poly.specs.Polynomial.{Terms, IsAbove, IsDescending, HasVariables, SamePolynomial, KeepsVariables, coefficient}
-use Rattle.gf_poly.specs.Collecting.{like, SumsFit, LikeSumsFit}
+use Rattle.gf_poly.specs.Collecting.{like, LikeSumsFit}
 use Rattle.gf_poly.specs.Marking.{MarkedPolynomial, IsMarked}
 use Rattle.gf_poly.proofs.CoefficientLaws.{apart, coefficient-contains}
 use Rattle.gf_poly.proofs.DescendingLaws.{equal_same, Contains-cons, Contains-none}
@@ -28,6 +28,7 @@ use Rattle.gf_text.specs.PrintedText.{is_below_zero}
 use Rattle.gf_text.specs.Combining.{raised, then_factors, times_factors, signed, exponents_of, coefficient_of, with_coefficient, term_of, terms_of, sums_of, before_all, IsFirstRemaining, IsSumMarked, NoneRemains}
 use Rattle.gf_text.specs.Sets.{IsWritten, AreWritten, SumsFit as AllSumsFit}
 use Rattle.gf_text.specs.WrittenText.{IsKept, IsWrittenKept, AreWrittenKept}
+use Rattle.gf_text.proofs.OneTermLaws.{short_fits, one_fits}
 use Rattle.gf_text.proofs.PrintedTermsLaws.{AreSmall, factors_from, term_said}
 use Rattle.gf_text.proofs.PrintedPolynomialsLaws.{IsFine, AreFine, all_fine, fine_at, head_term, head_is, others_said, said, all_said}
 
@@ -118,11 +119,6 @@ sums_listed n (w ∷ ws) kept = ap (λ r. before_all r (sums_of n (all_said ws))
 
 -- ---- sums of like terms
 
-short_fits : (f : Terms) → length f ≤ 1 → SumsFit f
-short_fits [] h = tt
-short_fits (t ∷ []) h = tt
-short_fits (t ∷ s ∷ f) h = absurd (omega arith)
-
 never : (o : Ordering) → o ≡ Greater → o ≡ Equal → ⊥
 never o h k = cc
 
@@ -183,13 +179,6 @@ listed-short x t f descending = by (deglex x t.mono) refl
     by Less is = few
     by Greater is = few
     by Equal is = let none : length (like x (others t.mono f)) ≡ 0 = ap (λ y. length (like y (others t.mono f))) (equal_same x t.mono is) ∙ like-none t.mono f in omega arith
-
-one_fits : (t : Term) → LikeSumsFit (t ∷ [])
-one_fits t = record { at = λ x. short_fits (like x (t ∷ [])) (by (is_eq (deglex x t.mono))) }
-  where
-    by : (v : Bool) → length (cond v (t ∷ []) []) ≤ 1
-    by true = omega arith
-    by false = omega arith
 
 listed_fits : (n : ℕ) (w : Written) → IsWrittenKept n w → LikeSumsFit (listed n w)
 listed_fits n written.Zero kept = one_fits (record { coef = zero_ℚ; mono = replicate n 0 })

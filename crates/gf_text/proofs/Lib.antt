@@ -3,9 +3,11 @@ pub mod SpelledLaws  -- bytes that spell tokens
 pub mod MachineLaws  -- what machines read, and what grammars say of it
 pub mod NamesLaws  -- different names, kept as keys of a set
 pub mod RingTextLaws  -- the machine of rings reads what the grammar says; printed rings are read again
+pub mod RingKindsLaws  -- of which kind a fault of a ring is
 pub mod PrintedTextLaws  -- the pieces of printed terms
 pub mod LimitsLaws  -- what a text says is within its limits
 pub mod CombiningLaws  -- terms and sums of terms, one after another
+pub mod OneTermLaws  -- sums of one term
 pub mod SetsLaws  -- sums of terms, one after another
 pub mod PrintedSetsLaws  -- the pieces of printed polynomials and sets
 pub mod SetTokensLaws  -- names, numbers and marks of a set

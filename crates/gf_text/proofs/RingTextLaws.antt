@@ -1,5 +1,5 @@
 -- The machine of rings reads exactly what the grammar of rings says, and a printed ring is read again.
--- To cite: ring_machine, ring_reads, ring_is_read, ring_read, ring_refused, one_ring, rings_again. The rest are steps.
+-- To cite: ring_machine, ring_reads, ring_is_read, ring_read, ring_halts, long_name, long_is_name, long_is_new, long_stops, one_ring, rings_again. The rest are steps.
 use Rattle.std.proofs.Common.{◌≡◌, ◌<◌, ◌≤◌, ℕ, zero, suc, ◌+◌, Bool, true, false, ◌||◌, List, [], ◌∷◌, ◌++◌, length, flat_map, Ok, Err, refl, sym, ap, ◌∙◌, subst, inl, inr, append_assoc, append-nil, length-append, bytes_eq, arith, if◌then◌else◌, replicate}
 use Rattle.std.proofs.lemmas.Slice.Eq.{bytes_eq-Decides}
 use Rattle.std.proofs.lemmas.List.{length-replicate}
@@ -20,37 +20,37 @@ use Rattle.gf_text.proofs.SpelledLaws.{IsToken, IsSpelled, goes_on, spelled-none
 
 -- ---- what the machine does at a token
 
-abbrev Names : Type 0
+abbrev pub Names : Type 0
 Names = List (List ℕ)
 
-abbrev goes : RingState → Move RingState Names
+abbrev pub goes : RingState → Move RingState Names
 goes s = go s
 
-abbrev stops : Cause → Move RingState Names
+abbrev pub stops : Cause → Move RingState Names
 stops cause = halt cause
 
-abbrev ends : Names → Move RingState Names
+abbrev pub ends : Names → Move RingState Names
 ends names = done names
 
 is_mark : (t mark : List ℕ) → bytes_eq t mark ≡ true → t ≡ mark
 is_mark t mark is = (bytes_eq-Decides t mark).0 is
 
-is_letter_q : (before : Names) (t : List ℕ) (v : Bool) → bytes_eq t letter_q ≡ v → (u : RingState) → (if v then goes (at.Bracket, before) else stops Unexpected) ≡ goes u → (t ≡ letter_q) × (u ≡ (at.Bracket, before))
+pub is_letter_q : (before : Names) (t : List ℕ) (v : Bool) → bytes_eq t letter_q ≡ v → (u : RingState) → (if v then goes (at.Bracket, before) else stops Unexpected) ≡ goes u → (t ≡ letter_q) × (u ≡ (at.Bracket, before))
 is_letter_q before t true is u e = (is_mark t letter_q is, cc)
 is_letter_q before t false is u e = cc
 
-is_bracket : (before : Names) (t : List ℕ) (v : Bool) → bytes_eq t bracket ≡ v → (u : RingState) → (if v then goes (at.Variable, before) else stops Unexpected) ≡ goes u → (t ≡ bracket) × (u ≡ (at.Variable, before))
+pub is_bracket : (before : Names) (t : List ℕ) (v : Bool) → bytes_eq t bracket ≡ v → (u : RingState) → (if v then goes (at.Variable, before) else stops Unexpected) ≡ goes u → (t ≡ bracket) × (u ≡ (at.Variable, before))
 is_bracket before t true is u e = (is_mark t bracket is, cc)
 is_bracket before t false is u e = cc
 
-is_variable : (before : Names) (t : List ℕ) (v w : Bool) → is_name t ≡ v → has before t ≡ w → (u : RingState)
+pub is_variable : (before : Names) (t : List ℕ) (v w : Bool) → is_name t ≡ v → has before t ≡ w → (u : RingState)
     → (if v then (if w then stops RepeatedName else goes (at.Behind, before ++ t ∷ [])) else stops Unexpected) ≡ goes u
     → (is_name t ≡ true) × (has before t ≡ false) × (u ≡ (at.Behind, before ++ t ∷ []))
 is_variable before t true true named new u e = cc
 is_variable before t true false named new u e = (named, new, cc)
 is_variable before t false w named new u e = cc
 
-is_comma : (before : Names) (t : List ℕ) (v w : Bool) → bytes_eq t comma ≡ v → (u : RingState) → (if v then goes (at.Variable, before) else if w then ends before else stops Unexpected) ≡ goes u → (t ≡ comma) × (u ≡ (at.Variable, before))
+pub is_comma : (before : Names) (t : List ℕ) (v w : Bool) → bytes_eq t comma ≡ v → (u : RingState) → (if v then goes (at.Variable, before) else if w then ends before else stops Unexpected) ≡ goes u → (t ≡ comma) × (u ≡ (at.Variable, before))
 is_comma before t true w is u e = (is_mark t comma is, cc)
 is_comma before t false true is u e = cc
 is_comma before t false false is u e = cc
@@ -184,14 +184,14 @@ lengths [] = 0
 lengths (n ∷ ns) = length n + lengths ns
 
 -- a name longer than all of these
-long_name : Names → List ℕ
+pub long_name : Names → List ℕ
 long_name names = 97 ∷ replicate (lengths names) 97
 
 letters : (k : ℕ) → list_all is_name_byte (replicate k 97) ≡ true
 letters zero = refl
 letters (suc k) = letters k
 
-long_is_name : (names : Names) → is_name (long_name names) ≡ true
+pub long_is_name : (names : Names) → is_name (long_name names) ≡ true
 unfolding long_name
 long_is_name names = letters (lengths names)
 
@@ -204,9 +204,19 @@ longer_is_new (m ∷ ms) n h = by (bytes_eq m n) refl (longer_is_new ms n (omega
     by true is later = let same = is_mark m n is in absurd (omega (arith, ap (λ (l : List ℕ). length l) same))
     by false is later = later
 
-long_is_new : (names : Names) → has names (long_name names) ≡ false
+pub long_is_new : (names : Names) → has names (long_name names) ≡ false
 unfolding long_name
 long_is_new names = longer_is_new names (long_name names) (omega (arith, length-replicate {A = ℕ} (lengths names) 97))
+
+-- where a name can't stand, this one can't
+pub record LongStops (others names : Names) : Type 0 where
+  pub letter : ring_step (at.Letter, names) (long_name others) ≡ stops Unexpected
+  pub bracket : ring_step (at.Bracket, names) (long_name others) ≡ stops Unexpected
+  pub behind : ring_step (at.Behind, names) (long_name others) ≡ stops Unexpected
+
+pub long_stops : (others names : Names) → LongStops others names
+unfolding long_name
+long_stops others names = record { letter = refl; bracket = refl; behind = refl }
 
 Live : RingState → Type 0
 Live s = (ts : Names) × (names : Names) × (after ring_step s ts ≡ done names)
@@ -235,7 +245,7 @@ is_live (at.Behind, names) = live_behind names
 
 -- ---- it halts at what can't stand there, and at a name that was there
 
-IsRingHalt : Cause → Type 0
+abbrev pub IsRingHalt : Cause → Type 0
 IsRingHalt Ended = ⊥
 IsRingHalt Unexpected = Unit {0}
 IsRingHalt RepeatedName = Unit {0}
@@ -246,8 +256,7 @@ IsRingHalt UnknownName = ⊥
 halts_with : (here cause : Cause) → stops here ≡ stops cause → IsRingHalt here → IsRingHalt cause
 halts_with here cause e h = let same : here ≡ cause = cc in subst IsRingHalt same h
 
-ring_halts : (s : RingState) (t : List ℕ) (cause : Cause) → ring_step s t ≡ halt cause → IsRingHalt cause
-unfolding IsRingHalt
+pub ring_halts : (s : RingState) (t : List ℕ) (cause : Cause) → ring_step s t ≡ halt cause → IsRingHalt cause
 ring_halts (at.Letter, names) t cause e = by (bytes_eq t letter_q) e
   where
     by : (v : Bool) → (if v then goes (at.Bracket, names) else stops Unexpected) ≡ stops cause → IsRingHalt cause
@@ -275,7 +284,7 @@ ring_halts (at.Behind, names) t cause e = by (bytes_eq t comma) (bytes_eq t brac
 
 -- the machine reads exactly the grammar
 pub ring_machine : IsMachineOf ring_step (at.Letter, []) IsRingText
-unfolding Live IsRingHalt
+unfolding Live
 ring_machine = record {
   said = ring_said;
   given = ring_given;
@@ -293,41 +302,6 @@ pub ring_read : (source : List ℕ) (from : ℕ) (names : Names) (place : ℕ) �
 ring_read source from names place e few =
     let r = ring_reads source from names place e in
     record { read = e; text = r; ring = record { some = r.text.some; few = few; different = r.text.different } }
-
--- a fault of a ring's text isn't that a number is too wide, nor that a name is unknown
-not_refused_as : (source : List ℕ) (from : ℕ) (f : Fault) → ring_at source from ≡ Err f → (f.cause ≡ TooWide → ⊥) × (f.cause ≡ UnknownName → ⊥)
-unfolding IsRingHalt
-not_refused_as source from f e =
-    let P : Cause → Type 0 = λ c. (c ≡ TooWide → ⊥) × (c ≡ UnknownName → ⊥) in
-    caused ring_step P (λ h. cc, λ h. cc) (λ s t cause h. (λ is. subst IsRingHalt is (ring_halts s t cause h), λ is. subst IsRingHalt is (ring_halts s t cause h)))
-    (at.Letter, []) (length source) (lexemes word_more source from) f e
-
-is_too_wide : (place : ℕ) (cause : Cause) (at : ℕ) → refusal_at place cause ≡ errors.TooWide at → cause ≡ TooWide
-is_too_wide place Ended at e = cc
-is_too_wide place Unexpected at e = cc
-is_too_wide place RepeatedName at e = cc
-is_too_wide place ZeroDenominator at e = cc
-is_too_wide place TooWide at e = refl
-is_too_wide place UnknownName at e = cc
-
-is_unknown : (place : ℕ) (cause : Cause) (at : ℕ) → refusal_at place cause ≡ errors.UnknownName at → cause ≡ UnknownName
-is_unknown place Ended at e = cc
-is_unknown place Unexpected at e = cc
-is_unknown place RepeatedName at e = cc
-is_unknown place ZeroDenominator at e = cc
-is_unknown place TooWide at e = cc
-is_unknown place UnknownName at e = refl
-
--- why no ring is read
-pub ring_refused : (source : List ℕ) (from : ℕ) (error : TextError) → Fails error (ring_at source from) → IsRingCause (record { source = source; at = from }) error
-ring_refused source from (errors.Overflow o) h = absurd h
-ring_refused source from (errors.Exponent o) h = absurd h
-ring_refused source from (errors.Syntax s) h = record { read = h; text = no_text ring_machine (length source) (lexemes word_more source from) (errors.Syntax s) h }
-ring_refused source from (errors.TooWide place) h = absurd ((not_refused_as source from h.0 h.1).0 (is_too_wide h.0.at h.0.cause place h.2))
-ring_refused source from (errors.UnknownName place) h = absurd ((not_refused_as source from h.0 h.1).1 (is_unknown h.0.at h.0.cause place h.2))
-ring_refused source from (errors.TooManyVariables count) h = absurd h
-ring_refused source from (errors.ZeroPolynomial set index) h = absurd h
-ring_refused source from errors.Memory h = tt
 
 pub one_ring : HasOneMeaning IsRingText
 one_ring = one_meaning ring_step IsRingText (at.Letter, []) ring_given

@@ -2,6 +2,7 @@ pub mod Machine  -- machines that read tokens, and the places of faults
 pub mod Refusing  -- what a fault is refused as
 pub mod Tokens  -- white space, the tokens of a text
 pub mod RingText  -- rings: grammar, machine, printed text
+pub mod RingKinds  -- of which kind a fault of a ring is
 pub mod SetText  -- sets of polynomials: grammar, machine
 pub mod SetKinds  -- of which kind a fault of a set is
 pub mod Limits  -- what a text may say

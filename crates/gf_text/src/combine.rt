@@ -1,5 +1,5 @@
 //! From what a text of a set says to polynomials.
-ghost use Rattle.std.specs.Prelude.{◌≡◌, ◌≤◌, ◌<◌, ◌^◌, All, IfOk, IfErr, OnOk, Ok, Err, ℕ, length, take, replicate, MatchOption};
+ghost use Rattle.std.specs.Prelude.{◌≡◌, ◌≤◌, ◌<◌, ◌^◌, All, IfOk, IfErr, OnOk, Ok, Err, ℕ, length, take, replicate, MatchOption, ◌∷◌, []};
 ghost use Rattle.gf_frac.specs.Fraction.{zero_ℚ};
 ghost use Rattle.gf_poly.specs.Polynomial.{Terms, coefficient, SamePolynomial, IsDescending, HasVariables};
 ghost use Rattle.gf_text.specs.Limits.{IsFactorWithin, AreFactorsWithin, IsTermWithin, AreTermsWithin, AreWithin};
@@ -182,8 +182,24 @@ fn sum_error(error: PolyError) -> TextError
     }
 }
 
+/// The sum of one term: it is marked, unless it is zero.
+fn single(alloc: Global, n: usize, term: &WrittenTerm) -> Result<Written, TextError>
+    requires room { n ≤ ROOM }
+    requires within { IsTermWithin n term.now }
+    ensures ok { IfOk result (IsSummed n (term.now ∷ [])) }
+    ensures err { IfErr result (IsSummingCause n (term.now ∷ [])) }
+{
+    let sum = term_of(alloc, n, term)?;
+    if sum.coef.is_zero() {
+        return Ok(Written::Zero);
+    }
+    let mut terms = Vec::with_capacity(alloc, 1)?;
+    terms.push(sum)?;
+    Ok(Written::Nonzero(Marked::mark(Poly::from_descending(terms), 0)))
+}
+
 /// The sum of terms, marked at the first that remains.
-fn summed(alloc: Global, n: usize, terms: &[WrittenTerm]) -> Result<Written, TextError>
+fn several(alloc: Global, n: usize, terms: &[WrittenTerm]) -> Result<Written, TextError>
     requires room { n ≤ ROOM }
     requires within { AreTermsWithin n terms.now }
     ensures ok { IfOk result (IsSummed n terms.now) }
@@ -197,6 +213,19 @@ fn summed(alloc: Global, n: usize, terms: &[WrittenTerm]) -> Result<Written, Tex
         Some(place) => Ok(Written::Nonzero(Marked::mark(sum, place))),
         None => Ok(Written::Zero),
     }
+}
+
+/// The sum of terms, marked at the first that remains. One term needs no sort.
+fn summed(alloc: Global, n: usize, terms: &[WrittenTerm]) -> Result<Written, TextError>
+    requires room { n ≤ ROOM }
+    requires within { AreTermsWithin n terms.now }
+    ensures ok { IfOk result (IsSummed n terms.now) }
+    ensures err { IfErr result (IsSummingCause n terms.now) }
+{
+    if let [term] = terms {
+        return single(alloc, n, term);
+    }
+    several(alloc, n, terms)
 }
 
 /// The polynomials of a set, in n variables. First each exponent is looked at, then the terms are added.

@@ -1,5 +1,5 @@
 //! Texts of sets, by hand: what each says, or where and why it is refused.
-ghost use Rattle.std.specs.Prelude.{length};
+ghost use Rattle.std.specs.Prelude.{◌<◌, length, IfOk};
 ghost use Rattle.gf_text.specs.Sets.{AreIn};
 
 use super::*;
@@ -8,19 +8,29 @@ use gf_poly::ExponentOverflow;
 use std::alloc::{AllocError, Global};
 use std::test::Fail;
 
-/// Adds polynomials, each behind a bar.
-fn push_all(out: &mut Vec<u8>, ring: &Ring, items: &[Written]) -> Result<(), AllocError>
+/// Adds polynomials: one mark stands before the first, another before each later one.
+fn push_all(
+    out: &mut Vec<u8>,
+    ring: &Ring,
+    items: &[Written],
+    front: u8,
+    between: u8,
+) -> Result<(), AllocError>
     requires { AreIn (length ring.now) items.now }
 {
+    let mut mark = front;
     'items: for item in items {
-        out.push(b'|')?;
+        out.push(mark)?;
         Printer::poly(out, ring, item)?;
+        mark = between;
     }
     Ok(())
 }
 
-/// The polynomials of a whole text of a ring and a set, each behind a bar.
-fn polynomials_of(alloc: Global, source: &[u8]) -> Result<Vec<u8>, TextError> {
+/// The ring of a whole text, and the polynomials of its set.
+fn read_all(alloc: Global, source: &[u8]) -> Result<(Ring, Vec<Written>), TextError>
+    ensures { IfOk result (λ x. AreIn (length x.0) x.1.items) }
+{
     let mut reader = Reader::new(source);
     let ring = match reader.read_ring(alloc) {
         Ok(ring) => ring,
@@ -31,9 +41,34 @@ fn polynomials_of(alloc: Global, source: &[u8]) -> Result<Vec<u8>, TextError> {
         Err(error) => return Err(error),
     };
     reader.end()?;
+    Ok((ring, set))
+}
+
+/// The polynomials of a whole text of a ring and a set, each behind a bar.
+fn polynomials_of(alloc: Global, source: &[u8]) -> Result<Vec<u8>, TextError> {
+    let (ring, set) = match read_all(alloc, source) {
+        Ok((ring, set)) => (ring, set),
+        Err(error) => return Err(error),
+    };
     let mut line = Vec::new(alloc);
-    push_all(&mut line, &ring, &set)?;
+    push_all(&mut line, &ring, &set, b'|', b'|')?;
     Ok(line)
+}
+
+/// A whole text, read and printed.
+fn printed(alloc: Global, source: &[u8]) -> Result<Vec<u8>, TextError> {
+    let (ring, set) = match read_all(alloc, source) {
+        Ok((ring, set)) => (ring, set),
+        Err(error) => return Err(error),
+    };
+    let mut text = Vec::new(alloc);
+    Printer::ring(&mut text, &ring)?;
+    if set.is_empty() {
+        text.push(b'{')?;
+    }
+    push_all(&mut text, &ring, &set, b'{', b',')?;
+    text.push(b'}')?;
+    Ok(text)
 }
 
 #[test]
@@ -218,5 +253,115 @@ fn each_proper_prefix_ends_too_early(rt: HostRuntime) -> Result<(), Fail> {
         polynomials_of(alloc, whole)?.as_slice(),
         b"|a-b".as_slice()
     );
+    Ok(())
+}
+
+/// Numbers with no pattern, by a linear congruence.
+#[derive(Drop)]
+struct Numbers {
+    last: u64,
+}
+
+impl Numbers {
+    /// The next number, below n.
+    fn below(&mut self, n: usize) -> usize
+        requires { 0 < n }
+        ensures { result < n }
+    {
+        self.last = self
+            .last
+            .wrapping_mul(6364136223846793005)
+            .wrapping_add(1442695040888963407);
+        (self.last >> 33) as usize % n
+    }
+}
+
+/// Adds one of these texts.
+fn push_one(out: &mut Vec<u8>, numbers: &mut Numbers, texts: &[&[u8]]) -> Result<(), AllocError>
+    requires { 0 < length texts.now }
+{
+    let i = numbers.below(texts.len());
+    out.extend_from_slice(texts[i])
+}
+
+/// Adds a power of a variable.
+fn push_power(out: &mut Vec<u8>, numbers: &mut Numbers) -> Result<(), AllocError> {
+    push_one(out, numbers, &[b"x", b"y", b"xy", b"z_1"])?;
+    push_one(out, numbers, &[b"", b"", b"^0", b"^2", b" ^ 017"])
+}
+
+/// Adds powers, at least one.
+fn push_powers(out: &mut Vec<u8>, numbers: &mut Numbers) -> Result<(), AllocError> {
+    push_power(out, numbers)?;
+    for _ in 0..numbers.below(4) {
+        push_one(out, numbers, &[b"", b" ", b"*", b"\n* "])?;
+        push_power(out, numbers)?;
+    }
+    Ok(())
+}
+
+/// Adds a rational number.
+fn push_rational(out: &mut Vec<u8>, numbers: &mut Numbers) -> Result<(), AllocError> {
+    push_one(
+        out,
+        numbers,
+        &[b"0", b"1", b"2", b"006", b"18446744073709551616"],
+    )?;
+    push_one(out, numbers, &[b"", b"", b"/1", b" / 6", b"/\t0004"])
+}
+
+/// Adds a term.
+fn push_term(out: &mut Vec<u8>, numbers: &mut Numbers) -> Result<(), AllocError> {
+    match numbers.below(3) {
+        0 => push_rational(out, numbers),
+        1 => push_powers(out, numbers),
+        _ => {
+            push_rational(out, numbers)?;
+            push_one(out, numbers, &[b"", b" ", b"*", b" * "])?;
+            push_powers(out, numbers)
+        }
+    }
+}
+
+/// Adds a polynomial.
+fn push_polynomial(out: &mut Vec<u8>, numbers: &mut Numbers) -> Result<(), AllocError> {
+    push_one(out, numbers, &[b"", b"", b"+", b"- "])?;
+    push_term(out, numbers)?;
+    for _ in 0..numbers.below(6) {
+        push_one(out, numbers, &[b"+", b"-", b" + ", b"\r\n-"])?;
+        push_term(out, numbers)?;
+    }
+    Ok(())
+}
+
+/// A text of a ring and a set.
+fn some_text(alloc: Global, numbers: &mut Numbers) -> Result<Vec<u8>, AllocError> {
+    let mut out = Vec::new(alloc);
+    push_one(
+        &mut out,
+        numbers,
+        &[b"Q[x,xy,y,z_1]", b" Q [ z_1, y ,x\t,\r\nxy ] "],
+    )?;
+    out.push(b'{')?;
+    let count = numbers.below(5);
+    for i in 0..count {
+        if i > 0 {
+            out.push(b',')?;
+        }
+        push_polynomial(&mut out, numbers)?;
+    }
+    out.extend_from_slice(b" }\n")?;
+    Ok(out)
+}
+
+#[test]
+fn printed_texts_are_printed_again(rt: HostRuntime) -> Result<(), Fail> {
+    let alloc = rt.alloc();
+    let mut numbers = Numbers { last: 1 };
+    for _ in 0..300 {
+        let once = printed(alloc, &some_text(alloc, &mut numbers)?)?;
+        let twice = printed(alloc, &once)?;
+        assert_eq!(rt; twice.as_slice(), once.as_slice());
+    }
     Ok(())
 }

@@ -91,10 +91,13 @@ impl WrittenTerms {
         }
     }
 
-    /// Adds a term as the last one.
+    /// Adds a term as the last one. The first has no room behind it, since many polynomials have one term.
     pub fn push(&mut self, term: WrittenTerm) -> Result<(), AllocError>
         ensures { OnOk result (self.new ≡ self.old ++ term ∷ []) }
     {
+        if self.items.is_empty() {
+            self.items.reserve_exact(1)?;
+        }
         self.items.push(term)?;
         Ok(())
     }

@@ -1,5 +1,6 @@
 use Rattle.std.proofs.Common.{sym}
-use Rattle.gf_text.proofs.RingTextLaws.{ring_reads, ring_read, ring_refused}
+use Rattle.gf_text.proofs.RingTextLaws.{ring_reads, ring_read}
+use Rattle.gf_text.proofs.RingKindsLaws.{ring_refused}
 use Rattle.gf_text.proofs.ring_reader.ring_from.Goals as goal
 
 pub returns-in-Err-clause-err : goal.returns-in-Err-clause-err

@@ -2,7 +2,7 @@ use Rattle.std.proofs.Common.{subst}
 use Rattle.gf_poly.specs.Polynomial.{SamePolynomial}
 use Rattle.gf_text.proofs.CombiningLaws.{within_by, terms_variables}
 use Rattle.gf_text.proofs.SetsLaws.{marked_sum, one_sum}
-use Rattle.gf_text.proofs.combine.summed.Goals as goal
+use Rattle.gf_text.proofs.combine.several.Goals as goal
 
 pub first_remaining-requires-clause-sum : goal.first_remaining-requires-clause-sum
 first_remaining-requires-clause-sum c = λ f all. subst (SamePolynomial c.in-Ok.sum) (one_sum c.args.n c.args.terms.now _ f c.in_ok-terms_from.ensures.ok all) c.in-Ok.ensures.value
