@@ -13,3 +13,4 @@ pub mod TailLaws  -- one tail
 pub mod AutoreductionLaws  -- all tails, and the whole
 pub mod QuotientLaws  -- quotients as they are kept
 pub mod DivisionLaws  -- the loop of a division
+pub mod WeighedMarks  -- tests of weights

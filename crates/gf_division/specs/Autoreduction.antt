@@ -14,11 +14,11 @@ use Rattle.gf_poly.specs.Marking.{MarkedPolynomial, MarkedPolynomials, IsArrange
 use Rattle.gf_ideal.specs.Membership.{AreInVariables}
 use Rattle.gf_ideal.specs.Marks.{IsPositive, IsRealisedBy}
 use Rattle.gf_ideal.specs.Reduction.{AreMonicForms}
-use Rattle.gf_ideal.specs.Operands.{IsMonicOperation, IsStepOperation, IsStepExponents}
+use Rattle.gf_ideal.specs.Operands.{IsStepOperation, IsStepExponents}
 use Rattle.gf_ideal.specs.Settled.{IsAt}
 use Rattle.gf_ideal.specs.Bases.{IsBasis, AreApart, IsReducedBasis, IsCanonical}
 use Rattle.gf_ideal.specs.WorkLists.{IsTail, AreReducedTails}
-use Rattle.gf_division.specs.MonicForms.{IsMadeMonic}
+use Rattle.gf_division.specs.MonicForms.{IsMadeMonic, IsDivisionByMark}
 
 -- ---- which members are needed
 
@@ -67,7 +67,7 @@ pub record IsReducedOf (n : ℕ) (bs cs : List MarkedPolynomial) : Type 0 where
 pub record IsMemberOperation (bs : List MarkedPolynomial) (op : Op) (left right : Fraction) : Type 0 where
   pub member : MarkedPolynomial
   pub contained : Contains bs member
-  pub operation : IsMonicOperation member.poly member.head op left right
+  pub operation : IsDivisionByMark member op left right
 
 -- the operation is one of a step at an unmarked monomial of a tail of ks, by a member of ks
 pub record IsTailOperation (ks : List MarkedPolynomial) (op : Op) (left right : Fraction) : Type 0 where

@@ -1,22 +1,30 @@
 -- Marked polynomials made monic: divided by the marked coefficient, the mark kept.
 -- Laws: proofs/MonicLaws.antt.
-use Rattle.std.specs.Prelude.{◌≡◌, ℕ}
+use Rattle.std.specs.Prelude.{◌≡◌, ◌≢◌, ℕ}
+use Rattle.gf_frac.specs.Fraction.{Fraction, one_ℚ}
 use Rattle.gf_frac.specs.Fits.{Fits}
+use Rattle.gf_frac.specs.declared.refusal.Op.{Op}
 use Rattle.gf_poly.specs.declared.error.PolyError.{PolyError}
 use Rattle.gf_poly.specs.declared.error.PolyError.TheVariants as errors
-use Rattle.gf_poly.specs.Polynomial.{HasVariables}
+use Rattle.gf_poly.specs.Polynomial.{HasVariables, coefficient}
 use Rattle.gf_poly.specs.Marking.{MarkedPolynomial}
 use Rattle.gf_ideal.specs.Reduction.{IsMonicForm}
 use Rattle.gf_ideal.specs.Operands.{IsMonicOperation}
 
--- b is f divided by its marked coefficient, with the same mark
+-- b is f divided by its marked coefficient, with the same mark; where that is 1 already, f itself
 pub record IsMadeMonic (f b : MarkedPolynomial) : Type 0 where
   pub form : IsMonicForm f.poly b
   pub head : b.head ≡ f.head
+  pub kept : coefficient f.poly f.head ≡ one_ℚ → b ≡ f
+
+-- the operation is one of making f monic, whose marked coefficient isn't 1 yet
+pub record IsDivisionByMark (f : MarkedPolynomial) (op : Op) (left right : Fraction) : Type 0 where
+  pub needed : coefficient f.poly f.head ≢ one_ℚ
+  pub operation : IsMonicOperation f.poly f.head op left right
 
 -- why f isn't made monic: a coefficient and the marked one, whose quotient doesn't fit
 abbrev pub IsMonicRefusal : MarkedPolynomial → PolyError → Type 0
-IsMonicRefusal f (errors.Overflow o) = IsMonicOperation f.poly f.head o.op o.left o.right × ¬ (Fits o.op o.left o.right)
+IsMonicRefusal f (errors.Overflow o) = IsDivisionByMark f o.op o.left o.right × ¬ (Fits o.op o.left o.right)
 IsMonicRefusal f (errors.Exponent o) = ⊥
 IsMonicRefusal f errors.Memory = Unit {0}
 

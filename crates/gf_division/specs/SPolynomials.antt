@@ -10,8 +10,8 @@ use Rattle.gf_poly.specs.declared.error.PolyError.TheVariants as errors
 use Rattle.gf_poly.specs.Polynomial.{Terms, HasVariables, IsDescending, times}
 use Rattle.gf_poly.specs.Marking.{MarkedPolynomial}
 use Rattle.gf_ideal.specs.Reduction.{IsSPolynomial}
-use Rattle.gf_ideal.specs.Operands.{IsMonicOperation, IsShiftOperation, IsSPolynomialOperation, IsSPolynomialExponents}
-use Rattle.gf_division.specs.MonicForms.{IsMadeMonic}
+use Rattle.gf_ideal.specs.Operands.{IsShiftOperation, IsSPolynomialOperation, IsSPolynomialExponents}
+use Rattle.gf_division.specs.MonicForms.{IsMadeMonic, IsDivisionByMark}
 
 -- b and c have the same variables
 pub record ArePairOf (n : ℕ) (b c : MarkedPolynomial) : Type 0 where
@@ -48,7 +48,7 @@ IsMonicPairRefusal b c errors.Memory = Unit {0}
 
 -- the operation is one of making f or g monic, or of the S-polynomial of their monic forms
 abbrev pub IsPairOperation : MarkedPolynomial → MarkedPolynomial → Op → Fraction → Fraction → Type 0
-IsPairOperation f g op left right = IsMonicOperation f.poly f.head op left right ⊎ IsMonicOperation g.poly g.head op left right ⊎ ((b : MarkedPolynomial) × (c : MarkedPolynomial) × AreMadeMonic f g b c × IsSPolynomialOperation b c op left right)
+IsPairOperation f g op left right = IsDivisionByMark f op left right ⊎ IsDivisionByMark g op left right ⊎ ((b : MarkedPolynomial) × (c : MarkedPolynomial) × AreMadeMonic f g b c × IsSPolynomialOperation b c op left right)
 
 -- the exponents are added in the S-polynomial of the monic forms of f and g
 abbrev pub IsPairExponents : MarkedPolynomial → MarkedPolynomial → ℕ → ℕ → Type 0

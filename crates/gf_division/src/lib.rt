@@ -15,3 +15,6 @@ pub use divisions::{Division, divide};
 pub use normal_forms::{normal_form, reduced};
 pub use s_polynomials::s_poly;
 pub use steps::reduce_step;
+
+#[cfg(test)]
+mod tests;

@@ -1,8 +1,8 @@
 //! Marked polynomials made monic.
 
-ghost use Rattle.std.specs.Prelude.{◌≡◌, IfOk, IfErr, IsTrue};
+ghost use Rattle.std.specs.Prelude.{◌≡◌, ◌≢◌, false, IfOk, IfErr, IsTrue};
 ghost use Rattle.gf_frac.specs.Fraction.{one_ℚ};
-ghost use Rattle.gf_poly.specs.Polynomial.{KeepsVariables};
+ghost use Rattle.gf_poly.specs.Polynomial.{KeepsVariables, coefficient};
 ghost use Rattle.gf_division.specs.MonicForms.{IsMadeMonic, IsMonicRefusal, HasSomeVariables};
 
 use gf_frac::Frac;
@@ -18,7 +18,8 @@ pub fn one() -> Frac
 /// Whether the marked coefficient is 1, so that the polynomial is its own monic form.
 pub fn is_monic(b: &Marked) -> bool
     requires { HasSomeVariables b.now }
-    ensures { IsTrue result → IsMadeMonic b.now b.now }
+    ensures yes { IsTrue result → IsMadeMonic b.now b.now }
+    ensures no { result ≡ false → coefficient b.now.poly b.now.head ≢ one_ℚ }
 {
     // The terms descend: the accessor says so.
     let _ = b.head();
@@ -29,7 +30,7 @@ pub fn is_monic(b: &Marked) -> bool
 ///
 /// # Errors
 ///
-/// `Overflow` only where the quotient of a coefficient by the marked one leaves its range; it holds the two.
+/// `Overflow` only where the marked coefficient isn't 1 and the quotient of a coefficient by the marked one leaves its range; it holds the two.
 pub fn made_monic(b: &Marked) -> Result<Marked, PolyError>
     requires { HasSomeVariables b.now }
     ensures form { IfOk result (IsMadeMonic b.now) }
