@@ -1,0 +1,14 @@
+pub mod PairsLaws  -- the marks of pairs: places, counts
+pub mod UnsettledLaws  -- the list of the unsettled pairs
+pub mod LeadingLaws  -- the greatest term
+pub mod JobLaws  -- positive weights, and which order is good on what
+pub mod RunLaws  -- the states of a run, one step further
+pub mod AppendLaws  -- a member that is appended
+pub mod ReducedPairLaws  -- one pair reduced
+pub mod RunSteps  -- from one state of a run to the next
+pub mod SettleLaws  -- all pairs of a run
+pub mod GeneratorsOfRuns  -- generators that enter a run
+pub mod InterreductionOfRuns  -- the end of a run, autoreduced
+pub mod RefusalsOfRuns  -- refusals are operations of the run
+pub mod BasesOfRuns  -- where a run ends
+pub mod HomogeneityLaws  -- the first term of another degree

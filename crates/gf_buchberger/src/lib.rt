@@ -1,0 +1,21 @@
+//! Buchberger's algorithm: the reduced Gröbner basis of an ideal for an order of monomials.
+//!
+//! Start at `basis`. What a Gröbner basis is, and why the algorithm is right, stands in `gf_ideal`
+//! (`specs/Bases.antt`, `specs/Theorems.antt`); what a run may have on its way in `specs/WorkLists.antt` there.
+#![tactic(auto)]
+
+mod bases;
+mod generators;
+mod homogeneity;
+mod laws;
+mod leading;
+mod pairs;
+mod queue;
+mod runs;
+
+pub use bases::{BasisError, basis};
+pub use homogeneity::{NotHomogeneous, homogeneous};
+pub use laws::orders_that_suit;
+
+#[cfg(test)]
+mod tests;

@@ -1,0 +1,245 @@
+//! A run of Buchberger's algorithm: its members, and the pairs that it settles.
+
+ghost use Rattle.std.specs.Prelude.{◌≡◌, ◌≢◌, ◌+◌, ◌<◌, ◌≤◌, ◌^◌, ℕ, [], length, IfOk, IfErr, OnOk, OnErr, IsTrue};
+ghost use Rattle.gf_exponents.specs.Exponents.{AreCoprime};
+ghost use Rattle.gf_poly.specs.Polynomial.{IsDescending};
+ghost use Rattle.gf_buchberger.specs.Runs.{HaveVariables, AreReducers, IsMultipleAt, IsReducedPair, IsWorkedOff, IsPairRefusal, HaveSomeVariables, state_of, State, IsState, PairsPushed, IsAppended, SharesVariables, IsMonicRefusal, Counts, IsChain, IsExcused, IsSettledBy, IsSomeRun, IsWorkedThrough, IsStop};
+
+use crate::leading::leading;
+use crate::pairs::PairTable;
+use crate::queue::{Queue, Waiting};
+use gf_division::{reduced, s_poly};
+use gf_order::Order;
+use gf_poly::{Marked, Mono, Poly, PolyError};
+use std::alloc::{AllocError, Global};
+
+/// The members so far, the marks of their pairs, and the pairs that wait.
+#[derive(Drop)]
+pub struct Run {
+    pub members: Vec<Marked>,
+    pub table: PairTable,
+    pub queue: Queue,
+}
+
+/// Why not all pairs are settled.
+#[derive(Drop)]
+pub enum Stop {
+    /// The budget is spent: the run as it stands, one of whose pairs was taken out.
+    Spent(Run),
+    /// An operation was refused.
+    Refused(PolyError),
+}
+
+// Whether no variable occurs in both.
+fn are_coprime(x: &Mono, y: &Mono) -> bool
+    requires { length x.now ≡ length y.now }
+    ensures { IsTrue result → AreCoprime x.now y.now }
+{
+    let (x, y) = (x.exponents(), y.exponents());
+    'variables: for i in 0..x.len() {
+        if x[i].min(y[i]) != 0 {
+            return false;
+        }
+    }
+    true
+}
+
+// Adds the pairs of these members with a new one, whose mark is `head`.
+fn push_pairs(
+    queue: &mut Queue,
+    members: &[Marked],
+    head: &Mono,
+    second: u32,
+) -> Result<(), AllocError>
+    requires room { length members.now < 2 ^ 32 }
+    requires variables { HaveVariables (length head.now) members.now }
+    ensures { OnOk result (PairsPushed queue.old queue.new (length members.now) second) }
+{
+    'members: for i in 0..members.len() {
+        let degree = members[i].head().lcm(head).degree();
+        queue.push(Waiting {
+            degree,
+            second,
+            first: i as u32,
+        })?;
+    }
+    Ok(())
+}
+
+impl Run {
+    /// The run that has no members yet.
+    pub fn new(alloc: Global) -> Run
+        ensures members { result.members.items ≡ [] }
+        ensures table { result.table ≡ record { members = 0; marks = [] } }
+        ensures queue { result.queue ≡ [] }
+    {
+        Run {
+            members: Vec::new(alloc),
+            table: PairTable::new(alloc),
+            queue: Queue::new(alloc),
+        }
+    }
+
+    /// Adds the monic form of `r` as a member, marked at its greatest monomial; its pairs wait.
+    ///
+    /// # Errors
+    ///
+    /// `Overflow` only where the quotient of a coefficient of `r` by that of its greatest monomial doesn't fit; it holds
+    /// the two.
+    pub fn append(&mut self, order: &Order, r: Poly) -> Result<(), PolyError>
+        requires some { r ≢ [] }
+        requires state { IsState (state_of self.old) }
+        requires variables { SharesVariables order.now r self.old.members.items }
+        ensures ok { OnOk result (IsAppended order.now r (state_of self.old) (state_of self.new)) }
+        ensures cause { IfErr result (IsMonicRefusal order.now r) }
+    {
+        let second = self.table.members();
+        if second == u32::MAX {
+            return Err(PolyError::Memory);
+        }
+        let at = leading(order, r.terms());
+        let member = Marked::mark(r, at).monic()?;
+        push_pairs(&mut self.queue, &self.members, member.head(), second)?;
+        self.table.add_member()?;
+        self.members.push(member)?;
+        Ok(())
+    }
+
+    // Whether the pair of the members at p and q counts as settled.
+    fn counts(&self, p: u32, q: u32) -> bool
+        requires state { IsState (state_of self.now) }
+        requires first { p < length self.now.members.items }
+        requires second { q < length self.now.members.items }
+        requires other { p ≢ q }
+        requires variables { HaveSomeVariables self.now.members.items }
+        ensures { IsTrue result → Counts (state_of self.now) p q }
+    {
+        let (lower, upper) = if p < q { (p, q) } else { (q, p) };
+        self.table.is_settled(lower, upper)
+            || are_coprime(
+                self.members[p as usize].head(),
+                self.members[q as usize].head(),
+            )
+    }
+
+    // Whether the mark of the member at k divides the least common multiple of the marks at i and j, and its pairs with
+    // both count as settled.
+    fn is_chain(&self, multiple: &Mono, i: u32, j: u32, k: u32) -> bool
+        requires state { IsState (state_of self.now) }
+        requires first { i < length self.now.members.items }
+        requires second { j < length self.now.members.items }
+        requires third { k < length self.now.members.items }
+        requires variables { HaveSomeVariables self.now.members.items }
+        requires multiple { IsMultipleAt (state_of self.now) i j multiple.now }
+        ensures { IsTrue result → IsChain (state_of self.now) i j k }
+    {
+        if k == i || k == j {
+            return false;
+        }
+        if !self.members[k as usize].head().divides(multiple) {
+            return false;
+        }
+        self.counts(i, k) && self.counts(k, j)
+    }
+
+    // Whether the pair of i and j needs no reduction.
+    fn is_excused(&self, i: u32, j: u32) -> bool
+        requires state { IsState (state_of self.now) }
+        requires first { i < length self.now.members.items }
+        requires second { j < length self.now.members.items }
+        requires variables { HaveSomeVariables self.now.members.items }
+        ensures { IsTrue result → IsExcused (state_of self.now) i j }
+    {
+        let (b, c) = (
+            self.members[i as usize].head(),
+            self.members[j as usize].head(),
+        );
+        if are_coprime(b, c) {
+            return true;
+        }
+        let multiple = b.lcm(c);
+        'members: for k in 0..self.table.members() {
+            if self.is_chain(&multiple, i, j, k) {
+                return true;
+            }
+        }
+        false
+    }
+
+    // Reduces the S-polynomial of the members at i and j; what is left is a new member.
+    fn reduce_pair(&mut self, alloc: Global, order: &Order, i: u32, j: u32) -> Result<(), PolyError>
+        requires state { IsState (state_of self.old) }
+        requires first { i < length self.old.members.items }
+        requires second { j < length self.old.members.items }
+        requires reducers { AreReducers order.now self.old.members.items }
+        ensures ok { OnOk result (IsReducedPair order.now (state_of self.old) (state_of self.new) i j) }
+        ensures cause { IfErr result (IsPairRefusal order.now (state_of self.old) i j) }
+    {
+        let s = s_poly(alloc, &self.members[i as usize], &self.members[j as usize])?;
+        let r = reduced(alloc, s, &self.members)?;
+        if r.is_zero() {
+            return Ok(());
+        }
+        self.append(order, r)
+    }
+
+    // Reduces the pair of i and j, unless it needs no reduction.
+    fn work_off(&mut self, alloc: Global, order: &Order, i: u32, j: u32) -> Result<(), PolyError>
+        requires state { IsState (state_of self.old) }
+        requires first { i < length self.old.members.items }
+        requires second { j < length self.old.members.items }
+        requires reducers { AreReducers order.now self.old.members.items }
+        ensures ok { OnOk result (IsWorkedOff order.now (state_of self.old) (state_of self.new) i j) }
+        ensures cause { IfErr result (IsPairRefusal order.now (state_of self.old) i j) }
+    {
+        if self.is_excused(i, j) {
+            return Ok(());
+        }
+        self.reduce_pair(alloc, order, i, j)
+    }
+
+    // Works the pair of i and j off, and marks it as settled.
+    fn settle(&mut self, alloc: Global, order: &Order, i: u32, j: u32) -> Result<(), PolyError>
+        requires state { IsState (state_of self.old) }
+        requires pair { i < j }
+        requires second { j < length self.old.members.items }
+        requires reducers { AreReducers order.now self.old.members.items }
+        ensures ok { OnOk result (IsSettledBy order.now (state_of self.old) (state_of self.new) i j) }
+        ensures cause { IfErr result (IsPairRefusal order.now (state_of self.old) i j) }
+    {
+        self.work_off(alloc, order, i, j)?;
+        self.table.settle(i, j);
+        Ok(())
+    }
+}
+
+/// Settles the pairs that wait, those of least degree first, and at most `budget` of them.
+///
+/// The order is good on the generators of the run.
+///
+/// # Errors
+///
+/// `Spent` exactly where one more would have to be settled; `Refused` only at an operation of a pair whose operands
+/// don't fit, or for want of memory.
+pub fn settle_all(alloc: Global, start: Run, order: &Order, budget: u64) -> Result<Run, Stop>
+    requires { IsSomeRun order.now (state_of start) }
+    ensures done { IfOk result (λ run. IsWorkedThrough order.now budget (state_of start) (state_of run)) }
+    ensures stop { IfErr result (IsStop order.now budget (state_of start)) }
+{
+    let mut run = start;
+    let mut done = 0;
+    'pairs: while let Some(pair) = run.queue.pop() {
+        let (i, j) = (pair.first, pair.second);
+        if run.table.is_settled(i, j) {
+            continue;
+        }
+        if done == budget {
+            return Err(Stop::Spent(run));
+        }
+        if let Err(refusal) = run.settle(alloc, order, i, j) {
+            return Err(Stop::Refused(refusal));
+        }
+        done += 1;
+    }
+    Ok(run)
+}
