@@ -1,6 +1,8 @@
 -- From what the reader, the algorithm and the printer promise to what is answered.
 use Rattle.std.specs.Prelude.{◌≡◌, ℕ, zero, suc, ◌+◌, ◌<◌, List, [], ◌∷◌, ◌++◌, length, take, slice_index_or}
 use Rattle.std.proofs.Common.{arith, refl, sym, ap, ◌∙◌, subst, inl, inr}
+use Rattle.gf_exponents.specs.SixOrders.{MonomialOrder}
+use Rattle.gf_order.specs.Comparisons.{HasEntries}
 use Rattle.gf_poly.specs.Polynomial.{Terms, HasVariables}
 use Rattle.gf_poly.specs.Marking.{MarkedPolynomials, Each}
 use Rattle.gf_text.specs.declared.error.Syntax.{Syntax}
@@ -12,12 +14,13 @@ use Rattle.gf_text.specs.Tokens.{Position, rest, IsBlank, IsMore}
 use Rattle.gf_text.specs.Rings.{IsRingRead, IsRingCause, HasNoRing, HasTooMany}
 use Rattle.gf_text.specs.Sets.{IsSetRead, IsSetCause, AreIn, HasNoSet, HasSumOverflow, HasExponentOverflow}
 use Rattle.gf_ideal.proofs.ListLaws.{contained_each}
-use Rattle.gfan_main.specs.declared.buchberger.bases.BasisError.{BasisError}
-use Rattle.gfan_main.specs.declared.buchberger.bases.BasisError.TheVariants as basis_errors
-use Rattle.gfan_main.specs.declared.refusal.Refusal.TheVariants as refusals
+use Rattle.gf_buchberger.specs.declared.bases.BasisError.{BasisError}
+use Rattle.gf_buchberger.specs.declared.bases.BasisError.TheVariants as basis_errors
+use Rattle.gf_buchberger.specs.Bases.{IsArrangedBasis, IsBasisRefusal}
+use Rattle.gf_buchberger.specs.Jobs.{AreInRing, IsSuited}
+use Rattle.gf_buchberger.proofs.JobLaws.{orders_that_suit}
+use Rattle.gf_front.specs.declared.refusal.Refusal.TheVariants as refusals
 use Rattle.gfan_main.specs.Answers.{nonzero, BeginsWithRing, IsRead, IsPrinted, IsAnswer, SetFails, HasFault, BasisFails, of_text, of_basis, IsAnswerRefusal}
-use Rattle.gfan_main.specs.Bases.{IsLexBasis, IsBasisRefusal}
-use Rattle.gfan_main.specs.Generators.{AreInRing}
 
 -- ---- polynomials that aren't zero
 
@@ -46,6 +49,13 @@ each_in n (written.Nonzero m ∷ ws) h = (h.0, each_in n ws h.1)
 pub in_ring : (n : ℕ) (ws : List Written) (fs : List Terms) → AreIn n ws → fs ≡ nonzero ws → AreInRing n fs
 in_ring n ws fs h e = subst (AreInRing n) (sym e) (record { each = λ f c. contained_each (HasVariables n) (nonzero ws) (each_in n ws h) f c })
 
+-- lex is good on them
+pub lex_entries : (n : ℕ) (order : MonomialOrder) → order ≡ MonomialOrder.lex → HasEntries n order
+lex_entries n order e = subst (λ (o : MonomialOrder). HasEntries n o) (sym e) tt
+
+pub lex_suits : (n : ℕ) (order : MonomialOrder) (fs : List Terms) → order ≡ MonomialOrder.lex → AreInRing n fs → IsSuited order n fs
+lex_suits n order fs e v = subst (λ (o : MonomialOrder). IsSuited o n fs) (sym e) (orders_that_suit.lex n fs v)
+
 -- ---- what is read
 
 -- a reader stands behind the ring of its source
@@ -56,7 +66,7 @@ pub record IsBehindRing (source : List ℕ) (ring : List (List ℕ)) (p : Positi
 pub behind_ring : (source : List ℕ) (ring : List (List ℕ)) (p q : Position) → p ≡ record { source = source; at = 0 } → q.source ≡ p.source → IsRingRead p q.at ring → IsBehindRing source ring q
 behind_ring source ring p q e s r = record { source_is = s ∙ ap (λ (z : Position). z.source) e; text = subst (λ (z : Position). IsRingRead z q.at ring) e r }
 
-at_source : (source : List ℕ) (p : Position) → p.source ≡ source → p ≡ record { source = source; at = p.at }
+pub at_source : (source : List ℕ) (p : Position) → p.source ≡ source → p ≡ record { source = source; at = p.at }
 at_source source p e = ap (λ (s : List ℕ). let q : Position = record { source = s; at = p.at } in q) e
 
 pub is_read : (source : List ℕ) (ring : List (List ℕ)) (set : List Written) (p q : Position) → IsBehindRing source ring p → IsSetRead ring p q.at set → q.source ≡ p.source → IsBlank (rest q) → IsRead source ring set
@@ -81,7 +91,7 @@ ring_refused pairs source p (text_errors.ZeroPolynomial set index) q h = absurd 
 ring_refused pairs source p text_errors.Memory q h = tt
 
 -- the set behind a ring is refused
-set_fails : (source : List ℕ) (ring : List (List ℕ)) (p : Position) (fails : List (List ℕ) → Position → Type 0) → IsBehindRing source ring p → fails ring p → SetFails source fails
+pub set_fails : (source : List ℕ) (ring : List (List ℕ)) (p : Position) (fails : List (List ℕ) → Position → Type 0) → IsBehindRing source ring p → fails ring p → SetFails source fails
 set_fails source ring p fails b h = record { ring = ring; at = p.at; ring_text = b.text; set_fails = subst (fails ring) (at_source source p b.source_is) h }
 
 pub set_refused : (pairs : ℕ) (source : List ℕ) (ring : List (List ℕ)) (p : Position) (e : TextError) → IsBehindRing source ring p → IsSetCause ring p e → IsAnswerRefusal pairs source (of_text e)
@@ -97,13 +107,13 @@ set_refused pairs source ring p text_errors.Memory b h = tt
 pub end_refused : (pairs : ℕ) (source : List ℕ) (ring : List (List ℕ)) (set : List Written) (p q : Position) (s : Syntax) → IsBehindRing source ring p → IsSetRead ring p q.at set → q.source ≡ p.source → IsMore q s → IsAnswerRefusal pairs source (refusals.Syntax s)
 end_refused pairs source ring set p q s b r e h = HasFault.more ring set p.at q.at b.text (subst (λ (z : Position). IsSetRead ring z q.at set) (at_source source p b.source_is) r) (subst (λ (z : Position). IsMore z s) (at_source source q (e ∙ b.source_is)) h)
 
-pub basis_refused : (pairs : ℕ) (source : List ℕ) (ring : List (List ℕ)) (set : List Written) (fs : List Terms) (n : ℕ) (e : BasisError) → IsRead source ring set → n ≡ length ring → fs ≡ nonzero set → IsBasisRefusal n fs pairs e → IsAnswerRefusal pairs source (of_basis e)
-basis_refused pairs source ring set fs n e r en ef h = at e (subst (λ (k : ℕ). IsBasisRefusal k (nonzero set) pairs e) en (subst (λ (gs : List Terms). IsBasisRefusal n gs pairs e) ef h))
+pub basis_refused : (pairs : ℕ) (source : List ℕ) (ring : List (List ℕ)) (set : List Written) (order : MonomialOrder) (fs : List Terms) (n : ℕ) (e : BasisError) → IsRead source ring set → order ≡ MonomialOrder.lex → n ≡ length ring → fs ≡ nonzero set → IsBasisRefusal order n fs pairs e → IsAnswerRefusal pairs source (of_basis e)
+basis_refused pairs source ring set order fs n e r eo en ef h = at e (subst (λ (o : MonomialOrder). IsBasisRefusal o (length ring) (nonzero set) pairs e) eo (subst (λ (k : ℕ). IsBasisRefusal order k (nonzero set) pairs e) en (subst (λ (gs : List Terms). IsBasisRefusal order n gs pairs e) ef h)))
   where
-    fails : (e : BasisError) → IsBasisRefusal (length ring) (nonzero set) pairs e → BasisFails pairs source e
+    fails : (e : BasisError) → IsBasisRefusal MonomialOrder.lex (length ring) (nonzero set) pairs e → BasisFails pairs source e
     fails e h = record { ring = ring; set = set; read = r; fails = h }
 
-    at : (e : BasisError) → IsBasisRefusal (length ring) (nonzero set) pairs e → IsAnswerRefusal pairs source (of_basis e)
+    at : (e : BasisError) → IsBasisRefusal MonomialOrder.lex (length ring) (nonzero set) pairs e → IsAnswerRefusal pairs source (of_basis e)
     at (basis_errors.Overflow o) h = inr (fails (basis_errors.Overflow o) h)
     at (basis_errors.Exponent o) h = inr (fails (basis_errors.Exponent o) h)
     at (basis_errors.PairBudget b u) h = fails (basis_errors.PairBudget b u) h
@@ -111,5 +121,5 @@ basis_refused pairs source ring set fs n e r en ef h = at e (subst (λ (k : ℕ)
 
 -- ---- the answer
 
-pub answered : (source text : List ℕ) (ring : List (List ℕ)) (set : List Written) (fs : List Terms) (n : ℕ) (b : MarkedPolynomials) → IsRead source ring set → n ≡ length ring → fs ≡ nonzero set → IsLexBasis n fs b → IsPrinted ring b text → IsAnswer source text
-answered source text ring set fs n b r en ef h p = record { ring = ring; set = set; read = r; basis = b; is_basis = subst (λ (k : ℕ). IsLexBasis k (nonzero set) b) en (subst (λ (gs : List Terms). IsLexBasis n gs b) ef h); is_text = p }
+pub answered : (source text : List ℕ) (ring : List (List ℕ)) (set : List Written) (order : MonomialOrder) (fs : List Terms) (n : ℕ) (b : MarkedPolynomials) → IsRead source ring set → order ≡ MonomialOrder.lex → n ≡ length ring → fs ≡ nonzero set → IsArrangedBasis order n fs b → IsPrinted ring b text → IsAnswer source text
+answered source text ring set order fs n b r eo en ef h p = record { ring = ring; set = set; read = r; basis = b; is_basis = subst (λ (o : MonomialOrder). IsArrangedBasis o (length ring) (nonzero set) b) eo (subst (λ (k : ℕ). IsArrangedBasis order k (nonzero set) b) en (subst (λ (gs : List Terms). IsArrangedBasis order n gs b) ef h)); is_text = p }

@@ -1,5 +1,6 @@
 -- What `_buchberger` reads and writes, and why it doesn't.
 use Rattle.std.specs.Prelude.{◌≡◌, ◌⊎◌, ℕ, List, [], ◌∷◌, ◌++◌, length}
+use Rattle.gf_exponents.specs.SixOrders.{MonomialOrder}
 use Rattle.gf_poly.specs.Polynomial.{Terms}
 use Rattle.gf_poly.specs.Marking.{MarkedPolynomials}
 use Rattle.gf_text.specs.declared.error.TextError.{TextError}
@@ -12,11 +13,11 @@ use Rattle.gf_text.specs.RingText.{ring_text}
 use Rattle.gf_text.specs.Rings.{IsRingRead, HasNoRing, HasTooMany}
 use Rattle.gf_text.specs.Sets.{IsSetRead, HasNoSet, HasSumOverflow, HasExponentOverflow}
 use Rattle.gf_text.specs.PrintedSets.{basis_text}
-use Rattle.gfan_main.specs.declared.buchberger.bases.BasisError.{BasisError}
-use Rattle.gfan_main.specs.declared.buchberger.bases.BasisError.TheVariants as basis_errors
-use Rattle.gfan_main.specs.declared.refusal.Refusal.{Refusal}
-use Rattle.gfan_main.specs.declared.refusal.Refusal.TheVariants as refusals
-use Rattle.gfan_main.specs.Bases.{IsLexBasis, IsBasisRefusal}
+use Rattle.gf_buchberger.specs.declared.bases.BasisError.{BasisError}
+use Rattle.gf_buchberger.specs.declared.bases.BasisError.TheVariants as basis_errors
+use Rattle.gf_buchberger.specs.Bases.{IsArrangedBasis, IsBasisRefusal}
+use Rattle.gf_front.specs.declared.refusal.Refusal.{Refusal}
+use Rattle.gf_front.specs.declared.refusal.Refusal.TheVariants as refusals
 
 -- ---- what is read
 
@@ -50,7 +51,7 @@ pub record IsAnswer (source text : List ℕ) : Type 0 where
   pub set : List Written
   pub read : IsRead source ring set
   pub basis : MarkedPolynomials
-  pub is_basis : IsLexBasis (length ring) (nonzero set) basis
+  pub is_basis : IsArrangedBasis MonomialOrder.lex (length ring) (nonzero set) basis
   pub is_text : IsPrinted ring basis text
 
 -- ---- refusals
@@ -74,12 +75,12 @@ pub record BasisFails (pairs : ℕ) (source : List ℕ) (e : BasisError) : Type 
   pub ring : List (List ℕ)
   pub set : List Written
   pub read : IsRead source ring set
-  pub fails : IsBasisRefusal (length ring) (nonzero set) pairs e
+  pub fails : IsBasisRefusal MonomialOrder.lex (length ring) (nonzero set) pairs e
 
 -- a refusal of a text, and of a basis, as one of the run
 abbrev pub of_text : TextError → Refusal
 of_text (text_errors.Overflow o) = refusals.Overflow o
-of_text (text_errors.Exponent o) = refusals.Exponent o
+of_text (text_errors.Exponent o) = refusals.ExponentOverflow o
 of_text (text_errors.Syntax s) = refusals.Syntax s
 of_text (text_errors.TooWide at) = refusals.TooWide at
 of_text (text_errors.UnknownName at) = refusals.UnknownName at
@@ -89,22 +90,18 @@ of_text text_errors.Memory = refusals.Memory
 
 abbrev pub of_basis : BasisError → Refusal
 of_basis (basis_errors.Overflow o) = refusals.Overflow o
-of_basis (basis_errors.Exponent o) = refusals.Exponent o
+of_basis (basis_errors.Exponent o) = refusals.ExponentOverflow o
 of_basis (basis_errors.PairBudget basis unsettled) = refusals.PairBudget basis unsettled
 of_basis basis_errors.Memory = refusals.Memory
 
 -- why there is no answer, where so many pairs are settled at most
 abbrev pub IsAnswerRefusal : ℕ → List ℕ → Refusal → Type 0
-IsAnswerRefusal pairs source refusals.Usage = ⊥
-IsAnswerRefusal pairs source refusals.ReadFault = ⊥
-IsAnswerRefusal pairs source refusals.InputTooLong = ⊥
-IsAnswerRefusal pairs source refusals.WriteFault = ⊥
+IsAnswerRefusal pairs source (refusals.Overflow o) = SetFails source (λ ring p. HasSumOverflow ring p o) ⊎ BasisFails pairs source (basis_errors.Overflow o)
+IsAnswerRefusal pairs source (refusals.ExponentOverflow o) = SetFails source (λ ring p. HasExponentOverflow ring p o) ⊎ BasisFails pairs source (basis_errors.Exponent o)
 IsAnswerRefusal pairs source (refusals.Syntax s) = HasFault source s
 IsAnswerRefusal pairs source (refusals.TooWide at) = SetFails source (λ ring p. HasNoSet ring p (text_errors.TooWide at))
 IsAnswerRefusal pairs source (refusals.UnknownName at) = SetFails source (λ ring p. HasNoSet ring p (text_errors.UnknownName at))
 IsAnswerRefusal pairs source (refusals.TooManyVariables count) = HasTooMany (record { source = source; at = 0 }) count
-IsAnswerRefusal pairs source (refusals.ZeroPolynomial set index) = ⊥
-IsAnswerRefusal pairs source (refusals.Overflow o) = SetFails source (λ ring p. HasSumOverflow ring p o) ⊎ BasisFails pairs source (basis_errors.Overflow o)
-IsAnswerRefusal pairs source (refusals.Exponent o) = SetFails source (λ ring p. HasExponentOverflow ring p o) ⊎ BasisFails pairs source (basis_errors.Exponent o)
 IsAnswerRefusal pairs source (refusals.PairBudget basis unsettled) = BasisFails pairs source (basis_errors.PairBudget basis unsettled)
 IsAnswerRefusal pairs source refusals.Memory = Unit {0}
+IsAnswerRefusal pairs source _ = ⊥

@@ -1,10 +1,7 @@
-pub mod Pairs  -- the marks of pairs
-pub mod Leading  -- the lex greatest term
-pub mod Division  -- places of steps, what division leaves
-pub mod SPolynomials  -- two members and their S-polynomial
-pub mod Runs  -- where Buchberger's algorithm stands
-pub mod Generators  -- generators that enter a run
-pub mod Bases  -- what the algorithm answers
-pub mod Interreduction  -- what a run ends with
-pub mod Answers  -- what is read and written
+pub mod Answers  -- what `_buchberger` reads and writes
+pub mod MarkingRows  -- the system of a marking
+pub mod MarkedBases  -- when a marked set is a basis, and why it isn't tested
+pub mod MarkedAnswers  -- what `_ismarkedgroebnerbasis` reads and writes
+pub mod Refused  -- a refusal with the ring in whose names it is told
+pub mod Commands  -- what the program does for each job
 pub mod Run  -- the top call

@@ -2,9 +2,11 @@
 ghost use Rattle.std.specs.Prelude.{◌≡◌, ◌++◌, ◌∷◌, [], length, IfOk, IfErr};
 ghost use Rattle.gf_text.specs.Sets.{AreIn};
 ghost use Rattle.gfan_main.specs.Answers.{IsAnswer, IsAnswerRefusal, IsPrinted, nonzero};
+ghost use Rattle.gfan_main.specs.Refused.{IsOfSource};
 
-use crate::buchberger::bases::basis;
-use crate::refusal::Refusal;
+use crate::refused::Refused;
+use gf_buchberger::basis;
+use gf_order::Order;
 use gf_poly::{MarkedSet, Poly};
 use gf_text::{Printer, Reader, Ring, Written};
 use std::alloc::{AllocError, Global};
@@ -53,19 +55,21 @@ fn printed(alloc: Global, ring: &Ring, basis: &MarkedSet) -> Result<Vec<u8>, All
 ///
 /// - `Syntax`, `TooWide`, `UnknownName` and `TooManyVariables` exactly where the source isn't the text of a ring and of a
 ///   set in it, at the first token after which no such text goes on.
-/// - `Overflow` and `Exponent` only at a sum of the text, or at an operation that a run of Buchberger's algorithm on the
+/// - `Overflow` and `ExponentOverflow` only at a sum of the text, or at an operation that a run of Buchberger's algorithm on the
 ///   set may have, and whose operands don't fit.
 /// - `PairBudget` only where more than `pairs` pairs would have to be settled.
-pub fn answer(alloc: Global, source: &[u8], pairs: u64) -> Result<Vec<u8>, Refusal>
+pub fn answer(alloc: Global, source: &[u8], pairs: u64) -> Result<Vec<u8>, Refused>
     ensures ok { IfOk result (λ text. IsAnswer source.now text.items) }
-    ensures err { IfErr result (IsAnswerRefusal pairs source.now) }
+    ensures err { IfErr result (λ e. IsAnswerRefusal pairs source.now e.refusal) }
+    ensures told { IfErr result (IsOfSource source.now) }
 {
     let mut reader = Reader::new(source);
     let ring = reader.read_ring(alloc)?;
     let set = reader.read_set(alloc, &ring)?;
     reader.end()?;
     let generators = polynomials(alloc, &set)?;
-    let found = basis(alloc, ring.len(), &generators, pairs)?;
+    let order = Order::lex();
+    let found = basis(alloc, ring.len(), &generators, &order, pairs)?;
     let text = printed(alloc, &ring, &found)?;
     Ok(text)
 }

@@ -1,37 +1,54 @@
 // Gröbner fans over the rational numbers: the program.
 //
-// `_buchberger` reads a ring and a set, and writes the reduced Gröbner basis by lex. What a run does is
-// told at `run`, its answer in `specs/Answers.antt`.
+// `_buchberger` reads a ring and a set, and writes the reduced Gröbner basis by lex; `_ismarkedgroebnerbasis` reads a ring
+// and a marked set, and writes whether it is a Gröbner basis for its marking. What a run does is told at `run`, what each
+// command writes in `specs/Commands.antt`.
 #![tactic(auto)]
 
 mod answer;
-mod buchberger;
-mod division;
-mod order;
-mod refusal;
+mod commands;
+mod marked_answer;
+mod marked_basis;
+mod refused;
 mod run;
 #[cfg(test)]
 mod tests;
 
+use crate::refused::Refused;
 use crate::run::run;
+use gf_front::{Status, WordsError};
 use gf_outside::{StdSink, StdSource};
 use std::env;
 use std::io::ErrorKind;
 use std::process::ExitCode;
 
-fn main(rt: HostRuntime) -> ExitCode {
-    let args = match env::args(&rt) {
+/// The words after the program's name. Words that are no text are Usage.
+fn given(rt: &HostRuntime) -> Result<Vec<String>, WordsError> {
+    let args = match env::args(rt) {
         Ok(args) => args,
         Err(error) => {
-            let no_memory = error.kind() == ErrorKind::OutOfMemory;
-            return ExitCode::from(if no_memory { 7 } else { 2 });
+            return Err(match error.kind() {
+                ErrorKind::OutOfMemory => WordsError::Memory,
+                _ => WordsError::Usage,
+            });
         }
     };
-    let Ok(words) = args.skip(1).collect::<Vec<String>>(rt.alloc()) else {
-        return ExitCode::from(7);
+    Ok(args.skip(1).collect::<Vec<String>>(rt.alloc())?)
+}
+
+fn main(rt: HostRuntime) -> ExitCode {
+    let mut faults = StdSink::new(rt.stderr());
+    let status = match given(&rt) {
+        Ok(words) => {
+            let mut input = StdSource::new(rt.stdin());
+            let mut output = StdSink::new(rt.stdout());
+            run(rt.alloc(), &words, &mut input, &mut output, &mut faults)
+        }
+        Err(error) => {
+            let refused = Refused::from(error);
+            refused.tell(&mut faults);
+            Status::Refused(refused.refusal)
+        }
     };
-    let mut input = StdSource::new(rt.stdin());
-    let mut output = StdSink::new(rt.stdout());
-    let status = run(rt.alloc(), &words, &mut input, &mut output);
     ExitCode::from(status.code())
 }

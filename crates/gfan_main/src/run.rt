@@ -1,60 +1,114 @@
 // The top call.
 //
-// It gives the outside the answer or nothing; what it read and wrote is told by the source and the sink.
-ghost use Rattle.std.specs.Prelude.{◌≡◌, map, string_bytes, true, false};
+// It gives the outside the answer or nothing; what it read and wrote is told by the source and the sinks.
+ghost use Rattle.std.specs.Prelude.{◌≡◌, ◌⊎◌, map, string_bytes, IfOk, IfErr, OnOk, IsErrOf, MatchResult};
 ghost use Rattle.std.specs.Io.KnownBytes.{Keeps};
 ghost use Rattle.gf_outside.specs.Faults.{Rose};
 ghost use Rattle.gf_outside.specs.Moved.{TookExactly};
-ghost use Rattle.gfan_main.specs.Run.{IsCommand, IsOfInput, Answered, AnsweredInPart, InputRefused};
+ghost use Rattle.gfan_main.specs.Commands.{Asks, AsksNothing};
+ghost use Rattle.gfan_main.specs.Run.{ReadWhole, IsReadingCause, Answered, AnsweredInPart, InputRefused, IsOfText, IsOfForm, IsOverflow, IsExponentOverflow, IsConeOverflow, IsPairBudget, IsCause, IsOfInput, IsTold};
 
-use crate::answer::answer;
-use crate::refusal::{Refusal, Status};
+use crate::commands::{answered, is_there};
+use crate::refused::Refused;
+use gf_front::{Job, Refusal, Status, WordsError, words};
 use gf_outside::{InputError, Sink, Source, WriteFault, read_all, write_all};
 use std::alloc::Global;
 
-/// How many pairs are settled at most.
-pub const PAIRS: u64 = 100_000_000;
-
-/// Whether the words are the command.
-fn is_command(words: &[String]) -> bool
-    ensures ok { result ≡ true → IsCommand (map string_bytes words.now) }
-    ensures not { result ≡ false → IsCommand (map string_bytes words.now) → ⊥ }
+/// The job that the words ask for, where the program does it.
+fn asked(alloc: Global, all: &[String]) -> Result<Job, WordsError>
+    ensures job { IfOk result (Asks (map string_bytes all.now)) }
+    ensures usage { IsErrOf result WordsError.Usage → AsksNothing (map string_bytes all.now) }
 {
-    match words {
-        [word] => word.as_str() == "_buchberger",
-        _ => false,
+    let job = words(alloc, all)?;
+    if is_there(&job) {
+        Ok(job)
+    } else {
+        Err(WordsError::Usage)
     }
 }
 
-/// Reads a ring and a set, and writes the ring in a line and the reduced Gröbner basis by lex.
-///
-/// The one command is the word `_buchberger`.
-///
-/// # Errors
-///
-/// - `Usage` exactly where the words are no command; nothing is read then.
-/// - `ReadFault` only where a read of this call failed, `InputTooLong` where one byte more than
-///   67,108,864 was taken.
-/// - `Syntax`, `TooWide`, `UnknownName`, `TooManyVariables`, `Overflow`, `Exponent` and `PairBudget` for what the whole
-///   input says.
-/// - `WriteFault` only where a write of this call failed, or took nothing; a prefix of the answer may be
-///   written then. No other refusal writes anything.
-/// - `Memory` at any growth.
-pub fn run<S: Source, K: Sink>(
+/// All bytes of the input.
+fn read<S: Source>(alloc: Global, input: &mut S) -> Result<Vec<u8>, Refusal>
+    ensures whole { IfOk result (λ source. ReadWhole (S.left input.old) (S.left input.new)
+        (S.given input.old) (S.given input.new) source.items) }
+    ensures cause { IfErr result (IsReadingCause (S.left input.old) (S.left input.new)
+        (S.given input.old) (S.given input.new) (S.faults input.old) (S.faults input.new)) }
+{
+    match read_all(alloc, input) {
+        Ok(source) => Ok(source),
+        Err(InputError::ReadFault) => Err(Refusal::ReadFault),
+        Err(InputError::InputTooLong) => Err(Refusal::InputTooLong),
+        Err(InputError::OpenFault) => unreachable!(),
+        Err(InputError::Memory) => Err(Refusal::Memory),
+    }
+}
+
+/// The words, the input and the output, without the line of a refusal.
+fn outcome<S: Source, K: Sink>(
     alloc: Global,
     words: &[String],
     input: &mut S,
     output: &mut K,
-) -> Status
-    // Done: the words are the command, all of the input was read, and all of its answer written.
-    ensures command { result ≡ Status.Done → IsCommand (map string_bytes words.now) }
-    ensures done { result ≡ Status.Done → Answered (S.left input.old) (S.left input.new)
-        (S.given input.old) (S.given input.new) (K.held output.old) (K.held output.new) }
+) -> Result<(), Refused>
+    ensures done { OnOk result (Answered (map string_bytes words.now) (S.left input.old)
+        (S.left input.new) (S.given input.old) (S.given input.new) (K.held output.old)
+        (K.held output.new)) }
+    ensures cause { IfErr result (λ e. IsCause (map string_bytes words.now) (S.left input.old)
+        (S.left input.new) (S.given input.old) (S.given input.new) (K.held output.old)
+        (K.held output.new) (S.faults input.old) (S.faults input.new) (K.faults output.old)
+        (K.faults output.new) e.refusal) }
+    ensures told { IfErr result (IsOfInput (S.left input.old) (S.left input.new) (S.given input.old)
+        (S.given input.new)) }
+    ensures usage_always { AsksNothing (map string_bytes words.now) → MatchResult result (λ _. ⊥)
+        (λ e. (e.refusal ≡ Refusal.Usage) ⊎ (e.refusal ≡ Refusal.Memory)) }
+    ensures unread { IfErr result (λ e. e.refusal ≡ Refusal.Usage → input.new ≡ input.old) }
+    ensures quiet { IfErr result (λ e. (e.refusal ≡ Refusal.WriteFault → ⊥)
+        → Keeps (K.held output.old) (K.held output.new)) }
+{
+    let job = asked(alloc, words)?;
+    let source = read(alloc, input)?;
+    let text = answered(alloc, &job, &source)?;
+    match write_all(output, &text) {
+        Ok(()) => Ok(()),
+        Err(WriteFault) => Err(Refused::from(Refusal::WriteFault)),
+    }
+}
 
-    // Usage exactly where the words are no command, and nothing is read then.
-    ensures usage { result ≡ Status.Refused Refusal.Usage → IsCommand (map string_bytes words.now) → ⊥ }
-    ensures usage_always { (IsCommand (map string_bytes words.now) → ⊥)
-        → result ≡ Status.Refused Refusal.Usage }
+/// Does what the words ask for, and tells a refusal in one line.
+///
+/// The words are those after the program's name. The job is that of `gf_front::words`; what it reads and writes is told
+/// at its own function. The whole answer is one piece of the output, and nothing else is written there. On Done nothing
+/// is written to `faults`. Whether `faults` takes the line changes neither the status nor the output.
+///
+/// # Errors
+///
+/// - `Usage` exactly where the words ask for no job that the program does; nothing is read then.
+/// - `ReadFault` only where a read of this call failed, `InputTooLong` only where one byte more than
+///   67,108,864 was taken.
+/// - `Syntax`, `TooWide`, `UnknownName` and `TooManyVariables` for the first offending place of the input.
+/// - `NotTermOrder`, `Dimensions`, `ZeroPolynomial` and `NotHomogeneous` where what was read isn't of the form that the job
+///   needs.
+/// - `Overflow`, `ExponentOverflow` and `ConeOverflow` only for operands that the job may have, and that don't fit;
+///   `PairBudget` only where the budget of the words is spent.
+/// - `WriteFault` only where a write of this call failed, or took nothing; a prefix of the answer may be
+///   written then. No other refusal writes anything to the output.
+/// - `Memory` at any growth.
+pub fn run<S: Source, K: Sink, E: Sink>(
+    alloc: Global,
+    words: &[String],
+    input: &mut S,
+    output: &mut K,
+    faults: &mut E,
+) -> Status
+    // Done: the words ask for a job, all of the input was read, and all of the job's answer written.
+    ensures done { result ≡ Status.Done → Answered (map string_bytes words.now) (S.left input.old)
+        (S.left input.new) (S.given input.old) (S.given input.new) (K.held output.old)
+        (K.held output.new) }
+
+    // Usage exactly where the words ask for nothing that the program does, and nothing is read then.
+    ensures usage { result ≡ Status.Refused Refusal.Usage → AsksNothing (map string_bytes words.now) }
+    ensures usage_always { AsksNothing (map string_bytes words.now)
+        → (result ≡ Status.Refused Refusal.Usage) ⊎ (result ≡ Status.Refused Refusal.Memory) }
     ensures unread { result ≡ Status.Refused Refusal.Usage → input.new ≡ input.old }
 
     // The input isn't read whole.
@@ -63,38 +117,54 @@ pub fn run<S: Source, K: Sink>(
     ensures too_long { result ≡ Status.Refused Refusal.InputTooLong → TookExactly (S.left input.old)
         (S.left input.new) (S.given input.old) (S.given input.new) 67_108_865 }
 
-    // It is read whole, and refused for what it says.
-    ensures input_refused { (refusal : Refusal) → result ≡ Status.Refused refusal → IsOfInput refusal
-        → InputRefused (S.left input.old) (S.left input.new) (S.given input.old) (S.given input.new)
-        refusal }
+    // It is read whole, and its text has a first offending place.
+    ensures text { (refusal : Refusal) → result ≡ Status.Refused refusal → IsOfText refusal
+        → InputRefused (map string_bytes words.now) (S.left input.old) (S.left input.new)
+        (S.given input.old) (S.given input.new) refusal }
+
+    // What is read isn't of the form that the job needs.
+    ensures form { (refusal : Refusal) → result ≡ Status.Refused refusal → IsOfForm refusal
+        → InputRefused (map string_bytes words.now) (S.left input.old) (S.left input.new)
+        (S.given input.old) (S.given input.new) refusal }
+
+    // The job has an operation whose operands don't fit.
+    ensures overflow { (refusal : Refusal) → result ≡ Status.Refused refusal → IsOverflow refusal
+        → InputRefused (map string_bytes words.now) (S.left input.old) (S.left input.new)
+        (S.given input.old) (S.given input.new) refusal }
+    ensures exponent_overflow { (refusal : Refusal) → result ≡ Status.Refused refusal → IsExponentOverflow refusal
+        → InputRefused (map string_bytes words.now) (S.left input.old) (S.left input.new)
+        (S.given input.old) (S.given input.new) refusal }
+    ensures cone_overflow { (refusal : Refusal) → result ≡ Status.Refused refusal → IsConeOverflow refusal
+        → InputRefused (map string_bytes words.now) (S.left input.old) (S.left input.new)
+        (S.given input.old) (S.given input.new) refusal }
+
+    // Its budget of pairs is spent.
+    ensures pair_budget { (refusal : Refusal) → result ≡ Status.Refused refusal → IsPairBudget refusal
+        → InputRefused (map string_bytes words.now) (S.left input.old) (S.left input.new)
+        (S.given input.old) (S.given input.new) refusal }
 
     // A write failed, and what is written is a prefix of the answer.
     ensures write_fault { result ≡ Status.Refused Refusal.WriteFault
         → Rose (K.faults output.old) (K.faults output.new) }
-    ensures write_part { result ≡ Status.Refused Refusal.WriteFault → AnsweredInPart (S.left input.old)
-        (S.left input.new) (S.given input.old) (S.given input.new) (K.held output.old)
-        (K.held output.new) }
+    ensures write_part { result ≡ Status.Refused Refusal.WriteFault
+        → AnsweredInPart (map string_bytes words.now) (S.left input.old) (S.left input.new)
+        (S.given input.old) (S.given input.new) (K.held output.old) (K.held output.new) }
 
     // No other refusal writes anything.
     ensures quiet { (refusal : Refusal) → result ≡ Status.Refused refusal
         → (refusal ≡ Refusal.WriteFault → ⊥) → Keeps (K.held output.old) (K.held output.new) }
+
+    // The line of a refusal, and none where all was done.
+    ensures told { (refusal : Refusal) → result ≡ Status.Refused refusal → IsTold refusal
+        (S.left input.old) (S.left input.new) (S.given input.old) (S.given input.new)
+        (E.held faults.old) (E.held faults.new) (E.faults faults.old) (E.faults faults.new) }
+    ensures silent { result ≡ Status.Done → faults.new ≡ faults.old }
 {
-    if !is_command(words) {
-        return Status::Refused(Refusal::Usage);
-    }
-    let source = match read_all(alloc, input) {
-        Ok(source) => source,
-        Err(InputError::ReadFault) => return Status::Refused(Refusal::ReadFault),
-        Err(InputError::InputTooLong) => return Status::Refused(Refusal::InputTooLong),
-        Err(InputError::OpenFault) => return Status::Refused(Refusal::ReadFault),
-        Err(InputError::Memory) => return Status::Refused(Refusal::Memory),
-    };
-    let text = match answer(alloc, &source, PAIRS) {
-        Ok(text) => text,
-        Err(refusal) => return Status::Refused(refusal),
-    };
-    match write_all(output, &text) {
+    match outcome(alloc, words, input, output) {
         Ok(()) => Status::Done,
-        Err(WriteFault) => Status::Refused(Refusal::WriteFault),
+        Err(refused) => {
+            refused.tell(faults);
+            Status::Refused(refused.refusal)
+        }
     }
 }

@@ -1,0 +1,132 @@
+// A refusal on its way to the end of a run.
+ghost use Rattle.std.specs.Prelude.{◌≡◌};
+ghost use Rattle.gf_front.specs.Lines.{line};
+ghost use Rattle.gfan_main.specs.Refused.{names_of, IsNamedBy, WrittenAsFar};
+
+use crate::marked_basis::CheckError;
+use gf_buchberger::BasisError;
+use gf_front::{Refusal, WordsError};
+use gf_outside::Sink;
+use gf_text::{Ring, Syntax, TextError};
+use std::alloc::AllocError;
+
+/// A refusal, with the ring whose names stand in its line where it names monomials.
+#[derive(Drop)]
+pub(crate) struct Refused {
+    pub refusal: Refusal,
+    pub ring: Option<Ring>,
+}
+
+impl Refused {
+    /// Writes the refusal's line, as far as the sink takes it. It takes no memory.
+    pub fn tell<E: Sink>(&self, faults: &mut E)
+        requires { IsNamedBy self.now.ring self.now.refusal }
+        ensures { WrittenAsFar (E.held faults.old) (E.held faults.new) (E.faults faults.old)
+            (E.faults faults.new) (line (names_of self.now.ring) self.now.refusal) }
+    {
+        let _ = self.refusal.tell(self.ring.as_ref(), faults);
+    }
+}
+
+impl From<Refusal> for Refused {
+    ghost use Rattle.gfan_main.specs.Refused.{without_names};
+
+    ghost from_gives = { λ r e. e ≡ without_names r };
+
+    fn from(refusal: Refusal) -> Refused {
+        Refused {
+            refusal,
+            ring: None,
+        }
+    }
+}
+
+impl From<AllocError> for Refused {
+    ghost use Rattle.gf_front.specs.declared.refusal.Refusal.TheVariants as refusals;
+    ghost use Rattle.gfan_main.specs.Refused.{without_names};
+
+    ghost from_gives = { λ _ e. e ≡ without_names refusals.Memory };
+
+    fn from(_: AllocError) -> Refused {
+        Refused::from(Refusal::Memory)
+    }
+}
+
+impl From<WordsError> for Refused {
+    ghost use Rattle.gf_front.specs.Lines.{of_words};
+    ghost use Rattle.gfan_main.specs.Refused.{without_names};
+
+    ghost from_gives = { λ w e. e ≡ without_names (of_words w) };
+
+    fn from(error: WordsError) -> Refused {
+        Refused::from(Refusal::from(error))
+    }
+}
+
+impl From<Syntax> for Refused {
+    ghost use Rattle.gf_front.specs.declared.refusal.Refusal.TheVariants as refusals;
+    ghost use Rattle.gfan_main.specs.Refused.{without_names};
+
+    ghost from_gives = { λ s e. e ≡ without_names (refusals.Syntax s) };
+
+    fn from(syntax: Syntax) -> Refused {
+        Refused::from(Refusal::Syntax(syntax))
+    }
+}
+
+impl From<TextError> for Refused {
+    ghost use Rattle.gfan_main.specs.Answers.{of_text};
+    ghost use Rattle.gfan_main.specs.Refused.{without_names};
+
+    ghost from_gives = { λ t e. e ≡ without_names (of_text t) };
+
+    fn from(error: TextError) -> Refused {
+        Refused::from(match error {
+            TextError::Overflow(o) => Refusal::Overflow(o),
+            TextError::Exponent(o) => Refusal::ExponentOverflow(o),
+            TextError::Syntax(s) => Refusal::Syntax(s),
+            TextError::TooWide { at } => Refusal::TooWide { at },
+            TextError::UnknownName { at } => Refusal::UnknownName { at },
+            TextError::TooManyVariables { count } => Refusal::TooManyVariables { count },
+            TextError::ZeroPolynomial { set, index } => Refusal::ZeroPolynomial { set, index },
+            TextError::Memory => Refusal::Memory,
+        })
+    }
+}
+
+impl From<BasisError> for Refused {
+    ghost use Rattle.gfan_main.specs.Answers.{of_basis};
+    ghost use Rattle.gfan_main.specs.Refused.{without_names};
+
+    ghost from_gives = { λ b e. e ≡ without_names (of_basis b) };
+
+    fn from(error: BasisError) -> Refused {
+        Refused::from(match error {
+            BasisError::Overflow(o) => Refusal::Overflow(o),
+            BasisError::Exponent(o) => Refusal::ExponentOverflow(o),
+            BasisError::PairBudget { basis, unsettled } => Refusal::PairBudget { basis, unsettled },
+            BasisError::Memory => Refusal::Memory,
+        })
+    }
+}
+
+impl From<CheckError> for Refused {
+    ghost use Rattle.gfan_main.specs.MarkedAnswers.{of_check};
+    ghost use Rattle.gfan_main.specs.Refused.{without_names};
+
+    ghost from_gives = { λ c e. e ≡ without_names (of_check c) };
+
+    fn from(error: CheckError) -> Refused {
+        Refused::from(match error {
+            CheckError::Cone(o) => Refusal::ConeOverflow {
+                row: o.row,
+                op: o.op,
+                left: o.left,
+                right: o.right,
+            },
+            CheckError::Overflow(o) => Refusal::Overflow(o),
+            CheckError::Exponent(o) => Refusal::ExponentOverflow(o),
+            CheckError::Memory => Refusal::Memory,
+        })
+    }
+}
