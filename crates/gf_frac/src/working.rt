@@ -8,7 +8,7 @@ ghost use Rattle.gf_frac.specs.Fraction.{signed_as};
 ghost use Rattle.gf_frac.specs.Fields.{IsLowest};
 ghost use Rattle.gf_frac.specs.Fits.{FitsSum, IsSum, IsSumWorking, FitsProduct, IsProduct, IsReduced};
 
-use gf_int::gcd;
+use gf_gcd::gcd;
 use std::cmp::Ordering;
 
 // The product with a natural number, where it is in range.

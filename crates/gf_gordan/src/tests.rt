@@ -2,7 +2,7 @@ ghost use Rattle.std.specs.Prelude.{◌≡◌, IfOk, length};
 ghost use Rattle.gf_gordan.specs.Alternative.{AreRows};
 
 use super::*;
-use gf_int::gcd;
+use gf_gcd::gcd;
 use gf_vec::{IntVec, VecOp, WideVector, dot_slices, product, total};
 use std::alloc::Global;
 use std::test::Fail;

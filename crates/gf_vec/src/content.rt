@@ -5,7 +5,7 @@ ghost use Rattle.gf_int.specs.Content.{quotients};
 ghost use Rattle.gf_vec.specs.Primitive.{IsDivided};
 
 use crate::arithmetic::quotient;
-use gf_int::content;
+use gf_gcd::content;
 
 /// Divides each entry.
 fn divide_all(xs: &mut [i128], by: i128)

@@ -3,7 +3,7 @@ use Rattle.std.specs.Int.{w128, IsGcd}
 use Rattle.std.proofs.lemmas.Int.{to_z-of_z}
 use Rattle.gf_int.specs.Range.{InRange}
 use Rattle.gf_int.proofs.ContentLaws.{IsGcdOfAll_more}
-use Rattle.gf_int.proofs.entries.gcd_of_all.Goals as goal
+use Rattle.gf_gcd.proofs.entries.gcd_of_all.Goals as goal
 
 pub entries-preserved : goal.entries-preserved
 entries-preserved c =

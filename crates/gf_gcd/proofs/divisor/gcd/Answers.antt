@@ -1,7 +1,7 @@
 use Rattle.std.proofs.Common.{ℕ, ◌≡◌, sym, subst}
 use Rattle.std.specs.Int.{IsGcd}
 use Rattle.gf_int.specs.Gcd.{gcd-same}
-use Rattle.gf_int.proofs.divisor.gcd.Goals as goal
+use Rattle.gf_gcd.proofs.divisor.gcd.Goals as goal
 
 -- a greatest common divisor by other names of its numbers
 renamed : (a b r x y g : ℕ) → x ≡ a → y ≡ b → r ≡ g → IsGcd x y g → IsGcd a b r
