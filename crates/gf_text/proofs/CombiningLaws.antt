@@ -1,6 +1,6 @@
 -- Terms and sums of terms, one after another.
--- To cite: factors_on, factors_refused, factors_end; terms_on, terms_refused, terms_end, terms_fit; sums_on, sums_refused, sums_end; found_place; not_yet, none_left, first_found. The rest are steps.
-use Rattle.std.proofs.Common.{◌≡◌, ◌≢◌, ◌<◌, ◌≤◌, ℕ, zero, suc, ◌+◌, ◌-◌, ◌^◌, Bool, true, false, nat_lt, slice_index, slice_set, replicate, IfSome, IfOk, inl, inr, arith, if◌then◌else◌, List, [], ◌∷◌, ◌++◌, length, drop, get_or, Result, Ok, Err, Option, Some, None, MatchOption, slice_get, refl, sym, ap, subst, ◌∙◌, add-one, append_assoc, append-nil}
+-- To cite: factors_on, factors_refused, factors_end; terms_on, terms_refused, terms_end, terms_fit; sums_push_ok, sums_push_refused, sums_push_after; found_place; not_yet, none_left, first_found. The rest are steps.
+use Rattle.std.proofs.Common.{◌≡◌, ◌≢◌, ◌<◌, ◌≤◌, ℕ, zero, suc, ◌+◌, ◌^◌, Bool, true, false, nat_lt, slice_index, slice_set, replicate, IfSome, inl, inr, arith, if◌then◌else◌, List, [], ◌∷◌, ◌++◌, length, drop, get_or, Result, Ok, Err, Option, Some, None, MatchOption, slice_get, refl, sym, ap, subst, ◌∙◌, add-one, append_assoc, append-nil}
 use Rattle.std.proofs.Math.Seq.{drop-cons}
 use Rattle.std.proofs.lemmas.List.{drop_all}
 use Rattle.std.proofs.lemmas.Option.{slice_get-get_or, slice_get_past}
@@ -10,7 +10,7 @@ use Rattle.std.proofs.Math.ListN.{length-set}
 use Rattle.std.specs.Result.{result_ok}
 use Rattle.std.specs.Ordering.{ordering_index, ordering_reverse}
 use Rattle.std.specs.List.Sorted.{IsNonDecreasingBy, IsSearchInRange, IsBinarySearchResult}
-use Rattle.gf_frac.specs.Fraction.{Fraction, ◌+ℚ◌, zero_ℚ}
+use Rattle.gf_frac.specs.Fraction.{◌+ℚ◌, zero_ℚ}
 use Rattle.gf_frac.proofs.FractionLaws.{zero-+ℚ}
 use Rattle.std.specs.declared.cmp.Ordering.{Ordering}
 use Rattle.std.specs.declared.cmp.Ordering.TheVariants.{Less, Equal, Greater}
@@ -23,7 +23,7 @@ use Rattle.gf_poly.proofs.CoefficientLaws.{apart, coefficient-contains}
 use Rattle.gf_poly.proofs.DescendingLaws.{equal_same, deglex-total, greater_trans, never_greater}
 use Rattle.gf_text.specs.declared.tree.Factor.{Factor}
 use Rattle.gf_text.specs.declared.tree.WrittenTerm.{WrittenTerm}
-use Rattle.gf_text.specs.Combining.{raised, then_factors, times_factors, exponents_of, coefficient_of, term_of, terms_of, sums_of, ExponentsFit, AllExponentsFit, HaveVariables, before_all, with_coefficient, IsPlaceOf, IsFirstRemainingAt, NoneRemains, FindsFirst, IsSumOf}
+use Rattle.gf_text.specs.Combining.{raised, then_factors, times_factors, exponents_of, coefficient_of, term_of, terms_of, sums_of, ExponentsFit, HaveVariables, before_all, with_coefficient, IsPlaceOf, IsFirstRemainingAt, FindsFirst, IsSumOf}
 
 -- ---- powers, one after another
 
@@ -312,32 +312,34 @@ terms_variables n (u ∷ us) ts e = by (term_of n u) (terms_of n us) refl refl (
 
 -- ---- polynomials, one after another
 
-pub sums_at : (n : ℕ) (qs : List (List WrittenTerm)) (i : ℕ) (d : List WrittenTerm) → i < length qs → sums_of n (drop i qs) ≡ before_all (terms_of n (get_or qs i d)) (sums_of n (drop (i + 1) qs))
-sums_at n qs i d h = let front : drop i qs ≡ get_or qs i d ∷ drop (i + 1) qs = rw add-one (drop-cons qs i d h) in ap (sums_of n) front
+abbrev behind_all : Result (List Terms) ExponentOverflow → Result Terms ExponentOverflow → Result (List Terms) ExponentOverflow
+behind_all (Ok fs) (Ok f) = Ok (fs ++ f ∷ [])
+behind_all (Ok fs) (Err o) = Err o
+behind_all (Err o) r = Err o
 
-pub sums_on : (n : ℕ) (out : List Terms) (f : Terms) (qs : List (List WrittenTerm)) (i : ℕ) (d : List WrittenTerm) → i < length qs → terms_of n (get_or qs i d) ≡ Ok f
-    → onto out (sums_of n (drop i qs)) ≡ onto (out ++ f ∷ []) (sums_of n (drop (i + 1) qs))
-sums_on n out f qs i d h e = ap (onto out) (sums_at n qs i d h ∙ ap (λ r. before_all r (sums_of n (drop (i + 1) qs))) e) ∙ onto_next out f (sums_of n (drop (i + 1) qs))
+-- the last of polynomials
+sums_push : (n : ℕ) (qs : List (List WrittenTerm)) (us : List WrittenTerm) → sums_of n (qs ++ us ∷ []) ≡ behind_all (sums_of n qs) (terms_of n us)
+sums_push n [] us = by (terms_of n us)
+  where
+    by : (r : Result Terms ExponentOverflow) → before_all r (Ok []) ≡ behind_all (Ok []) r
+    by (Ok f) = refl
+    by (Err o) = refl
+sums_push n (q ∷ qs) us = ap (before_all (terms_of n q)) (sums_push n qs us) ∙ by (terms_of n q) (sums_of n qs) (terms_of n us)
+  where
+    by : (a : Result Terms ExponentOverflow) (rs : Result (List Terms) ExponentOverflow) (r : Result Terms ExponentOverflow) → before_all a (behind_all rs r) ≡ behind_all (before_all a rs) r
+    by (Ok t) (Ok fs) (Ok f) = refl
+    by (Ok t) (Ok fs) (Err o) = refl
+    by (Ok t) (Err x) r = refl
+    by (Err x) rs r = refl
 
-pub sums_refused : (n : ℕ) (out : List Terms) (o : ExponentOverflow) (qs : List (List WrittenTerm)) (i : ℕ) (d : List WrittenTerm) → i < length qs → terms_of n (get_or qs i d) ≡ Err o → onto out (sums_of n (drop i qs)) ≡ Err o
-sums_refused n out o qs i d h e = ap (onto out) (sums_at n qs i d h ∙ ap (λ r. before_all r (sums_of n (drop (i + 1) qs))) e)
+pub sums_push_ok : (n : ℕ) (qs : List (List WrittenTerm)) (us : List WrittenTerm) (fs : List Terms) (f : Terms) → sums_of n qs ≡ Ok fs → terms_of n us ≡ Ok f → sums_of n (qs ++ us ∷ []) ≡ Ok (fs ++ f ∷ [])
+sums_push_ok n qs us fs f h k = sums_push n qs us ∙ ap (λ r. behind_all r (terms_of n us)) h ∙ ap (behind_all (Ok fs)) k
 
-pub sums_end : (n : ℕ) (out : List Terms) (qs : List (List WrittenTerm)) (i : ℕ) → length qs ≤ i → onto out (sums_of n (drop i qs)) ≡ Ok out
-sums_end n out qs i h = ap (λ l. onto out (sums_of n l)) (drop_all i qs h) ∙ ap (λ l. Ok l) (append-nil out)
+pub sums_push_refused : (n : ℕ) (qs : List (List WrittenTerm)) (us : List WrittenTerm) (fs : List Terms) (o : ExponentOverflow) → sums_of n qs ≡ Ok fs → terms_of n us ≡ Err o → sums_of n (qs ++ us ∷ []) ≡ Err o
+sums_push_refused n qs us fs o h k = sums_push n qs us ∙ ap (λ r. behind_all r (terms_of n us)) h ∙ ap (behind_all (Ok fs)) k
 
--- the first i polynomials, no term of which is refused
-pub record TakenSums (n : ℕ) (qs : List (List WrittenTerm)) (i : ℕ) : Type 0 where
-  pub sums : List Terms
-  pub all : onto sums (sums_of n (drop i qs)) ≡ sums_of n qs
-
-abbrev pub taken_sums_none : (n : ℕ) (qs : List (List WrittenTerm)) → TakenSums n qs 0
-taken_sums_none n qs = record { sums = []; all = onto_nothing (sums_of n qs) }
-
-abbrev pub taken_sums_on : (n : ℕ) (qs : List (List WrittenTerm)) (i : ℕ) (d : List WrittenTerm) → i < length qs → ExponentsFit n (get_or qs i d) → TakenSums n qs i → TakenSums n qs (i + 1)
-taken_sums_on n qs i d h fit t = record { sums = t.sums ++ fit.0 ∷ []; all = sym (sums_on n t.sums fit.0 qs i d h fit.1) ∙ t.all }
-
-pub taken_sums_all : (n : ℕ) (qs : List (List WrittenTerm)) (i : ℕ) → length qs ≤ i → TakenSums n qs i → AllExponentsFit n qs
-taken_sums_all n qs i h t = (t.sums, sym t.all ∙ sums_end n t.sums qs i h)
+pub sums_push_after : (n : ℕ) (qs : List (List WrittenTerm)) (us : List WrittenTerm) (o : ExponentOverflow) → sums_of n qs ≡ Err o → sums_of n (qs ++ us ∷ []) ≡ Err o
+sums_push_after n qs us o h = sums_push n qs us ∙ ap (λ r. behind_all r (terms_of n us)) h
 
 pub sums_variables : (n : ℕ) (qs : List (List WrittenTerm)) (fs : List Terms) → sums_of n qs ≡ Ok fs → HaveVariables n fs
 sums_variables n [] fs e = let none : [] ≡ fs = cc in subst (HaveVariables n) none tt

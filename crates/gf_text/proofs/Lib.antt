@@ -1,9 +1,12 @@
 pub mod TokensLaws  -- the tokens of a text, one after another
+pub mod MatchingLaws  -- how much of a name stands at a place, by what is known of earlier places
 pub mod SpelledLaws  -- bytes that spell tokens
 pub mod MachineLaws  -- what machines read, and what grammars say of it
 pub mod NamesLaws  -- different names, kept as keys of a set
 pub mod RingTextLaws  -- the machine of rings reads what the grammar says; printed rings are read again
 pub mod RingKindsLaws  -- of which kind a fault of a ring is
+pub mod VectorTextLaws  -- the machine of vectors reads what the grammar says
+pub mod VectorKindsLaws  -- of which kind a fault of a vector is
 pub mod PrintedTextLaws  -- the pieces of printed terms
 pub mod LimitsLaws  -- what a text says is within its limits
 pub mod CombiningLaws  -- terms and sums of terms, one after another
@@ -17,6 +20,7 @@ pub mod SetPartsLaws  -- what is read from each place of a set on
 pub mod SetReadLaws  -- the machine of sets reads no more than the grammar says
 pub mod SetStopsLaws  -- why the machine of sets can't take a token
 pub mod SetMachineLaws  -- sets are read as the grammar says, and each state goes on to one
+pub mod SetGrowsLaws  -- a set is read polynomial by polynomial
 pub mod SetKindsLaws  -- of which kind a fault of a set is
 pub mod PrintedTokensLaws  -- the tokens of printed numbers, names and powers
 pub mod PrintedTermsLaws  -- what printed terms say

@@ -1,5 +1,5 @@
 -- What a text of a set says is within its limits.
--- To cite: set_within; factor_at, term_at, terms_at for a loop. The rest are steps.
+-- To cite: set_within; factor_at, term_at for a loop. The rest are steps.
 use Rattle.std.proofs.Common.{◌≡◌, ◌<◌, ◌≤◌, ◌^◌, ◌+◌, ◌-◌, ℕ, zero, suc, Bool, true, false, List, [], ◌∷◌, ◌++◌, length, get_or, Option, Some, None, inl, inr, refl, sym, ap, subst, arith, bytes_eq, if◌then◌else◌}
 use Rattle.std.specs.List.{position_from}
 use Rattle.gf_text.specs.declared.tree.Factor.{Factor}
@@ -72,8 +72,3 @@ pub term_at : (n : ℕ) (us : List WrittenTerm) (i : ℕ) (d : WrittenTerm) → 
 term_at n [] i d h k = absurd (omega arith)
 term_at n (u ∷ us) zero d h k = h.0
 term_at n (u ∷ us) (suc i) d h k = term_at n us i d h.1 (omega arith)
-
-pub terms_at : (n : ℕ) (qs : List (List WrittenTerm)) (i : ℕ) (d : List WrittenTerm) → AreWithin n qs → i < length qs → AreTermsWithin n (get_or qs i d)
-terms_at n [] i d h k = absurd (omega arith)
-terms_at n (q ∷ qs) zero d h k = h.0
-terms_at n (q ∷ qs) (suc i) d h k = terms_at n qs i d h.1 (omega arith)

@@ -1,5 +1,5 @@
 -- Of which kind a fault of a ring's text is, and why no ring is read.
--- To cite: ring_kind, ring_refused. The rest are steps.
+-- To cite: ring_kind, is_unknown, ring_refused. The rest are steps.
 use Rattle.std.proofs.Common.{◌≡◌, ℕ, Bool, true, false, ◌||◌, Err, List, [], ◌∷◌, ◌++◌, length, bytes_eq, refl, sym, ap, subst, ◌∙◌, ◌⊎◌, inl, inr, if◌then◌else◌}
 use Rattle.gf_text.specs.declared.error.Cause.{Cause}
 use Rattle.gf_text.specs.declared.error.Cause.TheVariants.{Ended, Unexpected, RepeatedName, ZeroDenominator, TooWide, UnknownName}
@@ -201,7 +201,8 @@ is_too_wide place ZeroDenominator at e = cc
 is_too_wide place TooWide at e = refl
 is_too_wide place UnknownName at e = cc
 
-is_unknown : (place : ℕ) (cause : Cause) (at : ℕ) → refusal_at place cause ≡ errors.UnknownName at → cause ≡ UnknownName
+-- a fault that is refused as an unknown name is one
+pub is_unknown : (place : ℕ) (cause : Cause) (at : ℕ) → refusal_at place cause ≡ errors.UnknownName at → cause ≡ UnknownName
 is_unknown place Ended at e = cc
 is_unknown place Unexpected at e = cc
 is_unknown place RepeatedName at e = cc

@@ -1,20 +1,21 @@
 -- Sums of terms, one after another.
--- To cite: combining_none, combining_on, combining_all, combining_refused; marked_sum, written_variables, in_at; none_zero, nonzero_variables. The rest are steps.
-use Rattle.std.proofs.Common.{◌≡◌, ◌<◌, ◌≤◌, ℕ, zero, suc, ◌+◌, List, [], ◌∷◌, ◌++◌, length, map, drop, get_or, Result, Ok, Err, Some, slice_get, subst, sym, refl, ap, ◌∙◌, append-nil, arith}
+-- To cite: adds_fit, adds_overflow, adds_exponent, keeps_overflow, overflow_exponent, keeps_exponent; marked_sum, written_variables, in_at; none_zero, nonzero_variables. The rest are steps.
+use Rattle.std.proofs.Common.{◌≡◌, ◌<◌, ℕ, zero, suc, List, [], ◌∷◌, ◌++◌, length, map, get_or, Ok, Err, Some, slice_get, subst, sym, refl, ap, ◌∙◌, append-nil, append_assoc, arith}
 use Rattle.gf_frac.specs.declared.refusal.Overflow.{Overflow}
 use Rattle.gf_poly.specs.declared.monomial.ExponentOverflow.{ExponentOverflow}
 use Rattle.gf_poly.specs.declared.Term.{Term}
 use Rattle.gf_poly.specs.Polynomial.{Terms, SamePolynomial, IsDescending, KeepsVariables}
-use Rattle.gf_poly.specs.Collecting.{LikeSumsFit, IsLikeSumOverflow}
+use Rattle.gf_poly.specs.Collecting.{LikeSumsFit}
 use Rattle.gf_poly.specs.Marking.{head_of, MarkedPolynomial, HaveVariables as AllHaveVariables}
-use Rattle.gf_text.specs.declared.error.TextError.{TextError}
 use Rattle.gf_text.specs.declared.error.TextError.TheVariants as errors
+use Rattle.gf_text.specs.declared.combine.Sums.{Sums}
+use Rattle.gf_text.specs.declared.combine.Sums.TheVariants as came
 use Rattle.gf_text.specs.declared.written.Written.{Written}
 use Rattle.gf_text.specs.declared.written.Written.TheVariants as written
 use Rattle.gf_text.specs.declared.tree.WrittenTerm.{WrittenTerm}
-use Rattle.gf_text.specs.Combining.{HaveVariables, IsFirstRemaining, IsFirstRemainingAt, IsSumMarked, before_all, terms_of, sums_of, AllExponentsFit}
-use Rattle.gf_text.specs.Sets.{IsWritten, AreWritten, IsIn, AreIn, SumsFit, IsSummed, IsSummingCause, IsCombined, IsCombiningCause, IsFirstOverflow, AreNonzero}
-use Rattle.gf_text.proofs.CombiningLaws.{onto, TakenSums, taken_sums_none, taken_sums_on, sums_at, sums_end, sums_refused}
+use Rattle.gf_text.specs.Combining.{HaveVariables, IsFirstRemaining, IsFirstRemainingAt, IsSumMarked, terms_of, ExponentsFit}
+use Rattle.gf_text.specs.Sets.{IsWritten, AreWritten, IsIn, AreIn, SumsFit, IsSummed, IsSummingCause, IsCombined, IsCombiningCause, HasSums, Adds, AreNonzero}
+use Rattle.gf_text.proofs.CombiningLaws.{sums_push_ok, sums_push_refused, sums_push_after}
 
 written_push : (fs : List Terms) (ws : List Written) (f : Terms) (w : Written) → AreWritten fs ws → IsWritten f w → AreWritten (fs ++ f ∷ []) (ws ++ w ∷ [])
 written_push [] [] f w h k = (k, tt)
@@ -30,42 +31,55 @@ fits_push : (fs : List Terms) (f : Terms) → SumsFit fs → LikeSumsFit f → S
 fits_push [] f h k = (k, tt)
 fits_push (g ∷ fs) f h k = (h.0, fits_push fs f h.1 k)
 
--- ws are what is left of the first i polynomials
-pub record Combining (n : ℕ) (qs : List (List WrittenTerm)) (i : ℕ) (ws : List Written) : Type 0 where
-  pub taken : TakenSums n qs i
-  pub fits : SumsFit taken.sums
-  pub written : AreWritten taken.sums ws
+-- ---- polynomials, one after another
 
-pub combining_none : (n : ℕ) (qs : List (List WrittenTerm)) → Combining n qs 0 []
-combining_none n qs = record { taken = taken_sums_none n qs; fits = tt; written = tt }
+abbrev Sets : Type 0
+Sets = List (List WrittenTerm)
 
-pub combining_on : (n : ℕ) (qs : List (List WrittenTerm)) (i : ℕ) (d : List WrittenTerm) (ws : List Written) (w : Written) → i < length qs → IsSummed n (get_or qs i d) w → Combining n qs i ws → Combining n qs (i + 1) (ws ++ w ∷ [])
-combining_on n qs i d ws w h one c = record {
-  taken = taken_sums_on n qs i d h (one.terms, one.exponents) c.taken;
-  fits = fits_push c.taken.sums one.terms c.fits one.fits;
-  written = written_push c.taken.sums ws one.terms w c.written one.written;
+-- the polynomial that is added fits
+pub adds_fit : (n : ℕ) (us : List WrittenTerm) (old new : List Written) (w : Written) → IsSummed n us w → new ≡ old ++ w ∷ [] → (qs : Sets) → IsCombined n qs old → IsCombined n (qs ++ us ∷ []) new
+adds_fit n us old new w one is qs h = record {
+  sums = h.sums ++ one.terms ∷ [];
+  exponents = sums_push_ok n qs us h.sums one.terms h.exponents one.exponents;
+  fits = fits_push h.sums one.terms h.fits one.fits;
+  written = subst (AreWritten (h.sums ++ one.terms ∷ [])) (sym is) (written_push h.sums old one.terms w h.written one.written);
 }
 
-pub combining_all : (n : ℕ) (qs : List (List WrittenTerm)) (i : ℕ) (ws : List Written) → length qs ≤ i → Combining n qs i ws → IsCombined n qs ws
-combining_all n qs i ws h c = record { sums = c.taken.sums; exponents = sym c.taken.all ∙ sums_end n c.taken.sums qs i h; fits = c.fits; written = c.written }
+-- a sum of it leaves its range
+pub adds_overflow : (n : ℕ) (us : List WrittenTerm) (old : List Written) (o : Overflow) → IsSummingCause n us (errors.Overflow o) → (qs : Sets) → IsCombined n qs old → IsCombiningCause n (qs ++ us ∷ []) (errors.Overflow o)
+adds_overflow n us old o cause qs h = (
+  h.sums ++ cause.0 ∷ [],
+  sums_push_ok n qs us h.sums cause.0 h.exponents cause.1,
+  record { front = h.sums; sum = cause.0; back = []; whole = refl; before = h.fits; overflow = cause.2 },
+)
 
--- why one of the polynomials is refused, where no exponent is
-overflow_by : (fs all : List Terms) (f : Terms) (o : Overflow) (r : Result (List Terms) ExponentOverflow) → onto fs (before_all (Ok f) r) ≡ Ok all → SumsFit fs → IsLikeSumOverflow f o → IsFirstOverflow all o
-overflow_by fs all f o (Ok others) e fit cause = record { front = fs; sum = f; back = others; whole = cc; before = fit; overflow = cause }
-overflow_by fs all f o (Err x) e fit cause = cc
+-- an exponent of it passes its limit
+pub adds_exponent : (n : ℕ) (us : List WrittenTerm) (old : List Written) (o : ExponentOverflow) → terms_of n us ≡ Err o → (qs : Sets) → IsCombined n qs old → IsCombiningCause n (qs ++ us ∷ []) (errors.Exponent o)
+adds_exponent n us old o cause qs h = sums_push_refused n qs us h.sums o h.exponents cause
 
-pub combining_refused : (n : ℕ) (qs : List (List WrittenTerm)) (i : ℕ) (d : List WrittenTerm) (ws : List Written) (error : TextError) → i < length qs → AllExponentsFit n qs → Combining n qs i ws → IsSummingCause n (get_or qs i d) error → IsCombiningCause n qs error
-combining_refused n qs i d ws (errors.Overflow o) h fit c cause =
-    let rest = sums_of n (drop (i + 1) qs) in
-    let whole : onto c.taken.sums (before_all (Ok cause.0) rest) ≡ Ok fit.0 = ap (onto c.taken.sums) (sym (sums_at n qs i d h ∙ ap (λ r. before_all r rest) cause.1)) ∙ c.taken.all ∙ fit.1 in
-    (fit.0, fit.1, overflow_by c.taken.sums fit.0 cause.0 o rest whole c.fits cause.2)
-combining_refused n qs i d ws (errors.Exponent o) h fit c cause = let refused = sym c.taken.all ∙ sums_refused n c.taken.sums o qs i d h cause in let good = fit.1 in cc
-combining_refused n qs i d ws (errors.Syntax s) h fit c cause = cause
-combining_refused n qs i d ws (errors.TooWide place) h fit c cause = cause
-combining_refused n qs i d ws (errors.UnknownName place) h fit c cause = cause
-combining_refused n qs i d ws (errors.TooManyVariables count) h fit c cause = cause
-combining_refused n qs i d ws (errors.ZeroPolynomial set index) h fit c cause = cause
-combining_refused n qs i d ws errors.Memory h fit c cause = tt
+-- a sum before it leaves its range, and its exponents fit
+pub keeps_overflow : (n : ℕ) (us : List WrittenTerm) (o : Overflow) → ExponentsFit n us → Adds n (us ∷ []) (came.Overflow o) (came.Overflow o)
+keeps_overflow n us o fit qs h =
+    let first = h.2 in (
+      h.0 ++ fit.0 ∷ [],
+      sums_push_ok n qs us h.0 fit.0 h.1 fit.1,
+      record {
+        front = first.front;
+        sum = first.sum;
+        back = first.back ++ fit.0 ∷ [];
+        whole = ap (λ l. l ++ fit.0 ∷ []) first.whole ∙ append_assoc first.front (first.sum ∷ first.back) (fit.0 ∷ []);
+        before = first.before;
+        overflow = first.overflow;
+      },
+    )
+
+-- an exponent of it passes its limit
+pub overflow_exponent : (n : ℕ) (us : List WrittenTerm) (o : Overflow) (x : ExponentOverflow) → terms_of n us ≡ Err x → Adds n (us ∷ []) (came.Overflow o) (came.Exponent x)
+overflow_exponent n us o x cause qs h = sums_push_refused n qs us h.0 x h.1 cause
+
+-- an exponent before it passes its limit
+pub keeps_exponent : (n : ℕ) (us : List WrittenTerm) (o : ExponentOverflow) → Adds n (us ∷ []) (came.Exponent o) (came.Exponent o)
+keeps_exponent n us o qs h = sums_push_after n qs us o h
 
 -- the monomial at a place
 pub head_of-place : (f : Terms) (i : ℕ) (t : Term) → slice_get f i ≡ Some t → head_of f i ≡ t.mono

@@ -69,10 +69,6 @@ sums_of n (q ∷ qs) = before_all (terms_of n q) (sums_of n qs)
 abbrev pub ExponentsFit : ℕ → List WrittenTerm → Type 0
 ExponentsFit n us = (f : Terms) × (terms_of n us ≡ Ok f)
 
--- each exponent of these polynomials does
-abbrev pub AllExponentsFit : ℕ → List (List WrittenTerm) → Type 0
-AllExponentsFit n qs = (fs : List Terms) × (sums_of n qs ≡ Ok fs)
-
 -- each sum has n variables
 abbrev pub HaveVariables : ℕ → List Terms → Type 0
 HaveVariables n [] = Unit {0}

@@ -10,6 +10,8 @@ use Rattle.gf_poly.specs.Marking.{MarkedPolynomial, MarkedPolynomials}
 use Rattle.gf_text.specs.declared.error.TextError.{TextError}
 use Rattle.gf_text.specs.declared.error.TextError.TheVariants as errors
 use Rattle.gf_text.specs.declared.tree.WrittenTerm.{WrittenTerm}
+use Rattle.gf_text.specs.declared.combine.Sums.{Sums}
+use Rattle.gf_text.specs.declared.combine.Sums.TheVariants as came
 use Rattle.gf_text.specs.declared.written.Written.{Written}
 use Rattle.gf_text.specs.declared.written.Written.TheVariants as written
 use Rattle.gf_text.specs.Machine.{Reads}
@@ -109,7 +111,23 @@ IsCombiningCause n qs (errors.TooManyVariables count) = ⊥
 IsCombiningCause n qs (errors.ZeroPolynomial set index) = ⊥
 IsCombiningCause n qs errors.Memory = Unit {0}
 
+-- what came of these polynomials: what is left of each, or why they are refused
+abbrev pub HasSums : ℕ → List (List WrittenTerm) → Sums → Type 0
+HasSums n qs (came.Fit ws) = IsCombined n qs ws.items
+HasSums n qs (came.Overflow o) = IsCombiningCause n qs (errors.Overflow o)
+HasSums n qs (came.Exponent o) = IsCombiningCause n qs (errors.Exponent o)
+
+-- whatever polynomials stand before these, what came of them before comes to this with these
+abbrev pub Adds : ℕ → List (List WrittenTerm) → Sums → Sums → Type 0
+Adds n ps old new = (qs : List (List WrittenTerm)) → HasSums n qs old → HasSums n (qs ++ ps) new
+
 -- ---- a set that stands in a source
+
+-- this came of the polynomials that are read, and the reader goes to this place
+pub record AreSetSums (ring : List (List ℕ)) (old : Position) (place : ℕ) (read_sums : Sums) : Type 0 where
+  pub said : List (List WrittenTerm)
+  pub read : set_at ring old.source old.at ≡ Ok (said, place)
+  pub come : HasSums (length ring) said read_sums
 
 -- these polynomials are read, and the reader goes to this place
 pub record IsSetRead (ring : List (List ℕ)) (old : Position) (place : ℕ) (ws : List Written) : Type 0 where

@@ -3,15 +3,15 @@ ghost use Rattle.std.specs.Prelude.{◌≡◌, ◌≤◌, ◌<◌, ◌^◌, All,
 ghost use Rattle.gf_frac.specs.Fraction.{zero_ℚ};
 ghost use Rattle.gf_poly.specs.Polynomial.{Terms, coefficient, SamePolynomial, IsDescending, HasVariables};
 ghost use Rattle.gf_text.specs.Limits.{IsFactorWithin, AreFactorsWithin, IsTermWithin, AreTermsWithin, AreWithin};
-ghost use Rattle.gf_text.specs.Combining.{raised, times_factors, exponents_of, coefficient_of, term_of, terms_of, sums_of, ExponentsFit, AllExponentsFit, IsSumOf, FindsFirst, IsPlaceOf};
-ghost use Rattle.gf_text.specs.Sets.{IsExponentCause, IsSummed, IsSummingCause, IsCombined, IsCombiningCause, AreIn, from_poly};
+ghost use Rattle.gf_text.specs.Combining.{raised, times_factors, exponents_of, coefficient_of, term_of, terms_of, ExponentsFit, IsSumOf, FindsFirst, IsPlaceOf};
+ghost use Rattle.gf_text.specs.Sets.{IsExponentCause, IsSummed, IsSummingCause, HasSums, Adds, from_poly};
 
 use crate::error::TextError;
 use crate::tree::{Factor, WrittenSet, WrittenTerm};
 use crate::written::Written;
-use gf_frac::Frac;
+use gf_frac::{Frac, Overflow};
 use gf_poly::{ExponentOverflow, Marked, Mono, Poly, PolyError, ROOM, Term};
-use std::alloc::Global;
+use std::alloc::{AllocError, Global};
 
 /// The greatest exponent.
 const MOST: u32 = (1 << 31) - 1;
@@ -126,19 +126,6 @@ fn check_terms(n: usize, terms: &[WrittenTerm]) -> Result<(), ExponentOverflow>
     Ok(())
 }
 
-/// The same of each polynomial.
-fn check_set(n: usize, set: &WrittenSet) -> Result<(), ExponentOverflow>
-    requires room { n ≤ ROOM }
-    requires within { AreWithin n set.now }
-    ensures ok { OnOk result (AllExponentsFit n set.now) }
-    ensures err { IfErr result (λ o. sums_of n set.now ≡ Err o) }
-{
-    'polynomials: for terms in set.as_slice() {
-        check_terms(n, terms.as_slice())?;
-    }
-    Ok(())
-}
-
 /// The place of a monomial among descending terms.
 fn place_of(terms: &[Term], at: &Mono) -> Option<usize>
     requires descending { IsDescending terms.now }
@@ -228,21 +215,88 @@ fn summed(alloc: Global, n: usize, terms: &[WrittenTerm]) -> Result<Written, Tex
     several(alloc, n, terms)
 }
 
-/// The polynomials of a set, in n variables. First each exponent is looked at, then the terms are added.
-pub(crate) fn combined(alloc: Global, n: usize, set: &WrittenSet) -> Result<Vec<Written>, TextError>
+/// What came of the polynomials of a set so far: what is left of each; or the first sum of coefficients that leaves its
+/// range; or the first exponent that passes its limit, whatever sums leave their range before it.
+#[derive(Drop)]
+pub enum Sums {
+    Fit(Vec<Written>),
+    Overflow(Overflow),
+    Exponent(ExponentOverflow),
+}
+
+/// Adds a polynomial to those of which something is left.
+fn fit_with(
+    alloc: Global,
+    n: usize,
+    written: Vec<Written>,
+    terms: &[WrittenTerm],
+) -> Result<Sums, AllocError>
     requires room { n ≤ ROOM }
-    requires within { AreWithin n set.now }
-    ensures ok { IfOk result (λ ws. IsCombined n set.now ws.items) }
-    ensures variables { IfOk result (λ ws. AreIn n ws.items) }
-    ensures err { IfErr result (IsCombiningCause n set.now) }
+    requires within { AreTermsWithin n terms.now }
+    ensures { IfOk result (Adds n (terms.now ∷ []) (Sums.Fit written)) }
 {
-    check_set(n, set)?;
-    let mut out = Vec::new(alloc);
-    'polynomials: for terms in set.as_slice() {
-        match summed(alloc, n, terms.as_slice()) {
-            Ok(next) => out.push(next)?,
-            Err(error) => return Err(error),
+    let mut out = written;
+    match summed(alloc, n, terms) {
+        Ok(next) => {
+            out.push(next)?;
+            Ok(Sums::Fit(out))
+        }
+        Err(TextError::Overflow(overflow)) => Ok(Sums::Overflow(overflow)),
+        Err(TextError::Exponent(overflow)) => Ok(Sums::Exponent(overflow)),
+        Err(_) => Err(AllocError),
+    }
+}
+
+/// Adds a polynomial to those of which a sum leaves its range.
+fn overflow_with(n: usize, overflow: Overflow, terms: &[WrittenTerm]) -> Sums
+    requires room { n ≤ ROOM }
+    requires within { AreTermsWithin n terms.now }
+    ensures { Adds n (terms.now ∷ []) (Sums.Overflow overflow) result }
+{
+    match check_terms(n, terms) {
+        Ok(()) => Sums::Overflow(overflow),
+        Err(first) => Sums::Exponent(first),
+    }
+}
+
+impl Sums {
+    /// No polynomials.
+    pub(crate) fn new(alloc: Global) -> Sums
+        ensures { (n : ℕ) → HasSums n [] result }
+    {
+        Sums::Fit(Vec::new(alloc))
+    }
+
+    /// Adds a polynomial in n variables as the last one.
+    #[inline(never)]
+    fn with(self, alloc: Global, n: usize, terms: &[WrittenTerm]) -> Result<Sums, AllocError>
+        requires room { n ≤ ROOM }
+        requires within { AreTermsWithin n terms.now }
+        ensures { IfOk result (Adds n (terms.now ∷ []) self) }
+    {
+        match self {
+            Sums::Fit(written) => fit_with(alloc, n, written, terms),
+            Sums::Overflow(overflow) => Ok(overflow_with(n, overflow, terms)),
+            Sums::Exponent(overflow) => Ok(Sums::Exponent(overflow)),
         }
     }
-    Ok(out)
+
+    /// Adds the polynomial in n variables that is read, where there is one. Behind most tokens there is none, so that the
+    /// test is inlined.
+    #[inline]
+    pub(crate) fn with_read(
+        self,
+        alloc: Global,
+        n: usize,
+        set: &WrittenSet,
+    ) -> Result<Sums, AllocError>
+        requires room { n ≤ ROOM }
+        requires within { AreWithin n set.now }
+        ensures { IfOk result (Adds n set.now self) }
+    {
+        match set.last() {
+            Some(terms) => self.with(alloc, n, terms.as_slice()),
+            None => Ok(self),
+        }
+    }
 }

@@ -1,4 +1,4 @@
-//! Rings and sets of polynomials as text: what is read, and what is written.
+//! Rings, sets of polynomials and vectors as text: what is read, and what is written.
 //!
 //! A text is cut into tokens (`specs/Tokens.antt`), machines read them (`specs/Machine.antt`), and what a text means is
 //! said apart from the machines, by grammars over its tokens (`specs/RingText.antt`).
@@ -7,6 +7,9 @@
 mod combine;
 mod error;
 mod marked_reader;
+mod matcher;
+#[cfg(test)]
+mod matcher_tests;
 mod names;
 mod printer;
 mod reader;
@@ -20,6 +23,9 @@ mod term_printer;
 mod tests;
 mod tokens;
 mod tree;
+mod vector_reader;
+#[cfg(test)]
+mod vector_tests;
 mod written;
 
 pub use error::{Cause, Kind, Syntax, TextError};
@@ -31,4 +37,5 @@ pub use printer::{
 pub use reader::Reader;
 pub use tokens::{Number, Token};
 pub use tree::{Factor, Factors, WrittenSet, WrittenTerm, WrittenTerms};
+pub use vector_reader::vectors_have_one_meaning;
 pub use written::Written;

@@ -1,8 +1,9 @@
-//! A reader of rings and sets of polynomials.
+//! A reader of rings, sets of polynomials and vectors.
 ghost use Rattle.std.specs.Prelude.{◌≡◌, length, IfOk, IfErr, OnOk, OnErr};
 ghost use Rattle.gf_text.specs.Tokens.{IsBlank, IsMore, rest};
 ghost use Rattle.gf_text.specs.TokensRead.{IsTokenRead, IsTokenCause};
 ghost use Rattle.gf_text.specs.Rings.{IsRingRead, IsRingCause};
+ghost use Rattle.gf_text.specs.Vectors.{IsVectorRead, IsVectorCause, AreWithin};
 ghost use Rattle.gf_text.specs.Sets.{IsSetRead, IsSetCause, IsMarkedRead, IsMarkedCause, AreIn};
 
 use crate::error::{Cause, Kind, Syntax, TextError, refused_at};
@@ -11,8 +12,10 @@ use crate::names::Ring;
 use crate::ring_reader::ring_from;
 use crate::set_reader::written_at;
 use crate::tokens::{Token, begins_token, spaces, word_from};
+use crate::vector_reader::vector_from;
 use crate::written::Written;
 use gf_poly::MarkedSet;
+use gf_vec::IntVec;
 use std::alloc::Global;
 use std::marker::Model;
 
@@ -133,6 +136,30 @@ impl<'a> Reader<'a> {
         };
         self.at = at;
         Ok(set)
+    }
+
+    /// Reads the vector that stands at the reader's place, and goes behind it. Its entries, of which there may be none,
+    /// are at most `2^63 - 1` in absolute value.
+    ///
+    /// # Errors
+    /// - `Syntax` at the first token after which no text of a vector goes on: `Unexpected`, or `Ended` with the length of
+    ///   the source where the text ends before.
+    /// - `TooWide` at a number past `2^63 - 1`, where a number may stand; leading zeros don't count.
+    ///
+    /// After a refusal the reader is where it was.
+    pub fn read_vector(&mut self, alloc: Global) -> Result<IntVec, TextError>
+        ensures ok { IfOk result (λ v. IsVectorRead self.old self.new.at v) }
+        ensures within { IfOk result (λ v. AreWithin v) }
+        ensures err { IfErr result (IsVectorCause self.old) }
+        ensures source { self.new.source ≡ self.old.source }
+        ensures unchanged { OnErr result (self.new ≡ self.old) }
+    {
+        let (vector, at) = match vector_from(alloc, self.source, self.at) {
+            Ok((vector, at)) => (vector, at),
+            Err(error) => return Err(error),
+        };
+        self.at = at;
+        Ok(vector)
     }
 
     /// Whether nothing but white space follows.

@@ -1,14 +1,13 @@
 //! The reading of a set.
-ghost use Rattle.std.specs.Prelude.{◌≡◌, ◌≤◌, IfOk, IfErr, OnOk, length};
-ghost use Rattle.gf_text.specs.Tokens.{lexemes, ring_more};
-ghost use Rattle.gf_text.specs.SetText.{IsSetText, set_at, set_step, token_step, front_step, term_or, name_or, end_step, behind_step, denominator_step, exponent_step, is_word, with_name, with_factor, with_numer, with_denom, next_term, next_polynomial, empty, plus, minus, comma, star, slash, caret, brace, brace_end, most, most_exponent};
-ghost use Rattle.gf_text.specs.Given.{Gives, Means};
-ghost use Rattle.gf_text.specs.Limits.{AreWithin};
+ghost use Rattle.std.specs.Prelude.{◌≡◌, ◌≤◌, [], IfOk, IfErr, OnOk, length};
+ghost use Rattle.gf_text.specs.SetText.{set_at, set_step, token_step, front_step, term_or, name_or, end_step, behind_step, denominator_step, exponent_step, is_word, with_name, with_factor, with_numer, with_denom, next_term, next_polynomial, empty, plus, minus, comma, star, slash, caret, brace, brace_end, most, most_exponent};
+ghost use Rattle.gf_text.specs.Given.{Fails};
 ghost use Rattle.gf_text.specs.GivenSet.{set_move};
-ghost use Rattle.gf_text.specs.Sets.{IsSetRead, IsSetCause, AreIn};
+ghost use Rattle.gf_text.specs.Sets.{AreSetSums, IsSetRead, IsSetCause, AreIn};
 
-use crate::combine::combined;
+use crate::combine::Sums;
 use crate::error::{Cause, TextError, refused_at};
+use crate::matcher::Matcher;
 use crate::names::Ring;
 use crate::tokens::{Number, number_of, ring_token_from};
 use crate::tree::{Factor, Factors, WrittenSet, WrittenTerm, WrittenTerms};
@@ -41,8 +40,8 @@ pub enum SetStep {
     Halt(Cause),
 }
 
-/// What was read so far: polynomials, terms of the one that is read, the sign, the rational number and the powers of the
-/// term that is read, and the variable whose exponent isn't read yet.
+/// What was read so far: polynomials that aren't added yet, terms of the one that is read, the sign, the rational number
+/// and the powers of the term that is read, and the variable whose exponent isn't read yet.
 #[derive(Drop)]
 pub struct Part {
     pub polynomials: WrittenSet,
@@ -116,11 +115,12 @@ impl Part {
 
     /// The polynomial is read.
     fn end_polynomial(&mut self, alloc: Global) -> Result<(), AllocError>
+        requires { self.old.polynomials ≡ [] }
         ensures { OnOk result (self.new ≡ next_polynomial self.old) }
     {
         self.end_term(alloc, false)?;
-        let terms = mem::replace(&mut self.terms, WrittenTerms::new(alloc));
-        self.polynomials.push(terms)
+        self.polynomials.take(&mut self.terms);
+        Ok(())
     }
 
     /// A name of the ring; another letter can't stand here; another token does something else.
@@ -168,6 +168,7 @@ impl Part {
 
     /// What follows a term.
     fn end(&mut self, alloc: Global, t: &[u8]) -> Result<SetStep, AllocError>
+        requires { self.old.polynomials ≡ [] }
         ensures { IfOk result (λ m. set_move m self.new ≡ end_step self.old t.now) }
     {
         if t == b"+".as_slice() {
@@ -189,19 +190,17 @@ impl Part {
         Ok(SetStep::Halt(Cause::Unexpected))
     }
 
-    /// What follows a rational number or a power.
+    /// What follows a rational number or a power. No name is looked for where the token begins with no letter.
     fn behind(&mut self, alloc: Global, ring: &Ring, t: &[u8]) -> Result<SetStep, AllocError>
+        requires { self.old.polynomials ≡ [] }
         ensures { IfOk result (λ m. set_move m self.new ≡ behind_step ring.now self.old t.now) }
     {
         if t == b"*".as_slice() {
             return Ok(SetStep::Go(SetPlace::Star));
         }
-        if let Some(variable) = ring.variable(t) {
-            self.variable = variable;
-            return Ok(SetStep::Go(SetPlace::Name));
-        }
+        let _names = ring.names();
         if is_word(t) {
-            return Ok(SetStep::Halt(Cause::UnknownName));
+            return Ok(self.name_or(ring, t, SetStep::Halt(Cause::UnknownName)));
         }
         self.end(alloc, t)
     }
@@ -237,6 +236,7 @@ impl Part {
 
     /// What follows a name.
     fn behind_name(&mut self, alloc: Global, ring: &Ring, t: &[u8]) -> Result<SetStep, AllocError>
+        requires { self.old.polynomials ≡ [] }
         ensures { IfOk result (λ m. set_move m self.new ≡ token_step ring.now SetPlace.Name self.old t.now) }
     {
         if t == b"^".as_slice() {
@@ -254,6 +254,7 @@ impl Part {
         place: SetPlace,
         t: &[u8],
     ) -> Result<SetStep, AllocError>
+        requires { self.old.polynomials ≡ [] }
         ensures { IfOk result (λ m. set_move m self.new ≡ set_step ring.now (place, self.old) t.now) }
     {
         match place {
@@ -286,51 +287,38 @@ impl Part {
     }
 }
 
-/// What the set says that stands in the source from this place on, and the place behind it.
-fn written_from(
+/// What came of the polynomials of the set that stands in the source from this place on, and the place behind it. Each is
+/// added as soon as it is read, so that no more than one is kept as it is written.
+fn sums_from(
     alloc: Global,
     ring: &Ring,
     source: &[u8],
     from: usize,
-) -> Result<(WrittenSet, usize), TextError>
+) -> Result<(Sums, usize), TextError>
     requires { from ≤ length source.now }
-    ensures set { Gives (λ x. (x.0, x.1)) result (set_at ring.now source.now from) }
+    ensures ok { IfOk result (λ x. AreSetSums ring.now (record { source = source.now; at = from }) x.1 x.0) }
+    ensures err { IfErr result (λ e. Fails e (set_at ring.now source.now from)) }
     ensures within { IfOk result (λ x. x.1 ≤ length source.now) }
 {
+    let n = ring.len() as usize;
+    let names = ring.names();
+    let mut matcher = Matcher::new(alloc, names)?;
     let mut part = Part::new(alloc);
     let mut place = SetPlace::Brace;
+    let mut sums = Sums::new(alloc);
     let mut at = from;
     loop {
-        let Some((start, end)) = ring_token_from(ring.names(), source, at) else {
+        let Some((start, end)) = ring_token_from(&mut matcher, names, source, at) else {
             return Err(refused_at(source.len(), Cause::Ended));
         };
         match part.step(alloc, ring, place, &source[start..end])? {
             SetStep::Go(next) => place = next,
-            SetStep::Done => return Ok((part.polynomials, end)),
+            SetStep::Done => return Ok((sums.with_read(alloc, n, &part.polynomials)?, end)),
             SetStep::Halt(cause) => return Err(refused_at(start, cause)),
         }
+        sums = sums.with_read(alloc, n, &part.polynomials)?;
+        part.polynomials.clear();
         at = end;
-    }
-}
-
-/// The same, as the grammar says it.
-pub(crate) fn set_from(
-    alloc: Global,
-    ring: &Ring,
-    source: &[u8],
-    from: usize,
-) -> Result<(WrittenSet, usize), TextError>
-    requires { from ≤ length source.now }
-    ensures set { Gives (λ x. (x.0, x.1)) result (set_at ring.now source.now from) }
-    ensures text { Means (λ x. (x.0, x.1)) result (IsSetText ring.now) (lexemes (ring_more ring.now) source.now from) (length source.now) }
-    ensures limits { IfOk result (λ x. AreWithin (length ring.now) x.0) }
-    ensures cause { IfErr result (IsSetCause ring.now (record { source = source.now; at = from })) }
-    ensures within { IfOk result (λ x. x.1 ≤ length source.now) }
-{
-    let _names = ring.names();
-    match written_from(alloc, ring, source, from) {
-        Ok((set, end)) => Ok((set, end)),
-        Err(error) => Err(error),
     }
 }
 
@@ -347,13 +335,14 @@ pub(crate) fn written_at(
     ensures err { IfErr result (IsSetCause ring.now (record { source = source.now; at = from })) }
     ensures within { IfOk result (λ x. x.1 ≤ length source.now) }
 {
-    let n = ring.len() as usize;
-    let (set, end) = match set_from(alloc, ring, source, from) {
-        Ok((set, end)) => (set, end),
+    let _names = ring.names();
+    let (sums, end) = match sums_from(alloc, ring, source, from) {
+        Ok((sums, end)) => (sums, end),
         Err(error) => return Err(error),
     };
-    match combined(alloc, n, &set) {
-        Ok(written) => Ok((written, end)),
-        Err(error) => Err(error),
+    match sums {
+        Sums::Fit(written) => Ok((written, end)),
+        Sums::Overflow(overflow) => Err(TextError::Overflow(overflow)),
+        Sums::Exponent(overflow) => Err(TextError::Exponent(overflow)),
     }
 }

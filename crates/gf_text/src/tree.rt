@@ -1,9 +1,10 @@
 //! What the text of a set says, before like terms are added: polynomials of terms, each a sign, a number and powers.
-ghost use Rattle.std.specs.Prelude.{◌≡◌, ◌++◌, ◌∷◌, [], OnOk};
+ghost use Rattle.std.specs.Prelude.{◌≡◌, ◌++◌, ◌∷◌, [], OnOk, MatchOption};
 
 use smallvec::SmallVec;
 use std::alloc::{AllocError, Global};
 use std::marker::Model;
+use std::mem;
 
 /// A power of a variable, as it is written: the variable's number and the exponent.
 #[derive(Clone, Copy, Debug, Default, PartialEq, Eq)]
@@ -91,15 +92,19 @@ impl WrittenTerms {
         }
     }
 
-    /// Adds a term as the last one. The first has no room behind it, since many polynomials have one term.
+    /// Adds a term as the last one.
     pub fn push(&mut self, term: WrittenTerm) -> Result<(), AllocError>
         ensures { OnOk result (self.new ≡ self.old ++ term ∷ []) }
     {
-        if self.items.is_empty() {
-            self.items.reserve_exact(1)?;
-        }
         self.items.push(term)?;
         Ok(())
+    }
+
+    /// Forgets all terms; their room stays.
+    pub fn clear(&mut self)
+        ensures { self.new ≡ [] }
+    {
+        self.items.clear();
     }
 
     /// The terms, one after another.
@@ -110,19 +115,20 @@ impl WrittenTerms {
     }
 }
 
-/// The polynomials of a set, as they are written.
+/// The polynomials of a set that are read and not added yet, as they are written: one at most.
 #[derive(Drop)]
 pub struct WrittenSet {
-    items: Vec<WrittenTerms>,
+    terms: WrittenTerms,
+    is_read: bool,
 }
 
 impl Model for WrittenSet {
-    ghost use Rattle.std.specs.Prelude.{List};
+    ghost use Rattle.std.specs.Prelude.{List, [], ◌∷◌, if◌then◌else◌};
     ghost use Rattle.gf_text.specs.declared.tree.WrittenTerm.{WrittenTerm};
 
     ghost Value = { List (List WrittenTerm) };
 
-    ghost view = { λ p. p.items.items };
+    ghost view = { λ p. if p.is_read then p.terms ∷ [] else [] };
 }
 
 impl WrittenSet {
@@ -131,22 +137,37 @@ impl WrittenSet {
         ensures { result ≡ [] }
     {
         WrittenSet {
-            items: Vec::new(alloc),
+            terms: WrittenTerms::new(alloc),
+            is_read: false,
         }
     }
 
-    /// Adds a polynomial as the last one.
-    pub fn push(&mut self, terms: WrittenTerms) -> Result<(), AllocError>
-        ensures { OnOk result (self.new ≡ self.old ++ terms ∷ []) }
+    /// Takes the terms of a polynomial, and leaves none. The room of the polynomial before goes to the next one.
+    pub fn take(&mut self, terms: &mut WrittenTerms)
+        requires { self.old ≡ [] }
+        ensures taken { self.new ≡ terms.old ∷ [] }
+        ensures left { terms.new ≡ [] }
     {
-        self.items.push(terms)?;
-        Ok(())
+        mem::swap(&mut self.terms, terms);
+        terms.clear();
+        self.is_read = true;
     }
 
-    /// The polynomials, one after another.
-    pub fn as_slice(&self) -> &[WrittenTerms]
-        ensures { result.now ≡ self.now }
+    /// The polynomial, where there is one.
+    pub fn last(&self) -> Option<&WrittenTerms>
+        ensures { MatchOption result (self.now ≡ []) (λ terms. self.now ≡ terms.now ∷ []) }
     {
-        self.items.as_slice()
+        if self.is_read {
+            Some(&self.terms)
+        } else {
+            None
+        }
+    }
+
+    /// Forgets the polynomial; its room stays.
+    pub fn clear(&mut self)
+        ensures { self.new ≡ [] }
+    {
+        self.is_read = false;
     }
 }

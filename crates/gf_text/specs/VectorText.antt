@@ -1,0 +1,89 @@
+-- Vectors of whole numbers: what a text of a vector is, and the machine that reads it.
+-- `IsVectorText` is the grammar, `vector_step` the machine.
+-- Laws: proofs/VectorTextLaws.antt.
+use Rattle.std.specs.Prelude.{◌≡◌, ◌⊎◌, ℕ, ◌≤◌, ◌-◌, ◌^◌, nat_le, Bool, true, false, List, [], ◌∷◌, ◌++◌, length, bytes_eq, if◌then◌else◌, Result, ℤ, pos, unsigned_abs}
+use lib.IntN.{neg_ℤ}
+use Rattle.gf_text.specs.Machine.{Move, go, done, halt, Fault, run}
+use Rattle.gf_text.specs.Tokens.{is_number, value, lexemes, word_more}
+use Rattle.gf_text.specs.declared.error.Cause.TheVariants as cause
+use Rattle.gf_text.specs.declared.vector_reader.VectorPlace.{VectorPlace}
+use Rattle.gf_text.specs.declared.vector_reader.VectorPlace.TheVariants as at
+
+-- ---- tokens
+
+abbrev pub parenthesis : List ℕ
+parenthesis = 40 ∷ []
+
+abbrev pub parenthesis_end : List ℕ
+parenthesis_end = 41 ∷ []
+
+abbrev pub comma : List ℕ
+comma = 44 ∷ []
+
+abbrev pub minus : List ℕ
+minus = 45 ∷ []
+
+-- the greatest absolute value of an entry
+abbrev pub most_entry : ℕ
+most_entry = 2 ^ 63 - 1
+
+-- ---- the grammar
+
+-- a natural number, or its negative
+abbrev pub signed : Bool → ℕ → ℤ
+signed true n = neg_ℤ (pos n)
+signed false n = pos n
+
+-- the token is a number, n, within the limit of an entry
+abbrev pub IsSizeText : List ℕ → ℕ → Type 0
+IsSizeText t n = (is_number t ≡ true) × (value t ≡ n) × (n ≤ most_entry)
+
+-- an entry: a number, or - and a number
+abbrev pub IsEntryText : List (List ℕ) → ℤ → Type 0
+IsEntryText ts z = (t : List ℕ) × (n : ℕ) × IsSizeText t n
+    × (((ts ≡ t ∷ []) × (z ≡ signed false n)) ⊎ ((ts ≡ minus ∷ t ∷ []) × (z ≡ signed true n)))
+
+-- entries, each behind a comma
+abbrev pub AreMoreEntries : List (List ℕ) → List ℤ → Type 0
+AreMoreEntries ts [] = ts ≡ []
+AreMoreEntries ts (z ∷ zs) = (first : List (List ℕ)) × (rest : List (List ℕ)) × (ts ≡ comma ∷ (first ++ rest)) × IsEntryText first z × AreMoreEntries rest zs
+
+-- a vector: entries joined by commas between parentheses
+abbrev pub IsVectorText : List (List ℕ) → List ℤ → Type 0
+IsVectorText ts [] = ts ≡ parenthesis ∷ parenthesis_end ∷ []
+IsVectorText ts (z ∷ zs) = (first : List (List ℕ)) × (rest : List (List ℕ)) × (ts ≡ parenthesis ∷ (first ++ (rest ++ parenthesis_end ∷ []))) × IsEntryText first z × AreMoreEntries rest zs
+
+-- the entry is within its limit
+abbrev pub IsWithin : ℤ → Type 0
+IsWithin z = unsigned_abs z ≤ most_entry
+
+-- ---- the machine
+
+-- what is expected, and the entries that were read
+abbrev pub VectorState : Type 0
+VectorState = VectorPlace × List ℤ
+
+abbrev pub VectorMove : Type 0
+VectorMove = Move VectorState (List ℤ)
+
+-- a number within the limit, with the sign that stood before it
+abbrev pub size_step : Bool → List ℤ → List ℕ → VectorMove
+size_step m zs t = if is_number t then (if nat_le (value t) most_entry then go (at.Behind, zs ++ signed m (value t) ∷ []) else halt cause.TooWide)
+    else halt cause.Unexpected
+
+-- a sign or a number at the front of an entry
+abbrev pub entry_step : List ℤ → List ℕ → VectorMove
+entry_step zs t = if bytes_eq t minus then go (at.Negative, zs) else size_step false zs t
+
+abbrev pub vector_step : VectorState → List ℕ → VectorMove
+vector_step (at.Parenthesis, zs) t = if bytes_eq t parenthesis then go (at.First, zs) else halt cause.Unexpected
+vector_step (at.First, zs) t = if bytes_eq t parenthesis_end then done zs else entry_step zs t
+vector_step (at.Entry, zs) t = entry_step zs t
+vector_step (at.Negative, zs) t = size_step true zs t
+vector_step (at.Behind, zs) t = if bytes_eq t comma then go (at.Entry, zs)
+    else if bytes_eq t parenthesis_end then done zs
+    else halt cause.Unexpected
+
+-- the vector that stands in the source from this place on, and the place behind it
+abbrev pub vector_at : List ℕ → ℕ → Result (List ℤ × ℕ) Fault
+vector_at source from = run vector_step (at.Parenthesis, []) (length source) (lexemes word_more source from)
