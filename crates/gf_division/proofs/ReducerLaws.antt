@@ -1,5 +1,5 @@
 -- The search for the first member whose mark divides a monomial, and for a term that a member reduces.
--- To cite: NoneDivides, divisor_at, none_more, none_divides, beside_by_test, not_beside_by_test, Seeking, seeking-none,
+-- To cite: NoneDivides, divisor_at, none_more, none_divides, divides-degree, beside_by_test, not_beside_by_test, Seeking, seeking-none,
 -- seeking-more, first_variables, sought_at.
 use Rattle.std.specs.Prelude.{◌≡◌, ◌⊎◌, ℕ, ◌+◌, ◌<◌, ◌≤◌, Bool, true, false, List, [], ◌∷◌, length, Contains, Some, IsTrue, not}
 use Rattle.std.specs.declared.option.Option.{Option}
@@ -11,7 +11,8 @@ use Rattle.std.proofs.lemmas.Bool.Decides.{Decides-eqb}
 use Rattle.std.specs.Bool.{Decides}
 use lib.Pointwise.{pointwise}
 use lib.Dec.{eqb}
-use Rattle.gf_exponents.specs.Exponents.{Exponents, same, Divides}
+use Rattle.gf_exponents.specs.Exponents.{Exponents, same, plus, Divides, degree}
+use Rattle.gf_exponents.proofs.WeightLaws.{degree-plus, degree-same}
 use Rattle.gf_exponents.proofs.ExponentsLaws.{same-refl}
 use Rattle.gf_poly.specs.declared.Term.{Term}
 use Rattle.gf_poly.specs.Polynomial.{Terms, IsDescending, HasVariables}
@@ -68,6 +69,10 @@ divisor_at bs x h j b v a m e d k = record {
   head = member_length (length x) j bs b v a m;
   poly = member_variables (length x) bs b v (member_contained bs j b a);
 }
+
+-- a mark of greater degree doesn't divide
+pub divides-degree : (h x : Exponents) → Divides h x → degree h ≤ degree x
+divides-degree h x d = omega (arith, degree-same x (plus d.rest h) d.product, degree-plus d.rest h)
 
 -- ---- the spared monomial, by a test of lists
 

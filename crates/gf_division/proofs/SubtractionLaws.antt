@@ -1,5 +1,5 @@
 -- A subtraction from the place down: one term, and all terms of a multiple.
--- To cite: taken_from_first, taken_at, taken_beside, refused_at, Subtracting, subtracting-none, subtracting-more,
+-- To cite: nothing_pushed, taken_from_first, taken_at, taken_beside, refused_at, Subtracting, subtracting-none, subtracting-more,
 -- subtracting-end, factor_refused, exponent_refused, difference_refused.
 use Rattle.std.specs.Prelude.{◌≡◌, ◌≢◌, ◌⊎◌, ℕ, ◌+◌, ◌<◌, ◌≤◌, Bool, true, false, if◌then◌else◌, [], ◌∷◌, ◌++◌, length, reverse, Contains, Result, Ok, Err, OnOk, IfErr}
 use Rattle.std.specs.declared.cmp.Ordering.{Ordering}
@@ -28,6 +28,10 @@ use Rattle.gf_division.specs.Dividends.{Split, terms_of, IsSound, AreOver, AreFr
 use Rattle.gf_division.proofs.DescendingParts.{descending-front, descending-back, descending-across, descending-join, all-above-join, variables-front, variables-back, variables-join, coefficient-midst, over-one, from-over}
 
 -- ---- from the first term
+
+-- of equal numbers nothing is left
+pub nothing_pushed : (old : Terms) (t : Term) (c : Fraction) → t.coef ≡ c → PushesNonzero old old (record { coef = t.coef -ℚ c; mono = t.mono })
+nothing_pushed old t c e = inl (ap (λ z. z -ℚ c) e ∙ +ℚ-neg_ℚ c, refl)
 
 pub taken_from_first : {E : Type 0} (c : Fraction) (a b d k : Terms) (t : Term) (r : Result Unit E) → b ≡ k ++ t ∷ [] → OnOk r (PushesNonzero a d (record { coef = t.coef -ℚ c; mono = t.mono })) → OnOk r (TakesFromFirst c (record { above = a; below = reverse b }) (record { above = d; below = reverse k }))
 taken_from_first c a b d k t (Ok x) e p = record { term = t; below = ap reverse e ∙ reverse-append k (t ∷ []); above = p }

@@ -23,7 +23,7 @@ pub struct Dividend {
     below: Vec<Term>,
 }
 
-// The product; by 1 it is the other number.
+// The product; by 1, from either side, it is the other number.
 fn product(a: &Frac, b: &Frac) -> Result<Frac, Overflow>
     ensures value { IfOk result (λ x. x ≡ a.now *ℚ b.now) }
     ensures overflow { IfErr result (IsProductOverflow a.now b.now) }
@@ -31,14 +31,20 @@ fn product(a: &Frac, b: &Frac) -> Result<Frac, Overflow>
     if *a == Frac::ONE {
         return Ok(*b);
     }
+    if *b == Frac::ONE {
+        return Ok(*a);
+    }
     a.mul(b)
 }
 
-// Adds what is left of the term once `coef` is taken away, unless nothing is left.
+// Adds what is left of the term once `coef` is taken away, unless nothing is left; of equal numbers nothing is.
 fn push_difference(above: &mut Vec<Term>, t: Term, coef: &Frac) -> Result<(), PolyError>
     ensures ok { OnOk result (PushesNonzero above.old.items above.new.items (record { coef = t.coef -ℚ coef.now; mono = t.mono })) }
     ensures cause { IfErr result (IsDifferenceRefusal t.coef coef.now) }
 {
+    if t.coef == *coef {
+        return Ok(());
+    }
     let difference = t.coef.sub(coef)?;
     if difference.is_zero() {
         return Ok(());

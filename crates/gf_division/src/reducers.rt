@@ -1,6 +1,7 @@
 //! Which member reduces a term, and the search for a term that one reduces.
 
-ghost use Rattle.std.specs.Prelude.{false, ◌≡◌, length, IfSome, IfNone, IfOk, IsTrue, OnOk, Contains};
+ghost use Rattle.std.specs.Prelude.{false, ◌≡◌, ◌↔◌, length, IfSome, IfNone, IfOk, IsTrue, OnOk, Contains};
+ghost use Rattle.gf_exponents.specs.Exponents.{Divides, degree as total_degree};
 ghost use Rattle.gf_poly.specs.Marking.{HaveVariables};
 ghost use Rattle.gf_ideal.specs.Reduction.{IsDivisible};
 ghost use Rattle.gf_division.specs.Dividends.{split_of, terms_of};
@@ -10,15 +11,28 @@ use crate::dividend::Dividend;
 use gf_poly::{Marked, Mono};
 use std::alloc::AllocError;
 
+// Whether the mark divides `x`, whose degree is given: a mark of greater degree doesn't.
+fn is_divided(x: &Mono, degree: u64, mark: &Mono) -> bool
+    requires variables { length mark.now ≡ length x.now }
+    requires degree { degree ≡ total_degree x.now }
+    ensures { IsTrue result ↔ Divides mark.now x.now }
+{
+    if degree < mark.degree() {
+        return false;
+    }
+    mark.divides(x)
+}
+
 // The place of the first member whose mark divides `x`, if there is one.
 fn divisor_of(x: &Mono, by: &[Marked]) -> Option<usize>
     requires { HaveVariables (length x.now) by.now }
     ensures found { IfSome result (IsDivisorAt by.now x.now) }
     ensures none { IfNone result (IsDivisible (Contains by.now) x.now → ⊥) }
 {
+    let degree = x.degree();
     'members: for j in 0..by.len() {
         let member = &by[j];
-        if member.head().divides(x) {
+        if is_divided(x, degree, member.head()) {
             return Some(j);
         }
     }

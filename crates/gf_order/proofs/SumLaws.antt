@@ -1,5 +1,5 @@
 -- The difference of two weights, one entry further.
-use Rattle.std.specs.Prelude.{◌≡◌, ℕ, ◌+◌, ◌*◌, ◌^◌, ◌<◌, ◌≤◌, List, length, get_or, drop, ℤ, pos, ◌+ℤ◌, ◌-ℤ◌, ◌*ℤ◌, unsigned_abs}
+use Rattle.std.specs.Prelude.{◌≡◌, ℕ, zero, suc, ◌+◌, ◌*◌, ◌^◌, ◌<◌, ◌≤◌, List, [], ◌∷◌, length, get_or, take, drop, replicate, ℤ, pos, ◌+ℤ◌, ◌-ℤ◌, ◌*ℤ◌, unsigned_abs}
 use Rattle.std.proofs.Common.{arith, refl}
 use Rattle.std.proofs.lemmas.Int.{ints}
 use Rattle.std.proofs.lemmas.List.{drop_more}
@@ -22,3 +22,12 @@ Added-more w x y i sum part next h ex ey p b n s = record {
   value = omega (arith, ints, s.value, p, n, *ℤ--ℤ (get_or w i (pos 0)) (pos (get_or x i 0)) (pos (get_or y i 0)), weight-drop w x i h ex, weight-drop w y i h ey);
   bound = omega (arith, ints, s.bound, b, n);
 }
+
+-- ---- the weight of one monomial
+
+-- the monomial 1 weighs nothing
+pub weight-one : (w : List ℤ) (n m : ℕ) → whole_weight w (take n (replicate m 0)) ≡ pos 0
+weight-one [] n m = refl
+weight-one (w ∷ ws) zero m = refl
+weight-one (w ∷ ws) (suc n) zero = refl
+weight-one (w ∷ ws) (suc n) (suc m) = omega (arith, ints, weight-one ws n m)

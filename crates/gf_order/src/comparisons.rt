@@ -33,7 +33,7 @@ pub fn revlex(x: &[u32], y: &[u32]) -> Ordering
 }
 
 /// The total degree.
-fn degree(x: &[u32]) -> u64
+pub fn degree(x: &[u32]) -> u64
     requires { length x.now ≤ 64 }
     ensures { result ≡ degree x.now }
 {

@@ -3,10 +3,10 @@ ghost use Rattle.std.specs.Prelude.{◌≡◌, ◌≤◌, ◌<◌, ◌^◌, pos,
 ghost use Rattle.gf_exponents.specs.Orders.{IsTermOrder, gains, negated_row_of};
 ghost use Rattle.gf_exponents.specs.SixOrders.{MonomialOrder, below_of};
 ghost use Rattle.gf_order.specs.Weights.{AreBounded, IsFirstBelow};
-ghost use Rattle.gf_order.specs.Comparisons.{IsOutcome, HasEntries};
+ghost use Rattle.gf_order.specs.Comparisons.{IsOutcome, HasEntries, level_of, ends_by_revlex, is_weight_before_lex};
 
-use crate::comparisons::{deglex, facet, lex, revlex, weighted, weighted_revlex};
-use crate::weights::first_below;
+use crate::comparisons::{deglex, degree, facet, lex, revlex, weighted, weighted_revlex};
+use crate::weights::{first_below, negated_weight_of, weight_of};
 use gf_vec::IntVec;
 use std::cmp::Ordering;
 use std::marker::Model;
@@ -139,6 +139,48 @@ impl Order {
             Kind::Weighted(weight) => weighted(weight.as_slice(), x, y),
             Kind::WeightedRevlex(weight) => weighted_revlex(weight.as_slice(), x, y),
             Kind::Facet(normal) => facet(normal.as_slice(), x, y),
+        }
+    }
+
+    /// What the order compares first: of a weight that of the monomial, by a normal the weight turned, by deglex the
+    /// total degree; 0 where it is lex or revlex alone.
+    ///
+    /// A monomial of greater level is greater, and those of one level compare by lex, or by revlex where `is_by_revlex`
+    /// says so. `x` has at most 64 exponents, as many as the weight has entries. It takes no memory and is never refused.
+    pub fn level(&self, x: &[u32]) -> i128
+        requires short { length x.now ≤ 64 }
+        requires weight { HasEntries (length x.now) self.now }
+        ensures { result ≡ level_of self.now x.now }
+    {
+        match &self.kind {
+            Kind::Lex => 0,
+            Kind::Deglex => i128::from(degree(x)),
+            Kind::Revlex => 0,
+            Kind::Weighted(weight) => weight_of(weight.as_slice(), x),
+            Kind::WeightedRevlex(weight) => weight_of(weight.as_slice(), x),
+            Kind::Facet(normal) => negated_weight_of(normal.as_slice(), x),
+        }
+    }
+
+    /// Whether monomials of one level compare by revlex, and not by lex.
+    pub fn is_by_revlex(&self) -> bool
+        ensures { result ≡ ends_by_revlex self.now }
+    {
+        match &self.kind {
+            Kind::Revlex => true,
+            Kind::WeightedRevlex(_) => true,
+            _ => false,
+        }
+    }
+
+    /// Whether the order is lex, or a weight before lex: such orders are good on all polynomials.
+    pub fn is_by_lex(&self) -> bool
+        ensures { result ≡ is_weight_before_lex self.now }
+    {
+        match &self.kind {
+            Kind::Lex => true,
+            Kind::Weighted(_) => true,
+            _ => false,
         }
     }
 }

@@ -38,6 +38,29 @@ fn difference(weight: &[i128], x: &[u32], y: &[u32]) -> i128
     sum
 }
 
+/// The exponents of the monomial 1, in up to 64 variables.
+const NO_EXPONENTS: [u32; 64] = [0; 64];
+
+/// The weight of `x`.
+pub fn weight_of(weight: &[i128], x: &[u32]) -> i128
+    requires bounded { AreBounded weight.now }
+    requires short { length weight.now ≤ 64 }
+    requires entries { length x.now ≡ length weight.now }
+    ensures { result ≡ whole_weight weight.now x.now }
+{
+    difference(weight, x, &NO_EXPONENTS[..x.len()])
+}
+
+/// The weight of `x`, turned.
+pub fn negated_weight_of(weight: &[i128], x: &[u32]) -> i128
+    requires bounded { AreBounded weight.now }
+    requires short { length weight.now ≤ 64 }
+    requires entries { length x.now ≡ length weight.now }
+    ensures { result ≡ pos 0 -ℤ whole_weight weight.now x.now }
+{
+    difference(weight, &NO_EXPONENTS[..x.len()], x)
+}
+
 /// How the weights of `x` and `y` compare.
 pub fn by_weight(weight: &[i128], x: &[u32], y: &[u32]) -> Ordering
     requires bounded { AreBounded weight.now }
