@@ -11,4 +11,5 @@ pub mod GeneratorsOfRuns  -- generators that enter a run
 pub mod InterreductionOfRuns  -- the end of a run, autoreduced
 pub mod RefusalsOfRuns  -- refusals are operations of the run
 pub mod BasesOfRuns  -- where a run ends
+pub mod BasesOfBases  -- a basis worked out from another one
 pub mod HomogeneityLaws  -- the first term of another degree

@@ -1,22 +1,76 @@
 //! The pairs that wait to be settled, the pair of least key first.
+//!
+//! Which pair comes first is no part of a contract: what is proved of a run holds of any choice.
 
-ghost use Rattle.std.specs.Prelude.{◌≡◌, ℕ, ◌<◌, ◌∷◌, OnOk, OnErr, IfSome, IfNone, [], true, false, All, Contains};
+ghost use Rattle.std.specs.Prelude.{◌≡◌, ◌≤◌, ◌∷◌, length, OnOk, OnErr, IfSome, IfNone, []};
 ghost use Rattle.std.specs.List.Sorted.{IsPermutation};
-ghost use Rattle.gf_buchberger.specs.declared.queue.Waiting.{Waiting};
+ghost use Rattle.gf_order.specs.Comparisons.{HasEntries};
 
+use gf_order::Order;
+use gf_poly::{Mono, ROOM};
 use std::alloc::{AllocError, Global};
 use std::cmp::Reverse;
 use std::collections::BinaryHeap;
 use std::marker::Model;
 
-/// A pair of places, with the total degree of the least common multiple of their marks.
-///
-/// Pairs are worked on by this key: the degree, then the later member, then the earlier.
+/// Which pairs are settled first, those of least key.
+#[derive(Clone, Copy, Debug, PartialEq, Eq)]
+pub enum Strategy {
+    /// Those whose least common multiple has the least degree, then those where it is least by the order.
+    Degree,
+    /// Those whose least common multiple is least by the order.
+    Order,
+}
+
+/// What a pair waits by: the least common multiple of its marks, arranged so that keys compare as it is to be.
+#[derive(Clone, Copy, Debug, PartialEq, Eq, PartialOrd, Ord)]
+pub struct Key {
+    pub degree: u64,
+    pub level: i128,
+    pub exponents: [u32; ROOM],
+}
+
+/// A pair of places, with its key; of pairs with one key the later member decides, then the earlier.
 #[derive(Clone, Copy, Debug, PartialEq, Eq, PartialOrd, Ord)]
 pub struct Waiting {
-    pub degree: u64,
+    pub key: Key,
     pub second: u32,
     pub first: u32,
+}
+
+// The exponents arranged so that lists compare as monomials do by lex or by revlex: by revlex the last exponent decides,
+// and the smaller one is greater.
+fn arranged(x: &[u32], by_revlex: bool) -> [u32; ROOM]
+    requires { length x.now ≤ ROOM }
+{
+    let mut all = [0; ROOM];
+    let n = x.len();
+    'variables: for i in 0..n {
+        all[i] = if by_revlex {
+            u32::MAX - x[n - 1 - i]
+        } else {
+            x[i]
+        };
+    }
+    all
+}
+
+impl Strategy {
+    /// The key of a pair with this least common multiple.
+    pub fn key(self, order: &Order, multiple: &Mono) -> Key
+        requires { HasEntries (length multiple.now) order.now }
+    {
+        let x = multiple.exponents();
+        let degree = match self {
+            Strategy::Degree => multiple.degree(),
+            Strategy::Order => 0,
+        };
+        Key {
+            degree,
+            level: order.level(x),
+            exponents: arranged(x, order.is_by_revlex()),
+        }
+    }
 }
 
 /// The pairs that wait.

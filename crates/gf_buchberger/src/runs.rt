@@ -2,12 +2,13 @@
 
 ghost use Rattle.std.specs.Prelude.{◌≡◌, ◌≢◌, ◌+◌, ◌<◌, ◌≤◌, ◌^◌, ℕ, [], length, IfOk, IfErr, OnOk, OnErr, IsTrue};
 ghost use Rattle.gf_exponents.specs.Exponents.{AreCoprime};
+ghost use Rattle.gf_order.specs.Comparisons.{HasEntries};
 ghost use Rattle.gf_poly.specs.Polynomial.{IsDescending};
 ghost use Rattle.gf_buchberger.specs.Runs.{HaveVariables, AreReducers, IsMultipleAt, IsReducedPair, IsWorkedOff, IsPairRefusal, HaveSomeVariables, state_of, State, IsState, PairsPushed, IsAppended, SharesVariables, IsMonicRefusal, Counts, IsChain, IsExcused, IsSettledBy, IsSomeRun, IsWorkedThrough, IsStop};
 
 use crate::leading::leading;
 use crate::pairs::PairTable;
-use crate::queue::{Queue, Waiting};
+use crate::queue::{Queue, Strategy, Waiting};
 use gf_division::{reduced, s_poly};
 use gf_order::Order;
 use gf_poly::{Marked, Mono, Poly, PolyError};
@@ -19,6 +20,7 @@ pub struct Run {
     pub members: Vec<Marked>,
     pub table: PairTable,
     pub queue: Queue,
+    pub strategy: Strategy,
 }
 
 /// Why not all pairs are settled.
@@ -47,18 +49,21 @@ fn are_coprime(x: &Mono, y: &Mono) -> bool
 // Adds the pairs of these members with a new one, whose mark is `head`.
 fn push_pairs(
     queue: &mut Queue,
+    strategy: Strategy,
+    order: &Order,
     members: &[Marked],
     head: &Mono,
-    second: u32,
 ) -> Result<(), AllocError>
     requires room { length members.now < 2 ^ 32 }
     requires variables { HaveVariables (length head.now) members.now }
-    ensures { OnOk result (PairsPushed queue.old queue.new (length members.now) second) }
+    requires entries { HasEntries (length head.now) order.now }
+    ensures { OnOk result (PairsPushed queue.old queue.new (length members.now) (length members.now)) }
 {
+    let second = members.len() as u32;
     'members: for i in 0..members.len() {
-        let degree = members[i].head().lcm(head).degree();
+        let multiple = members[i].head().lcm(head);
         queue.push(Waiting {
-            degree,
+            key: strategy.key(order, &multiple),
             second,
             first: i as u32,
         })?;
@@ -68,7 +73,7 @@ fn push_pairs(
 
 impl Run {
     /// The run that has no members yet.
-    pub fn new(alloc: Global) -> Run
+    pub fn new(alloc: Global, strategy: Strategy) -> Run
         ensures members { result.members.items ≡ [] }
         ensures table { result.table ≡ record { members = 0; marks = [] } }
         ensures queue { result.queue ≡ [] }
@@ -77,6 +82,7 @@ impl Run {
             members: Vec::new(alloc),
             table: PairTable::new(alloc),
             queue: Queue::new(alloc),
+            strategy,
         }
     }
 
@@ -93,13 +99,18 @@ impl Run {
         ensures ok { OnOk result (IsAppended order.now r (state_of self.old) (state_of self.new)) }
         ensures cause { IfErr result (IsMonicRefusal order.now r) }
     {
-        let second = self.table.members();
-        if second == u32::MAX {
+        if self.table.members() == u32::MAX {
             return Err(PolyError::Memory);
         }
         let at = leading(order, r.terms());
         let member = Marked::mark(r, at).monic()?;
-        push_pairs(&mut self.queue, &self.members, member.head(), second)?;
+        push_pairs(
+            &mut self.queue,
+            self.strategy,
+            order,
+            &self.members,
+            member.head(),
+        )?;
         self.table.add_member()?;
         self.members.push(member)?;
         Ok(())

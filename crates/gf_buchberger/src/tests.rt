@@ -1,4 +1,4 @@
-ghost use Rattle.std.specs.Prelude.{◌≡◌, ◌∷◌, [], IfOk, List};
+ghost use Rattle.std.specs.Prelude.{◌≡◌, ◌∷◌, [], length, IfOk, List};
 ghost use Rattle.gf_order.specs.Comparisons.{HasEntries};
 ghost use Rattle.gf_poly.specs.Polynomial.{Terms, HasVariables};
 ghost use Rattle.gf_buchberger.specs.Jobs.{AreInRing, IsSuited};
@@ -171,6 +171,140 @@ fn spent(rt: HostRuntime) -> Result<(), Fail> {
         .err()
         .ok_or("a refusal")?;
     assert!(rt; matches!(&refusal, BasisError::PairBudget { .. }));
+    Ok(())
+}
+
+// c * x^i * y^j * z^k * t^l
+fn term_of_four(alloc: Global, coef: i64, exponents: [u8; 4]) -> Term
+    ensures { length result.mono ≡ 4 }
+{
+    let [i, j, k, l] = exponents;
+    let exponents = [u32::from(i), u32::from(j), u32::from(k), u32::from(l)];
+    Term {
+        coef: Frac::new(i128::from(coef), 1),
+        mono: Mono::new(alloc, &exponents),
+    }
+}
+
+// The sum of five terms in four variables.
+fn five(
+    alloc: Global,
+    first: Term,
+    second: Term,
+    third: Term,
+    fourth: Term,
+    fifth: Term,
+) -> Result<Poly, PolyError>
+    requires { HasVariables 4 (first ∷ second ∷ third ∷ fourth ∷ fifth ∷ []) }
+    ensures { IfOk result (HasVariables 4) }
+{
+    let terms = vec![in alloc; first, second, third, fourth, fifth]?;
+    Poly::from_terms(terms)
+}
+
+// x + 2y + 2z + 2t - 1
+fn linear(alloc: Global) -> Result<Poly, PolyError>
+    ensures { IfOk result (HasVariables 4) }
+{
+    five(
+        alloc,
+        term_of_four(alloc, 1, [1, 0, 0, 0]),
+        term_of_four(alloc, 2, [0, 1, 0, 0]),
+        term_of_four(alloc, 2, [0, 0, 1, 0]),
+        term_of_four(alloc, 2, [0, 0, 0, 1]),
+        term_of_four(alloc, -1, [0, 0, 0, 0]),
+    )
+}
+
+// x^2 + 2y^2 + 2z^2 + 2t^2 - x
+fn squares(alloc: Global) -> Result<Poly, PolyError>
+    ensures { IfOk result (HasVariables 4) }
+{
+    five(
+        alloc,
+        term_of_four(alloc, 1, [2, 0, 0, 0]),
+        term_of_four(alloc, 2, [0, 2, 0, 0]),
+        term_of_four(alloc, 2, [0, 0, 2, 0]),
+        term_of_four(alloc, 2, [0, 0, 0, 2]),
+        term_of_four(alloc, -1, [1, 0, 0, 0]),
+    )
+}
+
+// 2xy + 2yz + 2zt - y
+fn neighbours(alloc: Global) -> Result<Poly, PolyError>
+    ensures { IfOk result (HasVariables 4) }
+{
+    five(
+        alloc,
+        term_of_four(alloc, 1, [1, 1, 0, 0]),
+        term_of_four(alloc, 1, [1, 1, 0, 0]),
+        term_of_four(alloc, 2, [0, 1, 1, 0]),
+        term_of_four(alloc, 2, [0, 0, 1, 1]),
+        term_of_four(alloc, -1, [0, 1, 0, 0]),
+    )
+}
+
+// y^2 + 2xz + 2yt - z
+fn others(alloc: Global) -> Result<Poly, PolyError>
+    ensures { IfOk result (HasVariables 4) }
+{
+    five(
+        alloc,
+        term_of_four(alloc, 1, [0, 2, 0, 0]),
+        term_of_four(alloc, 1, [1, 0, 1, 0]),
+        term_of_four(alloc, 1, [1, 0, 1, 0]),
+        term_of_four(alloc, 2, [0, 1, 0, 1]),
+        term_of_four(alloc, -1, [0, 0, 1, 0]),
+    )
+}
+
+// Whether the term is c/d * x^i * y^j * z^k * t^l.
+fn is_term(t: &Term, numerator: i128, denominator: i128, exponents: [u32; 4]) -> bool {
+    t.coef.numer() == numerator
+        && t.coef.denom() == denominator
+        && t.mono.exponents() == exponents.as_slice()
+}
+
+// The list of the four.
+fn system(alloc: Global) -> Result<Vec<Poly>, PolyError>
+    ensures { IfOk result (λ fs. AreInRing 4 fs.items) }
+{
+    let (f, g) = (linear(alloc)?, squares(alloc)?);
+    let (h, k) = (neighbours(alloc)?, others(alloc)?);
+    let set = vec![in alloc; f, g, h, k]?;
+    Ok(set)
+}
+
+// The basis of a system in four variables by lex.
+fn basis_by_lex(alloc: Global, set: &[Poly]) -> Result<MarkedSet, BasisError>
+    requires { AreInRing 4 set.now }
+{
+    let order = Order::lex();
+    basis(alloc, 4, set, &order, 1000)
+}
+
+// Katsura's system in four variables by lex, its values worked out by SymPy 1.14: the last member is
+// t^8 - 8/11 t^7 + 4/33 t^6 + .. - 1/128304 t, and in the others y and z are told by t.
+#[test]
+fn katsura_by_lex(rt: HostRuntime) -> Result<(), Fail> {
+    let alloc = rt.alloc();
+    let set = system(alloc)?;
+    let found = basis_by_lex(alloc, &set).ok().ok_or("a basis")?;
+    let items = found.items();
+    assert!(rt; items.len() == 4);
+    let last = items[0].poly().terms();
+    assert!(rt; last.len() == 8);
+    assert!(rt; is_term(&last[0], 1, 1, [0, 0, 0, 8]));
+    assert!(rt; is_term(&last[1], -8, 11, [0, 0, 0, 7]));
+    assert!(rt; is_term(&last[2], 4, 33, [0, 0, 0, 6]));
+    assert!(rt; is_term(&last[7], -1, 128_304, [0, 0, 0, 1]));
+    let z = items[1].poly().terms();
+    assert!(rt; z.len() == 8);
+    assert!(rt; is_term(&z[0], 123_812_761_248, 1_971_025, [0, 0, 0, 7]));
+    assert!(rt; is_term(&z[6], 1, 1, [0, 0, 1, 0]));
+    let y = items[2].poly().terms();
+    assert!(rt; y.len() == 8);
+    assert!(rt; is_term(&y[0], -97_197_721_632, 1_971_025, [0, 0, 0, 7]));
     Ok(())
 }
 
