@@ -13,7 +13,7 @@ use Rattle.gfan_main.specs.declared.marked_basis.error.CheckError.{CheckError}
 use Rattle.gfan_main.specs.declared.marked_basis.error.CheckError.TheVariants as check_errors
 use Rattle.gfan_main.specs.Answers.{HasFault, of_text}
 use Rattle.gfan_main.specs.MarkedBases.{IsMarkedBasis, IsCheckRefusal}
-use Rattle.gfan_main.specs.MarkedAnswers.{IsMarkedSource, verdict_text, IsVerdict, IsMarkedAnswer, of_check, IsMarkedAnswerRefusal}
+use Rattle.gfan_main.specs.MarkedAnswers.{IsMarkedSource, GoesOnBehindMarked, verdict_text, IsVerdict, IsMarkedAnswer, of_check, IsMarkedAnswerRefusal}
 use Rattle.gfan_main.specs.Refused.{IsNamedBy}
 use Rattle.gfan_main.proofs.AnswerLaws.{IsBehindRing, at_source, set_fails}
 
@@ -33,7 +33,7 @@ is_marked_source source ring set p q b s e k = record {
 pub marked_ring_refused : (source : List ℕ) (p : Position) (e : TextError) → p ≡ record { source = source; at = 0 } → IsRingCause p e → IsMarkedAnswerRefusal source (of_text e)
 marked_ring_refused source p (text_errors.Overflow o) q h = absurd h
 marked_ring_refused source p (text_errors.Exponent o) q h = absurd h
-marked_ring_refused source p (text_errors.Syntax s) q h = HasFault.no_ring (subst (λ (z : Position). HasNoRing z (text_errors.Syntax s)) q h)
+marked_ring_refused source p (text_errors.Syntax s) q h = inl (HasFault.no_ring (subst (λ (z : Position). HasNoRing z (text_errors.Syntax s)) q h))
 marked_ring_refused source p (text_errors.TooWide at) q h = absurd h
 marked_ring_refused source p (text_errors.UnknownName at) q h = absurd h
 marked_ring_refused source p (text_errors.TooManyVariables count) q h = subst (λ (z : Position). HasTooMany z count) q h
@@ -43,7 +43,7 @@ marked_ring_refused source p text_errors.Memory q h = tt
 pub marked_set_refused : (source : List ℕ) (ring : List (List ℕ)) (p : Position) (e : TextError) → IsBehindRing source ring p → IsMarkedCause ring p e → IsMarkedAnswerRefusal source (of_text e)
 marked_set_refused source ring p (text_errors.Overflow o) b h = inl (set_fails source ring p (λ r q. HasSumOverflow r q o) b h)
 marked_set_refused source ring p (text_errors.Exponent o) b h = inl (set_fails source ring p (λ r q. HasExponentOverflow r q o) b h)
-marked_set_refused source ring p (text_errors.Syntax s) b h = HasFault.no_set (set_fails source ring p (λ r q. HasNoSet r q (text_errors.Syntax s)) b h)
+marked_set_refused source ring p (text_errors.Syntax s) b h = inl (HasFault.no_set (set_fails source ring p (λ r q. HasNoSet r q (text_errors.Syntax s)) b h))
 marked_set_refused source ring p (text_errors.TooWide at) b h = set_fails source ring p (λ r q. HasNoSet r q (text_errors.TooWide at)) b h
 marked_set_refused source ring p (text_errors.UnknownName at) b h = set_fails source ring p (λ r q. HasNoSet r q (text_errors.UnknownName at)) b h
 marked_set_refused source ring p (text_errors.TooManyVariables count) b h = absurd h
@@ -51,7 +51,15 @@ marked_set_refused source ring p (text_errors.ZeroPolynomial set index) b h = se
 marked_set_refused source ring p text_errors.Memory b h = tt
 
 pub marked_end_refused : (source : List ℕ) (ring : List (List ℕ)) (set : MarkedPolynomials) (p q : Position) (s : Syntax) → IsBehindRing source ring p → IsMarkedRead ring p q.at set → q.source ≡ p.source → IsMore q s → IsMarkedAnswerRefusal source (refusals.Syntax s)
-marked_end_refused source ring set p q s b r e h = HasFault.more ring r.written p.at q.at b.text (subst (λ (z : Position). IsSetRead ring z q.at r.written) (at_source source p b.source_is) r.read) (subst (λ (z : Position). IsMore z s) (at_source source q (e ∙ b.source_is)) h)
+marked_end_refused source ring set p q s b r e h = inr (record {
+  ring = ring;
+  set = set;
+  at = p.at;
+  end = q.at;
+  ring_text = b.text;
+  set_text = subst (λ (z : Position). IsMarkedRead ring z q.at set) (at_source source p b.source_is) r;
+  more = subst (λ (z : Position). IsMore z s) (at_source source q (e ∙ b.source_is)) h;
+})
 
 pub check_refused : (source : List ℕ) (ring : List (List ℕ)) (set : MarkedPolynomials) (e : CheckError) → IsMarkedSource source ring set → IsCheckRefusal set.variables set.items e → IsMarkedAnswerRefusal source (of_check e)
 check_refused source ring set (check_errors.Cone o) r h = record { ring = ring; set = set; read = r; fails = h }

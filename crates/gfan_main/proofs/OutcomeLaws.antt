@@ -1,17 +1,208 @@
--- What words are refused as.
-use Rattle.std.proofs.Common.{◌≡◌, ◌⊎◌, ℕ, List, Option, inl, inr, refl}
+-- How a run ends, from what its parts promise.
+-- To cite: words_usage, words_cause, took_nothing, within_done, within_refused, done_in_reach, refused_in_reach, text_not_done, text_refused,
+-- form_not_done, form_refused, long_not_done, long_refused. The rest are steps.
+use Rattle.std.specs.Prelude.{◌≡◌, ◌⊎◌, ℕ, ◌<◌, ◌≤◌, ◌++◌, List, [], length, Option, None, Some}
+use Rattle.std.specs.Io.KnownBytes.{Consumes, IsAtEnd}
+use Rattle.std.proofs.Common.{arith, refl, sym, ap, ◌∙◌, subst, inl, inr, length-append, append-nil}
+use Rattle.std.proofs.KnownBytes.{Consumes-nil}
+use Rattle.gf_outside.specs.Faults.{Rose}
+use Rattle.gf_outside.specs.Moved.{Counts, Took, TookAtMost, TookExactly}
+use Rattle.gf_front.specs.declared.command_line.Job.{Job}
 use Rattle.gf_front.specs.declared.command_line.WordsError.{WordsError}
 use Rattle.gf_front.specs.declared.command_line.WordsError.TheVariants as words_errors
+use Rattle.gf_front.specs.declared.refusal.Refusal.{Refusal}
 use Rattle.gf_front.specs.declared.refusal.Refusal.TheVariants as refusals
+use Rattle.gf_front.specs.declared.refusal.Status.{Status}
+use Rattle.gf_front.specs.declared.refusal.Status.TheVariants as statuses
+use Rattle.gf_front.specs.Jobs.{match_of, job_of, renamed, IsMatched, IsJobOf}
 use Rattle.gf_front.specs.Lines.{of_words}
-use Rattle.gfan_main.specs.Commands.{AsksNothing}
-use Rattle.gfan_main.specs.Run.{IsCause}
+use Rattle.gfan_main.specs.Commands.{IsAnswerTo, IsRefusalOf, IsWithinReach, IsOfText, IsOfForm}
+use Rattle.gfan_main.specs.Run.{IsKnown, IsGiven, ReadWhole, HasAnswer, Answered, AnsweredInPart, InputRefused, IsRefusedAs, IsDoneUnlessMemory, IsCause}
+use Rattle.gfan_main.proofs.ExactLaws.{exact_text, exact_form, text_no_answer, form_no_answer, all_answered}
+
+-- ---- bytes
+
+pub took_nothing : (left leaves : Option (List ℕ)) (given gives : ℕ) → leaves ≡ left → gives ≡ given → TookAtMost left leaves given gives 67108864
+took_nothing left leaves given gives p q = record {
+  bytes = [];
+  took = record { bytes_left = subst (λ l. Consumes left l []) (sym p) (Consumes-nil left); count = (omega (arith, q), omega (arith, q)) };
+  at_most = omega arith;
+}
+
+pub took_whole : (left leaves : Option (List ℕ)) (given gives : ℕ) (source : List ℕ) → ReadWhole left leaves given gives source → TookAtMost left leaves given gives 67108864
+took_whole left leaves given gives source r = record { bytes = source; took = r.took; at_most = r.short }
+
+-- what is known to be left is what is read whole
+read_known : (left leaves : Option (List ℕ)) (source bytes : List ℕ) → left ≡ Some source → Consumes left leaves bytes → IsAtEnd leaves → bytes ≡ source
+read_known left None source bytes k c e = absurd (subst (λ l. Consumes l None bytes) k c)
+read_known left (Some rest) source bytes k c e =
+    let p : source ≡ bytes ++ rest = subst (λ l. Consumes l (Some rest) bytes) k c in
+    sym (p ∙ ap (λ l. bytes ++ l) e ∙ append-nil bytes)
+
+-- no more is taken than is known to be left
+taken_known : (left leaves : Option (List ℕ)) (source bytes : List ℕ) → left ≡ Some source → Consumes left leaves bytes → length bytes ≤ length source
+taken_known left None source bytes k c = absurd (subst (λ l. Consumes l None bytes) k c)
+taken_known left (Some rest) source bytes k c =
+    let p : source ≡ bytes ++ rest = subst (λ l. Consumes l (Some rest) bytes) k c in
+    omega (arith, ap length p, length-append bytes rest)
+
+-- ---- words
 
 pub words_usage : (e : WordsError) → (of_words e ≡ refusals.Usage) ⊎ (of_words e ≡ refusals.Memory)
 words_usage words_errors.Usage = inl refl
 words_usage words_errors.Memory = inr refl
 
-pub words_cause : (words : List (List ℕ)) (left leaves : Option (List ℕ)) (given gives : ℕ) (held holds : Option (List ℕ)) (read reads written writes : ℕ) (e : WordsError)
-    → (e ≡ words_errors.Usage → AsksNothing words) → IsCause words left leaves given gives held holds read reads written writes (of_words e)
-words_cause words left leaves given gives held holds read reads written writes words_errors.Usage h = h refl
-words_cause words left leaves given gives held holds read reads written writes words_errors.Memory h = tt
+pub words_cause : (words : List (List ℕ)) (left : Option (List ℕ)) (given : ℕ) (held : Option (List ℕ)) (read written : ℕ) (e : WordsError)
+    → (e ≡ words_errors.Usage → IsMatched words → ⊥) → IsCause words left left given given held held read read written written (of_words e)
+words_cause words left given held read written words_errors.Usage h = h refl
+words_cause words left given held read written words_errors.Memory h = took_nothing left left given given refl refl
+
+same_job : (words : List (List ℕ)) (j k : Job) → IsJobOf words j → IsJobOf words k → k ≡ j
+same_job words j k a b =
+    let first = a.is in
+    let second = b.is in
+    let both : Some k ≡ Some j = sym second ∙ first in
+    cc
+
+-- ---- a run
+
+-- how a run may be refused on what is given: at the job, at a failed write, or for want of memory
+data IsRefusedHere (written writes : ℕ) (job : Job) (source : List ℕ) (r : Refusal) : Type 0 where
+  at_job : IsRefusalOf job source r → IsRefusedHere written writes job source r
+  at_write : (text : List ℕ) → Rose written writes → IsAnswerTo job source text → IsRefusedHere written writes job source r
+  at_memory : r ≡ refusals.Memory → IsRefusedHere written writes job source r
+
+module _ (words : List (List ℕ)) (left leaves : Option (List ℕ)) (given gives : ℕ) (held holds : Option (List ℕ)) (read reads written writes : ℕ) where
+  abbrev IsCauseHere : Refusal → Type 0
+  IsCauseHere r = IsCause words left leaves given gives held holds read reads written writes r
+
+  abbrev IsGivenHere : Job → List ℕ → Type 0
+  IsGivenHere job source = IsGiven words left read reads job source
+
+  -- what was answered or refused is the job that is given, on the source that is given
+  same_source : (source bytes : List ℕ) → IsKnown left read reads source → ReadWhole left leaves given gives bytes → bytes ≡ source
+  same_source source bytes k r = read_known left leaves source bytes k.bytes r.took.bytes_left r.end
+
+  answer_here : (job : Job) (source text : List ℕ) → IsGivenHere job source → HasAnswer words left leaves given gives text → IsAnswerTo job source text
+  answer_here job source text g a =
+      subst (λ j. IsAnswerTo j source text) (same_job words job a.job g.asked a.asked) (subst (λ s. IsAnswerTo a.job s text) (same_source source a.source g.known a.read) a.is_answer)
+
+  refusal_here : (job : Job) (source : List ℕ) (r : Refusal) → IsGivenHere job source → InputRefused words left leaves given gives r → IsRefusalOf job source r
+  refusal_here job source r g a =
+      subst (λ j. IsRefusalOf j source r) (same_job words job a.job g.asked a.asked) (subst (λ s. IsRefusalOf a.job s r) (same_source source a.source g.known a.read) a.refused)
+
+  not_too_long : (source : List ℕ) → IsKnown left read reads source → length source ≤ 67108864 → TookExactly left leaves given gives 67108865 → ⊥
+  not_too_long source k short t = let most = taken_known left leaves source t.bytes k.bytes t.took.bytes_left in omega (arith, most, short, t.exactly)
+
+  refused_here : (job : Job) (source : List ℕ) (r : Refusal) → IsGivenHere job source → IsCauseHere r → IsRefusedHere written writes job source r
+  refused_here job source refusals.Usage g c = absurd (c g.asked.matched)
+  refused_here job source refusals.ReadFault g c = absurd (g.known.calm c.0)
+  refused_here job source refusals.InputTooLong g c = absurd (not_too_long source g.known g.short c)
+  refused_here job source refusals.WriteFault g c = IsRefusedHere.at_write c.1.text c.0 (answer_here job source c.1.text g c.1.answer)
+  refused_here job source refusals.Memory g c = IsRefusedHere.at_memory refl
+  refused_here job source (refusals.Overflow x) g c = IsRefusedHere.at_job (refusal_here job source (refusals.Overflow x) g c)
+  refused_here job source (refusals.ExponentOverflow x) g c = IsRefusedHere.at_job (refusal_here job source (refusals.ExponentOverflow x) g c)
+  refused_here job source (refusals.NotTermOrder i) g c = IsRefusedHere.at_job (refusal_here job source (refusals.NotTermOrder i) g c)
+  refused_here job source (refusals.Syntax s) g c = IsRefusedHere.at_job (refusal_here job source (refusals.Syntax s) g c)
+  refused_here job source (refusals.TooWide at) g c = IsRefusedHere.at_job (refusal_here job source (refusals.TooWide at) g c)
+  refused_here job source (refusals.UnknownName at) g c = IsRefusedHere.at_job (refusal_here job source (refusals.UnknownName at) g c)
+  refused_here job source (refusals.TooManyVariables n) g c = IsRefusedHere.at_job (refusal_here job source (refusals.TooManyVariables n) g c)
+  refused_here job source (refusals.PairBudget b u) g c = IsRefusedHere.at_job (refusal_here job source (refusals.PairBudget b u) g c)
+  refused_here job source (refusals.ConeOverflow i op x y) g c = IsRefusedHere.at_job (refusal_here job source (refusals.ConeOverflow i op x y) g c)
+  refused_here job source (refusals.Dimensions x y) g c = IsRefusedHere.at_job (refusal_here job source (refusals.Dimensions x y) g c)
+  refused_here job source (refusals.ZeroPolynomial s i) g c = IsRefusedHere.at_job (refusal_here job source (refusals.ZeroPolynomial s i) g c)
+  refused_here job source (refusals.NotHomogeneous p x y) g c = IsRefusedHere.at_job (refusal_here job source (refusals.NotHomogeneous p x y) g c)
+
+  -- ---- within reach
+
+  pub refused_in_reach : (job : Job) (source : List ℕ) (r : Refusal) → IsGivenHere job source → IsWithinReach job source → (Rose written writes → ⊥) → IsCauseHere r → IsDoneUnlessMemory (statuses.Refused r)
+  refused_in_reach job source r g w calm c = at (refused_here job source r g c)
+    where
+      at : IsRefusedHere written writes job source r → IsDoneUnlessMemory (statuses.Refused r)
+      at (IsRefusedHere.at_job h) = inr (ap (λ d. statuses.Refused d) (all_answered job source r w h))
+      at (IsRefusedHere.at_write text rose a) = absurd (calm rose)
+      at (IsRefusedHere.at_memory m) = inr (ap (λ d. statuses.Refused d) m)
+
+  -- ---- what is refused exactly
+
+  refused_as : (r d : Refusal) → (d ≡ r) ⊎ (d ≡ refusals.Memory) → IsRefusedAs (statuses.Refused d) r
+  refused_as r d (inl e) = inl (ap (λ x. statuses.Refused x) e)
+  refused_as r d (inr e) = inr (ap (λ x. statuses.Refused x) e)
+
+  pub text_refused : (job : Job) (source : List ℕ) (r d : Refusal) → IsGivenHere job source → IsOfText r → IsRefusalOf job source r → IsCauseHere d → IsRefusedAs (statuses.Refused d) r
+  text_refused job source r d g t h c = at (refused_here job source d g c)
+    where
+      at : IsRefusedHere written writes job source d → IsRefusedAs (statuses.Refused d) r
+      at (IsRefusedHere.at_job k) = refused_as r d (exact_text job source r d t h k)
+      at (IsRefusedHere.at_write text rose a) = absurd (text_no_answer job source r text t h a)
+      at (IsRefusedHere.at_memory m) = refused_as r d (inr m)
+
+  pub form_refused : (job : Job) (source : List ℕ) (r d : Refusal) → IsGivenHere job source → IsOfForm r → IsRefusalOf job source r → IsCauseHere d → IsRefusedAs (statuses.Refused d) r
+  form_refused job source r d g f h c = at (refused_here job source d g c)
+    where
+      at : IsRefusedHere written writes job source d → IsRefusedAs (statuses.Refused d) r
+      at (IsRefusedHere.at_job k) = refused_as r d (exact_form job source r d f h k)
+      at (IsRefusedHere.at_write text rose a) = absurd (form_no_answer job source r text f h a)
+      at (IsRefusedHere.at_memory m) = refused_as r d (inr m)
+
+  pub text_not_done : (job : Job) (source : List ℕ) (r : Refusal) → IsGivenHere job source → IsOfText r → IsRefusalOf job source r → Answered words left leaves given gives held holds → ⊥
+  text_not_done job source r g t h a = text_no_answer job source r a.text t h (answer_here job source a.text g a.answer)
+
+  pub form_not_done : (job : Job) (source : List ℕ) (r : Refusal) → IsGivenHere job source → IsOfForm r → IsRefusalOf job source r → Answered words left leaves given gives held holds → ⊥
+  form_not_done job source r g f h a = form_no_answer job source r a.text f h (answer_here job source a.text g a.answer)
+
+  -- ---- how much is read
+
+  pub within_done : Answered words left leaves given gives held holds → TookAtMost left leaves given gives 67108864
+  within_done a = took_whole left leaves given gives a.answer.source a.answer.read
+
+  input_within : (r : Refusal) → InputRefused words left leaves given gives r → TookAtMost left leaves given gives 67108864
+  input_within r a = took_whole left leaves given gives a.source a.read
+
+  pub within_refused : (r : Refusal) → (r ≡ refusals.Usage → TookAtMost left leaves given gives 67108864) → (statuses.Refused r ≡ statuses.Refused refusals.InputTooLong → ⊥) → IsCauseHere r → TookAtMost left leaves given gives 67108864
+  within_refused refusals.Usage u n c = u refl
+  within_refused refusals.ReadFault u n c = c.1
+  within_refused refusals.InputTooLong u n c = absurd (n refl)
+  within_refused refusals.WriteFault u n c = took_whole left leaves given gives c.1.answer.source c.1.answer.read
+  within_refused refusals.Memory u n c = c
+  within_refused (refusals.Overflow x) u n c = input_within (refusals.Overflow x) c
+  within_refused (refusals.ExponentOverflow x) u n c = input_within (refusals.ExponentOverflow x) c
+  within_refused (refusals.NotTermOrder i) u n c = input_within (refusals.NotTermOrder i) c
+  within_refused (refusals.Syntax s) u n c = input_within (refusals.Syntax s) c
+  within_refused (refusals.TooWide at) u n c = input_within (refusals.TooWide at) c
+  within_refused (refusals.UnknownName at) u n c = input_within (refusals.UnknownName at) c
+  within_refused (refusals.TooManyVariables k) u n c = input_within (refusals.TooManyVariables k) c
+  within_refused (refusals.PairBudget b p) u n c = input_within (refusals.PairBudget b p) c
+  within_refused (refusals.ConeOverflow i op x y) u n c = input_within (refusals.ConeOverflow i op x y) c
+  within_refused (refusals.Dimensions x y) u n c = input_within (refusals.Dimensions x y) c
+  within_refused (refusals.ZeroPolynomial s i) u n c = input_within (refusals.ZeroPolynomial s i) c
+  within_refused (refusals.NotHomogeneous p x y) u n c = input_within (refusals.NotHomogeneous p x y) c
+
+  -- a longer input isn't read whole
+  not_whole : (source bytes : List ℕ) → IsKnown left read reads source → 67108864 < length source → ReadWhole left leaves given gives bytes → ⊥
+  not_whole source bytes k l r = let same : length bytes ≡ length source = ap length (same_source source bytes k r) in omega (arith, same, l, r.short)
+
+  pub long_not_done : (source : List ℕ) → IsKnown left read reads source → 67108864 < length source → Answered words left leaves given gives held holds → ⊥
+  long_not_done source k l a = not_whole source a.answer.source k l a.answer.read
+
+  input_not_long : (source : List ℕ) (r : Refusal) → IsKnown left read reads source → 67108864 < length source → InputRefused words left leaves given gives r → ⊥
+  input_not_long source r k l a = not_whole source a.source k l a.read
+
+  pub long_refused : (source : List ℕ) (r : Refusal) → IsKnown left read reads source → IsMatched words → 67108864 < length source → IsCauseHere r → IsRefusedAs (statuses.Refused r) refusals.InputTooLong
+  long_refused source refusals.Usage k m l c = absurd (c m)
+  long_refused source refusals.ReadFault k m l c = absurd (k.calm c.0)
+  long_refused source refusals.InputTooLong k m l c = inl refl
+  long_refused source refusals.WriteFault k m l c = absurd (not_whole source c.1.answer.source k l c.1.answer.read)
+  long_refused source refusals.Memory k m l c = inr refl
+  long_refused source (refusals.Overflow x) k m l c = absurd (input_not_long source (refusals.Overflow x) k l c)
+  long_refused source (refusals.ExponentOverflow x) k m l c = absurd (input_not_long source (refusals.ExponentOverflow x) k l c)
+  long_refused source (refusals.NotTermOrder i) k m l c = absurd (input_not_long source (refusals.NotTermOrder i) k l c)
+  long_refused source (refusals.Syntax s) k m l c = absurd (input_not_long source (refusals.Syntax s) k l c)
+  long_refused source (refusals.TooWide at) k m l c = absurd (input_not_long source (refusals.TooWide at) k l c)
+  long_refused source (refusals.UnknownName at) k m l c = absurd (input_not_long source (refusals.UnknownName at) k l c)
+  long_refused source (refusals.TooManyVariables i) k m l c = absurd (input_not_long source (refusals.TooManyVariables i) k l c)
+  long_refused source (refusals.PairBudget b p) k m l c = absurd (input_not_long source (refusals.PairBudget b p) k l c)
+  long_refused source (refusals.ConeOverflow i op x y) k m l c = absurd (input_not_long source (refusals.ConeOverflow i op x y) k l c)
+  long_refused source (refusals.Dimensions x y) k m l c = absurd (input_not_long source (refusals.Dimensions x y) k l c)
+  long_refused source (refusals.ZeroPolynomial s i) k m l c = absurd (input_not_long source (refusals.ZeroPolynomial s i) k l c)
+  long_refused source (refusals.NotHomogeneous p x y) k m l c = absurd (input_not_long source (refusals.NotHomogeneous p x y) k l c)

@@ -1,5 +1,5 @@
 -- Which refusals are told without a ring, and with which names the others are told.
--- To cite: named_text, named_basis, named_words, of_source, of_no_source, written_as_far. The rest are steps.
+-- To cite: named_text, named_words, of_source, of_no_source, written_as_far. The rest are steps.
 use Rattle.std.proofs.Common.{◌≡◌, List, ℕ, Option, None, Some, Result, Ok, Err, OnOk, OnErr, refl, ap, ◌∙◌, subst}
 use Rattle.std.specs.Io.KnownBytes.{Appends}
 use Rattle.std.specs.Borrow.{Bor}
@@ -12,9 +12,7 @@ use Rattle.gf_front.specs.declared.command_line.WordsError.{WordsError}
 use Rattle.gf_front.specs.declared.command_line.WordsError.TheVariants as words_errors
 use Rattle.gf_front.specs.declared.refusal.Refusal.{Refusal}
 use Rattle.gf_front.specs.Lines.{names_in, of_words, line}
-use Rattle.gf_buchberger.specs.declared.bases.BasisError.{BasisError}
-use Rattle.gf_buchberger.specs.declared.bases.BasisError.TheVariants as basis_errors
-use Rattle.gfan_main.specs.Answers.{of_text, of_basis}
+use Rattle.gfan_main.specs.Answers.{of_text}
 use Rattle.gfan_main.specs.Refused.{without_names, names_of, IsNamedBy, IsOfSource, WrittenAsFar}
 use Rattle.gfan_main.specs.Run.{IsOfInput}
 
@@ -29,12 +27,6 @@ named_text (text_errors.UnknownName at) = λ lent is. tt
 named_text (text_errors.TooManyVariables count) = λ lent is. tt
 named_text (text_errors.ZeroPolynomial set index) = λ lent is. tt
 named_text text_errors.Memory = λ lent is. tt
-
-pub named_basis : (e : BasisError) → IsNamedBy None (of_basis e)
-named_basis (basis_errors.Overflow o) = λ lent is. tt
-named_basis (basis_errors.Exponent o) = λ lent is. tt
-named_basis (basis_errors.PairBudget basis unsettled) = λ lent is. tt
-named_basis basis_errors.Memory = λ lent is. tt
 
 pub named_words : (e : WordsError) → IsNamedBy None (of_words e)
 named_words words_errors.Usage = λ lent is. tt

@@ -1,4 +1,5 @@
 pub mod Answers  -- what `_buchberger` reads and writes
+pub mod Checks  -- how what is read is checked, and what is asked then
 pub mod MarkingRows  -- the system of a marking
 pub mod MarkedBases  -- when a marked set is a basis, and why it isn't tested
 pub mod MarkedAnswers  -- what `_ismarkedgroebnerbasis` reads and writes

@@ -13,6 +13,8 @@ mod refused;
 mod run;
 #[cfg(test)]
 mod tests;
+#[cfg(test)]
+mod textbook_tests;
 
 use crate::refused::Refused;
 use crate::run::run;

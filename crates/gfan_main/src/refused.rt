@@ -4,7 +4,6 @@ ghost use Rattle.gf_front.specs.Lines.{line};
 ghost use Rattle.gfan_main.specs.Refused.{names_of, IsNamedBy, WrittenAsFar};
 
 use crate::marked_basis::CheckError;
-use gf_buchberger::BasisError;
 use gf_front::{Refusal, WordsError};
 use gf_outside::Sink;
 use gf_text::{Ring, Syntax, TextError};
@@ -90,22 +89,6 @@ impl From<TextError> for Refused {
             TextError::TooManyVariables { count } => Refusal::TooManyVariables { count },
             TextError::ZeroPolynomial { set, index } => Refusal::ZeroPolynomial { set, index },
             TextError::Memory => Refusal::Memory,
-        })
-    }
-}
-
-impl From<BasisError> for Refused {
-    ghost use Rattle.gfan_main.specs.Answers.{of_basis};
-    ghost use Rattle.gfan_main.specs.Refused.{without_names};
-
-    ghost from_gives = { λ b e. e ≡ without_names (of_basis b) };
-
-    fn from(error: BasisError) -> Refused {
-        Refused::from(match error {
-            BasisError::Overflow(o) => Refusal::Overflow(o),
-            BasisError::Exponent(o) => Refusal::ExponentOverflow(o),
-            BasisError::PairBudget { basis, unsettled } => Refusal::PairBudget { basis, unsettled },
-            BasisError::Memory => Refusal::Memory,
         })
     }
 }

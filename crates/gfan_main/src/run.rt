@@ -1,31 +1,20 @@
 // The top call.
 //
 // It gives the outside the answer or nothing; what it read and wrote is told by the source and the sinks.
-ghost use Rattle.std.specs.Prelude.{◌≡◌, ◌⊎◌, map, string_bytes, IfOk, IfErr, OnOk, IsErrOf, MatchResult};
+ghost use Rattle.std.specs.Prelude.{◌≡◌, ◌⊎◌, ℕ, ◌<◌, List, length, map, string_bytes, IfOk, IfErr, OnOk, IsErrOf, MatchResult};
 ghost use Rattle.std.specs.Io.KnownBytes.{Keeps};
 ghost use Rattle.gf_outside.specs.Faults.{Rose};
-ghost use Rattle.gf_outside.specs.Moved.{TookExactly};
-ghost use Rattle.gfan_main.specs.Commands.{Asks, AsksNothing};
-ghost use Rattle.gfan_main.specs.Run.{ReadWhole, IsReadingCause, Answered, AnsweredInPart, InputRefused, IsOfText, IsOfForm, IsOverflow, IsExponentOverflow, IsConeOverflow, IsPairBudget, IsCause, IsOfInput, IsTold};
+ghost use Rattle.gf_outside.specs.Moved.{TookExactly, TookAtMost};
+ghost use Rattle.gf_front.specs.Jobs.{IsMatched, IsJobOf};
+ghost use Rattle.gf_front.specs.declared.command_line.Job.{Job};
+ghost use Rattle.gfan_main.specs.Commands.{IsRefusalOf, IsWithinReach, IsOfText, IsOfForm, IsOverflow, IsExponentOverflow, IsConeOverflow, IsPairBudget};
+ghost use Rattle.gfan_main.specs.Run.{ReadWhole, IsReadingCause, Answered, AnsweredInPart, InputRefused, IsKnown, IsGiven, IsCause, IsOfInput, IsTold, IsRefusedAs, IsDoneUnlessMemory};
 
-use crate::commands::{answered, is_there};
+use crate::commands::answered;
 use crate::refused::Refused;
-use gf_front::{Job, Refusal, Status, WordsError, words};
+use gf_front::{Refusal, Status};
 use gf_outside::{InputError, Sink, Source, WriteFault, read_all, write_all};
 use std::alloc::Global;
-
-/// The job that the words ask for, where the program does it.
-fn asked(alloc: Global, all: &[String]) -> Result<Job, WordsError>
-    ensures job { IfOk result (Asks (map string_bytes all.now)) }
-    ensures usage { IsErrOf result WordsError.Usage → AsksNothing (map string_bytes all.now) }
-{
-    let job = words(alloc, all)?;
-    if is_there(&job) {
-        Ok(job)
-    } else {
-        Err(WordsError::Usage)
-    }
-}
 
 /// All bytes of the input.
 fn read<S: Source>(alloc: Global, input: &mut S) -> Result<Vec<u8>, Refusal>
@@ -59,13 +48,13 @@ fn outcome<S: Source, K: Sink>(
         (K.faults output.new) e.refusal) }
     ensures told { IfErr result (IsOfInput (S.left input.old) (S.left input.new) (S.given input.old)
         (S.given input.new)) }
-    ensures usage_always { AsksNothing (map string_bytes words.now) → MatchResult result (λ _. ⊥)
+    ensures usage_always { (IsMatched (map string_bytes words.now) → ⊥) → MatchResult result (λ _. ⊥)
         (λ e. (e.refusal ≡ Refusal.Usage) ⊎ (e.refusal ≡ Refusal.Memory)) }
     ensures unread { IfErr result (λ e. e.refusal ≡ Refusal.Usage → input.new ≡ input.old) }
     ensures quiet { IfErr result (λ e. (e.refusal ≡ Refusal.WriteFault → ⊥)
         → Keeps (K.held output.old) (K.held output.new)) }
 {
-    let job = asked(alloc, words)?;
+    let job = gf_front::words(alloc, words)?;
     let source = read(alloc, input)?;
     let text = answered(alloc, &job, &source)?;
     match write_all(output, &text) {
@@ -82,12 +71,12 @@ fn outcome<S: Source, K: Sink>(
 ///
 /// # Errors
 ///
-/// - `Usage` exactly where the words ask for no job that the program does; nothing is read then.
-/// - `ReadFault` only where a read of this call failed, `InputTooLong` only where one byte more than
+/// - `Usage` exactly where the table of commands has no match for the words; nothing is read then.
+/// - `ReadFault` only where a read of this call failed, `InputTooLong` exactly where one byte more than
 ///   67,108,864 was taken.
-/// - `Syntax`, `TooWide`, `UnknownName` and `TooManyVariables` for the first offending place of the input.
-/// - `NotTermOrder`, `Dimensions`, `ZeroPolynomial` and `NotHomogeneous` where what was read isn't of the form that the job
-///   needs.
+/// - `Syntax`, `TooWide`, `UnknownName` and `TooManyVariables` exactly for the first offending place of the input.
+/// - `Dimensions`, `NotTermOrder`, `NotHomogeneous` and `ZeroPolynomial` exactly where what was read isn't of the form that the
+///   job needs, at the first place.
 /// - `Overflow`, `ExponentOverflow` and `ConeOverflow` only for operands that the job may have, and that don't fit;
 ///   `PairBudget` only where the budget of the words is spent.
 /// - `WriteFault` only where a write of this call failed, or took nothing; a prefix of the answer may be
@@ -105,9 +94,14 @@ pub fn run<S: Source, K: Sink, E: Sink>(
         (S.left input.new) (S.given input.old) (S.given input.new) (K.held output.old)
         (K.held output.new) }
 
-    // Usage exactly where the words ask for nothing that the program does, and nothing is read then.
-    ensures usage { result ≡ Status.Refused Refusal.Usage → AsksNothing (map string_bytes words.now) }
-    ensures usage_always { AsksNothing (map string_bytes words.now)
+    // Done, unless there is no memory, where nothing that the job may do with the input leaves its limits.
+    ensures complete { (job : Job) (source : List ℕ) → IsGiven (map string_bytes words.now) (S.left input.old)
+        (S.faults input.old) (S.faults input.new) job source → IsWithinReach job source
+        → (Rose (K.faults output.old) (K.faults output.new) → ⊥) → IsDoneUnlessMemory result }
+
+    // Usage exactly where the table has no match for the words, and nothing is read then.
+    ensures usage { result ≡ Status.Refused Refusal.Usage → IsMatched (map string_bytes words.now) → ⊥ }
+    ensures usage_always { (IsMatched (map string_bytes words.now) → ⊥)
         → (result ≡ Status.Refused Refusal.Usage) ⊎ (result ≡ Status.Refused Refusal.Memory) }
     ensures unread { result ≡ Status.Refused Refusal.Usage → input.new ≡ input.old }
 
@@ -117,15 +111,29 @@ pub fn run<S: Source, K: Sink, E: Sink>(
     ensures too_long { result ≡ Status.Refused Refusal.InputTooLong → TookExactly (S.left input.old)
         (S.left input.new) (S.given input.old) (S.given input.new) 67_108_865 }
 
+    ensures short { (result ≡ Status.Refused Refusal.InputTooLong → ⊥) → TookAtMost (S.left input.old)
+        (S.left input.new) (S.given input.old) (S.given input.new) 67_108_864 }
+    ensures long { (source : List ℕ) → IsKnown (S.left input.old) (S.faults input.old) (S.faults input.new) source
+        → IsMatched (map string_bytes words.now) → 67_108_864 < length source
+        → IsRefusedAs result Refusal.InputTooLong }
+
     // It is read whole, and its text has a first offending place.
     ensures text { (refusal : Refusal) → result ≡ Status.Refused refusal → IsOfText refusal
         → InputRefused (map string_bytes words.now) (S.left input.old) (S.left input.new)
         (S.given input.old) (S.given input.new) refusal }
 
+    ensures text_always { (job : Job) (source : List ℕ) (refusal : Refusal) → IsGiven (map string_bytes words.now)
+        (S.left input.old) (S.faults input.old) (S.faults input.new) job source → IsOfText refusal
+        → IsRefusalOf job source refusal → IsRefusedAs result refusal }
+
     // What is read isn't of the form that the job needs.
     ensures form { (refusal : Refusal) → result ≡ Status.Refused refusal → IsOfForm refusal
         → InputRefused (map string_bytes words.now) (S.left input.old) (S.left input.new)
         (S.given input.old) (S.given input.new) refusal }
+
+    ensures form_always { (job : Job) (source : List ℕ) (refusal : Refusal) → IsGiven (map string_bytes words.now)
+        (S.left input.old) (S.faults input.old) (S.faults input.new) job source → IsOfForm refusal
+        → IsRefusalOf job source refusal → IsRefusedAs result refusal }
 
     // The job has an operation whose operands don't fit.
     ensures overflow { (refusal : Refusal) → result ≡ Status.Refused refusal → IsOverflow refusal

@@ -1,3 +1,4 @@
+use Rattle.std.specs.Prelude.{map, string_bytes}
 use Rattle.std.proofs.Common.{ap, Err}
 use Rattle.std.proofs.lemmas.Result.{err_from_is_err_and}
 use Rattle.gfan_main.proofs.RefusedLaws.{named_words, of_no_source}
@@ -7,7 +8,7 @@ use Rattle.gfan_main.proofs.run.outcome.Goals as goal
 pub returns-in_err-job-clause-cause : goal.returns-in_err-job-clause-cause
 returns-in_err-job-clause-cause g c =
     let p = err_from_is_err_and c.from_residual.result c.from_residual.ensures.1 in
-    rw (p.1, p.2) (words_cause _ _ _ _ _ _ _ _ _ _ _ c.in_err-job.field-0.0 (λ e. c.in_err-job.ensures.usage (ap (λ w. Err w) e)))
+    rw (p.1, p.2) (words_cause (map string_bytes c.args.words.now) (g.S.Source.left c.args.input.now) (g.S.Source.given c.args.input.now) (g.K.Sink.held c.args.output.now) (g.S.Source.faults c.args.input.now) (g.K.Sink.faults c.args.output.now) c.in_err-job.field-0.0 (λ e. c.in_err-job.ensures.usage (ap (λ w. Err w) e)))
 
 pub returns-in_err-job-clause-told : goal.returns-in_err-job-clause-told
 returns-in_err-job-clause-told g c =
