@@ -123,17 +123,6 @@ fn natural_quotient(q: u128, g: u128) -> u128
     q / g
 }
 
-/// The numbers of the lowest terms of `p/q`, which are in range.
-pub fn lowest(p: i128, q: u128) -> (i128, u128)
-    requires numerator { InRange p }
-    requires positive { 0 < q }
-    requires fits { q < 2 ^ 127 }
-    ensures { IsReduced p q result }
-{
-    let g = common(p.unsigned_abs(), q);
-    (quotient(p, g), natural_quotient(q, g))
-}
-
 // The numbers of the lowest terms of `p/q`, whose common divisors are those of `p` and `g`.
 fn lowest_by(p: i128, q: u128, g: u128) -> (i128, u128)
     requires numerator { InRange p }
@@ -149,6 +138,16 @@ fn lowest_by(p: i128, q: u128, g: u128) -> (i128, u128)
     }
     let t = common(p.unsigned_abs(), g);
     (quotient(p, t), natural_quotient(q, t))
+}
+
+/// The numbers of the lowest terms of `p/q`, which are in range.
+pub fn lowest(p: i128, q: u128) -> (i128, u128)
+    requires numerator { InRange p }
+    requires positive { 0 < q }
+    requires fits { q < 2 ^ 127 }
+    ensures { IsReduced p q result }
+{
+    lowest_by(p, q, q)
 }
 
 /// The numbers of the sum of `a/b` and `c/d` in lowest terms, where the working stays in range.

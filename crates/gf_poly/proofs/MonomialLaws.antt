@@ -1,6 +1,6 @@
 -- Exponents as slices, and what a loop over the variables has done.
 -- To cite: entry-get_or, taken_is, plus-minus, length-plus, length-minus, length-join, divides_by_entries, entries_by_divides.
-use Rattle.std.specs.Prelude.{◌≡◌, ℕ, zero, suc, ◌+◌, ◌<◌, ◌≤◌, ◌^◌, ◌⊎◌, List, [], ◌∷◌, length, take, All}
+use Rattle.std.specs.Prelude.{◌≡◌, ℕ, zero, suc, ◌+◌, ◌*◌, ◌<◌, ◌≤◌, ◌^◌, ◌⊎◌, List, [], ◌∷◌, length, take, All}
 use Rattle.std.proofs.Common.{arith, refl, sym, ap, subst, ◌∙◌, inl, inr, get_or, add-one}
 use Rattle.std.proofs.Math.ListN.{set}
 use Rattle.std.proofs.lemmas.Bool.{cases_lt}
@@ -12,6 +12,7 @@ use Rattle.gf_poly.specs.declared.TheConstants.{ROOM}
 use Rattle.gf_poly.specs.Monomial.{IsMonomial, ProductFits, IsFirstOverflow}
 use Rattle.gf_poly.specs.declared.monomial.ExponentOverflow.{ExponentOverflow}
 pub use Rattle.gf_exponents.proofs.ExponentsLaws.{entry-get_or, same_lists}
+use Rattle.gf_exponents.proofs.WeightLaws.{degree-plus}
 use Rattle.gf_exponents.proofs.ExponentsLaws.{entry-past, entry-plus, entry-minus, entry-join, entries_same, same_by_entries}
 
 -- ---- entries
@@ -150,3 +151,15 @@ degree-take x i l = ap (λ j. degree (take j x)) (add-one i) ∙ at x i l
     at [] i l = absurd (omega arith)
     at (a ∷ x) zero l = omega arith
     at (a ∷ x) (suc i) l = omega (arith, at x i (omega arith))
+
+-- where each exponent is within the limit
+pub degree-limit : (x : List ℕ) → All (λ k. k < 2 ^ 31) x → degree x ≤ length x * 2 ^ 31
+degree-limit [] h = omega arith
+degree-limit (a ∷ x) h = omega (arith, h 0 0 (omega arith), degree-limit x (λ k d l. h (suc k) d (omega arith)))
+
+-- the degree of a product that fits is no wide number
+pub degrees-fit : (x y : Exponents) → IsMonomial x → IsMonomial y → degree x + degree y < 2 ^ 64
+degrees-fit x y h k = omega (arith, degree-limit x h.limit, degree-limit y k.limit, h.room, k.room)
+
+pub degree-minus : (x y : Exponents) → length x ≡ length y → Divides y x → degree (minus x y) + degree y ≡ degree x
+degree-minus x y e d = sym (degree-plus (minus x y) y) ∙ ap degree (plus-minus x y e d)

@@ -1,18 +1,24 @@
 -- Monomials as they are kept, and where a product of two has exponents within the limit.
 -- Exponents are below 2^31; a variable past the end has exponent 0, so the words need no equal lengths.
 -- Laws: proofs/MonomialLaws.antt.
-use Rattle.std.specs.Prelude.{◌≡◌, ℕ, ◌+◌, ◌<◌, ◌≤◌, ◌^◌, length, All}
+use Rattle.std.specs.Prelude.{◌≡◌, ℕ, ◌+◌, ◌<◌, ◌≤◌, ◌^◌, length, All, min}
+use Rattle.std.specs.Int.{bit_at}
 use Rattle.smallvec.specs.SmallVec.{SmallVec}
 use Rattle.gf_exponents.specs.Exponents.{Exponents, entry, degree}
 use Rattle.gf_poly.specs.declared.TheConstants.{ROOM}
 use Rattle.gf_poly.specs.declared.monomial.ExponentOverflow.{ExponentOverflow}
 
--- what is kept of a monomial: its exponents, inline, and their sum
-pub record IsMono (total : ℕ) (v : SmallVec ℕ) : Type 0 where
+-- bit i of w says whether variable i occurs in x
+pub record IsWordOf (x : Exponents) (w : ℕ) : Type 0 where
+  pub bits : (i : ℕ) → bit_at w i ≡ min (entry x i) 1
+
+-- what is kept of a monomial: its exponents, inline, their sum, and the word of the variables that occur
+pub record IsMono (total word : ℕ) (v : SmallVec ℕ) : Type 0 where
   pub room : length v.items ≤ ROOM
   pub limit : All (λ x. x < 2 ^ 31) v.items
   pub inline : v.capacity ≡ ROOM
   pub total_degree : total ≡ degree v.items
+  pub occurring : IsWordOf v.items word
 
 -- at most as many variables as there is room for, and exponents within the limit
 pub record IsMonomial (x : Exponents) : Type 0 where

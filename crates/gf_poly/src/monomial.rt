@@ -1,9 +1,9 @@
-//! Monomials: up to `ROOM` exponents, kept inline with their sum.
+//! Monomials: up to `ROOM` exponents, kept inline with their sum and with a word of the variables that occur.
 
-ghost use Rattle.std.specs.Prelude.{◌≡◌, ◌≤◌, ◌<◌, ◌^◌, ◌↔◌, length, take, All, IfOk, IfErr, IsOk, IsTrue};
+ghost use Rattle.std.specs.Prelude.{◌≡◌, ◌≤◌, ◌<◌, ◌^◌, ◌↔◌, length, take, bit_and, All, IfOk, IfErr, IsOk, IsTrue};
 ghost use Rattle.gf_exponents.specs.Exponents.{plus, minus, join, Divides, degree as total_degree};
 ghost use Rattle.gf_exponents.specs.Orders.{deglex};
-ghost use Rattle.gf_poly.specs.Monomial.{IsMonomial, ProductFits, IsFirstOverflow};
+ghost use Rattle.gf_poly.specs.Monomial.{IsMonomial, IsWordOf, ProductFits, IsFirstOverflow};
 
 use super::ROOM;
 use smallvec::SmallVec;
@@ -15,6 +15,7 @@ use std::marker::Model;
 #[derive(Drop)]
 pub struct Mono {
     total: u64,
+    word: u16,
     exponents: SmallVec<u32, ROOM>,
 }
 
@@ -26,7 +27,7 @@ impl Model for Mono {
 
     ghost view = { λ m. m.exponents.items };
 
-    ghost invariant = { λ m. IsMono m.total m.exponents };
+    ghost invariant = { λ m. IsMono m.total m.word m.exponents };
 }
 
 /// Two exponents of one variable whose sum is above `2^31 - 1`.
@@ -47,6 +48,20 @@ fn total_of(exponents: &[u32]) -> u64
         total += u64::from(exponents[i]);
     }
     total
+}
+
+// The word of the variables that occur: bit i is set where variable i has another exponent than 0.
+fn word_of(exponents: &[u32]) -> u16
+    requires { length exponents.now ≤ ROOM }
+    ensures { IsWordOf exponents.now result }
+{
+    let mut word = 0u16;
+    'entries: for i in 0..exponents.len() {
+        if exponents[i] != 0 {
+            word |= 1 << i;
+        }
+    }
+    word
 }
 
 // The exponents of the product, or the first two whose sum is above the limit.
@@ -70,6 +85,13 @@ fn sums(x: &[u32], y: &[u32]) -> Result<[u32; ROOM], ExponentOverflow>
         all[i] = sum as u32;
     }
     Ok(all)
+}
+
+// Whether each variable of the word `x` is one of the word `y`.
+fn is_within(x: u16, y: u16) -> bool
+    ensures { IsTrue result ↔ (bit_and x y ≡ x) }
+{
+    x & y == x
 }
 
 // Whether each exponent of `x` is at most that of `y`.
@@ -118,8 +140,19 @@ impl Mono {
         requires { IsMonomial exponents.now }
         ensures { result ≡ exponents.now }
     {
+        Mono::known(alloc, exponents, total_of(exponents), word_of(exponents))
+    }
+
+    // The monomial with these exponents, whose sum and word are known.
+    fn known(alloc: Global, exponents: &[u32], total: u64, word: u16) -> Mono
+        requires exponents { IsMonomial exponents.now }
+        requires total { total ≡ total_degree exponents.now }
+        requires word { IsWordOf exponents.now word }
+        ensures { result ≡ exponents.now }
+    {
         Mono {
-            total: total_of(exponents),
+            total,
+            word,
             exponents: SmallVec::from_slice(alloc, exponents).unwrap(),
         }
     }
@@ -136,7 +169,12 @@ impl Mono {
     pub fn copy(&self) -> Mono
         ensures { result ≡ self.now }
     {
-        Mono::new(*self.exponents.allocator(), self.exponents())
+        Mono::known(
+            *self.exponents.allocator(),
+            self.exponents(),
+            self.total,
+            self.word,
+        )
     }
 
     /// The total degree.
@@ -144,6 +182,13 @@ impl Mono {
         ensures { result ≡ total_degree self.now }
     {
         self.total
+    }
+
+    // The word of the variables that occur.
+    fn word(&self) -> u16
+        ensures { IsWordOf self.now result }
+    {
+        self.word
     }
 
     /// The product with `other`, which has the same variables.
@@ -160,7 +205,12 @@ impl Mono {
     {
         let x = self.exponents();
         let all = sums(x, other.exponents())?;
-        Ok(Mono::new(*self.exponents.allocator(), &all[..x.len()]))
+        Ok(Mono::known(
+            *self.exponents.allocator(),
+            &all[..x.len()],
+            self.total + other.total,
+            self.word | other.word,
+        ))
     }
 
     /// Whether `other`, which has the same variables, is a multiple of this monomial.
@@ -168,7 +218,7 @@ impl Mono {
         requires { length self.now ≡ length other.now }
         ensures { IsTrue result ↔ Divides self.now other.now }
     {
-        is_below(self.exponents(), other.exponents())
+        is_within(self.word(), other.word()) && is_below(self.exponents(), other.exponents())
     }
 
     /// The quotient by `by`, which has the same variables and divides this monomial.
@@ -180,7 +230,13 @@ impl Mono {
     {
         let x = self.exponents();
         let all = differences(x, by.exponents());
-        Mono::new(*self.exponents.allocator(), &all[..x.len()])
+        let quotient = &all[..x.len()];
+        Mono::known(
+            *self.exponents.allocator(),
+            quotient,
+            self.total - by.total,
+            word_of(quotient),
+        )
     }
 
     /// The least common multiple with `other`, which has the same variables.
@@ -190,7 +246,13 @@ impl Mono {
     {
         let x = self.exponents();
         let all = maxima(x, other.exponents());
-        Mono::new(*self.exponents.allocator(), &all[..x.len()])
+        let multiple = &all[..x.len()];
+        Mono::known(
+            *self.exponents.allocator(),
+            multiple,
+            total_of(multiple),
+            self.word | other.word,
+        )
     }
 
     /// The comparison by deglex: the total degree first, then the first exponent that differs.
