@@ -1,6 +1,6 @@
 -- What is said of polynomials is combined to these polynomials, with their marks.
 -- To cite: listed, all_listed, sums_listed, listed_fit, listed_written. The rest are steps.
-use Rattle.std.proofs.Common.{◌≡◌, ◌≢◌, ◌≤◌, ◌<◌, ◌^◌, ◌+◌, ◌-◌, ℕ, zero, suc, ℤ, pos, negsuc, Bool, true, false, cond, ◌==◌, nat_lt, slice_index, slice_set, slice_get, replicate, IfSome, List, [], ◌∷◌, ◌++◌, length, bytes_eq, Result, Ok, Err, Some, None, refl, sym, ap, subst, ◌∙◌, inl, inr, arith, append_assoc, length-append, if◌then◌else◌}
+use Rattle.std.proofs.Common.{◌≡◌, ◌≢◌, ◌≤◌, ◌<◌, ◌^◌, ◌+◌, ◌-◌, ℕ, zero, suc, ℤ, pos, negsuc, Bool, true, false, cond, ◌==◌, nat_lt, slice_index, slice_set, replicate, List, [], ◌∷◌, ◌++◌, length, bytes_eq, Ok, refl, sym, ap, subst, ◌∙◌, inl, inr, arith, append_assoc, length-append, if◌then◌else◌}
 use Rattle.std.specs.Prelude.{Contains}
 use Rattle.std.specs.Ordering.{is_eq}
 use Rattle.std.specs.declared.cmp.Ordering.{Ordering}
@@ -8,27 +8,24 @@ use Rattle.std.specs.declared.cmp.Ordering.TheVariants.{Greater, Less, Equal}
 use Rattle.std.specs.Int.RustNames.{unsigned_abs}
 use Rattle.std.proofs.lemmas.Bool.Decides.{eqb_tells, nat_tests}
 use Rattle.std.proofs.lemmas.Slice.Eq.{bytes_eq-Decides}
-use Rattle.gf_frac.specs.Fraction.{Fraction, over, over-parts, ◌+ℚ◌, neg_ℚ, zero_ℚ}
+use Rattle.gf_frac.specs.Fraction.{Fraction, over, over-parts, ◌+ℚ◌, zero_ℚ}
 use Rattle.gf_frac.proofs.FractionLaws.{over-neg, +ℚ_assoc, +ℚ_comm, +ℚ-zero, zero-+ℚ}
 use Rattle.gf_exponents.specs.Exponents.{Exponents, same}
 use Rattle.gf_exponents.specs.Orders.{deglex}
 use Rattle.gf_exponents.proofs.ExponentsLaws.{same-refl}
 use Rattle.gf_poly.specs.declared.Term.{Term}
-use Rattle.gf_poly.specs.declared.monomial.ExponentOverflow.{ExponentOverflow}
-use Rattle.gf_poly.specs.Polynomial.{Terms, IsAbove, IsDescending, HasVariables, SamePolynomial, KeepsVariables, coefficient}
+use Rattle.gf_poly.specs.Polynomial.{Terms, IsDescending, HasVariables, SamePolynomial, coefficient}
 use Rattle.gf_poly.specs.Collecting.{like, LikeSumsFit}
-use Rattle.gf_poly.specs.Marking.{MarkedPolynomial, IsMarked}
-use Rattle.gf_poly.proofs.CoefficientLaws.{apart, coefficient-contains}
+use Rattle.gf_poly.specs.Marking.{MarkedPolynomial}
+use Rattle.gf_poly.proofs.CoefficientLaws.{apart}
 use Rattle.gf_poly.proofs.DescendingLaws.{equal_same, Contains-cons, Contains-none}
-use Rattle.gf_text.specs.declared.tree.Factor.{Factor}
-use Rattle.gf_text.specs.declared.tree.WrittenTerm.{WrittenTerm}
 use Rattle.gf_text.specs.declared.written.Written.{Written}
 use Rattle.gf_text.specs.declared.written.Written.TheVariants as written
 use Rattle.gf_text.specs.PrintedText.{is_below_zero}
-use Rattle.gf_text.specs.Combining.{raised, then_factors, times_factors, signed, exponents_of, coefficient_of, with_coefficient, term_of, terms_of, sums_of, before_all, IsFirstRemaining, IsSumMarked, NoneRemains}
-use Rattle.gf_text.specs.Sets.{IsWritten, AreWritten, SumsFit as AllSumsFit}
+use Rattle.gf_text.specs.Combining.{raised, then_factors, times_factors, signed, exponents_of, coefficient_of, with_coefficient, term_of, terms_of, sums_of, before_all, IsSumMarked, NoneRemains}
+use Rattle.gf_text.specs.Sets.{AreWritten, SumsFit as AllSumsFit}
 use Rattle.gf_text.specs.WrittenText.{IsKept, IsWrittenKept, AreWrittenKept}
-use Rattle.gf_text.proofs.OneTermLaws.{short_fits, one_fits}
+use Rattle.gf_text.proofs.DescendingSumsLaws.{short_fits, one_fits, like-short}
 use Rattle.gf_text.proofs.PrintedTermsLaws.{AreSmall, factors_from, term_said}
 use Rattle.gf_text.proofs.PrintedPolynomialsLaws.{IsFine, AreFine, all_fine, fine_at, head_term, head_is, others_said, said, all_said}
 
@@ -118,22 +115,6 @@ sums_listed n [] kept = refl
 sums_listed n (w ∷ ws) kept = ap (λ r. before_all r (sums_of n (all_said ws))) (terms_listed n w kept.0) ∙ ap (before_all (Ok (listed n w))) (sums_listed n ws kept.1)
 
 -- ---- sums of like terms
-
-never : (o : Ordering) → o ≡ Greater → o ≡ Equal → ⊥
-never o h k = cc
-
-like-above : (x : Exponents) (f : Terms) → IsAbove x f → length (like x f) ≡ 0
-like-above x [] above = refl
-like-above x (t ∷ f) above = let g = above.0 in rw g (like-above x f above.1)
-
-like-short : (x : Exponents) (f : Terms) → IsDescending f → length (like x f) ≤ 1
-like-short x [] descending = omega arith
-like-short x (t ∷ f) descending = by (deglex x t.mono) refl (like-short x f descending.2)
-  where
-    by : (o : Ordering) → deglex x t.mono ≡ o → length (like x f) ≤ 1 → length (cond (is_eq o) (t ∷ like x f) (like x f)) ≤ 1
-    by Less is later = later
-    by Greater is later = later
-    by Equal is later = let none = like-above x f (subst (λ y. IsAbove y f) (sym (equal_same x t.mono is)) descending.1) in omega arith
 
 with_one : (o : Bool) (t : Term) (f g : Terms) → length f ≤ length g → length f ≤ length (cond o (t ∷ g) g)
 with_one true t f g h = omega arith

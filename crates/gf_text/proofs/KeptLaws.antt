@@ -1,6 +1,6 @@
 -- What the program keeps is in range, one after another.
 -- To cite: in_range_next, kept_next, variables_of. The rest are steps.
-use Rattle.std.proofs.Common.{◌≡◌, ◌<◌, ◌+◌, ℕ, zero, suc, arith, List, [], ◌∷◌, ◌++◌, length, take, get_or}
+use Rattle.std.proofs.Common.{◌<◌, ◌+◌, ℕ, zero, suc, arith, List, [], ◌∷◌, ◌++◌, length, take, get_or}
 use Rattle.std.proofs.lemmas.List.{take_more}
 use Rattle.gf_poly.specs.declared.Term.{Term}
 use Rattle.gf_poly.specs.Polynomial.{Terms, HasVariables}

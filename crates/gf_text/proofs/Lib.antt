@@ -10,7 +10,7 @@ pub mod VectorKindsLaws  -- of which kind a fault of a vector is
 pub mod PrintedTextLaws  -- the pieces of printed terms
 pub mod LimitsLaws  -- what a text says is within its limits
 pub mod CombiningLaws  -- terms and sums of terms, one after another
-pub mod OneTermLaws  -- sums of one term
+pub mod DescendingSumsLaws  -- terms that descend are their own sum
 pub mod SetsLaws  -- sums of terms, one after another
 pub mod PrintedSetsLaws  -- the pieces of printed polynomials and sets
 pub mod SetTokensLaws  -- names, numbers and marks of a set

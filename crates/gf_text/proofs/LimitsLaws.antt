@@ -1,10 +1,10 @@
 -- What a text of a set says is within its limits.
 -- To cite: set_within; factor_at, term_at for a loop. The rest are steps.
-use Rattle.std.proofs.Common.{◌≡◌, ◌<◌, ◌≤◌, ◌^◌, ◌+◌, ◌-◌, ℕ, zero, suc, Bool, true, false, List, [], ◌∷◌, ◌++◌, length, get_or, Option, Some, None, inl, inr, refl, sym, ap, subst, arith, bytes_eq, if◌then◌else◌}
+use Rattle.std.proofs.Common.{◌≡◌, ◌<◌, ◌^◌, ◌+◌, ℕ, zero, suc, Bool, true, false, List, [], ◌∷◌, length, get_or, Some, inl, inr, arith, bytes_eq, if◌then◌else◌}
 use Rattle.std.specs.List.{position_from}
 use Rattle.gf_text.specs.declared.tree.Factor.{Factor}
 use Rattle.gf_text.specs.declared.tree.WrittenTerm.{WrittenTerm}
-use Rattle.gf_text.specs.SetText.{variable, most, most_exponent, IsNumberText, IsFactorText, AreMoreFactors, IsMonomialText, IsRationalText, IsTermText, AreMoreTerms, IsPolynomialText, AreMorePolynomials, IsSetText}
+use Rattle.gf_text.specs.SetText.{variable, IsFactorText, AreMoreFactors, IsMonomialText, IsRationalText, IsTermText, AreMoreTerms, IsPolynomialText, AreMorePolynomials, IsSetText}
 use Rattle.gf_text.specs.Limits.{IsFactorWithin, AreFactorsWithin, IsTermWithin, AreTermsWithin, AreWithin}
 
 -- ---- from the grammar

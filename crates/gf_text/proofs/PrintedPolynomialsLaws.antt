@@ -1,6 +1,6 @@
 -- What printed polynomials and sets say: their tokens, and that these are the text of a set.
 -- To cite: said, all_said, set_again; IsFine, fine_at, mark_fine. The rest are steps.
-use Rattle.std.proofs.Common.{◌≡◌, ◌≢◌, ◌≤◌, ◌<◌, ◌^◌, ◌+◌, ◌-◌, ℕ, zero, suc, Bool, true, false, ◌&&◌, All, List, [], ◌∷◌, ◌++◌, length, get_or, flat_map, bytes_eq, refl, sym, ap, subst, ◌∙◌, inl, inr, arith, append_assoc, if◌then◌else◌}
+use Rattle.std.proofs.Common.{◌≡◌, ◌<◌, ◌^◌, ◌+◌, ℕ, suc, Bool, true, false, ◌&&◌, All, List, [], ◌∷◌, ◌++◌, length, flat_map, bytes_eq, refl, sym, ap, subst, ◌∙◌, inl, inr, arith, append_assoc, if◌then◌else◌}
 use Rattle.std.specs.List.{list_all}
 use Rattle.std.specs.Prelude.{Contains}
 use Rattle.std.specs.Int.RustNames.{unsigned_abs}
@@ -8,7 +8,7 @@ use Rattle.gf_frac.specs.Fraction.{Fraction}
 use Rattle.gf_exponents.specs.Exponents.{Exponents}
 use Rattle.gf_poly.specs.declared.Term.{Term}
 use Rattle.gf_poly.specs.Polynomial.{Terms, HasVariables, coefficient}
-use Rattle.gf_poly.specs.Marking.{MarkedPolynomial, IsMarked}
+use Rattle.gf_poly.specs.Marking.{MarkedPolynomial}
 use Rattle.gf_poly.proofs.DescendingLaws.{Contains-cons, Contains-none}
 use Rattle.gf_poly.proofs.CoefficientLaws.{coefficient-contains}
 use Rattle.gf_text.specs.declared.tree.WrittenTerm.{WrittenTerm}
@@ -17,9 +17,9 @@ use Rattle.gf_text.specs.declared.written.Written.TheVariants as written
 use Rattle.gf_text.specs.Machine.{Reads}
 use Rattle.gf_text.specs.Tokens.{is_space, ring_more, lexemes}
 use Rattle.gf_text.specs.RingText.{IsRing}
-use Rattle.gf_text.specs.SetText.{plus, minus, comma, brace, brace_end, sign, IsTermText, AreMoreTerms, IsFrontSign, IsPolynomialText, AreMorePolynomials, IsSetText}
-use Rattle.gf_text.specs.PrintedText.{is_below_zero, unsigned_text, first_sign, inner_sign, first_text, later_text}
-use Rattle.gf_text.specs.PrintedSets.{other_text, marked_text, polynomial_text}
+use Rattle.gf_text.specs.SetText.{minus, comma, brace, brace_end, sign, IsTermText, AreMoreTerms, IsFrontSign, IsPolynomialText, AreMorePolynomials, IsSetText}
+use Rattle.gf_text.specs.PrintedText.{is_below_zero, unsigned_text, inner_sign, first_text, later_text}
+use Rattle.gf_text.specs.PrintedSets.{other_text, polynomial_text}
 use Rattle.gf_text.specs.WrittenText.{IsTermInRange, AreInRange, IsKept, IsWrittenKept, AreWrittenKept, polynomials_text, set_text}
 use Rattle.gf_text.proofs.SpelledLaws.{IsToken, IsSpelled, goes_on, spelled-none, spelled-space, spelled-++, spelled-read}
 use Rattle.gf_text.proofs.PrintedTokensLaws.{IsPiece, piece-none, piece-token, piece-++, mark_spelled, number_token, AreNamesFrom, names_of_ring}

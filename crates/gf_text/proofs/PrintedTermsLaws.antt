@@ -1,14 +1,14 @@
 -- What printed terms say: their tokens, and that these are the text of a term.
 -- To cite: term_said, unsigned_tokens, unsigned_piece, unsigned_said. The rest are steps.
-use Rattle.std.proofs.Common.{◌≡◌, ◌≢◌, ◌≤◌, ◌<◌, ◌^◌, ◌+◌, ◌-◌, ℕ, zero, suc, pos, Bool, true, false, ◌&&◌, ◌==◌, List, [], ◌∷◌, ◌++◌, length, flat_map, decimal, refl, sym, ap, ◌∙◌, inl, inr, arith, append-nil, if◌then◌else◌}
+use Rattle.std.proofs.Common.{◌≡◌, ◌≤◌, ◌<◌, ◌^◌, ◌+◌, ℕ, Bool, true, false, ◌==◌, List, [], ◌∷◌, ◌++◌, length, flat_map, decimal, refl, inl, inr, arith, if◌then◌else◌}
 use Rattle.std.proofs.lemmas.Bool.Decides.{eqb_tells}
 use Rattle.std.specs.Int.RustNames.{unsigned_abs}
 use Rattle.gf_frac.specs.Fraction.{Fraction}
 use Rattle.gf_text.specs.declared.tree.Factor.{Factor}
 use Rattle.gf_text.specs.declared.tree.WrittenTerm.{WrittenTerm}
-use Rattle.gf_text.specs.SetText.{star, slash, caret, plus, minus, sign, most, most_exponent, IsNumberText, IsFactorText, AreMoreFactors, IsMonomialText, IsRationalText, IsTermText}
-use Rattle.gf_text.specs.PrintedText.{joined, power_text, powers, is_below_zero, size_text, is_unit, pieces, unsigned_text, first_sign, inner_sign, first_text, later_text}
-use Rattle.gf_text.proofs.SpelledLaws.{IsSpelled, goes_on}
+use Rattle.gf_text.specs.SetText.{star, slash, caret, most, most_exponent, IsNumberText, IsFactorText, AreMoreFactors, IsRationalText, IsTermText}
+use Rattle.gf_text.specs.PrintedText.{joined, power_text, powers, is_below_zero, size_text, is_unit, pieces, unsigned_text}
+use Rattle.gf_text.proofs.SpelledLaws.{goes_on}
 use Rattle.gf_text.proofs.PrintedTokensLaws.{IsPiece, ArePieces, piece-none, piece-token, piece-++, mark_spelled, number_piece, decimal_number, IsNameOf, AreNamesFrom}
 
 -- each number is below 2^31

@@ -1,6 +1,6 @@
 -- The tokens of printed numbers, names and powers, where no letter, digit or _ follows.
 -- To cite: IsPiece, piece-none, piece-token, piece-++, piece-joined; number_piece, names_of_ring, Names. The rest are steps.
-use Rattle.std.proofs.Common.{◌≡◌, ◌≤◌, ◌<◌, ◌^◌, ◌*◌, ◌/◌, ◌%◌, ◌+◌, ◌-◌, ℕ, zero, suc, Bool, true, false, ◌&&◌, ◌||◌, ◌==◌, nat_eq, max, List, [], ◌∷◌, ◌++◌, length, take, take_while, get_or, decimal, Some, refl, sym, ap, ◌∙◌, subst, arith, inl, inr, append_assoc, bytes_eq, if◌then◌else◌}
+use Rattle.std.proofs.Common.{◌≡◌, ◌≤◌, ◌<◌, ◌^◌, ◌*◌, ◌/◌, ◌%◌, ◌+◌, ◌-◌, ℕ, zero, suc, Bool, true, false, ◌&&◌, ◌||◌, ◌==◌, nat_eq, max, List, [], ◌∷◌, ◌++◌, length, get_or, decimal, Some, refl, sym, ap, ◌∙◌, subst, arith, inl, inr, bytes_eq, if◌then◌else◌}
 use Rattle.std.proofs.lemmas.Bool.Decides.{nat_tests, eqb_tells}
 use Rattle.std.proofs.lemmas.Fmt.{decimal_by_steps_wide}
 use Rattle.std.proofs.lemmas.List.Folds.{length-prefix_len, list_any-append}

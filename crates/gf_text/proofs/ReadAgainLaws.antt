@@ -1,8 +1,7 @@
 -- A set is read in one way, and is not refused where it is read; so printed sets are read again as what they are.
 -- To cite: read_once, not_refused, sets_again, bases_again. The rest are steps.
-use Rattle.std.proofs.Common.{◌≡◌, ◌≢◌, ◌≤◌, ◌<◌, ◌+◌, ℕ, zero, suc, List, [], ◌∷◌, ◌++◌, length, flat_map, map, slice_get, IfSome, Option, Ok, Err, Some, refl, sym, ap, subst, ◌∙◌, inl, inr, arith}
+use Rattle.std.proofs.Common.{◌≡◌, ◌<◌, ◌+◌, ℕ, List, [], ◌∷◌, ◌++◌, length, flat_map, map, slice_get, IfSome, Option, Ok, Err, Some, refl, sym, ap, subst, ◌∙◌, inl, inr, arith}
 use Rattle.std.proofs.lemmas.Bool.{cases_lt}
-use Rattle.std.specs.List.{list_all}
 use Rattle.gf_frac.specs.Fraction.{Fraction, ◌+ℚ◌, zero_ℚ}
 use Rattle.gf_frac.specs.Fits.{FitsAdd}
 use Rattle.gf_frac.specs.declared.refusal.Overflow.{Overflow}
@@ -10,7 +9,7 @@ use Rattle.gf_frac.proofs.FractionLaws.{+ℚ_assoc, +ℚ-zero}
 use Rattle.gf_exponents.specs.Exponents.{Exponents}
 use Rattle.gf_poly.specs.declared.Term.{Term}
 use Rattle.gf_poly.specs.Polynomial.{Terms, HasVariables, coefficient}
-use Rattle.gf_poly.specs.Collecting.{like, total, SumsFit, SumsFitFrom, LikeSumsFit, IsLikeSumOverflow}
+use Rattle.gf_poly.specs.Collecting.{total, SumsFit, SumsFitFrom, LikeSumsFit, IsLikeSumOverflow}
 use Rattle.gf_poly.specs.Marking.{MarkedPolynomial, MarkedPolynomials}
 use Rattle.gf_poly.proofs.CoefficientLaws.{descending_unique}
 use Rattle.gf_text.specs.declared.error.TextError.{TextError}
@@ -18,11 +17,11 @@ use Rattle.gf_text.specs.declared.error.TextError.TheVariants as errors
 use Rattle.gf_text.specs.declared.tree.WrittenTerm.{WrittenTerm}
 use Rattle.gf_text.specs.declared.written.Written.{Written}
 use Rattle.gf_text.specs.declared.written.Written.TheVariants as written
-use Rattle.gf_text.specs.Tokens.{is_space, Position}
+use Rattle.gf_text.specs.Tokens.{Position}
 use Rattle.gf_text.specs.RingText.{IsRing}
 use Rattle.gf_text.specs.SetText.{set_at}
 use Rattle.gf_text.specs.Combining.{HaveVariables, NoneRemains, IsFirstRemaining, IsSumMarked, sums_of}
-use Rattle.gf_text.specs.Sets.{IsWritten, AreWritten, SumsFit as AllSumsFit, IsFirstOverflow, IsSetRead, IsSetCause, HasNoSet, AreNonzero, IsMarkedRead, IsMarkedCause, IsFirstZero}
+use Rattle.gf_text.specs.Sets.{IsWritten, AreWritten, SumsFit as AllSumsFit, IsFirstOverflow, IsSetRead, IsSetCause, HasNoSet, IsMarkedRead, IsMarkedCause}
 use Rattle.gf_text.specs.PrintedSets.{marked_text, polynomial_text, members_text, basis_text}
 use Rattle.gf_text.specs.WrittenText.{AreWrittenKept, AreKept, polynomials_text, set_text, IsReadAs, IsReadAsMarked, SetsAreReadAgain, BasesAreReadAgain}
 use Rattle.gf_text.proofs.CombiningLaws.{sums_variables}

@@ -1,21 +1,17 @@
 -- The machine of rings reads exactly what the grammar of rings says, and a printed ring is read again.
 -- To cite: ring_machine, ring_reads, ring_is_read, ring_read, ring_halts, long_name, long_is_name, long_is_new, long_stops, one_ring, rings_again. The rest are steps.
-use Rattle.std.proofs.Common.{◌≡◌, ◌<◌, ◌≤◌, ℕ, zero, suc, ◌+◌, Bool, true, false, ◌||◌, List, [], ◌∷◌, ◌++◌, length, flat_map, Ok, Err, refl, sym, ap, ◌∙◌, subst, inl, inr, append_assoc, append-nil, length-append, bytes_eq, arith, if◌then◌else◌, replicate}
+use Rattle.std.proofs.Common.{◌≡◌, ◌<◌, ◌≤◌, ℕ, zero, suc, ◌+◌, Bool, true, false, ◌||◌, List, [], ◌∷◌, ◌++◌, length, flat_map, Ok, refl, sym, ap, ◌∙◌, subst, inl, inr, append_assoc, append-nil, bytes_eq, arith, if◌then◌else◌, replicate}
 use Rattle.std.proofs.lemmas.Slice.Eq.{bytes_eq-Decides}
 use Rattle.std.proofs.lemmas.List.{length-replicate}
 use Rattle.std.specs.List.{list_all}
 use Rattle.gf_text.specs.declared.error.Cause.{Cause}
 use Rattle.gf_text.specs.declared.error.Cause.TheVariants.{Ended, Unexpected, RepeatedName, ZeroDenominator, TooWide, UnknownName}
-use Rattle.gf_text.specs.declared.error.TextError.{TextError}
-use Rattle.gf_text.specs.declared.error.TextError.TheVariants as errors
 use Rattle.gf_text.specs.declared.ring_reader.RingPlace.TheVariants as at
-use Rattle.gf_text.specs.Given.{Fails}
-use Rattle.gf_text.specs.Refusing.{refusal_at}
-use Rattle.gf_text.specs.Machine.{Move, go, done, halt, after, Fault, run, Reads, HasOneMeaning}
-use Rattle.gf_text.specs.Rings.{IsRingRead, HasNoRing, IsRingCause}
-use Rattle.gf_text.specs.RingText.{is_name, has, AreNew, IsRing, IsRingText, ring_tokens, more_names, letter_q, bracket, comma, bracket_end, RingState, ring_step, ring_at, ring_words, names_text, RingsAreReadAgain}
-use Rattle.gf_text.specs.Tokens.{is_space, is_name_byte, lexemes, word_more, Position}
-use Rattle.gf_text.proofs.MachineLaws.{after-go, after-done, first, not_yet, reads, is_read, one_meaning, caused, IsMachineOf, no_text}
+use Rattle.gf_text.specs.Machine.{Move, go, done, halt, after, Reads, HasOneMeaning}
+use Rattle.gf_text.specs.Rings.{IsRingRead}
+use Rattle.gf_text.specs.RingText.{is_name, has, AreNew, IsRingText, ring_tokens, more_names, letter_q, bracket, comma, bracket_end, RingState, ring_step, ring_at, ring_words, RingsAreReadAgain}
+use Rattle.gf_text.specs.Tokens.{is_space, is_name_byte, lexemes, word_more}
+use Rattle.gf_text.proofs.MachineLaws.{after-go, after-done, first, not_yet, reads, is_read, one_meaning, IsMachineOf}
 use Rattle.gf_text.proofs.SpelledLaws.{IsToken, IsSpelled, goes_on, spelled-none, spelled-token, spelled-++, spelled-read, word_token}
 
 -- ---- what the machine does at a token

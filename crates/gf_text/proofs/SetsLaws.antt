@@ -8,13 +8,12 @@ use Rattle.gf_poly.specs.Polynomial.{Terms, SamePolynomial, IsDescending, KeepsV
 use Rattle.gf_poly.specs.Collecting.{LikeSumsFit}
 use Rattle.gf_poly.specs.Marking.{head_of, MarkedPolynomial, HaveVariables as AllHaveVariables}
 use Rattle.gf_text.specs.declared.error.TextError.TheVariants as errors
-use Rattle.gf_text.specs.declared.combine.Sums.{Sums}
 use Rattle.gf_text.specs.declared.combine.Sums.TheVariants as came
 use Rattle.gf_text.specs.declared.written.Written.{Written}
 use Rattle.gf_text.specs.declared.written.Written.TheVariants as written
 use Rattle.gf_text.specs.declared.tree.WrittenTerm.{WrittenTerm}
 use Rattle.gf_text.specs.Combining.{HaveVariables, IsFirstRemaining, IsFirstRemainingAt, IsSumMarked, terms_of, ExponentsFit}
-use Rattle.gf_text.specs.Sets.{IsWritten, AreWritten, IsIn, AreIn, SumsFit, IsSummed, IsSummingCause, IsCombined, IsCombiningCause, HasSums, Adds, AreNonzero}
+use Rattle.gf_text.specs.Sets.{IsWritten, AreWritten, IsIn, AreIn, SumsFit, IsSummed, IsSummingCause, IsCombined, IsCombiningCause, Adds, AreNonzero}
 use Rattle.gf_text.proofs.CombiningLaws.{sums_push_ok, sums_push_refused, sums_push_after}
 
 written_push : (fs : List Terms) (ws : List Written) (f : Terms) (w : Written) → AreWritten fs ws → IsWritten f w → AreWritten (fs ++ f ∷ []) (ws ++ w ∷ [])

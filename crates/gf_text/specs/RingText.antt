@@ -1,7 +1,7 @@
 -- Rings: names, what a text of a ring is, and the machine that reads it.
 -- `IsRingText` is the grammar, `ring_text` what is printed, `ring_step` the machine.
 -- Laws: proofs/RingTextLaws.antt.
-use Rattle.std.specs.Prelude.{◌≡◌, ℕ, ◌≤◌, ◌<◌, Bool, true, false, ◌&&◌, ◌||◌, not, nat_le, nat_lt, List, [], ◌∷◌, ◌++◌, length, bytes_eq, flat_map, if◌then◌else◌, Result, Ok, ◌+◌}
+use Rattle.std.specs.Prelude.{◌≡◌, ℕ, ◌≤◌, ◌<◌, Bool, true, false, ◌&&◌, List, [], ◌∷◌, ◌++◌, length, bytes_eq, flat_map, if◌then◌else◌, Result, Ok, ◌+◌}
 use Rattle.std.specs.List.{list_any, list_all}
 use Rattle.gf_text.specs.Machine.{Move, go, done, halt, Fault, run}
 use Rattle.gf_text.specs.Tokens.{is_letter, is_name_byte, lexemes, word_more}

@@ -26,6 +26,13 @@ abbrev pub IsWritten : Terms → Written → Type 0
 IsWritten f written.Zero = NoneRemains f
 IsWritten f (written.Nonzero m) = IsSumMarked f m
 
+-- these descending terms, marked at the first one; nothing where there are none
+abbrev pub IsMarkedFirst : Terms → Written → Type 0
+IsMarkedFirst [] written.Zero = Unit {0}
+IsMarkedFirst [] (written.Nonzero m) = ⊥
+IsMarkedFirst (t ∷ f) written.Zero = ⊥
+IsMarkedFirst (t ∷ f) (written.Nonzero m) = m ≡ record { poly = t ∷ f; head = t.mono }
+
 -- the same of each
 abbrev pub AreWritten : List Terms → List Written → Type 0
 AreWritten [] [] = Unit {0}

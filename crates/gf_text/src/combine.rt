@@ -1,10 +1,12 @@
 //! From what a text of a set says to polynomials.
-ghost use Rattle.std.specs.Prelude.{◌≡◌, ◌≤◌, ◌<◌, ◌^◌, All, IfOk, IfErr, OnOk, Ok, Err, ℕ, length, take, replicate, MatchOption, ◌∷◌, []};
+ghost use Rattle.std.specs.Prelude.{◌≡◌, ◌≢◌, ◌≤◌, ◌<◌, ◌^◌, All, IfOk, IfErr, OnOk, IsTrue, Ok, Err, ℕ, length, take, replicate, MatchOption, ◌∷◌, []};
+ghost use Rattle.std.specs.declared.cmp.Ordering.TheVariants.{Greater};
+ghost use Rattle.gf_exponents.specs.Orders.{deglex};
 ghost use Rattle.gf_frac.specs.Fraction.{zero_ℚ};
 ghost use Rattle.gf_poly.specs.Polynomial.{Terms, coefficient, SamePolynomial, IsDescending, HasVariables};
 ghost use Rattle.gf_text.specs.Limits.{IsFactorWithin, AreFactorsWithin, IsTermWithin, AreTermsWithin, AreWithin};
 ghost use Rattle.gf_text.specs.Combining.{raised, times_factors, exponents_of, coefficient_of, term_of, terms_of, ExponentsFit, IsSumOf, FindsFirst, IsPlaceOf};
-ghost use Rattle.gf_text.specs.Sets.{IsExponentCause, IsSummed, IsSummingCause, HasSums, Adds, from_poly};
+ghost use Rattle.gf_text.specs.Sets.{IsExponentCause, IsSummed, IsSummingCause, IsMarkedFirst, HasSums, Adds, from_poly};
 
 use crate::error::TextError;
 use crate::tree::{Factor, WrittenSet, WrittenTerm};
@@ -12,6 +14,7 @@ use crate::written::Written;
 use gf_frac::{Frac, Overflow};
 use gf_poly::{ExponentOverflow, Marked, Mono, Poly, PolyError, ROOM, Term};
 use std::alloc::{AllocError, Global};
+use std::cmp::Ordering;
 
 /// The greatest exponent.
 const MOST: u32 = (1 << 31) - 1;
@@ -169,30 +172,60 @@ fn sum_error(error: PolyError) -> TextError
     }
 }
 
-/// The sum of one term: it is marked, unless it is zero.
-fn single(alloc: Global, n: usize, term: &WrittenTerm) -> Result<Written, TextError>
-    requires room { n ≤ ROOM }
-    requires within { IsTermWithin n term.now }
-    ensures ok { IfOk result (IsSummed n (term.now ∷ [])) }
-    ensures err { IfErr result (IsSummingCause n (term.now ∷ [])) }
+/// Whether a term isn't zero and stands below the one before it.
+fn follows(before: &Term, next: &Term) -> bool
+    ensures { IsTrue result → (next.now.coef ≢ zero_ℚ) × (deglex before.now.mono next.now.mono ≡ Greater) }
 {
-    let sum = term_of(alloc, n, term)?;
-    if sum.coef.is_zero() {
-        return Ok(Written::Zero);
+    if next.coef.is_zero() {
+        return false;
     }
-    let mut terms = Vec::with_capacity(alloc, 1)?;
-    terms.push(sum)?;
-    Ok(Written::Nonzero(Marked::mark(Poly::from_descending(terms), 0)))
+    match before.mono.compare(&next.mono) {
+        Ordering::Greater => true,
+        _ => false,
+    }
 }
 
-/// The sum of terms, marked at the first that remains.
-fn several(alloc: Global, n: usize, terms: &[WrittenTerm]) -> Result<Written, TextError>
+/// Whether no term is zero and their monomials descend.
+fn descend(terms: &[Term]) -> bool
+    ensures { IsTrue result → IsDescending terms.now }
+{
+    if terms.is_empty() {
+        return true;
+    }
+    if terms[0].coef.is_zero() {
+        return false;
+    }
+    'terms: for i in 1..terms.len() {
+        if !follows(&terms[i - 1], &terms[i]) {
+            return false;
+        }
+    }
+    true
+}
+
+/// The sum of terms that descend: these terms, marked at the first one.
+fn marked_first(terms: Vec<Term>) -> Written
+    requires { IsDescending terms.items }
+    ensures { IsMarkedFirst terms.items result }
+{
+    if terms.is_empty() {
+        return Written::Zero;
+    }
+    Written::Nonzero(Marked::mark(Poly::from_descending(terms), 0))
+}
+
+/// The sum of terms, marked at the first that remains. Terms that descend are their own sum.
+fn summed(alloc: Global, n: usize, terms: &[WrittenTerm]) -> Result<Written, TextError>
     requires room { n ≤ ROOM }
     requires within { AreTermsWithin n terms.now }
     ensures ok { IfOk result (IsSummed n terms.now) }
     ensures err { IfErr result (IsSummingCause n terms.now) }
 {
-    let sum = match Poly::from_terms(terms_from(alloc, n, terms)?) {
+    let made = terms_from(alloc, n, terms)?;
+    if descend(&made) {
+        return Ok(marked_first(made));
+    }
+    let sum = match Poly::from_terms(made) {
         Ok(sum) => sum,
         Err(error) => return Err(sum_error(error)),
     };
@@ -200,19 +233,6 @@ fn several(alloc: Global, n: usize, terms: &[WrittenTerm]) -> Result<Written, Te
         Some(place) => Ok(Written::Nonzero(Marked::mark(sum, place))),
         None => Ok(Written::Zero),
     }
-}
-
-/// The sum of terms, marked at the first that remains. One term needs no sort.
-fn summed(alloc: Global, n: usize, terms: &[WrittenTerm]) -> Result<Written, TextError>
-    requires room { n ≤ ROOM }
-    requires within { AreTermsWithin n terms.now }
-    ensures ok { IfOk result (IsSummed n terms.now) }
-    ensures err { IfErr result (IsSummingCause n terms.now) }
-{
-    if let [term] = terms {
-        return single(alloc, n, term);
-    }
-    several(alloc, n, terms)
 }
 
 /// What came of the polynomials of a set so far: what is left of each; or the first sum of coefficients that leaves its
@@ -224,41 +244,6 @@ pub enum Sums {
     Exponent(ExponentOverflow),
 }
 
-/// Adds a polynomial to those of which something is left.
-fn fit_with(
-    alloc: Global,
-    n: usize,
-    written: Vec<Written>,
-    terms: &[WrittenTerm],
-) -> Result<Sums, AllocError>
-    requires room { n ≤ ROOM }
-    requires within { AreTermsWithin n terms.now }
-    ensures { IfOk result (Adds n (terms.now ∷ []) (Sums.Fit written)) }
-{
-    let mut out = written;
-    match summed(alloc, n, terms) {
-        Ok(next) => {
-            out.push(next)?;
-            Ok(Sums::Fit(out))
-        }
-        Err(TextError::Overflow(overflow)) => Ok(Sums::Overflow(overflow)),
-        Err(TextError::Exponent(overflow)) => Ok(Sums::Exponent(overflow)),
-        Err(_) => Err(AllocError),
-    }
-}
-
-/// Adds a polynomial to those of which a sum leaves its range.
-fn overflow_with(n: usize, overflow: Overflow, terms: &[WrittenTerm]) -> Sums
-    requires room { n ≤ ROOM }
-    requires within { AreTermsWithin n terms.now }
-    ensures { Adds n (terms.now ∷ []) (Sums.Overflow overflow) result }
-{
-    match check_terms(n, terms) {
-        Ok(()) => Sums::Overflow(overflow),
-        Err(first) => Sums::Exponent(first),
-    }
-}
-
 impl Sums {
     /// No polynomials.
     pub(crate) fn new(alloc: Global) -> Sums
@@ -268,35 +253,44 @@ impl Sums {
     }
 
     /// Adds a polynomial in n variables as the last one.
-    #[inline(never)]
-    fn with(self, alloc: Global, n: usize, terms: &[WrittenTerm]) -> Result<Sums, AllocError>
+    fn add(&mut self, alloc: Global, n: usize, terms: &[WrittenTerm]) -> Result<(), AllocError>
         requires room { n ≤ ROOM }
         requires within { AreTermsWithin n terms.now }
-        ensures { IfOk result (Adds n (terms.now ∷ []) self) }
+        ensures { OnOk result (Adds n (terms.now ∷ []) self.old self.new) }
     {
         match self {
-            Sums::Fit(written) => fit_with(alloc, n, written, terms),
-            Sums::Overflow(overflow) => Ok(overflow_with(n, overflow, terms)),
-            Sums::Exponent(overflow) => Ok(Sums::Exponent(overflow)),
+            Sums::Fit(written) => match summed(alloc, n, terms) {
+                Ok(next) => written.push(next)?,
+                Err(TextError::Overflow(overflow)) => *self = Sums::Overflow(overflow),
+                Err(TextError::Exponent(overflow)) => *self = Sums::Exponent(overflow),
+                Err(_) => return Err(AllocError),
+            },
+            Sums::Overflow(_) => {
+                if let Err(first) = check_terms(n, terms) {
+                    *self = Sums::Exponent(first);
+                }
+            }
+            Sums::Exponent(_) => {}
         }
+        Ok(())
     }
 
     /// Adds the polynomial in n variables that is read, where there is one. Behind most tokens there is none, so that the
     /// test is inlined.
     #[inline]
-    pub(crate) fn with_read(
-        self,
+    pub(crate) fn add_read(
+        &mut self,
         alloc: Global,
         n: usize,
         set: &WrittenSet,
-    ) -> Result<Sums, AllocError>
+    ) -> Result<(), AllocError>
         requires room { n ≤ ROOM }
         requires within { AreWithin n set.now }
-        ensures { IfOk result (Adds n set.now self) }
+        ensures { OnOk result (Adds n set.now self.old self.new) }
     {
         match set.last() {
-            Some(terms) => self.with(alloc, n, terms.as_slice()),
-            None => Ok(self),
+            Some(terms) => self.add(alloc, n, terms.as_slice()),
+            None => Ok(()),
         }
     }
 }

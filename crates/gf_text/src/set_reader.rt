@@ -313,10 +313,13 @@ fn sums_from(
         };
         match part.step(alloc, ring, place, &source[start..end])? {
             SetStep::Go(next) => place = next,
-            SetStep::Done => return Ok((sums.with_read(alloc, n, &part.polynomials)?, end)),
+            SetStep::Done => {
+                sums.add_read(alloc, n, &part.polynomials)?;
+                return Ok((sums, end));
+            }
             SetStep::Halt(cause) => return Err(refused_at(start, cause)),
         }
-        sums = sums.with_read(alloc, n, &part.polynomials)?;
+        sums.add_read(alloc, n, &part.polynomials)?;
         part.polynomials.clear();
         at = end;
     }

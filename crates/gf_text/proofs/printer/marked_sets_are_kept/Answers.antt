@@ -1,4 +1,4 @@
-use Rattle.std.proofs.Common.{◌≡◌, subst, sym}
+use Rattle.std.proofs.Common.{subst, sym}
 use Rattle.gf_poly.specs.Marking.{MarkedPolynomial, HaveVariables}
 use Rattle.gf_text.specs.WrittenText.{IsKept}
 use Rattle.gf_text.proofs.KeptLaws.{kept_next, variables_of}

@@ -1,4 +1,4 @@
-use Rattle.std.proofs.Common.{subst, sym}
+use Rattle.std.proofs.Common.{subst}
 use Rattle.gf_text.specs.WrittenText.{IsTermInRange}
 use Rattle.gf_text.proofs.KeptLaws.{in_range_next}
 use Rattle.gf_text.proofs.printer.terms_are_in_range.Goals as goal

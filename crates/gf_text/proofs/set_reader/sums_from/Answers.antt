@@ -46,8 +46,8 @@ returns-in-Halt-clause-err c =
     (reading_halt ring c.names-names.ensures.ring source c.args.from c.loop-start.at c.in-Some.end x (c.loop-start.place, c.loop-start.part) i.said i.reading tokens c.in-Halt.cause move)
     )
 
-pub with_read-requires-clause-within : goal.with_read-requires-clause-within
-with_read-requires-clause-within c =
+pub add_read-requires-clause-within : goal.add_read-requires-clause-within
+add_read-requires-clause-within c =
     let ring = c.args.ring.now in
     let source = c.args.source.now in
     let i = c.loop-start.invariant in
@@ -66,7 +66,7 @@ returns-in-Done-clause-ok c =
     let move = sym c.in_ok-next.ensures ∙ ap (λ m. set_move m c.step.new.self) c.in-Done.is in
     let x = lexeme source c.in-Some.start c.in-Some.end in
     let ps = c.step.new.self.polynomials in
-    let adds = subst (λ n. Adds n ps c.loop-start.sums c.in_ok-with_read-in-Done.field-0) c.len-n.ensures.value c.in_ok-with_read-in-Done.ensures in
+    let adds = subst (λ n. Adds n ps c.loop-start.sums c.add_read.new.self) c.len-n.ensures.value c.in_ok-add_read-in-Done.ensures in
     record {
       said = i.said ++ ps;
       read = reading_done ring c.names-names.ensures.ring source c.args.from c.loop-start.at c.in-Some.end x (c.loop-start.place, c.loop-start.part) i.said i.reading tokens ps move
@@ -74,8 +74,8 @@ returns-in-Done-clause-ok c =
       come = adds i.said i.come;
     }
 
-pub with_read-requires-in-loop-start-clause-within : goal.with_read-requires-in-loop-start-clause-within
-with_read-requires-in-loop-start-clause-within c =
+pub add_read-requires-in-loop-start-clause-within : goal.add_read-requires-in-loop-start-clause-within
+add_read-requires-in-loop-start-clause-within c =
     let ring = c.args.ring.now in
     let source = c.args.source.now in
     let i = c.loop-start.invariant in
@@ -94,7 +94,7 @@ loop-start-preserved c =
     let move = sym c.in_ok-next.ensures ∙ ap (λ m. set_move m c.step.new.self) c.in-Go.is in
     let x = lexeme source c.in-Some.start c.in-Some.end in
     let ps = c.step.new.self.polynomials in
-    let adds = subst (λ n. Adds n ps c.loop-start.sums c.in_ok-sums.sums) c.len-n.ensures.value c.in_ok-sums.ensures in
+    let adds = subst (λ n. Adds n ps c.loop-start.sums c.add_read-in-loop-start.new.self) c.len-n.ensures.value c.in_ok-add_read.ensures in
     record {
       within = c.in-Some.ensures.within.2;
       matcher = c.in-Some.ensures.matcher;
