@@ -53,31 +53,21 @@ fn count(exponents: &mut [u32], factors: &[Factor]) -> Result<(), ExponentOverfl
     Ok(())
 }
 
-/// The exponents of a term, in the first n places.
-fn exponents_of(n: usize, term: &WrittenTerm) -> Result<[u32; ROOM], ExponentOverflow>
-    requires room { n ≤ ROOM }
-    requires within { IsTermWithin n term.now }
-    ensures ok { IfOk result (λ all. exponents_of n term.now ≡ Ok (take n all)) }
-    ensures limit { IfOk result (λ all. All (λ x. x < 2 ^ 31) (take n all)) }
-    ensures err { IfErr result (λ o. exponents_of n term.now ≡ Err o) }
-{
-    let mut all = [0; ROOM];
-    count(&mut all[..n], term.factors.as_slice())?;
-    Ok(all)
-}
-
 /// The monomial of a term, in n variables.
+#[inline]
 fn mono_of(alloc: Global, n: usize, term: &WrittenTerm) -> Result<Mono, ExponentOverflow>
     requires room { n ≤ ROOM }
     requires within { IsTermWithin n term.now }
     ensures ok { IfOk result (λ m. exponents_of n term.now ≡ Ok m) }
     ensures err { IfErr result (λ o. exponents_of n term.now ≡ Err o) }
 {
-    let all = exponents_of(n, term)?;
+    let mut all = [0; ROOM];
+    count(&mut all[..n], term.factors.as_slice())?;
     Ok(Mono::new(alloc, &all[..n]))
 }
 
 /// The coefficient that is written.
+#[inline]
 fn coefficient_of(term: &WrittenTerm) -> Frac
     requires numer { term.now.numer < 2 ^ 127 }
     requires denom { (0 < term.now.denom) × (term.now.denom < 2 ^ 127) }
@@ -88,6 +78,7 @@ fn coefficient_of(term: &WrittenTerm) -> Frac
 }
 
 /// The term that is written, in n variables.
+#[inline]
 fn term_of(alloc: Global, n: usize, term: &WrittenTerm) -> Result<Term, ExponentOverflow>
     requires room { n ≤ ROOM }
     requires within { IsTermWithin n term.now }
@@ -117,14 +108,14 @@ fn terms_from(alloc: Global, n: usize, terms: &[WrittenTerm]) -> Result<Vec<Term
 }
 
 /// Whether each exponent of the terms stays within its limit; the first that doesn't.
-fn check_terms(n: usize, terms: &[WrittenTerm]) -> Result<(), ExponentOverflow>
+fn check_terms(alloc: Global, n: usize, terms: &[WrittenTerm]) -> Result<(), ExponentOverflow>
     requires room { n ≤ ROOM }
     requires within { AreTermsWithin n terms.now }
     ensures ok { OnOk result (ExponentsFit n terms.now) }
     ensures err { IfErr result (λ o. terms_of n terms.now ≡ Err o) }
 {
     'terms: for term in terms {
-        exponents_of(n, term)?;
+        mono_of(alloc, n, term)?;
     }
     Ok(())
 }
@@ -214,7 +205,32 @@ fn marked_first(terms: Vec<Term>) -> Written
     Written::Nonzero(Marked::mark(Poly::from_descending(terms), 0))
 }
 
+/// The sum of terms in any order, marked at the first, as written, that remains.
+#[inline(never)]
+fn sorted(
+    alloc: Global,
+    n: usize,
+    terms: &[WrittenTerm],
+    made: Vec<Term>,
+) -> Result<Written, TextError>
+    requires room { n ≤ ROOM }
+    requires within { AreTermsWithin n terms.now }
+    requires made { terms_of n terms.now ≡ Ok made.items }
+    ensures ok { IfOk result (IsSummed n terms.now) }
+    ensures err { IfErr result (IsSummingCause n terms.now) }
+{
+    let sum = match Poly::from_terms(made) {
+        Ok(sum) => sum,
+        Err(error) => return Err(sum_error(error)),
+    };
+    match first_remaining(alloc, n, &sum, terms)? {
+        Some(place) => Ok(Written::Nonzero(Marked::mark(sum, place))),
+        None => Ok(Written::Zero),
+    }
+}
+
 /// The sum of terms, marked at the first that remains. Terms that descend are their own sum.
+#[inline]
 fn summed(alloc: Global, n: usize, terms: &[WrittenTerm]) -> Result<Written, TextError>
     requires room { n ≤ ROOM }
     requires within { AreTermsWithin n terms.now }
@@ -225,14 +241,7 @@ fn summed(alloc: Global, n: usize, terms: &[WrittenTerm]) -> Result<Written, Tex
     if descend(&made) {
         return Ok(marked_first(made));
     }
-    let sum = match Poly::from_terms(made) {
-        Ok(sum) => sum,
-        Err(error) => return Err(sum_error(error)),
-    };
-    match first_remaining(alloc, n, &sum, terms)? {
-        Some(place) => Ok(Written::Nonzero(Marked::mark(sum, place))),
-        None => Ok(Written::Zero),
-    }
+    sorted(alloc, n, terms, made)
 }
 
 /// What came of the polynomials of a set so far: what is left of each; or the first sum of coefficients that leaves its
@@ -253,6 +262,7 @@ impl Sums {
     }
 
     /// Adds a polynomial in n variables as the last one.
+    #[inline(never)]
     fn add(&mut self, alloc: Global, n: usize, terms: &[WrittenTerm]) -> Result<(), AllocError>
         requires room { n ≤ ROOM }
         requires within { AreTermsWithin n terms.now }
@@ -266,7 +276,7 @@ impl Sums {
                 Err(_) => return Err(AllocError),
             },
             Sums::Overflow(_) => {
-                if let Err(first) = check_terms(n, terms) {
+                if let Err(first) = check_terms(alloc, n, terms) {
                     *self = Sums::Exponent(first);
                 }
             }

@@ -8,11 +8,11 @@ use Rattle.gf_text.proofs.combine.check_terms.Goals as goal
 pub terms-init : goal.terms-init
 terms-init c = taken_none _ _
 
-pub exponents_of-requires-clause-within : goal.exponents_of-requires-clause-within
-exponents_of-requires-clause-within c = subst (IsTermWithin c.args.n) (sym c.term-item.is) (term_at c.args.n c.args.terms.now c.terms.term-index c.term-item.result c.requires.within c.terms-test.true)
+pub mono_of-requires-clause-within : goal.mono_of-requires-clause-within
+mono_of-requires-clause-within c = subst (IsTermWithin c.args.n) (sym c.term-item.is) (term_at c.args.n c.args.terms.now c.terms.term-index c.term-item.result c.requires.within c.terms-test.true)
 
 pub terms-preserved : goal.terms-preserved
 terms-preserved c =
     let n = c.args.n in
-    let said = ap (exponents_of n) (sym c.term-item.is) ∙ c.in_ok-exponents_of.ensures.ok in
-    taken_on n c.args.terms.now c.terms.term-index c.term-item.result (take n c.in_ok-exponents_of.field-0) c.terms-test.true said c.terms.invariant
+    let said = ap (exponents_of n) (sym c.term-item.is) ∙ c.in_ok-mono_of.ensures.ok in
+    taken_on n c.args.terms.now c.terms.term-index c.term-item.result c.in_ok-mono_of.field-0 c.terms-test.true said c.terms.invariant

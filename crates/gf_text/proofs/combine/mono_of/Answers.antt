@@ -1,7 +1,7 @@
 use Rattle.std.proofs.Common.{◌≡◌, ◌++◌, Ok, ap, sym, take, drop, replicate, ◌∙◌, length}
 use Rattle.std.proofs.lemmas.List.{take-replicate, take_at, length-take-le}
 use Rattle.gf_text.specs.Combining.{times_factors}
-use Rattle.gf_text.proofs.combine.exponents_of.Goals as goal
+use Rattle.gf_text.proofs.combine.mono_of.Goals as goal
 
 pub returns-clause-ok : goal.returns-clause-ok
 returns-clause-ok c =
@@ -13,3 +13,4 @@ returns-clause-ok c =
     ∙ ap (λ x. times_factors x c.as_slice.result.now) (sym start)
     ∙ c.in_ok-count.ensures.ok
     ∙ ap (λ x. Ok x) (sym back)
+    ∙ ap (λ x. Ok x) (sym c.new.ensures)
