@@ -95,21 +95,35 @@ impl Part {
         self.factors.push(factor)
     }
 
+    /// The term that is read, and none of its powers is left.
+    fn term(&mut self, alloc: Global) -> WrittenTerm
+        ensures term { result ≡ record { numer = self.old.numer; denom = self.old.denom; factors = self.old.factors; minus = self.old.minus } }
+        ensures left { self.new ≡ record (self.old) { factors = [] } }
+    {
+        WrittenTerm {
+            minus: self.minus,
+            numer: self.numer,
+            denom: self.denom,
+            factors: mem::replace(&mut self.factors, Factors::new(alloc)),
+        }
+    }
+
+    /// A term with this sign begins, of which nothing else is read.
+    fn begin_term(&mut self, minus: bool)
+        ensures { self.new ≡ record (self.old) { minus = minus; numer = 1; denom = 1 } }
+    {
+        self.minus = minus;
+        self.numer = 1;
+        self.denom = 1;
+    }
+
     /// The term is read, and one with this sign begins.
     fn end_term(&mut self, alloc: Global, minus: bool) -> Result<(), AllocError>
         ensures { OnOk result (self.new ≡ next_term self.old minus) }
     {
-        let factors = mem::replace(&mut self.factors, Factors::new(alloc));
-        let term = WrittenTerm {
-            minus: self.minus,
-            numer: self.numer,
-            denom: self.denom,
-            factors,
-        };
+        let term = self.term(alloc);
         self.terms.push(term)?;
-        self.minus = minus;
-        self.numer = 1;
-        self.denom = 1;
+        self.begin_term(minus);
         Ok(())
     }
 
@@ -118,8 +132,9 @@ impl Part {
         requires { self.old.polynomials ≡ [] }
         ensures { OnOk result (self.new ≡ next_polynomial self.old) }
     {
-        self.end_term(alloc, false)?;
-        self.polynomials.take(&mut self.terms);
+        let term = self.term(alloc);
+        self.polynomials.take_with(&mut self.terms, term)?;
+        self.begin_term(false);
         Ok(())
     }
 
@@ -167,6 +182,7 @@ impl Part {
     }
 
     /// What follows a term.
+    #[inline(always)]
     fn end(&mut self, alloc: Global, t: &[u8]) -> Result<SetStep, AllocError>
         requires { self.old.polynomials ≡ [] }
         ensures { IfOk result (λ m. set_move m self.new ≡ end_step self.old t.now) }
@@ -191,6 +207,7 @@ impl Part {
     }
 
     /// What follows a rational number or a power. No name is looked for where the token begins with no letter.
+    #[inline(always)]
     fn behind(&mut self, alloc: Global, ring: &Ring, t: &[u8]) -> Result<SetStep, AllocError>
         requires { self.old.polynomials ≡ [] }
         ensures { IfOk result (λ m. set_move m self.new ≡ behind_step ring.now self.old t.now) }

@@ -153,6 +153,24 @@ impl WrittenSet {
         self.is_read = true;
     }
 
+    /// Takes the terms of a polynomial and its last one, and leaves none. The room of the polynomial before goes to the
+    /// next one.
+    pub(crate) fn take_with(
+        &mut self,
+        terms: &mut WrittenTerms,
+        last: WrittenTerm,
+    ) -> Result<(), AllocError>
+        requires { self.old ≡ [] }
+        ensures taken { OnOk result (self.new ≡ (terms.old ++ last ∷ []) ∷ []) }
+        ensures left { terms.new ≡ [] }
+    {
+        mem::swap(&mut self.terms, terms);
+        terms.clear();
+        self.terms.push(last)?;
+        self.is_read = true;
+        Ok(())
+    }
+
     /// The polynomial, where there is one.
     pub fn last(&self) -> Option<&WrittenTerms>
         ensures { MatchOption result (self.now ≡ []) (λ terms. self.now ≡ terms.now ∷ []) }
