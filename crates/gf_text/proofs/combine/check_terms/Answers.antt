@@ -1,4 +1,4 @@
-use Rattle.std.proofs.Common.{◌∙◌, ap, take, subst, sym}
+use Rattle.std.proofs.Common.{◌∙◌, ap, subst, sym}
 use Rattle.gf_text.specs.Limits.{IsTermWithin}
 use Rattle.gf_text.specs.Combining.{exponents_of}
 use Rattle.gf_text.proofs.CombiningLaws.{taken_none, taken_on}
