@@ -3,7 +3,7 @@
 ghost use Rattle.std.specs.Prelude.{◌≡◌, IfOk, IfErr, IfSome, IsTrue};
 ghost use Rattle.gf_order.specs.Comparisons.{HasEntries, is_weight_before_lex};
 ghost use Rattle.gf_poly.specs.Marking.{polys};
-ghost use Rattle.gf_buchberger.specs.Bases.{IsArrangedBasis, IsBasisRefusal, IsWithinLimits, IsMemory, IsSpentAnswer, IsStopAnswer, HasStopVariables, of_poly_error};
+ghost use Rattle.gf_buchberger.specs.Bases.{IsArrangedBasis, IsBasisRefusal, IsWithinLimits, IsMemory, IsSpentAnswer, IsStopAnswer, HasStopVariables, is_of_numbers, of_poly_error};
 ghost use Rattle.gf_buchberger.specs.Jobs.{AreInRing, IsSuited};
 ghost use Rattle.gf_buchberger.specs.Runs.{HaveVariables};
 
@@ -96,7 +96,9 @@ fn basis_by(
 }
 
 // Whether two numbers don't fit.
-fn is_out_of_range(refusal: &BasisError) -> bool {
+fn is_out_of_range(refusal: &BasisError) -> bool
+    ensures { result ≡ is_of_numbers refusal.now }
+{
     matches!(refusal, BasisError::Overflow(_) | BasisError::Exponent(_))
 }
 

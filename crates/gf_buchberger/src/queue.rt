@@ -1,10 +1,12 @@
 //! The pairs that wait to be settled, the pair of least key first.
 //!
-//! Which pair comes first is no part of a contract: what is proved of a run holds of any choice.
+//! How keys are made is proved; that `pop` takes the pair of least key isn't, and what is proved of a run holds of any
+//! choice.
 
 ghost use Rattle.std.specs.Prelude.{◌≡◌, ◌≤◌, ◌∷◌, length, OnOk, OnErr, IfSome, IfNone, []};
 ghost use Rattle.std.specs.List.Sorted.{IsPermutation};
-ghost use Rattle.gf_order.specs.Comparisons.{HasEntries};
+ghost use Rattle.gf_order.specs.Comparisons.{HasEntries, ends_by_revlex, level_of};
+ghost use Rattle.gf_buchberger.specs.Keys.{AreKeyExponents, degree_for};
 
 use gf_order::Order;
 use gf_poly::{Mono, ROOM};
@@ -42,6 +44,7 @@ pub struct Waiting {
 // and the smaller one is greater.
 fn arranged(x: &[u32], by_revlex: bool) -> [u32; ROOM]
     requires { length x.now ≤ ROOM }
+    ensures { AreKeyExponents by_revlex x.now result }
 {
     let mut all = [0; ROOM];
     let n = x.len();
@@ -59,6 +62,9 @@ impl Strategy {
     /// The key of a pair with this least common multiple.
     pub fn key(self, order: &Order, multiple: &Mono) -> Key
         requires { HasEntries (length multiple.now) order.now }
+        ensures degree { result.degree ≡ degree_for self multiple.now }
+        ensures level { result.level ≡ level_of order.now multiple.now }
+        ensures exponents { AreKeyExponents (ends_by_revlex order.now) multiple.now result.exponents }
     {
         let x = multiple.exponents();
         let degree = match self {
