@@ -142,17 +142,6 @@ impl WrittenSet {
         }
     }
 
-    /// Takes the terms of a polynomial, and leaves none. The room of the polynomial before goes to the next one.
-    pub fn take(&mut self, terms: &mut WrittenTerms)
-        requires { self.old ≡ [] }
-        ensures taken { self.new ≡ terms.old ∷ [] }
-        ensures left { terms.new ≡ [] }
-    {
-        mem::swap(&mut self.terms, terms);
-        terms.clear();
-        self.is_read = true;
-    }
-
     /// Takes the terms of a polynomial and its last one, and leaves none. The room of the polynomial before goes to the
     /// next one.
     pub(crate) fn take_with(
