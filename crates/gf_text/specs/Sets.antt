@@ -4,7 +4,7 @@ use Rattle.gf_frac.specs.declared.refusal.Overflow.{Overflow}
 use Rattle.gf_poly.specs.declared.monomial.ExponentOverflow.{ExponentOverflow}
 use Rattle.gf_poly.specs.declared.error.PolyError.{PolyError}
 use Rattle.gf_poly.specs.declared.error.PolyError.TheVariants as polys
-use Rattle.gf_poly.specs.Polynomial.{Terms, HasVariables}
+use Rattle.gf_poly.specs.Polynomial.{Terms, SamePolynomial, IsDescending, HasVariables, KeepsVariables}
 use Rattle.gf_poly.specs.Collecting.{LikeSumsFit, IsLikeSumOverflow}
 use Rattle.gf_poly.specs.Marking.{MarkedPolynomial, MarkedPolynomials}
 use Rattle.gf_text.specs.declared.error.TextError.{TextError}
@@ -67,6 +67,24 @@ pub record IsSummed (n : ℕ) (us : List WrittenTerm) (w : Written) : Type 0 whe
   pub exponents : terms_of n us ≡ Ok terms
   pub fits : LikeSumsFit terms
   pub written : IsWritten terms w
+
+-- g is the sum of these terms, whose sums of like terms stay in range
+pub record IsWholeSum (n : ℕ) (us : List WrittenTerm) (g : Terms) : Type 0 where
+  pub terms : Terms
+  pub exponents : terms_of n us ≡ Ok terms
+  pub fits : LikeSumsFit terms
+  pub value : SamePolynomial g terms
+  pub descending : IsDescending g
+  pub variables : KeepsVariables terms g
+
+-- p is what comes of g and then these terms, where those that are alike are added from the left
+pub record IsSumWith (n : ℕ) (us : List WrittenTerm) (g p : Terms) : Type 0 where
+  pub terms : Terms
+  pub exponents : terms_of n us ≡ Ok terms
+  pub fits : LikeSumsFit (g ++ terms)
+  pub value : SamePolynomial p (g ++ terms)
+  pub descending : IsDescending p
+  pub variables : KeepsVariables (g ++ terms) p
 
 -- why these terms aren't added: an exponent, or a sum of like terms
 abbrev pub IsSummingCause : ℕ → List WrittenTerm → TextError → Type 0

@@ -6,8 +6,9 @@ ghost use Rattle.gf_frac.specs.Fraction.{zero_ℚ};
 ghost use Rattle.gf_poly.specs.Polynomial.{Terms, coefficient, SamePolynomial, IsDescending, HasVariables};
 ghost use Rattle.gf_text.specs.Limits.{IsFactorWithin, AreFactorsWithin, IsTermWithin, AreTermsWithin, AreWithin};
 ghost use Rattle.gf_text.specs.Combining.{raised, times_factors, exponents_of, coefficient_of, term_of, terms_of, ExponentsFit, IsSumOf, FindsFirst, IsPlaceOf};
-ghost use Rattle.gf_text.specs.Sets.{IsExponentCause, IsSummed, IsSummingCause, IsMarkedFirst, HasSums, Adds, from_poly};
+ghost use Rattle.gf_text.specs.Sets.{IsExponentCause, IsSummed, IsSummingCause, IsWholeSum, IsMarkedFirst, HasSums, Adds, from_poly};
 
+use crate::blocks::{BLOCK, sum_by_blocks};
 use crate::error::TextError;
 use crate::tree::{Factor, WrittenSet, WrittenTerm};
 use crate::written::Written;
@@ -93,7 +94,11 @@ fn term_of(alloc: Global, n: usize, term: &WrittenTerm) -> Result<Term, Exponent
 }
 
 /// The terms that are written, in n variables.
-fn terms_from(alloc: Global, n: usize, terms: &[WrittenTerm]) -> Result<Vec<Term>, TextError>
+pub(crate) fn terms_from(
+    alloc: Global,
+    n: usize,
+    terms: &[WrittenTerm],
+) -> Result<Vec<Term>, TextError>
     requires room { n ≤ ROOM }
     requires within { AreTermsWithin n terms.now }
     ensures ok { IfOk result (λ ts. terms_of n terms.now ≡ Ok ts.items) }
@@ -205,6 +210,25 @@ fn marked_first(terms: Vec<Term>) -> Written
     Written::Nonzero(Marked::mark(Poly::from_descending(terms), 0))
 }
 
+/// The sum of terms, marked at the first of them, as written, that remains.
+fn remaining(
+    alloc: Global,
+    n: usize,
+    terms: &[WrittenTerm],
+    sum: Poly,
+) -> Result<Written, TextError>
+    requires room { n ≤ ROOM }
+    requires within { AreTermsWithin n terms.now }
+    requires sum { IsWholeSum n terms.now sum }
+    ensures ok { IfOk result (IsSummed n terms.now) }
+    ensures err { IfErr result (IsSummingCause n terms.now) }
+{
+    match first_remaining(alloc, n, &sum, terms)? {
+        Some(place) => Ok(Written::Nonzero(Marked::mark(sum, place))),
+        None => Ok(Written::Zero),
+    }
+}
+
 /// The sum of terms in any order, marked at the first, as written, that remains.
 #[inline(never)]
 fn sorted(
@@ -219,13 +243,9 @@ fn sorted(
     ensures ok { IfOk result (IsSummed n terms.now) }
     ensures err { IfErr result (IsSummingCause n terms.now) }
 {
-    let sum = match Poly::from_terms(made) {
-        Ok(sum) => sum,
-        Err(error) => return Err(sum_error(error)),
-    };
-    match first_remaining(alloc, n, &sum, terms)? {
-        Some(place) => Ok(Written::Nonzero(Marked::mark(sum, place))),
-        None => Ok(Written::Zero),
+    match Poly::from_terms(made) {
+        Ok(sum) => remaining(alloc, n, terms, sum),
+        Err(error) => Err(sum_error(error)),
     }
 }
 
@@ -242,6 +262,23 @@ fn summed(alloc: Global, n: usize, terms: &[WrittenTerm]) -> Result<Written, Tex
         return Ok(marked_first(made));
     }
     sorted(alloc, n, terms, made)
+}
+
+/// The same. Many terms are first tried a block after another; where a number leaves its range, which one that is has to be
+/// found by adding all of them at once.
+#[inline]
+fn summed_any(alloc: Global, n: usize, terms: &[WrittenTerm]) -> Result<Written, TextError>
+    requires room { n ≤ ROOM }
+    requires within { AreTermsWithin n terms.now }
+    ensures ok { IfOk result (IsSummed n terms.now) }
+    ensures err { IfErr result (IsSummingCause n terms.now) }
+{
+    if terms.len() > BLOCK {
+        if let Some(sum) = sum_by_blocks(alloc, n, terms) {
+            return remaining(alloc, n, terms, sum);
+        }
+    }
+    summed(alloc, n, terms)
 }
 
 /// What came of the polynomials of a set so far: what is left of each; or the first sum of coefficients that leaves its
@@ -269,7 +306,7 @@ impl Sums {
         ensures { OnOk result (Adds n (terms.now ∷ []) self.old self.new) }
     {
         match self {
-            Sums::Fit(written) => match summed(alloc, n, terms) {
+            Sums::Fit(written) => match summed_any(alloc, n, terms) {
                 Ok(next) => written.push(next)?,
                 Err(TextError::Overflow(overflow)) => *self = Sums::Overflow(overflow),
                 Err(TextError::Exponent(overflow)) => *self = Sums::Exponent(overflow),

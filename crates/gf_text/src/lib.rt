@@ -4,6 +4,7 @@
 //! said apart from the machines, by grammars over its tokens (`specs/RingText.antt`).
 #![tactic(auto)]
 
+mod blocks;
 mod combine;
 mod error;
 mod marked_reader;
