@@ -1,5 +1,5 @@
 -- Sums of terms that descend: no two of them are alike, so they are their own sum, and the first one remains.
--- To cite: short_fits, one_fits, like-short; below_first, below_next, below_all; marked_first. The rest are steps.
+-- To cite: short_fits, one_fits, like-short; below_first, below_next, below_all; marked_first; sorted_sum, added_sum, summing_cause. The rest are steps.
 use Rattle.std.proofs.Common.{◌≡◌, ◌≢◌, ◌≤◌, ◌<◌, ◌∙◌, ◌+◌, ℕ, Bool, true, false, cond, Ok, List, [], ◌∷◌, ◌++◌, length, take, get_or, refl, sym, ap, subst, add-one, arith}
 use Rattle.std.proofs.Math.Seq.{take-suc}
 use Rattle.std.proofs.lemmas.List.{take_all}
@@ -10,15 +10,18 @@ use Rattle.gf_frac.specs.Fraction.{zero_ℚ}
 use Rattle.gf_exponents.specs.Exponents.{Exponents}
 use Rattle.gf_exponents.specs.Orders.{deglex}
 use Rattle.gf_poly.specs.declared.Term.{Term}
-use Rattle.gf_poly.specs.Polynomial.{Terms, IsAbove, IsDescending, HasVariables}
-use Rattle.gf_poly.specs.Collecting.{like, SumsFit, LikeSumsFit}
+use Rattle.gf_poly.specs.declared.error.PolyError.{PolyError}
+use Rattle.gf_poly.specs.declared.error.PolyError.TheVariants as polys
+use Rattle.gf_poly.specs.Polynomial.{Terms, SamePolynomial, IsAbove, IsDescending, HasVariables, KeepsVariables}
+use Rattle.gf_poly.specs.Collecting.{like, SumsFit, LikeSumsFit, HasLikeTerms, IsLikeSumCause}
+use Rattle.gf_poly.proofs.CollectLaws.{fits_along, cause_of}
 use Rattle.gf_poly.proofs.CoefficientLaws.{coefficient-head}
 use Rattle.gf_poly.proofs.DescendingLaws.{equal_same, greater_trans, IsAbove-push}
 use Rattle.gf_text.specs.declared.written.Written.{Written}
 use Rattle.gf_text.specs.declared.written.Written.TheVariants as written
 use Rattle.gf_text.specs.declared.tree.WrittenTerm.{WrittenTerm}
 use Rattle.gf_text.specs.Combining.{terms_of, IsSumMarked}
-use Rattle.gf_text.specs.Sets.{IsWritten, IsMarkedFirst, IsSummed}
+use Rattle.gf_text.specs.Sets.{IsWritten, IsMarkedFirst, IsSummed, IsWholeSum, IsSummingCause, from_poly}
 use Rattle.gf_text.proofs.CombiningLaws.{terms_variables}
 
 -- ---- like terms
@@ -112,3 +115,32 @@ marked_first n us f w exponents descending is = record {
   fits = record { at = λ x. short_fits (like x f) (like-short x f descending) };
   written = is_written n f w (terms_variables n us f exponents) descending is;
 }
+
+-- ---- terms that are put in order
+
+-- where they descend then
+pub sorted_sum : (n : ℕ) (us : List WrittenTerm) (f g : Terms) → terms_of n us ≡ Ok f → HasLikeTerms f g → IsDescending g → IsWholeSum n us g
+sorted_sum n us f g exponents h descending = record {
+  terms = f;
+  exponents = exponents;
+  fits = fits_along f g h (record { at = λ x. short_fits (like x g) (like-short x g descending) });
+  value = h.same;
+  descending = descending;
+  variables = h.variables;
+}
+
+-- and where like ones are added then
+pub added_sum : (n : ℕ) (us : List WrittenTerm) (f g p : Terms) → terms_of n us ≡ Ok f → HasLikeTerms f g → SamePolynomial p g → IsDescending p → KeepsVariables g p → LikeSumsFit g → IsWholeSum n us p
+added_sum n us f g p exponents h value descending variables fits = record {
+  terms = f;
+  exponents = exponents;
+  fits = fits_along f g h fits;
+  value = λ e. value e ∙ h.same e;
+  descending = descending;
+  variables = record { at = λ m v. variables.at m (h.variables.at m v) };
+}
+
+pub summing_cause : (n : ℕ) (us : List WrittenTerm) (f g : Terms) (e : PolyError) → terms_of n us ≡ Ok f → HasLikeTerms f g → IsLikeSumCause g e → IsSummingCause n us (from_poly e)
+summing_cause n us f g (polys.Overflow o) exponents h w = (f, exponents, cause_of f g (polys.Overflow o) h w)
+summing_cause n us f g (polys.Exponent o) exponents h w = absurd w
+summing_cause n us f g polys.Memory exponents h w = tt

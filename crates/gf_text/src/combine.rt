@@ -3,6 +3,7 @@ ghost use Rattle.std.specs.Prelude.{◌≡◌, ◌≢◌, ◌≤◌, ◌<◌, �
 ghost use Rattle.std.specs.declared.cmp.Ordering.TheVariants.{Greater};
 ghost use Rattle.gf_exponents.specs.Orders.{deglex};
 ghost use Rattle.gf_frac.specs.Fraction.{zero_ℚ};
+ghost use Rattle.gf_poly.specs.Collecting.{HasLikeTerms};
 ghost use Rattle.gf_poly.specs.Polynomial.{Terms, coefficient, SamePolynomial, IsDescending, HasVariables};
 ghost use Rattle.gf_text.specs.Limits.{IsFactorWithin, AreFactorsWithin, IsTermWithin, AreTermsWithin, AreWithin};
 ghost use Rattle.gf_text.specs.Combining.{raised, times_factors, exponents_of, coefficient_of, term_of, terms_of, ExponentsFit, IsSumOf, FindsFirst, IsPlaceOf};
@@ -55,7 +56,7 @@ fn count(exponents: &mut [u32], factors: &[Factor]) -> Result<(), ExponentOverfl
 }
 
 /// The monomial of a term, in n variables.
-#[inline]
+#[inline(always)]
 fn mono_of(alloc: Global, n: usize, term: &WrittenTerm) -> Result<Mono, ExponentOverflow>
     requires room { n ≤ ROOM }
     requires within { IsTermWithin n term.now }
@@ -79,7 +80,7 @@ fn coefficient_of(term: &WrittenTerm) -> Frac
 }
 
 /// The term that is written, in n variables.
-#[inline]
+#[inline(always)]
 fn term_of(alloc: Global, n: usize, term: &WrittenTerm) -> Result<Term, ExponentOverflow>
     requires room { n ≤ ROOM }
     requires within { IsTermWithin n term.now }
@@ -94,6 +95,7 @@ fn term_of(alloc: Global, n: usize, term: &WrittenTerm) -> Result<Term, Exponent
 }
 
 /// The terms that are written, in n variables.
+#[inline(always)]
 pub(crate) fn terms_from(
     alloc: Global,
     n: usize,
@@ -229,7 +231,17 @@ fn remaining(
     }
 }
 
-/// The sum of terms in any order, marked at the first, as written, that remains.
+/// The same terms in descending order, like ones as they stood.
+fn in_order(terms: Vec<Term>) -> Result<Vec<Term>, AllocError>
+    ensures { IfOk result (λ ts. HasLikeTerms terms.items ts.items) }
+{
+    let mut all = terms;
+    all.sort_by(|x, y| y.mono.compare(&x.mono))?;
+    Ok(all)
+}
+
+/// The sum of terms in any order, marked at the first, as written, that remains. Where no two are alike they are their own
+/// sum.
 #[inline(never)]
 fn sorted(
     alloc: Global,
@@ -243,7 +255,11 @@ fn sorted(
     ensures ok { IfOk result (IsSummed n terms.now) }
     ensures err { IfErr result (IsSummingCause n terms.now) }
 {
-    match Poly::from_terms(made) {
+    let ordered = in_order(made)?;
+    if descend(&ordered) {
+        return remaining(alloc, n, terms, Poly::from_descending(ordered));
+    }
+    match Poly::from_terms(ordered) {
         Ok(sum) => remaining(alloc, n, terms, sum),
         Err(error) => Err(sum_error(error)),
     }
