@@ -50,6 +50,11 @@ word_more (b ∷ bs) = if is_digit b then length (take_while is_digit bs)
     else if is_letter b then length (take_while is_name_byte bs)
     else 0
 
+-- the first byte of a text or a name, 0 where there is none
+abbrev pub first_byte : List ℕ → ℕ
+first_byte [] = 0
+first_byte (b ∷ bs) = b
+
 -- the length of the longest of these names that the text begins with, 0 where it begins with none
 abbrev pub longest : List (List ℕ) → List ℕ → ℕ
 longest [] text = 0

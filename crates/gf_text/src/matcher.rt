@@ -9,7 +9,7 @@ ghost use Rattle.std.specs.List.{list_all, starts_with};
 ghost use Rattle.gf_text.specs.Tokens.{longest};
 ghost use Rattle.gf_text.specs.Matching.{common, AreOverlaps, IsOverlapping, AreOverlapping, IsWindow, AreFollowed, IsMatcher, nowhere};
 
-use crate::names::Name;
+use crate::names::{Name, first_byte};
 use std::alloc::{AllocError, Global};
 use std::marker::Model;
 
@@ -166,9 +166,12 @@ fn empty_windows(alloc: Global, n: usize) -> Result<Vec<Window>, AllocError>
 fn longest(names: &[Name], text: &[u8]) -> usize
     ensures { result ≡ longest names.now text.now }
 {
+    let first = first_byte(text);
     let mut best = 0;
     for name in names {
-        best = longer(best, name.as_slice(), text);
+        if name.first() == first {
+            best = longer(best, name.as_slice(), text);
+        }
     }
     best
 }

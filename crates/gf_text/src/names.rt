@@ -2,23 +2,36 @@
 ghost use Rattle.std.specs.Prelude.{◌≡◌, ◌++◌, ◌∷◌, ◌<◌, ◌≤◌, [], IfOk, IfSome, OnOk, OnErr, length, not, slice_get, if◌then◌else◌};
 ghost use Rattle.gf_text.specs.RingText.{has, IsRing};
 ghost use Rattle.gf_text.specs.SetText.{variable};
+ghost use Rattle.gf_text.specs.Tokens.{first_byte};
 
 use indexmap::IndexSet;
 use std::alloc::{AllocError, Global};
 use std::marker::Model;
 
-/// A name, seen as its bytes.
+/// A name, seen as its bytes. Its first byte is kept beside them, where most names are told apart by it alone.
 #[derive(Drop)]
 pub struct Name {
+    first: u8,
     bytes: Vec<u8>,
 }
 
 impl Model for Name {
-    ghost use Rattle.std.specs.Prelude.{List, ℕ};
+    ghost use Rattle.std.specs.Prelude.{◌≡◌, List, ℕ};
+    ghost use Rattle.gf_text.specs.Tokens.{first_byte};
 
     ghost Value = { List ℕ };
 
     ghost view = { λ n. n.bytes.items };
+
+    ghost invariant = { λ n. n.first ≡ first_byte n.bytes.items };
+}
+
+/// The first of these bytes, 0 where there is none.
+#[inline]
+pub(crate) fn first_byte(bytes: &[u8]) -> u8
+    ensures { result ≡ first_byte bytes.now }
+{
+    if bytes.is_empty() { 0 } else { bytes[0] }
 }
 
 impl Name {
@@ -27,8 +40,17 @@ impl Name {
         ensures { IfOk result (λ n. n ≡ bytes.now) }
     {
         Ok(Name {
+            first: first_byte(bytes),
             bytes: Vec::from_slice(alloc, bytes)?,
         })
+    }
+
+    /// Its first byte, 0 where there is none.
+    #[inline]
+    pub(crate) fn first(&self) -> u8
+        ensures { result ≡ first_byte self.now }
+    {
+        self.first
     }
 
     /// Its bytes.
@@ -200,5 +222,8 @@ fn place_of(names: &[Name], name: &[u8]) -> Option<usize>
     ensures place { result ≡ variable names.now name.now }
     ensures within { IfSome result (λ i. i < length names.now) }
 {
-    names.iter().position(|n| n.as_slice() == name)
+    let first = first_byte(name);
+    names
+        .iter()
+        .position(|n| n.first() == first && n.as_slice() == name)
 }
