@@ -176,7 +176,9 @@ fn longest(names: &[Name], text: &[u8]) -> usize
     best
 }
 
-/// The length of the name where the text begins with it and it is greater than `best`, else `best`.
+/// The length of the name where the text begins with it and it is greater than `best`, else `best`. Not inlined: so the
+/// loop that passes over names with another first byte stays small.
+#[inline(never)]
 fn longer(best: usize, name: &[u8], text: &[u8]) -> usize
     ensures { result ≡ max best (if starts_with nat_eq text.now name.now then length name.now else 0) }
 {

@@ -31,7 +31,7 @@ impl Model for Name {
 pub(crate) fn first_byte(bytes: &[u8]) -> u8
     ensures { result ≡ first_byte bytes.now }
 {
-    if bytes.is_empty() { 0 } else { bytes[0] }
+    bytes.first().copied().unwrap_or(0)
 }
 
 impl Name {
