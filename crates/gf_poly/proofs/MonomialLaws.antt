@@ -1,10 +1,10 @@
 -- Exponents as slices, and what a loop over the variables has done.
--- To cite: entry-get_or, taken_is, plus-minus, length-plus, length-minus, length-join, divides_by_entries, entries_by_divides.
-use Rattle.std.specs.Prelude.{◌≡◌, ℕ, zero, suc, ◌+◌, ◌*◌, ◌<◌, ◌≤◌, ◌^◌, ◌⊎◌, List, [], ◌∷◌, length, take, All}
+-- To cite: entry-get_or, taken_is, entry-ones, degree-ones, entry-raised, degree-raised, limit-raised, plus-minus, length-plus, length-minus, length-join, divides_by_entries, entries_by_divides.
+use Rattle.std.specs.Prelude.{◌≡◌, ◌≢◌, ℕ, zero, suc, ◌+◌, ◌*◌, ◌<◌, ◌≤◌, ◌^◌, ◌⊎◌, List, [], ◌∷◌, length, take, replicate, All}
 use Rattle.std.proofs.Common.{arith, refl, sym, ap, subst, ◌∙◌, inl, inr, get_or, add-one}
 use Rattle.std.proofs.Math.ListN.{set}
 use Rattle.std.proofs.lemmas.Bool.{cases_lt}
-use Rattle.std.proofs.lemmas.List.{get_or-set_other, length-set}
+use Rattle.std.proofs.lemmas.List.{get_or-set_same, get_or-set_other, length-set}
 use Rattle.std.proofs.lemmas.List.Elements.{All-get_or, All-from_get_or}
 use Rattle.std.proofs.lemmas.Grind.{get_or-set_at}
 use Rattle.gf_exponents.specs.Exponents.{Exponents, entry, plus, minus, join, degree, Divides}
@@ -120,6 +120,27 @@ IsBelowSoFar-end x y i l h = divides_by_entries x y (λ k. place k (cases_lt k i
 pub not_divides_at : (x y : Exponents) (i : ℕ) → get_or y i 0 < get_or x i 0 → ¬ (Divides x y)
 not_divides_at x y i l d = absurd (omega (arith, entries_by_divides x y d i, entry-get_or x i, entry-get_or y i))
 
+-- ---- the monomial 1, and one exponent raised
+pub entry-ones : (n k : ℕ) → entry (replicate n 0) k ≡ 0
+entry-ones zero k = refl
+entry-ones (suc n) zero = refl
+entry-ones (suc n) (suc k) = entry-ones n k
+
+pub degree-ones : (n : ℕ) → degree (replicate n 0) ≡ 0
+degree-ones zero = refl
+degree-ones (suc n) = omega (arith, degree-ones n)
+
+pub entry-raised : (x : Exponents) (i by : ℕ) → i < length x → entry (set x i (get_or x i 0 + by)) i ≡ entry x i + by
+entry-raised x i by l = omega (arith, entry-get_or (set x i (get_or x i 0 + by)) i, get_or-set_same x i (get_or x i 0 + by) 0 l, entry-get_or x i)
+
+pub entry-set_other : (x : Exponents) (i k a : ℕ) → k ≢ i → entry (set x i a) k ≡ entry x k
+entry-set_other x i k a other = sym (entry-get_or (set x i a) k) ∙ get_or-set_other x i k a 0 other ∙ entry-get_or x k
+
+pub degree-raised : (x : Exponents) (i by : ℕ) → i < length x → degree (set x i (get_or x i 0 + by)) ≡ degree x + by
+degree-raised [] i by l = absurd (omega arith)
+degree-raised (a ∷ x) zero by l = omega arith
+degree-raised (a ∷ x) (suc i) by l = omega (arith, degree-raised x i by (omega arith))
+
 -- ---- limits
 pub limit_by_entries : (x : List ℕ) → ((i : ℕ) → entry x i < 2 ^ 31) → All (λ k. k < 2 ^ 31) x
 limit_by_entries x h = All-from_get_or (λ k. k < 2 ^ 31) x 0 (λ i l. omega (arith, h i, entry-get_or x i))
@@ -129,6 +150,16 @@ entry-limit x h i = elim (cases_lt i (length x)) [
   | inl l ↦ omega (arith, All-get_or (λ k. k < 2 ^ 31) x i 0 l h, entry-get_or x i)
   | inr g ↦ omega (arith, entry-past x i g)
 ]
+
+pub limit-raised : (x : Exponents) (i by : ℕ) → i < length x → get_or x i 0 + by < 2 ^ 31 → All (λ k. k < 2 ^ 31) x → All (λ k. k < 2 ^ 31) (set x i (get_or x i 0 + by))
+limit-raised x i by l less h = limit_by_entries (set x i (get_or x i 0 + by)) (λ k. place k (same_or_not k i))
+  where
+    same_or_not : (k i : ℕ) → (k ≡ i) ⊎ (k ≢ i)
+    same_or_not k i = grind arith
+
+    place : (k : ℕ) → (k ≡ i) ⊎ (k ≢ i) → entry (set x i (get_or x i 0 + by)) k < 2 ^ 31
+    place k (inl q) = omega (arith, ap (λ j. entry (set x i (get_or x i 0 + by)) j) q, entry-raised x i by l, entry-get_or x i)
+    place k (inr d) = omega (arith, entry-set_other x i k (get_or x i 0 + by) d, entry-limit x h k)
 
 pub IsMonomial-plus : (x y : Exponents) → length x ≡ length y → IsMonomial x → ProductFits x y → IsMonomial (plus x y)
 IsMonomial-plus x y e h p = record { room = omega (arith, length-plus x y e, h.room); limit = limit_by_entries (plus x y) (λ i. omega (arith, p.at i, entry-plus x y i)) }

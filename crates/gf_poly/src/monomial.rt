@@ -1,6 +1,6 @@
 //! Monomials: up to `ROOM` exponents, kept inline with their sum and with a word of the variables that occur.
 
-ghost use Rattle.std.specs.Prelude.{◌≡◌, ◌≤◌, ◌<◌, ◌^◌, ◌↔◌, length, take, bit_and, All, IfOk, IfErr, IsOk, IsTrue};
+ghost use Rattle.std.specs.Prelude.{◌≡◌, ◌+◌, ◌≤◌, ◌<◌, ◌^◌, ◌↔◌, length, take, replicate, slice_index, slice_set, bit_and, All, IfOk, IfErr, OnOk, OnErr, IsOk, IsTrue};
 ghost use Rattle.gf_exponents.specs.Exponents.{plus, minus, join, Divides, degree as total_degree};
 ghost use Rattle.gf_exponents.specs.Orders.{deglex};
 ghost use Rattle.gf_poly.specs.Monomial.{IsMonomial, IsWordOf, ProductFits, IsFirstOverflow};
@@ -10,6 +10,9 @@ use smallvec::SmallVec;
 use std::alloc::Global;
 use std::cmp::Ordering;
 use std::marker::Model;
+
+// The greatest exponent.
+const MOST: u32 = (1 << 31) - 1;
 
 /// A monomial, as the list of its exponents, the first variable first.
 #[derive(Drop)]
@@ -143,6 +146,18 @@ impl Mono {
         Mono::known(alloc, exponents, total_of(exponents), word_of(exponents))
     }
 
+    /// The monomial 1 in n variables.
+    pub fn one(alloc: Global, n: usize) -> Mono
+        requires { n ≤ ROOM }
+        ensures { result ≡ replicate n 0 }
+    {
+        Mono {
+            total: 0,
+            word: 0,
+            exponents: SmallVec::from_buf_and_len(alloc, [0; ROOM], n),
+        }
+    }
+
     // The monomial with these exponents, whose sum and word are known.
     fn known(alloc: Global, exponents: &[u32], total: u64, word: u16) -> Mono
         requires exponents { IsMonomial exponents.now }
@@ -189,6 +204,37 @@ impl Mono {
         ensures { IsWordOf self.now result }
     {
         self.word
+    }
+
+    /// Multiplies by a power of a variable, the exponent being at most `2^31 - 1`.
+    ///
+    /// # Errors
+    ///
+    /// `ExponentOverflow` exactly where the sum of the variable's exponent and that of the power is above `2^31 - 1`; it
+    /// holds the two, and the monomial is as before.
+    #[inline]
+    pub fn raise(&mut self, variable: usize, by: u32) -> Result<(), ExponentOverflow>
+        requires variable { variable < length self.old }
+        requires limit { by < 2 ^ 31 }
+        ensures product { OnOk result (self.new ≡ slice_set self.old variable (slice_index self.old variable + by)) }
+        ensures fits { IsOk result ↔ (slice_index self.old variable + by < 2 ^ 31) }
+        ensures overflow { IfErr result (λ o. o ≡ record { left = slice_index self.old variable; right = by }) }
+        ensures unchanged { OnErr result (self.new ≡ self.old) }
+    {
+        let exponents = self.exponents.as_mut_slice();
+        let exponent = exponents[variable];
+        if by > MOST - exponent {
+            return Err(ExponentOverflow {
+                left: u64::from(exponent),
+                right: u64::from(by),
+            });
+        }
+        exponents[variable] = exponent + by;
+        self.total += u64::from(by);
+        if by != 0 {
+            self.word |= 1 << variable;
+        }
+        Ok(())
     }
 
     /// The product with `other`, which has the same variables.

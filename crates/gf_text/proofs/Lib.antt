@@ -2,6 +2,7 @@ pub mod TokensLaws  -- the tokens of a text, one after another
 pub mod MatchingLaws  -- how much of a name stands at a place, by what is known of earlier places
 pub mod SpelledLaws  -- bytes that spell tokens
 pub mod MachineLaws  -- what machines read, and what grammars say of it
+pub mod SpansLaws  -- names that begin with a byte stand in one stretch
 pub mod NamesLaws  -- different names, kept as keys of a set
 pub mod RingTextLaws  -- the machine of rings reads what the grammar says; printed rings are read again
 pub mod RingKindsLaws  -- of which kind a fault of a ring is

@@ -2,9 +2,11 @@
 -- A window of a name is a stretch of the source that is known to be the front of the name. What stands at a place of the
 -- window is what stands at that place of the name itself, and the overlaps of the name tell how much of the name that is.
 -- Laws: proofs/MatchingLaws.antt.
-use Rattle.std.specs.Prelude.{◌≡◌, ◌⊎◌, ℕ, suc, ◌≤◌, ◌<◌, ◌-◌, ◌==◌, List, [], ◌∷◌, length, take, drop, get_or, if◌then◌else◌}
+use Rattle.std.specs.Prelude.{◌≡◌, ◌≢◌, ◌⊎◌, ℕ, suc, ◌≤◌, ◌<◌, ◌+◌, ◌-◌, ◌==◌, List, [], ◌∷◌, ◌++◌, length, take, drop, get_or, All, if◌then◌else◌}
 use Rattle.gf_text.specs.declared.matcher.Window.{Window}
 use Rattle.gf_text.specs.declared.matcher.Matcher.{Matcher}
+use Rattle.gf_text.specs.declared.spans.Span.{Span}
+use Rattle.gf_text.specs.Tokens.{first_byte}
 
 -- how many bytes at the front of a name are those at the front of a text
 abbrev pub common : List ℕ → List ℕ → ℕ
@@ -45,3 +47,33 @@ pub record AreFollowed (source : List ℕ) (names overlaps : List (List ℕ)) (w
 -- what a matcher keeps is known of each of these names, or it keeps nothing
 abbrev pub IsMatcher : List ℕ → List (List ℕ) → Matcher → Type 0
 IsMatcher source names m = (m.windows.items ≡ []) ⊎ AreFollowed source names m.overlaps.items m.windows.items
+
+-- ---- where names stand by their first byte
+
+-- outside this stretch no name begins with this byte
+pub record IsSpan (names : List (List ℕ)) (first : ℕ) (s : Span) : Type 0 where
+  pub order : s.from ≤ s.to
+  pub within : s.to ≤ length names
+  pub inside : (i : ℕ) → i < length names → first_byte (get_or names i []) ≡ first → (s.from ≤ i) × (i < s.to)
+
+-- the stretch for a byte
+abbrev pub span_at : List Span → ℕ → Span
+span_at spans first = get_or spans first (record { from = 0; to = 0 })
+
+-- the same for each byte
+pub record AreSpans (names : List (List ℕ)) (spans : List Span) : Type 0 where
+  pub count : length spans ≡ 256
+  pub each : (first : ℕ) → first < 256 → IsSpan names first (span_at spans first)
+
+-- a stretch that reaches to place i as well
+abbrev pub with_place : Span → ℕ → Span
+with_place s i = record { from = if s.to == 0 then i else s.from; to = i + 1 }
+
+-- these are names one after another, the first of them at this place, and no other name begins with this byte
+pub record IsStretch (names : List (List ℕ)) (first from : ℕ) (some : List (List ℕ)) : Type 0 where
+  pub before : List (List ℕ)
+  pub after : List (List ℕ)
+  pub whole : names ≡ before ++ (some ++ after)
+  pub place : from ≡ length before
+  pub none_before : All (λ n. first_byte n ≢ first) before
+  pub none_after : All (λ n. first_byte n ≢ first) after

@@ -55,6 +55,11 @@ abbrev pub first_byte : List ℕ → ℕ
 first_byte [] = 0
 first_byte (b ∷ bs) = b
 
+-- the second byte, 0 where there is none
+abbrev pub second_byte : List ℕ → ℕ
+second_byte [] = 0
+second_byte (b ∷ bs) = first_byte bs
+
 -- the length of the longest of these names that the text begins with, 0 where it begins with none
 abbrev pub longest : List (List ℕ) → List ℕ → ℕ
 longest [] text = 0

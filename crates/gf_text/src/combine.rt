@@ -1,5 +1,5 @@
 //! From what a text of a set says to polynomials.
-ghost use Rattle.std.specs.Prelude.{◌≡◌, ◌≢◌, ◌≤◌, ◌<◌, ◌^◌, All, IfOk, IfErr, OnOk, IsTrue, Ok, Err, ℕ, length, take, replicate, MatchOption, ◌∷◌, []};
+ghost use Rattle.std.specs.Prelude.{◌≡◌, ◌≢◌, ◌≤◌, ◌<◌, ◌^◌, IfOk, IfErr, OnOk, IsTrue, Ok, Err, ℕ, length, MatchOption, ◌∷◌, []};
 ghost use Rattle.std.specs.declared.cmp.Ordering.TheVariants.{Greater};
 ghost use Rattle.gf_exponents.specs.Orders.{deglex};
 ghost use Rattle.gf_frac.specs.Fraction.{zero_ℚ};
@@ -18,39 +18,25 @@ use gf_poly::{ExponentOverflow, Marked, Mono, Poly, PolyError, ROOM, Term};
 use std::alloc::{AllocError, Global};
 use std::cmp::Ordering;
 
-/// The greatest exponent.
-const MOST: u32 = (1 << 31) - 1;
-
-/// Adds the exponent of a power.
-fn raise(exponents: &mut [u32], factor: Factor) -> Result<(), ExponentOverflow>
-    requires limit { All (λ x. x < 2 ^ 31) exponents.old }
-    requires within { IsFactorWithin (length exponents.old) factor }
-    ensures ok { OnOk result (raised exponents.old factor ≡ Ok exponents.new) }
-    ensures limit { OnOk result (All (λ x. x < 2 ^ 31) exponents.new) }
-    ensures err { IfErr result (λ o. raised exponents.old factor ≡ Err o) }
+/// Multiplies a monomial by a power.
+#[inline]
+fn raise(mono: &mut Mono, factor: Factor) -> Result<(), ExponentOverflow>
+    requires { IsFactorWithin (length mono.old) factor }
+    ensures ok { OnOk result (raised mono.old factor ≡ Ok mono.new) }
+    ensures err { IfErr result (λ o. raised mono.old factor ≡ Err o) }
 {
-    let variable = usize::from(factor.variable);
-    let exponent = exponents[variable];
-    if factor.exponent > MOST - exponent {
-        return Err(ExponentOverflow {
-            left: u64::from(exponent),
-            right: u64::from(factor.exponent),
-        });
-    }
-    exponents[variable] = exponent + factor.exponent;
-    Ok(())
+    mono.raise(usize::from(factor.variable), factor.exponent)
 }
 
-/// Adds the exponents of powers, one after another.
-fn count(exponents: &mut [u32], factors: &[Factor]) -> Result<(), ExponentOverflow>
-    requires limit { All (λ x. x < 2 ^ 31) exponents.old }
-    requires within { AreFactorsWithin (length exponents.old) factors.now }
-    ensures ok { OnOk result (times_factors exponents.old factors.now ≡ Ok exponents.new) }
-    ensures limit { OnOk result (All (λ x. x < 2 ^ 31) exponents.new) }
-    ensures err { IfErr result (λ o. times_factors exponents.old factors.now ≡ Err o) }
+/// Multiplies a monomial by powers, one after another.
+#[inline]
+fn raise_all(mono: &mut Mono, factors: &[Factor]) -> Result<(), ExponentOverflow>
+    requires { AreFactorsWithin (length mono.old) factors.now }
+    ensures ok { OnOk result (times_factors mono.old factors.now ≡ Ok mono.new) }
+    ensures err { IfErr result (λ o. times_factors mono.old factors.now ≡ Err o) }
 {
     'factors: for factor in factors {
-        raise(exponents, *factor)?;
+        raise(mono, *factor)?;
     }
     Ok(())
 }
@@ -63,9 +49,9 @@ fn mono_of(alloc: Global, n: usize, term: &WrittenTerm) -> Result<Mono, Exponent
     ensures ok { IfOk result (λ m. exponents_of n term.now ≡ Ok m) }
     ensures err { IfErr result (λ o. exponents_of n term.now ≡ Err o) }
 {
-    let mut all = [0; ROOM];
-    count(&mut all[..n], term.factors.as_slice())?;
-    Ok(Mono::new(alloc, &all[..n]))
+    let mut mono = Mono::one(alloc, n);
+    raise_all(&mut mono, term.factors.as_slice())?;
+    Ok(mono)
 }
 
 /// The coefficient that is written.

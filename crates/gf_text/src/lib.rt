@@ -19,6 +19,7 @@ mod set_printer;
 mod set_reader;
 #[cfg(test)]
 mod set_tests;
+mod spans;
 mod term_printer;
 #[cfg(test)]
 mod tests;

@@ -9,7 +9,7 @@ ghost use Rattle.std.specs.List.{list_all, starts_with};
 ghost use Rattle.gf_text.specs.Tokens.{longest};
 ghost use Rattle.gf_text.specs.Matching.{common, AreOverlaps, IsOverlapping, AreOverlapping, IsWindow, AreFollowed, IsMatcher, nowhere};
 
-use crate::names::{Name, first_byte};
+use crate::names::{Name, Ring, first_byte, second_byte};
 use std::alloc::{AllocError, Global};
 use std::marker::Model;
 
@@ -166,10 +166,10 @@ fn empty_windows(alloc: Global, n: usize) -> Result<Vec<Window>, AllocError>
 fn longest(names: &[Name], text: &[u8]) -> usize
     ensures { result ≡ longest names.now text.now }
 {
-    let first = first_byte(text);
+    let second = second_byte(text);
     let mut best = 0;
     for name in names {
-        if name.first() == first {
+        if name.second() == second || name.second() == 0 {
             best = longer(best, name.as_slice(), text);
         }
     }
@@ -177,7 +177,7 @@ fn longest(names: &[Name], text: &[u8]) -> usize
 }
 
 /// The length of the name where the text begins with it and it is greater than `best`, else `best`. Not inlined: so the
-/// loop that passes over names with another first byte stays small.
+/// loop that passes over names with another second byte stays small.
 #[inline(never)]
 fn longer(best: usize, name: &[u8], text: &[u8]) -> usize
     ensures { result ≡ max best (if starts_with nat_eq text.now name.now then length name.now else 0) }
@@ -261,16 +261,18 @@ impl Matcher {
         })
     }
 
-    /// The length of the longest of its names that stands at a place of the source, 0 where none does.
-    pub(crate) fn longest(&mut self, names: &[Name], source: &[u8], at: usize) -> usize
+    /// The length of the longest name of the ring that stands at a place of the source, 0 where none does.
+    pub(crate) fn longest(&mut self, ring: &Ring, source: &[u8], at: usize) -> usize
         requires within { at ≤ length source.now }
-        requires matcher { IsMatcher source.now names.now self.old }
-        ensures value { result ≡ longest names.now (drop at source.now) }
-        ensures matcher { IsMatcher source.now names.now self.new }
+        requires matcher { IsMatcher source.now ring.now self.old }
+        ensures value { result ≡ longest ring.now (drop at source.now) }
+        ensures matcher { IsMatcher source.now ring.now self.new }
     {
         if self.windows.is_empty() {
-            return longest(names, &source[at..]);
+            let text = &source[at..];
+            let (_, names) = ring.stretch(first_byte(text));
+            return longest(names, text);
         }
-        longest_at(names, &self.overlaps, &mut self.windows, source, at)
+        longest_at(ring.names(), &self.overlaps, &mut self.windows, source, at)
     }
 }

@@ -1,29 +1,32 @@
 //! The names of a ring's variables.
-ghost use Rattle.std.specs.Prelude.{◌≡◌, ◌++◌, ◌∷◌, ◌<◌, ◌≤◌, [], IfOk, IfSome, OnOk, OnErr, length, not, slice_get, if◌then◌else◌};
+ghost use Rattle.std.specs.Prelude.{◌≡◌, ◌+◌, ◌++◌, ◌∷◌, ◌<◌, ◌≤◌, [], IfOk, IfSome, OnOk, OnErr, length, not, slice_get, if◌then◌else◌};
 ghost use Rattle.gf_text.specs.RingText.{has, IsRing};
 ghost use Rattle.gf_text.specs.SetText.{variable};
-ghost use Rattle.gf_text.specs.Tokens.{first_byte};
+ghost use Rattle.gf_text.specs.Tokens.{first_byte, second_byte};
+ghost use Rattle.gf_text.specs.Matching.{IsStretch};
 
+use crate::spans::Spans;
 use indexmap::IndexSet;
 use std::alloc::{AllocError, Global};
 use std::marker::Model;
 
-/// A name, seen as its bytes. Its first byte is kept beside them, where most names are told apart by it alone.
+/// A name, seen as its bytes. Its first two bytes are kept beside them, by which most names are told apart.
 #[derive(Drop)]
 pub struct Name {
     first: u8,
+    second: u8,
     bytes: Vec<u8>,
 }
 
 impl Model for Name {
     ghost use Rattle.std.specs.Prelude.{◌≡◌, List, ℕ};
-    ghost use Rattle.gf_text.specs.Tokens.{first_byte};
+    ghost use Rattle.gf_text.specs.Tokens.{first_byte, second_byte};
 
     ghost Value = { List ℕ };
 
     ghost view = { λ n. n.bytes.items };
 
-    ghost invariant = { λ n. n.first ≡ first_byte n.bytes.items };
+    ghost invariant = { λ n. (n.first ≡ first_byte n.bytes.items) × (n.second ≡ second_byte n.bytes.items) };
 }
 
 /// The first of these bytes, 0 where there is none.
@@ -34,6 +37,14 @@ pub(crate) fn first_byte(bytes: &[u8]) -> u8
     bytes.first().copied().unwrap_or(0)
 }
 
+/// The second of these bytes, 0 where there is none.
+#[inline]
+pub(crate) fn second_byte(bytes: &[u8]) -> u8
+    ensures { result ≡ second_byte bytes.now }
+{
+    bytes.get(1).copied().unwrap_or(0)
+}
+
 impl Name {
     /// The name with these bytes.
     fn from_slice(alloc: Global, bytes: &[u8]) -> Result<Name, AllocError>
@@ -41,6 +52,7 @@ impl Name {
     {
         Ok(Name {
             first: first_byte(bytes),
+            second: second_byte(bytes),
             bytes: Vec::from_slice(alloc, bytes)?,
         })
     }
@@ -51,6 +63,14 @@ impl Name {
         ensures { result ≡ first_byte self.now }
     {
         self.first
+    }
+
+    /// Its second byte, 0 where there is none.
+    #[inline]
+    pub(crate) fn second(&self) -> u8
+        ensures { result ≡ second_byte self.now }
+    {
+        self.second
     }
 
     /// Its bytes.
@@ -155,21 +175,24 @@ impl DifferentNames {
     }
 }
 
-/// A ring of polynomials, seen as the list of the names of its variables.
+/// A ring of polynomials, seen as the list of the names of its variables. Where those with one first byte stand is kept
+/// beside them.
 #[derive(Drop)]
 pub struct Ring {
     names: Names,
+    spans: Spans,
 }
 
 impl Model for Ring {
     ghost use Rattle.std.specs.Prelude.{List, ℕ};
     ghost use Rattle.gf_text.specs.RingText.{IsRing};
+    ghost use Rattle.gf_text.specs.Matching.{AreSpans};
 
     ghost Value = { List (List ℕ) };
 
     ghost view = { λ r. r.names };
 
-    ghost invariant = { λ r. IsRing r.names };
+    ghost invariant = { λ r. IsRing r.names × AreSpans r.names r.spans.items };
 }
 
 impl Ring {
@@ -178,7 +201,8 @@ impl Ring {
         requires { IsRing names }
         ensures { result ≡ names }
     {
-        Ring { names }
+        let spans = Spans::of(names.as_slice());
+        Ring { names, spans }
     }
 
     /// How many variables it has: 1 to 16.
@@ -206,12 +230,24 @@ impl Ring {
         self.names.as_slice()[i].as_slice()
     }
 
+    /// Some of its names, one after another, outside which no name begins with this byte; and the place of the first one.
+    #[inline]
+    pub(crate) fn stretch(&self, first: u8) -> (u8, &[Name])
+        ensures stretch { IsStretch self.now first result.0 result.1.now }
+        ensures few { result.0 + length result.1.now ≤ 16 }
+    {
+        let span = self.spans.at(first);
+        let names = &self.names.as_slice()[usize::from(span.from)..usize::from(span.to)];
+        (span.from, names)
+    }
+
     /// The number of the variable of this name.
     pub(crate) fn variable(&self, name: &[u8]) -> Option<u8>
         ensures { result ≡ variable self.now name.now }
     {
-        match place_of(self.names.as_slice(), name) {
-            Some(i) => Some(i as u8),
+        let (from, names) = self.stretch(first_byte(name));
+        match place_of(names, name) {
+            Some(i) => Some(from + i as u8),
             None => None,
         }
     }
@@ -222,8 +258,8 @@ fn place_of(names: &[Name], name: &[u8]) -> Option<usize>
     ensures place { result ≡ variable names.now name.now }
     ensures within { IfSome result (λ i. i < length names.now) }
 {
-    let first = first_byte(name);
+    let second = second_byte(name);
     names
         .iter()
-        .position(|n| n.first() == first && n.as_slice() == name)
+        .position(|n| n.second() == second && n.as_slice() == name)
 }

@@ -318,14 +318,13 @@ fn sums_from(
     ensures within { IfOk result (λ x. x.1 ≤ length source.now) }
 {
     let n = ring.len() as usize;
-    let names = ring.names();
-    let mut matcher = Matcher::new(alloc, names)?;
+    let mut matcher = Matcher::new(alloc, ring.names())?;
     let mut part = Part::new(alloc);
     let mut place = SetPlace::Brace;
     let mut sums = Sums::new(alloc);
     let mut at = from;
     loop {
-        let Some((start, end)) = ring_token_from(&mut matcher, names, source, at) else {
+        let Some((start, end)) = ring_token_from(&mut matcher, ring, source, at) else {
             return Err(refused_at(source.len(), Cause::Ended));
         };
         match part.step(alloc, ring, place, &source[start..end])? {

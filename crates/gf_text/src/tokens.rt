@@ -6,7 +6,7 @@ ghost use Rattle.gf_text.specs.Matching.{IsMatcher};
 ghost use Rattle.gf_text.specs.Given.{IsNumberRead};
 
 use crate::matcher::Matcher;
-use crate::names::Name;
+use crate::names::Ring;
 
 /// A token: its text, and the place of its first byte in the source.
 #[derive(Clone, Copy, Debug)]
@@ -67,11 +67,11 @@ fn word_more(text: &[u8]) -> usize
 }
 
 /// How many bytes of the token at a place of the source follow its first byte, where names are those of a ring.
-fn ring_more(matcher: &mut Matcher, names: &[Name], source: &[u8], at: usize) -> usize
+fn ring_more(matcher: &mut Matcher, ring: &Ring, source: &[u8], at: usize) -> usize
     requires within { at ≤ length source.now }
-    requires matcher { IsMatcher source.now names.now matcher.old }
-    ensures value { result ≡ ring_more names.now (drop at source.now) }
-    ensures matcher { IsMatcher source.now names.now matcher.new }
+    requires matcher { IsMatcher source.now ring.now matcher.old }
+    ensures value { result ≡ ring_more ring.now (drop at source.now) }
+    ensures matcher { IsMatcher source.now ring.now matcher.new }
 {
     let [first, rest @ ..] = &source[at..] else {
         return 0;
@@ -80,7 +80,7 @@ fn ring_more(matcher: &mut Matcher, names: &[Name], source: &[u8], at: usize) ->
         return digits(rest);
     }
     if first.is_ascii_alphabetic() {
-        return matcher.longest(names, source, at).saturating_sub(1);
+        return matcher.longest(ring, source, at).saturating_sub(1);
     }
     0
 }
@@ -103,21 +103,21 @@ pub(crate) fn word_from(source: &[u8], at: usize) -> Option<(usize, usize)>
 /// The same, where names are those of a ring.
 pub(crate) fn ring_token_from(
     matcher: &mut Matcher,
-    names: &[Name],
+    ring: &Ring,
     source: &[u8],
     at: usize,
 ) -> Option<(usize, usize)>
     requires within { at ≤ length source.now }
-    requires matcher { IsMatcher source.now names.now matcher.old }
-    ensures token { MatchOption result (lexemes (ring_more names.now) source.now at ≡ []) (λ t. lexemes (ring_more names.now) source.now at ≡ lexeme source.now t.0 t.1 ∷ lexemes (ring_more names.now) source.now t.1) }
+    requires matcher { IsMatcher source.now ring.now matcher.old }
+    ensures token { MatchOption result (lexemes (ring_more ring.now) source.now at ≡ []) (λ t. lexemes (ring_more ring.now) source.now at ≡ lexeme source.now t.0 t.1 ∷ lexemes (ring_more ring.now) source.now t.1) }
     ensures within { IfSome result (λ t. (at ≤ t.0) × (t.0 < t.1) × (t.1 ≤ length source.now)) }
-    ensures matcher { IsMatcher source.now names.now matcher.new }
+    ensures matcher { IsMatcher source.now ring.now matcher.new }
 {
     let start = at + spaces(&source[at..]);
     if start == source.len() {
         return None;
     }
-    let more = ring_more(matcher, names, source, start);
+    let more = ring_more(matcher, ring, source, start);
     Some((start, start + 1 + more))
 }
 

@@ -16,7 +16,7 @@ loop-start-init c =
     let source = c.args.source.now in
     record {
       within = c.requires;
-      matcher = c.in_ok-matcher.ensures source;
+      matcher = rw c.names.ensures.value at (c.in_ok-matcher.ensures source);
       said = [];
       none = ap (λ p. p.polynomials) c.new-part.ensures;
       reading = subst (λ p. Reading ring source c.args.from c.args.from (Brace, p) []) (sym c.new-part.ensures) (reading_start ring source c.args.from);
@@ -28,9 +28,9 @@ returns-in_default-clause-err c =
     let ring = c.args.ring.now in
     let source = c.args.source.now in
     let i = c.loop-start.invariant in
-    let tokens = rw c.names-names.ensures.value at c.in_default.ensures.token in
+    let tokens = c.in_default.ensures.token in
     rw c.refused_at.ensures (
-    failed _ (length source) Ended (reading_ended ring c.names-names.ensures.ring source c.args.from c.loop-start.at (c.loop-start.place, c.loop-start.part) i.said i.reading tokens)
+    failed _ (length source) Ended (reading_ended ring c.names.ensures.ring source c.args.from c.loop-start.at (c.loop-start.place, c.loop-start.part) i.said i.reading tokens)
     )
 
 pub returns-in-Halt-clause-err : goal.returns-in-Halt-clause-err
@@ -38,12 +38,12 @@ returns-in-Halt-clause-err c =
     let ring = c.args.ring.now in
     let source = c.args.source.now in
     let i = c.loop-start.invariant in
-    let tokens = rw c.names-names.ensures.value at c.in-Some.ensures.token in
+    let tokens = c.in-Some.ensures.token in
     let move = sym c.in_ok-next.ensures ∙ ap (λ m. set_move m c.step.new.self) c.in-Halt.is in
     let x = lexeme source c.in-Some.start c.in-Some.end in
     rw c.refused_at-in-Halt.ensures (
     failed _ c.in-Some.start c.in-Halt.cause
-    (reading_halt ring c.names-names.ensures.ring source c.args.from c.loop-start.at c.in-Some.end x (c.loop-start.place, c.loop-start.part) i.said i.reading tokens c.in-Halt.cause move)
+    (reading_halt ring c.names.ensures.ring source c.args.from c.loop-start.at c.in-Some.end x (c.loop-start.place, c.loop-start.part) i.said i.reading tokens c.in-Halt.cause move)
     )
 
 pub add_read-requires-clause-within : goal.add_read-requires-clause-within
@@ -51,25 +51,25 @@ add_read-requires-clause-within c =
     let ring = c.args.ring.now in
     let source = c.args.source.now in
     let i = c.loop-start.invariant in
-    let tokens = rw c.names-names.ensures.value at c.in-Some.ensures.token in
+    let tokens = c.in-Some.ensures.token in
     let move = sym c.in_ok-next.ensures ∙ ap (λ m. set_move m c.step.new.self) c.in-Done.is in
     let x = lexeme source c.in-Some.start c.in-Some.end in
     subst (λ n. AreWithin n c.step.new.self.polynomials) (sym c.len-n.ensures.value)
-    (done_within ring c.names-names.ensures.ring source c.args.from c.loop-start.at c.in-Some.end x (c.loop-start.place, c.loop-start.part) i.said i.reading tokens c.step.new.self.polynomials move)
+    (done_within ring c.names.ensures.ring source c.args.from c.loop-start.at c.in-Some.end x (c.loop-start.place, c.loop-start.part) i.said i.reading tokens c.step.new.self.polynomials move)
 
 pub returns-in-Done-clause-ok : goal.returns-in-Done-clause-ok
 returns-in-Done-clause-ok c =
     let ring = c.args.ring.now in
     let source = c.args.source.now in
     let i = c.loop-start.invariant in
-    let tokens = rw c.names-names.ensures.value at c.in-Some.ensures.token in
+    let tokens = c.in-Some.ensures.token in
     let move = sym c.in_ok-next.ensures ∙ ap (λ m. set_move m c.step.new.self) c.in-Done.is in
     let x = lexeme source c.in-Some.start c.in-Some.end in
     let ps = c.step.new.self.polynomials in
     let adds = subst (λ n. Adds n ps c.loop-start.sums c.add_read.new.self) c.len-n.ensures.value c.in_ok-add_read-in-Done.ensures in
     record {
       said = i.said ++ ps;
-      read = reading_done ring c.names-names.ensures.ring source c.args.from c.loop-start.at c.in-Some.end x (c.loop-start.place, c.loop-start.part) i.said i.reading tokens ps move
+      read = reading_done ring c.names.ensures.ring source c.args.from c.loop-start.at c.in-Some.end x (c.loop-start.place, c.loop-start.part) i.said i.reading tokens ps move
           ∙ ap (λ n. Ok (i.said ++ ps, n)) (behind-lexeme source c.in-Some.start c.in-Some.end c.in-Some.ensures.within.1 c.in-Some.ensures.within.2);
       come = adds i.said i.come;
     }
@@ -79,18 +79,18 @@ add_read-requires-in-loop-start-clause-within c =
     let ring = c.args.ring.now in
     let source = c.args.source.now in
     let i = c.loop-start.invariant in
-    let tokens = rw c.names-names.ensures.value at c.in-Some.ensures.token in
+    let tokens = c.in-Some.ensures.token in
     let move = sym c.in_ok-next.ensures ∙ ap (λ m. set_move m c.step.new.self) c.in-Go.is in
     let x = lexeme source c.in-Some.start c.in-Some.end in
     subst (λ n. AreWithin n c.step.new.self.polynomials) (sym c.len-n.ensures.value)
-    (go_within ring c.names-names.ensures.ring source c.args.from c.loop-start.at c.in-Some.end x (c.loop-start.place, c.loop-start.part) i.said i.reading tokens (c.in-Go.next, c.step.new.self) move)
+    (go_within ring c.names.ensures.ring source c.args.from c.loop-start.at c.in-Some.end x (c.loop-start.place, c.loop-start.part) i.said i.reading tokens (c.in-Go.next, c.step.new.self) move)
 
 pub loop-start-preserved : goal.loop-start-preserved
 loop-start-preserved c =
     let ring = c.args.ring.now in
     let source = c.args.source.now in
     let i = c.loop-start.invariant in
-    let tokens = rw c.names-names.ensures.value at c.in-Some.ensures.token in
+    let tokens = c.in-Some.ensures.token in
     let move = sym c.in_ok-next.ensures ∙ ap (λ m. set_move m c.step.new.self) c.in-Go.is in
     let x = lexeme source c.in-Some.start c.in-Some.end in
     let ps = c.step.new.self.polynomials in
@@ -101,6 +101,6 @@ loop-start-preserved c =
       said = i.said ++ ps;
       none = c.clear.ensures;
       reading = subst (λ l. Reading ring source c.args.from c.in-Some.end (c.in-Go.next, record (c.step.new.self) { polynomials = l }) (i.said ++ ps)) (sym c.clear.ensures)
-          (reading_go ring c.names-names.ensures.ring source c.args.from c.loop-start.at c.in-Some.end x (c.loop-start.place, c.loop-start.part) i.said i.reading tokens (c.in-Go.next, c.step.new.self) move);
+          (reading_go ring c.names.ensures.ring source c.args.from c.loop-start.at c.in-Some.end x (c.loop-start.place, c.loop-start.part) i.said i.reading tokens (c.in-Go.next, c.step.new.self) move);
       come = adds i.said i.come;
     }

@@ -8,7 +8,7 @@ use Rattle.gf_text.proofs.set_reader.sums_from.Given as goal
 abbrev pub invariant-loop-start : goal.invariant-loop-start
 invariant-loop-start l = record {
   within : l.at ≤ length l.source;
-  matcher : IsMatcher l.source l.names l.matcher;
+  matcher : IsMatcher l.source l.ring l.matcher;
   said : List (List WrittenTerm);
   none : l.part.polynomials ≡ [];
   reading : Reading l.ring l.source l.from l.at (l.place, l.part) said;
