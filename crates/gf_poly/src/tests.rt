@@ -164,6 +164,26 @@ fn arranged_list(rt: HostRuntime) -> Result<(), Fail> {
     Ok(())
 }
 
+// powers of one variable, up to the limit and past it; what was refused changed nothing
+#[test]
+fn powers_of_a_variable(rt: HostRuntime) -> Result<(), Fail> {
+    let mut mono = Mono::one(rt.alloc(), 3);
+    let first = mono.raise(2, 3);
+    let second = mono.raise(1, MOST - 1);
+    assert!(rt; first.is_ok() && second.is_ok());
+    let refused = match mono.raise(1, 2) {
+        Err(o) => o.left == 2_147_483_646 && o.right == 2,
+        Ok(()) => false,
+    };
+    let third = mono.raise(1, 1);
+    assert!(rt; refused && third.is_ok());
+    assert!(rt; mono.exponents() == [0, MOST, 3].as_slice());
+    assert!(rt; mono.degree() == 2_147_483_650);
+    assert!(rt; Mono::new(rt.alloc(), &[0, 1, 1]).divides(&mono));
+    assert!(rt; !Mono::new(rt.alloc(), &[1, 0, 0]).divides(&mono));
+    Ok(())
+}
+
 // by hand
 #[test]
 fn plain_lists(rt: HostRuntime) -> Result<(), Fail> {

@@ -1,5 +1,5 @@
 -- Sums of like terms, a block after another: the sum of the terms so far stands for these.
--- To cite: AreCoefficientsInRange, written_in_range, fits_on, same_on. The rest are steps.
+-- To cite: AreCoefficientsInRange, written_in_range, like-++, fits_on, same_on. The rest are steps.
 use Rattle.std.proofs.Common.{◌≡◌, ◌≢◌, ◌≤◌, ◌<◌, ◌∙◌, ◌/◌, ◌-◌, ◌^◌, ℕ, zero, suc, ℤ, pos, Bool, true, false, cond, if◌then◌else◌, Result, Ok, Err, List, [], ◌∷◌, ◌++◌, length, refl, sym, ap, subst, arith}
 use Rattle.std.specs.Prelude.{IfOk, ◌+ℤ◌, ◌*ℤ◌}
 use Rattle.std.specs.Int.RustNames.{unsigned_abs}
@@ -103,7 +103,7 @@ from_zero (t ∷ f) range fits = (zero_fits t.coef range.0, subst (λ c. SumsFit
 
 -- ---- like terms
 
-like-++ : (x : Exponents) (f h : Terms) → like x (f ++ h) ≡ like x f ++ like x h
+pub like-++ : (x : Exponents) (f h : Terms) → like x (f ++ h) ≡ like x f ++ like x h
 like-++ x [] h = refl
 like-++ x (t ∷ f) h = by (is_eq (deglex x t.mono)) (like-++ x f h)
   where

@@ -1,6 +1,6 @@
 -- Sums of terms that descend: no two of them are alike, so they are their own sum, and the first one remains.
--- To cite: short_fits, one_fits, like-short; below_first, below_next, below_all; marked_first; sorted_sum, added_sum, summing_cause. The rest are steps.
-use Rattle.std.proofs.Common.{◌≡◌, ◌≢◌, ◌≤◌, ◌<◌, ◌∙◌, ◌+◌, ℕ, Bool, true, false, cond, Ok, List, [], ◌∷◌, ◌++◌, length, take, get_or, refl, sym, ap, subst, add-one, arith}
+-- To cite: short_fits, one_fits, like-short; above_last, below_first, below_next, below_all; marked_first; only_term, lone_zero; sorted_sum, added_sum, summing_cause. The rest are steps.
+use Rattle.std.proofs.Common.{◌≡◌, ◌≢◌, ◌≤◌, ◌<◌, ◌∙◌, ◌+◌, ℕ, zero, suc, Bool, true, false, cond, Ok, List, [], ◌∷◌, ◌++◌, length, take, get_or, refl, sym, ap, subst, add-one, arith}
 use Rattle.std.proofs.Math.Seq.{take-suc}
 use Rattle.std.proofs.lemmas.List.{take_all}
 use Rattle.std.specs.Ordering.{is_eq}
@@ -12,7 +12,7 @@ use Rattle.gf_exponents.specs.Orders.{deglex}
 use Rattle.gf_poly.specs.declared.Term.{Term}
 use Rattle.gf_poly.specs.declared.error.PolyError.{PolyError}
 use Rattle.gf_poly.specs.declared.error.PolyError.TheVariants as polys
-use Rattle.gf_poly.specs.Polynomial.{Terms, SamePolynomial, IsAbove, IsDescending, HasVariables, KeepsVariables}
+use Rattle.gf_poly.specs.Polynomial.{Terms, coefficient, SamePolynomial, IsAbove, IsDescending, HasVariables, KeepsVariables}
 use Rattle.gf_poly.specs.Collecting.{like, SumsFit, LikeSumsFit, HasLikeTerms, IsLikeSumCause}
 use Rattle.gf_poly.proofs.CollectLaws.{fits_along, cause_of}
 use Rattle.gf_poly.proofs.CoefficientLaws.{coefficient-head}
@@ -20,8 +20,8 @@ use Rattle.gf_poly.proofs.DescendingLaws.{equal_same, greater_trans, IsAbove-pus
 use Rattle.gf_text.specs.declared.written.Written.{Written}
 use Rattle.gf_text.specs.declared.written.Written.TheVariants as written
 use Rattle.gf_text.specs.declared.tree.WrittenTerm.{WrittenTerm}
-use Rattle.gf_text.specs.Combining.{terms_of, IsSumMarked}
-use Rattle.gf_text.specs.Sets.{IsWritten, IsMarkedFirst, IsSummed, IsWholeSum, IsSummingCause, from_poly}
+use Rattle.gf_text.specs.Combining.{terms_of, NoneRemains, IsSumMarked}
+use Rattle.gf_text.specs.Sets.{IsWritten, IsMarkedFirst, IsLoneZero, IsSummed, IsWholeSum, IsSummingCause, from_poly}
 use Rattle.gf_text.proofs.CombiningLaws.{terms_variables}
 
 -- ---- like terms
@@ -54,7 +54,7 @@ one_fits t = record { at = λ x. short_fits (like x (t ∷ [])) (by (is_eq (degl
 
 -- ---- terms, one below another
 
-above_last : (x : Exponents) (f : Terms) (s : Term) → IsAbove x (f ++ s ∷ []) → deglex x s.mono ≡ Greater
+pub above_last : (x : Exponents) (f : Terms) (s : Term) → IsAbove x (f ++ s ∷ []) → deglex x s.mono ≡ Greater
 above_last x [] s h = h.0
 above_last x (u ∷ f) s h = above_last x f s h.1
 
@@ -115,6 +115,27 @@ marked_first n us f w exponents descending is = record {
   fits = record { at = λ x. short_fits (like x f) (like-short x f descending) };
   written = is_written n f w (terms_variables n us f exponents) descending is;
 }
+
+pub only_term : (f : Terms) (t : Term) → 0 < length f → length f ≤ 1 → t ≡ get_or f 0 t → f ≡ t ∷ []
+only_term [] t some few is = absurd (omega arith)
+only_term (s ∷ []) t some few is = ap (λ u. u ∷ []) (sym is)
+only_term (s ∷ u ∷ f) t some few is = absurd (omega arith)
+
+-- nothing remains of a term that is zero
+pub lone_zero : (n : ℕ) (us : List WrittenTerm) (f : Terms) → terms_of n us ≡ Ok f → IsLoneZero f → IsSummed n us written.Zero
+lone_zero n us f exponents (t, is, vanishes) = record {
+  terms = f;
+  exponents = exponents;
+  fits = subst LikeSumsFit (sym is) (one_fits t);
+  written = subst NoneRemains (sym is) none;
+}
+  where
+    alone : coefficient (t ∷ []) t.mono ≡ zero_ℚ
+    alone = coefficient-head (length t.mono) t [] (refl, tt) tt ∙ vanishes
+
+    none : NoneRemains (t ∷ [])
+    none zero = alone
+    none (suc k) = tt
 
 -- ---- terms that are put in order
 

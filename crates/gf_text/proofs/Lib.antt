@@ -12,6 +12,7 @@ pub mod PrintedTextLaws  -- the pieces of printed terms
 pub mod LimitsLaws  -- what a text says is within its limits
 pub mod CombiningLaws  -- terms and sums of terms, one after another
 pub mod DescendingSumsLaws  -- terms that descend are their own sum
+pub mod RisingSumsLaws  -- terms that rise are their own sum, turned round
 pub mod BlockSumsLaws  -- sums of like terms, a block after another
 pub mod BlocksLaws  -- sums of terms, a block after another
 pub mod SetsLaws  -- sums of terms, one after another

@@ -1,7 +1,9 @@
 -- Sets as they are read: the polynomials of a text.
-use Rattle.std.specs.Prelude.{◌≡◌, ℕ, ◌-◌, ◌^◌, min, List, [], ◌∷◌, ◌++◌, length, map, Result, Ok, Err}
+use Rattle.std.specs.Prelude.{◌≡◌, ℕ, ◌-◌, ◌^◌, min, List, [], ◌∷◌, ◌++◌, length, map, reverse, Result, Ok, Err}
 use Rattle.gf_frac.specs.declared.refusal.Overflow.{Overflow}
 use Rattle.gf_poly.specs.declared.monomial.ExponentOverflow.{ExponentOverflow}
+use Rattle.gf_frac.specs.Fraction.{zero_ℚ}
+use Rattle.gf_poly.specs.declared.Term.{Term}
 use Rattle.gf_poly.specs.declared.error.PolyError.{PolyError}
 use Rattle.gf_poly.specs.declared.error.PolyError.TheVariants as polys
 use Rattle.gf_poly.specs.Polynomial.{Terms, SamePolynomial, IsDescending, HasVariables, KeepsVariables}
@@ -32,6 +34,17 @@ IsMarkedFirst [] written.Zero = Unit {0}
 IsMarkedFirst [] (written.Nonzero m) = ⊥
 IsMarkedFirst (t ∷ f) written.Zero = ⊥
 IsMarkedFirst (t ∷ f) (written.Nonzero m) = m ≡ record { poly = t ∷ f; head = t.mono }
+
+-- these terms, which rise, turned round, marked at the first as written; nothing where there are none
+abbrev pub IsMarkedLast : Terms → Written → Type 0
+IsMarkedLast [] written.Zero = Unit {0}
+IsMarkedLast [] (written.Nonzero m) = ⊥
+IsMarkedLast (t ∷ f) written.Zero = ⊥
+IsMarkedLast (t ∷ f) (written.Nonzero m) = m ≡ record { poly = reverse (t ∷ f); head = t.mono }
+
+-- one term, which is zero
+abbrev pub IsLoneZero : Terms → Type 0
+IsLoneZero f = (t : Term) × (f ≡ t ∷ []) × (t.coef ≡ zero_ℚ)
 
 -- the same of each
 abbrev pub AreWritten : List Terms → List Written → Type 0

@@ -1,5 +1,5 @@
 //! From what a text of a set says to polynomials.
-ghost use Rattle.std.specs.Prelude.{◌≡◌, ◌≢◌, ◌≤◌, ◌<◌, ◌^◌, IfOk, IfErr, OnOk, IsTrue, Ok, Err, ℕ, length, MatchOption, ◌∷◌, []};
+ghost use Rattle.std.specs.Prelude.{◌≡◌, ◌≢◌, ◌≤◌, ◌<◌, ◌^◌, IfOk, IfErr, IfSome, OnOk, IsTrue, Ok, Err, ℕ, length, MatchOption, ◌∷◌, []};
 ghost use Rattle.std.specs.declared.cmp.Ordering.TheVariants.{Greater};
 ghost use Rattle.gf_exponents.specs.Orders.{deglex};
 ghost use Rattle.gf_frac.specs.Fraction.{zero_ℚ};
@@ -7,10 +7,11 @@ ghost use Rattle.gf_poly.specs.Collecting.{HasLikeTerms};
 ghost use Rattle.gf_poly.specs.Polynomial.{Terms, coefficient, SamePolynomial, IsDescending, HasVariables};
 ghost use Rattle.gf_text.specs.Limits.{IsFactorWithin, AreFactorsWithin, IsTermWithin, AreTermsWithin, AreWithin};
 ghost use Rattle.gf_text.specs.Combining.{raised, times_factors, exponents_of, coefficient_of, term_of, terms_of, ExponentsFit, IsSumOf, FindsFirst, IsPlaceOf};
-ghost use Rattle.gf_text.specs.Sets.{IsExponentCause, IsSummed, IsSummingCause, IsWholeSum, IsMarkedFirst, HasSums, Adds, from_poly};
+ghost use Rattle.gf_text.specs.Sets.{IsExponentCause, IsSummed, IsSummingCause, IsWholeSum, IsMarkedFirst, IsLoneZero, HasSums, Adds, from_poly};
 
 use crate::blocks::{BLOCK, sum_by_blocks};
 use crate::error::TextError;
+use crate::rising::{marked_last, rise};
 use crate::tree::{Factor, WrittenSet, WrittenTerm};
 use crate::written::Written;
 use gf_frac::{Frac, Overflow};
@@ -157,7 +158,7 @@ fn sum_error(error: PolyError) -> TextError
 }
 
 /// Whether a term isn't zero and stands below the one before it.
-fn follows(before: &Term, next: &Term) -> bool
+pub(crate) fn follows(before: &Term, next: &Term) -> bool
     ensures { IsTrue result → (next.now.coef ≢ zero_ℚ) × (deglex before.now.mono next.now.mono ≡ Greater) }
 {
     if next.coef.is_zero() {
@@ -251,36 +252,77 @@ fn sorted(
     }
 }
 
-/// The sum of terms, marked at the first that remains. Terms that descend are their own sum.
+/// Whether there is one term, which is zero.
+fn is_lone_zero(terms: &[Term]) -> bool
+    ensures { IsTrue result → IsLoneZero terms.now }
+{
+    match terms {
+        [term] => term.coef.is_zero(),
+        _ => false,
+    }
+}
+
+/// The sum of terms that descend or rise, as most do, or of one that is zero; else the terms that are written, where their exponents stay within
+/// their limits and there is memory.
 #[inline]
-fn summed(alloc: Global, n: usize, terms: &[WrittenTerm]) -> Result<Written, TextError>
+fn sum_at_sight(
+    alloc: Global,
+    n: usize,
+    terms: &[WrittenTerm],
+) -> Result<Written, Option<Vec<Term>>>
     requires room { n ≤ ROOM }
     requires within { AreTermsWithin n terms.now }
     ensures ok { IfOk result (IsSummed n terms.now) }
-    ensures err { IfErr result (IsSummingCause n terms.now) }
+    ensures err { IfErr result (λ made. IfSome made (λ ts. terms_of n terms.now ≡ Ok ts.items)) }
 {
-    let made = terms_from(alloc, n, terms)?;
+    let Ok(made) = terms_from(alloc, n, terms) else {
+        return Err(None);
+    };
     if descend(&made) {
         return Ok(marked_first(made));
     }
-    sorted(alloc, n, terms, made)
+    if rise(&made) {
+        return Ok(marked_last(made));
+    }
+    if is_lone_zero(&made) {
+        return Ok(Written::Zero);
+    }
+    Err(Some(made))
 }
 
-/// The same. Many terms are first tried a block after another; where a number leaves its range, which one that is has to be
-/// found by adding all of them at once.
-#[inline]
-fn summed_any(alloc: Global, n: usize, terms: &[WrittenTerm]) -> Result<Written, TextError>
+/// The sum of terms that may be many. They are tried a block after another; where a number leaves its range, which one
+/// that is has to be found by adding all of them at once.
+#[inline(never)]
+fn sum_of_many(alloc: Global, n: usize, terms: &[WrittenTerm]) -> Result<Written, TextError>
     requires room { n ≤ ROOM }
     requires within { AreTermsWithin n terms.now }
     ensures ok { IfOk result (IsSummed n terms.now) }
     ensures err { IfErr result (IsSummingCause n terms.now) }
 {
-    if terms.len() > BLOCK {
-        if let Some(sum) = sum_by_blocks(alloc, n, terms) {
-            return remaining(alloc, n, terms, sum);
-        }
+    if let Some(sum) = sum_by_blocks(alloc, n, terms) {
+        return remaining(alloc, n, terms, sum);
     }
-    summed(alloc, n, terms)
+    let made = terms_from(alloc, n, terms)?;
+    sorted(alloc, n, terms, made)
+}
+
+/// The sum of terms, marked at the first that remains, where the terms may be made already.
+fn summed(
+    alloc: Global,
+    n: usize,
+    terms: &[WrittenTerm],
+    made: Option<Vec<Term>>,
+) -> Result<Written, TextError>
+    requires room { n ≤ ROOM }
+    requires within { AreTermsWithin n terms.now }
+    requires made { IfSome made (λ ts. terms_of n terms.now ≡ Ok ts.items) }
+    ensures ok { IfOk result (IsSummed n terms.now) }
+    ensures err { IfErr result (IsSummingCause n terms.now) }
+{
+    match made {
+        Some(made) => sorted(alloc, n, terms, made),
+        None => sum_of_many(alloc, n, terms),
+    }
 }
 
 /// What came of the polynomials of a set so far: what is left of each; or the first sum of coefficients that leaves its
@@ -300,15 +342,22 @@ impl Sums {
         Sums::Fit(Vec::new(alloc))
     }
 
-    /// Adds a polynomial in n variables as the last one.
+    /// Adds a polynomial in n variables as the last one. Its terms may be made already.
     #[inline(never)]
-    fn add(&mut self, alloc: Global, n: usize, terms: &[WrittenTerm]) -> Result<(), AllocError>
+    fn add_made(
+        &mut self,
+        alloc: Global,
+        n: usize,
+        terms: &[WrittenTerm],
+        made: Option<Vec<Term>>,
+    ) -> Result<(), AllocError>
         requires room { n ≤ ROOM }
         requires within { AreTermsWithin n terms.now }
+        requires made { IfSome made (λ ts. terms_of n terms.now ≡ Ok ts.items) }
         ensures { OnOk result (Adds n (terms.now ∷ []) self.old self.new) }
     {
         match self {
-            Sums::Fit(written) => match summed_any(alloc, n, terms) {
+            Sums::Fit(written) => match summed(alloc, n, terms, made) {
                 Ok(next) => written.push(next)?,
                 Err(TextError::Overflow(overflow)) => *self = Sums::Overflow(overflow),
                 Err(TextError::Exponent(overflow)) => *self = Sums::Exponent(overflow),
@@ -317,11 +366,33 @@ impl Sums {
             Sums::Overflow(_) => {
                 if let Err(first) = check_terms(alloc, n, terms) {
                     *self = Sums::Exponent(first);
+                    return Ok(());
                 }
             }
             Sums::Exponent(_) => {}
         }
         Ok(())
+    }
+
+    /// The same. Few terms are first added at sight, in little code.
+    #[inline(never)]
+    fn add(&mut self, alloc: Global, n: usize, terms: &[WrittenTerm]) -> Result<(), AllocError>
+        requires room { n ≤ ROOM }
+        requires within { AreTermsWithin n terms.now }
+        ensures { OnOk result (Adds n (terms.now ∷ []) self.old self.new) }
+    {
+        match self {
+            Sums::Fit(written) if terms.len() <= BLOCK => {
+                match sum_at_sight(alloc, n, terms) {
+                    Ok(next) => {
+                        written.push(next)?;
+                        Ok(())
+                    }
+                    Err(made) => self.add_made(alloc, n, terms, made),
+                }
+            }
+            _ => self.add_made(alloc, n, terms, None),
+        }
     }
 
     /// Adds the polynomial in n variables that is read, where there is one. Behind most tokens there is none, so that the

@@ -15,6 +15,7 @@ mod names;
 mod printer;
 mod reader;
 mod ring_reader;
+mod rising;
 mod set_printer;
 mod set_reader;
 #[cfg(test)]
