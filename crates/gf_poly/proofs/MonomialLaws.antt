@@ -1,5 +1,5 @@
 -- Exponents as slices, and what a loop over the variables has done.
--- To cite: entry-get_or, taken_is, entry-ones, degree-ones, entry-raised, degree-raised, limit-raised, plus-minus, length-plus, length-minus, length-join, divides_by_entries, entries_by_divides.
+-- To cite: entry-get_or, taken_is, same_or_not, entry-take_more, entry-take_last, entry-ones, degree-ones, entry-raised, degree-raised, limit-raised, plus-minus, length-plus, length-minus, length-join, divides_by_entries, entries_by_divides.
 use Rattle.std.specs.Prelude.{◌≡◌, ◌≢◌, ℕ, zero, suc, ◌+◌, ◌*◌, ◌<◌, ◌≤◌, ◌^◌, ◌⊎◌, List, [], ◌∷◌, length, take, replicate, All}
 use Rattle.std.proofs.Common.{arith, refl, sym, ap, subst, ◌∙◌, inl, inr, get_or, add-one}
 use Rattle.std.proofs.Math.ListN.{set}
@@ -24,6 +24,29 @@ taken_is (suc n) all [] e l h = absurd (omega arith)
 taken_is (suc n) [] (a ∷ x) e l h = absurd (omega arith)
 taken_is (suc n) (b ∷ all) (a ∷ x) e l h =
     ap (λ c. c ∷ take n all) (h 0 (omega arith)) ∙ ap (λ z. a ∷ z) (taken_is n all x (omega arith) (omega arith) (λ i k. h (suc i) (omega arith)))
+
+pub same_or_not : (k i : ℕ) → (k ≡ i) ⊎ (k ≢ i)
+same_or_not k i = grind arith
+
+-- the entries of the first i + 1 exponents: those of the first i, and one more
+pub entry-take_more : (x : List ℕ) (i k : ℕ) → k ≢ i → entry (take (i + 1) x) k ≡ entry (take i x) k
+entry-take_more x i k d = ap (λ n. entry (take n x) k) (add-one i) ∙ at x i k d
+  where
+    at : (x : List ℕ) (i k : ℕ) → k ≢ i → entry (take (suc i) x) k ≡ entry (take i x) k
+    at [] zero k d = refl
+    at [] (suc i) k d = refl
+    at (a ∷ x) zero zero d = absurd (d refl)
+    at (a ∷ x) zero (suc k) d = refl
+    at (a ∷ x) (suc i) zero d = refl
+    at (a ∷ x) (suc i) (suc k) d = at x i k (λ q. d (ap suc q))
+
+pub entry-take_last : (x : List ℕ) (i : ℕ) → entry (take (i + 1) x) i ≡ entry x i
+entry-take_last x i = ap (λ n. entry (take n x) i) (add-one i) ∙ at x i
+  where
+    at : (x : List ℕ) (i : ℕ) → entry (take (suc i) x) i ≡ entry x i
+    at [] i = refl
+    at (a ∷ x) zero = refl
+    at (a ∷ x) (suc i) = at x i
 
 -- ---- lengths
 pub length-plus : (x y : Exponents) → length x ≡ length y → length (plus x y) ≡ length x
@@ -154,9 +177,6 @@ entry-limit x h i = elim (cases_lt i (length x)) [
 pub limit-raised : (x : Exponents) (i by : ℕ) → i < length x → get_or x i 0 + by < 2 ^ 31 → All (λ k. k < 2 ^ 31) x → All (λ k. k < 2 ^ 31) (set x i (get_or x i 0 + by))
 limit-raised x i by l less h = limit_by_entries (set x i (get_or x i 0 + by)) (λ k. place k (same_or_not k i))
   where
-    same_or_not : (k i : ℕ) → (k ≡ i) ⊎ (k ≢ i)
-    same_or_not k i = grind arith
-
     place : (k : ℕ) → (k ≡ i) ⊎ (k ≢ i) → entry (set x i (get_or x i 0 + by)) k < 2 ^ 31
     place k (inl q) = omega (arith, ap (λ j. entry (set x i (get_or x i 0 + by)) j) q, entry-raised x i by l, entry-get_or x i)
     place k (inr d) = omega (arith, entry-set_other x i k (get_or x i 0 + by) d, entry-limit x h k)

@@ -8,9 +8,9 @@ use Rattle.gf_exponents.specs.Exponents.{Exponents, entry, degree}
 use Rattle.gf_poly.specs.declared.TheConstants.{ROOM}
 use Rattle.gf_poly.specs.declared.monomial.ExponentOverflow.{ExponentOverflow}
 
--- bit i of w says whether variable i occurs in x
+-- the bits of w, the highest first, say of each variable whether it occurs in x
 pub record IsWordOf (x : Exponents) (w : ℕ) : Type 0 where
-  pub bits : (i : ℕ) → bit_at w i ≡ min (entry x i) 1
+  pub bits : (i j : ℕ) → i + j + 1 ≡ ROOM → bit_at w j ≡ min (entry x i) 1
 
 -- what is kept of a monomial: its exponents, inline, their sum, and the word of the variables that occur
 pub record IsMono (total word : ℕ) (v : SmallVec ℕ) : Type 0 where

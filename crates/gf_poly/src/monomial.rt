@@ -1,8 +1,8 @@
 //! Monomials: up to `ROOM` exponents, kept inline with their sum and with a word of the variables that occur.
 
-ghost use Rattle.std.specs.Prelude.{◌≡◌, ◌+◌, ◌≤◌, ◌<◌, ◌^◌, ◌↔◌, length, take, replicate, slice_index, slice_set, bit_and, All, IfOk, IfErr, OnOk, OnErr, IsOk, IsTrue};
+ghost use Rattle.std.specs.Prelude.{◌≡◌, ◌+◌, ◌≤◌, ◌<◌, ◌^◌, ◌↔◌, length, take, replicate, slice_index, slice_set, bit_and, bit_xor, All, IfOk, IfErr, OnOk, OnErr, IsOk, IsTrue};
 ghost use Rattle.gf_exponents.specs.Exponents.{plus, minus, join, Divides, degree as total_degree};
-ghost use Rattle.gf_exponents.specs.Orders.{deglex};
+ghost use Rattle.gf_exponents.specs.Orders.{lex, deglex};
 ghost use Rattle.gf_poly.specs.Monomial.{IsMonomial, IsWordOf, ProductFits, IsFirstOverflow};
 
 use super::ROOM;
@@ -53,7 +53,7 @@ fn total_of(exponents: &[u32]) -> u64
     total
 }
 
-// The word of the variables that occur: bit i is set where variable i has another exponent than 0.
+// The word of the variables that occur, the first variable's bit the highest: set where the exponent is another than 0.
 fn word_of(exponents: &[u32]) -> u16
     requires { length exponents.now ≤ ROOM }
     ensures { IsWordOf exponents.now result }
@@ -61,7 +61,7 @@ fn word_of(exponents: &[u32]) -> u16
     let mut word = 0u16;
     'entries: for i in 0..exponents.len() {
         if exponents[i] != 0 {
-            word |= 1 << i;
+            word |= 1 << (ROOM - 1 - i);
         }
     }
     word
@@ -95,6 +95,14 @@ fn is_within(x: u16, y: u16) -> bool
     ensures { IsTrue result ↔ (bit_and x y ≡ x) }
 {
     x & y == x
+}
+
+// Whether a variable is in one of the two words alone, and none before the first such one is in both. Monomials with these
+// words then compare by lex as the words do.
+fn words_decide(x: u16, y: u16) -> bool
+    ensures { IsTrue result ↔ (bit_and x y < bit_xor x y) }
+{
+    x & y < x ^ y
 }
 
 // Whether each exponent of `x` is at most that of `y`.
@@ -232,7 +240,7 @@ impl Mono {
         exponents[variable] = exponent + by;
         self.total += u64::from(by);
         if by != 0 {
-            self.word |= 1 << variable;
+            self.word |= 1 << (ROOM - 1 - variable);
         }
         Ok(())
     }
@@ -301,12 +309,25 @@ impl Mono {
         )
     }
 
+    // The comparison by lex: the first exponent that differs decides. Where the words do, no exponent is looked at.
+    fn compare_by_lex(&self, other: &Mono) -> Ordering
+        ensures { result ≡ lex self.now other.now }
+    {
+        let x = self.word();
+        let y = other.word();
+        if words_decide(x, y) {
+            x.cmp(&y)
+        } else {
+            self.exponents().cmp(other.exponents())
+        }
+    }
+
     /// The comparison by deglex: the total degree first, then the first exponent that differs.
     pub fn compare(&self, other: &Mono) -> Ordering
         ensures { result ≡ deglex self.now other.now }
     {
         match self.total.cmp(&other.total) {
-            Ordering::Equal => self.exponents().cmp(other.exponents()),
+            Ordering::Equal => self.compare_by_lex(other),
             unequal => unequal,
         }
     }

@@ -1,5 +1,6 @@
-use Rattle.gf_poly.proofs.WordLaws.{IsWordUpTo}
+use Rattle.std.proofs.Common.{take}
+use Rattle.gf_poly.specs.Monomial.{IsWordOf}
 use Rattle.gf_poly.proofs.monomial.word_of.Given as goal
 
 abbrev pub invariant-entries : goal.invariant-entries
-invariant-entries l = IsWordUpTo l.exponents l.i l.word
+invariant-entries l = IsWordOf (take l.i l.exponents) l.word
