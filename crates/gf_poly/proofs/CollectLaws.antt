@@ -1,5 +1,5 @@
 -- Sums of like terms, in a list in order.
--- To cite: Collecting-start, run_at, next_at, ended, sum_at_end, fits_at_end, sum_overflow_at, cause_along, fits_along.
+-- To cite: short_fits, like-short, descending_fits, Collecting-start, run_at, next_at, ended, sum_at_end, fits_at_end, sum_overflow_at, cause_along, fits_along.
 use Rattle.std.specs.Prelude.{◌≡◌, ℕ, ◌+◌, ◌<◌, ◌≤◌, ◌==◌, Bool, true, false, cond, if◌then◌else◌, [], ◌∷◌, ◌++◌, length, Result, Ok, Err, IfErr}
 use Rattle.std.specs.Ordering.{is_lt, is_eq, ordering_reverse}
 use Rattle.std.specs.declared.cmp.Ordering.{Ordering}
@@ -33,6 +33,25 @@ like-no x t f h = ap (λ o. cond (is_eq o) (t ∷ like x f) (like x f)) h
 like-none : (x : Exponents) (f : Terms) → IsAbove x f → like x f ≡ []
 like-none x [] a = refl
 like-none x (t ∷ f) a = like-no x t f a.0 ∙ like-none x f a.1
+
+-- ---- like terms of a descending list, of which there is one at most
+-- sums of at most one coefficient stay in range
+pub short_fits : (f : Terms) → length f ≤ 1 → SumsFit f
+short_fits [] h = tt
+short_fits (t ∷ []) h = tt
+short_fits (t ∷ s ∷ f) h = absurd (omega arith)
+
+pub like-short : (x : Exponents) (f : Terms) → IsDescending f → length (like x f) ≤ 1
+like-short x [] descending = omega arith
+like-short x (t ∷ f) descending = by (deglex x t.mono) refl (like-short x f descending.2)
+  where
+    by : (o : Ordering) → deglex x t.mono ≡ o → length (like x f) ≤ 1 → length (cond (is_eq o) (t ∷ like x f) (like x f)) ≤ 1
+    by Less is later = later
+    by Greater is later = later
+    by Equal is later = let none = like-none x f (subst (λ y. IsAbove y f) (sym (equal_same x t.mono is)) descending.1) in omega (arith, ap length none)
+
+pub descending_fits : (f : Terms) → IsDescending f → LikeSumsFit f
+descending_fits f descending = record { at = λ x. short_fits (like x f) (like-short x f descending) }
 
 -- ---- order
 alike_itself : (x : Exponents) → deglex x x ≡ Equal

@@ -2,6 +2,7 @@ pub mod MonomialLaws  -- exponents entry by entry, and as slices
 pub mod WordLaws  -- the word of the variables that occur
 pub mod PolynomialLaws  -- sums and products of polynomials
 pub mod DescendingLaws  -- deglex, descending lists
+pub mod NeighboursLaws  -- lists that descend, seen by their neighbouring terms
 pub mod CoefficientLaws  -- coefficients of descending lists, which are known by them
 pub mod MergeLaws  -- one step of a merge
 pub mod ProductLaws  -- products term by term

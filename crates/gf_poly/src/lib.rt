@@ -8,6 +8,7 @@
 ghost use Rattle.std.specs.Prelude.{◌≡◌};
 
 mod collect;
+mod descending;
 mod error;
 mod laws;
 mod lists;
@@ -18,6 +19,7 @@ mod monomial;
 mod polynomial;
 mod products;
 
+pub use descending::descend;
 pub use error::PolyError;
 use gf_frac::Frac;
 pub use laws::{unique_initial_forms, unique_terms};

@@ -13,6 +13,7 @@ mod initial_form;
 
 use super::Term;
 use super::collect::{collected, sorted};
+use super::descending::descend;
 use super::error::PolyError;
 use super::merge::{Sign, merged};
 use super::monomial::Mono;
@@ -101,6 +102,9 @@ impl Poly {
     {
         let alloc = *terms.allocator();
         let ordered = sorted(terms)?;
+        if descend(&ordered) {
+            return Ok(Poly { terms: ordered });
+        }
         let terms = collected(alloc, &ordered)?;
         Ok(Poly { terms })
     }

@@ -221,6 +221,30 @@ fn collected_terms(rt: HostRuntime) -> Result<(), Fail> {
     Ok(())
 }
 
+// by hand: terms that descend, that rise, that are alike, a zero; terms in any order, no two alike
+#[test]
+fn descending_terms(rt: HostRuntime) -> Result<(), Fail> {
+    let alloc = rt.alloc();
+    let first = term(alloc, 3, 1, 1, 0);
+    let second = term(alloc, 5, 0, 0, 2);
+    assert!(rt; descend(&[first.copy(), second.copy()]));
+    assert!(rt; !descend(&[second.copy(), first.copy()]));
+    assert!(rt; !descend(&[first.copy(), first.copy()]));
+    assert!(rt; !descend(&[term(alloc, 0, 0, 0, 1)]));
+    let apart = vec![in alloc;
+        term(alloc, 4, 0, 0, 0),
+        term(alloc, 3, 1, 1, 0),
+        term(alloc, 5, 0, 0, 2),
+    ]?;
+    assert!(rt;
+        lists(
+            &Poly::from_terms(apart)?,
+            &[(3, 1, [1, 1, 0]), (5, 1, [0, 0, 2]), (4, 1, [0, 0, 0])]
+        )
+    );
+    Ok(())
+}
+
 // by hand: the first sum from the left that passes 2^127 - 1
 #[test]
 fn wide_coefficients(rt: HostRuntime) -> Result<(), Fail> {
