@@ -24,12 +24,12 @@ use Rattle.gf_poly.specs.declared.monomial.ExponentOverflow.{ExponentOverflow}
 use Rattle.gf_poly.specs.Polynomial.{Terms, coefficient, SamePolynomial, IsDescending, HasVariables}
 use Rattle.gf_poly.specs.Collecting.{like, total, SumsFit, SumsFitFrom, LikeSumsFit}
 use Rattle.gf_poly.proofs.PolynomialLaws.{coefficient-++}
+use Rattle.gf_poly.proofs.CollectLaws.{like-short}
 use Rattle.gf_poly.proofs.CoefficientLaws.{apart_below, apart_above}
 use Rattle.gf_poly.proofs.DescendingLaws.{equal_same, less_greater}
 use Rattle.gf_text.specs.declared.tree.WrittenTerm.{WrittenTerm}
 use Rattle.gf_text.specs.Limits.{IsTermWithin, AreTermsWithin}
 use Rattle.gf_text.specs.Combining.{signed, coefficient_of, with_coefficient, exponents_of, term_of, terms_of, before_all}
-use Rattle.gf_text.proofs.DescendingSumsLaws.{like-short}
 
 -- ---- coefficients in range
 

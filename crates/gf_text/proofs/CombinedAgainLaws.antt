@@ -17,6 +17,7 @@ use Rattle.gf_poly.specs.declared.Term.{Term}
 use Rattle.gf_poly.specs.Polynomial.{Terms, IsDescending, HasVariables, SamePolynomial, coefficient}
 use Rattle.gf_poly.specs.Collecting.{like, LikeSumsFit}
 use Rattle.gf_poly.specs.Marking.{MarkedPolynomial}
+use Rattle.gf_poly.proofs.CollectLaws.{short_fits, like-short}
 use Rattle.gf_poly.proofs.CoefficientLaws.{apart}
 use Rattle.gf_poly.proofs.DescendingLaws.{equal_same, Contains-cons, Contains-none}
 use Rattle.gf_text.specs.declared.written.Written.{Written}
@@ -25,7 +26,7 @@ use Rattle.gf_text.specs.PrintedText.{is_below_zero}
 use Rattle.gf_text.specs.Combining.{raised, then_factors, times_factors, signed, exponents_of, coefficient_of, with_coefficient, term_of, terms_of, sums_of, before_all, IsSumMarked, NoneRemains}
 use Rattle.gf_text.specs.Sets.{AreWritten, SumsFit as AllSumsFit}
 use Rattle.gf_text.specs.WrittenText.{IsKept, IsWrittenKept, AreWrittenKept}
-use Rattle.gf_text.proofs.DescendingSumsLaws.{short_fits, one_fits, like-short}
+use Rattle.gf_text.proofs.DescendingSumsLaws.{one_fits}
 use Rattle.gf_text.proofs.PrintedTermsLaws.{AreSmall, factors_from, term_said}
 use Rattle.gf_text.proofs.PrintedPolynomialsLaws.{IsFine, AreFine, all_fine, fine_at, head_term, head_is, others_said, said, all_said}
 

@@ -14,7 +14,8 @@ use Rattle.gf_poly.specs.declared.Term.{Term}
 use Rattle.gf_poly.specs.Polynomial.{Terms, coefficient, IsDescending, HasVariables}
 use Rattle.gf_poly.specs.Collecting.{like, HasLikeTerms}
 use Rattle.gf_poly.specs.Marking.{MarkedPolynomial, head_of}
-use Rattle.gf_poly.proofs.CollectLaws.{fits_along}
+use Rattle.gf_poly.proofs.CollectLaws.{like-short, descending_fits, fits_along}
+use Rattle.gf_poly.proofs.NeighboursLaws.{above_last}
 use Rattle.gf_poly.proofs.CoefficientLaws.{coefficient-head, coefficient-skip}
 use Rattle.gf_poly.proofs.DescendingLaws.{IsAbove-from, HasVariables-push}
 use Rattle.gf_poly.proofs.SortLaws.{coefficient-permutation}
@@ -24,7 +25,6 @@ use Rattle.gf_text.specs.declared.tree.WrittenTerm.{WrittenTerm}
 use Rattle.gf_text.specs.Combining.{terms_of, IsSumMarked}
 use Rattle.gf_text.specs.Sets.{IsWritten, IsMarkedLast, IsSummed}
 use Rattle.gf_text.proofs.CombiningLaws.{terms_variables}
-use Rattle.gf_text.proofs.DescendingSumsLaws.{short_fits, like-short, above_last}
 use Rattle.gf_text.proofs.BlockSumsLaws.{like-++}
 
 -- ---- terms, one above another
@@ -124,6 +124,6 @@ pub marked_last : (n : ℕ) (us : List WrittenTerm) (f : Terms) (w : Written) �
 marked_last n us f w exponents descending is = record {
   terms = f;
   exponents = exponents;
-  fits = fits_along f (reverse f) (turned f descending) (record { at = λ x. short_fits (like x (reverse f)) (like-short x (reverse f) descending) });
+  fits = fits_along f (reverse f) (turned f descending) (descending_fits (reverse f) descending);
   written = is_written n f w (terms_variables n us f exponents) descending is;
 }

@@ -1,9 +1,6 @@
 //! From what a text of a set says to polynomials.
-ghost use Rattle.std.specs.Prelude.{◌≡◌, ◌≢◌, ◌≤◌, ◌<◌, ◌^◌, IfOk, IfErr, IfSome, OnOk, IsTrue, Ok, Err, ℕ, length, MatchOption, ◌∷◌, []};
-ghost use Rattle.std.specs.declared.cmp.Ordering.TheVariants.{Greater};
-ghost use Rattle.gf_exponents.specs.Orders.{deglex};
+ghost use Rattle.std.specs.Prelude.{◌≡◌, ◌≤◌, ◌<◌, ◌^◌, IfOk, IfErr, IfSome, OnOk, IsTrue, Ok, Err, ℕ, length, MatchOption, ◌∷◌, []};
 ghost use Rattle.gf_frac.specs.Fraction.{zero_ℚ};
-ghost use Rattle.gf_poly.specs.Collecting.{HasLikeTerms};
 ghost use Rattle.gf_poly.specs.Polynomial.{Terms, coefficient, SamePolynomial, IsDescending, HasVariables};
 ghost use Rattle.gf_text.specs.Limits.{IsFactorWithin, AreFactorsWithin, IsTermWithin, AreTermsWithin, AreWithin};
 ghost use Rattle.gf_text.specs.Combining.{raised, times_factors, exponents_of, coefficient_of, term_of, terms_of, ExponentsFit, IsSumOf, FindsFirst, IsPlaceOf};
@@ -15,9 +12,8 @@ use crate::rising::{marked_last, rise};
 use crate::tree::{Factor, WrittenSet, WrittenTerm};
 use crate::written::Written;
 use gf_frac::{Frac, Overflow};
-use gf_poly::{ExponentOverflow, Marked, Mono, Poly, PolyError, ROOM, Term};
+use gf_poly::{ExponentOverflow, Marked, Mono, Poly, PolyError, ROOM, Term, descend};
 use std::alloc::{AllocError, Global};
-use std::cmp::Ordering;
 
 /// Multiplies a monomial by a power.
 #[inline]
@@ -157,37 +153,6 @@ fn sum_error(error: PolyError) -> TextError
     }
 }
 
-/// Whether a term isn't zero and stands below the one before it.
-pub(crate) fn follows(before: &Term, next: &Term) -> bool
-    ensures { IsTrue result → (next.now.coef ≢ zero_ℚ) × (deglex before.now.mono next.now.mono ≡ Greater) }
-{
-    if next.coef.is_zero() {
-        return false;
-    }
-    match before.mono.compare(&next.mono) {
-        Ordering::Greater => true,
-        _ => false,
-    }
-}
-
-/// Whether no term is zero and their monomials descend.
-fn descend(terms: &[Term]) -> bool
-    ensures { IsTrue result → IsDescending terms.now }
-{
-    if terms.is_empty() {
-        return true;
-    }
-    if terms[0].coef.is_zero() {
-        return false;
-    }
-    'terms: for i in 1..terms.len() {
-        if !follows(&terms[i - 1], &terms[i]) {
-            return false;
-        }
-    }
-    true
-}
-
 /// The sum of terms that descend: these terms, marked at the first one.
 fn marked_first(terms: Vec<Term>) -> Written
     requires { IsDescending terms.items }
@@ -218,17 +183,7 @@ fn remaining(
     }
 }
 
-/// The same terms in descending order, like ones as they stood.
-fn in_order(terms: Vec<Term>) -> Result<Vec<Term>, AllocError>
-    ensures { IfOk result (λ ts. HasLikeTerms terms.items ts.items) }
-{
-    let mut all = terms;
-    all.sort_by(|x, y| y.mono.compare(&x.mono))?;
-    Ok(all)
-}
-
-/// The sum of terms in any order, marked at the first, as written, that remains. Where no two are alike they are their own
-/// sum.
+/// The sum of terms in any order, marked at the first, as written, that remains.
 #[inline(never)]
 fn sorted(
     alloc: Global,
@@ -242,11 +197,7 @@ fn sorted(
     ensures ok { IfOk result (IsSummed n terms.now) }
     ensures err { IfErr result (IsSummingCause n terms.now) }
 {
-    let ordered = in_order(made)?;
-    if descend(&ordered) {
-        return remaining(alloc, n, terms, Poly::from_descending(ordered));
-    }
-    match Poly::from_terms(ordered) {
+    match Poly::from_terms(made) {
         Ok(sum) => remaining(alloc, n, terms, sum),
         Err(error) => Err(sum_error(error)),
     }

@@ -7,7 +7,7 @@ use Rattle.gf_text.proofs.combine.sum_at_sight.Goals as goal
 
 pub returns-then-descend-clause-ok : goal.returns-then-descend-clause-ok
 returns-then-descend-clause-ok c =
-    let descending = subst IsDescending c.deref.ensures.value (c.descend.ensures c.if-descend.true) in
+    let descending = subst IsDescending c.deref.ensures.value (c.descend.ensures.0 c.if-descend.true) in
     marked_first c.args.n c.args.terms.now c.in-Ok.made.items c.marked_first.result c.in-Ok.ensures.ok descending c.marked_first.ensures
 
 pub returns-then-rise-clause-ok : goal.returns-then-rise-clause-ok

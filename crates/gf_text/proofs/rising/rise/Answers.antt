@@ -9,9 +9,9 @@ pub terms-preserved : goal.terms-preserved
 terms-preserved c = λ d nonzero.
     let f = c.args.terms.now in
     let i = c.terms.i in
-    let before = c.index-terms-i-in-terms in
-    let next = c.index-terms-i in
-    let both = c.follows.ensures c.if-not-follows.false in
+    let before = c.index-terms-i in
+    let next = c.index-terms-i-in-terms in
+    let both = c.rises.ensures c.if-not-rises.false in
     let next_at : get_or f (i + 1 - 1) d ≡ next.result = ap (λ k. get_or f k d) (omega arith) ∙ get_or_default f i d next.result c.terms-test.true ∙ sym next.is in
     let front = c.terms.invariant before.result (subst (λ (t : Term). t.coef ≢ zero_ℚ) before.is both.0) in
     rising_next f i (i - 1) before.result next.result (omega (arith, c.terms.auto.i)) c.terms-test.true before.is next.is (subst (λ (t : Term). t.coef ≢ zero_ℚ) next_at nonzero) both.1 front
