@@ -185,7 +185,7 @@ fn remaining(
 
 /// The sum of terms in any order, marked at the first, as written, that remains.
 #[inline(never)]
-fn sorted(
+fn sum_of_terms(
     alloc: Global,
     n: usize,
     terms: &[WrittenTerm],
@@ -254,7 +254,7 @@ fn sum_of_many(alloc: Global, n: usize, terms: &[WrittenTerm]) -> Result<Written
         return remaining(alloc, n, terms, sum);
     }
     let made = terms_from(alloc, n, terms)?;
-    sorted(alloc, n, terms, made)
+    sum_of_terms(alloc, n, terms, made)
 }
 
 /// The sum of terms, marked at the first that remains, where the terms may be made already.
@@ -271,7 +271,7 @@ fn summed(
     ensures err { IfErr result (IsSummingCause n terms.now) }
 {
     match made {
-        Some(made) => sorted(alloc, n, terms, made),
+        Some(made) => sum_of_terms(alloc, n, terms, made),
         None => sum_of_many(alloc, n, terms),
     }
 }
