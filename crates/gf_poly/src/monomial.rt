@@ -154,7 +154,7 @@ impl Mono {
         Mono::known(alloc, exponents, total_of(exponents), word_of(exponents))
     }
 
-    /// The monomial 1 in n variables.
+    /// The monomial 1 in n variables, at most `ROOM`.
     pub fn one(alloc: Global, n: usize) -> Mono
         requires { n ≤ ROOM }
         ensures { result ≡ replicate n 0 }
@@ -214,7 +214,7 @@ impl Mono {
         self.word
     }
 
-    /// Multiplies by a power of a variable, the exponent being at most `2^31 - 1`.
+    /// Multiplies by a power of a variable, counted from 0 and one of the monomial's; the exponent is at most `2^31 - 1`.
     ///
     /// # Errors
     ///

@@ -213,8 +213,8 @@ fn is_lone_zero(terms: &[Term]) -> bool
     }
 }
 
-/// The sum of terms that descend or rise, as most do, or of one that is zero; else the terms that are written, where their exponents stay within
-/// their limits and there is memory.
+/// The sum of terms that descend or rise, as most do, or of one that is zero; else the terms, where their exponents stay
+/// within their limits and there is memory.
 #[inline]
 fn sum_at_sight(
     alloc: Global,
