@@ -1,5 +1,5 @@
 -- Sums of terms that descend: no two of them are alike, so they are their own sum, and the first one remains.
--- To cite: one_fits; marked_first; only_term, lone_zero; summing_cause. The rest are steps.
+-- To cite: one_fits; marked_first; only_term, lone_coefficient, lone_zero; summing_cause. The rest are steps.
 use Rattle.std.proofs.Common.{◌≡◌, ◌≤◌, ◌<◌, ◌∙◌, ℕ, zero, suc, Bool, true, false, cond, Ok, List, [], ◌∷◌, length, get_or, refl, sym, ap, subst, arith}
 use Rattle.std.specs.Ordering.{is_eq}
 use Rattle.gf_frac.specs.Fraction.{zero_ℚ}
@@ -64,6 +64,12 @@ pub only_term : (f : Terms) (t : Term) → 0 < length f → length f ≤ 1 → t
 only_term [] t some few is = absurd (omega arith)
 only_term (s ∷ []) t some few is = ap (λ u. u ∷ []) (sym is)
 only_term (s ∷ u ∷ f) t some few is = absurd (omega arith)
+
+pub lone_coefficient : (f : Terms) (t : Term) → f ≡ t ∷ [] → IsLoneZero f → t.coef ≡ zero_ℚ
+lone_coefficient f t is (s, whole, vanishes) =
+    let heads : t ∷ [] ≡ s ∷ [] = sym is ∙ whole in
+    let same : t ≡ s = cc in
+    ap (λ (u : Term). u.coef) same ∙ vanishes
 
 -- nothing remains of a term that is zero
 pub lone_zero : (n : ℕ) (us : List WrittenTerm) (f : Terms) → terms_of n us ≡ Ok f → IsLoneZero f → IsSummed n us written.Zero

@@ -1,9 +1,9 @@
 -- Sums of terms that rise: turned round they descend, so they are their own sum, and the first one as written remains.
--- To cite: rising_next; last_marked; marked_last. The rest are steps.
+-- To cite: rising_next, rises_at, last_nonzero; last_marked; marked_last. The rest are steps.
 use Rattle.std.proofs.Common.{◌≡◌, ◌≢◌, ◌≤◌, ◌<◌, ◌∙◌, ◌+◌, ◌-◌, ℕ, Bool, true, false, cond, Ok, List, [], ◌∷◌, ◌++◌, length, reverse, take, get_or, refl, sym, ap, subst, add-one, append-nil, arith}
 use Rattle.std.proofs.Math.Seq.{take-suc}
 use Rattle.std.proofs.lemmas.Grind.{reverse_onto}
-use Rattle.std.proofs.lemmas.List.{reverse-append, length-reverse}
+use Rattle.std.proofs.lemmas.List.{reverse-append, length-reverse, get_or-reverse}
 use Rattle.std.proofs.lemmas.List.Sorted.{IsPermutation-reverse}
 use Rattle.std.specs.Ordering.{is_eq}
 use Rattle.std.specs.declared.cmp.Ordering.TheVariants.{Greater}
@@ -15,7 +15,7 @@ use Rattle.gf_poly.specs.Polynomial.{Terms, coefficient, IsDescending, HasVariab
 use Rattle.gf_poly.specs.Collecting.{like, HasLikeTerms}
 use Rattle.gf_poly.specs.Marking.{MarkedPolynomial, head_of}
 use Rattle.gf_poly.proofs.CollectLaws.{like-short, descending_fits, fits_along}
-use Rattle.gf_poly.proofs.NeighboursLaws.{above_last}
+use Rattle.gf_poly.proofs.NeighboursLaws.{nonzero_at, above_next, above_last}
 use Rattle.gf_poly.proofs.CoefficientLaws.{coefficient-head, coefficient-skip}
 use Rattle.gf_poly.proofs.DescendingLaws.{IsAbove-from, HasVariables-push}
 use Rattle.gf_poly.proofs.SortLaws.{coefficient-permutation}
@@ -43,6 +43,23 @@ rising_next f i j s t next within at_s at_t nonzero above h =
     let front : take i f ≡ take j f ++ s ∷ [] = ap (λ k. take k f) (next ∙ add-one j) ∙ take-suc f j s (omega arith) ∙ ap (λ u. take j f ++ u ∷ []) (sym at_s) in
     let all : take (i + 1) f ≡ (take j f ++ s ∷ []) ++ t ∷ [] = ap (λ k. take k f) (add-one i) ∙ take-suc f i t within ∙ ap (λ u. take i f ++ u ∷ []) (sym at_t) ∙ ap (λ l. l ++ t ∷ []) front in
     subst (λ l. IsDescending (reverse l)) (sym all) (rising_push (take j f) s t nonzero above (subst (λ l. IsDescending (reverse l)) front h))
+
+-- and back: each stands below the next, and isn't zero
+pub rises_at : (f : Terms) (i j : ℕ) (s t : Term) → i ≡ j + 1 → i < length f → s ≡ get_or f j s → t ≡ get_or f i t → IsDescending (reverse f) → (s.coef ≢ zero_ℚ) × (deglex t.mono s.mono ≡ Greater)
+rises_at f i j s t next within at_s at_t h =
+    let k = length f - 1 - i in
+    let long = length-reverse f in
+    let place : i ≡ length f - 1 - k = omega arith in
+    let before : j ≡ length f - 1 - (k + 1) = omega arith in
+    let above : t ≡ get_or (reverse f) k t = at_t ∙ ap (λ m. get_or f m t) place ∙ sym (get_or-reverse f k t (omega arith)) in
+    let below : s ≡ get_or (reverse f) (k + 1) s = at_s ∙ ap (λ m. get_or f m s) before ∙ sym (get_or-reverse f (k + 1) s (omega arith)) in
+    (nonzero_at (reverse f) (k + 1) s (omega arith) below h, above_next (reverse f) (k + 1) k t s refl (omega arith) above below h)
+
+pub last_nonzero : (f : Terms) (i : ℕ) (t : Term) → i + 1 ≡ length f → t ≡ get_or f i t → IsDescending (reverse f) → t.coef ≢ zero_ℚ
+last_nonzero f i t last at_t h =
+    let long = length-reverse f in
+    let place : i ≡ length f - 1 - 0 = omega arith in
+    nonzero_at (reverse f) 0 t (omega arith) (at_t ∙ ap (λ m. get_or f m t) place ∙ sym (get_or-reverse f 0 t (omega arith))) h
 
 -- ---- the mark
 

@@ -1,5 +1,5 @@
 //! From what a text of a set says to polynomials.
-ghost use Rattle.std.specs.Prelude.{◌≡◌, ◌≤◌, ◌<◌, ◌^◌, IfOk, IfErr, IfSome, OnOk, IsTrue, Ok, Err, ℕ, length, MatchOption, ◌∷◌, []};
+ghost use Rattle.std.specs.Prelude.{◌≡◌, ◌≤◌, ◌<◌, ◌^◌, ◌↔◌, IfOk, IfErr, IfSome, OnOk, IsTrue, Ok, Err, ℕ, length, MatchOption, ◌∷◌, []};
 ghost use Rattle.gf_frac.specs.Fraction.{zero_ℚ};
 ghost use Rattle.gf_poly.specs.Polynomial.{Terms, coefficient, SamePolynomial, IsDescending, HasVariables};
 ghost use Rattle.gf_text.specs.Limits.{IsFactorWithin, AreFactorsWithin, IsTermWithin, AreTermsWithin, AreWithin};
@@ -205,7 +205,7 @@ fn sum_of_terms(
 
 /// Whether there is one term, which is zero.
 fn is_lone_zero(terms: &[Term]) -> bool
-    ensures { IsTrue result → IsLoneZero terms.now }
+    ensures { IsTrue result ↔ IsLoneZero terms.now }
 {
     match terms {
         [term] => term.coef.is_zero(),

@@ -1,5 +1,5 @@
 //! Sums of terms that rise: turned round they descend, so that they are their own sum.
-ghost use Rattle.std.specs.Prelude.{◌≡◌, ◌≢◌, IsTrue, reverse};
+ghost use Rattle.std.specs.Prelude.{◌≡◌, ◌≢◌, ◌↔◌, IsTrue, reverse};
 ghost use Rattle.std.specs.declared.cmp.Ordering.TheVariants.{Greater};
 ghost use Rattle.gf_frac.specs.Fraction.{zero_ℚ};
 ghost use Rattle.gf_exponents.specs.Orders.{deglex};
@@ -12,7 +12,7 @@ use std::cmp::Ordering;
 
 /// Whether a term isn't zero and stands below the next one.
 fn rises(term: &Term, next: &Term) -> bool
-    ensures { IsTrue result → (term.now.coef ≢ zero_ℚ) × (deglex next.now.mono term.now.mono ≡ Greater) }
+    ensures { IsTrue result ↔ ((term.now.coef ≢ zero_ℚ) × (deglex next.now.mono term.now.mono ≡ Greater)) }
 {
     if term.coef.is_zero() {
         return false;
@@ -25,7 +25,7 @@ fn rises(term: &Term, next: &Term) -> bool
 
 /// Whether no term is zero and their monomials rise.
 pub(crate) fn rise(terms: &[Term]) -> bool
-    ensures { IsTrue result → IsDescending (reverse terms.now) }
+    ensures { IsTrue result ↔ IsDescending (reverse terms.now) }
 {
     if terms.is_empty() {
         return true;

@@ -12,10 +12,10 @@ returns-then-descend-clause-ok c =
 
 pub returns-then-rise-clause-ok : goal.returns-then-rise-clause-ok
 returns-then-rise-clause-ok c =
-    let rising = subst (λ (f : Terms). IsDescending (reverse f)) c.deref-2.ensures.value (c.rise.ensures c.if-rise.true) in
+    let rising = subst (λ (f : Terms). IsDescending (reverse f)) c.deref-2.ensures.value (c.rise.ensures.0 c.if-rise.true) in
     marked_last c.args.n c.args.terms.now c.in-Ok.made.items c.marked_last.result c.in-Ok.ensures.ok rising c.marked_last.ensures
 
 pub returns-then-is_lone_zero-clause-ok : goal.returns-then-is_lone_zero-clause-ok
 returns-then-is_lone_zero-clause-ok c =
-    let lone = subst IsLoneZero c.deref-3.ensures.value (c.is_lone_zero.ensures c.if-is_lone_zero.true) in
+    let lone = subst IsLoneZero c.deref-3.ensures.value (c.is_lone_zero.ensures.0 c.if-is_lone_zero.true) in
     lone_zero c.args.n c.args.terms.now c.in-Ok.made.items c.in-Ok.ensures.ok lone
