@@ -20,9 +20,9 @@ like x [] = []
 like x (t ∷ f) = cond (is_eq (deglex x t.mono)) (t ∷ like x f) (like x f)
 
 -- the sum of the coefficients
-abbrev pub total : Terms → Fraction
-total [] = zero_ℚ
-total (t ∷ f) = t.coef +ℚ total f
+abbrev pub sum_of_coefficients : Terms → Fraction
+sum_of_coefficients [] = zero_ℚ
+sum_of_coefficients (t ∷ f) = t.coef +ℚ sum_of_coefficients f
 
 -- each sum from c on stays in range
 abbrev pub SumsFitFrom : Fraction → Terms → Type 0
@@ -47,7 +47,7 @@ pub record IsLikeSumOverflow (f : Terms) (o : Overflow) : Type 0 where
   pub later : Terms
   pub some : 0 < length earlier
   pub split : like at f ≡ earlier ++ last ∷ later
-  pub left : o.left ≡ total earlier
+  pub left : o.left ≡ sum_of_coefficients earlier
   pub right : o.right ≡ last.coef
   pub leaves : ¬ (FitsAdd o.left o.right)
   pub before : SumsFit earlier

@@ -18,8 +18,8 @@ use Rattle.gf_poly.specs.declared.merge.Sign.TheVariants.{Plus, Minus}
 use Rattle.gf_poly.specs.Polynomial.{Terms, coefficient}
 
 -- h is the sum of f and g
-abbrev pub IsSum : Terms → Terms → Terms → Type 0
-IsSum f g h = (e : Exponents) → coefficient h e ≡ coefficient f e +ℚ coefficient g e
+abbrev pub IsPolynomialSum : Terms → Terms → Terms → Type 0
+IsPolynomialSum f g h = (e : Exponents) → coefficient h e ≡ coefficient f e +ℚ coefficient g e
 
 -- h is f less g
 abbrev pub IsDifference : Terms → Terms → Terms → Type 0
@@ -62,8 +62,8 @@ signed Plus c = c
 signed Minus c = neg_ℚ c
 
 -- h is f and g with this sign
-abbrev pub IsCombined : Sign → Terms → Terms → Terms → Type 0
-IsCombined sign f g h = (e : Exponents) → coefficient h e ≡ coefficient f e +ℚ signed sign (coefficient g e)
+abbrev pub IsSignedSum : Sign → Terms → Terms → Terms → Type 0
+IsSignedSum sign f g h = (e : Exponents) → coefficient h e ≡ coefficient f e +ℚ signed sign (coefficient g e)
 
 -- t is added at the end, unless it is zero
 abbrev pub PushesNonzero : Terms → Terms → Term → Type 0

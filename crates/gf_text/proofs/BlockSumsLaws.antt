@@ -22,7 +22,7 @@ use Rattle.gf_exponents.proofs.ExponentsLaws.{same-refl}
 use Rattle.gf_poly.specs.declared.Term.{Term}
 use Rattle.gf_poly.specs.declared.monomial.ExponentOverflow.{ExponentOverflow}
 use Rattle.gf_poly.specs.Polynomial.{Terms, coefficient, SamePolynomial, IsDescending, HasVariables}
-use Rattle.gf_poly.specs.Collecting.{like, total, SumsFit, SumsFitFrom, LikeSumsFit}
+use Rattle.gf_poly.specs.Collecting.{like, sum_of_coefficients, SumsFit, SumsFitFrom, LikeSumsFit}
 use Rattle.gf_poly.proofs.PolynomialLaws.{coefficient-++}
 use Rattle.gf_poly.proofs.CollectLaws.{like-short}
 use Rattle.gf_poly.proofs.CoefficientLaws.{apart_below, apart_above}
@@ -143,41 +143,41 @@ like_variables n x (t ∷ f) variables some = by (deglex x t.mono) refl some (λ
     by Equal is k later = ap length (equal_same x t.mono is) ∙ variables.0
 
 -- the total of like terms is the coefficient
-like_total : (n : ℕ) (x : Exponents) (f : Terms) → HasVariables n f → length x ≡ n → total (like x f) ≡ coefficient f x
+like_total : (n : ℕ) (x : Exponents) (f : Terms) → HasVariables n f → length x ≡ n → sum_of_coefficients (like x f) ≡ coefficient f x
 like_total n x [] variables l = refl
 like_total n x (t ∷ f) variables l = by (deglex x t.mono) refl (like_total n x f variables.1 l)
   where
     chosen : (v : Bool) → same x t.mono ≡ v → (if v then t.coef else zero_ℚ) +ℚ coefficient f x ≡ coefficient (t ∷ f) x
     chosen v is = ap (λ b. (if b then t.coef else zero_ℚ) +ℚ coefficient f x) (sym is)
 
-    apart : same x t.mono ≡ false → total (like x f) ≡ coefficient f x → total (like x f) ≡ coefficient (t ∷ f) x
+    apart : same x t.mono ≡ false → sum_of_coefficients (like x f) ≡ coefficient f x → sum_of_coefficients (like x f) ≡ coefficient (t ∷ f) x
     apart is later = later ∙ sym (zero-+ℚ (coefficient f x)) ∙ chosen false is
 
-    by : (o : Ordering) → deglex x t.mono ≡ o → total (like x f) ≡ coefficient f x → total (cond (is_eq o) (t ∷ like x f) (like x f)) ≡ coefficient (t ∷ f) x
+    by : (o : Ordering) → deglex x t.mono ≡ o → sum_of_coefficients (like x f) ≡ coefficient f x → sum_of_coefficients (cond (is_eq o) (t ∷ like x f) (like x f)) ≡ coefficient (t ∷ f) x
     by Less is later = apart (apart_above x t.mono (l ∙ sym variables.0) (less_greater x t.mono is)) later
     by Greater is later = apart (apart_below x t.mono (l ∙ sym variables.0) is) later
     by Equal is later = ap (λ c. t.coef +ℚ c) later ∙ chosen true (subst (λ y. same x y ≡ true) (equal_same x t.mono is) (same-refl x))
 
 -- like terms of the same polynomial have the same total
-like_same : (n : ℕ) (x : Exponents) (f g : Terms) → HasVariables n f → HasVariables n g → SamePolynomial g f → total (like x f) ≡ total (like x g)
+like_same : (n : ℕ) (x : Exponents) (f g : Terms) → HasVariables n f → HasVariables n g → SamePolynomial g f → sum_of_coefficients (like x f) ≡ sum_of_coefficients (like x g)
 like_same n x f g left right is = by (like x f) refl (like x g) refl
   where
-    at : length x ≡ n → total (like x f) ≡ total (like x g)
+    at : length x ≡ n → sum_of_coefficients (like x f) ≡ sum_of_coefficients (like x g)
     at l = like_total n x f left l ∙ sym (is x) ∙ sym (like_total n x g right l)
 
-    by : (a : Terms) → like x f ≡ a → (b : Terms) → like x g ≡ b → total (like x f) ≡ total (like x g)
-    by [] none [] none' = ap total (none ∙ sym none')
+    by : (a : Terms) → like x f ≡ a → (b : Terms) → like x g ≡ b → sum_of_coefficients (like x f) ≡ sum_of_coefficients (like x g)
+    by [] none [] none' = ap sum_of_coefficients (none ∙ sym none')
     by (t ∷ a) some b e = at (like_variables n x f left (let k = ap length some in omega (arith, k)))
     by [] e (t ∷ b) some = at (like_variables n x g right (let k = ap length some in omega (arith, k)))
 
 -- ---- sums that go on
 
-SumsFitFrom-++ : (c : Fraction) (f h : Terms) → SumsFitFrom c f → SumsFitFrom (c +ℚ total f) h → SumsFitFrom c (f ++ h)
+SumsFitFrom-++ : (c : Fraction) (f h : Terms) → SumsFitFrom c f → SumsFitFrom (c +ℚ sum_of_coefficients f) h → SumsFitFrom c (f ++ h)
 SumsFitFrom-++ c [] h fits later = subst (λ s. SumsFitFrom s h) (+ℚ-zero c) later
-SumsFitFrom-++ c (t ∷ f) h fits later = (fits.0, SumsFitFrom-++ (c +ℚ t.coef) f h fits.1 (subst (λ s. SumsFitFrom s h) (sym (+ℚ_assoc c t.coef (total f))) later))
+SumsFitFrom-++ c (t ∷ f) h fits later = (fits.0, SumsFitFrom-++ (c +ℚ t.coef) f h fits.1 (subst (λ s. SumsFitFrom s h) (sym (+ℚ_assoc c t.coef (sum_of_coefficients f))) later))
 
 -- sums of f go on as those of g do, which is their total or nothing
-go_on : (f g h : Terms) → total f ≡ total g → AreNonzero g → length g ≤ 1 → AreCoefficientsInRange h → SumsFit f → SumsFit (g ++ h) → SumsFit (f ++ h)
+go_on : (f g h : Terms) → sum_of_coefficients f ≡ sum_of_coefficients g → AreNonzero g → length g ≤ 1 → AreCoefficientsInRange h → SumsFit f → SumsFit (g ++ h) → SumsFit (f ++ h)
 go_on [] [] h is nonzero short range fits both = both
 go_on [] (s ∷ []) h is nonzero short range fits both = absurd (nonzero.0 (sym (+ℚ-zero s.coef) ∙ sym is))
 go_on (t ∷ f) [] h is nonzero short range fits both = SumsFitFrom-++ t.coef f h fits (subst (λ c. SumsFitFrom c h) (sym is) (from_zero h range both))

@@ -9,7 +9,7 @@ use Rattle.gf_frac.proofs.FractionLaws.{+ℚ_assoc, +ℚ-zero}
 use Rattle.gf_exponents.specs.Exponents.{Exponents}
 use Rattle.gf_poly.specs.declared.Term.{Term}
 use Rattle.gf_poly.specs.Polynomial.{Terms, HasVariables, coefficient}
-use Rattle.gf_poly.specs.Collecting.{total, SumsFit, SumsFitFrom, LikeSumsFit, IsLikeSumOverflow}
+use Rattle.gf_poly.specs.Collecting.{sum_of_coefficients, SumsFit, SumsFitFrom, LikeSumsFit, IsLikeSumOverflow}
 use Rattle.gf_poly.specs.Marking.{MarkedPolynomial, MarkedPolynomials}
 use Rattle.gf_poly.proofs.CoefficientLaws.{descending_unique}
 use Rattle.gf_text.specs.declared.error.TextError.{TextError}
@@ -93,18 +93,18 @@ read_once ring old place end ws vs a b =
 
 -- ---- and isn't refused then
 
-fits_last : (c : Fraction) (earlier later : Terms) (t : Term) → SumsFitFrom c (earlier ++ t ∷ later) → FitsAdd (c +ℚ total earlier) t.coef
+fits_last : (c : Fraction) (earlier later : Terms) (t : Term) → SumsFitFrom c (earlier ++ t ∷ later) → FitsAdd (c +ℚ sum_of_coefficients earlier) t.coef
 fits_last c [] later t fits = subst (λ k. FitsAdd k t.coef) (sym (+ℚ-zero c)) fits.0
-fits_last c (s ∷ earlier) later t fits = subst (λ k. FitsAdd k t.coef) (+ℚ_assoc c s.coef (total earlier)) (fits_last (c +ℚ s.coef) earlier later t fits.1)
+fits_last c (s ∷ earlier) later t fits = subst (λ k. FitsAdd k t.coef) (+ℚ_assoc c s.coef (sum_of_coefficients earlier)) (fits_last (c +ℚ s.coef) earlier later t fits.1)
 
-fits_at : (earlier later : Terms) (t : Term) → 0 < length earlier → SumsFit (earlier ++ t ∷ later) → FitsAdd (total earlier) t.coef
+fits_at : (earlier later : Terms) (t : Term) → 0 < length earlier → SumsFit (earlier ++ t ∷ later) → FitsAdd (sum_of_coefficients earlier) t.coef
 fits_at [] later t some fits = absurd (omega arith)
 fits_at (s ∷ earlier) later t some fits = fits_last s.coef earlier later t fits
 
 no_overflow : (f : Terms) (o : Overflow) → LikeSumsFit f → IsLikeSumOverflow f o → ⊥
 no_overflow f o fits over =
     let all : SumsFit (over.earlier ++ over.last ∷ over.later) = subst SumsFit over.split (fits.at over.at) in
-    over.leaves (subst (λ k. FitsAdd k o.right) (sym over.left) (subst (λ k. FitsAdd (total over.earlier) k) (sym over.right) (fits_at over.earlier over.later over.last over.some all)))
+    over.leaves (subst (λ k. FitsAdd k o.right) (sym over.left) (subst (λ k. FitsAdd (sum_of_coefficients over.earlier) k) (sym over.right) (fits_at over.earlier over.later over.last over.some all)))
 
 fit_in : (front back : List Terms) (f : Terms) → AllSumsFit (front ++ f ∷ back) → LikeSumsFit f
 fit_in [] back f fits = fits.0

@@ -4,7 +4,7 @@ use Rattle.std.specs.List.{list_all}
 use Rattle.gf_int.specs.Range.{InRange}
 use Rattle.gf_poly.specs.declared.Term.{Term}
 use Rattle.gf_poly.specs.Polynomial.{Terms, HasVariables}
-use Rattle.gf_poly.specs.Marking.{MarkedPolynomial, MarkedPolynomials, IsMarked}
+use Rattle.gf_poly.specs.Marking.{MarkedPolynomial, MarkedPolynomials, HasMarkedTerm}
 use Rattle.gf_text.specs.declared.error.TextError.{TextError}
 use Rattle.gf_text.specs.declared.error.TextError.TheVariants as errors
 use Rattle.gf_text.specs.declared.written.Written.{Written}
@@ -40,7 +40,7 @@ AreInRange (t ∷ f) = IsTermInRange t × AreInRange f
 
 -- a marked polynomial in n variables, in range
 pub record IsKept (n : ℕ) (m : MarkedPolynomial) : Type 0 where
-  pub marked : IsMarked m
+  pub marked : HasMarkedTerm m
   pub variables : HasVariables n m.poly
   pub range : AreInRange m.poly
 

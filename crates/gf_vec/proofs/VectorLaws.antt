@@ -4,7 +4,7 @@ use Rattle.std.proofs.lemmas.Int.{ints}
 use Rattle.std.proofs.Math.IntN.{*ℤ_comm, *ℤ-zero}
 use Rattle.std.specs.List.{AllByRecursion}
 use Rattle.gf_vec.specs.Vector.{dot, plus, zeros, combined, values, SomePositive}
-use Rattle.gf_int.specs.Content.{times}
+use Rattle.gf_int.specs.Content.{scaled}
 use Rattle.gf_int.proofs.RingLaws.{same, ◌⊗◌, ◌⊕◌, dv}
 use Rattle.gf_int.proofs.SignLaws.{0≤-*ℤ, 0<-*ℤ}
 
@@ -27,7 +27,7 @@ dot-plus (x ∷ xs) [] zs e = absurd (omega arith)
 dot-plus (x ∷ xs) (y ∷ ys) [] e = refl
 dot-plus (x ∷ xs) (y ∷ ys) (z ∷ zs) e = ap (λ n. (x +ℤ y) *ℤ z +ℤ n) (dot-plus xs ys zs (omega arith)) ∙ plus_step x y z (dot xs zs) (dot ys zs)
 
-pub dot-times : (k : ℤ) (xs ys : List ℤ) → dot (times k xs) ys ≡ k *ℤ dot xs ys
+pub dot-times : (k : ℤ) (xs ys : List ℤ) → dot (scaled k xs) ys ≡ k *ℤ dot xs ys
 dot-times k [] ys = sym (*ℤ-zero k)
 dot-times k (x ∷ xs) [] = sym (*ℤ-zero k)
 dot-times k (x ∷ xs) (y ∷ ys) = ap (λ n. k *ℤ x *ℤ y +ℤ n) (dot-times k xs ys) ∙ times_step k x y (dot xs ys)
@@ -37,7 +37,7 @@ dot-zeros zero xs = refl
 dot-zeros (suc n) [] = refl
 dot-zeros (suc n) (x ∷ xs) = ap (λ z. pos 0 *ℤ x +ℤ z) (dot-zeros n xs) ∙ omega (arith, ints)
 
-pub length-times : (k : ℤ) (xs : List ℤ) → length (times k xs) ≡ length xs
+pub length-times : (k : ℤ) (xs : List ℤ) → length (scaled k xs) ≡ length xs
 length-times k [] = refl
 length-times k (x ∷ xs) = ap suc (length-times k xs)
 
@@ -54,7 +54,7 @@ pub length-combined : (n : ℕ) (ms : List ℤ) (rows : List (List ℤ)) → All
 length-combined n [] rows w = length-zeros n
 length-combined n (m ∷ ms) [] w = length-zeros n
 length-combined n (m ∷ ms) (t ∷ ts) w =
-    length-plus (times m t) (combined n ms ts) (length-times m t ∙ w.0 ∙ sym (length-combined n ms ts w.1)) ∙ length-times m t ∙ w.0
+    length-plus (scaled m t) (combined n ms ts) (length-times m t ∙ w.0 ∙ sym (length-combined n ms ts w.1)) ∙ length-times m t ∙ w.0
 
 -- what a combination gives on a vector is the combination of what the rows give
 pub dot-combined : (n : ℕ) (ms : List ℤ) (rows : List (List ℤ)) (v : List ℤ) → AllByRecursion (λ t. length t ≡ n) rows →
@@ -62,7 +62,7 @@ pub dot-combined : (n : ℕ) (ms : List ℤ) (rows : List (List ℤ)) (v : List 
 dot-combined n [] rows v w = dot-zeros n v
 dot-combined n (m ∷ ms) [] v w = dot-zeros n v
 dot-combined n (m ∷ ms) (t ∷ ts) v w =
-    dot-plus (times m t) (combined n ms ts) v (length-times m t ∙ w.0 ∙ sym (length-combined n ms ts w.1))
+    dot-plus (scaled m t) (combined n ms ts) v (length-times m t ∙ w.0 ∙ sym (length-combined n ms ts w.1))
     ∙ ap (λ z. z +ℤ dot (combined n ms ts) v) (dot-times m t v)
     ∙ ap (λ z. m *ℤ dot t v +ℤ z) (dot-combined n ms ts v w.1)
 

@@ -1,7 +1,7 @@
 -- Whole vectors, as lists of whole numbers: sums, dot products, combinations of rows.
 -- `times k xs`, each entry times k, stands in gf_int. Laws: proofs/VectorLaws.antt.
 use Rattle.std.specs.Prelude.{ℕ, List, [], ◌∷◌, ℤ, pos, ◌+ℤ◌, ◌*ℤ◌, replicate, ◌<ℤ◌, ◌⊎◌}
-use Rattle.gf_int.specs.Content.{times}
+use Rattle.gf_int.specs.Content.{scaled}
 
 -- the dot product, of the shorter length
 abbrev pub dot : List ℤ → List ℤ → ℤ
@@ -23,7 +23,7 @@ zeros n = replicate n (pos 0)
 abbrev pub combined : ℕ → List ℤ → List (List ℤ) → List ℤ
 combined n [] rows = zeros n
 combined n (m ∷ ms) [] = zeros n
-combined n (m ∷ ms) (t ∷ ts) = plus (times m t) (combined n ms ts)
+combined n (m ∷ ms) (t ∷ ts) = plus (scaled m t) (combined n ms ts)
 
 -- what each row gives on a vector
 abbrev pub values : List (List ℤ) → List ℤ → List ℤ

@@ -2,7 +2,7 @@
 ghost use Rattle.std.specs.Prelude.{◌≡◌, negsuc, All, OnOk, IfErr, length};
 ghost use Rattle.gf_int.specs.Range.{InRange};
 ghost use Rattle.gf_vec.specs.Vector.{plus};
-ghost use Rattle.gf_int.specs.Content.{times};
+ghost use Rattle.gf_int.specs.Content.{scaled};
 ghost use Rattle.gf_vec.specs.Steps.{NoneWide, IsFirstWide, sum_steps};
 
 use crate::arithmetic::total;
@@ -28,7 +28,7 @@ pub(crate) fn add_onto(xs: &mut [i128], ys: &[i128]) -> Result<(), WideVector>
 /// Turns each entry's sign.
 pub(crate) fn negate_all(xs: &mut [i128])
     requires { All InRange xs.old }
-    ensures value { xs.new ≡ times (negsuc 0) xs.old }
+    ensures value { xs.new ≡ scaled (negsuc 0) xs.old }
     ensures range { All InRange xs.new }
 {
     for x in xs.iter_mut() {

@@ -2,7 +2,7 @@
 ghost use Rattle.std.specs.Prelude.{◌≡◌, pos, All, IfOk, IfErr, length};
 ghost use Rattle.gf_int.specs.Range.{InRange};
 ghost use Rattle.gf_vec.specs.Vector.{dot, plus};
-ghost use Rattle.gf_int.specs.Content.{times};
+ghost use Rattle.gf_int.specs.Content.{scaled};
 ghost use Rattle.gf_vec.specs.Steps.{NoneWide, IsFirstWide, IfWide, dot_steps, sum_steps};
 ghost use Rattle.std.specs.Prelude.{negsuc};
 ghost use Rattle.gf_vec.specs.Primitive.{IsPrimitivePart};
@@ -111,7 +111,7 @@ impl IntVec {
 
     /// Turns each entry's sign. It takes no memory.
     pub fn negate(&mut self)
-        ensures { self.new ≡ times (negsuc 0) self.old }
+        ensures { self.new ≡ scaled (negsuc 0) self.old }
     {
         negate_all(self.entries.as_mut_slice());
     }
