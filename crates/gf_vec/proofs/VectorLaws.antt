@@ -3,7 +3,7 @@ use Rattle.std.proofs.Common.{◌≡◌, ℕ, zero, suc, List, [], ◌∷◌, le
 use Rattle.std.proofs.lemmas.Int.{ints}
 use Rattle.std.proofs.Math.IntN.{*ℤ_comm, *ℤ-zero}
 use Rattle.std.specs.List.{AllByRecursion}
-use Rattle.gf_vec.specs.Vector.{dot, plus, zeros, combined, values, SomePositive}
+use Rattle.gf_vec.specs.Vector.{dot, vector_sum, zeros, combined, values, SomePositive}
 use Rattle.gf_int.specs.Content.{scaled}
 use Rattle.gf_int.proofs.RingLaws.{same, ◌⊗◌, ◌⊕◌, dv}
 use Rattle.gf_int.proofs.SignLaws.{0≤-*ℤ, 0<-*ℤ}
@@ -20,7 +20,7 @@ plus_step x y z a b = same ((dv x ⊕ dv y) ⊗ dv z ⊕ (dv a ⊕ dv b)) (dv x 
 times_step : (k x y a : ℤ) → k *ℤ x *ℤ y +ℤ k *ℤ a ≡ k *ℤ (x *ℤ y +ℤ a)
 times_step k x y a = same (dv k ⊗ dv x ⊗ dv y ⊕ dv k ⊗ dv a) (dv k ⊗ (dv x ⊗ dv y ⊕ dv a)) (omega arith)
 
-pub dot-plus : (xs ys zs : List ℤ) → length xs ≡ length ys → dot (plus xs ys) zs ≡ dot xs zs +ℤ dot ys zs
+pub dot-plus : (xs ys zs : List ℤ) → length xs ≡ length ys → dot (vector_sum xs ys) zs ≡ dot xs zs +ℤ dot ys zs
 dot-plus [] [] zs e = refl
 dot-plus [] (y ∷ ys) zs e = absurd (omega arith)
 dot-plus (x ∷ xs) [] zs e = absurd (omega arith)
@@ -41,7 +41,7 @@ pub length-times : (k : ℤ) (xs : List ℤ) → length (scaled k xs) ≡ length
 length-times k [] = refl
 length-times k (x ∷ xs) = ap suc (length-times k xs)
 
-pub length-plus : (xs ys : List ℤ) → length xs ≡ length ys → length (plus xs ys) ≡ length xs
+pub length-plus : (xs ys : List ℤ) → length xs ≡ length ys → length (vector_sum xs ys) ≡ length xs
 length-plus [] ys e = refl
 length-plus (x ∷ xs) [] e = absurd (omega arith)
 length-plus (x ∷ xs) (y ∷ ys) e = ap suc (length-plus xs ys (omega arith))
