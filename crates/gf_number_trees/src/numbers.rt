@@ -1,6 +1,6 @@
 //! The tree of the numbers up to a limit.
 ghost use Rattle.std.specs.Prelude.{◌≡◌, ◌<◌, length, IfErr};
-ghost use Rattle.gf_number_trees.specs.Numbers.{IsNumber, IsHalf, IsChosen, IsMemory, Refuses, memory_refuses, numbers_strict, numbers_tree, numbers_nodes};
+ghost use Rattle.gf_number_trees.specs.Numbers.{IsNumber, IsHalf, IsChosen, IsOutOfMemory, Refuses, memory_refuses, numbers_strict, numbers_tree, numbers_nodes};
 ghost use Rattle.gf_number_trees.specs.Finite.{down_to_one, numbers_fall, numbers_finite};
 ghost use Rattle.gf_number_trees.specs.declared.numbers.NumberError.TheVariants.{Memory};
 ghost use Rattle.std.proofs.Common.{refl, rules};
@@ -58,7 +58,7 @@ impl Tree for Numbers {
 
     ghost up = { λ t. IsHalf t.limit };
 
-    ghost is_memory = { IsMemory };
+    ghost is_memory = { IsOutOfMemory };
 
     ghost refuses = { λ t v e. Refuses t.chosen v e };
 

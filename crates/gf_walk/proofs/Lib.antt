@@ -1,4 +1,5 @@
 pub mod LeftLaws  -- what is left by the marks' words is what is left by recursion on the path
+pub mod FrontLaws  -- what is left, where both paths go on from a common front
 pub mod StepLaws  -- what each step of a walk leaves: down to the least child, or up
 pub mod ChildLaws  -- the least child past a mark, found along the labels
 pub mod ClimbLaws  -- a climb keeps what is left
