@@ -4,7 +4,7 @@ use Rattle.std.proofs.Common.{arith, inl, inr, sym, ◌∙◌, List, [], ◌∷�
 use Rattle.std.specs.List.{Contains}
 use Rattle.gf_walk.specs.Tree.{HasLabels}
 use Rattle.std.proofs.lemmas.Bool.{cases_order}
-use Rattle.gf_walk.specs.Path.{IsStrict, IsTree}
+use Rattle.gf_walk.specs.Path.{IsStrictOrder, IsTree}
 use Rattle.gf_number_trees.specs.declared.numbers.NumberError.{NumberError}
 use Rattle.gf_number_trees.specs.declared.numbers.NumberError.TheVariants.{Memory, Chosen}
 
@@ -20,7 +20,7 @@ pub record IsHalf (limit v c u : ℕ) : Type 0 where
   pub whole : v ≡ 2 * u + c
 
 -- numbers are strictly ordered
-pub numbers_strict : IsStrict {L = ℕ} (λ a b. a < b)
+pub numbers_strict : IsStrictOrder {L = ℕ} (λ a b. a < b)
 numbers_strict = record {
   irreflexive = λ a h. omega arith;
   transitive = λ a b c h k. omega arith;
@@ -58,11 +58,11 @@ Refuses chosen v Memory = Unit {0}
 Refuses chosen v (Chosen w) = (w ≡ v) × IsChosen chosen v
 
 -- want of memory
-abbrev pub IsMemory : NumberError → Type 0
-IsMemory Memory = Unit {0}
-IsMemory (Chosen w) = ⊥
+abbrev pub IsOutOfMemory : NumberError → Type 0
+IsOutOfMemory Memory = Unit {0}
+IsOutOfMemory (Chosen w) = ⊥
 
 -- any call may be refused for want of memory
-pub memory_refuses : (chosen : ℕ × ℕ) (v : ℕ) (e : NumberError) → IsMemory e → Refuses chosen v e
+pub memory_refuses : (chosen : ℕ × ℕ) (v : ℕ) (e : NumberError) → IsOutOfMemory e → Refuses chosen v e
 memory_refuses chosen v Memory h = h
 memory_refuses chosen v (Chosen w) h = absurd h

@@ -1,8 +1,9 @@
 //! The tree of the numbers up to a limit.
-ghost use Rattle.std.specs.Prelude.{◌≡◌, ◌<◌, length, IfErr};
-ghost use Rattle.gf_number_trees.specs.Numbers.{IsNumber, IsHalf, IsChosen, IsMemory, Refuses, memory_refuses, numbers_strict, numbers_tree, numbers_nodes};
+ghost use Rattle.std.specs.Prelude.{◌≡◌, ◌<◌, length, IfOk, IfErr, OnErr};
+ghost use Rattle.gf_walk.specs.Tree.{RisesBy, HasLabels, IsChildOf, IsParentOf};
+ghost use Rattle.gf_number_trees.specs.Numbers.{IsNumber, IsHalf, IsChosen, IsOutOfMemory, Refuses, memory_refuses, numbers_strict, numbers_tree, numbers_nodes};
 ghost use Rattle.gf_number_trees.specs.Finite.{down_to_one, numbers_fall, numbers_finite};
-ghost use Rattle.gf_number_trees.specs.declared.numbers.NumberError.TheVariants.{Memory};
+ghost use Rattle.gf_number_trees.specs.declared.numbers.NumberError.TheVariants.{Memory, Chosen};
 ghost use Rattle.std.proofs.Common.{refl, rules};
 
 use gf_walk::{FiniteTree, Tree};
@@ -25,7 +26,7 @@ impl From<AllocError> for NumberError {
     }
 }
 
-/// The tree of the numbers from 1 to a limit. Calls at the two chosen numbers refuse; 0 is no number of the tree.
+/// The tree of the numbers from 1 to a limit. `labels`, `child` and `parent` refuse at the two chosen numbers; 0 is no number of the tree.
 #[derive(Drop)]
 pub struct Numbers {
     pub limit: u64,
@@ -34,9 +35,11 @@ pub struct Numbers {
 }
 
 impl Numbers {
-    /// Refuses at a chosen number.
+    /// Refuses at a chosen number, and only there.
     fn ask(&self, node: u64) -> Result<(), NumberError>
-        ensures { IfErr result (Refuses self.now.chosen node) }
+        ensures err { IfErr result (Refuses self.now.chosen node) }
+        ensures chosen { IsChosen self.now.chosen node → result ≡ Err (Chosen node) }
+        ensures only { OnErr result (IsChosen self.now.chosen node) }
     {
         if node == self.chosen.0 || node == self.chosen.1 {
             return Err(NumberError::Chosen(node));
@@ -58,7 +61,7 @@ impl Tree for Numbers {
 
     ghost up = { λ t. IsHalf t.limit };
 
-    ghost is_memory = { IsMemory };
+    ghost is_memory = { IsOutOfMemory };
 
     ghost refuses = { λ t v e. Refuses t.chosen v e };
 
@@ -73,7 +76,13 @@ impl Tree for Numbers {
     ghost nodes = { λ t. numbers_nodes t.limit };
 
     /// The bits, and a label that leads nowhere.
-    fn labels(&self, node: &u64) -> Result<Vec<u64>, NumberError> {
+    fn labels(&self, node: &u64) -> Result<Vec<u64>, NumberError>
+        requires { IsNumber self.now.limit node.now }
+        ensures rises { IfOk result (λ v. RisesBy (λ a b. a < b) v.items) }
+        ensures all { IfOk result (λ v. HasLabels (IsHalf self.now.limit) node.now v.items) }
+        ensures err { IfErr result (Refuses self.now.chosen node.now) }
+        ensures chosen { IsChosen self.now.chosen node.now → result ≡ Err (Chosen node.now) }
+    {
         self.ask(*node)?;
         match vec![in self.alloc; 0, 1, 2] {
             Ok(labels) => Ok(labels),
@@ -85,7 +94,13 @@ impl Tree for Numbers {
         *a < *b
     }
 
-    fn child(&self, node: &u64, label: &u64) -> Result<Option<u64>, NumberError> {
+    fn child(&self, node: &u64, label: &u64) -> Result<Option<u64>, NumberError>
+        requires { IsNumber self.now.limit node.now }
+        ensures ok { IfOk result (IsChildOf (IsHalf self.now.limit) node.now label.now) }
+        ensures err { IfErr result (Refuses self.now.chosen node.now) }
+        ensures chosen { IsChosen self.now.chosen node.now → result ≡ Err (Chosen node.now) }
+        ensures only { OnErr result (IsChosen self.now.chosen node.now) }
+    {
         self.ask(*node)?;
         if *label > 1 || *node > self.limit / 2 {
             return Ok(None);
@@ -97,7 +112,13 @@ impl Tree for Numbers {
         Ok(Some(double + *label))
     }
 
-    fn parent(&self, node: &u64) -> Result<Option<(u64, u64)>, NumberError> {
+    fn parent(&self, node: &u64) -> Result<Option<(u64, u64)>, NumberError>
+        requires { IsNumber self.now.limit node.now }
+        ensures ok { IfOk result (IsParentOf (IsHalf self.now.limit) node.now) }
+        ensures err { IfErr result (Refuses self.now.chosen node.now) }
+        ensures chosen { IsChosen self.now.chosen node.now → result ≡ Err (Chosen node.now) }
+        ensures only { OnErr result (IsChosen self.now.chosen node.now) }
+    {
         self.ask(*node)?;
         if *node == 1 {
             return Ok(None);
