@@ -8,10 +8,10 @@ use Rattle.std.proofs.Common.{arith, refl, sym, ap, ap₂, ◌∙◌, inl, inr}
 use Rattle.std.proofs.lemmas.Int.{ints}
 use Rattle.std.proofs.lemmas.List.{get_or_default}
 use Rattle.std.proofs.lemmas.List.Elements.{All-nil, All-cons, All-contains, recursion_from_All, Contains-append_left, Contains-append_right, Contains-append_cases}
-use Rattle.gf_int.specs.Content.{times}
+use Rattle.gf_int.specs.Content.{scaled}
 use Rattle.gf_int.proofs.RingLaws.{dv, dneg, ◌⊗◌, same as same_number}
 use Rattle.gf_int.proofs.SignLaws.{0≤-*ℤ, 0<-*ℤ, <0-cancel, zero_of_*ℤ}
-use Rattle.gf_vec.specs.Vector.{dot, plus, zeros, combined, values}
+use Rattle.gf_vec.specs.Vector.{dot, vector_sum, zeros, combined, values}
 use Rattle.gf_vec.proofs.VectorLaws.{dot-plus, dot-times, dot-zeros, dot-combined, dot-not_negative, dot-positive, length-times, length-combined}
 use Rattle.gf_gordan.specs.Alternative.{AreRows, IsSolution, IsSolvable, IsFarkas, IsRefutable}
 use Rattle.gf_gordan.proofs.ExistenceLaws.{alternative}
@@ -102,7 +102,7 @@ system_wide n bs a beside rows s k w = rows_by (λ t. length t ≡ n) bs a besid
 -- ---- multipliers are a combination
 
 -- s and e times a cancel
-balanced : (n : ℕ) (e : ℤ) (s a : List ℤ) → length s ≡ n → length a ≡ n → plus s (times e a) ≡ zeros n → times (neg_ℤ e) a ≡ s
+balanced : (n : ℕ) (e : ℤ) (s a : List ℤ) → length s ≡ n → length a ≡ n → vector_sum s (scaled e a) ≡ zeros n → scaled (neg_ℤ e) a ≡ s
 balanced zero e [] [] l m h = refl
 balanced zero e [] (y ∷ a) l m h = absurd (omega (arith, m))
 balanced zero e (x ∷ s) a l m h = absurd (omega (arith, l))
@@ -110,7 +110,7 @@ balanced (suc n) e [] a l m h = absurd (omega (arith, l))
 balanced (suc n) e (x ∷ s) [] l m h = absurd (omega (arith, m))
 balanced (suc n) e (x ∷ s) (y ∷ a) l m h =
     let f : x +ℤ e *ℤ y ≡ pos 0 = cc in
-    let g : plus s (times e a) ≡ zeros n = cc in
+    let g : vector_sum s (scaled e a) ≡ zeros n = cc in
     ap₂ ◌∷◌ (entry f) (balanced n e s a (omega (arith, l)) (omega (arith, m)) g)
   where
     entry : x +ℤ e *ℤ y ≡ pos 0 → neg_ℤ e *ℤ y ≡ x
@@ -132,11 +132,11 @@ redundant_of_farkas n a w rows ms (e ∷ []) wide l p q f = (neg_ℤ e, ms, reco
     long : length (combined n ms rows) ≡ n
     long = length-combined n ms rows widths
 
-    zero_sum : plus (combined n ms rows) (times e a) ≡ zeros n
-    zero_sum = ap (plus (combined n ms rows)) (sym (plus-zeros (times e a) n (length-times e a ∙ l))) ∙ f.zero_sum
+    zero_sum : vector_sum (combined n ms rows) (scaled e a) ≡ zeros n
+    zero_sum = ap (vector_sum (combined n ms rows)) (sym (plus-zeros (scaled e a) n (length-times e a ∙ l))) ∙ f.zero_sum
 
     value : dot (combined n ms rows) w +ℤ e *ℤ dot a w ≡ pos 0
-    value = ap (λ z. dot (combined n ms rows) w +ℤ z) (sym (dot-times e a w)) ∙ sym (dot-plus (combined n ms rows) (times e a) w (long ∙ sym (length-times e a ∙ l))) ∙ ap (λ (z : List ℤ). dot z w) zero_sum ∙ dot-zeros n w
+    value = ap (λ z. dot (combined n ms rows) w +ℤ z) (sym (dot-times e a w)) ∙ sym (dot-plus (combined n ms rows) (scaled e a) w (long ∙ sym (length-times e a ∙ l))) ∙ ap (λ (z : List ℤ). dot z w) zero_sum ∙ dot-zeros n w
 
     above : pos 0 <ℤ dot (combined n ms rows) w
     above =

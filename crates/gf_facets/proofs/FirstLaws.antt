@@ -4,7 +4,7 @@
 use Rattle.std.specs.Prelude.{◌≡◌, ◌⊎◌, ℕ, suc, List, [], ◌∷◌, ◌++◌, length, Contains, All, ℤ, pos, ◌<ℤ◌}
 use Rattle.std.proofs.Common.{arith, sym, ◌∙◌, subst, inl, inr}
 use Rattle.std.proofs.lemmas.List.Elements.{All-from_recursion, All-append, All-contains, Contains-append_left, Contains-append_right}
-use Rattle.gf_int.specs.Content.{times}
+use Rattle.gf_int.specs.Content.{scaled}
 use Rattle.gf_poly.specs.Marking.{MarkedPolynomial}
 use Rattle.gf_vec.specs.Vector.{dot, zeros}
 use Rattle.gf_gordan.specs.Alternative.{AreRows, IsSolvable}
@@ -41,7 +41,7 @@ record IsFirst (n : ℕ) (bs : List MarkedPolynomial) (w r : List ℤ) (ns : Lis
   covers : (b : List ℤ) → Contains ns b → (first ≡ b) ⊎ Contains others b
 
 same_normal : (n : ℕ) (bs : List MarkedPolynomial) (w b c : List ℤ) → AreCanonical n bs → IsPlain n bs w b → IsPlain n bs w c →
-    times (dot b w) c ≡ times (dot c w) b → b ≡ c
+    scaled (dot b w) c ≡ scaled (dot c w) b → b ≡ c
 same_normal n bs w b c k p q e =
     sym (proportional_equal (dot b w) (dot c w) c b p.positive q.positive (normal-primitive bs c q.normal) (normal-primitive bs b p.normal) (normal-nonzero n bs c k q.normal) (normal-nonzero n bs b k p.normal) e)
 

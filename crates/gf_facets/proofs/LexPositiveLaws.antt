@@ -3,9 +3,9 @@
 use Rattle.std.proofs.Common.{◌≡◌, ℕ, zero, suc, List, [], ◌∷◌, length, ℤ, pos, ◌<ℤ◌, ◌≤ℤ◌, ◌⊎◌, arith, sym, refl, ap, ap₂, ◌∙◌, inl, inr, subst}
 use Rattle.std.proofs.lemmas.Int.{ints}
 use Rattle.std.specs.List.{AllByRecursion}
-use Rattle.gf_int.specs.Content.{times}
+use Rattle.gf_int.specs.Content.{scaled}
 use Rattle.gf_int.proofs.SignLaws.{IsSigned, sign_of, 0<-*ℤ, 0<-cancel, zero-cancel}
-use Rattle.gf_vec.specs.Vector.{plus, zeros, combined, SomePositive}
+use Rattle.gf_vec.specs.Vector.{vector_sum, zeros, combined, SomePositive}
 use Rattle.gf_vec.proofs.VectorLaws.{length-times, length-combined}
 use Rattle.gf_facets.specs.Rows.{negated}
 use Rattle.gf_facets.specs.LexPositive.{IsLexPositive}
@@ -41,7 +41,7 @@ lex-not_both (x ∷ xs) (inr h) (inl k) = absurd (let e = h.0 in omega (arith, i
 lex-not_both (x ∷ xs) (inr h) (inr k) = lex-not_both xs h.1 k.1
 
 -- ---- sums and multiples
-pub lex-plus : (xs ys : List ℤ) → IsLexPositive xs → IsLexPositive ys → IsLexPositive (plus xs ys)
+pub lex-plus : (xs ys : List ℤ) → IsLexPositive xs → IsLexPositive ys → IsLexPositive (vector_sum xs ys)
 lex-plus [] ys h k = elim h [ ]
 lex-plus (x ∷ xs) [] h k = elim k [ ]
 lex-plus (x ∷ xs) (y ∷ ys) (inl h) (inl k) = inl (omega (arith, ints, h, k))
@@ -49,12 +49,12 @@ lex-plus (x ∷ xs) (y ∷ ys) (inl h) (inr k) = inl (let e = k.0 in omega (arit
 lex-plus (x ∷ xs) (y ∷ ys) (inr h) (inl k) = inl (let e = h.0 in omega (arith, ints, e, k))
 lex-plus (x ∷ xs) (y ∷ ys) (inr h) (inr k) = inr ((let e = h.0 in let f = k.0 in omega (arith, ints, e, f)), lex-plus xs ys h.1 k.1)
 
-pub lex-times : (k : ℤ) (xs : List ℤ) → pos 0 <ℤ k → IsLexPositive xs → IsLexPositive (times k xs)
+pub lex-times : (k : ℤ) (xs : List ℤ) → pos 0 <ℤ k → IsLexPositive xs → IsLexPositive (scaled k xs)
 lex-times k [] p h = elim h [ ]
 lex-times k (x ∷ xs) p (inl h) = inl (0<-*ℤ k x p h)
 lex-times k (x ∷ xs) p (inr h) = inr ((rw h.0 (omega (arith, ints))), lex-times k xs p h.1)
 
-pub lex-untimes : (k : ℤ) (xs : List ℤ) → pos 0 <ℤ k → IsLexPositive (times k xs) → IsLexPositive xs
+pub lex-untimes : (k : ℤ) (xs : List ℤ) → pos 0 <ℤ k → IsLexPositive (scaled k xs) → IsLexPositive xs
 lex-untimes k [] p h = elim h [ ]
 lex-untimes k (x ∷ xs) p (inl h) = inl (0<-cancel k x p h)
 lex-untimes k (x ∷ xs) p (inr h) = inr (zero-cancel k x p h.0, lex-untimes k xs p h.1)
@@ -70,8 +70,8 @@ lex-combined n [] (t ∷ ts) e w h k = absurd (omega arith)
 lex-combined n (m ∷ ms) [] e w h k = absurd (omega arith)
 lex-combined n (m ∷ ms) (t ∷ ts) e w h k = more (lex-combined n ms ts (omega arith) w.1 h.1 k.1)
   where
-    skip : m ≡ pos 0 → plus (times m t) (combined n ms ts) ≡ combined n ms ts
-    skip z = ap (λ c. plus (times c t) (combined n ms ts)) z ∙ ap (λ v. plus v (combined n ms ts)) (times-zero t n w.0) ∙ zeros-plus (combined n ms ts) n (length-combined n ms ts w.1)
+    skip : m ≡ pos 0 → vector_sum (scaled m t) (combined n ms ts) ≡ combined n ms ts
+    skip z = ap (λ c. vector_sum (scaled c t) (combined n ms ts)) z ∙ ap (λ v. vector_sum v (combined n ms ts)) (times-zero t n w.0) ∙ zeros-plus (combined n ms ts) n (length-combined n ms ts w.1)
 
     more : IsLexPositive (combined n ms ts) ⊎ ((combined n ms ts ≡ zeros n) × (SomePositive ms → ⊥)) →
         IsLexPositive (combined n (m ∷ ms) (t ∷ ts)) ⊎ ((combined n (m ∷ ms) (t ∷ ts) ≡ zeros n) × (SomePositive (m ∷ ms) → ⊥))
@@ -82,7 +82,7 @@ lex-combined n (m ∷ ms) (t ∷ ts) e w h k = more (lex-combined n ms ts (omega
         | inr q ↦ inr (skip z ∙ q.0, λ s. elim s [ inl a ↦ absurd (omega (arith, ints, a, z)) | inr b ↦ q.1 b ])
       ]
       | IsSigned.positive s ↦ elim r [
-        | inl p ↦ inl (lex-plus (times m t) (combined n ms ts) (lex-times m t s k.0) p)
-        | inr q ↦ inl (subst IsLexPositive (sym (ap (plus (times m t)) q.0 ∙ plus-zeros (times m t) n (length-times m t ∙ w.0))) (lex-times m t s k.0))
+        | inl p ↦ inl (lex-plus (scaled m t) (combined n ms ts) (lex-times m t s k.0) p)
+        | inr q ↦ inl (subst IsLexPositive (sym (ap (vector_sum (scaled m t)) q.0 ∙ plus-zeros (scaled m t) n (length-times m t ∙ w.0))) (lex-times m t s k.0))
       ]
     ]

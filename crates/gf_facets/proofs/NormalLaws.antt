@@ -5,7 +5,7 @@
 use Rattle.std.specs.Prelude.{◌≡◌, ◌⊎◌, ℕ, zero, suc, ◌<◌, ◌≤◌, true, false, List, length, get_or, Contains, ℤ, pos, negsuc, neg_ℤ, ◌-ℤ◌, ◌*ℤ◌, ◌<ℤ◌}
 use Rattle.std.proofs.Common.{arith, refl, sym, ap, ◌∙◌, subst, inl, inr}
 use Rattle.std.proofs.lemmas.Int.{ints}
-use Rattle.gf_int.specs.Content.{IsPrimitive, times}
+use Rattle.gf_int.specs.Content.{IsPrimitive, scaled}
 use Rattle.gf_int.proofs.RingLaws.{dv, dn, dneg, ◌⊗◌, same as same_number}
 use Rattle.gf_int.proofs.SignLaws.{0<-*ℤ, 0<-cancel}
 use Rattle.gf_frac.specs.Fraction.{one_ℚ}
@@ -156,8 +156,8 @@ inside_of_beyond n cs a v k e prime nz o m h = record { normal = normal; zero = 
 
     -- the row of a monomial that is further along is a multiple of the negatives
     row : (b : MarkedPolynomial) (t : Term) → Contains cs b → Contains b.poly t → (f : IsFurther a t.mono b.head) →
-        differences b.head t.mono ≡ times (pos f.0) (negated a)
-    row b t c q f = vectors_by_entries (differences b.head t.mono) (times (pos f.0) (negated a))
+        differences b.head t.mono ≡ scaled (pos f.0) (negated a)
+    row b t c q f = vectors_by_entries (differences b.head t.mono) (scaled (pos f.0) (negated a))
         (length-differences b.head t.mono lengths ∙ (k b c).head ∙ sym e ∙ sym (length-negated a) ∙ sym (length-times (pos f.0) (negated a)))
         (λ i. get-differences b.head t.mono i lengths ∙ less i ∙ ap (λ z. pos f.0 *ℤ z) (sym (get-negated a i)) ∙ sym (get-times (pos f.0) (negated a) i))
       where

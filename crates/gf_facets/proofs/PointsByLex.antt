@@ -3,8 +3,8 @@
 use Rattle.std.proofs.Common.{◌≡◌, ℕ, suc, List, [], ◌∷◌, length, ℤ, pos, ◌≤ℤ◌, sym, refl, ap, ap₂, ◌∙◌, inl, inr, subst, map, All}
 use Rattle.std.proofs.lemmas.List.Elements.{recursion_from_All}
 use Rattle.std.specs.List.{AllByRecursion}
-use Rattle.gf_int.specs.Content.{times}
-use Rattle.gf_vec.specs.Vector.{plus, zeros, combined}
+use Rattle.gf_int.specs.Content.{scaled}
+use Rattle.gf_vec.specs.Vector.{vector_sum, zeros, combined}
 use Rattle.gf_vec.proofs.VectorLaws.{length-times, length-zeros, length-combined}
 use Rattle.gf_gordan.specs.Alternative.{AreRows, IsSolvable, IsFarkas}
 use Rattle.gf_gordan.proofs.ExistenceLaws.{alternative}
@@ -19,8 +19,8 @@ image-combined : (n m : ℕ) (image : List ℤ → List ℤ) → IsLinear n m im
 image-combined n m image l [] rows w = l.zero
 image-combined n m image l (k ∷ ms) [] w = l.zero
 image-combined n m image l (k ∷ ms) (t ∷ ts) w =
-    l.sum (times k t) (combined n ms ts) (length-times k t ∙ w.0) (length-combined n ms ts w.1)
-    ∙ ap₂ plus (l.multiple k t w.0) (image-combined n m image l ms ts w.1)
+    l.sum (scaled k t) (combined n ms ts) (length-times k t ∙ w.0) (length-combined n ms ts w.1)
+    ∙ ap₂ vector_sum (l.multiple k t w.0) (image-combined n m image l ms ts w.1)
 
 images_wide : (n m : ℕ) (image : List ℤ → List ℤ) → IsLinear n m image → (rows : List (List ℤ)) → AllByRecursion (λ t. length t ≡ n) rows →
     AllByRecursion (λ t. length t ≡ m) (map image rows)
@@ -42,7 +42,7 @@ zero_images : (m : ℕ) (image : List ℤ → List ℤ) (es : List ℤ) (rows : 
 zero_images m image [] rows h = refl
 zero_images m image (e ∷ es) [] h = refl
 zero_images m image (e ∷ es) (t ∷ ts) h =
-    ap₂ plus (ap (times e) h.0 ∙ times-zeros e m) (zero_images m image es ts h.1) ∙ plus-zeros (zeros m) m (length-zeros m)
+    ap₂ vector_sum (ap (scaled e) h.0 ∙ times-zeros e m) (zero_images m image es ts h.1) ∙ plus-zeros (zeros m) m (length-zeros m)
 
 pub solvable_by_lex : (n m : ℕ) (image : List ℤ → List ℤ) (rows es : List (List ℤ)) → IsLinear n m image → AreRows n rows → AreRows n es →
     All (λ t. IsLexPositive (image t)) rows → All (λ t. image t ≡ zeros m) es → IsSolvable n rows es
@@ -60,7 +60,7 @@ solvable_by_lex n m image rows es l wr we h k = elim (alternative.one n rows es 
         let ia : image a ≡ combined m ms (map image rows) = image-combined n m image l ms rows rr in
         let ib : image b ≡ zeros m = image-combined n m image l vs es er ∙ zero_images m image vs es (recursion_from_All (λ t. image t ≡ zeros m) es k) in
         let whole : image a ≡ zeros m =
-        sym (ap (plus (image a)) ib ∙ plus-zeros (image a) m (l.width a (length-combined n ms rows rr))) ∙ sym (l.sum a b (length-combined n ms rows rr) (length-combined n vs es er)) ∙ ap image f.zero_sum ∙ l.zero in
+        sym (ap (vector_sum (image a)) ib ∙ plus-zeros (image a) m (l.width a (length-combined n ms rows rr))) ∙ sym (l.sum a b (length-combined n ms rows rr) (length-combined n vs es er)) ∙ ap image f.zero_sum ∙ l.zero in
         elim (lex-combined m ms (map image rows) (f.rows_len ∙ sym (images_many image rows)) (images_wide n m image l rows rr) (recursion_from_All (λ v. pos 0 ≤ℤ v) ms f.not_negative) (images_lex image rows (recursion_from_All (λ t. IsLexPositive (image t)) rows h))) [
           | inl p ↦ lex-zeros m (subst IsLexPositive (sym ia ∙ whole) p)
           | inr q ↦ q.1 f.not_all_zero

@@ -5,10 +5,10 @@ use Rattle.std.specs.List.{AllByRecursion}
 use Rattle.std.proofs.Common.{arith, refl, sym, ap, ap₂, ◌∙◌, inl, inr}
 use Rattle.std.proofs.lemmas.Int.{ints}
 use Rattle.std.proofs.lemmas.List.Elements.{All-from_recursion, recursion_from_All}
-use Rattle.gf_int.specs.Content.{times}
+use Rattle.gf_int.specs.Content.{scaled}
 use Rattle.gf_int.proofs.RingLaws.{dv, dn, dneg, ◌⊕◌, ◌⊗◌, same as same_number}
 use Rattle.gf_int.proofs.SignLaws.{0<-*ℤ, ≤ℤ-*ℤ, zero_of_*ℤ}
-use Rattle.gf_vec.specs.Vector.{dot, plus}
+use Rattle.gf_vec.specs.Vector.{dot, vector_sum}
 use Rattle.gf_vec.proofs.VectorLaws.{dot_comm, dot-plus, dot-times, length-plus, length-times}
 use Rattle.gf_exponents.specs.Exponents.{Exponents, same, weight, whole_weight}
 use Rattle.gf_exponents.specs.Orders.{lighter, gains}
@@ -46,7 +46,7 @@ region-positive n k v r i l = positive-gains v (All-from_recursion (λ x. pos 1 
 -- ---- m times v, less a
 
 abbrev pub past : ℕ → List ℤ → List ℤ → List ℤ
-past m v a = plus (times (pos m) v) (negated a)
+past m v a = vector_sum (scaled (pos m) v) (negated a)
 
 one_more : (m x a y s t : ℤ) → (m *ℤ x +ℤ negsuc 0 *ℤ a) *ℤ y +ℤ (m *ℤ s +ℤ neg_ℤ t) ≡ m *ℤ (x *ℤ y +ℤ s) +ℤ neg_ℤ (a *ℤ y +ℤ t)
 one_more m x a y s t = same_number ((dv m ⊗ dv x ⊕ dv (negsuc 0) ⊗ dv a) ⊗ dv y ⊕ (dv m ⊗ dv s ⊕ dneg (dv t))) (dv m ⊗ (dv x ⊗ dv y ⊕ dv s) ⊕ dneg (dv a ⊗ dv y ⊕ dv t)) (omega arith)
@@ -56,7 +56,7 @@ none m = same_number (dn 0) (dv m ⊗ dn 0 ⊕ dneg (dn 0)) (omega arith)
 
 pub dot-past : (m : ℕ) (v a c : List ℤ) → length v ≡ length a →
     dot (past m v a) c ≡ pos m *ℤ dot v c +ℤ neg_ℤ (dot a c)
-dot-past m v a c e = dot-plus (times (pos m) v) (negated a) c (length-times (pos m) v ∙ e ∙ sym (length-negated a)) ∙ ap₂ ◌+ℤ◌ (dot-times (pos m) v c) (dot-negated a c)
+dot-past m v a c e = dot-plus (scaled (pos m) v) (negated a) c (length-times (pos m) v ∙ e ∙ sym (length-negated a)) ∙ ap₂ ◌+ℤ◌ (dot-times (pos m) v c) (dot-negated a c)
 
 weight-past : (m : ℕ) (v a : List ℤ) (x : Exponents) → length v ≡ length a →
     whole_weight (past m v a) x ≡ pos m *ℤ whole_weight v x +ℤ neg_ℤ (whole_weight a x)
@@ -160,7 +160,7 @@ beyond_weight n k v a bs r e nz o m = at (bounds (λ z. z) a) (bounds (λ c. dot
 
         inside : IsInRegion n k u
         inside = record {
-          width = length-plus (times (pos (p.0 + q.0 + s.0)) v) (negated a) (length-times (pos (p.0 + q.0 + s.0)) v ∙ lengths ∙ sym (length-negated a)) ∙ length-times (pos (p.0 + q.0 + s.0)) v ∙ r.width;
+          width = length-plus (scaled (pos (p.0 + q.0 + s.0)) v) (negated a) (length-times (pos (p.0 + q.0 + s.0)) v ∙ lengths ∙ sym (length-negated a)) ∙ length-times (pos (p.0 + q.0 + s.0)) v ∙ r.width;
           positive = All-from_recursion (λ x. pos 0 <ℤ x) u (entries v a lengths (recursion_from_All (λ x. pos 0 <ℤ x) v r.positive) p.1);
           rows = All-from_recursion (λ c. pos 0 <ℤ dot c u) k.rows (rows k.rows (recursion_from_All (λ c. pos 0 <ℤ dot c v) k.rows r.rows) q.1);
         }

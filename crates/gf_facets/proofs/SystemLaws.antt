@@ -18,7 +18,7 @@ use Rattle.gf_exponents.proofs.ExponentsLaws.{same_by_entries}
 use Rattle.gf_exponents.proofs.WeightLaws.{weight-nil, weight-same}
 use Rattle.gf_exponents.proofs.WholeWeightLaws.{natural-weight}
 use Rattle.gf_poly.specs.Polynomial.{coefficient, HasVariables}
-use Rattle.gf_poly.specs.Marking.{MarkedPolynomial, Each, HaveVariables, IsMarked as HasMarkedTerm}
+use Rattle.gf_poly.specs.Marking.{MarkedPolynomial, Each, HaveVariables, HasMarkedTerm}
 use Rattle.gf_ideal.specs.Membership.{HasMonomial}
 use Rattle.gf_ideal.specs.Marks.{AreMarked, IsPositive, HasPositiveWeight, IsRealisedBy, IsRealisable}
 use Rattle.gf_ideal.proofs.ListLaws.{contained_each}

@@ -3,10 +3,10 @@
 -- To cite: turned, turned-linear, turned-self, turned_cases, turned_trans, turned_negative, turned_far, turned_beyond.
 use Rattle.std.proofs.Common.{◌≡◌, ◌⊎◌, ℕ, zero, suc, List, [], ◌∷◌, length, ℤ, pos, negsuc, neg_ℤ, ◌+ℤ◌, ◌*ℤ◌, ◌<ℤ◌, arith, sym, refl, ap, ap₂, ◌∙◌, subst, inl, inr}
 use Rattle.std.proofs.lemmas.Int.{ints}
-use Rattle.gf_int.specs.Content.{times}
+use Rattle.gf_int.specs.Content.{scaled}
 use Rattle.gf_int.proofs.RingLaws.{same as same_number, ◌⊗◌, ◌⊕◌, dv, dneg}
 use Rattle.gf_int.proofs.SignLaws.{<0-*ℤ, <0-cancel}
-use Rattle.gf_vec.specs.Vector.{dot, plus, zeros}
+use Rattle.gf_vec.specs.Vector.{dot, vector_sum, zeros}
 use Rattle.gf_vec.proofs.VectorLaws.{dot-plus, dot-times, dot-zeros, length-plus, length-times}
 use Rattle.gf_facets.specs.Rows.{negated}
 use Rattle.gf_facets.specs.LexPositive.{IsLexPositive, rooted, IsNegative}
@@ -15,12 +15,12 @@ use Rattle.gf_facets.specs.LinearMaps.{IsLinear}
 
 -- k times x less m times s
 pub mixed : ℤ → List ℤ → ℤ → List ℤ → List ℤ
-mixed k x m s = plus (times k x) (times (neg_ℤ m) s)
+mixed k x m s = vector_sum (scaled k x) (scaled (neg_ℤ m) s)
 
 sum_entry : (k x y m p s : ℤ) → k *ℤ (x +ℤ y) +ℤ neg_ℤ (m +ℤ p) *ℤ s ≡ (k *ℤ x +ℤ neg_ℤ m *ℤ s) +ℤ (k *ℤ y +ℤ neg_ℤ p *ℤ s)
 sum_entry k x y m p s = same_number (dv k ⊗ (dv x ⊕ dv y) ⊕ dneg (dv m ⊕ dv p) ⊗ dv s) ((dv k ⊗ dv x ⊕ dneg (dv m) ⊗ dv s) ⊕ (dv k ⊗ dv y ⊕ dneg (dv p) ⊗ dv s)) (omega arith)
 
-mixed-sum : (k m p : ℤ) (x y s : List ℤ) → length x ≡ length s → length y ≡ length s → mixed k (plus x y) (m +ℤ p) s ≡ plus (mixed k x m s) (mixed k y p s)
+mixed-sum : (k m p : ℤ) (x y s : List ℤ) → length x ≡ length s → length y ≡ length s → mixed k (vector_sum x y) (m +ℤ p) s ≡ vector_sum (mixed k x m s) (mixed k y p s)
 unfolding mixed
 mixed-sum k m p [] [] [] e f = refl
 mixed-sum k m p [] y (t ∷ s) e f = absurd (omega arith)
@@ -32,7 +32,7 @@ mixed-sum k m p (a ∷ x) (b ∷ y) (t ∷ s) e f = ap₂ ◌∷◌ (sum_entry k
 multiple_entry : (c k x m s : ℤ) → k *ℤ (c *ℤ x) +ℤ neg_ℤ (c *ℤ m) *ℤ s ≡ c *ℤ (k *ℤ x +ℤ neg_ℤ m *ℤ s)
 multiple_entry c k x m s = same_number (dv k ⊗ (dv c ⊗ dv x) ⊕ dneg (dv c ⊗ dv m) ⊗ dv s) (dv c ⊗ (dv k ⊗ dv x ⊕ dneg (dv m) ⊗ dv s)) (omega arith)
 
-mixed-multiple : (c k m : ℤ) (x s : List ℤ) → length x ≡ length s → mixed k (times c x) (c *ℤ m) s ≡ times c (mixed k x m s)
+mixed-multiple : (c k m : ℤ) (x s : List ℤ) → length x ≡ length s → mixed k (scaled c x) (c *ℤ m) s ≡ scaled c (mixed k x m s)
 unfolding mixed
 mixed-multiple c k m [] [] e = refl
 mixed-multiple c k m [] (t ∷ s) e = absurd (omega arith)
@@ -41,7 +41,7 @@ mixed-multiple c k m (a ∷ x) (t ∷ s) e = ap₂ ◌∷◌ (multiple_entry c k
 
 length-mixed : (k m : ℤ) (x s : List ℤ) → length x ≡ length s → length (mixed k x m s) ≡ length x
 unfolding mixed
-length-mixed k m x s e = length-plus (times k x) (times (neg_ℤ m) s) (length-times k x ∙ e ∙ sym (length-times (neg_ℤ m) s)) ∙ length-times k x
+length-mixed k m x s e = length-plus (scaled k x) (scaled (neg_ℤ m) s) (length-times k x ∙ e ∙ sym (length-times (neg_ℤ m) s)) ∙ length-times k x
 
 mixed-self : (k : ℤ) (x : List ℤ) → mixed k x k x ≡ zeros (length x)
 unfolding mixed
@@ -68,7 +68,7 @@ chain_entry p q s b c d =
     same_number (dv q ⊗ (dv p ⊗ dv d ⊕ dneg (dv s) ⊗ dv b)) (dv p ⊗ (dv q ⊗ dv d ⊕ dneg (dv s) ⊗ dv c) ⊕ dv s ⊗ (dv p ⊗ dv c ⊕ dneg (dv q) ⊗ dv b)) (omega arith)
 
 mixed-chain : (p q s : ℤ) (b c d : List ℤ) → length b ≡ length d → length c ≡ length d →
-    times q (mixed p d s b) ≡ plus (times p (mixed q d s c)) (times s (mixed p c q b))
+    scaled q (mixed p d s b) ≡ vector_sum (scaled p (mixed q d s c)) (scaled s (mixed p c q b))
 unfolding mixed
 mixed-chain p q s [] [] [] e f = refl
 mixed-chain p q s [] c (z ∷ d) e f = absurd (omega arith)
@@ -80,31 +80,31 @@ mixed-chain p q s (x ∷ b) (y ∷ c) (z ∷ d) e f = ap₂ ◌∷◌ (chain_ent
 equal_entry : (k x m s : ℤ) → k *ℤ x +ℤ neg_ℤ m *ℤ s ≡ pos 0 → k *ℤ x ≡ m *ℤ s
 equal_entry k x m s e = let f : neg_ℤ m *ℤ s ≡ neg_ℤ (m *ℤ s) = same_number (dneg (dv m) ⊗ dv s) (dneg (dv m ⊗ dv s)) (omega arith) in omega (arith, ints, e, f)
 
-mixed-equal : (k m : ℤ) (x s : List ℤ) → length x ≡ length s → mixed k x m s ≡ zeros (length x) → times k x ≡ times m s
+mixed-equal : (k m : ℤ) (x s : List ℤ) → length x ≡ length s → mixed k x m s ≡ zeros (length x) → scaled k x ≡ scaled m s
 unfolding mixed
 mixed-equal k m [] [] e z = refl
 mixed-equal k m [] (t ∷ s) e z = absurd (omega arith)
 mixed-equal k m (a ∷ x) [] e z = absurd (omega arith)
 mixed-equal k m (a ∷ x) (t ∷ s) e z =
     let h : k *ℤ a +ℤ neg_ℤ m *ℤ t ≡ pos 0 = cc in
-    let r : plus (times k x) (times (neg_ℤ m) s) ≡ zeros (length x) = cc in
+    let r : vector_sum (scaled k x) (scaled (neg_ℤ m) s) ≡ zeros (length x) = cc in
     ap₂ ◌∷◌ (equal_entry k a m t h) (mixed-equal k m x s (omega arith) r)
 
 -- k x - m s is lex-positive where x and the negative of s are
 mixed-positive : (k m : ℤ) (x s : List ℤ) → pos 0 <ℤ k → pos 0 <ℤ m → IsLexPositive x → IsLexPositive (negated s) → IsLexPositive (mixed k x m s)
 unfolding mixed
-mixed-positive k m x s hk hm p q = subst (λ v. IsLexPositive (plus (times k x) v)) (turn s) (lex-plus (times k x) (times m (negated s)) (lex-times k x hk p) (lex-times m (negated s) hm q))
+mixed-positive k m x s hk hm p q = subst (λ v. IsLexPositive (vector_sum (scaled k x) v)) (turn s) (lex-plus (scaled k x) (scaled m (negated s)) (lex-times k x hk p) (lex-times m (negated s) hm q))
   where
-    turn : (s : List ℤ) → times m (negated s) ≡ times (neg_ℤ m) s
+    turn : (s : List ℤ) → scaled m (negated s) ≡ scaled (neg_ℤ m) s
     turn [] = refl
     turn (t ∷ s) = ap₂ ◌∷◌ (same_number (dv m ⊗ (dv (negsuc 0) ⊗ dv t)) (dneg (dv m) ⊗ dv t) (omega arith)) (turn s)
 
 -- k x - m s is lex-positive, and so is the negative of x: then that of s is
 mixed-negative : (k m : ℤ) (x s : List ℤ) → length x ≡ length s → pos 0 <ℤ k → pos 0 <ℤ m → IsLexPositive (mixed k x m s) → IsLexPositive (negated x) → IsLexPositive (negated s)
 unfolding mixed
-mixed-negative k m x s e hk hm p q = lex-untimes m (negated s) hm (subst IsLexPositive (sums x s e) (lex-plus (plus (times k x) (times (neg_ℤ m) s)) (times k (negated x)) p (lex-times k (negated x) hk q)))
+mixed-negative k m x s e hk hm p q = lex-untimes m (negated s) hm (subst IsLexPositive (sums x s e) (lex-plus (vector_sum (scaled k x) (scaled (neg_ℤ m) s)) (scaled k (negated x)) p (lex-times k (negated x) hk q)))
   where
-    sums : (x s : List ℤ) → length x ≡ length s → plus (plus (times k x) (times (neg_ℤ m) s)) (times k (negated x)) ≡ times m (negated s)
+    sums : (x s : List ℤ) → length x ≡ length s → vector_sum (vector_sum (scaled k x) (scaled (neg_ℤ m) s)) (scaled k (negated x)) ≡ scaled m (negated s)
     sums [] [] e = refl
     sums [] (t ∷ s) e = absurd (omega arith)
     sums (a ∷ x) [] e = absurd (omega arith)
@@ -122,9 +122,9 @@ unfolding turned
 turned-linear n w r b e = record {
   width = λ x l. length-mixed (dot b w) (dot x w) (rooted r x) (rooted r b) (omega (arith, l, e)) ∙ omega (arith, l);
   zero = ap₂ (λ u v. mixed (dot b w) u v (rooted r b)) (rooted-zeros r n) (dot-zeros n w) ∙ mixed-zeros (dot b w) (rooted r b) (suc n) (omega (arith, e));
-  sum = λ x y l k. ap₂ (λ u v. mixed (dot b w) (u ∷ plus x y) v (rooted r b)) (dot-plus x y r (l ∙ sym k)) (dot-plus x y w (l ∙ sym k))
+  sum = λ x y l k. ap₂ (λ u v. mixed (dot b w) (u ∷ vector_sum x y) v (rooted r b)) (dot-plus x y r (l ∙ sym k)) (dot-plus x y w (l ∙ sym k))
       ∙ mixed-sum (dot b w) (dot x w) (dot y w) (rooted r x) (rooted r y) (rooted r b) (omega (arith, l, e)) (omega (arith, k, e));
-  multiple = λ c x l. ap₂ (λ u v. mixed (dot b w) (u ∷ times c x) v (rooted r b)) (dot-times c x r) (dot-times c x w)
+  multiple = λ c x l. ap₂ (λ u v. mixed (dot b w) (u ∷ scaled c x) v (rooted r b)) (dot-times c x r) (dot-times c x w)
       ∙ mixed-multiple c (dot b w) (dot x w) (rooted r x) (rooted r b) (omega (arith, l, e));
 }
 
@@ -133,7 +133,7 @@ unfolding turned
 turned-self n w r b e = mixed-self (dot b w) (rooted r b) ∙ ap (λ k. zeros (suc k)) e
 
 -- one is crossed first, or the two are proportional
-pub turned_cases : (w r b c : List ℤ) → length b ≡ length c → (times (dot b w) c ≡ times (dot c w) b) ⊎ (IsLexPositive (turned w r b c) ⊎ IsLexPositive (turned w r c b))
+pub turned_cases : (w r b c : List ℤ) → length b ≡ length c → (scaled (dot b w) c ≡ scaled (dot c w) b) ⊎ (IsLexPositive (turned w r b c) ⊎ IsLexPositive (turned w r c b))
 unfolding turned
 turned_cases w r b c e = elim (lex-cases (mixed (dot b w) (rooted r c) (dot c w) (rooted r b))) [
   | inl z ↦ inl (tails (mixed-equal (dot b w) (dot c w) (rooted r c) (rooted r b) (omega (arith, e)) (z ∙ ap zeros (length-mixed (dot b w) (dot c w) (rooted r c) (rooted r b) (omega (arith, e))))))
@@ -143,7 +143,7 @@ turned_cases w r b c e = elim (lex-cases (mixed (dot b w) (rooted r c) (dot c w)
   ])
 ]
   where
-    tails : times (dot b w) (rooted r c) ≡ times (dot c w) (rooted r b) → times (dot b w) c ≡ times (dot c w) b
+    tails : scaled (dot b w) (rooted r c) ≡ scaled (dot c w) (rooted r b) → scaled (dot b w) c ≡ scaled (dot c w) b
     tails h = cc
 
 pub turned_trans : (w r b c d : List ℤ) → length b ≡ length d → length c ≡ length d → pos 0 <ℤ dot b w → pos 0 <ℤ dot c w → pos 0 <ℤ dot d w →

@@ -9,9 +9,9 @@ use Rattle.std.proofs.Common.{arith, refl, sym, ap, ap₂, ◌∙◌, inl, inr}
 use Rattle.std.proofs.Math.IntN.{*ℤ-zero}
 use Rattle.std.proofs.lemmas.Cmp.{int_ranked}
 use Rattle.std.proofs.lemmas.Int.{ints}
-use Rattle.gf_int.specs.Content.{times}
+use Rattle.gf_int.specs.Content.{scaled}
 use Rattle.gf_int.proofs.RingLaws.{dv, dn, ◌⊗◌, same as same_number, cancel_factor}
-use Rattle.gf_vec.specs.Vector.{dot, plus, zeros}
+use Rattle.gf_vec.specs.Vector.{dot, vector_sum, zeros}
 use Rattle.gf_vec.proofs.VectorLaws.{length-times, dot-times}
 use Rattle.gf_facets.specs.Rows.{negated}
 
@@ -39,7 +39,7 @@ vectors_by_entries (x ∷ xs) [] e h = absurd (omega arith)
 vectors_by_entries (x ∷ xs) (y ∷ ys) e h = ap₂ ◌∷◌ (h 0) (vectors_by_entries xs ys (omega arith) (λ i. h (suc i)))
 
 -- the entries of a multiple
-pub get-times : (k : ℤ) (xs : List ℤ) (i : ℕ) → get_or (times k xs) i (pos 0) ≡ k *ℤ get_or xs i (pos 0)
+pub get-times : (k : ℤ) (xs : List ℤ) (i : ℕ) → get_or (scaled k xs) i (pos 0) ≡ k *ℤ get_or xs i (pos 0)
 get-times k [] i = sym (*ℤ-zero k)
 get-times k (x ∷ xs) zero = refl
 get-times k (x ∷ xs) (suc i) = get-times k xs i
@@ -70,24 +70,24 @@ dot-negated xs ys = dot-times (negsuc 0) xs ys ∙ minus_one (dot xs ys)
 
 -- ---- zeros
 
-pub plus-zeros : (xs : List ℤ) (n : ℕ) → length xs ≡ n → plus xs (zeros n) ≡ xs
+pub plus-zeros : (xs : List ℤ) (n : ℕ) → length xs ≡ n → vector_sum xs (zeros n) ≡ xs
 plus-zeros [] n e = refl
 plus-zeros (x ∷ xs) zero e = absurd (omega arith)
 plus-zeros (x ∷ xs) (suc n) e = ap₂ ◌∷◌ (omega (arith, ints)) (plus-zeros xs n (omega arith))
 
-pub zeros-plus : (xs : List ℤ) (n : ℕ) → length xs ≡ n → plus (zeros n) xs ≡ xs
+pub zeros-plus : (xs : List ℤ) (n : ℕ) → length xs ≡ n → vector_sum (zeros n) xs ≡ xs
 zeros-plus [] zero e = refl
 zeros-plus [] (suc n) e = absurd (omega arith)
 zeros-plus (x ∷ xs) zero e = absurd (omega arith)
 zeros-plus (x ∷ xs) (suc n) e = ap₂ ◌∷◌ (omega (arith, ints)) (zeros-plus xs n (omega arith))
 
-pub times-zero : (xs : List ℤ) (n : ℕ) → length xs ≡ n → times (pos 0) xs ≡ zeros n
+pub times-zero : (xs : List ℤ) (n : ℕ) → length xs ≡ n → scaled (pos 0) xs ≡ zeros n
 times-zero [] zero e = refl
 times-zero [] (suc n) e = absurd (omega arith)
 times-zero (x ∷ xs) zero e = absurd (omega arith)
 times-zero (x ∷ xs) (suc n) e = ap₂ ◌∷◌ (omega (arith, ints)) (times-zero xs n (omega arith))
 
-pub times-zeros : (k : ℤ) (m : ℕ) → times k (zeros m) ≡ zeros m
+pub times-zeros : (k : ℤ) (m : ℕ) → scaled k (zeros m) ≡ zeros m
 times-zeros k zero = refl
 times-zeros k (suc m) = ap₂ ◌∷◌ (*ℤ-zero k) (times-zeros k m)
 
@@ -120,6 +120,6 @@ cancel_number k x y l e = cancel_factor k x y l (swap x k ∙ e ∙ sym (swap y 
     swap x k = same_number (dv x ⊗ dn k) (dn k ⊗ dv x) (omega arith)
 
 -- equal multiples of vectors are multiples of one
-pub cancel-times : (k : ℕ) (xs ys : List ℤ) → 0 < k → times (pos k) xs ≡ times (pos k) ys → xs ≡ ys
+pub cancel-times : (k : ℕ) (xs ys : List ℤ) → 0 < k → scaled (pos k) xs ≡ scaled (pos k) ys → xs ≡ ys
 cancel-times k xs ys l e = vectors_by_entries xs ys (sym (length-times (pos k) xs) ∙ ap (λ (z : List ℤ). length z) e ∙ length-times (pos k) ys)
     (λ i. cancel_number k (get_or xs i (pos 0)) (get_or ys i (pos 0)) l (sym (get-times (pos k) xs i) ∙ ap (λ (z : List ℤ). get_or z i (pos 0)) e ∙ get-times (pos k) ys i))

@@ -8,7 +8,7 @@ use Rattle.std.specs.declared.cmp.Ordering.TheVariants.{Less, Equal, Greater}
 use Rattle.std.proofs.Common.{arith, refl, sym, ap₂, inl, inr}
 use Rattle.std.proofs.lemmas.Int.{ints}
 use Rattle.std.proofs.lemmas.Cmp.{int_ranked}
-use Rattle.gf_walk.specs.Path.{IsStrict}
+use Rattle.gf_walk.specs.Path.{IsStrictOrder}
 use Rattle.gf_walk.proofs.ListLaws.{precedes_itself, precedes_trans}
 use Rattle.gf_walk.proofs.FinitenessLaws.{precedes_total}
 use Rattle.gf_facets.specs.LexPositive.{IsBefore}
@@ -16,10 +16,10 @@ use Rattle.gf_facets.proofs.VectorLaws.{three}
 
 -- ---- a strict total order
 
-integers_strict : IsStrict {L = ℤ} ◌<ℤ◌
+integers_strict : IsStrictOrder {L = ℤ} ◌<ℤ◌
 integers_strict = record { irreflexive = λ a h. absurd (omega (arith, ints, h)); transitive = λ a b c h k. omega (arith, ints, h, k); total = three }
 
-pub before_strict : IsStrict IsBefore
+pub before_strict : IsStrictOrder IsBefore
 before_strict = record {
   irreflexive = precedes_itself ◌<ℤ◌ integers_strict;
   transitive = precedes_trans ◌<ℤ◌ integers_strict;

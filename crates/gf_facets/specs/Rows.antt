@@ -3,7 +3,7 @@
 -- content. Laws: proofs/RowLaws.antt, proofs/NormalLaws.antt. Source: Sturmfels, Gröbner Bases and Convex Polytopes, 2;
 -- Fukuda, Jensen, Thomas, Computing Gröbner fans, 2 and 4.
 use Rattle.std.specs.Prelude.{if◌then◌else◌, List, [], ◌∷◌, ◌++◌, ℤ, pos, negsuc, ◌-ℤ◌, Contains}
-use Rattle.gf_int.specs.Content.{times}
+use Rattle.gf_int.specs.Content.{scaled}
 use Rattle.gf_exponents.specs.Exponents.{Exponents, same}
 use Rattle.gf_poly.specs.Polynomial.{Terms}
 use Rattle.gf_poly.specs.Marking.{MarkedPolynomial}
@@ -35,4 +35,4 @@ IsNormal bs a = (t : List ℤ) × Contains (rows_of bs) t × IsPrimitivePart t a
 
 -- the vector of the negatives
 abbrev pub negated : List ℤ → List ℤ
-negated a = times (negsuc 0) a
+negated a = scaled (negsuc 0) a

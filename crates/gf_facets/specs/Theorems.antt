@@ -3,12 +3,12 @@ use Rattle.std.specs.Prelude.{◌≡◌, ◌⊎◌, ◌↔◌, ℕ, ◌<◌, Lis
 use Rattle.std.specs.Ordering.{int_cmp, MatchOrdering}
 use Rattle.std.specs.Cmp.Lexicographic.{slice_cmp}
 use Rattle.std.specs.declared.cmp.Ordering.TheVariants.{Less}
-use Rattle.gf_int.specs.Content.{times}
-use Rattle.gf_vec.specs.Vector.{dot, plus, zeros}
+use Rattle.gf_int.specs.Content.{scaled}
+use Rattle.gf_vec.specs.Vector.{dot, vector_sum, zeros}
 use Rattle.gf_vec.specs.RootSign.{root_sign}
-use Rattle.gf_walk.specs.Path.{IsStrict}
+use Rattle.gf_walk.specs.Path.{IsStrictOrder}
 use Rattle.gf_gordan.specs.Alternative.{AreRows, IsSolvable}
-use Rattle.gf_poly.specs.Marking.{MarkedPolynomial, Each, HaveVariables, IsMarked}
+use Rattle.gf_poly.specs.Marking.{MarkedPolynomial, Each, HaveVariables, HasMarkedTerm}
 use Rattle.gf_ideal.specs.Marks.{IsRealisable}
 use Rattle.gf_facets.specs.Rows.{IsNormal, negated}
 use Rattle.gf_facets.specs.Systems.{system_of}
@@ -28,13 +28,13 @@ pub record LexPositiveVectors : Type 0 where
   pub one_of_three : (xs : List ℤ) → (xs ≡ zeros (length xs)) ⊎ (IsLexPositive xs ⊎ IsLexPositive (negated xs))
   pub not_both : (xs : List ℤ) → IsLexPositive xs → IsLexPositive (negated xs) → ⊥
   pub not_zero : (n : ℕ) → IsLexPositive (zeros n) → ⊥
-  pub sum : (xs ys : List ℤ) → IsLexPositive xs → IsLexPositive ys → IsLexPositive (plus xs ys)
-  pub multiple : (k : ℤ) (xs : List ℤ) → pos 0 <ℤ k → IsLexPositive (times k xs) ↔ IsLexPositive xs
+  pub sum : (xs ys : List ℤ) → IsLexPositive xs → IsLexPositive ys → IsLexPositive (vector_sum xs ys)
+  pub multiple : (k : ℤ) (xs : List ℤ) → pos 0 <ℤ k → IsLexPositive (scaled k xs) ↔ IsLexPositive xs
 
 -- the order of vectors is strict and total, and is what `lex_cmp` compares by; the root sign is Less exactly for the negative
 -- vectors of the region of all positive vectors
 pub record VectorsAreOrdered : Type 0 where
-  pub strict : IsStrict IsBefore
+  pub strict : IsStrictOrder IsBefore
   pub compared : (a b : List ℤ) → MatchOrdering (slice_cmp int_cmp a b) (IsBefore a b) (a ≡ b) (IsBefore b a)
   pub sign : (n : ℕ) (a : List ℤ) → length a ≡ n → IsNegative (all_positive n).root a ↔ (root_sign a ≡ Less)
 
@@ -63,7 +63,7 @@ pub record FacetsDefineCones : Type 0 where
 -- some positive weight sets each mark above the rest exactly where the rows and the unit vectors have a point on which all
 -- are positive
 abbrev pub WeightsAreSolutions : Type 0
-WeightsAreSolutions = (n : ℕ) (bs : List MarkedPolynomial) → HaveVariables n bs → Each IsMarked bs →
+WeightsAreSolutions = (n : ℕ) (bs : List MarkedPolynomial) → HaveVariables n bs → Each HasMarkedTerm bs →
     AreRows n (system_of n bs) × (IsRealisable n bs ↔ IsSolvable n (system_of n bs) [])
 
 -- ---- facets
