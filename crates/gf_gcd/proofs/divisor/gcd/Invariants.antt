@@ -1,6 +1,6 @@
 use Rattle.std.proofs.Common.{ℕ, ◌≤◌, max}
 use Rattle.std.specs.Int.{IsGcd}
-use Rattle.gf_gcd.proofs.divisor.gcd_wide.Given as goal
+use Rattle.gf_gcd.proofs.divisor.gcd.Given as goal
 
 -- what divides both now is what divided both at first, and neither has grown
 abbrev pub invariant-steps : goal.invariant-steps
