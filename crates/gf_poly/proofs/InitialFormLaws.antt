@@ -1,6 +1,6 @@
 -- The terms of one weight, and the initial form as the loop builds it.
 -- To cite: Heaviest, Heaviest-start, heavier_at, as_heavy_at, lighter_at, initial_form_at, descending_at, variables_at,
--- initial_form_unique, and Weighing for the weight of a monomial. The rest are steps.
+-- initial_form_unique. The rest are steps.
 use Rattle.std.specs.Prelude.{◌≡◌, ◌≢◌, ◌⊎◌, ℕ, zero, suc, ◌+◌, ◌*◌, ◌^◌, ◌<◌, ◌≤◌, Bool, true, false, if◌then◌else◌, List, [], ◌∷◌, ◌++◌, length, take, drop, get_or, Contains, ℤ, pos, negsuc, ◌+ℤ◌, ◌*ℤ◌, ◌<ℤ◌, ◌≤ℤ◌, unsigned_abs}
 use Rattle.std.specs.Ordering.{int_eq, int_cmp, MatchOrdering}
 use Rattle.std.specs.declared.cmp.Ordering.{Ordering}
@@ -164,9 +164,9 @@ IsReached-last w m (s ∷ f) t e = inr (IsReached-last w m f t e)
 pub record Heaviest (w : List ℤ) (f out : Terms) (m : ℤ) : Type 0 where
   pub items : out ≡ of_weight w m f
   pub above : AreAtMost w m f
-  pub reached : ((f ≡ []) × (m <ℤ negsuc (2 ^ 98))) ⊎ IsReached w m f
+  pub reached : ((f ≡ []) × (m <ℤ negsuc (2 ^ 101))) ⊎ IsReached w m f
 
-pub Heaviest-start : (w : List ℤ) (f : Terms) (m : ℤ) → m <ℤ negsuc (2 ^ 98) → Heaviest w (take 0 f) [] m
+pub Heaviest-start : (w : List ℤ) (f : Terms) (m : ℤ) → m <ℤ negsuc (2 ^ 101) → Heaviest w (take 0 f) [] m
 Heaviest-start w f m l = record { items = refl; above = tt; reached = inl (refl, l) }
 
 pushed : (f : Terms) (i : ℕ) (t : Term) → i < length f → t ≡ get_or f i t → take (i + 1) f ≡ take i f ++ t ∷ []
@@ -191,7 +191,7 @@ as_heavy_at w f out next i t c m k l h is ec e em el en s =
       reached = inr (IsReached-last w l (take i f) t er);
     })
 
-pub lighter_at : (w : List ℤ) (f out next : Terms) (i : ℕ) (t : Term) (m k l : ℤ) → i < length f → t ≡ get_or f i t → k ≡ whole_weight w t.mono → unsigned_abs k ≤ 2 ^ 98 → k <ℤ m → l ≡ m → next ≡ out →
+pub lighter_at : (w : List ℤ) (f out next : Terms) (i : ℕ) (t : Term) (m k l : ℤ) → i < length f → t ≡ get_or f i t → k ≡ whole_weight w t.mono → unsigned_abs k ≤ 2 ^ 101 → k <ℤ m → l ≡ m → next ≡ out →
     Heaviest w (take i f) out m → Heaviest w (take (i + 1) f) next l
 lighter_at w f out next i t m k l h is e b lt el en s =
     let r : Heaviest w (take i f) out l = subst (Heaviest w (take i f) out) (sym el) s in
@@ -314,17 +314,3 @@ initial_form_unique w f g h a b x = elim (heaviest_or_not w f x) [
   | inl k ↦ a.heaviest x k ∙ sym (b.heaviest x k)
   | inr y ↦ a.lighter x y.0 y.1 y.2 ∙ sym (b.lighter x y.0 y.1 y.2)
 ]
-
--- ---- the weight of a monomial
-
--- what is added so far, and what is left to add
-pub record Weighing (w : List ℤ) (x : Exponents) (i : ℕ) (sum : ℤ) : Type 0 where
-  pub value : sum +ℤ whole_weight (drop i w) (drop i x) ≡ whole_weight w x
-  pub bound : unsigned_abs sum ≤ i * 2 ^ 94
-
-pub Weighing-more : (w : List ℤ) (x : Exponents) (i : ℕ) (sum part next : ℤ) → i < length w → length x ≡ length w → part ≡ get_or w i (pos 0) *ℤ pos (get_or x i 0) → unsigned_abs part ≤ 2 ^ 94 → next ≡ sum +ℤ part →
-    Weighing w x i sum → Weighing w x (i + 1) next
-Weighing-more w x i sum part next h e p b n s =
-    let k : i < length x = omega arith in
-    let r : whole_weight (drop i w) (drop i x) ≡ get_or w i (pos 0) *ℤ pos (get_or x i 0) +ℤ whole_weight (drop (i + 1) w) (drop (i + 1) x) = rw (drop_more w i (pos 0), drop_more x i 0) refl in
-    record { value = omega (arith, ints, s.value, p, n, r); bound = omega (arith, ints, s.bound, b, n) }

@@ -116,6 +116,6 @@ plus-zeros (suc n) [] e = absurd (omega arith)
 plus-zeros (suc n) (x ∷ xs) e = ap₂ ◌∷◌ (omega (arith, ints)) (plus-zeros n xs (omega arith))
 
 -- no time a vector
-pub zero-times : (xs : List ℤ) → times (pos 0) xs ≡ zeros (length xs)
+pub zero-times : (xs : List ℤ) → scaled (pos 0) xs ≡ zeros (length xs)
 zero-times [] = refl
 zero-times (x ∷ xs) = ap₂ ◌∷◌ (omega (arith, ints)) (zero-times xs)
