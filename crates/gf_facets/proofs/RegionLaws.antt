@@ -23,7 +23,7 @@ use Rattle.gf_facets.specs.Rows.{negated}
 use Rattle.gf_facets.specs.Regions.{Region, IsInRegion}
 use Rattle.gf_facets.specs.Beyond.{IsBeyond}
 use Rattle.gf_facets.proofs.VectorLaws.{IsNonzero, length-negated, dot-negated}
-use Rattle.gf_facets.proofs.WholeLaws.{weight-apart}
+use Rattle.gf_facets.proofs.WholeLaws.{weight-apart, weight-sum, weight-multiple}
 
 -- ---- vectors of a region
 
@@ -48,23 +48,17 @@ region-positive n k v r i l = positive-gains v (All-from_recursion (λ x. pos 1 
 abbrev pub past : ℕ → List ℤ → List ℤ → List ℤ
 past m v a = vector_sum (scaled (pos m) v) (negated a)
 
-one_more : (m x a y s t : ℤ) → (m *ℤ x +ℤ negsuc 0 *ℤ a) *ℤ y +ℤ (m *ℤ s +ℤ neg_ℤ t) ≡ m *ℤ (x *ℤ y +ℤ s) +ℤ neg_ℤ (a *ℤ y +ℤ t)
-one_more m x a y s t = same_number ((dv m ⊗ dv x ⊕ dv (negsuc 0) ⊗ dv a) ⊗ dv y ⊕ (dv m ⊗ dv s ⊕ dneg (dv t))) (dv m ⊗ (dv x ⊗ dv y ⊕ dv s) ⊕ dneg (dv a ⊗ dv y ⊕ dv t)) (omega arith)
-
-none : (m : ℤ) → pos 0 ≡ m *ℤ pos 0 +ℤ neg_ℤ (pos 0)
-none m = same_number (dn 0) (dv m ⊗ dn 0 ⊕ dneg (dn 0)) (omega arith)
-
 pub dot-past : (m : ℕ) (v a c : List ℤ) → length v ≡ length a →
     dot (past m v a) c ≡ pos m *ℤ dot v c +ℤ neg_ℤ (dot a c)
 dot-past m v a c e = dot-plus (scaled (pos m) v) (negated a) c (length-times (pos m) v ∙ e ∙ sym (length-negated a)) ∙ ap₂ ◌+ℤ◌ (dot-times (pos m) v c) (dot-negated a c)
 
 weight-past : (m : ℕ) (v a : List ℤ) (x : Exponents) → length v ≡ length a →
     whole_weight (past m v a) x ≡ pos m *ℤ whole_weight v x +ℤ neg_ℤ (whole_weight a x)
-weight-past m [] [] x e = none (pos m)
-weight-past m [] (y ∷ a) x e = absurd (omega arith)
-weight-past m (w ∷ v) [] x e = absurd (omega arith)
-weight-past m (w ∷ v) (y ∷ a) [] e = none (pos m)
-weight-past m (w ∷ v) (y ∷ a) (z ∷ x) e = ap (λ t. (pos m *ℤ w +ℤ negsuc 0 *ℤ y) *ℤ pos z +ℤ t) (weight-past m v a x (omega arith)) ∙ one_more (pos m) w y (pos z) (whole_weight v x) (whole_weight a x)
+weight-past m v a x e = weight-sum (times (pos m) v) (negated a) x (length-times (pos m) v ∙ e ∙ sym (length-negated a))
+    ∙ ap₂ ◌+ℤ◌ (weight-multiple (pos m) v x) (weight-multiple (negsuc 0) a x ∙ minus (whole_weight a x))
+  where
+    minus : (z : ℤ) → negsuc 0 *ℤ z ≡ neg_ℤ z
+    minus z = omega (arith, ints)
 
 -- ---- bounds
 

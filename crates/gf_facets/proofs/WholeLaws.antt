@@ -1,6 +1,6 @@
 -- Whole weights of monomials that are products, or a multiple of a vector apart; strict comparisons by whole weights.
--- To cite: weight-product, weight-apart, tilted-order, beyond-strict, further-weight.
-use Rattle.std.specs.Prelude.{◌≡◌, ◌⊎◌, ℕ, suc, ◌+◌, ◌≤◌, true, List, [], ◌∷◌, get_or, ℤ, pos, ◌+ℤ◌, ◌*ℤ◌, ◌<ℤ◌}
+-- To cite: weight-product, weight-sum, weight-multiple, weight-apart, tilted-order, beyond-strict, further-weight.
+use Rattle.std.specs.Prelude.{◌≡◌, ◌⊎◌, ℕ, suc, ◌+◌, ◌≤◌, true, List, [], ◌∷◌, get_or, ℤ, pos, ◌+ℤ◌, ◌*ℤ◌, ◌<ℤ◌, length}
 use Rattle.std.proofs.Common.{arith, refl, sym, ap, ◌∙◌, inl, inr}
 use Rattle.std.proofs.lemmas.Int.{ints}
 use Rattle.gf_int.proofs.RingLaws.{dv, dn, ◌⊕◌, ◌⊗◌, same as same_number, *ℤ-+ℤ}
@@ -12,7 +12,8 @@ use Rattle.gf_exponents.proofs.WeightLaws.{weight-plus}
 use Rattle.gf_exponents.proofs.WholeWeightLaws.{weight_split, whole_weight-same}
 use Rattle.gf_exponents.proofs.OrderLaws.{weighted-order}
 use Rattle.gf_ideal.proofs.RingLaws.{rest, entry-rest}
-use Rattle.gf_vec.specs.Vector.{dot}
+use Rattle.gf_int.specs.Content.{times}
+use Rattle.gf_vec.specs.Vector.{dot, plus as plus_vectors}
 use Rattle.gf_facets.specs.Beyond.{IsFurther, IsBeyond}
 use Rattle.gf_facets.proofs.VectorLaws.{three, IsNonzero}
 
@@ -20,10 +21,30 @@ use Rattle.gf_facets.proofs.VectorLaws.{three, IsNonzero}
 pub weight-product : (w : List ℤ) (x y : Exponents) → whole_weight w (plus x y) ≡ whole_weight w x +ℤ whole_weight w y
 weight-product w x y = omega (arith, ints, weight_split w (plus x y), weight_split w x, weight_split w y, weight-plus (gains w) x y, weight-plus (losses w) x y)
 
--- ---- monomials a multiple apart
+-- ---- weights that are sums and multiples
 
 nothing_times : (k : ℤ) → k *ℤ pos 0 ≡ pos 0
 nothing_times k = same_number (dv k ⊗ dn 0) (dn 0) (omega arith)
+
+spread : (v w x p q : ℤ) → (v +ℤ w) *ℤ x +ℤ (p +ℤ q) ≡ (v *ℤ x +ℤ p) +ℤ (w *ℤ x +ℤ q)
+spread v w x p q = same_number ((dv v ⊕ dv w) ⊗ dv x ⊕ (dv p ⊕ dv q)) ((dv v ⊗ dv x ⊕ dv p) ⊕ (dv w ⊗ dv x ⊕ dv q)) (omega arith)
+
+factored : (k v x p : ℤ) → k *ℤ v *ℤ x +ℤ k *ℤ p ≡ k *ℤ (v *ℤ x +ℤ p)
+factored k v x p = same_number (dv k ⊗ dv v ⊗ dv x ⊕ dv k ⊗ dv p) (dv k ⊗ (dv v ⊗ dv x ⊕ dv p)) (omega arith)
+
+pub weight-sum : (v w : List ℤ) (x : Exponents) → length v ≡ length w → whole_weight (plus_vectors v w) x ≡ whole_weight v x +ℤ whole_weight w x
+weight-sum [] [] x e = refl
+weight-sum [] (b ∷ w) x e = absurd (omega arith)
+weight-sum (a ∷ v) [] x e = absurd (omega arith)
+weight-sum (a ∷ v) (b ∷ w) [] e = refl
+weight-sum (a ∷ v) (b ∷ w) (c ∷ x) e = ap (λ z. (a +ℤ b) *ℤ pos c +ℤ z) (weight-sum v w x (omega arith)) ∙ spread a b (pos c) (whole_weight v x) (whole_weight w x)
+
+pub weight-multiple : (k : ℤ) (v : List ℤ) (x : Exponents) → whole_weight (times k v) x ≡ k *ℤ whole_weight v x
+weight-multiple k [] x = sym (nothing_times k)
+weight-multiple k (a ∷ v) [] = sym (nothing_times k)
+weight-multiple k (a ∷ v) (c ∷ x) = ap (λ z. k *ℤ a *ℤ pos c +ℤ z) (weight-multiple k v x) ∙ factored k a (pos c) (whole_weight v x)
+
+-- ---- monomials a multiple apart
 
 scaled : (w x y k a : ℤ) → x ≡ y +ℤ k *ℤ a → w *ℤ x ≡ w *ℤ y +ℤ k *ℤ (a *ℤ w)
 scaled w x y k a h = ap (λ z. w *ℤ z) h ∙ same_number (dv w ⊗ (dv y ⊕ dv k ⊗ dv a)) (dv w ⊗ dv y ⊕ dv k ⊗ (dv a ⊗ dv w)) (omega arith)
