@@ -14,7 +14,7 @@ use Rattle.gf_exponents.proofs.ExponentsLaws.{same-refl, same-sym, same_along, m
 use Rattle.gf_exponents.proofs.WeightLaws.{weight-plus, weight-same}
 use Rattle.gf_exponents.proofs.OrderLaws.{weighted-order}
 use Rattle.gf_poly.specs.Polynomial.{Terms, coefficient, SamePolynomial, times}
-use Rattle.gf_poly.specs.InitialForms.{IsInitialForm, IsHeaviest as IsWholeHeaviest}
+use Rattle.gf_poly.specs.InitialForms.{IsInitialForm, IsOfGreatestWeight as IsWholeHeaviest}
 use Rattle.gf_poly.specs.Marking.{MarkedPolynomial, Each}
 use Rattle.gf_poly.proofs.PolynomialLaws.{coefficient-++, coefficient-same, coefficient-times, coefficient-times-none}
 use Rattle.gf_ideal.specs.Membership.{HasMonomial, AreInVariables, IntegerTerms, product, combination, IsMultiplier, IsMember, Spans}

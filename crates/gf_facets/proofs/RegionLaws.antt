@@ -54,7 +54,7 @@ dot-past m v a c e = dot-plus (scaled (pos m) v) (negated a) c (length-times (po
 
 weight-past : (m : ℕ) (v a : List ℤ) (x : Exponents) → length v ≡ length a →
     whole_weight (past m v a) x ≡ pos m *ℤ whole_weight v x +ℤ neg_ℤ (whole_weight a x)
-weight-past m v a x e = weight-sum (times (pos m) v) (negated a) x (length-times (pos m) v ∙ e ∙ sym (length-negated a))
+weight-past m v a x e = weight-sum (scaled (pos m) v) (negated a) x (length-times (pos m) v ∙ e ∙ sym (length-negated a))
     ∙ ap₂ ◌+ℤ◌ (weight-multiple (pos m) v x) (weight-multiple (negsuc 0) a x ∙ minus (whole_weight a x))
   where
     minus : (z : ℤ) → negsuc 0 *ℤ z ≡ neg_ℤ z

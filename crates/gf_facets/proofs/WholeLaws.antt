@@ -12,8 +12,8 @@ use Rattle.gf_exponents.proofs.WeightLaws.{weight-plus}
 use Rattle.gf_exponents.proofs.WholeWeightLaws.{weight_split, whole_weight-same}
 use Rattle.gf_exponents.proofs.OrderLaws.{weighted-order}
 use Rattle.gf_ideal.proofs.RingLaws.{rest, entry-rest}
-use Rattle.gf_int.specs.Content.{times}
-use Rattle.gf_vec.specs.Vector.{dot, plus as plus_vectors}
+use Rattle.gf_int.specs.Content.{scaled}
+use Rattle.gf_vec.specs.Vector.{dot, vector_sum as plus_vectors}
 use Rattle.gf_facets.specs.Beyond.{IsFurther, IsBeyond}
 use Rattle.gf_facets.proofs.VectorLaws.{three, IsNonzero}
 
@@ -39,7 +39,7 @@ weight-sum (a ∷ v) [] x e = absurd (omega arith)
 weight-sum (a ∷ v) (b ∷ w) [] e = refl
 weight-sum (a ∷ v) (b ∷ w) (c ∷ x) e = ap (λ z. (a +ℤ b) *ℤ pos c +ℤ z) (weight-sum v w x (omega arith)) ∙ spread a b (pos c) (whole_weight v x) (whole_weight w x)
 
-pub weight-multiple : (k : ℤ) (v : List ℤ) (x : Exponents) → whole_weight (times k v) x ≡ k *ℤ whole_weight v x
+pub weight-multiple : (k : ℤ) (v : List ℤ) (x : Exponents) → whole_weight (scaled k v) x ≡ k *ℤ whole_weight v x
 weight-multiple k [] x = sym (nothing_times k)
 weight-multiple k (a ∷ v) [] = sym (nothing_times k)
 weight-multiple k (a ∷ v) (c ∷ x) = ap (λ z. k *ℤ a *ℤ pos c +ℤ z) (weight-multiple k v x) ∙ factored k a (pos c) (whole_weight v x)

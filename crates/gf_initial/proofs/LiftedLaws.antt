@@ -11,7 +11,7 @@ use Rattle.gf_exponents.proofs.ExponentsLaws.{same_flip}
 use Rattle.gf_exponents.proofs.WholeWeightLaws.{whole_weight-same}
 use Rattle.gf_poly.specs.Polynomial.{Terms, coefficient, SamePolynomial, times}
 use Rattle.gf_poly.specs.Marking.{MarkedPolynomial, polys}
-use Rattle.gf_poly.specs.InitialForms.{IsInitialForm, IsHeaviest}
+use Rattle.gf_poly.specs.InitialForms.{IsInitialForm, IsOfGreatestWeight}
 use Rattle.gf_vec.specs.Vector.{dot}
 use Rattle.gf_ideal.specs.Membership.{HasMonomial, IsInVariables, AreInVariables, IsMember}
 use Rattle.gf_ideal.specs.Marks.{IsMarked, AreMarked}
@@ -43,7 +43,7 @@ use Rattle.gf_initial.proofs.SideLaws.{IsSide, side-weak, further-apart, apart-n
 
 -- no monomial of a lift is heavier than its mark
 lifted-heaviest : (n : ℕ) (fs : List Terms) (v a : List ℤ) (h l : MarkedPolynomial) → IsMarked (IsFurther a) h →
-    IsLifted n fs v h l → IsHeaviest v l.poly h.head
+    IsLifted n fs v h l → IsOfGreatestWeight v l.poly h.head
 lifted-heaviest n fs v a h l mark t y m = at (three (whole_weight v h.head) (whole_weight v y))
   where
     at : (whole_weight v h.head <ℤ whole_weight v y) ⊎ ((whole_weight v h.head ≡ whole_weight v y) ⊎ (whole_weight v y <ℤ whole_weight v h.head)) →
@@ -60,7 +60,7 @@ lifted_marked n fs v a h l mark t = record {
   tail = λ x m. subst (λ (z : Exponents). (same x z ≡ true) ⊎ IsBeyond v a x z) (sym t.head) (place x m (three (whole_weight v x) (whole_weight v h.head)));
 }
   where
-    top : IsHeaviest v l.poly h.head
+    top : IsOfGreatestWeight v l.poly h.head
     top = lifted-heaviest n fs v a h l mark t
 
     place : (x : Exponents) → HasMonomial l.poly x →
@@ -91,7 +91,7 @@ lower-form v a h l r o mark lower poly = record {
         none : coefficient r h.head ≡ zero_ℚ
         none = elim (zero_or_not (coefficient r h.head)) [ inl y ↦ y | inr m ↦ absurd (omega (arith, ints, lower h.head m)) ]
 
-    at : (x : Exponents) → IsHeaviest v l.poly x → (coefficient r x ≡ zero_ℚ) ⊎ (coefficient r x ≢ zero_ℚ) → coefficient h.poly x ≡ coefficient l.poly x
+    at : (x : Exponents) → IsOfGreatestWeight v l.poly x → (coefficient r x ≡ zero_ℚ) ⊎ (coefficient r x ≢ zero_ℚ) → coefficient h.poly x ≡ coefficient l.poly x
     at x k (inl z) = sym (level x z)
     at x k (inr m) = absurd (omega (arith, ints, k h.head there, lower x m))
 
