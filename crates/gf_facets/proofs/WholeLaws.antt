@@ -46,8 +46,8 @@ weight-multiple k (a ∷ v) (c ∷ x) = ap (λ z. k *ℤ a *ℤ pos c +ℤ z) (w
 
 -- ---- monomials a multiple apart
 
-scaled : (w x y k a : ℤ) → x ≡ y +ℤ k *ℤ a → w *ℤ x ≡ w *ℤ y +ℤ k *ℤ (a *ℤ w)
-scaled w x y k a h = ap (λ z. w *ℤ z) h ∙ same_number (dv w ⊗ (dv y ⊕ dv k ⊗ dv a)) (dv w ⊗ dv y ⊕ dv k ⊗ (dv a ⊗ dv w)) (omega arith)
+scaled_number : (w x y k a : ℤ) → x ≡ y +ℤ k *ℤ a → w *ℤ x ≡ w *ℤ y +ℤ k *ℤ (a *ℤ w)
+scaled_number w x y k a h = ap (λ z. w *ℤ z) h ∙ same_number (dv w ⊗ (dv y ⊕ dv k ⊗ dv a)) (dv w ⊗ dv y ⊕ dv k ⊗ (dv a ⊗ dv w)) (omega arith)
 
 front_weight : (w : ℤ) (v : List ℤ) (x : Exponents) → whole_weight (w ∷ v) x ≡ w *ℤ pos (entry x 0) +ℤ whole_weight v (rest x)
 unfolding rest
@@ -65,7 +65,7 @@ weight-apart v [] x y k h =
 weight-apart [] (b ∷ a) x y k h = omega (arith, ints, nothing_times k)
 weight-apart (w ∷ v) (b ∷ a) x y k h =
     let r = weight-apart v a (rest x) (rest y) k (λ i. ap pos (entry-rest x i) ∙ h (suc i) ∙ ap (λ z. pos z +ℤ k *ℤ get_or a i (pos 0)) (sym (entry-rest y i))) in
-    omega (arith, ints, front_weight w v x, front_weight w v y, scaled w (pos (entry x 0)) (pos (entry y 0)) k b (h 0), r, *ℤ-+ℤ k (b *ℤ w) (dot a v))
+    omega (arith, ints, front_weight w v x, front_weight w v y, scaled_number w (pos (entry x 0)) (pos (entry y 0)) k b (h 0), r, *ℤ-+ℤ k (b *ℤ w) (dot a v))
 
 -- further along a vector that v is orthogonal to: of the same weight
 pub further-weight : (v a : List ℤ) (x y : Exponents) → dot a v ≡ pos 0 → IsFurther a x y → whole_weight v x ≡ whole_weight v y
