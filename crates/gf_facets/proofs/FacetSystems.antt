@@ -1,7 +1,9 @@
 -- A normal is one of a facet exactly where the system of the other normals, on which it is an equation, has a solution; else
 -- a multiple of it is a combination of the others. With the rows of a region and the unit vectors beside them: flippable.
--- To cite: IsFacetSystem, facet_system, flip_system, point_of_solution, solution_of_point, redundant_of_farkas,
--- not_redundant, facet_or_redundant, facet_not_redundant, flippable_or_redundant, flippable_not_redundant, flippable_or_not.
+-- To cite: IsFacetSystem, facet_system, flip_system, point_of_solution, solution_of_point, redundant_of_farkas, not_redundant;
+-- of a list of normals normal_here, facet_rows_wide, facet_of_solution, solution_of_facet, flippable_of_solution,
+-- solution_of_flippable, flip_rows_wide; facet_or_redundant, facet_not_redundant, flippable_or_redundant,
+-- flippable_not_redundant, flippable_or_not.
 use Rattle.std.specs.Prelude.{◌≡◌, ◌⊎◌, ℕ, zero, suc, ◌<◌, List, [], ◌∷◌, ◌++◌, length, get_or, Contains, All, ℤ, pos, neg_ℤ, ◌+ℤ◌, ◌*ℤ◌, ◌<ℤ◌, ◌≤ℤ◌}
 use Rattle.std.specs.List.{AllByRecursion}
 use Rattle.std.proofs.Common.{arith, refl, sym, ap, ap₂, ◌∙◌, inl, inr}
@@ -26,10 +28,9 @@ use Rattle.gf_facets.specs.Facets.{IsInOpenCone, IsInsideFacet, IsFacet, IsFlipp
 use Rattle.gf_facets.specs.MarkedBases.{AreCanonical}
 use Rattle.gf_facets.proofs.VectorLaws.{plus-zeros}
 use Rattle.gf_facets.proofs.NormalLaws.{normal-length}
-use Rattle.gf_facets.proofs.NormalListLaws.{others_only, others_all}
+use Rattle.gf_facets.proofs.NormalListLaws.{NormalsListed, normals_listed, OthersListed, others_listed, others_only, others_all}
 use Rattle.gf_facets.proofs.ConeLaws.{normals_open}
-use Rattle.gf_facets.proofs.UnitLaws.{units_wide, units_on_positive, positive_by_units}
-use Rattle.gf_facets.proofs.SystemLaws.{contained_all}
+use Rattle.gf_facets.proofs.SystemLaws.{contained_all, region_rows_wide, rows_of_region, region_of_rows}
 
 -- ---- the system of a normal
 
@@ -199,7 +200,37 @@ not_redundant n a v w rows wide q s r = absurd (omega (arith, ints, above, none)
     above : pos 0 <ℤ (r.0 *ℤ dot a w)
     above = 0<-*ℤ r.0 (dot a w) c.positive q
 
--- ---- facets
+-- ---- facets and flippable normals of a list of normals
+
+module _ (n : ℕ) (bs : List MarkedPolynomial) (k : AreCanonical n bs) (ns : List (List ℤ)) (i : ℕ) (m : AreNormals bs ns) (l : i < length ns) where
+  pub normal_here : IsNormal bs (get_or ns i [])
+  normal_here = m.only (get_or ns i []) (i, l, get_or_default ns i _ [] l)
+
+  pub facet_rows_wide : AreRows n (others_of i ns)
+  facet_rows_wide = system_wide n bs (get_or ns i []) [] (others_of i ns) (facet_system bs ns i m l) k (All-nil (λ t. length t ≡ n))
+
+  -- a vector on which the others are positive and the normal is zero is inside its facet
+  pub facet_of_solution : (v : List ℤ) → IsSolution n (others_of i ns) (get_or ns i [] ∷ []) v → IsFacet n bs (get_or ns i [])
+  facet_of_solution v s = record { point = v; width = s.width; inside = (point_of_solution n bs (get_or ns i []) v [] (others_of i ns) (facet_system bs ns i m l) normal_here s).0 }
+
+  pub solution_of_facet : (f : IsFacet n bs (get_or ns i [])) → IsSolution n (others_of i ns) (get_or ns i [] ∷ []) f.point
+  solution_of_facet f = solution_of_point n bs (get_or ns i []) f.point [] (others_of i ns) (facet_system bs ns i m l) f.width f.inside (All-nil (λ t. pos 0 <ℤ dot t f.point))
+
+  module _ (g : Region) where
+    -- and where the region's rows and the unit vectors are positive too, it is one of the region
+    pub flippable_of_solution : (v : List ℤ) → IsSolution n (flip_rows n g ns i) (get_or ns i [] ∷ []) v → IsFlippable n g bs (get_or ns i [])
+    flippable_of_solution v s = at (point_of_solution n bs (get_or ns i []) v (g.rows ++ units n n) (flip_rows n g ns i) (flip_system n g bs ns i m l) normal_here s)
+      where
+        at : IsInsideFacet bs (get_or ns i []) v × All (λ t. pos 0 <ℤ dot t v) (g.rows ++ units n n) → IsFlippable n g bs (get_or ns i [])
+        at p = record { point = v; region = region_of_rows n g v s.width p.1; inside = p.0 }
+
+    pub solution_of_flippable : (f : IsFlippable n g bs (get_or ns i [])) → IsSolution n (flip_rows n g ns i) (get_or ns i [] ∷ []) f.point
+    solution_of_flippable f = solution_of_point n bs (get_or ns i []) f.point (g.rows ++ units n n) (flip_rows n g ns i) (flip_system n g bs ns i m l) f.region.width f.inside (rows_of_region n g f.point f.region)
+
+    pub flip_rows_wide : AreRows n g.rows → AreRows n (flip_rows n g ns i)
+    flip_rows_wide wide = system_wide n bs (get_or ns i []) (g.rows ++ units n n) (flip_rows n g ns i) (flip_system n g bs ns i m l) k (region_rows_wide n g wide)
+
+-- ---- either or, where the open cone has a vector
 
 module _ (n : ℕ) (bs : List MarkedPolynomial) (w : List ℤ) (k : AreCanonical n bs) (o : IsInOpenCone w bs) where
   -- a system of a normal, what is beside it being positive on w, has a solution or makes it redundant
@@ -218,56 +249,60 @@ module _ (n : ℕ) (bs : List MarkedPolynomial) (w : List ℤ) (k : AreCanonical
       at (inr f) = inr (redundant_of_farkas n a w rows f.0 f.1 rows_wide long (rows_by (λ t. pos 0 <ℤ dot t w) bs a beside rows s (λ b h d. normals_open n bs w k o b h) (λ t c. All-contains (λ t. pos 0 <ℤ dot t w) beside t p c)) (normals_open n bs w k o a q) f.2)
 
   module _ (ns : List (List ℤ)) (i : ℕ) (m : AreNormals bs ns) (l : i < length ns) where
-    normal_here : IsNormal bs (get_or ns i [])
-    normal_here = m.only (get_or ns i []) (i, l, get_or_default ns i _ [] l)
+    here_positive : pos 0 <ℤ dot (get_or ns i []) w
+    here_positive = normals_open n bs w k o (get_or ns i []) (normal_here n bs k ns i m l)
 
     pub facet_or_redundant : IsFacet n bs (get_or ns i []) ⊎ IsRedundant n (others_of i ns) (get_or ns i [])
-    facet_or_redundant = at (solvable_or_redundant (get_or ns i []) [] (others_of i ns) (facet_system bs ns i m l) normal_here (All-nil (λ t. length t ≡ n)) (All-nil (λ t. pos 0 <ℤ dot t w)))
+    facet_or_redundant = at (solvable_or_redundant (get_or ns i []) [] (others_of i ns) (facet_system bs ns i m l) (normal_here n bs k ns i m l) (All-nil (λ t. length t ≡ n)) (All-nil (λ t. pos 0 <ℤ dot t w)))
       where
         at : IsSolvable n (others_of i ns) (get_or ns i [] ∷ []) ⊎ IsRedundant n (others_of i ns) (get_or ns i []) → IsFacet n bs (get_or ns i []) ⊎ IsRedundant n (others_of i ns) (get_or ns i [])
-        at (inl v) = inl (record { point = v.0; width = v.1.width; inside = (point_of_solution n bs (get_or ns i []) v.0 [] (others_of i ns) (facet_system bs ns i m l) normal_here v.1).0 })
+        at (inl v) = inl (facet_of_solution n bs k ns i m l v.0 v.1)
         at (inr r) = inr r
 
     pub facet_not_redundant : IsFacet n bs (get_or ns i []) → IsRedundant n (others_of i ns) (get_or ns i []) → ⊥
-    facet_not_redundant f r = not_redundant n (get_or ns i []) f.point w (others_of i ns) (system_wide n bs (get_or ns i []) [] (others_of i ns) (facet_system bs ns i m l) k (All-nil (λ t. length t ≡ n)))
-        (normals_open n bs w k o (get_or ns i []) normal_here) (solution_of_point n bs (get_or ns i []) f.point [] (others_of i ns) (facet_system bs ns i m l) f.width f.inside (All-nil (λ t. pos 0 <ℤ dot t f.point))) r
+    facet_not_redundant f r = not_redundant n (get_or ns i []) f.point w (others_of i ns) (facet_rows_wide n bs k ns i m l) here_positive (solution_of_facet n bs k ns i m l f) r
 
-    -- ---- flippable normals
+    pub flippable_or_redundant : (g : Region) → AreRows n g.rows → IsInRegion n g w → IsFlippable n g bs (get_or ns i []) ⊎ IsRedundant n (flip_rows n g ns i) (get_or ns i [])
+    flippable_or_redundant g wide r = at (solvable_or_redundant (get_or ns i []) (g.rows ++ units n n) (flip_rows n g ns i) (flip_system n g bs ns i m l) (normal_here n bs k ns i m l) (region_rows_wide n g wide) (rows_of_region n g w r))
+      where
+        at : IsSolvable n (flip_rows n g ns i) (get_or ns i [] ∷ []) ⊎ IsRedundant n (flip_rows n g ns i) (get_or ns i []) → IsFlippable n g bs (get_or ns i []) ⊎ IsRedundant n (flip_rows n g ns i) (get_or ns i [])
+        at (inl v) = inl (flippable_of_solution n bs k ns i m l g v.0 v.1)
+        at (inr c) = inr c
 
-    module _ (g : Region) (wide : AreRows n g.rows) where
-      beside_wide : AreRows n (g.rows ++ units n n)
-      beside_wide = contained_all (λ t. length t ≡ n) (g.rows ++ units n n) (λ t c. elim (Contains-append_cases g.rows (units n n) t c) [ inl d ↦ All-contains (λ t. length t ≡ n) g.rows t wide d | inr d ↦ units_wide n n t d ])
+    pub flippable_not_redundant : (g : Region) → AreRows n g.rows → IsFlippable n g bs (get_or ns i []) → IsRedundant n (flip_rows n g ns i) (get_or ns i []) → ⊥
+    flippable_not_redundant g wide f r = not_redundant n (get_or ns i []) f.point w (flip_rows n g ns i) (flip_rows_wide n bs k ns i m l g wide) here_positive (solution_of_flippable n bs k ns i m l g f) r
 
-      beside_positive : (v : List ℤ) → IsInRegion n g v → All (λ t. pos 0 <ℤ dot t v) (g.rows ++ units n n)
-      beside_positive v r = contained_all (λ t. pos 0 <ℤ dot t v) (g.rows ++ units n n) (λ t c. elim (Contains-append_cases g.rows (units n n) t c) [ inl d ↦ All-contains (λ t. pos 0 <ℤ dot t v) g.rows t r.rows d | inr d ↦ units_on_positive n v r.width r.positive t d ])
+-- ---- whether a normal is flippable
 
-      -- a solution is a vector of the region inside the facet
-      pub flippable_of_solution : (v : List ℤ) → IsSolution n (flip_rows n g ns i) (get_or ns i [] ∷ []) v → IsFlippable n g bs (get_or ns i [])
-      flippable_of_solution v s = at (point_of_solution n bs (get_or ns i []) v (g.rows ++ units n n) (flip_rows n g ns i) (flip_system n g bs ns i m l) normal_here s)
-        where
-          at : IsInsideFacet bs (get_or ns i []) v × All (λ t. pos 0 <ℤ dot t v) (g.rows ++ units n n) → IsFlippable n g bs (get_or ns i [])
-          at p = record {
-            point = v;
-            region = record {
-              width = s.width;
-              positive = positive_by_units n v s.width (λ t c. All-contains (λ t. pos 0 <ℤ dot t v) (g.rows ++ units n n) t p.1 (Contains-append_right g.rows (units n n) t c));
-              rows = contained_all (λ t. pos 0 <ℤ dot t v) g.rows (λ t c. All-contains (λ t. pos 0 <ℤ dot t v) (g.rows ++ units n n) t p.1 (Contains-append_left g.rows (units n n) t c));
-            };
-            inside = p.0;
-          }
+-- is decided
+pub flippable_or_not : (n : ℕ) (g : Region) (bs : List MarkedPolynomial) (a : List ℤ) → AreRows n g.rows → AreCanonical n bs → IsNormal bs a →
+    IsFlippable n g bs a ⊎ (IsFlippable n g bs a → ⊥)
+flippable_or_not n g bs a wide k q = at (normals_listed bs)
+  where
+    at : NormalsListed bs → IsFlippable n g bs a ⊎ (IsFlippable n g bs a → ⊥)
+    at ls = with_others (others_listed ls.list a)
+      where
+        with_others : OthersListed ls.list a → IsFlippable n g bs a ⊎ (IsFlippable n g bs a → ⊥)
+        with_others r = decide (alternative.one n rows (a ∷ []) rows_wide one)
+          where
+            rows : List (List ℤ)
+            rows = r.list ++ (g.rows ++ units n n)
 
-      pub solution_of_flippable : (f : IsFlippable n g bs (get_or ns i [])) → IsSolution n (flip_rows n g ns i) (get_or ns i [] ∷ []) f.point
-      solution_of_flippable f = solution_of_point n bs (get_or ns i []) f.point (g.rows ++ units n n) (flip_rows n g ns i) (flip_system n g bs ns i m l) f.region.width f.inside (beside_positive f.point f.region)
+            s : IsFacetSystem bs a (g.rows ++ units n n) (r.list ++ (g.rows ++ units n n))
+            s = record {
+              only = λ t c. elim (Contains-append_cases r.list (g.rows ++ units n n) t c) [ inl d ↦ (let e = r.only t d in inl (ls.only t e.0, e.1)) | inr d ↦ inr d ];
+              normals = λ b h e. Contains-append_left r.list (g.rows ++ units n n) b (r.all b (ls.all b h) e);
+              others = λ t c. Contains-append_right r.list (g.rows ++ units n n) t c;
+            }
 
-      pub flip_rows_wide : AreRows n (flip_rows n g ns i)
-      flip_rows_wide = system_wide n bs (get_or ns i []) (g.rows ++ units n n) (flip_rows n g ns i) (flip_system n g bs ns i m l) k beside_wide
+            rows_wide : AreRows n (r.list ++ (g.rows ++ units n n))
+            rows_wide = system_wide n bs a (g.rows ++ units n n) (r.list ++ (g.rows ++ units n n)) s k (region_rows_wide n g wide)
 
-      pub flippable_or_redundant : IsInRegion n g w → IsFlippable n g bs (get_or ns i []) ⊎ IsRedundant n (flip_rows n g ns i) (get_or ns i [])
-      flippable_or_redundant r = at (solvable_or_redundant (get_or ns i []) (g.rows ++ units n n) (flip_rows n g ns i) (flip_system n g bs ns i m l) normal_here beside_wide (beside_positive w r))
-        where
-          at : IsSolvable n (flip_rows n g ns i) (get_or ns i [] ∷ []) ⊎ IsRedundant n (flip_rows n g ns i) (get_or ns i []) → IsFlippable n g bs (get_or ns i []) ⊎ IsRedundant n (flip_rows n g ns i) (get_or ns i [])
-          at (inl v) = inl (flippable_of_solution v.0 v.1)
-          at (inr c) = inr c
+            one : AreRows n (a ∷ [])
+            one = one_row (λ t. length t ≡ n) a (normal-length n bs a k q)
 
-      pub flippable_not_redundant : IsFlippable n g bs (get_or ns i []) → IsRedundant n (flip_rows n g ns i) (get_or ns i []) → ⊥
-      flippable_not_redundant f r = not_redundant n (get_or ns i []) f.point w (flip_rows n g ns i) flip_rows_wide (normals_open n bs w k o (get_or ns i []) normal_here) (solution_of_flippable f) r
+            decide : IsSolvable n (r.list ++ (g.rows ++ units n n)) (a ∷ []) ⊎ IsRefutable n (r.list ++ (g.rows ++ units n n)) (a ∷ []) → IsFlippable n g bs a ⊎ (IsFlippable n g bs a → ⊥)
+            decide (inl v) = let p = point_of_solution n bs a v.0 (g.rows ++ units n n) (r.list ++ (g.rows ++ units n n)) s q v.1 in
+                inl (record { point = v.0; region = region_of_rows n g v.0 v.1.width p.1; inside = p.0 })
+            decide (inr f) = inr (λ h. alternative.not_both n (r.list ++ (g.rows ++ units n n)) (a ∷ []) rows_wide one
+                (h.point, solution_of_point n bs a h.point (g.rows ++ units n n) (r.list ++ (g.rows ++ units n n)) s h.region.width h.inside (rows_of_region n g h.point h.region)) f)

@@ -19,8 +19,7 @@ use Rattle.gf_facets.proofs.PrimitiveLaws.{proportional_equal}
 use Rattle.gf_facets.proofs.NormalLaws.{normal-length, normal-primitive, normal-nonzero}
 use Rattle.gf_facets.proofs.NormalListLaws.{NormalsListed, normals_listed}
 use Rattle.gf_facets.proofs.ConeLaws.{normals_open}
-use Rattle.gf_facets.proofs.UnitLaws.{units_wide, units_on_positive, positive_by_units}
-use Rattle.gf_facets.proofs.SystemLaws.{contained_all}
+use Rattle.gf_facets.proofs.SystemLaws.{contained_all, region_rows_wide, rows_of_region, region_of_rows}
 use Rattle.gf_facets.proofs.PointsByLex.{solvable_by_lex}
 use Rattle.gf_facets.proofs.TurningLaws.{turned, turned-linear, turned-self, turned_cases, turned_trans, turned_negative, turned_far, turned_beyond}
 
@@ -167,28 +166,7 @@ crossed_first n bs w r b rows k o wide here there q neg = at (normals_listed bs)
 pub flippable_towards_root : (n : ℕ) (k : Region) (bs : List MarkedPolynomial) (w b : List ℤ) → IsRegion n k → AreCanonical n bs →
     IsInRegion n k w → IsInOpenCone w bs → IsNormal bs b → IsNegative k.root b →
     (a : List ℤ) × IsFlippable n k bs a × IsNegative k.root a
-flippable_towards_root n k bs w b kr c iw o q neg = at (crossed_first n bs w k.root b rows c o widths (on w iw) (on k.root kr.root) q neg)
+flippable_towards_root n k bs w b kr c iw o q neg = at (crossed_first n bs w k.root b (k.rows ++ units n n) c o (region_rows_wide n k kr.widths) (rows_of_region n k w iw) (rows_of_region n k k.root kr.root) q neg)
   where
-    rows : List (List ℤ)
-    rows = k.rows ++ units n n
-
-    widths : AreRows n (k.rows ++ units n n)
-    widths = All-append (λ t. length t ≡ n) k.rows (units n n) kr.widths (contained_all (λ t. length t ≡ n) (units n n) (units_wide n n))
-
-    on : (v : List ℤ) → IsInRegion n k v → All (λ t. pos 0 <ℤ dot t v) (k.rows ++ units n n)
-    on v i = All-append (λ t. pos 0 <ℤ dot t v) k.rows (units n n) i.rows (contained_all (λ t. pos 0 <ℤ dot t v) (units n n) (units_on_positive n v i.width i.positive))
-
     at : CrossedFirst n bs k.root (k.rows ++ units n n) b → (a : List ℤ) × IsFlippable n k bs a × IsNegative k.root a
-    at f = (
-      f.normal,
-      record {
-        point = f.point;
-        region = record {
-          width = f.width;
-          positive = positive_by_units n f.point f.width (λ t i. All-contains (λ t. pos 0 <ℤ dot t f.point) (k.rows ++ units n n) t f.rows_positive (Contains-append_right k.rows (units n n) t i));
-          rows = contained_all (λ t. pos 0 <ℤ dot t f.point) k.rows (λ t i. All-contains (λ t. pos 0 <ℤ dot t f.point) (k.rows ++ units n n) t f.rows_positive (Contains-append_left k.rows (units n n) t i));
-        };
-        inside = f.inside;
-      },
-      f.negative,
-    )
+    at f = (f.normal, record { point = f.point; region = region_of_rows n k f.point f.width f.rows_positive; inside = f.inside }, f.negative)

@@ -1,8 +1,8 @@
 -- Normals and monomials: a vector inside a facet is one by which each unmarked monomial is lighter, or further along the
 -- negated normal; and back.
--- To cite: IsNormalOf, normal_of, normal-length, normal-primitive, normal-nonzero, normal_from, row-further, beyond_of_inside,
+-- To cite: IsNormalOf, normal_of, normal_of_monomial, normal-length, normal-primitive, normal-nonzero, row-further, beyond_of_inside,
 -- HasFurther, inside_of_beyond.
-use Rattle.std.specs.Prelude.{◌≡◌, ◌⊎◌, ℕ, zero, suc, ◌<◌, ◌≤◌, true, false, List, length, get_or, Contains, ℤ, pos, negsuc, neg_ℤ, ◌-ℤ◌, ◌*ℤ◌, ◌<ℤ◌}
+use Rattle.std.specs.Prelude.{◌≡◌, ◌⊎◌, ℕ, zero, suc, ◌<◌, ◌≤◌, true, false, List, length, get_or, Contains, ℤ, pos, negsuc, neg_ℤ, ◌+ℤ◌, ◌-ℤ◌, ◌*ℤ◌, ◌<ℤ◌}
 use Rattle.std.proofs.Common.{arith, refl, sym, ap, ◌∙◌, subst, inl, inr}
 use Rattle.std.proofs.lemmas.Int.{ints}
 use Rattle.gf_int.specs.Content.{IsPrimitive, scaled}
@@ -22,7 +22,7 @@ use Rattle.gf_ideal.specs.Membership.{HasMonomial}
 use Rattle.gf_ideal.specs.Marks.{AreMarked}
 use Rattle.gf_facets.specs.Rows.{differences, IsNormal, negated}
 use Rattle.gf_facets.specs.Facets.{IsInsideFacet}
-use Rattle.gf_facets.specs.Beyond.{IsFurther, IsBeyond}
+use Rattle.gf_facets.specs.Beyond.{IsStepsFrom, IsFurther, IsBeyond}
 use Rattle.gf_facets.specs.MarkedBases.{AreCanonical}
 use Rattle.gf_facets.proofs.VectorLaws.{IsNonzero, vectors_by_entries, get-times, get-negated, length-negated, dot-negated, vector_or_not}
 use Rattle.gf_facets.proofs.PrimitiveLaws.{primitive_part, primitive_of, negated-primitive, multiple_divided, primitive_unique, divided-entry}
@@ -41,13 +41,21 @@ pub record IsNormalOf (n : ℕ) (bs : List MarkedPolynomial) (a : List ℤ) : Ty
   pub is_row : List ℤ
   pub row : is_row ≡ differences member.head at
   pub part : IsPrimitivePart is_row a
+  pub steps : ℕ
+  pub some : 0 < steps
+  pub apart : IsStepsFrom steps a at member.head
+
+-- the row of x and y is k times a: x is y and k times a
+row-steps : (x y : Exponents) (a : List ℤ) (k : ℕ) → length x ≡ length y →
+    ((i : ℕ) → get_or (differences x y) i (pos 0) ≡ pos k *ℤ get_or a i (pos 0)) → IsStepsFrom k a y x
+row-steps x y a k e h i = omega (arith, ints, h i, get-differences x y i e)
 
 pub normal_of : (n : ℕ) (bs : List MarkedPolynomial) (a : List ℤ) →
     AreCanonical n bs → IsNormal bs a → IsNormalOf n bs a
-normal_of n bs a k p =
-    let b = row-from bs p.0 p.1 in
-    let t = b.2 in
-    record {
+normal_of n bs a k p = at (row-from bs p.0 p.1)
+  where
+    at : ((b : MarkedPolynomial) × Contains bs b × IsTermRow b.head b.poly p.0) → IsNormalOf n bs a
+    at b = record {
       member = b.0;
       contained = b.1;
       at = t.term.mono;
@@ -57,7 +65,34 @@ normal_of n bs a k p =
       is_row = p.0;
       row = t.row;
       part = p.2;
+      steps = d.0;
+      some = d.1;
+      apart = row-steps b.0.head t.term.mono a d.0 ((k b.0 b.1).head ∙ sym (term_length n b.0.poly t.term (k b.0 b.1).variables t.inside)) (λ i. ap (λ (z : List ℤ). get_or z i (pos 0)) (sym t.row) ∙ d.3 i);
     }
+      where
+        t : IsTermRow b.0.head b.0.poly p.0
+        t = b.2
+
+        d : (k : ℕ) × (0 < k) × (times (pos k) a ≡ p.0) × ((i : ℕ) → get_or p.0 i (pos 0) ≡ pos k *ℤ get_or a i (pos 0))
+        d = divided-entry p.0 a p.2
+
+-- each unmarked monomial gives a normal, some times which it lies below the mark
+pub normal_of_monomial : (n : ℕ) (bs : List MarkedPolynomial) (b : MarkedPolynomial) (x : Exponents) → AreCanonical n bs → Contains bs b →
+    HasMonomial b.poly x → same x b.head ≡ false → (a : List ℤ) × IsNormal bs a × ((j : ℕ) × (0 < j) × IsStepsFrom j a x b.head)
+normal_of_monomial n bs b x k c m u = at (term_of b.poly x m)
+  where
+    at : ((t : Term) × Contains b.poly t × (same x t.mono ≡ true)) → (a : List ℤ) × IsNormal bs a × ((j : ℕ) × (0 < j) × IsStepsFrom j a x b.head)
+    at t = elim (same_or_other b.head t.0.mono) [
+      | inl s ↦ absurd (let v : same x b.head ≡ true = same_trans x t.0.mono b.head t.2 (same_flip b.head t.0.mono s) in cc)
+      | inr o ↦ found o (primitive_part (differences b.head t.0.mono))
+    ]
+      where
+        found : same b.head t.0.mono ≡ false → ((a : List ℤ) × IsPrimitivePart (differences b.head t.0.mono) a) →
+            (a : List ℤ) × IsNormal bs a × ((j : ℕ) × (0 < j) × IsStepsFrom j a x b.head)
+        found o p =
+            let d = divided-entry (differences b.head t.0.mono) p.0 p.1 in
+            let s = row-steps b.head t.0.mono p.0 d.0 ((k b c).head ∙ sym (term_length n b.poly t.0 (k b c).variables t.1)) d.3 in
+            (p.0, (differences b.head t.0.mono, row-in bs b t.0 c t.1 o, p.1), (d.0, d.1, λ i. s i ∙ ap (λ z. pos z +ℤ pos d.0 *ℤ get_or p.0 i (pos 0)) (sym (entries_same x t.0.mono t.2 i))))
 
 -- a normal has n entries
 pub normal-length : (n : ℕ) (bs : List MarkedPolynomial) (a : List ℤ) →

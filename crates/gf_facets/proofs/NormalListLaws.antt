@@ -1,6 +1,6 @@
 -- The normals of a marked list can be listed; in an ascending list, the others of one are the rest.
--- To cite: NormalsListed, normals_listed, others_only, others_all.
-use Rattle.std.specs.Prelude.{◌≡◌, ℕ, zero, suc, ◌<◌, List, [], ◌∷◌, length, get_or, Contains, ℤ}
+-- To cite: NormalsListed, normals_listed, OthersListed, others_listed, others_only, others_all.
+use Rattle.std.specs.Prelude.{◌≡◌, ◌⊎◌, ℕ, zero, suc, ◌<◌, List, [], ◌∷◌, length, get_or, Contains, ℤ}
 use Rattle.std.proofs.Common.{arith, sym, ◌∙◌, subst, inl, inr}
 use Rattle.std.proofs.lemmas.List.{get_or_default}
 use Rattle.gf_vec.specs.Primitive.{IsPrimitivePart}
@@ -9,6 +9,7 @@ use Rattle.gf_ideal.proofs.ListLaws.{Contains-here, Contains-there, Contains-cas
 use Rattle.gf_facets.specs.Rows.{rows_of, IsNormal}
 use Rattle.gf_facets.specs.LexPositive.{IsBefore}
 use Rattle.gf_facets.specs.Normals.{Ascends, others_of}
+use Rattle.gf_facets.proofs.VectorLaws.{vector_or_not}
 use Rattle.gf_facets.proofs.PrimitiveLaws.{primitive_part, primitive_unique}
 use Rattle.gf_facets.proofs.VectorOrder.{before_strict}
 
@@ -48,6 +49,32 @@ normals_listed bs = let r = parts_listed (rows_of bs) in record { list = r.list;
 
 -- ---- the others of one
 
+-- those of a list that aren't a
+pub record OthersListed (ns : List (List ℤ)) (a : List ℤ) : Type 0 where
+  pub list : List (List ℤ)
+  pub only : (b : List ℤ) → Contains list b → Contains ns b × (b ≡ a → ⊥)
+  pub all : (b : List ℤ) → Contains ns b → (b ≡ a → ⊥) → Contains list b
+
+pub others_listed : (ns : List (List ℤ)) (a : List ℤ) → OthersListed ns a
+others_listed [] a = record { list = []; only = λ b c. absurd (omega (arith, c.1)); all = λ b c n. c }
+others_listed (b ∷ ns) a = at (others_listed ns a) (vector_or_not b a)
+  where
+    at : OthersListed ns a → (b ≡ a) ⊎ (b ≡ a → ⊥) → OthersListed (b ∷ ns) a
+    at r (inl e) = record {
+      list = r.list;
+      only = λ c k. (Contains-there b c ns (r.only c k).0, (r.only c k).1);
+      all = λ c k n. elim (Contains-cases b c ns k) [ inl f ↦ absurd (n (sym f ∙ e)) | inr l ↦ r.all c l n ];
+    }
+    at r (inr m) = record {
+      list = b ∷ r.list;
+      only = λ c k. elim (Contains-cases b c r.list k) [
+        | inl f ↦ (subst (Contains (b ∷ ns)) f (Contains-here b ns), λ e. m (f ∙ e))
+        | inr l ↦ (Contains-there b c ns (r.only c l).0, (r.only c l).1)
+      ];
+      all = λ c k n. elim (Contains-cases b c ns k) [ inl f ↦ subst (Contains (b ∷ r.list)) f (Contains-here b r.list) | inr l ↦ Contains-there b c r.list (r.all c l n) ];
+    }
+
+-- those of an ascending list that aren't at a place
 pub others_only : (ns : List (List ℤ)) (i : ℕ) (b : List ℤ) → Ascends ns → i < length ns → Contains (others_of i ns) b →
     Contains ns b × (b ≡ get_or ns i [] → ⊥)
 others_only [] i b h l c = absurd (omega arith)

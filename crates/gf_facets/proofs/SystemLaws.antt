@@ -1,13 +1,13 @@
 -- The system of a marked list: its solutions are the vectors of the open cone that are positive, and these are the positive
 -- weights that give the marks. So whether a region has such a vector is decided.
--- To cite: contained_all, system_wide, solution_of_inside, inside_of_solution, HasVector, vector_or_none,
+-- To cite: contained_all, region_rows_wide, rows_of_region, region_of_rows, all_positive-region, system_wide, solution_of_inside, inside_of_solution, HasVector, vector_or_none,
 -- marks_of_open, open_of_marks, whole_of, length-whole, whole-in_region, whole-weight, open_of_weight, positive_or_none,
 -- solvable_of_realisable, realisable_of_solution, marked_system_wide.
-use Rattle.std.specs.Prelude.{◌≡◌, ◌⊎◌, ℕ, zero, suc, ◌<◌, true, List, [], ◌∷◌, ◌++◌, length, get_or, Contains, All, ℤ, pos, ◌<ℤ◌}
+use Rattle.std.specs.Prelude.{◌≡◌, ◌⊎◌, ℕ, zero, suc, ◌<◌, true, List, [], ◌∷◌, ◌++◌, length, get_or, replicate, Contains, All, ℤ, pos, ◌<ℤ◌}
 use Rattle.std.proofs.Common.{arith, refl, sym, ap, ◌∙◌, inl, inr}
 use Rattle.std.proofs.lemmas.Int.{ints}
 use Rattle.std.proofs.lemmas.List.{get_or_default}
-use Rattle.std.proofs.lemmas.List.Elements.{All-nil, All-contains, Contains-append_left, Contains-append_right, Contains-append_cases}
+use Rattle.std.proofs.lemmas.List.Elements.{All-nil, All-contains, All-append, All-replicate, Contains-append_left, Contains-append_right, Contains-append_cases}
 use Rattle.gf_vec.specs.Vector.{dot}
 use Rattle.gf_gordan.specs.Alternative.{AreRows, IsSolution, IsSolvable, IsRefutable}
 use Rattle.gf_gordan.proofs.ExistenceLaws.{alternative}
@@ -27,7 +27,7 @@ use Rattle.gf_ideal.proofs.KeptForms.{marked_there, canonical_marked}
 use Rattle.gf_ideal.proofs.MarkWeights.{realised_of_marked}
 use Rattle.gf_facets.specs.Rows.{rows_of}
 use Rattle.gf_facets.specs.Systems.{units, system_of}
-use Rattle.gf_facets.specs.Regions.{Region, IsInRegion, all_positive}
+use Rattle.gf_facets.specs.Regions.{Region, IsRegion, IsInRegion, all_positive}
 use Rattle.gf_facets.specs.Facets.{IsInOpenCone}
 use Rattle.gf_facets.specs.MarkedBases.{AreCanonical}
 use Rattle.gf_facets.proofs.RowLaws.{IsTermRow, row-from, length-differences, term_length}
@@ -40,6 +40,34 @@ use Rattle.gf_facets.proofs.RegionLaws.{region-natural, region-positive}
 -- what holds of each that is contained holds of all
 pub contained_all : {X : Type 0} (P : X → Type 0) (xs : List X) → ((x : X) → Contains xs x → P x) → All P xs
 contained_all P xs h k d l = h (get_or xs k d) (k, l, get_or_default xs k _ d l)
+
+-- ---- the rows of a region, and the unit vectors
+
+pub region_rows_wide : (n : ℕ) (k : Region) → AreRows n k.rows → AreRows n (k.rows ++ units n n)
+region_rows_wide n k wide = All-append (λ t. length t ≡ n) k.rows (units n n) wide (contained_all (λ t. length t ≡ n) (units n n) (units_wide n n))
+
+-- they are positive on the vectors of the region
+pub rows_of_region : (n : ℕ) (k : Region) (v : List ℤ) → IsInRegion n k v → All (λ t. pos 0 <ℤ dot t v) (k.rows ++ units n n)
+rows_of_region n k v r = All-append (λ t. pos 0 <ℤ dot t v) k.rows (units n n) r.rows (contained_all (λ t. pos 0 <ℤ dot t v) (units n n) (units_on_positive n v r.width r.positive))
+
+-- and on no others
+pub region_of_rows : (n : ℕ) (k : Region) (v : List ℤ) → length v ≡ n → All (λ t. pos 0 <ℤ dot t v) (k.rows ++ units n n) → IsInRegion n k v
+region_of_rows n k v e h = record {
+  width = e;
+  positive = positive_by_units n v e (λ t c. All-contains (λ t. pos 0 <ℤ dot t v) (k.rows ++ units n n) t h (Contains-append_right k.rows (units n n) t c));
+  rows = contained_all (λ t. pos 0 <ℤ dot t v) k.rows (λ t c. All-contains (λ t. pos 0 <ℤ dot t v) (k.rows ++ units n n) t h (Contains-append_left k.rows (units n n) t c));
+}
+
+-- all positive vectors are a region
+pub all_positive-region : (n : ℕ) → IsRegion n (all_positive n)
+all_positive-region n = record {
+  widths = All-nil (λ t. length t ≡ n);
+  root = record { width = ones n; positive = All-replicate (λ x. pos 0 <ℤ x) n (pos 1) (omega (arith, ints)); rows = All-nil (λ c. pos 0 <ℤ dot c (replicate n (pos 1))) };
+}
+  where
+    ones : (n : ℕ) → length (replicate n (pos 1)) ≡ n
+    ones zero = refl
+    ones (suc n) = ap suc (ones n)
 
 -- ---- the system
 
