@@ -73,7 +73,7 @@ normal_of n bs a k p = at (row-from bs p.0 p.1)
         t : IsTermRow b.0.head b.0.poly p.0
         t = b.2
 
-        d : (k : ℕ) × (0 < k) × (times (pos k) a ≡ p.0) × ((i : ℕ) → get_or p.0 i (pos 0) ≡ pos k *ℤ get_or a i (pos 0))
+        d : (k : ℕ) × (0 < k) × (scaled (pos k) a ≡ p.0) × ((i : ℕ) → get_or p.0 i (pos 0) ≡ pos k *ℤ get_or a i (pos 0))
         d = divided-entry p.0 a p.2
 
 -- each unmarked monomial gives a normal, some times which it lies below the mark

@@ -9,7 +9,8 @@ use Rattle.gf_text.specs.declared.error.Cause.TheVariants.{Ended, Unexpected, Re
 use Rattle.gf_text.specs.declared.ring_reader.RingPlace.TheVariants as at
 use Rattle.gf_text.specs.Machine.{Move, go, done, halt, after, Reads, HasOneMeaning}
 use Rattle.gf_text.specs.Rings.{IsRingRead}
-use Rattle.gf_text.specs.RingText.{is_name, has, AreNew, IsRingText, ring_tokens, more_names, letter_q, bracket, comma, bracket_end, RingState, ring_step, ring_at, ring_words, RingsAreReadAgain}
+use Rattle.gf_text.specs.RingText.{is_name, has, AreNew, IsRingText, ring_tokens, more_names, letter_q, RingState, ring_step, ring_at, ring_words, RingsAreReadAgain}
+use Rattle.gf_text.specs.Marks.{bracket, comma, bracket_end}
 use Rattle.gf_text.specs.Tokens.{is_space, is_name_byte, lexemes, word_more}
 use Rattle.gf_text.proofs.MachineLaws.{after-go, after-done, first, not_yet, reads, is_read, one_meaning, IsMachineOf}
 use Rattle.gf_text.proofs.SpelledLaws.{IsToken, IsSpelled, goes_on, spelled-none, spelled-token, spelled-++, spelled-read, word_token}
@@ -297,7 +298,7 @@ ring_is_read source from names place r = is_read ring_step IsRingText (at.Letter
 pub ring_read : (source : List ℕ) (from : ℕ) (names : Names) (place : ℕ) → ring_at source from ≡ Ok (names, place) → length names ≤ 16 → IsRingRead (record { source = source; at = from }) place names
 ring_read source from names place e few =
     let r = ring_reads source from names place e in
-    record { read = e; text = r; ring = record { some = r.text.some; few = few; different = r.text.different } }
+    record { text = r; ring = record { some = r.text.some; few = few; different = r.text.different } }
 
 pub one_ring : HasOneMeaning IsRingText
 one_ring = one_meaning ring_step IsRingText (at.Letter, []) ring_given

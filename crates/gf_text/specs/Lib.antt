@@ -1,13 +1,13 @@
 pub mod Machine  -- machines that read tokens, and the places of faults
 pub mod Refusing  -- what a fault is refused as
 pub mod Tokens  -- white space, the tokens of a text
-pub mod Matching  -- names that are looked for at the places of a source
+pub mod Marks  -- the tokens of a single byte
+pub mod ListText  -- lists: grammar, machine
 pub mod RingText  -- rings: grammar, machine, printed text
+pub mod Kinds  -- of which kind a fault at a token is
 pub mod RingKinds  -- of which kind a fault of a ring is
 pub mod SetText  -- sets of polynomials: grammar, machine
-pub mod SetKinds  -- of which kind a fault of a set is
 pub mod VectorText  -- vectors: grammar, machine
-pub mod VectorKinds  -- of which kind a fault of a vector is
 pub mod Limits  -- what a text may say
 pub mod Combining  -- products of powers, sums of terms, the marked term
 pub mod WrittenText  -- the tokens by which a set is said

@@ -4,6 +4,7 @@
 use Rattle.std.specs.Prelude.{◌≡◌, ℕ, ◌≤◌, ◌<◌, Bool, true, false, ◌&&◌, List, [], ◌∷◌, ◌++◌, length, bytes_eq, flat_map, if◌then◌else◌, Result, Ok, ◌+◌}
 use Rattle.std.specs.List.{list_any, list_all}
 use Rattle.gf_text.specs.Machine.{Move, go, done, halt, Fault, run}
+use Rattle.gf_text.specs.Marks.{bracket, comma, bracket_end}
 use Rattle.gf_text.specs.Tokens.{is_letter, is_name_byte, lexemes, word_more}
 use Rattle.gf_text.specs.declared.error.Cause.TheVariants as cause
 use Rattle.gf_text.specs.declared.ring_reader.RingPlace.{RingPlace}
@@ -33,15 +34,6 @@ pub record IsRing (names : List (List ℕ)) : Type 0 where
 
 abbrev pub letter_q : List ℕ
 letter_q = 81 ∷ []
-
-abbrev pub bracket : List ℕ
-bracket = 91 ∷ []
-
-abbrev pub comma : List ℕ
-comma = 44 ∷ []
-
-abbrev pub bracket_end : List ℕ
-bracket_end = 93 ∷ []
 
 -- a comma and a name, for each name
 abbrev pub more_names : List (List ℕ) → List (List ℕ)

@@ -5,7 +5,7 @@ ghost use Rattle.gf_text.specs.RingText.{ring_text, names_text, RingsAreReadAgai
 ghost use Rattle.gf_text.specs.Machine.{HasOneMeaning};
 ghost use Rattle.gf_text.specs.PrintedSets.{polynomial_text, basis_text};
 ghost use Rattle.gf_text.specs.Sets.{IsIn};
-ghost use Rattle.gf_text.specs.WrittenText.{SetsHaveOneMeaning, SetsAreReadInOneWay, SetsAreReadAgain, BasesAreReadAgain, IsTermInRange, AreInRange, IsKept, IsWrittenKept, AreKept};
+ghost use Rattle.gf_text.specs.WrittenText.{SetsHaveOneMeaning, SetsAreReadInOneWay, SetsAreReadAgain, BasesAreReadAgain, IsTermInRange, AreInRange, IsKeptMarked, IsWrittenKept, AreKept};
 
 use crate::names::{Name, Ring};
 use crate::set_printer::{push_marked, push_members};
@@ -129,7 +129,7 @@ fn terms_are_in_range(terms: &[Term])
 
 /// A marked polynomial is one of those of which `sets_are_read_again` speaks.
 fn marked_is_kept(marked: &Marked)
-    ensures { (n : ℕ) → HasVariables n marked.now.poly → IsKept n marked.now }
+    ensures { (n : ℕ) → HasVariables n marked.now.poly → IsKeptMarked n marked.now }
 {
     let _head = marked.head();
     terms_are_in_range(marked.poly().terms());

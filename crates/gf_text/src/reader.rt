@@ -1,9 +1,9 @@
 //! A reader of rings, sets of polynomials and vectors.
 ghost use Rattle.std.specs.Prelude.{◌≡◌, length, IfOk, IfErr, OnOk, OnErr};
-ghost use Rattle.gf_text.specs.Tokens.{IsBlank, IsMore, rest};
+ghost use Rattle.gf_text.specs.Tokens.{IsBlank, HasMoreText, rest};
 ghost use Rattle.gf_text.specs.TokensRead.{IsTokenRead, IsTokenCause};
 ghost use Rattle.gf_text.specs.Rings.{IsRingRead, IsRingCause};
-ghost use Rattle.gf_text.specs.Vectors.{IsVectorRead, IsVectorCause, AreWithin};
+ghost use Rattle.gf_text.specs.Vectors.{IsVectorRead, IsVectorCause, AreEntriesWithin};
 ghost use Rattle.gf_text.specs.Sets.{IsSetRead, IsSetCause, IsMarkedRead, IsMarkedCause, AreIn};
 
 use crate::error::{Cause, Kind, Syntax, TextError, refused_at};
@@ -84,10 +84,7 @@ impl<'a> Reader<'a> {
         ensures source { self.new.source ≡ self.old.source }
         ensures unchanged { OnErr result (self.new ≡ self.old) }
     {
-        let (ring, at) = match ring_from(alloc, self.source, self.at) {
-            Ok((ring, at)) => (ring, at),
-            Err(error) => return Err(error),
-        };
+        let (ring, at) = ring_from(alloc, self.source, self.at)?;
         self.at = at;
         Ok(ring)
     }
@@ -130,10 +127,7 @@ impl<'a> Reader<'a> {
         ensures err { IfErr result (IsMarkedCause ring.now self.old) }
         ensures unchanged { OnErr result (self.new ≡ self.old) }
     {
-        let (set, at) = match marked_at(alloc, ring, self.source, self.at) {
-            Ok((set, at)) => (set, at),
-            Err(error) => return Err(error),
-        };
+        let (set, at) = marked_at(alloc, ring, self.source, self.at)?;
         self.at = at;
         Ok(set)
     }
@@ -149,15 +143,12 @@ impl<'a> Reader<'a> {
     /// After a refusal the reader is where it was.
     pub fn read_vector(&mut self, alloc: Global) -> Result<IntVec, TextError>
         ensures ok { IfOk result (λ v. IsVectorRead self.old self.new.at v) }
-        ensures within { IfOk result (λ v. AreWithin v) }
+        ensures within { IfOk result (λ v. AreEntriesWithin v) }
         ensures err { IfErr result (IsVectorCause self.old) }
         ensures source { self.new.source ≡ self.old.source }
         ensures unchanged { OnErr result (self.new ≡ self.old) }
     {
-        let (vector, at) = match vector_from(alloc, self.source, self.at) {
-            Ok((vector, at)) => (vector, at),
-            Err(error) => return Err(error),
-        };
+        let (vector, at) = vector_from(alloc, self.source, self.at)?;
         self.at = at;
         Ok(vector)
     }
@@ -168,7 +159,7 @@ impl<'a> Reader<'a> {
     /// Where something else does: `Syntax { at, kind: Unexpected }` at its first byte.
     pub fn end(&mut self) -> Result<(), Syntax>
         ensures end { OnOk result (IsBlank (rest self.old)) }
-        ensures more { IfErr result (IsMore self.old) }
+        ensures more { IfErr result (HasMoreText self.old) }
         ensures same { self.new ≡ self.old }
     {
         let rest = &self.source[self.at..];

@@ -1,10 +1,10 @@
 //! The reading of a vector.
 ghost use Rattle.std.specs.Prelude.{◌≡◌, ◌≤◌, IfOk, IfErr, length};
-ghost use Rattle.gf_text.specs.VectorText.{IsVectorText, signed, most_entry, size_step, entry_step, vector_step, vector_at};
+ghost use Rattle.gf_text.specs.VectorText.{IsVectorText, signed_entry, most_entry, size_step, entry_step, vector_step, vector_at};
 ghost use Rattle.gf_text.specs.Machine.{HasOneMeaning};
-ghost use Rattle.gf_text.specs.Given.{Gives};
+ghost use Rattle.gf_text.specs.Given.{ReturnsRead};
 ghost use Rattle.gf_text.specs.GivenVector.{vector_move};
-ghost use Rattle.gf_text.specs.Vectors.{IsVectorRead, IsVectorCause, AreWithin};
+ghost use Rattle.gf_text.specs.Vectors.{IsVectorRead, IsVectorCause, AreEntriesWithin};
 
 use crate::error::{Cause, TextError, refused_at};
 use crate::tokens::{Number, number_of, word_from};
@@ -36,7 +36,7 @@ const MOST_ENTRY: u128 = (1 << 63) - 1;
 /// A natural number, or its negative.
 fn signed(minus: bool, n: u128) -> i128
     requires { n ≤ most_entry }
-    ensures { result ≡ signed minus n }
+    ensures { result ≡ signed_entry minus n }
 {
     let size = n as i128;
     if minus { -size } else { size }
@@ -100,7 +100,7 @@ fn step(entries: &mut Vec<i128>, place: VectorPlace, t: &[u8]) -> Result<VectorS
 /// The entries of the vector that stands in the source from this place on, and the place behind it.
 fn entries_from(alloc: Global, source: &[u8], from: usize) -> Result<(Vec<i128>, usize), TextError>
     requires { from ≤ length source.now }
-    ensures vector { Gives (λ x. (x.0.items, x.1)) result (vector_at source.now from) }
+    ensures vector { ReturnsRead (λ x. (x.0.items, x.1)) result (vector_at source.now from) }
     ensures within { IfOk result (λ x. x.1 ≤ length source.now) }
 {
     let mut entries = Vec::new(alloc);
@@ -127,14 +127,11 @@ pub(crate) fn vector_from(
 ) -> Result<(IntVec, usize), TextError>
     requires { from ≤ length source.now }
     ensures ok { IfOk result (λ x. IsVectorRead (record { source = source.now; at = from }) x.1 x.0) }
-    ensures entries { IfOk result (λ x. AreWithin x.0) }
+    ensures entries { IfOk result (λ x. AreEntriesWithin x.0) }
     ensures err { IfErr result (IsVectorCause (record { source = source.now; at = from })) }
     ensures within { IfOk result (λ x. x.1 ≤ length source.now) }
 {
-    let (entries, end) = match entries_from(alloc, source, from) {
-        Ok((entries, end)) => (entries, end),
-        Err(error) => return Err(error),
-    };
+    let (entries, end) = entries_from(alloc, source, from)?;
     Ok((IntVec::from_vec(entries), end))
 }
 
