@@ -11,7 +11,7 @@ use Rattle.gf_exponents.specs.Exponents.{Exponents}
 use Rattle.gf_exponents.specs.Orders.{deglex}
 use Rattle.gf_poly.specs.declared.Term.{Term}
 use Rattle.gf_poly.specs.declared.error.PolyError.{PolyError}
-use Rattle.gf_poly.specs.declared.error.PolyError.TheVariants as errors
+use Rattle.gf_poly.specs.Refusals.{ByKind}
 use Rattle.gf_poly.specs.Polynomial.{Terms, SamePolynomial, KeepsVariables}
 
 -- the terms of f with the monomial x, in their order
@@ -55,9 +55,7 @@ pub record IsLikeSumOverflow (f : Terms) (o : Overflow) : Type 0 where
 
 -- why a list of terms is refused
 abbrev pub IsLikeSumCause : Terms → PolyError → Type 0
-IsLikeSumCause f (errors.Overflow o) = IsLikeSumOverflow f o
-IsLikeSumCause f (errors.Exponent o) = ⊥
-IsLikeSumCause f errors.Memory = Unit {0}
+IsLikeSumCause f = ByKind (IsLikeSumOverflow f) (λ o. ⊥)
 
 -- ---- lists in order
 

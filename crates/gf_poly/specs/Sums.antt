@@ -12,7 +12,7 @@ use Rattle.gf_exponents.specs.Exponents.{Exponents}
 use Rattle.gf_exponents.specs.Orders.{deglex}
 use Rattle.gf_poly.specs.declared.Term.{Term}
 use Rattle.gf_poly.specs.declared.error.PolyError.{PolyError}
-use Rattle.gf_poly.specs.declared.error.PolyError.TheVariants as errors
+use Rattle.gf_poly.specs.Refusals.{ByKind}
 use Rattle.gf_poly.specs.declared.merge.Sign.{Sign}
 use Rattle.gf_poly.specs.declared.merge.Sign.TheVariants.{Plus, Minus}
 use Rattle.gf_poly.specs.Polynomial.{Terms, coefficient}
@@ -45,9 +45,7 @@ pub record IsLikeOverflow (op : Op) (f g : Terms) (o : Overflow) : Type 0 where
 
 -- why a sum or a difference is refused
 abbrev pub IsLikeCause : Op → Terms → Terms → PolyError → Type 0
-IsLikeCause op f g (errors.Overflow o) = IsLikeOverflow op f g o
-IsLikeCause op f g (errors.Exponent o) = ⊥
-IsLikeCause op f g errors.Memory = Unit {0}
+IsLikeCause op f g = ByKind (IsLikeOverflow op f g) (λ o. ⊥)
 
 -- ---- both at once
 
