@@ -20,26 +20,45 @@ fn numbers(alloc: Global, limit: u64) -> Numbers
     }
 }
 
-/// What waves give, at most so many, and the refusal that ended it.
+/// What waves gave.
+#[derive(Drop)]
+struct Outcome {
+    nodes: Vec<u64>,
+    /// The refusal that ended it.
+    refusal: Option<NumberError>,
+    /// Whether a refused walker stood in the row after some call.
+    was_refused: bool,
+}
+
+/// What waves give, at most so many, up to the first refusal.
 fn written<R: Threads + Sync, G: Gate>(
     rt: &R,
     alloc: Global,
     waves: &mut Waves<'_, Numbers, G>,
     most: u64,
-) -> Result<(Vec<u64>, Option<NumberError>), NumberError> {
-    let mut all = Vec::new(alloc);
+) -> Result<Outcome, NumberError> {
+    let mut all = Outcome {
+        nodes: Vec::new(alloc),
+        refusal: None,
+        was_refused: false,
+    };
     for _ in 0..most {
-        match waves.next_written(rt) {
+        let answer = waves.next_written(rt);
+        all.was_refused = all.was_refused || waves.refused() > 0;
+        match answer {
             Ok(Some(number)) => {
-                if all.push(number).is_err() {
+                if all.nodes.push(number).is_err() {
                     return Err(NumberError::Memory);
                 }
             }
-            Ok(None) => return Ok((all, None)),
-            Err(error) => return Ok((all, Some(error))),
+            Ok(None) => return Ok(all),
+            Err(error) => {
+                all.refusal = Some(error);
+                return Ok(all);
+            }
         }
     }
-    Ok((all, None))
+    Ok(all)
 }
 
 #[test]
@@ -111,14 +130,15 @@ fn one_list_for_every_number_of_workers(rt: HostRuntime) -> Result<(), Fail> {
             let mut waves = Waves::new(alloc, numbers(alloc, 3000), 1, workers, &FreeGate)?;
             assert_eq!(rt; waves.workers(), workers);
             assert_eq!(rt; waves.ready(), 1);
-            let (front, _) = written(&rt, alloc, &mut waves, 1000)?;
-            assert_eq!(rt; front.len(), 1000);
-            assert!(rt; expected.starts_with(front.as_slice()));
-            assert!(rt; waves.ready() > 0 && waves.ready() <= (workers as u64 + 1) * 32);
-            let (back, end) = written(&rt, alloc, &mut waves, 3000)?;
-            assert_eq!(rt; back.len(), 2000);
-            assert!(rt; expected.ends_with(back.as_slice()));
-            assert!(rt; end.is_none());
+            let front = written(&rt, alloc, &mut waves, 1000)?;
+            assert_eq!(rt; front.nodes.len(), 1000);
+            assert!(rt; expected.starts_with(front.nodes.as_slice()));
+            let back = written(&rt, alloc, &mut waves, 3000)?;
+            assert_eq!(rt; back.nodes.len(), 2000);
+            assert!(rt; expected.ends_with(back.nodes.as_slice()));
+            assert!(rt; back.refusal.is_none());
+            // nothing refuses here, so no wave may leave a walker unexpanded
+            assert!(rt; !front.was_refused && !back.was_refused);
             assert_eq!(rt; waves.next_written(&rt)?, None);
             assert_eq!(rt; waves.ready(), 0);
         }
@@ -140,10 +160,10 @@ fn one_refusal_for_every_number_of_workers(rt: HostRuntime) -> Result<(), Fail> 
                 alloc,
             };
             let mut waves = Waves::new(alloc, tree, 1, workers, &FreeGate)?;
-            let (front, end) = written(&rt, alloc, &mut waves, 4000)?;
-            assert_eq!(rt; front.len(), place + 1);
-            assert!(rt; all.starts_with(front.as_slice()));
-            assert_eq!(rt; end, Some(NumberError::Chosen(300)));
+            let front = written(&rt, alloc, &mut waves, 4000)?;
+            assert_eq!(rt; front.nodes.len(), place + 1);
+            assert!(rt; all.starts_with(front.nodes.as_slice()));
+            assert_eq!(rt; front.refusal, Some(NumberError::Chosen(300)));
             assert_eq!(rt; waves.next_written(&rt), Err(NumberError::Chosen(300)));
         }
     }
@@ -160,9 +180,9 @@ fn a_list_goes_on_after_any_node(rt: HostRuntime) -> Result<(), Fail> {
             let walker = Walker::after(alloc, numbers(alloc, 100), node)?;
             assert_eq!(rt; *walker.position().here, node);
             let mut waves = Waves::resume(alloc, walker, 4, &FreeGate)?;
-            let (rest, end) = written(&rt, alloc, &mut waves, 200)?;
-            assert_eq!(rt; rest.as_slice(), &all[place + 1..]);
-            assert!(rt; end.is_none());
+            let rest = written(&rt, alloc, &mut waves, 200)?;
+            assert_eq!(rt; rest.nodes.as_slice(), &all[place + 1..]);
+            assert!(rt; rest.refusal.is_none());
         }
     }
     Ok(())
@@ -193,9 +213,9 @@ fn jobs_are_numbered_in_turn(rt: HostRuntime) -> Result<(), Fail> {
                 jobs: AtomicU64::new(0),
                 numbers: AtomicU64::new(0),
             };
-            let mut waves = Waves::new(alloc, numbers(alloc, 500), 1, workers, &gate)?;
-            let (all, _) = written(&rt, alloc, &mut waves, 600)?;
-            assert_eq!(rt; all.len(), 500);
+            let mut waves = Waves::new(alloc, numbers(alloc, 40), 1, workers, &gate)?;
+            let all = written(&rt, alloc, &mut waves, 100)?;
+            assert_eq!(rt; all.nodes.len(), 40);
             // as many as there were jobs, from 0 on: so each came once
             let jobs = gate.jobs.load(Ordering::SeqCst);
             let expected = if 1 <= jobs && jobs <= 64 {
@@ -209,7 +229,7 @@ fn jobs_are_numbered_in_turn(rt: HostRuntime) -> Result<(), Fail> {
     Ok(())
 }
 
-/// Lets jobs 0 and 1 meet: each sets its own flag and looks for the other's, for so many turns.
+/// Lets jobs 1 and 2 meet, the first of one wave that are two: each sets its own flag and looks for the other's, for so many turns.
 #[derive(Drop)]
 struct Meeting {
     first: AtomicU64,
@@ -233,10 +253,10 @@ impl Meeting {
 
 impl Gate for Meeting {
     fn at(&self, job: u64) {
-        if job == 0 {
+        if job == 1 {
             self.meet(&self.first, &self.second);
         }
-        if job == 1 {
+        if job == 2 {
             self.meet(&self.second, &self.first);
         }
     }
@@ -251,8 +271,8 @@ fn two_jobs_run_at_the_same_time(rt: HostRuntime) -> Result<(), Fail> {
         spent: AtomicU64::new(0),
     };
     let mut waves = Waves::new(alloc, numbers(alloc, 200), 1, 2, &gate)?;
-    let (all, _) = written(&rt, alloc, &mut waves, 300)?;
-    assert_eq!(rt; all.len(), 200);
+    let all = written(&rt, alloc, &mut waves, 300)?;
+    assert_eq!(rt; all.nodes.len(), 200);
     assert_eq!(rt; gate.first.load(Ordering::SeqCst), 1);
     assert_eq!(rt; gate.second.load(Ordering::SeqCst), 1);
     assert_eq!(rt; gate.spent.load(Ordering::SeqCst), 0);

@@ -1,4 +1,3 @@
-pub mod KeepLaws  -- what is left stays the same, whatever is cut, listed or taken away
-pub mod CutLaws  -- cutting from the front on: which parts are passed, and which stand as before
-pub mod PieceLaws  -- what stretches were cut into, and what walkers gave
-pub mod WaveLaws  -- a wave, said of stretches
+pub mod PlanLaws  -- how a row is cut up for a wave, and put together again
+pub mod WaveLaws  -- a wave and a call keep what is left
+pub mod RefusedLaws  -- a wave and a call keep that each refusal is its walker's

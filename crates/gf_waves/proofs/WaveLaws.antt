@@ -1,152 +1,70 @@
--- A wave, said of stretches.
--- To cite: stretches_unspent, live_unspent, listed_on, number_first, numbered, numbered_on, all_numbered, all_counted, counts_on, waved, rested, taken_first.
-use Rattle.std.proofs.Common.{◌≡◌, ℕ, zero, suc, ◌<◌, ◌≤◌, ◌+◌, ◌^◌, List, [], ◌∷◌, ◌++◌, ◌⊎◌, length, map, take, set, get_or, refl, sym, ap, inl, inr, subst, ◌∙◌, Option, Some, None, Ok, IfSome, IsSome, arith, cond, true, false, not, Bool, filter, count_by}
-use Rattle.std.specs.List.{All}
-use Rattle.std.proofs.lemmas.List.{take_more, map_push, take_more_set, get_or-map, length-map, take_all}
-use Rattle.std.proofs.lemmas.List.Sums.{length-filter, count_by_more_yes, count_by_more_no}
-use Rattle.std.proofs.lemmas.List.Elements.{All-weaker, filter_passes}
+-- A wave and a call keep what is left.
+-- To cite: given_leaves, readied_leaves.
+use Rattle.std.proofs.Common.{◌≡◌, ℕ, zero, suc, ◌<◌, ◌≤◌, ◌+◌, ◌*◌, List, [], ◌∷◌, ◌++◌, ◌⊎◌, length, refl, sym, ap, inl, inr, subst, ◌∙◌, append_assoc, append-nil, arith, length-append, Option, Some, None, Ok, Err}
+use Rattle.std.specs.declared.result.Result.{Result}
+use Rattle.gf_walk.specs.Path.{IsPath, IsStrictOrder, IsTree}
 use Rattle.gf_walk.specs.Place.{Place}
-use Rattle.gf_waves.specs.declared.part.Part.{Part}
-use Rattle.gf_waves.specs.Stretches.{Stretch, RunRefuses, is_spent, unspent}
-use Rattle.gf_waves.specs.Wave.{IsCutUp, IsListedOn, AreListedOn, IsTaken, IsWorkedOff, is_due, is_starved, job_number}
-use Rattle.gf_waves.proofs.PieceLaws.{from_not}
-use Rattle.gf_waves.specs.Parts.{stretch, stretches, IsFilled, IsFresh, IsJob, IsLive, job_numbers}
+use Rattle.gf_walk.specs.Listing.{Among, LeadTo, Leaves, IsLeftAt, IsFirstOf}
+use Rattle.gf_walk.specs.Pieces.{PiecesLeave, Expands}
+use Rattle.gf_walk.specs.declared.expand.Piece.{Piece}
+use Rattle.gf_walk.specs.declared.expand.Piece.TheVariants.{Ready, Under, Refused}
+use Rattle.gf_walk.proofs.PiecesLaws.{expansion_leaves}
+use Rattle.gf_waves.specs.Wave.{IsWaved, IsExpansion, IsGiven, IsAsked, IsReadied, IsAfter}
+use Rattle.gf_waves.specs.Frontier.{due_at, share_at}
+use Rattle.gf_walk.specs.Walk.{IsOver}
+use Rattle.gf_walk.proofs.ListLaws.{gives}
 
--- ---- spent parts
+-- the pieces of two rows, one after the other
+leave_both : {T N L E : Type 0} (left : Place T N L → List N → Type 0) (ps qs : List (Piece T N L E)) (front back : List N) → PiecesLeave left ps front → PiecesLeave left qs back → PiecesLeave left (ps ++ qs) (front ++ back)
+leave_both left [] qs front back a b = subst (λ f. PiecesLeave left qs (f ++ back)) (sym a) b
+leave_both left (Ready v ∷ ps) qs front back a b = (a.0 ++ back, ap (λ f. f ++ back) a.1, leave_both left ps qs a.0 back a.2 b)
+leave_both left (Under w ∷ ps) qs front back a b = (a.0, a.1 ++ back, ap (λ f. f ++ back) a.2 ∙ append_assoc a.0 a.1 back, a.3, leave_both left ps qs a.1 back a.4 b)
+leave_both left (Refused w e ∷ ps) qs front back a b = (a.0, a.1 ++ back, ap (λ f. f ++ back) a.2 ∙ append_assoc a.0 a.1 back, a.3, leave_both left ps qs a.1 back a.4 b)
 
-module _ {T N L E : Type 0} where
-  by_test : (p : Part T N L E) (rest : List (Part T N L E)) (b : Bool) → stretches (cond b (p ∷ rest) rest) ≡ cond b (stretch p ∷ stretches rest) (stretches rest)
-  by_test p rest true = refl
-  by_test p rest false = refl
+module _ {T N L E : Type 0} (lt : L → L → Type 0) (up : T → N → L → N → Type 0) (strict : IsStrictOrder lt) (trees : (t : T) → IsTree (up t)) (refuses : Place T N L → E → Type 0) (most : ℕ) where
+  one_leaves : (w : Place T N L) (ps : List (Piece T N L E)) → IsExpansion lt up refuses most w ps → (nodes : List N) → IsLeftAt lt up w nodes → PiecesLeave (IsLeftAt lt up) ps nodes
+  one_leaves w ps (inl h) nodes l = expansion_leaves lt up strict trees refuses most w ps h nodes l
+  one_leaves w ps (inr h) nodes l = subst (λ k. PiecesLeave (IsLeftAt lt up) k nodes) (sym h.1) (nodes, [], sym (append-nil nodes), l, refl)
 
-  unspent_parts : (ps : List (Part T N L E)) → stretches (filter (λ p. not (is_spent (stretch p))) ps) ≡ unspent (stretches ps)
-  unspent_parts [] = refl
-  unspent_parts (p ∷ ps) =
-      let b = not (is_spent (stretch p)) in
-      by_test p (filter (λ q. not (is_spent (stretch q))) ps) b ∙ ap (λ r. cond b (stretch p ∷ r) r) (unspent_parts ps)
+  join_waved : (w : Place T N L) (front rest news : List (Piece T N L E)) (f b nodes : List N) → news ≡ front ++ rest → nodes ≡ f ++ b → IsExpansion lt up refuses most w front → IsLeftAt lt up w f → PiecesLeave (IsLeftAt lt up) rest b → PiecesLeave (IsLeftAt lt up) news nodes
+  join_waved w front rest news f b nodes e n x l k = subst (λ r. PiecesLeave (IsLeftAt lt up) r nodes) (sym e) (subst (λ r. PiecesLeave (IsLeftAt lt up) (front ++ rest) r) (sym n) (leave_both (IsLeftAt lt up) front rest f b (one_leaves w front x f l) k))
 
-  -- parts without the spent ones are stretches without the spent ones
-  pub stretches_unspent : (ps news : List (Part T N L E)) → news ≡ filter (λ p. not (is_spent (stretch p))) ps → stretches news ≡ unspent (stretches ps)
-  stretches_unspent ps news e = ap stretches e ∙ unspent_parts ps
+  -- a wave leaves what was left
+  pub waved_leaves : (m : ℕ) (olds news : List (Piece T N L E)) → IsWaved lt up refuses most m olds news → (nodes : List N) → PiecesLeave (IsLeftAt lt up) olds nodes → PiecesLeave (IsLeftAt lt up) news nodes
+  waved_leaves zero olds news h nodes l = subst (λ r. PiecesLeave (IsLeftAt lt up) r nodes) (sym h) l
+  waved_leaves (suc m) [] news h nodes l = subst (λ r. PiecesLeave (IsLeftAt lt up) r nodes) (sym h) l
+  waved_leaves (suc m) (Ready v ∷ ps) news h nodes l = subst (λ r. PiecesLeave (IsLeftAt lt up) r nodes) (sym h.1) (l.0, l.1, waved_leaves (suc m) ps h.0 h.2 l.0 l.2)
+  waved_leaves (suc m) (Under w ∷ ps) news h nodes l = join_waved w h.0 h.1 news l.0 l.1 nodes h.2 l.2 h.3 l.3 (waved_leaves m ps h.1 h.4 l.1 l.4)
+  waved_leaves (suc m) (Refused w e ∷ ps) news h nodes l = join_waved w h.0 h.1 news l.0 l.1 nodes h.2 l.2 h.3 l.3 (waved_leaves m ps h.1 h.4 l.1 l.4)
 
-  pub live_unspent : (ps news : List (Part T N L E)) → news ≡ filter (λ p. not (is_spent (stretch p))) ps → All IsLive news
-  live_unspent ps news e =
-      subst (All IsLive) (sym e)
-      (All-weaker (λ p. not (is_spent (stretch p)) ≡ true) IsLive (λ p h. from_not (is_spent (stretch p)) h) (filter (λ p. not (is_spent (stretch p))) ps) (filter_passes (λ p. not (is_spent (stretch p))) ps))
+-- ---- an answer
 
--- ---- jobs
+module _ {T N L E : Type 0} (lt : L → L → Type 0) (up : T → N → L → N → Type 0) (strict : IsStrictOrder lt) (trees : (t : T) → IsTree (up t)) (refuses : Place T N L → E → Type 0) where
+  over_leaves : (w : Place T N L) → IsOver lt up w → (nodes : List N) → IsLeftAt lt up w nodes → nodes ≡ []
+  over_leaves w over nodes l = none l.lists.paths nodes l.lists.lead (λ q j path. over l.top l.path l.at q path (l.lists.only q j))
+    where
+      none : (ps : List (List L)) (xs : List N) → LeadTo (up w.tree) l.top ps xs → ((q : List L) → Among ps q → IsPath (up w.tree) l.top q → ⊥) → xs ≡ []
+      none [] [] lead empty = refl
+      none [] (x ∷ xs) lead empty = absurd lead
+      none (p ∷ ps) [] lead empty = absurd lead
+      none (p ∷ ps) (x ∷ xs) lead empty = absurd (empty p (inl refl) (x, lead.0))
 
-fault_of : {E : Type 0} (P : E → Type 0) (o : Option E) → IsSome o → IfSome o P → (e : E) × P e
-fault_of P None some h = absurd (let f : false ≡ true = some in cc)
-fault_of P (Some e) some h = (e, h)
+  asked_leaves : (w : Place T N L) (ps : List (Piece T N L E)) (answer : Result (Option N) E) (news : List (Piece T N L E)) → IsAsked lt up refuses w ps answer news → (nodes : List N) → PiecesLeave (IsLeftAt lt up) (Under w ∷ ps) nodes → IsAfter (IsLeftAt lt up) answer nodes news
+  asked_leaves w ps (Ok None) news a nodes l = absurd a
+  asked_leaves w ps (Err e) news a nodes l = subst (λ r. PiecesLeave (IsLeftAt lt up) r nodes) (sym a.1) l
+  asked_leaves w ps (Ok (Some v)) news a nodes l =
+      let x = a.0 in
+      let g = gives lt (up w.tree) strict (trees w.tree) w.mark w.here w.depth x.mark x.here x.depth (Some v) a.1 l.0 l.3 in
+      (g.0 ++ l.1, l.2 ∙ ap (λ f. f ++ l.1) g.1, subst (λ r. PiecesLeave (IsLeftAt lt up) r (g.0 ++ l.1)) (sym a.3) (g.0, l.1, refl, subst (λ t. Leaves lt (up t) x.mark x.here x.depth g.0) (sym a.2) g.2, l.4))
 
-module _ {T N L E : Type 0} (lt : L → L → Type 0) (up : T → N → L → N → Type 0) (refuses : Place T N L → E → Type 0) where
-  filled_by : (p : Part T N L E) → IsFilled p → IsFresh refuses p → (32 ≤ length p.ready.items) ⊎ ((p.run ≡ None) ⊎ ((e : E) × RunRefuses refuses p.run e))
-  filled_by p (inl h) fresh = inl h
-  filled_by p (inr (inl h)) fresh = inr (inl h)
-  filled_by p (inr (inr h)) fresh = inr (inr (fault_of (λ e. RunRefuses refuses p.run e) p.fault h fresh))
+  -- an answer is the first of what is left
+  pub given_leaves : (olds : List (Piece T N L E)) (answer : Result (Option N) E) (news : List (Piece T N L E)) → IsGiven lt up refuses olds answer news → (nodes : List N) → PiecesLeave (IsLeftAt lt up) olds nodes → IsAfter (IsLeftAt lt up) answer nodes news
+  given_leaves [] answer news h nodes l = subst (λ a. IsAfter (IsLeftAt lt up) a nodes news) (sym h.0) (l, subst (λ r. PiecesLeave (IsLeftAt lt up) r []) (sym h.1) refl)
+  given_leaves (Ready v ∷ ps) answer news h nodes l = subst (λ a. IsAfter (IsLeftAt lt up) a nodes news) (sym h.0) (l.0, l.1, subst (λ r. PiecesLeave (IsLeftAt lt up) r l.0) (sym h.1) l.2)
+  given_leaves (Refused w e ∷ ps) answer news h nodes l = subst (λ a. IsAfter (IsLeftAt lt up) a nodes news) (sym h.0) (subst (λ r. PiecesLeave (IsLeftAt lt up) r nodes) (sym h.1) l)
+  given_leaves (Under w ∷ ps) answer news (inl a) nodes l = asked_leaves w ps answer news a nodes l
+  given_leaves (Under w ∷ ps) answer news (inr h) nodes l = given_leaves ps answer news h.1 nodes (subst (λ k. PiecesLeave (IsLeftAt lt up) ps k) (sym (l.2 ∙ ap (λ f. f ++ l.1) (over_leaves w h.0 l.0 l.3))) l.4)
 
-  job_listed : (p q : Part T N L E) → IsJob lt up refuses p q → IsListedOn lt up refuses (stretch p) (stretch q)
-  job_listed p q j = record { more = j.more.0; ready = j.more.1; given = j.more.2; filled = filled_by q j.filled j.fresh; idle = j.idle }
-
-  -- a job at each part lists on in each stretch
-  pub listed_on : (ps qs : List (Part T N L E)) → length qs ≡ length ps → ((i : ℕ) (d : Part T N L E) → i < length ps → IsJob lt up refuses (get_or ps i d) (get_or qs i d)) → AreListedOn lt up refuses (stretches ps) (stretches qs)
-  listed_on [] [] e z = tt
-  listed_on [] (q ∷ qs) e z = absurd (omega arith)
-  listed_on (p ∷ ps) [] e z = absurd (omega arith)
-  listed_on (p ∷ ps) (q ∷ qs) e z = (job_listed p q (z zero p (omega arith)), listed_on ps qs (omega arith) (λ i d h. z (suc i) d (omega arith)))
-
--- ---- the numbers of jobs
-
-count_next : {T N L : Type 0} (n : ℕ) (s : Stretch T N L) (ss : List (Stretch T N L)) (b : Bool) → is_due s ≡ b → cond b (suc n) n + length (filter is_due ss) ≡ n + length (cond b (s ∷ filter is_due ss) (filter is_due ss))
-count_next n s ss true e = omega arith
-count_next n s ss false e = refl
-
-module _ {T N L : Type 0} where
-  numbers_push : (n : ℕ) (ss : List (Stretch T N L)) (s : Stretch T N L) → job_numbers n (ss ++ s ∷ []) ≡ job_numbers n ss ++ cond (is_due s) (Some (job_number (n + length (filter is_due ss)))) None ∷ []
-  numbers_push n [] s = let e : n + 0 ≡ n = omega arith in ap (λ k. cond (is_due s) (Some (job_number k)) None ∷ []) (sym e)
-  numbers_push n (t ∷ ss) s =
-      ap (λ w. cond (is_due t) (Some (job_number n)) None ∷ w)
-      (numbers_push (cond (is_due t) (suc n) n) ss s ∙ ap (λ k. job_numbers (cond (is_due t) (suc n) n) ss ++ cond (is_due s) (Some (job_number k)) None ∷ []) (count_next n t ss (is_due t) refl))
-
-number_more : (n : ℕ) → job_number (job_number n + 1) ≡ job_number (n + 1)
-number_more n = omega arith
-
-pub number_first : (n : ℕ) → n < 2 ^ 64 → n ≡ job_number (n + 0)
-number_first n h = omega arith
-
--- all parts have their numbers, and all jobs are counted
-pub all_numbered : {T N L E : Type 0} (ps : List (Part T N L E)) (ss : List (Stretch T N L)) (i n : ℕ) → length ps ≤ i → stretches ps ≡ ss → map (λ r. r.job) (take i ps) ≡ job_numbers n (take i (stretches ps)) → map (λ r. r.job) ps ≡ job_numbers n ss
-all_numbered ps ss i n h same e =
-    let l : length (stretches ps) ≡ length ps = length-map ps stretch in
-    sym (ap (map (λ r. r.job)) (take_all i ps h)) ∙ e ∙ ap (job_numbers n) (take_all i (stretches ps) (omega arith) ∙ same)
-
-pub all_counted : {T N L E : Type 0} (ps : List (Part T N L E)) (ss : List (Stretch T N L)) (i n k : ℕ) → length ps ≤ i → stretches ps ≡ ss → k ≡ job_number (n + count_by is_due (take i (stretches ps))) → k ≡ job_number (n + count_by is_due ss)
-all_counted ps ss i n k h same e =
-    let l : length (stretches ps) ≡ length ps = length-map ps stretch in
-    e ∙ ap (λ w. job_number (n + count_by is_due w)) (take_all i (stretches ps) (omega arith) ∙ same)
-
-module _ {T N L E : Type 0} (ps : List (Part T N L E)) (i : ℕ) (p : Part T N L E) (inside : i < length ps) (at : get_or ps i p ≡ p) where
-  stretch_at : get_or (stretches ps) i (stretch p) ≡ stretch p
-  stretch_at = get_or-map stretch ps i p (stretch p) inside ∙ ap stretch at
-
-  long : i < length (stretches ps)
-  long = let e : length (stretches ps) ≡ length ps = length-map ps stretch in omega arith
-
-  -- one more part has its number
-  pub numbered : (n m : ℕ) (q : Part T N L E) → map (λ r. r.job) (take i ps) ≡ job_numbers n (take i (stretches ps)) → m ≡ job_number (n + count_by is_due (take i (stretches ps))) → q.job ≡ cond (is_due (stretch p)) (Some m) None →
-      map (λ r. r.job) (take (i + 1) (set ps i q)) ≡ job_numbers n (take (i + 1) (stretches ps))
-  numbered n m q e f h =
-      let ss = stretches ps in
-      ap (map (λ r. r.job)) (take_more_set ps i q inside) ∙ map_push (λ r. r.job) (take i ps) q ∙ ap (λ w. w ++ q.job ∷ []) e ∙ ap (λ o. job_numbers n (take i ss) ++ o ∷ []) (h ∙ ap (λ k. cond (is_due (stretch p)) (Some k) None) (f ∙ ap (λ k. job_number (n + k)) (sym (length-filter is_due (take i ss))))) ∙
-      sym (numbers_push n (take i ss) (stretch p)) ∙ ap (job_numbers n) (ap (λ s. take i ss ++ s ∷ []) (sym stretch_at) ∙ sym (take_more ss i (stretch p) long))
-
-  next_by : (n m k : ℕ) (b : Bool) → is_due (stretch p) ≡ b → m ≡ job_number (n + count_by is_due (take i (stretches ps))) → k ≡ cond b (job_number (m + 1)) m → k ≡ job_number (n + count_by is_due (take (i + 1) (stretches ps)))
-  next_by n m k true b f h =
-      let c = count_by_more_yes is_due (stretches ps) i (stretch p) long (ap is_due stretch_at ∙ b) in
-      let j = count_by is_due (take i (stretches ps)) in
-      h ∙ ap (λ w. job_number (w + 1)) f ∙ number_more (n + j) ∙ ap job_number (omega (arith, c))
-  next_by n m k false b f h =
-      let c = count_by_more_no is_due (stretches ps) i (stretch p) long (ap is_due stretch_at ∙ b) in
-      h ∙ f ∙ ap (λ w. job_number (n + w)) (sym c)
-
-  -- and the jobs before the next are counted
-  pub numbered_on : (n m k : ℕ) → m ≡ job_number (n + count_by is_due (take i (stretches ps))) → k ≡ cond (is_due (stretch p)) (job_number (m + 1)) m → k ≡ job_number (n + count_by is_due (take (i + 1) (stretches ps)))
-  numbered_on n m k f h = next_by n m k (is_due (stretch p)) refl f h
-
--- a count of jobs never falls
-pub counts_on : (n j : ℕ) → n < 2 ^ 64 → n ≤ job_number (n + j)
-counts_on n j h = omega arith
-
--- ---- what is worked off
-
-module _ {T N L E : Type 0} (lt : L → L → Type 0) (up : T → N → L → N → Type 0) (refuses : Place T N L → E → Type 0) (workers jobs : ℕ) (olds start : List (Stretch T N L)) (is : start ≡ olds) where
-  -- where nothing is ready in front, a wave
-  pub waved : (cut due listed news : List (Stretch T N L)) (next : ℕ) → is_starved start ≡ true → IsCutUp lt up refuses workers start cut → due ≡ cut → AreListedOn lt up refuses due listed → next ≡ job_number (jobs + count_by is_due cut) → news ≡ unspent listed → IsWorkedOff lt up refuses workers jobs olds next news
-  waved cut due listed news next starved cuts same lists counts remain = record {
-    starved = λ e. record {
-      cut = cut;
-      listed = listed;
-      is_cut = subst (λ ss. IsCutUp lt up refuses workers ss cut) is cuts;
-      is_listed = subst (λ ss. AreListedOn lt up refuses ss listed) same lists;
-      counted = counts;
-      remain = remain;
-    };
-    served = λ e. absurd (let f : true ≡ false = sym starved ∙ ap is_starved is ∙ e in cc);
-  }
-
-  -- and else nothing
-  pub rested : is_starved start ≡ false → IsWorkedOff lt up refuses workers jobs olds jobs start
-  rested served = record {
-    starved = λ e. absurd (let f : false ≡ true = sym served ∙ ap is_starved is ∙ e in cc);
-    served = λ e. (refl, is);
-  }
-
--- ---- the first ready node
-
--- it is taken out of the first part
-pub taken_first : {T N L E : Type 0} (ps : List (Part T N L E)) (p q : Part T N L E) (v : N) → 0 < length ps → p ≡ get_or ps 0 p → p.ready.items ≡ v ∷ q.ready.items → q.run ≡ p.run → IsTaken {E = E} (stretches ps) (Ok (Some v)) (stretches (set ps 0 q))
-taken_first [] p q v h at e f = absurd (omega arith)
-taken_first {T} {N} {L} {E} (x ∷ xs) p q v h at e f =
-    let first : stretch x ≡ record { ready = v ∷ q.ready.items; run = q.run } = ap stretch (sym at) ∙ (let k : stretch p ≡ record { ready = v ∷ q.ready.items; run = q.run } = cc in k) in
-    (q.ready.items, q.run, stretches xs, ap (λ s. s ∷ stretches xs) first, refl)
+  pub readied_leaves : (workers jobs next : ℕ) (olds worked : List (Piece T N L E)) → IsReadied lt up refuses workers jobs olds next worked → (nodes : List N) → PiecesLeave (IsLeftAt lt up) olds nodes → PiecesLeave (IsLeftAt lt up) worked nodes
+  readied_leaves workers jobs next olds worked (inl h) nodes l = waved_leaves lt up strict trees refuses (share_at workers (length olds)) (due_at workers (length olds)) olds worked h.3 nodes l
+  readied_leaves workers jobs next olds worked (inr h) nodes l = subst (λ r. PiecesLeave (IsLeftAt lt up) r nodes) (sym h.2) l

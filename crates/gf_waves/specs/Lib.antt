@@ -1,3 +1,3 @@
-pub mod Stretches  -- a list in stretches: ready nodes, then what a walker has left
-pub mod Wave  -- what one call works off
-pub mod Parts  -- what a job and a cut do to a part
+pub mod Frontier  -- a list as a row of pieces
+pub mod Wave  -- what a wave and a call do to a row
+pub mod Plans  -- how a row is cut up for a wave, and put together again

@@ -1,13 +1,13 @@
 //! A walker's list worked off in waves, by several workers.
 //!
-//! The rest of the list is kept as parts in list order, each a few ready nodes and a walker. A wave splits walkers until there are
-//! as many parts as workers, and then lists in all of them side by side. Start at `Waves::next_written`; the words of its contract
-//! are in `specs/Stretches.antt`.
+//! The rest of the list is a row of pieces in list order: ready nodes, and walkers for what is between and behind them. A wave expands
+//! the first walkers of the row side by side. Start at `Waves::next_written`; the words of its contract are in `specs/Frontier.antt` and
+//! `specs/Wave.antt`.
 #![tactic(auto)]
 
-mod cutting;
 mod gate;
-mod part;
+mod job;
+mod planning;
 mod serving;
 mod wave;
 mod waves;

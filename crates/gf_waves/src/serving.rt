@@ -1,102 +1,146 @@
-//! Working the list off until its next node is ready, and giving it.
-ghost use Rattle.std.specs.Prelude.{◌≡◌, ◌+◌, ◌≤◌, ℕ, List, map, count_by, if◌then◌else◌, Some, None, false, IfOk, IfErr, OnErr};
-ghost use Rattle.gf_walk.specs.Listing.{IsLeftAt, IsFirstOf};
-ghost use Rattle.gf_waves.specs.Parts.{KeepsAll, PartsLeave, IsHeld, IsServed, job_numbers, stretch, stretches};
-ghost use Rattle.gf_waves.specs.Stretches.{IsFirstRefused, RefusesAt, unspent};
-ghost use Rattle.gf_waves.specs.Wave.{IsTaken, IsWorkedOff, is_due, is_starved, job_number};
+//! The next node of a row.
+ghost use Rattle.std.specs.Prelude.{ℕ, ◌≡◌, ◌+◌, ◌-◌, ◌*◌, ◌≤◌, ◌<◌, ◌/◌, ◌∷◌, length, List, IfErr, OnOk, OnErr, true, false};
+ghost use Rattle.std.specs.VecDeque.{deque_capacity};
+ghost use Rattle.gf_walk.specs.Place.{Place};
+ghost use Rattle.gf_walk.specs.Pieces.{PiecesLeave, RefusesAt};
+ghost use Rattle.gf_walk.specs.Listing.{IsLeftAt};
+ghost use Rattle.gf_walk.specs.declared.expand.Piece.{Piece};
+ghost use Rattle.gf_walk.specs.declared.expand.Piece.TheVariants.{Under};
+ghost use Rattle.gf_waves.specs.Frontier.{AreRefusals, IsFrontRefused, IsHeld, due_at, most_pieces};
+ghost use Rattle.gf_waves.specs.Wave.{IsAfter, IsGiven, IsReadied, is_served};
 
 use crate::Gate;
-use crate::cutting::{cut_all, trim};
-use crate::part::{self, Part};
 use crate::wave::wave;
-use gf_walk::Tree;
+use gf_walk::{Piece, Tree, Walker};
+use std::alloc::AllocError;
+use std::collections::VecDeque;
 use std::thread::Threads;
 
-/// Whether the first part has nothing ready.
-fn is_starved<T: Tree>(parts: &[Part<T>]) -> bool
-    ensures is { result ≡ is_starved (stretches parts.now) }
-    ensures served { result ≡ false → IsServed (RefusesAt T.up T.refuses) parts.now }
+/// Whether a node is ready in front, or nothing is left.
+fn is_served<T: Tree>(row: &VecDeque<Piece<T>>) -> bool
+    ensures { result ≡ is_served row.now.items }
 {
-    match parts.first() {
-        Some(part) => part.ready.is_empty(),
-        None => false,
+    match row.front() {
+        Some(Piece::Ready(_)) => true,
+        Some(_) => false,
+        None => true,
     }
 }
 
-/// Gives a part the next job's number, where it is to be a job. Answers the next number; at its last value it stays.
-fn number_job<T: Tree>(part: &mut Part<T>, next: u64) -> u64
-    ensures same { stretch part.new ≡ stretch part.old }
-    ensures number { part.new.job ≡ (if is_due (stretch part.old) then Some next else None) }
-    ensures next { result ≡ (if is_due (stretch part.old) then job_number (next + 1) else next) }
+/// How many walkers are due in a wave over a row: two a worker, and no more than leave each four places.
+fn due(workers: u32, length: usize) -> usize
+    requires { workers ≤ 64 }
+    ensures { result ≡ due_at workers length }
 {
-    if !part::is_due(part) {
-        part.job = None;
-        return next;
-    }
-    part.job = Some(next);
-    next.saturating_add(1)
+    let free = ((workers as usize + 1) * 32).saturating_sub(length);
+    (2 * workers as usize).min(free / 4)
 }
 
-/// Numbers the jobs of the next wave, in list order. Answers the next number.
-fn number_jobs<T: Tree>(parts: &mut Vec<Part<T>>, first: u64) -> u64
-    ensures same { stretches parts.new.items ≡ stretches parts.old.items }
-    ensures numbers { map (λ p. p.job) parts.new.items ≡ job_numbers first (stretches parts.old.items) }
-    ensures next { result ≡ job_number (first + count_by is_due (stretches parts.old.items)) }
-    ensures grows { first ≤ result }
+/// Into how many subtrees each of them is expanded at most.
+fn share(workers: u32, length: usize, due: usize) -> usize
+    requires workers { workers ≤ 64 }
+    requires some { 0 < due }
+    requires due { due * 4 ≤ most_pieces workers - length }
+    ensures is { result ≡ (most_pieces workers - length) / due - 1 }
+    ensures fits { due * (result + 1) ≤ most_pieces workers - length }
+    ensures few { result ≤ 4096 }
 {
-    let mut next = first;
-    for index in 0..parts.len() {
-        next = number_job(&mut parts[index], next);
-    }
-    next
+    let free = ((workers as usize + 1) * 32).saturating_sub(length);
+    (free / due).saturating_sub(1)
 }
 
-/// Works the list off until the first part has a node ready, or was refused.
-pub fn serve<R: Threads + Sync, T: Tree + Send, G: Gate>(
+/// The refusal that stands for want of memory. Any call of any tree may be refused so.
+pub fn no_memory<T: Tree>(refused: AllocError) -> T::Error
+    ensures memory { T.is_memory result }
+    ensures refused { (t : T) (v : T.Node) → T.refuses t v result }
+{
+    T::Error::from(refused)
+}
+
+/// Works a row off until a node is ready in front, or there is no room: a wave, where none is ready.
+///
+/// # Errors
+///
+/// Want of memory for a wave. The row is as it was.
+pub fn work_off<R: Threads + Sync, T: Tree + Send, G: Gate>(
     rt: &R,
     gate: &G,
-    parts: &mut Vec<Part<T>>,
-    workers: usize,
+    row: &mut VecDeque<Piece<T>>,
+    workers: u32,
     jobs: &mut u64,
-)
+) -> Result<(), AllocError>
 where
     T::Node: Send,
     T::Label: Send,
     T::Error: Send,
-    requires { IsHeld workers parts.old.items }
-    ensures kept { KeepsAll (IsLeftAt T.before T.up) parts.old.items parts.new.items }
-    ensures held { IsHeld workers parts.new.items }
-    ensures served { IsServed (RefusesAt T.up T.refuses) parts.new.items }
-    ensures jobs { jobs.old ≤ jobs.new }
-    ensures work { IsWorkedOff T.before T.up (RefusesAt T.up T.refuses) workers jobs.old (unspent (stretches parts.old.items)) jobs.new (stretches parts.new.items) }
+    requires { IsHeld (RefusesAt T.up T.refuses) workers row.old.items }
+    ensures worked { OnOk result (IsReadied T.before T.up (RefusesAt T.up T.refuses) workers jobs.old row.old.items jobs.new row.new.items) }
+    ensures held { IsHeld (RefusesAt T.up T.refuses) workers row.new.items }
+    ensures unchanged { OnErr result (row.new.items ≡ row.old.items) }
+    ensures uncounted { OnErr result (jobs.new ≡ jobs.old) }
+    ensures starved { OnErr result (is_served row.old.items ≡ false) }
+    ensures due { OnErr result (0 < due_at workers (length row.old.items)) }
 {
-    trim(parts);
-    if is_starved(parts.as_slice()) {
-        cut_all(parts, workers);
-        *jobs = number_jobs(parts, *jobs);
-        wave(rt, gate, parts);
-        trim(parts);
+    if is_served(row) {
+        return Ok(());
+    }
+    let due = due(workers, row.len());
+    if due == 0 {
+        return Ok(());
+    }
+    let most = share(workers, row.len(), due);
+    wave(rt, gate, row, workers, due, most, jobs)
+}
+
+/// Puts a walker before a row that has room.
+fn put_back<T: Tree>(row: &mut VecDeque<Piece<T>>, walker: Walker<T>)
+    requires { length row.old.items < deque_capacity row.old }
+    ensures { row.new.items ≡ Under walker ∷ row.old.items }
+{
+    if row.push_front(Piece::Under(walker)).is_err() {
+        unreachable!();
     }
 }
 
-/// The first node that is ready, or the refusal that stands in its place.
-pub fn give<T: Tree>(parts: &mut Vec<Part<T>>) -> Result<Option<T::Node>, T::Error>
-    requires { IsServed (RefusesAt T.up T.refuses) parts.old.items }
-    ensures ok { IfOk result (λ o. (nodes : List T.Node) → PartsLeave (IsLeftAt T.before T.up) parts.old.items nodes → IsFirstOf (PartsLeave (IsLeftAt T.before T.up) parts.new.items) nodes o) }
-    ensures taken { IsTaken (stretches parts.old.items) result (stretches parts.new.items) }
-    ensures err { OnErr result (stretches parts.new.items ≡ stretches parts.old.items) }
-    ensures refused { IfErr result (IsFirstRefused (RefusesAt T.up T.refuses) (stretches parts.new.items)) }
-    ensures held { (workers : ℕ) → IsHeld workers parts.old.items → IsHeld workers parts.new.items }
+/// The first node of a row. A walker in front is asked for it.
+fn give_first<T: Tree>(row: &mut VecDeque<Piece<T>>) -> Result<Option<T::Node>, T::Error>
+    ensures given { IsGiven T.before T.up (RefusesAt T.up T.refuses) row.old.items result row.new.items }
+    ensures few { length row.new.items ≤ length row.old.items }
 {
-    if parts.is_empty() {
-        return Ok(None);
+    while let Some(piece) = row.pop_front() {
+        match piece {
+            Piece::Ready(node) => return Ok(Some(node)),
+            Piece::Refused(walker, refusal) => {
+                put_back(row, walker);
+                return Err(refusal);
+            }
+            Piece::Under(walker) => {
+                let mut walker = walker;
+                match walker.advance() {
+                    Ok(Some(node)) => {
+                        put_back(row, walker);
+                        return Ok(Some(node));
+                    }
+                    Ok(None) => {}
+                    Err(refusal) => {
+                        put_back(row, walker);
+                        return Err(refusal);
+                    }
+                }
+            }
+        }
     }
-    let part = &mut parts[0];
-    if !part.ready.is_empty() {
-        return Ok(Some(part.ready.remove(0)));
-    }
-    match part.fault.take() {
-        Some(fault) => Err(fault),
-        None => unreachable!(),
-    }
+    Ok(None)
+}
+
+/// The same, said of what is left, and of refusals.
+pub fn give<T: Tree>(row: &mut VecDeque<Piece<T>>) -> Result<Option<T::Node>, T::Error>
+    requires { AreRefusals (RefusesAt T.up T.refuses) row.old.items }
+    ensures given { IsGiven T.before T.up (RefusesAt T.up T.refuses) row.old.items result row.new.items }
+    ensures list { (workers jobs next : ℕ) (olds : List (Piece T T.Node T.Label T.Error)) (nodes : List T.Node) → IsReadied T.before T.up (RefusesAt T.up T.refuses) workers jobs olds next row.old.items → PiecesLeave (IsLeftAt T.before T.up) olds nodes → IsAfter (IsLeftAt T.before T.up) result nodes row.new.items }
+    ensures few { length row.new.items ≤ length row.old.items }
+    ensures refusals { AreRefusals (RefusesAt T.up T.refuses) row.new.items }
+    ensures refused { IfErr result (IsFrontRefused (RefusesAt T.up T.refuses) row.new.items) }
+{
+    give_first(row)
 }

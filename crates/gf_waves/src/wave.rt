@@ -1,52 +1,104 @@
-//! One wave: a job at each part, side by side.
-ghost use Rattle.std.specs.Prelude.{◌≡◌, ◌<◌, length, List};
-ghost use Rattle.std.specs.List.{All};
-ghost use Rattle.gf_waves.specs.Parts.{AreJobs, IsWithin, IsJob};
-ghost use Rattle.gf_waves.specs.Stretches.{RefusesAt};
+//! One wave: the first walkers of the row are expanded, side by side.
+ghost use Rattle.std.specs.Prelude.{◌≡◌, ◌<◌, ◌≤◌, ◌+◌, ◌*◌, length, OnOk, OnErr};
+ghost use Rattle.gf_walk.specs.Pieces.{RefusesAt};
+ghost use Rattle.gf_waves.specs.Frontier.{AreRefusals, job_number, walkers_up_to};
+ghost use Rattle.gf_waves.specs.Wave.{IsWaved};
+ghost use Rattle.gf_waves.specs.Plans.{IsWorked, AreWorkedAt};
 
 use crate::Gate;
-use crate::part::{Part, list_on};
-use gf_walk::Tree;
+use crate::job::{Job, work};
+use crate::planning::{merge, plan};
+use gf_walk::{Piece, Tree};
+use std::alloc::{AllocError, Global};
+use std::collections::VecDeque;
+use std::mem;
 use std::thread::{self, Threads};
 
-/// A part's job, where it was given a number.
-fn work<T: Tree, G: Gate>(gate: &G, part: &mut Part<T>)
-    requires { IsWithin part.old }
-    ensures { IsJob T.before T.up (RefusesAt T.up T.refuses) part.old part.new }
-{
-    if let Some(job) = part.job {
-        gate.at(job);
-    }
-    list_on(part)
-}
-
-/// One job for each part, by fork and join over halves of the parts.
-fn wave_slice<R: Threads + Sync, T: Tree + Send, G: Gate>(rt: &R, gate: &G, parts: &mut [Part<T>])
+/// Each job is worked on, by so many workers.
+fn work_all<R: Threads + Sync, T: Tree + Send, G: Gate>(
+    rt: &R,
+    alloc: Global,
+    gate: &G,
+    jobs: &mut [Job<T>],
+    workers: usize,
+    most: usize,
+)
 where
     T::Node: Send,
     T::Label: Send,
     T::Error: Send,
-    requires { All IsWithin parts.old }
-    ensures { AreJobs T.before T.up (RefusesAt T.up T.refuses) parts.old parts.new }
+    requires some { 1 ≤ workers }
+    requires most { most ≤ 4096 }
+    ensures { AreWorkedAt T.before T.up (RefusesAt T.up T.refuses) most jobs.old jobs.new }
 {
-    if parts.is_empty() {
-        return;
-    }
-    let each = |_: usize, part: &mut Part<T>|
-        requires { IsWithin part.now }
-        ensures { IsJob T.before T.up (RefusesAt T.up T.refuses) part.entry.now part.exit.now }
-    { work(gate, part) };
-    thread::for_each_mut(rt, parts, parts.len(), &each);
+    let each = |_: usize, job: &mut Job<T>|
+        requires { most ≤ 4096 }
+        ensures { IsWorked T.before T.up (RefusesAt T.up T.refuses) most job.entry.now job.exit.now }
+    {
+        let old = mem::replace(job, Job::Done(Vec::new(alloc)));
+        *job = work(alloc, gate, old, most);
+    };
+    thread::for_each_mut(rt, jobs, workers, &each);
 }
 
-/// One job for each part of a vector.
-pub fn wave<R: Threads + Sync, T: Tree + Send, G: Gate>(rt: &R, gate: &G, parts: &mut Vec<Part<T>>)
+/// The same over a vector.
+fn work_jobs<R: Threads + Sync, T: Tree + Send, G: Gate>(
+    rt: &R,
+    alloc: Global,
+    gate: &G,
+    jobs: &mut Vec<Job<T>>,
+    workers: usize,
+    most: usize,
+)
 where
     T::Node: Send,
     T::Label: Send,
     T::Error: Send,
-    requires { All IsWithin parts.old.items }
-    ensures { AreJobs T.before T.up (RefusesAt T.up T.refuses) parts.old.items parts.new.items }
+    requires some { 1 ≤ workers }
+    requires most { most ≤ 4096 }
+    ensures { AreWorkedAt T.before T.up (RefusesAt T.up T.refuses) most jobs.old.items jobs.new.items }
 {
-    wave_slice(rt, gate, parts.as_mut_slice());
+    work_all(rt, alloc, gate, jobs.as_mut_slice(), workers, most);
+}
+
+/// A wave: the first walkers of the row, as many as are due, are expanded, each into at most so many subtrees.
+///
+/// # Errors
+///
+/// Want of memory, before anything is done.
+pub fn wave<R: Threads + Sync, T: Tree + Send, G: Gate>(
+    rt: &R,
+    gate: &G,
+    row: &mut VecDeque<Piece<T>>,
+    workers: u32,
+    due: usize,
+    most: usize,
+    jobs: &mut u64,
+) -> Result<(), AllocError>
+where
+    T::Node: Send,
+    T::Label: Send,
+    T::Error: Send,
+    requires some { 1 ≤ workers }
+    requires few_workers { workers ≤ 64 }
+    requires share { most ≤ 4096 }
+    requires fits { length row.old.items + due * (most + 1) ≤ (workers + 1) * 32 }
+    requires refused { AreRefusals (RefusesAt T.up T.refuses) row.old.items }
+    ensures waved { OnOk result (IsWaved T.before T.up (RefusesAt T.up T.refuses) most due row.old.items row.new.items) }
+    ensures counted { OnOk result (jobs.new ≡ job_number (jobs.old + walkers_up_to due row.old.items)) }
+    ensures few { length row.new.items ≤ (workers + 1) * 32 }
+    ensures refused { AreRefusals (RefusesAt T.up T.refuses) row.new.items }
+    ensures unchanged { OnErr result (row.new.items ≡ row.old.items) }
+    ensures uncounted { OnErr result (jobs.new ≡ jobs.old) }
+{
+    let alloc = *row.allocator();
+    let mut places = VecDeque::with_capacity(alloc, row.len())?;
+    let mut slots = Vec::with_capacity(alloc, due)?;
+    let mut news = VecDeque::with_capacity(alloc, (workers as usize + 1) * 32)?;
+    plan(row, &mut places, &mut slots, due, *jobs);
+    *jobs = jobs.saturating_add(slots.len() as u64);
+    work_jobs(rt, alloc, gate, &mut slots, workers as usize, most);
+    merge(&mut places, &mut slots, row, &mut news);
+    *row = news;
+    Ok(())
 }

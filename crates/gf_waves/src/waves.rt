@@ -1,39 +1,41 @@
 //! The waves, and the list that they give.
 //!
-//! What is left of the list is said in `specs/Stretches.antt`.
-ghost use Rattle.std.specs.Prelude.{◌≡◌, ◌+◌, ◌*◌, ◌≤◌, length, List, [], ◌∷◌, ◌++◌, IfOk, IfErr, OnErr, sum_by, Some};
+//! What is left of the list is said in `specs/Frontier.antt`, what a call does to it in `specs/Wave.antt`.
+ghost use Rattle.std.specs.Prelude.{◌≡◌, ◌+◌, ◌*◌, ◌≤◌, length, List, [], ◌∷◌, IfOk, IfErr, count_by};
 ghost use Rattle.gf_walk.specs.declared.mark.Mark.TheVariants.{Before, Listed};
-ghost use Rattle.gf_walk.specs.Listing.{Leaves, IsLeftAt, IsFirstOf};
-ghost use Rattle.gf_waves.specs.Stretches.{StretchesLeave, IsKept, IsBounded, IsFirstRefused, RefusesAt};
-ghost use Rattle.gf_waves.specs.Wave.{IsCall};
+ghost use Rattle.gf_walk.specs.declared.expand.Piece.TheVariants.{Ready, Under};
+ghost use Rattle.gf_walk.specs.Pieces.{PiecesLeave, RefusesAt};
+ghost use Rattle.gf_walk.specs.Listing.{Leaves, IsLeftAt};
+ghost use Rattle.gf_waves.specs.Frontier.{AreRefusals, IsFrontRefused, is_ready, is_refused};
+ghost use Rattle.gf_waves.specs.Wave.{IsAfter, IsCall};
 
 use crate::Gate;
-use crate::part::{Part, count_ready};
-use crate::serving::{give, serve};
-use gf_walk::{Tree, Walker};
-use std::alloc::{AllocError, Global};
+use crate::planning::push;
+use crate::serving::{give, no_memory, work_off};
+use gf_walk::{Piece, Tree, Walker};
+use std::alloc::Global;
+use std::collections::VecDeque;
 use std::marker::Model;
 use std::thread::Threads;
 
 /// A list that is worked off in waves.
 #[derive(Drop)]
 pub struct Waves<'g, T: Tree, G: Gate> {
-    parts: Vec<Part<T>>,
+    row: VecDeque<Piece<T>>,
     workers: u32,
     jobs: u64,
     gate: &'g G,
 }
 
 impl<'g, T: Tree, G: Gate> Model for Waves<'g, T, G> {
-    ghost use Rattle.gf_waves.specs.Stretches.{Spread};
+    ghost use Rattle.gf_walk.specs.Pieces.{RefusesAt};
+    ghost use Rattle.gf_waves.specs.Frontier.{Frontier, IsHeld};
 
-    ghost Value = { Spread T T.Node T.Label };
+    ghost Value = { Frontier T T.Node T.Label T.Error };
 
-    ghost use Rattle.gf_waves.specs.Parts.{stretches, IsHeld};
+    ghost view = { λ w. record { workers = w.workers; jobs = w.jobs; pieces = w.row.items } };
 
-    ghost view = { λ w. record { workers = w.workers; jobs = w.jobs; stretches = stretches w.parts.items } };
-
-    ghost invariant = { λ w. IsHeld w.workers w.parts.items };
+    ghost invariant = { λ w. IsHeld (RefusesAt T.up T.refuses) w.workers w.row.items };
 }
 
 impl<'g, T: Tree, G: Gate> Waves<'g, T, G> {
@@ -52,25 +54,26 @@ impl<'g, T: Tree, G: Gate> Waves<'g, T, G> {
         requires node { T.is_node tree root }
         requires some { 1 ≤ workers }
         requires most { workers ≤ 64 }
-        ensures start { IfOk result (λ w. w ≡ record { workers = workers; jobs = 0; stretches = record { ready = root ∷ []; run = Some (record { tree = tree; here = root; mark = Listed; depth = 0 }) } ∷ [] }) }
-        ensures list { IfOk result (λ w. (nodes : List T.Node) → Leaves T.before (T.up tree) Before root 0 nodes → StretchesLeave (IsLeftAt T.before T.up) w.stretches nodes) }
+        ensures start { IfOk result (λ w. w ≡ record { workers = workers; jobs = 0; pieces = Ready root ∷ Under (record { tree = tree; here = root; mark = Listed; depth = 0 }) ∷ [] }) }
+        ensures list { IfOk result (λ w. (nodes : List T.Node) → Leaves T.before (T.up tree) Before root 0 nodes → PiecesLeave (IsLeftAt T.before T.up) w.pieces nodes) }
         ensures memory { IfErr result T.is_memory }
     {
         let first = tree.copy(&root)?;
-        let mut ready = Vec::new(alloc);
-        if let Err(refused) = ready.push(first) {
-            return Err(AllocError::from(refused).into());
-        }
-        Waves::begin(
-            alloc,
-            ready,
-            Walker::below(alloc, tree, root),
+        let mut row = match VecDeque::with_capacity(alloc, 2) {
+            Ok(row) => row,
+            Err(refused) => return Err(no_memory::<T>(refused)),
+        };
+        push(&mut row, Piece::Ready(first));
+        push(&mut row, Piece::Under(Walker::below(alloc, tree, root)));
+        Ok(Waves {
+            row,
             workers,
+            jobs: 0,
             gate,
-        )
+        })
     }
 
-    /// The waves over what a walker has left.
+    /// The waves over what a walker has left. Nothing is ready at first.
     ///
     /// # Errors
     ///
@@ -83,40 +86,17 @@ impl<'g, T: Tree, G: Gate> Waves<'g, T, G> {
     ) -> Result<Self, T::Error>
         requires some { 1 ≤ workers }
         requires most { workers ≤ 64 }
-        ensures start { IfOk result (λ w. w ≡ record { workers = workers; jobs = 0; stretches = record { ready = []; run = Some walker } ∷ [] }) }
-        ensures list { IfOk result (λ w. (nodes : List T.Node) → IsLeftAt T.before T.up walker nodes → StretchesLeave (IsLeftAt T.before T.up) w.stretches nodes) }
+        ensures start { IfOk result (λ w. w ≡ record { workers = workers; jobs = 0; pieces = Under walker ∷ [] }) }
+        ensures list { IfOk result (λ w. (nodes : List T.Node) → IsLeftAt T.before T.up walker nodes → PiecesLeave (IsLeftAt T.before T.up) w.pieces nodes) }
         ensures memory { IfErr result T.is_memory }
     {
-        Waves::begin(alloc, Vec::new(alloc), walker, workers, gate)
-    }
-
-    /// The waves over one part: ready nodes, and the walker that lists what follows.
-    fn begin(
-        alloc: Global,
-        ready: Vec<T::Node>,
-        walker: Walker<T>,
-        workers: u32,
-        gate: &'g G,
-    ) -> Result<Self, T::Error>
-        requires within { length ready.items ≤ 32 }
-        requires some { 1 ≤ workers }
-        requires most { workers ≤ 64 }
-        ensures start { IfOk result (λ w. w ≡ record { workers = workers; jobs = 0; stretches = record { ready = ready.items; run = Some walker } ∷ [] }) }
-        ensures list { IfOk result (λ w. (nodes rest : List T.Node) → nodes ≡ ready.items ++ rest → IsLeftAt T.before T.up walker rest → StretchesLeave (IsLeftAt T.before T.up) w.stretches nodes) }
-        ensures memory { IfErr result T.is_memory }
-    {
-        let mut parts = Vec::new(alloc);
-        let part = Part {
-            ready,
-            run: Some(walker),
-            fault: None,
-            job: None,
+        let mut row = match VecDeque::with_capacity(alloc, 1) {
+            Ok(row) => row,
+            Err(refused) => return Err(no_memory::<T>(refused)),
         };
-        if let Err(refused) = parts.push(part) {
-            return Err(AllocError::from(refused).into());
-        }
+        push(&mut row, Piece::Under(walker));
         Ok(Waves {
-            parts,
+            row,
             workers,
             jobs: 0,
             gate,
@@ -130,12 +110,25 @@ impl<'g, T: Tree, G: Gate> Waves<'g, T, G> {
         self.workers
     }
 
-    /// How many nodes are ready in all parts.
+    /// How many nodes of the row are ready.
     pub fn ready(&self) -> u64
-        ensures sum { result ≡ sum_by (λ p. length p.ready) self.now.stretches }
+        ensures sum { result ≡ count_by is_ready self.now.pieces }
         ensures bound { result ≤ (self.now.workers + 1) * 32 }
     {
-        count_ready(self.parts.as_slice())
+        self.row
+            .iter()
+            .filter(|piece| matches!(piece, Piece::Ready(_)))
+            .count() as u64
+    }
+
+    /// How many walkers of the row were refused in a wave. Each is tried again in the next, or told once it comes to the front.
+    pub fn refused(&self) -> u64
+        ensures { result ≡ count_by is_refused self.now.pieces }
+    {
+        self.row
+            .iter()
+            .filter(|piece| matches!(piece, Piece::Refused(_, _)))
+            .count() as u64
     }
 }
 
@@ -145,30 +138,25 @@ where
     T::Label: Send,
     T::Error: Send,
 {
-    /// The next node of the list, whatever was cut and whichever job came back first; none where nothing is left, and from then on.
+    /// The next node of the list, whichever job came back first; none where nothing is left, and from then on.
     ///
-    /// Where no node is ready at the front, a wave of jobs is run on `rt`.
+    /// Where no node is ready in front and there is room, a wave of jobs is run on `rt`. Where none is ready after that, the walker in
+    /// front is asked.
     ///
     /// # Errors
     ///
-    /// The first refusal in list order: what the walker that has the next node was refused by. What is left is the same, and a later
-    /// call goes on from there.
+    /// The first refusal in list order. What is left is the same, and a later call goes on from there.
     pub fn next_written<R: Threads + Sync>(&mut self, rt: &R) -> Result<Option<T::Node>, T::Error>
-        ensures list { IfOk result (λ o. (nodes : List T.Node) → StretchesLeave (IsLeftAt T.before T.up) self.old.stretches nodes → IsFirstOf (StretchesLeave (IsLeftAt T.before T.up) self.new.stretches) nodes o) }
-        ensures unchanged { OnErr result (IsKept (IsLeftAt T.before T.up) self.old.stretches self.new.stretches) }
-        ensures refused { IfErr result (IsFirstRefused (RefusesAt T.up T.refuses) self.new.stretches) }
+        ensures list { (nodes : List T.Node) → PiecesLeave (IsLeftAt T.before T.up) self.old.pieces nodes → IsAfter (IsLeftAt T.before T.up) result nodes self.new.pieces }
+        ensures call { IsCall T.before T.up (RefusesAt T.up T.refuses) T.is_memory self.old result self.new }
+        ensures refused { IfErr result (IsFrontRefused (RefusesAt T.up T.refuses) self.new.pieces) }
+        ensures refusals { AreRefusals (RefusesAt T.up T.refuses) self.new.pieces }
         ensures workers { self.new.workers ≡ self.old.workers }
-        ensures bounds { IsBounded self.new }
-        ensures jobs { self.old.jobs ≤ self.new.jobs }
-        ensures call { IsCall T.before T.up (RefusesAt T.up T.refuses) self.old result self.new }
+        ensures bound { length self.new.pieces ≤ (self.new.workers + 1) * 32 }
     {
-        serve(
-            rt,
-            self.gate,
-            &mut self.parts,
-            self.workers as usize,
-            &mut self.jobs,
-        );
-        give(&mut self.parts)
+        if let Err(refused) = work_off(rt, self.gate, &mut self.row, self.workers, &mut self.jobs) {
+            return Err(no_memory::<T>(refused));
+        }
+        give(&mut self.row)
     }
 }

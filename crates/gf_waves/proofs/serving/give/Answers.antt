@@ -1,10 +1,20 @@
-use Rattle.std.proofs.Common.{◌≡◌, ◌∷◌, ◌<◌, rules, length, refl}
-use Rattle.gf_waves.proofs.WaveLaws.{taken_first}
+use Rattle.std.proofs.Common.{Err, subst, sym}
+use Rattle.gf_walk.specs.Pieces.{RefusesAt}
+use Rattle.gf_waves.specs.Wave.{IsGiven}
+use Rattle.gf_waves.proofs.RefusedLaws.{given_refusals, given_refused_any}
+use Rattle.gf_waves.proofs.WaveLaws.{given_leaves, readied_leaves}
 use Rattle.gf_waves.proofs.serving.give.Goals as goal
 
-pub returns-then-not-is_empty-clause-taken : goal.returns-then-not-is_empty-clause-taken
-returns-then-not-is_empty-clause-taken g c =
-    let p = c.index_mut-part.result.now in
-    let whole : p.ready.items ≡ c.remove.result ∷ c.remove.new.self.items = search rules in
-    let inside : 0 < length c.args.parts.now.items = search rules in
-    taken_first c.args.parts.now.items p (record { ready = c.remove.new.self; run = p.run; fault = p.fault; job = p.job }) c.remove.result inside c.index_mut-part.ensures.value whole refl
+pub returns-clause-list : goal.returns-clause-list
+returns-clause-list g c =
+    let lt = g.T.Tree.before in
+    let up = g.T.Tree.up in
+    let refuses = RefusesAt up g.T.Tree.refuses in
+    λ workers jobs next olds nodes h l. given_leaves lt up g.met.T.Tree.strict g.met.T.Tree.tree refuses c.args.row.now.items c.give_first.result c.give_first.new.row.items c.give_first.ensures.given nodes
+    (readied_leaves lt up g.met.T.Tree.strict g.met.T.Tree.tree refuses workers jobs next olds c.args.row.now.items h nodes l)
+
+pub returns-clause-refusals : goal.returns-clause-refusals
+returns-clause-refusals g c = given_refusals g.T.Tree.before g.T.Tree.up (RefusesAt g.T.Tree.up g.T.Tree.refuses) c.args.row.now.items c.give_first.result c.give_first.new.row.items c.give_first.ensures.given c.requires
+
+pub returns-clause-refused : goal.returns-clause-refused
+returns-clause-refused g c = given_refused_any g.T.Tree.before g.T.Tree.up (RefusesAt g.T.Tree.up g.T.Tree.refuses) c.args.row.now.items c.give_first.result c.give_first.new.row.items c.give_first.ensures.given c.requires

@@ -1,18 +1,20 @@
-use Rattle.std.proofs.Common.{◌≡◌, ◌++◌, ◌∷◌, ◌∙◌, [], List, ap, sym, subst, rules}
-use Rattle.std.proofs.lemmas.Result.{IfOk-weaker}
-use Rattle.gf_walk.specs.declared.mark.Mark.TheVariants.{Before}
-use Rattle.gf_walk.specs.Listing.{Leaves, IsLeftAt}
-use Rattle.gf_walk.proofs.ListLaws.{leaves_below}
-use Rattle.gf_waves.specs.Stretches.{StretchesLeave}
+use Rattle.std.proofs.Common.{◌≡◌, ◌∷◌, [], refl, sym, subst, Some, append-nil, ◌∙◌, rules}
+use Rattle.gf_walk.specs.declared.mark.Mark.TheVariants.{Before, Listed}
+use Rattle.gf_walk.specs.declared.expand.Piece.TheVariants.{Ready, Under}
+use Rattle.gf_walk.specs.Listing.{IsLeftAt}
+use Rattle.gf_walk.specs.Pieces.{PiecesLeave}
+use Rattle.gf_walk.proofs.SearchLaws.{listed_here}
+use Rattle.gf_walk.proofs.ListLaws.{gives}
 use Rattle.gf_waves.proofs.waves.Waves.new.Goals as goal
 
--- the node is ready, and what is below it follows
+-- the node, and then what a walker at it, listed, has left
 pub returns-clause-list : goal.returns-clause-list
 returns-clause-list g c =
     let lt = g.T.Tree.before in
-    let left = IsLeftAt lt g.T.Tree.up in
     let t = c.args.tree in
-    let one : c.push.new.self.items ≡ c.args.root ∷ [] = search rules in
-    IfOk-weaker c.begin.result (λ w. (nodes rest : List _) → nodes ≡ c.push.new.self.items ++ rest → left c.below.result rest → StretchesLeave left w.stretches nodes) (λ w. (nodes : List _) → Leaves lt (g.T.Tree.up t) Before c.args.root 0 nodes → StretchesLeave left w.stretches nodes)
-    (λ w h nodes l. let b = leaves_below lt (g.T.Tree.up t) g.met.T.Tree.strict (g.met.T.Tree.tree t) c.args.root nodes l in
-    h nodes b.0 (b.1 ∙ ap (λ x. x ++ b.0) (sym one)) (subst (λ v. left v b.0) (sym c.below.ensures) b.2)) c.begin.ensures.list
+    let up = g.T.Tree.up t in
+    let root = c.args.root in
+    let is : c.push-2.new.row.items ≡ Ready root ∷ Under (record { tree = t; here = root; mark = Listed; depth = 0 }) ∷ [] = search rules in
+    λ nodes l.
+        let k = gives lt up g.met.T.Tree.strict (g.met.T.Tree.tree t) Before root 0 Listed root 0 (Some root) (λ top r at. listed_here lt up top r root root 0 refl at) nodes l in
+        subst (λ ps. PiecesLeave (IsLeftAt lt g.T.Tree.up) ps nodes) (sym is) (k.0, k.1, (k.0, [], sym (append-nil k.0), k.2, refl))

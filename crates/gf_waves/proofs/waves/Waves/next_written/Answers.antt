@@ -1,27 +1,25 @@
-use Rattle.std.proofs.Common.{◌≡◌, List, subst, sym}
-use Rattle.std.proofs.lemmas.Result.{IfOk-weaker, IfErr-weaker}
-use Rattle.gf_walk.specs.Listing.{IsLeftAt, IsFirstOf}
-use Rattle.gf_waves.specs.Stretches.{StretchesLeave, IsKept}
-use Rattle.gf_waves.specs.Parts.{stretches, PartsLeave}
-use Rattle.gf_waves.proofs.KeepLaws.{bounds}
+use Rattle.std.proofs.Common.{inl, inr, refl, sym, ap, subst}
+use Rattle.gf_walk.specs.Listing.{IsLeftAt}
+use Rattle.gf_walk.specs.Pieces.{PiecesLeave, RefusesAt}
+use Rattle.gf_waves.specs.Frontier.{IsFrontRefused}
+use Rattle.gf_walk.proofs.RefusalLaws.{refused_here}
+use Rattle.gf_waves.proofs.RefusedLaws.{starved_refused}
 use Rattle.gf_waves.proofs.waves.Waves.next_written.Goals as goal
 
-pub invariant_of-self : goal.invariant_of-self
-invariant_of-self g c = c.give.ensures.held c.self.inside.workers c.serve.ensures.held
+pub returns-in-Err-clause-list : goal.returns-in-Err-clause-list
+returns-in-Err-clause-list g c = rw (← c.self.view_is) (λ nodes l. subst (λ r. PiecesLeave (IsLeftAt g.T.Tree.before g.T.Tree.up) r nodes) (sym c.in-Err.ensures.unchanged) l)
+
+pub returns-clause-call : goal.returns-clause-call
+returns-clause-call g c = rw (← c.self.view_is) (inl (c.work_off.new.row.items, c.in_default.ensures.worked, c.give.ensures.given))
 
 pub returns-clause-list : goal.returns-clause-list
-returns-clause-list g c =
-    let left = IsLeftAt g.T.Tree.before g.T.Tree.up in
-    rw (← c.self.view_is)
-    (IfOk-weaker c.give.result (λ o. (nodes : List _) → PartsLeave left c.serve.new.parts.items nodes → IsFirstOf (PartsLeave left c.give.new.parts.items) nodes o) (λ o. (nodes : List _) → PartsLeave left c.self.inside.parts.items nodes → IsFirstOf (PartsLeave left c.give.new.parts.items) nodes o)
-    (λ o h nodes l. h nodes (c.serve.ensures.kept nodes l)) c.give.ensures.ok)
+returns-clause-list g c = rw (← c.self.view_is) (λ nodes l. c.give.ensures.list c.self.inside.workers c.self.inside.jobs c.work_off.new.jobs c.self.inside.row.items nodes c.in_default.ensures.worked l)
 
-pub returns-clause-unchanged : goal.returns-clause-unchanged
-returns-clause-unchanged g c =
-    let left = IsLeftAt g.T.Tree.before g.T.Tree.up in
-    rw (← c.self.view_is)
-    (IfErr-weaker c.give.result (λ _. stretches c.give.new.parts.items ≡ stretches c.serve.new.parts.items) (λ _. IsKept left (stretches c.self.inside.parts.items) (stretches c.give.new.parts.items))
-    (λ e h nodes l. subst (λ s. StretchesLeave left s nodes) (sym h) (c.serve.ensures.kept nodes l)) c.give.ensures.err)
-
-pub returns-clause-bounds : goal.returns-clause-bounds
-returns-clause-bounds g c = bounds c.self.inside.workers c.serve.new.jobs c.give.new.parts.items (c.give.ensures.held c.self.inside.workers c.serve.ensures.held)
+-- want of memory may refuse any walker
+pub returns-in-Err-clause-refused : goal.returns-in-Err-clause-refused
+returns-in-Err-clause-refused g c =
+    let lt = g.T.Tree.before in
+    let up = g.T.Tree.up in
+    let refuses = RefusesAt up g.T.Tree.refuses in
+    let e = c.no_memory.result in
+    subst (λ r. IsFrontRefused refuses r e) (sym c.in-Err.ensures.unchanged) (starved_refused lt up refuses c.self.inside.row.items e c.in-Err.ensures.starved (λ w. refused_here (up w.tree) (g.T.Tree.refuses w.tree) w.here w.depth e (c.no_memory.ensures.refused w.tree w.here)))

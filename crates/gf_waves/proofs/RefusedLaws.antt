@@ -1,0 +1,84 @@
+-- A wave and a call keep that each refusal in the row is its walker's, and a refusal that is told is that of the walker in front.
+-- To cite: waved_refusals, given_refusals, given_refused_any, starved_refused.
+use Rattle.std.proofs.Common.{◌≡◌, ℕ, zero, suc, List, [], ◌∷◌, ◌++◌, ◌⊎◌, refl, sym, inl, inr, subst, ◌∙◌, Option, Some, None, Ok, Err, Bool, true, false}
+use Rattle.std.specs.Prelude.{IfErr}
+use Rattle.std.specs.declared.result.Result.{Result}
+use Rattle.gf_walk.specs.declared.mark.Mark.{Mark}
+use Rattle.gf_walk.specs.declared.mark.Mark.TheVariants.{After}
+use Rattle.gf_walk.specs.Place.{Place}
+use Rattle.gf_walk.specs.Pieces.{AreBelow, Follows, GoesDown, Expands}
+use Rattle.gf_walk.specs.declared.expand.Piece.{Piece}
+use Rattle.gf_walk.specs.declared.expand.Piece.TheVariants.{Ready, Under, Refused}
+use Rattle.gf_waves.specs.Frontier.{AreRefusals, IsFrontRefused}
+use Rattle.gf_waves.specs.Wave.{IsWaved, IsExpansion, IsGiven, is_served}
+
+module _ {T N L E : Type 0} (lt : L → L → Type 0) (up : T → N → L → N → Type 0) (refuses : Place T N L → E → Type 0) where
+  refusals_both : (ps qs : List (Piece T N L E)) → AreRefusals refuses ps → AreRefusals refuses qs → AreRefusals refuses (ps ++ qs)
+  refusals_both [] qs a b = b
+  refusals_both (Ready v ∷ ps) qs a b = refusals_both ps qs a b
+  refusals_both (Under w ∷ ps) qs a b = refusals_both ps qs a b
+  refusals_both (Refused w e ∷ ps) qs a b = (a.0, refusals_both ps qs a.1 b)
+
+  -- ---- an expansion
+
+  below_refusals : (t : T) (u : N) (m m1 : Mark L) (ps : List (Piece T N L E)) → AreBelow lt up t u m ps m1 → AreRefusals refuses ps
+  below_refusals t u m m1 [] b = tt
+  below_refusals t u m m1 (Ready v ∷ ps) b = absurd b
+  below_refusals t u m m1 (Under w ∷ ps) b = below_refusals t u (After b.1.label) m1 ps b.2
+  below_refusals t u m m1 (Refused w e ∷ ps) b = absurd b
+
+  follows_refusals : (Full : Type 0) (w : Place T N L) (ps : List (Piece T N L E)) → Follows lt up refuses w Full ps → AreRefusals refuses ps
+  follows_refusals Full w [] f = tt
+  follows_refusals Full w (Ready v ∷ ps) f = absurd f
+  follows_refusals Full w (Under x ∷ ps) f = subst (AreRefusals refuses) (sym f.0) tt
+  follows_refusals Full w (Refused x e ∷ ps) f = (subst (λ y. refuses y e) (sym f.1) f.2, subst (AreRefusals refuses) (sym f.0) tt)
+
+  down_refusals : (most : ℕ) (w : Place T N L) (ps : List (Piece T N L E)) → GoesDown lt up refuses most w ps → AreRefusals refuses ps
+  down_refusals most w ps g = subst (AreRefusals refuses) (sym g.whole) (refusals_both g.below g.rest (below_refusals w.tree w.here w.mark g.mark g.below g.children) (follows_refusals _ _ g.rest g.follows))
+
+  one_refusals : (most : ℕ) (w : Place T N L) (ps : List (Piece T N L E)) → IsExpansion lt up refuses most w ps → AreRefusals refuses ps
+  one_refusals most w ps (inl (inl g)) = down_refusals most w ps g
+  one_refusals most w ps (inl (inr h)) = subst (AreRefusals refuses) (sym h.2) (down_refusals most _ h.1 h.3)
+  one_refusals most w ps (inr h) = subst (AreRefusals refuses) (sym h.1) (h.2, tt)
+
+  -- ---- a wave
+
+  pub waved_refusals : (most m : ℕ) (olds news : List (Piece T N L E)) → IsWaved lt up refuses most m olds news → AreRefusals refuses olds → AreRefusals refuses news
+  waved_refusals most zero olds news h a = subst (AreRefusals refuses) (sym h) a
+  waved_refusals most (suc m) [] news h a = subst (AreRefusals refuses) (sym h) a
+  waved_refusals most (suc m) (Ready v ∷ ps) news h a = subst (AreRefusals refuses) (sym h.1) (waved_refusals most (suc m) ps h.0 h.2 a)
+  waved_refusals most (suc m) (Under w ∷ ps) news h a = subst (AreRefusals refuses) (sym h.2) (refusals_both h.0 h.1 (one_refusals most w h.0 h.3) (waved_refusals most m ps h.1 h.4 a))
+  waved_refusals most (suc m) (Refused w e ∷ ps) news h a = subst (AreRefusals refuses) (sym h.2) (refusals_both h.0 h.1 (one_refusals most w h.0 h.3) (waved_refusals most m ps h.1 h.4 a.1))
+
+  -- ---- an answer
+
+  pub given_refusals : (olds : List (Piece T N L E)) (answer : Result (Option N) E) (news : List (Piece T N L E)) → IsGiven lt up refuses olds answer news → AreRefusals refuses olds → AreRefusals refuses news
+  given_refusals [] answer news h a = subst (AreRefusals refuses) (sym h.1) tt
+  given_refusals (Ready v ∷ ps) answer news h a = subst (AreRefusals refuses) (sym h.1) a
+  given_refusals (Refused w e ∷ ps) answer news h a = subst (AreRefusals refuses) (sym h.1) a.1
+  given_refusals (Under w ∷ ps) (Ok None) news (inl h) a = absurd h
+  given_refusals (Under w ∷ ps) (Ok (Some v)) news (inl h) a = subst (AreRefusals refuses) (sym h.3) a
+  given_refusals (Under w ∷ ps) (Err e) news (inl h) a = subst (AreRefusals refuses) (sym h.1) a
+  given_refusals (Under w ∷ ps) answer news (inr h) a = given_refusals ps answer news h.1 a
+
+  same_refusal : (e f : E) → (answer : Result (Option N) E) → answer ≡ Err e → answer ≡ Err f → e ≡ f
+  same_refusal e f answer h k = cc
+
+  -- a refusal that is told is that of the walker in front
+  given_refused : (olds : List (Piece T N L E)) (e : E) (news : List (Piece T N L E)) → IsGiven lt up refuses olds (Err e) news → AreRefusals refuses olds → IsFrontRefused refuses news e
+  given_refused [] e news h a = absurd (let f = h.0 in cc)
+  given_refused (Ready v ∷ ps) e news h a = absurd (let f = h.0 in cc)
+  given_refused (Refused w f ∷ ps) e news h a = subst (λ r. IsFrontRefused refuses r e) (sym h.1) (subst (λ g. refuses w g) (sym (same_refusal e f (Err e) refl h.0)) a.0)
+  given_refused (Under w ∷ ps) e news (inl h) a = subst (λ r. IsFrontRefused refuses r e) (sym h.1) h.0
+  given_refused (Under w ∷ ps) e news (inr h) a = given_refused ps e news h.1 a
+
+  pub given_refused_any : (olds : List (Piece T N L E)) (answer : Result (Option N) E) (news : List (Piece T N L E)) → IsGiven lt up refuses olds answer news → AreRefusals refuses olds → IfErr answer (IsFrontRefused refuses news)
+  given_refused_any olds (Ok o) news h a = tt
+  given_refused_any olds (Err e) news h a = given_refused olds e news h a
+
+  -- where no node is ready in front, what may refuse any walker may refuse the one in front
+  pub starved_refused : (ps : List (Piece T N L E)) (e : E) → is_served ps ≡ false → ((w : Place T N L) → refuses w e) → IsFrontRefused refuses ps e
+  starved_refused [] e h any = absurd (let f : true ≡ false = h in cc)
+  starved_refused (Ready v ∷ ps) e h any = absurd (let f : true ≡ false = h in cc)
+  starved_refused (Under w ∷ ps) e h any = any w
+  starved_refused (Refused w f ∷ ps) e h any = any w
