@@ -13,7 +13,6 @@ use Rattle.gf_vec.proofs.VectorLaws.{dot_comm, dot-plus, dot-times, length-plus,
 use Rattle.gf_exponents.specs.Exponents.{Exponents, same, weight, whole_weight}
 use Rattle.gf_exponents.specs.Orders.{lighter, gains, IsWeightedBelow}
 use Rattle.gf_exponents.proofs.WeightLaws.{weight-same}
-use Rattle.gf_exponents.proofs.WholeWeightLaws.{natural-weight}
 use Rattle.gf_poly.specs.Polynomial.{Terms}
 use Rattle.gf_poly.specs.Marking.{MarkedPolynomial, Each}
 use Rattle.gf_ideal.specs.Membership.{AreInVariables}
@@ -23,7 +22,7 @@ use Rattle.gf_facets.specs.Regions.{Region, IsInRegion, all_positive}
 use Rattle.gf_facets.specs.Facets.{IsInClosedCone, IsInOpenCone}
 use Rattle.gf_facets.specs.MarkedBases.{IsMarkedReducedBasis, IsBasisInRegion}
 use Rattle.gf_facets.proofs.WholeLaws.{weight-sum, weight-multiple}
-use Rattle.gf_facets.proofs.RegionLaws.{region-natural, bounds, beats}
+use Rattle.gf_facets.proofs.RegionLaws.{region-weight, bounds, beats}
 use Rattle.gf_facets.proofs.SystemLaws.{contained_all, open_of_marks}
 use Rattle.gf_bases.proofs.ExistenceLaws.{weighted_exists}
 use Rattle.gf_bases.proofs.FiniteLaws.{basis_of_vector, basis_everywhere}
@@ -87,7 +86,7 @@ closed_of_marks : (n : ℕ) (k : Region) (v : List ℤ) (bs : List MarkedPolynom
 closed_of_marks n k v bs r m b c x i = at ((m b c).tail x i)
   where
     natural : (x : Exponents) → pos (weight (gains v) x) ≡ whole_weight v x
-    natural x = natural-weight v x (region-natural n k v r)
+    natural = region-weight n k v r
 
     at : (same x b.head ≡ true) ⊎ IsWeightedBelow (gains v) x b.head → whole_weight v x ≤ℤ whole_weight v b.head
     at (inl s) = omega (arith, ints, weight-same (gains v) x b.head s, natural x, natural b.head)
