@@ -10,7 +10,8 @@ use Rattle.gf_ideal.specs.Membership.{AreInVariables}
 use Rattle.gf_facets.specs.Regions.{Region, all_positive}
 use Rattle.gf_facets.specs.MarkedBases.{IsMarkedReducedBasis, IsBasisInRegion}
 use Rattle.gf_bases.proofs.FiniteLaws.{AreOfVariables, suits_or_not, listed_in_region}
-use Rattle.gf_bases.proofs.LawsHold.{marked_bases_are_reduced, weights_have_bases, monomial_ideals_are_of_bases, only_ideals_count}
+use Rattle.gf_bases.proofs.LawsHold.{marked_bases_are_reduced, weights_have_bases, only_ideals_count}
+use Rattle.gf_initial.proofs.TheoremsHold.{monomial_ideals_are_of_bases}
 use Rattle.gf_all_bases.specs.AllBases.{all_bases, bases_where}
 use Rattle.gf_all_bases.specs.Laws.{BasesAreListed, WeightsAreListed}
 

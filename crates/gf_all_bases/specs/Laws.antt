@@ -9,8 +9,8 @@ use Rattle.gf_ideal.specs.Marks.{AreMarked}
 use Rattle.gf_ideal.specs.Bases.{IsReducedBasis}
 use Rattle.gf_facets.specs.Regions.{Region, IsInRegion, all_positive}
 use Rattle.gf_facets.specs.Facets.{IsInClosedCone}
+use Rattle.gf_facets.specs.InitialIdeals.{IsMonomialAt}
 use Rattle.gf_facets.specs.MarkedBases.{IsMarkedReducedBasis, IsBasisInRegion}
-use Rattle.gf_bases.specs.MonomialIdeals.{IsMonomialAt}
 use Rattle.gf_all_bases.specs.AllBases.{all_bases}
 
 -- the list holds exactly the marked reduced bases of the region; for the region of all positive vectors, exactly all of

@@ -3,7 +3,7 @@
 use Rattle.std.specs.Prelude.{◌≡◌, ◌⊎◌, ℕ, suc, ◌<◌, List, [], ◌∷◌, Contains, true}
 use Rattle.std.proofs.Common.{arith, refl, sym, ap, ◌∙◌, subst, inl, inr}
 use Rattle.gf_exponents.specs.Exponents.{Exponents, Divides, IsInRing, NoMultiple, same, plus}
-use Rattle.gf_exponents.specs.Orders.{lighter, gains, IsWeightedBelow}
+use Rattle.gf_exponents.specs.Orders.{lighter, IsWeightedBelow}
 use Rattle.gf_exponents.proofs.ExponentsLaws.{plus_comm, multiple_or_not}
 use Rattle.gf_poly.specs.Polynomial.{Terms}
 use Rattle.gf_poly.specs.Marking.{MarkedPolynomial, Each, polys}
@@ -21,18 +21,13 @@ use Rattle.gf_ideal.proofs.PieceLaws.{Contains-polys, Contains-marked, spans_val
 use Rattle.gf_ideal.proofs.StepLaws.{IsPieceIn, closed-ring}
 use Rattle.gf_facets.specs.Regions.{Region}
 use Rattle.gf_facets.specs.MarkedBases.{IsMarkedReducedBasis, IsBasisInRegion}
-use Rattle.gf_facets.proofs.RegionLaws.{region-natural, region-positive}
-use Rattle.std.proofs.lemmas.List.Elements.{recursion_from_All}
-use Rattle.std.specs.Prelude.{pos, ◌≤ℤ◌}
-use Rattle.gf_bases.specs.MonomialIdeals.{IsMonomialAt}
-use Rattle.gf_bases.specs.Laws.{DicksonsLemma, MarkedBasesAreReduced, OnlyIdealsCount, BasesAreToldByMarks, HomogeneousBases, ReducedBasesExist, WeightsHaveBases, VectorsHaveBases, MonomialIdealsAreOfBases, BasesAreFinite}
+use Rattle.gf_bases.specs.Laws.{DicksonsLemma, MarkedBasesAreReduced, OnlyIdealsCount, BasesAreToldByMarks, HomogeneousBases, ReducedBasesExist, WeightsHaveBases, VectorsHaveBases, BasesAreFinite}
 use Rattle.gf_bases.proofs.DicksonLaws.{IsNew, dickson}
 use Rattle.gf_bases.proofs.ExistenceLaws.{reduced_exists, weighted_exists, marked_unique}
 use Rattle.gf_bases.proofs.ContainmentLaws.{contained_equal}
-use Rattle.gf_bases.proofs.FiniteLaws.{basis_everywhere, vector_of_basis, listed_in_region}
-use Rattle.gf_bases.proofs.RegionBases.{basis_at, basis_of_marks}
+use Rattle.gf_bases.proofs.FiniteLaws.{basis_everywhere, listed_in_region}
+use Rattle.gf_bases.proofs.RegionBases.{basis_at}
 use Rattle.gf_bases.proofs.GradedBasisLaws.{reduced-homogeneous}
-use Rattle.gf_bases.proofs.InitialIdealLaws.{wholes, wholes-gains, marked_where_monomial, monomial_where_marked}
 use Rattle.gf_bases.proofs.ShiftedWeightLaws.{vectors_have_bases as each_vector}
 
 -- ---- Dickson's lemma
@@ -143,27 +138,6 @@ weights_have_bases = basis_at
 
 pub vectors_have_bases : VectorsHaveBases
 vectors_have_bases = each_vector
-
--- ---- initial ideals
-
-pub monomial_ideals_are_of_bases : MonomialIdealsAreOfBases
-monomial_ideals_are_of_bases n k fs v vars r = (there, back)
-  where
-    whole : wholes (gains v) ≡ v
-    whole = wholes-gains v (recursion_from_All (λ x. pos 0 ≤ℤ x) v (region-natural n k v r))
-
-    there : IsMonomialAt n fs v → (bs : List MarkedPolynomial) × IsBasisInRegion n fs k bs × IsReducedBasis n fs (gains v) bs
-    there m = at (weighted_exists n fs (gains v) vars)
-      where
-        at : ((bs : List MarkedPolynomial) × IsMarkedReducedBasis n fs bs × AreMarked (IsWeightedBelow (gains v)) bs) →
-            (bs : List MarkedPolynomial) × IsBasisInRegion n fs k bs × IsReducedBasis n fs (gains v) bs
-        at b = with_marks (marked_where_monomial n fs (gains v) b.0 vars (subst (IsMonomialAt n fs) (sym whole) m) b.1 b.2)
-          where
-            with_marks : AreMarked (lighter (gains v)) b.0 → (bs : List MarkedPolynomial) × IsBasisInRegion n fs k bs × IsReducedBasis n fs (gains v) bs
-            with_marks q = (b.0, basis_of_marks n fs k b.0 v b.1 r q, to_reduced n fs (gains v) b.0 vars b.1 (region-positive n k v r) q)
-
-    back : ((bs : List MarkedPolynomial) × IsBasisInRegion n fs k bs × IsReducedBasis n fs (gains v) bs) → IsMonomialAt n fs v
-    back b = subst (IsMonomialAt n fs) whole (monomial_where_marked n fs (gains v) b.0 vars (vector_of_basis n fs k b.0 b.1).0 b.2.reduced.basis.marked)
 
 -- ---- finiteness
 

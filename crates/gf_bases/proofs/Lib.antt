@@ -11,6 +11,5 @@ pub mod GradedBasisLaws  -- what grades the generators grades the reduced basis
 pub mod AllBasesLaws  -- a list of all marked reduced bases
 pub mod FiniteLaws  -- the list of a region, and who has one
 pub mod RegionBases  -- each vector of a region has a basis of the region
-pub mod InitialIdealLaws  -- initial ideals that monomials generate
 pub mod ShiftedWeightLaws  -- any vector, where the ideal is homogeneous
 pub mod LawsHold  -- the theorems of specs/Laws.antt

@@ -1,6 +1,6 @@
 -- Each vector of a region lies in the closed cone of a marked reduced basis of the region: of the reduced one for the vector
 -- before lex, whose marks a vector far along and a little beside gives.
--- To cite: basis_of_marks, basis_at.
+-- To cite: basis_at.
 use Rattle.std.specs.Prelude.{◌≡◌, ◌⊎◌, ℕ, true, List, [], ◌∷◌, length, All, ℤ, pos, neg_ℤ, ◌+ℤ◌, ◌*ℤ◌, ◌<ℤ◌, ◌≤ℤ◌}
 use Rattle.std.specs.List.{AllByRecursion}
 use Rattle.std.proofs.Common.{arith, sym, ap, ap₂, ◌∙◌, inl, inr}
@@ -11,9 +11,8 @@ use Rattle.gf_int.proofs.SignLaws.{0≤-*ℤ, ≤ℤ-*ℤ}
 use Rattle.gf_vec.specs.Vector.{dot, vector_sum}
 use Rattle.gf_vec.proofs.VectorLaws.{dot_comm, dot-plus, dot-times, length-plus, length-times}
 use Rattle.gf_exponents.specs.Exponents.{Exponents, same, weight, whole_weight}
-use Rattle.gf_exponents.specs.Orders.{lighter, gains, IsWeightedBelow}
+use Rattle.gf_exponents.specs.Orders.{gains, IsWeightedBelow}
 use Rattle.gf_exponents.proofs.WeightLaws.{weight-same}
-use Rattle.gf_exponents.proofs.WholeWeightLaws.{natural-weight}
 use Rattle.gf_poly.specs.Polynomial.{Terms}
 use Rattle.gf_poly.specs.Marking.{MarkedPolynomial, Each}
 use Rattle.gf_ideal.specs.Membership.{AreInVariables}
@@ -23,15 +22,10 @@ use Rattle.gf_facets.specs.Regions.{Region, IsInRegion, all_positive}
 use Rattle.gf_facets.specs.Facets.{IsInClosedCone, IsInOpenCone}
 use Rattle.gf_facets.specs.MarkedBases.{IsMarkedReducedBasis, IsBasisInRegion}
 use Rattle.gf_facets.proofs.WholeLaws.{weight-sum, weight-multiple}
-use Rattle.gf_facets.proofs.RegionLaws.{region-natural, bounds, beats}
+use Rattle.gf_facets.proofs.RegionLaws.{region-weight, bounds, beats}
 use Rattle.gf_facets.proofs.SystemLaws.{contained_all, open_of_marks}
 use Rattle.gf_bases.proofs.ExistenceLaws.{weighted_exists}
 use Rattle.gf_bases.proofs.FiniteLaws.{basis_of_vector, basis_everywhere}
-
--- whose marks a vector of the region gives
-pub basis_of_marks : (n : ℕ) (fs : List Terms) (k : Region) (bs : List MarkedPolynomial) (v : List ℤ) → IsMarkedReducedBasis n fs bs →
-    IsInRegion n k v → AreMarked (lighter (gains v)) bs → IsBasisInRegion n fs k bs
-basis_of_marks n fs k bs v b r m = record { reduced = b.reduced; arranged = b.arranged; weight = v; inside = r; marked = m }
 
 -- ---- far along one vector, and another beside it
 
@@ -87,7 +81,7 @@ closed_of_marks : (n : ℕ) (k : Region) (v : List ℤ) (bs : List MarkedPolynom
 closed_of_marks n k v bs r m b c x i = at ((m b c).tail x i)
   where
     natural : (x : Exponents) → pos (weight (gains v) x) ≡ whole_weight v x
-    natural x = natural-weight v x (region-natural n k v r)
+    natural = region-weight n k v r
 
     at : (same x b.head ≡ true) ⊎ IsWeightedBelow (gains v) x b.head → whole_weight v x ≤ℤ whole_weight v b.head
     at (inl s) = omega (arith, ints, weight-same (gains v) x b.head s, natural x, natural b.head)

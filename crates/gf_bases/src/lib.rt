@@ -1,10 +1,10 @@
 //! The set of reduced Gröbner bases of an ideal: each order has one, and they are finitely many.
 //!
-//! Start at `specs/MonomialIdeals.antt`; `specs/Laws.antt` has the theorems. Numbers are of any size here, and no function
+//! `specs/Laws.antt` has the theorems; the words are those of `gf_facets` and `gf_ideal`. Numbers are of any size here, and no function
 //! computes anything: each one's contract is a theorem, so that the check proves it.
 #![tactic(auto)]
 
-ghost use Rattle.gf_bases.specs.Laws.{DicksonsLemma, MarkedBasesAreReduced, OnlyIdealsCount, BasesAreToldByMarks, HomogeneousBases, ReducedBasesExist, WeightsHaveBases, VectorsHaveBases, MonomialIdealsAreOfBases, BasesAreFinite};
+ghost use Rattle.gf_bases.specs.Laws.{DicksonsLemma, MarkedBasesAreReduced, OnlyIdealsCount, BasesAreToldByMarks, HomogeneousBases, ReducedBasesExist, WeightsHaveBases, VectorsHaveBases, BasesAreFinite};
 
 /// In each sequence of monomials one divides a later one (Dickson 1913).
 pub fn dicksons_lemma()
@@ -44,11 +44,6 @@ pub fn weights_have_bases()
 /// Any whole vector lies in the closed cone of a basis, where the generators are homogeneous by a positive grade.
 pub fn vectors_have_bases()
     ensures { VectorsHaveBases }
-{}
-
-/// Monomials generate the initial ideal at a vector of a region exactly where a basis is the reduced one for it.
-pub fn monomial_ideals_are_of_bases()
-    ensures { MonomialIdealsAreOfBases }
 {}
 
 /// An ideal has finitely many marked reduced bases (Mora, Robbiano 1988).

@@ -2,6 +2,7 @@
 -- To cite: closed_by_facets, open_by_facets.
 use Rattle.std.specs.Prelude.{◌≡◌, ◌⊎◌, ℕ, List, [], length, ℤ, pos, neg_ℤ, ◌+ℤ◌, ◌*ℤ◌, ◌<ℤ◌, ◌≤ℤ◌}
 use Rattle.std.proofs.Common.{arith, sym, ap, ◌∙◌, inl, inr}
+use Rattle.std.proofs.Math.IntN.{*ℤ-zero}
 use Rattle.std.proofs.lemmas.Int.{ints}
 use Rattle.std.proofs.lemmas.List.Elements.{All-nil}
 use Rattle.gf_vec.specs.Vector.{dot}
@@ -67,7 +68,4 @@ open_by_facets n bs w v k o e f h = bounded (normals_listed bs)
             at : (b : List ℤ) → IsNormal bs b → (dot b v <ℤ pos 0) ⊎ ((dot b v ≡ pos 0) ⊎ (pos 0 <ℤ dot b v)) → pos 0 <ℤ dot b v
             at b q (inr (inr l)) = l
             at b q (inl l) = let g = facet_below n bs w v b k o q l in let d = g.below in absurd (omega (arith, ints, h g.normal g.facet, d))
-            at b q (inr (inl z)) = absurd (clash v b q (facet_below n bs w (past m.0 v w) b k o q (omega (arith, ints, value b, ap (λ y. pos m.0 *ℤ y) z, nothing (pos m.0), normals_open n bs w k o b q))))
-              where
-                nothing : (y : ℤ) → y *ℤ pos 0 ≡ pos 0
-                nothing y = omega (arith, ints)
+            at b q (inr (inl z)) = absurd (clash v b q (facet_below n bs w (past m.0 v w) b k o q (omega (arith, ints, value b, ap (λ y. pos m.0 *ℤ y) z, *ℤ-zero (pos m.0), normals_open n bs w k o b q))))

@@ -2,11 +2,12 @@
 -- negated normal; and back.
 -- To cite: IsNormalOf, normal_of, normal_of_monomial, normal-length, normal-primitive, normal-nonzero, row-further, beyond_of_inside,
 -- HasFurther, inside_of_beyond.
-use Rattle.std.specs.Prelude.{◌≡◌, ◌⊎◌, ℕ, zero, suc, ◌<◌, ◌≤◌, true, false, List, length, get_or, Contains, ℤ, pos, negsuc, neg_ℤ, ◌+ℤ◌, ◌-ℤ◌, ◌*ℤ◌, ◌<ℤ◌}
-use Rattle.std.proofs.Common.{arith, refl, sym, ap, ◌∙◌, subst, inl, inr}
+use Rattle.std.specs.Prelude.{◌≡◌, ◌⊎◌, ℕ, ◌<◌, true, false, List, length, get_or, Contains, ℤ, pos, neg_ℤ, ◌+ℤ◌, ◌-ℤ◌, ◌*ℤ◌, ◌<ℤ◌}
+use Rattle.std.proofs.Common.{arith, sym, ap, ◌∙◌, subst, inl, inr}
+use Rattle.std.proofs.Math.IntN.{*ℤ-zero}
 use Rattle.std.proofs.lemmas.Int.{ints}
 use Rattle.gf_int.specs.Content.{IsPrimitive, scaled}
-use Rattle.gf_int.proofs.RingLaws.{dv, dn, dneg, ◌⊗◌, same as same_number}
+use Rattle.gf_int.proofs.RingLaws.{*ℤ-neg}
 use Rattle.gf_int.proofs.SignLaws.{0<-*ℤ, 0<-cancel}
 use Rattle.gf_frac.specs.Fraction.{one_ℚ}
 use Rattle.gf_vec.specs.Vector.{dot}
@@ -25,6 +26,7 @@ use Rattle.gf_facets.specs.Facets.{IsInsideFacet}
 use Rattle.gf_facets.specs.Beyond.{IsStepsFrom, IsFurther, IsBeyond}
 use Rattle.gf_facets.specs.MarkedBases.{AreCanonical}
 use Rattle.gf_facets.proofs.VectorLaws.{IsNonzero, vectors_by_entries, get-times, get-negated, length-negated, dot-negated, vector_or_not}
+use Rattle.gf_facets.proofs.WholeLaws.{no_multiple}
 use Rattle.gf_facets.proofs.PrimitiveLaws.{primitive_part, primitive_of, negated-primitive, multiple_divided, primitive_unique, divided-entry}
 use Rattle.gf_facets.proofs.RowLaws.{same_or_other, row-in, IsTermRow, row-from, term_of, monomial_of, term_length, length-differences, get-differences, dot-differences, differs}
 
@@ -122,21 +124,15 @@ normal-nonzero n bs a k p = (i.0, λ z. i.1 (equal z))
     equal z =
         let d = divided-entry q.is_row a q.part in
         let e : get_or q.is_row i.0 (pos 0) ≡ pos (entry q.member.head i.0) -ℤ pos (entry q.at i.0) = ap (λ (r : List ℤ). get_or r i.0 (pos 0)) q.row ∙ get-differences q.member.head q.at i.0 ((k q.member q.contained).head ∙ sym q.width) in
-        let f : get_or q.is_row i.0 (pos 0) ≡ pos 0 = d.3 i.0 ∙ ap (λ y. pos d.0 *ℤ y) z ∙ nothing (pos d.0) in
+        let f : get_or q.is_row i.0 (pos 0) ≡ pos 0 = d.3 i.0 ∙ ap (λ y. pos d.0 *ℤ y) z ∙ *ℤ-zero (pos d.0) in
         omega (arith, ints, e, f)
-      where
-        nothing : (k : ℤ) → k *ℤ pos 0 ≡ pos 0
-        nothing k = same_number (dv k ⊗ dn 0) (dn 0) (omega arith)
 
 -- ---- inside a facet
 
 -- the row of x and y is k times a: y is further along the negatives
 pub row-further : (x y : Exponents) (a : List ℤ) (k : ℕ) → 0 < k → length x ≡ length y →
     ((i : ℕ) → get_or (differences x y) i (pos 0) ≡ pos k *ℤ get_or a i (pos 0)) → IsFurther (negated a) y x
-row-further x y a k l e h = (k, omega arith, λ i. omega (arith, ints, h i, get-differences x y i e, ap (λ z. pos k *ℤ z) (get-negated a i), minus (pos k) (get_or a i (pos 0))))
-  where
-    minus : (k z : ℤ) → k *ℤ neg_ℤ z ≡ neg_ℤ (k *ℤ z)
-    minus k z = same_number (dv k ⊗ dneg (dv z)) (dneg (dv k ⊗ dv z)) (omega arith)
+row-further x y a k l e h = (k, omega arith, λ i. omega (arith, ints, h i, get-differences x y i e, ap (λ z. pos k *ℤ z) (get-negated a i), *ℤ-neg (pos k) (get_or a i (pos 0))))
 
 -- by a vector inside the facet each unmarked monomial is lighter, or further along the negated normal
 pub beyond_of_inside : (n : ℕ) (bs : List MarkedPolynomial) (a v : List ℤ) →
@@ -199,11 +195,8 @@ inside_of_beyond n cs a v k e prime nz o m h = record { normal = normal; zero = 
         lengths : length b.head ≡ length t.mono
         lengths = (k b c).head ∙ sym (term_length n b.poly t (k b c).variables q)
 
-        minus : (k z : ℤ) → k *ℤ neg_ℤ z ≡ neg_ℤ (k *ℤ z)
-        minus k z = same_number (dv k ⊗ dneg (dv z)) (dneg (dv k ⊗ dv z)) (omega arith)
-
         less : (i : ℕ) → pos (entry b.head i) -ℤ pos (entry t.mono i) ≡ pos f.0 *ℤ neg_ℤ (get_or a i (pos 0))
-        less i = omega (arith, ints, f.2 i, minus (pos f.0) (get_or a i (pos 0)))
+        less i = omega (arith, ints, f.2 i, *ℤ-neg (pos f.0) (get_or a i (pos 0)))
 
     -- whose primitive part they are
     part : (b : MarkedPolynomial) (t : Term) → Contains cs b → Contains b.poly t → IsFurther a t.mono b.head →
@@ -211,15 +204,7 @@ inside_of_beyond n cs a v k e prime nz o m h = record { normal = normal; zero = 
     part b t c q f = subst (λ (z : List ℤ). IsPrimitivePart z (negated a)) (sym (row b t c q f)) (pos f.0, multiple_divided f.0 (negated a) (omega (arith, f.1)) (negated-primitive a prime) nonzero)
 
     never : (x y : Exponents) → same x y ≡ true → IsFurther a y x → ⊥
-    never x y s f = nz.1 (zero_of f.0 (get_or a nz.0 (pos 0)) f.1 (omega (arith, ints, f.2 nz.0, entries_same x y s nz.0)))
-      where
-        zero_of : (k : ℕ) (z : ℤ) → 1 ≤ k → pos k *ℤ z ≡ pos 0 → z ≡ pos 0
-        zero_of k (pos zero) l q = refl
-        zero_of k (pos (suc z)) l q = let p : pos 0 <ℤ (pos k *ℤ pos (suc z)) = 0<-*ℤ (pos k) (pos (suc z)) (omega (arith, ints, l)) (omega (arith, ints)) in absurd (omega (arith, ints, p, q))
-        zero_of k (negsuc z) l q =
-            let p : pos 0 <ℤ (pos k *ℤ pos (suc z)) = 0<-*ℤ (pos k) (pos (suc z)) (omega (arith, ints, l)) (omega (arith, ints)) in
-            let r : pos k *ℤ negsuc z ≡ neg_ℤ (pos k *ℤ pos (suc z)) = same_number (dn k ⊗ dneg (dn (suc z))) (dneg (dn k ⊗ dn (suc z))) (omega arith) in
-            absurd (omega (arith, ints, p, q, r))
+    never x y s f = nz.1 (no_multiple f.0 (get_or a nz.0 (pos 0)) f.1 (omega (arith, ints, f.2 nz.0, entries_same x y s nz.0)))
 
     normal : IsNormal cs (negated a)
     normal =

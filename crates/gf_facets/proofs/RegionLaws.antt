@@ -1,5 +1,5 @@
 -- Far along a vector that is inside a facet, and a little past it: a weight in the region that gives the marks beyond.
--- To cite: region-positive, region-natural, past, dot-past, beats, bounds, dot-itself, beyond_weight, beyond-positive.
+-- To cite: region-positive, region-natural, region-weight, past, dot-past, beats, bounds, dot-itself, beyond_weight, beyond-positive.
 use Rattle.std.specs.Prelude.{◌≡◌, ◌⊎◌, ℕ, zero, suc, ◌+◌, true, List, [], ◌∷◌, length, All, ℤ, pos, negsuc, neg_ℤ, ◌+ℤ◌, ◌*ℤ◌, ◌<ℤ◌, ◌≤ℤ◌}
 use Rattle.std.specs.List.{AllByRecursion}
 use Rattle.std.proofs.Common.{arith, refl, sym, ap, ap₂, ◌∙◌, inl, inr}
@@ -22,7 +22,7 @@ use Rattle.gf_ideal.proofs.TermLaws.{canonical, Canonical, canonical_exponents}
 use Rattle.gf_facets.specs.Rows.{negated}
 use Rattle.gf_facets.specs.Regions.{Region, IsInRegion}
 use Rattle.gf_facets.specs.Beyond.{IsBeyond}
-use Rattle.gf_facets.proofs.VectorLaws.{IsNonzero, length-negated, dot-negated}
+use Rattle.gf_facets.proofs.VectorLaws.{IsNonzero, minus_one, length-negated, dot-negated}
 use Rattle.gf_facets.proofs.WholeLaws.{weight-apart, weight-sum, weight-multiple}
 
 -- ---- vectors of a region
@@ -43,6 +43,10 @@ region-positive n k v r i l = positive-gains v (All-from_recursion (λ x. pos 1 
     at [] h = tt
     at (x ∷ v) h = (omega (arith, ints, h.0), at v h.1)
 
+-- they weigh as natural numbers
+pub region-weight : (n : ℕ) (k : Region) (v : List ℤ) → IsInRegion n k v → (x : Exponents) → pos (weight (gains v) x) ≡ whole_weight v x
+region-weight n k v r x = natural-weight v x (region-natural n k v r)
+
 -- ---- m times v, less a
 
 abbrev pub past : ℕ → List ℤ → List ℤ → List ℤ
@@ -55,10 +59,7 @@ dot-past m v a c e = dot-plus (scaled (pos m) v) (negated a) c (length-times (po
 weight-past : (m : ℕ) (v a : List ℤ) (x : Exponents) → length v ≡ length a →
     whole_weight (past m v a) x ≡ pos m *ℤ whole_weight v x +ℤ neg_ℤ (whole_weight a x)
 weight-past m v a x e = weight-sum (scaled (pos m) v) (negated a) x (length-times (pos m) v ∙ e ∙ sym (length-negated a))
-    ∙ ap₂ ◌+ℤ◌ (weight-multiple (pos m) v x) (weight-multiple (negsuc 0) a x ∙ minus (whole_weight a x))
-  where
-    minus : (z : ℤ) → negsuc 0 *ℤ z ≡ neg_ℤ z
-    minus z = omega (arith, ints)
+    ∙ ap₂ ◌+ℤ◌ (weight-multiple (pos m) v x) (weight-multiple (negsuc 0) a x ∙ minus_one (whole_weight a x))
 
 -- ---- bounds
 
@@ -160,7 +161,7 @@ beyond_weight n k v a bs r e nz o m = at (bounds (λ z. z) a) (bounds (λ c. dot
         }
 
         natural : (x : Exponents) → pos (weight (gains u) x) ≡ whole_weight u x
-        natural x = natural-weight u x (region-natural n k u inside)
+        natural = region-weight n k u inside
 
         marked : AreMarked (lighter (gains u)) bs
         marked b c = record { monic = (m b c).monic; tail = λ x h. lower x h ((m b c).tail x h) }

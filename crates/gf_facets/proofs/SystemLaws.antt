@@ -16,7 +16,6 @@ use Rattle.gf_exponents.specs.Exponents.{Exponents, entry, same, weight, whole_w
 use Rattle.gf_exponents.specs.Orders.{lighter, gains}
 use Rattle.gf_exponents.proofs.ExponentsLaws.{same_by_entries}
 use Rattle.gf_exponents.proofs.WeightLaws.{weight-nil, weight-same}
-use Rattle.gf_exponents.proofs.WholeWeightLaws.{natural-weight}
 use Rattle.gf_poly.specs.Polynomial.{coefficient, HasVariables}
 use Rattle.gf_poly.specs.Marking.{MarkedPolynomial, Each, HaveVariables, HasMarkedTerm}
 use Rattle.gf_ideal.specs.Membership.{HasMonomial}
@@ -33,7 +32,7 @@ use Rattle.gf_facets.specs.MarkedBases.{AreCanonical}
 use Rattle.gf_facets.proofs.RowLaws.{IsTermRow, row-from, length-differences, term_length}
 use Rattle.gf_facets.proofs.ConeLaws.{rows_open, open_by_rows}
 use Rattle.gf_facets.proofs.UnitLaws.{units_wide, units_on_positive, positive_by_units}
-use Rattle.gf_facets.proofs.RegionLaws.{region-natural, region-positive}
+use Rattle.gf_facets.proofs.RegionLaws.{region-positive, region-weight}
 
 -- ---- lists
 
@@ -151,7 +150,7 @@ pub marks_of_open : (n : ℕ) (k : Region) (bs : List MarkedPolynomial) (v : Lis
 marks_of_open n k bs v r one h b c = record { monic = one b c; tail = λ x m. at x (h b c x m) }
   where
     natural : (x : Exponents) → pos (weight (gains v) x) ≡ whole_weight v x
-    natural x = natural-weight v x (region-natural n k v r)
+    natural = region-weight n k v r
 
     at : (x : Exponents) → (same x b.head ≡ true) ⊎ (whole_weight v x <ℤ whole_weight v b.head) →
         (same x b.head ≡ true) ⊎ lighter (gains v) x b.head
@@ -164,7 +163,7 @@ pub open_of_marks : (n : ℕ) (k : Region) (bs : List MarkedPolynomial) (v : Lis
 open_of_marks n k bs v r m b c x i = at ((m b c).tail x i)
   where
     natural : (x : Exponents) → pos (weight (gains v) x) ≡ whole_weight v x
-    natural x = natural-weight v x (region-natural n k v r)
+    natural = region-weight n k v r
 
     at : (same x b.head ≡ true) ⊎ lighter (gains v) x b.head → (same x b.head ≡ true) ⊎ (whole_weight v x <ℤ whole_weight v b.head)
     at (inl s) = inl s
@@ -257,7 +256,7 @@ realisable_of_solution n bs v h m s = at (inside_of_solution n (all_positive n) 
     )
       where
         natural : (x : Exponents) → pos (weight (gains v) x) ≡ whole_weight v x
-        natural x = natural-weight v x (region-natural n (all_positive n) v q.0)
+        natural = region-weight n (all_positive n) v q.0
 
         place : (b : MarkedPolynomial) (x : Exponents) → (same x b.head ≡ true) ⊎ (whole_weight v x <ℤ whole_weight v b.head) →
             (same x b.head ≡ true) ⊎ lighter (gains v) x b.head

@@ -46,7 +46,7 @@ get-times k (x ∷ xs) (suc i) = get-times k xs i
 
 -- ---- negatives
 
-minus_one : (x : ℤ) → negsuc 0 *ℤ x ≡ neg_ℤ x
+pub minus_one : (x : ℤ) → negsuc 0 *ℤ x ≡ neg_ℤ x
 minus_one x = omega (arith, ints)
 
 -- the entries of the negatives

@@ -1,7 +1,9 @@
 -- Whole weights of monomials that are products, or a multiple of a vector apart; strict comparisons by whole weights.
--- To cite: weight-product, weight-sum, weight-multiple, weight-apart, tilted-order, beyond-strict, further-weight.
+-- To cite: weight-product, weight-sum, weight-multiple, weight-apart, further-weight, IsTilted,
+-- tilted-strict, tilted-order, no_multiple, further-strict, beyond-strict.
 use Rattle.std.specs.Prelude.{◌≡◌, ◌⊎◌, ℕ, suc, ◌+◌, ◌≤◌, true, List, [], ◌∷◌, get_or, ℤ, pos, ◌+ℤ◌, ◌*ℤ◌, ◌<ℤ◌, length}
 use Rattle.std.proofs.Common.{arith, refl, sym, ap, ◌∙◌, inl, inr}
+use Rattle.std.proofs.Math.IntN.{*ℤ-zero}
 use Rattle.std.proofs.lemmas.Int.{ints}
 use Rattle.gf_int.proofs.RingLaws.{dv, dn, ◌⊕◌, ◌⊗◌, same as same_number, *ℤ-+ℤ}
 use Rattle.gf_int.proofs.SignLaws.{zero_of_*ℤ}
@@ -23,9 +25,6 @@ weight-product w x y = omega (arith, ints, weight_split w (plus x y), weight_spl
 
 -- ---- weights that are sums and multiples
 
-nothing_times : (k : ℤ) → k *ℤ pos 0 ≡ pos 0
-nothing_times k = same_number (dv k ⊗ dn 0) (dn 0) (omega arith)
-
 spread : (v w x p q : ℤ) → (v +ℤ w) *ℤ x +ℤ (p +ℤ q) ≡ (v *ℤ x +ℤ p) +ℤ (w *ℤ x +ℤ q)
 spread v w x p q = same_number ((dv v ⊕ dv w) ⊗ dv x ⊕ (dv p ⊕ dv q)) ((dv v ⊗ dv x ⊕ dv p) ⊕ (dv w ⊗ dv x ⊕ dv q)) (omega arith)
 
@@ -40,8 +39,8 @@ weight-sum (a ∷ v) (b ∷ w) [] e = refl
 weight-sum (a ∷ v) (b ∷ w) (c ∷ x) e = ap (λ z. (a +ℤ b) *ℤ pos c +ℤ z) (weight-sum v w x (omega arith)) ∙ spread a b (pos c) (whole_weight v x) (whole_weight w x)
 
 pub weight-multiple : (k : ℤ) (v : List ℤ) (x : Exponents) → whole_weight (scaled k v) x ≡ k *ℤ whole_weight v x
-weight-multiple k [] x = sym (nothing_times k)
-weight-multiple k (a ∷ v) [] = sym (nothing_times k)
+weight-multiple k [] x = sym (*ℤ-zero k)
+weight-multiple k (a ∷ v) [] = sym (*ℤ-zero k)
 weight-multiple k (a ∷ v) (c ∷ x) = ap (λ z. k *ℤ a *ℤ pos c +ℤ z) (weight-multiple k v x) ∙ factored k a (pos c) (whole_weight v x)
 
 -- ---- monomials a multiple apart
@@ -51,8 +50,8 @@ scaled_number w x y k a h = ap (λ z. w *ℤ z) h ∙ same_number (dv w ⊗ (dv 
 
 front_weight : (w : ℤ) (v : List ℤ) (x : Exponents) → whole_weight (w ∷ v) x ≡ w *ℤ pos (entry x 0) +ℤ whole_weight v (rest x)
 unfolding rest
-front_weight w [] [] = sym (ap (λ z. z +ℤ pos 0) (nothing_times w))
-front_weight w (u ∷ v) [] = sym (ap (λ z. z +ℤ pos 0) (nothing_times w))
+front_weight w [] [] = sym (ap (λ z. z +ℤ pos 0) (*ℤ-zero w))
+front_weight w (u ∷ v) [] = sym (ap (λ z. z +ℤ pos 0) (*ℤ-zero w))
 front_weight w v (a ∷ x) = refl
 
 -- the weights of monomials k times a apart
@@ -60,16 +59,16 @@ pub weight-apart : (v a : List ℤ) (x y : Exponents) (k : ℤ) →
     ((i : ℕ) → pos (entry x i) ≡ pos (entry y i) +ℤ k *ℤ get_or a i (pos 0)) →
     whole_weight v x ≡ whole_weight v y +ℤ k *ℤ dot a v
 weight-apart v [] x y k h =
-    let s : same x y ≡ true = same_by_entries x y (λ i. omega (arith, ints, h i, nothing_times k)) in
-    omega (arith, ints, whole_weight-same v x y s, nothing_times k)
-weight-apart [] (b ∷ a) x y k h = omega (arith, ints, nothing_times k)
+    let s : same x y ≡ true = same_by_entries x y (λ i. omega (arith, ints, h i, *ℤ-zero k)) in
+    omega (arith, ints, whole_weight-same v x y s, *ℤ-zero k)
+weight-apart [] (b ∷ a) x y k h = omega (arith, ints, *ℤ-zero k)
 weight-apart (w ∷ v) (b ∷ a) x y k h =
     let r = weight-apart v a (rest x) (rest y) k (λ i. ap pos (entry-rest x i) ∙ h (suc i) ∙ ap (λ z. pos z +ℤ k *ℤ get_or a i (pos 0)) (sym (entry-rest y i))) in
     omega (arith, ints, front_weight w v x, front_weight w v y, scaled_number w (pos (entry x 0)) (pos (entry y 0)) k b (h 0), r, *ℤ-+ℤ k (b *ℤ w) (dot a v))
 
 -- further along a vector that v is orthogonal to: of the same weight
 pub further-weight : (v a : List ℤ) (x y : Exponents) → dot a v ≡ pos 0 → IsFurther a x y → whole_weight v x ≡ whole_weight v y
-further-weight v a x y e h = omega (arith, ints, weight-apart v a x y (pos h.0) h.2, ap (λ z. pos h.0 *ℤ z) e, nothing_times (pos h.0))
+further-weight v a x y e h = omega (arith, ints, weight-apart v a x y (pos h.0) h.2, ap (λ z. pos h.0 *ℤ z) e, *ℤ-zero (pos h.0))
 
 -- ---- by whole weights first, then by natural ones, then lex
 
@@ -119,7 +118,7 @@ tilted-order v w = record { strict = tilted-strict v w; total = λ x y. at x y (
 
 -- ---- lighter, or further along a vector
 
-no_multiple : (k : ℕ) (z : ℤ) → 1 ≤ k → pos k *ℤ z ≡ pos 0 → z ≡ pos 0
+pub no_multiple : (k : ℕ) (z : ℤ) → 1 ≤ k → pos k *ℤ z ≡ pos 0 → z ≡ pos 0
 no_multiple k z l e = elim (zero_of_*ℤ (pos k) z e) [ inl q ↦ absurd (omega (arith, ints, q, l)) | inr q ↦ q ]
 
 sums : (a b c x : ℤ) (j k : ℕ) → a ≡ b +ℤ pos j *ℤ x → b ≡ c +ℤ pos k *ℤ x → a ≡ c +ℤ pos (j + k) *ℤ x

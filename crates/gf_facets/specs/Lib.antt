@@ -8,6 +8,6 @@ pub mod Combinations  -- a multiple of a vector as a combination of others
 pub mod Facets  -- closed and open cone, facets, and those that a flip may cross
 pub mod Beyond  -- monomials that are further along a vector
 pub mod MarkedBases  -- the marked reduced Gröbner bases of an ideal
-pub mod InitialIdeals  -- initial ideals
+pub mod InitialIdeals  -- initial ideals, and where monomials generate them
 pub mod Neighbours  -- the two bases on both sides of a facet
 pub mod Theorems  -- the theorems that functions of this crate name

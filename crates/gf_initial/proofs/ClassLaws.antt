@@ -4,6 +4,7 @@
 use Rattle.std.specs.Prelude.{◌≡◌, ◌⊎◌, ℕ, zero, suc, ◌+◌, ◌*◌, ◌<◌, ◌≤◌, Bool, true, false, List, [], ◌∷◌, get_or, Contains, ℤ, pos, negsuc, neg_ℤ, ◌+ℤ◌, ◌*ℤ◌, ◌<ℤ◌, unsigned_abs}
 use Rattle.std.proofs.Common.{arith, refl, sym, ap, ◌∙◌, inl, inr}
 use Rattle.std.proofs.lemmas.Bool.{cases_lt}
+use Rattle.std.proofs.Math.IntN.{*ℤ-zero}
 use Rattle.std.proofs.lemmas.Int.{ints}
 use Rattle.gf_int.proofs.RingLaws.{dv, dn, dneg, ◌⊕◌, ◌⊗◌, same as same_number}
 use Rattle.gf_int.proofs.SignLaws.{0<-*ℤ}
@@ -42,10 +43,7 @@ apart_by [] x y k = same_test (same x y) refl
       where
         nothing : (y k : ℤ) → y ≡ y +ℤ k *ℤ pos 0
         nothing y k = same_number (dv y) (dv y ⊕ dv k ⊗ dn 0) (omega arith)
-    same_test false s = inr (λ h. let t : same x y ≡ true = same_by_entries x y (λ i. omega (arith, ints, h i, nothing k)) in absurd (cc))
-      where
-        nothing : (k : ℤ) → k *ℤ pos 0 ≡ pos 0
-        nothing k = same_number (dv k ⊗ dn 0) (dn 0) (omega arith)
+    same_test false s = inr (λ h. let t : same x y ≡ true = same_by_entries x y (λ i. omega (arith, ints, h i, *ℤ-zero k)) in absurd (cc))
 apart_by (b ∷ a) x y k = at (three (pos (entry x 0)) (pos (entry y 0) +ℤ k *ℤ b)) (apart_by a (rest x) (rest y) k)
   where
     first : (i : ℕ) → IsApartBy (b ∷ a) x y k → IsApartBy a (rest x) (rest y) k

@@ -1,9 +1,9 @@
 -- Neighbours have parts on their common facet: two bases of one ideal.
 -- To cite: parts_of_neighbours.
-use Rattle.std.specs.Prelude.{◌≡◌, ℕ, true, false, Bool, List, Contains, get_or, ℤ, pos, neg_ℤ, ◌+ℤ◌, ◌*ℤ◌}
+use Rattle.std.specs.Prelude.{◌≡◌, ℕ, true, false, Bool, List, Contains, get_or, ℤ, pos, ◌+ℤ◌, ◌*ℤ◌}
 use Rattle.std.proofs.Common.{arith, refl, sym, ap, ◌∙◌, subst, inl, inr}
 use Rattle.std.proofs.lemmas.Int.{ints}
-use Rattle.gf_int.proofs.RingLaws.{dv, dneg, ◌⊗◌, same as same_number}
+use Rattle.gf_int.proofs.RingLaws.{*ℤ-neg}
 use Rattle.gf_exponents.specs.Exponents.{Exponents, same, entry, whole_weight}
 use Rattle.gf_exponents.proofs.ExponentsLaws.{entries_same}
 use Rattle.gf_poly.specs.Polynomial.{Terms}
@@ -29,10 +29,7 @@ use Rattle.gf_initial.specs.Crossings.{HaveParts}
 
 -- further along the negatives is steps back
 steps_back : (a : List ℤ) (x y : Exponents) → (f : IsFurther (negated a) x y) → IsStepsFrom f.0 a x y
-steps_back a x y f i = let e = get-negated a i in omega (arith, ints, f.2 i ∙ ap (λ z. pos (entry y i) +ℤ pos f.0 *ℤ z) e, minus (pos f.0) (get_or a i (pos 0)))
-  where
-    minus : (k z : ℤ) → k *ℤ neg_ℤ z ≡ neg_ℤ (k *ℤ z)
-    minus k z = same_number (dv k ⊗ dneg (dv z)) (dneg (dv k ⊗ dv z)) (omega arith)
+steps_back a x y f i = let e = get-negated a i in omega (arith, ints, f.2 i ∙ ap (λ z. pos (entry y i) +ℤ pos f.0 *ℤ z) e, *ℤ-neg (pos f.0) (get_or a i (pos 0)))
 
 -- no steps, where monomials are the same
 no_steps : (a : List ℤ) (x y : Exponents) → same x y ≡ true → IsStepsFrom 0 a x y

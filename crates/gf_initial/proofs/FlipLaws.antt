@@ -2,23 +2,22 @@
 -- the reduced basis of the parts are autoreduced to is one.
 -- To cite: side_of_inside, side_there, adjacent_unique, adjacent_turned, adjacent_back, normal-further, along_negated,
 -- further_beyond, ArePartFacts, part_facts, lifted_all, lifted_tops, other_side, adjacent_of_side, crossed, both_sides.
-use Rattle.std.specs.Prelude.{◌≡◌, ◌⊎◌, ℕ, true, List, [], ◌∷◌, length, get_or, Contains, IsPermutation, ℤ, pos, neg_ℤ}
+use Rattle.std.specs.Prelude.{◌≡◌, ◌⊎◌, ℕ, List, [], ◌∷◌, length, get_or, Contains, IsPermutation, ℤ, pos, neg_ℤ}
 use Rattle.std.proofs.Common.{arith, sym, ap, ◌∙◌, subst, inl, inr}
 use Rattle.std.proofs.lemmas.Int.{ints}
 use Rattle.std.proofs.lemmas.List.Sorted.{Contains-permutation, IsPermutation-sym}
-use Rattle.gf_exponents.specs.Exponents.{Exponents, same, plus}
+use Rattle.gf_exponents.specs.Exponents.{Exponents, plus}
 use Rattle.gf_exponents.specs.Orders.{IsStrict, IsFacetBelow, negated_row_of, lighter, gains}
-use Rattle.gf_exponents.proofs.ExponentsLaws.{same-refl, same_flip, same_trans, same_shift}
+use Rattle.gf_exponents.proofs.ExponentsLaws.{same-refl, same_trans, same_shift}
 use Rattle.gf_exponents.proofs.OrderLaws.{lighter-strict}
 use Rattle.gf_exponents.proofs.WholeWeightLaws.{row-order}
 use Rattle.gf_poly.specs.Polynomial.{Terms}
 use Rattle.gf_poly.specs.Marking.{MarkedPolynomial, polys}
 use Rattle.gf_vec.specs.Vector.{dot}
-use Rattle.gf_poly.proofs.PolynomialLaws.{coefficient-same}
 use Rattle.gf_ideal.specs.Membership.{AreInVariables}
-use Rattle.gf_ideal.specs.Marks.{IsMarked, AreMarked}
+use Rattle.gf_ideal.specs.Marks.{AreMarked}
 use Rattle.gf_ideal.specs.Reduction.{IsDivisible}
-use Rattle.gf_ideal.specs.Bases.{IsBasis, HasReducedTails, AreApart, IsReducedBasisFor, IsTwin, AreSameBasis, AreArranged}
+use Rattle.gf_ideal.specs.Bases.{IsBasis, HasReducedTails, AreApart, IsReducedBasisFor, AreSameBasis, AreArranged}
 use Rattle.gf_ideal.specs.WorkLists.{IsReducedTail, AreReducedTails}
 use Rattle.gf_ideal.proofs.ListLaws.{Contains-here, Contains-there, Contains-cases}
 use Rattle.gf_ideal.proofs.MembershipLaws.{member-equal, variables_of_member}
@@ -36,6 +35,7 @@ use Rattle.gf_facets.specs.Neighbours.{AreAdjacent}
 use Rattle.gf_initial.specs.Lifts.{IsLift, AreLifts, IsLifted, AreLifted, IsTopLift, AreTopLifts}
 use Rattle.gf_facets.proofs.VectorLaws.{IsNonzero}
 use Rattle.gf_facets.proofs.WholeLaws.{beyond-strict}
+use Rattle.gf_bases.proofs.KeptLaws.{marked-twin}
 use Rattle.gf_initial.proofs.MatchingLaws.{matched-map}
 use Rattle.gf_initial.proofs.PartLaws.{IsLevelPart, parts-variables, parts_reduced}
 use Rattle.gf_facets.proofs.RegionLaws.{beyond_weight, beyond-positive}
@@ -124,20 +124,9 @@ adjacent_back n fs j k bs a cs ds vars p q = adjacent_unique n fs k j cs (negate
 
 -- ---- twins
 
-twin_marked : (below : Exponents → Exponents → Type 0) (b c : MarkedPolynomial) → IsStrict below → IsTwin b c →
-    IsMarked below b → IsMarked below c
-twin_marked below b c o t m = record {
-  monic = sym (t.poly c.head) ∙ coefficient-same b.poly c.head b.head (same_flip b.head c.head t.head) ∙ m.monic;
-  tail = λ x k. at x (m.tail x (λ z. k (sym (t.poly x) ∙ z)));
-}
-  where
-    at : (x : Exponents) → (same x b.head ≡ true) ⊎ below x b.head → (same x c.head ≡ true) ⊎ below x c.head
-    at x (inl s) = inl (same_trans x b.head c.head s t.head)
-    at x (inr l) = inr (o.along_right x b.head c.head t.head l)
-
 twins_marked : (below : Exponents → Exponents → Type 0) (bs cs : List MarkedPolynomial) → IsStrict below →
     AreSameBasis bs cs → AreMarked below bs → AreMarked below cs
-twins_marked below bs cs o s m c k = let b = s.back c k in twin_marked below b.0 c o b.2 (m b.0 b.1)
+twins_marked below bs cs o s m c k = let b = s.back c k in marked-twin below b.0 c o b.2 (m b.0 b.1)
 
 twins_basis : (n : ℕ) (fs : List Terms) (bs cs : List MarkedPolynomial) → AreSameBasis bs cs → IsBasis n fs bs →
     IsBasis n fs cs

@@ -3,29 +3,27 @@
 -- has.
 -- To cite: IsSide, side-weak, level_of_along, along_of_level, side_parts, parts_of_one_class, same_ideals, same_by_marks,
 -- sides_same, side_further.
-use Rattle.std.specs.Prelude.{◌≡◌, ◌⊎◌, ℕ, Bool, true, false, if◌then◌else◌, List, [], ◌∷◌, ◌++◌, Contains, get_or, ℤ, pos, neg_ℤ, ◌+ℤ◌, ◌*ℤ◌, ◌<ℤ◌, ◌≤ℤ◌}
+use Rattle.std.specs.Prelude.{◌≡◌, ◌⊎◌, ℕ, Bool, true, false, if◌then◌else◌, List, [], ◌∷◌, Contains, get_or, ℤ, pos, neg_ℤ, ◌+ℤ◌, ◌*ℤ◌, ◌<ℤ◌, ◌≤ℤ◌}
 use Rattle.std.proofs.Common.{arith, refl, sym, ap, ◌∙◌, subst, inl, inr}
 use Rattle.std.proofs.lemmas.Int.{ints}
 use Rattle.gf_int.proofs.RingLaws.{dv, dn, dneg, ◌⊕◌, ◌⊗◌, same as same_number}
-use Rattle.gf_frac.specs.Fraction.{Fraction, ◌+ℚ◌, neg_ℚ, zero_ℚ, one_ℚ}
-use Rattle.gf_frac.proofs.FractionLaws.{+ℚ_assoc, +ℚ_comm, +ℚ-zero, +ℚ-neg_ℚ, zero-+ℚ, zero_or_not}
-use Rattle.gf_exponents.specs.Exponents.{Exponents, entry, same, plus, whole_weight}
+use Rattle.gf_frac.specs.Fraction.{◌+ℚ◌, zero_ℚ}
+use Rattle.gf_frac.proofs.FractionLaws.{zero-+ℚ, zero_or_not}
+use Rattle.gf_exponents.specs.Exponents.{Exponents, entry, same, whole_weight}
 use Rattle.gf_exponents.specs.Orders.{IsFacetBelow, negated_row_of, lighter}
-use Rattle.gf_exponents.proofs.ExponentsLaws.{same_flip, same_trans, same_shift, same_of}
+use Rattle.gf_exponents.proofs.ExponentsLaws.{same_flip, same_trans, same_of}
 use Rattle.gf_exponents.proofs.WholeWeightLaws.{whole_weight-same, row-order}
 use Rattle.gf_poly.specs.declared.Term.{Term}
-use Rattle.gf_poly.specs.Polynomial.{Terms, coefficient, SamePolynomial, times}
+use Rattle.gf_poly.specs.Polynomial.{Terms, coefficient, SamePolynomial}
 use Rattle.gf_poly.specs.Marking.{MarkedPolynomial, polys}
-use Rattle.gf_poly.proofs.PolynomialLaws.{coefficient-same}
 use Rattle.gf_vec.specs.Vector.{dot}
 use Rattle.gf_ideal.specs.Membership.{HasMonomial, AreInVariables, AreSameIdeal}
 use Rattle.gf_ideal.specs.Marks.{IsMarked, AreMarked}
-use Rattle.gf_ideal.specs.Reduction.{IsDivisible, IsIrreducible}
 use Rattle.gf_ideal.specs.OrderTable.{AreMultipleApart}
 use Rattle.gf_ideal.specs.Bases.{IsBasis, IsHeaviest, IsReducedBasisFor, IsTwin, AreSameBasis}
 use Rattle.gf_ideal.proofs.ListLaws.{Contains-here, Contains-there, Contains-cases}
 use Rattle.gf_ideal.proofs.TermLaws.{without, apart, none_left}
-use Rattle.gf_ideal.proofs.MembershipLaws.{member-difference, variables_of_member}
+use Rattle.gf_ideal.proofs.MembershipLaws.{variables_of_member}
 use Rattle.gf_ideal.proofs.PieceLaws.{Contains-marked}
 use Rattle.gf_ideal.proofs.MarkWeights.{mark-there}
 use Rattle.gf_ideal.proofs.LeadingLaws.{top_heaviest}
@@ -41,10 +39,11 @@ use Rattle.gf_facets.proofs.VectorLaws.{three, IsNonzero, get-negated}
 use Rattle.gf_facets.proofs.WholeLaws.{weight-apart, further-weight, further-strict}
 use Rattle.gf_initial.proofs.MatchingLaws.{matched-from, matched-to, matched-map}
 use Rattle.gf_initial.proofs.PartLaws.{IsLevelPart, initial_of_level, part-there, parts-variables, parts_reduced}
-use Rattle.gf_bases.proofs.DifferenceLaws.{difference, less_zero}
+use Rattle.gf_bases.proofs.ContainmentLaws.{AreMultiples, contained_same}
 use Rattle.gf_bases.proofs.GradedBasisLaws.{IsOfOneClass}
 use Rattle.gf_initial.proofs.InitialLaws.{from_initial, into_initial}
 use Rattle.gf_initial.proofs.ClassLaws.{apart_or_not, multiple-grading, further_marks}
+use Rattle.gf_facets.proofs.RowLaws.{same_or_other}
 use Rattle.gf_facets.proofs.NormalLaws.{HasFurther}
 
 -- a marked reduced basis of which each unmarked monomial is lighter by v, or further along a, where v is orthogonal to a
@@ -224,79 +223,27 @@ side_reduced n fs gs v a bs ps vars wars s h i =
     let r = parts_reduced n fs bs ps v vars s.reduced (side-weak n fs v a bs s) h in
     reduced_by_order n gs ps (IsFacetBelow (negated_row_of a)) wars (basis_along n (polys ps) gs ps i r.basis) (row-order (negated_row_of a)).strict (further_marks a ps s.nonzero (parts_marked n fs v a bs ps s h)) r.tails r.heads
 
--- ---- bases with the same marks
+-- ---- two on the same side
 
--- each mark of the one is a mark of the other
-abbrev pub HaveMarksOf : List MarkedPolynomial → List MarkedPolynomial → Type 0
-HaveMarksOf bs cs = (b : MarkedPolynomial) → Contains bs b → (c : MarkedPolynomial) × Contains cs c × (same b.head c.head ≡ true)
-
-divisible_along : (bs cs : List MarkedPolynomial) (x : Exponents) → HaveMarksOf bs cs → IsDivisible (Contains bs) x →
-    IsDivisible (Contains cs) x
-divisible_along bs cs x h d =
-    let c = h d.member d.contained in
-    record { member = c.0; contained = c.1; rest = d.rest; divides = same_trans x (plus d.rest d.member.head) (plus d.rest c.0.head) d.divides (same_shift d.rest d.member.head c.0.head c.2) }
-
-equal_if : (b c : Fraction) → b +ℚ neg_ℚ c ≡ zero_ℚ → b ≡ c
-equal_if b c h = sym (+ℚ-zero b) ∙ ap (λ z. b +ℚ z) (sym (+ℚ_comm (neg_ℚ c) c ∙ +ℚ-neg_ℚ c)) ∙ sym (+ℚ_assoc b (neg_ℚ c) c) ∙ ap (λ z. z +ℚ c) h ∙ zero-+ℚ c
-
-monic_at : (n : ℕ) (fs : List Terms) (bs : List MarkedPolynomial) (b : MarkedPolynomial) → IsBasis n fs bs →
-    Contains bs b → coefficient b.poly b.head ≡ one_ℚ
-monic_at n fs bs b k c = (k.marked.2 b c).monic
-
--- marked reduced bases of one ideal with the same marks are the same
-pub same_by_marks : (n : ℕ) (fs : List Terms) (bs cs : List MarkedPolynomial) → IsMarkedReduced n fs bs →
-    IsMarkedReduced n fs cs → HaveMarksOf bs cs → HaveMarksOf cs bs → AreSameBasis bs cs
-same_by_marks n fs bs cs r s h k = record {
-  there = λ b c. let d = h b c in (d.0, d.1, record { head = d.2; poly = equal b d.0 c d.1 d.2 });
-  back = λ c d. let b = k c d in (b.0, b.1, record { head = same_flip c.head b.0.head b.2; poly = equal b.0 c b.1 d (same_flip c.head b.0.head b.2) });
-}
-  where
-    equal : (b c : MarkedPolynomial) → Contains bs b → Contains cs c → same b.head c.head ≡ true → SamePolynomial b.poly c.poly
-    equal b c hb hc e x = equal_if (coefficient b.poly x) (coefficient c.poly x) (sym (difference b.poly c.poly x) ∙ zero x)
-      where
-        d : Terms
-        d = b.poly ++ times (neg_ℚ one_ℚ) [] c.poly
-
-        at_mark : (x : Exponents) → same x b.head ≡ true → coefficient d x ≡ zero_ℚ
-        at_mark x q =
-            difference b.poly c.poly x
-            ∙ ap (λ z. z +ℚ neg_ℚ (coefficient c.poly x)) (coefficient-same b.poly x b.head q ∙ monic_at n fs bs b r.basis hb)
-            ∙ ap (λ z. one_ℚ +ℚ neg_ℚ z) (coefficient-same c.poly x c.head (same_trans x b.head c.head q e) ∙ monic_at n fs cs c s.basis hc)
-            ∙ +ℚ-neg_ℚ one_ℚ
-
-        irreducible : IsIrreducible (Contains bs) d
-        irreducible x m div = elim (zero_or_not (coefficient b.poly x)) [
-          | inr p ↦ m (at_mark x (r.tails b hb x p div))
-          | inl z ↦ m (at_mark x (same_trans x c.head b.head
-              (s.tails c hc x (λ y. m (difference b.poly c.poly x ∙ ap (λ w. w +ℚ neg_ℚ (coefficient c.poly x)) z ∙ ap (λ w. zero_ℚ +ℚ neg_ℚ w) y ∙ less_zero zero_ℚ)) (divisible_along bs cs x h div))
-              (same_flip b.head c.head e)))
-        ]
-
-        zero : SamePolynomial d []
-        zero = r.basis.decides d (member-difference n fs b.poly c.poly (r.basis.members b hb) (s.basis.members c hc)) irreducible
-
--- lists whose parts are the same have the same marks
+-- where each of the parts has a twin among the others', each mark is one of the other list
 marks_by_parts : (v u : List ℤ) (bs ps cs qs : List MarkedPolynomial) → Matching (IsLevelPart v) bs ps →
-    Matching (IsLevelPart u) cs qs → ((p : MarkedPolynomial) → Contains ps p → (q : MarkedPolynomial) × Contains qs q × IsTwin p q) →
-    HaveMarksOf bs cs
+    Matching (IsLevelPart u) cs qs → AreSameBasis ps qs → AreMultiples bs cs
 marks_by_parts v u bs ps cs qs h i t b c =
     let p = matched-to (IsLevelPart v) bs ps h b c in
-    let q = t p.0 p.1 in
+    let q = t.there p.0 p.1 in
     let d = matched-from (IsLevelPart u) cs qs i q.0 q.1 in
-    (d.0, d.1, same_trans b.head p.0.head d.0.head (same_flip p.0.head b.head (same_of p.0.head b.head p.2.head)) (same_trans p.0.head q.0.head d.0.head q.2.head (same_of q.0.head d.0.head d.2.head)))
-
-twins_back : (ps qs : List MarkedPolynomial) → AreSameBasis ps qs → (q : MarkedPolynomial) → Contains qs q →
-    (p : MarkedPolynomial) × Contains ps p × IsTwin q p
-twins_back ps qs s q c = let p = s.back q c in (p.0, p.1, record { head = same_flip p.0.head q.head p.2.head; poly = λ x. sym (p.2.poly x) })
-
--- ---- two on the same side
+    record {
+      member = d.0;
+      contained = d.1;
+      rest = [];
+      divides = same_trans b.head p.0.head d.0.head (same_flip p.0.head b.head (same_of p.0.head b.head p.2.head)) (same_trans p.0.head q.0.head d.0.head q.2.head (same_of q.0.head d.0.head d.2.head));
+    }
 
 -- where the ideals of their parts are one, two on the same side are the same, whatever the vectors inside the facet are
 pub sides_same : (n : ℕ) (fs gs : List Terms) (v u a : List ℤ) (bs ps cs qs : List MarkedPolynomial) → AreInVariables n fs →
     AreInVariables n gs → IsSide n fs v a bs → Matching (IsLevelPart v) bs ps → AreSameIdeal n (polys ps) gs →
     IsSide n fs u a cs → Matching (IsLevelPart u) cs qs → AreSameIdeal n (polys qs) gs → AreSameBasis bs cs
-sides_same n fs gs v u a bs ps cs qs vars wars s h i t k j =
-    same_by_marks n fs bs cs s.reduced t.reduced (marks_by_parts v u bs ps cs qs h k twins.there) (marks_by_parts u v cs qs bs ps k h (twins_back ps qs twins))
+sides_same n fs gs v u a bs ps cs qs vars wars s h i t k j = contained_same n fs bs cs s.reduced t.reduced (marks_by_parts v u bs ps cs qs h k twins)
   where
     twins : AreSameBasis ps qs
     twins = unique_by_order n gs (IsFacetBelow (negated_row_of a)) ps qs (row-order (negated_row_of a)) (side_reduced n fs gs v a bs ps vars wars s h i) (side_reduced n fs gs u a cs qs vars wars t k j)
@@ -326,20 +273,13 @@ HasNoOther b = (x : Exponents) → HasMonomial b.poly x → same x b.head ≡ tr
 other_or_not : (b : MarkedPolynomial) → HasOther b ⊎ HasNoOther b
 other_or_not b = at ((top_heaviest []).some (without b.head b.poly))
   where
-    same_or_other : (x : Exponents) → (same x b.head ≡ true) ⊎ (same x b.head ≡ false)
-    same_or_other x = test (same x b.head)
-      where
-        test : (t : Bool) → (t ≡ true) ⊎ (t ≡ false)
-        test true = inl refl
-        test false = inr refl
-
     off : (x : Exponents) → same x b.head ≡ false → coefficient b.poly x ≡ coefficient (without b.head b.poly) x
     off x e = apart b.head b.poly x ∙ ap (λ t. (if t then coefficient b.poly b.head else zero_ℚ) +ℚ coefficient (without b.head b.poly) x) e ∙ zero-+ℚ _
 
     at : SamePolynomial (without b.head b.poly) [] ⊎ ((x : Exponents) × IsHeaviest [] (without b.head b.poly) x) →
         HasOther b ⊎ HasNoOther b
-    at (inl z) = inr (λ x m. elim (same_or_other x) [ inl s ↦ s | inr e ↦ absurd (m (off x e ∙ z x)) ])
-    at (inr t) = elim (same_or_other t.0) [
+    at (inl z) = inr (λ x m. elim (same_or_other x b.head) [ inl s ↦ s | inr e ↦ absurd (m (off x e ∙ z x)) ])
+    at (inr t) = elim (same_or_other t.0 b.head) [
       | inl s ↦ absurd (t.1.there (none_left b.head t.0 b.poly s))
       | inr e ↦ inl (t.0, (λ z. t.1.there (sym (off t.0 e) ∙ z)), e)
     ]

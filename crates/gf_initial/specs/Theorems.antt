@@ -1,18 +1,18 @@
 -- The theorems on initial forms, neighbours and flips that functions of this crate name.
 use Rattle.std.specs.Prelude.{◌≡◌, ◌↔◌, ℕ, List, ℤ, IsPermutation}
-use Rattle.gf_exponents.specs.Orders.{IsFacetBelow, negated_row_of}
+use Rattle.gf_exponents.specs.Orders.{gains, IsFacetBelow, negated_row_of}
 use Rattle.gf_poly.specs.Polynomial.{Terms}
 use Rattle.gf_poly.specs.Marking.{MarkedPolynomial, polys}
 use Rattle.gf_poly.specs.InitialForms.{IsInitialForm}
 use Rattle.gf_ideal.specs.Membership.{AreInVariables, IsMember}
 use Rattle.gf_ideal.specs.Marks.{AreMarked}
-use Rattle.gf_ideal.specs.Bases.{AreApart, IsReducedBasisFor, AreSameBasis, AreArranged}
+use Rattle.gf_ideal.specs.Bases.{AreApart, IsReducedBasis, IsReducedBasisFor, AreSameBasis, AreArranged}
 use Rattle.gf_ideal.specs.WorkLists.{AreReducedTails}
 use Rattle.gf_facets.specs.Rows.{negated}
 use Rattle.gf_facets.specs.Regions.{Region, IsInRegion}
 use Rattle.gf_facets.specs.Facets.{IsInsideFacet, IsInClosedCone, IsFlippable}
 use Rattle.gf_facets.specs.Beyond.{IsFurther}
-use Rattle.gf_facets.specs.InitialIdeals.{IsInInitialIdeal}
+use Rattle.gf_facets.specs.InitialIdeals.{IsInInitialIdeal, IsMonomialAt}
 use Rattle.gf_facets.specs.MarkedBases.{IsMarkedReduced, IsBasisInRegion}
 use Rattle.gf_facets.specs.Neighbours.{AreAdjacent}
 use Rattle.gf_initial.specs.Parts.{AreInitialParts, ArePartsAlong}
@@ -38,6 +38,12 @@ pub record InitialFormsOfBases : Type 0 where
 abbrev pub PartsAreInitialForms : Type 0
 PartsAreInitialForms = (n : ℕ) (fs : List Terms) (k : Region) (bs ps : List MarkedPolynomial) (a v : List ℤ) →
     IsBasisInRegion n fs k bs → IsInsideFacet bs a v → ArePartsAlong a bs ps → IsInClosedCone v bs × AreInitialParts v bs ps
+
+-- at a vector of a region monomials generate the initial ideal exactly where a marked reduced basis of the region is the reduced
+-- basis for the vector
+abbrev pub MonomialIdealsAreOfBases : Type 0
+MonomialIdealsAreOfBases = (n : ℕ) (k : Region) (fs : List Terms) (v : List ℤ) → AreInVariables n fs → IsInRegion n k v →
+    IsMonomialAt n fs v ↔ ((bs : List MarkedPolynomial) × IsBasisInRegion n fs k bs × IsReducedBasis n fs (gains v) bs)
 
 -- ---- neighbours
 

@@ -4,7 +4,7 @@
 //! is a theorem, so that the check proves it.
 #![tactic(auto)]
 
-ghost use Rattle.gf_initial.specs.Theorems.{InitialFormsOfBases, PartsAreInitialForms, NeighboursExist, NeighboursAreUnique, NeighboursHaveParts, FlipsGiveNeighbours};
+ghost use Rattle.gf_initial.specs.Theorems.{InitialFormsOfBases, PartsAreInitialForms, MonomialIdealsAreOfBases, NeighboursExist, NeighboursAreUnique, NeighboursHaveParts, FlipsGiveNeighbours};
 
 /// In the closed cone of a marked reduced Gröbner basis the initial forms of its members are the marked reduced basis of
 /// the initial ideal (Sturmfels, *Gröbner Bases and Convex Polytopes*, 1 and 2).
@@ -15,6 +15,11 @@ pub fn initial_forms_of_bases()
 /// The parts of a basis along the normal of a facet are its initial forms by each vector inside the facet.
 pub fn parts_are_initial_forms()
     ensures { PartsAreInitialForms }
+{}
+
+/// Monomials generate the initial ideal at a vector of a region exactly where a basis of the region is the reduced one for it.
+pub fn monomial_ideals_are_of_bases()
+    ensures { MonomialIdealsAreOfBases }
 {}
 
 /// Across each flippable facet there is a neighbour (Mora, Robbiano 1988).
