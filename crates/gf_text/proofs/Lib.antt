@@ -10,6 +10,8 @@ pub mod ListReadLaws  -- a list is read item by item
 pub mod RingTextLaws  -- the machine of rings reads what the grammar says; printed rings are read again
 pub mod RingKindsLaws  -- of which kind a fault of a ring is
 pub mod VectorTextLaws  -- the machine of vectors reads what the grammar says
+pub mod VectorListsLaws  -- lists of vectors are read as the grammar says
+pub mod SingleTextLaws  -- dimensions and names of new variables are read as the grammar says
 pub mod VectorKindsLaws  -- of which kind a fault of a vector is
 pub mod PrintedTextLaws  -- the pieces of printed terms
 pub mod LimitsLaws  -- what a text says is within its limits
@@ -25,6 +27,7 @@ pub mod SetMachineLaws  -- sets are read as the grammar says, and each state goe
 pub mod SetGrowsLaws  -- a set is read polynomial by polynomial
 pub mod SetKindsLaws  -- of which kind a fault of a set is
 pub mod PrintedTokensLaws  -- the tokens of printed numbers, names and powers
+pub mod VectorsAgainLaws  -- printed vectors are read again
 pub mod PrintedTermsLaws  -- what printed terms say
 pub mod PrintedPolynomialsLaws  -- what printed polynomials and sets say
 pub mod CombinedAgainLaws  -- what is said of polynomials is combined to them

@@ -1,12 +1,12 @@
 -- The tokens of printed numbers, names and powers, where no letter, digit or _ follows.
--- To cite: IsPiece, piece-none, piece-token, piece-++, piece-joined; number_piece, names_of_ring, Names. The rest are steps.
+-- To cite: IsPiece, piece-none, piece-token, piece-++, piece-joined; number_word, decimal_number, number_piece, names_of_ring, Names. The rest are steps.
 use Rattle.std.proofs.Common.{◌≡◌, ◌≤◌, ◌<◌, ◌^◌, ◌*◌, ◌/◌, ◌%◌, ◌+◌, ◌-◌, ℕ, zero, suc, Bool, true, false, ◌&&◌, ◌||◌, ◌==◌, nat_eq, max, List, [], ◌∷◌, ◌++◌, length, get_or, decimal, Some, refl, sym, ap, ◌∙◌, subst, arith, inl, inr, bytes_eq, if◌then◌else◌}
 use Rattle.std.proofs.lemmas.Bool.Decides.{nat_tests, eqb_tells}
 use Rattle.std.proofs.lemmas.Fmt.{decimal_by_steps_wide}
 use Rattle.std.proofs.lemmas.List.Folds.{length-prefix_len, list_any-append}
 use Rattle.std.specs.List.{list_all, prefix_len, starts_with, position_from}
 use Rattle.std.proofs.lemmas.Slice.Eq.{bytes_eq-Decides}
-use Rattle.gf_text.specs.Tokens.{is_space, is_digit, is_letter, is_name_byte, is_number, decimal_value, value_from, ring_more, longest}
+use Rattle.gf_text.specs.Tokens.{is_space, is_digit, is_letter, is_name_byte, is_number, decimal_value, value_from, word_more, ring_more, longest}
 use Rattle.gf_text.specs.RingText.{is_name, has, AreNew, IsRing}
 use Rattle.gf_text.specs.SetText.{variable}
 use Rattle.gf_text.proofs.SpelledLaws.{IsToken, IsSpelled, goes_on, spelled-none, spelled-token, spelled-++}
@@ -71,6 +71,19 @@ letter_visible b h = grind (arith, nat_tests, h)
 
 letter_no_digit : (b : ℕ) → is_letter b ≡ true → is_digit b ≡ false
 letter_no_digit b h = grind (arith, nat_tests, h)
+
+-- a number, where names are of any length
+pub number_word : (ds rest : List ℕ) → is_number ds ≡ true → goes_on rest ≡ false → IsToken word_more ds rest
+number_word [] rest digits stops = cc
+number_word (d ∷ ds) rest digits stops =
+    let both = and_both (is_digit d) (list_all is_digit ds) digits in
+    record {
+      first = d;
+      others = ds;
+      shape = refl;
+      visible = digit_visible d both.0;
+      whole = rw both.0 (length-prefix_len is_digit (ds ++ rest) ∙ digits_end ds rest both.1 stops);
+    }
 
 module _ (ring : List (List ℕ)) where
   pub number_token : (ds rest : List ℕ) → is_number ds ≡ true → goes_on rest ≡ false → IsToken (ring_more ring) ds rest

@@ -98,6 +98,10 @@ module _ (more : List ℕ → ℕ) where
 
 -- ---- the tokens of rings
 
+-- a mark
+pub mark_token : (b : ℕ) (rest : List ℕ) → is_space b ≡ false → word_more (b ∷ rest) ≡ 0 → IsToken word_more (b ∷ []) rest
+mark_token b rest visible whole = record { first = b; others = []; shape = refl; visible = visible; whole = whole }
+
 -- the text begins with a letter, a digit or _
 abbrev pub goes_on : List ℕ → Bool
 goes_on [] = false

@@ -12,11 +12,14 @@ pub mod Limits  -- what a text may say
 pub mod Combining  -- products of powers, sums of terms, the marked term
 pub mod WrittenText  -- the tokens by which a set is said
 pub mod PrintedText  -- signs, coefficients, powers, terms as they are printed
+pub mod SingleText  -- dimensions and names of new variables: grammar
 pub mod Given  -- what a reader gave
 pub mod GivenSet  -- the same of sets
 pub mod GivenVector  -- the same of vectors
 pub mod TokensRead  -- tokens as they are read
 pub mod Rings  -- rings as they are read
+pub mod VectorLists  -- lists of vectors as they are read
 pub mod Vectors  -- vectors as they are read
+pub mod Singles  -- dimensions and names as they are read
 pub mod Sets  -- the polynomials of a text
 pub mod PrintedSets  -- polynomials and sets as they are printed

@@ -1,10 +1,10 @@
 -- Rings as they are read.
-use Rattle.std.specs.Prelude.{◌≡◌, ℕ, ◌<◌, List, length}
+use Rattle.std.specs.Prelude.{◌≡◌, ℕ, ◌<◌, ◌+◌, ◌++◌, List, length}
 use Rattle.gf_text.specs.declared.error.TextError.{TextError}
 use Rattle.gf_text.specs.declared.error.TextError.TheVariants as errors
 use Rattle.gf_text.specs.Machine.{Reads}
 use Rattle.gf_text.specs.Tokens.{lexemes, word_more, Position}
-use Rattle.gf_text.specs.RingText.{IsRing, IsRingText}
+use Rattle.gf_text.specs.RingText.{IsRing, IsRingText, ring_words}
 use Rattle.gf_text.specs.RingKinds.{IsRingKind}
 use Rattle.gf_text.specs.Given.{IsNoText}
 
@@ -35,3 +35,15 @@ IsRingCause old (errors.UnknownName place) = ⊥
 IsRingCause old (errors.TooManyVariables count) = HasTooMany old count
 IsRingCause old (errors.ZeroPolynomial set index) = ⊥
 IsRingCause old errors.Memory = Unit {0}
+
+-- From this position the reader reads the ring of these names and no other, and goes to this place; it refuses nothing but
+-- for memory.
+pub record IsReadAsRing (old : Position) (place : ℕ) (names : List (List ℕ)) : Type 0 where
+  pub read : IsRingRead old place names
+  pub only : (end : ℕ) (ns : List (List ℕ)) → IsRingRead old end ns → (end ≡ place) × (ns ≡ names)
+  pub taken : (e : TextError) → IsRingCause old e → e ≡ errors.Memory
+
+-- A ring that stands anywhere in a text is read as what it is, whatever follows it.
+abbrev pub RingsAreReadAgain : Type 0
+RingsAreReadAgain = (names : List (List ℕ)) (before text : List ℕ) → IsRing names
+    → IsReadAsRing (record { source = before ++ (ring_words names ++ text); at = length before }) (length before + length (ring_words names)) names

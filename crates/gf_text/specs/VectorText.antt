@@ -1,8 +1,9 @@
 -- Vectors of whole numbers: what a text of a vector is, and the machine that reads it.
 -- `IsVectorText` is the grammar, `vector_step` the machine.
 -- Laws: proofs/VectorTextLaws.antt.
-use Rattle.std.specs.Prelude.{◌≡◌, ◌⊎◌, ℕ, ◌≤◌, ◌-◌, ◌^◌, nat_le, Bool, true, false, List, [], ◌∷◌, ◌++◌, length, bytes_eq, if◌then◌else◌, Result, ℤ, pos, unsigned_abs}
+use Rattle.std.specs.Prelude.{◌≡◌, ◌⊎◌, ℕ, ◌≤◌, ◌-◌, ◌^◌, nat_le, Bool, true, false, List, [], ◌∷◌, ◌++◌, length, bytes_eq, if◌then◌else◌, Result, ℤ, pos, unsigned_abs, decimal, flat_map}
 use lib.IntN.{neg_ℤ}
+use Rattle.gf_text.specs.PrintedText.{is_below_zero}
 use Rattle.gf_text.specs.Machine.{Move, go, done, halt, Fault, run}
 use Rattle.gf_text.specs.Marks.{parenthesis, parenthesis_end, comma, minus_mark}
 use Rattle.gf_text.specs.Tokens.{is_number, decimal_value, lexemes, word_more}
@@ -45,6 +46,21 @@ IsVectorText ts (z ∷ zs) = (first : List (List ℕ)) × (rest : List (List ℕ
 -- the entry is within its limit
 abbrev pub IsEntryWithin : ℤ → Type 0
 IsEntryWithin z = unsigned_abs z ≤ most_entry
+
+-- ---- what is printed
+
+-- an entry: its digits, behind - where it is below zero
+abbrev pub entry_text : ℤ → List ℕ
+entry_text z = if is_below_zero z then 45 ∷ decimal (unsigned_abs z) else decimal (unsigned_abs z)
+
+-- entries with commas between them
+abbrev pub entries_text : List ℤ → List ℕ
+entries_text [] = []
+entries_text (z ∷ zs) = entry_text z ++ flat_map (λ y. 44 ∷ entry_text y) zs
+
+-- a vector: its entries joined by commas between parentheses
+abbrev pub vector_text : List ℤ → List ℕ
+vector_text zs = (40 ∷ entries_text zs) ++ 41 ∷ []
 
 -- ---- the machine
 

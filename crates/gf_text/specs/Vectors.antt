@@ -1,10 +1,10 @@
 -- Vectors as they are read.
-use Rattle.std.specs.Prelude.{ℕ, List, length, All, ℤ}
+use Rattle.std.specs.Prelude.{◌≡◌, ℕ, ◌+◌, ◌++◌, List, length, All, ℤ}
 use Rattle.gf_text.specs.declared.error.TextError.{TextError}
 use Rattle.gf_text.specs.declared.error.TextError.TheVariants as errors
 use Rattle.gf_text.specs.Machine.{Reads}
 use Rattle.gf_text.specs.Tokens.{lexemes, word_more, Position}
-use Rattle.gf_text.specs.VectorText.{IsVectorText, IsEntryWithin}
+use Rattle.gf_text.specs.VectorText.{IsVectorText, IsEntryWithin, vector_text}
 use Rattle.gf_text.specs.Kinds.{IsNumberKind}
 use Rattle.gf_text.specs.Given.{IsNoText}
 
@@ -30,3 +30,15 @@ IsVectorCause old (errors.UnknownName place) = ⊥
 IsVectorCause old (errors.TooManyVariables count) = ⊥
 IsVectorCause old (errors.ZeroPolynomial set index) = ⊥
 IsVectorCause old errors.Memory = Unit {0}
+
+-- From this position the reader reads this vector and no other, and goes to this place; it refuses nothing but for memory.
+pub record IsReadAsVector (old : Position) (place : ℕ) (zs : List ℤ) : Type 0 where
+  pub read : IsVectorRead old place zs
+  pub only : (end : ℕ) (ys : List ℤ) → IsVectorRead old end ys → (end ≡ place) × (ys ≡ zs)
+  pub taken : (e : TextError) → IsVectorCause old e → e ≡ errors.Memory
+
+-- A printed vector whose entries are at most 2^63 - 1 in absolute value is read again as what it is, wherever it stands and
+-- whatever follows it.
+abbrev pub VectorsAreReadAgain : Type 0
+VectorsAreReadAgain = (zs : List ℤ) (before text : List ℕ) → AreEntriesWithin zs
+    → IsReadAsVector (record { source = before ++ (vector_text zs ++ text); at = length before }) (length before + length (vector_text zs)) zs

@@ -15,11 +15,13 @@ mod set_printer;
 mod set_reader;
 #[cfg(test)]
 mod set_tests;
+mod single_reader;
 mod term_printer;
 #[cfg(test)]
 mod tests;
 mod tokens;
 mod tree;
+mod vector_printer;
 mod vector_reader;
 #[cfg(test)]
 mod vector_tests;
@@ -30,6 +32,7 @@ pub use names::Ring;
 pub use printer::{
     Printer, marked_sets_are_kept, polynomials_are_kept, rings_are_read_again,
     rings_have_one_meaning, sets_are_read_again, sets_are_read_in_one_way, sets_have_one_meaning,
+    vectors_are_read_again,
 };
 pub use reader::Reader;
 pub use tokens::Token;

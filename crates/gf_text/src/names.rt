@@ -1,6 +1,6 @@
 //! The names of a ring's variables.
-ghost use Rattle.std.specs.Prelude.{◌≡◌, ◌++◌, ◌∷◌, ◌<◌, ◌≤◌, [], IfOk, IfSome, OnOk, length, not, slice_get, if◌then◌else◌};
-ghost use Rattle.gf_text.specs.RingText.{has, IsRing};
+ghost use Rattle.std.specs.Prelude.{◌≡◌, ◌++◌, ◌∷◌, ◌<◌, ◌≤◌, [], false, true, IfOk, IfSome, OnOk, length, not, slice_get, if◌then◌else◌};
+ghost use Rattle.gf_text.specs.RingText.{is_name, has, IsRing};
 ghost use Rattle.gf_text.specs.SetText.{variable};
 
 use indexmap::IndexSet;
@@ -142,12 +142,45 @@ impl Ring {
         self.names[i].as_slice()
     }
 
+    /// Whether one of its variables has this name.
+    pub(crate) fn has(&self, name: &[u8]) -> bool
+        ensures { result ≡ has self.now name.now }
+    {
+        self.names().iter().any(|n| n.as_slice() == name)
+    }
+
+    /// The ring with a variable of this name behind its own. The name is a new one, and the ring has fewer than 16 variables.
+    ///
+    /// # Errors
+    /// Where memory runs out.
+    pub fn extended(&self, alloc: Global, name: &[u8]) -> Result<Ring, AllocError>
+        requires named { is_name name.now ≡ true }
+        requires new { has self.now name.now ≡ false }
+        requires room { length self.now < 16 }
+        ensures { IfOk result (λ ring. ring ≡ self.now ++ name.now ∷ []) }
+    {
+        let mut names = copied(alloc, self.names())?;
+        names.push(Name::from_slice(alloc, name)?)?;
+        Ok(Ring::of(names))
+    }
+
     /// The number of the variable of this name.
     pub(crate) fn variable(&self, name: &[u8]) -> Option<u8>
         ensures { result ≡ variable self.now name.now }
     {
         place_of(self.names(), name).map(|i| i as u8)
     }
+}
+
+/// These names, copied.
+fn copied(alloc: Global, names: &[Name]) -> Result<Vec<Name>, AllocError>
+    ensures { IfOk result (λ all. all.items ≡ names.now) }
+{
+    let mut all = Vec::new(alloc);
+    for name in names {
+        all.push(Name::from_slice(alloc, name.as_slice())?)?;
+    }
+    Ok(all)
 }
 
 /// The place of the name among names, of which there are at most 16.

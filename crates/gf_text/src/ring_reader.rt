@@ -40,7 +40,7 @@ fn are_name_bytes(bytes: &[u8]) -> bool
 }
 
 /// A name is a letter, then letters, digits and `_`.
-fn is_name(t: &[u8]) -> bool
+pub(crate) fn is_name(t: &[u8]) -> bool
     ensures { result ≡ is_name t.now }
 {
     let [first, rest @ ..] = t else {

@@ -1,5 +1,5 @@
 //! The tokens of a text.
-ghost use Rattle.std.specs.Prelude.{◌≡◌, ◌<◌, ◌≤◌, ◌^◌, ◌-◌, ◌∷◌, [], length, take_while, max, nat_eq, true, MatchOption, IfSome, if◌then◌else◌};
+ghost use Rattle.std.specs.Prelude.{◌≡◌, ◌<◌, ◌≤◌, ◌^◌, ◌-◌, ◌∷◌, [], length, take_while, max, nat_eq, bytes_eq, true, MatchOption, IfSome, if◌then◌else◌};
 ghost use Rattle.std.specs.List.{list_all, starts_with};
 ghost use Rattle.gf_text.specs.Tokens.{is_space, is_digit, is_name_byte, is_number, decimal_value, spaces, lexemes, lexeme, longest, word_more, ring_more, begins_token};
 ghost use Rattle.gf_text.specs.Given.{IsNumberRead};
@@ -129,6 +129,13 @@ pub(crate) fn ring_token_from(ring: &Ring, source: &[u8], at: usize) -> Option<(
     }
     let more = ring_more(ring, &source[start..]);
     Some((start, start + 1 + more))
+}
+
+/// Whether a token is this mark.
+pub(crate) fn is_mark(t: &[u8], mark: u8) -> bool
+    ensures { result ≡ bytes_eq t.now (mark ∷ []) }
+{
+    t == [mark].as_slice()
 }
 
 /// What a token is as a number with a limit.

@@ -21,3 +21,11 @@ pub returns-clause-entries : goal.returns-clause-entries
 returns-clause-entries c =
     let r = vector_read c.args.source.now c.args.from c.in_ok-entries.entries.items c.in_ok-entries.end c.in_ok-entries.ensures.vector in
     rw (c.from_vec.ensures) (vector_within (texts r.front) c.in_ok-entries.entries.items r.text)
+
+pub returns-in_err-entries-clause-vector : goal.returns-in_err-entries-clause-vector
+returns-in_err-entries-clause-vector c =
+    let p = err_from_is_err_and c.from_residual.result c.from_residual.ensures.1 in
+    rw (p.1, p.2) (c.in_err-entries.ensures.vector)
+
+pub returns-clause-vector : goal.returns-clause-vector
+returns-clause-vector c = rw (c.from_vec.ensures) (c.in_ok-entries.ensures.vector)
