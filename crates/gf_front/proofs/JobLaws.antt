@@ -1,6 +1,6 @@
 -- Words that the table has a match for name one of its commands, each of whose options holds what it takes.
 -- To cite: parsed_as, within_limits. The rest are steps.
-use Rattle.std.proofs.Common.{◌≡◌, ◌⊎◌, ◌≤◌, Bool, true, false, not, ◌&&◌, ◌||◌, cond, List, [], ◌∷◌, Option, Some, None, is_some, codes, map, inl, inr, arith, refl, sym, ap, ◌∙◌, subst}
+use Rattle.std.proofs.Common.{◌≡◌, ◌≤◌, Bool, true, false, not, ◌&&◌, ◌||◌, cond, List, [], ◌∷◌, Option, Some, None, is_some, codes, map, inl, inr, arith, refl, sym, ap, ◌∙◌, subst}
 use Rattle.std.specs.Prelude.{option_map}
 use Rattle.std.specs.Option.{option_map_or}
 use Rattle.std.specs.List.{find, list_any}
@@ -17,7 +17,6 @@ use Rattle.clap.specs.Walk.{answers_to, nothing_held, walk, rows_after}
 use Rattle.clap.specs.Simple.{argument_words, built_leaf, entered, inherited, label_of, marked_built, names_of, with_leaf_noted}
 use Rattle.clap.specs.Faults.{check_fault, entered_fault}
 use Rattle.gf_front.specs.declared.command_line.Job.{Job}
-use Rattle.gf_front.specs.declared.command_line.Job.TheVariants as jobs
 use Rattle.gf_front.specs.Table.{Entry, table, commands, shape, most_pairs, usual_pairs, number_of, buchberger, is_marked_groebner_basis}
 use Rattle.gf_front.specs.Jobs.{HasMatch, HasNumbersInRange, match_of, job_in, job_of}
 use Rattle.gf_front.specs.Options.{HoldChoices, NamesEntry, IsCommand, HoldsNumber}
@@ -117,8 +116,10 @@ buchberger_sound : IsSound buchberger
 buchberger_sound = record {
   holds = λ rows ok. (
     is_flag (as_built (shape buchberger)).rules (codes "w") rows (λ text. refl) ok,
-    (is_flag (as_built (shape buchberger)).rules (codes "r") rows (λ text. refl) ok,
-    (is_number (as_built (shape buchberger)).rules (codes "pairs") most_pairs rows (λ text. refl) ok, tt)),
+    (
+      is_flag (as_built (shape buchberger)).rules (codes "r") rows (λ text. refl) ok,
+      (is_number (as_built (shape buchberger)).rules (codes "pairs") most_pairs rows (λ text. refl) ok, tt),
+    ),
   );
   limits = λ rows h. pairs_within rows h.1.1.0;
 }
