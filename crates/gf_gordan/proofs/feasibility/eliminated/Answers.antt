@@ -2,7 +2,7 @@ use Rattle.std.proofs.Common.{◌≡◌, length, take, drop, arith, subst, ap, �
 use Rattle.gf_gordan.specs.Equations.{IsPointOn, IsMultipliersOn}
 use Rattle.gf_gordan.specs.Findings.{IsFoundOn}
 use Rattle.gf_gordan.proofs.AlternativeLaws.{solution-from_point, farkas-from_multipliers, multipliers-length}
-use Rattle.gf_gordan.proofs.feasibility.strict.Goals as goal
+use Rattle.gf_gordan.proofs.feasibility.eliminated.Goals as goal
 
 pub returns-in-Point-clause-ok : goal.returns-in-Point-clause-ok
 returns-in-Point-clause-ok c =
