@@ -3,7 +3,7 @@ use Rattle.std.proofs.Common.{◌≡◌, ℕ, zero, suc, ◌+◌, ◌*◌, ◌<�
 use Rattle.std.specs.Int.{int_signum}
 use Rattle.std.specs.List.{AllByRecursion}
 use Rattle.std.proofs.Math.Nat.{mul-le-mul_left, mul-le-mul_right}
-use Rattle.gf_int.specs.Content.{times}
+use Rattle.gf_int.specs.Content.{scaled}
 use Rattle.gf_vec.specs.Vector.{dot, zeros, entry_at}
 use Rattle.gf_gordan.specs.Elimination.{IsPivot, size_at, IsSystemBy, column, taken, IsCarried}
 use Rattle.gf_gordan.specs.Elimination as elimination
@@ -27,7 +27,7 @@ used_carried r j col cs ms out n h d =
     let x = neg_ℤ (int_signum (entry_at r j)) *ℤ dot (taken cs ms) col in
     let a = used-kept d.0 out d.1.positive in
     let b = ap used d.1.multiple in
-    let c = used-append (times (size_at r j) (taken cs ms)) (x ∷ []) in
+    let c = used-append (scaled (size_at r j) (taken cs ms)) (x ∷ []) in
     let e = used-times (size_at r j) (taken cs ms) in
     let f = used-taken (elimination.scale_of cs ms) cs ms in
     let g = counted_one x in
@@ -93,7 +93,7 @@ carried_up n b l r j col cs ms out k d =
     let o = product_up (neg_ℤ (int_signum (entry_at r j))) (dot (taken cs ms) col) 1 (suc n * (taken_bound n b l * b)) (neg_up (int_signum (entry_at r j)) 1 (signum_up (entry_at r j))) (own_up n b l r j col cs ms k) in
     let f = up_times (size_at r j) b (taken_bound n b l) (taken cs ms) (size_up b r j k.row) (takings_up n b l r j col cs ms k) in
     up_divided _ _ out d.0 d.1
-    (up_append (1 + suc n * (taken_bound n b l * b)) (times (size_at r j) (taken cs ms)) (x ∷ []) (up_weaker (b * taken_bound n b l) _ _ (swapped n (taken_bound n b l) b) f) (up_cons _ x [] (omega (arith, o)) (up_none _)))
+    (up_append (1 + suc n * (taken_bound n b l * b)) (scaled (size_at r j) (taken cs ms)) (x ∷ []) (up_weaker (b * taken_bound n b l) _ _ (swapped n (taken_bound n b l) b) f) (up_cons _ x [] (omega (arith, o)) (up_none _)))
 
 more : (n : ℕ) → n + 1 ≡ suc n
 more n = omega arith

@@ -3,7 +3,7 @@ use Rattle.std.proofs.Common.{◌≡◌, ℕ, zero, suc, ◌+◌, ◌*◌, ◌<�
 use Rattle.std.specs.Int.{int_signum}
 use Rattle.std.specs.List.{AllByRecursion}
 use Rattle.std.proofs.Math.Nat.{mul-le-mul, mul-le-mul_left}
-use Rattle.gf_int.specs.Content.{times}
+use Rattle.gf_int.specs.Content.{scaled}
 use Rattle.gf_vec.specs.Vector.{dot, vector_sum, entry_at}
 use Rattle.gf_gordan.specs.Elimination.{IsPivot, size_at, lifted, greatest, push_factor, IsPushed}
 use Rattle.gf_gordan.specs.Recursion.{IsPoint, nothing, kept, pushed}
@@ -59,7 +59,7 @@ lifted_up n b q r j v p l u k =
     let size = up_times (size_at r j) b q v (size_up b r j u) k in
     let d = dot_up (suc n) b q (remove r j) v (omega (arith, l, length-remove_lem r j p.inside)) (up_remove b r j u) k in
     let x = product_up (neg_ℤ (int_signum (entry_at r j))) (dot (remove r j) v) 1 (lift_bound n b q) (neg_up (int_signum (entry_at r j)) 1 (signum_up (entry_at r j))) d in
-    up_insert (lift_bound n b q) (times (size_at r j) v) j (neg_ℤ (int_signum (entry_at r j)) *ℤ dot (remove r j) v) (omega (arith, x)) (up_weaker (b * q) (lift_bound n b q) _ (grown n (b * q)) size)
+    up_insert (lift_bound n b q) (scaled (size_at r j) v) j (neg_ℤ (int_signum (entry_at r j)) *ℤ dot (remove r j) v) (omega (arith, x)) (up_weaker (b * q) (lift_bound n b q) _ (grown n (b * q)) size)
 
 -- ---- a pushed point
 
@@ -76,7 +76,7 @@ factor_up n b rows r z u = let g = greatest_up n b rows r z u in omega (arith, g
 pushed_up : (n b q : ℕ) (rows : List (List ℤ)) (r : List ℤ) (j : ℕ) (v u : List ℤ) → IsPivot r j → Sized (suc n) b rows → length r ≡ n + 1 → UpTo b r → UpTo q v → IsPushed rows r j v u → UpTo ((1 + suc n * (b * b)) * lift_bound n b q + b) u
 pushed_up n b q rows r j v u p z l ur uv h =
     up_divided _ _ u h.0 h.1
-    (up_sum ((1 + suc n * (b * b)) * lift_bound n b q) b (times (push_factor rows r) (lifted r j v)) r
+    (up_sum ((1 + suc n * (b * b)) * lift_bound n b q) b (scaled (push_factor rows r) (lifted r j v)) r
         (up_times (push_factor rows r) (1 + suc n * (b * b)) (lift_bound n b q) (lifted r j v) (factor_up (suc n) b rows r z ur) (lifted_up n b q r j v p l ur uv)) ur)
 
 more : (n : ℕ) → n + 1 ≡ suc n

@@ -5,7 +5,7 @@ use Rattle.std.specs.List.{AllByRecursion}
 use Rattle.std.proofs.lemmas.Int.{ints, unsigned_abs-mul}
 use Rattle.std.proofs.lemmas.Nat.Gcd.{dvd-zero, le_of_dvd}
 use Rattle.std.proofs.Math.Nat.{eq-zero_of_zero-dvd, mul-le-mul, dvd-mul_right}
-use Rattle.gf_int.specs.Content.{times, DividesAll, AllZero, IsContent, IsPrimitive}
+use Rattle.gf_int.specs.Content.{scaled, DividesAll, AllZero, IsContent, IsPrimitive}
 use Rattle.gf_vec.specs.Vector.{vector_sum, entry_at}
 use Rattle.gf_vec.specs.Primitive.{IsDivided}
 use Rattle.gf_vec.proofs.EntryLaws.{entry_times}
@@ -40,7 +40,7 @@ signed_up b r j t u = let k = product_up (int_signum (entry_at r j)) (entry_at t
 
 pub reduced_up : (b : ℕ) (r : List ℤ) (j : ℕ) (t : List ℤ) → UpTo b r → UpTo b t → UpTo (twice b) (reduced r j t)
 reduced_up b r j t u v =
-    up_sum (b * b) (b * b) (times (size_at r j) (remove t j)) (times (neg_ℤ (signed_at r j t)) (remove r j))
+    up_sum (b * b) (b * b) (scaled (size_at r j) (remove t j)) (scaled (neg_ℤ (signed_at r j t)) (remove r j))
     (up_times (size_at r j) b b (remove t j) (size_up b r j u) (up_remove b t j v))
     (up_times (neg_ℤ (signed_at r j t)) b b (remove r j) (neg_up (signed_at r j t) b (signed_up b r j t v)) (up_remove b r j u))
 

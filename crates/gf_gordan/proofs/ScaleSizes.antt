@@ -4,7 +4,7 @@ use Rattle.std.specs.List.{AllByRecursion}
 use Rattle.std.proofs.lemmas.Int.{ints, unsigned_abs-mul}
 use Rattle.std.proofs.Math.IntN.{zero-*ℤ, *ℤ-zero}
 use Rattle.std.proofs.Math.Nat.{mul-le-mul, mul-le-mul_left, mul-le-mul_right, div-le_of_le-mul}
-use Rattle.gf_int.specs.Content.{times}
+use Rattle.gf_int.specs.Content.{scaled}
 use Rattle.gf_int.proofs.ContentLaws.{quotient-smaller}
 use Rattle.gf_vec.specs.Vector.{dot, zeros, entry_at}
 use Rattle.gf_gordan.specs.Elimination.{scale_part, scale_from, taken_by}
@@ -77,11 +77,11 @@ pub used-zeros : (k : ℕ) → used (zeros k) ≡ 0
 used-zeros zero = refl
 used-zeros (suc k) = let e = used-zeros k in omega (arith, e)
 
-pub used-times : (k : ℤ) (xs : List ℤ) → used (times k xs) ≤ used xs
+pub used-times : (k : ℤ) (xs : List ℤ) → used (scaled k xs) ≤ used xs
 used-times k [] = omega arith
 used-times k (x ∷ xs) = let e = used-times k xs in let f = counted_right k x in omega (arith, e, f)
 
-pub used-kept : (c : ℤ) (xs : List ℤ) → pos 0 <ℤ c → used xs ≤ used (times c xs)
+pub used-kept : (c : ℤ) (xs : List ℤ) → pos 0 <ℤ c → used xs ≤ used (scaled c xs)
 used-kept c [] h = omega arith
 used-kept c (x ∷ xs) h = let e = used-kept c xs h in let f = counted_kept c x h in omega (arith, e, f)
 

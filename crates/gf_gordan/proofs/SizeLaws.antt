@@ -4,7 +4,7 @@ use Rattle.std.specs.Int.{int_signum}
 use Rattle.std.specs.List.{AllByRecursion}
 use Rattle.std.proofs.lemmas.Int.{ints, unsigned_abs-mul}
 use Rattle.std.proofs.Math.Nat.{mul-le-mul, mul-le-mul_left}
-use Rattle.gf_int.specs.Content.{times}
+use Rattle.gf_int.specs.Content.{scaled}
 use Rattle.gf_vec.specs.declared.error.VecOp.{VecOp}
 use Rattle.gf_vec.specs.declared.error.WideVector.{WideVector}
 use Rattle.gf_vec.specs.Vector.{dot, vector_sum, zeros, entry_at}
@@ -64,7 +64,7 @@ pub up_append : (b : ℕ) (xs ys : List ℤ) → UpTo b xs → UpTo b ys → UpT
 up_append b [] ys u v = v
 up_append b (x ∷ xs) ys u v = up_cons b x (xs ++ ys) (u.at 0) (up_append b xs ys (up_tail b x xs u) v)
 
-pub up_times : (k : ℤ) (c b : ℕ) (xs : List ℤ) → unsigned_abs k ≤ c → UpTo b xs → UpTo (c * b) (times k xs)
+pub up_times : (k : ℤ) (c b : ℕ) (xs : List ℤ) → unsigned_abs k ≤ c → UpTo b xs → UpTo (c * b) (scaled k xs)
 up_times k c b xs h u = record { at = λ i. rw (entry_times k xs i) (product_up k (entry_at xs i) c b h (u.at i)) }
 
 pub up_sum : (a b : ℕ) (xs ys : List ℤ) → UpTo a xs → UpTo b ys → UpTo (a + b) (vector_sum xs ys)

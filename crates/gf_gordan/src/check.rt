@@ -1,6 +1,6 @@
 //! Candidates judged by exact arithmetic: whether a vector is a solution, and whether multipliers refute.
 ghost use Rattle.std.specs.Prelude.{◌≡◌, ◌↔◌, pos, All, IfOk, IfErr, OnOk, IsTrue, length, ◌<ℤ◌, ◌≤ℤ◌, ◌++◌};
-ghost use Rattle.gf_int.specs.Content.{IsContent, times};
+ghost use Rattle.gf_int.specs.Content.{IsContent, scaled};
 ghost use Rattle.gf_vec.specs.Vector.{dot, vector_sum, zeros, combined, SomePositive};
 ghost use Rattle.gf_vec.specs.Steps.{IsWide, IfWide};
 ghost use Rattle.gf_gordan.specs.Alternative.{AreRows, IsSolution, IsFarkas};
@@ -65,7 +65,7 @@ pub fn is_solution(rows: &[IntVec], equations: &[IntVec], v: &[i128]) -> Result<
 /// A product or sum that leaves the range.
 fn add_multiple(sum: &mut [i128], m: i128, xs: &[i128]) -> Result<(), WideVector>
     requires { length sum.old ≡ length xs.now }
-    ensures ok { OnOk result (sum.new ≡ vector_sum sum.old (times m xs.now)) }
+    ensures ok { OnOk result (sum.new ≡ vector_sum sum.old (scaled m xs.now)) }
     ensures wide { IfErr result IsWide }
 {
     for (i, s) in sum.iter_mut().enumerate() {
