@@ -1,12 +1,12 @@
 -- A wave and a call keep that each refusal in the row is its walker's, and a refusal that is told is that of the walker in front.
 -- To cite: waved_refusals, given_refusals, given_refused_any, starved_refused.
-use Rattle.std.proofs.Common.{◌≡◌, ℕ, zero, suc, List, [], ◌∷◌, ◌++◌, ◌⊎◌, refl, sym, inl, inr, subst, ◌∙◌, Option, Some, None, Ok, Err, Bool, true, false}
+use Rattle.std.proofs.Common.{◌≡◌, ℕ, zero, suc, List, [], ◌∷◌, ◌++◌, refl, sym, inl, inr, subst, Option, Some, None, Ok, Err, true, false}
 use Rattle.std.specs.Prelude.{IfErr}
 use Rattle.std.specs.declared.result.Result.{Result}
 use Rattle.gf_walk.specs.declared.mark.Mark.{Mark}
 use Rattle.gf_walk.specs.declared.mark.Mark.TheVariants.{After}
 use Rattle.gf_walk.specs.Place.{Place}
-use Rattle.gf_walk.specs.Pieces.{AreBelow, Follows, GoesDown, Expands}
+use Rattle.gf_walk.specs.Pieces.{AreBelow, Follows, GoesDown}
 use Rattle.gf_walk.specs.declared.expand.Piece.{Piece}
 use Rattle.gf_walk.specs.declared.expand.Piece.TheVariants.{Ready, Under, Refused}
 use Rattle.gf_waves.specs.Frontier.{AreRefusals, IsFrontRefused}

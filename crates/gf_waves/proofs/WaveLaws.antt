@@ -1,11 +1,11 @@
 -- A wave and a call keep what is left.
 -- To cite: given_leaves, readied_leaves.
-use Rattle.std.proofs.Common.{◌≡◌, ℕ, zero, suc, ◌<◌, ◌≤◌, ◌+◌, ◌*◌, List, [], ◌∷◌, ◌++◌, ◌⊎◌, length, refl, sym, ap, inl, inr, subst, ◌∙◌, append_assoc, append-nil, arith, length-append, Option, Some, None, Ok, Err}
+use Rattle.std.proofs.Common.{◌≡◌, ℕ, zero, suc, List, [], ◌∷◌, ◌++◌, length, refl, sym, ap, inl, inr, subst, ◌∙◌, append_assoc, append-nil, Option, Some, None, Ok, Err}
 use Rattle.std.specs.declared.result.Result.{Result}
 use Rattle.gf_walk.specs.Path.{IsPath, IsStrictOrder, IsTree}
 use Rattle.gf_walk.specs.Place.{Place}
-use Rattle.gf_walk.specs.Listing.{Among, LeadTo, Leaves, IsLeftAt, IsFirstOf}
-use Rattle.gf_walk.specs.Pieces.{PiecesLeave, Expands}
+use Rattle.gf_walk.specs.Listing.{Among, LeadTo, Leaves, IsLeftAt}
+use Rattle.gf_walk.specs.Pieces.{PiecesLeave}
 use Rattle.gf_walk.specs.declared.expand.Piece.{Piece}
 use Rattle.gf_walk.specs.declared.expand.Piece.TheVariants.{Ready, Under, Refused}
 use Rattle.gf_walk.proofs.PiecesLaws.{expansion_leaves}

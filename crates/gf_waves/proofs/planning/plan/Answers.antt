@@ -1,9 +1,8 @@
-use Rattle.std.proofs.Common.{◌≡◌, ◌++◌, ◌∷◌, ◌<◌, ◌≤◌, ◌+◌, ◌-◌, ℕ, suc, [], length, sym, ap, ◌∙◌, rules, arith}
+use Rattle.std.proofs.Common.{◌≡◌, ◌++◌, ◌∷◌, ◌<◌, ◌≤◌, ◌+◌, ◌-◌, ℕ, suc, [], length, ap, ◌∙◌, rules, arith}
 use Rattle.std.proofs.lemmas.List.{length_push}
 use Rattle.std.specs.Prelude.{Vec}
 use Rattle.std.specs.Vec.{vec_capacity}
 use Rattle.std.specs.declared.alloc.Global.{Global}
-use Rattle.gf_walk.specs.declared.expand.Piece.TheVariants.{Ready, Under, Refused}
 use Rattle.gf_waves.proofs.PlanLaws.{goes_ready, goes_under, goes_refused, goes_none, goes_end}
 use Rattle.gf_waves.proofs.planning.plan.Goals.{in-Ready, in-Under, in-Refused}
 use Rattle.gf_waves.proofs.planning.plan.Goals as goal
@@ -35,13 +34,13 @@ loop-left-preserved g c =
       ];
       room = (let long = ap length whole in let more = ap length is in let push = length_push l.places.items m.place in let before = l.invariant.room in let kept = c.add_place.ensures.room in omega (arith, long, more, push, before, kept));
       room_for_jobs = (
-        let before = l.invariant.room_for_jobs in
-        elim m.branch [
-          | in-Ready w ↦ (let less = w.left-is in let jobs = ap (λ j. length j.items) w.jobs-is in let room = ap vec_capacity w.jobs-is in omega (arith, less, jobs, room, before))
-          | in-Under w ↦ more_jobs l.left m.left l.jobs m.jobs w.add_job.new.jobs _ some w.left-is w.jobs-is w.add_job.ensures.items w.add_job.ensures.room before
-          | in-Refused w ↦ more_jobs l.left m.left l.jobs m.jobs w.add_job-in-Refused.new.jobs _ some w.left-is w.jobs-is w.add_job-in-Refused.ensures.items w.add_job-in-Refused.ensures.room before
-        ]
-      );
+          let before = l.invariant.room_for_jobs in
+          elim m.branch [
+            | in-Ready w ↦ (let less = w.left-is in let jobs = ap (λ j. length j.items) w.jobs-is in let room = ap vec_capacity w.jobs-is in omega (arith, less, jobs, room, before))
+            | in-Under w ↦ more_jobs l.left m.left l.jobs m.jobs w.add_job.new.jobs _ some w.left-is w.jobs-is w.add_job.ensures.items w.add_job.ensures.room before
+            | in-Refused w ↦ more_jobs l.left m.left l.jobs m.jobs w.add_job-in-Refused.new.jobs _ some w.left-is w.jobs-is w.add_job-in-Refused.ensures.items w.add_job-in-Refused.ensures.room before
+          ]
+          );
     }
 
 pub returns-in_default : goal.returns-in_default

@@ -1,4 +1,4 @@
-use Rattle.std.proofs.Common.{◌≡◌, ◌++◌, ◌+◌, ◌≤◌, List, length}
+use Rattle.std.proofs.Common.{◌++◌, ◌+◌, ◌≤◌, List, length}
 use Rattle.std.specs.Vec.{vec_capacity}
 use Rattle.std.specs.VecDeque.{deque_capacity}
 use Rattle.gf_waves.specs.Plans.{IsPlanned}

@@ -1,4 +1,4 @@
-use Rattle.std.proofs.Common.{◌≡◌, ◌∷◌, inl, inr, sym, subst, rules, Ok, Some, None}
+use Rattle.std.proofs.Common.{◌≡◌, ◌∷◌, inl, inr, sym, subst, rules, Ok, Some}
 use Rattle.gf_walk.specs.Pieces.{RefusesAt}
 use Rattle.gf_walk.specs.Walk.{Advances}
 use Rattle.gf_walk.specs.declared.expand.Piece.TheVariants.{Under}

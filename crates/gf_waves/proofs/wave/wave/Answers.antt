@@ -1,4 +1,4 @@
-use Rattle.std.proofs.Common.{◌≡◌, ◌++◌, ◌≤◌, ◌+◌, ◌*◌, length, sym, ap, subst, rules, arith, ◌∙◌}
+use Rattle.std.proofs.Common.{◌≡◌, ◌≤◌, ◌+◌, ◌*◌, length, sym, ap, subst, rules, arith, ◌∙◌}
 use Rattle.std.specs.VecDeque.{deque_capacity}
 use Rattle.gf_walk.specs.Pieces.{RefusesAt}
 use Rattle.gf_waves.specs.Frontier.{AreRefusals, job_number}

@@ -1,4 +1,3 @@
-use Rattle.std.proofs.Common.{subst, sym}
 use denote.Exit.{unseen}
 use denote.Param.Send.{Quiet-if}
 use mir.Syntax.{of_param}

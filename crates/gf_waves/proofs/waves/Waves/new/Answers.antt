@@ -1,4 +1,4 @@
-use Rattle.std.proofs.Common.{◌≡◌, ◌∷◌, [], refl, sym, subst, Some, append-nil, ◌∙◌, rules}
+use Rattle.std.proofs.Common.{◌≡◌, ◌∷◌, [], refl, sym, subst, Some, append-nil, rules}
 use Rattle.gf_walk.specs.declared.mark.Mark.TheVariants.{Before, Listed}
 use Rattle.gf_walk.specs.declared.expand.Piece.TheVariants.{Ready, Under}
 use Rattle.gf_walk.specs.Listing.{IsLeftAt}
@@ -16,5 +16,5 @@ returns-clause-list g c =
     let root = c.args.root in
     let is : c.push-2.new.row.items ≡ Ready root ∷ Under (record { tree = t; here = root; mark = Listed; depth = 0 }) ∷ [] = search rules in
     λ nodes l.
-        let k = gives lt up g.met.T.Tree.strict (g.met.T.Tree.tree t) Before root 0 Listed root 0 (Some root) (λ top r at. listed_here lt up top r root root 0 refl at) nodes l in
-        subst (λ ps. PiecesLeave (IsLeftAt lt g.T.Tree.up) ps nodes) (sym is) (k.0, k.1, (k.0, [], sym (append-nil k.0), k.2, refl))
+    let k = gives lt up g.met.T.Tree.strict (g.met.T.Tree.tree t) Before root 0 Listed root 0 (Some root) (λ top r at. listed_here lt up top r root root 0 refl at) nodes l in
+    subst (λ ps. PiecesLeave (IsLeftAt lt g.T.Tree.up) ps nodes) (sym is) (k.0, k.1, (k.0, [], sym (append-nil k.0), k.2, refl))

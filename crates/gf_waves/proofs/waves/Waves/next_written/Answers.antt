@@ -1,4 +1,4 @@
-use Rattle.std.proofs.Common.{inl, inr, refl, sym, ap, subst}
+use Rattle.std.proofs.Common.{inl, sym, subst}
 use Rattle.gf_walk.specs.Listing.{IsLeftAt}
 use Rattle.gf_walk.specs.Pieces.{PiecesLeave, RefusesAt}
 use Rattle.gf_waves.specs.Frontier.{IsFrontRefused}
