@@ -1,0 +1,2 @@
+mod RowsLaws  -- rows as they are made
+mod ListingLaws  -- ascending lists of vectors
