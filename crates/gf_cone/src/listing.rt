@@ -1,6 +1,8 @@
 //! Normals: the rows divided by their contents, ascending and each once.
-ghost use Rattle.std.specs.Prelude.{◌≡◌, ◌↔◌, ◌⊎◌, List, ℤ, Contains, IfOk};
+ghost use Rattle.std.specs.Prelude.{◌≡◌, ◌↔◌, ◌⊎◌, List, ℤ, Contains, All, IfOk};
 ghost use Rattle.gf_facets.specs.Normals.{Ascends, AreNormals};
+ghost use Rattle.gf_facets.specs.MarkedBases.{AreCanonical};
+ghost use Rattle.gf_cone.specs.Small.{IsSmall};
 ghost use Rattle.gf_cone.specs.Placing.{IsPlacing};
 
 use crate::marking::rows;
@@ -9,14 +11,14 @@ use gf_vec::IntVec;
 use std::alloc::{AllocError, Global};
 use std::cmp::Ordering;
 
-/// Where a vector goes into a rising list.
+/// Where a vector goes into an ascending list: before that at a place, or nowhere, since it is there.
 #[derive(Drop)]
 enum Placing {
     New(usize),
     Known,
 }
 
-// Where a vector goes in.
+/// Where a vector goes into an ascending list.
 fn place_in(list: &[IntVec], v: &IntVec) -> Placing
     ensures { IsPlacing list.now v.now result }
 {
@@ -30,7 +32,10 @@ fn place_in(list: &[IntVec], v: &IntVec) -> Placing
     Placing::New(list.len())
 }
 
-// A rising list with one more vector, unless it has it.
+/// An ascending list with one more vector, unless it has it.
+///
+/// # Errors
+/// Want of memory.
 fn with_vector(list: Vec<IntVec>, v: IntVec) -> Result<Vec<IntVec>, AllocError>
     requires { Ascends list.items }
     ensures rises { IfOk result (λ more. Ascends more.items) }
@@ -47,8 +52,13 @@ fn with_vector(list: Vec<IntVec>, v: IntVec) -> Result<Vec<IntVec>, AllocError>
 }
 
 /// The normals of a marked set, ascending, each once.
-pub fn normals(alloc: Global, set: &MarkedSet) -> Result<Vec<IntVec>, AllocError>
-    ensures { IfOk result (λ ns. AreNormals set.now.items ns.items) }
+///
+/// # Errors
+/// Want of memory.
+pub(crate) fn normals(alloc: Global, set: &MarkedSet) -> Result<Vec<IntVec>, AllocError>
+    ensures normals { IfOk result (λ ns. AreNormals set.now.items ns.items) }
+    ensures small { IfOk result (λ ns. All IsSmall ns.items) }
+    ensures canonical { IfOk result (λ _. AreCanonical set.now.variables set.now.items) }
 {
     let rows = rows(alloc, set)?;
     let mut all = Vec::new(alloc);

@@ -2,7 +2,7 @@
 ghost use Rattle.std.specs.Prelude.{◌≡◌, ◌++◌, ◌<◌, ◌^◌, ◌-ℤ◌, ℕ, pos, length, slice_set, unsigned_abs, All, IfOk};
 ghost use Rattle.gf_int.specs.Range.{InRange};
 ghost use Rattle.gf_vec.specs.Vector.{zeros};
-ghost use Rattle.gf_poly.specs.Marking.{Each, HasMarkedTerm};
+ghost use Rattle.gf_poly.specs.Marking.{Each, HaveVariables, HasMarkedTerm};
 ghost use Rattle.gf_poly.specs.Polynomial.{HasVariables};
 ghost use Rattle.gf_facets.specs.Rows.{differences, row_between, rows_of_terms, rows_of};
 ghost use Rattle.gf_facets.specs.Systems.{unit, units};
@@ -135,6 +135,7 @@ pub fn rows(alloc: Global, set: &MarkedSet) -> Result<Vec<IntVec>, AllocError>
     ensures rows { IfOk result (λ rows. rows.items ≡ rows_of set.now.items) }
     ensures small { IfOk result (λ rows. All IsSmall rows.items) }
     ensures marked { IfOk result (λ _. Each HasMarkedTerm set.now.items) }
+    ensures variables { IfOk result (λ _. HaveVariables set.now.variables set.now.items) }
 {
     let items = set.items();
     let mut rows = Vec::new(alloc);
