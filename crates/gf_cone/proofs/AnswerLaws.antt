@@ -1,7 +1,7 @@
 -- Answers about a normal: multipliers of its system are a combination, and what an answer tells of the cone.
--- To cite: canonical_of, combination_of_farkas, others-append, flip_told, facet_told, cone_of, kept_of, kept_wide, positive_for,
+-- To cite: canonical_of, combination_of_farkas, others-append, flip_told, facet_told, crossable_flippable, cone_of, kept_of, kept_wide, positive_for,
 -- answer_for, IfOk-weaker.
-use Rattle.std.specs.Prelude.{◌≡◌, ◌⊎◌, ℕ, zero, suc, ◌<◌, ◌≤◌, Result, Ok, Err, IfOk, take, drop, List, [], ◌∷◌, ◌++◌, length, get_or, Contains, All, ℤ, pos, neg_ℤ, ◌+ℤ◌, ◌*ℤ◌, ◌<ℤ◌, ◌≤ℤ◌}
+use Rattle.std.specs.Prelude.{◌≡◌, ◌⊎◌, ℕ, zero, suc, ◌<◌, ◌≤◌, ◌↔◌, Result, Ok, Err, IfOk, take, drop, List, [], ◌∷◌, ◌++◌, length, get_or, Contains, All, ℤ, pos, neg_ℤ, ◌+ℤ◌, ◌*ℤ◌, ◌<ℤ◌, ◌≤ℤ◌}
 use Rattle.std.specs.List.{AllByRecursion}
 use Rattle.std.proofs.Common.{arith, refl, sym, ap, ap₂, ◌∙◌, subst, inl, inr, append_assoc}
 use Rattle.std.proofs.lemmas.Int.{ints}
@@ -35,9 +35,10 @@ use Rattle.gf_facets.proofs.UnitLaws.{units_wide, units_on_positive, positive_by
 use Rattle.gf_facets.proofs.SystemLaws.{contained_all}
 use Rattle.gf_facets.proofs.FacetSystems.{IsFacetSystem, facet_system, flip_system, point_of_solution, solution_of_point, not_redundant}
 use Rattle.gf_cone.specs.Small.{IsSmall}
-use Rattle.gf_cone.specs.Keeping.{IsKept}
+use Rattle.gf_cone.specs.Keeping.{AreVectorsKept}
 use Rattle.gf_cone.proofs.SmallLaws.{units_small}
 use Rattle.gf_cone.specs.Cones.{ConeRows, all_rows, normal_at, other_rows, IsConeOf, HasInterior}
+use Rattle.gf_cone.specs.Crossing.{IsCrossable}
 use Rattle.gf_cone.specs.Answers.{AnswersSystem, AnswersFlip, AnswersFacet, TellsFlip, TellsFacet, IsFlipTold, IsFacetTold}
 use Rattle.gf_cone.specs.declared.answer.FacetAnswer.{FacetAnswer}
 use Rattle.gf_cone.specs.declared.answer.FacetAnswer.TheVariants.{Facet, Redundant}
@@ -136,7 +137,7 @@ interior_of_normals c i l h =
 
 -- ---- what an answer tells
 
-module _ (n : ℕ) (k : Region) (bs : List MarkedPolynomial) (c : ConeRows) (i : ℕ) (l : i < length c.normals) (is : IsConeOf n k bs c) (wide : AreRows c.variables (all_rows c)) where
+module _ (n : ℕ) (k : Region) (bs : List MarkedPolynomial) (c : ConeRows) (i : ℕ) (l : i < length c.normals) (is : IsConeOf n k bs c) where
   rows_are : other_rows c i ≡ flip_rows n k c.normals i
   rows_are = ap (λ (z : List (List ℤ)). others_of i c.normals ++ z) is.beside ∙ sym (append_assoc (others_of i c.normals) k.rows (units n n))
 
@@ -145,9 +146,6 @@ module _ (n : ℕ) (k : Region) (bs : List MarkedPolynomial) (c : ConeRows) (i :
 
   system : IsFacetSystem bs (normal_at c i) (k.rows ++ units n n) (other_rows c i)
   system = subst (IsFacetSystem bs (normal_at c i) (k.rows ++ units n n)) (sym rows_are) (flip_system n k bs c.normals i is.normals l)
-
-  others_wide : AreRows n (other_rows c i)
-  others_wide = subst (λ (m : ℕ). AreRows m (other_rows c i)) is.variables (subst (AreRows c.variables) (others-append i c.normals c.beside l) (others_all_of (λ t. length t ≡ c.variables) (all_rows c) i wide))
 
   -- a solution is a vector of the region inside the facet
   pub flip_of_solution : (w : List ℤ) → IsSolution c.variables (other_rows c i) (normal_at c i ∷ []) w → IsInRegion n k w × IsInsideFacet bs (normal_at c i) w
@@ -174,23 +172,34 @@ module _ (n : ℕ) (k : Region) (bs : List MarkedPolynomial) (c : ConeRows) (i :
         | inr e ↦ units_on_positive n f.point f.region.width f.region.positive t e
       ]))
 
-  pub flip_tells : HasInterior c → (answer : FlipAnswer) → AnswersFlip c i answer → TellsFlip n k bs (normal_at c i) answer
-  flip_tells h (Yes w) s = flip_of_solution w s
-  flip_tells h (No times ms) s = λ f.
-      let p = interior_of_others c i l h in
-      not_redundant n (normal_at c i) f.point p.0 (other_rows c i) others_wide p.2 (solution_of_flip f) (times, ms, subst (λ (m : ℕ). IsCombination m (other_rows c i) (normal_at c i) times ms) is.variables s)
+  -- a flip may cross the facet exactly where the system has a solution
+  pub crossable_flippable : IsCrossable c i ↔ IsFlippable n k bs (normal_at c i)
+  crossable_flippable = (
+    λ s. (let p = flip_of_solution s.0 s.1 in record { point = s.0; region = p.0; inside = p.1 }),
+    λ f. (f.point, subst (λ (m : ℕ). IsSolution m (other_rows c i) (normal_at c i ∷ []) f.point) (sym is.variables) (solution_of_flip f)),
+  )
 
-  normals_wide : AreRows n (others_of i c.normals)
-  normals_wide = contained_all (λ t. length t ≡ n) (others_of i c.normals) (λ t d. All-contains (λ t. length t ≡ n) (other_rows c i) t others_wide (Contains-append_left (others_of i c.normals) c.beside t d))
+  module _ (wide : AreRows c.variables (all_rows c)) where
+    others_wide : AreRows n (other_rows c i)
+    others_wide = subst (λ (m : ℕ). AreRows m (other_rows c i)) is.variables (subst (AreRows c.variables) (others-append i c.normals c.beside l) (others_all_of (λ t. length t ≡ c.variables) (all_rows c) i wide))
 
-  pub facet_tells : HasInterior c → (answer : FacetAnswer) → AnswersFacet c i answer → TellsFacet n bs (normal_at c i) answer
-  facet_tells h (Facet w) s =
-      let t = subst (λ (m : ℕ). IsSolution m (others_of i c.normals) (normal_at c i ∷ []) w) is.variables s in
-      (t.width, (point_of_solution n bs (normal_at c i) w [] (others_of i c.normals) (facet_system bs c.normals i is.normals l) there t).0)
-  facet_tells h (Redundant times ms) s = λ f.
-      let p = interior_of_normals c i l h in
-      not_redundant n (normal_at c i) f.point p.0 (others_of i c.normals) normals_wide p.2 (solution_of_point n bs (normal_at c i) f.point [] (others_of i c.normals) (facet_system bs c.normals i is.normals l) f.width f.inside (All-nil (λ t. pos 0 <ℤ dot t f.point)))
-      (times, ms, subst (λ (m : ℕ). IsCombination m (others_of i c.normals) (normal_at c i) times ms) is.variables s)
+    pub flip_tells : HasInterior c → (answer : FlipAnswer) → AnswersFlip c i answer → TellsFlip n k bs (normal_at c i) answer
+    flip_tells h (Yes w) s = flip_of_solution w s
+    flip_tells h (No times ms) s = λ f.
+        let p = interior_of_others c i l h in
+        not_redundant n (normal_at c i) f.point p.0 (other_rows c i) others_wide p.2 (solution_of_flip f) (times, ms, subst (λ (m : ℕ). IsCombination m (other_rows c i) (normal_at c i) times ms) is.variables s)
+
+    normals_wide : AreRows n (others_of i c.normals)
+    normals_wide = contained_all (λ t. length t ≡ n) (others_of i c.normals) (λ t d. All-contains (λ t. length t ≡ n) (other_rows c i) t others_wide (Contains-append_left (others_of i c.normals) c.beside t d))
+
+    pub facet_tells : HasInterior c → (answer : FacetAnswer) → AnswersFacet c i answer → TellsFacet n bs (normal_at c i) answer
+    facet_tells h (Facet w) s =
+        let t = subst (λ (m : ℕ). IsSolution m (others_of i c.normals) (normal_at c i ∷ []) w) is.variables s in
+        (t.width, (point_of_solution n bs (normal_at c i) w [] (others_of i c.normals) (facet_system bs c.normals i is.normals l) there t).0)
+    facet_tells h (Redundant times ms) s = λ f.
+        let p = interior_of_normals c i l h in
+        not_redundant n (normal_at c i) f.point p.0 (others_of i c.normals) normals_wide p.2 (solution_of_point n bs (normal_at c i) f.point [] (others_of i c.normals) (facet_system bs c.normals i is.normals l) f.width f.inside (All-nil (λ t. pos 0 <ℤ dot t f.point)))
+        (times, ms, subst (λ (m : ℕ). IsCombination m (others_of i c.normals) (normal_at c i) times ms) is.variables s)
 
 pub flip_told : (c : ConeRows) (i : ℕ) → i < length c.normals → AreRows c.variables (all_rows c) → HasInterior c → (answer : FlipAnswer) → AnswersFlip c i answer → IsFlipTold c i answer
 flip_told c i l wide h answer s n k bs is = flip_tells n k bs c i l is wide h answer s
@@ -217,7 +226,7 @@ cone_of n m p bs ns vs e f g k a = record {
     back = ap (λ (j : ℕ). drop j vs) f ∙ ap (drop (length ns)) g ∙ drop-append_seam ns (units m m)
 
 pub kept_of : (n m p : ℕ) (bs : List MarkedPolynomial) (ns vs : List (List ℤ)) → m ≡ n → p ≡ length ns → vs ≡ ns ++ units m m → AreCanonical n bs → AreNormals bs ns → All IsSmall ns →
-    IsKept m vs p
+    AreVectorsKept m vs p
 kept_of n m p bs ns vs e f g k a s = record {
   inside = subst (λ (z : List (List ℤ)). p ≤ length z) (sym g) (omega (arith, f, length-append ns (units m m)));
   widths = subst (AreRows m) (sym g) (contained_all (λ t. length t ≡ m) (ns ++ units m m) (λ t c. elim (Contains-append_cases ns (units m m) t c) [
@@ -228,10 +237,18 @@ kept_of n m p bs ns vs e f g k a s = record {
     | inl h ↦ All-contains IsSmall ns t s h
     | inr h ↦ All-contains IsSmall (units m m) t (units_small m m) h
   ]));
+  units = λ t c. subst (λ (z : List (List ℤ)). Contains z t) (sym (ap (λ (j : ℕ). drop j vs) f ∙ ap (drop (length ns)) g ∙ drop-append_seam ns (units m m))) c;
 }
 
+-- with the unit vectors beside
+pub kept_units : (c : ConeRows) (m p : ℕ) (vs : List (List ℤ)) → c ≡ record { variables = m; normals = take p vs; beside = drop p vs } → AreVectorsKept m vs p →
+    (t : List ℤ) → Contains (units c.variables c.variables) t → Contains c.beside t
+kept_units c m p vs e k =
+    let P : ConeRows → Type 0 = λ z. (t : List ℤ) → Contains (units z.variables z.variables) t → Contains z.beside t in
+    subst P (sym e) k.units
+
 -- what is kept is all rows
-pub kept_wide : (c : ConeRows) (m p : ℕ) (vs : List (List ℤ)) → c ≡ record { variables = m; normals = take p vs; beside = drop p vs } → IsKept m vs p →
+pub kept_wide : (c : ConeRows) (m p : ℕ) (vs : List (List ℤ)) → c ≡ record { variables = m; normals = take p vs; beside = drop p vs } → AreVectorsKept m vs p →
     AreRows c.variables (all_rows c)
 kept_wide c m p vs e k =
     let P : ConeRows → Type 0 = λ z. AreRows z.variables (all_rows z) in

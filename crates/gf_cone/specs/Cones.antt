@@ -1,6 +1,6 @@
 -- The cone of a marked list as a program keeps it. Laws: proofs/AnswerLaws.antt.
 -- Source: Fukuda, Jensen, Thomas, Computing Gröbner fans, 2 and 4.
-use Rattle.std.specs.Prelude.{◌≡◌, ℕ, List, [], ◌++◌, ℤ, slice_index_or}
+use Rattle.std.specs.Prelude.{◌≡◌, ℕ, List, [], ◌++◌, ℤ, slice_index_or, Contains}
 use Rattle.gf_poly.specs.Marking.{MarkedPolynomial}
 use Rattle.gf_gordan.specs.Alternative.{IsSolvable}
 use Rattle.gf_facets.specs.Systems.{units}
@@ -36,3 +36,7 @@ pub record IsConeOf (n : ℕ) (k : Region) (bs : List MarkedPolynomial) (c : Con
 -- some vector is positive on each of the rows
 abbrev pub HasInterior : ConeRows → Type 0
 HasInterior c = IsSolvable c.variables (all_rows c) []
+
+-- the unit vectors are among the rows beside the normals
+abbrev pub HasUnits : ConeRows → Type 0
+HasUnits c = (t : List ℤ) → Contains (units c.variables c.variables) t → Contains c.beside t

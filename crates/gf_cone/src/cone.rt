@@ -1,18 +1,19 @@
 //! The cone of a marked set.
-ghost use Rattle.std.specs.Prelude.{◌≡◌, ◌<◌, ℤ, List, length, All, IfOk, IfErr};
+ghost use Rattle.std.specs.Prelude.{◌≡◌, ◌<◌, ◌∷◌, [], length, All, IfOk, IfErr, IfSome, IsNone};
 ghost use Rattle.gf_poly.specs.Marking.{Each, HasMarkedTerm};
-ghost use Rattle.gf_gordan.specs.Alternative.{AreRows};
+ghost use Rattle.gf_gordan.specs.Alternative.{AreRows, IsSolution};
+ghost use Rattle.gf_cone.specs.Crossing.{IsCrossable};
 ghost use Rattle.gf_gordan.specs.Steps.{Failed};
 ghost use Rattle.gf_facets.specs.Regions.{all_positive};
 ghost use Rattle.gf_facets.specs.Normals.{others_of};
 ghost use Rattle.gf_cone.specs.Small.{IsSmall};
-ghost use Rattle.gf_cone.specs.Cones.{all_rows, normal_at, other_rows, IsConeOf, HasInterior};
+ghost use Rattle.gf_cone.specs.Cones.{all_rows, normal_at, other_rows, IsConeOf, HasInterior, HasUnits};
 ghost use Rattle.gf_cone.specs.Answers.{AnswersFacet, AnswersFlip, IsFacetTold, IsFlipTold, IsNormalStep};
 
 use crate::answer::{FacetAnswer, FlipAnswer};
 use crate::listing::normals;
 use crate::marking::with_units;
-use crate::systems::{others, solved};
+use crate::systems::{others, solution_at, solved};
 use gf_gordan::GordanError;
 use gf_poly::MarkedSet;
 use gf_vec::IntVec;
@@ -30,13 +31,13 @@ pub struct Cone {
 impl Model for Cone {
     ghost use Rattle.std.specs.Prelude.{◌≤◌, length, take, drop};
     ghost use Rattle.gf_cone.specs.Cones.{ConeRows};
-    ghost use Rattle.gf_cone.specs.Keeping.{IsKept};
+    ghost use Rattle.gf_cone.specs.Keeping.{AreVectorsKept};
 
     ghost Value = { ConeRows };
 
     ghost view = { λ c. record { variables = c.variables; normals = take c.count c.vectors.items; beside = drop c.count c.vectors.items } };
 
-    ghost invariant = { λ c. IsKept c.variables c.vectors.items c.count };
+    ghost invariant = { λ c. AreVectorsKept c.variables c.vectors.items c.count };
 }
 
 impl Cone {
@@ -80,6 +81,7 @@ impl Cone {
         ensures value { result.now ≡ all_rows self.now }
         ensures widths { AreRows self.now.variables result.now }
         ensures small { All IsSmall result.now }
+        ensures units { HasUnits self.now }
     {
         self.vectors.as_slice()
     }
@@ -129,5 +131,22 @@ impl Cone {
         let alloc = *self.vectors.allocator();
         let rows = others(alloc, vectors, place)?;
         solved(alloc, self.variables, rows.as_slice(), &vectors[place])
+    }
+
+    /// A positive vector that is zero on the normal at a place and positive on all other normals, or none where there is none.
+    ///
+    /// # Errors
+    /// `Cone` names a step of the system of the other normals and the unit vectors, with this normal as the equation, that
+    /// leaves the range; `Memory` may come at any time.
+    pub(crate) fn crossing(&self, place: usize) -> Result<Option<IntVec>, GordanError>
+        requires { place < length self.now.normals }
+        ensures yes { IfOk result (λ o. IfSome o (IsSolution self.now.variables (other_rows self.now place) (normal_at self.now place ∷ []))) }
+        ensures no { IfOk result (λ o. IsNone o → IsCrossable self.now place → ⊥) }
+        ensures err { IfErr result (Failed (IsNormalStep self.now.variables (other_rows self.now place) (normal_at self.now place))) }
+    {
+        let vectors = self.vectors();
+        let alloc = *self.vectors.allocator();
+        let rows = others(alloc, vectors, place)?;
+        solution_at(alloc, self.variables, rows.as_slice(), &vectors[place])
     }
 }

@@ -2,11 +2,18 @@
 #![tactic(auto)]
 
 mod answer;
+mod checks;
 mod cone;
+mod known;
 mod listing;
 mod marking;
+mod near;
+mod shots;
+mod sums;
 mod systems;
 
 pub use answer::{FacetAnswer, FlipAnswer};
 pub use cone::Cone;
+pub use known::KnownCone;
 pub use marking::{rows, with_units};
+pub use near::interior_near;

@@ -1,8 +1,8 @@
 //! The system of a normal, solved.
-ghost use Rattle.std.specs.Prelude.{◌≡◌, ◌<◌, ◌++◌, ◌<ℤ◌, ℤ, List, pos, neg_ℤ, length, All, IfOk, IfErr};
+ghost use Rattle.std.specs.Prelude.{◌≡◌, ◌<◌, ◌++◌, ◌<ℤ◌, ℤ, ◌∷◌, [], List, pos, neg_ℤ, length, All, IfOk, IfErr, IfSome, IsNone};
 ghost use Rattle.gf_int.specs.Range.{InRange};
 ghost use Rattle.gf_vec.specs.Vector.{dot};
-ghost use Rattle.gf_gordan.specs.Alternative.{AreRows};
+ghost use Rattle.gf_gordan.specs.Alternative.{AreRows, IsSolution, IsSolvable};
 ghost use Rattle.gf_gordan.specs.Steps.{Failed};
 ghost use Rattle.gf_facets.specs.Normals.{others_of};
 ghost use Rattle.gf_cone.specs.Answers.{AnswersSystem, IsNormalStep};
@@ -79,5 +79,31 @@ pub(crate) fn solved(
             let times = negative(equations.as_slice()[0]);
             Ok(FlipAnswer::No { times, multipliers })
         }
+    }
+}
+
+/// A vector that is positive on the rows and zero on the normal, or none where there is none.
+///
+/// # Errors
+/// `Cone` names a step of the system of the rows, with the normal as the one equation, that leaves the range; `Memory` may
+/// come at any time.
+pub(crate) fn solution_at(
+    alloc: Global,
+    n: u32,
+    rows: &[IntVec],
+    normal: &IntVec,
+) -> Result<Option<IntVec>, GordanError>
+    requires widths { AreRows n rows.now }
+    requires width { length normal.now ≡ n }
+    ensures yes { IfOk result (λ o. IfSome o (IsSolution n rows.now (normal.now ∷ []))) }
+    ensures no { IfOk result (λ o. IsNone o → IsSolvable n rows.now (normal.now ∷ []) → ⊥) }
+    ensures err { IfErr result (Failed (IsNormalStep n rows.now normal.now)) }
+{
+    match strict(alloc, n, rows, from_ref(normal))? {
+        Answer::Point(witness) => Ok(Some(witness)),
+        Answer::Farkas {
+            rows: _multipliers,
+            equations: _of_equations,
+        } => Ok(None),
     }
 }
