@@ -185,9 +185,9 @@ module _ (n : ℕ) (k : Region) (bs : List MarkedPolynomial) (c : ConeRows) (i :
 
     pub flip_tells : HasInterior c → (answer : FlipAnswer) → AnswersFlip c i answer → TellsFlip n k bs (normal_at c i) answer
     flip_tells h (Yes w) s = flip_of_solution w s
-    flip_tells h (No times ms) s = λ f.
+    flip_tells h (No scaled ms) s = λ f.
         let p = interior_of_others c i l h in
-        not_redundant n (normal_at c i) f.point p.0 (other_rows c i) others_wide p.2 (solution_of_flip f) (times, ms, subst (λ (m : ℕ). IsCombination m (other_rows c i) (normal_at c i) times ms) is.variables s)
+        not_redundant n (normal_at c i) f.point p.0 (other_rows c i) others_wide p.2 (solution_of_flip f) (scaled, ms, subst (λ (m : ℕ). IsCombination m (other_rows c i) (normal_at c i) scaled ms) is.variables s)
 
     normals_wide : AreRows n (others_of i c.normals)
     normals_wide = contained_all (λ t. length t ≡ n) (others_of i c.normals) (λ t d. All-contains (λ t. length t ≡ n) (other_rows c i) t others_wide (Contains-append_left (others_of i c.normals) c.beside t d))
@@ -196,10 +196,10 @@ module _ (n : ℕ) (k : Region) (bs : List MarkedPolynomial) (c : ConeRows) (i :
     facet_tells h (Facet w) s =
         let t = subst (λ (m : ℕ). IsSolution m (others_of i c.normals) (normal_at c i ∷ []) w) is.variables s in
         (t.width, (point_of_solution n bs (normal_at c i) w [] (others_of i c.normals) (facet_system bs c.normals i is.normals l) there t).0)
-    facet_tells h (Redundant times ms) s = λ f.
+    facet_tells h (Redundant scaled ms) s = λ f.
         let p = interior_of_normals c i l h in
         not_redundant n (normal_at c i) f.point p.0 (others_of i c.normals) normals_wide p.2 (solution_of_point n bs (normal_at c i) f.point [] (others_of i c.normals) (facet_system bs c.normals i is.normals l) f.width f.inside (All-nil (λ t. pos 0 <ℤ dot t f.point)))
-        (times, ms, subst (λ (m : ℕ). IsCombination m (others_of i c.normals) (normal_at c i) times ms) is.variables s)
+        (scaled, ms, subst (λ (m : ℕ). IsCombination m (others_of i c.normals) (normal_at c i) scaled ms) is.variables s)
 
 pub flip_told : (c : ConeRows) (i : ℕ) → i < length c.normals → AreRows c.variables (all_rows c) → HasInterior c → (answer : FlipAnswer) → AnswersFlip c i answer → IsFlipTold c i answer
 flip_told c i l wide h answer s n k bs is = flip_tells n k bs c i l is wide h answer s

@@ -1,5 +1,5 @@
 -- Entries of vectors: of multiples, sums and parts; cancelled factors; what makes a vector zero.
-use Rattle.std.proofs.Common.{◌≡◌, ◌≢◌, ℕ, zero, suc, ◌<◌, List, [], ◌∷◌, length, ℤ, pos, ◌+ℤ◌, ◌*ℤ◌, neg_ℤ, ◌<ℤ◌, arith, sym, refl, ap, ap₂, ◌∙◌, drop, min}
+use Rattle.std.proofs.Common.{◌≡◌, ◌≢◌, ℕ, zero, suc, ◌<◌, List, [], ◌∷◌, length, ℤ, pos, ◌+ℤ◌, ◌*ℤ◌, neg_ℤ, ◌<ℤ◌, arith, refl, ap, ap₂, ◌∙◌, drop, min}
 use Rattle.std.specs.Int.{int_signum}
 use Rattle.std.proofs.lemmas.Int.{ints}
 use Rattle.gf_int.specs.Content.{scaled}

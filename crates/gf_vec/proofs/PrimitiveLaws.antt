@@ -1,15 +1,14 @@
 -- Primitive vectors: what division by the content leaves, and that two on one ray are one.
 -- Source of the second: Euclid, Elements, book 7, proposition 30.
-use Rattle.std.proofs.Common.{◌≡◌, ◌≢◌, ℕ, zero, suc, ◌*◌, ◌/◌, ◌<◌, List, [], ◌∷◌, length, ℤ, pos, negsuc, ◌*ℤ◌, neg_ℤ, ◌<ℤ◌, ◌≤ℤ◌, arith, sym, refl, ap, ◌∙◌, subst, ◌⊎◌, inl, inr, unsigned_abs, All, get_or}
+use Rattle.std.proofs.Common.{◌≡◌, ℕ, zero, suc, ◌*◌, ◌/◌, ◌<◌, List, [], ◌∷◌, length, ℤ, pos, negsuc, ◌*ℤ◌, ◌<ℤ◌, arith, sym, refl, ap, ◌∙◌, subst, inl, inr, unsigned_abs}
 use Rattle.std.specs.Int.{IsGcd, ◌∣◌}
 use Rattle.std.proofs.lemmas.Int.{ints, unsigned_abs-mul}
 use Rattle.std.proofs.lemmas.Nat.Gcd.{IsGcd-swap}
-use Rattle.std.proofs.lemmas.List.{get_or_default}
-use Rattle.std.proofs.Math.Nat.{dvd-mul_left, dvd-mul_right, mul-div_cancel', mul_comm}
-use Rattle.gf_int.specs.Content.{DividesAll, AllZero, IsContent, IsPrimitive, scaled, quotients}
+use Rattle.std.proofs.Math.Nat.{dvd-mul_right, mul-div_cancel'}
+use Rattle.gf_int.specs.Content.{DividesAll, AllZero, IsPrimitive, scaled, quotients}
 use Rattle.gf_int.specs.Gcd.{gcd, gcd-is, gcd-positive, coprime-dvd, lowest-quotients}
 use Rattle.gf_int.proofs.ContentLaws.{times-quotients, IsPrimitive-quotients}
-use Rattle.gf_int.proofs.RingLaws.{dv, dn, dneg, ◌⊗◌}
+use Rattle.gf_int.proofs.RingLaws.{dn, ◌⊗◌}
 use Rattle.gf_vec.specs.Vector.{dot, entry_at}
 use Rattle.gf_vec.specs.Primitive.{IsPrimitivePart}
 use Rattle.gf_vec.proofs.VectorLaws.{dot-times, length-times}

@@ -1,5 +1,5 @@
 -- Identities of whole vectors: each side is written with combinators, and arithmetic compares what they give on every vector.
-use Rattle.std.proofs.Common.{◌≡◌, ℕ, ◌+◌, List, length, ℤ, arith, sym, ◌∙◌, subst}
+use Rattle.std.proofs.Common.{◌≡◌, ℕ, ◌+◌, List, length, ℤ, sym, ◌∙◌, subst}
 use borrow.Author.Differences.{up, down}
 use Rattle.gf_int.specs.Content.{scaled}
 use Rattle.gf_vec.specs.Vector.{dot, vector_sum, zeros}

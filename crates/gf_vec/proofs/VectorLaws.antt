@@ -1,7 +1,7 @@
 -- Dot products, sums and multiples of whole vectors.
-use Rattle.std.proofs.Common.{◌≡◌, ℕ, zero, suc, List, [], ◌∷◌, length, ℤ, pos, ◌+ℤ◌, ◌*ℤ◌, ◌<ℤ◌, ◌≤ℤ◌, arith, sym, refl, ap, ◌∙◌, inl, inr}
+use Rattle.std.proofs.Common.{◌≡◌, ℕ, zero, suc, List, [], ◌∷◌, length, ℤ, pos, ◌+ℤ◌, ◌*ℤ◌, ◌<ℤ◌, ◌≤ℤ◌, arith, sym, refl, ap, ap₂, ◌∙◌, inl, inr}
 use Rattle.std.proofs.lemmas.Int.{ints}
-use Rattle.std.proofs.Math.IntN.{*ℤ_comm, *ℤ-zero}
+use Rattle.std.proofs.Math.IntN.{*ℤ_comm, *ℤ-zero, +ℤ_assoc}
 use Rattle.std.specs.List.{AllByRecursion}
 use Rattle.gf_vec.specs.Vector.{dot, vector_sum, zeros, combined, values, SomePositive}
 use Rattle.gf_int.specs.Content.{scaled}
@@ -94,3 +94,28 @@ dot-positive (m ∷ ms) (t ∷ ts) v e a (inr s) b =
     let q : pos 0 ≤ℤ (m *ℤ dot t v) = 0≤-*ℤ m (dot t v) a.0 p in
     let r : pos 0 <ℤ dot ms (values ts v) = dot-positive ms ts v (omega arith) a.1 s b.1 in
     omega (arith, ints)
+
+-- ---- sums with zeros
+
+pub plus_assoc : (xs ys zs : List ℤ) → vector_sum (vector_sum xs ys) zs ≡ vector_sum xs (vector_sum ys zs)
+plus_assoc [] ys zs = refl
+plus_assoc (x ∷ xs) [] zs = refl
+plus_assoc (x ∷ xs) (y ∷ ys) [] = refl
+plus_assoc (x ∷ xs) (y ∷ ys) (z ∷ zs) = ap₂ ◌∷◌ (+ℤ_assoc x y z) (plus_assoc xs ys zs)
+
+pub zeros-plus : (n : ℕ) (xs : List ℤ) → length xs ≡ n → vector_sum (zeros n) xs ≡ xs
+zeros-plus zero [] e = refl
+zeros-plus zero (x ∷ xs) e = absurd (omega arith)
+zeros-plus (suc n) [] e = absurd (omega arith)
+zeros-plus (suc n) (x ∷ xs) e = ap₂ ◌∷◌ (omega (arith, ints)) (zeros-plus n xs (omega arith))
+
+pub plus-zeros : (n : ℕ) (xs : List ℤ) → length xs ≡ n → vector_sum xs (zeros n) ≡ xs
+plus-zeros zero [] e = refl
+plus-zeros zero (x ∷ xs) e = absurd (omega arith)
+plus-zeros (suc n) [] e = absurd (omega arith)
+plus-zeros (suc n) (x ∷ xs) e = ap₂ ◌∷◌ (omega (arith, ints)) (plus-zeros n xs (omega arith))
+
+-- no time a vector
+pub zero-times : (xs : List ℤ) → scaled (pos 0) xs ≡ zeros (length xs)
+zero-times [] = refl
+zero-times (x ∷ xs) = ap₂ ◌∷◌ (omega (arith, ints)) (zero-times xs)
