@@ -1,5 +1,5 @@
 -- The difference of two polynomials, monomial by monomial.
--- To cite: difference, less_summand, other_summand, less_zero, equal_if.
+-- To cite: difference, less_summand, other_summand, less_zero.
 use Rattle.std.specs.Prelude.{◌≡◌, [], ◌++◌}
 use Rattle.std.proofs.Common.{sym, ap, ◌∙◌}
 use Rattle.gf_frac.specs.Fraction.{Fraction, ◌+ℚ◌, ◌*ℚ◌, neg_ℚ, zero_ℚ, one_ℚ}
@@ -24,7 +24,3 @@ other_summand r v h e = less_summand v r h (e ∙ +ℚ_comm r v)
 
 pub less_zero : (c : Fraction) → c +ℚ neg_ℚ zero_ℚ ≡ c
 less_zero c = ap (λ z. c +ℚ z) (sym (zero-+ℚ (neg_ℚ zero_ℚ)) ∙ +ℚ-neg_ℚ zero_ℚ) ∙ +ℚ-zero c
-
--- where it is zero
-pub equal_if : (p q : Fraction) → p +ℚ neg_ℚ q ≡ zero_ℚ → p ≡ q
-equal_if p q h = sym (+ℚ-zero p) ∙ ap (λ z. p +ℚ z) (sym (+ℚ_comm (neg_ℚ q) q ∙ +ℚ-neg_ℚ q)) ∙ sym (+ℚ_assoc p (neg_ℚ q) q) ∙ ap (λ z. z +ℚ q) h ∙ zero-+ℚ q

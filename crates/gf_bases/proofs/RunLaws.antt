@@ -30,6 +30,7 @@ use Rattle.gf_ideal.proofs.LeadingLaws.{top_greatest, top_heaviest}
 use Rattle.gf_ideal.proofs.TradeLaws.{basis_by_order}
 use Rattle.gf_bases.proofs.DicksonLaws.{IsNew, dickson}
 use Rattle.gf_bases.proofs.DecidedLaws.{search}
+use Rattle.gf_ideal.proofs.WorkLaws.{closed-alike}
 use Rattle.gf_bases.proofs.RemainderLaws.{HasRemainder, remainder, monic, monic_is, monic-marked}
 
 -- members of the ideal, marked by the order, each of one grade
@@ -45,13 +46,6 @@ record NewMember (n : ℕ) (fs : List Terms) (below Alike : Exponents → Expone
   marked : IsMarked below new
   graded : IsGradedBy Alike new
   undivided : IsDivisible (Contains bs) new.head → ⊥
-
-closed-alike : (Alike : Exponents → Exponents → Type 0) (x : Exponents) (by : MarkedPolynomial → Type 0) →
-    IsGrading Alike → ((b : MarkedPolynomial) → by b → IsGradedBy Alike b) → IsClosed by (λ y. Alike y x)
-closed-alike Alike x by g h = record {
-  along = λ y z s k. g.transitive z y x (g.symmetric y z (g.along y z s)) k;
-  lower = λ b k u t n j. g.transitive (plus u t) (plus u b.head) x (g.invariant u t b.head (h b k t n)) j;
-}
 
 -- a remainder is zero, or its monic form is a new member
 grown : (n : ℕ) (fs : List Terms) (below Alike : Exponents → Exponents → Type 0) (bs : List MarkedPolynomial) (B : Exponents → Type 0) (x : Exponents) (g : Terms) →

@@ -18,7 +18,8 @@ use Rattle.gf_facets.specs.Rows.{differences, rows_of, IsNormal}
 use Rattle.gf_facets.specs.Facets.{IsInClosedCone, IsInOpenCone}
 use Rattle.gf_facets.specs.MarkedBases.{AreCanonical}
 use Rattle.gf_facets.proofs.PrimitiveLaws.{primitive_part, divided-entry}
-use Rattle.gf_facets.proofs.RowLaws.{same_or_other, row-in, IsTermRow, row-from, term_of, monomial_of, term_length, dot-differences}
+use Rattle.gf_poly.proofs.CoefficientLaws.{term_length}
+use Rattle.gf_facets.proofs.RowLaws.{same_or_other, row-in, IsTermRow, row-from, term_of, monomial_of, dot-differences}
 
 -- ---- what a row gives
 

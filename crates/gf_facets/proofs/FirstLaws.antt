@@ -15,7 +15,8 @@ use Rattle.gf_facets.specs.LexPositive.{IsLexPositive, IsNegative}
 use Rattle.gf_facets.specs.Regions.{Region, IsRegion, IsInRegion}
 use Rattle.gf_facets.specs.Facets.{IsInOpenCone, IsInsideFacet, IsFlippable}
 use Rattle.gf_facets.specs.MarkedBases.{AreCanonical}
-use Rattle.gf_facets.proofs.PrimitiveLaws.{proportional_equal}
+use Rattle.gf_vec.proofs.PrimitiveLaws.{primitive_same}
+use Rattle.gf_facets.proofs.PrimitiveLaws.{not_all_zero}
 use Rattle.gf_facets.proofs.NormalLaws.{normal-length, normal-primitive, normal-nonzero}
 use Rattle.gf_facets.proofs.NormalListLaws.{NormalsListed, normals_listed}
 use Rattle.gf_facets.proofs.ConeLaws.{normals_open}
@@ -42,7 +43,7 @@ record IsFirst (n : ℕ) (bs : List MarkedPolynomial) (w r : List ℤ) (ns : Lis
 same_normal : (n : ℕ) (bs : List MarkedPolynomial) (w b c : List ℤ) → AreCanonical n bs → IsPlain n bs w b → IsPlain n bs w c →
     scaled (dot b w) c ≡ scaled (dot c w) b → b ≡ c
 same_normal n bs w b c k p q e =
-    sym (proportional_equal (dot b w) (dot c w) c b p.positive q.positive (normal-primitive bs c q.normal) (normal-primitive bs b p.normal) (normal-nonzero n bs c k q.normal) (normal-nonzero n bs b k p.normal) e)
+    sym (primitive_same b c (dot b w) (dot c w) p.positive q.positive e (normal-primitive bs b p.normal) (normal-primitive bs c q.normal) (not_all_zero b (normal-nonzero n bs b k p.normal)))
 
 first_of : (n : ℕ) (bs : List MarkedPolynomial) (w r : List ℤ) → AreCanonical n bs → (a : List ℤ) (ns : List (List ℤ)) → IsPlain n bs w a →
     ((b : List ℤ) → Contains ns b → IsPlain n bs w b) → IsFirst n bs w r (a ∷ ns)

@@ -25,10 +25,13 @@ use Rattle.gf_facets.specs.Rows.{differences, IsNormal, negated}
 use Rattle.gf_facets.specs.Facets.{IsInsideFacet}
 use Rattle.gf_facets.specs.Beyond.{IsStepsFrom, IsFurther, IsBeyond}
 use Rattle.gf_facets.specs.MarkedBases.{AreCanonical}
-use Rattle.gf_facets.proofs.VectorLaws.{IsNonzero, vectors_by_entries, get-times, get-negated, length-negated, dot-negated, vector_or_not}
+use Rattle.gf_facets.proofs.VectorLaws.{IsNonzero, vectors_by_entries, get-negated, length-negated, dot-negated, vector_or_not}
 use Rattle.gf_facets.proofs.WholeLaws.{no_multiple}
-use Rattle.gf_facets.proofs.PrimitiveLaws.{primitive_part, primitive_of, negated-primitive, multiple_divided, primitive_unique, divided-entry}
-use Rattle.gf_facets.proofs.RowLaws.{same_or_other, row-in, IsTermRow, row-from, term_of, monomial_of, term_length, length-differences, get-differences, dot-differences, differs}
+use Rattle.gf_facets.proofs.PrimitiveLaws.{primitive_part, multiple_divided, primitive_unique, divided-entry}
+use Rattle.gf_vec.proofs.EntryLaws.{entry_times}
+use Rattle.gf_vec.proofs.PrimitiveLaws.{primitive_of, primitive_opposite}
+use Rattle.gf_poly.proofs.CoefficientLaws.{term_length}
+use Rattle.gf_facets.proofs.RowLaws.{same_or_other, row-in, IsTermRow, row-from, term_of, monomial_of, length-differences, get-differences, dot-differences, differs}
 
 -- ---- normals
 
@@ -190,7 +193,7 @@ inside_of_beyond n cs a v k e prime nz o m h = record { normal = normal; zero = 
         differences b.head t.mono ≡ scaled (pos f.0) (negated a)
     row b t c q f = vectors_by_entries (differences b.head t.mono) (scaled (pos f.0) (negated a))
         (length-differences b.head t.mono lengths ∙ (k b c).head ∙ sym e ∙ sym (length-negated a) ∙ sym (length-times (pos f.0) (negated a)))
-        (λ i. get-differences b.head t.mono i lengths ∙ less i ∙ ap (λ z. pos f.0 *ℤ z) (sym (get-negated a i)) ∙ sym (get-times (pos f.0) (negated a) i))
+        (λ i. get-differences b.head t.mono i lengths ∙ less i ∙ ap (λ z. pos f.0 *ℤ z) (sym (get-negated a i)) ∙ sym (entry_times (pos f.0) (negated a) i))
       where
         lengths : length b.head ≡ length t.mono
         lengths = (k b c).head ∙ sym (term_length n b.poly t (k b c).variables q)
@@ -201,7 +204,7 @@ inside_of_beyond n cs a v k e prime nz o m h = record { normal = normal; zero = 
     -- whose primitive part they are
     part : (b : MarkedPolynomial) (t : Term) → Contains cs b → Contains b.poly t → IsFurther a t.mono b.head →
         IsPrimitivePart (differences b.head t.mono) (negated a)
-    part b t c q f = subst (λ (z : List ℤ). IsPrimitivePart z (negated a)) (sym (row b t c q f)) (pos f.0, multiple_divided f.0 (negated a) (omega (arith, f.1)) (negated-primitive a prime) nonzero)
+    part b t c q f = subst (λ (z : List ℤ). IsPrimitivePart z (negated a)) (sym (row b t c q f)) (pos f.0, multiple_divided f.0 (negated a) (omega (arith, f.1)) (primitive_opposite a prime) nonzero)
 
     never : (x y : Exponents) → same x y ≡ true → IsFurther a y x → ⊥
     never x y s f = nz.1 (no_multiple f.0 (get_or a nz.0 (pos 0)) f.1 (omega (arith, ints, f.2 nz.0, entries_same x y s nz.0)))

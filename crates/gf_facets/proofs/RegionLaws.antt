@@ -23,6 +23,7 @@ use Rattle.gf_facets.specs.Rows.{negated}
 use Rattle.gf_facets.specs.Regions.{Region, IsInRegion}
 use Rattle.gf_facets.specs.Beyond.{IsBeyond}
 use Rattle.gf_facets.proofs.VectorLaws.{IsNonzero, minus_one, length-negated, dot-negated}
+use Rattle.gf_vec.proofs.DotLaws.{own_not_negative}
 use Rattle.gf_facets.proofs.WholeLaws.{weight-apart, weight-sum, weight-multiple}
 
 -- ---- vectors of a region
@@ -106,12 +107,8 @@ square (negsuc a) = omega (arith, ints)
 -- a vector that isn't zero has a positive square
 pub dot-itself : (a : List ℤ) → IsNonzero a → pos 0 <ℤ dot a a
 dot-itself [] n = absurd (n.1 refl)
-dot-itself (x ∷ a) (zero, n) = let s = natural a in let z : (x *ℤ x ≡ pos 0) → ⊥ = (λ e. elim (zero_of_*ℤ x x e) [ inl p ↦ n p | inr p ↦ n p ]) in positive (x *ℤ x) (dot a a) (square x) z s
+dot-itself (x ∷ a) (zero, n) = let s = own_not_negative a in let z : (x *ℤ x ≡ pos 0) → ⊥ = (λ e. elim (zero_of_*ℤ x x e) [ inl p ↦ n p | inr p ↦ n p ]) in positive (x *ℤ x) (dot a a) (square x) z s
   where
-    natural : (a : List ℤ) → pos 0 ≤ℤ dot a a
-    natural [] = omega (arith, ints)
-    natural (x ∷ a) = omega (arith, ints, square x, natural a)
-
     positive : (p q : ℤ) → pos 0 ≤ℤ p → (p ≡ pos 0 → ⊥) → pos 0 ≤ℤ q → pos 0 <ℤ (p +ℤ q)
     positive (pos zero) q h n k = absurd (n refl)
     positive (pos (suc p)) q h n k = omega (arith, ints, k)

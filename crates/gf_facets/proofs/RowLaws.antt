@@ -1,5 +1,5 @@
 -- Rows and monomials: the row of each unmarked term is one of the rows, and each row is such a one.
--- To cite: same_or_other, row-in, IsTermRow, row-from, term_of, monomial_of, term_length, length-differences, get-differences,
+-- To cite: same_or_other, row-in, IsTermRow, row-from, term_of, monomial_of, length-differences, get-differences,
 -- dot-differences, differs, rows-append, rows_by_terms.
 use Rattle.std.specs.Prelude.{◌≡◌, ◌⊎◌, ℕ, zero, suc, Bool, true, false, if◌then◌else◌, List, [], ◌∷◌, length, get_or, Contains, ℤ, pos, ◌+ℤ◌, ◌-ℤ◌, ◌*ℤ◌}
 use Rattle.std.proofs.Common.{arith, refl, sym, ap, ◌∙◌, subst, inl, inr}
@@ -10,13 +10,13 @@ use Rattle.gf_vec.specs.Vector.{dot}
 use Rattle.gf_exponents.specs.Exponents.{Exponents, entry, same, whole_weight}
 use Rattle.gf_exponents.proofs.OrderLaws.{lex-total}
 use Rattle.gf_poly.specs.declared.Term.{Term}
-use Rattle.gf_poly.specs.Polynomial.{Terms, HasVariables}
+use Rattle.gf_poly.specs.Polynomial.{Terms}
 use Rattle.gf_poly.specs.Marking.{MarkedPolynomial}
 use Rattle.gf_ideal.specs.Membership.{HasMonomial}
 use Rattle.gf_ideal.specs.Bases.{IsCanonical}
 use Rattle.gf_ideal.proofs.ListLaws.{Contains-here, Contains-there, Contains-cases, each_contained}
 use Rattle.gf_ideal.proofs.ListedTerms.{listed}
-use Rattle.gf_ideal.proofs.KeptForms.{marked_there}
+use Rattle.gf_ideal.proofs.KeptForms.{term_there}
 use Rattle.gf_facets.specs.Rows.{differences, row_between, rows_of_terms, rows_of}
 
 -- ---- the members' rows
@@ -98,16 +98,7 @@ term_of f x n = listed (λ (t : Term). Contains f t) f x (each_contained (λ (t 
 
 -- a term has a monomial
 pub monomial_of : (n : ℕ) (b : MarkedPolynomial) (t : Term) → IsCanonical n b → Contains b.poly t → HasMonomial b.poly t.mono
-monomial_of n b t k c = marked_there n (record { poly = b.poly; head = t.mono }) k.variables (record { descending = k.descending; mark = t.coef; term = c })
-
--- a term has the variables
-pub term_length : (n : ℕ) (f : Terms) (t : Term) → HasVariables n f → Contains f t → length t.mono ≡ n
-term_length n [] t v c = absurd (omega (arith, c.1))
-term_length n (s ∷ f) t v c = at (Contains-cases s t f c) (λ k. term_length n f t v.1 k)
-  where
-    at : (s ≡ t) ⊎ Contains f t → (Contains f t → length t.mono ≡ n) → length t.mono ≡ n
-    at (inl e) r = ap (λ (u : Term). length u.mono) (sym e) ∙ v.0
-    at (inr k) r = r k
+monomial_of n b t k c = term_there n b.poly t k.variables k.descending c
 
 -- ---- differences
 

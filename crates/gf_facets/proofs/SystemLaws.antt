@@ -29,9 +29,10 @@ use Rattle.gf_facets.specs.Systems.{units, system_of}
 use Rattle.gf_facets.specs.Regions.{Region, IsRegion, IsInRegion, all_positive}
 use Rattle.gf_facets.specs.Facets.{IsInOpenCone}
 use Rattle.gf_facets.specs.MarkedBases.{AreCanonical}
-use Rattle.gf_facets.proofs.RowLaws.{IsTermRow, row-from, length-differences, term_length}
+use Rattle.gf_facets.proofs.RowLaws.{IsTermRow, row-from, length-differences}
 use Rattle.gf_facets.proofs.ConeLaws.{rows_open, open_by_rows}
 use Rattle.gf_facets.proofs.UnitLaws.{units_wide, units_on_positive, positive_by_units}
+use Rattle.gf_poly.proofs.CoefficientLaws.{term_length}
 use Rattle.gf_facets.proofs.RegionLaws.{region-positive, region-weight}
 
 -- ---- lists

@@ -1,18 +1,18 @@
 -- Vectors by their entries: multiples, negatives, sums with zeros.
--- To cite: three, IsNonzero, vectors_by_entries, get-times, get-negated, length-negated, negated-twice, dot-negated,
--- plus-zeros, zeros-plus, times-zero, times-zeros, vector_or_not, cancel-times.
-use Rattle.std.specs.Prelude.{◌≡◌, ◌⊎◌, ℕ, zero, suc, ◌<◌, List, [], ◌∷◌, length, get_or, ℤ, pos, negsuc, neg_ℤ, ◌*ℤ◌, ◌<ℤ◌}
+-- To cite: three, IsNonzero, vectors_by_entries, minus_one, get-negated, length-negated, negated-twice, dot-negated,
+-- plus-zeros, zeros-plus, times-zero, times-zeros, vector_or_not.
+use Rattle.std.specs.Prelude.{◌≡◌, ◌⊎◌, ℕ, zero, suc, List, [], ◌∷◌, length, get_or, ℤ, pos, negsuc, neg_ℤ, ◌*ℤ◌, ◌<ℤ◌}
 use Rattle.std.specs.Ordering.{int_cmp, MatchOrdering}
 use Rattle.std.specs.declared.cmp.Ordering.{Ordering}
 use Rattle.std.specs.declared.cmp.Ordering.TheVariants.{Less, Equal, Greater}
-use Rattle.std.proofs.Common.{arith, refl, sym, ap, ap₂, ◌∙◌, inl, inr}
+use Rattle.std.proofs.Common.{arith, refl, ap, ap₂, ◌∙◌, inl, inr}
 use Rattle.std.proofs.Math.IntN.{*ℤ-zero}
 use Rattle.std.proofs.lemmas.Cmp.{int_ranked}
 use Rattle.std.proofs.lemmas.Int.{ints}
 use Rattle.gf_int.specs.Content.{scaled}
-use Rattle.gf_int.proofs.RingLaws.{dv, dn, ◌⊗◌, same as same_number, cancel_factor}
 use Rattle.gf_vec.specs.Vector.{dot, vector_sum, zeros}
 use Rattle.gf_vec.proofs.VectorLaws.{length-times, dot-times}
+use Rattle.gf_vec.proofs.EntryLaws.{entry_times}
 use Rattle.gf_facets.specs.Rows.{negated}
 
 -- of two whole numbers one is less, or they are equal
@@ -38,12 +38,6 @@ vectors_by_entries [] (y ∷ ys) e h = absurd (omega arith)
 vectors_by_entries (x ∷ xs) [] e h = absurd (omega arith)
 vectors_by_entries (x ∷ xs) (y ∷ ys) e h = ap₂ ◌∷◌ (h 0) (vectors_by_entries xs ys (omega arith) (λ i. h (suc i)))
 
--- the entries of a multiple
-pub get-times : (k : ℤ) (xs : List ℤ) (i : ℕ) → get_or (scaled k xs) i (pos 0) ≡ k *ℤ get_or xs i (pos 0)
-get-times k [] i = sym (*ℤ-zero k)
-get-times k (x ∷ xs) zero = refl
-get-times k (x ∷ xs) (suc i) = get-times k xs i
-
 -- ---- negatives
 
 pub minus_one : (x : ℤ) → negsuc 0 *ℤ x ≡ neg_ℤ x
@@ -51,7 +45,7 @@ minus_one x = omega (arith, ints)
 
 -- the entries of the negatives
 pub get-negated : (xs : List ℤ) (i : ℕ) → get_or (negated xs) i (pos 0) ≡ neg_ℤ (get_or xs i (pos 0))
-get-negated xs i = get-times (negsuc 0) xs i ∙ minus_one (get_or xs i (pos 0))
+get-negated xs i = entry_times (negsuc 0) xs i ∙ minus_one (get_or xs i (pos 0))
 
 pub length-negated : (xs : List ℤ) → length (negated xs) ≡ length xs
 length-negated xs = length-times (negsuc 0) xs
@@ -112,14 +106,3 @@ vector_or_not (x ∷ xs) (y ∷ ys) = at (three x y) (vector_or_not xs ys)
     at (inr (inr l)) r = inr (λ e. absurd (omega (arith, ints, l, first x y xs ys e)))
     at (inr (inl e)) (inl f) = inl (ap₂ ◌∷◌ e f)
     at (inr (inl e)) (inr n) = inr (λ f. n (ap rest_of f))
-
-pub cancel_number : (k : ℕ) (x y : ℤ) → 0 < k → pos k *ℤ x ≡ pos k *ℤ y → x ≡ y
-cancel_number k x y l e = cancel_factor k x y l (swap x k ∙ e ∙ sym (swap y k))
-  where
-    swap : (x : ℤ) (k : ℕ) → x *ℤ pos k ≡ pos k *ℤ x
-    swap x k = same_number (dv x ⊗ dn k) (dn k ⊗ dv x) (omega arith)
-
--- equal multiples of vectors are multiples of one
-pub cancel-times : (k : ℕ) (xs ys : List ℤ) → 0 < k → scaled (pos k) xs ≡ scaled (pos k) ys → xs ≡ ys
-cancel-times k xs ys l e = vectors_by_entries xs ys (sym (length-times (pos k) xs) ∙ ap (λ (z : List ℤ). length z) e ∙ length-times (pos k) ys)
-    (λ i. cancel_number k (get_or xs i (pos 0)) (get_or ys i (pos 0)) l (sym (get-times (pos k) xs i) ∙ ap (λ (z : List ℤ). get_or z i (pos 0)) e ∙ get-times (pos k) ys i))

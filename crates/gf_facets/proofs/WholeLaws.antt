@@ -15,7 +15,7 @@ use Rattle.gf_exponents.proofs.WholeWeightLaws.{weight_split, whole_weight-same}
 use Rattle.gf_exponents.proofs.OrderLaws.{weighted-order}
 use Rattle.gf_ideal.proofs.RingLaws.{rest, entry-rest}
 use Rattle.gf_int.specs.Content.{scaled}
-use Rattle.gf_vec.specs.Vector.{dot, vector_sum as plus_vectors}
+use Rattle.gf_vec.specs.Vector.{dot, vector_sum}
 use Rattle.gf_facets.specs.Beyond.{IsFurther, IsBeyond}
 use Rattle.gf_facets.proofs.VectorLaws.{three, IsNonzero}
 
@@ -31,7 +31,7 @@ spread v w x p q = same_number ((dv v ⊕ dv w) ⊗ dv x ⊕ (dv p ⊕ dv q)) ((
 factored : (k v x p : ℤ) → k *ℤ v *ℤ x +ℤ k *ℤ p ≡ k *ℤ (v *ℤ x +ℤ p)
 factored k v x p = same_number (dv k ⊗ dv v ⊗ dv x ⊕ dv k ⊗ dv p) (dv k ⊗ (dv v ⊗ dv x ⊕ dv p)) (omega arith)
 
-pub weight-sum : (v w : List ℤ) (x : Exponents) → length v ≡ length w → whole_weight (plus_vectors v w) x ≡ whole_weight v x +ℤ whole_weight w x
+pub weight-sum : (v w : List ℤ) (x : Exponents) → length v ≡ length w → whole_weight (vector_sum v w) x ≡ whole_weight v x +ℤ whole_weight w x
 weight-sum [] [] x e = refl
 weight-sum [] (b ∷ w) x e = absurd (omega arith)
 weight-sum (a ∷ v) [] x e = absurd (omega arith)

@@ -2,7 +2,7 @@
 -- the reduced basis of the parts are autoreduced to is one.
 -- To cite: side_of_inside, side_there, adjacent_unique, adjacent_turned, adjacent_back, normal-further, along_negated,
 -- further_beyond, ArePartFacts, part_facts, lifted_all, lifted_tops, other_side, adjacent_of_side, crossed, both_sides.
-use Rattle.std.specs.Prelude.{◌≡◌, ◌⊎◌, ℕ, List, [], ◌∷◌, length, get_or, Contains, IsPermutation, ℤ, pos, neg_ℤ}
+use Rattle.std.specs.Prelude.{◌≡◌, ℕ, List, [], length, get_or, Contains, IsPermutation, ℤ, pos, neg_ℤ}
 use Rattle.std.proofs.Common.{arith, sym, ap, ◌∙◌, subst, inl, inr}
 use Rattle.std.proofs.lemmas.Int.{ints}
 use Rattle.std.proofs.lemmas.List.Sorted.{Contains-permutation, IsPermutation-sym}
@@ -18,11 +18,10 @@ use Rattle.gf_ideal.specs.Membership.{AreInVariables}
 use Rattle.gf_ideal.specs.Marks.{AreMarked}
 use Rattle.gf_ideal.specs.Reduction.{IsDivisible}
 use Rattle.gf_ideal.specs.Bases.{IsBasis, HasReducedTails, AreApart, IsReducedBasisFor, AreSameBasis, AreArranged}
-use Rattle.gf_ideal.specs.WorkLists.{IsReducedTail, AreReducedTails}
-use Rattle.gf_ideal.proofs.ListLaws.{Contains-here, Contains-there, Contains-cases}
+use Rattle.gf_ideal.specs.WorkLists.{AreReducedTails}
 use Rattle.gf_ideal.proofs.MembershipLaws.{member-equal, variables_of_member}
 use Rattle.gf_ideal.proofs.BasisLaws.{basis_of_groebner_for, basis_along}
-use Rattle.gf_ideal.proofs.InterreductionLaws.{interreduced, reduced-tails, apart-tails, tail-marked}
+use Rattle.gf_ideal.proofs.InterreductionLaws.{interreduced, reduced-tails, apart-tails, tail-marked, tails-of_place}
 use Rattle.gf_ideal.proofs.ArrangementLaws.{basis-arranged, apart-arranged}
 use Rattle.gf_ideal.proofs.ArrangedLists.{arranged_equal}
 use Rattle.gf_facets.specs.Rows.{IsNormal, negated}
@@ -143,21 +142,6 @@ twins_basis n fs bs cs s b = record {
 
 itself : (bs : List MarkedPolynomial) (b : MarkedPolynomial) → Contains bs b → IsDivisible (Contains bs) b.head
 itself bs b c = record { member = b; contained = c; rest = []; divides = same-refl b.head }
-
--- ---- reduced tails, place by place
-
--- a reduced tail is that of a member
-tails-of_place : (bs ks cs : List MarkedPolynomial) → AreReducedTails bs ks cs → (c : MarkedPolynomial) → Contains cs c →
-    (k : MarkedPolynomial) × Contains ks k × IsReducedTail bs k c
-tails-of_place bs [] [] h c q = absurd (omega (arith, q.1))
-tails-of_place bs [] (d ∷ cs) h c q = elim h [ ]
-tails-of_place bs (k ∷ ks) [] h c q = elim h [ ]
-tails-of_place bs (k ∷ ks) (d ∷ cs) h c q = at (Contains-cases d c cs q) (λ r. tails-of_place bs ks cs h.1 c r)
-  where
-    at : (d ≡ c) ⊎ Contains cs c → (Contains cs c → (j : MarkedPolynomial) × Contains ks j × IsReducedTail bs j c) →
-        (j : MarkedPolynomial) × Contains (k ∷ ks) j × IsReducedTail bs j c
-    at (inl e) r = (k, Contains-here k ks, subst (λ (x : MarkedPolynomial). IsReducedTail bs k x) e h.0)
-    at (inr s) r = let j = r s in (j.0, Contains-there k j.0 ks j.1, j.2)
 
 -- ---- in any order
 

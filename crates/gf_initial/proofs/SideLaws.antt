@@ -3,7 +3,7 @@
 -- has.
 -- To cite: IsSide, side-weak, level_of_along, along_of_level, side_parts, parts_of_one_class, same_ideals, same_by_marks,
 -- sides_same, side_further.
-use Rattle.std.specs.Prelude.{◌≡◌, ◌⊎◌, ℕ, Bool, true, false, if◌then◌else◌, List, [], ◌∷◌, Contains, get_or, ℤ, pos, neg_ℤ, ◌+ℤ◌, ◌*ℤ◌, ◌<ℤ◌, ◌≤ℤ◌}
+use Rattle.std.specs.Prelude.{◌≡◌, ◌⊎◌, ℕ, true, false, if◌then◌else◌, List, [], ◌∷◌, Contains, get_or, ℤ, pos, neg_ℤ, ◌+ℤ◌, ◌*ℤ◌, ◌≤ℤ◌}
 use Rattle.std.proofs.Common.{arith, refl, sym, ap, ◌∙◌, subst, inl, inr}
 use Rattle.std.proofs.lemmas.Int.{ints}
 use Rattle.gf_int.proofs.RingLaws.{dv, dn, dneg, ◌⊕◌, ◌⊗◌, same as same_number}
@@ -13,7 +13,6 @@ use Rattle.gf_exponents.specs.Exponents.{Exponents, entry, same, whole_weight}
 use Rattle.gf_exponents.specs.Orders.{IsFacetBelow, negated_row_of, lighter}
 use Rattle.gf_exponents.proofs.ExponentsLaws.{same_flip, same_trans, same_of}
 use Rattle.gf_exponents.proofs.WholeWeightLaws.{whole_weight-same, row-order}
-use Rattle.gf_poly.specs.declared.Term.{Term}
 use Rattle.gf_poly.specs.Polynomial.{Terms, coefficient, SamePolynomial}
 use Rattle.gf_poly.specs.Marking.{MarkedPolynomial, polys}
 use Rattle.gf_vec.specs.Vector.{dot}
@@ -35,7 +34,7 @@ use Rattle.gf_initial.specs.Parts.{Matching, IsInitialPart, AreInitialParts, IsP
 use Rattle.gf_facets.specs.Facets.{IsInClosedCone}
 use Rattle.gf_facets.specs.Beyond.{IsFurther, IsBeyond}
 use Rattle.gf_facets.specs.MarkedBases.{IsMarkedReduced}
-use Rattle.gf_facets.proofs.VectorLaws.{three, IsNonzero, get-negated}
+use Rattle.gf_facets.proofs.VectorLaws.{IsNonzero, get-negated}
 use Rattle.gf_facets.proofs.WholeLaws.{weight-apart, further-weight, further-strict}
 use Rattle.gf_initial.proofs.MatchingLaws.{matched-from, matched-to, matched-map}
 use Rattle.gf_initial.proofs.PartLaws.{IsLevelPart, initial_of_level, part-there, parts-variables, parts_reduced}
@@ -44,6 +43,7 @@ use Rattle.gf_bases.proofs.GradedBasisLaws.{IsOfOneClass}
 use Rattle.gf_initial.proofs.InitialLaws.{from_initial, into_initial}
 use Rattle.gf_initial.proofs.ClassLaws.{apart_or_not, multiple-grading, further_marks}
 use Rattle.gf_facets.proofs.RowLaws.{same_or_other}
+use Rattle.gf_poly.proofs.InitialFormLaws.{of_weight, coefficient-on, coefficient-off}
 use Rattle.gf_facets.proofs.NormalLaws.{HasFurther}
 
 -- a marked reduced basis of which each unmarked monomial is lighter by v, or further along a, where v is orthogonal to a
@@ -120,53 +120,13 @@ along_of_level v a b p nz o m i = record {
 
 -- ---- each list has parts
 
-elsewhere : (t : Term) (f : Terms) (x : Exponents) → same x t.mono ≡ false → coefficient (t ∷ f) x ≡ coefficient f x
-elsewhere t f x h = ap (λ b. (if b then t.coef else zero_ℚ) +ℚ coefficient f x) h ∙ zero-+ℚ _
-
-other_weight : (w : List ℤ) (x y : Exponents) → (whole_weight w x ≡ whole_weight w y → ⊥) → same x y ≡ false
-other_weight w x y n = at (same x y) refl
-  where
-    at : (b : Bool) → same x y ≡ b → b ≡ false
-    at true s = absurd (n (whole_weight-same w x y s))
-    at false s = refl
-
-record IsOfWeight (w : List ℤ) (d : ℤ) (f : Terms) : Type 0 where
-  poly : Terms
-  on : (x : Exponents) → whole_weight w x ≡ d → coefficient poly x ≡ coefficient f x
-  off : (x : Exponents) → (whole_weight w x ≡ d → ⊥) → coefficient poly x ≡ zero_ℚ
-
-of_weight : (w : List ℤ) (d : ℤ) (f : Terms) → IsOfWeight w d f
-of_weight w d [] = record { poly = []; on = λ x e. refl; off = λ x n. refl }
-of_weight w d (t ∷ f) = at (three (whole_weight w t.mono) d) (of_weight w d f)
-  where
-    kept : whole_weight w t.mono ≡ d → IsOfWeight w d f → IsOfWeight w d (t ∷ f)
-    kept e r = record {
-      poly = t ∷ r.poly;
-      on = λ x q. ap (λ z. (if same x t.mono then t.coef else zero_ℚ) +ℚ z) (r.on x q);
-      off = λ x n. elsewhere t r.poly x (other_weight w x t.mono (λ q. n (q ∙ e))) ∙ r.off x n;
-    }
-
-    dropped : (whole_weight w t.mono ≡ d → ⊥) → IsOfWeight w d f → IsOfWeight w d (t ∷ f)
-    dropped n r = record {
-      poly = r.poly;
-      on = λ x q. r.on x q ∙ sym (elsewhere t f x (other_weight w x t.mono (λ e. n (sym e ∙ q))));
-      off = r.off;
-    }
-
-    at : (whole_weight w t.mono <ℤ d) ⊎ ((whole_weight w t.mono ≡ d) ⊎ (d <ℤ whole_weight w t.mono)) →
-        IsOfWeight w d f → IsOfWeight w d (t ∷ f)
-    at (inl l) r = dropped (λ e. absurd (omega (arith, ints, l, e))) r
-    at (inr (inl e)) r = kept e r
-    at (inr (inr l)) r = dropped (λ e. absurd (omega (arith, ints, l, e))) r
-
 -- each list has parts by each weight
 pub level_parts : (w : List ℤ) (bs : List MarkedPolynomial) → (ps : List MarkedPolynomial) × Matching (IsLevelPart w) bs ps
 level_parts w [] = ([], tt)
-level_parts w (b ∷ bs) = at (of_weight w (whole_weight w b.head) b.poly) (level_parts w bs)
-  where
-    at : IsOfWeight w (whole_weight w b.head) b.poly → ((ps : List MarkedPolynomial) × Matching (IsLevelPart w) bs ps) →
-        (ps : List MarkedPolynomial) × Matching (IsLevelPart w) (b ∷ bs) ps
-    at p r = (record { poly = p.poly; head = b.head } ∷ r.0, (record { head = refl; level = p.on; off = p.off }, r.1))
+level_parts w (b ∷ bs) =
+    let r = level_parts w bs in
+    let m = whole_weight w b.head in
+    (record { poly = of_weight w m b.poly; head = b.head } ∷ r.0, (record { head = refl; level = coefficient-on w m b.poly; off = coefficient-off w m b.poly }, r.1))
 
 -- ---- the parts of one side
 
