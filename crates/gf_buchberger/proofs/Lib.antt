@@ -3,6 +3,7 @@ pub mod UnsettledLaws  -- the list of the unsettled pairs
 pub mod KeyLaws  -- exponents arranged in keys
 pub mod LeadingLaws  -- the greatest term
 pub mod JobLaws  -- positive weights, and which order is good on what
+pub mod SingleLaws  -- members with one monomial
 pub mod RunLaws  -- the states of a run, one step further
 pub mod AppendLaws  -- a member that is appended
 pub mod ReducedPairLaws  -- one pair reduced
@@ -12,5 +13,6 @@ pub mod GeneratorsOfRuns  -- generators that enter a run
 pub mod InterreductionOfRuns  -- the end of a run, autoreduced
 pub mod RefusalsOfRuns  -- refusals are operations of the run
 pub mod BasesOfRuns  -- where a run ends
+pub mod MonomialRuns  -- the runs on one monomial
 pub mod BasesOfBases  -- a basis worked out from another one
 pub mod HomogeneityLaws  -- the first term of another degree

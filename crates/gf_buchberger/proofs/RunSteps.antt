@@ -17,7 +17,7 @@ use Rattle.gf_ideal.specs.Marks.{AreMarked}
 use Rattle.gf_ideal.specs.Reduction.{Reached, IsIrreducible}
 use Rattle.gf_ideal.specs.Settled.{IsAt, IsSettledPair}
 use Rattle.gf_ideal.specs.WorkLists.{IsOrigin, IsWorkList}
-use Rattle.gf_ideal.proofs.CriteriaLaws.{pair_by_steps, pair_by_product, pair_by_chain, pair_turned, pair_more}
+use Rattle.gf_ideal.proofs.CriteriaLaws.{pair_by_steps, pair_by_product, pair_by_monomials, pair_by_chain, pair_turned, pair_more}
 use Rattle.gf_ideal.proofs.ListLaws.{Contains-here, Contains-there, Contains-cases, Contains-last}
 use Rattle.gf_ideal.proofs.ListedTerms.{variables_by_terms}
 use Rattle.gf_ideal.proofs.PieceLaws.{Contains-marked}
@@ -26,7 +26,7 @@ use Rattle.gf_ideal.proofs.StepLaws.{reached-more}
 use Rattle.gf_ideal.proofs.WorkLaws.{work-marked}
 use Rattle.gf_buchberger.specs.declared.queue.Waiting.{Waiting}
 use Rattle.gf_buchberger.specs.Pairs.{PairMarks, is_settled, with_settled, with_member}
-use Rattle.gf_buchberger.specs.Runs.{HaveVariables, State, with_pair, IsWaiting, IsState, IsRun, PairsPushed, IsAppended, Counts, IsExcused, IsReducedPair}
+use Rattle.gf_buchberger.specs.Runs.{MembersHaveVariables, State, with_pair, IsWaiting, IsState, IsRun, PairsPushed, IsAppended, CountsAsSettled, IsExcused, IsReducedPair}
 use Rattle.gf_buchberger.proofs.PairsLaws.{settled-here, settled-before, settled-stays, settled-member_old, settled-member_new, IsPairTable-member, IsPairTable-settled}
 use Rattle.gf_buchberger.proofs.AppendLaws.{member_at, contained_at}
 
@@ -42,7 +42,7 @@ state_eq s t em et eq =
 same_member : (bs : List MarkedPolynomial) (i : ℕ) (b c : MarkedPolynomial) → IsAt bs i b → IsAt bs i c → b ≡ c
 same_member bs i b c p q = sym p.is ∙ get_or_default bs i b c p.within ∙ q.is
 
-pub in_variables : (n : ℕ) (bs : List MarkedPolynomial) → HaveVariables n bs → AreInVariables n (polys bs)
+pub in_variables : (n : ℕ) (bs : List MarkedPolynomial) → MembersHaveVariables n bs → AreInVariables n (polys bs)
 in_variables n bs v f c = let m = Contains-marked bs f c in subst (IsInVariables n) m.2 (variables_by_terms n m.0.poly (v.polys m.0 m.1))
 
 -- ---- places in a longer list
@@ -73,7 +73,7 @@ contained_last (a ∷ bs) b = Contains-there a b (bs ++ b ∷ []) (contained_las
 run-marked : (order : MonomialOrder) (n : ℕ) (fs : List Terms) (s : State) → IsRun order n fs s → AreMarked (below_of order) s.members
 run-marked order n fs s r = work-marked fs (below_of order) s.members r.work
 
-settled_of_counts : (order : MonomialOrder) (n : ℕ) (fs : List Terms) (s : State) (p q : ℕ) (b c : MarkedPolynomial) → IsRun order n fs s → Counts s p q → IsAt s.members p b → IsAt s.members q c → IsSettledPair n s.members (below_of order) b c
+settled_of_counts : (order : MonomialOrder) (n : ℕ) (fs : List Terms) (s : State) (p q : ℕ) (b c : MarkedPolynomial) → IsRun order n fs s → CountsAsSettled s p q → IsAt s.members p b → IsAt s.members q c → IsSettledPair n s.members (below_of order) b c
 settled_of_counts order n fs s p q b c r (inl h) x y = r.settled p q b c h.0 x y h.1
 settled_of_counts order n fs s p q b c r (inr (inl h)) x y = pair_turned n s.members (below_of order) c b (in_variables n s.members r.variables) (order-is order).strict (run-marked order n fs s r) (contained_at s.members q c y) (contained_at s.members p b x) (r.settled q p c b h.0 y x h.1)
 settled_of_counts order n fs s p q b c r (inr (inr h)) x y = pair_by_product n s.members (below_of order) b c (in_variables n s.members r.variables) (order-is order).strict (run-marked order n fs s r) (contained_at s.members p b x) (contained_at s.members q c y) (h b c x y)
@@ -81,7 +81,8 @@ settled_of_counts order n fs s p q b c r (inr (inr h)) x y = pair_by_product n s
 -- an excused pair is settled: Buchberger's product and chain criteria
 pub excused_pair : (order : MonomialOrder) (n : ℕ) (fs : List Terms) (s : State) (i j : ℕ) (b c : MarkedPolynomial) → IsRun order n fs s → IsExcused s i j → IsAt s.members i b → IsAt s.members j c → IsSettledPair n s.members (below_of order) b c
 excused_pair order n fs s i j b c r (inl h) x y = pair_by_product n s.members (below_of order) b c (in_variables n s.members r.variables) (order-is order).strict (run-marked order n fs s r) (contained_at s.members i b x) (contained_at s.members j c y) (h b c x y)
-excused_pair order n fs s i j b c r (inr (k, h)) x y = at (member_at s.members k h.inside)
+excused_pair order n fs s i j b c r (inr (inl h)) x y = let o = h b c x y in pair_by_monomials n s.members (below_of order) b c (in_variables n s.members r.variables) (order-is order).strict (run-marked order n fs s r) (contained_at s.members i b x) (contained_at s.members j c y) o.0 o.1
+excused_pair order n fs s i j b c r (inr (inr (k, h))) x y = at (member_at s.members k h.inside)
   where
     at : (d : MarkedPolynomial) × IsAt s.members k d → IsSettledPair n s.members (below_of order) b c
     at d =
@@ -115,7 +116,7 @@ appended-settled order n fs old d i j b c r l x y e = at (cases_lt j (length old
         let f : is_settled (with_member old.table) i j ≡ false = subst (λ (z : ℕ). is_settled (with_member old.table) i z ≡ false) (sym s) (settled-member_new old.table i r.state.table (omega arith)) in
         absurd (cc)
 
-appended-variables : (n : ℕ) (bs : List MarkedPolynomial) (d : MarkedPolynomial) → HaveVariables n bs → length d.head ≡ n → HasVariables n d.poly → HaveVariables n (bs ++ d ∷ [])
+appended-variables : (n : ℕ) (bs : List MarkedPolynomial) (d : MarkedPolynomial) → MembersHaveVariables n bs → length d.head ≡ n → HasVariables n d.poly → MembersHaveVariables n (bs ++ d ∷ [])
 appended-variables n bs d v h p = record { heads = λ b c. head b (Contains-last bs d b c); polys = λ b c. poly b (Contains-last bs d b c) }
   where
     head : (b : MarkedPolynomial) → Contains bs b ⊎ (b ≡ d) → length b.head ≡ n

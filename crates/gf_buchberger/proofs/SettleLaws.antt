@@ -13,7 +13,7 @@ use Rattle.gf_ideal.proofs.ListLaws.{Contains-here, Contains-there, Contains-cas
 use Rattle.gf_buchberger.specs.declared.queue.Waiting.{Waiting}
 use Rattle.gf_buchberger.specs.declared.runs.Stop.TheVariants as stops
 use Rattle.gf_buchberger.specs.Pairs.{PairMarks, IsPairTable, is_settled, settled_count, with_settled}
-use Rattle.gf_buchberger.specs.Runs.{AreReducers, State, with_pair, IsWaiting, IsState, IsRun, IsAppended, Counts, IsExcused, IsWorkedOff, IsSettledBy, IsPairRefusal, IsSomeRun, IsSettling, IsWorkedThrough, IsStop}
+use Rattle.gf_buchberger.specs.Runs.{AreReducers, State, with_pair, IsWaiting, IsState, IsRun, IsAppended, CountsAsSettled, IsExcused, IsPairWorkedOff, IsSettledBy, IsSettlingRefusal, IsSomeRun, IsSettling, IsWorkedThrough, IsStop}
 use Rattle.gf_buchberger.proofs.PairsLaws.{settled_count-settle, settled_count-member, settled-member_old, IsPairTable-member}
 use Rattle.gf_buchberger.proofs.JobLaws.{run_reducers}
 use Rattle.gf_buchberger.proofs.RunSteps.{state_eq, excused_pair, reduced_pair, run-permuted, run-settled, length-last, contained_old}
@@ -96,7 +96,7 @@ worked-appended order r old mid w n a = record {
   queue = omega (arith, a.pairs.count);
 }
 
-worked : (order : MonomialOrder) (old mid : State) (w : Waiting) → IsNext order old w → IsWorkedOff order old mid w.first w.second → IsWorked old mid w
+worked : (order : MonomialOrder) (old mid : State) (w : Waiting) → IsNext order old w → IsPairWorkedOff order old mid w.first w.second → IsWorked old mid w
 worked order old mid w n (inl (x, e)) = subst (λ (s : State). IsWorked old s w) (sym e) (worked-same old w)
 worked order old mid w n (inr h) = elim h.left [
   | inl z ↦ subst (λ (s : State). IsWorked old s w) (sym z.1) (worked-same old w)
@@ -105,19 +105,20 @@ worked order old mid w n (inr h) = elim h.left [
 
 excused_beside : (w : Waiting) (s : State) (i j : ℕ) → IsExcused s i j → IsExcused (with_pair w s) i j
 excused_beside w s i j (inl h) = inl h
-excused_beside w s i j (inr (k, h)) = inr (k, record { inside = h.inside; divides = h.divides; left = counts_beside w s i k h.left; right = counts_beside w s k j h.right })
+excused_beside w s i j (inr (inl h)) = inr (inl h)
+excused_beside w s i j (inr (inr (k, h))) = inr (inr (k, record { inside = h.inside; divides = h.divides; left = counts_beside w s i k h.left; right = counts_beside w s k j h.right }))
   where
-    counts_beside : (w : Waiting) (s : State) (p q : ℕ) → Counts s p q → Counts (with_pair w s) p q
+    counts_beside : (w : Waiting) (s : State) (p q : ℕ) → CountsAsSettled s p q → CountsAsSettled (with_pair w s) p q
     counts_beside w s p q (inl h) = inl h
     counts_beside w s p q (inr (inl h)) = inr (inl h)
     counts_beside w s p q (inr (inr h)) = inr (inr h)
 
 -- the pair is settled in the middle, and the run goes on there
-worked-run : (order : MonomialOrder) (n : ℕ) (fs : List Terms) (old mid : State) (w : Waiting) → IsRun order n fs (with_pair w old) → IsWorkedOff order old mid w.first w.second → IsRun order n fs (with_pair w mid) × ((b c : MarkedPolynomial) → IsAt mid.members w.first b → IsAt mid.members w.second c → IsSettledPair n mid.members (below_of order) b c)
+worked-run : (order : MonomialOrder) (n : ℕ) (fs : List Terms) (old mid : State) (w : Waiting) → IsRun order n fs (with_pair w old) → IsPairWorkedOff order old mid w.first w.second → IsRun order n fs (with_pair w mid) × ((b c : MarkedPolynomial) → IsAt mid.members w.first b → IsAt mid.members w.second c → IsSettledPair n mid.members (below_of order) b c)
 worked-run order n fs old mid w r (inl (x, e)) = subst (λ (s : State). IsRun order n fs (with_pair w s) × ((b c : MarkedPolynomial) → IsAt s.members w.first b → IsAt s.members w.second c → IsSettledPair n s.members (below_of order) b c)) (sym e) (r, λ b c p q. excused_pair order n fs (with_pair w old) w.first w.second b c r (excused_beside w old w.first w.second x) p q)
 worked-run order n fs old mid w r (inr h) = reduced_pair order n fs w old mid r h
 
-middle_table : (order : MonomialOrder) (old mid : State) (i j : ℕ) → IsPairTable old.table → IsWorkedOff order old mid i j → IsPairTable mid.table
+middle_table : (order : MonomialOrder) (old mid : State) (i j : ℕ) → IsPairTable old.table → IsPairWorkedOff order old mid i j → IsPairTable mid.table
 middle_table order old mid i j v (inl (x, e)) = subst (λ (s : State). IsPairTable s.table) (sym e) v
 middle_table order old mid i j v (inr h) = elim h.left [
   | inl z ↦ subst (λ (s : State). IsPairTable s.table) (sym z.1) v
@@ -125,7 +126,7 @@ middle_table order old mid i j v (inr h) = elim h.left [
 ]
 
 -- the pair of places inside stays so while it is worked off
-pub still_inside : (order : MonomialOrder) (old mid : State) (i j : ℕ) → j < old.table.members → IsWorkedOff order old mid i j → j < mid.table.members
+pub still_inside : (order : MonomialOrder) (old mid : State) (i j : ℕ) → j < old.table.members → IsPairWorkedOff order old mid i j → j < mid.table.members
 still_inside order old mid i j l (inl (x, e)) = subst (λ (s : State). j < s.table.members) (sym e) l
 still_inside order old mid i j l (inr h) = elim h.left [
   | inl z ↦ subst (λ (s : State). j < s.table.members) (sym z.1) l
@@ -184,7 +185,7 @@ settled_fewer order start new members table queue rest w budget done some p l n 
 pub popped_next : (order : MonomialOrder) (start : State) (members : List MarkedPolynomial) (table : PairMarks) (queue rest : List Waiting) (w : Waiting) (done : ℕ) → IsSomeRun order start → IsPermutation queue (w ∷ rest) → IsSettling order start (record { members = members; table = table; queue = queue }) done → IsNext order (record { members = members; table = table; queue = rest }) w
 popped_next order start members table queue rest w done some p h = is_next order start (record { members = members; table = table; queue = rest }) w done some (settling-popped order start members table queue rest w done p h)
 
-pub is_refused_run : (order : MonomialOrder) (budget : ℕ) (start at : State) (w : Waiting) (done : ℕ) (e : PolyError) → done < budget → IsSettling order start (with_pair w at) done → IsPairRefusal order at w.first w.second e → IsStop order budget start (stops.Refused e)
+pub is_refused_run : (order : MonomialOrder) (budget : ℕ) (start at : State) (w : Waiting) (done : ℕ) (e : PolyError) → done < budget → IsSettling order start (with_pair w at) done → IsSettlingRefusal order at w.first w.second e → IsStop order budget start (stops.Refused e)
 is_refused_run order budget start at w done (errors.Overflow o) l h r = record { done = done; within = l; at = at; pair = w; settling = h; refused = r }
 is_refused_run order budget start at w done (errors.Exponent o) l h r = record { done = done; within = l; at = at; pair = w; settling = h; refused = r }
 is_refused_run order budget start at w done errors.Memory l h r = tt

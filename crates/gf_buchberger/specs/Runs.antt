@@ -1,16 +1,17 @@
 -- Where Buchberger's algorithm stands: the list of members, the marks of their pairs, the pairs that wait.
 -- Laws: proofs/RunLaws.antt. Source: Becker, Weispfenning, Gröbner Bases, 5.5 (criteria, and what settles a pair).
 use Rattle.std.specs.Prelude.{◌≡◌, ◌≢◌, ◌⊎◌, ℕ, ◌+◌, ◌<◌, ◌≤◌, true, false, List, [], ◌∷◌, ◌++◌, length, Contains}
-use Rattle.gf_frac.specs.Fits.{Fits}
+use Rattle.gf_frac.specs.Fraction.{Fraction}
+use Rattle.gf_frac.specs.declared.refusal.Op.{Op}
 use Rattle.gf_exponents.specs.Exponents.{Exponents, AreCoprime, Divides, join}
 use Rattle.gf_exponents.specs.SixOrders.{MonomialOrder, below_of}
 use Rattle.gf_order.specs.Comparisons.{HasEntries}
 use Rattle.gf_poly.specs.declared.error.PolyError.{PolyError}
-use Rattle.gf_poly.specs.declared.error.PolyError.TheVariants as errors
 use Rattle.gf_poly.specs.Polynomial.{Terms, HasVariables}
 use Rattle.gf_poly.specs.Marking.{MarkedPolynomial}
+use Rattle.gf_poly.specs.Refusals.{IsRefusedBy, NoSum, UnlessMemory}
 use Rattle.gf_ideal.specs.Marks.{IsMarked}
-use Rattle.gf_ideal.specs.Reduction.{IsMonicForm, IsSPolynomial}
+use Rattle.gf_ideal.specs.Reduction.{IsMonicForm, IsSPolynomial, HasOneMonomial}
 use Rattle.gf_ideal.specs.NormalForms.{IsNormalForm}
 use Rattle.gf_ideal.specs.Bases.{IsGreatest}
 use Rattle.gf_ideal.specs.Operands.{IsMonicOperation}
@@ -23,25 +24,25 @@ use Rattle.gf_buchberger.specs.declared.runs.Run.{Run}
 use Rattle.gf_buchberger.specs.declared.runs.Stop.{Stop}
 use Rattle.gf_buchberger.specs.declared.runs.Stop.TheVariants as stops
 use Rattle.gf_buchberger.specs.declared.queue.Waiting.{Waiting}
-use Rattle.gf_buchberger.specs.Jobs.{IsJob}
+use Rattle.gf_buchberger.specs.Jobs.{IsBasisJob}
 use Rattle.gf_buchberger.specs.Pairs.{PairMarks, IsPairTable, is_settled, settled_count, with_settled, with_member}
 
 -- ---- members
 
 -- the members and their marks have n variables
-pub record HaveVariables (n : ℕ) (bs : List MarkedPolynomial) : Type 0 where
+pub record MembersHaveVariables (n : ℕ) (bs : List MarkedPolynomial) : Type 0 where
   pub heads : (b : MarkedPolynomial) → Contains bs b → length b.head ≡ n
   pub polys : (b : MarkedPolynomial) → Contains bs b → HasVariables n b.poly
 
 -- they have some number of variables
-pub record HaveSomeVariables (bs : List MarkedPolynomial) : Type 0 where
+pub record MembersHaveSomeVariables (bs : List MarkedPolynomial) : Type 0 where
   pub n : ℕ
-  pub each : HaveVariables n bs
+  pub each : MembersHaveVariables n bs
 
 -- so has the weight of the order, where it has one; and some weight sets each mark above the rest, so that they reduce
 pub record AreReducers (order : MonomialOrder) (bs : List MarkedPolynomial) : Type 0 where
   pub n : ℕ
-  pub each : HaveVariables n bs
+  pub each : MembersHaveVariables n bs
   pub entries : HasEntries n order
   pub weight : HasSomeWeight bs
 
@@ -73,7 +74,7 @@ pub record IsState (s : State) : Type 0 where
 -- a state of a run on fs in n variables by the order: a work list, whose pairs are settled where the marks say so, and else wait
 pub record IsRun (order : MonomialOrder) (n : ℕ) (fs : List Terms) (s : State) : Type 0 where
   pub work : IsWorkList fs (below_of order) s.members
-  pub variables : HaveVariables n s.members
+  pub variables : MembersHaveVariables n s.members
   pub state : IsState s
   pub settled : (i j : ℕ) (b c : MarkedPolynomial) → i < j → IsAt s.members i b → IsAt s.members j c → is_settled s.table i j ≡ true → IsSettledPair n s.members (below_of order) b c
   pub waiting : (i j : ℕ) → i < j → j < length s.members → (is_settled s.table i j ≡ true) ⊎ IsWaiting s.queue i j
@@ -103,38 +104,44 @@ pub record IsAppended (order : MonomialOrder) (r : Terms) (old new : State) : Ty
   pub pairs : PairsPushed old.queue new.queue (length old.members) (length old.members)
 
 -- r has the same variables as the members, and the weight of the order, where it has one
-pub record SharesVariables (order : MonomialOrder) (r : Terms) (bs : List MarkedPolynomial) : Type 0 where
+pub record IsAppendable (order : MonomialOrder) (r : Terms) (bs : List MarkedPolynomial) : Type 0 where
   pub n : ℕ
   pub poly : HasVariables n r
-  pub members : HaveVariables n bs
+  pub members : MembersHaveVariables n bs
   pub entries : HasEntries n order
 
--- why r can't be made monic: a quotient of a coefficient by that of its greatest monomial doesn't fit
-abbrev pub IsMonicRefusal : MonomialOrder → Terms → PolyError → Type 0
-IsMonicRefusal order r (errors.Overflow o) = (at : Exponents) × IsGreatest (below_of order) r at × IsMonicOperation r at o.op o.left o.right × ¬ (Fits o.op o.left o.right)
-IsMonicRefusal order r (errors.Exponent o) = ⊥
-IsMonicRefusal order r errors.Memory = Unit {0}
+-- the operation divides a coefficient of r by that of its greatest monomial
+abbrev pub IsAppendOperation : MonomialOrder → Terms → Op → Fraction → Fraction → Type 0
+IsAppendOperation order r op left right = (at : Exponents) × IsGreatest (below_of order) r at × IsMonicOperation r at op left right
+
+-- why r isn't appended: such a quotient doesn't fit
+abbrev pub IsAppendRefusal : MonomialOrder → Terms → PolyError → Type 0
+IsAppendRefusal order r = IsRefusedBy (IsAppendOperation order r) NoSum
 
 -- ---- criteria
 
 -- the pair of the members at p and q counts as settled: its mark says so, or the marked monomials are coprime
-abbrev pub Counts : State → ℕ → ℕ → Type 0
-Counts s p q = ((p < q) × (is_settled s.table p q ≡ true)) ⊎ ((q < p) × (is_settled s.table q p ≡ true)) ⊎ ((b c : MarkedPolynomial) → IsAt s.members p b → IsAt s.members q c → AreCoprime b.head c.head)
+abbrev pub CountsAsSettled : State → ℕ → ℕ → Type 0
+CountsAsSettled s p q = ((p < q) × (is_settled s.table p q ≡ true)) ⊎ ((q < p) × (is_settled s.table q p ≡ true)) ⊎ ((b c : MarkedPolynomial) → IsAt s.members p b → IsAt s.members q c → AreCoprime b.head c.head)
 
 -- the mark of a third member divides the least common multiple of the marks, and its pairs with both count as settled
 pub record IsChain (s : State) (i j k : ℕ) : Type 0 where
   pub inside : k < length s.members
   pub divides : (b c d : MarkedPolynomial) → IsAt s.members i b → IsAt s.members j c → IsAt s.members k d → Divides d.head (join b.head c.head)
-  pub left : Counts s i k
-  pub right : Counts s k j
+  pub left : CountsAsSettled s i k
+  pub right : CountsAsSettled s k j
 
 -- m is the least common multiple of the marks at i and j
 abbrev pub IsMultipleAt : State → ℕ → ℕ → Exponents → Type 0
 IsMultipleAt s i j m = (b c : MarkedPolynomial) → IsAt s.members i b → IsAt s.members j c → m ≡ join b.head c.head
 
--- the pair needs no reduction: the marks are coprime, or there is a chain
+-- the members at i and j have one monomial each
+abbrev pub AreSingleAt : State → ℕ → ℕ → Type 0
+AreSingleAt s i j = (b c : MarkedPolynomial) → IsAt s.members i b → IsAt s.members j c → HasOneMonomial b × HasOneMonomial c
+
+-- the pair needs no reduction: the marks are coprime, both members have one monomial, or there is a chain
 abbrev pub IsExcused : State → ℕ → ℕ → Type 0
-IsExcused s i j = ((b c : MarkedPolynomial) → IsAt s.members i b → IsAt s.members j c → AreCoprime b.head c.head) ⊎ ((k : ℕ) × IsChain s i j k)
+IsExcused s i j = ((b c : MarkedPolynomial) → IsAt s.members i b → IsAt s.members j c → AreCoprime b.head c.head) ⊎ AreSingleAt s i j ⊎ ((k : ℕ) × IsChain s i j k)
 
 -- ---- one pair
 
@@ -149,17 +156,17 @@ pub record IsReducedPair (order : MonomialOrder) (old new : State) (i j : ℕ) :
   pub is_s : IsSPolynomial b c s
   pub r : Terms
   pub normal : IsNormalForm old.members s r
-  pub variables : (n : ℕ) → HaveVariables n old.members → HasVariables n r
+  pub variables : (n : ℕ) → MembersHaveVariables n old.members → HasVariables n r
   pub left : ((r ≡ []) × (new ≡ old)) ⊎ ((r ≢ []) × IsAppended order r old new)
 
 -- the pair is excused, and nothing was done, or it was reduced
-abbrev pub IsWorkedOff : MonomialOrder → State → State → ℕ → ℕ → Type 0
-IsWorkedOff order old new i j = (IsExcused old i j × (new ≡ old)) ⊎ IsReducedPair order old new i j
+abbrev pub IsPairWorkedOff : MonomialOrder → State → State → ℕ → ℕ → Type 0
+IsPairWorkedOff order old new i j = (IsExcused old i j × (new ≡ old)) ⊎ IsReducedPair order old new i j
 
 -- the pair is worked off, and marked as settled
 pub record IsSettledBy (order : MonomialOrder) (old new : State) (i j : ℕ) : Type 0 where
   pub middle : State
-  pub worked : IsWorkedOff order old middle i j
+  pub worked : IsPairWorkedOff order old middle i j
   pub members : new.members ≡ middle.members
   pub table : new.table ≡ with_settled middle.table i j
   pub queue : new.queue ≡ middle.queue
@@ -168,13 +175,11 @@ pub record IsSettledBy (order : MonomialOrder) (old new : State) (i j : ℕ) : T
 pub data IsRefusedPair (order : MonomialOrder) (s : State) (i j : ℕ) (e : PolyError) : Type 0 where
   s_polynomial : (b c : MarkedPolynomial) → IsAt s.members i b → IsAt s.members j c → IsMonicPairRefusal b c e → IsRefusedPair order s i j e
   reduction : (b c : MarkedPolynomial) (f : Terms) → IsAt s.members i b → IsAt s.members j c → IsSPolynomial b c f → IsReductionRefusal s.members f e → IsRefusedPair order s i j e
-  monic : (b c : MarkedPolynomial) (f r : Terms) → IsAt s.members i b → IsAt s.members j c → IsSPolynomial b c f → IsNormalForm s.members f r → IsMonicRefusal order r e → IsRefusedPair order s i j e
+  monic : (b c : MarkedPolynomial) (f r : Terms) → IsAt s.members i b → IsAt s.members j c → IsSPolynomial b c f → IsNormalForm s.members f r → IsAppendRefusal order r e → IsRefusedPair order s i j e
 
 -- the same, unless there is no memory
-abbrev pub IsPairRefusal : MonomialOrder → State → ℕ → ℕ → PolyError → Type 0
-IsPairRefusal order s i j (errors.Overflow o) = IsRefusedPair order s i j (errors.Overflow o)
-IsPairRefusal order s i j (errors.Exponent o) = IsRefusedPair order s i j (errors.Exponent o)
-IsPairRefusal order s i j errors.Memory = Unit {0}
+abbrev pub IsSettlingRefusal : MonomialOrder → State → ℕ → ℕ → PolyError → Type 0
+IsSettlingRefusal order s i j = UnlessMemory (IsRefusedPair order s i j)
 
 -- ---- all pairs
 
@@ -182,7 +187,7 @@ IsPairRefusal order s i j errors.Memory = Unit {0}
 pub record IsSomeRun (order : MonomialOrder) (s : State) : Type 0 where
   pub n : ℕ
   pub fs : List Terms
-  pub job : IsJob order n fs
+  pub job : IsBasisJob order n fs
   pub run : IsRun order n fs s
 
 -- each run that is at `old` may go on to `new`, where `done` pairs more are settled
@@ -216,7 +221,5 @@ pub record IsRefusedRun (order : MonomialOrder) (budget : ℕ) (old : State) (e 
 
 -- why not all pairs are settled
 abbrev pub IsStop : MonomialOrder → ℕ → State → Stop → Type 0
-IsStop order budget old (stops.Refused (errors.Overflow o)) = IsRefusedRun order budget old (errors.Overflow o)
-IsStop order budget old (stops.Refused (errors.Exponent o)) = IsRefusedRun order budget old (errors.Exponent o)
-IsStop order budget old (stops.Refused errors.Memory) = Unit {0}
+IsStop order budget old (stops.Refused e) = UnlessMemory (IsRefusedRun order budget old) e
 IsStop order budget old (stops.Spent run) = IsSpent order budget old (state_of run)

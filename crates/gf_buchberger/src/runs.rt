@@ -4,7 +4,8 @@ ghost use Rattle.std.specs.Prelude.{◌≡◌, ◌≢◌, ◌+◌, ◌<◌, ◌�
 ghost use Rattle.gf_exponents.specs.Exponents.{AreCoprime};
 ghost use Rattle.gf_order.specs.Comparisons.{HasEntries};
 ghost use Rattle.gf_poly.specs.Polynomial.{IsDescending};
-ghost use Rattle.gf_buchberger.specs.Runs.{HaveVariables, AreReducers, IsMultipleAt, IsReducedPair, IsWorkedOff, IsPairRefusal, HaveSomeVariables, state_of, State, IsState, PairsPushed, IsAppended, SharesVariables, IsMonicRefusal, Counts, IsChain, IsExcused, IsSettledBy, IsSomeRun, IsWorkedThrough, IsStop};
+ghost use Rattle.gf_ideal.specs.Reduction.{HasOneMonomial};
+ghost use Rattle.gf_buchberger.specs.Runs.{MembersHaveVariables, AreReducers, IsMultipleAt, IsReducedPair, IsPairWorkedOff, IsSettlingRefusal, MembersHaveSomeVariables, state_of, State, IsState, PairsPushed, IsAppended, IsAppendable, IsAppendRefusal, CountsAsSettled, IsChain, IsExcused, IsSettledBy, IsSomeRun, IsWorkedThrough, IsStop};
 
 use crate::leading::leading;
 use crate::pairs::PairTable;
@@ -46,6 +47,22 @@ fn are_coprime(x: &Mono, y: &Mono) -> bool
     true
 }
 
+// Whether the member has no monomial but the marked one.
+fn is_single(member: &Marked) -> bool
+    ensures { IsTrue result → HasOneMonomial member.now }
+{
+    // Called for the proof alone: what `head` ensures says that the mark is that of a term.
+    let _ = member.head();
+    member.poly().terms().len() == 1
+}
+
+// Whether both have one monomial alone.
+fn are_single(b: &Marked, c: &Marked) -> bool
+    ensures { IsTrue result → HasOneMonomial b.now × HasOneMonomial c.now }
+{
+    is_single(b) && is_single(c)
+}
+
 // Adds the pairs of these members with a new one, whose mark is `head`.
 fn push_pairs(
     queue: &mut Queue,
@@ -55,7 +72,7 @@ fn push_pairs(
     head: &Mono,
 ) -> Result<(), AllocError>
     requires room { length members.now < 2 ^ 32 }
-    requires variables { HaveVariables (length head.now) members.now }
+    requires variables { MembersHaveVariables (length head.now) members.now }
     requires entries { HasEntries (length head.now) order.now }
     ensures { OnOk result (PairsPushed queue.old queue.new (length members.now) (length members.now)) }
 {
@@ -95,9 +112,9 @@ impl Run {
     pub fn append(&mut self, order: &Order, r: Poly) -> Result<(), PolyError>
         requires some { r ≢ [] }
         requires state { IsState (state_of self.old) }
-        requires variables { SharesVariables order.now r self.old.members.items }
+        requires variables { IsAppendable order.now r self.old.members.items }
         ensures ok { OnOk result (IsAppended order.now r (state_of self.old) (state_of self.new)) }
-        ensures cause { IfErr result (IsMonicRefusal order.now r) }
+        ensures cause { IfErr result (IsAppendRefusal order.now r) }
     {
         if self.table.members() == u32::MAX {
             return Err(PolyError::Memory);
@@ -122,8 +139,8 @@ impl Run {
         requires first { p < length self.now.members.items }
         requires second { q < length self.now.members.items }
         requires other { p ≢ q }
-        requires variables { HaveSomeVariables self.now.members.items }
-        ensures { IsTrue result → Counts (state_of self.now) p q }
+        requires variables { MembersHaveSomeVariables self.now.members.items }
+        ensures { IsTrue result → CountsAsSettled (state_of self.now) p q }
     {
         let (lower, upper) = if p < q { (p, q) } else { (q, p) };
         self.table.is_settled(lower, upper)
@@ -140,7 +157,7 @@ impl Run {
         requires first { i < length self.now.members.items }
         requires second { j < length self.now.members.items }
         requires third { k < length self.now.members.items }
-        requires variables { HaveSomeVariables self.now.members.items }
+        requires variables { MembersHaveSomeVariables self.now.members.items }
         requires multiple { IsMultipleAt (state_of self.now) i j multiple.now }
         ensures { IsTrue result → IsChain (state_of self.now) i j k }
     {
@@ -158,7 +175,7 @@ impl Run {
         requires state { IsState (state_of self.now) }
         requires first { i < length self.now.members.items }
         requires second { j < length self.now.members.items }
-        requires variables { HaveSomeVariables self.now.members.items }
+        requires variables { MembersHaveSomeVariables self.now.members.items }
         ensures { IsTrue result → IsExcused (state_of self.now) i j }
     {
         let (b, c) = (
@@ -166,6 +183,9 @@ impl Run {
             self.members[j as usize].head(),
         );
         if are_coprime(b, c) {
+            return true;
+        }
+        if are_single(&self.members[i as usize], &self.members[j as usize]) {
             return true;
         }
         let multiple = b.lcm(c);
@@ -184,7 +204,7 @@ impl Run {
         requires second { j < length self.old.members.items }
         requires reducers { AreReducers order.now self.old.members.items }
         ensures ok { OnOk result (IsReducedPair order.now (state_of self.old) (state_of self.new) i j) }
-        ensures cause { IfErr result (IsPairRefusal order.now (state_of self.old) i j) }
+        ensures cause { IfErr result (IsSettlingRefusal order.now (state_of self.old) i j) }
     {
         let s = s_poly(alloc, &self.members[i as usize], &self.members[j as usize])?;
         let r = reduced(alloc, s, &self.members)?;
@@ -200,8 +220,8 @@ impl Run {
         requires first { i < length self.old.members.items }
         requires second { j < length self.old.members.items }
         requires reducers { AreReducers order.now self.old.members.items }
-        ensures ok { OnOk result (IsWorkedOff order.now (state_of self.old) (state_of self.new) i j) }
-        ensures cause { IfErr result (IsPairRefusal order.now (state_of self.old) i j) }
+        ensures ok { OnOk result (IsPairWorkedOff order.now (state_of self.old) (state_of self.new) i j) }
+        ensures cause { IfErr result (IsSettlingRefusal order.now (state_of self.old) i j) }
     {
         if self.is_excused(i, j) {
             return Ok(());
@@ -216,7 +236,7 @@ impl Run {
         requires second { j < length self.old.members.items }
         requires reducers { AreReducers order.now self.old.members.items }
         ensures ok { OnOk result (IsSettledBy order.now (state_of self.old) (state_of self.new) i j) }
-        ensures cause { IfErr result (IsPairRefusal order.now (state_of self.old) i j) }
+        ensures cause { IfErr result (IsSettlingRefusal order.now (state_of self.old) i j) }
     {
         self.work_off(alloc, order, i, j)?;
         self.table.settle(i, j);
@@ -241,6 +261,7 @@ pub fn settle_all(alloc: Global, start: Run, order: &Order, budget: u64) -> Resu
     let mut done = 0;
     'pairs: while let Some(pair) = run.queue.pop() {
         let (i, j) = (pair.first, pair.second);
+        // Never so, since no pair waits twice; the proof isn't shown this, and counts a pair once that is settled here.
         if run.table.is_settled(i, j) {
             continue;
         }

@@ -31,7 +31,7 @@ use Rattle.gf_ideal.proofs.ArrangementLaws.{reduced-arranged}
 use Rattle.gf_ideal.proofs.KeptForms.{arranged_list}
 use Rattle.gf_division.specs.MonicForms.{IsMadeMonic}
 use Rattle.gf_division.specs.NormalForms.{HasSomeWeight}
-use Rattle.gf_division.specs.Autoreduction.{IsNeededForm, AreNeededForms, IsAutoreduced, IsBasisOnceMonic, IsReducedOf, IsTailRefusal, IsMemberRefusal, IsAutoreductionRefusal, HaveSomeVariables, KeepVariables, IsKeptForm, AreKeptForms}
+use Rattle.gf_division.specs.Autoreduction.{IsNeededForm, AreNeededForms, IsAutoreduced, IsBasisOnceMonic, IsReducedOf, IsTailRefusal, IsNeededRefusal, IsAutoreductionRefusal, ShareSomeVariables, KeepVariables, IsKeptForm, AreKeptForms}
 use Rattle.gf_division.proofs.ReducerLaws.{member_contained, member_variables}
 use Rattle.gf_division.proofs.NeededLaws.{needed_divisible}
 
@@ -69,10 +69,10 @@ tails_end bs cs i l h = subst (λ (z : List MarkedPolynomial). AreTails bs z cs)
 forms_variables : (n : ℕ) (bs ks : List MarkedPolynomial) → HaveVariables n bs → KeepVariables bs ks → HaveVariables n ks
 forms_variables n bs ks v k = k.at n v
 
-pub forms_some_variables : (n : ℕ) (bs cs ks ls : List MarkedPolynomial) → cs ≡ bs → HaveVariables n bs → KeepVariables cs ks → ls ≡ ks → HaveSomeVariables ls
+pub forms_some_variables : (n : ℕ) (bs cs ks ls : List MarkedPolynomial) → cs ≡ bs → HaveVariables n bs → KeepVariables cs ks → ls ≡ ks → ShareSomeVariables ls
 forms_some_variables n bs cs ks ls e v k q = record { n = n; each = subst (HaveVariables n) (sym q) (k.at n (subst (HaveVariables n) (sym e) v)) }
 
-pub given_variables : (n : ℕ) (bs cs : List MarkedPolynomial) → cs ≡ bs → HaveVariables n bs → HaveSomeVariables cs
+pub given_variables : (n : ℕ) (bs cs : List MarkedPolynomial) → cs ≡ bs → HaveVariables n bs → ShareSomeVariables cs
 given_variables n bs cs e v = record { n = n; each = subst (HaveVariables n) (sym e) v }
 
 -- a weight of the marking marks them
@@ -183,8 +183,8 @@ autoreduced_reduced n bs ks cs t a = record { at = λ fs w v b p r. record { pos
 
 -- ---- refusals
 
-pub members_refused : (bs cs : List MarkedPolynomial) (e : PolyError) → cs ≡ bs → IsMemberRefusal cs e → IsAutoreductionRefusal bs e
-members_refused bs cs e q h = inl (subst (λ (z : List MarkedPolynomial). IsMemberRefusal z e) q h)
+pub members_refused : (bs cs : List MarkedPolynomial) (e : PolyError) → cs ≡ bs → IsNeededRefusal cs e → IsAutoreductionRefusal bs e
+members_refused bs cs e q h = inl (subst (λ (z : List MarkedPolynomial). IsNeededRefusal z e) q h)
 
 pub tails_refused : (bs gs ks ls : List MarkedPolynomial) (e : PolyError) → gs ≡ bs → ls ≡ ks → AreNeededForms gs ks → IsTailRefusal ls e → IsAutoreductionRefusal bs e
 tails_refused bs gs ks ls e p q h r = inr (ks, subst (λ (z : List MarkedPolynomial). AreNeededForms z ks) p h, subst (λ (z : List MarkedPolynomial). IsTailRefusal z e) q r)

@@ -15,11 +15,11 @@ use Rattle.gf_poly.specs.Marking.{head_of}
 use Rattle.gf_poly.proofs.DescendingLaws.{greater_trans}
 use Rattle.gf_ideal.proofs.ListLaws.{Each-++}
 use Rattle.gf_division.proofs.DescendingParts.{descending-back, variables-back, coefficient-midst}
-use Rattle.gf_division.specs.Dividends.{Split, terms_of, IsSound, IsFirst, AreOver, Advances, FirstIs, Descends, MovesUp}
+use Rattle.gf_division.specs.Dividends.{Split, joined_terms, IsSound, IsFirstTerm, AreOver, PassesOne, FirstIs, Descends, MovesUp}
 
 -- ---- one term over the place
 
-pub moved : (a b c d : Terms) (t : Term) → b ≡ d ++ t ∷ [] → c ≡ a ++ t ∷ [] → Advances (record { above = a; below = reverse b }) (record { above = c; below = reverse d })
+pub moved : (a b c d : Terms) (t : Term) → b ≡ d ++ t ∷ [] → c ≡ a ++ t ∷ [] → PassesOne (record { above = a; below = reverse b }) (record { above = c; below = reverse d })
 moved a b c d t e k = record { term = t; below = ap reverse e ∙ reverse-append d (t ∷ []); above = k }
 
 -- a list that isn't empty below the place
@@ -56,7 +56,7 @@ pub record Descending (x : Exponents) (old new : Split) : Type 0 where
 pub none_passed : (x : Exponents) (s : Split) → Descending x s s
 none_passed x s = record { passed = []; above = sym (append-nil s.above); below = refl; over = tt }
 
-pub one_passed : (x : Exponents) (old s new : Split) → FirstIs s.below x Greater → Descending x old s → Advances s new → Descending x old new
+pub one_passed : (x : Exponents) (old s new : Split) → FirstIs s.below x Greater → Descending x old s → PassesOne s new → Descending x old new
 one_passed x old s new f d a = record {
   passed = d.passed ++ a.term ∷ [];
   above = a.above ∙ ap (λ (z : Terms). z ++ a.term ∷ []) d.above ∙ append_assoc old.above d.passed (a.term ∷ []);
@@ -72,7 +72,7 @@ pub first_there : (f : Terms) (x : Exponents) → FirstIs f x Greater → f ≢ 
 first_there [] x h = let q : Greater ≡ Less = h in absurd (cc)
 first_there (t ∷ f) x h = λ e. cc
 
-pub shorter : (old new : Split) (b d : Terms) → old.below ≡ reverse b → new.below ≡ reverse d → Advances old new → length d < length b
+pub shorter : (old new : Split) (b d : Terms) → old.below ≡ reverse b → new.below ≡ reverse d → PassesOne old new → length d < length b
 shorter old new b d e k a = omega (arith, ap length a.below, ap length e, ap length k, length-reverse b, length-reverse d)
 
 -- ---- many terms up
@@ -80,7 +80,7 @@ shorter old new b d e k a = omega (arith, ap length a.below, ap length e, ap len
 pub none_up : (s : Split) → MovesUp s s
 none_up s = record { passed = []; above = sym (append-nil s.above); below = refl }
 
-pub one_up : (old s new : Split) → MovesUp old s → Advances new s → MovesUp old new
+pub one_up : (old s new : Split) → MovesUp old s → PassesOne new s → MovesUp old new
 one_up old s new m a = record {
   passed = a.term ∷ m.passed;
   above = m.above ∙ ap (λ (z : Terms). z ++ m.passed) a.above ∙ append_assoc new.above (a.term ∷ []) m.passed;
@@ -88,24 +88,24 @@ one_up old s new m a = record {
 }
 
 -- moves keep the terms
-pub terms_up : (old new : Split) → MovesUp old new → terms_of new ≡ terms_of old
+pub terms_up : (old new : Split) → MovesUp old new → joined_terms new ≡ joined_terms old
 terms_up old new m = ap (λ (z : Terms). new.above ++ z) m.below ∙ sym (append_assoc new.above m.passed old.below) ∙ ap (λ (z : Terms). z ++ old.below) (sym m.above)
 
-pub terms_down : (old new : Split) → Advances old new → terms_of new ≡ terms_of old
+pub terms_down : (old new : Split) → PassesOne old new → joined_terms new ≡ joined_terms old
 terms_down old new a = ap (λ (z : Terms). z ++ new.below) a.above ∙ append_assoc old.above (a.term ∷ []) new.below ∙ ap (λ (z : Terms). old.above ++ z) (sym a.below)
 
 -- ---- the first term below the place
 
-pub first_coefficient : (n : ℕ) (s : Split) (t : Term) → IsSound n s → IsFirst s.below t → coefficient (terms_of s) (head_of s.below zero) ≡ t.coef
+pub first_coefficient : (n : ℕ) (s : Split) (t : Term) → IsSound n s → IsFirstTerm s.below t → coefficient (joined_terms s) (head_of s.below zero) ≡ t.coef
 first_coefficient n s t h f =
     subst (λ (z : Terms). coefficient (s.above ++ z) (head_of z zero) ≡ t.coef) (sym f.is)
     (coefficient-midst n s.above t f.rest (subst (λ (z : Terms). HasVariables n (s.above ++ z)) f.is h.variables) (subst (λ (z : Terms). IsDescending (s.above ++ z)) f.is h.descending))
 
-pub first_nonzero : (n : ℕ) (s : Split) (t : Term) → IsSound n s → IsFirst s.below t → t.coef ≢ zero_ℚ
+pub first_nonzero : (n : ℕ) (s : Split) (t : Term) → IsSound n s → IsFirstTerm s.below t → t.coef ≢ zero_ℚ
 first_nonzero n s t h f = (subst IsDescending f.is (descending-back s.above s.below h.descending)).0
 
-pub first_length : (n : ℕ) (s : Split) (t : Term) → IsSound n s → IsFirst s.below t → length t.mono ≡ n
+pub first_length : (n : ℕ) (s : Split) (t : Term) → IsSound n s → IsFirstTerm s.below t → length t.mono ≡ n
 first_length n s t h f = (subst (HasVariables n) f.is (variables-back n s.above s.below h.variables)).0
 
-pub first_head : (f : Terms) (t : Term) → IsFirst f t → t.mono ≡ head_of f zero
+pub first_head : (f : Terms) (t : Term) → IsFirstTerm f t → t.mono ≡ head_of f zero
 first_head f t h = sym (ap (λ (z : Terms). head_of z zero) h.is)

@@ -18,8 +18,8 @@ use Rattle.gf_ideal.proofs.StepLaws.{step-back}
 use Rattle.gf_ideal.proofs.ProductLaws.{poly_product, poly_product-turned, poly_product-equal}
 use Rattle.gf_division.specs.Steps.{IsReductionRefusal}
 use Rattle.gf_division.specs.NormalForms.{HaveSameVariables}
-use Rattle.gf_division.specs.Divisions.{product_of, cofactor_sum, no_quotients, with_quotient, IsDivided, AreForms, AreSums, KeepForms, HaveVariablesOf, IsSumRefusal, IsDivisionRefusal}
-use Rattle.gf_division.specs.Dividends.{Split, terms_of, TakesStep}
+use Rattle.gf_division.specs.Divisions.{product_of, cofactor_sum, no_quotients, with_quotient, IsDivisionByRule, AreForms, AreSums, KeepForms, HaveVariablesOf, IsSumRefusal, IsDivisionRefusal}
+use Rattle.gf_division.specs.Dividends.{Split, joined_terms, TakesStep}
 use Rattle.gf_division.proofs.DividendLaws.{first_head, first_length}
 use Rattle.gf_division.proofs.RuleLaws.{RuleFacts, rule_step}
 use Rattle.gf_division.proofs.NormalFormLaws.{NormalForming, normal_forming-none, normal_forming-more}
@@ -57,28 +57,28 @@ with-variables n (q ∷ qs) (suc k) t h e = (h.0, with-variables n qs k t h.1 e)
 -- what holds after some steps
 pub record Dividing (bs : List MarkedPolynomial) (f : Terms) (s : Split) (qs : List Terms) : Type 0 where
   pub form : NormalForming bs f s
-  pub divided : IsDivided bs f qs (terms_of s)
+  pub divided : IsDivisionByRule bs f qs (joined_terms s)
   pub places : length qs ≡ length bs
   pub variables : HaveVariablesOf f qs
 
 pub dividing-none : (bs : List MarkedPolynomial) (f : Terms) (s : Split) (qs : List Terms) (n : ℕ) → HaveSameVariables f bs → IsDescending f → s ≡ record { above = []; below = f } → n ≡ length bs → qs ≡ replicate n [] → Dividing bs f s qs
 dividing-none bs f s qs n v d e l q = subst (Dividing bs f s) (sym (q ∙ ap (λ (m : ℕ). replicate m []) l ∙ sym (no_quotients-replicate bs))) (record {
   form = normal_forming-none bs f s v d e;
-  divided = subst (IsDivided bs f (no_quotients bs)) (sym (ap terms_of e)) IsDivided.here;
+  divided = subst (IsDivisionByRule bs f (no_quotients bs)) (sym (ap joined_terms e)) IsDivisionByRule.here;
   places = length-no_quotients bs;
   variables = record { at = λ m h. none-variables m bs };
 })
 
-pub dividing-more : (bs : List MarkedPolynomial) (f : Terms) (old s t : Split) (qs rs : List Terms) (j : ℕ) (b : MarkedPolynomial) (q : Term) → terms_of s ≡ terms_of old → RuleFacts bs None s j b → TakesStep b s q t → rs ≡ with_quotient qs j q → Dividing bs f old qs → Dividing bs f t rs
+pub dividing-more : (bs : List MarkedPolynomial) (f : Terms) (old s t : Split) (qs rs : List Terms) (j : ℕ) (b : MarkedPolynomial) (q : Term) → joined_terms s ≡ joined_terms old → RuleFacts bs None s j b → TakesStep b s q t → rs ≡ with_quotient qs j q → Dividing bs f old qs → Dividing bs f t rs
 dividing-more bs f old s t qs rs j b q e k w r h = subst (Dividing bs f t) (sym r) (record {
   form = normal_forming-more bs f old s t j b q e k w h.form;
-  divided = subst (λ (z : Term). IsDivided bs f (with_quotient qs j z) (terms_of t)) quotient (IsDivided.next qs (terms_of s) (terms_of t) (subst (IsDivided bs f qs) (sym e) h.divided) (rule_step bs s t j b q k w));
+  divided = subst (λ (z : Term). IsDivisionByRule bs f (with_quotient qs j z) (joined_terms t)) quotient (IsDivisionByRule.next qs (joined_terms s) (joined_terms t) (subst (IsDivisionByRule bs f qs) (sym e) h.divided) (rule_step bs s t j b q k w));
   places = length-with_quotient qs j q ∙ h.places;
   variables = record { at = λ n v. with-variables n qs j q (h.variables.at n v) (w.variables ∙ k.head ∙ first_length n s k.term (record { descending = k.variables.sound.descending; variables = subst (HasVariables n) (sym e) (h.form.kept.at n v) }) k.is) };
 })
   where
-    quotient : record { coef = coefficient (terms_of s) k.term.mono; mono = q.mono } ≡ q
-    quotient = λ i. record { coef = (ap (coefficient (terms_of s)) (first_head _ k.term k.is) ∙ w.coefficient_is) i; mono = q.mono }
+    quotient : record { coef = coefficient (joined_terms s) k.term.mono; mono = q.mono } ≡ q
+    quotient = λ i. record { coef = (ap (coefficient (joined_terms s)) (first_head _ k.term k.is) ∙ w.coefficient_is) i; mono = q.mono }
 
 -- ---- products
 
@@ -124,14 +124,14 @@ sum-none : (bs : List MarkedPolynomial) (y : Exponents) → coefficient (cofacto
 sum-none [] y = refl
 sum-none (b ∷ bs) y = sum-none bs y
 
-divided-places : (bs : List MarkedPolynomial) (f : Terms) (qs : List Terms) (g : Terms) → IsDivided bs f qs g → length qs ≡ length bs
-divided-places bs f qs g IsDivided.here = length-no_quotients bs
-divided-places bs f qs g (IsDivided.next rs k l d s) = length-with_quotient rs s.place (record { coef = coefficient k s.at; mono = s.rest }) ∙ divided-places bs f rs k d
+divided-places : (bs : List MarkedPolynomial) (f : Terms) (qs : List Terms) (g : Terms) → IsDivisionByRule bs f qs g → length qs ≡ length bs
+divided-places bs f qs g IsDivisionByRule.here = length-no_quotients bs
+divided-places bs f qs g (IsDivisionByRule.next rs k l d s) = length-with_quotient rs s.place (record { coef = coefficient k s.at; mono = s.rest }) ∙ divided-places bs f rs k d
 
 -- f is what is left and the sum of the quotients times the members
-pub divided-sum : (bs : List MarkedPolynomial) (f : Terms) (qs : List Terms) (g : Terms) → IsDivided bs f qs g → SamePolynomial f (g ++ cofactor_sum qs bs)
-divided-sum bs f qs g IsDivided.here y = sym (coefficient-++ f (cofactor_sum (no_quotients bs) bs) y ∙ ap (λ z. coefficient f y +ℚ z) (sum-none bs y) ∙ +ℚ-zero _)
-divided-sum bs f qs g (IsDivided.next rs k l d s) y =
+pub divided-sum : (bs : List MarkedPolynomial) (f : Terms) (qs : List Terms) (g : Terms) → IsDivisionByRule bs f qs g → SamePolynomial f (g ++ cofactor_sum qs bs)
+divided-sum bs f qs g IsDivisionByRule.here y = sym (coefficient-++ f (cofactor_sum (no_quotients bs) bs) y ∙ ap (λ z. coefficient f y +ℚ z) (sum-none bs y) ∙ +ℚ-zero _)
+divided-sum bs f qs g (IsDivisionByRule.next rs k l d s) y =
     let t : Term = record { coef = coefficient k s.at; mono = s.rest } in
     divided-sum bs f rs k d y ∙ coefficient-++ k (cofactor_sum rs bs) y
     ∙ ap (λ z. z +ℚ coefficient (cofactor_sum rs bs) y) (step-back (Contains bs) k g (record { at = s.at; member = s.member; rest = s.rest; contained = (s.place, s.contained.within, s.contained.is); there = s.there; divides = s.divides; equal = s.equal }) y ∙ coefficient-++ g (times t.coef t.mono s.member.poly) y)
@@ -151,7 +151,7 @@ sum-equal (q ∷ qs) (h ∷ hs) (b ∷ bs) a y =
     ∙ ap (λ z. coefficient (product_of h b.poly) y +ℚ z) (sum-equal qs hs bs a.1 y)
     ∙ sym (coefficient-++ (product_of h b.poly) (cofactor_sum hs bs) y)
 
-cofactor_sum_is : (bs : List MarkedPolynomial) (f r : Terms) (qs hs : List Terms) → IsDivided bs f qs r → AreSums qs hs → SamePolynomial f (r ++ cofactor_sum hs bs)
+cofactor_sum_is : (bs : List MarkedPolynomial) (f r : Terms) (qs hs : List Terms) → IsDivisionByRule bs f qs r → AreSums qs hs → SamePolynomial f (r ++ cofactor_sum hs bs)
 cofactor_sum_is bs f r qs hs d a y =
     divided-sum bs f qs r d y ∙ coefficient-++ r (cofactor_sum qs bs) y ∙ ap (λ z. coefficient r y +ℚ z) (sum-equal qs hs bs a y)
     ∙ sym (coefficient-++ r (cofactor_sum hs bs) y)
@@ -169,7 +169,7 @@ division_refused bs f (errors.Overflow o) h = (inl h.0, h.1)
 division_refused bs f (errors.Exponent o) h = h
 division_refused bs f errors.Memory h = tt
 
-sum_division_refused : (bs : List MarkedPolynomial) (f r : Terms) (qs : List Terms) (e : PolyError) → IsDivided bs f qs r → IsSumRefusal qs e → IsDivisionRefusal bs f e
+sum_division_refused : (bs : List MarkedPolynomial) (f r : Terms) (qs : List Terms) (e : PolyError) → IsDivisionByRule bs f qs r → IsSumRefusal qs e → IsDivisionRefusal bs f e
 sum_division_refused bs f r qs (errors.Overflow o) d h =
     let k = h.2 in (
       inr (record {
@@ -195,19 +195,19 @@ sum_division_refused bs f r qs errors.Memory d h = tt
 
 -- ---- the members of a set
 
-divided_along : (bs cs : List MarkedPolynomial) (f g r : Terms) (qs : List Terms) → cs ≡ bs → g ≡ f → IsDivided cs g qs r → IsDivided bs f qs r
-divided_along bs cs f g r qs e q d = subst (λ (h : Terms). IsDivided bs h qs r) q (subst (λ (ds : List MarkedPolynomial). IsDivided ds g qs r) e d)
+divided_along : (bs cs : List MarkedPolynomial) (f g r : Terms) (qs : List Terms) → cs ≡ bs → g ≡ f → IsDivisionByRule cs g qs r → IsDivisionByRule bs f qs r
+divided_along bs cs f g r qs e q d = subst (λ (h : Terms). IsDivisionByRule bs h qs r) q (subst (λ (ds : List MarkedPolynomial). IsDivisionByRule ds g qs r) e d)
 
-pub sum_at : (bs cs : List MarkedPolynomial) (f g r : Terms) (qs hs ks : List Terms) → cs ≡ bs → g ≡ f → ks ≡ hs → IsDivided cs g qs r → AreSums qs hs → SamePolynomial f (r ++ cofactor_sum ks bs)
+pub sum_at : (bs cs : List MarkedPolynomial) (f g r : Terms) (qs hs ks : List Terms) → cs ≡ bs → g ≡ f → ks ≡ hs → IsDivisionByRule cs g qs r → AreSums qs hs → SamePolynomial f (r ++ cofactor_sum ks bs)
 sum_at bs cs f g r qs hs ks e q l d a = cofactor_sum_is bs f r qs ks (divided_along bs cs f g r qs e q d) (subst (AreSums qs) (sym l) a)
 
-pub sums_refused : (bs cs : List MarkedPolynomial) (f g r : Terms) (qs : List Terms) (x : PolyError) → cs ≡ bs → g ≡ f → IsDivided cs g qs r → IsSumRefusal qs x → IsDivisionRefusal bs f x
+pub sums_refused : (bs cs : List MarkedPolynomial) (f g r : Terms) (qs : List Terms) (x : PolyError) → cs ≡ bs → g ≡ f → IsDivisionByRule cs g qs r → IsSumRefusal qs x → IsDivisionRefusal bs f x
 sums_refused bs cs f g r qs x e q d h = sum_division_refused bs f r qs x (divided_along bs cs f g r qs e q d) h
 
 pub variables_at : (n : ℕ) (f g r : Terms) → g ≡ f → HasVariables n f → KeepsVariables g r → HasVariables n r
 variables_at n f g r q v k = k.at n (subst (HasVariables n) (sym q) v)
 
-pub places_at : (bs cs : List MarkedPolynomial) (f g r : Terms) (qs hs ks : List Terms) → cs ≡ bs → g ≡ f → ks ≡ hs → IsDivided cs g qs r → AreSums qs hs → length ks ≡ length bs
+pub places_at : (bs cs : List MarkedPolynomial) (f g r : Terms) (qs hs ks : List Terms) → cs ≡ bs → g ≡ f → ks ≡ hs → IsDivisionByRule cs g qs r → AreSums qs hs → length ks ≡ length bs
 places_at bs cs f g r qs hs ks e q l d a = ap length l ∙ sums-length qs hs a ∙ divided-places cs g qs r d ∙ ap length e
 
 pub forms_at : (n : ℕ) (f g : Terms) (qs hs ks : List Terms) → g ≡ f → ks ≡ hs → HasVariables n f → HaveVariablesOf g qs → KeepForms qs hs → AreForms n ks

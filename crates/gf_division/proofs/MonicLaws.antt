@@ -63,7 +63,7 @@ refused f (errors.Overflow o) v m n h = at h.cause
       },
       k.leaves,
     )
-refused f (errors.Exponent o) v m n h = h.cause
+refused f (errors.Exponent o) v m n h = absurd h.cause
 refused f errors.Memory v m n h = tt
 
 -- the same of results

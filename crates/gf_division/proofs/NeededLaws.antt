@@ -19,7 +19,7 @@ use Rattle.gf_ideal.specs.Settled.{IsAt}
 use Rattle.gf_ideal.specs.Bases.{AreApart}
 use Rattle.gf_ideal.proofs.ListLaws.{each_contained, contained_each, Contains-here, Contains-there}
 use Rattle.gf_division.specs.MonicForms.{IsMadeMonic, IsMonicRefusal}
-use Rattle.gf_division.specs.Autoreduction.{IsNeeded, IsNeededForm, AreNeededForms, MakesNeedless, IsNeededAt, KeepVariables, IsMemberRefusal}
+use Rattle.gf_division.specs.Autoreduction.{IsNeeded, IsNeededForm, AreNeededForms, MakesNeedless, IsNeededAt, KeepVariables, IsNeededRefusal}
 use Rattle.gf_division.proofs.ReducerLaws.{members_equal, member_contained, member_variables}
 
 -- ---- divisors
@@ -276,6 +276,10 @@ needed_apart bs i j b c m n l = (
   not_divides b.head c.head (λ d. absurd (omega (arith, (m.least j c n.at (divides_same c.head b.head (same_flip b.head c.head (n.least i b m.at d).0))).1))),
 )
 
+-- the member at the place i, where that is needed
+needed_here : (bs : List MarkedPolynomial) (i : ℕ) (b : MarkedPolynomial) → IsAt bs i b → IsNeededAt bs i → IsNeeded bs i b
+needed_here bs i b a m = subst (IsNeeded bs i) (members_equal bs i m.0 b m.1.at a) m.1
+
 -- the form of the needed member at i
 pub forming-more : (bs : List MarkedPolynomial) (i : ℕ) (ks ls : List MarkedPolynomial) (b k : MarkedPolynomial) → IsAt bs i b → IsNeededAt bs i → IsMadeMonic b k → KeepsVariables b.poly k.poly → ls ≡ ks ++ k ∷ [] → Forming bs i ks → Forming bs (i + 1) ls
 forming-more bs i ks ls b k a m f v e h = subst (Forming bs (i + 1)) (sym e) (record {
@@ -286,7 +290,7 @@ forming-more bs i ks ls b k a m f v e h = subst (Forming bs (i + 1)) (sym e) (re
 })
   where
     here : IsNeeded bs i b
-    here = subst (IsNeeded bs i) (members_equal bs i m.0 b m.1.at a) m.1
+    here = needed_here bs i b a m
 
     within : (c : MarkedPolynomial) → Contains ks c ⊎ (k ≡ c) → IsFormBefore bs (i + 1) c
     within c (inl l) = form_later bs i c (h.inside c l)
@@ -331,8 +335,8 @@ needed_divisible bs ks h b c =
 
 -- ---- refusals
 
--- one member isn't made monic
-pub member_refused : (bs : List MarkedPolynomial) (b : MarkedPolynomial) (e : PolyError) → Contains bs b → IsMonicRefusal b e → IsMemberRefusal bs e
-member_refused bs b (errors.Overflow o) c h = (record { member = b; contained = c; operation = h.0 }, h.1)
-member_refused bs b (errors.Exponent o) c h = h
-member_refused bs b errors.Memory c h = tt
+-- the member at the place i is needed, and isn't made monic
+pub needed_refused : (bs : List MarkedPolynomial) (i : ℕ) (b : MarkedPolynomial) (e : PolyError) → IsAt bs i b → IsNeededAt bs i → IsMonicRefusal b e → IsNeededRefusal bs e
+needed_refused bs i b (errors.Overflow o) a m h = (record { place = i; member = b; needed = needed_here bs i b a m; operation = h.0 }, h.1)
+needed_refused bs i b (errors.Exponent o) a m h = h
+needed_refused bs i b errors.Memory a m h = tt

@@ -19,17 +19,17 @@ use Rattle.gf_poly.proofs.CoefficientLaws.{coefficient-above}
 use Rattle.gf_ideal.specs.Membership.{HasMonomial}
 use Rattle.gf_ideal.proofs.StepLaws.{step-gone}
 use Rattle.gf_division.specs.Steps.{StepsTo, IsStepRefusal}
-use Rattle.gf_division.specs.Dividends.{Split, terms_of, IsSound, IsFirst, DividesFirst, AreOver, FirstIs, Descends, SharesVariables, TakesStep}
+use Rattle.gf_division.specs.Dividends.{Split, joined_terms, IsSound, IsFirstTerm, DividesFirst, AreOver, FirstIs, Descends, SharesVariables, TakesStep}
 use Rattle.gf_division.proofs.DescendingParts.{descending-back, variables-front, variables-back}
 use Rattle.gf_division.proofs.SubtractionLaws.{coefficient-over}
 use Rattle.gf_division.proofs.DividendLaws.{first_head}
 
 -- the first term below the place is that of f at x
 pub record IsPlaced (f : Terms) (x : Exponents) (s : Split) : Type 0 where
-  pub same : terms_of s ≡ f
+  pub same : joined_terms s ≡ f
   pub sound : IsSound (length x) s
   pub term : Term
-  pub is : IsFirst s.below term
+  pub is : IsFirstTerm s.below term
   pub at : term.mono ≡ x
 
 -- nothing at x, where the terms before are over it and the others below
@@ -42,7 +42,7 @@ nothing n x f g v l o a =
 pub placed : (f g : Terms) (x : Exponents) (old s : Split) (o : Ordering) → g ≡ f → old ≡ record { above = []; below = g } → IsDescending g → HasVariables (length x) f → HasMonomial f x → Descends x old s o → IsPlaced f x s
 placed f g x old s o e q d v m w = at s.below refl w.first
   where
-    whole : terms_of s ≡ f
+    whole : joined_terms s ≡ f
     whole = ap (λ (z : Terms). z ++ s.below) (w.above ∙ ap (λ (z : Split). z.above ++ w.passed) q) ∙ sym w.below ∙ ap (λ (z : Split). z.below) q ∙ e
 
     front : s.above ≡ w.passed
@@ -73,9 +73,9 @@ placed_divides f x s h k d = record { term = k.term; first = k.is; divides = sub
 head_at : (f : Terms) (x : Exponents) (s : Split) → IsPlaced f x s → head_of s.below zero ≡ x
 head_at f x s k = sym (first_head s.below k.term k.is) ∙ k.at
 
-pub placed_step : (f : Terms) (x : Exponents) (s t : Split) (b : MarkedPolynomial) (q : Term) (g : Terms) → IsPlaced f x s → TakesStep b s q t → g ≡ terms_of t → StepsTo f b x g
+pub placed_step : (f : Terms) (x : Exponents) (s t : Split) (b : MarkedPolynomial) (q : Term) (g : Terms) → IsPlaced f x s → TakesStep b s q t → g ≡ joined_terms t → StepsTo f b x g
 placed_step f x s t b q g k w e =
-    let c : coefficient f x ≡ q.coef = ap (λ (z : Terms). coefficient z x) (sym k.same) ∙ ap (coefficient (terms_of s)) (sym (head_at f x s k)) ∙ w.coefficient_is in
+    let c : coefficient f x ≡ q.coef = ap (λ (z : Terms). coefficient z x) (sym k.same) ∙ ap (coefficient (joined_terms s)) (sym (head_at f x s k)) ∙ w.coefficient_is in
     record {
       rest = q.mono;
       divides = same_of x (plus q.mono b.head) (sym (w.product ∙ head_at f x s k));
@@ -90,11 +90,11 @@ placed_step f x s t b q g k w e =
 pub placed_gone : (f g : Terms) (x : Exponents) (b : MarkedPolynomial) → coefficient b.poly b.head ≡ one_ℚ → StepsTo f b x g → coefficient g x ≡ zero_ℚ
 placed_gone f g x b one w = step-gone (λ (c : MarkedPolynomial). c ≡ b) f g (record { at = x; member = b; rest = w.rest; contained = refl; there = w.there; divides = w.divides; equal = w.equal }) one
 
-pub placed_variables : (f : Terms) (x : Exponents) (s t : Split) (b : MarkedPolynomial) (q : Term) (g : Terms) → IsPlaced f x s → TakesStep b s q t → g ≡ terms_of t → HasVariables (length x) g
+pub placed_variables : (f : Terms) (x : Exponents) (s t : Split) (b : MarkedPolynomial) (q : Term) (g : Terms) → IsPlaced f x s → TakesStep b s q t → g ≡ joined_terms t → HasVariables (length x) g
 placed_variables f x s t b q g k w e = subst (HasVariables (length x)) (sym e) (w.sound (length x) k.sound).variables
 
-pub placed_descends : (f : Terms) (x : Exponents) (s t : Split) (b : MarkedPolynomial) (q : Term) → IsPlaced f x s → TakesStep b s q t → IsDescending (terms_of t)
+pub placed_descends : (f : Terms) (x : Exponents) (s t : Split) (b : MarkedPolynomial) (q : Term) → IsPlaced f x s → TakesStep b s q t → IsDescending (joined_terms t)
 placed_descends f x s t b q k w = (w.sound (length x) k.sound).descending
 
-pub placed_refused : (f : Terms) (x : Exponents) (s : Split) (b : MarkedPolynomial) (e : PolyError) → IsPlaced f x s → IsStepRefusal (terms_of s) b (head_of s.below zero) e → IsStepRefusal f b x e
+pub placed_refused : (f : Terms) (x : Exponents) (s : Split) (b : MarkedPolynomial) (e : PolyError) → IsPlaced f x s → IsStepRefusal (joined_terms s) b (head_of s.below zero) e → IsStepRefusal f b x e
 placed_refused f x s b e k r = subst (λ (y : Exponents). IsStepRefusal f b y e) (head_at f x s k) (subst (λ (z : Terms). IsStepRefusal z b (head_of s.below zero) e) k.same r)

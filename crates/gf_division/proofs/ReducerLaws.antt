@@ -21,8 +21,8 @@ use Rattle.gf_poly.proofs.CoefficientLaws.{apart}
 use Rattle.gf_ideal.specs.Reduction.{IsDivisible}
 use Rattle.gf_ideal.specs.Settled.{IsAt}
 use Rattle.gf_ideal.proofs.ListLaws.{Each-++, contained_each}
-use Rattle.gf_division.specs.Dividends.{Split, terms_of, IsFirst, Advances}
-use Rattle.gf_division.specs.Reducers.{IsDivisorAt, IsBeside, HasLength, AreIrreducible, ShareVariables}
+use Rattle.gf_division.specs.Dividends.{Split, joined_terms, IsFirstTerm, PassesOne}
+use Rattle.gf_division.specs.Reducers.{IsDivisorAt, IsBeside, IsSpareIn, AreIrreducible, ShareVariables}
 use Rattle.gf_division.proofs.DividendLaws.{terms_down, first_length}
 use Rattle.gf_division.proofs.StepLaws.{head_length}
 
@@ -76,9 +76,9 @@ divides-degree h x d = omega (arith, degree-same x (plus d.rest h) d.product, de
 
 -- ---- the spared monomial, by a test of lists
 
-pub beside_by_test : (spared : Option Exponents) (x y a b : Exponents) (r : Bool) → spared ≡ Some y → HasLength (length x) spared → a ≡ y → b ≡ x → r ≡ not (pointwise eqb a b) → IsTrue r → IsBeside spared x
+pub beside_by_test : (spared : Option Exponents) (x y a b : Exponents) (r : Bool) → spared ≡ Some y → IsSpareIn (length x) spared → a ≡ y → b ≡ x → r ≡ not (pointwise eqb a b) → IsTrue r → IsBeside spared x
 beside_by_test spared x y a b r e l ea eb er t =
-    let m : length y ≡ length x = subst (HasLength (length x)) e l in
+    let m : length y ≡ length x = subst (IsSpareIn (length x)) e l in
     subst (λ z. IsBeside z x) (sym e) (apart x y (sym m) (λ q. differ (sym er ∙ t) (slice_eq-Decides Decides-eqb a b (pointwise eqb a b) refl) (ea ∙ sym q ∙ sym eb)))
   where
     differ : not (pointwise eqb a b) ≡ true → Decides (pointwise eqb a b) (a ≡ b) → a ≡ b → ⊥
@@ -98,16 +98,16 @@ not_beside_by_test spared x y a b r e ea eb er f h = differ (here (pointwise eqb
 
 -- old became new as irreducible terms went above the place
 pub record Seeking (bs : List MarkedPolynomial) (spared : Option Exponents) (old new : Split) : Type 0 where
-  pub same : terms_of new ≡ terms_of old
+  pub same : joined_terms new ≡ joined_terms old
   pub variables : ShareVariables new bs spared
   pub above : AreIrreducible bs spared new.above
 
 pub seeking-none : (bs : List MarkedPolynomial) (spared : Option Exponents) (s : Split) → ShareVariables s bs spared → AreIrreducible bs spared s.above → Seeking bs spared s s
 seeking-none bs spared s v a = record { same = refl; variables = v; above = a }
 
-pub seeking-more : (bs : List MarkedPolynomial) (spared : Option Exponents) (old now new : Split) (t : Term) → IsFirst now.below t → (IsBeside spared t.mono → IsDivisible (Contains bs) t.mono → ⊥) → Advances now new → Seeking bs spared old now → Seeking bs spared old new
+pub seeking-more : (bs : List MarkedPolynomial) (spared : Option Exponents) (old now new : Split) (t : Term) → IsFirstTerm now.below t → (IsBeside spared t.mono → IsDivisible (Contains bs) t.mono → ⊥) → PassesOne now new → Seeking bs spared old now → Seeking bs spared old new
 seeking-more bs spared old now new t f n a k =
-    let e : terms_of new ≡ terms_of now = terms_down now new a in
+    let e : joined_terms new ≡ joined_terms now = terms_down now new a in
     let q : t ≡ a.term = first_equal (sym f.is ∙ a.below) in
     record {
       same = e ∙ k.same;
@@ -124,8 +124,8 @@ seeking-more bs spared old now new t f n a k =
     first_equal e = cc
 
 -- the first term below the place has the variables of the members and of the spared monomial
-pub first_members : (s : Split) (bs : List MarkedPolynomial) (spared : Option Exponents) (t : Term) → ShareVariables s bs spared → IsFirst s.below t → HaveVariables (length t.mono) bs
+pub first_members : (s : Split) (bs : List MarkedPolynomial) (spared : Option Exponents) (t : Term) → ShareVariables s bs spared → IsFirstTerm s.below t → HaveVariables (length t.mono) bs
 first_members s bs spared t v f = subst (λ (n : ℕ). HaveVariables n bs) (sym (first_length v.n s t v.sound f)) v.members
 
-pub first_spare : (s : Split) (bs : List MarkedPolynomial) (spared : Option Exponents) (t : Term) → ShareVariables s bs spared → IsFirst s.below t → HasLength (length t.mono) spared
-first_spare s bs spared t v f = subst (λ (n : ℕ). HasLength n spared) (sym (first_length v.n s t v.sound f)) v.spare
+pub first_spare : (s : Split) (bs : List MarkedPolynomial) (spared : Option Exponents) (t : Term) → ShareVariables s bs spared → IsFirstTerm s.below t → IsSpareIn (length t.mono) spared
+first_spare s bs spared t v f = subst (λ (n : ℕ). IsSpareIn n spared) (sym (first_length v.n s t v.sound f)) v.spare

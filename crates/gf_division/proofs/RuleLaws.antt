@@ -33,7 +33,7 @@ use Rattle.gf_ideal.proofs.ListLaws.{Each-++}
 use Rattle.gf_ideal.proofs.ListedTerms.{listed, box_of_monomial}
 use Rattle.gf_ideal.proofs.MeasureLaws.{work_left-at}
 use Rattle.gf_division.specs.Steps.{IsStepRefusal, IsReductionRefusal}
-use Rattle.gf_division.specs.Dividends.{Split, terms_of, IsSound, IsFirst, SharesVariables, TakesStep}
+use Rattle.gf_division.specs.Dividends.{Split, joined_terms, IsSound, IsFirstTerm, SharesVariables, TakesStep}
 use Rattle.gf_division.specs.Reducers.{IsBeside, AreIrreducible, ShareVariables, IsReducibleFirst}
 use Rattle.gf_division.proofs.DescendingParts.{descending-back, variables-back}
 use Rattle.gf_division.proofs.DividendLaws.{first_head, first_length}
@@ -41,16 +41,16 @@ use Rattle.gf_division.proofs.ReducerLaws.{members_equal, member_contained}
 
 -- ---- after a search
 
-sound_same : (n : ℕ) (s t : Split) → terms_of t ≡ terms_of s → IsSound n s → IsSound n t
+sound_same : (n : ℕ) (s t : Split) → joined_terms t ≡ joined_terms s → IsSound n s → IsSound n t
 sound_same n s t e h = record { descending = subst IsDescending (sym e) h.descending; variables = subst (HasVariables n) (sym e) h.variables }
 
-pub share_along : (s t : Split) (bs : List MarkedPolynomial) (spared : Option Exponents) → terms_of t ≡ terms_of s → ShareVariables s bs spared → ShareVariables t bs spared
+pub share_along : (s t : Split) (bs : List MarkedPolynomial) (spared : Option Exponents) → joined_terms t ≡ joined_terms s → ShareVariables s bs spared → ShareVariables t bs spared
 share_along s t bs spared e v = record { n = v.n; sound = sound_same v.n s t e v.sound; members = v.members; spare = v.spare }
 
 -- what the search has found: the step at x by the member b at the place j
 pub record RuleFacts (bs : List MarkedPolynomial) (spared : Option Exponents) (s : Split) (j : ℕ) (b : MarkedPolynomial) : Type 0 where
   pub term : Term
-  pub is : IsFirst s.below term
+  pub is : IsFirstTerm s.below term
   pub at : IsAt bs j b
   pub divides : Divides b.head term.mono
   pub first : (i : ℕ) (c : MarkedPolynomial) → i < j → IsAt bs i c → Divides c.head term.mono → ⊥
@@ -61,7 +61,7 @@ pub record RuleFacts (bs : List MarkedPolynomial) (spared : Option Exponents) (s
   pub variables : ShareVariables s bs spared
   pub above : AreIrreducible bs spared s.above
 
-pub rule_facts : (bs : List MarkedPolynomial) (spared : Option Exponents) (old s : Split) (j : ℕ) (b : MarkedPolynomial) → b ≡ get_or bs j b → ShareVariables old bs spared → terms_of s ≡ terms_of old → AreIrreducible bs spared s.above → IsReducibleFirst bs spared s j → RuleFacts bs spared s j b
+pub rule_facts : (bs : List MarkedPolynomial) (spared : Option Exponents) (old s : Split) (j : ℕ) (b : MarkedPolynomial) → b ≡ get_or bs j b → ShareVariables old bs spared → joined_terms s ≡ joined_terms old → AreIrreducible bs spared s.above → IsReducibleFirst bs spared s j → RuleFacts bs spared s j b
 rule_facts bs spared old s j b e v t a r =
     let d = r.divisor in
     let q : IsAt bs j b = record { within = d.at.within; is = sym e } in
@@ -108,8 +108,8 @@ no_multiple h x n rest = at (same x (plus h rest)) refl
     at true e = absurd (n (record { rest = rest; product = ap (same x) (plus_comm rest h) ∙ e }))
 
 -- where a listed term can be divided, it is that at x or one below it
-pub greatest_divisible : (bs : List MarkedPolynomial) (s : Split) (n : ℕ) (t : Term) → IsSound n s → IsFirst s.below t → AreIrreducible bs None s.above → (x : Exponents) → HasMonomial (terms_of s) x → IsDivisible (Contains bs) x → (same x t.mono ≡ true) ⊎ IsDeglexBelow x t.mono
-greatest_divisible bs s n t h f a x m d = onto (listed Q (terms_of s) x (Each-++ Q s.above s.below (above s.above a) below) m)
+pub greatest_divisible : (bs : List MarkedPolynomial) (s : Split) (n : ℕ) (t : Term) → IsSound n s → IsFirstTerm s.below t → AreIrreducible bs None s.above → (x : Exponents) → HasMonomial (joined_terms s) x → IsDivisible (Contains bs) x → (same x t.mono ≡ true) ⊎ IsDeglexBelow x t.mono
+greatest_divisible bs s n t h f a x m d = onto (listed Q (joined_terms s) x (Each-++ Q s.above s.below (above s.above a) below) m)
   where
     Q : Term → Type 0
     Q r = IsDivisible (Contains bs) r.mono → (same r.mono t.mono ≡ true) ⊎ IsDeglexBelow r.mono t.mono
@@ -133,7 +133,7 @@ greatest_divisible bs s n t h f a x m d = onto (listed Q (terms_of s) x (Each-++
         along (inr l) = inr (deglex-order.strict.along_left r.0.mono x t.mono (same_flip x r.0.mono r.2) l)
 
 -- the step that was taken, as one by the list
-abbrev pub step_by : (bs : List MarkedPolynomial) (spared : Option Exponents) (s t : Split) (j : ℕ) (b : MarkedPolynomial) (q : Term) → RuleFacts bs spared s j b → TakesStep b s q t → IsStep (Contains bs) (terms_of s) (terms_of t)
+abbrev pub step_by : (bs : List MarkedPolynomial) (spared : Option Exponents) (s t : Split) (j : ℕ) (b : MarkedPolynomial) (q : Term) → RuleFacts bs spared s j b → TakesStep b s q t → IsStep (Contains bs) (joined_terms s) (joined_terms t)
 step_by bs spared s t j b q k w =
     let e = first_head s.below k.term k.is in
     record {
@@ -141,12 +141,12 @@ step_by bs spared s t j b q k w =
       member = b;
       rest = q.mono;
       contained = member_contained bs j b k.at;
-      there = λ z. w.there (sym w.coefficient_is ∙ ap (coefficient (terms_of s)) (sym e) ∙ z);
+      there = λ z. w.there (sym w.coefficient_is ∙ ap (coefficient (joined_terms s)) (sym e) ∙ z);
       divides = same_of k.term.mono (plus q.mono b.head) (e ∙ sym w.product);
-      equal = λ y. w.same y ∙ ap (λ c. coefficient (terms_of s ++ times (neg_ℚ c) q.mono b.poly) y) (sym (ap (coefficient (terms_of s)) e ∙ w.coefficient_is));
+      equal = λ y. w.same y ∙ ap (λ c. coefficient (joined_terms s ++ times (neg_ℚ c) q.mono b.poly) y) (sym (ap (coefficient (joined_terms s)) e ∙ w.coefficient_is));
     }
 
-abbrev pub rule_step : (bs : List MarkedPolynomial) (s t : Split) (j : ℕ) (b : MarkedPolynomial) (q : Term) → RuleFacts bs None s j b → TakesStep b s q t → IsRuleStep bs (terms_of s) (terms_of t)
+abbrev pub rule_step : (bs : List MarkedPolynomial) (s t : Split) (j : ℕ) (b : MarkedPolynomial) (q : Term) → RuleFacts bs None s j b → TakesStep b s q t → IsRuleStep bs (joined_terms s) (joined_terms t)
 rule_step bs s t j b q k w =
     let p = step_by bs None s t j b q k w in
     record {
@@ -180,7 +180,7 @@ share_step bs spared s t j b q k w = record {
   spare = k.variables.spare;
 }
 
-pub keeps_step : (bs : List MarkedPolynomial) (spared : Option Exponents) (f : Terms) (s t : Split) (j : ℕ) (b : MarkedPolynomial) (q : Term) → RuleFacts bs spared s j b → TakesStep b s q t → KeepsVariables f (terms_of s) → KeepsVariables f (terms_of t)
+pub keeps_step : (bs : List MarkedPolynomial) (spared : Option Exponents) (f : Terms) (s t : Split) (j : ℕ) (b : MarkedPolynomial) (q : Term) → RuleFacts bs spared s j b → TakesStep b s q t → KeepsVariables f (joined_terms s) → KeepsVariables f (joined_terms t)
 keeps_step bs spared f s t j b q k w v = record {
   at = λ n h. (w.sound n (record { descending = k.variables.sound.descending; variables = v.at n h })).variables;
 }
@@ -196,13 +196,13 @@ irreducible_whole bs f a x m d = onto (listed (λ (t : Term). Unit {0} → IsDiv
     onto r = r.1 tt (divisible_along (Contains bs) x r.0.mono r.2 d)
 
 -- nothing is below the place
-pub all_above : (s : Split) → s.below ≡ [] → terms_of s ≡ s.above
+pub all_above : (s : Split) → s.below ≡ [] → joined_terms s ≡ s.above
 all_above s e = ap (λ (z : Terms). s.above ++ z) e ∙ append-nil s.above
 
 -- ---- less work
 
-pub less_work : (bs : List MarkedPolynomial) (spared : Option Exponents) (w : List ℕ) (s t : Split) (j : ℕ) (b : MarkedPolynomial) (q : Term) → AreMarked (lighter w) bs → RuleFacts bs spared s j b → TakesStep b s q t → work_left (2 ^ 31) ROOM bs (terms_of t) < work_left (2 ^ 31) ROOM bs (terms_of s)
-less_work bs spared w s t j b q m k h = work_left-at (2 ^ 31) ROOM w bs (terms_of s) (terms_of t) m (step_by bs spared s t j b q k h) (box_of_monomial k.term.mono k.monomial)
+pub less_work : (bs : List MarkedPolynomial) (spared : Option Exponents) (w : List ℕ) (s t : Split) (j : ℕ) (b : MarkedPolynomial) (q : Term) → AreMarked (lighter w) bs → RuleFacts bs spared s j b → TakesStep b s q t → work_left (2 ^ 31) ROOM bs (joined_terms t) < work_left (2 ^ 31) ROOM bs (joined_terms s)
+less_work bs spared w s t j b q m k h = work_left-at (2 ^ 31) ROOM w bs (joined_terms s) (joined_terms t) m (step_by bs spared s t j b q k h) (box_of_monomial k.term.mono k.monomial)
 
 -- ---- refusals
 

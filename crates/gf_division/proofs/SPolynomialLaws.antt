@@ -23,8 +23,8 @@ use Rattle.gf_poly.proofs.ProductLaws.{IsDescending-products, HasVariables-produ
 use Rattle.gf_ideal.specs.Reduction.{IsSPolynomial}
 use Rattle.gf_ideal.specs.Operands.{IsShiftOperation, IsSPolynomialExponents}
 use Rattle.gf_division.specs.MonicForms.{IsMonicRefusal}
-use Rattle.gf_division.specs.SPolynomials.{ArePairOf, SharePairVariables, KeepsPairVariables, AreMadeMonic, IsSPolynomialOf, IsMonicPairRefusal, IsPairRefusal, AreCofactors, IsRaised, IsRaisingRefusal}
-use Rattle.gf_division.specs.Dividends.{Split, terms_of, IsSound, AreOverProducts, Subtracts, IsSubtractionRefusal}
+use Rattle.gf_division.specs.SPolynomials.{ArePairOf, SharePairVariables, KeepsPairVariables, AreMadeMonic, IsSPolynomialOf, IsMonicPairRefusal, IsPairRefusal, AreLcmCofactors, IsRaised, IsRaisingRefusal}
+use Rattle.gf_division.specs.Dividends.{Split, joined_terms, IsSound, AreOverProducts, Subtracts, IsSubtractionRefusal}
 use Rattle.gf_division.proofs.StepLaws.{term_coefficient, term_there, head_length}
 
 -- ---- a polynomial times a monomial
@@ -56,7 +56,7 @@ raised_refused u f g i t o e l q v d h =
 pub record PairFacts (b c : MarkedPolynomial) (u v : Exponents) : Type 0 where
   pub n : ℕ
   pub are : ArePairOf n b c
-  pub cofactors : AreCofactors b.head c.head u v
+  pub cofactors : AreLcmCofactors b.head c.head u v
   pub left : length u ≡ n
   pub right : length v ≡ n
 
@@ -72,18 +72,18 @@ divides_right x y m e = subst (Divides y) (sym e) (record { rest = minus (join x
 pub join_length : (x y m : Exponents) → length x ≡ length y → m ≡ join x y → length m ≡ length x
 join_length x y m l e = ap length e ∙ length-join x y l
 
-pub cofactors_of : (x y m u v : Exponents) → length x ≡ length y → m ≡ join x y → u ≡ minus m x → v ≡ minus m y → plus u x ≡ m → plus v y ≡ m → AreCofactors x y u v
+pub cofactors_of : (x y m u v : Exponents) → length x ≡ length y → m ≡ join x y → u ≡ minus m x → v ≡ minus m y → plus u x ≡ m → plus v y ≡ m → AreLcmCofactors x y u v
 cofactors_of x y m u v l em eu ev pu pv =
     let j : length m ≡ length x = join_length x y m l em in
     record { left = pu ∙ em; right = pv ∙ em; length_left = ap length eu ∙ length-minus m x j ∙ j; length_right = ap length ev ∙ length-minus m y (j ∙ l) ∙ j }
 
-pub pair_facts : (b c : MarkedPolynomial) (x y u v : Exponents) → SharePairVariables b c → HasMarkedTerm b → x ≡ b.head → y ≡ c.head → AreCofactors x y u v → PairFacts b c u v
+pub pair_facts : (b c : MarkedPolynomial) (x y u v : Exponents) → SharePairVariables b c → IsMarked b → x ≡ b.head → y ≡ c.head → AreLcmCofactors x y u v → PairFacts b c u v
 pair_facts b c x y u v p h ex ey w =
     let n : length x ≡ p.n = ap length ex ∙ head_length p.n b p.are.left h in
     record {
       n = p.n;
       are = p.are;
-      cofactors = subst (λ (z : Exponents). AreCofactors z c.head u v) ex (subst (λ (z : Exponents). AreCofactors x z u v) ey w);
+      cofactors = subst (λ (z : Exponents). AreLcmCofactors z c.head u v) ex (subst (λ (z : Exponents). AreLcmCofactors x z u v) ey w);
       left = w.length_left ∙ n;
       right = w.length_right ∙ n;
     }
@@ -109,7 +109,7 @@ over_start u g h f s e q = subst (AreOverProducts u g) (sym (q ∙ ap (λ (z : S
 
 -- ---- the S-polynomial of monic ones
 
-pub s_value : (b c : MarkedPolynomial) (u v : Exponents) (f g h r : Terms) (s t : Split) → f ≡ b.poly → g ≡ c.poly → PairFacts b c u v → IsRaised u f h → s ≡ record { above = []; below = h } → Subtracts one_ℚ v g s t → r ≡ terms_of t → IsSPolynomial b c r
+pub s_value : (b c : MarkedPolynomial) (u v : Exponents) (f g h r : Terms) (s t : Split) → f ≡ b.poly → g ≡ c.poly → PairFacts b c u v → IsRaised u f h → s ≡ record { above = []; below = h } → Subtracts one_ℚ v g s t → r ≡ joined_terms t → IsSPolynomial b c r
 s_value b c u v f g h r s t ef eg k w q d e = record {
   left = u;
   right = v;
@@ -117,16 +117,16 @@ s_value b c u v f g h r s t ef eg k w q d e = record {
   of_right = same_of (plus v c.head) (join b.head c.head) k.cofactors.right;
   equal = λ y.
       ap (λ (z : Terms). coefficient z y) e ∙ d.same y
-      ∙ ap (λ (z : Terms). coefficient (z ++ times (neg_ℚ one_ℚ) v g) y) (ap terms_of q ∙ w.value ∙ ap (times one_ℚ u) ef)
+      ∙ ap (λ (z : Terms). coefficient (z ++ times (neg_ℚ one_ℚ) v g) y) (ap joined_terms q ∙ w.value ∙ ap (times one_ℚ u) ef)
       ∙ ap (λ (z : Terms). coefficient (times one_ℚ u b.poly ++ times (neg_ℚ one_ℚ) v z) y) eg;
 }
 
-pub s_descends : (v : Exponents) (g r : Terms) (s t : Split) → Subtracts one_ℚ v g s t → IsDescending (terms_of t)
+pub s_descends : (v : Exponents) (g r : Terms) (s t : Split) → Subtracts one_ℚ v g s t → IsDescending (joined_terms t)
 s_descends v g r s t d = d.sound.descending
 
-pub s_variables : (b c : MarkedPolynomial) (u v : Exponents) (g r : Terms) (s t : Split) → PairFacts b c u v → HasMarkedTerm b → Subtracts one_ℚ v g s t → r ≡ terms_of t → KeepsPairVariables b c r
+pub s_variables : (b c : MarkedPolynomial) (u v : Exponents) (g r : Terms) (s t : Split) → PairFacts b c u v → IsMarked b → Subtracts one_ℚ v g s t → r ≡ joined_terms t → KeepsPairVariables b c r
 s_variables b c u v g r s t k m d e = record {
-  at = λ n a. subst (HasVariables n) (sym e) (subst (λ (i : ℕ). HasVariables i (terms_of t)) (k.right ∙ sym (head_length k.n b k.are.left m) ∙ head_length n b a.left m) d.sound.variables);
+  at = λ n a. subst (HasVariables n) (sym e) (subst (λ (i : ℕ). HasVariables i (joined_terms t)) (k.right ∙ sym (head_length k.n b k.are.left m) ∙ head_length n b a.left m) d.sound.variables);
 }
 
 shift_refused : (b c : MarkedPolynomial) (u v : Exponents) (left right : ℕ) → PairFacts b c u v → IsShiftOperation u b.poly left right ⊎ IsShiftOperation v c.poly left right → IsSPolynomialExponents b c left right
@@ -140,12 +140,12 @@ shift_refused b c u v left right k h = record {
 
 -- in raising the first
 pub left_refused : (b c : MarkedPolynomial) (u v : Exponents) (f : Terms) (e : PolyError) → f ≡ b.poly → PairFacts b c u v → IsRaisingRefusal u f e → IsMonicPairRefusal b c e
-left_refused b c u v f (errors.Overflow o) q k h = absurd h
+left_refused b c u v f (errors.Overflow o) q k h = absurd h.0
 left_refused b c u v f (errors.Exponent o) q k h = let w = subst (λ (z : Terms). IsRaisingRefusal u z (errors.Exponent o)) q h in (shift_refused b c u v o.left o.right k (inl w.0), w.1)
 left_refused b c u v f errors.Memory q k h = tt
 
 -- in taking the second away
-pub s_refused : (b c : MarkedPolynomial) (u v : Exponents) (f g h : Terms) (s : Split) (e : PolyError) → f ≡ b.poly → g ≡ c.poly → IsDescending g → PairFacts b c u v → IsRaised u f h → s ≡ record { above = []; below = h } → IsSubtractionRefusal (terms_of s) one_ℚ v g e → IsMonicPairRefusal b c e
+pub s_refused : (b c : MarkedPolynomial) (u v : Exponents) (f g h : Terms) (s : Split) (e : PolyError) → f ≡ b.poly → g ≡ c.poly → IsDescending g → PairFacts b c u v → IsRaised u f h → s ≡ record { above = []; below = h } → IsSubtractionRefusal (joined_terms s) one_ℚ v g e → IsMonicPairRefusal b c e
 s_refused b c u v f g h s (errors.Overflow o) ef eg d k w q r = elim r.cause [
   | inl p ↦ absurd (p.other refl)
   | inr p ↦ (
@@ -156,7 +156,7 @@ s_refused b c u v f g h s (errors.Overflow o) ef eg d k w q r = elim r.cause [
       shift_b = same_of (plus u b.head) (join b.head c.head) k.cofactors.left;
       shift_c = same_of (plus v c.head) (join b.head c.head) k.cofactors.right;
       exponents = plus v r.term.mono;
-      is_left = p.left ∙ ap (λ (z : Terms). coefficient z (plus v r.term.mono)) (ap terms_of q ∙ w.value ∙ ap (times one_ℚ u) ef);
+      is_left = p.left ∙ ap (λ (z : Terms). coefficient z (plus v r.term.mono)) (ap joined_terms q ∙ w.value ∙ ap (times one_ℚ u) ef);
       is_right =
           p.right ∙ ap (λ z. one_ℚ *ℚ z) (sym (term_coefficient (length v) g r.term (right_variables b c u v g eg k) d r.contained))
           ∙ sym (coefficient-times one_ℚ v g r.term.mono) ∙ ap (λ (z : Terms). coefficient (times one_ℚ v z) (plus v r.term.mono)) eg;
@@ -200,10 +200,10 @@ refusal_of_monic f g b c (Err e) m h = pair_refused f g b c e m h
 -- in making one of them monic
 pub left_monic_refused : (f g : MarkedPolynomial) (e : PolyError) → IsMonicRefusal f e → IsPairRefusal f g e
 left_monic_refused f g (errors.Overflow o) h = (inl h.0, h.1)
-left_monic_refused f g (errors.Exponent o) h = absurd h
+left_monic_refused f g (errors.Exponent o) h = absurd h.0
 left_monic_refused f g errors.Memory h = tt
 
 pub right_monic_refused : (f g : MarkedPolynomial) (e : PolyError) → IsMonicRefusal g e → IsPairRefusal f g e
 right_monic_refused f g (errors.Overflow o) h = (inr (inl h.0), h.1)
-right_monic_refused f g (errors.Exponent o) h = absurd h
+right_monic_refused f g (errors.Exponent o) h = absurd h.0
 right_monic_refused f g errors.Memory h = tt

@@ -25,7 +25,7 @@ use Rattle.gf_ideal.specs.Membership.{HasMonomial}
 use Rattle.gf_ideal.specs.Operands.{IsPlace, IsStepOperation}
 use Rattle.gf_ideal.proofs.ListLaws.{Each-weaker, Contains-cases}
 use Rattle.gf_division.specs.Steps.{IsStepRefusal}
-use Rattle.gf_division.specs.Dividends.{Split, terms_of, IsSound, DividesFirst, AreOver, AreOverProducts, MovesUp, IsProductOverflow, IsDifferenceOverflow, Subtracts, IsSubtractionRefusal, SharesVariables, TakesStep}
+use Rattle.gf_division.specs.Dividends.{Split, joined_terms, IsSound, DividesFirst, AreOver, AreOverProducts, MovesUp, IsScalingOverflow, IsDifferenceOverflow, Subtracts, IsSubtractionRefusal, SharesVariables, TakesStep}
 use Rattle.gf_division.proofs.DescendingParts.{descending-front}
 use Rattle.gf_division.proofs.DividendLaws.{terms_up, first_length}
 
@@ -98,7 +98,7 @@ same_fronts f a b p q e k l = sym (take_at a p (length a) refl) ∙ ap (take (le
 -- ---- the step
 
 -- up to the greatest monomial of the multiple, down with the subtraction, and up again
-pub step_taken : (b : MarkedPolynomial) (s r t w : Split) (q : Term) (g : Terms) (n : ℕ) → g ≡ b.poly → DividesFirst b.head s.below → IsSound (length b.head) s → length q.mono ≡ length b.head → coefficient (terms_of s) (head_of s.below zero) ≡ q.coef → q.coef ≢ zero_ℚ → plus q.mono b.head ≡ head_of s.below zero → MovesUp s r → n ≡ length r.above → Subtracts q.coef q.mono g r t → MovesUp t w → length w.above ≡ n → TakesStep b s q w
+pub step_taken : (b : MarkedPolynomial) (s r t w : Split) (q : Term) (g : Terms) (n : ℕ) → g ≡ b.poly → DividesFirst b.head s.below → IsSound (length b.head) s → length q.mono ≡ length b.head → coefficient (joined_terms s) (head_of s.below zero) ≡ q.coef → q.coef ≢ zero_ℚ → plus q.mono b.head ≡ head_of s.below zero → MovesUp s r → n ≡ length r.above → Subtracts q.coef q.mono g r t → MovesUp t w → length w.above ≡ n → TakesStep b s q w
 step_taken b s r t w q g n eg f h l there nonzero product up en sub down place = record {
   there = nonzero;
   coefficient_is = there;
@@ -106,7 +106,7 @@ step_taken b s r t w q g n eg f h l there nonzero product up en sub down place =
   variables = l;
   same = λ y.
       ap (λ (z : Terms). coefficient z y) (terms_up t w down) ∙ sub.same y
-      ∙ ap (λ (z : Terms). coefficient z y) (ap (λ (z : Terms). z ++ times (neg_ℚ q.coef) q.mono g) (terms_up s r up) ∙ ap (λ (z : Terms). terms_of s ++ times (neg_ℚ q.coef) q.mono z) eg);
+      ∙ ap (λ (z : Terms). coefficient z y) (ap (λ (z : Terms). z ++ times (neg_ℚ q.coef) q.mono g) (terms_up s r up) ∙ ap (λ (z : Terms). joined_terms s ++ times (neg_ℚ q.coef) q.mono z) eg);
   sound = λ m k. sound_along (length b.head) m w (sym (first_length (length b.head) s f.term h f.first) ∙ first_length m s f.term k f.first) (sound_up (length b.head) t w down (sound_along (length q.mono) (length b.head) t l sub.sound));
   passed = up.passed;
   above = up.above ∙ ap (λ (z : Terms). z ++ up.passed) (same_fronts t.above r.above w.above sub.passed down.passed sub.above down.above (sym en ∙ sym place));
@@ -141,7 +141,7 @@ exponents_refused f b x q t o k c h = (
   omega (arith, h.left, h.right, h.leaves),
 )
 
-product_refused : (f : Terms) (b : MarkedPolynomial) (x : Exponents) (q t : Term) (o : Overflow) → StepFacts f b x q → Contains b.poly t → IsProductOverflow q.coef t.coef o → IsStepRefusal f b x (errors.Overflow o)
+product_refused : (f : Terms) (b : MarkedPolynomial) (x : Exponents) (q t : Term) (o : Overflow) → StepFacts f b x q → Contains b.poly t → IsScalingOverflow q.coef t.coef o → IsStepRefusal f b x (errors.Overflow o)
 product_refused f b x q t o k c h =
     let P : Op → Type 0 = λ p. IsStepOperation (λ (d : MarkedPolynomial). d ≡ b) f x p o.left o.right × ¬ (Fits p o.left o.right) in
     subst P (sym h.operation) (

@@ -24,7 +24,7 @@ use Rattle.gf_poly.proofs.MonomialLaws.{length-plus}
 use Rattle.gf_poly.proofs.PolynomialLaws.{coefficient-++, coefficient-times}
 use Rattle.gf_poly.proofs.ProductLaws.{deglex-plus}
 use Rattle.gf_ideal.proofs.ListLaws.{Each-++, Each-weaker}
-use Rattle.gf_division.specs.Dividends.{Split, terms_of, IsSound, AreOver, AreFrom, AreOverProducts, FirstIs, Descends, TakesFromFirst, IsFirstRefusal, TakesAway, IsDifferenceRefusal, IsProductOverflow, Subtracts, IsSubtractionRefusal}
+use Rattle.gf_division.specs.Dividends.{Split, joined_terms, IsSound, AreOver, AreFrom, AreOverProducts, FirstIs, Descends, TakesFromFirst, IsFirstRefusal, TakesAway, IsDifferenceRefusal, IsScalingOverflow, Subtracts, IsSubtractionRefusal}
 use Rattle.gf_division.proofs.DescendingParts.{descending-front, descending-back, descending-across, descending-join, all-above-join, variables-front, variables-back, variables-join, coefficient-midst, over-one, from-over}
 
 -- ---- from the first term
@@ -41,13 +41,13 @@ taken_from_first c a b d k t (Err x) e p = tt
 
 -- the terms above the place are greater than x, those below it aren't
 record IsCut (x : Exponents) (old new : Split) : Type 0 where
-  same : terms_of new ≡ terms_of old
+  same : joined_terms new ≡ joined_terms old
   over : AreOver x new.above
   sound : IsSound (length x) new
 
 cut : (x : Exponents) (old new : Split) (o : Ordering) → IsSound (length x) old → AreOver x old.above → Descends x old new o → IsCut x old new
 cut x old new o h v d =
-    let e : terms_of new ≡ terms_of old = ap (λ (z : Terms). z ++ new.below) d.above ∙ append_assoc old.above d.passed new.below ∙ ap (λ (z : Terms). old.above ++ z) (sym d.below) in
+    let e : joined_terms new ≡ joined_terms old = ap (λ (z : Terms). z ++ new.below) d.above ∙ append_assoc old.above d.passed new.below ∙ ap (λ (z : Terms). old.above ++ z) (sym d.below) in
     record {
       same = e;
       over = subst (AreOver x) (sym d.above) (Each-++ (λ (t : Term). deglex t.mono x ≡ Greater) old.above d.passed v d.over);
@@ -148,21 +148,21 @@ first_equal [] x o q h = let z : Equal ≡ Less = sym q ∙ h in absurd (cc)
 first_equal (t ∷ f) x o q h = λ e. cc
 
 -- why it is refused
-refusal_at : (c : Fraction) (x : Exponents) (old mid : Split) (o : Ordering) (e : PolyError) → o ≡ Equal → IsSound (length x) old → AreOver x old.above → Descends x old mid o → IsFirstRefusal mid.below c e → IsDifferenceRefusal (coefficient (terms_of old) x) c e
+refusal_at : (c : Fraction) (x : Exponents) (old mid : Split) (o : Ordering) (e : PolyError) → o ≡ Equal → IsSound (length x) old → AreOver x old.above → Descends x old mid o → IsFirstRefusal mid.below c e → IsDifferenceRefusal (coefficient (joined_terms old) x) c e
 refusal_at c x old mid o e q h v d = at mid.below refl d.first
   where
     k : IsCut x old mid
     k = cut x old mid o h v d
 
-    at : (f : Terms) → mid.below ≡ f → FirstIs f x o → IsFirstRefusal f c e → IsDifferenceRefusal (coefficient (terms_of old) x) c e
+    at : (f : Terms) → mid.below ≡ f → FirstIs f x o → IsFirstRefusal f c e → IsDifferenceRefusal (coefficient (joined_terms old) x) c e
     at [] b i r = absurd r
     at (t ∷ f) b i r =
         let m : t.mono ≡ x = first_at x (t ∷ f) f t o q refl i in
-        let z : terms_of old ≡ mid.above ++ t ∷ f = sym k.same ∙ ap (λ (g : Terms). mid.above ++ g) b in
-        let w : coefficient (terms_of old) x ≡ t.coef = ap (λ (g : Terms). coefficient g x) z ∙ ap (coefficient (mid.above ++ t ∷ f)) (sym m) ∙ coefficient-midst (length x) mid.above t f (subst (HasVariables (length x)) z h.variables) (subst IsDescending z h.descending) in
+        let z : joined_terms old ≡ mid.above ++ t ∷ f = sym k.same ∙ ap (λ (g : Terms). mid.above ++ g) b in
+        let w : coefficient (joined_terms old) x ≡ t.coef = ap (λ (g : Terms). coefficient g x) z ∙ ap (coefficient (mid.above ++ t ∷ f)) (sym m) ∙ coefficient-midst (length x) mid.above t f (subst (HasVariables (length x)) z h.variables) (subst IsDescending z h.descending) in
         subst (λ a. IsDifferenceRefusal a c e) (sym w) r
 
-pub refused_at : {T : Type 0} (c : Fraction) (x : Exponents) (old mid : Split) (o : Ordering) (r : Result T PolyError) → o ≡ Equal → IsSound (length x) old → AreOver x old.above → Descends x old mid o → IfErr r (IsFirstRefusal mid.below c) → IfErr r (IsDifferenceRefusal (coefficient (terms_of old) x) c)
+pub refused_at : {T : Type 0} (c : Fraction) (x : Exponents) (old mid : Split) (o : Ordering) (r : Result T PolyError) → o ≡ Equal → IsSound (length x) old → AreOver x old.above → Descends x old mid o → IfErr r (IsFirstRefusal mid.below c) → IfErr r (IsDifferenceRefusal (coefficient (joined_terms old) x) c)
 refused_at c x old mid o (Ok t) q h v d w = tt
 refused_at c x old mid o (Err e) q h v d w = refusal_at c x old mid o e q h v d w
 
@@ -183,7 +183,7 @@ taken_beside c x old mid new o u n z i h v d a b = subst (TakesAway c x old) (sy
   same = λ y.
       one_more mid.above mid.below t y ∙ swap_last _ _ _
       ∙ ap (λ w. w +ℚ (if same y x then neg_ℚ c else zero_ℚ)) (sym (coefficient-++ mid.above mid.below y) ∙ ap (λ (g : Terms). coefficient g y) k.same)
-      ∙ ap (λ w. coefficient (terms_of old) y +ℚ w) (sym (+ℚ-zero _)) ∙ sym (coefficient-++ (terms_of old) (t ∷ []) y);
+      ∙ ap (λ w. coefficient (joined_terms old) y +ℚ w) (sym (+ℚ-zero _)) ∙ sym (coefficient-++ (joined_terms old) (t ∷ []) y);
   sound = record {
     descending = descending-join (mid.above ++ t ∷ []) mid.below (descending-join mid.above (t ∷ []) (descending-front mid.above mid.below k.sound.descending) (neg-nonzero c z, tt, tt) (over-one x mid.above t refl k.over)) below (all-above-join mid.above (t ∷ []) mid.below (descending-across mid.above mid.below k.sound.descending) (under, tt));
     variables = variables-join (length x) (mid.above ++ t ∷ []) mid.below (variables-join (length x) mid.above (t ∷ []) (variables-front (length x) mid.above mid.below k.sound.variables) (refl, tt)) (variables-back (length x) mid.above mid.below k.sound.variables);
@@ -219,14 +219,14 @@ coefficient-over n (t ∷ f) x v l o =
 
 -- c times u times the first i terms of g are taken away from old
 pub record Subtracting (c : Fraction) (u : Exponents) (g : Terms) (old now : Split) (i : ℕ) : Type 0 where
-  pub same : SamePolynomial (terms_of now) (terms_of old ++ times (neg_ℚ c) u (take i g))
+  pub same : SamePolynomial (joined_terms now) (joined_terms old ++ times (neg_ℚ c) u (take i g))
   pub sound : IsSound (length u) now
   pub passed : Terms
   pub above : now.above ≡ old.above ++ passed
   pub over : AreOverProducts u (drop i g) now.above
 
 pub subtracting-none : (c : Fraction) (u : Exponents) (g : Terms) (s : Split) → IsSound (length u) s → AreOverProducts u g s.above → Subtracting c u g s s 0
-subtracting-none c u g s h o = record { same = λ y. ap (λ (z : Terms). coefficient z y) (sym (append-nil (terms_of s))); sound = h; passed = []; above = sym (append-nil s.above); over = o }
+subtracting-none c u g s h o = record { same = λ y. ap (λ (z : Terms). coefficient z y) (sym (append-nil (joined_terms s))); sound = h; passed = []; above = sym (append-nil s.above); over = o }
 
 -- the list at the term at i
 record IsAtTerm (g : Terms) (i : ℕ) (t : Term) : Type 0 where
@@ -271,10 +271,10 @@ product_length u m g i t l e v q = ap length q ∙ length-plus u t.mono (sym (va
 pub subtracting-more : (c : Fraction) (u : Exponents) (g : Terms) (old now new : Split) (i : ℕ) (t : Term) (p : Fraction) (m : Exponents) → i < length g → t ≡ get_or g i t → HasVariables (length u) g → IsDescending g → p ≡ c *ℚ t.coef → m ≡ plus u t.mono → Subtracting c u g old now i → TakesAway p m now new → Subtracting c u g old new (i + 1)
 subtracting-more c u g old now new i t p m l e v d ep em k w = record {
   same = λ y.
-      w.same y ∙ coefficient-++ (terms_of now) (record { coef = neg_ℚ p; mono = m } ∷ []) y
+      w.same y ∙ coefficient-++ (joined_terms now) (record { coef = neg_ℚ p; mono = m } ∷ []) y
       ∙ ap (λ z. z +ℚ coefficient (record { coef = neg_ℚ p; mono = m } ∷ []) y) (k.same y)
-      ∙ sym (coefficient-++ (terms_of old ++ times (neg_ℚ c) u (take i g)) (record { coef = neg_ℚ p; mono = m } ∷ []) y)
-      ∙ ap (λ (z : Terms). coefficient z y) (append_assoc (terms_of old) (times (neg_ℚ c) u (take i g)) (record { coef = neg_ℚ p; mono = m } ∷ []) ∙ ap (λ (z : Terms). terms_of old ++ z) (sym multiple));
+      ∙ sym (coefficient-++ (joined_terms old ++ times (neg_ℚ c) u (take i g)) (record { coef = neg_ℚ p; mono = m } ∷ []) y)
+      ∙ ap (λ (z : Terms). coefficient z y) (append_assoc (joined_terms old) (times (neg_ℚ c) u (take i g)) (record { coef = neg_ℚ p; mono = m } ∷ []) ∙ ap (λ (z : Terms). joined_terms old ++ z) (sym multiple));
   sound = subst (λ (n : ℕ). IsSound n new) (product_length u m g i t l e v em) w.sound;
   passed = k.passed ++ w.passed;
   above = w.above ∙ ap (λ (z : Terms). z ++ w.passed) k.above ∙ append_assoc old.above k.passed w.passed;
@@ -295,7 +295,7 @@ subtracting-more c u g old now new i t p m l e v d ep em k w = record {
 
 pub subtracting-end : (c : Fraction) (u : Exponents) (g : Terms) (old new : Split) (i : ℕ) → length g ≤ i → Subtracting c u g old new i → Subtracts c u g old new
 subtracting-end c u g old new i l k = record {
-  same = λ y. k.same y ∙ ap (λ (z : Terms). coefficient (terms_of old ++ times (neg_ℚ c) u z) y) (take_all i g l);
+  same = λ y. k.same y ∙ ap (λ (z : Terms). coefficient (joined_terms old ++ times (neg_ℚ c) u z) y) (take_all i g l);
   sound = k.sound;
   passed = k.passed;
   above = k.above;
@@ -304,10 +304,10 @@ subtracting-end c u g old new i l k = record {
 -- ---- why it is refused
 
 -- the coefficient at a product that the steps before it don't change
-coefficient-untouched : (c : Fraction) (u : Exponents) (g : Terms) (old now : Split) (i : ℕ) (t : Term) → i < length g → t ≡ get_or g i t → HasVariables (length u) g → IsDescending g → Subtracting c u g old now i → coefficient (terms_of now) (plus u t.mono) ≡ coefficient (terms_of old) (plus u t.mono)
+coefficient-untouched : (c : Fraction) (u : Exponents) (g : Terms) (old now : Split) (i : ℕ) (t : Term) → i < length g → t ≡ get_or g i t → HasVariables (length u) g → IsDescending g → Subtracting c u g old now i → coefficient (joined_terms now) (plus u t.mono) ≡ coefficient (joined_terms old) (plus u t.mono)
 coefficient-untouched c u g old now i t l e v d k =
-    k.same (plus u t.mono) ∙ coefficient-++ (terms_of old) (times (neg_ℚ c) u (take i g)) (plus u t.mono)
-    ∙ ap (λ z. coefficient (terms_of old) (plus u t.mono) +ℚ z) (coefficient-times (neg_ℚ c) u (take i g) t.mono ∙ ap (λ z. neg_ℚ c *ℚ z) nothing ∙ *ℚ-zero (neg_ℚ c))
+    k.same (plus u t.mono) ∙ coefficient-++ (joined_terms old) (times (neg_ℚ c) u (take i g)) (plus u t.mono)
+    ∙ ap (λ z. coefficient (joined_terms old) (plus u t.mono) +ℚ z) (coefficient-times (neg_ℚ c) u (take i g) t.mono ∙ ap (λ z. neg_ℚ c *ℚ z) nothing ∙ *ℚ-zero (neg_ℚ c))
     ∙ +ℚ-zero _
   where
     a : IsAtTerm g i t
@@ -326,19 +326,19 @@ coefficient-untouched c u g old now i t l e v d k =
 contained_at : (g : Terms) (i : ℕ) (t : Term) → i < length g → t ≡ get_or g i t → Contains g t
 contained_at g i t l e = (i, l, sym e)
 
-pub factor_refused : (f : Terms) (c : Fraction) (u : Exponents) (g : Terms) (i : ℕ) (t : Term) (o : Overflow) → i < length g → t ≡ get_or g i t → IsProductOverflow c t.coef o → IsSubtractionRefusal f c u g (errors.Overflow o)
+pub factor_refused : (f : Terms) (c : Fraction) (u : Exponents) (g : Terms) (i : ℕ) (t : Term) (o : Overflow) → i < length g → t ≡ get_or g i t → IsScalingOverflow c t.coef o → IsSubtractionRefusal f c u g (errors.Overflow o)
 factor_refused f c u g i t o l e h = record { term = t; contained = contained_at g i t l e; cause = inl h }
 
 pub exponent_refused : (f : Terms) (c : Fraction) (u : Exponents) (g : Terms) (i : ℕ) (t : Term) (o : ExponentOverflow) → i < length g → t ≡ get_or g i t → IsFirstOverflow u t.mono o → IsSubtractionRefusal f c u g (errors.Exponent o)
 exponent_refused f c u g i t o l e h = record { term = t; contained = contained_at g i t l e; cause = h }
 
-pub difference_refused : (c : Fraction) (u : Exponents) (g : Terms) (old now : Split) (i : ℕ) (t : Term) (p : Fraction) (m : Exponents) (e : PolyError) → i < length g → t ≡ get_or g i t → HasVariables (length u) g → IsDescending g → p ≡ c *ℚ t.coef → m ≡ plus u t.mono → Subtracting c u g old now i → IsDifferenceRefusal (coefficient (terms_of now) m) p e → IsSubtractionRefusal (terms_of old) c u g e
+pub difference_refused : (c : Fraction) (u : Exponents) (g : Terms) (old now : Split) (i : ℕ) (t : Term) (p : Fraction) (m : Exponents) (e : PolyError) → i < length g → t ≡ get_or g i t → HasVariables (length u) g → IsDescending g → p ≡ c *ℚ t.coef → m ≡ plus u t.mono → Subtracting c u g old now i → IsDifferenceRefusal (coefficient (joined_terms now) m) p e → IsSubtractionRefusal (joined_terms old) c u g e
 difference_refused c u g old now i t p m (errors.Overflow o) l e v d ep em k h = record {
   term = t;
   contained = contained_at g i t l e;
   cause = inr (record {
     operation = h.operation;
-    left = h.left ∙ ap (coefficient (terms_of now)) em ∙ coefficient-untouched c u g old now i t l e v d k;
+    left = h.left ∙ ap (coefficient (joined_terms now)) em ∙ coefficient-untouched c u g old now i t l e v d k;
     right = h.right ∙ ep;
     leaves = h.leaves;
   });

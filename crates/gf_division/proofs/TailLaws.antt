@@ -27,9 +27,9 @@ use Rattle.gf_ideal.proofs.MarkWeights.{mark-there}
 use Rattle.gf_ideal.proofs.InterreductionLaws.{tail-marked}
 use Rattle.gf_division.specs.Steps.{IsStepRefusal}
 use Rattle.gf_division.specs.NormalForms.{HasSomeWeight}
-use Rattle.gf_division.specs.Dividends.{Split, terms_of, TakesStep}
-use Rattle.gf_division.specs.Reducers.{IsBeside, HasLength, AreIrreducible, ShareVariables}
-use Rattle.gf_division.specs.Autoreduction.{IsTailRefusal, HaveSomeVariables, IsKeptForm}
+use Rattle.gf_division.specs.Dividends.{Split, joined_terms, TakesStep}
+use Rattle.gf_division.specs.Reducers.{IsBeside, IsSpareIn, AreIrreducible, ShareVariables}
+use Rattle.gf_division.specs.Autoreduction.{IsTailRefusal, ShareSomeVariables, IsKeptForm}
 use Rattle.gf_division.proofs.DividendLaws.{first_head}
 use Rattle.gf_division.proofs.StepLaws.{head_length}
 use Rattle.gf_division.proofs.ReducerLaws.{member_contained, member_variables}
@@ -79,12 +79,12 @@ head_at_place x f i t l e q = head_at f i t l e ∙ equal_same t.mono x q
 -- what holds after some steps that spare the mark of b
 pub record Tailing (ks : List MarkedPolynomial) (b : MarkedPolynomial) (spared : Option Exponents) (s : Split) : Type 0 where
   pub spare : spared ≡ Some b.head
-  pub tail : IsTail ks (record { poly = terms_of s; head = b.head })
+  pub tail : IsTail ks (record { poly = joined_terms s; head = b.head })
   pub variables : ShareVariables s ks spared
   pub above : AreIrreducible ks spared s.above
-  pub kept : KeepsVariables b.poly (terms_of s)
+  pub kept : KeepsVariables b.poly (joined_terms s)
 
-pub tailing-none : (ks : List MarkedPolynomial) (b : MarkedPolynomial) (spared : Option Exponents) (f : Terms) (s : Split) → spared ≡ Some b.head → f ≡ b.poly → IsDescending f → HaveSomeVariables ks → Contains ks b → HasMarkedTerm b → s ≡ record { above = []; below = f } → Tailing ks b spared s
+pub tailing-none : (ks : List MarkedPolynomial) (b : MarkedPolynomial) (spared : Option Exponents) (f : Terms) (s : Split) → spared ≡ Some b.head → f ≡ b.poly → IsDescending f → ShareSomeVariables ks → Contains ks b → IsMarked b → s ≡ record { above = []; below = f } → Tailing ks b spared s
 tailing-none ks b spared f s es ef d v c m e = subst (Tailing ks b spared) (sym e) (subst (λ (z : Option Exponents). Tailing ks b z (record { above = []; below = f })) (sym es) (record {
   spare = refl;
   tail = subst (λ (g : Terms). IsTail ks (record { poly = g; head = b.head })) (sym ef) (IsTail.member b c);
@@ -104,20 +104,20 @@ tailing-none ks b spared f s es ef d v c m e = subst (Tailing ks b spared) (sym 
 unmarked : (ks : List MarkedPolynomial) (b : MarkedPolynomial) (spared : Option Exponents) (s : Split) (j : ℕ) (c : MarkedPolynomial) → spared ≡ Some b.head → (k : RuleFacts ks spared s j c) → same k.term.mono b.head ≡ false
 unmarked ks b spared s j c e k = subst (λ (z : Option Exponents). IsBeside z k.term.mono) e k.beside
 
-pub tailing-more : (ks : List MarkedPolynomial) (b : MarkedPolynomial) (spared : Option Exponents) (old s t : Split) (j : ℕ) (c : MarkedPolynomial) (q : Term) → terms_of s ≡ terms_of old → RuleFacts ks spared s j c → TakesStep c s q t → Tailing ks b spared old → Tailing ks b spared t
+pub tailing-more : (ks : List MarkedPolynomial) (b : MarkedPolynomial) (spared : Option Exponents) (old s t : Split) (j : ℕ) (c : MarkedPolynomial) (q : Term) → joined_terms s ≡ joined_terms old → RuleFacts ks spared s j c → TakesStep c s q t → Tailing ks b spared old → Tailing ks b spared t
 tailing-more ks b spared old s t j c q e k w h = record {
   spare = h.spare;
-  tail = IsTail.step (record { poly = terms_of s; head = b.head }) (record { poly = terms_of t; head = b.head }) (subst (λ (g : Terms). IsTail ks (record { poly = g; head = b.head })) (sym e) h.tail) (same-refl b.head) (step_by ks spared s t j c q k w) (unmarked ks b spared s j c h.spare k);
+  tail = IsTail.step (record { poly = joined_terms s; head = b.head }) (record { poly = joined_terms t; head = b.head }) (subst (λ (g : Terms). IsTail ks (record { poly = g; head = b.head })) (sym e) h.tail) (same-refl b.head) (step_by ks spared s t j c q k w) (unmarked ks b spared s j c h.spare k);
   variables = share_step ks spared s t j c q k w;
   above = front_irreducible ks spared t.above w.passed s.above w.above k.above;
-  kept = keeps_step ks spared b.poly s t j c q k w (keeps_along b.poly (terms_of old) (terms_of s) e h.kept);
+  kept = keeps_step ks spared b.poly s t j c q k w (keeps_along b.poly (joined_terms old) (joined_terms s) e h.kept);
 }
 
 -- a refusal of the step
-pub tail_refused : (ks : List MarkedPolynomial) (b : MarkedPolynomial) (spared : Option Exponents) (old s : Split) (j : ℕ) (c : MarkedPolynomial) (e : PolyError) → terms_of s ≡ terms_of old → RuleFacts ks spared s j c → Tailing ks b spared old → IsStepRefusal (terms_of s) c (head_of s.below 0) e → IsTailRefusal ks e
+pub tail_refused : (ks : List MarkedPolynomial) (b : MarkedPolynomial) (spared : Option Exponents) (old s : Split) (j : ℕ) (c : MarkedPolynomial) (e : PolyError) → joined_terms s ≡ joined_terms old → RuleFacts ks spared s j c → Tailing ks b spared old → IsStepRefusal (joined_terms s) c (head_of s.below 0) e → IsTailRefusal ks e
 tail_refused ks b spared old s j c e q k h r = at e r
   where
-    from : IsTail ks (record { poly = terms_of s; head = b.head })
+    from : IsTail ks (record { poly = joined_terms s; head = b.head })
     from = subst (λ (g : Terms). IsTail ks (record { poly = g; head = b.head })) (sym q) h.tail
 
     beside : same (head_of s.below 0) b.head ≡ false
@@ -126,24 +126,24 @@ tail_refused ks b spared old s j c e q k h r = at e r
     more : (d : MarkedPolynomial) → d ≡ c → Contains ks d
     more d g = only ks c (member_contained ks j c k.at) d g
 
-    at : (e : PolyError) → IsStepRefusal (terms_of s) c (head_of s.below 0) e → IsTailRefusal ks e
+    at : (e : PolyError) → IsStepRefusal (joined_terms s) c (head_of s.below 0) e → IsTailRefusal ks e
     at (errors.Overflow o) r = (
       record {
-        from = record { poly = terms_of s; head = b.head };
+        from = record { poly = joined_terms s; head = b.head };
         tail = from;
         at = head_of s.below 0;
         unmarked = beside;
-        operation = operation_more (λ (d : MarkedPolynomial). d ≡ c) (Contains ks) more (terms_of s) (head_of s.below 0) o.op o.left o.right r.0;
+        operation = operation_more (λ (d : MarkedPolynomial). d ≡ c) (Contains ks) more (joined_terms s) (head_of s.below 0) o.op o.left o.right r.0;
       },
       r.1,
     )
     at (errors.Exponent o) r = (
       record {
-        from = record { poly = terms_of s; head = b.head };
+        from = record { poly = joined_terms s; head = b.head };
         tail = from;
         at = head_of s.below 0;
         unmarked = beside;
-        sum = exponents_more (λ (d : MarkedPolynomial). d ≡ c) (Contains ks) more (terms_of s) (head_of s.below 0) o.left o.right r.0;
+        sum = exponents_more (λ (d : MarkedPolynomial). d ≡ c) (Contains ks) more (joined_terms s) (head_of s.below 0) o.left o.right r.0;
       },
       r.1,
     )
@@ -170,21 +170,21 @@ irreducible_beside ks x f a y m d = at (same y x) refl
     at true e = e
     at false e = absurd (there e (listed (λ (t : Term). IsBeside (Some x) t.mono → IsDivisible (Contains ks) t.mono → ⊥) f y a m))
 
-pub tail_facts : (ks : List MarkedPolynomial) (b : MarkedPolynomial) (spared : Option Exponents) (old s : Split) (g : Terms) → HasMarkedTerm b → terms_of s ≡ terms_of old → s.below ≡ [] → g ≡ terms_of s → AreIrreducible ks spared s.above → Tailing ks b spared old → TailFacts ks b g
+pub tail_facts : (ks : List MarkedPolynomial) (b : MarkedPolynomial) (spared : Option Exponents) (old s : Split) (g : Terms) → IsMarked b → joined_terms s ≡ joined_terms old → s.below ≡ [] → g ≡ joined_terms s → AreIrreducible ks spared s.above → Tailing ks b spared old → TailFacts ks b g
 tail_facts ks b spared old s g m e n q a h = record {
   tail = subst (λ (f : Terms). IsTail ks (record { poly = f; head = b.head })) (sym whole) h.tail;
   irreducible = irreducible_beside ks b.head g (subst (AreIrreducible ks (Some b.head)) (sym (q ∙ all_above s n)) (subst (λ (z : Option Exponents). AreIrreducible ks z s.above) h.spare a));
-  kept = keeps_along b.poly (terms_of old) g whole h.kept;
+  kept = keeps_along b.poly (joined_terms old) g whole h.kept;
   descending = subst IsDescending (sym whole) h.variables.sound.descending;
-  variables = subst (HasVariables (length b.head)) (sym whole) (subst (λ (k : ℕ). HasVariables k (terms_of old)) (sym long) h.variables.sound.variables);
+  variables = subst (HasVariables (length b.head)) (sym whole) (subst (λ (k : ℕ). HasVariables k (joined_terms old)) (sym long) h.variables.sound.variables);
   marked = m;
 }
   where
-    whole : g ≡ terms_of old
+    whole : g ≡ joined_terms old
     whole = q ∙ e
 
     long : length b.head ≡ h.variables.n
-    long = subst (HasLength h.variables.n) h.spare h.variables.spare
+    long = subst (IsSpareIn h.variables.n) h.spare h.variables.spare
 
 -- the mark is a monomial of it
 pub tail_there : (ks : List MarkedPolynomial) (b : MarkedPolynomial) (g : Terms) → HasSomeWeight ks → TailFacts ks b g → HasMonomial g b.head

@@ -2,13 +2,12 @@
 -- A Gröbner basis becomes the reduced one so.
 -- Laws: proofs/NeededLaws.antt, proofs/TailLaws.antt, proofs/AutoreductionLaws.antt. Source: Cox, Little, O'Shea, Ideals,
 -- Varieties, and Algorithms, 2.7; Fukuda, Jensen, Thomas, Computing Gröbner fans, 2.
-use Rattle.std.specs.Prelude.{◌≡◌, ◌⊎◌, ℕ, ◌+◌, ◌≤◌, ◌^◌, Bool, true, false, List, Contains}
+use Rattle.std.specs.Prelude.{◌≡◌, ◌⊎◌, ℕ, ◌≤◌, Bool, true, false, List, Contains}
 use Rattle.gf_frac.specs.Fraction.{Fraction}
-use Rattle.gf_frac.specs.Fits.{Fits}
 use Rattle.gf_frac.specs.declared.refusal.Op.{Op}
 use Rattle.gf_exponents.specs.Exponents.{Exponents, same, Divides}
 use Rattle.gf_poly.specs.declared.error.PolyError.{PolyError}
-use Rattle.gf_poly.specs.declared.error.PolyError.TheVariants as errors
+use Rattle.gf_poly.specs.Refusals.{IsRefusedBy, NoSum}
 use Rattle.gf_poly.specs.Polynomial.{Terms, HasVariables}
 use Rattle.gf_poly.specs.Marking.{MarkedPolynomial, MarkedPolynomials, IsArranged, HaveVariables}
 use Rattle.gf_ideal.specs.Membership.{AreInVariables}
@@ -63,10 +62,11 @@ pub record IsReducedOf (n : ℕ) (bs cs : List MarkedPolynomial) : Type 0 where
 
 -- ---- refusals
 
--- the operation is one of making a member of bs monic
-pub record IsMemberOperation (bs : List MarkedPolynomial) (op : Op) (left right : Fraction) : Type 0 where
+-- the operation is one of making a needed member of bs monic
+pub record IsNeededOperation (bs : List MarkedPolynomial) (op : Op) (left right : Fraction) : Type 0 where
+  pub place : ℕ
   pub member : MarkedPolynomial
-  pub contained : Contains bs member
+  pub needed : IsNeeded bs place member
   pub operation : IsDivisionByMark member op left right
 
 -- the operation is one of a step at an unmarked monomial of a tail of ks, by a member of ks
@@ -87,24 +87,20 @@ pub record IsTailExponents (ks : List MarkedPolynomial) (left right : ℕ) : Typ
 
 -- why a tail isn't reduced by ks
 abbrev pub IsTailRefusal : List MarkedPolynomial → PolyError → Type 0
-IsTailRefusal ks (errors.Overflow o) = IsTailOperation ks o.op o.left o.right × ¬ (Fits o.op o.left o.right)
-IsTailRefusal ks (errors.Exponent o) = IsTailExponents ks o.left o.right × (2 ^ 31 ≤ o.left + o.right)
-IsTailRefusal ks errors.Memory = Unit {0}
+IsTailRefusal ks = IsRefusedBy (IsTailOperation ks) (IsTailExponents ks)
 
--- why a member of bs isn't made monic
-abbrev pub IsMemberRefusal : List MarkedPolynomial → PolyError → Type 0
-IsMemberRefusal bs (errors.Overflow o) = IsMemberOperation bs o.op o.left o.right × ¬ (Fits o.op o.left o.right)
-IsMemberRefusal bs (errors.Exponent o) = ⊥
-IsMemberRefusal bs errors.Memory = Unit {0}
+-- why a needed member of bs isn't made monic; one that is dropped is never divided
+abbrev pub IsNeededRefusal : List MarkedPolynomial → PolyError → Type 0
+IsNeededRefusal bs = IsRefusedBy (IsNeededOperation bs) NoSum
 
--- why bs isn't autoreduced: a member isn't made monic, or a tail isn't reduced by the monic forms of the needed members
+-- why bs isn't autoreduced: a needed member isn't made monic, or a tail isn't reduced by the monic forms of the needed members
 abbrev pub IsAutoreductionRefusal : List MarkedPolynomial → PolyError → Type 0
-IsAutoreductionRefusal bs e = IsMemberRefusal bs e ⊎ ((ks : List MarkedPolynomial) × AreNeededForms bs ks × IsTailRefusal ks e)
+IsAutoreductionRefusal bs e = IsNeededRefusal bs e ⊎ ((ks : List MarkedPolynomial) × AreNeededForms bs ks × IsTailRefusal ks e)
 
 -- ---- parts
 
 -- the members have some number of variables
-pub record HaveSomeVariables (bs : List MarkedPolynomial) : Type 0 where
+pub record ShareSomeVariables (bs : List MarkedPolynomial) : Type 0 where
   pub n : ℕ
   pub each : HaveVariables n bs
 

@@ -13,6 +13,7 @@ use Rattle.gf_exponents.specs.Orders.{deglex}
 use Rattle.gf_poly.specs.declared.Term.{Term}
 use Rattle.gf_poly.specs.declared.error.PolyError.{PolyError}
 use Rattle.gf_poly.specs.declared.error.PolyError.TheVariants as errors
+use Rattle.gf_poly.specs.Refusals.{ByKind, UnlessMemory}
 use Rattle.gf_poly.specs.Monomial.{IsFirstOverflow}
 use Rattle.gf_poly.specs.Polynomial.{Terms, coefficient, SamePolynomial, times, HasVariables, IsDescending}
 use Rattle.gf_poly.specs.Sums.{PushesNonzero}
@@ -27,8 +28,8 @@ pub record Split : Type 0 where
   pub below : Terms
 
 -- all terms
-abbrev pub terms_of : Split → Terms
-terms_of s = s.above ++ s.below
+abbrev pub joined_terms : Split → Terms
+joined_terms s = s.above ++ s.below
 
 -- what is kept: of the terms below the place the least stands first
 abbrev pub split_of : Dividend → Split
@@ -36,24 +37,24 @@ split_of d = record { above = d.above.items; below = reverse d.below.items }
 
 -- the terms descend, in n variables
 pub record IsSound (n : ℕ) (s : Split) : Type 0 where
-  pub descending : IsDescending (terms_of s)
-  pub variables : HasVariables n (terms_of s)
+  pub descending : IsDescending (joined_terms s)
+  pub variables : HasVariables n (joined_terms s)
 
 -- t is the first term of f
-pub record IsFirst (f : Terms) (t : Term) : Type 0 where
+pub record IsFirstTerm (f : Terms) (t : Term) : Type 0 where
   pub rest : Terms
   pub is : f ≡ t ∷ rest
 
 -- x divides the first term of f
 pub record DividesFirst (x : Exponents) (f : Terms) : Type 0 where
   pub term : Term
-  pub first : IsFirst f term
+  pub first : IsFirstTerm f term
   pub divides : Divides x term.mono
 
 -- ---- moves
 
 -- the first term below the place goes above it
-pub record Advances (old new : Split) : Type 0 where
+pub record PassesOne (old new : Split) : Type 0 where
   pub term : Term
   pub below : old.below ≡ term ∷ new.below
   pub above : new.above ≡ old.above ++ term ∷ []
@@ -97,9 +98,7 @@ pub record IsDifferenceOverflow (a c : Fraction) (o : Overflow) : Type 0 where
 
 -- why c isn't taken from a
 abbrev pub IsDifferenceRefusal : Fraction → Fraction → PolyError → Type 0
-IsDifferenceRefusal a c (errors.Overflow o) = IsDifferenceOverflow a c o
-IsDifferenceRefusal a c (errors.Exponent o) = ⊥
-IsDifferenceRefusal a c errors.Memory = Unit {0}
+IsDifferenceRefusal a c = ByKind (IsDifferenceOverflow a c) (λ o. ⊥)
 
 -- c is taken from the coefficient of the first term below the place; what is left of the term goes above the place
 pub record TakesFromFirst (c : Fraction) (old new : Split) : Type 0 where
@@ -113,7 +112,7 @@ IsFirstRefusal [] c e = ⊥
 IsFirstRefusal (t ∷ f) c e = IsDifferenceRefusal t.coef c e
 
 -- the product of c, which isn't 1, and a, which leaves the range
-pub record IsProductOverflow (c a : Fraction) (o : Overflow) : Type 0 where
+pub record IsScalingOverflow (c a : Fraction) (o : Overflow) : Type 0 where
   pub other : c ≢ one_ℚ
   pub operation : o.op ≡ Mul
   pub left : o.left ≡ c
@@ -122,7 +121,7 @@ pub record IsProductOverflow (c a : Fraction) (o : Overflow) : Type 0 where
 
 -- c times the monomial x is taken away, and the place is below x
 pub record TakesAway (c : Fraction) (x : Exponents) (old new : Split) : Type 0 where
-  pub same : SamePolynomial (terms_of new) (terms_of old ++ record { coef = neg_ℚ c; mono = x } ∷ [])
+  pub same : SamePolynomial (joined_terms new) (joined_terms old ++ record { coef = neg_ℚ c; mono = x } ∷ [])
   pub sound : IsSound (length x) new
   pub passed : Terms
   pub above : new.above ≡ old.above ++ passed
@@ -134,7 +133,7 @@ AreOverProducts u g f = Each (λ (t : Term). AreOver (plus u t.mono) f) g
 
 -- c times u times g is taken away
 pub record Subtracts (c : Fraction) (u : Exponents) (g : Terms) (old new : Split) : Type 0 where
-  pub same : SamePolynomial (terms_of new) (terms_of old ++ times (neg_ℚ c) u g)
+  pub same : SamePolynomial (joined_terms new) (joined_terms old ++ times (neg_ℚ c) u g)
   pub sound : IsSound (length u) new
   pub passed : Terms
   pub above : new.above ≡ old.above ++ passed
@@ -142,7 +141,7 @@ pub record Subtracts (c : Fraction) (u : Exponents) (g : Terms) (old new : Split
 -- the product of c and the coefficient leaves the range, or that of u and the monomial, or the difference of the
 -- coefficient of f at that monomial and the product of coefficients
 abbrev pub IsRefusedAt : Terms → Fraction → Exponents → Term → PolyError → Type 0
-IsRefusedAt f c u t (errors.Overflow o) = IsProductOverflow c t.coef o ⊎ IsDifferenceOverflow (coefficient f (plus u t.mono)) (c *ℚ t.coef) o
+IsRefusedAt f c u t (errors.Overflow o) = IsScalingOverflow c t.coef o ⊎ IsDifferenceOverflow (coefficient f (plus u t.mono)) (c *ℚ t.coef) o
 IsRefusedAt f c u t (errors.Exponent o) = IsFirstOverflow u t.mono o
 IsRefusedAt f c u t errors.Memory = ⊥
 
@@ -154,9 +153,7 @@ pub record IsTermRefusal (f : Terms) (c : Fraction) (u : Exponents) (g : Terms) 
 
 -- why c times u times g isn't taken away from f
 abbrev pub IsSubtractionRefusal : Terms → Fraction → Exponents → Terms → PolyError → Type 0
-IsSubtractionRefusal f c u g (errors.Overflow o) = IsTermRefusal f c u g (errors.Overflow o)
-IsSubtractionRefusal f c u g (errors.Exponent o) = IsTermRefusal f c u g (errors.Exponent o)
-IsSubtractionRefusal f c u g errors.Memory = Unit {0}
+IsSubtractionRefusal f c u g = UnlessMemory (IsTermRefusal f c u g)
 
 -- ---- steps
 
@@ -170,10 +167,10 @@ pub record SharesVariables (b : MarkedPolynomial) (s : Split) : Type 0 where
 -- and no term goes above the place
 pub record TakesStep (b : MarkedPolynomial) (old : Split) (q : Term) (new : Split) : Type 0 where
   pub there : q.coef ≢ zero_ℚ
-  pub coefficient_is : coefficient (terms_of old) (head_of old.below zero) ≡ q.coef
+  pub coefficient_is : coefficient (joined_terms old) (head_of old.below zero) ≡ q.coef
   pub product : plus q.mono b.head ≡ head_of old.below zero
   pub variables : length q.mono ≡ length b.head
-  pub same : SamePolynomial (terms_of new) (terms_of old ++ times (neg_ℚ q.coef) q.mono b.poly)
+  pub same : SamePolynomial (joined_terms new) (joined_terms old ++ times (neg_ℚ q.coef) q.mono b.poly)
   pub sound : (n : ℕ) → IsSound n old → IsSound n new
   pub passed : Terms
   pub above : old.above ≡ new.above ++ passed

@@ -1,16 +1,15 @@
 -- Division with cofactors: a polynomial is its remainder and the sum of the cofactors times the members.
 -- Each step of the rule gives the member that it takes one quotient more; a cofactor is the sum of its quotients.
 -- Laws: proofs/DivisionLaws.antt. Source: Cox, Little, O'Shea, Ideals, Varieties, and Algorithms, 2.3, theorem 3.
-use Rattle.std.specs.Prelude.{◌≡◌, ◌⊎◌, ℕ, zero, suc, ◌+◌, ◌<◌, ◌≤◌, ◌^◌, List, [], ◌∷◌, ◌++◌, length, map, Contains}
+use Rattle.std.specs.Prelude.{◌≡◌, ◌⊎◌, ℕ, zero, suc, ◌+◌, ◌<◌, List, [], ◌∷◌, ◌++◌, length, map, Contains}
 use Rattle.std.specs.Global.{Vec}
 use Rattle.gf_frac.specs.Fraction.{Fraction}
-use Rattle.gf_frac.specs.Fits.{Fits}
 use Rattle.gf_frac.specs.declared.refusal.Op.{Op}
 use Rattle.gf_frac.specs.declared.refusal.Op.TheVariants.{Add}
 use Rattle.gf_exponents.specs.Exponents.{Exponents}
 use Rattle.gf_poly.specs.declared.Term.{Term}
 use Rattle.gf_poly.specs.declared.error.PolyError.{PolyError}
-use Rattle.gf_poly.specs.declared.error.PolyError.TheVariants as errors
+use Rattle.gf_poly.specs.Refusals.{ByKind, IsRefusedBy}
 use Rattle.gf_poly.specs.Polynomial.{Terms, coefficient, times, SamePolynomial, IsDescending, HasVariables}
 use Rattle.gf_poly.specs.Collecting.{like, sum_of_coefficients, IsLikeSumOverflow}
 use Rattle.gf_poly.specs.Marking.{MarkedPolynomial, Each}
@@ -48,10 +47,10 @@ with_quotient (q ∷ qs) zero t = (q ++ t ∷ []) ∷ qs
 with_quotient (q ∷ qs) (suc k) t = q ∷ with_quotient qs k t
 
 -- finitely many steps of the rule lead from f to g, and give these quotients, one list for each member
-pub data IsDivided (bs : List MarkedPolynomial) (f : Terms) : List Terms → Terms → Type 0 where
-  here : IsDivided bs f (no_quotients bs) f
-  next : (qs : List Terms) (g h : Terms) → IsDivided bs f qs g → (s : IsRuleStep bs g h) →
-      IsDivided bs f (with_quotient qs s.place (record { coef = coefficient g s.at; mono = s.rest })) h
+pub data IsDivisionByRule (bs : List MarkedPolynomial) (f : Terms) : List Terms → Terms → Type 0 where
+  here : IsDivisionByRule bs f (no_quotients bs) f
+  next : (qs : List Terms) (g h : Terms) → IsDivisionByRule bs f qs g → (s : IsRuleStep bs g h) →
+      IsDivisionByRule bs f (with_quotient qs s.place (record { coef = coefficient g s.at; mono = s.rest })) h
 
 -- place by place: h is the sum of the quotients q
 abbrev pub AreSums : List Terms → List Terms → Type 0
@@ -63,7 +62,7 @@ AreSums (q ∷ qs) (h ∷ hs) = SamePolynomial h q × AreSums qs hs
 -- the cofactors are the sums of the quotients by which the rule leads from f to the remainder
 pub record AreCofactors (bs : List MarkedPolynomial) (f r : Terms) (hs : List Terms) : Type 0 where
   pub quotients : List Terms
-  pub divided : IsDivided bs f quotients r
+  pub divided : IsDivisionByRule bs f quotients r
   pub sums : AreSums quotients hs
 
 -- ---- refusals
@@ -73,7 +72,7 @@ pub record IsQuotientSum (bs : List MarkedPolynomial) (f : Terms) (op : Op) (lef
   pub is_op : op ≡ Add
   pub quotients : List Terms
   pub rest : Terms
-  pub divided : IsDivided bs f quotients rest
+  pub divided : IsDivisionByRule bs f quotients rest
   pub of_member : Terms
   pub contained : Contains quotients of_member
   pub at : Exponents
@@ -85,12 +84,13 @@ pub record IsQuotientSum (bs : List MarkedPolynomial) (f : Terms) (op : Op) (lef
   pub is_left : left ≡ sum_of_coefficients earlier
   pub is_right : right ≡ last.coef
 
--- why the division of f by bs is refused: two numbers don't fit, of a step from a polynomial that f reaches, or of a sum
--- of two quotients of one cofactor at one monomial
+-- the operation is one of a step from a polynomial that f reaches, or the sum of two quotients of one cofactor at one monomial
+abbrev pub IsDivisionOperation : List MarkedPolynomial → Terms → Op → Fraction → Fraction → Type 0
+IsDivisionOperation bs f op left right = IsReductionOperation (Contains bs) f op left right ⊎ IsQuotientSum bs f op left right
+
+-- why the division of f by bs is refused: two numbers of such an operation don't fit, or two exponents of such a step
 abbrev pub IsDivisionRefusal : List MarkedPolynomial → Terms → PolyError → Type 0
-IsDivisionRefusal bs f (errors.Overflow o) = (IsReductionOperation (Contains bs) f o.op o.left o.right ⊎ IsQuotientSum bs f o.op o.left o.right) × ¬ (Fits o.op o.left o.right)
-IsDivisionRefusal bs f (errors.Exponent o) = IsReductionExponents (Contains bs) f o.left o.right × (2 ^ 31 ≤ o.left + o.right)
-IsDivisionRefusal bs f errors.Memory = Unit {0}
+IsDivisionRefusal bs f = IsRefusedBy (IsDivisionOperation bs f) (IsReductionExponents (Contains bs) f)
 
 -- ---- what is kept of the quotients
 
@@ -104,9 +104,7 @@ pub record KeepForms (qs hs : List Terms) : Type 0 where
 
 -- why quotients aren't summed up: a sum of like terms of one list
 abbrev pub IsSumRefusal : List Terms → PolyError → Type 0
-IsSumRefusal qs (errors.Overflow o) = (q : Terms) × Contains qs q × IsLikeSumOverflow q o
-IsSumRefusal qs (errors.Exponent o) = ⊥
-IsSumRefusal qs errors.Memory = Unit {0}
+IsSumRefusal qs = ByKind (λ o. (q : Terms) × Contains qs q × IsLikeSumOverflow q o) (λ o. ⊥)
 
 -- the lists
 abbrev pub lists_of : List (Vec Term) → List Terms

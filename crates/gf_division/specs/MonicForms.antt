@@ -2,10 +2,9 @@
 -- Laws: proofs/MonicLaws.antt.
 use Rattle.std.specs.Prelude.{◌≡◌, ◌≢◌, ℕ}
 use Rattle.gf_frac.specs.Fraction.{Fraction, one_ℚ}
-use Rattle.gf_frac.specs.Fits.{Fits}
 use Rattle.gf_frac.specs.declared.refusal.Op.{Op}
 use Rattle.gf_poly.specs.declared.error.PolyError.{PolyError}
-use Rattle.gf_poly.specs.declared.error.PolyError.TheVariants as errors
+use Rattle.gf_poly.specs.Refusals.{IsRefusedBy, NoSum}
 use Rattle.gf_poly.specs.Polynomial.{HasVariables, coefficient}
 use Rattle.gf_poly.specs.Marking.{MarkedPolynomial}
 use Rattle.gf_ideal.specs.Reduction.{IsMonicForm}
@@ -24,9 +23,7 @@ pub record IsDivisionByMark (f : MarkedPolynomial) (op : Op) (left right : Fract
 
 -- why f isn't made monic: a coefficient and the marked one, whose quotient doesn't fit
 abbrev pub IsMonicRefusal : MarkedPolynomial → PolyError → Type 0
-IsMonicRefusal f (errors.Overflow o) = IsDivisionByMark f o.op o.left o.right × ¬ (Fits o.op o.left o.right)
-IsMonicRefusal f (errors.Exponent o) = ⊥
-IsMonicRefusal f errors.Memory = Unit {0}
+IsMonicRefusal f = IsRefusedBy (IsDivisionByMark f) NoSum
 
 -- all monomials have the same number of variables
 pub record HasSomeVariables (f : MarkedPolynomial) : Type 0 where

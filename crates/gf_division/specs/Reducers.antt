@@ -9,7 +9,7 @@ use Rattle.gf_poly.specs.Polynomial.{Terms, HasVariables}
 use Rattle.gf_poly.specs.Marking.{MarkedPolynomial, Each, HaveVariables}
 use Rattle.gf_ideal.specs.Reduction.{IsDivisible}
 use Rattle.gf_ideal.specs.Settled.{IsAt}
-use Rattle.gf_division.specs.Dividends.{Split, IsSound, IsFirst}
+use Rattle.gf_division.specs.Dividends.{Split, IsSound, IsFirstTerm}
 
 -- the member at the place j is the first one whose mark divides x; it has as many variables as x
 pub record IsDivisorAt (bs : List MarkedPolynomial) (x : Exponents) (j : ℕ) : Type 0 where
@@ -26,9 +26,9 @@ IsBeside (Some y) x = same x y ≡ false
 IsBeside None x = Unit {0}
 
 -- the spared monomial has n variables
-abbrev pub HasLength : ℕ → Option Exponents → Type 0
-HasLength n (Some x) = length x ≡ n
-HasLength n None = Unit {0}
+abbrev pub IsSpareIn : ℕ → Option Exponents → Type 0
+IsSpareIn n (Some x) = length x ≡ n
+IsSpareIn n None = Unit {0}
 
 -- no mark divides a listed monomial, the spared one apart
 abbrev pub AreIrreducible : List MarkedPolynomial → Option Exponents → Terms → Type 0
@@ -39,12 +39,12 @@ pub record ShareVariables (s : Split) (bs : List MarkedPolynomial) (spared : Opt
   pub n : ℕ
   pub sound : IsSound n s
   pub members : HaveVariables n bs
-  pub spare : HasLength n spared
+  pub spare : IsSpareIn n spared
 
 -- the member at the place j reduces the first term below the place
 pub record IsReducibleFirst (bs : List MarkedPolynomial) (spared : Option Exponents) (s : Split) (j : ℕ) : Type 0 where
   pub term : Term
-  pub is : IsFirst s.below term
+  pub is : IsFirstTerm s.below term
   pub divisor : IsDivisorAt bs term.mono j
   pub beside : IsBeside spared term.mono
   pub monomial : IsMonomial term.mono

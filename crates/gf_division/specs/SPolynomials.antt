@@ -1,12 +1,11 @@
 -- S-polynomials of marked polynomials with any marked coefficients: those of their monic forms.
 -- Laws: proofs/SPolynomialLaws.antt. Source: Cox, Little, O'Shea, Ideals, Varieties, and Algorithms, 2.6.
-use Rattle.std.specs.Prelude.{◌≡◌, ◌⊎◌, ℕ, ◌+◌, ◌≤◌, ◌^◌, length}
+use Rattle.std.specs.Prelude.{◌≡◌, ◌⊎◌, ℕ, length}
 use Rattle.gf_frac.specs.Fraction.{Fraction, one_ℚ}
-use Rattle.gf_frac.specs.Fits.{Fits}
 use Rattle.gf_frac.specs.declared.refusal.Op.{Op}
 use Rattle.gf_exponents.specs.Exponents.{Exponents, plus, join}
 use Rattle.gf_poly.specs.declared.error.PolyError.{PolyError}
-use Rattle.gf_poly.specs.declared.error.PolyError.TheVariants as errors
+use Rattle.gf_poly.specs.Refusals.{IsRefusedBy, NoOperation}
 use Rattle.gf_poly.specs.Polynomial.{Terms, HasVariables, IsDescending, times}
 use Rattle.gf_poly.specs.Marking.{MarkedPolynomial}
 use Rattle.gf_ideal.specs.Reduction.{IsSPolynomial}
@@ -42,9 +41,7 @@ pub record IsSPolynomialOf (f g : MarkedPolynomial) (s : Terms) : Type 0 where
 
 -- of monic b and c: two coefficients at one monomial whose difference doesn't fit, or two exponents whose sum doesn't
 abbrev pub IsMonicPairRefusal : MarkedPolynomial → MarkedPolynomial → PolyError → Type 0
-IsMonicPairRefusal b c (errors.Overflow o) = IsSPolynomialOperation b c o.op o.left o.right × ¬ (Fits o.op o.left o.right)
-IsMonicPairRefusal b c (errors.Exponent o) = IsSPolynomialExponents b c o.left o.right × (2 ^ 31 ≤ o.left + o.right)
-IsMonicPairRefusal b c errors.Memory = Unit {0}
+IsMonicPairRefusal b c = IsRefusedBy (IsSPolynomialOperation b c) (IsSPolynomialExponents b c)
 
 -- the operation is one of making f or g monic, or of the S-polynomial of their monic forms
 abbrev pub IsPairOperation : MarkedPolynomial → MarkedPolynomial → Op → Fraction → Fraction → Type 0
@@ -56,14 +53,12 @@ IsPairExponents f g left right = (b : MarkedPolynomial) × (c : MarkedPolynomial
 
 -- why the S-polynomial of f and g is refused: two numbers of such an operation don't fit
 abbrev pub IsPairRefusal : MarkedPolynomial → MarkedPolynomial → PolyError → Type 0
-IsPairRefusal f g (errors.Overflow o) = IsPairOperation f g o.op o.left o.right × ¬ (Fits o.op o.left o.right)
-IsPairRefusal f g (errors.Exponent o) = IsPairExponents f g o.left o.right × (2 ^ 31 ≤ o.left + o.right)
-IsPairRefusal f g errors.Memory = Unit {0}
+IsPairRefusal f g = IsRefusedBy (IsPairOperation f g) (IsPairExponents f g)
 
 -- ---- two multiples
 
 -- u times x and v times y are the least common multiple of both, and have the variables of x
-pub record AreCofactors (x y u v : Exponents) : Type 0 where
+pub record AreLcmCofactors (x y u v : Exponents) : Type 0 where
   pub left : plus u x ≡ join x y
   pub right : plus v y ≡ join x y
   pub length_left : length u ≡ length x
@@ -76,6 +71,4 @@ pub record IsRaised (u : Exponents) (f h : Terms) : Type 0 where
 
 -- why f isn't raised by u: a sum of exponents that doesn't fit
 abbrev pub IsRaisingRefusal : Exponents → Terms → PolyError → Type 0
-IsRaisingRefusal u f (errors.Overflow o) = ⊥
-IsRaisingRefusal u f (errors.Exponent o) = IsShiftOperation u f o.left o.right × (2 ^ 31 ≤ o.left + o.right)
-IsRaisingRefusal u f errors.Memory = Unit {0}
+IsRaisingRefusal u f = IsRefusedBy NoOperation (IsShiftOperation u f)

@@ -1,12 +1,11 @@
 -- Steps of reduction by a marked polynomial: what a step gives, and why steps are refused.
 -- A refusal names two numbers on which a step works, and which don't fit: they are told with the step that they belong to.
 -- Laws: proofs/StepLaws.antt. Source: Cox, Little, O'Shea, Ideals, Varieties, and Algorithms, 2.3.
-use Rattle.std.specs.Prelude.{◌≡◌, ◌+◌, ◌≤◌, ◌^◌, true, List, ◌++◌, Contains}
+use Rattle.std.specs.Prelude.{◌≡◌, true, List, ◌++◌, Contains}
 use Rattle.gf_frac.specs.Fraction.{neg_ℚ}
-use Rattle.gf_frac.specs.Fits.{Fits}
 use Rattle.gf_exponents.specs.Exponents.{Exponents, same, plus}
 use Rattle.gf_poly.specs.declared.error.PolyError.{PolyError}
-use Rattle.gf_poly.specs.declared.error.PolyError.TheVariants as errors
+use Rattle.gf_poly.specs.Refusals.{IsRefusedBy}
 use Rattle.gf_poly.specs.Polynomial.{Terms, coefficient, SamePolynomial, times}
 use Rattle.gf_poly.specs.Marking.{MarkedPolynomial}
 use Rattle.gf_ideal.specs.Membership.{HasMonomial}
@@ -23,14 +22,10 @@ pub record StepsTo (f : Terms) (b : MarkedPolynomial) (x : Exponents) (g : Terms
 
 -- why the step from f at x by b is refused: two numbers of this step don't fit
 abbrev pub IsStepRefusal : Terms → MarkedPolynomial → Exponents → PolyError → Type 0
-IsStepRefusal f b x (errors.Overflow o) = IsStepOperation (λ c. c ≡ b) f x o.op o.left o.right × ¬ (Fits o.op o.left o.right)
-IsStepRefusal f b x (errors.Exponent o) = IsStepExponents (λ c. c ≡ b) f x o.left o.right × (2 ^ 31 ≤ o.left + o.right)
-IsStepRefusal f b x errors.Memory = Unit {0}
+IsStepRefusal f b x = IsRefusedBy (IsStepOperation (λ c. c ≡ b) f x) (IsStepExponents (λ c. c ≡ b) f x)
 
 -- ---- many steps
 
 -- why a reduction of f by members of bs is refused: two numbers of a step from a polynomial that f reaches don't fit
 abbrev pub IsReductionRefusal : List MarkedPolynomial → Terms → PolyError → Type 0
-IsReductionRefusal bs f (errors.Overflow o) = IsReductionOperation (Contains bs) f o.op o.left o.right × ¬ (Fits o.op o.left o.right)
-IsReductionRefusal bs f (errors.Exponent o) = IsReductionExponents (Contains bs) f o.left o.right × (2 ^ 31 ≤ o.left + o.right)
-IsReductionRefusal bs f errors.Memory = Unit {0}
+IsReductionRefusal bs f = IsRefusedBy (IsReductionOperation (Contains bs) f) (IsReductionExponents (Contains bs) f)

@@ -8,7 +8,7 @@ ghost use Rattle.gf_ideal.specs.Marks.{HasPositiveWeight, IsRealisable};
 ghost use Rattle.gf_ideal.specs.Bases.{AreArranged};
 ghost use Rattle.gf_ideal.specs.WorkLists.{IsReducedTail, AreReducedTails};
 ghost use Rattle.gf_division.specs.NormalForms.{HasSomeWeight};
-ghost use Rattle.gf_division.specs.Autoreduction.{AreNeededForms, IsAutoreduced, IsReducedOf, IsTailRefusal, IsMemberRefusal, IsAutoreductionRefusal, HaveSomeVariables, MakesNeedless, IsNeededAt, KeepVariables, IsKeptForm, AreKeptForms};
+ghost use Rattle.gf_division.specs.Autoreduction.{AreNeededForms, IsAutoreduced, IsReducedOf, IsTailRefusal, IsNeededRefusal, IsAutoreductionRefusal, ShareSomeVariables, MakesNeedless, IsNeededAt, KeepVariables, IsKeptForm, AreKeptForms};
 
 use crate::dividend::Dividend;
 use crate::monic::made_monic;
@@ -29,7 +29,7 @@ fn makes_needless(x: &Mono, y: &Mono, is_before: bool) -> bool
 // Whether the member at the place `i` is needed.
 fn is_needed(items: &[Marked], i: usize) -> bool
     requires within { i < length items.now }
-    requires variables { HaveSomeVariables items.now }
+    requires variables { ShareSomeVariables items.now }
     ensures yes { IsTrue result → IsNeededAt items.now i }
     ensures no { result ≡ false → IsNeededAt items.now i → ⊥ }
 {
@@ -45,10 +45,10 @@ fn is_needed(items: &[Marked], i: usize) -> bool
 
 // The monic forms of the needed members.
 fn needed_forms(alloc: Global, items: &[Marked]) -> Result<Vec<Marked>, PolyError>
-    requires { HaveSomeVariables items.now }
+    requires { ShareSomeVariables items.now }
     ensures value { IfOk result (λ ks. AreNeededForms items.now ks.items) }
     ensures variables { IfOk result (λ ks. KeepVariables items.now ks.items) }
-    ensures cause { IfErr result (IsMemberRefusal items.now) }
+    ensures cause { IfErr result (IsNeededRefusal items.now) }
 {
     let mut forms = Vec::new(alloc);
     'members: for i in 0..items.len() {
@@ -60,8 +60,8 @@ fn needed_forms(alloc: Global, items: &[Marked]) -> Result<Vec<Marked>, PolyErro
     Ok(forms)
 }
 
-// The place of the term at `x`, which is a monomial of the polynomial.
-fn place_of(terms: &[Term], x: &Mono) -> usize
+/// The place of the term at `x`, which is a monomial of the polynomial.
+pub fn place_of(terms: &[Term], x: &Mono) -> usize
     requires variables { HasVariables (length x.now) terms.now }
     requires there { HasMonomial terms.now x.now }
     ensures inside { result < length terms.now }
@@ -76,11 +76,18 @@ fn place_of(terms: &[Term], x: &Mono) -> usize
     unreachable!()
 }
 
-// A member with its tail reduced by all of them.
-fn reduced_tail(alloc: Global, member: &Marked, by: &[Marked]) -> Result<Marked, PolyError>
+/// A member with its tail reduced by all of them: reduced like a polynomial, but for its marked term.
+///
+/// The members are monic, and some weight sets each mark above the rest.
+///
+/// # Errors
+///
+/// `Overflow` and `Exponent` only where two numbers of a step at an unmarked monomial of a tail, by a member, don't fit; it
+/// holds them.
+pub fn reduced_tail(alloc: Global, member: &Marked, by: &[Marked]) -> Result<Marked, PolyError>
     requires member { Contains by.now member.now }
     requires marked { HasSomeWeight by.now }
-    requires variables { HaveSomeVariables by.now }
+    requires variables { ShareSomeVariables by.now }
     ensures tail { IfOk result (IsReducedTail by.now member.now) }
     ensures form { IfOk result (IsKeptForm member.now) }
     ensures cause { IfErr result (IsTailRefusal by.now) }
@@ -99,7 +106,7 @@ fn reduced_tail(alloc: Global, member: &Marked, by: &[Marked]) -> Result<Marked,
 // The members with their tails reduced by one another.
 fn tails(alloc: Global, members: &[Marked]) -> Result<Vec<Marked>, PolyError>
     requires marked { HasSomeWeight members.now }
-    requires variables { HaveSomeVariables members.now }
+    requires variables { ShareSomeVariables members.now }
     ensures tails { IfOk result (λ cs. AreReducedTails members.now members.now cs.items) }
     ensures forms { IfOk result (λ cs. AreKeptForms members.now cs.items) }
     ensures cause { IfErr result (IsTailRefusal members.now) }
@@ -121,8 +128,9 @@ fn tails(alloc: Global, members: &[Marked]) -> Result<Vec<Marked>, PolyError>
 ///
 /// # Errors
 ///
-/// `Overflow` and `Exponent` only where two numbers don't fit that are divided in making a member monic, or on which a
-/// step works that reduces a tail by the monic forms of the needed members; it holds them.
+/// `Overflow` and `Exponent` only where two numbers don't fit that are divided in making a needed member monic, or on which
+/// a step works that reduces a tail by the monic forms of the needed members; it holds them. A member that is dropped is
+/// never divided.
 pub fn autoreduce(alloc: Global, set: &MarkedSet) -> Result<MarkedSet, PolyError>
     requires { IsRealisable set.now.variables set.now.items }
     ensures value { IfOk result (IsAutoreduced set.now) }

@@ -7,7 +7,7 @@ ghost use Rattle.gf_poly.specs.Marking.{head_of};
 ghost use Rattle.gf_poly.specs.Polynomial.{coefficient as coefficient_at, IsDescending, HasVariables};
 ghost use Rattle.gf_poly.specs.Sums.{PushesNonzero};
 ghost use Rattle.gf_division.specs.Steps.{IsStepRefusal};
-ghost use Rattle.gf_division.specs.Dividends.{split_of, terms_of, IsSound, IsFirst, DividesFirst, AreOver, AreOverProducts, Advances, FirstIs, Descends, MovesUp, TakesFromFirst, IsFirstRefusal, TakesAway, IsDifferenceRefusal, IsProductOverflow, Subtracts, IsSubtractionRefusal, SharesVariables, TakesStep};
+ghost use Rattle.gf_division.specs.Dividends.{split_of, joined_terms, IsSound, IsFirstTerm, DividesFirst, AreOver, AreOverProducts, PassesOne, FirstIs, Descends, MovesUp, TakesFromFirst, IsFirstRefusal, TakesAway, IsDifferenceRefusal, IsScalingOverflow, Subtracts, IsSubtractionRefusal, SharesVariables, TakesStep};
 
 use gf_frac::{Frac, Overflow};
 use gf_poly::{Marked, Mono, Poly, PolyError, Term};
@@ -26,7 +26,7 @@ pub struct Dividend {
 // The product; by 1, from either side, it is the other number.
 fn product(a: &Frac, b: &Frac) -> Result<Frac, Overflow>
     ensures value { IfOk result (λ x. x ≡ a.now *ℚ b.now) }
-    ensures overflow { IfErr result (IsProductOverflow a.now b.now) }
+    ensures overflow { IfErr result (IsScalingOverflow a.now b.now) }
 {
     if *a == Frac::ONE {
         return Ok(*b);
@@ -84,8 +84,8 @@ impl Dividend {
 
     /// The polynomial; nothing is copied, and terms that are still below the place are moved.
     pub fn into_poly(self) -> Result<Poly, AllocError>
-        requires { IsDescending (terms_of (split_of self)) }
-        ensures { IfOk result (λ f. f ≡ terms_of (split_of self)) }
+        requires { IsDescending (joined_terms (split_of self)) }
+        ensures { IfOk result (λ f. f ≡ joined_terms (split_of self)) }
     {
         let Dividend { above, below } = self;
         let terms = joined(above, below)?;
@@ -94,7 +94,7 @@ impl Dividend {
 
     /// The first term below the place.
     pub fn next(&self) -> Option<&Term>
-        ensures { MatchOption result ((split_of self.now).below ≡ []) (λ t. IsFirst (split_of self.now).below t.now) }
+        ensures { MatchOption result ((split_of self.now).below ≡ []) (λ t. IsFirstTerm (split_of self.now).below t.now) }
     {
         let n = self.below.len();
         if n == 0 {
@@ -106,7 +106,7 @@ impl Dividend {
     /// Carries the first term below the place over it.
     pub fn advance(&mut self) -> Result<(), AllocError>
         requires { (split_of self.old).below ≢ [] }
-        ensures { OnOk result (Advances (split_of self.old) (split_of self.new)) }
+        ensures { OnOk result (PassesOne (split_of self.old) (split_of self.new)) }
     {
         if let Some(t) = self.below.pop() {
             self.above.push(t)?;
@@ -117,7 +117,7 @@ impl Dividend {
     // Carries the last term above the place back.
     fn retreat(&mut self) -> Result<(), AllocError>
         requires { self.old.above.items ≢ [] }
-        ensures { OnOk result (Advances (split_of self.new) (split_of self.old)) }
+        ensures { OnOk result (PassesOne (split_of self.new) (split_of self.old)) }
     {
         if let Some(t) = self.above.pop() {
             self.below.push(t)?;
@@ -204,7 +204,7 @@ impl Dividend {
         requires over { AreOver mono self.old.above.items }
         requires nonzero { coef.now ≢ zero_ℚ }
         ensures ok { OnOk result (TakesAway coef.now mono (split_of self.old) (split_of self.new)) }
-        ensures cause { IfErr result (IsDifferenceRefusal (coefficient_at (terms_of (split_of self.old)) mono) coef.now) }
+        ensures cause { IfErr result (IsDifferenceRefusal (coefficient_at (joined_terms (split_of self.old)) mono) coef.now) }
     {
         match self.descend(&mono)? {
             Ordering::Equal => self.take_from_next(coef),
@@ -231,7 +231,7 @@ impl Dividend {
         requires over { AreOverProducts shift.now terms.now self.old.above.items }
         requires nonzero { coef.now ≢ zero_ℚ }
         ensures ok { OnOk result (Subtracts coef.now shift.now terms.now (split_of self.old) (split_of self.new)) }
-        ensures cause { IfErr result (IsSubtractionRefusal (terms_of (split_of self.old)) coef.now shift.now terms.now) }
+        ensures cause { IfErr result (IsSubtractionRefusal (joined_terms (split_of self.old)) coef.now shift.now terms.now) }
     {
         'terms: for i in 0..terms.len() {
             let t = &terms[i];
@@ -246,7 +246,7 @@ impl Dividend {
     fn quotient(&self, by: &Mono) -> Term
         requires sound { IsSound (length by.now) (split_of self.now) }
         requires divides { DividesFirst by.now (split_of self.now).below }
-        ensures coefficient { coefficient_at (terms_of (split_of self.now)) (head_of (split_of self.now).below zero) ≡ result.coef }
+        ensures coefficient { coefficient_at (joined_terms (split_of self.now)) (head_of (split_of self.now).below zero) ≡ result.coef }
         ensures nonzero { result.coef ≢ zero_ℚ }
         ensures product { plus result.mono by.now ≡ head_of (split_of self.now).below zero }
         ensures variables { length result.mono ≡ length by.now }
@@ -270,7 +270,7 @@ impl Dividend {
         requires variables { SharesVariables by.now (split_of self.old) }
         requires divides { DividesFirst by.now.head (split_of self.old).below }
         ensures step { IfOk result (λ q. TakesStep by.now (split_of self.old) q (split_of self.new)) }
-        ensures cause { IfErr result (IsStepRefusal (terms_of (split_of self.old)) by.now (head_of (split_of self.old).below zero)) }
+        ensures cause { IfErr result (IsStepRefusal (joined_terms (split_of self.old)) by.now (head_of (split_of self.old).below zero)) }
     {
         let quotient = self.quotient(by.head());
         let terms = by.poly().terms();

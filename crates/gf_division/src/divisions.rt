@@ -6,7 +6,7 @@ ghost use Rattle.gf_ideal.specs.Marks.{HasPositiveWeight};
 ghost use Rattle.gf_ideal.specs.NormalForms.{IsNormalForm};
 ghost use Rattle.gf_division.specs.Steps.{IsReductionRefusal};
 ghost use Rattle.gf_division.specs.NormalForms.{HasSomeWeight, HaveSameVariables};
-ghost use Rattle.gf_division.specs.Divisions.{cofactor_sum, AreForms, HaveVariablesOf, IsDivided, AreCofactors, AreSums, KeepForms, IsDivisionRefusal, IsSumRefusal, with_quotient, lists_of};
+ghost use Rattle.gf_division.specs.Divisions.{cofactor_sum, AreForms, HaveVariablesOf, IsDivisionByRule, AreCofactors, AreSums, KeepForms, IsDivisionRefusal, IsSumRefusal, with_quotient, lists_of};
 
 use crate::dividend::Dividend;
 use crate::reducers::seek;
@@ -64,7 +64,7 @@ fn divided(alloc: Global, f: Poly, by: &[Marked]) -> Result<(Poly, Vec<Vec<Term>
     ensures remainder { IfOk result (λ d. IsNormalForm by.now f d.0) }
     ensures descending { IfOk result (λ d. IsDescending d.0) }
     ensures variables { IfOk result (λ d. KeepsVariables f d.0) }
-    ensures quotients { IfOk result (λ d. IsDivided by.now f (lists_of d.1.items) d.0) }
+    ensures quotients { IfOk result (λ d. IsDivisionByRule by.now f (lists_of d.1.items) d.0) }
     ensures forms { IfOk result (λ d. HaveVariablesOf f (lists_of d.1.items)) }
     ensures cause { IfErr result (IsReductionRefusal by.now f) }
 {

@@ -10,9 +10,11 @@ mod reducers;
 mod s_polynomials;
 mod steps;
 
-pub use autoreduction::autoreduce;
+pub use autoreduction::{autoreduce, place_of, reduced_tail};
+pub use dividend::Dividend;
 pub use divisions::{Division, divide};
 pub use normal_forms::{normal_form, reduced};
+pub use reducers::divisor_of;
 pub use s_polynomials::s_poly;
 pub use steps::reduce_step;
 

@@ -21,7 +21,7 @@ pub fn is_monic(b: &Marked) -> bool
     ensures yes { IsTrue result → IsMadeMonic b.now b.now }
     ensures no { result ≡ false → coefficient b.now.poly b.now.head ≢ one_ℚ }
 {
-    // The terms descend: the accessor says so.
+    // Called for the proof alone: what `head` ensures says that the terms descend, and that the mark is that of one of them.
     let _ = b.head();
     b.coefficient() == one()
 }
@@ -37,7 +37,7 @@ pub fn made_monic(b: &Marked) -> Result<Marked, PolyError>
     ensures variables { IfOk result (λ c. KeepsVariables b.now.poly c.poly) }
     ensures cause { IfErr result (IsMonicRefusal b.now) }
 {
-    // The terms descend: the accessor says so.
+    // Called for the proof alone: what `head` ensures says that the terms descend, and that the mark is that of one of them.
     let _ = b.head();
     if is_monic(b) {
         return Ok(b.copy()?);

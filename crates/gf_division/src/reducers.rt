@@ -4,8 +4,8 @@ ghost use Rattle.std.specs.Prelude.{false, ◌≡◌, ◌↔◌, length, IfSome,
 ghost use Rattle.gf_exponents.specs.Exponents.{Divides, degree as total_degree};
 ghost use Rattle.gf_poly.specs.Marking.{HaveVariables};
 ghost use Rattle.gf_ideal.specs.Reduction.{IsDivisible};
-ghost use Rattle.gf_division.specs.Dividends.{split_of, terms_of};
-ghost use Rattle.gf_division.specs.Reducers.{IsDivisorAt, IsBeside, HasLength, AreIrreducible, ShareVariables, IsSought};
+ghost use Rattle.gf_division.specs.Dividends.{split_of, joined_terms};
+ghost use Rattle.gf_division.specs.Reducers.{IsDivisorAt, IsBeside, IsSpareIn, AreIrreducible, ShareVariables, IsSought};
 
 use crate::dividend::Dividend;
 use gf_poly::{Marked, Mono};
@@ -23,8 +23,8 @@ fn is_divided(x: &Mono, degree: u64, mark: &Mono) -> bool
     mark.divides(x)
 }
 
-// The place of the first member whose mark divides `x`, if there is one.
-fn divisor_of(x: &Mono, by: &[Marked]) -> Option<usize>
+/// The place of the first member whose mark divides `x`, if there is one.
+pub fn divisor_of(x: &Mono, by: &[Marked]) -> Option<usize>
     requires { HaveVariables (length x.now) by.now }
     ensures found { IfSome result (IsDivisorAt by.now x.now) }
     ensures none { IfNone result (IsDivisible (Contains by.now) x.now → ⊥) }
@@ -41,7 +41,7 @@ fn divisor_of(x: &Mono, by: &[Marked]) -> Option<usize>
 
 // Whether `x` is another monomial than the spared one.
 fn is_beside(spared: &Option<Mono>, x: &Mono) -> bool
-    requires { HasLength (length x.now) spared.now }
+    requires { IsSpareIn (length x.now) spared.now }
     ensures yes { IsTrue result → IsBeside spared.now x.now }
     ensures no { result ≡ false → IsBeside spared.now x.now → ⊥ }
 {
@@ -54,7 +54,7 @@ fn is_beside(spared: &Option<Mono>, x: &Mono) -> bool
 // The place of the first member that reduces a term at `x`, if there is one and `x` isn't spared.
 fn reducer_of(x: &Mono, by: &[Marked], spared: &Option<Mono>) -> Option<usize>
     requires members { HaveVariables (length x.now) by.now }
-    requires spare { HasLength (length x.now) spared.now }
+    requires spare { IsSpareIn (length x.now) spared.now }
     ensures found { IfSome result (IsDivisorAt by.now x.now) }
     ensures beside { IfSome result (λ _. IsBeside spared.now x.now) }
     ensures none { IfNone result (IsBeside spared.now x.now → IsDivisible (Contains by.now) x.now → ⊥) }
@@ -73,12 +73,13 @@ pub fn seek(
 ) -> Result<Option<usize>, AllocError>
     requires variables { ShareVariables (split_of rest.old) by.now spared.now }
     requires above { AreIrreducible by.now spared.now (split_of rest.old).above }
-    ensures same { OnOk result (terms_of (split_of rest.new) ≡ terms_of (split_of rest.old)) }
+    ensures same { OnOk result (joined_terms (split_of rest.new) ≡ joined_terms (split_of rest.old)) }
     ensures above { OnOk result (AreIrreducible by.now spared.now (split_of rest.new).above) }
     ensures found { IfOk result (IsSought by.now spared.now (split_of rest.new)) }
 {
     'terms: while let Some(t) = rest.next() {
-        // Its exponents are within the limit: the accessor says so.
+        // Called for the proof alone: what `exponents` ensures says that each exponent is below 2^31, by which reductions
+        // are shown to end.
         let _ = t.mono.exponents();
         match reducer_of(&t.mono, by, spared) {
             Some(j) => return Ok(Some(j)),

@@ -3,7 +3,7 @@
 ghost use Rattle.std.specs.Prelude.{◌≡◌, length, IfOk, IfErr};
 ghost use Rattle.gf_poly.specs.Polynomial.{IsDescending, HasVariables};
 ghost use Rattle.gf_ideal.specs.Reduction.{IsSPolynomial};
-ghost use Rattle.gf_division.specs.SPolynomials.{SharePairVariables, KeepsPairVariables, IsSPolynomialOf, IsPairRefusal, IsMonicPairRefusal, AreCofactors, IsRaised, IsRaisingRefusal};
+ghost use Rattle.gf_division.specs.SPolynomials.{SharePairVariables, KeepsPairVariables, IsSPolynomialOf, IsPairRefusal, IsMonicPairRefusal, AreLcmCofactors, IsRaised, IsRaisingRefusal};
 
 use crate::dividend::Dividend;
 use crate::monic::{is_monic, made_monic, one};
@@ -29,7 +29,7 @@ fn raised(alloc: Global, f: &Poly, by: &Mono) -> Result<Poly, PolyError>
 // What two monomials have to be raised by, to their least common multiple.
 fn cofactors(x: &Mono, y: &Mono) -> (Mono, Mono)
     requires { length x.now ≡ length y.now }
-    ensures { AreCofactors x.now y.now result.0 result.1 }
+    ensures { AreLcmCofactors x.now y.now result.0 result.1 }
 {
     let multiple = x.lcm(y);
     (multiple.quotient(x), multiple.quotient(y))

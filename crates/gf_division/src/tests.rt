@@ -1,119 +1,25 @@
-//! Worked values, and divisions multiplied out.
+//! Worked values, refusals by their operands, and divisions multiplied out.
 
-ghost use Rattle.std.specs.Prelude.{◌≡◌, ◌⊎◌, ◌∷◌, [], ◌≤◌, ◌^◌, ◌*◌, true, length, IfOk, IsTrue};
+ghost use Rattle.std.specs.Prelude.{◌≡◌, ◌⊎◌, ◌≤◌, ◌^◌, ◌*◌, true, length, IfOk, IsTrue};
 ghost use Rattle.gf_exponents.specs.Exponents.{same, weight as weight_by};
 ghost use Rattle.gf_exponents.specs.Orders.{lighter};
 ghost use Rattle.gf_frac.specs.Fraction.{one_ℚ};
-ghost use Rattle.gf_poly.specs.Marking.{HaveVariables};
 ghost use Rattle.gf_poly.specs.Polynomial.{HasVariables, coefficient};
 ghost use Rattle.gf_division.specs.MonicForms.{HasSomeVariables};
 ghost use Rattle.gf_ideal.specs.Marks.{HasPositiveWeight, IsMarked, IsPositive, IsRealisable, IsRealisedBy};
 
 use super::*;
 use crate::monic::{made_monic, one as unit};
-use gf_frac::Frac;
+use gf_frac::Op;
 use gf_poly::{Marked, MarkedSet, Mono, Poly, PolyError, Term};
+use gf_samples::{lists, lists_members, marked, marked_set, poly};
 use std::alloc::Global;
 use std::cmp::Ordering;
 use std::test::Fail;
 
-// ---- polynomials in three variables
-
-// c * a^x * b^y * c^z
-fn term(alloc: Global, coef: i64, x: u8, y: u8, z: u8) -> Term
-    ensures { result.mono ≡ x ∷ y ∷ z ∷ [] }
-{
-    let exponents = [u32::from(x), u32::from(y), u32::from(z)];
-    Term {
-        coef: Frac::new(i128::from(coef), 1),
-        mono: Mono::new(alloc, &exponents),
-    }
-}
-
-// One term.
-fn one(t: Term, alloc: Global) -> Result<Poly, PolyError>
-    requires { HasVariables 3 (t ∷ []) }
-    ensures { IfOk result (HasVariables 3) }
-{
-    let terms = vec![in alloc; t]?;
-    Poly::from_terms(terms)
-}
-
-// The sum of two terms.
-fn two(first: Term, second: Term, alloc: Global) -> Result<Poly, PolyError>
-    requires { HasVariables 3 (first ∷ second ∷ []) }
-    ensures { IfOk result (HasVariables 3) }
-{
-    let terms = vec![in alloc; first, second]?;
-    Poly::from_terms(terms)
-}
-
-// The polynomial with a mark at this place.
-fn marked(p: Poly, index: usize) -> Result<Marked, PolyError>
-    requires { HasVariables 3 p }
-    ensures { IfOk result (λ b. HasVariables 3 b.poly) }
-{
-    if p.terms().len() <= index {
-        return Err(PolyError::Memory);
-    }
-    Ok(Marked::mark(p, index))
-}
-
-// The set of two marked polynomials.
-fn set_of(first: Marked, second: Marked, alloc: Global) -> Result<MarkedSet, PolyError>
-    requires { HaveVariables 3 (first ∷ second ∷ []) }
-    ensures { IfOk result (λ s. s.variables ≡ 3) }
-{
-    let items = vec![in alloc; first, second]?;
-    Ok(MarkedSet::new(3, items))
-}
-
-// The set of one.
-fn alone(member: Marked, alloc: Global) -> Result<MarkedSet, PolyError>
-    requires { HasVariables 3 member.poly }
-    ensures { IfOk result (λ s. s.variables ≡ 3) }
-{
-    let items = vec![in alloc; member]?;
-    Ok(MarkedSet::new(3, items))
-}
-
-// Whether these are the terms of the polynomial.
-fn lists(p: &Poly, expected: &[(i128, [u32; 3])]) -> bool {
-    let terms = p.terms();
-    if terms.len() != expected.len() {
-        return false;
-    }
-    for i in 0..terms.len() {
-        let (coef, exponents) = expected[i];
-        let t = &terms[i];
-        if t.coef.numer() != coef
-            || t.coef.denom() != 1
-            || t.mono.exponents() != exponents.as_slice()
-        {
-            return false;
-        }
-    }
-    true
-}
-
-// Whether these are the terms of the only polynomial.
-fn lists_one(polys: &[Poly], expected: &[(i128, [u32; 3])]) -> bool {
-    polys.len() == 1 && lists(&polys[0], expected)
-}
-
-// Whether these are the terms of the members.
-fn lists_members(set: &MarkedSet, expected: &[&[(i128, [u32; 3])]]) -> bool {
-    let items = set.items();
-    if items.len() != expected.len() {
-        return false;
-    }
-    for i in 0..items.len() {
-        if !lists(items[i].poly(), expected[i]) {
-            return false;
-        }
-    }
-    true
-}
+// the greatest coefficient, and the greatest exponent
+const M: i128 = i128::MAX;
+const E: u32 = 2_147_483_647;
 
 // ---- weights
 
@@ -236,64 +142,183 @@ fn stepped(alloc: Global, f: &Poly, at: &Mono, by: &Marked) -> Result<Option<Pol
     Ok(Some(g))
 }
 
-// a^2 - 1 and a*b - 1 have the S-polynomial a - b; whatever the marked coefficients are
+// The S-polynomial of two in three variables.
+fn s_polynomial(alloc: Global, f: &Marked, g: &Marked) -> Result<Poly, PolyError>
+    requires left { HasVariables 3 f.now.poly }
+    requires right { HasVariables 3 g.now.poly }
+{
+    s_poly(alloc, f, g)
+}
+
+// The normal form, unless the weight (1, 2, 3) doesn't set the marks above.
+fn normal_form_by(alloc: Global, f: &Poly, set: &MarkedSet) -> Result<Option<Poly>, PolyError>
+    requires variables { HasVariables 3 f.now }
+    requires same_variables { set.now.variables ≡ 3 }
+{
+    if !marks_all(&[1, 2, 3], set) {
+        return Ok(None);
+    }
+    let g = normal_form(alloc, f, set)?;
+    Ok(Some(g))
+}
+
+// The division, likewise.
+fn divided_by(alloc: Global, f: &Poly, set: &MarkedSet) -> Result<Option<Division>, PolyError>
+    requires variables { HasVariables 3 f.now }
+    requires same_variables { set.now.variables ≡ 3 }
+{
+    if !marks_all(&[1, 2, 3], set) {
+        return Ok(None);
+    }
+    let division = divide(alloc, f, set)?;
+    Ok(Some(division))
+}
+
+// The set autoreduced, likewise.
+fn autoreduced(alloc: Global, set: &MarkedSet) -> Result<Option<MarkedSet>, PolyError>
+    requires { set.now.variables ≡ 3 }
+{
+    if !realises(&[1, 2, 3], set) {
+        return Ok(None);
+    }
+    let reduced = autoreduce(alloc, set)?;
+    Ok(Some(reduced))
+}
+
+// a^2 - 1 and 3ab - 3 have the S-polynomial a - b
 #[test]
 fn s_polynomials(rt: HostRuntime) -> Result<(), Fail> {
     let alloc = rt.alloc();
-    let first = two(term(alloc, 1, 2, 0, 0), term(alloc, -1, 0, 0, 0), alloc)?;
-    let second = two(term(alloc, 3, 1, 1, 0), term(alloc, -3, 0, 0, 0), alloc)?;
-    let left = marked(first, 0)?;
-    let right = marked(second, 0)?;
-    let s = s_poly(alloc, &left, &right)?;
-    assert!(rt; lists(&s, &[(1, [1, 0, 0]), (-1, [0, 1, 0])]));
+    let left = marked(alloc, &[(1, [2, 0, 0]), (-1, [0, 0, 0])])?;
+    let right = marked(alloc, &[(3, [1, 1, 0]), (-3, [0, 0, 0])])?;
+    let s = s_polynomial(alloc, &left, &right)?;
+    assert!(rt; lists(&s, &[(1, 1, [1, 0, 0]), (-1, 1, [0, 1, 0])]));
     Ok(())
 }
 
-// by a - b, marked at a: a^2 becomes a*b by one step, its normal form is b^2, and a^2 - b^2 is a + b times it
+// by c - b, marked at c: c^2 becomes bc by one step, and its normal form is b^2
 #[test]
-fn divisions(rt: HostRuntime) -> Result<(), Fail> {
+fn steps(rt: HostRuntime) -> Result<(), Fail> {
     let alloc = rt.alloc();
-    let difference = two(term(alloc, 1, 1, 0, 0), term(alloc, -1, 0, 1, 0), alloc)?;
-    let member = marked(difference, 0)?;
-    let square = one(term(alloc, 1, 2, 0, 0), alloc)?;
-    let at = Mono::new(alloc, &[2, 0, 0]);
-    let step = match stepped(alloc, &square, &at, &member)? {
-        Some(g) => lists(&g, &[(1, [1, 1, 0])]),
-        None => false,
-    };
-    assert!(rt; step);
-    let set = alone(member, alloc)?;
-    assert!(rt; marks_all(&[2, 1, 1], &set));
-    let normal = normal_form(alloc, &square, &set)?;
-    assert!(rt; lists(&normal, &[(1, [0, 2, 0])]));
-    let squares = two(term(alloc, 1, 2, 0, 0), term(alloc, -1, 0, 2, 0), alloc)?;
-    let division = divide(alloc, &squares, &set)?;
-    assert!(rt; division.remainder.is_zero());
-    assert!(rt;
-        lists_one(
-            division.cofactors.items(),
-            &[(1, [1, 0, 0]), (1, [0, 1, 0])]
-        )
-    );
+    let square = poly(alloc, &[(1, [0, 0, 2])])?;
+    let member = marked(alloc, &[(1, [0, 0, 1]), (-1, [0, 1, 0])])?;
+    let at = Mono::new(alloc, &[0, 0, 2]);
+    let step = stepped(alloc, &square, &at, &member)?.ok_or("a step")?;
+    assert!(rt; lists(&step, &[(1, 1, [0, 1, 1])]));
+    let set = marked_set(alloc, 3, &[&[(1, [0, 0, 1]), (-1, [0, 1, 0])]])?;
+    let normal = normal_form_by(alloc, &square, &set)?.ok_or("a normal form")?;
+    assert!(rt; lists(&normal, &[(1, 1, [0, 2, 0])]));
     Ok(())
 }
 
-// a + b and b, marked at a and b, become b and a; of 2a - 2b and a - c, both marked at a, the first stays
+// by a^2 and c + a^2, marked at c, which isn't its greatest monomial by deglex: 2a^2 + c gives the first member 2, the second 1,
+// and then the first -1 more
+#[test]
+fn mark_of_less_degree(rt: HostRuntime) -> Result<(), Fail> {
+    let alloc = rt.alloc();
+    let set = marked_set(alloc, 3, &[&[(1, [2, 0, 0])], &[(1, [0, 0, 1]), (1, [2, 0, 0])]])?;
+    let f = poly(alloc, &[(2, [2, 0, 0]), (1, [0, 0, 1])])?;
+    let division = divided_by(alloc, &f, &set)?.ok_or("a division")?;
+    assert!(rt; division.remainder.is_zero());
+    let cofactors = division.cofactors.items();
+    assert!(rt; cofactors.len() == 2);
+    assert!(rt; lists(&cofactors[0], &[(1, 1, [0, 0, 0])]));
+    assert!(rt; lists(&cofactors[1], &[(1, 1, [0, 0, 0])]));
+    Ok(())
+}
+
+// c + b and b, marked at c and b, become b and c; of 2c - 2b and c - a, both marked at c, the first stays
 #[test]
 fn autoreductions(rt: HostRuntime) -> Result<(), Fail> {
     let alloc = rt.alloc();
-    let first = two(term(alloc, 1, 1, 0, 0), term(alloc, 1, 0, 1, 0), alloc)?;
-    let second = one(term(alloc, 1, 0, 1, 0), alloc)?;
-    let set = set_of(marked(first, 0)?, marked(second, 0)?, alloc)?;
-    assert!(rt; realises(&[2, 1, 1], &set));
-    let reduced = autoreduce(alloc, &set)?;
-    assert!(rt; lists_members(&reduced, &[&[(1, [0, 1, 0])], &[(1, [1, 0, 0])]]));
-    let first = two(term(alloc, 2, 1, 0, 0), term(alloc, -2, 0, 1, 0), alloc)?;
-    let second = two(term(alloc, 1, 1, 0, 0), term(alloc, -1, 0, 0, 1), alloc)?;
-    let set = set_of(marked(first, 0)?, marked(second, 0)?, alloc)?;
-    assert!(rt; realises(&[2, 1, 1], &set));
-    let reduced = autoreduce(alloc, &set)?;
-    assert!(rt; lists_members(&reduced, &[&[(1, [1, 0, 0]), (-1, [0, 1, 0])]]));
+    let set = marked_set(alloc, 3, &[&[(1, [0, 0, 1]), (1, [0, 1, 0])], &[(1, [0, 1, 0])]])?;
+    let reduced = autoreduced(alloc, &set)?.ok_or("a set")?;
+    assert!(rt; lists_members(&reduced, &[(0, &[(1, 1, [0, 0, 1])]), (0, &[(1, 1, [0, 1, 0])])]));
+    let set = marked_set(
+        alloc,
+        3,
+        &[&[(2, [0, 0, 1]), (-2, [0, 1, 0])], &[(1, [0, 0, 1]), (-1, [1, 0, 0])]],
+    )?;
+    let reduced = autoreduced(alloc, &set)?.ok_or("a set")?;
+    assert!(rt; lists_members(&reduced, &[(1, &[(-1, 1, [0, 1, 0]), (1, 1, [0, 0, 1])])]));
+    Ok(())
+}
+
+// ---- refusals
+
+// Whether an operation on these whole numbers, or their negatives, is refused.
+fn overflows<T>(found: &Result<T, PolyError>, op: Op, left: i128, right: i128) -> bool {
+    match found {
+        Err(PolyError::Overflow(o)) => {
+            o.op == op
+                && o.left.numer().unsigned_abs() == left.unsigned_abs()
+                && o.right.numer().unsigned_abs() == right.unsigned_abs()
+        }
+        _ => false,
+    }
+}
+
+// Whether the sum of these exponents is refused.
+fn passes_limit<T>(found: &Result<T, PolyError>, left: u32, right: u32) -> bool {
+    match found {
+        Err(PolyError::Exponent(o)) => o.left == u64::from(left) && o.right == u64::from(right),
+        _ => false,
+    }
+}
+
+// of S-polynomials M less -M, and the exponents 1 and E of b; of steps 2 times M, and the same exponents
+#[test]
+fn refused_steps(rt: HostRuntime) -> Result<(), Fail> {
+    let alloc = rt.alloc();
+    let more = marked(alloc, &[(1, [0, 0, 1]), (M, [1, 0, 0])])?;
+    let less = marked(alloc, &[(1, [0, 0, 1]), (-M, [1, 0, 0])])?;
+    assert!(rt; overflows(&s_polynomial(alloc, &more, &less), Op::Sub, M, M));
+    let long = marked(alloc, &[(1, [0, 0, 1]), (1, [0, E, 0])])?;
+    let product = marked(alloc, &[(1, [0, 1, 1])])?;
+    assert!(rt; passes_limit(&s_polynomial(alloc, &long, &product), 1, E));
+    let double = poly(alloc, &[(2, [0, 1, 1])])?;
+    let at = Mono::new(alloc, &[0, 1, 1]);
+    assert!(rt; overflows(&stepped(alloc, &double, &at, &less), Op::Mul, 2, M));
+    assert!(rt; passes_limit(&stepped(alloc, &double, &at, &long), 1, E));
+    Ok(())
+}
+
+// by c - Ma and b - a: 2c takes 2 times M, and a^E b takes a^E times a; by a^2 and c + a^2, as above, Ma^2 - c takes M and 1 more
+#[test]
+fn refused_reductions(rt: HostRuntime) -> Result<(), Fail> {
+    let alloc = rt.alloc();
+    let set = marked_set(
+        alloc,
+        3,
+        &[&[(1, [0, 0, 1]), (-M, [1, 0, 0])], &[(1, [0, 1, 0]), (-1, [1, 0, 0])]],
+    )?;
+    let double = poly(alloc, &[(2, [0, 0, 1])])?;
+    let long = poly(alloc, &[(1, [E, 1, 0])])?;
+    assert!(rt; overflows(&normal_form_by(alloc, &double, &set), Op::Mul, 2, M));
+    assert!(rt; passes_limit(&normal_form_by(alloc, &long, &set), E, 1));
+    assert!(rt; passes_limit(&divided_by(alloc, &long, &set), E, 1));
+    let set = marked_set(alloc, 3, &[&[(1, [2, 0, 0])], &[(1, [0, 0, 1]), (1, [2, 0, 0])]])?;
+    let wide = poly(alloc, &[(M, [2, 0, 0]), (-1, [0, 0, 1])])?;
+    assert!(rt; overflows(&divided_by(alloc, &wide, &set), Op::Add, M, 1));
+    Ok(())
+}
+
+// the tail of c - Mb by b - 2, and that of a^E c - a^E b by b - a
+#[test]
+fn refused_autoreductions(rt: HostRuntime) -> Result<(), Fail> {
+    let alloc = rt.alloc();
+    let set = marked_set(
+        alloc,
+        3,
+        &[&[(1, [0, 0, 1]), (-M, [0, 1, 0])], &[(1, [0, 1, 0]), (-2, [0, 0, 0])]],
+    )?;
+    assert!(rt; overflows(&autoreduced(alloc, &set), Op::Mul, M, 2));
+    let set = marked_set(
+        alloc,
+        3,
+        &[&[(1, [E, 0, 1]), (-1, [E, 1, 0])], &[(1, [0, 1, 0]), (-1, [1, 0, 0])]],
+    )?;
+    assert!(rt; passes_limit(&autoreduced(alloc, &set), E, 1));
     Ok(())
 }
 
@@ -305,33 +330,19 @@ fn next(seed: u64) -> u64 {
         .wrapping_add(1442695040888963407)
 }
 
-// An exponent up to 2.
-fn random_exponent(seed: u64) -> u32
-    ensures { result ≤ 2 }
-{
-    match (seed >> 33) % 3 {
-        0 => 0,
-        1 => 1,
-        _ => 2,
-    }
-}
-
-// A term with a coefficient from -3 to 3, and exponents up to 2.
-fn random_term(alloc: Global, seed: u64) -> Term
-    ensures { length result.mono ≡ 3 }
-{
+// A coefficient from -3 to 3, and exponents up to 2.
+fn random_row(seed: u64) -> (i128, [u32; 3]) {
     let first = next(seed);
     let second = next(first);
     let third = next(second);
-    let exponents = [
-        random_exponent(first),
-        random_exponent(second),
-        random_exponent(third),
-    ];
-    Term {
-        coef: Frac::new((next(third) >> 33) as i128 % 7 - 3, 1),
-        mono: Mono::new(alloc, &exponents),
-    }
+    (
+        (next(third) >> 33) as i128 % 7 - 3,
+        [
+            ((first >> 33) % 3) as u32,
+            ((second >> 33) % 3) as u32,
+            ((third >> 33) % 3) as u32,
+        ],
+    )
 }
 
 // The sum of four such terms.
@@ -339,13 +350,13 @@ fn random_poly(alloc: Global, seed: u64) -> Result<Poly, PolyError>
     ensures { IfOk result (HasVariables 3) }
 {
     let start = seed.wrapping_mul(4);
-    let terms = vec![in alloc;
-        random_term(alloc, next(start)),
-        random_term(alloc, next(start.wrapping_add(1))),
-        random_term(alloc, next(start.wrapping_add(2))),
-        random_term(alloc, next(start.wrapping_add(3))),
-    ]?;
-    Poly::from_terms(terms)
+    let rows = [
+        random_row(next(start)),
+        random_row(next(start.wrapping_add(1))),
+        random_row(next(start.wrapping_add(2))),
+        random_row(next(start.wrapping_add(3))),
+    ];
+    poly(alloc, &rows)
 }
 
 // The polynomial made monic, its deglex greatest term marked.
@@ -353,9 +364,22 @@ fn member(p: Poly) -> Result<Marked, PolyError>
     requires { HasVariables 3 p }
     ensures { IfOk result (λ b. HasVariables 3 b.poly) }
 {
-    let b = marked(p, 0)?;
+    if p.is_zero() {
+        return Err(PolyError::Memory);
+    }
+    let b = Marked::mark(p, 0);
     let c = made_monic(&b)?;
     Ok(c)
+}
+
+// The set of two.
+fn set_of(first: Marked, second: Marked, alloc: Global) -> Result<MarkedSet, PolyError>
+    requires left { HasVariables 3 first.poly }
+    requires right { HasVariables 3 second.poly }
+    ensures { IfOk result (λ s. s.variables ≡ 3) }
+{
+    let items = vec![in alloc; first, second]?;
+    Ok(MarkedSet::new(3, items))
 }
 
 // Adds the products of the terms.
@@ -377,7 +401,7 @@ fn push_products(all: &mut Vec<Term>, h: &Poly, g: &Poly) -> Result<(), PolyErro
 
 // The remainder plus the cofactors times the members, worked out.
 fn multiplied_out(alloc: Global, division: &Division, by: &MarkedSet) -> Result<Poly, PolyError> {
-    let unit = one(term(alloc, 1, 0, 0, 0), alloc)?;
+    let unit = poly(alloc, &[(1, [0, 0, 0])])?;
     let mut all = Vec::new(alloc);
     push_products(&mut all, &unit, &division.remainder)?;
     let cofactors = division.cofactors.items();

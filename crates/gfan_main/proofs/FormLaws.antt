@@ -16,7 +16,7 @@ use Rattle.gf_buchberger.specs.declared.bases.BasisError.TheVariants as basis_er
 use Rattle.gf_buchberger.specs.declared.homogeneity.NotHomogeneous.{NotHomogeneous}
 use Rattle.gf_buchberger.specs.Homogeneity.{IsOfOneDegree, IsFirstOther, IsFirstInhomogeneous}
 use Rattle.gf_buchberger.specs.Jobs.{HaveOneDegree}
-use Rattle.gf_buchberger.specs.Bases.{IsWithinLimits}
+use Rattle.gf_buchberger.specs.Bases.{AreRunsWithinLimits}
 use Rattle.gf_buchberger.proofs.BasesOfRuns.{if_within}
 use Rattle.gf_front.specs.declared.refusal.Refusal.{Refusal}
 use Rattle.gf_front.specs.declared.refusal.Refusal.TheVariants as refusals
@@ -191,7 +191,7 @@ module _ (o : Options) (n : ℕ) (fs : List Terms) (weight : Option (List ℤ)) 
   formed_apart (refusals.ZeroPolynomial set index) g f h = h
   formed_apart _ g f h = f
 
-  module _ (g : IsFormed o.revlex n weight fs) (w : IsWithinLimits (order_of o.revlex weight) fs o.pairs) where
+  module _ (g : IsFormed o.revlex n weight fs) (w : AreRunsWithinLimits (order_of o.revlex weight) fs o.pairs) where
     no_cause : (e : BasisError) → BasisFails o.revlex o.pairs n fs weight e → e ≡ basis_errors.Memory
     no_cause e k = if_within {A = Unit {0}} (order_of o.revlex weight) n o.pairs fs (Err e) w k.fails
 

@@ -20,7 +20,7 @@ use Rattle.gf_text.specs.PrintedSets.{basis_text}
 use Rattle.gf_buchberger.specs.declared.bases.BasisError.{BasisError}
 use Rattle.gf_buchberger.specs.declared.bases.BasisError.TheVariants as basis_errors
 use Rattle.gf_buchberger.specs.declared.homogeneity.NotHomogeneous.{NotHomogeneous}
-use Rattle.gf_buchberger.specs.Bases.{IsArrangedBasis, IsBasisRefusal, IsWithinLimits}
+use Rattle.gf_buchberger.specs.Bases.{IsArrangedBasis, IsBasisRefusal, AreRunsWithinLimits}
 use Rattle.gf_buchberger.specs.Homogeneity.{IsFirstInhomogeneous}
 use Rattle.gf_buchberger.specs.Jobs.{HaveOneDegree}
 use Rattle.gf_front.specs.declared.refusal.Refusal.{Refusal}
@@ -172,7 +172,7 @@ pub record IsAnswerable (o : Options) (source : List ℕ) : Type 0 where
   pub weight : Option (List ℤ)
   pub read : IsRead o.weighted source ring set weight
   pub formed : IsFormed o.revlex (length ring) weight (polynomials_of set)
-  pub within : IsWithinLimits (order_of o.revlex weight) (polynomials_of set) o.pairs
+  pub within : AreRunsWithinLimits (order_of o.revlex weight) (polynomials_of set) o.pairs
 
 -- ---- refusals
 

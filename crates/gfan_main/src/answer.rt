@@ -2,14 +2,14 @@
 ghost use Rattle.std.specs.Prelude.{◌≡◌, ◌++◌, ◌∷◌, [], length, IfOk, IfErr, IfSome, OnOk};
 ghost use Rattle.std.specs.Option.{ForSome};
 ghost use Rattle.gf_text.specs.Sets.{AreIn};
-ghost use Rattle.gf_text.specs.Vectors.{AreEntriesWithin};
-ghost use Rattle.gf_buchberger.specs.Jobs.{AreInRing, HaveOneDegree};
+ghost use Rattle.gf_text.specs.Vectors.{AreWithin};
+ghost use Rattle.gf_buchberger.specs.Jobs.{HaveRingVariables, HaveOneDegree};
 ghost use Rattle.gfan_main.specs.Answers.{polynomials_of, polynomial_of, IsWeightRead, IsWeightCause, IsRead, order_of, HasLength, IsTermWeight, AreTaken, IsFirstSmall, IsJobRefusal, IsJobAnswer, IsPrinted, IsAnswer, IsAnswerRefusal, of_basis};
 ghost use Rattle.gfan_main.specs.Checks.{IsCountable, IsLengthRefusal, IsDegreeRefusal, IsQuestion};
 ghost use Rattle.gfan_main.specs.Refused.{IsOfSource};
 
 use crate::refused::Refused;
-use gf_buchberger::{BasisError, basis, homogeneous};
+use gf_buchberger::{BasisError, basis_by_runs, homogeneous};
 use gf_front::Refusal;
 use gf_order::{NotTermOrder, Order};
 use gf_poly::{MarkedSet, Poly};
@@ -24,7 +24,7 @@ pub struct Options {
     pub weighted: bool,
     /// The order is revlex, or ties of the weight are broken by revlex; else by lex.
     pub revlex: bool,
-    /// How many pairs are settled at most.
+    /// How many pairs each run of Buchberger's algorithm settles at most.
     pub pairs: u64,
 }
 
@@ -223,7 +223,7 @@ fn job(
         Ok(question) => question,
         Err(refusal) => return Err(refusal),
     };
-    let found = match basis(
+    let found = match basis_by_runs(
         alloc,
         ring.len(),
         &question.generators,
@@ -238,7 +238,8 @@ fn job(
 }
 
 /// The ring of the source in a line, and then the reduced Gröbner basis of its set: by lex, or with `revlex` by revlex; with
-/// `weighted` by the weight that stands behind the set, and ties by lex or revlex. At most `pairs` pairs are settled.
+/// `weighted` by the weight that stands behind the set, and ties by lex or revlex. The budget of each run of
+/// Buchberger's algorithm is `pairs` pairs.
 ///
 /// # Errors
 ///
@@ -250,7 +251,7 @@ fn job(
 ///   counting zero polynomials, its deglex greatest monomial, and the first one after that of another degree.
 /// - `Overflow` and `ExponentOverflow` only at a sum of the text, or at an operation that a run of Buchberger's algorithm on the
 ///   set by this order may have, and whose operands don't fit.
-/// - `PairBudget` only where more than `pairs` pairs would have to be settled.
+/// - `PairBudget` only where a run on the set by this order would have to settle more than `pairs` pairs.
 pub fn answer(alloc: Global, source: &[u8], options: Options) -> Result<Vec<u8>, Refused>
     ensures ok { IfOk result (λ text. IsAnswer options source.now text.items) }
     ensures err { IfErr result (λ e. IsAnswerRefusal options source.now e.refusal) }

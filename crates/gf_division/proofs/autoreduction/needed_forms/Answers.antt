@@ -1,7 +1,7 @@
 use Rattle.std.proofs.Common.{◌+◌, sym, subst, ap}
 use Rattle.std.proofs.lemmas.Result.{err_from_is_err_and}
-use Rattle.gf_division.proofs.ReducerLaws.{member_at, member_contained}
-use Rattle.gf_division.proofs.NeededLaws.{Forming, forming-none, forming-more, forming-skipped, forming_end, forming_variables, member_refused}
+use Rattle.gf_division.proofs.ReducerLaws.{member_at}
+use Rattle.gf_division.proofs.NeededLaws.{Forming, forming-none, forming-more, forming-skipped, forming_end, forming_variables, needed_refused}
 use Rattle.gf_division.proofs.autoreduction.needed_forms.Goals as goal
 use Rattle.gf_division.proofs.autoreduction.needed_forms.Goals.{then-is_needed+in_ok-form+in_ok-push, else-is_needed}
 
@@ -11,7 +11,7 @@ members-init c = subst (Forming c.args.items.now 0) (sym c.new-forms.ensures.ite
 pub returns-in_err-form-clause-cause : goal.returns-in_err-form-clause-cause
 returns-in_err-form-clause-cause c =
     let p = err_from_is_err_and c.from_residual.result c.from_residual.ensures.1 in
-    rw (p.1, p.2) (member_refused c.args.items.now c.index-items-i.result c.in_err-form.field-0.0 (member_contained c.args.items.now c.members.i c.index-items-i.result (member_at c.args.items.now c.members.i c.index-items-i.result c.members-test.true c.index-items-i.is)) c.in_err-form.ensures.cause)
+    rw (p.1, p.2) (needed_refused c.args.items.now c.members.i c.index-items-i.result c.in_err-form.field-0.0 (member_at c.args.items.now c.members.i c.index-items-i.result c.members-test.true c.index-items-i.is) (c.is_needed.ensures.yes c.if-is_needed.true) c.in_err-form.ensures.cause)
 
 pub members-preserved : goal.members-preserved
 members-preserved c = elim c.if-is_needed.branch [

@@ -3,7 +3,7 @@ use Rattle.std.proofs.lemmas.Result.{err_from_is_err_and}
 use Rattle.gf_frac.specs.Fraction.{Fraction}
 use Rattle.gf_frac.proofs.FractionLaws.{zero-not-one}
 use Rattle.gf_poly.specs.Polynomial.{IsDescending}
-use Rattle.gf_division.specs.Dividends.{split_of, terms_of, Subtracts, IsSubtractionRefusal}
+use Rattle.gf_division.specs.Dividends.{split_of, joined_terms, Subtracts, IsSubtractionRefusal}
 use Rattle.gf_division.proofs.SPolynomialLaws.{multiple_length, pair_facts, left_variables, right_variables, left_sound, over_start, s_value, s_variables, left_refused, s_refused}
 use Rattle.gf_division.proofs.s_polynomials.monic_s_poly.Goals as goal
 
@@ -40,7 +40,7 @@ subtract-requires-clause-nonzero c = λ z. zero-not-one (sym z ∙ c.one.ensures
 pub returns-in_err-subtract-clause-cause : goal.returns-in_err-subtract-clause-cause
 returns-in_err-subtract-clause-cause c =
     let k = pair_facts c.args.b.now c.args.c.now c.head.result.now c.head-2.result.now c.cofactors-of_b.result.0 c.cofactors-of_b.result.1 c.requires.variables c.head.ensures.marked c.head.ensures.value c.head-2.ensures.value c.cofactors-of_b.ensures in
-    let r = subst (λ (a : Fraction). IsSubtractionRefusal (terms_of (split_of c.new-rest.result)) a c.cofactors-of_b.result.1 c.terms.result.now c.in_err-subtract.field-0.0) c.one.ensures c.in_err-subtract.ensures.cause in
+    let r = subst (λ (a : Fraction). IsSubtractionRefusal (joined_terms (split_of c.new-rest.result)) a c.cofactors-of_b.result.1 c.terms.result.now c.in_err-subtract.field-0.0) c.one.ensures c.in_err-subtract.ensures.cause in
     let p = err_from_is_err_and c.from_residual-in_err-subtract.result c.from_residual-in_err-subtract.ensures.1 in
     rw (p.1, p.2) (s_refused c.args.b.now c.args.c.now _ _ c.poly.result.now c.terms.result.now c.in_ok-raised.field-0 (split_of c.new-rest.result) c.in_err-subtract.field-0.0 c.poly.ensures (c.terms.ensures.value ∙ c.poly-2.ensures) (subst IsDescending (sym c.terms.ensures.value) c.terms.ensures.descending) k c.in_ok-raised.ensures.value c.new-rest.ensures.value r)
 

@@ -2,7 +2,7 @@ use Rattle.std.proofs.Common.{ℕ, sym, ap, ◌∙◌, subst, length, arith}
 use Rattle.std.proofs.lemmas.Result.{err_from_is_err_and}
 use Rattle.gf_exponents.specs.Exponents.{plus}
 use Rattle.gf_poly.specs.Polynomial.{Terms, HasVariables, IsDescending}
-use Rattle.gf_division.specs.Dividends.{split_of, terms_of}
+use Rattle.gf_division.specs.Dividends.{split_of, joined_terms}
 use Rattle.gf_division.proofs.DividendLaws.{terms_up}
 use Rattle.gf_division.proofs.StepLaws.{shared_sound, shared_poly, first_variables, sound_up, some_terms, greatest_over, front_descends, sound_along, step_taken, step_facts, first_refused, step_refused}
 use Rattle.gf_division.proofs.dividend.Dividend.step.Goals as goal
@@ -26,7 +26,7 @@ subtract-requires-clause-variables c =
 pub returns-in_err-greatest-clause-cause : goal.returns-in_err-greatest-clause-cause
 returns-in_err-greatest-clause-cause c =
     let q = c.quotient-quotient.ensures in
-    let k = step_facts _ (terms_of (split_of c.args.self.now)) c.args.by.now _ c.quotient-quotient.result c.poly.result.now q.coefficient q.nonzero (ap (plus c.quotient-quotient.result.mono) (sym c.head.ensures.value) ∙ q.product) (shared_poly c.args.by.now (split_of c.args.self.now) c.requires.variables c.head.ensures.marked) c.poly.ensures c.terms-terms.ensures.descending in
+    let k = step_facts _ (joined_terms (split_of c.args.self.now)) c.args.by.now _ c.quotient-quotient.result c.poly.result.now q.coefficient q.nonzero (ap (plus c.quotient-quotient.result.mono) (sym c.head.ensures.value) ∙ q.product) (shared_poly c.args.by.now (split_of c.args.self.now) c.requires.variables c.head.ensures.marked) c.poly.ensures c.terms-terms.ensures.descending in
     let e = c.terms-terms.ensures.value ∙ c.poly.ensures in
     let p = err_from_is_err_and c.from_residual.result c.from_residual.ensures.1 in
     rw (p.1, p.2) (first_refused _ c.args.by.now _ c.quotient-quotient.result c.index-terms-0.result c.terms-terms.result.now c.in_err-greatest.field-0.0 k e (some_terms c.args.by.now c.terms-terms.result.now e c.head.ensures.marked) c.index-terms-0.is c.in_err-greatest.ensures.overflow)
@@ -42,7 +42,7 @@ subtract-requires-clause-over c =
 pub returns-in_err-subtract-clause-cause : goal.returns-in_err-subtract-clause-cause
 returns-in_err-subtract-clause-cause c =
     let q = c.quotient-quotient.ensures in
-    let k = step_facts _ (terms_of (split_of c.args.self.now)) c.args.by.now _ c.quotient-quotient.result c.poly.result.now q.coefficient q.nonzero (ap (plus c.quotient-quotient.result.mono) (sym c.head.ensures.value) ∙ q.product) (shared_poly c.args.by.now (split_of c.args.self.now) c.requires.variables c.head.ensures.marked) c.poly.ensures c.terms-terms.ensures.descending in
+    let k = step_facts _ (joined_terms (split_of c.args.self.now)) c.args.by.now _ c.quotient-quotient.result c.poly.result.now q.coefficient q.nonzero (ap (plus c.quotient-quotient.result.mono) (sym c.head.ensures.value) ∙ q.product) (shared_poly c.args.by.now (split_of c.args.self.now) c.requires.variables c.head.ensures.marked) c.poly.ensures c.terms-terms.ensures.descending in
     let e = c.terms-terms.ensures.value ∙ c.poly.ensures in
     let p = err_from_is_err_and c.from_residual-in_err-subtract.result c.from_residual-in_err-subtract.ensures.1 in
     rw (p.1, p.2) (step_refused _ _ c.args.by.now _ c.quotient-quotient.result c.terms-terms.result.now c.in_err-subtract.field-0.0 k (terms_up (split_of c.args.self.now) (split_of c.ascend.new.self) c.in_ok-ascend.ensures.moves) e c.in_err-subtract.ensures.cause)
