@@ -4,7 +4,7 @@ use Rattle.std.proofs.Common.{arith, ap, subst, inl, inr}
 use Rattle.gf_exponents.specs.Exponents.{Exponents, same}
 use Rattle.gf_poly.specs.declared.Term.{Term}
 use Rattle.gf_poly.specs.Polynomial.{Terms}
-use Rattle.gf_poly.specs.Marking.{MarkedPolynomial, Each, IsMarked}
+use Rattle.gf_poly.specs.Marking.{MarkedPolynomial, Each, HasMarkedTerm}
 use Rattle.gf_ideal.specs.Membership.{HasMonomial}
 use Rattle.gf_ideal.specs.Reduction.{HasOneMonomial}
 use Rattle.gf_ideal.proofs.ListLaws.{Contains-cases}
@@ -20,7 +20,7 @@ one_term (t ∷ []) m l c = (at (Contains-cases t m [] c), tt)
     at (inr k) = absurd (omega (arith, k.1))
 one_term (t ∷ s ∷ f) m l c = absurd (omega arith)
 
-pub single_at : (b : MarkedPolynomial) (f : Terms) → f ≡ b.poly → length f ≡ 1 → IsMarked b → HasOneMonomial b
+pub single_at : (b : MarkedPolynomial) (f : Terms) → f ≡ b.poly → length f ≡ 1 → HasMarkedTerm b → HasOneMonomial b
 single_at b f e l m x n = at (listed (λ (t : Term). t.mono ≡ b.head) b.poly x (one_term b.poly (record { coef = m.mark; mono = b.head }) (subst (λ (z : Terms). length z ≡ 1) e l) m.term) n)
   where
     at : (t : Term) × (t.mono ≡ b.head) × (same x t.mono ≡ true) → same x b.head ≡ true

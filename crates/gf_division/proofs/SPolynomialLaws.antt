@@ -77,7 +77,7 @@ cofactors_of x y m u v l em eu ev pu pv =
     let j : length m ≡ length x = join_length x y m l em in
     record { left = pu ∙ em; right = pv ∙ em; length_left = ap length eu ∙ length-minus m x j ∙ j; length_right = ap length ev ∙ length-minus m y (j ∙ l) ∙ j }
 
-pub pair_facts : (b c : MarkedPolynomial) (x y u v : Exponents) → SharePairVariables b c → IsMarked b → x ≡ b.head → y ≡ c.head → AreLcmCofactors x y u v → PairFacts b c u v
+pub pair_facts : (b c : MarkedPolynomial) (x y u v : Exponents) → SharePairVariables b c → HasMarkedTerm b → x ≡ b.head → y ≡ c.head → AreLcmCofactors x y u v → PairFacts b c u v
 pair_facts b c x y u v p h ex ey w =
     let n : length x ≡ p.n = ap length ex ∙ head_length p.n b p.are.left h in
     record {
@@ -124,7 +124,7 @@ s_value b c u v f g h r s t ef eg k w q d e = record {
 pub s_descends : (v : Exponents) (g r : Terms) (s t : Split) → Subtracts one_ℚ v g s t → IsDescending (joined_terms t)
 s_descends v g r s t d = d.sound.descending
 
-pub s_variables : (b c : MarkedPolynomial) (u v : Exponents) (g r : Terms) (s t : Split) → PairFacts b c u v → IsMarked b → Subtracts one_ℚ v g s t → r ≡ joined_terms t → KeepsPairVariables b c r
+pub s_variables : (b c : MarkedPolynomial) (u v : Exponents) (g r : Terms) (s t : Split) → PairFacts b c u v → HasMarkedTerm b → Subtracts one_ℚ v g s t → r ≡ joined_terms t → KeepsPairVariables b c r
 s_variables b c u v g r s t k m d e = record {
   at = λ n a. subst (HasVariables n) (sym e) (subst (λ (i : ℕ). HasVariables i (joined_terms t)) (k.right ∙ sym (head_length k.n b k.are.left m) ∙ head_length n b a.left m) d.sound.variables);
 }

@@ -2,7 +2,7 @@
 ghost use Rattle.std.specs.Prelude.{◌≡◌, ◌++◌, ◌∷◌, [], length, IfOk, IfErr, IfSome, OnOk};
 ghost use Rattle.std.specs.Option.{ForSome};
 ghost use Rattle.gf_text.specs.Sets.{AreIn};
-ghost use Rattle.gf_text.specs.Vectors.{AreWithin};
+ghost use Rattle.gf_text.specs.Vectors.{AreEntriesWithin};
 ghost use Rattle.gf_buchberger.specs.Jobs.{HaveRingVariables, HaveOneDegree};
 ghost use Rattle.gfan_main.specs.Answers.{polynomials_of, polynomial_of, IsWeightRead, IsWeightCause, IsRead, order_of, HasLength, IsTermWeight, AreTaken, IsFirstSmall, IsJobRefusal, IsJobAnswer, IsPrinted, IsAnswer, IsAnswerRefusal, of_basis};
 ghost use Rattle.gfan_main.specs.Checks.{IsCountable, IsLengthRefusal, IsDegreeRefusal, IsQuestion};
