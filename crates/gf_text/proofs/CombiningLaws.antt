@@ -1,5 +1,5 @@
 -- Terms and sums of terms, one after another.
--- To cite: factors_on, factors_refused, factors_end; terms_on, terms_refused, terms_end, terms_fit; sums_push_ok, sums_push_refused, sums_push_after; found_place; not_yet, none_left, first_found. The rest are steps.
+-- To cite: factors_on, factors_refused, factors_end; terms_on, terms_refused, terms_end, terms_fit; sums_push_ok, sums_push_refused, sums_push_after; sums_append_ok, sums_append_refused, sums_append_after; found_place; not_yet, none_left, first_found. The rest are steps.
 use Rattle.std.proofs.Common.{◌≡◌, ◌≢◌, ◌<◌, ◌≤◌, ℕ, zero, suc, ◌+◌, ◌^◌, Bool, true, false, nat_lt, slice_index, slice_set, replicate, IfSome, inl, inr, arith, if◌then◌else◌, List, [], ◌∷◌, ◌++◌, length, drop, get_or, Result, Ok, Err, Option, Some, None, MatchOption, slice_get, refl, sym, ap, subst, ◌∙◌, add-one, append_assoc, append-nil}
 use Rattle.std.proofs.Math.Seq.{drop-cons}
 use Rattle.std.proofs.lemmas.List.{drop_all}
@@ -340,6 +340,35 @@ sums_push_refused n qs us fs o h k = sums_push n qs us ∙ ap (λ r. behind_all 
 
 pub sums_push_after : (n : ℕ) (qs : List (List WrittenTerm)) (us : List WrittenTerm) (o : ExponentOverflow) → sums_of n qs ≡ Err o → sums_of n (qs ++ us ∷ []) ≡ Err o
 sums_push_after n qs us o h = sums_push n qs us ∙ ap (λ r. behind_all r (terms_written n us)) h
+
+-- the sums of some polynomials and of others
+abbrev both_all : Result (List Terms) ExponentOverflow → Result (List Terms) ExponentOverflow → Result (List Terms) ExponentOverflow
+both_all (Ok fs) (Ok gs) = Ok (fs ++ gs)
+both_all (Ok fs) (Err o) = Err o
+both_all (Err o) r = Err o
+
+sums_append : (n : ℕ) (qs ps : List (List WrittenTerm)) → sums_of n (qs ++ ps) ≡ both_all (sums_of n qs) (sums_of n ps)
+sums_append n [] ps = by (sums_of n ps)
+  where
+    by : (r : Result (List Terms) ExponentOverflow) → r ≡ both_all (Ok []) r
+    by (Ok fs) = refl
+    by (Err o) = refl
+sums_append n (q ∷ qs) ps = ap (before_all (terms_written n q)) (sums_append n qs ps) ∙ by (terms_written n q) (sums_of n qs) (sums_of n ps)
+  where
+    by : (a : Result Terms ExponentOverflow) (rs ts : Result (List Terms) ExponentOverflow) → before_all a (both_all rs ts) ≡ both_all (before_all a rs) ts
+    by (Ok t) (Ok fs) (Ok gs) = refl
+    by (Ok t) (Ok fs) (Err o) = refl
+    by (Ok t) (Err x) ts = refl
+    by (Err x) rs ts = refl
+
+pub sums_append_ok : (n : ℕ) (qs ps : List (List WrittenTerm)) (fs gs : List Terms) → sums_of n qs ≡ Ok fs → sums_of n ps ≡ Ok gs → sums_of n (qs ++ ps) ≡ Ok (fs ++ gs)
+sums_append_ok n qs ps fs gs h k = sums_append n qs ps ∙ ap (λ r. both_all r (sums_of n ps)) h ∙ ap (both_all (Ok fs)) k
+
+pub sums_append_refused : (n : ℕ) (qs ps : List (List WrittenTerm)) (fs : List Terms) (o : ExponentOverflow) → sums_of n qs ≡ Ok fs → sums_of n ps ≡ Err o → sums_of n (qs ++ ps) ≡ Err o
+sums_append_refused n qs ps fs o h k = sums_append n qs ps ∙ ap (λ r. both_all r (sums_of n ps)) h ∙ ap (both_all (Ok fs)) k
+
+pub sums_append_after : (n : ℕ) (qs ps : List (List WrittenTerm)) (o : ExponentOverflow) → sums_of n qs ≡ Err o → sums_of n (qs ++ ps) ≡ Err o
+sums_append_after n qs ps o h = sums_append n qs ps ∙ ap (λ r. both_all r (sums_of n ps)) h
 
 pub sums_variables : (n : ℕ) (qs : List (List WrittenTerm)) (fs : List Terms) → sums_of n qs ≡ Ok fs → SumsHaveVariables n fs
 sums_variables n [] fs e = let none : [] ≡ fs = cc in subst (SumsHaveVariables n) none tt

@@ -26,6 +26,7 @@ pub mod SetStopsLaws  -- why the machine of sets can't take a token
 pub mod SetMachineLaws  -- sets are read as the grammar says, and each state goes on to one
 pub mod SetGrowsLaws  -- a set is read polynomial by polynomial
 pub mod SetKindsLaws  -- of which kind a fault of a set is
+pub mod SetListsLaws  -- lists of sets: what comes of them, and that they are read as the grammar says
 pub mod PrintedTokensLaws  -- the tokens of printed numbers, names and powers
 pub mod VectorsAgainLaws  -- printed vectors are read again
 pub mod PrintedTermsLaws  -- what printed terms say

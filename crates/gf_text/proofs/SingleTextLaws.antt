@@ -1,13 +1,13 @@
 -- Items of a single token: each is read as its grammar says.
 -- To cite: dimension_read, dimension_fault, dimension_once, no_dimension_same; name_read, name_fault, new_name_once, no_name_same. The rest are steps.
-use Rattle.std.proofs.Common.{◌≡◌, ◌≤◌, ◌<◌, ℕ, nat_le, Bool, true, false, Option, Some, None, Ok, Err, List, [], ◌∷◌, ◌++◌, length, refl, sym, ap, subst, ◌∙◌, ◌⊎◌, inl, inr, arith, if◌then◌else◌}
+use Rattle.std.proofs.Common.{◌≡◌, ◌≤◌, ◌<◌, ℕ, nat_le, Bool, true, false, Err, List, [], ◌∷◌, length, refl, sym, ap, subst, ◌∙◌, ◌⊎◌, inl, inr, arith, if◌then◌else◌}
 use Rattle.gf_text.specs.declared.error.Cause.{Cause}
 use Rattle.gf_text.specs.declared.error.Cause.TheVariants.{Ended, Unexpected, RepeatedName, ZeroDenominator, TooWide, UnknownName}
 use Rattle.gf_text.specs.declared.error.TextError.{TextError}
 use Rattle.gf_text.specs.Machine.{Lexeme, behind, Move, go, done, halt, Fault, run, after, Reads, HasOneMeaning}
 use Rattle.gf_text.specs.Tokens.{is_number, decimal_value, lexemes, word_more, Position}
 use Rattle.gf_text.specs.RingText.{is_name, has}
-use Rattle.gf_text.specs.SetText.{is_word, IsNumberText}
+use Rattle.gf_text.specs.SetText.{IsNumberText}
 use Rattle.gf_text.specs.VectorText.{most_entry}
 use Rattle.gf_text.specs.Kinds.{IsNumberKind}
 use Rattle.gf_text.specs.Refusing.{refusal}

@@ -1,6 +1,6 @@
 -- A list of vectors is read as the grammar of lists says.
 -- To cite: vectors_read, vectors_within, vectors_refused, one_list_of_vectors, no_vectors_same. The rest are steps.
-use Rattle.std.proofs.Common.{◌≡◌, ℕ, ℤ, Ok, Err, Some, List, [], ◌∷◌, ◌++◌, length, refl, subst, All}
+use Rattle.std.proofs.Common.{◌≡◌, ℕ, ℤ, Ok, Err, List, [], ◌∷◌, length, refl, subst}
 use Rattle.std.proofs.lemmas.List.Elements.{All-from_recursion}
 use Rattle.std.specs.List.{AllByRecursion}
 use Rattle.gf_text.specs.declared.error.Cause.{Cause}
@@ -8,7 +8,7 @@ use Rattle.gf_text.specs.declared.error.Cause.TheVariants.{Unexpected, UnknownNa
 use Rattle.gf_text.specs.declared.error.TextError.{TextError}
 use Rattle.gf_text.specs.declared.error.TextError.TheVariants as errors
 use Rattle.gf_text.specs.declared.vector_reader.VectorPlace.TheVariants as at
-use Rattle.gf_text.specs.Machine.{Fault, texts, HasOneMeaning}
+use Rattle.gf_text.specs.Machine.{Fault, HasOneMeaning}
 use Rattle.gf_text.specs.Tokens.{lexemes, word_more, Position}
 use Rattle.gf_text.specs.Kinds.{IsNumberKind}
 use Rattle.gf_text.specs.ListText.{AreMoreItems, IsListText, opening, list_step}

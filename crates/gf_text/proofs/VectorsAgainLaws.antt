@@ -1,15 +1,14 @@
 -- A printed vector is read again.
 -- To cite: vectors_again. The rest are steps.
-use Rattle.std.proofs.Common.{◌≡◌, ◌≤◌, ◌<◌, ◌+◌, ◌-◌, ◌^◌, ℕ, suc, ℤ, pos, negsuc, false, true, List, [], ◌∷◌, ◌++◌, length, flat_map, decimal, refl, sym, ap, ◌∙◌, inl, inr, All, append_assoc, arith}
+use Rattle.std.proofs.Common.{◌≡◌, ◌≤◌, ◌+◌, ℕ, suc, ℤ, pos, negsuc, false, List, [], ◌∷◌, ◌++◌, length, flat_map, decimal, refl, ap, inl, inr, All, append_assoc, arith}
 use Rattle.std.specs.List.{AllByRecursion}
 use Rattle.gf_text.specs.declared.error.TextError.{TextError}
 use Rattle.gf_text.specs.declared.error.TextError.TheVariants as errors
-use Rattle.gf_text.specs.Machine.{Lexeme}
 use Rattle.gf_text.specs.Marks.{parenthesis, parenthesis_end, comma, minus_mark}
 use Rattle.gf_text.specs.Tokens.{lexemes, word_more, Position}
 use Rattle.gf_text.specs.VectorText.{most_entry, IsSizeText, IsEntryText, AreMoreEntries, IsVectorText, IsEntryWithin, entry_text, entries_text, vector_text}
 use Rattle.gf_text.specs.Vectors.{IsVectorRead, IsVectorCause, IsReadAsVector, VectorsAreReadAgain}
-use Rattle.gf_text.proofs.SpelledLaws.{IsToken, IsSpelled, goes_on, spelled-none, spelled-token, spelled-++, spelled-read, mark_token}
+use Rattle.gf_text.proofs.SpelledLaws.{IsSpelled, goes_on, spelled-none, spelled-token, spelled-++, spelled-read, mark_token}
 use Rattle.gf_text.proofs.PrintedTokensLaws.{decimal_number, number_word}
 use Rattle.gf_text.proofs.VectorTextLaws.{one_vector}
 

@@ -184,16 +184,16 @@ pub record IsFirstZero (ws : List Written) (index : ℕ) : Type 0 where
   pub whole : ws ≡ map (λ m. written.Nonzero m) front ++ written.Zero ∷ back
   pub place : index ≡ min (length front) (2 ^ 32 - 1)
 
--- why polynomials aren't those of a marked set: one is zero
-abbrev pub IsZeroCause : List Written → TextError → Type 0
-IsZeroCause ws (errors.Overflow o) = ⊥
-IsZeroCause ws (errors.Exponent o) = ⊥
-IsZeroCause ws (errors.Syntax s) = ⊥
-IsZeroCause ws (errors.TooWide place) = ⊥
-IsZeroCause ws (errors.UnknownName place) = ⊥
-IsZeroCause ws (errors.TooManyVariables count) = ⊥
-IsZeroCause ws (errors.ZeroPolynomial set index) = (set ≡ 0) × IsFirstZero ws index
-IsZeroCause ws errors.Memory = Unit {0}
+-- why polynomials aren't those of the marked set of this number: one is zero
+abbrev pub IsZeroCause : ℕ → List Written → TextError → Type 0
+IsZeroCause number ws (errors.Overflow o) = ⊥
+IsZeroCause number ws (errors.Exponent o) = ⊥
+IsZeroCause number ws (errors.Syntax s) = ⊥
+IsZeroCause number ws (errors.TooWide place) = ⊥
+IsZeroCause number ws (errors.UnknownName place) = ⊥
+IsZeroCause number ws (errors.TooManyVariables count) = ⊥
+IsZeroCause number ws (errors.ZeroPolynomial set index) = (set ≡ number) × IsFirstZero ws index
+IsZeroCause number ws errors.Memory = Unit {0}
 
 -- this marked set is read, and the reader goes to this place
 pub record IsMarkedRead (ring : List (List ℕ)) (old : Position) (place : ℕ) (s : MarkedPolynomials) : Type 0 where

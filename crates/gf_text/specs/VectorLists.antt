@@ -3,7 +3,7 @@ use Rattle.std.specs.Prelude.{ℕ, List, [], length, All, Result, ℤ}
 use Rattle.gf_text.specs.declared.error.TextError.{TextError}
 use Rattle.gf_text.specs.declared.error.TextError.TheVariants as errors
 use Rattle.gf_text.specs.declared.vector_reader.VectorPlace.TheVariants as at
-use Rattle.gf_text.specs.Machine.{Move, Fault, run, Reads}
+use Rattle.gf_text.specs.Machine.{Fault, run, Reads}
 use Rattle.gf_text.specs.Tokens.{lexemes, word_more, Position}
 use Rattle.gf_text.specs.Kinds.{IsNumberKind}
 use Rattle.gf_text.specs.ListText.{IsListText, ListState, opening, first_item, inside, list_step}

@@ -6,11 +6,14 @@
 
 mod combine;
 mod error;
+#[cfg(test)]
+mod list_tests;
 mod marked_reader;
 mod names;
 mod printer;
 mod reader;
 mod ring_reader;
+mod set_lists;
 mod set_printer;
 mod set_reader;
 #[cfg(test)]

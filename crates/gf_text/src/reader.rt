@@ -6,12 +6,14 @@ ghost use Rattle.gf_text.specs.Rings.{IsRingRead, IsRingCause};
 ghost use Rattle.gf_text.specs.Singles.{IsDimensionRead, IsDimensionCause, IsNameRead, IsNameCause};
 ghost use Rattle.gf_text.specs.VectorLists.{AreVectorsRead, AreVectorsWithin, IsVectorsCause};
 ghost use Rattle.gf_text.specs.Vectors.{IsVectorRead, IsVectorCause, AreEntriesWithin};
+ghost use Rattle.gf_text.specs.SetLists.{sets_in, AreAllIn, AreSetsRead, IsSetsCause, AreMarkedSetsRead, IsMarkedSetsCause};
 ghost use Rattle.gf_text.specs.Sets.{IsSetRead, IsSetCause, IsMarkedRead, IsMarkedCause, AreIn};
 
 use crate::error::{Cause, Kind, Syntax, TextError, refused_at};
-use crate::marked_reader::marked_at;
+use crate::marked_reader::{marked_at, marked_sets_at};
 use crate::names::Ring;
 use crate::ring_reader::ring_from;
+use crate::set_lists::written_sets_at;
 use crate::set_reader::written_at;
 use crate::single_reader::{dimension_from, name_from};
 use crate::tokens::{Token, begins_token, spaces, word_from};
@@ -116,6 +118,23 @@ impl<'a> Reader<'a> {
         Ok(set)
     }
 
+    /// Reads the list of sets that stands at the reader's place, sets as `read_set` reads them, and goes behind it.
+    ///
+    /// # Errors
+    /// Those of `read_set`, of the list as a whole: first the faults of its text, then the first exponent of all sets that
+    /// passes its limit, then the first sum. After a refusal the reader is where it was.
+    pub fn read_sets(&mut self, alloc: Global, ring: &Ring) -> Result<Vec<Vec<Written>>, TextError>
+        ensures ok { IfOk result (λ sets. AreSetsRead ring.now self.old self.new.at (sets_in sets.items)) }
+        ensures variables { IfOk result (λ sets. AreAllIn (length ring.now) (sets_in sets.items)) }
+        ensures source { self.new.source ≡ self.old.source }
+        ensures err { IfErr result (IsSetsCause ring.now self.old) }
+        ensures unchanged { OnErr result (self.new ≡ self.old) }
+    {
+        let (sets, at) = written_sets_at(alloc, ring, self.source, self.at)?;
+        self.at = at;
+        Ok(sets)
+    }
+
     /// Reads the marked set that stands at the reader's place, and goes behind it: a set as `read_set` reads it, of which
     /// no polynomial is zero.
     ///
@@ -133,6 +152,30 @@ impl<'a> Reader<'a> {
         let (set, at) = marked_at(alloc, ring, self.source, self.at)?;
         self.at = at;
         Ok(set)
+    }
+
+    /// Reads the list of marked sets that stands at the reader's place, and goes behind it: a list as `read_sets` reads it, of
+    /// which no polynomial is zero.
+    ///
+    /// # Errors
+    /// Those of `read_sets`; and `ZeroPolynomial` where nothing remains of a polynomial, with the number of the first set that
+    /// has such a one, and the index of the first one among all polynomials of that set, both from 0. What passes
+    /// `2^32 - 1` is that.
+    ///
+    /// After a refusal the reader is where it was.
+    pub fn read_marked_sets(
+        &mut self,
+        alloc: Global,
+        ring: &Ring,
+    ) -> Result<Vec<MarkedSet>, TextError>
+        ensures ok { IfOk result (λ sets. AreMarkedSetsRead ring.now self.old self.new.at sets.items) }
+        ensures source { self.new.source ≡ self.old.source }
+        ensures err { IfErr result (IsMarkedSetsCause ring.now self.old) }
+        ensures unchanged { OnErr result (self.new ≡ self.old) }
+    {
+        let (sets, at) = marked_sets_at(alloc, ring, self.source, self.at)?;
+        self.at = at;
+        Ok(sets)
     }
 
     /// Reads the vector that stands at the reader's place, and goes behind it. Its entries, of which there may be none,

@@ -306,7 +306,7 @@ impl Part {
 
 /// What came of the polynomials of the set that stands in the source from this place on, and the place behind it. Each is
 /// added as soon as it is read, so that no more than one is kept as it is written.
-fn sums_from(
+pub(crate) fn sums_from(
     alloc: Global,
     ring: &Ring,
     source: &[u8],
@@ -315,6 +315,7 @@ fn sums_from(
     requires { from ≤ length source.now }
     ensures ok { IfOk result (λ x. AreSetSums ring.now (record { source = source.now; at = from }) x.1 x.0) }
     ensures err { IfErr result (λ e. Fails e (set_at ring.now source.now from)) }
+    ensures forward { IfOk result (λ x. from ≤ x.1) }
     ensures within { IfOk result (λ x. x.1 ≤ length source.now) }
 {
     let n = ring.len() as usize;

@@ -166,7 +166,11 @@ fn items_from(alloc: Global, source: &[u8], from: usize) -> Result<(Vec<IntVec>,
 }
 
 /// The vectors of a list from behind its first brace on, and the place behind the list.
-fn behind_brace(alloc: Global, source: &[u8], from: usize) -> Result<(Vec<IntVec>, usize), TextError>
+fn behind_brace(
+    alloc: Global,
+    source: &[u8],
+    from: usize,
+) -> Result<(Vec<IntVec>, usize), TextError>
     requires { from ≤ length source.now }
     ensures vectors { ReturnsRead (λ x. (x.0.items, x.1)) result (vectors_from vectors_first source.now from) }
     ensures within { IfOk result (λ x. x.1 ≤ length source.now) }

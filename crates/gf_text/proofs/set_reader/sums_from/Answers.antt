@@ -1,4 +1,4 @@
-use Rattle.std.proofs.Common.{◌∙◌, ◌++◌, [], sym, ap, subst, length, Ok}
+use Rattle.std.proofs.Common.{◌∙◌, ◌++◌, [], sym, ap, subst, length, Ok, arith}
 use Rattle.gf_text.specs.Tokens.{lexeme}
 use Rattle.gf_text.specs.Limits.{ArePolynomialsWithin}
 use Rattle.gf_text.specs.GivenSet.{set_move}
@@ -16,6 +16,7 @@ loop-start-init c =
     let source = c.args.source.now in
     record {
       within = c.requires;
+      forward = omega arith;
       said = [];
       none = ap (λ p. p.polynomials) c.new-part.ensures;
       reading = subst (λ p. Reading ring source c.args.from c.args.from (Brace, p) []) (sym c.new-part.ensures) (reading_start ring source c.args.from);
@@ -96,6 +97,7 @@ loop-start-preserved c =
     let adds = subst (λ n. Adds n ps c.loop-start.sums c.add_read-in-loop-start.new.self) c.len-n.ensures.value c.in_ok-add_read.ensures in
     record {
       within = c.in-Some.ensures.within.2;
+      forward = (let before = c.loop-start.invariant.forward in let next = c.in-Some.ensures.within.0 in let rises = c.in-Some.ensures.within.1 in omega arith);
       said = i.said ++ ps;
       none = c.clear.ensures;
       reading = subst (λ l. Reading ring source c.args.from c.in-Some.end (c.in-Go.next, record (c.step.new.self) { polynomials = l }) (i.said ++ ps)) (sym c.clear.ensures)

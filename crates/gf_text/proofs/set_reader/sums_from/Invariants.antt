@@ -7,6 +7,7 @@ use Rattle.gf_text.proofs.set_reader.sums_from.Given as goal
 abbrev pub invariant-loop-start : goal.invariant-loop-start
 invariant-loop-start l = record {
   within : l.at ≤ length l.source;
+  forward : l.from ≤ l.at;
   said : List (List WrittenTerm);
   none : l.part.polynomials ≡ [];
   reading : Reading l.ring l.source l.from l.at (l.place, l.part) said;

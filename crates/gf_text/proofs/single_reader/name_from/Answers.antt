@@ -1,4 +1,4 @@
-use Rattle.std.proofs.Common.{◌∙◌, refl, sym, ap, length, subst}
+use Rattle.std.proofs.Common.{◌∙◌, refl, sym, length, subst}
 use Rattle.gf_text.specs.Machine.{Reads}
 use Rattle.gf_text.specs.Tokens.{lexeme, lexemes, word_more}
 use Rattle.gf_text.specs.SingleText.{IsNewNameText}

@@ -1,7 +1,6 @@
-use Rattle.std.proofs.Common.{◌∙◌, [], sym, ap, subst, length, Ok}
+use Rattle.std.proofs.Common.{◌∙◌, [], sym, ap, length, Ok}
 use Rattle.gf_text.specs.Tokens.{word_more}
 use Rattle.gf_text.specs.VectorText.{vector_step}
-use Rattle.gf_text.specs.VectorLists.{vectors_from, vectors_first, vectors_inside}
 use Rattle.gf_text.specs.declared.vector_reader.VectorPlace.TheVariants.{Parenthesis}
 use Rattle.gf_text.specs.declared.error.Cause.TheVariants.{Ended}
 use Rattle.gf_text.proofs.MachineLaws.{failed}

@@ -1,10 +1,10 @@
 use Rattle.std.proofs.lemmas.Result.{err_from_is_err_and}
-use Rattle.std.proofs.Common.{◌∙◌, ◌∷◌, [], sym, ap, subst, length}
-use Rattle.gf_text.specs.ListText.{inside, behind_item, list_step}
+use Rattle.std.proofs.Common.{◌∙◌, [], sym, ap, subst, length}
+use Rattle.gf_text.specs.ListText.{behind_item}
 use Rattle.gf_text.specs.Tokens.{lexemes, word_more}
 use Rattle.gf_text.specs.VectorText.{vector_step}
 use Rattle.gf_text.specs.Given.{Fails}
-use Rattle.gf_text.specs.VectorLists.{vectors_from, vectors_at, vectors_first, vectors_inside}
+use Rattle.gf_text.specs.VectorLists.{vectors_from}
 use Rattle.gf_text.specs.declared.vector_reader.VectorPlace.TheVariants.{Parenthesis}
 use Rattle.gf_text.specs.declared.error.Cause.TheVariants.{Ended, Unexpected}
 use Rattle.gf_text.proofs.MachineLaws.{failed}

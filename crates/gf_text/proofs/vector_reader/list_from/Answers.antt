@@ -1,7 +1,6 @@
-use Rattle.std.proofs.Common.{◌∙◌, [], sym, ap, subst, length}
+use Rattle.std.proofs.Common.{◌∙◌, [], sym, length}
 use Rattle.gf_text.specs.Tokens.{word_more}
 use Rattle.gf_text.specs.VectorText.{vector_step}
-use Rattle.gf_text.specs.VectorLists.{vectors_from, vectors_at, vectors_first}
 use Rattle.gf_text.specs.declared.vector_reader.VectorPlace.TheVariants.{Parenthesis}
 use Rattle.gf_text.specs.declared.error.Cause.TheVariants.{Ended, Unexpected}
 use Rattle.gf_text.proofs.MachineLaws.{failed}
