@@ -1,5 +1,5 @@
 -- The form of what is read fails in one way at most, and not where it holds.
--- To cite: AreKept, form_once, formed_apart, within_reach. The rest are steps.
+-- To cite: AreKept, form_once. The rest are steps.
 use Rattle.std.specs.Prelude.{◌≡◌, ◌≢◌, ◌⊎◌, ℕ, ◌<◌, ◌≤◌, Bool, true, false, List, length, Contains, get_or, slice_index_or, All, Option, None, Some, Result, Err, ℤ, pos, ◌<ℤ◌, ◌≤ℤ◌}
 use Rattle.std.proofs.Common.{arith, refl, sym, ap, ◌∙◌, subst, inl, inr}
 use Rattle.std.proofs.lemmas.Int.{ints}
@@ -11,22 +11,18 @@ use Rattle.gf_poly.specs.declared.Term.{Term}
 use Rattle.gf_poly.specs.Polynomial.{Terms, HasVariables, IsDescending}
 use Rattle.gf_ideal.specs.Membership.{HasMonomial}
 use Rattle.gf_division.proofs.StepLaws.{term_there}
-use Rattle.gf_buchberger.specs.declared.bases.BasisError.{BasisError}
-use Rattle.gf_buchberger.specs.declared.bases.BasisError.TheVariants as basis_errors
 use Rattle.gf_buchberger.specs.declared.homogeneity.NotHomogeneous.{NotHomogeneous}
 use Rattle.gf_buchberger.specs.Homogeneity.{IsOfOneDegree, IsFirstOther, IsFirstInhomogeneous}
 use Rattle.gf_buchberger.specs.Jobs.{HaveOneDegree}
-use Rattle.gf_buchberger.specs.Bases.{AreRunsWithinLimits}
-use Rattle.gf_buchberger.proofs.BasesOfRuns.{if_within}
 use Rattle.gf_front.specs.declared.refusal.Refusal.{Refusal}
 use Rattle.gf_front.specs.declared.refusal.Refusal.TheVariants as refusals
-use Rattle.gfan_main.specs.declared.answer.Options.{Options}
-use Rattle.gfan_main.specs.Answers.{order_of, HasLength, least_entry, IsTermWeight, AreTaken, IsFormed, HasOtherLength, IsFirstSmall, IsFirstNotTaken, BasisFails, IsJobRefusal}
-use Rattle.gfan_main.specs.Commands.{IsOfForm}
+use Rattle.gf_items.specs.Commands.{IsExactRefusal}
+use Rattle.gf_items.proofs.CheckLaws.{IsCheckedOnce, AreCheckedOnce}
+use Rattle.gfan_main.specs.Buchberger.{FitsVariables, least_entry, IsTermWeight, AreTaken, HasOtherLength, IsFirstSmall, IsFirstNotTaken, IsLengthRefusal, IsDegreeRefusal, IsWeightRefusal, form}
 
 -- ---- the length of a weight
 
-other_length_apart : (n left right : ℕ) (weight : Option (List ℤ)) → HasLength n weight → HasOtherLength n weight left right → ⊥
+other_length_apart : (n left right : ℕ) (weight : Option (List ℤ)) → FitsVariables n weight → HasOtherLength n weight left right → ⊥
 other_length_apart n left right None a h = h
 other_length_apart n left right (Some w) a h = h.2 (h.0 ∙ a ∙ sym h.1)
 
@@ -107,17 +103,6 @@ not_taken_once false weight fs e d h k = absurd h
 not_taken_once true None fs e d h k = inhomogeneous_once fs e d h k
 not_taken_once true (Some w) fs e d h k = absurd h
 
--- there is a weight, or polynomials are refused, and not both
-not_taken_length : (revlex : Bool) (n left right : ℕ) (weight : Option (List ℤ)) (fs : List Terms) (e : NotHomogeneous) → IsFirstNotTaken revlex weight fs e → HasOtherLength n weight left right → ⊥
-not_taken_length false n left right weight fs e h k = h
-not_taken_length true n left right None fs e h k = k
-not_taken_length true n left right (Some w) fs e h k = h
-
-not_taken_small : (revlex : Bool) (i : ℕ) (weight : Option (List ℤ)) (fs : List Terms) (e : NotHomogeneous) → IsFirstNotTaken revlex weight fs e → IsFirstSmall revlex weight i → ⊥
-not_taken_small false i weight fs e h k = h
-not_taken_small true i None fs e h k = k
-not_taken_small true i (Some w) fs e h k = h
-
 -- the polynomials are kept as descending lists of terms in n variables
 abbrev pub AreKept : ℕ → List Terms → Type 0
 AreKept n fs = (f : Terms) → Contains fs f → HasVariables n f × IsDescending f
@@ -141,67 +126,55 @@ not_taken_apart n true (Some w) fs e kept a h = h
 abbrev named : ℕ → Exponents → Exponents → NotHomogeneous
 named polynomial first second = record { polynomial = polynomial; first = first; second = second }
 
-module _ (o : Options) (n : ℕ) (fs : List Terms) (weight : Option (List ℤ)) (kept : AreKept n fs) where
-  length_once : (left right : ℕ) (d : Refusal) → HasOtherLength n weight left right → IsJobRefusal o n fs weight d → (d ≡ refusals.Dimensions left right) ⊎ (d ≡ refusals.Memory)
-  length_once left right (refusals.Dimensions a b) h k =
-      let same = other_length_once n left right a b weight h k in
-      inl (ap (λ z. refusals.Dimensions z b) same.0 ∙ ap (λ z. refusals.Dimensions left z) same.1)
-  length_once left right (refusals.NotTermOrder i) h k = absurd (other_length_apart n left right weight k.0 h)
-  length_once left right (refusals.NotHomogeneous p x y) h k = absurd (not_taken_length o.revlex n left right weight fs (named p x y) k h)
-  length_once left right (refusals.Overflow x) h k = absurd (other_length_apart n left right weight k.formed.entries h)
-  length_once left right (refusals.ExponentOverflow x) h k = absurd (other_length_apart n left right weight k.formed.entries h)
-  length_once left right (refusals.PairBudget b u) h k = absurd (other_length_apart n left right weight k.formed.entries h)
-  length_once left right refusals.Memory h k = inr refl
-  length_once left right _ h k = absurd k
+length_check : (n : ℕ) (weight : Option (List ℤ)) → IsCheckedOnce (record { Holds = FitsVariables n weight; Fails = IsLengthRefusal n weight })
+length_check n weight = record { once = once; apart = apart; kind = kind }
+  where
+    once : (r d : Refusal) → IsLengthRefusal n weight r → IsLengthRefusal n weight d → d ≡ r
+    once (refusals.Dimensions left right) (refusals.Dimensions a b) h k =
+        let same = other_length_once n left right a b weight h k in ap (λ z. refusals.Dimensions z b) same.0 ∙ ap (λ z. refusals.Dimensions left z) same.1
+    once (refusals.Dimensions left right) _ h k = absurd k
+    once _ d h k = absurd h
 
-  small_once : (i : ℕ) (d : Refusal) → HasLength n weight → IsFirstSmall o.revlex weight i → IsJobRefusal o n fs weight d → (d ≡ refusals.NotTermOrder i) ⊎ (d ≡ refusals.Memory)
-  small_once i (refusals.Dimensions a b) l h k = absurd (other_length_apart n a b weight l k)
-  small_once i (refusals.NotTermOrder j) l h k = inl (ap (λ z. refusals.NotTermOrder z) (first_small_once o.revlex weight i j h k.1))
-  small_once i (refusals.NotHomogeneous p x y) l h k = absurd (not_taken_small o.revlex i weight fs (named p x y) k h)
-  small_once i (refusals.Overflow x) l h k = absurd (first_small_apart o.revlex weight i k.formed.term_weight h)
-  small_once i (refusals.ExponentOverflow x) l h k = absurd (first_small_apart o.revlex weight i k.formed.term_weight h)
-  small_once i (refusals.PairBudget b u) l h k = absurd (first_small_apart o.revlex weight i k.formed.term_weight h)
-  small_once i refusals.Memory l h k = inr refl
-  small_once i _ l h k = absurd k
+    apart : (r : Refusal) → FitsVariables n weight → IsLengthRefusal n weight r → ⊥
+    apart (refusals.Dimensions left right) l h = other_length_apart n left right weight l h
+    apart _ l h = h
 
-  degrees_once : (p : ℕ) (x y : Exponents) (d : Refusal) → IsFirstNotTaken o.revlex weight fs (named p x y) → IsJobRefusal o n fs weight d → (d ≡ refusals.NotHomogeneous p x y) ⊎ (d ≡ refusals.Memory)
-  degrees_once p x y (refusals.Dimensions a b) h k = absurd (not_taken_length o.revlex n a b weight fs (named p x y) h k)
-  degrees_once p x y (refusals.NotTermOrder i) h k = absurd (not_taken_small o.revlex i weight fs (named p x y) h k.1)
-  degrees_once p x y (refusals.NotHomogeneous q v w) h k =
-      inl (ap (λ (e : NotHomogeneous). refusals.NotHomogeneous e.polynomial e.first e.second) (not_taken_once o.revlex weight fs (named p x y) (named q v w) h k))
-  degrees_once p x y (refusals.Overflow z) h k = absurd (not_taken_apart n o.revlex weight fs (named p x y) kept k.formed.taken h)
-  degrees_once p x y (refusals.ExponentOverflow z) h k = absurd (not_taken_apart n o.revlex weight fs (named p x y) kept k.formed.taken h)
-  degrees_once p x y (refusals.PairBudget b u) h k = absurd (not_taken_apart n o.revlex weight fs (named p x y) kept k.formed.taken h)
-  degrees_once p x y refusals.Memory h k = inr refl
-  degrees_once p x y _ h k = absurd k
+    kind : (r : Refusal) → IsLengthRefusal n weight r → IsExactRefusal r
+    kind (refusals.Dimensions left right) h = inr tt
+    kind _ h = absurd h
 
-  -- where what is read isn't of its form, it is refused by that alone
-  pub form_once : (r d : Refusal) → IsOfForm r → IsJobRefusal o n fs weight r → IsJobRefusal o n fs weight d → (d ≡ r) ⊎ (d ≡ refusals.Memory)
-  form_once (refusals.Dimensions a b) d f h k = length_once a b d h k
-  form_once (refusals.NotTermOrder i) d f h k = small_once i d h.0 h.1 k
-  form_once (refusals.NotHomogeneous p x y) d f h k = degrees_once p x y d h k
-  form_once (refusals.ZeroPolynomial set index) d f h k = absurd h
-  form_once _ d f h k = absurd f
+degree_check : (n : ℕ) (revlex : Bool) (weight : Option (List ℤ)) (fs : List Terms) → AreKept n fs → IsCheckedOnce (record { Holds = AreTaken revlex weight fs; Fails = IsDegreeRefusal revlex weight fs })
+degree_check n revlex weight fs kept = record { once = once; apart = apart; kind = kind }
+  where
+    once : (r d : Refusal) → IsDegreeRefusal revlex weight fs r → IsDegreeRefusal revlex weight fs d → d ≡ r
+    once (refusals.NotHomogeneous p x y) (refusals.NotHomogeneous q v w) h k =
+        ap (λ (e : NotHomogeneous). refusals.NotHomogeneous e.polynomial e.first e.second) (not_taken_once revlex weight fs (named p x y) (named q v w) h k)
+    once (refusals.NotHomogeneous p x y) _ h k = absurd k
+    once _ d h k = absurd h
 
-  -- what is of its form isn't refused for that
-  pub formed_apart : (r : Refusal) → IsFormed o.revlex n weight fs → IsOfForm r → IsJobRefusal o n fs weight r → ⊥
-  formed_apart (refusals.Dimensions a b) g f h = other_length_apart n a b weight g.entries h
-  formed_apart (refusals.NotTermOrder i) g f h = first_small_apart o.revlex weight i g.term_weight h.1
-  formed_apart (refusals.NotHomogeneous p x y) g f h = not_taken_apart n o.revlex weight fs (named p x y) kept g.taken h
-  formed_apart (refusals.ZeroPolynomial set index) g f h = h
-  formed_apart _ g f h = f
+    apart : (r : Refusal) → AreTaken revlex weight fs → IsDegreeRefusal revlex weight fs r → ⊥
+    apart (refusals.NotHomogeneous p x y) a h = not_taken_apart n revlex weight fs (named p x y) kept a h
+    apart _ a h = h
 
-  module _ (g : IsFormed o.revlex n weight fs) (w : AreRunsWithinLimits (order_of o.revlex weight) fs o.pairs) where
-    no_cause : (e : BasisError) → BasisFails o.revlex o.pairs n fs weight e → e ≡ basis_errors.Memory
-    no_cause e k = if_within {A = Unit {0}} (order_of o.revlex weight) n o.pairs fs (Err e) w k.fails
+    kind : (r : Refusal) → IsDegreeRefusal revlex weight fs r → IsExactRefusal r
+    kind (refusals.NotHomogeneous p x y) h = inr tt
+    kind _ h = absurd h
 
-    -- within the limits only memory may be wanting
-    pub within_reach : (d : Refusal) → IsJobRefusal o n fs weight d → d ≡ refusals.Memory
-    within_reach (refusals.Dimensions a b) k = absurd (formed_apart (refusals.Dimensions a b) g tt k)
-    within_reach (refusals.NotTermOrder i) k = absurd (formed_apart (refusals.NotTermOrder i) g tt k)
-    within_reach (refusals.NotHomogeneous p x y) k = absurd (formed_apart (refusals.NotHomogeneous p x y) g tt k)
-    within_reach (refusals.Overflow x) k = let none = no_cause (basis_errors.Overflow x) k in cc
-    within_reach (refusals.ExponentOverflow x) k = let none = no_cause (basis_errors.Exponent x) k in cc
-    within_reach (refusals.PairBudget b u) k = let none = no_cause (basis_errors.PairBudget b u) k in cc
-    within_reach refusals.Memory k = refl
-    within_reach _ k = absurd k
+weight_check : (revlex : Bool) (weight : Option (List ℤ)) → IsCheckedOnce (record { Holds = IsTermWeight revlex weight; Fails = IsWeightRefusal revlex weight })
+weight_check revlex weight = record { once = once; apart = apart; kind = kind }
+  where
+    once : (r d : Refusal) → IsWeightRefusal revlex weight r → IsWeightRefusal revlex weight d → d ≡ r
+    once (refusals.NotTermOrder i) (refusals.NotTermOrder j) h k = ap (λ z. refusals.NotTermOrder z) (first_small_once revlex weight i j h k)
+    once (refusals.NotTermOrder i) _ h k = absurd k
+    once _ d h k = absurd h
+
+    apart : (r : Refusal) → IsTermWeight revlex weight → IsWeightRefusal revlex weight r → ⊥
+    apart (refusals.NotTermOrder i) a h = first_small_apart revlex weight i a h
+    apart _ a h = h
+
+    kind : (r : Refusal) → IsWeightRefusal revlex weight r → IsExactRefusal r
+    kind (refusals.NotTermOrder i) h = inr tt
+    kind _ h = absurd h
+
+pub form_once : (revlex : Bool) (n : ℕ) (weight : Option (List ℤ)) (fs : List Terms) → AreKept n fs → AreCheckedOnce (form revlex n weight fs)
+form_once revlex n weight fs kept = (length_check n weight, (degree_check n revlex weight fs kept, (weight_check revlex weight, tt)))

@@ -1,11 +1,9 @@
-pub mod ReadingLaws  -- a ring and an item behind it: the text of a source ends in one way
-pub mod ItemLaws  -- sets, weights and marked sets are read in one way
 pub mod FormLaws  -- the form of what is read fails in one way at most
-pub mod AnswerLaws  -- what is answered
+pub mod BuchbergerLaws  -- what `_buchberger` answers
 pub mod MarkingRowsLaws  -- the system of a marking, row by row; its solutions are the positive weights
 pub mod MonicFormsLaws  -- monic forms as code makes them
 pub mod MarkedBasesLaws  -- pairs whose S-polynomials have the normal form zero
-pub mod MarkedAnswerLaws  -- what is answered for a marked set
+pub mod MarkedLaws  -- what is answered for a marked set
 pub mod RefusedLaws  -- which refusals are told without a ring
 pub mod ExactLaws  -- a source is answered in one way
 pub mod OutcomeLaws  -- how a run ends

@@ -1,7 +1,7 @@
 -- How a run ends, from what its parts promise.
 -- To cite: words_usage, words_cause, took_nothing, within_done, within_refused, done_in_reach, refused_in_reach, text_not_done, text_refused,
--- form_not_done, form_refused, long_not_done, long_refused. The rest are steps.
-use Rattle.std.specs.Prelude.{◌≡◌, ◌⊎◌, ℕ, ◌<◌, ◌≤◌, ◌++◌, List, [], length, Option, None, Some}
+-- form_not_done, form_refused, long_not_done, long_refused, job_refused, input_refused, not_usage, of_input. The rest are steps.
+use Rattle.std.specs.Prelude.{◌≡◌, ◌⊎◌, ℕ, ◌<◌, ◌≤◌, ◌++◌, List, [], length, Option, None, Some, IfSome}
 use Rattle.std.specs.Io.KnownBytes.{Consumes, IsAtEnd}
 use Rattle.std.proofs.Common.{arith, refl, sym, ap, ◌∙◌, subst, inl, inr, length-append, append-nil}
 use Rattle.std.proofs.KnownBytes.{Consumes-nil}
@@ -16,9 +16,12 @@ use Rattle.gf_front.specs.declared.refusal.Status.{Status}
 use Rattle.gf_front.specs.declared.refusal.Status.TheVariants as statuses
 use Rattle.gf_front.specs.Jobs.{match_of, job_of, renamed, IsMatched, IsJobOf}
 use Rattle.gf_front.specs.Lines.{of_words}
-use Rattle.gfan_main.specs.Commands.{IsAnswerTo, IsRefusalOf, IsWithinReach, IsOfText, IsOfForm}
-use Rattle.gfan_main.specs.Run.{IsKnown, IsGiven, ReadWhole, HasAnswer, Answered, AnsweredInPart, InputRefused, IsRefusedAs, IsDoneUnlessMemory, IsCause}
-use Rattle.gfan_main.proofs.ExactLaws.{exact_text, exact_form, text_no_answer, form_no_answer, all_answered}
+use Rattle.gf_items.specs.Commands.{IsOfText, IsOfForm, IsOfJob}
+use Rattle.gfan_main.specs.Commands.{IsAnswerTo, IsRefusalOf, IsWithinReach}
+use Rattle.gfan_main.specs.Run.{IsKnown, IsGiven, ReadWhole, HasAnswer, Answered, AnsweredInPart, InputRefused, IsRefusedAs, IsDoneUnlessMemory, IsCause, IsRingOfInput, IsOfInput, IsOfOutside}
+use Rattle.gfan_main.specs.declared.refused.Refused.{Refused}
+use Rattle.gfan_main.specs.Refused.{IsRingOf, IsOfSource}
+use Rattle.gfan_main.proofs.ExactLaws.{exact_text, exact_form, text_no_answer, form_no_answer, all_answered, refused_as_job}
 
 -- ---- bytes
 
@@ -100,18 +103,39 @@ module _ (words : List (List ℕ)) (left leaves : Option (List ℕ)) (given give
   refused_here job source refusals.InputTooLong g c = absurd (not_too_long source g.known g.short c)
   refused_here job source refusals.WriteFault g c = IsRefusedHere.at_write c.1.text c.0 (answer_here job source c.1.text g c.1.answer)
   refused_here job source refusals.Memory g c = IsRefusedHere.at_memory refl
-  refused_here job source (refusals.Overflow x) g c = IsRefusedHere.at_job (refusal_here job source (refusals.Overflow x) g c)
-  refused_here job source (refusals.ExponentOverflow x) g c = IsRefusedHere.at_job (refusal_here job source (refusals.ExponentOverflow x) g c)
-  refused_here job source (refusals.NotTermOrder i) g c = IsRefusedHere.at_job (refusal_here job source (refusals.NotTermOrder i) g c)
-  refused_here job source (refusals.Syntax s) g c = IsRefusedHere.at_job (refusal_here job source (refusals.Syntax s) g c)
-  refused_here job source (refusals.TooWide at) g c = IsRefusedHere.at_job (refusal_here job source (refusals.TooWide at) g c)
-  refused_here job source (refusals.UnknownName at) g c = IsRefusedHere.at_job (refusal_here job source (refusals.UnknownName at) g c)
-  refused_here job source (refusals.TooManyVariables n) g c = IsRefusedHere.at_job (refusal_here job source (refusals.TooManyVariables n) g c)
-  refused_here job source (refusals.PairBudget b u) g c = IsRefusedHere.at_job (refusal_here job source (refusals.PairBudget b u) g c)
-  refused_here job source (refusals.ConeOverflow i op x y) g c = IsRefusedHere.at_job (refusal_here job source (refusals.ConeOverflow i op x y) g c)
-  refused_here job source (refusals.Dimensions x y) g c = IsRefusedHere.at_job (refusal_here job source (refusals.Dimensions x y) g c)
-  refused_here job source (refusals.ZeroPolynomial s i) g c = IsRefusedHere.at_job (refusal_here job source (refusals.ZeroPolynomial s i) g c)
-  refused_here job source (refusals.NotHomogeneous p x y) g c = IsRefusedHere.at_job (refusal_here job source (refusals.NotHomogeneous p x y) g c)
+  refused_here job source r g c = IsRefusedHere.at_job (refusal_here job source r g c)
+
+  -- a job that is refused is a cause
+  pub job_refused : (job : Job) (source : List ℕ) (r : Refusal) → IsJobOf words job → ReadWhole left leaves given gives source → IsRefusalOf job source r → IsCauseHere r
+  job_refused job source r j b h = at r (refused_as_job job source r h) h
+    where
+      at : (r : Refusal) → IsOfJob r → IsRefusalOf job source r → IsCauseHere r
+      at refusals.Usage k x = elim k [ inl y ↦ elim y [ inl z ↦ absurd z | inr z ↦ absurd z ] | inr y ↦ absurd y ]
+      at refusals.ReadFault k x = elim k [ inl y ↦ elim y [ inl z ↦ absurd z | inr z ↦ absurd z ] | inr y ↦ absurd y ]
+      at refusals.InputTooLong k x = elim k [ inl y ↦ elim y [ inl z ↦ absurd z | inr z ↦ absurd z ] | inr y ↦ absurd y ]
+      at refusals.WriteFault k x = elim k [ inl y ↦ elim y [ inl z ↦ absurd z | inr z ↦ absurd z ] | inr y ↦ absurd y ]
+      at refusals.Memory k x = took_whole left leaves given gives source b
+      at r k x = record { job = job; asked = j; source = source; read = b; refused = x }
+
+  -- a refusal that isn't of the outside is of the job
+  pub input_refused : (r : Refusal) → (IsOfOutside r → ⊥) → IsCauseHere r → InputRefused words left leaves given gives r
+  input_refused refusals.Usage n c = absurd (n tt)
+  input_refused refusals.ReadFault n c = absurd (n tt)
+  input_refused refusals.InputTooLong n c = absurd (n tt)
+  input_refused refusals.WriteFault n c = absurd (n tt)
+  input_refused refusals.Memory n c = absurd (n tt)
+  input_refused r n c = c
+
+  pub not_usage : (job : Job) (source : List ℕ) (r : Refusal) → IsRefusalOf job source r → r ≡ refusals.Usage → ⊥
+  not_usage job source r h e = elim (subst IsOfJob e (refused_as_job job source r h)) [ inl y ↦ elim y [ inl z ↦ z | inr z ↦ z ] | inr y ↦ y ]
+
+  -- the ring of the source is that of the input
+  pub of_input : (source : List ℕ) (refused : Refused) → ReadWhole left leaves given gives source → IsOfSource source refused → IsOfInput left leaves given gives refused
+  of_input source refused b h = record { named = h.named; ring = at refused.ring h.ring }
+    where
+      at : (ring : Option (List (List ℕ))) → IfSome ring (IsRingOf source) → IfSome ring (IsRingOfInput left leaves given gives)
+      at None x = tt
+      at (Some names) x = record { source = source; read = b; ring = x }
 
   -- ---- within reach
 
@@ -165,18 +189,7 @@ module _ (words : List (List ℕ)) (left leaves : Option (List ℕ)) (given give
   within_refused refusals.InputTooLong u n c = absurd (n refl)
   within_refused refusals.WriteFault u n c = took_whole left leaves given gives c.1.answer.source c.1.answer.read
   within_refused refusals.Memory u n c = c
-  within_refused (refusals.Overflow x) u n c = input_within (refusals.Overflow x) c
-  within_refused (refusals.ExponentOverflow x) u n c = input_within (refusals.ExponentOverflow x) c
-  within_refused (refusals.NotTermOrder i) u n c = input_within (refusals.NotTermOrder i) c
-  within_refused (refusals.Syntax s) u n c = input_within (refusals.Syntax s) c
-  within_refused (refusals.TooWide at) u n c = input_within (refusals.TooWide at) c
-  within_refused (refusals.UnknownName at) u n c = input_within (refusals.UnknownName at) c
-  within_refused (refusals.TooManyVariables k) u n c = input_within (refusals.TooManyVariables k) c
-  within_refused (refusals.PairBudget b p) u n c = input_within (refusals.PairBudget b p) c
-  within_refused (refusals.ConeOverflow i op x y) u n c = input_within (refusals.ConeOverflow i op x y) c
-  within_refused (refusals.Dimensions x y) u n c = input_within (refusals.Dimensions x y) c
-  within_refused (refusals.ZeroPolynomial s i) u n c = input_within (refusals.ZeroPolynomial s i) c
-  within_refused (refusals.NotHomogeneous p x y) u n c = input_within (refusals.NotHomogeneous p x y) c
+  within_refused r u n c = input_within r c
 
   -- a longer input isn't read whole
   not_whole : (source bytes : List ℕ) → IsKnown left read reads source → 67108864 < length source → ReadWhole left leaves given gives bytes → ⊥
@@ -194,15 +207,4 @@ module _ (words : List (List ℕ)) (left leaves : Option (List ℕ)) (given give
   long_refused source refusals.InputTooLong k m l c = inl refl
   long_refused source refusals.WriteFault k m l c = absurd (not_whole source c.1.answer.source k l c.1.answer.read)
   long_refused source refusals.Memory k m l c = inr refl
-  long_refused source (refusals.Overflow x) k m l c = absurd (input_not_long source (refusals.Overflow x) k l c)
-  long_refused source (refusals.ExponentOverflow x) k m l c = absurd (input_not_long source (refusals.ExponentOverflow x) k l c)
-  long_refused source (refusals.NotTermOrder i) k m l c = absurd (input_not_long source (refusals.NotTermOrder i) k l c)
-  long_refused source (refusals.Syntax s) k m l c = absurd (input_not_long source (refusals.Syntax s) k l c)
-  long_refused source (refusals.TooWide at) k m l c = absurd (input_not_long source (refusals.TooWide at) k l c)
-  long_refused source (refusals.UnknownName at) k m l c = absurd (input_not_long source (refusals.UnknownName at) k l c)
-  long_refused source (refusals.TooManyVariables i) k m l c = absurd (input_not_long source (refusals.TooManyVariables i) k l c)
-  long_refused source (refusals.PairBudget b p) k m l c = absurd (input_not_long source (refusals.PairBudget b p) k l c)
-  long_refused source (refusals.ConeOverflow i op x y) k m l c = absurd (input_not_long source (refusals.ConeOverflow i op x y) k l c)
-  long_refused source (refusals.Dimensions x y) k m l c = absurd (input_not_long source (refusals.Dimensions x y) k l c)
-  long_refused source (refusals.ZeroPolynomial s i) k m l c = absurd (input_not_long source (refusals.ZeroPolynomial s i) k l c)
-  long_refused source (refusals.NotHomogeneous p x y) k m l c = absurd (input_not_long source (refusals.NotHomogeneous p x y) k l c)
+  long_refused source r k m l c = absurd (input_not_long source r k l c)

@@ -1,8 +1,9 @@
-pub mod Answers  -- what `_buchberger` reads and writes
-pub mod Checks  -- how what is read is checked, and what is asked then
+pub mod Printing  -- what the commands print alike
+pub mod Buchberger  -- what `_buchberger` reads and writes
+pub mod Questions  -- how what is read is checked, and what is asked then
 pub mod MarkingRows  -- the system of a marking
 pub mod MarkedBases  -- when a marked set is a basis, and why it isn't tested
-pub mod MarkedAnswers  -- what `_ismarkedgroebnerbasis` reads and writes
+pub mod Marked  -- what `_ismarkedgroebnerbasis` reads and writes
 pub mod Refused  -- a refusal with the ring in whose names it is told
 pub mod Commands  -- what the program does for each job
 pub mod Run  -- the top call

@@ -3,9 +3,9 @@ ghost use Rattle.std.specs.Prelude.{IfOk, IfErr};
 ghost use Rattle.gfan_main.specs.Refused.{IsOfSource};
 ghost use Rattle.gfan_main.specs.Commands.{IsAnswerTo, IsRefusalOf};
 
-use crate::answer::{Options, answer};
-use crate::marked_answer::marked_answer;
+use crate::buchberger::Options;
 use crate::refused::Refused;
+use crate::{buchberger, marked};
 use gf_front::Job;
 use std::alloc::Global;
 
@@ -26,8 +26,8 @@ pub(crate) fn answered(alloc: Global, job: &Job, source: &[u8]) -> Result<Vec<u8
                 revlex: *revlex,
                 pairs: *pairs,
             };
-            answer(alloc, source, options)
+            buchberger::answer(alloc, source, options)
         }
-        Job::IsMarkedGroebnerBasis => marked_answer(alloc, source),
+        Job::IsMarkedGroebnerBasis => marked::answer(alloc, source),
     }
 }

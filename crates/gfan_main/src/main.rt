@@ -5,10 +5,14 @@
 // command writes in `specs/Commands.antt`.
 #![tactic(auto)]
 
-mod answer;
+ghost use Rattle.std.specs.Prelude.{◌≡◌};
+ghost use Rattle.std.specs.Process.{exit_status};
+ghost use Rattle.gf_front.specs.Lines.{code_of};
+
+mod buchberger;
 mod commands;
-mod marked_answer;
-mod marked_basis;
+mod marked;
+mod printing;
 mod refused;
 mod run;
 #[cfg(test)]
@@ -38,6 +42,13 @@ fn given(rt: &HostRuntime) -> Result<Vec<String>, WordsError> {
     Ok(args.skip(1).collect::<Vec<String>>(rt.alloc())?)
 }
 
+/// The code of a process that ends so.
+fn exit_code(status: &Status) -> ExitCode
+    ensures { exit_status result ≡ code_of status.now }
+{
+    ExitCode::from(status.code())
+}
+
 fn main(rt: HostRuntime) -> ExitCode {
     let mut faults = StdSink::new(rt.stderr());
     let status = match given(&rt) {
@@ -52,5 +63,5 @@ fn main(rt: HostRuntime) -> ExitCode {
             Status::Refused(refused.refusal)
         }
     };
-    ExitCode::from(status.code())
+    exit_code(&status)
 }

@@ -3,7 +3,7 @@ ghost use Rattle.std.specs.Prelude.{◌≡◌};
 ghost use Rattle.gf_front.specs.Lines.{line};
 ghost use Rattle.gfan_main.specs.Refused.{names_of, IsNamedBy, WrittenAsFar};
 
-use crate::marked_basis::CheckError;
+use crate::marked::CheckError;
 use gf_front::{Refusal, WordsError};
 use gf_outside::Sink;
 use gf_text::{Ring, Syntax, TextError};
@@ -74,7 +74,7 @@ impl From<Syntax> for Refused {
 }
 
 impl From<TextError> for Refused {
-    ghost use Rattle.gfan_main.specs.Answers.{of_text};
+    ghost use Rattle.gf_items.specs.Commands.{of_text};
     ghost use Rattle.gfan_main.specs.Refused.{without_names};
 
     ghost from_gives = { λ t e. e ≡ without_names (of_text t) };
@@ -94,7 +94,7 @@ impl From<TextError> for Refused {
 }
 
 impl From<CheckError> for Refused {
-    ghost use Rattle.gfan_main.specs.MarkedAnswers.{of_check};
+    ghost use Rattle.gfan_main.specs.Marked.{of_check};
     ghost use Rattle.gfan_main.specs.Refused.{without_names};
 
     ghost from_gives = { λ c e. e ≡ without_names (of_check c) };

@@ -7,8 +7,9 @@ ghost use Rattle.gf_outside.specs.Faults.{Rose};
 ghost use Rattle.gf_outside.specs.Moved.{TookExactly, TookAtMost};
 ghost use Rattle.gf_front.specs.Jobs.{IsMatched, IsJobOf};
 ghost use Rattle.gf_front.specs.declared.command_line.Job.{Job};
-ghost use Rattle.gfan_main.specs.Commands.{IsRefusalOf, IsWithinReach, IsOfText, IsOfForm, IsOverflow, IsExponentOverflow, IsConeOverflow, IsPairBudget};
-ghost use Rattle.gfan_main.specs.Run.{ReadWhole, IsReadingCause, Answered, AnsweredInPart, InputRefused, IsKnown, IsGiven, IsCause, IsOfInput, IsTold, IsRefusedAs, IsDoneUnlessMemory};
+ghost use Rattle.gf_items.specs.Commands.{IsOfText, IsOfForm};
+ghost use Rattle.gfan_main.specs.Commands.{IsRefusalOf, IsWithinReach, IsOverflow, IsExponentOverflow, IsConeOverflow, IsPairBudget};
+ghost use Rattle.gfan_main.specs.Run.{ReadWhole, IsReadingCause, Answered, AnsweredInPart, InputRefused, IsKnown, IsGiven, IsCause, IsOfInput, IsOfOutside, IsTold, IsRefusedAs, IsDoneUnlessMemory, LeavesWritten};
 
 use crate::commands::answered;
 use crate::refused::Refused;
@@ -22,6 +23,7 @@ fn read<S: Source>(alloc: Global, input: &mut S) -> Result<Vec<u8>, Refusal>
         (S.given input.old) (S.given input.new) source.items) }
     ensures cause { IfErr result (IsReadingCause (S.left input.old) (S.left input.new)
         (S.given input.old) (S.given input.new) (S.faults input.old) (S.faults input.new)) }
+    ensures calm { (IsErrOf result Refusal.ReadFault → ⊥) → S.faults input.new ≡ S.faults input.old }
 {
     match read_all(alloc, input) {
         Ok(source) => Ok(source),
@@ -53,6 +55,10 @@ fn outcome<S: Source, K: Sink>(
     ensures unread { IfErr result (λ e. e.refusal ≡ Refusal.Usage → input.new ≡ input.old) }
     ensures quiet { IfErr result (λ e. (e.refusal ≡ Refusal.WriteFault → ⊥)
         → Keeps (K.held output.old) (K.held output.new)) }
+    ensures input_calm { MatchResult result (λ _. S.faults input.new ≡ S.faults input.old)
+        (λ e. (e.refusal ≡ Refusal.ReadFault → ⊥) → S.faults input.new ≡ S.faults input.old) }
+    ensures output_calm { MatchResult result (λ _. K.faults output.new ≡ K.faults output.old)
+        (λ e. (e.refusal ≡ Refusal.WriteFault → ⊥) → K.faults output.new ≡ K.faults output.old) }
 {
     let job = gf_front::words(alloc, words)?;
     let source = read(alloc, input)?;
@@ -80,7 +86,7 @@ fn outcome<S: Source, K: Sink>(
 /// - `Overflow`, `ExponentOverflow` and `ConeOverflow` only for operands that the job may have, and that don't fit;
 ///   `PairBudget` only where the budget of the words is spent.
 /// - `WriteFault` only where a write of this call failed, or took nothing; a prefix of the answer may be
-///   written then. No other refusal writes anything to the output.
+///   written then. Any other refusal leaves nothing in the output, or the beginning of the text of a job that writes as it goes.
 /// - `Memory` at any growth.
 pub fn run<S: Source, K: Sink, E: Sink>(
     alloc: Global,
@@ -151,6 +157,11 @@ pub fn run<S: Source, K: Sink, E: Sink>(
         → InputRefused (map string_bytes words.now) (S.left input.old) (S.left input.new)
         (S.given input.old) (S.given input.new) refusal }
 
+    // No other refusal comes from what is read.
+    ensures job { (refusal : Refusal) → result ≡ Status.Refused refusal → (IsOfOutside refusal → ⊥)
+        → InputRefused (map string_bytes words.now) (S.left input.old) (S.left input.new)
+        (S.given input.old) (S.given input.new) refusal }
+
     // A write failed, and what is written is a prefix of the answer.
     ensures write_fault { result ≡ Status.Refused Refusal.WriteFault
         → Rose (K.faults output.old) (K.faults output.new) }
@@ -158,9 +169,17 @@ pub fn run<S: Source, K: Sink, E: Sink>(
         → AnsweredInPart (map string_bytes words.now) (S.left input.old) (S.left input.new)
         (S.given input.old) (S.given input.new) (K.held output.old) (K.held output.new) }
 
-    // No other refusal writes anything.
+    // Any other refusal leaves nothing there, or of a job that writes as it goes the beginning of its text.
     ensures quiet { (refusal : Refusal) → result ≡ Status.Refused refusal
-        → (refusal ≡ Refusal.WriteFault → ⊥) → Keeps (K.held output.old) (K.held output.new) }
+        → (refusal ≡ Refusal.WriteFault → ⊥) → LeavesWritten (map string_bytes words.now) (S.left input.old)
+        (S.left input.new) (S.given input.old) (S.given input.new) (K.held output.old) (K.held output.new)
+        refusal }
+
+    // No fault is counted but the one that is answered.
+    ensures input_calm { (result ≡ Status.Refused Refusal.ReadFault → ⊥)
+        → S.faults input.new ≡ S.faults input.old }
+    ensures output_calm { (result ≡ Status.Refused Refusal.WriteFault → ⊥)
+        → K.faults output.new ≡ K.faults output.old }
 
     // The line of a refusal, and none where all was done.
     ensures told { (refusal : Refusal) → result ≡ Status.Refused refusal → IsTold refusal
