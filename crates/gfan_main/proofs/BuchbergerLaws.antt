@@ -29,7 +29,7 @@ use Rattle.gf_buchberger.specs.declared.bases.BasisError.TheVariants as basis_er
 use Rattle.gf_buchberger.specs.Bases.{IsBasisRefusal}
 use Rattle.gf_buchberger.specs.declared.homogeneity.NotHomogeneous.{NotHomogeneous}
 use Rattle.gf_buchberger.specs.Homogeneity.{IsFirstInhomogeneous}
-use Rattle.gf_buchberger.specs.Jobs.{AreInRing, IsSuited}
+use Rattle.gf_buchberger.specs.Jobs.{HaveRingVariables, IsSuited}
 use Rattle.gf_buchberger.proofs.JobLaws.{orders_that_suit}
 use Rattle.gf_front.specs.declared.refusal.Refusal.{Refusal}
 use Rattle.gf_front.specs.declared.refusal.Refusal.TheVariants as refusals
@@ -60,8 +60,8 @@ each_in n [] h = tt
 each_in n (written.Zero ∷ ws) h = (tt, each_in n ws h.1)
 each_in n (written.Nonzero m ∷ ws) h = (h.0, each_in n ws h.1)
 
-pub in_ring : (n : ℕ) (ws : List Written) (fs : List Terms) → AreIn n ws → fs ≡ polynomials_of ws → AreInRing n fs
-in_ring n ws fs h e = subst (AreInRing n) (sym e) (record { each = λ f c. contained_each (HasVariables n) (polynomials_of ws) (each_in n ws h) f c })
+pub in_ring : (n : ℕ) (ws : List Written) (fs : List Terms) → AreIn n ws → fs ≡ polynomials_of ws → HaveRingVariables n fs
+in_ring n ws fs h e = subst (HaveRingVariables n) (sym e) (record { each = λ f c. contained_each (HasVariables n) (polynomials_of ws) (each_in n ws h) f c })
 
 -- ---- the order
 
@@ -77,7 +77,7 @@ order_entries n true None h = tt
 order_entries n false (Some w) h = length-gains w ∙ h
 order_entries n true (Some w) h = length-gains w ∙ h
 
-pub order_suits : (n : ℕ) (revlex : Bool) (weight : Option (List ℤ)) (fs : List Terms) → AreInRing n fs → AllHold (form revlex n weight fs) → IsSuited (asked_order revlex weight) n fs
+pub order_suits : (n : ℕ) (revlex : Bool) (weight : Option (List ℤ)) (fs : List Terms) → HaveRingVariables n fs → AllHold (form revlex n weight fs) → IsSuited (asked_order revlex weight) n fs
 order_suits n false None fs v g = orders_that_suit.lex n fs v
 order_suits n true None fs v g = orders_that_suit.revlex n fs v g.1.0
 order_suits n false (Some w) fs v g = orders_that_suit.weighted n (gains w) fs v
@@ -86,7 +86,7 @@ order_suits n true (Some w) fs v g = orders_that_suit.weighted_revlex n w fs v g
 pub suited_by : (n k r : ℕ) (revlex : Bool) (weight : Option (List ℤ)) (ws : List Written) (fs : List Terms) (order : MonomialOrder) → n ≡ r → k ≡ r → AreIn r ws → fs ≡ polynomials_of ws → order ≡ asked_order revlex weight → AllHold (form revlex n weight (polynomials_of ws)) → IsSuited order k fs
 suited_by n k r revlex weight ws fs order p q v e d g =
     let formed : AllHold (form revlex k weight (polynomials_of ws)) = subst (λ z. AllHold (form revlex z weight (polynomials_of ws))) (p ∙ sym q) g in
-    let ring : AreInRing k (polynomials_of ws) = in_ring k ws (polynomials_of ws) (subst (λ z. AreIn z ws) (sym q) v) refl in
+    let ring : HaveRingVariables k (polynomials_of ws) = in_ring k ws (polynomials_of ws) (subst (λ z. AreIn z ws) (sym q) v) refl in
     subst (λ z. IsSuited z k fs) (sym d) (subst (IsSuited (asked_order revlex weight) k) (sym e) (order_suits k revlex weight (polynomials_of ws) ring formed))
 
 pub entries_by : (n k r : ℕ) (revlex : Bool) (weight : Option (List ℤ)) (order : MonomialOrder) → n ≡ r → k ≡ r → order ≡ asked_order revlex weight → FitsVariables n weight → HasEntries k order
@@ -112,13 +112,13 @@ lent_names : (ring : List (List ℕ)) (x : Exponents) (lent : Option (Bor (List 
 lent_names ring x None e h = let p : None ≡ Some ring = e in cc
 lent_names ring x (Some b) e h = let p : Some b.now ≡ Some ring = e in let q : b.now ≡ ring = cc in h ∙ ap length (sym q)
 
-first_variables : (n : ℕ) (fs : List Terms) (e : NotHomogeneous) → AreInRing n fs → IsFirstInhomogeneous fs e → (length e.first ≡ n) × (length e.second ≡ n)
+first_variables : (n : ℕ) (fs : List Terms) (e : NotHomogeneous) → HaveRingVariables n fs → IsFirstInhomogeneous fs e → (length e.first ≡ n) × (length e.second ≡ n)
 first_variables n fs e v h =
     let variables = v.each h.poly (e.polynomial, h.inside, h.is) in
     let o = h.other in
     (ap length h.first ∙ term_length n h.poly o.first variables (0, omega (arith, o.inside), o.is_first), ap length h.second ∙ term_length n h.poly o.other variables (h.place, o.inside, o.is_other))
 
-not_taken_variables : (n : ℕ) (revlex : Bool) (weight : Option (List ℤ)) (fs : List Terms) (e : NotHomogeneous) → AreInRing n fs → IsFirstNotTaken revlex weight fs e → (length e.first ≡ n) × (length e.second ≡ n)
+not_taken_variables : (n : ℕ) (revlex : Bool) (weight : Option (List ℤ)) (fs : List Terms) (e : NotHomogeneous) → HaveRingVariables n fs → IsFirstNotTaken revlex weight fs e → (length e.first ≡ n) × (length e.second ≡ n)
 not_taken_variables n false weight fs e v h = absurd h
 not_taken_variables n true None fs e v h = first_variables n fs e v h
 not_taken_variables n true (Some w) fs e v h = absurd h
@@ -166,7 +166,7 @@ not_of_checks o ring set weight r (IsUnanswered.in_form h) k = no_form o.revlex 
 not_of_checks o ring set weight r (IsUnanswered.in_work g (e, q, h)) k = no_check e (subst IsOfChecks q k)
 not_of_checks o ring set weight r (IsUnanswered.no_memory m) k = subst IsOfChecks m k
 
-pub named_job : (o : Options) (ring : List (List ℕ)) (set : List Written) (weight : Option (List ℤ)) (e : Refusal) → AreInRing (length ring) (polynomials_of set) → IsUnanswered (buchberger_command o) (ring, (set, weight)) e → IsNamedBy (Some ring) e
+pub named_job : (o : Options) (ring : List (List ℕ)) (set : List Written) (weight : Option (List ℤ)) (e : Refusal) → HaveRingVariables (length ring) (polynomials_of set) → IsUnanswered (buchberger_command o) (ring, (set, weight)) e → IsNamedBy (Some ring) e
 named_job o ring set weight (refusals.NotHomogeneous p x y) v h = λ lent is.
     let variables = not_taken_variables (length ring) o.revlex weight (polynomials_of set) (record { polynomial = p; first = x; second = y }) v (not_taken o ring set weight p x y h) in
     (lent_names ring x lent is variables.0, lent_names ring y lent is variables.1)

@@ -11,7 +11,7 @@ use Rattle.gf_text.specs.declared.written.Written.TheVariants as written
 use Rattle.gf_buchberger.specs.declared.bases.BasisError.{BasisError}
 use Rattle.gf_buchberger.specs.declared.bases.BasisError.TheVariants as basis_errors
 use Rattle.gf_buchberger.specs.declared.homogeneity.NotHomogeneous.{NotHomogeneous}
-use Rattle.gf_buchberger.specs.Bases.{IsArrangedBasis, IsBasisRefusal, IsWithinLimits}
+use Rattle.gf_buchberger.specs.Bases.{IsArrangedBasis, IsBasisRefusal, AreRunsWithinLimits}
 use Rattle.gf_buchberger.specs.Homogeneity.{IsFirstInhomogeneous}
 use Rattle.gf_buchberger.specs.Jobs.{HaveOneDegree}
 use Rattle.gf_front.specs.declared.refusal.Refusal.{Refusal}
@@ -125,5 +125,5 @@ buchberger_command o = record {
   IsAnswer = λ v text. IsBasisText (asked_order o.revlex v.1.1) v.0 (polynomials_of v.1.0) text;
   IsCause = λ v r. (e : BasisError) × (r ≡ of_basis e) × IsBasisRefusal (asked_order o.revlex v.1.1) (length v.0) (polynomials_of v.1.0) o.pairs e;
   IsBegun = λ v text r. ⊥;
-  IsWithin = λ v. IsWithinLimits (asked_order o.revlex v.1.1) (polynomials_of v.1.0) o.pairs;
+  IsWithin = λ v. AreRunsWithinLimits (asked_order o.revlex v.1.1) (polynomials_of v.1.0) o.pairs;
 }

@@ -3,7 +3,7 @@ ghost use Rattle.std.specs.Prelude.{◌≡◌, ◌⊎◌, ◌++◌, ◌∷◌, [
 ghost use Rattle.std.specs.Option.{ForSome};
 ghost use Rattle.gf_text.specs.Sets.{AreIn};
 ghost use Rattle.gf_text.specs.Vectors.{AreEntriesWithin};
-ghost use Rattle.gf_buchberger.specs.Jobs.{AreInRing, HaveOneDegree};
+ghost use Rattle.gf_buchberger.specs.Jobs.{HaveRingVariables, HaveOneDegree};
 ghost use Rattle.gf_items.specs.Checks.{FirstFails};
 ghost use Rattle.gf_items.specs.Commands.{IsAnswerFor, IsUnanswered, IsAnswered, IsRefusedBy};
 ghost use Rattle.gfan_main.specs.Buchberger.{polynomials_of, polynomial_of, asked_order, FitsVariables, IsTermWeight, AreTaken, IsFirstSmall, IsLengthRefusal, IsDegreeRefusal, form, of_basis, buchberger_command};
