@@ -173,8 +173,8 @@ s_polynomial_none e b c s p q h y =
     h.equal y
     ∙ coefficient-++ (times one_ℚ h.left b.poly) (times (neg_ℚ one_ℚ) h.right c.poly) y
     ∙ ap₂ (λ x z. x +ℚ z)
-        (scaled one_ℚ h.left b.poly y (raised_none e h.left b b c p p q h.of_left) ∙ one-*ℚ (coefficient b.poly y) ∙ p.poly y)
-        (scaled (neg_ℚ one_ℚ) h.right c.poly y (raised_none e h.right c b c q p q h.of_right) ∙ ap (λ z. neg_ℚ one_ℚ *ℚ z) (q.poly y))
+    (scaled one_ℚ h.left b.poly y (raised_none e h.left b b c p p q h.of_left) ∙ one-*ℚ (coefficient b.poly y) ∙ p.poly y)
+    (scaled (neg_ℚ one_ℚ) h.right c.poly y (raised_none e h.right c b c q p q h.of_right) ∙ ap (λ z. neg_ℚ one_ℚ *ℚ z) (q.poly y))
     ∙ opposite (coefficient (unit_monomial e) y)
 
 -- ---- work lists

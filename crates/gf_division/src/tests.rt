@@ -19,6 +19,7 @@ use std::test::Fail;
 
 // the greatest coefficient, and the greatest exponent
 const M: i128 = i128::MAX;
+
 const E: u32 = 2_147_483_647;
 
 // ---- weights
@@ -216,7 +217,11 @@ fn steps(rt: HostRuntime) -> Result<(), Fail> {
 #[test]
 fn mark_of_less_degree(rt: HostRuntime) -> Result<(), Fail> {
     let alloc = rt.alloc();
-    let set = marked_set(alloc, 3, &[&[(1, [2, 0, 0])], &[(1, [0, 0, 1]), (1, [2, 0, 0])]])?;
+    let set = marked_set(
+        alloc,
+        3,
+        &[&[(1, [2, 0, 0])], &[(1, [0, 0, 1]), (1, [2, 0, 0])]],
+    )?;
     let f = poly(alloc, &[(2, [2, 0, 0]), (1, [0, 0, 1])])?;
     let division = divided_by(alloc, &f, &set)?.ok_or("a division")?;
     assert!(rt; division.remainder.is_zero());
@@ -231,13 +236,25 @@ fn mark_of_less_degree(rt: HostRuntime) -> Result<(), Fail> {
 #[test]
 fn autoreductions(rt: HostRuntime) -> Result<(), Fail> {
     let alloc = rt.alloc();
-    let set = marked_set(alloc, 3, &[&[(1, [0, 0, 1]), (1, [0, 1, 0])], &[(1, [0, 1, 0])]])?;
-    let reduced = autoreduced(alloc, &set)?.ok_or("a set")?;
-    assert!(rt; lists_members(&reduced, &[(0, &[(1, 1, [0, 0, 1])]), (0, &[(1, 1, [0, 1, 0])])]));
     let set = marked_set(
         alloc,
         3,
-        &[&[(2, [0, 0, 1]), (-2, [0, 1, 0])], &[(1, [0, 0, 1]), (-1, [1, 0, 0])]],
+        &[&[(1, [0, 0, 1]), (1, [0, 1, 0])], &[(1, [0, 1, 0])]],
+    )?;
+    let reduced = autoreduced(alloc, &set)?.ok_or("a set")?;
+    assert!(rt;
+        lists_members(
+            &reduced,
+            &[(0, &[(1, 1, [0, 0, 1])]), (0, &[(1, 1, [0, 1, 0])])]
+        )
+    );
+    let set = marked_set(
+        alloc,
+        3,
+        &[
+            &[(2, [0, 0, 1]), (-2, [0, 1, 0])],
+            &[(1, [0, 0, 1]), (-1, [1, 0, 0])],
+        ],
     )?;
     let reduced = autoreduced(alloc, &set)?.ok_or("a set")?;
     assert!(rt; lists_members(&reduced, &[(1, &[(-1, 1, [0, 1, 0]), (1, 1, [0, 0, 1])])]));
@@ -290,14 +307,21 @@ fn refused_reductions(rt: HostRuntime) -> Result<(), Fail> {
     let set = marked_set(
         alloc,
         3,
-        &[&[(1, [0, 0, 1]), (-M, [1, 0, 0])], &[(1, [0, 1, 0]), (-1, [1, 0, 0])]],
+        &[
+            &[(1, [0, 0, 1]), (-M, [1, 0, 0])],
+            &[(1, [0, 1, 0]), (-1, [1, 0, 0])],
+        ],
     )?;
     let double = poly(alloc, &[(2, [0, 0, 1])])?;
     let long = poly(alloc, &[(1, [E, 1, 0])])?;
     assert!(rt; overflows(&normal_form_by(alloc, &double, &set), Op::Mul, 2, M));
     assert!(rt; passes_limit(&normal_form_by(alloc, &long, &set), E, 1));
     assert!(rt; passes_limit(&divided_by(alloc, &long, &set), E, 1));
-    let set = marked_set(alloc, 3, &[&[(1, [2, 0, 0])], &[(1, [0, 0, 1]), (1, [2, 0, 0])]])?;
+    let set = marked_set(
+        alloc,
+        3,
+        &[&[(1, [2, 0, 0])], &[(1, [0, 0, 1]), (1, [2, 0, 0])]],
+    )?;
     let wide = poly(alloc, &[(M, [2, 0, 0]), (-1, [0, 0, 1])])?;
     assert!(rt; overflows(&divided_by(alloc, &wide, &set), Op::Add, M, 1));
     Ok(())
@@ -310,13 +334,19 @@ fn refused_autoreductions(rt: HostRuntime) -> Result<(), Fail> {
     let set = marked_set(
         alloc,
         3,
-        &[&[(1, [0, 0, 1]), (-M, [0, 1, 0])], &[(1, [0, 1, 0]), (-2, [0, 0, 0])]],
+        &[
+            &[(1, [0, 0, 1]), (-M, [0, 1, 0])],
+            &[(1, [0, 1, 0]), (-2, [0, 0, 0])],
+        ],
     )?;
     assert!(rt; overflows(&autoreduced(alloc, &set), Op::Mul, M, 2));
     let set = marked_set(
         alloc,
         3,
-        &[&[(1, [E, 0, 1]), (-1, [E, 1, 0])], &[(1, [0, 1, 0]), (-1, [1, 0, 0])]],
+        &[
+            &[(1, [E, 0, 1]), (-1, [E, 1, 0])],
+            &[(1, [0, 1, 0]), (-1, [1, 0, 0])],
+        ],
     )?;
     assert!(rt; passes_limit(&autoreduced(alloc, &set), E, 1));
     Ok(())

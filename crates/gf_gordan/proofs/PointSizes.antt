@@ -77,7 +77,7 @@ pushed_up : (n b q : ℕ) (rows : List (List ℤ)) (r : List ℤ) (j : ℕ) (v u
 pushed_up n b q rows r j v u p z l ur uv h =
     up_divided _ _ u h.0 h.1
     (up_sum ((1 + suc n * (b * b)) * lift_bound n b q) b (scaled (push_factor rows r) (lifted r j v)) r
-        (up_times (push_factor rows r) (1 + suc n * (b * b)) (lift_bound n b q) (lifted r j v) (factor_up (suc n) b rows r z ur) (lifted_up n b q r j v p l ur uv)) ur)
+    (up_times (push_factor rows r) (1 + suc n * (b * b)) (lift_bound n b q) (lifted r j v) (factor_up (suc n) b rows r z ur) (lifted_up n b q r j v p l ur uv)) ur)
 
 more : (n : ℕ) → n + 1 ≡ suc n
 more n = omega arith

@@ -91,6 +91,7 @@ single_up (x ∷ []) l p = up_cons 1 x [] (at (p (unsigned_abs x) (own, tt))) (u
   where
     own : unsigned_abs x ∣ unsigned_abs x
     own = subst (λ n. unsigned_abs x ∣ n) (omega arith) (dvd-mul_right (unsigned_abs x) 1)
+
     at : (unsigned_abs x ≡ 1) ⊎ AllZero (x ∷ []) → unsigned_abs x ≤ 1
     at (inl e) = omega (arith, e)
     at (inr z) = rw z.0 (omega arith)

@@ -196,7 +196,7 @@ pub taking_up : (m n l : ℕ) (cs ms : List ℤ) (i : ℕ) → 1 ≤ m → AllBy
 taking_up m n l cs ms i h k e u v b =
     taking_one (entry_at ms i) (int_div (scale_from (pos 1) cs ms) (entry_at cs i)) l (power m n) (v.at i)
     (λ z. lacking_up (scale_from (pos 1) cs ms) (entry_at cs i) (power m n) (content_at m cs i (omega arith) k).0
-        (let s = scale_at m n (pos 1) cs ms i h k e b z u in omega (arith, s, one_time (unsigned_abs (entry_at cs i) * power m n))))
+    (let s = scale_at m n (pos 1) cs ms i h k e b z u in omega (arith, s, one_time (unsigned_abs (entry_at cs i) * power m n))))
 
 taken_from : (scale : ℤ) (q : ℕ) (cs ms : List ℤ) → length cs ≡ length ms → ((i : ℕ) → i < length ms → unsigned_abs (entry_at ms i *ℤ int_div scale (entry_at cs i)) ≤ q) → UpTo q (taken_by scale cs ms)
 taken_from scale q [] ms e f = up_none q

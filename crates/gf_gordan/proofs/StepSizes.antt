@@ -50,8 +50,10 @@ no_reducing b row r j t s u v k h = at h.3
   where
     left : unsigned_abs (size_at r j *ℤ entry_at t h.0) ≤ b * b
     left = product_up (size_at r j) (entry_at t h.0) b b (size_up b r j u) (v.at h.0)
+
     right : unsigned_abs (signed_at r j t *ℤ entry_at r h.0) ≤ b * b
     right = product_up (signed_at r j t) (entry_at r h.0) b b (signed_up b r j t v) (u.at h.0)
+
     at : IsCrossStep row (size_at r j) (entry_at t h.0) (signed_at r j t) (entry_at r h.0) s → ⊥
     at (inl w) = no_wide row Mul (size_at r j) (entry_at t h.0) s (b * b) left (omega arith) w
     at (inr (inl w)) = no_wide row Mul (signed_at r j t) (entry_at r h.0) s (b * b) right (omega arith) w
@@ -90,6 +92,7 @@ no_adding f l b row factor u r s h k m room w = at w.2
   where
     part : unsigned_abs (factor *ℤ entry_at u w.0) ≤ f * l
     part = product_up factor (entry_at u w.0) f l h (k.at w.0)
+
     at : IsWideStep row Mul factor (entry_at u w.0) s ⊎ IsWideStep row Add (factor *ℤ entry_at u w.0) (entry_at r w.0) s → ⊥
     at (inl x) = no_wide row Mul factor (entry_at u w.0) s (f * l) part (omega arith) x
     at (inr x) = no_wide row Add (factor *ℤ entry_at u w.0) (entry_at r w.0) s (f * l + b) (sum_up (factor *ℤ entry_at u w.0) (entry_at r w.0) (f * l) b part (m.at w.0)) room x
@@ -132,6 +135,7 @@ no_taking n b l r j col cs ms s k room own w = at w.2
   where
     part : unsigned_abs (entry_at ms w.0 *ℤ int_div (scale_of cs ms) (entry_at cs w.0)) ≤ taken_bound n b l
     part = taking_up (twice b) n l cs ms w.0 (one_twice b k.one) k.contents k.as_many k.few k.multipliers w.1
+
     at : IsTakingOne w.0 (entry_at ms w.0) (int_div (scale_of cs ms) (entry_at cs w.0)) (size_at r j) (entry_at col w.0) s → ⊥
     at (inl x) = no_wide w.0 Mul (entry_at ms w.0) (int_div (scale_of cs ms) (entry_at cs w.0)) s (taken_bound n b l) part own x
     at (inr (inl x)) = no_wide w.0 Mul (entry_at ms w.0 *ℤ int_div (scale_of cs ms) (entry_at cs w.0)) (size_at r j) s (taken_bound n b l * b) (product_up (entry_at ms w.0 *ℤ int_div (scale_of cs ms) (entry_at cs w.0)) (size_at r j) (taken_bound n b l) b part (size_up b r j k.row)) (let o = once n (taken_bound n b l * b) in omega (arith, room, o)) x

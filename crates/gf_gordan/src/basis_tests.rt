@@ -14,11 +14,7 @@ use gf_vec::IntVec;
 use std::alloc::Global;
 use std::test::Fail;
 
-const MINORS_2X3: [[usize; 4]; 3] = [
-    [0, 4, 1, 3],
-    [0, 5, 2, 3],
-    [1, 5, 2, 4],
-];
+const MINORS_2X3: [[usize; 4]; 3] = [[0, 4, 1, 3], [0, 5, 2, 3], [1, 5, 2, 4]];
 
 const MINORS_3X3: [[usize; 4]; 9] = [
     [0, 4, 1, 3],

@@ -194,7 +194,11 @@ impl Table {
     ///
     /// # Errors
     /// Want of memory.
-    pub(crate) fn take_equation(&mut self, k: usize, equation: &[i128]) -> Result<bool, AllocError> {
+    pub(crate) fn take_equation(
+        &mut self,
+        k: usize,
+        equation: &[i128],
+    ) -> Result<bool, AllocError> {
         self.enter(equation, 0)?;
         for i in 0..equation.len() {
             if entry_at(self.entering.as_slice(), i) != 0 && self.is_unit(i) {

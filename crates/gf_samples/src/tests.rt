@@ -12,6 +12,11 @@ fn rows(rt: HostRuntime) -> Result<(), Fail> {
     assert!(rt; lists_members(&set, &[(1, &[(3, 1, [2, 0]), (1, 1, [0, 1])])]));
     assert!(rt; matches!(poly(alloc, &[(i128::MIN, [0])]), Err(PolyError::Memory)));
     assert!(rt; matches!(poly(alloc, &[(1, [1 << 31])]), Err(PolyError::Memory)));
-    assert!(rt; matches!(marked(alloc, &[(1, [1]), (-1, [1])]), Err(PolyError::Memory)));
+    assert!(rt;
+        matches!(
+            marked(alloc, &[(1, [1]), (-1, [1])]),
+            Err(PolyError::Memory)
+        )
+    );
     Ok(())
 }
