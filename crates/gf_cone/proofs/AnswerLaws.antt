@@ -1,7 +1,7 @@
 -- Answers about a normal: multipliers of its system are a combination, and what an answer tells of the cone.
 -- To cite: canonical_of, combination_of_farkas, others-append, flip_told, facet_told, crossable_flippable, cone_of, kept_of, kept_wide, positive_for,
 -- answer_for, IfOk-weaker.
-use Rattle.std.specs.Prelude.{◌≡◌, ◌⊎◌, ℕ, zero, suc, ◌<◌, ◌≤◌, ◌↔◌, Result, Ok, Err, IfOk, take, drop, List, [], ◌∷◌, ◌++◌, length, get_or, Contains, All, ℤ, pos, neg_ℤ, ◌+ℤ◌, ◌*ℤ◌, ◌<ℤ◌, ◌≤ℤ◌}
+use Rattle.std.specs.Prelude.{◌≡◌, ◌⊎◌, ℕ, zero, suc, ◌<◌, ◌≤◌, ◌↔◌, Result, Ok, Err, IfOk, take, drop, List, [], ◌∷◌, ◌++◌, length, get_or, Contains, All, ℤ, pos, neg_ℤ, ◌+ℤ◌, ◌*ℤ◌, ◌<ℤ◌, ◌≤ℤ◌, unsigned_abs}
 use Rattle.std.specs.List.{AllByRecursion}
 use Rattle.std.proofs.Common.{arith, refl, sym, ap, ap₂, ◌∙◌, subst, inl, inr, append_assoc}
 use Rattle.std.proofs.lemmas.Int.{ints}
@@ -26,7 +26,9 @@ use Rattle.gf_facets.specs.Systems.{units}
 use Rattle.gf_facets.specs.Normals.{AreNormals, others_of, flip_rows}
 use Rattle.gf_facets.specs.Combinations.{IsCombination, IsRedundant}
 use Rattle.gf_facets.specs.Regions.{Region, IsInRegion, all_positive}
-use Rattle.gf_facets.specs.Facets.{IsInsideFacet, IsFacet, IsFlippable}
+use Rattle.gf_facets.specs.Facets.{IsInOpenCone, IsInsideFacet, IsFacet, IsFlippable}
+use Rattle.gf_facets.proofs.ConeLaws.{normals_open}
+use Rattle.gf_gordan.specs.Sizes.{HaveEntriesUpTo}
 use Rattle.gf_facets.specs.MarkedBases.{AreCanonical}
 use Rattle.gf_facets.proofs.VectorLaws.{plus-zeros}
 use Rattle.gf_facets.proofs.NormalListLaws.{others_only}
@@ -185,9 +187,9 @@ module _ (n : ℕ) (k : Region) (bs : List MarkedPolynomial) (c : ConeRows) (i :
 
     pub flip_tells : HasInterior c → (answer : FlipAnswer) → AnswersFlip c i answer → TellsFlip n k bs (normal_at c i) answer
     flip_tells h (Yes w) s = flip_of_solution w s
-    flip_tells h (No scaled ms) s = λ f.
+    flip_tells h (No factor ms) s = λ f.
         let p = interior_of_others c i l h in
-        not_redundant n (normal_at c i) f.point p.0 (other_rows c i) others_wide p.2 (solution_of_flip f) (scaled, ms, subst (λ (m : ℕ). IsCombination m (other_rows c i) (normal_at c i) scaled ms) is.variables s)
+        not_redundant n (normal_at c i) f.point p.0 (other_rows c i) others_wide p.2 (solution_of_flip f) (factor, ms, subst (λ (m : ℕ). IsCombination m (other_rows c i) (normal_at c i) factor ms) is.variables s)
 
     normals_wide : AreRows n (others_of i c.normals)
     normals_wide = contained_all (λ t. length t ≡ n) (others_of i c.normals) (λ t d. All-contains (λ t. length t ≡ n) (other_rows c i) t others_wide (Contains-append_left (others_of i c.normals) c.beside t d))
@@ -196,10 +198,10 @@ module _ (n : ℕ) (k : Region) (bs : List MarkedPolynomial) (c : ConeRows) (i :
     facet_tells h (Facet w) s =
         let t = subst (λ (m : ℕ). IsSolution m (others_of i c.normals) (normal_at c i ∷ []) w) is.variables s in
         (t.width, (point_of_solution n bs (normal_at c i) w [] (others_of i c.normals) (facet_system bs c.normals i is.normals l) there t).0)
-    facet_tells h (Redundant scaled ms) s = λ f.
+    facet_tells h (Redundant factor ms) s = λ f.
         let p = interior_of_normals c i l h in
         not_redundant n (normal_at c i) f.point p.0 (others_of i c.normals) normals_wide p.2 (solution_of_point n bs (normal_at c i) f.point [] (others_of i c.normals) (facet_system bs c.normals i is.normals l) f.width f.inside (All-nil (λ t. pos 0 <ℤ dot t f.point)))
-        (scaled, ms, subst (λ (m : ℕ). IsCombination m (others_of i c.normals) (normal_at c i) scaled ms) is.variables s)
+        (factor, ms, subst (λ (m : ℕ). IsCombination m (others_of i c.normals) (normal_at c i) factor ms) is.variables s)
 
 pub flip_told : (c : ConeRows) (i : ℕ) → i < length c.normals → AreRows c.variables (all_rows c) → HasInterior c → (answer : FlipAnswer) → AnswersFlip c i answer → IsFlipTold c i answer
 flip_told c i l wide h answer s n k bs is = flip_tells n k bs c i l is wide h answer s
@@ -278,3 +280,28 @@ normal_read ns given i a l e f = f ∙ ap (λ (z : List (List ℤ)). get_or z i 
 
 pub row_read : (c : ConeRows) (given : List (List ℤ)) (i : ℕ) (a : List ℤ) → i < length c.normals → given ≡ all_rows c → a ≡ get_or given i a → a ≡ normal_at c i
 row_read c given i a l e f = f ∙ ap (λ (z : List (List ℤ)). get_or z i a) e ∙ get_or-append c.normals c.beside a i l ∙ get_or_default c.normals i a [] l
+
+-- ---- cones of bases have an interior
+
+-- a vector of the region that sets each mark above the rest is positive on all rows
+pub interior_of_weight : (n : ℕ) (k : Region) (bs : List MarkedPolynomial) (c : ConeRows) (w : List ℤ) → IsConeOf n k bs c → IsInRegion n k w → IsInOpenCone w bs → HasInterior c
+interior_of_weight n k bs c w is r o = (w, record { width = r.width ∙ sym is.variables; positive = contained_all (λ t. pos 0 <ℤ dot t w) (all_rows c) (λ t d. first t (Contains-append_cases c.normals c.beside t d)); zero = All-nil (λ t. dot t w ≡ pos 0) })
+  where
+    second : (t : List ℤ) → Contains k.rows t ⊎ Contains (units n n) t → pos 0 <ℤ dot t w
+    second t (inl d) = All-contains (λ t. pos 0 <ℤ dot t w) k.rows t r.rows d
+    second t (inr d) = units_on_positive n w r.width r.positive t d
+
+    first : (t : List ℤ) → Contains c.normals t ⊎ Contains c.beside t → pos 0 <ℤ dot t w
+    first t (inl d) = normals_open n bs w is.canonical o t (is.normals.only t d)
+    first t (inr d) = second t (Contains-append_cases k.rows (units n n) t (subst (λ (z : List (List ℤ)). Contains z t) is.beside d))
+
+-- ---- small systems
+
+pub small_others : (b i : ℕ) (vs : List (List ℤ)) → HaveEntriesUpTo b vs → HaveEntriesUpTo b (others_of i vs)
+small_others b i vs h = others_all_of (All (λ x. unsigned_abs x ≤ b)) vs i h
+
+pub small_one : (b : ℕ) (a : List ℤ) → All (λ x. unsigned_abs x ≤ b) a → HaveEntriesUpTo b (a ∷ [])
+small_one b a h = All-cons (All (λ x. unsigned_abs x ≤ b)) a [] h (All-nil (All (λ x. unsigned_abs x ≤ b)))
+
+pub small_at : (b : ℕ) (vs given : List (List ℤ)) (i : ℕ) (a : List ℤ) → given ≡ vs → i < length vs → a ≡ get_or given i a → HaveEntriesUpTo b vs → HaveEntriesUpTo b (a ∷ [])
+small_at b vs given i a e l r h = small_one b a (subst (All (λ x. unsigned_abs x ≤ b)) (sym (r ∙ ap (λ (z : List (List ℤ)). get_or z i a) e)) (h i a l))

@@ -52,7 +52,7 @@ others_at (x ∷ vs) zero (suc j) l m n = (j, omega (arith, m), get_or_default v
 others_at (x ∷ vs) (suc i) zero l m n = Contains-here x (others_of i vs)
 others_at (x ∷ vs) (suc i) (suc j) l m n = Contains-there x (get_or vs j []) (others_of i vs) (others_at vs i j (omega (arith, l)) (omega (arith, m)) (λ e. n (ap suc e)))
 
-in_all : (c : ConeRows) (i : ℕ) → i < length c.normals → i < length (all_rows c)
+pub in_all : (c : ConeRows) (i : ℕ) → i < length c.normals → i < length (all_rows c)
 in_all c i l = front c.normals c.beside i l
   where
     front : (xs ys : List (List ℤ)) (i : ℕ) → i < length xs → i < length (xs ++ ys)

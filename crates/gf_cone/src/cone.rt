@@ -1,9 +1,11 @@
 //! The cone of a marked set.
-ghost use Rattle.std.specs.Prelude.{◌≡◌, ◌<◌, ◌∷◌, [], length, All, IfOk, IfErr, IfSome, IsNone};
+ghost use Rattle.std.specs.Prelude.{◌≡◌, ◌<◌, ◌≤◌, ◌∷◌, [], length, All, IfOk, IfErr, IfSome, IsNone};
 ghost use Rattle.gf_poly.specs.Marking.{Each, HasMarkedTerm};
 ghost use Rattle.gf_gordan.specs.Alternative.{AreRows, IsSolution};
 ghost use Rattle.gf_cone.specs.Crossing.{IsCrossable};
 ghost use Rattle.gf_gordan.specs.Steps.{Failed};
+ghost use Rattle.gf_gordan.specs.Sizes.{HaveEntriesUpTo};
+ghost use Rattle.gf_gordan.specs.declared.error.GordanError.TheVariants.{Memory};
 ghost use Rattle.gf_facets.specs.Regions.{all_positive};
 ghost use Rattle.gf_facets.specs.Normals.{others_of};
 ghost use Rattle.gf_cone.specs.Small.{IsSmall};
@@ -100,6 +102,8 @@ impl Cone {
         ensures ok { IfOk result (AnswersFacet self.now place) }
         ensures told { IfOk result (IsFacetTold self.now place) }
         ensures err { IfErr result (Failed (IsNormalStep self.now.variables (others_of place self.now.normals) (normal_at self.now place))) }
+        // no step leaves the range with three variables and entries up to 500
+        ensures three_columns { self.now.variables ≤ 3 → HaveEntriesUpTo 500 self.now.normals → IfErr result (λ e. e ≡ Memory) }
     {
         let normals = self.normals();
         let alloc = *self.vectors.allocator();
@@ -126,6 +130,8 @@ impl Cone {
         ensures ok { IfOk result (AnswersFlip self.now place) }
         ensures told { IfOk result (IsFlipTold self.now place) }
         ensures err { IfErr result (Failed (IsNormalStep self.now.variables (other_rows self.now place) (normal_at self.now place))) }
+        // no step leaves the range with three variables and entries up to 500
+        ensures three_columns { self.now.variables ≤ 3 → HaveEntriesUpTo 500 (all_rows self.now) → IfErr result (λ e. e ≡ Memory) }
     {
         let vectors = self.vectors();
         let alloc = *self.vectors.allocator();

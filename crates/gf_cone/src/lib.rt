@@ -16,4 +16,7 @@ pub use answer::{FacetAnswer, FlipAnswer};
 pub use cone::Cone;
 pub use known::KnownCone;
 pub use marking::{rows, with_units};
-pub use near::interior_near;
+pub use near::{interior_near, is_inside};
+
+#[cfg(test)]
+mod tests;

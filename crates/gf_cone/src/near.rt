@@ -1,7 +1,7 @@
 //! A vector of a cone's inside, from a vector inside a facet that it shares with a neighbour.
 ghost use Rattle.std.specs.Prelude.{[], IfSome, IsTrue};
 ghost use Rattle.gf_gordan.specs.Alternative.{IsSolution};
-ghost use Rattle.gf_cone.specs.Cones.{all_rows};
+ghost use Rattle.gf_cone.specs.Cones.{all_rows, HasInterior};
 
 use crate::checks::all_positive_on;
 use crate::cone::Cone;
@@ -79,9 +79,11 @@ fn rounded(alloc: Global, xs: &[i128], scale: i128) -> Result<Option<IntVec>, Ve
     Ok(vector_of(entries))
 }
 
-/// Whether a vector is seen to be in the inside of a cone.
-fn is_inside(cone: &Cone, v: &IntVec) -> bool
-    ensures { IsTrue result → IsSolution cone.now.variables (all_rows cone.now) [] v.now }
+/// Whether a vector is seen to be in the inside of a cone: all its normals and the unit vectors are positive on it. False
+/// also where a product or sum leaves the range.
+pub fn is_inside(cone: &Cone, v: &IntVec) -> bool
+    ensures solution { IsTrue result → IsSolution cone.now.variables (all_rows cone.now) [] v.now }
+    ensures interior { IsTrue result → HasInterior cone.now }
 {
     let entries = v.as_slice();
     if entries.len() != cone.variables() as usize {

@@ -1,9 +1,11 @@
 //! The system of a normal, solved.
-ghost use Rattle.std.specs.Prelude.{◌≡◌, ◌<◌, ◌++◌, ◌<ℤ◌, ℤ, ◌∷◌, [], List, pos, neg_ℤ, length, All, IfOk, IfErr, IfSome, IsNone};
+ghost use Rattle.std.specs.Prelude.{◌≡◌, ◌<◌, ◌≤◌, ◌++◌, ◌<ℤ◌, ℤ, ◌∷◌, [], List, pos, neg_ℤ, length, All, IfOk, IfErr, IfSome, IsNone};
 ghost use Rattle.gf_int.specs.Range.{InRange};
 ghost use Rattle.gf_vec.specs.Vector.{dot};
 ghost use Rattle.gf_gordan.specs.Alternative.{AreRows, IsSolution, IsSolvable};
 ghost use Rattle.gf_gordan.specs.Steps.{Failed};
+ghost use Rattle.gf_gordan.specs.Sizes.{HaveEntriesUpTo};
+ghost use Rattle.gf_gordan.specs.declared.error.GordanError.TheVariants.{Memory};
 ghost use Rattle.gf_facets.specs.Normals.{others_of};
 ghost use Rattle.gf_cone.specs.Answers.{AnswersSystem, IsNormalStep};
 
@@ -69,6 +71,7 @@ pub(crate) fn solved(
     requires positive { (w : List ℤ) × All (λ t. pos 0 <ℤ dot t w) rows.now × (pos 0 <ℤ dot normal.now w) }
     ensures ok { IfOk result (AnswersSystem n rows.now normal.now) }
     ensures err { IfErr result (Failed (IsNormalStep n rows.now normal.now)) }
+    ensures three_columns { n ≤ 3 → HaveEntriesUpTo 500 rows.now → HaveEntriesUpTo 500 (normal.now ∷ []) → IfErr result (λ e. e ≡ Memory) }
 {
     match strict(alloc, n, rows, from_ref(normal))? {
         Answer::Point(witness) => Ok(FlipAnswer::Yes { witness }),

@@ -1,9 +1,11 @@
-use Rattle.std.proofs.Common.{◌≡◌, ◌∙◌, sym, ap, subst, ℤ, ℕ, List, [], length}
+use Rattle.std.proofs.Common.{◌≤◌, ◌≡◌, ◌∙◌, sym, ap, subst, ℤ, ℕ, List, [], length}
 use Rattle.gf_gordan.specs.Alternative.{AreRows}
 use Rattle.gf_facets.specs.Normals.{others_of}
 use Rattle.gf_cone.specs.Cones.{ConeRows, all_rows, other_rows, normal_at}
 use Rattle.gf_cone.specs.Answers.{AnswersSystem, AnswersFlip, IsFlipTold}
-use Rattle.gf_cone.proofs.AnswerLaws.{flip_told, kept_wide, positive_for, answer_for, interior_of_others, others-append, others_all_of, row_read, IfOk-weaker}
+use Rattle.gf_cone.proofs.AnswerLaws.{flip_told, kept_wide, positive_for, answer_for, interior_of_others, others-append, others_all_of, row_read, IfOk-weaker, small_others, small_at}
+use Rattle.gf_cone.proofs.CrossingLaws.{in_all}
+use Rattle.gf_gordan.specs.Sizes.{HaveEntriesUpTo}
 use Rattle.gf_cone.proofs.cone.Cone.flippable.Goals as goal
 
 -- the rows of the system
@@ -31,3 +33,9 @@ returns-clause-told c = IfOk-weaker (AnswersSystem c.self.inside.variables c.as_
     (row_read c.args.self.now c.vectors-vectors.result.now c.args.place c.index-vectors-place.result c.requires.place c.vectors-vectors.ensures.value c.index-vectors-place.is)
     h))
     c.solved.ensures.ok
+
+pub returns-clause-three_columns : goal.returns-clause-three_columns
+returns-clause-three_columns c = λ v h. c.solved.ensures.three_columns
+    (subst (λ (m : ℕ). m ≤ 3) (sym (ap (λ (z : ConeRows). z.variables) c.self.view_is)) v)
+    (subst (HaveEntriesUpTo 500) (sym (c.as_slice.ensures.value ∙ c.in_ok-rows.ensures ∙ ap (others_of c.args.place) c.vectors-vectors.ensures.value)) (small_others 500 c.args.place (all_rows c.args.self.now) h))
+    (small_at 500 (all_rows c.args.self.now) c.vectors-vectors.result.now c.args.place c.index-vectors-place.result c.vectors-vectors.ensures.value (in_all c.args.self.now c.args.place c.requires.place) c.index-vectors-place.is h)
