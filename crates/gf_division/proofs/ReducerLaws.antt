@@ -16,7 +16,7 @@ use Rattle.gf_exponents.proofs.WeightLaws.{degree-plus, degree-same}
 use Rattle.gf_exponents.proofs.ExponentsLaws.{same-refl}
 use Rattle.gf_poly.specs.declared.Term.{Term}
 use Rattle.gf_poly.specs.Polynomial.{Terms, IsDescending, HasVariables}
-use Rattle.gf_poly.specs.Marking.{MarkedPolynomial, HaveVariables, IsMarked}
+use Rattle.gf_poly.specs.Marking.{MarkedPolynomial, HaveVariables, HasMarkedTerm}
 use Rattle.gf_poly.proofs.CoefficientLaws.{apart}
 use Rattle.gf_ideal.specs.Reduction.{IsDivisible}
 use Rattle.gf_ideal.specs.Settled.{IsAt}
@@ -45,7 +45,7 @@ member_contained bs j b h = (j, h.within, h.is)
 pub member_variables : (n : ℕ) (bs : List MarkedPolynomial) (b : MarkedPolynomial) → HaveVariables n bs → Contains bs b → HasVariables n b.poly
 member_variables n bs b v c = contained_each (λ (b : MarkedPolynomial). HasVariables n b.poly) bs v b c
 
-pub member_length : (n j : ℕ) (bs : List MarkedPolynomial) (b : MarkedPolynomial) → HaveVariables n bs → IsAt bs j b → IsMarked b → length b.head ≡ n
+pub member_length : (n j : ℕ) (bs : List MarkedPolynomial) (b : MarkedPolynomial) → HaveVariables n bs → IsAt bs j b → HasMarkedTerm b → length b.head ≡ n
 member_length n j bs b v h m = head_length n b (member_variables n bs b v (member_contained bs j b h)) m
 
 pub none_more : (bs : List MarkedPolynomial) (j : ℕ) (x : Exponents) (b : MarkedPolynomial) → IsAt bs j b → (Divides b.head x → ⊥) → NoneDivides bs j x → NoneDivides bs (j + 1) x
@@ -60,7 +60,7 @@ none_more bs j x b h n k = record { none = λ i c l m d. at i c (cases_lt i j) l
 pub none_divides : (bs : List MarkedPolynomial) (j : ℕ) (x : Exponents) → length bs ≤ j → NoneDivides bs j x → IsDivisible (Contains bs) x → ⊥
 none_divides bs j x l k d = k.none d.contained.0 d.member (omega (arith, d.contained.1)) (record { within = d.contained.1; is = d.contained.2 }) (record { rest = d.rest; product = d.divides })
 
-pub divisor_at : (bs : List MarkedPolynomial) (x h : Exponents) (j : ℕ) (b : MarkedPolynomial) → HaveVariables (length x) bs → IsAt bs j b → IsMarked b → h ≡ b.head → Divides h x → NoneDivides bs j x → IsDivisorAt bs x j
+pub divisor_at : (bs : List MarkedPolynomial) (x h : Exponents) (j : ℕ) (b : MarkedPolynomial) → HaveVariables (length x) bs → IsAt bs j b → HasMarkedTerm b → h ≡ b.head → Divides h x → NoneDivides bs j x → IsDivisorAt bs x j
 divisor_at bs x h j b v a m e d k = record {
   member = b;
   at = a;

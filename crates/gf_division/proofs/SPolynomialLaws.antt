@@ -16,7 +16,7 @@ use Rattle.gf_poly.specs.declared.monomial.ExponentOverflow.{ExponentOverflow}
 use Rattle.gf_poly.specs.Monomial.{IsFirstOverflow}
 use Rattle.gf_poly.specs.Polynomial.{Terms, coefficient, times, times_term, IsDescending, HasVariables, KeepsVariables}
 use Rattle.gf_poly.specs.Products.{HasProducts}
-use Rattle.gf_poly.specs.Marking.{MarkedPolynomial, IsMarked}
+use Rattle.gf_poly.specs.Marking.{MarkedPolynomial, HasMarkedTerm}
 use Rattle.gf_poly.proofs.MonomialLaws.{length-join, length-minus}
 use Rattle.gf_poly.proofs.PolynomialLaws.{coefficient-times}
 use Rattle.gf_poly.proofs.ProductLaws.{IsDescending-products, HasVariables-products}
@@ -60,7 +60,7 @@ pub record PairFacts (b c : MarkedPolynomial) (u v : Exponents) : Type 0 where
   pub left : length u ≡ n
   pub right : length v ≡ n
 
-pub multiple_length : (b c : MarkedPolynomial) (x y : Exponents) → SharePairVariables b c → IsMarked b → IsMarked c → x ≡ b.head → y ≡ c.head → length x ≡ length y
+pub multiple_length : (b c : MarkedPolynomial) (x y : Exponents) → SharePairVariables b c → HasMarkedTerm b → HasMarkedTerm c → x ≡ b.head → y ≡ c.head → length x ≡ length y
 multiple_length b c x y p h k ex ey = ap length ex ∙ head_length p.n b p.are.left h ∙ sym (head_length p.n c p.are.right k) ∙ ap length (sym ey)
 
 pub divides_left : (x y m : Exponents) → m ≡ join x y → Divides x m
@@ -77,7 +77,7 @@ cofactors_of x y m u v l em eu ev pu pv =
     let j : length m ≡ length x = join_length x y m l em in
     record { left = pu ∙ em; right = pv ∙ em; length_left = ap length eu ∙ length-minus m x j ∙ j; length_right = ap length ev ∙ length-minus m y (j ∙ l) ∙ j }
 
-pub pair_facts : (b c : MarkedPolynomial) (x y u v : Exponents) → SharePairVariables b c → IsMarked b → x ≡ b.head → y ≡ c.head → AreCofactors x y u v → PairFacts b c u v
+pub pair_facts : (b c : MarkedPolynomial) (x y u v : Exponents) → SharePairVariables b c → HasMarkedTerm b → x ≡ b.head → y ≡ c.head → AreCofactors x y u v → PairFacts b c u v
 pair_facts b c x y u v p h ex ey w =
     let n : length x ≡ p.n = ap length ex ∙ head_length p.n b p.are.left h in
     record {
@@ -124,7 +124,7 @@ s_value b c u v f g h r s t ef eg k w q d e = record {
 pub s_descends : (v : Exponents) (g r : Terms) (s t : Split) → Subtracts one_ℚ v g s t → IsDescending (terms_of t)
 s_descends v g r s t d = d.sound.descending
 
-pub s_variables : (b c : MarkedPolynomial) (u v : Exponents) (g r : Terms) (s t : Split) → PairFacts b c u v → IsMarked b → Subtracts one_ℚ v g s t → r ≡ terms_of t → KeepsPairVariables b c r
+pub s_variables : (b c : MarkedPolynomial) (u v : Exponents) (g r : Terms) (s t : Split) → PairFacts b c u v → HasMarkedTerm b → Subtracts one_ℚ v g s t → r ≡ terms_of t → KeepsPairVariables b c r
 s_variables b c u v g r s t k m d e = record {
   at = λ n a. subst (HasVariables n) (sym e) (subst (λ (i : ℕ). HasVariables i (terms_of t)) (k.right ∙ sym (head_length k.n b k.are.left m) ∙ head_length n b a.left m) d.sound.variables);
 }

@@ -17,7 +17,7 @@ use Rattle.gf_poly.specs.declared.error.PolyError.TheVariants as errors
 use Rattle.gf_poly.specs.declared.monomial.ExponentOverflow.{ExponentOverflow}
 use Rattle.gf_poly.specs.Monomial.{IsFirstOverflow}
 use Rattle.gf_poly.specs.Polynomial.{Terms, coefficient, times, IsAbove, IsDescending, HasVariables}
-use Rattle.gf_poly.specs.Marking.{MarkedPolynomial, head_of, IsMarked}
+use Rattle.gf_poly.specs.Marking.{MarkedPolynomial, head_of, HasMarkedTerm}
 use Rattle.gf_poly.proofs.DescendingLaws.{greater_trans}
 use Rattle.gf_poly.proofs.CoefficientLaws.{coefficient-contains}
 use Rattle.gf_poly.proofs.ProductLaws.{deglex-plus, HasVariables-at}
@@ -46,22 +46,22 @@ pub term_there : (n : ℕ) (f : Terms) (t : Term) → HasVariables n f → IsDes
 term_there n f t v d c z = term_nonzero f t d c (sym (term_coefficient n f t v d c) ∙ z)
 
 -- a marked polynomial has terms
-pub some_terms : (b : MarkedPolynomial) (f : Terms) → f ≡ b.poly → IsMarked b → 0 < length f
+pub some_terms : (b : MarkedPolynomial) (f : Terms) → f ≡ b.poly → HasMarkedTerm b → 0 < length f
 some_terms b f e m = omega (arith, m.term.1, ap length e)
 
 -- its mark has its variables
-pub head_length : (n : ℕ) (b : MarkedPolynomial) → HasVariables n b.poly → IsMarked b → length b.head ≡ n
+pub head_length : (n : ℕ) (b : MarkedPolynomial) → HasVariables n b.poly → HasMarkedTerm b → length b.head ≡ n
 head_length n b v m = term_length n b.poly (record { coef = m.mark; mono = b.head }) v m.term
 
 -- so has what shares them
-pub shared_sound : (b : MarkedPolynomial) (s : Split) → SharesVariables b s → IsMarked b → IsSound (length b.head) s
+pub shared_sound : (b : MarkedPolynomial) (s : Split) → SharesVariables b s → HasMarkedTerm b → IsSound (length b.head) s
 shared_sound b s v m = subst (λ (n : ℕ). IsSound n s) (sym (head_length v.n b v.poly m)) v.sound
 
-pub shared_poly : (b : MarkedPolynomial) (s : Split) → SharesVariables b s → IsMarked b → HasVariables (length b.head) b.poly
+pub shared_poly : (b : MarkedPolynomial) (s : Split) → SharesVariables b s → HasMarkedTerm b → HasVariables (length b.head) b.poly
 shared_poly b s v m = subst (λ (n : ℕ). HasVariables n b.poly) (sym (head_length v.n b v.poly m)) v.poly
 
 -- and the first of its terms
-pub first_variables : (b : MarkedPolynomial) (s : Split) (g : Terms) (t : Term) (k : ℕ) → g ≡ b.poly → SharesVariables b s → IsMarked b → t ≡ get_or g 0 t → k ≡ length b.head → k ≡ length t.mono
+pub first_variables : (b : MarkedPolynomial) (s : Split) (g : Terms) (t : Term) (k : ℕ) → g ≡ b.poly → SharesVariables b s → HasMarkedTerm b → t ≡ get_or g 0 t → k ≡ length b.head → k ≡ length t.mono
 first_variables b s g t k e v m i l = l ∙ sym (HasVariables-at (length b.head) g 0 t (some_terms b g e m) i (subst (HasVariables (length b.head)) (sym e) (shared_poly b s v m)))
 
 -- ---- above the place

@@ -16,7 +16,7 @@ use Rattle.gf_poly.specs.declared.Term.{Term}
 use Rattle.gf_poly.specs.declared.error.PolyError.{PolyError}
 use Rattle.gf_poly.specs.declared.error.PolyError.TheVariants as errors
 use Rattle.gf_poly.specs.Polynomial.{Terms, IsDescending, HasVariables, KeepsVariables}
-use Rattle.gf_poly.specs.Marking.{MarkedPolynomial, Each, head_of, IsMarked}
+use Rattle.gf_poly.specs.Marking.{MarkedPolynomial, Each, head_of, HasMarkedTerm}
 use Rattle.gf_poly.proofs.DescendingLaws.{equal_same}
 use Rattle.gf_ideal.specs.Membership.{HasMonomial}
 use Rattle.gf_ideal.specs.Reduction.{IsDivisible}
@@ -84,7 +84,7 @@ pub record Tailing (ks : List MarkedPolynomial) (b : MarkedPolynomial) (spared :
   pub above : AreIrreducible ks spared s.above
   pub kept : KeepsVariables b.poly (terms_of s)
 
-pub tailing-none : (ks : List MarkedPolynomial) (b : MarkedPolynomial) (spared : Option Exponents) (f : Terms) (s : Split) → spared ≡ Some b.head → f ≡ b.poly → IsDescending f → HaveSomeVariables ks → Contains ks b → IsMarked b → s ≡ record { above = []; below = f } → Tailing ks b spared s
+pub tailing-none : (ks : List MarkedPolynomial) (b : MarkedPolynomial) (spared : Option Exponents) (f : Terms) (s : Split) → spared ≡ Some b.head → f ≡ b.poly → IsDescending f → HaveSomeVariables ks → Contains ks b → HasMarkedTerm b → s ≡ record { above = []; below = f } → Tailing ks b spared s
 tailing-none ks b spared f s es ef d v c m e = subst (Tailing ks b spared) (sym e) (subst (λ (z : Option Exponents). Tailing ks b z (record { above = []; below = f })) (sym es) (record {
   spare = refl;
   tail = subst (λ (g : Terms). IsTail ks (record { poly = g; head = b.head })) (sym ef) (IsTail.member b c);
@@ -158,7 +158,7 @@ pub record TailFacts (ks : List MarkedPolynomial) (b : MarkedPolynomial) (g : Te
   pub kept : KeepsVariables b.poly g
   pub descending : IsDescending g
   pub variables : HasVariables (length b.head) g
-  pub marked : IsMarked b
+  pub marked : HasMarkedTerm b
 
 irreducible_beside : (ks : List MarkedPolynomial) (x : Exponents) (f : Terms) → AreIrreducible ks (Some x) f → (y : Exponents) → HasMonomial f y → IsDivisible (Contains ks) y → same y x ≡ true
 irreducible_beside ks x f a y m d = at (same y x) refl
@@ -170,7 +170,7 @@ irreducible_beside ks x f a y m d = at (same y x) refl
     at true e = e
     at false e = absurd (there e (listed (λ (t : Term). IsBeside (Some x) t.mono → IsDivisible (Contains ks) t.mono → ⊥) f y a m))
 
-pub tail_facts : (ks : List MarkedPolynomial) (b : MarkedPolynomial) (spared : Option Exponents) (old s : Split) (g : Terms) → IsMarked b → terms_of s ≡ terms_of old → s.below ≡ [] → g ≡ terms_of s → AreIrreducible ks spared s.above → Tailing ks b spared old → TailFacts ks b g
+pub tail_facts : (ks : List MarkedPolynomial) (b : MarkedPolynomial) (spared : Option Exponents) (old s : Split) (g : Terms) → HasMarkedTerm b → terms_of s ≡ terms_of old → s.below ≡ [] → g ≡ terms_of s → AreIrreducible ks spared s.above → Tailing ks b spared old → TailFacts ks b g
 tail_facts ks b spared old s g m e n q a h = record {
   tail = subst (λ (f : Terms). IsTail ks (record { poly = f; head = b.head })) (sym whole) h.tail;
   irreducible = irreducible_beside ks b.head g (subst (AreIrreducible ks (Some b.head)) (sym (q ∙ all_above s n)) (subst (λ (z : Option Exponents). AreIrreducible ks z s.above) h.spare a));

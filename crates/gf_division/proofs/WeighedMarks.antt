@@ -11,7 +11,7 @@ use Rattle.gf_exponents.proofs.ExponentsLaws.{same_flip, same_trans}
 use Rattle.gf_exponents.proofs.OrderLaws.{lighter-strict}
 use Rattle.gf_poly.specs.declared.Term.{Term}
 use Rattle.gf_poly.specs.Polynomial.{coefficient, HasVariables}
-use Rattle.gf_poly.specs.Marking.{MarkedPolynomial, Each, IsMarked as HasMarkedTerm}
+use Rattle.gf_poly.specs.Marking.{MarkedPolynomial, Each, HasMarkedTerm}
 use Rattle.gf_ideal.specs.Marks.{IsMarked, IsPositive, HasPositiveWeight, IsRealisedBy, IsRealisable}
 use Rattle.gf_ideal.proofs.ListLaws.{Each-++, contained_each}
 use Rattle.gf_ideal.proofs.ListedTerms.{by_terms}

@@ -12,7 +12,7 @@ use Rattle.gf_poly.specs.declared.Term.{Term}
 use Rattle.gf_poly.specs.declared.error.PolyError.{PolyError}
 use Rattle.gf_poly.specs.declared.error.PolyError.TheVariants as errors
 use Rattle.gf_poly.specs.Polynomial.{Terms, coefficient, times, SamePolynomial, IsDescending, HasVariables}
-use Rattle.gf_poly.specs.Collecting.{like, total, IsLikeSumOverflow}
+use Rattle.gf_poly.specs.Collecting.{like, sum_of_coefficients, IsLikeSumOverflow}
 use Rattle.gf_poly.specs.Marking.{MarkedPolynomial, Each}
 use Rattle.gf_ideal.specs.Operands.{IsReductionOperation, IsReductionExponents}
 use Rattle.gf_ideal.specs.NormalForms.{IsRuleStep}
@@ -82,7 +82,7 @@ pub record IsQuotientSum (bs : List MarkedPolynomial) (f : Terms) (op : Op) (lef
   pub later : Terms
   pub some : 0 < length earlier
   pub split : like at of_member ≡ earlier ++ last ∷ later
-  pub is_left : left ≡ total earlier
+  pub is_left : left ≡ sum_of_coefficients earlier
   pub is_right : right ≡ last.coef
 
 -- why the division of f by bs is refused: two numbers don't fit, of a step from a polynomial that f reaches, or of a sum

@@ -1,9 +1,11 @@
 -- Words that the table has a match for name one of its commands, each of whose options holds what it takes.
 -- To cite: parsed_as, within_limits. The rest are steps.
-use Rattle.std.proofs.Common.{◌≡◌, ◌⊎◌, ◌≤◌, Bool, true, false, not, ◌&&◌, cond, List, [], ◌∷◌, Option, Some, None, is_some, codes, inl, inr, arith, refl, sym, ap, ◌∙◌, subst}
+use Rattle.std.proofs.Common.{◌≡◌, ◌≤◌, Bool, true, false, not, ◌&&◌, ◌||◌, cond, List, [], ◌∷◌, Option, Some, None, is_some, codes, map, inl, inr, arith, refl, sym, ap, ◌∙◌, subst}
 use Rattle.std.specs.Prelude.{option_map}
 use Rattle.std.specs.Option.{option_map_or}
 use Rattle.std.specs.List.{find, list_any}
+use Rattle.std.specs.Str.{bytes_eq}
+use Rattle.std.proofs.lemmas.Slice.Eq.{bytes_eq-Decides}
 use Rattle.std.specs.Str.Parse.{digits_value, without_leading_plus}
 use Rattle.clap.specs.Words.{App, HasMatchesOf, Row, Rule, Shape, Text, built, fault_of, is_simple_and_free, one_of, subcommand_name_of, subcommand_rows_of}
 use Rattle.clap.specs.declared.parser.matches.ArgMatches.{ArgMatches}
@@ -15,10 +17,9 @@ use Rattle.clap.specs.Walk.{answers_to, nothing_held, walk, rows_after}
 use Rattle.clap.specs.Simple.{argument_words, built_leaf, entered, inherited, label_of, marked_built, names_of, with_leaf_noted}
 use Rattle.clap.specs.Faults.{check_fault, entered_fault}
 use Rattle.gf_front.specs.declared.command_line.Job.{Job}
-use Rattle.gf_front.specs.declared.command_line.Job.TheVariants as jobs
-use Rattle.gf_front.specs.Table.{table, most_pairs, usual_pairs, buchberger, is_marked_groebner_basis}
-use Rattle.gf_front.specs.Jobs.{HasMatch, IsWithinLimits, match_of, job_of, number_of}
-use Rattle.gf_front.specs.Options.{IsCommand, IsNumber}
+use Rattle.gf_front.specs.Table.{Entry, table, commands, shape, most_pairs, usual_pairs, number_of, buchberger, is_marked_groebner_basis}
+use Rattle.gf_front.specs.Jobs.{HasMatch, HasNumbersInRange, match_of, job_in, job_of}
+use Rattle.gf_front.specs.Options.{HoldChoices, NamesEntry, IsCommand, HoldsNumber}
 use Rattle.gf_front.proofs.MatchLaws.{Enters, entered_rows, level_rows, rows_pass}
 use Rattle.gf_front.proofs.OptionLaws.{is_flag, is_number}
 
@@ -47,29 +48,93 @@ some_of : {X : Type 0} (o : Option X) → (not (is_some o) && true) ≡ false �
 some_of None e = cc
 some_of (Some x) e = (x, refl)
 
-one_of_two : {X : Type 0} (p : X → Bool) (x y z : X) → find p (x ∷ y ∷ []) ≡ Some z → (z ≡ x) ⊎ (z ≡ y)
-one_of_two p x y z is = by (p x) (p y) is
+-- what an entry promises: a match holds for each option what it takes, and the numbers of its job are in their ranges
+record IsSound (e : Entry) : Type 0 where
+  holds : (rows : List Row) → rows_pass (as_built (shape e)).rules rows ≡ true → HoldChoices e.options rows
+  limits : (rows : List Row) → HoldChoices e.options rows → HasNumbersInRange (e.job rows)
+
+-- each entry does, and no other entry has its name
+AreSound : List Entry → Type 0
+AreSound [] = Unit {0}
+AreSound (e ∷ es) = IsSound e × (list_any (λ (f : Entry). bytes_eq e.name f.name) es ≡ false) × AreSound es
+
+either : (a b : Bool) → (a || b) ≡ false → (a ≡ false) × (b ≡ false)
+either true b e = cc
+either false b e = (refl, e)
+
+-- the command that is found is one of the entries
+entry_found : (es : List Entry) (p : Shape → Bool) (m : Text × List Row) (s : Shape) → AreSound es → find p (map (λ e. as_built (shape e)) es) ≡ Some s → m.0 ≡ s.name → rows_pass s.rules m.1 ≡ true → NamesEntry es m
+unfolding AreSound
+entry_found [] p m s sound found name rows = cc
+entry_found (e ∷ es) p m s sound found name rows = by (p (as_built (shape e))) found (λ rest. entry_found es p m s sound.2 rest name rows)
   where
-    by : (a b : Bool) → cond a (Some x) (cond b (Some y) None) ≡ Some z → (z ≡ x) ⊎ (z ≡ y)
-    by true b e = inl cc
-    by false true e = inr cc
-    by false false e = cc
+    by : (b : Bool) → cond b (Some (as_built (shape e))) (find p (map (λ f. as_built (shape f)) es)) ≡ Some s → (find p (map (λ f. as_built (shape f)) es) ≡ Some s → NamesEntry es m) → NamesEntry (e ∷ es) m
+    by true here later =
+        let same : as_built (shape e) ≡ s = cc in
+        inl (name ∙ ap (λ (z : Shape). z.name) (sym same), sound.0.holds m.1 (subst (λ (z : Shape). rows_pass z.rules m.1 ≡ true) (sym same) rows))
+    by false here later = inr (later here)
+
+-- an entry of another name isn't the command
+other_name : (es : List Entry) (name : Text) (m : Text × List Row) → list_any (λ (f : Entry). bytes_eq name f.name) es ≡ false → NamesEntry es m → m.0 ≡ name → ⊥
+other_name [] name m d h e = h
+other_name (f ∷ es) name m d (inl h) e =
+    let yes = (bytes_eq-Decides name f.name).1 (sym e ∙ h.0) in
+    let no = (either (bytes_eq name f.name) (list_any (λ (g : Entry). bytes_eq name g.name) es) d).0 in
+    let none : true ≡ false = sym yes ∙ no in
+    cc
+other_name (f ∷ es) name m d (inr h) e = other_name es name m (either (bytes_eq name f.name) (list_any (λ (g : Entry). bytes_eq name g.name) es) d).1 h e
+
+-- the numbers of its job are in their ranges
+limits_of : (es : List Entry) (m : Text × List Row) (job : Job) → AreSound es → NamesEntry es m → job_in es m ≡ Some job → HasNumbersInRange job
+unfolding AreSound
+limits_of [] m job sound h is = absurd h
+limits_of (e ∷ es) m job sound h is = by (bytes_eq m.0 e.name) refl is (λ k later. limits_of es m job sound.2 k later)
+  where
+    by : (b : Bool) → bytes_eq m.0 e.name ≡ b → cond b (Some (e.job m.1)) (job_in es m) ≡ Some job → (NamesEntry es m → job_in es m ≡ Some job → HasNumbersInRange job) → HasNumbersInRange job
+    by true eq same later =
+        let here : e.job m.1 ≡ job = cc in
+        elim h [
+          | inl k ↦ subst HasNumbersInRange here (sound.0.limits m.1 k.1)
+          | inr k ↦ absurd (other_name es e.name m sound.1 k ((bytes_eq-Decides m.0 e.name).0 eq))
+        ]
+    by false eq same later = elim h [
+      | inl k ↦ absurd (let yes = (bytes_eq-Decides m.0 e.name).1 k.0 in let none : false ≡ true = sym eq ∙ yes in cc)
+      | inr k ↦ later k same
+    ]
+
+pairs_within : (rows : List Row) → HoldsNumber (codes "pairs") most_pairs rows → (1 ≤ number_of (codes "pairs") usual_pairs rows) × (number_of (codes "pairs") usual_pairs rows ≤ most_pairs)
+pairs_within rows is = by (one_of (codes "pairs") rows) refl
+  where
+    by : (o : Option Text) → one_of (codes "pairs") rows ≡ o → (1 ≤ option_map_or (λ text. digits_value 10 (without_leading_plus text)) o usual_pairs)
+        × (option_map_or (λ text. digits_value 10 (without_leading_plus text)) o 100000000 ≤ most_pairs)
+    by None e = (omega arith, omega arith)
+    by (Some text) e = let p = is text e in (p.2, p.3)
+
+-- ---- each command
+
+buchberger_sound : IsSound buchberger
+buchberger_sound = record {
+  holds = λ rows ok. (
+    is_flag (as_built (shape buchberger)).rules (codes "w") rows (λ text. refl) ok,
+    (
+      is_flag (as_built (shape buchberger)).rules (codes "r") rows (λ text. refl) ok,
+      (is_number (as_built (shape buchberger)).rules (codes "pairs") most_pairs rows (λ text. refl) ok, tt),
+    ),
+  );
+  limits = λ rows h. pairs_within rows h.1.1.0;
+}
+
+-- a command without options and numbers
+plain_sound : (e : Entry) → e.options ≡ [] → ((rows : List Row) → HasNumbersInRange (e.job rows)) → IsSound e
+plain_sound e none limits = record { holds = λ rows ok. subst (λ os. HoldChoices os rows) (sym none) tt; limits = λ rows h. limits rows }
+
+all_sound : AreSound commands
+unfolding AreSound
+all_sound = (buchberger_sound, refl, (plain_sound is_marked_groebner_basis refl (λ rows. tt), refl, tt))
 
 -- the rows of each command hold what its options take
 command_of : (m : Text × List Row) → Enters program m → IsCommand m
-command_of m h = elim (one_of_two (λ s. answers_to h.word (label_of s)) (as_built buchberger) (as_built is_marked_groebner_basis) h.shape h.found) [
-  | inl e ↦
-      let rows = subst (λ (s : Shape). rows_pass s.rules m.1 ≡ true) e h.rows in
-      inl (
-        h.name ∙ ap (λ (s : Shape). s.name) e,
-        record {
-          weighted = is_flag (as_built buchberger).rules (codes "w") m.1 (λ text. refl) rows;
-          revlex = is_flag (as_built buchberger).rules (codes "r") m.1 (λ text. refl) rows;
-          pairs = is_number (as_built buchberger).rules (codes "pairs") most_pairs m.1 (λ text. refl) rows;
-        },
-      )
-  | inr e ↦ inr (h.name ∙ ap (λ (s : Shape). s.name) e)
-]
+command_of m h = entry_found commands (λ s. answers_to h.word (label_of s)) m h.shape all_sound h.found h.name h.rows
 
 -- where the table has a match for the words, they name a command
 matched_command : (words : List Text) → HasMatch words → (m : Text × List Row) × (match_of words ≡ Some m) × IsCommand m
@@ -87,29 +152,9 @@ command_is words m e is =
     let same : found.0 ≡ m = cc in
     subst IsCommand same found.2
 
--- ---- the job
-
-pairs_within : (rows : List Row) → IsNumber (codes "pairs") most_pairs rows → (1 ≤ number_of (codes "pairs") usual_pairs rows) × (number_of (codes "pairs") usual_pairs rows ≤ most_pairs)
-pairs_within rows is = by (one_of (codes "pairs") rows) refl
-  where
-    by : (o : Option Text) → one_of (codes "pairs") rows ≡ o → (1 ≤ option_map_or (λ text. digits_value 10 (without_leading_plus text)) o usual_pairs)
-        × (option_map_or (λ text. digits_value 10 (without_leading_plus text)) o 100000000 ≤ most_pairs)
-    by None e = (omega arith, omega arith)
-    by (Some text) e = let p = is text e in (p.2, p.3)
-
 -- its numbers are in their ranges
-pub within_limits : (m : Text × List Row) (job : Job) → IsCommand m → job_of m ≡ Some job → IsWithinLimits job
-within_limits m job (inl c) is =
-    let here : job_of (codes "_buchberger", m.1) ≡ Some job = ap (λ name. job_of (name, m.1)) (sym c.0) ∙ is in
-    let same = some_same here in
-    subst IsWithinLimits same (pairs_within m.1 c.1.pairs)
-  where
-    some_same : {X : Type 0} {x y : X} → Some x ≡ Some y → x ≡ y
-    some_same e = cc
-within_limits m job (inr c) is =
-    let here : job_of (codes "_ismarkedgroebnerbasis", m.1) ≡ Some job = ap (λ name. job_of (name, m.1)) (sym c) ∙ is in
-    let same : jobs.IsMarkedGroebnerBasis ≡ job = cc in
-    subst IsWithinLimits same tt
+pub within_limits : (m : Text × List Row) (job : Job) → IsCommand m → job_of m ≡ Some job → HasNumbersInRange job
+within_limits m job h is = limits_of commands m job all_sound h is
 
 -- ---- what a parse gave
 

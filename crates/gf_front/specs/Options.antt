@@ -1,24 +1,31 @@
 -- What a match of the table holds for each option: a value that the option takes.
-use Rattle.std.specs.Prelude.{◌≡◌, ◌⊎◌, ℕ, List, codes, Some}
+use Rattle.std.specs.Prelude.{◌≡◌, ◌⊎◌, ℕ, List, [], ◌∷◌, codes, Some}
 use Rattle.clap.specs.Words.{Row, Text, one_of, IsUnsignedIn}
-use Rattle.gf_front.specs.Table.{most_pairs}
+use Rattle.gf_front.specs.Table.{Choice, a_flag, a_number, Entry, commands}
 
 -- the value of an option without a value says whether it is there
-abbrev pub IsFlag : Text → List Row → Type 0
-IsFlag id rows = (text : Text) → one_of id rows ≡ Some text → (text ≡ codes "true") ⊎ (text ≡ codes "false")
+abbrev pub HoldsFlag : Text → List Row → Type 0
+HoldsFlag id rows = (text : Text) → one_of id rows ≡ Some text → (text ≡ codes "true") ⊎ (text ≡ codes "false")
 
 -- the value is a number from 1 to `most`
-abbrev pub IsNumber : Text → ℕ → List Row → Type 0
-IsNumber id most rows = (text : Text) → one_of id rows ≡ Some text → IsUnsignedIn 1 most text
+abbrev pub HoldsNumber : Text → ℕ → List Row → Type 0
+HoldsNumber id most rows = (text : Text) → one_of id rows ≡ Some text → IsUnsignedIn 1 most text
+
+-- the option's value is one that it takes
+abbrev pub HoldsChoice : Choice → List Row → Type 0
+HoldsChoice (a_flag id letter) rows = HoldsFlag id rows
+HoldsChoice (a_number id most) rows = HoldsNumber id most rows
+
+abbrev pub HoldChoices : List Choice → List Row → Type 0
+HoldChoices [] rows = Unit {0}
+HoldChoices (o ∷ os) rows = HoldsChoice o rows × HoldChoices os rows
 
 -- ---- commands
 
-pub record IsBuchberger (rows : List Row) : Type 0 where
-  pub weighted : IsFlag (codes "w") rows
-  pub revlex : IsFlag (codes "r") rows
-  pub pairs : IsNumber (codes "pairs") most_pairs rows
+-- it is one of these commands, and its options hold what they take
+abbrev pub NamesEntry : List Entry → Text × List Row → Type 0
+NamesEntry [] m = ⊥
+NamesEntry (e ∷ es) m = ((m.0 ≡ e.name) × HoldChoices e.options m.1) ⊎ NamesEntry es m
 
--- it is one of the commands, and its options hold what they take
 abbrev pub IsCommand : Text × List Row → Type 0
-IsCommand command = ((command.0 ≡ codes "_buchberger") × IsBuchberger command.1)
-    ⊎ (command.0 ≡ codes "_ismarkedgroebnerbasis")
+IsCommand m = NamesEntry commands m

@@ -1,8 +1,14 @@
 -- The table of commands and their options, as clap reads words by it.
 -- What clap makes of a table is said by its own definitions: `new_rule` is an option and `new_shape` a command to which
 -- nothing was added yet, `with_subcommand` adds a command.
-use Rattle.std.specs.Prelude.{ℕ, true, List, [], ◌∷◌, Some, codes}
-use Rattle.clap.specs.Words.{App, Shape, Rule, Text, new_rule, with_subcommand}
+use Rattle.std.specs.Prelude.{ℕ, Bool, true, false, List, [], ◌∷◌, map, Some, codes}
+use Rattle.std.specs.Option.{option_map_or}
+use Rattle.std.specs.List.{fold}
+use Rattle.std.specs.Str.{bytes_eq}
+use Rattle.std.specs.Str.Parse.{digits_value, without_leading_plus}
+use Rattle.clap.specs.Words.{App, Shape, Row, Rule, Text, one_of, new_rule, with_subcommand}
+use Rattle.gf_front.specs.declared.command_line.Job.{Job}
+use Rattle.gf_front.specs.declared.command_line.Job.TheVariants as jobs
 use Rattle.clap.specs.Simple.{new_shape}
 use Rattle.clap.specs.declared.builder.action.ArgAction.TheVariants.{Set, SetTrue}
 use Rattle.clap.specs.declared.builder.value_parser.ValueParser.TheVariants as parsers
@@ -17,6 +23,15 @@ flag id letter = record (new_rule id) { short = Some letter; action = Some SetTr
 abbrev pub number : Text → ℕ → Rule
 number id most = record (new_rule id) { long = Some id; action = Some Set; parser = Some (parsers.Unsigned 1 most) }
 
+-- what an option may be
+pub data Choice : Type 0 where
+  a_flag : Text → ℕ → Choice
+  a_number : Text → ℕ → Choice
+
+abbrev pub rule : Choice → Rule
+rule (a_flag id letter) = flag id letter
+rule (a_number id most) = number id most
+
 -- the most pairs that a budget may have, and those that it has where the words don't say it
 abbrev pub most_pairs : ℕ
 most_pairs = 1000000000000
@@ -24,16 +39,40 @@ most_pairs = 1000000000000
 abbrev pub usual_pairs : ℕ
 usual_pairs = 100000000
 
+-- ---- what is read of a match
+
+-- whether the option without a value is there
+abbrev pub flag_of : Text → List Row → Bool
+flag_of id rows = option_map_or (λ text. bytes_eq text (codes "true")) (one_of id rows) false
+
+-- the number of the option, and where it isn't there this one
+abbrev pub number_of : Text → ℕ → List Row → ℕ
+number_of id otherwise rows = option_map_or (λ text. digits_value 10 (without_leading_plus text)) (one_of id rows) otherwise
+
 -- ---- commands
 
-abbrev pub command : Text → List Rule → Shape
-command name options = record (new_shape name) { rules = options }
+-- a command: its name, its options, and its job by what a match holds for the options
+pub record Entry : Type 0 where
+  pub name : Text
+  pub options : List Choice
+  pub job : List Row → Job
 
-abbrev pub buchberger : Shape
-buchberger = command (codes "_buchberger") (flag (codes "w") 119 ∷ flag (codes "r") 114 ∷ number (codes "pairs") most_pairs ∷ [])
+abbrev pub buchberger : Entry
+buchberger = record {
+  name = codes "_buchberger";
+  options = a_flag (codes "w") 119 ∷ a_flag (codes "r") 114 ∷ a_number (codes "pairs") most_pairs ∷ [];
+  job = λ rows. jobs.Buchberger (flag_of (codes "w") rows) (flag_of (codes "r") rows) (number_of (codes "pairs") usual_pairs rows);
+}
 
-abbrev pub is_marked_groebner_basis : Shape
-is_marked_groebner_basis = command (codes "_ismarkedgroebnerbasis") []
+abbrev pub is_marked_groebner_basis : Entry
+is_marked_groebner_basis = record { name = codes "_ismarkedgroebnerbasis"; options = []; job = λ rows. jobs.IsMarkedGroebnerBasis }
+
+abbrev pub commands : List Entry
+commands = buchberger ∷ is_marked_groebner_basis ∷ []
+
+-- a command as clap has it
+abbrev pub shape : Entry → Shape
+shape e = record (new_shape e.name) { rules = map rule e.options }
 
 -- ---- the program
 
@@ -51,4 +90,4 @@ program = record {
 }
 
 abbrev pub table : App
-table = with_subcommand (with_subcommand program buchberger) is_marked_groebner_basis
+table = fold with_subcommand program (map shape commands)

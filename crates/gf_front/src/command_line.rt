@@ -3,9 +3,9 @@
 //! clap reads the words by the table; what it would say of a fault is never printed.
 ghost use Rattle.std.specs.Prelude.{◌≡◌, [], IfOk, IsErrOf, map, string_bytes, codes, Some};
 ghost use Rattle.clap.specs.Words.{found_of, rows_of, one_of, kind_of};
-ghost use Rattle.gf_front.specs.Table.{most_pairs};
-ghost use Rattle.gf_front.specs.Jobs.{renamed, HasMatch, IsJobOfMatch, IsMatched, IsJobOf, IsWithinLimits, flag_of, number_of, job_of};
-ghost use Rattle.gf_front.specs.Options.{IsFlag, IsNumber, IsBuchberger, IsCommand};
+ghost use Rattle.gf_front.specs.Table.{most_pairs, flag_of, number_of, buchberger};
+ghost use Rattle.gf_front.specs.Jobs.{renamed, HasMatch, IsJobOfMatch, IsMatched, IsJobOf, HasNumbersInRange, job_of};
+ghost use Rattle.gf_front.specs.Options.{HoldsFlag, HoldsNumber, HoldChoices, IsCommand};
 
 use crate::table::table;
 use clap::ArgMatches;
@@ -51,7 +51,7 @@ impl From<AllocError> for WordsError {
 
 /// Whether an option without a value is there.
 fn flag(found: &ArgMatches, id: &str) -> bool
-    requires { IsFlag id.now (rows_of (found_of found.now)) }
+    requires { HoldsFlag id.now (rows_of (found_of found.now)) }
     ensures { result ≡ flag_of id.now (rows_of (found_of found.now)) }
 {
     found.get_flag(id)
@@ -59,7 +59,7 @@ fn flag(found: &ArgMatches, id: &str) -> bool
 
 /// The number of an option, and where it isn't there `otherwise`.
 fn number(found: &ArgMatches, id: &str, otherwise: u64) -> u64
-    requires { IsNumber id.now most_pairs (rows_of (found_of found.now)) }
+    requires { HoldsNumber id.now most_pairs (rows_of (found_of found.now)) }
     ensures { result ≡ number_of id.now otherwise (rows_of (found_of found.now)) }
 {
     found.get_one::<u64>(id).unwrap_or(otherwise)
@@ -67,8 +67,8 @@ fn number(found: &ArgMatches, id: &str, otherwise: u64) -> u64
 
 /// The job of `_buchberger`.
 fn buchberger(found: &ArgMatches) -> Job
-    requires { IsBuchberger (rows_of (found_of found.now)) }
-    ensures { job_of (codes "_buchberger", rows_of (found_of found.now)) ≡ Some result }
+    requires { HoldChoices buchberger.options (rows_of (found_of found.now)) }
+    ensures { buchberger.job (rows_of (found_of found.now)) ≡ result }
 {
     Job::Buchberger {
         weighted: flag(found, "w"),
@@ -104,7 +104,7 @@ fn cause(error: &clap::Error) -> WordsError
 fn matched<'a>(alloc: Global, words: &'a [&'a str]) -> Result<Job, WordsError>
     ensures usage { IsErrOf result WordsError.Usage → HasMatch (map (λ w. w.now) words.entry.now) → ⊥ }
     ensures job { IfOk result (IsJobOfMatch (map (λ w. w.now) words.entry.now)) }
-    ensures limits { IfOk result IsWithinLimits }
+    ensures limits { IfOk result HasNumbersInRange }
 {
     let matches = match table(alloc)?.try_get_matches_from(words) {
         Ok(matches) => matches,
@@ -139,7 +139,7 @@ pub fn words(alloc: Global, all: &[String]) -> Result<Job, WordsError>
 
     // It has one, and the job is that of the match; its numbers are in their ranges.
     ensures job { IfOk result (IsJobOf (map string_bytes all.now)) }
-    ensures limits { IfOk result IsWithinLimits }
+    ensures limits { IfOk result HasNumbersInRange }
 {
     let mut list: Vec<&str> = Vec::new(alloc);
     for word in all {

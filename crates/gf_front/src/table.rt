@@ -4,7 +4,7 @@
 ghost use Rattle.std.specs.Prelude.{◌≡◌, false, IfOk};
 ghost use Rattle.clap.specs.Words.{app_of, shape_of, rule_of};
 ghost use Rattle.clap.specs.declared.builder.command.Command.TheViews.{out-Command as fields_of};
-ghost use Rattle.gf_front.specs.Table.{flag, number, most_pairs, buchberger, is_marked_groebner_basis, program, table};
+ghost use Rattle.gf_front.specs.Table.{flag, number, most_pairs, shape, buchberger, is_marked_groebner_basis, program, table};
 
 use clap::{Arg, ArgAction, Command, value_parser};
 use std::alloc::{AllocError, Global};
@@ -30,7 +30,7 @@ fn budget<'a>(alloc: Global, id: &'a str) -> Arg<'a>
 }
 
 fn buchberger<'a>(alloc: Global) -> Result<Command<'a>, AllocError>
-    ensures shape { IfOk result (λ c. shape_of c ≡ buchberger) }
+    ensures shape { IfOk result (λ c. shape_of c ≡ shape buchberger) }
     ensures local { IfOk result (λ c. (fields_of c).has_globals ≡ false) }
 {
     Command::new(alloc, "_buchberger")
@@ -40,7 +40,7 @@ fn buchberger<'a>(alloc: Global) -> Result<Command<'a>, AllocError>
 }
 
 fn is_marked_groebner_basis<'a>(alloc: Global) -> Command<'a>
-    ensures shape { shape_of result ≡ is_marked_groebner_basis }
+    ensures shape { shape_of result ≡ shape is_marked_groebner_basis }
     ensures local { (fields_of result).has_globals ≡ false }
 {
     Command::new(alloc, "_ismarkedgroebnerbasis")

@@ -1,10 +1,10 @@
-//! What the recursion finds.
+//! What the recursion finds, and what a candidate for an answer is.
 
 use gf_vec::IntVec;
 
 /// A point, or multipliers of the rows and then of the equations.
 #[derive(Drop)]
-pub(crate) enum Found {
+pub enum Found {
     Point(IntVec),
     Farkas(IntVec),
 }

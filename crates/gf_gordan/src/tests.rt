@@ -63,7 +63,7 @@ fn refutes(
     Ok(some && common == 1 && ms.len() == rows.len() && es.len() == equations.len())
 }
 
-fn is_right(
+pub(crate) fn is_right(
     n: usize,
     rows: &[IntVec],
     equations: &[IntVec],
@@ -78,7 +78,7 @@ fn is_right(
     }
 }
 
-fn is_point(answer: &Answer) -> bool {
+pub(crate) fn is_point(answer: &Answer) -> bool {
     match answer {
         Answer::Point(_v) => true,
         Answer::Farkas {
@@ -163,7 +163,7 @@ fn row_and_equation(rt: HostRuntime) -> Result<(), Fail> {
     Ok(())
 }
 
-// the point of the first row is positive on the others, so nothing is eliminated by a wide row
+// the pivots leave the range; the point of the first row is positive on the others, so nothing is eliminated by a wide row
 #[test]
 fn wide_rows(rt: HostRuntime) -> Result<(), Fail> {
     let alloc = rt.alloc();
@@ -197,7 +197,7 @@ fn overflow_of_a_test(rt: HostRuntime) -> Result<(), Fail> {
         left: LARGEST,
         right: LARGEST,
     };
-    assert_eq!(rt; step_of(strict(alloc, 2, &rows, &[])), Some(step));
+    assert_eq!(rt; step_of(strict_plain(alloc, 2, &rows, &[])), Some(step));
     Ok(())
 }
 
@@ -215,7 +215,7 @@ fn overflow_of_a_reduction(rt: HostRuntime) -> Result<(), Fail> {
         left: LARGEST,
         right: 3,
     };
-    assert_eq!(rt; step_of(strict(alloc, 2, &rows, &[])), Some(step));
+    assert_eq!(rt; step_of(strict_plain(alloc, 2, &rows, &[])), Some(step));
     let rows = [
         IntVec::from_slice(alloc, &[1, LARGEST, LARGEST])?,
         IntVec::from_slice(alloc, &[-1, 1, -1])?,
@@ -226,7 +226,7 @@ fn overflow_of_a_reduction(rt: HostRuntime) -> Result<(), Fail> {
         left: LARGEST,
         right: -1,
     };
-    assert_eq!(rt; step_of(strict(alloc, 3, &rows, &[])), Some(step));
+    assert_eq!(rt; step_of(strict_plain(alloc, 3, &rows, &[])), Some(step));
     Ok(())
 }
 
@@ -245,7 +245,7 @@ fn overflow_of_a_point(rt: HostRuntime) -> Result<(), Fail> {
         left: 1 << 64,
         right: -(1 << 64),
     };
-    assert_eq!(rt; step_of(strict(alloc, 2, &rows, &[])), Some(step));
+    assert_eq!(rt; step_of(strict_plain(alloc, 2, &rows, &[])), Some(step));
     let rows = [
         IntVec::from_slice(alloc, &[0, 1, 0])?,
         IntVec::from_slice(alloc, &[0, -1, 1])?,
@@ -257,7 +257,10 @@ fn overflow_of_a_point(rt: HostRuntime) -> Result<(), Fail> {
         left: 1 << 126,
         right: 3,
     };
-    assert_eq!(rt; step_of(strict(alloc, 3, &rows, &equations)), Some(step));
+    assert_eq!(rt;
+        step_of(strict_plain(alloc, 3, &rows, &equations)),
+        Some(step)
+    );
     Ok(())
 }
 
@@ -277,7 +280,7 @@ fn overflow_at_no_row(rt: HostRuntime) -> Result<(), Fail> {
         left: 1 << 64,
         right: (1 << 64) - 1,
     };
-    assert_eq!(rt; step_of(strict(alloc, 3, &rows, &[])), Some(step));
+    assert_eq!(rt; step_of(strict_plain(alloc, 3, &rows, &[])), Some(step));
     Ok(())
 }
 
@@ -310,5 +313,43 @@ fn random_systems(rt: HostRuntime) -> Result<(), Fail> {
         let answer = strict(alloc, n, &rows, &equations)?;
         assert!(rt; is_right(n as usize, &rows, &equations, &answer)?);
     }
+    Ok(())
+}
+
+// elimination refuses some of these ten systems, and pivots answer each
+#[test]
+fn pivots_reach_further(rt: HostRuntime) -> Result<(), Fail> {
+    let alloc = rt.alloc();
+    let mut refused = false;
+    for k in 0..10 {
+        let rows = random_rows(alloc, 8, 40, 7000 + k)?;
+        let answer = strict(alloc, 8, &rows, &[])?;
+        assert!(rt; is_right(8, &rows, &[], &answer)?);
+        refused = refused || step_of(strict_plain(alloc, 8, &rows, &[])).is_some();
+    }
+    assert!(rt; refused);
+    Ok(())
+}
+
+// by hand: a guess is taken, divided by its content, where it is right; else the system is solved
+#[test]
+fn guesses(rt: HostRuntime) -> Result<(), Fail> {
+    let alloc = rt.alloc();
+    let rows = [
+        IntVec::from_slice(alloc, &[1, 0])?,
+        IntVec::from_slice(alloc, &[0, 1])?,
+    ];
+    let right = Found::Point(IntVec::from_slice(alloc, &[4, 6])?);
+    assert!(rt;
+        match strict_guessed(alloc, 2, &rows, &[], Some(right))? {
+            Answer::Point(v) => v.as_slice() == [2, 3].as_slice(),
+            _ => false,
+        }
+    );
+    let zero_on_a_row = Found::Point(IntVec::from_slice(alloc, &[1, 0])?);
+    let answer = strict_guessed(alloc, 2, &rows, &[], Some(zero_on_a_row))?;
+    assert!(rt; is_right(2, &rows, &[], &answer)?);
+    let wrong = Found::Farkas(IntVec::from_slice(alloc, &[1, 1])?);
+    assert!(rt; is_point(&strict_guessed(alloc, 2, &rows, &[], Some(wrong))?));
     Ok(())
 }

@@ -128,7 +128,7 @@ basis-of_tails n fs bs cs v b t h = basis-tails n fs bs cs b (λ c k. tail-membe
 
 -- ---- all tails reduced, place by place
 
-tails-of_place : (bs ks cs : List MarkedPolynomial) → AreReducedTails bs ks cs → (c : MarkedPolynomial) →
+pub tails-of_place : (bs ks cs : List MarkedPolynomial) → AreReducedTails bs ks cs → (c : MarkedPolynomial) →
     Contains cs c → (k : MarkedPolynomial) × Contains ks k × IsReducedTail bs k c
 tails-of_place bs [] [] h c q = absurd (omega (arith, q.1))
 tails-of_place bs [] (d ∷ cs) h c q = elim h [ ]

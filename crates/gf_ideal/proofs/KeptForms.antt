@@ -1,5 +1,5 @@
 -- From what a program keeps to what the theory speaks of: marks, monic forms and arranged lists of `gf_poly`.
--- To cite: marked_there, monic_form, arranged_list. The rest are steps.
+-- To cite: term_there, marked_there, monic_form, arranged_list. The rest are steps.
 use Rattle.std.specs.Prelude.{◌≡◌, ◌⊎◌, ◌≢◌, ℕ, suc, ◌+◌, ◌<◌, ◌≤◌, true, false, List, [], ◌∷◌, length, Contains, IsSortedByKey, slice_index_or}
 use Rattle.std.specs.Ordering.{MatchOrdering, is_lt}
 use Rattle.std.specs.declared.cmp.Ordering.{Ordering}
@@ -14,8 +14,8 @@ use Rattle.gf_exponents.proofs.ExponentsLaws.{plus-nil, same_of}
 use Rattle.gf_exponents.proofs.OrderLaws.{lex-compares, lex-strict}
 use Rattle.gf_poly.specs.declared.Term.{Term}
 use Rattle.gf_poly.specs.Polynomial.{Terms, coefficient, HasVariables, IsDescending}
-use Rattle.gf_poly.specs.Marking.{MarkedPolynomial, MarkedPolynomials, Each, HasMark, IsMarked as HasMarkedTerm, IsMonicOf, IsArranged}
-use Rattle.gf_poly.proofs.CoefficientLaws.{coefficient-contains}
+use Rattle.gf_poly.specs.Marking.{MarkedPolynomial, MarkedPolynomials, Each, HasMark, HasMarkedTerm, IsMonicOf, IsArranged}
+use Rattle.gf_poly.proofs.CoefficientLaws.{term_length, term_nonzero, term_coefficient}
 use Rattle.gf_ideal.specs.Membership.{HasMonomial}
 use Rattle.gf_ideal.specs.Reduction.{IsMonicForm}
 use Rattle.gf_ideal.specs.Bases.{AreApart, IsCanonical, AreAscending, AreArranged}
@@ -24,30 +24,17 @@ use Rattle.gf_ideal.proofs.ArrangementLaws.{apart-arranged}
 
 -- ---- terms of a descending list
 
-length_of_term : (n : ℕ) (f : Terms) (t : Term) → HasVariables n f → Contains f t → length t.mono ≡ n
-length_of_term n [] t h c = absurd (omega (arith, c.1))
-length_of_term n (s ∷ f) t h c = at (Contains-cases s t f c) (λ k. length_of_term n f t h.1 k)
-  where
-    at : (s ≡ t) ⊎ Contains f t → (Contains f t → length t.mono ≡ n) → length t.mono ≡ n
-    at (inl e) r = subst (λ (u : Term). length u.mono ≡ n) e h.0
-    at (inr k) r = r k
-
-nonzero_term : (f : Terms) (t : Term) → IsDescending f → Contains f t → t.coef ≢ zero_ℚ
-nonzero_term [] t h c = absurd (omega (arith, c.1))
-nonzero_term (s ∷ f) t h c = at (Contains-cases s t f c) (λ k. nonzero_term f t h.2 k)
-  where
-    at : (s ≡ t) ⊎ Contains f t → (Contains f t → t.coef ≢ zero_ℚ) → t.coef ≢ zero_ℚ
-    at (inl e) r = subst (λ (u : Term). u.coef ≢ zero_ℚ) e h.0
-    at (inr k) r = r k
+pub term_there : (n : ℕ) (f : Terms) (t : Term) → HasVariables n f → IsDescending f → Contains f t → HasMonomial f t.mono
+term_there n f t v d c z = term_nonzero f t d c (sym (term_coefficient n f t v d c) ∙ z)
 
 -- the coefficient at the mark is that of the marked term
 mark-coefficient : (n : ℕ) (b : MarkedPolynomial) (c : Fraction) → HasVariables n b.poly → IsDescending b.poly →
     HasMark b c → coefficient b.poly b.head ≡ c
-mark-coefficient n b c v d m = coefficient-contains n b.poly (record { coef = c; mono = b.head }) v d m (length_of_term n b.poly (record { coef = c; mono = b.head }) v m)
+mark-coefficient n b c v d m = term_coefficient n b.poly (record { coef = c; mono = b.head }) v d m
 
 -- a marked monomial is one of the polynomial
 pub marked_there : (n : ℕ) (b : MarkedPolynomial) → HasVariables n b.poly → HasMarkedTerm b → HasMonomial b.poly b.head
-marked_there n b v m z = nonzero_term b.poly (record { coef = m.mark; mono = b.head }) m.descending m.term (sym (mark-coefficient n b m.mark v m.descending m.term) ∙ z)
+marked_there n b v m = term_there n b.poly (record { coef = m.mark; mono = b.head }) v m.descending m.term
 
 -- ---- monic forms
 
@@ -57,7 +44,7 @@ pub monic_form : (n : ℕ) (f g : MarkedPolynomial) → HasVariables n f.poly �
 monic_form n f g v d q = record { there = λ z. nonzero (sym at_head ∙ z); equation = λ x. ap (λ z. z *ℚ coefficient g.poly x) at_head ∙ ap (λ z. q.mark *ℚ z) (q.quotients x) ∙ sym (*ℚ_assoc q.mark (reciprocal_ℚ q.mark) (coefficient f.poly x)) ∙ ap (λ z. z *ℚ coefficient f.poly x) (*ℚ-reciprocal_ℚ q.mark nonzero) ∙ one-*ℚ _ }
   where
     nonzero : q.mark ≢ zero_ℚ
-    nonzero = nonzero_term f.poly (record { coef = q.mark; mono = f.head }) d q.term
+    nonzero = term_nonzero f.poly (record { coef = q.mark; mono = f.head }) d q.term
 
     at_head : coefficient f.poly g.head ≡ q.mark
     at_head = ap (coefficient f.poly) q.head ∙ mark-coefficient n f q.mark v d q.term
@@ -101,4 +88,4 @@ arranged_list n s t r c a = record { canonical = kept; ascending = ascending_fro
 
 -- a marked polynomial as a program keeps it
 pub canonical_marked : (n : ℕ) (b : MarkedPolynomial) → HasVariables n b.poly → HasMarkedTerm b → IsCanonical n b
-canonical_marked n b v m = record { variables = v; descending = m.descending; head = length_of_term n b.poly (record { coef = m.mark; mono = b.head }) v m.term }
+canonical_marked n b v m = record { variables = v; descending = m.descending; head = term_length n b.poly (record { coef = m.mark; mono = b.head }) v m.term }

@@ -19,7 +19,7 @@ use Rattle.gf_ideal.proofs.MembershipLaws.{member-difference}
 use Rattle.gf_ideal.proofs.LeadingLaws.{IsTop, top_greatest, top_heaviest}
 
 -- ---- marks
-apart_same : (bs : List MarkedPolynomial) (b c : MarkedPolynomial) → AreApart bs → Contains bs b → Contains bs c →
+pub apart_same : (bs : List MarkedPolynomial) (b c : MarkedPolynomial) → AreApart bs → Contains bs b → Contains bs c →
     (y : Exponents) → same c.head (plus y b.head) ≡ true → b ≡ c
 apart_same bs b c a hb hc y s = at bs a hb.0 hb.1 hb.2 hc.0 hc.1 hc.2
   where
@@ -34,10 +34,10 @@ apart_same bs b c a hb hc y s = at bs a hb.0 hb.1 hb.2 hc.0 hc.1 hc.2
     at (d ∷ bs) a (suc i) l e zero m f = clash (subst (λ (x : MarkedPolynomial). NoMultiple b.head x.head) f (contained_each (λ (x : MarkedPolynomial). NoMultiple d.head x.head × NoMultiple x.head d.head) bs a.0 b (i, omega arith, e)).1)
     at (d ∷ bs) a (suc i) l e (suc j) m f = at bs a.1 i (omega arith) e j (omega arith) f
 
-both_ways : (x y u v : Exponents) → same x (plus u y) ≡ true → same y (plus v x) ≡ true → same x y ≡ true
+pub both_ways : (x y u v : Exponents) → same x (plus u y) ≡ true → same y (plus v x) ≡ true → same x y ≡ true
 both_ways x y u v s t = same_by_entries x y (λ i. omega (arith, entries_same x (plus u y) s i, entries_same y (plus v x) t i, entry-plus u y i, entry-plus v x i))
 
-equal_if : (b c : Fraction) → b +ℚ neg_ℚ c ≡ zero_ℚ → b ≡ c
+pub equal_if : (b c : Fraction) → b +ℚ neg_ℚ c ≡ zero_ℚ → b ≡ c
 equal_if b c h = sym (+ℚ-zero b) ∙ ap (λ z. b +ℚ z) (sym (+ℚ_comm (neg_ℚ c) c ∙ +ℚ-neg_ℚ c)) ∙ sym (+ℚ_assoc b (neg_ℚ c) c) ∙ ap (λ z. z +ℚ c) h ∙ zero-+ℚ c
 
 -- each member of the one has a twin in the other

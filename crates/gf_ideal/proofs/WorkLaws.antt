@@ -57,7 +57,7 @@ work-members n fs below bs v (IsWorkList.more ks f g c w source steps q m d) b h
 
 -- ---- grades
 
-closed-alike : (Alike : Exponents → Exponents → Type 0) (x : Exponents) (by : MarkedPolynomial → Type 0) →
+pub closed-alike : (Alike : Exponents → Exponents → Type 0) (x : Exponents) (by : MarkedPolynomial → Type 0) →
     IsGrading Alike → ((b : MarkedPolynomial) → by b → IsGradedBy Alike b) → IsClosed by (λ y. Alike y x)
 closed-alike Alike x by g h = record {
   along = λ y z s k. g.transitive z y x (g.symmetric y z (g.along y z s)) k;

@@ -11,7 +11,7 @@ use Rattle.std.proofs.Math.Nat.{mul-dvd-mul_left, eq-one_of_dvd-one, dvd_of_mul-
 use Rattle.gf_int.proofs.RingLaws.{same, dn, dv, dneg, ◌⊗◌}
 use Rattle.gf_int.specs.Range.{InRange}
 use Rattle.gf_int.specs.Gcd.{gcd, gcd-is}
-use Rattle.gf_int.specs.Content.{DividesAll, AllZero, IsGcdOfAll, IsContent, IsPrimitive, times, quotients}
+use Rattle.gf_int.specs.Content.{DividesAll, AllZero, IsGcdOfAll, IsContent, IsPrimitive, scaled, quotients}
 
 -- ---- the greatest common divisor, entry by entry
 
@@ -113,11 +113,11 @@ exact_quotient c (pos n) h = ap pos (mul-div_cancel' c h)
 exact_quotient c (negsuc n) h = neg_exact c n (suc n / c) (mul-div_cancel' c h)
 
 -- the quotients by a common divisor, times that divisor
-pub times-quotients : (c : ℕ) (xs : List ℤ) → DividesAll c xs → times (pos c) (quotients (pos c) xs) ≡ xs
+pub times-quotients : (c : ℕ) (xs : List ℤ) → DividesAll c xs → scaled (pos c) (quotients (pos c) xs) ≡ xs
 times-quotients c [] h = refl
 times-quotients c (x ∷ xs) h = ap₂ ◌∷◌ (exact_quotient c x h.0) (times-quotients c xs h.1)
 
-multiples : (c d : ℕ) (xs : List ℤ) → DividesAll d xs → DividesAll (c * d) (times (pos c) xs)
+multiples : (c d : ℕ) (xs : List ℤ) → DividesAll d xs → DividesAll (c * d) (scaled (pos c) xs)
 multiples c d [] h = tt
 multiples c d (x ∷ xs) h = (subst (λ n. c * d ∣ n) (sym (unsigned_abs-mul (pos c) x)) (mul-dvd-mul_left d c h.0), multiples c d xs h.1)
 
@@ -155,7 +155,7 @@ IsContent-one xs h = let r = IsGcdOfAll-exists xs in at r.0 r.1 (h r.0 r.1.divid
 -- ---- unit factors and ranges
 
 -- one time a list
-pub times-one : (xs : List ℤ) → times (pos 1) xs ≡ xs
+pub times-one : (xs : List ℤ) → scaled (pos 1) xs ≡ xs
 times-one [] = refl
 times-one (x ∷ xs) = ap₂ ◌∷◌ (omega (arith, ints)) (times-one xs)
 

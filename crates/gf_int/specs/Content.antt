@@ -29,9 +29,9 @@ abbrev pub IsPrimitive : List ℤ → Type 0
 IsPrimitive xs = (d : ℕ) → DividesAll d xs → (d ≡ 1) ⊎ AllZero xs
 
 -- each entry times k
-abbrev pub times : ℤ → List ℤ → List ℤ
-times k [] = []
-times k (x ∷ xs) = (k *ℤ x) ∷ times k xs
+abbrev pub scaled : ℤ → List ℤ → List ℤ
+scaled k [] = []
+scaled k (x ∷ xs) = (k *ℤ x) ∷ scaled k xs
 
 -- each entry divided by c, toward zero
 abbrev pub quotients : ℤ → List ℤ → List ℤ

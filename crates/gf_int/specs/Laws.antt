@@ -1,7 +1,7 @@
 -- The laws of this crate, each a statement that a function of `src/laws.rt` ensures.
 use Rattle.std.specs.Prelude.{◌≡◌, ◌*◌, ◌<◌, ℕ, List, ℤ, pos}
 use Rattle.std.specs.Int.{IsGcd, ◌∣◌}
-use Rattle.gf_int.specs.Content.{IsContent, IsPrimitive, times, quotients}
+use Rattle.gf_int.specs.Content.{IsContent, IsPrimitive, scaled, quotients}
 
 -- Euclid's lemma: a number that divides b * c, and is coprime to b, divides c
 abbrev pub EuclidsLemma : Type 0
@@ -25,4 +25,4 @@ ContentIsUnique = (xs : List ℤ) (c d : ℕ) → IsContent xs c → IsContent x
 
 -- division by the content loses nothing, and leaves a primitive list
 abbrev pub DivisionByContent : Type 0
-DivisionByContent = (xs : List ℤ) (c : ℕ) → IsContent xs c → (times (pos c) (quotients (pos c) xs) ≡ xs) × IsPrimitive (quotients (pos c) xs)
+DivisionByContent = (xs : List ℤ) (c : ℕ) → IsContent xs c → (scaled (pos c) (quotients (pos c) xs) ≡ xs) × IsPrimitive (quotients (pos c) xs)

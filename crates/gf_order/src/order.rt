@@ -6,8 +6,8 @@ ghost use Rattle.gf_order.specs.Weights.{AreBounded, IsFirstBelow};
 ghost use Rattle.gf_order.specs.Comparisons.{IsOutcome, HasEntries, level_of, ends_by_revlex, is_weight_before_lex};
 
 use crate::comparisons::{deglex, degree, facet, lex, revlex, weighted, weighted_revlex};
-use crate::weights::{first_below, negated_weight_of, weight_of};
-use gf_vec::IntVec;
+use crate::weights::first_below;
+use gf_vec::{IntVec, weight_of};
 use std::cmp::Ordering;
 use std::marker::Model;
 
@@ -158,7 +158,7 @@ impl Order {
             Kind::Revlex => 0,
             Kind::Weighted(weight) => weight_of(weight.as_slice(), x),
             Kind::WeightedRevlex(weight) => weight_of(weight.as_slice(), x),
-            Kind::Facet(normal) => negated_weight_of(normal.as_slice(), x),
+            Kind::Facet(normal) => -weight_of(normal.as_slice(), x),
         }
     }
 

@@ -1,7 +1,7 @@
 //! A source and a sink in memory that move a few bytes a call and fail at given calls.
 //!
 //! Calls are counted from 0, the failing ones too.
-ghost use Rattle.std.specs.Prelude.{◌≡◌, ◌≤◌, ◌<◌, ◌↔◌, ℕ, List, [], length, min, Ok, Some, IsErr, IfOk};
+ghost use Rattle.std.specs.Prelude.{◌≡◌, ◌⊎◌, ◌≤◌, ◌<◌, ◌↔◌, ℕ, List, [], length, min, Ok, Some, IsErr, IfOk, OnOk};
 ghost use Rattle.std.specs.Io.{ReadsAtMost, WritesAtMost};
 ghost use Rattle.std.specs.Io.KnownBytes.{ReadConsumes, WriteAppends};
 ghost use Rattle.gf_outside.specs.Faults.{HasCause, Rose};
@@ -74,6 +74,7 @@ impl Source for MemSource {
         ensures bytes { ReadConsumes (Some self.old.left) (Some self.new.left) result into.new }
         ensures count { CountsMoved self.old.given self.new.given result }
         ensures cause { HasCause self.old.faults self.new.faults result }
+        ensures calm { OnOk result (self.new.faults ≡ self.old.faults) }
 
         // It fails at the calls of its script, and else moves as much as it may.
         ensures fails { IsErr result ↔ FailsNow self.old.script }
@@ -154,6 +155,8 @@ impl Sink for MemSink {
         ensures bytes { WriteAppends (Some self.old.held) (Some self.new.held) result piece.now }
         ensures cause { HasCause self.old.faults self.new.faults result }
         ensures stuck { result ≡ Ok 0 → 0 < length piece.now → Rose self.old.faults self.new.faults }
+        ensures calm { IfOk result (λ n. (0 < n) ⊎ (length piece.now ≡ 0)
+            → self.new.faults ≡ self.old.faults) }
 
         // It fails at the calls of its script, and else, memory aside, moves as much as it may.
         ensures fails { FailsNow self.old.script → IsErr result }
@@ -167,7 +170,7 @@ impl Sink for MemSink {
             self.faults = self.faults.saturating_add(1);
             return Err(Failed);
         }
-        if count == 0 {
+        if count == 0 && !piece.is_empty() {
             self.faults = self.faults.saturating_add(1);
         }
         Ok(count)

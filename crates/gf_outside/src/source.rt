@@ -35,12 +35,13 @@ pub trait Source {
     ///
     /// # Errors
     ///
-    /// `Failed` only where the count of faults rose; nothing was taken then.
+    /// `Failed` only where the count of faults rose; nothing was taken then. The count rises nowhere else.
     fn read(&mut self, into: &mut [u8]) -> Result<usize, Failed>
         ensures bound { ReadsAtMost result into.new }
         ensures bytes { ReadConsumes (left self.old) (left self.new) result into.new }
         ensures count { CountsMoved (given self.old) (given self.new) result }
-        ensures cause { HasCause (faults self.old) (faults self.new) result };
+        ensures cause { HasCause (faults self.old) (faults self.new) result }
+        ensures calm { OnOk result (faults self.new ≡ faults self.old) };
 }
 
 /// Reads all bytes that are left of `source`, at most `MAX_INPUT`.
@@ -68,10 +69,14 @@ pub fn read_all<S: Source>(alloc: Global, source: &mut S) -> Result<Vec<u8>, Inp
         (S.left source.new) (S.given source.old) (S.given source.new) 67_108_864 }
 
     // A fault has its cause, nothing is opened, and the count never falls.
+    // The count rises by one at a fault, and stands still at every other answer.
     ensures fault { IsErrOf result InputError.ReadFault
         → Rose (S.faults source.old) (S.faults source.new) }
     ensures opens_nothing { IsErrOf result InputError.OpenFault → ⊥ }
     ensures later { S.faults source.old ≤ S.faults source.new }
+    ensures once { S.faults source.new ≤ S.faults source.old + 1 }
+    ensures calm { (IsErrOf result InputError.ReadFault → ⊥)
+        → S.faults source.new ≡ S.faults source.old }
 {
     let mut all = Vec::new(alloc);
     let mut buffer = [0u8; CHUNK];

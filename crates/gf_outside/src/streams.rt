@@ -75,7 +75,7 @@ impl<W: Write> Sink for StdSink<W> {
     fn write(&mut self, piece: &[u8]) -> Result<usize, Failed> {
         match self.writer.write(piece) {
             Ok(count) => {
-                if count == 0 {
+                if count == 0 && !piece.is_empty() {
                     self.faults = self.faults.saturating_add(1);
                 }
                 Ok(count)

@@ -1,6 +1,7 @@
 -- Coefficients of descending lists in n variables, and that such a list is known by its coefficients.
--- To cite: coefficient-above, coefficient-head, coefficient-skip, descending_unique, found_at, skipped_at, not_found_at.
-use Rattle.std.specs.Prelude.{◌≡◌, ◌⊎◌, ℕ, ◌+◌, ◌<◌, ◌≤◌, Bool, true, false, if◌then◌else◌, [], ◌∷◌, length, Contains}
+-- To cite: coefficient-above, coefficient-head, coefficient-skip, term_length, term_nonzero, term_coefficient,
+-- descending_unique, found_at, skipped_at, not_found_at.
+use Rattle.std.specs.Prelude.{◌≡◌, ◌⊎◌, ◌≢◌, ℕ, ◌+◌, ◌<◌, ◌≤◌, Bool, true, false, if◌then◌else◌, [], ◌∷◌, length, Contains}
 use Rattle.std.specs.declared.cmp.Ordering.{Ordering}
 use Rattle.std.specs.declared.cmp.Ordering.TheVariants.{Greater, Less, Equal}
 use Rattle.std.proofs.Common.{arith, refl, sym, ap, subst, ◌∙◌, inl, inr, drop, get_or}
@@ -58,6 +59,18 @@ coefficient-contains n (s ∷ f) t h d c m = elim (Contains-cons f t s c) [
   | inl e ↦ subst (λ (z : Term). coefficient (s ∷ f) z.mono ≡ z.coef) (sym e) (coefficient-head n s f h d.1)
   | inr r ↦ coefficient-skip n s f t.mono h m (IsAbove-contains s.mono f t d.1 r) ∙ coefficient-contains n f t h.1 d.2 r m
 ]
+
+-- ---- a term of a descending list
+pub term_length : (n : ℕ) (f : Terms) (t : Term) → HasVariables n f → Contains f t → length t.mono ≡ n
+term_length n [] t h c = absurd (omega (arith, c.1))
+term_length n (s ∷ f) t h c = elim (Contains-cons f t s c) [ inl e ↦ subst (λ (u : Term). length u.mono ≡ n) (sym e) h.0 | inr k ↦ term_length n f t h.1 k ]
+
+pub term_nonzero : (f : Terms) (t : Term) → IsDescending f → Contains f t → t.coef ≢ zero_ℚ
+term_nonzero [] t h c = absurd (omega (arith, c.1))
+term_nonzero (s ∷ f) t h c = elim (Contains-cons f t s c) [ inl e ↦ subst (λ (u : Term). u.coef ≢ zero_ℚ) (sym e) h.0 | inr k ↦ term_nonzero f t h.2 k ]
+
+pub term_coefficient : (n : ℕ) (f : Terms) (t : Term) → HasVariables n f → IsDescending f → Contains f t → coefficient f t.mono ≡ t.coef
+term_coefficient n f t v d c = coefficient-contains n f t v d c (term_length n f t v c)
 
 -- ---- a search
 -- what is left has the coefficient that is looked for

@@ -19,7 +19,7 @@ use Rattle.gf_poly.specs.declared.error.PolyError.{PolyError}
 use Rattle.gf_poly.specs.declared.error.PolyError.TheVariants as errors
 use Rattle.gf_poly.specs.Polynomial.{Terms, coefficient, SamePolynomial, IsAbove, IsDescending, HasVariables, KeepsVariables}
 use Rattle.gf_poly.specs.Sums.{PushesNonzero}
-use Rattle.gf_poly.specs.Collecting.{like, total, SumsFit, SumsFitFrom, LikeSumsFit, IsLikeSumOverflow, IsLikeSumCause, IsNotBelow, IsOrdered, HasLikeTerms}
+use Rattle.gf_poly.specs.Collecting.{like, sum_of_coefficients, SumsFit, SumsFitFrom, LikeSumsFit, IsLikeSumOverflow, IsLikeSumCause, IsNotBelow, IsOrdered, HasLikeTerms}
 use Rattle.gf_poly.proofs.PolynomialLaws.{coefficient-++}
 use Rattle.gf_poly.proofs.DescendingLaws.{deglex-total, greater_trans, less_greater, never_greater, equal_same, AllAbove, IsDescending-push, HasVariables-push}
 
@@ -76,15 +76,15 @@ above_ordered x y [] h b = tt
 above_ordered x y (t ∷ f) h b = (greater_not_below x y t.mono h b.0, above_ordered x y f h b.1)
 
 -- ---- sums from the left
-total-push : (f : Terms) (t : Term) → total (f ++ t ∷ []) ≡ total f +ℚ t.coef
+total-push : (f : Terms) (t : Term) → sum_of_coefficients (f ++ t ∷ []) ≡ sum_of_coefficients f +ℚ t.coef
 total-push [] t = +ℚ-zero t.coef ∙ sym (zero-+ℚ t.coef)
-total-push (s ∷ f) t = ap (λ z. s.coef +ℚ z) (total-push f t) ∙ sym (+ℚ_assoc s.coef (total f) t.coef)
+total-push (s ∷ f) t = ap (λ z. s.coef +ℚ z) (total-push f t) ∙ sym (+ℚ_assoc s.coef (sum_of_coefficients f) t.coef)
 
-SumsFitFrom-push : (c : Fraction) (f : Terms) (t : Term) → SumsFitFrom c f → FitsAdd (c +ℚ total f) t.coef → SumsFitFrom c (f ++ t ∷ [])
+SumsFitFrom-push : (c : Fraction) (f : Terms) (t : Term) → SumsFitFrom c f → FitsAdd (c +ℚ sum_of_coefficients f) t.coef → SumsFitFrom c (f ++ t ∷ [])
 SumsFitFrom-push c [] t h w = (subst (λ z. FitsAdd z t.coef) (+ℚ-zero c) w, tt)
-SumsFitFrom-push c (s ∷ f) t h w = (h.0, SumsFitFrom-push (c +ℚ s.coef) f t h.1 (subst (λ z. FitsAdd z t.coef) (sym (+ℚ_assoc c s.coef (total f))) w))
+SumsFitFrom-push c (s ∷ f) t h w = (h.0, SumsFitFrom-push (c +ℚ s.coef) f t h.1 (subst (λ z. FitsAdd z t.coef) (sym (+ℚ_assoc c s.coef (sum_of_coefficients f))) w))
 
-SumsFit-push : (f : Terms) (t : Term) → 0 < length f → SumsFit f → FitsAdd (total f) t.coef → SumsFit (f ++ t ∷ [])
+SumsFit-push : (f : Terms) (t : Term) → 0 < length f → SumsFit f → FitsAdd (sum_of_coefficients f) t.coef → SumsFit (f ++ t ∷ [])
 SumsFit-push [] t l h w = absurd (omega arith)
 SumsFit-push (s ∷ f) t l h w = SumsFitFrom-push s.coef f t h w
 
@@ -99,7 +99,7 @@ pub record Collecting (f out : Terms) (x : Exponents) (c : Fraction) (fs : Terms
   pub run : Terms
   pub some : 0 < length run
   pub like_here : like x f ≡ run ++ like x fs
-  pub total_here : total run ≡ c
+  pub total_here : sum_of_coefficients run ≡ c
   pub fit_here : SumsFit run
   pub fit_above : (y : Exponents) → deglex y x ≡ Greater → SumsFit (like y f)
   pub like_below : (y : Exponents) → deglex x y ≡ Greater → like y f ≡ like y fs

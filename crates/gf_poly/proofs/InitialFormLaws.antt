@@ -1,6 +1,6 @@
 -- The terms of one weight, and the initial form as the loop builds it.
 -- To cite: Heaviest, Heaviest-start, heavier_at, as_heavy_at, lighter_at, initial_form_at, descending_at, variables_at,
--- initial_form_unique, and Weighing for the weight of a monomial. The rest are steps.
+-- initial_form_unique. The rest are steps.
 use Rattle.std.specs.Prelude.{◌≡◌, ◌≢◌, ◌⊎◌, ℕ, zero, suc, ◌+◌, ◌*◌, ◌^◌, ◌<◌, ◌≤◌, Bool, true, false, if◌then◌else◌, List, [], ◌∷◌, ◌++◌, length, take, drop, get_or, Contains, ℤ, pos, negsuc, ◌+ℤ◌, ◌*ℤ◌, ◌<ℤ◌, ◌≤ℤ◌, unsigned_abs}
 use Rattle.std.specs.Ordering.{int_eq, int_cmp, MatchOrdering}
 use Rattle.std.specs.declared.cmp.Ordering.{Ordering}
@@ -16,7 +16,7 @@ use Rattle.gf_exponents.specs.Exponents.{Exponents, same, whole_weight}
 use Rattle.gf_exponents.proofs.WholeWeightLaws.{whole_weight-same}
 use Rattle.gf_poly.specs.declared.Term.{Term}
 use Rattle.gf_poly.specs.Polynomial.{Terms, coefficient, SamePolynomial, IsAbove, IsDescending, HasVariables, KeepsVariables}
-use Rattle.gf_poly.specs.InitialForms.{IsHeaviest, IsInitialForm}
+use Rattle.gf_poly.specs.InitialForms.{IsOfGreatestWeight, IsInitialForm}
 use Rattle.gf_poly.proofs.PolynomialLaws.{coefficient-same}
 use Rattle.gf_poly.proofs.DescendingLaws.{Contains-cons, Contains-none}
 use Rattle.gf_poly.proofs.CoefficientLaws.{coefficient-contains}
@@ -79,14 +79,14 @@ IsReached w m [] = ⊥
 IsReached w m (t ∷ f) = (whole_weight w t.mono ≡ m) ⊎ IsReached w m f
 
 -- another monomial adds nothing
-elsewhere : (t : Term) (f : Terms) (x : Exponents) → same x t.mono ≡ false → coefficient (t ∷ f) x ≡ coefficient f x
+pub elsewhere : (t : Term) (f : Terms) (x : Exponents) → same x t.mono ≡ false → coefficient (t ∷ f) x ≡ coefficient f x
 elsewhere t f x h = ap (λ b. (if b then t.coef else zero_ℚ) +ℚ coefficient f x) h ∙ zero-+ℚ _
 
 other_weight : (w : List ℤ) (x y : Exponents) → (whole_weight w x ≡ whole_weight w y → ⊥) → same x y ≡ false
 other_weight w x y n = elim (same_or_not x y) [ inl s ↦ absurd (n (whole_weight-same w x y s)) | inr f ↦ f ]
 
 -- at a monomial of weight m the coefficient is that of f, elsewhere it is 0
-coefficient-on : (w : List ℤ) (m : ℤ) (f : Terms) (x : Exponents) → whole_weight w x ≡ m → coefficient (of_weight w m f) x ≡ coefficient f x
+pub coefficient-on : (w : List ℤ) (m : ℤ) (f : Terms) (x : Exponents) → whole_weight w x ≡ m → coefficient (of_weight w m f) x ≡ coefficient f x
 coefficient-on w m [] x e = refl
 coefficient-on w m (t ∷ f) x e = at (int_eq (whole_weight w t.mono) m) refl (coefficient-on w m f x e)
   where
@@ -94,7 +94,7 @@ coefficient-on w m (t ∷ f) x e = at (int_eq (whole_weight w t.mono) m) refl (c
     at true h r = ap (λ z. (if same x t.mono then t.coef else zero_ℚ) +ℚ z) r
     at false h r = r ∙ sym (elsewhere t f x (other_weight w x t.mono (λ q. unequal (whole_weight w t.mono) m h (sym q ∙ e))))
 
-coefficient-off : (w : List ℤ) (m : ℤ) (f : Terms) (x : Exponents) → (whole_weight w x ≡ m → ⊥) → coefficient (of_weight w m f) x ≡ zero_ℚ
+pub coefficient-off : (w : List ℤ) (m : ℤ) (f : Terms) (x : Exponents) → (whole_weight w x ≡ m → ⊥) → coefficient (of_weight w m f) x ≡ zero_ℚ
 coefficient-off w m [] x n = refl
 coefficient-off w m (t ∷ f) x n = at (int_eq (whole_weight w t.mono) m) refl (coefficient-off w m f x n)
   where
@@ -164,9 +164,9 @@ IsReached-last w m (s ∷ f) t e = inr (IsReached-last w m f t e)
 pub record Heaviest (w : List ℤ) (f out : Terms) (m : ℤ) : Type 0 where
   pub items : out ≡ of_weight w m f
   pub above : AreAtMost w m f
-  pub reached : ((f ≡ []) × (m <ℤ negsuc (2 ^ 98))) ⊎ IsReached w m f
+  pub reached : ((f ≡ []) × (m <ℤ negsuc (2 ^ 101))) ⊎ IsReached w m f
 
-pub Heaviest-start : (w : List ℤ) (f : Terms) (m : ℤ) → m <ℤ negsuc (2 ^ 98) → Heaviest w (take 0 f) [] m
+pub Heaviest-start : (w : List ℤ) (f : Terms) (m : ℤ) → m <ℤ negsuc (2 ^ 101) → Heaviest w (take 0 f) [] m
 Heaviest-start w f m l = record { items = refl; above = tt; reached = inl (refl, l) }
 
 pushed : (f : Terms) (i : ℕ) (t : Term) → i < length f → t ≡ get_or f i t → take (i + 1) f ≡ take i f ++ t ∷ []
@@ -191,7 +191,7 @@ as_heavy_at w f out next i t c m k l h is ec e em el en s =
       reached = inr (IsReached-last w l (take i f) t er);
     })
 
-pub lighter_at : (w : List ℤ) (f out next : Terms) (i : ℕ) (t : Term) (m k l : ℤ) → i < length f → t ≡ get_or f i t → k ≡ whole_weight w t.mono → unsigned_abs k ≤ 2 ^ 98 → k <ℤ m → l ≡ m → next ≡ out →
+pub lighter_at : (w : List ℤ) (f out next : Terms) (i : ℕ) (t : Term) (m k l : ℤ) → i < length f → t ≡ get_or f i t → k ≡ whole_weight w t.mono → unsigned_abs k ≤ 2 ^ 101 → k <ℤ m → l ≡ m → next ≡ out →
     Heaviest w (take i f) out m → Heaviest w (take (i + 1) f) next l
 lighter_at w f out next i t m k l h is e b lt el en s =
     let r : Heaviest w (take i f) out l = subst (Heaviest w (take i f) out) (sym el) s in
@@ -236,7 +236,7 @@ initial n w f m v d a r = record { heaviest = heaviest; lighter = lighter }
     on_or_off x = (coefficient-on w m f x, coefficient-off w m f x)
 
     -- where some monomial of f weighs m
-    top : (f ≡ []) ⊎ IsReached w m f → (x : Exponents) → coefficient f x ≢ zero_ℚ → IsHeaviest w f x → whole_weight w x ≡ m
+    top : (f ≡ []) ⊎ IsReached w m f → (x : Exponents) → coefficient f x ≢ zero_ℚ → IsOfGreatestWeight w f x → whole_weight w x ≡ m
     top (inl e) x c h = absurd (c (ap (λ g. coefficient g x) e))
     top (inr q) x c h = at (reached_by w m f q)
       where
@@ -246,7 +246,7 @@ initial n w f m v d a r = record { heaviest = heaviest; lighter = lighter }
             let l : whole_weight w p.0.mono ≤ℤ whole_weight w x = h p.0.mono (λ z. nonzero-contains f p.0 d p.1 (sym (coefficient-contains n f p.0 v d p.1 k) ∙ z)) in
             omega (arith, ints, weighs w m f x a c, l, p.2)
 
-    heaviest : (x : Exponents) → IsHeaviest w f x → coefficient (of_weight w m f) x ≡ coefficient f x
+    heaviest : (x : Exponents) → IsOfGreatestWeight w f x → coefficient (of_weight w m f) x ≡ coefficient f x
     heaviest x h = elim (zero_or_not (coefficient f x)) [
       | inl z ↦ at (int_eq (whole_weight w x) m) refl z
       | inr c ↦ coefficient-on w m f x (top r x c h)
@@ -276,7 +276,7 @@ variables_at w f out i m h k = let s = whole w f out i m h k in record { at = λ
 -- ---- a polynomial has one initial form
 
 -- a monomial of f is that of one of its terms
-occurs : (f : Terms) (y : Exponents) → coefficient f y ≢ zero_ℚ → (t : Term) × Contains f t × (same y t.mono ≡ true)
+pub occurs : (f : Terms) (y : Exponents) → coefficient f y ≢ zero_ℚ → (t : Term) × Contains f t × (same y t.mono ≡ true)
 occurs [] y n = absurd (n refl)
 occurs (t ∷ f) y n = elim (same_or_not y t.mono) [
   | inl s ↦ (t, (0, omega arith, refl), s)
@@ -302,7 +302,7 @@ heavier_among w f (s ∷ g) x = at (zero_or_not (coefficient f s.mono)) (int_cmp
     at (inr c) Less h (inl r) = inl (λ t k n. elim (Contains-cons g t s k) [ inl e ↦ subst (λ (u : Term). whole_weight w u.mono ≤ℤ whole_weight w x) (sym e) (omega (arith, ints, h)) | inr d ↦ r t d n ])
     at (inr c) Equal h (inl r) = inl (λ t k n. elim (Contains-cons g t s k) [ inl e ↦ subst (λ (u : Term). whole_weight w u.mono ≤ℤ whole_weight w x) (sym e) (omega (arith, ints, h)) | inr d ↦ r t d n ])
 
-heaviest_or_not : (w : List ℤ) (f : Terms) (x : Exponents) → IsHeaviest w f x ⊎ ((y : Exponents) × (coefficient f y ≢ zero_ℚ) × (whole_weight w x <ℤ whole_weight w y))
+heaviest_or_not : (w : List ℤ) (f : Terms) (x : Exponents) → IsOfGreatestWeight w f x ⊎ ((y : Exponents) × (coefficient f y ≢ zero_ℚ) × (whole_weight w x <ℤ whole_weight w y))
 heaviest_or_not w f x = elim (heavier_among w f f x) [ inl r ↦ inl (λ y n. at y n r (occurs f y n)) | inr r ↦ inr r ]
   where
     at : (y : Exponents) → coefficient f y ≢ zero_ℚ → ((t : Term) → Contains f t → coefficient f t.mono ≢ zero_ℚ → whole_weight w t.mono ≤ℤ whole_weight w x) →
@@ -314,17 +314,3 @@ initial_form_unique w f g h a b x = elim (heaviest_or_not w f x) [
   | inl k ↦ a.heaviest x k ∙ sym (b.heaviest x k)
   | inr y ↦ a.lighter x y.0 y.1 y.2 ∙ sym (b.lighter x y.0 y.1 y.2)
 ]
-
--- ---- the weight of a monomial
-
--- what is added so far, and what is left to add
-pub record Weighing (w : List ℤ) (x : Exponents) (i : ℕ) (sum : ℤ) : Type 0 where
-  pub value : sum +ℤ whole_weight (drop i w) (drop i x) ≡ whole_weight w x
-  pub bound : unsigned_abs sum ≤ i * 2 ^ 94
-
-pub Weighing-more : (w : List ℤ) (x : Exponents) (i : ℕ) (sum part next : ℤ) → i < length w → length x ≡ length w → part ≡ get_or w i (pos 0) *ℤ pos (get_or x i 0) → unsigned_abs part ≤ 2 ^ 94 → next ≡ sum +ℤ part →
-    Weighing w x i sum → Weighing w x (i + 1) next
-Weighing-more w x i sum part next h e p b n s =
-    let k : i < length x = omega arith in
-    let r : whole_weight (drop i w) (drop i x) ≡ get_or w i (pos 0) *ℤ pos (get_or x i 0) +ℤ whole_weight (drop (i + 1) w) (drop (i + 1) x) = rw (drop_more w i (pos 0), drop_more x i 0) refl in
-    record { value = omega (arith, ints, s.value, p, n, r); bound = omega (arith, ints, s.bound, b, n) }

@@ -17,7 +17,7 @@ use Rattle.gf_poly.specs.declared.Term.{Term}
 use Rattle.gf_poly.specs.declared.products.Scaling.TheVariants.{Over}
 use Rattle.gf_poly.specs.Polynomial.{Terms, times, times_term, IsDescending, HasVariables}
 use Rattle.gf_poly.specs.Products.{HasProducts, ScalesFit, IsScaleCause}
-use Rattle.gf_poly.specs.Marking.{MarkedPolynomial, HaveVariables, head_of, HasMark, IsMarked, IsMonicOf, IsMonicCause, MarkedPolynomials, IsArranged}
+use Rattle.gf_poly.specs.Marking.{MarkedPolynomial, HaveVariables, head_of, HasMark, HasMarkedTerm, IsMonicOf, IsMonicCause, MarkedPolynomials, IsArranged}
 use Rattle.gf_poly.proofs.DescendingLaws.{Contains-cons, Contains-there, Contains-none}
 use Rattle.gf_poly.proofs.ProductLaws.{IsScaled-products, KeepsVariables-scaled}
 
@@ -103,8 +103,8 @@ coefficient_nonzero f g i t e h is d = subst (λ (z : Term). z.coef ≢ zero_ℚ
 pub head_value : (b : MarkedPolynomial) (f g : Terms) (i : ℕ) (t : Term) → ◌≡◌ {A = MarkedPolynomial} (record { poly = f; head = head_of f i }) b → g ≡ f → i < length f → t ≡ get_or g i t → (get_or g i t).mono ≡ b.head
 head_value b f g i t v e h is = ap (λ (z : Term). z.mono) (sym is) ∙ head_of-at f i t h (is ∙ ap (λ (z : Terms). get_or z i t) e) ∙ ap (λ (z : MarkedPolynomial). z.head) v
 
-pub head_marked : (b : MarkedPolynomial) (f g : Terms) (i : ℕ) (t : Term) → ◌≡◌ {A = MarkedPolynomial} (record { poly = f; head = head_of f i }) b → g ≡ f → i < length f → t ≡ get_or g i t → IsDescending f → IsMarked b
-head_marked b f g i t v e h is d = subst IsMarked v (record { descending = d; mark = t.coef; term = mark_at f i t h (is ∙ ap (λ (z : Terms). get_or z i t) e) })
+pub head_marked : (b : MarkedPolynomial) (f g : Terms) (i : ℕ) (t : Term) → ◌≡◌ {A = MarkedPolynomial} (record { poly = f; head = head_of f i }) b → g ≡ f → i < length f → t ≡ get_or g i t → IsDescending f → HasMarkedTerm b
+head_marked b f g i t v e h is d = subst HasMarkedTerm v (record { descending = d; mark = t.coef; term = mark_at f i t h (is ∙ ap (λ (z : Terms). get_or z i t) e) })
 
 pub monic_value : (b : MarkedPolynomial) (f h : Terms) (i : ℕ) (k : Fraction) → ◌≡◌ {A = MarkedPolynomial} (record { poly = f; head = head_of f i }) b → HasMark b k → k ≢ zero_ℚ → HasProducts (reciprocal_ℚ k) [] f h → ScalesFit Over k f → IsMonicOf b (record { poly = h; head = head_of h i })
 monic_value b f h i k v m n p w = subst (λ z. HasMark z k → IsMonicOf z (record { poly = h; head = head_of h i })) v (λ q. monic_at f h i k q n p w) m

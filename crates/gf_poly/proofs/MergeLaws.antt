@@ -14,7 +14,7 @@ use Rattle.gf_poly.specs.declared.Term.{Term}
 use Rattle.gf_poly.specs.declared.merge.Sign.{Sign}
 use Rattle.gf_poly.specs.declared.merge.Sign.TheVariants.{Plus, Minus}
 use Rattle.gf_poly.specs.Polynomial.{Terms, coefficient, IsAbove, IsDescending, HasVariables}
-use Rattle.gf_poly.specs.Sums.{operation, signed, IsCombined, AreLike, LikeTermsFit, IsLikeOverflow, PushesNonzero}
+use Rattle.gf_poly.specs.Sums.{operation, signed, IsSignedSum, AreLike, LikeTermsFit, IsLikeOverflow, PushesNonzero}
 use Rattle.gf_poly.proofs.PolynomialLaws.{coefficient-++}
 use Rattle.gf_poly.proofs.DescendingLaws.{never_greater, greater_trans, equal_same, Contains-cons, Contains-none, IsAbove-from, IsAbove-contains, AllAbove, AllAbove-rest, AllAbove-push, IsDescending-push, HasVariables-push}
 
@@ -223,7 +223,7 @@ at_both sign f g out new i j s t c x h k is jt m o value w e (inr n) =
 pub ended : (sign : Sign) (f g out : Terms) (i j : ℕ) → length f ≤ i → length g ≤ j → Merging sign f g out (drop i f) (drop j g) → Merging sign f g out [] []
 ended sign f g out i j h k m = subst (λ fs. Merging sign f g out fs []) (drop_all i f h) (subst (λ gs. Merging sign f g out (drop i f) gs) (drop_all j g k) m)
 
-pub at_end : (sign : Sign) (f g out : Terms) → Merging sign f g out [] [] → IsCombined sign f g out
+pub at_end : (sign : Sign) (f g out : Terms) → Merging sign f g out [] [] → IsSignedSum sign f g out
 at_end sign f g out m e = sym (ap (λ z. coefficient out e +ℚ (zero_ℚ +ℚ z)) (signed-zero sign) ∙ ap (λ z. coefficient out e +ℚ z) (+ℚ-zero zero_ℚ) ∙ +ℚ-zero _) ∙ m.sum e
 
 pub fits_at_end : (sign : Sign) (f g out : Terms) → Merging sign f g out [] [] → LikeTermsFit (operation sign) f g

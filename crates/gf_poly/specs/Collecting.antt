@@ -11,7 +11,7 @@ use Rattle.gf_exponents.specs.Exponents.{Exponents}
 use Rattle.gf_exponents.specs.Orders.{deglex}
 use Rattle.gf_poly.specs.declared.Term.{Term}
 use Rattle.gf_poly.specs.declared.error.PolyError.{PolyError}
-use Rattle.gf_poly.specs.declared.error.PolyError.TheVariants as errors
+use Rattle.gf_poly.specs.Refusals.{ByKind}
 use Rattle.gf_poly.specs.Polynomial.{Terms, SamePolynomial, KeepsVariables}
 
 -- the terms of f with the monomial x, in their order
@@ -20,9 +20,9 @@ like x [] = []
 like x (t ∷ f) = cond (is_eq (deglex x t.mono)) (t ∷ like x f) (like x f)
 
 -- the sum of the coefficients
-abbrev pub total : Terms → Fraction
-total [] = zero_ℚ
-total (t ∷ f) = t.coef +ℚ total f
+abbrev pub sum_of_coefficients : Terms → Fraction
+sum_of_coefficients [] = zero_ℚ
+sum_of_coefficients (t ∷ f) = t.coef +ℚ sum_of_coefficients f
 
 -- each sum from c on stays in range
 abbrev pub SumsFitFrom : Fraction → Terms → Type 0
@@ -47,7 +47,7 @@ pub record IsLikeSumOverflow (f : Terms) (o : Overflow) : Type 0 where
   pub later : Terms
   pub some : 0 < length earlier
   pub split : like at f ≡ earlier ++ last ∷ later
-  pub left : o.left ≡ total earlier
+  pub left : o.left ≡ sum_of_coefficients earlier
   pub right : o.right ≡ last.coef
   pub leaves : ¬ (FitsAdd o.left o.right)
   pub before : SumsFit earlier
@@ -55,9 +55,7 @@ pub record IsLikeSumOverflow (f : Terms) (o : Overflow) : Type 0 where
 
 -- why a list of terms is refused
 abbrev pub IsLikeSumCause : Terms → PolyError → Type 0
-IsLikeSumCause f (errors.Overflow o) = IsLikeSumOverflow f o
-IsLikeSumCause f (errors.Exponent o) = ⊥
-IsLikeSumCause f errors.Memory = Unit {0}
+IsLikeSumCause f = ByKind (IsLikeSumOverflow f) (λ o. ⊥)
 
 -- ---- lists in order
 

@@ -1,5 +1,6 @@
 pub mod Monomial  -- what is kept of a monomial, sums of exponents within the limit
 pub mod Polynomial  -- term lists, coefficients, descending lists
+pub mod Refusals  -- why a call is refused, by the kind of the refusal
 pub mod Sums  -- sums and differences, and where they leave the range
 pub mod Products  -- products with a term or a fraction, and where they leave their ranges
 pub mod Collecting  -- sums of like terms from the left

@@ -37,7 +37,7 @@ abbrev pub HasMark : MarkedPolynomial → Fraction → Type 0
 HasMark b c = Contains b.poly (record { coef = c; mono = b.head })
 
 -- a descending list with a term at its marked monomial
-pub record IsMarked (b : MarkedPolynomial) : Type 0 where
+pub record HasMarkedTerm (b : MarkedPolynomial) : Type 0 where
   pub descending : IsDescending b.poly
   pub mark : Fraction
   pub term : HasMark b mark

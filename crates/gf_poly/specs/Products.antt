@@ -10,7 +10,7 @@ use Rattle.gf_exponents.specs.Exponents.{Exponents}
 use Rattle.gf_exponents.specs.Orders.{deglex}
 use Rattle.gf_poly.specs.declared.Term.{Term}
 use Rattle.gf_poly.specs.declared.error.PolyError.{PolyError}
-use Rattle.gf_poly.specs.declared.error.PolyError.TheVariants as errors
+use Rattle.gf_poly.specs.Refusals.{ByKind}
 use Rattle.gf_poly.specs.declared.monomial.ExponentOverflow.{ExponentOverflow}
 use Rattle.gf_poly.specs.declared.products.Scaling.{Scaling}
 use Rattle.gf_poly.specs.declared.products.Scaling.TheVariants.{Times, Over}
@@ -56,9 +56,7 @@ pub record IsProductExponent (c : Fraction) (u : Exponents) (f : Terms) (o : Exp
 
 -- why a product with a term is refused
 abbrev pub IsProductCause : Fraction → Exponents → Terms → PolyError → Type 0
-IsProductCause c u f (errors.Overflow o) = IsProductOverflow c u f o
-IsProductCause c u f (errors.Exponent o) = IsProductExponent c u f o
-IsProductCause c u f errors.Memory = Unit {0}
+IsProductCause c u f = ByKind (IsProductOverflow c u f) (IsProductExponent c u f)
 
 -- ---- with a fraction
 
@@ -90,9 +88,7 @@ pub record IsScaleOverflow (kind : Scaling) (k : Fraction) (f : Terms) (o : Over
 
 -- why a product with a fraction, or a quotient by it, is refused
 abbrev pub IsScaleCause : Scaling → Fraction → Terms → PolyError → Type 0
-IsScaleCause kind k f (errors.Overflow o) = IsScaleOverflow kind k f o
-IsScaleCause kind k f (errors.Exponent o) = ⊥
-IsScaleCause kind k f errors.Memory = Unit {0}
+IsScaleCause kind k f = ByKind (IsScaleOverflow kind k f) (λ o. ⊥)
 
 -- the factor of each coefficient
 abbrev pub factor : Scaling → Fraction → Fraction

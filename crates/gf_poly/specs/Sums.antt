@@ -12,14 +12,14 @@ use Rattle.gf_exponents.specs.Exponents.{Exponents}
 use Rattle.gf_exponents.specs.Orders.{deglex}
 use Rattle.gf_poly.specs.declared.Term.{Term}
 use Rattle.gf_poly.specs.declared.error.PolyError.{PolyError}
-use Rattle.gf_poly.specs.declared.error.PolyError.TheVariants as errors
+use Rattle.gf_poly.specs.Refusals.{ByKind}
 use Rattle.gf_poly.specs.declared.merge.Sign.{Sign}
 use Rattle.gf_poly.specs.declared.merge.Sign.TheVariants.{Plus, Minus}
 use Rattle.gf_poly.specs.Polynomial.{Terms, coefficient}
 
 -- h is the sum of f and g
-abbrev pub IsSum : Terms → Terms → Terms → Type 0
-IsSum f g h = (e : Exponents) → coefficient h e ≡ coefficient f e +ℚ coefficient g e
+abbrev pub IsPolynomialSum : Terms → Terms → Terms → Type 0
+IsPolynomialSum f g h = (e : Exponents) → coefficient h e ≡ coefficient f e +ℚ coefficient g e
 
 -- h is f less g
 abbrev pub IsDifference : Terms → Terms → Terms → Type 0
@@ -45,9 +45,7 @@ pub record IsLikeOverflow (op : Op) (f g : Terms) (o : Overflow) : Type 0 where
 
 -- why a sum or a difference is refused
 abbrev pub IsLikeCause : Op → Terms → Terms → PolyError → Type 0
-IsLikeCause op f g (errors.Overflow o) = IsLikeOverflow op f g o
-IsLikeCause op f g (errors.Exponent o) = ⊥
-IsLikeCause op f g errors.Memory = Unit {0}
+IsLikeCause op f g = ByKind (IsLikeOverflow op f g) (λ o. ⊥)
 
 -- ---- both at once
 
@@ -62,8 +60,8 @@ signed Plus c = c
 signed Minus c = neg_ℚ c
 
 -- h is f and g with this sign
-abbrev pub IsCombined : Sign → Terms → Terms → Terms → Type 0
-IsCombined sign f g h = (e : Exponents) → coefficient h e ≡ coefficient f e +ℚ signed sign (coefficient g e)
+abbrev pub IsSignedSum : Sign → Terms → Terms → Terms → Type 0
+IsSignedSum sign f g h = (e : Exponents) → coefficient h e ≡ coefficient f e +ℚ signed sign (coefficient g e)
 
 -- t is added at the end, unless it is zero
 abbrev pub PushesNonzero : Terms → Terms → Term → Type 0

@@ -2,7 +2,7 @@
 
 ghost use Rattle.std.specs.Prelude.{◌≡◌, ◌≢◌, ◌<◌, length, IfOk, IfErr};
 ghost use Rattle.gf_frac.specs.Fraction.{zero_ℚ};
-ghost use Rattle.gf_poly.specs.Marking.{head_of, HasMark, IsMarked, IsMonicOf, IsMonicCause};
+ghost use Rattle.gf_poly.specs.Marking.{head_of, HasMark, HasMarkedTerm, IsMonicOf, IsMonicCause};
 
 use super::error::PolyError;
 use super::monomial::Mono;
@@ -56,7 +56,7 @@ impl Marked {
     /// The marked monomial.
     pub fn head(&self) -> &Mono
         ensures value { result.now ≡ self.now.head }
-        ensures marked { IsMarked self.now }
+        ensures marked { HasMarkedTerm self.now }
     {
         &self.poly.terms()[self.index].mono
     }

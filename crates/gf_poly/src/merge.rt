@@ -4,7 +4,7 @@ ghost use Rattle.std.specs.Prelude.{◌≡◌, ◌↔◌, ℕ, IfOk, IfErr, IsOk
 ghost use Rattle.gf_frac.specs.Fraction.{◌+ℚ◌};
 ghost use Rattle.gf_frac.specs.Fits.{Fits};
 ghost use Rattle.gf_poly.specs.Polynomial.{IsDescending, KeepsBothVariables};
-ghost use Rattle.gf_poly.specs.Sums.{operation, signed, IsCombined, LikeTermsFit, IsLikeCause, PushesNonzero};
+ghost use Rattle.gf_poly.specs.Sums.{operation, signed, IsSignedSum, LikeTermsFit, IsLikeCause, PushesNonzero};
 ghost use Rattle.gf_poly.specs.declared.error.PolyError.TheVariants.{Memory};
 
 use super::Term;
@@ -69,7 +69,7 @@ pub fn push_nonzero(out: &mut Vec<Term>, coef: Frac, mono: Mono) -> Result<(), P
 pub fn merged(alloc: Global, f: &[Term], g: &[Term], sign: Sign) -> Result<Vec<Term>, PolyError>
     requires left { IsDescending f.now }
     requires right { IsDescending g.now }
-    ensures value { IfOk result (λ h. IsCombined sign f.now g.now h.items) }
+    ensures value { IfOk result (λ h. IsSignedSum sign f.now g.now h.items) }
     ensures descending { IfOk result (λ h. IsDescending h.items) }
     ensures variables { IfOk result (λ h. KeepsBothVariables f.now g.now h.items) }
     ensures fits { IfOk result (λ h. LikeTermsFit (operation sign) f.now g.now) }

@@ -7,7 +7,7 @@ ghost use Rattle.gf_poly.specs.declared.products.Scaling.TheVariants.{Times, Ove
 ghost use Rattle.gf_poly.specs.Polynomial.{coefficient, times, SamePolynomial, IsDescending, HasVariables, KeepsVariables, KeepsBothVariables};
 ghost use Rattle.gf_poly.specs.Collecting.{LikeSumsFit, IsLikeSumCause};
 ghost use Rattle.gf_poly.specs.Products.{HasProducts, IsScaled, IsScaleCause, ScalesFit, IsProductCause, ProductsFit};
-ghost use Rattle.gf_poly.specs.Sums.{IsSum, IsDifference, LikeTermsFit, IsLikeCause};
+ghost use Rattle.gf_poly.specs.Sums.{IsPolynomialSum, IsDifference, LikeTermsFit, IsLikeCause};
 
 mod initial_form;
 
@@ -164,7 +164,7 @@ impl Poly {
     /// `Overflow` exactly where the sum of two coefficients of one monomial leaves its range; it holds the two of the
     /// greatest such monomial.
     pub fn add(&self, other: &Poly) -> Result<Poly, PolyError>
-        ensures sum { IfOk result (IsSum self.now other.now) }
+        ensures sum { IfOk result (IsPolynomialSum self.now other.now) }
         ensures descending { IfOk result IsDescending }
         ensures variables { IfOk result (KeepsBothVariables self.now other.now) }
         ensures fits { IfOk result (λ h. LikeTermsFit Add self.now other.now) }

@@ -60,12 +60,14 @@ fn lists(p: &Poly, expected: &[(i128, i128, [u32; 3])]) -> bool {
     true
 }
 
-// Whether the refusal is that of a sum of these two whole numbers.
-fn names_sum(e: PolyError, left: i128, right: i128) -> bool {
-    match e {
-        PolyError::Overflow(o) => o.op == Op::Add
-            && o.left.numer() == left
-            && o.right.numer() == right,
+// Whether this is the refusal of an operation on these two fractions; a product's may come in either order.
+fn names(refusal: Option<PolyError>, op: Op, left: Frac, right: Frac) -> bool {
+    match refusal {
+        Some(PolyError::Overflow(o)) => {
+            let given = o.left == left && o.right == right;
+            let turned = op == Op::Mul && o.left == right && o.right == left;
+            o.op == op && (given || turned)
+        }
         _ => false,
     }
 }
@@ -256,9 +258,38 @@ fn wide_coefficients(rt: HostRuntime) -> Result<(), Fail> {
         term(alloc, -1, 1, 0, 0),
         term(alloc, 2, 1, 0, 0),
     ]?;
-    let refused = match Poly::from_terms(terms).err() {
-        Some(e) => names_sum(e, i128::MAX - 1, 2),
-        None => false,
+    let sum = Poly::from_terms(terms);
+    assert!(rt;
+        names(
+            sum.err(),
+            Op::Add,
+            Frac::new(i128::MAX - 1, 1),
+            Frac::new(2, 1)
+        )
+    );
+    Ok(())
+}
+
+// by hand: with M = 2^127 - 1, M*a - b less -a, half of which as divisor, twice it, and it times a^(2^31 - 1)
+#[test]
+fn refused_operations(rt: HostRuntime) -> Result<(), Fail> {
+    let alloc = rt.alloc();
+    let most = Frac::new(i128::MAX, 1);
+    let half = Frac::new(1, 2);
+    let mut wide = term(alloc, 1, 1, 0, 0);
+    wide.coef = most;
+    let sum = two(wide, term(alloc, -1, 0, 1, 0), alloc)?;
+    let less = two(term(alloc, -1, 1, 0, 0), term(alloc, 0, 0, 1, 0), alloc)?;
+    assert!(rt; names(sum.sub(&less).err(), Op::Sub, most, Frac::new(-1, 1)));
+    assert!(rt; !half.is_zero() && names(sum.divided(&half).err(), Op::Div, most, half));
+    let two = Frac::new(2, 1);
+    assert!(rt; names(sum.scale(two).err(), Op::Mul, most, two));
+    let product = sum.mul_term(two, &Mono::one(alloc, 3));
+    assert!(rt; names(product.err(), Op::Mul, most, two));
+    let refused = match sum.mul_term(Frac::new(1, 1), &Mono::new(alloc, &[MOST, 0, 0])) {
+        Err(PolyError::Exponent(o)) => o.left == u64::from(MOST) && o.right == 1
+            || o.left == 1 && o.right == u64::from(MOST),
+        _ => false,
     };
     assert!(rt; refused);
     Ok(())

@@ -23,10 +23,9 @@ use Rattle.gf_poly.proofs.DescendingLaws.{equal_same, Contains-cons, Contains-no
 use Rattle.gf_text.specs.declared.written.Written.{Written}
 use Rattle.gf_text.specs.declared.written.Written.TheVariants as written
 use Rattle.gf_text.specs.PrintedText.{is_below_zero}
-use Rattle.gf_text.specs.Combining.{raised, then_factors, times_factors, signed, exponents_of, coefficient_of, with_coefficient, term_of, terms_of, sums_of, before_all, IsSumMarked, NoneRemains}
-use Rattle.gf_text.specs.Sets.{AreWritten, SumsFit as AllSumsFit}
-use Rattle.gf_text.specs.WrittenText.{IsKept, IsWrittenKept, AreWrittenKept}
-use Rattle.gf_text.proofs.DescendingSumsLaws.{one_fits}
+use Rattle.gf_text.specs.Combining.{raised_by, then_factors, times_factors, signed_fraction, exponents_of, coefficient_of, with_coefficient, term_written, terms_written, sums_of, before_all, IsSumMarked, NoneRemains}
+use Rattle.gf_text.specs.Sets.{AreWritten, AllSumsFit}
+use Rattle.gf_text.specs.WrittenText.{IsKeptMarked, IsWrittenKept, AreWrittenKept}
 use Rattle.gf_text.proofs.PrintedTermsLaws.{AreSmall, factors_from, term_said}
 use Rattle.gf_text.proofs.PrintedPolynomialsLaws.{IsFine, AreFine, all_fine, fine_at, head_term, head_is, others_said, said, all_said}
 
@@ -40,7 +39,7 @@ set_behind : (done : List ℕ) (a b : ℕ) (rest : List ℕ) → slice_set (done
 set_behind [] a b rest = refl
 set_behind (d ∷ done) a b rest = ap (λ l. d ∷ l) (set_behind done a b rest)
 
-raised_once : (done : List ℕ) (e : ℕ) (rest : List ℕ) → e < 2 ^ 31 → raised (done ++ 0 ∷ rest) (record { variable = length done; exponent = e }) ≡ Ok (done ++ e ∷ rest)
+raised_once : (done : List ℕ) (e : ℕ) (rest : List ℕ) → e < 2 ^ 31 → raised_by (done ++ 0 ∷ rest) (record { variable = length done; exponent = e }) ≡ Ok (done ++ e ∷ rest)
 raised_once done e rest small =
     let here = index_behind done 0 rest in
     let within : nat_lt (slice_index (done ++ 0 ∷ rest) (length done) + e) (2 ^ 31) ≡ true = grind (arith, nat_tests) in
@@ -69,14 +68,14 @@ factors_again done (e ∷ es) small =
 exponents_again : (n : ℕ) (c : Fraction) (es : List ℕ) → length es ≡ n → AreSmall es → exponents_of n (term_said c es) ≡ Ok es
 exponents_again n c es same small = ap (λ k. times_factors (replicate k 0) (factors_from 0 es)) (sym same) ∙ factors_again [] es small
 
-coefficient_again : (c : Fraction) → signed (is_below_zero c.num) (over (pos (unsigned_abs c.num)) (c.den - 1)) ≡ c
+coefficient_again : (c : Fraction) → signed_fraction (is_below_zero c.num) (over (pos (unsigned_abs c.num)) (c.den - 1)) ≡ c
 coefficient_again c = by c.num refl
   where
-    by : (z : ℤ) → c.num ≡ z → signed (is_below_zero z) (over (pos (unsigned_abs z)) (c.den - 1)) ≡ c
+    by : (z : ℤ) → c.num ≡ z → signed_fraction (is_below_zero z) (over (pos (unsigned_abs z)) (c.den - 1)) ≡ c
     by (pos a) is = ap (λ z. over z (c.den - 1)) (sym is) ∙ over-parts c
     by (negsuc a) is = over-neg (pos (suc a)) (c.den - 1) ∙ ap (λ z. over z (c.den - 1)) (sym is) ∙ over-parts c
 
-term_again : (n : ℕ) (t : Term) → IsFine n t → term_of n (term_said t.coef t.mono) ≡ Ok t
+term_again : (n : ℕ) (t : Term) → IsFine n t → term_written n (term_said t.coef t.mono) ≡ Ok t
 term_again n t fine =
     ap (with_coefficient (coefficient_of (term_said t.coef t.mono))) (exponents_again n t.coef t.mono fine.variables fine.exponents)
     ∙ ap (λ (c : Fraction). Ok (record { coef = c; mono = t.mono })) (coefficient_again t.coef)
@@ -95,21 +94,21 @@ abbrev pub all_listed : ℕ → List Written → List Terms
 all_listed n [] = []
 all_listed n (w ∷ ws) = listed n w ∷ all_listed n ws
 
-others_listed : (n : ℕ) (head : Exponents) (f : Terms) → AreFine n f → terms_of n (others_said head f) ≡ Ok (others head f)
+others_listed : (n : ℕ) (head : Exponents) (f : Terms) → AreFine n f → terms_written n (others_said head f) ≡ Ok (others head f)
 others_listed n head [] fine = refl
 others_listed n head (t ∷ f) fine = by (bytes_eq t.mono head) (others_listed n head f fine.1)
   where
-    by : (v : Bool) → terms_of n (others_said head f) ≡ Ok (others head f) → terms_of n (if v then others_said head f else term_said t.coef t.mono ∷ others_said head f) ≡ Ok (if v then others head f else t ∷ others head f)
+    by : (v : Bool) → terms_written n (others_said head f) ≡ Ok (others head f) → terms_written n (if v then others_said head f else term_said t.coef t.mono ∷ others_said head f) ≡ Ok (if v then others head f else t ∷ others head f)
     by true later = later
-    by false later = ap (λ r. before_all r (terms_of n (others_said head f))) (term_again n t fine.0) ∙ ap (before_all (Ok t)) later
+    by false later = ap (λ r. before_all r (terms_written n (others_said head f))) (term_again n t fine.0) ∙ ap (before_all (Ok t)) later
 
-terms_listed : (n : ℕ) (w : Written) → IsWrittenKept n w → terms_of n (said w) ≡ Ok (listed n w)
+terms_listed : (n : ℕ) (w : Written) → IsWrittenKept n w → terms_written n (said w) ≡ Ok (listed n w)
 terms_listed n written.Zero kept = refl
 terms_listed n (written.Nonzero m) kept =
     let all = all_fine n m.poly kept.variables kept.range in
     let head = head_term m in
     let fine = fine_at n m.poly head all (head_is n m kept) in
-    ap (λ r. before_all r (terms_of n (others_said m.head m.poly))) (term_again n head fine) ∙ ap (before_all (Ok head)) (others_listed n m.head m.poly all)
+    ap (λ r. before_all r (terms_written n (others_said m.head m.poly))) (term_again n head fine) ∙ ap (before_all (Ok head)) (others_listed n m.head m.poly all)
 
 pub sums_listed : (n : ℕ) (ws : List Written) → AreWrittenKept n ws → sums_of n (all_said ws) ≡ Ok (all_listed n ws)
 sums_listed n [] kept = refl
@@ -161,6 +160,13 @@ listed-short x t f descending = by (deglex x t.mono) refl
     by Less is = few
     by Greater is = few
     by Equal is = let none : length (like x (others t.mono f)) ≡ 0 = ap (λ y. length (like y (others t.mono f))) (equal_same x t.mono is) ∙ like-none t.mono f in omega arith
+
+one_fits : (t : Term) → LikeSumsFit (t ∷ [])
+one_fits t = record { at = λ x. short_fits (like x (t ∷ [])) (by (is_eq (deglex x t.mono))) }
+  where
+    by : (v : Bool) → length (cond v (t ∷ []) []) ≤ 1
+    by true = omega arith
+    by false = omega arith
 
 listed_fits : (n : ℕ) (w : Written) → IsWrittenKept n w → LikeSumsFit (listed n w)
 listed_fits n written.Zero kept = one_fits (record { coef = zero_ℚ; mono = replicate n 0 })
@@ -218,7 +224,7 @@ taken_apart n head (t ∷ f) e same_length variables = by (bytes_eq t.mono head)
     by true is later = at_head ((bytes_eq-Decides t.mono head).0 is) later
     by false is later = elsewhere (λ k. (let yes : bytes_eq t.mono head ≡ true = (bytes_eq-Decides t.mono head).1 k in cc)) later
 
-listed_sum : (n : ℕ) (m : MarkedPolynomial) → IsKept n m → length m.head ≡ n → SamePolynomial m.poly (listed n (written.Nonzero m))
+listed_sum : (n : ℕ) (m : MarkedPolynomial) → IsKeptMarked n m → length m.head ≡ n → SamePolynomial m.poly (listed n (written.Nonzero m))
 unfolding part
 listed_sum n m kept same_length = λ e. taken_apart n m.head m.poly e same_length kept.variables
 
@@ -229,7 +235,7 @@ nonzero_contained (s ∷ f) t descending h = elim (Contains-cons f t s h) [
   | inr there ↦ nonzero_contained f t descending.2 there
 ]
 
-listed_marked : (n : ℕ) (m : MarkedPolynomial) → IsKept n m → IsSumMarked (listed n (written.Nonzero m)) m
+listed_marked : (n : ℕ) (m : MarkedPolynomial) → IsKeptMarked n m → IsSumMarked (listed n (written.Nonzero m)) m
 listed_marked n m kept =
     let head = head_term m in
     let stands = head_is n m kept in

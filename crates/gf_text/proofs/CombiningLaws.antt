@@ -23,17 +23,17 @@ use Rattle.gf_poly.proofs.CoefficientLaws.{apart, coefficient-contains}
 use Rattle.gf_poly.proofs.DescendingLaws.{equal_same, deglex-total, greater_trans, never_greater}
 use Rattle.gf_text.specs.declared.tree.Factor.{Factor}
 use Rattle.gf_text.specs.declared.tree.WrittenTerm.{WrittenTerm}
-use Rattle.gf_text.specs.Combining.{raised, then_factors, times_factors, exponents_of, coefficient_of, term_of, terms_of, sums_of, ExponentsFit, HaveVariables, before_all, with_coefficient, IsPlaceOf, IsFirstRemainingAt, FindsFirst, IsSumOf}
+use Rattle.gf_text.specs.Combining.{raised_by, then_factors, times_factors, exponents_of, coefficient_of, term_written, terms_written, sums_of, ExponentsFit, SumsHaveVariables, before_all, with_coefficient, IsPlaceOf, IsFirstRemainingAt, FindsFirst, IsSumOf}
 
 -- ---- powers, one after another
 
-factors_at : (x : Exponents) (fs : List Factor) (i : ℕ) (d : Factor) → i < length fs → times_factors x (drop i fs) ≡ then_factors (raised x (get_or fs i d)) (λ y. times_factors y (drop (i + 1) fs))
+factors_at : (x : Exponents) (fs : List Factor) (i : ℕ) (d : Factor) → i < length fs → times_factors x (drop i fs) ≡ then_factors (raised_by x (get_or fs i d)) (λ y. times_factors y (drop (i + 1) fs))
 factors_at x fs i d h = let front : drop i fs ≡ get_or fs i d ∷ drop (i + 1) fs = rw add-one (drop-cons fs i d h) in ap (times_factors x) front
 
-pub factors_on : (x y : Exponents) (fs : List Factor) (i : ℕ) (d : Factor) → i < length fs → raised x (get_or fs i d) ≡ Ok y → times_factors x (drop i fs) ≡ times_factors y (drop (i + 1) fs)
+pub factors_on : (x y : Exponents) (fs : List Factor) (i : ℕ) (d : Factor) → i < length fs → raised_by x (get_or fs i d) ≡ Ok y → times_factors x (drop i fs) ≡ times_factors y (drop (i + 1) fs)
 factors_on x y fs i d h e = factors_at x fs i d h ∙ ap (λ r. then_factors r (λ z. times_factors z (drop (i + 1) fs))) e
 
-pub factors_refused : (x : Exponents) (o : ExponentOverflow) (fs : List Factor) (i : ℕ) (d : Factor) → i < length fs → raised x (get_or fs i d) ≡ Err o → times_factors x (drop i fs) ≡ Err o
+pub factors_refused : (x : Exponents) (o : ExponentOverflow) (fs : List Factor) (i : ℕ) (d : Factor) → i < length fs → raised_by x (get_or fs i d) ≡ Err o → times_factors x (drop i fs) ≡ Err o
 factors_refused x o fs i d h e = factors_at x fs i d h ∙ ap (λ r. then_factors r (λ z. times_factors z (drop (i + 1) fs))) e
 
 pub factors_end : (x : Exponents) (fs : List Factor) (i : ℕ) → length fs ≤ i → times_factors x (drop i fs) ≡ Ok x
@@ -54,40 +54,40 @@ pub onto_nothing : {A : Type 0} (r : Result (List A) ExponentOverflow) → onto 
 onto_nothing (Ok ys) = refl
 onto_nothing (Err o) = refl
 
-terms_at : (n : ℕ) (us : List WrittenTerm) (i : ℕ) (d : WrittenTerm) → i < length us → terms_of n (drop i us) ≡ before_all (term_of n (get_or us i d)) (terms_of n (drop (i + 1) us))
-terms_at n us i d h = let front : drop i us ≡ get_or us i d ∷ drop (i + 1) us = rw add-one (drop-cons us i d h) in ap (terms_of n) front
+terms_at : (n : ℕ) (us : List WrittenTerm) (i : ℕ) (d : WrittenTerm) → i < length us → terms_written n (drop i us) ≡ before_all (term_written n (get_or us i d)) (terms_written n (drop (i + 1) us))
+terms_at n us i d h = let front : drop i us ≡ get_or us i d ∷ drop (i + 1) us = rw add-one (drop-cons us i d h) in ap (terms_written n) front
 
-pub terms_on : (n : ℕ) (out : Terms) (t : Term) (us : List WrittenTerm) (i : ℕ) (d : WrittenTerm) → i < length us → term_of n (get_or us i d) ≡ Ok t
-    → onto out (terms_of n (drop i us)) ≡ onto (out ++ t ∷ []) (terms_of n (drop (i + 1) us))
+pub terms_on : (n : ℕ) (out : Terms) (t : Term) (us : List WrittenTerm) (i : ℕ) (d : WrittenTerm) → i < length us → term_written n (get_or us i d) ≡ Ok t
+    → onto out (terms_written n (drop i us)) ≡ onto (out ++ t ∷ []) (terms_written n (drop (i + 1) us))
 terms_on n out t us i d h e =
-    ap (onto out) (terms_at n us i d h ∙ ap (λ r. before_all r (terms_of n (drop (i + 1) us))) e) ∙ onto_next out t (terms_of n (drop (i + 1) us))
+    ap (onto out) (terms_at n us i d h ∙ ap (λ r. before_all r (terms_written n (drop (i + 1) us))) e) ∙ onto_next out t (terms_written n (drop (i + 1) us))
 
-pub terms_refused : (n : ℕ) (out : Terms) (o : ExponentOverflow) (us : List WrittenTerm) (i : ℕ) (d : WrittenTerm) → i < length us → term_of n (get_or us i d) ≡ Err o → onto out (terms_of n (drop i us)) ≡ Err o
-terms_refused n out o us i d h e = ap (onto out) (terms_at n us i d h ∙ ap (λ r. before_all r (terms_of n (drop (i + 1) us))) e)
+pub terms_refused : (n : ℕ) (out : Terms) (o : ExponentOverflow) (us : List WrittenTerm) (i : ℕ) (d : WrittenTerm) → i < length us → term_written n (get_or us i d) ≡ Err o → onto out (terms_written n (drop i us)) ≡ Err o
+terms_refused n out o us i d h e = ap (onto out) (terms_at n us i d h ∙ ap (λ r. before_all r (terms_written n (drop (i + 1) us))) e)
 
-pub terms_end : (n : ℕ) (out : Terms) (us : List WrittenTerm) (i : ℕ) → length us ≤ i → onto out (terms_of n (drop i us)) ≡ Ok out
-terms_end n out us i h = ap (λ l. onto out (terms_of n l)) (drop_all i us h) ∙ ap (λ l. Ok l) (append-nil out)
+pub terms_end : (n : ℕ) (out : Terms) (us : List WrittenTerm) (i : ℕ) → length us ≤ i → onto out (terms_written n (drop i us)) ≡ Ok out
+terms_end n out us i h = ap (λ l. onto out (terms_written n l)) (drop_all i us h) ∙ ap (λ l. Ok l) (append-nil out)
 
 -- the first i terms, none of which is refused
 pub record Taken (n : ℕ) (us : List WrittenTerm) (i : ℕ) : Type 0 where
   pub terms : Terms
-  pub all : onto terms (terms_of n (drop i us)) ≡ terms_of n us
+  pub all : onto terms (terms_written n (drop i us)) ≡ terms_written n us
 
-pub said_term : (n : ℕ) (u : WrittenTerm) (x : Exponents) → exponents_of n u ≡ Ok x → term_of n u ≡ Ok (record { coef = coefficient_of u; mono = x })
+pub said_term : (n : ℕ) (u : WrittenTerm) (x : Exponents) → exponents_of n u ≡ Ok x → term_written n u ≡ Ok (record { coef = coefficient_of u; mono = x })
 said_term n u x e = ap (with_coefficient (coefficient_of u)) e
 
-refused_term : (n : ℕ) (u : WrittenTerm) (o : ExponentOverflow) → exponents_of n u ≡ Err o → term_of n u ≡ Err o
+refused_term : (n : ℕ) (u : WrittenTerm) (o : ExponentOverflow) → exponents_of n u ≡ Err o → term_written n u ≡ Err o
 refused_term n u o e = ap (with_coefficient (coefficient_of u)) e
 
 abbrev pub taken_none : (n : ℕ) (us : List WrittenTerm) → Taken n us 0
-taken_none n us = record { terms = []; all = onto_nothing (terms_of n us) }
+taken_none n us = record { terms = []; all = onto_nothing (terms_written n us) }
 
 abbrev pub taken_on : (n : ℕ) (us : List WrittenTerm) (i : ℕ) (d : WrittenTerm) (x : Exponents) → i < length us → exponents_of n (get_or us i d) ≡ Ok x → Taken n us i → Taken n us (i + 1)
 taken_on n us i d x h e t =
     let next : Term = record { coef = coefficient_of (get_or us i d); mono = x } in
     record { terms = t.terms ++ next ∷ []; all = sym (terms_on n t.terms next us i d h (said_term n (get_or us i d) x e)) ∙ t.all }
 
-pub taken_refused : (n : ℕ) (us : List WrittenTerm) (i : ℕ) (d : WrittenTerm) (o : ExponentOverflow) → i < length us → exponents_of n (get_or us i d) ≡ Err o → Taken n us i → terms_of n us ≡ Err o
+pub taken_refused : (n : ℕ) (us : List WrittenTerm) (i : ℕ) (d : WrittenTerm) (o : ExponentOverflow) → i < length us → exponents_of n (get_or us i d) ≡ Err o → Taken n us i → terms_written n us ≡ Err o
 taken_refused n us i d o h e t = sym t.all ∙ terms_refused n t.terms o us i d h (refused_term n (get_or us i d) o e)
 
 pub taken_all : (n : ℕ) (us : List WrittenTerm) (i : ℕ) → length us ≤ i → Taken n us i → ExponentsFit n us
@@ -249,15 +249,15 @@ found_by g f F t place (Ok others) e same vanish found =
 pub passed_found : (n : ℕ) (us : List WrittenTerm) (g : Terms) (i : ℕ) (d : WrittenTerm) (x : Exponents) (place : ℕ) → i < length us → exponents_of n (get_or us i d) ≡ Ok x → IsSumOf n us g → IsPlaceOf g x place → Passed n us g i → FindsFirst n us g (Some place)
 passed_found n us g i d x place h e sum found p = λ F all.
     let next : Term = record { coef = coefficient_of (get_or us i d); mono = x } in
-    let rest = terms_of n (drop (i + 1) us) in
-    let start : terms_of n (drop i us) ≡ before_all (Ok next) rest = terms_at n us i d h ∙ ap (λ r. before_all r rest) (said_term n (get_or us i d) x e) in
+    let rest = terms_written n (drop (i + 1) us) in
+    let start : terms_written n (drop i us) ≡ before_all (Ok next) rest = terms_at n us i d h ∙ ap (λ r. before_all r rest) (said_term n (get_or us i d) x e) in
     let whole : onto p.taken.terms (before_all (Ok next) rest) ≡ Ok F = ap (onto p.taken.terms) (sym start) ∙ p.taken.all ∙ all in
     found_by g p.taken.terms F next place rest whole (sum F all) p.vanish found
 
 pub passed_end : (n : ℕ) (us : List WrittenTerm) (g : Terms) (i : ℕ) → length us ≤ i → IsSumOf n us g → Passed n us g i → FindsFirst n us g None
 passed_end n us g i h sum p = λ F all.
     let f = p.taken.terms in
-    let got : terms_of n us ≡ Ok f = sym p.taken.all ∙ terms_end n f us i h in
+    let got : terms_written n us ≡ Ok f = sym p.taken.all ∙ terms_end n f us i h in
     let whole : f ≡ F = cc in
     λ k. same_zero F g k (sum F all) (subst (λ l. IfSome (slice_get l k) (λ s. coefficient g s.mono ≡ zero_ℚ)) whole (none_left g f k p.vanish))
   where
@@ -274,7 +274,7 @@ within_by (s ∷ f) zero t e = omega arith
 within_by (s ∷ f) (suc i) t e = let h = within_by f i t e in omega arith
 
 -- terms that are written have a ring's variables
-raised_length : (x y : Exponents) (f : Factor) → raised x f ≡ Ok y → length y ≡ length x
+raised_length : (x y : Exponents) (f : Factor) → raised_by x f ≡ Ok y → length y ≡ length x
 raised_length x y f e = by (nat_lt (slice_index x f.variable + f.exponent) (2 ^ 31)) (record { left = slice_index x f.variable; right = f.exponent }) e
   where
     by : (b : Bool) (o : ExponentOverflow) → (if b then Ok (slice_set x f.variable (slice_index x f.variable + f.exponent)) else Err o) ≡ Ok y → length y ≡ length x
@@ -283,16 +283,16 @@ raised_length x y f e = by (nat_lt (slice_index x f.variable + f.exponent) (2 ^ 
 
 times_length : (fs : List Factor) (x y : Exponents) → times_factors x fs ≡ Ok y → length y ≡ length x
 times_length [] x y e = let is : x ≡ y = cc in ap length (sym is)
-times_length (f ∷ fs) x y e = by (λ z h. times_length fs z y h) (raised x f) refl e
+times_length (f ∷ fs) x y e = by (λ z h. times_length fs z y h) (raised_by x f) refl e
   where
-    by : ((z : Exponents) → times_factors z fs ≡ Ok y → length y ≡ length z) → (r : Result Exponents ExponentOverflow) → raised x f ≡ r → then_factors r (λ z. times_factors z fs) ≡ Ok y → length y ≡ length x
+    by : ((z : Exponents) → times_factors z fs ≡ Ok y → length y ≡ length z) → (r : Result Exponents ExponentOverflow) → raised_by x f ≡ r → then_factors r (λ z. times_factors z fs) ≡ Ok y → length y ≡ length x
     by later (Ok z) is h = later z h ∙ raised_length x z f is
     by later (Err o) is h = cc
 
 pub exponents_length : (n : ℕ) (u : WrittenTerm) (x : Exponents) → exponents_of n u ≡ Ok x → length x ≡ n
 exponents_length n u x e = times_length u.factors (replicate n 0) x e ∙ length-replicate n 0
 
-term_length : (n : ℕ) (u : WrittenTerm) (t : Term) → term_of n u ≡ Ok t → length t.mono ≡ n
+term_length : (n : ℕ) (u : WrittenTerm) (t : Term) → term_written n u ≡ Ok t → length t.mono ≡ n
 term_length n u t e = by (exponents_of n u) refl e
   where
     by : (r : Result Exponents ExponentOverflow) → exponents_of n u ≡ r → with_coefficient (coefficient_of u) r ≡ Ok t → length t.mono ≡ n
@@ -301,11 +301,11 @@ term_length n u t e = by (exponents_of n u) refl e
         ap (λ (s : Term). length s.mono) (sym same) ∙ exponents_length n u x is
     by (Err o) is h = cc
 
-pub terms_variables : (n : ℕ) (us : List WrittenTerm) (ts : Terms) → terms_of n us ≡ Ok ts → HasVariables n ts
+pub terms_variables : (n : ℕ) (us : List WrittenTerm) (ts : Terms) → terms_written n us ≡ Ok ts → HasVariables n ts
 terms_variables n [] ts e = let none : [] ≡ ts = cc in subst (HasVariables n) none tt
-terms_variables n (u ∷ us) ts e = by (term_of n u) (terms_of n us) refl refl (terms_variables n us) e
+terms_variables n (u ∷ us) ts e = by (term_written n u) (terms_written n us) refl refl (terms_variables n us) e
   where
-    by : (r : Result Term ExponentOverflow) (rs : Result Terms ExponentOverflow) → term_of n u ≡ r → terms_of n us ≡ rs → ((xs : Terms) → terms_of n us ≡ Ok xs → HasVariables n xs) → before_all r rs ≡ Ok ts → HasVariables n ts
+    by : (r : Result Term ExponentOverflow) (rs : Result Terms ExponentOverflow) → term_written n u ≡ r → terms_written n us ≡ rs → ((xs : Terms) → terms_written n us ≡ Ok xs → HasVariables n xs) → before_all r rs ≡ Ok ts → HasVariables n ts
     by (Ok t) (Ok xs) is are later h = let same : t ∷ xs ≡ ts = cc in subst (HasVariables n) same (term_length n u t is, later xs are)
     by (Ok t) (Err o) is are later h = cc
     by (Err o) rs is are later h = cc
@@ -318,13 +318,13 @@ behind_all (Ok fs) (Err o) = Err o
 behind_all (Err o) r = Err o
 
 -- the last of polynomials
-sums_push : (n : ℕ) (qs : List (List WrittenTerm)) (us : List WrittenTerm) → sums_of n (qs ++ us ∷ []) ≡ behind_all (sums_of n qs) (terms_of n us)
-sums_push n [] us = by (terms_of n us)
+sums_push : (n : ℕ) (qs : List (List WrittenTerm)) (us : List WrittenTerm) → sums_of n (qs ++ us ∷ []) ≡ behind_all (sums_of n qs) (terms_written n us)
+sums_push n [] us = by (terms_written n us)
   where
     by : (r : Result Terms ExponentOverflow) → before_all r (Ok []) ≡ behind_all (Ok []) r
     by (Ok f) = refl
     by (Err o) = refl
-sums_push n (q ∷ qs) us = ap (before_all (terms_of n q)) (sums_push n qs us) ∙ by (terms_of n q) (sums_of n qs) (terms_of n us)
+sums_push n (q ∷ qs) us = ap (before_all (terms_written n q)) (sums_push n qs us) ∙ by (terms_written n q) (sums_of n qs) (terms_written n us)
   where
     by : (a : Result Terms ExponentOverflow) (rs : Result (List Terms) ExponentOverflow) (r : Result Terms ExponentOverflow) → before_all a (behind_all rs r) ≡ behind_all (before_all a rs) r
     by (Ok t) (Ok fs) (Ok f) = refl
@@ -332,26 +332,26 @@ sums_push n (q ∷ qs) us = ap (before_all (terms_of n q)) (sums_push n qs us) �
     by (Ok t) (Err x) r = refl
     by (Err x) rs r = refl
 
-pub sums_push_ok : (n : ℕ) (qs : List (List WrittenTerm)) (us : List WrittenTerm) (fs : List Terms) (f : Terms) → sums_of n qs ≡ Ok fs → terms_of n us ≡ Ok f → sums_of n (qs ++ us ∷ []) ≡ Ok (fs ++ f ∷ [])
-sums_push_ok n qs us fs f h k = sums_push n qs us ∙ ap (λ r. behind_all r (terms_of n us)) h ∙ ap (behind_all (Ok fs)) k
+pub sums_push_ok : (n : ℕ) (qs : List (List WrittenTerm)) (us : List WrittenTerm) (fs : List Terms) (f : Terms) → sums_of n qs ≡ Ok fs → terms_written n us ≡ Ok f → sums_of n (qs ++ us ∷ []) ≡ Ok (fs ++ f ∷ [])
+sums_push_ok n qs us fs f h k = sums_push n qs us ∙ ap (λ r. behind_all r (terms_written n us)) h ∙ ap (behind_all (Ok fs)) k
 
-pub sums_push_refused : (n : ℕ) (qs : List (List WrittenTerm)) (us : List WrittenTerm) (fs : List Terms) (o : ExponentOverflow) → sums_of n qs ≡ Ok fs → terms_of n us ≡ Err o → sums_of n (qs ++ us ∷ []) ≡ Err o
-sums_push_refused n qs us fs o h k = sums_push n qs us ∙ ap (λ r. behind_all r (terms_of n us)) h ∙ ap (behind_all (Ok fs)) k
+pub sums_push_refused : (n : ℕ) (qs : List (List WrittenTerm)) (us : List WrittenTerm) (fs : List Terms) (o : ExponentOverflow) → sums_of n qs ≡ Ok fs → terms_written n us ≡ Err o → sums_of n (qs ++ us ∷ []) ≡ Err o
+sums_push_refused n qs us fs o h k = sums_push n qs us ∙ ap (λ r. behind_all r (terms_written n us)) h ∙ ap (behind_all (Ok fs)) k
 
 pub sums_push_after : (n : ℕ) (qs : List (List WrittenTerm)) (us : List WrittenTerm) (o : ExponentOverflow) → sums_of n qs ≡ Err o → sums_of n (qs ++ us ∷ []) ≡ Err o
-sums_push_after n qs us o h = sums_push n qs us ∙ ap (λ r. behind_all r (terms_of n us)) h
+sums_push_after n qs us o h = sums_push n qs us ∙ ap (λ r. behind_all r (terms_written n us)) h
 
-pub sums_variables : (n : ℕ) (qs : List (List WrittenTerm)) (fs : List Terms) → sums_of n qs ≡ Ok fs → HaveVariables n fs
-sums_variables n [] fs e = let none : [] ≡ fs = cc in subst (HaveVariables n) none tt
-sums_variables n (q ∷ qs) fs e = by (terms_of n q) (sums_of n qs) refl refl (sums_variables n qs) e
+pub sums_variables : (n : ℕ) (qs : List (List WrittenTerm)) (fs : List Terms) → sums_of n qs ≡ Ok fs → SumsHaveVariables n fs
+sums_variables n [] fs e = let none : [] ≡ fs = cc in subst (SumsHaveVariables n) none tt
+sums_variables n (q ∷ qs) fs e = by (terms_written n q) (sums_of n qs) refl refl (sums_variables n qs) e
   where
-    by : (r : Result Terms ExponentOverflow) (rs : Result (List Terms) ExponentOverflow) → terms_of n q ≡ r → sums_of n qs ≡ rs → ((xs : List Terms) → sums_of n qs ≡ Ok xs → HaveVariables n xs) → before_all r rs ≡ Ok fs → HaveVariables n fs
-    by (Ok t) (Ok xs) is are later h = let same : t ∷ xs ≡ fs = cc in subst (HaveVariables n) same (terms_variables n q t is, later xs are)
+    by : (r : Result Terms ExponentOverflow) (rs : Result (List Terms) ExponentOverflow) → terms_written n q ≡ r → sums_of n qs ≡ rs → ((xs : List Terms) → sums_of n qs ≡ Ok xs → SumsHaveVariables n xs) → before_all r rs ≡ Ok fs → SumsHaveVariables n fs
+    by (Ok t) (Ok xs) is are later h = let same : t ∷ xs ≡ fs = cc in subst (SumsHaveVariables n) same (terms_variables n q t is, later xs are)
     by (Ok t) (Err o) is are later h = cc
     by (Err o) rs is are later h = cc
 
 -- the sum at a place has its variables
-pub have_at : (n : ℕ) (fs : List Terms) (i : ℕ) (d : Terms) → HaveVariables n fs → i < length fs → HasVariables n (get_or fs i d)
+pub have_at : (n : ℕ) (fs : List Terms) (i : ℕ) (d : Terms) → SumsHaveVariables n fs → i < length fs → HasVariables n (get_or fs i d)
 have_at n [] i d h k = absurd (omega arith)
 have_at n (f ∷ fs) zero d h k = h.0
 have_at n (f ∷ fs) (suc i) d h k = have_at n fs i d h.1 (omega arith)

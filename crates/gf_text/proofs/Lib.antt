@@ -1,23 +1,23 @@
 pub mod TokensLaws  -- the tokens of a text, one after another
-pub mod MatchingLaws  -- how much of a name stands at a place, by what is known of earlier places
 pub mod SpelledLaws  -- bytes that spell tokens
 pub mod MachineLaws  -- what machines read, and what grammars say of it
-pub mod SpansLaws  -- names that begin with a byte stand in one stretch
 pub mod NamesLaws  -- different names, kept as keys of a set
+pub mod SetTokensLaws  -- names, numbers and marks of a set
+pub mod KindsLaws  -- of which kind a fault is, by what a machine takes
+pub mod FaultsLaws  -- the same tokens have one fault at most
+pub mod ListTextLaws  -- the machine of lists reads what the grammar says
+pub mod ListReadLaws  -- a list is read item by item
 pub mod RingTextLaws  -- the machine of rings reads what the grammar says; printed rings are read again
 pub mod RingKindsLaws  -- of which kind a fault of a ring is
 pub mod VectorTextLaws  -- the machine of vectors reads what the grammar says
+pub mod VectorListsLaws  -- lists of vectors are read as the grammar says
+pub mod SingleTextLaws  -- dimensions and names of new variables are read as the grammar says
 pub mod VectorKindsLaws  -- of which kind a fault of a vector is
 pub mod PrintedTextLaws  -- the pieces of printed terms
 pub mod LimitsLaws  -- what a text says is within its limits
 pub mod CombiningLaws  -- terms and sums of terms, one after another
-pub mod DescendingSumsLaws  -- terms that descend are their own sum
-pub mod RisingSumsLaws  -- terms that rise are their own sum, turned round
-pub mod BlockSumsLaws  -- sums of like terms, a block after another
-pub mod BlocksLaws  -- sums of terms, a block after another
 pub mod SetsLaws  -- sums of terms, one after another
 pub mod PrintedSetsLaws  -- the pieces of printed polynomials and sets
-pub mod SetTokensLaws  -- names, numbers and marks of a set
 pub mod SetFactorsLaws  -- the machine of sets at powers of variables
 pub mod SetTextLaws  -- the machine of sets reads what the grammar says
 pub mod SetPartsLaws  -- what is read from each place of a set on
@@ -27,6 +27,7 @@ pub mod SetMachineLaws  -- sets are read as the grammar says, and each state goe
 pub mod SetGrowsLaws  -- a set is read polynomial by polynomial
 pub mod SetKindsLaws  -- of which kind a fault of a set is
 pub mod PrintedTokensLaws  -- the tokens of printed numbers, names and powers
+pub mod VectorsAgainLaws  -- printed vectors are read again
 pub mod PrintedTermsLaws  -- what printed terms say
 pub mod PrintedPolynomialsLaws  -- what printed polynomials and sets say
 pub mod CombinedAgainLaws  -- what is said of polynomials is combined to them

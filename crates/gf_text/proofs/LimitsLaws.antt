@@ -5,7 +5,7 @@ use Rattle.std.specs.List.{position_from}
 use Rattle.gf_text.specs.declared.tree.Factor.{Factor}
 use Rattle.gf_text.specs.declared.tree.WrittenTerm.{WrittenTerm}
 use Rattle.gf_text.specs.SetText.{variable, IsFactorText, AreMoreFactors, IsMonomialText, IsRationalText, IsTermText, AreMoreTerms, IsPolynomialText, AreMorePolynomials, IsSetText}
-use Rattle.gf_text.specs.Limits.{IsFactorWithin, AreFactorsWithin, IsTermWithin, AreTermsWithin, AreWithin}
+use Rattle.gf_text.specs.Limits.{IsFactorWithin, AreFactorsWithin, IsTermWithin, AreTermsWithin, ArePolynomialsWithin}
 
 -- ---- from the grammar
 
@@ -52,12 +52,12 @@ module _ (ring : List (List ℕ)) where
   polynomial_within ts [] h = absurd h
   polynomial_within ts (u ∷ us) (front, one, rest, whole, front_sign, term, others) = (term_within one u term, terms_within rest us others)
 
-  polynomials_within : (ts : List (List ℕ)) (qs : List (List WrittenTerm)) → AreMorePolynomials ring ts qs → AreWithin (length ring) qs
+  polynomials_within : (ts : List (List ℕ)) (qs : List (List WrittenTerm)) → AreMorePolynomials ring ts qs → ArePolynomialsWithin (length ring) qs
   polynomials_within ts [] h = tt
   polynomials_within ts (q ∷ qs) (one, rest, whole, polynomial, others) = (polynomial_within one q polynomial, polynomials_within rest qs others)
 
   -- what the text of a set says is within
-  pub set_within : (ts : List (List ℕ)) (qs : List (List WrittenTerm)) → IsSetText ring ts qs → AreWithin (length ring) qs
+  pub set_within : (ts : List (List ℕ)) (qs : List (List WrittenTerm)) → IsSetText ring ts qs → ArePolynomialsWithin (length ring) qs
   set_within ts [] h = tt
   set_within ts (q ∷ qs) (one, rest, whole, polynomial, others) = (polynomial_within one q polynomial, polynomials_within rest qs others)
 

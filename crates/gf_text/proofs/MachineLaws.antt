@@ -1,14 +1,14 @@
 -- What machines read: turn by turn, and against what they do at the texts of tokens.
--- To cite: run_go, run_done, run_halt, run_ended for a loop; reads, is_read for grammars; failed, IsMachineOf with fault, no_text, refused, caused for refusals,
--- stopped, goes_on, never for their kinds;
+-- To cite: run_go, run_done, run_halt, run_ended for a loop; reads, is_read for grammars; failed, IsMachineOf with fault, no_text, caused for refusals,
+-- IsTaken, taken_follows, never for their kinds;
 -- after-go, after-done, after-++, first, not_yet. The rest are steps.
-use Rattle.std.proofs.Common.{◌≡◌, ℕ, Result, Ok, Err, List, [], ◌∷◌, ◌++◌, refl, sym, ap, ◌∙◌, subst, ◌⊎◌, inl, inr, append_assoc}
+use Rattle.std.proofs.Common.{◌≡◌, ℕ, Result, Ok, Err, List, [], ◌∷◌, ◌++◌, refl, sym, ap, ◌∙◌, subst, ◌⊎◌, inl, inr, append_assoc, append-nil}
 use Rattle.gf_text.specs.declared.error.Cause.{Cause}
 use Rattle.gf_text.specs.declared.error.Cause.TheVariants.{Ended, Unexpected, RepeatedName, ZeroDenominator, TooWide, UnknownName}
 use Rattle.gf_text.specs.declared.error.TextError.{TextError}
-use Rattle.gf_text.specs.declared.error.TextError.TheVariants as errors
-use Rattle.gf_text.specs.Machine.{Lexeme, behind, texts, behind_all, Move, go, done, halt, Fault, moved, run, followed, after, Reads, GoesOn, StandsAt, IsFaultAt, IsFault, HasOneMeaning}
-use Rattle.gf_text.specs.Given.{IsRefused, Fails, IsNoText, HasNone}
+use Rattle.gf_text.specs.Machine.{Lexeme, behind, texts, behind_all, Move, go, done, halt, Fault, moved, run, followed, after, Reads, GoesOnToText, StandsAt, IsFaultAt, IsFault, HasOneMeaning}
+use Rattle.gf_text.specs.Kinds.{MayFollow}
+use Rattle.gf_text.specs.Given.{IsRefusedAs, Fails, IsNoText}
 use Rattle.gf_text.specs.Refusing.{refusal_at}
 
 module _ {S A : Type 0} (step : S → List ℕ → Move S A) where
@@ -97,12 +97,12 @@ module _ {S A : Type 0} (step : S → List ℕ → Move S A) where
   read s d end (x ∷ front) back a e = read_by (step s x.text) x front back a end (λ t f. read t (behind x) end front back a f) e
 
   -- the tokens that were read
-  record Taken (s : S) (d : ℕ) (xs : List Lexeme) (a : A) (place : ℕ) : Type 0 where
-    front : List Lexeme
-    back : List Lexeme
-    whole : xs ≡ front ++ back
-    text : after step s (texts front) ≡ done a
-    end : behind_all d front ≡ place
+  pub record Taken (s : S) (d : ℕ) (xs : List Lexeme) (a : A) (place : ℕ) : Type 0 where
+    pub front : List Lexeme
+    pub back : List Lexeme
+    pub whole : xs ≡ front ++ back
+    pub text : after step s (texts front) ≡ done a
+    pub end : behind_all d front ≡ place
 
   taken_by : (s : S) (m : Move S A) (d : ℕ) (x : Lexeme) (xs : List Lexeme) (a : A) (end place : ℕ) → step s x.text ≡ m
       → ((t : S) → run step t end xs ≡ Ok (a, place) → Taken t (behind x) xs a place)
@@ -129,7 +129,7 @@ module _ {S A : Type 0} (step : S → List ℕ → Move S A) where
       }
   taken_by s (halt cause) d x xs a end place is later e = cc
 
-  taken : (s : S) (d end : ℕ) (xs : List Lexeme) (a : A) (place : ℕ) → run step s end xs ≡ Ok (a, place) → Taken s d xs a place
+  pub taken : (s : S) (d end : ℕ) (xs : List Lexeme) (a : A) (place : ℕ) → run step s end xs ≡ Ok (a, place) → Taken s d xs a place
   unfolding run
   taken s d end [] a place e = cc
   taken s d end (x ∷ xs) a place e = taken_by s (step s x.text) d x xs a end place refl (λ t f. taken t (behind x) end xs a place f) e
@@ -224,6 +224,12 @@ module _ {S A : Type 0} (step : S → List ℕ → Move S A) where
     | inr u ↦ subst (λ (g : Fault). P g.cause) (sym u.fault) at_end
   ]
 
+-- the move takes the token
+abbrev pub IsTaken : {S A : Type 0} → Move S A → Type 0
+IsTaken (go s) = Unit {0}
+IsTaken (done a) = Unit {0}
+IsTaken (halt cause) = ⊥
+
 -- The machine, begun in this state, is done with exactly the texts of the grammar; from each state it gets done with some
 -- tokens, and at no token it says that the text has ended.
 pub record IsMachineOf {S A : Type 0} (step : S → List ℕ → Move S A) (start : S) (grammar : List (List ℕ) → A → Type 0) : Type 0 where
@@ -234,64 +240,66 @@ pub record IsMachineOf {S A : Type 0} (step : S → List ℕ → Move S A) (star
 
 module _ {S A : Type 0} {step : S → List ℕ → Move S A} {start : S} {grammar : List (List ℕ) → A → Type 0} (is : IsMachineOf step start grammar) where
   -- tokens at which the machine goes on go on to a text
-  pub goes_on : (ts : List (List ℕ)) (s : S) → after step start ts ≡ go s → GoesOn grammar ts
+  pub goes_on : (ts : List (List ℕ)) (s : S) → after step start ts ≡ go s → GoesOnToText grammar ts
   goes_on ts s e =
       let l = is.live s in
       (l.0, l.1, is.said (ts ++ l.0) l.1 (after-++ step start s ts l.0 e ∙ l.2))
 
   -- and with a token that it can't take they never do
-  pub never : (ts : List (List ℕ)) (s : S) (t : List ℕ) (cause : Cause) → after step start ts ≡ go s → step s t ≡ halt cause → GoesOn grammar (ts ++ t ∷ []) → ⊥
+  pub never : (ts : List (List ℕ)) (s : S) (t : List ℕ) (cause : Cause) → after step start ts ≡ go s → step s t ≡ halt cause → GoesOnToText grammar (ts ++ t ∷ []) → ⊥
   never ts s t cause e h g =
       let whole = is.given ((ts ++ t ∷ []) ++ g.0) g.1 g.2 in
       let stops = ap (after step start) (append_assoc ts (t ∷ []) g.0) ∙ after-++ step start s ts (t ∷ g.0) e ∙ after-halt step s cause t g.0 h in
       cc
 
-  stands_at : (xs : List Lexeme) (f : Fault) → Halted step start xs f → StandsAt grammar xs f.at
-  stands_at xs f h = record {
-    front = h.front;
-    token = h.token;
-    back = h.back;
-    whole = h.whole;
-    at = h.at;
-    before = goes_on (texts h.front) h.state h.reached;
-    never = never (texts h.front) h.state h.token.text f.cause h.reached h.halts;
-  }
+  -- what the machine takes may follow, and what it can't take may not
+  pub taken_follows : (ts : List (List ℕ)) (s : S) (t : List ℕ) → after step start ts ≡ go s → IsTaken (step s t) → MayFollow grammar ts t
+  taken_follows ts s t e h = by (step s t) refl h
+    where
+      by : (m : Move S A) → step s t ≡ m → IsTaken m → MayFollow grammar ts t
+      by (go u) on h = goes_on (ts ++ t ∷ []) u (after-++ step start s ts (t ∷ []) e ∙ after-go step s u t [] on ∙ after-none step u)
+      by (done a) on h = ([], a, is.said ((ts ++ t ∷ []) ++ []) a (ap (after step start) (append-nil (ts ++ t ∷ [])) ∙ after-++ step start s ts (t ∷ []) e ∙ after-done step s a t on))
+      by (halt cause) on h = absurd h
 
-  is_fault_at : (xs : List Lexeme) (end place : ℕ) (cause : Cause) → StandsAt grammar xs place → (cause ≡ Ended → ⊥) → IsFaultAt grammar xs end place cause
-  is_fault_at xs end place Ended h other = absurd (other refl)
-  is_fault_at xs end place Unexpected h other = h
-  is_fault_at xs end place RepeatedName h other = h
-  is_fault_at xs end place ZeroDenominator h other = h
-  is_fault_at xs end place TooWide h other = h
-  is_fault_at xs end place UnknownName h other = h
+  -- where the machine stops, the fault is of this kind
+  module _ (kind : List (List ℕ) → List ℕ → Cause → Type 0) (kinds : (ts : List (List ℕ)) (s : S) (t : List ℕ) (cause : Cause) → after step start ts ≡ go s → step s t ≡ halt cause → kind ts t cause) where
+    stands_at : (xs : List Lexeme) (place : ℕ) (cause : Cause) (h : Halted step start xs (record { at = place; cause = cause })) → StandsAt grammar kind xs place cause
+    stands_at xs place cause h = record {
+      front = h.front;
+      token = h.token;
+      back = h.back;
+      whole = h.whole;
+      at = h.at;
+      before = goes_on (texts h.front) h.state h.reached;
+      never = never (texts h.front) h.state h.token.text cause h.reached h.halts;
+      of_kind = kinds (texts h.front) h.state h.token.text cause h.reached h.halts;
+    }
 
-  -- a fault stands at the first token after which nothing goes on, or at the end of a text that goes on
-  pub fault : (end : ℕ) (xs : List Lexeme) (f : Fault) → run step start end xs ≡ Err f → IsFault grammar xs end f
-  fault end xs f e = elim (stopped step start end xs f e) [
-    | inl h ↦ is_fault_at xs end f.at f.cause (stands_at xs f h) (λ ended. is.tells h.state h.token.text (h.halts ∙ ap (λ c. halt c) ended))
-    | inr u ↦
-        let P : Fault → Type 0 = λ g. IsFault grammar xs end g in
-        subst P (sym u.fault) (refl, goes_on (texts xs) u.state u.reached)
-  ]
+    halted_fault : (xs : List Lexeme) (end place : ℕ) (cause : Cause) → Halted step start xs (record { at = place; cause = cause }) → IsFaultAt grammar kind xs end place cause
+    halted_fault xs end place Ended h = absurd (is.tells h.state h.token.text h.halts)
+    halted_fault xs end place Unexpected h = stands_at xs place Unexpected h
+    halted_fault xs end place RepeatedName h = stands_at xs place RepeatedName h
+    halted_fault xs end place ZeroDenominator h = stands_at xs place ZeroDenominator h
+    halted_fault xs end place TooWide h = stands_at xs place TooWide h
+    halted_fault xs end place UnknownName h = stands_at xs place UnknownName h
 
-  pub no_text : (end : ℕ) (xs : List Lexeme) (e : TextError) → IsRefused e (run step start end xs) → IsNoText grammar xs end e
-  no_text end xs e refused = record {
-    fault = refused.0;
-    refused = refused.2;
-    place = fault end xs refused.0 refused.1;
-    none = λ a place r. (let read = is_read step grammar start end xs a place (λ ts. is.given ts a) r in let not_read = refused.1 in cc);
-  }
+    -- a fault stands at the first token after which nothing goes on, or at the end of a text that goes on
+    pub fault : (end : ℕ) (xs : List Lexeme) (f : Fault) → run step start end xs ≡ Err f → IsFault grammar kind xs end f
+    fault end xs f e = elim (stopped step start end xs f e) [
+      | inl h ↦ halted_fault xs end f.at f.cause h
+      | inr u ↦
+          let P : Fault → Type 0 = λ g. IsFault grammar kind xs end g in
+          subst P (sym u.fault) (refl, goes_on (texts xs) u.state u.reached)
+    ]
 
-  -- a text that the machine doesn't read is no text of the grammar
-  pub refused : (end : ℕ) (xs : List Lexeme) (e : TextError) → Fails e (run step start end xs) → HasNone e grammar xs end
-  refused end xs (errors.Overflow o) h = absurd h
-  refused end xs (errors.Exponent o) h = absurd h
-  refused end xs (errors.Syntax s) h = no_text end xs (errors.Syntax s) h
-  refused end xs (errors.TooWide place) h = no_text end xs (errors.TooWide place) h
-  refused end xs (errors.UnknownName place) h = no_text end xs (errors.UnknownName place) h
-  refused end xs (errors.TooManyVariables count) h = absurd h
-  refused end xs (errors.ZeroPolynomial set index) h = absurd h
-  refused end xs errors.Memory h = tt
+    -- a text that the machine doesn't read is no text of the grammar
+    pub no_text : (end : ℕ) (xs : List Lexeme) (e : TextError) → IsRefusedAs e (run step start end xs) → IsNoText grammar kind xs end e
+    no_text end xs e refused = record {
+      fault = refused.0;
+      refused = refused.2;
+      place = fault end xs refused.0 refused.1;
+      none = λ a place r. (let read = is_read step grammar start end xs a place (λ ts. is.given ts a) r in let not_read = refused.1 in cc);
+    }
 
 -- a fault is refused as what it is
 pub failed : {Y : Type 0} (read : Result Y Fault) (place : ℕ) (cause : Cause) → read ≡ Err (record { at = place; cause = cause }) → Fails (refusal_at place cause) read

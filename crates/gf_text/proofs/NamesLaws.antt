@@ -1,12 +1,12 @@
 -- Different names, kept as keys of a set.
--- To cite: new_key, with_key, one_more. The rest are steps.
-use Rattle.std.proofs.Common.{◌≡◌, ℕ, Bool, true, false, ◌||◌, not, List, [], ◌∷◌, ◌++◌, ◌<◌, ◌+◌, length, map, take, get_or, refl, sym, ap, ◌∙◌, bytes_eq, arith, if◌then◌else◌}
+-- To cite: new_key, with_key, one_more; with_new. The rest are steps.
+use Rattle.std.proofs.Common.{◌≡◌, ℕ, Bool, true, false, ◌||◌, not, List, [], ◌∷◌, ◌++◌, ◌<◌, ◌+◌, length, map, take, get_or, refl, sym, ap, ◌∙◌, bytes_eq, append_assoc, append-nil, length-append, subst, arith, if◌then◌else◌}
 use Rattle.std.proofs.lemmas.Bool.Decides.{same_from_decides}
 use Rattle.std.proofs.lemmas.Slice.Eq.{bytes_eq-Decides}
 use Rattle.std.proofs.lemmas.List.{map-append, get_or-map, take_more, length-map}
 use Rattle.std.specs.Bool.{Decides}
 use Rattle.std.specs.List.{list_any}
-use Rattle.gf_text.specs.RingText.{has}
+use Rattle.gf_text.specs.RingText.{is_name, has, AreNew, IsRing}
 
 same_either_way : (m n : List ℕ) → bytes_eq m n ≡ bytes_eq n m
 same_either_way m n =
@@ -45,3 +45,16 @@ module _ {K : Type 0} (bytes : K → List ℕ) where
       let long : i < length (names ks) = omega (arith, length-map ks bytes) in
       let here : get_or (names ks) i [] ≡ bytes k = get_or-map bytes ks i k [] h ∙ ap bytes (sym is) in
       ap (λ n. take i (names ks) ++ n ∷ []) (sym here) ∙ sym (take_more (names ks) i [] long)
+
+-- ---- a ring with one more name
+
+new_last : (before ns : List (List ℕ)) (n : List ℕ) → AreNew before ns → is_name n ≡ true → has (before ++ ns) n ≡ false → AreNew before (ns ++ n ∷ [])
+new_last before [] n all named new = (named, subst (λ l. has l n ≡ false) (append-nil before) new, tt)
+new_last before (m ∷ ms) n all named new = (all.0, all.1, new_last (before ++ m ∷ []) ms n all.2 named (subst (λ l. has l n ≡ false) (sym (append_assoc before (m ∷ []) ms)) new))
+
+pub with_new : (names : List (List ℕ)) (n : List ℕ) → IsRing names → is_name n ≡ true → has names n ≡ false → length names < 16 → IsRing (names ++ n ∷ [])
+with_new names n ring named new room = record {
+  some = omega (arith, length-append names (n ∷ []));
+  few = omega (arith, length-append names (n ∷ []));
+  different = new_last [] names n ring.different named new;
+}

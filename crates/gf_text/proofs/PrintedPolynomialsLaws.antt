@@ -17,10 +17,11 @@ use Rattle.gf_text.specs.declared.written.Written.TheVariants as written
 use Rattle.gf_text.specs.Machine.{Reads}
 use Rattle.gf_text.specs.Tokens.{is_space, ring_more, lexemes}
 use Rattle.gf_text.specs.RingText.{IsRing}
-use Rattle.gf_text.specs.SetText.{minus, comma, brace, brace_end, sign, IsTermText, AreMoreTerms, IsFrontSign, IsPolynomialText, AreMorePolynomials, IsSetText}
+use Rattle.gf_text.specs.SetText.{sign, IsTermText, AreMoreTerms, IsFrontSign, IsPolynomialText, AreMorePolynomials, IsSetText}
+use Rattle.gf_text.specs.Marks.{minus_mark, comma, brace, brace_end}
 use Rattle.gf_text.specs.PrintedText.{is_below_zero, unsigned_text, inner_sign, first_text, later_text}
 use Rattle.gf_text.specs.PrintedSets.{other_text, polynomial_text}
-use Rattle.gf_text.specs.WrittenText.{IsTermInRange, AreInRange, IsKept, IsWrittenKept, AreWrittenKept, polynomials_text, set_text}
+use Rattle.gf_text.specs.WrittenText.{IsTermInRange, AreInRange, IsKeptMarked, IsWrittenKept, AreWrittenKept, polynomials_text, set_text}
 use Rattle.gf_text.proofs.SpelledLaws.{IsToken, IsSpelled, goes_on, spelled-none, spelled-space, spelled-++, spelled-read}
 use Rattle.gf_text.proofs.PrintedTokensLaws.{IsPiece, piece-none, piece-token, piece-++, mark_spelled, number_token, AreNamesFrom, names_of_ring}
 use Rattle.gf_text.proofs.PrintedTermsLaws.{AreSmall, term_said, unsigned_tokens, unsigned_piece, unsigned_said}
@@ -61,7 +62,7 @@ fine_at n (s ∷ f) t fine h = elim (Contains-cons f t s h) [
 abbrev pub head_term : MarkedPolynomial → Term
 head_term m = record { coef = coefficient m.poly m.head; mono = m.head }
 
-pub head_is : (n : ℕ) (m : MarkedPolynomial) → IsKept n m → Contains m.poly (head_term m)
+pub head_is : (n : ℕ) (m : MarkedPolynomial) → IsKeptMarked n m → Contains m.poly (head_term m)
 head_is n m kept =
     let t : Term = record { coef = kept.marked.mark; mono = m.head } in
     let fine = fine_at n m.poly t (all_fine n m.poly kept.variables kept.range) kept.marked.term in
@@ -93,7 +94,7 @@ abbrev others_tokens : List (List ℕ) → Exponents → Terms → List (List �
 others_tokens names head f = flat_map (other_tokens names head) f
 
 abbrev front_tokens : Bool → List (List ℕ)
-front_tokens true = minus ∷ []
+front_tokens true = minus_mark ∷ []
 front_tokens false = []
 
 abbrev tokens_of : List (List ℕ) → Written → List (List ℕ)

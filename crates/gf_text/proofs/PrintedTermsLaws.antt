@@ -6,7 +6,8 @@ use Rattle.std.specs.Int.RustNames.{unsigned_abs}
 use Rattle.gf_frac.specs.Fraction.{Fraction}
 use Rattle.gf_text.specs.declared.tree.Factor.{Factor}
 use Rattle.gf_text.specs.declared.tree.WrittenTerm.{WrittenTerm}
-use Rattle.gf_text.specs.SetText.{star, slash, caret, most, most_exponent, IsNumberText, IsFactorText, AreMoreFactors, IsRationalText, IsTermText}
+use Rattle.gf_text.specs.SetText.{most, most_exponent, IsNumberText, IsFactorText, AreMoreFactors, IsRationalText, IsTermText}
+use Rattle.gf_text.specs.Marks.{star, slash, caret}
 use Rattle.gf_text.specs.PrintedText.{joined, power_text, powers, is_below_zero, size_text, is_unit, pieces, unsigned_text}
 use Rattle.gf_text.proofs.SpelledLaws.{goes_on}
 use Rattle.gf_text.proofs.PrintedTokensLaws.{IsPiece, ArePieces, piece-none, piece-token, piece-++, mark_spelled, number_piece, decimal_number, IsNameOf, AreNamesFrom}

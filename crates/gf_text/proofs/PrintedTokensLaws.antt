@@ -1,12 +1,12 @@
 -- The tokens of printed numbers, names and powers, where no letter, digit or _ follows.
--- To cite: IsPiece, piece-none, piece-token, piece-++, piece-joined; number_piece, names_of_ring, Names. The rest are steps.
+-- To cite: IsPiece, piece-none, piece-token, piece-++, piece-joined; number_word, decimal_number, number_piece, names_of_ring, Names. The rest are steps.
 use Rattle.std.proofs.Common.{◌≡◌, ◌≤◌, ◌<◌, ◌^◌, ◌*◌, ◌/◌, ◌%◌, ◌+◌, ◌-◌, ℕ, zero, suc, Bool, true, false, ◌&&◌, ◌||◌, ◌==◌, nat_eq, max, List, [], ◌∷◌, ◌++◌, length, get_or, decimal, Some, refl, sym, ap, ◌∙◌, subst, arith, inl, inr, bytes_eq, if◌then◌else◌}
 use Rattle.std.proofs.lemmas.Bool.Decides.{nat_tests, eqb_tells}
 use Rattle.std.proofs.lemmas.Fmt.{decimal_by_steps_wide}
 use Rattle.std.proofs.lemmas.List.Folds.{length-prefix_len, list_any-append}
 use Rattle.std.specs.List.{list_all, prefix_len, starts_with, position_from}
 use Rattle.std.proofs.lemmas.Slice.Eq.{bytes_eq-Decides}
-use Rattle.gf_text.specs.Tokens.{is_space, is_digit, is_letter, is_name_byte, is_number, value, value_from, ring_more, longest}
+use Rattle.gf_text.specs.Tokens.{is_space, is_digit, is_letter, is_name_byte, is_number, decimal_value, value_from, word_more, ring_more, longest}
 use Rattle.gf_text.specs.RingText.{is_name, has, AreNew, IsRing}
 use Rattle.gf_text.specs.SetText.{variable}
 use Rattle.gf_text.proofs.SpelledLaws.{IsToken, IsSpelled, goes_on, spelled-none, spelled-token, spelled-++}
@@ -35,7 +35,7 @@ value-push n (x ∷ ds) d = value-push (10 * n + (x - 48)) ds d
 
 -- a number as it is printed
 abbrev IsNumeral : ℕ → List ℕ → Type 0
-IsNumeral n ds = (is_number ds ≡ true) × (value ds ≡ n)
+IsNumeral n ds = (is_number ds ≡ true) × (decimal_value ds ≡ n)
 
 one_digit : (n : ℕ) → n < 10 → IsNumeral n ((48 + n) ∷ [])
 one_digit n h = (rw (digit_of n h) refl, omega arith)
@@ -43,7 +43,7 @@ one_digit n h = (rw (digit_of n h) refl, omega arith)
 more_digits : (n : ℕ) (ds : List ℕ) → 10 ≤ n → IsNumeral (n / 10) ds → IsNumeral n (ds ++ (48 + n % 10) ∷ [])
 more_digits n ds h k = (number_push ds (48 + n % 10) k.0 (digit_of (n % 10) (omega arith)), value-push 0 ds (48 + n % 10) ∙ omega (arith, k.1))
 
-pub decimal_number : (n : ℕ) → n < 2 ^ 127 → (is_number (decimal n) ≡ true) × (value (decimal n) ≡ n)
+pub decimal_number : (n : ℕ) → n < 2 ^ 127 → (is_number (decimal n) ≡ true) × (decimal_value (decimal n) ≡ n)
 decimal_number n h = decimal_by_steps_wide IsNumeral one_digit more_digits n (omega arith)
 
 -- ---- tokens
@@ -71,6 +71,19 @@ letter_visible b h = grind (arith, nat_tests, h)
 
 letter_no_digit : (b : ℕ) → is_letter b ≡ true → is_digit b ≡ false
 letter_no_digit b h = grind (arith, nat_tests, h)
+
+-- a number, where names are of any length
+pub number_word : (ds rest : List ℕ) → is_number ds ≡ true → goes_on rest ≡ false → IsToken word_more ds rest
+number_word [] rest digits stops = cc
+number_word (d ∷ ds) rest digits stops =
+    let both = and_both (is_digit d) (list_all is_digit ds) digits in
+    record {
+      first = d;
+      others = ds;
+      shape = refl;
+      visible = digit_visible d both.0;
+      whole = rw both.0 (length-prefix_len is_digit (ds ++ rest) ∙ digits_end ds rest both.1 stops);
+    }
 
 module _ (ring : List (List ℕ)) where
   pub number_token : (ds rest : List ℕ) → is_number ds ≡ true → goes_on rest ≡ false → IsToken (ring_more ring) ds rest

@@ -9,7 +9,7 @@ use Rattle.gf_frac.proofs.FractionLaws.{+ℚ_assoc, +ℚ-zero}
 use Rattle.gf_exponents.specs.Exponents.{Exponents}
 use Rattle.gf_poly.specs.declared.Term.{Term}
 use Rattle.gf_poly.specs.Polynomial.{Terms, HasVariables, coefficient}
-use Rattle.gf_poly.specs.Collecting.{total, SumsFit, SumsFitFrom, LikeSumsFit, IsLikeSumOverflow}
+use Rattle.gf_poly.specs.Collecting.{sum_of_coefficients, SumsFit, SumsFitFrom, LikeSumsFit, IsLikeSumOverflow}
 use Rattle.gf_poly.specs.Marking.{MarkedPolynomial, MarkedPolynomials}
 use Rattle.gf_poly.proofs.CoefficientLaws.{descending_unique}
 use Rattle.gf_text.specs.declared.error.TextError.{TextError}
@@ -17,15 +17,16 @@ use Rattle.gf_text.specs.declared.error.TextError.TheVariants as errors
 use Rattle.gf_text.specs.declared.tree.WrittenTerm.{WrittenTerm}
 use Rattle.gf_text.specs.declared.written.Written.{Written}
 use Rattle.gf_text.specs.declared.written.Written.TheVariants as written
-use Rattle.gf_text.specs.Tokens.{Position}
+use Rattle.gf_text.specs.Tokens.{Position, lexemes, ring_more}
 use Rattle.gf_text.specs.RingText.{IsRing}
-use Rattle.gf_text.specs.SetText.{set_at}
-use Rattle.gf_text.specs.Combining.{HaveVariables, NoneRemains, IsFirstRemaining, IsSumMarked, sums_of}
-use Rattle.gf_text.specs.Sets.{IsWritten, AreWritten, SumsFit as AllSumsFit, IsFirstOverflow, IsSetRead, IsSetCause, HasNoSet, IsMarkedRead, IsMarkedCause}
+use Rattle.gf_text.specs.Machine.{Reads}
+use Rattle.gf_text.specs.SetText.{IsSetText}
+use Rattle.gf_text.specs.Combining.{SumsHaveVariables, NoneRemains, IsFirstRemaining, IsSumMarked, sums_of}
+use Rattle.gf_text.specs.Sets.{IsWritten, AreWritten, AllSumsFit, IsFirstSumOverflow, IsSetRead, IsSetCause, HasNoSet, IsMarkedRead, IsMarkedCause}
 use Rattle.gf_text.specs.PrintedSets.{marked_text, polynomial_text, members_text, basis_text}
 use Rattle.gf_text.specs.WrittenText.{AreWrittenKept, AreKept, polynomials_text, set_text, IsReadAs, IsReadAsMarked, SetsAreReadAgain, BasesAreReadAgain}
 use Rattle.gf_text.proofs.CombiningLaws.{sums_variables}
-use Rattle.gf_text.proofs.SetMachineLaws.{set_is_read}
+use Rattle.gf_text.proofs.SetMachineLaws.{one_set}
 use Rattle.gf_text.proofs.PrintedPolynomialsLaws.{all_said, set_again}
 use Rattle.gf_text.proofs.CombinedAgainLaws.{all_listed, sums_listed, listed_fit, listed_written}
 
@@ -66,7 +67,7 @@ one_written n f written.Zero (written.Nonzero k) variables a b = absurd (none_re
 one_written n f (written.Nonzero m) written.Zero variables a b = absurd (none_remains f m.head b a.marked)
 one_written n f (written.Nonzero m) (written.Nonzero k) variables a b = ap (λ p. written.Nonzero p) (marked_same n f m k variables a b)
 
-all_written : (n : ℕ) (fs : List Terms) (ws vs : List Written) → HaveVariables n fs → AreWritten fs ws → AreWritten fs vs → ws ≡ vs
+all_written : (n : ℕ) (fs : List Terms) (ws vs : List Written) → SumsHaveVariables n fs → AreWritten fs ws → AreWritten fs vs → ws ≡ vs
 all_written n [] [] [] variables a b = refl
 all_written n [] [] (v ∷ vs) variables a b = absurd b
 all_written n [] (w ∷ ws) vs variables a b = absurd a
@@ -79,62 +80,53 @@ all_written n (f ∷ fs) (w ∷ ws) (v ∷ vs) variables a b =
 
 pub read_once : (ring : List (List ℕ)) (old : Position) (place end : ℕ) (ws vs : List Written) → IsSetRead ring old place ws → IsSetRead ring old end vs → (end ≡ place) × (vs ≡ ws)
 read_once ring old place end ws vs a b =
-    let one : List (List WrittenTerm) × ℕ = (a.said, place) in
-    let two : List (List WrittenTerm) × ℕ = (b.said, end) in
-    let first = a.read in
-    let second = b.read in
-    let pair : two ≡ one = cc in
-    let said : b.said ≡ a.said = ap (λ p. p.0) pair in
+    let same = one_set ring a.names (lexemes (ring_more ring) old.source old.at) b.said a.said end place b.text a.text in
+    let said : b.said ≡ a.said = same.0 in
     let exponents = a.exponents in
     let again : sums_of (length ring) a.said ≡ Ok b.sums = ap (sums_of (length ring)) (sym said) ∙ b.exponents in
     let sums : b.sums ≡ a.sums = cc in
     let variables = sums_variables (length ring) a.said a.sums a.exponents in
-    (ap (λ p. p.1) pair, all_written (length ring) a.sums vs ws variables (subst (λ fs. AreWritten fs vs) sums b.written) a.written)
+    (same.1, all_written (length ring) a.sums vs ws variables (subst (λ fs. AreWritten fs vs) sums b.written) a.written)
 
 -- ---- and isn't refused then
 
-fits_last : (c : Fraction) (earlier later : Terms) (t : Term) → SumsFitFrom c (earlier ++ t ∷ later) → FitsAdd (c +ℚ total earlier) t.coef
+fits_last : (c : Fraction) (earlier later : Terms) (t : Term) → SumsFitFrom c (earlier ++ t ∷ later) → FitsAdd (c +ℚ sum_of_coefficients earlier) t.coef
 fits_last c [] later t fits = subst (λ k. FitsAdd k t.coef) (sym (+ℚ-zero c)) fits.0
-fits_last c (s ∷ earlier) later t fits = subst (λ k. FitsAdd k t.coef) (+ℚ_assoc c s.coef (total earlier)) (fits_last (c +ℚ s.coef) earlier later t fits.1)
+fits_last c (s ∷ earlier) later t fits = subst (λ k. FitsAdd k t.coef) (+ℚ_assoc c s.coef (sum_of_coefficients earlier)) (fits_last (c +ℚ s.coef) earlier later t fits.1)
 
-fits_at : (earlier later : Terms) (t : Term) → 0 < length earlier → SumsFit (earlier ++ t ∷ later) → FitsAdd (total earlier) t.coef
+fits_at : (earlier later : Terms) (t : Term) → 0 < length earlier → SumsFit (earlier ++ t ∷ later) → FitsAdd (sum_of_coefficients earlier) t.coef
 fits_at [] later t some fits = absurd (omega arith)
 fits_at (s ∷ earlier) later t some fits = fits_last s.coef earlier later t fits
 
 no_overflow : (f : Terms) (o : Overflow) → LikeSumsFit f → IsLikeSumOverflow f o → ⊥
 no_overflow f o fits over =
     let all : SumsFit (over.earlier ++ over.last ∷ over.later) = subst SumsFit over.split (fits.at over.at) in
-    over.leaves (subst (λ k. FitsAdd k o.right) (sym over.left) (subst (λ k. FitsAdd (total over.earlier) k) (sym over.right) (fits_at over.earlier over.later over.last over.some all)))
+    over.leaves (subst (λ k. FitsAdd k o.right) (sym over.left) (subst (λ k. FitsAdd (sum_of_coefficients over.earlier) k) (sym over.right) (fits_at over.earlier over.later over.last over.some all)))
 
 fit_in : (front back : List Terms) (f : Terms) → AllSumsFit (front ++ f ∷ back) → LikeSumsFit f
 fit_in [] back f fits = fits.0
 fit_in (g ∷ front) back f fits = fit_in front back f fits.1
 
-none_overflows : (fs : List Terms) (o : Overflow) → AllSumsFit fs → IsFirstOverflow fs o → ⊥
+none_overflows : (fs : List Terms) (o : Overflow) → AllSumsFit fs → IsFirstSumOverflow fs o → ⊥
 none_overflows fs o fits over = no_overflow over.sum o (fit_in over.front over.back over.sum (subst AllSumsFit over.whole fits)) over.overflow
 
 module _ (ring : List (List ℕ)) (is : IsRing ring) (old : Position) (place : ℕ) (ws : List Written) (a : IsSetRead ring old place ws) where
   -- what another text says of the same place is the same
-  same_said : (said : List (List WrittenTerm)) (end : ℕ) → set_at ring old.source old.at ≡ Ok (said, end) → said ≡ a.said
-  same_said said end e =
-      let one : List (List WrittenTerm) × ℕ = (a.said, place) in
-      let two : List (List WrittenTerm) × ℕ = (said, end) in
-      let first = a.read in
-      let pair : two ≡ one = cc in
-      ap (λ p. p.0) pair
+  same_said : (said : List (List WrittenTerm)) (end : ℕ) → Reads (IsSetText ring) (lexemes (ring_more ring) old.source old.at) said end → said ≡ a.said
+  same_said said end h = (one_set ring is (lexemes (ring_more ring) old.source old.at) said a.said end place h a.text).0
 
   no_fault : (e : TextError) → HasNoSet ring old e → ⊥
-  no_fault e h = let refused = h.read.1 in let first = a.read in cc
+  no_fault e h = h.none a.said place a.text
 
   pub not_refused : (e : TextError) → IsSetCause ring old e → e ≡ errors.Memory
   not_refused (errors.Overflow o) h =
-      let said = same_said h.said h.place (set_is_read ring is old.source old.at h.said h.place h.text) in
+      let said = same_said h.said h.place h.text in
       let exponents = a.exponents in
       let again : sums_of (length ring) a.said ≡ Ok h.sums = ap (sums_of (length ring)) (sym said) ∙ h.exponents in
       let sums : h.sums ≡ a.sums = cc in
-      absurd (none_overflows a.sums o a.fits (subst (λ fs. IsFirstOverflow fs o) sums h.overflow))
+      absurd (none_overflows a.sums o a.fits (subst (λ fs. IsFirstSumOverflow fs o) sums h.overflow))
   not_refused (errors.Exponent o) h =
-      let said = same_said h.said h.place (set_is_read ring is old.source old.at h.said h.place h.text) in
+      let said = same_said h.said h.place h.text in
       let exponents = a.exponents in
       let again : sums_of (length ring) a.said ≡ Err o = ap (sums_of (length ring)) (sym said) ∙ h.exponents in
       cc
@@ -153,8 +145,8 @@ sets_again ring gap ws before text is space kept =
     let place = length before + length (set_text gap ring ws) in
     let said = set_again ring is gap ws before text space kept in
     let read : IsSetRead ring (record { source = source; at = length before }) place ws = record {
+      names = is;
       said = all_said ws;
-      read = set_is_read ring is source (length before) (all_said ws) place said;
       text = said;
       sums = all_listed (length ring) ws;
       exponents = sums_listed (length ring) ws kept;

@@ -1,19 +1,21 @@
 -- Of which kind a fault of a ring's text is, and why no ring is read.
--- To cite: ring_kind, is_unknown, ring_refused. The rest are steps.
+-- To cite: no_ring_same, ring_kind_once, is_unknown, ring_refused. The rest are steps.
 use Rattle.std.proofs.Common.{◌≡◌, ℕ, Bool, true, false, ◌||◌, Err, List, [], ◌∷◌, ◌++◌, length, bytes_eq, refl, sym, ap, subst, ◌∙◌, ◌⊎◌, inl, inr, if◌then◌else◌}
 use Rattle.gf_text.specs.declared.error.Cause.{Cause}
 use Rattle.gf_text.specs.declared.error.Cause.TheVariants.{Ended, Unexpected, RepeatedName, ZeroDenominator, TooWide, UnknownName}
 use Rattle.gf_text.specs.declared.error.TextError.{TextError}
 use Rattle.gf_text.specs.declared.error.TextError.TheVariants as errors
 use Rattle.gf_text.specs.declared.ring_reader.RingPlace.TheVariants as at
-use Rattle.gf_text.specs.Given.{Fails, IsRefused}
+use Rattle.gf_text.specs.Given.{Fails, IsRefusedAs}
 use Rattle.gf_text.specs.Refusing.{refusal_at}
-use Rattle.gf_text.specs.Machine.{Move, go, done, halt, after, followed, Lexeme, texts, Fault, run}
-use Rattle.gf_text.specs.RingText.{is_name, has, letter_q, bracket, comma, bracket_end, RingState, ring_step, ring_at}
-use Rattle.gf_text.specs.RingKinds.{listed, NewNamesMayFollow, IsRingKind, HasRingKind, IsRingFaultKind}
+use Rattle.gf_text.specs.Machine.{Move, go, done, halt, after, followed, Fault}
+use Rattle.gf_text.specs.RingText.{IsRingText, is_name, has, letter_q, RingState, ring_step, ring_at}
+use Rattle.gf_text.specs.Marks.{bracket, comma, bracket_end}
+use Rattle.gf_text.specs.RingKinds.{listed, NewNamesMayFollow, IsRingKind}
 use Rattle.gf_text.specs.Rings.{HasNoRing, IsRingCause}
-use Rattle.gf_text.specs.Tokens.{lexemes, word_more}
-use Rattle.gf_text.proofs.MachineLaws.{after-go, after-none, after-++, fault, no_text, caused, goes_on, never, Halted, stopped}
+use Rattle.gf_text.specs.Tokens.{Position, lexemes, word_more}
+use Rattle.gf_text.proofs.MachineLaws.{after-go, after-none, after-++, no_text, caused, goes_on, never}
+use Rattle.gf_text.proofs.FaultsLaws.{IsOneKind, no_text_once}
 use Rattle.gf_text.proofs.RingTextLaws.{Names, goes, stops, ends, is_letter_q, is_bracket, is_variable, is_comma, long_name, long_is_name, long_is_new, long_stops, IsRingHalt, ring_halts, ring_machine}
 
 -- ---- the names that were read are among the tokens behind Q and [
@@ -161,30 +163,34 @@ repeated ts (at.Behind, names) t reached stop = by (bytes_eq t comma) (bytes_eq 
     by false true e = cc
     by false false e = cc
 
-of_halted : (xs : List Lexeme) (f : Fault) → Halted ring_step (at.Letter, []) xs f → IsRingFaultKind xs f.at f.cause
-of_halted xs f h = by f.cause refl
-  where
-    kind_is : (cause : Cause) → f.cause ≡ cause → IsRingKind (texts h.front) h.token.text cause → HasRingKind xs f.at cause
-    kind_is cause is kind = record { front = h.front; token = h.token; back = h.back; whole = h.whole; at = h.at; kind = kind }
+ring_kinds : (ts : Names) (s : RingState) (t : List ℕ) (cause : Cause) → Reaches ts s → ring_step s t ≡ stops cause → IsRingKind ts t cause
+ring_kinds ts s t Ended reached e = ring_halts s t Ended e
+ring_kinds ts s t Unexpected reached e = unexpected ts s t reached e
+ring_kinds ts s t RepeatedName reached e = repeated ts s t reached e
+ring_kinds ts s t ZeroDenominator reached e = ring_halts s t ZeroDenominator e
+ring_kinds ts s t TooWide reached e = ring_halts s t TooWide e
+ring_kinds ts s t UnknownName reached e = ring_halts s t UnknownName e
 
-    by : (cause : Cause) → f.cause ≡ cause → IsRingFaultKind xs f.at cause
-    by Ended is = tt
-    by Unexpected is = kind_is Unexpected is (unexpected (texts h.front) h.state h.token.text h.reached (h.halts ∙ ap (λ c. halt c) is))
-    by RepeatedName is = kind_is RepeatedName is (repeated (texts h.front) h.state h.token.text h.reached (h.halts ∙ ap (λ c. halt c) is))
-    by ZeroDenominator is = ring_halts h.state h.token.text ZeroDenominator (h.halts ∙ ap (λ c. halt c) is)
-    by TooWide is = ring_halts h.state h.token.text TooWide (h.halts ∙ ap (λ c. halt c) is)
-    by UnknownName is = ring_halts h.state h.token.text UnknownName (h.halts ∙ ap (λ c. halt c) is)
-
--- where the machine stops, the cause is that of the fault's kind
-pub ring_kind : (end : ℕ) (xs : List Lexeme) (f : Fault) → run ring_step (at.Letter, []) end xs ≡ Err f → IsRingFaultKind xs f.at f.cause
-ring_kind end xs f e = elim (stopped ring_step (at.Letter, []) end xs f e) [
-  | inl h ↦ of_halted xs f h
-  | inr u ↦
-      let P : Fault → Type 0 = λ g. IsRingFaultKind xs g.at g.cause in
-      subst P (sym u.fault) tt
-]
+-- at a token a fault is of one kind
+pub ring_kind_once : IsOneKind IsRingKind
+ring_kind_once ts t Unexpected Unexpected h k = refl
+ring_kind_once ts t Unexpected RepeatedName h k = absurd (h k.0 k.2)
+ring_kind_once ts t RepeatedName Unexpected h k = absurd (k h.0 h.2)
+ring_kind_once ts t RepeatedName RepeatedName h k = refl
+ring_kind_once ts t Ended d h k = absurd h
+ring_kind_once ts t ZeroDenominator d h k = absurd h
+ring_kind_once ts t TooWide d h k = absurd h
+ring_kind_once ts t UnknownName d h k = absurd h
+ring_kind_once ts t c Ended h k = absurd k
+ring_kind_once ts t c ZeroDenominator h k = absurd k
+ring_kind_once ts t c TooWide h k = absurd k
+ring_kind_once ts t c UnknownName h k = absurd k
 
 -- ---- why no ring is read
+
+-- where none is read the refusal is one
+pub no_ring_same : (old : Position) (e d : TextError) → HasNoRing old e → HasNoRing old d → d ≡ e
+no_ring_same old e d h k = no_text_once IsRingText IsRingKind ring_kind_once (lexemes word_more old.source old.at) (length old.source) d e k h
 
 -- a fault of a ring's text isn't that a number is too wide, nor that a name is unknown
 not_refused_as : (source : List ℕ) (from : ℕ) (f : Fault) → ring_at source from ≡ Err f → (f.cause ≡ TooWide → ⊥) × (f.cause ≡ UnknownName → ⊥)
@@ -211,19 +217,8 @@ is_unknown place TooWide at e = cc
 is_unknown place UnknownName at e = refl
 
 -- no ring's text stands there, and its fault is of this kind
-no_ring : (source : List ℕ) (from : ℕ) (error : TextError) → IsRefused error (ring_at source from) → HasNoRing (record { source = source; at = from }) error
-no_ring source from error r =
-    let xs = lexemes word_more source from in
-    record {
-      read = r;
-      text = record {
-        fault = r.0;
-        refused = r.2;
-        place = fault ring_machine (length source) xs r.0 r.1;
-        none = (no_text ring_machine (length source) xs error r).none;
-      };
-      kind = ring_kind (length source) xs r.0 r.1;
-    }
+no_ring : (source : List ℕ) (from : ℕ) (error : TextError) → IsRefusedAs error (ring_at source from) → HasNoRing (record { source = source; at = from }) error
+no_ring source from error r = no_text ring_machine IsRingKind ring_kinds (length source) (lexemes word_more source from) error r
 
 pub ring_refused : (source : List ℕ) (from : ℕ) (error : TextError) → Fails error (ring_at source from) → IsRingCause (record { source = source; at = from }) error
 ring_refused source from (errors.Overflow o) h = absurd h

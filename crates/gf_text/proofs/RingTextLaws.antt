@@ -1,18 +1,21 @@
 -- The machine of rings reads exactly what the grammar of rings says, and a printed ring is read again.
--- To cite: ring_machine, ring_reads, ring_is_read, ring_read, ring_halts, long_name, long_is_name, long_is_new, long_stops, one_ring, rings_again. The rest are steps.
+-- To cite: ring_machine, ring_reads, ring_read, ring_halts, long_name, long_is_name, long_is_new, long_stops, one_ring, rings_again. The rest are steps.
 use Rattle.std.proofs.Common.{◌≡◌, ◌<◌, ◌≤◌, ℕ, zero, suc, ◌+◌, Bool, true, false, ◌||◌, List, [], ◌∷◌, ◌++◌, length, flat_map, Ok, refl, sym, ap, ◌∙◌, subst, inl, inr, append_assoc, append-nil, bytes_eq, arith, if◌then◌else◌, replicate}
 use Rattle.std.proofs.lemmas.Slice.Eq.{bytes_eq-Decides}
 use Rattle.std.proofs.lemmas.List.{length-replicate}
 use Rattle.std.specs.List.{list_all}
 use Rattle.gf_text.specs.declared.error.Cause.{Cause}
 use Rattle.gf_text.specs.declared.error.Cause.TheVariants.{Ended, Unexpected, RepeatedName, ZeroDenominator, TooWide, UnknownName}
+use Rattle.gf_text.specs.declared.error.TextError.{TextError}
+use Rattle.gf_text.specs.declared.error.TextError.TheVariants as errors
 use Rattle.gf_text.specs.declared.ring_reader.RingPlace.TheVariants as at
-use Rattle.gf_text.specs.Machine.{Move, go, done, halt, after, Reads, HasOneMeaning}
-use Rattle.gf_text.specs.Rings.{IsRingRead}
-use Rattle.gf_text.specs.RingText.{is_name, has, AreNew, IsRingText, ring_tokens, more_names, letter_q, bracket, comma, bracket_end, RingState, ring_step, ring_at, ring_words, RingsAreReadAgain}
-use Rattle.gf_text.specs.Tokens.{is_space, is_name_byte, lexemes, word_more}
-use Rattle.gf_text.proofs.MachineLaws.{after-go, after-done, first, not_yet, reads, is_read, one_meaning, IsMachineOf}
-use Rattle.gf_text.proofs.SpelledLaws.{IsToken, IsSpelled, goes_on, spelled-none, spelled-token, spelled-++, spelled-read, word_token}
+use Rattle.gf_text.specs.Machine.{Lexeme, Move, go, done, halt, after, Reads, HasOneMeaning}
+use Rattle.gf_text.specs.Rings.{IsRingRead, IsRingCause, HasTooMany, IsReadAsRing, RingsAreReadAgain}
+use Rattle.gf_text.specs.RingText.{is_name, has, AreNew, IsRingText, ring_tokens, more_names, letter_q, RingState, ring_step, ring_at, ring_words}
+use Rattle.gf_text.specs.Marks.{bracket, comma, bracket_end}
+use Rattle.gf_text.specs.Tokens.{is_name_byte, lexemes, word_more, Position}
+use Rattle.gf_text.proofs.MachineLaws.{after-go, after-done, first, not_yet, reads, one_meaning, IsMachineOf}
+use Rattle.gf_text.proofs.SpelledLaws.{IsSpelled, goes_on, spelled-none, spelled-token, spelled-++, spelled-read, mark_token, word_token}
 
 -- ---- what the machine does at a token
 
@@ -291,13 +294,10 @@ ring_machine = record {
 pub ring_reads : (source : List ℕ) (from : ℕ) (names : Names) (place : ℕ) → ring_at source from ≡ Ok (names, place) → Reads IsRingText (lexemes word_more source from) names place
 ring_reads source from names place e = reads ring_step IsRingText (at.Letter, []) (length source) (lexemes word_more source from) names place (λ ts. ring_said ts names) e
 
-pub ring_is_read : (source : List ℕ) (from : ℕ) (names : Names) (place : ℕ) → Reads IsRingText (lexemes word_more source from) names place → ring_at source from ≡ Ok (names, place)
-ring_is_read source from names place r = is_read ring_step IsRingText (at.Letter, []) (length source) (lexemes word_more source from) names place (λ ts. ring_given ts names) r
-
 pub ring_read : (source : List ℕ) (from : ℕ) (names : Names) (place : ℕ) → ring_at source from ≡ Ok (names, place) → length names ≤ 16 → IsRingRead (record { source = source; at = from }) place names
 ring_read source from names place e few =
     let r = ring_reads source from names place e in
-    record { read = e; text = r; ring = record { some = r.text.some; few = few; different = r.text.different } }
+    record { text = r; ring = record { some = r.text.some; few = few; different = r.text.different } }
 
 pub one_ring : HasOneMeaning IsRingText
 one_ring = one_meaning ring_step IsRingText (at.Letter, []) ring_given
@@ -309,9 +309,6 @@ name_stops : (ns : Names) (text : List ℕ) → goes_on (flat_map (λ m. 44 ∷ 
 name_stops [] text = refl
 name_stops (n ∷ ns) text = refl
 
-mark_token : (b : ℕ) (rest : List ℕ) → is_space b ≡ false → word_more (b ∷ rest) ≡ 0 → IsToken word_more (b ∷ []) rest
-mark_token b rest visible whole = record { first = b; others = []; shape = refl; visible = visible; whole = whole }
-
 names_spelled : (before ns : Names) (text : List ℕ) → AreNew before ns → IsSpelled word_more (flat_map (λ m. 44 ∷ m) ns) (93 ∷ text) (more_names ns)
 names_spelled before [] text new = spelled-none word_more (93 ∷ text)
 names_spelled before (n ∷ ns) text new =
@@ -322,6 +319,29 @@ names_spelled before (n ∷ ns) text new =
     let names : IsSpelled word_more (n ++ more) (93 ∷ text) (n ∷ more_names ns) = spelled-++ word_more n more (93 ∷ text) (n ∷ []) (more_names ns) name later in
     let mark = spelled-token word_more comma ((n ++ more) ++ 93 ∷ text) (mark_token 44 ((n ++ more) ++ 93 ∷ text) refl refl) in
     spelled-++ word_more comma (n ++ more) (93 ∷ text) (comma ∷ []) (n ∷ more_names ns) mark names
+
+-- a ring that is read is the only one, and isn't refused
+read_as : (old : Position) (place : ℕ) (names : Names) → IsRingRead old place names → IsReadAsRing old place names
+read_as old place names a = record { read = a; only = only; taken = taken }
+  where
+    xs : List Lexeme
+    xs = lexemes word_more old.source old.at
+
+    only : (end : ℕ) (ns : Names) → IsRingRead old end ns → (end ≡ place) × (ns ≡ names)
+    only end ns b = let same = one_ring xs ns names end place b.text a.text in (same.1, same.0)
+
+    not_many : (count : ℕ) → HasTooMany old count → ⊥
+    not_many count h = let same = one_ring xs names h.names place h.place a.text h.text in omega (arith, ap (λ (l : Names). length l) same.0, a.ring.few, h.number, h.many)
+
+    taken : (e : TextError) → IsRingCause old e → e ≡ errors.Memory
+    taken (errors.Overflow o) h = absurd h
+    taken (errors.Exponent o) h = absurd h
+    taken (errors.Syntax s) h = absurd (h.none names place a.text)
+    taken (errors.TooWide at) h = absurd h
+    taken (errors.UnknownName at) h = absurd h
+    taken (errors.TooManyVariables count) h = absurd (not_many count h)
+    taken (errors.ZeroPolynomial set index) h = absurd h
+    taken errors.Memory h = refl
 
 pub rings_again : RingsAreReadAgain
 rings_again [] before text ring = absurd (omega (arith, ring.some))
@@ -336,5 +356,7 @@ rings_again (n ∷ ns) before text ring =
     let whole : IsSpelled word_more (81 ∷ 91 ∷ (n ++ more)) end (letter_q ∷ bracket ∷ n ∷ more_names ns) =
     spelled-++ word_more letter_q (91 ∷ (n ++ more)) end (letter_q ∷ []) (bracket ∷ n ∷ more_names ns) (spelled-token word_more letter_q (91 ∷ ((n ++ more) ++ end)) (mark_token 81 (91 ∷ ((n ++ more) ++ end)) refl refl)) opened in
     let said : IsRingText ((letter_q ∷ bracket ∷ n ∷ more_names ns) ++ bracket_end ∷ []) (n ∷ ns) = record { tokens = refl; some = ring.some; different = ring.different } in
-    ring_is_read (before ++ (ring_words (n ∷ ns) ++ text)) (length before) (n ∷ ns) (length before + length (ring_words (n ∷ ns)))
-    (spelled-read word_more IsRingText (n ∷ ns) before (81 ∷ 91 ∷ (n ++ more)) bracket_end text (letter_q ∷ bracket ∷ n ∷ more_names ns) whole (mark_token 93 text refl refl) said)
+    read_as (record { source = before ++ (ring_words (n ∷ ns) ++ text); at = length before }) (length before + length (ring_words (n ∷ ns))) (n ∷ ns) (record {
+      text = spelled-read word_more IsRingText (n ∷ ns) before (81 ∷ 91 ∷ (n ++ more)) bracket_end text (letter_q ∷ bracket ∷ n ∷ more_names ns) whole (mark_token 93 text refl refl) said;
+      ring = ring;
+    })

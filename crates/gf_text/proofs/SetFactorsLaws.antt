@@ -8,9 +8,10 @@ use Rattle.gf_text.specs.declared.tree.WrittenTerm.{WrittenTerm}
 use Rattle.gf_text.specs.declared.set_reader.SetPlace.TheVariants as at
 use Rattle.gf_text.specs.declared.set_reader.Part.{Part}
 use Rattle.gf_text.specs.Machine.{go, done, after}
-use Rattle.gf_text.specs.Tokens.{value}
+use Rattle.gf_text.specs.Tokens.{decimal_value}
 use Rattle.gf_text.specs.RingText.{IsRing}
-use Rattle.gf_text.specs.SetText.{variable, plus, minus, comma, star, slash, caret, brace_end, sign, most_exponent, IsFactorText, IsStar, AreMoreFactors, IsMonomialText, SetState, with_name, with_factor, next_term, all_of, next_polynomial, behind_step, set_step}
+use Rattle.gf_text.specs.SetText.{variable, sign, most_exponent, IsFactorText, IsStar, AreMoreFactors, IsMonomialText, SetState, with_name, with_factor, next_term, all_of, next_polynomial, behind_step, set_step}
+use Rattle.gf_text.specs.Marks.{plus_mark, minus_mark, comma, star, slash, caret, brace_end}
 use Rattle.gf_text.proofs.MachineLaws.{after-go, after-done}
 use Rattle.gf_text.proofs.SetTokensLaws.{named_word, no_name, word_no_mark, number_within}
 
@@ -74,13 +75,13 @@ module _ (ring : List (List ℕ)) (is_ring : IsRing ring) where
 
   pub like_sign : (s : SetState) (p : Part) → Like ring s p → (m : Bool) (ts : Texts) → Leads ring s (sign m ∷ ts) (at.Term, next_term p m) ts
   like_sign s p like true ts =
-      let none = no_name ring is_ring minus refl in
-      let here : behind_step ring p minus ≡ go (at.Term, next_term p true) = rw none refl in
-      after-go (set_step ring) s (at.Term, next_term p true) minus ts (like minus refl refl ∙ here)
+      let none = no_name ring is_ring minus_mark refl in
+      let here : behind_step ring p minus_mark ≡ go (at.Term, next_term p true) = rw none refl in
+      after-go (set_step ring) s (at.Term, next_term p true) minus_mark ts (like minus_mark refl refl ∙ here)
   like_sign s p like false ts =
-      let none = no_name ring is_ring plus refl in
-      let here : behind_step ring p plus ≡ go (at.Term, next_term p false) = rw none refl in
-      after-go (set_step ring) s (at.Term, next_term p false) plus ts (like plus refl refl ∙ here)
+      let none = no_name ring is_ring plus_mark refl in
+      let here : behind_step ring p plus_mark ≡ go (at.Term, next_term p false) = rw none refl in
+      after-go (set_step ring) s (at.Term, next_term p false) plus_mark ts (like plus_mark refl refl ∙ here)
 
   pub like_comma : (s : SetState) (p : Part) → Like ring s p → (ts : Texts) → Leads ring s (comma ∷ ts) (at.Polynomial, next_polynomial p) ts
   like_comma s p like ts =
@@ -111,14 +112,14 @@ module _ (ring : List (List ℕ)) (is_ring : IsRing ring) where
       let digits = number.0 in
       let within = number_within k f.exponent most_exponent number in
       record {
-        state = (at.Behind, with_factor q (value k));
-        part = with_factor q (value k);
-        like = behind_like ring (with_factor q (value k));
+        state = (at.Behind, with_factor q (decimal_value k));
+        part = with_factor q (decimal_value k);
+        like = behind_like ring (with_factor q (decimal_value k));
         same = ap (with_factor q) number.1;
         on = ap (λ l. after (set_step ring) s (l ++ rest)) is
             ∙ takes name f.variable (caret ∷ k ∷ rest) named
             ∙ after-go (set_step ring) (at.Name, q) (at.Exponent, q) caret (k ∷ rest) refl
-            ∙ after-go (set_step ring) (at.Exponent, q) (at.Behind, with_factor q (value k)) k rest (rw (digits, within) refl);
+            ∙ after-go (set_step ring) (at.Exponent, q) (at.Behind, with_factor q (decimal_value k)) k rest (rw (digits, within) refl);
       }
 
   -- tokens, and then factors

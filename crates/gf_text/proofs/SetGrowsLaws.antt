@@ -8,10 +8,11 @@ use Rattle.gf_text.specs.declared.set_reader.SetPlace.{SetPlace}
 use Rattle.gf_text.specs.declared.set_reader.SetPlace.TheVariants as at
 use Rattle.gf_text.specs.declared.set_reader.Part.{Part}
 use Rattle.gf_text.specs.Machine.{Lexeme, behind, texts, go, done, halt, run, followed, after}
-use Rattle.gf_text.specs.Tokens.{is_number, value, lexemes, ring_more}
+use Rattle.gf_text.specs.Tokens.{is_number, decimal_value, lexemes, ring_more}
 use Rattle.gf_text.specs.RingText.{IsRing}
-use Rattle.gf_text.specs.SetText.{variable, plus, minus, comma, star, slash, caret, brace, brace_end, most, most_exponent, SetState, SetMove, with_factor, with_numer, with_denom, terms_of, next_term, all_of, next_polynomial, is_word, name_or_by, number_or, term_or, front_step, end_step, behind_step, denominator_step, exponent_step, token_step, set_step, empty, set_at}
-use Rattle.gf_text.specs.Limits.{AreWithin}
+use Rattle.gf_text.specs.SetText.{variable, most, most_exponent, SetState, SetMove, with_factor, with_numer, with_denom, part_terms, next_term, all_of, next_polynomial, is_word, name_or_by, number_or, term_or, front_step, end_step, behind_step, denominator_step, exponent_step, token_step, set_step, empty, set_at}
+use Rattle.gf_text.specs.Marks.{plus_mark, minus_mark, comma, star, slash, caret, brace, brace_end}
+use Rattle.gf_text.specs.Limits.{ArePolynomialsWithin}
 use Rattle.gf_text.proofs.LimitsLaws.{set_within}
 use Rattle.gf_text.proofs.MachineLaws.{run_go, run_done, run_halt, run_ended, after-go, after-none, after-++}
 use Rattle.gf_text.proofs.SetReadLaws.{set_said}
@@ -46,21 +47,21 @@ module _ (ring : List (List ℕ)) (qs : Sets) where
 
   number_follows : (t : List ℕ) (limit : ℕ) (x y v w : SetMove) → v ≡ follows qs x → w ≡ follows qs y → number_or t limit v w ≡ follows qs (number_or t limit x y)
   number_follows t limit x y v w h k =
-      either (is_number t) (if nat_le (value t) limit then x else halt TooWide) y (if nat_le (value t) limit then v else halt TooWide) w
-      (either (nat_le (value t) limit) x (halt TooWide) v (halt TooWide) h refl) k
+      either (is_number t) (if nat_le (decimal_value t) limit then x else halt TooWide) y (if nat_le (decimal_value t) limit then v else halt TooWide) w
+      (either (nat_le (decimal_value t) limit) x (halt TooWide) v (halt TooWide) h refl) k
 
   term_follows : (p : Part) (t : List ℕ) → term_or ring (following qs p) t (halt Unexpected) ≡ follows qs (term_or ring p t (halt Unexpected))
   term_follows p t =
-      number_follows t most (go (at.Number, with_numer p (value t))) (name_or_by (variable ring t) p t (halt Unexpected))
-      (go (at.Number, with_numer (following qs p) (value t))) (name_or_by (variable ring t) (following qs p) t (halt Unexpected))
+      number_follows t most (go (at.Number, with_numer p (decimal_value t))) (name_or_by (variable ring t) p t (halt Unexpected))
+      (go (at.Number, with_numer (following qs p) (decimal_value t))) (name_or_by (variable ring t) (following qs p) t (halt Unexpected))
       refl (name_follows (variable ring t) p t (halt Unexpected) (halt Unexpected) refl)
 
   front_follows : (p : Part) (t : List ℕ) → front_step ring (following qs p) t ≡ follows qs (front_step ring p t)
   front_follows p t =
-      either (bytes_eq t plus) _ _ _ _ refl (either (bytes_eq t minus) _ _ _ _ refl (term_follows p t))
+      either (bytes_eq t plus_mark) _ _ _ _ refl (either (bytes_eq t minus_mark) _ _ _ _ refl (term_follows p t))
 
   polynomial_follows : (p : Part) → all_of (following qs p) ≡ qs ++ all_of p
-  polynomial_follows p = append_assoc qs p.polynomials (terms_of p ∷ [])
+  polynomial_follows p = append_assoc qs p.polynomials (part_terms p ∷ [])
 
   -- the polynomial is read
   next_follows : (p : Part) → next_polynomial (following qs p) ≡ following qs (next_polynomial p)
@@ -68,8 +69,8 @@ module _ (ring : List (List ℕ)) (qs : Sets) where
 
   end_follows : (p : Part) (t : List ℕ) → end_step (following qs p) t ≡ follows qs (end_step p t)
   end_follows p t =
-      either (bytes_eq t plus) (go (at.Term, next_term p false)) _ _ _ refl
-      (either (bytes_eq t minus) (go (at.Term, next_term p true)) _ _ _ refl
+      either (bytes_eq t plus_mark) (go (at.Term, next_term p false)) _ _ _ refl
+      (either (bytes_eq t minus_mark) (go (at.Term, next_term p true)) _ _ _ refl
       (either (bytes_eq t comma) (go (at.Polynomial, next_polynomial p)) _ _ _ (ap (λ q. go (at.Polynomial, q)) (next_follows p))
       (either (bytes_eq t brace_end) (done (all_of p)) (halt Unexpected) _ (halt Unexpected) (ap (λ ps. done ps) (polynomial_follows p)) refl)))
 
@@ -80,12 +81,12 @@ module _ (ring : List (List ℕ)) (qs : Sets) where
 
   denominator_follows : (p : Part) (t : List ℕ) → denominator_step (following qs p) t ≡ follows qs (denominator_step p t)
   denominator_follows p t =
-      either (is_number t && value t == 0) (halt ZeroDenominator) _ (halt ZeroDenominator) _ refl
-      (number_follows t most (go (at.Behind, with_denom p (value t))) (halt Unexpected) (go (at.Behind, with_denom (following qs p) (value t))) (halt Unexpected) refl refl)
+      either (is_number t && decimal_value t == 0) (halt ZeroDenominator) _ (halt ZeroDenominator) _ refl
+      (number_follows t most (go (at.Behind, with_denom p (decimal_value t))) (halt Unexpected) (go (at.Behind, with_denom (following qs p) (decimal_value t))) (halt Unexpected) refl refl)
 
   exponent_follows : (p : Part) (t : List ℕ) → exponent_step (following qs p) t ≡ follows qs (exponent_step p t)
   exponent_follows p t =
-      number_follows t most_exponent (go (at.Behind, with_factor p (value t))) (halt Unexpected) (go (at.Behind, with_factor (following qs p) (value t))) (halt Unexpected) refl refl
+      number_follows t most_exponent (go (at.Behind, with_factor p (decimal_value t))) (halt Unexpected) (go (at.Behind, with_factor (following qs p) (decimal_value t))) (halt Unexpected) refl refl
 
   token_follows : (place : SetPlace) (p : Part) (t : List ℕ) → token_step ring place (following qs p) t ≡ follows qs (token_step ring place p t)
   token_follows at.Brace p t = either (bytes_eq t brace) (go (at.First, p)) (halt Unexpected) (go (at.First, following qs p)) (halt Unexpected) refl refl
@@ -136,11 +137,11 @@ module _ (ring : List (List ℕ)) where
       begins_by qs ps (after (set_step ring) (s.0, none) ts)
       (sym (after_follows ring qs ts (s.0, none)) ∙ ap (λ (p : Part). after (set_step ring) (s.0, p) ts) same ∙ e)
 
-within_front : (n : ℕ) (qs ps : Sets) → AreWithin n (qs ++ ps) → AreWithin n qs
+within_front : (n : ℕ) (qs ps : Sets) → ArePolynomialsWithin n (qs ++ ps) → ArePolynomialsWithin n qs
 within_front n [] ps h = tt
 within_front n (q ∷ qs) ps h = (h.0, within_front n qs ps h.1)
 
-within_back : (n : ℕ) (qs ps : Sets) → AreWithin n (qs ++ ps) → AreWithin n ps
+within_back : (n : ℕ) (qs ps : Sets) → ArePolynomialsWithin n (qs ++ ps) → ArePolynomialsWithin n ps
 within_back n [] ps h = h
 within_back n (q ∷ qs) ps h = within_back n qs ps h.1
 
@@ -159,12 +160,12 @@ module _ (ring : List (List ℕ)) where
 
 module _ (ring : List (List ℕ)) (is_ring : IsRing ring) where
   -- what was read where some tokens lead to is within
-  reached_within : (ts : Texts) (s : SetState) → Reaches ring ts s → AreWithin (length ring) s.1.polynomials
+  reached_within : (ts : Texts) (s : SetState) → Reaches ring ts s → ArePolynomialsWithin (length ring) s.1.polynomials
   reached_within ts s reached =
       let l = (set_machine ring is_ring).live s in
       let whole = after-++ (set_step ring) (at.Brace, empty) s ts l.0 reached ∙ l.2 in
       let b = begins ring s l.0 l.1 l.2 in
-      within_front (length ring) s.1.polynomials b.0 (subst (AreWithin (length ring)) b.1 (set_within ring (ts ++ l.0) l.1 (set_said ring (ts ++ l.0) l.1 whole)))
+      within_front (length ring) s.1.polynomials b.0 (subst (ArePolynomialsWithin (length ring)) b.1 (set_within ring (ts ++ l.0) l.1 (set_said ring (ts ++ l.0) l.1 whole)))
 
   module _ (source : List ℕ) (from place next : ℕ) (x : Lexeme) (s : SetState) (said : Sets) (r : Reading ring source from place s said) (tokens : lexemes (ring_more ring) source place ≡ x ∷ lexemes (ring_more ring) source next) where
     moves : (m : SetMove) → set_step ring s x.text ≡ m → set_step ring (s.0, following said s.1) x.text ≡ follows said m
@@ -180,7 +181,7 @@ module _ (ring : List (List ℕ)) (is_ring : IsRing ring) where
       same = sym (run_go (set_step ring) (s.0, following said s.1) (u.0, following said u.1) (length source) _ x _ tokens (moves (go u) is)) ∙ r.same;
     }
 
-    pub go_within : (u : SetState) → set_step ring s x.text ≡ go u → AreWithin (length ring) u.1.polynomials
+    pub go_within : (u : SetState) → set_step ring s x.text ≡ go u → ArePolynomialsWithin (length ring) u.1.polynomials
     go_within u is =
         let n = reading_on u is in
         within_back (length ring) said u.1.polynomials (reached_within n.front (u.0, following said u.1) n.reached)
@@ -200,7 +201,7 @@ module _ (ring : List (List ℕ)) (is_ring : IsRing ring) where
     pub reading_done : (ps : Sets) → set_step ring s x.text ≡ done ps → set_at ring source from ≡ Ok (said ++ ps, behind x)
     reading_done ps is = sym r.same ∙ run_done (set_step ring) (s.0, following said s.1) (said ++ ps) (length source) _ x _ tokens (moves (done ps) is)
 
-    pub done_within : (ps : Sets) → set_step ring s x.text ≡ done ps → AreWithin (length ring) ps
+    pub done_within : (ps : Sets) → set_step ring s x.text ≡ done ps → ArePolynomialsWithin (length ring) ps
     done_within ps is =
         let text = set_reads ring source from (said ++ ps) (behind x) (reading_done ps is) in
         within_back (length ring) said ps (set_within ring (texts text.front) (said ++ ps) text.text)

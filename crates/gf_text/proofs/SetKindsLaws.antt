@@ -1,6 +1,6 @@
 -- Of which kind a fault of a set's text is, and why no set is read.
--- To cite: set_kind, set_cause. The rest are steps.
-use Rattle.std.proofs.Common.{◌≡◌, ◌<◌, ◌≤◌, ℕ, Bool, true, false, Err, List, [], ◌∷◌, ◌++◌, length, refl, sym, subst, ◌∙◌, ◌⊎◌, inl, inr, arith}
+-- To cite: no_set_same, set_gate, set_kinds, set_cause. The rest are steps.
+use Rattle.std.proofs.Common.{◌≡◌, ℕ, Bool, true, false, Option, List, length, refl, ap, ◌⊎◌, inl, inr}
 use Rattle.gf_text.specs.declared.error.Cause.{Cause}
 use Rattle.gf_text.specs.declared.error.Cause.TheVariants.{Ended, Unexpected, RepeatedName, ZeroDenominator, TooWide, UnknownName}
 use Rattle.gf_text.specs.declared.error.TextError.{TextError}
@@ -8,122 +8,80 @@ use Rattle.gf_text.specs.declared.error.TextError.TheVariants as errors
 use Rattle.gf_text.specs.declared.set_reader.SetPlace.{SetPlace}
 use Rattle.gf_text.specs.declared.set_reader.SetPlace.TheVariants as at
 use Rattle.gf_text.specs.declared.set_reader.Part.{Part}
-use Rattle.gf_text.specs.Machine.{Lexeme, texts, go, halt, after, run, Fault}
-use Rattle.gf_text.specs.Tokens.{is_number, value, lexemes, ring_more}
+use Rattle.gf_text.specs.Machine.{go, halt, after}
+use Rattle.gf_text.specs.Tokens.{Position, lexemes, ring_more}
 use Rattle.gf_text.specs.RingText.{IsRing}
-use Rattle.gf_text.specs.SetText.{SetState, is_word, token_step, set_step, empty, set_at}
-use Rattle.gf_text.specs.SetKinds.{MayFollow, NumberMayFollow, NameMayFollow, IsKind, HasKind, IsFaultKind}
-use Rattle.gf_text.specs.Given.{IsRefused, Fails}
+use Rattle.gf_text.specs.SetText.{IsSetText, SetState, token_step, set_step, empty, set_at}
+use Rattle.gf_text.specs.Kinds.{IsTokenKind}
+use Rattle.gf_text.specs.Given.{IsRefusedAs, Fails}
 use Rattle.gf_text.specs.Sets.{HasNoSet, IsSetCause}
-use Rattle.gf_text.proofs.MachineLaws.{fault, no_text, after-go, after-none, after-++, Halted, stopped, goes_on, never}
+use Rattle.gf_text.proofs.MachineLaws.{no_text}
+use Rattle.gf_text.proofs.FaultsLaws.{token_kind_once, no_text_once}
+use Rattle.gf_text.proofs.KindsLaws.{refused_by, halts, NoNumbers, Numbers, NoWords, Words, Reason as IsReason, IsGate, gate_kind}
 use Rattle.gf_text.proofs.SetTokensLaws.{named_word}
-use Rattle.gf_text.proofs.SetStopsLaws.{takes_number, takes_name, limit, Reason, reason, one, one_goes, name_goes, number_stops, number_wide, number_taken, word_stops, word_taken}
+use Rattle.gf_text.proofs.SetStopsLaws.{takes_number, takes_name, limit, Reason, reason, one_goes, name_goes, number_stops, number_wide, number_taken, word_stops, word_taken}
 use Rattle.gf_text.proofs.SetMachineLaws.{set_machine, first_name}
 
 module _ (ring : List (List ℕ)) (is_ring : IsRing ring) where
-  -- behind these tokens the machine is in this state
-  abbrev Reaches : List (List ℕ) → SetState → Type 0
-  Reaches ts s = after (set_step ring) (at.Brace, empty) ts ≡ go s
+  module _ (place : SetPlace) (p : Part) where
+    -- why a token is refused here
+    abbrev gate : List ℕ → Option Cause
+    gate t = refused_by (token_step ring place p t)
 
-  -- what the machine takes may follow, and what it can't take may not
-  may : (ts : List (List ℕ)) (s u : SetState) (t : List ℕ) → Reaches ts s → set_step ring s t ≡ go u → MayFollow ring ts t
-  may ts s u t reached on =
-      goes_on (set_machine ring is_ring) (ts ++ t ∷ []) u
-      (after-++ (set_step ring) (at.Brace, empty) s ts (t ∷ []) reached ∙ after-go (set_step ring) s u t [] on ∙ after-none (set_step ring) u)
+    numbers : takes_number place ≡ true → Numbers gate
+    numbers takes = record {
+      limit = limit place;
+      takes = ap (λ m. refused_by m) (one_goes ring place takes p).1;
+      wide = λ n digits above. ap (λ m. refused_by m) (number_wide ring place takes p n digits above);
+      small = λ n digits e. (reason ring place p n TooWide (halts (token_step ring place p n) TooWide e)).2;
+      expected = λ n digits e. number_taken ring place takes p n digits (halts (token_step ring place p n) Unexpected e);
+    }
 
-  may_not : (ts : List (List ℕ)) (s : SetState) (t : List ℕ) (cause : Cause) → Reaches ts s → set_step ring s t ≡ halt cause → MayFollow ring ts t → ⊥
-  may_not ts s t cause reached stops = never (set_machine ring is_ring) ts s t cause reached stops
+    words : takes_name place ≡ true → Words ring gate
+    words takes =
+        let n = first_name ring is_ring in
+        record {
+          name = n.0;
+          number = n.1;
+          is = n.2;
+          takes = ap (λ m. refused_by m) (name_goes ring is_ring place takes p n.0 n.1 n.2).1;
+          expected = λ t word e. word_taken ring place takes p t word (halts (token_step ring place p t) Unexpected e);
+        }
 
-  number_may : (ts : List (List ℕ)) (place : SetPlace) (p : Part) → Reaches ts (place, p) → takes_number place ≡ true → NumberMayFollow ring ts
-  number_may ts place p reached takes = let g = one_goes ring place takes p in (one, refl, may ts (place, p) g.0 one reached g.1)
+    some_numbers : (b : Bool) → takes_number place ≡ b → NoNumbers gate ⊎ Numbers gate
+    some_numbers true is = inr (numbers is)
+    some_numbers false is = inl (λ n digits. ap (λ m. refused_by m) (number_stops ring is_ring place is p n digits))
 
-  name_may : (ts : List (List ℕ)) (place : SetPlace) (p : Part) → Reaches ts (place, p) → takes_name place ≡ true → NameMayFollow ring ts
-  name_may ts place p reached takes =
-      let n = first_name ring is_ring in
-      let g = name_goes ring is_ring place takes p n.0 n.1 n.2 in
-      (n.0, n.1, n.2, may ts (place, p) g.0 n.0 reached g.1)
+    some_words : (b : Bool) → takes_name place ≡ b → NoWords gate ⊎ Words ring gate
+    some_words true is = inr (words is)
+    some_words false is = inl (λ t word. ap (λ m. refused_by m) (word_stops ring place is p t word))
 
-  -- a number that may stand is within the limit
-  within : (ts : List (List ℕ)) (place : SetPlace) (p : Part) (n : List ℕ) → Reaches ts (place, p) → takes_number place ≡ true → is_number n ≡ true → MayFollow ring ts n → value n ≤ limit place
-  within ts place p n reached takes digits follows = elim (le_or_above (value n) (limit place)) [
-    | inl h ↦ h
-    | inr h ↦ absurd (may_not ts (place, p) n TooWide reached (number_wide ring place takes p n digits h) follows)
-  ]
-    where
-      le_or_above : (a b : ℕ) → (a ≤ b) ⊎ (b < a)
-      le_or_above a b = grind arith
+    is_reason : (t : List ℕ) (cause : Cause) → Reason place t cause → IsReason ring gate t cause
+    is_reason t Ended r = r
+    is_reason t Unexpected r = r
+    is_reason t RepeatedName r = r
+    is_reason t ZeroDenominator r = (numbers r.0, r.1, r.2)
+    is_reason t TooWide r = (numbers r.0, r.1)
+    is_reason t UnknownName r = (words r.0, r.1)
 
-  no_number : (ts : List (List ℕ)) (place : SetPlace) (p : Part) (t : List ℕ) → Reaches ts (place, p) → token_step ring place p t ≡ halt Unexpected → is_number t ≡ true → NumberMayFollow ring ts → ⊥
-  no_number ts place p t reached stops digits f = by (takes_number place) refl
-    where
-      by : (b : Bool) → takes_number place ≡ b → ⊥
-      by true takes = number_taken ring place takes p t digits stops
-      by false takes = may_not ts (place, p) f.0 Unexpected reached (number_stops ring is_ring place takes p f.0 f.1) f.2
+  -- in each state numbers and letters are taken as the kinds of faults say
+  pub set_gate : (s : SetState) → IsGate ring (λ t. refused_by (set_step ring s t))
+  set_gate s = record {
+    numbers = some_numbers s.0 s.1 (takes_number s.0) refl;
+    words = some_words s.0 s.1 (takes_name s.0) refl;
+    reason = λ t cause e. is_reason s.0 s.1 t cause (reason ring s.0 s.1 t cause (halts (set_step ring s t) cause e));
+  }
 
-  no_word : (ts : List (List ℕ)) (place : SetPlace) (p : Part) (t : List ℕ) → Reaches ts (place, p) → token_step ring place p t ≡ halt Unexpected → is_word t ≡ true → NameMayFollow ring ts → ⊥
-  no_word ts place p t reached stops word f = by (takes_name place) refl
-    where
-      by : (b : Bool) → takes_name place ≡ b → ⊥
-      by true takes = word_taken ring place takes p t word stops
-      by false takes = may_not ts (place, p) f.0 Unexpected reached (word_stops ring place takes p f.0 (named_word ring is_ring f.0 f.1 f.2)) f.3
+  pub set_kinds : (ts : List (List ℕ)) (s : SetState) (t : List ℕ) (cause : Cause) → after (set_step ring) (at.Brace, empty) ts ≡ go s → set_step ring s t ≡ halt cause → IsTokenKind ring (IsSetText ring) ts t cause
+  set_kinds = gate_kind (set_machine ring is_ring) ring (named_word ring is_ring) set_gate
 
-  kind_by : (ts : List (List ℕ)) (place : SetPlace) (p : Part) (t : List ℕ) (cause : Cause) → Reaches ts (place, p) → token_step ring place p t ≡ halt cause → Reason place t cause → IsKind ring ts t cause
-  kind_by ts place p t Ended reached stops r = r
-  kind_by ts place p t RepeatedName reached stops r = r
-  kind_by ts place p t ZeroDenominator reached stops r = (r.1, r.2, number_may ts place p reached r.0)
-  kind_by ts place p t TooWide reached stops r = (
-    r.1,
-    number_may ts place p reached r.0,
-    λ n digits follows. (let small = within ts place p n reached r.0 digits follows in let above = r.2 in omega arith),
-  )
-  kind_by ts place p t UnknownName reached stops r = (r.1, name_may ts place p reached r.0)
-  kind_by ts place p t Unexpected reached stops r = (no_number ts place p t reached stops, no_word ts place p t reached stops)
-
-  halted_kind : (xs : List Lexeme) (place : ℕ) (cause : Cause) → HasKind ring xs place cause → (cause ≡ Ended → ⊥) → (cause ≡ RepeatedName → ⊥) → IsFaultKind ring xs place cause
-  halted_kind xs place Ended k ended repeated = tt
-  halted_kind xs place Unexpected k ended repeated = k
-  halted_kind xs place RepeatedName k ended repeated = repeated refl
-  halted_kind xs place ZeroDenominator k ended repeated = k
-  halted_kind xs place TooWide k ended repeated = k
-  halted_kind xs place UnknownName k ended repeated = k
-
-  of_halted : (xs : List Lexeme) (f : Fault) → Halted (set_step ring) (at.Brace, empty) xs f → IsFaultKind ring xs f.at f.cause
-  of_halted xs f h =
-      let s = h.state in
-      let r = reason ring s.0 s.1 h.token.text f.cause h.halts in
-      let k : HasKind ring xs f.at f.cause = record {
-        front = h.front;
-        token = h.token;
-        back = h.back;
-        whole = h.whole;
-        at = h.at;
-        kind = kind_by (texts h.front) s.0 s.1 h.token.text f.cause h.reached h.halts r;
-      } in
-      halted_kind xs f.at f.cause k (λ e. subst (Reason s.0 h.token.text) e r) (λ e. subst (Reason s.0 h.token.text) e r)
-
-  -- where the machine stops, the cause is that of the fault's kind
-  pub set_kind : (end : ℕ) (xs : List Lexeme) (f : Fault) → run (set_step ring) (at.Brace, empty) end xs ≡ Err f → IsFaultKind ring xs f.at f.cause
-  set_kind end xs f e = elim (stopped (set_step ring) (at.Brace, empty) end xs f e) [
-    | inl h ↦ of_halted xs f h
-    | inr u ↦
-        let P : Fault → Type 0 = λ g. IsFaultKind ring xs g.at g.cause in
-        subst P (sym u.fault) tt
-  ]
+-- where none is read the refusal is one
+pub no_set_same : (ring : List (List ℕ)) (old : Position) (e d : TextError) → HasNoSet ring old e → HasNoSet ring old d → d ≡ e
+no_set_same ring old e d h k = no_text_once (IsSetText ring) (IsTokenKind ring (IsSetText ring)) (token_kind_once (IsSetText ring) ring) (lexemes (ring_more ring) old.source old.at) (length old.source) d e k h
 
 -- why nothing is read is a cause of the set
-no_set : (ring : List (List ℕ)) → IsRing ring → (source : List ℕ) (from : ℕ) (e : TextError) → IsRefused e (set_at ring source from) → HasNoSet ring (record { source = source; at = from }) e
-no_set ring is source from e r =
-    let xs = lexemes (ring_more ring) source from in
-    record {
-      read = r;
-      text = record {
-        fault = r.0;
-        refused = r.2;
-        place = fault (set_machine ring is) (length source) xs r.0 r.1;
-        none = (no_text (set_machine ring is) (length source) xs e r).none;
-      };
-      kind = set_kind ring is (length source) xs r.0 r.1;
-    }
+no_set : (ring : List (List ℕ)) → IsRing ring → (source : List ℕ) (from : ℕ) (e : TextError) → IsRefusedAs e (set_at ring source from) → HasNoSet ring (record { source = source; at = from }) e
+no_set ring is source from e r = no_text (set_machine ring is) (IsTokenKind ring (IsSetText ring)) (set_kinds ring is) (length source) (lexemes (ring_more ring) source from) e r
 
 pub set_cause : (ring : List (List ℕ)) → IsRing ring → (source : List ℕ) (from : ℕ) (e : TextError) → Fails e (set_at ring source from) → IsSetCause ring (record { source = source; at = from }) e
 set_cause ring is source from (errors.Overflow o) h = absurd h

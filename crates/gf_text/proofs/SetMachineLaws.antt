@@ -1,21 +1,21 @@
 -- The machine of sets is one of the grammar of sets: it reads exactly its texts, and from each state on some tokens lead to
 -- a set.
--- To cite: first_name, set_machine, set_reads, set_is_read, set_refused, one_set. The rest are steps.
+-- To cite: first_name, set_machine, set_reads, set_is_read, one_set. The rest are steps.
 use Rattle.std.proofs.Common.{◌≡◌, ℕ, true, List, [], ◌∷◌, length, Some, Ok, refl, ap, ◌∙◌, bytes_eq, arith}
 use Rattle.std.proofs.lemmas.Slice.Eq.{bytes_eq-Decides}
 use Rattle.gf_text.specs.declared.error.Cause.TheVariants.{Ended}
-use Rattle.gf_text.specs.declared.error.TextError.{TextError}
 use Rattle.gf_text.specs.declared.tree.WrittenTerm.{WrittenTerm}
 use Rattle.gf_text.specs.declared.set_reader.SetPlace.TheVariants as at
 use Rattle.gf_text.specs.declared.set_reader.Part.{Part}
 use Rattle.gf_text.specs.Machine.{go, done, after, Reads, HasOneMeaning}
-use Rattle.gf_text.specs.Given.{Fails, HasNone}
 use Rattle.gf_text.specs.Tokens.{lexemes, ring_more}
 use Rattle.gf_text.specs.RingText.{IsRing}
-use Rattle.gf_text.specs.SetText.{variable, brace, brace_end, IsSetText, SetState, with_name, with_factor, with_numer, with_denom, all_of, behind_step, set_step, empty, set_at}
-use Rattle.gf_text.proofs.MachineLaws.{after-go, after-done, reads, is_read, one_meaning, IsMachineOf, refused}
+use Rattle.gf_text.specs.SetText.{variable, IsSetText, SetState, with_name, with_factor, with_numer, with_denom, all_of, behind_step, set_step, empty, set_at}
+use Rattle.gf_text.specs.Marks.{brace, brace_end}
+use Rattle.gf_text.proofs.MachineLaws.{after-go, after-done, reads, is_read, one_meaning, IsMachineOf}
 use Rattle.gf_text.proofs.SetTokensLaws.{no_name}
-use Rattle.gf_text.proofs.SetStopsLaws.{one, reason}
+use Rattle.gf_text.proofs.KindsLaws.{one}
+use Rattle.gf_text.proofs.SetStopsLaws.{reason}
 use Rattle.gf_text.proofs.SetTextLaws.{set_given}
 use Rattle.gf_text.proofs.SetReadLaws.{set_said}
 
@@ -86,10 +86,6 @@ set_reads ring source from ps place e = reads (set_step ring) (IsSetText ring) (
 
 pub set_is_read : (ring : Texts) → IsRing ring → (source : List ℕ) (from : ℕ) (ps : Sets) (place : ℕ) → Reads (IsSetText ring) (lexemes (ring_more ring) source from) ps place → set_at ring source from ≡ Ok (ps, place)
 set_is_read ring is source from ps place r = is_read (set_step ring) (IsSetText ring) (at.Brace, empty) (length source) (lexemes (ring_more ring) source from) ps place (λ ts. set_given ring is ts ps) r
-
--- where nothing is read no text stands, and the fault has its place
-pub set_refused : (ring : Texts) → IsRing ring → (source : List ℕ) (from : ℕ) (error : TextError) → Fails error (set_at ring source from) → HasNone error (IsSetText ring) (lexemes (ring_more ring) source from) (length source)
-set_refused ring is source from error failed = refused (set_machine ring is) (length source) (lexemes (ring_more ring) source from) error failed
 
 pub one_set : (ring : Texts) → IsRing ring → HasOneMeaning (IsSetText ring)
 one_set ring is = one_meaning (set_step ring) (IsSetText ring) (at.Brace, empty) (set_given ring is)

@@ -5,8 +5,9 @@ use Rattle.std.proofs.Common.{◌≡◌, ◌<◌, ℕ, Bool, false, List, [], �
 use Rattle.gf_text.specs.declared.tree.Factor.{Factor}
 use Rattle.gf_text.specs.declared.tree.WrittenTerm.{WrittenTerm}
 use Rattle.gf_text.specs.declared.set_reader.Part.{Part}
-use Rattle.gf_text.specs.Tokens.{value}
-use Rattle.gf_text.specs.SetText.{variable, comma, slash, caret, brace_end, sign, most, most_exponent, IsNumberText, IsFactorText, IsStar, AreMoreFactors, IsRationalText, IsTermText, AreMoreTerms, IsPolynomialText, AreMorePolynomials, with_name, with_factor, with_sign, with_numer, with_denom, terms_of, next_term, all_of, next_polynomial}
+use Rattle.gf_text.specs.Tokens.{decimal_value}
+use Rattle.gf_text.specs.SetText.{variable, sign, most, most_exponent, IsNumberText, IsFactorText, IsStar, AreMoreFactors, IsRationalText, IsTermText, AreMoreTerms, IsPolynomialText, AreMorePolynomials, with_name, with_factor, with_sign, with_numer, with_denom, part_terms, next_term, all_of, next_polynomial}
+use Rattle.gf_text.specs.Marks.{comma, slash, caret, brace_end}
 
 abbrev Texts : Type 0
 Texts = List (List ℕ)
@@ -66,8 +67,8 @@ module _ (ring : List (List ℕ)) where
     pub t : List ℕ
     pub rest : Texts
     pub tokens : ts ≡ t ∷ rest
-    pub number : IsNumberText t (value t) most_exponent
-    pub behind : Behind (with_factor p (value t)) rest ps
+    pub number : IsNumberText t (decimal_value t) most_exponent
+    pub behind : Behind (with_factor p (decimal_value t)) rest ps
 
   -- behind a numerator: / and a denominator, or nothing
   pub record Numbered (p : Part) (ts : Texts) (ps : Sets) : Type 0 where
@@ -83,9 +84,9 @@ module _ (ring : List (List ℕ)) where
     pub t : List ℕ
     pub rest : Texts
     pub tokens : ts ≡ t ∷ rest
-    pub number : IsNumberText t (value t) most
-    pub nonzero : 0 < value t
-    pub behind : Behind (with_denom p (value t)) rest ps
+    pub number : IsNumberText t (decimal_value t) most
+    pub nonzero : 0 < decimal_value t
+    pub behind : Behind (with_denom p (decimal_value t)) rest ps
 
   -- where a term is expected: one, more of them, more polynomials, the brace
   pub record Term (p : Part) (ts : Texts) (ps : Sets) : Type 0 where
@@ -175,7 +176,7 @@ module _ (ring : List (List ℕ)) where
 
   -- the term that was read without more factors
   no_more : (p : Part) (us : List WrittenTerm) (qs : Sets)
-      → p.polynomials ++ (terms_of p ++ us) ∷ qs ≡ p.polynomials ++ (p.terms ++ record { minus = p.minus; numer = p.numer; denom = p.denom; factors = p.factors ++ [] } ∷ us) ∷ qs
+      → p.polynomials ++ (part_terms p ++ us) ∷ qs ≡ p.polynomials ++ (p.terms ++ record { minus = p.minus; numer = p.numer; denom = p.denom; factors = p.factors ++ [] } ∷ us) ∷ qs
   no_more p us qs =
       ap (λ l. p.polynomials ++ l ∷ qs) (append_assoc p.terms (record { minus = p.minus; numer = p.numer; denom = p.denom; factors = p.factors } ∷ []) us)
       ∙ ap (λ l. p.polynomials ++ (p.terms ++ record { minus = p.minus; numer = p.numer; denom = p.denom; factors = l } ∷ us) ∷ qs) (sym (append-nil p.factors))
@@ -209,7 +210,7 @@ module _ (ring : List (List ℕ)) where
     are_factors = refl;
     are_terms = refl;
     are_polynomials = (f.first_texts, f.polynomials, refl, f.is_polynomial, f.are_polynomials);
-    all = f.all ∙ append_assoc p.polynomials (terms_of p ∷ []) (f.first ∷ f.qs) ∙ ap (λ l. p.polynomials ++ l ∷ f.first ∷ f.qs) (sym (append-nil (terms_of p))) ∙ no_more p [] (f.first ∷ f.qs);
+    all = f.all ∙ append_assoc p.polynomials (part_terms p ∷ []) (f.first ∷ f.qs) ∙ ap (λ l. p.polynomials ++ l ∷ f.first ∷ f.qs) (sym (append-nil (part_terms p))) ∙ no_more p [] (f.first ∷ f.qs);
   }
 
   pub at_end : (p : Part) (t : List ℕ) (ts : Texts) (ps : Sets) → t ≡ brace_end → ts ≡ [] → ps ≡ all_of p → Behind p (t ∷ ts) ps
@@ -224,7 +225,7 @@ module _ (ring : List (List ℕ)) where
     are_factors = refl;
     are_terms = refl;
     are_polynomials = refl;
-    all = e ∙ ap (λ l. p.polynomials ++ l ∷ []) (sym (append-nil (terms_of p))) ∙ no_more p [] [];
+    all = e ∙ ap (λ l. p.polynomials ++ l ∷ []) (sym (append-nil (part_terms p))) ∙ no_more p [] [];
   }
 
   -- a term that begins with a factor
@@ -251,19 +252,19 @@ module _ (ring : List (List ℕ)) where
       }
 
   -- a number, and its denominator behind it
-  rational_by : (t : List ℕ) (d e : ℕ) (over : Texts) → IsNumberText t (value t) most → e ≡ 1 → ((over ≡ []) × (d ≡ e)) ⊎ ((u : List ℕ) × (over ≡ slash ∷ u ∷ []) × IsNumberText u d most × (0 < d))
-      → IsRationalText (t ∷ over) (value t) d
+  rational_by : (t : List ℕ) (d e : ℕ) (over : Texts) → IsNumberText t (decimal_value t) most → e ≡ 1 → ((over ≡ []) × (d ≡ e)) ⊎ ((u : List ℕ) × (over ≡ slash ∷ u ∷ []) × IsNumberText u d most × (0 < d))
+      → IsRationalText (t ∷ over) (decimal_value t) d
   rational_by t d e over number one (inl h) = inl (t, ap (λ l. t ∷ l) h.0, number, h.1 ∙ one)
   rational_by t d e over number one (inr (u, is, denom, nonzero)) = inr (t, u, ap (λ l. t ∷ l) is, number, denom, nonzero)
 
   -- a term that begins with a number
-  pub number_term : (p : Part) (t : List ℕ) (ts : Texts) (ps : Sets) → IsNumberText t (value t) most → Numbered (with_numer p (value t)) ts ps → FreshTerm p → Term p (t ∷ ts) ps
+  pub number_term : (p : Part) (t : List ℕ) (ts : Texts) (ps : Sets) → IsNumberText t (decimal_value t) most → Numbered (with_numer p (decimal_value t)) ts ps → FreshTerm p → Term p (t ∷ ts) ps
   number_term p t ts ps number n fresh =
       let b = n.behind in
       let end = b.terms ++ (b.polynomials ++ brace_end ∷ []) in
       record {
         term = (t ∷ n.over) ++ b.factors;
-        u = record { minus = p.minus; numer = value t; denom = n.d; factors = b.fs };
+        u = record { minus = p.minus; numer = decimal_value t; denom = n.d; factors = b.fs };
         terms = b.terms;
         us = b.us;
         polynomials = b.polynomials;
@@ -273,7 +274,7 @@ module _ (ring : List (List ℕ)) where
         its_sign = refl;
         are_terms = b.are_terms;
         are_polynomials = b.are_polynomials;
-        all = b.all ∙ ap (λ l. p.polynomials ++ (p.terms ++ record { minus = p.minus; numer = value t; denom = n.d; factors = l ++ b.fs } ∷ b.us) ∷ b.qs) fresh.factors;
+        all = b.all ∙ ap (λ l. p.polynomials ++ (p.terms ++ record { minus = p.minus; numer = decimal_value t; denom = n.d; factors = l ++ b.fs } ∷ b.us) ∷ b.qs) fresh.factors;
       }
 
   -- ---- polynomials

@@ -8,8 +8,9 @@ use Rattle.gf_text.specs.declared.set_reader.SetPlace.{SetPlace}
 use Rattle.gf_text.specs.declared.set_reader.SetPlace.TheVariants as at
 use Rattle.gf_text.specs.declared.set_reader.Part.{Part}
 use Rattle.gf_text.specs.Machine.{go, done, halt, after, followed}
-use Rattle.gf_text.specs.Tokens.{is_number, value}
-use Rattle.gf_text.specs.SetText.{variable, plus, minus, comma, star, slash, caret, brace, brace_end, most, most_exponent, IsNumberText, IsSetText, SetState, SetMove, with_name, with_factor, with_sign, with_numer, with_denom, next_term, all_of, next_polynomial, is_word, name_or_by, number_or, term_or, front_step, end_step, behind_step, token_step, set_step, empty}
+use Rattle.gf_text.specs.Tokens.{is_number, decimal_value}
+use Rattle.gf_text.specs.SetText.{variable, most, most_exponent, IsNumberText, IsSetText, SetState, SetMove, with_name, with_factor, with_sign, with_numer, with_denom, next_term, all_of, next_polynomial, is_word, name_or_by, number_or, term_or, front_step, end_step, behind_step, token_step, set_step, empty}
+use Rattle.gf_text.specs.Marks.{plus_mark, minus_mark, comma, star, slash, caret, brace, brace_end}
 use Rattle.gf_text.proofs.MachineLaws.{not_yet}
 use Rattle.gf_text.proofs.SetPartsLaws.{Behind, Factored, Named, Powered, Numbered, Divided, FreshTerm, Term, Fresh, Polynomial, First, one_factor, more_factors, more_terms, more_polynomials, at_end, factor_term, number_term, signed, bare}
 use Rattle.gf_text.proofs.SetTokensLaws.{is_mark, le_from, positive}
@@ -57,12 +58,12 @@ module _ (ring : List (List ℕ)) where
 
   -- a number, or what another token does
   numbered : (t : List ℕ) (limit : ℕ) (taken other : SetMove) (ts : Texts) (ps : Sets) → Then (number_or t limit taken other) ts ps
-      → (IsNumberText t (value t) limit × Then taken ts ps) ⊎ Then other ts ps
-  numbered t limit taken other ts ps e = elim (chosen (is_number t) (if nat_le (value t) limit then taken else halt TooWide) other ts ps e) [
+      → (IsNumberText t (decimal_value t) limit × Then taken ts ps) ⊎ Then other ts ps
+  numbered t limit taken other ts ps e = elim (chosen (is_number t) (if nat_le (decimal_value t) limit then taken else halt TooWide) other ts ps e) [
     | inr h ↦ inr h.1
-    | inl h ↦ elim (chosen (nat_le (value t) limit) taken (halt TooWide) ts ps h.1) [
+    | inl h ↦ elim (chosen (nat_le (decimal_value t) limit) taken (halt TooWide) ts ps h.1) [
       | inr k ↦ halted TooWide ts ps k.1
-      | inl k ↦ inl ((h.0, refl, le_from (value t) limit k.0), k.1)
+      | inl k ↦ inl ((h.0, refl, le_from (decimal_value t) limit k.0), k.1)
     ]
   ]
 
@@ -94,10 +95,10 @@ module _ (ring : List (List ℕ)) where
     -- behind a whole term
     end_on : (p : Part) (ps : Sets) → Then (end_step p t) ts ps → Behind ring p (t ∷ ts) ps
     unfolding Said Later
-    end_on p ps e = elim (chosen (bytes_eq t plus) (go (at.Term, next_term p false)) _ ts ps e) [
-      | inl h ↦ more_terms ring p false t ts ps (is_mark t plus h.0) (later at.Term (next_term p false) ps h.1 (record { numer = refl; denom = refl; factors = refl }))
-      | inr h ↦ elim (chosen (bytes_eq t minus) (go (at.Term, next_term p true)) _ ts ps h.1) [
-        | inl k ↦ more_terms ring p true t ts ps (is_mark t minus k.0) (later at.Term (next_term p true) ps k.1 (record { numer = refl; denom = refl; factors = refl }))
+    end_on p ps e = elim (chosen (bytes_eq t plus_mark) (go (at.Term, next_term p false)) _ ts ps e) [
+      | inl h ↦ more_terms ring p false t ts ps (is_mark t plus_mark h.0) (later at.Term (next_term p false) ps h.1 (record { numer = refl; denom = refl; factors = refl }))
+      | inr h ↦ elim (chosen (bytes_eq t minus_mark) (go (at.Term, next_term p true)) _ ts ps h.1) [
+        | inl k ↦ more_terms ring p true t ts ps (is_mark t minus_mark k.0) (later at.Term (next_term p true) ps k.1 (record { numer = refl; denom = refl; factors = refl }))
         | inr k ↦ elim (chosen (bytes_eq t comma) (go (at.Polynomial, next_polynomial p)) _ ts ps k.1) [
           | inl l ↦ more_polynomials ring p t ts ps (is_mark t comma l.0) (later at.Polynomial (next_polynomial p) ps l.1 (record { terms = refl; plus_sign = refl; term = record { numer = refl; denom = refl; factors = refl } }))
           | inr l ↦ elim (chosen (bytes_eq t brace_end) (done (all_of p)) (halt Unexpected) ts ps l.1) [
@@ -122,8 +123,8 @@ module _ (ring : List (List ℕ)) where
     -- where a term is expected
     term_on : (p : Part) (ps : Sets) → Then (term_or ring p t (halt Unexpected)) ts ps → FreshTerm p → Term ring p (t ∷ ts) ps
     unfolding Said Later
-    term_on p ps e fresh = elim (numbered t most (go (at.Number, with_numer p (value t))) _ ts ps e) [
-      | inl h ↦ number_term ring p t ts ps h.0 (later at.Number (with_numer p (value t)) ps h.1) fresh
+    term_on p ps e fresh = elim (numbered t most (go (at.Number, with_numer p (decimal_value t))) _ ts ps e) [
+      | inl h ↦ number_term ring p t ts ps h.0 (later at.Number (with_numer p (decimal_value t)) ps h.1) fresh
       | inr h ↦ elim (named_by (variable ring t) p t (halt Unexpected) ts ps h) [
         | inl n ↦ factor_term ring p (t ∷ ts) ps (name_on p ps n.0 n.1 n.2) fresh
         | inr k ↦ halted Unexpected ts ps k
@@ -133,10 +134,10 @@ module _ (ring : List (List ℕ)) where
     -- where a polynomial is expected
     front_on : (p : Part) (ps : Sets) → Then (front_step ring p t) ts ps → Fresh p → Polynomial ring p (t ∷ ts) ps
     unfolding Said Later
-    front_on p ps e fresh = elim (chosen (bytes_eq t plus) (go (at.Term, with_sign p false)) _ ts ps e) [
-      | inl h ↦ signed ring p false t ts ps (is_mark t plus h.0) (later at.Term (with_sign p false) ps h.1 (record { numer = fresh.term.numer; denom = fresh.term.denom; factors = fresh.term.factors })) fresh
-      | inr h ↦ elim (chosen (bytes_eq t minus) (go (at.Term, with_sign p true)) _ ts ps h.1) [
-        | inl k ↦ signed ring p true t ts ps (is_mark t minus k.0) (later at.Term (with_sign p true) ps k.1 (record { numer = fresh.term.numer; denom = fresh.term.denom; factors = fresh.term.factors })) fresh
+    front_on p ps e fresh = elim (chosen (bytes_eq t plus_mark) (go (at.Term, with_sign p false)) _ ts ps e) [
+      | inl h ↦ signed ring p false t ts ps (is_mark t plus_mark h.0) (later at.Term (with_sign p false) ps h.1 (record { numer = fresh.term.numer; denom = fresh.term.denom; factors = fresh.term.factors })) fresh
+      | inr h ↦ elim (chosen (bytes_eq t minus_mark) (go (at.Term, with_sign p true)) _ ts ps h.1) [
+        | inl k ↦ signed ring p true t ts ps (is_mark t minus_mark k.0) (later at.Term (with_sign p true) ps k.1 (record { numer = fresh.term.numer; denom = fresh.term.denom; factors = fresh.term.factors })) fresh
         | inr k ↦ bare ring p (t ∷ ts) ps (term_on p ps k.1 fresh.term) fresh
       ]
     ]
@@ -156,7 +157,7 @@ module _ (ring : List (List ℕ)) where
     on_token at.Number p ps e = elim (chosen (bytes_eq t slash) (go (at.Denominator, p)) (behind_step ring p t) ts ps e) [
       | inl h ↦ let n = later at.Denominator p ps h.1 in record {
         over = slash ∷ n.t ∷ [];
-        d = value n.t;
+        d = decimal_value n.t;
         rest = n.rest;
         tokens = ap (λ x. x ∷ ts) (is_mark t slash h.0) ∙ ap (λ l. slash ∷ l) n.tokens;
         which = inr (n.t, refl, n.number, n.nonzero);
@@ -164,10 +165,10 @@ module _ (ring : List (List ℕ)) where
       }
       | inr h ↦ record { over = []; d = p.denom; rest = t ∷ ts; tokens = refl; which = inl (refl, refl); behind = behind_on p ps h.1 }
     ]
-    on_token at.Denominator p ps e = elim (chosen (is_number t && value t == 0) (halt ZeroDenominator) _ ts ps e) [
+    on_token at.Denominator p ps e = elim (chosen (is_number t && decimal_value t == 0) (halt ZeroDenominator) _ ts ps e) [
       | inl h ↦ halted ZeroDenominator ts ps h.1
-      | inr h ↦ elim (numbered t most (go (at.Behind, with_denom p (value t))) (halt Unexpected) ts ps h.1) [
-        | inl k ↦ record { t = t; rest = ts; tokens = refl; number = k.0; nonzero = positive t (k.0.0) h.0; behind = later at.Behind (with_denom p (value t)) ps k.1 }
+      | inr h ↦ elim (numbered t most (go (at.Behind, with_denom p (decimal_value t))) (halt Unexpected) ts ps h.1) [
+        | inl k ↦ record { t = t; rest = ts; tokens = refl; number = k.0; nonzero = positive t (k.0.0) h.0; behind = later at.Behind (with_denom p (decimal_value t)) ps k.1 }
         | inr k ↦ halted Unexpected ts ps k
       ]
     ]
@@ -178,7 +179,7 @@ module _ (ring : List (List ℕ)) where
     on_token at.Name p ps e = elim (chosen (bytes_eq t caret) (go (at.Exponent, p)) (behind_step ring (with_factor p 1) t) ts ps e) [
       | inl h ↦ let n = later at.Exponent p ps h.1 in record {
         power = caret ∷ n.t ∷ [];
-        k = value n.t;
+        k = decimal_value n.t;
         rest = n.rest;
         tokens = ap (λ x. x ∷ ts) (is_mark t caret h.0) ∙ ap (λ l. caret ∷ l) n.tokens;
         which = inr (n.t, refl, n.number);
@@ -186,8 +187,8 @@ module _ (ring : List (List ℕ)) where
       }
       | inr h ↦ record { power = []; k = 1; rest = t ∷ ts; tokens = refl; which = inl (refl, refl); behind = behind_on (with_factor p 1) ps h.1 }
     ]
-    on_token at.Exponent p ps e = elim (numbered t most_exponent (go (at.Behind, with_factor p (value t))) (halt Unexpected) ts ps e) [
-      | inl h ↦ record { t = t; rest = ts; tokens = refl; number = h.0; behind = later at.Behind (with_factor p (value t)) ps h.1 }
+    on_token at.Exponent p ps e = elim (numbered t most_exponent (go (at.Behind, with_factor p (decimal_value t))) (halt Unexpected) ts ps e) [
+      | inl h ↦ record { t = t; rest = ts; tokens = refl; number = h.0; behind = later at.Behind (with_factor p (decimal_value t)) ps h.1 }
       | inr h ↦ halted Unexpected ts ps h
     ]
     on_token at.Behind p ps e = behind_on p ps e

@@ -1,6 +1,6 @@
 -- Why the machine of sets can't take a token: what may stand at each place, and which cause it names.
 -- To cite: takes_number, takes_name, limit, Reason, reason; one_goes, name_goes, number_stops, number_wide, number_taken, word_stops, word_taken. The rest are steps.
-use Rattle.std.proofs.Common.{◌≡◌, ◌<◌, ℕ, ◌==◌, nat_le, Bool, true, false, ◌&&◌, List, [], ◌∷◌, Option, Some, None, refl, sym, ap, subst, ◌∙◌, bytes_eq, arith, if◌then◌else◌}
+use Rattle.std.proofs.Common.{◌≡◌, ◌<◌, ℕ, ◌==◌, nat_le, Bool, true, false, ◌&&◌, List, Option, Some, None, refl, sym, ap, subst, ◌∙◌, bytes_eq, arith, if◌then◌else◌}
 use Rattle.gf_text.specs.declared.error.Cause.{Cause}
 use Rattle.gf_text.specs.declared.error.Cause.TheVariants.{Ended, Unexpected, RepeatedName, ZeroDenominator, TooWide, UnknownName}
 use Rattle.gf_text.specs.declared.tree.WrittenTerm.{WrittenTerm}
@@ -8,9 +8,11 @@ use Rattle.gf_text.specs.declared.set_reader.SetPlace.{SetPlace}
 use Rattle.gf_text.specs.declared.set_reader.SetPlace.TheVariants as at
 use Rattle.gf_text.specs.declared.set_reader.Part.{Part}
 use Rattle.gf_text.specs.Machine.{go, done, halt}
-use Rattle.gf_text.specs.Tokens.{is_number, value}
+use Rattle.gf_text.specs.Tokens.{is_number, decimal_value}
 use Rattle.gf_text.specs.RingText.{IsRing}
-use Rattle.gf_text.specs.SetText.{variable, plus, minus, comma, star, slash, caret, brace, brace_end, most, most_exponent, SetState, SetMove, with_name, with_factor, with_sign, with_numer, with_denom, next_term, all_of, next_polynomial, is_word, name_or_by, number_or, term_or, front_step, end_step, behind_step, token_step}
+use Rattle.gf_text.specs.SetText.{variable, most, most_exponent, SetState, SetMove, with_name, with_factor, with_sign, with_numer, with_denom, next_term, all_of, next_polynomial, is_word, name_or_by, number_or, term_or, front_step, end_step, behind_step, token_step}
+use Rattle.gf_text.specs.Marks.{plus_mark, minus_mark, comma, star, slash, caret, brace, brace_end}
+use Rattle.gf_text.proofs.KindsLaws.{one}
 use Rattle.gf_text.proofs.SetTokensLaws.{named_word, no_name, word_no_number, word_no_mark, number_no_word, number_no_mark, le_false, not_le, not_zero, zero_number}
 
 -- ---- places
@@ -61,8 +63,8 @@ abbrev pub Reason : SetPlace → List ℕ → Cause → Type 0
 Reason place t Ended = ⊥
 Reason place t RepeatedName = ⊥
 Reason place t Unexpected = Unit {0}
-Reason place t ZeroDenominator = (takes_number place ≡ true) × (is_number t ≡ true) × (value t ≡ 0)
-Reason place t TooWide = (takes_number place ≡ true) × (is_number t ≡ true) × (limit place < value t)
+Reason place t ZeroDenominator = (takes_number place ≡ true) × (is_number t ≡ true) × (decimal_value t ≡ 0)
+Reason place t TooWide = (takes_number place ≡ true) × (is_number t ≡ true) × (limit place < decimal_value t)
 Reason place t UnknownName = (takes_name place ≡ true) × (is_word t ≡ true)
 
 module _ (ring : List (List ℕ)) where
@@ -89,22 +91,22 @@ module _ (ring : List (List ℕ)) where
 
   numbered : (place : SetPlace) (t : List ℕ) (most_here : ℕ) (u : SetState) (other : SetMove) → takes_number place ≡ true → limit place ≡ most_here → Says place t other → Says place t (number_or t most_here (go u) other)
   numbered place t most_here u other takes is h =
-      either place t (is_number t) (if nat_le (value t) most_here then go u else halt TooWide) other
-      (λ digits. either place t (nat_le (value t) most_here) (go u) (halt TooWide) (λ small. says_go place t u) (λ wide. let above = not_le (value t) most_here wide in says place t TooWide (takes, digits, omega arith)))
+      either place t (is_number t) (if nat_le (decimal_value t) most_here then go u else halt TooWide) other
+      (λ digits. either place t (nat_le (decimal_value t) most_here) (go u) (halt TooWide) (λ small. says_go place t u) (λ wide. let above = not_le (decimal_value t) most_here wide in says place t TooWide (takes, digits, omega arith)))
       (λ no. h)
 
   term_says : (place : SetPlace) (p : Part) (t : List ℕ) → takes_number place ≡ true → takes_name place ≡ true → limit place ≡ most → Says place t (term_or ring p t (halt Unexpected))
-  term_says place p t numbers names is = numbered place t most (at.Number, with_numer p (value t)) _ numbers is (named place t (variable ring t) p (halt Unexpected) names (says place t Unexpected tt))
+  term_says place p t numbers names is = numbered place t most (at.Number, with_numer p (decimal_value t)) _ numbers is (named place t (variable ring t) p (halt Unexpected) names (says place t Unexpected tt))
 
   front_says : (place : SetPlace) (p : Part) (t : List ℕ) → takes_number place ≡ true → takes_name place ≡ true → limit place ≡ most → Says place t (front_step ring p t)
   front_says place p t numbers names is =
-      either place t (bytes_eq t plus) (go (at.Term, with_sign p false)) _ (λ h. says_go place t (at.Term, with_sign p false))
-      (λ h. either place t (bytes_eq t minus) (go (at.Term, with_sign p true)) _ (λ k. says_go place t (at.Term, with_sign p true)) (λ k. term_says place p t numbers names is))
+      either place t (bytes_eq t plus_mark) (go (at.Term, with_sign p false)) _ (λ h. says_go place t (at.Term, with_sign p false))
+      (λ h. either place t (bytes_eq t minus_mark) (go (at.Term, with_sign p true)) _ (λ k. says_go place t (at.Term, with_sign p true)) (λ k. term_says place p t numbers names is))
 
   end_says : (place : SetPlace) (p : Part) (t : List ℕ) → Says place t (end_step p t)
   end_says place p t =
-      either place t (bytes_eq t plus) (go (at.Term, next_term p false)) _ (λ h. says_go place t (at.Term, next_term p false))
-      (λ h. either place t (bytes_eq t minus) (go (at.Term, next_term p true)) _ (λ k. says_go place t (at.Term, next_term p true))
+      either place t (bytes_eq t plus_mark) (go (at.Term, next_term p false)) _ (λ h. says_go place t (at.Term, next_term p false))
+      (λ h. either place t (bytes_eq t minus_mark) (go (at.Term, next_term p true)) _ (λ k. says_go place t (at.Term, next_term p true))
       (λ k. either place t (bytes_eq t comma) (go (at.Polynomial, next_polynomial p)) _ (λ l. says_go place t (at.Polynomial, next_polynomial p))
       (λ l. either place t (bytes_eq t brace_end) (done (all_of p)) (halt Unexpected) (λ d. says_done place t (all_of p)) (λ d. says place t Unexpected tt))))
 
@@ -119,20 +121,15 @@ module _ (ring : List (List ℕ)) where
   token_says at.Term p t = term_says at.Term p t refl refl refl
   token_says at.Number p t = either at.Number t (bytes_eq t slash) (go (at.Denominator, p)) (behind_step ring p t) (λ h. says_go at.Number t (at.Denominator, p)) (λ h. behind_says at.Number p t refl)
   token_says at.Denominator p t =
-      either at.Denominator t (is_number t && value t == 0) (halt ZeroDenominator) _ (λ h. says at.Denominator t ZeroDenominator (let both = zero_number t h in (refl, both.0, both.1)))
-      (λ h. numbered at.Denominator t most (at.Behind, with_denom p (value t)) (halt Unexpected) refl refl (says at.Denominator t Unexpected tt))
+      either at.Denominator t (is_number t && decimal_value t == 0) (halt ZeroDenominator) _ (λ h. says at.Denominator t ZeroDenominator (let both = zero_number t h in (refl, both.0, both.1)))
+      (λ h. numbered at.Denominator t most (at.Behind, with_denom p (decimal_value t)) (halt Unexpected) refl refl (says at.Denominator t Unexpected tt))
   token_says at.Star p t = named at.Star t (variable ring t) p (halt Unexpected) refl (says at.Star t Unexpected tt)
   token_says at.Name p t = either at.Name t (bytes_eq t caret) (go (at.Exponent, p)) (behind_step ring (with_factor p 1) t) (λ h. says_go at.Name t (at.Exponent, p)) (λ h. behind_says at.Name (with_factor p 1) t refl)
-  token_says at.Exponent p t = numbered at.Exponent t most_exponent (at.Behind, with_factor p (value t)) (halt Unexpected) refl refl (says at.Exponent t Unexpected tt)
+  token_says at.Exponent p t = numbered at.Exponent t most_exponent (at.Behind, with_factor p (decimal_value t)) (halt Unexpected) refl refl (says at.Exponent t Unexpected tt)
   token_says at.Behind p t = behind_says at.Behind p t refl
 
   pub reason : (place : SetPlace) (p : Part) (t : List ℕ) (cause : Cause) → token_step ring place p t ≡ halt cause → Reason place t cause
   reason place p t cause e = token_says place p t cause e
-
--- ---- the number 1
-
-abbrev pub one : List ℕ
-one = 49 ∷ []
 
 module _ (ring : List (List ℕ)) where
   -- the number 1 is taken where a number may stand
@@ -149,30 +146,30 @@ module _ (ring : List (List ℕ)) where
   one_goes at.Behind h p = cc
 
   -- a number past the limit is too wide
-  wide_term : (p : Part) (t : List ℕ) → is_number t ≡ true → nat_le (value t) most ≡ false → term_or ring p t (halt Unexpected) ≡ halt TooWide
+  wide_term : (p : Part) (t : List ℕ) → is_number t ≡ true → nat_le (decimal_value t) most ≡ false → term_or ring p t (halt Unexpected) ≡ halt TooWide
   wide_term p t digits wide = rw (digits, wide) refl
 
-  wide_front : (p : Part) (t : List ℕ) → is_number t ≡ true → nat_le (value t) most ≡ false → front_step ring p t ≡ halt TooWide
+  wide_front : (p : Part) (t : List ℕ) → is_number t ≡ true → nat_le (decimal_value t) most ≡ false → front_step ring p t ≡ halt TooWide
   wide_front p t digits wide = rw (number_no_mark t 43 digits refl, number_no_mark t 45 digits refl, digits, wide) refl
 
-  pub number_wide : (place : SetPlace) → takes_number place ≡ true → (p : Part) (t : List ℕ) → is_number t ≡ true → limit place < value t → token_step ring place p t ≡ halt TooWide
+  pub number_wide : (place : SetPlace) → takes_number place ≡ true → (p : Part) (t : List ℕ) → is_number t ≡ true → limit place < decimal_value t → token_step ring place p t ≡ halt TooWide
   number_wide at.Brace h p t digits above = cc
   number_wide at.First h p t digits above =
       let no_end = number_no_mark t 125 digits refl in
-      let wide = le_false (value t) most above in
+      let wide = le_false (decimal_value t) most above in
       let here : token_step ring at.First p t ≡ front_step ring p t = rw no_end refl in
       here ∙ wide_front p t digits wide
-  number_wide at.Polynomial h p t digits above = wide_front p t digits (le_false (value t) most above)
-  number_wide at.Term h p t digits above = wide_term p t digits (le_false (value t) most above)
+  number_wide at.Polynomial h p t digits above = wide_front p t digits (le_false (decimal_value t) most above)
+  number_wide at.Term h p t digits above = wide_term p t digits (le_false (decimal_value t) most above)
   number_wide at.Number h p t digits above = cc
   number_wide at.Denominator h p t digits above =
-      let wide = le_false (value t) most above in
-      let zero = not_zero (value t) (omega arith) in
+      let wide = le_false (decimal_value t) most above in
+      let zero = not_zero (decimal_value t) (omega arith) in
       rw (digits, zero, wide) refl
   number_wide at.Star h p t digits above = cc
   number_wide at.Name h p t digits above = cc
   number_wide at.Exponent h p t digits above =
-      let wide = le_false (value t) most_exponent above in
+      let wide = le_false (decimal_value t) most_exponent above in
       rw (digits, wide) refl
   number_wide at.Behind h p t digits above = cc
 
@@ -182,25 +179,25 @@ module _ (ring : List (List ℕ)) where
   expected false x y h k = k
 
   number_or_expected : (t : List ℕ) (most_here : ℕ) (u : SetState) (other : SetMove) → is_number t ≡ true → number_or t most_here (go u) other ≡ halt Unexpected → ⊥
-  number_or_expected t most_here u other digits e = expected (nat_le (value t) most_here) (go u) (halt TooWide) (λ f. cc) (λ f. cc) (rw digits at e)
+  number_or_expected t most_here u other digits e = expected (nat_le (decimal_value t) most_here) (go u) (halt TooWide) (λ f. cc) (λ f. cc) (rw digits at e)
 
   front_expected : (p : Part) (t : List ℕ) → is_number t ≡ true → front_step ring p t ≡ halt Unexpected → ⊥
   front_expected p t digits e =
       let here : term_or ring p t (halt Unexpected) ≡ halt Unexpected = rw (number_no_mark t 43 digits refl, number_no_mark t 45 digits refl) at e in
-      number_or_expected t most (at.Number, with_numer p (value t)) _ digits here
+      number_or_expected t most (at.Number, with_numer p (decimal_value t)) _ digits here
 
   pub number_taken : (place : SetPlace) → takes_number place ≡ true → (p : Part) (t : List ℕ) → is_number t ≡ true → token_step ring place p t ≡ halt Unexpected → ⊥
   number_taken at.Brace h p t digits e = cc
   number_taken at.First h p t digits e = front_expected p t digits (rw (number_no_mark t 125 digits refl) at e)
   number_taken at.Polynomial h p t digits e = front_expected p t digits e
-  number_taken at.Term h p t digits e = number_or_expected t most (at.Number, with_numer p (value t)) _ digits e
+  number_taken at.Term h p t digits e = number_or_expected t most (at.Number, with_numer p (decimal_value t)) _ digits e
   number_taken at.Number h p t digits e = cc
   number_taken at.Denominator h p t digits e =
-      expected (is_number t && value t == 0) (halt ZeroDenominator) (number_or t most (go (at.Behind, with_denom p (value t))) (halt Unexpected)) (λ f. cc)
-      (λ f. number_or_expected t most (at.Behind, with_denom p (value t)) (halt Unexpected) digits f) e
+      expected (is_number t && decimal_value t == 0) (halt ZeroDenominator) (number_or t most (go (at.Behind, with_denom p (decimal_value t))) (halt Unexpected)) (λ f. cc)
+      (λ f. number_or_expected t most (at.Behind, with_denom p (decimal_value t)) (halt Unexpected) digits f) e
   number_taken at.Star h p t digits e = cc
   number_taken at.Name h p t digits e = cc
-  number_taken at.Exponent h p t digits e = number_or_expected t most_exponent (at.Behind, with_factor p (value t)) (halt Unexpected) digits e
+  number_taken at.Exponent h p t digits e = number_or_expected t most_exponent (at.Behind, with_factor p (decimal_value t)) (halt Unexpected) digits e
   number_taken at.Behind h p t digits e = cc
 
   -- a word is unexpected where no name may stand

@@ -5,9 +5,10 @@ use Rattle.gf_text.specs.declared.tree.WrittenTerm.{WrittenTerm}
 use Rattle.gf_text.specs.declared.set_reader.SetPlace.TheVariants as at
 use Rattle.gf_text.specs.declared.set_reader.Part.{Part}
 use Rattle.gf_text.specs.Machine.{done, after}
-use Rattle.gf_text.specs.Tokens.{value}
+use Rattle.gf_text.specs.Tokens.{decimal_value}
 use Rattle.gf_text.specs.RingText.{IsRing}
-use Rattle.gf_text.specs.SetText.{plus, minus, slash, brace, brace_end, sign, most, IsNumberText, IsRationalText, IsTermText, AreMoreTerms, IsFrontSign, IsPolynomialText, AreMorePolynomials, IsSetText, SetState, with_name, with_sign, with_numer, with_denom, terms_of, next_term, all_of, next_polynomial, set_step, empty}
+use Rattle.gf_text.specs.SetText.{sign, most, IsNumberText, IsRationalText, IsTermText, AreMoreTerms, IsFrontSign, IsPolynomialText, AreMorePolynomials, IsSetText, SetState, with_name, with_sign, with_numer, with_denom, part_terms, next_term, all_of, next_polynomial, set_step, empty}
+use Rattle.gf_text.specs.Marks.{plus_mark, minus_mark, slash, brace, brace_end}
 use Rattle.gf_text.proofs.MachineLaws.{after-go, after-done}
 use Rattle.gf_text.proofs.SetFactorsLaws.{Leads, Like, Takes, behind_like, number_like, like_sign, like_comma, like_end, Behind, then_factors, behind_at, factors_read, monomial_read}
 use Rattle.gf_text.proofs.SetTokensLaws.{named_word, word_no_number, word_no_mark, number_no_mark, number_within, not_zero}
@@ -23,7 +24,7 @@ module _ (ring : List (List ℕ)) (is_ring : IsRing ring) where
 
   -- a state where a term may begin
   record Begins (s : SetState) (p : Part) : Type 0 where
-    number_on : (t : List ℕ) (n : ℕ) (ts : Texts) → IsNumberText t n most → Leads ring s (t ∷ ts) (at.Number, with_numer p (value t)) ts
+    number_on : (t : List ℕ) (n : ℕ) (ts : Texts) → IsNumberText t n most → Leads ring s (t ∷ ts) (at.Number, with_numer p (decimal_value t)) ts
     name_on : Takes ring s p
 
   -- nothing of a term was read
@@ -34,26 +35,26 @@ module _ (ring : List (List ℕ)) (is_ring : IsRing ring) where
 
   rational_read : (a b : ℕ) (ts : Texts) → IsRationalText ts a b → (rest : Texts) (s : SetState) (p : Part) → Begins s p → p.denom ≡ 1 → Behind ring s ts rest (record p { numer = a; denom = b })
   rational_read a b ts (inl (t, is, number, one)) rest s p begins fresh = record {
-    state = (at.Number, with_numer p (value t));
-    part = with_numer p (value t);
-    like = number_like ring (with_numer p (value t));
+    state = (at.Number, with_numer p (decimal_value t));
+    part = with_numer p (decimal_value t);
+    like = number_like ring (with_numer p (decimal_value t));
     same = ap (with_numer p) number.1 ∙ ap (λ d. record p { numer = a; denom = d }) (fresh ∙ sym one);
     on = ap (λ l. after (set_step ring) s (l ++ rest)) is ∙ begins.number_on t a rest number;
   }
   rational_read a b ts (inr (t, u, is, number, denom, positive)) rest s p begins fresh =
-      let q = with_numer p (value t) in
+      let q = with_numer p (decimal_value t) in
       let digits = denom.0 in
       let within = number_within u b most denom in
       let zero = ap (λ n. n == 0) denom.1 ∙ not_zero b positive in
       record {
-        state = (at.Behind, with_denom q (value u));
-        part = with_denom q (value u);
-        like = behind_like ring (with_denom q (value u));
-        same = ap (λ n. record p { numer = n; denom = value u }) number.1 ∙ ap (λ n. record p { numer = a; denom = n }) denom.1;
+        state = (at.Behind, with_denom q (decimal_value u));
+        part = with_denom q (decimal_value u);
+        like = behind_like ring (with_denom q (decimal_value u));
+        same = ap (λ n. record p { numer = n; denom = decimal_value u }) number.1 ∙ ap (λ n. record p { numer = a; denom = n }) denom.1;
         on = ap (λ l. after (set_step ring) s (l ++ rest)) is
             ∙ begins.number_on t a (slash ∷ u ∷ rest) number
             ∙ after-go (set_step ring) (at.Number, q) (at.Denominator, q) slash (u ∷ rest) refl
-            ∙ after-go (set_step ring) (at.Denominator, q) (at.Behind, with_denom q (value u)) u rest (rw (digits, zero, within) refl);
+            ∙ after-go (set_step ring) (at.Denominator, q) (at.Behind, with_denom q (decimal_value u)) u rest (rw (digits, zero, within) refl);
       }
 
   term_read : (u : WrittenTerm) (ts : Texts) → IsTermText ring ts u → (rest : Texts) (s : SetState) (p : Part) → Begins s p → Fresh p → Behind ring s ts rest (record p { numer = u.numer; denom = u.denom; factors = u.factors })
@@ -74,11 +75,11 @@ module _ (ring : List (List ℕ)) (is_ring : IsRing ring) where
   term_begins : (p : Part) → Begins (at.Term, p) p
   term_begins p = record { number_on = number; name_on = named }
     where
-      number : (t : List ℕ) (n : ℕ) (ts : Texts) → IsNumberText t n most → Leads ring (at.Term, p) (t ∷ ts) (at.Number, with_numer p (value t)) ts
+      number : (t : List ℕ) (n : ℕ) (ts : Texts) → IsNumberText t n most → Leads ring (at.Term, p) (t ∷ ts) (at.Number, with_numer p (decimal_value t)) ts
       number t n ts h =
           let digits = h.0 in
           let within = number_within t n most h in
-          after-go (set_step ring) (at.Term, p) (at.Number, with_numer p (value t)) t ts (rw (digits, within) refl)
+          after-go (set_step ring) (at.Term, p) (at.Number, with_numer p (decimal_value t)) t ts (rw (digits, within) refl)
 
       named : Takes ring (at.Term, p) p
       named t v ts h = after-go (set_step ring) (at.Term, p) (at.Name, with_name p v) t ts (rw (word_no_number t (named_word ring is_ring t v h), h) refl)
@@ -90,16 +91,16 @@ module _ (ring : List (List ℕ)) (is_ring : IsRing ring) where
     state : SetState
     part : Part
     like : Like ring state part
-    terms_are : terms_of part ≡ terms
+    terms_are : part_terms part ≡ terms
     same : part.polynomials ≡ polynomials
     on : Leads ring s (ts ++ rest) state rest
 
-  terms_read : (us : List WrittenTerm) (ts : Texts) → AreMoreTerms ring ts us → (rest : Texts) (s : SetState) (p : Part) → Like ring s p → Through s ts rest p.polynomials (terms_of p ++ us)
+  terms_read : (us : List WrittenTerm) (ts : Texts) → AreMoreTerms ring ts us → (rest : Texts) (s : SetState) (p : Part) → Like ring s p → Through s ts rest p.polynomials (part_terms p ++ us)
   terms_read [] ts h rest s p like = record {
     state = s;
     part = p;
     like = like;
-    terms_are = sym (append-nil (terms_of p));
+    terms_are = sym (append-nil (part_terms p));
     same = refl;
     on = ap (λ l. after (set_step ring) s (l ++ rest)) h;
   }
@@ -111,7 +112,7 @@ module _ (ring : List (List ℕ)) (is_ring : IsRing ring) where
         state = r.state;
         part = r.part;
         like = r.like;
-        terms_are = r.terms_are ∙ ap (λ (x : Part). terms_of x ++ us) b.same ∙ append_assoc (terms_of p) (u ∷ []) us;
+        terms_are = r.terms_are ∙ ap (λ (x : Part). part_terms x ++ us) b.same ∙ append_assoc (part_terms p) (u ∷ []) us;
         same = r.same ∙ ap (λ (x : Part). x.polynomials) b.same;
         on = ap (λ l. after (set_step ring) s (l ++ rest)) is
             ∙ like_sign ring is_ring s p like u.minus ((term ++ more) ++ rest)
@@ -131,14 +132,14 @@ module _ (ring : List (List ℕ)) (is_ring : IsRing ring) where
   polynomial_opens p = record { sign_on = signed; begins = record { number_on = number; name_on = named } }
     where
       signed : (m : Bool) (ts : Texts) → Leads ring (at.Polynomial, p) (sign m ∷ ts) (at.Term, with_sign p m) ts
-      signed true ts = after-go (set_step ring) (at.Polynomial, p) (at.Term, with_sign p true) minus ts refl
-      signed false ts = after-go (set_step ring) (at.Polynomial, p) (at.Term, with_sign p false) plus ts refl
+      signed true ts = after-go (set_step ring) (at.Polynomial, p) (at.Term, with_sign p true) minus_mark ts refl
+      signed false ts = after-go (set_step ring) (at.Polynomial, p) (at.Term, with_sign p false) plus_mark ts refl
 
-      number : (t : List ℕ) (n : ℕ) (ts : Texts) → IsNumberText t n most → Leads ring (at.Polynomial, p) (t ∷ ts) (at.Number, with_numer p (value t)) ts
+      number : (t : List ℕ) (n : ℕ) (ts : Texts) → IsNumberText t n most → Leads ring (at.Polynomial, p) (t ∷ ts) (at.Number, with_numer p (decimal_value t)) ts
       number t n ts h =
           let digits = h.0 in
           let within = number_within t n most h in
-          after-go (set_step ring) (at.Polynomial, p) (at.Number, with_numer p (value t)) t ts (rw (number_no_mark t 43 digits refl, number_no_mark t 45 digits refl, digits, within) refl)
+          after-go (set_step ring) (at.Polynomial, p) (at.Number, with_numer p (decimal_value t)) t ts (rw (number_no_mark t 43 digits refl, number_no_mark t 45 digits refl, digits, within) refl)
 
       named : Takes ring (at.Polynomial, p) p
       named t v ts h =
@@ -149,14 +150,14 @@ module _ (ring : List (List ℕ)) (is_ring : IsRing ring) where
   first_opens p = record { sign_on = signed; begins = record { number_on = number; name_on = named } }
     where
       signed : (m : Bool) (ts : Texts) → Leads ring (at.First, p) (sign m ∷ ts) (at.Term, with_sign p m) ts
-      signed true ts = after-go (set_step ring) (at.First, p) (at.Term, with_sign p true) minus ts refl
-      signed false ts = after-go (set_step ring) (at.First, p) (at.Term, with_sign p false) plus ts refl
+      signed true ts = after-go (set_step ring) (at.First, p) (at.Term, with_sign p true) minus_mark ts refl
+      signed false ts = after-go (set_step ring) (at.First, p) (at.Term, with_sign p false) plus_mark ts refl
 
-      number : (t : List ℕ) (n : ℕ) (ts : Texts) → IsNumberText t n most → Leads ring (at.First, p) (t ∷ ts) (at.Number, with_numer p (value t)) ts
+      number : (t : List ℕ) (n : ℕ) (ts : Texts) → IsNumberText t n most → Leads ring (at.First, p) (t ∷ ts) (at.Number, with_numer p (decimal_value t)) ts
       number t n ts h =
           let digits = h.0 in
           let within = number_within t n most h in
-          after-go (set_step ring) (at.First, p) (at.Number, with_numer p (value t)) t ts
+          after-go (set_step ring) (at.First, p) (at.Number, with_numer p (decimal_value t)) t ts
           (rw (number_no_mark t 125 digits refl, number_no_mark t 43 digits refl, number_no_mark t 45 digits refl, digits, within) refl)
 
       named : Takes ring (at.First, p) p
@@ -197,7 +198,7 @@ module _ (ring : List (List ℕ)) (is_ring : IsRing ring) where
         state = r.state;
         part = r.part;
         like = r.like;
-        terms_are = r.terms_are ∙ ap (λ (x : Part). terms_of x ++ us) b.same ∙ ap (λ l. (l ++ u ∷ []) ++ us) none;
+        terms_are = r.terms_are ∙ ap (λ (x : Part). part_terms x ++ us) b.same ∙ ap (λ l. (l ++ u ∷ []) ++ us) none;
         same = r.same ∙ ap (λ (x : Part). x.polynomials) b.same;
         on = ap (λ l. after (set_step ring) s (l ++ rest)) is ∙ ap (after (set_step ring) s) regrouped ∙ b.on ∙ r.on;
       }
@@ -212,7 +213,7 @@ module _ (ring : List (List ℕ)) (is_ring : IsRing ring) where
       ∙ ap (after (set_step ring) (at.Polynomial, n)) (append_assoc first more (brace_end ∷ []))
       ∙ r.on
       ∙ polynomials_read qs more later r.state r.part r.like
-      ∙ ap (λ l. done ((l ++ terms_of r.part ∷ []) ++ qs)) r.same
+      ∙ ap (λ l. done ((l ++ part_terms r.part ∷ []) ++ qs)) r.same
       ∙ ap (λ l. done ((all_of p ++ l ∷ []) ++ qs)) r.terms_are
       ∙ ap (λ l. done l) (append_assoc (all_of p) (q ∷ []) qs)
 
@@ -227,5 +228,5 @@ module _ (ring : List (List ℕ)) (is_ring : IsRing ring) where
       ∙ after-go (set_step ring) (at.Brace, empty) (at.First, empty) brace (first ++ (more ++ brace_end ∷ [])) refl
       ∙ r.on
       ∙ polynomials_read qs more later r.state r.part r.like
-      ∙ ap (λ l. done ((l ++ terms_of r.part ∷ []) ++ qs)) r.same
+      ∙ ap (λ l. done ((l ++ part_terms r.part ∷ []) ++ qs)) r.same
       ∙ ap (λ l. done ((l ∷ []) ++ qs)) r.terms_are

@@ -4,7 +4,7 @@ use Rattle.std.proofs.Common.{◌≡◌, ◌<◌, ◌≤◌, ℕ, ◌+◌, Bool,
 use Rattle.std.proofs.lemmas.Bool.Decides.{nat_tests, leb_tells, eqb_tells}
 use Rattle.std.proofs.lemmas.Slice.Eq.{bytes_eq-Decides}
 use Rattle.std.specs.List.{position_from, list_all}
-use Rattle.gf_text.specs.Tokens.{is_letter, is_digit, is_name_byte, is_number, value}
+use Rattle.gf_text.specs.Tokens.{is_letter, is_digit, is_name_byte, is_number, decimal_value}
 use Rattle.gf_text.specs.RingText.{is_name, AreNew, IsRing}
 use Rattle.gf_text.specs.SetText.{variable, is_word, IsNumberText}
 
@@ -79,8 +79,8 @@ le_test : (a b : ℕ) → a ≤ b → nat_le a b ≡ true
 le_test a b h = elim (leb_tells a b) [ inl k ↦ k.0 | inr k ↦ absurd (omega arith) ]
 
 -- a number within its limit
-pub number_within : (t : List ℕ) (n limit : ℕ) → IsNumberText t n limit → nat_le (value t) limit ≡ true
-number_within t n limit h = let is = h.1 in let within = h.2 in le_test (value t) limit (omega arith)
+pub number_within : (t : List ℕ) (n limit : ℕ) → IsNumberText t n limit → nat_le (decimal_value t) limit ≡ true
+number_within t n limit h = let is = h.1 in let within = h.2 in le_test (decimal_value t) limit (omega arith)
 
 -- a number that isn't zero
 pub not_zero : (n : ℕ) → 0 < n → (n == 0) ≡ false
@@ -96,18 +96,18 @@ pub le_false : (a b : ℕ) → b < a → nat_le a b ≡ false
 le_false a b h = elim (leb_tells a b) [ inl k ↦ absurd (omega arith) | inr k ↦ k.0 ]
 
 -- a number that is zero
-pub zero_number : (t : List ℕ) → (is_number t && value t == 0) ≡ true → (is_number t ≡ true) × (value t ≡ 0)
-zero_number t h = let left = and_left (is_number t) (value t == 0) h in (
+pub zero_number : (t : List ℕ) → (is_number t && decimal_value t == 0) ≡ true → (is_number t ≡ true) × (decimal_value t ≡ 0)
+zero_number t h = let left = and_left (is_number t) (decimal_value t == 0) h in (
   left,
-  elim (eqb_tells (value t) 0) [
+  elim (eqb_tells (decimal_value t) 0) [
     | inl k ↦ k.1
-    | inr k ↦ let no : (is_number t && value t == 0) ≡ false = rw (left, k.0) refl in cc
+    | inr k ↦ let no : (is_number t && decimal_value t == 0) ≡ false = rw (left, k.0) refl in cc
   ],
 )
 
 -- a denominator that isn't zero
-pub positive : (t : List ℕ) → is_number t ≡ true → (is_number t && value t == 0) ≡ false → 0 < value t
-positive t digits h = elim (eqb_tells (value t) 0) [
-  | inl k ↦ let both : (is_number t && value t == 0) ≡ true = rw (digits, k.0) refl in cc
+pub positive : (t : List ℕ) → is_number t ≡ true → (is_number t && decimal_value t == 0) ≡ false → 0 < decimal_value t
+positive t digits h = elim (eqb_tells (decimal_value t) 0) [
+  | inl k ↦ let both : (is_number t && decimal_value t == 0) ≡ true = rw (digits, k.0) refl in cc
   | inr k ↦ let nonzero = k.1 in grind arith
 ]

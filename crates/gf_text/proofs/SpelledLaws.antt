@@ -6,7 +6,7 @@ use Rattle.std.proofs.lemmas.List.Folds.{length-prefix_len}
 use Rattle.std.proofs.Math.Seq.{drop-append_seam, take-append_seam}
 use Rattle.std.specs.List.{list_all, prefix_len}
 use Rattle.gf_text.specs.Machine.{Lexeme, behind, texts, behind_all, Reads}
-use Rattle.gf_text.specs.Tokens.{is_space, is_digit, is_letter, is_name_byte, word_more, lex, lexemes}
+use Rattle.gf_text.specs.Tokens.{is_space, is_digit, is_letter, is_name_byte, word_more, lex_tokens, lexemes}
 use Rattle.gf_text.specs.RingText.{is_name}
 use Rattle.gf_text.proofs.TokensLaws.{lex-skip}
 
@@ -21,7 +21,7 @@ pub record IsToken (more : List ℕ → ℕ) (t rest : List ℕ) : Type 0 where
 -- before the rest, these bytes spell tokens with these texts
 pub record IsSpelled (more : List ℕ → ℕ) (bs rest : List ℕ) (ts : List (List ℕ)) : Type 0 where
   pub tokens : ℕ → List Lexeme
-  pub lexed : (at : ℕ) → lex more 0 at (bs ++ rest) ≡ tokens at ++ lex more 0 (at + length bs) rest
+  pub lexed : (at : ℕ) → lex_tokens more 0 at (bs ++ rest) ≡ tokens at ++ lex_tokens more 0 (at + length bs) rest
   pub said : (at : ℕ) → texts (tokens at) ≡ ts
 
 texts-++ : (xs ys : List Lexeme) → texts (xs ++ ys) ≡ texts xs ++ texts ys
@@ -34,29 +34,29 @@ behind_last d (x ∷ xs) y = behind_last (behind x) xs y
 
 module _ (more : List ℕ → ℕ) where
   pub spelled-none : (rest : List ℕ) → IsSpelled more [] rest []
-  spelled-none rest = record { tokens = λ at. []; lexed = λ at. (let here : at ≡ at + 0 = omega arith in ap (λ n. lex more 0 n rest) here); said = λ at. refl }
+  spelled-none rest = record { tokens = λ at. []; lexed = λ at. (let here : at ≡ at + 0 = omega arith in ap (λ n. lex_tokens more 0 n rest) here); said = λ at. refl }
 
-  lex-first : (b at : ℕ) (bs : List ℕ) → is_space b ≡ false → lex more 0 at (b ∷ bs) ≡ record { text = b ∷ take (more (b ∷ bs)) bs; at = at } ∷ lex more (more (b ∷ bs)) (at + 1) bs
-  unfolding lex
+  lex-first : (b at : ℕ) (bs : List ℕ) → is_space b ≡ false → lex_tokens more 0 at (b ∷ bs) ≡ record { text = b ∷ take (more (b ∷ bs)) bs; at = at } ∷ lex_tokens more (more (b ∷ bs)) (at + 1) bs
+  unfolding lex_tokens
   lex-first b at bs visible = rw visible refl
 
-  lex-space : (b at : ℕ) (bs : List ℕ) → is_space b ≡ true → lex more 0 at (b ∷ bs) ≡ lex more 0 (at + 1) bs
-  unfolding lex
+  lex-space : (b at : ℕ) (bs : List ℕ) → is_space b ≡ true → lex_tokens more 0 at (b ∷ bs) ≡ lex_tokens more 0 (at + 1) bs
+  unfolding lex_tokens
   lex-space b at bs space = rw space refl
 
-  lex-token : (at : ℕ) (t rest : List ℕ) → IsToken more t rest → lex more 0 at (t ++ rest) ≡ record { text = t; at = at } ∷ lex more 0 (at + length t) rest
+  lex-token : (at : ℕ) (t rest : List ℕ) → IsToken more t rest → lex_tokens more 0 at (t ++ rest) ≡ record { text = t; at = at } ∷ lex_tokens more 0 (at + length t) rest
   lex-token at t rest h =
       let b = h.first in
       let bs = h.others in
       let text : take (more (b ∷ (bs ++ rest))) (bs ++ rest) ≡ bs = ap (λ n. take n (bs ++ rest)) h.whole ∙ take-append_seam bs rest in
       let place : (at + 1) + length bs ≡ at + length (b ∷ bs) = omega arith in
-      let later : lex more (more (b ∷ (bs ++ rest))) (at + 1) (bs ++ rest) ≡ lex more 0 (at + length (b ∷ bs)) rest =
-      ap (λ n. lex more n (at + 1) (bs ++ rest)) h.whole ∙ lex-skip more (length bs) (at + 1) (bs ++ rest)
-      ∙ ap (λ l. lex more 0 ((at + 1) + length bs) l) (drop-append_seam bs rest) ∙ ap (λ n. lex more 0 n rest) place in
-      let P : List ℕ → Type 0 = λ s. lex more 0 at (s ++ rest) ≡ record { text = s; at = at } ∷ lex more 0 (at + length s) rest in
+      let later : lex_tokens more (more (b ∷ (bs ++ rest))) (at + 1) (bs ++ rest) ≡ lex_tokens more 0 (at + length (b ∷ bs)) rest =
+      ap (λ n. lex_tokens more n (at + 1) (bs ++ rest)) h.whole ∙ lex-skip more (length bs) (at + 1) (bs ++ rest)
+      ∙ ap (λ l. lex_tokens more 0 ((at + 1) + length bs) l) (drop-append_seam bs rest) ∙ ap (λ n. lex_tokens more 0 n rest) place in
+      let P : List ℕ → Type 0 = λ s. lex_tokens more 0 at (s ++ rest) ≡ record { text = s; at = at } ∷ lex_tokens more 0 (at + length s) rest in
       subst P (sym h.shape) (
       lex-first b at (bs ++ rest) h.visible
-      ∙ ap (λ s. record { text = b ∷ s; at = at } ∷ lex more (more (b ∷ (bs ++ rest))) (at + 1) (bs ++ rest)) text
+      ∙ ap (λ s. record { text = b ∷ s; at = at } ∷ lex_tokens more (more (b ∷ (bs ++ rest))) (at + 1) (bs ++ rest)) text
       ∙ ap (λ l. record { text = b ∷ bs; at = at } ∷ l) later
       )
 
@@ -71,9 +71,9 @@ module _ (more : List ℕ → ℕ) where
     tokens = λ at. h.tokens at ++ k.tokens (at + length bs);
     lexed = λ at. (
         let place : (at + length bs) + length cs ≡ at + length (bs ++ cs) = omega (arith, length-append bs cs) in
-        ap (lex more 0 at) (append_assoc bs cs rest) ∙ h.lexed at ∙ ap (λ l. h.tokens at ++ l) (k.lexed (at + length bs))
-        ∙ sym (append_assoc (h.tokens at) (k.tokens (at + length bs)) (lex more 0 ((at + length bs) + length cs) rest))
-        ∙ ap (λ n. (h.tokens at ++ k.tokens (at + length bs)) ++ lex more 0 n rest) place
+        ap (lex_tokens more 0 at) (append_assoc bs cs rest) ∙ h.lexed at ∙ ap (λ l. h.tokens at ++ l) (k.lexed (at + length bs))
+        ∙ sym (append_assoc (h.tokens at) (k.tokens (at + length bs)) (lex_tokens more 0 ((at + length bs) + length cs) rest))
+        ∙ ap (λ n. (h.tokens at ++ k.tokens (at + length bs)) ++ lex_tokens more 0 n rest) place
         );
     said = λ at. texts-++ (h.tokens at) (k.tokens (at + length bs)) ∙ ap (λ l. l ++ texts (k.tokens (at + length bs))) (h.said at) ∙ ap (λ l. ts ++ l) (k.said (at + length bs));
   }
@@ -85,18 +85,22 @@ module _ (more : List ℕ → ℕ) where
       let at = length before in
       let source = before ++ ((bs ++ t) ++ rest) in
       let last : Lexeme = record { text = t; at = at + length bs } in
-      let back = lex more 0 ((at + length bs) + length t) rest in
+      let back = lex_tokens more 0 ((at + length bs) + length t) rest in
       let ends : behind last ≡ at + length (bs ++ t) = omega (arith, length-append bs t) in
       record {
         front = h.tokens at ++ last ∷ [];
         back = back;
-        whole = ap (lex more 0 at) (drop-append_seam before ((bs ++ t) ++ rest) ∙ append_assoc bs t rest) ∙ h.lexed at
+        whole = ap (lex_tokens more 0 at) (drop-append_seam before ((bs ++ t) ++ rest) ∙ append_assoc bs t rest) ∙ h.lexed at
             ∙ ap (λ l. h.tokens at ++ l) (lex-token (at + length bs) t rest is) ∙ sym (append_assoc (h.tokens at) (last ∷ []) back);
         text = subst (λ l. grammar l a) (sym (texts-++ (h.tokens at) (last ∷ []) ∙ ap (λ l. l ++ t ∷ []) (h.said at))) g;
         end = behind_last 0 (h.tokens at) last ∙ ends;
       }
 
 -- ---- the tokens of rings
+
+-- a mark
+pub mark_token : (b : ℕ) (rest : List ℕ) → is_space b ≡ false → word_more (b ∷ rest) ≡ 0 → IsToken word_more (b ∷ []) rest
+mark_token b rest visible whole = record { first = b; others = []; shape = refl; visible = visible; whole = whole }
 
 -- the text begins with a letter, a digit or _
 abbrev pub goes_on : List ℕ → Bool

@@ -1,5 +1,5 @@
 -- The machine of vectors reads exactly what the grammar of vectors says.
--- To cite: vector_machine, vector_read, vector_within, within_in_range, one_vector; takes_number, Reason, reason, one, one_goes, number_stops, number_wide, number_taken. The rest are steps.
+-- To cite: vector_machine, vector_read, vector_within, within_in_range, one_vector; takes_number, Reason, reason, one_goes, number_stops, word_stops, number_wide, number_taken. The rest are steps.
 use Rattle.std.proofs.Common.{◌≡◌, ◌<◌, ℕ, zero, suc, Bool, true, false, nat_le, List, [], ◌∷◌, ◌++◌, length, Ok, refl, sym, ap, subst, ◌∙◌, ◌⊎◌, inl, inr, append_assoc, append-nil, bytes_eq, arith, if◌then◌else◌, ℤ, unsigned_abs, All}
 use Rattle.std.proofs.lemmas.List.Elements.{All-from_recursion}
 use Rattle.std.specs.List.{AllByRecursion}
@@ -9,11 +9,14 @@ use Rattle.gf_text.specs.declared.error.Cause.TheVariants.{Ended, Unexpected, Re
 use Rattle.gf_text.specs.declared.vector_reader.VectorPlace.{VectorPlace}
 use Rattle.gf_text.specs.declared.vector_reader.VectorPlace.TheVariants as at
 use Rattle.gf_text.specs.Machine.{go, done, halt, after, followed, HasOneMeaning}
-use Rattle.gf_text.specs.Tokens.{is_number, value, lexemes, word_more}
-use Rattle.gf_text.specs.VectorText.{parenthesis, parenthesis_end, comma, minus, most_entry, signed, IsSizeText, IsEntryText, AreMoreEntries, IsVectorText, IsWithin, VectorState, VectorMove, size_step, entry_step, vector_step, vector_at}
-use Rattle.gf_text.specs.Vectors.{IsVectorRead, AreWithin}
+use Rattle.gf_text.specs.Tokens.{is_number, decimal_value, lexemes, word_more}
+use Rattle.gf_text.specs.SetText.{is_word}
+use Rattle.gf_text.specs.VectorText.{most_entry, signed_entry, IsSizeText, IsEntryText, AreMoreEntries, IsVectorText, IsEntryWithin, VectorState, VectorMove, size_step, entry_step, vector_step, vector_at}
+use Rattle.gf_text.specs.Marks.{parenthesis, parenthesis_end, comma, minus_mark}
+use Rattle.gf_text.specs.Vectors.{IsVectorRead, AreEntriesWithin}
 use Rattle.gf_text.proofs.MachineLaws.{after-go, after-done, not_yet, reads, one_meaning, IsMachineOf}
-use Rattle.gf_text.proofs.SetTokensLaws.{number_no_mark, number_within, is_mark, le_from, not_le, le_false}
+use Rattle.gf_text.proofs.KindsLaws.{one}
+use Rattle.gf_text.proofs.SetTokensLaws.{word_no_mark, word_no_number, number_no_mark, number_within, is_mark, le_from, not_le, le_false}
 
 abbrev Texts : Type 0
 Texts = List (List ℕ)
@@ -70,8 +73,8 @@ record Sized (m : Bool) (before : Entries) (ts : Texts) (all : Entries) : Type 0
   t : List ℕ
   rest : Texts
   tokens : ts ≡ t ∷ rest
-  size : IsSizeText t (value t)
-  more : More (before ++ signed m (value t) ∷ []) rest all
+  size : IsSizeText t (decimal_value t)
+  more : More (before ++ signed_entry m (decimal_value t) ∷ []) rest all
 
 -- where an entry is expected: one, and what follows it
 record Entered (before : Entries) (ts : Texts) (all : Entries) : Type 0 where
@@ -90,20 +93,20 @@ First before ts all = ((ts ≡ parenthesis_end ∷ []) × (all ≡ before)) ⊎ 
 bare : (before : Entries) (ts : Texts) (all : Entries) → Sized false before ts all → Entered before ts all
 bare before ts all s = record {
   first = s.t ∷ [];
-  z = signed false (value s.t);
+  z = signed_entry false (decimal_value s.t);
   rest = s.rest;
   tokens = s.tokens;
-  is_entry = (s.t, value s.t, s.size, inl (refl, refl));
+  is_entry = (s.t, decimal_value s.t, s.size, inl (refl, refl));
   more = s.more;
 }
 
-negative : (before : Entries) (t : List ℕ) (ts : Texts) (all : Entries) → t ≡ minus → Sized true before ts all → Entered before (t ∷ ts) all
+negative : (before : Entries) (t : List ℕ) (ts : Texts) (all : Entries) → t ≡ minus_mark → Sized true before ts all → Entered before (t ∷ ts) all
 negative before t ts all is s = record {
-  first = minus ∷ s.t ∷ [];
-  z = signed true (value s.t);
+  first = minus_mark ∷ s.t ∷ [];
+  z = signed_entry true (decimal_value s.t);
   rest = s.rest;
-  tokens = ap (λ x. x ∷ ts) is ∙ ap (λ l. minus ∷ l) s.tokens;
-  is_entry = (s.t, value s.t, s.size, inr (refl, refl));
+  tokens = ap (λ x. x ∷ ts) is ∙ ap (λ l. minus_mark ∷ l) s.tokens;
+  is_entry = (s.t, decimal_value s.t, s.size, inr (refl, refl));
   more = s.more;
 }
 
@@ -141,24 +144,24 @@ Later ts = (place : VectorPlace) (before all : Entries) → From (place, before)
 module _ (t : List ℕ) (ts : Texts) (later : Later ts) where
   size_on : (m : Bool) (before all : Entries) → Then (size_step m before t) ts all → Sized m before (t ∷ ts) all
   unfolding Said Later
-  size_on m before all e = elim (chosen (is_number t) (if nat_le (value t) most_entry then goes (at.Behind, before ++ signed m (value t) ∷ []) else stops TooWide) (stops Unexpected) ts all e) [
+  size_on m before all e = elim (chosen (is_number t) (if nat_le (decimal_value t) most_entry then goes (at.Behind, before ++ signed_entry m (decimal_value t) ∷ []) else stops TooWide) (stops Unexpected) ts all e) [
     | inr h ↦ halted Unexpected ts all h.1
-    | inl h ↦ elim (chosen (nat_le (value t) most_entry) (goes (at.Behind, before ++ signed m (value t) ∷ [])) (stops TooWide) ts all h.1) [
+    | inl h ↦ elim (chosen (nat_le (decimal_value t) most_entry) (goes (at.Behind, before ++ signed_entry m (decimal_value t) ∷ [])) (stops TooWide) ts all h.1) [
       | inr k ↦ halted TooWide ts all k.1
       | inl k ↦ record {
         t = t;
         rest = ts;
         tokens = refl;
-        size = (h.0, refl, le_from (value t) most_entry k.0);
-        more = later at.Behind (before ++ signed m (value t) ∷ []) all k.1;
+        size = (h.0, refl, le_from (decimal_value t) most_entry k.0);
+        more = later at.Behind (before ++ signed_entry m (decimal_value t) ∷ []) all k.1;
       }
     ]
   ]
 
   entry_on : (before all : Entries) → Then (entry_step before t) ts all → Entered before (t ∷ ts) all
   unfolding Said Later
-  entry_on before all e = elim (chosen (bytes_eq t minus) (goes (at.Negative, before)) (size_step false before t) ts all e) [
-    | inl h ↦ negative before t ts all (is_mark t minus h.0) (later at.Negative before all h.1)
+  entry_on before all e = elim (chosen (bytes_eq t minus_mark) (goes (at.Negative, before)) (size_step false before t) ts all e) [
+    | inl h ↦ negative before t ts all (is_mark t minus_mark h.0) (later at.Negative before all h.1)
     | inr h ↦ bare before (t ∷ ts) all (size_on false before all h.1)
   ]
 
@@ -206,7 +209,7 @@ vector_said ts all e = let s = said ts at.Parenthesis [] all e in vector_by ts s
 -- a state where an entry may begin
 record Begins (s : VectorState) (before : Entries) : Type 0 where
   number_on : (t : List ℕ) → is_number t ≡ true → vector_step s t ≡ size_step false before t
-  minus_on : vector_step s minus ≡ goes (at.Negative, before)
+  minus_on : vector_step s minus_mark ≡ goes (at.Negative, before)
 
 first_begins : (before : Entries) → Begins (at.First, before) before
 first_begins before = record { number_on = λ t digits. rw (number_no_mark t 41 digits refl, number_no_mark t 45 digits refl) refl; minus_on = refl }
@@ -214,23 +217,23 @@ first_begins before = record { number_on = λ t digits. rw (number_no_mark t 41 
 entry_begins : (before : Entries) → Begins (at.Entry, before) before
 entry_begins before = record { number_on = λ t digits. rw (number_no_mark t 45 digits refl) refl; minus_on = refl }
 
-size_goes : (m : Bool) (before : Entries) (t : List ℕ) (n : ℕ) → IsSizeText t n → size_step m before t ≡ goes (at.Behind, before ++ signed m n ∷ [])
+size_goes : (m : Bool) (before : Entries) (t : List ℕ) (n : ℕ) → IsSizeText t n → size_step m before t ≡ goes (at.Behind, before ++ signed_entry m n ∷ [])
 size_goes m before t n h =
     let digits = h.0 in
     let within = number_within t n most_entry h in
-    let here : size_step m before t ≡ goes (at.Behind, before ++ signed m (value t) ∷ []) = rw (digits, within) refl in
-    here ∙ ap (λ k. goes (at.Behind, before ++ signed m k ∷ [])) h.1
+    let here : size_step m before t ≡ goes (at.Behind, before ++ signed_entry m (decimal_value t) ∷ []) = rw (digits, within) refl in
+    here ∙ ap (λ k. goes (at.Behind, before ++ signed_entry m k ∷ [])) h.1
 
 entry_read : (z : ℤ) (first : Texts) → IsEntryText first z → (s : VectorState) (before : Entries) → Begins s before → (rest : Texts)
     → after vector_step s (first ++ rest) ≡ after vector_step (at.Behind, before ++ z ∷ []) rest
 entry_read z first (t, n, size, inl (is, e)) s before begins rest =
     ap (λ l. after vector_step s (l ++ rest)) is
-    ∙ after-go vector_step s (at.Behind, before ++ signed false n ∷ []) t rest (begins.number_on t size.0 ∙ size_goes false before t n size)
+    ∙ after-go vector_step s (at.Behind, before ++ signed_entry false n ∷ []) t rest (begins.number_on t size.0 ∙ size_goes false before t n size)
     ∙ ap (λ k. after vector_step (at.Behind, before ++ k ∷ []) rest) (sym e)
 entry_read z first (t, n, size, inr (is, e)) s before begins rest =
     ap (λ l. after vector_step s (l ++ rest)) is
-    ∙ after-go vector_step s (at.Negative, before) minus (t ∷ rest) begins.minus_on
-    ∙ after-go vector_step (at.Negative, before) (at.Behind, before ++ signed true n ∷ []) t rest (size_goes true before t n size)
+    ∙ after-go vector_step s (at.Negative, before) minus_mark (t ∷ rest) begins.minus_on
+    ∙ after-go vector_step (at.Negative, before) (at.Behind, before ++ signed_entry true n ∷ []) t rest (size_goes true before t n size)
     ∙ ap (λ k. after vector_step (at.Behind, before ++ k ∷ []) rest) (sym e)
 
 more_given : (zs : Entries) (ts : Texts) → AreMoreEntries ts zs → (before : Entries) → From (at.Behind, before) (ts ++ parenthesis_end ∷ []) (before ++ zs)
@@ -261,10 +264,6 @@ vector_given ts (z ∷ zs) (first, rest, is, entry, more) =
 
 -- ---- from each state some tokens lead to a vector
 
--- the number 1
-abbrev pub one : List ℕ
-one = 49 ∷ []
-
 abbrev Live : VectorState → Type 0
 Live s = (ts : Texts) × (zs : Entries) × From s ts zs
 
@@ -280,8 +279,8 @@ first_live zs = (parenthesis_end ∷ [], zs, after-done vector_step (at.First, z
 is_live : (s : VectorState) → Live s
 is_live (at.Parenthesis, zs) = by_token (at.Parenthesis, zs) (at.First, zs) parenthesis refl (first_live zs)
 is_live (at.First, zs) = first_live zs
-is_live (at.Entry, zs) = by_token (at.Entry, zs) (at.Behind, zs ++ signed false 1 ∷ []) one refl (behind_live (zs ++ signed false 1 ∷ []))
-is_live (at.Negative, zs) = by_token (at.Negative, zs) (at.Behind, zs ++ signed true 1 ∷ []) one refl (behind_live (zs ++ signed true 1 ∷ []))
+is_live (at.Entry, zs) = by_token (at.Entry, zs) (at.Behind, zs ++ signed_entry false 1 ∷ []) one refl (behind_live (zs ++ signed_entry false 1 ∷ []))
+is_live (at.Negative, zs) = by_token (at.Negative, zs) (at.Behind, zs ++ signed_entry true 1 ∷ []) one refl (behind_live (zs ++ signed_entry true 1 ∷ []))
 is_live (at.Behind, zs) = behind_live zs
 
 -- ---- why the machine can't take a token
@@ -300,7 +299,7 @@ Reason place t Ended = ⊥
 Reason place t Unexpected = Unit {0}
 Reason place t RepeatedName = ⊥
 Reason place t ZeroDenominator = ⊥
-Reason place t TooWide = (takes_number place ≡ true) × (is_number t ≡ true) × (most_entry < value t)
+Reason place t TooWide = (takes_number place ≡ true) × (is_number t ≡ true) × (most_entry < decimal_value t)
 Reason place t UnknownName = ⊥
 
 -- where the move can't take the token, its cause says so
@@ -322,13 +321,13 @@ either place t false x y h k = k refl
 
 size_says : (place : VectorPlace) (m : Bool) (zs : Entries) (t : List ℕ) → takes_number place ≡ true → Says place t (size_step m zs t)
 size_says place m zs t takes =
-    let u : VectorState = (at.Behind, zs ++ signed m (value t) ∷ []) in
-    either place t (is_number t) (if nat_le (value t) most_entry then goes u else stops TooWide) (stops Unexpected)
-    (λ digits. either place t (nat_le (value t) most_entry) (goes u) (stops TooWide) (λ small. says_go place t u) (λ wide. says place t TooWide (takes, digits, not_le (value t) most_entry wide)))
+    let u : VectorState = (at.Behind, zs ++ signed_entry m (decimal_value t) ∷ []) in
+    either place t (is_number t) (if nat_le (decimal_value t) most_entry then goes u else stops TooWide) (stops Unexpected)
+    (λ digits. either place t (nat_le (decimal_value t) most_entry) (goes u) (stops TooWide) (λ small. says_go place t u) (λ wide. says place t TooWide (takes, digits, not_le (decimal_value t) most_entry wide)))
     (λ no. says place t Unexpected tt)
 
 entry_says : (place : VectorPlace) (zs : Entries) (t : List ℕ) → takes_number place ≡ true → Says place t (entry_step zs t)
-entry_says place zs t takes = either place t (bytes_eq t minus) (goes (at.Negative, zs)) (size_step false zs t) (λ h. says_go place t (at.Negative, zs)) (λ h. size_says place false zs t takes)
+entry_says place zs t takes = either place t (bytes_eq t minus_mark) (goes (at.Negative, zs)) (size_step false zs t) (λ h. says_go place t (at.Negative, zs)) (λ h. size_says place false zs t takes)
 
 token_says : (place : VectorPlace) (zs : Entries) (t : List ℕ) → Says place t (vector_step (place, zs) t)
 token_says at.Parenthesis zs t = either at.Parenthesis t (bytes_eq t parenthesis) (goes (at.First, zs)) (stops Unexpected) (λ h. says_go at.Parenthesis t (at.First, zs)) (λ h. says at.Parenthesis t Unexpected tt)
@@ -344,9 +343,9 @@ reason place zs t cause e = token_says place zs t cause e
 -- the number 1 is taken where a number may stand
 pub one_goes : (place : VectorPlace) → takes_number place ≡ true → (zs : Entries) → (u : VectorState) × (vector_step (place, zs) one ≡ go u)
 one_goes at.Parenthesis h zs = cc
-one_goes at.First h zs = ((at.Behind, zs ++ signed false 1 ∷ []), refl)
-one_goes at.Entry h zs = ((at.Behind, zs ++ signed false 1 ∷ []), refl)
-one_goes at.Negative h zs = ((at.Behind, zs ++ signed true 1 ∷ []), refl)
+one_goes at.First h zs = ((at.Behind, zs ++ signed_entry false 1 ∷ []), refl)
+one_goes at.Entry h zs = ((at.Behind, zs ++ signed_entry false 1 ∷ []), refl)
+one_goes at.Negative h zs = ((at.Behind, zs ++ signed_entry true 1 ∷ []), refl)
 one_goes at.Behind h zs = cc
 
 -- a number is unexpected where none may stand
@@ -357,6 +356,14 @@ number_stops at.Entry h zs t digits = cc
 number_stops at.Negative h zs t digits = cc
 number_stops at.Behind h zs t digits = rw (number_no_mark t 44 digits refl, number_no_mark t 41 digits refl) refl
 
+-- a letter is unexpected
+pub word_stops : (place : VectorPlace) (zs : Entries) (t : List ℕ) → is_word t ≡ true → vector_step (place, zs) t ≡ halt Unexpected
+word_stops at.Parenthesis zs t word = rw (word_no_mark t 40 word refl) refl
+word_stops at.First zs t word = rw (word_no_mark t 41 word refl, word_no_mark t 45 word refl, word_no_number t word) refl
+word_stops at.Entry zs t word = rw (word_no_mark t 45 word refl, word_no_number t word) refl
+word_stops at.Negative zs t word = rw (word_no_number t word) refl
+word_stops at.Behind zs t word = rw (word_no_mark t 44 word refl, word_no_mark t 41 word refl) refl
+
 -- where a number may stand it does what a size does
 sized : (place : VectorPlace) → takes_number place ≡ true → (zs : Entries) (t : List ℕ) → is_number t ≡ true → (m : Bool) × (vector_step (place, zs) t ≡ size_step m zs t)
 sized at.Parenthesis h zs t digits = cc
@@ -366,10 +373,10 @@ sized at.Negative h zs t digits = (true, refl)
 sized at.Behind h zs t digits = cc
 
 -- past the limit it is too wide
-pub number_wide : (place : VectorPlace) → takes_number place ≡ true → (zs : Entries) (t : List ℕ) → is_number t ≡ true → most_entry < value t → vector_step (place, zs) t ≡ halt TooWide
+pub number_wide : (place : VectorPlace) → takes_number place ≡ true → (zs : Entries) (t : List ℕ) → is_number t ≡ true → most_entry < decimal_value t → vector_step (place, zs) t ≡ halt TooWide
 number_wide place h zs t digits above =
     let s = sized place h zs t digits in
-    let wide = le_false (value t) most_entry above in
+    let wide = le_false (decimal_value t) most_entry above in
     let here : size_step s.0 zs t ≡ stops TooWide = rw (digits, wide) refl in
     s.1 ∙ here
 
@@ -377,8 +384,8 @@ number_wide place h zs t digits above =
 pub number_taken : (place : VectorPlace) → takes_number place ≡ true → (zs : Entries) (t : List ℕ) → is_number t ≡ true → vector_step (place, zs) t ≡ halt Unexpected → ⊥
 number_taken place h zs t digits e =
     let s = sized place h zs t digits in
-    let here : (if nat_le (value t) most_entry then goes (at.Behind, zs ++ signed s.0 (value t) ∷ []) else stops TooWide) ≡ stops Unexpected = rw digits at (sym s.1 ∙ e) in
-    expected (nat_le (value t) most_entry) (at.Behind, zs ++ signed s.0 (value t) ∷ []) here
+    let here : (if nat_le (decimal_value t) most_entry then goes (at.Behind, zs ++ signed_entry s.0 (decimal_value t) ∷ []) else stops TooWide) ≡ stops Unexpected = rw digits at (sym s.1 ∙ e) in
+    expected (nat_le (decimal_value t) most_entry) (at.Behind, zs ++ signed_entry s.0 (decimal_value t) ∷ []) here
   where
     expected : (b : Bool) (u : VectorState) → (if b then goes u else stops TooWide) ≡ stops Unexpected → ⊥
     expected true u e = cc
@@ -396,36 +403,33 @@ vector_machine = record {
 }
 
 pub vector_read : (source : List ℕ) (from : ℕ) (zs : Entries) (place : ℕ) → vector_at source from ≡ Ok (zs, place) → IsVectorRead (record { source = source; at = from }) place zs
-vector_read source from zs place e = record {
-  read = e;
-  text = reads vector_step IsVectorText (at.Parenthesis, []) (length source) (lexemes word_more source from) zs place (λ ts. vector_said ts zs) e;
-}
+vector_read source from zs place e = reads vector_step IsVectorText (at.Parenthesis, []) (length source) (lexemes word_more source from) zs place (λ ts. vector_said ts zs) e
 
 pub one_vector : HasOneMeaning IsVectorText
 one_vector = one_meaning vector_step IsVectorText (at.Parenthesis, []) vector_given
 
 -- ---- the entries are within their limit
 
-size_is : (m : Bool) (n : ℕ) → unsigned_abs (signed m n) ≡ n
+size_is : (m : Bool) (n : ℕ) → unsigned_abs (signed_entry m n) ≡ n
 size_is false n = refl
 size_is true zero = refl
 size_is true (suc n) = refl
 
-entry_within : (ts : Texts) (z : ℤ) → IsEntryText ts z → IsWithin z
+entry_within : (ts : Texts) (z : ℤ) → IsEntryText ts z → IsEntryWithin z
 entry_within ts z (t, n, size, inl (is, e)) = let same = ap unsigned_abs e ∙ size_is false n in let h = size.2 in omega arith
 entry_within ts z (t, n, size, inr (is, e)) = let same = ap unsigned_abs e ∙ size_is true n in let h = size.2 in omega arith
 
-more_within : (ts : Texts) (zs : Entries) → AreMoreEntries ts zs → AllByRecursion IsWithin zs
+more_within : (ts : Texts) (zs : Entries) → AreMoreEntries ts zs → AllByRecursion IsEntryWithin zs
 more_within ts [] h = tt
 more_within ts (z ∷ zs) (first, rest, is, entry, more) = (entry_within first z entry, more_within rest zs more)
 
-all_within : (ts : Texts) (zs : Entries) → IsVectorText ts zs → AllByRecursion IsWithin zs
+all_within : (ts : Texts) (zs : Entries) → IsVectorText ts zs → AllByRecursion IsEntryWithin zs
 all_within ts [] h = tt
 all_within ts (z ∷ zs) (first, rest, is, entry, more) = (entry_within first z entry, more_within rest zs more)
 
-pub vector_within : (ts : Texts) (zs : Entries) → IsVectorText ts zs → AreWithin zs
-vector_within ts zs h = All-from_recursion IsWithin zs (all_within ts zs h)
+pub vector_within : (ts : Texts) (zs : Entries) → IsVectorText ts zs → AreEntriesWithin zs
+vector_within ts zs h = All-from_recursion IsEntryWithin zs (all_within ts zs h)
 
 -- and in the range of a vector's entries
-pub within_in_range : (zs : Entries) → AreWithin zs → All InRange zs
+pub within_in_range : (zs : Entries) → AreEntriesWithin zs → All InRange zs
 within_in_range zs h = λ k d below. record { within = let small = h k d below in omega arith }

@@ -15,8 +15,8 @@ use Rattle.gf_text.specs.declared.tree.WrittenTerm.{WrittenTerm}
 -- ---- terms
 
 -- a monomial times a power of a variable, where the exponent stays within 2^31 - 1
-abbrev pub raised : Exponents → Factor → Result Exponents ExponentOverflow
-raised x f = if nat_lt (slice_index x f.variable + f.exponent) (2 ^ 31) then Ok (slice_set x f.variable (slice_index x f.variable + f.exponent))
+abbrev pub raised_by : Exponents → Factor → Result Exponents ExponentOverflow
+raised_by x f = if nat_lt (slice_index x f.variable + f.exponent) (2 ^ 31) then Ok (slice_set x f.variable (slice_index x f.variable + f.exponent))
     else Err (record { left = slice_index x f.variable; right = f.exponent })
 
 abbrev pub then_factors : Result Exponents ExponentOverflow → (Exponents → Result Exponents ExponentOverflow) → Result Exponents ExponentOverflow
@@ -26,16 +26,16 @@ then_factors (Err o) next = Err o
 -- a monomial times powers, one after another
 abbrev pub times_factors : Exponents → List Factor → Result Exponents ExponentOverflow
 times_factors x [] = Ok x
-times_factors x (f ∷ fs) = then_factors (raised x f) (λ y. times_factors y fs)
+times_factors x (f ∷ fs) = then_factors (raised_by x f) (λ y. times_factors y fs)
 
 -- a fraction, or its negative
-abbrev pub signed : Bool → Fraction → Fraction
-signed true c = neg_ℚ c
-signed false c = c
+abbrev pub signed_fraction : Bool → Fraction → Fraction
+signed_fraction true c = neg_ℚ c
+signed_fraction false c = c
 
 -- the coefficient that is written: the rational number with its sign
 abbrev pub coefficient_of : WrittenTerm → Fraction
-coefficient_of u = signed u.minus (over (pos u.numer) (u.denom - 1))
+coefficient_of u = signed_fraction u.minus (over (pos u.numer) (u.denom - 1))
 
 abbrev pub with_coefficient : Fraction → Result Exponents ExponentOverflow → Result Term ExponentOverflow
 with_coefficient c (Ok x) = Ok (record { coef = c; mono = x })
@@ -46,8 +46,8 @@ abbrev pub exponents_of : ℕ → WrittenTerm → Result Exponents ExponentOverf
 exponents_of n u = times_factors (replicate n 0) u.factors
 
 -- the term that is written, in n variables
-abbrev pub term_of : ℕ → WrittenTerm → Result Term ExponentOverflow
-term_of n u = with_coefficient (coefficient_of u) (exponents_of n u)
+abbrev pub term_written : ℕ → WrittenTerm → Result Term ExponentOverflow
+term_written n u = with_coefficient (coefficient_of u) (exponents_of n u)
 
 -- an element before others, where neither is refused
 abbrev pub before_all : {A : Type 0} → Result A ExponentOverflow → Result (List A) ExponentOverflow → Result (List A) ExponentOverflow
@@ -56,23 +56,23 @@ before_all (Ok x) (Err o) = Err o
 before_all (Err o) others = Err o
 
 -- the terms that are written, or the first refusal
-abbrev pub terms_of : ℕ → List WrittenTerm → Result Terms ExponentOverflow
-terms_of n [] = Ok []
-terms_of n (u ∷ us) = before_all (term_of n u) (terms_of n us)
+abbrev pub terms_written : ℕ → List WrittenTerm → Result Terms ExponentOverflow
+terms_written n [] = Ok []
+terms_written n (u ∷ us) = before_all (term_written n u) (terms_written n us)
 
 -- the same of each polynomial
 abbrev pub sums_of : ℕ → List (List WrittenTerm) → Result (List Terms) ExponentOverflow
 sums_of n [] = Ok []
-sums_of n (q ∷ qs) = before_all (terms_of n q) (sums_of n qs)
+sums_of n (q ∷ qs) = before_all (terms_written n q) (sums_of n qs)
 
 -- each exponent of these terms stays within its limit
 abbrev pub ExponentsFit : ℕ → List WrittenTerm → Type 0
-ExponentsFit n us = (f : Terms) × (terms_of n us ≡ Ok f)
+ExponentsFit n us = (f : Terms) × (terms_written n us ≡ Ok f)
 
 -- each sum has n variables
-abbrev pub HaveVariables : ℕ → List Terms → Type 0
-HaveVariables n [] = Unit {0}
-HaveVariables n (f ∷ fs) = HasVariables n f × HaveVariables n fs
+abbrev pub SumsHaveVariables : ℕ → List Terms → Type 0
+SumsHaveVariables n [] = Unit {0}
+SumsHaveVariables n (f ∷ fs) = HasVariables n f × SumsHaveVariables n fs
 
 -- ---- what remains of a sum of terms
 
@@ -104,11 +104,11 @@ pub record IsFirstRemainingAt (f g : Terms) (i : ℕ) : Type 0 where
 
 -- g is the sum of the terms that are written
 abbrev pub IsSumOf : ℕ → List WrittenTerm → Terms → Type 0
-IsSumOf n us g = (f : Terms) → terms_of n us ≡ Ok f → SamePolynomial g f
+IsSumOf n us g = (f : Terms) → terms_written n us ≡ Ok f → SamePolynomial g f
 
 -- the place, in the sum g of the terms that are written, of the first that remains; or none remains
 abbrev pub FindsFirst : ℕ → List WrittenTerm → Terms → Option ℕ → Type 0
-FindsFirst n us g place = (f : Terms) → terms_of n us ≡ Ok f → MatchOption place (NoneRemains f) (IsFirstRemainingAt f g)
+FindsFirst n us g place = (f : Terms) → terms_written n us ≡ Ok f → MatchOption place (NoneRemains f) (IsFirstRemainingAt f g)
 
 -- m is the sum of the terms of f, marked at the first that remains
 pub record IsSumMarked (f : Terms) (m : MarkedPolynomial) : Type 0 where

@@ -27,6 +27,6 @@ AreTermsWithin n [] = Unit {0}
 AreTermsWithin n (u ∷ us) = IsTermWithin n u × AreTermsWithin n us
 
 -- each polynomial of a set is
-abbrev pub AreWithin : ℕ → List (List WrittenTerm) → Type 0
-AreWithin n [] = Unit {0}
-AreWithin n (q ∷ qs) = AreTermsWithin n q × AreWithin n qs
+abbrev pub ArePolynomialsWithin : ℕ → List (List WrittenTerm) → Type 0
+ArePolynomialsWithin n [] = Unit {0}
+ArePolynomialsWithin n (q ∷ qs) = AreTermsWithin n q × ArePolynomialsWithin n qs

@@ -68,33 +68,35 @@ pub record Reads {A : Type 0} (grammar : List (List ℕ) → A → Type 0) (xs :
   pub end : behind_all 0 front ≡ place
 
 -- these tokens go on to a text of the grammar
-abbrev pub GoesOn : {A : Type 0} → (List (List ℕ) → A → Type 0) → List (List ℕ) → Type 0
-GoesOn {A} grammar ts = (later : List (List ℕ)) × (a : A) × grammar (ts ++ later) a
+abbrev pub GoesOnToText : {A : Type 0} → (List (List ℕ) → A → Type 0) → List (List ℕ) → Type 0
+GoesOnToText {A} grammar ts = (later : List (List ℕ)) × (a : A) × grammar (ts ++ later) a
 
 -- At this place stands the first token after which nothing goes on: what stands before it goes on to a text of the
--- grammar, and with it never does.
-pub record StandsAt {A : Type 0} (grammar : List (List ℕ) → A → Type 0) (xs : List Lexeme) (place : ℕ) : Type 0 where
+-- grammar, and with it never does. `kind` says of the texts before a token, of its text and of a cause whether the fault
+-- there is of this cause.
+pub record StandsAt {A : Type 0} (grammar : List (List ℕ) → A → Type 0) (kind : List (List ℕ) → List ℕ → Cause → Type 0) (xs : List Lexeme) (place : ℕ) (cause : Cause) : Type 0 where
   pub front : List Lexeme
   pub token : Lexeme
   pub back : List Lexeme
   pub whole : xs ≡ front ++ token ∷ back
   pub at : token.at ≡ place
-  pub before : GoesOn grammar (texts front)
-  pub never : GoesOn grammar (texts front ++ token.text ∷ []) → ⊥
+  pub before : GoesOnToText grammar (texts front)
+  pub never : GoesOnToText grammar (texts front ++ token.text ∷ []) → ⊥
+  pub of_kind : kind (texts front) token.text cause
 
 -- what a fault of this cause at this place says: the text ends too early, and all of it goes on; or the place is that of
--- the first token after which nothing goes on
-abbrev pub IsFaultAt : {A : Type 0} → (List (List ℕ) → A → Type 0) → List Lexeme → ℕ → ℕ → Cause → Type 0
-IsFaultAt grammar xs end place Ended = (place ≡ end) × GoesOn grammar (texts xs)
-IsFaultAt grammar xs end place Unexpected = StandsAt grammar xs place
-IsFaultAt grammar xs end place RepeatedName = StandsAt grammar xs place
-IsFaultAt grammar xs end place ZeroDenominator = StandsAt grammar xs place
-IsFaultAt grammar xs end place TooWide = StandsAt grammar xs place
-IsFaultAt grammar xs end place UnknownName = StandsAt grammar xs place
+-- the first token after which nothing goes on, and the fault is of this kind
+abbrev pub IsFaultAt : {A : Type 0} → (List (List ℕ) → A → Type 0) → (List (List ℕ) → List ℕ → Cause → Type 0) → List Lexeme → ℕ → ℕ → Cause → Type 0
+IsFaultAt grammar kind xs end place Ended = (place ≡ end) × GoesOnToText grammar (texts xs)
+IsFaultAt grammar kind xs end place Unexpected = StandsAt grammar kind xs place Unexpected
+IsFaultAt grammar kind xs end place RepeatedName = StandsAt grammar kind xs place RepeatedName
+IsFaultAt grammar kind xs end place ZeroDenominator = StandsAt grammar kind xs place ZeroDenominator
+IsFaultAt grammar kind xs end place TooWide = StandsAt grammar kind xs place TooWide
+IsFaultAt grammar kind xs end place UnknownName = StandsAt grammar kind xs place UnknownName
 
 -- what a fault says of these tokens, where the text ends at the place `end`
-abbrev pub IsFault : {A : Type 0} → (List (List ℕ) → A → Type 0) → List Lexeme → ℕ → Fault → Type 0
-IsFault grammar xs end f = IsFaultAt grammar xs end f.at f.cause
+abbrev pub IsFault : {A : Type 0} → (List (List ℕ) → A → Type 0) → (List (List ℕ) → List ℕ → Cause → Type 0) → List Lexeme → ℕ → Fault → Type 0
+IsFault grammar kind xs end f = IsFaultAt grammar kind xs end f.at f.cause
 
 -- the same tokens have at most one meaning, and one place behind it
 abbrev pub HasOneMeaning : {A : Type 0} → (List (List ℕ) → A → Type 0) → Type 0

@@ -58,8 +58,8 @@ abbrev pub unsigned_text : List (List ℕ) → Fraction → List ℕ → List �
 unsigned_text names c es = joined (42 ∷ []) (pieces (is_unit c) (size_text c) (powers names es))
 
 -- a minus, or nothing
-abbrev pub first_sign : Fraction → List ℕ
-first_sign c = if is_below_zero c.num then 45 ∷ [] else []
+abbrev pub leading_sign : Fraction → List ℕ
+leading_sign c = if is_below_zero c.num then 45 ∷ [] else []
 
 -- a minus or a plus
 abbrev pub inner_sign : Fraction → List ℕ
@@ -67,7 +67,7 @@ inner_sign c = if is_below_zero c.num then 45 ∷ [] else 43 ∷ []
 
 -- the first term of a polynomial, and a later one
 abbrev pub first_text : List (List ℕ) → Fraction → List ℕ → List ℕ
-first_text names c es = first_sign c ++ unsigned_text names c es
+first_text names c es = leading_sign c ++ unsigned_text names c es
 
 abbrev pub later_text : List (List ℕ) → Fraction → List ℕ → List ℕ
 later_text names c es = inner_sign c ++ unsigned_text names c es

@@ -1,9 +1,10 @@
 -- Rings: names, what a text of a ring is, and the machine that reads it.
 -- `IsRingText` is the grammar, `ring_text` what is printed, `ring_step` the machine.
 -- Laws: proofs/RingTextLaws.antt.
-use Rattle.std.specs.Prelude.{◌≡◌, ℕ, ◌≤◌, ◌<◌, Bool, true, false, ◌&&◌, List, [], ◌∷◌, ◌++◌, length, bytes_eq, flat_map, if◌then◌else◌, Result, Ok, ◌+◌}
+use Rattle.std.specs.Prelude.{◌≡◌, ℕ, ◌≤◌, ◌<◌, Bool, true, false, ◌&&◌, List, [], ◌∷◌, ◌++◌, length, bytes_eq, flat_map, if◌then◌else◌, Result}
 use Rattle.std.specs.List.{list_any, list_all}
 use Rattle.gf_text.specs.Machine.{Move, go, done, halt, Fault, run}
+use Rattle.gf_text.specs.Marks.{bracket, comma, bracket_end}
 use Rattle.gf_text.specs.Tokens.{is_letter, is_name_byte, lexemes, word_more}
 use Rattle.gf_text.specs.declared.error.Cause.TheVariants as cause
 use Rattle.gf_text.specs.declared.ring_reader.RingPlace.{RingPlace}
@@ -33,15 +34,6 @@ pub record IsRing (names : List (List ℕ)) : Type 0 where
 
 abbrev pub letter_q : List ℕ
 letter_q = 81 ∷ []
-
-abbrev pub bracket : List ℕ
-bracket = 91 ∷ []
-
-abbrev pub comma : List ℕ
-comma = 44 ∷ []
-
-abbrev pub bracket_end : List ℕ
-bracket_end = 93 ∷ []
 
 -- a comma and a name, for each name
 abbrev pub more_names : List (List ℕ) → List (List ℕ)
@@ -91,8 +83,3 @@ ring_words names = 81 ∷ 91 ∷ (names_text names ++ 93 ∷ [])
 -- the line of a ring
 abbrev pub ring_text : List (List ℕ) → List ℕ
 ring_text names = ring_words names ++ 10 ∷ []
-
--- A ring that stands anywhere in a text is read as what it is, whatever follows it.
-abbrev pub RingsAreReadAgain : Type 0
-RingsAreReadAgain = (names : List (List ℕ)) (before text : List ℕ) → IsRing names
-    → ring_at (before ++ (ring_words names ++ text)) (length before) ≡ Ok (names, length before + length (ring_words names))

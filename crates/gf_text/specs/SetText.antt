@@ -6,7 +6,8 @@
 use Rattle.std.specs.Prelude.{◌≡◌, ◌⊎◌, ℕ, ◌<◌, ◌≤◌, ◌-◌, ◌^◌, ◌==◌, ◌&&◌, nat_le, Bool, true, false, List, [], ◌∷◌, ◌++◌, length, Option, Some, None, bytes_eq, if◌then◌else◌, Result}
 use Rattle.std.specs.List.{position_from}
 use Rattle.gf_text.specs.Machine.{Move, go, done, halt, Fault, run}
-use Rattle.gf_text.specs.Tokens.{is_letter, is_number, value, lexemes, ring_more}
+use Rattle.gf_text.specs.Marks.{plus_mark, minus_mark, comma, star, slash, caret, brace, brace_end}
+use Rattle.gf_text.specs.Tokens.{is_letter, is_number, decimal_value, lexemes, ring_more}
 use Rattle.gf_text.specs.declared.error.Cause.TheVariants as cause
 use Rattle.gf_text.specs.declared.tree.Factor.{Factor}
 use Rattle.gf_text.specs.declared.tree.WrittenTerm.{WrittenTerm}
@@ -20,33 +21,9 @@ variable ring t = position_from (λ n. bytes_eq n t) 0 ring
 
 -- ---- tokens
 
-abbrev pub plus : List ℕ
-plus = 43 ∷ []
-
-abbrev pub minus : List ℕ
-minus = 45 ∷ []
-
-abbrev pub comma : List ℕ
-comma = 44 ∷ []
-
-abbrev pub star : List ℕ
-star = 42 ∷ []
-
-abbrev pub slash : List ℕ
-slash = 47 ∷ []
-
-abbrev pub caret : List ℕ
-caret = 94 ∷ []
-
-abbrev pub brace : List ℕ
-brace = 123 ∷ []
-
-abbrev pub brace_end : List ℕ
-brace_end = 125 ∷ []
-
 abbrev pub sign : Bool → List ℕ
-sign true = minus
-sign false = plus
+sign true = minus_mark
+sign false = plus_mark
 
 -- the greatest numerator and denominator
 abbrev pub most : ℕ
@@ -58,7 +35,7 @@ most_exponent = 2 ^ 31 - 1
 
 -- the token is a number, n, within its limit
 abbrev pub IsNumberText : List ℕ → ℕ → ℕ → Type 0
-IsNumberText t n limit = (is_number t ≡ true) × (value t ≡ n) × (n ≤ limit)
+IsNumberText t n limit = (is_number t ≡ true) × (decimal_value t ≡ n) × (n ≤ limit)
 
 -- ---- the grammar
 
@@ -142,20 +119,20 @@ abbrev pub with_denom : Part → ℕ → Part
 with_denom p n = record p { denom = n }
 
 -- the term that is read
-abbrev pub term_of : Part → WrittenTerm
-term_of p = record { minus = p.minus; numer = p.numer; denom = p.denom; factors = p.factors }
+abbrev pub part_term : Part → WrittenTerm
+part_term p = record { minus = p.minus; numer = p.numer; denom = p.denom; factors = p.factors }
 
 -- the terms with the one that is read
-abbrev pub terms_of : Part → List WrittenTerm
-terms_of p = p.terms ++ term_of p ∷ []
+abbrev pub part_terms : Part → List WrittenTerm
+part_terms p = p.terms ++ part_term p ∷ []
 
 -- the term is read, and one with this sign begins
 abbrev pub next_term : Part → Bool → Part
-next_term p m = record p { terms = terms_of p; minus = m; numer = 1; denom = 1; factors = [] }
+next_term p m = record p { terms = part_terms p; minus = m; numer = 1; denom = 1; factors = [] }
 
 -- the polynomials with the one that is read
 abbrev pub all_of : Part → List (List WrittenTerm)
-all_of p = p.polynomials ++ terms_of p ∷ []
+all_of p = p.polynomials ++ part_terms p ∷ []
 
 -- the polynomial is read
 abbrev pub next_polynomial : Part → Part
@@ -176,22 +153,22 @@ name_or ring p t other = name_or_by (variable ring t) p t other
 
 -- a number within its limit does this, and another token something else
 abbrev pub number_or : List ℕ → ℕ → SetMove → SetMove → SetMove
-number_or t limit taken other = if is_number t then (if nat_le (value t) limit then taken else halt cause.TooWide) else other
+number_or t limit taken other = if is_number t then (if nat_le (decimal_value t) limit then taken else halt cause.TooWide) else other
 
 -- a number or a name at the front of a term
 abbrev pub term_or : List (List ℕ) → Part → List ℕ → SetMove → SetMove
-term_or ring p t other = number_or t most (go (at.Number, with_numer p (value t))) (name_or ring p t other)
+term_or ring p t other = number_or t most (go (at.Number, with_numer p (decimal_value t))) (name_or ring p t other)
 
 -- a sign or a term at the front of a polynomial
 abbrev pub front_step : List (List ℕ) → Part → List ℕ → SetMove
-front_step ring p t = if bytes_eq t plus then go (at.Term, with_sign p false)
-    else if bytes_eq t minus then go (at.Term, with_sign p true)
+front_step ring p t = if bytes_eq t plus_mark then go (at.Term, with_sign p false)
+    else if bytes_eq t minus_mark then go (at.Term, with_sign p true)
     else term_or ring p t (halt cause.Unexpected)
 
 -- what follows a term
 abbrev pub end_step : Part → List ℕ → SetMove
-end_step p t = if bytes_eq t plus then go (at.Term, next_term p false)
-    else if bytes_eq t minus then go (at.Term, next_term p true)
+end_step p t = if bytes_eq t plus_mark then go (at.Term, next_term p false)
+    else if bytes_eq t minus_mark then go (at.Term, next_term p true)
     else if bytes_eq t comma then go (at.Polynomial, next_polynomial p)
     else if bytes_eq t brace_end then done (all_of p)
     else halt cause.Unexpected
@@ -202,12 +179,12 @@ behind_step ring p t = if bytes_eq t star then go (at.Star, p) else name_or ring
 
 -- a denominator
 abbrev pub denominator_step : Part → List ℕ → SetMove
-denominator_step p t = if is_number t && value t == 0 then halt cause.ZeroDenominator
-    else number_or t most (go (at.Behind, with_denom p (value t))) (halt cause.Unexpected)
+denominator_step p t = if is_number t && decimal_value t == 0 then halt cause.ZeroDenominator
+    else number_or t most (go (at.Behind, with_denom p (decimal_value t))) (halt cause.Unexpected)
 
 -- an exponent
 abbrev pub exponent_step : Part → List ℕ → SetMove
-exponent_step p t = number_or t most_exponent (go (at.Behind, with_factor p (value t))) (halt cause.Unexpected)
+exponent_step p t = number_or t most_exponent (go (at.Behind, with_factor p (decimal_value t))) (halt cause.Unexpected)
 
 abbrev pub token_step : List (List ℕ) → SetPlace → Part → List ℕ → SetMove
 token_step ring at.Brace p t = if bytes_eq t brace then go (at.First, p) else halt cause.Unexpected

@@ -1,12 +1,10 @@
 -- Sets as they are read: the polynomials of a text.
-use Rattle.std.specs.Prelude.{◌≡◌, ℕ, ◌-◌, ◌^◌, min, List, [], ◌∷◌, ◌++◌, length, map, reverse, Result, Ok, Err}
+use Rattle.std.specs.Prelude.{◌≡◌, ℕ, ◌-◌, ◌^◌, min, List, [], ◌∷◌, ◌++◌, length, map, Result, Ok, Err}
 use Rattle.gf_frac.specs.declared.refusal.Overflow.{Overflow}
 use Rattle.gf_poly.specs.declared.monomial.ExponentOverflow.{ExponentOverflow}
-use Rattle.gf_frac.specs.Fraction.{zero_ℚ}
-use Rattle.gf_poly.specs.declared.Term.{Term}
 use Rattle.gf_poly.specs.declared.error.PolyError.{PolyError}
 use Rattle.gf_poly.specs.declared.error.PolyError.TheVariants as polys
-use Rattle.gf_poly.specs.Polynomial.{Terms, SamePolynomial, IsDescending, HasVariables, KeepsVariables}
+use Rattle.gf_poly.specs.Polynomial.{Terms, HasVariables}
 use Rattle.gf_poly.specs.Collecting.{LikeSumsFit, IsLikeSumOverflow}
 use Rattle.gf_poly.specs.Marking.{MarkedPolynomial, MarkedPolynomials}
 use Rattle.gf_text.specs.declared.error.TextError.{TextError}
@@ -18,33 +16,16 @@ use Rattle.gf_text.specs.declared.written.Written.{Written}
 use Rattle.gf_text.specs.declared.written.Written.TheVariants as written
 use Rattle.gf_text.specs.Machine.{Reads}
 use Rattle.gf_text.specs.Tokens.{lexemes, ring_more, Position}
+use Rattle.gf_text.specs.RingText.{IsRing}
 use Rattle.gf_text.specs.SetText.{IsSetText, set_at}
-use Rattle.gf_text.specs.SetKinds.{IsFaultKind}
-use Rattle.gf_text.specs.Given.{IsRefused, IsNoText}
-use Rattle.gf_text.specs.Combining.{NoneRemains, IsSumMarked, terms_of, sums_of}
+use Rattle.gf_text.specs.Kinds.{IsTokenKind}
+use Rattle.gf_text.specs.Given.{IsNoText}
+use Rattle.gf_text.specs.Combining.{NoneRemains, IsSumMarked, terms_written, sums_of}
 
 -- what is left of a sum of terms: nothing, or a marked polynomial
 abbrev pub IsWritten : Terms → Written → Type 0
 IsWritten f written.Zero = NoneRemains f
 IsWritten f (written.Nonzero m) = IsSumMarked f m
-
--- these descending terms, marked at the first one; nothing where there are none
-abbrev pub IsMarkedFirst : Terms → Written → Type 0
-IsMarkedFirst [] written.Zero = Unit {0}
-IsMarkedFirst [] (written.Nonzero m) = ⊥
-IsMarkedFirst (t ∷ f) written.Zero = ⊥
-IsMarkedFirst (t ∷ f) (written.Nonzero m) = m ≡ record { poly = t ∷ f; head = t.mono }
-
--- these terms, which rise, turned round, marked at the first as written; nothing where there are none
-abbrev pub IsMarkedLast : Terms → Written → Type 0
-IsMarkedLast [] written.Zero = Unit {0}
-IsMarkedLast [] (written.Nonzero m) = ⊥
-IsMarkedLast (t ∷ f) written.Zero = ⊥
-IsMarkedLast (t ∷ f) (written.Nonzero m) = m ≡ record { poly = reverse (t ∷ f); head = t.mono }
-
--- one term, which is zero
-abbrev pub IsLoneZero : Terms → Type 0
-IsLoneZero f = (t : Term) × (f ≡ t ∷ []) × (t.coef ≡ zero_ℚ)
 
 -- the same of each
 abbrev pub AreWritten : List Terms → List Written → Type 0
@@ -77,32 +58,14 @@ IsExponentCause read errors.Memory = Unit {0}
 -- w is what is left of the sum of these terms, whose sums of like terms stay in range
 pub record IsSummed (n : ℕ) (us : List WrittenTerm) (w : Written) : Type 0 where
   pub terms : Terms
-  pub exponents : terms_of n us ≡ Ok terms
+  pub exponents : terms_written n us ≡ Ok terms
   pub fits : LikeSumsFit terms
   pub written : IsWritten terms w
 
--- g is the sum of these terms, whose sums of like terms stay in range
-pub record IsWholeSum (n : ℕ) (us : List WrittenTerm) (g : Terms) : Type 0 where
-  pub terms : Terms
-  pub exponents : terms_of n us ≡ Ok terms
-  pub fits : LikeSumsFit terms
-  pub value : SamePolynomial g terms
-  pub descending : IsDescending g
-  pub variables : KeepsVariables terms g
-
--- p is what comes of g and then these terms, where those that are alike are added from the left
-pub record IsSumWith (n : ℕ) (us : List WrittenTerm) (g p : Terms) : Type 0 where
-  pub terms : Terms
-  pub exponents : terms_of n us ≡ Ok terms
-  pub fits : LikeSumsFit (g ++ terms)
-  pub value : SamePolynomial p (g ++ terms)
-  pub descending : IsDescending p
-  pub variables : KeepsVariables (g ++ terms) p
-
 -- why these terms aren't added: an exponent, or a sum of like terms
 abbrev pub IsSummingCause : ℕ → List WrittenTerm → TextError → Type 0
-IsSummingCause n us (errors.Overflow o) = (f : Terms) × (terms_of n us ≡ Ok f) × IsLikeSumOverflow f o
-IsSummingCause n us (errors.Exponent o) = terms_of n us ≡ Err o
+IsSummingCause n us (errors.Overflow o) = (f : Terms) × (terms_written n us ≡ Ok f) × IsLikeSumOverflow f o
+IsSummingCause n us (errors.Exponent o) = terms_written n us ≡ Err o
 IsSummingCause n us (errors.Syntax s) = ⊥
 IsSummingCause n us (errors.TooWide place) = ⊥
 IsSummingCause n us (errors.UnknownName place) = ⊥
@@ -117,30 +80,30 @@ from_poly (polys.Exponent o) = errors.Exponent o
 from_poly polys.Memory = errors.Memory
 
 -- each sum of like terms stays in range
-abbrev pub SumsFit : List Terms → Type 0
-SumsFit [] = Unit {0}
-SumsFit (f ∷ fs) = LikeSumsFit f × SumsFit fs
+abbrev pub AllSumsFit : List Terms → Type 0
+AllSumsFit [] = Unit {0}
+AllSumsFit (f ∷ fs) = LikeSumsFit f × AllSumsFit fs
 
 -- o is the first sum of like terms that leaves the range, in the first sum of terms that has one
-pub record IsFirstOverflow (fs : List Terms) (o : Overflow) : Type 0 where
+pub record IsFirstSumOverflow (fs : List Terms) (o : Overflow) : Type 0 where
   pub front : List Terms
   pub sum : Terms
   pub back : List Terms
   pub whole : fs ≡ front ++ sum ∷ back
-  pub before : SumsFit front
+  pub before : AllSumsFit front
   pub overflow : IsLikeSumOverflow sum o
 
 -- ws are what is left of these polynomials, whose sums of like terms stay in range
-pub record IsCombined (n : ℕ) (qs : List (List WrittenTerm)) (ws : List Written) : Type 0 where
+pub record IsWhatRemains (n : ℕ) (qs : List (List WrittenTerm)) (ws : List Written) : Type 0 where
   pub sums : List Terms
   pub exponents : sums_of n qs ≡ Ok sums
-  pub fits : SumsFit sums
+  pub fits : AllSumsFit sums
   pub written : AreWritten sums ws
 
 -- why these polynomials are refused: the first exponent that passes its limit; or there is none, and a sum of like terms
 -- leaves its range
 abbrev pub IsCombiningCause : ℕ → List (List WrittenTerm) → TextError → Type 0
-IsCombiningCause n qs (errors.Overflow o) = (fs : List Terms) × (sums_of n qs ≡ Ok fs) × IsFirstOverflow fs o
+IsCombiningCause n qs (errors.Overflow o) = (fs : List Terms) × (sums_of n qs ≡ Ok fs) × IsFirstSumOverflow fs o
 IsCombiningCause n qs (errors.Exponent o) = sums_of n qs ≡ Err o
 IsCombiningCause n qs (errors.Syntax s) = ⊥
 IsCombiningCause n qs (errors.TooWide place) = ⊥
@@ -151,7 +114,7 @@ IsCombiningCause n qs errors.Memory = Unit {0}
 
 -- what came of these polynomials: what is left of each, or why they are refused
 abbrev pub HasSums : ℕ → List (List WrittenTerm) → Sums → Type 0
-HasSums n qs (came.Fit ws) = IsCombined n qs ws.items
+HasSums n qs (came.Fit ws) = IsWhatRemains n qs ws.items
 HasSums n qs (came.Overflow o) = IsCombiningCause n qs (errors.Overflow o)
 HasSums n qs (came.Exponent o) = IsCombiningCause n qs (errors.Exponent o)
 
@@ -169,12 +132,12 @@ pub record AreSetSums (ring : List (List ℕ)) (old : Position) (place : ℕ) (r
 
 -- these polynomials are read, and the reader goes to this place
 pub record IsSetRead (ring : List (List ℕ)) (old : Position) (place : ℕ) (ws : List Written) : Type 0 where
+  pub names : IsRing ring
   pub said : List (List WrittenTerm)
-  pub read : set_at ring old.source old.at ≡ Ok (said, place)
   pub text : Reads (IsSetText ring) (lexemes (ring_more ring) old.source old.at) said place
   pub sums : List Terms
   pub exponents : sums_of (length ring) said ≡ Ok sums
-  pub fits : SumsFit sums
+  pub fits : AllSumsFit sums
   pub written : AreWritten sums ws
 
 -- the text says this, and an exponent passes its limit
@@ -191,13 +154,11 @@ pub record HasSumOverflow (ring : List (List ℕ)) (old : Position) (o : Overflo
   pub text : Reads (IsSetText ring) (lexemes (ring_more ring) old.source old.at) said place
   pub sums : List Terms
   pub exponents : sums_of (length ring) said ≡ Ok sums
-  pub overflow : IsFirstOverflow sums o
+  pub overflow : IsFirstSumOverflow sums o
 
 -- no set's text stands there, and the fault is of this kind
-pub record HasNoSet (ring : List (List ℕ)) (old : Position) (e : TextError) : Type 0 where
-  pub read : IsRefused e (set_at ring old.source old.at)
-  pub text : IsNoText (IsSetText ring) (lexemes (ring_more ring) old.source old.at) (length old.source) e
-  pub kind : IsFaultKind ring (lexemes (ring_more ring) old.source old.at) text.fault.at text.fault.cause
+abbrev pub HasNoSet : List (List ℕ) → Position → TextError → Type 0
+HasNoSet ring old e = IsNoText (IsSetText ring) (IsTokenKind ring (IsSetText ring)) (lexemes (ring_more ring) old.source old.at) (length old.source) e
 
 -- why a set is refused
 abbrev pub IsSetCause : List (List ℕ) → Position → TextError → Type 0

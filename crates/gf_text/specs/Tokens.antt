@@ -39,8 +39,8 @@ value_from n [] = n
 value_from n (d ∷ ds) = value_from (10 * n + (d - 48)) ds
 
 -- the number that decimal digits stand for
-abbrev pub value : List ℕ → ℕ
-value ds = value_from 0 ds
+abbrev pub decimal_value : List ℕ → ℕ
+decimal_value ds = value_from 0 ds
 
 -- Where names of any length stand, as in a ring: a token is a number, a name or a single byte; how much of it follows
 -- its first byte.
@@ -49,16 +49,6 @@ word_more [] = 0
 word_more (b ∷ bs) = if is_digit b then length (take_while is_digit bs)
     else if is_letter b then length (take_while is_name_byte bs)
     else 0
-
--- the first byte of a text or a name, 0 where there is none
-abbrev pub first_byte : List ℕ → ℕ
-first_byte [] = 0
-first_byte (b ∷ bs) = b
-
--- the second byte, 0 where there is none
-abbrev pub second_byte : List ℕ → ℕ
-second_byte [] = 0
-second_byte (b ∷ bs) = first_byte bs
 
 -- the length of the longest of these names that the text begins with, 0 where it begins with none
 abbrev pub longest : List (List ℕ) → List ℕ → ℕ
@@ -73,15 +63,15 @@ ring_more ring (b ∷ bs) = if is_digit b then length (take_while is_digit bs)
     else 0
 
 -- the tokens of a text that begins at this place, where its first k bytes belong to a token before
-unfoldable pub lex : (List ℕ → ℕ) → ℕ → ℕ → List ℕ → List Lexeme
-lex more k at [] = []
-lex more zero at (b ∷ bs) = if is_space b then lex more 0 (at + 1) bs
-    else record { text = b ∷ take (more (b ∷ bs)) bs; at = at } ∷ lex more (more (b ∷ bs)) (at + 1) bs
-lex more (suc k) at (b ∷ bs) = lex more k (at + 1) bs
+unfoldable pub lex_tokens : (List ℕ → ℕ) → ℕ → ℕ → List ℕ → List Lexeme
+lex_tokens more k at [] = []
+lex_tokens more zero at (b ∷ bs) = if is_space b then lex_tokens more 0 (at + 1) bs
+    else record { text = b ∷ take (more (b ∷ bs)) bs; at = at } ∷ lex_tokens more (more (b ∷ bs)) (at + 1) bs
+lex_tokens more (suc k) at (b ∷ bs) = lex_tokens more k (at + 1) bs
 
 -- the tokens from a place of the source on
 abbrev pub lexemes : (List ℕ → ℕ) → List ℕ → ℕ → List Lexeme
-lexemes more source at = lex more 0 at (drop at source)
+lexemes more source at = lex_tokens more 0 at (drop at source)
 
 -- the token between two places of the source
 abbrev pub lexeme : List ℕ → ℕ → ℕ → Lexeme
@@ -101,8 +91,8 @@ abbrev pub IsBlank : List ℕ → Type 0
 IsBlank text = spaces text ≡ text
 
 -- Something other than white space follows, and the refusal stands at its first byte.
-abbrev pub IsMore : Position → Syntax → Type 0
-IsMore p s = (IsBlank (rest p) → ⊥) × (s ≡ record { at = p.at + length (spaces (rest p)); kind = kinds.Unexpected })
+abbrev pub HasMoreText : Position → Syntax → Type 0
+HasMoreText p s = (IsBlank (rest p) → ⊥) × (s ≡ record { at = p.at + length (spaces (rest p)); kind = kinds.Unexpected })
 
 -- the marks: brackets, braces, parentheses, comma, signs, *, /, ^
 abbrev pub marks : List ℕ

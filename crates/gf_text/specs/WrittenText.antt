@@ -4,7 +4,7 @@ use Rattle.std.specs.List.{list_all}
 use Rattle.gf_int.specs.Range.{InRange}
 use Rattle.gf_poly.specs.declared.Term.{Term}
 use Rattle.gf_poly.specs.Polynomial.{Terms, HasVariables}
-use Rattle.gf_poly.specs.Marking.{MarkedPolynomial, MarkedPolynomials, IsMarked}
+use Rattle.gf_poly.specs.Marking.{MarkedPolynomial, MarkedPolynomials, HasMarkedTerm}
 use Rattle.gf_text.specs.declared.error.TextError.{TextError}
 use Rattle.gf_text.specs.declared.error.TextError.TheVariants as errors
 use Rattle.gf_text.specs.declared.written.Written.{Written}
@@ -39,15 +39,15 @@ AreInRange [] = Unit {0}
 AreInRange (t ∷ f) = IsTermInRange t × AreInRange f
 
 -- a marked polynomial in n variables, in range
-pub record IsKept (n : ℕ) (m : MarkedPolynomial) : Type 0 where
-  pub marked : IsMarked m
+pub record IsKeptMarked (n : ℕ) (m : MarkedPolynomial) : Type 0 where
+  pub marked : HasMarkedTerm m
   pub variables : HasVariables n m.poly
   pub range : AreInRange m.poly
 
 -- the polynomial is zero, or one of these
 abbrev pub IsWrittenKept : ℕ → Written → Type 0
 IsWrittenKept n written.Zero = Unit {0}
-IsWrittenKept n (written.Nonzero m) = IsKept n m
+IsWrittenKept n (written.Nonzero m) = IsKeptMarked n m
 
 -- each of them is
 abbrev pub AreWrittenKept : ℕ → List Written → Type 0
@@ -56,7 +56,7 @@ AreWrittenKept n (w ∷ ws) = IsWrittenKept n w × AreWrittenKept n ws
 
 abbrev pub AreKept : ℕ → List MarkedPolynomial → Type 0
 AreKept n [] = Unit {0}
-AreKept n (m ∷ ms) = IsKept n m × AreKept n ms
+AreKept n (m ∷ ms) = IsKeptMarked n m × AreKept n ms
 
 -- ---- printed sets
 

@@ -1,32 +1,28 @@
 //! From what a text of a set says to polynomials.
-ghost use Rattle.std.specs.Prelude.{◌≡◌, ◌≤◌, ◌<◌, ◌^◌, ◌↔◌, IfOk, IfErr, IfSome, OnOk, IsTrue, Ok, Err, ℕ, length, MatchOption, ◌∷◌, []};
+ghost use Rattle.std.specs.Prelude.{◌≡◌, ◌≤◌, ◌<◌, ◌^◌, IfOk, IfErr, OnOk, Ok, Err, ℕ, length, MatchOption, ◌∷◌, []};
 ghost use Rattle.gf_frac.specs.Fraction.{zero_ℚ};
 ghost use Rattle.gf_poly.specs.Polynomial.{Terms, coefficient, SamePolynomial, IsDescending, HasVariables};
-ghost use Rattle.gf_text.specs.Limits.{IsFactorWithin, AreFactorsWithin, IsTermWithin, AreTermsWithin, AreWithin};
-ghost use Rattle.gf_text.specs.Combining.{raised, times_factors, exponents_of, coefficient_of, term_of, terms_of, ExponentsFit, IsSumOf, FindsFirst, IsPlaceOf};
-ghost use Rattle.gf_text.specs.Sets.{IsExponentCause, IsSummed, IsSummingCause, IsWholeSum, IsMarkedFirst, IsLoneZero, HasSums, Adds, from_poly};
+ghost use Rattle.gf_text.specs.Limits.{IsFactorWithin, AreFactorsWithin, IsTermWithin, AreTermsWithin, ArePolynomialsWithin};
+ghost use Rattle.gf_text.specs.Combining.{raised_by, times_factors, exponents_of, coefficient_of, term_written, terms_written, ExponentsFit, IsSumOf, FindsFirst, IsPlaceOf};
+ghost use Rattle.gf_text.specs.Sets.{IsExponentCause, IsSummed, IsSummingCause, HasSums, Adds, from_poly};
 
-use crate::blocks::{BLOCK, sum_by_blocks};
 use crate::error::TextError;
-use crate::rising::{marked_last, rise};
 use crate::tree::{Factor, WrittenSet, WrittenTerm};
 use crate::written::Written;
 use gf_frac::{Frac, Overflow};
-use gf_poly::{ExponentOverflow, Marked, Mono, Poly, PolyError, ROOM, Term, descend};
+use gf_poly::{ExponentOverflow, Marked, Mono, Poly, PolyError, ROOM, Term};
 use std::alloc::{AllocError, Global};
 
 /// Multiplies a monomial by a power.
-#[inline]
 fn raise(mono: &mut Mono, factor: Factor) -> Result<(), ExponentOverflow>
     requires { IsFactorWithin (length mono.old) factor }
-    ensures ok { OnOk result (raised mono.old factor ≡ Ok mono.new) }
-    ensures err { IfErr result (λ o. raised mono.old factor ≡ Err o) }
+    ensures ok { OnOk result (raised_by mono.old factor ≡ Ok mono.new) }
+    ensures err { IfErr result (λ o. raised_by mono.old factor ≡ Err o) }
 {
     mono.raise(usize::from(factor.variable), factor.exponent)
 }
 
 /// Multiplies a monomial by powers, one after another.
-#[inline]
 fn raise_all(mono: &mut Mono, factors: &[Factor]) -> Result<(), ExponentOverflow>
     requires { AreFactorsWithin (length mono.old) factors.now }
     ensures ok { OnOk result (times_factors mono.old factors.now ≡ Ok mono.new) }
@@ -39,7 +35,6 @@ fn raise_all(mono: &mut Mono, factors: &[Factor]) -> Result<(), ExponentOverflow
 }
 
 /// The monomial of a term, in n variables.
-#[inline(always)]
 fn mono_of(alloc: Global, n: usize, term: &WrittenTerm) -> Result<Mono, ExponentOverflow>
     requires room { n ≤ ROOM }
     requires within { IsTermWithin n term.now }
@@ -52,7 +47,6 @@ fn mono_of(alloc: Global, n: usize, term: &WrittenTerm) -> Result<Mono, Exponent
 }
 
 /// The coefficient that is written.
-#[inline]
 fn coefficient_of(term: &WrittenTerm) -> Frac
     requires numer { term.now.numer < 2 ^ 127 }
     requires denom { (0 < term.now.denom) × (term.now.denom < 2 ^ 127) }
@@ -63,12 +57,11 @@ fn coefficient_of(term: &WrittenTerm) -> Frac
 }
 
 /// The term that is written, in n variables.
-#[inline(always)]
 fn term_of(alloc: Global, n: usize, term: &WrittenTerm) -> Result<Term, ExponentOverflow>
     requires room { n ≤ ROOM }
     requires within { IsTermWithin n term.now }
-    ensures ok { IfOk result (λ t. term_of n term.now ≡ Ok t) }
-    ensures err { IfErr result (λ o. term_of n term.now ≡ Err o) }
+    ensures ok { IfOk result (λ t. term_written n term.now ≡ Ok t) }
+    ensures err { IfErr result (λ o. term_written n term.now ≡ Err o) }
 {
     let mono = mono_of(alloc, n, term)?;
     Ok(Term {
@@ -78,16 +71,11 @@ fn term_of(alloc: Global, n: usize, term: &WrittenTerm) -> Result<Term, Exponent
 }
 
 /// The terms that are written, in n variables.
-#[inline(always)]
-pub(crate) fn terms_from(
-    alloc: Global,
-    n: usize,
-    terms: &[WrittenTerm],
-) -> Result<Vec<Term>, TextError>
+fn terms_from(alloc: Global, n: usize, terms: &[WrittenTerm]) -> Result<Vec<Term>, TextError>
     requires room { n ≤ ROOM }
     requires within { AreTermsWithin n terms.now }
-    ensures ok { IfOk result (λ ts. terms_of n terms.now ≡ Ok ts.items) }
-    ensures err { IfErr result (IsExponentCause (terms_of n terms.now)) }
+    ensures ok { IfOk result (λ ts. terms_written n terms.now ≡ Ok ts.items) }
+    ensures err { IfErr result (IsExponentCause (terms_written n terms.now)) }
 {
     let mut out = Vec::with_capacity(alloc, terms.len())?;
     'terms: for term in terms {
@@ -102,7 +90,7 @@ fn check_terms(alloc: Global, n: usize, terms: &[WrittenTerm]) -> Result<(), Exp
     requires room { n ≤ ROOM }
     requires within { AreTermsWithin n terms.now }
     ensures ok { OnOk result (ExponentsFit n terms.now) }
-    ensures err { IfErr result (λ o. terms_of n terms.now ≡ Err o) }
+    ensures err { IfErr result (λ o. terms_written n terms.now ≡ Err o) }
 {
     'terms: for term in terms {
         mono_of(alloc, n, term)?;
@@ -131,7 +119,7 @@ fn first_remaining(
     requires sum { IsSumOf n terms.now sum.now }
     requires variables { HasVariables n sum.now }
     ensures ok { IfOk result (FindsFirst n terms.now sum.now) }
-    ensures err { IfErr result (λ o. terms_of n terms.now ≡ Err o) }
+    ensures err { IfErr result (λ o. terms_written n terms.now ≡ Err o) }
 {
     'terms: for term in terms {
         let mono = mono_of(alloc, n, term)?;
@@ -153,126 +141,21 @@ fn sum_error(error: PolyError) -> TextError
     }
 }
 
-/// The sum of terms that descend: these terms, marked at the first one.
-fn marked_first(terms: Vec<Term>) -> Written
-    requires { IsDescending terms.items }
-    ensures { IsMarkedFirst terms.items result }
-{
-    if terms.is_empty() {
-        return Written::Zero;
-    }
-    Written::Nonzero(Marked::mark(Poly::from_descending(terms), 0))
-}
-
 /// The sum of terms, marked at the first of them, as written, that remains.
-fn remaining(
-    alloc: Global,
-    n: usize,
-    terms: &[WrittenTerm],
-    sum: Poly,
-) -> Result<Written, TextError>
+fn summed(alloc: Global, n: usize, terms: &[WrittenTerm]) -> Result<Written, TextError>
     requires room { n ≤ ROOM }
     requires within { AreTermsWithin n terms.now }
-    requires sum { IsWholeSum n terms.now sum }
     ensures ok { IfOk result (IsSummed n terms.now) }
     ensures err { IfErr result (IsSummingCause n terms.now) }
 {
+    let made = terms_from(alloc, n, terms)?;
+    let sum = match Poly::from_terms(made) {
+        Ok(sum) => sum,
+        Err(error) => return Err(sum_error(error)),
+    };
     match first_remaining(alloc, n, &sum, terms)? {
         Some(place) => Ok(Written::Nonzero(Marked::mark(sum, place))),
         None => Ok(Written::Zero),
-    }
-}
-
-/// The sum of terms in any order, marked at the first, as written, that remains.
-#[inline(never)]
-fn sum_of_terms(
-    alloc: Global,
-    n: usize,
-    terms: &[WrittenTerm],
-    made: Vec<Term>,
-) -> Result<Written, TextError>
-    requires room { n ≤ ROOM }
-    requires within { AreTermsWithin n terms.now }
-    requires made { terms_of n terms.now ≡ Ok made.items }
-    ensures ok { IfOk result (IsSummed n terms.now) }
-    ensures err { IfErr result (IsSummingCause n terms.now) }
-{
-    match Poly::from_terms(made) {
-        Ok(sum) => remaining(alloc, n, terms, sum),
-        Err(error) => Err(sum_error(error)),
-    }
-}
-
-/// Whether there is one term, which is zero.
-fn is_lone_zero(terms: &[Term]) -> bool
-    ensures { IsTrue result ↔ IsLoneZero terms.now }
-{
-    match terms {
-        [term] => term.coef.is_zero(),
-        _ => false,
-    }
-}
-
-/// The sum of terms that descend or rise, as most do, or of one that is zero; else the terms, where their exponents stay
-/// within their limits and there is memory.
-#[inline]
-fn sum_at_sight(
-    alloc: Global,
-    n: usize,
-    terms: &[WrittenTerm],
-) -> Result<Written, Option<Vec<Term>>>
-    requires room { n ≤ ROOM }
-    requires within { AreTermsWithin n terms.now }
-    ensures ok { IfOk result (IsSummed n terms.now) }
-    ensures err { IfErr result (λ made. IfSome made (λ ts. terms_of n terms.now ≡ Ok ts.items)) }
-{
-    let Ok(made) = terms_from(alloc, n, terms) else {
-        return Err(None);
-    };
-    if descend(&made) {
-        return Ok(marked_first(made));
-    }
-    if rise(&made) {
-        return Ok(marked_last(made));
-    }
-    if is_lone_zero(&made) {
-        return Ok(Written::Zero);
-    }
-    Err(Some(made))
-}
-
-/// The sum of terms that may be many. They are tried a block after another; where a number leaves its range, which one
-/// that is has to be found by adding all of them at once.
-#[inline(never)]
-fn sum_of_many(alloc: Global, n: usize, terms: &[WrittenTerm]) -> Result<Written, TextError>
-    requires room { n ≤ ROOM }
-    requires within { AreTermsWithin n terms.now }
-    ensures ok { IfOk result (IsSummed n terms.now) }
-    ensures err { IfErr result (IsSummingCause n terms.now) }
-{
-    if let Some(sum) = sum_by_blocks(alloc, n, terms) {
-        return remaining(alloc, n, terms, sum);
-    }
-    let made = terms_from(alloc, n, terms)?;
-    sum_of_terms(alloc, n, terms, made)
-}
-
-/// The sum of terms, marked at the first that remains, where the terms may be made already.
-fn summed(
-    alloc: Global,
-    n: usize,
-    terms: &[WrittenTerm],
-    made: Option<Vec<Term>>,
-) -> Result<Written, TextError>
-    requires room { n ≤ ROOM }
-    requires within { AreTermsWithin n terms.now }
-    requires made { IfSome made (λ ts. terms_of n terms.now ≡ Ok ts.items) }
-    ensures ok { IfOk result (IsSummed n terms.now) }
-    ensures err { IfErr result (IsSummingCause n terms.now) }
-{
-    match made {
-        Some(made) => sum_of_terms(alloc, n, terms, made),
-        None => sum_of_many(alloc, n, terms),
     }
 }
 
@@ -293,22 +176,14 @@ impl Sums {
         Sums::Fit(Vec::new(alloc))
     }
 
-    /// Adds a polynomial in n variables as the last one. Its terms may be made already.
-    #[inline(never)]
-    fn add_made(
-        &mut self,
-        alloc: Global,
-        n: usize,
-        terms: &[WrittenTerm],
-        made: Option<Vec<Term>>,
-    ) -> Result<(), AllocError>
+    /// Adds a polynomial in n variables as the last one.
+    fn add(&mut self, alloc: Global, n: usize, terms: &[WrittenTerm]) -> Result<(), AllocError>
         requires room { n ≤ ROOM }
         requires within { AreTermsWithin n terms.now }
-        requires made { IfSome made (λ ts. terms_of n terms.now ≡ Ok ts.items) }
         ensures { OnOk result (Adds n (terms.now ∷ []) self.old self.new) }
     {
         match self {
-            Sums::Fit(written) => match summed(alloc, n, terms, made) {
+            Sums::Fit(written) => match summed(alloc, n, terms) {
                 Ok(next) => written.push(next)?,
                 Err(TextError::Overflow(overflow)) => *self = Sums::Overflow(overflow),
                 Err(TextError::Exponent(overflow)) => *self = Sums::Exponent(overflow),
@@ -325,30 +200,7 @@ impl Sums {
         Ok(())
     }
 
-    /// The same. Few terms are first added at sight, in little code.
-    #[inline(never)]
-    fn add(&mut self, alloc: Global, n: usize, terms: &[WrittenTerm]) -> Result<(), AllocError>
-        requires room { n ≤ ROOM }
-        requires within { AreTermsWithin n terms.now }
-        ensures { OnOk result (Adds n (terms.now ∷ []) self.old self.new) }
-    {
-        match self {
-            Sums::Fit(written) if terms.len() <= BLOCK => {
-                match sum_at_sight(alloc, n, terms) {
-                    Ok(next) => {
-                        written.push(next)?;
-                        Ok(())
-                    }
-                    Err(made) => self.add_made(alloc, n, terms, made),
-                }
-            }
-            _ => self.add_made(alloc, n, terms, None),
-        }
-    }
-
-    /// Adds the polynomial in n variables that is read, where there is one. Behind most tokens there is none, so that the
-    /// test is inlined.
-    #[inline]
+    /// Adds the polynomial in n variables that is read, where there is one.
     pub(crate) fn add_read(
         &mut self,
         alloc: Global,
@@ -356,7 +208,7 @@ impl Sums {
         set: &WrittenSet,
     ) -> Result<(), AllocError>
         requires room { n ≤ ROOM }
-        requires within { AreWithin n set.now }
+        requires within { ArePolynomialsWithin n set.now }
         ensures { OnOk result (Adds n set.now self.old self.new) }
     {
         match set.last() {

@@ -4,41 +4,37 @@
 //! said apart from the machines, by grammars over its tokens (`specs/RingText.antt`).
 #![tactic(auto)]
 
-mod blocks;
 mod combine;
 mod error;
 mod marked_reader;
-mod matcher;
-#[cfg(test)]
-mod matcher_tests;
 mod names;
 mod printer;
 mod reader;
 mod ring_reader;
-mod rising;
 mod set_printer;
 mod set_reader;
 #[cfg(test)]
 mod set_tests;
-mod spans;
+mod single_reader;
 mod term_printer;
 #[cfg(test)]
 mod tests;
 mod tokens;
 mod tree;
+mod vector_printer;
 mod vector_reader;
 #[cfg(test)]
 mod vector_tests;
 mod written;
 
-pub use error::{Cause, Kind, Syntax, TextError};
-pub use names::{Name, Names, Ring};
+pub use error::{Kind, Syntax, TextError};
+pub use names::Ring;
 pub use printer::{
     Printer, marked_sets_are_kept, polynomials_are_kept, rings_are_read_again,
     rings_have_one_meaning, sets_are_read_again, sets_are_read_in_one_way, sets_have_one_meaning,
+    vectors_are_read_again,
 };
 pub use reader::Reader;
-pub use tokens::{Number, Token};
-pub use tree::{Factor, Factors, WrittenSet, WrittenTerm, WrittenTerms};
+pub use tokens::Token;
 pub use vector_reader::vectors_have_one_meaning;
 pub use written::Written;

@@ -51,12 +51,6 @@ pub(crate) fn marked_at(
     ensures within { IfOk result (λ x. x.1 ≤ length source.now) }
 {
     let n = ring.len();
-    let (written, end) = match written_at(alloc, ring, source, from) {
-        Ok((written, end)) => (written, end),
-        Err(error) => return Err(error),
-    };
-    match marked_from(alloc, n, written) {
-        Ok(set) => Ok((set, end)),
-        Err(error) => Err(error),
-    }
+    let (written, end) = written_at(alloc, ring, source, from)?;
+    Ok((marked_from(alloc, n, written)?, end))
 }

@@ -1,19 +1,24 @@
-//! The writing of rings and polynomials.
+//! The writing of rings, polynomials and vectors.
 ghost use Rattle.std.specs.Prelude.{◌≡◌, ℕ, ◌++◌, ◌∷◌, [], OnOk, OnErr, flat_map, length};
 ghost use Rattle.gf_poly.specs.Polynomial.{HasVariables};
-ghost use Rattle.gf_text.specs.RingText.{ring_text, names_text, RingsAreReadAgain, IsRingText};
+ghost use Rattle.gf_text.specs.RingText.{ring_text, names_text, IsRingText};
+ghost use Rattle.gf_text.specs.Rings.{RingsAreReadAgain};
 ghost use Rattle.gf_text.specs.Machine.{HasOneMeaning};
 ghost use Rattle.gf_text.specs.PrintedSets.{polynomial_text, basis_text};
 ghost use Rattle.gf_text.specs.Sets.{IsIn};
-ghost use Rattle.gf_text.specs.WrittenText.{SetsHaveOneMeaning, SetsAreReadInOneWay, SetsAreReadAgain, BasesAreReadAgain, IsTermInRange, AreInRange, IsKept, IsWrittenKept, AreKept};
+ghost use Rattle.gf_text.specs.VectorText.{vector_text};
+ghost use Rattle.gf_text.specs.Vectors.{VectorsAreReadAgain};
+ghost use Rattle.gf_text.specs.WrittenText.{SetsHaveOneMeaning, SetsAreReadInOneWay, SetsAreReadAgain, BasesAreReadAgain, IsTermInRange, AreInRange, IsKeptMarked, IsWrittenKept, AreKept};
 
 use crate::names::{Name, Ring};
 use crate::set_printer::{push_marked, push_members};
+use crate::vector_printer::push_entries;
 use crate::written::Written;
 use gf_poly::{Marked, MarkedSet, Term};
+use gf_vec::IntVec;
 use std::alloc::AllocError;
 
-/// Writes rings and polynomials behind what a vector of bytes holds.
+/// Writes rings, polynomials and vectors behind what a vector of bytes holds.
 #[derive(Clone, Copy, Debug)]
 pub struct Printer;
 
@@ -87,7 +92,27 @@ impl Printer {
         text.extend_from_slice(b"}")?;
         out.extend_from_slice(&text)
     }
+
+    /// Adds a vector: `(`, its entries joined by `,`, `)`.
+    ///
+    /// # Errors
+    /// Where memory runs out; then the vector of bytes is as before.
+    pub fn vector(out: &mut Vec<u8>, vector: &IntVec) -> Result<(), AllocError>
+        ensures ok { OnOk result (out.new.items ≡ out.old.items ++ vector_text vector.now) }
+        ensures err { OnErr result (out.new.items ≡ out.old.items) }
+    {
+        let mut text = Vec::from_slice(*out.allocator(), b"(")?;
+        push_entries(&mut text, vector.as_slice())?;
+        text.extend_from_slice(b")")?;
+        out.extend_from_slice(&text)
+    }
 }
+
+/// A printed vector whose entries are at most `2^63 - 1` in absolute value is read again as what it is, wherever it stands
+/// and whatever follows it.
+pub fn vectors_are_read_again()
+    ensures { VectorsAreReadAgain }
+{}
 
 /// A printed ring is read again as what it is, wherever it stands and whatever follows it.
 pub fn rings_are_read_again()
@@ -129,7 +154,7 @@ fn terms_are_in_range(terms: &[Term])
 
 /// A marked polynomial is one of those of which `sets_are_read_again` speaks.
 fn marked_is_kept(marked: &Marked)
-    ensures { (n : ℕ) → HasVariables n marked.now.poly → IsKept n marked.now }
+    ensures { (n : ℕ) → HasVariables n marked.now.poly → IsKeptMarked n marked.now }
 {
     let _head = marked.head();
     terms_are_in_range(marked.poly().terms());

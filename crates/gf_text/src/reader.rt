@@ -1,9 +1,11 @@
 //! A reader of rings, sets of polynomials and vectors.
 ghost use Rattle.std.specs.Prelude.{◌≡◌, length, IfOk, IfErr, OnOk, OnErr};
-ghost use Rattle.gf_text.specs.Tokens.{IsBlank, IsMore, rest};
+ghost use Rattle.gf_text.specs.Tokens.{IsBlank, HasMoreText, rest};
 ghost use Rattle.gf_text.specs.TokensRead.{IsTokenRead, IsTokenCause};
 ghost use Rattle.gf_text.specs.Rings.{IsRingRead, IsRingCause};
-ghost use Rattle.gf_text.specs.Vectors.{IsVectorRead, IsVectorCause, AreWithin};
+ghost use Rattle.gf_text.specs.Singles.{IsDimensionRead, IsDimensionCause, IsNameRead, IsNameCause};
+ghost use Rattle.gf_text.specs.VectorLists.{AreVectorsRead, AreVectorsWithin, IsVectorsCause};
+ghost use Rattle.gf_text.specs.Vectors.{IsVectorRead, IsVectorCause, AreEntriesWithin};
 ghost use Rattle.gf_text.specs.Sets.{IsSetRead, IsSetCause, IsMarkedRead, IsMarkedCause, AreIn};
 
 use crate::error::{Cause, Kind, Syntax, TextError, refused_at};
@@ -11,8 +13,9 @@ use crate::marked_reader::marked_at;
 use crate::names::Ring;
 use crate::ring_reader::ring_from;
 use crate::set_reader::written_at;
+use crate::single_reader::{dimension_from, name_from};
 use crate::tokens::{Token, begins_token, spaces, word_from};
-use crate::vector_reader::vector_from;
+use crate::vector_reader::{vector_from, vectors_from};
 use crate::written::Written;
 use gf_poly::MarkedSet;
 use gf_vec::IntVec;
@@ -84,10 +87,7 @@ impl<'a> Reader<'a> {
         ensures source { self.new.source ≡ self.old.source }
         ensures unchanged { OnErr result (self.new ≡ self.old) }
     {
-        let (ring, at) = match ring_from(alloc, self.source, self.at) {
-            Ok((ring, at)) => (ring, at),
-            Err(error) => return Err(error),
-        };
+        let (ring, at) = ring_from(alloc, self.source, self.at)?;
         self.at = at;
         Ok(ring)
     }
@@ -130,10 +130,7 @@ impl<'a> Reader<'a> {
         ensures err { IfErr result (IsMarkedCause ring.now self.old) }
         ensures unchanged { OnErr result (self.new ≡ self.old) }
     {
-        let (set, at) = match marked_at(alloc, ring, self.source, self.at) {
-            Ok((set, at)) => (set, at),
-            Err(error) => return Err(error),
-        };
+        let (set, at) = marked_at(alloc, ring, self.source, self.at)?;
         self.at = at;
         Ok(set)
     }
@@ -149,17 +146,70 @@ impl<'a> Reader<'a> {
     /// After a refusal the reader is where it was.
     pub fn read_vector(&mut self, alloc: Global) -> Result<IntVec, TextError>
         ensures ok { IfOk result (λ v. IsVectorRead self.old self.new.at v) }
-        ensures within { IfOk result (λ v. AreWithin v) }
+        ensures within { IfOk result (λ v. AreEntriesWithin v) }
         ensures err { IfErr result (IsVectorCause self.old) }
         ensures source { self.new.source ≡ self.old.source }
         ensures unchanged { OnErr result (self.new ≡ self.old) }
     {
-        let (vector, at) = match vector_from(alloc, self.source, self.at) {
-            Ok((vector, at)) => (vector, at),
-            Err(error) => return Err(error),
-        };
+        let (vector, at) = vector_from(alloc, self.source, self.at)?;
         self.at = at;
         Ok(vector)
+    }
+
+    /// Reads the list of vectors that stands at the reader's place, vectors as `read_vector` reads them, and goes behind it.
+    ///
+    /// # Errors
+    /// - `Syntax` at the first token after which no text of a list of vectors goes on: `Unexpected`, or `Ended` with the
+    ///   length of the source where the text ends before.
+    /// - `TooWide` at a number past `2^63 - 1`, where a number may stand; leading zeros don't count.
+    ///
+    /// After a refusal the reader is where it was.
+    pub fn read_vectors(&mut self, alloc: Global) -> Result<Vec<IntVec>, TextError>
+        ensures ok { IfOk result (λ vs. AreVectorsRead self.old self.new.at vs.items) }
+        ensures within { IfOk result (λ vs. AreVectorsWithin vs.items) }
+        ensures err { IfErr result (IsVectorsCause self.old) }
+        ensures source { self.new.source ≡ self.old.source }
+        ensures unchanged { OnErr result (self.new ≡ self.old) }
+    {
+        let (vectors, at) = vectors_from(alloc, self.source, self.at)?;
+        self.at = at;
+        Ok(vectors)
+    }
+
+    /// Reads the dimension that stands at the reader's place, a number up to 16, and goes behind it.
+    ///
+    /// # Errors
+    /// - `Syntax` at a token that is no number: `Unexpected`, or `Ended` with the length of the source where none follows.
+    /// - `TooWide` at a number past `2^63 - 1`; leading zeros don't count.
+    /// - `TooManyVariables` at any other number past 16, with that number.
+    ///
+    /// After a refusal the reader is where it was.
+    pub fn read_dimension(&mut self) -> Result<u32, TextError>
+        ensures ok { IfOk result (λ n. IsDimensionRead self.old self.new.at n) }
+        ensures err { IfErr result (IsDimensionCause self.old) }
+        ensures source { self.new.source ≡ self.old.source }
+        ensures unchanged { OnErr result (self.new ≡ self.old) }
+    {
+        let (n, at) = dimension_from(self.source, self.at)?;
+        self.at = at;
+        Ok(n)
+    }
+
+    /// Reads the name that stands at the reader's place, as long as it can be, which isn't one of the ring, and goes behind
+    /// it.
+    ///
+    /// # Errors
+    /// `Syntax`: `RepeatedName` at a name of the ring, `Unexpected` at any other token, and `Ended` with the length of the
+    /// source where none follows. After a refusal the reader is where it was.
+    pub fn read_name(&mut self, ring: &Ring) -> Result<&'a [u8], TextError>
+        ensures ok { IfOk result (λ name. IsNameRead ring.now self.old self.new.at name.now) }
+        ensures err { IfErr result (IsNameCause ring.now self.old) }
+        ensures source { self.new.source ≡ self.old.source }
+        ensures unchanged { OnErr result (self.new ≡ self.old) }
+    {
+        let (name, at) = name_from(ring, self.source, self.at)?;
+        self.at = at;
+        Ok(name)
     }
 
     /// Whether nothing but white space follows.
@@ -168,7 +218,7 @@ impl<'a> Reader<'a> {
     /// Where something else does: `Syntax { at, kind: Unexpected }` at its first byte.
     pub fn end(&mut self) -> Result<(), Syntax>
         ensures end { OnOk result (IsBlank (rest self.old)) }
-        ensures more { IfErr result (IsMore self.old) }
+        ensures more { IfErr result (HasMoreText self.old) }
         ensures same { self.new ≡ self.old }
     {
         let rest = &self.source[self.at..];

@@ -2,8 +2,9 @@
 ghost use Rattle.std.specs.Prelude.{◌≡◌, ◌≤◌, ◌∷◌, IfOk, IfErr, length, bytes_eq, [], if◌then◌else◌};
 ghost use Rattle.std.specs.List.{list_all};
 ghost use Rattle.gf_text.specs.Tokens.{is_name_byte};
-ghost use Rattle.gf_text.specs.RingText.{is_name, ring_step, ring_at, letter_q, bracket, comma, bracket_end};
-ghost use Rattle.gf_text.specs.Given.{Gives, ring_move};
+ghost use Rattle.gf_text.specs.RingText.{is_name, ring_step, ring_at, letter_q};
+ghost use Rattle.gf_text.specs.Marks.{bracket, comma, bracket_end};
+ghost use Rattle.gf_text.specs.Given.{ReturnsRead, ring_move};
 ghost use Rattle.gf_text.specs.Rings.{IsRingRead, IsRingCause};
 
 use crate::error::{Cause, TextError, refused_at};
@@ -39,7 +40,7 @@ fn are_name_bytes(bytes: &[u8]) -> bool
 }
 
 /// A name is a letter, then letters, digits and `_`.
-fn is_name(t: &[u8]) -> bool
+pub(crate) fn is_name(t: &[u8]) -> bool
     ensures { result ≡ is_name t.now }
 {
     let [first, rest @ ..] = t else {
@@ -106,7 +107,7 @@ fn names_from(
     from: usize,
 ) -> Result<(DifferentNames, usize), TextError>
     requires { from ≤ length source.now }
-    ensures ring { Gives (λ x. (x.0, x.1)) result (ring_at source.now from) }
+    ensures ring { ReturnsRead (λ x. (x.0, x.1)) result (ring_at source.now from) }
     ensures within { IfOk result (λ x. x.1 ≤ length source.now) }
 {
     let mut names = DifferentNames::new(alloc);
@@ -136,10 +137,7 @@ pub(crate) fn ring_from(
     ensures err { IfErr result (IsRingCause (record { source = source.now; at = from })) }
     ensures within { IfOk result (λ x. x.1 ≤ length source.now) }
 {
-    let (names, end) = match names_from(alloc, source, from) {
-        Ok((names, end)) => (names, end),
-        Err(error) => return Err(error),
-    };
+    let (names, end) = names_from(alloc, source, from)?;
     let count = names.len();
     if count > MOST_VARIABLES {
         return Err(TextError::TooManyVariables {

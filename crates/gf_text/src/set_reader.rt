@@ -1,13 +1,12 @@
 //! The reading of a set.
 ghost use Rattle.std.specs.Prelude.{◌≡◌, ◌≤◌, [], IfOk, IfErr, OnOk, length};
-ghost use Rattle.gf_text.specs.SetText.{set_at, set_step, token_step, front_step, term_or, name_or, end_step, behind_step, denominator_step, exponent_step, is_word, with_name, with_factor, with_numer, with_denom, next_term, next_polynomial, empty, plus, minus, comma, star, slash, caret, brace, brace_end, most, most_exponent};
+ghost use Rattle.gf_text.specs.SetText.{set_at, set_step, token_step, front_step, term_or, name_or, end_step, behind_step, denominator_step, exponent_step, is_word, with_name, with_factor, with_numer, with_denom, next_term, next_polynomial, empty, most, most_exponent};
 ghost use Rattle.gf_text.specs.Given.{Fails};
 ghost use Rattle.gf_text.specs.GivenSet.{set_move};
 ghost use Rattle.gf_text.specs.Sets.{AreSetSums, IsSetRead, IsSetCause, AreIn};
 
 use crate::combine::Sums;
 use crate::error::{Cause, TextError, refused_at};
-use crate::matcher::Matcher;
 use crate::names::Ring;
 use crate::tokens::{Number, number_of, ring_token_from};
 use crate::tree::{Factor, Factors, WrittenSet, WrittenTerm, WrittenTerms};
@@ -215,6 +214,7 @@ impl Part {
         if t == b"*".as_slice() {
             return Ok(SetStep::Go(SetPlace::Star));
         }
+        // The proof needs that the names are those of a ring: each begins with a letter.
         let _names = ring.names();
         if is_word(t) {
             return Ok(self.name_or(ring, t, SetStep::Halt(Cause::UnknownName)));
@@ -318,13 +318,14 @@ fn sums_from(
     ensures within { IfOk result (λ x. x.1 ≤ length source.now) }
 {
     let n = ring.len() as usize;
-    let mut matcher = Matcher::new(alloc, ring.names())?;
+    // The proof needs that the names are those of a ring.
+    let _names = ring.names();
     let mut part = Part::new(alloc);
     let mut place = SetPlace::Brace;
     let mut sums = Sums::new(alloc);
     let mut at = from;
     loop {
-        let Some((start, end)) = ring_token_from(&mut matcher, ring, source, at) else {
+        let Some((start, end)) = ring_token_from(ring, source, at) else {
             return Err(refused_at(source.len(), Cause::Ended));
         };
         match part.step(alloc, ring, place, &source[start..end])? {
@@ -354,11 +355,9 @@ pub(crate) fn written_at(
     ensures err { IfErr result (IsSetCause ring.now (record { source = source.now; at = from })) }
     ensures within { IfOk result (λ x. x.1 ≤ length source.now) }
 {
+    // The proof needs that the names are those of a ring.
     let _names = ring.names();
-    let (sums, end) = match sums_from(alloc, ring, source, from) {
-        Ok((sums, end)) => (sums, end),
-        Err(error) => return Err(error),
-    };
+    let (sums, end) = sums_from(alloc, ring, source, from)?;
     match sums {
         Sums::Fit(written) => Ok((written, end)),
         Sums::Overflow(overflow) => Err(TextError::Overflow(overflow)),

@@ -8,67 +8,26 @@ use gf_poly::ExponentOverflow;
 use std::alloc::{AllocError, Global};
 use std::test::Fail;
 
-/// Adds polynomials: one mark stands before the first, another before each later one.
-fn push_all(
-    out: &mut Vec<u8>,
-    ring: &Ring,
-    items: &[Written],
-    front: u8,
-    between: u8,
-) -> Result<(), AllocError>
+/// Adds polynomials, each behind a bar.
+fn push_all(out: &mut Vec<u8>, ring: &Ring, items: &[Written]) -> Result<(), AllocError>
     requires { AreIn (length ring.now) items.now }
 {
-    let mut mark = front;
     'items: for item in items {
-        out.push(mark)?;
+        out.push(b'|')?;
         Printer::poly(out, ring, item)?;
-        mark = between;
     }
     Ok(())
 }
 
-/// The ring of a whole text, and the polynomials of its set.
-fn read_all(alloc: Global, source: &[u8]) -> Result<(Ring, Vec<Written>), TextError>
-    ensures { IfOk result (λ x. AreIn (length x.0) x.1.items) }
-{
-    let mut reader = Reader::new(source);
-    let ring = match reader.read_ring(alloc) {
-        Ok(ring) => ring,
-        Err(error) => return Err(error),
-    };
-    let set = match reader.read_set(alloc, &ring) {
-        Ok(set) => set,
-        Err(error) => return Err(error),
-    };
-    reader.end()?;
-    Ok((ring, set))
-}
-
 /// The polynomials of a whole text of a ring and a set, each behind a bar.
 fn polynomials_of(alloc: Global, source: &[u8]) -> Result<Vec<u8>, TextError> {
-    let (ring, set) = match read_all(alloc, source) {
-        Ok((ring, set)) => (ring, set),
-        Err(error) => return Err(error),
-    };
+    let mut reader = Reader::new(source);
+    let ring = reader.read_ring(alloc)?;
+    let set = reader.read_set(alloc, &ring)?;
+    reader.end()?;
     let mut line = Vec::new(alloc);
-    push_all(&mut line, &ring, &set, b'|', b'|')?;
+    push_all(&mut line, &ring, &set)?;
     Ok(line)
-}
-
-/// A whole text, read and printed.
-fn printed(alloc: Global, source: &[u8]) -> Result<Vec<u8>, TextError> {
-    let (ring, set) = match read_all(alloc, source) {
-        Ok((ring, set)) => (ring, set),
-        Err(error) => return Err(error),
-    };
-    let mut text = Vec::new(alloc);
-    Printer::ring(&mut text, &ring)?;
-    if set.is_empty() {
-        text.push(b'{')?;
-    }
-    push_all(&mut text, &ring, &set, b'{', b',')?;
-    text.push(b'}')?;
-    Ok(text)
 }
 
 #[test]
@@ -132,55 +91,26 @@ fn each_text_is_refused_at_its_place(rt: HostRuntime) -> Result<(), Fail> {
     let alloc = rt.alloc();
     let rows = [
         ("", syntax(0, Kind::Ended)),
-        ("Q[]{}", unexpected(2)),
-        ("Q[a]a", unexpected(4)),
         ("Q[a,b] {a-", syntax(10, Kind::Ended)),
-        ("Q[a,b] { a \n", syntax(12, Kind::Ended)),
         ("Q[a]{a}x", unexpected(7)),
-        ("Q[a]{a}}", unexpected(7)),
         // between polynomials and terms
-        ("Q[a]{,a}", unexpected(5)),
         ("Q[a]{a,}", unexpected(7)),
-        ("Q[a]{a,,a}", unexpected(7)),
-        ("Q[a]{+}", unexpected(6)),
-        ("Q[a]{a-}", unexpected(7)),
         ("Q[a]{a--a}", unexpected(7)),
-        ("Q[a]{(a)}", unexpected(5)),
-        ("Q[a]{a\0a}", unexpected(6)),
         ("Q[a]{a_}", unexpected(6)),
         ("Q[a]{ä}", unexpected(5)),
         // factors
-        ("Q[a]{*a}", unexpected(5)),
-        ("Q[a]{a*}", unexpected(7)),
         ("Q[a]{a**a}", unexpected(7)),
-        ("Q[a]{a*-a}", unexpected(7)),
-        ("Q[a]{2*3}", unexpected(7)),
         ("Q[a]{2 3}", unexpected(7)),
-        ("Q[a]{a 3}", unexpected(7)),
         ("Q[a]{a^2^2}", unexpected(8)),
-        ("Q[a]{a^}", unexpected(7)),
         ("Q[a]{a^a}", unexpected(7)),
-        ("Q[a]{a^-1}", unexpected(7)),
-        ("Q[a]{2^2}", unexpected(6)),
         ("Q[a]{a/2}", unexpected(6)),
-        ("Q[a]{1/}", unexpected(7)),
-        ("Q[a]{1/a}", unexpected(7)),
-        ("Q[a]{1/2/3}", unexpected(8)),
         ("Q[a]{1/0}", syntax(7, Kind::ZeroDenominator)),
         ("Q[a]{a+1/ 000a", syntax(10, Kind::ZeroDenominator)),
         // names
         ("Q[a]{ax}", TextError::UnknownName { at: 6 }),
         ("Q[a]{x}", TextError::UnknownName { at: 5 }),
-        ("Q[a]{-x}", TextError::UnknownName { at: 6 }),
-        ("Q[a]{a,x}", TextError::UnknownName { at: 7 }),
-        ("Q[a]{a+2x}", TextError::UnknownName { at: 8 }),
-        ("Q[a]{2*x}", TextError::UnknownName { at: 7 }),
-        ("Q[a]{a^2x}", TextError::UnknownName { at: 8 }),
-        ("Q[a]{1/2x}", TextError::UnknownName { at: 8 }),
-        ("Q[a1]{a}", TextError::UnknownName { at: 6 }),
         ("Q[a1]{a12}", unexpected(8)),
         ("Q[ab,a]{abb}", TextError::UnknownName { at: 10 }),
-        ("Q[x_1,x,x1]{x_1x1x2}", unexpected(18)),
         // numbers past their limits
         (
             "Q[a] {170141183460469231731687303715884105728a}",
@@ -190,16 +120,7 @@ fn each_text_is_refused_at_its_place(rt: HostRuntime) -> Result<(), Fail> {
             "Q[a]{a-1/170141183460469231731687303715884105728}",
             TextError::TooWide { at: 9 },
         ),
-        (
-            "Q[a]{a 170141183460469231731687303715884105728}",
-            unexpected(7),
-        ),
-        (
-            "Q[a]{a*170141183460469231731687303715884105728}",
-            unexpected(7),
-        ),
         ("Q[a]{a^2147483648}", TextError::TooWide { at: 7 }),
-        ("Q[a]{a^4294967296}", TextError::TooWide { at: 7 }),
         (
             "Q[a]{a^340282366920938463463374607431768211457}",
             TextError::TooWide { at: 7 },
@@ -237,131 +158,6 @@ fn each_text_is_refused_at_its_place(rt: HostRuntime) -> Result<(), Fail> {
             .err()
             .ok_or("a refusal")?;
         assert_eq!(rt; error, wanted, "at {source}");
-    }
-    Ok(())
-}
-
-#[test]
-fn each_proper_prefix_ends_too_early(rt: HostRuntime) -> Result<(), Fail> {
-    let alloc = rt.alloc();
-    let whole = b"Q[a,b] {a-b}".as_slice();
-    for n in 0..whole.len() {
-        let error = polynomials_of(alloc, &whole[..n]).err().ok_or("a refusal")?;
-        assert_eq!(rt; error, syntax(n as u64, Kind::Ended));
-    }
-    assert_eq!(rt;
-        polynomials_of(alloc, whole)?.as_slice(),
-        b"|a-b".as_slice()
-    );
-    Ok(())
-}
-
-/// Numbers with no pattern, by a linear congruence.
-#[derive(Drop)]
-struct Numbers {
-    last: u64,
-}
-
-impl Numbers {
-    /// The next number, below n.
-    fn below(&mut self, n: usize) -> usize
-        requires { 0 < n }
-        ensures { result < n }
-    {
-        self.last = self
-            .last
-            .wrapping_mul(6364136223846793005)
-            .wrapping_add(1442695040888963407);
-        (self.last >> 33) as usize % n
-    }
-}
-
-/// Adds one of these texts.
-fn push_one(out: &mut Vec<u8>, numbers: &mut Numbers, texts: &[&[u8]]) -> Result<(), AllocError>
-    requires { 0 < length texts.now }
-{
-    let i = numbers.below(texts.len());
-    out.extend_from_slice(texts[i])
-}
-
-/// Adds a power of a variable.
-fn push_power(out: &mut Vec<u8>, numbers: &mut Numbers) -> Result<(), AllocError> {
-    push_one(out, numbers, &[b"x", b"y", b"xy", b"z_1"])?;
-    push_one(out, numbers, &[b"", b"", b"^0", b"^2", b" ^ 017"])
-}
-
-/// Adds powers, at least one.
-fn push_powers(out: &mut Vec<u8>, numbers: &mut Numbers) -> Result<(), AllocError> {
-    push_power(out, numbers)?;
-    for _ in 0..numbers.below(4) {
-        push_one(out, numbers, &[b"", b" ", b"*", b"\n* "])?;
-        push_power(out, numbers)?;
-    }
-    Ok(())
-}
-
-/// Adds a rational number.
-fn push_rational(out: &mut Vec<u8>, numbers: &mut Numbers) -> Result<(), AllocError> {
-    push_one(
-        out,
-        numbers,
-        &[b"0", b"1", b"2", b"006", b"18446744073709551616"],
-    )?;
-    push_one(out, numbers, &[b"", b"", b"/1", b" / 6", b"/\t0004"])
-}
-
-/// Adds a term.
-fn push_term(out: &mut Vec<u8>, numbers: &mut Numbers) -> Result<(), AllocError> {
-    match numbers.below(3) {
-        0 => push_rational(out, numbers),
-        1 => push_powers(out, numbers),
-        _ => {
-            push_rational(out, numbers)?;
-            push_one(out, numbers, &[b"", b" ", b"*", b" * "])?;
-            push_powers(out, numbers)
-        }
-    }
-}
-
-/// Adds a polynomial.
-fn push_polynomial(out: &mut Vec<u8>, numbers: &mut Numbers) -> Result<(), AllocError> {
-    push_one(out, numbers, &[b"", b"", b"+", b"- "])?;
-    push_term(out, numbers)?;
-    for _ in 0..numbers.below(6) {
-        push_one(out, numbers, &[b"+", b"-", b" + ", b"\r\n-"])?;
-        push_term(out, numbers)?;
-    }
-    Ok(())
-}
-
-/// A text of a ring and a set.
-fn some_text(alloc: Global, numbers: &mut Numbers) -> Result<Vec<u8>, AllocError> {
-    let mut out = Vec::new(alloc);
-    push_one(
-        &mut out,
-        numbers,
-        &[b"Q[x,xy,y,z_1]", b" Q [ z_1, y ,x\t,\r\nxy ] "],
-    )?;
-    out.push(b'{')?;
-    let count = numbers.below(5);
-    for i in 0..count {
-        if i > 0 {
-            out.push(b',')?;
-        }
-        push_polynomial(&mut out, numbers)?;
-    }
-    out.extend_from_slice(b" }\n")?;
-    Ok(out)
-}
-
-#[test]
-fn printed_texts_are_printed_again(rt: HostRuntime) -> Result<(), Fail> {
-    let alloc = rt.alloc();
-    let mut numbers = Numbers { last: 1 };
-    for _ in 0..300 {
-        let once = printed(alloc, &some_text(alloc, &mut numbers)?)?;
-        let twice = printed(alloc, &once)?;
-        assert_eq!(rt; twice.as_slice(), once.as_slice());
     }
     Ok(())
 }

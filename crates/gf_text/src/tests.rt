@@ -55,35 +55,15 @@ fn check_fault(rt: &impl Abort, alloc: Global, source: &[u8], at: u64, kind: Kin
 #[test]
 fn faults_of_rings(rt: HostRuntime) {
     let alloc = rt.alloc();
-    let whole = b"Q[a,b]";
-    for n in 0..whole.len() {
-        check_fault(&rt, alloc, &whole[..n], n as u64, Kind::Ended);
-    }
     let texts = [
-        (b" \n".as_slice(), 2, Kind::Ended),
-        (b"Q[a1", 4, Kind::Ended),
-        (b"Q[a,b ", 6, Kind::Ended),
-        (b"q[a]", 0, Kind::Unexpected),
+        (b"Q[a,b ".as_slice(), 6, Kind::Ended),
         (b"Qa[b]", 0, Kind::Unexpected),
-        (b"Q a[b]", 2, Kind::Unexpected),
-        (b"Q{a}", 1, Kind::Unexpected),
         (b"Q[]", 2, Kind::Unexpected),
-        (b"Q[1]", 2, Kind::Unexpected),
-        (b"Q[1a]", 2, Kind::Unexpected),
         (b"Q[_a]", 2, Kind::Unexpected),
-        (b"Q[a,]", 4, Kind::Unexpected),
-        (b"Q[a b]", 4, Kind::Unexpected),
         (b"Q[a;b]", 3, Kind::Unexpected),
         (b"Q[a\xc3\xa4]", 3, Kind::Unexpected),
-        (b"Q [a,b}", 6, Kind::Unexpected),
         (b"Q[a,a]{a}", 4, Kind::RepeatedName),
         (b"Q[ab, a ,ab", 9, Kind::RepeatedName),
-        (
-            b"Q[a,b,c,d,e,f,g,h,i,j,k,l,m,n,o,p,q,a]",
-            36,
-            Kind::RepeatedName,
-        ),
-        (b"Q[a,b,c,d,e,f,g,h,i,j,k,l,m,n,o,p,q", 35, Kind::Ended),
     ];
     for (source, at, kind) in texts {
         check_fault(&rt, alloc, source, at, kind);
@@ -103,12 +83,6 @@ fn check_count(rt: &impl Abort, alloc: Global, source: &[u8], count: u64) {
 fn too_many_names(rt: HostRuntime) {
     let alloc = rt.alloc();
     check_count(&rt, alloc, b"Q[a,b,c,d,e,f,g,h,i,j,k,l,m,n,o,p,q]", 17);
-    check_count(
-        &rt,
-        alloc,
-        b"Q[a,b,c,d,e,f,g,h,i,j,k,l,m,n,o,p,q,aa,ab]{}",
-        19,
-    );
 }
 
 #[test]

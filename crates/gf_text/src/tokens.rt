@@ -1,12 +1,10 @@
 //! The tokens of a text.
-ghost use Rattle.std.specs.Prelude.{◌≡◌, ◌<◌, ◌≤◌, ◌^◌, ◌-◌, ◌∷◌, [], length, drop, take_while, MatchOption, IfSome, true};
-ghost use Rattle.std.specs.List.{list_all};
-ghost use Rattle.gf_text.specs.Tokens.{is_space, is_digit, is_name_byte, is_number, value, spaces, lexemes, lexeme, word_more, ring_more, begins_token};
-ghost use Rattle.gf_text.specs.Matching.{IsMatcher};
+ghost use Rattle.std.specs.Prelude.{◌≡◌, ◌<◌, ◌≤◌, ◌^◌, ◌-◌, ◌∷◌, [], length, take_while, max, nat_eq, bytes_eq, true, MatchOption, IfSome, if◌then◌else◌};
+ghost use Rattle.std.specs.List.{list_all, starts_with};
+ghost use Rattle.gf_text.specs.Tokens.{is_space, is_digit, is_name_byte, is_number, decimal_value, spaces, lexemes, lexeme, longest, word_more, ring_more, begins_token};
 ghost use Rattle.gf_text.specs.Given.{IsNumberRead};
 
-use crate::matcher::Matcher;
-use crate::names::Ring;
+use crate::names::{Name, Ring};
 
 /// A token: its text, and the place of its first byte in the source.
 #[derive(Clone, Copy, Debug)]
@@ -66,21 +64,40 @@ fn word_more(text: &[u8]) -> usize
     0
 }
 
-/// How many bytes of the token at a place of the source follow its first byte, where names are those of a ring.
-fn ring_more(matcher: &mut Matcher, ring: &Ring, source: &[u8], at: usize) -> usize
-    requires within { at ≤ length source.now }
-    requires matcher { IsMatcher source.now ring.now matcher.old }
-    ensures value { result ≡ ring_more ring.now (drop at source.now) }
-    ensures matcher { IsMatcher source.now ring.now matcher.new }
+/// The length of the longest of these names that the text begins with, 0 where it begins with none.
+fn longest(names: &[Name], text: &[u8]) -> usize
+    ensures { result ≡ longest names.now text.now }
 {
-    let [first, rest @ ..] = &source[at..] else {
+    let mut best = 0;
+    for name in names {
+        best = longer(best, name.as_slice(), text);
+    }
+    best
+}
+
+/// The length of the name where the text begins with it and it is greater than `best`, else `best`.
+fn longer(best: usize, name: &[u8], text: &[u8]) -> usize
+    ensures { result ≡ max best (if starts_with nat_eq text.now name.now then length name.now else 0) }
+{
+    if name.len() > best && text.starts_with(name) {
+        name.len()
+    } else {
+        best
+    }
+}
+
+/// How many bytes of the token at the front of a text follow its first byte, where names are those of a ring.
+fn ring_more(ring: &Ring, text: &[u8]) -> usize
+    ensures { result ≡ ring_more ring.now text.now }
+{
+    let [first, rest @ ..] = text else {
         return 0;
     };
     if first.is_ascii_digit() {
         return digits(rest);
     }
     if first.is_ascii_alphabetic() {
-        return matcher.longest(ring, source, at).saturating_sub(1);
+        return longest(ring.names(), text).saturating_sub(1);
     }
     0
 }
@@ -101,24 +118,24 @@ pub(crate) fn word_from(source: &[u8], at: usize) -> Option<(usize, usize)>
 }
 
 /// The same, where names are those of a ring.
-pub(crate) fn ring_token_from(
-    matcher: &mut Matcher,
-    ring: &Ring,
-    source: &[u8],
-    at: usize,
-) -> Option<(usize, usize)>
-    requires within { at ≤ length source.now }
-    requires matcher { IsMatcher source.now ring.now matcher.old }
+pub(crate) fn ring_token_from(ring: &Ring, source: &[u8], at: usize) -> Option<(usize, usize)>
+    requires { at ≤ length source.now }
     ensures token { MatchOption result (lexemes (ring_more ring.now) source.now at ≡ []) (λ t. lexemes (ring_more ring.now) source.now at ≡ lexeme source.now t.0 t.1 ∷ lexemes (ring_more ring.now) source.now t.1) }
     ensures within { IfSome result (λ t. (at ≤ t.0) × (t.0 < t.1) × (t.1 ≤ length source.now)) }
-    ensures matcher { IsMatcher source.now ring.now matcher.new }
 {
     let start = at + spaces(&source[at..]);
     if start == source.len() {
         return None;
     }
-    let more = ring_more(matcher, ring, source, start);
+    let more = ring_more(ring, &source[start..]);
     Some((start, start + 1 + more))
+}
+
+/// Whether a token is this mark.
+pub(crate) fn is_mark(t: &[u8], mark: u8) -> bool
+    ensures { result ≡ bytes_eq t.now (mark ∷ []) }
+{
+    t == [mark].as_slice()
 }
 
 /// What a token is as a number with a limit.
@@ -167,7 +184,7 @@ pub(crate) fn number_of(t: &[u8], most: u128) -> Number
 fn value_within(digits: &[u8], most: u128) -> Option<u128>
     requires digits { is_number digits.now ≡ true }
     requires most { most ≤ 2 ^ 127 - 1 }
-    ensures { MatchOption result (most < value digits.now) (λ n. (n ≡ value digits.now) × (n ≤ most)) }
+    ensures { MatchOption result (most < decimal_value digits.now) (λ n. (n ≡ decimal_value digits.now) × (n ≤ most)) }
 {
     let tenth = most / 10;
     let mut n = 0u128;

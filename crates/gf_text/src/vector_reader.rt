@@ -1,13 +1,14 @@
 //! The reading of a vector.
 ghost use Rattle.std.specs.Prelude.{◌≡◌, ◌≤◌, IfOk, IfErr, length};
-ghost use Rattle.gf_text.specs.VectorText.{IsVectorText, signed, most_entry, size_step, entry_step, vector_step, vector_at};
+ghost use Rattle.gf_text.specs.VectorText.{IsVectorText, signed_entry, most_entry, size_step, entry_step, vector_step, vector_at};
 ghost use Rattle.gf_text.specs.Machine.{HasOneMeaning};
-ghost use Rattle.gf_text.specs.Given.{Gives};
+ghost use Rattle.gf_text.specs.Given.{ReturnsRead};
 ghost use Rattle.gf_text.specs.GivenVector.{vector_move};
-ghost use Rattle.gf_text.specs.Vectors.{IsVectorRead, IsVectorCause, AreWithin};
+ghost use Rattle.gf_text.specs.VectorLists.{vectors_from, vectors_at, vectors_first, vectors_inside, AreVectorsRead, AreVectorsWithin, IsVectorsCause};
+ghost use Rattle.gf_text.specs.Vectors.{IsVectorRead, IsVectorCause, AreEntriesWithin};
 
 use crate::error::{Cause, TextError, refused_at};
-use crate::tokens::{Number, number_of, word_from};
+use crate::tokens::{Number, is_mark, number_of, word_from};
 use gf_vec::IntVec;
 use std::alloc::{AllocError, Global};
 
@@ -31,12 +32,12 @@ pub enum VectorStep {
 }
 
 /// The greatest absolute value of an entry.
-const MOST_ENTRY: u128 = (1 << 63) - 1;
+pub(crate) const MOST_ENTRY: u128 = (1 << 63) - 1;
 
 /// A natural number, or its negative.
 fn signed(minus: bool, n: u128) -> i128
     requires { n ≤ most_entry }
-    ensures { result ≡ signed minus n }
+    ensures { result ≡ signed_entry minus n }
 {
     let size = n as i128;
     if minus { -size } else { size }
@@ -100,7 +101,8 @@ fn step(entries: &mut Vec<i128>, place: VectorPlace, t: &[u8]) -> Result<VectorS
 /// The entries of the vector that stands in the source from this place on, and the place behind it.
 fn entries_from(alloc: Global, source: &[u8], from: usize) -> Result<(Vec<i128>, usize), TextError>
     requires { from ≤ length source.now }
-    ensures vector { Gives (λ x. (x.0.items, x.1)) result (vector_at source.now from) }
+    ensures vector { ReturnsRead (λ x. (x.0.items, x.1)) result (vector_at source.now from) }
+    ensures forward { IfOk result (λ x. from ≤ x.1) }
     ensures within { IfOk result (λ x. x.1 ≤ length source.now) }
 {
     let mut entries = Vec::new(alloc);
@@ -127,15 +129,86 @@ pub(crate) fn vector_from(
 ) -> Result<(IntVec, usize), TextError>
     requires { from ≤ length source.now }
     ensures ok { IfOk result (λ x. IsVectorRead (record { source = source.now; at = from }) x.1 x.0) }
-    ensures entries { IfOk result (λ x. AreWithin x.0) }
+    ensures vector { ReturnsRead (λ x. (x.0, x.1)) result (vector_at source.now from) }
+    ensures entries { IfOk result (λ x. AreEntriesWithin x.0) }
+    ensures forward { IfOk result (λ x. from ≤ x.1) }
     ensures err { IfErr result (IsVectorCause (record { source = source.now; at = from })) }
     ensures within { IfOk result (λ x. x.1 ≤ length source.now) }
 {
-    let (entries, end) = match entries_from(alloc, source, from) {
-        Ok((entries, end)) => (entries, end),
-        Err(error) => return Err(error),
-    };
+    let (entries, end) = entries_from(alloc, source, from)?;
     Ok((IntVec::from_vec(entries), end))
+}
+
+/// The vectors of a list from its first item on, which stands in the source from this place on, and the place behind the
+/// list.
+fn items_from(alloc: Global, source: &[u8], from: usize) -> Result<(Vec<IntVec>, usize), TextError>
+    requires { from ≤ length source.now }
+    ensures vectors { ReturnsRead (λ x. (x.0.items, x.1)) result (vectors_from vectors_inside source.now from) }
+    ensures within { IfOk result (λ x. x.1 ≤ length source.now) }
+{
+    let mut vectors = Vec::new(alloc);
+    let mut at = from;
+    loop {
+        let (vector, end) = vector_from(alloc, source, at)?;
+        vectors.push(vector)?;
+        let Some((start, behind)) = word_from(source, end) else {
+            return Err(refused_at(source.len(), Cause::Ended));
+        };
+        let token = &source[start..behind];
+        if !is_mark(token, b',') {
+            if is_mark(token, b'}') {
+                return Ok((vectors, behind));
+            }
+            return Err(refused_at(start, Cause::Unexpected));
+        }
+        at = behind;
+    }
+}
+
+/// The vectors of a list from behind its first brace on, and the place behind the list.
+fn behind_brace(alloc: Global, source: &[u8], from: usize) -> Result<(Vec<IntVec>, usize), TextError>
+    requires { from ≤ length source.now }
+    ensures vectors { ReturnsRead (λ x. (x.0.items, x.1)) result (vectors_from vectors_first source.now from) }
+    ensures within { IfOk result (λ x. x.1 ≤ length source.now) }
+{
+    let Some((start, end)) = word_from(source, from) else {
+        return Err(refused_at(source.len(), Cause::Ended));
+    };
+    if is_mark(&source[start..end], b'}') {
+        return Ok((Vec::new(alloc), end));
+    }
+    items_from(alloc, source, from)
+}
+
+/// The vectors of the list that stands in the source from this place on, and the place behind it.
+fn list_from(alloc: Global, source: &[u8], from: usize) -> Result<(Vec<IntVec>, usize), TextError>
+    requires { from ≤ length source.now }
+    ensures vectors { ReturnsRead (λ x. (x.0.items, x.1)) result (vectors_at source.now from) }
+    ensures within { IfOk result (λ x. x.1 ≤ length source.now) }
+{
+    let Some((start, end)) = word_from(source, from) else {
+        return Err(refused_at(source.len(), Cause::Ended));
+    };
+    if !is_mark(&source[start..end], b'{') {
+        return Err(refused_at(start, Cause::Unexpected));
+    }
+    behind_brace(alloc, source, end)
+}
+
+/// The vectors of the list that stands in the source from this place on, and the place behind it, by the grammar.
+pub(crate) fn vectors_from(
+    alloc: Global,
+    source: &[u8],
+    from: usize,
+) -> Result<(Vec<IntVec>, usize), TextError>
+    requires { from ≤ length source.now }
+    ensures ok { IfOk result (λ x. AreVectorsRead (record { source = source.now; at = from }) x.1 x.0.items) }
+    ensures entries { IfOk result (λ x. AreVectorsWithin x.0.items) }
+    ensures err { IfErr result (IsVectorsCause (record { source = source.now; at = from })) }
+    ensures within { IfOk result (λ x. x.1 ≤ length source.now) }
+{
+    let (vectors, end) = list_from(alloc, source, from)?;
+    Ok((vectors, end))
 }
 
 /// A text is the text of one vector at most.

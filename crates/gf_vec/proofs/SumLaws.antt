@@ -5,25 +5,25 @@ use Rattle.std.specs.List.{AllByRecursion}
 use Rattle.std.proofs.lemmas.Int.{unsigned_abs-mul}
 use Rattle.std.proofs.lemmas.List.Elements.{All-from_recursion, recursion_from_All}
 use Rattle.gf_int.specs.Range.{InRange}
-use Rattle.gf_vec.specs.Vector.{plus}
+use Rattle.gf_vec.specs.Vector.{vector_sum}
 use Rattle.gf_vec.specs.Steps.{NoneWide, IsWide, sum_steps, IsFirstWide}
 use Rattle.gf_vec.specs.declared.error.VecOp.TheVariants.{Add}
 use Rattle.gf_vec.specs.declared.error.WideVector.{WideVector}
 
 -- the entries before i are sums, and what is left gives what the whole gives
 pub record Summed (xs ys now : List ℤ) (i : ℕ) : Type 0 where
-  pub items : now ≡ plus (take i xs) (take i ys) ++ drop i xs
-  pub range : AllByRecursion InRange (plus (take i xs) (take i ys))
+  pub items : now ≡ vector_sum (take i xs) (take i ys) ++ drop i xs
+  pub range : AllByRecursion InRange (vector_sum (take i xs) (take i ys))
   pub none : NoneWide (sum_steps (drop i xs) (drop i ys)) → NoneWide (sum_steps xs ys)
   pub first : (e : WideVector) → IsFirstWide e (sum_steps (drop i xs) (drop i ys)) → IsFirstWide e (sum_steps xs ys)
 
-plus-push : (xs ys : List ℤ) (x y : ℤ) → length xs ≡ length ys → plus (xs ++ x ∷ []) (ys ++ y ∷ []) ≡ plus xs ys ++ (x +ℤ y) ∷ []
+plus-push : (xs ys : List ℤ) (x y : ℤ) → length xs ≡ length ys → vector_sum (xs ++ x ∷ []) (ys ++ y ∷ []) ≡ vector_sum xs ys ++ (x +ℤ y) ∷ []
 plus-push [] [] x y e = refl
 plus-push [] (z ∷ ys) x y e = absurd (omega arith)
 plus-push (z ∷ xs) [] x y e = absurd (omega arith)
 plus-push (z ∷ xs) (w ∷ ys) x y e = ap (λ l. (z +ℤ w) ∷ l) (plus-push xs ys x y (omega arith))
 
-length_of : (xs ys : List ℤ) → length xs ≡ length ys → length (plus xs ys) ≡ length xs
+length_of : (xs ys : List ℤ) → length xs ≡ length ys → length (vector_sum xs ys) ≡ length xs
 length_of [] ys e = refl
 length_of (x ∷ xs) [] e = absurd (omega arith)
 length_of (x ∷ xs) (y ∷ ys) e = ap suc (length_of xs ys (omega arith))
@@ -32,7 +32,7 @@ all_push : (xs : List ℤ) (x : ℤ) → AllByRecursion InRange xs → InRange x
 all_push [] x h k = (k, tt)
 all_push (y ∷ xs) x h k = (h.0, all_push xs x h.1 k)
 
-front_len : (xs ys : List ℤ) (i : ℕ) → i < length xs → length xs ≡ length ys → length (plus (take i xs) (take i ys)) ≡ i
+front_len : (xs ys : List ℤ) (i : ℕ) → i < length xs → length xs ≡ length ys → length (vector_sum (take i xs) (take i ys)) ≡ i
 front_len xs ys i h e = length_of (take i xs) (take i ys) (omega (arith, length-take i xs, length-take i ys)) ∙ omega (arith, length-take i xs)
 
 split : (xs ys : List ℤ) (i : ℕ) → i < length xs → length xs ≡ length ys →
@@ -42,15 +42,15 @@ split xs ys i h e = let k : i < length ys = omega arith in rw (drop_more xs i (p
 -- the entry at i is as it was
 pub Summed-entry : (xs ys now : List ℤ) (i : ℕ) → i < length xs → length xs ≡ length ys → Summed xs ys now i → get_or now i (pos 0) ≡ get_or xs i (pos 0)
 Summed-entry xs ys now i h e s =
-    ap (λ l. get_or l i (pos 0)) (s.items ∙ ap (λ l. plus (take i xs) (take i ys) ++ l) (drop_more xs i (pos 0) h))
-    ∙ get_or_at (plus (take i xs) (take i ys)) (get_or xs i (pos 0)) (drop (i + 1) xs) (pos 0) i (front_len xs ys i h e)
+    ap (λ l. get_or l i (pos 0)) (s.items ∙ ap (λ l. vector_sum (take i xs) (take i ys) ++ l) (drop_more xs i (pos 0) h))
+    ∙ get_or_at (vector_sum (take i xs) (take i ys)) (get_or xs i (pos 0)) (drop (i + 1) xs) (pos 0) i (front_len xs ys i h e)
 
 pub Summed-more : (xs ys now next : List ℤ) (i : ℕ) (z : ℤ) → i < length xs → length xs ≡ length ys →
     z ≡ get_or xs i (pos 0) +ℤ get_or ys i (pos 0) → InRange z → next ≡ set now i z → Summed xs ys now i → Summed xs ys next (i + 1)
 Summed-more xs ys now next i z h e ez fz en s =
     let k : i < length ys = omega arith in
-    let front = plus (take i xs) (take i ys) in
-    let more : plus (take (i + 1) xs) (take (i + 1) ys) ≡ front ++ z ∷ [] =
+    let front = vector_sum (take i xs) (take i ys) in
+    let more : vector_sum (take (i + 1) xs) (take (i + 1) ys) ≡ front ++ z ∷ [] =
     rw (take_more xs i (pos 0) h, take_more ys i (pos 0) k, ez) (plus-push (take i xs) (take i ys) _ _ (omega (arith, length-take i xs, length-take i ys))) in
     let fits : InRange (get_or xs i (pos 0) +ℤ get_or ys i (pos 0)) = subst (λ w. InRange w) ez fz in
     record {

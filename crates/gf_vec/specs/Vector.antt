@@ -1,7 +1,7 @@
 -- Whole vectors, as lists of whole numbers: sums, dot products, combinations of rows.
--- `times k xs`, each entry times k, stands in gf_int. Laws: proofs/VectorLaws.antt.
-use Rattle.std.specs.Prelude.{ℕ, List, [], ◌∷◌, ℤ, pos, ◌+ℤ◌, ◌*ℤ◌, replicate, ◌<ℤ◌, ◌⊎◌}
-use Rattle.gf_int.specs.Content.{times}
+-- `times k xs`, each entry times k, stands in gf_int. Laws: proofs/VectorLaws.antt, proofs/DotLaws.antt, proofs/EntryLaws.antt.
+use Rattle.std.specs.Prelude.{ℕ, List, [], ◌∷◌, ℤ, pos, ◌+ℤ◌, ◌*ℤ◌, replicate, ◌<ℤ◌, ◌⊎◌, slice_index_or}
+use Rattle.gf_int.specs.Content.{scaled}
 
 -- the dot product, of the shorter length
 abbrev pub dot : List ℤ → List ℤ → ℤ
@@ -9,11 +9,15 @@ dot [] ys = pos 0
 dot (x ∷ xs) [] = pos 0
 dot (x ∷ xs) (y ∷ ys) = x *ℤ y +ℤ dot xs ys
 
+-- the entry at a place, and 0 past the end
+abbrev pub entry_at : List ℤ → ℕ → ℤ
+entry_at xs j = slice_index_or xs j (pos 0)
+
 -- the sum entry by entry, of the shorter length
-abbrev pub plus : List ℤ → List ℤ → List ℤ
-plus [] ys = []
-plus (x ∷ xs) [] = []
-plus (x ∷ xs) (y ∷ ys) = (x +ℤ y) ∷ plus xs ys
+abbrev pub vector_sum : List ℤ → List ℤ → List ℤ
+vector_sum [] ys = []
+vector_sum (x ∷ xs) [] = []
+vector_sum (x ∷ xs) (y ∷ ys) = (x +ℤ y) ∷ vector_sum xs ys
 
 -- n zeros
 abbrev pub zeros : ℕ → List ℤ
@@ -23,7 +27,7 @@ zeros n = replicate n (pos 0)
 abbrev pub combined : ℕ → List ℤ → List (List ℤ) → List ℤ
 combined n [] rows = zeros n
 combined n (m ∷ ms) [] = zeros n
-combined n (m ∷ ms) (t ∷ ts) = plus (times m t) (combined n ms ts)
+combined n (m ∷ ms) (t ∷ ts) = vector_sum (scaled m t) (combined n ms ts)
 
 -- what each row gives on a vector
 abbrev pub values : List (List ℤ) → List ℤ → List ℤ

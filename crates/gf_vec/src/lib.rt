@@ -12,12 +12,14 @@ mod error;
 mod root_sign;
 mod sum;
 mod vector;
+mod weight;
 
 pub use arithmetic::{difference, product, quotient, total};
 pub use content::divide_by_content;
 pub use dot::dot_slices;
 pub use error::{VecError, VecOp, WideVector};
 pub use vector::IntVec;
+pub use weight::{share, weight_of};
 
 #[cfg(test)]
 mod tests;

@@ -1,8 +1,8 @@
 //! The vector, and the calls that make, read or change one.
 ghost use Rattle.std.specs.Prelude.{◌≡◌, pos, All, IfOk, IfErr, length};
 ghost use Rattle.gf_int.specs.Range.{InRange};
-ghost use Rattle.gf_vec.specs.Vector.{dot, plus};
-ghost use Rattle.gf_int.specs.Content.{times};
+ghost use Rattle.gf_vec.specs.Vector.{dot, vector_sum};
+ghost use Rattle.gf_int.specs.Content.{scaled};
 ghost use Rattle.gf_vec.specs.Steps.{NoneWide, IsFirstWide, IfWide, dot_steps, sum_steps};
 ghost use Rattle.std.specs.Prelude.{negsuc};
 ghost use Rattle.gf_vec.specs.Primitive.{IsPrimitivePart};
@@ -101,7 +101,7 @@ impl IntVec {
     /// The first sum of two entries, from the left, that leaves the range; want of memory.
     pub fn add(&self, other: &IntVec) -> Result<IntVec, VecError>
         requires { length self.now ≡ length other.now }
-        ensures ok { IfOk result (λ v. (v ≡ plus self.now other.now) × NoneWide (sum_steps self.now other.now)) }
+        ensures ok { IfOk result (λ v. (v ≡ vector_sum self.now other.now) × NoneWide (sum_steps self.now other.now)) }
         ensures wide { IfErr result (IfWide (λ e. IsFirstWide e (sum_steps self.now other.now))) }
     {
         let IntVec { mut entries } = self.copy()?;
@@ -111,7 +111,7 @@ impl IntVec {
 
     /// Turns each entry's sign. It takes no memory.
     pub fn negate(&mut self)
-        ensures { self.new ≡ times (negsuc 0) self.old }
+        ensures { self.new ≡ scaled (negsuc 0) self.old }
     {
         negate_all(self.entries.as_mut_slice());
     }

@@ -18,10 +18,10 @@ use Rattle.gf_text.specs.declared.error.TextError.{TextError}
 use Rattle.gf_text.specs.declared.error.TextError.TheVariants as text_errors
 use Rattle.gf_text.specs.declared.written.Written.{Written}
 use Rattle.gf_text.specs.declared.written.Written.TheVariants as written
-use Rattle.gf_text.specs.Tokens.{Position, rest, IsBlank, IsMore}
+use Rattle.gf_text.specs.Tokens.{Position, rest, IsBlank, HasMoreText}
 use Rattle.gf_text.specs.Rings.{IsRingRead, IsRingCause, HasNoRing, HasTooMany}
 use Rattle.gf_text.specs.Sets.{IsSetRead, IsSetCause, AreIn, HasNoSet, HasSumOverflow, HasExponentOverflow}
-use Rattle.gf_text.specs.Vectors.{IsVectorCause, HasNoVector, AreWithin}
+use Rattle.gf_text.specs.Vectors.{IsVectorCause, HasNoVector, AreEntriesWithin}
 use Rattle.gf_ideal.proofs.ListLaws.{contained_each}
 use Rattle.gf_division.proofs.StepLaws.{term_length}
 use Rattle.gf_buchberger.specs.declared.bases.BasisError.{BasisError}
@@ -61,10 +61,10 @@ in_ring n ws fs h e = subst (AreInRing n) (sym e) (record { each = λ f c. conta
 
 -- ---- the order
 
-within_bounded : (w : List ℤ) → AreWithin w → AreBounded w
+within_bounded : (w : List ℤ) → AreEntriesWithin w → AreBounded w
 within_bounded w h = λ k d l. omega (arith, h k d l)
 
-pub countable : (n : ℕ) (weight : Option (List ℤ)) → n < 2 ^ 32 → HasLength n weight → ForSome weight AreWithin → ForSome weight IsCountable
+pub countable : (n : ℕ) (weight : Option (List ℤ)) → n < 2 ^ 32 → HasLength n weight → ForSome weight AreEntriesWithin → ForSome weight IsCountable
 countable n weight l e h = λ w is. record { bounded = within_bounded w (h w is); countable = (let same : length w ≡ n = subst (HasLength n) is e in omega arith) }
 
 pub order_entries : (n : ℕ) (revlex : Bool) (weight : Option (List ℤ)) → HasLength n weight → HasEntries n (order_of revlex weight)
@@ -170,7 +170,7 @@ weight_refused o source ring set p e b h = at o.weighted refl h
     at true w k = vector_refused o source ring set p e b w k
     at false w k = absurd k
 
-pub end_refused : (o : Options) (source : List ℕ) (ring : List (List ℕ)) (set : List Written) (w : Option (List ℤ)) (p q : Position) (s : Syntax) → IsBehindSet source ring set p → IsWeightRead o.weighted p q.at w → q.source ≡ p.source → IsMore q s → IsAnswerRefusal o source (refusals.Syntax s)
+pub end_refused : (o : Options) (source : List ℕ) (ring : List (List ℕ)) (set : List Written) (w : Option (List ℤ)) (p q : Position) (s : Syntax) → IsBehindSet source ring set p → IsWeightRead o.weighted p q.at w → q.source ≡ p.source → HasMoreText q s → IsAnswerRefusal o source (refusals.Syntax s)
 end_refused o source ring set w p q s b h e k = inr (inr (record {
   ring = ring;
   set = set;
@@ -179,7 +179,7 @@ end_refused o source ring set w p q s b h e k = inr (inr (record {
   end = q.at;
   begins = b.begins;
   weight_text = weight_here o.weighted source p q.at w b.source_is h;
-  more = subst (λ (z : Position). IsMore z s) (at_source source q (e ∙ b.source_is)) k;
+  more = subst (λ (z : Position). HasMoreText z s) (at_source source q (e ∙ b.source_is)) k;
 }))
 
 -- ---- the job

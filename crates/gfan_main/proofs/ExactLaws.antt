@@ -10,7 +10,7 @@ use Rattle.gf_text.specs.declared.error.TextError.TheVariants as errors
 use Rattle.gf_text.specs.declared.written.Written.{Written}
 use Rattle.gf_text.specs.declared.written.Written.TheVariants as written
 use Rattle.gf_text.specs.Tokens.{Position}
-use Rattle.gf_text.specs.Combining.{HaveVariables}
+use Rattle.gf_text.specs.Combining.{SumsHaveVariables}
 use Rattle.gf_text.specs.Sets.{AreWritten, IsSetRead, IsMarkedRead, IsMarkedCause}
 use Rattle.gf_text.proofs.CombiningLaws.{sums_variables}
 use Rattle.gf_ideal.proofs.ListLaws.{contained_each}
@@ -49,7 +49,7 @@ not_both ring a r e = cc
 abbrev IsKept : ℕ → Terms → Type 0
 IsKept n f = HasVariables n f × IsDescending f
 
-written_kept : (n : ℕ) (fs : List Terms) (ws : List Written) → HaveVariables n fs → AreWritten fs ws → Each (IsKept n) (polynomials_of ws)
+written_kept : (n : ℕ) (fs : List Terms) (ws : List Written) → SumsHaveVariables n fs → AreWritten fs ws → Each (IsKept n) (polynomials_of ws)
 written_kept n [] [] v a = tt
 written_kept n [] (w ∷ ws) v a = absurd a
 written_kept n (f ∷ fs) [] v a = absurd a

@@ -7,16 +7,16 @@ use Rattle.gf_text.specs.declared.error.TextError.{TextError}
 use Rattle.gf_text.specs.declared.error.TextError.TheVariants as errors
 use Rattle.gf_text.specs.declared.written.Written.{Written}
 use Rattle.gf_text.specs.declared.written.Written.TheVariants as written
-use Rattle.gf_text.specs.Given.{IsRefused}
-use Rattle.gf_text.specs.Tokens.{Position}
+use Rattle.gf_text.specs.Tokens.{Position, lexemes, word_more}
 use Rattle.gf_text.specs.RingText.{IsRing}
-use Rattle.gf_text.specs.SetText.{set_at}
 use Rattle.gf_text.specs.Sets.{IsSetRead, IsSetCause, HasNoSet, AreNonzero, IsFirstZero, IsMarkedRead, IsMarkedCause, HasZeroPolynomial}
-use Rattle.gf_text.specs.VectorText.{vector_at}
-use Rattle.gf_text.specs.Vectors.{IsVectorRead, IsVectorCause}
+use Rattle.gf_text.specs.Vectors.{IsVectorRead, IsVectorCause, HasNoVector}
+use Rattle.gf_text.proofs.SetKindsLaws.{no_set_same}
+use Rattle.gf_text.proofs.VectorTextLaws.{one_vector}
+use Rattle.gf_text.proofs.VectorKindsLaws.{no_vector_same}
 use Rattle.gf_text.proofs.ReadAgainLaws.{read_once, not_refused}
 use Rattle.gfan_main.specs.Answers.{from, IsWeightRead, IsWeightCause}
-use Rattle.gfan_main.proofs.ReadingLaws.{IsSaid, IsExact, exact_said, refused_once, IsReadOnce}
+use Rattle.gfan_main.proofs.ReadingLaws.{IsSaid, IsExact, exact_said, IsReadOnce}
 
 -- ---- sets
 
@@ -34,11 +34,11 @@ no_set ring p (errors.ZeroPolynomial set index) h x = absurd h
 no_set ring p errors.Memory h x = absurd x
 
 no_set_once : (ring : List (List ℕ)) (p : Position) (e d : TextError) → HasNoSet ring p e → IsSetCause ring p d → IsSaid d → d ≡ e
-no_set_once ring p e (errors.Overflow o) h k m = absurd (h.text.none k.said k.place k.text)
-no_set_once ring p e (errors.Exponent o) h k m = absurd (h.text.none k.said k.place k.text)
-no_set_once ring p e (errors.Syntax s) h k m = refused_once (set_at ring p.source p.at) e (errors.Syntax s) h.read k.read
-no_set_once ring p e (errors.TooWide at) h k m = refused_once (set_at ring p.source p.at) e (errors.TooWide at) h.read k.read
-no_set_once ring p e (errors.UnknownName at) h k m = refused_once (set_at ring p.source p.at) e (errors.UnknownName at) h.read k.read
+no_set_once ring p e (errors.Overflow o) h k m = absurd (h.none k.said k.place k.text)
+no_set_once ring p e (errors.Exponent o) h k m = absurd (h.none k.said k.place k.text)
+no_set_once ring p e (errors.Syntax s) h k m = no_set_same ring p e (errors.Syntax s) h k
+no_set_once ring p e (errors.TooWide at) h k m = no_set_same ring p e (errors.TooWide at) h k
+no_set_once ring p e (errors.UnknownName at) h k m = no_set_same ring p e (errors.UnknownName at) h k
 no_set_once ring p e (errors.TooManyVariables count) h k m = absurd k
 no_set_once ring p e (errors.ZeroPolynomial set index) h k m = absurd k
 no_set_once ring p e errors.Memory h k m = absurd (m refl)
@@ -47,18 +47,14 @@ no_set_once ring p e errors.Memory h k m = absurd (m refl)
 
 vector_once : (p : Position) (end other : ℕ) (v w : List ℤ) → IsVectorRead p end v → IsVectorRead p other w → (other ≡ end) × (w ≡ v)
 vector_once p end other v w a b =
-    let one : List ℤ × ℕ = (v, end) in
-    let two : List ℤ × ℕ = (w, other) in
-    let first = a.read in
-    let second = b.read in
-    let pair : two ≡ one = cc in
-    (ap (λ q. q.1) pair, ap (λ q. q.0) pair)
+    let same = one_vector (lexemes word_more p.source p.at) w v other end b a in
+    (same.1, same.0)
 
-vector_refused : (p : Position) (e : TextError) → IsVectorCause p e → IsSaid e → IsRefused e (vector_at p.source p.at)
+vector_refused : (p : Position) (e : TextError) → IsVectorCause p e → IsSaid e → HasNoVector p e
 vector_refused p (errors.Overflow o) h n = absurd h
 vector_refused p (errors.Exponent o) h n = absurd h
-vector_refused p (errors.Syntax s) h n = h.read
-vector_refused p (errors.TooWide at) h n = h.read
+vector_refused p (errors.Syntax s) h n = h
+vector_refused p (errors.TooWide at) h n = h
 vector_refused p (errors.UnknownName at) h n = absurd h
 vector_refused p (errors.TooManyVariables count) h n = absurd h
 vector_refused p (errors.ZeroPolynomial set index) h n = absurd h
@@ -74,11 +70,11 @@ weight_once false p end other (Some v) w a b = absurd a
 
 weight_apart : (weighted : Bool) (p : Position) (end : ℕ) (v : Option (List ℤ)) (e : TextError) → IsWeightRead weighted p end v → IsWeightCause weighted p e → IsSaid e → ⊥
 weight_apart true p end None e a h n = absurd a
-weight_apart true p end (Some v) e a h n = let refused = vector_refused p e h n in let first = refused.1 in let second = a.read in cc
+weight_apart true p end (Some v) e a h n = (vector_refused p e h n).none v end a
 weight_apart false p end v e a h n = absurd h
 
 weight_same : (weighted : Bool) (p : Position) (e d : TextError) → IsWeightCause weighted p e → IsSaid e → IsWeightCause weighted p d → IsSaid d → d ≡ e
-weight_same true p e d h n k m = refused_once (vector_at p.source p.at) e d (vector_refused p e h n) (vector_refused p d k m)
+weight_same true p e d h n k m = no_vector_same p e d (vector_refused p e h n) (vector_refused p d k m)
 weight_same false p e d h n k m = absurd h
 
 -- ---- a set and a weight
@@ -195,7 +191,7 @@ fault_once ring p e (errors.Syntax s) is h k m = no_set_once ring p e (errors.Sy
 fault_once ring p e (errors.TooWide at) is h k m = no_set_once ring p e (errors.TooWide at) h k m
 fault_once ring p e (errors.UnknownName at) is h k m = no_set_once ring p e (errors.UnknownName at) h k m
 fault_once ring p e (errors.TooManyVariables count) is h k m = absurd k
-fault_once ring p e (errors.ZeroPolynomial set index) is h k m = absurd (let first = h.read.1 in let second = k.read.read in let none : ⊥ = cc in none)
+fault_once ring p e (errors.ZeroPolynomial set index) is h k m = absurd (h.none k.read.said k.place k.read.text)
 fault_once ring p e errors.Memory is h k m = absurd (m refl)
 
 marked_same : (ring : List (List ℕ)) (p : Position) (e d : TextError) → IsRing ring → IsMarkedCause ring p e → IsExact e → IsMarkedCause ring p d → IsSaid d → d ≡ e

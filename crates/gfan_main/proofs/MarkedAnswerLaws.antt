@@ -5,7 +5,7 @@ use Rattle.gf_poly.specs.Marking.{MarkedPolynomials}
 use Rattle.gf_text.specs.declared.error.Syntax.{Syntax}
 use Rattle.gf_text.specs.declared.error.TextError.{TextError}
 use Rattle.gf_text.specs.declared.error.TextError.TheVariants as text_errors
-use Rattle.gf_text.specs.Tokens.{Position, rest, IsBlank, IsMore}
+use Rattle.gf_text.specs.Tokens.{Position, rest, IsBlank, HasMoreText}
 use Rattle.gf_text.specs.Rings.{IsRingCause, HasNoRing, HasTooMany}
 use Rattle.gf_text.specs.Sets.{IsSetRead, IsMarkedRead, IsMarkedCause, HasNoSet, HasSumOverflow, HasExponentOverflow, HasZeroPolynomial}
 use Rattle.gf_front.specs.declared.refusal.Refusal.TheVariants as refusals
@@ -50,7 +50,7 @@ marked_set_refused source ring p (text_errors.TooManyVariables count) b h = absu
 marked_set_refused source ring p (text_errors.ZeroPolynomial set index) b h = set_fails source ring p (λ r q. HasZeroPolynomial r q set index) b h
 marked_set_refused source ring p text_errors.Memory b h = tt
 
-pub marked_end_refused : (source : List ℕ) (ring : List (List ℕ)) (set : MarkedPolynomials) (p q : Position) (s : Syntax) → IsBehindRing source ring p → IsMarkedRead ring p q.at set → q.source ≡ p.source → IsMore q s → IsMarkedAnswerRefusal source (refusals.Syntax s)
+pub marked_end_refused : (source : List ℕ) (ring : List (List ℕ)) (set : MarkedPolynomials) (p q : Position) (s : Syntax) → IsBehindRing source ring p → IsMarkedRead ring p q.at set → q.source ≡ p.source → HasMoreText q s → IsMarkedAnswerRefusal source (refusals.Syntax s)
 marked_end_refused source ring set p q s b r e h = inr (record {
   ring = ring;
   set = set;
@@ -58,7 +58,7 @@ marked_end_refused source ring set p q s b r e h = inr (record {
   end = q.at;
   ring_text = b.text;
   set_text = subst (λ (z : Position). IsMarkedRead ring z q.at set) (at_source source p b.source_is) r;
-  more = subst (λ (z : Position). IsMore z s) (at_source source q (e ∙ b.source_is)) h;
+  more = subst (λ (z : Position). HasMoreText z s) (at_source source q (e ∙ b.source_is)) h;
 })
 
 pub check_refused : (source : List ℕ) (ring : List (List ℕ)) (set : MarkedPolynomials) (e : CheckError) → IsMarkedSource source ring set → IsCheckRefusal set.variables set.items e → IsMarkedAnswerRefusal source (of_check e)

@@ -1,17 +1,15 @@
 -- A source that is to be a ring, an item behind it, and white space: reading it ends in one way.
--- To cite: Reading, IsSaid, IsExact, exact_said, refused_once, ring_once, same_place, IsReadOnce, Ends, IsGood, ends_once. The rest are steps.
-use Rattle.std.specs.Prelude.{◌≡◌, ℕ, ◌≤◌, ◌<◌, List, length, Result, Ok, Err}
+-- To cite: Reading, IsSaid, IsExact, exact_said, ring_once, same_place, IsReadOnce, Ends, IsGood, ends_once. The rest are steps.
+use Rattle.std.specs.Prelude.{◌≡◌, ℕ, ◌≤◌, ◌<◌, List, length}
 use Rattle.std.proofs.Common.{arith, refl, sym, ap, ◌∙◌, subst}
 use Rattle.gf_text.specs.declared.error.TextError.{TextError}
 use Rattle.gf_text.specs.declared.error.TextError.TheVariants as errors
 use Rattle.gf_text.specs.declared.error.Syntax.{Syntax}
-use Rattle.gf_text.specs.Machine.{Fault}
-use Rattle.gf_text.specs.Refusing.{refusal}
-use Rattle.gf_text.specs.Given.{IsRefused}
-use Rattle.gf_text.specs.Tokens.{Position, lexemes, word_more, rest, IsBlank, IsMore}
-use Rattle.gf_text.specs.RingText.{IsRing, ring_at}
+use Rattle.gf_text.specs.Tokens.{Position, lexemes, word_more, rest, IsBlank, HasMoreText}
+use Rattle.gf_text.specs.RingText.{IsRing}
 use Rattle.gf_text.specs.Rings.{IsRingCause, HasNoRing, HasTooMany}
 use Rattle.gf_text.proofs.RingTextLaws.{one_ring}
+use Rattle.gf_text.proofs.RingKindsLaws.{no_ring_same}
 use Rattle.gf_front.specs.declared.refusal.Refusal.{Refusal}
 use Rattle.gf_front.specs.declared.refusal.Refusal.TheVariants as refusals
 use Rattle.gfan_main.specs.Answers.{from, BeginsWithRing, of_text}
@@ -37,24 +35,12 @@ IsExact e = IsExactRefusal (of_text e)
 pub exact_said : (e : TextError) → IsExact e → IsSaid e
 exact_said e h = λ p. subst IsExact p h
 
--- what is refused by a fault is refused in one way
-pub refused_once : {Y : Type 0} (read : Result Y Fault) (e d : TextError) → IsRefused e read → IsRefused d read → d ≡ e
-refused_once read e d h k =
-    let first = h.1 in
-    let second = k.1 in
-    let same : k.0 ≡ h.0 = cc in
-    sym k.2 ∙ ap refusal same ∙ h.2
-
 -- ---- rings
 
 pub ring_once : (source : List ℕ) (at end : ℕ) (ring other : List (List ℕ)) → BeginsWithRing source ring at → BeginsWithRing source other end → (end ≡ at) × (other ≡ ring)
 ring_once source at end ring other a b =
-    let one : List (List ℕ) × ℕ = (ring, at) in
-    let two : List (List ℕ) × ℕ = (other, end) in
-    let first = a.read in
-    let second = b.read in
-    let pair : two ≡ one = cc in
-    (ap (λ p. p.1) pair, ap (λ p. p.0) pair)
+    let same = one_ring (lexemes word_more source 0) other ring end at b.text a.text in
+    (same.1, same.0)
 
 -- what holds behind one ring of a source holds behind the other
 pub same_place : (source : List ℕ) (at end : ℕ) (ring other : List (List ℕ)) (P : List (List ℕ) → ℕ → Type 0) → BeginsWithRing source ring at → BeginsWithRing source other end → P other end → P ring at
@@ -70,7 +56,7 @@ too_many source at ring count a h =
 ring_apart : (source : List ℕ) (at : ℕ) (ring : List (List ℕ)) (e : TextError) → BeginsWithRing source ring at → IsRingCause (from source 0) e → IsSaid e → ⊥
 ring_apart source at ring (errors.Overflow o) a h n = h
 ring_apart source at ring (errors.Exponent o) a h n = h
-ring_apart source at ring (errors.Syntax s) a h n = h.text.none ring at a.text
+ring_apart source at ring (errors.Syntax s) a h n = h.none ring at a.text
 ring_apart source at ring (errors.TooWide place) a h n = h
 ring_apart source at ring (errors.UnknownName place) a h n = h
 ring_apart source at ring (errors.TooManyVariables count) a h n = too_many source at ring count a h
@@ -80,17 +66,17 @@ ring_apart source at ring errors.Memory a h n = n refl
 no_ring_once : (source : List ℕ) (s : Syntax) (d : TextError) → HasNoRing (from source 0) (errors.Syntax s) → IsRingCause (from source 0) d → IsSaid d → d ≡ errors.Syntax s
 no_ring_once source s (errors.Overflow o) h k m = absurd k
 no_ring_once source s (errors.Exponent o) h k m = absurd k
-no_ring_once source s (errors.Syntax t) h k m = refused_once (ring_at source 0) (errors.Syntax s) (errors.Syntax t) h.read k.read
+no_ring_once source s (errors.Syntax t) h k m = no_ring_same (from source 0) (errors.Syntax s) (errors.Syntax t) h k
 no_ring_once source s (errors.TooWide place) h k m = absurd k
 no_ring_once source s (errors.UnknownName place) h k m = absurd k
-no_ring_once source s (errors.TooManyVariables count) h k m = absurd (h.text.none k.names k.place k.text)
+no_ring_once source s (errors.TooManyVariables count) h k m = absurd (h.none k.names k.place k.text)
 no_ring_once source s (errors.ZeroPolynomial set index) h k m = absurd k
 no_ring_once source s errors.Memory h k m = absurd (m refl)
 
 too_many_once : (source : List ℕ) (count : ℕ) (d : TextError) → HasTooMany (from source 0) count → IsRingCause (from source 0) d → IsSaid d → d ≡ errors.TooManyVariables count
 too_many_once source count (errors.Overflow o) h k m = absurd k
 too_many_once source count (errors.Exponent o) h k m = absurd k
-too_many_once source count (errors.Syntax t) h k m = absurd (k.text.none h.names h.place h.text)
+too_many_once source count (errors.Syntax t) h k m = absurd (k.none h.names h.place h.text)
 too_many_once source count (errors.TooWide place) h k m = absurd k
 too_many_once source count (errors.UnknownName place) h k m = absurd k
 too_many_once source count (errors.TooManyVariables other) h k m =
@@ -111,10 +97,10 @@ ring_same source errors.Memory d h n k m = absurd (n refl)
 
 -- ---- white space
 
-more_same : (source : List ℕ) (end other : ℕ) (s t : Syntax) → other ≡ end → IsMore (from source end) s → IsMore (from source other) t → t ≡ s
-more_same source end other s t e u v = (subst (λ n. IsMore (from source n) t) e v).1 ∙ sym u.1
+more_same : (source : List ℕ) (end other : ℕ) (s t : Syntax) → other ≡ end → HasMoreText (from source end) s → HasMoreText (from source other) t → t ≡ s
+more_same source end other s t e u v = (subst (λ n. HasMoreText (from source n) t) e v).1 ∙ sym u.1
 
-more_blank : (source : List ℕ) (end other : ℕ) (s : Syntax) → other ≡ end → IsMore (from source end) s → IsBlank (rest (from source other)) → ⊥
+more_blank : (source : List ℕ) (end other : ℕ) (s : Syntax) → other ≡ end → HasMoreText (from source end) s → IsBlank (rest (from source other)) → ⊥
 more_blank source end other s e u b = u.0 (subst (λ n. IsBlank (rest (from source n))) e b)
 
 -- ---- an item behind a ring
@@ -139,7 +125,7 @@ pub record IsReadOnce {A : Type 0} (IsItem : List (List ℕ) → Position → �
 pub data Ends {A : Type 0} (IsItem : List (List ℕ) → Position → ℕ → A → Type 0) (IsItemCause : List (List ℕ) → Position → TextError → Type 0) (source : List ℕ) (x : Reading A) : Type 0 where
   no_ring : (e : TextError) → IsRingCause (from source 0) e → IsSaid e → x ≡ stopped (of_text e) → Ends IsItem IsItemCause source x
   no_item : (ring : List (List ℕ)) (at : ℕ) (e : TextError) → BeginsWithRing source ring at → IsItemCause ring (from source at) e → IsSaid e → x ≡ stopped (of_text e) → Ends IsItem IsItemCause source x
-  more : (ring : List (List ℕ)) (at end : ℕ) (a : A) (s : Syntax) → BeginsWithRing source ring at → IsItem ring (from source at) end a → IsMore (from source end) s → x ≡ stopped (refusals.Syntax s) → Ends IsItem IsItemCause source x
+  more : (ring : List (List ℕ)) (at end : ℕ) (a : A) (s : Syntax) → BeginsWithRing source ring at → IsItem ring (from source at) end a → HasMoreText (from source end) s → x ≡ stopped (refusals.Syntax s) → Ends IsItem IsItemCause source x
   all : (ring : List (List ℕ)) (at end : ℕ) (a : A) → BeginsWithRing source ring at → IsItem ring (from source at) end a → IsBlank (rest (from source end)) → x ≡ whole ring a → Ends IsItem IsItemCause source x
 
 module _ {A : Type 0} (IsItem : List (List ℕ) → Position → ℕ → A → Type 0) (IsItemCause : List (List ℕ) → Position → TextError → Type 0) (laws : IsReadOnce IsItem IsItemCause) (source : List ℕ) where

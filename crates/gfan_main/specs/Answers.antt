@@ -11,7 +11,7 @@ use Rattle.gf_text.specs.declared.error.TextError.TheVariants as text_errors
 use Rattle.gf_text.specs.declared.written.Written.{Written}
 use Rattle.gf_text.specs.declared.written.Written.TheVariants as written
 use Rattle.gf_text.specs.declared.error.Syntax.{Syntax}
-use Rattle.gf_text.specs.Tokens.{Position, rest, IsBlank, IsMore}
+use Rattle.gf_text.specs.Tokens.{Position, rest, IsBlank, HasMoreText}
 use Rattle.gf_text.specs.RingText.{ring_text}
 use Rattle.gf_text.specs.Rings.{IsRingRead, HasNoRing, HasTooMany}
 use Rattle.gf_text.specs.Sets.{IsSetRead, HasNoSet, HasSumOverflow, HasExponentOverflow}
@@ -207,7 +207,7 @@ pub record GoesOn (weighted : Bool) (source : List ℕ) (s : Syntax) : Type 0 wh
   pub end : ℕ
   pub begins : BeginsWithSet source ring set behind
   pub weight_text : IsWeightRead weighted (from source behind) end weight
-  pub more : IsMore (from source end) s
+  pub more : HasMoreText (from source end) s
 
 -- the source is read, and its job is refused in this way
 pub record JobFails (o : Options) (source : List ℕ) (refusal : Refusal) : Type 0 where

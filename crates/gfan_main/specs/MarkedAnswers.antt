@@ -4,7 +4,7 @@ use Rattle.gf_poly.specs.Marking.{MarkedPolynomials}
 use Rattle.gf_gordan.specs.declared.error.ConeOverflow.{ConeOverflow}
 use Rattle.gf_text.specs.declared.error.TextError.TheVariants as text_errors
 use Rattle.gf_text.specs.declared.error.Syntax.{Syntax}
-use Rattle.gf_text.specs.Tokens.{rest, IsBlank, IsMore}
+use Rattle.gf_text.specs.Tokens.{rest, IsBlank, HasMoreText}
 use Rattle.gf_text.specs.Rings.{HasTooMany}
 use Rattle.gf_text.specs.Sets.{IsMarkedRead, HasNoSet, HasSumOverflow, HasExponentOverflow, HasZeroPolynomial}
 use Rattle.gf_front.specs.declared.refusal.Refusal.{Refusal}
@@ -59,7 +59,7 @@ pub record GoesOnBehindMarked (source : List ℕ) (s : Syntax) : Type 0 where
   pub end : ℕ
   pub ring_text : BeginsWithRing source ring at
   pub set_text : IsMarkedRead ring (from source at) end set
-  pub more : IsMore (from source end) s
+  pub more : HasMoreText (from source end) s
 
 -- the marked set of the source isn't tested, for this reason
 pub record CheckFails (source : List ℕ) (e : CheckError) : Type 0 where

@@ -2,7 +2,7 @@
 ghost use Rattle.std.specs.Prelude.{◌≡◌, ◌++◌, ◌∷◌, [], length, IfOk, IfErr, IfSome, OnOk};
 ghost use Rattle.std.specs.Option.{ForSome};
 ghost use Rattle.gf_text.specs.Sets.{AreIn};
-ghost use Rattle.gf_text.specs.Vectors.{AreWithin};
+ghost use Rattle.gf_text.specs.Vectors.{AreEntriesWithin};
 ghost use Rattle.gf_buchberger.specs.Jobs.{AreInRing, HaveOneDegree};
 ghost use Rattle.gfan_main.specs.Answers.{polynomials_of, polynomial_of, IsWeightRead, IsWeightCause, IsRead, order_of, HasLength, IsTermWeight, AreTaken, IsFirstSmall, IsJobRefusal, IsJobAnswer, IsPrinted, IsAnswer, IsAnswerRefusal, of_basis};
 ghost use Rattle.gfan_main.specs.Checks.{IsCountable, IsLengthRefusal, IsDegreeRefusal, IsQuestion};
@@ -52,7 +52,7 @@ fn read_weight(
     weighted: bool,
 ) -> Result<Option<IntVec>, TextError>
     ensures ok { IfOk result (IsWeightRead weighted reader.old reader.new.at) }
-    ensures within { IfOk result (λ weight. ForSome weight AreWithin) }
+    ensures within { IfOk result (λ weight. ForSome weight AreEntriesWithin) }
     ensures err { IfErr result (IsWeightCause weighted reader.old) }
     ensures source { reader.new.source ≡ reader.old.source }
 {
@@ -69,7 +69,7 @@ fn read_weight(
 fn read(alloc: Global, source: &[u8], options: Options) -> Result<Input, Refused>
     ensures ok { IfOk result (λ input. IsRead options.weighted source.now input.ring input.set.items input.weight) }
     ensures variables { IfOk result (λ input. AreIn (length input.ring) input.set.items) }
-    ensures within { IfOk result (λ input. ForSome input.weight AreWithin) }
+    ensures within { IfOk result (λ input. ForSome input.weight AreEntriesWithin) }
     ensures err { IfErr result (λ e. IsAnswerRefusal options source.now e.refusal) }
     ensures told { IfErr result (IsOfSource source.now) }
 {
@@ -167,7 +167,7 @@ fn checked(
     weight: Option<IntVec>,
     options: Options,
 ) -> Result<Question, Refusal>
-    requires { ForSome weight AreWithin }
+    requires { ForSome weight AreEntriesWithin }
     ensures ok { IfOk result (IsQuestion options.revlex n weight (polynomials_of set.now)) }
     ensures err { IfErr result (IsJobRefusal options n (polynomials_of set.now) weight) }
 {
@@ -215,7 +215,7 @@ fn job(
     options: Options,
 ) -> Result<Vec<u8>, Refusal>
     requires variables { AreIn (length ring.now) set.now }
-    requires within { ForSome weight AreWithin }
+    requires within { ForSome weight AreEntriesWithin }
     ensures ok { IfOk result (λ text. IsJobAnswer options.revlex ring.now (polynomials_of set.now) weight text.items) }
     ensures err { IfErr result (IsJobRefusal options (length ring.now) (polynomials_of set.now) weight) }
 {

@@ -1,6 +1,4 @@
 //! Initial forms: the terms of greatest weight.
-//!
-//! An entry within `2^63` times an exponent of 31 bits is within `2^94`, and `ROOM` of these fit 128 bits.
 
 ghost use Rattle.std.specs.Prelude.{◌≡◌, ◌≤◌, ◌<◌, ◌^◌, pos, ◌*ℤ◌, All, IfOk, unsigned_abs, length};
 ghost use Rattle.gf_exponents.specs.Exponents.{whole_weight};
@@ -14,29 +12,14 @@ use gf_vec::IntVec;
 use std::alloc::{AllocError, Global};
 use std::cmp::Ordering;
 
-// An entry of the weight times an exponent.
-fn share(w: i128, exponent: u32) -> i128
-    requires bounded { unsigned_abs w ≤ 2 ^ 63 }
-    requires limit { exponent < 2 ^ 31 }
-    ensures value { result ≡ w *ℤ pos exponent }
-    ensures bound { unsigned_abs result ≤ 2 ^ 94 }
-{
-    w * exponent as i128
-}
-
 // The weight of a monomial.
 fn weight_of(weight: &[i128], mono: &Mono) -> i128
     requires bounded { All (λ w. unsigned_abs w ≤ 2 ^ 63) weight.now }
     requires same_variables { length mono.now ≡ length weight.now }
     ensures value { result ≡ whole_weight weight.now mono.now }
-    ensures bound { unsigned_abs result ≤ 2 ^ 98 }
+    ensures bound { unsigned_abs result ≤ 2 ^ 101 }
 {
-    let exponents = mono.exponents();
-    let mut sum = 0;
-    'entries: for i in 0..exponents.len() {
-        sum += share(weight[i], exponents[i]);
-    }
-    sum
+    gf_vec::weight_of(weight, mono.exponents())
 }
 
 // The terms of greatest weight, in their order.

@@ -4,12 +4,12 @@ use Rattle.gf_frac.specs.Fraction.{Fraction, one_ℚ}
 use Rattle.gf_frac.specs.Equality.{fraction_eq}
 use Rattle.gf_frac.proofs.FractionLaws.{Decides-fraction_eq}
 use Rattle.gf_poly.specs.Polynomial.{coefficient}
-use Rattle.gf_poly.specs.Marking.{MarkedPolynomial, HasMark, IsMarked}
+use Rattle.gf_poly.specs.Marking.{MarkedPolynomial, HasMark, HasMarkedTerm}
 use Rattle.gf_division.specs.MonicForms.{HasSomeVariables}
 use Rattle.gf_division.proofs.StepLaws.{term_coefficient}
 use Rattle.gf_division.proofs.tests.is_one.Goals as goal
 
-one_by_test : (b : MarkedPolynomial) (k l : Fraction) (r : Bool) → HasSomeVariables b → IsMarked b → HasMark b k → l ≡ one_ℚ → r ≡ fraction_eq k l → r ≡ true → coefficient b.poly b.head ≡ one_ℚ
+one_by_test : (b : MarkedPolynomial) (k l : Fraction) (r : Bool) → HasSomeVariables b → HasMarkedTerm b → HasMark b k → l ≡ one_ℚ → r ≡ fraction_eq k l → r ≡ true → coefficient b.poly b.head ≡ one_ℚ
 one_by_test b k l r v m h o e t = term_coefficient v.n b.poly (record { coef = k; mono = b.head }) v.each m.descending h ∙ (Decides-fraction_eq k l).0 (sym e ∙ t) ∙ o
 
 pub returns : goal.returns

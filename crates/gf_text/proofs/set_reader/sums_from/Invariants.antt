@@ -1,6 +1,5 @@
 use Rattle.std.proofs.Common.{◌≡◌, ◌≤◌, ◌-◌, [], List, length}
 use Rattle.gf_text.specs.declared.tree.WrittenTerm.{WrittenTerm}
-use Rattle.gf_text.specs.Matching.{IsMatcher}
 use Rattle.gf_text.specs.Sets.{HasSums}
 use Rattle.gf_text.proofs.SetGrowsLaws.{Reading}
 use Rattle.gf_text.proofs.set_reader.sums_from.Given as goal
@@ -8,7 +7,6 @@ use Rattle.gf_text.proofs.set_reader.sums_from.Given as goal
 abbrev pub invariant-loop-start : goal.invariant-loop-start
 invariant-loop-start l = record {
   within : l.at ≤ length l.source;
-  matcher : IsMatcher l.source l.ring l.matcher;
   said : List (List WrittenTerm);
   none : l.part.polynomials ≡ [];
   reading : Reading l.ring l.source l.from l.at (l.place, l.part) said;

@@ -1,4 +1,4 @@
-use Rattle.std.proofs.Common.{◌≡◌, length, sym, subst}
+use Rattle.std.proofs.Common.{length, sym, subst}
 use Rattle.gf_text.specs.Sets.{IsIn}
 use Rattle.gf_text.proofs.SetsLaws.{in_at}
 use Rattle.gf_text.proofs.set_tests.push_all.Goals as goal

@@ -1,4 +1,4 @@
-use Rattle.std.proofs.Common.{◌∙◌, sym, ap, length, Ok}
+use Rattle.std.proofs.Common.{◌∙◌, sym, ap, length, Ok, arith}
 use Rattle.gf_text.specs.Tokens.{lexeme}
 use Rattle.gf_text.specs.VectorText.{vector_step, vector_at}
 use Rattle.gf_text.specs.GivenVector.{vector_move}
@@ -38,6 +38,7 @@ loop-start-preserved c =
     let move = sym c.in_ok-next.ensures ∙ ap (λ m. vector_move m c.step.new.entries.items) c.in-Go.is in
     record {
       within = c.in-Some.ensures.within.2;
+      forward = (let before = c.loop-start.invariant.forward in let next = c.in-Some.ensures.within.0 in let rises = c.in-Some.ensures.within.1 in omega arith);
       same = sym (run_go vector_step (c.loop-start.place, c.loop-start.entries.items) (c.in-Go.next, c.step.new.entries.items) (length source) _ (lexeme source c.in-Some.start c.in-Some.end) _ c.in-Some.ensures.token move)
           ∙ c.loop-start.invariant.same;
     }

@@ -7,6 +7,7 @@ use Rattle.gf_text.proofs.vector_reader.entries_from.Given as goal
 abbrev pub invariant-loop-start : goal.invariant-loop-start
 invariant-loop-start l = record {
   within : l.at ≤ length l.source;
+  forward : l.from ≤ l.at;
   same : run vector_step (l.place, l.entries.items) (length l.source) (lexemes word_more l.source l.at) ≡ vector_at l.source l.from;
 }
 

@@ -2,7 +2,7 @@ use Rattle.std.proofs.Common.{rules, pos, get_or, FitsSigned}
 use Rattle.std.specs.Int.{w128}
 use Rattle.std.proofs.lemmas.Int.{to_z-of_z}
 use Rattle.std.proofs.lemmas.Result.{err_from_is_err_and}
-use Rattle.gf_vec.proofs.DotLaws.{Kept-more, Kept-mul, Kept-add}
+use Rattle.gf_vec.proofs.DotSteps.{Kept-more, Kept-mul, Kept-add}
 use Rattle.gf_vec.proofs.dot.dot_slices.Goals as goal
 
 pub loop-i-preserved : goal.loop-i-preserved

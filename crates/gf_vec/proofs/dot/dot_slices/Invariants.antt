@@ -1,4 +1,4 @@
-use Rattle.gf_vec.proofs.DotLaws.{Kept}
+use Rattle.gf_vec.proofs.DotSteps.{Kept}
 use Rattle.gf_vec.proofs.dot.dot_slices.Given as goal
 
 abbrev pub invariant-loop-i : goal.invariant-loop-i

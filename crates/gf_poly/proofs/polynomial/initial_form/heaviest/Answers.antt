@@ -26,7 +26,7 @@ terms-preserved c =
           (by_equal own old c.cmp.result c.cmp.ensures w.in-Equal.is) w.greatest-is
           (ap (λ v. v.items) w.out-is ∙ w.in_ok-push-in-Equal.ensures.items) c.terms.invariant
       | in-Less w ↦
-          lighter_at _ _ _ _ _ c.index-terms-i.result old own (to_z w128 c.match-cmp.greatest-bits) c.terms-test.true c.index-terms-i.is e (subst (λ (k : ℤ). unsigned_abs k ≤ 2 ^ 98) (sym (to_z-of_z w128 c.weight_of-own.result fits)) c.weight_of-own.ensures.bound)
+          lighter_at _ _ _ _ _ c.index-terms-i.result old own (to_z w128 c.match-cmp.greatest-bits) c.terms-test.true c.index-terms-i.is e (subst (λ (k : ℤ). unsigned_abs k ≤ 2 ^ 101) (sym (to_z-of_z w128 c.weight_of-own.result fits)) c.weight_of-own.ensures.bound)
           (by_less own old c.cmp.result c.cmp.ensures w.in-Less.is) w.greatest-is (ap (λ v. v.items) w.out-is) c.terms.invariant
     ]
 

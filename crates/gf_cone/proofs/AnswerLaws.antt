@@ -1,0 +1,280 @@
+-- Answers about a normal: multipliers of its system are a combination, and what an answer tells of the cone.
+-- To cite: canonical_of, combination_of_farkas, others-append, flip_told, facet_told, crossable_flippable, cone_of, kept_of, kept_wide, positive_for,
+-- answer_for, IfOk-weaker.
+use Rattle.std.specs.Prelude.{◌≡◌, ◌⊎◌, ℕ, zero, suc, ◌<◌, ◌≤◌, ◌↔◌, Result, Ok, Err, IfOk, take, drop, List, [], ◌∷◌, ◌++◌, length, get_or, Contains, All, ℤ, pos, neg_ℤ, ◌+ℤ◌, ◌*ℤ◌, ◌<ℤ◌, ◌≤ℤ◌}
+use Rattle.std.specs.List.{AllByRecursion}
+use Rattle.std.proofs.Common.{arith, refl, sym, ap, ap₂, ◌∙◌, subst, inl, inr, append_assoc}
+use Rattle.std.proofs.lemmas.Int.{ints}
+use Rattle.std.proofs.Common.{length-append}
+use Rattle.std.proofs.lemmas.List.{get_or_default, take-append-drop}
+use Rattle.std.proofs.Math.Seq.{take-append_seam, drop-append_seam}
+use Rattle.std.proofs.Math.ListN.{get_or-append}
+use Rattle.std.proofs.lemmas.List.Elements.{All-nil, All-cons, All-contains, recursion_from_All, Contains-append_left, Contains-append_right, Contains-append_cases}
+use Rattle.gf_int.specs.Content.{scaled}
+use Rattle.gf_int.proofs.RingLaws.{dv, dneg, ◌⊗◌, same as same_number}
+use Rattle.gf_int.proofs.SignLaws.{<0-cancel}
+use Rattle.gf_vec.specs.Vector.{dot, vector_sum, zeros, combined, values}
+use Rattle.gf_vec.proofs.VectorLaws.{dot-plus, dot-times, dot-zeros, dot-combined, dot-positive, length-times, length-combined}
+use Rattle.gf_gordan.specs.Alternative.{AreRows, IsSolution, IsFarkas}
+use Rattle.gf_poly.specs.Marking.{MarkedPolynomial, Each, HaveVariables, HasMarkedTerm}
+use Rattle.gf_poly.specs.Polynomial.{HasVariables}
+use Rattle.gf_poly.proofs.CoefficientLaws.{term_length}
+use Rattle.gf_ideal.specs.Bases.{IsCanonical}
+use Rattle.gf_ideal.proofs.ListLaws.{Contains-here, contained_each}
+use Rattle.gf_facets.specs.Rows.{IsNormal}
+use Rattle.gf_facets.specs.Systems.{units}
+use Rattle.gf_facets.specs.Normals.{AreNormals, others_of, flip_rows}
+use Rattle.gf_facets.specs.Combinations.{IsCombination, IsRedundant}
+use Rattle.gf_facets.specs.Regions.{Region, IsInRegion, all_positive}
+use Rattle.gf_facets.specs.Facets.{IsInsideFacet, IsFacet, IsFlippable}
+use Rattle.gf_facets.specs.MarkedBases.{AreCanonical}
+use Rattle.gf_facets.proofs.VectorLaws.{plus-zeros}
+use Rattle.gf_facets.proofs.NormalListLaws.{others_only}
+use Rattle.gf_facets.proofs.NormalLaws.{normal-length}
+use Rattle.gf_facets.proofs.UnitLaws.{units_wide, units_on_positive, positive_by_units}
+use Rattle.gf_facets.proofs.SystemLaws.{contained_all}
+use Rattle.gf_facets.proofs.FacetSystems.{IsFacetSystem, facet_system, flip_system, point_of_solution, solution_of_point, not_redundant}
+use Rattle.gf_cone.specs.Small.{IsSmall}
+use Rattle.gf_cone.specs.Keeping.{AreVectorsKept}
+use Rattle.gf_cone.proofs.SmallLaws.{units_small}
+use Rattle.gf_cone.specs.Cones.{ConeRows, all_rows, normal_at, other_rows, IsConeOf, HasInterior}
+use Rattle.gf_cone.specs.Crossing.{IsCrossable}
+use Rattle.gf_cone.specs.Answers.{AnswersSystem, AnswersFlip, AnswersFacet, TellsFlip, TellsFacet, IsFlipTold, IsFacetTold}
+use Rattle.gf_cone.specs.declared.answer.FacetAnswer.{FacetAnswer}
+use Rattle.gf_cone.specs.declared.answer.FacetAnswer.TheVariants.{Facet, Redundant}
+use Rattle.gf_cone.specs.declared.answer.FlipAnswer.{FlipAnswer}
+use Rattle.gf_cone.specs.declared.answer.FlipAnswer.TheVariants.{Yes, No}
+
+-- ---- marked lists of a program
+
+pub canonical_of : (n : ℕ) (bs : List MarkedPolynomial) → HaveVariables n bs → Each HasMarkedTerm bs → AreCanonical n bs
+canonical_of n bs v m b c = at (contained_each (λ (b : MarkedPolynomial). HasVariables n b.poly) bs v b c) (contained_each HasMarkedTerm bs m b c)
+  where
+    at : HasVariables n b.poly → HasMarkedTerm b → IsCanonical n b
+    at w t = record { variables = w; descending = t.descending; head = term_length n b.poly (record { coef = t.mark; mono = b.head }) w t.term }
+
+-- ---- multipliers are a combination
+
+-- s and e times a cancel
+balanced : (n : ℕ) (e : ℤ) (s a : List ℤ) → length s ≡ n → length a ≡ n → vector_sum s (scaled e a) ≡ zeros n → scaled (neg_ℤ e) a ≡ s
+balanced zero e [] [] l m h = refl
+balanced zero e [] (y ∷ a) l m h = absurd (omega (arith, m))
+balanced zero e (x ∷ s) a l m h = absurd (omega (arith, l))
+balanced (suc n) e [] a l m h = absurd (omega (arith, l))
+balanced (suc n) e (x ∷ s) [] l m h = absurd (omega (arith, m))
+balanced (suc n) e (x ∷ s) (y ∷ a) l m h =
+    let f : x +ℤ e *ℤ y ≡ pos 0 = cc in
+    let g : vector_sum s (scaled e a) ≡ zeros n = cc in
+    ap₂ ◌∷◌ (entry f) (balanced n e s a (omega (arith, l)) (omega (arith, m)) g)
+  where
+    entry : x +ℤ e *ℤ y ≡ pos 0 → neg_ℤ e *ℤ y ≡ x
+    entry f = let d : neg_ℤ e *ℤ y ≡ neg_ℤ (e *ℤ y) = same_number (dneg (dv e) ⊗ dv y) (dneg (dv e ⊗ dv y)) (omega arith) in omega (arith, ints, d, f)
+
+-- a vector on which the rows and a are positive
+abbrev pub IsPositiveOn : List (List ℤ) → List ℤ → Type 0
+IsPositiveOn rows a = (w : List ℤ) × All (λ t. pos 0 <ℤ dot t w) rows × (pos 0 <ℤ dot a w)
+
+-- where there is one, Farkas multipliers are a combination: minus the multiplier of a is how often a is taken
+pub combination_of_farkas : (n : ℕ) (rows : List (List ℤ)) (a ms es : List ℤ) (e : ℤ) → AreRows n rows → length a ≡ n → IsPositiveOn rows a →
+    es ≡ e ∷ [] → IsFarkas n rows (a ∷ []) ms es → IsCombination n rows a (neg_ℤ e) ms
+combination_of_farkas n rows a ms es e wide l p q f = record { positive = omega (arith, ints, below); count = f.rows_len; not_negative = f.not_negative; sum = balanced n e (combined n ms rows) a long l zero_sum }
+  where
+    widths : AllByRecursion (λ t. length t ≡ n) rows
+    widths = recursion_from_All (λ t. length t ≡ n) rows wide
+
+    long : length (combined n ms rows) ≡ n
+    long = length-combined n ms rows widths
+
+    zero_sum : vector_sum (combined n ms rows) (scaled e a) ≡ zeros n
+    zero_sum =
+        ap (vector_sum (combined n ms rows)) (sym (plus-zeros (scaled e a) n (length-times e a ∙ l)))
+        ∙ ap (λ (z : List ℤ). vector_sum (combined n ms rows) (combined n z (a ∷ []))) (sym q) ∙ f.zero_sum
+
+    value : dot (combined n ms rows) p.0 +ℤ e *ℤ dot a p.0 ≡ pos 0
+    value = ap (λ z. dot (combined n ms rows) p.0 +ℤ z) (sym (dot-times e a p.0)) ∙ sym (dot-plus (combined n ms rows) (scaled e a) p.0 (long ∙ sym (length-times e a ∙ l))) ∙ ap (λ (z : List ℤ). dot z p.0) zero_sum ∙ dot-zeros n p.0
+
+    above : pos 0 <ℤ dot (combined n ms rows) p.0
+    above =
+        let d : dot (combined n ms rows) p.0 ≡ dot ms (values rows p.0) = dot-combined n ms rows p.0 widths in
+        let h : pos 0 <ℤ dot ms (values rows p.0) = dot-positive ms rows p.0 f.rows_len (recursion_from_All (λ m. pos 0 ≤ℤ m) ms f.not_negative) f.not_all_zero (recursion_from_All (λ t. pos 0 <ℤ dot t p.0) rows p.1) in
+        omega (arith, ints, d, h)
+
+    below : e <ℤ pos 0
+    below =
+        let c : dot a p.0 *ℤ e ≡ e *ℤ dot a p.0 = same_number (dv (dot a p.0) ⊗ dv e) (dv e ⊗ dv (dot a p.0)) (omega arith) in
+        <0-cancel (dot a p.0) e p.2 (omega (arith, ints, c, value, above))
+
+-- ---- the others of one
+
+pub others-append : (i : ℕ) (ns beside : List (List ℤ)) → i < length ns → others_of i (ns ++ beside) ≡ others_of i ns ++ beside
+others-append i [] beside l = absurd (omega arith)
+others-append zero (x ∷ ns) beside l = refl
+others-append (suc i) (x ∷ ns) beside l = ap (λ (z : List (List ℤ)). x ∷ z) (others-append i ns beside (omega arith))
+
+others_inside : (vs : List (List ℤ)) (i : ℕ) (t : List ℤ) → Contains (others_of i vs) t → Contains vs t
+others_inside [] zero t c = c
+others_inside [] (suc i) t c = c
+others_inside (x ∷ vs) zero t c = let k = c in (suc k.0, omega (arith, k.1), k.2)
+others_inside (x ∷ vs) (suc i) t (zero, l, e) = (zero, omega arith, e)
+others_inside (x ∷ vs) (suc i) t (suc j, l, e) = let k = others_inside vs i t (j, omega (arith, l), e) in (suc k.0, omega (arith, k.1), k.2)
+
+-- what holds of all vectors holds of the others, and of the one
+pub others_all_of : (P : List ℤ → Type 0) (vs : List (List ℤ)) (i : ℕ) → All P vs → All P (others_of i vs)
+others_all_of P vs i h = contained_all P (others_of i vs) (λ t c. All-contains P vs t h (others_inside vs i t c))
+
+-- a vector of the interior is positive on the others and on the normal
+pub interior_of_others : (c : ConeRows) (i : ℕ) → i < length c.normals → HasInterior c → IsPositiveOn (other_rows c i) (normal_at c i)
+interior_of_others c i l h = (
+  h.0,
+  subst (All (λ t. pos 0 <ℤ dot t h.0)) (others-append i c.normals c.beside l) (others_all_of (λ t. pos 0 <ℤ dot t h.0) (all_rows c) i h.1.positive),
+  All-contains (λ t. pos 0 <ℤ dot t h.0) (all_rows c) (normal_at c i) h.1.positive (Contains-append_left c.normals c.beside (normal_at c i) (i, l, get_or_default c.normals i _ [] l)),
+)
+
+pub interior_of_normals : (c : ConeRows) (i : ℕ) → i < length c.normals → HasInterior c → IsPositiveOn (others_of i c.normals) (normal_at c i)
+interior_of_normals c i l h =
+    let p = interior_of_others c i l h in
+    (p.0, contained_all (λ t. pos 0 <ℤ dot t p.0) (others_of i c.normals) (λ t k. All-contains (λ t. pos 0 <ℤ dot t p.0) (other_rows c i) t p.1 (Contains-append_left (others_of i c.normals) c.beside t k)), p.2)
+
+-- ---- what an answer tells
+
+module _ (n : ℕ) (k : Region) (bs : List MarkedPolynomial) (c : ConeRows) (i : ℕ) (l : i < length c.normals) (is : IsConeOf n k bs c) where
+  rows_are : other_rows c i ≡ flip_rows n k c.normals i
+  rows_are = ap (λ (z : List (List ℤ)). others_of i c.normals ++ z) is.beside ∙ sym (append_assoc (others_of i c.normals) k.rows (units n n))
+
+  there : IsNormal bs (normal_at c i)
+  there = is.normals.only (normal_at c i) (i, l, get_or_default c.normals i _ [] l)
+
+  system : IsFacetSystem bs (normal_at c i) (k.rows ++ units n n) (other_rows c i)
+  system = subst (IsFacetSystem bs (normal_at c i) (k.rows ++ units n n)) (sym rows_are) (flip_system n k bs c.normals i is.normals l)
+
+  -- a solution is a vector of the region inside the facet
+  pub flip_of_solution : (w : List ℤ) → IsSolution c.variables (other_rows c i) (normal_at c i ∷ []) w → IsInRegion n k w × IsInsideFacet bs (normal_at c i) w
+  flip_of_solution w s = at (point_of_solution n bs (normal_at c i) w (k.rows ++ units n n) (other_rows c i) system there solution)
+    where
+      solution : IsSolution n (other_rows c i) (normal_at c i ∷ []) w
+      solution = subst (λ (m : ℕ). IsSolution m (other_rows c i) (normal_at c i ∷ []) w) is.variables s
+
+      at : IsInsideFacet bs (normal_at c i) w × All (λ t. pos 0 <ℤ dot t w) (k.rows ++ units n n) → IsInRegion n k w × IsInsideFacet bs (normal_at c i) w
+      at p = (
+        record {
+          width = solution.width;
+          positive = positive_by_units n w solution.width (λ t d. All-contains (λ t. pos 0 <ℤ dot t w) (k.rows ++ units n n) t p.1 (Contains-append_right k.rows (units n n) t d));
+          rows = contained_all (λ t. pos 0 <ℤ dot t w) k.rows (λ t d. All-contains (λ t. pos 0 <ℤ dot t w) (k.rows ++ units n n) t p.1 (Contains-append_left k.rows (units n n) t d));
+        },
+        p.0,
+      )
+
+  -- and the other way
+  pub solution_of_flip : (f : IsFlippable n k bs (normal_at c i)) → IsSolution n (other_rows c i) (normal_at c i ∷ []) f.point
+  solution_of_flip f = solution_of_point n bs (normal_at c i) f.point (k.rows ++ units n n) (other_rows c i) system f.region.width f.inside
+      (contained_all (λ t. pos 0 <ℤ dot t f.point) (k.rows ++ units n n) (λ t d. elim (Contains-append_cases k.rows (units n n) t d) [
+        | inl e ↦ All-contains (λ t. pos 0 <ℤ dot t f.point) k.rows t f.region.rows e
+        | inr e ↦ units_on_positive n f.point f.region.width f.region.positive t e
+      ]))
+
+  -- a flip may cross the facet exactly where the system has a solution
+  pub crossable_flippable : IsCrossable c i ↔ IsFlippable n k bs (normal_at c i)
+  crossable_flippable = (
+    λ s. (let p = flip_of_solution s.0 s.1 in record { point = s.0; region = p.0; inside = p.1 }),
+    λ f. (f.point, subst (λ (m : ℕ). IsSolution m (other_rows c i) (normal_at c i ∷ []) f.point) (sym is.variables) (solution_of_flip f)),
+  )
+
+  module _ (wide : AreRows c.variables (all_rows c)) where
+    others_wide : AreRows n (other_rows c i)
+    others_wide = subst (λ (m : ℕ). AreRows m (other_rows c i)) is.variables (subst (AreRows c.variables) (others-append i c.normals c.beside l) (others_all_of (λ t. length t ≡ c.variables) (all_rows c) i wide))
+
+    pub flip_tells : HasInterior c → (answer : FlipAnswer) → AnswersFlip c i answer → TellsFlip n k bs (normal_at c i) answer
+    flip_tells h (Yes w) s = flip_of_solution w s
+    flip_tells h (No scaled ms) s = λ f.
+        let p = interior_of_others c i l h in
+        not_redundant n (normal_at c i) f.point p.0 (other_rows c i) others_wide p.2 (solution_of_flip f) (scaled, ms, subst (λ (m : ℕ). IsCombination m (other_rows c i) (normal_at c i) scaled ms) is.variables s)
+
+    normals_wide : AreRows n (others_of i c.normals)
+    normals_wide = contained_all (λ t. length t ≡ n) (others_of i c.normals) (λ t d. All-contains (λ t. length t ≡ n) (other_rows c i) t others_wide (Contains-append_left (others_of i c.normals) c.beside t d))
+
+    pub facet_tells : HasInterior c → (answer : FacetAnswer) → AnswersFacet c i answer → TellsFacet n bs (normal_at c i) answer
+    facet_tells h (Facet w) s =
+        let t = subst (λ (m : ℕ). IsSolution m (others_of i c.normals) (normal_at c i ∷ []) w) is.variables s in
+        (t.width, (point_of_solution n bs (normal_at c i) w [] (others_of i c.normals) (facet_system bs c.normals i is.normals l) there t).0)
+    facet_tells h (Redundant scaled ms) s = λ f.
+        let p = interior_of_normals c i l h in
+        not_redundant n (normal_at c i) f.point p.0 (others_of i c.normals) normals_wide p.2 (solution_of_point n bs (normal_at c i) f.point [] (others_of i c.normals) (facet_system bs c.normals i is.normals l) f.width f.inside (All-nil (λ t. pos 0 <ℤ dot t f.point)))
+        (scaled, ms, subst (λ (m : ℕ). IsCombination m (others_of i c.normals) (normal_at c i) scaled ms) is.variables s)
+
+pub flip_told : (c : ConeRows) (i : ℕ) → i < length c.normals → AreRows c.variables (all_rows c) → HasInterior c → (answer : FlipAnswer) → AnswersFlip c i answer → IsFlipTold c i answer
+flip_told c i l wide h answer s n k bs is = flip_tells n k bs c i l is wide h answer s
+
+pub facet_told : (c : ConeRows) (i : ℕ) → i < length c.normals → AreRows c.variables (all_rows c) → HasInterior c → (answer : FacetAnswer) → AnswersFacet c i answer → IsFacetTold c i answer
+facet_told c i l wide h answer s n k bs is = facet_tells n k bs c i l is wide h answer s
+
+-- ---- as a program asks
+
+-- the cone that is made of a marked list
+pub cone_of : (n m p : ℕ) (bs : List MarkedPolynomial) (ns vs : List (List ℤ)) → m ≡ n → p ≡ length ns → vs ≡ ns ++ units m m → AreCanonical n bs → AreNormals bs ns →
+    IsConeOf n (all_positive n) bs (record { variables = m; normals = take p vs; beside = drop p vs })
+cone_of n m p bs ns vs e f g k a = record {
+  variables = e;
+  canonical = k;
+  normals = subst (AreNormals bs) (sym front) a;
+  beside = back ∙ ap (λ (j : ℕ). units j j) e;
+}
+  where
+    front : take p vs ≡ ns
+    front = ap (λ (j : ℕ). take j vs) f ∙ ap (take (length ns)) g ∙ take-append_seam ns (units m m)
+
+    back : drop p vs ≡ units m m
+    back = ap (λ (j : ℕ). drop j vs) f ∙ ap (drop (length ns)) g ∙ drop-append_seam ns (units m m)
+
+pub kept_of : (n m p : ℕ) (bs : List MarkedPolynomial) (ns vs : List (List ℤ)) → m ≡ n → p ≡ length ns → vs ≡ ns ++ units m m → AreCanonical n bs → AreNormals bs ns → All IsSmall ns →
+    AreVectorsKept m vs p
+kept_of n m p bs ns vs e f g k a s = record {
+  inside = subst (λ (z : List (List ℤ)). p ≤ length z) (sym g) (omega (arith, f, length-append ns (units m m)));
+  widths = subst (AreRows m) (sym g) (contained_all (λ t. length t ≡ m) (ns ++ units m m) (λ t c. elim (Contains-append_cases ns (units m m) t c) [
+    | inl h ↦ normal-length n bs t k (a.only t h) ∙ sym e
+    | inr h ↦ units_wide m m t h
+  ]));
+  small = subst (All IsSmall) (sym g) (contained_all IsSmall (ns ++ units m m) (λ t c. elim (Contains-append_cases ns (units m m) t c) [
+    | inl h ↦ All-contains IsSmall ns t s h
+    | inr h ↦ All-contains IsSmall (units m m) t (units_small m m) h
+  ]));
+  units = λ t c. subst (λ (z : List (List ℤ)). Contains z t) (sym (ap (λ (j : ℕ). drop j vs) f ∙ ap (drop (length ns)) g ∙ drop-append_seam ns (units m m))) c;
+}
+
+-- with the unit vectors beside
+pub kept_units : (c : ConeRows) (m p : ℕ) (vs : List (List ℤ)) → c ≡ record { variables = m; normals = take p vs; beside = drop p vs } → AreVectorsKept m vs p →
+    (t : List ℤ) → Contains (units c.variables c.variables) t → Contains c.beside t
+kept_units c m p vs e k =
+    let P : ConeRows → Type 0 = λ z. (t : List ℤ) → Contains (units z.variables z.variables) t → Contains z.beside t in
+    subst P (sym e) k.units
+
+-- what is kept is all rows
+pub kept_wide : (c : ConeRows) (m p : ℕ) (vs : List (List ℤ)) → c ≡ record { variables = m; normals = take p vs; beside = drop p vs } → AreVectorsKept m vs p →
+    AreRows c.variables (all_rows c)
+kept_wide c m p vs e k =
+    let P : ConeRows → Type 0 = λ z. AreRows z.variables (all_rows z) in
+    subst P (sym e) (subst (AreRows m) (sym (take-append-drop p vs)) k.widths)
+
+pub positive_for : (rows given : List (List ℤ)) (a b : List ℤ) → given ≡ rows → b ≡ a → IsPositiveOn rows a → IsPositiveOn given b
+positive_for rows given a b e f h = subst (λ (z : List (List ℤ)). IsPositiveOn z b) (sym e) (subst (IsPositiveOn rows) (sym f) h)
+
+pub answer_for : (n m : ℕ) (rows given : List (List ℤ)) (a b : List ℤ) (answer : FlipAnswer) → m ≡ n → given ≡ rows → b ≡ a → AnswersSystem m given b answer → AnswersSystem n rows a answer
+answer_for n m rows given a b answer q e f h =
+    subst (λ (j : ℕ). AnswersSystem j rows a answer) q (subst (λ (z : List (List ℤ)). AnswersSystem m z a answer) e (subst (λ (z : List ℤ). AnswersSystem m given z answer) f h))
+
+-- what follows of each value
+pub IfOk-weaker : {A E : Type 0} (P Q : A → Type 0) (r : Result A E) → ((x : A) → P x → Q x) → IfOk r P → IfOk r Q
+IfOk-weaker P Q (Ok x) w h = w x h
+IfOk-weaker P Q (Err e) w h = tt
+
+-- the one multiplier of the equation
+pub one_equation : (es entries : List ℤ) → length es ≡ 1 → entries ≡ es → es ≡ get_or entries 0 (pos 0) ∷ []
+one_equation [] entries l e = absurd (omega (arith, l))
+one_equation (x ∷ []) entries l e = subst (λ (z : List ℤ). (x ∷ []) ≡ get_or z 0 (pos 0) ∷ []) (sym e) refl
+one_equation (x ∷ (y ∷ es)) entries l e = absurd (omega (arith, l))
+
+-- the normal that is read at its place
+pub normal_read : (ns given : List (List ℤ)) (i : ℕ) (a : List ℤ) → i < length ns → given ≡ ns → a ≡ get_or given i a → a ≡ get_or ns i []
+normal_read ns given i a l e f = f ∙ ap (λ (z : List (List ℤ)). get_or z i a) e ∙ get_or_default ns i a [] l
+
+pub row_read : (c : ConeRows) (given : List (List ℤ)) (i : ℕ) (a : List ℤ) → i < length c.normals → given ≡ all_rows c → a ≡ get_or given i a → a ≡ normal_at c i
+row_read c given i a l e f = f ∙ ap (λ (z : List (List ℤ)). get_or z i a) e ∙ get_or-append c.normals c.beside a i l ∙ get_or_default c.normals i a [] l

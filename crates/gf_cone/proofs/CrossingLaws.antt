@@ -1,0 +1,224 @@
+-- Which normals a flip may cross, shown or refuted without the system; the least of those that lead up.
+-- To cite: solution_of_shown, not_crossable_sum, not_crossable_above, sum_by_entries, step_before, step_at, first_steps.
+use Rattle.std.specs.Prelude.{◌≡◌, ◌⊎◌, ℕ, zero, suc, ◌+◌, ◌<◌, ◌≤◌, List, [], ◌∷◌, ◌++◌, length, get_or, Contains, All, ℤ, pos, ◌+ℤ◌, ◌*ℤ◌, ◌<ℤ◌, ◌≤ℤ◌}
+use Rattle.std.proofs.Common.{arith, refl, sym, ap, ◌∙◌, subst, inl, inr}
+use Rattle.std.proofs.lemmas.Int.{ints}
+use Rattle.std.proofs.Common.{eqb, true, false}
+use Rattle.std.specs.Prelude.{◌↔◌, Bool, IsTrue}
+use Rattle.std.specs.declared.cmp.Ordering.{Ordering}
+use Rattle.std.specs.declared.cmp.Ordering.TheVariants.{Less}
+use Rattle.std.proofs.lemmas.Bool.{cases_lt, eq-eqb, ne_eqb, false≢true}
+use Rattle.gf_vec.specs.RootSign.{root_sign}
+use Rattle.gf_facets.specs.LexPositive.{IsNegative}
+use Rattle.gf_facets.specs.Regions.{all_positive}
+use Rattle.gf_facets.proofs.RootSignLaws.{negative_sign, sign_negative}
+use Rattle.std.proofs.lemmas.List.{get_or_default, get_or_push}
+use Rattle.std.proofs.Math.ListN.{get_or-append}
+use Rattle.std.proofs.lemmas.List.Elements.{All-cons, All-nil, All-contains, Contains-append_left, Contains-append_right}
+use Rattle.gf_int.proofs.SignLaws.{0≤-*ℤ, 0<-*ℤ}
+use Rattle.gf_vec.specs.Vector.{dot, vector_sum, entry_at}
+use Rattle.gf_vec.proofs.VectorLaws.{dot-plus}
+use Rattle.gf_vec.proofs.EntryLaws.{entry_plus}
+use Rattle.gf_gordan.specs.declared.error.ConeOverflow.{ConeOverflow}
+use Rattle.gf_gordan.specs.declared.error.GordanError.{GordanError}
+use Rattle.gf_gordan.specs.Alternative.{AreRows, IsSolution}
+use Rattle.gf_gordan.specs.Steps.{Failed}
+use Rattle.gf_gordan.proofs.SystemLaws.{Failed-weaker}
+use Rattle.gf_ideal.proofs.ListLaws.{Contains-here, Contains-there}
+use Rattle.gf_facets.specs.Systems.{units}
+use Rattle.gf_facets.specs.Normals.{others_of}
+use Rattle.gf_facets.proofs.VectorLaws.{vectors_by_entries}
+use Rattle.gf_facets.proofs.SystemLaws.{contained_all}
+use Rattle.gf_facets.proofs.UnitLaws.{positive_by_units}
+use Rattle.gf_cone.specs.Small.{IsSmall}
+use Rattle.gf_cone.specs.Cones.{ConeRows, all_rows, normal_at, other_rows, HasUnits}
+use Rattle.gf_cone.specs.Answers.{IsNormalStep}
+use Rattle.gf_cone.specs.Crossing.{IsShownBy, IsCrossable, LeadsUpAt, IsStepBefore, IsRemembered, AreRemembered, IsFlipDecided}
+use Rattle.gf_cone.specs.declared.known.Known.{Known}
+use Rattle.gf_cone.specs.declared.known.Known.TheVariants.{Open, Yes, No}
+use Rattle.gf_cone.proofs.AnswerLaws.{others-append, crossable_flippable}
+
+-- ---- the others of one, by places
+
+others_by : (P : List ℤ → Type 0) (vs : List (List ℤ)) (i : ℕ) → i < length vs → ((k : ℕ) → k < length vs → (k ≡ i → ⊥) → P (get_or vs k [])) → All P (others_of i vs)
+others_by P [] i l h = absurd (omega (arith, l))
+others_by P (x ∷ vs) zero l h = λ k d m. subst P (get_or_default vs k [] d m) (h (suc k) (omega (arith, m)) (λ e. omega (arith, e)))
+others_by P (x ∷ vs) (suc i) l h = All-cons P x (others_of i vs) (h zero (omega arith) (λ e. omega (arith, e))) (others_by P vs i (omega (arith, l)) (λ k m n. h (suc k) (omega (arith, m)) (λ e. n (omega (arith, e)))))
+
+others_at : (vs : List (List ℤ)) (i j : ℕ) → i < length vs → j < length vs → (j ≡ i → ⊥) → Contains (others_of i vs) (get_or vs j [])
+others_at [] i j l m n = absurd (omega (arith, l))
+others_at (x ∷ vs) zero zero l m n = absurd (n refl)
+others_at (x ∷ vs) zero (suc j) l m n = (j, omega (arith, m), get_or_default vs j _ [] (omega (arith, m)))
+others_at (x ∷ vs) (suc i) zero l m n = Contains-here x (others_of i vs)
+others_at (x ∷ vs) (suc i) (suc j) l m n = Contains-there x (get_or vs j []) (others_of i vs) (others_at vs i j (omega (arith, l)) (omega (arith, m)) (λ e. n (ap suc e)))
+
+in_all : (c : ConeRows) (i : ℕ) → i < length c.normals → i < length (all_rows c)
+in_all c i l = front c.normals c.beside i l
+  where
+    front : (xs ys : List (List ℤ)) (i : ℕ) → i < length xs → i < length (xs ++ ys)
+    front [] ys i l = absurd (omega (arith, l))
+    front (x ∷ xs) ys zero l = omega arith
+    front (x ∷ xs) ys (suc i) l = omega (arith, front xs ys i (omega (arith, l)))
+
+read_all : (c : ConeRows) (i : ℕ) → i < length c.normals → get_or (all_rows c) i [] ≡ normal_at c i
+read_all c i l = get_or-append c.normals c.beside [] i l
+
+-- ---- a vector that shows that a flip may cross
+
+pub solution_of_shown : (c : ConeRows) (i : ℕ) (w : List ℤ) → i < length c.normals → length w ≡ c.variables →
+    ((k : ℕ) → k < length (all_rows c) → IsShownBy (all_rows c) i w k) → IsSolution c.variables (other_rows c i) (normal_at c i ∷ []) w
+solution_of_shown c i w l e h = record {
+  width = e;
+  positive = subst (All (λ t. pos 0 <ℤ dot t w)) (others-append i c.normals c.beside l) (others_by (λ t. pos 0 <ℤ dot t w) (all_rows c) i (in_all c i l) (λ k m n. (h k m).positive n));
+  zero = All-cons (λ t. dot t w ≡ pos 0) (normal_at c i) [] (subst (λ (t : List ℤ). dot t w ≡ pos 0) (read_all c i l) ((h i (in_all c i l)).zero refl)) (All-nil (λ t. dot t w ≡ pos 0));
+}
+
+-- ---- normals that no flip crosses
+
+-- another row is positive on a solution
+other_positive : (c : ConeRows) (i j : ℕ) (w : List ℤ) → i < length c.normals → j < length (all_rows c) → (j ≡ i → ⊥) →
+    IsSolution c.variables (other_rows c i) (normal_at c i ∷ []) w → pos 0 <ℤ dot (get_or (all_rows c) j []) w
+other_positive c i j w l m n s = All-contains (λ t. pos 0 <ℤ dot t w) (other_rows c i) (get_or (all_rows c) j []) s.positive
+    (subst (λ (z : List (List ℤ)). Contains z (get_or (all_rows c) j [])) (others-append i c.normals c.beside l) (others_at (all_rows c) i j (in_all c i l) m n))
+
+normal_zero : (c : ConeRows) (i : ℕ) (w : List ℤ) → IsSolution c.variables (other_rows c i) (normal_at c i ∷ []) w → dot (normal_at c i) w ≡ pos 0
+normal_zero c i w s = s.zero 0 [] (omega arith)
+
+-- a sum of two others
+pub not_crossable_sum : (c : ConeRows) (i j k : ℕ) → i < length c.normals → j < length (all_rows c) → k < length (all_rows c) → (j ≡ i → ⊥) → (k ≡ i → ⊥) →
+    length (get_or (all_rows c) j []) ≡ length (get_or (all_rows c) k []) →
+    normal_at c i ≡ vector_sum (get_or (all_rows c) j []) (get_or (all_rows c) k []) → IsCrossable c i → ⊥
+not_crossable_sum c i j k l lj lk nj nk e sum s =
+    let pj : pos 0 <ℤ dot (get_or (all_rows c) j []) s.0 = other_positive c i j s.0 l lj nj s.1 in
+    let pk : pos 0 <ℤ dot (get_or (all_rows c) k []) s.0 = other_positive c i k s.0 l lk nk s.1 in
+    let z : dot (normal_at c i) s.0 ≡ pos 0 = normal_zero c i s.0 s.1 in
+    let d : dot (normal_at c i) s.0 ≡ dot (get_or (all_rows c) j []) s.0 +ℤ dot (get_or (all_rows c) k []) s.0 = ap (λ (t : List ℤ). dot t s.0) sum ∙ dot-plus (get_or (all_rows c) j []) (get_or (all_rows c) k []) s.0 e in
+    absurd (omega (arith, ints, pj, pk, z, d))
+
+pub sum_by_entries : (a b c : List ℤ) → length b ≡ length a → length c ≡ length a →
+    ((i : ℕ) → i < length a → get_or a i (pos 0) ≡ get_or b i (pos 0) +ℤ get_or c i (pos 0)) → a ≡ vector_sum b c
+sum_by_entries [] [] c l m h = refl
+sum_by_entries [] (y ∷ b) c l m h = absurd (omega (arith, l))
+sum_by_entries (x ∷ a) [] c l m h = absurd (omega (arith, l))
+sum_by_entries (x ∷ a) (y ∷ b) [] l m h = absurd (omega (arith, m))
+sum_by_entries (x ∷ a) (y ∷ b) (z ∷ c) l m h =
+    ap (λ t. t ∷ a) (h zero (omega arith)) ∙ ap (λ (t : List ℤ). (y +ℤ z) ∷ t) (sum_by_entries a b c (omega (arith, l)) (omega (arith, m)) (λ i k. h (suc i) (omega (arith, k))))
+
+-- no entry negative
+dot_low : (a w : List ℤ) → All (λ x. pos 0 ≤ℤ x) a → All (λ x. pos 0 <ℤ x) w → pos 0 ≤ℤ dot a w
+dot_low [] w h p = omega (arith, ints)
+dot_low (x ∷ a) [] h p = omega (arith, ints)
+dot_low (x ∷ a) (y ∷ w) h p =
+    let py : pos 0 <ℤ y = p zero (pos 0) (omega arith) in
+    let px : pos 0 ≤ℤ (x *ℤ y) = 0≤-*ℤ x y (h zero (pos 0) (omega arith)) (omega (arith, ints, py)) in
+    let r : pos 0 ≤ℤ dot a w = dot_low a w (λ k d m. h (suc k) d (omega (arith, m))) (λ k d m. p (suc k) d (omega (arith, m))) in
+    omega (arith, ints, px, r)
+
+dot_above : (a w : List ℤ) (i : ℕ) → length a ≡ length w → All (λ x. pos 0 ≤ℤ x) a → All (λ x. pos 0 <ℤ x) w → i < length a → pos 0 <ℤ get_or a i (pos 0) → pos 0 <ℤ dot a w
+dot_above [] w i e h p l q = absurd (omega (arith, l))
+dot_above (x ∷ a) [] i e h p l q = absurd (omega (arith, e))
+dot_above (x ∷ a) (y ∷ w) zero e h p l q =
+    let px : pos 0 <ℤ (x *ℤ y) = 0<-*ℤ x y q (p zero (pos 0) (omega arith)) in
+    let r : pos 0 ≤ℤ dot a w = dot_low a w (λ k d m. h (suc k) d (omega (arith, m))) (λ k d m. p (suc k) d (omega (arith, m))) in
+    omega (arith, ints, px, r)
+dot_above (x ∷ a) (y ∷ w) (suc i) e h p l q =
+    let py : pos 0 <ℤ y = p zero (pos 0) (omega arith) in
+    let px : pos 0 ≤ℤ (x *ℤ y) = 0≤-*ℤ x y (h zero (pos 0) (omega arith)) (omega (arith, ints, py)) in
+    let r : pos 0 <ℤ dot a w = dot_above a w i (omega (arith, e)) (λ k d m. h (suc k) d (omega (arith, m))) (λ k d m. p (suc k) d (omega (arith, m))) (omega (arith, l)) q in
+    omega (arith, ints, px, r)
+
+-- a solution is positive
+solution_positive : (c : ConeRows) (i : ℕ) (w : List ℤ) → HasUnits c → IsSolution c.variables (other_rows c i) (normal_at c i ∷ []) w → All (λ x. pos 0 <ℤ x) w
+solution_positive c i w u s = positive_by_units c.variables w s.width (λ t m. All-contains (λ t. pos 0 <ℤ dot t w) (other_rows c i) t s.positive (Contains-append_right (others_of i c.normals) c.beside t (u t m)))
+
+-- a sum of unit vectors
+pub not_crossable_above : (c : ConeRows) (i j : ℕ) (a : List ℤ) → HasUnits c → a ≡ normal_at c i → length (normal_at c i) ≡ c.variables → All (λ x. pos 0 ≤ℤ x) a → j < length a → pos 0 <ℤ get_or a j (pos 0) → IsCrossable c i → ⊥
+not_crossable_above c i j a u e l h m p s =
+    let z : dot (normal_at c i) s.0 ≡ pos 0 = normal_zero c i s.0 s.1 in
+    let d : pos 0 <ℤ dot a s.0 = dot_above a s.0 j (ap (λ (t : List ℤ). length t) e ∙ l ∙ sym s.1.width) h (solution_positive c i s.0 u s.1) m p in
+    absurd (omega (arith, ints, z, subst (λ (t : List ℤ). pos 0 <ℤ dot t s.0) e d))
+
+-- ---- refusals
+
+-- a step of one of the first systems
+pub step_before : (c : ConeRows) (j e : ℕ) → j < e → (r : GordanError) → Failed (IsNormalStep c.variables (other_rows c j) (normal_at c j)) r → Failed (IsStepBefore c e) r
+step_before c j e l r h = Failed-weaker (IsNormalStep c.variables (other_rows c j) (normal_at c j)) (IsStepBefore c e) (λ s k. (j, l, k)) r h
+
+pub steps_more : (c : ConeRows) (e f : ℕ) → e ≤ f → (r : GordanError) → Failed (IsStepBefore c e) r → Failed (IsStepBefore c f) r
+steps_more c e f l r h = Failed-weaker (IsStepBefore c e) (IsStepBefore c f) (λ s k. (k.0, omega (arith, l, k.1), k.2)) r h
+
+-- ---- as a program asks
+
+-- one vector more is as asked
+pub shown_next : (vectors : List (List ℤ)) (place k : ℕ) (w v : List ℤ) → k < length vectors → v ≡ get_or vectors k v →
+    (eqb k place ≡ true → dot v w ≡ pos 0) → (eqb k place ≡ false → pos 0 <ℤ dot v w) → IsShownBy vectors place w k
+shown_next vectors place k w v l e z p =
+    let r : v ≡ get_or vectors k [] = e ∙ get_or_default vectors k v [] l in
+    record {
+      zero = λ q. subst (λ (t : List ℤ). dot t w ≡ pos 0) r (z (eq-eqb k place q));
+      positive = λ n. subst (λ (t : List ℤ). pos 0 <ℤ dot t w) r (p (ne_eqb k place n));
+    }
+
+-- one entry more is open
+pub open_more : (known new : List Known) (i : ℕ) → length known ≡ i → ((k : ℕ) (d : Known) → k < i → get_or known k d ≡ Open) → new ≡ known ++ Open ∷ [] →
+    (k : ℕ) (d : Known) → k < i + 1 → get_or new k d ≡ Open
+open_more known new i e h q k d l = subst (λ (z : List Known). get_or z k d ≡ Open) (sym q) (at (cases_lt k i))
+  where
+    at : (k < i) ⊎ (i ≤ k) → get_or (known ++ Open ∷ []) k d ≡ Open
+    at (inl s) = get_or-append known (Open ∷ []) d k (omega (arith, e, s)) ∙ h k d s
+    at (inr g) = get_or_push known Open d k (omega (arith, e, g, l))
+
+-- nothing is known yet
+pub none_known : (c : ConeRows) (known : List Known) → length known ≡ length c.normals → ((k : ℕ) (d : Known) → k < length known → get_or known k d ≡ Open) → AreRemembered c known
+none_known c known e h = record { each = e; true_of = λ i d l. subst (IsRemembered c i) (sym (h i d l)) tt }
+
+-- the rows at two places make the normal
+pub sum_at : (c : ConeRows) (given : List (List ℤ)) (i j k : ℕ) (a b d : List ℤ) → given ≡ all_rows c → AreRows c.variables given → i < length c.normals → j < length given → k < length given →
+    (j ≡ i → ⊥) → (k ≡ i → ⊥) → a ≡ get_or given i a → b ≡ get_or given j b → d ≡ get_or given k d → a ≡ vector_sum b d → IsCrossable c i → ⊥
+sum_at c given i j k a b d e wide l lj lk nj nk ra rb rd s x =
+    let P : List (List ℤ) → ℕ → Type 0 = λ z m. m < length z in
+    let jl : j < length (all_rows c) = subst (λ (z : List (List ℤ)). j < length z) e lj in
+    let kl : k < length (all_rows c) = subst (λ (z : List (List ℤ)). k < length z) e lk in
+    let qa : a ≡ normal_at c i = ra ∙ ap (λ (z : List (List ℤ)). get_or z i a) e ∙ get_or-append c.normals c.beside a i l ∙ get_or_default c.normals i a [] l in
+    let qb : b ≡ get_or (all_rows c) j [] = rb ∙ ap (λ (z : List (List ℤ)). get_or z j b) e ∙ get_or_default (all_rows c) j b [] jl in
+    let qd : d ≡ get_or (all_rows c) k [] = rd ∙ ap (λ (z : List (List ℤ)). get_or z k d) e ∙ get_or_default (all_rows c) k d [] kl in
+    let w : AreRows c.variables (all_rows c) = subst (AreRows c.variables) e wide in
+    not_crossable_sum c i j k l jl kl nj nk (w j [] jl ∙ sym (w k [] kl)) (sym qa ∙ s ∙ ap (λ (z : List ℤ). vector_sum z d) qb ∙ ap (λ (z : List ℤ). vector_sum (get_or (all_rows c) j []) z) qd) x
+
+-- the normal at a place is above zero
+pub above_at : (c : ConeRows) (given : List (List ℤ)) (i j : ℕ) (a entries : List ℤ) → given ≡ all_rows c → AreRows c.variables given → HasUnits c → i < length c.normals → a ≡ get_or given i a → entries ≡ a →
+    All (λ x. pos 0 ≤ℤ x) entries → j < length entries → pos 0 <ℤ get_or entries j (pos 0) → IsCrossable c i → ⊥
+above_at c given i j a entries e wide u l ra re h m p x =
+    let qa : a ≡ normal_at c i = ra ∙ ap (λ (z : List (List ℤ)). get_or z i a) e ∙ get_or-append c.normals c.beside a i l ∙ get_or_default c.normals i a [] l in
+    let w : AreRows c.variables (all_rows c) = subst (AreRows c.variables) e wide in
+    not_crossable_above c i j entries u (re ∙ qa) (sym (ap (λ (t : List ℤ). length t) (read_all c i l)) ∙ w i [] (in_all c i l)) h m p x
+
+-- a vector that shows it, of the right length
+pub shown_at : (c : ConeRows) (given : List (List ℤ)) (i : ℕ) (w : List ℤ) → given ≡ all_rows c → i < length c.normals → length w ≡ c.variables →
+    ((k : ℕ) → k < length given → IsShownBy given i w k) → IsSolution c.variables (other_rows c i) (normal_at c i ∷ []) w
+shown_at c given i w e l m h = solution_of_shown c i w l m (subst (λ (z : List (List ℤ)). (k : ℕ) → k < length z → IsShownBy z i w k) e h)
+
+-- what is told of the system is told of the facet
+pub decided_flip : (c : ConeRows) (i : ℕ) → i < length c.normals → (r : Bool) → (IsTrue r ↔ IsCrossable c i) → IsFlipDecided c i r
+decided_flip c i l r h n k bs is =
+    let e = crossable_flippable n k bs c i l is in
+    (λ t. e.0 (h.0 t), λ f. h.1 (e.1 f))
+
+-- the sign of the normal at a place
+pub negative_told : (c : ConeRows) (given : List (List ℤ)) (i : ℕ) (a : List ℤ) (o : Ordering) → given ≡ c.normals → AreRows c.variables given → i < length c.normals → a ≡ get_or given i a → o ≡ root_sign a → o ≡ Less →
+    IsTrue true ↔ IsNegative (all_positive c.variables).root (normal_at c i)
+negative_told c given i a o e w l ra ro q =
+    let qa : a ≡ normal_at c i = ra ∙ ap (λ (z : List (List ℤ)). get_or z i a) e ∙ get_or_default c.normals i a [] l in
+    let wide : length (normal_at c i) ≡ c.variables = subst (AreRows c.variables) e w i [] l in
+    (λ t. sign_negative c.variables (normal_at c i) wide (ap root_sign (sym qa) ∙ sym ro ∙ q), λ h. refl)
+
+pub not_negative_told : (c : ConeRows) (given : List (List ℤ)) (i : ℕ) (a : List ℤ) (o : Ordering) → given ≡ c.normals → AreRows c.variables given → i < length c.normals → a ≡ get_or given i a → o ≡ root_sign a → (o ≡ Less → ⊥) →
+    IsTrue false ↔ IsNegative (all_positive c.variables).root (normal_at c i)
+not_negative_told c given i a o e w l ra ro q =
+    let qa : a ≡ normal_at c i = ra ∙ ap (λ (z : List (List ℤ)). get_or z i a) e ∙ get_or_default c.normals i a [] l in
+    let wide : length (normal_at c i) ≡ c.variables = subst (AreRows c.variables) e w i [] l in
+    (λ t. absurd (false≢true t), λ h. absurd (q (ro ∙ ap root_sign qa ∙ negative_sign c.variables (normal_at c i) wide h)))
+
+-- the normal at a place is small
+pub small_read : (c : ConeRows) (given : List (List ℤ)) (i : ℕ) (a : List ℤ) → given ≡ c.normals → All IsSmall given → i < length c.normals → a ≡ get_or given i a → IsSmall a
+small_read c given i a e s l r = subst IsSmall (sym r) (s i a (subst (λ (z : List (List ℤ)). i < length z) (sym e) l))

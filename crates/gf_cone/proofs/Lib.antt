@@ -1,0 +1,5 @@
+mod RowsLaws  -- rows as they are made
+mod ListingLaws  -- ascending lists of vectors
+pub mod SmallLaws  -- vectors with small entries
+pub mod AnswerLaws  -- what an answer about a normal tells
+pub mod CrossingLaws  -- normals that a flip may cross, shown or refuted without their systems

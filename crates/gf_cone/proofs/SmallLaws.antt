@@ -1,0 +1,68 @@
+-- Small vectors: primitive parts of small rows, unit vectors, and that small entries fit what the code asks for.
+-- To cite: primitive_small, normal_small, normals_small, units_small, small_for_sign.
+use Rattle.std.specs.Prelude.{◌≡◌, ◌⊎◌, ℕ, zero, suc, ◌+◌, ◌*◌, ◌<◌, ◌≤◌, ◌^◌, List, [], ◌∷◌, ◌++◌, length, get_or, Contains, All, ℤ, pos, ◌*ℤ◌, unsigned_abs}
+use Rattle.std.proofs.Common.{arith, refl, sym, ap, ◌∙◌, subst, inl, inr}
+use Rattle.std.proofs.lemmas.Int.{ints, unsigned_abs-mul}
+use Rattle.std.proofs.lemmas.List.{get_or_default}
+use Rattle.std.proofs.lemmas.List.Elements.{All-contains, All-append}
+use Rattle.std.proofs.Math.Nat.{mul-le-mul_right}
+use Rattle.gf_int.specs.Content.{scaled}
+use Rattle.gf_vec.specs.Vector.{zeros}
+use Rattle.gf_vec.specs.Primitive.{IsPrimitivePart}
+use Rattle.gf_vec.proofs.VectorLaws.{length-times}
+use Rattle.gf_poly.specs.Marking.{MarkedPolynomial}
+use Rattle.gf_facets.specs.Rows.{rows_of, IsNormal}
+use Rattle.gf_facets.specs.Systems.{unit, units}
+use Rattle.gf_facets.specs.Normals.{AreNormals}
+use Rattle.gf_facets.proofs.PrimitiveLaws.{divided-entry}
+use Rattle.gf_facets.proofs.SystemLaws.{contained_all}
+use Rattle.gf_facets.proofs.UnitLaws.{unit_of}
+use Rattle.gf_cone.specs.Small.{IsSmall}
+
+factor_size : (k : ℕ) (x : ℤ) → 0 < k → unsigned_abs x ≤ unsigned_abs (pos k *ℤ x)
+factor_size k x l = subst (λ (m : ℕ). unsigned_abs x ≤ m) (sym (unsigned_abs-mul (pos k) x)) (grown k (unsigned_abs x) l)
+  where
+    grown : (k m : ℕ) → 0 < k → m ≤ k * m
+    grown zero m l = absurd (omega arith)
+    grown (suc k) m l = omega arith
+
+-- a small row divided by its content is small
+pub primitive_small : (t a : List ℤ) → IsPrimitivePart t a → IsSmall t → IsSmall a
+primitive_small t a p s = record { entries = entries }
+  where
+    entries : All (λ x. unsigned_abs x < 2 ^ 31) a
+    entries i d l =
+        let e = divided-entry t a p in
+        let long : length a ≡ length t = sym (length-times (pos e.0) a) ∙ ap (λ (z : List ℤ). length z) e.2 in
+        let here : get_or t i (pos 0) ≡ pos e.0 *ℤ get_or a i (pos 0) = e.3 i in
+        let small : unsigned_abs (get_or t i (pos 0)) < 2 ^ 31 = s.entries i (pos 0) (omega (arith, long, l)) in
+        let grown : unsigned_abs (get_or a i (pos 0)) ≤ unsigned_abs (pos e.0 *ℤ get_or a i (pos 0)) = factor_size e.0 (get_or a i (pos 0)) e.1 in
+        let same : get_or a i d ≡ get_or a i (pos 0) = get_or_default a i d (pos 0) l in
+        subst (λ (x : ℤ). unsigned_abs x < 2 ^ 31) (sym same) (omega (arith, small, grown, ap unsigned_abs here))
+
+-- so is each normal of a marked list with small rows
+pub normal_small : (bs : List MarkedPolynomial) (a : List ℤ) → All IsSmall (rows_of bs) → IsNormal bs a → IsSmall a
+normal_small bs a s p = primitive_small p.0 a p.2 (All-contains IsSmall (rows_of bs) p.0 s p.1)
+
+pub normals_small : (bs : List MarkedPolynomial) (ns : List (List ℤ)) → All IsSmall (rows_of bs) → AreNormals bs ns → All IsSmall ns
+normals_small bs ns s m = contained_all IsSmall ns (λ a c. normal_small bs a s (m.only a c))
+
+-- so are the unit vectors
+pub units_small : (n k : ℕ) → All IsSmall (units n k)
+units_small n k = contained_all IsSmall (units n k) (λ t c. (let u = unit_of n k t c in subst IsSmall (sym u.2) (record { entries = one n u.0 })))
+  where
+    none : (n : ℕ) → All (λ x. unsigned_abs x < 2 ^ 31) (zeros n)
+    none zero i d l = absurd (omega arith)
+    none (suc n) zero d l = omega arith
+    none (suc n) (suc i) d l = none n i d (omega arith)
+
+    one : (n i : ℕ) → All (λ x. unsigned_abs x < 2 ^ 31) (unit n i)
+    one zero i j d l = absurd (omega arith)
+    one (suc n) zero zero d l = omega arith
+    one (suc n) zero (suc j) d l = none n j d (omega arith)
+    one (suc n) (suc i) zero d l = omega arith
+    one (suc n) (suc i) (suc j) d l = one n i j d (omega arith)
+
+-- the root sign of a small vector may be asked for
+pub small_for_sign : (a : List ℤ) → IsSmall a → All (λ x. unsigned_abs x ≤ 2 ^ 64) a
+small_for_sign a s i d l = omega (arith, s.entries i d l)

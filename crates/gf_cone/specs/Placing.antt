@@ -1,0 +1,17 @@
+-- Where a vector goes into an ascending list.
+use Rattle.std.specs.Prelude.{ℕ, zero, suc, List, [], ◌∷◌, ℤ, Contains}
+use Rattle.gf_facets.specs.LexPositive.{IsBefore}
+use Rattle.gf_cone.specs.declared.listing.Placing.{Placing}
+use Rattle.gf_cone.specs.declared.listing.Placing.TheVariants.{New, Known}
+
+-- the vectors up to the place i come before v, and v before the one there
+abbrev pub GoesInAt : List ℤ → ℕ → List (List ℤ) → Type 0
+GoesInAt v zero [] = Unit {0}
+GoesInAt v zero (x ∷ xs) = IsBefore v x
+GoesInAt v (suc i) [] = ⊥
+GoesInAt v (suc i) (x ∷ xs) = IsBefore x v × GoesInAt v i xs
+
+-- where v goes in, or where it is
+abbrev pub IsPlacing : List (List ℤ) → List ℤ → Placing → Type 0
+IsPlacing xs v (New i) = GoesInAt v i xs
+IsPlacing xs v Known = Contains xs v

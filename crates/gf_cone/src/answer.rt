@@ -1,0 +1,24 @@
+//! Answers about a normal.
+
+use gf_vec::IntVec;
+
+/// A vector that is zero on a normal and positive on all others; or the normal, so many times, as a combination of the
+/// others.
+///
+/// There is a multiplier of each other normal, in their order; none is negative, and `times` is at least 1.
+#[derive(Drop, Debug)]
+pub enum FacetAnswer {
+    Facet { witness: IntVec },
+    Redundant { times: i128, multipliers: IntVec },
+}
+
+/// A positive vector that is zero on a normal and positive on all others; or the normal, so many times, as a combination of
+/// the others and the unit vectors.
+///
+/// There is a multiplier of each other normal and then of each unit vector, in their order; none is negative, and `times` is
+/// at least 1.
+#[derive(Drop, Debug)]
+pub enum FlipAnswer {
+    Yes { witness: IntVec },
+    No { times: i128, multipliers: IntVec },
+}

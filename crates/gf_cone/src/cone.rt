@@ -1,0 +1,152 @@
+//! The cone of a marked set.
+ghost use Rattle.std.specs.Prelude.{◌≡◌, ◌<◌, ◌∷◌, [], length, All, IfOk, IfErr, IfSome, IsNone};
+ghost use Rattle.gf_poly.specs.Marking.{Each, HasMarkedTerm};
+ghost use Rattle.gf_gordan.specs.Alternative.{AreRows, IsSolution};
+ghost use Rattle.gf_cone.specs.Crossing.{IsCrossable};
+ghost use Rattle.gf_gordan.specs.Steps.{Failed};
+ghost use Rattle.gf_facets.specs.Regions.{all_positive};
+ghost use Rattle.gf_facets.specs.Normals.{others_of};
+ghost use Rattle.gf_cone.specs.Small.{IsSmall};
+ghost use Rattle.gf_cone.specs.Cones.{all_rows, normal_at, other_rows, IsConeOf, HasInterior, HasUnits};
+ghost use Rattle.gf_cone.specs.Answers.{AnswersFacet, AnswersFlip, IsFacetTold, IsFlipTold, IsNormalStep};
+
+use crate::answer::{FacetAnswer, FlipAnswer};
+use crate::listing::normals;
+use crate::marking::with_units;
+use crate::systems::{others, solution_at, solved};
+use gf_gordan::GordanError;
+use gf_poly::MarkedSet;
+use gf_vec::IntVec;
+use std::alloc::{AllocError, Global};
+use std::marker::Model;
+
+/// The normals of a marked set, and the unit vectors behind them.
+#[derive(Drop)]
+pub struct Cone {
+    variables: u32,
+    vectors: Vec<IntVec>,
+    count: usize,
+}
+
+impl Model for Cone {
+    ghost use Rattle.std.specs.Prelude.{◌≤◌, length, take, drop};
+    ghost use Rattle.gf_cone.specs.Cones.{ConeRows};
+    ghost use Rattle.gf_cone.specs.Keeping.{AreVectorsKept};
+
+    ghost Value = { ConeRows };
+
+    ghost view = { λ c. record { variables = c.variables; normals = take c.count c.vectors.items; beside = drop c.count c.vectors.items } };
+
+    ghost invariant = { λ c. AreVectorsKept c.variables c.vectors.items c.count };
+}
+
+impl Cone {
+    /// The cone of a marked set.
+    ///
+    /// # Errors
+    /// Want of memory.
+    pub fn of(alloc: Global, set: &MarkedSet) -> Result<Cone, AllocError>
+        ensures { IfOk result (IsConeOf set.now.variables (all_positive set.now.variables) set.now.items) }
+    {
+        let normals = normals(alloc, set)?;
+        let variables = set.variables();
+        let count = normals.len();
+        let vectors = with_units(alloc, normals, variables as usize)?;
+        Ok(Cone {
+            variables,
+            vectors,
+            count,
+        })
+    }
+
+    /// The number of variables.
+    pub fn variables(&self) -> u32
+        ensures { result ≡ self.now.variables }
+    {
+        self.variables
+    }
+
+    /// The normals: primitive vectors, each once, ascending by the first entry that differs. Their entries are below 2^31
+    /// in absolute value.
+    pub fn normals(&self) -> &[IntVec]
+        ensures value { result.now ≡ self.now.normals }
+        ensures widths { AreRows self.now.variables result.now }
+        ensures small { All IsSmall result.now }
+    {
+        &self.vectors.as_slice()[..self.count]
+    }
+
+    /// The normals, and then the rows beside them: the unit vectors.
+    pub fn vectors(&self) -> &[IntVec]
+        ensures value { result.now ≡ all_rows self.now }
+        ensures widths { AreRows self.now.variables result.now }
+        ensures small { All IsSmall result.now }
+        ensures units { HasUnits self.now }
+    {
+        self.vectors.as_slice()
+    }
+
+    /// Whether the normal at a place, counted from 0, is one of a facet.
+    ///
+    /// The answer holds a vector that is zero on it and positive on all other normals, or so many times the normal as a
+    /// combination of the other normals (Farkas' lemma; Schrijver, *Theory of Linear and Integer Programming*, 7.3).
+    ///
+    /// # Errors
+    /// `Cone` names a step of the system of the other normals, with this one as the equation, that leaves the range;
+    /// `Memory` may come at any time.
+    pub fn facet(&self, place: usize) -> Result<FacetAnswer, GordanError>
+        requires place { place < length self.now.normals }
+        requires interior { HasInterior self.now }
+        ensures ok { IfOk result (AnswersFacet self.now place) }
+        ensures told { IfOk result (IsFacetTold self.now place) }
+        ensures err { IfErr result (Failed (IsNormalStep self.now.variables (others_of place self.now.normals) (normal_at self.now place))) }
+    {
+        let normals = self.normals();
+        let alloc = *self.vectors.allocator();
+        let rows = others(alloc, normals, place)?;
+        match solved(alloc, self.variables, rows.as_slice(), &normals[place])? {
+            FlipAnswer::Yes { witness } => Ok(FacetAnswer::Facet { witness }),
+            FlipAnswer::No { times, multipliers } => {
+                Ok(FacetAnswer::Redundant { times, multipliers })
+            }
+        }
+    }
+
+    /// Whether a flip may cross the facet of the normal at a place, counted from 0.
+    ///
+    /// The answer holds a positive vector that is zero on it and positive on all other normals, or so many times the normal
+    /// as a combination of the other normals and the unit vectors.
+    ///
+    /// # Errors
+    /// `Cone` names a step of the system of the other normals and the unit vectors, with this normal as the equation, that
+    /// leaves the range; `Memory` may come at any time.
+    pub fn flippable(&self, place: usize) -> Result<FlipAnswer, GordanError>
+        requires place { place < length self.now.normals }
+        requires interior { HasInterior self.now }
+        ensures ok { IfOk result (AnswersFlip self.now place) }
+        ensures told { IfOk result (IsFlipTold self.now place) }
+        ensures err { IfErr result (Failed (IsNormalStep self.now.variables (other_rows self.now place) (normal_at self.now place))) }
+    {
+        let vectors = self.vectors();
+        let alloc = *self.vectors.allocator();
+        let rows = others(alloc, vectors, place)?;
+        solved(alloc, self.variables, rows.as_slice(), &vectors[place])
+    }
+
+    /// A positive vector that is zero on the normal at a place and positive on all other normals, or none where there is none.
+    ///
+    /// # Errors
+    /// `Cone` names a step of the system of the other normals and the unit vectors, with this normal as the equation, that
+    /// leaves the range; `Memory` may come at any time.
+    pub(crate) fn crossing(&self, place: usize) -> Result<Option<IntVec>, GordanError>
+        requires { place < length self.now.normals }
+        ensures yes { IfOk result (λ o. IfSome o (IsSolution self.now.variables (other_rows self.now place) (normal_at self.now place ∷ []))) }
+        ensures no { IfOk result (λ o. IsNone o → IsCrossable self.now place → ⊥) }
+        ensures err { IfErr result (Failed (IsNormalStep self.now.variables (other_rows self.now place) (normal_at self.now place))) }
+    {
+        let vectors = self.vectors();
+        let alloc = *self.vectors.allocator();
+        let rows = others(alloc, vectors, place)?;
+        solution_at(alloc, self.variables, rows.as_slice(), &vectors[place])
+    }
+}

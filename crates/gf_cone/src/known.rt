@@ -1,0 +1,485 @@
+//! A cone that remembers what was found out about its normals.
+ghost use Rattle.std.specs.Prelude.{◌≡◌, ◌↔◌, ◌+◌, ◌<◌, ◌≤◌, ℕ, List, [], ◌∷◌, length, slice_index_or, All, IsTrue, IfOk, IfErr, IfSome};
+ghost use Rattle.gf_gordan.specs.Alternative.{AreRows, IsSolution};
+ghost use Rattle.gf_gordan.specs.Steps.{Failed};
+ghost use Rattle.gf_facets.specs.LexPositive.{IsNegative};
+ghost use Rattle.gf_facets.specs.Regions.{all_positive};
+ghost use Rattle.gf_cone.specs.Small.{IsSmall};
+ghost use Rattle.gf_cone.specs.Cones.{all_rows, normal_at, other_rows, HasUnits};
+ghost use Rattle.gf_cone.specs.Answers.{IsNormalStep};
+ghost use Rattle.gf_cone.specs.Crossing.{IsCrossable, IsRemembered, LeadsUpAt, IsFlipDecided, IsLeastUp, IsWayFrom, SomeUpBefore, IsStepBefore};
+
+use crate::checks::{is_sum, none_negative, shows, some_positive};
+use crate::cone::Cone;
+use crate::shots::{shot, values_on};
+use crate::sums::{Keyed, keys_of, two_places};
+use gf_gordan::GordanError;
+use gf_vec::IntVec;
+use std::alloc::{AllocError, Global};
+use std::cmp::Ordering;
+use std::marker::Model;
+
+/// What is known of a normal: nothing, a vector that shows that a flip may cross its facet, or that none may.
+#[derive(Drop)]
+pub(crate) enum Known {
+    Open,
+    Yes(IntVec),
+    No,
+}
+
+/// What speeds up the search. Nothing that is told rests on it.
+#[derive(Drop)]
+struct Hints {
+    inner: Option<IntVec>,
+    values: Vec<i128>,
+    keys: Vec<Keyed>,
+}
+
+/// A cone, and what was found out about its normals: nothing is worked out twice.
+#[derive(Drop)]
+pub struct KnownCone {
+    alloc: Global,
+    cone: Cone,
+    known: Vec<Known>,
+    hints: Hints,
+}
+
+impl Model for KnownCone {
+    ghost use Rattle.gf_cone.specs.Cones.{ConeRows};
+    ghost use Rattle.gf_cone.specs.Crossing.{AreRemembered};
+
+    ghost Value = { ConeRows };
+
+    ghost view = { λ c. c.cone };
+
+    ghost invariant = { λ c. AreRemembered c.cone c.known.items };
+}
+
+/// The values of the vectors on an inner one, none where they leave the range.
+///
+/// # Errors
+/// Want of memory.
+fn hints_of(alloc: Global, vectors: &[IntVec], inner: Option<IntVec>) -> Result<Hints, AllocError> {
+    let keys = keys_of(alloc, vectors)?;
+    let values = match &inner {
+        Some(point) => match values_on(alloc, vectors, point.as_slice()) {
+            Ok(values) => values,
+            Err(_error) => Vec::new(alloc),
+        },
+        None => Vec::new(alloc),
+    };
+    Ok(Hints {
+        inner,
+        values,
+        keys,
+    })
+}
+
+/// So many open entries.
+///
+/// # Errors
+/// Want of memory.
+fn open_entries(alloc: Global, count: usize) -> Result<Vec<Known>, AllocError>
+    ensures { IfOk result (λ known. (length known.items ≡ count) × ((i : ℕ) (d : Known) → i < count → slice_index_or known.items i d ≡ Known.Open)) }
+{
+    let mut known = Vec::with_capacity(alloc, count)?;
+    'places: for _i in 0..count {
+        known.push(Known::Open)?;
+    }
+    Ok(known)
+}
+
+impl KnownCone {
+    /// A cone of which nothing is known yet. A vector on which all its normals and the unit vectors are positive makes it
+    /// fast; any other one is safe, too.
+    ///
+    /// # Errors
+    /// Want of memory.
+    pub fn new(alloc: Global, cone: Cone, inner: Option<IntVec>) -> Result<KnownCone, AllocError>
+        ensures { IfOk result (λ k. k ≡ cone) }
+    {
+        let hints = hints_of(alloc, cone.vectors(), inner)?;
+        let known = open_entries(alloc, cone.normals().len())?;
+        Ok(KnownCone {
+            alloc,
+            cone,
+            known,
+            hints,
+        })
+    }
+
+    /// The cone.
+    pub fn cone(&self) -> &Cone
+        ensures { result.now ≡ self.now }
+    {
+        &self.cone
+    }
+
+    /// The normals: primitive vectors, each once, ascending by the first entry that differs. Their entries are below 2^31
+    /// in absolute value.
+    pub fn normals(&self) -> &[IntVec]
+        ensures value { result.now ≡ self.now.normals }
+        ensures widths { AreRows self.now.variables result.now }
+        ensures small { All IsSmall result.now }
+    {
+        self.cone.normals()
+    }
+
+    /// The normals, and then the rows beside them.
+    fn vectors(&self) -> &[IntVec]
+        ensures value { result.now ≡ all_rows self.now }
+        ensures widths { AreRows self.now.variables result.now }
+        ensures units { HasUnits self.now }
+    {
+        self.cone.vectors()
+    }
+
+    /// The number of variables.
+    fn variables(&self) -> u32
+        ensures { result ≡ self.now.variables }
+    {
+        self.cone.variables()
+    }
+
+    /// Writes what is known of a normal.
+    fn set(&mut self, place: usize, known: Known)
+        requires place { place < length self.old.normals }
+        requires truth { IsRemembered self.old place known }
+        ensures { self.new ≡ self.old }
+    {
+        self.known[place] = known;
+    }
+
+    /// What is known of a normal.
+    fn told(&self, place: usize) -> Option<bool>
+        requires { place < length self.now.normals }
+        ensures { IfSome result (λ r. IsTrue r ↔ IsCrossable self.now place) }
+    {
+        match &self.known[place] {
+            Known::Open => None,
+            Known::Yes(_witness) => Some(true),
+            Known::No => Some(false),
+        }
+    }
+
+    /// The vector that shows that a flip may cross the facet of the normal at a place, if one was found: it is positive,
+    /// zero on the normal, and positive on all other normals.
+    pub fn witness(&self, place: usize) -> Option<&IntVec>
+        requires { place < length self.now.normals }
+        ensures { IfSome result (λ w. IsSolution self.now.variables (other_rows self.now place) (normal_at self.now place ∷ []) w.now) }
+    {
+        match &self.known[place] {
+            Known::Yes(witness) => Some(witness),
+            _ => None,
+        }
+    }
+
+    /// Whether a vector is seen to be zero on the normal at a place and positive on all other rows.
+    fn is_shown_by(&self, place: usize, witness: &IntVec) -> bool
+        requires { place < length self.now.normals }
+        ensures { IsTrue result → IsSolution self.now.variables (other_rows self.now place) (normal_at self.now place ∷ []) witness.now }
+    {
+        let entries = witness.as_slice();
+        if entries.len() != self.variables() as usize {
+            return false;
+        }
+        shows(self.vectors(), place, entries)
+    }
+
+    /// Remembers a vector that shows that a flip may cross the facet of the normal at a place; one that doesn't is dropped.
+    pub fn learn(&mut self, place: usize, witness: IntVec)
+        requires { place < length self.old.normals }
+        ensures { self.new ≡ self.old }
+    {
+        if self.is_shown_by(place, &witness) {
+            self.set(place, Known::Yes(witness));
+        }
+    }
+
+    /// Whether the normal at a place is seen to be a sum of unit vectors.
+    fn is_above_zero(&self, place: usize) -> bool
+        requires { place < length self.now.normals }
+        ensures { IsTrue result → IsCrossable self.now place → ⊥ }
+    {
+        let normal = self.vectors()[place].as_slice();
+        none_negative(normal) && some_positive(normal)
+    }
+
+    /// Whether the normal at a place is seen to be the sum of two other vectors.
+    fn is_sum_of_two(&self, place: usize) -> bool
+        requires { place < length self.now.normals }
+        ensures { IsTrue result → IsCrossable self.now place → ⊥ }
+    {
+        let vectors = self.vectors();
+        let normal = vectors[place].as_slice();
+        let Some((b, c)) = two_places(self.hints.keys.as_slice(), normal, place) else {
+            return false;
+        };
+        if b >= vectors.len() || c >= vectors.len() || b == place || c == place {
+            return false;
+        }
+        is_sum(normal, vectors[b].as_slice(), vectors[c].as_slice())
+    }
+
+    /// Remembers that no flip crosses the facet of a normal that is seen to be a sum.
+    fn look_for_sum(&mut self, place: usize)
+        requires { place < length self.old.normals }
+        ensures { self.new ≡ self.old }
+    {
+        if self.is_above_zero(place) {
+            self.set(place, Known::No);
+            return;
+        }
+        if self.is_sum_of_two(place) {
+            self.set(place, Known::No);
+        }
+    }
+
+    /// The place that a shot against the normal at a place hits, and the point.
+    fn hit_against(&self, place: usize) -> Option<(usize, IntVec)> {
+        let vectors = self.vectors();
+        let (Some(inner), Some(normal)) = (&self.hints.inner, vectors.get(place)) else {
+            return None;
+        };
+        match shot(
+            self.alloc,
+            vectors,
+            self.hints.values.as_slice(),
+            inner.as_slice(),
+            normal.as_slice(),
+        ) {
+            Ok(hit) => hit,
+            Err(_error) => None,
+        }
+    }
+
+    /// Shoots against the normal at a place, and remembers the point for the normal that is hit; its place, if it is one.
+    fn shoot(&mut self, place: usize) -> Option<usize>
+        ensures same { self.new ≡ self.old }
+        ensures inside { IfSome result (λ hit. hit < length self.old.normals) }
+    {
+        match self.hit_against(place) {
+            Some((hit, point)) => {
+                if hit >= self.normals().len() {
+                    return None;
+                }
+                self.learn(hit, point);
+                Some(hit)
+            }
+            None => None,
+        }
+    }
+
+    /// Settles the normal at a place by its system.
+    ///
+    /// # Errors
+    /// A step of the system that leaves the range; want of memory.
+    fn settle(&mut self, place: usize) -> Result<bool, GordanError>
+        requires { place < length self.old.normals }
+        ensures same { self.new ≡ self.old }
+        ensures ok { IfOk result (λ r. IsTrue r ↔ IsCrossable self.old place) }
+        ensures err { IfErr result (Failed (IsNormalStep self.old.variables (other_rows self.old place) (normal_at self.old place))) }
+    {
+        match self.cone.crossing(place)? {
+            Some(witness) => {
+                self.set(place, Known::Yes(witness));
+                Ok(true)
+            }
+            None => {
+                self.set(place, Known::No);
+                Ok(false)
+            }
+        }
+    }
+
+    /// What `is_flippable` answers.
+    ///
+    /// # Errors
+    /// A step of the system that leaves the range; want of memory.
+    fn decided(&mut self, place: usize) -> Result<bool, GordanError>
+        requires { place < length self.old.normals }
+        ensures same { self.new ≡ self.old }
+        ensures ok { IfOk result (λ r. IsTrue r ↔ IsCrossable self.old place) }
+        ensures err { IfErr result (Failed (IsNormalStep self.old.variables (other_rows self.old place) (normal_at self.old place))) }
+    {
+        if let Some(known) = self.told(place) {
+            return Ok(known);
+        }
+        self.look_for_sum(place);
+        if let Some(known) = self.told(place) {
+            return Ok(known);
+        }
+        let _hit = self.shoot(place);
+        if let Some(known) = self.told(place) {
+            return Ok(known);
+        }
+        self.settle(place)
+    }
+
+    /// Whether a flip may cross the facet of the normal at a place, counted from 0.
+    ///
+    /// What is known is told; else sums of two, shots and the system itself decide, in this order.
+    ///
+    /// # Errors
+    /// `Cone` names a step of the system of the other normals and the unit vectors, with this normal as the equation, that
+    /// leaves the range; `Memory` may come at any time.
+    pub fn is_flippable(&mut self, place: usize) -> Result<bool, GordanError>
+        requires { place < length self.old.normals }
+        ensures same { self.new ≡ self.old }
+        ensures ok { IfOk result (λ r. IsTrue r ↔ IsCrossable self.old place) }
+        ensures told { IfOk result (IsFlipDecided self.old place) }
+        ensures err { IfErr result (Failed (IsNormalStep self.old.variables (other_rows self.old place) (normal_at self.old place))) }
+    {
+        self.decided(place)
+    }
+
+    /// Whether the normal at a place is negative at the root (1, .., 1).
+    fn is_negative(&self, place: usize) -> bool
+        requires { place < length self.now.normals }
+        ensures { IsTrue result ↔ IsNegative (all_positive self.now.variables).root (normal_at self.now place) }
+    {
+        matches!(self.normals()[place].root_sign(), Ordering::Less)
+    }
+
+    /// Whether the normal at a place is negative at the root, and a flip may cross its facet.
+    ///
+    /// # Errors
+    /// What `is_flippable` refuses at this place.
+    fn leads_up(&mut self, place: usize) -> Result<bool, GordanError>
+        requires { place < length self.old.normals }
+        ensures same { self.new ≡ self.old }
+        ensures ok { IfOk result (λ r. IsTrue r ↔ LeadsUpAt self.old place) }
+        ensures err { IfErr result (Failed (IsNormalStep self.old.variables (other_rows self.old place) (normal_at self.old place))) }
+    {
+        if self.is_negative(place) {
+            self.decided(place)
+        } else {
+            Ok(false)
+        }
+    }
+
+    /// Whether the normal at a place is known to lead up.
+    fn is_known_to_lead_up(&self, place: usize) -> bool
+        requires { place < length self.now.normals }
+        ensures { IsTrue result → LeadsUpAt self.now place }
+    {
+        if let Some(true) = self.told(place) {
+            self.is_negative(place)
+        } else {
+            false
+        }
+    }
+
+    /// Whether nothing is known of the normal at a place, and it is negative at the root.
+    fn is_candidate(&self, place: usize) -> bool
+        requires { place < length self.now.normals }
+    {
+        if let None = self.told(place) {
+            self.is_negative(place)
+        } else {
+            false
+        }
+    }
+
+    /// Looks for a normal before a place that leads up by what is known, and by sums of two for all of them.
+    fn sum_before(&mut self, end: usize) -> bool
+        requires { end ≤ length self.old.normals }
+        ensures same { self.new ≡ self.old }
+        ensures found { IsTrue result → SomeUpBefore self.old end }
+    {
+        for place in 0..end {
+            if self.is_known_to_lead_up(place) {
+                return true;
+            }
+            if self.is_candidate(place) {
+                self.look_for_sum(place);
+            }
+        }
+        false
+    }
+
+    /// Looks for a normal before a place that leads up by shots against those of which nothing is known.
+    fn shots_before(&mut self, end: usize) -> bool
+        requires { end ≤ length self.old.normals }
+        ensures same { self.new ≡ self.old }
+        ensures found { IsTrue result → SomeUpBefore self.old end }
+    {
+        for place in 0..end {
+            if self.is_candidate(place) {
+                match self.shoot(place) {
+                    Some(hit) => {
+                        if hit < end && self.is_known_to_lead_up(hit) {
+                            return true;
+                        }
+                    }
+                    None => {}
+                }
+            }
+        }
+        false
+    }
+
+    /// Whether some normal before a place leads up: a flip may cross its facet, and it is negative at the root (1, .., 1).
+    ///
+    /// It ends at the first such normal that is found: by what is known, by sums of two and shots for all of them, and only
+    /// then by their systems.
+    ///
+    /// # Errors
+    /// `Cone` names a step of the system of one of these normals that leaves the range; `Memory` may come at any time.
+    pub fn some_leads_up_before(&mut self, end: usize) -> Result<bool, GordanError>
+        requires { end ≤ length self.old.normals }
+        ensures same { self.new ≡ self.old }
+        ensures ok { IfOk result (λ r. IsTrue r ↔ SomeUpBefore self.old end) }
+        ensures err { IfErr result (Failed (IsStepBefore self.old end)) }
+    {
+        if self.sum_before(end) {
+            return Ok(true);
+        }
+        if self.shots_before(end) {
+            return Ok(true);
+        }
+        for place in 0..end {
+            if self.leads_up(place)? {
+                return Ok(true);
+            }
+        }
+        Ok(false)
+    }
+
+    /// The place of the least normal that leads up: a flip may cross its facet, and it is negative at the root (1, .., 1).
+    ///
+    /// # Errors
+    /// `Cone` names a step of the system of one of the normals that leaves the range; `Memory` may come at any time.
+    pub fn way_up(&mut self) -> Result<Option<usize>, GordanError>
+        ensures same { self.new ≡ self.old }
+        ensures ok { IfOk result (IsWayFrom self.old) }
+        ensures err { IfErr result (Failed (IsStepBefore self.old (length self.old.normals))) }
+    {
+        for place in 0..self.normals().len() {
+            if self.leads_up(place)? {
+                return Ok(Some(place));
+            }
+        }
+        Ok(None)
+    }
+
+    /// Whether the normal at a place is the least that leads up.
+    ///
+    /// # Errors
+    /// `Cone` names a step of the system of this normal or of one before it that leaves the range; `Memory` may come at any
+    /// time.
+    pub fn is_way_up(&mut self, place: usize) -> Result<bool, GordanError>
+        requires { place < length self.old.normals }
+        ensures same { self.new ≡ self.old }
+        ensures ok { IfOk result (λ r. IsTrue r ↔ IsLeastUp self.old place) }
+        ensures err { IfErr result (Failed (IsStepBefore self.old (place + 1))) }
+    {
+        if !self.leads_up(place)? {
+            return Ok(false);
+        }
+        if self.some_leads_up_before(place)? {
+            return Ok(false);
+        }
+        Ok(true)
+    }
+}

@@ -1,0 +1,5 @@
+use Rattle.gf_initial.proofs.TheoremsHold.{neighbours_are_unique}
+use Rattle.gf_initial.proofs.neighbours_are_unique.Goals as goal
+
+pub returns : goal.returns
+returns c = neighbours_are_unique
