@@ -1,18 +1,18 @@
 -- A walker's list in pieces: along the labels, and what the pieces leave.
 -- To cite: expansion_leaves, and for the proofs of `expand` rises_next, first_least, among_on, among_after, below_more, goes_down, placed_above, insert_first.
-use Rattle.std.proofs.Common.{◌≡◌, ℕ, zero, suc, ◌<◌, ◌≤◌, ◌+◌, List, [], ◌∷◌, ◌++◌, ◌⊎◌, length, refl, sym, ap, inl, inr, subst, ◌∙◌, arith, get_or, Option, Some, None, length-append, append-nil}
+use Rattle.std.proofs.Common.{◌≡◌, ℕ, zero, suc, ◌<◌, ◌≤◌, ◌+◌, List, [], ◌∷◌, ◌++◌, ◌⊎◌, length, refl, sym, ap, inl, inr, subst, ◌∙◌, arith, Some, length-append, append-nil}
 use Rattle.std.specs.List.{Contains, insert}
 use Rattle.gf_walk.specs.declared.mark.Mark.{Mark}
 use Rattle.gf_walk.specs.declared.mark.Mark.TheVariants.{Before, After, Listed, Finished}
 use Rattle.gf_walk.specs.declared.expand.Piece.{Piece}
 use Rattle.gf_walk.specs.declared.expand.Piece.TheVariants.{Ready, Under, Refused}
-use Rattle.gf_walk.specs.Path.{IsStrictOrder, IsTree, Leads, IsPath, Precedes}
-use Rattle.gf_walk.specs.Left.{IsLeft, IsBelow, IsOpen}
-use Rattle.gf_walk.specs.Place.{Place, StandsBelow, IsPlaced}
-use Rattle.gf_walk.specs.Tree.{RisesBy, HasLabels}
+use Rattle.gf_walk.specs.Path.{IsStrictOrder, IsTree, Leads, IsPath}
+use Rattle.gf_walk.specs.Left.{IsBelow, IsOpen}
+use Rattle.gf_walk.specs.Place.{Place, IsPlaced}
+use Rattle.gf_walk.specs.Tree.{RisesBy}
 use Rattle.gf_walk.specs.Walk.{HasNoChild, IsLeastChild, Steps}
-use Rattle.gf_walk.specs.Listing.{Among, LeadTo, Lists, Leaves, IsLeftAt, IsFirstOf}
-use Rattle.gf_walk.specs.Pieces.{PiecesLeave, AreBelow, HasRisen, EndsAt, Follows, GoesDown, Expands, subtree}
+use Rattle.gf_walk.specs.Listing.{Among, LeadTo, Leaves, IsLeftAt}
+use Rattle.gf_walk.specs.Pieces.{PiecesLeave, AreBelow, Follows, GoesDown, Expands, subtree}
 use Rattle.gf_walk.proofs.LeftLaws.{open_from_left, left_from_open}
 use Rattle.gf_walk.proofs.StepLaws.{up_cases, up_from, finished_open, none_cases}
 use Rattle.gf_walk.proofs.ClimbLaws.{last_step, Stands-start, Stands-child}
