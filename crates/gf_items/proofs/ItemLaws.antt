@@ -89,7 +89,6 @@ ring_same p (errors.TooManyVariables count) d h n k m = too_many_once p count d 
 ring_same p (errors.ZeroPolynomial set index) d h n k m = absurd h
 ring_same p errors.Memory d h n k m = absurd (n refl)
 
-
 ring_exact : (p : Position) (e d : TextError) → IsRingCause p e → IsExact e → IsRingCause p d → IsSaid d → d ≡ e
 ring_exact p e d h x k m = ring_same p e d h (exact_said e x) k m
 
