@@ -1,6 +1,6 @@
 //! The leading terms of a marked set.
 ghost use Rattle.std.specs.Prelude.{◌≡◌, length, IfOk};
-ghost use Rattle.gf_poly.specs.Marking.{IsMarked};
+ghost use Rattle.gf_poly.specs.Marking.{HasMarkedTerm};
 ghost use Rattle.gf_division.specs.MonicForms.{HasSomeVariables};
 ghost use Rattle.gf_small.specs.LeadingTerms.{leading_of, leading_set};
 
@@ -11,7 +11,7 @@ use std::alloc::{AllocError, Global};
 fn leading_term(alloc: Global, b: &Marked) -> Result<Marked, AllocError>
     requires { HasSomeVariables b.now }
     ensures value { IfOk result (λ c. c ≡ leading_of b.now) }
-    ensures marked { IfOk result (λ c. IsMarked b.now) }
+    ensures marked { IfOk result (λ c. HasMarkedTerm b.now) }
 {
     let coef = b.coefficient();
     let head = b.head();
