@@ -17,7 +17,7 @@ use Rattle.clap.specs.Walk.{answers_to, nothing_held, walk, rows_after}
 use Rattle.clap.specs.Simple.{argument_words, built_leaf, entered, inherited, label_of, marked_built, names_of, with_leaf_noted}
 use Rattle.clap.specs.Faults.{check_fault, entered_fault}
 use Rattle.gf_front.specs.declared.command_line.Job.{Job}
-use Rattle.gf_front.specs.Table.{Entry, table, commands, shape, most_pairs, usual_pairs, number_of, buchberger, is_marked_groebner_basis}
+use Rattle.gf_front.specs.Table.{Entry, table, commands, shape, most_pairs, usual_pairs, number_of, buchberger, is_marked_groebner_basis, leading_terms}
 use Rattle.gf_front.specs.Jobs.{HasMatch, HasNumbersInRange, match_of, job_in, job_of}
 use Rattle.gf_front.specs.Options.{HoldChoices, NamesEntry, IsCommand, HoldsNumber}
 use Rattle.gf_front.proofs.MatchLaws.{Enters, entered_rows, level_rows, rows_pass}
@@ -130,7 +130,7 @@ plain_sound e none limits = record { holds = λ rows ok. subst (λ os. HoldChoic
 
 all_sound : AreSound commands
 unfolding AreSound
-all_sound = (buchberger_sound, refl, (plain_sound is_marked_groebner_basis refl (λ rows. tt), refl, tt))
+all_sound = (buchberger_sound, refl, (plain_sound is_marked_groebner_basis refl (λ rows. tt), refl, (plain_sound leading_terms refl (λ rows. tt), refl, tt)))
 
 -- the rows of each command hold what its options take
 command_of : (m : Text × List Row) → Enters program m → IsCommand m

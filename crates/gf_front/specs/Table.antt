@@ -67,8 +67,11 @@ buchberger = record {
 abbrev pub is_marked_groebner_basis : Entry
 is_marked_groebner_basis = record { name = codes "_ismarkedgroebnerbasis"; options = []; job = λ rows. jobs.IsMarkedGroebnerBasis }
 
+abbrev pub leading_terms : Entry
+leading_terms = record { name = codes "_leadingterms"; options = []; job = λ rows. jobs.LeadingTerms }
+
 abbrev pub commands : List Entry
-commands = buchberger ∷ is_marked_groebner_basis ∷ []
+commands = buchberger ∷ is_marked_groebner_basis ∷ leading_terms ∷ []
 
 -- a command as clap has it
 abbrev pub shape : Entry → Shape

@@ -29,6 +29,8 @@ pub enum Job {
     },
     /// Whether a marked set is a Gröbner basis for its marking.
     IsMarkedGroebnerBasis,
+    /// The leading terms of a marked set.
+    LeadingTerms,
 }
 
 /// Why there is no job.
@@ -85,6 +87,7 @@ fn job_of(name: &str, found: &ArgMatches) -> Job
     match name {
         "_buchberger" => buchberger(found),
         "_ismarkedgroebnerbasis" => Job::IsMarkedGroebnerBasis,
+        "_leadingterms" => Job::LeadingTerms,
         _ => unreachable!(),
     }
 }

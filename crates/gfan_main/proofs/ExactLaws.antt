@@ -28,6 +28,7 @@ use Rattle.gfan_main.specs.declared.buchberger.Options.{Options}
 use Rattle.gfan_main.specs.declared.marked.error.CheckError.{CheckError}
 use Rattle.gfan_main.specs.declared.marked.error.CheckError.TheVariants as check_errors
 use Rattle.gfan_main.specs.Buchberger.{polynomials_of, asked_order, of_basis, buchberger_command}
+use Rattle.gfan_main.specs.LeadingTerms.{leading_terms_command}
 use Rattle.gfan_main.specs.Marked.{of_check, marked_command}
 use Rattle.gfan_main.specs.Commands.{options, command, IsAnswerTo, IsRefusalOf, IsWithinReach}
 use Rattle.gfan_main.proofs.FormLaws.{AreKept, form_once}
@@ -81,11 +82,22 @@ marked_exact = record {
   within = λ v r w h. h.1 ∙ ap of_check (w h.0 h.2);
 }
 
+-- ---- `_leadingterms`
+
+leading_exact : IsExactCommand leading_terms_command
+leading_exact = record {
+  items = ring_and_once a_marked_set [];
+  checks = λ source v r. tt;
+  work = λ v r h. subst IsOfWork (sym h) tt;
+  within = λ v r w h. h;
+}
+
 -- ---- each job
 
 laws : (job : Job) → IsExactCommand (command job)
 laws (jobs.Buchberger weighted revlex pairs) = buchberger_exact (options weighted revlex pairs)
 laws jobs.IsMarkedGroebnerBasis = marked_exact
+laws jobs.LeadingTerms = leading_exact
 
 pub exact_text : (job : Job) (source : List ℕ) (r d : Refusal) → IsOfText r → IsRefusalOf job source r → IsRefusalOf job source d → (d ≡ r) ⊎ (d ≡ refusals.Memory)
 exact_text job source r d t h k = exact (command job) (laws job) source r d (inl t) h k

@@ -8,6 +8,7 @@ use Rattle.gf_items.specs.Commands.{Command, IsAnswered, IsRefusedBy, IsInReach,
 use Rattle.gfan_main.specs.declared.buchberger.Options.{Options}
 use Rattle.gfan_main.specs.Buchberger.{buchberger_command}
 use Rattle.gfan_main.specs.Marked.{marked_command}
+use Rattle.gfan_main.specs.LeadingTerms.{leading_terms_command}
 
 -- the options of `_buchberger`
 abbrev pub options : Bool → Bool → ℕ → Options
@@ -17,6 +18,7 @@ options weighted revlex pairs = record { weighted = weighted; revlex = revlex; p
 abbrev pub command : Job → Command
 command (jobs.Buchberger weighted revlex pairs) = buchberger_command (options weighted revlex pairs)
 command jobs.IsMarkedGroebnerBasis = marked_command
+command jobs.LeadingTerms = leading_terms_command
 
 -- the text is what the job writes for the source
 abbrev pub IsAnswerTo : Job → List ℕ → List ℕ → Type 0

@@ -4,6 +4,7 @@ pub mod Questions  -- how what is read is checked, and what is asked then
 pub mod MarkingRows  -- the system of a marking
 pub mod MarkedBases  -- when a marked set is a basis, and why it isn't tested
 pub mod Marked  -- what `_ismarkedgroebnerbasis` reads and writes
+pub mod LeadingTerms  -- what `_leadingterms` writes
 pub mod Refused  -- a refusal with the ring in whose names it is told
 pub mod Commands  -- what the program does for each job
 pub mod Run  -- the top call

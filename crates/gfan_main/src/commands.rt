@@ -5,7 +5,7 @@ ghost use Rattle.gfan_main.specs.Commands.{IsAnswerTo, IsRefusalOf};
 
 use crate::buchberger::Options;
 use crate::refused::Refused;
-use crate::{buchberger, marked};
+use crate::{buchberger, leading_terms, marked};
 use gf_front::Job;
 use std::alloc::Global;
 
@@ -29,5 +29,6 @@ pub(crate) fn answered(alloc: Global, job: &Job, source: &[u8]) -> Result<Vec<u8
             buchberger::answer(alloc, source, options)
         }
         Job::IsMarkedGroebnerBasis => marked::answer(alloc, source),
+        Job::LeadingTerms => leading_terms::answer(alloc, source),
     }
 }

@@ -1,8 +1,8 @@
 // Gröbner fans over the rational numbers: the program.
 //
 // `_buchberger` reads a ring and a set, and writes the reduced Gröbner basis by lex; `_ismarkedgroebnerbasis` reads a ring
-// and a marked set, and writes whether it is a Gröbner basis for its marking. What a run does is told at `run`, what each
-// command writes in `specs/Commands.antt`.
+// and a marked set, and writes whether it is a Gröbner basis for its marking; `_leadingterms` reads a ring and a marked
+// set, and writes its leading terms. What a run does is told at `run`, what each command writes in `specs/Commands.antt`.
 #![tactic(auto)]
 
 ghost use Rattle.std.specs.Prelude.{◌≡◌};
@@ -11,6 +11,7 @@ ghost use Rattle.gf_front.specs.Lines.{code_of};
 
 mod buchberger;
 mod commands;
+mod leading_terms;
 mod marked;
 mod printing;
 mod refused;

@@ -1,0 +1,1 @@
+mod LeadingTermsLaws  -- marked terms as code finds them

@@ -1,0 +1,1 @@
+pub mod LeadingTerms  -- the marked terms of a set
