@@ -8,39 +8,26 @@ use Rattle.gf_text.specs.declared.error.TextError.TheVariants as errors
 use Rattle.gf_text.specs.declared.error.Syntax.{Syntax}
 use Rattle.gf_text.specs.declared.written.Written.{Written}
 use Rattle.gf_text.specs.declared.written.Written.TheVariants as written
-use Rattle.gf_text.specs.Machine.{Fault}
-use Rattle.gf_text.specs.Refusing.{refusal}
-use Rattle.gf_text.specs.Given.{IsRefused}
 use Rattle.gf_text.specs.Tokens.{Position, lexemes, word_more}
-use Rattle.gf_text.specs.RingText.{IsRing, ring_at}
+use Rattle.gf_text.specs.RingText.{IsRing}
 use Rattle.gf_text.specs.Rings.{IsRingRead, IsRingCause, HasNoRing, HasTooMany}
-use Rattle.gf_text.specs.SetText.{set_at}
 use Rattle.gf_text.specs.Sets.{IsSetRead, IsSetCause, HasNoSet, IsMarkedRead, IsMarkedCause, HasZeroPolynomial}
-use Rattle.gf_text.specs.VectorText.{vector_at}
-use Rattle.gf_text.specs.Vectors.{IsVectorRead, IsVectorCause}
+use Rattle.gf_text.specs.Vectors.{IsVectorRead, IsVectorCause, HasNoVector}
 use Rattle.gf_text.proofs.RingTextLaws.{one_ring}
+use Rattle.gf_text.proofs.RingKindsLaws.{no_ring_same}
+use Rattle.gf_text.proofs.SetKindsLaws.{no_set_same}
+use Rattle.gf_text.proofs.VectorTextLaws.{one_vector}
+use Rattle.gf_text.proofs.VectorKindsLaws.{no_vector_same}
 use Rattle.gf_text.proofs.ReadAgainLaws.{read_once, not_refused}
 use Rattle.gf_items.specs.Items.{a_ring, a_set_in, a_marked_set_in, a_vector}
 use Rattle.gf_items.proofs.ReadingLaws.{IsSaid, IsExact, exact_said, IsReadOnce}
-
--- what is refused by a fault is refused in one way
-refused_once : {Y : Type 0} (read : Result Y Fault) (e d : TextError) → IsRefused e read → IsRefused d read → d ≡ e
-refused_once read e d h k =
-    let first = h.1 in
-    let second = k.1 in
-    let same : k.0 ≡ h.0 = cc in
-    sym k.2 ∙ ap refusal same ∙ h.2
 
 -- ---- rings
 
 rings_once : (p : Position) (end other : ℕ) (a b : List (List ℕ)) → IsRingRead p end a → IsRingRead p other b → (other ≡ end) × (b ≡ a)
 rings_once p end other a b h k =
-    let one : List (List ℕ) × ℕ = (a, end) in
-    let two : List (List ℕ) × ℕ = (b, other) in
-    let first = h.read in
-    let second = k.read in
-    let pair : two ≡ one = cc in
-    (ap (λ q. q.1) pair, ap (λ q. q.0) pair)
+    let same = one_ring (lexemes word_more p.source p.at) b a other end k.text h.text in
+    (same.1, same.0)
 
 too_many : (p : Position) (at : ℕ) (names : List (List ℕ)) (count : ℕ) → IsRingRead p at names → HasTooMany p count → ⊥
 too_many p at names count a h =
@@ -50,7 +37,7 @@ too_many p at names count a h =
 ring_apart : (p : Position) (at : ℕ) (names : List (List ℕ)) (e : TextError) → IsRingRead p at names → IsRingCause p e → IsSaid e → ⊥
 ring_apart p at names (errors.Overflow o) a h n = h
 ring_apart p at names (errors.Exponent o) a h n = h
-ring_apart p at names (errors.Syntax s) a h n = h.text.none names at a.text
+ring_apart p at names (errors.Syntax s) a h n = h.none names at a.text
 ring_apart p at names (errors.TooWide place) a h n = h
 ring_apart p at names (errors.UnknownName place) a h n = h
 ring_apart p at names (errors.TooManyVariables count) a h n = too_many p at names count a h
@@ -60,17 +47,17 @@ ring_apart p at names errors.Memory a h n = n refl
 no_ring_once : (p : Position) (s : Syntax) (d : TextError) → HasNoRing p (errors.Syntax s) → IsRingCause p d → IsSaid d → d ≡ errors.Syntax s
 no_ring_once p s (errors.Overflow o) h k m = absurd k
 no_ring_once p s (errors.Exponent o) h k m = absurd k
-no_ring_once p s (errors.Syntax t) h k m = refused_once (ring_at p.source p.at) (errors.Syntax s) (errors.Syntax t) h.read k.read
+no_ring_once p s (errors.Syntax t) h k m = no_ring_same p (errors.Syntax s) (errors.Syntax t) h k
 no_ring_once p s (errors.TooWide place) h k m = absurd k
 no_ring_once p s (errors.UnknownName place) h k m = absurd k
-no_ring_once p s (errors.TooManyVariables count) h k m = absurd (h.text.none k.names k.place k.text)
+no_ring_once p s (errors.TooManyVariables count) h k m = absurd (h.none k.names k.place k.text)
 no_ring_once p s (errors.ZeroPolynomial set index) h k m = absurd k
 no_ring_once p s errors.Memory h k m = absurd (m refl)
 
 too_many_once : (p : Position) (count : ℕ) (d : TextError) → HasTooMany p count → IsRingCause p d → IsSaid d → d ≡ errors.TooManyVariables count
 too_many_once p count (errors.Overflow o) h k m = absurd k
 too_many_once p count (errors.Exponent o) h k m = absurd k
-too_many_once p count (errors.Syntax t) h k m = absurd (k.text.none h.names h.place h.text)
+too_many_once p count (errors.Syntax t) h k m = absurd (k.none h.names h.place h.text)
 too_many_once p count (errors.TooWide place) h k m = absurd k
 too_many_once p count (errors.UnknownName place) h k m = absurd k
 too_many_once p count (errors.TooManyVariables other) h k m =
@@ -111,11 +98,11 @@ no_set names p (errors.ZeroPolynomial set index) h x = absurd h
 no_set names p errors.Memory h x = elim x [ inl y ↦ absurd y | inr y ↦ absurd y ]
 
 no_set_once : (names : List (List ℕ)) (p : Position) (e d : TextError) → HasNoSet names p e → IsSetCause names p d → IsSaid d → d ≡ e
-no_set_once names p e (errors.Overflow o) h k m = absurd (h.text.none k.said k.place k.text)
-no_set_once names p e (errors.Exponent o) h k m = absurd (h.text.none k.said k.place k.text)
-no_set_once names p e (errors.Syntax s) h k m = refused_once (set_at names p.source p.at) e (errors.Syntax s) h.read k.read
-no_set_once names p e (errors.TooWide at) h k m = refused_once (set_at names p.source p.at) e (errors.TooWide at) h.read k.read
-no_set_once names p e (errors.UnknownName at) h k m = refused_once (set_at names p.source p.at) e (errors.UnknownName at) h.read k.read
+no_set_once names p e (errors.Overflow o) h k m = absurd (h.none k.said k.place k.text)
+no_set_once names p e (errors.Exponent o) h k m = absurd (h.none k.said k.place k.text)
+no_set_once names p e (errors.Syntax s) h k m = no_set_same names p e (errors.Syntax s) h k
+no_set_once names p e (errors.TooWide at) h k m = no_set_same names p e (errors.TooWide at) h k
+no_set_once names p e (errors.UnknownName at) h k m = no_set_same names p e (errors.UnknownName at) h k
 no_set_once names p e (errors.TooManyVariables count) h k m = absurd k
 no_set_once names p e (errors.ZeroPolynomial set index) h k m = absurd k
 no_set_once names p e errors.Memory h k m = absurd (m refl)
@@ -205,7 +192,7 @@ fault_once names p e (errors.Syntax s) is h k m = no_set_once names p e (errors.
 fault_once names p e (errors.TooWide at) is h k m = no_set_once names p e (errors.TooWide at) h k m
 fault_once names p e (errors.UnknownName at) is h k m = no_set_once names p e (errors.UnknownName at) h k m
 fault_once names p e (errors.TooManyVariables count) is h k m = absurd k
-fault_once names p e (errors.ZeroPolynomial set index) is h k m = absurd (let first = h.read.1 in let second = k.read.read in let none : ⊥ = cc in none)
+fault_once names p e (errors.ZeroPolynomial set index) is h k m = absurd (h.none k.read.said k.place k.read.text)
 fault_once names p e errors.Memory is h k m = absurd (m refl)
 
 marked_same : (names : List (List ℕ)) (p : Position) (e d : TextError) → IsRing names → IsMarkedCause names p e → IsExact e → IsMarkedCause names p d → IsSaid d → d ≡ e
@@ -229,28 +216,24 @@ marked_set_once names is = record {
 
 vectors_once : (p : Position) (end other : ℕ) (v w : List ℤ) → IsVectorRead p end v → IsVectorRead p other w → (other ≡ end) × (w ≡ v)
 vectors_once p end other v w a b =
-    let one : List ℤ × ℕ = (v, end) in
-    let two : List ℤ × ℕ = (w, other) in
-    let first = a.read in
-    let second = b.read in
-    let pair : two ≡ one = cc in
-    (ap (λ q. q.1) pair, ap (λ q. q.0) pair)
+    let same = one_vector (lexemes word_more p.source p.at) w v other end b a in
+    (same.1, same.0)
 
-vector_refused : (p : Position) (e : TextError) → IsVectorCause p e → IsSaid e → IsRefused e (vector_at p.source p.at)
-vector_refused p (errors.Overflow o) h n = absurd h
-vector_refused p (errors.Exponent o) h n = absurd h
-vector_refused p (errors.Syntax s) h n = h.read
-vector_refused p (errors.TooWide at) h n = h.read
-vector_refused p (errors.UnknownName at) h n = absurd h
-vector_refused p (errors.TooManyVariables count) h n = absurd h
-vector_refused p (errors.ZeroPolynomial set index) h n = absurd h
-vector_refused p errors.Memory h n = absurd (n refl)
+no_vector : (p : Position) (e : TextError) → IsVectorCause p e → IsSaid e → HasNoVector p e
+no_vector p (errors.Overflow o) h n = absurd h
+no_vector p (errors.Exponent o) h n = absurd h
+no_vector p (errors.Syntax s) h n = h
+no_vector p (errors.TooWide at) h n = h
+no_vector p (errors.UnknownName at) h n = absurd h
+no_vector p (errors.TooManyVariables count) h n = absurd h
+no_vector p (errors.ZeroPolynomial set index) h n = absurd h
+no_vector p errors.Memory h n = absurd (n refl)
 
 vector_apart : (p : Position) (end : ℕ) (v : List ℤ) (e : TextError) → IsVectorRead p end v → IsVectorCause p e → IsSaid e → ⊥
-vector_apart p end v e a h n = let refused = vector_refused p e h n in let first = refused.1 in let second = a.read in cc
+vector_apart p end v e a h n = (no_vector p e h n).none v end a
 
 vector_same : (p : Position) (e d : TextError) → IsVectorCause p e → IsExact e → IsVectorCause p d → IsSaid d → d ≡ e
-vector_same p e d h x k m = refused_once (vector_at p.source p.at) e d (vector_refused p e h (exact_said e x)) (vector_refused p d k m)
+vector_same p e d h x k m = no_vector_same p e d (no_vector p e h (exact_said e x)) (no_vector p d k m)
 
 pub vector_once : IsReadOnce a_vector
 vector_once = record { once = vectors_once; apart = vector_apart; same = vector_same }

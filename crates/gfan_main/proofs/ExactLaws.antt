@@ -8,7 +8,7 @@ use Rattle.gf_poly.specs.Marking.{Each}
 use Rattle.gf_text.specs.declared.written.Written.{Written}
 use Rattle.gf_text.specs.declared.written.Written.TheVariants as written
 use Rattle.gf_text.specs.Tokens.{Position}
-use Rattle.gf_text.specs.Combining.{HaveVariables}
+use Rattle.gf_text.specs.Combining.{SumsHaveVariables}
 use Rattle.gf_text.specs.Sets.{AreWritten, IsSetRead}
 use Rattle.gf_text.proofs.CombiningLaws.{sums_variables}
 use Rattle.gf_ideal.proofs.ListLaws.{contained_each}
