@@ -15,7 +15,7 @@ use Rattle.gf_poly.specs.Marking.{head_of}
 use Rattle.gf_poly.proofs.DescendingLaws.{greater_trans}
 use Rattle.gf_ideal.proofs.ListLaws.{Each-++}
 use Rattle.gf_division.proofs.DescendingParts.{descending-back, variables-back, coefficient-midst}
-use Rattle.gf_division.specs.Dividends.{Split, joined_terms, IsSound, IsFirstTerm, AreOver, PassesOne, FirstIs, Descends, MovesUp}
+use Rattle.gf_division.specs.Dividends.{Split, joined_terms, IsSound, IsTermInFront, AreOver, PassesOne, FirstIs, Descends, MovesUp}
 
 -- ---- one term over the place
 
@@ -96,16 +96,16 @@ terms_down old new a = ap (λ (z : Terms). z ++ new.below) a.above ∙ append_as
 
 -- ---- the first term below the place
 
-pub first_coefficient : (n : ℕ) (s : Split) (t : Term) → IsSound n s → IsFirstTerm s.below t → coefficient (joined_terms s) (head_of s.below zero) ≡ t.coef
+pub first_coefficient : (n : ℕ) (s : Split) (t : Term) → IsSound n s → IsTermInFront s.below t → coefficient (joined_terms s) (head_of s.below zero) ≡ t.coef
 first_coefficient n s t h f =
     subst (λ (z : Terms). coefficient (s.above ++ z) (head_of z zero) ≡ t.coef) (sym f.is)
     (coefficient-midst n s.above t f.rest (subst (λ (z : Terms). HasVariables n (s.above ++ z)) f.is h.variables) (subst (λ (z : Terms). IsDescending (s.above ++ z)) f.is h.descending))
 
-pub first_nonzero : (n : ℕ) (s : Split) (t : Term) → IsSound n s → IsFirstTerm s.below t → t.coef ≢ zero_ℚ
+pub first_nonzero : (n : ℕ) (s : Split) (t : Term) → IsSound n s → IsTermInFront s.below t → t.coef ≢ zero_ℚ
 first_nonzero n s t h f = (subst IsDescending f.is (descending-back s.above s.below h.descending)).0
 
-pub first_length : (n : ℕ) (s : Split) (t : Term) → IsSound n s → IsFirstTerm s.below t → length t.mono ≡ n
+pub first_length : (n : ℕ) (s : Split) (t : Term) → IsSound n s → IsTermInFront s.below t → length t.mono ≡ n
 first_length n s t h f = (subst (HasVariables n) f.is (variables-back n s.above s.below h.variables)).0
 
-pub first_head : (f : Terms) (t : Term) → IsFirstTerm f t → t.mono ≡ head_of f zero
+pub first_head : (f : Terms) (t : Term) → IsTermInFront f t → t.mono ≡ head_of f zero
 first_head f t h = sym (ap (λ (z : Terms). head_of z zero) h.is)

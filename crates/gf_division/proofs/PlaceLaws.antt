@@ -19,7 +19,7 @@ use Rattle.gf_poly.proofs.CoefficientLaws.{coefficient-above}
 use Rattle.gf_ideal.specs.Membership.{HasMonomial}
 use Rattle.gf_ideal.proofs.StepLaws.{step-gone}
 use Rattle.gf_division.specs.Steps.{StepsTo, IsStepRefusal}
-use Rattle.gf_division.specs.Dividends.{Split, joined_terms, IsSound, IsFirstTerm, DividesFirst, AreOver, FirstIs, Descends, SharesVariables, TakesStep}
+use Rattle.gf_division.specs.Dividends.{Split, joined_terms, IsSound, IsTermInFront, DividesFirst, AreOver, FirstIs, Descends, SharesVariables, TakesStep}
 use Rattle.gf_division.proofs.DescendingParts.{descending-back, variables-front, variables-back}
 use Rattle.gf_division.proofs.SubtractionLaws.{coefficient-over}
 use Rattle.gf_division.proofs.DividendLaws.{first_head}
@@ -29,7 +29,7 @@ pub record IsPlaced (f : Terms) (x : Exponents) (s : Split) : Type 0 where
   pub same : joined_terms s ≡ f
   pub sound : IsSound (length x) s
   pub term : Term
-  pub is : IsFirstTerm s.below term
+  pub is : IsTermInFront s.below term
   pub at : term.mono ≡ x
 
 -- nothing at x, where the terms before are over it and the others below

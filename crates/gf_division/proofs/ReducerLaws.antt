@@ -21,7 +21,7 @@ use Rattle.gf_poly.proofs.CoefficientLaws.{apart}
 use Rattle.gf_ideal.specs.Reduction.{IsDivisible}
 use Rattle.gf_ideal.specs.Settled.{IsAt}
 use Rattle.gf_ideal.proofs.ListLaws.{Each-++, contained_each}
-use Rattle.gf_division.specs.Dividends.{Split, joined_terms, IsFirstTerm, PassesOne}
+use Rattle.gf_division.specs.Dividends.{Split, joined_terms, IsTermInFront, PassesOne}
 use Rattle.gf_division.specs.Reducers.{IsDivisorAt, IsBeside, IsSpareIn, AreIrreducible, ShareVariables}
 use Rattle.gf_division.proofs.DividendLaws.{terms_down, first_length}
 use Rattle.gf_division.proofs.StepLaws.{head_length}
@@ -105,7 +105,7 @@ pub record Seeking (bs : List MarkedPolynomial) (spared : Option Exponents) (old
 pub seeking-none : (bs : List MarkedPolynomial) (spared : Option Exponents) (s : Split) → ShareVariables s bs spared → AreIrreducible bs spared s.above → Seeking bs spared s s
 seeking-none bs spared s v a = record { same = refl; variables = v; above = a }
 
-pub seeking-more : (bs : List MarkedPolynomial) (spared : Option Exponents) (old now new : Split) (t : Term) → IsFirstTerm now.below t → (IsBeside spared t.mono → IsDivisible (Contains bs) t.mono → ⊥) → PassesOne now new → Seeking bs spared old now → Seeking bs spared old new
+pub seeking-more : (bs : List MarkedPolynomial) (spared : Option Exponents) (old now new : Split) (t : Term) → IsTermInFront now.below t → (IsBeside spared t.mono → IsDivisible (Contains bs) t.mono → ⊥) → PassesOne now new → Seeking bs spared old now → Seeking bs spared old new
 seeking-more bs spared old now new t f n a k =
     let e : joined_terms new ≡ joined_terms now = terms_down now new a in
     let q : t ≡ a.term = first_equal (sym f.is ∙ a.below) in
@@ -124,8 +124,8 @@ seeking-more bs spared old now new t f n a k =
     first_equal e = cc
 
 -- the first term below the place has the variables of the members and of the spared monomial
-pub first_members : (s : Split) (bs : List MarkedPolynomial) (spared : Option Exponents) (t : Term) → ShareVariables s bs spared → IsFirstTerm s.below t → HaveVariables (length t.mono) bs
+pub first_members : (s : Split) (bs : List MarkedPolynomial) (spared : Option Exponents) (t : Term) → ShareVariables s bs spared → IsTermInFront s.below t → HaveVariables (length t.mono) bs
 first_members s bs spared t v f = subst (λ (n : ℕ). HaveVariables n bs) (sym (first_length v.n s t v.sound f)) v.members
 
-pub first_spare : (s : Split) (bs : List MarkedPolynomial) (spared : Option Exponents) (t : Term) → ShareVariables s bs spared → IsFirstTerm s.below t → IsSpareIn (length t.mono) spared
+pub first_spare : (s : Split) (bs : List MarkedPolynomial) (spared : Option Exponents) (t : Term) → ShareVariables s bs spared → IsTermInFront s.below t → IsSpareIn (length t.mono) spared
 first_spare s bs spared t v f = subst (λ (n : ℕ). IsSpareIn n spared) (sym (first_length v.n s t v.sound f)) v.spare

@@ -33,7 +33,7 @@ use Rattle.gf_ideal.proofs.ListLaws.{Each-++}
 use Rattle.gf_ideal.proofs.ListedTerms.{listed, box_of_monomial}
 use Rattle.gf_ideal.proofs.MeasureLaws.{work_left-at}
 use Rattle.gf_division.specs.Steps.{IsStepRefusal, IsReductionRefusal}
-use Rattle.gf_division.specs.Dividends.{Split, joined_terms, IsSound, IsFirstTerm, SharesVariables, TakesStep}
+use Rattle.gf_division.specs.Dividends.{Split, joined_terms, IsSound, IsTermInFront, SharesVariables, TakesStep}
 use Rattle.gf_division.specs.Reducers.{IsBeside, AreIrreducible, ShareVariables, IsReducibleFirst}
 use Rattle.gf_division.proofs.DescendingParts.{descending-back, variables-back}
 use Rattle.gf_division.proofs.DividendLaws.{first_head, first_length}
@@ -50,7 +50,7 @@ share_along s t bs spared e v = record { n = v.n; sound = sound_same v.n s t e v
 -- what the search has found: the step at x by the member b at the place j
 pub record RuleFacts (bs : List MarkedPolynomial) (spared : Option Exponents) (s : Split) (j : ℕ) (b : MarkedPolynomial) : Type 0 where
   pub term : Term
-  pub is : IsFirstTerm s.below term
+  pub is : IsTermInFront s.below term
   pub at : IsAt bs j b
   pub divides : Divides b.head term.mono
   pub first : (i : ℕ) (c : MarkedPolynomial) → i < j → IsAt bs i c → Divides c.head term.mono → ⊥
@@ -108,7 +108,7 @@ no_multiple h x n rest = at (same x (plus h rest)) refl
     at true e = absurd (n (record { rest = rest; product = ap (same x) (plus_comm rest h) ∙ e }))
 
 -- where a listed term can be divided, it is that at x or one below it
-pub greatest_divisible : (bs : List MarkedPolynomial) (s : Split) (n : ℕ) (t : Term) → IsSound n s → IsFirstTerm s.below t → AreIrreducible bs None s.above → (x : Exponents) → HasMonomial (joined_terms s) x → IsDivisible (Contains bs) x → (same x t.mono ≡ true) ⊎ IsDeglexBelow x t.mono
+pub greatest_divisible : (bs : List MarkedPolynomial) (s : Split) (n : ℕ) (t : Term) → IsSound n s → IsTermInFront s.below t → AreIrreducible bs None s.above → (x : Exponents) → HasMonomial (joined_terms s) x → IsDivisible (Contains bs) x → (same x t.mono ≡ true) ⊎ IsDeglexBelow x t.mono
 greatest_divisible bs s n t h f a x m d = onto (listed Q (joined_terms s) x (Each-++ Q s.above s.below (above s.above a) below) m)
   where
     Q : Term → Type 0

@@ -41,14 +41,14 @@ pub record IsSound (n : ℕ) (s : Split) : Type 0 where
   pub variables : HasVariables n (joined_terms s)
 
 -- t is the first term of f
-pub record IsFirstTerm (f : Terms) (t : Term) : Type 0 where
+pub record IsTermInFront (f : Terms) (t : Term) : Type 0 where
   pub rest : Terms
   pub is : f ≡ t ∷ rest
 
 -- x divides the first term of f
 pub record DividesFirst (x : Exponents) (f : Terms) : Type 0 where
   pub term : Term
-  pub first : IsFirstTerm f term
+  pub first : IsTermInFront f term
   pub divides : Divides x term.mono
 
 -- ---- moves

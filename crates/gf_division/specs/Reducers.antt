@@ -9,7 +9,7 @@ use Rattle.gf_poly.specs.Polynomial.{Terms, HasVariables}
 use Rattle.gf_poly.specs.Marking.{MarkedPolynomial, Each, HaveVariables}
 use Rattle.gf_ideal.specs.Reduction.{IsDivisible}
 use Rattle.gf_ideal.specs.Settled.{IsAt}
-use Rattle.gf_division.specs.Dividends.{Split, IsSound, IsFirstTerm}
+use Rattle.gf_division.specs.Dividends.{Split, IsSound, IsTermInFront}
 
 -- the member at the place j is the first one whose mark divides x; it has as many variables as x
 pub record IsDivisorAt (bs : List MarkedPolynomial) (x : Exponents) (j : ℕ) : Type 0 where
@@ -44,7 +44,7 @@ pub record ShareVariables (s : Split) (bs : List MarkedPolynomial) (spared : Opt
 -- the member at the place j reduces the first term below the place
 pub record IsReducibleFirst (bs : List MarkedPolynomial) (spared : Option Exponents) (s : Split) (j : ℕ) : Type 0 where
   pub term : Term
-  pub is : IsFirstTerm s.below term
+  pub is : IsTermInFront s.below term
   pub divisor : IsDivisorAt bs term.mono j
   pub beside : IsBeside spared term.mono
   pub monomial : IsMonomial term.mono

@@ -7,7 +7,7 @@ ghost use Rattle.gf_poly.specs.Marking.{head_of};
 ghost use Rattle.gf_poly.specs.Polynomial.{coefficient as coefficient_at, IsDescending, HasVariables};
 ghost use Rattle.gf_poly.specs.Sums.{PushesNonzero};
 ghost use Rattle.gf_division.specs.Steps.{IsStepRefusal};
-ghost use Rattle.gf_division.specs.Dividends.{split_of, joined_terms, IsSound, IsFirstTerm, DividesFirst, AreOver, AreOverProducts, PassesOne, FirstIs, Descends, MovesUp, TakesFromFirst, IsFirstRefusal, TakesAway, IsDifferenceRefusal, IsScalingOverflow, Subtracts, IsSubtractionRefusal, SharesVariables, TakesStep};
+ghost use Rattle.gf_division.specs.Dividends.{split_of, joined_terms, IsSound, IsTermInFront, DividesFirst, AreOver, AreOverProducts, PassesOne, FirstIs, Descends, MovesUp, TakesFromFirst, IsFirstRefusal, TakesAway, IsDifferenceRefusal, IsScalingOverflow, Subtracts, IsSubtractionRefusal, SharesVariables, TakesStep};
 
 use gf_frac::{Frac, Overflow};
 use gf_poly::{Marked, Mono, Poly, PolyError, Term};
@@ -94,7 +94,7 @@ impl Dividend {
 
     /// The first term below the place.
     pub fn next(&self) -> Option<&Term>
-        ensures { MatchOption result ((split_of self.now).below ≡ []) (λ t. IsFirstTerm (split_of self.now).below t.now) }
+        ensures { MatchOption result ((split_of self.now).below ≡ []) (λ t. IsTermInFront (split_of self.now).below t.now) }
     {
         let n = self.below.len();
         if n == 0 {

@@ -9,7 +9,7 @@ use Rattle.gf_front.specs.declared.refusal.Refusal.{Refusal}
 use Rattle.gf_front.specs.declared.refusal.Refusal.TheVariants as refusals
 use Rattle.gf_items.specs.Items.{IsTextOf}
 use Rattle.gf_items.specs.Checks.{AllHold, FirstFails}
-use Rattle.gf_items.specs.Commands.{Command, of_text, IsExactRefusal, IsOfWork, IsOfJob, IsUnanswered, IsAnswered, IsRefusedBy, IsInReach}
+use Rattle.gf_items.specs.Commands.{Command, of_text, IsExactRefusal, IsOfWork, IsOfJob, IsUnanswered, IsAnswered, IsCommandRefused, IsInReach}
 use Rattle.gf_items.proofs.ReadingLaws.{IsReadOnce, Reading, stopped, whole, IsGood, Ends, ends_once, text_ends}
 use Rattle.gf_items.proofs.CheckLaws.{AreCheckedOnce, first_once, first_apart, first_kind}
 
@@ -54,16 +54,16 @@ module _ (c : Command) (laws : IsExactCommand c) (source : List ℕ) where
     ends : Ends c.items source reading
     follows : Follows reading r
 
-  ended : (r : Refusal) → IsRefusedBy c source r → (r ≡ refusals.Memory) ⊎ Ended r
+  ended : (r : Refusal) → IsCommandRefused c source r → (r ≡ refusals.Memory) ⊎ Ended r
   unfolding Follows
-  ended r (IsRefusedBy.in_text e h q) = elim (text_ends c.items laws.items source r e h q) [
+  ended r (IsCommandRefused.in_text e h q) = elim (text_ends c.items laws.items source r e h q) [
     | inl m ↦ inl m
     | inr x ↦ inr (record { reading = stopped r; ends = x; follows = refl })
   ]
-  ended r (IsRefusedBy.behind_text a h (IsUnanswered.in_form f)) = inr (record { reading = whole a; ends = Ends.all a h refl; follows = (h, inl f) })
-  ended r (IsRefusedBy.behind_text a h (IsUnanswered.in_work g w)) = inr (record { reading = whole a; ends = Ends.all a h refl; follows = (h, inr (g, w)) })
-  ended r (IsRefusedBy.behind_text a h (IsUnanswered.no_memory m)) = inl m
-  ended r (IsRefusedBy.no_memory m) = inl m
+  ended r (IsCommandRefused.behind_text a h (IsUnanswered.in_form f)) = inr (record { reading = whole a; ends = Ends.all a h refl; follows = (h, inl f) })
+  ended r (IsCommandRefused.behind_text a h (IsUnanswered.in_work g w)) = inr (record { reading = whole a; ends = Ends.all a h refl; follows = (h, inr (g, w)) })
+  ended r (IsCommandRefused.behind_text a h (IsUnanswered.no_memory m)) = inl m
+  ended r (IsCommandRefused.no_memory m) = inl m
 
   -- a reading from which an exact refusal follows is good
   good : (x : Reading c.Value) (r : Refusal) → IsExactRefusal r → Follows x r → IsGood x
@@ -83,7 +83,7 @@ module _ (c : Command) (laws : IsExactCommand c) (source : List ℕ) where
   ]
 
   -- where one refusal is exact, no other but want of memory is there
-  pub exact : (r d : Refusal) → IsExactRefusal r → IsRefusedBy c source r → IsRefusedBy c source d → (d ≡ r) ⊎ (d ≡ refusals.Memory)
+  pub exact : (r d : Refusal) → IsExactRefusal r → IsCommandRefused c source r → IsCommandRefused c source d → (d ≡ r) ⊎ (d ≡ refusals.Memory)
   exact r d e h k = at (ended r h) (ended d k)
     where
       at : (r ≡ refusals.Memory) ⊎ Ended r → (d ≡ refusals.Memory) ⊎ Ended d → (d ≡ r) ⊎ (d ≡ refusals.Memory)
@@ -107,7 +107,7 @@ module _ (c : Command) (laws : IsExactCommand c) (source : List ℕ) where
       ]
 
   -- where a refusal is exact, nothing is answered
-  pub no_answer : (r : Refusal) (text : List ℕ) → IsExactRefusal r → IsRefusedBy c source r → IsAnswered c source text → ⊥
+  pub no_answer : (r : Refusal) (text : List ℕ) → IsExactRefusal r → IsCommandRefused c source r → IsAnswered c source text → ⊥
   no_answer r text e h a = elim (ended r h) [
     | inl m ↦ no_exact_memory r m e
     | inr s ↦ answered_apart s.reading a.value r e s.follows (ends_once c.items laws.items source s.reading (whole a.value) (good s.reading r e s.follows) s.ends (Ends.all a.value a.read refl)) a.answer.formed
@@ -121,16 +121,16 @@ module _ (c : Command) (laws : IsExactCommand c) (source : List ℕ) where
   ]
 
   -- within the limits only memory may be wanting
-  pub in_reach : (d : Refusal) → IsInReach c source → IsRefusedBy c source d → d ≡ refusals.Memory
+  pub in_reach : (d : Refusal) → IsInReach c source → IsCommandRefused c source d → d ≡ refusals.Memory
   in_reach d a h = elim (ended d h) [
     | inl m ↦ m
     | inr t ↦ reach_follows a.value d a.reached.formed a.reached.within (subst (λ y. Follows y d) (ends_once c.items laws.items source (whole a.value) t.reading tt (Ends.all a.value a.read refl) t.ends) t.follows)
   ]
 
   -- it is refused only as a job may be
-  pub of_job : (r : Refusal) → IsRefusedBy c source r → IsOfJob r
-  of_job r (IsRefusedBy.in_text e h q) = subst IsOfJob (sym q) (text_kind e)
-  of_job r (IsRefusedBy.behind_text a h (IsUnanswered.in_form f)) = inl (first_kind (c.checks a) (laws.checks source a h) r f)
-  of_job r (IsRefusedBy.behind_text a h (IsUnanswered.in_work g w)) = inr (laws.work a r w)
-  of_job r (IsRefusedBy.behind_text a h (IsUnanswered.no_memory m)) = subst IsOfJob (sym m) (inr tt)
-  of_job r (IsRefusedBy.no_memory m) = subst IsOfJob (sym m) (inr tt)
+  pub of_job : (r : Refusal) → IsCommandRefused c source r → IsOfJob r
+  of_job r (IsCommandRefused.in_text e h q) = subst IsOfJob (sym q) (text_kind e)
+  of_job r (IsCommandRefused.behind_text a h (IsUnanswered.in_form f)) = inl (first_kind (c.checks a) (laws.checks source a h) r f)
+  of_job r (IsCommandRefused.behind_text a h (IsUnanswered.in_work g w)) = inr (laws.work a r w)
+  of_job r (IsCommandRefused.behind_text a h (IsUnanswered.no_memory m)) = subst IsOfJob (sym m) (inr tt)
+  of_job r (IsCommandRefused.no_memory m) = subst IsOfJob (sym m) (inr tt)

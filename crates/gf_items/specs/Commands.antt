@@ -94,10 +94,10 @@ pub record IsAnswered (c : Command) (source text : List ℕ) : Type 0 where
   pub answer : IsAnswerFor c value text
 
 -- nothing is written for the source: its text is refused; or it is read, and nothing is written for what is read
-pub data IsRefusedBy (c : Command) (source : List ℕ) (r : Refusal) : Type 0 where
-  in_text : (e : TextError) → IsTextRefused c.items source e → r ≡ of_text e → IsRefusedBy c source r
-  behind_text : (a : c.Value) → IsTextOf c.items source a → IsUnanswered c a r → IsRefusedBy c source r
-  no_memory : r ≡ refusals.Memory → IsRefusedBy c source r
+pub data IsCommandRefused (c : Command) (source : List ℕ) (r : Refusal) : Type 0 where
+  in_text : (e : TextError) → IsTextRefused c.items source e → r ≡ of_text e → IsCommandRefused c source r
+  behind_text : (a : c.Value) → IsTextOf c.items source a → IsUnanswered c a r → IsCommandRefused c source r
+  no_memory : r ≡ refusals.Memory → IsCommandRefused c source r
 
 -- the source is read, and this may be written for what is read before the work on it is refused so
 pub record IsBegunFor (c : Command) (source text : List ℕ) (r : Refusal) : Type 0 where

@@ -39,29 +39,29 @@ use Rattle.gf_items.specs.Items.{IsTextOf}
 use Rattle.gf_items.specs.Sources.{ring_set_vector}
 use Rattle.gf_items.specs.Checks.{AllHold, FirstFails}
 use Rattle.gf_items.specs.Commands.{IsUnanswered}
-use Rattle.gfan_main.specs.Buchberger.{polynomial_of, polynomials_of, asked_order, FitsVariables, IsFirstNotTaken, form, of_basis, buchberger_command}
+use Rattle.gfan_main.specs.Buchberger.{polynomial_of, generators_of, asked_order, FitsVariables, IsFirstNotTaken, form, of_basis, buchberger_command}
 use Rattle.gfan_main.specs.Questions.{IsCountable}
 use Rattle.gfan_main.specs.Refused.{IsNamedBy, IsRingOf, IsOfSource}
 
 -- ---- polynomials
 
-pub polynomials_next : (ws : List Written) (i : ℕ) (w : Written) (fs : List Terms) (f : Terms) → i < length ws → w ≡ slice_index_or ws i w → fs ≡ polynomials_of (take i ws) → f ≡ polynomial_of w → fs ++ f ∷ [] ≡ polynomials_of (take (i + 1) ws)
+pub polynomials_next : (ws : List Written) (i : ℕ) (w : Written) (fs : List Terms) (f : Terms) → i < length ws → w ≡ slice_index_or ws i w → fs ≡ generators_of (take i ws) → f ≡ polynomial_of w → fs ++ f ∷ [] ≡ generators_of (take (i + 1) ws)
 polynomials_next [] i w fs f l e p q = absurd (omega arith)
 polynomials_next (v ∷ ws) zero w fs f l e p q =
     let one : f ∷ [] ≡ polynomial_of v ∷ [] = ap (λ (g : Terms). g ∷ []) (q ∙ ap polynomial_of e) in
     ap (λ gs. gs ++ f ∷ []) p ∙ one
 polynomials_next (v ∷ ws) (suc i) w fs f l e p q =
-    let more = polynomials_next ws i w (polynomials_of (take i ws)) f (omega arith) e refl q in
+    let more = polynomials_next ws i w (generators_of (take i ws)) f (omega arith) e refl q in
     let s : suc i + 1 ≡ suc (i + 1) = omega arith in
-    ap (λ gs. gs ++ f ∷ []) p ∙ ap (λ gs. polynomial_of v ∷ gs) more ∙ ap (λ k. polynomials_of (take k (v ∷ ws))) (sym s)
+    ap (λ gs. gs ++ f ∷ []) p ∙ ap (λ gs. polynomial_of v ∷ gs) more ∙ ap (λ k. generators_of (take k (v ∷ ws))) (sym s)
 
-each_in : (n : ℕ) (ws : List Written) → AreIn n ws → Each (HasVariables n) (polynomials_of ws)
+each_in : (n : ℕ) (ws : List Written) → AreIn n ws → Each (HasVariables n) (generators_of ws)
 each_in n [] h = tt
 each_in n (written.Zero ∷ ws) h = (tt, each_in n ws h.1)
 each_in n (written.Nonzero m ∷ ws) h = (h.0, each_in n ws h.1)
 
-pub in_ring : (n : ℕ) (ws : List Written) (fs : List Terms) → AreIn n ws → fs ≡ polynomials_of ws → HaveRingVariables n fs
-in_ring n ws fs h e = subst (HaveRingVariables n) (sym e) (record { each = λ f c. contained_each (HasVariables n) (polynomials_of ws) (each_in n ws h) f c })
+pub in_ring : (n : ℕ) (ws : List Written) (fs : List Terms) → AreIn n ws → fs ≡ generators_of ws → HaveRingVariables n fs
+in_ring n ws fs h e = subst (HaveRingVariables n) (sym e) (record { each = λ f c. contained_each (HasVariables n) (generators_of ws) (each_in n ws h) f c })
 
 -- ---- the order
 
@@ -83,24 +83,24 @@ order_suits n true None fs v g = orders_that_suit.revlex n fs v g.1.0
 order_suits n false (Some w) fs v g = orders_that_suit.weighted n (gains w) fs v
 order_suits n true (Some w) fs v g = orders_that_suit.weighted_revlex n w fs v g.1.1.0 (length-gains w ∙ g.0)
 
-pub suited_by : (n k r : ℕ) (revlex : Bool) (weight : Option (List ℤ)) (ws : List Written) (fs : List Terms) (order : MonomialOrder) → n ≡ r → k ≡ r → AreIn r ws → fs ≡ polynomials_of ws → order ≡ asked_order revlex weight → AllHold (form revlex n weight (polynomials_of ws)) → IsSuited order k fs
+pub suited_by : (n k r : ℕ) (revlex : Bool) (weight : Option (List ℤ)) (ws : List Written) (fs : List Terms) (order : MonomialOrder) → n ≡ r → k ≡ r → AreIn r ws → fs ≡ generators_of ws → order ≡ asked_order revlex weight → AllHold (form revlex n weight (generators_of ws)) → IsSuited order k fs
 suited_by n k r revlex weight ws fs order p q v e d g =
-    let formed : AllHold (form revlex k weight (polynomials_of ws)) = subst (λ z. AllHold (form revlex z weight (polynomials_of ws))) (p ∙ sym q) g in
-    let ring : HaveRingVariables k (polynomials_of ws) = in_ring k ws (polynomials_of ws) (subst (λ z. AreIn z ws) (sym q) v) refl in
-    subst (λ z. IsSuited z k fs) (sym d) (subst (IsSuited (asked_order revlex weight) k) (sym e) (order_suits k revlex weight (polynomials_of ws) ring formed))
+    let formed : AllHold (form revlex k weight (generators_of ws)) = subst (λ z. AllHold (form revlex z weight (generators_of ws))) (p ∙ sym q) g in
+    let ring : HaveRingVariables k (generators_of ws) = in_ring k ws (generators_of ws) (subst (λ z. AreIn z ws) (sym q) v) refl in
+    subst (λ z. IsSuited z k fs) (sym d) (subst (IsSuited (asked_order revlex weight) k) (sym e) (order_suits k revlex weight (generators_of ws) ring formed))
 
 pub entries_by : (n k r : ℕ) (revlex : Bool) (weight : Option (List ℤ)) (order : MonomialOrder) → n ≡ r → k ≡ r → order ≡ asked_order revlex weight → FitsVariables n weight → HasEntries k order
 entries_by n k r revlex weight order p q d h = subst (HasEntries k) (sym d) (order_entries k revlex weight (subst (λ z. FitsVariables z weight) (p ∙ sym q) h))
 
 -- ---- the command
 
-pub basis_refused : (o : Options) (n k : ℕ) (ring : List (List ℕ)) (weight : Option (List ℤ)) (ws : List Written) (fs : List Terms) (order : MonomialOrder) (e : BasisError) → n ≡ length ring → k ≡ length ring → fs ≡ polynomials_of ws → order ≡ asked_order o.revlex weight → AllHold (form o.revlex n weight (polynomials_of ws)) → IsBasisRefusal order k fs o.pairs e → IsUnanswered (buchberger_command o) (ring, (ws, weight)) (of_basis e)
+pub basis_refused : (o : Options) (n k : ℕ) (ring : List (List ℕ)) (weight : Option (List ℤ)) (ws : List Written) (fs : List Terms) (order : MonomialOrder) (e : BasisError) → n ≡ length ring → k ≡ length ring → fs ≡ generators_of ws → order ≡ asked_order o.revlex weight → AllHold (form o.revlex n weight (generators_of ws)) → IsBasisRefusal order k fs o.pairs e → IsUnanswered (buchberger_command o) (ring, (ws, weight)) (of_basis e)
 basis_refused o n k ring weight ws fs order e p q f d g h =
-    IsUnanswered.in_work (subst (λ z. AllHold (form o.revlex z weight (polynomials_of ws))) p g)
-    (e, refl, subst (λ z. IsBasisRefusal z (length ring) (polynomials_of ws) o.pairs e) d (subst (λ z. IsBasisRefusal order z (polynomials_of ws) o.pairs e) q (subst (λ z. IsBasisRefusal order k z o.pairs e) f h)))
+    IsUnanswered.in_work (subst (λ z. AllHold (form o.revlex z weight (generators_of ws))) p g)
+    (e, refl, subst (λ z. IsBasisRefusal z (length ring) (generators_of ws) o.pairs e) d (subst (λ z. IsBasisRefusal order z (generators_of ws) o.pairs e) q (subst (λ z. IsBasisRefusal order k z o.pairs e) f h)))
 
-pub form_refused : (o : Options) (n : ℕ) (ring : List (List ℕ)) (ws : List Written) (weight : Option (List ℤ)) (r : Refusal) → n ≡ length ring → FirstFails (form o.revlex n weight (polynomials_of ws)) r ⊎ (r ≡ refusals.Memory) → IsUnanswered (buchberger_command o) (ring, (ws, weight)) r
-form_refused o n ring ws weight r p (inl h) = IsUnanswered.in_form (subst (λ z. FirstFails (form o.revlex z weight (polynomials_of ws)) r) p h)
+pub form_refused : (o : Options) (n : ℕ) (ring : List (List ℕ)) (ws : List Written) (weight : Option (List ℤ)) (r : Refusal) → n ≡ length ring → FirstFails (form o.revlex n weight (generators_of ws)) r ⊎ (r ≡ refusals.Memory) → IsUnanswered (buchberger_command o) (ring, (ws, weight)) r
+form_refused o n ring ws weight r p (inl h) = IsUnanswered.in_form (subst (λ z. FirstFails (form o.revlex z weight (generators_of ws)) r) p h)
 form_refused o n ring ws weight r p (inr m) = IsUnanswered.no_memory m
 
 pub of_ring : (o : Options) (source : List ℕ) (ring : List (List ℕ)) (set : List Written) (w : Option (List ℤ)) → IsTextOf (ring_set_vector o.weighted) source (ring, (set, w)) → (e : Refusal) → IsNamedBy (Some ring) e → IsOfSource source (record { refusal = e; ring = Some ring })
@@ -130,7 +130,7 @@ no_basis (basis_errors.PairBudget b u) p x y e = cc
 no_basis basis_errors.Memory p x y e = cc
 
 not_taken : (o : Options) (ring : List (List ℕ)) (set : List Written) (weight : Option (List ℤ)) (p : ℕ) (x y : Exponents) → IsUnanswered (buchberger_command o) (ring, (set, weight)) (refusals.NotHomogeneous p x y)
-    → IsFirstNotTaken o.revlex weight (polynomials_of set) (record { polynomial = p; first = x; second = y })
+    → IsFirstNotTaken o.revlex weight (generators_of set) (record { polynomial = p; first = x; second = y })
 not_taken o ring set weight p x y (IsUnanswered.in_form (inl h)) = absurd h
 not_taken o ring set weight p x y (IsUnanswered.in_form (inr (l, inl h))) = h
 not_taken o ring set weight p x y (IsUnanswered.in_form (inr (l, inr (t, inl h)))) = absurd h
@@ -162,13 +162,13 @@ no_form revlex n weight fs (refusals.NotBasis s i j r) (inr (l, inr (d, inr (w, 
 no_form revlex n weight fs _ h k = k
 
 not_of_checks : (o : Options) (ring : List (List ℕ)) (set : List Written) (weight : Option (List ℤ)) (r : Refusal) → IsUnanswered (buchberger_command o) (ring, (set, weight)) r → IsOfChecks r → ⊥
-not_of_checks o ring set weight r (IsUnanswered.in_form h) k = no_form o.revlex (length ring) weight (polynomials_of set) r h k
+not_of_checks o ring set weight r (IsUnanswered.in_form h) k = no_form o.revlex (length ring) weight (generators_of set) r h k
 not_of_checks o ring set weight r (IsUnanswered.in_work g (e, q, h)) k = no_check e (subst IsOfChecks q k)
 not_of_checks o ring set weight r (IsUnanswered.no_memory m) k = subst IsOfChecks m k
 
-pub named_job : (o : Options) (ring : List (List ℕ)) (set : List Written) (weight : Option (List ℤ)) (e : Refusal) → HaveRingVariables (length ring) (polynomials_of set) → IsUnanswered (buchberger_command o) (ring, (set, weight)) e → IsNamedBy (Some ring) e
+pub named_job : (o : Options) (ring : List (List ℕ)) (set : List Written) (weight : Option (List ℤ)) (e : Refusal) → HaveRingVariables (length ring) (generators_of set) → IsUnanswered (buchberger_command o) (ring, (set, weight)) e → IsNamedBy (Some ring) e
 named_job o ring set weight (refusals.NotHomogeneous p x y) v h = λ lent is.
-    let variables = not_taken_variables (length ring) o.revlex weight (polynomials_of set) (record { polynomial = p; first = x; second = y }) v (not_taken o ring set weight p x y h) in
+    let variables = not_taken_variables (length ring) o.revlex weight (generators_of set) (record { polynomial = p; first = x; second = y }) v (not_taken o ring set weight p x y h) in
     (lent_names ring x lent is variables.0, lent_names ring y lent is variables.1)
 named_job o ring set weight (refusals.NotReduced s p t) v h = absurd (not_of_checks o ring set weight (refusals.NotReduced s p t) h tt)
 named_job o ring set weight (refusals.NotBasis s i j r) v h = absurd (not_of_checks o ring set weight (refusals.NotBasis s i j r) h tt)

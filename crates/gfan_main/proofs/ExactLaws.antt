@@ -27,7 +27,7 @@ use Rattle.gf_items.proofs.CommandLaws.{IsExactCommand, exact, no_answer, in_rea
 use Rattle.gfan_main.specs.declared.buchberger.Options.{Options}
 use Rattle.gfan_main.specs.declared.marked.error.CheckError.{CheckError}
 use Rattle.gfan_main.specs.declared.marked.error.CheckError.TheVariants as check_errors
-use Rattle.gfan_main.specs.Buchberger.{polynomials_of, asked_order, of_basis, buchberger_command}
+use Rattle.gfan_main.specs.Buchberger.{generators_of, asked_order, of_basis, buchberger_command}
 use Rattle.gfan_main.specs.LeadingTerms.{leading_terms_command}
 use Rattle.gfan_main.specs.Marked.{of_check, marked_command}
 use Rattle.gfan_main.specs.Commands.{options, command, IsAnswerTo, IsRefusalOf, IsWithinReach}
@@ -39,16 +39,16 @@ use Rattle.gfan_main.proofs.FormLaws.{AreKept, form_once}
 abbrev IsKept : ℕ → Terms → Type 0
 IsKept n f = HasVariables n f × IsDescending f
 
-written_kept : (n : ℕ) (fs : List Terms) (ws : List Written) → SumsHaveVariables n fs → AreWritten fs ws → Each (IsKept n) (polynomials_of ws)
+written_kept : (n : ℕ) (fs : List Terms) (ws : List Written) → SumsHaveVariables n fs → AreWritten fs ws → Each (IsKept n) (generators_of ws)
 written_kept n [] [] v a = tt
 written_kept n [] (w ∷ ws) v a = absurd a
 written_kept n (f ∷ fs) [] v a = absurd a
 written_kept n (f ∷ fs) (written.Zero ∷ ws) v a = ((tt, tt), written_kept n fs ws v.1 a.1)
 written_kept n (f ∷ fs) (written.Nonzero m ∷ ws) v a = ((a.0.variables.at n v.0, a.0.descending), written_kept n fs ws v.1 a.1)
 
-set_kept : (ring : List (List ℕ)) (p : Position) (end : ℕ) (ws : List Written) → IsSetRead ring p end ws → AreKept (length ring) (polynomials_of ws)
+set_kept : (ring : List (List ℕ)) (p : Position) (end : ℕ) (ws : List Written) → IsSetRead ring p end ws → AreKept (length ring) (generators_of ws)
 set_kept ring p end ws s f c =
-    contained_each (IsKept (length ring)) (polynomials_of ws) (written_kept (length ring) s.sums ws (sums_variables (length ring) s.said s.sums s.exponents) s.written) f c
+    contained_each (IsKept (length ring)) (generators_of ws) (written_kept (length ring) s.sums ws (sums_variables (length ring) s.said s.sums s.exponents) s.written) f c
 
 -- ---- `_buchberger`
 
@@ -61,9 +61,9 @@ basis_work basis_errors.Memory = tt
 buchberger_exact : (o : Options) → IsExactCommand (buchberger_command o)
 buchberger_exact o = record {
   items = ring_and_once a_set (vector_where o.weighted ∷ []);
-  checks = λ source v r. form_once o.revlex (length v.0) v.1.1 (polynomials_of v.1.0) (set_kept v.0 (from source r.read.behind) r.read.two.behind v.1.0 r.read.two.one);
+  checks = λ source v r. form_once o.revlex (length v.0) v.1.1 (generators_of v.1.0) (set_kept v.0 (from source r.read.behind) r.read.two.behind v.1.0 r.read.two.one);
   work = λ v r h. subst IsOfWork (sym h.1) (basis_work h.0);
-  within = λ v r w h. h.1 ∙ ap of_basis (if_within {A = Unit {0}} (asked_order o.revlex v.1.1) (length v.0) o.pairs (polynomials_of v.1.0) (Err h.0) w h.2);
+  within = λ v r w h. h.1 ∙ ap of_basis (if_within {A = Unit {0}} (asked_order o.revlex v.1.1) (length v.0) o.pairs (generators_of v.1.0) (Err h.0) w h.2);
 }
 
 -- ---- `_ismarkedgroebnerbasis`

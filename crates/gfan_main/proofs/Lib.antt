@@ -1,6 +1,6 @@
 pub mod FormLaws  -- the form of what is read fails in one way at most
 pub mod BuchbergerLaws  -- what `_buchberger` answers
-pub mod MarkingRowsLaws  -- the system of a marking, row by row; its solutions are the positive weights
+pub mod MarkingWeights  -- what an elimination of a marking's system answers
 pub mod MonicFormsLaws  -- monic forms as code makes them
 pub mod MarkedBasesLaws  -- pairs whose S-polynomials have the normal form zero
 pub mod MarkedLaws  -- what is answered for a marked set

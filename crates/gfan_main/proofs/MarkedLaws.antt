@@ -4,7 +4,7 @@ use Rattle.std.proofs.Common.{refl, inl, inr}
 use Rattle.gf_poly.specs.Marking.{MarkedPolynomials}
 use Rattle.gf_items.specs.Items.{IsTextOf}
 use Rattle.gf_items.specs.Sources.{ring_marked_set}
-use Rattle.gf_items.specs.Commands.{IsAnswered, IsUnanswered, IsRefusedBy}
+use Rattle.gf_items.specs.Commands.{IsAnswered, IsUnanswered, IsCommandRefused}
 use Rattle.gfan_main.specs.declared.marked.error.CheckError.{CheckError}
 use Rattle.gfan_main.specs.declared.marked.error.CheckError.TheVariants as check_errors
 use Rattle.gfan_main.specs.MarkedBases.{IsMarkedBasis, IsCheckRefusal}
@@ -13,8 +13,8 @@ use Rattle.gfan_main.specs.Refused.{IsNamedBy}
 
 -- ---- refusals
 
-pub check_refused : (source : List ℕ) (ring : List (List ℕ)) (set : MarkedPolynomials) (e : CheckError) → IsTextOf ring_marked_set source (ring, set) → IsCheckRefusal set.variables set.items e → IsRefusedBy marked_command source (of_check e)
-check_refused source ring set e r h = IsRefusedBy.behind_text (ring, set) r (IsUnanswered.in_work tt (e, refl, h))
+pub check_refused : (source : List ℕ) (ring : List (List ℕ)) (set : MarkedPolynomials) (e : CheckError) → IsTextOf ring_marked_set source (ring, set) → IsCheckRefusal set.variables set.items e → IsCommandRefused marked_command source (of_check e)
+check_refused source ring set e r h = IsCommandRefused.behind_text (ring, set) r (IsUnanswered.in_work tt (e, refl, h))
 
 pub named_check : (e : CheckError) → IsNamedBy None (of_check e)
 named_check (check_errors.Cone o) = λ lent is. tt

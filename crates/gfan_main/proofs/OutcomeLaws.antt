@@ -18,7 +18,7 @@ use Rattle.gf_front.specs.Jobs.{match_of, job_of, renamed, IsMatched, IsJobOf}
 use Rattle.gf_front.specs.Lines.{of_words}
 use Rattle.gf_items.specs.Commands.{IsOfText, IsOfForm, IsOfJob}
 use Rattle.gfan_main.specs.Commands.{IsAnswerTo, IsRefusalOf, IsWithinReach}
-use Rattle.gfan_main.specs.Run.{IsKnown, IsGiven, ReadWhole, HasAnswer, Answered, AnsweredInPart, InputRefused, IsRefusedAs, IsDoneUnlessMemory, IsCause, IsRingOfInput, IsOfInput, IsOfOutside}
+use Rattle.gfan_main.specs.Run.{IsKnown, AsksForJob, ReadWhole, HasAnswer, Answered, AnsweredInPart, InputRefused, IsRefusedWith, IsDoneUnlessMemory, IsCause, IsRingOfInput, IsOfInput, IsOfOutside}
 use Rattle.gfan_main.specs.declared.refused.Refused.{Refused}
 use Rattle.gfan_main.specs.Refused.{IsRingOf, IsOfSource}
 use Rattle.gfan_main.proofs.ExactLaws.{exact_text, exact_form, text_no_answer, form_no_answer, all_answered, refused_as_job}
@@ -79,25 +79,25 @@ module _ (words : List (List ℕ)) (left leaves : Option (List ℕ)) (given give
   abbrev IsCauseHere : Refusal → Type 0
   IsCauseHere r = IsCause words left leaves given gives held holds read reads written writes r
 
-  abbrev IsGivenHere : Job → List ℕ → Type 0
-  IsGivenHere job source = IsGiven words left read reads job source
+  abbrev AsksForJobHere : Job → List ℕ → Type 0
+  AsksForJobHere job source = AsksForJob words left read reads job source
 
   -- what was answered or refused is the job that is given, on the source that is given
   same_source : (source bytes : List ℕ) → IsKnown left read reads source → ReadWhole left leaves given gives bytes → bytes ≡ source
   same_source source bytes k r = read_known left leaves source bytes k.bytes r.took.bytes_left r.end
 
-  answer_here : (job : Job) (source text : List ℕ) → IsGivenHere job source → HasAnswer words left leaves given gives text → IsAnswerTo job source text
+  answer_here : (job : Job) (source text : List ℕ) → AsksForJobHere job source → HasAnswer words left leaves given gives text → IsAnswerTo job source text
   answer_here job source text g a =
       subst (λ j. IsAnswerTo j source text) (same_job words job a.job g.asked a.asked) (subst (λ s. IsAnswerTo a.job s text) (same_source source a.source g.known a.read) a.is_answer)
 
-  refusal_here : (job : Job) (source : List ℕ) (r : Refusal) → IsGivenHere job source → InputRefused words left leaves given gives r → IsRefusalOf job source r
+  refusal_here : (job : Job) (source : List ℕ) (r : Refusal) → AsksForJobHere job source → InputRefused words left leaves given gives r → IsRefusalOf job source r
   refusal_here job source r g a =
       subst (λ j. IsRefusalOf j source r) (same_job words job a.job g.asked a.asked) (subst (λ s. IsRefusalOf a.job s r) (same_source source a.source g.known a.read) a.refused)
 
   not_too_long : (source : List ℕ) → IsKnown left read reads source → length source ≤ 67108864 → TookExactly left leaves given gives 67108865 → ⊥
   not_too_long source k short t = let most = taken_known left leaves source t.bytes k.bytes t.took.bytes_left in omega (arith, most, short, t.exactly)
 
-  refused_here : (job : Job) (source : List ℕ) (r : Refusal) → IsGivenHere job source → IsCauseHere r → IsRefusedHere written writes job source r
+  refused_here : (job : Job) (source : List ℕ) (r : Refusal) → AsksForJobHere job source → IsCauseHere r → IsRefusedHere written writes job source r
   refused_here job source refusals.Usage g c = absurd (c g.asked.matched)
   refused_here job source refusals.ReadFault g c = absurd (g.known.calm c.0)
   refused_here job source refusals.InputTooLong g c = absurd (not_too_long source g.known g.short c)
@@ -139,7 +139,7 @@ module _ (words : List (List ℕ)) (left leaves : Option (List ℕ)) (given give
 
   -- ---- within reach
 
-  pub refused_in_reach : (job : Job) (source : List ℕ) (r : Refusal) → IsGivenHere job source → IsWithinReach job source → (Rose written writes → ⊥) → IsCauseHere r → IsDoneUnlessMemory (statuses.Refused r)
+  pub refused_in_reach : (job : Job) (source : List ℕ) (r : Refusal) → AsksForJobHere job source → IsWithinReach job source → (Rose written writes → ⊥) → IsCauseHere r → IsDoneUnlessMemory (statuses.Refused r)
   refused_in_reach job source r g w calm c = at (refused_here job source r g c)
     where
       at : IsRefusedHere written writes job source r → IsDoneUnlessMemory (statuses.Refused r)
@@ -149,30 +149,30 @@ module _ (words : List (List ℕ)) (left leaves : Option (List ℕ)) (given give
 
   -- ---- what is refused exactly
 
-  refused_as : (r d : Refusal) → (d ≡ r) ⊎ (d ≡ refusals.Memory) → IsRefusedAs (statuses.Refused d) r
+  refused_as : (r d : Refusal) → (d ≡ r) ⊎ (d ≡ refusals.Memory) → IsRefusedWith (statuses.Refused d) r
   refused_as r d (inl e) = inl (ap (λ x. statuses.Refused x) e)
   refused_as r d (inr e) = inr (ap (λ x. statuses.Refused x) e)
 
-  pub text_refused : (job : Job) (source : List ℕ) (r d : Refusal) → IsGivenHere job source → IsOfText r → IsRefusalOf job source r → IsCauseHere d → IsRefusedAs (statuses.Refused d) r
+  pub text_refused : (job : Job) (source : List ℕ) (r d : Refusal) → AsksForJobHere job source → IsOfText r → IsRefusalOf job source r → IsCauseHere d → IsRefusedWith (statuses.Refused d) r
   text_refused job source r d g t h c = at (refused_here job source d g c)
     where
-      at : IsRefusedHere written writes job source d → IsRefusedAs (statuses.Refused d) r
+      at : IsRefusedHere written writes job source d → IsRefusedWith (statuses.Refused d) r
       at (IsRefusedHere.at_job k) = refused_as r d (exact_text job source r d t h k)
       at (IsRefusedHere.at_write text rose a) = absurd (text_no_answer job source r text t h a)
       at (IsRefusedHere.at_memory m) = refused_as r d (inr m)
 
-  pub form_refused : (job : Job) (source : List ℕ) (r d : Refusal) → IsGivenHere job source → IsOfForm r → IsRefusalOf job source r → IsCauseHere d → IsRefusedAs (statuses.Refused d) r
+  pub form_refused : (job : Job) (source : List ℕ) (r d : Refusal) → AsksForJobHere job source → IsOfForm r → IsRefusalOf job source r → IsCauseHere d → IsRefusedWith (statuses.Refused d) r
   form_refused job source r d g f h c = at (refused_here job source d g c)
     where
-      at : IsRefusedHere written writes job source d → IsRefusedAs (statuses.Refused d) r
+      at : IsRefusedHere written writes job source d → IsRefusedWith (statuses.Refused d) r
       at (IsRefusedHere.at_job k) = refused_as r d (exact_form job source r d f h k)
       at (IsRefusedHere.at_write text rose a) = absurd (form_no_answer job source r text f h a)
       at (IsRefusedHere.at_memory m) = refused_as r d (inr m)
 
-  pub text_not_done : (job : Job) (source : List ℕ) (r : Refusal) → IsGivenHere job source → IsOfText r → IsRefusalOf job source r → Answered words left leaves given gives held holds → ⊥
+  pub text_not_done : (job : Job) (source : List ℕ) (r : Refusal) → AsksForJobHere job source → IsOfText r → IsRefusalOf job source r → Answered words left leaves given gives held holds → ⊥
   text_not_done job source r g t h a = text_no_answer job source r a.text t h (answer_here job source a.text g a.answer)
 
-  pub form_not_done : (job : Job) (source : List ℕ) (r : Refusal) → IsGivenHere job source → IsOfForm r → IsRefusalOf job source r → Answered words left leaves given gives held holds → ⊥
+  pub form_not_done : (job : Job) (source : List ℕ) (r : Refusal) → AsksForJobHere job source → IsOfForm r → IsRefusalOf job source r → Answered words left leaves given gives held holds → ⊥
   form_not_done job source r g f h a = form_no_answer job source r a.text f h (answer_here job source a.text g a.answer)
 
   -- ---- how much is read
@@ -201,7 +201,7 @@ module _ (words : List (List ℕ)) (left leaves : Option (List ℕ)) (given give
   input_not_long : (source : List ℕ) (r : Refusal) → IsKnown left read reads source → 67108864 < length source → InputRefused words left leaves given gives r → ⊥
   input_not_long source r k l a = not_whole source a.source k l a.read
 
-  pub long_refused : (source : List ℕ) (r : Refusal) → IsKnown left read reads source → IsMatched words → 67108864 < length source → IsCauseHere r → IsRefusedAs (statuses.Refused r) refusals.InputTooLong
+  pub long_refused : (source : List ℕ) (r : Refusal) → IsKnown left read reads source → IsMatched words → 67108864 < length source → IsCauseHere r → IsRefusedWith (statuses.Refused r) refusals.InputTooLong
   long_refused source refusals.Usage k m l c = absurd (c m)
   long_refused source refusals.ReadFault k m l c = absurd (k.calm c.0)
   long_refused source refusals.InputTooLong k m l c = inl refl

@@ -29,8 +29,8 @@ abbrev pub polynomial_of : Written → Terms
 polynomial_of written.Zero = []
 polynomial_of (written.Nonzero m) = m.poly
 
-abbrev pub polynomials_of : List Written → List Terms
-polynomials_of ws = map polynomial_of ws
+abbrev pub generators_of : List Written → List Terms
+generators_of ws = map polynomial_of ws
 
 -- ---- the order, and the form that it needs
 
@@ -121,9 +121,9 @@ abbrev pub buchberger_command : Options → Command
 buchberger_command o = record {
   Value = List (List ℕ) × (List Written × Option (List ℤ));
   items = ring_set_vector o.weighted;
-  checks = λ v. form o.revlex (length v.0) v.1.1 (polynomials_of v.1.0);
-  IsAnswer = λ v text. IsBasisText (asked_order o.revlex v.1.1) v.0 (polynomials_of v.1.0) text;
-  IsCause = λ v r. (e : BasisError) × (r ≡ of_basis e) × IsBasisRefusal (asked_order o.revlex v.1.1) (length v.0) (polynomials_of v.1.0) o.pairs e;
+  checks = λ v. form o.revlex (length v.0) v.1.1 (generators_of v.1.0);
+  IsAnswer = λ v text. IsBasisText (asked_order o.revlex v.1.1) v.0 (generators_of v.1.0) text;
+  IsCause = λ v r. (e : BasisError) × (r ≡ of_basis e) × IsBasisRefusal (asked_order o.revlex v.1.1) (length v.0) (generators_of v.1.0) o.pairs e;
   IsBegun = λ v text r. ⊥;
-  IsWithin = λ v. AreRunsWithinLimits (asked_order o.revlex v.1.1) (polynomials_of v.1.0) o.pairs;
+  IsWithin = λ v. AreRunsWithinLimits (asked_order o.revlex v.1.1) (generators_of v.1.0) o.pairs;
 }

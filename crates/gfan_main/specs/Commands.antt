@@ -4,7 +4,7 @@ use Rattle.gf_front.specs.declared.command_line.Job.{Job}
 use Rattle.gf_front.specs.declared.command_line.Job.TheVariants as jobs
 use Rattle.gf_front.specs.declared.refusal.Refusal.{Refusal}
 use Rattle.gf_front.specs.declared.refusal.Refusal.TheVariants as refusals
-use Rattle.gf_items.specs.Commands.{Command, IsAnswered, IsRefusedBy, IsInReach, IsBegunFor}
+use Rattle.gf_items.specs.Commands.{Command, IsAnswered, IsCommandRefused, IsInReach, IsBegunFor}
 use Rattle.gfan_main.specs.declared.buchberger.Options.{Options}
 use Rattle.gfan_main.specs.Buchberger.{buchberger_command}
 use Rattle.gfan_main.specs.Marked.{marked_command}
@@ -26,7 +26,7 @@ IsAnswerTo job source text = IsAnswered (command job) source text
 
 -- the job has no answer for the source, for this reason
 abbrev pub IsRefusalOf : Job → List ℕ → Refusal → Type 0
-IsRefusalOf job source refusal = IsRefusedBy (command job) source refusal
+IsRefusalOf job source refusal = IsCommandRefused (command job) source refusal
 
 -- the job may have written this for the source before it is refused so
 abbrev pub IsBegunBy : Job → List ℕ → List ℕ → Refusal → Type 0

@@ -1,7 +1,6 @@
 pub mod Printing  -- what the commands print alike
 pub mod Buchberger  -- what `_buchberger` reads and writes
 pub mod Questions  -- how what is read is checked, and what is asked then
-pub mod MarkingRows  -- the system of a marking
 pub mod MarkedBases  -- when a marked set is a basis, and why it isn't tested
 pub mod Marked  -- what `_ismarkedgroebnerbasis` reads and writes
 pub mod LeadingTerms  -- what `_leadingterms` writes

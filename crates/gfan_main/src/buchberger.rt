@@ -5,8 +5,8 @@ ghost use Rattle.gf_text.specs.Sets.{AreIn};
 ghost use Rattle.gf_text.specs.Vectors.{AreEntriesWithin};
 ghost use Rattle.gf_buchberger.specs.Jobs.{HaveRingVariables, HaveOneDegree};
 ghost use Rattle.gf_items.specs.Checks.{FirstFails};
-ghost use Rattle.gf_items.specs.Commands.{IsAnswerFor, IsUnanswered, IsAnswered, IsRefusedBy};
-ghost use Rattle.gfan_main.specs.Buchberger.{polynomials_of, polynomial_of, asked_order, FitsVariables, IsTermWeight, AreTaken, IsFirstSmall, IsLengthRefusal, IsDegreeRefusal, form, of_basis, buchberger_command};
+ghost use Rattle.gf_items.specs.Commands.{IsAnswerFor, IsUnanswered, IsAnswered, IsCommandRefused};
+ghost use Rattle.gfan_main.specs.Buchberger.{generators_of, polynomial_of, asked_order, FitsVariables, IsTermWeight, AreTaken, IsFirstSmall, IsLengthRefusal, IsDegreeRefusal, form, of_basis, buchberger_command};
 ghost use Rattle.gfan_main.specs.Questions.{IsCountable, IsQuestion};
 ghost use Rattle.gfan_main.specs.Refused.{IsOfSource};
 
@@ -53,7 +53,7 @@ fn polynomial(alloc: Global, read: &Written) -> Result<Poly, AllocError>
 
 // The polynomials of a set.
 fn polynomials(alloc: Global, set: &[Written]) -> Result<Vec<Poly>, AllocError>
-    ensures { IfOk result (λ fs. fs.items ≡ polynomials_of set.now) }
+    ensures { IfOk result (λ fs. fs.items ≡ generators_of set.now) }
 {
     let mut found = Vec::with_capacity(alloc, set.len())?;
     'polynomials: for i in 0..set.len() {
@@ -126,8 +126,8 @@ fn checked(
     options: Options,
 ) -> Result<Question, Refusal>
     requires { ForSome weight AreEntriesWithin }
-    ensures ok { IfOk result (IsQuestion options.revlex n weight (polynomials_of set.now)) }
-    ensures err { IfErr result (λ r. FirstFails (form options.revlex n weight (polynomials_of set.now)) r ⊎ (r ≡ Refusal.Memory)) }
+    ensures ok { IfOk result (IsQuestion options.revlex n weight (generators_of set.now)) }
+    ensures err { IfErr result (λ r. FirstFails (form options.revlex n weight (generators_of set.now)) r ⊎ (r ≡ Refusal.Memory)) }
 {
     check_length(n, &weight)?;
     let generators = polynomials(alloc, set)?;
@@ -200,7 +200,7 @@ fn job(
 /// - `PairBudget` only where a run on the set by this order would have to settle more than `pairs` pairs.
 pub fn answer(alloc: Global, source: &[u8], options: Options) -> Result<Vec<u8>, Refused>
     ensures ok { IfOk result (λ text. IsAnswered (buchberger_command options) source.now text.items) }
-    ensures err { IfErr result (λ e. IsRefusedBy (buchberger_command options) source.now e.refusal) }
+    ensures err { IfErr result (λ e. IsCommandRefused (buchberger_command options) source.now e.refusal) }
     ensures told { IfErr result (IsOfSource source.now) }
 {
     let RingAndSet { ring, set, vector } = ring_and_set(alloc, source, options.weighted)?;

@@ -1,6 +1,6 @@
 // What `_leadingterms` writes for an input.
 ghost use Rattle.std.specs.Prelude.{◌≡◌, IfOk, IfErr};
-ghost use Rattle.gf_items.specs.Commands.{IsAnswered, IsRefusedBy};
+ghost use Rattle.gf_items.specs.Commands.{IsAnswered, IsCommandRefused};
 ghost use Rattle.gfan_main.specs.LeadingTerms.{leading_terms_command};
 ghost use Rattle.gfan_main.specs.Refused.{IsOfSource};
 
@@ -20,7 +20,7 @@ use std::alloc::Global;
 /// - `Overflow` and `ExponentOverflow` only at a sum of the text.
 pub(crate) fn answer(alloc: Global, source: &[u8]) -> Result<Vec<u8>, Refused>
     ensures ok { IfOk result (λ text. IsAnswered leading_terms_command source.now text.items) }
-    ensures err { IfErr result (λ e. IsRefusedBy leading_terms_command source.now e.refusal) }
+    ensures err { IfErr result (λ e. IsCommandRefused leading_terms_command source.now e.refusal) }
     ensures told { IfErr result (IsOfSource source.now) }
 {
     let read = ring_and_marked(alloc, source)?;

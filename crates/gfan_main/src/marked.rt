@@ -1,6 +1,6 @@
 // What `_ismarkedgroebnerbasis` writes for an input.
 ghost use Rattle.std.specs.Prelude.{◌≡◌, IfOk, IfErr};
-ghost use Rattle.gf_items.specs.Commands.{IsAnswered, IsRefusedBy};
+ghost use Rattle.gf_items.specs.Commands.{IsAnswered, IsCommandRefused};
 ghost use Rattle.gfan_main.specs.Refused.{IsOfSource};
 ghost use Rattle.gfan_main.specs.Marked.{verdict_text, marked_command};
 
@@ -8,7 +8,6 @@ mod basis;
 mod error;
 mod forms;
 mod pairs;
-mod rows;
 mod weights;
 
 use crate::marked::basis::is_marked_basis;
@@ -39,7 +38,7 @@ fn verdict(alloc: Global, is_basis: bool) -> Result<Vec<u8>, AllocError>
 /// - `ConeOverflow` only at a step of the elimination of the marking's system.
 pub(crate) fn answer(alloc: Global, source: &[u8]) -> Result<Vec<u8>, Refused>
     ensures ok { IfOk result (λ text. IsAnswered marked_command source.now text.items) }
-    ensures err { IfErr result (λ e. IsRefusedBy marked_command source.now e.refusal) }
+    ensures err { IfErr result (λ e. IsCommandRefused marked_command source.now e.refusal) }
     ensures told { IfErr result (IsOfSource source.now) }
 {
     let read = ring_and_marked(alloc, source)?;

@@ -9,7 +9,7 @@ ghost use Rattle.gf_front.specs.Jobs.{IsMatched, IsJobOf};
 ghost use Rattle.gf_front.specs.declared.command_line.Job.{Job};
 ghost use Rattle.gf_items.specs.Commands.{IsOfText, IsOfForm};
 ghost use Rattle.gfan_main.specs.Commands.{IsRefusalOf, IsWithinReach, IsOverflow, IsExponentOverflow, IsConeOverflow, IsPairBudget};
-ghost use Rattle.gfan_main.specs.Run.{ReadWhole, IsReadingCause, Answered, AnsweredInPart, InputRefused, IsKnown, IsGiven, IsCause, IsOfInput, IsOfOutside, IsTold, IsRefusedAs, IsDoneUnlessMemory, LeavesWritten};
+ghost use Rattle.gfan_main.specs.Run.{ReadWhole, IsReadingCause, Answered, AnsweredInPart, InputRefused, IsKnown, AsksForJob, IsCause, IsOfInput, IsOfOutside, IsTold, IsRefusedWith, IsDoneUnlessMemory, LeavesWritten};
 
 use crate::commands::answered;
 use crate::refused::Refused;
@@ -101,7 +101,7 @@ pub fn run<S: Source, K: Sink, E: Sink>(
         (K.held output.new) }
 
     // Done, unless there is no memory, where nothing that the job may do with the input leaves its limits.
-    ensures complete { (job : Job) (source : List ℕ) → IsGiven (map string_bytes words.now) (S.left input.old)
+    ensures complete { (job : Job) (source : List ℕ) → AsksForJob (map string_bytes words.now) (S.left input.old)
         (S.faults input.old) (S.faults input.new) job source → IsWithinReach job source
         → (Rose (K.faults output.old) (K.faults output.new) → ⊥) → IsDoneUnlessMemory result }
 
@@ -121,25 +121,25 @@ pub fn run<S: Source, K: Sink, E: Sink>(
         (S.left input.new) (S.given input.old) (S.given input.new) 67_108_864 }
     ensures long { (source : List ℕ) → IsKnown (S.left input.old) (S.faults input.old) (S.faults input.new) source
         → IsMatched (map string_bytes words.now) → 67_108_864 < length source
-        → IsRefusedAs result Refusal.InputTooLong }
+        → IsRefusedWith result Refusal.InputTooLong }
 
     // It is read whole, and its text has a first offending place.
     ensures text { (refusal : Refusal) → result ≡ Status.Refused refusal → IsOfText refusal
         → InputRefused (map string_bytes words.now) (S.left input.old) (S.left input.new)
         (S.given input.old) (S.given input.new) refusal }
 
-    ensures text_always { (job : Job) (source : List ℕ) (refusal : Refusal) → IsGiven (map string_bytes words.now)
+    ensures text_always { (job : Job) (source : List ℕ) (refusal : Refusal) → AsksForJob (map string_bytes words.now)
         (S.left input.old) (S.faults input.old) (S.faults input.new) job source → IsOfText refusal
-        → IsRefusalOf job source refusal → IsRefusedAs result refusal }
+        → IsRefusalOf job source refusal → IsRefusedWith result refusal }
 
     // What is read isn't of the form that the job needs.
     ensures form { (refusal : Refusal) → result ≡ Status.Refused refusal → IsOfForm refusal
         → InputRefused (map string_bytes words.now) (S.left input.old) (S.left input.new)
         (S.given input.old) (S.given input.new) refusal }
 
-    ensures form_always { (job : Job) (source : List ℕ) (refusal : Refusal) → IsGiven (map string_bytes words.now)
+    ensures form_always { (job : Job) (source : List ℕ) (refusal : Refusal) → AsksForJob (map string_bytes words.now)
         (S.left input.old) (S.faults input.old) (S.faults input.new) job source → IsOfForm refusal
-        → IsRefusalOf job source refusal → IsRefusedAs result refusal }
+        → IsRefusalOf job source refusal → IsRefusedWith result refusal }
 
     // The job has an operation whose operands don't fit.
     ensures overflow { (refusal : Refusal) → result ≡ Status.Refused refusal → IsOverflow refusal

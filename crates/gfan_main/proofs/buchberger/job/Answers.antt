@@ -2,7 +2,7 @@ use Rattle.std.proofs.Common.{ℕ, List, length, sym, subst, ◌∙◌}
 use Rattle.gf_buchberger.specs.Jobs.{HaveRingVariables}
 use Rattle.gf_front.specs.declared.refusal.Refusal.{Refusal}
 use Rattle.gf_items.specs.Commands.{IsUnanswered}
-use Rattle.gfan_main.specs.Buchberger.{polynomials_of, buchberger_command}
+use Rattle.gfan_main.specs.Buchberger.{generators_of, buchberger_command}
 use Rattle.gfan_main.proofs.BuchbergerLaws.{in_ring, entries_by, suited_by, basis_refused}
 use Rattle.gfan_main.proofs.buchberger.job.Goals as goal
 

@@ -1,6 +1,6 @@
 use Rattle.std.proofs.lemmas.Result.{err_from_is_err_and}
 use Rattle.std.proofs.Common.{refl}
-use Rattle.gf_items.specs.Commands.{IsRefusedBy}
+use Rattle.gf_items.specs.Commands.{IsCommandRefused}
 use Rattle.gf_front.specs.declared.refusal.Refusal.TheVariants as refusals
 use Rattle.gfan_main.proofs.MarkedLaws.{check_refused, named_check, marked_answered}
 use Rattle.gfan_main.proofs.RefusedLaws.{of_source, named_text}
@@ -9,7 +9,7 @@ use Rattle.gfan_main.proofs.marked.answer.Goals as goal
 pub returns-in_err-read-clause-err : goal.returns-in_err-read-clause-err
 returns-in_err-read-clause-err c =
     let p = err_from_is_err_and c.from_residual.result c.from_residual.ensures.1 in
-    rw (p.1, p.2) (IsRefusedBy.in_text c.in_err-read.field-0.0 c.in_err-read.ensures.err refl)
+    rw (p.1, p.2) (IsCommandRefused.in_text c.in_err-read.field-0.0 c.in_err-read.ensures.err refl)
 
 pub returns-in_err-is_basis-clause-err : goal.returns-in_err-is_basis-clause-err
 returns-in_err-is_basis-clause-err c =

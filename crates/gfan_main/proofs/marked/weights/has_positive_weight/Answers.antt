@@ -1,6 +1,6 @@
 use Rattle.std.proofs.Common.{◌∙◌}
 use Rattle.std.proofs.lemmas.Result.{err_from_is_err_and}
-use Rattle.gfan_main.proofs.MarkingRowsLaws.{rows_for, weight_found, weight_refuted, system_refused}
+use Rattle.gfan_main.proofs.MarkingWeights.{rows_for, weight_found, weight_refuted, system_refused}
 use Rattle.gfan_main.proofs.marked.weights.has_positive_weight.Goals as goal
 
 pub strict-requires-clause-rows : goal.strict-requires-clause-rows
