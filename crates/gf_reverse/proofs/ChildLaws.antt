@@ -1,5 +1,5 @@
 -- Children: which neighbours of a basis have it as their parent.
--- To cite: child_across, no_child_unflippable, no_child_other, no_child_by_sign.
+-- To cite: child_across, child_flippable, child_negative, child_only.
 use Rattle.std.specs.Prelude.{◌≡◌, List, ℤ}
 use Rattle.std.proofs.Common.{refl, sym, ap, ◌∙◌, subst}
 use Rattle.gf_poly.specs.Marking.{MarkedPolynomials, polys}
@@ -28,22 +28,24 @@ child_across k u w b h e a q = parent_moved (fan_of k u) (fan_of k w) w b u (own
 })
 
 -- a child is across a flippable facet
-pub no_child_unflippable : (k : Region) (u v : MarkedPolynomials) (b : List ℤ) → (IsFlippable u.variables k u.items b → ⊥) → IsParent k v b u → ⊥
-no_child_unflippable k u v b none p =
+pub child_flippable : (k : Region) (u v : MarkedPolynomials) (b : List ℤ) → IsParent k v b u → IsFlippable u.variables k u.items b
+child_flippable k u v b p =
     let a = from_parent (fan_of k u) v b u (from_above k v b u p) in
-    none (record { point = a.point; region = a.region; inside = a.facet })
+    record { point = a.point; region = a.region; inside = a.facet }
+
+-- the way up from a child is the negative of its label
+way_of_child : (k : Region) (u v : MarkedPolynomials) (b : List ℤ) (p : IsParent k v b u) → p.normal ≡ negated b
+way_of_child k u v b p = sym (negated-twice p.normal) ∙ ap negated (sym p.label)
+
+-- which is negative at the root
+pub child_negative : (k : Region) (u v : MarkedPolynomials) (b : List ℤ) → IsParent k v b u → IsNegative k.root (negated b)
+child_negative k u v b p = subst (IsNegative k.root) (way_of_child k u v b p) p.way.leads.negative
 
 -- only the neighbour across b may be the child under b, and only where its way up leads back
-pub no_child_other : (k : Region) (u w v : MarkedPolynomials) (b : List ℤ) → AreAdjacent u.variables (polys u.items) k u.items b w.items →
-    (IsWayUp u.variables k w.items (negated b) → ⊥) → IsParent k v b u → ⊥
-no_child_other k u w v b a none p =
+pub child_only : (k : Region) (u w v : MarkedPolynomials) (b : List ℤ) → AreAdjacent u.variables (polys u.items) k u.items b w.items → IsParent k v b u →
+    (v.items ≡ w.items) × IsWayUp u.variables k w.items (negated b)
+child_only k u w v b a p =
     let q = from_above k v b u p in
     let e : v.items ≡ w.items = adjacent_unique u.variables (polys u.items) k k u.items b v.items w.items q.fan.ideal (from_parent (fan_of k u) v b u q) a in
     let n : q.normal ≡ negated b = sym (negated-twice q.normal) ∙ ap negated (sym q.label) in
-    none (subst (λ bs. IsWayUp u.variables k bs (negated b)) e (subst (λ c. IsWayUp u.variables k v.items c) n q.way))
-
--- the label of a child is positive
-pub no_child_by_sign : (k : Region) (u v : MarkedPolynomials) (b : List ℤ) → (IsNegative k.root (negated b) → ⊥) → IsParent k v b u → ⊥
-no_child_by_sign k u v b none p =
-    let n : p.normal ≡ negated b = sym (negated-twice p.normal) ∙ ap negated (sym p.label) in
-    none (subst (IsNegative k.root) n p.way.leads.negative)
+    (e, subst (λ bs. IsWayUp u.variables k bs (negated b)) e (subst (λ c. IsWayUp u.variables k v.items c) n q.way))

@@ -1,7 +1,9 @@
 -- The fan of an ideal in a region is a finite tree: the way up ends at one root, and what is below a node can be listed.
--- To cite: bases_of, crossing_falls, rank_in, parents_fall, no_cycle, parents_climb, roots_one, node_list.
-use Rattle.std.specs.Prelude.{◌≡◌, ◌⊎◌, ℕ, suc, ◌+◌, ◌<◌, ◌≤◌, List, [], ◌∷◌, length, Contains, max, map, ℤ}
+-- To cite: bases_of, crossing_falls, walks_fall, rank_in, parents_fall, no_cycle, parents_climb, roots_one, node_list.
+use Rattle.std.specs.Prelude.{◌≡◌, ◌⊎◌, ℕ, suc, ◌+◌, ◌<◌, ◌≤◌, List, [], ◌∷◌, ◌++◌, length, Contains, max, map, All, ℤ, pos, ◌<ℤ◌}
 use Rattle.std.proofs.Common.{arith, refl, sym, ap, ◌∙◌, subst, inl, inr}
+use Rattle.std.proofs.lemmas.List.Elements.{Contains-append_cases, Contains-append_left, Contains-append_right}
+use Rattle.gf_gordan.specs.Alternative.{AreRows}
 use Rattle.gf_exponents.specs.Exponents.{Exponents, weight}
 use Rattle.gf_exponents.specs.Orders.{gains}
 use Rattle.gf_exponents.proofs.WeightLaws.{weight-same}
@@ -14,12 +16,12 @@ use Rattle.gf_ideal.proofs.ListedTerms.{by_terms, variables_by_terms}
 use Rattle.gf_walk.specs.Path.{IsRoot, Leads}
 use Rattle.gf_walk.specs.Listing.{Among}
 use Rattle.gf_walk.specs.Whole.{Parent}
-use Rattle.gf_facets.specs.Rows.{negated}
-use Rattle.gf_facets.specs.MarkedBases.{IsBasisInRegion}
+use Rattle.gf_facets.specs.Rows.{negated, IsNormal}
+use Rattle.gf_facets.specs.MarkedBases.{AreCanonical, IsBasisInRegion}
 use Rattle.gf_reverse.specs.Reading.{reading}
 use Rattle.gf_reverse.specs.Heights.{above_terms, above_members, above_bases}
-use Rattle.gf_facets.specs.Regions.{Region, IsRegion}
-use Rattle.gf_reverse.specs.Upward.{LeadsUp, Fan, IsFan, IsNodeIn, IsParentIn}
+use Rattle.gf_facets.specs.Regions.{Region}
+use Rattle.gf_reverse.specs.Upward.{IsRootWeight, LeadsUp, Fan, IsFan, IsNodeIn, IsParentIn}
 use Rattle.gf_reverse.proofs.ReadingLaws.{reading_falls}
 use Rattle.gf_reverse.proofs.RootLaws.{one_root}
 use Rattle.gf_reverse.proofs.UpwardLaws.{parent_nodes, same_list}
@@ -29,9 +31,10 @@ use Rattle.gf_initial.proofs.CrossingLaws.{parts_of_neighbours}
 use Rattle.gf_facets.specs.LexPositive.{IsNegative}
 use Rattle.gf_facets.specs.Neighbours.{AreAdjacent}
 use Rattle.gf_facets.proofs.NormalLaws.{normal-length, normal-nonzero}
+use Rattle.gf_facets.proofs.NormalListLaws.{NormalsListed, normals_listed}
 use Rattle.gf_all_bases.specs.AllBases.{all_bases, number_of_bases}
 use Rattle.gf_all_bases.proofs.AllBasesLaws.{listed_in}
-use Rattle.gf_reverse.proofs.RootwardLaws.{root_weight}
+use Rattle.gf_reverse.proofs.RootwardLaws.{AreSignable, NearRoot, near_root, negative_at, normal-signable, root_weight}
 
 -- ---- heights
 terms_below : (r : List ℕ) (d : ℕ) (f : Terms) → above_terms r f ≤ d → Each (λ (t : Term). weight r t.mono < d) f
@@ -51,16 +54,17 @@ basis_below r (x ∷ xs) bs (inl e) = (let f : above_members r x ≡ above_membe
 basis_below r (x ∷ xs) bs (inr j) = omega (arith, basis_below r xs bs j)
 
 -- ---- the fall, below any height that is enough
-pub crossing_falls : (n : ℕ) (fs : List Terms) (k : Region) (d : ℕ) (bs cs : List MarkedPolynomial) (a : List ℤ) → AreInVariables n fs → IsRegion n k →
-    AreAdjacent n fs k bs a cs → IsNegative k.root a → above_members (gains k.root) bs ≤ d → reading (gains k.root) d cs < reading (gains k.root) d bs
-crossing_falls n fs k d bs cs a v r h neg small =
-    reading_falls n k.root d a bs cs r.root.width r.root.positive (normal-length n bs a h.here.arranged.canonical h.facet.normal) (normal-nonzero n bs a h.here.arranged.canonical h.facet.normal) neg
+pub crossing_falls : (n : ℕ) (fs : List Terms) (k : Region) (r : List ℤ) (d : ℕ) (bs cs : List MarkedPolynomial) (a : List ℤ) → AreInVariables n fs → length r ≡ n →
+    All (λ c. pos 0 <ℤ c) r → AreAdjacent n fs k bs a cs → IsNegative r a → above_members (gains r) bs ≤ d → reading (gains r) d cs < reading (gains r) d bs
+crossing_falls n fs k r d bs cs a v w p h neg small =
+    reading_falls n r d a bs cs w p (normal-length n bs a h.here.arranged.canonical h.facet.normal) (normal-nonzero n bs a h.here.arranged.canonical h.facet.normal) neg
     (parts_of_neighbours n fs k bs cs a v h)
-    (λ b c x m. (variables_by_terms n b.poly (h.here.arranged.canonical b c).variables x m, members_below (gains k.root) d bs small b c x m))
+    (λ b c x m. (variables_by_terms n b.poly (h.here.arranged.canonical b c).variables x m, members_below (gains r) d bs small b c x m))
 
 parent_falls : (F : Fan) (d : ℕ) (v : MarkedPolynomials) (c : List ℤ) (u : MarkedPolynomials) → IsParentIn F v c u → above_members (gains F.region.root) v.items ≤ d →
     reading (gains F.region.root) d u.items < reading (gains F.region.root) d v.items
-parent_falls F d v c u p h = crossing_falls F.variables F.ideal F.region d v.items u.items p.normal p.fan.ideal p.fan.region p.adjacent p.way.leads.negative h
+parent_falls F d v c u p h =
+    crossing_falls F.variables F.ideal F.region F.region.root d v.items u.items p.normal p.fan.ideal p.fan.region.root.width p.fan.region.root.positive p.adjacent p.way.leads.negative h
 
 -- ---- no cycle
 
@@ -100,6 +104,45 @@ rank_in F bs = reading (gains F.region.root) (above_bases (gains F.region.root) 
 
 pub basis_listed : (F : Fan) (v : MarkedPolynomials) → IsNodeIn F v → Among (bases_of F) v.items
 basis_listed F v h = among_of (bases_of F) v.items ((listed_in F.variables F.region F.ideal v.items h.fan.ideal h.fan.region.widths).1 h.basis)
+
+-- ---- walks to a root weight end
+
+-- the normals of some bases
+record NormalsOfAll (n : ℕ) (xs : List (List MarkedPolynomial)) : Type 0 where
+  list : List (List ℤ)
+  signable : AreSignable n list
+  all : (bs : List MarkedPolynomial) → Contains xs bs → (a : List ℤ) → IsNormal bs a → Contains list a
+
+normals_of_all : (n : ℕ) (xs : List (List MarkedPolynomial)) → ((bs : List MarkedPolynomial) → Contains xs bs → AreCanonical n bs) → NormalsOfAll n xs
+normals_of_all n [] h = record { list = []; signable = λ a c. absurd (omega (arith, c.1)); all = λ bs c a q. absurd (omega (arith, c.1)) }
+normals_of_all n (x ∷ xs) h = at (normals_listed x) (normals_of_all n xs (λ bs c. h bs (Contains-there x bs xs c)))
+  where
+    at : NormalsListed x → NormalsOfAll n xs → NormalsOfAll n (x ∷ xs)
+    at l g = record {
+      list = l.list ++ g.list;
+      signable = λ a c. elim (Contains-append_cases l.list g.list a c) [ inl d ↦ normal-signable n x a (h x (Contains-here x xs)) (l.only a d) | inr d ↦ g.signable a d ];
+      all = λ bs c a q. elim (Contains-cases x bs xs c) [
+        | inl e ↦ Contains-append_left l.list g.list a (l.all a (subst (λ (ys : List MarkedPolynomial). IsNormal ys a) (sym e) q))
+        | inr d ↦ Contains-append_right l.list g.list a (g.all bs d a q)
+      ];
+    }
+
+-- a number that falls wherever a normal is crossed that is negative at a root weight, also where some of its entries are 0
+pub walks_fall : (n : ℕ) (fs : List Terms) (k : Region) (r : List ℤ) → AreInVariables n fs → AreRows n k.rows → IsRootWeight n k r →
+    (height : List MarkedPolynomial → ℕ) × ((bs cs : List MarkedPolynomial) (a : List ℤ) → AreAdjacent n fs k bs a cs → IsNegative r a → height cs < height bs)
+walks_fall n fs k r v wide rw = at (normals_of_all n (all_bases n k fs) (λ bs c. ((listed_in n k fs bs v wide).0 c).arranged.canonical))
+  where
+    at : NormalsOfAll n (all_bases n k fs) → (height : List MarkedPolynomial → ℕ) × ((bs cs : List MarkedPolynomial) (a : List ℤ) → AreAdjacent n fs k bs a cs → IsNegative r a → height cs < height bs)
+    at l = by_point (near_root n k r l.list wide rw l.signable)
+      where
+        by_point : NearRoot n k r l.list → (height : List MarkedPolynomial → ℕ) × ((bs cs : List MarkedPolynomial) (a : List ℤ) → AreAdjacent n fs k bs a cs → IsNegative r a → height cs < height bs)
+        by_point p = (
+          reading (gains p.point) (above_bases (gains p.point) (all_bases n k fs)),
+          λ bs cs a h neg. (let listed = (listed_in n k fs bs v wide).1 h.here in
+              crossing_falls n fs k p.point (above_bases (gains p.point) (all_bases n k fs)) bs cs a v p.region.width p.region.positive h
+              (negative_at a p.point (p.negative a (l.all bs listed a h.facet.normal) neg))
+              (basis_below (gains p.point) (all_bases n k fs) bs (among_of (all_bases n k fs) bs listed))),
+        )
 
 among_mapped : (F : Fan) (xs : List (List MarkedPolynomial)) (bs : List MarkedPolynomial) → Among xs bs → Among {X = MarkedPolynomials} (map (λ (bs : List MarkedPolynomial). record { variables = F.variables; items = bs }) xs) (record { variables = F.variables; items = bs })
 among_mapped F [] bs j = elim j [ ]

@@ -1,6 +1,6 @@
 -- A basis with a normal that is negative at a root weight has a facet with such a normal that a flip may cross: some vector
 -- of the region gives each normal the sign that it has at the root weight, and on the way to it a facet is crossed.
--- To cite: sign_or, root_weight, near_root, negative_gives_flippable.
+-- To cite: sign_or, normal_sign, root_weight, near_root, negative_at, normal-signable, negative_gives_flippable.
 use Rattle.std.specs.Prelude.{◌≡◌, ◌⊎◌, ℕ, zero, suc, ◌<◌, List, [], ◌∷◌, ◌++◌, length, Contains, All, ℤ, pos, negsuc, ◌*ℤ◌, ◌<ℤ◌, ◌≤ℤ◌}
 use Rattle.std.proofs.Common.{arith, refl, sym, ap, ◌∙◌, subst, inl, inr}
 use Rattle.std.proofs.lemmas.Int.{ints}
@@ -84,21 +84,25 @@ root_weight n k h = record {
   rows = λ i d l. inl (h.root.rows i d l);
 }
 
--- each normal by its sign, and the others turned
-record SignedNormals (n : ℕ) (r : List ℤ) (ns : List (List ℤ)) : Type 0 where
+-- vectors of n entries, none of which is zero
+abbrev pub AreSignable : ℕ → List (List ℤ) → Type 0
+AreSignable n ns = (a : List ℤ) → Contains ns a → (length a ≡ n) × (AllZero a → ⊥)
+
+-- each vector by its sign: itself, or its negative
+record SignedVectors (n : ℕ) (r : List ℤ) (ns : List (List ℤ)) : Type 0 where
   list : List (List ℤ)
   widths : (t : List ℤ) → Contains list t → length t ≡ n
   positive : (t : List ℤ) → Contains list t → IsLexPositive (rooted r t)
   each : (a : List ℤ) → Contains ns a → (IsLexPositive (rooted r a) × Contains list a) ⊎ (IsNegative r a × Contains list (negated a))
 
-signed_normals : (n : ℕ) (bs : List MarkedPolynomial) (r : List ℤ) → AreCanonical n bs → (ns : List (List ℤ)) → ((a : List ℤ) → Contains ns a → IsNormal bs a) → SignedNormals n r ns
-signed_normals n bs r k [] h = record { list = []; widths = λ t c. absurd (omega (arith, c.1)); positive = λ t c. absurd (omega (arith, c.1)); each = λ a c. absurd (omega (arith, c.1)) }
-signed_normals n bs r k (b ∷ ns) h = at (normal_sign n bs r b k (h b (Contains-here b ns))) (signed_normals n bs r k ns (λ a c. h a (Contains-there b a ns c)))
+signed_vectors : (n : ℕ) (r : List ℤ) (ns : List (List ℤ)) → AreSignable n ns → SignedVectors n r ns
+signed_vectors n r [] h = record { list = []; widths = λ t c. absurd (omega (arith, c.1)); positive = λ t c. absurd (omega (arith, c.1)); each = λ a c. absurd (omega (arith, c.1)) }
+signed_vectors n r (b ∷ ns) h = at (sign_or r b (h b (Contains-here b ns)).1) (signed_vectors n r ns (λ a c. h a (Contains-there b a ns c)))
   where
     wide : length b ≡ n
-    wide = normal-length n bs b k (h b (Contains-here b ns))
+    wide = (h b (Contains-here b ns)).0
 
-    at : IsLexPositive (rooted r b) ⊎ IsNegative r b → SignedNormals n r ns → SignedNormals n r (b ∷ ns)
+    at : IsLexPositive (rooted r b) ⊎ IsNegative r b → SignedVectors n r ns → SignedVectors n r (b ∷ ns)
     at (inl p) g = record {
       list = b ∷ g.list;
       widths = λ t c. elim (Contains-cases b t g.list c) [ inl e ↦ subst (λ (z : List ℤ). length z ≡ n) e wide | inr i ↦ g.widths t i ];
@@ -118,65 +122,72 @@ signed_normals n bs r k (b ∷ ns) h = at (normal_sign n bs r b k (h b (Contains
       ];
     }
 
--- a vector of the region on which each normal has the sign that it has at r
-pub record NearRoot (n : ℕ) (k : Region) (r : List ℤ) (bs : List MarkedPolynomial) : Type 0 where
+-- a vector of the region on which each of some vectors has the sign that it has at r
+pub record NearRoot (n : ℕ) (k : Region) (r : List ℤ) (ns : List (List ℤ)) : Type 0 where
   pub point : List ℤ
   pub region : IsInRegion n k point
-  pub positive : (a : List ℤ) → IsNormal bs a → IsLexPositive (rooted r a) → pos 0 <ℤ dot a point
-  pub negative : (a : List ℤ) → IsNormal bs a → IsNegative r a → dot a point <ℤ pos 0
+  pub positive : (a : List ℤ) → Contains ns a → IsLexPositive (rooted r a) → pos 0 <ℤ dot a point
+  pub negative : (a : List ℤ) → Contains ns a → IsNegative r a → dot a point <ℤ pos 0
 
-pub near_root : (n : ℕ) (k : Region) (r : List ℤ) (bs : List MarkedPolynomial) → AreRows n k.rows → IsRootWeight n k r → AreCanonical n bs → NearRoot n k r bs
-near_root n k r bs wide rw c = at (normals_listed bs)
+pub near_root : (n : ℕ) (k : Region) (r : List ℤ) (ns : List (List ℤ)) → AreRows n k.rows → IsRootWeight n k r → AreSignable n ns → NearRoot n k r ns
+near_root n k r ns wide rw h = with_signs (signed_vectors n r ns h)
   where
-    at : NormalsListed bs → NearRoot n k r bs
-    at l = with_signs (signed_normals n bs r c l.list l.only)
+    with_signs : SignedVectors n r ns → NearRoot n k r ns
+    with_signs s = found (solvable_by_lex n (suc n) (rooted r) (s.list ++ (k.rows ++ units n n)) [] (rooted-linear n r)
+        (All-append (λ t. length t ≡ n) s.list (k.rows ++ units n n) (contained_all (λ t. length t ≡ n) s.list s.widths) (region_rows_wide n k wide))
+        (All-nil (λ t. length t ≡ n))
+        (All-append (λ t. IsLexPositive (rooted r t)) s.list (k.rows ++ units n n) (contained_all (λ t. IsLexPositive (rooted r t)) s.list s.positive)
+        (All-append (λ t. IsLexPositive (rooted r t)) k.rows (units n n) rw.rows (units-positive n r rw.width rw.natural)))
+        (All-nil (λ t. rooted r t ≡ zeros (suc n))))
       where
-        with_signs : SignedNormals n r l.list → NearRoot n k r bs
-        with_signs s = found (solvable_by_lex n (suc n) (rooted r) (s.list ++ (k.rows ++ units n n)) [] (rooted-linear n r)
-            (All-append (λ t. length t ≡ n) s.list (k.rows ++ units n n) (contained_all (λ t. length t ≡ n) s.list s.widths) (region_rows_wide n k wide))
-            (All-nil (λ t. length t ≡ n))
-            (All-append (λ t. IsLexPositive (rooted r t)) s.list (k.rows ++ units n n) (contained_all (λ t. IsLexPositive (rooted r t)) s.list s.positive)
-            (All-append (λ t. IsLexPositive (rooted r t)) k.rows (units n n) rw.rows (units-positive n r rw.width rw.natural)))
-            (All-nil (λ t. rooted r t ≡ zeros (suc n))))
+        found : IsSolvable n (s.list ++ (k.rows ++ units n n)) [] → NearRoot n k r ns
+        found v = record {
+          point = v.0;
+          region = region_of_rows n k v.0 v.1.width (contained_all (λ t. pos 0 <ℤ dot t v.0) (k.rows ++ units n n) (λ t i. on t (Contains-append_right s.list (k.rows ++ units n n) t i)));
+          positive = λ a q p. elim (s.each a q) [
+            | inl u ↦ on a (Contains-append_left s.list (k.rows ++ units n n) a u.1)
+            | inr u ↦ absurd (lex-not_both (rooted r a) p u.0)
+          ];
+          negative = λ a q m. elim (s.each a q) [
+            | inl u ↦ absurd (lex-not_both (rooted r a) u.0 m)
+            | inr u ↦ (let l = on (negated a) (Contains-append_left s.list (k.rows ++ units n n) (negated a) u.1) in let e = dot-negated a v.0 in omega (arith, ints, l, e))
+          ];
+        }
           where
-            found : IsSolvable n (s.list ++ (k.rows ++ units n n)) [] → NearRoot n k r bs
-            found v = record {
-              point = v.0;
-              region = region_of_rows n k v.0 v.1.width (contained_all (λ t. pos 0 <ℤ dot t v.0) (k.rows ++ units n n) (λ t i. on t (Contains-append_right s.list (k.rows ++ units n n) t i)));
-              positive = λ a q p. elim (s.each a (l.all a q)) [
-                | inl u ↦ on a (Contains-append_left s.list (k.rows ++ units n n) a u.1)
-                | inr u ↦ absurd (lex-not_both (rooted r a) p u.0)
-              ];
-              negative = λ a q m. elim (s.each a (l.all a q)) [
-                | inl u ↦ absurd (lex-not_both (rooted r a) u.0 m)
-                | inr u ↦ (let h = on (negated a) (Contains-append_left s.list (k.rows ++ units n n) (negated a) u.1) in let e = dot-negated a v.0 in omega (arith, ints, h, e))
-              ];
-            }
-              where
-                on : (t : List ℤ) → Contains (s.list ++ (k.rows ++ units n n)) t → pos 0 <ℤ dot t v.0
-                on t i = All-contains (λ t. pos 0 <ℤ dot t v.0) (s.list ++ (k.rows ++ units n n)) t v.1.positive i
+            on : (t : List ℤ) → Contains (s.list ++ (k.rows ++ units n n)) t → pos 0 <ℤ dot t v.0
+            on t i = All-contains (λ t. pos 0 <ℤ dot t v.0) (s.list ++ (k.rows ++ units n n)) t v.1.positive i
+
+-- negative on the vector, a vector is negative there in the sense of the first entry that isn't zero
+pub negative_at : (a v : List ℤ) → dot a v <ℤ pos 0 → IsNegative v a
+negative_at a v l = inl (let e = minus_one (dot a v) in omega (arith, ints, l, e))
+
+-- normals are no zero vectors
+pub normal-signable : (n : ℕ) (bs : List MarkedPolynomial) (a : List ℤ) → AreCanonical n bs → IsNormal bs a → (length a ≡ n) × (AllZero a → ⊥)
+normal-signable n bs a k q = (normal-length n bs a k q, not_all_zero a (normal-nonzero n bs a k q))
 
 -- ---- a facet that a flip may cross
 
 -- where a normal is negative at a root weight, one is that a flip may cross
 pub negative_gives_flippable : (n : ℕ) (k : Region) (r : List ℤ) (bs : List MarkedPolynomial) (w b : List ℤ) → AreRows n k.rows → IsRootWeight n k r →
     AreCanonical n bs → IsInRegion n k w → IsInOpenCone w bs → IsNormal bs b → IsNegative r b → (a : List ℤ) × LeadsTowards n k r bs a
-negative_gives_flippable n k r bs w b wide rw c iw o q neg = at (near_root n k r bs wide rw c)
+negative_gives_flippable n k r bs w b wide rw c iw o q neg = at (normals_listed bs)
   where
-    at : NearRoot n k r bs → (a : List ℤ) × LeadsTowards n k r bs a
-    at p = found (flippable_towards_root n K bs w b (record { widths = wide; root = record { width = p.region.width; positive = p.region.positive; rows = p.region.rows } }) c
-        (record { width = iw.width; positive = iw.positive; rows = iw.rows }) o q
-        (inl (let l = p.negative b q neg in let e = minus_one (dot b p.point) in omega (arith, ints, l, e))))
+    at : NormalsListed bs → (a : List ℤ) × LeadsTowards n k r bs a
+    at l = towards (near_root n k r l.list wide rw (λ a h. normal-signable n bs a c (l.only a h)))
       where
-        K : Region
-        K = record { rows = k.rows; root = p.point }
-
-        found : ((a : List ℤ) × IsFlippable n (record { rows = k.rows; root = p.point }) bs a × IsNegative p.point a) → (a : List ℤ) × LeadsTowards n k r bs a
-        found f = (f.0, record {
-          flippable = record { point = f.1.point; region = record { width = f.1.region.width; positive = f.1.region.positive; rows = f.1.region.rows }; inside = f.1.inside };
-          negative = elim (normal_sign n bs r f.0 c f.1.inside.normal) [ inl s ↦ absurd (clash (p.positive f.0 f.1.inside.normal s) f.2) | inr m ↦ m ];
-        })
+        towards : NearRoot n k r l.list → (a : List ℤ) × LeadsTowards n k r bs a
+        towards p = found (flippable_towards_root n K bs w b (record { widths = wide; root = record { width = p.region.width; positive = p.region.positive; rows = p.region.rows } }) c
+            (record { width = iw.width; positive = iw.positive; rows = iw.rows }) o q (negative_at b p.point (p.negative b (l.all b q) neg)))
           where
-            clash : pos 0 <ℤ dot f.0 p.point → IsNegative p.point f.0 → ⊥
-            clash l (inl m) = absurd (let e = minus_one (dot f.0 p.point) in omega (arith, ints, l, m, e))
-            clash l (inr m) = absurd (let e = minus_one (dot f.0 p.point) in let z = m.0 in omega (arith, ints, l, z, e))
+            K : Region
+            K = record { rows = k.rows; root = p.point }
+
+            found : ((a : List ℤ) × IsFlippable n (record { rows = k.rows; root = p.point }) bs a × IsNegative p.point a) → (a : List ℤ) × LeadsTowards n k r bs a
+            found f = (f.0, record {
+              flippable = record { point = f.1.point; region = record { width = f.1.region.width; positive = f.1.region.positive; rows = f.1.region.rows }; inside = f.1.inside };
+              negative = elim (normal_sign n bs r f.0 c f.1.inside.normal) [ inl s ↦ absurd (clash (p.positive f.0 (l.all f.0 f.1.inside.normal) s) f.2) | inr m ↦ m ];
+            })
+              where
+                clash : pos 0 <ℤ dot f.0 p.point → IsNegative p.point f.0 → ⊥
+                clash l (inl m) = absurd (let e = minus_one (dot f.0 p.point) in omega (arith, ints, l, m, e))
+                clash l (inr m) = absurd (let e = minus_one (dot f.0 p.point) in let z = m.0 in omega (arith, ints, l, z, e))

@@ -12,7 +12,6 @@ use Rattle.gf_walk.specs.Path.{IsRoot}
 use Rattle.gf_walk.specs.Whole.{Parent, IsFinite}
 use Rattle.gf_facets.specs.LexPositive.{IsNegative, IsBefore}
 use Rattle.gf_facets.specs.Regions.{Region}
-use Rattle.gf_facets.specs.Facets.{IsFlippable}
 use Rattle.gf_facets.specs.Neighbours.{AreAdjacent}
 use Rattle.gf_facets.proofs.NormalLaws.{normal-nonzero}
 use Rattle.gf_facets.proofs.SystemLaws.{open_of_marks}
@@ -23,10 +22,9 @@ use Rattle.gf_reverse.proofs.StepsLaws.{below_by_negative}
 use Rattle.gf_reverse.proofs.CrossingLaws.{Enters, Leaves, something_enters, what_enters_pulls}
 use Rattle.gf_reverse.proofs.RootwardLaws.{root_weight, negative_gives_flippable}
 use Rattle.gf_reverse.proofs.RootLaws.{root_basis, root_is_top, one_root}
-use Rattle.gf_reverse.proofs.UpwardLaws.{from_parent}
-use Rattle.gf_reverse.proofs.FanLaws.{crossing_falls, no_cycle, parents_climb, root_has_no_way, node_list-length}
-use Rattle.gf_reverse.proofs.TreeLaws.{upward_tree, upward_nodes, from_above, finite_in}
-use Rattle.gf_reverse.proofs.ChildLaws.{child_across}
+use Rattle.gf_reverse.proofs.FanLaws.{crossing_falls, walks_fall, no_cycle, parents_climb, root_has_no_way, node_list-length}
+use Rattle.gf_reverse.proofs.TreeLaws.{upward_tree, upward_nodes, finite_in}
+use Rattle.gf_reverse.proofs.ChildLaws.{child_across, child_flippable, child_negative, child_only}
 use Rattle.gf_reverse.proofs.ListLaws.{path_exists, path_one, same_root, list_of_bases}
 use Rattle.gf_reverse.proofs.LeftLaws.{advance_answers, advance_ends}
 
@@ -59,6 +57,7 @@ crossings_fall = record {
   enters = λ n fs k bs cs a v h. (let e = something n fs k bs cs a v h in (e.at, e.member, e.contained, e.there, e.not_led, e.led));
   pulls = pulled;
   falls = crossing_falls;
+  ends = walks_fall;
 }
 
 pub no_cycles : NoCycles
@@ -80,11 +79,6 @@ root_exactly k v h = (
   λ b c u p. root_is_top v.variables (polys v.items) k k.root v.items (root_weight v.variables k h.fan.region).natural h.basis.arranged.canonical b p.normal p.way.leads,
 )
 
-child_flippable : (k : Region) (u v : MarkedPolynomials) (b : List ℤ) → IsParent k v b u → IsFlippable u.variables k u.items b
-child_flippable k u v b p =
-    let a = from_parent (fan_of k u) v b u (from_above k v b u p) in
-    record { point = a.point; region = a.region; inside = a.facet }
-
 pub bases_make_a_tree : BasesMakeATree
 bases_make_a_tree = record {
   tree = upward_tree;
@@ -93,7 +87,8 @@ bases_make_a_tree = record {
   root = root_exactly;
   one_root = λ F a b h r m s. same_root F a b h r m s;
   child = child_across;
-  across = child_flippable;
+  across = λ k u v b p. (child_flippable k u v b p, child_negative k u v b p);
+  only = child_only;
 }
 
 pub the_tree_is_finite : TheTreeIsFinite

@@ -1,6 +1,6 @@
 -- The theorems on reverse search over the bases of an ideal that functions of this crate name.
 -- Source: Fukuda, Jensen, Thomas, Computing Gröbner fans, 3 and 4; Avis and Fukuda, Reverse Search for Enumeration.
-use Rattle.std.specs.Prelude.{◌≡◌, ◌⊎◌, ◌↔◌, ℕ, ◌≤◌, ◌<◌, List, ◌∷◌, ◌++◌, Contains, All, ℤ, pos, ◌≤ℤ◌}
+use Rattle.std.specs.Prelude.{◌≡◌, ◌⊎◌, ◌↔◌, ℕ, ◌≤◌, ◌<◌, List, ◌∷◌, ◌++◌, Contains, length, All, ℤ, pos, ◌≤ℤ◌, ◌<ℤ◌}
 use Rattle.gf_exponents.specs.Exponents.{Exponents, IsInRing}
 use Rattle.gf_exponents.specs.Orders.{gains, IsWeightedBelow}
 use Rattle.gf_poly.specs.Polynomial.{Terms}
@@ -47,8 +47,9 @@ pub record RootHasNoWayUp : Type 0 where
 -- ---- a number that falls
 
 -- across a facet something enters the leading monomials; and where the normal is negative at a weight, what enters pulls out
--- something smaller by the weight and then lex. So the number that tells the leading monomials up to some weight, the
--- smallest first, falls, if it tells of all monomials of the upper basis
+-- something smaller by the weight and then lex. So, where the weight is positive, the number that tells the leading monomials
+-- up to some weight, the smallest first, falls, if it tells of all monomials of the basis that is left. And for each root weight,
+-- also with entries 0, some number falls at each crossing: each walk ends
 pub record CrossingsFall : Type 0 where
   pub enters : (n : ℕ) (fs : List Terms) (k : Region) (bs cs : List MarkedPolynomial) (a : List ℤ) → AreInVariables n fs →
       AreAdjacent n fs k bs a cs →
@@ -56,9 +57,11 @@ pub record CrossingsFall : Type 0 where
   pub pulls : (n : ℕ) (fs : List Terms) (k : Region) (r : List ℤ) (bs cs : List MarkedPolynomial) (a : List ℤ) (x : Exponents) → AreInVariables n fs →
       All (λ c. pos 0 ≤ℤ c) r → AreAdjacent n fs k bs a cs → IsNegative r a → IsInRing n x → (IsDivisible (Contains bs) x → ⊥) → IsDivisible (Contains cs) x →
       (y : Exponents) × IsWeightedBelow (gains r) y x × IsDivisible (Contains bs) y × (IsDivisible (Contains cs) y → ⊥)
-  pub falls : (n : ℕ) (fs : List Terms) (k : Region) (d : ℕ) (bs cs : List MarkedPolynomial) (a : List ℤ) → AreInVariables n fs → IsRegion n k →
-      AreAdjacent n fs k bs a cs → IsNegative k.root a → above_members (gains k.root) bs ≤ d →
-      reading (gains k.root) d cs < reading (gains k.root) d bs
+  pub falls : (n : ℕ) (fs : List Terms) (k : Region) (r : List ℤ) (d : ℕ) (bs cs : List MarkedPolynomial) (a : List ℤ) → AreInVariables n fs →
+      length r ≡ n → All (λ c. pos 0 <ℤ c) r → AreAdjacent n fs k bs a cs → IsNegative r a → above_members (gains r) bs ≤ d →
+      reading (gains r) d cs < reading (gains r) d bs
+  pub ends : (n : ℕ) (fs : List Terms) (k : Region) (r : List ℤ) → AreInVariables n fs → AreRows n k.rows → IsRootWeight n k r →
+      (height : List MarkedPolynomial → ℕ) × ((bs cs : List MarkedPolynomial) (a : List ℤ) → AreAdjacent n fs k bs a cs → IsNegative r a → height cs < height bs)
 
 -- no way along parents leads back to where it began
 abbrev pub NoCycles : Type 0
@@ -67,7 +70,8 @@ NoCycles = (F : Fan) (top : MarkedPolynomials) (c : List ℤ) (q : List (List �
 -- ---- the tree
 
 -- parents make a tree, of bases of the ideals that they generate; each basis has a parent or is the root, and the root is the
--- reduced basis for the order of the region's root; the children are the neighbours whose way up leads back
+-- reduced basis for the order of the region's root; the children are the neighbours whose way up leads back, each across a
+-- flippable facet whose normal is not negative at the root
 pub record BasesMakeATree : Type 0 where
   pub tree : (k : Region) → IsTree (IsParent k)
   pub nodes : (k : Region) (v : MarkedPolynomials) (c : List ℤ) (u : MarkedPolynomials) → IsParent k v c u → IsNode k v × IsNode k u
@@ -77,7 +81,9 @@ pub record BasesMakeATree : Type 0 where
   pub one_root : (F : Fan) (a b : MarkedPolynomials) → IsNodeIn F a → IsRoot (IsParent F.region) a → IsNodeIn F b → IsRoot (IsParent F.region) b → a ≡ b
   pub child : (k : Region) (u w : MarkedPolynomials) (b : List ℤ) → IsNode k u → w.variables ≡ u.variables →
       AreAdjacent u.variables (polys u.items) k u.items b w.items → IsWayUp u.variables k w.items (negated b) → IsParent k w b u
-  pub across : (k : Region) (u v : MarkedPolynomials) (b : List ℤ) → IsParent k v b u → IsFlippable u.variables k u.items b
+  pub across : (k : Region) (u v : MarkedPolynomials) (b : List ℤ) → IsParent k v b u → IsFlippable u.variables k u.items b × IsNegative k.root (negated b)
+  pub only : (k : Region) (u w v : MarkedPolynomials) (b : List ℤ) → AreAdjacent u.variables (polys u.items) k u.items b w.items → IsParent k v b u →
+      (v.items ≡ w.items) × IsWayUp u.variables k w.items (negated b)
 
 -- what is below a basis of an ideal is finite: not more than there are bases
 abbrev pub TheTreeIsFinite : Type 0
