@@ -64,8 +64,8 @@ coefficient-off x y s = ap (λ b. (if b then one_ℚ else zero_ℚ) +ℚ zero_�
 pub along_divisible : (by : MarkedPolynomial → Type 0) (x y : Exponents) → same x y ≡ true → IsDivisible by x → IsDivisible by y
 along_divisible by x y s d = record { member = d.member; contained = d.contained; rest = d.rest; divides = same_trans y x _ (same_flip x y s) d.divides }
 
--- y is x and at least one times a, leads here, and doesn't lead there
-pub record Leaves (a : List ℤ) (bs cs : List MarkedPolynomial) (x : Exponents) : Type 0 where
+-- some monomial is x and at least one times a, leads in bs, and doesn't lead in cs
+pub record IsPulledOut (a : List ℤ) (bs cs : List MarkedPolynomial) (x : Exponents) : Type 0 where
   pub at : Exponents
   pub steps : ℕ
   pub some : 0 < steps
@@ -74,7 +74,7 @@ pub record Leaves (a : List ℤ) (bs cs : List MarkedPolynomial) (x : Exponents)
   pub not_led : IsDivisible (Contains cs) at → ⊥
 
 pub what_enters_pulls : (n : ℕ) (a : List ℤ) (bs cs : List MarkedPolynomial) (x : Exponents) → HaveParts n a bs cs → IsInRing n x →
-    (IsDivisible (Contains bs) x → ⊥) → IsDivisible (Contains cs) x → Leaves a bs cs x
+    (IsDivisible (Contains bs) x → ⊥) → IsDivisible (Contains cs) x → IsPulledOut a bs cs x
 what_enters_pulls n a bs cs x h r out enters =
     at (divided h.there h.basis_there.marked.0 B (monomial x) h.basis_there.marked.2 closed inside)
   where
@@ -105,7 +105,7 @@ what_enters_pulls n a bs cs x h r out enters =
         same_case true s = along_b x y (same_flip y x s) ((0, steps-none a x), r)
         same_case false s = absurd (m (coefficient-off x y s))
 
-    at : Divided h.there B (monomial x) → Leaves a bs cs x
+    at : Divided h.there B (monomial x) → IsPulledOut a bs cs x
     at q = found (divisible_monomial h.here f)
       where
         f : Terms
@@ -133,11 +133,11 @@ what_enters_pulls n a bs cs x h r out enters =
         there : HasMonomial f x
         there z = zero-not-one (sym (+ℚ-zero zero_ℚ) ∙ ap (λ w. w +ℚ zero_ℚ) (sym gone) ∙ ap (λ w. coefficient q.remainder x +ℚ w) (sym z) ∙ sym (q.equal x) ∙ coefficient-at x x (same-refl x))
 
-        found : IsIrreducible (Contains h.here) f ⊎ ((y : Exponents) × HasMonomial f y × IsDivisible (Contains h.here) y) → Leaves a bs cs x
+        found : IsIrreducible (Contains h.here) f ⊎ ((y : Exponents) × HasMonomial f y × IsDivisible (Contains h.here) y) → IsPulledOut a bs cs x
         found (inl i) = absurd (there (h.basis_here.decides f member i x))
         found (inr y) = leaving (same y.0 x) refl
           where
-            leaving : (b : Bool) → same y.0 x ≡ b → Leaves a bs cs x
+            leaving : (b : Bool) → same y.0 x ≡ b → IsPulledOut a bs cs x
             leaving true s = absurd (out ((h.lead_here x).0 (along_divisible (Contains h.here) y.0 x s y.2)))
             leaving false s = record {
               at = y.0;

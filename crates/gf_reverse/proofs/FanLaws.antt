@@ -2,6 +2,7 @@
 -- To cite: bases_of, crossing_falls, walks_fall, rank_in, parents_fall, no_cycle, parents_climb, roots_one, node_list.
 use Rattle.std.specs.Prelude.{◌≡◌, ◌⊎◌, ℕ, suc, ◌+◌, ◌<◌, ◌≤◌, List, [], ◌∷◌, ◌++◌, length, Contains, max, map, All, ℤ, pos, ◌<ℤ◌}
 use Rattle.std.proofs.Common.{arith, refl, sym, ap, ◌∙◌, subst, inl, inr}
+use Rattle.std.proofs.lemmas.List.{length-map}
 use Rattle.std.proofs.lemmas.List.Elements.{Contains-append_cases, Contains-append_left, Contains-append_right}
 use Rattle.gf_gordan.specs.Alternative.{AreRows}
 use Rattle.gf_exponents.specs.Exponents.{Exponents, weight}
@@ -18,11 +19,11 @@ use Rattle.gf_walk.specs.Listing.{Among}
 use Rattle.gf_walk.specs.Whole.{Parent}
 use Rattle.gf_facets.specs.Rows.{negated, IsNormal}
 use Rattle.gf_facets.specs.MarkedBases.{AreCanonical, IsBasisInRegion}
-use Rattle.gf_reverse.specs.Reading.{reading}
+use Rattle.gf_reverse.specs.LeadingNumber.{leading_number}
 use Rattle.gf_reverse.specs.Heights.{above_terms, above_members, above_bases}
 use Rattle.gf_facets.specs.Regions.{Region}
 use Rattle.gf_reverse.specs.Upward.{IsRootWeight, LeadsUp, Fan, IsFan, IsNodeIn, IsParentIn}
-use Rattle.gf_reverse.proofs.ReadingLaws.{reading_falls}
+use Rattle.gf_reverse.proofs.LeadingNumberLaws.{leading_number_falls}
 use Rattle.gf_reverse.proofs.RootLaws.{one_root}
 use Rattle.gf_reverse.proofs.UpwardLaws.{parent_nodes, same_list}
 use Rattle.gf_reverse.proofs.WayLaws.{way_or_none}
@@ -55,14 +56,14 @@ basis_below r (x ∷ xs) bs (inr j) = omega (arith, basis_below r xs bs j)
 
 -- ---- the fall, below any height that is enough
 pub crossing_falls : (n : ℕ) (fs : List Terms) (k : Region) (r : List ℤ) (d : ℕ) (bs cs : List MarkedPolynomial) (a : List ℤ) → AreInVariables n fs → length r ≡ n →
-    All (λ c. pos 0 <ℤ c) r → AreAdjacent n fs k bs a cs → IsNegative r a → above_members (gains r) bs ≤ d → reading (gains r) d cs < reading (gains r) d bs
+    All (λ c. pos 0 <ℤ c) r → AreAdjacent n fs k bs a cs → IsNegative r a → above_members (gains r) bs ≤ d → leading_number (gains r) d cs < leading_number (gains r) d bs
 crossing_falls n fs k r d bs cs a v w p h neg small =
-    reading_falls n r d a bs cs w p (normal-length n bs a h.here.arranged.canonical h.facet.normal) (normal-nonzero n bs a h.here.arranged.canonical h.facet.normal) neg
+    leading_number_falls n r d a bs cs w p (normal-length n bs a h.here.arranged.canonical h.facet.normal) (normal-nonzero n bs a h.here.arranged.canonical h.facet.normal) neg
     (parts_of_neighbours n fs k bs cs a v h)
     (λ b c x m. (variables_by_terms n b.poly (h.here.arranged.canonical b c).variables x m, members_below (gains r) d bs small b c x m))
 
 parent_falls : (F : Fan) (d : ℕ) (v : MarkedPolynomials) (c : List ℤ) (u : MarkedPolynomials) → IsParentIn F v c u → above_members (gains F.region.root) v.items ≤ d →
-    reading (gains F.region.root) d u.items < reading (gains F.region.root) d v.items
+    leading_number (gains F.region.root) d u.items < leading_number (gains F.region.root) d v.items
 parent_falls F d v c u p h =
     crossing_falls F.variables F.ideal F.region F.region.root d v.items u.items p.normal p.fan.ideal p.fan.region.root.width p.fan.region.root.positive p.adjacent p.way.leads.negative h
 
@@ -70,12 +71,12 @@ parent_falls F d v c u p h =
 
 -- along a way down the number rises, whatever the ideal and its list
 ways_rise : (F : Fan) (s : MarkedPolynomials) (q : List (List ℤ)) (x : MarkedPolynomials) → Leads (IsParentIn F) s q x →
-    (d : ℕ) × ((e : ℕ) → d ≤ e → reading (gains F.region.root) e s.items + length q ≤ reading (gains F.region.root) e x.items)
-ways_rise F s [] x h = (0, λ e l. (let f : reading (gains F.region.root) e s.items ≡ reading (gains F.region.root) e x.items = ap (λ (z : MarkedPolynomials). reading (gains F.region.root) e z.items) h in omega arith))
+    (d : ℕ) × ((e : ℕ) → d ≤ e → leading_number (gains F.region.root) e s.items + length q ≤ leading_number (gains F.region.root) e x.items)
+ways_rise F s [] x h = (0, λ e l. (let f : leading_number (gains F.region.root) e s.items ≡ leading_number (gains F.region.root) e x.items = ap (λ (z : MarkedPolynomials). leading_number (gains F.region.root) e z.items) h in omega arith))
 ways_rise F s (c ∷ q) x h = at (ways_rise F h.0 q x h.2)
   where
-    at : ((d : ℕ) × ((e : ℕ) → d ≤ e → reading (gains F.region.root) e h.0.items + length q ≤ reading (gains F.region.root) e x.items)) →
-        (d : ℕ) × ((e : ℕ) → d ≤ e → reading (gains F.region.root) e s.items + length (c ∷ q) ≤ reading (gains F.region.root) e x.items)
+    at : ((d : ℕ) × ((e : ℕ) → d ≤ e → leading_number (gains F.region.root) e h.0.items + length q ≤ leading_number (gains F.region.root) e x.items)) →
+        (d : ℕ) × ((e : ℕ) → d ≤ e → leading_number (gains F.region.root) e s.items + length (c ∷ q) ≤ leading_number (gains F.region.root) e x.items)
     at r = (max r.0 (above_members (gains F.region.root) h.0.items), λ e l. (let a = r.1 e (omega arith) in let b = parent_falls F e h.0 c s h.1 (omega arith) in omega arith))
 
 pub no_cycle : (F : Fan) (top : MarkedPolynomials) (c : List ℤ) (q : List (List ℤ)) → Leads (IsParentIn F) top (c ∷ q) top → ⊥
@@ -100,7 +101,7 @@ node_list F = map (λ (bs : List MarkedPolynomial). record { variables = F.varia
 
 -- how far a basis is below the root at most
 unfoldable pub rank_in : Fan → List MarkedPolynomial → ℕ
-rank_in F bs = reading (gains F.region.root) (above_bases (gains F.region.root) (bases_of F)) bs
+rank_in F bs = leading_number (gains F.region.root) (above_bases (gains F.region.root) (bases_of F)) bs
 
 pub basis_listed : (F : Fan) (v : MarkedPolynomials) → IsNodeIn F v → Among (bases_of F) v.items
 basis_listed F v h = among_of (bases_of F) v.items ((listed_in F.variables F.region F.ideal v.items h.fan.ideal h.fan.region.widths).1 h.basis)
@@ -137,7 +138,7 @@ walks_fall n fs k r v wide rw = at (normals_of_all n (all_bases n k fs) (λ bs c
       where
         by_point : NearRoot n k r l.list → (height : List MarkedPolynomial → ℕ) × ((bs cs : List MarkedPolynomial) (a : List ℤ) → AreAdjacent n fs k bs a cs → IsNegative r a → height cs < height bs)
         by_point p = (
-          reading (gains p.point) (above_bases (gains p.point) (all_bases n k fs)),
+          leading_number (gains p.point) (above_bases (gains p.point) (all_bases n k fs)),
           λ bs cs a h neg. (let listed = (listed_in n k fs bs v wide).1 h.here in
               crossing_falls n fs k p.point (above_bases (gains p.point) (all_bases n k fs)) bs cs a v p.region.width p.region.positive h
               (negative_at a p.point (p.negative a (l.all bs listed a h.facet.normal) neg))
@@ -179,14 +180,10 @@ pub node_listed : (F : Fan) (v : MarkedPolynomials) → IsNodeIn F v → Among (
 unfolding node_list
 node_listed F v h = subst (Among (map (λ (bs : List MarkedPolynomial). record { variables = F.variables; items = bs }) (bases_of F))) (same_list (record { variables = F.variables; items = v.items }) v (sym h.variables) refl) (among_mapped F (bases_of F) v.items (basis_listed F v h))
 
-length-mapped : {X Y : Type 0} (f : X → Y) (xs : List X) → length (map f xs) ≡ length xs
-length-mapped f [] = refl
-length-mapped f (x ∷ xs) = ap suc (length-mapped f xs)
-
 -- as many as bases are listed
 pub node_list-length : (F : Fan) → length (node_list F) ≡ number_of_bases F.variables F.region F.ideal
 unfolding node_list
-node_list-length F = length-mapped (λ (bs : List MarkedPolynomial). record { variables = F.variables; items = bs }) (bases_of F)
+node_list-length F = length-map (bases_of F) (λ (bs : List MarkedPolynomial). record { variables = F.variables; items = bs })
 
 mapped_node : (F : Fan) (xs : List (List MarkedPolynomial)) (v : MarkedPolynomials) → Among (map (λ (bs : List MarkedPolynomial). record { variables = F.variables; items = bs }) xs) v → (v.variables ≡ F.variables) × Among xs v.items
 mapped_node F [] v j = elim j [ ]

@@ -2,7 +2,7 @@ pub mod StepsLaws  -- monomials a multiple of a vector apart
 pub mod CrossingLaws  -- what enters and what leaves where a facet is crossed
 pub mod NumberLaws  -- binary numbers that fall
 pub mod WeightListLaws  -- the monomials up to a weight, listed
-pub mod ReadingLaws  -- the reading number falls where a facet is crossed
+pub mod LeadingNumberLaws  -- the leading number falls where a facet is crossed
 pub mod RootwardLaws  -- a negative normal gives a flippable one
 pub mod RootLaws  -- a basis from which no facet leads towards the root is that of the root
 pub mod UpwardLaws  -- the parent relation is that of a tree

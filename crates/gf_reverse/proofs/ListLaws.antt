@@ -1,11 +1,12 @@
 -- The whole list below the root is the list of all bases, and each basis has one path.
--- To cite: path_exists, path_one, list_of_bases, child_listed.
+-- To cite: own, path_exists, path_one, same_root, list_of_bases, root_above, root_own, path_below, below_top.
 use Rattle.std.specs.Prelude.{◌≡◌, ℕ, zero, suc, ◌≤◌, List, [], ◌∷◌, ◌++◌, length, ℤ}
 use Rattle.std.proofs.Common.{arith, refl, sym, subst, inl, inr}
 use Rattle.gf_poly.specs.Marking.{MarkedPolynomials}
 use Rattle.gf_walk.specs.Path.{IsRoot, Leads}
 use Rattle.gf_walk.specs.Listing.{Among, LeadTo}
 use Rattle.gf_walk.specs.Whole.{IsWholeList}
+use Rattle.gf_walk.proofs.CutLaws.{leads_on}
 use Rattle.gf_walk.proofs.StepLaws.{Leads-snoc}
 use Rattle.gf_walk.proofs.ListLaws.{leads_one}
 use Rattle.gf_walk.proofs.FinitenessLaws.{one_path, no_loop-rank}
@@ -84,10 +85,6 @@ list_of_bases k root v nodes h n r w = record {
   rises = w.rises;
 }
 
--- every child of a listed node is listed
-pub child_listed : (k : Region) (root : MarkedPolynomials) (nodes : List MarkedPolynomials) → IsWholeList IsBefore (IsParent k) root nodes → (v w : MarkedPolynomials) (c : List ℤ) → Among nodes v → IsParent k w c v → Among nodes w
-child_listed k root nodes l v w c j p = let q = lead_below k root l.paths nodes v l.lead j in l.all w (q.0 ++ c ∷ []) (Leads-snoc (IsParent k) root q.0 v c w q.1 p)
-
 -- ---- from the way up that a program finds
 
 -- the root above a basis is a basis, of the same ideal
@@ -98,13 +95,10 @@ pub root_own : (k : Region) (v root : MarkedPolynomials) → IsNode k v → IsNo
 root_own k v root h m = own k (fan_of k v) root refl m
 
 -- ---- paths through a node
-leads_through : (k : Region) (s : MarkedPolynomials) (p q : List (List ℤ)) (t x : MarkedPolynomials) → Leads (IsParent k) s p t → Leads (IsParent k) t q x → Leads (IsParent k) s (p ++ q) x
-leads_through k s [] q t x a b = subst (λ y. Leads (IsParent k) y q x) (sym a) b
-leads_through k s (c ∷ p) q t x a b = (a.0, a.1, leads_through k a.0 p q t x a.2 b)
 
 -- the path of a basis below a top is that of the top and then the way down
 pub path_below : (k : Region) (top x : MarkedPolynomials) (p q : List (List ℤ)) → IsPathOf k top p → Leads (IsParent k) top q x → IsPathOf k x (p ++ q)
-path_below k top x p q a l = record { root = a.root; is_root = a.is_root; leads = leads_through k a.root p q top x a.leads l }
+path_below k top x p q a l = record { root = a.root; is_root = a.is_root; leads = leads_on (IsParent k) a.root p q top x a.leads l }
 
 -- each prefix of a path is a path
 pub path_prefix : (k : Region) (s x : MarkedPolynomials) (p q : List (List ℤ)) → Leads (IsParent k) s (p ++ q) x → (t : MarkedPolynomials) × Leads (IsParent k) s p t × Leads (IsParent k) t q x

@@ -19,7 +19,7 @@ use Rattle.gf_initial.proofs.CrossingLaws.{parts_of_neighbours}
 use Rattle.gf_reverse.specs.Upward.{Fan, IsNodeIn, IsParentIn, fan_of, IsNode, IsParent}
 use Rattle.gf_reverse.specs.Theorems.{NegativeNormalsCanBeCrossed, RootHasNoWayUp, CrossingsFall, NoCycles, BasesMakeATree, TheTreeIsFinite, BasesHavePaths, WhatIsLeft}
 use Rattle.gf_reverse.proofs.StepsLaws.{below_by_negative}
-use Rattle.gf_reverse.proofs.CrossingLaws.{Enters, Leaves, something_enters, what_enters_pulls}
+use Rattle.gf_reverse.proofs.CrossingLaws.{Enters, IsPulledOut, something_enters, what_enters_pulls}
 use Rattle.gf_reverse.proofs.RootwardLaws.{root_weight, negative_gives_flippable}
 use Rattle.gf_reverse.proofs.RootLaws.{root_basis, root_is_top, one_root}
 use Rattle.gf_reverse.proofs.FanLaws.{crossing_falls, walks_fall, no_cycle, parents_climb, root_has_no_way, node_list-length}
@@ -49,7 +49,7 @@ pulled : (n : ℕ) (fs : List Terms) (k : Region) (r : List ℤ) (bs cs : List M
     (y : Exponents) × IsWeightedBelow (gains r) y x × IsDivisible (Contains bs) y × (IsDivisible (Contains cs) y → ⊥)
 pulled n fs k r bs cs a x v natural h neg i out enters = at (what_enters_pulls n a bs cs x (parts_of_neighbours n fs k bs cs a v h) i out enters)
   where
-    at : Leaves a bs cs x → (y : Exponents) × IsWeightedBelow (gains r) y x × IsDivisible (Contains bs) y × (IsDivisible (Contains cs) y → ⊥)
+    at : IsPulledOut a bs cs x → (y : Exponents) × IsWeightedBelow (gains r) y x × IsDivisible (Contains bs) y × (IsDivisible (Contains cs) y → ⊥)
     at l = (l.at, below_by_negative r l.steps a x l.at natural l.some l.apart neg, l.led, l.not_led)
 
 pub crossings_fall : CrossingsFall

@@ -10,7 +10,7 @@ use Rattle.gf_walk.specs.Path.{IsTree, IsRoot}
 use Rattle.gf_walk.specs.Listing.{Among}
 use Rattle.gf_walk.specs.Whole.{Parent, IsFinite}
 use Rattle.gf_walk.proofs.FinitenessLaws.{finite_tree}
-use Rattle.gf_reverse.specs.Reading.{reading}
+use Rattle.gf_reverse.specs.LeadingNumber.{leading_number}
 use Rattle.gf_reverse.specs.Heights.{above_bases}
 use Rattle.gf_facets.specs.Regions.{Region, IsRegion, IsInRegion}
 use Rattle.gf_facets.specs.MarkedBases.{IsBasisInRegion}
@@ -124,8 +124,8 @@ bases_within F G s bs j = basis_listed G (record { variables = G.variables; item
 rank_same : (F G : Fan) (bs : List MarkedPolynomial) → SameFan F G → rank_in F bs ≡ rank_in G bs
 unfolding rank_in
 rank_same F G bs s =
-    ap (λ k. reading (gains k.root) (above_bases (gains k.root) (bases_of F)) bs) s.region
-    ∙ ap (λ d. reading (gains G.region.root) d bs) (let a = heights_within (gains G.region.root) (bases_of F) (bases_of G) (bases_within F G s) in let b = heights_within (gains G.region.root) (bases_of G) (bases_of F) (bases_within G F (back_fan F G s)) in omega arith)
+    ap (λ k. leading_number (gains k.root) (above_bases (gains k.root) (bases_of F)) bs) s.region
+    ∙ ap (λ d. leading_number (gains G.region.root) d bs) (let a = heights_within (gains G.region.root) (bases_of F) (bases_of G) (bases_within F G s) in let b = heights_within (gains G.region.root) (bases_of G) (bases_of F) (bases_within G F (back_fan F G s)) in omega arith)
 
 -- how far a node is below its root at most
 pub rank : Region → MarkedPolynomials → ℕ

@@ -10,7 +10,7 @@ use Rattle.gf_exponents.proofs.ExponentsLaws.{eq_by}
 use Rattle.gf_exponents.proofs.OrderLaws.{lex-first, lex-later}
 use Rattle.gf_ideal.specs.Marks.{IsPositive}
 use Rattle.gf_walk.specs.Listing.{Among}
-use Rattle.gf_reverse.specs.Reading.{by_first, of_weight, below_weight}
+use Rattle.gf_reverse.specs.LeadingNumber.{by_first, of_weight, below_weight}
 use Rattle.gf_reverse.proofs.NumberLaws.{AscendsBy}
 
 -- ---- lists

@@ -1,5 +1,5 @@
 pub mod Upward  -- the way up from a basis
-pub mod Reading  -- leading monomials up to a weight, read as a number
+pub mod LeadingNumber  -- leading monomials up to a weight, read as a number
 pub mod Heights  -- weights above all monomials of lists
 pub mod Lists  -- paths, the list of all bases, and what is left for a walker
 pub mod Answers  -- what the calls that the tree stands on answer

@@ -22,7 +22,7 @@ use Rattle.gf_facets.specs.Neighbours.{AreAdjacent}
 use Rattle.gf_all_bases.specs.AllBases.{number_of_bases}
 use Rattle.gf_reverse.specs.Upward.{IsRootWeight, LeadsTowards, IsWayUp, Fan, IsNodeIn, IsParentIn, fan_of, IsNode, IsParent}
 use Rattle.gf_reverse.specs.Heights.{above_members}
-use Rattle.gf_reverse.specs.Reading.{reading}
+use Rattle.gf_reverse.specs.LeadingNumber.{leading_number}
 use Rattle.gf_reverse.specs.Lists.{IsPathOf, IsListOfBases, IsLeftBasis, AnswersBasis}
 
 -- ---- the way to a root weight
@@ -59,7 +59,7 @@ pub record CrossingsFall : Type 0 where
       (y : Exponents) × IsWeightedBelow (gains r) y x × IsDivisible (Contains bs) y × (IsDivisible (Contains cs) y → ⊥)
   pub falls : (n : ℕ) (fs : List Terms) (k : Region) (r : List ℤ) (d : ℕ) (bs cs : List MarkedPolynomial) (a : List ℤ) → AreInVariables n fs →
       length r ≡ n → All (λ c. pos 0 <ℤ c) r → AreAdjacent n fs k bs a cs → IsNegative r a → above_members (gains r) bs ≤ d →
-      reading (gains r) d cs < reading (gains r) d bs
+      leading_number (gains r) d cs < leading_number (gains r) d bs
   pub ends : (n : ℕ) (fs : List Terms) (k : Region) (r : List ℤ) → AreInVariables n fs → AreRows n k.rows → IsRootWeight n k r →
       (height : List MarkedPolynomial → ℕ) × ((bs cs : List MarkedPolynomial) (a : List ℤ) → AreAdjacent n fs k bs a cs → IsNegative r a → height cs < height bs)
 
@@ -71,7 +71,7 @@ NoCycles = (F : Fan) (top : MarkedPolynomials) (c : List ℤ) (q : List (List �
 
 -- parents make a tree, of bases of the ideals that they generate; each basis has a parent or is the root, and the root is the
 -- reduced basis for the order of the region's root; the children are the neighbours whose way up leads back, each across a
--- flippable facet whose normal is not negative at the root
+-- flippable facet whose normal, turned, is negative at the root
 pub record BasesMakeATree : Type 0 where
   pub tree : (k : Region) → IsTree (IsParent k)
   pub nodes : (k : Region) (v : MarkedPolynomials) (c : List ℤ) (u : MarkedPolynomials) → IsParent k v c u → IsNode k v × IsNode k u

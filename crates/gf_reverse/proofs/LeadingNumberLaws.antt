@@ -1,5 +1,5 @@
 -- The reading number falls where a facet with a negative normal is crossed.
--- To cite: reading_falls.
+-- To cite: leading_number_falls.
 use Rattle.std.specs.Prelude.{◌≡◌, ◌⊎◌, ◌||◌, ℕ, zero, suc, ◌<◌, ◌≤◌, Bool, true, false, List, [], ◌∷◌, length, Contains, get_or, All, ℤ, pos, ◌*ℤ◌, ◌<ℤ◌, ◌≤ℤ◌}
 use Rattle.std.proofs.Common.{arith, refl, sym, ap, ◌∙◌, subst, inl, inr}
 use Rattle.std.proofs.lemmas.Int.{ints}
@@ -23,10 +23,10 @@ use Rattle.gf_walk.specs.Listing.{Among}
 use Rattle.gf_facets.specs.LexPositive.{IsNegative}
 use Rattle.gf_facets.specs.Beyond.{IsStepsFrom}
 use Rattle.gf_initial.specs.Crossings.{HaveParts}
-use Rattle.gf_reverse.specs.Reading.{below_weight, is_led, reading}
+use Rattle.gf_reverse.specs.LeadingNumber.{below_weight, is_led, leading_number}
 use Rattle.gf_reverse.proofs.StepsLaws.{below_by_negative}
-use Rattle.gf_reverse.proofs.CrossingLaws.{Leaves, Enters, what_enters_pulls, something_enters, along_divisible}
-use Rattle.gf_reverse.proofs.NumberLaws.{Turns, number_falls}
+use Rattle.gf_reverse.proofs.CrossingLaws.{IsPulledOut, Enters, what_enters_pulls, something_enters, along_divisible}
+use Rattle.gf_reverse.proofs.NumberLaws.{Turns, binary_falls}
 use Rattle.gf_reverse.proofs.WeightListLaws.{below-is, among_below, below-ascends}
 
 -- ---- the test of a mark
@@ -87,12 +87,12 @@ not_above r x y (inl l) = omega arith
 not_above r x y (inr e) = omega (arith, e.0)
 
 -- crossing a facet with a negative normal makes the number of leading monomials smaller, wherever it counts the monomials of the first basis
-pub reading_falls : (n : ℕ) (root : List ℤ) (d : ℕ) (a : List ℤ) (bs cs : List MarkedPolynomial) → length root ≡ n → All (λ c. pos 0 <ℤ c) root → length a ≡ n → IsNonzero a → IsNegative root a →
+pub leading_number_falls : (n : ℕ) (root : List ℤ) (d : ℕ) (a : List ℤ) (bs cs : List MarkedPolynomial) → length root ≡ n → All (λ c. pos 0 <ℤ c) root → length a ≡ n → IsNonzero a → IsNegative root a →
     HaveParts n a bs cs → ((b : MarkedPolynomial) → Contains bs b → (x : Exponents) → HasMonomial b.poly x → IsInRing n x × (weight (gains root) x < d)) →
-    reading (gains root) d cs < reading (gains root) d bs
-unfolding reading
-reading_falls n root d a bs cs lr p la nz neg h small =
-    number_falls (IsWeightedBelow r) (λ x l. o.irreflexive x x (same-refl x) l) o.transitive (is_led bs) (is_led cs) (below_weight r d) (below-ascends r d) (padded n e.at) (listed e.at s.0 s.1)
+    leading_number (gains root) d cs < leading_number (gains root) d bs
+unfolding leading_number
+leading_number_falls n root d a bs cs lr p la nz neg h small =
+    binary_falls (IsWeightedBelow r) (λ x l. o.irreflexive x x (same-refl x) l) o.transitive (is_led bs) (is_led cs) (below_weight r d) (below-ascends r d) (padded n e.at) (listed e.at s.0 s.1)
     (λ q. let f : is_led bs (padded n e.at) ≡ false = undivided-led bs (padded n e.at) (λ v. e.not_led (back (Contains bs) e.at s.0 v)) in let g : is_led cs (padded n e.at) ≡ true = divisible-led cs (padded n e.at) (onto (Contains cs) e.at s.0 e.led) in absurd (cc))
     (λ x j f g. leaves x (below-is r d x j) f g)
   where
@@ -126,7 +126,7 @@ reading_falls n root d a bs cs lr p la nz neg h small =
         ring : IsInRing n x
         ring i l = entry-past x i (let u = m.1 in let v = wide in omega arith)
 
-        turned : Leaves a bs cs x → Turns (IsWeightedBelow r) (is_led bs) (is_led cs) (below_weight r d) x
+        turned : IsPulledOut a bs cs x → Turns (IsWeightedBelow r) (is_led bs) (is_led cs) (below_weight r d) x
         turned v = record {
           at = padded n v.at;
           among = listed v.at inside (let u = not_above r x v.at lower in let w = m.0 in omega arith);
