@@ -1,6 +1,6 @@
 -- What enters and what leaves the leading monomials where a facet is crossed.
 -- To cite: something_enters, what_enters_pulls. The rest are steps.
-use Rattle.std.specs.Prelude.{◌≡◌, ◌≢◌, ◌⊎◌, ℕ, zero, suc, ◌+◌, ◌<◌, Bool, true, false, if◌then◌else◌, List, [], ◌∷◌, Contains, get_or, ℤ, pos, ◌+ℤ◌, ◌*ℤ◌, ◌<ℤ◌}
+use Rattle.std.specs.Prelude.{◌≡◌, ◌⊎◌, ℕ, zero, suc, ◌+◌, ◌<◌, Bool, true, false, if◌then◌else◌, List, [], Contains, get_or, ℤ, pos, ◌+ℤ◌, ◌*ℤ◌, ◌<ℤ◌}
 use Rattle.std.proofs.Common.{arith, refl, sym, ap, ◌∙◌, inl, inr}
 use Rattle.std.proofs.lemmas.Int.{ints}
 use Rattle.gf_frac.specs.Fraction.{◌+ℚ◌, zero_ℚ, one_ℚ}
@@ -13,9 +13,8 @@ use Rattle.gf_exponents.proofs.WholeWeightLaws.{negated-less, negated-alike, row
 use Rattle.gf_vec.specs.Vector.{dot}
 use Rattle.gf_facets.proofs.VectorLaws.{IsNonzero}
 use Rattle.gf_exponents.proofs.ExponentsLaws.{entry-plus, entries_same, same_by_entries, same-refl, same_flip, same_trans}
-use Rattle.gf_poly.specs.declared.Term.{Term}
 use Rattle.gf_poly.specs.Polynomial.{Terms, coefficient, SamePolynomial}
-use Rattle.gf_poly.specs.Marking.{MarkedPolynomial, Each}
+use Rattle.gf_poly.specs.Marking.{MarkedPolynomial}
 use Rattle.gf_ideal.specs.Membership.{HasMonomial, IsInVariables, IsMember}
 use Rattle.gf_ideal.specs.Marks.{Piece, value, AreMarked}
 use Rattle.gf_ideal.specs.Bases.{IsGreatest}
@@ -24,13 +23,12 @@ use Rattle.gf_ideal.proofs.BasisLaws.{basis_greatest}
 use Rattle.gf_reverse.proofs.StepsLaws.{whole_weight-steps}
 use Rattle.gf_ideal.specs.Reduction.{IsDivisible, IsIrreducible}
 use Rattle.gf_ideal.proofs.ListLaws.{Each-weaker}
-use Rattle.gf_ideal.proofs.TermLaws.{Canonical, canonical}
 use Rattle.gf_ideal.proofs.RingLaws.{ring-along}
 use Rattle.gf_ideal.proofs.ListedTerms.{by_terms}
 use Rattle.gf_ideal.proofs.MembershipLaws.{spans_of_member, member_of_spans, variables_of_member}
 use Rattle.gf_ideal.proofs.PieceLaws.{spans_value}
 use Rattle.gf_ideal.proofs.StepLaws.{IsClosed, IsPieceIn, IsWithin, closed-both, closed-ring}
-use Rattle.gf_ideal.proofs.DivisionLaws.{NoMark, divisible_or_not, Divided, divided, irreducible_terms}
+use Rattle.gf_ideal.proofs.DivisionLaws.{Divided, divided, irreducible_terms}
 use Rattle.gf_facets.specs.Beyond.{IsStepsFrom}
 use Rattle.gf_facets.specs.InitialIdeals.{monomial}
 use Rattle.gf_facets.proofs.RegionLaws.{dot-itself}
@@ -41,13 +39,13 @@ use Rattle.gf_initial.specs.Crossings.{HaveParts}
 steps_sum : (j k : ℕ) (c : ℤ) → pos (j + k) *ℤ c ≡ pos j *ℤ c +ℤ pos k *ℤ c
 steps_sum j k c = let e : pos (j + k) ≡ pos j +ℤ pos k = omega (arith, ints) in ap (λ z. z *ℤ c) e ∙ +ℤ-*ℤ (pos j) (pos k) c
 
-pub steps-none : (a : List ℤ) (x : Exponents) → IsStepsFrom 0 a x x
+steps-none : (a : List ℤ) (x : Exponents) → IsStepsFrom 0 a x x
 steps-none a x i = omega (arith, ints)
 
-pub steps-along : (k : ℕ) (a : List ℤ) (x y z : Exponents) → same y z ≡ true → IsStepsFrom k a x y → IsStepsFrom k a x z
+steps-along : (k : ℕ) (a : List ℤ) (x y z : Exponents) → same y z ≡ true → IsStepsFrom k a x y → IsStepsFrom k a x z
 steps-along k a x y z s h i = ap pos (sym (entries_same y z s i)) ∙ h i
 
-pub steps-more : (j k : ℕ) (a : List ℤ) (x u h t : Exponents) → IsStepsFrom j a x (plus u h) → IsStepsFrom k a h t →
+steps-more : (j k : ℕ) (a : List ℤ) (x u h t : Exponents) → IsStepsFrom j a x (plus u h) → IsStepsFrom k a h t →
     IsStepsFrom (j + k) a x (plus u t)
 steps-more j k a x u h t p q i =
     let c = get_or a i (pos 0) in

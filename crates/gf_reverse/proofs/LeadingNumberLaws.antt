@@ -1,12 +1,11 @@
 -- The reading number falls where a facet with a negative normal is crossed.
 -- To cite: leading_number_falls.
-use Rattle.std.specs.Prelude.{◌≡◌, ◌⊎◌, ◌||◌, ℕ, zero, suc, ◌<◌, ◌≤◌, Bool, true, false, List, [], ◌∷◌, length, Contains, get_or, All, ℤ, pos, ◌*ℤ◌, ◌<ℤ◌, ◌≤ℤ◌}
+use Rattle.std.specs.Prelude.{◌≡◌, ◌⊎◌, ◌||◌, ℕ, ◌<◌, ◌≤◌, Bool, true, false, List, [], ◌∷◌, length, Contains, get_or, All, ℤ, pos, ◌*ℤ◌, ◌<ℤ◌, ◌≤ℤ◌}
 use Rattle.std.proofs.Common.{arith, refl, sym, ap, ◌∙◌, subst, inl, inr}
 use Rattle.std.proofs.lemmas.Int.{ints}
-use Rattle.std.proofs.lemmas.Bool.{cases_lt}
 use Rattle.std.proofs.Math.IntN.{*ℤ-zero}
 use Rattle.std.proofs.lemmas.List.{get_or_past}
-use Rattle.gf_exponents.specs.Exponents.{Exponents, entry, same, plus, minus, IsInRing, weight}
+use Rattle.gf_exponents.specs.Exponents.{Exponents, same, plus, minus, IsInRing, weight}
 use Rattle.gf_exponents.specs.Orders.{IsStrict, IsWeightedBelow, gains}
 use Rattle.gf_exponents.proofs.WholeWeightLaws.{length-gains, positive-gains}
 use Rattle.gf_exponents.proofs.ExponentsLaws.{entry-plus, entry-minus, entry-past, entries_same, same_by_entries, same_flip, same-refl}
@@ -79,7 +78,7 @@ steps_in_ring n k a x y e r h i l =
 at_least_one : (r : List ℤ) → All (λ c. pos 0 <ℤ c) r → All (λ c. pos 1 ≤ℤ c) r
 at_least_one r p = λ i d h. omega (arith, ints, p i d h)
 
-pub not_negative : (r : List ℤ) → All (λ c. pos 0 <ℤ c) r → All (λ c. pos 0 ≤ℤ c) r
+not_negative : (r : List ℤ) → All (λ c. pos 0 <ℤ c) r → All (λ c. pos 0 ≤ℤ c) r
 not_negative r p = λ i d h. omega (arith, ints, p i d h)
 
 not_above : (r : List ℕ) (x y : Exponents) → IsWeightedBelow r y x → weight r y ≤ weight r x

@@ -1,12 +1,10 @@
 -- What a walker has left, by whole paths.
 -- To cite: advance_answers, advance_ends, top_seen_below.
-use Rattle.std.specs.Prelude.{◌≡◌, ℕ, List, [], ◌∷◌, ◌++◌, ℤ}
-use Rattle.std.proofs.Common.{refl, sym, ap, ◌∙◌, subst, inl, inr, append_assoc}
+use Rattle.std.specs.Prelude.{ℕ, List, ◌++◌, ℤ}
+use Rattle.std.proofs.Common.{sym, subst, inl, inr}
 use Rattle.gf_poly.specs.Marking.{MarkedPolynomials}
 use Rattle.gf_walk.specs.declared.mark.Mark.{Mark}
-use Rattle.gf_walk.specs.declared.mark.Mark.TheVariants.{Before, After, Listed, Finished}
-use Rattle.gf_walk.specs.Path.{Leads, Precedes, Begins, IsStrictOrder}
-use Rattle.gf_walk.specs.Left.{IsLeft}
+use Rattle.gf_walk.specs.Path.{Leads}
 use Rattle.gf_walk.specs.Walk.{IsNext, IsDone}
 use Rattle.gf_walk.proofs.ListLaws.{leads_one}
 use Rattle.gf_facets.specs.Regions.{Region}

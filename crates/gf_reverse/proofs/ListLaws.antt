@@ -101,7 +101,7 @@ pub path_below : (k : Region) (top x : MarkedPolynomials) (p q : List (List ℤ)
 path_below k top x p q a l = record { root = a.root; is_root = a.is_root; leads = leads_on (IsParent k) a.root p q top x a.leads l }
 
 -- each prefix of a path is a path
-pub path_prefix : (k : Region) (s x : MarkedPolynomials) (p q : List (List ℤ)) → Leads (IsParent k) s (p ++ q) x → (t : MarkedPolynomials) × Leads (IsParent k) s p t × Leads (IsParent k) t q x
+path_prefix : (k : Region) (s x : MarkedPolynomials) (p q : List (List ℤ)) → Leads (IsParent k) s (p ++ q) x → (t : MarkedPolynomials) × Leads (IsParent k) s p t × Leads (IsParent k) t q x
 path_prefix k s x [] q l = (s, refl, l)
 path_prefix k s x (c ∷ p) q l = let r = path_prefix k l.0 x p q l.2 in (r.0, (l.0, l.1, r.1), r.2)
 

@@ -14,7 +14,7 @@ AscendsBy {X} lt (x ∷ xs) = ((y : X) → Among xs y → lt x y) × AscendsBy l
 twice : (n : ℕ) → 2 ^ suc n ≡ 2 ^ n + 2 ^ n
 twice n = omega (arith, pow-suc 2 n)
 
-pub binary-below : (bs : List Bool) → binary bs < 2 ^ length bs
+binary-below : (bs : List Bool) → binary bs < 2 ^ length bs
 binary-below [] = omega arith
 binary-below (true ∷ bs) = omega (arith, binary-below bs, twice (length bs))
 binary-below (false ∷ bs) = omega (arith, binary-below bs, twice (length bs))

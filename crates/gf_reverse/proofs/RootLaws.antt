@@ -1,6 +1,6 @@
 -- No facet leads towards a root weight exactly from the reduced basis for its order: by the weight, then lex.
 -- To cite: root_basis, root_is_top, one_root.
-use Rattle.std.specs.Prelude.{◌≡◌, ◌⊎◌, ℕ, Bool, true, false, List, Contains, All, ℤ, pos, ◌≤ℤ◌}
+use Rattle.std.specs.Prelude.{◌≡◌, ◌⊎◌, ℕ, Bool, true, false, List, All, ℤ, pos, ◌≤ℤ◌}
 use Rattle.std.proofs.Common.{refl, inl, inr}
 use Rattle.gf_exponents.specs.Exponents.{Exponents, same}
 use Rattle.gf_exponents.specs.Orders.{IsStrict, IsWeightedBelow, gains}

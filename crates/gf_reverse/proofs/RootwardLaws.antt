@@ -1,7 +1,7 @@
 -- A basis with a normal that is negative at a root weight has a facet with such a normal that a flip may cross: some vector
 -- of the region gives each normal the sign that it has at the root weight, and on the way to it a facet is crossed.
 -- To cite: sign_or, normal_sign, root_weight, near_root, negative_at, normal-signable, negative_gives_flippable.
-use Rattle.std.specs.Prelude.{◌≡◌, ◌⊎◌, ℕ, zero, suc, ◌<◌, List, [], ◌∷◌, ◌++◌, length, Contains, All, ℤ, pos, negsuc, ◌*ℤ◌, ◌<ℤ◌, ◌≤ℤ◌}
+use Rattle.std.specs.Prelude.{◌≡◌, ◌⊎◌, ℕ, zero, suc, ◌<◌, List, [], ◌∷◌, ◌++◌, length, Contains, All, ℤ, pos, negsuc, ◌<ℤ◌, ◌≤ℤ◌}
 use Rattle.std.proofs.Common.{arith, refl, sym, ap, ◌∙◌, subst, inl, inr}
 use Rattle.std.proofs.lemmas.Int.{ints}
 use Rattle.std.proofs.lemmas.List.Elements.{All-nil, All-append, All-contains, Contains-append_left, Contains-append_right}
@@ -183,10 +183,13 @@ negative_gives_flippable n k r bs w b wide rw c iw o q neg = at (normals_listed 
             K = record { rows = k.rows; root = p.point }
 
             found : ((a : List ℤ) × IsFlippable n (record { rows = k.rows; root = p.point }) bs a × IsNegative p.point a) → (a : List ℤ) × LeadsTowards n k r bs a
-            found f = (f.0, record {
-              flippable = record { point = f.1.point; region = record { width = f.1.region.width; positive = f.1.region.positive; rows = f.1.region.rows }; inside = f.1.inside };
-              negative = elim (normal_sign n bs r f.0 c f.1.inside.normal) [ inl s ↦ absurd (clash (p.positive f.0 (l.all f.0 f.1.inside.normal) s) f.2) | inr m ↦ m ];
-            })
+            found f = (
+              f.0,
+              record {
+                flippable = record { point = f.1.point; region = record { width = f.1.region.width; positive = f.1.region.positive; rows = f.1.region.rows }; inside = f.1.inside };
+                negative = elim (normal_sign n bs r f.0 c f.1.inside.normal) [ inl s ↦ absurd (clash (p.positive f.0 (l.all f.0 f.1.inside.normal) s) f.2) | inr m ↦ m ];
+              },
+            )
               where
                 clash : pos 0 <ℤ dot f.0 p.point → IsNegative p.point f.0 → ⊥
                 clash l (inl m) = absurd (let e = minus_one (dot f.0 p.point) in omega (arith, ints, l, m, e))

@@ -13,7 +13,7 @@ use Rattle.gf_ideal.proofs.BasisLaws.{basis_of_groebner_for}
 use Rattle.gf_facets.specs.Regions.{all_positive}
 use Rattle.gf_facets.proofs.SystemLaws.{all_positive-region}
 use Rattle.gf_bases.proofs.FiniteLaws.{basis_everywhere}
-use Rattle.gf_reverse.specs.Upward.{Fan, IsNodeIn, IsNode}
+use Rattle.gf_reverse.specs.Upward.{IsNodeIn, IsNode}
 use Rattle.gf_reverse.proofs.ListLaws.{own}
 
 pub basis_is_node : (n : ℕ) (fs : List Terms) (below : Exponents → Exponents → Type 0) (s : MarkedPolynomials) → AreInVariables n fs →

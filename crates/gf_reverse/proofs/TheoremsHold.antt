@@ -1,5 +1,5 @@
 -- The theorems of specs/Theorems.antt.
-use Rattle.std.specs.Prelude.{◌≡◌, ◌⊎◌, ◌↔◌, ℕ, List, Contains, All, ℤ, pos, ◌≤ℤ◌}
+use Rattle.std.specs.Prelude.{◌⊎◌, ◌↔◌, ℕ, List, Contains, All, ℤ, pos, ◌≤ℤ◌}
 use Rattle.std.proofs.Common.{subst, inl, inr}
 use Rattle.gf_exponents.specs.Exponents.{Exponents, IsInRing}
 use Rattle.gf_exponents.specs.Orders.{gains, IsWeightedBelow}
@@ -16,7 +16,7 @@ use Rattle.gf_facets.specs.Neighbours.{AreAdjacent}
 use Rattle.gf_facets.proofs.NormalLaws.{normal-nonzero}
 use Rattle.gf_facets.proofs.SystemLaws.{open_of_marks}
 use Rattle.gf_initial.proofs.CrossingLaws.{parts_of_neighbours}
-use Rattle.gf_reverse.specs.Upward.{Fan, IsNodeIn, IsParentIn, fan_of, IsNode, IsParent}
+use Rattle.gf_reverse.specs.Upward.{IsParentIn, fan_of, IsNode, IsParent}
 use Rattle.gf_reverse.specs.Theorems.{NegativeNormalsCanBeCrossed, RootHasNoWayUp, CrossingsFall, NoCycles, BasesMakeATree, TheTreeIsFinite, BasesHavePaths, WhatIsLeft}
 use Rattle.gf_reverse.proofs.StepsLaws.{below_by_negative}
 use Rattle.gf_reverse.proofs.CrossingLaws.{Enters, IsPulledOut, something_enters, what_enters_pulls}

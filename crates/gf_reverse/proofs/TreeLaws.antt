@@ -89,7 +89,7 @@ back_fan F G s = record {
 }
 
 -- ---- parents seen in an ideal of which one of the two is a basis
-pub in_ideal : (F : Fan) (v : MarkedPolynomials) (c : List ℤ) (u : MarkedPolynomials) → IsNodeIn F v → IsParent F.region v c u → IsParentIn F v c u
+in_ideal : (F : Fan) (v : MarkedPolynomials) (c : List ℤ) (u : MarkedPolynomials) → IsNodeIn F v → IsParent F.region v c u → IsParentIn F v c u
 in_ideal F v c u h p = parent_moved (fan_of F.region v) F v c u (back_fan F (fan_of F.region v) (own_fan F v h)) p
 
 -- from the ideal of the parent

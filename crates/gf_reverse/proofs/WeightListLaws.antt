@@ -127,7 +127,7 @@ by_first-ascends others h r d (suc k) =
     cross x y q z = subst (λ (u : Exponents). IsLexBelow u y) q.is (subst (λ (v : Exponents). IsLexBelow (q.first ∷ q.rest) v) z.1 (lex-first q.first k q.rest z.0 q.small))
 
 -- ---- of one weight
-pub of_weight-is : (r : List ℕ) (d : ℕ) (x : Exponents) → Among (of_weight r d) x → (weight r x ≡ d) × (length x ≡ length r)
+of_weight-is : (r : List ℕ) (d : ℕ) (x : Exponents) → Among (of_weight r d) x → (weight r x ≡ d) × (length x ≡ length r)
 of_weight-is [] zero x (inl e) = (refl, ap length (sym e))
 of_weight-is [] zero x (inr j) = elim j [ ]
 of_weight-is [] (suc d) x j = elim j [ ]
