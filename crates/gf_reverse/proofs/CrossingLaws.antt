@@ -20,7 +20,7 @@ use Rattle.gf_ideal.specs.Marks.{Piece, value, AreMarked}
 use Rattle.gf_ideal.specs.Bases.{IsGreatest}
 use Rattle.gf_ideal.proofs.LeadingLaws.{top_greatest}
 use Rattle.gf_ideal.proofs.BasisLaws.{basis_greatest}
-use Rattle.gf_reverse.proofs.StepsLaws.{whole_weight-steps}
+use Rattle.gf_facets.proofs.WholeLaws.{weight-apart}
 use Rattle.gf_ideal.specs.Reduction.{IsDivisible, IsIrreducible}
 use Rattle.gf_ideal.proofs.ListLaws.{Each-weaker}
 use Rattle.gf_ideal.proofs.RingLaws.{ring-along}
@@ -170,7 +170,7 @@ Lower a = IsFacetBelow (negated_row_of a)
 
 rises : (k : ℕ) (a : List ℤ) (x y : Exponents) → IsNonzero a → 0 < k → IsStepsFrom k a x y → whole_weight a x <ℤ whole_weight a y
 rises k a x y n l h =
-    let e = whole_weight-steps a k a x y h in
+    let e = weight-apart a a y x (pos k) h in
     let m : pos 0 <ℤ (pos k *ℤ dot a a) = 0<-*ℤ (pos k) (dot a a) (omega (arith, ints)) (dot-itself a n) in
     omega (arith, ints, e, m)
 

@@ -1,71 +1,29 @@
 -- Monomials a multiple of a vector apart: what weights give on them, and how they compare.
--- To cite: whole_weight-steps, steps-back, below_by_positive, below_by_negative.
+-- To cite: weight-steps, steps-back, lex_by_steps, rooted-negated, below_by_positive, below_by_negative.
 use Rattle.std.specs.Prelude.{◌≡◌, ℕ, zero, suc, ◌<◌, List, [], ◌∷◌, get_or, All, ℤ, pos, neg_ℤ, ◌+ℤ◌, ◌*ℤ◌, ◌<ℤ◌, ◌≤ℤ◌}
-use Rattle.std.proofs.Common.{arith, refl, sym, ap, ap₂, ◌∙◌, subst, inl, inr}
+use Rattle.std.proofs.Common.{arith, sym, ap, ◌∙◌, subst, inl, inr}
 use Rattle.std.proofs.lemmas.Int.{ints}
 use Rattle.std.proofs.Math.IntN.{*ℤ-zero}
-use Rattle.gf_int.proofs.RingLaws.{same as same_number, ◌⊗◌, ◌⊕◌, dv, *ℤ-neg}
+use Rattle.gf_int.proofs.RingLaws.{*ℤ-neg}
 use Rattle.gf_int.proofs.SignLaws.{0<-*ℤ}
-use Rattle.gf_exponents.specs.Exponents.{Exponents, entry, weight, whole_weight}
+use Rattle.gf_exponents.specs.Exponents.{Exponents, entry, weight}
 use Rattle.gf_exponents.specs.Orders.{IsLexBelow, IsWeightedBelow, gains}
 use Rattle.gf_exponents.proofs.WholeWeightLaws.{natural-weight}
 use Rattle.gf_ideal.proofs.RingLaws.{rest, entry-rest}
 use Rattle.gf_vec.specs.Vector.{dot}
-use Rattle.gf_vec.proofs.VectorLaws.{dot_comm}
 use Rattle.gf_facets.specs.Rows.{negated}
 use Rattle.gf_facets.specs.LexPositive.{IsLexPositive, rooted, IsNegative}
 use Rattle.gf_facets.specs.Beyond.{IsStepsFrom}
+use Rattle.gf_facets.proofs.WholeLaws.{weight-apart}
 use Rattle.gf_facets.proofs.VectorLaws.{get-negated, dot-negated, minus_one}
 
--- ---- the first variable and the others
-tail_of : List ℤ → List ℤ
-tail_of [] = []
-tail_of (c ∷ a) = a
-
-tail-entry : (a : List ℤ) (i : ℕ) → get_or (tail_of a) i (pos 0) ≡ get_or a (suc i) (pos 0)
-unfolding tail_of
-tail-entry [] i = refl
-tail-entry (c ∷ a) i = refl
-
-steps-rest : (k : ℕ) (a : List ℤ) (x y : Exponents) → IsStepsFrom k a x y → IsStepsFrom k (tail_of a) (rest x) (rest y)
-steps-rest k a x y h i = ap pos (entry-rest y i) ∙ h (suc i) ∙ ap₂ (λ z c. pos z +ℤ pos k *ℤ c) (sym (entry-rest x i)) (sym (tail-entry a i))
-
-whole_weight-none : (w : List ℤ) → whole_weight w [] ≡ pos 0
-whole_weight-none [] = refl
-whole_weight-none (c ∷ w) = refl
-
-whole_weight-first : (c : ℤ) (w : List ℤ) (x : Exponents) → whole_weight (c ∷ w) x ≡ c *ℤ pos (entry x 0) +ℤ whole_weight w (rest x)
-unfolding rest
-whole_weight-first c w [] = sym (ap₂ ◌+ℤ◌ (*ℤ-zero c) (whole_weight-none w) ∙ refl)
-whole_weight-first c w (b ∷ x) = refl
-
-dot-none : (w : List ℤ) → dot w [] ≡ pos 0
-dot-none [] = refl
-dot-none (c ∷ w) = refl
-
-dot-first : (c : ℤ) (w a : List ℤ) → dot (c ∷ w) a ≡ c *ℤ get_or a 0 (pos 0) +ℤ dot w (tail_of a)
-unfolding tail_of
-dot-first c w [] = sym (ap₂ ◌+ℤ◌ (*ℤ-zero c) (dot-none w) ∙ refl)
-dot-first c w (b ∷ a) = refl
-
 -- ---- weights
-weigh_step : (c p k b q d : ℤ) → c *ℤ (p +ℤ k *ℤ b) +ℤ (q +ℤ k *ℤ d) ≡ (c *ℤ p +ℤ q) +ℤ k *ℤ (c *ℤ b +ℤ d)
-weigh_step c p k b q d = same_number (dv c ⊗ (dv p ⊕ dv k ⊗ dv b) ⊕ (dv q ⊕ dv k ⊗ dv d)) ((dv c ⊗ dv p ⊕ dv q) ⊕ dv k ⊗ (dv c ⊗ dv b ⊕ dv d)) (omega arith)
 
--- what a weight gives on y is what it gives on x and k times what it gives on a
-pub whole_weight-steps : (w : List ℤ) (k : ℕ) (a : List ℤ) (x y : Exponents) → IsStepsFrom k a x y →
-    whole_weight w y ≡ whole_weight w x +ℤ pos k *ℤ dot w a
-whole_weight-steps [] k a x y h = sym (ap (λ z. pos 0 +ℤ z) (*ℤ-zero (pos k)))
-whole_weight-steps (c ∷ w) k a x y h =
-    whole_weight-first c w y
-    ∙ ap₂ (λ u v. c *ℤ u +ℤ v) (h 0) (whole_weight-steps w k (tail_of a) (rest x) (rest y) (steps-rest k a x y h))
-    ∙ weigh_step c (pos (entry x 0)) (pos k) (get_or a 0 (pos 0)) (whole_weight w (rest x)) (dot w (tail_of a))
-    ∙ ap₂ (λ u v. u +ℤ pos k *ℤ v) (sym (whole_weight-first c w x)) (sym (dot-first c w a))
-
+-- what a weight with entries at least 0 gives on y is what it gives on x and k times what it gives on a
 pub weight-steps : (r : List ℤ) (k : ℕ) (a : List ℤ) (x y : Exponents) → All (λ c. pos 0 ≤ℤ c) r → IsStepsFrom k a x y →
     pos (weight (gains r) y) ≡ pos (weight (gains r) x) +ℤ pos k *ℤ dot a r
 weight-steps r k a x y p h =
-    natural-weight r y p ∙ whole_weight-steps r k a x y h ∙ ap₂ (λ u v. u +ℤ pos k *ℤ v) (sym (natural-weight r x p)) (dot_comm r a)
+    natural-weight r y p ∙ weight-apart r a y x (pos k) h ∙ ap (λ u. u +ℤ pos k *ℤ dot a r) (sym (natural-weight r x p))
 
 -- ---- the way back
 back_step : (p q k c : ℤ) → q ≡ p +ℤ k *ℤ c → p ≡ q +ℤ k *ℤ neg_ℤ c
