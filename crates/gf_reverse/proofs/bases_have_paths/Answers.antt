@@ -1,0 +1,5 @@
+use Rattle.gf_reverse.proofs.TheoremsHold.{bases_have_paths}
+use Rattle.gf_reverse.proofs.bases_have_paths.Goals as goal
+
+pub returns : goal.returns
+returns c = bases_have_paths

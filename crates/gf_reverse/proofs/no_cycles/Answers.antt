@@ -1,0 +1,5 @@
+use Rattle.gf_reverse.proofs.TheoremsHold.{no_cycles}
+use Rattle.gf_reverse.proofs.no_cycles.Goals as goal
+
+pub returns : goal.returns
+returns c = no_cycles

@@ -1,0 +1,78 @@
+-- The Gröbner fan of an ideal in a region as a tree: its bases, and the way up from each.
+-- Laws: proofs/UpwardLaws.antt, proofs/FanLaws.antt, proofs/TreeLaws.antt.
+-- Source: Fukuda, Jensen, Thomas, Computing Gröbner fans, 3 and 4.
+use Rattle.std.specs.Prelude.{◌≡◌, ◌⊎◌, ℕ, List, length, All, ℤ, pos, ◌≤ℤ◌}
+use Rattle.gf_poly.specs.Polynomial.{Terms}
+use Rattle.gf_poly.specs.Marking.{MarkedPolynomial, MarkedPolynomials, polys}
+use Rattle.gf_ideal.specs.Membership.{AreInVariables}
+use Rattle.gf_facets.specs.Rows.{negated}
+use Rattle.gf_facets.specs.Regions.{Region, IsRegion}
+use Rattle.gf_facets.specs.LexPositive.{IsLexPositive, rooted, IsNegative, IsBefore}
+use Rattle.gf_facets.specs.Facets.{IsFlippable}
+use Rattle.gf_facets.specs.MarkedBases.{IsBasisInRegion}
+use Rattle.gf_facets.specs.Neighbours.{AreAdjacent}
+
+-- ---- the way to a root
+
+-- r can be a root of the region: a weight with entries at least 0, on which each row of the region is positive, or zero where
+-- the row's own first nonzero entry is positive. In the region of all positive vectors each weight r with entries at least 0
+-- is one, also (0, .., 0); the region's own root is one.
+pub record IsRootWeight (n : ℕ) (k : Region) (r : List ℤ) : Type 0 where
+  pub width : length r ≡ n
+  pub natural : All (λ c. pos 0 ≤ℤ c) r
+  pub rows : All (λ t. IsLexPositive (rooted r t)) k.rows
+
+-- a facet with a normal that is negative at r, which a flip may cross
+pub record LeadsTowards (n : ℕ) (k : Region) (r : List ℤ) (bs : List MarkedPolynomial) (a : List ℤ) : Type 0 where
+  pub flippable : IsFlippable n k bs a
+  pub negative : IsNegative r a
+
+-- one that is negative at the region's own root
+abbrev pub LeadsUp : ℕ → Region → List MarkedPolynomial → List ℤ → Type 0
+LeadsUp n k bs a = LeadsTowards n k k.root bs a
+
+-- the least of them
+pub record IsWayUp (n : ℕ) (k : Region) (bs : List MarkedPolynomial) (a : List ℤ) : Type 0 where
+  pub leads : LeadsUp n k bs a
+  pub least : (b : List ℤ) → LeadsUp n k bs b → (a ≡ b) ⊎ IsBefore a b
+
+-- an ideal in n variables, by generators, and a region
+pub record Fan : Type 0 where
+  pub variables : ℕ
+  pub ideal : List Terms
+  pub region : Region
+
+-- its generators are in its variables, and its region has its root
+pub record IsFan (F : Fan) : Type 0 where
+  pub ideal : AreInVariables F.variables F.ideal
+  pub region : IsRegion F.variables F.region
+
+-- v is a basis of the ideal in the region
+pub record IsNodeIn (F : Fan) (v : MarkedPolynomials) : Type 0 where
+  pub fan : IsFan F
+  pub variables : v.variables ≡ F.variables
+  pub basis : IsBasisInRegion F.variables F.ideal F.region v.items
+
+-- u is across the way up from v, and c leads back
+pub record IsParentIn (F : Fan) (v : MarkedPolynomials) (c : List ℤ) (u : MarkedPolynomials) : Type 0 where
+  pub fan : IsFan F
+  pub child : v.variables ≡ F.variables
+  pub parent : u.variables ≡ F.variables
+  pub normal : List ℤ
+  pub way : IsWayUp F.variables F.region v.items normal
+  pub adjacent : AreAdjacent F.variables F.ideal F.region v.items normal u.items
+  pub label : c ≡ negated normal
+
+-- ---- the ideal that a node generates
+
+-- the ideal of v, in a region
+abbrev pub fan_of : Region → MarkedPolynomials → Fan
+fan_of k v = record { variables = v.variables; ideal = polys v.items; region = k }
+
+-- v is a basis, in the region, of the ideal that it generates
+abbrev pub IsNode : Region → MarkedPolynomials → Type 0
+IsNode k v = IsNodeIn (fan_of k v) v
+
+-- u is across the way up from v, and c leads back
+abbrev pub IsParent : Region → MarkedPolynomials → List ℤ → MarkedPolynomials → Type 0
+IsParent k v c u = IsParentIn (fan_of k v) v c u
