@@ -1,6 +1,6 @@
 -- A basis with a normal that is negative at a root weight has a facet with such a normal that a flip may cross: some vector
 -- of the region gives each normal the sign that it has at the root weight, and on the way to it a facet is crossed.
--- To cite: sign_or, normal_sign, root_weight, near_root, negative_at, normal-signable, negative_gives_flippable.
+-- To cite: sign_or, normal_sign, root_weight, weight_everywhere, near_root, negative_at, normal-signable, negative_gives_flippable.
 use Rattle.std.specs.Prelude.{◌≡◌, ◌⊎◌, ℕ, zero, suc, ◌<◌, List, [], ◌∷◌, ◌++◌, length, Contains, All, ℤ, pos, negsuc, ◌<ℤ◌, ◌≤ℤ◌}
 use Rattle.std.proofs.Common.{arith, refl, sym, ap, ◌∙◌, subst, inl, inr}
 use Rattle.std.proofs.lemmas.Int.{ints}
@@ -15,7 +15,7 @@ use Rattle.gf_facets.specs.Rows.{IsNormal, negated}
 use Rattle.gf_facets.specs.Systems.{unit, units}
 use Rattle.gf_facets.specs.LexPositive.{IsLexPositive, rooted, IsNegative}
 use Rattle.gf_facets.specs.LinearMaps.{IsLinear}
-use Rattle.gf_facets.specs.Regions.{Region, IsRegion, IsInRegion}
+use Rattle.gf_facets.specs.Regions.{Region, IsRegion, IsInRegion, all_positive}
 use Rattle.gf_facets.specs.Facets.{IsInOpenCone, IsFlippable}
 use Rattle.gf_facets.specs.MarkedBases.{AreCanonical}
 use Rattle.gf_facets.proofs.VectorLaws.{length-negated, dot-negated, minus_one}
@@ -83,6 +83,10 @@ root_weight n k h = record {
   natural = λ i d l. (let p = h.root.positive i d l in omega (arith, ints, p));
   rows = λ i d l. inl (h.root.rows i d l);
 }
+
+-- in the region of all positive vectors each weight with entries at least 0 is one
+pub weight_everywhere : (n : ℕ) (r : List ℤ) → length r ≡ n → All (λ c. pos 0 ≤ℤ c) r → IsRootWeight n (all_positive n) r
+weight_everywhere n r w p = record { width = w; natural = p; rows = All-nil (λ t. IsLexPositive (rooted r t)) }
 
 -- vectors of n entries, none of which is zero
 abbrev pub AreSignable : ℕ → List (List ℤ) → Type 0

@@ -20,7 +20,7 @@ use Rattle.gf_reverse.specs.Upward.{IsParentIn, fan_of, IsNode, IsParent}
 use Rattle.gf_reverse.specs.Theorems.{NegativeNormalsCanBeCrossed, RootHasNoWayUp, CrossingsFall, NoCycles, BasesMakeATree, TheTreeIsFinite, BasesHavePaths, WhatIsLeft}
 use Rattle.gf_reverse.proofs.StepsLaws.{below_by_negative}
 use Rattle.gf_reverse.proofs.CrossingLaws.{Enters, IsPulledOut, something_enters, what_enters_pulls}
-use Rattle.gf_reverse.proofs.RootwardLaws.{root_weight, negative_gives_flippable}
+use Rattle.gf_reverse.proofs.RootwardLaws.{root_weight, weight_everywhere, negative_gives_flippable}
 use Rattle.gf_reverse.proofs.RootLaws.{root_basis, root_is_top, one_root}
 use Rattle.gf_reverse.proofs.FanLaws.{crossing_falls, walks_fall, no_cycle, parents_climb, root_has_no_way, node_list-length}
 use Rattle.gf_reverse.proofs.TreeLaws.{upward_tree, upward_nodes, finite_in}
@@ -37,6 +37,7 @@ root_has_no_way_up = record {
   exactly = λ n fs k r bs v wide w b. (λ none. root_basis n fs k r bs v wide w b none, λ h. root_is_top n fs k r bs w.natural b.arranged.canonical h);
   one = one_root;
   own = root_weight;
+  everywhere = weight_everywhere;
 }
 
 -- ---- crossings

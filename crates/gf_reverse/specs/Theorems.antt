@@ -15,7 +15,7 @@ use Rattle.gf_walk.specs.Walk.{IsNext, IsDone}
 use Rattle.gf_walk.specs.Whole.{IsFinite, IsWholeList}
 use Rattle.gf_facets.specs.Rows.{IsNormal, negated}
 use Rattle.gf_facets.specs.LexPositive.{IsNegative, IsBefore}
-use Rattle.gf_facets.specs.Regions.{Region, IsRegion}
+use Rattle.gf_facets.specs.Regions.{Region, IsRegion, all_positive}
 use Rattle.gf_facets.specs.Facets.{IsFlippable}
 use Rattle.gf_facets.specs.MarkedBases.{IsBasisInRegion}
 use Rattle.gf_facets.specs.Neighbours.{AreAdjacent}
@@ -34,7 +34,8 @@ NegativeNormalsCanBeCrossed = (n : ℕ) (fs : List Terms) (k : Region) (r : List
     (a : List ℤ) × LeadsTowards n k r bs a
 
 -- no negative normal can be crossed exactly at the reduced basis for the order of the root weight, by it and then lex; an
--- ideal has one such basis in a region at most. A region's own root is a root weight
+-- ideal has one such basis in a region at most. A region's own root is a root weight; in the region of all positive vectors each
+-- weight with entries at least 0 is
 pub record RootHasNoWayUp : Type 0 where
   pub exactly : (n : ℕ) (fs : List Terms) (k : Region) (r : List ℤ) (bs : List MarkedPolynomial) → AreInVariables n fs → AreRows n k.rows →
       IsRootWeight n k r → IsBasisInRegion n fs k bs →
@@ -43,6 +44,7 @@ pub record RootHasNoWayUp : Type 0 where
       IsRootWeight n k r → IsBasisInRegion n fs k bs → IsBasisInRegion n fs k cs →
       ((a : List ℤ) → LeadsTowards n k r bs a → ⊥) → ((a : List ℤ) → LeadsTowards n k r cs a → ⊥) → bs ≡ cs
   pub own : (n : ℕ) (k : Region) → IsRegion n k → IsRootWeight n k k.root
+  pub everywhere : (n : ℕ) (r : List ℤ) → length r ≡ n → All (λ c. pos 0 ≤ℤ c) r → IsRootWeight n (all_positive n) r
 
 -- ---- a number that falls
 
