@@ -14,13 +14,7 @@ fn is_as_asked(vector: &IntVec, zero: bool, w: &[i128]) -> bool
     ensures positive { IsTrue result → IsFalse zero → pos 0 <ℤ dot vector.now w.now }
 {
     match dot_slices(vector.as_slice(), w) {
-        Ok(value) => {
-            if zero {
-                value == 0
-            } else {
-                value > 0
-            }
-        }
+        Ok(value) => { if zero { value == 0 } else { value > 0 } }
         Err(_error) => false,
     }
 }
