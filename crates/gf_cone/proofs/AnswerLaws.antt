@@ -20,18 +20,17 @@ use Rattle.gf_poly.specs.Marking.{MarkedPolynomial, Each, HaveVariables, HasMark
 use Rattle.gf_poly.specs.Polynomial.{HasVariables}
 use Rattle.gf_poly.proofs.CoefficientLaws.{term_length}
 use Rattle.gf_ideal.specs.Bases.{IsCanonical}
-use Rattle.gf_ideal.proofs.ListLaws.{Contains-here, contained_each}
+use Rattle.gf_ideal.proofs.ListLaws.{contained_each}
 use Rattle.gf_facets.specs.Rows.{IsNormal}
 use Rattle.gf_facets.specs.Systems.{units}
 use Rattle.gf_facets.specs.Normals.{AreNormals, others_of, flip_rows}
-use Rattle.gf_facets.specs.Combinations.{IsCombination, IsRedundant}
+use Rattle.gf_facets.specs.Combinations.{IsCombination}
 use Rattle.gf_facets.specs.Regions.{Region, IsInRegion, all_positive}
-use Rattle.gf_facets.specs.Facets.{IsInOpenCone, IsInsideFacet, IsFacet, IsFlippable}
+use Rattle.gf_facets.specs.Facets.{IsInOpenCone, IsInsideFacet, IsFlippable}
 use Rattle.gf_facets.proofs.ConeLaws.{normals_open}
 use Rattle.gf_gordan.specs.Sizes.{HaveEntriesUpTo}
 use Rattle.gf_facets.specs.MarkedBases.{AreCanonical}
 use Rattle.gf_facets.proofs.VectorLaws.{plus-zeros}
-use Rattle.gf_facets.proofs.NormalListLaws.{others_only}
 use Rattle.gf_facets.proofs.NormalLaws.{normal-length}
 use Rattle.gf_facets.proofs.UnitLaws.{units_wide, units_on_positive, positive_by_units}
 use Rattle.gf_facets.proofs.SystemLaws.{contained_all}

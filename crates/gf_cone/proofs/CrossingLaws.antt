@@ -14,28 +14,23 @@ use Rattle.gf_facets.specs.Regions.{all_positive}
 use Rattle.gf_facets.proofs.RootSignLaws.{negative_sign, sign_negative}
 use Rattle.std.proofs.lemmas.List.{get_or_default, get_or_push}
 use Rattle.std.proofs.Math.ListN.{get_or-append}
-use Rattle.std.proofs.lemmas.List.Elements.{All-cons, All-nil, All-contains, Contains-append_left, Contains-append_right}
+use Rattle.std.proofs.lemmas.List.Elements.{All-cons, All-nil, All-contains, Contains-append_right}
 use Rattle.gf_int.proofs.SignLaws.{0≤-*ℤ, 0<-*ℤ}
-use Rattle.gf_vec.specs.Vector.{dot, vector_sum, entry_at}
+use Rattle.gf_vec.specs.Vector.{dot, vector_sum}
 use Rattle.gf_vec.proofs.VectorLaws.{dot-plus}
-use Rattle.gf_vec.proofs.EntryLaws.{entry_plus}
-use Rattle.gf_gordan.specs.declared.error.ConeOverflow.{ConeOverflow}
 use Rattle.gf_gordan.specs.declared.error.GordanError.{GordanError}
 use Rattle.gf_gordan.specs.Alternative.{AreRows, IsSolution}
 use Rattle.gf_gordan.specs.Steps.{Failed}
 use Rattle.gf_gordan.proofs.SystemLaws.{Failed-weaker}
 use Rattle.gf_ideal.proofs.ListLaws.{Contains-here, Contains-there}
-use Rattle.gf_facets.specs.Systems.{units}
 use Rattle.gf_facets.specs.Normals.{others_of}
-use Rattle.gf_facets.proofs.VectorLaws.{vectors_by_entries}
-use Rattle.gf_facets.proofs.SystemLaws.{contained_all}
 use Rattle.gf_facets.proofs.UnitLaws.{positive_by_units}
 use Rattle.gf_cone.specs.Small.{IsSmall}
 use Rattle.gf_cone.specs.Cones.{ConeRows, all_rows, normal_at, other_rows, HasUnits}
 use Rattle.gf_cone.specs.Answers.{IsNormalStep}
-use Rattle.gf_cone.specs.Crossing.{IsShownBy, IsCrossable, LeadsUpAt, IsStepBefore, IsRemembered, AreRemembered, IsFlipDecided}
+use Rattle.gf_cone.specs.Crossing.{IsShownBy, IsCrossable, IsStepBefore, IsRemembered, AreRemembered, IsFlipDecided}
 use Rattle.gf_cone.specs.declared.known.Known.{Known}
-use Rattle.gf_cone.specs.declared.known.Known.TheVariants.{Open, Yes, No}
+use Rattle.gf_cone.specs.declared.known.Known.TheVariants.{Open}
 use Rattle.gf_cone.proofs.AnswerLaws.{others-append, crossable_flippable}
 
 -- ---- the others of one, by places

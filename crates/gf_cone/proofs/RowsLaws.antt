@@ -1,45 +1,28 @@
 -- Rows as they are made, one by one.
 -- To cite: Differing, differing_next, same_row, other_row, lengths_at, rows_more, Collecting, Collecting-more, all_collected, unit_set.
-use Rattle.std.specs.Prelude.{◌≡◌, ◌⊎◌, ◌↔◌, IsTrue, Result, Ok, Err, IfOk, if◌then◌else◌, ℕ, zero, suc, ◌+◌, ◌<◌, ◌≤◌, ◌^◌, Bool, true, false, List, [], ◌∷◌, ◌++◌, length, ℤ, pos, ◌+ℤ◌, ◌-ℤ◌, ◌*ℤ◌, ◌<ℤ◌, ◌≤ℤ◌, All, unsigned_abs}
-use Rattle.std.specs.List.{AllByRecursion}
+use Rattle.std.specs.Prelude.{◌≡◌, ◌⊎◌, if◌then◌else◌, ℕ, zero, suc, ◌+◌, ◌<◌, ◌≤◌, ◌^◌, Bool, true, false, List, [], ◌∷◌, ◌++◌, length, ℤ, pos, ◌-ℤ◌, All, unsigned_abs}
 use Rattle.std.proofs.Common.{arith, refl, sym, ap, ◌∙◌, subst, inl, inr, get_or, take, set, append_assoc}
 use Rattle.std.proofs.lemmas.Bool.{cases_lt}
 use Rattle.std.proofs.lemmas.Int.{ints}
 use Rattle.std.proofs.lemmas.List.{take_more, take_all, get_or_default, append-nil}
-use Rattle.std.proofs.lemmas.List.Elements.{All-push, All-nil, All-from_recursion, recursion_from_All}
+use Rattle.std.proofs.lemmas.List.Elements.{All-push}
 use Rattle.std.proofs.lemmas.Slice.Eq.{slice_eq-Decides}
 use Rattle.std.proofs.lemmas.Bool.Decides.{Decides-eqb}
 use lib.Pointwise.{pointwise}
 use lib.Dec.{eqb}
 use Rattle.gf_int.specs.Range.{InRange}
-use Rattle.gf_int.proofs.RingLaws.{dv, ◌⊕◌, ◌⊖◌, ◌⊗◌, same as equal_numbers}
-use Rattle.gf_vec.specs.Vector.{dot, zeros}
-use Rattle.gf_vec.proofs.VectorLaws.{dot-zeros, length-zeros}
-use Rattle.gf_gordan.specs.Alternative.{AreRows, IsSolution, IsFarkas, GordansAlternative}
-use Rattle.gf_gordan.specs.Answers.{IsAlternative}
-use Rattle.gf_gordan.specs.declared.answer.Answer.{Answer}
-use Rattle.gf_gordan.specs.declared.answer.Answer.TheVariants.{Point, Farkas}
-use Rattle.gf_gordan.specs.Equations.{IsStepOn}
-use Rattle.gf_gordan.specs.Steps.{Failed}
-use Rattle.gf_gordan.specs.declared.error.GordanError.{GordanError}
-use Rattle.gf_gordan.specs.declared.error.GordanError.TheVariants.{Cone, Memory}
-use Rattle.gf_exponents.specs.Exponents.{Exponents, entry, same, weight, whole_weight}
-use Rattle.gf_exponents.specs.Orders.{lighter, gains}
-use Rattle.gf_exponents.proofs.ExponentsLaws.{same-refl, same_flip, same_trans}
-use Rattle.gf_exponents.proofs.WeightLaws.{weight-same}
-use Rattle.gf_exponents.proofs.WholeWeightLaws.{natural-weight, positive-gains}
+use Rattle.gf_vec.specs.Vector.{zeros}
+use Rattle.gf_exponents.specs.Exponents.{Exponents, same}
+use Rattle.gf_exponents.proofs.ExponentsLaws.{same-refl}
 use Rattle.gf_poly.specs.declared.Term.{Term}
 use Rattle.gf_poly.specs.Monomial.{IsMonomial}
 use Rattle.gf_poly.specs.Polynomial.{Terms, HasVariables}
 use Rattle.gf_poly.specs.Marking.{MarkedPolynomial, Each, HaveVariables, HasMarkedTerm}
 use Rattle.gf_poly.proofs.CoefficientLaws.{apart}
-use Rattle.gf_ideal.specs.Marks.{IsPositive, IsRealisedBy, IsRealisable}
 use Rattle.gf_ideal.proofs.ListLaws.{each_contained, contained_each}
-use Rattle.gf_ideal.proofs.ListedTerms.{by_terms}
-use Rattle.gf_ideal.proofs.KeptForms.{marked_there}
 use Rattle.gf_poly.proofs.CoefficientLaws.{term_length}
 use Rattle.gf_facets.specs.Rows.{differences, row_between, rows_of_terms, rows_of}
-use Rattle.gf_facets.specs.Systems.{unit, units}
+use Rattle.gf_facets.specs.Systems.{unit}
 use Rattle.gf_cone.specs.Small.{IsSmall}
 
 -- ---- one row

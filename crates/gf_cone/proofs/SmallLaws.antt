@@ -1,12 +1,10 @@
 -- Small vectors: primitive parts of small rows, unit vectors, and that small entries fit what the code asks for.
 -- To cite: primitive_small, normal_small, normals_small, units_small, small_for_sign.
-use Rattle.std.specs.Prelude.{◌≡◌, ◌⊎◌, ℕ, zero, suc, ◌+◌, ◌*◌, ◌<◌, ◌≤◌, ◌^◌, List, [], ◌∷◌, ◌++◌, length, get_or, Contains, All, ℤ, pos, ◌*ℤ◌, unsigned_abs}
-use Rattle.std.proofs.Common.{arith, refl, sym, ap, ◌∙◌, subst, inl, inr}
-use Rattle.std.proofs.lemmas.Int.{ints, unsigned_abs-mul}
+use Rattle.std.specs.Prelude.{◌≡◌, ℕ, zero, suc, ◌*◌, ◌<◌, ◌≤◌, ◌^◌, List, length, get_or, All, ℤ, pos, ◌*ℤ◌, unsigned_abs}
+use Rattle.std.proofs.Common.{arith, sym, ap, ◌∙◌, subst}
+use Rattle.std.proofs.lemmas.Int.{unsigned_abs-mul}
 use Rattle.std.proofs.lemmas.List.{get_or_default}
-use Rattle.std.proofs.lemmas.List.Elements.{All-contains, All-append}
-use Rattle.std.proofs.Math.Nat.{mul-le-mul_right}
-use Rattle.gf_int.specs.Content.{scaled}
+use Rattle.std.proofs.lemmas.List.Elements.{All-contains}
 use Rattle.gf_vec.specs.Vector.{zeros}
 use Rattle.gf_vec.specs.Primitive.{IsPrimitivePart}
 use Rattle.gf_vec.proofs.VectorLaws.{length-times}

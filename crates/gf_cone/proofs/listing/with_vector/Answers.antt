@@ -1,6 +1,6 @@
 use Rattle.std.proofs.Common.{subst, List, ℤ, ℕ, ◌≤◌}
-use Rattle.gf_cone.specs.Placing.{GoesInAt, IsPlacing}
-use Rattle.gf_cone.proofs.ListingLaws.{HasMore, inserted, place_inside}
+use Rattle.gf_cone.specs.Placing.{IsPlacing}
+use Rattle.gf_cone.proofs.ListingLaws.{inserted, place_inside}
 use Rattle.gf_cone.proofs.listing.with_vector.Goals as goal
 
 pub insert-requires : goal.insert-requires

@@ -1,4 +1,4 @@
-use Rattle.std.proofs.Common.{◌≡◌, ◌∙◌, sym, ap, subst, ℤ, ℕ, List, [], ◌∷◌, length}
+use Rattle.std.proofs.Common.{◌≡◌, subst, ℤ, List, [], ◌∷◌, length}
 use Rattle.std.proofs.lemmas.List.Elements.{All-cons, All-nil}
 use Rattle.gf_gordan.specs.Answers.{IsAlternative}
 use Rattle.gf_gordan.specs.Alternative.{IsFarkas}

@@ -1,6 +1,6 @@
-use Rattle.std.proofs.Common.{rules, ◌≡◌, ◌∙◌, sym, ap, subst, ℤ, List, [], ◌∷◌, neg_ℤ, FitsSigned, get_or, pos, arith}
+use Rattle.std.proofs.Common.{rules, ◌≡◌, sym, subst, ℤ, List, [], ◌∷◌, neg_ℤ, FitsSigned, get_or, pos}
 use Rattle.std.specs.Int.{w128}
-use Rattle.std.proofs.lemmas.Int.{to_z-of_z, ints}
+use Rattle.std.proofs.lemmas.Int.{to_z-of_z}
 use Rattle.gf_facets.specs.Combinations.{IsCombination}
 use Rattle.gf_gordan.specs.Answers.{IsAlternative}
 use Rattle.gf_gordan.specs.Alternative.{IsFarkas}

@@ -1,10 +1,9 @@
 use Rattle.std.proofs.lemmas.Result.{err_from_is_err_and}
 use Rattle.gf_gordan.specs.Sizes.{HaveEntriesUpTo}
-use Rattle.std.proofs.Common.{◌≤◌, ◌≡◌, ◌∙◌, sym, ap, subst, ℤ, ℕ, List, [], ◌<◌, length}
-use Rattle.std.proofs.lemmas.List.{get_or_default}
+use Rattle.std.proofs.Common.{◌≤◌, ◌∙◌, sym, ap, subst, ℕ}
 use Rattle.gf_facets.specs.Normals.{others_of}
 use Rattle.gf_cone.specs.Cones.{ConeRows, normal_at}
-use Rattle.gf_cone.specs.Answers.{AnswersSystem, AnswersFacet, IsFacetTold}
+use Rattle.gf_cone.specs.Answers.{AnswersSystem}
 use Rattle.gf_cone.specs.declared.answer.FacetAnswer.TheVariants.{Facet, Redundant}
 use Rattle.gf_cone.specs.declared.answer.FlipAnswer.TheVariants.{Yes, No}
 use Rattle.gf_cone.proofs.AnswerLaws.{facet_told, kept_wide, positive_for, answer_for, interior_of_normals, normal_read, small_others, small_at}
@@ -27,15 +26,15 @@ returns-in-Yes-clause-told c = facet_told c.args.self.now c.args.place c.require
 pub returns-clause-told : goal.returns-clause-told
 returns-clause-told c = facet_told c.args.self.now c.args.place c.requires.place (kept_wide c.args.self.now c.self.inside.variables c.self.inside.count c.self.inside.vectors.items (sym c.self.view_is) c.self.invariant) c.requires.interior (Redundant c.in-No.times c.in-No.multipliers)
     (answer_for c.args.self.now.variables c.self.inside.variables (others_of c.args.place c.args.self.now.normals) c.as_slice.result.now (normal_at c.args.self.now c.args.place) c.index-normals-place.result (No c.in-No.times c.in-No.multipliers)
-      (ap (λ (z : ConeRows). z.variables) c.self.view_is)
-      (c.as_slice.ensures.value ∙ c.in_ok-rows.ensures ∙ ap (others_of c.args.place) c.normals-normals.ensures.value)
-      (normal_read c.args.self.now.normals c.normals-normals.result.now c.args.place c.index-normals-place.result c.requires.place c.normals-normals.ensures.value c.index-normals-place.is)
-      (subst (AnswersSystem c.self.inside.variables c.as_slice.result.now c.index-normals-place.result) c.in-No.is c.in_ok-witness.ensures.ok))
+    (ap (λ (z : ConeRows). z.variables) c.self.view_is)
+    (c.as_slice.ensures.value ∙ c.in_ok-rows.ensures ∙ ap (others_of c.args.place) c.normals-normals.ensures.value)
+    (normal_read c.args.self.now.normals c.normals-normals.result.now c.args.place c.index-normals-place.result c.requires.place c.normals-normals.ensures.value c.index-normals-place.is)
+    (subst (AnswersSystem c.self.inside.variables c.as_slice.result.now c.index-normals-place.result) c.in-No.is c.in_ok-witness.ensures.ok))
 
 pub returns-in_err-witness-clause-three_columns : goal.returns-in_err-witness-clause-three_columns
 returns-in_err-witness-clause-three_columns c = λ v h.
     let p = err_from_is_err_and c.from_residual-in_err-witness.result c.from_residual-in_err-witness.ensures.1 in
     rw (p.1, p.2) (c.in_err-witness.ensures.three_columns
-      (subst (λ (m : ℕ). m ≤ 3) (sym (ap (λ (z : ConeRows). z.variables) c.self.view_is)) v)
-      (subst (HaveEntriesUpTo 500) (sym (c.as_slice.ensures.value ∙ c.in_ok-rows.ensures ∙ ap (others_of c.args.place) c.normals-normals.ensures.value)) (small_others 500 c.args.place c.args.self.now.normals h))
-      (small_at 500 c.args.self.now.normals c.normals-normals.result.now c.args.place c.index-normals-place.result c.normals-normals.ensures.value c.requires.place c.index-normals-place.is h))
+    (subst (λ (m : ℕ). m ≤ 3) (sym (ap (λ (z : ConeRows). z.variables) c.self.view_is)) v)
+    (subst (HaveEntriesUpTo 500) (sym (c.as_slice.ensures.value ∙ c.in_ok-rows.ensures ∙ ap (others_of c.args.place) c.normals-normals.ensures.value)) (small_others 500 c.args.place c.args.self.now.normals h))
+    (small_at 500 c.args.self.now.normals c.normals-normals.result.now c.args.place c.index-normals-place.result c.normals-normals.ensures.value c.requires.place c.index-normals-place.is h))

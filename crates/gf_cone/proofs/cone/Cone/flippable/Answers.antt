@@ -1,8 +1,8 @@
-use Rattle.std.proofs.Common.{◌≤◌, ◌≡◌, ◌∙◌, sym, ap, subst, ℤ, ℕ, List, [], length}
+use Rattle.std.proofs.Common.{◌≤◌, ◌≡◌, ◌∙◌, sym, ap, subst, ℤ, ℕ, List, length}
 use Rattle.gf_gordan.specs.Alternative.{AreRows}
 use Rattle.gf_facets.specs.Normals.{others_of}
 use Rattle.gf_cone.specs.Cones.{ConeRows, all_rows, other_rows, normal_at}
-use Rattle.gf_cone.specs.Answers.{AnswersSystem, AnswersFlip, IsFlipTold}
+use Rattle.gf_cone.specs.Answers.{AnswersSystem, IsFlipTold}
 use Rattle.gf_cone.proofs.AnswerLaws.{flip_told, kept_wide, positive_for, answer_for, interior_of_others, others-append, others_all_of, row_read, IfOk-weaker, small_others, small_at}
 use Rattle.gf_cone.proofs.CrossingLaws.{in_all}
 use Rattle.gf_gordan.specs.Sizes.{HaveEntriesUpTo}

@@ -1,8 +1,4 @@
-use Rattle.std.proofs.Common.{subst, sym, ap, ◌∙◌, List, ℤ, [], get_or}
-use Rattle.std.proofs.lemmas.List.{get_or_default}
-use Rattle.gf_cone.specs.Small.{IsSmall}
 use Rattle.gf_cone.proofs.SmallLaws.{small_for_sign}
-use Rattle.gf_cone.proofs.AnswerLaws.{normal_read}
 use Rattle.gf_cone.proofs.CrossingLaws.{negative_told, not_negative_told, small_read}
 use Rattle.gf_cone.proofs.known.KnownCone.is_negative.Goals as goal
 

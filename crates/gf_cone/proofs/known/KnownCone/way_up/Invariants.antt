@@ -1,4 +1,4 @@
-use Rattle.std.proofs.Common.{◌≡◌, ◌≤◌, ◌<◌, ℕ, length}
+use Rattle.std.proofs.Common.{◌≡◌, ◌<◌, ℕ}
 use Rattle.gf_cone.specs.Crossing.{LeadsUpAt}
 use Rattle.gf_cone.proofs.known.KnownCone.way_up.Given as goal
 
