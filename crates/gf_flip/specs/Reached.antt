@@ -7,6 +7,6 @@ use Rattle.gf_facets.specs.Regions.{all_positive}
 use Rattle.gf_facets.specs.MarkedBases.{IsBasisInRegion}
 
 -- s is a marked reduced basis of the ideal of fs in its variables, for some positive weight
-pub record IsReached (fs : List Terms) (s : MarkedPolynomials) : Type 0 where
+pub record IsReachedByFlips (fs : List Terms) (s : MarkedPolynomials) : Type 0 where
   pub generators : AreInVariables s.variables fs
   pub basis : IsBasisInRegion s.variables fs (all_positive s.variables) s.items

@@ -5,7 +5,7 @@ ghost use Rattle.std.specs.Prelude.{◌≡◌, ◌<◌, All, length, IfOk, IfSom
 ghost use Rattle.gf_poly.specs.Marking.{Each};
 ghost use Rattle.gf_poly.specs.Polynomial.{HasVariables};
 ghost use Rattle.gf_buchberger.specs.Jobs.{HaveRingVariables};
-ghost use Rattle.gf_flip.specs.Reached.{IsReached};
+ghost use Rattle.gf_flip.specs.Reached.{IsReachedByFlips};
 
 use crate::flip;
 use gf_buchberger::basis;
@@ -19,7 +19,7 @@ use std::test::Fail;
 // The basis by degree, then lex.
 fn start(alloc: Global, n: u32, list: &[Poly]) -> Result<MarkedSet, PolyError>
     requires { HaveRingVariables n list.now }
-    ensures { IfOk result (IsReached list.now) }
+    ensures { IfOk result (IsReachedByFlips list.now) }
 {
     let order = Order::deglex();
     match basis(alloc, n, list, &order, 1000) {
@@ -35,8 +35,8 @@ fn across(
     set: &MarkedSet,
     place: usize,
 ) -> Result<Option<MarkedSet>, PolyError>
-    requires { IsReached list.now set.now }
-    ensures { IfOk result (λ o. IfSome o (IsReached list.now)) }
+    requires { IsReachedByFlips list.now set.now }
+    ensures { IfOk result (λ o. IfSome o (IsReachedByFlips list.now)) }
 {
     let cone = Cone::of(alloc, set)?;
     let mut known = KnownCone::new(alloc, cone, None)?;
@@ -103,7 +103,7 @@ fn leads_back(
     next: &MarkedSet,
     set: &MarkedSet,
 ) -> Result<bool, PolyError>
-    requires { IsReached list.now next.now }
+    requires { IsReachedByFlips list.now next.now }
 {
     for place in 0..60 {
         if let Some(back) = across(alloc, list, next, place)? {
@@ -122,9 +122,9 @@ fn visit(
     found: &mut Vec<MarkedSet>,
     at: usize,
 ) -> Result<bool, PolyError>
-    requires reached { All (IsReached list.now) found.old.items }
+    requires reached { All (IsReachedByFlips list.now) found.old.items }
     requires inside { at < length found.old.items }
-    ensures { OnOk result (All (IsReached list.now) found.new.items) }
+    ensures { OnOk result (All (IsReachedByFlips list.now) found.new.items) }
 {
     let set = found[at].copy()?;
     let mut all_back = true;
