@@ -12,7 +12,7 @@ use clap::ArgMatches;
 use clap::error::ErrorKind;
 use std::alloc::{AllocError, Global};
 
-/// How many pairs are settled at most where the words don't say it.
+/// The budget of pairs of each run of Buchberger's algorithm, where the words don't say it.
 const PAIRS: u64 = 100_000_000;
 
 /// What the words ask for: a command with its options.
@@ -24,7 +24,7 @@ pub enum Job {
         weighted: bool,
         /// `-r`: the order is revlex, or ties of the weight are broken by revlex.
         revlex: bool,
-        /// `--pairs N`: how many pairs are settled at most.
+        /// `--pairs N`: the budget of pairs of each run of Buchberger's algorithm.
         pairs: u64,
     },
     /// Whether a marked set is a Gröbner basis for its marking.

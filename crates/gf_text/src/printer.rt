@@ -138,6 +138,7 @@ pub fn sets_are_read_in_one_way()
 fn term_is_in_range(term: &Term)
     ensures { IsTermInRange term.now }
 {
+    // The accessors' clauses say it.
     let _numerator = term.coef.numer();
     let _denominator = term.coef.denom();
     let _exponents = term.mono.exponents();
@@ -156,6 +157,7 @@ fn terms_are_in_range(terms: &[Term])
 fn marked_is_kept(marked: &Marked)
     ensures { (n : ℕ) → HasVariables n marked.now.poly → IsKeptMarked n marked.now }
 {
+    // The terms descend: the accessor says so.
     let _head = marked.head();
     terms_are_in_range(marked.poly().terms());
 }
