@@ -16,8 +16,8 @@ mod several_runs;
 
 pub use bases::{BasisError, basis};
 pub use homogeneity::{NotHomogeneous, homogeneous};
-pub use leading::leading as leading_place;
 pub use laws::{monomials_stay_within_limits, orders_that_suit};
+pub use leading::leading as leading_place;
 pub use several_runs::basis_by_runs;
 
 #[cfg(test)]
