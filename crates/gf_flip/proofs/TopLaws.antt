@@ -26,7 +26,7 @@ use Rattle.gf_ideal.proofs.ListLaws.{Each-++}
 use Rattle.gf_ideal.proofs.ListedTerms.{listed, box_of_monomial}
 use Rattle.gf_ideal.proofs.MeasureLaws.{work_left-at}
 use Rattle.gf_ideal.proofs.Identities.{one_not_zero}
-use Rattle.gf_division.specs.Dividends.{Split, joined_terms, IsSound, IsFirstTerm, PassesOne, SharesVariables, DividesFirst, TakesStep}
+use Rattle.gf_division.specs.Dividends.{Split, joined_terms, IsSound, IsTermInFront, PassesOne, SharesVariables, DividesFirst, TakesStep}
 use Rattle.gf_division.specs.NormalForms.{HasSomeWeight}
 use Rattle.gf_poly.proofs.PolynomialLaws.{coefficient-same}
 use Rattle.gf_division.specs.Reducers.{IsDivisorAt}
@@ -55,7 +55,7 @@ seeking-none n a x s v o = record { same = refl; sound = v; above = o }
 sound_same : (n : ℕ) (s t : Split) → joined_terms t ≡ joined_terms s → IsSound n s → IsSound n t
 sound_same n s t e h = record { descending = subst IsDescending (sym e) h.descending; variables = subst (HasVariables n) (sym e) h.variables }
 
-pub seeking_more : (n : ℕ) (a : List ℤ) (x y z : Exponents) (old now new : Split) (t : Term) → IsFirstTerm now.below t → y ≡ t.mono → z ≡ x →
+pub seeking_more : (n : ℕ) (a : List ℤ) (x y z : Exponents) (old now new : Split) (t : Term) → IsTermInFront now.below t → y ≡ t.mono → z ≡ x →
     (AreMultipleApart a y z → ⊥) → PassesOne now new → SeekingLine n a x old now → SeekingLine n a x old new
 seeking_more n a x y z old now new t f ey ez o w k =
     let e : joined_terms new ≡ joined_terms now = terms_down now new w in
@@ -70,7 +70,7 @@ seeking_more n a x y z old now new t f ey ez o w k =
     first_equal : {f g : Terms} {s t : Term} → ◌≡◌ {A = Terms} (s ∷ f) (t ∷ g) → s ≡ t
     first_equal e = cc
 
-pub first_width : (n : ℕ) (a : List ℤ) (x y : Exponents) (old s : Split) (t : Term) → IsFirstTerm s.below t → y ≡ t.mono → SeekingLine n a x old s → length y ≡ n
+pub first_width : (n : ℕ) (a : List ℤ) (x y : Exponents) (old s : Split) (t : Term) → IsTermInFront s.below t → y ≡ t.mono → SeekingLine n a x old s → length y ≡ n
 first_width n a x y old s t f e k = ap length e ∙ first_length n s t k.sound f
 
 -- ---- the steps
@@ -79,7 +79,7 @@ first_width n a x y old s t f e k = ap length e ∙ first_length n s t k.sound f
 pub record IsTopStep (n : ℕ) (bs : List MarkedPolynomial) (a : List ℤ) (x : Exponents) (s : Split) (t : Term) (j : ℕ) (b : MarkedPolynomial) : Type 0 where
   pub sound : IsSound n s
   pub above : AreOff a x s.above
-  pub first : IsFirstTerm s.below t
+  pub first : IsTermInFront s.below t
   pub divisor : IsDivisorAt bs t.mono j
   pub at : b ≡ get_or bs j b
   pub members : HaveVariables n bs
@@ -153,12 +153,12 @@ topping_less n bs a x w old s u t j b q e m i k h =
 
 -- what the search and the test of the marks have found
 pub top_step : (n : ℕ) (bs : List MarkedPolynomial) (a : List ℤ) (x : Exponents) (f : Terms) (old s : Split) (t : Term) (j : ℕ) (b : MarkedPolynomial) →
-    joined_terms s ≡ joined_terms old → AreOff a x s.above → IsFirstTerm s.below t → IsDivisorAt bs t.mono j → b ≡ get_or bs j b → HaveVariables n bs →
+    joined_terms s ≡ joined_terms old → AreOff a x s.above → IsTermInFront s.below t → IsDivisorAt bs t.mono j → b ≡ get_or bs j b → HaveVariables n bs →
     Topping n bs a x f old → IsTopStep n bs a x s t j b
 top_step n bs a x f old s t j b e o i d q m h = record { sound = sound_same n old s e h.sound; above = o; first = i; divisor = d; at = q; members = m }
 
 pub top_members : (n : ℕ) (bs : List MarkedPolynomial) (a : List ℤ) (x : Exponents) (f : Terms) (old s : Split) (t : Term) → joined_terms s ≡ joined_terms old →
-    IsFirstTerm s.below t → HaveVariables n bs → Topping n bs a x f old → HaveVariables (length t.mono) bs
+    IsTermInFront s.below t → HaveVariables n bs → Topping n bs a x f old → HaveVariables (length t.mono) bs
 top_members n bs a x f old s t e i m h = subst (λ (k : ℕ). HaveVariables k bs) (sym (first_length n s t (sound_same n old s e h.sound) i)) m
 
 -- at the end
