@@ -1,0 +1,159 @@
+-- The terms along a vector, one term and one member after another.
+-- To cite: selected-none, selected-kept, selected-dropped, along_selected, along-none, along_more, along_end, width_at.
+use Rattle.std.specs.Prelude.{◌≡◌, ℕ, zero, suc, ◌+◌, ◌<◌, ◌≤◌, Bool, true, false, if◌then◌else◌, List, [], ◌∷◌, ◌++◌, length, take, get_or, ℤ}
+use Rattle.std.proofs.Common.{arith, refl, sym, ap, ◌∙◌, subst, inl, inr}
+use Rattle.std.proofs.lemmas.List.{take_more, take_all}
+use Rattle.std.proofs.lemmas.List.Elements.{Contains-append_left, Contains-append_right, Contains-append_cases}
+use Rattle.gf_frac.specs.Fraction.{◌+ℚ◌, zero_ℚ}
+use Rattle.gf_frac.proofs.FractionLaws.{zero-+ℚ}
+use Rattle.gf_exponents.specs.Exponents.{Exponents, same}
+use Rattle.gf_poly.specs.declared.Term.{Term}
+use Rattle.gf_poly.specs.Polynomial.{Terms, coefficient, HasVariables, IsAbove, IsDescending}
+use Rattle.gf_poly.specs.Marking.{MarkedPolynomial}
+use Rattle.gf_ideal.specs.OrderTable.{AreMultipleApart}
+use Rattle.gf_ideal.proofs.ListLaws.{Contains-cases, Contains-here}
+use Rattle.gf_ideal.proofs.GeneratorLaws.{polys-++}
+use Rattle.gf_initial.specs.Parts.{Matching, IsPartAlong}
+use Rattle.gf_initial.proofs.ClassLaws.{multiple-grading}
+use Rattle.gf_flip.specs.Along.{HasNonzero, IsSelected, IsAlong, AreAlong}
+
+-- ---- terms
+
+-- the terms that are a multiple of a apart from h
+abbrev pub IsTermAlong : List ℤ → Exponents → Term → Type 0
+IsTermAlong a h t = AreMultipleApart a t.mono h
+
+pub selected-kept : (P : Term → Type 0) (f g : Terms) (t : Term) → IsSelected P f g → P t → IsSelected P (f ++ t ∷ []) (g ++ t ∷ [])
+selected-kept P f g t IsSelected.none p = IsSelected.kept t [] [] p IsSelected.none
+selected-kept P f g t (IsSelected.kept s k l q r) p = IsSelected.kept s (k ++ t ∷ []) (l ++ t ∷ []) q (selected-kept P k l t r p)
+selected-kept P f g t (IsSelected.dropped s k l q r) p = IsSelected.dropped s (k ++ t ∷ []) (g ++ t ∷ []) q (selected-kept P k g t r p)
+
+pub selected-dropped : (P : Term → Type 0) (f g : Terms) (t : Term) → IsSelected P f g → (P t → ⊥) → IsSelected P (f ++ t ∷ []) g
+selected-dropped P f g t IsSelected.none n = IsSelected.dropped t [] [] n IsSelected.none
+selected-dropped P f g t (IsSelected.kept s k l q r) n = IsSelected.kept s (k ++ t ∷ []) l q (selected-dropped P k l t r n)
+selected-dropped P f g t (IsSelected.dropped s k l q r) n = IsSelected.dropped s (k ++ t ∷ []) g q (selected-dropped P k g t r n)
+
+above_selected : (P : Term → Type 0) (x : Exponents) (f g : Terms) → IsSelected P f g → IsAbove x f → IsAbove x g
+above_selected P x f g IsSelected.none h = tt
+above_selected P x f g (IsSelected.kept s k l q r) h = (h.0, above_selected P x k l r h.1)
+above_selected P x f g (IsSelected.dropped s k l q r) h = above_selected P x k g r h.1
+
+pub descending_selected : (P : Term → Type 0) (f g : Terms) → IsSelected P f g → IsDescending f → IsDescending g
+descending_selected P f g IsSelected.none h = tt
+descending_selected P f g (IsSelected.kept s k l q r) h = (h.0, above_selected P s.mono k l r h.1, descending_selected P k l r h.2)
+descending_selected P f g (IsSelected.dropped s k l q r) h = descending_selected P k g r h.2
+
+variables_selected : (P : Term → Type 0) (n : ℕ) (f g : Terms) → IsSelected P f g → HasVariables n f → HasVariables n g
+variables_selected P n f g IsSelected.none h = tt
+variables_selected P n f g (IsSelected.kept s k l q r) h = (h.0, variables_selected P n k l r h.1)
+variables_selected P n f g (IsSelected.dropped s k l q r) h = variables_selected P n k g r h.1
+
+elsewhere : (t : Term) (f : Terms) (x : Exponents) → same x t.mono ≡ false → coefficient (t ∷ f) x ≡ coefficient f x
+elsewhere t f x h = ap (λ b. (if b then t.coef else zero_ℚ) +ℚ coefficient f x) h ∙ zero-+ℚ _
+
+not_same : (x y : Exponents) → (same x y ≡ true → ⊥) → same x y ≡ false
+not_same x y n = at (same x y) refl
+  where
+    at : (b : Bool) → same x y ≡ b → b ≡ false
+    at true s = absurd (n s)
+    at false s = refl
+
+on_selected : (a : List ℤ) (n : HasNonzero a) (h : Exponents) (f g : Terms) (x : Exponents) → IsSelected (IsTermAlong a h) f g →
+    AreMultipleApart a x h → coefficient g x ≡ coefficient f x
+on_selected a n h f g x IsSelected.none p = refl
+on_selected a n h f g x (IsSelected.kept s k l q r) p = ap (λ z. (if same x s.mono then s.coef else zero_ℚ) +ℚ z) (on_selected a n h k l x r p)
+on_selected a n h f g x (IsSelected.dropped s k l q r) p =
+    let m = multiple-grading a n in
+    on_selected a n h k g x r p ∙ sym (elsewhere s k x (not_same x s.mono (λ e. q (m.transitive s.mono x h (m.symmetric x s.mono (m.along x s.mono e)) p))))
+
+off_selected : (a : List ℤ) (n : HasNonzero a) (h : Exponents) (f g : Terms) (x : Exponents) → IsSelected (IsTermAlong a h) f g →
+    (AreMultipleApart a x h → ⊥) → coefficient g x ≡ zero_ℚ
+off_selected a n h f g x IsSelected.none p = refl
+off_selected a n h f g x (IsSelected.kept s k l q r) p =
+    let m = multiple-grading a n in
+    elsewhere s l x (not_same x s.mono (λ e. p (m.transitive x s.mono h (m.along x s.mono e) q))) ∙ off_selected a n h k l x r p
+off_selected a n h f g x (IsSelected.dropped s k l q r) p = off_selected a n h k g x r p
+
+-- all terms along a vector
+pub along_selected : (a : List ℤ) (b : MarkedPolynomial) (f g : Terms) → HasNonzero a → f ≡ b.poly → IsDescending f →
+    IsSelected (IsTermAlong a b.head) f g → IsAlong a b g
+along_selected a b f g n e d s = record {
+  part = record { head = refl; along = λ x p. on_selected a n b.head f g x s p ∙ ap (λ z. coefficient z x) e; off = λ x p. off_selected a n b.head f g x s p };
+  descending = descending_selected (IsTermAlong a b.head) f g s d;
+  variables = λ m h. variables_selected (IsTermAlong a b.head) m f g s (subst (HasVariables m) (sym e) h);
+}
+
+-- ---- members
+
+-- one place more
+pub matched-push : {A B : Type 0} (R : A → B → Type 0) (xs : List A) (ys : List B) (x : A) (y : B) → Matching R xs ys → R x y →
+    Matching R (xs ++ x ∷ []) (ys ++ y ∷ [])
+matched-push R [] [] x y m r = (r, tt)
+matched-push R [] (z ∷ ys) x y m r = elim m [ ]
+matched-push R (w ∷ xs) [] x y m r = elim m [ ]
+matched-push R (w ∷ xs) (z ∷ ys) x y m r = (m.0, matched-push R xs ys x y m.1 r)
+
+-- no members
+pub along-none : (a : List ℤ) → AreAlong a [] []
+along-none a = record { parts = []; each = tt; polynomials = refl; variables = λ n h f c. absurd (omega (arith, c.1)) }
+
+-- and one more
+pub along_more : (a : List ℤ) (bs : List MarkedPolynomial) (b : MarkedPolynomial) (fs : List Terms) (f : Terms) → AreAlong a bs fs →
+    IsAlong a b f → AreAlong a (bs ++ b ∷ []) (fs ++ f ∷ [])
+along_more a bs b fs f h k = record {
+  parts = h.parts ++ record { poly = f; head = b.head } ∷ [];
+  each = matched-push (IsPartAlong a) bs h.parts b (record { poly = f; head = b.head }) h.each k.part;
+  polynomials = ap (λ z. z ++ f ∷ []) h.polynomials ∙ sym (polys-++ h.parts (record { poly = f; head = b.head } ∷ []));
+  variables = λ n v g c. elim (Contains-append_cases fs (f ∷ []) g c) [
+    | inl l ↦ h.variables n (λ d e. v d (Contains-append_left bs (b ∷ []) d e)) g l
+    | inr r ↦ elim (Contains-cases f g [] r) [
+      | inl e ↦ subst (HasVariables n) e (k.variables n (v b (Contains-append_right bs (b ∷ []) b (Contains-here b []))))
+      | inr z ↦ absurd (omega (arith, z.1))
+    ]
+  ];
+}
+
+-- ---- as the code goes on
+
+-- a listed term has the variables
+pub width_at : (n : ℕ) (f g : Terms) (t : Term) (i : ℕ) → HasVariables n g → f ≡ g → i < length f → t ≡ get_or f i t →
+    length t.mono ≡ n
+width_at n f g t i v e l q = at f i (subst (HasVariables n) (sym e) v) l q
+  where
+    at : (f : Terms) (i : ℕ) → HasVariables n f → i < length f → t ≡ get_or f i t → length t.mono ≡ n
+    at [] i v l q = absurd (omega arith)
+    at (s ∷ f) zero v l q = ap (λ (z : Term). length z.mono) q ∙ v.0
+    at (s ∷ f) (suc i) v l q = at f i v.1 (omega arith) q
+
+one_further : (f : Terms) (i : ℕ) (t : Term) → i < length f → t ≡ get_or f i t → take (i + 1) f ≡ take i f ++ t ∷ []
+one_further f i t l q = take_more f i t l ∙ ap (λ (z : Term). take i f ++ z ∷ []) (sym q)
+
+-- a term that is kept
+pub more_kept : (a : List ℤ) (h x y : Exponents) (f old new : Terms) (t : Term) (i : ℕ) → i < length f → t ≡ get_or f i t →
+    x ≡ t.mono → y ≡ h → AreMultipleApart a x y → new ≡ old ++ t ∷ [] → IsSelected (IsTermAlong a h) (take i f) old →
+    IsSelected (IsTermAlong a h) (take (i + 1) f) new
+more_kept a h x y f old new t i l q ex ey m e s =
+    subst (λ (z : Terms). IsSelected (IsTermAlong a h) z new) (sym (one_further f i t l q))
+    (subst (λ (z : Terms). IsSelected (IsTermAlong a h) (take i f ++ t ∷ []) z) (sym e)
+    (selected-kept (IsTermAlong a h) (take i f) old t s (subst (λ (z : Exponents). AreMultipleApart a z h) ex (subst (λ (z : Exponents). AreMultipleApart a x z) ey m))))
+
+-- and one that isn't
+pub more_dropped : (a : List ℤ) (h x y : Exponents) (f old : Terms) (t : Term) (i : ℕ) → i < length f → t ≡ get_or f i t →
+    x ≡ t.mono → y ≡ h → (AreMultipleApart a x y → ⊥) → IsSelected (IsTermAlong a h) (take i f) old →
+    IsSelected (IsTermAlong a h) (take (i + 1) f) old
+more_dropped a h x y f old t i l q ex ey n s =
+    subst (λ (z : Terms). IsSelected (IsTermAlong a h) z old) (sym (one_further f i t l q))
+    (selected-dropped (IsTermAlong a h) (take i f) old t s (λ m. n (subst (λ (z : Exponents). AreMultipleApart a x z) (sym ey) (subst (λ (z : Exponents). AreMultipleApart a z h) (sym ex) m))))
+
+-- at the end
+pub all_selected : (a : List ℤ) (h : Exponents) (f g : Terms) (i : ℕ) → length f ≤ i → IsSelected (IsTermAlong a h) (take i f) g →
+    IsSelected (IsTermAlong a h) f g
+all_selected a h f g i l s = subst (λ (z : Terms). IsSelected (IsTermAlong a h) z g) (take_all i f l) s
+
+-- a member more
+pub members_more : (a : List ℤ) (bs : List MarkedPolynomial) (i : ℕ) (b : MarkedPolynomial) (old new : List Terms) (f : Terms) →
+    i < length bs → b ≡ get_or bs i b → IsAlong a b f → new ≡ old ++ f ∷ [] → AreAlong a (take i bs) old →
+    AreAlong a (take (i + 1) bs) new
+members_more a bs i b old new f l q k e h =
+    subst (λ (z : List MarkedPolynomial). AreAlong a z new) (sym (take_more bs i b l ∙ ap (λ (z : MarkedPolynomial). take i bs ++ z ∷ []) (sym q)))
+    (subst (λ (z : List Terms). AreAlong a (take i bs ++ b ∷ []) z) (sym e) (along_more a (take i bs) b old f h k))

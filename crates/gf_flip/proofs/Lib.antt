@@ -1,0 +1,10 @@
+pub mod SmallNormals  -- normals within the limit
+pub mod MultipleLaws  -- whether exponents are a multiple of a vector apart
+pub mod AlongLaws  -- the terms along a vector, one after another
+pub mod CrossingMath  -- from a crossing to its neighbour
+pub mod LiftSteps  -- the lifts, one after another
+pub mod RefusalSteps  -- refusals are operations of the flip
+pub mod TopLaws  -- lifts that end early, one after another
+pub mod TurnLaws  -- a run that takes the pairs in turn
+pub mod FlipSteps  -- the steps of a flip
+pub mod ReachedLaws  -- bases that a walk reaches

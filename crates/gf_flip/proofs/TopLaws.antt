@@ -1,0 +1,300 @@
+-- Lifts that end once nothing is left along the normal, as the code works them out.
+-- To cite: SeekingLine, seeking-none, seeking_more, Topping, topping-none, topping_more, topping_less, shares_at, divides_at,
+-- top_remainder_at, top_there, top_lift_at, AreTopping, topping_all.
+use Rattle.std.specs.Prelude.{◌≡◌, ℕ, ◌+◌, ◌<◌, ◌≤◌, ◌^◌, true, List, [], ◌∷◌, ◌++◌, length, take, get_or, Contains, ℤ, pos, ◌+ℤ◌, ◌*ℤ◌}
+use Rattle.std.proofs.Common.{arith, refl, sym, ap, ◌∙◌, subst, inl, inr}
+use Rattle.std.proofs.lemmas.List.{take_more, take_all}
+use Rattle.gf_int.proofs.RingLaws.{dv, dn, ◌⊕◌, ◌⊗◌, same as same_number}
+use Rattle.gf_frac.specs.Fraction.{Fraction, ◌+ℚ◌, neg_ℚ, zero_ℚ, one_ℚ}
+use Rattle.gf_frac.proofs.FractionLaws.{zero_or_not, +ℚ-zero, +ℚ-neg_ℚ, +ℚ_assoc, +ℚ_comm}
+use Rattle.gf_exponents.specs.Exponents.{Exponents, same, plus, entry, Divides}
+use Rattle.gf_exponents.specs.Orders.{lighter}
+use Rattle.gf_exponents.proofs.ExponentsLaws.{same_of, same-refl}
+use Rattle.gf_poly.specs.declared.Term.{Term}
+use Rattle.gf_poly.specs.declared.TheConstants.{ROOM}
+use Rattle.gf_poly.specs.Monomial.{IsMonomial}
+use Rattle.gf_poly.specs.Polynomial.{Terms, coefficient, times, HasVariables, IsDescending, KeepsVariables, KeepsBothVariables}
+use Rattle.gf_poly.specs.Marking.{MarkedPolynomial, Each, HaveVariables, head_of, HasMarkedTerm}
+use Rattle.gf_poly.specs.Sums.{IsDifference}
+use Rattle.gf_ideal.specs.Membership.{HasMonomial}
+use Rattle.gf_ideal.specs.Marks.{AreMarked}
+use Rattle.gf_ideal.specs.Measure.{work_left}
+use Rattle.gf_ideal.specs.Reduction.{IsStep, Reached, HasOneMonomial}
+use Rattle.gf_ideal.specs.Settled.{IsAt}
+use Rattle.gf_ideal.specs.OrderTable.{AreMultipleApart}
+use Rattle.gf_ideal.proofs.ListLaws.{Each-++}
+use Rattle.gf_ideal.proofs.ListedTerms.{listed, box_of_monomial}
+use Rattle.gf_ideal.proofs.MeasureLaws.{work_left-at}
+use Rattle.gf_ideal.proofs.Identities.{one_not_zero}
+use Rattle.gf_division.specs.Dividends.{Split, joined_terms, IsSound, IsTermInFront, PassesOne, SharesVariables, DividesFirst, TakesStep}
+use Rattle.gf_division.specs.NormalForms.{HasSomeWeight}
+use Rattle.gf_poly.proofs.PolynomialLaws.{coefficient-same}
+use Rattle.gf_division.specs.Reducers.{IsDivisorAt}
+use Rattle.gf_division.proofs.DividendLaws.{terms_down, first_head, first_length}
+use Rattle.gf_division.proofs.ReducerLaws.{members_equal, member_contained, member_variables}
+use Rattle.gf_division.proofs.RuleLaws.{keeps_along, all_above}
+use Rattle.gf_division.proofs.StepLaws.{head_length}
+use Rattle.gf_initial.specs.Lifts.{IsTopLift, AreTopLifts}
+use Rattle.gf_bases.proofs.DifferenceLaws.{difference, less_zero, less_summand}
+use Rattle.gf_initial.proofs.ClassLaws.{multiple-grading}
+use Rattle.gf_flip.specs.Along.{HasNonzero}
+use Rattle.gf_flip.specs.Tops.{AreOff, IsTopRemainder, IsAlone}
+use Rattle.gf_flip.proofs.AlongLaws.{matched-push}
+
+-- ---- the search
+
+-- old became new as terms off the line went above the place
+pub record SeekingLine (n : ℕ) (a : List ℤ) (x : Exponents) (old new : Split) : Type 0 where
+  pub same : joined_terms new ≡ joined_terms old
+  pub sound : IsSound n new
+  pub above : AreOff a x new.above
+
+pub seeking-none : (n : ℕ) (a : List ℤ) (x : Exponents) (s : Split) → IsSound n s → AreOff a x s.above → SeekingLine n a x s s
+seeking-none n a x s v o = record { same = refl; sound = v; above = o }
+
+sound_same : (n : ℕ) (s t : Split) → joined_terms t ≡ joined_terms s → IsSound n s → IsSound n t
+sound_same n s t e h = record { descending = subst IsDescending (sym e) h.descending; variables = subst (HasVariables n) (sym e) h.variables }
+
+pub seeking_more : (n : ℕ) (a : List ℤ) (x y z : Exponents) (old now new : Split) (t : Term) → IsTermInFront now.below t → y ≡ t.mono → z ≡ x →
+    (AreMultipleApart a y z → ⊥) → PassesOne now new → SeekingLine n a x old now → SeekingLine n a x old new
+seeking_more n a x y z old now new t f ey ez o w k =
+    let e : joined_terms new ≡ joined_terms now = terms_down now new w in
+    let q : t ≡ w.term = first_equal (sym f.is ∙ w.below) in
+    record {
+      same = e ∙ k.same;
+      sound = sound_same n now new e k.sound;
+      above = subst (AreOff a x) (sym w.above) (Each-++ (λ (t : Term). AreMultipleApart a t.mono x → ⊥) now.above (w.term ∷ []) k.above
+          (λ m. o (subst (λ (u : Exponents). AreMultipleApart a u z) (sym (ey ∙ ap (λ (s : Term). s.mono) q)) (subst (λ (u : Exponents). AreMultipleApart a w.term.mono u) (sym ez) m)), tt));
+    }
+  where
+    first_equal : {f g : Terms} {s t : Term} → ◌≡◌ {A = Terms} (s ∷ f) (t ∷ g) → s ≡ t
+    first_equal e = cc
+
+pub first_width : (n : ℕ) (a : List ℤ) (x y : Exponents) (old s : Split) (t : Term) → IsTermInFront s.below t → y ≡ t.mono → SeekingLine n a x old s → length y ≡ n
+first_width n a x y old s t f e k = ap length e ∙ first_length n s t k.sound f
+
+-- ---- the steps
+
+-- the member that divides the first term
+pub record IsTopStep (n : ℕ) (bs : List MarkedPolynomial) (a : List ℤ) (x : Exponents) (s : Split) (t : Term) (j : ℕ) (b : MarkedPolynomial) : Type 0 where
+  pub sound : IsSound n s
+  pub above : AreOff a x s.above
+  pub first : IsTermInFront s.below t
+  pub divisor : IsDivisorAt bs t.mono j
+  pub at : b ≡ get_or bs j b
+  pub members : HaveVariables n bs
+
+same_member : (n : ℕ) (bs : List MarkedPolynomial) (a : List ℤ) (x : Exponents) (s : Split) (t : Term) (j : ℕ) (b : MarkedPolynomial) →
+    (k : IsTopStep n bs a x s t j b) → IsAt bs j b
+same_member n bs a x s t j b k = record { within = k.divisor.at.within; is = sym k.at }
+
+is_member : (n : ℕ) (bs : List MarkedPolynomial) (a : List ℤ) (x : Exponents) (s : Split) (t : Term) (j : ℕ) (b : MarkedPolynomial) →
+    (k : IsTopStep n bs a x s t j b) → k.divisor.member ≡ b
+is_member n bs a x s t j b k = members_equal bs j k.divisor.member b k.divisor.at (same_member n bs a x s t j b k)
+
+pub shares_at : (n : ℕ) (bs : List MarkedPolynomial) (a : List ℤ) (x : Exponents) (s : Split) (t : Term) (j : ℕ) (b : MarkedPolynomial) →
+    IsTopStep n bs a x s t j b → SharesVariables b s
+shares_at n bs a x s t j b k = record { n = n; sound = k.sound; poly = member_variables n bs b k.members (member_contained bs j b (same_member n bs a x s t j b k)) }
+
+pub divides_at : (n : ℕ) (bs : List MarkedPolynomial) (a : List ℤ) (x : Exponents) (s : Split) (t : Term) (j : ℕ) (b : MarkedPolynomial) →
+    IsTopStep n bs a x s t j b → DividesFirst b.head s.below
+divides_at n bs a x s t j b k = record { term = t; first = k.first; divides = subst (λ (c : MarkedPolynomial). Divides c.head t.mono) (is_member n bs a x s t j b k) k.divisor.divides }
+
+pub step_of : (n : ℕ) (bs : List MarkedPolynomial) (a : List ℤ) (x : Exponents) (s u : Split) (t : Term) (j : ℕ) (b : MarkedPolynomial) (q : Term) →
+    IsTopStep n bs a x s t j b → TakesStep b s q u → IsStep (Contains bs) (joined_terms s) (joined_terms u)
+step_of n bs a x s u t j b q k w =
+    let e = first_head s.below t k.first in
+    record {
+      at = t.mono;
+      member = b;
+      rest = q.mono;
+      contained = member_contained bs j b (same_member n bs a x s t j b k);
+      there = λ z. w.there (sym w.coefficient_is ∙ ap (coefficient (joined_terms s)) (sym e) ∙ z);
+      divides = same_of t.mono (plus q.mono b.head) (e ∙ sym w.product);
+      equal = λ y. w.same y ∙ ap (λ c. coefficient (joined_terms s ++ times (neg_ℚ c) q.mono b.poly) y) (sym (ap (coefficient (joined_terms s)) e ∙ w.coefficient_is));
+    }
+
+-- what holds after some steps
+pub record Topping (n : ℕ) (bs : List MarkedPolynomial) (a : List ℤ) (x : Exponents) (f : Terms) (s : Split) : Type 0 where
+  pub reached : Reached (Contains bs) f (joined_terms s)
+  pub sound : IsSound n s
+  pub above : AreOff a x s.above
+  pub kept : KeepsVariables f (joined_terms s)
+
+pub topping-none : (n : ℕ) (bs : List MarkedPolynomial) (a : List ℤ) (x : Exponents) (f : Terms) (s : Split) → HasVariables n f → IsDescending f →
+    s ≡ record { above = []; below = f } → Topping n bs a x f s
+topping-none n bs a x f s v d e = subst (Topping n bs a x f) (sym e) (record {
+  reached = Reached.here f (λ x. refl);
+  sound = record { descending = d; variables = v };
+  above = tt;
+  kept = record { at = λ n h. h };
+})
+
+pub topping_more : (n : ℕ) (bs : List MarkedPolynomial) (a : List ℤ) (x : Exponents) (f : Terms) (old s u : Split) (t : Term) (j : ℕ) (b : MarkedPolynomial) (q : Term) →
+    joined_terms s ≡ joined_terms old → IsTopStep n bs a x s t j b → TakesStep b s q u → Topping n bs a x f old → Topping n bs a x f u
+topping_more n bs a x f old s u t j b q e k w h = record {
+  reached = Reached.next (joined_terms s) (joined_terms u) (subst (Reached (Contains bs) f) (sym e) h.reached) (step_of n bs a x s u t j b q k w);
+  sound = w.sound n k.sound;
+  above = front u.above w.passed (subst (AreOff a x) w.above k.above);
+  kept = record { at = λ m v. (w.sound m (record { descending = k.sound.descending; variables = (keeps_along f (joined_terms old) (joined_terms s) e h.kept).at m v })).variables };
+}
+  where
+    front : (f g : Terms) → AreOff a x (f ++ g) → AreOff a x f
+    front [] g o = tt
+    front (t ∷ f) g o = (o.0, front f g o.1)
+
+pub topping_less : (n : ℕ) (bs : List MarkedPolynomial) (a : List ℤ) (x : Exponents) (w : List ℕ) (old s u : Split) (t : Term) (j : ℕ) (b : MarkedPolynomial) (q : Term) →
+    joined_terms s ≡ joined_terms old → AreMarked (lighter w) bs → IsMonomial t.mono → IsTopStep n bs a x s t j b → TakesStep b s q u →
+    work_left (2 ^ 31) ROOM bs (joined_terms u) < work_left (2 ^ 31) ROOM bs (joined_terms old)
+unfolding step_of
+topping_less n bs a x w old s u t j b q e m i k h =
+    subst (λ (f : Terms). work_left (2 ^ 31) ROOM bs (joined_terms u) < work_left (2 ^ 31) ROOM bs f) e
+    (work_left-at (2 ^ 31) ROOM w bs (joined_terms s) (joined_terms u) m (step_of n bs a x s u t j b q k h) (box_of_monomial t.mono i))
+
+-- what the search and the test of the marks have found
+pub top_step : (n : ℕ) (bs : List MarkedPolynomial) (a : List ℤ) (x : Exponents) (f : Terms) (old s : Split) (t : Term) (j : ℕ) (b : MarkedPolynomial) →
+    joined_terms s ≡ joined_terms old → AreOff a x s.above → IsTermInFront s.below t → IsDivisorAt bs t.mono j → b ≡ get_or bs j b → HaveVariables n bs →
+    Topping n bs a x f old → IsTopStep n bs a x s t j b
+top_step n bs a x f old s t j b e o i d q m h = record { sound = sound_same n old s e h.sound; above = o; first = i; divisor = d; at = q; members = m }
+
+pub top_members : (n : ℕ) (bs : List MarkedPolynomial) (a : List ℤ) (x : Exponents) (f : Terms) (old s : Split) (t : Term) → joined_terms s ≡ joined_terms old →
+    IsTermInFront s.below t → HaveVariables n bs → Topping n bs a x f old → HaveVariables (length t.mono) bs
+top_members n bs a x f old s t e i m h = subst (λ (k : ℕ). HaveVariables k bs) (sym (first_length n s t (sound_same n old s e h.sound) i)) m
+
+-- at the end
+pub top_remainder_at : (n : ℕ) (bs : List MarkedPolynomial) (a : List ℤ) (x : Exponents) (f r : Terms) (old s : Split) → joined_terms s ≡ joined_terms old →
+    s.below ≡ [] → r ≡ joined_terms s → AreOff a x s.above → Topping n bs a x f old → IsTopRemainder bs a x f r
+top_remainder_at n bs a x f r old s e b q o h = record {
+  reached = subst (Reached (Contains bs) f) (sym (q ∙ e)) h.reached;
+  off = subst (AreOff a x) (sym (q ∙ all_above s b)) o;
+  kept = keeps_along f (joined_terms old) r (q ∙ e) h.kept;
+  descending = subst IsDescending (sym (q ∙ e)) h.sound.descending;
+}
+
+-- ---- one lift
+
+off_monomial : (a : List ℤ) (nz : HasNonzero a) (x : Exponents) (r : Terms) → AreOff a x r → (y : Exponents) → HasMonomial r y → AreMultipleApart a y x → ⊥
+off_monomial a nz x r o y m h = at (listed (λ (t : Term). AreMultipleApart a t.mono x → ⊥) r y o m)
+  where
+    at : (t : Term) × (AreMultipleApart a t.mono x → ⊥) × (same y t.mono ≡ true) → ⊥
+    at t = let g = multiple-grading a nz in t.1 (g.transitive t.0.mono y x (g.symmetric y t.0.mono (g.along y t.0.mono t.2)) h)
+
+zero_apart : (a : List ℤ) (x : Exponents) → AreMultipleApart a x x
+zero_apart a x = (pos 0, λ i. still (pos (entry x i)) (get_or a i (pos 0)))
+  where
+    still : (y z : ℤ) → y ≡ y +ℤ pos 0 *ℤ z
+    still y z = same_number (dv y) (dv y ⊕ dn 0 ⊗ dv z) (omega arith)
+
+-- the mark is a monomial of the difference
+pub top_there : (bs : List MarkedPolynomial) (a : List ℤ) (nz : HasNonzero a) (h : MarkedPolynomial) (f g r p t : Terms) (x y : Exponents) → coefficient h.poly h.head ≡ one_ℚ →
+    f ≡ h.poly → g ≡ h.poly → x ≡ h.head → y ≡ h.head → IsTopRemainder bs a x f r → IsDifference g r p → t ≡ p → HasMonomial t y
+top_there bs a nz h f g r p t x y one ef eg ex ey k d q z = one_not_zero (sym (d h.head ∙ ap (λ c. c +ℚ neg_ℚ (coefficient r h.head)) (ap (λ (w : Terms). coefficient w h.head) eg ∙ one) ∙ ap (λ c. one_ℚ +ℚ neg_ℚ c) none ∙ less_zero one_ℚ)
+    ∙ ap (λ (w : Terms). coefficient w h.head) (sym q) ∙ ap (coefficient t) (sym ey) ∙ z)
+  where
+    none : coefficient r h.head ≡ zero_ℚ
+    none = elim (zero_or_not (coefficient r h.head)) [ inl w ↦ w | inr m ↦ absurd (off_monomial a nz x r k.off h.head m (subst (λ (u : Exponents). AreMultipleApart a h.head u) (sym ex) (zero_apart a h.head))) ]
+
+-- the difference has the variables
+pub top_variables : (bs : List MarkedPolynomial) (a : List ℤ) (n : ℕ) (x : Exponents) (h : MarkedPolynomial) (f g r p : Terms) → f ≡ h.poly → g ≡ h.poly → HasVariables n h.poly →
+    IsTopRemainder bs a x f r → KeepsBothVariables g r p → HasVariables n p
+top_variables bs a n x h f g r p ef eg v k b = b.at n (subst (HasVariables n) (sym eg) v) (k.kept.at n (subst (HasVariables n) (sym ef) v))
+
+pub top_place : (bs : List MarkedPolynomial) (a : List ℤ) (n : ℕ) (h : MarkedPolynomial) (f g r p t : Terms) (x y : Exponents) → f ≡ h.poly → g ≡ h.poly → HasVariables n h.poly →
+    IsTopRemainder bs a x f r → KeepsBothVariables g r p → t ≡ p → y ≡ h.head → HasMarkedTerm h → HasVariables (length y) t
+top_place bs a n h f g r p t x y ef eg v k b q ey m =
+    let l : n ≡ length y = sym (ap (λ (z : Exponents). length z) ey ∙ head_length n h v m) in
+    subst (λ (z : Terms). HasVariables (length y) z) (sym q) (subst (λ (z : ℕ). HasVariables z p) l (top_variables bs a n x h f g r p ef eg v k b))
+
+-- so it is such a lift
+pub top_lift_at : (bs : List MarkedPolynomial) (a : List ℤ) (nz : HasNonzero a) (h l : MarkedPolynomial) (f g r p t : Terms) (x y : Exponents) (i : ℕ) → f ≡ h.poly → g ≡ h.poly →
+    x ≡ h.head → IsTopRemainder bs a x f r → IsDifference g r p → t ≡ p → y ≡ h.head → head_of t i ≡ y →
+    l ≡ record { poly = p; head = head_of p i } → IsTopLift bs a h l
+top_lift_at bs a nz h l f g r p t x y i ef eg ex k d q ey m o = record {
+  remainder = r;
+  reached = subst (λ (w : Terms). Reached (Contains bs) w r) ef k.reached;
+  off = λ u n b. off_monomial a nz x r k.off u n (subst (λ (w : Exponents). AreMultipleApart a u w) (sym ex) b);
+  head = ap (λ (w : MarkedPolynomial). w.head) o ∙ ap (λ (w : Terms). head_of w i) (sym q) ∙ m ∙ ey;
+  poly = λ u. ap (λ (w : MarkedPolynomial). coefficient w.poly u) o ∙ d u ∙ ap (λ (w : Terms). coefficient w u +ℚ neg_ℚ (coefficient r u)) eg ∙ sym (difference h.poly r u);
+}
+
+-- in the variables
+pub top_lifted_variables : (bs : List MarkedPolynomial) (a : List ℤ) (n : ℕ) (h l : MarkedPolynomial) (f g r p : Terms) (x : Exponents) (i : ℕ) → f ≡ h.poly → g ≡ h.poly → HasVariables n h.poly →
+    IsTopRemainder bs a x f r → KeepsBothVariables g r p → l ≡ record { poly = p; head = head_of p i } → HasVariables n l.poly
+top_lifted_variables bs a n h l f g r p x i ef eg v k b o = subst (HasVariables n) (sym (ap (λ (z : MarkedPolynomial). z.poly) o)) (top_variables bs a n x h f g r p ef eg v k b)
+
+-- ---- members that the crossing does not touch
+
+-- a monomial less the step by a member with its mark is that member
+pub untouched_at : (bs : List MarkedPolynomial) (a : List ℤ) (h b l : MarkedPolynomial) → coefficient h.poly h.head ≡ one_ℚ → coefficient b.poly b.head ≡ one_ℚ →
+    HasOneMonomial h → Contains bs b → b.head ≡ h.head → IsAlone a b → l ≡ b → IsTopLift bs a h l
+untouched_at bs a h b l one unit single c e alone q = subst (IsTopLift bs a h) (sym q) (record {
+  remainder = rest;
+  reached = Reached.next h.poly rest (Reached.here h.poly (λ x. refl)) (record {
+    at = h.head;
+    member = b;
+    rest = [];
+    contained = c;
+    there = λ z. one_not_zero (sym one ∙ z);
+    divides = subst (λ (z : Exponents). same h.head z ≡ true) (sym e) (same-refl h.head);
+    equal = λ x. ap (λ k. coefficient (h.poly ++ times (neg_ℚ k) [] b.poly) x) (sym one);
+  });
+  off = λ x m p. elim (zero_or_not (coefficient b.poly x)) [
+    | inl z ↦ elim (zero_or_not (coefficient h.poly x)) [
+      | inl w ↦ m (difference h.poly b.poly x ∙ ap (λ k. k +ℚ neg_ℚ (coefficient b.poly x)) w ∙ ap (λ k. zero_ℚ +ℚ neg_ℚ k) z ∙ less_zero zero_ℚ)
+      | inr n ↦ one_not_zero (sym unit ∙ sym (coefficient-same b.poly x b.head (subst (λ (y : Exponents). same x y ≡ true) (sym e) (single x n))) ∙ z)
+    ]
+    | inr n ↦ let s = alone x n (subst (λ (y : Exponents). AreMultipleApart a x y) (sym e) p) in
+        m (difference h.poly b.poly x ∙ ap (λ k. k +ℚ neg_ℚ (coefficient b.poly x)) (coefficient-same h.poly x h.head (subst (λ (y : Exponents). same x y ≡ true) e s) ∙ one) ∙ ap (λ k. one_ℚ +ℚ neg_ℚ k) (coefficient-same b.poly x b.head s ∙ unit) ∙ +ℚ-neg_ℚ one_ℚ)
+  ];
+  head = e;
+  poly = λ x. back (coefficient h.poly x) (coefficient b.poly x) ∙ ap (λ k. coefficient h.poly x +ℚ neg_ℚ k) (sym (difference h.poly b.poly x)) ∙ sym (difference h.poly rest x);
+})
+  where
+    rest : Terms
+    rest = h.poly ++ times (neg_ℚ one_ℚ) [] b.poly
+
+    back : (p q : Fraction) → q ≡ p +ℚ neg_ℚ (p +ℚ neg_ℚ q)
+    back p q = sym (less_summand q (p +ℚ neg_ℚ q) p (sym (+ℚ_comm q (p +ℚ neg_ℚ q) ∙ +ℚ_assoc p (neg_ℚ q) q ∙ ap (λ z. p +ℚ z) (+ℚ_comm (neg_ℚ q) q ∙ +ℚ-neg_ℚ q) ∙ +ℚ-zero p)))
+
+-- the terms before i are the mark, or off the line
+abbrev pub AreBeside : List ℤ → Exponents → ℕ → Terms → Type 0
+AreBeside a x i f = Each (λ (t : Term). AreMultipleApart a t.mono x → t.mono ≡ x) (take i f)
+
+pub beside_more : (a : List ℤ) (x : Exponents) (i : ℕ) (f : Terms) (t : Term) → i < length f → t ≡ get_or f i t → (AreMultipleApart a t.mono x → t.mono ≡ x) →
+    AreBeside a x i f → AreBeside a x (i + 1) f
+beside_more a x i f t l e n h = subst (Each (λ (t : Term). AreMultipleApart a t.mono x → t.mono ≡ x)) (sym (take_more f i t l ∙ ap (λ (z : Term). take i f ++ z ∷ []) (sym e))) (Each-++ (λ (t : Term). AreMultipleApart a t.mono x → t.mono ≡ x) (take i f) (t ∷ []) h (n, tt))
+
+pub beside_end : (a : List ℤ) (nz : HasNonzero a) (b : MarkedPolynomial) (x : Exponents) (i : ℕ) (f : Terms) → f ≡ b.poly → x ≡ b.head → length f ≤ i → AreBeside a x i f → IsAlone a b
+beside_end a nz b x i f ef ex l h y m p = at (listed (λ (t : Term). AreMultipleApart a t.mono x → t.mono ≡ x) f y (subst (Each (λ (t : Term). AreMultipleApart a t.mono x → t.mono ≡ x)) (take_all i f l) h) (subst (λ (z : Terms). HasMonomial z y) (sym ef) m))
+  where
+    at : (t : Term) × (AreMultipleApart a t.mono x → t.mono ≡ x) × (same y t.mono ≡ true) → same y b.head ≡ true
+    at t =
+        let g = multiple-grading a nz in
+        let on : AreMultipleApart a t.0.mono x = g.transitive t.0.mono y x (g.symmetric y t.0.mono (g.along y t.0.mono t.2)) (subst (λ (z : Exponents). AreMultipleApart a y z) (sym ex) p) in
+        subst (λ (z : Exponents). same y z ≡ true) (t.1 on ∙ ex) t.2
+
+-- a monic member
+pub monic_member : (bs : List MarkedPolynomial) (b : MarkedPolynomial) (j : ℕ) → HasSomeWeight bs → j < length bs → b ≡ get_or bs j b → coefficient b.poly b.head ≡ one_ℚ
+monic_member bs b j w l e = (w.1 b (j, l, sym e)).monic
+
+pub untouched_variables : (n : ℕ) (bs : List MarkedPolynomial) (b l : MarkedPolynomial) (j : ℕ) → HaveVariables n bs → j < length bs → b ≡ get_or bs j b → l ≡ b → HasVariables n l.poly
+untouched_variables n bs b l j v k e q = subst (λ (z : MarkedPolynomial). HasVariables n z.poly) (sym q) (member_variables n bs b v (j, k, sym e))
+
+-- ---- all lifts
+
+pub record AreTopping (n : ℕ) (bs : List MarkedPolynomial) (a : List ℤ) (hs ls : List MarkedPolynomial) : Type 0 where
+  pub lifts : AreTopLifts bs a hs ls
+  pub variables : HaveVariables n ls
+
+pub topping_all : (n : ℕ) (bs : List MarkedPolynomial) (a : List ℤ) (hs : List MarkedPolynomial) (i : ℕ) (h l : MarkedPolynomial) (old new : List MarkedPolynomial) → i < length hs →
+    h ≡ get_or hs i h → IsTopLift bs a h l → HasVariables n l.poly → new ≡ old ++ l ∷ [] → AreTopping n bs a (take i hs) old →
+    AreTopping n bs a (take (i + 1) hs) new
+topping_all n bs a hs i h l old new k q t v e s = record {
+  lifts = subst (λ (z : List MarkedPolynomial). AreTopLifts bs a z new) (sym (take_more hs i h k ∙ ap (λ (z : MarkedPolynomial). take i hs ++ z ∷ []) (sym q)))
+      (subst (λ (z : List MarkedPolynomial). AreTopLifts bs a (take i hs ++ h ∷ []) z) (sym e) (matched-push (IsTopLift bs a) (take i hs) old h l s.lifts t));
+  variables = subst (HaveVariables n) (sym e) (Each-++ (λ (b : MarkedPolynomial). HasVariables n b.poly) old (l ∷ []) s.variables (v, tt));
+}
+
+pub topping_end : (n : ℕ) (bs : List MarkedPolynomial) (a : List ℤ) (hs ls : List MarkedPolynomial) (i : ℕ) → length hs ≤ i → AreTopping n bs a (take i hs) ls →
+    AreTopping n bs a hs ls
+topping_end n bs a hs ls i l s = subst (λ (z : List MarkedPolynomial). AreTopping n bs a z ls) (take_all i hs l) s

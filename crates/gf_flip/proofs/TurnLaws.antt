@@ -1,0 +1,355 @@
+-- A run that takes the pairs in turn, one step further, and its end: a reduced Gröbner basis.
+-- To cite: turn_reducers, taken_start, entered-none, entered-more, entered-skipped, entered-all, turning-start, turning-more, turning-row, turn_end.
+use Rattle.std.specs.Prelude.{◌≡◌, ◌≢◌, ◌⊎◌, ℕ, zero, suc, ◌+◌, ◌<◌, ◌≤◌, Bool, true, false, List, [], ◌∷◌, ◌++◌, length, Contains, slice_index_or}
+use Rattle.std.proofs.Common.{arith, refl, sym, ap, ◌∙◌, subst, inl, inr}
+use Rattle.std.proofs.lemmas.Bool.{cases_lt}
+use Rattle.std.proofs.lemmas.List.{get_or_default}
+use Rattle.gf_exponents.specs.SixOrders.{MonomialOrder, below_of}
+use Rattle.gf_exponents.proofs.SixOrdersLaws.{order-is}
+use Rattle.gf_poly.specs.Polynomial.{Terms, HasVariables, IsDescending, coefficient}
+use Rattle.gf_poly.specs.Marking.{MarkedPolynomial, polys, head_of, IsMonicOf, HasMarkedTerm}
+use Rattle.gf_ideal.specs.Membership.{AreInVariables, IsInVariables, IsMember}
+use Rattle.gf_ideal.specs.Marks.{AreMarked}
+use Rattle.gf_ideal.specs.Reduction.{Reached, IsKept, IsMonicForm}
+use Rattle.gf_ideal.specs.Settled.{IsAt, IsSettledPair}
+use Rattle.gf_ideal.specs.WorkLists.{IsOrigin, IsWorkList}
+use Rattle.gf_ideal.proofs.CriteriaLaws.{pair_by_steps, pair_by_product, pair_by_monomials, pair_more}
+use Rattle.gf_ideal.proofs.GeneratorLaws.{entered-zero, entered-appended}
+use Rattle.gf_ideal.proofs.KeptForms.{monic_form}
+use Rattle.gf_ideal.proofs.ListLaws.{Contains-last}
+use Rattle.gf_ideal.proofs.ListedTerms.{variables_by_terms}
+use Rattle.gf_ideal.proofs.MembershipLaws.{member-generator, member-trans}
+use Rattle.gf_ideal.proofs.NormalFormLaws.{normal_form-reached}
+use Rattle.gf_ideal.proofs.PieceLaws.{Contains-polys, Contains-marked}
+use Rattle.gf_ideal.proofs.StepLaws.{reached-more}
+use Rattle.gf_ideal.proofs.WorkLaws.{run_basis, work-marked}
+use Rattle.gf_division.specs.SPolynomials.{KeepsPairVariables, IsSPolynomialOf}
+use Rattle.gf_buchberger.specs.Leading.{IsComparable, IsLeadingAt}
+use Rattle.gf_buchberger.specs.Jobs.{IsBasisJob}
+use Rattle.gf_buchberger.specs.Runs.{MembersHaveVariables, AreReducers, IsAppendable}
+use Rattle.gf_buchberger.proofs.AppendLaws.{contained_at, marked_greatest, is_marked, member_length}
+use Rattle.gf_buchberger.proofs.BasesOfRuns.{IsEnd}
+use Rattle.gf_buchberger.proofs.JobLaws.{ring_variables, run_weight}
+use Rattle.gf_buchberger.proofs.ReducedPairLaws.{AreRead, are_read, s_polynomial_is, s_polynomial_variables}
+use Rattle.gf_buchberger.proofs.RunSteps.{in_variables, length-last, contained_old}
+use Rattle.gf_flip.specs.Turns.{ArePairExcused, IsGrown, IsTakenIn, IsPairTaken, IsUnderway, IsOfKind, AreTakenInWhere, IsEarlier, IsTurning, AreKeptIn}
+
+-- ---- lists of a run
+
+underway_marked : (order : MonomialOrder) (n : ℕ) (fs : List Terms) (bs : List MarkedPolynomial) → IsUnderway order n fs bs → AreMarked (below_of order) bs
+underway_marked order n fs bs u = work-marked fs (below_of order) bs u.work
+
+-- its members reduce
+pub turn_reducers : (order : MonomialOrder) (n : ℕ) (fs : List Terms) (bs : List MarkedPolynomial) → IsUnderway order n fs bs → AreReducers order bs
+turn_reducers order n fs bs u = let w = run_weight order n fs bs u.job u.work in record { n = n; each = u.variables; entries = u.job.entries; weight = (w.0, w.2) }
+
+-- no members
+pub underway-none : (order : MonomialOrder) (n : ℕ) (fs : List Terms) → IsBasisJob order n fs → IsUnderway order n fs []
+underway-none order n fs j = record {
+  job = j;
+  work = IsWorkList.start;
+  variables = record { heads = λ b c. absurd (omega (arith, c.1)); polys = λ b c. absurd (omega (arith, c.1)) };
+}
+
+pub kept-same : (bs : List MarkedPolynomial) → AreKeptIn bs bs
+kept-same bs = record { at = λ b c. c }
+
+pub kept-more : (xs bs cs : List MarkedPolynomial) → AreKeptIn xs bs → AreKeptIn bs cs → AreKeptIn xs cs
+kept-more xs bs cs h k = record { at = λ b c. k.at b (h.at b c) }
+
+-- what is in the ideal of the members stays there
+member_kept : (n : ℕ) (old new : List MarkedPolynomial) (f : Terms) → AreInVariables n (polys new) → AreKeptIn old new → IsMember n (polys old) f → IsMember n (polys new) f
+member_kept n old new f v k m = member-trans n (polys new) (polys old) f v (λ g c. at g (Contains-marked old g c)) m
+  where
+    at : (g : Terms) → (b : MarkedPolynomial) × Contains old b × (b.poly ≡ g) → IsMember n (polys new) g
+    at g b = member-generator n (polys new) g (subst (Contains (polys new)) b.2 (Contains-polys new b.0 (k.at b.0 b.1)))
+
+-- ---- a polynomial is taken in
+
+-- what follows where an origin of the run was taken in
+record IsFurtherOn (order : MonomialOrder) (n : ℕ) (fs : List Terms) (f : Terms) (old new : List MarkedPolynomial) : Type 0 where
+  underway : IsUnderway order n fs new
+  kept : AreKeptIn old new
+  size : length old ≤ length new
+  remainder : Terms
+  reached : Reached (Contains new) f remainder
+  settled : IsKept (Contains new) remainder
+
+longer_variables : (n : ℕ) (bs : List MarkedPolynomial) (d : MarkedPolynomial) → MembersHaveVariables n bs → length d.head ≡ n → HasVariables n d.poly → MembersHaveVariables n (bs ++ d ∷ [])
+longer_variables n bs d v h p = record { heads = λ b c. head b (Contains-last bs d b c); polys = λ b c. poly b (Contains-last bs d b c) }
+  where
+    head : (b : MarkedPolynomial) → Contains bs b ⊎ (b ≡ d) → length b.head ≡ n
+    head b (inl c) = v.heads b c
+    head b (inr e) = ap (λ (z : MarkedPolynomial). length z.head) e ∙ h
+
+    poly : (b : MarkedPolynomial) → Contains bs b ⊎ (b ≡ d) → HasVariables n b.poly
+    poly b (inl c) = v.polys b c
+    poly b (inr e) = subst (λ (z : MarkedPolynomial). HasVariables n z.poly) (sym e) p
+
+last_contained : (bs : List MarkedPolynomial) (b : MarkedPolynomial) → Contains (bs ++ b ∷ []) b
+last_contained [] b = (zero, omega arith, refl)
+last_contained (a ∷ bs) b = let c = last_contained bs b in (suc c.0, omega (arith, c.1), c.2)
+
+further_on : (order : MonomialOrder) (n : ℕ) (fs : List Terms) (f : Terms) (old new : List MarkedPolynomial) → IsUnderway order n fs old → IsOrigin fs old f → HasVariables n f →
+    IsTakenIn order f old new → IsFurtherOn order n fs f old new
+further_on order n fs f old new u origin v t = at t.left
+  where
+    steps : Reached (Contains old) f t.r
+    steps = normal_form-reached old f t.r t.normal.reached
+
+    grown : (t.r ≢ []) → (g : IsGrown order t.r old new) → IsFurtherOn order n fs f old new
+    grown z g = subst (IsFurtherOn order n fs f old) (sym g.members) (record {
+      underway = record {
+        job = u.job;
+        work = IsWorkList.more old f t.r g.member u.work origin steps g.monic g.marked (λ d. t.normal.irreducible g.member.head g.monic.there d);
+        variables = longer_variables n old g.member u.variables (g.head n (t.variables.at n v)) (g.poly n (t.variables.at n v));
+      };
+      kept = record { at = λ b c. contained_old old g.member b c };
+      size = omega (arith, length-last old g.member);
+      remainder = t.r;
+      reached = reached-more (Contains old) (Contains (old ++ g.member ∷ [])) f t.r (λ d k. contained_old old g.member d k) steps;
+      settled = inr (g.member, last_contained old g.member, g.monic);
+    })
+
+    at : ((t.r ≡ []) × (new ≡ old)) ⊎ ((t.r ≢ []) × IsGrown order t.r old new) → IsFurtherOn order n fs f old new
+    at (inl (z, e)) = subst (IsFurtherOn order n fs f old) (sym e) (record {
+      underway = u;
+      kept = kept-same old;
+      size = omega arith;
+      remainder = t.r;
+      reached = steps;
+      settled = inl (λ x. ap (λ (g : Terms). coefficient g x) z);
+    })
+    at (inr (z, g)) = grown z g
+
+-- ---- the polynomials
+
+pub entered-none : (n : ℕ) (fs : List Terms) (single : Bool) (bs : List MarkedPolynomial) → AreTakenInWhere n fs single 0 bs
+entered-none n fs single bs = record { inside = λ k f l e s. absurd (omega arith) }
+
+-- those that are taken in stay so
+pub entered-kept : (order : MonomialOrder) (n : ℕ) (fs : List Terms) (single : Bool) (i : ℕ) (old new : List MarkedPolynomial) → IsUnderway order n fs new → AreKeptIn old new → AreTakenInWhere n fs single i old → AreTakenInWhere n fs single i new
+entered-kept order n fs single i old new u k h = record { inside = λ j f l e s. member_kept n old new f (in_variables n new u.variables) k (h.inside j f l e s) }
+
+-- where the code stands
+pub record IsEntering (order : MonomialOrder) (n : ℕ) (fs : List Terms) (single : Bool) (i : ℕ) (start bs : List MarkedPolynomial) : Type 0 where
+  pub underway : IsUnderway order n fs bs
+  pub kept : AreKeptIn start bs
+  pub entered : AreTakenInWhere n fs single i bs
+
+pub entering-none : (order : MonomialOrder) (n : ℕ) (fs : List Terms) (single : Bool) (bs : List MarkedPolynomial) → IsUnderway order n fs bs → IsEntering order n fs single 0 bs bs
+entering-none order n fs single bs u = record { underway = u; kept = kept-same bs; entered = entered-none n fs single bs }
+
+one_place : (fs : List Terms) (i k : ℕ) (f d : Terms) → i < length fs → f ≡ slice_index_or fs i f → k ≡ i → slice_index_or fs k d ≡ d → f ≡ d
+one_place fs i k f d l e r p = e ∙ get_or_default fs i f d l ∙ ap (λ (z : ℕ). slice_index_or fs z d) (sym r) ∙ p
+
+-- the next one is of the other kind
+pub entering-skipped : (order : MonomialOrder) (n : ℕ) (fs : List Terms) (single : Bool) (i : ℕ) (start bs : List MarkedPolynomial) (f g : Terms) → i < length fs → f ≡ slice_index_or fs i f → g ≡ f →
+    (IsOfKind single g → ⊥) → IsEntering order n fs single i start bs → IsEntering order n fs single (i + 1) start bs
+entering-skipped order n fs single i start bs f g l e q x h = record { underway = h.underway; kept = h.kept; entered = record { inside = λ k d m p s. at k d m p s (cases_lt k i) } }
+  where
+    at : (k : ℕ) (d : Terms) → k < i + 1 → slice_index_or fs k d ≡ d → IsOfKind single d → (k < i) ⊎ (i ≤ k) → IsMember n (polys bs) d
+    at k d m p s (inl b) = h.entered.inside k d b p s
+    at k d m p s (inr b) = absurd (x (subst (IsOfKind single) (sym (q ∙ one_place fs i k f d l e (omega arith) p)) s))
+
+-- it is of this kind
+pub entering-more : (order : MonomialOrder) (n : ℕ) (fs : List Terms) (single : Bool) (i : ℕ) (start old new : List MarkedPolynomial) (f g : Terms) → i < length fs → f ≡ slice_index_or fs i f → g ≡ f →
+    IsTakenIn order g old new → IsEntering order n fs single i start old → IsEntering order n fs single (i + 1) start new
+entering-more order n fs single i start old new f g l e q t h = record {
+  underway = w.underway;
+  kept = kept-more start old new h.kept w.kept;
+  entered = record { inside = λ k d m p s. at k d m p s (cases_lt k i) };
+}
+  where
+    has : HasVariables n f
+    has = h.underway.job.ring.each f (i, l, sym e)
+
+    taken : IsTakenIn order f old new
+    taken = subst (λ (z : Terms). IsTakenIn order z old new) q t
+
+    w : IsFurtherOn order n fs f old new
+    w = further_on order n fs f old new h.underway (inl (i, l, sym e)) has taken
+
+    in_ring : IsInVariables n f
+    in_ring = variables_by_terms n f has
+
+    steps : Reached (Contains old) f taken.r
+    steps = normal_form-reached old f taken.r taken.normal.reached
+
+    here : IsMember n (polys new) f
+    here = elim taken.left [
+      | inl z ↦ subst (λ (m : List MarkedPolynomial). IsMember n (polys m) f) (sym z.1) (entered-zero n old f taken.r (in_variables n old h.underway.variables) in_ring steps (λ x. ap (λ (g : Terms). coefficient g x) z.0))
+      | inr z ↦ subst (λ (m : List MarkedPolynomial). IsMember n (polys m) f) (sym z.1.members) (entered-appended n old f taken.r z.1.member (subst (λ (m : List MarkedPolynomial). AreInVariables n (polys m)) z.1.members (in_variables n new w.underway.variables)) in_ring steps z.1.monic)
+    ]
+
+    at : (k : ℕ) (d : Terms) → k < i + 1 → slice_index_or fs k d ≡ d → IsOfKind single d → (k < i) ⊎ (i ≤ k) → IsMember n (polys new) d
+    at k d m p s (inl b) = member_kept n old new d (in_variables n new w.underway.variables) w.kept (h.entered.inside k d b p s)
+    at k d m p s (inr b) = subst (IsMember n (polys new)) (one_place fs i k f d l e (omega arith) p) here
+
+-- ---- the pairs
+
+pub turning-start : (order : MonomialOrder) (n : ℕ) (fs : List Terms) (bs : List MarkedPolynomial) → IsUnderway order n fs bs → IsTurning order n fs bs 0 0
+turning-start order n fs bs u = record { underway = u; settled = λ p q b c l e x y. elim e [ inl m ↦ absurd (omega arith) | inr m ↦ absurd (omega (arith, m.1)) ] }
+
+-- the row is done
+pub turning-row : (order : MonomialOrder) (n : ℕ) (fs : List Terms) (bs : List MarkedPolynomial) (i j : ℕ) → j ≤ i → IsTurning order n fs bs i j → IsTurning order n fs bs 0 (j + 1)
+turning-row order n fs bs i j l t = record { underway = t.underway; settled = λ p q b c m e x y. t.settled p q b c m (at p q m e (cases_lt q j)) x y }
+  where
+    at : (p q : ℕ) → p < q → IsEarlier p q 0 (j + 1) → (q < j) ⊎ (j ≤ q) → IsEarlier p q i j
+    at p q m e (inl k) = inl k
+    at p q m (inl s) (inr k) = inr (omega arith, omega arith)
+    at p q m (inr s) (inr k) = absurd (omega (arith, s.1))
+
+same_member : (bs : List MarkedPolynomial) (i : ℕ) (b c : MarkedPolynomial) → IsAt bs i b → IsAt bs i c → b ≡ c
+same_member bs i b c p q = sym p.is ∙ get_or_default bs i b c p.within ∙ q.is
+
+-- members keep their places
+at_before : (bs : List MarkedPolynomial) (d c : MarkedPolynomial) (i : ℕ) → i < length bs → IsAt (bs ++ d ∷ []) i c → IsAt bs i c
+at_before [] d c i l h = absurd (omega arith)
+at_before (a ∷ bs) d c zero l h = record { within = l; is = h.is }
+at_before (a ∷ bs) d c (suc i) l h = record { within = l; is = (at_before bs d c i (omega arith) (record { within = omega (arith, h.within); is = h.is })).is }
+
+before_of_taken : (order : MonomialOrder) (f : Terms) (old new : List MarkedPolynomial) (i : ℕ) (c : MarkedPolynomial) → IsTakenIn order f old new → i < length old → IsAt new i c → IsAt old i c
+before_of_taken order f old new i c t l h = elim t.left [
+  | inl z ↦ subst (λ (m : List MarkedPolynomial). IsAt m i c) z.1 h
+  | inr z ↦ at_before old z.1.member c i l (subst (λ (m : List MarkedPolynomial). IsAt m i c) z.1.members h)
+]
+
+-- one pair more
+pub record IsTurnedOn (order : MonomialOrder) (n : ℕ) (fs : List Terms) (old new : List MarkedPolynomial) (i j : ℕ) : Type 0 where
+  pub turning : IsTurning order n fs new i j
+  pub kept : AreKeptIn old new
+  pub size : length old ≤ length new
+
+earlier_or_here : (p q i j : ℕ) → IsEarlier p q (i + 1) j → IsEarlier p q i j ⊎ ((p ≡ i) × (q ≡ j))
+earlier_or_here p q i j (inl l) = inl (inl l)
+earlier_or_here p q i j (inr (e, l)) = elim (cases_lt p i) [ inl m ↦ inl (inr (e, m)) | inr m ↦ inr (omega arith, e) ]
+
+pub turned_on : (order : MonomialOrder) (n : ℕ) (fs : List Terms) (old new : List MarkedPolynomial) (i j : ℕ) → i < j → j < length old → IsTurning order n fs old i j → IsPairTaken order i j old new →
+    IsTurnedOn order n fs old new (i + 1) j
+turned_on order n fs old new i j l m t (IsPairTaken.excused b c x y o e) = subst (λ (z : List MarkedPolynomial). IsTurnedOn order n fs old z (i + 1) j) (sym e) (record {
+  turning = record { underway = t.underway; settled = λ p q d g s r u v. at p q d g s (earlier_or_here p q i j r) u v };
+  kept = kept-same old;
+  size = omega arith;
+})
+  where
+    settled : (d g : MarkedPolynomial) → b ≡ d → c ≡ g → ArePairExcused b c → IsSettledPair n old (below_of order) d g
+    settled d g eb ec (inl s) = subst (λ (z : MarkedPolynomial). IsSettledPair n old (below_of order) z g) eb (subst (λ (z : MarkedPolynomial). IsSettledPair n old (below_of order) b z) ec (pair_by_monomials n old (below_of order) b c (in_variables n old t.underway.variables) (order-is order).strict (underway_marked order n fs old t.underway) (contained_at old i b x) (contained_at old j c y) s.0 s.1))
+    settled d g eb ec (inr s) = subst (λ (z : MarkedPolynomial). IsSettledPair n old (below_of order) z g) eb (subst (λ (z : MarkedPolynomial). IsSettledPair n old (below_of order) b z) ec (pair_by_product n old (below_of order) b c (in_variables n old t.underway.variables) (order-is order).strict (underway_marked order n fs old t.underway) (contained_at old i b x) (contained_at old j c y) s))
+
+    at : (p q : ℕ) (d g : MarkedPolynomial) → p < q → IsEarlier p q i j ⊎ ((p ≡ i) × (q ≡ j)) → IsAt old p d → IsAt old q g → IsSettledPair n old (below_of order) d g
+    at p q d g s (inl r) u v = t.settled p q d g s r u v
+    at p q d g s (inr r) u v = settled d g (same_member old i b d x (subst (λ (z : ℕ). IsAt old z d) r.0 u)) (same_member old j c g y (subst (λ (z : ℕ). IsAt old z g) r.1 v)) o
+turned_on order n fs old new i j l m t (IsPairTaken.reduced b c s x y is_s has taken) = record {
+  turning = record { underway = w.underway; settled = λ p q d g o r u v. at p q d g o (earlier_or_here p q i j r) u v };
+  kept = w.kept;
+  size = w.size;
+}
+  where
+    in_b : Contains old b
+    in_b = contained_at old i b x
+
+    in_c : Contains old c
+    in_c = contained_at old j c y
+
+    w : IsFurtherOn order n fs s old new
+    w = further_on order n fs s old new t.underway (inr (b, c, in_b, in_c, is_s)) (has n t.underway.variables) taken
+
+    pair : IsSettledPair n new (below_of order) b c
+    pair = pair_by_steps n new (below_of order) b c s w.remainder (in_variables n new w.underway.variables) (order-is order).strict (underway_marked order n fs new w.underway) (w.kept.at b in_b) (w.kept.at c in_c) is_s w.reached w.settled
+
+    old_at : (k : ℕ) (d : MarkedPolynomial) → k < length old → IsAt new k d → IsAt old k d
+    old_at k d h u = before_of_taken order s old new k d taken h u
+
+    at : (p q : ℕ) (d g : MarkedPolynomial) → p < q → IsEarlier p q i j ⊎ ((p ≡ i) × (q ≡ j)) → IsAt new p d → IsAt new q g → IsSettledPair n new (below_of order) d g
+    at p q d g o (inl r) u v =
+        let k : q ≤ j = elim r [ inl h ↦ omega arith | inr h ↦ omega (arith, h.0) ] in
+        pair_more n old new (below_of order) d g w.kept.at (t.settled p q d g o r (old_at p d (omega arith) u) (old_at q g (omega arith) v))
+    at p q d g o (inr r) u v =
+        subst (λ (z : MarkedPolynomial). IsSettledPair n new (below_of order) z g) (same_member old i b d x (subst (λ (z : ℕ). IsAt old z d) r.0 (old_at p d (omega (arith, r.0)) u)))
+        (subst (λ (z : MarkedPolynomial). IsSettledPair n new (below_of order) b z) (same_member old j c g y (subst (λ (z : ℕ). IsAt old z g) r.1 (old_at q g (omega (arith, r.1)) v))) pair)
+
+-- ---- the end
+
+-- all pairs are settled, and all polynomials are in the ideal: the members are a basis
+pub turn_end : (order : MonomialOrder) (n : ℕ) (fs : List Terms) (bs : List MarkedPolynomial) (j : ℕ) → j ≡ length bs → IsTurning order n fs bs 0 j → AreTakenInWhere n fs true (length fs) bs → AreTakenInWhere n fs false (length fs) bs → IsEnd order n fs bs
+turn_end order n fs bs j e t h k = record {
+  job = t.underway.job;
+  work = t.underway.work;
+  variables = t.underway.variables;
+  basis = run_basis order n t.underway.job.suited.grade fs bs t.underway.job.suited.admissible (ring_variables n fs t.underway.job.ring) t.underway.job.suited.homogeneous t.underway.work inside
+      (λ p q b c l x y. t.settled p q b c l (inl (omega (arith, y.within))) x y);
+}
+  where
+    inside : (f : Terms) → Contains fs f → IsMember n (polys bs) f
+    inside f c = at (one_or_not (length f))
+      where
+        one_or_not : (k : ℕ) → (k ≡ 1) ⊎ (k ≡ 1 → ⊥)
+        one_or_not zero = inr (λ e. absurd (omega arith))
+        one_or_not (suc zero) = inl (omega arith)
+        one_or_not (suc (suc k)) = inr (λ e. absurd (omega arith))
+
+        at : (length f ≡ 1) ⊎ (length f ≡ 1 → ⊥) → IsMember n (polys bs) f
+        at (inl s) = h.inside c.0 f c.1 c.2 s
+        at (inr s) = k.inside c.0 f c.1 c.2 s
+
+-- ---- as the code stands
+
+-- all polynomials are taken in, and the pairs of the members before j are settled
+pub record IsWhole (order : MonomialOrder) (n : ℕ) (fs : List Terms) (bs : List MarkedPolynomial) (j : ℕ) : Type 0 where
+  pub turning : IsTurning order n fs bs 0 j
+  pub single : AreTakenInWhere n fs true (length fs) bs
+  pub other : AreTakenInWhere n fs false (length fs) bs
+  pub within : j ≤ length bs
+
+pub whole-start : (order : MonomialOrder) (n : ℕ) (fs : List Terms) (old new : List MarkedPolynomial) → IsUnderway order n fs new → AreKeptIn old new → AreTakenInWhere n fs true (length fs) old → AreTakenInWhere n fs false (length fs) new → IsWhole order n fs new 0
+whole-start order n fs old new u k h m = record { turning = turning-start order n fs new u; single = entered-kept order n fs true (length fs) old new u k h; other = m; within = omega arith }
+
+pub whole-more : (order : MonomialOrder) (n : ℕ) (fs : List Terms) (old new : List MarkedPolynomial) (j : ℕ) → IsTurning order n fs new 0 (j + 1) → AreKeptIn old new → length old ≤ length new → j < length old → IsWhole order n fs old j → IsWhole order n fs new (j + 1)
+whole-more order n fs old new j t k l m h = record { turning = t; single = entered-kept order n fs true (length fs) old new t.underway k h.single; other = entered-kept order n fs false (length fs) old new t.underway k h.other; within = omega (arith, l, m) }
+
+pub pair_read : (bs : List MarkedPolynomial) (i j : ℕ) (b c : MarkedPolynomial) → i < j → j < length bs → b ≡ slice_index_or bs i b → c ≡ slice_index_or bs j c → AreRead bs i j b c
+pair_read bs i j b c l m e f = are_read bs i j b c (omega arith) m e f
+
+-- the S-polynomial of the pair was taken in
+pub turned_pair : (order : MonomialOrder) (n : ℕ) (fs : List Terms) (old new : List MarkedPolynomial) (i j : ℕ) (b c : MarkedPolynomial) (s : Terms) → i < j → j < length old → IsTurning order n fs old i j →
+    AreRead old i j b c → IsSPolynomialOf b c s → KeepsPairVariables b c s → IsTakenIn order s old new → IsTurnedOn order n fs old new (i + 1) j
+turned_pair order n fs old new i j b c s l m t r p k h =
+    turned_on order n fs old new i j l m t (IsPairTaken.reduced b c s r.at_i r.at_j (s_polynomial_is old i j b c s (turn_reducers order n fs old t.underway).weight r p) (λ n v. s_polynomial_variables n old i j b c s v r k) h)
+
+-- a new member
+pub grown_at : (order : MonomialOrder) (r g : Terms) (f b : MarkedPolynomial) (at : ℕ) (old new : List MarkedPolynomial) → IsComparable order r → g ≡ r → IsDescending r → at < length g → IsLeadingAt order g at (length g) →
+    f ≡ record { poly = r; head = head_of r at } → IsMonicOf f b → HasMarkedTerm b → new ≡ old ++ b ∷ [] → IsGrown order r old new
+grown_at order r g f b at old new v eg d l h q m k em = record {
+  member = b;
+  monic = subst (λ (z : Terms). IsMonicForm z b) e (monic_form v.n f b of_f (subst IsDescending (sym e) d) m);
+  marked = is_marked order v.n f b of_f k.descending (marked_greatest order r g f at v eg d l h q) m;
+  poly = λ n w. m.variables.at n (subst (HasVariables n) (sym e) w);
+  head = λ n w. member_length n r (head_of r at) f b w q m;
+  members = em;
+}
+  where
+    e : f.poly ≡ r
+    e = ap (λ (z : MarkedPolynomial). z.poly) q
+
+    of_f : HasVariables v.n f.poly
+    of_f = subst (HasVariables v.n) (sym e) v.each
+
+-- what taking the next polynomial in asks for
+pub entering_appendable : (order : MonomialOrder) (n : ℕ) (fs : List Terms) (single : Bool) (i : ℕ) (start bs : List MarkedPolynomial) (f g : Terms) → i < length fs → f ≡ slice_index_or fs i f → g ≡ f →
+    IsEntering order n fs single i start bs → IsAppendable order g bs
+entering_appendable order n fs single i start bs f g l e q h = record {
+  n = n;
+  poly = subst (HasVariables n) (sym q) (h.underway.job.ring.each f (i, l, sym e));
+  members = h.underway.variables;
+  entries = h.underway.job.entries;
+}
+
+pub entered-end : (n : ℕ) (fs : List Terms) (single : Bool) (i : ℕ) (bs : List MarkedPolynomial) → length fs ≤ i → AreTakenInWhere n fs single i bs → AreTakenInWhere n fs single (length fs) bs
+entered-end n fs single i bs l h = record { inside = λ k f m e s. h.inside k f (omega arith) e s }
+
+pub turned-none : (order : MonomialOrder) (n : ℕ) (fs : List Terms) (bs : List MarkedPolynomial) (i j : ℕ) → IsTurning order n fs bs i j → IsTurnedOn order n fs bs bs i j
+turned-none order n fs bs i j t = record { turning = t; kept = kept-same bs; size = omega arith }
+
+pub turned-more : (order : MonomialOrder) (n : ℕ) (fs : List Terms) (start old new : List MarkedPolynomial) (i k j : ℕ) → IsTurnedOn order n fs start old i j → IsTurning order n fs new k j → AreKeptIn old new → length old ≤ length new → IsTurnedOn order n fs start new k j
+turned-more order n fs start old new i k j h t m l = record { turning = t; kept = kept-more start old new h.kept m; size = omega (arith, l, h.size) }

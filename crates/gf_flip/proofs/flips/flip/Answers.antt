@@ -1,0 +1,36 @@
+use Rattle.std.specs.Prelude.{List, ℤ, length, IfErr}
+use Rattle.std.proofs.Common.{refl, sym, ap, ◌∙◌, subst}
+use Rattle.std.proofs.lemmas.Result.{err_from_is_err_and}
+use Rattle.gf_flip.specs.Along.{HasNonzero}
+use Rattle.gf_flip.specs.Operations.{IsFlipRefusal}
+use Rattle.gf_flip.proofs.CrossingMath.{crossing_width, crossing_nonzero}
+use Rattle.gf_flip.proofs.FlipSteps.{have_at, bounded_at}
+use Rattle.gf_flip.proofs.RefusalSteps.{flip_refusal_within, flip_within}
+use Rattle.gf_flip.proofs.flips.flip.Goals as goal
+
+pub parts-requires-clause-variables : goal.parts-requires-clause-variables
+parts-requires-clause-variables c = have_at c.args.set.now.variables (length c.as_slice.result.now) c.args.set.now.items c.items-items.result.now c.items-items.ensures.variables c.items-items.ensures.value (ap length c.as_slice.ensures.value ∙ crossing_width c.args.set.now.variables c.args.set.now.items c.args.normal.now c.requires)
+
+pub parts-requires-clause-bounded : goal.parts-requires-clause-bounded
+parts-requires-clause-bounded c = bounded_at c.args.set.now.variables c.args.set.now.items c.items-items.result.now c.args.normal.now c.as_slice.result.now c.requires c.items-items.ensures.value c.see_members.ensures c.as_slice.ensures.value
+
+pub parts-requires-clause-nonzero : goal.parts-requires-clause-nonzero
+parts-requires-clause-nonzero c = subst HasNonzero (sym c.as_slice.ensures.value) (crossing_nonzero c.args.set.now.variables c.args.set.now.items c.args.normal.now c.requires)
+
+pub basis_of_parts-requires-clause-bounded : goal.basis_of_parts-requires-clause-bounded
+basis_of_parts-requires-clause-bounded c = bounded_at c.args.set.now.variables c.args.set.now.items c.items-items.result.now c.args.normal.now c.in-Ok-copy.along c.requires c.items-items.ensures.value c.see_members.ensures c.in-Ok-copy.ensures
+
+pub returns-in_err-below-clause-complete : goal.returns-in_err-below-clause-complete
+returns-in_err-below-clause-complete c =
+    let p = err_from_is_err_and c.from_residual.result c.from_residual.ensures.1 in
+    let k : IfErr c.from_residual.result (IsFlipRefusal c.args.set.now.variables c.args.set.now.items c.args.normal.now c.args.pairs) = rw (p.1, p.2) (subst (λ (z : List ℤ). IsFlipRefusal c.args.set.now.variables c.args.set.now.items z c.args.pairs c.in_err-below.field-0.0) c.in-Ok-copy.ensures c.in_err-below.ensures.cause) in
+    λ w. flip_within c.args.set.now.variables c.args.set.now.items c.args.normal.now c.args.pairs c.from_residual.result w k
+
+pub early-requires-clause-bounded : goal.early-requires-clause-bounded
+early-requires-clause-bounded c = bounded_at c.args.set.now.variables c.args.set.now.items c.items-items.result.now c.args.normal.now c.args.normal.now c.requires c.items-items.ensures.value c.see_members.ensures refl
+
+pub returns-clause-cause : goal.returns-clause-cause
+returns-clause-cause c = subst (IsFlipRefusal c.args.set.now.variables c.args.set.now.items c.args.normal.now c.args.pairs) (sym c.refused.ensures) (c.in-Err-crossed.ensures.cause c.args.pairs)
+
+pub returns-clause-complete : goal.returns-clause-complete
+returns-clause-complete c = λ w. flip_refusal_within c.args.set.now.variables c.args.set.now.items c.args.normal.now c.args.pairs c.refused.result w (subst (IsFlipRefusal c.args.set.now.variables c.args.set.now.items c.args.normal.now c.args.pairs) (sym c.refused.ensures) (c.in-Err-crossed.ensures.cause c.args.pairs))

@@ -1,0 +1,16 @@
+use Rattle.std.proofs.Common.{arith, sym, subst}
+use Rattle.gf_flip.specs.Turns.{IsUnderway}
+use Rattle.gf_flip.proofs.TurnLaws.{underway-none, whole-start, whole-more}
+use Rattle.gf_flip.proofs.turns.run.Goals as goal
+
+pub enter-requires : goal.enter-requires
+enter-requires c = subst (IsUnderway c.args.task.now.order.now c.args.task.now.n c.args.task.now.list.now) (sym c.new-members.ensures.items) (underway-none c.args.task.now.order.now c.args.task.now.n c.args.task.now.list.now c.requires)
+
+pub turns-init : goal.turns-init
+turns-init c = whole-start c.args.task.now.order.now c.args.task.now.n c.args.task.now.list.now c.enter.new.members.items c.enter-2.new.members.items c.in_ok-enter-2.ensures.underway c.in_ok-enter-2.ensures.kept c.in_ok-enter.ensures.entered c.in_ok-enter-2.ensures.entered
+
+pub take_row-requires-clause-second : goal.take_row-requires-clause-second
+take_row-requires-clause-second c = omega (arith, c.turns.invariant.within, c.if-j-len.false, c.len.ensures)
+
+pub turns-preserved : goal.turns-preserved
+turns-preserved c = whole-more c.args.task.now.order.now c.args.task.now.n c.args.task.now.list.now c.turns.members.items c.take_row.new.members.items c.turns.j c.in_ok-take_row.ensures.turning c.in_ok-take_row.ensures.kept c.in_ok-take_row.ensures.size (omega (arith, c.turns.invariant.within, c.if-j-len.false, c.len.ensures)) c.turns.invariant

@@ -1,0 +1,8 @@
+pub mod Crossings  -- what a flip asks for, and what it answers
+pub mod Limits  -- exponents within the limit
+pub mod Along  -- the terms along a vector
+pub mod Lifting  -- members of the basis of the parts, and their lifts
+pub mod Operations  -- the operations of a flip, and why it is refused
+pub mod Tops  -- lifts that end early
+pub mod Turns  -- a run that takes the pairs in turn
+pub mod Reached  -- bases that a walk reaches

@@ -1,0 +1,24 @@
+-- Lifts that end once nothing is left along the normal. Laws: proofs/TopLaws.antt.
+use Rattle.std.specs.Prelude.{◌≡◌, true, List, ℤ, Contains}
+use Rattle.gf_exponents.specs.Exponents.{Exponents, same}
+use Rattle.gf_poly.specs.declared.Term.{Term}
+use Rattle.gf_poly.specs.Polynomial.{Terms, IsDescending, KeepsVariables}
+use Rattle.gf_poly.specs.Marking.{MarkedPolynomial, Each}
+use Rattle.gf_ideal.specs.Membership.{HasMonomial}
+use Rattle.gf_ideal.specs.Reduction.{Reached}
+use Rattle.gf_ideal.specs.OrderTable.{AreMultipleApart}
+
+-- no listed term is a multiple of a apart from x
+abbrev pub AreOff : List ℤ → Exponents → Terms → Type 0
+AreOff a x f = Each (λ (t : Term). AreMultipleApart a t.mono x → ⊥) f
+
+-- steps by bs lead from f to r, none of whose terms is a multiple of a apart from x
+pub record IsTopRemainder (bs : List MarkedPolynomial) (a : List ℤ) (x : Exponents) (f r : Terms) : Type 0 where
+  pub reached : Reached (Contains bs) f r
+  pub off : AreOff a x r
+  pub kept : KeepsVariables f r
+  pub descending : IsDescending r
+
+-- no monomial of b but the mark is a multiple of a apart from it
+abbrev pub IsAlone : List ℤ → MarkedPolynomial → Type 0
+IsAlone a b = (x : Exponents) → HasMonomial b.poly x → AreMultipleApart a x b.head → same x b.head ≡ true

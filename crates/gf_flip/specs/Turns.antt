@@ -1,0 +1,74 @@
+-- A run of Buchberger's algorithm that takes the pairs in turn: by the second member, then by the first. Where it stands is
+-- told by two places, with no mark of a pair. Laws: proofs/TurnLaws.antt.
+-- Source: Cox, Little, O'Shea, Ideals, Varieties, and Algorithms, 2.7.
+use Rattle.std.specs.Prelude.{◌≡◌, ◌≢◌, ◌⊎◌, ℕ, ◌<◌, Bool, true, false, List, [], ◌∷◌, ◌++◌, length, Contains, slice_index_or}
+use Rattle.gf_exponents.specs.Exponents.{AreCoprime}
+use Rattle.gf_exponents.specs.SixOrders.{MonomialOrder, below_of}
+use Rattle.gf_poly.specs.Polynomial.{Terms, HasVariables, KeepsVariables}
+use Rattle.gf_poly.specs.Marking.{MarkedPolynomial, polys}
+use Rattle.gf_ideal.specs.Membership.{IsMember}
+use Rattle.gf_ideal.specs.Marks.{IsMarked}
+use Rattle.gf_ideal.specs.Reduction.{IsMonicForm, IsSPolynomial, HasOneMonomial}
+use Rattle.gf_ideal.specs.NormalForms.{IsNormalForm}
+use Rattle.gf_ideal.specs.Settled.{IsAt, IsSettledPair}
+use Rattle.gf_ideal.specs.WorkLists.{IsWorkList}
+use Rattle.gf_buchberger.specs.Jobs.{IsBasisJob}
+use Rattle.gf_buchberger.specs.Runs.{MembersHaveVariables}
+
+-- ---- one step
+
+-- the pair needs no reduction: both have one monomial, or the marks are coprime
+abbrev pub ArePairExcused : MarkedPolynomial → MarkedPolynomial → Type 0
+ArePairExcused b c = (HasOneMonomial b × HasOneMonomial c) ⊎ AreCoprime b.head c.head
+
+-- the monic form of r, marked at its greatest monomial, is the last member now
+pub record IsGrown (order : MonomialOrder) (r : Terms) (old new : List MarkedPolynomial) : Type 0 where
+  pub member : MarkedPolynomial
+  pub monic : IsMonicForm r member
+  pub marked : IsMarked (below_of order) member
+  pub poly : (n : ℕ) → HasVariables n r → HasVariables n member.poly
+  pub head : (n : ℕ) → HasVariables n r → length member.head ≡ n
+  pub members : new ≡ old ++ member ∷ []
+
+-- f was reduced by the members: to zero, and they are as before, or what is left is a new member
+pub record IsTakenIn (order : MonomialOrder) (f : Terms) (old new : List MarkedPolynomial) : Type 0 where
+  pub r : Terms
+  pub normal : IsNormalForm old f r
+  pub variables : KeepsVariables f r
+  pub left : ((r ≡ []) × (new ≡ old)) ⊎ ((r ≢ []) × IsGrown order r old new)
+
+-- the pair of the members at i and j is excused, or its S-polynomial was taken in
+pub data IsPairTaken (order : MonomialOrder) (i j : ℕ) (old new : List MarkedPolynomial) : Type 0 where
+  excused : (b c : MarkedPolynomial) → IsAt old i b → IsAt old j c → ArePairExcused b c → new ≡ old → IsPairTaken order i j old new
+  reduced : (b c : MarkedPolynomial) (s : Terms) → IsAt old i b → IsAt old j c → IsSPolynomial b c s →
+      ((n : ℕ) → MembersHaveVariables n old → HasVariables n s) → IsTakenIn order s old new → IsPairTaken order i j old new
+
+-- ---- where a run stands
+
+-- bs is a list of a run on fs in n variables by the order
+pub record IsUnderway (order : MonomialOrder) (n : ℕ) (fs : List Terms) (bs : List MarkedPolynomial) : Type 0 where
+  pub job : IsBasisJob order n fs
+  pub work : IsWorkList fs (below_of order) bs
+  pub variables : MembersHaveVariables n bs
+
+-- f is one term alone, or it isn't
+abbrev pub IsOfKind : Bool → Terms → Type 0
+IsOfKind true f = length f ≡ 1
+IsOfKind false f = length f ≢ 1
+
+-- the first i of the polynomials that are one term alone, or that aren't, are in the ideal of bs
+pub record AreTakenInWhere (n : ℕ) (fs : List Terms) (single : Bool) (i : ℕ) (bs : List MarkedPolynomial) : Type 0 where
+  pub inside : (k : ℕ) (f : Terms) → k < i → slice_index_or fs k f ≡ f → IsOfKind single f → IsMember n (polys bs) f
+
+-- the pair of p and q is taken before that of i and j
+abbrev pub IsEarlier : ℕ → ℕ → ℕ → ℕ → Type 0
+IsEarlier p q i j = (q < j) ⊎ ((q ≡ j) × (p < i))
+
+-- all pairs before that of i and j are settled
+pub record IsTurning (order : MonomialOrder) (n : ℕ) (fs : List Terms) (bs : List MarkedPolynomial) (i j : ℕ) : Type 0 where
+  pub underway : IsUnderway order n fs bs
+  pub settled : (p q : ℕ) (b c : MarkedPolynomial) → p < q → IsEarlier p q i j → IsAt bs p b → IsAt bs q c → IsSettledPair n bs (below_of order) b c
+
+-- each member of the one list is one of the other
+pub record AreKeptIn (old new : List MarkedPolynomial) : Type 0 where
+  pub at : (b : MarkedPolynomial) → Contains old b → Contains new b

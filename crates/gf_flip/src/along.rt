@@ -1,0 +1,110 @@
+//! The terms of a polynomial whose exponents are multiples of a vector apart from the mark.
+
+ghost use Rattle.std.specs.Prelude.{◌≡◌, ◌≢◌, ◌<◌, ◌≤◌, ◌^◌, ◌+◌, ℕ, ℤ, pos, ◌+ℤ◌, ◌-ℤ◌, ◌*ℤ◌, false, All, IfOk, IsTrue, length, get_or, unsigned_abs};
+ghost use Rattle.gf_exponents.specs.Exponents.{entry};
+ghost use Rattle.gf_ideal.specs.OrderTable.{AreMultipleApart};
+ghost use Rattle.gf_poly.specs.Polynomial.{HasVariables};
+ghost use Rattle.gf_poly.specs.Marking.{HaveVariables};
+ghost use Rattle.gf_order.specs.Weights.{AreBounded};
+ghost use Rattle.gf_flip.specs.Along.{HasNonzero, IsAlong, AreAlong};
+
+use gf_poly::{Marked, Mono, Poly, Term};
+use std::alloc::{AllocError, Global};
+
+// The place of an entry that isn't zero.
+pub fn pivot_of(normal: &[i128]) -> usize
+    requires { HasNonzero normal.now }
+    ensures inside { result < length normal.now }
+    ensures nonzero { get_or normal.now result (pos 0) ≢ pos 0 }
+{
+    'entries: for i in 0..normal.len() {
+        if normal[i] != 0 {
+            return i;
+        }
+    }
+    unreachable!()
+}
+
+// The exponent x less y.
+fn less(x: u32, y: u32) -> i128
+    ensures value { result ≡ pos x -ℤ pos y }
+    ensures bound { unsigned_abs result ≤ 2 ^ 32 }
+{
+    x as i128 - y as i128
+}
+
+// A multiple of an entry.
+fn multiple(k: i128, a: i128) -> i128
+    requires small { unsigned_abs k ≤ 2 ^ 32 }
+    requires bounded { unsigned_abs a ≤ 2 ^ 63 }
+    ensures { result ≡ k *ℤ a }
+{
+    k * a
+}
+
+// The number k for which d is k times a, if there is one.
+fn multiplier(d: i128, a: i128) -> i128
+    requires small { unsigned_abs d ≤ 2 ^ 32 }
+    requires nonzero { a ≢ pos 0 }
+    requires bounded { unsigned_abs a ≤ 2 ^ 63 }
+    ensures bound { unsigned_abs result ≤ 2 ^ 32 }
+    ensures value { (k : ℤ) → d ≡ k *ℤ a → result ≡ k }
+{
+    d / a
+}
+
+// Whether the exponents of x are those of y and a multiple of the normal.
+pub fn is_apart(x: &[u32], y: &[u32], normal: &[i128], pivot: usize) -> bool
+    requires same_length { length x.now ≡ length normal.now }
+    requires same_variables { length y.now ≡ length normal.now }
+    requires bounded { AreBounded normal.now }
+    requires inside { pivot < length normal.now }
+    requires nonzero { get_or normal.now pivot (pos 0) ≢ pos 0 }
+    ensures yes { IsTrue result → AreMultipleApart normal.now x.now y.now }
+    ensures no { result ≡ false → AreMultipleApart normal.now x.now y.now → ⊥ }
+{
+    let k = multiplier(less(x[pivot], y[pivot]), normal[pivot]);
+    'entries: for i in 0..normal.len() {
+        if less(x[i], y[i]) != multiple(k, normal[i]) {
+            return false;
+        }
+    }
+    true
+}
+
+// The terms of a member along the normal.
+fn part(alloc: Global, member: &Marked, normal: &[i128], pivot: usize) -> Result<Poly, AllocError>
+    requires variables { HasVariables (length normal.now) member.now.poly }
+    requires bounded { AreBounded normal.now }
+    requires inside { pivot < length normal.now }
+    requires nonzero { get_or normal.now pivot (pos 0) ≢ pos 0 }
+    ensures { IfOk result (IsAlong normal.now member.now) }
+{
+    let terms = member.poly().terms();
+    let head = member.head();
+    let mut kept = Vec::new(alloc);
+    'terms: for i in 0..terms.len() {
+        let t = &terms[i];
+        if is_apart(t.mono.exponents(), head.exponents(), normal, pivot) {
+            kept.push(t.copy())?;
+        }
+    }
+    Ok(Poly::from_descending(kept))
+}
+
+/// The polynomials of the members' parts along the normal.
+pub fn parts(alloc: Global, items: &[Marked], normal: &[i128]) -> Result<Vec<Poly>, AllocError>
+    requires variables { HaveVariables (length normal.now) items.now }
+    requires bounded { AreBounded normal.now }
+    requires nonzero { HasNonzero normal.now }
+    ensures { IfOk result (λ fs. AreAlong normal.now items.now fs.items) }
+{
+    let pivot = pivot_of(normal);
+    let mut all = Vec::with_capacity(alloc, items.len())?;
+    'members: for i in 0..items.len() {
+        let member = &items[i];
+        let poly = part(alloc, member, normal, pivot)?;
+        all.push(poly)?;
+    }
+    Ok(all)
+}

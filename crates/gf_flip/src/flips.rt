@@ -1,0 +1,145 @@
+//! The flip.
+
+ghost use Rattle.std.specs.Prelude.{◌≡◌, ℕ, IfOk, IfErr, IfSome};
+ghost use Rattle.gf_poly.specs.Marking.{HaveVariables};
+ghost use Rattle.gf_order.specs.Weights.{AreBounded};
+ghost use Rattle.gf_buchberger.specs.Bases.{IsWantOfMemory, of_poly_error};
+ghost use Rattle.gf_flip.specs.Crossings.{IsCrossing, IsNeighbour};
+ghost use Rattle.gf_flip.specs.Along.{AreAlong, IsBasisOfParts};
+ghost use Rattle.gf_flip.specs.Operations.{IsFlipRefusal, IsFlipWithinLimits};
+
+use crate::along::parts;
+use crate::lifts::lifts;
+use crate::limits::see_members;
+use crate::tops::top_lifts;
+use crate::turns::{Task, basis_for};
+use gf_buchberger::BasisError;
+use gf_division::autoreduce;
+use gf_order::Order;
+use gf_poly::{Marked, MarkedSet, Poly, PolyError};
+use gf_vec::IntVec;
+use std::alloc::Global;
+
+/// Why there is no flip: as there may be no basis.
+pub type FlipError = BasisError;
+
+// The same refusal, of a flip.
+fn refused(refusal: PolyError) -> FlipError
+    ensures { result ≡ of_poly_error refusal }
+{
+    match refusal {
+        PolyError::Overflow(o) => BasisError::Overflow(o),
+        PolyError::Exponent(o) => BasisError::Exponent(o),
+        PolyError::Memory => BasisError::Memory,
+    }
+}
+
+// The reduced basis of the parts, for the order along the facet.
+fn basis_of_parts(
+    alloc: Global,
+    set: &MarkedSet,
+    list: &[Poly],
+    normal: IntVec,
+    pairs: u64,
+) -> Result<MarkedSet, FlipError>
+    requires crossing { IsCrossing set.now.variables set.now.items normal }
+    requires bounded { AreBounded normal }
+    requires along { AreAlong normal set.now.items list.now }
+    ensures value { IfOk result (λ s. IsBasisOfParts set.now.variables set.now.items normal s.items) }
+    ensures variables { IfOk result (λ s. HaveVariables set.now.variables s.items) }
+    ensures cause { IfErr result (IsFlipRefusal set.now.variables set.now.items normal pairs) }
+{
+    let order = Order::facet(normal);
+    let task = Task {
+        n: set.variables(),
+        list,
+        order: &order,
+    };
+    let below = basis_for(alloc, &task, pairs)?;
+    // Called for the proof alone: the members have the variables of their set.
+    let _ = below.items();
+    Ok(below)
+}
+
+// The basis on the other side, from the remainders by the set.
+fn crossed(
+    alloc: Global,
+    set: &MarkedSet,
+    below: &[Marked],
+    normal: &IntVec,
+) -> Result<MarkedSet, PolyError>
+    requires crossing { IsCrossing set.now.variables set.now.items normal.now }
+    requires variables { HaveVariables set.now.variables below.now }
+    requires parts { IsBasisOfParts set.now.variables set.now.items normal.now below.now }
+    ensures value { IfOk result (λ t. IsNeighbour set.now.variables set.now.items normal.now t.items) }
+    ensures variables { IfOk result (λ t. t.variables ≡ set.now.variables) }
+    ensures cause { IfErr result (λ e. (pairs : ℕ) → IsFlipRefusal set.now.variables set.now.items normal.now pairs (of_poly_error e)) }
+{
+    let lifted = lifts(alloc, below, set)?;
+    let all = MarkedSet::new(set.variables(), lifted);
+    autoreduce(alloc, &all)
+}
+
+// The basis on the other side, from lifts that end early, if all numbers fit.
+fn early(alloc: Global, set: &MarkedSet, below: &[Marked], normal: &IntVec) -> Option<MarkedSet>
+    requires crossing { IsCrossing set.now.variables set.now.items normal.now }
+    requires bounded { AreBounded normal.now }
+    requires variables { HaveVariables set.now.variables below.now }
+    requires parts { IsBasisOfParts set.now.variables set.now.items normal.now below.now }
+    ensures value { IfSome result (λ t. IsNeighbour set.now.variables set.now.items normal.now t.items) }
+    ensures variables { IfSome result (λ t. t.variables ≡ set.now.variables) }
+{
+    let lifted = top_lifts(alloc, below, set.items(), normal.as_slice())?;
+    let all = MarkedSet::new(set.variables(), lifted);
+    match autoreduce(alloc, &all) {
+        Ok(across) => Some(across),
+        Err(_) => None,
+    }
+}
+
+/// The basis on the other side of the facet with this normal.
+///
+/// The set is the marked reduced Gröbner basis of an ideal, in some region, and the normal is one of its flippable ones.
+/// The answer is the neighbour for each such ideal and region, in the variables of the set (Fukuda, Jensen, Thomas,
+/// *Computing Gröbner fans*, 4.2): of the terms of the members along the normal the reduced basis is worked out for the
+/// order along the facet, with at most `pairs` pairs; from each of its members the remainder by the set is taken away;
+/// these lifts are autoreduced.
+///
+/// # Errors
+///
+/// `Overflow` and `Exponent` only at an operation of this one flip: of a run on the parts, of a reduction of a member of
+/// their basis by the set, of the difference with the remainder, or of a step that reduces a tail of the lifts; it holds the
+/// operands, which don't fit. `PairBudget` only where more pairs of a list of a run on the parts would have to be settled.
+/// So where no operation of this flip leaves its range, and no such list has more than `pairs` pairs, only memory may be
+/// wanting.
+pub fn flip(
+    alloc: Global,
+    set: &MarkedSet,
+    normal: &IntVec,
+    pairs: u64,
+) -> Result<MarkedSet, FlipError>
+    requires { IsCrossing set.now.variables set.now.items normal.now }
+    ensures value { IfOk result (λ t. IsNeighbour set.now.variables set.now.items normal.now t.items) }
+    ensures variables { IfOk result (λ t. t.variables ≡ set.now.variables) }
+    ensures cause { IfErr result (IsFlipRefusal set.now.variables set.now.items normal.now pairs) }
+    ensures complete { IsFlipWithinLimits set.now.variables set.now.items normal.now pairs → IfErr result IsWantOfMemory }
+{
+    let items = set.items();
+    see_members(items);
+    let list = match parts(alloc, items, normal.as_slice()) {
+        Ok(list) => list,
+        Err(_) => return Err(BasisError::Memory),
+    };
+    let along = match normal.copy() {
+        Ok(along) => along,
+        Err(_) => return Err(BasisError::Memory),
+    };
+    let below = basis_of_parts(alloc, set, &list, along, pairs)?;
+    if let Some(across) = early(alloc, set, below.items(), normal) {
+        return Ok(across);
+    }
+    match crossed(alloc, set, below.items(), normal) {
+        Ok(across) => Ok(across),
+        Err(refusal) => Err(refused(refusal)),
+    }
+}

@@ -1,0 +1,16 @@
+//! Crossing a facet: the marked reduced Gröbner basis on the other side.
+//!
+//! Start at `flip`. What neighbours are, and why there is one at most, stands in `gf_facets` and `gf_initial`.
+#![tactic(auto)]
+
+mod along;
+mod flips;
+mod lifts;
+mod limits;
+mod tops;
+mod turns;
+
+pub use flips::{FlipError, flip};
+
+#[cfg(test)]
+mod tests;

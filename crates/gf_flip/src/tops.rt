@@ -1,0 +1,251 @@
+//! Lifts that end once nothing is left along the normal: members of the basis of the parts, less what steps lead to.
+
+ghost use Rattle.std.specs.Prelude.{◌≡◌, ◌≢◌, ◌<◌, ℤ, pos, false, [], length, get_or, IfOk, IfSome, IsTrue, OnOk};
+ghost use Rattle.gf_frac.specs.Fraction.{one_ℚ};
+ghost use Rattle.gf_poly.specs.Marking.{HaveVariables};
+ghost use Rattle.gf_poly.specs.Polynomial.{coefficient, HasVariables, IsDescending, KeepsVariables};
+ghost use Rattle.gf_ideal.specs.Marks.{HasPositiveWeight};
+ghost use Rattle.gf_division.specs.NormalForms.{HasSomeWeight};
+ghost use Rattle.gf_division.specs.Dividends.{split_of, joined_terms, IsSound};
+ghost use Rattle.gf_initial.specs.Lifts.{IsTopLift, AreTopLifts};
+ghost use Rattle.gf_order.specs.Weights.{AreBounded};
+ghost use Rattle.gf_flip.specs.Along.{HasNonzero};
+ghost use Rattle.gf_flip.specs.Lifting.{AreMonic};
+ghost use Rattle.gf_ideal.specs.OrderTable.{AreMultipleApart};
+ghost use Rattle.gf_flip.specs.Tops.{AreOff, IsTopRemainder, IsAlone};
+
+use crate::along::{is_apart, pivot_of};
+use gf_division::{Dividend, divisor_of, place_of};
+use gf_poly::{Marked, Mono, Poly};
+use std::alloc::{AllocError, Global};
+use std::cmp::Ordering;
+
+// Moves the place down to the first term that is a multiple of the normal apart from `x`; whether there is one.
+fn seek_line(
+    rest: &mut Dividend,
+    x: &Mono,
+    normal: &[i128],
+    pivot: usize,
+) -> Result<bool, AllocError>
+    requires sound { IsSound (length normal.now) (split_of rest.old) }
+    requires variables { length x.now ≡ length normal.now }
+    requires bounded { AreBounded normal.now }
+    requires inside { pivot < length normal.now }
+    requires nonzero { get_or normal.now pivot (pos 0) ≢ pos 0 }
+    requires above { AreOff normal.now x.now (split_of rest.old).above }
+    ensures same { OnOk result (joined_terms (split_of rest.new) ≡ joined_terms (split_of rest.old)) }
+    ensures above { OnOk result (AreOff normal.now x.now (split_of rest.new).above) }
+    ensures end { IfOk result (λ b. b ≡ false → (split_of rest.new).below ≡ []) }
+{
+    'terms: while let Some(t) = rest.next() {
+        if is_apart(t.mono.exponents(), x.exponents(), normal, pivot) {
+            return Ok(true);
+        }
+        rest.advance()?;
+    }
+    Ok(false)
+}
+
+// What steps by the members lead to once no term is a multiple of the normal apart from `x`, if such a term is always one
+// that a member reduces.
+fn top_remainder(
+    alloc: Global,
+    f: Poly,
+    by: &[Marked],
+    x: &Mono,
+    normal: &[i128],
+    pivot: usize,
+) -> Option<Poly>
+    requires marked { HasSomeWeight by.now }
+    requires poly { HasVariables (length normal.now) f }
+    requires members { HaveVariables (length normal.now) by.now }
+    requires variables { length x.now ≡ length normal.now }
+    requires bounded { AreBounded normal.now }
+    requires inside { pivot < length normal.now }
+    requires nonzero { get_or normal.now pivot (pos 0) ≢ pos 0 }
+    ensures { IfSome result (IsTopRemainder by.now normal.now x.now f) }
+{
+    let mut rest = Dividend::new(alloc, f);
+    'steps: loop {
+        match seek_line(&mut rest, x, normal, pivot) {
+            Ok(true) => {}
+            Ok(false) => break,
+            Err(_) => return None,
+        }
+        let j = match rest.next() {
+            Some(t) => {
+                // Its exponents are within the limit: the accessor says so.
+                let _ = t.mono.exponents();
+                divisor_of(&t.mono, by)?
+            }
+            None => return None,
+        };
+        let member = &by[j];
+        match rest.step(member) {
+            Ok(_) => {}
+            Err(_) => return None,
+        }
+    }
+    match rest.into_poly() {
+        Ok(left) => Some(left),
+        Err(_) => None,
+    }
+}
+
+// A member less what steps by the set lead to, marked as it is.
+fn top_lift(
+    alloc: Global,
+    member: &Marked,
+    by: &[Marked],
+    normal: &[i128],
+    pivot: usize,
+) -> Option<Marked>
+    requires marked { HasSomeWeight by.now }
+    requires poly { HasVariables (length normal.now) member.now.poly }
+    requires monic { coefficient member.now.poly member.now.head ≡ one_ℚ }
+    requires members { HaveVariables (length normal.now) by.now }
+    requires bounded { AreBounded normal.now }
+    requires inside { pivot < length normal.now }
+    requires nonzero { get_or normal.now pivot (pos 0) ≢ pos 0 }
+    ensures value { IfSome result (IsTopLift by.now normal.now member.now) }
+    ensures variables { IfSome result (λ l. HasVariables (length normal.now) l.poly) }
+{
+    let copy = match member.poly().copy() {
+        Ok(copy) => copy,
+        Err(_) => return None,
+    };
+    let rest = top_remainder(alloc, copy, by, member.head(), normal, pivot)?;
+    let poly = match member.poly().sub(&rest) {
+        Ok(poly) => poly,
+        Err(_) => return None,
+    };
+    let place = place_of(poly.terms(), member.head());
+    Some(Marked::mark(poly, place))
+}
+
+// The lift, of the one kind or the other.
+fn lifted(
+    alloc: Global,
+    member: &Marked,
+    by: &[Marked],
+    normal: &[i128],
+    pivot: usize,
+) -> Option<Marked>
+    requires marked { HasSomeWeight by.now }
+    requires poly { HasVariables (length normal.now) member.now.poly }
+    requires monic { coefficient member.now.poly member.now.head ≡ one_ℚ }
+    requires members { HaveVariables (length normal.now) by.now }
+    requires bounded { AreBounded normal.now }
+    requires inside { pivot < length normal.now }
+    requires nonzero { get_or normal.now pivot (pos 0) ≢ pos 0 }
+    ensures value { IfSome result (IsTopLift by.now normal.now member.now) }
+    ensures variables { IfSome result (λ l. HasVariables (length normal.now) l.poly) }
+{
+    match untouched(alloc, member, by, normal, pivot) {
+        Some(copy) => Some(copy),
+        None => top_lift(alloc, member, by, normal, pivot),
+    }
+}
+
+// Whether no term of the member but the marked one is a multiple of the normal apart from the mark.
+fn is_alone(member: &Marked, normal: &[i128], pivot: usize) -> bool
+    requires variables { HasVariables (length normal.now) member.now.poly }
+    requires bounded { AreBounded normal.now }
+    requires inside { pivot < length normal.now }
+    requires nonzero { get_or normal.now pivot (pos 0) ≢ pos 0 }
+    ensures { IsTrue result → IsAlone normal.now member.now }
+{
+    let head = member.head();
+    let terms = member.poly().terms();
+    'terms: for i in 0..terms.len() {
+        let t = &terms[i];
+        if is_beside_on_line(&t.mono, head, normal, pivot) {
+            return false;
+        }
+    }
+    true
+}
+
+// Whether `x` is another monomial than the head, and a multiple of the normal apart from it.
+fn is_beside_on_line(x: &Mono, head: &Mono, normal: &[i128], pivot: usize) -> bool
+    requires same_length { length x.now ≡ length normal.now }
+    requires same_variables { length head.now ≡ length normal.now }
+    requires bounded { AreBounded normal.now }
+    requires inside { pivot < length normal.now }
+    requires nonzero { get_or normal.now pivot (pos 0) ≢ pos 0 }
+    ensures { result ≡ false → AreMultipleApart normal.now x.now head.now → x.now ≡ head.now }
+{
+    match x.compare(head) {
+        Ordering::Equal => false,
+        _ => is_apart(x.exponents(), head.exponents(), normal, pivot),
+    }
+}
+
+// The member of the set with the mark of a monomial, if no other term of it is along the normal.
+fn untouched(
+    alloc: Global,
+    member: &Marked,
+    by: &[Marked],
+    normal: &[i128],
+    pivot: usize,
+) -> Option<Marked>
+    requires marked { HasSomeWeight by.now }
+    requires poly { HasVariables (length normal.now) member.now.poly }
+    requires monic { coefficient member.now.poly member.now.head ≡ one_ℚ }
+    requires members { HaveVariables (length normal.now) by.now }
+    requires bounded { AreBounded normal.now }
+    requires inside { pivot < length normal.now }
+    requires nonzero { get_or normal.now pivot (pos 0) ≢ pos 0 }
+    ensures value { IfSome result (IsTopLift by.now normal.now member.now) }
+    ensures variables { IfSome result (λ l. HasVariables (length normal.now) l.poly) }
+{
+    if member.poly().terms().len() != 1 {
+        return None;
+    }
+    let head = member.head();
+    'members: for j in 0..by.len() {
+        let other = &by[j];
+        if let Ordering::Equal = other.head().compare(head) {
+            if !is_alone(other, normal, pivot) {
+                return None;
+            }
+            return match other.copy() {
+                Ok(copy) => Some(copy),
+                Err(_) => None,
+            };
+        }
+    }
+    None
+}
+
+/// The members less what steps by the set lead to, marked as they are, if nothing of a remainder is a multiple of the
+/// normal apart from the mark, and all numbers fit.
+pub fn top_lifts(
+    alloc: Global,
+    items: &[Marked],
+    by: &[Marked],
+    normal: &[i128],
+) -> Option<Vec<Marked>>
+    requires marked { HasSomeWeight by.now }
+    requires variables { HaveVariables (length normal.now) items.now }
+    requires monic { AreMonic items.now }
+    requires members { HaveVariables (length normal.now) by.now }
+    requires bounded { AreBounded normal.now }
+    requires nonzero { HasNonzero normal.now }
+    ensures value { IfSome result (λ ls. AreTopLifts by.now normal.now items.now ls.items) }
+    ensures variables { IfSome result (λ ls. HaveVariables (length normal.now) ls.items) }
+{
+    let pivot = pivot_of(normal);
+    let mut all = match Vec::with_capacity(alloc, items.len()) {
+        Ok(all) => all,
+        Err(_) => return None,
+    };
+    'members: for i in 0..items.len() {
+        let lifted = lifted(alloc, &items[i], by, normal, pivot)?;
+        match all.push(lifted) {
+            Ok(()) => {}
+            Err(_) => return None,
+        }
+    }
+    Some(all)
+}

@@ -1,0 +1,217 @@
+//! The reduced basis of few small polynomials by a run that takes the pairs in turn: no pair waits in a queue, and none is
+//! marked. Nothing is told of a refusal.
+
+ghost use Rattle.std.specs.Prelude.{◌≡◌, ◌≢◌, ◌+◌, ◌<◌, ◌≤◌, ℕ, true, false, [], length, IfSome, IfOk, IfErr, IsTrue};
+ghost use Rattle.gf_exponents.specs.Exponents.{AreCoprime};
+ghost use Rattle.gf_poly.specs.Polynomial.{HasVariables};
+ghost use Rattle.gf_ideal.specs.Reduction.{HasOneMonomial};
+ghost use Rattle.gf_division.specs.NormalForms.{HasSomeWeight};
+ghost use Rattle.gf_buchberger.specs.Jobs.{IsBasisJob};
+ghost use Rattle.gf_buchberger.specs.Runs.{MembersHaveVariables, IsAppendable};
+ghost use Rattle.gf_buchberger.specs.Bases.{IsArrangedBasis, IsBasisRefusal};
+ghost use Rattle.gf_flip.specs.Turns.{ArePairExcused, IsGrown, IsTakenIn, IsPairTaken, IsUnderway, IsOfKind, AreTakenInWhere, IsTurning, AreKeptIn};
+
+use gf_buchberger::{BasisError, basis, leading_place};
+use gf_division::{autoreduce, reduced, s_poly};
+use gf_order::Order;
+use gf_poly::{Marked, MarkedSet, Mono, Poly};
+use std::alloc::Global;
+
+/// What a run works on: the polynomials in `n` variables, and the order.
+#[derive(Clone, Copy)]
+pub struct Task<'a> {
+    pub n: u32,
+    pub list: &'a [Poly],
+    pub order: &'a Order,
+}
+
+// Whether no variable occurs in both.
+fn are_coprime(x: &Mono, y: &Mono) -> bool
+    requires { length x.now ≡ length y.now }
+    ensures { IsTrue result → AreCoprime x.now y.now }
+{
+    let (x, y) = (x.exponents(), y.exponents());
+    'variables: for i in 0..x.len() {
+        if x[i].min(y[i]) != 0 {
+            return false;
+        }
+    }
+    true
+}
+
+// Whether the member has no monomial but the marked one.
+fn is_single(member: &Marked) -> bool
+    ensures { IsTrue result → HasOneMonomial member.now }
+{
+    // Called for the proof alone: what `head` ensures says that the mark is that of a term.
+    let _ = member.head();
+    member.poly().terms().len() == 1
+}
+
+// Whether the pair needs no reduction: both have one monomial alone, or the marks are coprime.
+fn is_excused(b: &Marked, c: &Marked) -> bool
+    requires { length b.now.head ≡ length c.now.head }
+    ensures { IsTrue result → ArePairExcused b.now c.now }
+{
+    if is_single(b) && is_single(c) {
+        return true;
+    }
+    are_coprime(b.head(), c.head())
+}
+
+// Adds the monic form of `r` as a member, marked at its greatest monomial.
+fn grow(members: &mut Vec<Marked>, order: &Order, r: Poly) -> Option<()>
+    requires some { r ≢ [] }
+    requires variables { IsAppendable order.now r members.old.items }
+    ensures { IfSome result (λ _. IsGrown order.now r members.old.items members.new.items) }
+{
+    let at = leading_place(order, r.terms());
+    let member = match Marked::mark(r, at).monic() {
+        Ok(member) => member,
+        Err(_) => return None,
+    };
+    // Called for the proof alone: the mark is that of a term.
+    let _ = member.head();
+    match members.push(member) {
+        Ok(()) => {}
+        Err(_) => return None,
+    }
+    Some(())
+}
+
+// Reduces a polynomial by the members; what is left is a new member.
+fn take_in(alloc: Global, members: &mut Vec<Marked>, order: &Order, f: Poly) -> Option<()>
+    requires variables { IsAppendable order.now f members.old.items }
+    requires marked { HasSomeWeight members.old.items }
+    ensures { IfSome result (λ _. IsTakenIn order.now f members.old.items members.new.items) }
+{
+    let r = match reduced(alloc, f, members) {
+        Ok(r) => r,
+        Err(_) => return None,
+    };
+    if r.is_zero() {
+        return Some(());
+    }
+    grow(members, order, r)?;
+    Some(())
+}
+
+// Whether the polynomial is one term alone, or isn't.
+fn is_of_kind(f: &Poly, single: bool) -> bool
+    ensures yes { IsTrue result → IsOfKind single f.now }
+    ensures no { result ≡ false → IsOfKind single f.now → ⊥ }
+{
+    if single {
+        return f.terms().len() == 1;
+    }
+    f.terms().len() != 1
+}
+
+// Each of the polynomials is taken in that is one term alone, or that isn't.
+fn enter(alloc: Global, task: &Task, members: &mut Vec<Marked>, single: bool) -> Option<()>
+    requires { IsUnderway task.now.order.now task.now.n task.now.list.now members.old.items }
+    ensures underway { IfSome result (λ _. IsUnderway task.now.order.now task.now.n task.now.list.now members.new.items) }
+    ensures kept { IfSome result (λ _. AreKeptIn members.old.items members.new.items) }
+    ensures entered { IfSome result (λ _. AreTakenInWhere task.now.n task.now.list.now single (length task.now.list.now) members.new.items) }
+{
+    'list: for i in 0..task.list.len() {
+        let f = &task.list[i];
+        if is_of_kind(f, single) {
+            let copy = match f.copy() {
+                Ok(copy) => copy,
+                Err(_) => return None,
+            };
+            take_in(alloc, members, task.order, copy)?;
+        }
+    }
+    Some(())
+}
+
+// Settles the pair of i and j.
+fn take_turn(
+    alloc: Global,
+    members: &mut Vec<Marked>,
+    task: &Task,
+    i: usize,
+    j: usize,
+) -> Option<()>
+    requires turning { IsTurning task.now.order.now task.now.n task.now.list.now members.old.items i j }
+    requires pair { i < j }
+    requires second { j < length members.old.items }
+    ensures turning { IfSome result (λ _. IsTurning task.now.order.now task.now.n task.now.list.now members.new.items (i + 1) j) }
+    ensures kept { IfSome result (λ _. AreKeptIn members.old.items members.new.items) }
+    ensures size { IfSome result (λ _. length members.old.items ≤ length members.new.items) }
+{
+    let (b, c) = (&members[i], &members[j]);
+    if is_excused(b, c) {
+        return Some(());
+    }
+    let s = match s_poly(alloc, b, c) {
+        Ok(s) => s,
+        Err(_) => return None,
+    };
+    take_in(alloc, members, task.order, s)?;
+    Some(())
+}
+
+// Settles the pairs of j with the members before it.
+fn take_row(alloc: Global, members: &mut Vec<Marked>, task: &Task, j: usize) -> Option<()>
+    requires turning { IsTurning task.now.order.now task.now.n task.now.list.now members.old.items 0 j }
+    requires second { j < length members.old.items }
+    ensures turning { IfSome result (λ _. IsTurning task.now.order.now task.now.n task.now.list.now members.new.items 0 (j + 1)) }
+    ensures kept { IfSome result (λ _. AreKeptIn members.old.items members.new.items) }
+    ensures size { IfSome result (λ _. length members.old.items ≤ length members.new.items) }
+{
+    'members: for i in 0..j {
+        take_turn(alloc, members, task, i, j)?;
+    }
+    Some(())
+}
+
+// All polynomials are taken in, and all pairs are settled; at most `bound` members are worked off.
+fn run(alloc: Global, task: &Task, bound: u64) -> Option<Vec<Marked>>
+    requires { IsBasisJob task.now.order.now task.now.n task.now.list.now }
+    ensures turning { IfSome result (λ bs. IsTurning task.now.order.now task.now.n task.now.list.now bs.items 0 (length bs.items)) }
+    ensures single { IfSome result (λ bs. AreTakenInWhere task.now.n task.now.list.now true (length task.now.list.now) bs.items) }
+    ensures other { IfSome result (λ bs. AreTakenInWhere task.now.n task.now.list.now false (length task.now.list.now) bs.items) }
+{
+    let mut members = Vec::new(alloc);
+    enter(alloc, task, &mut members, true)?;
+    enter(alloc, task, &mut members, false)?;
+    'turns: for j in 0..bound {
+        if j as usize == members.len() {
+            return Some(members);
+        }
+        take_row(alloc, &mut members, task, j as usize)?;
+    }
+    None
+}
+
+// The reduced basis, if all numbers fit and no list has more members than `bound`.
+fn basis_in_turn(alloc: Global, task: &Task, bound: u64) -> Option<MarkedSet>
+    requires { IsBasisJob task.now.order.now task.now.n task.now.list.now }
+    ensures { IfSome result (IsArrangedBasis task.now.order.now task.now.n task.now.list.now) }
+{
+    let members = run(alloc, task, bound)?;
+    let set = MarkedSet::new(task.n, members);
+    match autoreduce(alloc, &set) {
+        Ok(basis) => Some(basis),
+        Err(_) => None,
+    }
+}
+
+/// The reduced basis: by a run that takes the pairs in turn, and where that is refused by `basis`, whose refusal is told.
+///
+/// # Errors
+///
+/// Those of `basis`.
+pub fn basis_for(alloc: Global, task: &Task, pairs: u64) -> Result<MarkedSet, BasisError>
+    requires { IsBasisJob task.now.order.now task.now.n task.now.list.now }
+    ensures value { IfOk result (IsArrangedBasis task.now.order.now task.now.n task.now.list.now) }
+    ensures cause { IfErr result (IsBasisRefusal task.now.order.now task.now.n task.now.list.now pairs) }
+{
+    if let Some(basis) = basis_in_turn(alloc, task, pairs) {
+        return Ok(basis);
+    }
+    basis(alloc, task.n, task.list, task.order, pairs)
+}
