@@ -124,13 +124,19 @@ buchberger_sound = record {
   limits = λ rows h. pairs_within rows h.1.1.0;
 }
 
+leading_terms_sound : IsSound leading_terms
+leading_terms_sound = record {
+  holds = λ rows ok. (is_flag (as_built (shape leading_terms)).rules (codes "m") rows (λ text. refl) ok, tt);
+  limits = λ rows h. tt;
+}
+
 -- a command without options and numbers
 plain_sound : (e : Entry) → e.options ≡ [] → ((rows : List Row) → HasNumbersInRange (e.job rows)) → IsSound e
 plain_sound e none limits = record { holds = λ rows ok. subst (λ os. HoldChoices os rows) (sym none) tt; limits = λ rows h. limits rows }
 
 all_sound : AreSound commands
 unfolding AreSound
-all_sound = (buchberger_sound, refl, (plain_sound is_marked_groebner_basis refl (λ rows. tt), refl, (plain_sound leading_terms refl (λ rows. tt), refl, tt)))
+all_sound = (buchberger_sound, refl, (plain_sound is_marked_groebner_basis refl (λ rows. tt), refl, (leading_terms_sound, refl, tt)))
 
 -- the rows of each command hold what its options take
 command_of : (m : Text × List Row) → Enters program m → IsCommand m

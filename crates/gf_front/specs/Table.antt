@@ -15,7 +15,7 @@ use Rattle.clap.specs.declared.builder.value_parser.ValueParser.TheVariants as p
 
 -- ---- options, each at most once
 
--- an option without a value: a hyphen and this letter (w is 119, r is 114)
+-- an option without a value: a hyphen and this letter (m is 109, r is 114, w is 119)
 abbrev pub flag : Text → ℕ → Rule
 flag id letter = record (new_rule id) { short = Some letter; action = Some SetTrue }
 
@@ -68,7 +68,11 @@ abbrev pub is_marked_groebner_basis : Entry
 is_marked_groebner_basis = record { name = codes "_ismarkedgroebnerbasis"; options = []; job = λ rows. jobs.IsMarkedGroebnerBasis }
 
 abbrev pub leading_terms : Entry
-leading_terms = record { name = codes "_leadingterms"; options = []; job = λ rows. jobs.LeadingTerms }
+leading_terms = record {
+  name = codes "_leadingterms";
+  options = a_flag (codes "m") 109 ∷ [];
+  job = λ rows. jobs.LeadingTerms (flag_of (codes "m") rows);
+}
 
 abbrev pub commands : List Entry
 commands = buchberger ∷ is_marked_groebner_basis ∷ leading_terms ∷ []

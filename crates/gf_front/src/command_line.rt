@@ -3,7 +3,7 @@
 //! clap reads the words by the table; what it would say of a fault is never printed.
 ghost use Rattle.std.specs.Prelude.{◌≡◌, [], IfOk, IsErrOf, map, string_bytes, codes, Some};
 ghost use Rattle.clap.specs.Words.{found_of, rows_of, one_of, kind_of};
-ghost use Rattle.gf_front.specs.Table.{most_pairs, flag_of, number_of, buchberger};
+ghost use Rattle.gf_front.specs.Table.{most_pairs, flag_of, number_of, buchberger, leading_terms};
 ghost use Rattle.gf_front.specs.Jobs.{renamed, HasMatch, IsJobOfMatch, IsMatched, IsJobOf, HasNumbersInRange, job_of};
 ghost use Rattle.gf_front.specs.Options.{HoldsFlag, HoldsNumber, HoldChoices, IsCommand};
 
@@ -29,8 +29,11 @@ pub enum Job {
     },
     /// Whether a marked set is a Gröbner basis for its marking.
     IsMarkedGroebnerBasis,
-    /// The leading terms of a marked set.
-    LeadingTerms,
+    /// The leading terms of a marked set, or of each of a list.
+    LeadingTerms {
+        /// `-m`: a list of marked sets is read.
+        listed: bool,
+    },
 }
 
 /// Why there is no job.
@@ -79,6 +82,16 @@ fn buchberger(found: &ArgMatches) -> Job
     }
 }
 
+/// The job of `_leadingterms`.
+fn leading_terms(found: &ArgMatches) -> Job
+    requires { HoldChoices leading_terms.options (rows_of (found_of found.now)) }
+    ensures { leading_terms.job (rows_of (found_of found.now)) ≡ result }
+{
+    Job::LeadingTerms {
+        listed: flag(found, "m"),
+    }
+}
+
 /// The job of a command with its options.
 fn job_of(name: &str, found: &ArgMatches) -> Job
     requires { IsCommand (name.now, rows_of (found_of found.now)) }
@@ -87,7 +100,7 @@ fn job_of(name: &str, found: &ArgMatches) -> Job
     match name {
         "_buchberger" => buchberger(found),
         "_ismarkedgroebnerbasis" => Job::IsMarkedGroebnerBasis,
-        "_leadingterms" => Job::LeadingTerms,
+        "_leadingterms" => leading_terms(found),
         _ => unreachable!(),
     }
 }

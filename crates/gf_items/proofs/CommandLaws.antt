@@ -1,16 +1,17 @@
 -- A source is answered in one way by a command: what is refused exactly where a condition holds is refused so wherever it holds, and
 -- within its limits the command answers.
--- To cite: IsExactCommand, exact, no_answer, in_reach, of_job. The rest are steps.
+-- To cite: IsExactCommand, exact, no_answer, in_reach, of_job; IsTestedCommand, tested, no_tested_answer. The rest are steps.
 use Rattle.std.specs.Prelude.{◌≡◌, ◌⊎◌, ℕ, List}
-use Rattle.std.proofs.Common.{refl, sym, ◌∙◌, subst, inl, inr}
+use Rattle.std.proofs.Common.{refl, sym, ap, ◌∙◌, subst, inl, inr}
 use Rattle.gf_text.specs.declared.error.TextError.{TextError}
 use Rattle.gf_text.specs.declared.error.TextError.TheVariants as errors
 use Rattle.gf_front.specs.declared.refusal.Refusal.{Refusal}
 use Rattle.gf_front.specs.declared.refusal.Refusal.TheVariants as refusals
 use Rattle.gf_items.specs.Items.{IsTextOf}
 use Rattle.gf_items.specs.Checks.{AllHold, FirstFails}
-use Rattle.gf_items.specs.Commands.{Command, of_text, IsExactRefusal, IsOfWork, IsOfJob, IsUnanswered, IsAnswered, IsCommandRefused, IsInReach}
-use Rattle.gf_items.proofs.ReadingLaws.{IsReadOnce, Reading, stopped, whole, IsGood, Ends, ends_once, text_ends}
+use Rattle.gf_items.specs.Commands.{Command, of_text, IsExactRefusal, IsOfNumbers, IsOfTest, IsOfWork, IsOfJob, IsUnanswered, IsAnswered, IsCommandRefused, IsInReach}
+use Rattle.gf_items.specs.ReadOnce.{IsReadOnce}
+use Rattle.gf_items.proofs.ReadingLaws.{said, source_once, Reading, stopped, whole, IsGood, Ends, ends_once, text_ends}
 use Rattle.gf_items.proofs.CheckLaws.{AreCheckedOnce, first_once, first_apart, first_kind}
 
 -- the items of a command are read once, its checks fail once, its work is refused as work is, and within its limits not at all
@@ -20,14 +21,41 @@ pub record IsExactCommand (c : Command) : Type 0 where
   pub work : (a : c.Value) (r : Refusal) → c.IsCause a r → IsOfWork r
   pub within : (a : c.Value) (r : Refusal) → c.IsWithin a → c.IsCause a r → r ≡ refusals.Memory
 
+-- A test that takes work fails in one way, unless the numbers of the work don't fit; and then nothing is answered.
+pub record IsTestedCommand (c : Command) : Type 0 where
+  pub tests : (a : c.Value) (r d : Refusal) → IsOfTest r → c.IsCause a r → c.IsCause a d → (d ≡ r) ⊎ IsOfNumbers d
+  pub answers : (a : c.Value) (r : Refusal) (text : List ℕ) → IsOfTest r → c.IsCause a r → c.IsAnswer a text → ⊥
+
 -- a refusal is of one kind
 work_apart : (r : Refusal) → IsOfWork r → IsExactRefusal r → ⊥
+work_apart (refusals.WideVector o) w e = elim e [ inl x ↦ x | inr x ↦ x ]
 work_apart (refusals.Overflow o) w e = elim e [ inl x ↦ x | inr x ↦ x ]
 work_apart (refusals.ExponentOverflow o) w e = elim e [ inl x ↦ x | inr x ↦ x ]
 work_apart (refusals.ConeOverflow row op left right) w e = elim e [ inl x ↦ x | inr x ↦ x ]
 work_apart (refusals.PairBudget basis unsettled) w e = elim e [ inl x ↦ x | inr x ↦ x ]
+work_apart (refusals.NotReduced set polynomial term) w e = elim e [ inl x ↦ x | inr x ↦ x ]
+work_apart (refusals.NotBasis set first second remainder) w e = elim e [ inl x ↦ x | inr x ↦ x ]
+work_apart (refusals.Inconsistent set multipliers) w e = elim e [ inl x ↦ x | inr x ↦ x ]
+work_apart (refusals.ListLimit written) w e = elim e [ inl x ↦ x | inr x ↦ x ]
 work_apart refusals.Memory w e = elim e [ inl x ↦ x | inr x ↦ x ]
 work_apart _ w e = absurd w
+
+test_work : (r : Refusal) → IsOfTest r → IsOfWork r
+test_work (refusals.NotReduced set polynomial term) t = tt
+test_work (refusals.NotBasis set first second remainder) t = tt
+test_work (refusals.Inconsistent set multipliers) t = tt
+test_work (refusals.ListLimit written) t = tt
+test_work _ t = absurd t
+
+text_no_test : (e : TextError) → IsOfTest (of_text e) → ⊥
+text_no_test (errors.Overflow o) t = t
+text_no_test (errors.Exponent o) t = t
+text_no_test (errors.Syntax s) t = t
+text_no_test (errors.TooWide at) t = t
+text_no_test (errors.UnknownName at) t = t
+text_no_test (errors.TooManyVariables count) t = t
+text_no_test (errors.ZeroPolynomial set index) t = t
+text_no_test errors.Memory t = t
 
 text_kind : (e : TextError) → IsOfJob (of_text e)
 text_kind (errors.Overflow o) = inr tt
@@ -134,3 +162,46 @@ module _ (c : Command) (laws : IsExactCommand c) (source : List ℕ) where
   of_job r (IsCommandRefused.behind_text a h (IsUnanswered.in_work g w)) = inr (laws.work a r w)
   of_job r (IsCommandRefused.behind_text a h (IsUnanswered.no_memory m)) = subst IsOfJob (sym m) (inr tt)
   of_job r (IsCommandRefused.no_memory m) = subst IsOfJob (sym m) (inr tt)
+
+-- ---- tests that take work
+
+module _ (c : Command) (laws : IsExactCommand c) (tests : IsTestedCommand c) (source : List ℕ) where
+  -- where a test fails, the source is read, is of its form, and the work on it is refused so
+  record Failed (r : Refusal) : Type 0 where
+    value : c.Value
+    read : IsTextOf c.items source value
+    formed : AllHold (c.checks value)
+    cause : c.IsCause value r
+
+  failed : (r : Refusal) → IsOfTest r → IsCommandRefused c source r → Failed r
+  failed r t (IsCommandRefused.in_text e h q) = absurd (text_no_test e (subst IsOfTest q t))
+  failed r t (IsCommandRefused.behind_text a h (IsUnanswered.in_form f)) = absurd (work_apart r (test_work r t) (first_kind (c.checks a) (laws.checks source a h) r f))
+  failed r t (IsCommandRefused.behind_text a h (IsUnanswered.in_work g w)) = record { value = a; read = h; formed = g; cause = w }
+  failed r t (IsCommandRefused.behind_text a h (IsUnanswered.no_memory m)) = absurd (subst IsOfTest m t)
+  failed r t (IsCommandRefused.no_memory m) = absurd (subst IsOfTest m t)
+
+  no_room : (r d : Refusal) → d ≡ refusals.Memory → (d ≡ r) ⊎ IsOfNumbers d
+  no_room r d m = inr (subst IsOfNumbers (sym m) tt)
+
+  other_unanswered : (r d : Refusal) → IsOfTest r → (f : Failed r) → IsUnanswered c f.value d → (d ≡ r) ⊎ IsOfNumbers d
+  other_unanswered r d t f (IsUnanswered.in_form k) = absurd (first_apart (c.checks f.value) (laws.checks source f.value f.read) d f.formed k)
+  other_unanswered r d t f (IsUnanswered.in_work g w) = tests.tests f.value r d t f.cause w
+  other_unanswered r d t f (IsUnanswered.no_memory m) = no_room r d m
+
+  other_refused : (r d : Refusal) → IsOfTest r → Failed r → IsCommandRefused c source d → (d ≡ r) ⊎ IsOfNumbers d
+  other_refused r d t f (IsCommandRefused.in_text e h q) = elim (said e) [
+    | inl m ↦ no_room r d (q ∙ ap of_text m)
+    | inr n ↦ absurd ((source_once c.items laws.items source).apart f.value e f.read h n)
+  ]
+  other_refused r d t f (IsCommandRefused.behind_text b h u) = other_unanswered r d t f (subst (λ a. IsUnanswered c a d) ((source_once c.items laws.items source).once f.value b f.read h) u)
+  other_refused r d t f (IsCommandRefused.no_memory m) = no_room r d m
+
+  -- where a test fails, no other refusal is there but of the numbers of the work
+  pub tested : (r d : Refusal) → IsOfTest r → IsCommandRefused c source r → IsCommandRefused c source d → (d ≡ r) ⊎ IsOfNumbers d
+  tested r d t h k = other_refused r d t (failed r t h) k
+
+  -- and nothing is answered
+  pub no_tested_answer : (r : Refusal) (text : List ℕ) → IsOfTest r → IsCommandRefused c source r → IsAnswered c source text → ⊥
+  no_tested_answer r text t h a =
+      let f = failed r t h in
+      tests.answers f.value r text t f.cause (subst (λ z. c.IsAnswer z text) ((source_once c.items laws.items source).once f.value a.value f.read a.read) a.answer.is_answer)

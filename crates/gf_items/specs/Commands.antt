@@ -41,11 +41,35 @@ abbrev pub IsExactRefusal : Refusal → Type 0
 IsExactRefusal r = IsOfText r ⊎ IsOfForm r
 
 -- two numbers don't fit, or a budget is spent, or there is no memory
+abbrev pub IsOfNumbers : Refusal → Type 0
+IsOfNumbers (refusals.WideVector w) = Unit {0}
+IsOfNumbers (refusals.Overflow o) = Unit {0}
+IsOfNumbers (refusals.ExponentOverflow o) = Unit {0}
+IsOfNumbers (refusals.ConeOverflow row op left right) = Unit {0}
+IsOfNumbers (refusals.PairBudget basis unsettled) = Unit {0}
+IsOfNumbers refusals.Memory = Unit {0}
+IsOfNumbers _ = ⊥
+
+-- What is read fails a test that takes work, or the list that is written has come to its limit: where its condition holds there is
+-- no other, unless the numbers of the work before it don't fit.
+abbrev pub IsOfTest : Refusal → Type 0
+IsOfTest (refusals.NotReduced set polynomial term) = Unit {0}
+IsOfTest (refusals.NotBasis set first second remainder) = Unit {0}
+IsOfTest (refusals.Inconsistent set multipliers) = Unit {0}
+IsOfTest (refusals.ListLimit written) = Unit {0}
+IsOfTest _ = ⊥
+
+-- it comes of the work on what is read
 abbrev pub IsOfWork : Refusal → Type 0
+IsOfWork (refusals.WideVector w) = Unit {0}
 IsOfWork (refusals.Overflow o) = Unit {0}
 IsOfWork (refusals.ExponentOverflow o) = Unit {0}
 IsOfWork (refusals.ConeOverflow row op left right) = Unit {0}
 IsOfWork (refusals.PairBudget basis unsettled) = Unit {0}
+IsOfWork (refusals.NotReduced set polynomial term) = Unit {0}
+IsOfWork (refusals.NotBasis set first second remainder) = Unit {0}
+IsOfWork (refusals.Inconsistent set multipliers) = Unit {0}
+IsOfWork (refusals.ListLimit written) = Unit {0}
 IsOfWork refusals.Memory = Unit {0}
 IsOfWork _ = ⊥
 
@@ -62,7 +86,7 @@ pub record Command : Type 1 where
   pub checks : Value → List Check
   -- the text that is written for what is read
   pub IsAnswer : Value → List ℕ → Type 0
-  -- an operation that the work on it may have is refused so, or its budget is spent
+  -- an operation that the work on it may have is refused so, or its budget is spent, or a test that takes work fails
   pub IsCause : Value → Refusal → Type 0
   -- this may be written before the work on it is refused so; nothing by a command that writes its text at its end
   pub IsBegun : Value → List ℕ → Refusal → Type 0

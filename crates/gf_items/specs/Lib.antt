@@ -3,3 +3,4 @@ pub mod Kinds  -- items by their kinds
 pub mod Sources  -- what the commands read
 pub mod Checks  -- checks of form, one after another
 pub mod Commands  -- what a command does with a source
+pub mod ReadOnce  -- items are read in one way, and have one first fault

@@ -3,7 +3,7 @@ use Rattle.std.specs.Prelude.{ℕ, Bool, List, [], ◌∷◌, Option, ℤ}
 use Rattle.gf_poly.specs.Marking.{MarkedPolynomials}
 use Rattle.gf_text.specs.declared.written.Written.{Written}
 use Rattle.gf_items.specs.Items.{Item}
-use Rattle.gf_items.specs.Kinds.{a_set, a_marked_set, vector_where, ring_and}
+use Rattle.gf_items.specs.Kinds.{a_set, a_marked_set, marked_set_list, vector_where, vector_list, dimension, items_from, ring_and}
 
 -- a ring, a set in it, and a vector where it is asked for
 abbrev pub ring_set_vector : Bool → Item (List (List ℕ) × (List Written × Option (List ℤ)))
@@ -12,3 +12,11 @@ ring_set_vector asked = ring_and a_set (vector_where asked ∷ [])
 -- a ring and a marked set in it
 abbrev pub ring_marked_set : Item (List (List ℕ) × MarkedPolynomials)
 ring_marked_set = ring_and a_marked_set []
+
+-- a ring and a list of marked sets in it
+abbrev pub ring_marked_sets : Item (List (List ℕ) × List MarkedPolynomials)
+ring_marked_sets = ring_and marked_set_list []
+
+-- a dimension, and two lists of vectors
+abbrev pub dimension_two_lists : Item (ℕ × (List (List ℤ) × List (List ℤ)))
+dimension_two_lists = items_from dimension (vector_list ∷ vector_list ∷ [])

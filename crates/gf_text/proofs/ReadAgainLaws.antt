@@ -1,5 +1,5 @@
 -- A set is read in one way, and is not refused where it is read; so printed sets are read again as what they are.
--- To cite: read_once, not_refused, sets_again, bases_again. The rest are steps.
+-- To cite: all_written, read_once, none_overflows, not_refused, sets_again, bases_again. The rest are steps.
 use Rattle.std.proofs.Common.{◌≡◌, ◌<◌, ◌+◌, ℕ, List, [], ◌∷◌, ◌++◌, length, flat_map, map, slice_get, IfSome, Option, Ok, Err, Some, refl, sym, ap, subst, ◌∙◌, inl, inr, arith}
 use Rattle.std.proofs.lemmas.Bool.{cases_lt}
 use Rattle.gf_frac.specs.Fraction.{Fraction, ◌+ℚ◌, zero_ℚ}
@@ -67,7 +67,7 @@ one_written n f written.Zero (written.Nonzero k) variables a b = absurd (none_re
 one_written n f (written.Nonzero m) written.Zero variables a b = absurd (none_remains f m.head b a.marked)
 one_written n f (written.Nonzero m) (written.Nonzero k) variables a b = ap (λ p. written.Nonzero p) (marked_same n f m k variables a b)
 
-all_written : (n : ℕ) (fs : List Terms) (ws vs : List Written) → SumsHaveVariables n fs → AreWritten fs ws → AreWritten fs vs → ws ≡ vs
+pub all_written : (n : ℕ) (fs : List Terms) (ws vs : List Written) → SumsHaveVariables n fs → AreWritten fs ws → AreWritten fs vs → ws ≡ vs
 all_written n [] [] [] variables a b = refl
 all_written n [] [] (v ∷ vs) variables a b = absurd b
 all_written n [] (w ∷ ws) vs variables a b = absurd a
@@ -107,7 +107,7 @@ fit_in : (front back : List Terms) (f : Terms) → AllSumsFit (front ++ f ∷ ba
 fit_in [] back f fits = fits.0
 fit_in (g ∷ front) back f fits = fit_in front back f fits.1
 
-none_overflows : (fs : List Terms) (o : Overflow) → AllSumsFit fs → IsFirstSumOverflow fs o → ⊥
+pub none_overflows : (fs : List Terms) (o : Overflow) → AllSumsFit fs → IsFirstSumOverflow fs o → ⊥
 none_overflows fs o fits over = no_overflow over.sum o (fit_in over.front over.back over.sum (subst AllSumsFit over.whole fits)) over.overflow
 
 module _ (ring : List (List ℕ)) (is : IsRing ring) (old : Position) (place : ℕ) (ws : List Written) (a : IsSetRead ring old place ws) where

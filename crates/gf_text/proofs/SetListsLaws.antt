@@ -1,5 +1,5 @@
 -- Lists of sets: what comes of them, set by set, and that they are read as the grammar of lists says.
--- To cite: sets_fit, sets_overflow, sets_exponent, exponents_fit, keeps_overflow, overflow_exponent, keeps_exponent, remain_variables; sets_reads, sets_refused, one_list_of_sets, no_sets_same; in_middle, marked_push, zero_of. The rest are steps.
+-- To cite: sets_fit, sets_overflow, sets_exponent, exponents_fit, AllFit, all_fit, keeps_overflow, overflow_exponent, keeps_exponent, remain_variables; sets_reads, sets_refused, one_list_of_sets, no_sets_same; in_middle, marked_push, zero_of. The rest are steps.
 use Rattle.std.proofs.Common.{◌≡◌, ◌-◌, ◌^◌, ℕ, suc, min, Ok, Err, Vec, Global, List, [], ◌∷◌, ◌++◌, length, refl, sym, ap, subst, ◌∙◌, append_assoc, append-nil}
 use Rattle.std.proofs.lemmas.List.{map-append}
 use Rattle.gf_frac.specs.declared.refusal.Overflow.{Overflow}
@@ -54,12 +54,12 @@ exponents_fit n q (came.Overflow o) none h = (h.0, h.1)
 exponents_fit n q (came.Exponent o) none h = absurd (none o refl)
 
 -- what remains of sets, as what remains of all their polynomials
-record AllFit (n : ℕ) (qs : Sets) : Type 0 where
-  sums : List Terms
-  exponents : sums_of n (polynomials_of qs) ≡ Ok sums
-  fits : AllSumsFit sums
+pub record AllFit (n : ℕ) (qs : Sets) : Type 0 where
+  pub sums : List Terms
+  pub exponents : sums_of n (polynomials_of qs) ≡ Ok sums
+  pub fits : AllSumsFit sums
 
-all_fit : (n : ℕ) (qs : Sets) (sets : List (List Written)) → AreWhatRemain n qs sets → AllFit n qs
+pub all_fit : (n : ℕ) (qs : Sets) (sets : List (List Written)) → AreWhatRemain n qs sets → AllFit n qs
 all_fit n [] [] h = record { sums = []; exponents = refl; fits = tt }
 all_fit n [] (ws ∷ sets) h = absurd h
 all_fit n (q ∷ qs) [] h = absurd h

@@ -1,7 +1,7 @@
 -- A source is answered in one way: what is refused exactly where a condition holds is refused so wherever it holds, and within
 -- its limits a job is answered.
 -- To cite: exact_text, exact_form, text_no_answer, form_no_answer, all_answered, refused_as_job. The rest are steps.
-use Rattle.std.specs.Prelude.{◌≡◌, ◌⊎◌, ℕ, List, [], ◌∷◌, length, Contains, Err}
+use Rattle.std.specs.Prelude.{◌≡◌, ◌⊎◌, ℕ, Bool, true, false, List, [], ◌∷◌, length, Contains, Err}
 use Rattle.std.proofs.Common.{refl, sym, ap, ◌∙◌, subst, inl, inr}
 use Rattle.gf_poly.specs.Polynomial.{Terms, HasVariables, IsDescending}
 use Rattle.gf_poly.specs.Marking.{Each}
@@ -21,7 +21,7 @@ use Rattle.gf_front.specs.declared.refusal.Refusal.{Refusal}
 use Rattle.gf_front.specs.declared.refusal.Refusal.TheVariants as refusals
 use Rattle.gf_items.specs.Items.{from}
 use Rattle.gf_items.specs.Commands.{IsOfText, IsOfForm, IsOfWork, IsOfJob}
-use Rattle.gf_items.specs.Kinds.{a_set, a_marked_set, vector_where}
+use Rattle.gf_items.specs.Kinds.{a_set, a_marked_set, marked_set_list, vector_where}
 use Rattle.gf_items.proofs.KindLaws.{ring_and_once}
 use Rattle.gf_items.proofs.CommandLaws.{IsExactCommand, exact, no_answer, in_reach, of_job}
 use Rattle.gfan_main.specs.declared.buchberger.Options.{Options}
@@ -84,9 +84,15 @@ marked_exact = record {
 
 -- ---- `_leadingterms`
 
-leading_exact : IsExactCommand leading_terms_command
-leading_exact = record {
+leading_exact : (listed : Bool) → IsExactCommand (leading_terms_command listed)
+leading_exact false = record {
   items = ring_and_once a_marked_set [];
+  checks = λ source v r. tt;
+  work = λ v r h. subst IsOfWork (sym h) tt;
+  within = λ v r w h. h;
+}
+leading_exact true = record {
+  items = ring_and_once marked_set_list [];
   checks = λ source v r. tt;
   work = λ v r h. subst IsOfWork (sym h) tt;
   within = λ v r w h. h;
@@ -97,7 +103,7 @@ leading_exact = record {
 laws : (job : Job) → IsExactCommand (command job)
 laws (jobs.Buchberger weighted revlex pairs) = buchberger_exact (options weighted revlex pairs)
 laws jobs.IsMarkedGroebnerBasis = marked_exact
-laws jobs.LeadingTerms = leading_exact
+laws (jobs.LeadingTerms listed) = leading_exact listed
 
 pub exact_text : (job : Job) (source : List ℕ) (r d : Refusal) → IsOfText r → IsRefusalOf job source r → IsRefusalOf job source d → (d ≡ r) ⊎ (d ≡ refusals.Memory)
 exact_text job source r d t h k = exact (command job) (laws job) source r d (inl t) h k

@@ -18,7 +18,7 @@ options weighted revlex pairs = record { weighted = weighted; revlex = revlex; p
 abbrev pub command : Job → Command
 command (jobs.Buchberger weighted revlex pairs) = buchberger_command (options weighted revlex pairs)
 command jobs.IsMarkedGroebnerBasis = marked_command
-command jobs.LeadingTerms = leading_terms_command
+command (jobs.LeadingTerms listed) = leading_terms_command listed
 
 -- the text is what the job writes for the source
 abbrev pub IsAnswerTo : Job → List ℕ → List ℕ → Type 0

@@ -1,5 +1,5 @@
 -- What the commands print alike.
-use Rattle.std.specs.Prelude.{◌≡◌, ℕ, List, [], ◌∷◌, ◌++◌}
+use Rattle.std.specs.Prelude.{◌≡◌, ℕ, List, [], ◌∷◌, ◌++◌, flat_map}
 use Rattle.gf_poly.specs.Marking.{MarkedPolynomials}
 use Rattle.gf_text.specs.RingText.{ring_text}
 use Rattle.gf_text.specs.PrintedSets.{basis_text}
@@ -7,3 +7,16 @@ use Rattle.gf_text.specs.PrintedSets.{basis_text}
 -- the text is the ring's line, then the set and a line end
 abbrev pub IsPrinted : List (List ℕ) → MarkedPolynomials → List ℕ → Type 0
 IsPrinted ring set text = text ≡ ring_text ring ++ (basis_text ring set.items ++ 10 ∷ [])
+
+-- a line end, a comma, a line end, and a set
+abbrev pub later_set_text : List (List ℕ) → MarkedPolynomials → List ℕ
+later_set_text ring set = 10 ∷ 44 ∷ 10 ∷ basis_text ring set.items
+
+-- sets, with a comma on a line of its own between them
+abbrev pub sets_text : List (List ℕ) → List MarkedPolynomials → List ℕ
+sets_text ring [] = []
+sets_text ring (s ∷ ss) = basis_text ring s.items ++ flat_map (later_set_text ring) ss
+
+-- the text is the ring's line, then a brace, the sets, a brace and a line end
+abbrev pub IsPrintedList : List (List ℕ) → List MarkedPolynomials → List ℕ → Type 0
+IsPrintedList ring sets text = text ≡ ring_text ring ++ (123 ∷ (sets_text ring sets ++ 125 ∷ 10 ∷ []))

@@ -29,6 +29,6 @@ pub(crate) fn answered(alloc: Global, job: &Job, source: &[u8]) -> Result<Vec<u8
             buchberger::answer(alloc, source, options)
         }
         Job::IsMarkedGroebnerBasis => marked::answer(alloc, source),
-        Job::LeadingTerms => leading_terms::answer(alloc, source),
+        Job::LeadingTerms { listed } => leading_terms::answer(alloc, source, *listed),
     }
 }

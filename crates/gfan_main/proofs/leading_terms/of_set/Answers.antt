@@ -1,7 +1,7 @@
 use Rattle.std.proofs.Common.{refl}
 use Rattle.std.proofs.lemmas.Result.{err_from_is_err_and}
 use Rattle.gf_items.specs.Commands.{IsCommandRefused}
-use Rattle.gfan_main.proofs.leading_terms.answer.Goals as goal
+use Rattle.gfan_main.proofs.leading_terms.of_set.Goals as goal
 
 pub returns-in_err-read-clause-err : goal.returns-in_err-read-clause-err
 returns-in_err-read-clause-err c =
