@@ -1,26 +1,16 @@
--- Answers about a normal: multipliers of its system are a combination, and what an answer tells of the cone.
--- To cite: canonical_of, combination_of_farkas, others-append, flip_told, facet_told, crossable_flippable, cone_of, kept_of, kept_wide, positive_for,
+-- Answers about a normal: what an answer tells of the cone.
+-- To cite: others-append, flip_told, facet_told, crossable_flippable, cone_of, kept_of, kept_wide, positive_for,
 -- answer_for, IfOk-weaker.
-use Rattle.std.specs.Prelude.{◌≡◌, ◌⊎◌, ℕ, zero, suc, ◌<◌, ◌≤◌, ◌↔◌, Result, Ok, Err, IfOk, take, drop, List, [], ◌∷◌, ◌++◌, length, get_or, Contains, All, ℤ, pos, neg_ℤ, ◌+ℤ◌, ◌*ℤ◌, ◌<ℤ◌, ◌≤ℤ◌, unsigned_abs}
-use Rattle.std.specs.List.{AllByRecursion}
-use Rattle.std.proofs.Common.{arith, refl, sym, ap, ap₂, ◌∙◌, subst, inl, inr, append_assoc}
-use Rattle.std.proofs.lemmas.Int.{ints}
+use Rattle.std.specs.Prelude.{◌≡◌, ◌⊎◌, ℕ, zero, suc, ◌<◌, ◌≤◌, ◌↔◌, Result, Ok, Err, IfOk, take, drop, List, [], ◌∷◌, ◌++◌, length, get_or, Contains, All, ℤ, pos, ◌<ℤ◌, unsigned_abs}
+use Rattle.std.proofs.Common.{arith, refl, sym, ap, ◌∙◌, subst, inl, inr, append_assoc}
 use Rattle.std.proofs.Common.{length-append}
 use Rattle.std.proofs.lemmas.List.{get_or_default, take-append-drop}
 use Rattle.std.proofs.Math.Seq.{take-append_seam, drop-append_seam}
 use Rattle.std.proofs.Math.ListN.{get_or-append}
-use Rattle.std.proofs.lemmas.List.Elements.{All-nil, All-cons, All-contains, recursion_from_All, Contains-append_left, Contains-append_right, Contains-append_cases}
-use Rattle.gf_int.specs.Content.{scaled}
-use Rattle.gf_int.proofs.RingLaws.{dv, dneg, ◌⊗◌, same as same_number}
-use Rattle.gf_int.proofs.SignLaws.{<0-cancel}
-use Rattle.gf_vec.specs.Vector.{dot, vector_sum, zeros, combined, values}
-use Rattle.gf_vec.proofs.VectorLaws.{dot-plus, dot-times, dot-zeros, dot-combined, dot-positive, length-times, length-combined}
-use Rattle.gf_gordan.specs.Alternative.{AreRows, IsSolution, IsFarkas}
-use Rattle.gf_poly.specs.Marking.{MarkedPolynomial, Each, HaveVariables, HasMarkedTerm}
-use Rattle.gf_poly.specs.Polynomial.{HasVariables}
-use Rattle.gf_poly.proofs.CoefficientLaws.{term_length}
-use Rattle.gf_ideal.specs.Bases.{IsCanonical}
-use Rattle.gf_ideal.proofs.ListLaws.{contained_each}
+use Rattle.std.proofs.lemmas.List.Elements.{All-nil, All-cons, All-contains, Contains-append_left, Contains-append_right, Contains-append_cases}
+use Rattle.gf_vec.specs.Vector.{dot}
+use Rattle.gf_gordan.specs.Alternative.{AreRows, IsSolution}
+use Rattle.gf_poly.specs.Marking.{MarkedPolynomial}
 use Rattle.gf_facets.specs.Rows.{IsNormal}
 use Rattle.gf_facets.specs.Systems.{units}
 use Rattle.gf_facets.specs.Normals.{AreNormals, others_of, flip_rows}
@@ -30,7 +20,6 @@ use Rattle.gf_facets.specs.Facets.{IsInOpenCone, IsInsideFacet, IsFlippable}
 use Rattle.gf_facets.proofs.ConeLaws.{normals_open}
 use Rattle.gf_gordan.specs.Sizes.{HaveEntriesUpTo}
 use Rattle.gf_facets.specs.MarkedBases.{AreCanonical}
-use Rattle.gf_facets.proofs.VectorLaws.{plus-zeros}
 use Rattle.gf_facets.proofs.NormalLaws.{normal-length}
 use Rattle.gf_facets.proofs.UnitLaws.{units_wide, units_on_positive, positive_by_units}
 use Rattle.gf_facets.proofs.SystemLaws.{contained_all}
@@ -46,64 +35,11 @@ use Rattle.gf_cone.specs.declared.answer.FacetAnswer.TheVariants.{Facet, Redunda
 use Rattle.gf_cone.specs.declared.answer.FlipAnswer.{FlipAnswer}
 use Rattle.gf_cone.specs.declared.answer.FlipAnswer.TheVariants.{Yes, No}
 
--- ---- marked lists of a program
-
-pub canonical_of : (n : ℕ) (bs : List MarkedPolynomial) → HaveVariables n bs → Each HasMarkedTerm bs → AreCanonical n bs
-canonical_of n bs v m b c = at (contained_each (λ (b : MarkedPolynomial). HasVariables n b.poly) bs v b c) (contained_each HasMarkedTerm bs m b c)
-  where
-    at : HasVariables n b.poly → HasMarkedTerm b → IsCanonical n b
-    at w t = record { variables = w; descending = t.descending; head = term_length n b.poly (record { coef = t.mark; mono = b.head }) w t.term }
-
--- ---- multipliers are a combination
-
--- s and e times a cancel
-balanced : (n : ℕ) (e : ℤ) (s a : List ℤ) → length s ≡ n → length a ≡ n → vector_sum s (scaled e a) ≡ zeros n → scaled (neg_ℤ e) a ≡ s
-balanced zero e [] [] l m h = refl
-balanced zero e [] (y ∷ a) l m h = absurd (omega (arith, m))
-balanced zero e (x ∷ s) a l m h = absurd (omega (arith, l))
-balanced (suc n) e [] a l m h = absurd (omega (arith, l))
-balanced (suc n) e (x ∷ s) [] l m h = absurd (omega (arith, m))
-balanced (suc n) e (x ∷ s) (y ∷ a) l m h =
-    let f : x +ℤ e *ℤ y ≡ pos 0 = cc in
-    let g : vector_sum s (scaled e a) ≡ zeros n = cc in
-    ap₂ ◌∷◌ (entry f) (balanced n e s a (omega (arith, l)) (omega (arith, m)) g)
-  where
-    entry : x +ℤ e *ℤ y ≡ pos 0 → neg_ℤ e *ℤ y ≡ x
-    entry f = let d : neg_ℤ e *ℤ y ≡ neg_ℤ (e *ℤ y) = same_number (dneg (dv e) ⊗ dv y) (dneg (dv e ⊗ dv y)) (omega arith) in omega (arith, ints, d, f)
+-- ---- vectors of the inside
 
 -- a vector on which the rows and a are positive
 abbrev pub IsPositiveOn : List (List ℤ) → List ℤ → Type 0
 IsPositiveOn rows a = (w : List ℤ) × All (λ t. pos 0 <ℤ dot t w) rows × (pos 0 <ℤ dot a w)
-
--- where there is one, Farkas multipliers are a combination: minus the multiplier of a is how often a is taken
-pub combination_of_farkas : (n : ℕ) (rows : List (List ℤ)) (a ms es : List ℤ) (e : ℤ) → AreRows n rows → length a ≡ n → IsPositiveOn rows a →
-    es ≡ e ∷ [] → IsFarkas n rows (a ∷ []) ms es → IsCombination n rows a (neg_ℤ e) ms
-combination_of_farkas n rows a ms es e wide l p q f = record { positive = omega (arith, ints, below); count = f.rows_len; not_negative = f.not_negative; sum = balanced n e (combined n ms rows) a long l zero_sum }
-  where
-    widths : AllByRecursion (λ t. length t ≡ n) rows
-    widths = recursion_from_All (λ t. length t ≡ n) rows wide
-
-    long : length (combined n ms rows) ≡ n
-    long = length-combined n ms rows widths
-
-    zero_sum : vector_sum (combined n ms rows) (scaled e a) ≡ zeros n
-    zero_sum =
-        ap (vector_sum (combined n ms rows)) (sym (plus-zeros (scaled e a) n (length-times e a ∙ l)))
-        ∙ ap (λ (z : List ℤ). vector_sum (combined n ms rows) (combined n z (a ∷ []))) (sym q) ∙ f.zero_sum
-
-    value : dot (combined n ms rows) p.0 +ℤ e *ℤ dot a p.0 ≡ pos 0
-    value = ap (λ z. dot (combined n ms rows) p.0 +ℤ z) (sym (dot-times e a p.0)) ∙ sym (dot-plus (combined n ms rows) (scaled e a) p.0 (long ∙ sym (length-times e a ∙ l))) ∙ ap (λ (z : List ℤ). dot z p.0) zero_sum ∙ dot-zeros n p.0
-
-    above : pos 0 <ℤ dot (combined n ms rows) p.0
-    above =
-        let d : dot (combined n ms rows) p.0 ≡ dot ms (values rows p.0) = dot-combined n ms rows p.0 widths in
-        let h : pos 0 <ℤ dot ms (values rows p.0) = dot-positive ms rows p.0 f.rows_len (recursion_from_All (λ m. pos 0 ≤ℤ m) ms f.not_negative) f.not_all_zero (recursion_from_All (λ t. pos 0 <ℤ dot t p.0) rows p.1) in
-        omega (arith, ints, d, h)
-
-    below : e <ℤ pos 0
-    below =
-        let c : dot a p.0 *ℤ e ≡ e *ℤ dot a p.0 = same_number (dv (dot a p.0) ⊗ dv e) (dv e ⊗ dv (dot a p.0)) (omega arith) in
-        <0-cancel (dot a p.0) e p.2 (omega (arith, ints, c, value, above))
 
 -- ---- the others of one
 

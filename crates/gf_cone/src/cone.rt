@@ -149,6 +149,8 @@ impl Cone {
         ensures yes { IfOk result (λ o. IfSome o (IsSolution self.now.variables (other_rows self.now place) (normal_at self.now place ∷ []))) }
         ensures no { IfOk result (λ o. IsNone o → IsCrossable self.now place → ⊥) }
         ensures err { IfErr result (Failed (IsNormalStep self.now.variables (other_rows self.now place) (normal_at self.now place))) }
+        // no step leaves the range with three variables and entries up to 500
+        ensures three_columns { self.now.variables ≤ 3 → HaveEntriesUpTo 500 (all_rows self.now) → IfErr result (λ e. e ≡ Memory) }
     {
         let vectors = self.vectors();
         let alloc = *self.vectors.allocator();

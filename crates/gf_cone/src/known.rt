@@ -2,6 +2,8 @@
 ghost use Rattle.std.specs.Prelude.{◌≡◌, ◌↔◌, ◌+◌, ◌<◌, ◌≤◌, ℕ, List, [], ◌∷◌, length, slice_index_or, All, IsTrue, IfOk, IfErr, IfSome};
 ghost use Rattle.gf_gordan.specs.Alternative.{AreRows, IsSolution};
 ghost use Rattle.gf_gordan.specs.Steps.{Failed};
+ghost use Rattle.gf_gordan.specs.Sizes.{HaveEntriesUpTo};
+ghost use Rattle.gf_gordan.specs.declared.error.GordanError.TheVariants.{Memory};
 ghost use Rattle.gf_facets.specs.LexPositive.{IsNegative};
 ghost use Rattle.gf_facets.specs.Regions.{all_positive};
 ghost use Rattle.gf_cone.specs.Small.{IsSmall};
@@ -279,6 +281,8 @@ impl KnownCone {
         ensures same { self.new ≡ self.old }
         ensures ok { IfOk result (λ r. IsTrue r ↔ IsCrossable self.old place) }
         ensures err { IfErr result (Failed (IsNormalStep self.old.variables (other_rows self.old place) (normal_at self.old place))) }
+        // no step leaves the range with three variables and entries up to 500
+        ensures three_columns { self.old.variables ≤ 3 → HaveEntriesUpTo 500 (all_rows self.old) → IfErr result (λ e. e ≡ Memory) }
     {
         match self.cone.crossing(place)? {
             Some(witness) => {
@@ -301,6 +305,8 @@ impl KnownCone {
         ensures same { self.new ≡ self.old }
         ensures ok { IfOk result (λ r. IsTrue r ↔ IsCrossable self.old place) }
         ensures err { IfErr result (Failed (IsNormalStep self.old.variables (other_rows self.old place) (normal_at self.old place))) }
+        // no step leaves the range with three variables and entries up to 500
+        ensures three_columns { self.old.variables ≤ 3 → HaveEntriesUpTo 500 (all_rows self.old) → IfErr result (λ e. e ≡ Memory) }
     {
         if let Some(known) = self.told(place) {
             return Ok(known);
@@ -329,6 +335,8 @@ impl KnownCone {
         ensures ok { IfOk result (λ r. IsTrue r ↔ IsCrossable self.old place) }
         ensures told { IfOk result (IsFlipDecided self.old place) }
         ensures err { IfErr result (Failed (IsNormalStep self.old.variables (other_rows self.old place) (normal_at self.old place))) }
+        // no step leaves the range with three variables and entries up to 500
+        ensures three_columns { self.old.variables ≤ 3 → HaveEntriesUpTo 500 (all_rows self.old) → IfErr result (λ e. e ≡ Memory) }
     {
         self.decided(place)
     }
@@ -350,6 +358,8 @@ impl KnownCone {
         ensures same { self.new ≡ self.old }
         ensures ok { IfOk result (λ r. IsTrue r ↔ LeadsUpAt self.old place) }
         ensures err { IfErr result (Failed (IsNormalStep self.old.variables (other_rows self.old place) (normal_at self.old place))) }
+        // no step leaves the range with three variables and entries up to 500
+        ensures three_columns { self.old.variables ≤ 3 → HaveEntriesUpTo 500 (all_rows self.old) → IfErr result (λ e. e ≡ Memory) }
     {
         if self.is_negative(place) {
             self.decided(place)
@@ -431,6 +441,8 @@ impl KnownCone {
         ensures same { self.new ≡ self.old }
         ensures ok { IfOk result (λ r. IsTrue r ↔ SomeUpBefore self.old end) }
         ensures err { IfErr result (Failed (IsStepBefore self.old end)) }
+        // no step leaves the range with three variables and entries up to 500
+        ensures three_columns { self.old.variables ≤ 3 → HaveEntriesUpTo 500 (all_rows self.old) → IfErr result (λ e. e ≡ Memory) }
     {
         if self.sum_before(end) {
             return Ok(true);
@@ -454,6 +466,8 @@ impl KnownCone {
         ensures same { self.new ≡ self.old }
         ensures ok { IfOk result (IsWayFrom self.old) }
         ensures err { IfErr result (Failed (IsStepBefore self.old (length self.old.normals))) }
+        // no step leaves the range with three variables and entries up to 500
+        ensures three_columns { self.old.variables ≤ 3 → HaveEntriesUpTo 500 (all_rows self.old) → IfErr result (λ e. e ≡ Memory) }
     {
         for place in 0..self.normals().len() {
             if self.leads_up(place)? {
@@ -473,6 +487,8 @@ impl KnownCone {
         ensures same { self.new ≡ self.old }
         ensures ok { IfOk result (λ r. IsTrue r ↔ IsLeastUp self.old place) }
         ensures err { IfErr result (Failed (IsStepBefore self.old (place + 1))) }
+        // no step leaves the range with three variables and entries up to 500
+        ensures three_columns { self.old.variables ≤ 3 → HaveEntriesUpTo 500 (all_rows self.old) → IfErr result (λ e. e ≡ Memory) }
     {
         if !self.leads_up(place)? {
             return Ok(false);

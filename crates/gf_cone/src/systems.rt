@@ -101,6 +101,7 @@ pub(crate) fn solution_at(
     ensures yes { IfOk result (λ o. IfSome o (IsSolution n rows.now (normal.now ∷ []))) }
     ensures no { IfOk result (λ o. IsNone o → IsSolvable n rows.now (normal.now ∷ []) → ⊥) }
     ensures err { IfErr result (Failed (IsNormalStep n rows.now normal.now)) }
+    ensures three_columns { n ≤ 3 → HaveEntriesUpTo 500 rows.now → HaveEntriesUpTo 500 (normal.now ∷ []) → IfErr result (λ e. e ≡ Memory) }
 {
     match strict(alloc, n, rows, from_ref(normal))? {
         Answer::Point(witness) => Ok(Some(witness)),

@@ -1,6 +1,7 @@
 -- A normal is one of a facet exactly where the system of the other normals, on which it is an equation, has a solution; else
 -- a multiple of it is a combination of the others. With the rows of a region and the unit vectors beside them: flippable.
--- To cite: IsFacetSystem, facet_system, flip_system, point_of_solution, solution_of_point, redundant_of_farkas, not_redundant;
+-- To cite: IsFacetSystem, facet_system, flip_system, point_of_solution, solution_of_point, combination_of_farkas, redundant_of_farkas,
+-- not_redundant;
 -- of a list of normals normal_here, facet_rows_wide, facet_of_solution, solution_of_facet, flippable_of_solution,
 -- solution_of_flippable, flip_rows_wide; facet_or_redundant, facet_not_redundant, flippable_or_redundant,
 -- flippable_not_redundant, flippable_or_not.
@@ -117,12 +118,11 @@ balanced (suc n) e (x ∷ s) (y ∷ a) l m h =
     entry : x +ℤ e *ℤ y ≡ pos 0 → neg_ℤ e *ℤ y ≡ x
     entry f = let d : neg_ℤ e *ℤ y ≡ neg_ℤ (e *ℤ y) = same_number (dneg (dv e) ⊗ dv y) (dneg (dv e ⊗ dv y)) (omega arith) in omega (arith, ints, d, f)
 
--- where a vector is positive on the rows and on a, Farkas multipliers make a redundant
-pub redundant_of_farkas : (n : ℕ) (a w : List ℤ) (rows : List (List ℤ)) (ms es : List ℤ) → AreRows n rows → length a ≡ n →
-    All (λ t. pos 0 <ℤ dot t w) rows → pos 0 <ℤ dot a w → IsFarkas n rows (a ∷ []) ms es → IsRedundant n rows a
-redundant_of_farkas n a w rows ms [] wide l p q f = absurd (omega (arith, f.equations_len))
-redundant_of_farkas n a w rows ms (e ∷ (d ∷ es)) wide l p q f = absurd (omega (arith, f.equations_len))
-redundant_of_farkas n a w rows ms (e ∷ []) wide l p q f = (neg_ℤ e, ms, record { positive = omega (arith, ints, below); count = f.rows_len; not_negative = f.not_negative; sum = balanced n e s a long l zero_sum })
+-- where a vector is positive on the rows and on a, Farkas multipliers are a combination: minus the multiplier of a is how
+-- often a is taken
+pub combination_of_farkas : (n : ℕ) (a w : List ℤ) (rows : List (List ℤ)) (ms : List ℤ) (e : ℤ) → AreRows n rows → length a ≡ n →
+    All (λ t. pos 0 <ℤ dot t w) rows → pos 0 <ℤ dot a w → IsFarkas n rows (a ∷ []) ms (e ∷ []) → IsCombination n rows a (neg_ℤ e) ms
+combination_of_farkas n a w rows ms e wide l p q f = record { positive = omega (arith, ints, below); count = f.rows_len; not_negative = f.not_negative; sum = balanced n e s a long l zero_sum }
   where
     s : List ℤ
     s = combined n ms rows
@@ -149,6 +149,13 @@ redundant_of_farkas n a w rows ms (e ∷ []) wide l p q f = (neg_ℤ e, ms, reco
     below =
         let c : dot a w *ℤ e ≡ e *ℤ dot a w = same_number (dv (dot a w) ⊗ dv e) (dv e ⊗ dv (dot a w)) (omega arith) in
         <0-cancel (dot a w) e q (omega (arith, ints, c, value, above))
+
+-- so a is redundant
+pub redundant_of_farkas : (n : ℕ) (a w : List ℤ) (rows : List (List ℤ)) (ms es : List ℤ) → AreRows n rows → length a ≡ n →
+    All (λ t. pos 0 <ℤ dot t w) rows → pos 0 <ℤ dot a w → IsFarkas n rows (a ∷ []) ms es → IsRedundant n rows a
+redundant_of_farkas n a w rows ms [] wide l p q f = absurd (omega (arith, f.equations_len))
+redundant_of_farkas n a w rows ms (e ∷ (d ∷ es)) wide l p q f = absurd (omega (arith, f.equations_len))
+redundant_of_farkas n a w rows ms (e ∷ []) wide l p q f = (neg_ℤ e, ms, combination_of_farkas n a w rows ms e wide l p q f)
 
 -- ---- never both
 

@@ -2,7 +2,7 @@
 -- weights that give the marks. So whether a region has such a vector is decided.
 -- To cite: contained_all, region_rows_wide, rows_of_region, region_of_rows, all_positive-region, system_wide, solution_of_inside, inside_of_solution, HasVector, vector_or_none,
 -- marks_of_open, open_of_marks, whole_of, length-whole, whole-in_region, whole-weight, open_of_weight, positive_or_none,
--- solvable_of_realisable, realisable_of_solution, marked_system_wide.
+-- canonical_all, solvable_of_realisable, realisable_of_solution, marked_system_wide.
 use Rattle.std.specs.Prelude.{◌≡◌, ◌⊎◌, ℕ, zero, suc, ◌<◌, true, List, [], ◌∷◌, ◌++◌, length, get_or, replicate, Contains, All, ℤ, pos, ◌<ℤ◌}
 use Rattle.std.proofs.Common.{arith, refl, sym, ap, ◌∙◌, inl, inr}
 use Rattle.std.proofs.lemmas.Int.{ints}
@@ -232,7 +232,7 @@ positive_or_none n bs c one = at (vector_or_none n (all_positive n) bs (All-nil 
 
 -- ---- with any marked coefficients
 
-canonical_all : (n : ℕ) (bs : List MarkedPolynomial) → HaveVariables n bs → Each HasMarkedTerm bs → AreCanonical n bs
+pub canonical_all : (n : ℕ) (bs : List MarkedPolynomial) → HaveVariables n bs → Each HasMarkedTerm bs → AreCanonical n bs
 canonical_all n bs v m b c = canonical_marked n b (contained_each (λ (b : MarkedPolynomial). HasVariables n b.poly) bs v b c) (contained_each HasMarkedTerm bs m b c)
 
 -- a positive weight that gives the marks solves the system

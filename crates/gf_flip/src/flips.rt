@@ -11,6 +11,7 @@ ghost use Rattle.gf_flip.specs.Operations.{IsFlipRefusal, IsFlipWithinLimits};
 use crate::along::parts;
 use crate::lifts::lifts;
 use crate::limits::see_members;
+use crate::tails::reduced_tails;
 use crate::tops::top_lifts;
 use crate::turns::{Task, basis_for};
 use gf_buchberger::BasisError;
@@ -90,8 +91,9 @@ fn early(alloc: Global, set: &MarkedSet, below: &[Marked], normal: &IntVec) -> O
     ensures variables { IfSome result (λ t. t.variables ≡ set.now.variables) }
 {
     let lifted = top_lifts(alloc, below, set.items(), normal.as_slice())?;
-    let all = MarkedSet::new(set.variables(), lifted);
-    match autoreduce(alloc, &all) {
+    let members = reduced_tails(alloc, lifted)?;
+    let all = MarkedSet::new(set.variables(), members);
+    match all.arrange() {
         Ok(across) => Some(across),
         Err(_) => None,
     }

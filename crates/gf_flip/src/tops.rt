@@ -1,6 +1,6 @@
 //! Lifts that end once nothing is left along the normal: members of the basis of the parts, less what steps lead to.
 
-ghost use Rattle.std.specs.Prelude.{◌≡◌, ◌≢◌, ◌<◌, ℤ, pos, false, [], length, get_or, IfOk, IfSome, IsTrue, OnOk};
+ghost use Rattle.std.specs.Prelude.{◌≡◌, ◌≢◌, ◌<◌, ◌++◌, ◌∷◌, ℤ, pos, false, [], length, get_or, Contains, IfOk, IfSome, IsTrue, OnOk};
 ghost use Rattle.gf_frac.specs.Fraction.{one_ℚ};
 ghost use Rattle.gf_poly.specs.Marking.{HaveVariables};
 ghost use Rattle.gf_poly.specs.Polynomial.{coefficient, HasVariables, IsDescending, KeepsVariables};
@@ -13,12 +13,20 @@ ghost use Rattle.gf_flip.specs.Along.{HasNonzero};
 ghost use Rattle.gf_flip.specs.Lifting.{AreMonic};
 ghost use Rattle.gf_ideal.specs.OrderTable.{AreMultipleApart};
 ghost use Rattle.gf_flip.specs.Tops.{AreOff, IsTopRemainder, IsAlone};
+ghost use Rattle.gf_flip.specs.LiftTails.{IsCopy, AreCopies};
 
 use crate::along::{is_apart, pivot_of};
 use gf_division::{Dividend, divisor_of, place_of};
 use gf_poly::{Marked, Mono, Poly};
 use std::alloc::{AllocError, Global};
 use std::cmp::Ordering;
+
+/// Lifts, and of each whether it is copied from the set.
+#[derive(Drop)]
+pub struct Lifts {
+    pub members: Vec<Marked>,
+    pub copied: Vec<bool>,
+}
 
 // Moves the place down to the first term that is a multiple of the normal apart from `x`; whether there is one.
 fn seek_line(
@@ -123,14 +131,14 @@ fn top_lift(
     Some(Marked::mark(poly, place))
 }
 
-// The lift, of the one kind or the other.
+// The lift, of the one kind or the other, and whether it is copied from the set.
 fn lifted(
     alloc: Global,
     member: &Marked,
     by: &[Marked],
     normal: &[i128],
     pivot: usize,
-) -> Option<Marked>
+) -> Option<(Marked, bool)>
     requires marked { HasSomeWeight by.now }
     requires poly { HasVariables (length normal.now) member.now.poly }
     requires monic { coefficient member.now.poly member.now.head ≡ one_ℚ }
@@ -138,13 +146,15 @@ fn lifted(
     requires bounded { AreBounded normal.now }
     requires inside { pivot < length normal.now }
     requires nonzero { get_or normal.now pivot (pos 0) ≢ pos 0 }
-    ensures value { IfSome result (IsTopLift by.now normal.now member.now) }
-    ensures variables { IfSome result (λ l. HasVariables (length normal.now) l.poly) }
+    ensures value { IfSome result (λ l. IsTopLift by.now normal.now member.now l.0) }
+    ensures variables { IfSome result (λ l. HasVariables (length normal.now) l.0.poly) }
+    ensures copied { IfSome result (λ l. IsCopy by.now l.0 l.1) }
 {
-    match untouched(alloc, member, by, normal, pivot) {
-        Some(copy) => Some(copy),
-        None => top_lift(alloc, member, by, normal, pivot),
+    if let Some(copy) = untouched(alloc, member, by, normal, pivot) {
+        return Some((copy, true));
     }
+    let lift = top_lift(alloc, member, by, normal, pivot)?;
+    Some((lift, false))
 }
 
 // Whether no term of the member but the marked one is a multiple of the normal apart from the mark.
@@ -198,6 +208,7 @@ fn untouched(
     requires nonzero { get_or normal.now pivot (pos 0) ≢ pos 0 }
     ensures value { IfSome result (IsTopLift by.now normal.now member.now) }
     ensures variables { IfSome result (λ l. HasVariables (length normal.now) l.poly) }
+    ensures copied { IfSome result (Contains by.now) }
 {
     if member.poly().terms().len() != 1 {
         return None;
@@ -218,34 +229,42 @@ fn untouched(
     None
 }
 
+// Adds a lift.
+fn push(lifts: &mut Lifts, lift: Marked, is_copy: bool) -> Option<()>
+    ensures members { IfSome result (λ _. lifts.new.members.items ≡ lifts.old.members.items ++ lift ∷ []) }
+    ensures copied { IfSome result (λ _. lifts.new.copied.items ≡ lifts.old.copied.items ++ is_copy ∷ []) }
+{
+    match lifts.members.push(lift) {
+        Ok(()) => {}
+        Err(_) => return None,
+    }
+    match lifts.copied.push(is_copy) {
+        Ok(()) => Some(()),
+        Err(_) => None,
+    }
+}
+
 /// The members less what steps by the set lead to, marked as they are, if nothing of a remainder is a multiple of the
 /// normal apart from the mark, and all numbers fit.
-pub fn top_lifts(
-    alloc: Global,
-    items: &[Marked],
-    by: &[Marked],
-    normal: &[i128],
-) -> Option<Vec<Marked>>
+pub fn top_lifts(alloc: Global, items: &[Marked], by: &[Marked], normal: &[i128]) -> Option<Lifts>
     requires marked { HasSomeWeight by.now }
     requires variables { HaveVariables (length normal.now) items.now }
     requires monic { AreMonic items.now }
     requires members { HaveVariables (length normal.now) by.now }
     requires bounded { AreBounded normal.now }
     requires nonzero { HasNonzero normal.now }
-    ensures value { IfSome result (λ ls. AreTopLifts by.now normal.now items.now ls.items) }
-    ensures variables { IfSome result (λ ls. HaveVariables (length normal.now) ls.items) }
+    ensures value { IfSome result (λ ls. AreTopLifts by.now normal.now items.now ls.members.items) }
+    ensures variables { IfSome result (λ ls. HaveVariables (length normal.now) ls.members.items) }
+    ensures copied { IfSome result (λ ls. AreCopies by.now ls.members.items ls.copied.items) }
 {
     let pivot = pivot_of(normal);
-    let mut all = match Vec::with_capacity(alloc, items.len()) {
-        Ok(all) => all,
-        Err(_) => return None,
+    let mut all = Lifts {
+        members: Vec::new(alloc),
+        copied: Vec::new(alloc),
     };
     'members: for i in 0..items.len() {
-        let lifted = lifted(alloc, &items[i], by, normal, pivot)?;
-        match all.push(lifted) {
-            Ok(()) => {}
-            Err(_) => return None,
-        }
+        let (lift, is_copy) = lifted(alloc, &items[i], by, normal, pivot)?;
+        push(&mut all, lift, is_copy)?;
     }
     Some(all)
 }

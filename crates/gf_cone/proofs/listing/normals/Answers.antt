@@ -2,7 +2,7 @@ use Rattle.std.proofs.Common.{arith, subst, List, ℤ}
 use Rattle.std.specs.Prelude.{All}
 use Rattle.gf_vec.specs.Primitive.{IsPrimitivePart}
 use Rattle.gf_cone.specs.Small.{IsSmall}
-use Rattle.gf_cone.proofs.AnswerLaws.{canonical_of}
+use Rattle.gf_facets.proofs.SystemLaws.{canonical_all}
 use Rattle.gf_cone.proofs.SmallLaws.{normals_small}
 use Rattle.gf_cone.proofs.ListingLaws.{gathering_more, gathered}
 use Rattle.gf_cone.proofs.listing.normals.Goals as goal
@@ -17,4 +17,4 @@ pub returns-clause-small : goal.returns-clause-small
 returns-clause-small c = normals_small c.args.set.now.items c.rows.all.items (subst (All IsSmall) c.in_ok-rows.ensures.rows c.in_ok-rows.ensures.small) (returns-clause-normals c)
 
 pub returns-clause-canonical : goal.returns-clause-canonical
-returns-clause-canonical c = canonical_of c.args.set.now.variables c.args.set.now.items c.in_ok-rows.ensures.variables c.in_ok-rows.ensures.marked
+returns-clause-canonical c = canonical_all c.args.set.now.variables c.args.set.now.items c.in_ok-rows.ensures.variables c.in_ok-rows.ensures.marked

@@ -1,8 +1,9 @@
 use Rattle.std.specs.Prelude.{length}
 use Rattle.std.proofs.Common.{refl, sym, ap, ◌∙◌, subst}
 use Rattle.gf_flip.specs.Along.{HasNonzero}
-use Rattle.gf_flip.proofs.CrossingMath.{crossing_width, crossing_nonzero, monic_parts, ever_topped}
-use Rattle.gf_flip.proofs.FlipSteps.{have_at, weight_at, realisable_at, neighbour_at, topped_at}
+use Rattle.gf_flip.proofs.CrossingMath.{crossing_width, crossing_nonzero, monic_parts}
+use Rattle.gf_flip.proofs.LiftTailLaws.{copies-length}
+use Rattle.gf_flip.proofs.FlipSteps.{have_at, weight_at, ending_at, lifts_weight, ended_variables, ended_neighbour}
 use Rattle.gf_flip.proofs.flips.early.Goals as goal
 
 pub top_lifts-requires-clause-marked : goal.top_lifts-requires-clause-marked
@@ -20,14 +21,23 @@ top_lifts-requires-clause-members c = have_at c.args.set.now.variables (length c
 pub top_lifts-requires-clause-nonzero : goal.top_lifts-requires-clause-nonzero
 top_lifts-requires-clause-nonzero c = subst HasNonzero (sym c.as_slice.ensures.value) (crossing_nonzero c.args.set.now.variables c.args.set.now.items c.args.normal.now c.requires.crossing)
 
-pub new-all-requires : goal.new-all-requires
-new-all-requires c = have_at (length c.as_slice.result.now) c.variables.result c.in_ok-lifted.lifted.items c.in_ok-lifted.lifted.items c.in_ok-lifted.ensures.variables refl (c.variables.ensures ∙ sym (ap length c.as_slice.ensures.value ∙ crossing_width c.args.set.now.variables c.args.set.now.items c.args.normal.now c.requires.crossing))
+pub reduced_tails-requires-clause-marked : goal.reduced_tails-requires-clause-marked
+reduced_tails-requires-clause-marked c = lifts_weight c.args.set.now.variables c.args.set.now.items c.items.result.now c.args.normal.now c.as_slice.result.now c.args.below.now c.in_ok-lifted.lifted.members.items c.requires.crossing c.requires.parts c.items.ensures.value c.as_slice.ensures.value c.in_ok-lifted.ensures.value
 
-pub autoreduce-requires : goal.autoreduce-requires
-autoreduce-requires c = realisable_at c.args.set.now.variables c.variables.result c.args.set.now.items c.args.normal.now c.args.below.now c.in_ok-lifted.lifted.items c.new-all.result c.requires.crossing c.requires.parts (ever_topped c.args.set.now.variables c.args.set.now.items c.args.normal.now c.args.below.now c.in_ok-lifted.lifted.items c.requires.parts (topped_at c.args.set.now.items c.items.result.now c.args.normal.now c.as_slice.result.now c.args.below.now c.in_ok-lifted.lifted.items c.items.ensures.value c.as_slice.ensures.value c.in_ok-lifted.ensures.value)) c.variables.ensures c.new-all.ensures
+pub reduced_tails-requires-clause-flags : goal.reduced_tails-requires-clause-flags
+reduced_tails-requires-clause-flags c = copies-length c.items.result.now c.in_ok-lifted.lifted.members.items c.in_ok-lifted.lifted.copied.items c.in_ok-lifted.ensures.copied
+
+pub reduced_tails-requires-clause-variables : goal.reduced_tails-requires-clause-variables
+reduced_tails-requires-clause-variables c = record { n = length c.as_slice.result.now; each = c.in_ok-lifted.ensures.variables }
+
+pub new-all-requires : goal.new-all-requires
+new-all-requires c = ended_variables c.args.set.now.variables c.variables.result c.args.set.now.items c.args.normal.now c.args.below.now c.in_ok-lifted.lifted.members.items c.in_ok-members.members.items c.variables.ensures
+    (ending_at c.args.set.now.variables c.args.set.now.items c.items.result.now c.args.normal.now c.as_slice.result.now c.args.below.now c.in_ok-lifted.lifted.members.items c.in_ok-lifted.lifted.copied.items c.in_ok-members.members.items c.requires.crossing c.requires.parts c.items.ensures.value c.as_slice.ensures.value c.in_ok-lifted.ensures.value c.in_ok-lifted.ensures.variables c.in_ok-lifted.ensures.copied c.in_ok-members.ensures)
 
 pub returns-in-Ok-clause-value : goal.returns-in-Ok-clause-value
-returns-in-Ok-clause-value c = neighbour_at c.args.set.now.variables c.variables.result c.args.set.now.items c.args.normal.now c.args.below.now c.in_ok-lifted.lifted.items c.new-all.result c.in-Ok.across c.requires.crossing c.requires.parts (ever_topped c.args.set.now.variables c.args.set.now.items c.args.normal.now c.args.below.now c.in_ok-lifted.lifted.items c.requires.parts (topped_at c.args.set.now.items c.items.result.now c.args.normal.now c.as_slice.result.now c.args.below.now c.in_ok-lifted.lifted.items c.items.ensures.value c.as_slice.ensures.value c.in_ok-lifted.ensures.value)) c.variables.ensures c.new-all.ensures c.in-Ok.ensures.value c.in-Ok.ensures.arranged
+returns-in-Ok-clause-value c = ended_neighbour c.args.set.now.variables c.variables.result c.args.set.now.items c.args.normal.now c.args.below.now c.in_ok-lifted.lifted.members.items c.in_ok-members.members.items c.new-all.result c.in-Ok.across c.requires.crossing c.requires.parts c.variables.ensures
+    (ending_at c.args.set.now.variables c.args.set.now.items c.items.result.now c.args.normal.now c.as_slice.result.now c.args.below.now c.in_ok-lifted.lifted.members.items c.in_ok-lifted.lifted.copied.items c.in_ok-members.members.items c.requires.crossing c.requires.parts c.items.ensures.value c.as_slice.ensures.value c.in_ok-lifted.ensures.value c.in_ok-lifted.ensures.variables c.in_ok-lifted.ensures.copied c.in_ok-members.ensures)
+    c.new-all.ensures c.in-Ok.ensures
 
 pub returns-in-Ok-clause-variables : goal.returns-in-Ok-clause-variables
-returns-in-Ok-clause-variables c = c.in-Ok.ensures.value.arranged.variables ∙ ap (λ z. z.variables) c.new-all.ensures ∙ c.variables.ensures
+returns-in-Ok-clause-variables c = c.in-Ok.ensures.variables ∙ ap (λ z. z.variables) c.new-all.ensures ∙ c.variables.ensures

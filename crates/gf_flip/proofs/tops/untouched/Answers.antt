@@ -1,4 +1,5 @@
-use Rattle.std.proofs.Common.{sym, ◌∙◌}
+use Rattle.std.specs.Prelude.{Contains}
+use Rattle.std.proofs.Common.{sym, ◌∙◌, subst}
 use Rattle.gf_poly.proofs.DescendingLaws.{equal_same}
 use Rattle.gf_buchberger.proofs.SingleLaws.{single_at}
 use Rattle.gf_flip.proofs.TopLaws.{untouched_at, monic_member}
@@ -12,3 +13,6 @@ returns-in-Ok-clause-value c = untouched_at c.args.by.now c.args.normal.now c.ar
     (sym c.head.ensures.value ∙ equal_same c.head.result.now c.head-head.result.now (sym c.compare.ensures ∙ c.in-Equal.is) ∙ c.head-head.ensures.value)
     (c.is_alone.ensures c.if-not-is_alone.false)
     c.in-Ok.ensures
+
+pub returns-in-Ok-clause-copied : goal.returns-in-Ok-clause-copied
+returns-in-Ok-clause-copied c = subst (Contains c.args.by.now) (sym c.in-Ok.ensures) (c.members.j, c.members-test.true, sym c.index-by-j.is)
