@@ -2,10 +2,10 @@
 //!
 //! Given rows and equations with `n` columns, `strict` finds a vector on which every row is positive and every equation
 //! zero, or multipliers which show that there is none: those of the rows not negative and not all zero, with the zero
-//! vector as the sum. A pivoting engine (`pivoting.rt`) makes a candidate, and exact checks (`check.rt`) judge it. Where
-//! there is none that is right, one column is eliminated at a time (Fourier's and Motzkin's elimination, one row at a
-//! time), and what is found is carried back. Read `specs/Alternative.antt` first, then `specs/Elimination.antt` and
-//! `specs/Recursion.antt`.
+//! vector as the sum. With more than three columns a pivoting engine (`pivoting.rt`) makes a candidate, and exact checks
+//! (`check.rt`) judge it. Else, and where there is none that is right, one column is eliminated at a time (Fourier's and
+//! Motzkin's elimination, one row at a time), and what is found is carried back. Read `specs/Alternative.antt` first, then
+//! `specs/Elimination.antt` and `specs/Recursion.antt`.
 #![tactic(auto)]
 
 mod answer;
@@ -29,8 +29,3 @@ pub use check::is_solution;
 pub use error::{ConeOverflow, GordanError};
 pub use feasibility::{gordans_alternative, strict, strict_guessed, strict_plain};
 pub use found::Found;
-
-#[cfg(test)]
-mod basis_tests;
-#[cfg(test)]
-mod tests;

@@ -1,0 +1,8 @@
+//! Tests of the crates below, of what no clause says. They stand in a crate of their own since a crate with tests is proved
+//! twice, with them and without.
+#![tactic(auto)]
+
+#[cfg(test)]
+mod real_bases;
+#[cfg(test)]
+mod strict;
