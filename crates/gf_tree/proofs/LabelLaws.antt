@@ -1,5 +1,5 @@
 -- The labels, children and parent of a basis, and comparisons of vectors.
--- To cite: rises, labels_all, child_none, child_some, child_other, parent_some, parent_none, less_before, before_less, equal_same, same_equal,
+-- To cite: rises, labels_all, child_none, child_upward, child_some, child_other, parent_some, parent_none, less_before, before_less, equal_same, same_equal,
 -- across_node, across_in, across_some, crossing_of, AreOther, place_here, other_more, no_place.
 use Rattle.std.specs.Prelude.{◌≡◌, ◌⊎◌, ℕ, zero, suc, ◌+◌, ◌<◌, ◌≤◌, List, [], ◌∷◌, length, get_or, Contains, ℤ, Some, None}
 use Rattle.std.specs.Ordering.{int_cmp, MatchOrdering}
@@ -13,16 +13,18 @@ use Rattle.gf_poly.specs.Marking.{MarkedPolynomials, polys}
 use Rattle.gf_walk.specs.Tree.{RisesBy, HasLabels, IsChildOf, IsParentOf}
 use Rattle.gf_facets.specs.Rows.{negated}
 use Rattle.gf_facets.specs.Regions.{Region}
-use Rattle.gf_facets.specs.LexPositive.{IsBefore}
+use Rattle.gf_facets.specs.LexPositive.{IsLexPositive, rooted, IsNegative, IsBefore}
 use Rattle.gf_facets.specs.Normals.{Ascends, AreNormals}
 use Rattle.gf_facets.specs.Facets.{IsFlippable}
+use Rattle.gf_facets.proofs.LexPositiveLaws.{lex-not_both}
 use Rattle.gf_facets.proofs.VectorOrder.{before_strict, vectors_compare}
 use Rattle.gf_flip.specs.Crossings.{IsCrossing, IsNeighbour}
 use Rattle.gf_reverse.specs.Upward.{IsWayUp, IsNode, IsNodeIn, IsParent, fan_of}
 use Rattle.gf_reverse.specs.Answers.{IsAcross, IsWayAnswer}
 use Rattle.gf_reverse.proofs.UpwardLaws.{from_parent}
 use Rattle.gf_reverse.proofs.TreeLaws.{from_above}
-use Rattle.gf_reverse.proofs.ChildLaws.{child_across, child_flippable, child_only}
+use Rattle.gf_reverse.proofs.ChildLaws.{child_across, child_flippable, child_negative, child_only}
+use Rattle.gf_reverse.proofs.StepsLaws.{rooted-negated}
 use Rattle.gf_reverse.proofs.ListLaws.{own}
 
 -- ---- labels
@@ -44,6 +46,10 @@ labels_all k u ns h v c p = h.all c (from_parent (fan_of k u) v c u (from_above 
 -- no child across what isn't flippable
 pub child_none : (k : Region) (u : MarkedPolynomials) (b : List ℤ) → IsAcross k u b None → IsChildOf (IsParent k) u b None
 child_none k u b h v p = h (child_flippable k u v b p)
+
+-- nor across a normal that is negative at the root
+pub child_upward : (k : Region) (u : MarkedPolynomials) (b : List ℤ) → IsNegative k.root b → IsChildOf (IsParent k) u b None
+child_upward k u b h v p = lex-not_both (negated (rooted k.root b)) h (subst (λ (z : List ℤ). IsLexPositive (negated z)) (rooted-negated k.root b) (child_negative k u v b p))
 
 -- the neighbour is the child where its way up leads back
 pub child_some : (k : Region) (u w : MarkedPolynomials) (b back : List ℤ) → IsNode k u → IsAcross k u b (Some w) → IsWayUp w.variables k w.items back → back ≡ negated b →

@@ -14,7 +14,7 @@ use Rattle.gf_reverse.proofs.ListLaws.{root_above, root_own}
 use Rattle.gf_tree.specs.declared.above.Parent.{Parent}
 use Rattle.gf_tree.specs.declared.error.TreeError.{TreeError}
 use Rattle.gf_tree.specs.declared.above.Parent.TheVariants.{Root, Up}
-use Rattle.gf_tree.specs.Parents.{ideal_of, IsAbove, IsDegreeBasis, IsRootFor}
+use Rattle.gf_tree.specs.Parents.{ideal_of, IsParentTold, IsDegreeBasis, IsRootFor}
 
 -- as a basis of the ideal that it generates, among the weights in its own variables
 pub moved_node : (m : ℕ) (v : MarkedPolynomials) → m ≡ v.variables → IsNode (all_positive v.variables) v → IsNode (all_positive m) v
@@ -32,20 +32,20 @@ top_exactly v h =
 
 -- ---- what is above a basis
 
-pub above_none : (m : ℕ) (v : MarkedPolynomials) → m ≡ v.variables → IsWayAnswer (all_positive m) v None → IsAbove v Root
+pub above_none : (m : ℕ) (v : MarkedPolynomials) → m ≡ v.variables → IsWayAnswer (all_positive m) v None → IsParentTold v Root
 above_none m v e h = subst (λ (j : ℕ). (a : List ℤ) → LeadsUp v.variables (all_positive j) v.items a → ⊥) e h
 
-pub above_some : (m : ℕ) (v u : MarkedPolynomials) (a : List ℤ) → m ≡ v.variables → IsNodeIn (ideal_of v) v → IsWayAnswer (all_positive m) v (Some a) → IsAcross (all_positive m) v a (Some u) → IsAbove v (Up a u)
+pub above_some : (m : ℕ) (v u : MarkedPolynomials) (a : List ℤ) → m ≡ v.variables → IsNodeIn (ideal_of v) v → IsWayAnswer (all_positive m) v (Some a) → IsAcross (all_positive m) v a (Some u) → IsParentTold v (Up a u)
 above_some m v u a e h w x =
     let y = subst (λ (j : ℕ). IsAcross (all_positive j) v a (Some u)) e x in
     (subst (λ (j : ℕ). IsWayUp v.variables (all_positive j) v.items a) e w, record { fan = h.fan; variables = y.0; basis = y.1.there }, y.1)
 
 -- the answer tells whether it is the root
-pub told_root : (v : MarkedPolynomials) (p : Parent) → IsNodeIn (ideal_of v) v → IsAbove v p → p ≡ Root ↔ IsDegreeBasis v
+pub told_root : (v : MarkedPolynomials) (p : Parent) → IsNodeIn (ideal_of v) v → IsParentTold v p → p ≡ Root ↔ IsDegreeBasis v
 told_root v Root h none = (λ e. (top_exactly v h).0 none, λ d. refl)
 told_root v (Up a u) h above = (λ e. absurd (let f : Up a u ≡ Root = e in cc), λ d. absurd ((top_exactly v h).1 d a above.0.leads))
 
-pub roots_told : (v : MarkedPolynomials) (r : Result Parent TreeError) → IsNodeIn (ideal_of v) v → IfOk r (IsAbove v) → IfOk r (λ p. p ≡ Root ↔ IsDegreeBasis v)
+pub roots_told : (v : MarkedPolynomials) (r : Result Parent TreeError) → IsNodeIn (ideal_of v) v → IfOk r (IsParentTold v) → IfOk r (λ p. p ≡ Root ↔ IsDegreeBasis v)
 roots_told v (Ok p) h a = told_root v p h a
 roots_told v (Err e) h a = a
 

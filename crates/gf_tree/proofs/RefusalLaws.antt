@@ -23,7 +23,7 @@ use Rattle.gf_reverse.proofs.TreeLaws.{SameFan, own_fan, back_fan, node_moved}
 use Rattle.gf_reverse.proofs.ListLaws.{root_above}
 use Rattle.gf_tree.specs.declared.error.TreeError.{TreeError}
 use Rattle.gf_tree.specs.declared.error.TreeError.TheVariants.{Memory, Cone}
-use Rattle.gf_tree.specs.Refusals.{of_flip_error, of_cone_error, IsSystemStep, IsTreeRefusal, IsTreeWithinLimits}
+use Rattle.gf_tree.specs.Refusals.{of_flip_error, of_cone_error, IsConeStep, IsTreeRefusal, IsTreeWithinLimits}
 
 -- ---- steps
 

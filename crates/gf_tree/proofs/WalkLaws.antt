@@ -1,6 +1,6 @@
 -- A walker's step, in the words of bases and paths.
--- To cite: walk_of, count_along, left_at_top, step_to, step_end, left_after, left_at_end, parts_of, left_first, left_rest, resumed, left_resumed.
-use Rattle.std.specs.Prelude.{◌≡◌, ◌⊎◌, ℕ, suc, ◌+◌, ◌-◌, ◌<◌, ◌≤◌, List, [], ◌∷◌, ◌++◌, ℤ, length, Option, Some, None}
+-- To cite: walk_of, count_along, left_at_top, left_after, step_to, advance_own, left_at_end, step_end, parts_of, left_first, left_rest, resumed, left_resumed.
+use Rattle.std.specs.Prelude.{◌≡◌, ◌⊎◌, ℕ, suc, ◌+◌, ◌-◌, ◌<◌, ◌≤◌, List, [], ◌∷◌, ◌++◌, ℤ, length, Option, Some, None, IfSome}
 use Rattle.std.proofs.Common.{arith, refl, sym, ap, ◌∙◌, subst, length-append}
 use Rattle.gf_poly.specs.Marking.{MarkedPolynomials}
 use Rattle.gf_walk.specs.declared.mark.Mark.{Mark}
@@ -19,9 +19,10 @@ use Rattle.gf_reverse.proofs.TreeLaws.{count, upward_level, upward_finite}
 use Rattle.gf_reverse.proofs.LeftLaws.{advance_answers, top_seen_below}
 use Rattle.gf_reverse.proofs.ListLaws.{own, root_above, below_node, same_root}
 use Rattle.gf_tree.specs.declared.tree.BasisTree.{BasisTree}
+use Rattle.gf_tree.proofs.ParentLaws.{same_width}
 use Rattle.gf_tree.specs.Parents.{ideal_of, IsRootFor}
 use Rattle.gf_tree.specs.Walks.{Walk, region_at, ideal_at, AreLeft, HasListLeft, left_at_most, walk_at}
-use Rattle.gf_tree.specs.Steps.{IsStepTo, IsEnd, AreWalkParts, IsResumed}
+use Rattle.gf_tree.specs.Steps.{IsStepTo, IsEnd, IsAdvance, AreWalkParts, IsResumed}
 
 -- where a walker over the tree stands, and how many bases it gave
 abbrev pub walk_of : Place BasisTree MarkedPolynomials (List ℤ) → ℕ → Walk
@@ -99,11 +100,16 @@ module _ (p q : Place BasisTree MarkedPolynomials (List ℤ)) (n m : ℕ) (v : M
         variables = ap (λ (t : BasisTree). t.variables) e;
         given = more;
         basis = subst (IsNodeIn (fan_of (all_positive p.tree.variables) p.here)) here_is basis_q;
-        own = subst (IsNodeIn (fan_of (all_positive q.tree.variables) q.here)) here_is own_q;
+        own = subst (λ (w : MarkedPolynomials). IsNodeIn (ideal_of w) w) here_is (subst (λ (j : ℕ). IsNode (all_positive j) q.here) (same_width q.tree.variables q.here own_q) own_q);
         fewer = (let w : length had.rest + n ≤ count (all_positive p.tree.variables) p.here = had.few in let g : suc (count (all_positive q.tree.variables) q.here - m) ≤ count (all_positive p.tree.variables) p.here - n = (let c = same_count in omega (arith, long, w, c, more)) in g);
         first = list;
         paths = answers_by_paths (all_positive p.tree.variables) p.mark q.mark p.here q.here p.depth q.depth v steps;
       }
+
+-- what is answered is a basis of the ideal that it generates
+pub advance_own : (old new : Walk) (o : Option MarkedPolynomials) → IsAdvance old new o → IfSome o (λ v. IsNodeIn (ideal_of v) v)
+advance_own old new (Some v) s = s.own
+advance_own old new None e = tt
 
 -- ---- the end
 

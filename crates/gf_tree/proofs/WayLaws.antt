@@ -1,10 +1,14 @@
 -- The way up among the normals that a program keeps: ascending, each once.
 -- To cite: place_of_normal, way_found, way_none, least_of_way, no_crossing, no_way, way_read, place_read, missing_read, told_way,
--- not_told, told_crossing, told_no_crossing.
-use Rattle.std.specs.Prelude.{◌≡◌, ◌⊎◌, ℕ, ◌<◌, List, [], ◌∷◌, length, get_or, Contains, ℤ, Some, None, Bool, true, false, IsTrue, ◌↔◌}
+-- not_told, told_crossing, told_no_crossing, negative_read, small_at.
+use Rattle.std.specs.Prelude.{◌≡◌, ◌⊎◌, ℕ, ◌<◌, ◌≤◌, ◌^◌, List, [], ◌∷◌, length, get_or, Contains, All, ℤ, unsigned_abs, Some, None, Bool, true, false, IsTrue, ◌↔◌}
 use Rattle.std.proofs.Common.{arith, refl, sym, ap, ◌∙◌, subst, inl, inr}
 use Rattle.std.proofs.lemmas.Bool.{cases_lt}
 use Rattle.std.proofs.lemmas.List.{get_or_default}
+use Rattle.std.specs.declared.cmp.Ordering.{Ordering}
+use Rattle.std.specs.declared.cmp.Ordering.TheVariants.{Less}
+use Rattle.gf_vec.specs.RootSign.{root_sign}
+use Rattle.gf_gordan.specs.Alternative.{AreRows}
 use Rattle.gf_poly.specs.Marking.{MarkedPolynomial}
 use Rattle.gf_facets.specs.Rows.{IsNormal}
 use Rattle.gf_facets.specs.Regions.{all_positive}
@@ -13,9 +17,12 @@ use Rattle.gf_facets.specs.Facets.{IsFlippable}
 use Rattle.gf_facets.proofs.VectorOrder.{before_strict}
 use Rattle.gf_cone.specs.Cones.{ConeRows, normal_at, IsConeOf}
 use Rattle.gf_cone.specs.Crossing.{LeadsUpAt, IsLeastUp, IsFlipDecided}
+use Rattle.gf_cone.specs.Small.{IsSmall}
 use Rattle.gf_cone.proofs.AnswerLaws.{crossable_flippable}
+use Rattle.gf_cone.proofs.CrossingLaws.{negative_told, small_read}
+use Rattle.gf_cone.proofs.SmallLaws.{small_for_sign}
 use Rattle.gf_reverse.specs.Upward.{LeadsUp, IsWayUp}
-use Rattle.gf_tree.specs.Places.{IsPlaceOf}
+use Rattle.gf_tree.specs.Places.{IsVectorPlace}
 use Rattle.gf_tree.proofs.LabelLaws.{rises}
 
 -- what is told not to hold
@@ -88,10 +95,10 @@ module _ (n m : ℕ) (same : m ≡ n) (bs : List MarkedPolynomial) (c : ConeRows
       subst (IsWayUp n (all_positive m) bs) (sym (read_normal given d i x a e f (subst (λ (z : List (List ℤ)). i < length z) (sym (e ∙ ap (λ (z : ConeRows). z.normals) f)) w.leads.inside) r q)) (way_found i w)
 
   -- a vector at a place of the list
-  pub place_read : (given : List (List ℤ)) (a : List ℤ) (i : ℕ) → given ≡ c.normals → IsPlaceOf given a (Some i) → (i < length c.normals) × (normal_at c i ≡ a)
+  pub place_read : (given : List (List ℤ)) (a : List ℤ) (i : ℕ) → given ≡ c.normals → IsVectorPlace given a (Some i) → (i < length c.normals) × (normal_at c i ≡ a)
   place_read given a i e p = subst (λ (z : List (List ℤ)). (i < length z) × (get_or z i [] ≡ a)) e p
 
-  pub missing_read : (given : List (List ℤ)) (a : List ℤ) → given ≡ c.normals → IsPlaceOf given a None → Contains c.normals a → ⊥
+  pub missing_read : (given : List (List ℤ)) (a : List ℤ) → given ≡ c.normals → IsVectorPlace given a None → Contains c.normals a → ⊥
   missing_read given a e p h = p (subst (λ (z : List (List ℤ)). Contains z a) (sym e) h)
 
   -- whether the vector at a place is the way up
@@ -107,3 +114,11 @@ module _ (n m : ℕ) (same : m ≡ n) (bs : List MarkedPolynomial) (c : ConeRows
 
   pub told_no_crossing : (a : List ℤ) (i : ℕ) (b : Bool) → (i < length c.normals) × (normal_at c i ≡ a) → IsFlipDecided c i b → b ≡ false → IsFlippable n (all_positive m) bs a → ⊥
   told_no_crossing a i b p d t f = not_told b (IsFlippable n (all_positive m) bs (normal_at c i)) (d n (all_positive m) bs is) t (subst (IsFlippable n (all_positive m) bs) (sym p.1) f)
+
+  -- a normal that is seen to be negative at the root
+  pub negative_read : (given : List (List ℤ)) (a x : List ℤ) (i : ℕ) (o : Ordering) → given ≡ c.normals → AreRows c.variables given → (i < length c.normals) × (normal_at c i ≡ a) → x ≡ get_or given i x → o ≡ root_sign x → o ≡ Less →
+      IsNegative (all_positive m).root a
+  negative_read given a x i o e w p r s q = subst (IsNegative (all_positive m).root) p.1 (subst (λ (j : ℕ). IsNegative (all_positive j).root (normal_at c i)) (is.variables ∙ sym same) ((negative_told c given i x o e w p.0 r s q).0 refl))
+
+  pub small_at : (given : List (List ℤ)) (a x : List ℤ) (i : ℕ) → given ≡ c.normals → All IsSmall given → (i < length c.normals) × (normal_at c i ≡ a) → x ≡ get_or given i x → All (λ y. unsigned_abs y ≤ 2 ^ 64) x
+  small_at given a x i e s p r = small_for_sign x (small_read c given i x e s p.0 r)

@@ -1,13 +1,15 @@
 -- What is above a basis in the tree of the bases of its ideal, and the root of that tree. Laws: proofs/ParentLaws.antt.
 -- Source: Fukuda, Jensen, Thomas, Computing Gröbner fans, 3.
-use Rattle.std.specs.Prelude.{◌≡◌, ◌↔◌, List, ℤ}
+use Rattle.std.specs.Prelude.{List, ℤ, Option, Some, None}
 use Rattle.gf_exponents.specs.Orders.{gains, IsWeightedBelow}
 use Rattle.gf_poly.specs.Marking.{MarkedPolynomials, polys}
 use Rattle.gf_ideal.specs.Bases.{IsReducedBasisFor}
 use Rattle.gf_walk.specs.Path.{IsRoot}
+use Rattle.gf_walk.specs.Tree.{IsChildOf}
 use Rattle.gf_facets.specs.Regions.{Region, all_positive}
 use Rattle.gf_facets.specs.Neighbours.{AreAdjacent}
 use Rattle.gf_reverse.specs.Upward.{Fan, IsNodeIn, IsWayUp, IsParent, LeadsUp, fan_of}
+use Rattle.gf_reverse.specs.Answers.{IsAcross}
 use Rattle.gf_tree.specs.declared.above.Parent.{Parent}
 use Rattle.gf_tree.specs.declared.above.Parent.TheVariants.{Root, Up}
 
@@ -16,10 +18,15 @@ abbrev pub ideal_of : MarkedPolynomials → Fan
 ideal_of v = fan_of (all_positive v.variables) v
 
 -- no flippable normal is negative at the root, or the least one and the basis on its other side
-abbrev pub IsAbove : MarkedPolynomials → Parent → Type 0
-IsAbove v Root = (a : List ℤ) → LeadsUp v.variables (all_positive v.variables) v.items a → ⊥
-IsAbove v (Up a u) = IsWayUp v.variables (all_positive v.variables) v.items a × IsNodeIn (ideal_of v) u ×
+abbrev pub IsParentTold : MarkedPolynomials → Parent → Type 0
+IsParentTold v Root = (a : List ℤ) → LeadsUp v.variables (all_positive v.variables) v.items a → ⊥
+IsParentTold v (Up a u) = IsWayUp v.variables (all_positive v.variables) v.items a × IsNodeIn (ideal_of v) u ×
     AreAdjacent v.variables (polys v.items) (all_positive v.variables) v.items a u.items
+
+-- the neighbour across a, or that no basis is below u under a
+abbrev pub IsBelowTold : Region → MarkedPolynomials → List ℤ → Option MarkedPolynomials → Type 0
+IsBelowTold k u a (Some w) = IsAcross k u a (Some w)
+IsBelowTold k u a None = IsChildOf (IsParent k) u a None
 
 -- v is the reduced basis of its ideal by total degree, and then lex
 abbrev pub IsDegreeBasis : MarkedPolynomials → Type 0

@@ -29,7 +29,7 @@ of_cone_error cones.Memory = Memory
 -- ---- causes
 
 -- s is a step of the system that tells whether a flip may cross the facet of some normal of v
-pub record IsSystemStep (F : Fan) (v : MarkedPolynomials) (s : ConeOverflow) : Type 0 where
+pub record IsConeStep (F : Fan) (v : MarkedPolynomials) (s : ConeOverflow) : Type 0 where
   pub cone : ConeRows
   pub is_cone : IsConeOf v.variables F.region v.items cone
   pub place : ℕ
@@ -41,10 +41,10 @@ pub record IsSystemStep (F : Fan) (v : MarkedPolynomials) (s : ConeOverflow) : T
 pub data IsTreeRefusal (F : Fan) (pairs : ℕ) (e : TreeError) : Type 0 where
   flip : (v : MarkedPolynomials) (a : List ℤ) (r : BasisError) → IsNodeIn F v → IsFlippable v.variables F.region v.items a →
       IsFlipRefusal v.variables v.items a pairs r → e ≡ of_flip_error r → IsTreeRefusal F pairs e
-  system : (v : MarkedPolynomials) (s : ConeOverflow) → IsNodeIn F v → IsSystemStep F v s → e ≡ Cone s → IsTreeRefusal F pairs e
+  system : (v : MarkedPolynomials) (s : ConeOverflow) → IsNodeIn F v → IsConeStep F v s → e ≡ Cone s → IsTreeRefusal F pairs e
   memory : e ≡ Memory → IsTreeRefusal F pairs e
 
 -- no flip across a flippable normal of a basis of F leaves its limits, and no step of the systems of its normals leaves its range
 pub record IsTreeWithinLimits (F : Fan) (pairs : ℕ) : Type 0 where
   pub flips : (v : MarkedPolynomials) (a : List ℤ) → IsNodeIn F v → IsFlippable v.variables F.region v.items a → IsFlipWithinLimits v.variables v.items a pairs
-  pub systems : (v : MarkedPolynomials) (s : ConeOverflow) → IsNodeIn F v → IsSystemStep F v s → ⊥
+  pub systems : (v : MarkedPolynomials) (s : ConeOverflow) → IsNodeIn F v → IsConeStep F v s → ⊥

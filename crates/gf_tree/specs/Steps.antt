@@ -6,7 +6,7 @@ use Rattle.gf_poly.specs.Marking.{MarkedPolynomials}
 use Rattle.gf_walk.specs.declared.mark.Mark.TheVariants.{Before, Listed, Finished}
 use Rattle.gf_reverse.specs.Upward.{IsNodeIn}
 use Rattle.gf_reverse.specs.Lists.{AnswersByPaths}
-use Rattle.gf_tree.specs.Parents.{IsRootFor}
+use Rattle.gf_tree.specs.Parents.{ideal_of, IsRootFor}
 use Rattle.gf_tree.specs.Refusals.{IsTreeRefusal}
 use Rattle.gf_tree.specs.Walks.{Walk, region_at, ideal_at, AreLeft, left_at_most, walk_at}
 use Rattle.gf_tree.specs.Courses.{Course}
@@ -25,7 +25,7 @@ pub record IsStepTo (old new : Walk) (v : MarkedPolynomials) : Type 0 where
   pub variables : new.variables ≡ old.variables
   pub given : new.given ≡ old.given + 1
   pub basis : IsNodeIn (ideal_at old) v
-  pub own : IsNodeIn (ideal_at new) v
+  pub own : IsNodeIn (ideal_of v) v
   pub fewer : suc (left_at_most new) ≤ left_at_most old
   pub first : (nodes : List MarkedPolynomials) → AreLeft old nodes → (rest : List MarkedPolynomials) × (nodes ≡ v ∷ rest) × AreLeft new rest
   pub paths : AnswersByPaths (region_at old) old.mark old.here old.depth v

@@ -6,7 +6,8 @@ ghost use Rattle.gf_facets.specs.Regions.{all_positive};
 ghost use Rattle.gf_cone.specs.Cones.{IsConeOf};
 ghost use Rattle.gf_reverse.specs.Upward.{IsNode, IsWayUp, fan_of};
 ghost use Rattle.gf_reverse.specs.Answers.{IsAcross, IsWayAnswer};
-ghost use Rattle.gf_tree.specs.Places.{IsPlaceOf};
+ghost use Rattle.gf_tree.specs.Places.{IsVectorPlace};
+ghost use Rattle.gf_tree.specs.Parents.{IsBelowTold};
 ghost use Rattle.gf_tree.specs.Refusals.{IsTreeRefusal};
 
 use crate::{BasisTree, TreeError};
@@ -19,7 +20,7 @@ use std::cmp::Ordering;
 
 // The place of a vector in a list.
 fn place_of(list: &[IntVec], v: &IntVec) -> Option<usize>
-    ensures { IsPlaceOf list.now v.now result }
+    ensures { IsVectorPlace list.now v.now result }
 {
     'places: for i in 0..list.len() {
         match list[i].lex_cmp(v) {
@@ -40,7 +41,11 @@ fn cone_of(tree: &BasisTree, set: &MarkedSet) -> Result<KnownCone, AllocError>
 }
 
 // The neighbour across a flippable normal.
-fn crossed(tree: &BasisTree, set: &MarkedSet, normal: &IntVec) -> Result<MarkedSet, TreeError>
+pub(crate) fn crossed(
+    tree: &BasisTree,
+    set: &MarkedSet,
+    normal: &IntVec,
+) -> Result<MarkedSet, TreeError>
     requires node { IsNode (all_positive tree.now.variables) set.now }
     requires flippable { IsFlippable set.now.variables (all_positive tree.now.variables) set.now.items normal.now }
     ensures ok { IfOk result (λ w. IsAcross (all_positive tree.now.variables) set.now normal.now (Some w)) }
@@ -50,14 +55,14 @@ fn crossed(tree: &BasisTree, set: &MarkedSet, normal: &IntVec) -> Result<MarkedS
     Ok(across)
 }
 
-// The neighbour across a facet, or none where no flip may cross it.
-pub(crate) fn across(
+// The neighbour across a facet that leads down from a basis; none where no flip may cross it, or where it lies towards the root.
+pub(crate) fn below(
     tree: &BasisTree,
     set: &MarkedSet,
     normal: &IntVec,
 ) -> Result<Option<MarkedSet>, TreeError>
     requires { IsNode (all_positive tree.now.variables) set.now }
-    ensures ok { IfOk result (IsAcross (all_positive tree.now.variables) set.now normal.now) }
+    ensures ok { IfOk result (IsBelowTold (all_positive tree.now.variables) set.now normal.now) }
     ensures cause { IfErr result (IsTreeRefusal (fan_of (all_positive tree.now.variables) set.now) tree.now.pairs) }
 {
     let mut cone = cone_of(tree, set)?;
@@ -65,6 +70,11 @@ pub(crate) fn across(
         Some(place) => place,
         None => return Ok(None),
     };
+    let list = cone.normals();
+    match list[place].root_sign() {
+        Ordering::Less => return Ok(None),
+        _ => {}
+    }
     match cone.is_flippable(place)? {
         true => {}
         false => return Ok(None),

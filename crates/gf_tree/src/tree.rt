@@ -8,7 +8,7 @@ ghost use Rattle.gf_tree.specs.Refusals.{IsTreeRefusal};
 ghost use Rattle.gf_tree.specs.declared.error.TreeError.TheVariants.{Memory};
 
 use crate::TreeError;
-use crate::steps::{across, is_way_up, normals, way_up};
+use crate::steps::{below, crossed, is_way_up, normals, way_up};
 use gf_poly::MarkedSet;
 use gf_vec::IntVec;
 use gf_walk::{FiniteTree, Tree};
@@ -63,7 +63,7 @@ impl Tree for BasisTree {
     }
 
     fn child(&self, node: &MarkedSet, label: &IntVec) -> Result<Option<MarkedSet>, TreeError> {
-        let neighbour = match across(self, node, label)? {
+        let neighbour = match below(self, node, label)? {
             Some(neighbour) => neighbour,
             None => return Ok(None),
         };
@@ -80,14 +80,10 @@ impl Tree for BasisTree {
             Some(way) => way,
             None => return Ok(None),
         };
-        match across(self, node, &way)? {
-            Some(above) => {
-                let mut label = way;
-                label.negate();
-                Ok(Some((label, above)))
-            }
-            None => unreachable!(),
-        }
+        let above = crossed(self, node, &way)?;
+        let mut label = way;
+        label.negate();
+        Ok(Some((label, above)))
     }
 
     fn copy(&self, node: &MarkedSet) -> Result<MarkedSet, TreeError> {

@@ -1,12 +1,12 @@
 //! The way up from a basis, and the root above it.
 ghost use Rattle.std.specs.Prelude.{◌≡◌, ◌↔◌, IfOk, IfErr};
 ghost use Rattle.gf_reverse.specs.Upward.{IsNodeIn};
-ghost use Rattle.gf_tree.specs.Parents.{ideal_of, IsAbove, IsRootFor, IsDegreeBasis};
+ghost use Rattle.gf_tree.specs.Parents.{ideal_of, IsParentTold, IsRootFor, IsDegreeBasis};
 ghost use Rattle.gf_tree.specs.Refusals.{IsTreeRefusal, IsTreeWithinLimits};
 ghost use Rattle.gf_tree.specs.declared.error.TreeError.TheVariants.{Memory};
 ghost use Rattle.gf_tree.specs.declared.above.Parent.TheVariants.{Root};
 
-use crate::steps::{across, way_up};
+use crate::steps::{crossed, way_up};
 use crate::{BasisTree, Parent, TreeError};
 use gf_poly::MarkedSet;
 use std::alloc::Global;
@@ -15,17 +15,15 @@ use std::alloc::Global;
 fn above(tree: &BasisTree, set: &MarkedSet) -> Result<Parent, TreeError>
     requires same { tree.now.variables ≡ set.now.variables }
     requires basis { IsNodeIn (ideal_of set.now) set.now }
-    ensures value { IfOk result (IsAbove set.now) }
+    ensures value { IfOk result (IsParentTold set.now) }
     ensures cause { IfErr result (IsTreeRefusal (ideal_of set.now) tree.now.pairs) }
 {
     let normal = match way_up(tree, set)? {
         Some(normal) => normal,
         None => return Ok(Parent::Root),
     };
-    match across(tree, set, &normal)? {
-        Some(basis) => Ok(Parent::Up { normal, basis }),
-        None => unreachable!(),
-    }
+    let basis = crossed(tree, set, &normal)?;
+    Ok(Parent::Up { normal, basis })
 }
 
 // The root above a basis.
@@ -52,7 +50,7 @@ fn ascended(tree: &BasisTree, set: MarkedSet) -> Result<MarkedSet, TreeError>
 #[tactic(auto, using(crate::proofs::RefusalLaws::only_memory, crate::proofs::ParentLaws::roots_told))]
 pub fn parent(alloc: Global, set: &MarkedSet, pairs: u64) -> Result<Parent, TreeError>
     requires { IsNodeIn (ideal_of set.now) set.now }
-    ensures value { IfOk result (IsAbove set.now) }
+    ensures value { IfOk result (IsParentTold set.now) }
     ensures root { IfOk result (λ p. p ≡ Root ↔ IsDegreeBasis set.now) }
     ensures cause { IfErr result (IsTreeRefusal (ideal_of set.now) pairs) }
     ensures complete { IsTreeWithinLimits (ideal_of set.now) pairs → IfErr result (λ e. e ≡ Memory) }
