@@ -1,0 +1,5 @@
+use Rattle.gf_duality.proofs.TheoremsHold.{rays_are_unique}
+use Rattle.gf_duality.proofs.rays_are_unique.Goals as goal
+
+pub returns : goal.returns
+returns c = rays_are_unique

@@ -1,0 +1,5 @@
+use Rattle.gf_duality.proofs.TheoremsHold.{sums_of_rays_are_inside}
+use Rattle.gf_duality.proofs.sums_of_rays_are_inside.Goals as goal
+
+pub returns : goal.returns
+returns c = sums_of_rays_are_inside
