@@ -1,0 +1,120 @@
+-- A list that is under way: what a walker gave, and then what it has left; and the whole list below the root.
+-- To cite: given_none, given_more, given_all, refusal_given, limits_given, all_left, list_below, root_list, all_given, part_given, all_listed, part_listed.
+use Rattle.std.specs.Prelude.{◌≡◌, ℕ, List, [], ◌∷◌, ◌++◌, ℤ}
+use Rattle.std.proofs.Common.{refl, sym, ap, ◌∙◌, subst}
+use Rattle.gf_poly.specs.Marking.{MarkedPolynomials}
+use Rattle.gf_walk.specs.declared.mark.Mark.TheVariants.{Before}
+use Rattle.gf_walk.specs.Path.{IsRoot}
+use Rattle.gf_walk.specs.Listing.{Leaves}
+use Rattle.gf_walk.specs.Whole.{IsWholeList}
+use Rattle.gf_walk.proofs.FinitenessLaws.{whole_below, no_loop-rank}
+use Rattle.gf_walk.proofs.GrowingLaws.{one_more, all_there}
+use Rattle.gf_facets.specs.LexPositive.{IsBefore}
+use Rattle.gf_facets.specs.Regions.{Region, all_positive}
+use Rattle.gf_facets.proofs.VectorOrder.{before_strict}
+use Rattle.gf_reverse.specs.Upward.{Fan, IsNode, IsNodeIn, IsParent, fan_of}
+use Rattle.gf_reverse.specs.Lists.{IsListOfBases}
+use Rattle.gf_reverse.proofs.TreeLaws.{SameFan, own_fan, back_fan, node_moved, rank, upward_tree, upward_falls, upward_finite}
+use Rattle.gf_reverse.proofs.ListLaws.{own, list_of_bases}
+use Rattle.gf_tree.specs.Ideals.{IsListFor}
+use Rattle.gf_tree.specs.Parents.{ideal_of, IsRootFor}
+use Rattle.gf_tree.specs.Walks.{Walk, region_at, ideal_at, AreLeft, walk_at}
+use Rattle.gf_tree.specs.Steps.{IsStepTo, IsEnd, HasGiven}
+use Rattle.gf_tree.specs.declared.error.TreeError.{TreeError}
+use Rattle.gf_tree.specs.Refusals.{IsTreeRefusal, IsTreeWithinLimits}
+use Rattle.gf_tree.proofs.RefusalLaws.{refusal_beside, limits_moved}
+use Rattle.gf_tree.proofs.IdealLaws.{list_for}
+
+-- ---- one basis after another
+
+-- at the beginning nothing was given
+pub given_none : (w : Walk) → IsNodeIn (ideal_at w) w.here → HasGiven w [] w
+given_none w h = record { pairs = refl; variables = refl; basis = h; back = h; whole = λ nodes l. (nodes, refl, l) }
+
+-- bases of one ideal
+across_fans : (k : Region) (u v w : MarkedPolynomials) → IsNodeIn (fan_of k u) v → IsNodeIn (fan_of k v) w → IsNodeIn (fan_of k u) w
+across_fans k u v w h m = node_moved (fan_of k v) (fan_of k u) w (back_fan (fan_of k u) (fan_of k v) (own_fan (fan_of k u) v h)) m
+
+back_again : (k : Region) (u v : MarkedPolynomials) → IsNode k u → IsNodeIn (fan_of k u) v → IsNodeIn (fan_of k v) u
+back_again k u v h m = node_moved (fan_of k u) (fan_of k v) u (own_fan (fan_of k u) v m) h
+
+-- a step gives one more
+pub given_more : (start old new : Walk) (done : List MarkedPolynomials) (v : MarkedPolynomials) → IsNodeIn (ideal_at start) start.here → HasGiven start done old → IsStepTo old new v → HasGiven start (done ++ v ∷ []) new
+given_more start old new done v h g s =
+    let k = region_at start in
+    let basis : IsNodeIn (fan_of k start.here) new.here =
+    across_fans k start.here old.here new.here g.basis (subst (λ (j : ℕ). IsNodeIn (fan_of (all_positive j) old.here) new.here) g.variables (subst (IsNodeIn (ideal_at old)) (sym s.here) s.basis)) in
+    record {
+      pairs = s.pairs ∙ g.pairs;
+      variables = s.variables ∙ g.variables;
+      basis = basis;
+      back = subst (λ (j : ℕ). IsNodeIn (fan_of (all_positive j) new.here) start.here) (sym (s.variables ∙ g.variables)) (back_again k start.here new.here h basis);
+      whole = λ nodes l.
+          let a = g.whole nodes l in
+          let f = s.first a.0 a.2 in
+          (f.0, one_more nodes done a.0 f.0 (done ++ v ∷ []) v a.1 f.1 refl, f.2);
+    }
+
+-- where nothing is left, all were given
+pub given_all : (start old new : Walk) (done nodes : List MarkedPolynomials) → HasGiven start done old → IsEnd old new → AreLeft start nodes → nodes ≡ done
+given_all start old new done nodes g e l = (let a = g.whole nodes l in all_there nodes done a.0 a.1 (e.none a.0 a.2))
+
+-- a refusal of its walker is one of a search over the bases of the first one's ideal
+pub refusal_given : (start now : Walk) (done : List MarkedPolynomials) (e : TreeError) → HasGiven start done now → IsTreeRefusal (ideal_at now) now.pairs e → IsTreeRefusal (ideal_at start) start.pairs e
+refusal_given start now done e g r =
+    refusal_beside (region_at start) start.pairs start.here now.here e g.basis
+    (subst (λ (p : ℕ). IsTreeRefusal (fan_of (region_at start) now.here) p e) g.pairs (subst (λ (j : ℕ). IsTreeRefusal (fan_of (all_positive j) now.here) now.pairs e) g.variables r))
+
+-- and limits are kept alike
+pub limits_given : (start now : Walk) (done : List MarkedPolynomials) → HasGiven start done now → IsTreeWithinLimits (ideal_at start) start.pairs → IsTreeWithinLimits (ideal_at now) now.pairs
+limits_given start now done g w =
+    subst (λ (j : ℕ). IsTreeWithinLimits (fan_of (all_positive j) now.here) now.pairs) (sym g.variables)
+    (subst (λ (p : ℕ). IsTreeWithinLimits (fan_of (region_at start) now.here) p) (sym g.pairs) (limits_moved (ideal_at start) (fan_of (region_at start) now.here) start.pairs (own_fan (ideal_at start) now.here g.basis) w))
+
+-- so what was left at the start is what was given
+pub all_left : (start old new : Walk) (done : List MarkedPolynomials) → ((nodes : List MarkedPolynomials) × AreLeft start nodes) → HasGiven start done old → IsEnd old new → AreLeft start done
+all_left start old new done f g e = subst (AreLeft start) (given_all start old new done f.0 g e f.1) f.1
+
+-- ---- below the root
+
+-- what is left before the root is the list of all bases
+pub list_below : (v root : MarkedPolynomials) (pairs : ℕ) (nodes : List MarkedPolynomials) → IsNodeIn (ideal_of v) v → IsRootFor v root → AreLeft (walk_at root pairs) nodes → IsListOfBases (all_positive v.variables) v nodes
+list_below v root pairs nodes h r l =
+    let k = all_positive v.variables in
+    let e : root.variables ≡ v.variables = r.basis.variables in
+    let leaves : Leaves IsBefore (IsParent k) Before root 0 nodes = subst (λ (j : ℕ). Leaves IsBefore (IsParent (all_positive j)) Before root 0 nodes) e l in
+    let is_root : IsRoot (IsParent k) root = subst (λ (j : ℕ). IsRoot (IsParent (all_positive j)) root) e r.is_root in
+    let whole : IsWholeList IsBefore (IsParent k) root nodes = whole_below IsBefore (IsParent k) before_strict (upward_tree k) root (no_loop-rank (IsParent k) (rank k) (upward_falls k) root) nodes leaves in
+    list_of_bases k root v nodes h r.basis is_root whole
+
+-- there is a list of what is left before a basis
+pub root_list : (root : MarkedPolynomials) (pairs : ℕ) → IsNodeIn (ideal_of root) root → (nodes : List MarkedPolynomials) × AreLeft (walk_at root pairs) nodes
+root_list root pairs h = (let f = upward_finite (all_positive root.variables) root h in (f.nodes, f.leaves))
+
+-- a walker that began before the root and has nothing left gave all bases
+pub all_given : (v root : MarkedPolynomials) (pairs : ℕ) (done : List MarkedPolynomials) (old new : Walk) → IsNodeIn (ideal_of v) v → IsRootFor v root → HasGiven (walk_at root pairs) done old → IsEnd old new →
+    IsListOfBases (all_positive v.variables) v done
+all_given v root pairs done old new h r g e =
+    let f = root_list root pairs r.own in
+    subst (IsListOfBases (all_positive v.variables) v) (given_all (walk_at root pairs) old new done f.0 g e f.1) (list_below v root pairs f.0 h r f.1)
+
+-- what it gave so far is the beginning of that list
+pub part_given : (v root : MarkedPolynomials) (pairs : ℕ) (done : List MarkedPolynomials) (now : Walk) → IsNodeIn (ideal_of v) v → IsRootFor v root → HasGiven (walk_at root pairs) done now →
+    (rest : List MarkedPolynomials) × IsListOfBases (all_positive v.variables) v (done ++ rest)
+part_given v root pairs done now h r g =
+    let f = root_list root pairs r.own in
+    let a = g.whole f.0 f.1 in
+    (a.0, subst (IsListOfBases (all_positive v.variables) v) a.1 (list_below v root pairs f.0 h r f.1))
+
+-- ---- in the words of the ideal
+
+pub all_listed : (F : Fan) (v root : MarkedPolynomials) (pairs : ℕ) (done : List MarkedPolynomials) (old new : Walk) → F.region ≡ all_positive v.variables → IsNodeIn F v → IsRootFor v root → HasGiven (walk_at root pairs) done old → IsEnd old new →
+    IsListFor F done
+all_listed F v root pairs done old new e h r g x =
+    list_for F v done h (subst (λ (k : Region). IsListOfBases k v done) (sym e) (all_given v root pairs done old new (own (all_positive v.variables) F v e h) r g x))
+
+pub part_listed : (F : Fan) (v root : MarkedPolynomials) (pairs : ℕ) (done : List MarkedPolynomials) (now : Walk) → F.region ≡ all_positive v.variables → IsNodeIn F v → IsRootFor v root → HasGiven (walk_at root pairs) done now →
+    (rest : List MarkedPolynomials) × IsListFor F (done ++ rest)
+part_listed F v root pairs done now e h r g =
+    let a = part_given v root pairs done now (own (all_positive v.variables) F v e h) r g in
+    (a.0, list_for F v (done ++ a.0) h (subst (λ (k : Region). IsListOfBases k v (done ++ a.0)) (sym e) a.1))

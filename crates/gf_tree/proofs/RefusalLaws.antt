@@ -1,0 +1,89 @@
+-- Refusals of a search: of its steps, seen from another basis of the same ideal, and where it stays within its limits.
+-- To cite: flip_refused, cone_refused, place_refused, refusal_moved, limits_moved, refusal_beside, refusal_above, refusal_over, within_memory, only_memory,
+-- only_memory_back.
+use Rattle.std.specs.Prelude.{◌≡◌, ℕ, ◌<◌, ◌≤◌, List, [], ◌∷◌, ℤ, length, Result, Ok, Err, IfErr}
+use Rattle.std.proofs.Common.{arith, refl, sym, ap, ◌∙◌, subst}
+use Rattle.gf_poly.specs.Marking.{MarkedPolynomials}
+use Rattle.gf_gordan.specs.declared.error.ConeOverflow.{ConeOverflow}
+use Rattle.gf_gordan.specs.declared.error.GordanError.{GordanError}
+use Rattle.gf_gordan.specs.declared.error.GordanError.TheVariants as cones
+use Rattle.gf_gordan.specs.Steps.{Failed}
+use Rattle.gf_buchberger.specs.declared.bases.BasisError.{BasisError}
+use Rattle.gf_buchberger.specs.declared.bases.BasisError.TheVariants as flips
+use Rattle.gf_facets.specs.Regions.{Region}
+use Rattle.gf_facets.specs.Facets.{IsFlippable}
+use Rattle.gf_cone.specs.Cones.{ConeRows, normal_at, other_rows, IsConeOf}
+use Rattle.gf_cone.specs.Answers.{IsNormalStep}
+use Rattle.gf_cone.specs.Crossing.{IsStepBefore}
+use Rattle.gf_flip.specs.Operations.{IsFlipRefusal, IsFlipWithinLimits}
+use Rattle.gf_flip.proofs.RefusalSteps.{flip_refusal_within}
+use Rattle.gf_walk.specs.Walk.{IsRefused, IsRefusedAbove}
+use Rattle.gf_reverse.specs.Upward.{Fan, IsNodeIn, IsNode, IsParent, fan_of}
+use Rattle.gf_reverse.proofs.TreeLaws.{SameFan, own_fan, back_fan, node_moved}
+use Rattle.gf_reverse.proofs.ListLaws.{root_above}
+use Rattle.gf_tree.specs.declared.error.TreeError.{TreeError}
+use Rattle.gf_tree.specs.declared.error.TreeError.TheVariants.{Memory, Cone}
+use Rattle.gf_tree.specs.Refusals.{of_flip_error, of_cone_error, IsSystemStep, IsTreeRefusal, IsTreeWithinLimits}
+
+-- ---- steps
+
+pub flip_refused : (k : Region) (pairs : ℕ) (v : MarkedPolynomials) (a : List ℤ) (r : BasisError) (e : TreeError) → IsNode k v → IsFlippable v.variables k v.items a →
+    IsFlipRefusal v.variables v.items a pairs r → e ≡ of_flip_error r → IsTreeRefusal (fan_of k v) pairs e
+flip_refused k pairs v a r e h f c q = IsTreeRefusal.flip v a r h f c q
+
+-- a step of the system of one of the first normals
+pub cone_refused : (k : Region) (pairs : ℕ) (v : MarkedPolynomials) (c : ConeRows) (m : ℕ) (r : GordanError) (e : TreeError) → IsNode k v → IsConeOf v.variables k v.items c →
+    m ≤ length c.normals → Failed (IsStepBefore c m) r → e ≡ of_cone_error r → IsTreeRefusal (fan_of k v) pairs e
+cone_refused k pairs v c m (cones.Cone s) e h is l f q =
+    IsTreeRefusal.system v s h (record { cone = c; is_cone = is; place = f.0; inside = omega (arith, l, f.1); step = f.2 }) q
+cone_refused k pairs v c m cones.Memory e h is l f q = IsTreeRefusal.memory q
+
+-- a step of the system of the normal at a place
+pub place_refused : (k : Region) (pairs : ℕ) (v : MarkedPolynomials) (c : ConeRows) (i : ℕ) (r : GordanError) (e : TreeError) → IsNode k v → IsConeOf v.variables k v.items c →
+    i < length c.normals → Failed (IsNormalStep c.variables (other_rows c i) (normal_at c i)) r → e ≡ of_cone_error r → IsTreeRefusal (fan_of k v) pairs e
+place_refused k pairs v c i (cones.Cone s) e h is l f q =
+    IsTreeRefusal.system v s h (record { cone = c; is_cone = is; place = i; inside = l; step = f }) q
+place_refused k pairs v c i cones.Memory e h is l f q = IsTreeRefusal.memory q
+
+-- ---- the same ideal by other generators
+
+pub refusal_moved : (F G : Fan) (pairs : ℕ) (e : TreeError) → SameFan F G → IsTreeRefusal F pairs e → IsTreeRefusal G pairs e
+refusal_moved F G pairs e s (IsTreeRefusal.flip v a r h f c q) =
+    IsTreeRefusal.flip v a r (node_moved F G v s h) (subst (λ (k : Region). IsFlippable v.variables k v.items a) s.region f) c q
+refusal_moved F G pairs e s (IsTreeRefusal.system v o h t q) =
+    IsTreeRefusal.system v o (node_moved F G v s h) (record { cone = t.cone; is_cone = subst (λ (k : Region). IsConeOf v.variables k v.items t.cone) s.region t.is_cone; place = t.place; inside = t.inside; step = t.step }) q
+refusal_moved F G pairs e s (IsTreeRefusal.memory q) = IsTreeRefusal.memory q
+
+pub limits_moved : (F G : Fan) (pairs : ℕ) → SameFan F G → IsTreeWithinLimits F pairs → IsTreeWithinLimits G pairs
+limits_moved F G pairs s w = record {
+  flips = λ v a h f. w.flips v a (node_moved G F v (back_fan F G s) h) (subst (λ (k : Region). IsFlippable v.variables k v.items a) (sym s.region) f);
+  systems = λ v o h t. w.systems v o (node_moved G F v (back_fan F G s) h) (record { cone = t.cone; is_cone = subst (λ (k : Region). IsConeOf v.variables k v.items t.cone) (sym s.region) t.is_cone; place = t.place; inside = t.inside; step = t.step });
+}
+
+-- a refusal at another basis of the ideal
+pub refusal_beside : (k : Region) (pairs : ℕ) (v w : MarkedPolynomials) (e : TreeError) → IsNodeIn (fan_of k v) w → IsTreeRefusal (fan_of k w) pairs e → IsTreeRefusal (fan_of k v) pairs e
+refusal_beside k pairs v w e h r = refusal_moved (fan_of k w) (fan_of k v) pairs e (back_fan (fan_of k v) (fan_of k w) (own_fan (fan_of k v) w h)) r
+
+-- a refusal at a basis above
+pub refusal_above : (k : Region) (pairs : ℕ) (v : MarkedPolynomials) (most : ℕ) (e : TreeError) → IsNode k v →
+    IsRefused (IsParent k) (λ w r. IsTreeRefusal (fan_of k w) pairs r) v most e → IsTreeRefusal (fan_of k v) pairs e
+refusal_above k pairs v most e h r = refusal_beside k pairs v r.node e (root_above k v r.node r.path h r.leads) r.refused
+
+pub refusal_over : (k : Region) (pairs : ℕ) (v : MarkedPolynomials) (e : TreeError) → IsNode k v →
+    IsRefusedAbove (IsParent k) (λ w r. IsTreeRefusal (fan_of k w) pairs r) v e → IsTreeRefusal (fan_of k v) pairs e
+refusal_over k pairs v e h r = refusal_above k pairs v r.0 e h r.1
+
+-- ---- where nothing leaves its limits, only memory may be wanting
+
+pub within_memory : (F : Fan) (pairs : ℕ) (e : TreeError) → IsTreeWithinLimits F pairs → IsTreeRefusal F pairs e → e ≡ Memory
+within_memory F pairs e w (IsTreeRefusal.flip v a r h f c q) = q ∙ ap of_flip_error (flip_refusal_within v.variables v.items a pairs r (w.flips v a h f) c)
+within_memory F pairs e w (IsTreeRefusal.system v o h t q) = absurd (w.systems v o h t)
+within_memory F pairs e w (IsTreeRefusal.memory q) = q
+
+pub only_memory : {A : Type 0} (F : Fan) (pairs : ℕ) (r : Result A TreeError) → IfErr r (IsTreeRefusal F pairs) → IsTreeWithinLimits F pairs → IfErr r (λ e. e ≡ Memory)
+only_memory F pairs (Ok a) c w = c
+only_memory F pairs (Err e) c w = within_memory F pairs e w c
+
+pub only_memory_back : {A W : Type 0} (F : Fan) (pairs : ℕ) (r : Result A (W × TreeError)) → IfErr r (λ p. IsTreeRefusal F pairs p.1) → IsTreeWithinLimits F pairs → IfErr r (λ p. p.1 ≡ Memory)
+only_memory_back F pairs (Ok a) c w = c
+only_memory_back F pairs (Err e) c w = within_memory F pairs e.1 w c

@@ -1,0 +1,240 @@
+-- A walker's step, in the words of bases and paths.
+-- To cite: walk_of, count_along, left_at_top, step_to, step_end, left_after, left_at_end, parts_of, left_first, left_rest, resumed, left_resumed.
+use Rattle.std.specs.Prelude.{◌≡◌, ◌⊎◌, ℕ, suc, ◌+◌, ◌-◌, ◌<◌, ◌≤◌, List, [], ◌∷◌, ◌++◌, ℤ, length, Option, Some, None}
+use Rattle.std.proofs.Common.{arith, refl, sym, ap, ◌∙◌, subst, length-append}
+use Rattle.gf_poly.specs.Marking.{MarkedPolynomials}
+use Rattle.gf_walk.specs.declared.mark.Mark.{Mark}
+use Rattle.gf_walk.specs.declared.mark.Mark.TheVariants.{Before, Listed, Finished}
+use Rattle.gf_walk.specs.Path.{Leads, IsRoot}
+use Rattle.gf_walk.specs.Place.{Place, StandsBelow}
+use Rattle.gf_walk.specs.Listing.{Leaves, IsLeftAt, IsFirstOf}
+use Rattle.gf_walk.specs.Walk.{Steps, Advances}
+use Rattle.gf_walk.specs.Split.{Splits, AreParts, IsCutAt, AreCutAt}
+use Rattle.gf_walk.specs.Whole.{IsRootOf, StandsAfter}
+use Rattle.gf_facets.specs.LexPositive.{IsBefore}
+use Rattle.gf_facets.specs.Regions.{Region, all_positive}
+use Rattle.gf_reverse.specs.Upward.{Fan, IsNode, IsNodeIn, IsParent, fan_of}
+use Rattle.gf_reverse.specs.Lists.{AnswersByPaths, IsListOfBases}
+use Rattle.gf_reverse.proofs.TreeLaws.{count, upward_level, upward_finite}
+use Rattle.gf_reverse.proofs.LeftLaws.{advance_answers, top_seen_below}
+use Rattle.gf_reverse.proofs.ListLaws.{own, root_above, below_node, same_root}
+use Rattle.gf_tree.specs.declared.tree.BasisTree.{BasisTree}
+use Rattle.gf_tree.specs.Parents.{ideal_of, IsRootFor}
+use Rattle.gf_tree.specs.Walks.{Walk, region_at, ideal_at, AreLeft, HasListLeft, left_at_most, walk_at}
+use Rattle.gf_tree.specs.Steps.{IsStepTo, IsEnd, AreWalkParts, IsResumed}
+
+-- where a walker over the tree stands, and how many bases it gave
+abbrev pub walk_of : Place BasisTree MarkedPolynomials (List ℤ) → ℕ → Walk
+walk_of p n = record { here = p.here; mark = p.mark; depth = p.depth; pairs = p.tree.pairs; given = n; variables = p.tree.variables }
+
+-- the parents of the tree
+abbrev pub up_in : BasisTree → MarkedPolynomials → List ℤ → MarkedPolynomials → Type 0
+up_in t = IsParent (all_positive t.variables)
+
+-- the number of bases stays along a path
+pub count_along : (k : Region) (s : MarkedPolynomials) (q : List (List ℤ)) (x : MarkedPolynomials) → Leads (IsParent k) s q x → count k x ≡ count k s
+count_along k s [] x h = ap (count k) (sym h)
+count_along k s (c ∷ q) x h = count_along k h.0 q x h.2 ∙ upward_level k h.0 c s h.1
+
+-- two bases below one top are bases of one ideal
+pub beside : (k : Region) (top here v : MarkedPolynomials) (p q : List (List ℤ)) → IsNode k here → Leads (IsParent k) top p here → Leads (IsParent k) top q v → IsNodeIn (fan_of k here) v
+beside k top here v p q h l m = below_node (fan_of k here) top q v (root_above k here top p h l) m
+
+-- and count as many
+pub count_beside : (k : Region) (top here v : MarkedPolynomials) (p q : List (List ℤ)) → Leads (IsParent k) top p here → Leads (IsParent k) top q v → count k v ≡ count k here
+count_beside k top here v p q l m = count_along k top q v m ∙ sym (count_along k top p here l)
+
+-- ---- before the first step
+
+pub left_at_top : (m n pairs : ℕ) (v : MarkedPolynomials) → m ≡ v.variables → n ≡ 0 → IsNodeIn (ideal_of v) v →
+    HasListLeft (record { here = v; mark = Before; depth = 0; pairs = pairs; given = n; variables = m })
+left_at_top m n pairs v e z h =
+    let node : IsNode (all_positive m) v = subst (λ (j : ℕ). IsNode (all_positive j) v) (sym e) h in
+    let f = upward_finite (all_positive m) v node in
+    record { basis = node; rest = f.nodes; left = f.leaves; few = (let w : length f.nodes ≤ count (all_positive m) v = f.few in let g : length f.nodes + n ≤ count (all_positive m) v = omega (arith, w, z) in g) }
+
+-- ---- a step
+
+-- the answer, in whole paths
+answers_by_paths : (k : Region) (old new : Mark (List ℤ)) (here0 here1 : MarkedPolynomials) (d0 d1 : ℕ) (v : MarkedPolynomials) →
+    Steps IsBefore (IsParent k) old here0 d0 new here1 d1 (Some v) → AnswersByPaths k old here0 d0 v
+answers_by_paths k old new here0 here1 d0 d1 v s = λ top p r at h a.
+    let n = s top r at in
+    (p ++ n.path, advance_answers k top p r old new v here1 d1 h a (top_seen_below k top v n.path h (subst (Leads (IsParent k) top n.path) (sym n.node) n.at.leads)) n)
+
+module _ (p q : Place BasisTree MarkedPolynomials (List ℤ)) (n m : ℕ) (v : MarkedPolynomials) (e : q.tree ≡ p.tree) (steps : Advances IsBefore up_in p q (Some v))
+    (list : (nodes : List MarkedPolynomials) → IsLeftAt IsBefore up_in p nodes → IsFirstOf (IsLeftAt IsBefore up_in q) nodes (Some v)) (more : m ≡ n + 1) (had : HasListLeft (walk_of p n)) where
+  leads_q : Leads (IsParent (all_positive p.tree.variables)) had.left.top (steps had.left.top had.left.path had.left.at).path q.here
+  leads_q = (steps had.left.top had.left.path had.left.at).at.leads
+
+  here_is : q.here ≡ v
+  here_is = sym (steps had.left.top had.left.path had.left.at).node
+
+  basis_q : IsNodeIn (fan_of (all_positive p.tree.variables) p.here) q.here
+  basis_q = beside (all_positive p.tree.variables) had.left.top p.here q.here had.left.path (steps had.left.top had.left.path had.left.at).path had.basis had.left.at.leads leads_q
+
+  own_q : IsNode (all_positive q.tree.variables) q.here
+  own_q = subst (λ (t : BasisTree). IsNode (all_positive t.variables) q.here) (sym e) (own (all_positive p.tree.variables) (fan_of (all_positive p.tree.variables) p.here) q.here refl basis_q)
+
+  same_count : count (all_positive q.tree.variables) q.here ≡ count (all_positive p.tree.variables) p.here
+  same_count = subst (λ (t : BasisTree). count (all_positive t.variables) q.here ≡ count (all_positive p.tree.variables) p.here) (sym e)
+      (count_beside (all_positive p.tree.variables) had.left.top p.here q.here had.left.path (steps had.left.top had.left.path had.left.at).path had.left.at.leads leads_q)
+
+  -- what is left after it
+  pub left_after : HasListLeft (walk_of q m)
+  left_after =
+      let f = list had.rest had.left in
+      let long : length had.rest ≡ suc (length f.0) = ap length f.1 in
+      record { basis = own_q; rest = f.0; left = f.2; few = (let w : length had.rest + n ≤ count (all_positive p.tree.variables) p.here = had.few in let g : length f.0 + m ≤ count (all_positive q.tree.variables) q.here = (let c = same_count in omega (arith, long, w, c, more)) in g) }
+
+  -- a step of the tree's walker
+  pub step_to : IsStepTo (walk_of p n) (walk_of q m) v
+  step_to =
+      let f = list had.rest had.left in
+      let long : length had.rest ≡ suc (length f.0) = ap length f.1 in
+      record {
+        here = here_is;
+        listed = (steps had.left.top had.left.path had.left.at).listed;
+        pairs = ap (λ (t : BasisTree). t.pairs) e;
+        variables = ap (λ (t : BasisTree). t.variables) e;
+        given = more;
+        basis = subst (IsNodeIn (fan_of (all_positive p.tree.variables) p.here)) here_is basis_q;
+        own = subst (IsNodeIn (fan_of (all_positive q.tree.variables) q.here)) here_is own_q;
+        fewer = (let w : length had.rest + n ≤ count (all_positive p.tree.variables) p.here = had.few in let g : suc (count (all_positive q.tree.variables) q.here - m) ≤ count (all_positive p.tree.variables) p.here - n = (let c = same_count in omega (arith, long, w, c, more)) in g);
+        first = list;
+        paths = answers_by_paths (all_positive p.tree.variables) p.mark q.mark p.here q.here p.depth q.depth v steps;
+      }
+
+-- ---- the end
+
+module _ (p q : Place BasisTree MarkedPolynomials (List ℤ)) (n m : ℕ) (list : (nodes : List MarkedPolynomials) → IsLeftAt IsBefore up_in p nodes → IsFirstOf (IsLeftAt IsBefore up_in q) nodes None)
+    (stays : q ≡ record p { mark = Finished }) (same : m ≡ n) (had : HasListLeft (walk_of p n)) where
+  pub left_at_end : HasListLeft (walk_of q m)
+  left_at_end = record {
+    basis = subst (λ (r : Place BasisTree MarkedPolynomials (List ℤ)). IsNode (all_positive r.tree.variables) r.here) (sym stays) had.basis;
+    rest = [];
+    left = (list had.rest had.left).1;
+    few = (let w : length had.rest + n ≤ count (all_positive p.tree.variables) p.here = had.few in let c : count (all_positive q.tree.variables) q.here ≡ count (all_positive p.tree.variables) p.here = ap (λ (r : Place BasisTree MarkedPolynomials (List ℤ)). count (all_positive r.tree.variables) r.here) stays in let g : 0 + m ≤ count (all_positive q.tree.variables) q.here = omega (arith, w, c, same) in g);
+  }
+
+  pub step_end : IsEnd (walk_of p n) (walk_of q m)
+  step_end = record {
+    none = λ nodes l. (list nodes l).0;
+    nothing = subst (AreLeft (walk_of p n)) (list had.rest had.left).0 had.left;
+    over = (list had.rest had.left).1;
+    stays = ap (λ (r : Place BasisTree MarkedPolynomials (List ℤ)). walk_of r m) stays ∙ ap (λ (j : ℕ). record { here = p.here; mark = Finished; depth = p.depth; pairs = p.tree.pairs; given = j; variables = p.tree.variables }) same;
+  }
+
+-- ---- two parts
+
+module _ (p f r : Place BasisTree MarkedPolynomials (List ℤ)) (n a b : ℕ) (cut : AreCutAt IsBefore up_in p f r) (ef : f.tree ≡ p.tree) (er : r.tree ≡ p.tree)
+    (list : (nodes : List MarkedPolynomials) → IsLeftAt IsBefore up_in p nodes → AreParts IsBefore up_in nodes f r) (za : a ≡ 0) (zb : b ≡ 0) (had : HasListLeft (walk_of p n)) where
+  at_is : r.here ≡ f.here
+  at_is = sym (cut.next had.left.top had.left.path had.left.at).node
+
+  basis_r : IsNodeIn (fan_of (all_positive p.tree.variables) p.here) r.here
+  basis_r = beside (all_positive p.tree.variables) had.left.top p.here r.here had.left.path (cut.next had.left.top had.left.path had.left.at).path had.basis had.left.at.leads (cut.next had.left.top had.left.path had.left.at).at.leads
+
+  count_r : count (all_positive p.tree.variables) r.here ≡ count (all_positive p.tree.variables) p.here
+  count_r = count_beside (all_positive p.tree.variables) had.left.top p.here r.here had.left.path (cut.next had.left.top had.left.path had.left.at).path had.left.at.leads (cut.next had.left.top had.left.path had.left.at).at.leads
+
+  own_r : IsNode (all_positive p.tree.variables) r.here
+  own_r = own (all_positive p.tree.variables) (fan_of (all_positive p.tree.variables) p.here) r.here refl basis_r
+
+  -- the first lists the next basis and what is below it, and the other what follows
+  pub parts_of : AreWalkParts (walk_of p n) (walk_of f a) (walk_of r b)
+  parts_of = record {
+    before = cut.before;
+    top = cut.top;
+    past = cut.past;
+    at = at_is;
+    pairs = (ap (λ (t : BasisTree). t.pairs) ef, ap (λ (t : BasisTree). t.pairs) er);
+    variables = (ap (λ (t : BasisTree). t.variables) ef, ap (λ (t : BasisTree). t.variables) er);
+    basis = subst (IsNodeIn (fan_of (all_positive p.tree.variables) p.here)) at_is basis_r;
+    joined = λ nodes l. (let s = list nodes l in (f.here ∷ s.front, s.back, s.whole, s.under, s.past));
+  }
+
+  -- how long the parts are
+  few_parts : (s : AreParts IsBefore up_in had.rest f r) → suc (length s.front + length s.back) ≤ count (all_positive p.tree.variables) p.here
+  few_parts s = (let e : length had.rest ≡ suc (length (s.front ++ s.back)) = ap length s.whole in let g : length (s.front ++ s.back) ≡ length s.front + length s.back = length-append s.front s.back in let w : length had.rest + n ≤ count (all_positive p.tree.variables) p.here = had.few in omega (arith, e, g, w))
+
+  pub left_first : HasListLeft (walk_of f a)
+  left_first =
+      let s = list had.rest had.left in
+      let c : count (all_positive f.tree.variables) f.here ≡ count (all_positive p.tree.variables) p.here = subst (λ (t : BasisTree). count (all_positive t.variables) f.here ≡ count (all_positive p.tree.variables) p.here) (sym ef) (ap (count (all_positive p.tree.variables)) (sym at_is) ∙ count_r) in
+      record {
+        basis = subst (λ (t : BasisTree). IsNode (all_positive t.variables) f.here) (sym ef) (subst (IsNode (all_positive p.tree.variables)) at_is own_r);
+        rest = f.here ∷ s.front;
+        left = s.under;
+        few = (let w = few_parts s in let g : suc (length s.front) + a ≤ count (all_positive f.tree.variables) f.here = omega (arith, w, c, za) in g);
+      }
+
+  pub left_rest : HasListLeft (walk_of r b)
+  left_rest =
+      let s = list had.rest had.left in
+      let c : count (all_positive r.tree.variables) r.here ≡ count (all_positive p.tree.variables) p.here = subst (λ (t : BasisTree). count (all_positive t.variables) r.here ≡ count (all_positive p.tree.variables) p.here) (sym er) count_r in
+      record {
+        basis = subst (λ (t : BasisTree). IsNode (all_positive t.variables) r.here) (sym er) own_r;
+        rest = s.back;
+        left = s.past;
+        few = (let w = few_parts s in let g : length s.back + b ≤ count (all_positive r.tree.variables) r.here = omega (arith, w, c, zb) in g);
+      }
+
+-- nothing was left
+pub left_nothing : (p : Place BasisTree MarkedPolynomials (List ℤ)) (n : ℕ) → ((nodes : List MarkedPolynomials) → IsLeftAt IsBefore up_in p nodes → nodes ≡ []) → HasListLeft (walk_of p n) → AreLeft (walk_of p n) []
+left_nothing p n list had = subst (AreLeft (walk_of p n)) (list had.rest had.left) had.left
+
+-- ---- going on after a basis
+
+module _ (t : BasisTree) (v : MarkedPolynomials) (p : Place BasisTree MarkedPolynomials (List ℤ)) (n : ℕ) (same : t.variables ≡ v.variables) (h : IsNodeIn (ideal_of v) v)
+    (place : (p.tree ≡ t) × (p.here ≡ v) × (p.mark ≡ Listed)) (found : (root : MarkedPolynomials) × IsRootOf (up_in t) v root)
+    (list : (root : MarkedPolynomials) → IsRootOf (up_in t) v root → StandsAfter IsBefore up_in v root p) (zero : n ≡ 0) where
+  node : IsNode (all_positive t.variables) v
+  node = subst (λ (j : ℕ). IsNode (all_positive j) v) (sym same) h
+
+  below : IsNodeIn (fan_of (all_positive t.variables) v) found.0
+  below = root_above (all_positive t.variables) v found.0 found.1.path node found.1.leads
+
+  owns : IsNode (all_positive t.variables) found.0
+  owns = own (all_positive t.variables) (fan_of (all_positive t.variables) v) found.0 refl below
+
+  pub left_resumed : HasListLeft (walk_of p n)
+  left_resumed =
+      let f = upward_finite (all_positive t.variables) found.0 owns in
+      let s = list found.0 found.1 in
+      let g = s.goes_on f.nodes (subst (λ (u : BasisTree). Leaves IsBefore (up_in u) Before found.0 0 f.nodes) (sym place.0) f.leaves) in
+      let long : length f.nodes ≡ length g.front + suc (length g.rest) = ap length g.whole ∙ length-append g.front (v ∷ g.rest) in
+      let c : count (all_positive p.tree.variables) p.here ≡ count (all_positive t.variables) found.0 = subst (λ (u : BasisTree). count (all_positive u.variables) p.here ≡ count (all_positive t.variables) found.0) (sym place.0) (ap (count (all_positive t.variables)) place.1 ∙ count_along (all_positive t.variables) found.0 found.1.path v found.1.leads) in
+      record {
+        basis = subst (λ (u : BasisTree). IsNode (all_positive u.variables) p.here) (sym place.0) (subst (IsNode (all_positive t.variables)) (sym place.1) node);
+        rest = g.rest;
+        left = g.left;
+        few = (let w : length f.nodes ≤ count (all_positive t.variables) found.0 = f.few in let g0 : length g.rest + n ≤ count (all_positive p.tree.variables) p.here = omega (arith, w, long, c, zero) in g0);
+      }
+
+  pub resumed : IsResumed v t.pairs (walk_of p n)
+  resumed = record {
+    here = place.1;
+    mark = place.2;
+    pairs = ap (λ (u : BasisTree). u.pairs) place.0;
+    variables = ap (λ (u : BasisTree). u.variables) place.0 ∙ same;
+    goes_on = λ root r nodes l.
+        let e : root ≡ found.0 = same_root (fan_of (all_positive t.variables) v) root found.0 (subst (λ (j : ℕ). IsNodeIn (fan_of (all_positive j) v) root) (sym same) r.basis)
+        (subst (λ (j : ℕ). IsRoot (IsParent (all_positive j)) root) (r.basis.variables ∙ sym same) r.is_root) below found.1.is_root in
+        let s = list found.0 found.1 in
+        let a : Leaves IsBefore (IsParent (all_positive root.variables)) Before root 0 nodes = l in
+        let b : Leaves IsBefore (IsParent (all_positive t.variables)) Before root 0 nodes = subst (λ (j : ℕ). Leaves IsBefore (IsParent (all_positive j)) Before root 0 nodes) (r.basis.variables ∙ sym same) a in
+        let g = s.goes_on nodes (subst (λ (u : BasisTree). Leaves IsBefore (up_in u) Before found.0 0 nodes) (sym place.0) (subst (λ (w : MarkedPolynomials). Leaves IsBefore (IsParent (all_positive t.variables)) Before w 0 nodes) e b)) in
+        (g.front, g.rest, g.whole, g.left);
+  }
+
+-- ---- as a program reads the parts
+
+pub left_read : (f g : Place BasisTree MarkedPolynomials (List ℤ)) (a : ℕ) → g ≡ f → HasListLeft (walk_of f a) → HasListLeft (walk_of g a)
+left_read f g a e h = subst (λ (z : Place BasisTree MarkedPolynomials (List ℤ)). HasListLeft (walk_of z a)) (sym e) h
+
+pub parts_read : (v w : Walk) (f g r s : Place BasisTree MarkedPolynomials (List ℤ)) (a b : ℕ) → v ≡ w → g ≡ f → s ≡ r → AreWalkParts v (walk_of f a) (walk_of r b) → AreWalkParts w (walk_of g a) (walk_of s b)
+parts_read v w f g r s a b i e o h =
+    subst (λ (x : Walk). AreWalkParts x (walk_of g a) (walk_of s b)) i
+    (subst (λ (z : Place BasisTree MarkedPolynomials (List ℤ)). AreWalkParts v (walk_of g a) (walk_of z b)) (sym o)
+    (subst (λ (z : Place BasisTree MarkedPolynomials (List ℤ)). AreWalkParts v (walk_of z a) (walk_of r b)) (sym e) h))

@@ -1,0 +1,33 @@
+-- What is above a basis in the tree of the bases of its ideal, and the root of that tree. Laws: proofs/ParentLaws.antt.
+-- Source: Fukuda, Jensen, Thomas, Computing Gröbner fans, 3.
+use Rattle.std.specs.Prelude.{◌≡◌, ◌↔◌, List, ℤ}
+use Rattle.gf_exponents.specs.Orders.{gains, IsWeightedBelow}
+use Rattle.gf_poly.specs.Marking.{MarkedPolynomials, polys}
+use Rattle.gf_ideal.specs.Bases.{IsReducedBasisFor}
+use Rattle.gf_walk.specs.Path.{IsRoot}
+use Rattle.gf_facets.specs.Regions.{Region, all_positive}
+use Rattle.gf_facets.specs.Neighbours.{AreAdjacent}
+use Rattle.gf_reverse.specs.Upward.{Fan, IsNodeIn, IsWayUp, IsParent, LeadsUp, fan_of}
+use Rattle.gf_tree.specs.declared.above.Parent.{Parent}
+use Rattle.gf_tree.specs.declared.above.Parent.TheVariants.{Root, Up}
+
+-- the ideal of v, among all positive weights
+abbrev pub ideal_of : MarkedPolynomials → Fan
+ideal_of v = fan_of (all_positive v.variables) v
+
+-- no flippable normal is negative at the root, or the least one and the basis on its other side
+abbrev pub IsAbove : MarkedPolynomials → Parent → Type 0
+IsAbove v Root = (a : List ℤ) → LeadsUp v.variables (all_positive v.variables) v.items a → ⊥
+IsAbove v (Up a u) = IsWayUp v.variables (all_positive v.variables) v.items a × IsNodeIn (ideal_of v) u ×
+    AreAdjacent v.variables (polys v.items) (all_positive v.variables) v.items a u.items
+
+-- v is the reduced basis of its ideal by total degree, and then lex
+abbrev pub IsDegreeBasis : MarkedPolynomials → Type 0
+IsDegreeBasis v = IsReducedBasisFor v.variables (polys v.items) (IsWeightedBelow (gains (all_positive v.variables).root)) v.items
+
+-- u is the root of the tree of the bases of the ideal of v
+pub record IsRootFor (v u : MarkedPolynomials) : Type 0 where
+  pub basis : IsNodeIn (ideal_of v) u
+  pub own : IsNodeIn (ideal_of u) u
+  pub is_root : IsRoot (IsParent (all_positive u.variables)) u
+  pub by_degree : IsDegreeBasis u

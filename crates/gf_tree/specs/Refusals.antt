@@ -1,0 +1,50 @@
+-- Why a search over the bases of an ideal is refused, and when it stays within its limits. Laws: proofs/RefusalLaws.antt.
+use Rattle.std.specs.Prelude.{◌≡◌, ℕ, ◌<◌, List, ℤ, length}
+use Rattle.gf_poly.specs.Marking.{MarkedPolynomials}
+use Rattle.gf_gordan.specs.declared.error.ConeOverflow.{ConeOverflow}
+use Rattle.gf_gordan.specs.declared.error.GordanError.{GordanError}
+use Rattle.gf_gordan.specs.declared.error.GordanError.TheVariants as cones
+use Rattle.gf_buchberger.specs.declared.bases.BasisError.{BasisError}
+use Rattle.gf_buchberger.specs.declared.bases.BasisError.TheVariants as flips
+use Rattle.gf_facets.specs.Facets.{IsFlippable}
+use Rattle.gf_cone.specs.Cones.{ConeRows, normal_at, other_rows, IsConeOf}
+use Rattle.gf_cone.specs.Answers.{IsNormalStep}
+use Rattle.gf_flip.specs.Operations.{IsFlipRefusal, IsFlipWithinLimits}
+use Rattle.gf_reverse.specs.Upward.{Fan, IsNodeIn}
+use Rattle.gf_tree.specs.declared.error.TreeError.{TreeError}
+use Rattle.gf_tree.specs.declared.error.TreeError.TheVariants.{Overflow, Exponent, PairBudget, Cone, Memory}
+
+-- ---- the same refusal, of the search
+
+abbrev pub of_flip_error : BasisError → TreeError
+of_flip_error (flips.Overflow o) = Overflow o
+of_flip_error (flips.Exponent o) = Exponent o
+of_flip_error (flips.PairBudget s unsettled) = PairBudget s unsettled
+of_flip_error flips.Memory = Memory
+
+abbrev pub of_cone_error : GordanError → TreeError
+of_cone_error (cones.Cone s) = Cone s
+of_cone_error cones.Memory = Memory
+
+-- ---- causes
+
+-- s is a step of the system that tells whether a flip may cross the facet of some normal of v
+pub record IsSystemStep (F : Fan) (v : MarkedPolynomials) (s : ConeOverflow) : Type 0 where
+  pub cone : ConeRows
+  pub is_cone : IsConeOf v.variables F.region v.items cone
+  pub place : ℕ
+  pub inside : place < length cone.normals
+  pub step : IsNormalStep cone.variables (other_rows cone place) (normal_at cone place) s
+
+-- why a search over the bases of F is refused, where each flip may settle so many pairs: at some basis v of F, a flip across
+-- a flippable normal is refused so, or a step of the system of a normal leaves its range; or there is no memory
+pub data IsTreeRefusal (F : Fan) (pairs : ℕ) (e : TreeError) : Type 0 where
+  flip : (v : MarkedPolynomials) (a : List ℤ) (r : BasisError) → IsNodeIn F v → IsFlippable v.variables F.region v.items a →
+      IsFlipRefusal v.variables v.items a pairs r → e ≡ of_flip_error r → IsTreeRefusal F pairs e
+  system : (v : MarkedPolynomials) (s : ConeOverflow) → IsNodeIn F v → IsSystemStep F v s → e ≡ Cone s → IsTreeRefusal F pairs e
+  memory : e ≡ Memory → IsTreeRefusal F pairs e
+
+-- no flip across a flippable normal of a basis of F leaves its limits, and no step of the systems of its normals leaves its range
+pub record IsTreeWithinLimits (F : Fan) (pairs : ℕ) : Type 0 where
+  pub flips : (v : MarkedPolynomials) (a : List ℤ) → IsNodeIn F v → IsFlippable v.variables F.region v.items a → IsFlipWithinLimits v.variables v.items a pairs
+  pub systems : (v : MarkedPolynomials) (s : ConeOverflow) → IsNodeIn F v → IsSystemStep F v s → ⊥

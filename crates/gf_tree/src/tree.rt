@@ -1,0 +1,117 @@
+//! The tree of the bases of an ideal.
+ghost use Rattle.std.specs.Prelude.{◌≡◌, IfOk, IfErr};
+ghost use Rattle.gf_facets.specs.LexPositive.{IsBefore};
+ghost use Rattle.gf_facets.specs.Regions.{all_positive};
+ghost use Rattle.gf_reverse.specs.Upward.{IsNode, IsParent, fan_of};
+ghost use Rattle.gf_tree.specs.FanTree.{before_strict, rank, count, upward_tree, upward_nodes, upward_falls, upward_level, upward_finite};
+ghost use Rattle.gf_tree.specs.Refusals.{IsTreeRefusal};
+ghost use Rattle.gf_tree.specs.declared.error.TreeError.TheVariants.{Memory};
+
+use crate::TreeError;
+use crate::steps::{across, is_way_up, normals, way_up};
+use gf_poly::MarkedSet;
+use gf_vec::IntVec;
+use gf_walk::{FiniteTree, Tree};
+use std::alloc::Global;
+use std::cmp::Ordering;
+
+/// The marked reduced Gröbner bases in so many variables, each below the neighbour across its way up. A label is the normal
+/// that is crossed from above.
+#[derive(Drop)]
+pub struct BasisTree {
+    pub alloc: Global,
+    /// The number of variables.
+    pub variables: u32,
+    /// How many pairs each flip may settle.
+    pub pairs: u64,
+}
+
+impl Tree for BasisTree {
+    type Node = MarkedSet;
+
+    type Label = IntVec;
+
+    type Error = TreeError;
+
+    ghost before = { IsBefore };
+
+    ghost is_node = { λ t v. IsNode (all_positive t.variables) v };
+
+    ghost up = { λ t. IsParent (all_positive t.variables) };
+
+    ghost is_memory = { λ e. e ≡ Memory };
+
+    ghost refuses = { λ t v e. IsTreeRefusal (fan_of (all_positive t.variables) v) t.pairs e };
+
+    ghost from_memory = { λ a e h. h };
+
+    ghost memory = { λ t v e h. IsTreeRefusal.memory h };
+
+    ghost strict = { before_strict };
+
+    ghost tree = { λ t. upward_tree (all_positive t.variables) };
+
+    ghost nodes = { λ t. upward_nodes (all_positive t.variables) };
+
+    fn labels(&self, node: &MarkedSet) -> Result<Vec<IntVec>, TreeError> {
+        let labels = normals(self, node)?;
+        Ok(labels)
+    }
+
+    fn precedes(&self, a: &IntVec, b: &IntVec) -> bool {
+        matches!(a.lex_cmp(b), Ordering::Less)
+    }
+
+    fn child(&self, node: &MarkedSet, label: &IntVec) -> Result<Option<MarkedSet>, TreeError> {
+        let neighbour = match across(self, node, label)? {
+            Some(neighbour) => neighbour,
+            None => return Ok(None),
+        };
+        let mut back = label.copy()?;
+        back.negate();
+        match is_way_up(self, &neighbour, &back)? {
+            true => Ok(Some(neighbour)),
+            false => Ok(None),
+        }
+    }
+
+    fn parent(&self, node: &MarkedSet) -> Result<Option<(IntVec, MarkedSet)>, TreeError> {
+        let way = match way_up(self, node)? {
+            Some(way) => way,
+            None => return Ok(None),
+        };
+        match across(self, node, &way)? {
+            Some(above) => {
+                let mut label = way;
+                label.negate();
+                Ok(Some((label, above)))
+            }
+            None => unreachable!(),
+        }
+    }
+
+    fn copy(&self, node: &MarkedSet) -> Result<MarkedSet, TreeError> {
+        let copy = node.copy()?;
+        Ok(copy)
+    }
+
+    fn again(&self) -> Result<Self, TreeError> {
+        Ok(BasisTree {
+            alloc: self.alloc,
+            variables: self.variables,
+            pairs: self.pairs,
+        })
+    }
+}
+
+impl FiniteTree for BasisTree {
+    ghost rank = { λ t. rank (all_positive t.variables) };
+
+    ghost count = { λ t. count (all_positive t.variables) };
+
+    ghost falls = { λ t. upward_falls (all_positive t.variables) };
+
+    ghost level = { λ t. upward_level (all_positive t.variables) };
+
+    ghost finite = { λ t. upward_finite (all_positive t.variables) };
+}

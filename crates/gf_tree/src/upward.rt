@@ -1,0 +1,88 @@
+//! The way up from a basis, and the root above it.
+ghost use Rattle.std.specs.Prelude.{◌≡◌, ◌↔◌, IfOk, IfErr};
+ghost use Rattle.gf_reverse.specs.Upward.{IsNodeIn};
+ghost use Rattle.gf_tree.specs.Parents.{ideal_of, IsAbove, IsRootFor, IsDegreeBasis};
+ghost use Rattle.gf_tree.specs.Refusals.{IsTreeRefusal, IsTreeWithinLimits};
+ghost use Rattle.gf_tree.specs.declared.error.TreeError.TheVariants.{Memory};
+ghost use Rattle.gf_tree.specs.declared.above.Parent.TheVariants.{Root};
+
+use crate::steps::{across, way_up};
+use crate::{BasisTree, Parent, TreeError};
+use gf_poly::MarkedSet;
+use std::alloc::Global;
+
+// What is above a basis.
+fn above(tree: &BasisTree, set: &MarkedSet) -> Result<Parent, TreeError>
+    requires same { tree.now.variables ≡ set.now.variables }
+    requires basis { IsNodeIn (ideal_of set.now) set.now }
+    ensures value { IfOk result (IsAbove set.now) }
+    ensures cause { IfErr result (IsTreeRefusal (ideal_of set.now) tree.now.pairs) }
+{
+    let normal = match way_up(tree, set)? {
+        Some(normal) => normal,
+        None => return Ok(Parent::Root),
+    };
+    match across(tree, set, &normal)? {
+        Some(basis) => Ok(Parent::Up { normal, basis }),
+        None => unreachable!(),
+    }
+}
+
+// The root above a basis.
+fn ascended(tree: &BasisTree, set: MarkedSet) -> Result<MarkedSet, TreeError>
+    requires same { tree.now.variables ≡ set.variables }
+    requires basis { IsNodeIn (ideal_of set) set }
+    ensures value { IfOk result (IsRootFor set) }
+    ensures cause { IfErr result (IsTreeRefusal (ideal_of set) tree.now.pairs) }
+{
+    gf_walk::to_root(tree.alloc, tree, set)
+}
+
+/// What is above a basis in the tree of all marked reduced Gröbner bases of its ideal.
+///
+/// The set is the marked reduced basis, for some positive weight, of the ideal that it generates. The way up crosses the least
+/// flippable normal that is negative at the root (1, .., 1): the one whose first entry that differs is smallest. There is none
+/// exactly at the basis by total degree and then lex, the root (Fukuda, Jensen, Thomas, *Computing Gröbner fans*, 3). The
+/// flip may settle `pairs` pairs.
+///
+/// # Errors
+///
+/// `Overflow`, `Exponent` and `PairBudget` as `flip` of `gf_flip` tells them of a flip across a flippable normal; `Cone` names a
+/// step of the system of a normal; `Memory` may come at any time. Each at a basis of this ideal.
+#[tactic(auto, using(crate::proofs::RefusalLaws::only_memory, crate::proofs::ParentLaws::roots_told))]
+pub fn parent(alloc: Global, set: &MarkedSet, pairs: u64) -> Result<Parent, TreeError>
+    requires { IsNodeIn (ideal_of set.now) set.now }
+    ensures value { IfOk result (IsAbove set.now) }
+    ensures root { IfOk result (λ p. p ≡ Root ↔ IsDegreeBasis set.now) }
+    ensures cause { IfErr result (IsTreeRefusal (ideal_of set.now) pairs) }
+    ensures complete { IsTreeWithinLimits (ideal_of set.now) pairs → IfErr result (λ e. e ≡ Memory) }
+{
+    let tree = BasisTree {
+        alloc,
+        variables: set.variables(),
+        pairs,
+    };
+    above(&tree, set)
+}
+
+/// The root above a basis: the basis of its ideal by total degree and then lex.
+///
+/// The set is as for `parent`. Each step of the way up is a flip, which may settle `pairs` pairs.
+///
+/// # Errors
+///
+/// As for `parent`.
+#[tactic(auto, using(crate::proofs::RefusalLaws::only_memory))]
+pub fn to_root(alloc: Global, set: MarkedSet, pairs: u64) -> Result<MarkedSet, TreeError>
+    requires { IsNodeIn (ideal_of set) set }
+    ensures value { IfOk result (IsRootFor set) }
+    ensures cause { IfErr result (IsTreeRefusal (ideal_of set) pairs) }
+    ensures complete { IsTreeWithinLimits (ideal_of set) pairs → IfErr result (λ e. e ≡ Memory) }
+{
+    let tree = BasisTree {
+        alloc,
+        variables: set.variables(),
+        pairs,
+    };
+    ascended(&tree, set)
+}

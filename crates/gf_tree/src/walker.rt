@@ -1,0 +1,137 @@
+//! A walker, which lists the bases of an ideal with one basis at hand.
+ghost use Rattle.std.specs.Prelude.{◌≡◌, IfOk, IfErr, OnErr};
+ghost use Rattle.gf_reverse.specs.Upward.{IsNodeIn};
+ghost use Rattle.gf_tree.specs.Parents.{ideal_of};
+ghost use Rattle.gf_tree.specs.Refusals.{IsTreeRefusal, IsTreeWithinLimits};
+ghost use Rattle.gf_tree.specs.Steps.{IsAdvance, IsResumed};
+ghost use Rattle.gf_tree.specs.Walks.{ideal_at, walk_at, HasListLeft};
+ghost use Rattle.gf_tree.specs.declared.error.TreeError.TheVariants.{Memory};
+
+use crate::{BasisTree, TreeError};
+use gf_poly::MarkedSet;
+use gf_vec::IntVec;
+use gf_walk::Depth;
+use std::alloc::Global;
+use std::marker::Model;
+
+/// How far a walker is at a basis: before it; after it and the subtrees under the normals up to one; after it; after its whole subtree.
+pub type Mark = gf_walk::Mark<IntVec>;
+
+/// A walker's own basis and mark, lent.
+pub type Position<'a> = gf_walk::Position<'a, MarkedSet, IntVec>;
+
+/// A walker lists the bases that it has left, in the order of their paths. A path is the list of the normals that are crossed
+/// from the root down. The walker holds one basis, one normal and a depth, and goes up by flips; it counts what it gave.
+#[derive(Drop)]
+pub struct Walker {
+    pub(crate) inner: gf_walk::Walker<BasisTree>,
+    pub(crate) given: Depth,
+}
+
+impl Model for Walker {
+    ghost use Rattle.gf_tree.specs.Walks.{Walk, HasListLeft};
+
+    ghost Value = { Walk };
+
+    ghost view = { λ w. record { here = w.inner.here; mark = w.inner.mark; depth = w.inner.depth; pairs = w.inner.tree.pairs; given = w.given; variables = w.inner.tree.variables } };
+
+    ghost invariant = { λ w. HasListLeft (record { here = w.inner.here; mark = w.inner.mark; depth = w.inner.depth; pairs = w.inner.tree.pairs; given = w.given; variables = w.inner.tree.variables }) };
+}
+
+impl Walker {
+    /// A walker before a basis, which lists the basis and what is below it. The set is as for `parent`; each flip may settle
+    /// `pairs` pairs.
+    pub fn at(alloc: Global, basis: MarkedSet, pairs: u64) -> Walker
+        requires { IsNodeIn (ideal_of basis) basis }
+        ensures { result ≡ walk_at basis pairs }
+    {
+        let tree = BasisTree {
+            alloc,
+            variables: basis.variables(),
+            pairs,
+        };
+        Walker {
+            inner: gf_walk::Walker::at(alloc, tree, basis),
+            given: Depth::zero(alloc),
+        }
+    }
+
+    /// The walker's own basis and mark.
+    pub fn position(&self) -> Position<'_>
+        ensures here { result.here.now ≡ self.now.here }
+        ensures mark { result.mark.now ≡ self.now.mark }
+        ensures list { HasListLeft self.now }
+    {
+        self.inner.position()
+    }
+
+    // What `advance` answers.
+    fn step(&mut self) -> Result<Option<MarkedSet>, TreeError>
+        ensures ok { IfOk result (IsAdvance self.old self.new) }
+        ensures unchanged { OnErr result (self.new ≡ self.old) }
+        ensures cause { IfErr result (IsTreeRefusal (ideal_at self.old) self.old.pairs) }
+    {
+        self.given.raise()?;
+        match self.inner.advance() {
+            Ok(Some(basis)) => Ok(Some(basis)),
+            Ok(None) => {
+                self.given.lower();
+                Ok(None)
+            }
+            Err(refusal) => {
+                self.given.lower();
+                Err(refusal)
+            }
+        }
+    }
+
+    /// The next basis of what is left; none where nothing is left, and from then on.
+    ///
+    /// # Errors
+    ///
+    /// As for `parent`, at bases of this ideal. The walker is as it was.
+    #[tactic(auto, using(crate::proofs::RefusalLaws::only_memory))]
+    pub fn advance(&mut self) -> Result<Option<MarkedSet>, TreeError>
+        ensures ok { IfOk result (IsAdvance self.old self.new) }
+        ensures unchanged { OnErr result (self.new ≡ self.old) }
+        ensures cause { IfErr result (IsTreeRefusal (ideal_at self.old) self.old.pairs) }
+        ensures complete { IsTreeWithinLimits (ideal_at self.old) self.old.pairs → IfErr result (λ e. e ≡ Memory) }
+    {
+        self.step()
+    }
+
+    /// A walker that goes on with the list of all bases after a basis. It goes up to the root to count the steps.
+    ///
+    /// # Errors
+    ///
+    /// As for `parent`, at bases of this ideal.
+    #[tactic(auto, using(crate::proofs::RefusalLaws::only_memory))]
+    pub fn after(alloc: Global, basis: MarkedSet, pairs: u64) -> Result<Walker, TreeError>
+        requires { IsNodeIn (ideal_of basis) basis }
+        ensures ok { IfOk result (IsResumed basis pairs) }
+        ensures cause { IfErr result (IsTreeRefusal (ideal_of basis) pairs) }
+        ensures complete { IsTreeWithinLimits (ideal_of basis) pairs → IfErr result (λ e. e ≡ Memory) }
+    {
+        let tree = BasisTree {
+            alloc,
+            variables: basis.variables(),
+            pairs,
+        };
+        resume(tree, basis)
+    }
+}
+
+// What `after` answers.
+fn resume(tree: BasisTree, basis: MarkedSet) -> Result<Walker, TreeError>
+    requires same { tree.variables ≡ basis.variables }
+    requires basis { IsNodeIn (ideal_of basis) basis }
+    ensures ok { IfOk result (IsResumed basis tree.pairs) }
+    ensures cause { IfErr result (IsTreeRefusal (ideal_of basis) tree.pairs) }
+{
+    let alloc = tree.alloc;
+    let inner = gf_walk::Walker::after(alloc, tree, basis)?;
+    Ok(Walker {
+        inner,
+        given: Depth::zero(alloc),
+    })
+}
