@@ -1,6 +1,6 @@
 -- Words that the table has a match for name one of its commands, each of whose options holds what it takes.
 -- To cite: parsed_as, within_limits. The rest are steps.
-use Rattle.std.proofs.Common.{◌≡◌, ◌≤◌, Bool, true, false, not, ◌&&◌, ◌||◌, cond, List, [], ◌∷◌, Option, Some, None, is_some, codes, map, inl, inr, arith, refl, sym, ap, ◌∙◌, subst}
+use Rattle.std.proofs.Common.{◌≡◌, ◌≤◌, Bool, true, false, not, ◌&&◌, ◌||◌, cond, List, [], ◌∷◌, Option, Some, None, IfSome, is_some, codes, map, inl, inr, arith, refl, sym, ap, ◌∙◌, subst}
 use Rattle.std.specs.Prelude.{option_map}
 use Rattle.std.specs.Option.{option_map_or}
 use Rattle.std.specs.List.{find, list_any}
@@ -17,7 +17,7 @@ use Rattle.clap.specs.Walk.{answers_to, nothing_held, walk, rows_after}
 use Rattle.clap.specs.Simple.{argument_words, built_leaf, entered, inherited, label_of, marked_built, names_of, with_leaf_noted}
 use Rattle.clap.specs.Faults.{check_fault, entered_fault}
 use Rattle.gf_front.specs.declared.command_line.Job.{Job}
-use Rattle.gf_front.specs.Table.{Entry, table, commands, shape, most_pairs, usual_pairs, number_of, buchberger, is_marked_groebner_basis, leading_terms}
+use Rattle.gf_front.specs.Table.{Entry, table, commands, shape, most_pairs, usual_pairs, number_of, number_where, buchberger, bases, is_marked_groebner_basis, leading_terms}
 use Rattle.gf_front.specs.Jobs.{HasMatch, HasNumbersInRange, match_of, job_in, job_of}
 use Rattle.gf_front.specs.Options.{HoldChoices, NamesEntry, IsCommand, HoldsNumber}
 use Rattle.gf_front.proofs.MatchLaws.{Enters, entered_rows, level_rows, rows_pass}
@@ -110,6 +110,13 @@ pairs_within rows is = by (one_of (codes "pairs") rows) refl
     by None e = (omega arith, omega arith)
     by (Some text) e = let p = is text e in (p.2, p.3)
 
+limit_within : (id : Text) (rows : List Row) → HoldsNumber id most_pairs rows → IfSome (number_where id rows) (λ n. (1 ≤ n) × (n ≤ most_pairs))
+limit_within id rows is = by (one_of id rows) refl
+  where
+    by : (o : Option Text) → one_of id rows ≡ o → IfSome (option_map (λ text. digits_value 10 (without_leading_plus text)) o) (λ n. (1 ≤ n) × (n ≤ 1000000000000))
+    by None e = tt
+    by (Some text) e = let p = is text e in (p.2, p.3)
+
 -- ---- each command
 
 buchberger_sound : IsSound buchberger
@@ -124,6 +131,15 @@ buchberger_sound = record {
   limits = λ rows h. pairs_within rows h.1.1.0;
 }
 
+bases_sound : IsSound bases
+bases_sound = record {
+  holds = λ rows ok. (
+    is_number (as_built (shape bases)).rules (codes "limit") most_pairs rows (λ text. refl) ok,
+    (is_number (as_built (shape bases)).rules (codes "pairs") most_pairs rows (λ text. refl) ok, tt),
+  );
+  limits = λ rows h. let p = pairs_within rows h.1.0 in (limit_within (codes "limit") rows h.0, p.0, p.1);
+}
+
 leading_terms_sound : IsSound leading_terms
 leading_terms_sound = record {
   holds = λ rows ok. (is_flag (as_built (shape leading_terms)).rules (codes "m") rows (λ text. refl) ok, tt);
@@ -136,7 +152,7 @@ plain_sound e none limits = record { holds = λ rows ok. subst (λ os. HoldChoic
 
 all_sound : AreSound commands
 unfolding AreSound
-all_sound = (buchberger_sound, refl, (plain_sound is_marked_groebner_basis refl (λ rows. tt), refl, (leading_terms_sound, refl, tt)))
+all_sound = (buchberger_sound, refl, (bases_sound, refl, (plain_sound is_marked_groebner_basis refl (λ rows. tt), refl, (leading_terms_sound, refl, tt))))
 
 -- the rows of each command hold what its options take
 command_of : (m : Text × List Row) → Enters program m → IsCommand m

@@ -3,7 +3,7 @@
 -- clap's own definitions say how it reads words by a table: `fault_of` lists what is wrong with the words, and is empty
 -- exactly where they match; `subcommand_of` is the command that they name, with a row for each of its options.
 -- Laws: proofs/MatchLaws.antt, proofs/JobLaws.antt.
-use Rattle.std.specs.Prelude.{◌≡◌, ◌≤◌, List, [], ◌∷◌, map, codes, Option, Some, None, if◌then◌else◌, option_and_then}
+use Rattle.std.specs.Prelude.{◌≡◌, ◌≤◌, List, [], ◌∷◌, map, codes, Option, Some, None, IfSome, if◌then◌else◌, option_and_then}
 use Rattle.std.specs.Str.{bytes_eq}
 use Rattle.clap.specs.Words.{Row, Text, fault_of, subcommand_of}
 use Rattle.gf_front.specs.declared.command_line.Job.{Job}
@@ -23,6 +23,7 @@ job_of m = job_in commands m
 -- each number of the job is in its range
 abbrev pub HasNumbersInRange : Job → Type 0
 HasNumbersInRange (jobs.Buchberger weighted revlex pairs) = (1 ≤ pairs) × (pairs ≤ most_pairs)
+HasNumbersInRange (jobs.Bases limit pairs) = IfSome limit (λ n. (1 ≤ n) × (n ≤ most_pairs)) × (1 ≤ pairs) × (pairs ≤ most_pairs)
 HasNumbersInRange _ = Unit {0}
 
 -- ---- the match of words that are renamed

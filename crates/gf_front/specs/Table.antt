@@ -1,7 +1,7 @@
 -- The table of commands and their options, as clap reads words by it.
 -- What clap makes of a table is said by its own definitions: `new_rule` is an option and `new_shape` a command to which
 -- nothing was added yet, `with_subcommand` adds a command.
-use Rattle.std.specs.Prelude.{ℕ, Bool, true, false, List, [], ◌∷◌, map, Some, codes}
+use Rattle.std.specs.Prelude.{ℕ, Bool, true, false, List, [], ◌∷◌, map, Option, Some, codes, option_map}
 use Rattle.std.specs.Option.{option_map_or}
 use Rattle.std.specs.List.{fold}
 use Rattle.std.specs.Str.{bytes_eq}
@@ -32,7 +32,8 @@ abbrev pub rule : Choice → Rule
 rule (a_flag id letter) = flag id letter
 rule (a_number id most) = number id most
 
--- the most pairs that a budget may have, and those that it has where the words don't say it
+-- the most pairs that a budget may have, which is the most bases that a limit may let through too; and the pairs that a budget
+-- has where the words don't say it
 abbrev pub most_pairs : ℕ
 most_pairs = 1000000000000
 
@@ -49,6 +50,10 @@ flag_of id rows = option_map_or (λ text. bytes_eq text (codes "true")) (one_of 
 abbrev pub number_of : Text → ℕ → List Row → ℕ
 number_of id otherwise rows = option_map_or (λ text. digits_value 10 (without_leading_plus text)) (one_of id rows) otherwise
 
+-- the number of the option, where it is there
+abbrev pub number_where : Text → List Row → Option ℕ
+number_where id rows = option_map (λ text. digits_value 10 (without_leading_plus text)) (one_of id rows)
+
 -- ---- commands
 
 -- a command: its name, its options, and its job by what a match holds for the options
@@ -64,6 +69,13 @@ buchberger = record {
   job = λ rows. jobs.Buchberger (flag_of (codes "w") rows) (flag_of (codes "r") rows) (number_of (codes "pairs") usual_pairs rows);
 }
 
+abbrev pub bases : Entry
+bases = record {
+  name = codes "_bases";
+  options = a_number (codes "limit") most_pairs ∷ a_number (codes "pairs") most_pairs ∷ [];
+  job = λ rows. jobs.Bases (number_where (codes "limit") rows) (number_of (codes "pairs") usual_pairs rows);
+}
+
 abbrev pub is_marked_groebner_basis : Entry
 is_marked_groebner_basis = record { name = codes "_ismarkedgroebnerbasis"; options = []; job = λ rows. jobs.IsMarkedGroebnerBasis }
 
@@ -75,7 +87,7 @@ leading_terms = record {
 }
 
 abbrev pub commands : List Entry
-commands = buchberger ∷ is_marked_groebner_basis ∷ leading_terms ∷ []
+commands = buchberger ∷ bases ∷ is_marked_groebner_basis ∷ leading_terms ∷ []
 
 -- a command as clap has it
 abbrev pub shape : Entry → Shape

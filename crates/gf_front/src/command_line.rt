@@ -3,7 +3,7 @@
 //! clap reads the words by the table; what it would say of a fault is never printed.
 ghost use Rattle.std.specs.Prelude.{◌≡◌, [], IfOk, IsErrOf, map, string_bytes, codes, Some};
 ghost use Rattle.clap.specs.Words.{found_of, rows_of, one_of, kind_of};
-ghost use Rattle.gf_front.specs.Table.{most_pairs, flag_of, number_of, buchberger, leading_terms};
+ghost use Rattle.gf_front.specs.Table.{most_pairs, flag_of, number_of, number_where, buchberger, bases, leading_terms};
 ghost use Rattle.gf_front.specs.Jobs.{renamed, HasMatch, IsJobOfMatch, IsMatched, IsJobOf, HasNumbersInRange, job_of};
 ghost use Rattle.gf_front.specs.Options.{HoldsFlag, HoldsNumber, HoldChoices, IsCommand};
 
@@ -24,6 +24,13 @@ pub enum Job {
         weighted: bool,
         /// `-r`: the order is revlex, or ties of the weight are broken by revlex.
         revlex: bool,
+        /// `--pairs N`: the budget of pairs of each run of Buchberger's algorithm.
+        pairs: u64,
+    },
+    /// All marked reduced Gröbner bases of a set's ideal.
+    Bases {
+        /// `--limit N`: so many bases are written at most; without it all are.
+        limit: Option<u64>,
         /// `--pairs N`: the budget of pairs of each run of Buchberger's algorithm.
         pairs: u64,
     },
@@ -70,6 +77,14 @@ fn number(found: &ArgMatches, id: &str, otherwise: u64) -> u64
     found.get_one::<u64>(id).unwrap_or(otherwise)
 }
 
+/// The number of an option, where it is there.
+fn number_where(found: &ArgMatches, id: &str) -> Option<u64>
+    requires { HoldsNumber id.now most_pairs (rows_of (found_of found.now)) }
+    ensures { result ≡ number_where id.now (rows_of (found_of found.now)) }
+{
+    found.get_one::<u64>(id)
+}
+
 /// The job of `_buchberger`.
 fn buchberger(found: &ArgMatches) -> Job
     requires { HoldChoices buchberger.options (rows_of (found_of found.now)) }
@@ -78,6 +93,17 @@ fn buchberger(found: &ArgMatches) -> Job
     Job::Buchberger {
         weighted: flag(found, "w"),
         revlex: flag(found, "r"),
+        pairs: number(found, "pairs", PAIRS),
+    }
+}
+
+/// The job of `_bases`.
+fn bases(found: &ArgMatches) -> Job
+    requires { HoldChoices bases.options (rows_of (found_of found.now)) }
+    ensures { bases.job (rows_of (found_of found.now)) ≡ result }
+{
+    Job::Bases {
+        limit: number_where(found, "limit"),
         pairs: number(found, "pairs", PAIRS),
     }
 }
@@ -99,6 +125,7 @@ fn job_of(name: &str, found: &ArgMatches) -> Job
 {
     match name {
         "_buchberger" => buchberger(found),
+        "_bases" => bases(found),
         "_ismarkedgroebnerbasis" => Job::IsMarkedGroebnerBasis,
         "_leadingterms" => leading_terms(found),
         _ => unreachable!(),

@@ -1,6 +1,6 @@
 -- A source is answered in one way by a command: what is refused exactly where a condition holds is refused so wherever it holds, and
 -- within its limits the command answers.
--- To cite: IsExactCommand, exact, no_answer, in_reach, of_job; IsTestedCommand, tested, no_tested_answer. The rest are steps.
+-- To cite: IsExactCommand, exact, no_answer, no_whole, in_reach, of_job; IsTestedCommand, tested, no_tested_answer. The rest are steps.
 use Rattle.std.specs.Prelude.{◌≡◌, ◌⊎◌, ℕ, List}
 use Rattle.std.proofs.Common.{refl, sym, ap, ◌∙◌, subst, inl, inr}
 use Rattle.gf_text.specs.declared.error.TextError.{TextError}
@@ -9,7 +9,7 @@ use Rattle.gf_front.specs.declared.refusal.Refusal.{Refusal}
 use Rattle.gf_front.specs.declared.refusal.Refusal.TheVariants as refusals
 use Rattle.gf_items.specs.Items.{IsTextOf}
 use Rattle.gf_items.specs.Checks.{AllHold, FirstFails}
-use Rattle.gf_items.specs.Commands.{Command, of_text, IsExactRefusal, IsOfNumbers, IsOfTest, IsOfWork, IsOfJob, IsUnanswered, IsAnswered, IsCommandRefused, IsInReach}
+use Rattle.gf_items.specs.Commands.{Command, of_text, IsExactRefusal, IsOfNumbers, IsOfTest, IsOfWork, IsOfJob, IsUnanswered, IsAnswered, IsWholeFor, IsCommandRefused, IsInReach}
 use Rattle.gf_items.specs.ReadOnce.{IsReadOnce}
 use Rattle.gf_items.proofs.ReadingLaws.{said, source_once, Reading, stopped, whole, IsGood, Ends, ends_once, text_ends}
 use Rattle.gf_items.proofs.CheckLaws.{AreCheckedOnce, first_once, first_apart, first_kind}
@@ -134,12 +134,20 @@ module _ (c : Command) (laws : IsExactCommand c) (source : List ℕ) where
         | inr h ↦ work_apart r (laws.work b r h.1) e
       ]
 
-  -- where a refusal is exact, nothing is answered
-  pub no_answer : (r : Refusal) (text : List ℕ) → IsExactRefusal r → IsCommandRefused c source r → IsAnswered c source text → ⊥
-  no_answer r text e h a = elim (ended r h) [
+  -- where a refusal is exact, nothing is read that is of its form
+  not_formed : (r : Refusal) (a : c.Value) → IsExactRefusal r → IsCommandRefused c source r → IsTextOf c.items source a → AllHold (c.checks a) → ⊥
+  not_formed r a e h read formed = elim (ended r h) [
     | inl m ↦ no_exact_memory r m e
-    | inr s ↦ answered_apart s.reading a.value r e s.follows (ends_once c.items laws.items source s.reading (whole a.value) (good s.reading r e s.follows) s.ends (Ends.all a.value a.read refl)) a.answer.formed
+    | inr s ↦ answered_apart s.reading a r e s.follows (ends_once c.items laws.items source s.reading (whole a) (good s.reading r e s.follows) s.ends (Ends.all a read refl)) formed
   ]
+
+  -- so nothing is answered
+  pub no_answer : (r : Refusal) (text : List ℕ) → IsExactRefusal r → IsCommandRefused c source r → IsAnswered c source text → ⊥
+  no_answer r text e h a = not_formed r a.value e h a.read a.answer.formed
+
+  -- and there is no whole text
+  pub no_whole : (r : Refusal) (text : List ℕ) → IsExactRefusal r → IsCommandRefused c source r → IsWholeFor c source text → ⊥
+  no_whole r text e h a = not_formed r a.value e h a.read a.formed
 
   reach_follows : (a : c.Value) (d : Refusal) → AllHold (c.checks a) → c.IsWithin a → Follows (whole a) d → d ≡ refusals.Memory
   unfolding Follows

@@ -86,6 +86,8 @@ pub record Command : Type 1 where
   pub checks : Value → List Check
   -- the text that is written for what is read
   pub IsAnswer : Value → List ℕ → Type 0
+  -- the whole text, of which a prefix stands where a write fails: the answer, or what it would be without a limit
+  pub IsWhole : Value → List ℕ → Type 0
   -- an operation that the work on it may have is refused so, or its budget is spent, or a test that takes work fails
   pub IsCause : Value → Refusal → Type 0
   -- this may be written before the work on it is refused so; nothing by a command that writes its text at its end
@@ -116,6 +118,13 @@ pub record IsAnswered (c : Command) (source text : List ℕ) : Type 0 where
   pub value : c.Value
   pub read : IsTextOf c.items source value
   pub answer : IsAnswerFor c value text
+
+-- the source is read, what is read is of its form, and this is the whole text for it
+pub record IsWholeFor (c : Command) (source text : List ℕ) : Type 0 where
+  pub value : c.Value
+  pub read : IsTextOf c.items source value
+  pub formed : AllHold (c.checks value)
+  pub is_whole : c.IsWhole value text
 
 -- nothing is written for the source: its text is refused; or it is read, and nothing is written for what is read
 pub data IsCommandRefused (c : Command) (source : List ℕ) (r : Refusal) : Type 0 where

@@ -1,10 +1,13 @@
 -- A source is answered in one way: what is refused exactly where a condition holds is refused so wherever it holds, and within
 -- its limits a job is answered.
--- To cite: exact_text, exact_form, text_no_answer, form_no_answer, all_answered, refused_as_job. The rest are steps.
-use Rattle.std.specs.Prelude.{◌≡◌, ◌⊎◌, ℕ, Bool, true, false, List, [], ◌∷◌, length, Contains, Err}
-use Rattle.std.proofs.Common.{refl, sym, ap, ◌∙◌, subst, inl, inr}
+-- To cite: exact_text, exact_form, text_no_answer, form_no_answer, text_no_whole, form_no_whole, all_answered, refused_as_job, not_listed. The rest are steps.
+use Rattle.std.specs.Prelude.{◌≡◌, ◌⊎◌, ℕ, ◌<◌, ◌≤◌, Bool, true, false, List, [], ◌∷◌, length, Contains, Err, Option, None, Some}
+use Rattle.std.proofs.Common.{arith, refl, sym, ap, ◌∙◌, subst, inl, inr}
+use Rattle.gf_exponents.specs.SixOrders.{MonomialOrder}
 use Rattle.gf_poly.specs.Polynomial.{Terms, HasVariables, IsDescending}
-use Rattle.gf_poly.specs.Marking.{Each}
+use Rattle.gf_poly.specs.Marking.{Each, MarkedPolynomials}
+use Rattle.gf_text.specs.declared.error.TextError.{TextError}
+use Rattle.gf_text.specs.declared.error.TextError.TheVariants as text_errors
 use Rattle.gf_text.specs.declared.written.Written.{Written}
 use Rattle.gf_text.specs.declared.written.Written.TheVariants as written
 use Rattle.gf_text.specs.Tokens.{Position}
@@ -15,22 +18,29 @@ use Rattle.gf_ideal.proofs.ListLaws.{contained_each}
 use Rattle.gf_buchberger.specs.declared.bases.BasisError.{BasisError}
 use Rattle.gf_buchberger.specs.declared.bases.BasisError.TheVariants as basis_errors
 use Rattle.gf_buchberger.proofs.BasesOfRuns.{if_within}
+use Rattle.gf_tree.specs.declared.error.TreeError.{TreeError}
+use Rattle.gf_tree.specs.declared.error.TreeError.TheVariants as tree_errors
+use Rattle.gf_tree.specs.Ideals.{ideal_by}
+use Rattle.gf_tree.proofs.RefusalLaws.{within_memory}
 use Rattle.gf_front.specs.declared.command_line.Job.{Job}
 use Rattle.gf_front.specs.declared.command_line.Job.TheVariants as jobs
 use Rattle.gf_front.specs.declared.refusal.Refusal.{Refusal}
 use Rattle.gf_front.specs.declared.refusal.Refusal.TheVariants as refusals
 use Rattle.gf_items.specs.Items.{from}
-use Rattle.gf_items.specs.Commands.{IsOfText, IsOfForm, IsOfWork, IsOfJob}
+use Rattle.gf_items.specs.Commands.{Command, of_text, IsOfText, IsOfForm, IsOfWork, IsOfJob, IsUnanswered, IsCommandRefused}
 use Rattle.gf_items.specs.Kinds.{a_set, a_marked_set, marked_set_list, vector_where}
 use Rattle.gf_items.proofs.KindLaws.{ring_and_once}
-use Rattle.gf_items.proofs.CommandLaws.{IsExactCommand, exact, no_answer, in_reach, of_job}
+use Rattle.gf_items.proofs.CheckLaws.{first_kind}
+use Rattle.gf_items.proofs.CommandLaws.{IsExactCommand, exact, no_answer, no_whole, in_reach, of_job}
 use Rattle.gfan_main.specs.declared.buchberger.Options.{Options}
+use Rattle.gfan_main.specs.declared.bases.ListOptions.{ListOptions}
 use Rattle.gfan_main.specs.declared.marked.error.CheckError.{CheckError}
 use Rattle.gfan_main.specs.declared.marked.error.CheckError.TheVariants as check_errors
+use Rattle.gfan_main.specs.Bases.{IsWithinLimit, of_tree, IsListCause, IsListWithin, bases_command}
 use Rattle.gfan_main.specs.Buchberger.{generators_of, asked_order, of_basis, buchberger_command}
 use Rattle.gfan_main.specs.LeadingTerms.{leading_terms_command}
 use Rattle.gfan_main.specs.Marked.{of_check, marked_command}
-use Rattle.gfan_main.specs.Commands.{options, command, IsAnswerTo, IsRefusalOf, IsWithinReach}
+use Rattle.gfan_main.specs.Commands.{options, list_options, command, IsAnswerTo, IsWholeTextOf, IsRefusalOf, IsWithinReach, WritesAtEnd}
 use Rattle.gfan_main.proofs.FormLaws.{AreKept, form_once}
 
 -- ---- what is kept of a set
@@ -98,10 +108,42 @@ leading_exact true = record {
   within = λ v r w h. h;
 }
 
+-- ---- `_bases`
+
+tree_work : (e : TreeError) → IsOfWork (of_tree e)
+tree_work (tree_errors.Overflow o) = tt
+tree_work (tree_errors.Exponent o) = tt
+tree_work (tree_errors.PairBudget b u) = tt
+tree_work (tree_errors.Cone s) = tt
+tree_work tree_errors.Memory = tt
+
+list_work : (o : ListOptions) (n : ℕ) (fs : List Terms) (r : Refusal) → IsListCause o n fs r → IsOfWork r
+list_work o n fs r (IsListCause.at_root e h q) = subst IsOfWork (sym q) (basis_work e)
+list_work o n fs r (IsListCause.in_tree e h q) = subst IsOfWork (sym q) (tree_work e)
+list_work o n fs r (IsListCause.at_limit most h q) = subst IsOfWork (sym q) tt
+
+past_limit : (limit : Option ℕ) (most : ℕ) (list : List MarkedPolynomials) → limit ≡ Some most → most < length list → IsWithinLimit limit list → ⊥
+past_limit None most list e l w = cc
+past_limit (Some n) most list e l w = let same : n ≡ most = cc in omega arith
+
+list_within : (o : ListOptions) (n : ℕ) (fs : List Terms) (r : Refusal) → IsListWithin o n fs → IsListCause o n fs r → r ≡ refusals.Memory
+list_within o n fs r w (IsListCause.at_root e h q) = q ∙ ap of_basis (if_within {A = Unit {0}} MonomialOrder.deglex n o.pairs fs (Err e) w.root h)
+list_within o n fs r w (IsListCause.in_tree e h q) = q ∙ ap of_tree (within_memory (ideal_by n fs) o.pairs e w.tree h)
+list_within o n fs r w (IsListCause.at_limit most h q) = absurd (past_limit o.limit most h.list h.is_limit h.longer (w.few h.list h.are_all))
+
+bases_exact : (o : ListOptions) → IsExactCommand (bases_command o)
+bases_exact o = record {
+  items = ring_and_once a_set (vector_where false ∷ []);
+  checks = λ source v r. tt;
+  work = λ v r h. list_work o (length v.0) (generators_of v.1.0) r h;
+  within = λ v r w h. list_within o (length v.0) (generators_of v.1.0) r w h;
+}
+
 -- ---- each job
 
 laws : (job : Job) → IsExactCommand (command job)
 laws (jobs.Buchberger weighted revlex pairs) = buchberger_exact (options weighted revlex pairs)
+laws (jobs.Bases limit pairs) = bases_exact (list_options limit pairs)
 laws jobs.IsMarkedGroebnerBasis = marked_exact
 laws (jobs.LeadingTerms listed) = leading_exact listed
 
@@ -117,8 +159,52 @@ text_no_answer job source r text t h a = no_answer (command job) (laws job) sour
 pub form_no_answer : (job : Job) (source : List ℕ) (r : Refusal) (text : List ℕ) → IsOfForm r → IsRefusalOf job source r → IsAnswerTo job source text → ⊥
 form_no_answer job source r text f h a = no_answer (command job) (laws job) source r text (inr f) h a
 
+pub text_no_whole : (job : Job) (source : List ℕ) (r : Refusal) (text : List ℕ) → IsOfText r → IsRefusalOf job source r → IsWholeTextOf job source text → ⊥
+text_no_whole job source r text t h a = no_whole (command job) (laws job) source r text (inl t) h a
+
+pub form_no_whole : (job : Job) (source : List ℕ) (r : Refusal) (text : List ℕ) → IsOfForm r → IsRefusalOf job source r → IsWholeTextOf job source text → ⊥
+form_no_whole job source r text f h a = no_whole (command job) (laws job) source r text (inr f) h a
+
 pub all_answered : (job : Job) (source : List ℕ) (d : Refusal) → IsWithinReach job source → IsRefusalOf job source d → d ≡ refusals.Memory
 all_answered job source d w h = in_reach (command job) (laws job) source d w h
+
+-- ---- no other job comes to the limit of a list
+
+text_not_listed : (e : TextError) (most : ℕ) → refusals.ListLimit most ≡ of_text e → ⊥
+text_not_listed (text_errors.Overflow o) most q = cc
+text_not_listed (text_errors.Exponent o) most q = cc
+text_not_listed (text_errors.Syntax s) most q = cc
+text_not_listed (text_errors.TooWide at) most q = cc
+text_not_listed (text_errors.UnknownName at) most q = cc
+text_not_listed (text_errors.TooManyVariables count) most q = cc
+text_not_listed (text_errors.ZeroPolynomial set index) most q = cc
+text_not_listed text_errors.Memory most q = cc
+
+basis_not_listed : (e : BasisError) (most : ℕ) → refusals.ListLimit most ≡ of_basis e → ⊥
+basis_not_listed (basis_errors.Overflow o) most q = cc
+basis_not_listed (basis_errors.Exponent o) most q = cc
+basis_not_listed (basis_errors.PairBudget b u) most q = cc
+basis_not_listed basis_errors.Memory most q = cc
+
+check_not_listed : (e : CheckError) (most : ℕ) → refusals.ListLimit most ≡ of_check e → ⊥
+check_not_listed (check_errors.Cone o) most q = cc
+check_not_listed (check_errors.Overflow o) most q = cc
+check_not_listed (check_errors.Exponent o) most q = cc
+check_not_listed check_errors.Memory most q = cc
+
+command_not_listed : (c : Command) → IsExactCommand c → ((a : c.Value) (most : ℕ) → c.IsCause a (refusals.ListLimit most) → ⊥) → (source : List ℕ) (most : ℕ) → IsCommandRefused c source (refusals.ListLimit most) → ⊥
+command_not_listed c exact_c never source most (IsCommandRefused.in_text e h q) = text_not_listed e most q
+command_not_listed c exact_c never source most (IsCommandRefused.behind_text a h (IsUnanswered.in_form f)) = elim (first_kind (c.checks a) (exact_c.checks source a h) (refusals.ListLimit most) f) [ inl x ↦ x | inr x ↦ x ]
+command_not_listed c exact_c never source most (IsCommandRefused.behind_text a h (IsUnanswered.in_work g w)) = never a most w
+command_not_listed c exact_c never source most (IsCommandRefused.behind_text a h (IsUnanswered.no_memory m)) = cc
+command_not_listed c exact_c never source most (IsCommandRefused.no_memory m) = cc
+
+pub not_listed : (job : Job) (source : List ℕ) (most : ℕ) → WritesAtEnd job → IsRefusalOf job source (refusals.ListLimit most) → ⊥
+not_listed (jobs.Buchberger weighted revlex pairs) source most w h = command_not_listed (buchberger_command (options weighted revlex pairs)) (buchberger_exact (options weighted revlex pairs)) (λ a m c. basis_not_listed c.0 m c.1) source most h
+not_listed (jobs.Bases limit pairs) source most w h = w
+not_listed jobs.IsMarkedGroebnerBasis source most w h = command_not_listed marked_command marked_exact (λ a m c. check_not_listed c.0 m c.1) source most h
+not_listed (jobs.LeadingTerms false) source most w h = command_not_listed (leading_terms_command false) (leading_exact false) (λ a m c. cc) source most h
+not_listed (jobs.LeadingTerms true) source most w h = command_not_listed (leading_terms_command true) (leading_exact true) (λ a m c. cc) source most h
 
 pub refused_as_job : (job : Job) (source : List ℕ) (r : Refusal) → IsRefusalOf job source r → IsOfJob r
 refused_as_job job source r h = of_job (command job) (laws job) source r h

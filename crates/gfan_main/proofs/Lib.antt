@@ -5,5 +5,10 @@ pub mod MonicFormsLaws  -- monic forms as code makes them
 pub mod MarkedBasesLaws  -- pairs whose S-polynomials have the normal form zero
 pub mod MarkedLaws  -- what is answered for a marked set
 pub mod RefusedLaws  -- which refusals are told without a ring
+pub mod BasesListLaws  -- the list of all bases, and what it has
+pub mod OneListLaws  -- an ideal has one list of all bases
+pub mod BasesTextLaws  -- pieces that follow one another are the text of the list
+pub mod BasesLaws  -- how the list is written
 pub mod ExactLaws  -- a source is answered in one way
+pub mod PerformedLaws  -- what a job does to the output
 pub mod OutcomeLaws  -- how a run ends

@@ -16,7 +16,7 @@ use Rattle.gf_poly.specs.Marking.{MarkedPolynomial, Each, HaveVariables, HasMark
 use Rattle.gf_ideal.specs.Marks.{IsRealisable}
 use Rattle.gf_facets.specs.Systems.{system_of}
 use Rattle.gf_facets.proofs.SystemLaws.{marked_system_wide, solvable_of_realisable, realisable_of_solution}
-use Rattle.gfan_main.specs.MarkedBases.{IsSystemStep}
+use Rattle.gfan_main.specs.MarkedBases.{IsMarkingStep}
 
 pub rows_for : (n k : ℕ) (bs : List MarkedPolynomial) (rows : List (List ℤ)) → k ≡ n → HaveVariables n bs → Each HasMarkedTerm bs → rows ≡ system_of n bs → AreRows k rows
 rows_for n k bs rows q v m e = subst (λ (j : ℕ). AreRows j rows) (sym q) (subst (AreRows n) (sym e) (marked_system_wide n bs v m))
@@ -32,7 +32,7 @@ weight_refuted n k bs rows a ms es g h m e q p u =
     let solvable : IsRealisable n bs → IsSolvable n rows [] = λ r. subst (λ (t : List (List ℤ)). IsSolvable n t []) (sym e) (solvable_of_realisable n bs h m r) in
     (λ t. absurd (cc), λ r. absurd (g.not_both n rows [] (rows_for n n bs rows refl h m e) (All-nil (λ t. length t ≡ n)) (solvable r) (ms, es, subst (λ (j : ℕ). IsFarkas j rows [] ms es) q f)))
 
-pub system_refused : (n k : ℕ) (bs : List MarkedPolynomial) (rows : List (List ℤ)) (e : GordanError) → rows ≡ system_of n bs → k ≡ n → Failed (IsStepOn (length rows + 0) k rows []) e → Failed (IsSystemStep n bs) e
+pub system_refused : (n k : ℕ) (bs : List MarkedPolynomial) (rows : List (List ℤ)) (e : GordanError) → rows ≡ system_of n bs → k ≡ n → Failed (IsStepOn (length rows + 0) k rows []) e → Failed (IsMarkingStep n bs) e
 system_refused n k bs rows (Cone s) e q h =
     let l : length rows + 0 ≡ length rows = omega arith in
     subst (λ (r : List (List ℤ)). IsStepOn (length r) n r [] s) e (subst (λ (j : ℕ). IsStepOn (length rows) j rows [] s) q (subst (λ (a : ℕ). IsStepOn a k rows [] s) l h))

@@ -1,8 +1,9 @@
 -- How a run ends, from what its parts promise.
 -- To cite: words_usage, words_cause, took_nothing, within_done, within_refused, done_in_reach, refused_in_reach, text_not_done, text_refused,
--- form_not_done, form_refused, long_not_done, long_refused, job_refused, input_refused, not_usage, of_input. The rest are steps.
+-- form_not_done, form_refused, long_not_done, long_refused, performed_done, stopped_cause, stopped_quiet, stopped_not_usage, input_refused,
+-- of_input. The rest are steps.
 use Rattle.std.specs.Prelude.{◌≡◌, ◌⊎◌, ℕ, ◌<◌, ◌≤◌, ◌++◌, List, [], length, Option, None, Some, IfSome}
-use Rattle.std.specs.Io.KnownBytes.{Consumes, IsAtEnd}
+use Rattle.std.specs.Io.KnownBytes.{Consumes, IsAtEnd, Keeps}
 use Rattle.std.proofs.Common.{arith, refl, sym, ap, ◌∙◌, subst, inl, inr, length-append, append-nil}
 use Rattle.std.proofs.KnownBytes.{Consumes-nil}
 use Rattle.gf_outside.specs.Faults.{Rose}
@@ -17,11 +18,12 @@ use Rattle.gf_front.specs.declared.refusal.Status.TheVariants as statuses
 use Rattle.gf_front.specs.Jobs.{match_of, job_of, renamed, IsMatched, IsJobOf}
 use Rattle.gf_front.specs.Lines.{of_words}
 use Rattle.gf_items.specs.Commands.{IsOfText, IsOfForm, IsOfJob}
-use Rattle.gfan_main.specs.Commands.{IsAnswerTo, IsRefusalOf, IsWithinReach}
-use Rattle.gfan_main.specs.Run.{IsKnown, AsksForJob, ReadWhole, HasAnswer, Answered, AnsweredInPart, InputRefused, IsRefusedWith, IsDoneUnlessMemory, IsCause, IsRingOfInput, IsOfInput, IsOfOutside}
+use Rattle.gfan_main.specs.Commands.{IsAnswerTo, IsWholeTextOf, IsRefusalOf, IsWithinReach}
+use Rattle.gfan_main.specs.Performed.{IsPerformed, IsBegunIn, LeavesBegun, IsStopped}
+use Rattle.gfan_main.specs.Run.{IsKnown, AsksForJob, ReadWhole, HasAnswer, HasWholeText, Answered, InputRefused, StandsBegun, LeavesWritten, IsRefusedWith, IsDoneUnlessMemory, IsCause, IsRingOfInput, IsOfInput, IsOfOutside}
 use Rattle.gfan_main.specs.declared.refused.Refused.{Refused}
 use Rattle.gfan_main.specs.Refused.{IsRingOf, IsOfSource}
-use Rattle.gfan_main.proofs.ExactLaws.{exact_text, exact_form, text_no_answer, form_no_answer, all_answered, refused_as_job}
+use Rattle.gfan_main.proofs.ExactLaws.{exact_text, exact_form, text_no_answer, form_no_answer, text_no_whole, form_no_whole, all_answered, refused_as_job}
 
 -- ---- bytes
 
@@ -72,7 +74,7 @@ same_job words j k a b =
 -- how a run may be refused on what is given: at the job, at a failed write, or for want of memory
 data IsRefusedHere (written writes : ℕ) (job : Job) (source : List ℕ) (r : Refusal) : Type 0 where
   at_job : IsRefusalOf job source r → IsRefusedHere written writes job source r
-  at_write : (text : List ℕ) → Rose written writes → IsAnswerTo job source text → IsRefusedHere written writes job source r
+  at_write : (text : List ℕ) → Rose written writes → IsWholeTextOf job source text → IsRefusedHere written writes job source r
   at_memory : r ≡ refusals.Memory → IsRefusedHere written writes job source r
 
 module _ (words : List (List ℕ)) (left leaves : Option (List ℕ)) (given gives : ℕ) (held holds : Option (List ℕ)) (read reads written writes : ℕ) where
@@ -90,6 +92,10 @@ module _ (words : List (List ℕ)) (left leaves : Option (List ℕ)) (given give
   answer_here job source text g a =
       subst (λ j. IsAnswerTo j source text) (same_job words job a.job g.asked a.asked) (subst (λ s. IsAnswerTo a.job s text) (same_source source a.source g.known a.read) a.is_answer)
 
+  whole_here : (job : Job) (source text : List ℕ) → AsksForJobHere job source → HasWholeText words left leaves given gives text → IsWholeTextOf job source text
+  whole_here job source text g a =
+      subst (λ j. IsWholeTextOf j source text) (same_job words job a.job g.asked a.asked) (subst (λ s. IsWholeTextOf a.job s text) (same_source source a.source g.known a.read) a.is_whole)
+
   refusal_here : (job : Job) (source : List ℕ) (r : Refusal) → AsksForJobHere job source → InputRefused words left leaves given gives r → IsRefusalOf job source r
   refusal_here job source r g a =
       subst (λ j. IsRefusalOf j source r) (same_job words job a.job g.asked a.asked) (subst (λ s. IsRefusalOf a.job s r) (same_source source a.source g.known a.read) a.refused)
@@ -101,21 +107,53 @@ module _ (words : List (List ℕ)) (left leaves : Option (List ℕ)) (given give
   refused_here job source refusals.Usage g c = absurd (c g.asked.matched)
   refused_here job source refusals.ReadFault g c = absurd (g.known.calm c.0)
   refused_here job source refusals.InputTooLong g c = absurd (not_too_long source g.known g.short c)
-  refused_here job source refusals.WriteFault g c = IsRefusedHere.at_write c.1.text c.0 (answer_here job source c.1.text g c.1.answer)
+  refused_here job source refusals.WriteFault g c = IsRefusedHere.at_write c.1.text c.0 (whole_here job source c.1.text g c.1.whole)
+  refused_here job source (refusals.ListLimit most) g c = IsRefusedHere.at_job (refusal_here job source (refusals.ListLimit most) g c.0)
   refused_here job source refusals.Memory g c = IsRefusedHere.at_memory refl
   refused_here job source r g c = IsRefusedHere.at_job (refusal_here job source r g c)
 
-  -- a job that is refused is a cause
-  pub job_refused : (job : Job) (source : List ℕ) (r : Refusal) → IsJobOf words job → ReadWhole left leaves given gives source → IsRefusalOf job source r → IsCauseHere r
-  job_refused job source r j b h = at r (refused_as_job job source r h) h
-    where
-      at : (r : Refusal) → IsOfJob r → IsRefusalOf job source r → IsCauseHere r
-      at refusals.Usage k x = elim k [ inl y ↦ elim y [ inl z ↦ absurd z | inr z ↦ absurd z ] | inr y ↦ absurd y ]
-      at refusals.ReadFault k x = elim k [ inl y ↦ elim y [ inl z ↦ absurd z | inr z ↦ absurd z ] | inr y ↦ absurd y ]
-      at refusals.InputTooLong k x = elim k [ inl y ↦ elim y [ inl z ↦ absurd z | inr z ↦ absurd z ] | inr y ↦ absurd y ]
-      at refusals.WriteFault k x = elim k [ inl y ↦ elim y [ inl z ↦ absurd z | inr z ↦ absurd z ] | inr y ↦ absurd y ]
-      at refusals.Memory k x = took_whole left leaves given gives source b
-      at r k x = record { job = job; asked = j; source = source; read = b; refused = x }
+  -- a job that is performed is done
+  pub performed_done : (job : Job) (source : List ℕ) → IsJobOf words job → ReadWhole left leaves given gives source → IsPerformed job source held holds → Answered words left leaves given gives held holds
+  performed_done job source j b p = record { text = p.text; answer = record { job = job; asked = j; source = source; read = b; is_answer = p.is_answer }; gained = p.gained }
+
+  -- no job is refused as words or an input are
+  not_outside : {A : Type 0} (job : Job) (source : List ℕ) (r : Refusal) → (IsOfJob r → ⊥) → IsRefusalOf job source r → A
+  not_outside job source r never h = absurd (never (refused_as_job job source r h))
+
+  no_usage : IsOfJob refusals.Usage → ⊥
+  no_usage k = elim k [ inl y ↦ elim y [ inl z ↦ z | inr z ↦ z ] | inr y ↦ y ]
+
+  no_read_fault : IsOfJob refusals.ReadFault → ⊥
+  no_read_fault k = elim k [ inl y ↦ elim y [ inl z ↦ z | inr z ↦ z ] | inr y ↦ y ]
+
+  no_long : IsOfJob refusals.InputTooLong → ⊥
+  no_long k = elim k [ inl y ↦ elim y [ inl z ↦ z | inr z ↦ z ] | inr y ↦ y ]
+
+  stands : (job : Job) (source : List ℕ) (r : Refusal) → IsJobOf words job → ReadWhole left leaves given gives source → IsBegunIn job source held holds r → StandsBegun words left leaves given gives held holds r
+  stands job source r j b s = record { text = s.text; begun = record { job = job; asked = j; source = source; read = b; begun = s.begun }; gained = s.gained }
+
+  leaves_begun : (job : Job) (source : List ℕ) (r : Refusal) → IsJobOf words job → ReadWhole left leaves given gives source → LeavesBegun job source held holds r → LeavesWritten words left leaves given gives held holds r
+  leaves_begun job source r j b (LeavesBegun.nothing k) = LeavesWritten.nothing k
+  leaves_begun job source r j b (LeavesBegun.beginning s) = LeavesWritten.beginning (stands job source r j b s)
+
+  -- a job that is stopped is a cause
+  pub stopped_cause : (job : Job) (source : List ℕ) (r : Refusal) → IsJobOf words job → ReadWhole left leaves given gives source → IsStopped job source held holds written writes r → IsCauseHere r
+  stopped_cause job source refusals.Usage j b s = not_outside job source refusals.Usage no_usage s.0
+  stopped_cause job source refusals.ReadFault j b s = not_outside job source refusals.ReadFault no_read_fault s.0
+  stopped_cause job source refusals.InputTooLong j b s = not_outside job source refusals.InputTooLong no_long s.0
+  stopped_cause job source refusals.WriteFault j b s = (s.0, record { text = s.1.text; whole = record { job = job; asked = j; source = source; read = b; is_whole = s.1.is_whole }; gained = s.1.gained })
+  stopped_cause job source (refusals.ListLimit most) j b s = (record { job = job; asked = j; source = source; read = b; refused = s.0 }, stands job source (refusals.ListLimit most) j b s.1)
+  stopped_cause job source refusals.Memory j b s = took_whole left leaves given gives source b
+  stopped_cause job source r j b s = record { job = job; asked = j; source = source; read = b; refused = s.0 }
+
+  -- and leaves nothing, or the beginning of its text, unless a write failed
+  pub stopped_quiet : (job : Job) (source : List ℕ) (r : Refusal) → IsJobOf words job → ReadWhole left leaves given gives source → IsStopped job source held holds written writes r → (r ≡ refusals.WriteFault → ⊥) → LeavesWritten words left leaves given gives held holds r
+  stopped_quiet job source refusals.WriteFault j b s n = absurd (n refl)
+  stopped_quiet job source (refusals.ListLimit most) j b s n = LeavesWritten.beginning (stands job source (refusals.ListLimit most) j b s.1)
+  stopped_quiet job source r j b s n = leaves_begun job source r j b s.1
+
+  pub stopped_not_usage : (job : Job) (source : List ℕ) (r : Refusal) → IsStopped job source held holds written writes r → r ≡ refusals.Usage → ⊥
+  stopped_not_usage job source r s e = not_outside job source refusals.Usage no_usage (subst (λ d. IsStopped job source held holds written writes d) e s).0
 
   -- a refusal that isn't of the outside is of the job
   pub input_refused : (r : Refusal) → (IsOfOutside r → ⊥) → IsCauseHere r → InputRefused words left leaves given gives r
@@ -124,10 +162,8 @@ module _ (words : List (List ℕ)) (left leaves : Option (List ℕ)) (given give
   input_refused refusals.InputTooLong n c = absurd (n tt)
   input_refused refusals.WriteFault n c = absurd (n tt)
   input_refused refusals.Memory n c = absurd (n tt)
+  input_refused (refusals.ListLimit most) n c = c.0
   input_refused r n c = c
-
-  pub not_usage : (job : Job) (source : List ℕ) (r : Refusal) → IsRefusalOf job source r → r ≡ refusals.Usage → ⊥
-  not_usage job source r h e = elim (subst IsOfJob e (refused_as_job job source r h)) [ inl y ↦ elim y [ inl z ↦ z | inr z ↦ z ] | inr y ↦ y ]
 
   -- the ring of the source is that of the input
   pub of_input : (source : List ℕ) (refused : Refused) → ReadWhole left leaves given gives source → IsOfSource source refused → IsOfInput left leaves given gives refused
@@ -158,7 +194,7 @@ module _ (words : List (List ℕ)) (left leaves : Option (List ℕ)) (given give
     where
       at : IsRefusedHere written writes job source d → IsRefusedWith (statuses.Refused d) r
       at (IsRefusedHere.at_job k) = refused_as r d (exact_text job source r d t h k)
-      at (IsRefusedHere.at_write text rose a) = absurd (text_no_answer job source r text t h a)
+      at (IsRefusedHere.at_write text rose a) = absurd (text_no_whole job source r text t h a)
       at (IsRefusedHere.at_memory m) = refused_as r d (inr m)
 
   pub form_refused : (job : Job) (source : List ℕ) (r d : Refusal) → AsksForJobHere job source → IsOfForm r → IsRefusalOf job source r → IsCauseHere d → IsRefusedWith (statuses.Refused d) r
@@ -166,7 +202,7 @@ module _ (words : List (List ℕ)) (left leaves : Option (List ℕ)) (given give
     where
       at : IsRefusedHere written writes job source d → IsRefusedWith (statuses.Refused d) r
       at (IsRefusedHere.at_job k) = refused_as r d (exact_form job source r d f h k)
-      at (IsRefusedHere.at_write text rose a) = absurd (form_no_answer job source r text f h a)
+      at (IsRefusedHere.at_write text rose a) = absurd (form_no_whole job source r text f h a)
       at (IsRefusedHere.at_memory m) = refused_as r d (inr m)
 
   pub text_not_done : (job : Job) (source : List ℕ) (r : Refusal) → AsksForJobHere job source → IsOfText r → IsRefusalOf job source r → Answered words left leaves given gives held holds → ⊥
@@ -187,7 +223,8 @@ module _ (words : List (List ℕ)) (left leaves : Option (List ℕ)) (given give
   within_refused refusals.Usage u n c = u refl
   within_refused refusals.ReadFault u n c = c.1
   within_refused refusals.InputTooLong u n c = absurd (n refl)
-  within_refused refusals.WriteFault u n c = took_whole left leaves given gives c.1.answer.source c.1.answer.read
+  within_refused refusals.WriteFault u n c = took_whole left leaves given gives c.1.whole.source c.1.whole.read
+  within_refused (refusals.ListLimit most) u n c = input_within (refusals.ListLimit most) c.0
   within_refused refusals.Memory u n c = c
   within_refused r u n c = input_within r c
 
@@ -205,6 +242,7 @@ module _ (words : List (List ℕ)) (left leaves : Option (List ℕ)) (given give
   long_refused source refusals.Usage k m l c = absurd (c m)
   long_refused source refusals.ReadFault k m l c = absurd (k.calm c.0)
   long_refused source refusals.InputTooLong k m l c = inl refl
-  long_refused source refusals.WriteFault k m l c = absurd (not_whole source c.1.answer.source k l c.1.answer.read)
+  long_refused source refusals.WriteFault k m l c = absurd (not_whole source c.1.whole.source k l c.1.whole.read)
+  long_refused source (refusals.ListLimit most) k m l c = absurd (input_not_long source (refusals.ListLimit most) k l c.0)
   long_refused source refusals.Memory k m l c = inr refl
   long_refused source r k m l c = absurd (input_not_long source r k l c)

@@ -123,6 +123,7 @@ buchberger_command o = record {
   items = ring_set_vector o.weighted;
   checks = λ v. form o.revlex (length v.0) v.1.1 (generators_of v.1.0);
   IsAnswer = λ v text. IsBasisText (asked_order o.revlex v.1.1) v.0 (generators_of v.1.0) text;
+  IsWhole = λ v text. IsBasisText (asked_order o.revlex v.1.1) v.0 (generators_of v.1.0) text;
   IsCause = λ v r. (e : BasisError) × (r ≡ of_basis e) × IsBasisRefusal (asked_order o.revlex v.1.1) (length v.0) (generators_of v.1.0) o.pairs e;
   IsBegun = λ v text r. ⊥;
   IsWithin = λ v. AreRunsWithinLimits (asked_order o.revlex v.1.1) (generators_of v.1.0) o.pairs;

@@ -1,12 +1,14 @@
 -- What the program does for each job: the text that it writes, and why it doesn't.
-use Rattle.std.specs.Prelude.{ℕ, Bool, List}
+use Rattle.std.specs.Prelude.{ℕ, Bool, List, Option}
 use Rattle.gf_front.specs.declared.command_line.Job.{Job}
 use Rattle.gf_front.specs.declared.command_line.Job.TheVariants as jobs
 use Rattle.gf_front.specs.declared.refusal.Refusal.{Refusal}
 use Rattle.gf_front.specs.declared.refusal.Refusal.TheVariants as refusals
-use Rattle.gf_items.specs.Commands.{Command, IsAnswered, IsCommandRefused, IsInReach, IsBegunFor}
+use Rattle.gf_items.specs.Commands.{Command, IsAnswered, IsWholeFor, IsCommandRefused, IsInReach, IsBegunFor}
 use Rattle.gfan_main.specs.declared.buchberger.Options.{Options}
+use Rattle.gfan_main.specs.declared.bases.ListOptions.{ListOptions}
 use Rattle.gfan_main.specs.Buchberger.{buchberger_command}
+use Rattle.gfan_main.specs.Bases.{bases_command}
 use Rattle.gfan_main.specs.Marked.{marked_command}
 use Rattle.gfan_main.specs.LeadingTerms.{leading_terms_command}
 
@@ -14,15 +16,24 @@ use Rattle.gfan_main.specs.LeadingTerms.{leading_terms_command}
 abbrev pub options : Bool → Bool → ℕ → Options
 options weighted revlex pairs = record { weighted = weighted; revlex = revlex; pairs = pairs }
 
+-- the options of `_bases`
+abbrev pub list_options : Option ℕ → ℕ → ListOptions
+list_options limit pairs = record { limit = limit; pairs = pairs }
+
 -- the command of a job
 abbrev pub command : Job → Command
 command (jobs.Buchberger weighted revlex pairs) = buchberger_command (options weighted revlex pairs)
+command (jobs.Bases limit pairs) = bases_command (list_options limit pairs)
 command jobs.IsMarkedGroebnerBasis = marked_command
 command (jobs.LeadingTerms listed) = leading_terms_command listed
 
 -- the text is what the job writes for the source
 abbrev pub IsAnswerTo : Job → List ℕ → List ℕ → Type 0
 IsAnswerTo job source text = IsAnswered (command job) source text
+
+-- the text is all that the job writes for the source, where nothing stops it
+abbrev pub IsWholeTextOf : Job → List ℕ → List ℕ → Type 0
+IsWholeTextOf job source text = IsWholeFor (command job) source text
 
 -- the job has no answer for the source, for this reason
 abbrev pub IsRefusalOf : Job → List ℕ → Refusal → Type 0
@@ -35,6 +46,11 @@ IsBegunBy job source text refusal = IsBegunFor (command job) source text refusal
 -- the source is what the job reads, and nothing that the job may do with it leaves its limits
 abbrev pub IsWithinReach : Job → List ℕ → Type 0
 IsWithinReach job source = IsInReach (command job) source
+
+-- the job writes one piece at its end; `_bases` alone writes as it goes
+abbrev pub WritesAtEnd : Job → Type 0
+WritesAtEnd (jobs.Bases limit pairs) = ⊥
+WritesAtEnd _ = Unit {0}
 
 -- ---- kinds of refusals
 

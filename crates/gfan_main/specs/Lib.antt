@@ -4,6 +4,10 @@ pub mod Questions  -- how what is read is checked, and what is asked then
 pub mod MarkedBases  -- when a marked set is a basis, and why it isn't tested
 pub mod Marked  -- what `_ismarkedgroebnerbasis` reads and writes
 pub mod LeadingTerms  -- what `_leadingterms` writes
+pub mod BasesList  -- the list of all bases of an ideal
+pub mod Bases  -- what `_bases` reads and writes
 pub mod Refused  -- a refusal with the ring in whose names it is told
+pub mod BasesWriting  -- how `_bases` writes its list
 pub mod Commands  -- what the program does for each job
+pub mod Performed  -- what a job does to the output
 pub mod Run  -- the top call

@@ -35,6 +35,7 @@ marked_command = record {
   items = ring_marked_set;
   checks = λ v. [];
   IsAnswer = λ v text. IsVerdict (IsMarkedBasis v.1.variables v.1.items) text;
+  IsWhole = λ v text. IsVerdict (IsMarkedBasis v.1.variables v.1.items) text;
   IsCause = λ v r. (e : CheckError) × (r ≡ of_check e) × IsCheckRefusal v.1.variables v.1.items e;
   IsBegun = λ v text r. ⊥;
   IsWithin = λ v. (e : CheckError) → IsCheckRefusal v.1.variables v.1.items e → e ≡ check_errors.Memory;

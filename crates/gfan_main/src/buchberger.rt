@@ -52,7 +52,7 @@ fn polynomial(alloc: Global, read: &Written) -> Result<Poly, AllocError>
 }
 
 // The polynomials of a set.
-fn polynomials(alloc: Global, set: &[Written]) -> Result<Vec<Poly>, AllocError>
+pub(crate) fn polynomials(alloc: Global, set: &[Written]) -> Result<Vec<Poly>, AllocError>
     ensures { IfOk result (λ fs. fs.items ≡ generators_of set.now) }
 {
     let mut found = Vec::with_capacity(alloc, set.len())?;

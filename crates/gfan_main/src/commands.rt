@@ -1,16 +1,20 @@
 // What the program does for each job.
-ghost use Rattle.std.specs.Prelude.{IfOk, IfErr};
+ghost use Rattle.std.specs.Prelude.{◌≡◌, IfOk, IfErr, OnOk, MatchResult};
 ghost use Rattle.gfan_main.specs.Refused.{IsOfSource};
-ghost use Rattle.gfan_main.specs.Commands.{IsAnswerTo, IsRefusalOf};
+ghost use Rattle.gfan_main.specs.Commands.{IsAnswerTo, IsRefusalOf, WritesAtEnd};
+ghost use Rattle.gfan_main.specs.Performed.{IsPerformed, IsStopped};
 
+use crate::bases::ListOptions;
 use crate::buchberger::Options;
 use crate::refused::Refused;
-use crate::{buchberger, leading_terms, marked};
-use gf_front::Job;
+use crate::{bases, buchberger, leading_terms, marked};
+use gf_front::{Job, Refusal};
+use gf_outside::{Sink, WriteFault, write_all};
 use std::alloc::Global;
 
-/// What the job writes for the source.
-pub(crate) fn answered(alloc: Global, job: &Job, source: &[u8]) -> Result<Vec<u8>, Refused>
+/// What a job that writes one piece at its end writes for the source.
+fn answered(alloc: Global, job: &Job, source: &[u8]) -> Result<Vec<u8>, Refused>
+    requires { WritesAtEnd job.now }
     ensures ok { IfOk result (λ text. IsAnswerTo job.now source.now text.items) }
     ensures err { IfErr result (λ e. IsRefusalOf job.now source.now e.refusal) }
     ensures told { IfErr result (IsOfSource source.now) }
@@ -28,7 +32,56 @@ pub(crate) fn answered(alloc: Global, job: &Job, source: &[u8]) -> Result<Vec<u8
             };
             buchberger::answer(alloc, source, options)
         }
+        Job::Bases { .. } => unreachable!(),
         Job::IsMarkedGroebnerBasis => marked::answer(alloc, source),
         Job::LeadingTerms { listed } => leading_terms::answer(alloc, source, *listed),
+    }
+}
+
+/// Writes the answer of such a job.
+fn write_answer<K: Sink>(
+    alloc: Global,
+    job: &Job,
+    source: &[u8],
+    output: &mut K,
+) -> Result<(), Refused>
+    requires { WritesAtEnd job.now }
+    ensures done { OnOk result (IsPerformed job.now source.now (K.held output.old) (K.held output.new)) }
+    ensures stopped { IfErr result (λ e. IsStopped job.now source.now (K.held output.old)
+        (K.held output.new) (K.faults output.old) (K.faults output.new) e.refusal) }
+    ensures told { IfErr result (IsOfSource source.now) }
+    ensures calm { MatchResult result (λ _. K.faults output.new ≡ K.faults output.old)
+        (λ e. (e.refusal ≡ Refusal.WriteFault → ⊥) → K.faults output.new ≡ K.faults output.old) }
+{
+    let text = answered(alloc, job, source)?;
+    match write_all(output, &text) {
+        Ok(()) => Ok(()),
+        Err(WriteFault) => Err(Refused::from(Refusal::WriteFault)),
+    }
+}
+
+/// Writes to the output what the job writes for the source: in one piece at its end, or piece by piece as it goes.
+pub(crate) fn perform<K: Sink>(
+    alloc: Global,
+    job: &Job,
+    source: &[u8],
+    output: &mut K,
+) -> Result<(), Refused>
+    ensures done { OnOk result (IsPerformed job.now source.now (K.held output.old) (K.held output.new)) }
+    ensures stopped { IfErr result (λ e. IsStopped job.now source.now (K.held output.old)
+        (K.held output.new) (K.faults output.old) (K.faults output.new) e.refusal) }
+    ensures told { IfErr result (IsOfSource source.now) }
+    ensures calm { MatchResult result (λ _. K.faults output.new ≡ K.faults output.old)
+        (λ e. (e.refusal ≡ Refusal.WriteFault → ⊥) → K.faults output.new ≡ K.faults output.old) }
+{
+    match job {
+        Job::Bases { limit, pairs } => {
+            let options = ListOptions {
+                limit: *limit,
+                pairs: *pairs,
+            };
+            bases::perform(alloc, source, options, output)
+        }
+        other => write_answer(alloc, other, source, output),
     }
 }

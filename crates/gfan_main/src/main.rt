@@ -1,16 +1,18 @@
 // Gröbner fans over the rational numbers: the program.
 //
-// `_buchberger` reads a ring and a set, and writes the reduced Gröbner basis by lex; `_ismarkedgroebnerbasis` reads a ring
-// and a marked set, and writes whether it is a Gröbner basis for its marking; `_leadingterms` reads a ring and a marked
-// set, and writes its leading terms. What a run does is told at `run`, what each command writes in `specs/Commands.antt`.
+// `_bases` reads a ring and a set, and writes all marked reduced Gröbner bases of the set's ideal; `_buchberger` reads them too, and
+// writes the reduced Gröbner basis by lex; `_ismarkedgroebnerbasis` reads a ring and a marked set, and writes whether it is a
+// Gröbner basis for its marking; `_leadingterms` reads a ring and a marked set, and writes its leading terms. What a run does is told at `run`, what each command writes in `specs/Commands.antt`.
 #![tactic(auto)]
 
 ghost use Rattle.std.specs.Prelude.{◌≡◌};
 ghost use Rattle.std.specs.Process.{exit_status};
 ghost use Rattle.gf_front.specs.Lines.{code_of};
 
+mod bases;
 mod buchberger;
 mod commands;
+mod laws;
 mod leading_terms;
 mod marked;
 mod printing;

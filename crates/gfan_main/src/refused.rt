@@ -4,9 +4,11 @@ ghost use Rattle.gf_front.specs.Lines.{line};
 ghost use Rattle.gfan_main.specs.Refused.{names_of, IsNamedBy, WrittenAsFar};
 
 use crate::marked::CheckError;
+use gf_buchberger::BasisError;
 use gf_front::{Refusal, WordsError};
 use gf_outside::Sink;
 use gf_text::{Ring, Syntax, TextError};
+use gf_tree::TreeError;
 use std::alloc::AllocError;
 
 /// A refusal, with the ring whose names stand in its line where it names monomials.
@@ -110,6 +112,44 @@ impl From<CheckError> for Refused {
             CheckError::Overflow(o) => Refusal::Overflow(o),
             CheckError::Exponent(o) => Refusal::ExponentOverflow(o),
             CheckError::Memory => Refusal::Memory,
+        })
+    }
+}
+
+impl From<BasisError> for Refused {
+    ghost use Rattle.gfan_main.specs.Buchberger.{of_basis};
+    ghost use Rattle.gfan_main.specs.Refused.{without_names};
+
+    ghost from_gives = { λ b e. e ≡ without_names (of_basis b) };
+
+    fn from(error: BasisError) -> Refused {
+        Refused::from(match error {
+            BasisError::Overflow(o) => Refusal::Overflow(o),
+            BasisError::Exponent(o) => Refusal::ExponentOverflow(o),
+            BasisError::PairBudget { basis, unsettled } => Refusal::PairBudget { basis, unsettled },
+            BasisError::Memory => Refusal::Memory,
+        })
+    }
+}
+
+impl From<TreeError> for Refused {
+    ghost use Rattle.gfan_main.specs.Bases.{of_tree};
+    ghost use Rattle.gfan_main.specs.Refused.{without_names};
+
+    ghost from_gives = { λ t e. e ≡ without_names (of_tree t) };
+
+    fn from(error: TreeError) -> Refused {
+        Refused::from(match error {
+            TreeError::Overflow(o) => Refusal::Overflow(o),
+            TreeError::Exponent(o) => Refusal::ExponentOverflow(o),
+            TreeError::PairBudget { basis, unsettled } => Refusal::PairBudget { basis, unsettled },
+            TreeError::Cone(o) => Refusal::ConeOverflow {
+                row: o.row,
+                op: o.op,
+                left: o.left,
+                right: o.right,
+            },
+            TreeError::Memory => Refusal::Memory,
         })
     }
 }

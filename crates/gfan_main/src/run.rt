@@ -2,19 +2,18 @@
 //
 // It gives the outside the answer or nothing; what it read and wrote is told by the source and the sinks.
 ghost use Rattle.std.specs.Prelude.{◌≡◌, ◌⊎◌, ℕ, ◌<◌, List, length, map, string_bytes, IfOk, IfErr, OnOk, IsErrOf, MatchResult};
-ghost use Rattle.std.specs.Io.KnownBytes.{Keeps};
 ghost use Rattle.gf_outside.specs.Faults.{Rose};
 ghost use Rattle.gf_outside.specs.Moved.{TookExactly, TookAtMost};
 ghost use Rattle.gf_front.specs.Jobs.{IsMatched, IsJobOf};
 ghost use Rattle.gf_front.specs.declared.command_line.Job.{Job};
 ghost use Rattle.gf_items.specs.Commands.{IsOfText, IsOfForm};
 ghost use Rattle.gfan_main.specs.Commands.{IsRefusalOf, IsWithinReach, IsOverflow, IsExponentOverflow, IsConeOverflow, IsPairBudget};
-ghost use Rattle.gfan_main.specs.Run.{ReadWhole, IsReadingCause, Answered, AnsweredInPart, InputRefused, IsKnown, AsksForJob, IsCause, IsOfInput, IsOfOutside, IsTold, IsRefusedWith, IsDoneUnlessMemory, LeavesWritten};
+ghost use Rattle.gfan_main.specs.Run.{ReadWhole, IsReadingCause, Answered, AnsweredInPart, InputRefused, IsKnown, AsksForJob, IsCause, IsOfInput, IsOfOutside, IsTold, IsRefusedWith, IsDoneUnlessMemory, StandsBegun, LeavesWritten};
 
-use crate::commands::answered;
+use crate::commands::perform;
 use crate::refused::Refused;
 use gf_front::{Refusal, Status};
-use gf_outside::{InputError, Sink, Source, WriteFault, read_all, write_all};
+use gf_outside::{InputError, Sink, Source, read_all};
 use std::alloc::Global;
 
 /// All bytes of the input.
@@ -54,7 +53,8 @@ fn outcome<S: Source, K: Sink>(
         (λ e. (e.refusal ≡ Refusal.Usage) ⊎ (e.refusal ≡ Refusal.Memory)) }
     ensures unread { IfErr result (λ e. e.refusal ≡ Refusal.Usage → input.new ≡ input.old) }
     ensures quiet { IfErr result (λ e. (e.refusal ≡ Refusal.WriteFault → ⊥)
-        → Keeps (K.held output.old) (K.held output.new)) }
+        → LeavesWritten (map string_bytes words.now) (S.left input.old) (S.left input.new)
+        (S.given input.old) (S.given input.new) (K.held output.old) (K.held output.new) e.refusal) }
     ensures input_calm { MatchResult result (λ _. S.faults input.new ≡ S.faults input.old)
         (λ e. (e.refusal ≡ Refusal.ReadFault → ⊥) → S.faults input.new ≡ S.faults input.old) }
     ensures output_calm { MatchResult result (λ _. K.faults output.new ≡ K.faults output.old)
@@ -62,18 +62,14 @@ fn outcome<S: Source, K: Sink>(
 {
     let job = gf_front::words(alloc, words)?;
     let source = read(alloc, input)?;
-    let text = answered(alloc, &job, &source)?;
-    match write_all(output, &text) {
-        Ok(()) => Ok(()),
-        Err(WriteFault) => Err(Refused::from(Refusal::WriteFault)),
-    }
+    perform(alloc, &job, &source, output)
 }
 
 /// Does what the words ask for, and tells a refusal in one line.
 ///
 /// The words are those after the program's name. The job is that of `gf_front::words`; what it reads and writes is told
-/// at its own function. The whole answer is one piece of the output, and nothing else is written there. On Done nothing
-/// is written to `faults`. Whether `faults` takes the line changes neither the status nor the output.
+/// at its own function. The answer is one piece of the output, or of `_bases` one piece for each basis, and nothing else is written
+/// there. On Done nothing is written to `faults`. Whether `faults` takes the line changes neither the status nor the output.
 ///
 /// # Errors
 ///
@@ -85,6 +81,7 @@ fn outcome<S: Source, K: Sink>(
 ///   job needs, at the first place.
 /// - `Overflow`, `ExponentOverflow` and `ConeOverflow` only for operands that the job may have, and that don't fit;
 ///   `PairBudget` only where the budget of the words is spent.
+/// - `ListLimit` exactly where the limit of the words is reached, and the list goes on.
 /// - `WriteFault` only where a write of this call failed, or took nothing; a prefix of the answer may be
 ///   written then. Any other refusal leaves nothing in the output, or the beginning of the text of a job that writes as it goes.
 /// - `Memory` at any growth.
@@ -157,12 +154,20 @@ pub fn run<S: Source, K: Sink, E: Sink>(
         → InputRefused (map string_bytes words.now) (S.left input.old) (S.left input.new)
         (S.given input.old) (S.given input.new) refusal }
 
+    // The limit of a list is reached, and the list goes on: just so many bases are written.
+    ensures list_limit { (most : ℕ) → result ≡ Status.Refused (Refusal.ListLimit most)
+        → InputRefused (map string_bytes words.now) (S.left input.old) (S.left input.new)
+        (S.given input.old) (S.given input.new) (Refusal.ListLimit most)
+        × StandsBegun (map string_bytes words.now) (S.left input.old) (S.left input.new)
+        (S.given input.old) (S.given input.new) (K.held output.old) (K.held output.new)
+        (Refusal.ListLimit most) }
+
     // No other refusal comes from what is read.
     ensures job { (refusal : Refusal) → result ≡ Status.Refused refusal → (IsOfOutside refusal → ⊥)
         → InputRefused (map string_bytes words.now) (S.left input.old) (S.left input.new)
         (S.given input.old) (S.given input.new) refusal }
 
-    // A write failed, and what is written is a prefix of the answer.
+    // A write failed, and what is written is a prefix of the whole text.
     ensures write_fault { result ≡ Status.Refused Refusal.WriteFault
         → Rose (K.faults output.old) (K.faults output.new) }
     ensures write_part { result ≡ Status.Refused Refusal.WriteFault

@@ -4,7 +4,7 @@ ghost use Rattle.gf_gordan.specs.Steps.{Failed};
 ghost use Rattle.gf_poly.specs.Marking.{Each, HasMarkedTerm};
 ghost use Rattle.gf_ideal.specs.Marks.{IsRealisable};
 ghost use Rattle.gf_facets.specs.Systems.{system_of};
-ghost use Rattle.gfan_main.specs.MarkedBases.{IsSystemStep};
+ghost use Rattle.gfan_main.specs.MarkedBases.{IsMarkingStep};
 
 use gf_cone::{rows, with_units};
 use gf_gordan::{Answer, GordanError, gordans_alternative, strict};
@@ -28,7 +28,7 @@ fn system(alloc: Global, set: &MarkedSet) -> Result<Vec<IntVec>, AllocError>
 /// `Cone` only at a step of the elimination of the marking's system: its rows, then the unit vectors.
 pub fn has_positive_weight(alloc: Global, set: &MarkedSet) -> Result<bool, GordanError>
     ensures ok { IfOk result (λ r. IsTrue r ↔ IsRealisable set.now.variables set.now.items) }
-    ensures err { IfErr result (Failed (IsSystemStep set.now.variables set.now.items)) }
+    ensures err { IfErr result (Failed (IsMarkingStep set.now.variables set.now.items)) }
 {
     // Exactly one of the two answers exists.
     gordans_alternative();

@@ -1,0 +1,294 @@
+-- How the list of `_bases` begins, goes on, ends and is refused.
+-- To cite: starts, goes_on, ends, stopped_root, stopped_tree, stopped_limit, stopped_piece, stopped_end, unnamed_basis, unnamed_tree,
+-- unnamed_full, unnamed_write, unwritten_calm, generators_in. The rest are steps.
+use Rattle.std.specs.Prelude.{◌≡◌, ◌⊎◌, ℕ, suc, ◌+◌, ◌<◌, ◌≤◌, Bool, true, false, List, [], ◌∷◌, ◌++◌, flat_map, length, Option, None, Some, ℤ}
+use Rattle.std.specs.Io.KnownBytes.{Appends, Keeps}
+use Rattle.std.proofs.Common.{arith, refl, sym, ap, ◌∙◌, subst, inl, inr, append_assoc, append-nil, length-append}
+use Rattle.std.proofs.KnownBytes.{Appends-nil, Appends-trans, Appends-kept, Keeps-refl}
+use Rattle.gf_outside.specs.Faults.{Rose}
+use Rattle.gf_outside.specs.Moved.{AppendsPrefix}
+use Rattle.gf_exponents.specs.SixOrders.{MonomialOrder}
+use Rattle.gf_poly.specs.Polynomial.{Terms}
+use Rattle.gf_poly.specs.Marking.{MarkedPolynomials}
+use Rattle.gf_text.specs.declared.written.Written.{Written}
+use Rattle.gf_text.specs.Sets.{AreIn}
+use Rattle.gf_ideal.specs.Membership.{AreInVariables}
+use Rattle.gf_buchberger.specs.declared.bases.BasisError.{BasisError}
+use Rattle.gf_buchberger.specs.declared.bases.BasisError.TheVariants as basis_errors
+use Rattle.gf_buchberger.proofs.JobLaws.{ring_variables}
+use Rattle.gf_walk.specs.declared.mark.Mark.TheVariants.{Before}
+use Rattle.gf_walk.specs.Listing.{Among, Leaves}
+use Rattle.gf_walk.specs.Whole.{IsFinite}
+use Rattle.gf_facets.specs.Regions.{all_positive}
+use Rattle.gf_facets.specs.LexPositive.{IsBefore}
+use Rattle.gf_reverse.specs.Upward.{IsNodeIn, IsParent, fan_of}
+use Rattle.gf_reverse.proofs.TreeLaws.{SameFan, count, upward_finite, node_moved, own_fan, back_fan}
+use Rattle.gf_tree.specs.declared.error.TreeError.{TreeError}
+use Rattle.gf_tree.specs.declared.error.TreeError.TheVariants as tree_errors
+use Rattle.gf_tree.specs.Ideals.{ideal_by}
+use Rattle.gf_tree.specs.Refusals.{IsTreeRefusal}
+use Rattle.gf_tree.specs.Walks.{Walk, ideal_at, AreLeft, walk_at}
+use Rattle.gf_tree.specs.Steps.{IsStepTo, IsEnd}
+use Rattle.gf_tree.proofs.RefusalLaws.{refusal_moved}
+use Rattle.gf_front.specs.declared.refusal.Refusal.{Refusal}
+use Rattle.gf_front.specs.declared.refusal.Refusal.TheVariants as refusals
+use Rattle.gfan_main.specs.declared.bases.ListOptions.{ListOptions}
+use Rattle.gfan_main.specs.declared.bases.Room.{Room}
+use Rattle.gfan_main.specs.declared.bases.Room.TheVariants.{Endless, Limited}
+use Rattle.gfan_main.specs.Buchberger.{generators_of, of_basis}
+use Rattle.gfan_main.specs.BasesList.{AreAllBases}
+use Rattle.gfan_main.specs.Bases.{IsWithinLimit, IsTextOfBases, IsBegunList, IsBegunToLimit, list_text, begun_text, of_tree, IsPastLimit, IsListCause, bases_command}
+use Rattle.gfan_main.specs.BasesWriting.{basis_piece, IsUnwritten, IsRoomFor, IsOneLess, IsFull, IsFirstBasis, IsRootRefusal, IsUnnamed, is_none_of, IsUnderWay}
+use Rattle.gfan_main.specs.Refused.{without_names}
+use Rattle.gfan_main.specs.Performed.{IsPerformedFor, IsBegunAs, IsStoppedFor}
+use Rattle.gfan_main.proofs.BuchbergerLaws.{in_ring}
+use Rattle.gfan_main.proofs.BasesListLaws.{first_node, first_own, all_bases_from}
+use Rattle.gfan_main.proofs.BasesTextLaws.{begun_next, whole_begun, prefix_on, prefix_piece}
+
+-- ---- room
+
+pub room_next : (limit : Option ℕ) (room after : Room) (written : List MarkedPolynomials) (b : MarkedPolynomials) → IsRoomFor limit room written → IsOneLess room after → IsRoomFor limit after (written ++ b ∷ [])
+room_next None Endless Endless written b h l = tt
+room_next None Endless (Limited most left) written b h l = absurd l
+room_next None (Limited most left) after written b h l = absurd h
+room_next (Some limit) Endless after written b h l = absurd h
+room_next (Some limit) (Limited most left) Endless written b h l = absurd l
+room_next (Some limit) (Limited most left) (Limited same less) written b h l = (l.0 ∙ h.0, omega (arith, h.1, l.1, length-append written (b ∷ [])))
+
+-- the limit is reached
+pub record IsAtLimit (limit : Option ℕ) (written : List MarkedPolynomials) (r : Refusal) : Type 0 where
+  pub most : ℕ
+  pub told : r ≡ refusals.ListLimit most
+  pub is_limit : limit ≡ Some most
+  pub just : length written ≡ most
+
+pub room_full : (limit : Option ℕ) (room : Room) (written : List MarkedPolynomials) (r : Refusal) → IsRoomFor limit room written → IsFull room r → IsAtLimit limit written r
+room_full None Endless written r h f = absurd f
+room_full None (Limited most left) written r h f = absurd h
+room_full (Some limit) Endless written r h f = absurd h
+room_full (Some limit) (Limited most left) written r h f = record { most = most; told = f.1; is_limit = ap Some (sym h.0); just = omega (arith, h.0, h.1, f.0) }
+
+room_within : (limit : Option ℕ) (room : Room) (written : List MarkedPolynomials) → IsRoomFor limit room written → IsWithinLimit limit written
+room_within None Endless written h = tt
+room_within None (Limited most left) written h = absurd h
+room_within (Some limit) Endless written h = absurd h
+room_within (Some limit) (Limited most left) written h = omega (arith, h.1)
+
+-- ---- the list under way
+
+module _ (o : ListOptions) (ring : List (List ℕ)) (fs : List Terms) where
+  -- before the first basis
+  pub starts : (root : MarkedPolynomials) (room : Room) (held : Option (List ℕ)) → AreInVariables (length ring) fs → IsFirstBasis (length ring) fs root → IsRoomFor o.limit room [] →
+      IsUnderWay o ring fs (walk_at root o.pairs) room true held held
+  starts root room held v first h = record {
+    written = [];
+    rest = finite.nodes;
+    are_all = all_bases_from (length ring) fs root finite.nodes v first.variables first.reduced first.arranged finite.leaves;
+    left = subst (λ n. Leaves IsBefore (IsParent (all_positive n)) Before root 0 finite.nodes) (sym first.variables) finite.leaves;
+    basis = node;
+    variables = first.variables;
+    pairs = refl;
+    fits = h;
+    first = refl;
+    gained = Appends-nil held;
+  }
+    where
+      node : IsNodeIn (ideal_by (length ring) fs) root
+      node = first_node (length ring) fs root v first.variables first.reduced first.arranged
+
+      finite : IsFinite IsBefore (IsParent (all_positive (length ring))) root (count (all_positive (length ring)) root)
+      finite = upward_finite (all_positive (length ring)) root (first_own (length ring) fs root node)
+
+  module _ (walk : Walk) (room : Room) (is_first : Bool) (held holds : Option (List ℕ)) (way : IsUnderWay o ring fs walk room is_first held holds) where
+    -- the ideal of the walker is the one that is read
+    same_fan : SameFan (ideal_at walk) (ideal_by (length ring) fs)
+    same_fan = subst (λ n. SameFan (fan_of (all_positive n) walk.here) (ideal_by (length ring) fs)) (sym way.variables) (back_fan (ideal_by (length ring) fs) (fan_of (all_positive (length ring)) walk.here) (own_fan (ideal_by (length ring) fs) walk.here way.basis))
+
+    from_walk : (x : MarkedPolynomials) → IsNodeIn (ideal_at walk) x → IsNodeIn (ideal_by (length ring) fs) x
+    from_walk x h = node_moved (ideal_at walk) (ideal_by (length ring) fs) x same_fan h
+
+    -- a refusal of the walker is one at a basis of that ideal
+    tree_cause : (e : TreeError) → IsTreeRefusal (ideal_at walk) walk.pairs e → IsTreeRefusal (ideal_by (length ring) fs) o.pairs e
+    tree_cause e h = subst (λ p. IsTreeRefusal (ideal_by (length ring) fs) p e) way.pairs (refusal_moved (ideal_at walk) (ideal_by (length ring) fs) walk.pairs e same_fan h)
+
+    -- what is written until now
+    begun_here : (rest : List MarkedPolynomials) → way.rest ≡ rest → IsBegunList ring fs way.written rest (begun_text ring way.written)
+    begun_here rest e = record { are_all = subst (λ l. AreAllBases (length ring) fs (way.written ++ l)) e way.are_all; is_text = refl }
+
+    module _ (new : Walk) (b : MarkedPolynomials) (step : IsStepTo walk new b) where
+      next : (rest : List MarkedPolynomials) × (way.rest ≡ b ∷ rest) × AreLeft new rest
+      next = step.first way.rest way.left
+
+      all_next : AreAllBases (length ring) fs (way.written ++ b ∷ next.0)
+      all_next = subst (λ l. AreAllBases (length ring) fs (way.written ++ l)) next.1 way.are_all
+
+      -- a basis is of the variables of the ring
+      pub step_variables : b.variables ≡ length ring
+      step_variables = (from_walk b step.basis).variables
+
+      -- one more basis is written
+      pub goes_on : (after : Room) (then : Option (List ℕ)) → IsOneLess room after → Appends holds then (basis_piece ring is_first b) → IsUnderWay o ring fs new after false held then
+      goes_on after then less piece = record {
+        written = way.written ++ b ∷ [];
+        rest = next.0;
+        are_all = subst (AreAllBases (length ring) fs) (sym (append_assoc way.written (b ∷ []) next.0)) all_next;
+        left = next.2;
+        basis = subst (IsNodeIn (ideal_by (length ring) fs)) (sym step.here) (from_walk b step.basis);
+        variables = step.variables ∙ way.variables;
+        pairs = step.pairs ∙ way.pairs;
+        fits = room_next o.limit room after way.written b way.fits less;
+        first = none way.written;
+        gained = subst (Appends held then) (ap (λ f. begun_text ring way.written ++ basis_piece ring f b) way.first ∙ begun_next ring way.written b) (Appends-trans held holds then (begun_text ring way.written) (basis_piece ring is_first b) way.gained piece);
+      }
+        where
+          none : (ws : List MarkedPolynomials) → false ≡ is_none_of (ws ++ b ∷ [])
+          none [] = refl
+          none (w ∷ ws) = refl
+
+      -- there is no room for it
+      pub stopped_limit : (set : List Written) (n m : ℕ) (r : Refusal) → fs ≡ generators_of set → IsFull room r → IsStoppedFor (bases_command o) (ring, (set, None)) held holds n m r
+      stopped_limit set n m r e f = at (room_full o.limit room way.written r way.fits f)
+        where
+          at : IsAtLimit o.limit way.written r → IsStoppedFor (bases_command o) (ring, (set, None)) held holds n m r
+          at l = subst (λ z. IsStoppedFor (bases_command o) (ring, (set, None)) held holds n m z) (sym l.told) (
+            subst (λ gs. IsListCause o (length ring) gs (refusals.ListLimit l.most)) e (IsListCause.at_limit l.most (record {
+              is_limit = l.is_limit;
+              list = way.written ++ b ∷ next.0;
+              are_all = all_next;
+              longer = omega (arith, l.just, length-append way.written (b ∷ next.0));
+            }) refl),
+            (
+              begun_text ring way.written,
+              subst (λ gs. IsBegunToLimit o.limit ring gs l.most (begun_text ring way.written)) e (record {
+                is_limit = l.is_limit;
+                written = way.written;
+                next = b;
+                rest = next.0;
+                begun = begun_here (b ∷ next.0) next.1;
+                just = l.just;
+              }),
+              way.gained,
+            ),
+          )
+
+      -- its piece isn't written whole
+      pub stopped_piece : (set : List Written) (then : Option (List ℕ)) (n m : ℕ) (r : Refusal) → fs ≡ generators_of set → IsUnwritten holds then n m (basis_piece ring is_first b) r →
+          IsStoppedFor (bases_command o) (ring, (set, None)) held then n m r
+      stopped_piece set then n m refusals.WriteFault e u = (
+        u.0,
+        (
+          list_text ring (way.written ++ b ∷ next.0),
+          subst (λ gs. IsTextOfBases None ring gs (list_text ring (way.written ++ b ∷ next.0))) e (record {
+            list = way.written ++ b ∷ next.0;
+            are_all = all_next;
+            few = tt;
+            is_text = refl;
+          }),
+          prefix_piece ring way.written next.0 b held holds then way.gained (subst (λ f. AppendsPrefix holds then (basis_piece ring f b)) way.first u.1),
+        ),
+      )
+      stopped_piece set then n m refusals.Memory e u = (inr refl, inr (begun_text ring way.written, (way.written, way.rest, subst (λ gs. IsBegunList ring gs way.written way.rest (begun_text ring way.written)) e (begun_here way.rest refl)), Appends-kept held holds then (begun_text ring way.written) way.gained u.0))
+      stopped_piece set then n m _ e u = absurd u
+
+    -- the walker is refused
+    pub stopped_tree : (set : List Written) (n m : ℕ) (e : TreeError) → fs ≡ generators_of set → IsTreeRefusal (ideal_at walk) walk.pairs e → IsStoppedFor (bases_command o) (ring, (set, None)) held holds n m (of_tree e)
+    stopped_tree set n m e q h = at e (subst (λ gs. IsListCause o (length ring) gs (of_tree e)) q (IsListCause.in_tree e (tree_cause e h) refl))
+      where
+        begun : (r : Refusal) → (written : List MarkedPolynomials) × (rest : List MarkedPolynomials) × IsBegunList ring (generators_of set) written rest (begun_text ring way.written)
+        begun r = (way.written, way.rest, subst (λ gs. IsBegunList ring gs way.written way.rest (begun_text ring way.written)) q (begun_here way.rest refl))
+
+        at : (e : TreeError) → IsListCause o (length ring) (generators_of set) (of_tree e) → IsStoppedFor (bases_command o) (ring, (set, None)) held holds n m (of_tree e)
+        at (tree_errors.Overflow x) c = (inl c, inr (begun_text ring way.written, begun (refusals.Overflow x), way.gained))
+        at (tree_errors.Exponent x) c = (inl c, inr (begun_text ring way.written, begun (refusals.ExponentOverflow x), way.gained))
+        at (tree_errors.PairBudget basis unsettled) c = (inl c, inr (begun_text ring way.written, begun (refusals.PairBudget basis unsettled), way.gained))
+        at (tree_errors.Cone x) c = (inl c, inr (begun_text ring way.written, begun (refusals.ConeOverflow x.row x.op x.left x.right), way.gained))
+        at tree_errors.Memory c = (inl c, inr (begun_text ring way.written, begun refusals.Memory, way.gained))
+
+    -- nothing is left: all bases are written
+    module _ (new : Walk) (end : IsEnd walk new) where
+      all_written : AreAllBases (length ring) fs way.written
+      all_written = subst (AreAllBases (length ring) fs) (ap (λ l. way.written ++ l) (end.none way.rest way.left) ∙ append-nil way.written) way.are_all
+
+      whole : list_text ring way.written ≡ begun_text ring way.written ++ 125 ∷ 10 ∷ []
+      whole = at way.written all_written
+        where
+          at : (ws : List MarkedPolynomials) → AreAllBases (length ring) fs ws → list_text ring ws ≡ begun_text ring ws ++ 125 ∷ 10 ∷ []
+          at [] all = absurd all.listed
+          at (w ∷ ws) all = ap (λ l. list_text ring (w ∷ l)) (sym (append-nil ws)) ∙ whole_begun ring w ws []
+
+      pub ends : (set : List Written) (then : Option (List ℕ)) → fs ≡ generators_of set → Appends holds then (125 ∷ 10 ∷ []) → IsPerformedFor (bases_command o) (ring, (set, None)) held then
+      ends set then e closing = (
+        list_text ring way.written,
+        subst (λ gs. IsTextOfBases o.limit ring gs (list_text ring way.written)) e (record {
+          list = way.written;
+          are_all = all_written;
+          few = room_within o.limit room way.written way.fits;
+          is_text = refl;
+        }),
+        subst (Appends held then) (sym whole) (Appends-trans held holds then (begun_text ring way.written) (125 ∷ 10 ∷ []) way.gained closing),
+      )
+
+      -- its end isn't written whole
+      pub stopped_end : (set : List Written) (then : Option (List ℕ)) (n m : ℕ) (r : Refusal) → fs ≡ generators_of set → IsUnwritten holds then n m (125 ∷ 10 ∷ []) r →
+          IsStoppedFor (bases_command o) (ring, (set, None)) held then n m r
+      stopped_end set then n m refusals.WriteFault e u = (
+        u.0,
+        (
+          list_text ring way.written,
+          subst (λ gs. IsTextOfBases None ring gs (list_text ring way.written)) e (record {
+            list = way.written;
+            are_all = all_written;
+            few = tt;
+            is_text = refl;
+          }),
+          prefix_on held holds then (begun_text ring way.written) (125 ∷ 10 ∷ []) [] (list_text ring way.written) way.gained u.1 (whole ∙ sym (append-nil (begun_text ring way.written ++ 125 ∷ 10 ∷ []))),
+        ),
+      )
+      stopped_end set then n m refusals.Memory e u = (inr refl, inr (begun_text ring way.written, (way.written, way.rest, subst (λ gs. IsBegunList ring gs way.written way.rest (begun_text ring way.written)) e (begun_here way.rest refl)), Appends-kept held holds then (begun_text ring way.written) way.gained u.0))
+      stopped_end set then n m _ e u = absurd u
+
+-- the first basis is refused
+pub stopped_root : (o : ListOptions) (ring : List (List ℕ)) (set : List Written) (held : Option (List ℕ)) (n m : ℕ) (r : Refusal) → IsRootRefusal (length ring) (generators_of set) o.pairs r →
+    IsStoppedFor (bases_command o) (ring, (set, None)) held held n m r
+stopped_root o ring set held n m r (e, h, q) = subst (λ z. IsStoppedFor (bases_command o) (ring, (set, None)) held held n m z) (sym q) (at e (IsListCause.at_root e h refl))
+  where
+    at : (e : BasisError) → IsListCause o (length ring) (generators_of set) (of_basis e) → IsStoppedFor (bases_command o) (ring, (set, None)) held held n m (of_basis e)
+    at (basis_errors.Overflow x) c = (inl c, inl (Keeps-refl held))
+    at (basis_errors.Exponent x) c = (inl c, inl (Keeps-refl held))
+    at (basis_errors.PairBudget basis unsettled) c = (inl c, inl (Keeps-refl held))
+    at basis_errors.Memory c = (inl c, inl (Keeps-refl held))
+
+-- ---- lines without a ring, and faults
+
+pub unnamed_basis : (e : BasisError) → IsUnnamed (without_names (of_basis e))
+unnamed_basis (basis_errors.Overflow x) = record { ring = refl; named = λ lent is. tt }
+unnamed_basis (basis_errors.Exponent x) = record { ring = refl; named = λ lent is. tt }
+unnamed_basis (basis_errors.PairBudget basis unsettled) = record { ring = refl; named = λ lent is. tt }
+unnamed_basis basis_errors.Memory = record { ring = refl; named = λ lent is. tt }
+
+pub unnamed_tree : (e : TreeError) → IsUnnamed (without_names (of_tree e))
+unnamed_tree (tree_errors.Overflow x) = record { ring = refl; named = λ lent is. tt }
+unnamed_tree (tree_errors.Exponent x) = record { ring = refl; named = λ lent is. tt }
+unnamed_tree (tree_errors.PairBudget basis unsettled) = record { ring = refl; named = λ lent is. tt }
+unnamed_tree (tree_errors.Cone x) = record { ring = refl; named = λ lent is. tt }
+unnamed_tree tree_errors.Memory = record { ring = refl; named = λ lent is. tt }
+
+pub unnamed_full : (room : Room) (r : Refusal) → IsFull room r → IsUnnamed (without_names r)
+unnamed_full Endless r f = absurd f
+unnamed_full (Limited limit left) r f = subst (λ z. IsUnnamed (without_names z)) (sym f.1) (record { ring = refl; named = λ lent is. tt })
+
+pub unnamed_write : (held holds : Option (List ℕ)) (n m : ℕ) (piece : List ℕ) (r : Refusal) → IsUnwritten held holds n m piece r → IsUnnamed (without_names r)
+unnamed_write held holds n m piece refusals.WriteFault u = record { ring = refl; named = λ lent is. tt }
+unnamed_write held holds n m piece refusals.Memory u = record { ring = refl; named = λ lent is. tt }
+unnamed_write held holds n m piece _ u = absurd u
+
+-- no fault is counted but that of a write
+pub unwritten_calm : (held holds : Option (List ℕ)) (n m k : ℕ) (piece : List ℕ) (r : Refusal) → IsUnwritten held holds n m piece r → n ≡ k → (r ≡ refusals.WriteFault → ⊥) → m ≡ k
+unwritten_calm held holds n m k piece refusals.WriteFault u e never = absurd (never refl)
+unwritten_calm held holds n m k piece refusals.Memory u e never = u.1 ∙ e
+unwritten_calm held holds n m k piece _ u e never = absurd u
+
+-- ---- generators
+
+pub generators_in : (n : ℕ) (set : List Written) → AreIn n set → AreInVariables n (generators_of set)
+generators_in n set v = ring_variables n (generators_of set) (in_ring n set (generators_of set) v refl)

@@ -1,0 +1,54 @@
+-- The list of all marked reduced Gröbner bases of an ideal, in the order of their paths.
+-- Laws: proofs/BasesListLaws.antt. Source: Fukuda, Jensen, Thomas, Computing Gröbner fans, 2 and 3; Avis and Fukuda, Reverse Search
+-- for Enumeration.
+use Rattle.std.specs.Prelude.{◌≡◌, ◌↔◌, ℕ, List, length, All, ℤ, pos, ◌<ℤ◌}
+use Rattle.gf_exponents.specs.Orders.{gains, IsDeglexBelow}
+use Rattle.gf_poly.specs.Polynomial.{Terms}
+use Rattle.gf_poly.specs.Marking.{MarkedPolynomials}
+use Rattle.gf_ideal.specs.Membership.{AreInVariables}
+use Rattle.gf_ideal.specs.Bases.{IsReducedBasis, IsReducedBasisFor, AreArranged}
+use Rattle.gf_walk.specs.Path.{IsRoot}
+use Rattle.gf_walk.specs.Listing.{Among, Rises, LeadTo}
+use Rattle.gf_walk.specs.Whole.{EachOnce}
+use Rattle.gf_facets.specs.Regions.{all_positive}
+use Rattle.gf_facets.specs.LexPositive.{IsBefore}
+use Rattle.gf_facets.specs.Facets.{IsInClosedCone}
+use Rattle.gf_facets.specs.InitialIdeals.{IsMonomialAt}
+use Rattle.gf_reverse.specs.Upward.{IsParent}
+
+-- some positive weight gives the basis: it is the reduced one of the ideal of fs in n variables for this weight, arranged
+pub record IsGivenByWeight (n : ℕ) (fs : List Terms) (x : MarkedPolynomials) : Type 0 where
+  pub variables : x.variables ≡ n
+  pub arranged : AreArranged n x.items
+  pub weight : List ℕ
+  pub reduced : IsReducedBasis n fs weight x.items
+
+-- exactly the bases that some positive weight gives, each once; their paths from the basis by degree and then lex rise. A path has the
+-- normals that are crossed on the way down, each a normal of the upper basis; the way up from a basis is across the least of its
+-- flippable normals that are negative at (1, .., 1)
+pub record AreAllBases (n : ℕ) (fs : List Terms) (list : List MarkedPolynomials) : Type 0 where
+  pub only : (x : MarkedPolynomials) → Among list x → IsGivenByWeight n fs x
+  pub all : (x : MarkedPolynomials) → IsGivenByWeight n fs x → Among list x
+  pub once : EachOnce list
+  pub root : MarkedPolynomials
+  pub listed : Among list root
+  pub by_degree : IsReducedBasisFor n fs IsDeglexBelow root.items
+  pub is_root : IsRoot (IsParent (all_positive n)) root
+  pub paths : List (List (List ℤ))
+  pub lead : LeadTo (IsParent (all_positive n)) root paths list
+  pub rises : Rises IsBefore paths
+
+-- ---- what such a list has
+
+-- a basis is listed exactly where some positive weight gives it. For each positive weight for which monomials generate the initial
+-- ideal the reduced basis is listed, and no other listed basis is one for it. Each positive weight lies in the closed cone of a listed
+-- basis
+pub record WeightsAreServed : Type 0 where
+  pub exactly : (n : ℕ) (fs : List Terms) (list : List MarkedPolynomials) (x : MarkedPolynomials) → AreAllBases n fs list →
+      Among list x ↔ IsGivenByWeight n fs x
+  pub monomial : (n : ℕ) (fs : List Terms) (list : List MarkedPolynomials) (w : List ℤ) → AreInVariables n fs → AreAllBases n fs list →
+      length w ≡ n → All (λ k. pos 0 <ℤ k) w → IsMonomialAt n fs w →
+      (x : MarkedPolynomials) × Among list x × IsReducedBasis n fs (gains w) x.items
+      × ((y : MarkedPolynomials) → Among list y → IsReducedBasis n fs (gains w) y.items → x ≡ y)
+  pub cones : (n : ℕ) (fs : List Terms) (list : List MarkedPolynomials) (w : List ℤ) → AreInVariables n fs → AreAllBases n fs list →
+      length w ≡ n → All (λ k. pos 0 <ℤ k) w → (x : MarkedPolynomials) × Among list x × IsInClosedCone w x.items

@@ -1,0 +1,93 @@
+-- How `_bases` writes its list: pieces, and how many bases may still be written. Laws: proofs/BasesLaws.antt.
+use Rattle.std.specs.Prelude.{◌≡◌, ℕ, ◌+◌, Bool, true, false, List, [], ◌∷◌, ◌++◌, length, Option, None, Some}
+use Rattle.std.specs.Io.KnownBytes.{Appends, Keeps}
+use Rattle.gf_outside.specs.Faults.{Rose}
+use Rattle.gf_outside.specs.Moved.{AppendsPrefix}
+use Rattle.gf_exponents.specs.SixOrders.{MonomialOrder}
+use Rattle.gf_poly.specs.Polynomial.{Terms}
+use Rattle.gf_poly.specs.Marking.{MarkedPolynomials}
+use Rattle.gf_text.specs.RingText.{ring_text}
+use Rattle.gf_text.specs.PrintedSets.{basis_text}
+use Rattle.gf_buchberger.specs.declared.bases.BasisError.{BasisError}
+use Rattle.gf_buchberger.specs.Bases.{IsArrangedBasis, IsBasisRefusal}
+use Rattle.gf_reverse.specs.Upward.{IsNodeIn}
+use Rattle.gf_tree.specs.Ideals.{ideal_by}
+use Rattle.gf_tree.specs.Walks.{Walk, AreLeft}
+use Rattle.gf_front.specs.declared.refusal.Refusal.{Refusal}
+use Rattle.gf_front.specs.declared.refusal.Refusal.TheVariants as refusals
+use Rattle.gfan_main.specs.declared.refused.Refused.{Refused}
+use Rattle.gfan_main.specs.declared.bases.ListOptions.{ListOptions}
+use Rattle.gfan_main.specs.declared.bases.Room.{Room}
+use Rattle.gfan_main.specs.declared.bases.Room.TheVariants.{Endless, Limited}
+use Rattle.gfan_main.specs.Buchberger.{of_basis}
+use Rattle.gfan_main.specs.Refused.{IsNamedBy}
+use Rattle.gfan_main.specs.BasesList.{AreAllBases}
+use Rattle.gfan_main.specs.Printing.{later_set_text}
+use Rattle.gfan_main.specs.Bases.{begun_text}
+
+-- ---- pieces
+
+-- the piece of a basis: with the first one the line of the ring and a brace, with each other one what parts them
+abbrev pub basis_piece : List (List ℕ) → Bool → MarkedPolynomials → List ℕ
+basis_piece ring true b = ring_text ring ++ 123 ∷ basis_text ring b.items
+basis_piece ring false b = later_set_text ring b
+
+-- why a piece isn't written whole: there is no memory, and nothing is; or a write failed, and a prefix is
+abbrev pub IsUnwritten : Option (List ℕ) → Option (List ℕ) → ℕ → ℕ → List ℕ → Refusal → Type 0
+IsUnwritten held holds written writes piece refusals.WriteFault = Rose written writes × AppendsPrefix held holds piece
+IsUnwritten held holds written writes piece refusals.Memory = Keeps held holds × (writes ≡ written)
+IsUnwritten held holds written writes piece _ = ⊥
+
+-- ---- room
+
+-- there is just so much room behind the bases that are written
+abbrev pub IsRoomFor : Option ℕ → Room → List MarkedPolynomials → Type 0
+IsRoomFor None Endless written = Unit {0}
+IsRoomFor None (Limited limit left) written = ⊥
+IsRoomFor (Some most) Endless written = ⊥
+IsRoomFor (Some most) (Limited limit left) written = (limit ≡ most) × (length written + left ≡ most)
+
+-- the room once one more is written
+abbrev pub IsOneLess : Room → Room → Type 0
+IsOneLess Endless Endless = Unit {0}
+IsOneLess Endless (Limited limit left) = ⊥
+IsOneLess (Limited limit left) Endless = ⊥
+IsOneLess (Limited limit left) (Limited same less) = (same ≡ limit) × (less + 1 ≡ left)
+
+-- there is no room, and the limit is told
+abbrev pub IsFull : Room → Refusal → Type 0
+IsFull Endless r = ⊥
+IsFull (Limited limit left) r = (left ≡ 0) × (r ≡ refusals.ListLimit limit)
+
+-- ---- the list
+
+-- the basis at which the list begins
+abbrev pub IsFirstBasis : ℕ → List Terms → MarkedPolynomials → Type 0
+IsFirstBasis n fs root = IsArrangedBasis MonomialOrder.deglex n fs root
+
+-- why there is none
+abbrev pub IsRootRefusal : ℕ → List Terms → ℕ → Refusal → Type 0
+IsRootRefusal n fs pairs r = (e : BasisError) × IsBasisRefusal MonomialOrder.deglex n fs pairs e × (r ≡ of_basis e)
+
+-- it names no monomials, and is told without a ring
+pub record IsUnnamed (e : Refused) : Type 0 where
+  pub ring : e.ring ≡ None
+  pub named : IsNamedBy None e.refusal
+
+-- whether nothing is written yet
+abbrev pub is_none_of : List MarkedPolynomials → Bool
+is_none_of [] = true
+is_none_of (b ∷ bs) = false
+
+-- the list is under way: some of its bases are written, and the walker has the rest left
+pub record IsUnderWay (o : ListOptions) (ring : List (List ℕ)) (fs : List Terms) (walk : Walk) (room : Room) (is_first : Bool) (held holds : Option (List ℕ)) : Type 0 where
+  pub written : List MarkedPolynomials
+  pub rest : List MarkedPolynomials
+  pub are_all : AreAllBases (length ring) fs (written ++ rest)
+  pub left : AreLeft walk rest
+  pub basis : IsNodeIn (ideal_by (length ring) fs) walk.here
+  pub variables : walk.variables ≡ length ring
+  pub pairs : walk.pairs ≡ o.pairs
+  pub fits : IsRoomFor o.limit room written
+  pub first : is_first ≡ is_none_of written
+  pub gained : Appends held holds (begun_text ring written)

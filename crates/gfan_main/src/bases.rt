@@ -1,0 +1,215 @@
+// What `_bases` writes for an input, basis by basis.
+ghost use Rattle.std.specs.Prelude.{◌≡◌, [], length, None, IfOk, IfErr, OnOk, MatchResult};
+ghost use Rattle.std.specs.Io.KnownBytes.{Appends};
+ghost use Rattle.gf_text.specs.Sets.{AreIn};
+ghost use Rattle.gfan_main.specs.Buchberger.{generators_of};
+ghost use Rattle.gfan_main.specs.Bases.{bases_command};
+ghost use Rattle.gfan_main.specs.BasesWriting.{basis_piece, IsUnwritten, IsRoomFor, IsOneLess, IsFull, IsFirstBasis, IsRootRefusal, IsUnnamed};
+ghost use Rattle.gfan_main.specs.Performed.{IsPerformed, IsStopped, IsPerformedFor, IsStoppedFor};
+ghost use Rattle.gfan_main.specs.Refused.{IsOfSource};
+
+use crate::buchberger::polynomials;
+use crate::refused::Refused;
+use gf_buchberger::basis;
+use gf_front::{Job, Refusal};
+use gf_items::{RingAndSet, ring_and_set};
+use gf_order::Order;
+use gf_outside::{Sink, WriteFault, write_all};
+use gf_poly::MarkedSet;
+use gf_text::{Printer, Ring, Written};
+use gf_tree::Walker;
+use std::alloc::{AllocError, Global};
+
+/// The options of `_bases`.
+#[derive(Clone, Copy, Debug)]
+pub struct ListOptions {
+    /// So many bases are written at most, where it is given.
+    pub limit: Option<u64>,
+    /// How many pairs each run of Buchberger's algorithm settles at most.
+    pub pairs: u64,
+}
+
+// ---- how many may be written
+
+// How many bases may still be written.
+#[derive(Clone, Copy, Debug)]
+enum Room {
+    Endless,
+    Limited { limit: u64, left: u64 },
+}
+
+impl Room {
+    fn of(limit: Option<u64>) -> Room
+        ensures { IsRoomFor limit result [] }
+    {
+        match limit {
+            None => Room::Endless,
+            Some(limit) => Room::Limited { limit, left: limit },
+        }
+    }
+
+    // The room once one more is written; where there is none for it the list comes to its limit.
+    fn with_one_more(self) -> Result<Room, Refusal>
+        ensures ok { IfOk result (IsOneLess self) }
+        ensures err { IfErr result (IsFull self) }
+    {
+        match self {
+            Room::Endless => Ok(Room::Endless),
+            Room::Limited { limit, left } => {
+                if left == 0 {
+                    return Err(Refusal::ListLimit { written: limit });
+                }
+                Ok(Room::Limited {
+                    limit,
+                    left: left - 1,
+                })
+            }
+        }
+    }
+}
+
+// ---- pieces of the output
+
+// Offers a piece to the output.
+fn offer<K: Sink>(output: &mut K, piece: &[u8]) -> Result<(), Refusal>
+    ensures all { OnOk result (Appends (K.held output.old) (K.held output.new) piece.now) }
+    ensures err { IfErr result (IsUnwritten (K.held output.old) (K.held output.new) (K.faults output.old)
+        (K.faults output.new) piece.now) }
+    ensures calm { OnOk result (K.faults output.new ≡ K.faults output.old) }
+{
+    match write_all(output, piece) {
+        Ok(()) => Ok(()),
+        Err(WriteFault) => Err(Refusal::WriteFault),
+    }
+}
+
+// The piece of a basis: with the first one the line of the ring and a brace, with each other one what parts them.
+fn piece(
+    alloc: Global,
+    ring: &Ring,
+    basis: &MarkedSet,
+    is_first: bool,
+) -> Result<Vec<u8>, AllocError>
+    requires { basis.now.variables ≡ length ring.now }
+    ensures { IfOk result (λ text. text.items ≡ basis_piece ring.now is_first basis.now) }
+{
+    let mut text = Vec::new(alloc);
+    if is_first {
+        Printer::ring(&mut text, ring)?;
+        text.push(b'{')?;
+    } else {
+        text.extend_from_slice(b"\n,\n")?;
+    }
+    Printer::basis(&mut text, ring, basis)?;
+    Ok(text)
+}
+
+// Writes the piece of a basis.
+fn write_basis<K: Sink>(
+    alloc: Global,
+    ring: &Ring,
+    basis: &MarkedSet,
+    is_first: bool,
+    output: &mut K,
+) -> Result<(), Refusal>
+    requires { basis.now.variables ≡ length ring.now }
+    ensures all { OnOk result (Appends (K.held output.old) (K.held output.new)
+        (basis_piece ring.now is_first basis.now)) }
+    ensures err { IfErr result (IsUnwritten (K.held output.old) (K.held output.new) (K.faults output.old)
+        (K.faults output.new) (basis_piece ring.now is_first basis.now)) }
+    ensures calm { OnOk result (K.faults output.new ≡ K.faults output.old) }
+{
+    let text = match piece(alloc, ring, basis, is_first) {
+        Ok(text) => text,
+        Err(_) => return Err(Refusal::Memory),
+    };
+    offer(output, &text)
+}
+
+// ---- the job
+
+// The basis of the set's ideal by degree and then lex, at which the list begins.
+fn first_basis(
+    alloc: Global,
+    ring: &Ring,
+    set: &[Written],
+    pairs: u64,
+) -> Result<MarkedSet, Refused>
+    requires { AreIn (length ring.now) set.now }
+    ensures ok { IfOk result (IsFirstBasis (length ring.now) (generators_of set.now)) }
+    ensures err { IfErr result (λ e. IsRootRefusal (length ring.now) (generators_of set.now) pairs e.refusal) }
+    ensures told { IfErr result IsUnnamed }
+{
+    let generators = polynomials(alloc, set)?;
+    match basis(alloc, ring.len(), &generators, &Order::deglex(), pairs) {
+        Ok(root) => Ok(root),
+        Err(error) => Err(Refused::from(error)),
+    }
+}
+
+// Writes the list of all bases of the set's ideal.
+fn write_list<K: Sink>(
+    alloc: Global,
+    ring: &Ring,
+    set: &[Written],
+    options: ListOptions,
+    output: &mut K,
+) -> Result<(), Refused>
+    requires { AreIn (length ring.now) set.now }
+    ensures done { OnOk result (IsPerformedFor (bases_command options) (ring.now, (set.now, None))
+        (K.held output.old) (K.held output.new)) }
+    ensures stopped { IfErr result (λ e. IsStoppedFor (bases_command options) (ring.now, (set.now, None))
+        (K.held output.old) (K.held output.new) (K.faults output.old) (K.faults output.new) e.refusal) }
+    ensures told { IfErr result IsUnnamed }
+    ensures calm { MatchResult result (λ _. K.faults output.new ≡ K.faults output.old)
+        (λ e. (e.refusal ≡ Refusal.WriteFault → ⊥) → K.faults output.new ≡ K.faults output.old) }
+{
+    let root = first_basis(alloc, ring, set, options.pairs)?;
+    let mut walker = Walker::at(alloc, root, options.pairs);
+    let mut room = Room::of(options.limit);
+    let mut is_first = true;
+    'list: while let Some(basis) = walker.advance()? {
+        room = room.with_one_more()?;
+        write_basis(alloc, ring, &basis, is_first, output)?;
+        is_first = false;
+    }
+    offer(output, b"}\n")?;
+    Ok(())
+}
+
+/// Writes the ring of the source in a line, and then all marked reduced Gröbner bases of the ideal of its set, each as soon as it is
+/// found: the first with the ring, and each other one behind a line end, a comma and a line end; last the brace that ends the list.
+///
+/// The list begins at the basis by degree and then lex. Every other basis comes from the one above it, across a facet of its cone; the
+/// way up from a basis is across the least of its flippable normals that are negative at (1, .., 1), and the bases come in the
+/// order of their paths from the first one.
+///
+/// # Errors
+///
+/// - `Syntax`, `TooWide`, `UnknownName` and `TooManyVariables` exactly where the source isn't the text of a ring and of a set
+///   in it, at the first token after which no such text goes on; nothing is written then.
+/// - `Overflow` and `ExponentOverflow` only at a sum of the text, at an operation that a run of Buchberger's algorithm on the set by
+///   degree and then lex may have, or at one of a flip at a basis of the ideal across a flippable normal; the operands don't fit.
+/// - `ConeOverflow` only at a step of the system that tells whether a normal of such a basis is flippable.
+/// - `PairBudget` only where such a run or flip would have to settle more than `pairs` pairs.
+/// - `ListLimit` exactly where as many bases as the limit are written, and a further one was found.
+/// - `WriteFault` only where a write failed; a prefix of the text of the whole list is written then.
+///
+/// On the others from `Overflow` on, what is written ends where a basis ends, or nothing is.
+pub(crate) fn perform<K: Sink>(
+    alloc: Global,
+    source: &[u8],
+    options: ListOptions,
+    output: &mut K,
+) -> Result<(), Refused>
+    ensures done { OnOk result (IsPerformed (Job.Bases options.limit options.pairs) source.now
+        (K.held output.old) (K.held output.new)) }
+    ensures stopped { IfErr result (λ e. IsStopped (Job.Bases options.limit options.pairs) source.now
+        (K.held output.old) (K.held output.new) (K.faults output.old) (K.faults output.new) e.refusal) }
+    ensures told { IfErr result (IsOfSource source.now) }
+    ensures calm { MatchResult result (λ _. K.faults output.new ≡ K.faults output.old)
+        (λ e. (e.refusal ≡ Refusal.WriteFault → ⊥) → K.faults output.new ≡ K.faults output.old) }
+{
+    let RingAndSet { ring, set, .. } = ring_and_set(alloc, source, false)?;
+    write_list(alloc, &ring, &set, options, output)
+}
