@@ -11,7 +11,7 @@ use Rattle.gf_vec.proofs.VectorLaws.{dot_comm, dot-times, length-times}
 use Rattle.gf_gordan.specs.Alternative.{AreRows}
 use Rattle.gf_duality.specs.Generators.{Made, IsDescribed}
 use Rattle.gf_duality.specs.Rays.{Satisfies, IsRays}
-use Rattle.gf_duality.specs.Faces.{Rows, IsInCone, IsFacetRow, IsWitness, IsFull, cone_of, sum_of}
+use Rattle.gf_duality.specs.Faces.{Rows, IsInCone, IsFacetRow, IsWitness, IsOfFullDimension, cone_of, sum_of}
 use Rattle.gf_duality.proofs.ListLaws.{none_in, in_head, in_tail, in_cons, all_by}
 use Rattle.gf_vec.proofs.DotLaws.{own_zero, own_not_negative}
 use Rattle.gf_vec.proofs.VectorIdentities.{vv, ◌⊞◌, ◌⊡◌, by, vsame}
@@ -175,14 +175,14 @@ no_equations v = λ k d h. absurd (omega arith)
 pub in_cone : (rows : List (List ℤ)) (v : List ℤ) → ((h : List ℤ) → Contains rows h → pos 0 ≤ℤ dot h v) → IsInCone (cone_of rows) v
 in_cone rows v f = record { not_negative = all_by (λ h. pos 0 ≤ℤ dot h v) rows f; zero = no_equations v }
 
-pub full_in : (n : ℕ) (rows lin rays : List (List ℤ)) (w : List ℤ) → IsFull n rows lin rays w → IsInCone (cone_of rows) w
+pub full_in : (n : ℕ) (rows lin rays : List (List ℤ)) (w : List ℤ) → IsOfFullDimension n rows lin rays w → IsInCone (cone_of rows) w
 full_in n rows lin rays w f = in_cone rows w (λ h c. weak (dot h w) (f.inside h c))
 
 pub made_in : (n : ℕ) (rows lin rays : List (List ℤ)) (x : List ℤ) → IsDescribed n rows [] lin rays → length x ≡ n → IsInCone (cone_of rows) x → Made n rays lin x
 made_in n rows lin rays x d l i = d.complete x l (λ h c. All-contains (λ k. pos 0 ≤ℤ dot k x) rows h i.not_negative c) (λ e c. absurd (none_in e c))
 
 -- a row with a witness is a facet row
-pub witness_facet : (n : ℕ) (rows lin rays : List (List ℤ)) (w a v : List ℤ) → IsFull n rows lin rays w → Contains rows a → IsWitness n rows a v → IsFacetRow n (cone_of rows) a
+pub witness_facet : (n : ℕ) (rows lin rays : List (List ℤ)) (w a v : List ℤ) → IsOfFullDimension n rows lin rays w → Contains rows a → IsWitness n rows a v → IsFacetRow n (cone_of rows) a
 witness_facet n rows lin rays w a v f c s =
     let v_in : IsInCone (cone_of rows) v = in_cone rows v (λ h k. elim (s.others h k) [
       | inl e ↦ let z : dot h v ≡ pos 0 = ap (λ (q : List ℤ). dot q v) e ∙ s.zero in omega (arith, ints, z)

@@ -8,7 +8,7 @@ use Rattle.gf_int.proofs.SignLaws.{sign_of, negative, none, positive}
 use Rattle.gf_vec.specs.Vector.{dot, vector_sum, zeros}
 use Rattle.gf_duality.specs.Generators.{Made, AreValid, IsDescribed}
 use Rattle.gf_duality.specs.Rays.{Satisfies}
-use Rattle.gf_duality.specs.Faces.{Rows, IsInCone, IsFacetRow, sum_of, IsWitness, IsFull, cone_of}
+use Rattle.gf_duality.specs.Faces.{Rows, IsInCone, IsFacetRow, sum_of, IsWitness, IsOfFullDimension, cone_of}
 use Rattle.gf_duality.specs.Stages.{opposite}
 use Rattle.gf_duality.proofs.ListLaws.{none_in, in_head, in_cons, all_by}
 use Rattle.gf_vec.proofs.DotLaws.{own_zero, own_not_negative}
@@ -53,7 +53,7 @@ parallel_same n rows t v r s p cs zs lt ls pt ps nz =
           primitive_same t s a b p.t_up sr crosswise pt ps nz
     ]
 
-pub facet_witness : (n : ℕ) (rows lin rays : List (List ℤ)) (w t : List ℤ) (p : Part rays t) → IsFull n rows lin rays w → IsFacetRow n (cone_of rows) t → IsWitness n rows t (sum_of n p.part)
+pub facet_witness : (n : ℕ) (rows lin rays : List (List ℤ)) (w t : List ℤ) (p : Part rays t) → IsOfFullDimension n rows lin rays w → IsFacetRow n (cone_of rows) t → IsWitness n rows t (sum_of n p.part)
 facet_witness n rows lin rays w t p f c =
     let ct : Contains rows t = c.listed in
     let d = described_of n rows [] lin rays f.are_rays in

@@ -69,7 +69,7 @@ pub record IsPartAt (rays : List (List ℤ)) (t : List ℤ) (part : List (List �
   pub every : (x : List ℤ) → Contains rays x → dot t x ≡ pos 0 → Contains part x
 
 -- rows on which w is positive, each primitive, and the rays of their cone
-pub record IsFull (n : ℕ) (rows lin rays : List (List ℤ)) (w : List ℤ) : Type 0 where
+pub record IsOfFullDimension (n : ℕ) (rows lin rays : List (List ℤ)) (w : List ℤ) : Type 0 where
   pub rows_width : AreRows n rows
   pub primitive : All IsPrimitive rows
   pub width : length w ≡ n

@@ -2,7 +2,7 @@
 use Rattle.std.specs.Prelude.{◌≡◌, ◌↔◌, ℕ, List, [], ℤ, pos, ◌<ℤ◌, length, Contains}
 use Rattle.gf_vec.specs.Vector.{dot}
 use Rattle.gf_duality.specs.Rays.{IsRays}
-use Rattle.gf_duality.specs.Faces.{Rows, SameCone, IsInterior, IsFacetRow, IsWitness, IsPartAt, IsFull, cone_of, sum_of}
+use Rattle.gf_duality.specs.Faces.{Rows, SameCone, IsInterior, IsFacetRow, IsWitness, IsPartAt, IsOfFullDimension, cone_of, sum_of}
 
 -- two systems of one cone have one lineality basis and one list of rays
 abbrev pub RaysAreUnique : Type 0
@@ -17,4 +17,4 @@ pub record SumsOfRaysAreInside : Type 0 where
 
 -- where some vector is positive on all inequalities, and these are primitive, those of facets are those with a witness
 abbrev pub FacetsHaveWitnesses : Type 0
-FacetsHaveWitnesses = (n : ℕ) (rows lin rays : List (List ℤ)) (w a : List ℤ) → IsFull n rows lin rays w → Contains rows a → IsFacetRow n (cone_of rows) a ↔ ((v : List ℤ) × IsWitness n rows a v)
+FacetsHaveWitnesses = (n : ℕ) (rows lin rays : List (List ℤ)) (w a : List ℤ) → IsOfFullDimension n rows lin rays w → Contains rows a → IsFacetRow n (cone_of rows) a ↔ ((v : List ℤ) × IsWitness n rows a v)
