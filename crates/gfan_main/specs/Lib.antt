@@ -5,6 +5,7 @@ pub mod MarkedBases  -- when a marked set is a basis, and why it isn't tested
 pub mod Marked  -- what `_ismarkedgroebnerbasis` reads and writes
 pub mod LeadingTerms  -- what `_leadingterms` writes
 pub mod BasesList  -- the list of all bases of an ideal
+pub mod OneList  -- an ideal has one such list
 pub mod Bases  -- what `_bases` reads and writes
 pub mod Refused  -- a refusal with the ring in whose names it is told
 pub mod BasesWriting  -- how `_bases` writes its list

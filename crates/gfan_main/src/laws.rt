@@ -1,9 +1,15 @@
 // What the list of `_bases` has: laws, each the contract of a function that computes nothing.
 ghost use Rattle.gfan_main.specs.BasesList.{WeightsAreServed};
+ghost use Rattle.gfan_main.specs.OneList.{ListsAreOne};
 
 /// A basis is in the list that `_bases` writes exactly where some positive weight gives it. For each positive weight for which monomials
 /// generate the initial ideal its reduced basis is there, once; and each positive weight lies in the closed cone of a basis that is
 /// there (Fukuda, Jensen, Thomas, *Computing Gröbner fans*, 2).
 pub fn weights_are_served()
     ensures { WeightsAreServed }
+{}
+
+/// The ideal of a set has one list of all bases in the order of their paths, so that what `_bases` writes for a ring and a set is one text.
+pub fn lists_are_one()
+    ensures { ListsAreOne }
 {}
