@@ -1,10 +1,10 @@
 -- Which normals a flip may cross, shown or refuted without the system; the least of those that lead up.
--- To cite: solution_of_shown, not_crossable_sum, not_crossable_above, sum_by_entries, step_before, step_at, first_steps.
+-- To cite: solution_of_shown, not_crossable_sum, not_crossable_above, sum_by_entries, step_before, step_at, first_steps, decided_flip, decided_crossing.
 use Rattle.std.specs.Prelude.{◌≡◌, ◌⊎◌, ℕ, zero, suc, ◌+◌, ◌<◌, ◌≤◌, List, [], ◌∷◌, ◌++◌, length, get_or, Contains, All, ℤ, pos, ◌+ℤ◌, ◌*ℤ◌, ◌<ℤ◌, ◌≤ℤ◌}
 use Rattle.std.proofs.Common.{arith, refl, sym, ap, ◌∙◌, subst, inl, inr}
 use Rattle.std.proofs.lemmas.Int.{ints}
 use Rattle.std.proofs.Common.{eqb, true, false}
-use Rattle.std.specs.Prelude.{◌↔◌, Bool, IsTrue}
+use Rattle.std.specs.Prelude.{◌↔◌, Bool, IsTrue, Option, Some, None, Result, Ok, Err, IfOk, IfSome, IsNone}
 use Rattle.std.specs.declared.cmp.Ordering.{Ordering}
 use Rattle.std.specs.declared.cmp.Ordering.TheVariants.{Less}
 use Rattle.std.proofs.lemmas.Bool.{cases_lt, eq-eqb, ne_eqb, false≢true}
@@ -28,7 +28,7 @@ use Rattle.gf_facets.proofs.UnitLaws.{positive_by_units}
 use Rattle.gf_cone.specs.Small.{IsSmall}
 use Rattle.gf_cone.specs.Cones.{ConeRows, all_rows, normal_at, other_rows, HasUnits}
 use Rattle.gf_cone.specs.Answers.{IsNormalStep}
-use Rattle.gf_cone.specs.Crossing.{IsShownBy, IsCrossable, IsStepBefore, IsRemembered, AreRemembered, IsFlipDecided}
+use Rattle.gf_cone.specs.Crossing.{IsShownBy, IsCrossable, IsStepBefore, IsRemembered, AreRemembered, IsFlipDecided, IsCrossingDecided}
 use Rattle.gf_cone.specs.declared.known.Known.{Known}
 use Rattle.gf_cone.specs.declared.known.Known.TheVariants.{Open}
 use Rattle.gf_cone.proofs.AnswerLaws.{others-append, crossable_flippable}
@@ -198,6 +198,13 @@ pub decided_flip : (c : ConeRows) (i : ℕ) → i < length c.normals → (r : Bo
 decided_flip c i l r h n k bs is =
     let e = crossable_flippable n k bs c i l is in
     (λ t. e.0 (h.0 t), λ f. h.1 (e.1 f))
+
+-- the same of a vector that shows it, as it is looked for
+pub decided_crossing : {E : Type 0} (c : ConeRows) (i : ℕ) → i < length c.normals → (r : Result (Option (List ℤ)) E) → IfOk r (λ o. IfSome o (IsSolution c.variables (other_rows c i) (normal_at c i ∷ []))) →
+    IfOk r (λ o. IsNone o → IsCrossable c i → ⊥) → IfOk r (IsCrossingDecided c i)
+decided_crossing c i l (Ok (Some w)) shown refuted = λ n k bs is. (crossable_flippable n k bs c i l is).0 (w, shown)
+decided_crossing c i l (Ok None) shown refuted = λ n k bs is f. refuted refl ((crossable_flippable n k bs c i l is).1 f)
+decided_crossing c i l (Err e) shown refuted = tt
 
 -- the sign of the normal at a place
 pub negative_told : (c : ConeRows) (given : List (List ℤ)) (i : ℕ) (a : List ℤ) (o : Ordering) → given ≡ c.normals → AreRows c.variables given → i < length c.normals → a ≡ get_or given i a → o ≡ root_sign a → o ≡ Less →

@@ -13,6 +13,7 @@ use Rattle.gf_gordan.specs.declared.error.ConeOverflow.{ConeOverflow}
 use Rattle.gf_cone.specs.Answers.{IsNormalStep}
 use Rattle.gf_cone.specs.declared.known.Known.{Known}
 use Rattle.gf_cone.specs.declared.known.Known.TheVariants.{Open, Yes, No}
+use Rattle.gf_cone.specs.declared.answer.Way.{Way}
 
 -- the vector at the place i is zero on w, and that at each other place k is positive
 pub record IsShownBy (vectors : List (List ℤ)) (i : ℕ) (w : List ℤ) (k : ℕ) : Type 0 where
@@ -26,6 +27,11 @@ IsCrossable c i = IsSolvable c.variables (other_rows c i) (normal_at c i ∷ [])
 -- r tells whether a flip may cross it, of each marked list of which c is the cone, in each region
 abbrev pub IsFlipDecided : ConeRows → ℕ → Bool → Type 0
 IsFlipDecided c i r = (n : ℕ) (k : Region) (bs : List MarkedPolynomial) → IsConeOf n k bs c → IsTrue r ↔ IsFlippable n k bs (normal_at c i)
+
+-- a vector that shows that a flip may cross its facet, or that none may, of each marked list of which c is the cone, in each region
+abbrev pub IsCrossingDecided : ConeRows → ℕ → Option (List ℤ) → Type 0
+IsCrossingDecided c i (Some w) = (n : ℕ) (k : Region) (bs : List MarkedPolynomial) → IsConeOf n k bs c → IsFlippable n k bs (normal_at c i)
+IsCrossingDecided c i None = (n : ℕ) (k : Region) (bs : List MarkedPolynomial) → IsConeOf n k bs c → IsFlippable n k bs (normal_at c i) → ⊥
 
 -- ---- the way up
 
@@ -44,6 +50,11 @@ pub record IsLeastUp (c : ConeRows) (i : ℕ) : Type 0 where
 abbrev pub IsWayFrom : ConeRows → Option ℕ → Type 0
 IsWayFrom c (Some i) = IsLeastUp c i
 IsWayFrom c None = (j : ℕ) → LeadsUpAt c j → ⊥
+
+-- the same, with a vector that shows that a flip may cross its facet
+abbrev pub IsWayShown : ConeRows → Option Way → Type 0
+IsWayShown c (Some w) = IsLeastUp c w.place × IsSolution c.variables (other_rows c w.place) (normal_at c w.place ∷ []) w.witness
+IsWayShown c None = IsWayFrom c None
 
 -- some such normal is before a place
 abbrev pub SomeUpBefore : ConeRows → ℕ → Type 0

@@ -1,5 +1,5 @@
 //! A cone that remembers what was found out about its normals.
-ghost use Rattle.std.specs.Prelude.{◌≡◌, ◌↔◌, ◌+◌, ◌<◌, ◌≤◌, ℕ, List, [], ◌∷◌, length, slice_index_or, All, IsTrue, IfOk, IfErr, IfSome};
+ghost use Rattle.std.specs.Prelude.{◌≡◌, ◌↔◌, ◌+◌, ◌<◌, ◌≤◌, ℕ, List, [], ◌∷◌, length, slice_index_or, All, IsTrue, IfOk, IfErr, IfSome, IsNone};
 ghost use Rattle.gf_gordan.specs.Alternative.{AreRows, IsSolution};
 ghost use Rattle.gf_gordan.specs.Steps.{Failed};
 ghost use Rattle.gf_gordan.specs.Sizes.{HaveEntriesUpTo};
@@ -9,8 +9,9 @@ ghost use Rattle.gf_facets.specs.Regions.{all_positive};
 ghost use Rattle.gf_cone.specs.Small.{IsSmall};
 ghost use Rattle.gf_cone.specs.Cones.{all_rows, normal_at, other_rows, HasUnits};
 ghost use Rattle.gf_cone.specs.Answers.{IsNormalStep};
-ghost use Rattle.gf_cone.specs.Crossing.{IsCrossable, IsRemembered, LeadsUpAt, IsFlipDecided, IsLeastUp, IsWayFrom, SomeUpBefore, IsStepBefore};
+ghost use Rattle.gf_cone.specs.Crossing.{IsCrossable, IsRemembered, LeadsUpAt, IsFlipDecided, IsCrossingDecided, IsLeastUp, IsWayFrom, IsWayShown, SomeUpBefore, IsStepBefore};
 
+use crate::answer::Way;
 use crate::checks::{is_sum, none_negative, shows, some_positive};
 use crate::cone::Cone;
 use crate::shots::{shot, values_on};
@@ -497,5 +498,118 @@ impl KnownCone {
             return Ok(false);
         }
         Ok(true)
+    }
+
+    /// The point of a shot against the normal at a place, where it is seen to show that a flip may cross its facet.
+    fn point_of_shot(&self, place: usize) -> Option<IntVec>
+        requires { place < length self.now.normals }
+        ensures { IfSome result (IsSolution self.now.variables (other_rows self.now place) (normal_at self.now place ∷ [])) }
+    {
+        let (hit, point) = self.hit_against(place)?;
+        if hit == place && self.is_shown_by(place, &point) {
+            Some(point)
+        } else {
+            None
+        }
+    }
+
+    /// What `crossing` answers where nothing is known: sums of two, a shot and the system itself decide, in this order.
+    ///
+    /// # Errors
+    /// A step of the system that leaves the range; want of memory.
+    fn sought(&self, place: usize) -> Result<Option<IntVec>, GordanError>
+        requires { place < length self.now.normals }
+        ensures yes { IfOk result (λ o. IfSome o (IsSolution self.now.variables (other_rows self.now place) (normal_at self.now place ∷ []))) }
+        ensures no { IfOk result (λ o. IsNone o → IsCrossable self.now place → ⊥) }
+        ensures err { IfErr result (Failed (IsNormalStep self.now.variables (other_rows self.now place) (normal_at self.now place))) }
+        // no step leaves the range with three variables and entries up to 500
+        ensures three_columns { self.now.variables ≤ 3 → HaveEntriesUpTo 500 (all_rows self.now) → IfErr result (λ e. e ≡ Memory) }
+    {
+        if self.is_above_zero(place) || self.is_sum_of_two(place) {
+            return Ok(None);
+        }
+        match self.point_of_shot(place) {
+            Some(point) => Ok(Some(point)),
+            None => self.cone.crossing(place),
+        }
+    }
+
+    /// What `crossing` answers.
+    ///
+    /// # Errors
+    /// A step of the system that leaves the range; want of memory.
+    fn found(&self, place: usize) -> Result<Option<IntVec>, GordanError>
+        requires { place < length self.now.normals }
+        ensures yes { IfOk result (λ o. IfSome o (IsSolution self.now.variables (other_rows self.now place) (normal_at self.now place ∷ []))) }
+        ensures no { IfOk result (λ o. IsNone o → IsCrossable self.now place → ⊥) }
+        ensures err { IfErr result (Failed (IsNormalStep self.now.variables (other_rows self.now place) (normal_at self.now place))) }
+        // no step leaves the range with three variables and entries up to 500
+        ensures three_columns { self.now.variables ≤ 3 → HaveEntriesUpTo 500 (all_rows self.now) → IfErr result (λ e. e ≡ Memory) }
+    {
+        match &self.known[place] {
+            Known::Open => self.sought(place),
+            Known::Yes(witness) => {
+                let again = witness.copy()?;
+                Ok(Some(again))
+            }
+            Known::No => Ok(None),
+        }
+    }
+
+    /// A vector that shows that a flip may cross the facet of the normal at a place, counted from 0: it is positive, zero on
+    /// the normal, and positive on all other normals. None where no flip may cross it.
+    ///
+    /// What is known is told; else sums of two, a shot and the system itself decide, in this order. Nothing is learned.
+    ///
+    /// # Errors
+    /// What `is_flippable` refuses at this place.
+    pub fn crossing(&self, place: usize) -> Result<Option<IntVec>, GordanError>
+        requires { place < length self.now.normals }
+        ensures witness { IfOk result (λ o. IfSome o (IsSolution self.now.variables (other_rows self.now place) (normal_at self.now place ∷ []))) }
+        ensures told { IfOk result (IsCrossingDecided self.now place) }
+        ensures err { IfErr result (Failed (IsNormalStep self.now.variables (other_rows self.now place) (normal_at self.now place))) }
+        // no step leaves the range with three variables and entries up to 500
+        ensures three_columns { self.now.variables ≤ 3 → HaveEntriesUpTo 500 (all_rows self.now) → IfErr result (λ e. e ≡ Memory) }
+    {
+        self.found(place)
+    }
+
+    /// What `crossing` answers where the normal at a place is negative at the root, else none.
+    ///
+    /// # Errors
+    /// What `is_flippable` refuses at this place.
+    fn upward(&self, place: usize) -> Result<Option<IntVec>, GordanError>
+        requires { place < length self.now.normals }
+        ensures leads { IfOk result (λ o. IfSome o (λ _. LeadsUpAt self.now place)) }
+        ensures yes { IfOk result (λ o. IfSome o (IsSolution self.now.variables (other_rows self.now place) (normal_at self.now place ∷ []))) }
+        ensures no { IfOk result (λ o. IsNone o → LeadsUpAt self.now place → ⊥) }
+        ensures err { IfErr result (Failed (IsNormalStep self.now.variables (other_rows self.now place) (normal_at self.now place))) }
+        // no step leaves the range with three variables and entries up to 500
+        ensures three_columns { self.now.variables ≤ 3 → HaveEntriesUpTo 500 (all_rows self.now) → IfErr result (λ e. e ≡ Memory) }
+    {
+        if self.is_negative(place) {
+            self.found(place)
+        } else {
+            Ok(None)
+        }
+    }
+
+    /// The place of the least normal that leads up, as `way_up` tells it, and a vector that shows that a flip may cross its
+    /// facet. Nothing is learned.
+    ///
+    /// # Errors
+    /// What `way_up` refuses.
+    pub fn way(&self) -> Result<Option<Way>, GordanError>
+        ensures ok { IfOk result (IsWayShown self.now) }
+        ensures err { IfErr result (Failed (IsStepBefore self.now (length self.now.normals))) }
+        // no step leaves the range with three variables and entries up to 500
+        ensures three_columns { self.now.variables ≤ 3 → HaveEntriesUpTo 500 (all_rows self.now) → IfErr result (λ e. e ≡ Memory) }
+    {
+        for place in 0..self.normals().len() {
+            if let Some(witness) = self.upward(place)? {
+                return Ok(Some(Way { place, witness }));
+            }
+        }
+        Ok(None)
     }
 }

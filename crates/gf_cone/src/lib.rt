@@ -12,7 +12,7 @@ mod shots;
 mod sums;
 mod systems;
 
-pub use answer::{FacetAnswer, FlipAnswer};
+pub use answer::{FacetAnswer, FlipAnswer, Way};
 pub use cone::Cone;
 pub use known::KnownCone;
 pub use marking::{rows, with_units};

@@ -144,6 +144,9 @@ fn remembered(rt: HostRuntime) -> Result<(), Fail> {
     let inner = IntVec::from_slice(rt.alloc(), &[2, 2, 1])?;
     let mut known = KnownCone::new(rt.alloc(), cone, Some(inner))?;
     assert_eq!(rt; known.normals().len(), 3);
+    assert!(rt; matches!(known.crossing(2)?, None));
+    assert!(rt; matches!(known.crossing(1)?, Some(_)));
+    assert!(rt; matches!(known.way()?, None));
     assert!(rt; !known.is_flippable(2)?);
     assert!(rt; known.is_flippable(1)?);
     assert!(rt; matches!(known.witness(1), Some(_)));

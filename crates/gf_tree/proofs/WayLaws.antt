@@ -1,7 +1,7 @@
 -- The way up among the normals that a program keeps: ascending, each once.
 -- To cite: place_of_normal, way_found, way_none, least_of_way, no_crossing, no_way, way_read, place_read, missing_read, told_way,
--- not_told, told_crossing, told_no_crossing, negative_read, small_at.
-use Rattle.std.specs.Prelude.{◌≡◌, ◌⊎◌, ℕ, ◌<◌, ◌≤◌, ◌^◌, List, [], ◌∷◌, length, get_or, Contains, All, ℤ, unsigned_abs, Some, None, Bool, true, false, IsTrue, ◌↔◌}
+-- not_told, cone_moved, shown_crossing, refuted_crossing, negative_read, small_at.
+use Rattle.std.specs.Prelude.{◌≡◌, ◌⊎◌, ℕ, ◌<◌, ◌≤◌, ◌^◌, List, [], ◌∷◌, length, get_or, Contains, All, ℤ, unsigned_abs, Option, Some, None, Bool, true, false, IsTrue, ◌↔◌}
 use Rattle.std.proofs.Common.{arith, refl, sym, ap, ◌∙◌, subst, inl, inr}
 use Rattle.std.proofs.lemmas.Bool.{cases_lt}
 use Rattle.std.proofs.lemmas.List.{get_or_default}
@@ -9,14 +9,14 @@ use Rattle.std.specs.declared.cmp.Ordering.{Ordering}
 use Rattle.std.specs.declared.cmp.Ordering.TheVariants.{Less}
 use Rattle.gf_vec.specs.RootSign.{root_sign}
 use Rattle.gf_gordan.specs.Alternative.{AreRows}
-use Rattle.gf_poly.specs.Marking.{MarkedPolynomial}
+use Rattle.gf_poly.specs.Marking.{MarkedPolynomial, MarkedPolynomials}
 use Rattle.gf_facets.specs.Rows.{IsNormal}
 use Rattle.gf_facets.specs.Regions.{all_positive}
 use Rattle.gf_facets.specs.LexPositive.{IsNegative, IsBefore}
 use Rattle.gf_facets.specs.Facets.{IsFlippable}
 use Rattle.gf_facets.proofs.VectorOrder.{before_strict}
 use Rattle.gf_cone.specs.Cones.{ConeRows, normal_at, IsConeOf}
-use Rattle.gf_cone.specs.Crossing.{LeadsUpAt, IsLeastUp, IsFlipDecided}
+use Rattle.gf_cone.specs.Crossing.{LeadsUpAt, IsLeastUp, IsCrossingDecided}
 use Rattle.gf_cone.specs.Small.{IsSmall}
 use Rattle.gf_cone.proofs.AnswerLaws.{crossable_flippable}
 use Rattle.gf_cone.proofs.CrossingLaws.{negative_told, small_read}
@@ -28,6 +28,10 @@ use Rattle.gf_tree.proofs.LabelLaws.{rises}
 -- what is told not to hold
 pub not_told : (b : Bool) (A : Type 0) → IsTrue b ↔ A → b ≡ false → A → ⊥
 not_told b A h e a = absurd (let f : true ≡ false = sym (h.1 a) ∙ e in cc)
+
+-- the cone of a basis in the region of a tree in its variables
+pub cone_moved : (m : ℕ) (v : MarkedPolynomials) (c : ConeRows) → m ≡ v.variables → IsConeOf v.variables (all_positive v.variables) v.items c → IsConeOf v.variables (all_positive m) v.items c
+cone_moved m v c e h = subst (λ (j : ℕ). IsConeOf v.variables (all_positive j) v.items c) (sym e) h
 
 module _ (n m : ℕ) (same : m ≡ n) (bs : List MarkedPolynomial) (c : ConeRows) (is : IsConeOf n (all_positive m) bs c) where
   -- a normal has its place
@@ -109,11 +113,11 @@ module _ (n m : ℕ) (same : m ≡ n) (bs : List MarkedPolynomial) (c : ConeRows
   )
 
   -- whether a flip may cross the facet of the vector at a place
-  pub told_crossing : (a : List ℤ) (i : ℕ) (b : Bool) → (i < length c.normals) × (normal_at c i ≡ a) → IsFlipDecided c i b → b ≡ true → IsFlippable n (all_positive m) bs a
-  told_crossing a i b p d t = subst (IsFlippable n (all_positive m) bs) p.1 ((d n (all_positive m) bs is).0 t)
+  pub shown_crossing : (a : List ℤ) (i : ℕ) (w : List ℤ) (o : Option (List ℤ)) → (i < length c.normals) × (normal_at c i ≡ a) → IsCrossingDecided c i o → o ≡ Some w → IsFlippable n (all_positive m) bs a
+  shown_crossing a i w o p d t = subst (IsFlippable n (all_positive m) bs) p.1 (subst (IsCrossingDecided c i) t d n (all_positive m) bs is)
 
-  pub told_no_crossing : (a : List ℤ) (i : ℕ) (b : Bool) → (i < length c.normals) × (normal_at c i ≡ a) → IsFlipDecided c i b → b ≡ false → IsFlippable n (all_positive m) bs a → ⊥
-  told_no_crossing a i b p d t f = not_told b (IsFlippable n (all_positive m) bs (normal_at c i)) (d n (all_positive m) bs is) t (subst (IsFlippable n (all_positive m) bs) (sym p.1) f)
+  pub refuted_crossing : (a : List ℤ) (i : ℕ) (o : Option (List ℤ)) → (i < length c.normals) × (normal_at c i ≡ a) → IsCrossingDecided c i o → o ≡ None → IsFlippable n (all_positive m) bs a → ⊥
+  refuted_crossing a i o p d t f = subst (IsCrossingDecided c i) t d n (all_positive m) bs is (subst (IsFlippable n (all_positive m) bs) (sym p.1) f)
 
   -- a normal that is seen to be negative at the root
   pub negative_read : (given : List (List ℤ)) (a x : List ℤ) (i : ℕ) (o : Ordering) → given ≡ c.normals → AreRows c.variables given → (i < length c.normals) × (normal_at c i ≡ a) → x ≡ get_or given i x → o ≡ root_sign x → o ≡ Less →

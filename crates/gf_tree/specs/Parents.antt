@@ -1,6 +1,6 @@
 -- What is above a basis in the tree of the bases of its ideal, and the root of that tree. Laws: proofs/ParentLaws.antt.
 -- Source: Fukuda, Jensen, Thomas, Computing Gröbner fans, 3.
-use Rattle.std.specs.Prelude.{List, ℤ, Option, Some, None}
+use Rattle.std.specs.Prelude.{◌≡◌, List, ℤ, Option, Some, None}
 use Rattle.gf_exponents.specs.Orders.{gains, IsWeightedBelow}
 use Rattle.gf_poly.specs.Marking.{MarkedPolynomials, polys}
 use Rattle.gf_ideal.specs.Bases.{IsReducedBasisFor}
@@ -27,6 +27,11 @@ IsParentTold v (Up a u) = IsWayUp v.variables (all_positive v.variables) v.items
 abbrev pub IsBelowTold : Region → MarkedPolynomials → List ℤ → Option MarkedPolynomials → Type 0
 IsBelowTold k u a (Some w) = IsAcross k u a (Some w)
 IsBelowTold k u a None = IsChildOf (IsParent k) u a None
+
+-- w again, where a is its way up, or that it isn't
+abbrev pub IsLedBack : Region → MarkedPolynomials → List ℤ → Option MarkedPolynomials → Type 0
+IsLedBack k w a (Some v) = (v ≡ w) × IsWayUp w.variables k w.items a
+IsLedBack k w a None = IsWayUp w.variables k w.items a → ⊥
 
 -- v is the reduced basis of its ideal by total degree, and then lex
 abbrev pub IsDegreeBasis : MarkedPolynomials → Type 0

@@ -1,17 +1,18 @@
-//! The steps of the search: the cone of a basis, the way up from it, and what is across a facet.
-ghost use Rattle.std.specs.Prelude.{◌≡◌, ◌↔◌, IfOk, IfErr, IsTrue, Some};
+//! The steps of the search: the way up from a basis, and what is across a facet.
+ghost use Rattle.std.specs.Prelude.{◌≡◌, IfOk, IfErr, Some};
 ghost use Rattle.gf_facets.specs.Facets.{IsFlippable};
 ghost use Rattle.gf_facets.specs.Normals.{AreNormals};
 ghost use Rattle.gf_facets.specs.Regions.{all_positive};
 ghost use Rattle.gf_cone.specs.Cones.{IsConeOf};
-ghost use Rattle.gf_reverse.specs.Upward.{IsNode, IsWayUp, fan_of};
+ghost use Rattle.gf_reverse.specs.Upward.{IsNode, fan_of};
 ghost use Rattle.gf_reverse.specs.Answers.{IsAcross, IsWayAnswer};
 ghost use Rattle.gf_tree.specs.Places.{IsVectorPlace};
-ghost use Rattle.gf_tree.specs.Parents.{IsBelowTold};
+ghost use Rattle.gf_tree.specs.Parents.{IsBelowTold, IsLedBack};
 ghost use Rattle.gf_tree.specs.Refusals.{IsTreeRefusal};
 
-use crate::{BasisTree, TreeError};
-use gf_cone::{Cone, KnownCone};
+use crate::node::{Facet, Neighbour, cone_near, cone_of};
+use crate::{BasisTree, Node, TreeError};
+use gf_cone::KnownCone;
 use gf_flip::flip;
 use gf_poly::MarkedSet;
 use gf_vec::IntVec;
@@ -31,15 +32,6 @@ fn place_of(list: &[IntVec], v: &IntVec) -> Option<usize>
     None
 }
 
-// The cone of a basis, of which nothing is known yet.
-fn cone_of(tree: &BasisTree, set: &MarkedSet) -> Result<KnownCone, AllocError>
-    requires { IsNode (all_positive tree.now.variables) set.now }
-    ensures { IfOk result (IsConeOf set.now.variables (all_positive tree.now.variables) set.now.items) }
-{
-    let cone = Cone::of(tree.alloc, set)?;
-    KnownCone::new(tree.alloc, cone, None)
-}
-
 // The neighbour across a flippable normal.
 pub(crate) fn crossed(
     tree: &BasisTree,
@@ -55,66 +47,134 @@ pub(crate) fn crossed(
     Ok(across)
 }
 
-// The neighbour across a facet that leads down from a basis; none where no flip may cross it, or where it lies towards the root.
-pub(crate) fn below(
+// The neighbour across a flippable normal, with its cone.
+pub(crate) fn arrived(tree: &BasisTree, node: &Node, facet: &Facet) -> Result<Node, TreeError>
+    requires node { IsNode (all_positive tree.now.variables) node.now }
+    requires flippable { IsFlippable node.now.variables (all_positive tree.now.variables) node.now.items facet.now }
+    ensures ok { IfOk result (λ w. IsAcross (all_positive tree.now.variables) node.now facet.now (Some w)) }
+    ensures cause { IfErr result (IsTreeRefusal (fan_of (all_positive tree.now.variables) node.now) tree.now.pairs) }
+{
+    let basis = crossed(tree, &node.basis, &facet.normal)?;
+    let cone = cone_near(tree.alloc, &basis, &facet.witness, &facet.normal)?;
+    Ok(Node {
+        basis,
+        cone: Some(cone),
+    })
+}
+
+// What `below` answers, by the cone of the basis.
+fn below_in(
     tree: &BasisTree,
     set: &MarkedSet,
+    cone: &KnownCone,
     normal: &IntVec,
-) -> Result<Option<MarkedSet>, TreeError>
-    requires { IsNode (all_positive tree.now.variables) set.now }
+) -> Result<Option<Neighbour>, TreeError>
+    requires node { IsNode (all_positive tree.now.variables) set.now }
+    requires cone { IsConeOf set.now.variables (all_positive set.now.variables) set.now.items cone.now }
     ensures ok { IfOk result (IsBelowTold (all_positive tree.now.variables) set.now normal.now) }
     ensures cause { IfErr result (IsTreeRefusal (fan_of (all_positive tree.now.variables) set.now) tree.now.pairs) }
 {
-    let mut cone = cone_of(tree, set)?;
-    let place = match place_of(cone.normals(), normal) {
+    let list = cone.normals();
+    let place = match place_of(list, normal) {
         Some(place) => place,
         None => return Ok(None),
     };
-    let list = cone.normals();
     match list[place].root_sign() {
         Ordering::Less => return Ok(None),
         _ => {}
     }
-    match cone.is_flippable(place)? {
-        true => {}
-        false => return Ok(None),
+    let crossing = cone.crossing(place)?;
+    match crossing {
+        Some(witness) => {
+            let basis = crossed(tree, set, normal)?;
+            Ok(Some(Neighbour { basis, witness }))
+        }
+        None => Ok(None),
     }
-    let across = crossed(tree, set, normal)?;
-    Ok(Some(across))
 }
 
-// The way up: the least flippable normal that is negative at the root.
-pub(crate) fn way_up(tree: &BasisTree, set: &MarkedSet) -> Result<Option<IntVec>, TreeError>
-    requires { IsNode (all_positive tree.now.variables) set.now }
+// The neighbour across a facet that leads down from a basis; none where no flip may cross it, or where it lies towards the root.
+pub(crate) fn below(
+    tree: &BasisTree,
+    node: &Node,
+    normal: &IntVec,
+) -> Result<Option<Neighbour>, TreeError>
+    requires { IsNode (all_positive tree.now.variables) node.now }
+    ensures ok { IfOk result (IsBelowTold (all_positive tree.now.variables) node.now normal.now) }
+    ensures cause { IfErr result (IsTreeRefusal (fan_of (all_positive tree.now.variables) node.now) tree.now.pairs) }
+{
+    match &node.cone {
+        Some(cone) => below_in(tree, &node.basis, cone, normal),
+        None => {
+            let cone = cone_of(tree.alloc, &node.basis)?;
+            below_in(tree, &node.basis, &cone, normal)
+        }
+    }
+}
+
+// The way up, by the cone of the basis: the least flippable normal that is negative at the root.
+pub(crate) fn way_in(
+    tree: &BasisTree,
+    set: &MarkedSet,
+    cone: &KnownCone,
+) -> Result<Option<Facet>, TreeError>
+    requires node { IsNode (all_positive tree.now.variables) set.now }
+    requires cone { IsConeOf set.now.variables (all_positive set.now.variables) set.now.items cone.now }
     ensures ok { IfOk result (IsWayAnswer (all_positive tree.now.variables) set.now) }
     ensures cause { IfErr result (IsTreeRefusal (fan_of (all_positive tree.now.variables) set.now) tree.now.pairs) }
 {
-    let mut cone = cone_of(tree, set)?;
-    let place = match cone.way_up()? {
+    let way = match cone.way()? {
+        Some(way) => way,
+        None => return Ok(None),
+    };
+    let normal = cone.normals()[way.place].copy()?;
+    Ok(Some(Facet {
+        normal,
+        witness: way.witness,
+    }))
+}
+
+// The way up.
+pub(crate) fn way_up(tree: &BasisTree, node: &Node) -> Result<Option<Facet>, TreeError>
+    requires { IsNode (all_positive tree.now.variables) node.now }
+    ensures ok { IfOk result (IsWayAnswer (all_positive tree.now.variables) node.now) }
+    ensures cause { IfErr result (IsTreeRefusal (fan_of (all_positive tree.now.variables) node.now) tree.now.pairs) }
+{
+    match &node.cone {
+        Some(cone) => way_in(tree, &node.basis, cone),
+        None => {
+            let cone = cone_of(tree.alloc, &node.basis)?;
+            way_in(tree, &node.basis, &cone)
+        }
+    }
+}
+
+// A neighbour with its cone, where the facet that was crossed is its way up; `normal` is its normal on the other side, and `back`
+// on this one. The cone knows a vector inside that facet, and keeps what is found out.
+pub(crate) fn led_back(
+    tree: &BasisTree,
+    neighbour: Neighbour,
+    normal: &IntVec,
+    back: &IntVec,
+) -> Result<Option<Node>, TreeError>
+    requires { IsNode (all_positive tree.now.variables) neighbour }
+    ensures ok { IfOk result (IsLedBack (all_positive tree.now.variables) neighbour back.now) }
+    ensures cause { IfErr result (IsTreeRefusal (fan_of (all_positive tree.now.variables) neighbour) tree.now.pairs) }
+{
+    let Neighbour { basis, witness } = neighbour;
+    let mut cone = cone_near(tree.alloc, &basis, &witness, normal)?;
+    let place = match place_of(cone.normals(), back) {
         Some(place) => place,
         None => return Ok(None),
     };
-    let way = cone.normals()[place].copy()?;
-    Ok(Some(way))
-}
-
-// Whether a normal is the way up.
-pub(crate) fn is_way_up(
-    tree: &BasisTree,
-    set: &MarkedSet,
-    normal: &IntVec,
-) -> Result<bool, TreeError>
-    requires { IsNode (all_positive tree.now.variables) set.now }
-    ensures ok { IfOk result (λ b. IsTrue b ↔ IsWayUp set.now.variables (all_positive tree.now.variables) set.now.items normal.now) }
-    ensures cause { IfErr result (IsTreeRefusal (fan_of (all_positive tree.now.variables) set.now) tree.now.pairs) }
-{
-    let mut cone = cone_of(tree, set)?;
-    let place = match place_of(cone.normals(), normal) {
-        Some(place) => place,
-        None => return Ok(false),
-    };
-    let leads = cone.is_way_up(place)?;
-    Ok(leads)
+    cone.learn(place, witness);
+    match cone.is_way_up(place)? {
+        true => Ok(Some(Node {
+            basis,
+            cone: Some(cone),
+        })),
+        false => Ok(None),
+    }
 }
 
 // These vectors again.
@@ -130,10 +190,14 @@ fn copied(alloc: Global, list: &[IntVec]) -> Result<Vec<IntVec>, AllocError>
 }
 
 // The normals of a basis, each once, ascending.
-pub(crate) fn normals(tree: &BasisTree, set: &MarkedSet) -> Result<Vec<IntVec>, AllocError>
-    requires { IsNode (all_positive tree.now.variables) set.now }
-    ensures { IfOk result (λ ns. AreNormals set.now.items ns.items) }
+pub(crate) fn normals(tree: &BasisTree, node: &Node) -> Result<Vec<IntVec>, AllocError>
+    ensures { IfOk result (λ ns. AreNormals node.now.items ns.items) }
 {
-    let cone = cone_of(tree, set)?;
-    copied(tree.alloc, cone.normals())
+    match &node.cone {
+        Some(cone) => copied(tree.alloc, cone.normals()),
+        None => {
+            let cone = cone_of(tree.alloc, &node.basis)?;
+            copied(tree.alloc, cone.normals())
+        }
+    }
 }

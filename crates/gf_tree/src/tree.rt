@@ -7,9 +7,8 @@ ghost use Rattle.gf_tree.specs.FanTree.{before_strict, rank, count, upward_tree,
 ghost use Rattle.gf_tree.specs.Refusals.{IsTreeRefusal};
 ghost use Rattle.gf_tree.specs.declared.error.TreeError.TheVariants.{Memory};
 
-use crate::TreeError;
-use crate::steps::{below, crossed, is_way_up, normals, way_up};
-use gf_poly::MarkedSet;
+use crate::steps::{arrived, below, led_back, normals, way_up};
+use crate::{Node, TreeError};
 use gf_vec::IntVec;
 use gf_walk::{FiniteTree, Tree};
 use std::alloc::Global;
@@ -27,7 +26,7 @@ pub struct BasisTree {
 }
 
 impl Tree for BasisTree {
-    type Node = MarkedSet;
+    type Node = Node;
 
     type Label = IntVec;
 
@@ -53,7 +52,7 @@ impl Tree for BasisTree {
 
     ghost nodes = { λ t. upward_nodes (all_positive t.variables) };
 
-    fn labels(&self, node: &MarkedSet) -> Result<Vec<IntVec>, TreeError> {
+    fn labels(&self, node: &Node) -> Result<Vec<IntVec>, TreeError> {
         let labels = normals(self, node)?;
         Ok(labels)
     }
@@ -62,33 +61,31 @@ impl Tree for BasisTree {
         matches!(a.lex_cmp(b), Ordering::Less)
     }
 
-    fn child(&self, node: &MarkedSet, label: &IntVec) -> Result<Option<MarkedSet>, TreeError> {
+    fn child(&self, node: &Node, label: &IntVec) -> Result<Option<Node>, TreeError> {
         let neighbour = match below(self, node, label)? {
             Some(neighbour) => neighbour,
             None => return Ok(None),
         };
         let mut back = label.copy()?;
         back.negate();
-        match is_way_up(self, &neighbour, &back)? {
-            true => Ok(Some(neighbour)),
-            false => Ok(None),
-        }
+        let child = led_back(self, neighbour, label, &back)?;
+        Ok(child)
     }
 
-    fn parent(&self, node: &MarkedSet) -> Result<Option<(IntVec, MarkedSet)>, TreeError> {
-        let way = match way_up(self, node)? {
-            Some(way) => way,
+    fn parent(&self, node: &Node) -> Result<Option<(IntVec, Node)>, TreeError> {
+        let facet = match way_up(self, node)? {
+            Some(facet) => facet,
             None => return Ok(None),
         };
-        let above = crossed(self, node, &way)?;
-        let mut label = way;
+        let above = arrived(self, node, &facet)?;
+        let mut label = facet.normal;
         label.negate();
         Ok(Some((label, above)))
     }
 
-    fn copy(&self, node: &MarkedSet) -> Result<MarkedSet, TreeError> {
-        let copy = node.copy()?;
-        Ok(copy)
+    fn copy(&self, node: &Node) -> Result<Node, TreeError> {
+        let basis = node.basis.copy()?;
+        Ok(Node { basis, cone: None })
     }
 
     fn again(&self) -> Result<Self, TreeError> {

@@ -6,8 +6,9 @@ ghost use Rattle.gf_tree.specs.Refusals.{IsTreeRefusal, IsTreeWithinLimits};
 ghost use Rattle.gf_tree.specs.declared.error.TreeError.TheVariants.{Memory};
 ghost use Rattle.gf_tree.specs.declared.above.Parent.TheVariants.{Root};
 
-use crate::steps::{crossed, way_up};
-use crate::{BasisTree, Parent, TreeError};
+use crate::node::cone_of;
+use crate::steps::{crossed, way_in};
+use crate::{BasisTree, Node, Parent, TreeError};
 use gf_poly::MarkedSet;
 use std::alloc::Global;
 
@@ -18,12 +19,16 @@ fn above(tree: &BasisTree, set: &MarkedSet) -> Result<Parent, TreeError>
     ensures value { IfOk result (IsParentTold set.now) }
     ensures cause { IfErr result (IsTreeRefusal (ideal_of set.now) tree.now.pairs) }
 {
-    let normal = match way_up(tree, set)? {
-        Some(normal) => normal,
+    let cone = cone_of(tree.alloc, set)?;
+    let facet = match way_in(tree, set, &cone)? {
+        Some(facet) => facet,
         None => return Ok(Parent::Root),
     };
-    let basis = crossed(tree, set, &normal)?;
-    Ok(Parent::Up { normal, basis })
+    let basis = crossed(tree, set, &facet.normal)?;
+    Ok(Parent::Up {
+        normal: facet.normal,
+        basis,
+    })
 }
 
 // The root above a basis.
@@ -33,7 +38,9 @@ fn ascended(tree: &BasisTree, set: MarkedSet) -> Result<MarkedSet, TreeError>
     ensures value { IfOk result (IsRootFor set) }
     ensures cause { IfErr result (IsTreeRefusal (ideal_of set) tree.now.pairs) }
 {
-    gf_walk::to_root(tree.alloc, tree, set)
+    let node = Node::of(tree.alloc, set);
+    let root = gf_walk::to_root(tree.alloc, tree, node)?;
+    Ok(root.into_basis())
 }
 
 /// What is above a basis in the tree of all marked reduced Gröbner bases of its ideal.

@@ -7,7 +7,7 @@ ghost use Rattle.gf_tree.specs.Steps.{IsAdvance, IsResumed};
 ghost use Rattle.gf_tree.specs.Walks.{ideal_at, walk_at, HasListLeft};
 ghost use Rattle.gf_tree.specs.declared.error.TreeError.TheVariants.{Memory};
 
-use crate::{BasisTree, TreeError};
+use crate::{BasisTree, Node, TreeError};
 use gf_poly::MarkedSet;
 use gf_vec::IntVec;
 use gf_walk::Depth;
@@ -50,8 +50,9 @@ impl Walker {
             variables: basis.variables(),
             pairs,
         };
+        let node = Node::of(alloc, basis);
         Walker {
-            inner: gf_walk::Walker::at(alloc, tree, basis),
+            inner: gf_walk::Walker::at(alloc, tree, node),
             given: Depth::zero(alloc),
         }
     }
@@ -62,7 +63,11 @@ impl Walker {
         ensures mark { result.mark.now ≡ self.now.mark }
         ensures list { HasListLeft self.now }
     {
-        self.inner.position()
+        let place = self.inner.position();
+        Position {
+            here: place.here.basis(),
+            mark: place.mark,
+        }
     }
 
     // What `advance` answers.
@@ -73,7 +78,7 @@ impl Walker {
     {
         self.given.raise()?;
         match self.inner.advance() {
-            Ok(Some(basis)) => Ok(Some(basis)),
+            Ok(Some(node)) => Ok(Some(node.into_basis())),
             Ok(None) => {
                 self.given.lower();
                 Ok(None)
@@ -129,7 +134,8 @@ fn resume(tree: BasisTree, basis: MarkedSet) -> Result<Walker, TreeError>
     ensures cause { IfErr result (IsTreeRefusal (ideal_of basis) tree.pairs) }
 {
     let alloc = tree.alloc;
-    let inner = gf_walk::Walker::after(alloc, tree, basis)?;
+    let node = Node::of(alloc, basis);
+    let inner = gf_walk::Walker::after(alloc, tree, node)?;
     Ok(Walker {
         inner,
         given: Depth::zero(alloc),

@@ -1,5 +1,6 @@
 use Rattle.std.specs.Prelude.{IfNone}
 use Rattle.std.proofs.Common.{arith, sym, subst, ◌≡◌}
+use Rattle.gf_poly.specs.Marking.{MarkedPolynomials}
 use Rattle.gf_walk.specs.declared.mark.Mark.TheVariants.{Finished}
 use Rattle.gf_walk.specs.Listing.{IsLeftAt, IsFirstOf}
 use Rattle.gf_walk.specs.Walk.{Advances}
@@ -16,16 +17,18 @@ pub invariant_of-self-in-Ok-Some : goal.invariant_of-self-in-Ok-Some
 invariant_of-self-in-Ok-Some c =
     let p = c.self.inside.inner in
     let q = c.advance.new.self in
-    left_after p q c.self.inside.given c.raise.new.self c.in-Ok-Some.basis c.in-Ok-Some.ensures.tree (subst (Advances IsBefore up_in p q) c.in-Ok-Some.field-0-is c.in-Ok-Some.ensures.first)
+    left_after p q c.self.inside.given c.raise.new.self c.in-Ok-Some.node c.in-Ok-Some.ensures.tree (subst (Advances IsBefore up_in p q) c.in-Ok-Some.field-0-is c.in-Ok-Some.ensures.first)
     (λ nodes l. subst (IsFirstOf (IsLeftAt IsBefore up_in q) nodes) c.in-Ok-Some.field-0-is (c.in-Ok-Some.ensures.list nodes l)) c.in_ok-raise.ensures.ok c.self.invariant
 
 pub returns-in-Ok-Some-clause-ok : goal.returns-in-Ok-Some-clause-ok
 returns-in-Ok-Some-clause-ok c =
     let p = c.self.inside.inner in
     let q = c.advance.new.self in
-    subst (λ (w : Walk). IsStepTo w (walk_of q c.raise.new.self) c.in-Ok-Some.basis) c.self.view_is
-    (step_to p q c.self.inside.given c.raise.new.self c.in-Ok-Some.basis c.in-Ok-Some.ensures.tree (subst (Advances IsBefore up_in p q) c.in-Ok-Some.field-0-is c.in-Ok-Some.ensures.first)
-    (λ nodes l. subst (IsFirstOf (IsLeftAt IsBefore up_in q) nodes) c.in-Ok-Some.field-0-is (c.in-Ok-Some.ensures.list nodes l)) c.in_ok-raise.ensures.ok c.self.invariant)
+    let basis = c.into_basis.result in
+    let gives = subst (λ (b : MarkedPolynomials). IsStepTo (walk_of p c.self.inside.given) (walk_of q c.raise.new.self) b) (sym c.into_basis.ensures) in
+    subst (λ (w : Walk). IsStepTo w (walk_of q c.raise.new.self) basis) c.self.view_is
+    (gives (step_to p q c.self.inside.given c.raise.new.self c.in-Ok-Some.node c.in-Ok-Some.ensures.tree (subst (Advances IsBefore up_in p q) c.in-Ok-Some.field-0-is c.in-Ok-Some.ensures.first)
+    (λ nodes l. subst (IsFirstOf (IsLeftAt IsBefore up_in q) nodes) c.in-Ok-Some.field-0-is (c.in-Ok-Some.ensures.list nodes l)) c.in_ok-raise.ensures.ok c.self.invariant))
 
 pub returns-in-Ok-None-clause-ok : goal.returns-in-Ok-None-clause-ok
 returns-in-Ok-None-clause-ok c =
