@@ -5,7 +5,7 @@ ghost use Rattle.gf_buchberger.specs.Jobs.{HaveRingVariables};
 ghost use Rattle.gf_reverse.specs.Upward.{IsNodeIn};
 ghost use Rattle.gf_tree.specs.Parents.{ideal_of};
 
-use crate::{Bases, Parent, Split, TreeError, Walker, list_bases, parent};
+use crate::{Bases, Node, Parent, Split, TreeError, Walker, list_bases, parent};
 use gf_buchberger::basis;
 use gf_order::Order;
 use gf_poly::{MarkedSet, Poly, PolyError};
@@ -170,6 +170,21 @@ fn the_last_basis_is_below_the_root(rt: HostRuntime) -> Result<(), Fail> {
     let root = linear(alloc)?;
     assert!(rt; matches!(parent(alloc, &root, 100), Ok(Parent::Root)));
     assert!(rt; matches!(parent(alloc, &set, 0), Err(TreeError::PairBudget { .. })));
+    Ok(())
+}
+
+// A value that may go to another thread.
+fn sent<T: Send>(value: T) -> T
+    ensures { result ≡ value }
+{
+    value
+}
+
+#[test]
+fn nodes_may_be_sent(rt: HostRuntime) -> Result<(), Fail> {
+    let alloc = rt.alloc();
+    let node = sent(Node::of(alloc, linear(alloc)?));
+    assert!(rt; is_listed(node.basis(), 0));
     Ok(())
 }
 
