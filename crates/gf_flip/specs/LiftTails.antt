@@ -1,5 +1,5 @@
 -- Tails of lifts, as the code reduces them in place, one lift after another: which stay as they are, and what the others
--- become. Laws: proofs/LiftTailLaws.antt, proofs/TurnedTailLaws.antt.
+-- become. Laws: proofs/LiftTailLaws.antt, proofs/TailsInTurn.antt, proofs/LiftedTails.antt.
 use Rattle.std.specs.Prelude.{◌≡◌, ◌⊎◌, ℕ, ◌+◌, ◌<◌, Bool, true, false, List, length, set, Contains, slice_index_or}
 use Rattle.gf_exponents.specs.Exponents.{Exponents, same, Divides}
 use Rattle.gf_poly.specs.declared.Term.{Term}

@@ -137,6 +137,25 @@ fn heaviest(
     best
 }
 
+// The heaviest such term that isn't heavier than the bar; where there is none, since the weight may be a wrong one, the
+// heaviest of all.
+fn next_term(
+    f: &Poly,
+    lifts: &[Marked],
+    head: &Mono,
+    weight: &[i64],
+    bar: i64,
+) -> Option<(Mono, usize)>
+    requires members { HaveVariables (length head.now) lifts.now }
+    requires poly { HasVariables (length head.now) f.now }
+    ensures { IfSome result (λ p. IsTailTerm lifts.now head.now f.now p.0 p.1) }
+{
+    if let Some(found) = heaviest(f, lifts, head, weight, bar) {
+        return Some(found);
+    }
+    heaviest(f, lifts, head, weight, i64::MAX)
+}
+
 // The polynomial after the step at its monomial `at` by a lift, whose mark divides it.
 fn stepped(alloc: Global, f: Poly, at: &Mono, by: &Marked) -> Result<Poly, PolyError>
     requires variables { HasVariables (length at.now) f }
@@ -181,7 +200,7 @@ fn reduced_lift(alloc: Global, lifts: &[Marked], at: usize, weight: &[i64]) -> O
         Err(_) => return None,
     };
     let mut bar = i64::MAX;
-    'steps: while let Some((x, j)) = heaviest(&rest, lifts, head, weight, bar) {
+    'steps: while let Some((x, j)) = next_term(&rest, lifts, head, weight, bar) {
         bar = heft_of(weight, x.exponents());
         rest = match stepped(alloc, rest, &x, &lifts[j]) {
             Ok(next) => next,

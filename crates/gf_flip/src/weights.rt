@@ -5,7 +5,7 @@ use gf_poly::Marked;
 use std::alloc::Global;
 
 /// How many times all lifts are gone through at most.
-const ROUNDS: u32 = 1000;
+const ROUNDS: u32 = 20_000;
 
 /// How heavy a monomial is, as far as the numbers fit.
 pub fn heft_of(weight: &[i64], x: &[u32]) -> i64 {

@@ -6,11 +6,11 @@ use Rattle.gf_flip.proofs.tails.reduced_lift.Goals as goal
 pub steps-init : goal.steps-init
 steps-init c = tailing-none c.args.lifts.now c.index-lifts-at.result c.in-Ok.copy (c.in-Ok.ensures ∙ c.poly.ensures)
 
-pub heaviest-requires-clause-members : goal.heaviest-requires-clause-members
-heaviest-requires-clause-members c = lifts_width c.args.lifts.now c.index-lifts-at.result c.head-head.result.now c.args.at c.requires.variables c.requires.inside c.index-lifts-at.is c.head-head.ensures.marked c.head-head.ensures.value
+pub next_term-requires-clause-members : goal.next_term-requires-clause-members
+next_term-requires-clause-members c = lifts_width c.args.lifts.now c.index-lifts-at.result c.head-head.result.now c.args.at c.requires.variables c.requires.inside c.index-lifts-at.is c.head-head.ensures.marked c.head-head.ensures.value
 
-pub heaviest-requires-clause-poly : goal.heaviest-requires-clause-poly
-heaviest-requires-clause-poly c = tailing_variables c.args.lifts.now c.index-lifts-at.result c.head-head.result.now c.steps.rest c.args.at c.requires.variables c.requires.inside c.index-lifts-at.is c.head-head.ensures.marked c.head-head.ensures.value c.steps.invariant
+pub next_term-requires-clause-poly : goal.next_term-requires-clause-poly
+next_term-requires-clause-poly c = tailing_variables c.args.lifts.now c.index-lifts-at.result c.head-head.result.now c.steps.rest c.args.at c.requires.variables c.requires.inside c.index-lifts-at.is c.head-head.ensures.marked c.head-head.ensures.value c.steps.invariant
 
 pub stepped-requires-clause-variables : goal.stepped-requires-clause-variables
 stepped-requires-clause-variables c = subst (λ (n : ℕ). HasVariables n c.steps.rest) (sym c.in-Some.ensures.width)
