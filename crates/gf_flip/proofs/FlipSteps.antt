@@ -16,9 +16,8 @@ use Rattle.gf_ideal.specs.Bases.{AreArranged, AreApart, AreSameBasis, IsTwin, Is
 use Rattle.gf_ideal.specs.WorkLists.{AreReducedTails}
 use Rattle.gf_ideal.proofs.ListLaws.{each_contained}
 use Rattle.gf_ideal.proofs.KeptForms.{arranged_list}
-use Rattle.gf_ideal.proofs.InterreductionLaws.{apart-tails}
 use Rattle.gf_division.specs.NormalForms.{HasSomeWeight}
-use Rattle.gf_division.specs.Autoreduction.{AreNeededForms, IsAutoreduced, IsAutoreductionRefusal, AreKeptForms}
+use Rattle.gf_division.specs.Autoreduction.{AreNeededForms, IsAutoreduced, IsAutoreductionRefusal}
 use Rattle.gf_buchberger.specs.Jobs.{IsBasisJob}
 use Rattle.gf_buchberger.specs.Bases.{IsArrangedBasis, IsBasisRefusal, of_poly_error}
 use Rattle.gf_buchberger.specs.declared.bases.BasisError.{BasisError}
@@ -26,8 +25,9 @@ use Rattle.gf_initial.specs.Lifts.{AreLifts, AreTopLifts}
 use Rattle.gf_flip.specs.Crossings.{IsCrossing, IsNeighbour}
 use Rattle.gf_flip.specs.Along.{AreAlong, IsBasisOfParts}
 use Rattle.gf_flip.specs.Limits.{HaveMonomialsAlone}
-use Rattle.gf_flip.specs.LiftTails.{AreCopies, AreTailsOfLifts}
-use Rattle.gf_flip.proofs.LiftTailLaws.{reduced_by_place, kept_by_place}
+use Rattle.gf_flip.specs.LiftTails.{AreCopies, AreTailsInTurn}
+use Rattle.gf_flip.proofs.TailsInTurn.{turned_tails, turned_canonical}
+use Rattle.gf_flip.proofs.LiftedTails.{ever_turned}
 use Rattle.gf_flip.specs.Operations.{IsFlipRefusal}
 use Rattle.gf_flip.proofs.SmallNormals.{normal_bounded}
 use Rattle.gf_flip.proofs.CrossingMath.{AreEverLifted, ever_topped, crossing_width, crossing_weight, in_ring, suited, realisable, lifts_marked, lifts_apart, needed_same, neighbour}
@@ -105,20 +105,18 @@ topped_at bs items a b hs ls e q t = subst (λ (z : List MarkedPolynomial). AreT
 
 -- ---- tails of lifts that end early
 
--- what the lifts, and they with their tails reduced, are
-pub record Ending (n : ℕ) (bs : List MarkedPolynomial) (a : List ℤ) (hs ls ms : List MarkedPolynomial) : Type 0 where
-  pub lifted : AreEverLifted n bs a hs ls
-  pub variables : HaveVariables n ls
-  pub reduced : AreReducedTails ls ls ms
-  pub kept : AreKeptForms ls ms
+-- what the lifts with their tails reduced are
+pub record Ending (n : ℕ) (bs : List MarkedPolynomial) (a : List ℤ) (hs ms : List MarkedPolynomial) : Type 0 where
+  pub lifted : AreEverLifted n bs a hs ms
+  pub reduced : AreReducedTails ms ms ms
+  pub canonical : (m : MarkedPolynomial) → Contains ms m → IsCanonical n m
 
 pub ending_at : (n : ℕ) (bs items : List MarkedPolynomial) (a b : List ℤ) (hs ls : List MarkedPolynomial) (flags : List Bool) (ms : List MarkedPolynomial) → IsCrossing n bs a →
-    IsBasisOfParts n bs a hs → items ≡ bs → b ≡ a → AreTopLifts items b hs ls → HaveVariables (length b) ls → AreCopies items ls flags → AreTailsOfLifts ls flags ms → Ending n bs a hs ls ms
+    IsBasisOfParts n bs a hs → items ≡ bs → b ≡ a → AreTopLifts items b hs ls → HaveVariables (length b) ls → AreCopies items ls flags → AreTailsInTurn ls flags (length ls) ms → Ending n bs a hs ms
 ending_at n bs items a b hs ls flags ms c p e q t v k r = record {
-  lifted = ever_topped n bs a hs ls p (topped_at bs items a b hs ls e q t);
-  variables = subst (λ (z : ℕ). HaveVariables z ls) (ap length q ∙ crossing_width n bs a c) v;
-  reduced = reduced_by_place bs ls flags ms c.basis.reduced.tails copies r;
-  kept = kept_by_place bs ls flags ms c.basis.reduced.tails copies r;
+  lifted = ever_turned n bs a hs ls flags (length ls) ms p r (ever_topped n bs a hs ls p (topped_at bs items a b hs ls e q t));
+  reduced = turned_tails bs ls flags ms c.basis.reduced.tails copies r;
+  canonical = turned_canonical n bs ls flags ms c.basis.reduced.tails copies r (subst (λ (z : ℕ). HaveVariables z ls) (ap length q ∙ crossing_width n bs a c) v);
 }
   where
     copies : AreCopies bs ls flags
@@ -128,21 +126,18 @@ pub lifts_weight : (n : ℕ) (bs items : List MarkedPolynomial) (a b : List ℤ)
     AreTopLifts items b hs ls → HasSomeWeight ls
 lifts_weight n bs items a b hs ls c p e q t = let w = lifts_marked n bs a hs ls c p (ever_topped n bs a hs ls p (topped_at bs items a b hs ls e q t)) in (w.0, w.2)
 
-ended_canonical : (n : ℕ) (bs : List MarkedPolynomial) (a : List ℤ) (hs ls ms : List MarkedPolynomial) → Ending n bs a hs ls ms → (m : MarkedPolynomial) → Contains ms m → IsCanonical n m
-ended_canonical n bs a hs ls ms e m k = e.kept.at n e.variables m k
-
-pub ended_variables : (n m : ℕ) (bs : List MarkedPolynomial) (a : List ℤ) (hs ls ms : List MarkedPolynomial) → m ≡ n → Ending n bs a hs ls ms → HaveVariables m ms
-ended_variables n m bs a hs ls ms q e = subst (λ (z : ℕ). HaveVariables z ms) (sym q) (each_contained (λ (b : MarkedPolynomial). HasVariables n b.poly) ms (λ b k. (ended_canonical n bs a hs ls ms e b k).variables))
+pub ended_variables : (n m : ℕ) (bs : List MarkedPolynomial) (a : List ℤ) (hs ms : List MarkedPolynomial) → m ≡ n → Ending n bs a hs ms → HaveVariables m ms
+ended_variables n m bs a hs ms q e = subst (λ (z : ℕ). HaveVariables z ms) (sym q) (each_contained (λ (b : MarkedPolynomial). HasVariables n b.poly) ms (λ b k. (e.canonical b k).variables))
 
 -- arranged they are the neighbour
-pub ended_neighbour : (n m : ℕ) (bs : List MarkedPolynomial) (a : List ℤ) (hs ls ms : List MarkedPolynomial) (s t : MarkedPolynomials) → IsCrossing n bs a → IsBasisOfParts n bs a hs → m ≡ n →
-    Ending n bs a hs ls ms → s ≡ record { variables = m; items = ms } → IsArranged s t → IsNeighbour n bs a t.items
-ended_neighbour n m bs a hs ls ms s t c p q e r o =
-    neighbour n bs a hs ls ls ms t.items p e.lifted twins apart e.reduced arranged.members
-    (arranged_list n (record { variables = n; items = ms }) t arranged (ended_canonical n bs a hs ls ms e) (apart-tails ls ls ms e.reduced apart))
+pub ended_neighbour : (n m : ℕ) (bs : List MarkedPolynomial) (a : List ℤ) (hs ms : List MarkedPolynomial) (s t : MarkedPolynomials) → IsCrossing n bs a → IsBasisOfParts n bs a hs → m ≡ n →
+    Ending n bs a hs ms → s ≡ record { variables = m; items = ms } → IsArranged s t → IsNeighbour n bs a t.items
+ended_neighbour n m bs a hs ms s t c p q e r o =
+    neighbour n bs a hs ms ms ms t.items p e.lifted twins apart e.reduced arranged.members
+    (arranged_list n (record { variables = n; items = ms }) t arranged e.canonical apart)
   where
-    apart : AreApart ls
-    apart = lifts_apart n bs a hs ls c p e.lifted
+    apart : AreApart ms
+    apart = lifts_apart n bs a hs ms c p e.lifted
 
     arranged : IsArranged (record { variables = n; items = ms }) t
     arranged = subst (λ (z : ℕ). IsArranged (record { variables = z; items = ms }) t) q (subst (λ (z : MarkedPolynomials). IsArranged z t) r o)
@@ -150,5 +145,5 @@ ended_neighbour n m bs a hs ls ms s t c p q e r o =
     twin : (b : MarkedPolynomial) → IsTwin b b
     twin b = record { head = same-refl b.head; poly = λ x. refl }
 
-    twins : AreSameBasis ls ls
+    twins : AreSameBasis ms ms
     twins = record { there = λ b k. (b, k, twin b); back = λ b k. (b, k, twin b) }

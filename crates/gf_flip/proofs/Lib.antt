@@ -5,7 +5,10 @@ pub mod CrossingMath  -- from a crossing to its neighbour
 pub mod LiftSteps  -- the lifts, one after another
 pub mod RefusalSteps  -- refusals are operations of the flip
 pub mod TopLaws  -- lifts that end early, one after another
-pub mod LiftTailLaws  -- tails of lifts
+pub mod LiftTailLaws  -- tails of lifts that stay
+pub mod TailsInTurn  -- tails of lifts, one after another
+pub mod LiftedTails  -- lifts with reduced tails are lifts
+pub mod TailSteps  -- the tail of one lift, step by step
 pub mod TurnLaws  -- a run that takes the pairs in turn
 pub mod FlipSteps  -- the steps of a flip
 pub mod ReachedLaws  -- bases that a walk reaches

@@ -1,7 +1,7 @@
 -- Lifts that end once nothing is left along the normal, as the code works them out.
--- To cite: SeekingLine, seeking-none, seeking_more, Topping, topping-none, topping_more, topping_less, shares_at, divides_at,
--- top_remainder_at, top_there, top_lift_at, AreTopping, topping_all.
-use Rattle.std.specs.Prelude.{◌≡◌, ℕ, ◌+◌, ◌<◌, ◌≤◌, ◌^◌, true, List, [], ◌∷◌, ◌++◌, length, take, get_or, Contains, ℤ, pos, ◌+ℤ◌, ◌*ℤ◌}
+-- To cite: SeekingLine, seeking-none, seeking_more, line_found, Topping, topping-none, topping_more, topping_less, top_step, shares_at,
+-- divides_at, off_more, off_end, top_remainder_at, top_there, top_lift_at, AreTopping, topping_all.
+use Rattle.std.specs.Prelude.{◌≡◌, ℕ, ◌+◌, ◌<◌, ◌≤◌, ◌^◌, true, None, List, [], ◌∷◌, ◌++◌, length, take, get_or, Contains, ℤ, pos, ◌+ℤ◌, ◌*ℤ◌}
 use Rattle.std.proofs.Common.{arith, refl, sym, ap, ◌∙◌, subst, inl, inr}
 use Rattle.std.proofs.lemmas.List.{take_more, take_all}
 use Rattle.gf_int.proofs.RingLaws.{dv, dn, ◌⊕◌, ◌⊗◌, same as same_number}
@@ -29,10 +29,10 @@ use Rattle.gf_ideal.proofs.Identities.{one_not_zero}
 use Rattle.gf_division.specs.Dividends.{Split, joined_terms, IsSound, IsTermInFront, PassesOne, SharesVariables, DividesFirst, TakesStep}
 use Rattle.gf_division.specs.NormalForms.{HasSomeWeight}
 use Rattle.gf_poly.proofs.PolynomialLaws.{coefficient-same}
-use Rattle.gf_division.specs.Reducers.{IsDivisorAt}
+use Rattle.gf_division.specs.Reducers.{IsDivisorAt, IsReducibleFirst}
 use Rattle.gf_division.proofs.DividendLaws.{terms_down, first_head, first_length}
-use Rattle.gf_division.proofs.ReducerLaws.{members_equal, member_contained, member_variables}
-use Rattle.gf_division.proofs.RuleLaws.{keeps_along, all_above}
+use Rattle.gf_division.proofs.ReducerLaws.{member_at, members_equal, member_contained, member_variables}
+use Rattle.gf_division.proofs.RuleLaws.{keeps_along}
 use Rattle.gf_division.proofs.StepLaws.{head_length}
 use Rattle.gf_initial.specs.Lifts.{IsTopLift, AreTopLifts}
 use Rattle.gf_bases.proofs.DifferenceLaws.{difference, less_zero, less_summand}
@@ -43,130 +43,126 @@ use Rattle.gf_flip.proofs.AlongLaws.{matched-push}
 
 -- ---- the search
 
--- old became new as terms off the line went above the place
-pub record SeekingLine (n : ℕ) (a : List ℤ) (x : Exponents) (old new : Split) : Type 0 where
-  pub same : joined_terms new ≡ joined_terms old
-  pub sound : IsSound n new
-  pub above : AreOff a x new.above
-
-pub seeking-none : (n : ℕ) (a : List ℤ) (x : Exponents) (s : Split) → IsSound n s → AreOff a x s.above → SeekingLine n a x s s
-seeking-none n a x s v o = record { same = refl; sound = v; above = o }
-
 sound_same : (n : ℕ) (s t : Split) → joined_terms t ≡ joined_terms s → IsSound n s → IsSound n t
 sound_same n s t e h = record { descending = subst IsDescending (sym e) h.descending; variables = subst (HasVariables n) (sym e) h.variables }
 
-pub seeking_more : (n : ℕ) (a : List ℤ) (x y z : Exponents) (old now new : Split) (t : Term) → IsTermInFront now.below t → y ≡ t.mono → z ≡ x →
-    (AreMultipleApart a y z → ⊥) → PassesOne now new → SeekingLine n a x old now → SeekingLine n a x old new
-seeking_more n a x y z old now new t f ey ez o w k =
-    let e : joined_terms new ≡ joined_terms now = terms_down now new w in
-    let q : t ≡ w.term = first_equal (sym f.is ∙ w.below) in
-    record {
-      same = e ∙ k.same;
-      sound = sound_same n now new e k.sound;
-      above = subst (AreOff a x) (sym w.above) (Each-++ (λ (t : Term). AreMultipleApart a t.mono x → ⊥) now.above (w.term ∷ []) k.above
-          (λ m. o (subst (λ (u : Exponents). AreMultipleApart a u z) (sym (ey ∙ ap (λ (s : Term). s.mono) q)) (subst (λ (u : Exponents). AreMultipleApart a w.term.mono u) (sym ez) m)), tt));
-    }
-  where
-    first_equal : {f g : Terms} {s t : Term} → ◌≡◌ {A = Terms} (s ∷ f) (t ∷ g) → s ≡ t
-    first_equal e = cc
+-- the terms are the same after some moves, and sound
+pub record SeekingLine (n : ℕ) (old new : Split) : Type 0 where
+  pub same : joined_terms new ≡ joined_terms old
+  pub sound : IsSound n new
 
-pub first_width : (n : ℕ) (a : List ℤ) (x y : Exponents) (old s : Split) (t : Term) → IsTermInFront s.below t → y ≡ t.mono → SeekingLine n a x old s → length y ≡ n
-first_width n a x y old s t f e k = ap length e ∙ first_length n s t k.sound f
+pub seeking-none : (n : ℕ) (s : Split) → IsSound n s → SeekingLine n s s
+seeking-none n s v = record { same = refl; sound = v }
+
+pub seeking_more : (n : ℕ) (old now new : Split) → PassesOne now new → SeekingLine n old now → SeekingLine n old new
+seeking_more n old now new w k = let e = terms_down now new w in record { same = e ∙ k.same; sound = sound_same n now new e k.sound }
+
+pub first_width : (n : ℕ) (old s : Split) (t : Term) → IsTermInFront s.below t → SeekingLine n old s → length t.mono ≡ n
+first_width n old s t f k = first_length n s t k.sound f
+
+-- the search has found a member
+pub line_found : (bs : List MarkedPolynomial) (s : Split) (t : Term) (j : ℕ) → IsTermInFront s.below t → IsDivisorAt bs t.mono j → IsMonomial t.mono → IsReducibleFirst bs None s j
+line_found bs s t j i d m = record { term = t; is = i; divisor = d; beside = tt; monomial = m }
 
 -- ---- the steps
 
--- the member that divides the first term
-pub record IsTopStep (n : ℕ) (bs : List MarkedPolynomial) (a : List ℤ) (x : Exponents) (s : Split) (t : Term) (j : ℕ) (b : MarkedPolynomial) : Type 0 where
+-- the member that reduces the first term
+pub record IsTopStep (n : ℕ) (bs : List MarkedPolynomial) (s : Split) (t : Term) (j : ℕ) (b : MarkedPolynomial) : Type 0 where
   pub sound : IsSound n s
-  pub above : AreOff a x s.above
   pub first : IsTermInFront s.below t
   pub divisor : IsDivisorAt bs t.mono j
-  pub at : b ≡ get_or bs j b
+  pub monomial : IsMonomial t.mono
+  pub at : IsAt bs j b
   pub members : HaveVariables n bs
 
-same_member : (n : ℕ) (bs : List MarkedPolynomial) (a : List ℤ) (x : Exponents) (s : Split) (t : Term) (j : ℕ) (b : MarkedPolynomial) →
-    (k : IsTopStep n bs a x s t j b) → IsAt bs j b
-same_member n bs a x s t j b k = record { within = k.divisor.at.within; is = sym k.at }
+is_member : (n : ℕ) (bs : List MarkedPolynomial) (s : Split) (t : Term) (j : ℕ) (b : MarkedPolynomial) → (k : IsTopStep n bs s t j b) → k.divisor.member ≡ b
+is_member n bs s t j b k = members_equal bs j k.divisor.member b k.divisor.at k.at
 
-is_member : (n : ℕ) (bs : List MarkedPolynomial) (a : List ℤ) (x : Exponents) (s : Split) (t : Term) (j : ℕ) (b : MarkedPolynomial) →
-    (k : IsTopStep n bs a x s t j b) → k.divisor.member ≡ b
-is_member n bs a x s t j b k = members_equal bs j k.divisor.member b k.divisor.at (same_member n bs a x s t j b k)
+pub shares_at : (n : ℕ) (bs : List MarkedPolynomial) (s : Split) (t : Term) (j : ℕ) (b : MarkedPolynomial) → IsTopStep n bs s t j b → SharesVariables b s
+shares_at n bs s t j b k = record { n = n; sound = k.sound; poly = member_variables n bs b k.members (member_contained bs j b k.at) }
 
-pub shares_at : (n : ℕ) (bs : List MarkedPolynomial) (a : List ℤ) (x : Exponents) (s : Split) (t : Term) (j : ℕ) (b : MarkedPolynomial) →
-    IsTopStep n bs a x s t j b → SharesVariables b s
-shares_at n bs a x s t j b k = record { n = n; sound = k.sound; poly = member_variables n bs b k.members (member_contained bs j b (same_member n bs a x s t j b k)) }
+pub divides_at : (n : ℕ) (bs : List MarkedPolynomial) (s : Split) (t : Term) (j : ℕ) (b : MarkedPolynomial) → IsTopStep n bs s t j b → DividesFirst b.head s.below
+divides_at n bs s t j b k = record { term = t; first = k.first; divides = subst (λ (c : MarkedPolynomial). Divides c.head t.mono) (is_member n bs s t j b k) k.divisor.divides }
 
-pub divides_at : (n : ℕ) (bs : List MarkedPolynomial) (a : List ℤ) (x : Exponents) (s : Split) (t : Term) (j : ℕ) (b : MarkedPolynomial) →
-    IsTopStep n bs a x s t j b → DividesFirst b.head s.below
-divides_at n bs a x s t j b k = record { term = t; first = k.first; divides = subst (λ (c : MarkedPolynomial). Divides c.head t.mono) (is_member n bs a x s t j b k) k.divisor.divides }
-
-pub step_of : (n : ℕ) (bs : List MarkedPolynomial) (a : List ℤ) (x : Exponents) (s u : Split) (t : Term) (j : ℕ) (b : MarkedPolynomial) (q : Term) →
-    IsTopStep n bs a x s t j b → TakesStep b s q u → IsStep (Contains bs) (joined_terms s) (joined_terms u)
-step_of n bs a x s u t j b q k w =
+pub step_of : (n : ℕ) (bs : List MarkedPolynomial) (s u : Split) (t : Term) (j : ℕ) (b : MarkedPolynomial) (q : Term) →
+    IsTopStep n bs s t j b → TakesStep b s q u → IsStep (Contains bs) (joined_terms s) (joined_terms u)
+step_of n bs s u t j b q k w =
     let e = first_head s.below t k.first in
     record {
       at = t.mono;
       member = b;
       rest = q.mono;
-      contained = member_contained bs j b (same_member n bs a x s t j b k);
+      contained = member_contained bs j b k.at;
       there = λ z. w.there (sym w.coefficient_is ∙ ap (coefficient (joined_terms s)) (sym e) ∙ z);
       divides = same_of t.mono (plus q.mono b.head) (e ∙ sym w.product);
       equal = λ y. w.same y ∙ ap (λ c. coefficient (joined_terms s ++ times (neg_ℚ c) q.mono b.poly) y) (sym (ap (coefficient (joined_terms s)) e ∙ w.coefficient_is));
     }
 
 -- what holds after some steps
-pub record Topping (n : ℕ) (bs : List MarkedPolynomial) (a : List ℤ) (x : Exponents) (f : Terms) (s : Split) : Type 0 where
+pub record Topping (n : ℕ) (bs : List MarkedPolynomial) (f : Terms) (s : Split) : Type 0 where
   pub reached : Reached (Contains bs) f (joined_terms s)
   pub sound : IsSound n s
-  pub above : AreOff a x s.above
   pub kept : KeepsVariables f (joined_terms s)
 
-pub topping-none : (n : ℕ) (bs : List MarkedPolynomial) (a : List ℤ) (x : Exponents) (f : Terms) (s : Split) → HasVariables n f → IsDescending f →
-    s ≡ record { above = []; below = f } → Topping n bs a x f s
-topping-none n bs a x f s v d e = subst (Topping n bs a x f) (sym e) (record {
+pub topping-none : (n : ℕ) (bs : List MarkedPolynomial) (f : Terms) (s : Split) → HasVariables n f → IsDescending f →
+    s ≡ record { above = []; below = f } → Topping n bs f s
+topping-none n bs f s v d e = subst (Topping n bs f) (sym e) (record {
   reached = Reached.here f (λ x. refl);
   sound = record { descending = d; variables = v };
-  above = tt;
   kept = record { at = λ n h. h };
 })
 
-pub topping_more : (n : ℕ) (bs : List MarkedPolynomial) (a : List ℤ) (x : Exponents) (f : Terms) (old s u : Split) (t : Term) (j : ℕ) (b : MarkedPolynomial) (q : Term) →
-    joined_terms s ≡ joined_terms old → IsTopStep n bs a x s t j b → TakesStep b s q u → Topping n bs a x f old → Topping n bs a x f u
-topping_more n bs a x f old s u t j b q e k w h = record {
-  reached = Reached.next (joined_terms s) (joined_terms u) (subst (Reached (Contains bs) f) (sym e) h.reached) (step_of n bs a x s u t j b q k w);
+pub topping_more : (n : ℕ) (bs : List MarkedPolynomial) (f : Terms) (old s u : Split) (t : Term) (j : ℕ) (b : MarkedPolynomial) (q : Term) →
+    joined_terms s ≡ joined_terms old → IsTopStep n bs s t j b → TakesStep b s q u → Topping n bs f old → Topping n bs f u
+topping_more n bs f old s u t j b q e k w h = record {
+  reached = Reached.next (joined_terms s) (joined_terms u) (subst (Reached (Contains bs) f) (sym e) h.reached) (step_of n bs s u t j b q k w);
   sound = w.sound n k.sound;
-  above = front u.above w.passed (subst (AreOff a x) w.above k.above);
   kept = record { at = λ m v. (w.sound m (record { descending = k.sound.descending; variables = (keeps_along f (joined_terms old) (joined_terms s) e h.kept).at m v })).variables };
 }
-  where
-    front : (f g : Terms) → AreOff a x (f ++ g) → AreOff a x f
-    front [] g o = tt
-    front (t ∷ f) g o = (o.0, front f g o.1)
 
-pub topping_less : (n : ℕ) (bs : List MarkedPolynomial) (a : List ℤ) (x : Exponents) (w : List ℕ) (old s u : Split) (t : Term) (j : ℕ) (b : MarkedPolynomial) (q : Term) →
-    joined_terms s ≡ joined_terms old → AreMarked (lighter w) bs → IsMonomial t.mono → IsTopStep n bs a x s t j b → TakesStep b s q u →
+pub topping_less : (n : ℕ) (bs : List MarkedPolynomial) (w : List ℕ) (old s u : Split) (t : Term) (j : ℕ) (b : MarkedPolynomial) (q : Term) →
+    joined_terms s ≡ joined_terms old → AreMarked (lighter w) bs → IsTopStep n bs s t j b → TakesStep b s q u →
     work_left (2 ^ 31) ROOM bs (joined_terms u) < work_left (2 ^ 31) ROOM bs (joined_terms old)
 unfolding step_of
-topping_less n bs a x w old s u t j b q e m i k h =
+topping_less n bs w old s u t j b q e m k h =
     subst (λ (f : Terms). work_left (2 ^ 31) ROOM bs (joined_terms u) < work_left (2 ^ 31) ROOM bs f) e
-    (work_left-at (2 ^ 31) ROOM w bs (joined_terms s) (joined_terms u) m (step_of n bs a x s u t j b q k h) (box_of_monomial t.mono i))
+    (work_left-at (2 ^ 31) ROOM w bs (joined_terms s) (joined_terms u) m (step_of n bs s u t j b q k h) (box_of_monomial t.mono k.monomial))
 
--- what the search and the test of the marks have found
-pub top_step : (n : ℕ) (bs : List MarkedPolynomial) (a : List ℤ) (x : Exponents) (f : Terms) (old s : Split) (t : Term) (j : ℕ) (b : MarkedPolynomial) →
-    joined_terms s ≡ joined_terms old → AreOff a x s.above → IsTermInFront s.below t → IsDivisorAt bs t.mono j → b ≡ get_or bs j b → HaveVariables n bs →
-    Topping n bs a x f old → IsTopStep n bs a x s t j b
-top_step n bs a x f old s t j b e o i d q m h = record { sound = sound_same n old s e h.sound; above = o; first = i; divisor = d; at = q; members = m }
+-- what the search has found
+pub top_step : (n : ℕ) (bs : List MarkedPolynomial) (f : Terms) (old s : Split) (j : ℕ) (b : MarkedPolynomial) → joined_terms s ≡ joined_terms old →
+    (k : IsReducibleFirst bs None s j) → b ≡ get_or bs j b → HaveVariables n bs → Topping n bs f old → IsTopStep n bs s k.term j b
+top_step n bs f old s j b e k q m h = record {
+  sound = sound_same n old s e h.sound;
+  first = k.is;
+  divisor = k.divisor;
+  monomial = k.monomial;
+  at = member_at bs j b k.divisor.at.within q;
+  members = m;
+}
 
-pub top_members : (n : ℕ) (bs : List MarkedPolynomial) (a : List ℤ) (x : Exponents) (f : Terms) (old s : Split) (t : Term) → joined_terms s ≡ joined_terms old →
-    IsTermInFront s.below t → HaveVariables n bs → Topping n bs a x f old → HaveVariables (length t.mono) bs
-top_members n bs a x f old s t e i m h = subst (λ (k : ℕ). HaveVariables k bs) (sym (first_length n s t (sound_same n old s e h.sound) i)) m
+-- ---- the end
 
--- at the end
-pub top_remainder_at : (n : ℕ) (bs : List MarkedPolynomial) (a : List ℤ) (x : Exponents) (f r : Terms) (old s : Split) → joined_terms s ≡ joined_terms old →
-    s.below ≡ [] → r ≡ joined_terms s → AreOff a x s.above → Topping n bs a x f old → IsTopRemainder bs a x f r
-top_remainder_at n bs a x f r old s e b q o h = record {
+-- the terms before i are off the line
+abbrev pub AreOffBefore : List ℤ → Exponents → ℕ → Terms → Type 0
+AreOffBefore a x i f = Each (λ (t : Term). AreMultipleApart a t.mono x → ⊥) (take i f)
+
+pub off_more : (a : List ℤ) (x y z : Exponents) (i : ℕ) (f : Terms) (t : Term) → i < length f → t ≡ get_or f i t → y ≡ t.mono → z ≡ x → (AreMultipleApart a y z → ⊥) →
+    AreOffBefore a x i f → AreOffBefore a x (i + 1) f
+off_more a x y z i f t l e ey ez o h = subst (Each (λ (t : Term). AreMultipleApart a t.mono x → ⊥)) (sym (take_more f i t l ∙ ap (λ (w : Term). take i f ++ w ∷ []) (sym e))) (Each-++ (λ (t : Term). AreMultipleApart a t.mono x → ⊥) (take i f) (t ∷ []) h
+    (λ m. o (subst (λ (u : Exponents). AreMultipleApart a u z) (sym ey) (subst (λ (u : Exponents). AreMultipleApart a t.mono u) (sym ez) m)), tt))
+
+pub off_end : (a : List ℤ) (x : Exponents) (i : ℕ) (f : Terms) → length f ≤ i → AreOffBefore a x i f → AreOff a x f
+off_end a x i f l h = subst (Each (λ (t : Term). AreMultipleApart a t.mono x → ⊥)) (take_all i f l) h
+
+-- what is left has the variables
+pub left_variables : (n : ℕ) (bs : List MarkedPolynomial) (f r g : Terms) (old s : Split) → joined_terms s ≡ joined_terms old → r ≡ joined_terms s → g ≡ r → Topping n bs f old → HasVariables n g
+left_variables n bs f r g old s e q d h = subst (HasVariables n) (sym (d ∙ q ∙ e)) h.sound.variables
+
+pub top_remainder_at : (n : ℕ) (bs : List MarkedPolynomial) (a : List ℤ) (x : Exponents) (f r g : Terms) (old s : Split) → joined_terms s ≡ joined_terms old →
+    r ≡ joined_terms s → g ≡ r → AreOff a x g → Topping n bs f old → IsTopRemainder bs a x f r
+top_remainder_at n bs a x f r g old s e q d o h = record {
   reached = subst (Reached (Contains bs) f) (sym (q ∙ e)) h.reached;
-  off = subst (AreOff a x) (sym (q ∙ all_above s b)) o;
+  off = subst (AreOff a x) d o;
   kept = keeps_along f (joined_terms old) r (q ∙ e) h.kept;
   descending = subst IsDescending (sym (q ∙ e)) h.sound.descending;
 }

@@ -1,13 +1,17 @@
--- Tails of lifts, as the code has them: which stay as they are, and what the others become. Laws: proofs/LiftTailLaws.antt.
-use Rattle.std.specs.Prelude.{◌≡◌, ◌⊎◌, ℕ, ◌<◌, Bool, true, false, List, length, Contains, slice_index_or}
+-- Tails of lifts, as the code reduces them in place, one lift after another: which stay as they are, and what the others
+-- become. Laws: proofs/LiftTailLaws.antt, proofs/TailsInTurn.antt, proofs/LiftedTails.antt.
+use Rattle.std.specs.Prelude.{◌≡◌, ◌⊎◌, ℕ, ◌+◌, ◌<◌, Bool, true, false, List, length, set, Contains, slice_index_or}
 use Rattle.gf_exponents.specs.Exponents.{Exponents, same, Divides}
 use Rattle.gf_poly.specs.declared.Term.{Term}
+use Rattle.gf_poly.specs.Monomial.{IsMonomial}
+use Rattle.gf_poly.specs.Polynomial.{Terms}
 use Rattle.gf_poly.specs.Marking.{MarkedPolynomial, Each}
+use Rattle.gf_ideal.specs.Membership.{HasMonomial}
+use Rattle.gf_ideal.specs.Reduction.{IsDivisible, IsStep}
 use Rattle.gf_ideal.specs.Settled.{IsAt}
-use Rattle.gf_ideal.specs.WorkLists.{IsReducedTail}
 use Rattle.gf_division.specs.Autoreduction.{IsKeptForm}
+use Rattle.gf_division.specs.Reducers.{IsDivisorAt}
 use Rattle.gf_initial.specs.Parts.{Matching}
-use Rattle.gf_flip.specs.declared.tails.Change.{Change}
 
 -- a lift with a flag is one of bs
 abbrev pub IsCopy : List MarkedPolynomial → MarkedPolynomial → Bool → Type 0
@@ -31,26 +35,44 @@ pub record HasUndividedTailAt (ls : List MarkedPolynomial) (flags : List Bool) (
   pub tail : (b : MarkedPolynomial) → IsAt ls i b → HasUndividedTail ls flags (slice_index_or flags i false) b
   pub kept : (b : MarkedPolynomial) → IsAt ls i b → IsKeptForm b b
 
--- c is b with its tail reduced by ls, and kept in as many variables
-abbrev pub IsReducedLift : List MarkedPolynomial → MarkedPolynomial → MarkedPolynomial → Type 0
-IsReducedLift ls b c = IsReducedTail ls b c × IsKeptForm b c
+-- ---- one tail
 
--- each change is of a lift, and its member is that lift reduced; each lift before the place i has one, or stays
-pub record AreChanges (ls : List MarkedPolynomial) (flags : List Bool) (i : ℕ) (cs : List Change) : Type 0 where
-  pub inside : (c : Change) → Contains cs c → c.at < length ls
-  pub reduced : (c : Change) (b : MarkedPolynomial) → Contains cs c → IsAt ls c.at b → IsReducedLift ls b c.member
-  pub others : (j : ℕ) → j < i → HasUndividedTailAt ls flags j ⊎ ((c : Change) × Contains cs c × (c.at ≡ j))
+-- f has a term at x, which isn't the mark h; the member at the place j is the first one whose mark divides it
+pub record IsTailTerm (bs : List MarkedPolynomial) (h : Exponents) (f : Terms) (x : Exponents) (j : ℕ) : Type 0 where
+  pub there : HasMonomial f x
+  pub divisor : IsDivisorAt bs x j
+  pub beside : same x h ≡ false
+  pub monomial : IsMonomial x
+  pub width : length x ≡ length h
 
--- at the place j stands c: the member of a change, or b as before, where no change is of that place
-abbrev pub IsPutIn : List Change → ℕ → MarkedPolynomial → MarkedPolynomial → Type 0
-IsPutIn cs j b c = ((d : Change) × Contains cs d × (d.at ≡ j) × (d.member ≡ c)) ⊎ ((b ≡ c) × ((d : Change) → Contains cs d → d.at ≡ j → ⊥))
+-- steps by bs at monomials other than h lead from f to g
+pub data IsTailReached (bs : List MarkedPolynomial) (h : Exponents) (f : Terms) : Terms → Type 0 where
+  here : IsTailReached bs h f f
+  next : (g k : Terms) → IsTailReached bs h f g → (s : IsStep (Contains bs) g k) → same s.at h ≡ false → IsTailReached bs h f k
 
--- so it is at each place
-pub record ArePutIn (ls : List MarkedPolynomial) (cs : List Change) (ms : List MarkedPolynomial) : Type 0 where
-  pub each : length ms ≡ length ls
-  pub at : (j : ℕ) (b c : MarkedPolynomial) → IsAt ls j b → IsAt ms j c → IsPutIn cs j b c
+-- no mark of bs divides an unmarked monomial of b
+abbrev pub HasReducedTail : List MarkedPolynomial → MarkedPolynomial → Type 0
+HasReducedTail bs b = (x : Exponents) → HasMonomial b.poly x → IsDivisible (Contains bs) x → same x b.head ≡ true
 
--- each lift stays, or is reduced
-pub record AreTailsOfLifts (ls : List MarkedPolynomial) (flags : List Bool) (ms : List MarkedPolynomial) : Type 0 where
-  pub each : length ms ≡ length ls
-  pub at : (j : ℕ) (b c : MarkedPolynomial) → IsAt ls j b → IsAt ms j c → ((b ≡ c) × HasUndividedTailAt ls flags j) ⊎ IsReducedLift ls b c
+-- c is b with its tail reduced by bs, and kept in as many variables
+pub record IsReducedLift (bs : List MarkedPolynomial) (b c : MarkedPolynomial) : Type 0 where
+  pub head : c.head ≡ b.head
+  pub reached : IsTailReached bs b.head b.poly c.poly
+  pub irreducible : HasReducedTail bs c
+  pub kept : IsKeptForm b c
+
+-- so it is with the lift at the place i
+pub record IsReducedLiftAt (ls : List MarkedPolynomial) (i : ℕ) (c : MarkedPolynomial) : Type 0 where
+  pub at : (b : MarkedPolynomial) → IsAt ls i b → IsReducedLift ls b c
+
+-- ---- one lift after another
+
+-- the lift at the place i stays, or is put in with its tail reduced by the list
+abbrev pub IsNextInTurn : List MarkedPolynomial → List Bool → ℕ → List MarkedPolynomial → Type 0
+IsNextInTurn ms flags i ns = ((ns ≡ ms) × HasUndividedTailAt ms flags i) ⊎ ((c : MarkedPolynomial) × IsReducedLiftAt ms i c × (ns ≡ set ms i c))
+
+-- so it was with each of the first i lifts of ls, one after another
+pub data AreTailsInTurn (ls : List MarkedPolynomial) (flags : List Bool) : ℕ → List MarkedPolynomial → Type 0 where
+  none : AreTailsInTurn ls flags 0 ls
+  more : (i : ℕ) (ms ns : List MarkedPolynomial) → AreTailsInTurn ls flags i ms → i < length ms → IsNextInTurn ms flags i ns →
+      AreTailsInTurn ls flags (i + 1) ns

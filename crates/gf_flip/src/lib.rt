@@ -10,6 +10,7 @@ mod limits;
 mod tails;
 mod tops;
 mod turns;
+mod weights;
 
 pub use flips::{FlipError, flip};
 

@@ -1,25 +1,24 @@
-//! Tails of lifts, reduced by one another. A lift whose tail no mark divides stays as it is, and nothing of it is copied; where
-//! it was copied from the set that is flipped, only the marks of lifts that weren't are tried.
+//! Tails of lifts, reduced in place, one lift after another. A lift whose tail no mark divides stays as it is, and nothing of
+//! it is copied; where it was copied from the set that is flipped, only the marks of lifts that weren't are tried. Of the
+//! others each time the heaviest term is reduced that a mark divides, which keeps the numbers small.
 
-ghost use Rattle.std.specs.Prelude.{◌≡◌, ◌+◌, ◌<◌, false, true, length, Contains, IfSome, IsTrue};
-ghost use Rattle.gf_exponents.specs.Exponents.{Divides};
+ghost use Rattle.std.specs.Prelude.{◌≡◌, ◌<◌, false, true, Some, length, Contains, IfNone, IfOk, IfErr, IfSome, IsTrue};
+ghost use Rattle.gf_exponents.specs.Exponents.{Divides, same};
 ghost use Rattle.gf_poly.specs.Marking.{HaveVariables};
 ghost use Rattle.gf_poly.specs.Polynomial.{HasVariables};
+ghost use Rattle.gf_ideal.specs.Membership.{HasMonomial};
+ghost use Rattle.gf_ideal.specs.Reduction.{IsDivisible};
 ghost use Rattle.gf_division.specs.NormalForms.{HasSomeWeight};
 ghost use Rattle.gf_division.specs.Autoreduction.{ShareSomeVariables};
-ghost use Rattle.gf_flip.specs.LiftTails.{AreUndivided, HasUndividedTailAt, AreChanges, ArePutIn, AreTailsOfLifts};
+ghost use Rattle.gf_division.specs.Reducers.{IsDivisorAt, AreIrreducible};
+ghost use Rattle.gf_division.specs.Steps.{StepsTo};
+ghost use Rattle.gf_flip.specs.LiftTails.{AreUndivided, HasUndividedTailAt, IsTailTerm, IsReducedLiftAt, IsNextInTurn, AreTailsInTurn};
 
 use crate::tops::Lifts;
-use gf_division::reduced_tail;
-use gf_poly::{Marked, Mono};
+use crate::weights::{heft_of, weight_of};
+use gf_division::{Dividend, divisor_of, place_of};
+use gf_poly::{Marked, Mono, Poly, PolyError, Term};
 use std::alloc::Global;
-
-/// A lift with its tail reduced, and the place of the lift.
-#[derive(Drop)]
-struct Change {
-    at: usize,
-    member: Marked,
-}
 
 // Whether the mark of a lift divides `x`; it isn't tried where both are of copied lifts.
 fn reduces(lift: &Marked, is_copy: bool, x: &Mono, of_copy: bool) -> bool
@@ -86,71 +85,172 @@ fn stays(lifts: &[Marked], copied: &[bool], at: usize) -> bool
     true
 }
 
-// Adds the change of the lift at a place, unless it stays.
-fn add_change(
-    alloc: Global,
+// Whether `y` is another monomial than the head.
+fn is_unmarked(head: &Mono, y: &Mono) -> bool
+    requires { length head.now ≡ length y.now }
+    ensures yes { IsTrue result → same y.now head.now ≡ false }
+    ensures no { result ≡ false → same y.now head.now ≡ false → ⊥ }
+{
+    head.exponents() != y.exponents()
+}
+
+// The lift that reduces a term at `y`, which isn't the marked one.
+fn divisor_beside(y: &Mono, lifts: &[Marked], head: &Mono) -> Option<usize>
+    requires members { HaveVariables (length y.now) lifts.now }
+    requires head { length head.now ≡ length y.now }
+    ensures found { IfSome result (IsDivisorAt lifts.now y.now) }
+    ensures beside { IfSome result (λ _. same y.now head.now ≡ false) }
+    ensures none { IfNone result (same y.now head.now ≡ false → IsDivisible (Contains lifts.now) y.now → ⊥) }
+{
+    match divisor_of(y, lifts) {
+        Some(j) if is_unmarked(head, y) => Some(j),
+        _ => None,
+    }
+}
+
+// The heaviest unmarked term, of those that aren't heavier than the bar, that a lift reduces; and the first such lift.
+fn heaviest(
+    f: &Poly,
     lifts: &[Marked],
-    copied: &[bool],
-    at: usize,
-    all: &mut Vec<Change>,
-) -> Option<()>
+    head: &Mono,
+    weight: &[i64],
+    bar: i64,
+) -> Option<(Mono, usize)>
+    requires members { HaveVariables (length head.now) lifts.now }
+    requires poly { HasVariables (length head.now) f.now }
+    ensures { IfSome result (λ p. IsTailTerm lifts.now head.now f.now p.0 p.1) }
+{
+    let terms = f.terms();
+    let mut most = i64::MIN;
+    let mut best = None;
+    'terms: for k in 0..terms.len() {
+        let t = &terms[k];
+        let heft = heft_of(weight, t.mono.exponents());
+        if most < heft
+            && heft <= bar
+            && let Some(j) = divisor_beside(&t.mono, lifts, head)
+        {
+            most = heft;
+            best = Some((t.mono.copy(), j));
+        }
+    }
+    best
+}
+
+// The heaviest such term that isn't heavier than the bar; where there is none, since the weight may be a wrong one, the
+// heaviest of all.
+fn next_term(
+    f: &Poly,
+    lifts: &[Marked],
+    head: &Mono,
+    weight: &[i64],
+    bar: i64,
+) -> Option<(Mono, usize)>
+    requires members { HaveVariables (length head.now) lifts.now }
+    requires poly { HasVariables (length head.now) f.now }
+    ensures { IfSome result (λ p. IsTailTerm lifts.now head.now f.now p.0 p.1) }
+{
+    if let Some(found) = heaviest(f, lifts, head, weight, bar) {
+        return Some(found);
+    }
+    heaviest(f, lifts, head, weight, i64::MAX)
+}
+
+// The polynomial after the step at its monomial `at` by a lift, whose mark divides it.
+fn stepped(alloc: Global, f: Poly, at: &Mono, by: &Marked) -> Result<Poly, PolyError>
+    requires variables { HasVariables (length at.now) f }
+    requires member { HasVariables (length at.now) by.now.poly }
+    requires there { HasMonomial f at.now }
+    requires divides { Divides by.now.head at.now }
+    ensures step { IfOk result (StepsTo f by.now at.now) }
+    ensures variables { IfOk result (HasVariables (length at.now)) }
+{
+    let mut rest = Dividend::new(alloc, f);
+    let _ = rest.descend(at)?;
+    let _ = rest.step(by)?;
+    Ok(rest.into_poly()?)
+}
+
+// Whether no mark divides an unmarked term.
+fn is_reduced(terms: &[Term], lifts: &[Marked], head: &Mono) -> bool
+    requires members { HaveVariables (length head.now) lifts.now }
+    requires terms { HasVariables (length head.now) terms.now }
+    ensures { IsTrue result → AreIrreducible lifts.now (Some head.now) terms.now }
+{
+    'terms: for k in 0..terms.len() {
+        let t = &terms[k];
+        if let Some(_) = divisor_beside(&t.mono, lifts, head) {
+            return false;
+        }
+    }
+    true
+}
+
+// The lift at a place with its tail reduced by all of them, the heaviest term first, if all numbers fit.
+fn reduced_lift(alloc: Global, lifts: &[Marked], at: usize, weight: &[i64]) -> Option<Marked>
     requires inside { at < length lifts.now }
     requires marked { HasSomeWeight lifts.now }
-    requires flags { length copied.now ≡ length lifts.now }
     requires variables { ShareSomeVariables lifts.now }
-    requires before { AreChanges lifts.now copied.now at all.old.items }
-    ensures { IfSome result (λ _. AreChanges lifts.now copied.now (at + 1) all.new.items) }
+    ensures { IfSome result (IsReducedLiftAt lifts.now at) }
 {
-    if stays(lifts, copied, at) {
-        return Some(());
-    }
-    let member = match reduced_tail(alloc, &lifts[at], lifts) {
-        Ok(member) => member,
+    let lift = &lifts[at];
+    let head = lift.head();
+    let mut rest = match lift.poly().copy() {
+        Ok(copy) => copy,
         Err(_) => return None,
     };
-    match all.push(Change { at, member }) {
-        Ok(()) => {}
-        Err(_) => return None,
+    let mut bar = i64::MAX;
+    'steps: while let Some((x, j)) = next_term(&rest, lifts, head, weight, bar) {
+        bar = heft_of(weight, x.exponents());
+        rest = match stepped(alloc, rest, &x, &lifts[j]) {
+            Ok(next) => next,
+            Err(_) => return None,
+        };
     }
+    if !is_reduced(rest.terms(), lifts, head) {
+        return None;
+    }
+    let place = place_of(rest.terms(), lift.head());
+    Some(Marked::mark(rest, place))
+}
+
+// Reduces the tail of the lift at a place, unless it stays. A weight is found where one is needed first.
+fn settle(
+    alloc: Global,
+    all: &mut Vec<Marked>,
+    copied: &[bool],
+    at: usize,
+    weight: &mut Vec<i64>,
+) -> Option<()>
+    requires inside { at < length all.old.items }
+    requires marked { HasSomeWeight all.old.items }
+    requires flags { length copied.now ≡ length all.old.items }
+    requires variables { ShareSomeVariables all.old.items }
+    ensures { IfSome result (λ _. IsNextInTurn all.old.items copied.now at all.new.items) }
+{
+    if stays(all, copied, at) {
+        return Some(());
+    }
+    if weight.is_empty() {
+        *weight = weight_of(alloc, all)?;
+    }
+    let member = reduced_lift(alloc, all, at, weight)?;
+    all[at] = member;
     Some(())
 }
 
-// The lifts that don't stay, with their tails reduced.
-fn changes(alloc: Global, lifts: &[Marked], copied: &[bool]) -> Option<Vec<Change>>
-    requires marked { HasSomeWeight lifts.now }
-    requires flags { length copied.now ≡ length lifts.now }
-    requires variables { ShareSomeVariables lifts.now }
-    ensures { IfSome result (λ cs. AreChanges lifts.now copied.now (length lifts.now) cs.items) }
-{
-    let mut all = Vec::new(alloc);
-    'lifts: for at in 0..lifts.len() {
-        add_change(alloc, lifts, copied, at, &mut all)?;
-    }
-    Some(all)
-}
-
-// The lifts with the changes put in.
-fn put_in(lifts: Vec<Marked>, changes: Vec<Change>) -> Vec<Marked>
-    requires { (c : Change) → Contains changes.items c → c.at < length lifts.items }
-    ensures { ArePutIn lifts.items changes.items result.items }
-{
-    let mut all = lifts;
-    let mut rest = changes;
-    'changes: while let Some(change) = rest.pop() {
-        let Change { at, member } = change;
-        all[at] = member;
-    }
-    all
-}
-
-/// The lifts with their tails reduced by one another, in their order, if all numbers fit.
+/// The lifts with their tails reduced, one after another by the lifts as they are then, in their order, if all numbers fit.
 pub fn reduced_tails(alloc: Global, lifts: Lifts) -> Option<Vec<Marked>>
     requires marked { HasSomeWeight lifts.members.items }
     requires flags { length lifts.copied.items ≡ length lifts.members.items }
     requires variables { ShareSomeVariables lifts.members.items }
-    ensures { IfSome result (λ cs. AreTailsOfLifts lifts.members.items lifts.copied.items cs.items) }
+    ensures { IfSome result (λ cs. AreTailsInTurn lifts.members.items lifts.copied.items (length lifts.members.items) cs.items) }
 {
     let Lifts { members, copied } = lifts;
-    let changed = changes(alloc, members.as_slice(), copied.as_slice())?;
-    Some(put_in(members, changed))
+    let mut all = members;
+    let mut weight = Vec::new(alloc);
+    'lifts: for at in 0..all.len() {
+        settle(alloc, &mut all, &copied, at, &mut weight)?;
+    }
+    Some(all)
 }

@@ -1,12 +1,13 @@
 //! Lifts that end once nothing is left along the normal: members of the basis of the parts, less what steps lead to.
 
-ghost use Rattle.std.specs.Prelude.{◌≡◌, ◌≢◌, ◌<◌, ◌++◌, ◌∷◌, ℤ, pos, false, [], length, get_or, Contains, IfOk, IfSome, IsTrue, OnOk};
+ghost use Rattle.std.specs.Prelude.{◌≡◌, ◌≢◌, ◌<◌, ◌++◌, ◌∷◌, ℤ, pos, false, None, [], length, get_or, Contains, IfSome, IsTrue};
 ghost use Rattle.gf_frac.specs.Fraction.{one_ℚ};
 ghost use Rattle.gf_poly.specs.Marking.{HaveVariables};
 ghost use Rattle.gf_poly.specs.Polynomial.{coefficient, HasVariables, IsDescending, KeepsVariables};
 ghost use Rattle.gf_ideal.specs.Marks.{HasPositiveWeight};
 ghost use Rattle.gf_division.specs.NormalForms.{HasSomeWeight};
 ghost use Rattle.gf_division.specs.Dividends.{split_of, joined_terms, IsSound};
+ghost use Rattle.gf_division.specs.Reducers.{IsDivisorAt, IsSought};
 ghost use Rattle.gf_initial.specs.Lifts.{IsTopLift, AreTopLifts};
 ghost use Rattle.gf_order.specs.Weights.{AreBounded};
 ghost use Rattle.gf_flip.specs.Along.{HasNonzero};
@@ -17,8 +18,8 @@ ghost use Rattle.gf_flip.specs.LiftTails.{IsCopy, AreCopies};
 
 use crate::along::{is_apart, pivot_of};
 use gf_division::{Dividend, divisor_of, place_of};
-use gf_poly::{Marked, Mono, Poly};
-use std::alloc::{AllocError, Global};
+use gf_poly::{Marked, Mono, Poly, Term};
+use std::alloc::Global;
 use std::cmp::Ordering;
 
 /// Lifts, and of each whether it is copied from the set.
@@ -28,34 +29,80 @@ pub struct Lifts {
     pub copied: Vec<bool>,
 }
 
-// Moves the place down to the first term that is a multiple of the normal apart from `x`; whether there is one.
-fn seek_line(
-    rest: &mut Dividend,
+// The member that reduces a term at `y`, if that is a multiple of the normal apart from `x`.
+fn reducer_on_line(
+    y: &Mono,
+    by: &[Marked],
     x: &Mono,
     normal: &[i128],
     pivot: usize,
-) -> Result<bool, AllocError>
+) -> Option<usize>
+    requires members { HaveVariables (length normal.now) by.now }
+    requires same_length { length y.now ≡ length normal.now }
+    requires same_variables { length x.now ≡ length normal.now }
+    requires bounded { AreBounded normal.now }
+    requires inside { pivot < length normal.now }
+    requires nonzero { get_or normal.now pivot (pos 0) ≢ pos 0 }
+    ensures { IfSome result (IsDivisorAt by.now y.now) }
+{
+    if !is_apart(y.exponents(), x.exponents(), normal, pivot) {
+        return None;
+    }
+    divisor_of(y, by)
+}
+
+// Moves the place down to the first term that is a multiple of the normal apart from `x` and that a member reduces; the
+// place of that member, if there is such a term.
+fn seek_line(
+    rest: &mut Dividend,
+    by: &[Marked],
+    x: &Mono,
+    normal: &[i128],
+    pivot: usize,
+) -> Option<Option<usize>>
     requires sound { IsSound (length normal.now) (split_of rest.old) }
+    requires members { HaveVariables (length normal.now) by.now }
     requires variables { length x.now ≡ length normal.now }
     requires bounded { AreBounded normal.now }
     requires inside { pivot < length normal.now }
     requires nonzero { get_or normal.now pivot (pos 0) ≢ pos 0 }
-    requires above { AreOff normal.now x.now (split_of rest.old).above }
-    ensures same { OnOk result (joined_terms (split_of rest.new) ≡ joined_terms (split_of rest.old)) }
-    ensures above { OnOk result (AreOff normal.now x.now (split_of rest.new).above) }
-    ensures end { IfOk result (λ b. b ≡ false → (split_of rest.new).below ≡ []) }
+    ensures same { IfSome result (λ _. joined_terms (split_of rest.new) ≡ joined_terms (split_of rest.old)) }
+    ensures found { IfSome result (IsSought by.now None (split_of rest.new)) }
 {
     'terms: while let Some(t) = rest.next() {
-        if is_apart(t.mono.exponents(), x.exponents(), normal, pivot) {
-            return Ok(true);
+        // Its exponents are within the limit: the accessor says so.
+        let _ = t.mono.exponents();
+        if let Some(j) = reducer_on_line(&t.mono, by, x, normal, pivot) {
+            return Some(Some(j));
         }
-        rest.advance()?;
+        match rest.advance() {
+            Ok(()) => {}
+            Err(_) => return None,
+        }
     }
-    Ok(false)
+    Some(None)
 }
 
-// What steps by the members lead to once no term is a multiple of the normal apart from `x`, if such a term is always one
-// that a member reduces.
+// Whether no term is a multiple of the normal apart from `x`.
+fn is_off(terms: &[Term], x: &Mono, normal: &[i128], pivot: usize) -> bool
+    requires terms { HasVariables (length normal.now) terms.now }
+    requires variables { length x.now ≡ length normal.now }
+    requires bounded { AreBounded normal.now }
+    requires inside { pivot < length normal.now }
+    requires nonzero { get_or normal.now pivot (pos 0) ≢ pos 0 }
+    ensures { IsTrue result → AreOff normal.now x.now terms.now }
+{
+    'terms: for i in 0..terms.len() {
+        let t = &terms[i];
+        if is_apart(t.mono.exponents(), x.exponents(), normal, pivot) {
+            return false;
+        }
+    }
+    true
+}
+
+// What steps by the members lead to, each at a term that is a multiple of the normal apart from `x`, once no member reduces
+// such a term; if none is left.
 fn top_remainder(
     alloc: Global,
     f: Poly,
@@ -74,30 +121,21 @@ fn top_remainder(
     ensures { IfSome result (IsTopRemainder by.now normal.now x.now f) }
 {
     let mut rest = Dividend::new(alloc, f);
-    'steps: loop {
-        match seek_line(&mut rest, x, normal, pivot) {
-            Ok(true) => {}
-            Ok(false) => break,
-            Err(_) => return None,
-        }
-        let j = match rest.next() {
-            Some(t) => {
-                // Its exponents are within the limit: the accessor says so.
-                let _ = t.mono.exponents();
-                divisor_of(&t.mono, by)?
-            }
-            None => return None,
-        };
+    'steps: while let Some(j) = seek_line(&mut rest, by, x, normal, pivot)? {
         let member = &by[j];
         match rest.step(member) {
             Ok(_) => {}
             Err(_) => return None,
         }
     }
-    match rest.into_poly() {
-        Ok(left) => Some(left),
-        Err(_) => None,
+    let left = match rest.into_poly() {
+        Ok(left) => left,
+        Err(_) => return None,
+    };
+    if !is_off(left.terms(), x, normal, pivot) {
+        return None;
     }
+    Some(left)
 }
 
 // A member less what steps by the set lead to, marked as it is.

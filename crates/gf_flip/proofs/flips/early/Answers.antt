@@ -31,11 +31,11 @@ pub reduced_tails-requires-clause-variables : goal.reduced_tails-requires-clause
 reduced_tails-requires-clause-variables c = record { n = length c.as_slice.result.now; each = c.in_ok-lifted.ensures.variables }
 
 pub new-all-requires : goal.new-all-requires
-new-all-requires c = ended_variables c.args.set.now.variables c.variables.result c.args.set.now.items c.args.normal.now c.args.below.now c.in_ok-lifted.lifted.members.items c.in_ok-members.members.items c.variables.ensures
+new-all-requires c = ended_variables c.args.set.now.variables c.variables.result c.args.set.now.items c.args.normal.now c.args.below.now c.in_ok-members.members.items c.variables.ensures
     (ending_at c.args.set.now.variables c.args.set.now.items c.items.result.now c.args.normal.now c.as_slice.result.now c.args.below.now c.in_ok-lifted.lifted.members.items c.in_ok-lifted.lifted.copied.items c.in_ok-members.members.items c.requires.crossing c.requires.parts c.items.ensures.value c.as_slice.ensures.value c.in_ok-lifted.ensures.value c.in_ok-lifted.ensures.variables c.in_ok-lifted.ensures.copied c.in_ok-members.ensures)
 
 pub returns-in-Ok-clause-value : goal.returns-in-Ok-clause-value
-returns-in-Ok-clause-value c = ended_neighbour c.args.set.now.variables c.variables.result c.args.set.now.items c.args.normal.now c.args.below.now c.in_ok-lifted.lifted.members.items c.in_ok-members.members.items c.new-all.result c.in-Ok.across c.requires.crossing c.requires.parts c.variables.ensures
+returns-in-Ok-clause-value c = ended_neighbour c.args.set.now.variables c.variables.result c.args.set.now.items c.args.normal.now c.args.below.now c.in_ok-members.members.items c.new-all.result c.in-Ok.across c.requires.crossing c.requires.parts c.variables.ensures
     (ending_at c.args.set.now.variables c.args.set.now.items c.items.result.now c.args.normal.now c.as_slice.result.now c.args.below.now c.in_ok-lifted.lifted.members.items c.in_ok-lifted.lifted.copied.items c.in_ok-members.members.items c.requires.crossing c.requires.parts c.items.ensures.value c.as_slice.ensures.value c.in_ok-lifted.ensures.value c.in_ok-lifted.ensures.variables c.in_ok-lifted.ensures.copied c.in_ok-members.ensures)
     c.new-all.ensures c.in-Ok.ensures
 

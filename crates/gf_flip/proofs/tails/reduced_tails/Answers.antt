@@ -1,10 +1,29 @@
-use Rattle.std.proofs.Common.{sym, subst}
-use Rattle.gf_division.specs.NormalForms.{HasSomeWeight}
-use Rattle.gf_flip.proofs.LiftTailLaws.{tails_given}
+use Rattle.std.specs.Prelude.{List, Bool}
+use Rattle.std.proofs.Common.{arith, sym, ap, ◌∙◌, subst, length, ℕ}
+use Rattle.gf_flip.specs.LiftTails.{IsNextInTurn, AreTailsInTurn}
+use Rattle.gf_flip.proofs.TailsInTurn.{turned-length, turned_weight, turned_variables}
 use Rattle.gf_flip.proofs.tails.reduced_tails.Goals as goal
 
-pub changes-requires-clause-marked : goal.changes-requires-clause-marked
-changes-requires-clause-marked c = subst HasSomeWeight (sym c.as_slice.ensures.value) c.requires.marked
+pub lifts-init : goal.lifts-init
+lifts-init c = AreTailsInTurn.none
+
+pub settle-requires-clause-inside : goal.settle-requires-clause-inside
+settle-requires-clause-inside c = omega (arith, c.lifts-test.true, c.len-at-end.ensures, c.args.lifts.members.ok.0, turned-length c.args.lifts.members.items c.args.lifts.copied.items c.lifts.at c.lifts.all.items c.lifts.invariant)
+
+pub settle-requires-clause-marked : goal.settle-requires-clause-marked
+settle-requires-clause-marked c = turned_weight c.args.lifts.members.items c.args.lifts.copied.items c.lifts.at c.lifts.all.items c.lifts.invariant c.requires.marked
+
+pub settle-requires-clause-flags : goal.settle-requires-clause-flags
+settle-requires-clause-flags c = ap (λ (z : List Bool). length z) c.deref.ensures.value ∙ c.requires.flags ∙ sym (turned-length c.args.lifts.members.items c.args.lifts.copied.items c.lifts.at c.lifts.all.items c.lifts.invariant)
+
+pub settle-requires-clause-variables : goal.settle-requires-clause-variables
+settle-requires-clause-variables c = record { n = c.requires.variables.n; each = turned_variables c.requires.variables.n c.args.lifts.members.items c.args.lifts.copied.items c.lifts.at c.lifts.all.items c.lifts.invariant c.requires.variables.each }
+
+pub lifts-preserved : goal.lifts-preserved
+lifts-preserved c = AreTailsInTurn.more c.lifts.at c.lifts.all.items c.settle.new.all.items c.lifts.invariant
+    (omega (arith, c.lifts-test.true, c.len-at-end.ensures, c.args.lifts.members.ok.0, turned-length c.args.lifts.members.items c.args.lifts.copied.items c.lifts.at c.lifts.all.items c.lifts.invariant))
+    (subst (λ (z : List Bool). IsNextInTurn c.lifts.all.items z c.lifts.at c.settle.new.all.items) c.deref.ensures.value c.in_ok-settle.ensures)
 
 pub returns : goal.returns
-returns c = tails_given c.args.lifts.members.items c.as_slice.result.now c.args.lifts.copied.items c.as_slice-2.result.now c.in_ok-changed.changed.items c.put_in.result.items c.as_slice.ensures.value c.as_slice-2.ensures.value c.in_ok-changed.ensures c.put_in.ensures
+returns c = subst (λ (k : ℕ). AreTailsInTurn c.args.lifts.members.items c.args.lifts.copied.items k c.lifts.all.items)
+    (omega (arith, c.lifts-test.false, c.lifts.auto.at-end, c.len-at-end.ensures, c.args.lifts.members.ok.0)) c.lifts.invariant

@@ -6,7 +6,7 @@ use Rattle.gf_flip.proofs.TopLaws.{Topping}
 use Rattle.gf_flip.proofs.tops.top_remainder.Given as goal
 
 abbrev pub invariant-steps : goal.invariant-steps
-invariant-steps l = Topping (length l.normal) l.by l.normal l.x l.fn.f (split_of l.rest)
+invariant-steps l = Topping (length l.normal) l.by l.fn.f (split_of l.rest)
 
 abbrev pub decreases-steps : goal.decreases-steps
 decreases-steps l = work_left (2 ^ 31) ROOM l.by (joined_terms (split_of l.rest))

@@ -1,0 +1,29 @@
+use Rattle.std.proofs.Common.{refl}
+use Rattle.gf_division.specs.Dividends.{split_of}
+use Rattle.gf_division.proofs.PlaceLaws.{placed, placed_shares, placed_divides, placed_step, placed_variables, placed_descends}
+use Rattle.gf_flip.proofs.tails.stepped.Goals as goal
+
+pub step-requires-clause-variables : goal.step-requires-clause-variables
+step-requires-clause-variables c =
+    let k = placed c.args.f c.args.f c.args.at.now (split_of c.new-rest.result) (split_of c.descend.new.self) c.in_ok-descend.field-0 refl c.new-rest.ensures.value c.new-rest.ensures.descending c.requires.variables c.requires.there c.in_ok-descend.ensures in
+    placed_shares c.args.f c.args.at.now (split_of c.descend.new.self) c.args.by.now k c.requires.member
+
+pub step-requires-clause-divides : goal.step-requires-clause-divides
+step-requires-clause-divides c =
+    let k = placed c.args.f c.args.f c.args.at.now (split_of c.new-rest.result) (split_of c.descend.new.self) c.in_ok-descend.field-0 refl c.new-rest.ensures.value c.new-rest.ensures.descending c.requires.variables c.requires.there c.in_ok-descend.ensures in
+    placed_divides c.args.f c.args.at.now (split_of c.descend.new.self) c.args.by.now.head k c.requires.divides
+
+pub into_poly-requires : goal.into_poly-requires
+into_poly-requires c =
+    let k = placed c.args.f c.args.f c.args.at.now (split_of c.new-rest.result) (split_of c.descend.new.self) c.in_ok-descend.field-0 refl c.new-rest.ensures.value c.new-rest.ensures.descending c.requires.variables c.requires.there c.in_ok-descend.ensures in
+    placed_descends c.args.f c.args.at.now (split_of c.descend.new.self) (split_of c.step.new.self) c.args.by.now c.in_ok-step.field-0 k c.in_ok-step.ensures.step
+
+pub returns-clause-step : goal.returns-clause-step
+returns-clause-step c =
+    let k = placed c.args.f c.args.f c.args.at.now (split_of c.new-rest.result) (split_of c.descend.new.self) c.in_ok-descend.field-0 refl c.new-rest.ensures.value c.new-rest.ensures.descending c.requires.variables c.requires.there c.in_ok-descend.ensures in
+    placed_step c.args.f c.args.at.now (split_of c.descend.new.self) (split_of c.step.new.self) c.args.by.now c.in_ok-step.field-0 c.in_ok-into_poly.field-0 k c.in_ok-step.ensures.step c.in_ok-into_poly.ensures
+
+pub returns-clause-variables : goal.returns-clause-variables
+returns-clause-variables c =
+    let k = placed c.args.f c.args.f c.args.at.now (split_of c.new-rest.result) (split_of c.descend.new.self) c.in_ok-descend.field-0 refl c.new-rest.ensures.value c.new-rest.ensures.descending c.requires.variables c.requires.there c.in_ok-descend.ensures in
+    placed_variables c.args.f c.args.at.now (split_of c.descend.new.self) (split_of c.step.new.self) c.args.by.now c.in_ok-step.field-0 c.in_ok-into_poly.field-0 k c.in_ok-step.ensures.step c.in_ok-into_poly.ensures
