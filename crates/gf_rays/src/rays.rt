@@ -3,7 +3,8 @@ ghost use Rattle.std.specs.Prelude.{◌≡◌, ◌+◌, ◌≤◌, ◌<◌, ◌�
 ghost use Rattle.gf_vec.specs.Vector.{zeros};
 ghost use Rattle.gf_vec.specs.Steps.{NoneWide, IsFirstWide, IfWide};
 ghost use Rattle.gf_duality.specs.Faces.{AreFacetRows, IsInterior, sum_of};
-ghost use Rattle.gf_rays.specs.Cones.{rows_of};
+ghost use Rattle.gf_rays.specs.Cones.{AreRaysWithinLimits, rows_of};
+ghost use Rattle.gf_gordan.specs.declared.error.GordanError.TheVariants.{Memory};
 ghost use Rattle.gf_rays.specs.Sums.{adding_steps};
 ghost use Rattle.gf_gordan.specs.Alternative.{AreRows};
 ghost use Rattle.gf_gordan.specs.Steps.{Failed};
@@ -45,11 +46,35 @@ impl Model for Rays {
 }
 
 impl Rays {
-    /// The rays of the cone of these inequalities and equations in `n` variables.
+    /// The rays of the cone of all vectors of `n` entries on which no inequality is negative and each equation is zero, by
+    /// the double description (Motzkin, Raiffa, Thompson, Thrall, *The double description method*).
+    ///
+    /// The lineality basis is an echelon basis: pivots rise, each is positive and alone in its column, each vector is
+    /// primitive. The rays are primitive, orthogonal to the lineality space, and ascend by the first entry that differs.
     ///
     /// # Errors
-    /// A step of this system that leaves the range; want of memory.
+    /// `Cone`: an operation of the double description of these rows whose outcome leaves the range from `-(2^127 - 1)` to
+    /// `2^127 - 1`, with the row it belongs to: inequalities count from 0, then the equations, and an operation at no row has
+    /// their number. `Memory`: want of memory.
     pub fn of(
+        alloc: Global,
+        n: u32,
+        inequalities: &[IntVec],
+        equations: &[IntVec],
+    ) -> Result<Rays, GordanError>
+        requires inequalities { AreRows n inequalities.now }
+        requires equations { AreRows n equations.now }
+        ensures rows { IfOk result (λ c. (c.ambient ≡ n) × (c.inequalities ≡ inequalities.now) × (c.equations ≡ equations.now)) }
+        ensures rays { IfOk result (λ c. IsRays n inequalities.now equations.now c.lineality c.rays) }
+        ensures implied { IfOk result (λ c. IsImplied n inequalities.now equations.now c.implied) }
+        ensures err { IfErr result (Failed (IsRaysStep n inequalities.now equations.now)) }
+        ensures complete { AreRaysWithinLimits n inequalities.now equations.now → IfErr result (λ e. e ≡ Memory) }
+    {
+        Rays::worked_out(alloc, n, inequalities, equations)
+    }
+
+    /// The rays of this cone.
+    fn worked_out(
         alloc: Global,
         n: u32,
         inequalities: &[IntVec],
@@ -152,10 +177,11 @@ impl Rays {
         )
     }
 
-    /// The sum of the rays, which is in the interior of the cone.
+    /// The sum of the rays, which is in the interior of the cone: each inequality is positive there or zero on the whole cone.
     ///
     /// # Errors
-    /// The first partial sum that leaves the range; want of memory.
+    /// `Wide`: the first sum of an entry of a partial sum and one of the next ray, from the left, that leaves the range from
+    /// `-(2^127 - 1)` to `2^127 - 1`. `Memory`: want of memory.
     pub fn interior(&self) -> Result<IntVec, VecError>
         ensures value { IfOk result (λ v. v ≡ sum_of self.now.ambient self.now.rays) }
         ensures interior { IfOk result (IsInterior self.now.ambient (rows_of self.now)) }
