@@ -1,4 +1,4 @@
-use Rattle.std.proofs.Common.{◌≡◌, ◌∙◌, ap, sym, subst, List, ℤ, pos, ◌≤ℤ◌, ◌<ℤ◌, ◌+◌, length, arith, rules, FitsSigned, Bool, ◌++◌, ◌∷◌, [], take, get_or, Contains, neg_ℤ, true}
+use Rattle.std.proofs.Common.{◌≡◌, ◌∙◌, ap, sym, subst, List, ℤ, pos, ◌≤ℤ◌, ◌<ℤ◌, length, arith, rules, FitsSigned, ◌++◌, ◌∷◌, [], take, get_or, Contains, neg_ℤ, true}
 use Rattle.std.specs.Int.{w128}
 use Rattle.std.proofs.lemmas.Int.{to_z-of_z}
 use Rattle.std.proofs.lemmas.List.{take_all}
@@ -13,7 +13,7 @@ use Rattle.gf_rays.specs.Flags.{common}
 use Rattle.gf_rays.specs.MarkedRays.{IsCovered}
 use Rattle.gf_rays.specs.Splitting.{testing, pairing}
 use Rattle.gf_gordan.proofs.SystemLaws.{Failed-weaker}
-use Rattle.gf_rays.proofs.SplitLoops.{value_of, values_long, shared_long, pair_flagged, paired_passed, paired_covered, paired_more}
+use Rattle.gf_rays.proofs.SplitLoops.{value_of, values_long, pair_flagged, paired_passed, paired_covered, paired_more}
 use Rattle.gf_rays.proofs.split.pairs_of.Goals as goal
 use Rattle.gf_rays.proofs.split.pairs_of.Goals.{then-v-lt0+then-not-is_covered+in_ok-zero+in_ok-vector+in_ok-push, then-v-lt0+else-not-is_covered, else-v-lt0}
 

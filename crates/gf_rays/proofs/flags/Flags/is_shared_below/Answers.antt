@@ -1,4 +1,4 @@
-use Rattle.std.proofs.Common.{◌≡◌, ℕ, ◌<◌, ◌≤◌, ◌+◌, ◌/◌, ◌++◌, ◌∷◌, [], List, Bool, sym, subst, ap, ◌∙◌, arith, rules, length, true, false}
+use Rattle.std.proofs.Common.{◌≡◌, ℕ, ◌≤◌, ◌+◌, ◌/◌, ◌++◌, ◌∷◌, [], List, Bool, sym, subst, ap, ◌∙◌, arith, rules, length, true}
 use Prim.Native.Nat.{min}
 use Rattle.gf_rays.specs.Flags.{IsBelow, common, flag_at, flags_of, bit_of}
 use Rattle.gf_rays.proofs.FlagLaws.{flags_long, same_count, same_words, shared_last, shared_to, shared_from}
