@@ -73,14 +73,18 @@ pub record IsFirstPastLimit (d : ℕ) (f : Terms) (o : ExponentOverflow) : Type 
   pub before : ExponentsFit d earlier
   pub past : IsPastLimit (new_exponent d term.mono) o
 
+abbrev pub IsPastLimitIn : Written → ExponentOverflow → Type 0
+IsPastLimitIn written.Zero o = ⊥
+IsPastLimitIn (written.Nonzero b) o = IsFirstPastLimit (total_degree b.poly) b.poly o
+
 -- and of the first polynomial with such a term
 pub record IsFirstOverflow (fs : List Written) (o : ExponentOverflow) : Type 0 where
   pub earlier : List Written
-  pub polynomial : MarkedPolynomial
+  pub polynomial : Written
   pub later : List Written
-  pub split : fs ≡ earlier ++ written.Nonzero polynomial ∷ later
+  pub split : fs ≡ earlier ++ polynomial ∷ later
   pub before : All IsWithinLimit earlier
-  pub term : IsFirstPastLimit (total_degree polynomial.poly) polynomial.poly o
+  pub past : IsPastLimitIn polynomial o
 
 -- why polynomials in n variables aren't homogenised: there would be more than 16 variables; or there is room, and a new
 -- exponent passes the limit; or there is no memory

@@ -6,8 +6,9 @@ ghost use Rattle.gf_poly.specs.Collecting.{like};
 ghost use Rattle.gf_text.specs.RingText.{is_name, has};
 ghost use Rattle.gf_text.specs.Sets.{IsIn, AreIn};
 ghost use Rattle.gf_small.specs.Degrees.{total_degree as degree_of};
-ghost use Rattle.gf_small.specs.Homogenization.{new_exponent as exponent_of, filled_term as term_of, ExponentsFit, IsWithinLimit, IsPastLimit, IsFirstPastLimit, IsFirstOverflow, IsMarkedHomogenization, IsWrittenHomogenization, AreHomogenizations, IsHomogenizeCause, HasExponent};
+ghost use Rattle.gf_small.specs.Homogenization.{new_exponent as exponent_of, filled_term as term_of, ExponentsFit, IsWithinLimit, IsPastLimit, IsFirstPastLimit, IsPastLimitIn, IsFirstOverflow, IsMarkedHomogenization, IsWrittenHomogenization, AreHomogenizations, IsHomogenizeCause, HasExponent};
 
+use crate::degrees::total_degree;
 use gf_division::place_of;
 use gf_poly::{ExponentOverflow, Marked, Mono, Poly, PolyError, ROOM, Term};
 use gf_text::{Ring, Written};
@@ -62,17 +63,6 @@ impl<T: Drop> From<AllocFailed<T>> for HomogenizeError {
     fn from(_: AllocFailed<T>) -> HomogenizeError {
         HomogenizeError::Memory
     }
-}
-
-/// The total degree of a polynomial: that of its deglex greatest term.
-fn total_degree(terms: &[Term]) -> u64
-    requires { IsDescending terms.now }
-    ensures { result ≡ degree_of terms.now }
-{
-    if terms.is_empty() {
-        return 0;
-    }
-    terms[0].mono.degree()
 }
 
 /// What the degree of a monomial is less than `d`.
@@ -147,8 +137,9 @@ fn sum_of(terms: Vec<Term>) -> Result<Poly, AllocError>
 {
     match Poly::from_terms(terms) {
         Ok(poly) => Ok(poly),
+        Err(PolyError::Overflow(_)) => unreachable!(),
+        Err(PolyError::Exponent(_)) => unreachable!(),
         Err(PolyError::Memory) => Err(AllocError),
-        Err(_) => unreachable!(),
     }
 }
 
@@ -172,7 +163,7 @@ fn written_homogenization(alloc: Global, f: &Written) -> Result<Written, Homogen
     requires { (n : ℕ) × ((n < ROOM) × IsIn n f.now) }
     ensures value { IfOk result (IsWrittenHomogenization f.now) }
     ensures fits { IfOk result (λ _. IsWithinLimit f.now) }
-    ensures cause { IfErr result (HasExponent (IsFirstOverflow (f.now ∷ []))) }
+    ensures cause { IfErr result (HasExponent (IsPastLimitIn f.now)) }
 {
     match f {
         Written::Zero => Ok(Written::Zero),

@@ -2,6 +2,7 @@
 //! What each gives is said in `specs/`, a topic a file.
 #![tactic(auto)]
 
+mod degrees;
 mod homogenization;
 mod initial;
 mod leading;

@@ -1,12 +1,21 @@
 //! The union of sets of polynomials.
-ghost use Rattle.std.specs.Prelude.{◌≡◌, ◌↔◌, ◌++◌, ℕ, List, IfOk, OnOk, IsTrue, true, false};
+ghost use Rattle.std.specs.Prelude.{◌≡◌, ◌↔◌, ◌++◌, [], ℕ, List, IfOk, OnOk, IsTrue, true, false};
+ghost use Rattle.gf_poly.specs.Polynomial.{SamePolynomial, IsDescending, HasVariables};
+ghost use Rattle.gf_text.specs.declared.written.Written.{Written as AnyWritten};
 ghost use Rattle.gf_text.specs.Sets.{IsIn, AreIn};
 ghost use Rattle.gf_text.specs.SetLists.{sets_in, AreAllIn};
-ghost use Rattle.gf_small.specs.Unions.{AreEqual, IsAmong, IsNew, AreFirstSeen, IsUnion, HaveOneLength};
+ghost use Rattle.gf_small.specs.Unions.{terms_of, AreEqual, IsAmong, IsNew, AreFirstSeen, IsUnion, HaveOneLength};
 
 use gf_poly::Term;
 use gf_text::Written;
 use std::alloc::{AllocError, Global};
+
+/// Whether the two terms are the same.
+fn is_same(s: &Term, t: &Term) -> bool
+    ensures { IsTrue result ↔ (s.now ≡ t.now) }
+{
+    s.coef == t.coef && s.mono.exponents() == t.mono.exponents()
+}
 
 /// Whether these are the same terms in the same order.
 fn are_same(f: &[Term], g: &[Term]) -> bool
@@ -16,11 +25,34 @@ fn are_same(f: &[Term], g: &[Term]) -> bool
         return false;
     }
     'terms: for i in 0..f.len() {
-        if f[i].coef != g[i].coef || f[i].mono.exponents() != g[i].mono.exponents() {
+        if !is_same(&f[i], &g[i]) {
             return false;
         }
     }
     true
+}
+
+/// Whether the polynomial has these terms, which descend.
+fn has_terms(v: &Written, f: &[Term]) -> bool
+    requires variables { (n : ℕ) × (IsIn n v.now × HasVariables n f.now) }
+    requires descending { IsDescending f.now }
+    ensures { IsTrue result ↔ SamePolynomial (terms_of v.now) f.now }
+{
+    match v {
+        Written::Zero => f.is_empty(),
+        Written::Nonzero(b) => are_same(b.poly().terms(), f),
+    }
+}
+
+/// Whether the polynomial is zero.
+fn is_zero(v: &Written) -> bool
+    requires { (n : ℕ) × IsIn n v.now }
+    ensures { IsTrue result ↔ SamePolynomial (terms_of v.now) [] }
+{
+    match v {
+        Written::Zero => true,
+        Written::Nonzero(b) => b.poly().terms().is_empty(),
+    }
 }
 
 /// Whether the two are equal as polynomials, wherever they are marked.
@@ -28,10 +60,9 @@ fn are_equal(v: &Written, w: &Written) -> bool
     requires { (n : ℕ) × (IsIn n v.now × IsIn n w.now) }
     ensures { IsTrue result ↔ AreEqual v.now w.now }
 {
-    match (v, w) {
-        (Written::Zero, Written::Zero) => true,
-        (Written::Nonzero(b), Written::Nonzero(c)) => are_same(b.poly().terms(), c.poly().terms()),
-        _ => false,
+    match w {
+        Written::Zero => is_zero(v),
+        Written::Nonzero(b) => has_terms(v, b.poly().terms()),
     }
 }
 
@@ -65,7 +96,7 @@ fn copied(w: &Written) -> Result<Written, AllocError>
 /// Adds each polynomial of a set that isn't among those that are kept already.
 fn add_new(kept: &mut Vec<Written>, set: &[Written]) -> Result<(), AllocError>
     requires { (n : ℕ) × (AreIn n kept.old.items × AreIn n set.now) }
-    ensures first_seen { OnOk result ((fs : List Written) → AreFirstSeen fs kept.old.items → AreFirstSeen (fs ++ set.now) kept.new.items) }
+    ensures first_seen { OnOk result ((fs : List AnyWritten) → AreFirstSeen fs kept.old.items → AreFirstSeen (fs ++ set.now) kept.new.items) }
     ensures variables { OnOk result ((n : ℕ) → AreIn n kept.old.items → AreIn n set.now → AreIn n kept.new.items) }
 {
     'polynomials: for i in 0..set.len() {
