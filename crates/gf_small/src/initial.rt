@@ -22,7 +22,8 @@ fn place_or_first(terms: &[Term], x: &Mono) -> usize
     ensures elsewhere { coefficient terms.now x.now ≡ zero_ℚ → head_of terms.now result ≡ head_of terms.now 0 }
 {
     'terms: for i in 0..terms.len() {
-        if let Ordering::Equal = terms[i].mono.compare(x) {
+        let t = &terms[i];
+        if let Ordering::Equal = t.mono.compare(x) {
             return i;
         }
     }

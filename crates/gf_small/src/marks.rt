@@ -27,17 +27,17 @@ fn is_above(weight: i128, x: &[u32], other: i128, y: &[u32]) -> bool
     }
 }
 
-/// The place of the greatest term by the weight.
-fn greatest_place(terms: &[Term], weight: &[i128]) -> usize
-    requires some { 0 < length terms.now }
+/// The place of the greatest term by the weight, looked for from one of the places on.
+fn greatest_place(terms: &[Term], from: usize, weight: &[i128]) -> usize
+    requires inside { from < length terms.now }
     requires bounded { All (λ w. unsigned_abs w ≤ 2 ^ 63) weight.now }
     requires same_variables { HasVariables (length weight.now) terms.now }
     ensures inside { result < length terms.now }
     ensures others { (t : AnyTerm) → Contains terms.now t → (t.mono ≡ head_of terms.now result) ⊎ IsBelowBy weight.now t.mono (head_of terms.now result) }
 {
-    let mut place = 0;
-    let mut greatest = weight_of(weight, terms[0].mono.exponents());
-    'terms: for i in 1..terms.len() {
+    let mut place = from;
+    let mut greatest = weight_of(weight, terms[from].mono.exponents());
+    'terms: for i in 0..terms.len() {
         let x = terms[i].mono.exponents();
         let own = weight_of(weight, x);
         if is_above(own, x, greatest, terms[place].mono.exponents()) {
@@ -56,7 +56,7 @@ fn marked_by(b: &Marked, weight: &[i128]) -> Result<Marked, AllocError>
     ensures mark { IfOk result (IsMarkedByWeight weight.now) }
 {
     let poly = b.poly();
-    let place = greatest_place(poly.terms(), weight);
+    let place = greatest_place(poly.terms(), b.index(), weight);
     let copy = poly.copy()?;
     Ok(Marked::mark(copy, place))
 }
