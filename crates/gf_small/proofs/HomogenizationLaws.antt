@@ -249,6 +249,9 @@ pub record Filling (b : MarkedPolynomial) (terms all : Terms) (d i : ℕ) (t : T
   pub at : t ≡ get_or all i t
   pub head_is : head ≡ t.mono
 
+pub filling_at : (b : MarkedPolynomial) (f terms all : Terms) (d i : ℕ) (t : Term) (head : Exponents) → f ≡ b.poly → terms ≡ f → IsDescending f → i < length b.poly → head_of b.poly i ≡ b.head → d ≡ total_degree terms → all ≡ map (filled_term d) terms → t ≡ get_or all i t → head ≡ t.mono → Filling b terms all d i t head
+filling_at b f terms all d i t head ef et desc l m e q at h = record { terms_are = et ∙ ef; descending = subst IsDescending ef desc; inside = l; mark = m; total = e; all_are = q; at = at; head_is = h }
+
 marked_there : (b : MarkedPolynomial) (i : ℕ) → IsDescending b.poly → i < length b.poly → head_of b.poly i ≡ b.head → HasMarkedTerm b
 marked_there b i d l e = record {
   descending = d;
