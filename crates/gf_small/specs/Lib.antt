@@ -1,1 +1,6 @@
 pub mod LeadingTerms  -- the marked terms of a set
+pub mod MarksByWeight  -- the greatest term by a weight, ties by lex
+pub mod InitialForms  -- initial forms with their marks
+pub mod Degrees  -- total degrees
+pub mod Homogenization  -- homogenisation by a new last variable
+pub mod Unions  -- each polynomial of several sets once

@@ -1,6 +1,16 @@
-//! Small tools on sets of polynomials: the leading terms of a marked set (`specs/LeadingTerms.antt`).
+//! Small tools on sets of polynomials: leading terms, marks by a weight, initial forms, homogenisation, unions, statistics.
+//! What each gives is said in `specs/`, a topic a file.
 #![tactic(auto)]
 
+mod degrees;
+mod homogenization;
+mod initial;
 mod leading;
+mod marks;
+mod unions;
 
+pub use homogenization::{HomogenizeError, Homogenized, homogenize};
+pub use initial::initial_forms;
 pub use leading::leading_terms;
+pub use marks::mark_set;
+pub use unions::union;

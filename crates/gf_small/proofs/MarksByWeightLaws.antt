@@ -1,0 +1,170 @@
+-- The greatest term by a weight, as a search finds it.
+-- To cite: above_by, below_by, Greatest, Greatest-start, Greatest-new, Greatest-kept, greatest_of, marked_kept. The rest are steps.
+use Rattle.std.specs.Prelude.{◌≡◌, ◌⊎◌, ℕ, zero, suc, ◌+◌, ◌<◌, ◌≤◌, Bool, true, false, List, [], ◌∷◌, ◌++◌, length, take, get_or, map, Contains, ℤ, ◌<ℤ◌}
+use Rattle.std.specs.Ordering.{nat_cmp, MatchOrdering}
+use Rattle.std.specs.Cmp.Lexicographic.{slice_cmp}
+use Rattle.std.specs.declared.cmp.Ordering.{Ordering}
+use Rattle.std.specs.declared.cmp.Ordering.TheVariants.{Less, Equal, Greater}
+use Rattle.std.proofs.Common.{arith, refl, sym, ap, subst, ◌∙◌, inl, inr}
+use Rattle.std.proofs.lemmas.Int.{ints}
+use Rattle.std.proofs.lemmas.List.{take_more, take_all, map-append}
+use Rattle.std.proofs.lemmas.List.Elements.{Contains-push_cases}
+use Rattle.gf_frac.specs.Fraction.{zero_ℚ}
+use Rattle.gf_exponents.specs.Exponents.{Exponents, whole_weight}
+use Rattle.gf_exponents.specs.Orders.{IsLexBelow, lex}
+use Rattle.gf_exponents.proofs.OrderLaws.{lex-compares, lex-strict}
+use Rattle.gf_poly.specs.declared.Term.{Term}
+use Rattle.gf_poly.specs.Polynomial.{Terms, IsDescending, HasVariables}
+use Rattle.gf_poly.specs.Marking.{MarkedPolynomial, MarkedPolynomials, Each, HaveVariables, HasMarkedTerm, head_of, polys}
+use Rattle.gf_poly.proofs.MarkingLaws.{mark_at}
+use Rattle.gf_poly.proofs.CoefficientLaws.{term_length}
+use Rattle.gf_ideal.proofs.ListLaws.{Each-++}
+use Rattle.gf_small.specs.MarksByWeight.{IsBelowBy, IsMarkedByWeight, AreMarkedByWeight}
+
+-- ---- comparisons
+
+abbrev IsLexAbove : Exponents → Exponents → Ordering → Type 0
+IsLexAbove x y r = MatchOrdering r (IsLexBelow x y) (x ≡ y) (IsLexBelow y x)
+
+pub lex_by : (x y : Exponents) (r : Ordering) → length x ≡ length y → r ≡ lex x y → MatchOrdering r (IsLexBelow x y) (x ≡ y) (IsLexBelow y x)
+lex_by x y r l e = subst (IsLexAbove x y) (sym e) (lex-compares x y l)
+
+pub not_above : (x y : Exponents) (r : Ordering) → MatchOrdering r (IsLexBelow x y) (x ≡ y) (IsLexBelow y x) → (r ≡ Greater → ⊥) → (x ≡ y) ⊎ IsLexBelow x y
+not_above x y Less h n = inr h
+not_above x y Equal h n = inl h
+not_above x y Greater h n = absurd (n refl)
+
+pub IsBelowBy-trans : (w : List ℤ) (x y z : Exponents) → IsBelowBy w x y → IsBelowBy w y z → IsBelowBy w x z
+IsBelowBy-trans w x y z (inl a) (inl b) = inl (omega (arith, ints, a, b))
+IsBelowBy-trans w x y z (inl a) (inr b) = inl (omega (arith, ints, a, b.0))
+IsBelowBy-trans w x y z (inr a) (inl b) = inl (omega (arith, ints, a.0, b))
+IsBelowBy-trans w x y z (inr a) (inr b) = inr (a.0 ∙ b.0, lex-strict.transitive x y z a.1 b.1)
+
+-- ---- the term at a place
+
+pub head_at : (f : Terms) (i : ℕ) (t : Term) → i < length f → t ≡ get_or f i t → head_of f i ≡ t.mono
+head_at [] i t h is = absurd (omega arith)
+head_at (s ∷ f) zero t h is = ap (λ (z : Term). z.mono) (sym is)
+head_at (s ∷ f) (suc i) t h is = head_at f i t (omega arith) is
+
+-- each of the first i terms is at the place or below the term there, which has the weight m
+pub record Greatest (w : List ℤ) (f : Terms) (place : ℕ) (m : ℤ) (i : ℕ) : Type 0 where
+  pub inside : place < length f
+  pub weight : m ≡ whole_weight w (head_of f place)
+  pub others : (t : Term) → Contains (take i f) t → (t.mono ≡ head_of f place) ⊎ IsBelowBy w t.mono (head_of f place)
+
+-- a term of the first i + 1 is one of the first i, or that at i
+split_at : (f : Terms) (i : ℕ) (t s : Term) → i < length f → t ≡ get_or f i t → Contains (take (i + 1) f) s → Contains (take i f) s ⊎ (t ≡ s)
+split_at f i t s h is k = Contains-push_cases (take i f) t s (subst (λ (g : Terms). Contains g s) (take_more f i t h ∙ ap (λ (z : Term). take i f ++ z ∷ []) (sym is)) k)
+
+pub Greatest-start : (w : List ℤ) (f : Terms) (place : ℕ) (t : Term) (m : ℤ) → place < length f → t ≡ get_or f place t → m ≡ whole_weight w t.mono → Greatest w f place m 0
+Greatest-start w f place t m h is e = record {
+  inside = h;
+  weight = e ∙ ap (whole_weight w) (sym (head_at f place t h is));
+  others = λ s k. absurd (omega (arith, k.1));
+}
+
+-- the exponents of the term at a place
+pub exponents_at : (f : Terms) (i : ℕ) (t : Term) (x : Exponents) → t ≡ get_or f i t → x ≡ (get_or f i t).mono → x ≡ t.mono
+exponents_at f i t x is e = e ∙ ap (λ (z : Term). z.mono) (sym is)
+
+pub width_at : (n : ℕ) (f : Terms) (i : ℕ) (t : Term) (x : Exponents) → i < length f → t ≡ get_or f i t → x ≡ (get_or f i t).mono → HasVariables n f → length x ≡ n
+width_at n f i t x l is e v = ap length (exponents_at f i t x is e) ∙ term_length n f t v (i, l, sym is)
+
+-- the term at i is above
+pub Greatest-new : (w : List ℤ) (f : Terms) (place i : ℕ) (m k : ℤ) (t : Term) → i < length f → t ≡ get_or f i t → k ≡ whole_weight w t.mono →
+    (x y : Exponents) → x ≡ t.mono → y ≡ head_of f place → ((m <ℤ k) ⊎ ((m ≡ k) × IsLexBelow y x)) → Greatest w f place m i → Greatest w f i k (i + 1)
+Greatest-new w f place i m k t h is e x y ex ey above g = record {
+  inside = h;
+  weight = e ∙ ap (whole_weight w) (sym at);
+  others = λ s c. elim (split_at f i t s h is c) [
+    | inl n ↦ inr (subst (IsBelowBy w s.mono) (sym at) (elim (g.others s n) [
+      | inl q ↦ subst (λ (x : Exponents). IsBelowBy w x t.mono) (sym q) old
+      | inr b ↦ IsBelowBy-trans w s.mono (head_of f place) t.mono b old
+    ]))
+    | inr q ↦ inl (ap (λ (z : Term). z.mono) (sym q) ∙ sym at)
+  ];
+}
+  where
+    at : head_of f i ≡ t.mono
+    at = head_at f i t h is
+
+    old : IsBelowBy w (head_of f place) t.mono
+    old = elim above [
+      | inl l ↦ inl (omega (arith, ints, l, g.weight, e))
+      | inr b ↦ inr (sym g.weight ∙ b.0 ∙ e, subst (λ (z : Exponents). IsLexBelow z t.mono) ey (subst (IsLexBelow y) ex b.1))
+    ]
+
+-- it isn't
+pub Greatest-kept : (w : List ℤ) (f : Terms) (place i : ℕ) (m k : ℤ) (t : Term) → i < length f → t ≡ get_or f i t → k ≡ whole_weight w t.mono →
+    (x y : Exponents) → x ≡ t.mono → y ≡ head_of f place → ((x ≡ y) ⊎ (k <ℤ m) ⊎ ((k ≡ m) × IsLexBelow x y)) → Greatest w f place m i → Greatest w f place m (i + 1)
+Greatest-kept w f place i m k t h is e x y ex ey below g = record {
+  inside = g.inside;
+  weight = g.weight;
+  others = λ s c. elim (split_at f i t s h is c) [
+    | inl n ↦ g.others s n
+    | inr q ↦ subst (λ (z : Term). (z.mono ≡ head_of f place) ⊎ IsBelowBy w z.mono (head_of f place)) q new
+  ];
+}
+  where
+    by : (k <ℤ m) ⊎ ((k ≡ m) × IsLexBelow x y) → IsBelowBy w t.mono (head_of f place)
+    by (inl l) = inl (omega (arith, ints, l, g.weight, e))
+    by (inr b) = inr (sym e ∙ b.0 ∙ g.weight, subst (λ (z : Exponents). IsLexBelow z (head_of f place)) ex (subst (IsLexBelow x) ey b.1))
+
+    new : (t.mono ≡ head_of f place) ⊎ IsBelowBy w t.mono (head_of f place)
+    new = elim below [ inl q ↦ inl (sym ex ∙ q ∙ ey) | inr b ↦ inr (by b) ]
+
+pub greatest_of : (w : List ℤ) (f : Terms) (place : ℕ) (m : ℤ) (i : ℕ) → length f ≤ i → Greatest w f place m i → (t : Term) → Contains f t → (t.mono ≡ head_of f place) ⊎ IsBelowBy w t.mono (head_of f place)
+greatest_of w f place m i h g t c = g.others t (subst (λ (z : Terms). Contains z t) (sym (take_all i f h)) c)
+
+-- ---- polynomial by polynomial
+
+pub marked_at : (w : List ℤ) (c : MarkedPolynomial) (f : Terms) (place : ℕ) → c ≡ record { poly = f; head = head_of f place } → IsDescending f → place < length f →
+    ((s : Term) → Contains f s → (s.mono ≡ head_of f place) ⊎ IsBelowBy w s.mono (head_of f place)) → IsMarkedByWeight w c
+marked_at w c f place e d l h = subst (IsMarkedByWeight w) (sym e) (record {
+  marked = record { descending = d; mark = (get_or f place nothing).coef; term = mark_at f place (get_or f place nothing) l (at f place nothing l) };
+  others = h;
+})
+  where
+    nothing : Term
+    nothing = record { coef = zero_ℚ; mono = [] }
+
+    at : (f : Terms) (k : ℕ) (d : Term) → k < length f → get_or f k d ≡ get_or f k (get_or f k d)
+    at [] k d l = absurd (omega arith)
+    at (s ∷ f) zero d l = refl
+    at (s ∷ f) (suc k) d l = at f k d (omega arith)
+
+-- the first i, marked
+pub record MarkedSoFar (w : List ℤ) (bs found : List MarkedPolynomial) (i : ℕ) : Type 0 where
+  pub polynomials : polys found ≡ polys (take i bs)
+  pub marks : Each (IsMarkedByWeight w) found
+
+pub marked-none : (w : List ℤ) (bs : List MarkedPolynomial) → MarkedSoFar w bs [] 0
+marked-none w bs = record { polynomials = refl; marks = tt }
+
+pub marked-more : (w : List ℤ) (bs found next : List MarkedPolynomial) (i : ℕ) (b c : MarkedPolynomial) → i < length bs → b ≡ get_or bs i b → c.poly ≡ b.poly → IsMarkedByWeight w c → next ≡ found ++ c ∷ [] → MarkedSoFar w bs found i → MarkedSoFar w bs next (i + 1)
+marked-more w bs found next i b c l e p m q h = record {
+  polynomials = ap polys q ∙ map-append poly_of found (c ∷ []) ∙ ap (λ z. polys found ++ z ∷ []) p ∙ ap (λ z. z ++ b.poly ∷ []) h.polynomials ∙ sym (map-append poly_of (take i bs) (b ∷ []))
+      ∙ ap polys (sym (take_more bs i b l ∙ ap (λ (z : MarkedPolynomial). take i bs ++ z ∷ []) (sym e)));
+  marks = subst (Each (IsMarkedByWeight w)) (sym q) (Each-++ (IsMarkedByWeight w) found (c ∷ []) h.marks (m, tt));
+}
+  where
+    poly_of : MarkedPolynomial → Terms
+    poly_of d = d.poly
+
+variables_by : (n : ℕ) (bs cs : List MarkedPolynomial) → polys cs ≡ polys bs → HaveVariables n bs → HaveVariables n cs
+variables_by n bs [] e v = tt
+variables_by n [] (c ∷ cs) e v = absurd (cc)
+variables_by n (b ∷ bs) (c ∷ cs) e v = (subst (HasVariables n) (sym (first e)) v.0, variables_by n bs cs (rest e) v.1)
+  where
+    first : polys (c ∷ cs) ≡ polys (b ∷ bs) → c.poly ≡ b.poly
+    first q = cc
+
+    rest : polys (c ∷ cs) ≡ polys (b ∷ bs) → polys cs ≡ polys bs
+    rest q = cc
+
+pub marked-variables : (n k : ℕ) (w : List ℤ) (bs items found : List MarkedPolynomial) (i : ℕ) → k ≡ n → items ≡ bs → HaveVariables n bs → length items ≤ i → MarkedSoFar w items found i → HaveVariables k found
+marked-variables n k w bs items found i q e v l h = subst (λ (m : ℕ). HaveVariables m found) (sym q) (variables_by n bs found (h.polynomials ∙ ap polys (take_all i items l ∙ e)) v)
+
+pub marked-all : (w : List ℤ) (s t : MarkedPolynomials) (items found : List MarkedPolynomial) (k i : ℕ) → k ≡ s.variables → items ≡ s.items → t ≡ record { variables = k; items = found } → length items ≤ i → MarkedSoFar w items found i → AreMarkedByWeight w s t
+marked-all w s t items found k i q e r l h = subst (AreMarkedByWeight w s) (sym r) (record { variables = q; polynomials = h.polynomials ∙ ap polys (take_all i items l ∙ e); marks = h.marks })

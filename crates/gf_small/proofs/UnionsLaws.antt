@@ -1,0 +1,154 @@
+-- The union of sets, polynomial by polynomial.
+-- To cite: same_terms, other_terms, same_so_far, other_here, other_length, terms_exact, nothing_exact, equal_at, none_equal, passed,
+-- SeenSoFar and its steps, UnitedSoFar and its steps.
+use Rattle.std.specs.Prelude.{◌≡◌, ◌↔◌, ◌⊎◌, ℕ, zero, suc, ◌+◌, ◌<◌, ◌≤◌, Bool, true, false, IsTrue, List, [], ◌∷◌, ◌++◌, length, take, get_or, All, Any, map, flat_map}
+use Rattle.std.proofs.Common.{arith, refl, sym, ap, subst, ◌∙◌, append_assoc, append-nil}
+use Rattle.std.specs.Prelude.{Vec}
+use Rattle.std.specs.Global.{Global}
+use Rattle.std.proofs.lemmas.List.{take_more, take_all, length-map}
+use Rattle.std.specs.Prelude.{◌==◌}
+use Rattle.std.proofs.lemmas.Slice.Eq.{slice_eq-Decides}
+use Rattle.std.proofs.lemmas.Bool.Decides.{Decides-eqb}
+use lib.Pointwise.{pointwise}
+use lib.Dec.{eqb}
+use Rattle.gf_frac.specs.Fraction.{Fraction}
+use Rattle.gf_frac.specs.Equality.{fraction_eq}
+use Rattle.gf_frac.proofs.FractionLaws.{Decides-fraction_eq}
+use Rattle.gf_exponents.proofs.ExponentsLaws.{eq_by}
+use Rattle.gf_exponents.specs.Exponents.{Exponents}
+use Rattle.gf_poly.specs.declared.Term.{Term}
+use Rattle.gf_poly.specs.Polynomial.{Terms, coefficient, SamePolynomial, IsDescending, HasVariables}
+use Rattle.gf_poly.proofs.CoefficientLaws.{descending_unique}
+use Rattle.gf_text.specs.declared.written.Written.{Written}
+use Rattle.gf_text.specs.declared.written.Written.TheVariants as written
+use Rattle.gf_text.specs.Sets.{IsIn, AreIn}
+use Rattle.gf_text.specs.SetLists.{AreAllIn, sets_in}
+use Rattle.gf_small.specs.Unions.{terms_of, AreEqual, IsAmong, IsNew, AreFirstSeen, IsUnion}
+use Rattle.gf_small.proofs.WrittenLaws.{AreIn-push, in_read}
+
+-- ---- lists of terms
+
+-- one place further
+pub same_so_far : (f g : Terms) (i : ℕ) (s t : Term) → i < length f → i < length g → s ≡ get_or f i s → t ≡ get_or g i t → s ≡ t → take i f ≡ take i g → take (i + 1) f ≡ take (i + 1) g
+same_so_far f g i s t l k es et e h = take_more f i s l ∙ ap (λ (z : Term). take i f ++ z ∷ []) (sym es ∙ e ∙ et) ∙ ap (λ (z : Terms). z ++ get_or g i t ∷ []) h ∙ sym (take_more g i t k)
+
+pub same_to_end : (f g : Terms) (i : ℕ) → length f ≡ length g → length f ≤ i → take i f ≡ take i g → f ≡ g
+same_to_end f g i e l h = sym (take_all i f l) ∙ h ∙ take_all i g (omega arith)
+
+-- another term at the same place
+pub other_here : (f g : Terms) (i : ℕ) (s t : Term) → i < length f → s ≡ get_or f i s → t ≡ get_or g i t → (s ≡ t → ⊥) → f ≡ g → ⊥
+other_here f g i s t l es et n e = n (es ∙ default f i s t l ∙ ap (λ (z : Terms). get_or z i t) e ∙ sym et)
+  where
+    default : (h : Terms) (k : ℕ) (a b : Term) → k < length h → get_or h k a ≡ get_or h k b
+    default [] k a b l = absurd (omega arith)
+    default (r ∷ h) zero a b l = refl
+    default (r ∷ h) (suc k) a b l = default h k a b (omega arith)
+
+-- ---- polynomials
+
+-- polynomials in n variables are equal exactly where their terms are
+pub terms_exact : (n : ℕ) (f g : Terms) (b : Bool) → HasVariables n f → HasVariables n g → IsDescending f → IsDescending g → IsTrue b ↔ (f ≡ g) → IsTrue b ↔ SamePolynomial f g
+terms_exact n f g b v w d e h = (λ t x. ap (λ (z : Terms). coefficient z x) (h.0 t), λ s. h.1 (descending_unique n f g v w d e s))
+
+-- whether a list of terms is empty
+pub empty_exact : (n : ℕ) (f : Terms) (b : Bool) → HasVariables n f → IsDescending f → IsTrue b ↔ (f ≡ []) → IsTrue b ↔ SamePolynomial f []
+empty_exact n f b v d h = terms_exact n f [] b v tt d tt h
+
+-- ---- one of these, or none
+
+pub among_at : (w v : Written) (vs : List Written) (k : ℕ) → k < length vs → v ≡ get_or vs k v → AreEqual v w → IsAmong w vs
+among_at w v vs k l e q = (k, v, l, sym e, q)
+
+-- ---- the polynomials of a set
+
+-- what is kept after the first i polynomials of a set
+pub record SeenSoFar (old set kept : List Written) (i : ℕ) : Type 0 where
+  pub seen : (fs : List Written) → AreFirstSeen fs old → AreFirstSeen (fs ++ take i set) kept
+  pub variables : (n : ℕ) → AreIn n old → AreIn n set → AreIn n kept
+
+pub seen-none : (old set : List Written) → SeenSoFar old set old 0
+seen-none old set = record {
+  seen = λ fs h. subst (λ (z : List Written). AreFirstSeen z old) (sym (append-nil fs)) h;
+  variables = λ n h k. h;
+}
+
+one_more : (fs set : List Written) (i : ℕ) (w : Written) → i < length set → w ≡ get_or set i w → fs ++ take (i + 1) set ≡ (fs ++ take i set) ++ w ∷ []
+one_more fs set i w l e = ap (λ (z : List Written). fs ++ z) (take_more set i w l ∙ ap (λ (z : Written). take i set ++ z ∷ []) (sym e)) ∙ sym (append_assoc fs (take i set) (w ∷ []))
+
+pub seen-added : (old set kept next : List Written) (i : ℕ) (w v : Written) → i < length set → w ≡ get_or set i w → v ≡ w → next ≡ kept ++ v ∷ [] → IsNew w kept → SeenSoFar old set kept i → SeenSoFar old set next (i + 1)
+seen-added old set kept next i w v l e c q new h = record {
+  seen = λ fs s. AreFirstSeen.added (fs ++ take i set) kept (fs ++ take (i + 1) set) next w (one_more fs set i w l e) (q ∙ ap (λ (z : Written). kept ++ z ∷ []) c) new (h.seen fs s);
+  variables = λ n a b. subst (AreIn n) (sym (q ∙ ap (λ (z : Written). kept ++ z ∷ []) c)) (AreIn-push n kept w (h.variables n a b) (in_read n set i w b l e));
+}
+
+pub seen-dropped : (old set kept : List Written) (i : ℕ) (w : Written) → i < length set → w ≡ get_or set i w → IsAmong w kept → SeenSoFar old set kept i → SeenSoFar old set kept (i + 1)
+seen-dropped old set kept i w l e among h = record {
+  seen = λ fs s. AreFirstSeen.dropped (fs ++ take i set) kept (fs ++ take (i + 1) set) w (one_more fs set i w l e) among (h.seen fs s);
+  variables = h.variables;
+}
+
+pub seen-all : (old set kept : List Written) (i : ℕ) → length set ≤ i → SeenSoFar old set kept i → (fs : List Written) → AreFirstSeen fs old → AreFirstSeen (fs ++ set) kept
+seen-all old set kept i l h fs s = subst (λ (z : List Written). AreFirstSeen (fs ++ z) kept) (take_all i set l) (h.seen fs s)
+
+-- ---- the sets
+
+-- what is kept after the first i sets
+pub record UnitedSoFar (sets : List (List Written)) (kept : List Written) (i : ℕ) : Type 0 where
+  pub union : IsUnion (take i sets) kept
+  pub variables : (n : ℕ) → AreAllIn n sets → AreIn n kept
+
+pub united-none : (sets : List (List Written)) → UnitedSoFar sets [] 0
+united-none sets = record { union = AreFirstSeen.nothing; variables = λ n a. tt }
+
+pub set_in : (n : ℕ) (sets : List (List Written)) (i : ℕ) (d : List Written) → AreAllIn n sets → i < length sets → AreIn n (get_or sets i d)
+set_in n [] i d h l = absurd (omega arith)
+set_in n (s ∷ sets) zero d h l = h.0
+set_in n (s ∷ sets) (suc i) d h l = set_in n sets i d h.1 (omega arith)
+
+all_and_one : (sets : List (List Written)) (s : List Written) → flat_map (λ t. t) (sets ++ s ∷ []) ≡ flat_map (λ t. t) sets ++ s
+all_and_one [] s = append-nil s
+all_and_one (t ∷ sets) s = ap (λ (z : List Written). t ++ z) (all_and_one sets s) ∙ sym (append_assoc t (flat_map (λ u. u) sets) s)
+
+pub united-more : (sets : List (List Written)) (kept next s : List Written) (i : ℕ) → i < length sets → s ≡ get_or sets i s →
+    ((fs : List Written) → AreFirstSeen fs kept → AreFirstSeen (fs ++ s) next) → ((n : ℕ) → AreIn n kept → AreIn n s → AreIn n next) → UnitedSoFar sets kept i → UnitedSoFar sets next (i + 1)
+united-more sets kept next s i l e add in_n h = record {
+  union = subst (λ (z : List Written). AreFirstSeen z next) (sym (ap (flat_map (λ (t : List Written). t)) (take_more sets i s l ∙ ap (λ (z : List Written). take i sets ++ z ∷ []) (sym e)) ∙ all_and_one (take i sets) s)) (add _ h.union);
+  variables = λ n a. in_n n (h.variables n a) (subst (AreIn n) (sym e) (set_in n sets i s a l));
+}
+
+pub united-all : (sets : List (List Written)) (kept : List Written) (i : ℕ) → length sets ≤ i → UnitedSoFar sets kept i → IsUnion sets kept
+united-all sets kept i l h = subst (λ (z : List (List Written)). IsUnion z kept) (take_all i sets l) h.union
+
+-- ---- tests
+
+pub term_exact : (s t : Term) (x y : Exponents) (b : Bool) → x ≡ s.mono → y ≡ t.mono → b ≡ pointwise eqb x y → true ≡ fraction_eq s.coef t.coef → IsTrue b ↔ (s ≡ t)
+term_exact s t x y b ex ey e q = (
+  λ h. ap (λ (c : Fraction). record { coef = c; mono = s.mono }) ((Decides-fraction_eq s.coef t.coef).0 (sym q)) ∙ ap (λ (m : Exponents). record { coef = t.coef; mono = m }) (sym ex ∙ (slice_eq-Decides Decides-eqb x y (pointwise eqb x y) refl).0 (sym e ∙ h) ∙ ey),
+  λ p. e ∙ (slice_eq-Decides Decides-eqb x y (pointwise eqb x y) refl).1 (ex ∙ ap (λ (z : Term). z.mono) p ∙ sym ey),
+)
+
+pub empty_test : (n : ℕ) (f : Terms) (b : Bool) → HasVariables n f → IsDescending f → b ≡ (length f == 0) → IsTrue b ↔ SamePolynomial f []
+empty_test n f b v d e = empty_exact n f b v d (by f e)
+  where
+    by : (f : Terms) → b ≡ (length f == 0) → IsTrue b ↔ (f ≡ [])
+    by [] q = (λ _. refl, λ _. q)
+    by (t ∷ f) q = (λ h. absurd (omega (arith, eq_by (length (t ∷ f)) 0 (sym q ∙ h))), λ h. absurd (cc))
+
+-- equal polynomials the other way round
+pub turned : (b : Bool) (f g : Terms) → IsTrue b ↔ SamePolynomial f g → IsTrue b ↔ SamePolynomial g f
+turned b f g h = (λ t x. sym (h.0 t x), λ s. h.1 (λ x. sym (s x)))
+
+-- a set at its place
+pub set_at : (vs : List (Vec Written Global)) (i : ℕ) (v : Vec Written Global) → i < length vs → v ≡ get_or vs i v → v.items ≡ get_or (sets_in vs) i v.items
+set_at [] i v l e = absurd (omega arith)
+set_at (u ∷ vs) zero v l e = ap (λ (z : Vec Written Global). z.items) e
+set_at (u ∷ vs) (suc i) v l e = set_at vs i v (omega arith) e
+
+pub set_inside : (vs : List (Vec Written Global)) (i : ℕ) → i < length vs → i < length (sets_in vs)
+set_inside vs i l = omega (arith, length-map vs (λ (v : Vec Written Global). v.items))
+
+pub sets_done : (vs : List (Vec Written Global)) (i : ℕ) → length vs ≤ i → length (sets_in vs) ≤ i
+sets_done vs i l = omega (arith, length-map vs (λ (v : Vec Written Global). v.items))
+
+pub in_set : (n : ℕ) (sets : List (List Written)) (i : ℕ) (s : List Written) → i < length sets → s ≡ get_or sets i s → AreAllIn n sets → AreIn n s
+in_set n sets i s l e h = subst (AreIn n) (sym e) (set_in n sets i s h l)

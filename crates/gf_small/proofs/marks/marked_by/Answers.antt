@@ -1,0 +1,16 @@
+use Rattle.std.proofs.Common.{◌≡◌, ◌∙◌, sym, subst, ap, ◌<◌, ◌⊎◌, length, Contains}
+use Rattle.gf_poly.specs.declared.Term.{Term}
+use Rattle.gf_poly.specs.Polynomial.{Terms, IsDescending}
+use Rattle.gf_poly.specs.Marking.{MarkedPolynomial, head_of}
+use Rattle.gf_small.specs.MarksByWeight.{IsBelowBy}
+use Rattle.gf_small.proofs.MarksByWeightLaws.{marked_at}
+use Rattle.gf_small.proofs.marks.marked_by.Goals as goal
+
+pub returns-clause-mark : goal.returns-clause-mark
+returns-clause-mark c =
+    let place = c.greatest_place-place.result in
+    let f : Terms = c.terms.result.now in
+    let same : c.in_ok-copy.copy ≡ f = c.in_ok-copy.ensures ∙ sym c.terms.ensures.value in
+    marked_at c.args.weight.now c.mark.result f place
+    (c.mark.ensures ∙ ap (λ (z : Terms). record { poly = z; head = head_of z place }) same)
+    (subst IsDescending (sym c.terms.ensures.value) c.terms.ensures.descending) c.greatest_place-place.ensures.inside c.greatest_place-place.ensures.others

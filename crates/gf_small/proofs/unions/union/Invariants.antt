@@ -1,0 +1,6 @@
+use Rattle.gf_text.specs.SetLists.{sets_in}
+use Rattle.gf_small.proofs.UnionsLaws.{UnitedSoFar}
+use Rattle.gf_small.proofs.unions.union.Given as goal
+
+abbrev pub invariant-sets : goal.invariant-sets
+invariant-sets l = UnitedSoFar (sets_in l.sets) l.kept.items l.i

@@ -1,0 +1,14 @@
+-- Total degrees of polynomials.
+use Rattle.std.specs.Prelude.{ℕ, List, [], ◌∷◌, max}
+use Rattle.gf_exponents.specs.Exponents.{degree}
+use Rattle.gf_poly.specs.Polynomial.{Terms}
+
+-- the greatest of these numbers; 0 where there are none
+abbrev pub greatest : List ℕ → ℕ
+greatest [] = 0
+greatest (k ∷ ks) = max k (greatest ks)
+
+-- the total degree of a polynomial: that of its terms of greatest degree; 0 where there are none
+abbrev pub total_degree : Terms → ℕ
+total_degree [] = 0
+total_degree (t ∷ f) = max (degree t.mono) (total_degree f)

@@ -1,0 +1,22 @@
+-- The greatest term by a weight, ties by lex.
+-- Laws: proofs/MarksByWeightLaws.antt.
+use Rattle.std.specs.Prelude.{◌≡◌, ◌⊎◌, List, ℤ, ◌<ℤ◌, Contains}
+use Rattle.gf_exponents.specs.Exponents.{Exponents, whole_weight}
+use Rattle.gf_exponents.specs.Orders.{IsLexBelow}
+use Rattle.gf_poly.specs.declared.Term.{Term}
+use Rattle.gf_poly.specs.Marking.{MarkedPolynomial, MarkedPolynomials, HasMarkedTerm, Each, polys}
+
+-- x is below y by the weight w: it weighs less, or as much and lex says so
+abbrev pub IsBelowBy : List ℤ → Exponents → Exponents → Type 0
+IsBelowBy w x y = (whole_weight w x <ℤ whole_weight w y) ⊎ ((whole_weight w x ≡ whole_weight w y) × IsLexBelow x y)
+
+-- the marked term is the greatest one by the weight w
+pub record IsMarkedByWeight (w : List ℤ) (b : MarkedPolynomial) : Type 0 where
+  pub marked : HasMarkedTerm b
+  pub others : (t : Term) → Contains b.poly t → (t.mono ≡ b.head) ⊎ IsBelowBy w t.mono b.head
+
+-- t has the polynomials of s in their order, each marked at its greatest term by the weight w
+pub record AreMarkedByWeight (w : List ℤ) (s t : MarkedPolynomials) : Type 0 where
+  pub variables : t.variables ≡ s.variables
+  pub polynomials : polys t.items ≡ polys s.items
+  pub marks : Each (IsMarkedByWeight w) t.items

@@ -1,0 +1,226 @@
+//! Homogenisation by a new last variable.
+ghost use Rattle.std.specs.Prelude.{◌≡◌, ◌≤◌, ◌<◌, ◌+◌, ◌^◌, ◌++◌, ◌∷◌, [], ℕ, All, IfOk, IfErr, length, map, true, false};
+ghost use Rattle.gf_exponents.specs.Exponents.{Exponents, degree};
+ghost use Rattle.gf_poly.specs.Polynomial.{HasVariables, IsDescending, KeepsVariables, SamePolynomial};
+ghost use Rattle.gf_poly.specs.Collecting.{like};
+ghost use Rattle.gf_text.specs.RingText.{is_name, has};
+ghost use Rattle.gf_text.specs.Sets.{IsIn, AreIn};
+ghost use Rattle.gf_small.specs.Degrees.{total_degree as degree_of};
+ghost use Rattle.gf_small.specs.Homogenization.{new_exponent as exponent_of, filled_term as term_of, ExponentsFit, IsWithinLimit, IsPastLimit, IsFirstPastLimit, IsPastLimitIn, IsFirstOverflow, IsMarkedHomogenization, IsWrittenHomogenization, AreHomogenizations, IsHomogenizeCause, HasExponent};
+
+use crate::degrees::total_degree;
+use gf_division::place_of;
+use gf_poly::{ExponentOverflow, Marked, Mono, Poly, PolyError, ROOM, Term};
+use gf_text::{Ring, Written};
+use std::alloc::{AllocError, AllocFailed, Global};
+
+/// The greatest exponent.
+const MOST: u64 = (1 << 31) - 1;
+
+/// Homogenised polynomials, and their ring.
+#[derive(Drop)]
+pub struct Homogenized {
+    pub ring: Ring,
+    pub set: Vec<Written>,
+}
+
+/// Why polynomials aren't homogenised.
+#[derive(Clone, Copy, Debug, PartialEq, Eq)]
+pub enum HomogenizeError {
+    /// There would be so many variables, more than 16.
+    TooManyVariables { count: u64 },
+    /// An exponent of the new variable passes `2^31 - 1`: this limit, and what the exponent is more.
+    Exponent(ExponentOverflow),
+    /// There is no memory.
+    Memory,
+}
+
+impl From<ExponentOverflow> for HomogenizeError {
+    ghost use Rattle.gf_small.specs.declared.homogenization.HomogenizeError.TheVariants as errors;
+
+    ghost from_gives = { λ o e. e ≡ errors.Exponent o };
+
+    fn from(overflow: ExponentOverflow) -> HomogenizeError {
+        HomogenizeError::Exponent(overflow)
+    }
+}
+
+impl From<AllocError> for HomogenizeError {
+    ghost use Rattle.gf_small.specs.declared.homogenization.HomogenizeError.TheVariants as errors;
+
+    ghost from_gives = { λ _ e. e ≡ errors.Memory };
+
+    fn from(_: AllocError) -> HomogenizeError {
+        HomogenizeError::Memory
+    }
+}
+
+impl<T: Drop> From<AllocFailed<T>> for HomogenizeError {
+    ghost use Rattle.gf_small.specs.declared.homogenization.HomogenizeError.TheVariants as errors;
+
+    ghost from_gives = { λ _ e. e ≡ errors.Memory };
+
+    fn from(_: AllocFailed<T>) -> HomogenizeError {
+        HomogenizeError::Memory
+    }
+}
+
+/// What the degree of a monomial is less than `d`.
+fn new_exponent(d: u64, x: &Mono) -> Result<u32, ExponentOverflow>
+    requires { degree x.now ≤ d }
+    ensures value { IfOk result (λ exponent. exponent ≡ exponent_of d x.now) }
+    ensures fits { IfOk result (λ exponent. exponent < 2 ^ 31) }
+    ensures past { IfErr result (IsPastLimit (exponent_of d x.now)) }
+{
+    let exponent = d - x.degree();
+    if exponent > MOST {
+        return Err(ExponentOverflow {
+            left: MOST,
+            right: exponent - MOST,
+        });
+    }
+    Ok(exponent as u32)
+}
+
+/// The monomial times a power of the new variable.
+fn filled(alloc: Global, x: &Mono, exponent: u32) -> Mono
+    requires room { length x.now < ROOM }
+    requires limit { exponent < 2 ^ 31 }
+    ensures { result ≡ x.now ++ exponent ∷ [] }
+{
+    let old = x.exponents();
+    let mut all = [0; ROOM];
+    'entries: for i in 0..old.len() {
+        all[i] = old[i];
+    }
+    all[old.len()] = exponent;
+    Mono::new(alloc, &all[..old.len() + 1])
+}
+
+/// The term filled up to the degree `d`.
+fn filled_term(alloc: Global, d: u64, t: &Term) -> Result<Term, ExponentOverflow>
+    requires room { length t.now.mono < ROOM }
+    requires below { degree t.now.mono ≤ d }
+    ensures value { IfOk result (λ term. term ≡ term_of d t.now) }
+    ensures fits { IfOk result (λ _. exponent_of d t.now.mono < 2 ^ 31) }
+    ensures past { IfErr result (IsPastLimit (exponent_of d t.now.mono)) }
+{
+    let exponent = new_exponent(d, &t.mono)?;
+    Ok(Term {
+        coef: t.coef,
+        mono: filled(alloc, &t.mono, exponent),
+    })
+}
+
+/// The terms filled up to the degree `d`, in their order.
+fn filled_terms(alloc: Global, d: u64, terms: &[Term]) -> Result<Vec<Term>, HomogenizeError>
+    requires room { (n : ℕ) × ((n < ROOM) × HasVariables n terms.now) }
+    requires below { degree_of terms.now ≤ d }
+    ensures value { IfOk result (λ all. all.items ≡ map (term_of d) terms.now) }
+    ensures fits { IfOk result (λ _. ExponentsFit d terms.now) }
+    ensures cause { IfErr result (HasExponent (IsFirstPastLimit d terms.now)) }
+{
+    let mut all = Vec::with_capacity(alloc, terms.len())?;
+    'terms: for i in 0..terms.len() {
+        let t = filled_term(alloc, d, &terms[i])?;
+        all.push(t)?;
+    }
+    Ok(all)
+}
+
+/// The polynomial with these terms, no two of which are alike.
+fn sum_of(terms: Vec<Term>) -> Result<Poly, AllocError>
+    requires { (x : Exponents) → length (like x terms.items) ≤ 1 }
+    ensures value { IfOk result (λ p. SamePolynomial p terms.items) }
+    ensures descending { IfOk result IsDescending }
+    ensures variables { IfOk result (KeepsVariables terms.items) }
+{
+    match Poly::from_terms(terms) {
+        Ok(poly) => Ok(poly),
+        Err(PolyError::Overflow(_)) => unreachable!(),
+        Err(PolyError::Exponent(_)) => unreachable!(),
+        Err(PolyError::Memory) => Err(AllocError),
+    }
+}
+
+/// The homogenisation of a marked polynomial, marked at what becomes of the marked term.
+fn marked_homogenization(alloc: Global, b: &Marked) -> Result<Marked, HomogenizeError>
+    requires { (n : ℕ) × ((n < ROOM) × HasVariables n b.now.poly) }
+    ensures value { IfOk result (IsMarkedHomogenization b.now) }
+    ensures fits { IfOk result (λ _. ExponentsFit (degree_of b.now.poly) b.now.poly) }
+    ensures cause { IfErr result (HasExponent (IsFirstPastLimit (degree_of b.now.poly) b.now.poly)) }
+{
+    let terms = b.poly().terms();
+    let all = filled_terms(alloc, total_degree(terms), terms)?;
+    let head = all[b.index()].mono.copy();
+    let poly = sum_of(all)?;
+    let place = place_of(poly.terms(), &head);
+    Ok(Marked::mark(poly, place))
+}
+
+/// That of a polynomial that may be zero.
+fn written_homogenization(alloc: Global, f: &Written) -> Result<Written, HomogenizeError>
+    requires { (n : ℕ) × ((n < ROOM) × IsIn n f.now) }
+    ensures value { IfOk result (IsWrittenHomogenization f.now) }
+    ensures fits { IfOk result (λ _. IsWithinLimit f.now) }
+    ensures cause { IfErr result (HasExponent (IsPastLimitIn f.now)) }
+{
+    match f {
+        Written::Zero => Ok(Written::Zero),
+        Written::Nonzero(b) => {
+            let b = marked_homogenization(alloc, b)?;
+            Ok(Written::Nonzero(b))
+        }
+    }
+}
+
+/// Those of polynomials in `n` variables, in their order.
+fn homogenizations(alloc: Global, n: u32, set: &[Written]) -> Result<Vec<Written>, HomogenizeError>
+    requires room { n < ROOM }
+    requires variables { AreIn n set.now }
+    ensures value { IfOk result (λ all. AreHomogenizations set.now all.items) }
+    ensures variables { IfOk result (λ all. AreIn (n + 1) all.items) }
+    ensures fits { IfOk result (λ _. All IsWithinLimit set.now) }
+    ensures cause { IfErr result (HasExponent (IsFirstOverflow set.now)) }
+{
+    let mut all = Vec::with_capacity(alloc, set.len())?;
+    'polynomials: for f in set {
+        let g = written_homogenization(alloc, f)?;
+        all.push(g)?;
+    }
+    Ok(all)
+}
+
+/// Polynomials of a ring, each homogenised to its total degree by a new variable of this name, which comes last in the new ring: each
+/// term times that power of the variable that its degree is less. What becomes of the marked term is marked. Zero stays zero. The name
+/// is none of the ring's (Cox, Little, O'Shea, *Ideals, Varieties, and Algorithms*, 8.2).
+///
+/// # Errors
+///
+/// - `TooManyVariables` exactly where the ring has 16 variables already; it holds the new number.
+/// - `Exponent` exactly where there is room, and a new exponent is above `2^31 - 1`. It holds this limit and what the exponent is more,
+///   for the first polynomial with such a term, and of it for the deglex greatest such term.
+pub fn homogenize(
+    alloc: Global,
+    ring: &Ring,
+    set: &[Written],
+    name: &[u8],
+) -> Result<Homogenized, HomogenizeError>
+    requires named { is_name name.now ≡ true }
+    requires new { has ring.now name.now ≡ false }
+    requires variables { AreIn (length ring.now) set.now }
+    ensures ring { IfOk result (λ h. h.ring ≡ ring.now ++ name.now ∷ []) }
+    ensures set { IfOk result (λ h. AreHomogenizations set.now h.set.items) }
+    ensures variables { IfOk result (λ h. AreIn (length h.ring) h.set.items) }
+    ensures room { IfOk result (λ _. length ring.now < 16) }
+    ensures fits { IfOk result (λ _. All IsWithinLimit set.now) }
+    ensures cause { IfErr result (IsHomogenizeCause (length ring.now) set.now) }
+{
+    let n = ring.len();
+    if n == 16 {
+        return Err(HomogenizeError::TooManyVariables { count: 17 });
+    }
+    let set = homogenizations(alloc, n, set)?;
+    let ring = ring.extended(alloc, name)?;
+    Ok(Homogenized { ring, set })
+}
