@@ -1,7 +1,7 @@
 -- The form that the small tools need fails in one way at most, and not where it holds.
 -- To cite: variables_check, zero_check, room_check; nonzero_next. The rest are steps.
-use Rattle.std.specs.Prelude.{◌≡◌, ℕ, ◌+◌, ◌-◌, ◌^◌, ◌<◌, ◌≤◌, min, List, length, Some, ℤ}
-use Rattle.std.proofs.Common.{arith, sym, ap, ◌∙◌, subst, inl, inr}
+use Rattle.std.specs.Prelude.{◌≡◌, ℕ, ◌-◌, ◌^◌, ◌<◌, min, List, Some, ℤ}
+use Rattle.std.proofs.Common.{arith, sym, ap, ◌∙◌, inl, inr}
 use Rattle.gf_text.specs.declared.written.Written.{Written}
 use Rattle.gf_text.specs.Sets.{IsFirstZero}
 use Rattle.gf_front.specs.declared.refusal.Refusal.{Refusal}

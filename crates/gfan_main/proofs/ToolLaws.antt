@@ -2,7 +2,7 @@
 -- To cite: mark_polynomial_set_exact, initial_forms_exact, homogenize_exact, polynomial_set_union_exact; homogenize_not_listed;
 -- length_unanswered, zero_unanswered, marked_answered; entries_unanswered, forms_answered; room_unanswered, exponent_unanswered,
 -- homogenized_answered. The rest are steps.
-use Rattle.std.specs.Prelude.{◌≡◌, ◌⊎◌, ℕ, ◌-◌, ◌^◌, ◌<◌, ◌≤◌, All, List, [], ◌∷◌, ◌++◌, length, Some, ℤ}
+use Rattle.std.specs.Prelude.{◌≡◌, ◌⊎◌, ℕ, ◌^◌, ◌<◌, All, List, [], ◌∷◌, ◌++◌, length, Some, ℤ}
 use Rattle.std.proofs.Common.{arith, refl, sym, ◌∙◌, subst, inl, inr}
 use Rattle.std.proofs.lemmas.List.Elements.{All-head, All-tail}
 use Rattle.gf_poly.specs.declared.Term.{Term}

@@ -1,5 +1,5 @@
 -- `_homogenize`: what it reads and writes, and why it doesn't.
-use Rattle.std.specs.Prelude.{◌≡◌, ℕ, All, List, [], ◌∷◌, ◌++◌, length}
+use Rattle.std.specs.Prelude.{ℕ, All, List, [], ◌∷◌, ◌++◌, length}
 use Rattle.gf_text.specs.declared.written.Written.{Written}
 use Rattle.gf_small.specs.Homogenization.{AreHomogenizations, IsFirstOverflow, IsWithinLimit}
 use Rattle.gf_front.specs.declared.refusal.Refusal.{Refusal}
