@@ -9,7 +9,7 @@ use Rattle.std.specs.declared.cmp.Ordering.TheVariants.{Less, Equal, Greater}
 use Rattle.std.proofs.Common.{arith, refl, sym, ap, subst, ◌∙◌, set, length-append, take-append-drop}
 use Rattle.std.proofs.lemmas.Cmp.{ranked}
 use Rattle.std.proofs.lemmas.List.{take_more, take_all, take_more_set, drop_more, map-append, same_from_push}
-use Rattle.std.proofs.lemmas.List.Elements.{All-push, all_zip_more}
+use Rattle.std.proofs.lemmas.List.Elements.{All-push, All-contains, Contains-append_right, all_zip_more}
 use Rattle.gf_frac.specs.Fraction.{◌+ℚ◌, zero_ℚ}
 use Rattle.gf_frac.specs.declared.refusal.Overflow.{Overflow}
 use Rattle.gf_exponents.specs.Exponents.{Exponents, same, degree}
@@ -313,3 +313,16 @@ pub homogenize_cause : (n : ℕ) (fs : List Written) (e : HomogenizeError) → n
 homogenize_cause n fs (errors.TooManyVariables count) l h = absurd h
 homogenize_cause n fs (errors.Exponent o) l h = (l, h)
 homogenize_cause n fs errors.Memory l h = tt
+
+-- where each exponent is within the limit none passes it
+pub never_past : (fs : List Written) (o : ExponentOverflow) → All IsWithinLimit fs → IsFirstOverflow fs o → ⊥
+never_past fs o h v = by v.polynomial (All-contains IsWithinLimit fs v.polynomial h (subst (λ (z : List Written). Contains z v.polynomial) (sym v.split) (Contains-append_right v.earlier (v.polynomial ∷ v.later) v.polynomial (0, omega arith, refl)))) v.past
+  where
+    by : (f : Written) → IsWithinLimit f → IsPastLimitIn f o → ⊥
+    by written.Zero w p = absurd p
+    by (written.Nonzero b) w p = absurd (omega (arith, All-contains (λ (t : Term). new_exponent (total_degree b.poly) t.mono < 2 ^ 31) b.poly p.term w (subst (λ (z : Terms). Contains z p.term) (sym p.split) (Contains-append_right p.earlier (p.term ∷ p.later) p.term (0, omega arith, refl))), p.past.leaves))
+
+pub only_memory : (fs : List Written) (e : HomogenizeError) → All IsWithinLimit fs → HasExponent (IsFirstOverflow fs) e → e ≡ errors.Memory
+only_memory fs (errors.TooManyVariables count) w h = absurd h
+only_memory fs (errors.Exponent o) w h = absurd (never_past fs o w h)
+only_memory fs errors.Memory w h = refl

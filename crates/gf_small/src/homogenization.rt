@@ -5,6 +5,7 @@ ghost use Rattle.gf_poly.specs.Polynomial.{HasVariables, IsDescending, KeepsVari
 ghost use Rattle.gf_poly.specs.Collecting.{like};
 ghost use Rattle.gf_text.specs.RingText.{is_name, has};
 ghost use Rattle.gf_text.specs.Sets.{IsIn, AreIn};
+ghost use Rattle.gf_small.specs.declared.homogenization.HomogenizeError.TheVariants.{Memory};
 ghost use Rattle.gf_small.specs.Degrees.{total_degree as degree_of};
 ghost use Rattle.gf_small.specs.Homogenization.{new_exponent as exponent_of, filled_term as term_of, ExponentsFit, IsWithinLimit, IsPastLimit, IsFirstPastLimit, IsPastLimitIn, IsFirstOverflow, IsMarkedHomogenization, IsWrittenHomogenization, AreHomogenizations, IsHomogenizeCause, HasExponent};
 
@@ -182,6 +183,7 @@ fn homogenizations(alloc: Global, n: u32, set: &[Written]) -> Result<Vec<Written
     ensures variables { IfOk result (λ all. AreIn (n + 1) all.items) }
     ensures fits { IfOk result (λ _. All IsWithinLimit set.now) }
     ensures cause { IfErr result (HasExponent (IsFirstOverflow set.now)) }
+    ensures complete { All IsWithinLimit set.now → IfErr result (λ e. e ≡ Memory) }
 {
     let mut all = Vec::with_capacity(alloc, set.len())?;
     'polynomials: for f in set {
@@ -215,6 +217,7 @@ pub fn homogenize(
     ensures room { IfOk result (λ _. length ring.now < 16) }
     ensures fits { IfOk result (λ _. All IsWithinLimit set.now) }
     ensures cause { IfErr result (IsHomogenizeCause (length ring.now) set.now) }
+    ensures complete { length ring.now < 16 → All IsWithinLimit set.now → IfErr result (λ e. e ≡ Memory) }
 {
     let n = ring.len();
     if n == 16 {

@@ -2,15 +2,19 @@
 //! What each gives is said in `specs/`, a topic a file.
 #![tactic(auto)]
 
+mod counts;
 mod degrees;
 mod homogenization;
 mod initial;
 mod leading;
 mod marks;
+mod statistics;
 mod unions;
 
+pub use counts::Stats;
 pub use homogenization::{HomogenizeError, Homogenized, homogenize};
 pub use initial::initial_forms;
 pub use leading::leading_terms;
 pub use marks::mark_set;
+pub use statistics::stats;
 pub use unions::union;

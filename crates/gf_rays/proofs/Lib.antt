@@ -1,0 +1,18 @@
+mod CombineLaws  -- vectors that loops write, what a refusal says
+mod EliminateLaws  -- an elimination one column further, the columns of equations
+mod SplitLaws  -- the state after an inequality that is zero on the lineality vectors
+mod FlagLaws  -- flags of words: what is read, one flag more, what two lists share
+mod SplitLoops  -- the loops over rays, one ray further
+mod PruneLaws  -- rays taken away by their flags
+mod LevelLaws  -- a vector brought along another one
+mod LinedLaws  -- the state after an inequality that is not zero on a lineality vector
+mod StateLaws  -- what a state says of widths and flags
+mod StraightLaws  -- a vector straightened along one vector more
+mod StepLaws  -- what a refusal says
+mod FinishLaws  -- from the last state to the rays
+mod ImpliedLaws  -- inequalities that are zero on all rays
+mod SumLaws  -- sums of lists of vectors
+mod OrderLaws  -- vectors in lexicographic order: sorted, ascending, each once
+mod FacetLoops  -- rows that a loop takes, one place further
+mod LeastLaws  -- among inequalities with the same flags there is a least one
+mod FacetLaws  -- facet rows by flags

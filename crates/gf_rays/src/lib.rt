@@ -1,0 +1,25 @@
+//! The rays and the lineality space of a cone that is given by inequalities and equations, and what is read from them.
+//!
+//! One inequality after another is taken in (the double description of Motzkin, Raiffa, Thompson and Thrall). Read
+//! `gf_duality/specs/Rays.antt` first, then `specs/Cones.antt`.
+#![tactic(auto)]
+
+mod combine;
+mod describe;
+mod eliminate;
+mod equations;
+mod facets;
+mod finish;
+mod flags;
+mod implied;
+mod level;
+mod prune;
+mod ray;
+mod rays;
+mod split;
+mod step;
+mod straight;
+mod sum;
+mod zeros;
+
+pub use rays::Rays;

@@ -1,0 +1,108 @@
+-- Counts of sets, one after another.
+-- To cite: greatest-more, terms-more, CountsSoFar and its steps.
+use Rattle.std.specs.Prelude.{◌≡◌, ℕ, zero, suc, ◌+◌, ◌-◌, ◌*◌, ◌^◌, ◌<◌, ◌≤◌, List, [], ◌∷◌, ◌++◌, length, take, get_or, map, max, min, Bool, true, false, ◌==◌, if◌then◌else◌}
+use Rattle.std.specs.Ordering.{nat_cmp, ord_max, ord_min, is_lt, MatchOrdering}
+use Rattle.std.specs.declared.cmp.Ordering.{Ordering}
+use Rattle.std.specs.declared.cmp.Ordering.TheVariants.{Less, Equal, Greater}
+use Rattle.std.specs.Prelude.{cond}
+use Rattle.std.proofs.lemmas.Cmp.{ranked}
+use Rattle.std.proofs.Common.{arith, refl, sym, ap, subst, ◌∙◌}
+use Rattle.std.proofs.lemmas.List.{take_more, take_all, map-append}
+use Rattle.gf_exponents.proofs.ExponentsLaws.{eq_by}
+use Rattle.gf_poly.specs.Marking.{MarkedPolynomial, MarkedPolynomials}
+use Rattle.gf_poly.proofs.CollectLaws.{nonempty_by_test}
+use Rattle.gf_small.specs.declared.counts.Counts.{Counts}
+use Rattle.gf_small.specs.Degrees.{greatest, total_degree}
+use Rattle.gf_small.specs.Counts.{least, degree_of_set, terms_in, AreCounts}
+
+greatest-push : (ks : List ℕ) (k : ℕ) → greatest (ks ++ k ∷ []) ≡ max (greatest ks) k
+greatest-push [] k = omega arith
+greatest-push (l ∷ ks) k = omega (arith, greatest-push ks k)
+
+least-push : (l : ℕ) (ks : List ℕ) (k : ℕ) → least ((l ∷ ks) ++ k ∷ []) ≡ min (least (l ∷ ks)) k
+least-push l [] k = refl
+least-push l (m ∷ ks) k = omega (arith, least-push m ks k)
+
+next_mapped : {A : Type 0} (f : A → ℕ) (xs : List A) (i : ℕ) (x : A) → i < length xs → x ≡ get_or xs i x → map f (take (i + 1) xs) ≡ map f (take i xs) ++ f x ∷ []
+next_mapped f xs i x l e = ap (map f) (take_more xs i x l ∙ ap (λ z. take i xs ++ z ∷ []) (sym e)) ∙ map-append f (take i xs) (x ∷ [])
+
+-- the greatest of one number more
+pub greatest-more : {A : Type 0} (f : A → ℕ) (xs : List A) (i : ℕ) (x : A) (m k : ℕ) → i < length xs → x ≡ get_or xs i x → k ≡ max m (f x) → m ≡ greatest (map f (take i xs)) → k ≡ greatest (map f (take (i + 1) xs))
+greatest-more f xs i x m k l e q h = q ∙ ap (λ z. max z (f x)) h ∙ sym (greatest-push (map f (take i xs)) (f x)) ∙ ap greatest (sym (next_mapped f xs i x l e))
+
+-- the least of one number more
+pub least-first : {A : Type 0} (f : A → ℕ) (xs : List A) (i : ℕ) (x : A) (k : ℕ) → i ≡ 0 → i < length xs → x ≡ get_or xs i x → k ≡ f x → k ≡ least (map f (take (i + 1) xs))
+least-first f xs i x k z l e q = q ∙ ap (λ n. least (map f (take n xs) ++ f x ∷ [])) (sym z) ∙ ap least (sym (next_mapped f xs i x l e))
+
+pub least-more : {A : Type 0} (f : A → ℕ) (xs : List A) (i : ℕ) (x : A) (m k : ℕ) → 0 < i → i < length xs → x ≡ get_or xs i x → k ≡ min m (f x) → m ≡ least (map f (take i xs)) → k ≡ least (map f (take (i + 1) xs))
+least-more {A = A} f xs i x m k p l e q h = q ∙ ap (λ z. min z (f x)) h ∙ by i xs p l ∙ ap least (sym (next_mapped f xs i x l e))
+  where
+    by : (i : ℕ) (xs : List A) → 0 < i → i < length xs → min (least (map f (take i xs))) (f x) ≡ least (map f (take i xs) ++ f x ∷ [])
+    by zero xs p l = absurd (omega arith)
+    by (suc i) [] p l = absurd (omega arith)
+    by (suc i) (y ∷ ys) p l = sym (least-push (f y) (map f (take i ys)) (f x))
+
+pub whole : {A : Type 0} {B : Type 0} (g : List A → B) (xs : List A) (i : ℕ) (b : B) → length xs ≤ i → b ≡ g (take i xs) → b ≡ g xs
+whole g xs i b l e = e ∙ ap g (take_all i xs l)
+
+-- ---- terms
+
+pub terms_in-push : (bs : List MarkedPolynomial) (b : MarkedPolynomial) → terms_in (bs ++ b ∷ []) ≡ terms_in bs + length b.poly
+terms_in-push [] b = omega arith
+terms_in-push (d ∷ bs) b = omega (arith, terms_in-push bs b)
+
+-- the terms of the first i polynomials, which have fewer than 2^64 each
+pub record TermsSoFar (bs : List MarkedPolynomial) (sum i : ℕ) : Type 0 where
+  pub terms : sum ≡ terms_in (take i bs)
+  pub bound : sum ≤ i * (2 ^ 64 - 1)
+
+pub terms-none : (bs : List MarkedPolynomial) → TermsSoFar bs 0 0
+terms-none bs = record { terms = refl; bound = omega arith }
+
+pub terms-more : (bs : List MarkedPolynomial) (sum next i : ℕ) (b : MarkedPolynomial) → i < length bs → b ≡ get_or bs i b → length b.poly < 2 ^ 64 → next ≡ sum + length b.poly → TermsSoFar bs sum i → TermsSoFar bs next (i + 1)
+terms-more bs sum next i b l e few q h = record {
+  terms = q ∙ ap (λ z. z + length b.poly) h.terms ∙ sym (terms_in-push (take i bs) b) ∙ ap terms_in (sym (take_more bs i b l ∙ ap (λ (z : MarkedPolynomial). take i bs ++ z ∷ []) (sym e)));
+  bound = omega (arith, h.bound);
+}
+
+-- ---- counts
+
+-- those of the first i sets
+abbrev pub CountsSoFar : List MarkedPolynomials → Counts → ℕ → Type 0
+CountsSoFar sets c i = AreCounts (take i sets) c
+
+pub counts-none : (sets : List MarkedPolynomials) (c : Counts) → c ≡ record { greatest_degree = 0; least_degree = 0; most_polynomials = 0; most_terms = 0 } → CountsSoFar sets c 0
+counts-none sets c e = subst (λ (d : Counts). CountsSoFar sets d 0) (sym e) (record { greatest_degree = refl; least_degree = refl; most_polynomials = refl; most_terms = refl })
+
+pub counts-more : (sets : List MarkedPolynomials) (c d : Counts) (i : ℕ) (s : MarkedPolynomials) (first : Bool) → i < length sets → s ≡ get_or sets i s → first ≡ (i == 0) → d.greatest_degree ≡ max c.greatest_degree (degree_of_set s) →
+    d.least_degree ≡ (if first then degree_of_set s else min c.least_degree (degree_of_set s)) → d.most_polynomials ≡ max c.most_polynomials (length s.items) → d.most_terms ≡ max c.most_terms (terms_in s.items) → CountsSoFar sets c i → CountsSoFar sets d (i + 1)
+counts-more sets c d i s first l e f g m p t h = record {
+  greatest_degree = greatest-more degree_of_set sets i s c.greatest_degree d.greatest_degree l e g h.greatest_degree;
+  least_degree = by first f m;
+  most_polynomials = greatest-more (λ (z : MarkedPolynomials). length z.items) sets i s c.most_polynomials d.most_polynomials l e p h.most_polynomials;
+  most_terms = greatest-more (λ (z : MarkedPolynomials). terms_in z.items) sets i s c.most_terms d.most_terms l e t h.most_terms;
+}
+  where
+    by : (b : Bool) → b ≡ (i == 0) → d.least_degree ≡ (if b then degree_of_set s else min c.least_degree (degree_of_set s)) → d.least_degree ≡ least (map degree_of_set (take (i + 1) sets))
+    by true q r = least-first degree_of_set sets i s d.least_degree (eq_by i 0 (sym q)) l e r
+    by false q r = least-more degree_of_set sets i s c.least_degree d.least_degree (nonempty_by_test i q) l e r h.least_degree
+
+pub counts-all : (sets : List MarkedPolynomials) (c : Counts) (i : ℕ) → length sets ≤ i → CountsSoFar sets c i → AreCounts sets c
+counts-all sets c i l h = subst (λ (z : List MarkedPolynomials). AreCounts z c) (take_all i sets l) h
+
+-- the greater of two numbers, as `max` answers it, and the smaller
+pub ord_max-is : (a b : ℕ) → ord_max nat_cmp a b ≡ max a b
+ord_max-is a b = at (nat_cmp b a) (ranked b a _ refl)
+  where
+    at : (o : Ordering) → MatchOrdering o (b < a) (b ≡ a) (a < b) → cond (is_lt o) a b ≡ max a b
+    at Less h = omega (arith, h)
+    at Equal h = omega (arith, h)
+    at Greater h = omega (arith, h)
+
+pub ord_min-is : (a b : ℕ) → ord_min nat_cmp a b ≡ min a b
+ord_min-is a b = at (nat_cmp b a) (ranked b a _ refl)
+  where
+    at : (o : Ordering) → MatchOrdering o (b < a) (b ≡ a) (a < b) → cond (is_lt o) b a ≡ min a b
+    at Less h = omega (arith, h)
+    at Equal h = omega (arith, h)
+    at Greater h = omega (arith, h)

@@ -1,0 +1,30 @@
+use Rattle.std.proofs.Common.{◌≡◌, ◌≤◌, ◌∙◌, List, [], ℤ, ℕ, length, arith, refl, sym, ap, subst}
+use Rattle.std.proofs.lemmas.Result.{err_from_is_err_and}
+use Rattle.gf_duality.specs.Rays.{IsRays}
+use Rattle.gf_duality.proofs.Implied.{echelon_long}
+use Rattle.gf_facets.specs.Rows.{rows_of}
+use Rattle.gf_rays.specs.Cones.{AreRaysWithinLimits}
+use Rattle.gf_small.specs.Statistics.{members_of}
+use Rattle.gf_small.proofs.HomogeneitySpaceLaws.{dimension_of}
+use Rattle.gf_small.proofs.statistics.dimension.Goals as goal
+
+pub returns-in_err-space-clause-complete : goal.returns-in_err-space-clause-complete
+returns-in_err-space-clause-complete c = λ within.
+    let p = err_from_is_err_and c.from_residual-in_err-space.result c.from_residual-in_err-space.ensures.1 in
+    let none : c.as_slice.result.now ≡ [] = c.as_slice.ensures.value ∙ c.new-none.ensures.items in
+    let rows : c.as_slice-2.result.now ≡ rows_of (members_of c.args.sets.now) = c.as_slice-2.ensures.value ∙ c.in_ok-rows.ensures.value in
+    let limits : AreRaysWithinLimits c.args.n c.as_slice.result.now c.as_slice-2.result.now = subst (λ (h : List (List ℤ)). AreRaysWithinLimits c.args.n h c.as_slice-2.result.now) (sym none) (subst (AreRaysWithinLimits c.args.n []) (sym rows) within) in
+    rw (p.1, p.2) (c.in_err-space.ensures.complete limits)
+
+pub overflow_cast-result : goal.overflow_cast-result
+overflow_cast-result c =
+    let rays = c.lineality.ensures.rays in
+    let few : length c.lineality.result.now ≤ c.in_ok-space.space.ambient = echelon_long c.in_ok-space.space.ambient c.lineality.result.now rays.lin_width rays.echelon in
+    let few_in : length c.lineality.result.now ≤ c.args.n = subst (λ (k : ℕ). length c.lineality.result.now ≤ k) c.in_ok-space.ensures.rows.0 few in
+    omega (arith, few_in, c.ranges.n.fits)
+
+pub returns-clause-ok : goal.returns-clause-ok
+returns-clause-ok c =
+    let none : c.as_slice.result.now ≡ [] = c.as_slice.ensures.value ∙ c.new-none.ensures.items in
+    let rays : IsRays c.args.n [] c.as_slice-2.result.now c.in_ok-space.space.lineality c.in_ok-space.space.rays = subst (λ (h : List (List ℤ)). IsRays c.args.n h c.as_slice-2.result.now c.in_ok-space.space.lineality c.in_ok-space.space.rays) none c.in_ok-space.ensures.rays in
+    dimension_of c.args.n _ (members_of c.args.sets.now) c.as_slice-2.result.now c.in_ok-space.space.lineality c.in_ok-space.space.rays c.in_ok-rows.ensures.variables c.in_ok-rows.ensures.marked (c.as_slice-2.ensures.value ∙ c.in_ok-rows.ensures.value) rays (ap length c.lineality.ensures.value)

@@ -1,0 +1,28 @@
+-- What is counted of a list of marked sets without vectors.
+-- Laws: proofs/CountsLaws.antt.
+use Rattle.std.specs.Prelude.{◌≡◌, ℕ, ◌+◌, min, List, [], ◌∷◌, map, length}
+use Rattle.gf_poly.specs.Marking.{MarkedPolynomial, MarkedPolynomials}
+use Rattle.gf_small.specs.declared.counts.Counts.{Counts}
+use Rattle.gf_small.specs.Degrees.{greatest, total_degree}
+
+-- the least of these numbers; 0 where there are none
+abbrev pub least : List ℕ → ℕ
+least [] = 0
+least (k ∷ []) = k
+least (k ∷ l ∷ ks) = min k (least (l ∷ ks))
+
+-- the total degree of a set: that of its polynomial of greatest degree; 0 where it is empty
+abbrev pub degree_of_set : MarkedPolynomials → ℕ
+degree_of_set s = greatest (map (λ b. total_degree b.poly) s.items)
+
+-- the number of terms of these polynomials together
+abbrev pub terms_in : List MarkedPolynomial → ℕ
+terms_in [] = 0
+terms_in (b ∷ bs) = length b.poly + terms_in bs
+
+-- what is counted of these sets without vectors
+pub record AreCounts (sets : List MarkedPolynomials) (c : Counts) : Type 0 where
+  pub greatest_degree : c.greatest_degree ≡ greatest (map degree_of_set sets)
+  pub least_degree : c.least_degree ≡ least (map degree_of_set sets)
+  pub most_polynomials : c.most_polynomials ≡ greatest (map (λ t. length t.items) sets)
+  pub most_terms : c.most_terms ≡ greatest (map (λ t. terms_in t.items) sets)

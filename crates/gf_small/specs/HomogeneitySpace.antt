@@ -1,0 +1,27 @@
+-- The homogeneity space of polynomials: the vectors by which each of them is homogeneous.
+-- Laws: proofs/HomogeneitySpaceLaws.antt. Source: Fukuda, Jensen, Thomas, Computing Gröbner fans, 2.
+use Rattle.std.specs.Prelude.{◌≡◌, ◌↔◌, ℕ, List, [], ℤ, length, Contains}
+use Rattle.gf_exponents.specs.Exponents.{whole_weight}
+use Rattle.gf_poly.specs.declared.Term.{Term}
+use Rattle.gf_poly.specs.Polynomial.{Terms}
+use Rattle.gf_poly.specs.Marking.{MarkedPolynomial}
+use Rattle.gf_gordan.specs.Alternative.{AreRows}
+use Rattle.gf_duality.specs.Rays.{IsEchelon, Generated}
+
+-- all terms of f have one weight by w
+abbrev pub IsHomogeneousBy : List ℤ → Terms → Type 0
+IsHomogeneousBy w f = (s t : Term) → Contains f s → Contains f t → whole_weight w s.mono ≡ whole_weight w t.mono
+
+-- w is in the homogeneity space of these polynomials
+abbrev pub IsInSpace : List ℤ → List MarkedPolynomial → Type 0
+IsInSpace w bs = (b : MarkedPolynomial) → Contains bs b → IsHomogeneousBy w b.poly
+
+-- the homogeneity space, in n variables, has this echelon basis
+pub record IsBasisOfSpace (n : ℕ) (bs : List MarkedPolynomial) (basis : List (List ℤ)) : Type 0 where
+  pub width : AreRows n basis
+  pub echelon : IsEchelon basis
+  pub spans : (w : List ℤ) → length w ≡ n → IsInSpace w bs ↔ Generated n [] basis w
+
+-- it has this dimension
+abbrev pub HasDimension : ℕ → List MarkedPolynomial → ℕ → Type 0
+HasDimension n bs d = (basis : List (List ℤ)) × IsBasisOfSpace n bs basis × (length basis ≡ d)

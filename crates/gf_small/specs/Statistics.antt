@@ -1,0 +1,39 @@
+-- Statistics of a list of marked sets.
+use Rattle.std.specs.Prelude.{◌≡◌, ℕ, All, List, [], map, flat_map, length}
+use Rattle.gf_poly.specs.Marking.{MarkedPolynomial, MarkedPolynomials}
+use Rattle.gf_gordan.specs.declared.error.GordanError.{GordanError}
+use Rattle.gf_gordan.specs.Steps.{Failed}
+use Rattle.gf_duality.specs.Stages.{IsRaysStep}
+use Rattle.gf_rays.specs.Cones.{AreRaysWithinLimits}
+use Rattle.gf_facets.specs.Rows.{rows_of}
+use Rattle.gf_small.specs.declared.counts.Stats.{Stats}
+use Rattle.gf_small.specs.Degrees.{greatest}
+use Rattle.gf_small.specs.Counts.{least, degree_of_set, terms_in}
+use Rattle.gf_small.specs.HomogeneitySpace.{HasDimension}
+
+-- all polynomials of these sets
+abbrev pub members_of : List MarkedPolynomials → List MarkedPolynomial
+members_of sets = flat_map (λ s. s.items) sets
+
+-- the statistics of these sets in n variables
+pub record AreStatistics (n : ℕ) (sets : List MarkedPolynomials) (s : Stats) : Type 0 where
+  pub bases : s.bases ≡ length sets
+  pub variables : s.variables ≡ n
+  pub homogeneity : HasDimension n (members_of sets) s.homogeneity
+  pub greatest_degree : s.greatest_degree ≡ greatest (map degree_of_set sets)
+  pub least_degree : s.least_degree ≡ least (map degree_of_set sets)
+  pub most_polynomials : s.most_polynomials ≡ greatest (map (λ t. length t.items) sets)
+  pub most_terms : s.most_terms ≡ greatest (map (λ t. terms_in t.items) sets)
+
+-- each set has n variables
+abbrev pub AreSetsIn : ℕ → List MarkedPolynomials → Type 0
+AreSetsIn n sets = All (λ s. s.variables ≡ n) sets
+
+-- why there are none: an operation leaves its range in working out the vectors on which all differences of a marked exponent
+-- vector and another one of its polynomial are zero, or there is no memory
+abbrev pub IsStatisticsCause : ℕ → List MarkedPolynomials → GordanError → Type 0
+IsStatisticsCause n sets = Failed (IsRaysStep n [] (rows_of (members_of sets)))
+
+-- no such operation leaves its range
+abbrev pub AreStatisticsWithinLimits : ℕ → List MarkedPolynomials → Type 0
+AreStatisticsWithinLimits n sets = AreRaysWithinLimits n [] (rows_of (members_of sets))

@@ -1,0 +1,75 @@
+//! Statistics of a list of marked sets.
+ghost use Rattle.std.specs.Prelude.{◌≡◌, IfOk, IfErr};
+ghost use Rattle.gf_poly.specs.Marking.{Each, HaveVariables, HasMarkedTerm};
+ghost use Rattle.gf_gordan.specs.Alternative.{AreRows};
+ghost use Rattle.gf_gordan.specs.declared.error.GordanError.TheVariants.{Memory};
+ghost use Rattle.gf_facets.specs.Rows.{rows_of};
+ghost use Rattle.gf_small.specs.HomogeneitySpace.{HasDimension};
+ghost use Rattle.gf_small.specs.Statistics.{members_of, AreSetsIn, AreStatistics, IsStatisticsCause, AreStatisticsWithinLimits};
+
+use crate::counts::{Counts, Stats, counts_of};
+use gf_gordan::GordanError;
+use gf_poly::MarkedSet;
+use gf_rays::Rays;
+use gf_vec::IntVec;
+use std::alloc::{AllocError, Global};
+
+/// The differences of a marked exponent vector and each other one of its polynomial, of all polynomials.
+fn all_rows(alloc: Global, n: u32, sets: &[MarkedSet]) -> Result<Vec<IntVec>, AllocError>
+    requires { AreSetsIn n sets.now }
+    ensures value { IfOk result (λ rows. rows.items ≡ rows_of (members_of sets.now)) }
+    ensures marked { IfOk result (λ _. Each HasMarkedTerm (members_of sets.now)) }
+    ensures variables { IfOk result (λ _. HaveVariables n (members_of sets.now)) }
+    ensures width { IfOk result (λ rows. AreRows n rows.items) }
+{
+    let mut rows = Vec::new(alloc);
+    'sets: for i in 0..sets.len() {
+        let mut more = gf_cone::rows(alloc, &sets[i])?;
+        rows.append(&mut more)?;
+    }
+    Ok(rows)
+}
+
+/// The dimension of the homogeneity space.
+fn dimension(alloc: Global, n: u32, sets: &[MarkedSet]) -> Result<u32, GordanError>
+    requires { AreSetsIn n sets.now }
+    ensures ok { IfOk result (HasDimension n (members_of sets.now)) }
+    ensures err { IfErr result (IsStatisticsCause n sets.now) }
+    ensures complete { AreStatisticsWithinLimits n sets.now → IfErr result (λ e. e ≡ Memory) }
+{
+    let rows = all_rows(alloc, n, sets)?;
+    let none = Vec::new(alloc);
+    let space = Rays::of(alloc, n, none.as_slice(), rows.as_slice())?;
+    Ok(space.lineality().len() as u32)
+}
+
+/// Statistics of marked sets in `n` variables. The dimension is that of the space of vectors by which each polynomial of each set is
+/// homogeneous (Fukuda, Jensen, Thomas, *Computing Gröbner fans*, 2); it is `n` where there are no sets.
+///
+/// # Errors
+///
+/// `Cone` only at an operation of working out that space, whose equations are the marked exponent vector of a polynomial less each
+/// other one; it holds the two numbers whose sum, difference or product leaves the range from `-(2^127 - 1)` to `2^127 - 1`.
+pub fn stats(alloc: Global, n: u32, sets: &[MarkedSet]) -> Result<Stats, GordanError>
+    requires { AreSetsIn n sets.now }
+    ensures ok { IfOk result (AreStatistics n sets.now) }
+    ensures err { IfErr result (IsStatisticsCause n sets.now) }
+    ensures complete { AreStatisticsWithinLimits n sets.now → IfErr result (λ e. e ≡ Memory) }
+{
+    let homogeneity = dimension(alloc, n, sets)?;
+    let Counts {
+        greatest_degree,
+        least_degree,
+        most_polynomials,
+        most_terms,
+    } = counts_of(sets);
+    Ok(Stats {
+        bases: sets.len() as u64,
+        variables: n,
+        homogeneity,
+        greatest_degree,
+        least_degree,
+        most_polynomials,
+        most_terms,
+    })
+}
