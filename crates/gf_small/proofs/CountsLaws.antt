@@ -12,7 +12,7 @@ use Rattle.gf_exponents.proofs.ExponentsLaws.{eq_by}
 use Rattle.gf_poly.specs.Marking.{MarkedPolynomial, MarkedPolynomials}
 use Rattle.gf_poly.proofs.CollectLaws.{nonempty_by_test}
 use Rattle.gf_small.specs.declared.counts.Counts.{Counts}
-use Rattle.gf_small.specs.Degrees.{greatest, total_degree}
+use Rattle.gf_small.specs.Degrees.{greatest}
 use Rattle.gf_small.specs.Counts.{least, degree_of_set, terms_in, AreCounts}
 
 greatest-push : (ks : List ℕ) (k : ℕ) → greatest (ks ++ k ∷ []) ≡ max (greatest ks) k

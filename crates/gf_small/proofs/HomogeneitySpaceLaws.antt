@@ -1,15 +1,15 @@
 -- The homogeneity space as the null space of rows.
 -- To cite: RowsSoFar and its steps, dimension_of.
-use Rattle.std.specs.Prelude.{◌≡◌, ◌↔◌, ◌⊎◌, ℕ, zero, suc, ◌+◌, ◌<◌, ◌≤◌, true, false, List, [], ◌∷◌, ◌++◌, length, take, get_or, flat_map, All, Contains, ℤ, pos, ◌-ℤ◌}
+use Rattle.std.specs.Prelude.{◌≡◌, ◌↔◌, ◌⊎◌, ℕ, zero, suc, ◌+◌, ◌<◌, true, false, List, [], ◌∷◌, ◌++◌, length, take, get_or, All, Contains, ℤ, pos}
 use Rattle.std.proofs.Common.{arith, refl, sym, ap, subst, ◌∙◌, inl, inr, append_assoc, append-nil}
 use Rattle.std.proofs.lemmas.Int.{ints}
-use Rattle.std.proofs.lemmas.List.{take_more, take_all}
+use Rattle.std.proofs.lemmas.List.{take_more}
 use Rattle.std.proofs.lemmas.List.Elements.{All-contains, Contains-get_or}
-use Rattle.gf_exponents.specs.Exponents.{Exponents, same, whole_weight}
+use Rattle.gf_exponents.specs.Exponents.{same, whole_weight}
 use Rattle.gf_exponents.proofs.WholeWeightLaws.{whole_weight-same}
 use Rattle.gf_vec.specs.Vector.{dot}
 use Rattle.gf_poly.specs.declared.Term.{Term}
-use Rattle.gf_poly.specs.Polynomial.{Terms, HasVariables}
+use Rattle.gf_poly.specs.Polynomial.{HasVariables}
 use Rattle.gf_poly.specs.Marking.{MarkedPolynomial, MarkedPolynomials, Each, HaveVariables, HasMarkedTerm}
 use Rattle.gf_poly.proofs.CoefficientLaws.{term_length}
 use Rattle.gf_ideal.proofs.ListLaws.{Each-++}
@@ -17,7 +17,7 @@ use Rattle.gf_gordan.specs.Alternative.{AreRows}
 use Rattle.gf_duality.specs.Rays.{IsLineal, IsRays}
 use Rattle.gf_facets.specs.Rows.{rows_of, rows_of_terms, differences}
 use Rattle.gf_facets.proofs.RowLaws.{same_or_other, row-in, row-from, IsTermRow, length-differences, dot-differences}
-use Rattle.gf_small.specs.HomogeneitySpace.{IsHomogeneousBy, IsInSpace, IsBasisOfSpace, HasDimension}
+use Rattle.gf_small.specs.HomogeneitySpace.{IsInSpace, HasDimension}
 use Rattle.gf_small.specs.Statistics.{members_of}
 
 -- ---- the rows of lists

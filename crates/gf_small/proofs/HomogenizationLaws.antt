@@ -1,8 +1,7 @@
 -- Homogenisation, term by term and polynomial by polynomial.
 -- To cite: degree_first, degree_at, filled-monomial, copied_more, FilledSoFar and its steps, filled-short, filled-variables, filled-monomial_there,
 -- never_alike, AllDone and its steps. The rest are steps.
-use Rattle.std.specs.Prelude.{◌≡◌, ◌≢◌, ◌⊎◌, ℕ, zero, suc, ◌+◌, ◌-◌, ◌^◌, ◌<◌, ◌≤◌, ◌==◌, ◌&&◌, Bool, true, false, cond, if◌then◌else◌, List, [], ◌∷◌, ◌++◌, length, take, drop, get_or, map, All, Contains, max}
-use Rattle.std.specs.List.{AllZip}
+use Rattle.std.specs.Prelude.{◌≡◌, ◌≢◌, ℕ, zero, suc, ◌+◌, ◌^◌, ◌<◌, ◌≤◌, ◌==◌, ◌&&◌, Bool, true, false, cond, if◌then◌else◌, List, [], ◌∷◌, ◌++◌, length, take, drop, get_or, map, All, Contains}
 use Rattle.std.specs.Ordering.{nat_cmp, ordering_then, is_eq, MatchOrdering}
 use Rattle.std.specs.declared.cmp.Ordering.{Ordering}
 use Rattle.std.specs.declared.cmp.Ordering.TheVariants.{Less, Equal, Greater}
@@ -14,7 +13,7 @@ use Rattle.gf_frac.specs.Fraction.{◌+ℚ◌, zero_ℚ}
 use Rattle.gf_frac.specs.declared.refusal.Overflow.{Overflow}
 use Rattle.gf_exponents.specs.Exponents.{Exponents, same, degree}
 use Rattle.gf_exponents.specs.Orders.{deglex, lex}
-use Rattle.gf_exponents.proofs.ExponentsLaws.{entries_same, same_lists, same-refl}
+use Rattle.gf_exponents.proofs.ExponentsLaws.{entries_same, same_lists}
 use Rattle.gf_poly.specs.declared.Term.{Term}
 use Rattle.gf_poly.specs.declared.monomial.ExponentOverflow.{ExponentOverflow}
 use Rattle.gf_poly.specs.Monomial.{IsMonomial}
@@ -27,7 +26,7 @@ use Rattle.gf_text.specs.declared.written.Written.{Written}
 use Rattle.gf_text.specs.declared.written.Written.TheVariants as written
 use Rattle.gf_text.specs.Sets.{IsIn, AreIn}
 use Rattle.gf_small.specs.Degrees.{total_degree}
-use Rattle.gf_small.specs.Homogenization.{new_exponent, filled, filled_term, homogenized, ExponentsFit, IsPastLimit, IsFirstPastLimit, IsWithinLimit, IsPastLimitIn, IsFirstOverflow, IsMarkedHomogenization, IsWrittenHomogenization, AreHomogenizations, HasExponent, IsHomogenizeCause}
+use Rattle.gf_small.specs.Homogenization.{new_exponent, filled, filled_term, ExponentsFit, IsPastLimit, IsFirstPastLimit, IsWithinLimit, IsPastLimitIn, IsFirstOverflow, IsMarkedHomogenization, IsWrittenHomogenization, AreHomogenizations, HasExponent, IsHomogenizeCause}
 use Rattle.gf_small.specs.declared.homogenization.HomogenizeError.{HomogenizeError}
 use Rattle.gf_small.specs.declared.homogenization.HomogenizeError.TheVariants as errors
 use Rattle.gf_poly.proofs.MarkingLaws.{mark_at}
@@ -248,6 +247,9 @@ pub record Filling (b : MarkedPolynomial) (terms all : Terms) (d i : ℕ) (t : T
   pub all_are : all ≡ map (filled_term d) terms
   pub at : t ≡ get_or all i t
   pub head_is : head ≡ t.mono
+
+pub filling_at : (b : MarkedPolynomial) (f terms all : Terms) (d i : ℕ) (t : Term) (head : Exponents) → f ≡ b.poly → terms ≡ f → IsDescending f → i < length b.poly → head_of b.poly i ≡ b.head → d ≡ total_degree terms → all ≡ map (filled_term d) terms → t ≡ get_or all i t → head ≡ t.mono → Filling b terms all d i t head
+filling_at b f terms all d i t head ef et desc l m e q at h = record { terms_are = et ∙ ef; descending = subst IsDescending ef desc; inside = l; mark = m; total = e; all_are = q; at = at; head_is = h }
 
 marked_there : (b : MarkedPolynomial) (i : ℕ) → IsDescending b.poly → i < length b.poly → head_of b.poly i ≡ b.head → HasMarkedTerm b
 marked_there b i d l e = record {

@@ -1,6 +1,6 @@
 -- Initial forms of polynomials that aren't zero, and their marks.
 -- To cite: form_nonempty, here_not_zero, marked_some. The rest are steps.
-use Rattle.std.specs.Prelude.{◌≡◌, ◌≢◌, ◌⊎◌, ℕ, zero, suc, ◌+◌, ◌<◌, ◌≤◌, true, List, [], ◌∷◌, ◌++◌, length, take, get_or, Contains, ℤ, ◌<ℤ◌, ◌≤ℤ◌}
+use Rattle.std.specs.Prelude.{◌≡◌, ◌⊎◌, ℕ, zero, suc, ◌+◌, ◌<◌, ◌≤◌, true, List, [], ◌∷◌, ◌++◌, length, take, get_or, Contains, ℤ, ◌<ℤ◌, ◌≤ℤ◌}
 use Rattle.std.specs.Ordering.{int_cmp, MatchOrdering}
 use Rattle.std.specs.declared.cmp.Ordering.{Ordering}
 use Rattle.std.specs.declared.cmp.Ordering.TheVariants.{Less, Equal, Greater}
@@ -12,9 +12,9 @@ use Rattle.gf_exponents.specs.Exponents.{Exponents, same, whole_weight}
 use Rattle.gf_exponents.specs.Orders.{deglex}
 use Rattle.gf_exponents.proofs.WholeWeightLaws.{whole_weight-same}
 use Rattle.gf_poly.specs.declared.Term.{Term}
-use Rattle.gf_poly.specs.Polynomial.{Terms, coefficient, IsDescending, HasVariables, KeepsVariables}
+use Rattle.gf_poly.specs.Polynomial.{Terms, coefficient, IsDescending, HasVariables}
 use Rattle.gf_poly.specs.InitialForms.{IsOfGreatestWeight, IsInitialForm}
-use Rattle.gf_poly.specs.Marking.{MarkedPolynomial, head_of, HasMarkedTerm}
+use Rattle.gf_poly.specs.Marking.{MarkedPolynomial, HasMarkedTerm}
 use Rattle.gf_poly.proofs.DescendingLaws.{equal_same}
 use Rattle.gf_poly.proofs.InitialFormLaws.{occurs}
 use Rattle.gf_poly.proofs.CoefficientLaws.{term_nonzero, term_coefficient}
@@ -22,7 +22,7 @@ use Rattle.std.proofs.lemmas.List.{take_all}
 use Rattle.std.proofs.lemmas.List.Elements.{all_zip_more}
 use Rattle.gf_text.specs.declared.written.Written.{Written}
 use Rattle.gf_text.specs.Sets.{IsIn, AreIn}
-use Rattle.gf_small.specs.InitialForms.{IsMarkedInitialForm, IsWrittenInitialForm, AreInitialForms}
+use Rattle.gf_small.specs.InitialForms.{IsWrittenInitialForm, AreInitialForms}
 use Rattle.gf_small.proofs.WrittenLaws.{AreIn-push}
 
 -- ---- some term is of greatest weight

@@ -1,8 +1,7 @@
 -- The greatest term by a weight, as a search finds it.
 -- To cite: above_by, below_by, Greatest, Greatest-start, Greatest-new, Greatest-kept, greatest_of, marked_kept. The rest are steps.
-use Rattle.std.specs.Prelude.{◌≡◌, ◌⊎◌, ℕ, zero, suc, ◌+◌, ◌<◌, ◌≤◌, Bool, true, false, List, [], ◌∷◌, ◌++◌, length, take, get_or, map, Contains, ℤ, ◌<ℤ◌}
-use Rattle.std.specs.Ordering.{nat_cmp, MatchOrdering}
-use Rattle.std.specs.Cmp.Lexicographic.{slice_cmp}
+use Rattle.std.specs.Prelude.{◌≡◌, ◌⊎◌, ℕ, zero, suc, ◌+◌, ◌<◌, ◌≤◌, List, [], ◌∷◌, ◌++◌, length, take, get_or, Contains, ℤ, ◌<ℤ◌}
+use Rattle.std.specs.Ordering.{MatchOrdering}
 use Rattle.std.specs.declared.cmp.Ordering.{Ordering}
 use Rattle.std.specs.declared.cmp.Ordering.TheVariants.{Less, Equal, Greater}
 use Rattle.std.proofs.Common.{arith, refl, sym, ap, subst, ◌∙◌, inl, inr}
@@ -15,7 +14,7 @@ use Rattle.gf_exponents.specs.Orders.{IsLexBelow, lex}
 use Rattle.gf_exponents.proofs.OrderLaws.{lex-compares, lex-strict}
 use Rattle.gf_poly.specs.declared.Term.{Term}
 use Rattle.gf_poly.specs.Polynomial.{Terms, IsDescending, HasVariables}
-use Rattle.gf_poly.specs.Marking.{MarkedPolynomial, MarkedPolynomials, Each, HaveVariables, HasMarkedTerm, head_of, polys}
+use Rattle.gf_poly.specs.Marking.{MarkedPolynomial, MarkedPolynomials, Each, HaveVariables, head_of, polys}
 use Rattle.gf_poly.proofs.MarkingLaws.{mark_at}
 use Rattle.gf_poly.proofs.CoefficientLaws.{term_length}
 use Rattle.gf_ideal.proofs.ListLaws.{Each-++}

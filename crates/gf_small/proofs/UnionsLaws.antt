@@ -1,7 +1,7 @@
 -- The union of sets, polynomial by polynomial.
 -- To cite: same_terms, other_terms, same_so_far, other_here, other_length, terms_exact, nothing_exact, equal_at, none_equal, passed,
 -- SeenSoFar and its steps, UnitedSoFar and its steps.
-use Rattle.std.specs.Prelude.{◌≡◌, ◌↔◌, ◌⊎◌, ℕ, zero, suc, ◌+◌, ◌<◌, ◌≤◌, Bool, true, false, IsTrue, List, [], ◌∷◌, ◌++◌, length, take, get_or, All, Any, map, flat_map}
+use Rattle.std.specs.Prelude.{◌≡◌, ◌↔◌, ℕ, zero, suc, ◌+◌, ◌<◌, ◌≤◌, Bool, true, IsTrue, List, [], ◌∷◌, ◌++◌, length, take, get_or, flat_map}
 use Rattle.std.proofs.Common.{arith, refl, sym, ap, subst, ◌∙◌, append_assoc, append-nil}
 use Rattle.std.specs.Prelude.{Vec}
 use Rattle.std.specs.Global.{Global}
@@ -20,10 +20,9 @@ use Rattle.gf_poly.specs.declared.Term.{Term}
 use Rattle.gf_poly.specs.Polynomial.{Terms, coefficient, SamePolynomial, IsDescending, HasVariables}
 use Rattle.gf_poly.proofs.CoefficientLaws.{descending_unique}
 use Rattle.gf_text.specs.declared.written.Written.{Written}
-use Rattle.gf_text.specs.declared.written.Written.TheVariants as written
-use Rattle.gf_text.specs.Sets.{IsIn, AreIn}
+use Rattle.gf_text.specs.Sets.{AreIn}
 use Rattle.gf_text.specs.SetLists.{AreAllIn, sets_in}
-use Rattle.gf_small.specs.Unions.{terms_of, AreEqual, IsAmong, IsNew, AreFirstSeen, IsUnion}
+use Rattle.gf_small.specs.Unions.{AreEqual, IsAmong, IsNew, AreFirstSeen, IsUnion}
 use Rattle.gf_small.proofs.WrittenLaws.{AreIn-push, in_read}
 
 -- ---- lists of terms

@@ -1,5 +1,4 @@
 use Rattle.std.proofs.Common.{◌∙◌, ap, max}
-use Rattle.gf_poly.specs.Polynomial.{Terms}
 use Rattle.gf_poly.specs.Marking.{MarkedPolynomial}
 use Rattle.gf_small.specs.Degrees.{total_degree}
 use Rattle.gf_small.proofs.CountsLaws.{greatest-more, ord_max-is}

@@ -1,4 +1,4 @@
-use Rattle.std.proofs.Common.{◌≡◌, ◌∙◌, sym, rules, inl, inr, FitsSigned}
+use Rattle.std.proofs.Common.{◌∙◌, sym, rules, inl, inr, FitsSigned}
 use Rattle.std.specs.Int.{w128}
 use Rattle.std.specs.declared.cmp.Ordering.TheVariants.{Greater}
 use Rattle.std.proofs.lemmas.Int.{to_z-of_z}

@@ -1,8 +1,6 @@
-use Rattle.std.proofs.Common.{◌≡◌, ◌∙◌, sym, subst, ap, ◌<◌, ◌⊎◌, length, Contains}
-use Rattle.gf_poly.specs.declared.Term.{Term}
+use Rattle.std.proofs.Common.{◌≡◌, ◌∙◌, sym, subst, ap}
 use Rattle.gf_poly.specs.Polynomial.{Terms, IsDescending}
-use Rattle.gf_poly.specs.Marking.{MarkedPolynomial, head_of}
-use Rattle.gf_small.specs.MarksByWeight.{IsBelowBy}
+use Rattle.gf_poly.specs.Marking.{head_of}
 use Rattle.gf_small.proofs.MarksByWeightLaws.{marked_at}
 use Rattle.gf_small.proofs.marks.marked_by.Goals as goal
 

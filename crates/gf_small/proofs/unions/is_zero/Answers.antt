@@ -1,4 +1,4 @@
-use Rattle.std.proofs.Common.{◌≡◌, ◌↔◌, IsTrue, [], subst, sym, ap, ◌∙◌, length}
+use Rattle.std.proofs.Common.{◌↔◌, IsTrue, [], subst, sym, ap, ◌∙◌, length}
 use Rattle.std.specs.Prelude.{◌==◌}
 use Rattle.gf_poly.specs.Polynomial.{Terms, SamePolynomial, IsDescending, HasVariables}
 use Rattle.gf_text.specs.declared.written.Written.{Written}

@@ -1,9 +1,8 @@
-use Rattle.std.proofs.Common.{◌≡◌, get_or, List, sym, subst, ap, ◌∙◌, ℕ}
+use Rattle.std.proofs.Common.{◌≡◌, get_or, List, sym, subst}
 use Rattle.gf_text.specs.declared.written.Written.{Written}
 use Rattle.gf_text.specs.Sets.{AreIn}
 use Rattle.gf_text.specs.SetLists.{sets_in}
-use Rattle.gf_small.specs.Unions.{AreFirstSeen}
-use Rattle.gf_small.proofs.UnionsLaws.{UnitedSoFar, united-none, united-more, united-all, set_at, set_inside, sets_done, in_set}
+use Rattle.gf_small.proofs.UnionsLaws.{UnitedSoFar, united-none, united-more, set_at, set_inside, in_set}
 use Rattle.gf_small.proofs.unions.union.Goals as goal
 
 pub sets-init : goal.sets-init
