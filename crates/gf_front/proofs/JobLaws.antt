@@ -1,24 +1,27 @@
 -- Words that the table has a match for name one of its commands, each of whose options holds what it takes.
--- To cite: parsed_as, within_limits. The rest are steps.
+-- To cite: parsed_as, job_is, no_match, within_limits. The rest are steps.
 use Rattle.std.proofs.Common.{◌≡◌, ◌≤◌, Bool, true, false, not, ◌&&◌, ◌||◌, cond, List, [], ◌∷◌, Option, Some, None, IfSome, is_some, codes, map, inl, inr, arith, refl, sym, ap, ◌∙◌, subst}
-use Rattle.std.specs.Prelude.{option_map}
+use Rattle.std.specs.Prelude.{option_map, option_and_then}
 use Rattle.std.specs.Option.{option_map_or}
 use Rattle.std.specs.List.{find, list_any}
 use Rattle.std.specs.Str.{bytes_eq}
 use Rattle.std.proofs.lemmas.Slice.Eq.{bytes_eq-Decides}
 use Rattle.std.specs.Str.Parse.{digits_value, without_leading_plus}
-use Rattle.clap.specs.Words.{App, HasMatchesOf, Row, Rule, Shape, Text, built, fault_of, is_simple_and_free, one_of, subcommand_name_of, subcommand_rows_of}
+use Rattle.clap.specs.declared.error.Error.{Error}
+use Rattle.clap.specs.declared.error.kind.ErrorKind.TheVariants as kinds
+use Rattle.clap.specs.Words.{App, kind_of, HasMatchesOf, Row, Rule, Shape, Text, built, fault_of, is_simple_and_free, one_of, subcommand_name_of, subcommand_rows_of}
 use Rattle.clap.specs.declared.parser.matches.ArgMatches.{ArgMatches}
 use Rattle.clap.specs.declared.parser.matches.ArgMatches.TheViews.{out-ArgMatches}
 use Rattle.clap.specs.Facts.{explicit_source}
 use Rattle.clap.specs.Takes.{is_given}
-use Rattle.clap.specs.Kinds.{check_kinds}
+use Rattle.clap.specs.Kinds.{check_kinds, HasKind, IsAmong}
 use Rattle.clap.specs.Walk.{answers_to, nothing_held, walk, rows_after}
 use Rattle.clap.specs.Simple.{argument_words, built_leaf, entered, inherited, label_of, marked_built, names_of, with_leaf_noted}
 use Rattle.clap.specs.Faults.{check_fault, entered_fault}
 use Rattle.gf_front.specs.declared.command_line.Job.{Job}
-use Rattle.gf_front.specs.Table.{Entry, table, commands, shape, most_pairs, usual_pairs, number_of, number_where, buchberger, bases, is_marked_groebner_basis, leading_terms}
-use Rattle.gf_front.specs.Jobs.{HasMatch, HasNumbersInRange, match_of, job_in, job_of}
+use Rattle.gf_front.specs.declared.command_line.Job.TheVariants as jobs
+use Rattle.gf_front.specs.Table.{Entry, table, commands, tools, shape, most_pairs, usual_pairs, number_of, number_where, buchberger, bases, plain, leading_terms}
+use Rattle.gf_front.specs.Jobs.{HasMatch, HasNumbersInRange, IsJobOfMatch, match_of, job_in, job_of}
 use Rattle.gf_front.specs.Options.{HoldChoices, NamesEntry, IsCommand, HoldsNumber}
 use Rattle.gf_front.proofs.MatchLaws.{Enters, entered_rows, level_rows, rows_pass}
 use Rattle.gf_front.proofs.OptionLaws.{is_flag, is_number}
@@ -147,12 +150,28 @@ leading_terms_sound = record {
 }
 
 -- a command without options and numbers
-plain_sound : (e : Entry) → e.options ≡ [] → ((rows : List Row) → HasNumbersInRange (e.job rows)) → IsSound e
-plain_sound e none limits = record { holds = λ rows ok. subst (λ os. HoldChoices os rows) (sym none) tt; limits = λ rows h. limits rows }
+plain_sound : (name : Text) (job : Job) → HasNumbersInRange job → IsSound (plain name job)
+plain_sound name job within = record { holds = λ rows ok. tt; limits = λ rows h. within }
+
+tools_sound : AreSound tools
+unfolding AreSound
+tools_sound = (
+  plain_sound (codes "_markpolynomialset") jobs.MarkPolynomialSet tt,
+  refl,
+  (
+    plain_sound (codes "_initialforms") jobs.InitialForms tt,
+    refl,
+    (
+      plain_sound (codes "_homogenize") jobs.Homogenize tt,
+      refl,
+      (plain_sound (codes "_polynomialsetunion") jobs.PolynomialSetUnion tt, refl, tt),
+    ),
+  ),
+)
 
 all_sound : AreSound commands
 unfolding AreSound
-all_sound = (buchberger_sound, refl, (bases_sound, refl, (plain_sound is_marked_groebner_basis refl (λ rows. tt), refl, (leading_terms_sound, refl, tt))))
+all_sound = (buchberger_sound, refl, (bases_sound, refl, (plain_sound (codes "_ismarkedgroebnerbasis") jobs.IsMarkedGroebnerBasis tt, refl, (leading_terms_sound, refl, tools_sound))))
 
 -- the rows of each command hold what its options take
 command_of : (m : Text × List Row) → Enters program m → IsCommand m
@@ -203,3 +222,14 @@ parsed_as a words p name rows is free has named held =
     let found = (subst (λ (b : App). HasMatchesOf b words p) is has refl).1 in
     let same = sym found ∙ name_and_rows (out-ArgMatches p).subcommand _ _ name rows named held in
     record { matched = matched; match = same; command = command_is words (name, rows) matched same }
+
+-- the job is that of the command that the parse met
+pub job_is : (words : List Text) (m : Text × List Row) (job : Job) → IsParsedAs words m → job_of m ≡ Some job → IsJobOfMatch words job
+job_is words m job p is = record { matched = p.matched; is = ap (option_and_then job_of) p.match ∙ is }
+
+-- an error that isn't want of memory comes only where the table has no match
+pub no_match : (a : App) (words : List Text) (e : Error) → a ≡ table → (is_simple_and_free a ≡ true → HasKind (fault_of a words) e) → (kind_of e ≡ kinds.OutOfMemory → ⊥) → HasMatch words → ⊥
+no_match a words e is has other match = elim (subst (λ (b : App). is_simple_and_free b ≡ true → HasKind (fault_of b words) e) is has refl) [
+  | inl m ↦ other m
+  | inr k ↦ subst (IsAmong (kind_of e)) match k
+]

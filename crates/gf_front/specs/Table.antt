@@ -1,7 +1,7 @@
 -- The table of commands and their options, as clap reads words by it.
 -- What clap makes of a table is said by its own definitions: `new_rule` is an option and `new_shape` a command to which
 -- nothing was added yet, `with_subcommand` adds a command.
-use Rattle.std.specs.Prelude.{ℕ, Bool, true, false, List, [], ◌∷◌, map, Option, Some, codes, option_map}
+use Rattle.std.specs.Prelude.{ℕ, Bool, true, false, List, [], ◌∷◌, ◌++◌, map, Option, Some, codes, option_map}
 use Rattle.std.specs.Option.{option_map_or}
 use Rattle.std.specs.List.{fold}
 use Rattle.std.specs.Str.{bytes_eq}
@@ -76,8 +76,12 @@ bases = record {
   job = λ rows. jobs.Bases (number_where (codes "limit") rows) (number_of (codes "pairs") usual_pairs rows);
 }
 
+-- a command without options
+abbrev pub plain : Text → Job → Entry
+plain name job = record { name = name; options = []; job = λ rows. job }
+
 abbrev pub is_marked_groebner_basis : Entry
-is_marked_groebner_basis = record { name = codes "_ismarkedgroebnerbasis"; options = []; job = λ rows. jobs.IsMarkedGroebnerBasis }
+is_marked_groebner_basis = plain (codes "_ismarkedgroebnerbasis") jobs.IsMarkedGroebnerBasis
 
 abbrev pub leading_terms : Entry
 leading_terms = record {
@@ -86,12 +90,36 @@ leading_terms = record {
   job = λ rows. jobs.LeadingTerms (flag_of (codes "m") rows);
 }
 
+-- the small tools without options
+abbrev pub mark_polynomial_set : Entry
+mark_polynomial_set = plain (codes "_markpolynomialset") jobs.MarkPolynomialSet
+
+abbrev pub initial_forms : Entry
+initial_forms = plain (codes "_initialforms") jobs.InitialForms
+
+abbrev pub homogenize : Entry
+homogenize = plain (codes "_homogenize") jobs.Homogenize
+
+abbrev pub polynomial_set_union : Entry
+polynomial_set_union = plain (codes "_polynomialsetunion") jobs.PolynomialSetUnion
+
+-- those that the table has before the small tools, and those
+abbrev pub first_commands : List Entry
+first_commands = buchberger ∷ bases ∷ is_marked_groebner_basis ∷ leading_terms ∷ []
+
+abbrev pub tools : List Entry
+tools = mark_polynomial_set ∷ initial_forms ∷ homogenize ∷ polynomial_set_union ∷ []
+
 abbrev pub commands : List Entry
-commands = buchberger ∷ bases ∷ is_marked_groebner_basis ∷ leading_terms ∷ []
+commands = first_commands ++ tools
 
 -- a command as clap has it
 abbrev pub shape : Entry → Shape
 shape e = record (new_shape e.name) { rules = map rule e.options }
+
+-- a command without options
+abbrev pub plain_shape : Text → Shape
+plain_shape name = record (new_shape name) { rules = [] }
 
 -- ---- the program
 
@@ -108,5 +136,9 @@ program = record {
   subs = [];
 }
 
+-- with these commands
+abbrev pub with_commands : App → List Entry → App
+with_commands a es = fold with_subcommand a (map shape es)
+
 abbrev pub table : App
-table = fold with_subcommand program (map shape commands)
+table = with_commands program commands

@@ -41,6 +41,14 @@ pub enum Job {
         /// `-m`: a list of marked sets is read.
         listed: bool,
     },
+    /// A set with each polynomial marked at its greatest term by a vector.
+    MarkPolynomialSet,
+    /// The initial forms of a set by a vector.
+    InitialForms,
+    /// A set made homogeneous by a new variable.
+    Homogenize,
+    /// The union of a list of sets.
+    PolynomialSetUnion,
 }
 
 /// Why there is no job.
@@ -128,6 +136,10 @@ fn job_of(name: &str, found: &ArgMatches) -> Job
         "_bases" => bases(found),
         "_ismarkedgroebnerbasis" => Job::IsMarkedGroebnerBasis,
         "_leadingterms" => leading_terms(found),
+        "_markpolynomialset" => Job::MarkPolynomialSet,
+        "_initialforms" => Job::InitialForms,
+        "_homogenize" => Job::Homogenize,
+        "_polynomialsetunion" => Job::PolynomialSetUnion,
         _ => unreachable!(),
     }
 }

@@ -3,11 +3,23 @@ use Rattle.std.specs.Prelude.{ℕ, Bool, List, [], ◌∷◌, Option, ℤ}
 use Rattle.gf_poly.specs.Marking.{MarkedPolynomials}
 use Rattle.gf_text.specs.declared.written.Written.{Written}
 use Rattle.gf_items.specs.Items.{Item}
-use Rattle.gf_items.specs.Kinds.{a_set, a_marked_set, marked_set_list, vector_where, vector_list, dimension, items_from, ring_and}
+use Rattle.gf_items.specs.Kinds.{a_set, a_marked_set, set_list, marked_set_list, vector, vector_where, vector_list, dimension, new_name, items_from, ring_and}
 
 -- a ring, a set in it, and a vector where it is asked for
 abbrev pub ring_set_vector : Bool → Item (List (List ℕ) × (List Written × Option (List ℤ)))
 ring_set_vector asked = ring_and a_set (vector_where asked ∷ [])
+
+-- a ring, a set in it, and a vector
+abbrev pub ring_set_and_vector : Item (List (List ℕ) × (List Written × List ℤ))
+ring_set_and_vector = ring_and a_set (vector ∷ [])
+
+-- a ring, a set in it, and the name of a new variable
+abbrev pub ring_set_and_name : Item (List (List ℕ) × (List Written × List ℕ))
+ring_set_and_name = ring_and a_set (new_name ∷ [])
+
+-- a ring and a list of sets in it
+abbrev pub ring_and_set_list : Item (List (List ℕ) × List (List Written))
+ring_and_set_list = ring_and set_list []
 
 -- a ring and a marked set in it
 abbrev pub ring_marked_set : Item (List (List ℕ) × MarkedPolynomials)

@@ -65,7 +65,7 @@ in_ring n ws fs h e = subst (HaveRingVariables n) (sym e) (record { each = λ f 
 
 -- ---- the order
 
-within_bounded : (w : List ℤ) → AreEntriesWithin w → AreBounded w
+pub within_bounded : (w : List ℤ) → AreEntriesWithin w → AreBounded w
 within_bounded w h = λ k d l. omega (arith, h k d l)
 
 pub countable : (n : ℕ) (weight : Option (List ℤ)) → n < 2 ^ 32 → FitsVariables n weight → ForSome weight AreEntriesWithin → ForSome weight IsCountable

@@ -40,8 +40,13 @@ use Rattle.gfan_main.specs.Bases.{IsWithinLimit, of_tree, IsListCause, IsListWit
 use Rattle.gfan_main.specs.Buchberger.{generators_of, asked_order, of_basis, buchberger_command}
 use Rattle.gfan_main.specs.LeadingTerms.{leading_terms_command}
 use Rattle.gfan_main.specs.Marked.{of_check, marked_command}
+use Rattle.gfan_main.specs.MarkPolynomialSet.{mark_polynomial_set_command}
+use Rattle.gfan_main.specs.InitialForms.{initial_forms_command}
+use Rattle.gfan_main.specs.Homogenize.{homogenize_command}
+use Rattle.gfan_main.specs.PolynomialSetUnion.{polynomial_set_union_command}
 use Rattle.gfan_main.specs.Commands.{options, list_options, command, IsAnswerTo, IsWholeTextOf, IsRefusalOf, IsWithinReach, WritesAtEnd}
 use Rattle.gfan_main.proofs.FormLaws.{AreKept, form_once}
+use Rattle.gfan_main.proofs.ToolLaws.{mark_polynomial_set_exact, initial_forms_exact, homogenize_exact, polynomial_set_union_exact, homogenize_not_listed}
 
 -- ---- what is kept of a set
 
@@ -146,6 +151,10 @@ laws (jobs.Buchberger weighted revlex pairs) = buchberger_exact (options weighte
 laws (jobs.Bases limit pairs) = bases_exact (list_options limit pairs)
 laws jobs.IsMarkedGroebnerBasis = marked_exact
 laws (jobs.LeadingTerms listed) = leading_exact listed
+laws jobs.MarkPolynomialSet = mark_polynomial_set_exact
+laws jobs.InitialForms = initial_forms_exact
+laws jobs.Homogenize = homogenize_exact
+laws jobs.PolynomialSetUnion = polynomial_set_union_exact
 
 pub exact_text : (job : Job) (source : List ℕ) (r d : Refusal) → IsOfText r → IsRefusalOf job source r → IsRefusalOf job source d → (d ≡ r) ⊎ (d ≡ refusals.Memory)
 exact_text job source r d t h k = exact (command job) (laws job) source r d (inl t) h k
@@ -205,6 +214,10 @@ not_listed (jobs.Bases limit pairs) source most w h = w
 not_listed jobs.IsMarkedGroebnerBasis source most w h = command_not_listed marked_command marked_exact (λ a m c. check_not_listed c.0 m c.1) source most h
 not_listed (jobs.LeadingTerms false) source most w h = command_not_listed (leading_terms_command false) (leading_exact false) (λ a m c. cc) source most h
 not_listed (jobs.LeadingTerms true) source most w h = command_not_listed (leading_terms_command true) (leading_exact true) (λ a m c. cc) source most h
+not_listed jobs.MarkPolynomialSet source most w h = command_not_listed mark_polynomial_set_command mark_polynomial_set_exact (λ a m c. cc) source most h
+not_listed jobs.InitialForms source most w h = command_not_listed initial_forms_command initial_forms_exact (λ a m c. cc) source most h
+not_listed jobs.Homogenize source most w h = command_not_listed homogenize_command homogenize_exact (λ a m c. homogenize_not_listed a.1.0 m c) source most h
+not_listed jobs.PolynomialSetUnion source most w h = command_not_listed polynomial_set_union_command polynomial_set_union_exact (λ a m c. cc) source most h
 
 pub refused_as_job : (job : Job) (source : List ℕ) (r : Refusal) → IsRefusalOf job source r → IsOfJob r
 refused_as_job job source r h = of_job (command job) (laws job) source r h

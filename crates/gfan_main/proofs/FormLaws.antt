@@ -1,5 +1,5 @@
 -- The form of what is read fails in one way at most, and not where it holds.
--- To cite: AreKept, form_once. The rest are steps.
+-- To cite: AreKept, form_once, length_check. The rest are steps.
 use Rattle.std.specs.Prelude.{◌≡◌, ◌≢◌, ◌⊎◌, ℕ, ◌<◌, ◌≤◌, Bool, true, false, List, length, Contains, get_or, slice_index_or, All, Option, None, Some, Result, Err, ℤ, pos, ◌<ℤ◌, ◌≤ℤ◌}
 use Rattle.std.proofs.Common.{arith, refl, sym, ap, ◌∙◌, subst, inl, inr}
 use Rattle.std.proofs.lemmas.Int.{ints}
@@ -126,7 +126,7 @@ not_taken_apart n true (Some w) fs e kept a h = h
 abbrev named : ℕ → Exponents → Exponents → NotHomogeneous
 named polynomial first second = record { polynomial = polynomial; first = first; second = second }
 
-length_check : (n : ℕ) (weight : Option (List ℤ)) → IsCheckedOnce (record { Holds = FitsVariables n weight; Fails = IsLengthRefusal n weight })
+pub length_check : (n : ℕ) (weight : Option (List ℤ)) → IsCheckedOnce (record { Holds = FitsVariables n weight; Fails = IsLengthRefusal n weight })
 length_check n weight = record { once = once; apart = apart; kind = kind }
   where
     once : (r d : Refusal) → IsLengthRefusal n weight r → IsLengthRefusal n weight d → d ≡ r

@@ -11,6 +11,10 @@ use Rattle.gfan_main.specs.Buchberger.{buchberger_command}
 use Rattle.gfan_main.specs.Bases.{bases_command}
 use Rattle.gfan_main.specs.Marked.{marked_command}
 use Rattle.gfan_main.specs.LeadingTerms.{leading_terms_command}
+use Rattle.gfan_main.specs.MarkPolynomialSet.{mark_polynomial_set_command}
+use Rattle.gfan_main.specs.InitialForms.{initial_forms_command}
+use Rattle.gfan_main.specs.Homogenize.{homogenize_command}
+use Rattle.gfan_main.specs.PolynomialSetUnion.{polynomial_set_union_command}
 
 -- the options of `_buchberger`
 abbrev pub options : Bool → Bool → ℕ → Options
@@ -26,6 +30,10 @@ command (jobs.Buchberger weighted revlex pairs) = buchberger_command (options we
 command (jobs.Bases limit pairs) = bases_command (list_options limit pairs)
 command jobs.IsMarkedGroebnerBasis = marked_command
 command (jobs.LeadingTerms listed) = leading_terms_command listed
+command jobs.MarkPolynomialSet = mark_polynomial_set_command
+command jobs.InitialForms = initial_forms_command
+command jobs.Homogenize = homogenize_command
+command jobs.PolynomialSetUnion = polynomial_set_union_command
 
 -- the text is what the job writes for the source
 abbrev pub IsAnswerTo : Job → List ℕ → List ℕ → Type 0

@@ -4,6 +4,11 @@ pub mod Questions  -- how what is read is checked, and what is asked then
 pub mod MarkedBases  -- when a marked set is a basis, and why it isn't tested
 pub mod Marked  -- what `_ismarkedgroebnerbasis` reads and writes
 pub mod LeadingTerms  -- what `_leadingterms` writes
+pub mod ToolForms  -- the form that the small tools need
+pub mod MarkPolynomialSet  -- what `_markpolynomialset` reads and writes
+pub mod InitialForms  -- what `_initialforms` reads and writes
+pub mod Homogenize  -- what `_homogenize` reads and writes
+pub mod PolynomialSetUnion  -- what `_polynomialsetunion` reads and writes
 pub mod BasesList  -- the list of all bases of an ideal
 pub mod OneList  -- an ideal has one such list
 pub mod Bases  -- what `_bases` reads and writes

@@ -2,11 +2,17 @@
 use Rattle.std.specs.Prelude.{◌≡◌, ℕ, List, [], ◌∷◌, ◌++◌, flat_map}
 use Rattle.gf_poly.specs.Marking.{MarkedPolynomials}
 use Rattle.gf_text.specs.RingText.{ring_text}
+use Rattle.gf_text.specs.declared.written.Written.{Written}
 use Rattle.gf_text.specs.PrintedSets.{basis_text}
+use Rattle.gf_text.specs.WrittenText.{set_text}
 
 -- the text is the ring's line, then the set and a line end
 abbrev pub IsPrinted : List (List ℕ) → MarkedPolynomials → List ℕ → Type 0
 IsPrinted ring set text = text ≡ ring_text ring ++ (basis_text ring set.items ++ 10 ∷ [])
+
+-- the text is the ring's line, then a set of polynomials that may be zero, one a line, and a line end
+abbrev pub IsPrintedSet : List (List ℕ) → List Written → List ℕ → Type 0
+IsPrintedSet ring ws text = text ≡ ring_text ring ++ (set_text (10 ∷ []) ring ws ++ 10 ∷ [])
 
 -- a line end, a comma, a line end, and a set
 abbrev pub later_set_text : List (List ℕ) → MarkedPolynomials → List ℕ

@@ -10,6 +10,7 @@ ghost use Rattle.gfan_main.specs.Buchberger.{generators_of, polynomial_of, asked
 ghost use Rattle.gfan_main.specs.Questions.{IsCountable, IsQuestion};
 ghost use Rattle.gfan_main.specs.Refused.{IsOfSource};
 
+use crate::checks::check_entries;
 use crate::printing::printed;
 use crate::refused::Refused;
 use gf_buchberger::{BasisError, basis_by_runs, homogeneous};
@@ -71,14 +72,7 @@ fn check_length(n: u32, weight: &Option<IntVec>) -> Result<(), Refusal>
     let Some(weight) = weight else {
         return Ok(());
     };
-    let entries = weight.as_slice().len();
-    if entries != n as usize {
-        return Err(Refusal::Dimensions {
-            left: entries as u64,
-            right: u64::from(n),
-        });
-    }
-    Ok(())
+    check_entries(n, weight)
 }
 
 // Whether the polynomials are homogeneous, where the order asks for it. They are counted in 32 bits.

@@ -7,7 +7,10 @@ ghost use Rattle.gfan_main.specs.Performed.{IsPerformed, IsStopped};
 use crate::bases::ListOptions;
 use crate::buchberger::Options;
 use crate::refused::Refused;
-use crate::{bases, buchberger, leading_terms, marked};
+use crate::{
+    bases, buchberger, homogenize, initial_forms, leading_terms, mark_polynomial_set, marked,
+    polynomial_set_union,
+};
 use gf_front::{Job, Refusal};
 use gf_outside::{Sink, WriteFault, write_all};
 use std::alloc::Global;
@@ -35,6 +38,10 @@ fn answered(alloc: Global, job: &Job, source: &[u8]) -> Result<Vec<u8>, Refused>
         Job::Bases { .. } => unreachable!(),
         Job::IsMarkedGroebnerBasis => marked::answer(alloc, source),
         Job::LeadingTerms { listed } => leading_terms::answer(alloc, source, *listed),
+        Job::MarkPolynomialSet => mark_polynomial_set::answer(alloc, source),
+        Job::InitialForms => initial_forms::answer(alloc, source),
+        Job::Homogenize => homogenize::answer(alloc, source),
+        Job::PolynomialSetUnion => polynomial_set_union::answer(alloc, source),
     }
 }
 

@@ -2,7 +2,9 @@
 //
 // `_bases` reads a ring and a set, and writes all marked reduced Gröbner bases of the set's ideal; `_buchberger` reads them too, and
 // writes the reduced Gröbner basis by lex; `_ismarkedgroebnerbasis` reads a ring and a marked set, and writes whether it is a
-// Gröbner basis for its marking; `_leadingterms` reads a ring and a marked set, and writes its leading terms. What a run does is told at `run`, what each command writes in `specs/Commands.antt`.
+// Gröbner basis for its marking; `_leadingterms` reads a ring and a marked set, and writes its leading terms; `_markpolynomialset`,
+// `_initialforms`, `_homogenize` and `_polynomialsetunion` are small tools on sets. What a run does is told at `run`, what each
+// command writes in `specs/Commands.antt`.
 #![tactic(auto)]
 
 ghost use Rattle.std.specs.Prelude.{◌≡◌};
@@ -11,10 +13,15 @@ ghost use Rattle.gf_front.specs.Lines.{code_of};
 
 mod bases;
 mod buchberger;
+mod checks;
 mod commands;
+mod homogenize;
+mod initial_forms;
 mod laws;
 mod leading_terms;
+mod mark_polynomial_set;
 mod marked;
+mod polynomial_set_union;
 mod printing;
 mod refused;
 mod run;
@@ -22,6 +29,8 @@ mod run;
 mod tests;
 #[cfg(test)]
 mod textbook_tests;
+#[cfg(test)]
+mod tool_tests;
 
 use crate::refused::Refused;
 use crate::run::run;

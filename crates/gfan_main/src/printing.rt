@@ -1,9 +1,12 @@
 // What the commands print alike.
-ghost use Rattle.std.specs.Prelude.{◌≡◌, ◌++◌, All, flat_map, length, IfOk, OnOk};
-ghost use Rattle.gfan_main.specs.Printing.{IsPrinted, IsPrintedList, later_set_text, sets_text};
+ghost use Rattle.std.specs.Prelude.{◌≡◌, ◌++◌, ◌∷◌, [], All, flat_map, length, IfOk, OnOk};
+ghost use Rattle.gf_text.specs.PrintedSets.{polynomial_text};
+ghost use Rattle.gf_text.specs.Sets.{AreIn};
+ghost use Rattle.gf_text.specs.WrittenText.{polynomials_text};
+ghost use Rattle.gfan_main.specs.Printing.{IsPrinted, IsPrintedSet, IsPrintedList, later_set_text, sets_text};
 
 use gf_poly::MarkedSet;
-use gf_text::{Printer, Ring};
+use gf_text::{Printer, Ring, Written};
 use std::alloc::{AllocError, Global};
 
 /// The ring in a line, and the set.
@@ -15,6 +18,55 @@ pub(crate) fn printed(alloc: Global, ring: &Ring, set: &MarkedSet) -> Result<Vec
     Printer::ring(&mut text, ring)?;
     Printer::basis(&mut text, ring, set)?;
     text.push(b'\n')?;
+    Ok(text)
+}
+
+/// Adds polynomials, each behind a comma and a line end.
+fn push_later_polynomials(
+    text: &mut Vec<u8>,
+    ring: &Ring,
+    polynomials: &[Written],
+) -> Result<(), AllocError>
+    requires { AreIn (length ring.now) polynomials.now }
+    ensures { OnOk result (text.new.items ≡ text.old.items ++ flat_map (λ v. 44 ∷ 10 ∷ polynomial_text ring.now v) polynomials.now) }
+{
+    'polynomials: for polynomial in polynomials {
+        text.extend_from_slice(b",\n")?;
+        Printer::poly(text, ring, polynomial)?;
+    }
+    Ok(())
+}
+
+/// Adds polynomials with a comma and a line end between them.
+fn push_polynomials(
+    text: &mut Vec<u8>,
+    ring: &Ring,
+    polynomials: &[Written],
+) -> Result<(), AllocError>
+    requires { AreIn (length ring.now) polynomials.now }
+    ensures { OnOk result (text.new.items ≡ text.old.items ++ polynomials_text (10 ∷ []) ring.now polynomials.now) }
+{
+    if let [first, later @ ..] = polynomials {
+        Printer::poly(text, ring, first)?;
+        push_later_polynomials(text, ring, later)?;
+    }
+    Ok(())
+}
+
+/// The ring in a line, and the set of these polynomials, of which some may be zero.
+pub(crate) fn printed_set(
+    alloc: Global,
+    ring: &Ring,
+    polynomials: &[Written],
+) -> Result<Vec<u8>, AllocError>
+    requires { AreIn (length ring.now) polynomials.now }
+    ensures { IfOk result (λ text. IsPrintedSet ring.now polynomials.now text.items) }
+{
+    let mut text = Vec::new(alloc);
+    Printer::ring(&mut text, ring)?;
+    text.extend_from_slice(b"{\n")?;
+    push_polynomials(&mut text, ring, polynomials)?;
+    text.extend_from_slice(b"}\n")?;
     Ok(text)
 }
 

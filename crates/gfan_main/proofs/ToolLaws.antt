@@ -1,0 +1,139 @@
+-- Each of the small tools answers a source in one way: its record has the laws of an exact command, and names no limit of a list.
+-- To cite: mark_polynomial_set_exact, initial_forms_exact, homogenize_exact, polynomial_set_union_exact; homogenize_not_listed;
+-- length_unanswered, zero_unanswered, marked_answered; entries_unanswered, forms_answered; room_unanswered, exponent_unanswered,
+-- homogenized_answered. The rest are steps.
+use Rattle.std.specs.Prelude.{◌≡◌, ◌⊎◌, ℕ, ◌^◌, ◌<◌, All, List, [], ◌∷◌, ◌++◌, length, Some, ℤ}
+use Rattle.std.proofs.Common.{arith, refl, sym, ◌∙◌, subst, inl, inr}
+use Rattle.std.proofs.lemmas.List.Elements.{All-head, All-tail}
+use Rattle.gf_poly.specs.declared.Term.{Term}
+use Rattle.gf_poly.specs.declared.monomial.ExponentOverflow.{ExponentOverflow}
+use Rattle.gf_poly.specs.Marking.{MarkedPolynomials}
+use Rattle.gf_text.specs.declared.written.Written.{Written}
+use Rattle.gf_text.specs.declared.written.Written.TheVariants as written
+use Rattle.gf_text.specs.Sets.{AreNonzero}
+use Rattle.gf_small.specs.MarksByWeight.{AreMarkedByWeight}
+use Rattle.gf_small.specs.Degrees.{total_degree}
+use Rattle.gf_small.specs.InitialForms.{AreInitialForms}
+use Rattle.gf_small.specs.declared.homogenization.HomogenizeError.TheVariants as homogenize_errors
+use Rattle.gf_small.specs.Homogenization.{new_exponent, ExponentsFit, IsWithinLimit, IsPastLimitIn, IsFirstOverflow, AreHomogenizations, IsHomogenizeCause}
+use Rattle.gf_front.specs.declared.refusal.Refusal.{Refusal}
+use Rattle.gf_front.specs.declared.refusal.Refusal.TheVariants as refusals
+use Rattle.gf_items.specs.Commands.{IsOfWork, IsAnswerFor, IsUnanswered}
+use Rattle.gf_items.specs.Kinds.{a_set, set_list, vector, new_name}
+use Rattle.gf_items.proofs.KindLaws.{ring_and_once}
+use Rattle.gf_items.proofs.CommandLaws.{IsExactCommand}
+use Rattle.gfan_main.specs.Buchberger.{IsLengthRefusal}
+use Rattle.gfan_main.specs.Printing.{IsPrinted, IsPrintedSet}
+use Rattle.gfan_main.specs.ToolForms.{IsZeroRefusal}
+use Rattle.gfan_main.specs.MarkPolynomialSet.{mark_polynomial_set_command}
+use Rattle.gfan_main.specs.InitialForms.{initial_forms_command}
+use Rattle.gfan_main.specs.Homogenize.{IsHomogenizeRefusal, homogenize_command}
+use Rattle.gfan_main.specs.PolynomialSetUnion.{polynomial_set_union_command}
+use Rattle.gfan_main.proofs.ToolFormLaws.{variables_check, zero_check, room_check}
+
+-- ---- `_markpolynomialset`
+
+-- the vector has another length
+pub length_unanswered : (n : ℕ) (ring : List (List ℕ)) (ws : List Written) (w : List ℤ) (r : Refusal) → n ≡ length ring → IsLengthRefusal n (Some w) r → IsUnanswered mark_polynomial_set_command (ring, (ws, w)) r
+length_unanswered n ring ws w r e h = IsUnanswered.in_form (inl (subst (λ k. IsLengthRefusal k (Some w) r) e h))
+
+-- a polynomial is zero, or there is no memory
+pub zero_unanswered : (n : ℕ) (ring : List (List ℕ)) (ws : List Written) (w : List ℤ) (r : Refusal) → n ≡ length ring → length w ≡ n → IsZeroRefusal ws r ⊎ (r ≡ refusals.Memory) → IsUnanswered mark_polynomial_set_command (ring, (ws, w)) r
+zero_unanswered n ring ws w r e l (inl h) = IsUnanswered.in_form (inr (l ∙ e, inl h))
+zero_unanswered n ring ws w r e l (inr m) = IsUnanswered.no_memory m
+
+pub marked_answered : (n : ℕ) (ring : List (List ℕ)) (ws : List Written) (w : List ℤ) (s t : MarkedPolynomials) (text : List ℕ) → n ≡ length ring → length w ≡ n → AreNonzero ws s.items → s.variables ≡ n → AreMarkedByWeight w s t
+    → IsPrinted ring t text → IsAnswerFor mark_polynomial_set_command (ring, (ws, w)) text
+marked_answered n ring ws w s t text e l a v h p = record {
+  formed = (l ∙ e, ((s.items, a), tt));
+  is_answer = record { items = s.items; read = a; set = t; is_marked = record { variables = h.variables ∙ v ∙ e; polynomials = h.polynomials; marks = h.marks }; is_text = p };
+}
+
+-- ---- tools that are refused for want of memory alone
+
+pub mark_polynomial_set_exact : IsExactCommand mark_polynomial_set_command
+mark_polynomial_set_exact = record {
+  items = ring_and_once a_set (vector ∷ []);
+  checks = λ source v r. (variables_check (length v.0) v.1.1, (zero_check v.1.0, tt));
+  work = λ v r h. subst IsOfWork (sym h) tt;
+  within = λ v r w h. h;
+}
+
+pub initial_forms_exact : IsExactCommand initial_forms_command
+initial_forms_exact = record {
+  items = ring_and_once a_set (vector ∷ []);
+  checks = λ source v r. (variables_check (length v.0) v.1.1, tt);
+  work = λ v r h. subst IsOfWork (sym h) tt;
+  within = λ v r w h. h;
+}
+
+pub polynomial_set_union_exact : IsExactCommand polynomial_set_union_command
+polynomial_set_union_exact = record {
+  items = ring_and_once set_list [];
+  checks = λ source v r. tt;
+  work = λ v r h. subst IsOfWork (sym h) tt;
+  within = λ v r w h. h;
+}
+
+-- ---- `_initialforms`
+
+pub entries_unanswered : (n : ℕ) (ring : List (List ℕ)) (ws : List Written) (w : List ℤ) (r : Refusal) → n ≡ length ring → IsLengthRefusal n (Some w) r → IsUnanswered initial_forms_command (ring, (ws, w)) r
+entries_unanswered n ring ws w r e h = IsUnanswered.in_form (inl (subst (λ k. IsLengthRefusal k (Some w) r) e h))
+
+pub forms_answered : (ring : List (List ℕ)) (ws : List Written) (w : List ℤ) (fs : List Written) (text : List ℕ) → length w ≡ length ring → AreInitialForms w ws fs → IsPrintedSet ring fs text
+    → IsAnswerFor initial_forms_command (ring, (ws, w)) text
+forms_answered ring ws w fs text l h p = record { formed = (l, tt); is_answer = record { forms = fs; are_forms = h; is_text = p } }
+
+-- ---- `_homogenize`
+
+homogenize_work : (ws : List Written) (r : Refusal) → IsHomogenizeRefusal ws r → IsOfWork r
+homogenize_work ws (refusals.ExponentOverflow o) h = tt
+homogenize_work ws refusals.Memory h = tt
+homogenize_work ws _ h = absurd h
+
+-- what holds of all holds of one in the middle
+at_middle : {A : Type 0} (P : A → Type 0) (front back : List A) (x : A) → All P (front ++ x ∷ back) → P x
+at_middle P [] back x all = All-head P x back all
+at_middle P (f ∷ front) back x all = at_middle P front back x (All-tail P f (front ++ x ∷ back) all)
+
+past_apart : (w : Written) (o : ExponentOverflow) → IsWithinLimit w → IsPastLimitIn w o → ⊥
+past_apart written.Zero o w h = h
+past_apart (written.Nonzero b) o w h =
+    let d = total_degree b.poly in
+    let one : new_exponent d h.term.mono < 2 ^ 31 = at_middle (λ (t : Term). new_exponent d t.mono < 2 ^ 31) h.earlier h.later h.term (subst (ExponentsFit d) h.split w) in
+    let past = h.past.leaves in
+    omega arith
+
+none_past : (ws : List Written) (o : ExponentOverflow) → All IsWithinLimit ws → IsFirstOverflow ws o → ⊥
+none_past ws o w h = past_apart h.polynomial o (at_middle IsWithinLimit h.earlier h.later h.polynomial (subst (All IsWithinLimit) h.split w)) h.past
+
+homogenize_within : (ws : List Written) (r : Refusal) → All IsWithinLimit ws → IsHomogenizeRefusal ws r → r ≡ refusals.Memory
+homogenize_within ws (refusals.ExponentOverflow o) w h = absurd (none_past ws o w h)
+homogenize_within ws refusals.Memory w h = refl
+homogenize_within ws _ w h = absurd h
+
+pub homogenize_exact : IsExactCommand homogenize_command
+homogenize_exact = record {
+  items = ring_and_once a_set (new_name ∷ []);
+  checks = λ source v r. (room_check (length v.0), tt);
+  work = λ v r h. homogenize_work v.1.0 r h;
+  within = λ v r w h. homogenize_within v.1.0 r w h;
+}
+
+-- there is no room for one more variable
+pub room_unanswered : (ring : List (List ℕ)) (ws : List Written) (name : List ℕ) (count : ℕ) → IsHomogenizeCause (length ring) ws (homogenize_errors.TooManyVariables count) → IsUnanswered homogenize_command (ring, (ws, name)) (refusals.TooManyVariables count)
+room_unanswered ring ws name count h = IsUnanswered.in_form (inl (h.1, omega (arith, h.0)))
+
+-- an exponent passes the limit
+pub exponent_unanswered : (ring : List (List ℕ)) (ws : List Written) (name : List ℕ) (o : ExponentOverflow) → IsHomogenizeCause (length ring) ws (homogenize_errors.Exponent o) → IsUnanswered homogenize_command (ring, (ws, name)) (refusals.ExponentOverflow o)
+exponent_unanswered ring ws name o h = IsUnanswered.in_work (h.0, tt) h.1
+
+pub homogenized_answered : (ring extended : List (List ℕ)) (ws : List Written) (name : List ℕ) (fs : List Written) (text : List ℕ) → length ring < 16 → extended ≡ ring ++ name ∷ [] → AreHomogenizations ws fs
+    → IsPrintedSet extended fs text → IsAnswerFor homogenize_command (ring, (ws, name)) text
+homogenized_answered ring extended ws name fs text l e h p = record {
+  formed = (l, tt);
+  is_answer = record { set = fs; are_homogenized = h; is_text = subst (λ names. IsPrintedSet names fs text) e p };
+}
+
+pub homogenize_not_listed : (ws : List Written) (most : ℕ) → IsHomogenizeRefusal ws (refusals.ListLimit most) → ⊥
+homogenize_not_listed ws most h = h

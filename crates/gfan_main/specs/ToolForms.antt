@@ -1,0 +1,32 @@
+-- The form that the small tools need of what they read.
+use Rattle.std.specs.Prelude.{◌≡◌, ℕ, ◌+◌, ◌<◌, ◌≤◌, List, Some, ℤ}
+use Rattle.gf_poly.specs.Marking.{MarkedPolynomial}
+use Rattle.gf_text.specs.declared.written.Written.{Written}
+use Rattle.gf_text.specs.Sets.{AreNonzero, IsFirstZero}
+use Rattle.gf_front.specs.declared.refusal.Refusal.{Refusal}
+use Rattle.gf_front.specs.declared.refusal.Refusal.TheVariants as refusals
+use Rattle.gf_items.specs.Checks.{Check}
+use Rattle.gfan_main.specs.Buchberger.{FitsVariables, IsLengthRefusal}
+
+-- a vector has an entry for each of n variables
+abbrev pub for_variables : ℕ → List ℤ → Check
+for_variables n vector = record { Holds = FitsVariables n (Some vector); Fails = IsLengthRefusal n (Some vector) }
+
+-- no polynomial of a set is zero; else the first zero one is named
+abbrev pub HasNoZero : List Written → Type 0
+HasNoZero ws = (ms : List MarkedPolynomial) × AreNonzero ws ms
+
+abbrev pub IsZeroRefusal : List Written → Refusal → Type 0
+IsZeroRefusal ws (refusals.ZeroPolynomial set index) = (set ≡ 0) × IsFirstZero ws index
+IsZeroRefusal ws _ = ⊥
+
+abbrev pub without_zero : List Written → Check
+without_zero ws = record { Holds = HasNoZero ws; Fails = IsZeroRefusal ws }
+
+-- there may be one more than n variables; else their new number is told
+abbrev pub IsRoomRefusal : ℕ → Refusal → Type 0
+IsRoomRefusal n (refusals.TooManyVariables count) = (count ≡ n + 1) × (16 ≤ n)
+IsRoomRefusal n _ = ⊥
+
+abbrev pub for_one_more : ℕ → Check
+for_one_more n = record { Holds = n < 16; Fails = IsRoomRefusal n }

@@ -1,0 +1,313 @@
+// The small tools over memory: the status, what is written, and what is told.
+use crate::run::run;
+use gf_outside::{MemSink, MemSource};
+use std::alloc::Global;
+use std::test::Fail;
+
+/// Whether a run of the words, which are parted by spaces, ends with this code, writes this text and tells this line.
+fn ends(
+    alloc: Global,
+    line: &str,
+    input: &str,
+    code: u8,
+    text: &str,
+    told: &str,
+) -> Result<bool, Fail> {
+    let mut words = Vec::new(alloc);
+    for word in line.split(' ') {
+        words.push(String::from_str(alloc, word)?)?;
+    }
+    let mut source = MemSource::new(input.as_bytes().to_vec(alloc)?, 7, vec![in alloc]?);
+    let mut output = MemSink::new(alloc, 8, vec![in alloc]?);
+    let mut faults = MemSink::new(alloc, 1_000, vec![in alloc]?);
+    let status = run(alloc, &words, &mut source, &mut output, &mut faults);
+    Ok(
+        status.code() == code
+            && output.bytes() == text.as_bytes()
+            && faults.bytes() == told.as_bytes(),
+    )
+}
+
+/// Each polynomial is marked at its greatest term by the vector, ties by lex; the length is judged before zero polynomials.
+#[test]
+fn a_set_is_marked_by_a_vector(rt: HostRuntime) -> Result<(), Fail> {
+    let rows = [
+        (
+            "_markpolynomialset",
+            "Q[a,b] {b+a+1} (0,0)",
+            0u8,
+            "Q[a,b]\n{\na+b+1}\n",
+            "",
+        ),
+        (
+            "_markpolynomialset",
+            "Q[a,b] {b+a+1,2a-3b^2} (1,3)",
+            0,
+            "Q[a,b]\n{\nb+a+1,\n-3*b^2+2*a}\n",
+            "",
+        ),
+        (
+            "_markpolynomialset",
+            "Q[a,b] {b+a+1} (-1,-9223372036854775807)",
+            0,
+            "Q[a,b]\n{\n1+a+b}\n",
+            "",
+        ),
+        (
+            "_markpolynomialset",
+            "Q[a,b,c] {b^2+ac} (1,1,1)",
+            0,
+            "Q[a,b,c]\n{\na*c+b^2}\n",
+            "",
+        ),
+        ("_markpolynomialset", "Q[a] {} (1)", 0, "Q[a]\n{\n}\n", ""),
+        (
+            "_markpolynomialset",
+            "Q[a,b] {0} (1)",
+            1,
+            "",
+            "gfan: E21 dimension 1 where 2 is needed\n",
+        ),
+        (
+            "_markpolynomialset",
+            "Q[a,b] {0} (1,2,3)",
+            1,
+            "",
+            "gfan: E21 dimension 3 where 2 is needed\n",
+        ),
+        (
+            "_markpolynomialset",
+            "Q[a,b] {a,b-b,0} (1,2)",
+            1,
+            "",
+            "gfan: E22 zero polynomial: set 0 polynomial 1\n",
+        ),
+        (
+            "_markpolynomialset",
+            "Q[a,b] {0} (1) x",
+            1,
+            "",
+            "gfan: E8 syntax at byte 15: unexpected\n",
+        ),
+        (
+            "_markpolynomialset",
+            "Q[a,b] {0}",
+            1,
+            "",
+            "gfan: E8 syntax at byte 10: ended\n",
+        ),
+        (
+            "_markpolynomialset",
+            "Q[a,b] {a} (9223372036854775808)",
+            1,
+            "",
+            "gfan: E9 number too wide at byte 12\n",
+        ),
+    ];
+    for (words, input, code, text, told) in rows {
+        assert!(rt;
+            ends(rt.alloc(), words, input, code, text, told)?,
+            "{words} {input}"
+        );
+    }
+    Ok(())
+}
+
+/// The terms of greatest weight remain; what was marked stays marked where it remains.
+#[test]
+fn initial_forms_are_those_of_the_vector(rt: HostRuntime) -> Result<(), Fail> {
+    let rows = [
+        (
+            "_initialforms",
+            "Q[a,b] {a+b+1} (1,1)",
+            0u8,
+            "Q[a,b]\n{\na+b}\n",
+            "",
+        ),
+        (
+            "_initialforms",
+            "Q[a,b] {b+a^2+1,1+a+b} (1,2)",
+            0,
+            "Q[a,b]\n{\nb+a^2,\nb}\n",
+            "",
+        ),
+        (
+            "_initialforms",
+            "Q[a,b] {1+b+a,0,a^2} (1,1)",
+            0,
+            "Q[a,b]\n{\na+b,\n0,\na^2}\n",
+            "",
+        ),
+        (
+            "_initialforms",
+            "Q[a,b] {a^2-2b,a} (-1,-1)",
+            0,
+            "Q[a,b]\n{\n-2*b,\na}\n",
+            "",
+        ),
+        ("_initialforms", "Q[a] {} (1)", 0, "Q[a]\n{\n}\n", ""),
+        (
+            "_initialforms",
+            "Q[a,b] {a+b} (1)",
+            1,
+            "",
+            "gfan: E21 dimension 1 where 2 is needed\n",
+        ),
+        (
+            "_initialforms",
+            "Q[a,b] {a+b}",
+            1,
+            "",
+            "gfan: E8 syntax at byte 12: ended\n",
+        ),
+        (
+            "_initialforms",
+            "Q[a,b] {a+c} (1)",
+            1,
+            "",
+            "gfan: E10 unknown name at byte 10\n",
+        ),
+    ];
+    for (words, input, code, text, told) in rows {
+        assert!(rt;
+            ends(rt.alloc(), words, input, code, text, told)?,
+            "{words} {input}"
+        );
+    }
+    Ok(())
+}
+
+/// Terms are brought to the greatest degree; the text is judged before the number of variables, and this before exponents.
+#[test]
+fn sets_are_made_homogeneous(rt: HostRuntime) -> Result<(), Fail> {
+    let rows = [
+        (
+            "_homogenize",
+            "Q[x,y] {y-1} z",
+            0u8,
+            "Q[x,y,z]\n{\ny-z}\n",
+            "",
+        ),
+        (
+            "_homogenize",
+            "Q[x,y] {1-xy+x^3,0,3/2} z_1 ",
+            0,
+            "Q[x,y,z_1]\n{\nz_1^3+x^3-x*y*z_1,\n0,\n3/2}\n",
+            "",
+        ),
+        ("_homogenize", "Q[x] {} y", 0, "Q[x,y]\n{\n}\n", ""),
+        (
+            "_homogenize",
+            "Q[x] {x-1} x",
+            1,
+            "",
+            "gfan: E8 syntax at byte 11: repeated name\n",
+        ),
+        (
+            "_homogenize",
+            "Q[x] {x-1} 1",
+            1,
+            "",
+            "gfan: E8 syntax at byte 11: unexpected\n",
+        ),
+        (
+            "_homogenize",
+            "Q[x] {x-1}",
+            1,
+            "",
+            "gfan: E8 syntax at byte 10: ended\n",
+        ),
+        (
+            "_homogenize",
+            "Q[a,b,c,d,e,f,g,h,i,j,k,l,m,n,o,p] {a} q",
+            1,
+            "",
+            "gfan: E11 too many variables: 17\n",
+        ),
+        (
+            "_homogenize",
+            "Q[a,b,c,d,e,f,g,h,i,j,k,l,m,n,o,p] {a} a",
+            1,
+            "",
+            "gfan: E8 syntax at byte 39: repeated name\n",
+        ),
+        (
+            "_homogenize",
+            "Q[a,b,c,d,e,f,g,h,i,j,k,l,m,n,o,p] {a^2147483647b^2147483647+1} q",
+            1,
+            "",
+            "gfan: E11 too many variables: 17\n",
+        ),
+        (
+            "_homogenize",
+            "Q[x,y] {y-1,x^2147483647y^2-x+1} z",
+            3,
+            "",
+            "gfan: E6 exponent overflow: 2147483647 + 1\n",
+        ),
+        (
+            "_homogenize",
+            "Q[x,y] {x^2147483647y-y} z",
+            0,
+            "Q[x,y,z]\n{\nx^2147483647*y-y*z^2147483647}\n",
+            "",
+        ),
+    ];
+    for (words, input, code, text, told) in rows {
+        assert!(rt;
+            ends(rt.alloc(), words, input, code, text, told)?,
+            "{words} {input}"
+        );
+    }
+    Ok(())
+}
+
+/// Of equal polynomials the first stays, with its mark; others all stay.
+#[test]
+fn a_union_has_each_polynomial_once(rt: HostRuntime) -> Result<(), Fail> {
+    let rows = [
+        (
+            "_polynomialsetunion",
+            "Q[a,b] {{a,b},{b,1}}",
+            0u8,
+            "Q[a,b]\n{\na,\nb,\n1}\n",
+            "",
+        ),
+        (
+            "_polynomialsetunion",
+            "Q[a,b] {{b+a},{a+b,a-b,b-a},{a-b}}",
+            0,
+            "Q[a,b]\n{\nb+a,\na-b,\nb-a}\n",
+            "",
+        ),
+        (
+            "_polynomialsetunion",
+            "Q[a] {{0,2a},{a,a-a},{}}",
+            0,
+            "Q[a]\n{\n0,\n2*a,\na}\n",
+            "",
+        ),
+        ("_polynomialsetunion", "Q[a] {}", 0, "Q[a]\n{\n}\n", ""),
+        (
+            "_polynomialsetunion",
+            "Q[a] {a}",
+            1,
+            "",
+            "gfan: E8 syntax at byte 6: unexpected\n",
+        ),
+        (
+            "_polynomialsetunion",
+            "Q[a] {{a}",
+            1,
+            "",
+            "gfan: E8 syntax at byte 9: ended\n",
+        ),
+    ];
+    for (words, input, code, text, told) in rows {
+        assert!(rt;
+            ends(rt.alloc(), words, input, code, text, told)?,
+            "{words} {input}"
+        );
+    }
+    Ok(())
+}
