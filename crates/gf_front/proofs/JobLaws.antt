@@ -20,11 +20,11 @@ use Rattle.clap.specs.Simple.{argument_words, built_leaf, entered, inherited, la
 use Rattle.clap.specs.Faults.{check_fault, entered_fault}
 use Rattle.gf_front.specs.declared.command_line.Job.{Job}
 use Rattle.gf_front.specs.declared.command_line.Job.TheVariants as jobs
-use Rattle.gf_front.specs.Table.{Entry, table, commands, tools, shape, most_pairs, usual_pairs, number_of, number_where, buchberger, bases, plain, leading_terms}
+use Rattle.gf_front.specs.Table.{Entry, table, commands, tools, shape, most_pairs, most_workers, usual_pairs, number_of, number_where, buchberger, bases, plain, leading_terms}
 use Rattle.gf_front.specs.Jobs.{HasMatch, HasNumbersInRange, IsJobOfMatch, match_of, job_in, job_of}
 use Rattle.gf_front.specs.Options.{HoldChoices, NamesEntry, IsCommand, HoldsNumber}
 use Rattle.gf_front.proofs.MatchLaws.{Enters, entered_rows, level_rows, rows_pass}
-use Rattle.gf_front.proofs.OptionLaws.{is_flag, is_number}
+use Rattle.gf_front.proofs.OptionLaws.{is_flag, is_number, number_within}
 
 -- ---- the command
 
@@ -106,12 +106,7 @@ limits_of (e ∷ es) m job sound h is = by (bytes_eq m.0 e.name) refl is (λ k l
     ]
 
 pairs_within : (rows : List Row) → HoldsNumber (codes "pairs") most_pairs rows → (1 ≤ number_of (codes "pairs") usual_pairs rows) × (number_of (codes "pairs") usual_pairs rows ≤ most_pairs)
-pairs_within rows is = by (one_of (codes "pairs") rows) refl
-  where
-    by : (o : Option Text) → one_of (codes "pairs") rows ≡ o → (1 ≤ option_map_or (λ text. digits_value 10 (without_leading_plus text)) o usual_pairs)
-        × (option_map_or (λ text. digits_value 10 (without_leading_plus text)) o 100000000 ≤ most_pairs)
-    by None e = (omega arith, omega arith)
-    by (Some text) e = let p = is text e in (p.2, p.3)
+pairs_within rows is = number_within (codes "pairs") most_pairs usual_pairs rows is (omega arith) (omega arith)
 
 limit_within : (id : Text) (rows : List Row) → HoldsNumber id most_pairs rows → IfSome (number_where id rows) (λ n. (1 ≤ n) × (n ≤ most_pairs))
 limit_within id rows is = by (one_of id rows) refl
@@ -138,9 +133,15 @@ bases_sound : IsSound bases
 bases_sound = record {
   holds = λ rows ok. (
     is_number (as_built (shape bases)).rules (codes "limit") most_pairs rows (λ text. refl) ok,
-    (is_number (as_built (shape bases)).rules (codes "pairs") most_pairs rows (λ text. refl) ok, tt),
+    (
+      is_number (as_built (shape bases)).rules (codes "pairs") most_pairs rows (λ text. refl) ok,
+      (is_number (as_built (shape bases)).rules (codes "workers") most_workers rows (λ text. refl) ok, tt),
+    ),
   );
-  limits = λ rows h. let p = pairs_within rows h.1.0 in (limit_within (codes "limit") rows h.0, p.0, p.1);
+  limits = λ rows h.
+      let p = pairs_within rows h.1.0 in
+      let w = number_within (codes "workers") most_workers 1 rows h.1.1.0 (omega arith) (omega arith) in
+      (limit_within (codes "limit") rows h.0, p.0, p.1, w.0, w.1);
 }
 
 leading_terms_sound : IsSound leading_terms

@@ -8,7 +8,7 @@ use Rattle.std.specs.Str.{bytes_eq}
 use Rattle.clap.specs.Words.{Row, Text, fault_of, subcommand_of}
 use Rattle.gf_front.specs.declared.command_line.Job.{Job}
 use Rattle.gf_front.specs.declared.command_line.Job.TheVariants as jobs
-use Rattle.gf_front.specs.Table.{Entry, table, commands, most_pairs}
+use Rattle.gf_front.specs.Table.{Entry, table, commands, most_pairs, most_workers}
 
 -- ---- jobs
 
@@ -23,7 +23,7 @@ job_of m = job_in commands m
 -- each number of the job is in its range
 abbrev pub HasNumbersInRange : Job → Type 0
 HasNumbersInRange (jobs.Buchberger weighted revlex pairs) = (1 ≤ pairs) × (pairs ≤ most_pairs)
-HasNumbersInRange (jobs.Bases limit pairs) = IfSome limit (λ n. (1 ≤ n) × (n ≤ most_pairs)) × (1 ≤ pairs) × (pairs ≤ most_pairs)
+HasNumbersInRange (jobs.Bases limit pairs workers) = IfSome limit (λ n. (1 ≤ n) × (n ≤ most_pairs)) × (1 ≤ pairs) × (pairs ≤ most_pairs) × (1 ≤ workers) × (workers ≤ most_workers)
 HasNumbersInRange _ = Unit {0}
 
 -- ---- the match of words that are renamed

@@ -40,6 +40,10 @@ most_pairs = 1000000000000
 abbrev pub usual_pairs : ℕ
 usual_pairs = 100000000
 
+-- the most workers that a list may have
+abbrev pub most_workers : ℕ
+most_workers = 64
+
 -- ---- what is read of a match
 
 -- whether the option without a value is there
@@ -72,8 +76,8 @@ buchberger = record {
 abbrev pub bases : Entry
 bases = record {
   name = codes "_bases";
-  options = a_number (codes "limit") most_pairs ∷ a_number (codes "pairs") most_pairs ∷ [];
-  job = λ rows. jobs.Bases (number_where (codes "limit") rows) (number_of (codes "pairs") usual_pairs rows);
+  options = a_number (codes "limit") most_pairs ∷ a_number (codes "pairs") most_pairs ∷ a_number (codes "workers") most_workers ∷ [];
+  job = λ rows. jobs.Bases (number_where (codes "limit") rows) (number_of (codes "pairs") usual_pairs rows) (number_of (codes "workers") 1 rows);
 }
 
 -- a command without options

@@ -3,7 +3,7 @@
 //! clap reads the words by the table; what it would say of a fault is never printed.
 ghost use Rattle.std.specs.Prelude.{◌≡◌, [], IfOk, IsErrOf, map, string_bytes, codes, Some};
 ghost use Rattle.clap.specs.Words.{found_of, rows_of, one_of, kind_of};
-ghost use Rattle.gf_front.specs.Table.{most_pairs, flag_of, number_of, number_where, buchberger, bases, leading_terms};
+ghost use Rattle.gf_front.specs.Table.{most_pairs, most_workers, flag_of, number_of, number_where, buchberger, bases, leading_terms};
 ghost use Rattle.gf_front.specs.Jobs.{renamed, HasMatch, IsJobOfMatch, IsMatched, IsJobOf, HasNumbersInRange, job_of};
 ghost use Rattle.gf_front.specs.Options.{HoldsFlag, HoldsNumber, HoldChoices, IsCommand};
 
@@ -33,6 +33,8 @@ pub enum Job {
         limit: Option<u64>,
         /// `--pairs N`: the budget of pairs of each run of Buchberger's algorithm.
         pairs: u64,
+        /// `--workers N`: how many workers list them.
+        workers: u32,
     },
     /// Whether a marked set is a Gröbner basis for its marking.
     IsMarkedGroebnerBasis,
@@ -93,6 +95,15 @@ fn number_where(found: &ArgMatches, id: &str) -> Option<u64>
     found.get_one::<u64>(id)
 }
 
+/// The number of workers, and one where it isn't there.
+fn workers(found: &ArgMatches) -> u32
+    requires { HoldsNumber (codes "workers") most_workers (rows_of (found_of found.now)) }
+    ensures { result ≡ number_of (codes "workers") 1 (rows_of (found_of found.now)) }
+{
+    let number = number(found, "workers", 1);
+    number as u32
+}
+
 /// The job of `_buchberger`.
 fn buchberger(found: &ArgMatches) -> Job
     requires { HoldChoices buchberger.options (rows_of (found_of found.now)) }
@@ -113,6 +124,7 @@ fn bases(found: &ArgMatches) -> Job
     Job::Bases {
         limit: number_where(found, "limit"),
         pairs: number(found, "pairs", PAIRS),
+        workers: workers(found),
     }
 }
 

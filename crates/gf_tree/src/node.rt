@@ -31,8 +31,8 @@ impl Model for Node {
 }
 
 impl Node {
-    // A basis with its cone, or without it where there is no memory for it.
-    pub(crate) fn of(alloc: Global, basis: MarkedSet) -> Node
+    /// A basis with its cone, or without it where there is no memory for it.
+    pub fn of(alloc: Global, basis: MarkedSet) -> Node
         ensures { result ≡ basis }
     {
         match cone_of(alloc, &basis) {
@@ -51,8 +51,8 @@ impl Node {
         &self.basis
     }
 
-    // The basis alone.
-    pub(crate) fn into_basis(self) -> MarkedSet
+    /// The basis alone.
+    pub fn into_basis(self) -> MarkedSet
         ensures { result ≡ self }
     {
         self.basis

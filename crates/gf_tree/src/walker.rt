@@ -70,6 +70,18 @@ impl Walker {
         }
     }
 
+    /// The walker over the tree of bases that this one is, without its count.
+    pub fn into_inner(self) -> gf_walk::Walker<BasisTree>
+        ensures here { result.here ≡ self.here }
+        ensures mark { result.mark ≡ self.mark }
+        ensures depth { result.depth ≡ self.depth }
+        ensures pairs { result.tree.pairs ≡ self.pairs }
+        ensures variables { result.tree.variables ≡ self.variables }
+        ensures list { HasListLeft self }
+    {
+        self.inner
+    }
+
     // What `advance` answers.
     fn step(&mut self) -> Result<Option<MarkedSet>, TreeError>
         ensures ok { IfOk result (IsAdvance self.old self.new) }

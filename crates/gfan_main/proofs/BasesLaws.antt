@@ -1,13 +1,12 @@
 -- How the list of `_bases` begins, goes on, ends and is refused.
--- To cite: starts, goes_on, ends, stopped_root, stopped_tree, stopped_limit, stopped_piece, stopped_end, unnamed_basis, unnamed_tree,
+-- To cite: starts, goes_on, ends, stopped_root, stopped_early, stopped_tree, stopped_limit, stopped_piece, stopped_end, unnamed_basis, unnamed_tree,
 -- unnamed_full, unnamed_write, unwritten_calm, generators_in. The rest are steps.
-use Rattle.std.specs.Prelude.{◌≡◌, ◌⊎◌, ℕ, suc, ◌+◌, ◌<◌, ◌≤◌, Bool, true, false, List, [], ◌∷◌, ◌++◌, flat_map, length, Option, None, Some, ℤ}
-use Rattle.std.specs.Io.KnownBytes.{Appends, Keeps}
+use Rattle.std.specs.Prelude.{◌≡◌, ℕ, Bool, true, false, List, [], ◌∷◌, ◌++◌, length, Option, None, Some}
+use Rattle.std.specs.Io.KnownBytes.{Appends}
+use Rattle.std.specs.Global.{Global}
 use Rattle.std.proofs.Common.{arith, refl, sym, ap, ◌∙◌, subst, inl, inr, append_assoc, append-nil, length-append}
 use Rattle.std.proofs.KnownBytes.{Appends-nil, Appends-trans, Appends-kept, Keeps-refl}
-use Rattle.gf_outside.specs.Faults.{Rose}
 use Rattle.gf_outside.specs.Moved.{AppendsPrefix}
-use Rattle.gf_exponents.specs.SixOrders.{MonomialOrder}
 use Rattle.gf_poly.specs.Polynomial.{Terms}
 use Rattle.gf_poly.specs.Marking.{MarkedPolynomials}
 use Rattle.gf_text.specs.declared.written.Written.{Written}
@@ -17,19 +16,20 @@ use Rattle.gf_buchberger.specs.declared.bases.BasisError.{BasisError}
 use Rattle.gf_buchberger.specs.declared.bases.BasisError.TheVariants as basis_errors
 use Rattle.gf_buchberger.proofs.JobLaws.{ring_variables}
 use Rattle.gf_walk.specs.declared.mark.Mark.TheVariants.{Before}
-use Rattle.gf_walk.specs.Listing.{Among, Leaves}
+use Rattle.gf_walk.specs.Listing.{Leaves}
 use Rattle.gf_walk.specs.Whole.{IsFinite}
 use Rattle.gf_facets.specs.Regions.{all_positive}
 use Rattle.gf_facets.specs.LexPositive.{IsBefore}
-use Rattle.gf_reverse.specs.Upward.{IsNodeIn, IsParent, fan_of}
+use Rattle.gf_reverse.specs.Upward.{IsNode, IsNodeIn, IsParent, fan_of}
 use Rattle.gf_reverse.proofs.TreeLaws.{SameFan, count, upward_finite, node_moved, own_fan, back_fan}
 use Rattle.gf_tree.specs.declared.error.TreeError.{TreeError}
 use Rattle.gf_tree.specs.declared.error.TreeError.TheVariants as tree_errors
 use Rattle.gf_tree.specs.Ideals.{ideal_by}
 use Rattle.gf_tree.specs.Refusals.{IsTreeRefusal}
-use Rattle.gf_tree.specs.Walks.{Walk, ideal_at, AreLeft, walk_at}
-use Rattle.gf_tree.specs.Steps.{IsStepTo, IsEnd}
 use Rattle.gf_tree.proofs.RefusalLaws.{refusal_moved}
+use Rattle.gf_subtree.specs.Rows.{Row, ideal_in, AreLeftIn, row_at}
+use Rattle.gf_subtree.specs.Answers.{IsRowStep, IsRowEnd}
+use Rattle.gf_subtree.proofs.BasisRowLaws.{start_leaves}
 use Rattle.gf_front.specs.declared.refusal.Refusal.{Refusal}
 use Rattle.gf_front.specs.declared.refusal.Refusal.TheVariants as refusals
 use Rattle.gfan_main.specs.declared.bases.ListOptions.{ListOptions}
@@ -37,10 +37,10 @@ use Rattle.gfan_main.specs.declared.bases.Room.{Room}
 use Rattle.gfan_main.specs.declared.bases.Room.TheVariants.{Endless, Limited}
 use Rattle.gfan_main.specs.Buchberger.{generators_of, of_basis}
 use Rattle.gfan_main.specs.BasesList.{AreAllBases}
-use Rattle.gfan_main.specs.Bases.{IsWithinLimit, IsTextOfBases, IsBegunList, IsBegunToLimit, list_text, begun_text, of_tree, IsPastLimit, IsListCause, bases_command}
+use Rattle.gfan_main.specs.Bases.{IsWithinLimit, IsTextOfBases, IsBegunList, IsBegunToLimit, list_text, begun_text, of_tree, IsListCause, bases_command}
 use Rattle.gfan_main.specs.BasesWriting.{basis_piece, IsUnwritten, IsRoomFor, IsOneLess, IsFull, IsFirstBasis, IsRootRefusal, IsUnnamed, is_none_of, IsUnderWay}
 use Rattle.gfan_main.specs.Refused.{without_names}
-use Rattle.gfan_main.specs.Performed.{IsPerformedFor, IsBegunAs, IsStoppedFor}
+use Rattle.gfan_main.specs.Performed.{IsPerformedFor, IsStoppedFor}
 use Rattle.gfan_main.proofs.BuchbergerLaws.{in_ring}
 use Rattle.gfan_main.proofs.BasesListLaws.{first_node, first_own, all_bases_from}
 use Rattle.gfan_main.proofs.BasesTextLaws.{begun_next, whole_begun, prefix_on, prefix_piece}
@@ -78,15 +78,14 @@ room_within (Some limit) (Limited most left) written h = omega (arith, h.1)
 
 module _ (o : ListOptions) (ring : List (List ℕ)) (fs : List Terms) where
   -- before the first basis
-  pub starts : (root : MarkedPolynomials) (room : Room) (held : Option (List ℕ)) → AreInVariables (length ring) fs → IsFirstBasis (length ring) fs root → IsRoomFor o.limit room [] →
-      IsUnderWay o ring fs (walk_at root o.pairs) room true held held
-  starts root room held v first h = record {
+  pub starts : (alloc : Global) (workers : ℕ) (root : MarkedPolynomials) (room : Room) (held : Option (List ℕ)) → AreInVariables (length ring) fs → IsFirstBasis (length ring) fs root → IsRoomFor o.limit room [] →
+      IsUnderWay o ring fs (row_at alloc root workers o.pairs) room true held held
+  starts alloc workers root room held v first h = record {
     written = [];
     rest = finite.nodes;
     are_all = all_bases_from (length ring) fs root finite.nodes v first.variables first.reduced first.arranged finite.leaves;
-    left = subst (λ n. Leaves IsBefore (IsParent (all_positive n)) Before root 0 finite.nodes) (sym first.variables) finite.leaves;
+    left = start_leaves alloc root workers o.pairs mine finite.nodes (subst (λ n. Leaves IsBefore (IsParent (all_positive n)) Before root 0 finite.nodes) (sym first.variables) finite.leaves);
     basis = node;
-    variables = first.variables;
     pairs = refl;
     fits = h;
     first = refl;
@@ -96,27 +95,30 @@ module _ (o : ListOptions) (ring : List (List ℕ)) (fs : List Terms) where
       node : IsNodeIn (ideal_by (length ring) fs) root
       node = first_node (length ring) fs root v first.variables first.reduced first.arranged
 
+      mine : IsNode (all_positive root.variables) root
+      mine = subst (λ k. IsNode (all_positive k) root) (sym first.variables) (first_own (length ring) fs root node)
+
       finite : IsFinite IsBefore (IsParent (all_positive (length ring))) root (count (all_positive (length ring)) root)
       finite = upward_finite (all_positive (length ring)) root (first_own (length ring) fs root node)
 
-  module _ (walk : Walk) (room : Room) (is_first : Bool) (held holds : Option (List ℕ)) (way : IsUnderWay o ring fs walk room is_first held holds) where
-    -- the ideal of the walker is the one that is read
-    same_fan : SameFan (ideal_at walk) (ideal_by (length ring) fs)
-    same_fan = subst (λ n. SameFan (fan_of (all_positive n) walk.here) (ideal_by (length ring) fs)) (sym way.variables) (back_fan (ideal_by (length ring) fs) (fan_of (all_positive (length ring)) walk.here) (own_fan (ideal_by (length ring) fs) walk.here way.basis))
+  module _ (row : Row) (room : Room) (is_first : Bool) (held holds : Option (List ℕ)) (way : IsUnderWay o ring fs row room is_first held holds) where
+    -- the ideal of the row is the one that is read
+    same_fan : SameFan (ideal_in row) (ideal_by (length ring) fs)
+    same_fan = subst (λ n. SameFan (fan_of (all_positive n) row.start) (ideal_by (length ring) fs)) (sym way.basis.variables) (back_fan (ideal_by (length ring) fs) (fan_of (all_positive (length ring)) row.start) (own_fan (ideal_by (length ring) fs) row.start way.basis))
 
-    from_walk : (x : MarkedPolynomials) → IsNodeIn (ideal_at walk) x → IsNodeIn (ideal_by (length ring) fs) x
-    from_walk x h = node_moved (ideal_at walk) (ideal_by (length ring) fs) x same_fan h
+    from_row : (x : MarkedPolynomials) → IsNodeIn (ideal_in row) x → IsNodeIn (ideal_by (length ring) fs) x
+    from_row x h = node_moved (ideal_in row) (ideal_by (length ring) fs) x same_fan h
 
-    -- a refusal of the walker is one at a basis of that ideal
-    tree_cause : (e : TreeError) → IsTreeRefusal (ideal_at walk) walk.pairs e → IsTreeRefusal (ideal_by (length ring) fs) o.pairs e
-    tree_cause e h = subst (λ p. IsTreeRefusal (ideal_by (length ring) fs) p e) way.pairs (refusal_moved (ideal_at walk) (ideal_by (length ring) fs) walk.pairs e same_fan h)
+    -- a refusal of the waves is one at a basis of that ideal
+    tree_cause : (e : TreeError) → IsTreeRefusal (ideal_in row) row.pairs e → IsTreeRefusal (ideal_by (length ring) fs) o.pairs e
+    tree_cause e h = subst (λ p. IsTreeRefusal (ideal_by (length ring) fs) p e) way.pairs (refusal_moved (ideal_in row) (ideal_by (length ring) fs) row.pairs e same_fan h)
 
     -- what is written until now
     begun_here : (rest : List MarkedPolynomials) → way.rest ≡ rest → IsBegunList ring fs way.written rest (begun_text ring way.written)
     begun_here rest e = record { are_all = subst (λ l. AreAllBases (length ring) fs (way.written ++ l)) e way.are_all; is_text = refl }
 
-    module _ (new : Walk) (b : MarkedPolynomials) (step : IsStepTo walk new b) where
-      next : (rest : List MarkedPolynomials) × (way.rest ≡ b ∷ rest) × AreLeft new rest
+    module _ (new : Row) (b : MarkedPolynomials) (step : IsRowStep row new b) where
+      next : (rest : List MarkedPolynomials) × (way.rest ≡ b ∷ rest) × AreLeftIn new rest
       next = step.first way.rest way.left
 
       all_next : AreAllBases (length ring) fs (way.written ++ b ∷ next.0)
@@ -124,7 +126,7 @@ module _ (o : ListOptions) (ring : List (List ℕ)) (fs : List Terms) where
 
       -- a basis is of the variables of the ring
       pub step_variables : b.variables ≡ length ring
-      step_variables = (from_walk b step.basis).variables
+      step_variables = (from_row b step.basis).variables
 
       -- one more basis is written
       pub goes_on : (after : Room) (then : Option (List ℕ)) → IsOneLess room after → Appends holds then (basis_piece ring is_first b) → IsUnderWay o ring fs new after false held then
@@ -133,9 +135,8 @@ module _ (o : ListOptions) (ring : List (List ℕ)) (fs : List Terms) where
         rest = next.0;
         are_all = subst (AreAllBases (length ring) fs) (sym (append_assoc way.written (b ∷ []) next.0)) all_next;
         left = next.2;
-        basis = subst (IsNodeIn (ideal_by (length ring) fs)) (sym step.here) (from_walk b step.basis);
-        variables = step.variables ∙ way.variables;
-        pairs = step.pairs ∙ way.pairs;
+        basis = subst (IsNodeIn (ideal_by (length ring) fs)) (sym step.same.start) way.basis;
+        pairs = step.same.pairs ∙ way.pairs;
         fits = room_next o.limit room after way.written b way.fits less;
         first = none way.written;
         gained = subst (Appends held then) (ap (λ f. begun_text ring way.written ++ basis_piece ring f b) way.first ∙ begun_next ring way.written b) (Appends-trans held holds then (begun_text ring way.written) (basis_piece ring is_first b) way.gained piece);
@@ -190,8 +191,8 @@ module _ (o : ListOptions) (ring : List (List ℕ)) (fs : List Terms) where
       stopped_piece set then n m refusals.Memory e u = (inr refl, inr (begun_text ring way.written, (way.written, way.rest, subst (λ gs. IsBegunList ring gs way.written way.rest (begun_text ring way.written)) e (begun_here way.rest refl)), Appends-kept held holds then (begun_text ring way.written) way.gained u.0))
       stopped_piece set then n m _ e u = absurd u
 
-    -- the walker is refused
-    pub stopped_tree : (set : List Written) (n m : ℕ) (e : TreeError) → fs ≡ generators_of set → IsTreeRefusal (ideal_at walk) walk.pairs e → IsStoppedFor (bases_command o) (ring, (set, None)) held holds n m (of_tree e)
+    -- the next basis is refused
+    pub stopped_tree : (set : List Written) (n m : ℕ) (e : TreeError) → fs ≡ generators_of set → IsTreeRefusal (ideal_in row) row.pairs e → IsStoppedFor (bases_command o) (ring, (set, None)) held holds n m (of_tree e)
     stopped_tree set n m e q h = at e (subst (λ gs. IsListCause o (length ring) gs (of_tree e)) q (IsListCause.in_tree e (tree_cause e h) refl))
       where
         begun : (r : Refusal) → (written : List MarkedPolynomials) × (rest : List MarkedPolynomials) × IsBegunList ring (generators_of set) written rest (begun_text ring way.written)
@@ -205,7 +206,7 @@ module _ (o : ListOptions) (ring : List (List ℕ)) (fs : List Terms) where
         at tree_errors.Memory c = (inl c, inr (begun_text ring way.written, begun refusals.Memory, way.gained))
 
     -- nothing is left: all bases are written
-    module _ (new : Walk) (end : IsEnd walk new) where
+    module _ (new : Row) (end : IsRowEnd row new) where
       all_written : AreAllBases (length ring) fs way.written
       all_written = subst (AreAllBases (length ring) fs) (ap (λ l. way.written ++ l) (end.none way.rest way.left) ∙ append-nil way.written) way.are_all
 
@@ -257,6 +258,10 @@ stopped_root o ring set held n m r (e, h, q) = subst (λ z. IsStoppedFor (bases_
     at (basis_errors.Exponent x) c = (inl c, inl (Keeps-refl held))
     at (basis_errors.PairBudget basis unsettled) c = (inl c, inl (Keeps-refl held))
     at basis_errors.Memory c = (inl c, inl (Keeps-refl held))
+
+-- there is no memory before anything is written
+pub stopped_early : (o : ListOptions) (ring : List (List ℕ)) (set : List Written) (held : Option (List ℕ)) (n m : ℕ) (r : Refusal) → r ≡ refusals.Memory → IsStoppedFor (bases_command o) (ring, (set, None)) held held n m r
+stopped_early o ring set held n m r e = subst (λ z. IsStoppedFor (bases_command o) (ring, (set, None)) held held n m z) (sym e) (inr refl, inl (Keeps-refl held))
 
 -- ---- lines without a ring, and faults
 

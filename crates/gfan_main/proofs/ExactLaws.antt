@@ -1,8 +1,8 @@
 -- A source is answered in one way: what is refused exactly where a condition holds is refused so wherever it holds, and within
 -- its limits a job is answered.
--- To cite: exact_text, exact_form, text_no_answer, form_no_answer, text_no_whole, form_no_whole, all_answered, refused_as_job, not_listed. The rest are steps.
-use Rattle.std.specs.Prelude.{◌≡◌, ◌⊎◌, ℕ, ◌<◌, ◌≤◌, Bool, true, false, List, [], ◌∷◌, length, Contains, Err, Option, None, Some}
-use Rattle.std.proofs.Common.{arith, refl, sym, ap, ◌∙◌, subst, inl, inr}
+-- To cite: set_kept, exact_text, exact_form, text_no_answer, form_no_answer, text_no_whole, form_no_whole, all_answered, refused_as_job, not_listed. The rest are steps.
+use Rattle.std.specs.Prelude.{◌≡◌, ◌⊎◌, ℕ, ◌<◌, Bool, true, false, List, [], ◌∷◌, length, Err, Option, None, Some}
+use Rattle.std.proofs.Common.{arith, sym, ap, ◌∙◌, subst, inl, inr}
 use Rattle.gf_exponents.specs.SixOrders.{MonomialOrder}
 use Rattle.gf_poly.specs.Polynomial.{Terms, HasVariables, IsDescending}
 use Rattle.gf_poly.specs.Marking.{Each, MarkedPolynomials}
@@ -51,7 +51,7 @@ use Rattle.gfan_main.proofs.ToolLaws.{mark_polynomial_set_exact, initial_forms_e
 -- ---- what is kept of a set
 
 -- the polynomials of a set have the variables of the ring, and descend
-abbrev IsKept : ℕ → Terms → Type 0
+abbrev pub IsKept : ℕ → Terms → Type 0
 IsKept n f = HasVariables n f × IsDescending f
 
 written_kept : (n : ℕ) (fs : List Terms) (ws : List Written) → SumsHaveVariables n fs → AreWritten fs ws → Each (IsKept n) (generators_of ws)
@@ -61,7 +61,7 @@ written_kept n (f ∷ fs) [] v a = absurd a
 written_kept n (f ∷ fs) (written.Zero ∷ ws) v a = ((tt, tt), written_kept n fs ws v.1 a.1)
 written_kept n (f ∷ fs) (written.Nonzero m ∷ ws) v a = ((a.0.variables.at n v.0, a.0.descending), written_kept n fs ws v.1 a.1)
 
-set_kept : (ring : List (List ℕ)) (p : Position) (end : ℕ) (ws : List Written) → IsSetRead ring p end ws → AreKept (length ring) (generators_of ws)
+pub set_kept : (ring : List (List ℕ)) (p : Position) (end : ℕ) (ws : List Written) → IsSetRead ring p end ws → AreKept (length ring) (generators_of ws)
 set_kept ring p end ws s f c =
     contained_each (IsKept (length ring)) (generators_of ws) (written_kept (length ring) s.sums ws (sums_variables (length ring) s.said s.sums s.exponents) s.written) f c
 
@@ -148,7 +148,7 @@ bases_exact o = record {
 
 laws : (job : Job) → IsExactCommand (command job)
 laws (jobs.Buchberger weighted revlex pairs) = buchberger_exact (options weighted revlex pairs)
-laws (jobs.Bases limit pairs) = bases_exact (list_options limit pairs)
+laws (jobs.Bases limit pairs workers) = bases_exact (list_options limit pairs)
 laws jobs.IsMarkedGroebnerBasis = marked_exact
 laws (jobs.LeadingTerms listed) = leading_exact listed
 laws jobs.MarkPolynomialSet = mark_polynomial_set_exact
@@ -210,7 +210,7 @@ command_not_listed c exact_c never source most (IsCommandRefused.no_memory m) = 
 
 pub not_listed : (job : Job) (source : List ℕ) (most : ℕ) → WritesAtEnd job → IsRefusalOf job source (refusals.ListLimit most) → ⊥
 not_listed (jobs.Buchberger weighted revlex pairs) source most w h = command_not_listed (buchberger_command (options weighted revlex pairs)) (buchberger_exact (options weighted revlex pairs)) (λ a m c. basis_not_listed c.0 m c.1) source most h
-not_listed (jobs.Bases limit pairs) source most w h = w
+not_listed (jobs.Bases limit pairs workers) source most w h = w
 not_listed jobs.IsMarkedGroebnerBasis source most w h = command_not_listed marked_command marked_exact (λ a m c. check_not_listed c.0 m c.1) source most h
 not_listed (jobs.LeadingTerms false) source most w h = command_not_listed (leading_terms_command false) (leading_exact false) (λ a m c. cc) source most h
 not_listed (jobs.LeadingTerms true) source most w h = command_not_listed (leading_terms_command true) (leading_exact true) (λ a m c. cc) source most h

@@ -12,7 +12,7 @@ use Rattle.gf_buchberger.specs.declared.bases.BasisError.{BasisError}
 use Rattle.gf_buchberger.specs.Bases.{IsArrangedBasis, IsBasisRefusal}
 use Rattle.gf_reverse.specs.Upward.{IsNodeIn}
 use Rattle.gf_tree.specs.Ideals.{ideal_by}
-use Rattle.gf_tree.specs.Walks.{Walk, AreLeft}
+use Rattle.gf_subtree.specs.Rows.{Row, AreLeftIn}
 use Rattle.gf_front.specs.declared.refusal.Refusal.{Refusal}
 use Rattle.gf_front.specs.declared.refusal.Refusal.TheVariants as refusals
 use Rattle.gfan_main.specs.declared.refused.Refused.{Refused}
@@ -79,15 +79,14 @@ abbrev pub is_none_of : List MarkedPolynomials → Bool
 is_none_of [] = true
 is_none_of (b ∷ bs) = false
 
--- the list is under way: some of its bases are written, and the walker has the rest left
-pub record IsUnderWay (o : ListOptions) (ring : List (List ℕ)) (fs : List Terms) (walk : Walk) (room : Room) (is_first : Bool) (held holds : Option (List ℕ)) : Type 0 where
+-- the list is under way: some of its bases are written, and the rest is left in the row
+pub record IsUnderWay (o : ListOptions) (ring : List (List ℕ)) (fs : List Terms) (row : Row) (room : Room) (is_first : Bool) (held holds : Option (List ℕ)) : Type 0 where
   pub written : List MarkedPolynomials
   pub rest : List MarkedPolynomials
   pub are_all : AreAllBases (length ring) fs (written ++ rest)
-  pub left : AreLeft walk rest
-  pub basis : IsNodeIn (ideal_by (length ring) fs) walk.here
-  pub variables : walk.variables ≡ length ring
-  pub pairs : walk.pairs ≡ o.pairs
+  pub left : AreLeftIn row rest
+  pub basis : IsNodeIn (ideal_by (length ring) fs) row.start
+  pub pairs : row.pairs ≡ o.pairs
   pub fits : IsRoomFor o.limit room written
   pub first : is_first ≡ is_none_of written
   pub gained : Appends held holds (begun_text ring written)

@@ -24,10 +24,10 @@ options weighted revlex pairs = record { weighted = weighted; revlex = revlex; p
 abbrev pub list_options : Option ℕ → ℕ → ListOptions
 list_options limit pairs = record { limit = limit; pairs = pairs }
 
--- the command of a job
+-- the command of a job; that of `_bases` is the same for every number of workers
 abbrev pub command : Job → Command
 command (jobs.Buchberger weighted revlex pairs) = buchberger_command (options weighted revlex pairs)
-command (jobs.Bases limit pairs) = bases_command (list_options limit pairs)
+command (jobs.Bases limit pairs workers) = bases_command (list_options limit pairs)
 command jobs.IsMarkedGroebnerBasis = marked_command
 command (jobs.LeadingTerms listed) = leading_terms_command listed
 command jobs.MarkPolynomialSet = mark_polynomial_set_command
@@ -57,7 +57,7 @@ IsWithinReach job source = IsInReach (command job) source
 
 -- the job writes one piece at its end; `_bases` alone writes as it goes
 abbrev pub WritesAtEnd : Job → Type 0
-WritesAtEnd (jobs.Bases limit pairs) = ⊥
+WritesAtEnd (jobs.Bases limit pairs workers) = ⊥
 WritesAtEnd _ = Unit {0}
 
 -- ---- kinds of refusals

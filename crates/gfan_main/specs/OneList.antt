@@ -1,10 +1,17 @@
--- An ideal has one list of all bases.
-use Rattle.std.specs.Prelude.{◌≡◌, ℕ, List}
+-- An ideal has one list of all bases, and `_bases` writes one text for a source.
+use Rattle.std.specs.Prelude.{◌≡◌, ℕ, List, Option}
 use Rattle.gf_poly.specs.Polynomial.{Terms}
 use Rattle.gf_poly.specs.Marking.{MarkedPolynomials}
 use Rattle.gf_ideal.specs.Membership.{AreInVariables}
+use Rattle.gf_front.specs.declared.command_line.Job.TheVariants as jobs
 use Rattle.gfan_main.specs.BasesList.{AreAllBases}
+use Rattle.gfan_main.specs.Commands.{IsAnswerTo}
 
 -- so that what is written for an ideal is one text
 abbrev pub ListsAreOne : Type 0
 ListsAreOne = (n : ℕ) (fs : List Terms) (list other : List MarkedPolynomials) → AreInVariables n fs → AreAllBases n fs list → AreAllBases n fs other → list ≡ other
+
+-- two runs of `_bases` that come to the end of the list of one source have written the same text, whatever the numbers of their workers were,
+-- and their limits and budgets
+abbrev pub TextsAreOne : Type 0
+TextsAreOne = (limit other : Option ℕ) (pairs budget workers others : ℕ) (source text same : List ℕ) → IsAnswerTo (jobs.Bases limit pairs workers) source text → IsAnswerTo (jobs.Bases other budget others) source same → text ≡ same

@@ -1,5 +1,5 @@
 // What `_bases` writes for an input, basis by basis.
-ghost use Rattle.std.specs.Prelude.{◌≡◌, [], length, None, IfOk, IfErr, OnOk, MatchResult};
+ghost use Rattle.std.specs.Prelude.{◌≡◌, ◌≤◌, [], length, None, IfOk, IfErr, OnOk, MatchResult};
 ghost use Rattle.std.specs.Io.KnownBytes.{Appends};
 ghost use Rattle.gf_text.specs.Sets.{AreIn};
 ghost use Rattle.gfan_main.specs.Buchberger.{generators_of};
@@ -16,9 +16,11 @@ use gf_items::{RingAndSet, ring_and_set};
 use gf_order::Order;
 use gf_outside::{Sink, WriteFault, write_all};
 use gf_poly::MarkedSet;
+use gf_subtree::Waves;
 use gf_text::{Printer, Ring, Written};
-use gf_tree::Walker;
+use gf_waves::Gate;
 use std::alloc::{AllocError, Global};
+use std::thread::Threads;
 
 /// The options of `_bases`.
 #[derive(Clone, Copy, Debug)]
@@ -147,15 +149,20 @@ fn first_basis(
     }
 }
 
-// Writes the list of all bases of the set's ideal.
-fn write_list<K: Sink>(
+// Writes the list of all bases of the set's ideal, by so many workers.
+fn write_list<R: Threads + Sync, K: Sink, G: Gate>(
+    rt: &R,
     alloc: Global,
     ring: &Ring,
     set: &[Written],
     options: ListOptions,
+    workers: u32,
     output: &mut K,
+    gate: &G,
 ) -> Result<(), Refused>
-    requires { AreIn (length ring.now) set.now }
+    requires set { AreIn (length ring.now) set.now }
+    requires some { 1 ≤ workers }
+    requires most { workers ≤ 64 }
     ensures done { OnOk result (IsPerformedFor (bases_command options) (ring.now, (set.now, None))
         (K.held output.old) (K.held output.new)) }
     ensures stopped { IfErr result (λ e. IsStoppedFor (bases_command options) (ring.now, (set.now, None))
@@ -165,10 +172,10 @@ fn write_list<K: Sink>(
         (λ e. (e.refusal ≡ Refusal.WriteFault → ⊥) → K.faults output.new ≡ K.faults output.old) }
 {
     let root = first_basis(alloc, ring, set, options.pairs)?;
-    let mut walker = Walker::at(alloc, root, options.pairs);
+    let mut waves = Waves::new(alloc, root, workers, options.pairs, gate)?;
     let mut room = Room::of(options.limit);
     let mut is_first = true;
-    'list: while let Some(basis) = walker.advance()? {
+    'list: while let Some(basis) = waves.next_written(rt)? {
         room = room.with_one_more()?;
         write_basis(alloc, ring, &basis, is_first, output)?;
         is_first = false;
@@ -180,7 +187,8 @@ fn write_list<K: Sink>(
 /// Writes the ring of the source in a line, and then all marked reduced Gröbner bases of the ideal of its set, each as soon as it is
 /// found: the first with the ring, and each other one behind a line end, a comma and a line end; last the brace that ends the list.
 ///
-/// The list begins at the basis by degree and then lex. Every other basis comes from the one above it, across a facet of its cone; the
+/// The list is worked off by so many workers, and it is the same for every number of them; before each of their jobs the gate is called.
+/// It begins at the basis by degree and then lex. Every other basis comes from the one above it, across a facet of its cone; the
 /// way up from a basis is across the least of its flippable normals that are negative at (1, .., 1), and the bases come in the
 /// order of their paths from the first one.
 ///
@@ -196,20 +204,25 @@ fn write_list<K: Sink>(
 /// - `WriteFault` only where a write failed; a prefix of the text of the whole list is written then.
 ///
 /// On the others from `Overflow` on, what is written ends where a basis ends, or nothing is.
-pub(crate) fn perform<K: Sink>(
+pub(crate) fn perform<R: Threads + Sync, K: Sink, G: Gate>(
+    rt: &R,
     alloc: Global,
     source: &[u8],
     options: ListOptions,
+    workers: u32,
     output: &mut K,
+    gate: &G,
 ) -> Result<(), Refused>
-    ensures done { OnOk result (IsPerformed (Job.Bases options.limit options.pairs) source.now
+    requires some { 1 ≤ workers }
+    requires most { workers ≤ 64 }
+    ensures done { OnOk result (IsPerformed (Job.Bases options.limit options.pairs workers) source.now
         (K.held output.old) (K.held output.new)) }
-    ensures stopped { IfErr result (λ e. IsStopped (Job.Bases options.limit options.pairs) source.now
+    ensures stopped { IfErr result (λ e. IsStopped (Job.Bases options.limit options.pairs workers) source.now
         (K.held output.old) (K.held output.new) (K.faults output.old) (K.faults output.new) e.refusal) }
     ensures told { IfErr result (IsOfSource source.now) }
     ensures calm { MatchResult result (λ _. K.faults output.new ≡ K.faults output.old)
         (λ e. (e.refusal ≡ Refusal.WriteFault → ⊥) → K.faults output.new ≡ K.faults output.old) }
 {
     let RingAndSet { ring, set, .. } = ring_and_set(alloc, source, false)?;
-    write_list(alloc, &ring, &set, options, output)
+    write_list(rt, alloc, &ring, &set, options, workers, output, gate)
 }

@@ -1,5 +1,6 @@
 // What the program does for each job.
 ghost use Rattle.std.specs.Prelude.{◌≡◌, IfOk, IfErr, OnOk, MatchResult};
+ghost use Rattle.gf_front.specs.Jobs.{HasNumbersInRange};
 ghost use Rattle.gfan_main.specs.Refused.{IsOfSource};
 ghost use Rattle.gfan_main.specs.Commands.{IsAnswerTo, IsRefusalOf, WritesAtEnd};
 ghost use Rattle.gfan_main.specs.Performed.{IsPerformed, IsStopped};
@@ -13,7 +14,9 @@ use crate::{
 };
 use gf_front::{Job, Refusal};
 use gf_outside::{Sink, WriteFault, write_all};
+use gf_waves::Gate;
 use std::alloc::Global;
+use std::thread::Threads;
 
 /// What a job that writes one piece at its end writes for the source.
 fn answered(alloc: Global, job: &Job, source: &[u8]) -> Result<Vec<u8>, Refused>
@@ -68,12 +71,15 @@ fn write_answer<K: Sink>(
 }
 
 /// Writes to the output what the job writes for the source: in one piece at its end, or piece by piece as it goes.
-pub(crate) fn perform<K: Sink>(
+pub(crate) fn perform<R: Threads + Sync, K: Sink, G: Gate>(
+    rt: &R,
     alloc: Global,
     job: &Job,
     source: &[u8],
     output: &mut K,
+    gate: &G,
 ) -> Result<(), Refused>
+    requires { HasNumbersInRange job.now }
     ensures done { OnOk result (IsPerformed job.now source.now (K.held output.old) (K.held output.new)) }
     ensures stopped { IfErr result (λ e. IsStopped job.now source.now (K.held output.old)
         (K.held output.new) (K.faults output.old) (K.faults output.new) e.refusal) }
@@ -82,12 +88,16 @@ pub(crate) fn perform<K: Sink>(
         (λ e. (e.refusal ≡ Refusal.WriteFault → ⊥) → K.faults output.new ≡ K.faults output.old) }
 {
     match job {
-        Job::Bases { limit, pairs } => {
+        Job::Bases {
+            limit,
+            pairs,
+            workers,
+        } => {
             let options = ListOptions {
                 limit: *limit,
                 pairs: *pairs,
             };
-            bases::perform(alloc, source, options, output)
+            bases::perform(rt, alloc, source, options, *workers, output, gate)
         }
         other => write_answer(alloc, other, source, output),
     }

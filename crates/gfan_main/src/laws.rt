@@ -1,6 +1,6 @@
 // What the list of `_bases` has: laws, each the contract of a function that computes nothing.
 ghost use Rattle.gfan_main.specs.BasesList.{WeightsAreServed};
-ghost use Rattle.gfan_main.specs.OneList.{ListsAreOne};
+ghost use Rattle.gfan_main.specs.OneList.{ListsAreOne, TextsAreOne};
 
 /// A basis is in the list that `_bases` writes exactly where some positive weight gives it. For each positive weight for which monomials
 /// generate the initial ideal its reduced basis is there, once; and each positive weight lies in the closed cone of a basis that is
@@ -12,4 +12,9 @@ pub fn weights_are_served()
 /// The ideal of a set has one list of all bases in the order of their paths, so that what `_bases` writes for a ring and a set is one text.
 pub fn lists_are_one()
     ensures { ListsAreOne }
+{}
+
+/// Two runs of `_bases` that write the whole list for one source have written the same bytes, whatever their numbers of workers are.
+pub fn texts_are_one()
+    ensures { TextsAreOne }
 {}

@@ -31,11 +31,14 @@ mod tests;
 mod textbook_tests;
 #[cfg(test)]
 mod tool_tests;
+#[cfg(test)]
+mod workers_tests;
 
 use crate::refused::Refused;
 use crate::run::run;
 use gf_front::{Status, WordsError};
 use gf_outside::{StdSink, StdSource};
+use gf_waves::FreeGate;
 use std::env;
 use std::io::ErrorKind;
 use std::process::ExitCode;
@@ -67,7 +70,15 @@ fn main(rt: HostRuntime) -> ExitCode {
         Ok(words) => {
             let mut input = StdSource::new(rt.stdin());
             let mut output = StdSink::new(rt.stdout());
-            run(rt.alloc(), &words, &mut input, &mut output, &mut faults)
+            run(
+                &rt,
+                rt.alloc(),
+                &words,
+                &mut input,
+                &mut output,
+                &mut faults,
+                &FreeGate,
+            )
         }
         Err(error) => {
             let refused = Refused::from(error);

@@ -14,7 +14,9 @@ use crate::commands::perform;
 use crate::refused::Refused;
 use gf_front::{Refusal, Status};
 use gf_outside::{InputError, Sink, Source, read_all};
+use gf_waves::Gate;
 use std::alloc::Global;
+use std::thread::Threads;
 
 /// All bytes of the input.
 fn read<S: Source>(alloc: Global, input: &mut S) -> Result<Vec<u8>, Refusal>
@@ -34,11 +36,13 @@ fn read<S: Source>(alloc: Global, input: &mut S) -> Result<Vec<u8>, Refusal>
 }
 
 /// The words, the input and the output, without the line of a refusal.
-fn outcome<S: Source, K: Sink>(
+fn outcome<R: Threads + Sync, S: Source, K: Sink, G: Gate>(
+    rt: &R,
     alloc: Global,
     words: &[String],
     input: &mut S,
     output: &mut K,
+    gate: &G,
 ) -> Result<(), Refused>
     ensures done { OnOk result (Answered (map string_bytes words.now) (S.left input.old)
         (S.left input.new) (S.given input.old) (S.given input.new) (K.held output.old)
@@ -62,14 +66,15 @@ fn outcome<S: Source, K: Sink>(
 {
     let job = gf_front::words(alloc, words)?;
     let source = read(alloc, input)?;
-    perform(alloc, &job, &source, output)
+    perform(rt, alloc, &job, &source, output, gate)
 }
 
 /// Does what the words ask for, and tells a refusal in one line.
 ///
 /// The words are those after the program's name. The job is that of `gf_front::words`; what it reads and writes is told
 /// at its own function. The answer is one piece of the output, or of `_bases` one piece for each basis, and nothing else is written
-/// there. On Done nothing is written to `faults`. Whether `faults` takes the line changes neither the status nor the output.
+/// there. Of `_bases` several workers may do the jobs of the list, on threads of `rt`: before each of them the gate is called, on the thread
+/// that will do it, and no answer depends on it. On Done nothing is written to `faults`. Whether `faults` takes the line changes neither the status nor the output.
 ///
 /// # Errors
 ///
@@ -85,12 +90,14 @@ fn outcome<S: Source, K: Sink>(
 /// - `WriteFault` only where a write of this call failed, or took nothing; a prefix of the answer may be
 ///   written then. Any other refusal leaves nothing in the output, or the beginning of the text of a job that writes as it goes.
 /// - `Memory` at any growth.
-pub fn run<S: Source, K: Sink, E: Sink>(
+pub fn run<R: Threads + Sync, S: Source, K: Sink, E: Sink, G: Gate>(
+    rt: &R,
     alloc: Global,
     words: &[String],
     input: &mut S,
     output: &mut K,
     faults: &mut E,
+    gate: &G,
 ) -> Status
     // Done: the words ask for a job, all of the input was read, and all of the job's answer written.
     ensures done { result ≡ Status.Done → Answered (map string_bytes words.now) (S.left input.old)
@@ -192,7 +199,7 @@ pub fn run<S: Source, K: Sink, E: Sink>(
         (E.held faults.old) (E.held faults.new) (E.faults faults.old) (E.faults faults.new) }
     ensures silent { result ≡ Status.Done → faults.new ≡ faults.old }
 {
-    match outcome(alloc, words, input, output) {
+    match outcome(rt, alloc, words, input, output, gate) {
         Ok(()) => Status::Done,
         Err(refused) => {
             refused.tell(faults);

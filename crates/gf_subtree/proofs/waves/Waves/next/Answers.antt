@@ -1,0 +1,60 @@
+use Rattle.std.specs.Prelude.{◌≡◌, Option, Ok}
+use Rattle.std.proofs.Common.{arith, sym, subst}
+use Rattle.gf_poly.specs.Marking.{MarkedPolynomials}
+use Rattle.gf_walk.specs.Listing.{IsLeftAt, IsFirstOf}
+use Rattle.gf_walk.specs.Pieces.{PiecesLeave}
+use Rattle.gf_waves.specs.Wave.{IsCall}
+use Rattle.gf_facets.specs.LexPositive.{IsBefore}
+use Rattle.gf_tree.specs.declared.error.TreeError.TheVariants.{Memory}
+use Rattle.gf_tree.specs.Parents.{ideal_of}
+use Rattle.gf_tree.specs.Refusals.{IsTreeRefusal}
+use Rattle.gf_subtree.specs.Rows.{Row, up_in, RefusesWalker, ideal_in}
+use Rattle.gf_subtree.specs.Answers.{IsRowStep}
+use Rattle.gf_subtree.proofs.BasisRowLaws.{row_of, left_after, row_step, left_at_end, left_kept, front_refused}
+use Rattle.gf_subtree.proofs.waves.Waves.next.Goals as goal
+
+pub invariant_of-self-in-Ok-Some : goal.invariant_of-self-in-Ok-Some
+invariant_of-self-in-Ok-Some g c =
+    let f = c.self.inside.inner in
+    let q = c.next_written.new.self in
+    let e = c.in-Ok-Some.ensures in
+    left_after f q c.self.inside.pairs c.self.inside.start.value c.self.inside.given c.raise.new.self e.workers e.bound e.refusals c.self.invariant c.in-Ok-Some.node
+    (subst (λ (o : Option MarkedPolynomials). IsCall IsBefore up_in RefusesWalker (λ r. r ≡ Memory) f (Ok o) q) c.in-Ok-Some.field-0-is e.call)
+    (λ nodes l. subst (IsFirstOf (PiecesLeave (IsLeftAt IsBefore up_in) q.pieces) nodes) c.in-Ok-Some.field-0-is (e.list nodes l)) c.in_ok-raise.ensures.ok
+
+pub returns-in-Ok-Some-clause-ok : goal.returns-in-Ok-Some-clause-ok
+returns-in-Ok-Some-clause-ok g c =
+    let f = c.self.inside.inner in
+    let q = c.next_written.new.self in
+    let e = c.in-Ok-Some.ensures in
+    let new = row_of q c.self.inside.pairs c.self.inside.start.value c.raise.new.self in
+    subst (λ (r : Row). IsRowStep r new c.into_basis.result) c.self.view_is
+    (subst (λ (b : MarkedPolynomials). IsRowStep (row_of f c.self.inside.pairs c.self.inside.start.value c.self.inside.given) new b) (sym c.into_basis.ensures)
+    (row_step f q c.self.inside.pairs c.self.inside.start.value c.self.inside.given c.raise.new.self e.workers e.bound e.refusals c.self.invariant c.in-Ok-Some.node
+    (subst (λ (o : Option MarkedPolynomials). IsCall IsBefore up_in RefusesWalker (λ r. r ≡ Memory) f (Ok o) q) c.in-Ok-Some.field-0-is e.call)
+    (λ nodes l. subst (IsFirstOf (PiecesLeave (IsLeftAt IsBefore up_in) q.pieces) nodes) c.in-Ok-Some.field-0-is (e.list nodes l)) c.in_ok-raise.ensures.ok))
+
+pub invariant_of-self-in-Ok-None : goal.invariant_of-self-in-Ok-None
+invariant_of-self-in-Ok-None g c =
+    let f = c.self.inside.inner in
+    let q = c.next_written.new.self in
+    let e = c.in-Ok-None.ensures in
+    left_at_end f q c.self.inside.pairs c.self.inside.start.value c.self.inside.given c.lower.new.self e.workers e.bound e.refusals c.self.invariant
+    (subst (λ (o : Option MarkedPolynomials). IsCall IsBefore up_in RefusesWalker (λ r. r ≡ Memory) f (Ok o) q) c.in-Ok-None.field-0-is e.call)
+    (λ nodes l. subst (IsFirstOf (PiecesLeave (IsLeftAt IsBefore up_in) q.pieces) nodes) c.in-Ok-None.field-0-is (e.list nodes l)) (omega (arith, c.lower.ensures, c.in_ok-raise.ensures.ok))
+
+pub invariant_of-self-in-Err : goal.invariant_of-self-in-Err
+invariant_of-self-in-Err g c =
+    let f = c.self.inside.inner in
+    let q = c.next_written.new.self in
+    let e = c.in-Err.ensures in
+    left_kept f q c.self.inside.pairs c.self.inside.start.value c.self.inside.given c.lower-in-Err.new.self e.workers e.bound e.refusals c.self.invariant c.in-Err.refusal e.call (λ nodes l. e.list nodes l) (omega (arith, c.lower-in-Err.ensures, c.in_ok-raise.ensures.ok))
+
+pub returns-in-Err-clause-cause : goal.returns-in-Err-clause-cause
+returns-in-Err-clause-cause g c =
+    let f = c.self.inside.inner in
+    let q = c.next_written.new.self in
+    let e = c.in-Err.ensures in
+    let kept = left_kept f q c.self.inside.pairs c.self.inside.start.value c.self.inside.given c.lower-in-Err.new.self e.workers e.bound e.refusals c.self.invariant c.in-Err.refusal e.call (λ nodes l. e.list nodes l) (omega (arith, c.lower-in-Err.ensures, c.in_ok-raise.ensures.ok)) in
+    subst (λ (r : Row). IsTreeRefusal (ideal_in r) r.pairs c.in-Err.refusal) c.self.view_is
+    (front_refused (ideal_of c.self.inside.start.value) c.self.inside.pairs q.pieces c.in-Err.refusal e.refused kept.among)

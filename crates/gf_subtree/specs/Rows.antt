@@ -1,0 +1,109 @@
+-- The list of all bases of an ideal as several workers work it off: a row of pieces in list order, each a ready basis or a walker for
+-- what is between and behind them.
+-- Laws: proofs/RowLaws.antt, proofs/BasisRowLaws.antt.
+use Rattle.std.specs.Prelude.{◌≡◌, ℕ, ◌+◌, ◌-◌, ◌*◌, ◌≤◌, List, [], ◌∷◌, length, ℤ}
+use Rattle.std.specs.Global.{Global}
+use Rattle.gf_poly.specs.Marking.{MarkedPolynomials}
+use Rattle.gf_walk.specs.Place.{Place}
+use Rattle.gf_walk.specs.Listing.{IsLeftAt, Rises}
+use Rattle.gf_walk.specs.Pieces.{PiecesLeave, RefusesAt}
+use Rattle.gf_walk.specs.declared.mark.Mark.TheVariants.{Listed}
+use Rattle.gf_walk.specs.declared.expand.Piece.{Piece}
+use Rattle.gf_walk.specs.declared.expand.Piece.TheVariants.{Ready, Under, Refused}
+use Rattle.gf_waves.specs.Frontier.{Frontier, AreRefusals}
+use Rattle.gf_facets.specs.LexPositive.{IsBefore}
+use Rattle.gf_facets.specs.Regions.{Region, all_positive}
+use Rattle.gf_reverse.specs.Upward.{Fan, IsNodeIn, IsParent, fan_of}
+use Rattle.gf_reverse.specs.Lists.{IsPathOf}
+use Rattle.gf_reverse.proofs.TreeLaws.{count}
+use Rattle.gf_tree.specs.declared.tree.BasisTree.{BasisTree}
+use Rattle.gf_tree.specs.declared.error.TreeError.{TreeError}
+use Rattle.gf_tree.specs.Parents.{ideal_of}
+use Rattle.gf_tree.specs.Refusals.{IsTreeRefusal}
+
+-- ---- the tree of bases
+
+-- its parents
+abbrev pub up_in : BasisTree → MarkedPolynomials → List ℤ → MarkedPolynomials → Type 0
+up_in t = IsParent (all_positive t.variables)
+
+-- why a walker over it is refused: a call of the tree at its basis, or above, is
+abbrev pub RefusesWalker : Place BasisTree MarkedPolynomials (List ℤ) → TreeError → Type 0
+RefusesWalker = RefusesAt up_in (λ t v e. IsTreeRefusal (fan_of (all_positive t.variables) v) t.pairs e)
+
+-- ---- rows
+
+-- the row of pieces with the number of workers and that of the next job; how many pairs each flip may settle; the basis of the ideal with
+-- which it began; and how many bases were given so far
+pub record Row : Type 0 where
+  pub frontier : Frontier BasisTree MarkedPolynomials (List ℤ) TreeError
+  pub pairs : ℕ
+  pub start : MarkedPolynomials
+  pub given : ℕ
+
+-- all positive weights
+abbrev pub region_in : Row → Region
+region_in r = all_positive r.start.variables
+
+-- the ideal whose bases are listed
+abbrev pub ideal_in : Row → Fan
+ideal_in r = ideal_of r.start
+
+-- no more bases are given than this
+abbrev pub row_left_at_most : Row → ℕ
+row_left_at_most r = count (region_in r) r.start - r.given
+
+-- ---- what is left
+
+-- these are the paths from the root down to these bases, one by one
+abbrev pub HavePaths : Region → List (List (List ℤ)) → List MarkedPolynomials → Type 0
+HavePaths k [] [] = Unit {0}
+HavePaths k [] (x ∷ xs) = ⊥
+HavePaths k (p ∷ ps) [] = ⊥
+HavePaths k (p ∷ ps) (x ∷ xs) = IsPathOf k x p × HavePaths k ps xs
+
+-- the bases that are left, each once, in the order of their paths: piece by piece the ready basis, or what the walker has left
+pub record AreLeftIn (r : Row) (nodes : List MarkedPolynomials) : Type 0 where
+  pub pieces : PiecesLeave (IsLeftAt IsBefore up_in) r.frontier.pieces nodes
+  pub paths : List (List (List ℤ))
+  pub lead : HavePaths (region_in r) paths nodes
+  pub rises : Rises IsBefore paths
+
+-- the tree has these variables and this budget, and v is a basis of the ideal
+pub record IsOfIdeal (F : Fan) (budget : ℕ) (t : BasisTree) (v : MarkedPolynomials) : Type 0 where
+  pub region : all_positive t.variables ≡ F.region
+  pub pairs : t.pairs ≡ budget
+  pub basis : IsNodeIn F v
+
+-- `Is` holds of each ready node, and `In` of each node at which a walker over its tree stands
+abbrev pub AreAmong : {T N L E : Type 0} → (T → N → Type 0) → (N → Type 0) → List (Piece T N L E) → Type 0
+AreAmong In Is [] = Unit {0}
+AreAmong In Is (Ready v ∷ ps) = Is v × AreAmong In Is ps
+AreAmong In Is (Under w ∷ ps) = In w.tree w.here × AreAmong In Is ps
+AreAmong In Is (Refused w e ∷ ps) = In w.tree w.here × AreAmong In Is ps
+
+-- the row isn't too long; each piece is of the ideal, and each refusal its walker's; what is left is a list, and with what was given it
+-- is no longer than that of all bases of the ideal
+pub record HasRowLeft (r : Row) : Type 0 where
+  pub own : IsNodeIn (ideal_in r) r.start
+  pub bound : length r.frontier.pieces ≤ (r.frontier.workers + 1) * 32
+  pub refusals : AreRefusals RefusesWalker r.frontier.pieces
+  pub among : AreAmong (IsOfIdeal (ideal_in r) r.pairs) (IsNodeIn (ideal_in r)) r.frontier.pieces
+  pub rest : List MarkedPolynomials
+  pub left : AreLeftIn r rest
+  pub few : length rest + r.given ≤ count (region_in r) r.start
+
+-- ---- how a row begins
+
+-- a basis that is ready without a job, and a walker at it for what is below
+abbrev pub row_at : Global → MarkedPolynomials → ℕ → ℕ → Row
+row_at alloc root workers pairs = record {
+  frontier = record {
+    workers = workers;
+    jobs = 0;
+    pieces = Ready root ∷ Under (record { tree = record { alloc = alloc; variables = root.variables; pairs = pairs }; here = root; mark = Listed; depth = 0 }) ∷ [];
+  };
+  pairs = pairs;
+  start = root;
+  given = 0;
+}

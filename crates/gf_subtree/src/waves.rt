@@ -1,0 +1,183 @@
+//! The list of all bases of an ideal, worked off in waves.
+ghost use Rattle.std.specs.Prelude.{◌≡◌, ◌+◌, ◌*◌, ◌≤◌, length, List, IfOk, IfErr, OnErr, count_by};
+ghost use Rattle.gf_poly.specs.Marking.{MarkedPolynomials};
+ghost use Rattle.gf_reverse.specs.Upward.{IsNodeIn};
+ghost use Rattle.gf_waves.specs.Frontier.{AreRefusals, is_ready, is_refused};
+ghost use Rattle.gf_tree.specs.Parents.{ideal_of};
+ghost use Rattle.gf_tree.specs.Refusals.{IsTreeRefusal, IsTreeWithinLimits};
+ghost use Rattle.gf_tree.specs.Walks.{AreLeft, walk_at};
+ghost use Rattle.gf_tree.specs.declared.error.TreeError.TheVariants.{Memory};
+ghost use Rattle.gf_subtree.specs.Rows.{AreLeftIn, HasRowLeft, RefusesWalker, ideal_in, row_at};
+ghost use Rattle.gf_subtree.specs.Answers.{IsResumedAs, IsRowAnswer, IsRowCall, IsRowKept, IsToldInFront};
+
+use gf_poly::MarkedSet;
+use gf_tree::{BasisTree, Node, TreeError, Walker};
+use gf_walk::Depth;
+use gf_waves::Gate;
+use std::alloc::{AllocError, Global};
+use std::marker::Model;
+use std::snapshot::Snapshot;
+use std::thread::Threads;
+
+/// The bases of an ideal that are left, worked off by several workers. It counts what it gave.
+#[derive(Drop)]
+pub struct Waves<'g, G: Gate> {
+    inner: gf_waves::Waves<'g, BasisTree, G>,
+    pairs: u64,
+    start: Snapshot<MarkedSet>,
+    given: Depth,
+}
+
+impl<'g, G: Gate> Model for Waves<'g, G> {
+    ghost use Rattle.gf_subtree.specs.Rows.{Row, HasRowLeft};
+
+    ghost Value = { Row };
+
+    ghost view = { λ w. record { frontier = w.inner; pairs = w.pairs; start = w.start.value; given = w.given } };
+
+    ghost invariant = { λ w. HasRowLeft (record { frontier = w.inner; pairs = w.pairs; start = w.start.value; given = w.given }) };
+}
+
+impl<'g, G: Gate> Waves<'g, G> {
+    /// The list of a basis and of all below it, by so many workers: the basis is ready without a job. Each flip may settle `pairs` pairs.
+    ///
+    /// The set is a marked reduced basis, for some positive weight, of the ideal that it generates. Where it is the basis by total
+    /// degree and then lex, the list is that of all bases of its ideal. Before each job the gate is called.
+    ///
+    /// # Errors
+    ///
+    /// Want of memory.
+    pub fn new(
+        alloc: Global,
+        root: MarkedSet,
+        workers: u32,
+        pairs: u64,
+        gate: &'g G,
+    ) -> Result<Self, AllocError>
+        requires basis { IsNodeIn (ideal_of root) root }
+        requires some { 1 ≤ workers }
+        requires most { workers ≤ 64 }
+        ensures start { IfOk result (λ w. w ≡ row_at alloc root workers pairs) }
+        ensures list { IfOk result (λ w. (nodes : List MarkedPolynomials) → AreLeft (walk_at root pairs) nodes → AreLeftIn w nodes) }
+    {
+        let start = Snapshot::of(&root);
+        let tree = BasisTree {
+            alloc,
+            variables: root.variables(),
+            pairs,
+        };
+        let node = Node::of(alloc, root);
+        match gf_waves::Waves::new(alloc, tree, node, workers, gate) {
+            Ok(inner) => Ok(Waves {
+                inner,
+                pairs,
+                start,
+                given: Depth::zero(alloc),
+            }),
+            Err(_) => Err(AllocError),
+        }
+    }
+
+    /// The list that a walker has left, by so many workers; nothing is ready at first. The walker may stand anywhere, after a basis
+    /// too, and `pairs` is its budget.
+    ///
+    /// # Errors
+    ///
+    /// Want of memory.
+    pub fn resume(
+        alloc: Global,
+        walker: Walker,
+        workers: u32,
+        pairs: u64,
+        gate: &'g G,
+    ) -> Result<Self, AllocError>
+        requires pairs { walker.pairs ≡ pairs }
+        requires some { 1 ≤ workers }
+        requires most { workers ≤ 64 }
+        ensures { IfOk result (IsResumedAs walker workers) }
+    {
+        let start = Snapshot::of(walker.position().here);
+        let walker = walker.into_inner();
+        match gf_waves::Waves::resume(alloc, walker, workers, gate) {
+            Ok(inner) => Ok(Waves {
+                inner,
+                pairs,
+                start,
+                given: Depth::zero(alloc),
+            }),
+            Err(_) => Err(AllocError),
+        }
+    }
+
+    /// How many workers there are.
+    pub fn workers(&self) -> u32
+        ensures { result ≡ self.now.frontier.workers }
+    {
+        self.inner.workers()
+    }
+
+    /// How many bases of the row are ready.
+    pub fn ready(&self) -> u64
+        ensures sum { result ≡ count_by is_ready self.now.frontier.pieces }
+        ensures bound { result ≤ (self.now.frontier.workers + 1) * 32 }
+    {
+        self.inner.ready()
+    }
+
+    /// How many walkers of the row were refused in a wave. Each is tried again in the next, or told once it comes to the front.
+    pub fn refused(&self) -> u64
+        ensures { result ≡ count_by is_refused self.now.frontier.pieces }
+    {
+        self.inner.refused()
+    }
+
+    /// What `next_written` answers.
+    fn next<R: Threads + Sync>(&mut self, rt: &R) -> Result<Option<MarkedSet>, TreeError>
+        ensures ok { IfOk result (IsRowAnswer self.old self.new) }
+        ensures unchanged { OnErr result (IsRowKept self.old self.new) }
+        ensures call { IsRowCall self.old result self.new }
+        ensures bound { length self.new.frontier.pieces ≤ (self.new.frontier.workers + 1) * 32 }
+        ensures refusals { AreRefusals RefusesWalker self.new.frontier.pieces }
+        ensures front { IfErr result (IsToldInFront self.new) }
+        ensures cause { IfErr result (IsTreeRefusal (ideal_in self.old) self.old.pairs) }
+    {
+        self.given.raise()?;
+        match self.inner.next_written(rt) {
+            Ok(Some(node)) => Ok(Some(node.into_basis())),
+            Ok(None) => {
+                self.given.lower();
+                Ok(None)
+            }
+            Err(refusal) => {
+                self.given.lower();
+                Err(refusal)
+            }
+        }
+    }
+
+    /// The next basis of the list, whichever job came back first; none where nothing is left, and from then on.
+    ///
+    /// Where no basis is ready in front and there is room, a wave of jobs is run on `rt`, as `gf_waves` says. Where none is ready after
+    /// that, the walker in front is asked.
+    ///
+    /// # Errors
+    ///
+    /// As for `parent` of `gf_tree`, at bases of this ideal: the first refusal in list order, after all bases before it. What is left is
+    /// the same, and a later call goes on from there.
+    #[tactic(auto, using(gf_tree::proofs::RefusalLaws::only_memory))]
+    pub fn next_written<R: Threads + Sync>(
+        &mut self,
+        rt: &R,
+    ) -> Result<Option<MarkedSet>, TreeError>
+        ensures ok { IfOk result (IsRowAnswer self.old self.new) }
+        ensures unchanged { OnErr result (IsRowKept self.old self.new) }
+        ensures call { IsRowCall self.old result self.new }
+        ensures bound { length self.new.frontier.pieces ≤ (self.new.frontier.workers + 1) * 32 }
+        ensures refusals { AreRefusals RefusesWalker self.new.frontier.pieces }
+        ensures front { IfErr result (IsToldInFront self.new) }
+        ensures cause { IfErr result (IsTreeRefusal (ideal_in self.old) self.old.pairs) }
+        ensures complete { IsTreeWithinLimits (ideal_in self.old) self.old.pairs → IfErr result (λ e. e ≡ Memory) }
+    {
+        self.next(rt)
+    }
+}
