@@ -1,0 +1,68 @@
+-- The checks one after another, as the calls make them: `by` are the monic forms of s, as their set lends them.
+-- To cite: forms_by, weight_by, shared_by, few_by, taken, taken_reduced, tested_true, tested_false, refuted, membership_told.
+use Rattle.std.specs.Prelude.{◌≡◌, ◌↔◌, ℕ, ◌<◌, Bool, true, false, List, [], length, map, IsTrue}
+use Rattle.std.proofs.Common.{refl, sym, ap, ◌∙◌, subst}
+use Rattle.std.proofs.lemmas.List.{length-map}
+use Rattle.gf_poly.specs.Polynomial.{Terms, coefficient, IsDescending, HasVariables}
+use Rattle.gf_poly.proofs.CoefficientLaws.{descending_unique}
+use Rattle.gf_poly.specs.Marking.{MarkedPolynomial, MarkedPolynomials, Each, HaveVariables, HasMarkedTerm, IsArranged, polys}
+use Rattle.gf_ideal.specs.Marks.{IsRealisable}
+use Rattle.gf_ideal.specs.Membership.{IsMember}
+use Rattle.gf_ideal.specs.Bases.{IsBasis}
+use Rattle.gf_ideal.specs.NormalForms.{IsNormalForm}
+use Rattle.gf_ideal.proofs.ListedTerms.{variables_by_terms}
+use Rattle.gf_ideal.proofs.NormalFormLaws.{normal_form-reached}
+use Rattle.gf_ideal.proofs.TheoremsHold.{membership_is_decided}
+use Rattle.gf_division.specs.NormalForms.{HasSomeWeight}
+use Rattle.gf_reduced.specs.Forms.{monic_of, monic_set}
+use Rattle.gf_reduced.specs.Markings.{IsMarkedGroebnerBasis, IsBasisOf, IsReducedBasisOf}
+use Rattle.gf_reduced.specs.Terms.{AreReduced}
+use Rattle.gf_reduced.specs.Pairs.{MembersShareVariables, DoAllVanish, IsFirstFailing}
+use Rattle.gf_reduced.proofs.GroebnerLaws.{polys_variables, some_weight, marked_groebner, failing_refutes, basis_of}
+use Rattle.gf_reduced.proofs.ReducedLaws.{reduced_of}
+
+-- the monic forms, as the set of them lends them
+pub forms_by : (s forms : MarkedPolynomials) (by : List MarkedPolynomial) → ◌≡◌ {A = MarkedPolynomials} forms (monic_set s) → by ≡ forms.items → by ≡ map monic_of s.items
+forms_by s forms by e q = q ∙ ap (λ (z : MarkedPolynomials). z.items) e
+
+pub weight_by : (s : MarkedPolynomials) (by : List MarkedPolynomial) → by ≡ map monic_of s.items → IsRealisable s.variables s.items → HasSomeWeight by
+weight_by s by q r = subst HasSomeWeight (sym q) (some_weight s.variables s.items r)
+
+pub shared_by : (n : ℕ) (by bs : List MarkedPolynomial) → by ≡ bs → HaveVariables n bs → MembersShareVariables by
+shared_by n by bs q v = record { n = n; each = subst (HaveVariables n) (sym q) v }
+
+pub few_by : (s : MarkedPolynomials) (by : List MarkedPolynomial) (most : ℕ) → by ≡ map monic_of s.items → length s.items < most → length by < most
+few_by s by most q l = subst (λ (k : ℕ). k < most) (sym (ap (λ (z : List MarkedPolynomial). length z) q ∙ length-map s.items monic_of)) l
+
+-- ---- a set is taken
+
+groebner : (s : MarkedPolynomials) (by : List MarkedPolynomial) → by ≡ map monic_of s.items → HaveVariables s.variables s.items → IsRealisable s.variables s.items → DoAllVanish by → IsMarkedGroebnerBasis s.variables s.items
+groebner s by q v r h = marked_groebner s.variables s.items v r (subst DoAllVanish q h)
+
+pub taken : (s forms t : MarkedPolynomials) (by : List MarkedPolynomial) → ◌≡◌ {A = MarkedPolynomials} forms (monic_set s) → by ≡ map monic_of s.items → HaveVariables s.variables s.items → IsRealisable s.variables s.items → DoAllVanish by → IsArranged forms t → IsBasisOf s t
+taken s forms t by e q v r h a = basis_of s t v (subst (λ (z : MarkedPolynomials). IsArranged z t) e a) (groebner s by q v r h)
+
+pub taken_reduced : (s forms t : MarkedPolynomials) (by items : List MarkedPolynomial) → ◌≡◌ {A = MarkedPolynomials} forms (monic_set s) → by ≡ map monic_of s.items → items ≡ s.items → HaveVariables s.variables s.items → Each HasMarkedTerm s.items → IsRealisable s.variables s.items → AreReduced items → DoAllVanish by → IsArranged forms t → IsReducedBasisOf s t
+taken_reduced s forms t by items e q i v m r u h a = reduced_of s t v m (subst (λ (z : MarkedPolynomials). IsArranged z t) e a) (subst AreReduced i u) (groebner s by q v r h)
+
+-- ---- a set is tested
+
+pub tested_true : (s : MarkedPolynomials) (by : List MarkedPolynomial) → by ≡ map monic_of s.items → HaveVariables s.variables s.items → IsRealisable s.variables s.items → DoAllVanish by → IsTrue true ↔ IsMarkedGroebnerBasis s.variables s.items
+tested_true s by q v r h = (λ t. groebner s by q v r h, λ g. refl)
+
+pub tested_false : (s : MarkedPolynomials) (by : List MarkedPolynomial) (i j : ℕ) (t : Terms) → by ≡ map monic_of s.items → HaveVariables s.variables s.items → IsFirstFailing by i j t → IsTrue false ↔ IsMarkedGroebnerBasis s.variables s.items
+tested_false s by i j t q v h =
+    let f : IsFirstFailing (map monic_of s.items) i j t = subst (λ (z : List MarkedPolynomial). IsFirstFailing z i j t) q h in
+    (λ e. absurd (cc), λ g. absurd (failing_refutes s.variables s.items i j t v f.first.remainder f.first.nonzero g))
+
+pub refuted : (s : MarkedPolynomials) → (IsRealisable s.variables s.items → ⊥) → IsTrue false ↔ IsMarkedGroebnerBasis s.variables s.items
+refuted s n = (λ e. absurd (cc), λ g. absurd (n (g.weight, g.positive, g.marks)))
+
+-- ---- membership
+
+-- the normal form of f is zero exactly where f is in the ideal of the basis
+pub membership_told : (n : ℕ) (bs : List MarkedPolynomial) (f r : Terms) (z : Bool) → HaveVariables n bs → HasVariables n f → IsBasis n (polys bs) bs → IsNormalForm bs f r → IsDescending r → HasVariables n r → IsTrue z ↔ (r ≡ []) → IsTrue z ↔ IsMember n (polys bs) f
+membership_told n bs f r z v w b h d u e = (
+  λ t. membership_is_decided.member n (polys bs) bs f r (polys_variables n bs v) (variables_by_terms n f w) b (normal_form-reached bs f r h.reached) (λ x. ap (λ (g : Terms). coefficient g x) (e.0 t)),
+  λ m. e.1 (descending_unique n r [] u tt d tt (membership_is_decided.zero n (polys bs) bs f r (polys_variables n bs v) b m (normal_form-reached bs f r h.reached) h.irreducible)),
+)

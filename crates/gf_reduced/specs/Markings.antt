@@ -1,0 +1,63 @@
+-- Positive weights that give a marking, multipliers which show that there is none, and when a marked set is a Gröbner basis for
+-- its marking: by the ideal that it generates, whatever the marked coefficients are.
+-- Laws: proofs/WeightLaws.antt, proofs/GroebnerLaws.antt. Source: Fukuda, Jensen, Thomas, Computing Gröbner fans, 2; Sturmfels,
+-- Gröbner Bases and Convex Polytopes, 2 and 3.
+use Rattle.std.specs.Prelude.{◌≡◌, ℕ, List, [], ℤ, pos, ◌<ℤ◌, length, All, Contains}
+use Rattle.gf_exponents.specs.Exponents.{Exponents}
+use Rattle.gf_poly.specs.Polynomial.{Terms}
+use Rattle.gf_poly.specs.Marking.{MarkedPolynomial, MarkedPolynomials, polys}
+use Rattle.gf_gordan.specs.declared.answer.Answer.{Answer}
+use Rattle.gf_gordan.specs.declared.answer.Answer.TheVariants.{Point, Farkas}
+use Rattle.gf_gordan.specs.declared.error.ConeOverflow.{ConeOverflow}
+use Rattle.gf_gordan.specs.Alternative.{IsFarkas}
+use Rattle.gf_gordan.specs.Equations.{IsStepOn}
+use Rattle.gf_ideal.specs.Membership.{IsMember, AreSameIdeal}
+use Rattle.gf_ideal.specs.Marks.{IsPositive, IsRealisedBy, IsRealisable}
+use Rattle.gf_ideal.specs.Reduction.{IsDivisible}
+use Rattle.gf_ideal.specs.Bases.{IsHeaviest, IsBasis}
+use Rattle.gf_facets.specs.Systems.{system_of}
+use Rattle.gf_facets.specs.Facets.{IsInOpenCone}
+use Rattle.gf_facets.specs.MarkedBases.{IsMarkedReducedBasis}
+
+-- ---- weights
+
+-- v is a positive vector of n entries by which each mark weighs more than the other monomials of its polynomial
+pub record GivesMarks (n : ℕ) (bs : List MarkedPolynomial) (v : List ℤ) : Type 0 where
+  pub width : length v ≡ n
+  pub positive : All (λ x. pos 0 <ℤ x) v
+  pub marks : IsInOpenCone v bs
+
+-- no positive weight gives the marks: these multipliers of the marking's rows and the unit vectors show it
+pub record IsInconsistent (n : ℕ) (bs : List MarkedPolynomial) (ms : List ℤ) : Type 0 where
+  pub multipliers : IsFarkas n (system_of n bs) [] ms []
+  pub none : IsRealisable n bs → ⊥
+
+-- a vector that gives the marks, or such multipliers
+abbrev pub IsWeightAnswer : ℕ → List MarkedPolynomial → Answer → Type 0
+IsWeightAnswer n bs (Point v) = GivesMarks n bs v × IsRealisable n bs
+IsWeightAnswer n bs (Farkas ms es) = IsInconsistent n bs ms
+
+-- a step of the elimination of the marking's system
+abbrev pub IsMarkingStep : ℕ → List MarkedPolynomial → ConeOverflow → Type 0
+IsMarkingStep n bs o = IsStepOn (length (system_of n bs)) n (system_of n bs) [] o
+
+-- ---- bases
+
+-- some positive weight sets each mark above the rest, and a mark divides each monomial of greatest weight of each member of
+-- the ideal that bs generates
+pub record IsMarkedGroebnerBasis (n : ℕ) (bs : List MarkedPolynomial) : Type 0 where
+  pub weight : List ℕ
+  pub positive : IsPositive n weight
+  pub marks : (b : MarkedPolynomial) → Contains bs b → IsRealisedBy weight b
+  pub initial : (f : Terms) → IsMember n (polys bs) f → (x : Exponents) → IsHeaviest weight f x → IsDivisible (Contains bs) x
+
+-- s is a Gröbner basis for its marking, and t is one of the same ideal, with marked coefficients 1
+pub record IsBasisOf (s t : MarkedPolynomials) : Type 0 where
+  pub marked : IsMarkedGroebnerBasis s.variables s.items
+  pub ideal : AreSameIdeal s.variables (polys s.items) (polys t.items)
+  pub basis : IsBasis t.variables (polys t.items) t.items
+
+-- and t is the reduced one, arranged, for some positive weight that gives its marks
+pub record IsReducedBasisOf (s t : MarkedPolynomials) : Type 0 where
+  pub basis : IsBasisOf s t
+  pub reduced : IsMarkedReducedBasis t.variables (polys t.items) t.items

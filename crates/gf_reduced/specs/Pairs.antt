@@ -1,0 +1,50 @@
+-- Pairs of members of a monic marked list, by the normal forms of their S-polynomials. Laws: proofs/PairLaws.antt.
+-- Source: Cox, Little, O'Shea, Ideals, Varieties, and Algorithms, 2.6 (Buchberger's criterion).
+use Rattle.std.specs.Prelude.{◌≢◌, ℕ, ◌<◌, List, [], length}
+use Rattle.gf_poly.specs.Polynomial.{Terms, IsDescending, HasVariables}
+use Rattle.gf_poly.specs.Marking.{MarkedPolynomial, HaveVariables}
+use Rattle.gf_ideal.specs.Reduction.{IsSPolynomial}
+use Rattle.gf_ideal.specs.NormalForms.{IsNormalForm}
+use Rattle.gf_ideal.specs.Settled.{IsAt}
+
+-- the members have the same number of variables
+pub record MembersShareVariables (bs : List MarkedPolynomial) : Type 0 where
+  pub n : ℕ
+  pub each : HaveVariables n bs
+
+-- r is the normal form of the S-polynomial of the members at i and j, as a polynomial is kept: terms that descend and count
+pub record IsRemainderAt (bs : List MarkedPolynomial) (i j : ℕ) (r : Terms) : Type 0 where
+  pub first : MarkedPolynomial
+  pub second : MarkedPolynomial
+  pub at_first : IsAt bs i first
+  pub at_second : IsAt bs j second
+  pub s : Terms
+  pub is_s : IsSPolynomial first second s
+  pub normal_form : IsNormalForm bs s r
+  pub descending : IsDescending r
+  pub variables : (n : ℕ) → HaveVariables n bs → HasVariables n r
+
+-- it is zero
+abbrev pub Vanishes : List MarkedPolynomial → ℕ → ℕ → Type 0
+Vanishes bs i j = IsRemainderAt bs i j []
+
+-- so it is for the member at i and each later one
+abbrev pub VanishFrom : List MarkedPolynomial → ℕ → Type 0
+VanishFrom bs i = (j : ℕ) → i < j → j < length bs → Vanishes bs i j
+
+-- so it is for each two members
+abbrev pub DoAllVanish : List MarkedPolynomial → Type 0
+DoAllVanish bs = (i : ℕ) → i < length bs → VanishFrom bs i
+
+-- the pair of the members at i and j is the first of those of the one at i whose normal form r isn't zero
+pub record IsFirstFailingWith (bs : List MarkedPolynomial) (i j : ℕ) (r : Terms) : Type 0 where
+  pub later : i < j
+  pub within : j < length bs
+  pub remainder : IsRemainderAt bs i j r
+  pub nonzero : r ≢ []
+  pub before : (k : ℕ) → i < k → k < j → Vanishes bs i k
+
+-- it is the first of all, by the first member and then by the second
+pub record IsFirstFailing (bs : List MarkedPolynomial) (i j : ℕ) (r : Terms) : Type 0 where
+  pub first : IsFirstFailingWith bs i j r
+  pub before : (k : ℕ) → k < i → VanishFrom bs k

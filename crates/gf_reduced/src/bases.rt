@@ -1,0 +1,144 @@
+//! Whether a marked set is a Gröbner basis for its marking, and whether it is the reduced one.
+ghost use Rattle.std.specs.Prelude.{◌≡◌, ◌↔◌, ◌<◌, ◌^◌, length, IfOk, IfErr, OnOk, IsTrue};
+ghost use Rattle.gf_poly.specs.Marking.{IsArranged};
+ghost use Rattle.gf_division.specs.NormalForms.{HasSomeWeight};
+ghost use Rattle.gf_reduced.specs.Forms.{monic_set};
+ghost use Rattle.gf_reduced.specs.Markings.{IsMarkedGroebnerBasis, IsBasisOf, IsReducedBasisOf};
+ghost use Rattle.gf_reduced.specs.Pairs.{MembersShareVariables, DoAllVanish};
+ghost use Rattle.gf_reduced.specs.Terms.{AreReduced};
+ghost use Rattle.gf_reduced.specs.Refusals.{IsTestRefusal, IsBasisRefusal, IsReducedRefusal, IsPairsFault, IsTermsFault, AreChecksWithinLimits};
+ghost use Rattle.gf_reduced.specs.declared.error.CheckError.TheVariants.{Memory};
+
+use crate::error::CheckError;
+use crate::forms::monic_forms;
+use crate::pairs::first_failing;
+use crate::terms::first_offending;
+use crate::weights::{has_weight, positive};
+use gf_poly::{Marked, MarkedSet};
+use std::alloc::Global;
+
+/// Whether the set is a Gröbner basis of the ideal that it generates, for its marking: some positive weight sets each marked
+/// monomial above the other ones of its polynomial, and a marked monomial divides each monomial of greatest weight of each
+/// member of the ideal. Marked coefficients may be any.
+///
+/// Which weight gives the marking makes no difference (Fukuda, Jensen, Thomas, *Computing Gröbner fans*, 2). The test is
+/// Buchberger's criterion.
+///
+/// # Errors
+///
+/// - `Cone` only at a step of the elimination of the marking's system: its rows, then the unit vectors.
+/// - `Overflow` and `Exponent` only where there is such a weight, and two numbers don't fit that are divided in making a
+///   member monic, or on which an S-polynomial of two monic members works, or a step of its reduction.
+#[tactic(auto, using(crate::proofs::RefusalLaws::test_only_memory))]
+pub fn is_marked_basis(alloc: Global, marked: &MarkedSet) -> Result<bool, CheckError>
+    ensures ok { IfOk result (λ r. IsTrue r ↔ IsMarkedGroebnerBasis marked.now.variables marked.now.items) }
+    ensures err { IfErr result (IsTestRefusal marked.now) }
+    ensures complete { AreChecksWithinLimits marked.now → IfErr result (λ e. e ≡ Memory) }
+{
+    // The members have their variables.
+    let _ = marked.items();
+    if !has_weight(alloc, marked)? {
+        return Ok(false);
+    }
+    let forms = monic_forms(alloc, marked)?;
+    match first_failing(alloc, forms.items())? {
+        None => Ok(true),
+        Some(_failing) => Ok(false),
+    }
+}
+
+// Refuses a set with a pair whose S-polynomial has another normal form than zero.
+fn require_pairs(alloc: Global, by: &[Marked], set: u32) -> Result<(), CheckError>
+    requires few { length by.now < 2 ^ 32 }
+    requires marked { HasSomeWeight by.now }
+    requires variables { MembersShareVariables by.now }
+    ensures ok { OnOk result (DoAllVanish by.now) }
+    ensures err { IfErr result (IsPairsFault set by.now) }
+{
+    match first_failing(alloc, by)? {
+        None => Ok(()),
+        Some(pair) => Err(CheckError::NotBasis {
+            set,
+            first: pair.first as u32,
+            second: pair.second as u32,
+            remainder: pair.remainder,
+        }),
+    }
+}
+
+// Refuses a set with a term that a mark divides.
+fn require_terms(by: &[Marked], set: u32) -> Result<(), CheckError>
+    requires few { length by.now < 2 ^ 32 }
+    requires variables { MembersShareVariables by.now }
+    ensures ok { OnOk result (AreReduced by.now) }
+    ensures err { IfErr result (IsTermsFault set by.now) }
+{
+    match first_offending(by) {
+        None => Ok(()),
+        Some(found) => Err(CheckError::NotReduced {
+            set,
+            polynomial: found.polynomial as u32,
+            term: found.term,
+        }),
+    }
+}
+
+/// The same set, monic and arranged, where it is a Gröbner basis of its ideal for its marking.
+///
+/// There are fewer than `2^32` polynomials.
+///
+/// # Errors
+///
+/// In this order:
+///
+/// - `Overflow` where the quotient of a coefficient by the marked one leaves its range.
+/// - `Inconsistent` exactly where no positive weight gives the marking, `Cone`: as `positive` tells them.
+/// - `NotBasis` exactly where the S-polynomial of two of the monic polynomials has another normal form than zero: the first
+///   such pair, by the first polynomial and then by the second, with that normal form. `Overflow` and `Exponent` only at
+///   an operation of these S-polynomials and their reductions, whose operands don't fit.
+pub fn require_basis(alloc: Global, marked: &MarkedSet, set: u32) -> Result<MarkedSet, CheckError>
+    requires { length marked.now.items < 2 ^ 32 }
+    ensures value { IfOk result (IsArranged (monic_set marked.now)) }
+    ensures basis { IfOk result (IsBasisOf marked.now) }
+    ensures err { IfErr result (IsBasisRefusal set marked.now) }
+    ensures complete { AreChecksWithinLimits marked.now
+        → IsMarkedGroebnerBasis marked.now.variables marked.now.items → IfErr result (λ e. e ≡ Memory) }
+{
+    // The members have their variables.
+    let _ = marked.items();
+    let forms = monic_forms(alloc, marked)?;
+    let _ = positive(alloc, marked, set)?;
+    require_pairs(alloc, forms.items(), set)?;
+    let arranged = forms.arrange()?;
+    Ok(arranged)
+}
+
+/// The same set, monic and arranged, where it is the reduced Gröbner basis of its ideal for its marking.
+///
+/// There are fewer than `2^32` polynomials.
+///
+/// # Errors
+///
+/// Those of `require_basis`, and between `Inconsistent` and `NotBasis`:
+///
+/// - `NotReduced` exactly where a marked monomial divides a term of another polynomial, or an unmarked term of its own: the
+///   first polynomial with such a term, and of it the first such term, where the marked term comes first and the others
+///   follow in deglex.
+pub fn require_reduced(alloc: Global, marked: &MarkedSet, set: u32) -> Result<MarkedSet, CheckError>
+    requires { length marked.now.items < 2 ^ 32 }
+    ensures value { IfOk result (IsArranged (monic_set marked.now)) }
+    ensures basis { IfOk result (IsReducedBasisOf marked.now) }
+    ensures err { IfErr result (IsReducedRefusal set marked.now) }
+    ensures complete { AreChecksWithinLimits marked.now
+        → IsMarkedGroebnerBasis marked.now.variables marked.now.items → AreReduced marked.now.items
+        → IfErr result (λ e. e ≡ Memory) }
+{
+    // The members have their variables.
+    let _ = marked.items();
+    let forms = monic_forms(alloc, marked)?;
+    let _ = positive(alloc, marked, set)?;
+    require_terms(marked.items(), set)?;
+    require_pairs(alloc, forms.items(), set)?;
+    let arranged = forms.arrange()?;
+    Ok(arranged)
+}

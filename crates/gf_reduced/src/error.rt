@@ -1,0 +1,83 @@
+//! Why a marked set isn't taken, or isn't tested.
+ghost use Rattle.std.specs.Prelude.{◌≡◌};
+ghost use Rattle.gf_reduced.specs.declared.error.CheckError.TheVariants.{Memory};
+
+use gf_frac::Overflow;
+use gf_gordan::{ConeOverflow, GordanError};
+use gf_poly::{ExponentOverflow, Mono, Poly, PolyError};
+use gf_vec::IntVec;
+use std::alloc::{AllocError, AllocFailed};
+
+/// Why a marked set isn't taken, or isn't tested. `set` is the number of the set that the caller gave.
+#[derive(Drop)]
+pub enum CheckError {
+    /// An operation on two fractions leaves its range.
+    Overflow(Overflow),
+    /// A sum of two exponents leaves its range.
+    Exponent(ExponentOverflow),
+    /// The first polynomial with a term that a marked monomial divides, and the first such term of it, the marked one first.
+    NotReduced {
+        set: u32,
+        polynomial: u32,
+        term: Mono,
+    },
+    /// The first pair of polynomials whose S-polynomial has another normal form than zero, and that normal form.
+    NotBasis {
+        set: u32,
+        first: u32,
+        second: u32,
+        remainder: Poly,
+    },
+    /// No positive weight gives the marking: multipliers of its rows and of the unit vectors, whose sum is zero.
+    Inconsistent {
+        set: u32,
+        multipliers: IntVec,
+    },
+    /// An operation of the elimination of the marking's system leaves its range.
+    Cone(ConeOverflow),
+    /// There is no memory.
+    Memory,
+}
+
+impl From<AllocError> for CheckError {
+    ghost from_gives = { λ _ e. e ≡ Memory };
+
+    fn from(_error: AllocError) -> CheckError {
+        CheckError::Memory
+    }
+}
+
+impl<T: Drop> From<AllocFailed<T>> for CheckError {
+    ghost from_gives = { λ _ e. e ≡ Memory };
+
+    fn from(_failed: AllocFailed<T>) -> CheckError {
+        CheckError::Memory
+    }
+}
+
+impl From<GordanError> for CheckError {
+    ghost use Rattle.gf_reduced.specs.Refusals.{of_gordan};
+
+    ghost from_gives = { λ e r. r ≡ of_gordan e };
+
+    fn from(error: GordanError) -> CheckError {
+        match error {
+            GordanError::Cone(step) => CheckError::Cone(step),
+            GordanError::Memory => CheckError::Memory,
+        }
+    }
+}
+
+impl From<PolyError> for CheckError {
+    ghost use Rattle.gf_reduced.specs.Refusals.{of_poly};
+
+    ghost from_gives = { λ e r. r ≡ of_poly e };
+
+    fn from(error: PolyError) -> CheckError {
+        match error {
+            PolyError::Overflow(o) => CheckError::Overflow(o),
+            PolyError::Exponent(o) => CheckError::Exponent(o),
+            PolyError::Memory => CheckError::Memory,
+        }
+    }
+}

@@ -1,0 +1,36 @@
+//! Membership in the ideal of a Gröbner basis.
+ghost use Rattle.std.specs.Prelude.{◌≡◌, ◌↔◌, IfOk, IfErr, IsTrue};
+ghost use Rattle.gf_poly.specs.declared.error.PolyError.TheVariants.{Memory};
+ghost use Rattle.gf_poly.specs.Polynomial.{HasVariables};
+ghost use Rattle.gf_poly.specs.Marking.{polys};
+ghost use Rattle.gf_ideal.specs.Membership.{IsMember};
+ghost use Rattle.gf_ideal.specs.Bases.{IsBasis};
+ghost use Rattle.gf_division.specs.Steps.{IsReductionRefusal};
+ghost use Rattle.gf_reduced.specs.Refusals.{IsReductionWithinLimits};
+
+use gf_division::normal_form;
+use gf_poly::{MarkedSet, Poly, PolyError};
+use std::alloc::Global;
+
+/// Whether `f` is in the ideal that the set generates, which is a Gröbner basis of it for its marking, with marked
+/// coefficients 1: a whole multiple of `f` is a sum of multiples of its polynomials by polynomials with whole coefficients.
+///
+/// It is so exactly where the remainder of `f` is zero (Cox, Little, O'Shea, *Ideals, Varieties, and Algorithms*, 2.6).
+///
+/// # Errors
+///
+/// `Overflow` and `Exponent` only where two numbers of a step by the set, from a polynomial that such steps lead `f` to,
+/// don't fit; it holds them.
+#[tactic(auto, using(crate::proofs::RefusalLaws::reduction_only_memory))]
+pub fn contains(alloc: Global, basis: &MarkedSet, f: &Poly) -> Result<bool, PolyError>
+    requires basis { IsBasis basis.now.variables (polys basis.now.items) basis.now.items }
+    requires variables { HasVariables basis.now.variables f.now }
+    ensures ok { IfOk result (λ r. IsTrue r ↔ IsMember basis.now.variables (polys basis.now.items) f.now) }
+    ensures cause { IfErr result (IsReductionRefusal basis.now.items f.now) }
+    ensures complete { IsReductionWithinLimits basis.now.items f.now → IfErr result (λ e. e ≡ Memory) }
+{
+    // The members have their variables.
+    let _ = basis.items();
+    let rest = normal_form(alloc, f, basis)?;
+    Ok(rest.is_zero())
+}

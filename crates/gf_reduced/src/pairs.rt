@@ -1,0 +1,79 @@
+//! The S-polynomials of the pairs of a monic set, and their normal forms.
+ghost use Rattle.std.specs.Prelude.{◌≡◌, ◌<◌, ◌^◌, length, IfOk, IfErr, IfSome, IfNone};
+ghost use Rattle.gf_division.specs.NormalForms.{HasSomeWeight};
+ghost use Rattle.gf_reduced.specs.Pairs.{MembersShareVariables, IsRemainderAt, IsFirstFailingWith, IsFirstFailing, VanishFrom, DoAllVanish};
+ghost use Rattle.gf_reduced.specs.Refusals.{IsPairsRefusal};
+
+use gf_division::{reduced, s_poly};
+use gf_poly::{Marked, Poly, PolyError};
+use std::alloc::Global;
+
+/// The places of two members whose S-polynomial has another normal form than zero, and that normal form.
+#[derive(Drop)]
+pub(crate) struct FailingPair {
+    pub first: usize,
+    pub second: usize,
+    pub remainder: Poly,
+}
+
+// The normal form of the S-polynomial of two members.
+fn remainder_at(alloc: Global, by: &[Marked], i: usize, j: usize) -> Result<Poly, PolyError>
+    requires marked { HasSomeWeight by.now }
+    requires variables { MembersShareVariables by.now }
+    requires first { i < length by.now }
+    requires second { j < length by.now }
+    ensures value { IfOk result (IsRemainderAt by.now i j) }
+    ensures cause { IfErr result (IsPairsRefusal by.now) }
+{
+    let f = s_poly(alloc, &by[i], &by[j])?;
+    let rest = reduced(alloc, f, by)?;
+    Ok(rest)
+}
+
+// The first later member whose pair with that at `i` fails.
+fn failing_with(alloc: Global, by: &[Marked], i: usize) -> Result<Option<FailingPair>, PolyError>
+    requires marked { HasSomeWeight by.now }
+    requires variables { MembersShareVariables by.now }
+    requires first { i < length by.now }
+    ensures some { IfOk result (λ o. IfSome o (λ p. p.first ≡ i)) }
+    ensures pair { IfOk result (λ o. IfSome o (λ p. IsFirstFailingWith by.now i p.second p.remainder)) }
+    ensures none { IfOk result (λ o. IfNone o (VanishFrom by.now i)) }
+    ensures cause { IfErr result (IsPairsRefusal by.now) }
+{
+    'later: for j in i + 1..by.len() {
+        let rest = remainder_at(alloc, by, i, j)?;
+        if !rest.is_zero() {
+            return Ok(Some(FailingPair {
+                first: i,
+                second: j,
+                remainder: rest,
+            }));
+        }
+    }
+    Ok(None)
+}
+
+/// The first pair of members, by the first one and then by the second, whose S-polynomial has another normal form than zero.
+///
+/// The members are monic, and some weight sets each mark above the rest. No criterion passes over a pair: the first one is
+/// that of the pairs' own normal forms.
+///
+/// # Errors
+///
+/// `Overflow` and `Exponent` only where two numbers of an S-polynomial of two members, or of a step of its reduction by
+/// the members, don't fit.
+pub(crate) fn first_failing(alloc: Global, by: &[Marked]) -> Result<Option<FailingPair>, PolyError>
+    requires marked { HasSomeWeight by.now }
+    requires variables { MembersShareVariables by.now }
+    ensures pair { IfOk result (λ o. IfSome o (λ p. IsFirstFailing by.now p.first p.second p.remainder)) }
+    ensures none { IfOk result (λ o. IfNone o (DoAllVanish by.now)) }
+    ensures cause { IfErr result (IsPairsRefusal by.now) }
+{
+    'members: for i in 0..by.len() {
+        let found = failing_with(alloc, by, i)?;
+        if let Some(pair) = found {
+            return Ok(Some(pair));
+        }
+    }
+    Ok(None)
+}

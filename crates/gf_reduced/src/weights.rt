@@ -1,0 +1,83 @@
+//! Whether a marking has a positive weight.
+ghost use Rattle.std.specs.Prelude.{◌≡◌, ◌↔◌, IfOk, IfErr, IsTrue};
+ghost use Rattle.gf_gordan.specs.Steps.{Failed};
+ghost use Rattle.gf_poly.specs.Marking.{Each, HasMarkedTerm};
+ghost use Rattle.gf_ideal.specs.Marks.{IsRealisable};
+ghost use Rattle.gf_facets.specs.Systems.{system_of};
+ghost use Rattle.gf_reduced.specs.Markings.{GivesMarks, IsWeightAnswer, IsMarkingStep};
+ghost use Rattle.gf_reduced.specs.Refusals.{IsWeightRefusal, IsSystemWithinLimits};
+ghost use Rattle.gf_reduced.specs.declared.error.CheckError.TheVariants.{Memory};
+
+use crate::error::CheckError;
+use gf_cone::{rows, with_units};
+use gf_gordan::{Answer, GordanError, gordans_alternative, strict};
+use gf_poly::MarkedSet;
+use gf_vec::IntVec;
+use std::alloc::{AllocError, Global};
+
+// The rows of the marking, polynomial by polynomial, and within one in the order of its terms; then the unit vectors.
+fn system(alloc: Global, marked: &MarkedSet) -> Result<Vec<IntVec>, AllocError>
+    ensures rows { IfOk result (λ rows. rows.items ≡ system_of marked.now.variables marked.now.items) }
+    ensures marked { IfOk result (λ _. Each HasMarkedTerm marked.now.items) }
+{
+    let all = rows(alloc, marked)?;
+    with_units(alloc, all, marked.variables() as usize)
+}
+
+// A positive weight that gives the marking, or multipliers which show that there is none.
+//
+// `Cone` only at a step of the elimination of the marking's system: its rows, then the unit vectors.
+fn weight_or_none(alloc: Global, marked: &MarkedSet) -> Result<Answer, GordanError>
+    ensures ok { IfOk result (IsWeightAnswer marked.now.variables marked.now.items) }
+    ensures err { IfErr result (Failed (IsMarkingStep marked.now.variables marked.now.items)) }
+{
+    // Exactly one of the two answers exists.
+    gordans_alternative();
+    // The members have their variables.
+    let _ = marked.items();
+    let rows = system(alloc, marked)?;
+    let answer = strict(alloc, marked.variables(), &rows, &[])?;
+    Ok(answer)
+}
+
+/// Whether some positive weight gives the marking.
+///
+/// # Errors
+///
+/// `Cone` only at a step of the elimination of the marking's system: its rows, then the unit vectors.
+pub(crate) fn has_weight(alloc: Global, marked: &MarkedSet) -> Result<bool, GordanError>
+    ensures ok { IfOk result (λ r. IsTrue r ↔ IsRealisable marked.now.variables marked.now.items) }
+    ensures err { IfErr result (Failed (IsMarkingStep marked.now.variables marked.now.items)) }
+{
+    let answer = weight_or_none(alloc, marked)?;
+    match answer {
+        Answer::Point(_) => Ok(true),
+        Answer::Farkas { .. } => Ok(false),
+    }
+}
+
+/// A positive whole vector that gives the marking: by it each marked monomial weighs more than the other ones of its polynomial.
+///
+/// # Errors
+///
+/// - `Inconsistent` exactly where there is no such vector, with the number `set` and multipliers that show it: of the marking's
+///   rows (each marked exponent less an unmarked one, polynomial by polynomial, in the order of the terms) and then of the unit
+///   vectors. None is negative, not all are zero, the sum is the zero vector, and their content is 1 (Gordan's alternative).
+/// - `Cone` only at a step of the elimination of the system of these rows and unit vectors, whose operands it holds.
+#[tactic(auto, using(crate::proofs::RefusalLaws::weight_only_memory))]
+pub fn positive(alloc: Global, marked: &MarkedSet, set: u32) -> Result<IntVec, CheckError>
+    ensures ok { IfOk result (GivesMarks marked.now.variables marked.now.items) }
+    ensures realisable { IfOk result (λ _. IsRealisable marked.now.variables marked.now.items) }
+    ensures err { IfErr result (IsWeightRefusal set marked.now) }
+    ensures complete { IsRealisable marked.now.variables marked.now.items
+        → IsSystemWithinLimits marked.now → IfErr result (λ e. e ≡ Memory) }
+{
+    let answer = weight_or_none(alloc, marked)?;
+    match answer {
+        Answer::Point(vector) => Ok(vector),
+        Answer::Farkas {
+            rows: multipliers,
+            equations: _none,
+        } => Err(CheckError::Inconsistent { set, multipliers }),
+    }
+}
