@@ -1,11 +1,14 @@
 // The small tools over memory: the status, what is written, and what is told.
 use crate::run::run;
 use gf_outside::{MemSink, MemSource};
+use gf_waves::FreeGate;
 use std::alloc::Global;
 use std::test::Fail;
+use std::thread::Threads;
 
 /// Whether a run of the words, which are parted by spaces, ends with this code, writes this text and tells this line.
-fn ends(
+fn ends<R: Threads + Sync>(
+    rt: &R,
     alloc: Global,
     line: &str,
     input: &str,
@@ -20,7 +23,15 @@ fn ends(
     let mut source = MemSource::new(input.as_bytes().to_vec(alloc)?, 7, vec![in alloc]?);
     let mut output = MemSink::new(alloc, 8, vec![in alloc]?);
     let mut faults = MemSink::new(alloc, 1_000, vec![in alloc]?);
-    let status = run(alloc, &words, &mut source, &mut output, &mut faults);
+    let status = run(
+        rt,
+        alloc,
+        &words,
+        &mut source,
+        &mut output,
+        &mut faults,
+        &FreeGate,
+    );
     Ok(
         status.code() == code
             && output.bytes() == text.as_bytes()
@@ -106,7 +117,7 @@ fn a_set_is_marked_by_a_vector(rt: HostRuntime) -> Result<(), Fail> {
     ];
     for (words, input, code, text, told) in rows {
         assert!(rt;
-            ends(rt.alloc(), words, input, code, text, told)?,
+            ends(&rt, rt.alloc(), words, input, code, text, told)?,
             "{words} {input}"
         );
     }
@@ -170,7 +181,7 @@ fn initial_forms_are_those_of_the_vector(rt: HostRuntime) -> Result<(), Fail> {
     ];
     for (words, input, code, text, told) in rows {
         assert!(rt;
-            ends(rt.alloc(), words, input, code, text, told)?,
+            ends(&rt, rt.alloc(), words, input, code, text, told)?,
             "{words} {input}"
         );
     }
@@ -255,7 +266,7 @@ fn sets_are_made_homogeneous(rt: HostRuntime) -> Result<(), Fail> {
     ];
     for (words, input, code, text, told) in rows {
         assert!(rt;
-            ends(rt.alloc(), words, input, code, text, told)?,
+            ends(&rt, rt.alloc(), words, input, code, text, told)?,
             "{words} {input}"
         );
     }
@@ -305,7 +316,7 @@ fn a_union_has_each_polynomial_once(rt: HostRuntime) -> Result<(), Fail> {
     ];
     for (words, input, code, text, told) in rows {
         assert!(rt;
-            ends(rt.alloc(), words, input, code, text, told)?,
+            ends(&rt, rt.alloc(), words, input, code, text, told)?,
             "{words} {input}"
         );
     }
@@ -368,7 +379,7 @@ fn statistics_are_seven_lines(rt: HostRuntime) -> Result<(), Fail> {
     ];
     for (words, input, code, text, told) in rows {
         assert!(rt;
-            ends(rt.alloc(), words, input, code, text, told)?,
+            ends(&rt, rt.alloc(), words, input, code, text, told)?,
             "{words} {input}"
         );
     }
