@@ -1,10 +1,12 @@
 //! A weight by which the marks of lifts are heavier than their other terms, as an order in which terms are reduced. Nothing is
 //! asked of it: reductions end by any.
 
+ghost use Rattle.std.specs.Prelude.{◌<◌};
+
 use gf_poly::Marked;
 use std::alloc::Global;
 
-/// How many times all lifts are gone through at most.
+/// How many times all differences are gone through at most.
 const ROUNDS: u32 = 20_000;
 
 /// How heavy a monomial is, as far as the numbers fit.
@@ -16,31 +18,65 @@ pub fn heft_of(weight: &[i64], x: &[u32]) -> i64 {
     sum
 }
 
-// Adds the exponents of `x` less those of `y`.
-fn lean(weight: &mut [i64], x: &[u32], y: &[u32]) {
-    'entries: for i in 0..weight.len() {
-        if i < x.len() && i < y.len() {
-            let more = i64::from(x[i]) - i64::from(y[i]);
-            weight[i] = weight[i].wrapping_add(more);
+// Whether some entry of `x` is greater than that of `y`.
+fn exceeds(x: &[u32], y: &[u32]) -> bool {
+    'entries: for (a, b) in x.iter().zip(y) {
+        if a > b {
+            return true;
         }
     }
+    false
 }
 
-// Adds the difference of the mark and each other term that isn't lighter; whether there was none.
-fn is_heaviest(weight: &mut [i64], lift: &Marked) -> bool {
-    let head = lift.head().exponents();
-    let terms = lift.poly().terms();
-    let mut fits = true;
-    let mut heft = heft_of(weight, head);
-    'terms: for k in 0..terms.len() {
-        let x = terms[k].mono.exponents();
-        if k != lift.index() && heft <= heft_of(weight, x) {
-            lean(weight, head, x);
-            heft = heft_of(weight, head);
-            fits = false;
+// Adds the entries of `x` less those of `y`.
+fn add_difference(rows: &mut Vec<i64>, x: &[u32], y: &[u32]) -> Option<()> {
+    'entries: for (a, b) in x.iter().zip(y) {
+        match rows.push(i64::from(*a) - i64::from(*b)) {
+            Ok(()) => {}
+            Err(_) => return None,
         }
     }
-    fits
+    Some(())
+}
+
+// Adds the differences of the mark and the other terms, but those that are positive by each positive weight.
+fn add_lift(rows: &mut Vec<i64>, lift: &Marked) -> Option<()> {
+    let head = lift.head().exponents();
+    let terms = lift.poly().terms();
+    'terms: for k in 0..terms.len() {
+        let x = terms[k].mono.exponents();
+        if exceeds(x, head) {
+            add_difference(rows, head, x)?;
+        }
+    }
+    Some(())
+}
+
+// The differences of marks and other terms, one after another.
+fn differences(alloc: Global, lifts: &[Marked]) -> Option<Vec<i64>> {
+    let mut rows = Vec::new(alloc);
+    'lifts: for i in 0..lifts.len() {
+        add_lift(&mut rows, &lifts[i])?;
+    }
+    Some(rows)
+}
+
+// How heavy a difference is.
+fn gain_of(weight: &[i64], row: &[i64]) -> i64 {
+    let mut sum = 0i64;
+    'entries: for (w, d) in weight.iter().zip(row) {
+        sum = sum.wrapping_add(w.wrapping_mul(*d));
+    }
+    sum
+}
+
+// Adds the difference.
+fn lean(weight: &mut [i64], row: &[i64]) {
+    'entries: for i in 0..weight.len() {
+        if i < row.len() {
+            weight[i] = weight[i].wrapping_add(row[i]);
+        }
+    }
 }
 
 // Adds 1 to each entry that isn't positive; whether there was none.
@@ -55,11 +91,14 @@ fn is_positive(weight: &mut [i64]) -> bool {
     fits
 }
 
-// Goes through all lifts once; whether nothing was added.
-fn fits_all(weight: &mut [i64], lifts: &[Marked]) -> bool {
+// Adds each difference that isn't positive; whether nothing was added.
+fn fits_all(weight: &mut [i64], rows: &[i64], n: usize) -> bool
+    requires { 0 < n }
+{
     let mut fits = true;
-    'lifts: for i in 0..lifts.len() {
-        if !is_heaviest(weight, &lifts[i]) {
+    'rows: for row in rows.chunks_exact(n) {
+        if gain_of(weight, row) < 1 {
+            lean(weight, row);
             fits = false;
         }
     }
@@ -72,14 +111,19 @@ pub fn weight_of(alloc: Global, lifts: &[Marked]) -> Option<Vec<i64>> {
     if lifts.is_empty() {
         return Some(weight);
     }
-    'entries: for _ in 0..lifts[0].head().exponents().len() {
+    let n = lifts[0].head().exponents().len();
+    if n == 0 {
+        return Some(weight);
+    }
+    'entries: for _ in 0..n {
         match weight.push(1) {
             Ok(()) => {}
             Err(_) => return None,
         }
     }
+    let rows = differences(alloc, lifts)?;
     'rounds: for _ in 0..ROUNDS {
-        if fits_all(&mut weight, lifts) {
+        if fits_all(&mut weight, &rows, n) {
             return Some(weight);
         }
     }

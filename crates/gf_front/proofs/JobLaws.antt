@@ -162,11 +162,7 @@ tools_sound = (
   (
     plain_sound (codes "_initialforms") jobs.InitialForms tt,
     refl,
-    (
-      plain_sound (codes "_homogenize") jobs.Homogenize tt,
-      refl,
-      (plain_sound (codes "_polynomialsetunion") jobs.PolynomialSetUnion tt, refl, tt),
-    ),
+    (plain_sound (codes "_homogenize") jobs.Homogenize tt, refl, (plain_sound (codes "_polynomialsetunion") jobs.PolynomialSetUnion tt, refl, (plain_sound (codes "_stats") jobs.Stats tt, refl, tt))),
   ),
 )
 

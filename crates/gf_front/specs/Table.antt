@@ -107,12 +107,15 @@ homogenize = plain (codes "_homogenize") jobs.Homogenize
 abbrev pub polynomial_set_union : Entry
 polynomial_set_union = plain (codes "_polynomialsetunion") jobs.PolynomialSetUnion
 
+abbrev pub stats : Entry
+stats = plain (codes "_stats") jobs.Stats
+
 -- those that the table has before the small tools, and those
 abbrev pub first_commands : List Entry
 first_commands = buchberger ∷ bases ∷ is_marked_groebner_basis ∷ leading_terms ∷ []
 
 abbrev pub tools : List Entry
-tools = mark_polynomial_set ∷ initial_forms ∷ homogenize ∷ polynomial_set_union ∷ []
+tools = mark_polynomial_set ∷ initial_forms ∷ homogenize ∷ polynomial_set_union ∷ stats ∷ []
 
 abbrev pub commands : List Entry
 commands = first_commands ++ tools

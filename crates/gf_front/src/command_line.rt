@@ -51,6 +51,8 @@ pub enum Job {
     Homogenize,
     /// The union of a list of sets.
     PolynomialSetUnion,
+    /// Numbers of a list of marked sets: how many, and how great they are.
+    Stats,
 }
 
 /// Why there is no job.
@@ -152,6 +154,7 @@ fn job_of(name: &str, found: &ArgMatches) -> Job
         "_initialforms" => Job::InitialForms,
         "_homogenize" => Job::Homogenize,
         "_polynomialsetunion" => Job::PolynomialSetUnion,
+        "_stats" => Job::Stats,
         _ => unreachable!(),
     }
 }

@@ -44,9 +44,10 @@ use Rattle.gfan_main.specs.MarkPolynomialSet.{mark_polynomial_set_command}
 use Rattle.gfan_main.specs.InitialForms.{initial_forms_command}
 use Rattle.gfan_main.specs.Homogenize.{homogenize_command}
 use Rattle.gfan_main.specs.PolynomialSetUnion.{polynomial_set_union_command}
+use Rattle.gfan_main.specs.Stats.{stats_command}
 use Rattle.gfan_main.specs.Commands.{options, list_options, command, IsAnswerTo, IsWholeTextOf, IsRefusalOf, IsWithinReach, WritesAtEnd}
 use Rattle.gfan_main.proofs.FormLaws.{AreKept, form_once}
-use Rattle.gfan_main.proofs.ToolLaws.{mark_polynomial_set_exact, initial_forms_exact, homogenize_exact, polynomial_set_union_exact, homogenize_not_listed}
+use Rattle.gfan_main.proofs.ToolLaws.{mark_polynomial_set_exact, initial_forms_exact, homogenize_exact, polynomial_set_union_exact, stats_exact, homogenize_not_listed, gordan_not_listed}
 
 -- ---- what is kept of a set
 
@@ -155,6 +156,7 @@ laws jobs.MarkPolynomialSet = mark_polynomial_set_exact
 laws jobs.InitialForms = initial_forms_exact
 laws jobs.Homogenize = homogenize_exact
 laws jobs.PolynomialSetUnion = polynomial_set_union_exact
+laws jobs.Stats = stats_exact
 
 pub exact_text : (job : Job) (source : List ℕ) (r d : Refusal) → IsOfText r → IsRefusalOf job source r → IsRefusalOf job source d → (d ≡ r) ⊎ (d ≡ refusals.Memory)
 exact_text job source r d t h k = exact (command job) (laws job) source r d (inl t) h k
@@ -218,6 +220,7 @@ not_listed jobs.MarkPolynomialSet source most w h = command_not_listed mark_poly
 not_listed jobs.InitialForms source most w h = command_not_listed initial_forms_command initial_forms_exact (λ a m c. cc) source most h
 not_listed jobs.Homogenize source most w h = command_not_listed homogenize_command homogenize_exact (λ a m c. homogenize_not_listed a.1.0 m c) source most h
 not_listed jobs.PolynomialSetUnion source most w h = command_not_listed polynomial_set_union_command polynomial_set_union_exact (λ a m c. cc) source most h
+not_listed jobs.Stats source most w h = command_not_listed stats_command stats_exact (λ a m c. gordan_not_listed c.0 m c.1) source most h
 
 pub refused_as_job : (job : Job) (source : List ℕ) (r : Refusal) → IsRefusalOf job source r → IsOfJob r
 refused_as_job job source r h = of_job (command job) (laws job) source r h

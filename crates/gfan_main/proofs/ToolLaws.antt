@@ -1,9 +1,10 @@
 -- Each of the small tools answers a source in one way: its record has the laws of an exact command, and names no limit of a list.
--- To cite: mark_polynomial_set_exact, initial_forms_exact, homogenize_exact, polynomial_set_union_exact; homogenize_not_listed;
--- length_unanswered, zero_unanswered, marked_answered; entries_unanswered, forms_answered; room_unanswered, exponent_unanswered,
--- homogenized_answered. The rest are steps.
-use Rattle.std.specs.Prelude.{◌≡◌, ◌⊎◌, ℕ, ◌^◌, ◌<◌, All, List, [], ◌∷◌, ◌++◌, length, Some, ℤ}
-use Rattle.std.proofs.Common.{arith, refl, sym, ◌∙◌, subst, inl, inr}
+-- To cite: mark_polynomial_set_exact, initial_forms_exact, homogenize_exact, polynomial_set_union_exact, stats_exact; homogenize_not_listed,
+-- gordan_not_listed; length_unanswered, zero_unanswered, marked_answered; entries_unanswered, forms_answered; room_unanswered, exponent_unanswered,
+-- homogenized_answered; stats_unanswered, stats_answered, named_gordan, seven_pieces. The rest are steps.
+use Rattle.std.specs.Prelude.{◌≡◌, ◌⊎◌, ℕ, ◌^◌, ◌<◌, All, List, [], ◌∷◌, ◌++◌, length, None, Some, ℤ}
+use Rattle.std.specs.List.{concat}
+use Rattle.std.proofs.Common.{arith, refl, sym, ap, ◌∙◌, subst, inl, inr, append_assoc, append-nil}
 use Rattle.std.proofs.lemmas.List.Elements.{All-head, All-tail}
 use Rattle.gf_poly.specs.declared.Term.{Term}
 use Rattle.gf_poly.specs.declared.monomial.ExponentOverflow.{ExponentOverflow}
@@ -12,15 +13,19 @@ use Rattle.gf_poly.specs.Marking.{MarkedPolynomials, polys}
 use Rattle.gf_text.specs.declared.written.Written.{Written}
 use Rattle.gf_text.specs.declared.written.Written.TheVariants as written
 use Rattle.gf_text.specs.Sets.{AreNonzero}
+use Rattle.gf_gordan.specs.declared.error.GordanError.{GordanError}
+use Rattle.gf_gordan.specs.declared.error.GordanError.TheVariants as gordan_errors
 use Rattle.gf_small.specs.MarksByWeight.{AreMarkedByWeight}
 use Rattle.gf_small.specs.Degrees.{total_degree}
 use Rattle.gf_small.specs.InitialForms.{AreInitialForms}
 use Rattle.gf_small.specs.declared.homogenization.SmallError.TheVariants as homogenize_errors
 use Rattle.gf_small.specs.Homogenization.{new_exponent, ExponentsFit, IsWithinLimit, IsPastLimitIn, IsFirstOverflow, AreHomogenizations, IsHomogenizeCause}
+use Rattle.gf_small.specs.declared.counts.Stats.{Stats}
+use Rattle.gf_small.specs.Statistics.{AreStatistics, IsStatisticsCause}
 use Rattle.gf_front.specs.declared.refusal.Refusal.{Refusal}
 use Rattle.gf_front.specs.declared.refusal.Refusal.TheVariants as refusals
 use Rattle.gf_items.specs.Commands.{IsOfWork, IsAnswerFor, IsUnanswered}
-use Rattle.gf_items.specs.Kinds.{a_set, set_list, vector, new_name}
+use Rattle.gf_items.specs.Kinds.{a_set, set_list, marked_set_list, vector, new_name}
 use Rattle.gf_items.proofs.KindLaws.{ring_and_once}
 use Rattle.gf_items.proofs.CommandLaws.{IsExactCommand}
 use Rattle.gfan_main.specs.Buchberger.{IsLengthRefusal}
@@ -30,6 +35,8 @@ use Rattle.gfan_main.specs.MarkPolynomialSet.{mark_polynomial_set_command}
 use Rattle.gfan_main.specs.InitialForms.{initial_forms_command}
 use Rattle.gfan_main.specs.Homogenize.{IsHomogenizeRefusal, homogenize_command}
 use Rattle.gfan_main.specs.PolynomialSetUnion.{polynomial_set_union_command}
+use Rattle.gfan_main.specs.Stats.{stats_text, of_gordan, stats_command}
+use Rattle.gfan_main.specs.Refused.{IsNamedBy}
 use Rattle.gfan_main.proofs.ToolFormLaws.{variables_check, zero_check, room_check}
 
 -- ---- `_markpolynomialset`
@@ -138,3 +145,44 @@ homogenized_answered ring extended ws name fs text l e h p = record {
 
 pub homogenize_not_listed : (ws : List Written) (most : ℕ) → IsHomogenizeRefusal ws (refusals.ListLimit most) → ⊥
 homogenize_not_listed ws most h = h
+
+-- ---- `_stats`
+
+gordan_work : (e : GordanError) → IsOfWork (of_gordan e)
+gordan_work (gordan_errors.Cone o) = tt
+gordan_work gordan_errors.Memory = tt
+
+pub stats_exact : IsExactCommand stats_command
+stats_exact = record {
+  items = ring_and_once marked_set_list [];
+  checks = λ source v r. tt;
+  work = λ v r h. subst IsOfWork (sym h.1) (gordan_work h.0);
+  within = λ v r w h. h.1 ∙ ap of_gordan (w h.0 h.2);
+}
+
+pub stats_unanswered : (n : ℕ) (ring : List (List ℕ)) (sets : List MarkedPolynomials) (e : GordanError) → n ≡ length ring → IsStatisticsCause n sets e → IsUnanswered stats_command (ring, sets) (of_gordan e)
+stats_unanswered n ring sets e q h = IsUnanswered.in_work tt (e, refl, subst (λ k. IsStatisticsCause k sets e) q h)
+
+pub stats_answered : (n : ℕ) (ring : List (List ℕ)) (sets : List MarkedPolynomials) (s : Stats) (text : List ℕ) → n ≡ length ring → AreStatistics n sets s → text ≡ stats_text s → IsAnswerFor stats_command (ring, sets) text
+stats_answered n ring sets s text q h e = record { formed = tt; is_answer = record { stats = s; are_stats = subst (λ k. AreStatistics k sets s) q h; is_text = e } }
+
+pub gordan_not_listed : (e : GordanError) (most : ℕ) → refusals.ListLimit most ≡ of_gordan e → ⊥
+gordan_not_listed (gordan_errors.Cone o) most q = cc
+gordan_not_listed gordan_errors.Memory most q = cc
+
+pub named_gordan : (e : GordanError) → IsNamedBy None (of_gordan e)
+named_gordan (gordan_errors.Cone o) = λ lent is. tt
+named_gordan gordan_errors.Memory = λ lent is. tt
+
+-- ---- lines
+
+-- seven pieces, one behind another
+pub seven_pieces : (a b c d e f g t u v w x y z : List ℕ) → t ≡ a → u ≡ t ++ b → v ≡ u ++ c → w ≡ v ++ d → x ≡ w ++ e → y ≡ x ++ f → z ≡ y ++ g → z ≡ concat (a ∷ b ∷ c ∷ d ∷ e ∷ f ∷ g ∷ [])
+seven_pieces a b c d e f g t u v w x y z p q r i j k l =
+    let two : u ≡ a ++ b = q ∙ ap (λ n. n ++ b) p in
+    let three : v ≡ (a ++ b) ++ c = r ∙ ap (λ n. n ++ c) two in
+    let four : w ≡ ((a ++ b) ++ c) ++ d = i ∙ ap (λ n. n ++ d) three in
+    let five : x ≡ (((a ++ b) ++ c) ++ d) ++ e = j ∙ ap (λ n. n ++ e) four in
+    let six : y ≡ ((((a ++ b) ++ c) ++ d) ++ e) ++ f = k ∙ ap (λ n. n ++ f) five in
+    let seven : z ≡ (((((a ++ b) ++ c) ++ d) ++ e) ++ f) ++ g = l ∙ ap (λ n. n ++ g) six in
+    seven ∙ simp (append_assoc, append-nil)

@@ -15,6 +15,7 @@ use Rattle.gfan_main.specs.MarkPolynomialSet.{mark_polynomial_set_command}
 use Rattle.gfan_main.specs.InitialForms.{initial_forms_command}
 use Rattle.gfan_main.specs.Homogenize.{homogenize_command}
 use Rattle.gfan_main.specs.PolynomialSetUnion.{polynomial_set_union_command}
+use Rattle.gfan_main.specs.Stats.{stats_command}
 
 -- the options of `_buchberger`
 abbrev pub options : Bool → Bool → ℕ → Options
@@ -34,6 +35,7 @@ command jobs.MarkPolynomialSet = mark_polynomial_set_command
 command jobs.InitialForms = initial_forms_command
 command jobs.Homogenize = homogenize_command
 command jobs.PolynomialSetUnion = polynomial_set_union_command
+command jobs.Stats = stats_command
 
 -- the text is what the job writes for the source
 abbrev pub IsAnswerTo : Job → List ℕ → List ℕ → Type 0

@@ -9,6 +9,7 @@ pub mod MarkPolynomialSet  -- what `_markpolynomialset` reads and writes
 pub mod InitialForms  -- what `_initialforms` reads and writes
 pub mod Homogenize  -- what `_homogenize` reads and writes
 pub mod PolynomialSetUnion  -- what `_polynomialsetunion` reads and writes
+pub mod Stats  -- what `_stats` reads and writes
 pub mod BasesList  -- the list of all bases of an ideal
 pub mod OneList  -- an ideal has one such list
 pub mod Bases  -- what `_bases` reads and writes

@@ -10,7 +10,7 @@ use crate::buchberger::Options;
 use crate::refused::Refused;
 use crate::{
     bases, buchberger, homogenize, initial_forms, leading_terms, mark_polynomial_set, marked,
-    polynomial_set_union,
+    polynomial_set_union, stats,
 };
 use gf_front::{Job, Refusal};
 use gf_outside::{Sink, WriteFault, write_all};
@@ -45,6 +45,7 @@ fn answered(alloc: Global, job: &Job, source: &[u8]) -> Result<Vec<u8>, Refused>
         Job::InitialForms => initial_forms::answer(alloc, source),
         Job::Homogenize => homogenize::answer(alloc, source),
         Job::PolynomialSetUnion => polynomial_set_union::answer(alloc, source),
+        Job::Stats => stats::answer(alloc, source),
     }
 }
 

@@ -3,7 +3,7 @@
 // `_bases` reads a ring and a set, and writes all marked reduced Gröbner bases of the set's ideal; `_buchberger` reads them too, and
 // writes the reduced Gröbner basis by lex; `_ismarkedgroebnerbasis` reads a ring and a marked set, and writes whether it is a
 // Gröbner basis for its marking; `_leadingterms` reads a ring and a marked set, and writes its leading terms; `_markpolynomialset`,
-// `_initialforms`, `_homogenize` and `_polynomialsetunion` are small tools on sets. What a run does is told at `run`, what each
+// `_initialforms`, `_homogenize`, `_polynomialsetunion` and `_stats` are small tools on sets. What a run does is told at `run`, what each
 // command writes in `specs/Commands.antt`.
 #![tactic(auto)]
 
@@ -25,6 +25,7 @@ mod polynomial_set_union;
 mod printing;
 mod refused;
 mod run;
+mod stats;
 #[cfg(test)]
 mod tests;
 #[cfg(test)]

@@ -6,6 +6,7 @@ ghost use Rattle.gfan_main.specs.Refused.{names_of, IsNamedBy, WrittenAsFar};
 use crate::marked::CheckError;
 use gf_buchberger::BasisError;
 use gf_front::{Refusal, WordsError};
+use gf_gordan::GordanError;
 use gf_outside::Sink;
 use gf_text::{Ring, Syntax, TextError};
 use gf_tree::TreeError;
@@ -112,6 +113,25 @@ impl From<CheckError> for Refused {
             CheckError::Overflow(o) => Refusal::Overflow(o),
             CheckError::Exponent(o) => Refusal::ExponentOverflow(o),
             CheckError::Memory => Refusal::Memory,
+        })
+    }
+}
+
+impl From<GordanError> for Refused {
+    ghost use Rattle.gfan_main.specs.Stats.{of_gordan};
+    ghost use Rattle.gfan_main.specs.Refused.{without_names};
+
+    ghost from_gives = { λ g e. e ≡ without_names (of_gordan g) };
+
+    fn from(error: GordanError) -> Refused {
+        Refused::from(match error {
+            GordanError::Cone(o) => Refusal::ConeOverflow {
+                row: o.row,
+                op: o.op,
+                left: o.left,
+                right: o.right,
+            },
+            GordanError::Memory => Refusal::Memory,
         })
     }
 }

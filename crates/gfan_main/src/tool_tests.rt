@@ -311,3 +311,66 @@ fn a_union_has_each_polynomial_once(rt: HostRuntime) -> Result<(), Fail> {
     }
     Ok(())
 }
+
+/// The numbers of a list of marked sets.
+#[test]
+fn statistics_are_seven_lines(rt: HostRuntime) -> Result<(), Fail> {
+    let rows = [
+        (
+            "_stats",
+            "Q[a,b,c] {{b-c,a-c},{c-b,a-b},{c-a,b-a}}",
+            0u8,
+            "Number of reduced Groebner bases: 3\nNumber of variables: 3\nDimension of homogeneity space: 1\nMaximal total degree of a polynomial: 1\nMinimal total degree of a basis: 1\nMaximal number of polynomials in a basis: 2\nMaximal number of terms in a basis: 4\n",
+            "",
+        ),
+        (
+            "_stats",
+            "Q[a,b] {}",
+            0,
+            "Number of reduced Groebner bases: 0\nNumber of variables: 2\nDimension of homogeneity space: 2\nMaximal total degree of a polynomial: 0\nMinimal total degree of a basis: 0\nMaximal number of polynomials in a basis: 0\nMaximal number of terms in a basis: 0\n",
+            "",
+        ),
+        (
+            "_stats",
+            "Q[a,b] {{a^2-b,b^3},{}}",
+            0,
+            "Number of reduced Groebner bases: 2\nNumber of variables: 2\nDimension of homogeneity space: 1\nMaximal total degree of a polynomial: 3\nMinimal total degree of a basis: 0\nMaximal number of polynomials in a basis: 2\nMaximal number of terms in a basis: 3\n",
+            "",
+        ),
+        (
+            "_stats",
+            "Q[a] {{a-1}}",
+            0,
+            "Number of reduced Groebner bases: 1\nNumber of variables: 1\nDimension of homogeneity space: 0\nMaximal total degree of a polynomial: 1\nMinimal total degree of a basis: 1\nMaximal number of polynomials in a basis: 1\nMaximal number of terms in a basis: 2\n",
+            "",
+        ),
+        (
+            "_stats",
+            "Q[a,b,c] {{a^2b-c},{b^4}}",
+            0,
+            "Number of reduced Groebner bases: 2\nNumber of variables: 3\nDimension of homogeneity space: 2\nMaximal total degree of a polynomial: 4\nMinimal total degree of a basis: 3\nMaximal number of polynomials in a basis: 1\nMaximal number of terms in a basis: 2\n",
+            "",
+        ),
+        (
+            "_stats",
+            "Q[a] {{a},{a,a-a}}",
+            1,
+            "",
+            "gfan: E22 zero polynomial: set 1 polynomial 1\n",
+        ),
+        (
+            "_stats",
+            "Q[a] {a}",
+            1,
+            "",
+            "gfan: E8 syntax at byte 6: unexpected\n",
+        ),
+    ];
+    for (words, input, code, text, told) in rows {
+        assert!(rt;
+            ends(rt.alloc(), words, input, code, text, told)?,
+            "{words} {input}"
+        );
+    }
+    Ok(())
+}

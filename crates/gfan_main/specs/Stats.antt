@@ -1,0 +1,55 @@
+-- `_stats`: what it reads and writes, and why it doesn't.
+use Rattle.std.specs.Prelude.{◌≡◌, ℕ, List, [], ◌∷◌, ◌++◌, length, codes, decimal}
+use Rattle.std.specs.List.{concat}
+use Rattle.gf_poly.specs.Marking.{MarkedPolynomials}
+use Rattle.gf_gordan.specs.declared.error.GordanError.{GordanError}
+use Rattle.gf_gordan.specs.declared.error.GordanError.TheVariants as gordan_errors
+use Rattle.gf_small.specs.declared.counts.Stats.{Stats}
+use Rattle.gf_small.specs.Statistics.{AreStatistics, IsStatisticsCause}
+use Rattle.gf_front.specs.declared.refusal.Refusal.{Refusal}
+use Rattle.gf_front.specs.declared.refusal.Refusal.TheVariants as refusals
+use Rattle.gf_items.specs.Sources.{ring_marked_sets}
+use Rattle.gf_items.specs.Commands.{Command}
+
+-- ---- what is written
+
+-- a line: what is counted, and the number
+abbrev pub count_line : List ℕ → ℕ → List ℕ
+count_line label n = label ++ (decimal n ++ 10 ∷ [])
+
+-- seven lines
+abbrev pub stats_text : Stats → List ℕ
+stats_text s = concat (
+    count_line (codes "Number of reduced Groebner bases: ") s.bases
+    ∷ count_line (codes "Number of variables: ") s.variables
+    ∷ count_line (codes "Dimension of homogeneity space: ") s.homogeneity
+    ∷ count_line (codes "Maximal total degree of a polynomial: ") s.greatest_degree
+    ∷ count_line (codes "Minimal total degree of a basis: ") s.least_degree
+    ∷ count_line (codes "Maximal number of polynomials in a basis: ") s.most_polynomials
+    ∷ count_line (codes "Maximal number of terms in a basis: ") s.most_terms
+    ∷ [])
+
+-- the statistics of the sets in n variables, in seven lines
+pub record IsStatsText (n : ℕ) (sets : List MarkedPolynomials) (text : List ℕ) : Type 0 where
+  pub stats : Stats
+  pub are_stats : AreStatistics n sets stats
+  pub is_text : text ≡ stats_text stats
+
+-- a refusal of an elimination as one of the run
+abbrev pub of_gordan : GordanError → Refusal
+of_gordan (gordan_errors.Cone o) = refusals.ConeOverflow o.row o.op o.left o.right
+of_gordan gordan_errors.Memory = refusals.Memory
+
+-- ---- the command
+
+abbrev pub stats_command : Command
+stats_command = record {
+  Value = List (List ℕ) × List MarkedPolynomials;
+  items = ring_marked_sets;
+  checks = λ v. [];
+  IsAnswer = λ v text. IsStatsText (length v.0) v.1 text;
+  IsWhole = λ v text. IsStatsText (length v.0) v.1 text;
+  IsCause = λ v r. (e : GordanError) × (r ≡ of_gordan e) × IsStatisticsCause (length v.0) v.1 e;
+  IsBegun = λ v text r. ⊥;
+  IsWithin = λ v. (e : GordanError) → IsStatisticsCause (length v.0) v.1 e → e ≡ gordan_errors.Memory;
+}
