@@ -1,4 +1,4 @@
-use Rattle.std.proofs.Common.{ℕ, length, sym, ap, subst, ◌∙◌}
+use Rattle.std.proofs.Common.{ℕ, length, sym, ap, subst}
 use Rattle.gf_poly.specs.Polynomial.{HasVariables}
 use Rattle.gf_small.proofs.MarksByWeightLaws.{some_at, variables_at, marked-more, marked-variables}
 use Rattle.gf_small.proofs.marks.mark_set.Goals as goal
