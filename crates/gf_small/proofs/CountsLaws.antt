@@ -71,21 +71,21 @@ terms-more bs sum next i b l e few q h = record {
 abbrev pub CountsSoFar : List MarkedPolynomials → Counts → ℕ → Type 0
 CountsSoFar sets c i = AreCounts (take i sets) c
 
-pub counts-none : (sets : List MarkedPolynomials) (c : Counts) → c ≡ record { greatest_degree = 0; least_degree = 0; most_polynomials = 0; most_terms = 0 } → CountsSoFar sets c 0
-counts-none sets c e = subst (λ (d : Counts). CountsSoFar sets d 0) (sym e) (record { greatest_degree = refl; least_degree = refl; most_polynomials = refl; most_terms = refl })
+pub counts-none : (sets : List MarkedPolynomials) (c : Counts) → c ≡ record { max_degree = 0; min_degree = 0; max_polynomials = 0; max_terms = 0 } → CountsSoFar sets c 0
+counts-none sets c e = subst (λ (d : Counts). CountsSoFar sets d 0) (sym e) (record { max_degree = refl; min_degree = refl; max_polynomials = refl; max_terms = refl })
 
-pub counts-more : (sets : List MarkedPolynomials) (c d : Counts) (i : ℕ) (s : MarkedPolynomials) (first : Bool) → i < length sets → s ≡ get_or sets i s → first ≡ (i == 0) → d.greatest_degree ≡ max c.greatest_degree (degree_of_set s) →
-    d.least_degree ≡ (if first then degree_of_set s else min c.least_degree (degree_of_set s)) → d.most_polynomials ≡ max c.most_polynomials (length s.items) → d.most_terms ≡ max c.most_terms (terms_in s.items) → CountsSoFar sets c i → CountsSoFar sets d (i + 1)
+pub counts-more : (sets : List MarkedPolynomials) (c d : Counts) (i : ℕ) (s : MarkedPolynomials) (first : Bool) → i < length sets → s ≡ get_or sets i s → first ≡ (i == 0) → d.max_degree ≡ max c.max_degree (degree_of_set s) →
+    d.min_degree ≡ (if first then degree_of_set s else min c.min_degree (degree_of_set s)) → d.max_polynomials ≡ max c.max_polynomials (length s.items) → d.max_terms ≡ max c.max_terms (terms_in s.items) → CountsSoFar sets c i → CountsSoFar sets d (i + 1)
 counts-more sets c d i s first l e f g m p t h = record {
-  greatest_degree = greatest-more degree_of_set sets i s c.greatest_degree d.greatest_degree l e g h.greatest_degree;
-  least_degree = by first f m;
-  most_polynomials = greatest-more (λ (z : MarkedPolynomials). length z.items) sets i s c.most_polynomials d.most_polynomials l e p h.most_polynomials;
-  most_terms = greatest-more (λ (z : MarkedPolynomials). terms_in z.items) sets i s c.most_terms d.most_terms l e t h.most_terms;
+  max_degree = greatest-more degree_of_set sets i s c.max_degree d.max_degree l e g h.max_degree;
+  min_degree = by first f m;
+  max_polynomials = greatest-more (λ (z : MarkedPolynomials). length z.items) sets i s c.max_polynomials d.max_polynomials l e p h.max_polynomials;
+  max_terms = greatest-more (λ (z : MarkedPolynomials). terms_in z.items) sets i s c.max_terms d.max_terms l e t h.max_terms;
 }
   where
-    by : (b : Bool) → b ≡ (i == 0) → d.least_degree ≡ (if b then degree_of_set s else min c.least_degree (degree_of_set s)) → d.least_degree ≡ least (map degree_of_set (take (i + 1) sets))
-    by true q r = least-first degree_of_set sets i s d.least_degree (eq_by i 0 (sym q)) l e r
-    by false q r = least-more degree_of_set sets i s c.least_degree d.least_degree (nonempty_by_test i q) l e r h.least_degree
+    by : (b : Bool) → b ≡ (i == 0) → d.min_degree ≡ (if b then degree_of_set s else min c.min_degree (degree_of_set s)) → d.min_degree ≡ least (map degree_of_set (take (i + 1) sets))
+    by true q r = least-first degree_of_set sets i s d.min_degree (eq_by i 0 (sym q)) l e r
+    by false q r = least-more degree_of_set sets i s c.min_degree d.min_degree (nonempty_by_test i q) l e r h.min_degree
 
 pub counts-all : (sets : List MarkedPolynomials) (c : Counts) (i : ℕ) → length sets ≤ i → CountsSoFar sets c i → AreCounts sets c
 counts-all sets c i l h = subst (λ (z : List MarkedPolynomials). AreCounts z c) (take_all i sets l) h

@@ -27,8 +27,8 @@ use Rattle.gf_text.specs.declared.written.Written.TheVariants as written
 use Rattle.gf_text.specs.Sets.{IsIn, AreIn}
 use Rattle.gf_small.specs.Degrees.{total_degree}
 use Rattle.gf_small.specs.Homogenization.{new_exponent, filled, filled_term, ExponentsFit, IsPastLimit, IsFirstPastLimit, IsWithinLimit, IsPastLimitIn, IsFirstOverflow, IsMarkedHomogenization, IsWrittenHomogenization, AreHomogenizations, HasExponent, IsHomogenizeCause}
-use Rattle.gf_small.specs.declared.homogenization.HomogenizeError.{HomogenizeError}
-use Rattle.gf_small.specs.declared.homogenization.HomogenizeError.TheVariants as errors
+use Rattle.gf_small.specs.declared.homogenization.SmallError.{SmallError}
+use Rattle.gf_small.specs.declared.homogenization.SmallError.TheVariants as errors
 use Rattle.gf_poly.proofs.MarkingLaws.{mark_at}
 use Rattle.gf_small.proofs.WrittenLaws.{AreIn-push}
 
@@ -306,12 +306,12 @@ filling-value b c terms all d i t head poly found place s desc k e at is h =
 
 -- ---- refusals
 
-pub exponent_along : {P Q : ExponentOverflow → Type 0} (e : HomogenizeError) → ((o : ExponentOverflow) → P o → Q o) → HasExponent P e → HasExponent Q e
+pub exponent_along : {P Q : ExponentOverflow → Type 0} (e : SmallError) → ((o : ExponentOverflow) → P o → Q o) → HasExponent P e → HasExponent Q e
 exponent_along (errors.TooManyVariables count) f h = h
 exponent_along (errors.Exponent o) f h = f o h
 exponent_along errors.Memory f h = tt
 
-pub homogenize_cause : (n : ℕ) (fs : List Written) (e : HomogenizeError) → n < 16 → HasExponent (IsFirstOverflow fs) e → IsHomogenizeCause n fs e
+pub homogenize_cause : (n : ℕ) (fs : List Written) (e : SmallError) → n < 16 → HasExponent (IsFirstOverflow fs) e → IsHomogenizeCause n fs e
 homogenize_cause n fs (errors.TooManyVariables count) l h = absurd h
 homogenize_cause n fs (errors.Exponent o) l h = (l, h)
 homogenize_cause n fs errors.Memory l h = tt
@@ -324,7 +324,7 @@ never_past fs o h v = by v.polynomial (All-contains IsWithinLimit fs v.polynomia
     by written.Zero w p = absurd p
     by (written.Nonzero b) w p = absurd (omega (arith, All-contains (λ (t : Term). new_exponent (total_degree b.poly) t.mono < 2 ^ 31) b.poly p.term w (subst (λ (z : Terms). Contains z p.term) (sym p.split) (Contains-append_right p.earlier (p.term ∷ p.later) p.term (0, omega arith, refl))), p.past.leaves))
 
-pub only_memory : (fs : List Written) (e : HomogenizeError) → All IsWithinLimit fs → HasExponent (IsFirstOverflow fs) e → e ≡ errors.Memory
+pub only_memory : (fs : List Written) (e : SmallError) → All IsWithinLimit fs → HasExponent (IsFirstOverflow fs) e → e ≡ errors.Memory
 only_memory fs (errors.TooManyVariables count) w h = absurd h
 only_memory fs (errors.Exponent o) w h = absurd (never_past fs o w h)
 only_memory fs errors.Memory w h = refl

@@ -1,13 +1,13 @@
 -- The greatest term by a weight, as a search finds it.
 -- To cite: above_by, below_by, Greatest, Greatest-start, Greatest-new, Greatest-kept, greatest_of, marked_kept. The rest are steps.
-use Rattle.std.specs.Prelude.{◌≡◌, ◌⊎◌, ℕ, zero, suc, ◌+◌, ◌<◌, ◌≤◌, List, [], ◌∷◌, ◌++◌, length, take, get_or, Contains, ℤ, ◌<ℤ◌}
+use Rattle.std.specs.Prelude.{◌≡◌, ◌≢◌, ◌⊎◌, ℕ, zero, suc, ◌+◌, ◌<◌, ◌≤◌, List, [], ◌∷◌, ◌++◌, length, take, get_or, All, Contains, ℤ, ◌<ℤ◌}
 use Rattle.std.specs.Ordering.{MatchOrdering}
 use Rattle.std.specs.declared.cmp.Ordering.{Ordering}
 use Rattle.std.specs.declared.cmp.Ordering.TheVariants.{Less, Equal, Greater}
 use Rattle.std.proofs.Common.{arith, refl, sym, ap, subst, ◌∙◌, inl, inr}
 use Rattle.std.proofs.lemmas.Int.{ints}
 use Rattle.std.proofs.lemmas.List.{take_more, take_all, map-append}
-use Rattle.std.proofs.lemmas.List.Elements.{Contains-push_cases}
+use Rattle.std.proofs.lemmas.List.Elements.{All-head, All-tail, Contains-push_cases}
 use Rattle.gf_frac.specs.Fraction.{zero_ℚ}
 use Rattle.gf_exponents.specs.Exponents.{Exponents, whole_weight}
 use Rattle.gf_exponents.specs.Orders.{IsLexBelow, lex}
@@ -133,37 +133,47 @@ marked_at w c f place e d l h = subst (IsMarkedByWeight w) (sym e) (record {
     at (s ∷ f) zero d l = refl
     at (s ∷ f) (suc k) d l = at f k d (omega arith)
 
+-- what stands at a place
+pub some_at : (set : List Terms) (i : ℕ) (f : Terms) → All (λ g. g ≢ []) set → i < length set → f ≡ get_or set i f → 0 < length f
+some_at set i f all l e = some f (subst (λ (g : Terms). g ≢ []) (sym e) (all i f l))
+  where
+    some : (g : Terms) → g ≢ [] → 0 < length g
+    some [] n = absurd (n refl)
+    some (t ∷ g) n = omega arith
+
+pub variables_at : (n : ℕ) (set : List Terms) (i : ℕ) (f : Terms) → All (HasVariables n) set → i < length set → f ≡ get_or set i f → HasVariables n f
+variables_at n set i f all l e = subst (HasVariables n) (sym e) (all i f l)
+
 -- the first i, marked
-pub record MarkedSoFar (w : List ℤ) (bs found : List MarkedPolynomial) (i : ℕ) : Type 0 where
-  pub polynomials : polys found ≡ polys (take i bs)
+pub record MarkedSoFar (w : List ℤ) (set : List Terms) (found : List MarkedPolynomial) (i : ℕ) : Type 0 where
+  pub polynomials : polys found ≡ take i set
   pub marks : Each (IsMarkedByWeight w) found
 
-pub marked-none : (w : List ℤ) (bs : List MarkedPolynomial) → MarkedSoFar w bs [] 0
-marked-none w bs = record { polynomials = refl; marks = tt }
+pub marked-none : (w : List ℤ) (set : List Terms) → MarkedSoFar w set [] 0
+marked-none w set = record { polynomials = refl; marks = tt }
 
-pub marked-more : (w : List ℤ) (bs found next : List MarkedPolynomial) (i : ℕ) (b c : MarkedPolynomial) → i < length bs → b ≡ get_or bs i b → c.poly ≡ b.poly → IsMarkedByWeight w c → next ≡ found ++ c ∷ [] → MarkedSoFar w bs found i → MarkedSoFar w bs next (i + 1)
-marked-more w bs found next i b c l e p m q h = record {
-  polynomials = ap polys q ∙ map-append poly_of found (c ∷ []) ∙ ap (λ z. polys found ++ z ∷ []) p ∙ ap (λ z. z ++ b.poly ∷ []) h.polynomials ∙ sym (map-append poly_of (take i bs) (b ∷ []))
-      ∙ ap polys (sym (take_more bs i b l ∙ ap (λ (z : MarkedPolynomial). take i bs ++ z ∷ []) (sym e)));
+pub marked-more : (w : List ℤ) (set : List Terms) (found next : List MarkedPolynomial) (i : ℕ) (f : Terms) (c : MarkedPolynomial) → i < length set → f ≡ get_or set i f → c.poly ≡ f → IsMarkedByWeight w c → next ≡ found ++ c ∷ [] → MarkedSoFar w set found i → MarkedSoFar w set next (i + 1)
+marked-more w set found next i f c l e p m q h = record {
+  polynomials = ap polys q ∙ map-append poly_of found (c ∷ []) ∙ ap (λ z. polys found ++ z ∷ []) p ∙ ap (λ z. z ++ f ∷ []) h.polynomials ∙ sym (take_more set i f l ∙ ap (λ (z : Terms). take i set ++ z ∷ []) (sym e));
   marks = subst (Each (IsMarkedByWeight w)) (sym q) (Each-++ (IsMarkedByWeight w) found (c ∷ []) h.marks (m, tt));
 }
   where
     poly_of : MarkedPolynomial → Terms
     poly_of d = d.poly
 
-variables_by : (n : ℕ) (bs cs : List MarkedPolynomial) → polys cs ≡ polys bs → HaveVariables n bs → HaveVariables n cs
-variables_by n bs [] e v = tt
+variables_by : (n : ℕ) (set : List Terms) (cs : List MarkedPolynomial) → polys cs ≡ set → All (HasVariables n) set → HaveVariables n cs
+variables_by n set [] e v = tt
 variables_by n [] (c ∷ cs) e v = absurd (cc)
-variables_by n (b ∷ bs) (c ∷ cs) e v = (subst (HasVariables n) (sym (first e)) v.0, variables_by n bs cs (rest e) v.1)
+variables_by n (f ∷ set) (c ∷ cs) e v = (subst (HasVariables n) (sym (first e)) (All-head (HasVariables n) f set v), variables_by n set cs (rest e) (All-tail (HasVariables n) f set v))
   where
-    first : polys (c ∷ cs) ≡ polys (b ∷ bs) → c.poly ≡ b.poly
+    first : polys (c ∷ cs) ≡ f ∷ set → c.poly ≡ f
     first q = cc
 
-    rest : polys (c ∷ cs) ≡ polys (b ∷ bs) → polys cs ≡ polys bs
+    rest : polys (c ∷ cs) ≡ f ∷ set → polys cs ≡ set
     rest q = cc
 
-pub marked-variables : (n k : ℕ) (w : List ℤ) (bs items found : List MarkedPolynomial) (i : ℕ) → k ≡ n → items ≡ bs → HaveVariables n bs → length items ≤ i → MarkedSoFar w items found i → HaveVariables k found
-marked-variables n k w bs items found i q e v l h = subst (λ (m : ℕ). HaveVariables m found) (sym q) (variables_by n bs found (h.polynomials ∙ ap polys (take_all i items l ∙ e)) v)
+pub marked-variables : (n k : ℕ) (w : List ℤ) (set : List Terms) (found : List MarkedPolynomial) (i : ℕ) → k ≡ n → All (HasVariables n) set → length set ≤ i → MarkedSoFar w set found i → HaveVariables k found
+marked-variables n k w set found i q v l h = subst (λ (m : ℕ). HaveVariables m found) (sym q) (variables_by n set found (h.polynomials ∙ take_all i set l) v)
 
-pub marked-all : (w : List ℤ) (s t : MarkedPolynomials) (items found : List MarkedPolynomial) (k i : ℕ) → k ≡ s.variables → items ≡ s.items → t ≡ record { variables = k; items = found } → length items ≤ i → MarkedSoFar w items found i → AreMarkedByWeight w s t
-marked-all w s t items found k i q e r l h = subst (AreMarkedByWeight w s) (sym r) (record { variables = q; polynomials = h.polynomials ∙ ap polys (take_all i items l ∙ e); marks = h.marks })
+pub marked-all : (w : List ℤ) (set : List Terms) (t : MarkedPolynomials) (found : List MarkedPolynomial) (k i : ℕ) → k ≡ length w → t ≡ record { variables = k; items = found } → length set ≤ i → MarkedSoFar w set found i → AreMarkedByWeight w set t
+marked-all w set t found k i q r l h = subst (AreMarkedByWeight w set) (sym r) (record { variables = q; polynomials = h.polynomials ∙ take_all i set l; marks = h.marks })

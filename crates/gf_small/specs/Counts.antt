@@ -22,7 +22,7 @@ terms_in (b ∷ bs) = length b.poly + terms_in bs
 
 -- what is counted of these sets without vectors
 pub record AreCounts (sets : List MarkedPolynomials) (c : Counts) : Type 0 where
-  pub greatest_degree : c.greatest_degree ≡ greatest (map degree_of_set sets)
-  pub least_degree : c.least_degree ≡ least (map degree_of_set sets)
-  pub most_polynomials : c.most_polynomials ≡ greatest (map (λ t. length t.items) sets)
-  pub most_terms : c.most_terms ≡ greatest (map (λ t. terms_in t.items) sets)
+  pub max_degree : c.max_degree ≡ greatest (map degree_of_set sets)
+  pub min_degree : c.min_degree ≡ least (map degree_of_set sets)
+  pub max_polynomials : c.max_polynomials ≡ greatest (map (λ t. length t.items) sets)
+  pub max_terms : c.max_terms ≡ greatest (map (λ t. terms_in t.items) sets)

@@ -9,8 +9,8 @@ use Rattle.gf_poly.specs.Polynomial.{Terms, SamePolynomial, IsDescending, HasVar
 use Rattle.gf_poly.specs.Marking.{MarkedPolynomial}
 use Rattle.gf_text.specs.declared.written.Written.{Written}
 use Rattle.gf_text.specs.declared.written.Written.TheVariants as written
-use Rattle.gf_small.specs.declared.homogenization.HomogenizeError.{HomogenizeError}
-use Rattle.gf_small.specs.declared.homogenization.HomogenizeError.TheVariants as errors
+use Rattle.gf_small.specs.declared.homogenization.SmallError.{SmallError}
+use Rattle.gf_small.specs.declared.homogenization.SmallError.TheVariants as errors
 use Rattle.gf_small.specs.Degrees.{total_degree}
 
 -- ---- of a polynomial of total degree d
@@ -88,15 +88,15 @@ pub record IsFirstOverflow (fs : List Written) (o : ExponentOverflow) : Type 0 w
 
 -- why polynomials in n variables aren't homogenised: there would be more than 16 variables; or there is room, and a new
 -- exponent passes the limit; or there is no memory
-abbrev pub IsHomogenizeCause : ℕ → List Written → HomogenizeError → Type 0
-IsHomogenizeCause n fs (errors.TooManyVariables count) = (16 < n + 1) × (count ≡ n + 1)
+abbrev pub IsHomogenizeCause : ℕ → List Written → SmallError → Type 0
 IsHomogenizeCause n fs (errors.Exponent o) = (n < 16) × IsFirstOverflow fs o
+IsHomogenizeCause n fs (errors.TooManyVariables count) = (16 < n + 1) × (count ≡ n + 1)
 IsHomogenizeCause n fs errors.Memory = Unit {0}
 
 -- ---- inside
 
 -- the refusal has an exponent of this kind, or there is no memory
-abbrev pub HasExponent : (ExponentOverflow → Type 0) → HomogenizeError → Type 0
-HasExponent P (errors.TooManyVariables count) = ⊥
+abbrev pub HasExponent : (ExponentOverflow → Type 0) → SmallError → Type 0
 HasExponent P (errors.Exponent o) = P o
+HasExponent P (errors.TooManyVariables count) = ⊥
 HasExponent P errors.Memory = Unit {0}

@@ -1,9 +1,10 @@
 -- The greatest term by a weight, ties by lex.
 -- Laws: proofs/MarksByWeightLaws.antt.
-use Rattle.std.specs.Prelude.{◌≡◌, ◌⊎◌, List, ℤ, ◌<ℤ◌, Contains}
+use Rattle.std.specs.Prelude.{◌≡◌, ◌⊎◌, List, ℤ, ◌<ℤ◌, length, Contains}
 use Rattle.gf_exponents.specs.Exponents.{Exponents, whole_weight}
 use Rattle.gf_exponents.specs.Orders.{IsLexBelow}
 use Rattle.gf_poly.specs.declared.Term.{Term}
+use Rattle.gf_poly.specs.Polynomial.{Terms}
 use Rattle.gf_poly.specs.Marking.{MarkedPolynomial, MarkedPolynomials, HasMarkedTerm, Each, polys}
 
 -- x is below y by the weight w: it weighs less, or as much and lex says so
@@ -15,8 +16,8 @@ pub record IsMarkedByWeight (w : List ℤ) (b : MarkedPolynomial) : Type 0 where
   pub marked : HasMarkedTerm b
   pub others : (t : Term) → Contains b.poly t → (t.mono ≡ b.head) ⊎ IsBelowBy w t.mono b.head
 
--- t has the polynomials of s in their order, each marked at its greatest term by the weight w
-pub record AreMarkedByWeight (w : List ℤ) (s t : MarkedPolynomials) : Type 0 where
-  pub variables : t.variables ≡ s.variables
-  pub polynomials : polys t.items ≡ polys s.items
+-- t has these polynomials in their order, each marked at its greatest term by the weight w
+pub record AreMarkedByWeight (w : List ℤ) (set : List Terms) (t : MarkedPolynomials) : Type 0 where
+  pub variables : t.variables ≡ length w
+  pub polynomials : polys t.items ≡ set
   pub marks : Each (IsMarkedByWeight w) t.items

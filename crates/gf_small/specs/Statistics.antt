@@ -20,10 +20,10 @@ pub record AreStatistics (n : ℕ) (sets : List MarkedPolynomials) (s : Stats) :
   pub bases : s.bases ≡ length sets
   pub variables : s.variables ≡ n
   pub homogeneity : HasDimension n (members_of sets) s.homogeneity
-  pub greatest_degree : s.greatest_degree ≡ greatest (map degree_of_set sets)
-  pub least_degree : s.least_degree ≡ least (map degree_of_set sets)
-  pub most_polynomials : s.most_polynomials ≡ greatest (map (λ t. length t.items) sets)
-  pub most_terms : s.most_terms ≡ greatest (map (λ t. terms_in t.items) sets)
+  pub max_degree : s.max_degree ≡ greatest (map degree_of_set sets)
+  pub min_degree : s.min_degree ≡ least (map degree_of_set sets)
+  pub max_polynomials : s.max_polynomials ≡ greatest (map (λ t. length t.items) sets)
+  pub max_terms : s.max_terms ≡ greatest (map (λ t. terms_in t.items) sets)
 
 -- each set has n variables
 abbrev pub AreSetsIn : ℕ → List MarkedPolynomials → Type 0

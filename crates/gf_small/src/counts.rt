@@ -12,26 +12,26 @@ pub struct Stats {
     /// How many sets there are.
     pub bases: u64,
     /// How many variables.
-    pub variables: u32,
+    pub variables: u64,
     /// The dimension of the space of vectors by which each polynomial of each set is homogeneous.
-    pub homogeneity: u32,
+    pub homogeneity: u64,
     /// The greatest total degree of a polynomial; 0 where there is none.
-    pub greatest_degree: u64,
+    pub max_degree: u64,
     /// The least total degree of a set, which is that of its polynomial of greatest degree; 0 where there is none.
-    pub least_degree: u64,
+    pub min_degree: u64,
     /// How many polynomials the set with most of them has; 0 where there is none.
-    pub most_polynomials: u64,
+    pub max_polynomials: u64,
     /// How many terms the set with most of them has, those of its polynomials together; 0 where there is none.
-    pub most_terms: u128,
+    pub max_terms: u128,
 }
 
 /// The counts of sets that need no vectors.
 #[derive(Clone, Copy, Debug, PartialEq, Eq)]
 pub(crate) struct Counts {
-    pub(crate) greatest_degree: u64,
-    pub(crate) least_degree: u64,
-    pub(crate) most_polynomials: u64,
-    pub(crate) most_terms: u128,
+    pub(crate) max_degree: u64,
+    pub(crate) min_degree: u64,
+    pub(crate) max_polynomials: u64,
+    pub(crate) max_terms: u128,
 }
 
 /// The total degree of a set.
@@ -65,22 +65,22 @@ fn terms_of_set(items: &[Marked]) -> u128
 
 /// The counts with those of one more set.
 fn with_set(counts: &Counts, is_first: bool, set: &MarkedSet) -> Counts
-    ensures greatest_degree { result.greatest_degree ≡ max counts.now.greatest_degree (set_degree_of set.now) }
-    ensures least_degree { result.least_degree ≡ (if is_first then set_degree_of set.now else min counts.now.least_degree (set_degree_of set.now)) }
-    ensures most_polynomials { result.most_polynomials ≡ max counts.now.most_polynomials (length set.now.items) }
-    ensures most_terms { result.most_terms ≡ max counts.now.most_terms (terms_in set.now.items) }
+    ensures max_degree { result.max_degree ≡ max counts.now.max_degree (set_degree_of set.now) }
+    ensures min_degree { result.min_degree ≡ (if is_first then set_degree_of set.now else min counts.now.min_degree (set_degree_of set.now)) }
+    ensures max_polynomials { result.max_polynomials ≡ max counts.now.max_polynomials (length set.now.items) }
+    ensures max_terms { result.max_terms ≡ max counts.now.max_terms (terms_in set.now.items) }
 {
     let items = set.items();
     let degree = degree_of_set(items);
     Counts {
-        greatest_degree: counts.greatest_degree.max(degree),
-        least_degree: if is_first {
+        max_degree: counts.max_degree.max(degree),
+        min_degree: if is_first {
             degree
         } else {
-            counts.least_degree.min(degree)
+            counts.min_degree.min(degree)
         },
-        most_polynomials: counts.most_polynomials.max(items.len() as u64),
-        most_terms: counts.most_terms.max(terms_of_set(items)),
+        max_polynomials: counts.max_polynomials.max(items.len() as u64),
+        max_terms: counts.max_terms.max(terms_of_set(items)),
     }
 }
 
@@ -89,10 +89,10 @@ pub(crate) fn counts_of(sets: &[MarkedSet]) -> Counts
     ensures { AreCounts sets.now result }
 {
     let mut counts = Counts {
-        greatest_degree: 0,
-        least_degree: 0,
-        most_polynomials: 0,
-        most_terms: 0,
+        max_degree: 0,
+        min_degree: 0,
+        max_polynomials: 0,
+        max_terms: 0,
     };
     'sets: for i in 0..sets.len() {
         counts = with_set(&counts, i == 0, &sets[i]);

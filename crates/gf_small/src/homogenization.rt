@@ -5,7 +5,7 @@ ghost use Rattle.gf_poly.specs.Polynomial.{HasVariables, IsDescending, KeepsVari
 ghost use Rattle.gf_poly.specs.Collecting.{like};
 ghost use Rattle.gf_text.specs.RingText.{is_name, has};
 ghost use Rattle.gf_text.specs.Sets.{IsIn, AreIn};
-ghost use Rattle.gf_small.specs.declared.homogenization.HomogenizeError.TheVariants.{Memory};
+ghost use Rattle.gf_small.specs.declared.homogenization.SmallError.TheVariants.{Memory};
 ghost use Rattle.gf_small.specs.Degrees.{total_degree as degree_of};
 ghost use Rattle.gf_small.specs.Homogenization.{new_exponent as exponent_of, filled_term as term_of, ExponentsFit, IsWithinLimit, IsPastLimit, IsFirstPastLimit, IsPastLimitIn, IsFirstOverflow, IsMarkedHomogenization, IsWrittenHomogenization, AreHomogenizations, IsHomogenizeCause, HasExponent};
 
@@ -18,51 +18,44 @@ use std::alloc::{AllocError, AllocFailed, Global};
 /// The greatest exponent.
 const MOST: u64 = (1 << 31) - 1;
 
-/// Homogenised polynomials, and their ring.
-#[derive(Drop)]
-pub struct Homogenized {
-    pub ring: Ring,
-    pub set: Vec<Written>,
-}
-
 /// Why polynomials aren't homogenised.
 #[derive(Clone, Copy, Debug, PartialEq, Eq)]
-pub enum HomogenizeError {
-    /// There would be so many variables, more than 16.
-    TooManyVariables { count: u64 },
+pub enum SmallError {
     /// An exponent of the new variable passes `2^31 - 1`: this limit, and what the exponent is more.
     Exponent(ExponentOverflow),
+    /// There would be so many variables, more than 16.
+    TooManyVariables { count: u64 },
     /// There is no memory.
     Memory,
 }
 
-impl From<ExponentOverflow> for HomogenizeError {
-    ghost use Rattle.gf_small.specs.declared.homogenization.HomogenizeError.TheVariants as errors;
+impl From<ExponentOverflow> for SmallError {
+    ghost use Rattle.gf_small.specs.declared.homogenization.SmallError.TheVariants as errors;
 
     ghost from_gives = { λ o e. e ≡ errors.Exponent o };
 
-    fn from(overflow: ExponentOverflow) -> HomogenizeError {
-        HomogenizeError::Exponent(overflow)
+    fn from(overflow: ExponentOverflow) -> SmallError {
+        SmallError::Exponent(overflow)
     }
 }
 
-impl From<AllocError> for HomogenizeError {
-    ghost use Rattle.gf_small.specs.declared.homogenization.HomogenizeError.TheVariants as errors;
+impl From<AllocError> for SmallError {
+    ghost use Rattle.gf_small.specs.declared.homogenization.SmallError.TheVariants as errors;
 
     ghost from_gives = { λ _ e. e ≡ errors.Memory };
 
-    fn from(_: AllocError) -> HomogenizeError {
-        HomogenizeError::Memory
+    fn from(_: AllocError) -> SmallError {
+        SmallError::Memory
     }
 }
 
-impl<T: Drop> From<AllocFailed<T>> for HomogenizeError {
-    ghost use Rattle.gf_small.specs.declared.homogenization.HomogenizeError.TheVariants as errors;
+impl<T: Drop> From<AllocFailed<T>> for SmallError {
+    ghost use Rattle.gf_small.specs.declared.homogenization.SmallError.TheVariants as errors;
 
     ghost from_gives = { λ _ e. e ≡ errors.Memory };
 
-    fn from(_: AllocFailed<T>) -> HomogenizeError {
-        HomogenizeError::Memory
+    fn from(_: AllocFailed<T>) -> SmallError {
+        SmallError::Memory
     }
 }
 
@@ -114,7 +107,7 @@ fn filled_term(alloc: Global, d: u64, t: &Term) -> Result<Term, ExponentOverflow
 }
 
 /// The terms filled up to the degree `d`, in their order.
-fn filled_terms(alloc: Global, d: u64, terms: &[Term]) -> Result<Vec<Term>, HomogenizeError>
+fn filled_terms(alloc: Global, d: u64, terms: &[Term]) -> Result<Vec<Term>, SmallError>
     requires room { (n : ℕ) × ((n < ROOM) × HasVariables n terms.now) }
     requires below { degree_of terms.now ≤ d }
     ensures value { IfOk result (λ all. all.items ≡ map (term_of d) terms.now) }
@@ -145,7 +138,7 @@ fn sum_of(terms: Vec<Term>) -> Result<Poly, AllocError>
 }
 
 /// The homogenisation of a marked polynomial, marked at what becomes of the marked term.
-fn marked_homogenization(alloc: Global, b: &Marked) -> Result<Marked, HomogenizeError>
+fn marked_homogenization(alloc: Global, b: &Marked) -> Result<Marked, SmallError>
     requires { (n : ℕ) × ((n < ROOM) × HasVariables n b.now.poly) }
     ensures value { IfOk result (IsMarkedHomogenization b.now) }
     ensures fits { IfOk result (λ _. ExponentsFit (degree_of b.now.poly) b.now.poly) }
@@ -160,7 +153,7 @@ fn marked_homogenization(alloc: Global, b: &Marked) -> Result<Marked, Homogenize
 }
 
 /// That of a polynomial that may be zero.
-fn written_homogenization(alloc: Global, f: &Written) -> Result<Written, HomogenizeError>
+fn written_homogenization(alloc: Global, f: &Written) -> Result<Written, SmallError>
     requires { (n : ℕ) × ((n < ROOM) × IsIn n f.now) }
     ensures value { IfOk result (IsWrittenHomogenization f.now) }
     ensures fits { IfOk result (λ _. IsWithinLimit f.now) }
@@ -176,7 +169,7 @@ fn written_homogenization(alloc: Global, f: &Written) -> Result<Written, Homogen
 }
 
 /// Those of polynomials in `n` variables, in their order.
-fn homogenizations(alloc: Global, n: u32, set: &[Written]) -> Result<Vec<Written>, HomogenizeError>
+fn homogenizations(alloc: Global, n: u32, set: &[Written]) -> Result<Vec<Written>, SmallError>
     requires room { n < ROOM }
     requires variables { AreIn n set.now }
     ensures value { IfOk result (λ all. AreHomogenizations set.now all.items) }
@@ -193,9 +186,9 @@ fn homogenizations(alloc: Global, n: u32, set: &[Written]) -> Result<Vec<Written
     Ok(all)
 }
 
-/// Polynomials of a ring, each homogenised to its total degree by a new variable of this name, which comes last in the new ring: each
-/// term times that power of the variable that its degree is less. What becomes of the marked term is marked. Zero stays zero. The name
-/// is none of the ring's (Cox, Little, O'Shea, *Ideals, Varieties, and Algorithms*, 8.2).
+/// The ring with a new variable of this name as its last one, and polynomials of the ring, each homogenised to its total degree by that
+/// variable: each term times that power of it that its degree is less. What becomes of the marked term is marked. Zero stays zero. The
+/// name is none of the ring's (Cox, Little, O'Shea, *Ideals, Varieties, and Algorithms*, 8.2).
 ///
 /// # Errors
 ///
@@ -207,13 +200,13 @@ pub fn homogenize(
     ring: &Ring,
     set: &[Written],
     name: &[u8],
-) -> Result<Homogenized, HomogenizeError>
+) -> Result<(Ring, Vec<Written>), SmallError>
     requires named { is_name name.now ≡ true }
     requires new { has ring.now name.now ≡ false }
     requires variables { AreIn (length ring.now) set.now }
-    ensures ring { IfOk result (λ h. h.ring ≡ ring.now ++ name.now ∷ []) }
-    ensures set { IfOk result (λ h. AreHomogenizations set.now h.set.items) }
-    ensures variables { IfOk result (λ h. AreIn (length h.ring) h.set.items) }
+    ensures ring { IfOk result (λ h. h.0 ≡ ring.now ++ name.now ∷ []) }
+    ensures set { IfOk result (λ h. AreHomogenizations set.now h.1.items) }
+    ensures variables { IfOk result (λ h. AreIn (length h.0) h.1.items) }
     ensures room { IfOk result (λ _. length ring.now < 16) }
     ensures fits { IfOk result (λ _. All IsWithinLimit set.now) }
     ensures cause { IfErr result (IsHomogenizeCause (length ring.now) set.now) }
@@ -221,9 +214,9 @@ pub fn homogenize(
 {
     let n = ring.len();
     if n == 16 {
-        return Err(HomogenizeError::TooManyVariables { count: 17 });
+        return Err(SmallError::TooManyVariables { count: 17 });
     }
     let set = homogenizations(alloc, n, set)?;
     let ring = ring.extended(alloc, name)?;
-    Ok(Homogenized { ring, set })
+    Ok((ring, set))
 }

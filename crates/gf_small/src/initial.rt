@@ -57,8 +57,8 @@ fn written_form(f: &Written, weight: &IntVec) -> Result<Written, AllocError>
     }
 }
 
-/// The initial form of each polynomial by the weight, in their order: the sum of its terms of greatest weight. It keeps the marked
-/// term where it has it; else its deglex greatest term is marked. That of zero is zero. The weight has an entry for each variable,
+/// The initial form of each polynomial by the vector, in their order: the sum of its terms of greatest weight by it. It keeps the marked
+/// term where it has it; else its deglex greatest term is marked. That of zero is zero. The vector has an entry for each variable,
 /// within `2^63` in absolute value, and may be negative.
 ///
 /// # Errors
@@ -67,16 +67,16 @@ fn written_form(f: &Written, weight: &IntVec) -> Result<Written, AllocError>
 pub fn initial_forms(
     alloc: Global,
     set: &[Written],
-    weight: &IntVec,
+    vector: &IntVec,
 ) -> Result<Vec<Written>, AllocError>
-    requires bounded { All (λ w. unsigned_abs w ≤ 2 ^ 63) weight.now }
-    requires variables { AreIn (length weight.now) set.now }
-    ensures forms { IfOk result (λ forms. AreInitialForms weight.now set.now forms.items) }
-    ensures variables { IfOk result (λ forms. AreIn (length weight.now) forms.items) }
+    requires bounded { All (λ w. unsigned_abs w ≤ 2 ^ 63) vector.now }
+    requires variables { AreIn (length vector.now) set.now }
+    ensures forms { IfOk result (λ forms. AreInitialForms vector.now set.now forms.items) }
+    ensures variables { IfOk result (λ forms. AreIn (length vector.now) forms.items) }
 {
     let mut forms = Vec::with_capacity(alloc, set.len())?;
     'polynomials: for f in set {
-        let form = written_form(f, weight)?;
+        let form = written_form(f, vector)?;
         forms.push(form)?;
     }
     Ok(forms)

@@ -12,7 +12,7 @@ mod statistics;
 mod unions;
 
 pub use counts::Stats;
-pub use homogenization::{HomogenizeError, Homogenized, homogenize};
+pub use homogenization::{SmallError, homogenize};
 pub use initial::initial_forms;
 pub use leading::leading_terms;
 pub use marks::mark_set;

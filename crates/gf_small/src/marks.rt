@@ -1,12 +1,12 @@
 //! Marks by a weight.
-ghost use Rattle.std.specs.Prelude.{◌≡◌, ◌≤◌, ◌<◌, ◌^◌, ◌⊎◌, All, IfOk, length, unsigned_abs, Contains, true, false, ◌<ℤ◌};
+ghost use Rattle.std.specs.Prelude.{◌≡◌, ◌≢◌, ◌≤◌, ◌<◌, ◌^◌, ◌⊎◌, [], All, IfOk, length, unsigned_abs, Contains, true, false, ◌<ℤ◌};
 ghost use Rattle.gf_exponents.specs.Orders.{IsLexBelow};
 ghost use Rattle.gf_poly.specs.declared.Term.{Term as AnyTerm};
 ghost use Rattle.gf_poly.specs.Polynomial.{HasVariables};
 ghost use Rattle.gf_poly.specs.Marking.{head_of};
 ghost use Rattle.gf_small.specs.MarksByWeight.{IsBelowBy, IsMarkedByWeight, AreMarkedByWeight};
 
-use gf_poly::{Marked, MarkedSet, Term};
+use gf_poly::{Marked, MarkedSet, Poly, Term};
 use gf_vec::{IntVec, weight_of};
 use std::alloc::{AllocError, Global};
 use std::cmp::Ordering;
@@ -27,16 +27,16 @@ fn is_above(weight: i128, x: &[u32], other: i128, y: &[u32]) -> bool
     }
 }
 
-/// The place of the greatest term by the weight, looked for from one of the places on.
-fn greatest_place(terms: &[Term], from: usize, weight: &[i128]) -> usize
-    requires inside { from < length terms.now }
+/// The place of the greatest term by the weight, of one or more terms.
+fn greatest_place(terms: &[Term], weight: &[i128]) -> usize
+    requires some { 0 < length terms.now }
     requires bounded { All (λ w. unsigned_abs w ≤ 2 ^ 63) weight.now }
     requires same_variables { HasVariables (length weight.now) terms.now }
     ensures inside { result < length terms.now }
     ensures others { (t : AnyTerm) → Contains terms.now t → (t.mono ≡ head_of terms.now result) ⊎ IsBelowBy weight.now t.mono (head_of terms.now result) }
 {
-    let mut place = from;
-    let mut greatest = weight_of(weight, terms[from].mono.exponents());
+    let mut place = 0;
+    let mut greatest = weight_of(weight, terms[0].mono.exponents());
     'terms: for i in 0..terms.len() {
         let x = terms[i].mono.exponents();
         let own = weight_of(weight, x);
@@ -49,35 +49,36 @@ fn greatest_place(terms: &[Term], from: usize, weight: &[i128]) -> usize
 }
 
 /// The polynomial marked at its greatest term by the weight.
-fn marked_by(b: &Marked, weight: &[i128]) -> Result<Marked, AllocError>
+fn marked_by(f: &Poly, weight: &[i128]) -> Result<Marked, AllocError>
+    requires some { 0 < length f.now }
     requires bounded { All (λ w. unsigned_abs w ≤ 2 ^ 63) weight.now }
-    requires same_variables { HasVariables (length weight.now) b.now.poly }
-    ensures polynomial { IfOk result (λ c. c.poly ≡ b.now.poly) }
+    requires same_variables { HasVariables (length weight.now) f.now }
+    ensures polynomial { IfOk result (λ c. c.poly ≡ f.now) }
     ensures mark { IfOk result (IsMarkedByWeight weight.now) }
 {
-    let poly = b.poly();
-    let place = greatest_place(poly.terms(), b.index(), weight);
-    let copy = poly.copy()?;
+    let place = greatest_place(f.terms(), weight);
+    let copy = f.copy()?;
     Ok(Marked::mark(copy, place))
 }
 
-/// The polynomials of a set in their order, each marked at its greatest term by the weight, ties by lex. The weight has an entry for
-/// each variable, within `2^63` in absolute value, and may be negative.
+/// The polynomials of a set in their order, each marked at its greatest term by the vector, ties by lex. None is zero. The vector has
+/// an entry for each of their variables, within `2^63` in absolute value, and may be negative.
 ///
 /// # Errors
 ///
 /// Where memory runs out.
-pub fn mark_set(alloc: Global, set: &MarkedSet, weight: &IntVec) -> Result<MarkedSet, AllocError>
-    requires bounded { All (λ w. unsigned_abs w ≤ 2 ^ 63) weight.now }
-    requires entries { length weight.now ≡ set.now.variables }
-    ensures { IfOk result (AreMarkedByWeight weight.now set.now) }
+pub fn mark_set(alloc: Global, set: &[Poly], vector: &IntVec) -> Result<MarkedSet, AllocError>
+    requires some { All (λ f. f ≢ []) set.now }
+    requires variables { All (HasVariables (length vector.now)) set.now }
+    requires bounded { All (λ w. unsigned_abs w ≤ 2 ^ 63) vector.now }
+    requires short { length vector.now < 2 ^ 32 }
+    ensures { IfOk result (AreMarkedByWeight vector.now set.now) }
 {
-    let items = set.items();
-    let weight = weight.as_slice();
-    let mut found = Vec::with_capacity(alloc, items.len())?;
-    'members: for i in 0..items.len() {
-        let b = marked_by(&items[i], weight)?;
+    let weight = vector.as_slice();
+    let mut found = Vec::with_capacity(alloc, set.len())?;
+    'polynomials: for f in set {
+        let b = marked_by(f, weight)?;
         found.push(b)?;
     }
-    Ok(MarkedSet::new(set.variables(), found))
+    Ok(MarkedSet::new(weight.len() as u32, found))
 }

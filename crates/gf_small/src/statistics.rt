@@ -31,7 +31,7 @@ fn all_rows(alloc: Global, n: u32, sets: &[MarkedSet]) -> Result<Vec<IntVec>, Al
 }
 
 /// The dimension of the homogeneity space.
-fn dimension(alloc: Global, n: u32, sets: &[MarkedSet]) -> Result<u32, GordanError>
+fn dimension(alloc: Global, n: u32, sets: &[MarkedSet]) -> Result<u64, GordanError>
     requires { AreSetsIn n sets.now }
     ensures ok { IfOk result (HasDimension n (members_of sets.now)) }
     ensures err { IfErr result (IsStatisticsCause n sets.now) }
@@ -40,7 +40,7 @@ fn dimension(alloc: Global, n: u32, sets: &[MarkedSet]) -> Result<u32, GordanErr
     let rows = all_rows(alloc, n, sets)?;
     let none = Vec::new(alloc);
     let space = Rays::of(alloc, n, none.as_slice(), rows.as_slice())?;
-    Ok(space.lineality().len() as u32)
+    Ok(space.lineality().len() as u64)
 }
 
 /// Statistics of marked sets in `n` variables. The dimension is that of the space of vectors by which each polynomial of each set is
@@ -58,18 +58,18 @@ pub fn stats(alloc: Global, n: u32, sets: &[MarkedSet]) -> Result<Stats, GordanE
 {
     let homogeneity = dimension(alloc, n, sets)?;
     let Counts {
-        greatest_degree,
-        least_degree,
-        most_polynomials,
-        most_terms,
+        max_degree,
+        min_degree,
+        max_polynomials,
+        max_terms,
     } = counts_of(sets);
     Ok(Stats {
         bases: sets.len() as u64,
-        variables: n,
+        variables: u64::from(n),
         homogeneity,
-        greatest_degree,
-        least_degree,
-        most_polynomials,
-        most_terms,
+        max_degree,
+        min_degree,
+        max_polynomials,
+        max_terms,
     })
 }

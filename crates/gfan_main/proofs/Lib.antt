@@ -1,5 +1,6 @@
 pub mod FormLaws  -- the form of what is read fails in one way at most
 pub mod ToolFormLaws  -- the form that the small tools need fails in one way at most
+pub mod PolynomialListLaws  -- the polynomials of a marked set
 pub mod ToolLaws  -- each of the small tools answers in one way
 pub mod BuchbergerLaws  -- what `_buchberger` answers
 pub mod MarkingWeights  -- what an elimination of a marking's system answers

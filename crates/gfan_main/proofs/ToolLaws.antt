@@ -8,7 +8,8 @@ use Rattle.std.proofs.Common.{arith, refl, sym, ap, ◌∙◌, subst, inl, inr, 
 use Rattle.std.proofs.lemmas.List.Elements.{All-head, All-tail}
 use Rattle.gf_poly.specs.declared.Term.{Term}
 use Rattle.gf_poly.specs.declared.monomial.ExponentOverflow.{ExponentOverflow}
-use Rattle.gf_poly.specs.Marking.{MarkedPolynomials}
+use Rattle.gf_poly.specs.Polynomial.{Terms}
+use Rattle.gf_poly.specs.Marking.{MarkedPolynomials, polys}
 use Rattle.gf_text.specs.declared.written.Written.{Written}
 use Rattle.gf_text.specs.declared.written.Written.TheVariants as written
 use Rattle.gf_text.specs.Sets.{AreNonzero}
@@ -17,7 +18,7 @@ use Rattle.gf_gordan.specs.declared.error.GordanError.TheVariants as gordan_erro
 use Rattle.gf_small.specs.MarksByWeight.{AreMarkedByWeight}
 use Rattle.gf_small.specs.Degrees.{total_degree}
 use Rattle.gf_small.specs.InitialForms.{AreInitialForms}
-use Rattle.gf_small.specs.declared.homogenization.HomogenizeError.TheVariants as homogenize_errors
+use Rattle.gf_small.specs.declared.homogenization.SmallError.TheVariants as homogenize_errors
 use Rattle.gf_small.specs.Homogenization.{new_exponent, ExponentsFit, IsWithinLimit, IsPastLimitIn, IsFirstOverflow, AreHomogenizations, IsHomogenizeCause}
 use Rattle.gf_small.specs.declared.counts.Stats.{Stats}
 use Rattle.gf_small.specs.Statistics.{AreStatistics, IsStatisticsCause}
@@ -49,11 +50,11 @@ pub zero_unanswered : (n : ℕ) (ring : List (List ℕ)) (ws : List Written) (w 
 zero_unanswered n ring ws w r e l (inl h) = IsUnanswered.in_form (inr (l ∙ e, inl h))
 zero_unanswered n ring ws w r e l (inr m) = IsUnanswered.no_memory m
 
-pub marked_answered : (n : ℕ) (ring : List (List ℕ)) (ws : List Written) (w : List ℤ) (s t : MarkedPolynomials) (text : List ℕ) → n ≡ length ring → length w ≡ n → AreNonzero ws s.items → s.variables ≡ n → AreMarkedByWeight w s t
+pub marked_answered : (n : ℕ) (ring : List (List ℕ)) (ws : List Written) (w : List ℤ) (s t : MarkedPolynomials) (fs : List Terms) (text : List ℕ) → n ≡ length ring → length w ≡ n → AreNonzero ws s.items → fs ≡ polys s.items → AreMarkedByWeight w fs t
     → IsPrinted ring t text → IsAnswerFor mark_polynomial_set_command (ring, (ws, w)) text
-marked_answered n ring ws w s t text e l a v h p = record {
+marked_answered n ring ws w s t fs text e l a q h p = record {
   formed = (l ∙ e, ((s.items, a), tt));
-  is_answer = record { items = s.items; read = a; set = t; is_marked = record { variables = h.variables ∙ v ∙ e; polynomials = h.polynomials; marks = h.marks }; is_text = p };
+  is_answer = record { items = s.items; read = a; set = t; is_marked = subst (λ (gs : List Terms). AreMarkedByWeight w gs t) q h; is_text = p };
 }
 
 -- ---- tools that are refused for want of memory alone

@@ -1,6 +1,6 @@
 -- `_markpolynomialset`: what it reads and writes, and why it doesn't.
 use Rattle.std.specs.Prelude.{◌≡◌, ℕ, List, [], ◌∷◌, length, ℤ}
-use Rattle.gf_poly.specs.Marking.{MarkedPolynomial, MarkedPolynomials}
+use Rattle.gf_poly.specs.Marking.{MarkedPolynomial, MarkedPolynomials, polys}
 use Rattle.gf_text.specs.declared.written.Written.{Written}
 use Rattle.gf_text.specs.Sets.{AreNonzero}
 use Rattle.gf_small.specs.MarksByWeight.{AreMarkedByWeight}
@@ -15,7 +15,7 @@ pub record IsMarkedByText (ring : List (List ℕ)) (ws : List Written) (vector :
   pub items : List MarkedPolynomial
   pub read : AreNonzero ws items
   pub set : MarkedPolynomials
-  pub is_marked : AreMarkedByWeight vector (record { variables = length ring; items = items }) set
+  pub is_marked : AreMarkedByWeight vector (polys items) set
   pub is_text : IsPrinted ring set text
 
 abbrev pub mark_polynomial_set_command : Command

@@ -23,10 +23,10 @@ stats_text s = concat (
     count_line (codes "Number of reduced Groebner bases: ") s.bases
     ∷ count_line (codes "Number of variables: ") s.variables
     ∷ count_line (codes "Dimension of homogeneity space: ") s.homogeneity
-    ∷ count_line (codes "Maximal total degree of a polynomial: ") s.greatest_degree
-    ∷ count_line (codes "Minimal total degree of a basis: ") s.least_degree
-    ∷ count_line (codes "Maximal number of polynomials in a basis: ") s.most_polynomials
-    ∷ count_line (codes "Maximal number of terms in a basis: ") s.most_terms
+    ∷ count_line (codes "Maximal total degree of a polynomial: ") s.max_degree
+    ∷ count_line (codes "Minimal total degree of a basis: ") s.min_degree
+    ∷ count_line (codes "Maximal number of polynomials in a basis: ") s.max_polynomials
+    ∷ count_line (codes "Maximal number of terms in a basis: ") s.max_terms
     ∷ [])
 
 -- the statistics of the sets in n variables, in seven lines

@@ -10,7 +10,7 @@ use crate::printing::printed_set;
 use crate::refused::Refused;
 use gf_front::Refusal;
 use gf_items::{RingSetAndName, ring_set_and_name};
-use gf_small::HomogenizeError;
+use gf_small::SmallError;
 use gf_text::{Ring, Written};
 use std::alloc::Global;
 
@@ -23,15 +23,15 @@ fn text_of(alloc: Global, ring: &Ring, set: &[Written], name: &[u8]) -> Result<V
     ensures err { IfErr result (IsUnanswered homogenize_command (ring.now, (set.now, name.now))) }
     ensures told { IfErr result (IsNamedBy None) }
 {
-    let found = match gf_small::homogenize(alloc, ring, set, name) {
+    let (wider, forms) = match gf_small::homogenize(alloc, ring, set, name) {
         Ok(found) => found,
-        Err(HomogenizeError::TooManyVariables { count }) => {
+        Err(SmallError::Exponent(o)) => return Err(Refusal::ExponentOverflow(o)),
+        Err(SmallError::TooManyVariables { count }) => {
             return Err(Refusal::TooManyVariables { count });
         }
-        Err(HomogenizeError::Exponent(o)) => return Err(Refusal::ExponentOverflow(o)),
-        Err(HomogenizeError::Memory) => return Err(Refusal::Memory),
+        Err(SmallError::Memory) => return Err(Refusal::Memory),
     };
-    let text = printed_set(alloc, &found.ring, &found.set)?;
+    let text = printed_set(alloc, &wider, &forms)?;
     Ok(text)
 }
 

@@ -1,5 +1,7 @@
 // What `_markpolynomialset` writes for an input.
-ghost use Rattle.std.specs.Prelude.{◌≡◌, length, None, IfOk, IfErr};
+ghost use Rattle.std.specs.Prelude.{◌≡◌, ◌≢◌, [], All, length, None, IfOk, IfErr};
+ghost use Rattle.gf_poly.specs.Polynomial.{HasVariables};
+ghost use Rattle.gf_poly.specs.Marking.{polys};
 ghost use Rattle.gf_text.specs.Sets.{AreIn};
 ghost use Rattle.gf_text.specs.Vectors.{AreEntriesWithin};
 ghost use Rattle.gf_items.specs.Commands.{IsAnswerFor, IsUnanswered, IsAnswered, IsCommandRefused};
@@ -11,10 +13,27 @@ use crate::printing::printed;
 use crate::refused::Refused;
 use gf_front::Refusal;
 use gf_items::{RingSetAndVector, ring_set_and_vector};
+use gf_poly::{MarkedSet, Poly};
 use gf_small::mark_set;
 use gf_text::{Ring, Written};
 use gf_vec::IntVec;
-use std::alloc::Global;
+use std::alloc::{AllocError, Global};
+
+// The polynomials of a set, without their marks. None is zero, since each has a marked term.
+fn polynomials(alloc: Global, set: &MarkedSet) -> Result<Vec<Poly>, AllocError>
+    ensures value { IfOk result (λ fs. fs.items ≡ polys set.now.items) }
+    ensures some { IfOk result (λ fs. All (λ f. f ≢ []) fs.items) }
+    ensures variables { IfOk result (λ fs. All (HasVariables set.now.variables) fs.items) }
+{
+    let items = set.items();
+    let mut found = Vec::with_capacity(alloc, items.len())?;
+    'members: for b in items {
+        let _ = b.head();
+        let f = b.poly().copy()?;
+        found.push(f)?;
+    }
+    Ok(found)
+}
 
 // What is written for what is read.
 fn text_of(
@@ -32,7 +51,8 @@ fn text_of(
     let n = ring.len();
     check_entries(n, vector)?;
     let read = nonzero(alloc, n, set)?;
-    let marked = mark_set(alloc, &read, vector)?;
+    let list = polynomials(alloc, &read)?;
+    let marked = mark_set(alloc, &list, vector)?;
     let text = printed(alloc, ring, &marked)?;
     Ok(text)
 }

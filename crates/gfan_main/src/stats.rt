@@ -44,22 +44,22 @@ fn printed_stats(alloc: Global, stats: &Stats) -> Result<Vec<u8>, AllocError>
     push_line(
         &mut text,
         "Maximal total degree of a polynomial: ",
-        u128::from(stats.greatest_degree),
+        u128::from(stats.max_degree),
     )?;
     push_line(
         &mut text,
         "Minimal total degree of a basis: ",
-        u128::from(stats.least_degree),
+        u128::from(stats.min_degree),
     )?;
     push_line(
         &mut text,
         "Maximal number of polynomials in a basis: ",
-        u128::from(stats.most_polynomials),
+        u128::from(stats.max_polynomials),
     )?;
     push_line(
         &mut text,
         "Maximal number of terms in a basis: ",
-        stats.most_terms,
+        stats.max_terms,
     )?;
     Ok(text)
 }

@@ -40,14 +40,14 @@ pub weight_of-own-requires-clause-short : goal.weight_of-own-requires-clause-sho
 weight_of-own-requires-clause-short c = omega (arith, c.exponents-x.ensures.valid.room, ap length c.exponents-x.ensures.value, width_at _ _ c.terms.i c.index-terms-i.result c.exponents-x.result.now c.terms-test.true c.index-terms-i.is c.exponents-x.ensures.value c.requires.same_variables)
 
 pub weight_of-greatest-requires-clause-entries : goal.weight_of-greatest-requires-clause-entries
-weight_of-greatest-requires-clause-entries c = width_at _ _ c.args.from c.index-terms-from.result c.exponents.result.now c.requires.inside c.index-terms-from.is c.exponents.ensures.value c.requires.same_variables
+weight_of-greatest-requires-clause-entries c = width_at _ _ 0 c.index-terms-0.result c.exponents.result.now c.requires.some c.index-terms-0.is c.exponents.ensures.value c.requires.same_variables
 
 pub weight_of-greatest-requires-clause-short : goal.weight_of-greatest-requires-clause-short
-weight_of-greatest-requires-clause-short c = omega (arith, c.exponents.ensures.valid.room, ap length c.exponents.ensures.value, width_at _ _ c.args.from c.index-terms-from.result c.exponents.result.now c.requires.inside c.index-terms-from.is c.exponents.ensures.value c.requires.same_variables)
+weight_of-greatest-requires-clause-short c = omega (arith, c.exponents.ensures.valid.room, ap length c.exponents.ensures.value, width_at _ _ 0 c.index-terms-0.result c.exponents.result.now c.requires.some c.index-terms-0.is c.exponents.ensures.value c.requires.same_variables)
 
 pub terms-init : goal.terms-init
 terms-init c =
     let fits : FitsSigned w128 c.weight_of-greatest.result = search rules in
-    let x : c.exponents.result.now ≡ c.index-terms-from.result.mono = exponents_at c.args.terms.now c.args.from c.index-terms-from.result c.exponents.result.now c.index-terms-from.is c.exponents.ensures.value in
-    Greatest-start c.args.weight.now c.args.terms.now c.args.from c.index-terms-from.result (to_z w128 (of_z w128 c.weight_of-greatest.result)) c.requires.inside c.index-terms-from.is
+    let x : c.exponents.result.now ≡ c.index-terms-0.result.mono = exponents_at c.args.terms.now 0 c.index-terms-0.result c.exponents.result.now c.index-terms-0.is c.exponents.ensures.value in
+    Greatest-start c.args.weight.now c.args.terms.now 0 c.index-terms-0.result (to_z w128 (of_z w128 c.weight_of-greatest.result)) c.requires.some c.index-terms-0.is
     (to_z-of_z w128 c.weight_of-greatest.result fits ∙ subst (λ (z : Exponents). c.weight_of-greatest.result ≡ whole_weight c.args.weight.now z) x c.weight_of-greatest.ensures.value)

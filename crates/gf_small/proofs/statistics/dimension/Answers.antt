@@ -1,7 +1,6 @@
-use Rattle.std.proofs.Common.{◌≡◌, ◌≤◌, ◌∙◌, List, [], ℤ, ℕ, length, arith, sym, ap, subst}
+use Rattle.std.proofs.Common.{◌≡◌, ◌∙◌, List, [], ℤ, length, sym, ap, subst}
 use Rattle.std.proofs.lemmas.Result.{err_from_is_err_and}
 use Rattle.gf_duality.specs.Rays.{IsRays}
-use Rattle.gf_duality.proofs.Implied.{echelon_long}
 use Rattle.gf_facets.specs.Rows.{rows_of}
 use Rattle.gf_rays.specs.Cones.{AreRaysWithinLimits}
 use Rattle.gf_small.specs.Statistics.{members_of}
@@ -15,13 +14,6 @@ returns-in_err-space-clause-complete c = λ within.
     let rows : c.as_slice-2.result.now ≡ rows_of (members_of c.args.sets.now) = c.as_slice-2.ensures.value ∙ c.in_ok-rows.ensures.value in
     let limits : AreRaysWithinLimits c.args.n c.as_slice.result.now c.as_slice-2.result.now = subst (λ (h : List (List ℤ)). AreRaysWithinLimits c.args.n h c.as_slice-2.result.now) (sym none) (subst (AreRaysWithinLimits c.args.n []) (sym rows) within) in
     rw (p.1, p.2) (c.in_err-space.ensures.complete limits)
-
-pub overflow_cast-result : goal.overflow_cast-result
-overflow_cast-result c =
-    let rays = c.lineality.ensures.rays in
-    let few : length c.lineality.result.now ≤ c.in_ok-space.space.ambient = echelon_long c.in_ok-space.space.ambient c.lineality.result.now rays.lin_width rays.echelon in
-    let few_in : length c.lineality.result.now ≤ c.args.n = subst (λ (k : ℕ). length c.lineality.result.now ≤ k) c.in_ok-space.ensures.rows.0 few in
-    omega (arith, few_in, c.ranges.n.fits)
 
 pub returns-clause-ok : goal.returns-clause-ok
 returns-clause-ok c =
