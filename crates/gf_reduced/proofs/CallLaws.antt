@@ -1,5 +1,5 @@
 -- The checks one after another, as the calls make them: `by` are the monic forms of s, as their set lends them.
--- To cite: forms_by, weight_by, shared_by, few_by, taken, taken_reduced, tested_true, tested_false, refuted, membership_told.
+-- To cite: forms_by, weight_by, shared_by, few_by, taken, taken_reduced, tested, membership_told.
 use Rattle.std.specs.Prelude.{◌≡◌, ◌↔◌, ℕ, ◌<◌, Bool, true, false, List, [], length, map, IsTrue}
 use Rattle.std.proofs.Common.{refl, sym, ap, ◌∙◌, subst}
 use Rattle.std.proofs.lemmas.List.{length-map}
@@ -17,7 +17,9 @@ use Rattle.gf_division.specs.NormalForms.{HasSomeWeight}
 use Rattle.gf_reduced.specs.Forms.{monic_of, monic_set}
 use Rattle.gf_reduced.specs.Markings.{IsMarkedGroebnerBasis, IsBasisOf, IsReducedBasisOf}
 use Rattle.gf_reduced.specs.Terms.{AreReduced}
-use Rattle.gf_reduced.specs.Pairs.{MembersShareVariables, DoAllVanish, IsFirstFailing}
+use Rattle.gf_reduced.specs.Pairs.{MembersShareVariables, DoAllVanish}
+use Rattle.gf_reduced.specs.Criteria.{AreAllPassed, HasFailing}
+use Rattle.gf_reduced.proofs.CriteriaLaws.{passed_groebner}
 use Rattle.gf_reduced.proofs.GroebnerLaws.{polys_variables, some_weight, marked_groebner, failing_refutes, basis_of}
 use Rattle.gf_reduced.proofs.ReducedLaws.{reduced_of}
 
@@ -47,16 +49,15 @@ taken_reduced s forms t by items e q i v m r u h a = reduced_of s t v m (subst (
 
 -- ---- a set is tested
 
-pub tested_true : (s : MarkedPolynomials) (by : List MarkedPolynomial) → by ≡ map monic_of s.items → HaveVariables s.variables s.items → IsRealisable s.variables s.items → DoAllVanish by → IsTrue true ↔ IsMarkedGroebnerBasis s.variables s.items
-tested_true s by q v r h = (λ t. groebner s by q v r h, λ g. refl)
+pub tested : (s : MarkedPolynomials) (by : List MarkedPolynomial) (r : Bool) → by ≡ map monic_of s.items → HaveVariables s.variables s.items → IsRealisable s.variables s.items → (IsTrue r → AreAllPassed by) → (r ≡ false → HasFailing by) → IsTrue r ↔ IsMarkedGroebnerBasis s.variables s.items
+tested s by r q v m passed failing = at r passed failing
+  where
+    given : HasFailing by → IsMarkedGroebnerBasis s.variables s.items → ⊥
+    given f = let g : HasFailing (map monic_of s.items) = subst HasFailing q f in failing_refutes s.variables s.items g.first g.second g.rest v g.remainder g.nonzero
 
-pub tested_false : (s : MarkedPolynomials) (by : List MarkedPolynomial) (i j : ℕ) (t : Terms) → by ≡ map monic_of s.items → HaveVariables s.variables s.items → IsFirstFailing by i j t → IsTrue false ↔ IsMarkedGroebnerBasis s.variables s.items
-tested_false s by i j t q v h =
-    let f : IsFirstFailing (map monic_of s.items) i j t = subst (λ (z : List MarkedPolynomial). IsFirstFailing z i j t) q h in
-    (λ e. absurd (cc), λ g. absurd (failing_refutes s.variables s.items i j t v f.first.remainder f.first.nonzero g))
-
-pub refuted : (s : MarkedPolynomials) → (IsRealisable s.variables s.items → ⊥) → IsTrue false ↔ IsMarkedGroebnerBasis s.variables s.items
-refuted s n = (λ e. absurd (cc), λ g. absurd (n (g.weight, g.positive, g.marks)))
+    at : (z : Bool) → (IsTrue z → AreAllPassed by) → (z ≡ false → HasFailing by) → IsTrue z ↔ IsMarkedGroebnerBasis s.variables s.items
+    at true x y = (λ t. passed_groebner s.variables s.items v m (subst AreAllPassed q (x refl)), λ g. refl)
+    at false x y = (λ e. absurd (cc), λ g. absurd (given (y refl) g))
 
 -- ---- membership
 

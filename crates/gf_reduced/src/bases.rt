@@ -9,6 +9,7 @@ ghost use Rattle.gf_reduced.specs.Terms.{AreReduced};
 ghost use Rattle.gf_reduced.specs.Refusals.{IsTestRefusal, IsBasisRefusal, IsReducedRefusal, IsPairsFault, IsTermsFault, AreChecksWithinLimits};
 ghost use Rattle.gf_reduced.specs.declared.error.CheckError.TheVariants.{Memory};
 
+use crate::criteria::are_all_passed;
 use crate::error::CheckError;
 use crate::forms::monic_forms;
 use crate::pairs::first_failing;
@@ -22,7 +23,8 @@ use std::alloc::Global;
 /// member of the ideal. Marked coefficients may be any.
 ///
 /// Which weight gives the marking makes no difference (Fukuda, Jensen, Thomas, *Computing Gröbner fans*, 2). The test is
-/// Buchberger's criterion.
+/// Buchberger's criterion, without the pairs whose marks are coprime, and those whose least common multiple the mark of a member
+/// before both divides.
 ///
 /// # Errors
 ///
@@ -41,10 +43,8 @@ pub fn is_marked_basis(alloc: Global, marked: &MarkedSet) -> Result<bool, CheckE
         return Ok(false);
     }
     let forms = monic_forms(alloc, marked)?;
-    match first_failing(alloc, forms.items())? {
-        None => Ok(true),
-        Some(_failing) => Ok(false),
-    }
+    let are = are_all_passed(alloc, forms.items())?;
+    Ok(are)
 }
 
 // Refuses a set with a pair whose S-polynomial has another normal form than zero.

@@ -3,6 +3,7 @@
 #![tactic(auto)]
 
 mod bases;
+mod criteria;
 mod error;
 mod forms;
 mod membership;

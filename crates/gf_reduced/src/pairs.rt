@@ -16,8 +16,17 @@ pub(crate) struct FailingPair {
     pub remainder: Poly,
 }
 
-// The normal form of the S-polynomial of two members.
-fn remainder_at(alloc: Global, by: &[Marked], i: usize, j: usize) -> Result<Poly, PolyError>
+/// The normal form of the S-polynomial of two members.
+///
+/// # Errors
+///
+/// `Overflow` and `Exponent` only where two numbers of that S-polynomial, or of a step of its reduction by the members, don't fit.
+pub(crate) fn remainder_at(
+    alloc: Global,
+    by: &[Marked],
+    i: usize,
+    j: usize,
+) -> Result<Poly, PolyError>
     requires marked { HasSomeWeight by.now }
     requires variables { MembersShareVariables by.now }
     requires first { i < length by.now }

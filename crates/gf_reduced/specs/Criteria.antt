@@ -1,0 +1,45 @@
+-- Pairs that need no reduction: by coprime marks, or by a third member that stands before both.
+-- Laws: proofs/CriteriaLaws.antt. Source: Cox, Little, O'Shea, Ideals, Varieties, and Algorithms, 2.9; Becker, Weispfenning,
+-- Gröbner Bases, 5.5 (Buchberger's criteria).
+use Rattle.std.specs.Prelude.{◌≡◌, ◌≢◌, ◌⊎◌, ℕ, ◌<◌, List, [], length}
+use Rattle.gf_exponents.specs.Exponents.{Exponents, Divides, AreCoprime, join}
+use Rattle.gf_poly.specs.Polynomial.{Terms}
+use Rattle.gf_poly.specs.Marking.{MarkedPolynomial}
+use Rattle.gf_ideal.specs.Settled.{IsAt}
+use Rattle.gf_reduced.specs.Pairs.{IsRemainderAt, Vanishes}
+
+-- the mark of a member before the place i divides x
+pub record IsDividedBefore (bs : List MarkedPolynomial) (i : ℕ) (x : Exponents) : Type 0 where
+  pub place : ℕ
+  pub before : place < i
+  pub member : MarkedPolynomial
+  pub at : IsAt bs place member
+  pub divides : Divides member.head x
+
+-- the marks of the members at i and j are coprime, or the mark of a member before i divides the least common multiple of theirs
+pub record IsExcused (bs : List MarkedPolynomial) (i j : ℕ) : Type 0 where
+  pub first : MarkedPolynomial
+  pub second : MarkedPolynomial
+  pub at_first : IsAt bs i first
+  pub at_second : IsAt bs j second
+  pub criterion : AreCoprime first.head second.head ⊎ IsDividedBefore bs i (join first.head second.head)
+
+-- the pair is so, or its S-polynomial has the normal form zero
+abbrev pub IsPassed : List MarkedPolynomial → ℕ → ℕ → Type 0
+IsPassed bs i j = IsExcused bs i j ⊎ Vanishes bs i j
+
+-- so is that of the member at i with each later one
+abbrev pub ArePassedFrom : List MarkedPolynomial → ℕ → Type 0
+ArePassedFrom bs i = (j : ℕ) → i < j → j < length bs → IsPassed bs i j
+
+-- so is that of each two members
+abbrev pub AreAllPassed : List MarkedPolynomial → Type 0
+AreAllPassed bs = (i : ℕ) → i < length bs → ArePassedFrom bs i
+
+-- the S-polynomial of some two members has another normal form than zero
+pub record HasFailing (bs : List MarkedPolynomial) : Type 0 where
+  pub first : ℕ
+  pub second : ℕ
+  pub rest : Terms
+  pub remainder : IsRemainderAt bs first second rest
+  pub nonzero : rest ≢ []
