@@ -6,3 +6,4 @@ pub mod States  -- what holds after each inequality, and at the end
 pub mod FlatRows  -- inequalities by flags: those that are zero on all rays, and those of facets
 pub mod Cones  -- a cone by its rows and by its rays
 pub mod Sums  -- the operations of a sum of vectors
+pub mod Parts  -- the rays on which a row is zero

@@ -13,6 +13,7 @@ mod finish;
 mod flags;
 mod implied;
 mod level;
+mod parts;
 mod prune;
 mod ray;
 mod rays;

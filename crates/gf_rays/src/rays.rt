@@ -1,11 +1,12 @@
 //! A cone by its rows and by its rays.
-ghost use Rattle.std.specs.Prelude.{◌≡◌, ◌+◌, ◌≤◌, ◌<◌, ◌↔◌, [], ℕ, List, ℤ, All, Contains, IfOk, IfErr, IsTrue, length, slice_index_or};
-ghost use Rattle.gf_vec.specs.Vector.{zeros};
+ghost use Rattle.std.specs.Prelude.{◌≡◌, ◌+◌, ◌≤◌, ◌<◌, ◌↔◌, [], ℕ, List, ℤ, pos, All, Contains, IfOk, IfErr, IsTrue, length, slice_index_or};
+ghost use Rattle.gf_vec.specs.Vector.{dot, zeros};
 ghost use Rattle.gf_vec.specs.Steps.{NoneWide, IsFirstWide, IfWide};
 ghost use Rattle.gf_duality.specs.Faces.{AreFacetRows, IsInterior, sum_of};
 ghost use Rattle.gf_rays.specs.Cones.{AreRaysWithinLimits, rows_of};
 ghost use Rattle.gf_gordan.specs.declared.error.GordanError.TheVariants.{Memory};
 ghost use Rattle.gf_rays.specs.Sums.{adding_steps};
+ghost use Rattle.gf_rays.specs.Parts.{zeros_of};
 ghost use Rattle.gf_gordan.specs.Alternative.{AreRows};
 ghost use Rattle.gf_gordan.specs.Steps.{Failed};
 ghost use Rattle.gf_duality.specs.Rays.{IsRays, IsImplied};
@@ -15,6 +16,7 @@ use crate::describe::describe;
 use crate::facets::facet_rows;
 use crate::finish::{copied, finish, vectors};
 use crate::implied::implied;
+use crate::parts::zeros_at;
 use crate::ray::Ray;
 use crate::step::Generators;
 use crate::sum::sum;
@@ -193,5 +195,33 @@ impl Rays {
             self.ambient as usize,
             self.rays.as_slice(),
         )
+    }
+
+    /// Whether the inequality at a place is zero on the ray at a place, both counted from 0.
+    pub fn is_zero(&self, inequality: usize, ray: usize) -> bool
+        requires inequality { inequality < length self.now.inequalities }
+        requires ray { ray < length self.now.rays }
+        ensures { IsTrue result ↔ (dot (slice_index_or self.now.inequalities inequality []) (slice_index_or self.now.rays ray []) ≡ pos 0) }
+    {
+        self.marked[ray].zero.has(inequality)
+    }
+
+    /// The sum of the rays on which the inequality at a place, counted from 0, is zero: a vector inside that face of the cone.
+    ///
+    /// # Errors
+    /// `Wide`: the first sum of an entry of a partial sum and one of the next such ray, from the left, that leaves the range
+    /// from `-(2^127 - 1)` to `2^127 - 1`. `Memory`: want of memory.
+    pub fn interior_at(&self, inequality: usize) -> Result<IntVec, VecError>
+        requires { inequality < length self.now.inequalities }
+        ensures value { let part = zeros_of (slice_index_or self.now.inequalities inequality []) self.now.rays in
+            IfOk result (λ v. v ≡ sum_of self.now.ambient part) }
+        ensures none { let part = zeros_of (slice_index_or self.now.inequalities inequality []) self.now.rays in
+            IfOk result (λ _. NoneWide (adding_steps (zeros self.now.ambient) part)) }
+        ensures wide { let part = zeros_of (slice_index_or self.now.inequalities inequality []) self.now.rays in
+            IfErr result (IfWide (λ e. IsFirstWide e (adding_steps (zeros self.now.ambient) part))) }
+    {
+        let alloc = *self.rays.allocator();
+        let part = zeros_at(alloc, inequality, self.marked.as_slice())?;
+        sum(alloc, self.ambient as usize, part.as_slice())
     }
 }
