@@ -23,13 +23,14 @@ mod vector_reader;
 mod written;
 
 pub use error::{Kind, Syntax, TextError};
-pub use names::Ring;
+pub use names::{DifferentNames, Ring};
 pub use printer::{
     Printer, marked_sets_are_kept, polynomials_are_kept, rings_are_read_again,
     rings_have_one_meaning, sets_are_read_again, sets_are_read_in_one_way, sets_have_one_meaning,
     vectors_are_read_again,
 };
 pub use reader::Reader;
-pub use tokens::Token;
+pub use term_printer::push_number;
+pub use tokens::{Number, Token, number_of, word_from};
 pub use vector_reader::vectors_have_one_meaning;
 pub use written::Written;

@@ -41,7 +41,7 @@ impl Name {
 
 /// Different names, seen as the list of them, in the order in which they were added.
 #[derive(Drop)]
-pub(crate) struct DifferentNames {
+pub struct DifferentNames {
     items: IndexSet<Vec<u8>>,
 }
 
@@ -55,7 +55,7 @@ impl Model for DifferentNames {
 
 impl DifferentNames {
     /// No names.
-    pub(crate) fn new(alloc: Global) -> DifferentNames
+    pub fn new(alloc: Global) -> DifferentNames
         ensures { result ≡ [] }
     {
         DifferentNames {
@@ -64,7 +64,7 @@ impl DifferentNames {
     }
 
     /// Adds a name as the last one, unless it is there already; whether it was new.
-    pub(crate) fn insert(&mut self, alloc: Global, name: &[u8]) -> Result<bool, AllocError>
+    pub fn insert(&mut self, alloc: Global, name: &[u8]) -> Result<bool, AllocError>
         ensures new { IfOk result (λ new. new ≡ not (has self.old name.now)) }
         ensures names { OnOk result (self.new ≡ (if has self.old name.now then self.old else self.old ++ name.now ∷ [])) }
     {

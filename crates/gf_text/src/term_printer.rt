@@ -9,7 +9,7 @@ use itoa::Buffer;
 use std::alloc::AllocError;
 
 /// Adds a number in decimal.
-pub(crate) fn push_number(out: &mut Vec<u8>, n: u128) -> Result<(), AllocError>
+pub fn push_number(out: &mut Vec<u8>, n: u128) -> Result<(), AllocError>
     ensures { OnOk result (out.new.items ≡ out.old.items ++ decimal n) }
 {
     let mut buffer = Buffer::new();

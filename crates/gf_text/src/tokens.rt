@@ -104,7 +104,7 @@ fn ring_more(ring: &Ring, text: &[u8]) -> usize
 
 /// The first token at a place of the source or behind it, and the place behind that token, where names are of any
 /// length.
-pub(crate) fn word_from(source: &[u8], at: usize) -> Option<(usize, usize)>
+pub fn word_from(source: &[u8], at: usize) -> Option<(usize, usize)>
     requires { at ≤ length source.now }
     ensures token { MatchOption result (lexemes word_more source.now at ≡ []) (λ t. lexemes word_more source.now at ≡ lexeme source.now t.0 t.1 ∷ lexemes word_more source.now t.1) }
     ensures within { IfSome result (λ t. (at ≤ t.0) × (t.0 < t.1) × (t.1 ≤ length source.now)) }
@@ -167,7 +167,7 @@ fn is_number(t: &[u8]) -> bool
 }
 
 /// What a token is as a number up to `most`, which is at most `2^127 - 1`.
-pub(crate) fn number_of(t: &[u8], most: u128) -> Number
+pub fn number_of(t: &[u8], most: u128) -> Number
     requires { most ≤ 2 ^ 127 - 1 }
     ensures { IsNumberRead result t.now most }
 {
