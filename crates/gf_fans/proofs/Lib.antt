@@ -5,4 +5,7 @@ pub mod FaceDimension  -- the dimension of a face is one more than that of its f
 pub mod FanLaws  -- where the meets of cones are faces of them, all faces are a fan
 pub mod OwnRows  -- the inequalities that are zero on a face give it
 pub mod SeparatingLaws  -- rows that keep two cones apart
+pub mod Ordered  -- lists that were sorted by a key; ascending numbers
+pub mod PartNumbers  -- faces by the numbers of their rays, and their dimensions
+pub mod HeightLoops  -- loops over parts and numbers, one further
 mod TheoremsHold  -- what functions of this crate name
