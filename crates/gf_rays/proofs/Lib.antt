@@ -1,5 +1,5 @@
 mod CombineLaws  -- vectors that loops write, what a refusal says
-mod EliminateLaws  -- an elimination one column further, the columns of equations
+pub mod EliminateLaws  -- an elimination one column further, the columns of equations
 mod SplitLaws  -- the state after an inequality that is zero on the lineality vectors
 mod FlagLaws  -- flags of words: what is read, one flag more, what two lists share
 mod SplitLoops  -- the loops over rays, one ray further
@@ -12,8 +12,8 @@ mod StepLaws  -- what a refusal says
 mod FinishLaws  -- from the last state to the rays
 mod ImpliedLaws  -- inequalities that are zero on all rays
 mod SumLaws  -- sums of lists of vectors
-mod OrderLaws  -- vectors in lexicographic order: sorted, ascending, each once
+pub mod OrderLaws  -- vectors in lexicographic order: sorted, ascending, each once
 mod FacetLoops  -- rows that a loop takes, one place further
 mod LeastLaws  -- among inequalities with the same flags there is a least one
 mod FacetLaws  -- facet rows by flags
-mod PartLaws  -- the rays on which an inequality is zero
+pub mod PartLaws  -- the rays on which an inequality is zero

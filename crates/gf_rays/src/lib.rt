@@ -23,4 +23,5 @@ mod straight;
 mod sum;
 mod zeros;
 
+pub use facets::listed;
 pub use rays::Rays;
