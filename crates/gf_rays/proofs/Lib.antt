@@ -16,4 +16,4 @@ mod OrderLaws  -- vectors in lexicographic order: sorted, ascending, each once
 mod FacetLoops  -- rows that a loop takes, one place further
 mod LeastLaws  -- among inequalities with the same flags there is a least one
 mod FacetLaws  -- facet rows by flags
-mod PartLaws  -- the rays on which an inequality is zero
+pub mod PartLaws  -- the rays on which an inequality is zero
