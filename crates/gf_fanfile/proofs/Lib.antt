@@ -1,0 +1,10 @@
+pub mod NumbersSame  -- a number is equal to itself
+pub mod LinesLaws  -- lines are found from left to right
+pub mod RowTextLaws  -- the machine of rows reads what the grammar says
+pub mod ConeTextLaws  -- the machine of lists of ray numbers reads what the grammar says
+pub mod NumberTextLaws  -- the machine of a number reads what the grammar says
+pub mod ContentLaws  -- the end of a section stands once among its tokens
+pub mod KindsLaws  -- of which kind a fault is
+pub mod ReadingLaws  -- what a loop over the tokens of a content reads
+pub mod FanTextLaws  -- sections are read as the grammar says, and the first fault is refused
+pub mod SectionsLaws  -- sections are read one after another

@@ -1,0 +1,183 @@
+-- Sections are read one after another, and what is kept of them.
+-- To cite: kind_ambient, kind_rays, kind_lineality, kind_cones; IsReadUpTo, begun, one_more, repeated, faulty, finished. The rest are steps.
+use Rattle.std.proofs.Common.{◌≡◌, ℕ, ℤ, Bool, true, false, ◌||◌, List, [], ◌∷◌, ◌++◌, length, map, bytes_eq, Option, Some, None, Result, Ok, Err, refl, sym, ap, ◌∙◌, subst, append_assoc, append-nil, if◌then◌else◌}
+use Rattle.gf_text.specs.Machine.{Lexeme}
+use Rattle.gf_text.specs.RingText.{has}
+use Rattle.gf_text.specs.declared.error.Cause.TheVariants.{RepeatedName}
+use Rattle.gf_text.proofs.SetTokensLaws.{is_mark}
+use Rattle.gf_fanfile.specs.declared.error.FanFileError.{FanFileError}
+use Rattle.gf_fanfile.specs.declared.sections.Contents.{Contents}
+use Rattle.gf_fanfile.specs.Lines.{Section, Sections, with_name, sections, sections_from, content_from}
+use Rattle.gf_fanfile.specs.Refused.{refused_at}
+use Rattle.gf_fanfile.specs.FanText.{Content, number_to, rows, cones, the_number, the_rows, the_cones, passed, Named, fan_table, kind_in, content_read, then_content, sections_read, text_read, found, ambient_dim, rays_name, lineality_space, maximal_cones}
+use Rattle.gf_fanfile.specs.Found.{IsRefusedSo}
+use Rattle.gf_fanfile.specs.Contents.{no_contents, IsKept, at_ambient, at_rays, at_lineality, at_cones, at_other, number_kept, rows_kept, cones_kept, AreKept, Says}
+use Rattle.gf_fanfile.proofs.ReadingLaws.{is_refused}
+
+abbrev pub names_of : Named → List (List ℕ)
+names_of all = map (λ (h : List ℕ × Content). h.0) all
+
+-- ---- what is found
+
+-- a name that isn't there yet is found where it is added
+new_by : (name : List ℕ) (c h : Content) (n : List ℕ) (names : List (List ℕ)) (x : List ℕ) (later : Option Content) → (has names name ≡ false → later ≡ Some c) → (bytes_eq n name || has names name) ≡ false → name ≡ x → (v : Bool) → bytes_eq n x ≡ v → (if v then Some h else later) ≡ Some c
+new_by name c h n names x later more new same true e =
+    let there : bytes_eq n name ≡ true = ap (bytes_eq n) same ∙ e in
+    let not_there : (true || has names name) ≡ false = ap (λ v. v || has names name) (sym there) ∙ new in
+    cc
+new_by name c h n names x later more new same false e =
+    let there : bytes_eq n name ≡ false = ap (bytes_eq n) same ∙ e in
+    more (ap (λ v. v || has names name) (sym there) ∙ new)
+
+found_new : (name : List ℕ) (c : Content) (done : Named) (x : List ℕ) → has (names_of done) name ≡ false → bytes_eq x name ≡ true → name ≡ x → found x (done ++ (name, c) ∷ []) ≡ Some c
+found_new name c [] x new is same = ap (λ v. if v then Some c else None) (ap (λ n. bytes_eq n x) same ∙ ap (λ n. bytes_eq x n) (sym same) ∙ is)
+found_new name c (h ∷ done) x new is same = new_by name c h.1 h.0 (names_of done) x (found x (done ++ (name, c) ∷ [])) (λ none. found_new name c done x none is same) new same (bytes_eq h.0 x) refl
+
+-- other names are found as before
+found_other : (name : List ℕ) (c : Content) (done : Named) (x : List ℕ) → bytes_eq name x ≡ false → found x (done ++ (name, c) ∷ []) ≡ found x done
+found_other name c [] x other = ap (λ v. if v then Some c else None) other
+found_other name c (h ∷ done) x other = ap (λ l. if bytes_eq h.0 x then Some h.1 else l) (found_other name c done x other)
+
+module _ (done : Named) (name : List ℕ) (b a : Contents) (kept : AreKept done b) (new : has (names_of done) name ≡ false) where
+  other_at : (x y : List ℕ) (c : Content) → name ≡ y → bytes_eq y x ≡ false → found x (done ++ (name, c) ∷ []) ≡ found x done
+  other_at x y c is other = found_other name c done x (ap (λ n. bytes_eq n x) is ∙ other)
+
+  not_same : (x : List ℕ) → bytes_eq x name ≡ false → bytes_eq name x ≡ false
+  not_same x e = by (bytes_eq name x) refl
+    where
+      by : (v : Bool) → bytes_eq name x ≡ v → v ≡ false
+      by true h = (let same = is_mark name x h in let there : bytes_eq x name ≡ true = ap (bytes_eq x) same ∙ ap (λ n. bytes_eq n x) (sym same) ∙ h in cc)
+      by false h = refl
+
+  pub kept_more : (read : Result Content FanFileError) → IsKept name b a read → (c : Content) × (read ≡ Ok c) × AreKept (done ++ (name, c) ∷ []) a
+  kept_more read (at_ambient n is got same) =
+      let name_is = sym (is_mark ambient_dim name is) in
+      let c = the_number n in
+      (c, got, record {
+        ambient = found_new name c done ambient_dim new is name_is ∙ ap (λ (k : Contents). number_kept k.ambient) (sym same);
+        rays = other_at rays_name ambient_dim c name_is refl ∙ kept.rays ∙ ap (λ (k : Contents). rows_kept k.rays) (sym same);
+        lineality = other_at lineality_space ambient_dim c name_is refl ∙ kept.lineality ∙ ap (λ (k : Contents). rows_kept k.lineality) (sym same);
+        cones = other_at maximal_cones ambient_dim c name_is refl ∙ kept.cones ∙ ap (λ (k : Contents). cones_kept k.cones) (sym same);
+      })
+  kept_more read (at_rays rs is got same) =
+      let name_is = sym (is_mark rays_name name is) in
+      let c = the_rows rs in
+      (c, got, record {
+        ambient = other_at ambient_dim rays_name c name_is refl ∙ kept.ambient ∙ ap (λ (k : Contents). number_kept k.ambient) (sym same);
+        rays = found_new name c done rays_name new is name_is ∙ ap (λ (k : Contents). rows_kept k.rays) (sym same);
+        lineality = other_at lineality_space rays_name c name_is refl ∙ kept.lineality ∙ ap (λ (k : Contents). rows_kept k.lineality) (sym same);
+        cones = other_at maximal_cones rays_name c name_is refl ∙ kept.cones ∙ ap (λ (k : Contents). cones_kept k.cones) (sym same);
+      })
+  kept_more read (at_lineality rs is got same) =
+      let name_is = sym (is_mark lineality_space name is) in
+      let c = the_rows rs in
+      (c, got, record {
+        ambient = other_at ambient_dim lineality_space c name_is refl ∙ kept.ambient ∙ ap (λ (k : Contents). number_kept k.ambient) (sym same);
+        rays = other_at rays_name lineality_space c name_is refl ∙ kept.rays ∙ ap (λ (k : Contents). rows_kept k.rays) (sym same);
+        lineality = found_new name c done lineality_space new is name_is ∙ ap (λ (k : Contents). rows_kept k.lineality) (sym same);
+        cones = other_at maximal_cones lineality_space c name_is refl ∙ kept.cones ∙ ap (λ (k : Contents). cones_kept k.cones) (sym same);
+      })
+  kept_more read (at_cones cs is got same) =
+      let name_is = sym (is_mark maximal_cones name is) in
+      let c = the_cones cs in
+      (c, got, record {
+        ambient = other_at ambient_dim maximal_cones c name_is refl ∙ kept.ambient ∙ ap (λ (k : Contents). number_kept k.ambient) (sym same);
+        rays = other_at rays_name maximal_cones c name_is refl ∙ kept.rays ∙ ap (λ (k : Contents). rows_kept k.rays) (sym same);
+        lineality = other_at lineality_space maximal_cones c name_is refl ∙ kept.lineality ∙ ap (λ (k : Contents). rows_kept k.lineality) (sym same);
+        cones = found_new name c done maximal_cones new is name_is ∙ ap (λ (k : Contents). cones_kept k.cones) (sym same);
+      })
+  kept_more read (at_other no_ambient no_rays no_lineality no_cones got same) = (passed, got, record {
+    ambient = found_other name passed done ambient_dim (not_same ambient_dim no_ambient) ∙ kept.ambient ∙ ap (λ (k : Contents). number_kept k.ambient) (sym same);
+    rays = found_other name passed done rays_name (not_same rays_name no_rays) ∙ kept.rays ∙ ap (λ (k : Contents). rows_kept k.rays) (sym same);
+    lineality = found_other name passed done lineality_space (not_same lineality_space no_lineality) ∙ kept.lineality ∙ ap (λ (k : Contents). rows_kept k.lineality) (sym same);
+    cones = found_other name passed done maximal_cones (not_same maximal_cones no_cones) ∙ kept.cones ∙ ap (λ (k : Contents). cones_kept k.cones) (sym same);
+  })
+
+-- ---- what sections hold
+
+pub kind_ambient : (name : List ℕ) → bytes_eq ambient_dim name ≡ true → kind_in fan_table name ≡ number_to 16
+kind_ambient name is = rw is refl
+
+pub kind_rays : (name : List ℕ) → bytes_eq ambient_dim name ≡ false → bytes_eq rays_name name ≡ true → kind_in fan_table name ≡ rows
+kind_rays name no_ambient is = rw (no_ambient, is) refl
+
+pub kind_lineality : (name : List ℕ) → bytes_eq ambient_dim name ≡ false → bytes_eq rays_name name ≡ false → bytes_eq lineality_space name ≡ true → kind_in fan_table name ≡ rows
+kind_lineality name no_ambient no_rays is = rw (no_ambient, no_rays, is) refl
+
+pub kind_cones : (name : List ℕ) → bytes_eq ambient_dim name ≡ false → bytes_eq rays_name name ≡ false → bytes_eq lineality_space name ≡ false → bytes_eq maximal_cones name ≡ true → kind_in fan_table name ≡ cones
+kind_cones name no_ambient no_rays no_lineality is = rw (no_ambient, no_rays, no_lineality, is) refl
+
+-- ---- from left to right
+
+-- what stands behind sections that were read
+abbrev pub all_behind : Named → Result Named FanFileError → Result Named FanFileError
+all_behind done (Ok all) = Ok (done ++ all)
+all_behind done (Err e) = Err e
+
+-- Up to this place sections of these names were read, and these contents are kept of them.
+pub record IsReadUpTo (source : List ℕ) (at : ℕ) (names : List (List ℕ)) (c : Contents) : Type 0 where
+  pub done : Named
+  pub names_are : names_of done ≡ names
+  pub left : text_read fan_table source ≡ all_behind done (sections_read fan_table (length source) names (sections_from source at).all)
+  pub kept : AreKept done c
+
+behind_none : (r : Result Named FanFileError) → r ≡ all_behind [] r
+behind_none (Ok all) = refl
+behind_none (Err e) = refl
+
+pub begun : (source : List ℕ) → IsReadUpTo source 0 [] no_contents
+begun source = record {
+  done = [];
+  names_are = refl;
+  left = behind_none (text_read fan_table source);
+  kept = record { ambient = refl; rays = refl; lineality = refl; cones = refl };
+}
+
+behind_more : (done : Named) (name : List ℕ) (c : Content) (r : Result Named FanFileError) → all_behind done (then_content (Ok c) name r) ≡ all_behind (done ++ (name, c) ∷ []) r
+behind_more done name c (Ok all) = ap (λ l. Ok l) (sym (append_assoc done ((name, c) ∷ []) all))
+behind_more done name c (Err e) = refl
+
+names_more : (done : Named) (name : List ℕ) (c : Content) → names_of (done ++ (name, c) ∷ []) ≡ names_of done ++ name ∷ []
+names_more [] name c = refl
+names_more (h ∷ done) name c = ap (λ l. h.0 ∷ l) (names_more done name c)
+
+module _ (source : List ℕ) (at : ℕ) (names : List (List ℕ)) (b : Contents) (r : IsReadUpTo source at names b) where
+  module _ (x : Lexeme) (next : ℕ) (is : (sections_from source at).all ≡ (with_name x (sections_from source next)).all) where
+    abbrev Reading : Result Content FanFileError
+    Reading = content_read (length source) (kind_in fan_table x.text) (content_from source next)
+
+    abbrev Later : Result Named FanFileError
+    Later = sections_read fan_table (length source) (names ++ x.text ∷ []) (sections_from source next).all
+
+    here : text_read fan_table source ≡ all_behind r.done (if has names x.text then Err (refused_at x.at RepeatedName) else then_content Reading x.text Later)
+    here = r.left ∙ ap (λ ss. all_behind r.done (sections_read fan_table (length source) names ss)) is
+
+    -- its name was there already
+    pub repeated : has names x.text ≡ true → text_read fan_table source ≡ Err (refused_at x.at RepeatedName)
+    repeated e = here ∙ ap (λ v. all_behind r.done (if v then Err (refused_at x.at RepeatedName) else then_content Reading x.text Later)) e
+
+    fresh : has names x.text ≡ false → text_read fan_table source ≡ all_behind r.done (then_content Reading x.text Later)
+    fresh e = here ∙ ap (λ v. all_behind r.done (if v then Err (refused_at x.at RepeatedName) else then_content Reading x.text Later)) e
+
+    -- its content is at fault
+    pub faulty : has names x.text ≡ false → (e : FanFileError) → Reading ≡ Err e → text_read fan_table source ≡ Err e
+    faulty new e is_fault = fresh new ∙ ap (λ c. all_behind r.done (then_content c x.text Later)) is_fault
+
+    -- its content is kept
+    pub one_more : has names x.text ≡ false → (a : Contents) → IsKept x.text b a Reading → IsReadUpTo source next (names ++ x.text ∷ []) a
+    one_more new a kept =
+        let more = kept_more r.done x.text b a r.kept (ap (λ l. has l x.text) r.names_are ∙ new) Reading kept in
+        record {
+          done = r.done ++ (x.text, more.0) ∷ [];
+          names_are = names_more r.done x.text more.0 ∙ ap (λ l. l ++ x.text ∷ []) r.names_are;
+          left = fresh new ∙ ap (λ c. all_behind r.done (then_content c x.text Later)) more.1 ∙ behind_more r.done x.text more.0 Later;
+          kept = more.2;
+        }
+
+  -- no section follows
+  pub finished : (sections_from source at).all ≡ [] → Says source b
+  finished none = record {
+    all = r.done;
+    read = r.left ∙ ap (λ ss. all_behind r.done (sections_read fan_table (length source) names ss)) none ∙ ap (λ l. Ok l) (append-nil r.done);
+    kept = r.kept;
+  }

@@ -1,0 +1,42 @@
+-- What the program keeps of the sections that are looked at, against what the text says.
+use Rattle.std.specs.Prelude.{◌≡◌, ℕ, ℤ, true, false, List, bytes_eq, Option, Some, None, Result, Ok}
+use Rattle.gf_fanfile.specs.declared.error.FanFileError.{FanFileError}
+use Rattle.gf_fanfile.specs.declared.sections.Contents.{Contents}
+use Rattle.gf_fanfile.specs.FanText.{Content, the_number, the_rows, the_cones, passed, Named, fan_table, text_read, found, ambient_dim, rays_name, lineality_space, maximal_cones}
+
+abbrev pub no_contents : Contents
+no_contents = record { ambient = None; rays = None; lineality = None; cones = None }
+
+-- behind these contents, that of the section of this name is kept, as it is read
+pub data IsKept (name : List ℕ) (before after : Contents) (read : Result Content FanFileError) : Type 0 where
+  at_ambient : (n : ℕ) → bytes_eq ambient_dim name ≡ true → read ≡ Ok (the_number n) → after ≡ record before { ambient = Some n } → IsKept name before after read
+  at_rays : (rs : List (List ℤ)) → bytes_eq rays_name name ≡ true → read ≡ Ok (the_rows rs) → after ≡ record before { rays = Some rs } → IsKept name before after read
+  at_lineality : (rs : List (List ℤ)) → bytes_eq lineality_space name ≡ true → read ≡ Ok (the_rows rs) → after ≡ record before { lineality = Some rs } → IsKept name before after read
+  at_cones : (cs : List (List ℕ)) → bytes_eq maximal_cones name ≡ true → read ≡ Ok (the_cones cs) → after ≡ record before { cones = Some cs } → IsKept name before after read
+  at_other : bytes_eq ambient_dim name ≡ false → bytes_eq rays_name name ≡ false → bytes_eq lineality_space name ≡ false → bytes_eq maximal_cones name ≡ false → read ≡ Ok passed → after ≡ before → IsKept name before after read
+
+-- what is kept of a number, of rows, of lists
+abbrev pub number_kept : Option ℕ → Option Content
+number_kept None = None
+number_kept (Some n) = Some (the_number n)
+
+abbrev pub rows_kept : Option (List (List ℤ)) → Option Content
+rows_kept None = None
+rows_kept (Some rs) = Some (the_rows rs)
+
+abbrev pub cones_kept : Option (List (List ℕ)) → Option Content
+cones_kept None = None
+cones_kept (Some cs) = Some (the_cones cs)
+
+-- of these sections these contents are kept
+pub record AreKept (all : Named) (c : Contents) : Type 0 where
+  pub ambient : found ambient_dim all ≡ number_kept c.ambient
+  pub rays : found rays_name all ≡ rows_kept c.rays
+  pub lineality : found lineality_space all ≡ rows_kept c.lineality
+  pub cones : found maximal_cones all ≡ cones_kept c.cones
+
+-- the text says these contents
+pub record Says (source : List ℕ) (c : Contents) : Type 0 where
+  pub all : Named
+  pub read : text_read fan_table source ≡ Ok all
+  pub kept : AreKept all c

@@ -1,0 +1,159 @@
+-- What a fan file says: the sections that are looked at, read from left to right.
+-- Which sections these are is a table.
+-- Laws: proofs/FanTextLaws.antt.
+use Rattle.std.specs.Prelude.{◌≡◌, ◌⊎◌, ℕ, ◌+◌, ◌&&◌, nat_le, Bool, true, false, List, [], ◌∷◌, ◌++◌, length, map, bytes_eq, if◌then◌else◌, Result, Ok, Err, Option, Some, None, ℤ}
+use Rattle.gf_text.specs.Machine.{Lexeme, texts, Fault, IsFault, run}
+use Rattle.gf_text.specs.Kinds.{IsNumberKind}
+use Rattle.gf_text.specs.Tokens.{is_number, decimal_value}
+use Rattle.gf_text.specs.RingText.{has}
+use Rattle.gf_text.specs.declared.error.Cause.TheVariants as causes
+use Rattle.gf_fanfile.specs.declared.error.FanFileError.{FanFileError}
+use Rattle.gf_fanfile.specs.declared.error.FanFileError.TheVariants as errors
+use Rattle.gf_fanfile.specs.Lines.{Section, sections, content_tokens, end_before}
+use Rattle.gf_fanfile.specs.RowText.{row_step, row_start, AreRowTexts}
+use Rattle.gf_fanfile.specs.ConeText.{cone_step, cone_start, AreConeTexts, most_number}
+use Rattle.gf_fanfile.specs.NumberText.{number_step, IsOneNumberText}
+use Rattle.gf_fanfile.specs.declared.numbers.NumberState.TheVariants.{Unread}
+use Rattle.gf_fanfile.specs.Refused.{refused_at, refused_before}
+
+-- ---- contents
+
+-- what a section holds: a number up to a limit, rows, lists of ray numbers, or what isn't looked at
+pub data ContentKind : Type 0 where
+  number_to : ℕ → ContentKind
+  rows : ContentKind
+  cones : ContentKind
+  any : ContentKind
+
+-- what was read of it
+pub data Content : Type 0 where
+  the_number : ℕ → Content
+  the_rows : List (List ℤ) → Content
+  the_cones : List (List ℕ) → Content
+  passed : Content
+
+-- these tokens are a content of this kind
+abbrev pub IsContent : ContentKind → List (List ℕ) → Content → Type 0
+IsContent k ts (the_number n) = (limit : ℕ) × (k ≡ number_to limit) × IsOneNumberText ts n × (nat_le n limit ≡ true)
+IsContent k ts (the_rows rs) = (k ≡ rows) × AreRowTexts ts rs
+IsContent k ts (the_cones cs) = (k ≡ cones) × AreConeTexts ts cs
+IsContent k ts passed = k ≡ any
+
+-- what was read of a content, in a text of this length
+abbrev pub held : {A : Type 0} → (A → Content) → ℕ → Result (A × ℕ) Fault → Result Content FanFileError
+held make length (Ok a) = Ok (make a.0)
+held make length (Err f) = Err (refused_before length f)
+
+-- a first number that is past the limit but not too wide
+abbrev pub is_above : ℕ → List Lexeme → Bool
+is_above limit [] = false
+is_above limit (x ∷ xs) = is_number x.text && (nat_le (decimal_value x.text) most_number && nat_le (limit + 1) (decimal_value x.text))
+
+abbrev pub first_value : List Lexeme → ℕ
+first_value [] = 0
+first_value (x ∷ xs) = decimal_value x.text
+
+-- a content of this kind, read from its tokens, in a text of this length
+abbrev pub content_read : ℕ → ContentKind → List Lexeme → Result Content FanFileError
+content_read length (number_to limit) xs = if is_above limit xs then Err (errors.TooManyVariables (first_value xs))
+    else held (λ n. the_number n) length (run number_step Unread length xs)
+content_read length rows xs = held (λ rs. the_rows rs) length (run row_step row_start length xs)
+content_read length cones xs = held (λ cs. the_cones cs) length (run cone_step cone_start length xs)
+content_read length any xs = Ok passed
+
+-- ---- tables
+
+-- the sections that are looked at, with what they hold
+abbrev pub Table : Type 0
+Table = List (List ℕ × ContentKind)
+
+-- what a section of this name holds
+abbrev pub kind_in : Table → List ℕ → ContentKind
+kind_in [] name = any
+kind_in (e ∷ es) name = if bytes_eq e.0 name then e.1 else kind_in es name
+
+abbrev pub ambient_dim : List ℕ
+ambient_dim = 65 ∷ 77 ∷ 66 ∷ 73 ∷ 69 ∷ 78 ∷ 84 ∷ 95 ∷ 68 ∷ 73 ∷ 77 ∷ []
+
+abbrev pub rays_name : List ℕ
+rays_name = 82 ∷ 65 ∷ 89 ∷ 83 ∷ []
+
+abbrev pub lineality_space : List ℕ
+lineality_space = 76 ∷ 73 ∷ 78 ∷ 69 ∷ 65 ∷ 76 ∷ 73 ∷ 84 ∷ 89 ∷ 95 ∷ 83 ∷ 80 ∷ 65 ∷ 67 ∷ 69 ∷ []
+
+abbrev pub maximal_cones : List ℕ
+maximal_cones = 77 ∷ 65 ∷ 88 ∷ 73 ∷ 77 ∷ 65 ∷ 76 ∷ 95 ∷ 67 ∷ 79 ∷ 78 ∷ 69 ∷ 83 ∷ []
+
+-- the four sections of a fan file: AMBIENT_DIM, RAYS, LINEALITY_SPACE, MAXIMAL_CONES
+abbrev pub fan_table : Table
+fan_table = (ambient_dim, number_to 16) ∷ (rays_name, rows) ∷ (lineality_space, rows) ∷ (maximal_cones, cones) ∷ []
+
+-- the names of sections that are looked for, in order
+abbrev pub wanted : List (List ℕ)
+wanted = ambient_dim ∷ rays_name ∷ lineality_space ∷ maximal_cones ∷ []
+
+-- ---- the sections, from left to right
+
+-- names of sections, with what they hold
+abbrev pub Named : Type 0
+Named = List (List ℕ × Content)
+
+abbrev pub then_content : Result Content FanFileError → List ℕ → Result Named FanFileError → Result Named FanFileError
+then_content (Err e) name later = Err e
+then_content (Ok c) name (Err e) = Err e
+then_content (Ok c) name (Ok all) = Ok ((name, c) ∷ all)
+
+-- what these sections hold, behind sections of these names, in a text of this length
+abbrev pub sections_read : Table → ℕ → List (List ℕ) → List Section → Result Named FanFileError
+sections_read table length seen [] = Ok []
+sections_read table length seen (s ∷ ss) = if has seen s.name then Err (refused_at s.at causes.RepeatedName)
+    else then_content (content_read length (kind_in table s.name) (content_tokens (end_before length ss) s.content)) s.name (sections_read table length (seen ++ s.name ∷ []) ss)
+
+-- what a text says by this table
+abbrev pub text_read : Table → List ℕ → Result Named FanFileError
+text_read table source = sections_read table (length source) [] (sections source)
+
+-- ---- the grammar
+
+-- These sections, behind sections of these names, hold this.
+abbrev pub AreHeld : Table → ℕ → List (List ℕ) → List Section → Named → Type 0
+AreHeld table length seen [] all = all ≡ []
+AreHeld table length seen (s ∷ ss) [] = ⊥
+AreHeld table length seen (s ∷ ss) (h ∷ hs) = (has seen s.name ≡ false) × (h.0 ≡ s.name)
+    × IsContent (kind_in table s.name) (texts (content_tokens (end_before length ss) s.content)) h.1 × AreHeld table length (seen ++ s.name ∷ []) ss hs
+
+-- ---- the first fault
+
+-- a fault among the tokens of a content: at the first token after which none goes on to a text, of its kind
+abbrev pub IsFaultOf : {A : Type 0} → (List (List ℕ) → A → Type 0) → ℕ → List Lexeme → FanFileError → Type 0
+IsFaultOf grammar length xs e = (f : Fault) × IsFault grammar (IsNumberKind grammar) xs length f × (e ≡ refused_before length f)
+
+-- a content of this kind is refused so
+abbrev pub IsContentFault : ℕ → ContentKind → List Lexeme → FanFileError → Type 0
+IsContentFault length (number_to limit) xs e = ((is_above limit xs ≡ true) × (e ≡ errors.TooManyVariables (first_value xs))) ⊎ ((is_above limit xs ≡ false) × IsFaultOf IsOneNumberText length xs e)
+IsContentFault length rows xs e = IsFaultOf AreRowTexts length xs e
+IsContentFault length cones xs e = IsFaultOf AreConeTexts length xs e
+IsContentFault length any xs e = ⊥
+
+-- The first of these sections that is at fault is refused so: its name was there already, or its content is at fault.
+abbrev pub IsFirstFault : Table → ℕ → List (List ℕ) → List Section → FanFileError → Type 0
+IsFirstFault table length seen [] e = ⊥
+IsFirstFault table length seen (s ∷ ss) e = let xs = content_tokens (end_before length ss) s.content in
+    ((has seen s.name ≡ true) × (e ≡ refused_at s.at causes.RepeatedName))
+    ⊎ ((has seen s.name ≡ false) × IsContentFault length (kind_in table s.name) xs e)
+    ⊎ ((has seen s.name ≡ false) × ((c : Content) × IsContent (kind_in table s.name) (texts xs) c) × IsFirstFault table length (seen ++ s.name ∷ []) ss e)
+
+-- ---- what is looked for
+
+-- what the section of this name holds
+abbrev pub found : List ℕ → Named → Option Content
+found name [] = None
+found name (h ∷ hs) = if bytes_eq h.0 name then Some h.1 else found name hs
+
+abbrev pub is_there : Named → List ℕ → Bool
+is_there all name = has (map (λ (h : List ℕ × Content). h.0) all) name
+
+-- the first of these names that isn't there
+abbrev pub first_missing : List (List ℕ) → Named → Option (List ℕ)
+first_missing [] all = None
+first_missing (n ∷ ns) all = if is_there all n then first_missing ns all else Some n

@@ -1,0 +1,9 @@
+pub mod Lines  -- lines of a text, their tokens, sections
+pub mod RowText  -- rows of entries: grammar, machine
+pub mod ConeText  -- lists of ray numbers: grammar, machine
+pub mod NumberText  -- one number: grammar, machine
+pub mod Refused  -- what a fault is refused as
+pub mod FanText  -- sections that are looked at, and what a file says
+pub mod Found  -- lines and tokens as the program finds them
+pub mod Given  -- what readers did, against their machines
+pub mod Contents  -- what is kept of the sections

@@ -1,0 +1,84 @@
+//! Why a fan file isn't read.
+ghost use Rattle.std.specs.Prelude.{◌≡◌};
+ghost use Rattle.gf_fanfile.specs.declared.error.FanFileError.TheVariants.{Memory};
+ghost use Rattle.gf_fanfile.specs.Refused.{refused_before, cause_of};
+
+use gf_gordan::ConeOverflow;
+use gf_text::{Kind, Syntax};
+use std::alloc::{AllocError, AllocFailed};
+
+/// The sections that a fan file has to have.
+#[derive(Clone, Copy, Debug, PartialEq, Eq)]
+pub enum Section {
+    AmbientDim,
+    Rays,
+    LinealitySpace,
+    MaximalCones,
+}
+
+/// Why a fan file isn't read.
+#[derive(Clone, Copy, Debug, PartialEq, Eq)]
+pub enum FanFileError {
+    /// The text has a fault.
+    Syntax(Syntax),
+    /// The number that begins there passes its limit.
+    TooWide { at: u64 },
+    /// The ambient dimension is above 16.
+    TooManyVariables { count: u64 },
+    /// A step of a system of inequalities and equations leaves the range of 128 bits.
+    Cone(ConeOverflow),
+    /// The meet of these two cones isn't a face of both.
+    NotAFan { first: u32, second: u32 },
+    /// The section isn't there.
+    Missing { section: Section },
+    /// The ray lies in the lineality space, or no ray has this number.
+    BadRay { number: u64 },
+    /// A length, where another is needed.
+    Dimensions { left: u64, right: u64 },
+    Memory,
+}
+
+/// Why a token can't be taken.
+#[derive(Clone, Copy, Debug, PartialEq, Eq)]
+pub(crate) enum Reason {
+    /// It can't stand there.
+    Unexpected,
+    /// The number passes its limit.
+    TooWide,
+}
+
+/// The refusal of what begins at a place of a text of this length; at its end the text has ended.
+pub(crate) fn refused(length: usize, at: usize, reason: Reason) -> FanFileError
+    ensures { result ≡ refused_before length (record { at = at; cause = cause_of reason }) }
+{
+    if at == length {
+        return fault_of(at as u64, Kind::Ended);
+    }
+    match reason {
+        Reason::Unexpected => fault_of(at as u64, Kind::Unexpected),
+        Reason::TooWide => FanFileError::TooWide { at: at as u64 },
+    }
+}
+
+/// A fault of this kind.
+pub(crate) fn fault_of(at: u64, kind: Kind) -> FanFileError
+    ensures { result ≡ FanFileError.Syntax (record { at = at; kind = kind }) }
+{
+    FanFileError::Syntax(Syntax { at, kind })
+}
+
+impl From<AllocError> for FanFileError {
+    ghost from_gives = { λ _ e. e ≡ Memory };
+
+    fn from(_: AllocError) -> FanFileError {
+        FanFileError::Memory
+    }
+}
+
+impl<T: Drop> From<AllocFailed<T>> for FanFileError {
+    ghost from_gives = { λ _ e. e ≡ Memory };
+
+    fn from(_: AllocFailed<T>) -> FanFileError {
+        FanFileError::Memory
+    }
+}
