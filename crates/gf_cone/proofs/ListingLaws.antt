@@ -1,14 +1,15 @@
 -- Ascending lists of vectors: a vector put in, the normals collected, the others of one.
--- To cite: place_more, place_found, place_end, inserted, is_in, Gathering, gathering_more, gathered.
-use Rattle.std.specs.Prelude.{◌≡◌, ◌⊎◌, ◌↔◌, ℕ, zero, suc, ◌+◌, ◌<◌, ◌≤◌, List, [], ◌∷◌, ◌++◌, length, Contains, ℤ, ◌<ℤ◌, take}
+-- To cite: lower_through, higher_end, higher_at, place_between, is_in, inserted, gathers_none, gathers_one, gathers_append, has_small, gathered.
+use Rattle.std.specs.Prelude.{◌≡◌, ◌⊎◌, ◌↔◌, ℕ, zero, suc, ◌+◌, ◌<◌, ◌≤◌, List, [], ◌∷◌, ◌++◌, length, All, Contains, ℤ, ◌<ℤ◌, take}
 use Rattle.std.specs.List.{insert}
 use Rattle.std.specs.Ordering.{int_cmp, MatchOrdering}
 use Rattle.std.specs.Cmp.Lexicographic.{slice_cmp}
 use Rattle.std.specs.declared.cmp.Ordering.{Ordering}
 use Rattle.std.specs.declared.cmp.Ordering.TheVariants.{Less, Equal, Greater}
 use Rattle.std.proofs.Common.{arith, sym, ap, ◌∙◌, subst, inl, inr, get_or}
-use Rattle.std.proofs.lemmas.List.{take_more, take_all}
-use Rattle.std.proofs.lemmas.List.Elements.{Contains-append_left, Contains-append_right, Contains-append_cases}
+use Rattle.std.proofs.lemmas.Bool.{cases_lt}
+use Rattle.std.proofs.lemmas.List.{take_more, take_all, get_or_default}
+use Rattle.std.proofs.lemmas.List.Elements.{All-contains, Contains-append_left, Contains-append_right, Contains-append_cases}
 use Rattle.gf_vec.specs.Primitive.{IsPrimitivePart}
 use Rattle.gf_poly.specs.Marking.{MarkedPolynomial}
 use Rattle.gf_ideal.proofs.ListLaws.{Contains-here, Contains-there, Contains-cases}
@@ -17,7 +18,9 @@ use Rattle.gf_facets.specs.Rows.{rows_of}
 use Rattle.gf_facets.proofs.PrimitiveLaws.{primitive_unique}
 use Rattle.gf_facets.proofs.VectorOrder.{vectors_compare, before_strict}
 use Rattle.gf_facets.specs.Normals.{Ascends, AreNormals}
-use Rattle.gf_cone.specs.Placing.{GoesInAt}
+use Rattle.gf_facets.proofs.SystemLaws.{contained_all}
+use Rattle.gf_cone.specs.Small.{IsSmall}
+use Rattle.gf_cone.specs.Placing.{GoesInAt, Gathers}
 
 -- ---- the place of a vector
 
@@ -28,7 +31,7 @@ AreLower v i xs = (y : List ℤ) → Contains (take i xs) y → Precedes ◌<ℤ
 compared : (x v : List ℤ) (o : Ordering) → o ≡ slice_cmp int_cmp x v → MatchOrdering o (Precedes ◌<ℤ◌ x v) (x ≡ v) (Precedes ◌<ℤ◌ v x)
 compared x v o e = subst (λ (p : Ordering). MatchOrdering p (Precedes ◌<ℤ◌ x v) (x ≡ v) (Precedes ◌<ℤ◌ v x)) (sym e) (vectors_compare x v)
 
-pub place_more : (v x : List ℤ) (xs : List (List ℤ)) (i : ℕ) (o : Ordering) → i < length xs → x ≡ get_or xs i x → o ≡ slice_cmp int_cmp x v → o ≡ Less → AreLower v i xs → AreLower v (i + 1) xs
+place_more : (v x : List ℤ) (xs : List (List ℤ)) (i : ℕ) (o : Ordering) → i < length xs → x ≡ get_or xs i x → o ≡ slice_cmp int_cmp x v → o ≡ Less → AreLower v i xs → AreLower v (i + 1) xs
 place_more v x xs i o l e c q h y k = at (Contains-append_cases (take i xs) (x ∷ []) y (subst (λ (z : List (List ℤ)). Contains z y) (take_more xs i x l ∙ ap (λ (z : List ℤ). take i xs ++ z ∷ []) (sym e)) k))
   where
     below : Precedes ◌<ℤ◌ x v
@@ -43,9 +46,6 @@ placed v x [] i l e p h = absurd (omega arith)
 placed v x (y ∷ xs) zero l e p h = subst (Precedes ◌<ℤ◌ v) e p
 placed v x (y ∷ xs) (suc i) l e p h = (h y (Contains-here y (take i xs)), placed v x xs i (omega arith) e p (λ z k. h z (Contains-there y z (take i xs) k)))
 
-pub place_found : (v x : List ℤ) (xs : List (List ℤ)) (i : ℕ) (o : Ordering) → i < length xs → x ≡ get_or xs i x → o ≡ slice_cmp int_cmp x v → o ≡ Greater → AreLower v i xs → GoesInAt v i xs
-place_found v x xs i o l e c q h = placed v x xs i l e (subst (λ (p : Ordering). MatchOrdering p (Precedes ◌<ℤ◌ x v) (x ≡ v) (Precedes ◌<ℤ◌ v x)) q (compared x v o c)) h
-
 pub is_in : (v x : List ℤ) (xs : List (List ℤ)) (i : ℕ) (o : Ordering) → i < length xs → x ≡ get_or xs i x → o ≡ slice_cmp int_cmp x v → o ≡ Equal → Contains xs v
 is_in v x xs i o l e c q = subst (Contains xs) (subst (λ (p : Ordering). MatchOrdering p (Precedes ◌<ℤ◌ x v) (x ≡ v) (Precedes ◌<ℤ◌ v x)) q (compared x v o c)) (i, l, sym e)
 
@@ -53,8 +53,47 @@ ended : (v : List ℤ) (xs : List (List ℤ)) → ((y : List ℤ) → Contains x
 ended v [] h = tt
 ended v (x ∷ xs) h = (h x (Contains-here x xs), ended v xs (λ y k. h y (Contains-there x y xs k)))
 
-pub place_end : (v : List ℤ) (xs : List (List ℤ)) (i : ℕ) → length xs ≤ i → AreLower v i xs → GoesInAt v (length xs) xs
+place_end : (v : List ℤ) (xs : List (List ℤ)) (i : ℕ) → length xs ≤ i → AreLower v i xs → GoesInAt v (length xs) xs
 place_end v xs i l h = ended v xs (λ y k. h y (subst (λ (z : List (List ℤ)). Contains z y) (sym (take_all i xs l)) k))
+
+-- what stands before a place comes before what stands there
+ascends_before : (xs : List (List ℤ)) (i : ℕ) (x y : List ℤ) → Ascends xs → i < length xs → x ≡ get_or xs i x → Contains (take i xs) y → Precedes ◌<ℤ◌ y x
+ascends_before [] i x y h l e c = absurd (omega arith)
+ascends_before (z ∷ xs) zero x y h l e c = absurd (omega (arith, c.1))
+ascends_before (z ∷ xs) (suc i) x y h l e c = elim (Contains-cases z y (take i xs) c) [
+  | inl f ↦ subst (λ (w : List ℤ). Precedes ◌<ℤ◌ w x) f (h.0 x (i, omega arith, sym e))
+  | inr k ↦ ascends_before xs i x y h.1 (omega arith) e k
+]
+
+-- so in an ascending list all up to a place are lower, where what stands there is
+pub lower_through : (v x : List ℤ) (xs : List (List ℤ)) (i : ℕ) (o : Ordering) → Ascends xs → i < length xs → x ≡ get_or xs i x → o ≡ slice_cmp int_cmp x v → o ≡ Less → AreLower v (i + 1) xs
+lower_through v x xs i o h l e c q = place_more v x xs i o l e c q (λ y k. before_strict.transitive y x v (ascends_before xs i x y h l e k) below)
+  where
+    below : Precedes ◌<ℤ◌ x v
+    below = subst (λ (p : Ordering). MatchOrdering p (Precedes ◌<ℤ◌ x v) (x ≡ v) (Precedes ◌<ℤ◌ v x)) q (compared x v o c)
+
+-- what stands at the place i, if anything does, comes after v
+pub record IsHigher (v : List ℤ) (i : ℕ) (xs : List (List ℤ)) : Type 0 where
+  pub at : (d : List ℤ) → i < length xs → Precedes ◌<ℤ◌ v (get_or xs i d)
+
+pub higher_end : (v : List ℤ) (i : ℕ) (xs : List (List ℤ)) → length xs ≤ i → IsHigher v i xs
+higher_end v i xs g = record { at = λ d l. absurd (omega arith) }
+
+pub higher_at : (v x : List ℤ) (xs : List (List ℤ)) (i : ℕ) (o : Ordering) → i < length xs → x ≡ get_or xs i x → o ≡ slice_cmp int_cmp x v → o ≡ Greater → IsHigher v i xs
+higher_at v x xs i o l e c q = record { at = λ d m. subst (Precedes ◌<ℤ◌ v) (e ∙ get_or_default xs i x d l) above }
+  where
+    above : Precedes ◌<ℤ◌ v x
+    above = subst (λ (p : Ordering). MatchOrdering p (Precedes ◌<ℤ◌ x v) (x ≡ v) (Precedes ◌<ℤ◌ v x)) q (compared x v o c)
+
+-- between what is lower and what is higher
+pub place_between : (v : List ℤ) (xs : List (List ℤ)) (low high : ℕ) → low ≡ high → high ≤ length xs → AreLower v low xs → IsHigher v high xs → GoesInAt v low xs
+place_between v xs low high e m h k = at (cases_lt low (length xs))
+  where
+    at : (low < length xs) ⊎ (length xs ≤ low) → GoesInAt v low xs
+    at (inl l) =
+        let n : high < length xs = omega arith in
+        placed v (get_or xs low []) xs low l (get_or_default xs low [] (get_or xs low []) l) (subst (λ (i : ℕ). Precedes ◌<ℤ◌ v (get_or xs i [])) (sym e) (k.at [] n)) h
+    at (inr g) = let q : length xs ≡ low = omega arith in subst (λ (i : ℕ). GoesInAt v i xs) q (place_end v xs low g h)
 
 -- ---- a vector put in
 
@@ -100,39 +139,48 @@ known v xs h c = record { rises = h; has = λ a. (inr, λ k. elim k [ inl e ↦ 
 
 -- ---- normals collected
 
--- the primitive parts of the first i rows
-pub record Gathering (rows all : List (List ℤ)) (i : ℕ) : Type 0 where
-  pub rises : Ascends all
-  pub only : (a : List ℤ) → Contains all a → (t : List ℤ) × Contains (take i rows) t × IsPrimitivePart t a
-  pub each : (t a : List ℤ) → Contains (take i rows) t → IsPrimitivePart t a → Contains all a
+pub gathers_none : (xs : List (List ℤ)) → Ascends xs → Gathers xs [] xs
+gathers_none xs h = record { rises = h; has = λ a. (inl, λ k. elim k [ inl c ↦ c | inr t ↦ absurd (omega (arith, t.1.1)) ]) }
 
-pub gathering_none : (rows : List (List ℤ)) → Gathering rows [] 0
-gathering_none rows = record { rises = tt; only = λ a c. absurd (omega (arith, c.1)); each = λ t a c p. absurd (omega (arith, c.1)) }
-
-pub gathering_more : (rows all more : List (List ℤ)) (i : ℕ) (t u : List ℤ) → i < length rows → t ≡ get_or rows i t → IsPrimitivePart t u → HasMore all u more → Gathering rows all i → Gathering rows more (i + 1)
-gathering_more rows all more i t u l e p m g = record { rises = m.rises; only = only; each = each }
+-- one row more
+pub gathers_one : (xs more : List (List ℤ)) (t v : List ℤ) → IsPrimitivePart t v → HasMore xs v more → Gathers xs (t ∷ []) more
+gathers_one xs more t v p m = record { rises = m.rises; has = λ a. (only a, back a) }
   where
-    next : take (i + 1) rows ≡ take i rows ++ t ∷ []
-    next = take_more rows i t l ∙ ap (λ (z : List ℤ). take i rows ++ z ∷ []) (sym e)
+    only : (a : List ℤ) → Contains more a → Contains xs a ⊎ ((s : List ℤ) × Contains (t ∷ []) s × IsPrimitivePart s a)
+    only a c = elim ((m.has a).0 c) [ inl q ↦ inr (t, Contains-here t [], subst (IsPrimitivePart t) (sym q) p) | inr k ↦ inl k ]
 
-    only : (a : List ℤ) → Contains more a → (s : List ℤ) × Contains (take (i + 1) rows) s × IsPrimitivePart s a
-    only a c = elim ((m.has a).0 c) [
-      | inl q ↦ (t, subst (λ (z : List (List ℤ)). Contains z t) (sym next) (Contains-append_right (take i rows) (t ∷ []) t (Contains-here t [])), subst (IsPrimitivePart t) (sym q) p)
-      | inr k ↦ (let s = g.only a k in (s.0, subst (λ (z : List (List ℤ)). Contains z s.0) (sym next) (Contains-append_left (take i rows) (t ∷ []) s.0 s.1), s.2))
+    back : (a : List ℤ) → Contains xs a ⊎ ((s : List ℤ) × Contains (t ∷ []) s × IsPrimitivePart s a) → Contains more a
+    back a (inl k) = (m.has a).1 (inr k)
+    back a (inr s) = elim (Contains-cases t s.0 [] s.1) [
+      | inl f ↦ (m.has a).1 (inl (primitive_unique s.0 a v s.2 (subst (λ (z : List ℤ). IsPrimitivePart z v) f p)))
+      | inr n ↦ absurd (omega (arith, n.1))
     ]
 
-    each : (s a : List ℤ) → Contains (take (i + 1) rows) s → IsPrimitivePart s a → Contains more a
-    each s a c q = elim (Contains-append_cases (take i rows) (t ∷ []) s (subst (λ (z : List (List ℤ)). Contains z s) next c)) [
-      | inl k ↦ (m.has a).1 (inr (g.each s a k q))
-      | inr k ↦ elim (Contains-cases t s [] k) [
-        | inl f ↦ (m.has a).1 (inl (primitive_unique s a u q (subst (λ (z : List ℤ). IsPrimitivePart z u) f p)))
-        | inr n ↦ absurd (omega (arith, n.1))
-      ]
+-- more rows after others
+pub gathers_append : (xs r s ys zs : List (List ℤ)) → Gathers xs r ys → Gathers ys s zs → Gathers xs (r ++ s) zs
+gathers_append xs r s ys zs g h = record { rises = h.rises; has = λ a. (only a, back a) }
+  where
+    earlier : (a : List ℤ) → Contains ys a → Contains xs a ⊎ ((t : List ℤ) × Contains (r ++ s) t × IsPrimitivePart t a)
+    earlier a c = elim ((g.has a).0 c) [ inl k ↦ inl k | inr t ↦ inr (t.0, Contains-append_left r s t.0 t.1, t.2) ]
+
+    only : (a : List ℤ) → Contains zs a → Contains xs a ⊎ ((t : List ℤ) × Contains (r ++ s) t × IsPrimitivePart t a)
+    only a c = elim ((h.has a).0 c) [ inl k ↦ earlier a k | inr t ↦ inr (t.0, Contains-append_right r s t.0 t.1, t.2) ]
+
+    back : (a : List ℤ) → Contains xs a ⊎ ((t : List ℤ) × Contains (r ++ s) t × IsPrimitivePart t a) → Contains zs a
+    back a (inl k) = (h.has a).1 (inl ((g.has a).1 (inl k)))
+    back a (inr t) = elim (Contains-append_cases r s t.0 t.1) [
+      | inl k ↦ (h.has a).1 (inl ((g.has a).1 (inr (t.0, k, t.2))))
+      | inr k ↦ (h.has a).1 (inr (t.0, k, t.2))
     ]
 
-pub gathered : (bs : List MarkedPolynomial) (rows all : List (List ℤ)) (i : ℕ) → rows ≡ rows_of bs → length rows ≤ i → Gathering rows all i → AreNormals bs all
-gathered bs rows all i e l g = record {
+-- a small vector more leaves a list small
+pub has_small : (xs more : List (List ℤ)) (v : List ℤ) → IsSmall v → All IsSmall xs → HasMore xs v more → All IsSmall more
+has_small xs more v s k m = contained_all IsSmall more (λ a c. elim ((m.has a).0 c) [ inl e ↦ subst IsSmall (sym e) s | inr n ↦ All-contains IsSmall xs a k n ])
+
+-- the primitive parts of all rows
+pub gathered : (bs : List MarkedPolynomial) (all : List (List ℤ)) → Gathers [] (rows_of bs) all → AreNormals bs all
+gathered bs all g = record {
   rises = g.rises;
-  only = λ a c. (let s = g.only a c in (s.0, subst (λ (z : List (List ℤ)). Contains z s.0) (take_all i rows l ∙ e) s.1, s.2));
-  all = λ a n. g.each n.0 a (subst (λ (z : List (List ℤ)). Contains z n.0) (sym (take_all i rows l ∙ e)) n.1) n.2;
+  only = λ a c. elim ((g.has a).0 c) [ inl n ↦ absurd (omega (arith, n.1)) | inr t ↦ t ];
+  all = λ a n. (g.has a).1 (inr n);
 }

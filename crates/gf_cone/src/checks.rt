@@ -4,7 +4,8 @@ ghost use Rattle.gf_vec.specs.Vector.{dot, vector_sum};
 ghost use Rattle.gf_gordan.specs.Alternative.{AreRows};
 ghost use Rattle.gf_cone.specs.Crossing.{IsShownBy};
 
-use gf_vec::{IntVec, dot_slices, total};
+use crate::narrow::dot_of;
+use gf_vec::{IntVec, total};
 
 /// Whether a vector is zero on `w`, where it is to be zero, or positive, where it isn't. False where a product or sum leaves
 /// the range.
@@ -13,9 +14,9 @@ fn is_as_asked(vector: &IntVec, zero: bool, w: &[i128]) -> bool
     ensures zero { IsTrue result → IsTrue zero → dot vector.now w.now ≡ pos 0 }
     ensures positive { IsTrue result → IsFalse zero → pos 0 <ℤ dot vector.now w.now }
 {
-    match dot_slices(vector.as_slice(), w) {
-        Ok(value) => { if zero { value == 0 } else { value > 0 } }
-        Err(_error) => false,
+    match dot_of(vector.as_slice(), w) {
+        Some(value) => { if zero { value == 0 } else { value > 0 } }
+        None => false,
     }
 }
 

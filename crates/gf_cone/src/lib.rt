@@ -7,6 +7,7 @@ mod cone;
 mod known;
 mod listing;
 mod marking;
+mod narrow;
 mod near;
 mod shots;
 mod sums;

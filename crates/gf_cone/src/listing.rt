@@ -1,12 +1,15 @@
 //! Normals: the rows divided by their contents, ascending and each once.
-ghost use Rattle.std.specs.Prelude.{◌≡◌, ◌↔◌, ◌⊎◌, List, ℤ, Contains, All, IfOk};
+ghost use Rattle.std.specs.Prelude.{◌≡◌, ◌↔◌, ◌⊎◌, ℕ, List, ℤ, length, Contains, All, IfOk};
+ghost use Rattle.gf_poly.specs.Polynomial.{HasVariables};
+ghost use Rattle.gf_poly.specs.Marking.{HasMarkedTerm};
+ghost use Rattle.gf_facets.specs.Rows.{row_between, rows_of_terms};
 ghost use Rattle.gf_facets.specs.Normals.{Ascends, AreNormals};
 ghost use Rattle.gf_facets.specs.MarkedBases.{AreCanonical};
 ghost use Rattle.gf_cone.specs.Small.{IsSmall};
-ghost use Rattle.gf_cone.specs.Placing.{IsPlacing};
+ghost use Rattle.gf_cone.specs.Placing.{IsPlacing, Gathers};
 
-use crate::marking::rows;
-use gf_poly::MarkedSet;
+use crate::marking::difference;
+use gf_poly::{Marked, MarkedSet, Mono};
 use gf_vec::IntVec;
 use std::alloc::{AllocError, Global};
 use std::cmp::Ordering;
@@ -18,18 +21,22 @@ enum Placing {
     Known,
 }
 
-/// Where a vector goes into an ascending list.
+/// Where a vector goes into an ascending list, which is halved until it is found.
 fn place_in(list: &[IntVec], v: &IntVec) -> Placing
+    requires { Ascends list.now }
     ensures { IsPlacing list.now v.now result }
 {
-    'places: for i in 0..list.len() {
-        match list[i].lex_cmp(v) {
-            Ordering::Less => {}
+    let mut low = 0;
+    let mut high = list.len();
+    'places: while low < high {
+        let middle = low + (high - low) / 2;
+        match list[middle].lex_cmp(v) {
+            Ordering::Less => low = middle + 1,
             Ordering::Equal => return Placing::Known,
-            Ordering::Greater => return Placing::New(i),
+            Ordering::Greater => high = middle,
         }
     }
-    Placing::New(list.len())
+    Placing::New(low)
 }
 
 /// An ascending list with one more vector, unless it has it.
@@ -51,6 +58,53 @@ fn with_vector(list: Vec<IntVec>, v: IntVec) -> Result<Vec<IntVec>, AllocError>
     }
 }
 
+/// An ascending list with the normal of two monomials, unless they are the same or the list has it.
+///
+/// # Errors
+/// Want of memory.
+fn with_normal(
+    alloc: Global,
+    list: Vec<IntVec>,
+    x: &Mono,
+    y: &Mono,
+) -> Result<Vec<IntVec>, AllocError>
+    requires widths { length x.now ≡ length y.now }
+    requires rises { Ascends list.items }
+    requires small { All IsSmall list.items }
+    ensures gathers { IfOk result (λ more. Gathers list.items (row_between x.now y.now) more.items) }
+    ensures small { IfOk result (λ more. All IsSmall more.items) }
+{
+    if x.exponents() == y.exponents() {
+        return Ok(list);
+    }
+    let mut normal = difference(alloc, x, y)?;
+    normal.primitive();
+    let more = with_vector(list, normal)?;
+    Ok(more)
+}
+
+/// An ascending list with the normals of a member.
+///
+/// # Errors
+/// Want of memory.
+fn with_normals(alloc: Global, list: Vec<IntVec>, b: &Marked) -> Result<Vec<IntVec>, AllocError>
+    requires variables { (n : ℕ) × HasVariables n b.now.poly }
+    requires rises { Ascends list.items }
+    requires small { All IsSmall list.items }
+    ensures gathers { IfOk result (λ more. Gathers list.items (rows_of_terms b.now.head b.now.poly) more.items) }
+    ensures small { IfOk result (λ more. All IsSmall more.items) }
+    ensures marked { HasMarkedTerm b.now }
+{
+    let head = b.head();
+    let terms = b.poly().terms();
+    let mut more = list;
+    'terms: for i in 0..terms.len() {
+        let t = &terms[i];
+        more = with_normal(alloc, more, head, &t.mono)?;
+    }
+    Ok(more)
+}
+
 /// The normals of a marked set, ascending, each once.
 ///
 /// # Errors
@@ -60,12 +114,10 @@ pub(crate) fn normals(alloc: Global, set: &MarkedSet) -> Result<Vec<IntVec>, All
     ensures small { IfOk result (λ ns. All IsSmall ns.items) }
     ensures canonical { IfOk result (λ _. AreCanonical set.now.variables set.now.items) }
 {
-    let rows = rows(alloc, set)?;
+    let items = set.items();
     let mut all = Vec::new(alloc);
-    'rows: for i in 0..rows.len() {
-        let mut normal = rows[i].copy()?;
-        normal.primitive();
-        all = with_vector(all, normal)?;
+    'members: for i in 0..items.len() {
+        all = with_normals(alloc, all, &items[i])?;
     }
     Ok(all)
 }

@@ -23,7 +23,7 @@ fn entry_of(x: u32, y: u32) -> i128
 ///
 /// # Errors
 /// Want of memory.
-fn difference(alloc: Global, x: &Mono, y: &Mono) -> Result<IntVec, AllocError>
+pub(crate) fn difference(alloc: Global, x: &Mono, y: &Mono) -> Result<IntVec, AllocError>
     requires { length x.now ≡ length y.now }
     ensures value { IfOk result (λ v. v ≡ differences x.now y.now) }
     ensures small { IfOk result IsSmall }
