@@ -118,7 +118,7 @@ over_more ls h i f t l e n k = subst (AreIrreducible ls (Some h)) (sym (take_mor
 pub over_end : (ls : List MarkedPolynomial) (h : Exponents) (i : ℕ) (f : Terms) → length f ≤ i → ArePassedOver ls h i f → AreIrreducible ls (Some h) f
 over_end ls h i f l k = subst (AreIrreducible ls (Some h)) (take_all i f l) k
 
-irreducible_beside : (ls : List MarkedPolynomial) (h : Exponents) (f : Terms) → AreIrreducible ls (Some h) f → (x : Exponents) → HasMonomial f x → IsDivisible (Contains ls) x → same x h ≡ true
+pub irreducible_beside : (ls : List MarkedPolynomial) (h : Exponents) (f : Terms) → AreIrreducible ls (Some h) f → (x : Exponents) → HasMonomial f x → IsDivisible (Contains ls) x → same x h ≡ true
 irreducible_beside ls h f a x m d = at (same x h) refl
   where
     there : (same x h ≡ false) → (t : Term) × (IsBeside (Some h) t.mono → IsDivisible (Contains ls) t.mono → ⊥) × (same x t.mono ≡ true) → ⊥

@@ -182,7 +182,7 @@ turned bs ls flags i ms r k AreTailsInTurn.none = record {
 }
 turned bs ls flags i ns r k (AreTailsInTurn.more j ms ks t l x) = turn_next bs ls flags j ms ns r k l x (turned bs ls flags j ms r k t)
 
-by_place : (bs cs : List MarkedPolynomial) → ((j : ℕ) (c : MarkedPolynomial) → IsAt cs j c → IsReducedTail bs c c) → AreReducedTails bs cs cs
+pub by_place : (bs cs : List MarkedPolynomial) → ((j : ℕ) (c : MarkedPolynomial) → IsAt cs j c → IsReducedTail bs c c) → AreReducedTails bs cs cs
 by_place bs [] h = tt
 by_place bs (c ∷ cs) h = (
   h zero c (record { within = omega arith; is = refl }),

@@ -7,8 +7,10 @@ use Rattle.std.proofs.lemmas.List.{get_or_default}
 use Rattle.gf_exponents.specs.SixOrders.{MonomialOrder, below_of}
 use Rattle.gf_exponents.proofs.SixOrdersLaws.{order-is}
 use Rattle.gf_poly.specs.Polynomial.{Terms, HasVariables, IsDescending, coefficient}
-use Rattle.gf_poly.specs.Marking.{MarkedPolynomial, polys, head_of, IsMonicOf, HasMarkedTerm}
-use Rattle.gf_ideal.specs.Membership.{AreInVariables, IsInVariables, IsMember}
+use Rattle.gf_frac.specs.Fraction.{one_ℚ}
+use Rattle.gf_exponents.specs.Exponents.{Exponents, same}
+use Rattle.gf_poly.specs.Marking.{MarkedPolynomial, polys, head_of, IsMonicOf, HasMark, HasMarkedTerm}
+use Rattle.gf_ideal.specs.Membership.{HasMonomial, AreInVariables, IsInVariables, IsMember}
 use Rattle.gf_ideal.specs.Marks.{AreMarked}
 use Rattle.gf_ideal.specs.Reduction.{Reached, IsKept, IsMonicForm}
 use Rattle.gf_ideal.specs.Settled.{IsAt, IsSettledPair}
@@ -23,6 +25,8 @@ use Rattle.gf_ideal.proofs.NormalFormLaws.{normal_form-reached}
 use Rattle.gf_ideal.proofs.PieceLaws.{Contains-polys, Contains-marked}
 use Rattle.gf_ideal.proofs.StepLaws.{reached-more}
 use Rattle.gf_ideal.proofs.WorkLaws.{run_basis, work-marked}
+use Rattle.gf_division.proofs.MonicLaws.{monic_already}
+use Rattle.gf_division.proofs.StepLaws.{head_length, term_coefficient}
 use Rattle.gf_division.specs.SPolynomials.{KeepsPairVariables, IsSPolynomialOf}
 use Rattle.gf_buchberger.specs.Leading.{IsComparable, IsLeadingAt}
 use Rattle.gf_buchberger.specs.Jobs.{IsBasisJob}
@@ -32,7 +36,7 @@ use Rattle.gf_buchberger.proofs.BasesOfRuns.{IsEnd}
 use Rattle.gf_buchberger.proofs.JobLaws.{ring_variables, run_weight}
 use Rattle.gf_buchberger.proofs.ReducedPairLaws.{AreRead, are_read, s_polynomial_is, s_polynomial_variables}
 use Rattle.gf_buchberger.proofs.RunSteps.{in_variables, length-last, contained_old}
-use Rattle.gf_flip.specs.Turns.{ArePairExcused, IsGrown, IsTakenIn, IsPairTaken, IsUnderway, IsOfKind, AreTakenInWhere, IsEarlier, IsTurning, AreKeptIn}
+use Rattle.gf_flip.specs.Turns.{ArePairExcused, IsMadeFrom, IsGrown, IsTakenIn, IsPairTaken, IsUnderway, IsOfKind, AreTakenInWhere, IsEarlier, IsTurning, AreKeptIn}
 
 -- ---- lists of a run
 
@@ -334,6 +338,37 @@ grown_at order r g f b at old new v eg d l h q m k em = record {
 
     of_f : HasVariables v.n f.poly
     of_f = subst (HasVariables v.n) (sym e) v.each
+
+-- the same where it was monic already, and was moved
+pub grown_from : (order : MonomialOrder) (r g : Terms) (f b : MarkedPolynomial) (at : ℕ) (old new : List MarkedPolynomial) → IsComparable order r → g ≡ r → IsDescending r → at < length g → IsLeadingAt order g at (length g) →
+    f ≡ record { poly = r; head = head_of r at } → IsMadeFrom f b → HasMarkedTerm b → new ≡ old ++ b ∷ [] → IsGrown order r old new
+grown_from order r g f b at old new v eg d l h q (inl m) k em = grown_at order r g f b at old new v eg d l h q m k em
+grown_from order r g f b at old new v eg d l h q (inr m) k em = record {
+  member = b;
+  monic = subst (λ (z : Terms). IsMonicForm z b) p own;
+  marked = record {
+    monic = term_coefficient v.n b.poly (record { coef = one_ℚ; mono = b.head }) of_b k.descending mark;
+    tail = subst (λ (z : MarkedPolynomial). (x : Exponents) → HasMonomial z.poly x → (same x z.head ≡ true) ⊎ below_of order x z.head) (sym m.0) (λ x c. (marked_greatest order r g f at v eg d l h q).greatest x c);
+  };
+  poly = λ n w. subst (HasVariables n) (sym p) w;
+  head = λ n w. head_length n b (subst (HasVariables n) (sym p) w) k;
+  members = em;
+}
+  where
+    e : f.poly ≡ r
+    e = ap (λ (z : MarkedPolynomial). z.poly) q
+
+    p : b.poly ≡ r
+    p = ap (λ (z : MarkedPolynomial). z.poly) m.0 ∙ e
+
+    of_b : HasVariables v.n b.poly
+    of_b = subst (HasVariables v.n) (sym p) v.each
+
+    mark : HasMark b one_ℚ
+    mark = subst (λ (z : MarkedPolynomial). HasMark z one_ℚ) (sym m.0) m.1
+
+    own : IsMonicForm b.poly b
+    own = (monic_already b (record { n = v.n; each = of_b }) k mark).form
 
 -- what taking the next polynomial in asks for
 pub entering_appendable : (order : MonomialOrder) (n : ℕ) (fs : List Terms) (single : Bool) (i : ℕ) (start bs : List MarkedPolynomial) (f g : Terms) → i < length fs → f ≡ slice_index_or fs i f → g ≡ f →

@@ -1,11 +1,12 @@
 -- Lifts that end once nothing is left along the normal. Laws: proofs/TopLaws.antt.
-use Rattle.std.specs.Prelude.{◌≡◌, true, List, ℤ, Contains}
+use Rattle.std.specs.Prelude.{◌≡◌, ℕ, true, List, ℤ, Contains}
 use Rattle.gf_exponents.specs.Exponents.{Exponents, same}
 use Rattle.gf_poly.specs.declared.Term.{Term}
 use Rattle.gf_poly.specs.Polynomial.{Terms, IsDescending, KeepsVariables}
 use Rattle.gf_poly.specs.Marking.{MarkedPolynomial, Each}
 use Rattle.gf_ideal.specs.Membership.{HasMonomial}
 use Rattle.gf_ideal.specs.Reduction.{Reached}
+use Rattle.gf_ideal.specs.Settled.{IsAt}
 use Rattle.gf_ideal.specs.OrderTable.{AreMultipleApart}
 
 -- no listed term is a multiple of a apart from x
@@ -22,3 +23,9 @@ pub record IsTopRemainder (bs : List MarkedPolynomial) (a : List ℤ) (x : Expon
 -- no monomial of b but the mark is a multiple of a apart from it
 abbrev pub IsAlone : List ℤ → MarkedPolynomial → Type 0
 IsAlone a b = (x : Exponents) → HasMonomial b.poly x → AreMultipleApart a x b.head → same x b.head ≡ true
+
+-- the member at the place j has the mark h
+pub record IsMarkedAt (bs : List MarkedPolynomial) (h : Exponents) (j : ℕ) : Type 0 where
+  pub member : MarkedPolynomial
+  pub at : IsAt bs j member
+  pub head : member.head ≡ h

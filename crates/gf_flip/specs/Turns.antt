@@ -2,10 +2,11 @@
 -- told by two places, with no mark of a pair. Laws: proofs/TurnLaws.antt.
 -- Source: Cox, Little, O'Shea, Ideals, Varieties, and Algorithms, 2.7.
 use Rattle.std.specs.Prelude.{◌≡◌, ◌≢◌, ◌⊎◌, ℕ, ◌<◌, Bool, true, false, List, [], ◌∷◌, ◌++◌, length, Contains, slice_index_or}
+use Rattle.gf_frac.specs.Fraction.{one_ℚ}
 use Rattle.gf_exponents.specs.Exponents.{AreCoprime}
 use Rattle.gf_exponents.specs.SixOrders.{MonomialOrder, below_of}
 use Rattle.gf_poly.specs.Polynomial.{Terms, HasVariables, KeepsVariables}
-use Rattle.gf_poly.specs.Marking.{MarkedPolynomial, polys}
+use Rattle.gf_poly.specs.Marking.{MarkedPolynomial, polys, HasMark, IsMonicOf}
 use Rattle.gf_ideal.specs.Membership.{IsMember}
 use Rattle.gf_ideal.specs.Marks.{IsMarked}
 use Rattle.gf_ideal.specs.Reduction.{IsMonicForm, IsSPolynomial, HasOneMonomial}
@@ -20,6 +21,10 @@ use Rattle.gf_buchberger.specs.Runs.{MembersHaveVariables}
 -- the pair needs no reduction: both have one monomial, or the marks are coprime
 abbrev pub ArePairExcused : MarkedPolynomial → MarkedPolynomial → Type 0
 ArePairExcused b c = (HasOneMonomial b × HasOneMonomial c) ⊎ AreCoprime b.head c.head
+
+-- b is f divided by its marked coefficient, or f itself where that is 1
+abbrev pub IsMadeFrom : MarkedPolynomial → MarkedPolynomial → Type 0
+IsMadeFrom f b = IsMonicOf f b ⊎ ((b ≡ f) × HasMark f one_ℚ)
 
 -- the monic form of r, marked at its greatest monomial, is the last member now
 pub record IsGrown (order : MonomialOrder) (r : Terms) (old new : List MarkedPolynomial) : Type 0 where

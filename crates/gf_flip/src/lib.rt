@@ -7,6 +7,7 @@ mod along;
 mod flips;
 mod lifts;
 mod limits;
+mod reduction;
 mod tails;
 mod tops;
 mod turns;

@@ -171,8 +171,8 @@ fn stepped(alloc: Global, f: Poly, at: &Mono, by: &Marked) -> Result<Poly, PolyE
     Ok(rest.into_poly()?)
 }
 
-// Whether no mark divides an unmarked term.
-fn is_reduced(terms: &[Term], lifts: &[Marked], head: &Mono) -> bool
+/// Whether no mark divides an unmarked term.
+pub fn is_reduced(terms: &[Term], lifts: &[Marked], head: &Mono) -> bool
     requires members { HaveVariables (length head.now) lifts.now }
     requires terms { HasVariables (length head.now) terms.now }
     ensures { IsTrue result → AreIrreducible lifts.now (Some head.now) terms.now }

@@ -13,7 +13,7 @@ ghost use Rattle.gf_order.specs.Weights.{AreBounded};
 ghost use Rattle.gf_flip.specs.Along.{HasNonzero};
 ghost use Rattle.gf_flip.specs.Lifting.{AreMonic};
 ghost use Rattle.gf_ideal.specs.OrderTable.{AreMultipleApart};
-ghost use Rattle.gf_flip.specs.Tops.{AreOff, IsTopRemainder, IsAlone};
+ghost use Rattle.gf_flip.specs.Tops.{AreOff, IsTopRemainder, IsAlone, IsMarkedAt};
 ghost use Rattle.gf_flip.specs.LiftTails.{IsCopy, AreCopies};
 
 use crate::along::{is_apart, pivot_of};
@@ -169,11 +169,13 @@ fn top_lift(
     Some(Marked::mark(poly, place))
 }
 
-// The lift, of the one kind or the other, and whether it is copied from the set.
+// The lift, of the one kind or the other, and whether it is copied from the set. A member of the set with the same mark is looked
+// for from a place on.
 fn lifted(
     alloc: Global,
     member: &Marked,
     by: &[Marked],
+    from: usize,
     normal: &[i128],
     pivot: usize,
 ) -> Option<(Marked, bool)>
@@ -188,7 +190,7 @@ fn lifted(
     ensures variables { IfSome result (λ l. HasVariables (length normal.now) l.0.poly) }
     ensures copied { IfSome result (λ l. IsCopy by.now l.0 l.1) }
 {
-    if let Some(copy) = untouched(alloc, member, by, normal, pivot) {
+    if let Some(copy) = untouched(alloc, member, by, from, normal, pivot) {
         return Some((copy, true));
     }
     let lift = top_lift(alloc, member, by, normal, pivot)?;
@@ -229,11 +231,39 @@ fn is_beside_on_line(x: &Mono, head: &Mono, normal: &[i128], pivot: usize) -> bo
     }
 }
 
-// The member of the set with the mark of a monomial, if no other term of it is along the normal.
+// Whether the member has this mark.
+fn has_mark(member: &Marked, head: &Mono) -> bool
+    ensures { IsTrue result → member.now.head ≡ head.now }
+{
+    match member.head().compare(head) {
+        Ordering::Equal => true,
+        _ => false,
+    }
+}
+
+// The place of a member with this mark, looked for from a place on, and then before it.
+fn place_of_mark(head: &Mono, by: &[Marked], from: usize) -> Option<usize>
+    ensures { IfSome result (λ j. IsMarkedAt by.now head.now j) }
+{
+    'after: for j in from..by.len() {
+        if has_mark(&by[j], head) {
+            return Some(j);
+        }
+    }
+    'before: for j in 0..by.len().min(from) {
+        if has_mark(&by[j], head) {
+            return Some(j);
+        }
+    }
+    None
+}
+
+// The member of the set with the mark of a monomial, if no other term of it is along the normal. It is looked for from a place on.
 fn untouched(
     alloc: Global,
     member: &Marked,
     by: &[Marked],
+    from: usize,
     normal: &[i128],
     pivot: usize,
 ) -> Option<Marked>
@@ -251,20 +281,15 @@ fn untouched(
     if member.poly().terms().len() != 1 {
         return None;
     }
-    let head = member.head();
-    'members: for j in 0..by.len() {
-        let other = &by[j];
-        if let Ordering::Equal = other.head().compare(head) {
-            if !is_alone(other, normal, pivot) {
-                return None;
-            }
-            return match other.copy() {
-                Ok(copy) => Some(copy),
-                Err(_) => None,
-            };
-        }
+    let j = place_of_mark(member.head(), by, from)?;
+    let other = &by[j];
+    if !is_alone(other, normal, pivot) {
+        return None;
     }
-    None
+    match other.copy() {
+        Ok(copy) => Some(copy),
+        Err(_) => None,
+    }
 }
 
 // Adds a lift.
@@ -301,7 +326,7 @@ pub fn top_lifts(alloc: Global, items: &[Marked], by: &[Marked], normal: &[i128]
         copied: Vec::new(alloc),
     };
     'members: for i in 0..items.len() {
-        let (lift, is_copy) = lifted(alloc, &items[i], by, normal, pivot)?;
+        let (lift, is_copy) = lifted(alloc, &items[i], by, i.saturating_sub(2), normal, pivot)?;
         push(&mut all, lift, is_copy)?;
     }
     Some(all)

@@ -1,18 +1,23 @@
 //! The reduced basis of few small polynomials by a run that takes the pairs in turn: no pair waits in a queue, and none is
 //! marked. Nothing is told of a refusal.
 
-ghost use Rattle.std.specs.Prelude.{◌≡◌, ◌≢◌, ◌+◌, ◌<◌, ◌≤◌, ℕ, true, false, [], length, IfSome, IfOk, IfErr, IsTrue};
+ghost use Rattle.std.specs.Prelude.{◌≡◌, ◌≢◌, ◌+◌, ◌<◌, ◌≤◌, ℕ, true, false, [], length, Contains, IfSome, IfOk, IfErr, IsTrue};
 ghost use Rattle.gf_exponents.specs.Exponents.{AreCoprime};
-ghost use Rattle.gf_poly.specs.Polynomial.{HasVariables};
-ghost use Rattle.gf_ideal.specs.Reduction.{HasOneMonomial};
-ghost use Rattle.gf_division.specs.NormalForms.{HasSomeWeight};
+ghost use Rattle.gf_frac.specs.Fraction.{one_ℚ};
+ghost use Rattle.gf_poly.specs.Polynomial.{HasVariables, KeepsVariables};
+ghost use Rattle.gf_poly.specs.Marking.{HasMark, HaveVariables};
+ghost use Rattle.gf_ideal.specs.NormalForms.{IsNormalForm};
+ghost use Rattle.gf_ideal.specs.Reduction.{HasOneMonomial, IsDivisible, IsIrreducible};
+ghost use Rattle.gf_division.specs.NormalForms.{HasSomeWeight, HaveSameVariables};
 ghost use Rattle.gf_buchberger.specs.Jobs.{IsBasisJob};
 ghost use Rattle.gf_buchberger.specs.Runs.{MembersHaveVariables, IsAppendable};
 ghost use Rattle.gf_buchberger.specs.Bases.{IsArrangedBasis, IsBasisRefusal};
-ghost use Rattle.gf_flip.specs.Turns.{ArePairExcused, IsGrown, IsTakenIn, IsPairTaken, IsUnderway, IsOfKind, AreTakenInWhere, IsTurning, AreKeptIn};
+ghost use Rattle.gf_flip.specs.Turns.{ArePairExcused, IsMadeFrom, IsGrown, IsTakenIn, IsPairTaken, IsUnderway, IsOfKind, AreTakenInWhere, IsTurning, AreKeptIn};
 
+use crate::reduction::reduced_form;
 use gf_buchberger::{BasisError, basis, leading_place};
-use gf_division::{autoreduce, reduced, s_poly};
+use gf_division::{divisor_of, reduced, s_poly};
+use gf_frac::Frac;
 use gf_order::Order;
 use gf_poly::{Marked, MarkedSet, Mono, Poly};
 use std::alloc::Global;
@@ -59,6 +64,33 @@ fn is_excused(b: &Marked, c: &Marked) -> bool
     are_coprime(b.head(), c.head())
 }
 
+// The fraction 1.
+fn one() -> Frac
+    ensures { result ≡ one_ℚ }
+{
+    Frac::ONE
+}
+
+/// Whether the marked coefficient is 1.
+pub fn is_monic(member: &Marked) -> bool
+    ensures { IsTrue result → HasMark member.now one_ℚ }
+{
+    member.coefficient() == one()
+}
+
+// The polynomial divided by its marked coefficient, if all numbers fit; where that is 1 it is moved.
+fn made_monic(f: Marked) -> Option<Marked>
+    ensures { IfSome result (IsMadeFrom f) }
+{
+    if is_monic(&f) {
+        return Some(f);
+    }
+    match f.monic() {
+        Ok(member) => Some(member),
+        Err(_) => None,
+    }
+}
+
 // Adds the monic form of `r` as a member, marked at its greatest monomial.
 fn grow(members: &mut Vec<Marked>, order: &Order, r: Poly) -> Option<()>
     requires some { r ≢ [] }
@@ -66,10 +98,7 @@ fn grow(members: &mut Vec<Marked>, order: &Order, r: Poly) -> Option<()>
     ensures { IfSome result (λ _. IsGrown order.now r members.old.items members.new.items) }
 {
     let at = leading_place(order, r.terms());
-    let member = match Marked::mark(r, at).monic() {
-        Ok(member) => member,
-        Err(_) => return None,
-    };
+    let member = made_monic(Marked::mark(r, at))?;
     // Called for the proof alone: the mark is that of a term.
     let _ = member.head();
     match members.push(member) {
@@ -79,16 +108,55 @@ fn grow(members: &mut Vec<Marked>, order: &Order, r: Poly) -> Option<()>
     Some(())
 }
 
+// Whether a mark divides `x`.
+fn is_divisible(x: &Mono, by: &[Marked]) -> bool
+    requires { HaveVariables (length x.now) by.now }
+    ensures { result ≡ false → IsDivisible (Contains by.now) x.now → ⊥ }
+{
+    match divisor_of(x, by) {
+        Some(_) => true,
+        None => false,
+    }
+}
+
+// Whether no mark divides a term.
+fn is_irreducible(f: &Poly, by: &[Marked]) -> bool
+    requires { HaveSameVariables f.now by.now }
+    ensures { IsTrue result → IsIrreducible (Contains by.now) f.now }
+{
+    let terms = f.terms();
+    'terms: for k in 0..terms.len() {
+        let t = &terms[k];
+        if is_divisible(&t.mono, by) {
+            return false;
+        }
+    }
+    true
+}
+
+// The normal form by the members, if all numbers fit; where no mark divides a term it is the polynomial, which is moved.
+fn normal_of(alloc: Global, f: Poly, by: &[Marked]) -> Option<Poly>
+    requires marked { HasSomeWeight by.now }
+    requires variables { HaveSameVariables f by.now }
+    ensures value { IfSome result (IsNormalForm by.now f) }
+    ensures variables { IfSome result (KeepsVariables f) }
+{
+    if is_irreducible(&f, by) {
+        return Some(f);
+    }
+    match reduced(alloc, f, by) {
+        Ok(r) => Some(r),
+        Err(_) => None,
+    }
+}
+
 // Reduces a polynomial by the members; what is left is a new member.
 fn take_in(alloc: Global, members: &mut Vec<Marked>, order: &Order, f: Poly) -> Option<()>
     requires variables { IsAppendable order.now f members.old.items }
     requires marked { HasSomeWeight members.old.items }
     ensures { IfSome result (λ _. IsTakenIn order.now f members.old.items members.new.items) }
 {
-    let r = match reduced(alloc, f, members) {
-        Ok(r) => r,
-        Err(_) => return None,
-    };
+    let r = normal_of(alloc, f, members)?;
     if r.is_zero() {
         return Some(());
     }
@@ -193,11 +261,8 @@ fn basis_in_turn(alloc: Global, task: &Task, bound: u64) -> Option<MarkedSet>
     ensures { IfSome result (IsArrangedBasis task.now.order.now task.now.n task.now.list.now) }
 {
     let members = run(alloc, task, bound)?;
-    let set = MarkedSet::new(task.n, members);
-    match autoreduce(alloc, &set) {
-        Ok(basis) => Some(basis),
-        Err(_) => None,
-    }
+    let basis = reduced_form(alloc, task.n, members)?;
+    Some(basis)
 }
 
 /// The reduced basis: by a run that takes the pairs in turn, and where that is refused by `basis`, whose refusal is told.

@@ -9,6 +9,9 @@ use std::alloc::Global;
 /// How many times all differences are gone through at most.
 const ROUNDS: u32 = 20_000;
 
+/// Each entry at first: many, so that small steps turn the weight.
+const START: i64 = 1_024;
+
 /// How heavy a monomial is, as far as the numbers fit.
 pub fn heft_of(weight: &[i64], x: &[u32]) -> i64 {
     let mut sum = 0i64;
@@ -70,42 +73,52 @@ fn gain_of(weight: &[i64], row: &[i64]) -> i64 {
     sum
 }
 
-// Adds the difference.
-fn lean(weight: &mut [i64], row: &[i64]) {
+// How often a difference is added that is so heavy, which isn't positive: half as often again as makes it weigh nothing.
+fn times_of(gain: i64, row: &[i64]) -> i64 {
+    let size = gain_of(row, row);
+    if size < 1 {
+        return 1;
+    }
+    (gain.wrapping_mul(-3) / size / 2).wrapping_add(1)
+}
+
+// Adds the difference so often.
+fn lean(weight: &mut [i64], row: &[i64], times: i64) {
     'entries: for i in 0..weight.len() {
         if i < row.len() {
-            weight[i] = weight[i].wrapping_add(row[i]);
+            weight[i] = weight[i].wrapping_add(row[i].wrapping_mul(times));
         }
     }
 }
 
-// Adds 1 to each entry that isn't positive; whether there was none.
+// Sets each entry to 1 that isn't positive; whether there was none.
 fn is_positive(weight: &mut [i64]) -> bool {
     let mut fits = true;
     'entries: for i in 0..weight.len() {
         if weight[i] < 1 {
-            weight[i] += 1;
+            weight[i] = 1;
             fits = false;
         }
     }
     fits
 }
 
-// Adds each difference that isn't positive; whether nothing was added.
+// Adds each difference that isn't positive, some times; whether nothing was added.
 fn fits_all(weight: &mut [i64], rows: &[i64], n: usize) -> bool
     requires { 0 < n }
 {
     let mut fits = true;
     'rows: for row in rows.chunks_exact(n) {
-        if gain_of(weight, row) < 1 {
-            lean(weight, row);
+        let gain = gain_of(weight, row);
+        if gain < 1 {
+            lean(weight, row, times_of(gain, row));
             fits = false;
         }
     }
     is_positive(weight) && fits
 }
 
-/// A weight by which each mark is heavier than the other terms, from ones on, or what is reached after many rounds.
+/// A weight by which each mark is heavier than the other terms, from equal entries on (Agmon, Motzkin, Schoenberg), or what is reached after many rounds.
 pub fn weight_of(alloc: Global, lifts: &[Marked]) -> Option<Vec<i64>> {
     let mut weight = Vec::new(alloc);
     if lifts.is_empty() {
@@ -116,7 +129,7 @@ pub fn weight_of(alloc: Global, lifts: &[Marked]) -> Option<Vec<i64>> {
         return Some(weight);
     }
     'entries: for _ in 0..n {
-        match weight.push(1) {
+        match weight.push(START) {
             Ok(()) => {}
             Err(_) => return None,
         }

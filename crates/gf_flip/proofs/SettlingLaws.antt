@@ -1,0 +1,168 @@
+-- Members that are needed and settled: kept one after another, they are the list autoreduced.
+-- To cite: undivided_more, undivided_form, settled_at, picked-none, picked-more, AreKeptUp, kept_up-none, kept_up-more, kept_up_end, kept_variables, reduced_form, reduced_as.
+use Rattle.std.specs.Prelude.{◌≡◌, ◌⊎◌, ℕ, ◌+◌, ◌<◌, ◌≤◌, Bool, true, false, List, [], ◌∷◌, ◌++◌, length, take, drop, remove, get_or, Contains, Some, None}
+use Rattle.std.proofs.Common.{arith, refl, sym, ap, ◌∙◌, subst, inl, inr}
+use Rattle.std.proofs.lemmas.Bool.{cases_lt}
+use Rattle.std.proofs.lemmas.List.{take_more, take_all, drop_more, get_or_default, get_or_append_left, get_or_push}
+use Rattle.std.proofs.lemmas.List.Elements.{Contains-push_cases}
+use Rattle.gf_frac.specs.Fraction.{one_ℚ}
+use Rattle.gf_exponents.specs.Exponents.{Exponents, same}
+use Rattle.gf_exponents.proofs.ExponentsLaws.{same-refl}
+use Rattle.gf_poly.specs.declared.Term.{Term}
+use Rattle.gf_poly.specs.Polynomial.{Terms, HasVariables, KeepsVariables}
+use Rattle.gf_poly.specs.Marking.{MarkedPolynomial, MarkedPolynomials, HaveVariables, HasMark, HasMarkedTerm, IsArranged}
+use Rattle.gf_ideal.specs.Membership.{HasMonomial}
+use Rattle.gf_ideal.specs.Marks.{HasPositiveWeight, IsRealisable}
+use Rattle.gf_ideal.specs.Reduction.{IsDivisible, IsIrreducible}
+use Rattle.gf_ideal.specs.NormalForms.{IsNormalForm, IsRuleReached}
+use Rattle.gf_ideal.specs.Settled.{IsAt}
+use Rattle.gf_ideal.specs.Bases.{AreArranged, IsCanonical}
+use Rattle.gf_ideal.specs.WorkLists.{IsTail, IsReducedTail}
+use Rattle.gf_division.specs.Autoreduction.{ShareSomeVariables, AreNeededForms, KeepVariables, IsAutoreduced, IsReducedOf}
+use Rattle.gf_ideal.proofs.ListLaws.{Each-++}
+use Rattle.gf_division.specs.Reducers.{AreIrreducible, IsBeside}
+use Rattle.gf_division.proofs.ReducerLaws.{member_at, members_equal, member_contained, member_variables}
+use Rattle.gf_division.proofs.StepLaws.{head_length}
+use Rattle.gf_division.proofs.RuleLaws.{irreducible_whole}
+use Rattle.gf_division.proofs.MonicLaws.{monic_already}
+use Rattle.gf_division.proofs.NeededLaws.{Forming, forming-none, forming-more, forming-skipped, forming_end, forming_variables}
+use Rattle.gf_division.proofs.AutoreductionLaws.{Autoreducing, autoreducing, autoreduced_value, autoreduced_arranged, autoreduced_marked, autoreduced_reduced}
+use Rattle.gf_flip.specs.Settling.{IsSettled, IsSettledAt, IsPick, ArePicked, IsKeptWhere, IsPickedFrom, IsReducedForm}
+use Rattle.gf_flip.proofs.TailSteps.{irreducible_beside}
+use Rattle.gf_flip.proofs.TailsInTurn.{by_place}
+
+-- ---- one polynomial
+
+-- no mark divides a term before the place i
+abbrev pub AreUndividedTo : List MarkedPolynomial → ℕ → Terms → Type 0
+AreUndividedTo bs i f = AreIrreducible bs None (take i f)
+
+pub undivided_more : (bs : List MarkedPolynomial) (i : ℕ) (f : Terms) (t : Term) → i < length f → t ≡ get_or f i t → (IsDivisible (Contains bs) t.mono → ⊥) → AreUndividedTo bs i f → AreUndividedTo bs (i + 1) f
+undivided_more bs i f t l e n k = subst (AreIrreducible bs None) (sym (take_more f i t l ∙ ap (λ (w : Term). take i f ++ w ∷ []) (sym e)))
+    (Each-++ (λ (t : Term). IsBeside None t.mono → IsDivisible (Contains bs) t.mono → ⊥) (take i f) (t ∷ []) k (λ _. n, tt))
+
+pub undivided_end : (bs : List MarkedPolynomial) (i : ℕ) (f g : Terms) → g ≡ f → length g ≤ i → AreUndividedTo bs i g → IsIrreducible (Contains bs) f
+undivided_end bs i f g e l k = subst (IsIrreducible (Contains bs)) e (irreducible_whole bs g (subst (AreIrreducible bs None) (take_all i g l) k))
+
+-- then it is its own normal form
+pub undivided_form : (bs : List MarkedPolynomial) (f : Terms) → IsIrreducible (Contains bs) f → IsNormalForm bs f f
+undivided_form bs f n = record { reached = IsRuleReached.here f (λ x. refl); irreducible = n }
+
+-- ---- one member
+
+pub settled_at : (bs : List MarkedPolynomial) (b : MarkedPolynomial) (i : ℕ) (h : Exponents) (f : Terms) → ShareSomeVariables bs → i < length bs → b ≡ get_or bs i b → HasMarkedTerm b → HasMark b one_ℚ →
+    h ≡ b.head → f ≡ b.poly → AreIrreducible bs (Some h) f → IsSettledAt bs i
+settled_at bs b i h f v l q m o eh ef a = record { at = λ c p. subst (IsSettled bs) (members_equal bs i b c (member_at bs i b l q) p) here }
+  where
+    vars : HasVariables v.n b.poly
+    vars = member_variables v.n bs b v.each (member_contained bs i b (member_at bs i b l q))
+
+    here : IsSettled bs b
+    here = record {
+      monic = monic_already b (record { n = v.n; each = vars }) m o;
+      tail = λ x t d. subst (λ (z : Exponents). same x z ≡ true) eh (irreducible_beside bs h f a x (subst (λ (z : Terms). HasMonomial z x) (sym ef) t) d);
+      kept = record { at = λ w u. record { variables = u; descending = m.descending; head = head_length w b u m } };
+    }
+
+-- ---- the flags
+
+pub picked-none : (bs : List MarkedPolynomial) (flags : List Bool) → flags ≡ [] → ArePicked bs flags 0
+picked-none bs flags e = subst (λ (z : List Bool). ArePicked bs z 0) (sym e) (record { size = refl; at = λ j l. absurd (omega arith) })
+
+pub picked-more : (bs : List MarkedPolynomial) (flags new : List Bool) (i : ℕ) (f : Bool) → IsPick bs i f → new ≡ flags ++ f ∷ [] → ArePicked bs flags i → ArePicked bs new (i + 1)
+picked-more bs flags new i f p e h = subst (λ (z : List Bool). ArePicked bs z (i + 1)) (sym e) (record { size = size; at = λ j l. at j (cases_lt j i) l })
+  where
+    longer : (xs : List Bool) → length (xs ++ f ∷ []) ≡ length xs + 1
+    longer [] = refl
+    longer (x ∷ xs) = omega (arith, longer xs)
+
+    size : length (flags ++ f ∷ []) ≡ i + 1
+    size = omega (arith, longer flags, h.size)
+
+    at : (j : ℕ) → (j < i) ⊎ (i ≤ j) → j < i + 1 → IsPick bs j (get_or (flags ++ f ∷ []) j false)
+    at j (inl q) l = subst (IsPick bs j) (sym (get_or_append_left flags (f ∷ []) false j (omega (arith, h.size)))) (h.at j q)
+    at j (inr q) l =
+        let r : i ≡ j = omega arith in
+        subst (IsPick bs j) (sym (get_or_push flags f false j (h.size ∙ r))) (subst (λ (z : ℕ). IsPick bs z f) r p)
+
+-- ---- the members that are kept
+
+-- ks are those of the first i members that are needed, and the rest is still there
+pub record AreKeptUp (bs left ks : List MarkedPolynomial) (i : ℕ) : Type 0 where
+  pub rest : left ≡ drop i bs
+  pub size : length left + i ≡ length bs
+  pub forming : Forming bs i ks
+  pub inside : (k : MarkedPolynomial) → Contains ks k → Contains bs k × IsSettled bs k
+
+pub kept_up-none : (bs left ks : List MarkedPolynomial) → left ≡ bs → ks ≡ [] → AreKeptUp bs left ks 0
+kept_up-none bs left ks e q = subst (λ (z : List MarkedPolynomial). AreKeptUp bs left z 0) (sym q) (record { rest = e; size = omega (arith, ap length e); forming = forming-none bs; inside = λ k c. absurd (omega (arith, c.1)) })
+
+pub kept_up-more : (bs left next ks new : List MarkedPolynomial) (flags : List Bool) (i : ℕ) (b : MarkedPolynomial) → ArePicked bs flags (length bs) → i < length flags → b ≡ get_or left 0 b → next ≡ remove left 0 →
+    IsKeptWhere (get_or flags i false) b ks new → AreKeptUp bs left ks i → AreKeptUp bs next new (i + 1)
+kept_up-more bs left next ks new flags i b p l e n k h = at (get_or flags i false) (p.at i within) k
+  where
+    within : i < length bs
+    within = omega (arith, l, p.size)
+
+    split : left ≡ get_or bs i b ∷ drop (i + 1) bs
+    split = h.rest ∙ drop_more bs i b within
+
+    after : next ≡ drop (i + 1) bs
+    after = n ∙ ap (λ (z : List MarkedPolynomial). remove z 0) split
+
+    size : length next + (i + 1) ≡ length bs
+    size = omega (arith, h.size, ap length split, ap length after)
+
+    here : IsAt bs i b
+    here = record { within = within; is = sym (e ∙ ap (λ (z : List MarkedPolynomial). get_or z 0 b) split) }
+
+    at : (f : Bool) → IsPick bs i f → IsKeptWhere f b ks new → AreKeptUp bs next new (i + 1)
+    at true g k = record {
+      rest = after;
+      size = size;
+      forming = forming-more bs i ks new b b here g.0 (g.1.at b here).monic (record { at = λ n v. v }) k h.forming;
+      inside = λ c m. one c (Contains-push_cases ks b c (subst (λ (z : List MarkedPolynomial). Contains z c) k m));
+    }
+      where
+        one : (c : MarkedPolynomial) → Contains ks c ⊎ (b ≡ c) → Contains bs c × IsSettled bs c
+        one c (inl m) = h.inside c m
+        one c (inr r) = subst (λ (z : MarkedPolynomial). Contains bs z × IsSettled bs z) r (member_contained bs i b here, g.1.at b here)
+    at false g k = subst (λ (z : List MarkedPolynomial). AreKeptUp bs next z (i + 1)) (sym k) (record { rest = after; size = size; forming = forming-skipped bs i ks g h.forming; inside = h.inside })
+
+pub kept_up_end : (bs left ks : List MarkedPolynomial) (flags : List Bool) (i : ℕ) → ArePicked bs flags (length bs) → length flags ≤ i → AreKeptUp bs left ks i → IsPickedFrom bs ks
+kept_up_end bs left ks flags i p l h = record {
+  forms = forming_end bs i ks (omega (arith, l, p.size)) h.forming;
+  variables = forming_variables bs i ks h.forming;
+  tails = by_place ks ks (λ j c a. tail c (member_contained ks j c a));
+  kept = record { at = λ n v c m. (h.inside c m).1.kept.at n (member_variables n ks c v m) };
+}
+  where
+    tail : (c : MarkedPolynomial) → Contains ks c → IsReducedTail ks c c
+    tail c m = record {
+      tail = IsTail.member c m;
+      head = same-refl c.head;
+      irreducible = λ x t d. (h.inside c m).1.tail x t (record { member = d.member; contained = (h.inside d.member d.contained).0; rest = d.rest; divides = d.divides });
+    }
+
+pub kept_variables : (n : ℕ) (bs ks : List MarkedPolynomial) → HaveVariables n bs → IsPickedFrom bs ks → HaveVariables n ks
+kept_variables n bs ks v p = p.variables.at n v
+
+-- ---- the whole
+
+pub reduced_form : (n : ℕ) (bs ks : List MarkedPolynomial) (s t : MarkedPolynomials) → HaveVariables n bs → IsRealisable n bs → IsPickedFrom bs ks → ◌≡◌ {A = MarkedPolynomials} s (record { variables = n; items = ks }) → IsArranged s t → IsReducedForm n bs t
+reduced_form n bs ks s t v r p e a =
+    let w : Autoreducing n bs ks ks t = autoreducing n n bs bs ks ks ks s t refl refl refl e v p.forms p.variables p.tails p.kept a in
+    record {
+      value = autoreduced_value n bs ks ks t w;
+      arranged = autoreduced_arranged n bs ks ks t w;
+      marked = autoreduced_marked n bs ks ks t r w;
+      reduced = autoreduced_reduced n bs ks ks t w;
+    }
+
+pub reduced_as : (n : ℕ) (bs : List MarkedPolynomial) (s t : MarkedPolynomials) → ◌≡◌ {A = MarkedPolynomials} s (record { variables = n; items = bs }) → IsAutoreduced s t → AreArranged s.variables t.items → HasPositiveWeight s.variables t.items → IsReducedOf s.variables s.items t.items → IsReducedForm n bs t
+reduced_as n bs s t e a r p d = record {
+  value = subst (λ (z : MarkedPolynomials). IsAutoreduced z t) e a;
+  arranged = subst (λ (z : MarkedPolynomials). AreArranged z.variables t.items) e r;
+  marked = subst (λ (z : MarkedPolynomials). HasPositiveWeight z.variables t.items) e p;
+  reduced = subst (λ (z : MarkedPolynomials). IsReducedOf z.variables z.items t.items) e d;
+}

@@ -1,0 +1,152 @@
+//! The reduced basis of the members of a run. Where no mark divides a tail, which is usual for few small polynomials, nothing is
+//! worked out or copied: the members that aren't needed are dropped.
+
+ghost use Rattle.std.specs.Prelude.{◌≡◌, ◌<◌, false, length, IfSome, IsTrue};
+ghost use Rattle.gf_poly.specs.Marking.{HaveVariables};
+ghost use Rattle.gf_ideal.specs.Marks.{HasPositiveWeight, IsRealisable};
+ghost use Rattle.gf_ideal.specs.Bases.{AreArranged};
+ghost use Rattle.gf_division.specs.Autoreduction.{ShareSomeVariables, MakesNeedless, IsNeededAt, IsAutoreduced, IsReducedOf};
+ghost use Rattle.gf_flip.specs.Settling.{IsSettledAt, IsPick, ArePicked, IsKeptWhere, IsPickedFrom, IsReducedForm};
+
+use crate::tails::is_reduced;
+use crate::turns::is_monic;
+use gf_division::autoreduce;
+use gf_poly::{Marked, MarkedSet, Mono};
+use std::alloc::Global;
+
+// Whether a member with the mark `x` makes one with the mark `y` needless, which it stands before or doesn't.
+fn makes_needless(x: &Mono, y: &Mono, is_before: bool) -> bool
+    requires { length x.now ≡ length y.now }
+    ensures yes { IsTrue result → MakesNeedless x.now y.now is_before }
+    ensures no { result ≡ false → MakesNeedless x.now y.now is_before → ⊥ }
+{
+    x.divides(y) && (is_before || !y.divides(x))
+}
+
+// Whether the member at the place `i` is needed.
+fn is_needed(items: &[Marked], i: usize) -> bool
+    requires within { i < length items.now }
+    requires variables { ShareSomeVariables items.now }
+    ensures yes { IsTrue result → IsNeededAt items.now i }
+    ensures no { result ≡ false → IsNeededAt items.now i → ⊥ }
+{
+    let member = &items[i];
+    'members: for j in 0..items.len() {
+        let other = &items[j];
+        if makes_needless(other.head(), member.head(), j < i) {
+            return false;
+        }
+    }
+    true
+}
+
+// Whether the member at the place `i` is monic, and no mark divides its tail.
+fn is_settled(items: &[Marked], i: usize) -> bool
+    requires within { i < length items.now }
+    requires variables { ShareSomeVariables items.now }
+    ensures { IsTrue result → IsSettledAt items.now i }
+{
+    let member = &items[i];
+    if !is_monic(member) {
+        return false;
+    }
+    let head = member.head();
+    is_reduced(member.poly().terms(), items, head)
+}
+
+// Whether the member at the place `i` is needed; nothing where it is and has to be worked on.
+fn pick(items: &[Marked], i: usize) -> Option<bool>
+    requires within { i < length items.now }
+    requires variables { ShareSomeVariables items.now }
+    ensures { IfSome result (IsPick items.now i) }
+{
+    if !is_needed(items, i) {
+        return Some(false);
+    }
+    if !is_settled(items, i) {
+        return None;
+    }
+    Some(true)
+}
+
+// Of each member whether it is needed; nothing where a needed one has to be worked on.
+fn picks(alloc: Global, items: &[Marked]) -> Option<Vec<bool>>
+    requires { ShareSomeVariables items.now }
+    ensures { IfSome result (λ flags. ArePicked items.now flags.items (length items.now)) }
+{
+    let mut flags = Vec::new(alloc);
+    'members: for i in 0..items.len() {
+        let needed = pick(items, i)?;
+        match flags.push(needed) {
+            Ok(()) => {}
+            Err(_) => return None,
+        }
+    }
+    Some(flags)
+}
+
+// Adds a member, unless it isn't picked.
+fn keep(kept: &mut Vec<Marked>, member: Marked, needed: bool) -> Option<()>
+    ensures { IfSome result (λ _. IsKeptWhere needed member kept.old.items kept.new.items) }
+{
+    if !needed {
+        return Some(());
+    }
+    match kept.push(member) {
+        Ok(()) => Some(()),
+        Err(_) => None,
+    }
+}
+
+// The picked members.
+fn picked(alloc: Global, members: Vec<Marked>, flags: &[bool]) -> Option<Vec<Marked>>
+    requires { ArePicked members.items flags.now (length members.items) }
+    ensures { IfSome result (λ kept. IsPickedFrom members.items kept.items) }
+{
+    let mut rest = members;
+    let mut kept = Vec::new(alloc);
+    'members: for i in 0..flags.len() {
+        let member = rest.remove(0);
+        keep(&mut kept, member, flags[i])?;
+    }
+    Some(kept)
+}
+
+// The members autoreduced.
+fn autoreduced(alloc: Global, n: u32, members: Vec<Marked>) -> Option<MarkedSet>
+    requires variables { HaveVariables n members.items }
+    requires realisable { IsRealisable n members.items }
+    ensures { IfSome result (IsReducedForm n members.items) }
+{
+    let set = MarkedSet::new(n, members);
+    match autoreduce(alloc, &set) {
+        Ok(basis) => Some(basis),
+        Err(_) => None,
+    }
+}
+
+// The picked members arranged.
+fn arranged(alloc: Global, n: u32, members: Vec<Marked>, flags: &[bool]) -> Option<MarkedSet>
+    requires variables { HaveVariables n members.items }
+    requires realisable { IsRealisable n members.items }
+    requires picked { ArePicked members.items flags.now (length members.items) }
+    ensures { IfSome result (IsReducedForm n members.items) }
+{
+    let kept = picked(alloc, members, flags)?;
+    match MarkedSet::new(n, kept).arrange() {
+        Ok(basis) => Some(basis),
+        Err(_) => None,
+    }
+}
+
+/// The members autoreduced, if all numbers fit.
+pub fn reduced_form(alloc: Global, n: u32, members: Vec<Marked>) -> Option<MarkedSet>
+    requires variables { HaveVariables n members.items }
+    requires realisable { IsRealisable n members.items }
+    ensures { IfSome result (IsReducedForm n members.items) }
+{
+    match picks(alloc, &members) {
+        Some(flags) => arranged(alloc, n, members, &flags),
+        None => autoreduced(alloc, n, members),
+    }
+}
