@@ -6,3 +6,5 @@ pub mod States  -- what holds after each inequality, and at the end
 pub mod FlatRows  -- inequalities by flags: those that are zero on all rays, and those of facets
 pub mod Cones  -- a cone by its rows and by its rays
 pub mod Sums  -- the operations of a sum of vectors
+pub mod FlagFaces  -- faces by the flags of rays
+pub mod Faces  -- the faces of a cone
