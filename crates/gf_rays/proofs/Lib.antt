@@ -16,6 +16,6 @@ mod OrderLaws  -- vectors in lexicographic order: sorted, ascending, each once
 mod FacetLoops  -- rows that a loop takes, one place further
 mod LeastLaws  -- among inequalities with the same flags there is a least one
 mod FacetLaws  -- facet rows by flags
-pub mod PartLaws  -- whether a cone is a face of another one, by flags
+pub mod FacePartLaws  -- whether a cone is a face of another one, by flags
 pub mod FlagFaceLaws  -- faces by flags, one inequality further
 pub mod FaceNumbers  -- faces by the numbers of their rays, from flags

@@ -10,7 +10,7 @@ ghost use Rattle.gf_rays.specs.MarkedRays.{AreFlagged};
 ghost use Rattle.gf_rays.specs.Faces.{AreFacesBy, AreSortedFaces, place_of};
 
 use crate::numbers::Numbers;
-use crate::parts::{all_parts, by_length};
+use crate::face_lists::{all_parts, by_length};
 use crate::ray::Ray;
 use std::alloc::{AllocError, Global};
 use std::cmp::Ordering;
