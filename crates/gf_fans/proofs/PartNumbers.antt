@@ -72,7 +72,7 @@ places_of hs (t ∷ ts) f =
     let r = places_of hs ts (λ u d. f u (in_tail t ts u d)) in
     (c.0 ∷ r.0, ((λ k d. elim (in_cons c.0 r.0 k d) [ inl e ↦ subst (λ j. j < length hs) (sym e) c.1 | inr i ↦ r.1.0 k i ]), ap (λ v. v ∷ numbered hs r.0) (get_or_default hs c.0 [] t c.1 ∙ c.2) ∙ ap (λ l. t ∷ l) r.1.1))
 
-rows_listed : (hs : List (List ℤ)) (ks : List ℕ) → ((k : ℕ) → Contains ks k → k < length hs) → (t : List ℤ) → Contains (numbered hs ks) t → Contains hs t
+pub rows_listed : (hs : List (List ℤ)) (ks : List ℕ) → ((k : ℕ) → Contains ks k → k < length hs) → (t : List ℤ) → Contains (numbered hs ks) t → Contains hs t
 rows_listed hs ks f t c = let u = of_number hs ks t c in let h = f u.0 u.1.0 in subst (Contains hs) u.1.1 (u.0, h, get_or_default hs u.0 (get_or hs u.0 []) [] h)
 
 -- ---- dimensions

@@ -17,3 +17,6 @@ mod FacetLoops  -- rows that a loop takes, one place further
 mod LeastLaws  -- among inequalities with the same flags there is a least one
 mod FacetLaws  -- facet rows by flags
 pub mod PartLaws  -- the rays on which an inequality is zero
+pub mod FacePartLaws  -- whether a cone is a face of another one, by flags
+pub mod FlagFaceLaws  -- faces by flags, one inequality further
+pub mod FaceNumbers  -- faces by the numbers of their rays, from flags

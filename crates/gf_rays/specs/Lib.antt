@@ -7,3 +7,5 @@ pub mod FlatRows  -- inequalities by flags: those that are zero on all rays, and
 pub mod Cones  -- a cone by its rows and by its rays
 pub mod Sums  -- the operations of a sum of vectors
 pub mod Parts  -- the rays on which a row is zero
+pub mod FlagFaces  -- faces by the flags of rays
+pub mod Faces  -- the faces of a cone

@@ -2,9 +2,10 @@
 ghost use Rattle.std.specs.Prelude.{◌≡◌, ◌+◌, ◌≤◌, ◌<◌, ◌↔◌, [], ℕ, List, ℤ, pos, All, Contains, IfOk, IfErr, IsTrue, length, slice_index_or};
 ghost use Rattle.gf_vec.specs.Vector.{dot, zeros};
 ghost use Rattle.gf_vec.specs.Steps.{NoneWide, IsFirstWide, IfWide};
-ghost use Rattle.gf_duality.specs.Faces.{AreFacetRows, IsInterior, sum_of};
+ghost use Rattle.gf_duality.specs.Faces.{AreFacetRows, IsFaceOf, IsInterior, sum_of};
 ghost use Rattle.gf_rays.specs.Cones.{AreRaysWithinLimits, rows_of};
 ghost use Rattle.gf_gordan.specs.declared.error.GordanError.TheVariants.{Memory};
+ghost use Rattle.gf_rays.specs.Faces.{AreFaces};
 ghost use Rattle.gf_rays.specs.Sums.{adding_steps};
 ghost use Rattle.gf_rays.specs.Parts.{zeros_of};
 ghost use Rattle.gf_gordan.specs.Alternative.{AreRows};
@@ -13,9 +14,11 @@ ghost use Rattle.gf_duality.specs.Rays.{IsRays, IsImplied};
 ghost use Rattle.gf_duality.specs.Stages.{IsRaysStep};
 
 use crate::describe::describe;
+use crate::faces::{Face, faces_by};
 use crate::facets::facet_rows;
 use crate::finish::{copied, finish, vectors};
 use crate::implied::implied;
+use crate::part::{flat_flags, part_below, same_lists};
 use crate::parts::zeros_at;
 use crate::ray::Ray;
 use crate::step::Generators;
@@ -223,5 +226,48 @@ impl Rays {
         let alloc = *self.rays.allocator();
         let part = zeros_at(alloc, inequality, self.marked.as_slice())?;
         sum(alloc, self.ambient as usize, part.as_slice())
+    }
+
+    /// All faces, each once, by dimension and then by the numbers of their rays. A face is the part of the cone on which some
+    /// of its inequalities, perhaps none, are zero; a number counts from 0 in `rays`.
+    ///
+    /// # Errors
+    /// Want of memory alone; there is none for numbers of `2^32` rays or more.
+    pub fn faces(&self) -> Result<Vec<Face>, AllocError>
+        ensures { IfOk result (λ out. AreFaces self.now out.items) }
+    {
+        faces_by(
+            *self.rays.allocator(),
+            self.inequalities.len(),
+            self.lineality.len(),
+            self.marked.as_slice(),
+        )
+    }
+
+    /// Whether another cone is a face of this one, all of whose inequalities it has from a place on.
+    ///
+    /// # Errors
+    /// Want of memory alone.
+    pub fn has_face(&self, face: &Rays, from: usize) -> Result<bool, AllocError>
+        requires ambient { face.now.ambient ≡ self.now.ambient }
+        requires inside { from + length self.now.inequalities ≤ length face.now.inequalities }
+        requires rows { (k : ℕ) → k < length self.now.inequalities → slice_index_or face.now.inequalities (from + k) [] ≡ slice_index_or self.now.inequalities k [] }
+        ensures { IfOk result (λ yes. IsTrue yes ↔ IsFaceOf self.now.ambient (rows_of face.now) (rows_of self.now)) }
+    {
+        let alloc = *self.rays.allocator();
+        let flags = flat_flags(
+            alloc,
+            from,
+            self.inequalities.len(),
+            face.inequalities.len(),
+            face.marked.as_slice(),
+        )?;
+        let part = part_below(alloc, &flags, self.marked.as_slice())?;
+        Ok(same_lists(
+            part.as_slice(),
+            face.rays.as_slice(),
+            self.lineality.as_slice(),
+            face.lineality.as_slice(),
+        ))
     }
 }
