@@ -1,0 +1,97 @@
+-- The loop over the normals of a cone, one place further.
+use Rattle.std.proofs.Common.{◌≡◌, ℕ, zero, suc, ◌+◌, ◌<◌, ◌≤◌, List, [], ◌∷◌, ◌++◌, length, ℤ, arith, refl, sym, ap, ◌∙◌, subst, Contains, get_or, inl, inr}
+use Rattle.std.proofs.lemmas.Bool.{cases_lt}
+use Rattle.std.proofs.lemmas.List.{get_or_default}
+use Rattle.std.proofs.lemmas.List.Elements.{Contains-append_left, Contains-append_right, Contains-append_cases}
+use Rattle.gf_poly.specs.Marking.{MarkedPolynomial}
+use Rattle.gf_duality.proofs.ListLaws.{none_in, in_head, in_tail, in_cons}
+use Rattle.gf_facets.specs.LexPositive.{IsBefore}
+use Rattle.gf_facets.specs.Regions.{all_positive}
+use Rattle.gf_facets.specs.Normals.{Ascends}
+use Rattle.gf_facets.specs.Facets.{IsFlippable}
+use Rattle.gf_cone.specs.Cones.{ConeRows, normal_at, IsConeOf}
+use Rattle.gf_weights.specs.declared.certificates.FacetWitness.{FacetWitness}
+use Rattle.gf_weights.specs.Weights.{IsPrintedWitness, AreWitnessed, normals_of}
+use Rattle.gf_weights.specs.Cuts.{AreWitnessedBefore}
+
+-- an ascending list and one more behind it
+ascends_more : (xs : List (List ℤ)) (x : List ℤ) → Ascends xs → ((y : List ℤ) → Contains xs y → IsBefore y x) → Ascends (xs ++ x ∷ [])
+ascends_more [] x p f = (λ y c. absurd (none_in y c), tt)
+ascends_more (y ∷ xs) x p f = (
+  λ z c. elim (Contains-append_cases xs (x ∷ []) z c) [
+    | inl a ↦ p.0 z a
+    | inr b ↦ elim (in_cons x [] z b) [ inl e ↦ subst (IsBefore y) (sym e) (f y (in_head y xs)) | inr k ↦ absurd (none_in z k) ]
+  ],
+  ascends_more xs x p.1 (λ z c. f z (in_tail y xs z c)),
+)
+
+-- an earlier member of an ascending list is before a later one
+ascends_at : (ns : List (List ℤ)) (i j : ℕ) → Ascends ns → i < j → j < length ns → IsBefore (get_or ns i []) (get_or ns j [])
+ascends_at [] i j p l m = absurd (omega (arith, m))
+ascends_at (x ∷ ns) i zero p l m = absurd (omega (arith, l))
+ascends_at (x ∷ ns) zero (suc j) p l m = p.0 (get_or ns j []) (j, omega (arith, m), get_or_default ns j _ [] (omega (arith, m)))
+ascends_at (x ∷ ns) (suc i) (suc j) p l m = ascends_at ns i j p.1 (omega (arith, l)) (omega (arith, m))
+
+normals_append : (fs : List FacetWitness) (f : FacetWitness) → normals_of (fs ++ f ∷ []) ≡ normals_of fs ++ f.normal ∷ []
+normals_append [] f = refl
+normals_append (g ∷ fs) f = ap (λ (z : List (List ℤ)). g.normal ∷ z) (normals_append fs f)
+
+module _ (n : ℕ) (bs : List MarkedPolynomial) (c : ConeRows) where
+  pub facets_none : (fs : List FacetWitness) → fs ≡ [] → AreWitnessedBefore n bs c 0 fs
+  facets_none fs e = subst (AreWitnessedBefore n bs c 0) (sym e) (record {
+    rises = tt;
+    before = λ a k. absurd (none_in a k);
+    flippable = λ f k. absurd (none_in f k);
+    witnessed = λ f k. absurd (none_in f k);
+    all = λ j l f. absurd (omega (arith, l));
+  })
+
+  -- a normal whose facet no flip may cross
+  pub facets_passed : (i : ℕ) (fs : List FacetWitness) → (IsFlippable n (all_positive n) bs (normal_at c i) → ⊥) → AreWitnessedBefore n bs c i fs → AreWitnessedBefore n bs c (i + 1) fs
+  facets_passed i fs not h = record {
+    rises = h.rises;
+    before = λ a k. let q = h.before a k in (q.0, omega (arith, q.1), q.2);
+    flippable = h.flippable;
+    witnessed = h.witnessed;
+    all = λ j l f. elim (cases_lt j i) [
+      | inl m ↦ h.all j m f
+      | inr m ↦ let e : j ≡ i = omega (arith, l, m) in absurd (not (subst (λ (z : ℕ). IsFlippable n (all_positive n) bs (normal_at c z)) e f))
+    ];
+  }
+
+  -- and one whose facet may be crossed, with its witness
+  pub facets_next : (i : ℕ) (fs next : List FacetWitness) (f : FacetWitness) → IsConeOf n (all_positive n) bs c → i < length c.normals → f.normal ≡ normal_at c i → IsFlippable n (all_positive n) bs (normal_at c i) →
+      IsPrintedWitness n bs (normal_at c i) f.witness → next ≡ fs ++ f ∷ [] → AreWitnessedBefore n bs c i fs → AreWitnessedBefore n bs c (i + 1) next
+  facets_next i fs next f k l e flip w en h = subst (AreWitnessedBefore n bs c (i + 1)) (sym en) (record {
+    rises = subst Ascends (sym (normals_append fs f)) (ascends_more (normals_of fs) f.normal h.rises (λ a q.
+        let b = h.before a q in
+        subst (λ (z : List ℤ). IsBefore z f.normal) (sym b.2) (subst (IsBefore (normal_at c b.0)) (sym e) (ascends_at c.normals b.0 i k.normals.rises b.1 l))));
+    before = λ a q. elim (Contains-append_cases (normals_of fs) (f.normal ∷ []) a (subst (λ (z : List (List ℤ)). Contains z a) (normals_append fs f) q)) [
+      | inl b ↦ let r = h.before a b in (r.0, omega (arith, r.1), r.2)
+      | inr b ↦ elim (in_cons f.normal [] a b) [ inl d ↦ (i, omega arith, d ∙ e) | inr d ↦ absurd (none_in a d) ]
+    ];
+    flippable = λ g q. elim (Contains-append_cases fs (f ∷ []) g q) [
+      | inl b ↦ h.flippable g b
+      | inr b ↦ elim (in_cons f [] g b) [ inl d ↦ subst (λ (z : FacetWitness). IsFlippable n (all_positive n) bs z.normal) (sym d) (subst (IsFlippable n (all_positive n) bs) (sym e) flip) | inr d ↦ absurd (none_in g d) ]
+    ];
+    witnessed = λ g q. elim (Contains-append_cases fs (f ∷ []) g q) [
+      | inl b ↦ h.witnessed g b
+      | inr b ↦ elim (in_cons f [] g b) [ inl d ↦ subst (λ (z : FacetWitness). IsPrintedWitness n bs z.normal z.witness) (sym d) (subst (λ (z : List ℤ). IsPrintedWitness n bs z f.witness) (sym e) w) | inr d ↦ absurd (none_in g d) ]
+    ];
+    all = λ j m g. subst (λ (z : List (List ℤ)). Contains z (normal_at c j)) (sym (normals_append fs f)) (elim (cases_lt j i) [
+      | inl d ↦ Contains-append_left (normals_of fs) (f.normal ∷ []) (normal_at c j) (h.all j d g)
+      | inr d ↦ let ej : j ≡ i = omega (arith, m, d) in subst (λ (z : List ℤ). Contains (normals_of fs ++ f.normal ∷ []) z) (e ∙ ap (normal_at c) (sym ej)) (Contains-append_right (normals_of fs) (f.normal ∷ []) f.normal (in_head f.normal []))
+    ]);
+  })
+
+  -- at the end all are there
+  pub facets_all : (i : ℕ) (fs : List FacetWitness) → IsConeOf n (all_positive n) bs c → length c.normals ≤ i → AreWitnessedBefore n bs c i fs → AreWitnessed n bs fs
+  facets_all i fs k l h = record {
+    rises = h.rises;
+    flippable = h.flippable;
+    witnessed = h.witnessed;
+    all = λ a f.
+        let there = k.normals.all a f.inside.normal in
+        let e : normal_at c there.0 ≡ a = get_or_default c.normals there.0 [] a there.1 ∙ there.2 in
+        subst (Contains (normals_of fs)) e (h.all there.0 (omega (arith, there.1, l)) (subst (IsFlippable n (all_positive n) bs) (sym e) f));
+  }

@@ -1,0 +1,13 @@
+-- The theorems of specs/Theorems.antt.
+use Rattle.gf_weights.specs.Theorems.{WeightsGiveBases, WitnessesAreInside, CertificatesAreUnique}
+use Rattle.gf_weights.proofs.WeightLaws.{weight_marks, weight_basis, witness_inside}
+use Rattle.gf_weights.proofs.UniqueLaws.{one_weight, one_witness, one_certificates}
+
+pub weights_give_bases : WeightsGiveBases
+weights_give_bases = record { marks = weight_marks; basis = weight_basis }
+
+pub witnesses_are_inside : WitnessesAreInside
+witnesses_are_inside = witness_inside
+
+pub certificates_are_unique : CertificatesAreUnique
+certificates_are_unique = record { weight = one_weight; witness = one_witness; all = one_certificates }

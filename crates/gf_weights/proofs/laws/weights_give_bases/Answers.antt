@@ -1,0 +1,5 @@
+use Rattle.gf_weights.proofs.TheoremsHold.{weights_give_bases}
+use Rattle.gf_weights.proofs.laws.weights_give_bases.Goals as goal
+
+pub returns : goal.returns
+returns c = weights_give_bases

@@ -1,0 +1,44 @@
+-- A cone that is cut with the non-negative orthant, as a program keeps it: its rows, and its rays.
+-- Laws: proofs/CutLaws.antt.
+use Rattle.std.specs.Prelude.{◌≡◌, ℕ, ◌<◌, List, [], length, slice_index_or, ℤ, pos, Contains}
+use Rattle.gf_poly.specs.Marking.{MarkedPolynomial}
+use Rattle.gf_vec.specs.Vector.{dot}
+use Rattle.gf_duality.specs.Rays.{IsRays}
+use Rattle.gf_rays.specs.Cones.{RowsAndRays}
+use Rattle.gf_facets.specs.Regions.{all_positive}
+use Rattle.gf_facets.specs.Normals.{Ascends}
+use Rattle.gf_facets.specs.Facets.{IsFlippable}
+use Rattle.gf_cone.specs.Cones.{ConeRows, all_rows, normal_at, IsConeOf}
+use Rattle.gf_weights.specs.declared.certificates.FacetWitness.{FacetWitness}
+use Rattle.gf_weights.specs.Weights.{IsPrintedWitness, normals_of}
+
+-- r has the rays of the rows of c
+pub record HasRaysOf (c : ConeRows) (r : RowsAndRays) : Type 0 where
+  pub ambient : r.ambient ≡ c.variables
+  pub rows : r.inequalities ≡ all_rows c
+  pub rays : IsRays c.variables (all_rows c) [] r.lineality r.rays
+
+-- c is the cone of bs in n variables, and r has its rays, cut with the orthant
+pub record IsCutOf (n : ℕ) (bs : List MarkedPolynomial) (c : ConeRows) (r : RowsAndRays) : Type 0 where
+  pub cone : IsConeOf n (all_positive n) bs c
+  pub rays : HasRaysOf c r
+
+-- the inequality at i is zero on the ray at j
+abbrev pub IsZeroAt : RowsAndRays → ℕ → ℕ → Type 0
+IsZeroAt r i j = dot (slice_index_or r.inequalities i []) (slice_index_or r.rays j []) ≡ pos 0
+
+-- some ray on which the inequality at i is zero isn't one on which that at k is
+abbrev pub HasRayOff : RowsAndRays → ℕ → ℕ → Type 0
+HasRayOff r i k = (j : ℕ) × (j < length r.rays) × IsZeroAt r i j × (IsZeroAt r k j → ⊥)
+
+-- so it is with each other inequality
+abbrev pub HasRayOffOthers : RowsAndRays → ℕ → Type 0
+HasRayOffOthers r i = (k : ℕ) → k < length r.inequalities → (k ≡ i → ⊥) → HasRayOff r i k
+
+-- the facets that a flip may cross among those of the first normals of c
+pub record AreWitnessedBefore (n : ℕ) (bs : List MarkedPolynomial) (c : ConeRows) (i : ℕ) (fs : List FacetWitness) : Type 0 where
+  pub rises : Ascends (normals_of fs)
+  pub before : (a : List ℤ) → Contains (normals_of fs) a → (j : ℕ) × (j < i) × (a ≡ normal_at c j)
+  pub flippable : (f : FacetWitness) → Contains fs f → IsFlippable n (all_positive n) bs f.normal
+  pub witnessed : (f : FacetWitness) → Contains fs f → IsPrintedWitness n bs f.normal f.witness
+  pub all : (j : ℕ) → j < i → IsFlippable n (all_positive n) bs (normal_at c j) → Contains (normals_of fs) (normal_at c j)

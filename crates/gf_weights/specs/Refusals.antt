@@ -1,0 +1,66 @@
+-- Why weights and witnesses aren't told. Laws: proofs/RefusalLaws.antt.
+use Rattle.std.specs.Prelude.{◌≡◌, ◌⊎◌, ℕ, List, [], ℤ}
+use Rattle.gf_poly.specs.Marking.{MarkedPolynomial}
+use Rattle.gf_vec.specs.Vector.{zeros}
+use Rattle.gf_vec.specs.Steps.{IsFirstWide}
+use Rattle.gf_vec.specs.declared.error.WideVector.{WideVector}
+use Rattle.gf_vec.specs.declared.error.VecError.{VecError}
+use Rattle.gf_vec.specs.declared.error.VecError.TheVariants as vec_errors
+use Rattle.gf_gordan.specs.declared.error.ConeOverflow.{ConeOverflow}
+use Rattle.gf_gordan.specs.declared.error.GordanError.{GordanError}
+use Rattle.gf_gordan.specs.declared.error.GordanError.TheVariants as gordan_errors
+use Rattle.gf_duality.specs.Stages.{IsRaysStep}
+use Rattle.gf_rays.specs.Sums.{adding_steps}
+use Rattle.gf_rays.specs.Parts.{zeros_of}
+use Rattle.gf_facets.specs.Regions.{all_positive}
+use Rattle.gf_facets.specs.Facets.{IsFlippable}
+use Rattle.gf_weights.specs.declared.error.WeightError.{WeightError}
+use Rattle.gf_weights.specs.declared.error.WeightError.TheVariants.{Cone, Wide, Memory}
+use Rattle.gf_weights.specs.Weights.{AreCutRows, AreCutRays}
+
+-- ---- refusals of other crates
+
+abbrev pub of_gordan : GordanError → WeightError
+of_gordan (gordan_errors.Cone o) = Cone o
+of_gordan gordan_errors.Memory = Memory
+
+abbrev pub of_vector : VecError → WeightError
+of_vector (vec_errors.Wide w) = Wide w
+of_vector vec_errors.Memory = Memory
+
+-- ---- causes
+
+-- an operation of finding the rays of the cut cone leaves the range
+abbrev pub IsCutStep : ℕ → List MarkedPolynomial → ConeOverflow → Type 0
+IsCutStep n bs s = (rows : List (List ℤ)) × AreCutRows n bs rows × IsRaysStep n rows [] s
+
+-- the first sum, from the left, of an entry of a partial sum of its rays and one of the next ray, that leaves the range
+abbrev pub IsWideWeight : ℕ → List MarkedPolynomial → WideVector → Type 0
+IsWideWeight n bs e = (rays : List (List ℤ)) × AreCutRays n bs rays × IsFirstWide e (adding_steps (zeros n) rays)
+
+-- the same of those on which the normal of a facet is zero that a flip may cross
+abbrev pub IsWideWitness : ℕ → List MarkedPolynomial → WideVector → Type 0
+IsWideWitness n bs e = (a : List ℤ) × IsFlippable n (all_positive n) bs a ×
+    ((rays : List (List ℤ)) × AreCutRays n bs rays × IsFirstWide e (adding_steps (zeros n) (zeros_of a rays)))
+
+-- why the weight isn't told
+abbrev pub IsWeightCause : ℕ → List MarkedPolynomial → WeightError → Type 0
+IsWeightCause n bs (Cone s) = IsCutStep n bs s
+IsWeightCause n bs (Wide e) = IsWideWeight n bs e
+IsWeightCause n bs Memory = Unit {0}
+
+-- why the weight and the witnesses aren't
+abbrev pub IsCertificateCause : ℕ → List MarkedPolynomial → WeightError → Type 0
+IsCertificateCause n bs (Cone s) = IsCutStep n bs s
+IsCertificateCause n bs (Wide e) = IsWideWeight n bs e ⊎ IsWideWitness n bs e
+IsCertificateCause n bs Memory = Unit {0}
+
+-- ---- within limits
+
+-- nothing that is added up or worked out for the weight leaves the range
+abbrev pub IsWeightWithinLimits : ℕ → List MarkedPolynomial → Type 0
+IsWeightWithinLimits n bs = (e : WeightError) → IsWeightCause n bs e → e ≡ Memory
+
+-- nor for the weight and the witnesses
+abbrev pub AreCertificatesWithinLimits : ℕ → List MarkedPolynomial → Type 0
+AreCertificatesWithinLimits n bs = (e : WeightError) → IsCertificateCause n bs e → e ≡ Memory

@@ -1,0 +1,61 @@
+//! The cone of a marked set, cut with the non-negative orthant, by its rays.
+ghost use Rattle.std.specs.Prelude.{◌≡◌, ◌<◌, ◌↔◌, ℕ, length, IsTrue, IfOk, IfErr};
+ghost use Rattle.gf_cone.specs.Crossing.{IsCrossable};
+ghost use Rattle.gf_weights.specs.Cuts.{HasRaysOf, IsCutOf, IsZeroAt, HasRayOff, HasRayOffOthers};
+ghost use Rattle.gf_weights.specs.Refusals.{IsWeightCause};
+
+use crate::error::WeightError;
+use gf_cone::Cone;
+use gf_poly::MarkedSet;
+use gf_rays::Rays;
+use std::alloc::Global;
+
+/// The normals of a marked set and the unit vectors, and the rays of their cone.
+#[derive(Drop)]
+pub(crate) struct Cut {
+    pub(crate) cone: Cone,
+    pub(crate) rays: Rays,
+}
+
+/// The cone of a marked set, cut with the orthant.
+///
+/// # Errors
+/// `Cone` only at an operation of finding its rays; want of memory.
+pub(crate) fn cut_cone(alloc: Global, set: &MarkedSet) -> Result<Cut, WeightError>
+    ensures ok { IfOk result (λ c. IsCutOf set.now.variables set.now.items c.cone c.rays) }
+    ensures err { IfErr result (IsWeightCause set.now.variables set.now.items) }
+{
+    let cone = Cone::of(alloc, set)?;
+    let none = Vec::new(alloc);
+    let rays = Rays::of(alloc, cone.variables(), cone.vectors(), none.as_slice())?;
+    Ok(Cut { cone, rays })
+}
+
+/// Whether some ray on which the inequality at `place` is zero isn't one on which that at `other` is.
+fn has_ray_off(rays: &Rays, place: usize, other: usize) -> bool
+    requires place { place < length rays.now.inequalities }
+    requires other { other < length rays.now.inequalities }
+    ensures yes { IsTrue result → HasRayOff rays.now place other }
+    ensures no { (IsTrue result → ⊥) → (j : ℕ) → j < length rays.now.rays → IsZeroAt rays.now place j → IsZeroAt rays.now other j }
+{
+    for ray in 0..rays.rays().len() {
+        if rays.is_zero(place, ray) && !rays.is_zero(other, ray) {
+            return true;
+        }
+    }
+    false
+}
+
+/// Whether a flip may cross the facet of the normal at a place: no other row is zero on all the rays on which this one is.
+pub(crate) fn is_flippable(cut: &Cut, place: usize) -> bool
+    requires cut { HasRaysOf cut.now.cone cut.now.rays }
+    requires place { place < length cut.now.cone.normals }
+    ensures { IsTrue result ↔ IsCrossable cut.now.cone place }
+{
+    for other in 0..cut.rays.inequalities().len() {
+        if other != place && !has_ray_off(&cut.rays, place, other) {
+            return false;
+        }
+    }
+    true
+}

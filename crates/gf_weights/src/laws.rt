@@ -1,0 +1,19 @@
+// What the printed weights and witnesses have.
+ghost use Rattle.gf_weights.specs.Theorems.{WeightsGiveBases, WitnessesAreInside, CertificatesAreUnique};
+
+/// The printed weight gives the marks, and a marked reduced basis is the reduced one for its printed weight (Fukuda, Jensen,
+/// Thomas, *Computing Gröbner fans*, 2).
+pub fn weights_give_bases()
+    ensures { WeightsGiveBases }
+{}
+
+/// The printed witness of a facet that a flip may cross is positive, zero on the facet's normal, and positive on all other
+/// normals.
+pub fn witnesses_are_inside()
+    ensures { WitnessesAreInside }
+{}
+
+/// A marked list has one printed weight, and each facet one witness.
+pub fn certificates_are_unique()
+    ensures { CertificatesAreUnique }
+{}

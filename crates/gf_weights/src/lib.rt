@@ -1,0 +1,14 @@
+//! The weight that is printed of a marked reduced Gröbner basis, and a vector inside each of its flippable facets: sums of the
+//! primitive vectors along the extreme rays of its cone, cut with the non-negative orthant.
+//!
+//! Start at `specs/Weights.antt`; `specs/Theorems.antt` has the theorems.
+#![tactic(auto)]
+
+mod certificates;
+mod cut;
+mod error;
+mod laws;
+
+pub use certificates::{Certificates, FacetWitness, certify, weight};
+pub use error::WeightError;
+pub use laws::{certificates_are_unique, weights_give_bases, witnesses_are_inside};
