@@ -1,4 +1,4 @@
-//! Tests of bases, cones, flips and the tree of bases: `gf_buchberger`, `gf_cone`, `gf_flip`, `gf_tree`. They stand in a crate of
+//! Tests of bases, cones, flips and the tree of bases: `gf_buchberger`, `gf_conversion`, `gf_cone`, `gf_flip`, `gf_tree`. They stand in a crate of
 //! their own since a crate with tests is proved twice, with them and without.
 #![tactic(auto)]
 
@@ -6,6 +6,8 @@
 mod buchberger;
 #[cfg(test)]
 mod cones;
+#[cfg(test)]
+mod conversions;
 #[cfg(test)]
 mod flips;
 #[cfg(test)]

@@ -14,5 +14,4 @@ pub mod InterreductionOfRuns  -- the end of a run, autoreduced
 pub mod RefusalsOfRuns  -- refusals are operations of the run
 pub mod BasesOfRuns  -- where a run ends
 pub mod MonomialRuns  -- the runs on one monomial
-pub mod BasesOfBases  -- a basis worked out from another one
 pub mod HomogeneityLaws  -- the first term of another degree

@@ -1,6 +1,6 @@
 //! Buchberger's algorithm: the reduced Gröbner basis of an ideal for an order of monomials.
 //!
-//! Start at `basis`, one run; `basis_by_runs` tries further ones where numbers don't fit. What a Gröbner basis is, and why the algorithm is right, stands in `gf_ideal`
+//! Start at `basis`, one run; `basis_by_second_run` is another one for where numbers don't fit. What a Gröbner basis is, and why the algorithm is right, stands in `gf_ideal`
 //! (`specs/Bases.antt`, `specs/Theorems.antt`); what a run may have on its way in `specs/WorkLists.antt` there.
 #![tactic(auto)]
 
@@ -12,10 +12,10 @@ mod leading;
 mod pairs;
 mod queue;
 mod runs;
-mod several_runs;
+mod second_run;
 
 pub use bases::{BasisError, basis};
 pub use homogeneity::{NotHomogeneous, homogeneous};
 pub use laws::{monomials_stay_within_limits, orders_that_suit};
 pub use leading::leading as leading_place;
-pub use several_runs::basis_by_runs;
+pub use second_run::basis_by_second_run;

@@ -1,5 +1,5 @@
 //! The orders.
-ghost use Rattle.std.specs.Prelude.{◌≡◌, ◌≤◌, ◌<◌, ◌^◌, pos, ◌≤ℤ◌, All, IfOk, IfErr, length};
+ghost use Rattle.std.specs.Prelude.{◌≡◌, ◌≤◌, ◌<◌, ◌^◌, ℕ, List, pos, ◌≤ℤ◌, All, IfOk, IfErr, IfSome, IsNone, length};
 ghost use Rattle.gf_exponents.specs.Orders.{IsTermOrder, gains, negated_row_of};
 ghost use Rattle.gf_exponents.specs.SixOrders.{MonomialOrder, below_of};
 ghost use Rattle.gf_order.specs.Weights.{AreBounded, IsFirstBelow};
@@ -181,6 +181,18 @@ impl Order {
             Kind::Lex => true,
             Kind::Weighted(_) => true,
             _ => false,
+        }
+    }
+
+    /// The weight, where the order is a weight before lex.
+    pub fn weight_before_lex(&self) -> Option<&IntVec>
+        ensures weight { IfSome result (λ w. self.now ≡ MonomialOrder.weighted (gains w.now)) }
+        ensures natural { IfSome result (λ w. All (λ k. pos 0 ≤ℤ k) w.now) }
+        ensures none { IsNone result → (w : List ℕ) → (self.now ≡ MonomialOrder.weighted w) → ⊥ }
+    {
+        match &self.kind {
+            Kind::Weighted(weight) => Some(weight),
+            _ => None,
         }
     }
 }

@@ -13,7 +13,8 @@ ghost use Rattle.gfan_main.specs.Refused.{IsOfSource};
 use crate::checks::check_entries;
 use crate::printing::printed;
 use crate::refused::Refused;
-use gf_buchberger::{BasisError, basis_by_runs, homogeneous};
+use gf_buchberger::{BasisError, homogeneous};
+use gf_conversion::basis_by_several_ways;
 use gf_front::Refusal;
 use gf_items::{RingAndSet, ring_and_set};
 use gf_order::{NotTermOrder, Order};
@@ -163,7 +164,7 @@ fn job(
         Ok(question) => question,
         Err(refusal) => return Err(refusal),
     };
-    let found = match basis_by_runs(
+    let found = match basis_by_several_ways(
         alloc,
         ring.len(),
         &question.generators,
@@ -179,7 +180,7 @@ fn job(
 
 /// The ring of the source in a line, and then the reduced Gröbner basis of its set: by lex, or with `revlex` by revlex; with
 /// `weighted` by the weight that stands behind the set, and ties by lex or revlex. The budget of each run of
-/// Buchberger's algorithm is `pairs` pairs.
+/// Buchberger's algorithm, and of each flip of a walk that is tried where numbers don't fit, is `pairs` pairs.
 ///
 /// # Errors
 ///

@@ -1,0 +1,78 @@
+//! The reduced Gröbner basis, by another run where numbers of the first one don't fit.
+
+ghost use Rattle.std.specs.Prelude.{◌≡◌, IfOk, IfErr};
+ghost use Rattle.gf_order.specs.Comparisons.{HasEntries};
+ghost use Rattle.gf_buchberger.specs.Bases.{IsArrangedBasis, IsBasisRefusal, AreRunsWithinLimits, IsWantOfMemory, is_of_numbers, refusal_told};
+ghost use Rattle.gf_buchberger.specs.Jobs.{HaveRingVariables, IsSuited, IsBasisJob};
+
+use crate::bases::{BasisError, Job, run_by};
+use crate::queue::Strategy;
+use gf_order::Order;
+use gf_poly::{MarkedSet, Poly};
+use std::alloc::Global;
+
+impl BasisError {
+    /// Whether two numbers don't fit.
+    pub fn is_of_numbers(&self) -> bool
+        ensures { result ≡ is_of_numbers self.now }
+    {
+        matches!(self, BasisError::Overflow(_) | BasisError::Exponent(_))
+    }
+}
+
+// Which of two refusals is told, where numbers of the first run don't fit: that of the second run, by the same polynomials and
+// order, where its budget was spent, since a greater one may help.
+fn more_telling(first: BasisError, second: BasisError) -> BasisError
+    ensures { result ≡ refusal_told first second }
+{
+    match second {
+        BasisError::PairBudget { basis, unsettled } => BasisError::PairBudget { basis, unsettled },
+        _ => first,
+    }
+}
+
+// The basis by the second run, or the refusal that is told.
+fn by_second_run(alloc: Global, job: &Job, first: BasisError) -> Result<MarkedSet, BasisError>
+    requires good { IsBasisJob job.now.order.now job.now.n job.now.set.now }
+    requires first { IsBasisRefusal job.now.order.now job.now.n job.now.set.now job.now.pairs first }
+    ensures ok { IfOk result (IsArrangedBasis job.now.order.now job.now.n job.now.set.now) }
+    ensures err { IfErr result (IsBasisRefusal job.now.order.now job.now.n job.now.set.now job.now.pairs) }
+{
+    match run_by(alloc, job, Strategy::Order) {
+        Ok(second) => Ok(second),
+        Err(second) => Err(more_telling(first, second)),
+    }
+}
+
+/// The same basis as by `basis`, by another run, for where numbers of that one don't fit: how wide numbers get on the way
+/// depends on which pairs are settled first. This run settles first those whose least common multiple is least by the order.
+///
+/// The conditions are those of `basis`, and `first` is what `basis` was refused for on these polynomials by this order.
+///
+/// # Errors
+///
+/// As those of `basis`: where the budget of this run is spent it is told; else `first` is.
+pub fn basis_by_second_run(
+    alloc: Global,
+    n: u32,
+    set: &[Poly],
+    order: &Order,
+    pairs: u64,
+    first: BasisError,
+) -> Result<MarkedSet, BasisError>
+    requires variables { HaveRingVariables n set.now }
+    requires entries { HasEntries n order.now }
+    requires suited { IsSuited order.now n set.now }
+    requires first { IsBasisRefusal order.now n set.now pairs first }
+    ensures ok { IfOk result (IsArrangedBasis order.now n set.now) }
+    ensures err { IfErr result (IsBasisRefusal order.now n set.now pairs) }
+    ensures complete { AreRunsWithinLimits order.now set.now pairs → IfErr result IsWantOfMemory }
+{
+    let job = Job {
+        n,
+        set,
+        order,
+        pairs,
+    };
+    by_second_run(alloc, &job, first)
+}

@@ -1,0 +1,112 @@
+//! The reduced Gröbner basis, by another way where numbers of one don't fit.
+
+ghost use Rattle.std.specs.Prelude.{IfOk, IfErr, IfSome, IsTrue};
+ghost use Rattle.gf_order.specs.Comparisons.{HasEntries, is_weight_before_lex};
+ghost use Rattle.gf_buchberger.specs.Bases.{IsArrangedBasis, IsBasisRefusal, AreRunsWithinLimits, IsWantOfMemory};
+ghost use Rattle.gf_buchberger.specs.Jobs.{HaveRingVariables, IsSuited};
+
+use crate::walk::walked;
+use crate::weights::weight_of;
+use gf_buchberger::{BasisError, basis, basis_by_second_run};
+use gf_order::Order;
+use gf_poly::{MarkedSet, Poly};
+use std::alloc::Global;
+
+// The basis at the end of a walk that begins at the basis by degree; nothing where numbers don't fit, or where the budget is spent.
+fn by_walk(alloc: Global, n: u32, set: &[Poly], order: &Order, pairs: u64) -> Option<MarkedSet>
+    requires variables { HaveRingVariables n set.now }
+    requires entries { HasEntries n order.now }
+    requires by_lex { IsTrue (is_weight_before_lex order.now) }
+    ensures { IfSome result (IsArrangedBasis order.now n set.now) }
+{
+    let weight = match weight_of(alloc, n, order) {
+        Ok(weight) => weight,
+        Err(_) => return None,
+    };
+    let deglex = Order::deglex();
+    let start = match basis(alloc, n, set, &deglex, pairs) {
+        Ok(start) => start,
+        Err(_) => return None,
+    };
+    walked(alloc, start, &weight, pairs)
+}
+
+// The basis by other ways than the first run, which was refused since numbers don't fit.
+fn by_other_ways(
+    alloc: Global,
+    n: u32,
+    set: &[Poly],
+    order: &Order,
+    pairs: u64,
+    first: BasisError,
+) -> Result<MarkedSet, BasisError>
+    requires variables { HaveRingVariables n set.now }
+    requires entries { HasEntries n order.now }
+    requires suited { IsSuited order.now n set.now }
+    requires first { IsBasisRefusal order.now n set.now pairs first }
+    ensures ok { IfOk result (IsArrangedBasis order.now n set.now) }
+    ensures err { IfErr result (IsBasisRefusal order.now n set.now pairs) }
+{
+    if order.is_by_lex() {
+        if let Some(found) = by_walk(alloc, n, set, order, pairs) {
+            return Ok(found);
+        }
+    }
+    basis_by_second_run(alloc, n, set, order, pairs, first)
+}
+
+// The basis by the first way that ends.
+fn by_ways(
+    alloc: Global,
+    n: u32,
+    set: &[Poly],
+    order: &Order,
+    pairs: u64,
+) -> Result<MarkedSet, BasisError>
+    requires variables { HaveRingVariables n set.now }
+    requires entries { HasEntries n order.now }
+    requires suited { IsSuited order.now n set.now }
+    ensures ok { IfOk result (IsArrangedBasis order.now n set.now) }
+    ensures err { IfErr result (IsBasisRefusal order.now n set.now pairs) }
+{
+    match basis(alloc, n, set, order, pairs) {
+        Ok(found) => Ok(found),
+        Err(refusal) => {
+            if refusal.is_of_numbers() {
+                return by_other_ways(alloc, n, set, order, pairs, refusal);
+            }
+            Err(refusal)
+        }
+    }
+}
+
+/// The same basis as by `basis` of `gf_buchberger`, also in many a case where numbers of its run don't fit.
+///
+/// The first way is the run of `basis`. Where two of its numbers don't fit and the order is lex, or a weight before lex, the second one
+/// is a walk: it begins at the basis by degree, which a run of its own works out, and crosses one facet after another, each time
+/// the one with the least normal of those that are negative at the weight and that a flip may cross. Where no normal is left it has
+/// arrived. It takes at most `pairs` steps. The last way is `basis_by_second_run`. Each run and each flip may settle
+/// `pairs` pairs. The first way that ends is answered; else the refusal of the first run, or, where the budget of the
+/// second run was spent, that.
+///
+/// The conditions are those of `basis`.
+///
+/// # Errors
+///
+/// As those of `basis`: the second run is one on the same polynomials by the same order.
+pub fn basis_by_several_ways(
+    alloc: Global,
+    n: u32,
+    set: &[Poly],
+    order: &Order,
+    pairs: u64,
+) -> Result<MarkedSet, BasisError>
+    requires variables { HaveRingVariables n set.now }
+    requires entries { HasEntries n order.now }
+    requires suited { IsSuited order.now n set.now }
+    ensures ok { IfOk result (IsArrangedBasis order.now n set.now) }
+    ensures err { IfErr result (IsBasisRefusal order.now n set.now pairs) }
+    ensures complete { AreRunsWithinLimits order.now set.now pairs → IfErr result IsWantOfMemory }
+{
+    by_ways(alloc, n, set, order, pairs)
+}
