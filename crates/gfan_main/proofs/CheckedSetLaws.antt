@@ -6,8 +6,8 @@ use Rattle.std.specs.Borrow.{Bor}
 use Rattle.std.specs.Option.{option_copied}
 use Rattle.std.proofs.Common.{arith, refl, sym, ap, ◌∙◌, subst, inl, inr}
 use Rattle.std.proofs.lemmas.Bool.{cases_lt}
-use Rattle.gf_frac.specs.Fraction.{Fraction, one_ℚ, neg_ℚ, ◌+ℚ◌}
-use Rattle.gf_exponents.specs.Exponents.{Exponents, same, plus, join}
+use Rattle.gf_frac.specs.Fraction.{one_ℚ, neg_ℚ, ◌+ℚ◌}
+use Rattle.gf_exponents.specs.Exponents.{same, plus, join}
 use Rattle.gf_exponents.proofs.ExponentsLaws.{cancel, same_trans, same_flip}
 use Rattle.gf_poly.specs.declared.error.PolyError.{PolyError}
 use Rattle.gf_poly.specs.declared.error.PolyError.TheVariants as errors
@@ -29,7 +29,7 @@ use Rattle.gf_reduced.proofs.GroebnerLaws.{s_at, failing_refutes}
 use Rattle.gf_front.specs.declared.refusal.Refusal.{Refusal}
 use Rattle.gf_front.specs.declared.refusal.Refusal.TheVariants as refusals
 use Rattle.gf_front.specs.Lines.{AreNamed}
-use Rattle.gf_items.specs.Items.{Item, IsTextOf}
+use Rattle.gf_items.specs.Items.{IsTextOf}
 use Rattle.gf_items.specs.Kinds.{ItemKind, ItemValues, ring_and}
 use Rattle.gf_items.specs.Sources.{ring_marked_set}
 use Rattle.gf_items.specs.Commands.{IsOfTest, IsOfNumbers, TellsSame, IsOfWork, IsAnswered, IsUnanswered, IsCommandRefused}
@@ -37,7 +37,7 @@ use Rattle.gfan_main.specs.declared.refused.Refused.{Refused}
 use Rattle.gfan_main.specs.Printing.{verdict_text, IsVerdict}
 use Rattle.gfan_main.specs.CheckedSets.{of_check}
 use Rattle.gfan_main.specs.Marked.{marked_command}
-use Rattle.gfan_main.specs.Refused.{IsNamedBy, IsRingOf, IsOfSource}
+use Rattle.gfan_main.specs.Refused.{IsNamedBy, IsOfSource}
 
 -- ---- the names of the ring
 

@@ -1,14 +1,14 @@
 -- Whether an ideal contains polynomials: what is told one by one holds of all, and why it isn't told.
 -- To cite: zero_member, members_none, members_next, not_member, all_members, in_next, some_refused, basis_refused, no_room, member_refused, in_basis, members_moved; containment_refused,
 -- named_containment, containment_answered; containment_work, containment_within, containment_once, containment_refuses. The rest are steps.
-use Rattle.std.specs.Prelude.{◌≡◌, ◌↔◌, ◌⊎◌, ℕ, zero, suc, ◌+◌, ◌<◌, ◌≤◌, Bool, true, false, List, [], ◌∷◌, ◌++◌, length, take, slice_index_or, Contains, IsTrue, Some, Err}
+use Rattle.std.specs.Prelude.{◌≡◌, ◌↔◌, ◌⊎◌, ℕ, zero, suc, ◌+◌, ◌<◌, ◌≤◌, Bool, true, false, List, [], ◌∷◌, length, take, slice_index_or, Contains, IsTrue, Some, Err}
 use Rattle.std.proofs.Common.{arith, refl, sym, ap, ◌∙◌, subst, inl, inr}
 use Rattle.std.proofs.lemmas.List.{take_all}
 use Rattle.gf_poly.specs.declared.error.PolyError.{PolyError}
 use Rattle.gf_poly.specs.declared.error.PolyError.TheVariants as errors
 use Rattle.gf_poly.specs.Polynomial.{Terms}
 use Rattle.gf_poly.specs.Marking.{MarkedPolynomial, MarkedPolynomials, HaveVariables, polys, IsArranged}
-use Rattle.gf_ideal.specs.Membership.{IsMember, AreSameIdeal}
+use Rattle.gf_ideal.specs.Membership.{IsMember}
 use Rattle.gf_ideal.proofs.MembershipLaws.{member-zero}
 use Rattle.gf_ideal.proofs.ListLaws.{Contains-here, Contains-there, Contains-last}
 use Rattle.gf_division.specs.Steps.{IsReductionRefusal}
@@ -27,7 +27,7 @@ use Rattle.gf_items.specs.Items.{IsTextOf, from}
 use Rattle.gf_items.specs.Sources.{ring_marked_set_and_set}
 use Rattle.gf_items.specs.Commands.{IsOfTest, IsOfNumbers, TellsSame, IsOfWork, IsAnswered, IsUnanswered, IsCommandRefused}
 use Rattle.gfan_main.specs.Buchberger.{polynomial_of, generators_of}
-use Rattle.gfan_main.specs.Printing.{verdict_text, IsVerdict}
+use Rattle.gfan_main.specs.Printing.{verdict_text}
 use Rattle.gfan_main.specs.CheckedSets.{of_check}
 use Rattle.gfan_main.specs.Containment.{AreMembers, IsSomeReductionRefusal, IsContainmentRefusal, IsContainmentWithin, IsContainmentText, containment_command}
 use Rattle.gfan_main.specs.Refused.{IsNamedBy}

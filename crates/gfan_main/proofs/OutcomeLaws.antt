@@ -3,21 +3,20 @@
 -- form_not_done, form_refused, test_not_done, test_refused, long_not_done, long_refused, performed_done, stopped_cause, stopped_quiet, stopped_not_usage, input_refused,
 -- of_input. The rest are steps.
 use Rattle.std.specs.Prelude.{◌≡◌, ◌⊎◌, ℕ, ◌<◌, ◌≤◌, ◌++◌, List, [], length, Option, None, Some, IfSome}
-use Rattle.std.specs.Io.KnownBytes.{Consumes, IsAtEnd, Keeps}
+use Rattle.std.specs.Io.KnownBytes.{Consumes, IsAtEnd}
 use Rattle.std.proofs.Common.{arith, refl, sym, ap, ◌∙◌, subst, inl, inr, length-append, append-nil}
 use Rattle.std.proofs.KnownBytes.{Consumes-nil}
 use Rattle.gf_outside.specs.Faults.{Rose}
-use Rattle.gf_outside.specs.Moved.{Counts, Took, TookAtMost, TookExactly}
+use Rattle.gf_outside.specs.Moved.{TookAtMost, TookExactly}
 use Rattle.gf_front.specs.declared.command_line.Job.{Job}
 use Rattle.gf_front.specs.declared.command_line.WordsError.{WordsError}
 use Rattle.gf_front.specs.declared.command_line.WordsError.TheVariants as words_errors
 use Rattle.gf_front.specs.declared.refusal.Refusal.{Refusal}
 use Rattle.gf_front.specs.declared.refusal.Refusal.TheVariants as refusals
-use Rattle.gf_front.specs.declared.refusal.Status.{Status}
 use Rattle.gf_front.specs.declared.refusal.Status.TheVariants as statuses
-use Rattle.gf_front.specs.Jobs.{match_of, job_of, renamed, IsMatched, IsJobOf}
+use Rattle.gf_front.specs.Jobs.{IsMatched, IsJobOf}
 use Rattle.gf_front.specs.Lines.{of_words}
-use Rattle.gf_items.specs.Commands.{IsOfText, IsOfForm, IsOfNumbers, IsOfTest, TellsSame, IsOfJob}
+use Rattle.gf_items.specs.Commands.{IsOfText, IsOfForm, IsOfNumbers, IsOfTest, IsOfJob}
 use Rattle.gfan_main.specs.Commands.{IsAnswerTo, IsWholeTextOf, IsRefusalOf, IsWithinReach}
 use Rattle.gfan_main.specs.Performed.{IsPerformed, IsBegunIn, LeavesBegun, IsStopped}
 use Rattle.gfan_main.specs.Run.{IsKnown, AsksForJob, ReadWhole, HasAnswer, HasWholeText, Answered, InputRefused, StandsBegun, LeavesWritten, IsRefusedWith, IsTestedWith, IsDoneUnlessMemory, IsCause, IsRingOfInput, IsOfInput, IsOfOutside}

@@ -1,6 +1,6 @@
 -- What is kept of a set that is read.
 -- To cite: set_kept, marked_kept. The rest are steps.
-use Rattle.std.specs.Prelude.{◌≡◌, ℕ, List, [], ◌∷◌, length, map}
+use Rattle.std.specs.Prelude.{ℕ, List, [], ◌∷◌, length, map}
 use Rattle.std.proofs.Common.{sym, subst}
 use Rattle.gf_poly.specs.Polynomial.{Terms, HasVariables, IsDescending}
 use Rattle.gf_poly.specs.Marking.{MarkedPolynomial, MarkedPolynomials, Each, HaveVariables}
@@ -8,7 +8,7 @@ use Rattle.gf_text.specs.declared.written.Written.{Written}
 use Rattle.gf_text.specs.declared.written.Written.TheVariants as written
 use Rattle.gf_text.specs.Tokens.{Position}
 use Rattle.gf_text.specs.Combining.{SumsHaveVariables}
-use Rattle.gf_text.specs.Sets.{AreWritten, AreNonzero, IsSetRead, IsMarkedRead}
+use Rattle.gf_text.specs.Sets.{AreWritten, IsSetRead, IsMarkedRead}
 use Rattle.gf_text.proofs.CombiningLaws.{sums_variables}
 use Rattle.gf_ideal.proofs.ListLaws.{contained_each}
 use Rattle.gfan_main.specs.Buchberger.{generators_of}

@@ -9,8 +9,8 @@ use crate::bases::ListOptions;
 use crate::buchberger::Options;
 use crate::refused::Refused;
 use crate::{
-    bases, buchberger, containment, homogenize, initial_forms, leading_terms, mark_polynomial_set, marked,
-    polynomial_set_union, stats,
+    bases, buchberger, containment, homogenize, initial_forms, leading_terms, mark_polynomial_set,
+    marked, polynomial_set_union, stats,
 };
 use gf_front::{Job, Refusal};
 use gf_outside::{Sink, WriteFault, write_all};

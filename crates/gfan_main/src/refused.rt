@@ -24,40 +24,40 @@ pub(crate) struct Refused {
 pub(crate) fn of_check(error: CheckError) -> Refusal
     ensures { result ≡ of_check error }
 {
-        match error {
-            CheckError::Overflow(o) => Refusal::Overflow(o),
-            CheckError::Exponent(o) => Refusal::ExponentOverflow(o),
-            CheckError::NotReduced {
-                set,
-                polynomial,
-                term,
-            } => Refusal::NotReduced {
-                set,
-                polynomial,
-                term,
-            },
-            CheckError::NotBasis {
-                set,
-                first,
-                second,
-                remainder,
-            } => Refusal::NotBasis {
-                set,
-                first,
-                second,
-                remainder,
-            },
-            CheckError::Inconsistent { set, multipliers } => {
-                Refusal::Inconsistent { set, multipliers }
-            }
-            CheckError::Cone(o) => Refusal::ConeOverflow {
-                row: o.row,
-                op: o.op,
-                left: o.left,
-                right: o.right,
-            },
-            CheckError::Memory => Refusal::Memory,
+    match error {
+        CheckError::Overflow(o) => Refusal::Overflow(o),
+        CheckError::Exponent(o) => Refusal::ExponentOverflow(o),
+        CheckError::NotReduced {
+            set,
+            polynomial,
+            term,
+        } => Refusal::NotReduced {
+            set,
+            polynomial,
+            term,
+        },
+        CheckError::NotBasis {
+            set,
+            first,
+            second,
+            remainder,
+        } => Refusal::NotBasis {
+            set,
+            first,
+            second,
+            remainder,
+        },
+        CheckError::Inconsistent { set, multipliers } => {
+            Refusal::Inconsistent { set, multipliers }
         }
+        CheckError::Cone(o) => Refusal::ConeOverflow {
+            row: o.row,
+            op: o.op,
+            left: o.left,
+            right: o.right,
+        },
+        CheckError::Memory => Refusal::Memory,
+    }
 }
 
 impl Refused {

@@ -418,15 +418,18 @@ fn an_ideal_contains_polynomials_or_not(rt: HostRuntime) -> Result<(), Fail> {
             "",
             "gfan: E22 zero polynomial: set 0 polynomial 1\n",
         ),
-        (
-            "Q[a,b] {a-b}",
-            1,
-            "",
-            "gfan: E8 syntax at byte 12: ended\n",
-        ),
+        ("Q[a,b] {a-b}", 1, "", "gfan: E8 syntax at byte 12: ended\n"),
     ];
     for (input, code, text, told) in rows {
-        let ok = ends(&rt, rt.alloc(), "_doesidealcontain", input, code, text, told)?;
+        let ok = ends(
+            &rt,
+            rt.alloc(),
+            "_doesidealcontain",
+            input,
+            code,
+            text,
+            told,
+        )?;
         assert!(rt; ok, "{input}");
     }
     Ok(())
