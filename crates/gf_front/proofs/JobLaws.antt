@@ -20,7 +20,7 @@ use Rattle.clap.specs.Simple.{argument_words, built_leaf, entered, inherited, la
 use Rattle.clap.specs.Faults.{check_fault, entered_fault}
 use Rattle.gf_front.specs.declared.command_line.Job.{Job}
 use Rattle.gf_front.specs.declared.command_line.Job.TheVariants as jobs
-use Rattle.gf_front.specs.Table.{Entry, table, commands, tools, shape, most_pairs, most_workers, usual_pairs, number_of, number_where, buchberger, bases, plain, is_marked_groebner_basis, leading_terms}
+use Rattle.gf_front.specs.Table.{Entry, table, commands, tools, shape, most_pairs, most_workers, usual_pairs, number_of, number_where, buchberger, bases, plain, is_marked_groebner_basis, does_ideal_contain, leading_terms}
 use Rattle.gf_front.specs.Jobs.{HasMatch, HasNumbersInRange, IsJobOfMatch, match_of, job_in, job_of}
 use Rattle.gf_front.specs.Options.{HoldChoices, NamesEntry, IsCommand, HoldsNumber}
 use Rattle.gf_front.proofs.MatchLaws.{Enters, entered_rows, level_rows, rows_pass}
@@ -168,14 +168,26 @@ tools_sound = (
 
 all_sound : AreSound commands
 unfolding AreSound
-all_sound = (buchberger_sound, refl, (bases_sound, refl, (plain_sound (codes "_ismarkedgroebnerbasis") jobs.IsMarkedGroebnerBasis tt, refl, (leading_terms_sound, refl, tools_sound))))
+all_sound = (
+  buchberger_sound,
+  refl,
+  (
+    bases_sound,
+    refl,
+    (
+      plain_sound (codes "_ismarkedgroebnerbasis") jobs.IsMarkedGroebnerBasis tt,
+      refl,
+      (plain_sound (codes "_doesidealcontain") jobs.DoesIdealContain tt, refl, (leading_terms_sound, refl, tools_sound)),
+    ),
+  ),
+)
 
 -- where the command is `_bases`, its options hold what they take
 pub bases_hold : (m : Text × List Row) → IsCommand m → m.0 ≡ codes "_bases" → HoldChoices bases.options m.1
 unfolding AreSound
 bases_hold m (inl k) e = absurd (let yes = (bytes_eq-Decides (codes "_buchberger") (codes "_bases")).1 (sym k.0 ∙ e) in let none : false ≡ true = yes in cc)
 bases_hold m (inr (inl k)) e = k.1
-bases_hold m (inr (inr k)) e = absurd (other_name (is_marked_groebner_basis ∷ leading_terms ∷ tools) (codes "_bases") m all_sound.2.1 k e)
+bases_hold m (inr (inr k)) e = absurd (other_name (is_marked_groebner_basis ∷ does_ideal_contain ∷ leading_terms ∷ tools) (codes "_bases") m all_sound.2.1 k e)
 
 -- the rows of each command hold what its options take
 command_of : (m : Text × List Row) → Enters program m → IsCommand m

@@ -87,6 +87,9 @@ plain name job = record { name = name; options = []; job = λ rows. job }
 abbrev pub is_marked_groebner_basis : Entry
 is_marked_groebner_basis = plain (codes "_ismarkedgroebnerbasis") jobs.IsMarkedGroebnerBasis
 
+abbrev pub does_ideal_contain : Entry
+does_ideal_contain = plain (codes "_doesidealcontain") jobs.DoesIdealContain
+
 abbrev pub leading_terms : Entry
 leading_terms = record {
   name = codes "_leadingterms";
@@ -112,7 +115,7 @@ stats = plain (codes "_stats") jobs.Stats
 
 -- those that the table has before the small tools, and those
 abbrev pub first_commands : List Entry
-first_commands = buchberger ∷ bases ∷ is_marked_groebner_basis ∷ leading_terms ∷ []
+first_commands = buchberger ∷ bases ∷ is_marked_groebner_basis ∷ does_ideal_contain ∷ leading_terms ∷ []
 
 abbrev pub tools : List Entry
 tools = mark_polynomial_set ∷ initial_forms ∷ homogenize ∷ polynomial_set_union ∷ stats ∷ []

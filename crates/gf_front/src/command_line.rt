@@ -38,6 +38,8 @@ pub enum Job {
     },
     /// Whether a marked set is a Gröbner basis for its marking.
     IsMarkedGroebnerBasis,
+    /// Whether the ideal of a marked basis contains each polynomial of a set.
+    DoesIdealContain,
     /// The leading terms of a marked set, or of each of a list.
     LeadingTerms {
         /// `-m`: a list of marked sets is read.
@@ -149,6 +151,7 @@ fn job_of(name: &str, found: &ArgMatches) -> Job
         "_buchberger" => buchberger(found),
         "_bases" => bases(found),
         "_ismarkedgroebnerbasis" => Job::IsMarkedGroebnerBasis,
+        "_doesidealcontain" => Job::DoesIdealContain,
         "_leadingterms" => leading_terms(found),
         "_markpolynomialset" => Job::MarkPolynomialSet,
         "_initialforms" => Job::InitialForms,

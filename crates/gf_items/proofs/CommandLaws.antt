@@ -1,6 +1,7 @@
 -- A source is answered in one way by a command: what is refused exactly where a condition holds is refused so wherever it holds, and
 -- within its limits the command answers.
--- To cite: IsExactCommand, exact, no_answer, no_whole, in_reach, of_job; IsTestedCommand, tested, no_tested_answer. The rest are steps.
+-- To cite: IsExactCommand, exact, no_answer, no_whole, in_reach, of_job; IsTestedCommand, untested, tested, no_tested_answer,
+-- no_tested_whole. The rest are steps.
 use Rattle.std.specs.Prelude.{◌≡◌, ◌⊎◌, ℕ, List}
 use Rattle.std.proofs.Common.{refl, sym, ap, ◌∙◌, subst, inl, inr}
 use Rattle.gf_text.specs.declared.error.TextError.{TextError}
@@ -9,7 +10,7 @@ use Rattle.gf_front.specs.declared.refusal.Refusal.{Refusal}
 use Rattle.gf_front.specs.declared.refusal.Refusal.TheVariants as refusals
 use Rattle.gf_items.specs.Items.{IsTextOf}
 use Rattle.gf_items.specs.Checks.{AllHold, FirstFails}
-use Rattle.gf_items.specs.Commands.{Command, of_text, IsExactRefusal, IsOfNumbers, IsOfTest, IsOfWork, IsOfJob, IsUnanswered, IsAnswered, IsWholeFor, IsCommandRefused, IsInReach}
+use Rattle.gf_items.specs.Commands.{Command, of_text, IsExactRefusal, IsOfNumbers, IsOfTest, TellsSame, IsOfWork, IsOfJob, IsUnanswered, IsAnswered, IsWholeFor, IsCommandRefused, IsInReach}
 use Rattle.gf_items.specs.ReadOnce.{IsReadOnce}
 use Rattle.gf_items.proofs.ReadingLaws.{said, source_once, Reading, stopped, whole, IsGood, Ends, ends_once, text_ends}
 use Rattle.gf_items.proofs.CheckLaws.{AreCheckedOnce, first_once, first_apart, first_kind}
@@ -21,10 +22,20 @@ pub record IsExactCommand (c : Command) : Type 0 where
   pub work : (a : c.Value) (r : Refusal) → c.IsCause a r → IsOfWork r
   pub within : (a : c.Value) (r : Refusal) → c.IsWithin a → c.IsCause a r → r ≡ refusals.Memory
 
--- A test that takes work fails in one way, unless the numbers of the work don't fit; and then nothing is answered.
+-- a test that takes work fails in one way, unless the numbers of the work don't fit; and then nothing is answered, and there is no
+-- whole text
 pub record IsTestedCommand (c : Command) : Type 0 where
-  pub tests : (a : c.Value) (r d : Refusal) → IsOfTest r → c.IsCause a r → c.IsCause a d → (d ≡ r) ⊎ IsOfNumbers d
-  pub answers : (a : c.Value) (r : Refusal) (text : List ℕ) → IsOfTest r → c.IsCause a r → c.IsAnswer a text → ⊥
+  pub tests : (source : List ℕ) (a : c.Value) (r d : Refusal) → IsTextOf c.items source a → IsOfTest r → c.IsCause a r → c.IsCause a d → TellsSame r d ⊎ IsOfNumbers d
+  pub answers : (source : List ℕ) (a : c.Value) (r : Refusal) (text : List ℕ) → IsTextOf c.items source a → IsOfTest r → c.IsCause a r → c.IsAnswer a text → ⊥
+  pub wholes : (source : List ℕ) (a : c.Value) (r : Refusal) (text : List ℕ) → IsTextOf c.items source a → IsOfTest r → c.IsCause a r → c.IsWhole a text → ⊥
+
+-- a command whose work has no such test
+pub untested : (c : Command) → ((a : c.Value) (r : Refusal) → IsOfTest r → c.IsCause a r → ⊥) → IsTestedCommand c
+untested c never = record {
+  tests = λ source a r d read t h k. absurd (never a r t h);
+  answers = λ source a r text read t h w. never a r t h;
+  wholes = λ source a r text read t h w. never a r t h;
+}
 
 -- a refusal is of one kind
 work_apart : (r : Refusal) → IsOfWork r → IsExactRefusal r → ⊥
@@ -44,7 +55,6 @@ test_work : (r : Refusal) → IsOfTest r → IsOfWork r
 test_work (refusals.NotReduced set polynomial term) t = tt
 test_work (refusals.NotBasis set first second remainder) t = tt
 test_work (refusals.Inconsistent set multipliers) t = tt
-test_work (refusals.ListLimit written) t = tt
 test_work _ t = absurd t
 
 text_no_test : (e : TextError) → IsOfTest (of_text e) → ⊥
@@ -188,15 +198,15 @@ module _ (c : Command) (laws : IsExactCommand c) (tests : IsTestedCommand c) (so
   failed r t (IsCommandRefused.behind_text a h (IsUnanswered.no_memory m)) = absurd (subst IsOfTest m t)
   failed r t (IsCommandRefused.no_memory m) = absurd (subst IsOfTest m t)
 
-  no_room : (r d : Refusal) → d ≡ refusals.Memory → (d ≡ r) ⊎ IsOfNumbers d
+  no_room : (r d : Refusal) → d ≡ refusals.Memory → TellsSame r d ⊎ IsOfNumbers d
   no_room r d m = inr (subst IsOfNumbers (sym m) tt)
 
-  other_unanswered : (r d : Refusal) → IsOfTest r → (f : Failed r) → IsUnanswered c f.value d → (d ≡ r) ⊎ IsOfNumbers d
+  other_unanswered : (r d : Refusal) → IsOfTest r → (f : Failed r) → IsUnanswered c f.value d → TellsSame r d ⊎ IsOfNumbers d
   other_unanswered r d t f (IsUnanswered.in_form k) = absurd (first_apart (c.checks f.value) (laws.checks source f.value f.read) d f.formed k)
-  other_unanswered r d t f (IsUnanswered.in_work g w) = tests.tests f.value r d t f.cause w
+  other_unanswered r d t f (IsUnanswered.in_work g w) = tests.tests source f.value r d f.read t f.cause w
   other_unanswered r d t f (IsUnanswered.no_memory m) = no_room r d m
 
-  other_refused : (r d : Refusal) → IsOfTest r → Failed r → IsCommandRefused c source d → (d ≡ r) ⊎ IsOfNumbers d
+  other_refused : (r d : Refusal) → IsOfTest r → Failed r → IsCommandRefused c source d → TellsSame r d ⊎ IsOfNumbers d
   other_refused r d t f (IsCommandRefused.in_text e h q) = elim (said e) [
     | inl m ↦ no_room r d (q ∙ ap of_text m)
     | inr n ↦ absurd ((source_once c.items laws.items source).apart f.value e f.read h n)
@@ -205,11 +215,17 @@ module _ (c : Command) (laws : IsExactCommand c) (tests : IsTestedCommand c) (so
   other_refused r d t f (IsCommandRefused.no_memory m) = no_room r d m
 
   -- where a test fails, no other refusal is there but of the numbers of the work
-  pub tested : (r d : Refusal) → IsOfTest r → IsCommandRefused c source r → IsCommandRefused c source d → (d ≡ r) ⊎ IsOfNumbers d
+  pub tested : (r d : Refusal) → IsOfTest r → IsCommandRefused c source r → IsCommandRefused c source d → TellsSame r d ⊎ IsOfNumbers d
   tested r d t h k = other_refused r d t (failed r t h) k
 
-  -- and nothing is answered
+  -- nothing is answered
   pub no_tested_answer : (r : Refusal) (text : List ℕ) → IsOfTest r → IsCommandRefused c source r → IsAnswered c source text → ⊥
   no_tested_answer r text t h a =
       let f = failed r t h in
-      tests.answers f.value r text t f.cause (subst (λ z. c.IsAnswer z text) ((source_once c.items laws.items source).once f.value a.value f.read a.read) a.answer.is_answer)
+      tests.answers source f.value r text f.read t f.cause (subst (λ z. c.IsAnswer z text) ((source_once c.items laws.items source).once f.value a.value f.read a.read) a.answer.is_answer)
+
+  -- and there is no whole text
+  pub no_tested_whole : (r : Refusal) (text : List ℕ) → IsOfTest r → IsCommandRefused c source r → IsWholeFor c source text → ⊥
+  no_tested_whole r text t h a =
+      let f = failed r t h in
+      tests.wholes source f.value r text f.read t f.cause (subst (λ z. c.IsWhole z text) ((source_once c.items laws.items source).once f.value a.value f.read a.read) a.is_whole)

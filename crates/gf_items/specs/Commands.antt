@@ -50,14 +50,18 @@ IsOfNumbers (refusals.PairBudget basis unsettled) = Unit {0}
 IsOfNumbers refusals.Memory = Unit {0}
 IsOfNumbers _ = ⊥
 
--- What is read fails a test that takes work, or the list that is written has come to its limit: where its condition holds there is
--- no other, unless the numbers of the work before it don't fit.
+-- what is read fails a test that takes work: where its condition holds there is no other, unless the numbers of the work before it
+-- don't fit
 abbrev pub IsOfTest : Refusal → Type 0
 IsOfTest (refusals.NotReduced set polynomial term) = Unit {0}
 IsOfTest (refusals.NotBasis set first second remainder) = Unit {0}
 IsOfTest (refusals.Inconsistent set multipliers) = Unit {0}
-IsOfTest (refusals.ListLimit written) = Unit {0}
 IsOfTest _ = ⊥
+
+-- the second is the first; or both say that no positive weight gives the marking of a set, which different multipliers may show
+abbrev pub TellsSame : Refusal → Refusal → Type 0
+TellsSame (refusals.Inconsistent set multipliers) (refusals.Inconsistent same others) = same ≡ set
+TellsSame r d = d ≡ r
 
 -- it comes of the work on what is read
 abbrev pub IsOfWork : Refusal → Type 0

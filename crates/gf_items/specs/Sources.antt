@@ -21,6 +21,10 @@ ring_set_and_name = ring_and a_set (new_name ∷ [])
 abbrev pub ring_and_set_list : Item (List (List ℕ) × List (List Written))
 ring_and_set_list = ring_and set_list []
 
+-- a ring, a marked set in it, and a set
+abbrev pub ring_marked_set_and_set : Item (List (List ℕ) × (MarkedPolynomials × List Written))
+ring_marked_set_and_set = ring_and a_marked_set (a_set ∷ [])
+
 -- a ring and a marked set in it
 abbrev pub ring_marked_set : Item (List (List ℕ) × MarkedPolynomials)
 ring_marked_set = ring_and a_marked_set []

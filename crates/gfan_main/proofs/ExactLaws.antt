@@ -1,20 +1,13 @@
 -- A source is answered in one way: what is refused exactly where a condition holds is refused so wherever it holds, and within
 -- its limits a job is answered.
--- To cite: set_kept, exact_text, exact_form, text_no_answer, form_no_answer, text_no_whole, form_no_whole, all_answered, refused_as_job, not_listed. The rest are steps.
+-- To cite: test_as, test_no_answer, test_no_whole; exact_text, exact_form, text_no_answer, form_no_answer, text_no_whole, form_no_whole, all_answered, refused_as_job, not_listed. The rest are steps.
 use Rattle.std.specs.Prelude.{◌≡◌, ◌⊎◌, ℕ, ◌<◌, Bool, true, false, List, [], ◌∷◌, length, Err, Option, None, Some}
 use Rattle.std.proofs.Common.{arith, sym, ap, ◌∙◌, subst, inl, inr}
 use Rattle.gf_exponents.specs.SixOrders.{MonomialOrder}
-use Rattle.gf_poly.specs.Polynomial.{Terms, HasVariables, IsDescending}
-use Rattle.gf_poly.specs.Marking.{Each, MarkedPolynomials}
+use Rattle.gf_poly.specs.Polynomial.{Terms}
+use Rattle.gf_poly.specs.Marking.{MarkedPolynomials}
 use Rattle.gf_text.specs.declared.error.TextError.{TextError}
 use Rattle.gf_text.specs.declared.error.TextError.TheVariants as text_errors
-use Rattle.gf_text.specs.declared.written.Written.{Written}
-use Rattle.gf_text.specs.declared.written.Written.TheVariants as written
-use Rattle.gf_text.specs.Tokens.{Position}
-use Rattle.gf_text.specs.Combining.{SumsHaveVariables}
-use Rattle.gf_text.specs.Sets.{AreWritten, IsSetRead}
-use Rattle.gf_text.proofs.CombiningLaws.{sums_variables}
-use Rattle.gf_ideal.proofs.ListLaws.{contained_each}
 use Rattle.gf_buchberger.specs.declared.bases.BasisError.{BasisError}
 use Rattle.gf_buchberger.specs.declared.bases.BasisError.TheVariants as basis_errors
 use Rattle.gf_buchberger.proofs.BasesOfRuns.{if_within}
@@ -27,44 +20,30 @@ use Rattle.gf_front.specs.declared.command_line.Job.TheVariants as jobs
 use Rattle.gf_front.specs.declared.refusal.Refusal.{Refusal}
 use Rattle.gf_front.specs.declared.refusal.Refusal.TheVariants as refusals
 use Rattle.gf_items.specs.Items.{from}
-use Rattle.gf_items.specs.Commands.{Command, of_text, IsOfText, IsOfForm, IsOfWork, IsOfJob, IsUnanswered, IsCommandRefused}
+use Rattle.gf_items.specs.Commands.{Command, of_text, IsOfText, IsOfForm, IsOfNumbers, IsOfTest, TellsSame, IsOfWork, IsOfJob, IsUnanswered, IsCommandRefused}
 use Rattle.gf_items.specs.Kinds.{a_set, a_marked_set, marked_set_list, vector_where}
 use Rattle.gf_items.proofs.KindLaws.{ring_and_once}
 use Rattle.gf_items.proofs.CheckLaws.{first_kind}
-use Rattle.gf_items.proofs.CommandLaws.{IsExactCommand, exact, no_answer, no_whole, in_reach, of_job}
+use Rattle.gf_items.proofs.CommandLaws.{IsExactCommand, exact, no_answer, no_whole, in_reach, of_job, IsTestedCommand, untested, tested, no_tested_answer, no_tested_whole}
 use Rattle.gfan_main.specs.declared.buchberger.Options.{Options}
 use Rattle.gfan_main.specs.declared.bases.ListOptions.{ListOptions}
-use Rattle.gfan_main.specs.declared.marked.error.CheckError.{CheckError}
-use Rattle.gfan_main.specs.declared.marked.error.CheckError.TheVariants as check_errors
 use Rattle.gfan_main.specs.Bases.{IsWithinLimit, of_tree, IsListCause, IsListWithin, bases_command}
 use Rattle.gfan_main.specs.Buchberger.{generators_of, asked_order, of_basis, buchberger_command}
 use Rattle.gfan_main.specs.LeadingTerms.{leading_terms_command}
-use Rattle.gfan_main.specs.Marked.{of_check, marked_command}
+use Rattle.gfan_main.specs.CheckedSets.{of_check}
+use Rattle.gfan_main.specs.Marked.{marked_command}
+use Rattle.gfan_main.specs.Containment.{containment_command}
 use Rattle.gfan_main.specs.MarkPolynomialSet.{mark_polynomial_set_command}
 use Rattle.gfan_main.specs.InitialForms.{initial_forms_command}
 use Rattle.gfan_main.specs.Homogenize.{homogenize_command}
 use Rattle.gfan_main.specs.PolynomialSetUnion.{polynomial_set_union_command}
 use Rattle.gfan_main.specs.Stats.{stats_command}
 use Rattle.gfan_main.specs.Commands.{options, list_options, command, IsAnswerTo, IsWholeTextOf, IsRefusalOf, IsWithinReach, WritesAtEnd}
-use Rattle.gfan_main.proofs.FormLaws.{AreKept, form_once}
-use Rattle.gfan_main.proofs.ToolLaws.{mark_polynomial_set_exact, initial_forms_exact, homogenize_exact, polynomial_set_union_exact, stats_exact, homogenize_not_listed, gordan_not_listed}
-
--- ---- what is kept of a set
-
--- the polynomials of a set have the variables of the ring, and descend
-abbrev pub IsKept : ℕ → Terms → Type 0
-IsKept n f = HasVariables n f × IsDescending f
-
-written_kept : (n : ℕ) (fs : List Terms) (ws : List Written) → SumsHaveVariables n fs → AreWritten fs ws → Each (IsKept n) (generators_of ws)
-written_kept n [] [] v a = tt
-written_kept n [] (w ∷ ws) v a = absurd a
-written_kept n (f ∷ fs) [] v a = absurd a
-written_kept n (f ∷ fs) (written.Zero ∷ ws) v a = ((tt, tt), written_kept n fs ws v.1 a.1)
-written_kept n (f ∷ fs) (written.Nonzero m ∷ ws) v a = ((a.0.variables.at n v.0, a.0.descending), written_kept n fs ws v.1 a.1)
-
-pub set_kept : (ring : List (List ℕ)) (p : Position) (end : ℕ) (ws : List Written) → IsSetRead ring p end ws → AreKept (length ring) (generators_of ws)
-set_kept ring p end ws s f c =
-    contained_each (IsKept (length ring)) (generators_of ws) (written_kept (length ring) s.sums ws (sums_variables (length ring) s.said s.sums s.exponents) s.written) f c
+use Rattle.gfan_main.proofs.FormLaws.{form_once}
+use Rattle.gfan_main.proofs.ReadSetLaws.{set_kept}
+use Rattle.gfan_main.proofs.CheckedSetLaws.{check_work, check_not_listed, test_cause_untested}
+use Rattle.gfan_main.proofs.ContainmentLaws.{containment_work, containment_within, containment_not_listed, containment_once, containment_refuses}
+use Rattle.gfan_main.proofs.ToolLaws.{mark_polynomial_set_exact, initial_forms_exact, homogenize_exact, polynomial_set_union_exact, stats_exact, homogenize_not_listed, gordan_not_listed, homogenize_untested, gordan_untested}
 
 -- ---- `_buchberger`
 
@@ -84,18 +63,22 @@ buchberger_exact o = record {
 
 -- ---- `_ismarkedgroebnerbasis`
 
-check_work : (e : CheckError) → IsOfWork (of_check e)
-check_work (check_errors.Cone o) = tt
-check_work (check_errors.Overflow o) = tt
-check_work (check_errors.Exponent o) = tt
-check_work check_errors.Memory = tt
-
 marked_exact : IsExactCommand marked_command
 marked_exact = record {
   items = ring_and_once a_marked_set [];
   checks = λ source v r. tt;
   work = λ v r h. subst IsOfWork (sym h.1) (check_work h.0);
   within = λ v r w h. h.1 ∙ ap of_check (w h.0 h.2);
+}
+
+-- ---- `_doesidealcontain`
+
+containment_exact : IsExactCommand containment_command
+containment_exact = record {
+  items = ring_and_once a_marked_set (a_set ∷ []);
+  checks = λ source v r. tt;
+  work = λ v r h. containment_work v.1.0 (generators_of v.1.1) r h;
+  within = λ v r w h. containment_within v.1.0 (generators_of v.1.1) r w h;
 }
 
 -- ---- `_leadingterms`
@@ -151,6 +134,7 @@ laws : (job : Job) → IsExactCommand (command job)
 laws (jobs.Buchberger weighted revlex pairs) = buchberger_exact (options weighted revlex pairs)
 laws (jobs.Bases limit pairs workers) = bases_exact (list_options limit pairs)
 laws jobs.IsMarkedGroebnerBasis = marked_exact
+laws jobs.DoesIdealContain = containment_exact
 laws (jobs.LeadingTerms listed) = leading_exact listed
 laws jobs.MarkPolynomialSet = mark_polynomial_set_exact
 laws jobs.InitialForms = initial_forms_exact
@@ -197,12 +181,6 @@ basis_not_listed (basis_errors.Exponent o) most q = cc
 basis_not_listed (basis_errors.PairBudget b u) most q = cc
 basis_not_listed basis_errors.Memory most q = cc
 
-check_not_listed : (e : CheckError) (most : ℕ) → refusals.ListLimit most ≡ of_check e → ⊥
-check_not_listed (check_errors.Cone o) most q = cc
-check_not_listed (check_errors.Overflow o) most q = cc
-check_not_listed (check_errors.Exponent o) most q = cc
-check_not_listed check_errors.Memory most q = cc
-
 command_not_listed : (c : Command) → IsExactCommand c → ((a : c.Value) (most : ℕ) → c.IsCause a (refusals.ListLimit most) → ⊥) → (source : List ℕ) (most : ℕ) → IsCommandRefused c source (refusals.ListLimit most) → ⊥
 command_not_listed c exact_c never source most (IsCommandRefused.in_text e h q) = text_not_listed e most q
 command_not_listed c exact_c never source most (IsCommandRefused.behind_text a h (IsUnanswered.in_form f)) = elim (first_kind (c.checks a) (exact_c.checks source a h) (refusals.ListLimit most) f) [ inl x ↦ x | inr x ↦ x ]
@@ -214,6 +192,7 @@ pub not_listed : (job : Job) (source : List ℕ) (most : ℕ) → WritesAtEnd jo
 not_listed (jobs.Buchberger weighted revlex pairs) source most w h = command_not_listed (buchberger_command (options weighted revlex pairs)) (buchberger_exact (options weighted revlex pairs)) (λ a m c. basis_not_listed c.0 m c.1) source most h
 not_listed (jobs.Bases limit pairs workers) source most w h = w
 not_listed jobs.IsMarkedGroebnerBasis source most w h = command_not_listed marked_command marked_exact (λ a m c. check_not_listed c.0 m c.1) source most h
+not_listed jobs.DoesIdealContain source most w h = command_not_listed containment_command containment_exact (λ a m c. check_not_listed c.0 m c.1) source most h
 not_listed (jobs.LeadingTerms false) source most w h = command_not_listed (leading_terms_command false) (leading_exact false) (λ a m c. cc) source most h
 not_listed (jobs.LeadingTerms true) source most w h = command_not_listed (leading_terms_command true) (leading_exact true) (λ a m c. cc) source most h
 not_listed jobs.MarkPolynomialSet source most w h = command_not_listed mark_polynomial_set_command mark_polynomial_set_exact (λ a m c. cc) source most h
@@ -224,3 +203,55 @@ not_listed jobs.Stats source most w h = command_not_listed stats_command stats_e
 
 pub refused_as_job : (job : Job) (source : List ℕ) (r : Refusal) → IsRefusalOf job source r → IsOfJob r
 refused_as_job job source r h = of_job (command job) (laws job) source r h
+
+-- ---- tests that take work
+
+basis_untested : (e : BasisError) → IsOfTest (of_basis e) → ⊥
+basis_untested (basis_errors.Overflow o) t = t
+basis_untested (basis_errors.Exponent o) t = t
+basis_untested (basis_errors.PairBudget b u) t = t
+basis_untested basis_errors.Memory t = t
+
+tree_untested : (e : TreeError) → IsOfTest (of_tree e) → ⊥
+tree_untested (tree_errors.Overflow o) t = t
+tree_untested (tree_errors.Exponent o) t = t
+tree_untested (tree_errors.PairBudget b u) t = t
+tree_untested (tree_errors.Cone s) t = t
+tree_untested tree_errors.Memory t = t
+
+list_untested : (o : ListOptions) (n : ℕ) (fs : List Terms) (r : Refusal) → IsOfTest r → IsListCause o n fs r → ⊥
+list_untested o n fs r t (IsListCause.at_root e h q) = basis_untested e (subst IsOfTest q t)
+list_untested o n fs r t (IsListCause.in_tree e h q) = tree_untested e (subst IsOfTest q t)
+list_untested o n fs r t (IsListCause.at_limit most h q) = subst IsOfTest q t
+
+memory_untested : (r : Refusal) → IsOfTest r → r ≡ refusals.Memory → ⊥
+memory_untested r t m = subst IsOfTest m t
+
+containment_tested : IsTestedCommand containment_command
+containment_tested = record {
+  tests = λ source v r d read t h k. containment_once source v r d read t h k;
+  answers = λ source v r text read t h a. containment_refuses source v r text read t h a;
+  wholes = λ source v r text read t h a. containment_refuses source v r text read t h a;
+}
+
+tests_of : (job : Job) → IsTestedCommand (command job)
+tests_of (jobs.Buchberger weighted revlex pairs) = untested (buchberger_command (options weighted revlex pairs)) (λ v r t h. basis_untested h.0 (subst IsOfTest h.1 t))
+tests_of (jobs.Bases limit pairs workers) = untested (bases_command (list_options limit pairs)) (λ v r t h. list_untested (list_options limit pairs) (length v.0) (generators_of v.1.0) r t h)
+tests_of jobs.IsMarkedGroebnerBasis = untested marked_command (λ v r t h. test_cause_untested v.1 r t h)
+tests_of jobs.DoesIdealContain = containment_tested
+tests_of (jobs.LeadingTerms false) = untested (leading_terms_command false) (λ v r t h. memory_untested r t h)
+tests_of (jobs.LeadingTerms true) = untested (leading_terms_command true) (λ v r t h. memory_untested r t h)
+tests_of jobs.MarkPolynomialSet = untested mark_polynomial_set_command (λ v r t h. memory_untested r t h)
+tests_of jobs.InitialForms = untested initial_forms_command (λ v r t h. memory_untested r t h)
+tests_of jobs.Homogenize = untested homogenize_command (λ v r t h. homogenize_untested v.1.0 r t h)
+tests_of jobs.PolynomialSetUnion = untested polynomial_set_union_command (λ v r t h. memory_untested r t h)
+tests_of jobs.Stats = untested stats_command (λ v r t h. gordan_untested h.0 (subst IsOfTest h.1 t))
+
+pub test_as : (job : Job) (source : List ℕ) (r d : Refusal) → IsOfTest r → IsRefusalOf job source r → IsRefusalOf job source d → TellsSame r d ⊎ IsOfNumbers d
+test_as job source r d t h k = tested (command job) (laws job) (tests_of job) source r d t h k
+
+pub test_no_answer : (job : Job) (source : List ℕ) (r : Refusal) (text : List ℕ) → IsOfTest r → IsRefusalOf job source r → IsAnswerTo job source text → ⊥
+test_no_answer job source r text t h a = no_tested_answer (command job) (laws job) (tests_of job) source r text t h a
+
+pub test_no_whole : (job : Job) (source : List ℕ) (r : Refusal) (text : List ℕ) → IsOfTest r → IsRefusalOf job source r → IsWholeTextOf job source text → ⊥
+test_no_whole job source r text t h a = no_tested_whole (command job) (laws job) (tests_of job) source r text t h a

@@ -3,10 +3,9 @@ pub mod ToolFormLaws  -- the form that the small tools need fails in one way at 
 pub mod PolynomialListLaws  -- the polynomials of a marked set
 pub mod ToolLaws  -- each of the small tools answers in one way
 pub mod BuchbergerLaws  -- what `_buchberger` answers
-pub mod MarkingWeights  -- what an elimination of a marking's system answers
-pub mod MonicFormsLaws  -- monic forms as code makes them
-pub mod MarkedBasesLaws  -- pairs whose S-polynomials have the normal form zero
-pub mod MarkedLaws  -- what is answered for a marked set
+pub mod ReadSetLaws  -- what is kept of a set that is read
+pub mod CheckedSetLaws  -- what is answered for a marked set, and why it isn't taken
+pub mod ContainmentLaws  -- whether an ideal contains polynomials
 pub mod RefusedLaws  -- which refusals are told without a ring
 pub mod BasesListLaws  -- the list of all bases, and what it has
 pub mod OneListLaws  -- an ideal has one list of all bases

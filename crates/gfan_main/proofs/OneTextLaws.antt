@@ -13,7 +13,7 @@ use Rattle.gf_items.proofs.ReadingLaws.{source_once}
 use Rattle.gfan_main.specs.Buchberger.{generators_of}
 use Rattle.gfan_main.specs.Bases.{IsTextOfBases, list_text}
 use Rattle.gfan_main.specs.OneList.{TextsAreOne}
-use Rattle.gfan_main.proofs.ExactLaws.{set_kept}
+use Rattle.gfan_main.proofs.ReadSetLaws.{set_kept}
 use Rattle.gfan_main.proofs.OneListLaws.{one_list}
 
 -- what is read is in the variables of the ring

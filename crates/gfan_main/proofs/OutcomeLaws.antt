@@ -1,6 +1,6 @@
 -- How a run ends, from what its parts promise.
 -- To cite: words_usage, words_cause, took_nothing, within_done, within_refused, done_in_reach, refused_in_reach, text_not_done, text_refused,
--- form_not_done, form_refused, long_not_done, long_refused, performed_done, stopped_cause, stopped_quiet, stopped_not_usage, input_refused,
+-- form_not_done, form_refused, test_not_done, test_refused, long_not_done, long_refused, performed_done, stopped_cause, stopped_quiet, stopped_not_usage, input_refused,
 -- of_input. The rest are steps.
 use Rattle.std.specs.Prelude.{◌≡◌, ◌⊎◌, ℕ, ◌<◌, ◌≤◌, ◌++◌, List, [], length, Option, None, Some, IfSome}
 use Rattle.std.specs.Io.KnownBytes.{Consumes, IsAtEnd, Keeps}
@@ -17,13 +17,13 @@ use Rattle.gf_front.specs.declared.refusal.Status.{Status}
 use Rattle.gf_front.specs.declared.refusal.Status.TheVariants as statuses
 use Rattle.gf_front.specs.Jobs.{match_of, job_of, renamed, IsMatched, IsJobOf}
 use Rattle.gf_front.specs.Lines.{of_words}
-use Rattle.gf_items.specs.Commands.{IsOfText, IsOfForm, IsOfJob}
+use Rattle.gf_items.specs.Commands.{IsOfText, IsOfForm, IsOfNumbers, IsOfTest, TellsSame, IsOfJob}
 use Rattle.gfan_main.specs.Commands.{IsAnswerTo, IsWholeTextOf, IsRefusalOf, IsWithinReach}
 use Rattle.gfan_main.specs.Performed.{IsPerformed, IsBegunIn, LeavesBegun, IsStopped}
-use Rattle.gfan_main.specs.Run.{IsKnown, AsksForJob, ReadWhole, HasAnswer, HasWholeText, Answered, InputRefused, StandsBegun, LeavesWritten, IsRefusedWith, IsDoneUnlessMemory, IsCause, IsRingOfInput, IsOfInput, IsOfOutside}
+use Rattle.gfan_main.specs.Run.{IsKnown, AsksForJob, ReadWhole, HasAnswer, HasWholeText, Answered, InputRefused, StandsBegun, LeavesWritten, IsRefusedWith, IsTestedWith, IsDoneUnlessMemory, IsCause, IsRingOfInput, IsOfInput, IsOfOutside}
 use Rattle.gfan_main.specs.declared.refused.Refused.{Refused}
 use Rattle.gfan_main.specs.Refused.{IsRingOf, IsOfSource}
-use Rattle.gfan_main.proofs.ExactLaws.{exact_text, exact_form, text_no_answer, form_no_answer, text_no_whole, form_no_whole, all_answered, refused_as_job}
+use Rattle.gfan_main.proofs.ExactLaws.{test_as, test_no_answer, test_no_whole, exact_text, exact_form, text_no_answer, form_no_answer, text_no_whole, form_no_whole, all_answered, refused_as_job}
 
 -- ---- bytes
 
@@ -205,11 +205,22 @@ module _ (words : List (List ℕ)) (left leaves : Option (List ℕ)) (given give
       at (IsRefusedHere.at_write text rose a) = absurd (form_no_whole job source r text f h a)
       at (IsRefusedHere.at_memory m) = refused_as r d (inr m)
 
+  pub test_refused : (job : Job) (source : List ℕ) (r d : Refusal) → AsksForJobHere job source → IsOfTest r → IsRefusalOf job source r → IsCauseHere d → IsTestedWith (statuses.Refused d) r
+  test_refused job source r d g t h c = at (refused_here job source d g c)
+    where
+      at : IsRefusedHere written writes job source d → IsTestedWith (statuses.Refused d) r
+      at (IsRefusedHere.at_job k) = (d, refl, test_as job source r d t h k)
+      at (IsRefusedHere.at_write text rose a) = absurd (test_no_whole job source r text t h a)
+      at (IsRefusedHere.at_memory m) = (d, refl, inr (subst IsOfNumbers (sym m) tt))
+
   pub text_not_done : (job : Job) (source : List ℕ) (r : Refusal) → AsksForJobHere job source → IsOfText r → IsRefusalOf job source r → Answered words left leaves given gives held holds → ⊥
   text_not_done job source r g t h a = text_no_answer job source r a.text t h (answer_here job source a.text g a.answer)
 
   pub form_not_done : (job : Job) (source : List ℕ) (r : Refusal) → AsksForJobHere job source → IsOfForm r → IsRefusalOf job source r → Answered words left leaves given gives held holds → ⊥
   form_not_done job source r g f h a = form_no_answer job source r a.text f h (answer_here job source a.text g a.answer)
+
+  pub test_not_done : (job : Job) (source : List ℕ) (r : Refusal) → AsksForJobHere job source → IsOfTest r → IsRefusalOf job source r → Answered words left leaves given gives held holds → ⊥
+  test_not_done job source r g t h a = test_no_answer job source r a.text t h (answer_here job source a.text g a.answer)
 
   -- ---- how much is read
 

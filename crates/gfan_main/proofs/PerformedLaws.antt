@@ -54,6 +54,7 @@ whole_answer : (job : Job) (source text : List ℕ) → WritesAtEnd job → IsAn
 whole_answer (jobs.Buchberger weighted revlex pairs) source text w a = record { value = a.value; read = a.read; formed = a.answer.formed; is_whole = a.answer.is_answer }
 whole_answer (jobs.Bases limit pairs workers) source text w a = absurd w
 whole_answer jobs.IsMarkedGroebnerBasis source text w a = record { value = a.value; read = a.read; formed = a.answer.formed; is_whole = a.answer.is_answer }
+whole_answer jobs.DoesIdealContain source text w a = record { value = a.value; read = a.read; formed = a.answer.formed; is_whole = a.answer.is_answer }
 whole_answer (jobs.LeadingTerms false) source text w a = record { value = a.value; read = a.read; formed = a.answer.formed; is_whole = a.answer.is_answer }
 whole_answer (jobs.LeadingTerms true) source text w a = record { value = a.value; read = a.read; formed = a.answer.formed; is_whole = a.answer.is_answer }
 whole_answer jobs.MarkPolynomialSet source text w a = record { value = a.value; read = a.read; formed = a.answer.formed; is_whole = a.answer.is_answer }

@@ -1,6 +1,6 @@
 -- Each of the small tools answers a source in one way: its record has the laws of an exact command, and names no limit of a list.
 -- To cite: mark_polynomial_set_exact, initial_forms_exact, homogenize_exact, polynomial_set_union_exact, stats_exact; homogenize_not_listed,
--- gordan_not_listed; length_unanswered, zero_unanswered, marked_answered; entries_unanswered, forms_answered; room_unanswered, exponent_unanswered,
+-- homogenize_untested, gordan_not_listed, gordan_untested; length_unanswered, zero_unanswered, marked_answered; entries_unanswered, forms_answered; room_unanswered, exponent_unanswered,
 -- homogenized_answered; stats_unanswered, stats_answered, named_gordan, seven_pieces. The rest are steps.
 use Rattle.std.specs.Prelude.{◌≡◌, ◌⊎◌, ℕ, ◌^◌, ◌<◌, All, List, [], ◌∷◌, ◌++◌, length, None, Some, ℤ}
 use Rattle.std.specs.List.{concat}
@@ -24,7 +24,7 @@ use Rattle.gf_small.specs.declared.counts.Stats.{Stats}
 use Rattle.gf_small.specs.Statistics.{AreStatistics, IsStatisticsCause}
 use Rattle.gf_front.specs.declared.refusal.Refusal.{Refusal}
 use Rattle.gf_front.specs.declared.refusal.Refusal.TheVariants as refusals
-use Rattle.gf_items.specs.Commands.{IsOfWork, IsAnswerFor, IsUnanswered}
+use Rattle.gf_items.specs.Commands.{IsOfTest, IsOfWork, IsAnswerFor, IsUnanswered}
 use Rattle.gf_items.specs.Kinds.{a_set, set_list, marked_set_list, vector, new_name}
 use Rattle.gf_items.proofs.KindLaws.{ring_and_once}
 use Rattle.gf_items.proofs.CommandLaws.{IsExactCommand}
@@ -143,6 +143,11 @@ homogenized_answered ring extended ws name fs text l e h p = record {
   is_answer = record { set = fs; are_homogenized = h; is_text = subst (λ names. IsPrintedSet names fs text) e p };
 }
 
+pub homogenize_untested : (ws : List Written) (r : Refusal) → IsOfTest r → IsHomogenizeRefusal ws r → ⊥
+homogenize_untested ws (refusals.ExponentOverflow o) t h = t
+homogenize_untested ws refusals.Memory t h = t
+homogenize_untested ws _ t h = h
+
 pub homogenize_not_listed : (ws : List Written) (most : ℕ) → IsHomogenizeRefusal ws (refusals.ListLimit most) → ⊥
 homogenize_not_listed ws most h = h
 
@@ -169,6 +174,10 @@ stats_answered n ring sets s text q h e = record { formed = tt; is_answer = reco
 pub gordan_not_listed : (e : GordanError) (most : ℕ) → refusals.ListLimit most ≡ of_gordan e → ⊥
 gordan_not_listed (gordan_errors.Cone o) most q = cc
 gordan_not_listed gordan_errors.Memory most q = cc
+
+pub gordan_untested : (e : GordanError) → IsOfTest (of_gordan e) → ⊥
+gordan_untested (gordan_errors.Cone o) t = t
+gordan_untested gordan_errors.Memory t = t
 
 pub named_gordan : (e : GordanError) → IsNamedBy None (of_gordan e)
 named_gordan (gordan_errors.Cone o) = λ lent is. tt

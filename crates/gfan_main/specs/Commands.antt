@@ -10,6 +10,7 @@ use Rattle.gfan_main.specs.declared.bases.ListOptions.{ListOptions}
 use Rattle.gfan_main.specs.Buchberger.{buchberger_command}
 use Rattle.gfan_main.specs.Bases.{bases_command}
 use Rattle.gfan_main.specs.Marked.{marked_command}
+use Rattle.gfan_main.specs.Containment.{containment_command}
 use Rattle.gfan_main.specs.LeadingTerms.{leading_terms_command}
 use Rattle.gfan_main.specs.MarkPolynomialSet.{mark_polynomial_set_command}
 use Rattle.gfan_main.specs.InitialForms.{initial_forms_command}
@@ -30,6 +31,7 @@ abbrev pub command : Job → Command
 command (jobs.Buchberger weighted revlex pairs) = buchberger_command (options weighted revlex pairs)
 command (jobs.Bases limit pairs workers) = bases_command (list_options limit pairs)
 command jobs.IsMarkedGroebnerBasis = marked_command
+command jobs.DoesIdealContain = containment_command
 command (jobs.LeadingTerms listed) = leading_terms_command listed
 command jobs.MarkPolynomialSet = mark_polynomial_set_command
 command jobs.InitialForms = initial_forms_command

@@ -1,8 +1,9 @@
 pub mod Printing  -- what the commands print alike
 pub mod Buchberger  -- what `_buchberger` reads and writes
 pub mod Questions  -- how what is read is checked, and what is asked then
-pub mod MarkedBases  -- when a marked set is a basis, and why it isn't tested
+pub mod CheckedSets  -- how a refusal of a check of a marked set is told
 pub mod Marked  -- what `_ismarkedgroebnerbasis` reads and writes
+pub mod Containment  -- what `_doesidealcontain` reads and writes
 pub mod LeadingTerms  -- what `_leadingterms` writes
 pub mod ToolForms  -- the form that the small tools need
 pub mod MarkPolynomialSet  -- what `_markpolynomialset` reads and writes

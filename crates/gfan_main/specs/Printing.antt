@@ -1,10 +1,19 @@
 -- What the commands print alike.
-use Rattle.std.specs.Prelude.{◌≡◌, ℕ, List, [], ◌∷◌, ◌++◌, flat_map}
+use Rattle.std.specs.Prelude.{◌≡◌, ◌⊎◌, ℕ, Bool, true, false, List, [], ◌∷◌, ◌++◌, flat_map}
 use Rattle.gf_poly.specs.Marking.{MarkedPolynomials}
 use Rattle.gf_text.specs.RingText.{ring_text}
 use Rattle.gf_text.specs.declared.written.Written.{Written}
 use Rattle.gf_text.specs.PrintedSets.{basis_text}
 use Rattle.gf_text.specs.WrittenText.{set_text}
+
+-- the digit 1 or 0, and a line end
+abbrev pub verdict_text : Bool → List ℕ
+verdict_text true = 49 ∷ 10 ∷ []
+verdict_text false = 48 ∷ 10 ∷ []
+
+-- 1 where P holds, and 0 where it doesn't
+abbrev pub IsVerdict : Type 0 → List ℕ → Type 0
+IsVerdict P text = (P × (text ≡ verdict_text true)) ⊎ ((P → ⊥) × (text ≡ verdict_text false))
 
 -- the text is the ring's line, then the set and a line end
 abbrev pub IsPrinted : List (List ℕ) → MarkedPolynomials → List ℕ → Type 0

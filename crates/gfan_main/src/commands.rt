@@ -9,7 +9,7 @@ use crate::bases::ListOptions;
 use crate::buchberger::Options;
 use crate::refused::Refused;
 use crate::{
-    bases, buchberger, homogenize, initial_forms, leading_terms, mark_polynomial_set, marked,
+    bases, buchberger, containment, homogenize, initial_forms, leading_terms, mark_polynomial_set, marked,
     polynomial_set_union, stats,
 };
 use gf_front::{Job, Refusal};
@@ -40,6 +40,7 @@ fn answered(alloc: Global, job: &Job, source: &[u8]) -> Result<Vec<u8>, Refused>
         }
         Job::Bases { .. } => unreachable!(),
         Job::IsMarkedGroebnerBasis => marked::answer(alloc, source),
+        Job::DoesIdealContain => containment::answer(alloc, source),
         Job::LeadingTerms { listed } => leading_terms::answer(alloc, source, *listed),
         Job::MarkPolynomialSet => mark_polynomial_set::answer(alloc, source),
         Job::InitialForms => initial_forms::answer(alloc, source),

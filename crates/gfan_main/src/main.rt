@@ -2,7 +2,8 @@
 //
 // `_bases` reads a ring and a set, and writes all marked reduced Gröbner bases of the set's ideal; `_buchberger` reads them too, and
 // writes the reduced Gröbner basis by lex; `_ismarkedgroebnerbasis` reads a ring and a marked set, and writes whether it is a
-// Gröbner basis for its marking; `_leadingterms` reads a ring and a marked set, and writes its leading terms; `_markpolynomialset`,
+// Gröbner basis for its marking; `_doesidealcontain` reads a ring, a marked basis and a set, and writes whether the basis's ideal
+// contains the set; `_leadingterms` reads a ring and a marked set, and writes its leading terms; `_markpolynomialset`,
 // `_initialforms`, `_homogenize`, `_polynomialsetunion` and `_stats` are small tools on sets. What a run does is told at `run`, what each
 // command writes in `specs/Commands.antt`.
 #![tactic(auto)]
@@ -15,6 +16,7 @@ mod bases;
 mod buchberger;
 mod checks;
 mod commands;
+mod containment;
 mod homogenize;
 mod initial_forms;
 mod laws;

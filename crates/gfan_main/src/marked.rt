@@ -1,33 +1,17 @@
 // What `_ismarkedgroebnerbasis` writes for an input.
-ghost use Rattle.std.specs.Prelude.{◌≡◌, IfOk, IfErr};
+ghost use Rattle.std.specs.Prelude.{IfOk, IfErr};
 ghost use Rattle.gf_items.specs.Commands.{IsAnswered, IsCommandRefused};
 ghost use Rattle.gfan_main.specs.Refused.{IsOfSource};
-ghost use Rattle.gfan_main.specs.Marked.{verdict_text, marked_command};
+ghost use Rattle.gfan_main.specs.Marked.{marked_command};
 
-mod basis;
-mod error;
-mod forms;
-mod pairs;
-mod weights;
-
-use crate::marked::basis::is_marked_basis;
+use crate::printing::verdict;
 use crate::refused::Refused;
-pub(crate) use error::CheckError;
 use gf_items::ring_and_marked;
-use std::alloc::{AllocError, Global};
+use gf_reduced::is_marked_basis;
+use std::alloc::Global;
 
-// `1` or `0`, and a line end.
-fn verdict(alloc: Global, is_basis: bool) -> Result<Vec<u8>, AllocError>
-    ensures { IfOk result (λ text. text.items ≡ verdict_text is_basis) }
-{
-    let mut text = Vec::with_capacity(alloc, 2)?;
-    text.push(if is_basis { b'1' } else { b'0' })?;
-    text.push(b'\n')?;
-    Ok(text)
-}
-
-/// `1` and a line end where the marked set of the source is a Gröbner basis for its marking, and `0` and a line end where
-/// it isn't, as `is_marked_basis` has it.
+/// `1` and a line end where the marked set of the source is a Gröbner basis of the ideal that it generates, for its marking, and `0`
+/// and a line end where it isn't, as `is_marked_basis` of `gf_reduced` has it.
 ///
 /// # Errors
 ///
@@ -42,7 +26,10 @@ pub(crate) fn answer(alloc: Global, source: &[u8]) -> Result<Vec<u8>, Refused>
     ensures told { IfErr result (IsOfSource source.now) }
 {
     let read = ring_and_marked(alloc, source)?;
-    let is_basis = is_marked_basis(alloc, &read.set)?;
+    let is_basis = match is_marked_basis(alloc, &read.set) {
+        Ok(is_basis) => is_basis,
+        Err(error) => return Err(Refused::of_check(error, read.ring)),
+    };
     let text = verdict(alloc, is_basis)?;
     Ok(text)
 }

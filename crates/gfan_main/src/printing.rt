@@ -3,11 +3,21 @@ ghost use Rattle.std.specs.Prelude.{◌≡◌, ◌++◌, ◌∷◌, [], All, fla
 ghost use Rattle.gf_text.specs.PrintedSets.{polynomial_text};
 ghost use Rattle.gf_text.specs.Sets.{AreIn};
 ghost use Rattle.gf_text.specs.WrittenText.{polynomials_text};
-ghost use Rattle.gfan_main.specs.Printing.{IsPrinted, IsPrintedSet, IsPrintedList, later_set_text, sets_text};
+ghost use Rattle.gfan_main.specs.Printing.{verdict_text, IsPrinted, IsPrintedSet, IsPrintedList, later_set_text, sets_text};
 
 use gf_poly::MarkedSet;
 use gf_text::{Printer, Ring, Written};
 use std::alloc::{AllocError, Global};
+
+/// `1` or `0`, and a line end.
+pub(crate) fn verdict(alloc: Global, holds: bool) -> Result<Vec<u8>, AllocError>
+    ensures { IfOk result (λ text. text.items ≡ verdict_text holds) }
+{
+    let mut text = Vec::with_capacity(alloc, 2)?;
+    text.push(if holds { b'1' } else { b'0' })?;
+    text.push(b'\n')?;
+    Ok(text)
+}
 
 /// The ring in a line, and the set.
 pub(crate) fn printed(alloc: Global, ring: &Ring, set: &MarkedSet) -> Result<Vec<u8>, AllocError>

@@ -1,13 +1,14 @@
 // A refusal on its way to the end of a run.
-ghost use Rattle.std.specs.Prelude.{◌≡◌};
+ghost use Rattle.std.specs.Prelude.{◌≡◌, Some};
 ghost use Rattle.gf_front.specs.Lines.{line};
+ghost use Rattle.gfan_main.specs.CheckedSets.{of_check};
 ghost use Rattle.gfan_main.specs.Refused.{names_of, IsNamedBy, WrittenAsFar};
 
-use crate::marked::CheckError;
 use gf_buchberger::BasisError;
 use gf_front::{Refusal, WordsError};
 use gf_gordan::GordanError;
 use gf_outside::Sink;
+use gf_reduced::CheckError;
 use gf_text::{Ring, Syntax, TextError};
 use gf_tree::TreeError;
 use std::alloc::AllocError;
@@ -20,6 +21,51 @@ pub(crate) struct Refused {
 }
 
 impl Refused {
+    /// Why a marked set of this ring isn't taken.
+    pub fn of_check(error: CheckError, ring: Ring) -> Refused
+        ensures refusal { result.refusal ≡ of_check error }
+        ensures ring { result.ring ≡ Some ring }
+    {
+        let refusal = match error {
+            CheckError::Overflow(o) => Refusal::Overflow(o),
+            CheckError::Exponent(o) => Refusal::ExponentOverflow(o),
+            CheckError::NotReduced {
+                set,
+                polynomial,
+                term,
+            } => Refusal::NotReduced {
+                set,
+                polynomial,
+                term,
+            },
+            CheckError::NotBasis {
+                set,
+                first,
+                second,
+                remainder,
+            } => Refusal::NotBasis {
+                set,
+                first,
+                second,
+                remainder,
+            },
+            CheckError::Inconsistent { set, multipliers } => {
+                Refusal::Inconsistent { set, multipliers }
+            }
+            CheckError::Cone(o) => Refusal::ConeOverflow {
+                row: o.row,
+                op: o.op,
+                left: o.left,
+                right: o.right,
+            },
+            CheckError::Memory => Refusal::Memory,
+        };
+        Refused {
+            refusal,
+            ring: Some(ring),
+        }
+    }
+
     /// Writes the refusal's line, as far as the sink takes it. It takes no memory.
     pub fn tell<E: Sink>(&self, faults: &mut E)
         requires { IsNamedBy self.now.ring self.now.refusal }
@@ -92,27 +138,6 @@ impl From<TextError> for Refused {
             TextError::TooManyVariables { count } => Refusal::TooManyVariables { count },
             TextError::ZeroPolynomial { set, index } => Refusal::ZeroPolynomial { set, index },
             TextError::Memory => Refusal::Memory,
-        })
-    }
-}
-
-impl From<CheckError> for Refused {
-    ghost use Rattle.gfan_main.specs.Marked.{of_check};
-    ghost use Rattle.gfan_main.specs.Refused.{without_names};
-
-    ghost from_gives = { λ c e. e ≡ without_names (of_check c) };
-
-    fn from(error: CheckError) -> Refused {
-        Refused::from(match error {
-            CheckError::Cone(o) => Refusal::ConeOverflow {
-                row: o.row,
-                op: o.op,
-                left: o.left,
-                right: o.right,
-            },
-            CheckError::Overflow(o) => Refusal::Overflow(o),
-            CheckError::Exponent(o) => Refusal::ExponentOverflow(o),
-            CheckError::Memory => Refusal::Memory,
         })
     }
 }

@@ -6,9 +6,9 @@ ghost use Rattle.gf_outside.specs.Faults.{Rose};
 ghost use Rattle.gf_outside.specs.Moved.{TookExactly, TookAtMost};
 ghost use Rattle.gf_front.specs.Jobs.{IsMatched, IsJobOf};
 ghost use Rattle.gf_front.specs.declared.command_line.Job.{Job};
-ghost use Rattle.gf_items.specs.Commands.{IsOfText, IsOfForm};
+ghost use Rattle.gf_items.specs.Commands.{IsOfText, IsOfForm, IsOfTest};
 ghost use Rattle.gfan_main.specs.Commands.{IsRefusalOf, IsWithinReach, IsOverflow, IsExponentOverflow, IsConeOverflow, IsPairBudget};
-ghost use Rattle.gfan_main.specs.Run.{ReadWhole, IsReadingCause, Answered, AnsweredInPart, InputRefused, IsKnown, AsksForJob, IsCause, IsOfInput, IsOfOutside, IsTold, IsRefusedWith, IsDoneUnlessMemory, StandsBegun, LeavesWritten};
+ghost use Rattle.gfan_main.specs.Run.{ReadWhole, IsReadingCause, Answered, AnsweredInPart, InputRefused, IsKnown, AsksForJob, IsCause, IsOfInput, IsOfOutside, IsTold, IsRefusedWith, IsTestedWith, IsDoneUnlessMemory, StandsBegun, LeavesWritten};
 
 use crate::commands::perform;
 use crate::refused::Refused;
@@ -84,6 +84,9 @@ fn outcome<R: Threads + Sync, S: Source, K: Sink, G: Gate>(
 /// - `Syntax`, `TooWide`, `UnknownName` and `TooManyVariables` exactly for the first offending place of the input.
 /// - `Dimensions`, `NotTermOrder`, `NotHomogeneous` and `ZeroPolynomial` exactly where what was read isn't of the form that the
 ///   job needs, at the first place.
+/// - `Inconsistent` and `NotBasis` exactly where a marked set that is read isn't a basis for its marking, unless numbers of the work
+///   before don't fit: no positive weight gives the marking, with multipliers that show it; or the first pair whose S-polynomial
+///   leaves a remainder, with that remainder.
 /// - `Overflow`, `ExponentOverflow` and `ConeOverflow` only for operands that the job may have, and that don't fit;
 ///   `PairBudget` only where the budget of the words is spent.
 /// - `ListLimit` exactly where the limit of the words is reached, and the list goes on.
@@ -144,6 +147,15 @@ pub fn run<R: Threads + Sync, S: Source, K: Sink, E: Sink, G: Gate>(
     ensures form_always { (job : Job) (source : List ℕ) (refusal : Refusal) → AsksForJob (map string_bytes words.now)
         (S.left input.old) (S.faults input.old) (S.faults input.new) job source → IsOfForm refusal
         → IsRefusalOf job source refusal → IsRefusedWith result refusal }
+
+    // What is read fails a test that takes work: a marked set isn't a basis, or not a reduced one, or its marking comes of no weight.
+    ensures test { (refusal : Refusal) → result ≡ Status.Refused refusal → IsOfTest refusal
+        → InputRefused (map string_bytes words.now) (S.left input.old) (S.left input.new)
+        (S.given input.old) (S.given input.new) refusal }
+
+    ensures test_always { (job : Job) (source : List ℕ) (refusal : Refusal) → AsksForJob (map string_bytes words.now)
+        (S.left input.old) (S.faults input.old) (S.faults input.new) job source → IsOfTest refusal
+        → IsRefusalOf job source refusal → IsTestedWith result refusal }
 
     // The job has an operation whose operands don't fit.
     ensures overflow { (refusal : Refusal) → result ≡ Status.Refused refusal → IsOverflow refusal
