@@ -20,13 +20,11 @@ pub(crate) struct Refused {
     pub ring: Option<Ring>,
 }
 
-impl Refused {
-    /// Why a marked set of this ring isn't taken.
-    pub fn of_check(error: CheckError, ring: Ring) -> Refused
-        ensures refusal { result.refusal ≡ of_check error }
-        ensures ring { result.ring ≡ Some ring }
-    {
-        let refusal = match error {
+/// Why a marked set isn't taken, as a refusal of the run.
+pub(crate) fn of_check(error: CheckError) -> Refusal
+    ensures { result ≡ of_check error }
+{
+        match error {
             CheckError::Overflow(o) => Refusal::Overflow(o),
             CheckError::Exponent(o) => Refusal::ExponentOverflow(o),
             CheckError::NotReduced {
@@ -59,9 +57,17 @@ impl Refused {
                 right: o.right,
             },
             CheckError::Memory => Refusal::Memory,
-        };
+        }
+}
+
+impl Refused {
+    /// Why a marked set of this ring isn't taken.
+    pub fn of_check(error: CheckError, ring: Ring) -> Refused
+        ensures refusal { result.refusal ≡ of_check error }
+        ensures ring { result.ring ≡ Some ring }
+    {
         Refused {
-            refusal,
+            refusal: of_check(error),
             ring: Some(ring),
         }
     }
