@@ -19,6 +19,3 @@ pub use homogeneity::{NotHomogeneous, homogeneous};
 pub use laws::{monomials_stay_within_limits, orders_that_suit};
 pub use leading::leading as leading_place;
 pub use several_runs::basis_by_runs;
-
-#[cfg(test)]
-mod tests;

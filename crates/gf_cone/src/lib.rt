@@ -17,6 +17,3 @@ pub use cone::Cone;
 pub use known::KnownCone;
 pub use marking::{rows, with_units};
 pub use near::{interior_near, is_inside};
-
-#[cfg(test)]
-mod tests;

@@ -17,6 +17,3 @@ pub use normal_forms::{normal_form, reduced};
 pub use reducers::divisor_of;
 pub use s_polynomials::s_poly;
 pub use steps::reduce_step;
-
-#[cfg(test)]
-mod tests;

@@ -13,6 +13,3 @@ mod turns;
 mod weights;
 
 pub use flips::{FlipError, flip};
-
-#[cfg(test)]
-mod tests;

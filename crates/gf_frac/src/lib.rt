@@ -13,6 +13,3 @@ mod working;
 pub use fractions::Frac;
 pub use laws::{constants, equality, field, school_arithmetic};
 pub use refusal::{Op, Overflow};
-
-#[cfg(test)]
-mod tests;

@@ -11,6 +11,3 @@ mod weights;
 
 pub use laws::comparisons_are_total;
 pub use order::{NotTermOrder, Order};
-
-#[cfg(test)]
-mod tests;

@@ -50,6 +50,3 @@ impl Term {
         }
     }
 }
-
-#[cfg(test)]
-mod tests;

@@ -3,6 +3,16 @@
 #![tactic(auto)]
 
 #[cfg(test)]
+mod division;
+#[cfg(test)]
+mod fractions;
+#[cfg(test)]
+mod orders;
+#[cfg(test)]
+mod polynomials;
+#[cfg(test)]
 mod real_bases;
 #[cfg(test)]
 mod strict;
+#[cfg(test)]
+mod vectors;

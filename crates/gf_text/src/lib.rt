@@ -6,8 +6,6 @@
 
 mod combine;
 mod error;
-#[cfg(test)]
-mod list_tests;
 mod marked_reader;
 mod names;
 mod printer;
@@ -16,18 +14,12 @@ mod ring_reader;
 mod set_lists;
 mod set_printer;
 mod set_reader;
-#[cfg(test)]
-mod set_tests;
 mod single_reader;
 mod term_printer;
-#[cfg(test)]
-mod tests;
 mod tokens;
 mod tree;
 mod vector_printer;
 mod vector_reader;
-#[cfg(test)]
-mod vector_tests;
 mod written;
 
 pub use error::{Kind, Syntax, TextError};

@@ -20,6 +20,3 @@ pub use dot::dot_slices;
 pub use error::{VecError, VecOp, WideVector};
 pub use vector::IntVec;
 pub use weight::{share, weight_of};
-
-#[cfg(test)]
-mod tests;

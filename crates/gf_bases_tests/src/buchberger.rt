@@ -1,0 +1,341 @@
+//! Worked bases by several orders, refusals by their operands, and both lists of a spent budget.
+
+ghost use Rattle.std.specs.Prelude.{List, IfOk};
+ghost use Rattle.gf_order.specs.Comparisons.{HasEntries};
+ghost use Rattle.gf_poly.specs.Polynomial.{Terms};
+ghost use Rattle.gf_buchberger.specs.Jobs.{HaveRingVariables, IsSuited};
+
+use gf_buchberger::*;
+use gf_frac::Op;
+use gf_order::Order;
+use gf_poly::MarkedSet;
+use gf_samples::{lists_members, poly, polys};
+use gf_vec::IntVec;
+use std::alloc::{AllocError, Global};
+use std::test::Fail;
+
+// the greatest coefficient, and the greatest exponent
+const M: i128 = i128::MAX;
+
+const E: u32 = 2_147_483_647;
+
+// Lex.
+fn by_lex() -> Order
+    ensures entries { HasEntries 3 result }
+    ensures suited { (fs : List Terms) → HaveRingVariables 3 fs → IsSuited result 3 fs }
+{
+    Order::lex()
+}
+
+// Deglex.
+fn by_deglex() -> Order
+    ensures entries { HasEntries 3 result }
+    ensures suited { (fs : List Terms) → HaveRingVariables 3 fs → IsSuited result 3 fs }
+{
+    Order::deglex()
+}
+
+// The order along the facet with normal (0, -1, 0): of two monomials the one with more of b is greater.
+fn by_facet(alloc: Global) -> Result<Order, AllocError>
+    ensures entries { IfOk result (HasEntries 3) }
+    ensures suited { IfOk result (λ order. (fs : List Terms) → HaveRingVariables 3 fs → IsSuited order 3 fs) }
+{
+    let normal = IntVec::from_slice(alloc, &[0, -1, 0])?;
+    Ok(Order::facet(normal))
+}
+
+// The basis of the ideal of these polynomials, by an order that is good on all.
+fn basis_of(
+    alloc: Global,
+    rows: &[&[(i128, [u32; 3])]],
+    order: &Order,
+    pairs: u64,
+) -> Result<Result<MarkedSet, BasisError>, Fail>
+    requires entries { HasEntries 3 order.now }
+    requires suited { (fs : List Terms) → HaveRingVariables 3 fs → IsSuited order.now 3 fs }
+{
+    let set = polys(alloc, rows)?;
+    Ok(basis(alloc, 3, &set, order, pairs))
+}
+
+// The basis of the ideal of polynomials in four variables, by lex.
+fn basis_of_four(
+    alloc: Global,
+    rows: &[&[(i128, [u32; 4])]],
+) -> Result<Result<MarkedSet, BasisError>, Fail> {
+    let set = polys(alloc, rows)?;
+    let order = Order::lex();
+    Ok(basis(alloc, 4, &set, &order, 1000))
+}
+
+// a^3 - 2ab and a^2 b - 2b^2 + a
+fn two_cubics(
+    alloc: Global,
+    order: &Order,
+    pairs: u64,
+) -> Result<Result<MarkedSet, BasisError>, Fail>
+    requires entries { HasEntries 3 order.now }
+    requires suited { (fs : List Terms) → HaveRingVariables 3 fs → IsSuited order.now 3 fs }
+{
+    let first = [(1, [3, 0, 0]), (-2, [1, 1, 0])];
+    let second = [(1, [2, 1, 0]), (-2, [0, 2, 0]), (1, [1, 0, 0])];
+    basis_of(alloc, &[&first, &second], order, pairs)
+}
+
+// Cox, Little, O'Shea, Ideals, Varieties, and Algorithms, 2.7: by deglex a^2, ab, b^2 - a/2; by lex, by hand, a - 2b^2 and so b^3
+#[test]
+fn cubics(rt: HostRuntime) -> Result<(), Fail> {
+    let alloc = rt.alloc();
+    let found = two_cubics(alloc, &by_deglex(), 1000)?
+        .ok()
+        .ok_or("a basis")?;
+    assert!(rt;
+        lists_members(
+            &found,
+            &[
+                (0, &[(1, 1, [0, 2, 0]), (-1, 2, [1, 0, 0])]),
+                (0, &[(1, 1, [1, 1, 0])]),
+                (0, &[(1, 1, [2, 0, 0])]),
+            ]
+        )
+    );
+    let found = two_cubics(alloc, &by_lex(), 1000)?.ok().ok_or("a basis")?;
+    assert!(rt;
+        lists_members(
+            &found,
+            &[
+                (0, &[(1, 1, [0, 3, 0])]),
+                (1, &[(-2, 1, [0, 2, 0]), (1, 1, [1, 0, 0])]),
+            ]
+        )
+    );
+    Ok(())
+}
+
+// the same by deglex with one pair: as the book has it, the remainder of the first pair is -a^2
+#[test]
+fn spent(rt: HostRuntime) -> Result<(), Fail> {
+    let alloc = rt.alloc();
+    let refusal = two_cubics(alloc, &by_deglex(), 1)?
+        .err()
+        .ok_or("a refusal")?;
+    let BasisError::PairBudget { basis, unsettled } = refusal else {
+        return Err("a spent budget".into());
+    };
+    assert!(rt;
+        lists_members(
+            &basis,
+            &[
+                (0, &[(1, 1, [3, 0, 0]), (-2, 1, [1, 1, 0])]),
+                (
+                    0,
+                    &[(1, 1, [2, 1, 0]), (-2, 1, [0, 2, 0]), (1, 1, [1, 0, 0])]
+                ),
+                (0, &[(1, 1, [2, 0, 0])]),
+            ]
+        )
+    );
+    assert!(rt; unsettled.items() == [(0, 2), (1, 2)].as_slice());
+    Ok(())
+}
+
+// a - b, b - c by deglex; a - b by an order along a facet
+#[test]
+fn differences(rt: HostRuntime) -> Result<(), Fail> {
+    let alloc = rt.alloc();
+    let first = [(1, [1, 0, 0]), (-1, [0, 1, 0])];
+    let second = [(1, [0, 1, 0]), (-1, [0, 0, 1])];
+    let found = basis_of(alloc, &[&first, &second], &by_deglex(), 10)?
+        .ok()
+        .ok_or("a basis")?;
+    assert!(rt;
+        lists_members(
+            &found,
+            &[
+                (0, &[(1, 1, [0, 1, 0]), (-1, 1, [0, 0, 1])]),
+                (0, &[(1, 1, [1, 0, 0]), (-1, 1, [0, 0, 1])]),
+            ]
+        )
+    );
+    let facet = by_facet(alloc)?;
+    let found = basis_of(alloc, &[&first], &facet, 0)?
+        .ok()
+        .ok_or("a basis")?;
+    assert!(rt; lists_members(&found, &[(1, &[(-1, 1, [1, 0, 0]), (1, 1, [0, 1, 0])])]));
+    Ok(())
+}
+
+// Whether the product of these numbers, or of their negatives, is refused, in either order.
+fn refuses_product(found: &Result<MarkedSet, BasisError>, x: u128, y: u128) -> bool {
+    match found {
+        Err(BasisError::Overflow(o)) => {
+            let (left, right) = (o.left.numer(), o.right.numer());
+            let (left, right) = (left.unsigned_abs(), right.unsigned_abs());
+            o.op == Op::Mul && ((left == x && right == y) || (left == y && right == x))
+        }
+        _ => false,
+    }
+}
+
+// Whether the sum of these exponents is refused.
+fn refuses_sum(found: &Result<MarkedSet, BasisError>, left: u32, right: u32) -> bool {
+    match found {
+        Err(BasisError::Exponent(o)) => o.left == u64::from(left) && o.right == u64::from(right),
+        _ => false,
+    }
+}
+
+// a - Mb with b - 2 takes the product of M and 2; with b before and 2a behind it none; and a - b takes a b^E to b times b^E
+#[test]
+fn numbers(rt: HostRuntime) -> Result<(), Fail> {
+    let alloc = rt.alloc();
+    let order = by_lex();
+    let wide = [(1, [1, 0, 0]), (-M, [0, 1, 0])];
+    let two = [(1, [0, 1, 0]), (-2, [0, 0, 0])];
+    let found = basis_of(alloc, &[&wide, &two], &order, 10)?;
+    assert!(rt; refuses_product(&found, M.unsigned_abs(), 2));
+    let found = basis_of(
+        alloc,
+        &[&[(1, [0, 1, 0])], &wide, &[(2, [1, 0, 0])]],
+        &order,
+        10,
+    )?
+    .ok()
+    .ok_or("a basis")?;
+    assert!(rt;
+        lists_members(
+            &found,
+            &[(0, &[(1, 1, [0, 1, 0])]), (0, &[(1, 1, [1, 0, 0])])]
+        )
+    );
+    let difference = [(1, [1, 0, 0]), (-1, [0, 1, 0])];
+    let found = basis_of(alloc, &[&difference, &[(1, [1, E, 0])]], &order, 10)?;
+    assert!(rt; refuses_sum(&found, E, 1));
+    Ok(())
+}
+
+// Katsura's system in four variables by lex, its values worked out by SymPy 1.14: the last member is
+// t^8 - 8/11 t^7 + 4/33 t^6 + .. - 1/128304 t, and in the others y and z are told by t.
+#[test]
+fn katsura(rt: HostRuntime) -> Result<(), Fail> {
+    let alloc = rt.alloc();
+    let linear = [
+        (1, [1, 0, 0, 0]),
+        (2, [0, 1, 0, 0]),
+        (2, [0, 0, 1, 0]),
+        (2, [0, 0, 0, 1]),
+        (-1, [0, 0, 0, 0]),
+    ];
+    let squares = [
+        (1, [2, 0, 0, 0]),
+        (2, [0, 2, 0, 0]),
+        (2, [0, 0, 2, 0]),
+        (2, [0, 0, 0, 2]),
+        (-1, [1, 0, 0, 0]),
+    ];
+    let neighbours = [
+        (2, [1, 1, 0, 0]),
+        (2, [0, 1, 1, 0]),
+        (2, [0, 0, 1, 1]),
+        (-1, [0, 1, 0, 0]),
+    ];
+    let others = [
+        (1, [0, 2, 0, 0]),
+        (2, [1, 0, 1, 0]),
+        (2, [0, 1, 0, 1]),
+        (-1, [0, 0, 1, 0]),
+    ];
+    let found = basis_of_four(alloc, &[&linear, &squares, &neighbours, &others])?
+        .ok()
+        .ok_or("a basis")?;
+    let items = found.items();
+    assert!(rt; items.len() == 4);
+    let last = items[0].poly().terms();
+    assert!(rt; last.len() == 8);
+    assert!(rt; last[1].coef.numer() == -8);
+    assert!(rt; last[2].coef.denom() == 33);
+    assert!(rt; last[7].coef.denom() == 128_304);
+    let z = items[1].poly().terms();
+    assert!(rt; z.len() == 8);
+    assert!(rt; z[0].coef.numer() == 123_812_761_248);
+    let y = items[2].poly().terms();
+    assert!(rt; y.len() == 8);
+    assert!(rt; y[0].coef.numer() == -97_197_721_632);
+    Ok(())
+}
+
+// The basis of the ideal of these polynomials by lex, by several runs of so many pairs.
+fn by_runs_of(
+    alloc: Global,
+    rows: &[&[(i128, [u32; 3])]],
+    pairs: u64,
+) -> Result<Result<MarkedSet, BasisError>, Fail> {
+    let set = polys(alloc, rows)?;
+    let order = by_lex();
+    Ok(basis_by_runs(alloc, 3, &set, &order, pairs))
+}
+
+// 3ab^2c - 2abc + ac, -2b^4 - 3b^2c^2 + 2bc^3, -2a^2c^2 + 2b^3 - 2b
+fn second_system(alloc: Global, pairs: u64) -> Result<Result<MarkedSet, BasisError>, Fail> {
+    let f = [(3, [1, 2, 1]), (-2, [1, 1, 1]), (1, [1, 0, 1])];
+    let g = [(-2, [0, 4, 0]), (-3, [0, 2, 2]), (2, [0, 1, 3])];
+    let h = [(-2, [2, 0, 2]), (2, [0, 3, 0]), (-2, [0, 1, 0])];
+    by_runs_of(alloc, &[&f, &g, &h], pairs)
+}
+
+// By the first choice of pairs numbers leave 128 bits, and from the basis by deglex they do; by the second choice they don't. As
+// Singular 4.3 has it, the least member is bc^12 - bc^11 - 3/2 bc^10 + .. - 1/27 b. With 100 pairs the first run is refused for
+// numbers, and the second one is spent.
+#[test]
+fn found_by_the_second_run(rt: HostRuntime) -> Result<(), Fail> {
+    let alloc = rt.alloc();
+    let found = second_system(alloc, 1000)?.ok().ok_or("a basis")?;
+    let items = found.items();
+    assert!(rt; items.len() == 5);
+    let least = items[0].poly().terms();
+    assert!(rt; least.len() == 11);
+    assert!(rt; least[2].coef.numer() == -3);
+    assert!(rt; least[10].coef.denom() == 27);
+    assert!(rt;
+        matches!(
+            second_system(alloc, 100)?,
+            Err(BasisError::PairBudget { .. })
+        )
+    );
+    Ok(())
+}
+
+// By both choices of pairs numbers leave 128 bits, from the basis by deglex they don't. As Singular 4.3 has it, the least member
+// is bc^5 - 5268/7565 bc^4 - .. - 8857836/54657125 bc.
+#[test]
+fn found_by_the_third_run(rt: HostRuntime) -> Result<(), Fail> {
+    let alloc = rt.alloc();
+    let f = [(-3, [1, 2, 0]), (17, [1, 1, 1]), (9, [0, 2, 1])];
+    let g = [(-2, [1, 1, 0]), (8, [1, 0, 0]), (10, [0, 2, 1])];
+    let h = [(8, [2, 0, 0]), (-28, [1, 2, 0]), (15, [0, 1, 1])];
+    let found = by_runs_of(alloc, &[&f, &g, &h], 1000)?
+        .ok()
+        .ok_or("a basis")?;
+    let items = found.items();
+    assert!(rt; items.len() == 3);
+    let least = items[0].poly().terms();
+    assert!(rt; least.len() == 5);
+    assert!(rt; least[1].coef.numer() == -5268);
+    assert!(rt; least[4].coef.denom() == 54_657_125);
+    Ok(())
+}
+
+// a^2 - b^2, and a^2 - b
+#[test]
+fn second_polynomial_inhomogeneous(rt: HostRuntime) -> Result<(), Fail> {
+    let alloc = rt.alloc();
+    let first = poly(alloc, &[(1, [2, 0, 0]), (-1, [0, 2, 0])])?;
+    let second = poly(alloc, &[(1, [2, 0, 0]), (-1, [0, 1, 0])])?;
+    let set = vec![in alloc; first, second]?;
+    assert!(rt; homogeneous(&set[..1]).is_ok());
+    let refusal = homogeneous(&set).err().ok_or("a refusal")?;
+    assert!(rt; refusal.polynomial == 1);
+    assert!(rt; refusal.first.exponents() == [2, 0, 0].as_slice());
+    assert!(rt; refusal.second.exponents() == [0, 1, 0].as_slice());
+    Ok(())
+}

@@ -1,0 +1,12 @@
+//! Tests of bases, cones, flips and the tree of bases: `gf_buchberger`, `gf_cone`, `gf_flip`, `gf_tree`. They stand in a crate of
+//! their own since a crate with tests is proved twice, with them and without.
+#![tactic(auto)]
+
+#[cfg(test)]
+mod buchberger;
+#[cfg(test)]
+mod cones;
+#[cfg(test)]
+mod flips;
+#[cfg(test)]
+mod trees;

@@ -1,0 +1,510 @@
+//! Words and their jobs, refusals and their lines, and sinks that fail at each piece.
+ghost use Rattle.std.specs.Prelude.{◌≡◌, length, Some, None};
+ghost use Rattle.gf_poly.specs.Monomial.{IsMonomial};
+ghost use Rattle.gf_front.specs.Lines.{HasNames};
+
+use gf_frac::{Frac, Op, Overflow};
+use gf_front::*;
+use gf_outside::MemSink;
+use gf_poly::{ExponentOverflow, MarkedSet, Mono, Pairs};
+use gf_text::{Kind, Reader, Ring, Syntax};
+use gf_vec::{IntVec, VecOp, WideVector};
+use std::alloc::Global;
+use std::test::Fail;
+
+/// The answer to words that are parted by spaces; an empty word stands between two spaces.
+fn answered(alloc: Global, line: &str) -> Result<Result<Job, WordsError>, Fail> {
+    let mut all = Vec::new(alloc);
+    for word in line.split(' ') {
+        all.push(String::from_str(alloc, word)?)?;
+    }
+    Ok(words(alloc, &all))
+}
+
+fn buchberger(weighted: bool, revlex: bool, pairs: u64) -> Job {
+    Job::Buchberger {
+        weighted,
+        revlex,
+        pairs,
+    }
+}
+
+#[test]
+fn options_stand_in_any_place(rt: HostRuntime) -> Result<(), Fail> {
+    let rows = [
+        ("_buchberger", false, false, 100_000_000u64),
+        ("_buchberger --", false, false, 100_000_000),
+        ("_buchberger -w", true, false, 100_000_000),
+        ("_buchberger -r", false, true, 100_000_000),
+        ("_buchberger -w -r", true, true, 100_000_000),
+        ("_buchberger -r -w", true, true, 100_000_000),
+        ("_buchberger -wr", true, true, 100_000_000),
+        ("_buchberger -rw --", true, true, 100_000_000),
+        ("_buchberger --pairs 7", false, false, 7),
+        ("_buchberger --pairs=7", false, false, 7),
+        ("_buchberger --pairs 07", false, false, 7),
+        ("_buchberger --pairs +7", false, false, 7),
+        ("_buchberger --pairs 1", false, false, 1),
+        (
+            "_buchberger --pairs 1000000000000 -w",
+            true,
+            false,
+            1_000_000_000_000,
+        ),
+        ("_buchberger -r --pairs=12", false, true, 12),
+        ("_buchberger -w --pairs 12 -r", true, true, 12),
+    ];
+    for (line, weighted, revlex, pairs) in rows {
+        let job = answered(rt.alloc(), line)?;
+        assert_eq!(rt; job, Ok(buchberger(weighted, revlex, pairs)), "{line}");
+    }
+    let rows = [
+        ("_bases", None, 100_000_000u64, 1u32),
+        ("_bases --limit 3", Some(3u64), 100_000_000, 1),
+        ("_bases --pairs 7 --limit=1", Some(1), 7, 1),
+        (
+            "_bases --limit 1000000000000",
+            Some(1_000_000_000_000),
+            100_000_000,
+            1,
+        ),
+        ("_bases --workers 1", None, 100_000_000, 1),
+        ("_bases --workers=64 --pairs 2", None, 2, 64),
+    ];
+    for (line, limit, pairs, workers) in rows {
+        let job = answered(rt.alloc(), line)?;
+        let bases = Job::Bases {
+            limit,
+            pairs,
+            workers,
+        };
+        assert_eq!(rt; job, Ok(bases), "{line}");
+    }
+    let rows = [
+        ("_ismarkedgroebnerbasis", Job::IsMarkedGroebnerBasis),
+        ("_markpolynomialset", Job::MarkPolynomialSet),
+        ("_initialforms", Job::InitialForms),
+        ("_homogenize", Job::Homogenize),
+        ("_polynomialsetunion", Job::PolynomialSetUnion),
+        ("_polynomialsetunion --", Job::PolynomialSetUnion),
+        ("_stats", Job::Stats),
+    ];
+    for (line, wanted) in rows {
+        let job = answered(rt.alloc(), line)?;
+        assert_eq!(rt; job, Ok(wanted), "{line}");
+    }
+    for (line, listed) in [("_leadingterms", false), ("_leadingterms -m", true)] {
+        let job = answered(rt.alloc(), line)?;
+        assert_eq!(rt; job, Ok(Job::LeadingTerms { listed }), "{line}");
+    }
+    Ok(())
+}
+
+#[test]
+fn other_words_are_usage(rt: HostRuntime) -> Result<(), Fail> {
+    let rows = [
+        // No command, or another one, or two.
+        "",
+        "_basis",
+        "buchberger",
+        "_BUCHBERGER",
+        "_buchberger _buchberger",
+        "-- _buchberger",
+        // Options of the command, before it.
+        "-w _buchberger",
+        "--pairs 7 _buchberger",
+        // Repeated.
+        "_buchberger -w -w",
+        "_buchberger -ww",
+        "_buchberger -r -w -r",
+        "_buchberger --pairs 7 --pairs 7",
+        "_buchberger --pairs=7 --pairs 8",
+        // Unknown.
+        "_buchberger -x",
+        "_buchberger -W",
+        "_buchberger -wx",
+        "_buchberger --w",
+        "_buchberger --pair 7",
+        "_buchberger -p 7",
+        "_buchberger input",
+        "_buchberger -- -w",
+        "_buchberger -w=1",
+        "_buchberger -i1 A",
+        "_ismarkedgroebnerbasis -w",
+        "_ismarkedgroebnerbasis --pairs 7",
+        "_markpolynomialset -w",
+        "_initialforms -m",
+        "_homogenize -w",
+        "_homogenize z",
+        "_polynomialsetunion -s",
+        "_stats -m",
+        "_stats _stats",
+        "_markpolynomialsets",
+        "_polynomialset",
+        // Out of range, or no number.
+        "_buchberger --pairs 0",
+        "_buchberger --pairs 1000000000001",
+        "_buchberger --pairs 18446744073709551617",
+        "_buchberger --pairs -7",
+        "_buchberger --pairs=-7",
+        "_buchberger --pairs 7x",
+        "_buchberger --pairs ",
+        "_buchberger --pairs=",
+        "_buchberger --pairs",
+        "_buchberger --pairs -w",
+        "_bases --limit 0",
+        "_bases --limit 1000000000001",
+        "_bases --limit 2 --limit 2",
+        "_bases --workers 0",
+        "_bases --workers 65",
+        "_bases --workers",
+        "_bases --workers 2 --workers 2",
+        "_buchberger --workers 2",
+        "_bases -w",
+        // Calls for help or a version.
+        "-h",
+        "--help",
+        "help",
+        "help _buchberger",
+        "-V",
+        "--version",
+        "_buchberger -h",
+        "_buchberger --help",
+        "_buchberger --version",
+        "_buchberger help",
+        // Commands and options that are to come.
+        "_bases -g",
+        "_bases --certificates",
+        "_bases --within FILE",
+        "_groebnercone",
+        "_fancommonrefinement -i1 A -i2 B",
+        "_buchberger --limit 3",
+    ];
+    for line in rows {
+        assert_eq!(rt;
+            answered(rt.alloc(), line)?,
+            Err(WordsError::Usage),
+            "{line}"
+        );
+    }
+    let none: Vec<String> = Vec::new(rt.alloc());
+    assert_eq!(rt; words(rt.alloc(), &none), Err(WordsError::Usage));
+    Ok(())
+}
+
+/// Whether the refusal has this status, and this is its line.
+fn is_told(
+    alloc: Global,
+    ring: Option<&Ring>,
+    refusal: Refusal,
+    code: u8,
+    line: &[u8],
+) -> Result<bool, Fail>
+    requires { HasNames ring refusal }
+{
+    let mut sink = MemSink::new(alloc, 1_000, vec![in alloc]?);
+    let told = refusal.tell(ring, &mut sink).is_ok();
+    let same = sink.bytes() == line;
+    let status = Status::Refused(refusal);
+    Ok(told && same && status.code() == code)
+}
+
+#[test]
+fn refusals_have_their_lines(rt: HostRuntime) -> Result<(), Fail> {
+    let alloc = rt.alloc();
+    let read = Refusal::ReadFault;
+    assert!(rt; is_told(alloc, None, read, 5, b"gfan: E1 read failed\n")?);
+    let write = Refusal::WriteFault;
+    assert!(rt; is_told(alloc, None, write, 6, b"gfan: E2 write failed\n")?);
+    let order = Refusal::NotTermOrder { index: 3 };
+    assert!(rt; is_told(alloc, None, order, 1, b"gfan: E7 no term order: weight 3\n")?);
+    let wide = Refusal::TooWide { at: 6 };
+    assert!(rt;
+        is_told(
+            alloc,
+            None,
+            wide,
+            1,
+            b"gfan: E9 number too wide at byte 6\n"
+        )?
+    );
+    let name = Refusal::UnknownName { at: 67_108_863 };
+    assert!(rt;
+        is_told(
+            alloc,
+            None,
+            name,
+            1,
+            b"gfan: E10 unknown name at byte 67108863\n"
+        )?
+    );
+    let many = Refusal::TooManyVariables { count: 17 };
+    assert!(rt; is_told(alloc, None, many, 1, b"gfan: E11 too many variables: 17\n")?);
+    let long = Refusal::InputTooLong;
+    assert!(rt; is_told(alloc, None, long, 1, b"gfan: E12 input too long\n")?);
+    let length = Refusal::Dimensions { left: 1, right: 2 };
+    let line = b"gfan: E21 dimension 1 where 2 is needed\n".as_slice();
+    assert!(rt; is_told(alloc, None, length, 1, line)?);
+    let zero = Refusal::ZeroPolynomial { set: 0, index: 4 };
+    let line = b"gfan: E22 zero polynomial: set 0 polynomial 4\n".as_slice();
+    assert!(rt; is_told(alloc, None, zero, 1, line)?);
+    let line = b"gfan: E23 usage: gfan _COMMAND [OPTIONS]\n".as_slice();
+    assert!(rt; is_told(alloc, None, Refusal::Usage, 2, line)?);
+    assert!(rt; is_told(alloc, None, Refusal::Memory, 7, b"gfan: no memory\n")?);
+    assert_eq!(rt; Status::Done.code(), 0);
+    Ok(())
+}
+
+#[test]
+fn faults_of_a_text_name_their_kind(rt: HostRuntime) -> Result<(), Fail> {
+    let rows = [
+        (
+            10,
+            Kind::Ended,
+            b"gfan: E8 syntax at byte 10: ended\n".as_slice(),
+        ),
+        (
+            0,
+            Kind::Unexpected,
+            b"gfan: E8 syntax at byte 0: unexpected\n",
+        ),
+        (
+            4,
+            Kind::RepeatedName,
+            b"gfan: E8 syntax at byte 4: repeated name\n",
+        ),
+        (
+            9,
+            Kind::ZeroDenominator,
+            b"gfan: E8 syntax at byte 9: zero denominator\n",
+        ),
+    ];
+    for (at, kind, line) in rows {
+        let refusal = Refusal::Syntax(Syntax { at, kind });
+        assert!(rt; is_told(rt.alloc(), None, refusal, 1, line)?);
+    }
+    Ok(())
+}
+
+/// The greatest numerator, denominator and entry.
+const MOST: i128 = i128::MAX;
+
+#[test]
+fn overflows_name_their_operands(rt: HostRuntime) -> Result<(), Fail> {
+    let alloc = rt.alloc();
+    let rows = [
+        (
+            Op::Add,
+            Frac::new(1, 2),
+            Frac::new(-5, 1),
+            b"gfan: E5 overflow: 1/2 + -5\n".as_slice(),
+        ),
+        (
+            Op::Sub,
+            Frac::new(-3, 2),
+            Frac::new(0, 1),
+            b"gfan: E5 overflow: -3/2 - 0\n",
+        ),
+        (
+            Op::Mul,
+            Frac::new(MOST, 1),
+            Frac::new(2, 1),
+            b"gfan: E5 overflow: 170141183460469231731687303715884105727 * 2\n",
+        ),
+        (
+            Op::Div,
+            Frac::new(1, MOST),
+            Frac::new(2, 3),
+            b"gfan: E5 overflow: 1/170141183460469231731687303715884105727 / 2/3\n",
+        ),
+    ];
+    for (op, left, right, line) in rows {
+        let refusal = Refusal::Overflow(Overflow { op, left, right });
+        assert!(rt; is_told(alloc, None, refusal, 3, line)?);
+    }
+    let sum = Refusal::ExponentOverflow(ExponentOverflow {
+        left: 2_147_483_647,
+        right: 1,
+    });
+    let line = b"gfan: E6 exponent overflow: 2147483647 + 1\n".as_slice();
+    assert!(rt; is_told(alloc, None, sum, 3, line)?);
+    let rows = [
+        (
+            VecOp::Add,
+            b"gfan: E17 cone overflow: row 2: -5 + 7\n".as_slice(),
+        ),
+        (VecOp::Sub, b"gfan: E17 cone overflow: row 2: -5 - 7\n"),
+        (VecOp::Mul, b"gfan: E17 cone overflow: row 2: -5 * 7\n"),
+    ];
+    for (op, line) in rows {
+        assert!(rt; is_told(alloc, None, cone_overflow(op), 3, line)?);
+    }
+    Ok(())
+}
+
+fn cone_overflow(op: VecOp) -> Refusal
+    ensures { HasNames None result }
+{
+    Refusal::ConeOverflow {
+        row: 2,
+        op,
+        left: -5,
+        right: 7,
+    }
+}
+
+#[test]
+fn a_spent_budget_tells_two_numbers(rt: HostRuntime) -> Result<(), Fail> {
+    let alloc = rt.alloc();
+    let refusal = Refusal::PairBudget {
+        basis: MarkedSet::new(3, Vec::new(alloc)),
+        unsettled: Pairs::new(vec![in alloc; (0, 1), (0, 2)]?),
+    };
+    let line = b"gfan: E13 pair budget: 0 polynomials, 2 pairs unsettled\n".as_slice();
+    assert!(rt; is_told(alloc, None, refusal, 4, line)?);
+    let limit = Refusal::ListLimit { written: 2 };
+    assert!(rt; is_told(alloc, None, limit, 4, b"gfan: E24 list limit: 2 written\n")?);
+    Ok(())
+}
+
+#[test]
+fn vectors_are_told(rt: HostRuntime) -> Result<(), Fail> {
+    let alloc = rt.alloc();
+    let wide = Refusal::WideVector(WideVector {
+        op: VecOp::Add,
+        left: MOST,
+        right: -5,
+    });
+    let line =
+        b"gfan: E4 vector overflow: 170141183460469231731687303715884105727 + -5\n".as_slice();
+    assert!(rt; is_told(alloc, None, wide, 3, line)?);
+    let rows = [
+        (
+            [1i128, -1, 0].as_slice(),
+            b"gfan: E16 inconsistent marking: set 2 multipliers (1,-1,0)\n".as_slice(),
+        ),
+        (
+            &[],
+            b"gfan: E16 inconsistent marking: set 2 multipliers ()\n",
+        ),
+    ];
+    for (entries, line) in rows {
+        let refusal = Refusal::Inconsistent {
+            set: 2,
+            multipliers: IntVec::from_slice(alloc, entries)?,
+        };
+        assert!(rt; is_told(alloc, None, refusal, 1, line)?);
+    }
+    Ok(())
+}
+
+/// A polynomial with two monomials in two variables.
+fn not_homogeneous(alloc: Global, first: &[u32], second: &[u32]) -> Refusal
+    requires first { IsMonomial first.now }
+    requires second { IsMonomial second.now }
+    requires first_variables { length first.now ≡ 2 }
+    requires second_variables { length second.now ≡ 2 }
+    ensures { (ring : _) → length ring.now ≡ 2 → HasNames (Some ring) result }
+{
+    Refusal::NotHomogeneous {
+        polynomial: 0,
+        first: Mono::new(alloc, first),
+        second: Mono::new(alloc, second),
+    }
+}
+
+/// A term in two variables.
+fn not_reduced(alloc: Global, term: &[u32]) -> Refusal
+    requires is { IsMonomial term.now }
+    requires variables { length term.now ≡ 2 }
+    ensures { (ring : _) → length ring.now ≡ 2 → HasNames (Some ring) result }
+{
+    Refusal::NotReduced {
+        set: 0,
+        polynomial: 3,
+        term: Mono::new(alloc, term),
+    }
+}
+
+#[test]
+fn monomials_have_the_names_of_the_ring(rt: HostRuntime) -> Result<(), Fail> {
+    let alloc = rt.alloc();
+    let ring = Reader::new(b"Q[a,b]")
+        .read_ring(alloc)
+        .map_err(|_| "no ring")?;
+    assert_eq!(rt; ring.len(), 2);
+    let refusal = not_homogeneous(alloc, &[2, 0], &[0, 1]);
+    let line = b"gfan: E25 not homogeneous: polynomial 0: a^2 and b\n".as_slice();
+    assert!(rt; is_told(alloc, Some(&ring), refusal, 1, line)?);
+    let reduced = not_reduced(alloc, &[0, 1]);
+    let line = b"gfan: E14 not reduced: set 0 polynomial 3 term b\n".as_slice();
+    assert!(rt; is_told(alloc, Some(&ring), reduced, 1, line)?);
+    let refusal = not_homogeneous(alloc, &[1, 13], &[0, 0]);
+    let line = b"gfan: E25 not homogeneous: polynomial 0: a*b^13 and 1\n".as_slice();
+    assert!(rt; is_told(alloc, Some(&ring), refusal, 1, line)?);
+    Ok(())
+}
+
+/// Whether the line breaks off where a write fails: these are its pieces, and each write fails in turn.
+fn breaks_off(
+    alloc: Global,
+    ring: Option<&Ring>,
+    refusal: &Refusal,
+    pieces: &[&[u8]],
+) -> Result<bool, Fail>
+    requires { HasNames ring refusal.now }
+{
+    let mut line = Vec::new(alloc);
+    for (failing, piece) in pieces.iter().enumerate() {
+        let mut sink = MemSink::new(alloc, 1_000, vec![in alloc; failing as u64]?);
+        if refusal.tell(ring, &mut sink).is_ok() || sink.bytes() != line.as_slice() {
+            return Ok(false);
+        }
+        line.extend_from_slice(piece)?;
+    }
+    let mut sink = MemSink::new(alloc, 1, vec![in alloc]?);
+    Ok(refusal.tell(ring, &mut sink).is_ok() && sink.bytes() == line.as_slice())
+}
+
+#[test]
+fn a_line_breaks_off_at_each_piece(rt: HostRuntime) -> Result<(), Fail> {
+    let alloc = rt.alloc();
+    let pieces = [
+        b"gfan: ".as_slice(),
+        b"E23 usage: gfan _COMMAND [OPTIONS]",
+        b"\n",
+    ];
+    assert!(rt; breaks_off(alloc, None, &Refusal::Usage, &pieces)?);
+    let pieces = [
+        b"gfan: ".as_slice(),
+        b"E17 cone overflow: row ",
+        b"2",
+        b": ",
+        b"-5",
+        b" * ",
+        b"7",
+        b"\n",
+    ];
+    assert!(rt; breaks_off(alloc, None, &cone_overflow(VecOp::Mul), &pieces)?);
+    let ring = Reader::new(b"Q[a,b]")
+        .read_ring(alloc)
+        .map_err(|_| "no ring")?;
+    assert_eq!(rt; ring.len(), 2);
+    let pieces = [
+        b"gfan: ".as_slice(),
+        b"E25 not homogeneous: polynomial ",
+        b"0",
+        b": ",
+        b"a",
+        b"^",
+        b"2",
+        b" and ",
+        b"a",
+        b"*",
+        b"b",
+        b"\n",
+    ];
+    let refusal = not_homogeneous(alloc, &[2, 0], &[1, 1]);
+    assert!(rt; breaks_off(alloc, Some(&ring), &refusal, &pieces)?);
+    Ok(())
+}
