@@ -82,6 +82,7 @@ fn options_stand_in_any_place(rt: HostRuntime) -> Result<(), Fail> {
     }
     let rows = [
         ("_ismarkedgroebnerbasis", Job::IsMarkedGroebnerBasis),
+        ("_doesidealcontain", Job::DoesIdealContain),
         ("_markpolynomialset", Job::MarkPolynomialSet),
         ("_initialforms", Job::InitialForms),
         ("_homogenize", Job::Homogenize),

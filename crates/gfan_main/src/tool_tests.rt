@@ -385,3 +385,49 @@ fn statistics_are_seven_lines(rt: HostRuntime) -> Result<(), Fail> {
     }
     Ok(())
 }
+
+/// Whether an ideal contains polynomials; the marking is judged before the pairs, and both before any polynomial.
+#[test]
+fn an_ideal_contains_polynomials_or_not(rt: HostRuntime) -> Result<(), Fail> {
+    let rows = [
+        ("Q[a,b] {a-b} {a^2-b^2}", 0u8, "1\n", ""),
+        ("Q[a,b] {a-b} {a}", 0, "0\n", ""),
+        // The empty set, zero, a set whose second polynomial isn't a member, and a marked coefficient that isn't 1.
+        ("Q[a,b] {a-b} {}", 0, "1\n", ""),
+        ("Q[a,b] {a-b} {b-b,2a-2b}", 0, "1\n", ""),
+        ("Q[a,b] {a-b} {a-b,a^2-1}", 0, "0\n", ""),
+        ("Q[a,b] {2a-b} {b-2a}", 0, "1\n", ""),
+        ("Q[a,b] {} {b-b}", 0, "1\n", ""),
+        // It needn't be reduced.
+        ("Q[a,b] {a+b,b} {a}", 0, "1\n", ""),
+        (
+            "Q[a,b] {a-b,b-a} {a}",
+            1,
+            "",
+            "gfan: E16 inconsistent marking: set 0 multipliers (1,1,0,0)\n",
+        ),
+        (
+            "Q[a,b] {a^2-1,ab-1} {a}",
+            1,
+            "",
+            "gfan: E15 no basis: set 0 polynomials 0 and 1 leave a-b\n",
+        ),
+        (
+            "Q[a,b] {a-b,0} {a}",
+            1,
+            "",
+            "gfan: E22 zero polynomial: set 0 polynomial 1\n",
+        ),
+        (
+            "Q[a,b] {a-b}",
+            1,
+            "",
+            "gfan: E8 syntax at byte 12: ended\n",
+        ),
+    ];
+    for (input, code, text, told) in rows {
+        let ok = ends(&rt, rt.alloc(), "_doesidealcontain", input, code, text, told)?;
+        assert!(rt; ok, "{input}");
+    }
+    Ok(())
+}
