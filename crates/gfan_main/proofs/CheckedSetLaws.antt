@@ -1,5 +1,5 @@
 -- What is answered for a marked set, and why a marked set isn't taken: each reason is told in one way, with the ring of the set.
--- To cite: verdict-of, of_this_ring, named_test, named_check, check_refused, marked_answered; check_work, check_not_listed,
+-- To cite: verdict-of, of_this_ring, named_test, named_check, named_numbers, check_refused, marked_answered; check_work, check_not_listed, poly_numbers, poly_untested,
 -- test_cause_untested, paired_once, paired_refutes. The rest are steps.
 use Rattle.std.specs.Prelude.{◌≡◌, ◌≢◌, ◌↔◌, ◌⊎◌, ℕ, ◌<◌, ◌≤◌, Bool, true, false, List, [], length, map, IsTrue, Option, None, Some}
 use Rattle.std.specs.Borrow.{Bor}
@@ -9,6 +9,8 @@ use Rattle.std.proofs.lemmas.Bool.{cases_lt}
 use Rattle.gf_frac.specs.Fraction.{Fraction, one_ℚ, neg_ℚ, ◌+ℚ◌}
 use Rattle.gf_exponents.specs.Exponents.{Exponents, same, plus, join}
 use Rattle.gf_exponents.proofs.ExponentsLaws.{cancel, same_trans, same_flip}
+use Rattle.gf_poly.specs.declared.error.PolyError.{PolyError}
+use Rattle.gf_poly.specs.declared.error.PolyError.TheVariants as errors
 use Rattle.gf_poly.specs.Polynomial.{Terms, coefficient, times, SamePolynomial, HasVariables}
 use Rattle.gf_poly.specs.Marking.{MarkedPolynomial, MarkedPolynomials, HaveVariables}
 use Rattle.gf_poly.proofs.PolynomialLaws.{coefficient-++}
@@ -21,7 +23,7 @@ use Rattle.gf_reduced.specs.declared.error.CheckError.TheVariants as check_error
 use Rattle.gf_reduced.specs.Forms.{monic_of}
 use Rattle.gf_reduced.specs.Markings.{IsMarkedGroebnerBasis}
 use Rattle.gf_reduced.specs.Pairs.{IsRemainderAt, Vanishes, IsFirstFailingWith, IsFirstFailing}
-use Rattle.gf_reduced.specs.Refusals.{IsTestRefusal, IsPairedRefusal}
+use Rattle.gf_reduced.specs.Refusals.{of_poly, IsTestRefusal, IsPairedRefusal}
 use Rattle.gf_reduced.proofs.FormLaws.{forms-variables}
 use Rattle.gf_reduced.proofs.GroebnerLaws.{s_at, failing_refutes}
 use Rattle.gf_front.specs.declared.refusal.Refusal.{Refusal}
@@ -70,6 +72,11 @@ named_check P k ring s (check_errors.Inconsistent set ms) q v h = λ lent is. tt
 named_check P k ring s (check_errors.Cone o) q v h = λ lent is. tt
 named_check P k ring s check_errors.Memory q v h = λ lent is. tt
 
+pub named_numbers : (ring : List (List ℕ)) (d : PolyError) → IsNamedBy (Some ring) (of_check (of_poly d))
+named_numbers ring (errors.Overflow o) = λ lent is. tt
+named_numbers ring (errors.Exponent o) = λ lent is. tt
+named_numbers ring errors.Memory = λ lent is. tt
+
 -- ---- a refusal of a check is of the work
 
 pub check_work : (e : CheckError) → IsOfWork (of_check e)
@@ -89,6 +96,17 @@ check_not_listed (check_errors.NotBasis set i j r) most q = cc
 check_not_listed (check_errors.Inconsistent set ms) most q = cc
 check_not_listed (check_errors.Cone o) most q = cc
 check_not_listed check_errors.Memory most q = cc
+
+-- numbers that don't fit
+pub poly_numbers : (d : PolyError) → IsOfNumbers (of_check (of_poly d))
+poly_numbers (errors.Overflow o) = tt
+poly_numbers (errors.Exponent o) = tt
+poly_numbers errors.Memory = tt
+
+pub poly_untested : (d : PolyError) → IsOfTest (of_check (of_poly d)) → ⊥
+poly_untested (errors.Overflow o) t = t
+poly_untested (errors.Exponent o) t = t
+poly_untested errors.Memory t = t
 
 -- the test isn't refused for what it finds
 test_untested : (s : MarkedPolynomials) (e : CheckError) → IsTestRefusal s e → IsOfTest (of_check e) → ⊥

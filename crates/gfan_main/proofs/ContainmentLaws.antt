@@ -1,5 +1,5 @@
 -- Whether an ideal contains polynomials: what is told one by one holds of all, and why it isn't told.
--- To cite: members_none, members_next, not_member, in_next, basis_refused, members_refused, members_moved; containment_refused,
+-- To cite: zero_member, members_none, members_next, not_member, in_next, some_refused, members_moved; containment_refused,
 -- named_containment, containment_answered; containment_work, containment_within, containment_once, containment_refuses. The rest are steps.
 use Rattle.std.specs.Prelude.{◌≡◌, ◌↔◌, ◌⊎◌, ℕ, zero, suc, ◌+◌, ◌<◌, Bool, true, false, List, [], ◌∷◌, ◌++◌, length, take, slice_index_or, Contains, IsTrue, Some, Err}
 use Rattle.std.proofs.Common.{arith, refl, sym, ap, ◌∙◌, subst, inl, inr}
@@ -8,6 +8,7 @@ use Rattle.gf_poly.specs.declared.error.PolyError.TheVariants as errors
 use Rattle.gf_poly.specs.Polynomial.{Terms}
 use Rattle.gf_poly.specs.Marking.{MarkedPolynomial, MarkedPolynomials, HaveVariables, polys, IsArranged}
 use Rattle.gf_ideal.specs.Membership.{IsMember, AreSameIdeal}
+use Rattle.gf_ideal.proofs.MembershipLaws.{member-zero}
 use Rattle.gf_ideal.proofs.ListLaws.{Contains-here, Contains-there, Contains-last}
 use Rattle.gf_division.specs.Steps.{IsReductionRefusal}
 use Rattle.gf_reduced.specs.declared.error.CheckError.{CheckError}
@@ -17,6 +18,7 @@ use Rattle.gf_reduced.specs.Markings.{IsMarkedGroebnerBasis, IsBasisOf}
 use Rattle.gf_reduced.specs.Refusals.{of_poly, IsBasisRefusal}
 use Rattle.gf_reduced.proofs.RefusalLaws.{basis_only_memory}
 use Rattle.gf_text.specs.declared.written.Written.{Written}
+use Rattle.gf_text.specs.declared.written.Written.TheVariants as written
 use Rattle.gf_text.specs.Sets.{IsIn, AreIn}
 use Rattle.gf_front.specs.declared.refusal.Refusal.{Refusal}
 use Rattle.gf_front.specs.declared.refusal.Refusal.TheVariants as refusals
@@ -30,9 +32,13 @@ use Rattle.gfan_main.specs.Containment.{AreMembers, IsSomeReductionRefusal, IsCo
 use Rattle.gfan_main.specs.Refused.{IsNamedBy}
 use Rattle.gfan_main.proofs.BuchbergerLaws.{polynomials_next}
 use Rattle.gfan_main.proofs.ReadSetLaws.{marked_kept}
-use Rattle.gfan_main.proofs.CheckedSetLaws.{named_check, check_work, paired_once, paired_refutes, verdict-of}
+use Rattle.gfan_main.proofs.CheckedSetLaws.{named_check, named_numbers, check_work, poly_numbers, poly_untested, paired_once, paired_refutes, verdict-of}
 
 -- ---- one by one
+
+-- zero is a member
+pub zero_member : (n : ℕ) (gs : List Terms) (w : Written) → w ≡ written.Zero → IsTrue true ↔ IsMember n gs (polynomial_of w)
+zero_member n gs w e = (λ t. subst (λ (z : Written). IsMember n gs (polynomial_of z)) (sym e) (member-zero n gs), λ m. refl)
 
 pub members_none : (n : ℕ) (gs : List Terms) → AreMembers n gs []
 members_none n gs f c = absurd (omega (arith, c.1))
@@ -73,15 +79,10 @@ members_moved s t fs b q h told =
 pub containment_refused : (source : List ℕ) (ring : List (List ℕ)) (s : MarkedPolynomials) (ws : List Written) (e : CheckError) (r : Refusal) → IsTextOf ring_marked_set_and_set source (ring, (s, ws)) → IsContainmentRefusal s (generators_of ws) e → r ≡ of_check e → IsCommandRefused containment_command source r
 containment_refused source ring s ws e r read h q = IsCommandRefused.behind_text (ring, (s, ws)) read (IsUnanswered.in_work tt (e, q, h))
 
-of_numbers : (ring : List (List ℕ)) (d : PolyError) → IsNamedBy (Some ring) (of_check (of_poly d))
-of_numbers ring (errors.Overflow o) = λ lent is. tt
-of_numbers ring (errors.Exponent o) = λ lent is. tt
-of_numbers ring errors.Memory = λ lent is. tt
-
 pub named_containment : (source : List ℕ) (ring : List (List ℕ)) (s : MarkedPolynomials) (ws : List Written) (e : CheckError) → IsTextOf ring_marked_set_and_set source (ring, (s, ws)) → IsContainmentRefusal s (generators_of ws) e → IsNamedBy (Some ring) (of_check e)
 named_containment source ring s ws e read (IsContainmentRefusal.at_basis h) =
     let m = read.read.two.one in named_check (Unit {0}) 0 ring s e m.variables (marked_kept ring (from source read.read.behind) read.read.two.behind s m) h
-named_containment source ring s ws e read (IsContainmentRefusal.at_member t d g a h q) = subst (λ z. IsNamedBy (Some ring) (of_check z)) (sym q) (of_numbers ring d)
+named_containment source ring s ws e read (IsContainmentRefusal.at_member t d g a h q) = subst (λ z. IsNamedBy (Some ring) (of_check z)) (sym q) (named_numbers ring d)
 
 pub containment_answered : (source text : List ℕ) (ring : List (List ℕ)) (s : MarkedPolynomials) (ws : List Written) (b : Bool) → IsTextOf ring_marked_set_and_set source (ring, (s, ws)) → IsMarkedGroebnerBasis s.variables s.items → IsTrue b ↔ AreMembers s.variables (polys s.items) (generators_of ws) → text ≡ verdict_text b → IsAnswered containment_command source text
 containment_answered source text ring s ws b read g h e = record {
@@ -108,21 +109,10 @@ refusal_within s fs e w (IsContainmentRefusal.at_member t d g a h q) = q ∙ ap 
 pub containment_within : (s : MarkedPolynomials) (fs : List Terms) (r : Refusal) → IsContainmentWithin s fs → (e : CheckError) × (r ≡ of_check e) × IsContainmentRefusal s fs e → r ≡ refusals.Memory
 containment_within s fs r w h = h.1 ∙ ap of_check (refusal_within s fs h.0 w h.2)
 
--- numbers aren't told as a test is
-numbers_untested : (d : PolyError) → IsOfTest (of_check (of_poly d)) → ⊥
-numbers_untested (errors.Overflow o) t = t
-numbers_untested (errors.Exponent o) t = t
-numbers_untested errors.Memory t = t
-
-numbers_of : (d : PolyError) → IsOfNumbers (of_check (of_poly d))
-numbers_of (errors.Overflow o) = tt
-numbers_of (errors.Exponent o) = tt
-numbers_of errors.Memory = tt
-
 refusal_once : (s : MarkedPolynomials) (fs : List Terms) (e d : CheckError) → HaveVariables s.variables s.items → IsOfTest (of_check e) → IsContainmentRefusal s fs e → IsContainmentRefusal s fs d → TellsSame (of_check e) (of_check d) ⊎ IsOfNumbers (of_check d)
 refusal_once s fs e d v t (IsContainmentRefusal.at_basis h) (IsContainmentRefusal.at_basis k) = paired_once (Unit {0}) (Unit {0}) 0 s e d v t h k
-refusal_once s fs e d v t (IsContainmentRefusal.at_basis h) (IsContainmentRefusal.at_member b z g a k q) = inr (subst (λ x. IsOfNumbers (of_check x)) (sym q) (numbers_of z))
-refusal_once s fs e d v t (IsContainmentRefusal.at_member b z g a h q) k = absurd (numbers_untested z (subst (λ x. IsOfTest (of_check x)) q t))
+refusal_once s fs e d v t (IsContainmentRefusal.at_basis h) (IsContainmentRefusal.at_member b z g a k q) = inr (subst (λ x. IsOfNumbers (of_check x)) (sym q) (poly_numbers z))
+refusal_once s fs e d v t (IsContainmentRefusal.at_member b z g a h q) k = absurd (poly_untested z (subst (λ x. IsOfTest (of_check x)) q t))
 
 -- the set of a source has its variables
 read_variables : (source : List ℕ) (v : List (List ℕ) × (MarkedPolynomials × List Written)) → IsTextOf ring_marked_set_and_set source v → HaveVariables v.1.0.variables v.1.0.items
@@ -137,7 +127,7 @@ containment_once source v r d read t h k =
 -- a set that is refused isn't a basis
 refusal_refutes : (s : MarkedPolynomials) (fs : List Terms) (e : CheckError) → HaveVariables s.variables s.items → IsOfTest (of_check e) → IsContainmentRefusal s fs e → IsMarkedGroebnerBasis s.variables s.items → ⊥
 refusal_refutes s fs e v t (IsContainmentRefusal.at_basis h) g = paired_refutes (Unit {0}) 0 s e v t h g
-refusal_refutes s fs e v t (IsContainmentRefusal.at_member b z m a h q) g = numbers_untested z (subst (λ x. IsOfTest (of_check x)) q t)
+refusal_refutes s fs e v t (IsContainmentRefusal.at_member b z m a h q) g = poly_untested z (subst (λ x. IsOfTest (of_check x)) q t)
 
 pub containment_refuses : (source : List ℕ) (v : List (List ℕ) × (MarkedPolynomials × List Written)) (r : Refusal) (text : List ℕ) → IsTextOf ring_marked_set_and_set source v → IsOfTest r
     → (e : CheckError) × (r ≡ of_check e) × IsContainmentRefusal v.1.0 (generators_of v.1.1) e → IsContainmentText v.1.0 (generators_of v.1.1) text → ⊥
