@@ -1,8 +1,9 @@
 -- Whether an ideal contains polynomials: what is told one by one holds of all, and why it isn't told.
--- To cite: zero_member, members_none, members_next, not_member, in_next, some_refused, members_moved; containment_refused,
+-- To cite: zero_member, members_none, members_next, not_member, all_members, in_next, some_refused, basis_refused, no_room, member_refused, in_basis, members_moved; containment_refused,
 -- named_containment, containment_answered; containment_work, containment_within, containment_once, containment_refuses. The rest are steps.
-use Rattle.std.specs.Prelude.{◌≡◌, ◌↔◌, ◌⊎◌, ℕ, zero, suc, ◌+◌, ◌<◌, Bool, true, false, List, [], ◌∷◌, ◌++◌, length, take, slice_index_or, Contains, IsTrue, Some, Err}
+use Rattle.std.specs.Prelude.{◌≡◌, ◌↔◌, ◌⊎◌, ℕ, zero, suc, ◌+◌, ◌<◌, ◌≤◌, Bool, true, false, List, [], ◌∷◌, ◌++◌, length, take, slice_index_or, Contains, IsTrue, Some, Err}
 use Rattle.std.proofs.Common.{arith, refl, sym, ap, ◌∙◌, subst, inl, inr}
+use Rattle.std.proofs.lemmas.List.{take_all}
 use Rattle.gf_poly.specs.declared.error.PolyError.{PolyError}
 use Rattle.gf_poly.specs.declared.error.PolyError.TheVariants as errors
 use Rattle.gf_poly.specs.Polynomial.{Terms}
@@ -54,8 +55,11 @@ generator_at (v ∷ ws) zero w l e = subst (Contains (generators_of (v ∷ ws)))
 generator_at (v ∷ ws) (suc i) w l e = Contains-there (polynomial_of v) (polynomial_of w) (generators_of ws) (generator_at ws i w (omega arith) e)
 
 -- one that isn't a member
-pub not_member : (n : ℕ) (gs : List Terms) (ws : List Written) (i : ℕ) (w : Written) → i < length ws → w ≡ slice_index_or ws i w → IsTrue false ↔ IsMember n gs (polynomial_of w) → IsTrue false ↔ AreMembers n gs (generators_of ws)
-not_member n gs ws i w l e h = (λ t. absurd (cc), λ a. h.1 (a (polynomial_of w) (generator_at ws i w l e)))
+pub not_member : (n : ℕ) (gs : List Terms) (ws : List Written) (i : ℕ) (w : Written) (b : Bool) → i < length ws → w ≡ slice_index_or ws i w → b ≡ false → IsTrue b ↔ IsMember n gs (polynomial_of w) → IsTrue false ↔ AreMembers n gs (generators_of ws)
+not_member n gs ws i w b l e q h = (λ t. absurd (cc), λ a. sym q ∙ h.1 (a (polynomial_of w) (generator_at ws i w l e)))
+
+pub all_members : (n : ℕ) (gs : List Terms) (ws : List Written) (i : ℕ) → length ws ≤ i → AreMembers n gs (generators_of (take i ws)) → IsTrue true ↔ AreMembers n gs (generators_of ws)
+all_members n gs ws i l h = (λ t. subst (λ (xs : List Written). AreMembers n gs (generators_of xs)) (take_all i ws l) h, λ a. refl)
 
 pub in_next : (n : ℕ) (ws : List Written) (i : ℕ) (w : Written) → AreIn n ws → i < length ws → w ≡ slice_index_or ws i w → IsIn n w
 in_next n [] i w h l e = absurd (omega arith)
@@ -68,6 +72,18 @@ some_refused bs ws i w (errors.Exponent o) l p h = record { polynomial = polynom
 some_refused bs ws i w errors.Memory l p h = tt
 
 -- ---- by the basis, and by the set that was read
+
+pub basis_refused : (s : MarkedPolynomials) (fs : List Terms) (e : CheckError) → IsBasisRefusal 0 s e → IsContainmentRefusal s fs e
+basis_refused s fs e h = IsContainmentRefusal.at_basis h
+
+pub no_room : (s : MarkedPolynomials) (fs : List Terms) → IsContainmentRefusal s fs check_errors.Memory
+no_room s fs = IsContainmentRefusal.at_basis tt
+
+pub member_refused : (s t : MarkedPolynomials) (fs : List Terms) (d : PolyError) → IsBasisOf s t → IsArranged (monic_set s) t → IsSomeReductionRefusal t.items fs d → IsContainmentRefusal s fs (of_poly d)
+member_refused s t fs d b a h = IsContainmentRefusal.at_member t d b.marked a h refl
+
+pub in_basis : (s t : MarkedPolynomials) (ws : List Written) → IsArranged (monic_set s) t → AreIn s.variables ws → AreIn t.variables ws
+in_basis s t ws a h = subst (λ n. AreIn n ws) (sym a.variables) h
 
 pub members_moved : (s t : MarkedPolynomials) (fs : List Terms) (b : Bool) → t.variables ≡ s.variables → IsBasisOf s t → IsTrue b ↔ AreMembers t.variables (polys t.items) fs → IsTrue b ↔ AreMembers s.variables (polys s.items) fs
 members_moved s t fs b q h told =

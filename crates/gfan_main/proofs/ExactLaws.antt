@@ -42,7 +42,7 @@ use Rattle.gfan_main.specs.Commands.{options, list_options, command, IsAnswerTo,
 use Rattle.gfan_main.proofs.FormLaws.{form_once}
 use Rattle.gfan_main.proofs.ReadSetLaws.{set_kept}
 use Rattle.gfan_main.proofs.CheckedSetLaws.{check_work, check_not_listed, test_cause_untested}
-use Rattle.gfan_main.proofs.ContainmentLaws.{containment_work, containment_within, containment_not_listed, containment_once, containment_refuses}
+use Rattle.gfan_main.proofs.ContainmentLaws.{containment_work, containment_within, containment_once, containment_refuses}
 use Rattle.gfan_main.proofs.ToolLaws.{mark_polynomial_set_exact, initial_forms_exact, homogenize_exact, polynomial_set_union_exact, stats_exact, homogenize_not_listed, gordan_not_listed, homogenize_untested, gordan_untested}
 
 -- ---- `_buchberger`

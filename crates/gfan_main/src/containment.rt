@@ -40,7 +40,8 @@ fn contains_all(alloc: Global, basis: &MarkedSet, set: &[Written]) -> Result<boo
     ensures cause { IfErr result (IsSomeReductionRefusal basis.now.items (generators_of set.now)) }
 {
     'polynomials: for i in 0..set.len() {
-        if !contains_one(alloc, basis, &set[i])? {
+        let is_member = contains_one(alloc, basis, &set[i])?;
+        if !is_member {
             return Ok(false);
         }
     }
