@@ -1,6 +1,6 @@
 -- Sections are read as the grammar says, and the first fault is what is refused.
 -- To cite: text_said, text_given, text_fault, content_given. The rest are steps.
-use Rattle.std.proofs.Common.{◌≡◌, ◌≤◌, ℕ, ◌+◌, Bool, true, false, ◌&&◌, nat_le, List, [], ◌∷◌, ◌++◌, length, Result, Ok, Err, refl, sym, ap, subst, ◌∙◌, ◌⊎◌, inl, inr, append-nil, bytes_eq, arith, if◌then◌else◌, ℤ}
+use Rattle.std.proofs.Common.{◌≡◌, ◌≤◌, ℕ, ◌+◌, Bool, true, false, ◌&&◌, nat_le, List, [], ◌∷◌, ◌++◌, length, Result, Ok, Err, refl, sym, ap, subst, ◌∙◌, inl, inr, append-nil, bytes_eq, arith, if◌then◌else◌, ℤ}
 use Rattle.gf_text.specs.declared.error.Cause.{Cause}
 use Rattle.gf_text.specs.declared.error.Cause.TheVariants.{Unexpected, TooWide, RepeatedName}
 use Rattle.gf_fanfile.specs.declared.error.FanFileError.{FanFileError}

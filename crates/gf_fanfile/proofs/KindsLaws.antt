@@ -1,8 +1,8 @@
 -- Of which kind a fault is where numbers are taken up to a limit.
 -- To cite: row_kind, cone_kind, number_kind. The rest are steps.
-use Rattle.std.proofs.Common.{◌≡◌, ◌<◌, ℕ, ℤ, Bool, true, false, nat_le, List, [], ◌∷◌, ◌++◌, Option, Some, refl, sym, ap, ◌∙◌, subst, ◌⊎◌, inl, inr, bytes_eq, if◌then◌else◌}
+use Rattle.std.proofs.Common.{◌≡◌, ℕ, ℤ, Bool, true, false, nat_le, List, [], ◌∷◌, ◌++◌, Option, Some, refl, sym, ap, ◌∙◌, subst, ◌⊎◌, inl, inr, bytes_eq, if◌then◌else◌}
 use Rattle.gf_text.specs.declared.error.Cause.{Cause}
-use Rattle.gf_text.specs.declared.error.Cause.TheVariants.{Ended, Unexpected, RepeatedName, ZeroDenominator, TooWide, UnknownName}
+use Rattle.gf_text.specs.declared.error.Cause.TheVariants.{Unexpected, TooWide}
 use Rattle.gf_text.specs.Machine.{Move, go, done, halt, after}
 use Rattle.gf_text.specs.Marks.{minus_mark, brace, brace_end}
 use Rattle.gf_text.specs.Tokens.{is_number, decimal_value}
@@ -13,8 +13,8 @@ use Rattle.gf_text.proofs.KindsLaws.{refused_by, one, halts, NoNumbers, Numbers,
 use Rattle.gf_text.proofs.SetTokensLaws.{word_no_number, word_no_mark, number_no_mark, not_le, le_false}
 use Rattle.gf_text.proofs.MachineLaws.{IsMachineOf}
 use Rattle.gf_fanfile.specs.Lines.{line_end, section_end}
-use Rattle.gf_fanfile.specs.RowText.{most_row_entry, RowState, RowMove, row_state, row_size_step, row_entry_step, row_step_at, row_step, row_start, AreRowTexts}
-use Rattle.gf_fanfile.specs.ConeText.{most_number, before, inside, closed, ConeState, ConeMove, cone_step, cone_start, AreConeTexts}
+use Rattle.gf_fanfile.specs.RowText.{most_row_entry, RowState, row_state, row_size_step, row_entry_step, row_step_at, row_step, row_start, AreRowTexts}
+use Rattle.gf_fanfile.specs.ConeText.{most_number, before, inside, closed, ConeState, cone_step, cone_start, AreConeTexts}
 use Rattle.gf_fanfile.proofs.RowTextLaws.{row_machine, number_some, number_on}
 use Rattle.gf_fanfile.proofs.ConeTextLaws.{cone_machine}
 use Rattle.gf_fanfile.specs.declared.numbers.NumberState.{NumberState}
@@ -115,7 +115,6 @@ module _ {S A : Type 0} {step : S → List ℕ → Move S A} {start : S} {gramma
   kind_of = gate_number_kind is (λ s. is_gate (step s) (refuses s)) (λ s t cause e. is_cause (step s) (refuses s) t cause e)
 
 -- ---- choices among moves
-
 
 module _ {S A : Type 0} where
   -- where this move refuses its token, the token is unexpected

@@ -11,7 +11,7 @@ use Rattle.gf_text.specs.Marks.{minus_mark}
 use Rattle.gf_text.specs.Tokens.{lex_tokens, lexemes, lexeme, word_more}
 use Rattle.gf_text.proofs.TokensLaws.{behind-lexeme}
 use Rattle.gf_fanfile.proofs.NumbersSame.{same_number}
-use Rattle.gf_fanfile.specs.Lines.{blank, parted, before_line, lines, goes_on_line, is_no_comment, before_comment, all_parted, line_tokens, tokens_between, Sections, no_sections, with_name, with_line, with_tokens, sections_of, sections_from, is_section_name, section_end, line_end, place_from, content_tokens, end_before, front_tokens, front_place, content_from}
+use Rattle.gf_fanfile.specs.Lines.{blank, parted, before_line, lines, goes_on_line, is_no_comment, before_comment, all_parted, line_tokens, tokens_between, Sections, no_sections, with_name, with_line, with_tokens, sections_of, sections_from, is_section_name, section_end, line_end, front_tokens, front_place}
 
 -- ---- the first line
 

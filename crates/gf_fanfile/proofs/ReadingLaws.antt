@@ -1,9 +1,9 @@
 -- What a loop over the tokens of a content reads, at its end.
 -- To cite: below_read, is_refused, refused_on, read_ended, read_halted, read_done. The rest are steps.
-use Rattle.std.proofs.Common.{◌≡◌, ℕ, List, [], ◌∷◌, Result, Ok, Err, false, refl, sym, ap, ◌∙◌, if◌then◌else◌}
+use Rattle.std.proofs.Common.{◌≡◌, ℕ, List, [], ◌∷◌, Result, Ok, Err, false, sym, ap, ◌∙◌, if◌then◌else◌}
 use Rattle.gf_text.specs.declared.error.Cause.{Cause}
 use Rattle.gf_text.specs.declared.error.Cause.TheVariants.{Ended, Unexpected}
-use Rattle.gf_text.specs.Machine.{Lexeme, behind, Fault, Move, go, done, halt, run}
+use Rattle.gf_text.specs.Machine.{Lexeme, behind, Fault, Move, done, halt, run}
 use Rattle.gf_text.proofs.MachineLaws.{run_done, run_halt, run_ended}
 use Rattle.gf_fanfile.specs.declared.error.FanFileError.{FanFileError}
 use Rattle.gf_fanfile.specs.declared.error.FanFileError.TheVariants as errors
@@ -58,7 +58,7 @@ module _ {S A : Type 0} (step : S → List ℕ → Move S A) (make : A → Conte
       read_halted e place reason halts at is = is_refused e read (
           here (Err (record { at = x.at; cause = cause_of reason })) (run_halt step s (cause_of reason) length all x xs first halts)
           ∙ ap (λ n. Err (refused_before length (record { at = n; cause = cause_of reason }))) (sym at) ∙ ap (λ y. Err y) (sym is)
-      )
+          )
 
       pub read_done : (a : A) → step s x.text ≡ done a → read ≡ Ok (make a)
       read_done a is_done = here (Ok (a, behind x)) (run_done step s a length all x xs first is_done)

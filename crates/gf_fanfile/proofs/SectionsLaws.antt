@@ -1,18 +1,16 @@
 -- Sections are read one after another, and what is kept of them.
 -- To cite: kind_ambient, kind_rays, kind_lineality, kind_cones; IsReadUpTo, begun, one_more, repeated, faulty, finished. The rest are steps.
-use Rattle.std.proofs.Common.{◌≡◌, ℕ, ℤ, Bool, true, false, ◌||◌, List, [], ◌∷◌, ◌++◌, length, map, bytes_eq, Option, Some, None, Result, Ok, Err, refl, sym, ap, ◌∙◌, subst, append_assoc, append-nil, if◌then◌else◌}
+use Rattle.std.proofs.Common.{◌≡◌, ℕ, Bool, true, false, ◌||◌, List, [], ◌∷◌, ◌++◌, length, map, bytes_eq, Option, Some, None, Result, Ok, Err, refl, sym, ap, ◌∙◌, append_assoc, append-nil, if◌then◌else◌}
 use Rattle.gf_text.specs.Machine.{Lexeme}
 use Rattle.gf_text.specs.RingText.{has}
 use Rattle.gf_text.specs.declared.error.Cause.TheVariants.{RepeatedName}
 use Rattle.gf_text.proofs.SetTokensLaws.{is_mark}
 use Rattle.gf_fanfile.specs.declared.error.FanFileError.{FanFileError}
 use Rattle.gf_fanfile.specs.declared.sections.Contents.{Contents}
-use Rattle.gf_fanfile.specs.Lines.{Section, Sections, with_name, sections, sections_from, content_from}
+use Rattle.gf_fanfile.specs.Lines.{with_name, sections_from, content_from}
 use Rattle.gf_fanfile.specs.Refused.{refused_at}
 use Rattle.gf_fanfile.specs.FanText.{Content, number_to, rows, cones, the_number, the_rows, the_cones, passed, Named, fan_table, kind_in, content_read, then_content, sections_read, text_read, found, ambient_dim, rays_name, lineality_space, maximal_cones}
-use Rattle.gf_fanfile.specs.Found.{IsRefusedSo}
 use Rattle.gf_fanfile.specs.Contents.{no_contents, IsKept, at_ambient, at_rays, at_lineality, at_cones, at_other, number_kept, rows_kept, cones_kept, AreKept, Says}
-use Rattle.gf_fanfile.proofs.ReadingLaws.{is_refused}
 
 abbrev pub names_of : Named → List (List ℕ)
 names_of all = map (λ (h : List ℕ × Content). h.0) all
@@ -52,46 +50,62 @@ module _ (done : Named) (name : List ℕ) (b a : Contents) (kept : AreKept done 
   pub kept_more : (read : Result Content FanFileError) → IsKept name b a read → (c : Content) × (read ≡ Ok c) × AreKept (done ++ (name, c) ∷ []) a
   kept_more read (at_ambient n is got same) =
       let name_is = sym (is_mark ambient_dim name is) in
-      let c = the_number n in
-      (c, got, record {
-        ambient = found_new name c done ambient_dim new is name_is ∙ ap (λ (k : Contents). number_kept k.ambient) (sym same);
-        rays = other_at rays_name ambient_dim c name_is refl ∙ kept.rays ∙ ap (λ (k : Contents). rows_kept k.rays) (sym same);
-        lineality = other_at lineality_space ambient_dim c name_is refl ∙ kept.lineality ∙ ap (λ (k : Contents). rows_kept k.lineality) (sym same);
-        cones = other_at maximal_cones ambient_dim c name_is refl ∙ kept.cones ∙ ap (λ (k : Contents). cones_kept k.cones) (sym same);
-      })
+      let c = the_number n in (
+        c,
+        got,
+        record {
+          ambient = found_new name c done ambient_dim new is name_is ∙ ap (λ (k : Contents). number_kept k.ambient) (sym same);
+          rays = other_at rays_name ambient_dim c name_is refl ∙ kept.rays ∙ ap (λ (k : Contents). rows_kept k.rays) (sym same);
+          lineality = other_at lineality_space ambient_dim c name_is refl ∙ kept.lineality ∙ ap (λ (k : Contents). rows_kept k.lineality) (sym same);
+          cones = other_at maximal_cones ambient_dim c name_is refl ∙ kept.cones ∙ ap (λ (k : Contents). cones_kept k.cones) (sym same);
+        },
+      )
   kept_more read (at_rays rs is got same) =
       let name_is = sym (is_mark rays_name name is) in
-      let c = the_rows rs in
-      (c, got, record {
-        ambient = other_at ambient_dim rays_name c name_is refl ∙ kept.ambient ∙ ap (λ (k : Contents). number_kept k.ambient) (sym same);
-        rays = found_new name c done rays_name new is name_is ∙ ap (λ (k : Contents). rows_kept k.rays) (sym same);
-        lineality = other_at lineality_space rays_name c name_is refl ∙ kept.lineality ∙ ap (λ (k : Contents). rows_kept k.lineality) (sym same);
-        cones = other_at maximal_cones rays_name c name_is refl ∙ kept.cones ∙ ap (λ (k : Contents). cones_kept k.cones) (sym same);
-      })
+      let c = the_rows rs in (
+        c,
+        got,
+        record {
+          ambient = other_at ambient_dim rays_name c name_is refl ∙ kept.ambient ∙ ap (λ (k : Contents). number_kept k.ambient) (sym same);
+          rays = found_new name c done rays_name new is name_is ∙ ap (λ (k : Contents). rows_kept k.rays) (sym same);
+          lineality = other_at lineality_space rays_name c name_is refl ∙ kept.lineality ∙ ap (λ (k : Contents). rows_kept k.lineality) (sym same);
+          cones = other_at maximal_cones rays_name c name_is refl ∙ kept.cones ∙ ap (λ (k : Contents). cones_kept k.cones) (sym same);
+        },
+      )
   kept_more read (at_lineality rs is got same) =
       let name_is = sym (is_mark lineality_space name is) in
-      let c = the_rows rs in
-      (c, got, record {
-        ambient = other_at ambient_dim lineality_space c name_is refl ∙ kept.ambient ∙ ap (λ (k : Contents). number_kept k.ambient) (sym same);
-        rays = other_at rays_name lineality_space c name_is refl ∙ kept.rays ∙ ap (λ (k : Contents). rows_kept k.rays) (sym same);
-        lineality = found_new name c done lineality_space new is name_is ∙ ap (λ (k : Contents). rows_kept k.lineality) (sym same);
-        cones = other_at maximal_cones lineality_space c name_is refl ∙ kept.cones ∙ ap (λ (k : Contents). cones_kept k.cones) (sym same);
-      })
+      let c = the_rows rs in (
+        c,
+        got,
+        record {
+          ambient = other_at ambient_dim lineality_space c name_is refl ∙ kept.ambient ∙ ap (λ (k : Contents). number_kept k.ambient) (sym same);
+          rays = other_at rays_name lineality_space c name_is refl ∙ kept.rays ∙ ap (λ (k : Contents). rows_kept k.rays) (sym same);
+          lineality = found_new name c done lineality_space new is name_is ∙ ap (λ (k : Contents). rows_kept k.lineality) (sym same);
+          cones = other_at maximal_cones lineality_space c name_is refl ∙ kept.cones ∙ ap (λ (k : Contents). cones_kept k.cones) (sym same);
+        },
+      )
   kept_more read (at_cones cs is got same) =
       let name_is = sym (is_mark maximal_cones name is) in
-      let c = the_cones cs in
-      (c, got, record {
-        ambient = other_at ambient_dim maximal_cones c name_is refl ∙ kept.ambient ∙ ap (λ (k : Contents). number_kept k.ambient) (sym same);
-        rays = other_at rays_name maximal_cones c name_is refl ∙ kept.rays ∙ ap (λ (k : Contents). rows_kept k.rays) (sym same);
-        lineality = other_at lineality_space maximal_cones c name_is refl ∙ kept.lineality ∙ ap (λ (k : Contents). rows_kept k.lineality) (sym same);
-        cones = found_new name c done maximal_cones new is name_is ∙ ap (λ (k : Contents). cones_kept k.cones) (sym same);
-      })
-  kept_more read (at_other no_ambient no_rays no_lineality no_cones got same) = (passed, got, record {
-    ambient = found_other name passed done ambient_dim (not_same ambient_dim no_ambient) ∙ kept.ambient ∙ ap (λ (k : Contents). number_kept k.ambient) (sym same);
-    rays = found_other name passed done rays_name (not_same rays_name no_rays) ∙ kept.rays ∙ ap (λ (k : Contents). rows_kept k.rays) (sym same);
-    lineality = found_other name passed done lineality_space (not_same lineality_space no_lineality) ∙ kept.lineality ∙ ap (λ (k : Contents). rows_kept k.lineality) (sym same);
-    cones = found_other name passed done maximal_cones (not_same maximal_cones no_cones) ∙ kept.cones ∙ ap (λ (k : Contents). cones_kept k.cones) (sym same);
-  })
+      let c = the_cones cs in (
+        c,
+        got,
+        record {
+          ambient = other_at ambient_dim maximal_cones c name_is refl ∙ kept.ambient ∙ ap (λ (k : Contents). number_kept k.ambient) (sym same);
+          rays = other_at rays_name maximal_cones c name_is refl ∙ kept.rays ∙ ap (λ (k : Contents). rows_kept k.rays) (sym same);
+          lineality = other_at lineality_space maximal_cones c name_is refl ∙ kept.lineality ∙ ap (λ (k : Contents). rows_kept k.lineality) (sym same);
+          cones = found_new name c done maximal_cones new is name_is ∙ ap (λ (k : Contents). cones_kept k.cones) (sym same);
+        },
+      )
+  kept_more read (at_other no_ambient no_rays no_lineality no_cones got same) = (
+    passed,
+    got,
+    record {
+      ambient = found_other name passed done ambient_dim (not_same ambient_dim no_ambient) ∙ kept.ambient ∙ ap (λ (k : Contents). number_kept k.ambient) (sym same);
+      rays = found_other name passed done rays_name (not_same rays_name no_rays) ∙ kept.rays ∙ ap (λ (k : Contents). rows_kept k.rays) (sym same);
+      lineality = found_other name passed done lineality_space (not_same lineality_space no_lineality) ∙ kept.lineality ∙ ap (λ (k : Contents). rows_kept k.lineality) (sym same);
+      cones = found_other name passed done maximal_cones (not_same maximal_cones no_cones) ∙ kept.cones ∙ ap (λ (k : Contents). cones_kept k.cones) (sym same);
+    },
+  )
 
 -- ---- what sections hold
 

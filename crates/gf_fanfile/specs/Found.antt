@@ -1,5 +1,5 @@
 -- Lines and tokens as the program finds them, against those of the text.
-use Rattle.std.specs.Prelude.{◌≡◌, ℕ, ◌<◌, ◌≤◌, Bool, List, [], ◌∷◌, ◌++◌, length, take, Result, Ok, Err}
+use Rattle.std.specs.Prelude.{◌≡◌, ℕ, ◌<◌, ◌≤◌, List, [], ◌∷◌, ◌++◌, length, take, Result, Ok, Err}
 use Rattle.gf_text.specs.Machine.{Lexeme}
 use Rattle.gf_text.specs.Tokens.{lexeme, lexemes, word_more}
 use Rattle.gf_fanfile.specs.declared.error.FanFileError.{FanFileError}

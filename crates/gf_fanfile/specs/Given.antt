@@ -1,5 +1,5 @@
 -- What a reader did, against what its machine does.
-use Rattle.std.specs.Prelude.{Bool, ℕ, ℤ, List, []}
+use Rattle.std.specs.Prelude.{ℕ, ℤ, List}
 use Rattle.gf_text.specs.Machine.{Move, go, done, halt}
 use Rattle.gf_fanfile.specs.declared.rows.RowStep.{RowStep}
 use Rattle.gf_fanfile.specs.declared.rows.RowStep.TheVariants as row_steps

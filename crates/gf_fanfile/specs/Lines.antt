@@ -1,7 +1,7 @@
 -- Lines of a text and their tokens, and the sections that they form.
 -- A # begins a comment to the end of its line; lines without tokens are passed over.
 -- Laws: proofs/LinesLaws.antt.
-use Rattle.std.specs.Prelude.{ℕ, ◌+◌, Bool, true, false, ◌&&◌, ◌||◌, ◌==◌, not, nat_le, List, [], ◌∷◌, ◌++◌, drop, take, take_while, length, if◌then◌else◌, bytes_eq}
+use Rattle.std.specs.Prelude.{ℕ, ◌+◌, Bool, false, ◌&&◌, ◌||◌, ◌==◌, not, nat_le, List, [], ◌∷◌, ◌++◌, drop, take, take_while, length, if◌then◌else◌, bytes_eq}
 use Rattle.std.specs.List.{list_all}
 use Rattle.gf_text.specs.Machine.{Lexeme, behind}
 use Rattle.gf_text.specs.Tokens.{is_digit, lex_tokens, lexemes, word_more}

@@ -32,7 +32,9 @@ pub(crate) enum Place {
         minus: bool,
     },
     /// The end of the section.
-    End { at: usize },
+    End {
+        at: usize,
+    },
     /// Nothing.
     Behind,
 }

@@ -126,11 +126,7 @@ fn step(
 }
 
 /// The rows of the content that begins at this place of the source.
-pub(crate) fn rows_from(
-    alloc: Global,
-    source: &[u8],
-    from: usize,
-) -> Result<Vectors, FanFileError>
+pub(crate) fn rows_from(alloc: Global, source: &[u8], from: usize) -> Result<Vectors, FanFileError>
     requires { from ≤ length source.now }
     ensures { IsReadSo (λ v. the_rows v) result (content_read (length source.now) rows (content_from source.now from)) }
 {

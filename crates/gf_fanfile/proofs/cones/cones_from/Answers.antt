@@ -1,4 +1,4 @@
-use Rattle.std.proofs.Common.{◌≡◌, ◌∙◌, refl, sym, ap, length}
+use Rattle.std.proofs.Common.{◌∙◌, refl, sym, ap, length}
 use Rattle.gf_text.proofs.MachineLaws.{run_go}
 use Rattle.gf_fanfile.specs.ConeText.{cone_step, cone_start}
 use Rattle.gf_fanfile.specs.Lines.{content_from}
@@ -31,8 +31,8 @@ returns-in-Done c =
     let content = content_from source c.args.from in
     let ends = ap (cone_step (cone_state l.list l.cones.items l.numbers.items)) (sym c.text_of.ensures) ∙ sym c.in_ok-taken.ensures ∙ ap (λ m. cone_move m c.step.new.cones.items c.step.new.numbers.items) c.in-Done.is in
     rw c.of.ensures (
-        read_done cone_step (λ cs. the_cones cs) (length source) (content_read (length source) cones content) cone_start content refl (cone_state l.list l.cones.items l.numbers.items) (tokens_left source l.place) l.invariant.same
-        (lexeme_of source c.in-Some.token) (tokens_left source c.in-Some.rest) c.in-Some.ensures.token c.step.new.cones.items ends
+    read_done cone_step (λ cs. the_cones cs) (length source) (content_read (length source) cones content) cone_start content refl (cone_state l.list l.cones.items l.numbers.items) (tokens_left source l.place) l.invariant.same
+    (lexeme_of source c.in-Some.token) (tokens_left source c.in-Some.rest) c.in-Some.ensures.token c.step.new.cones.items ends
     )
 
 pub loop-token-preserved : goal.loop-token-preserved

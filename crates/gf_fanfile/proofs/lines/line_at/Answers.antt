@@ -1,4 +1,4 @@
-use Rattle.std.proofs.Common.{◌≡◌, ◌+◌, ◌-◌, min, length, take, drop, take_while, refl, arith, length-drop, ap, ◌∙◌}
+use Rattle.std.proofs.Common.{◌≡◌, ◌+◌, ◌-◌, length, take, drop, take_while, arith, length-drop, ap, ◌∙◌}
 use Rattle.std.proofs.lemmas.List.{take_rest}
 use Rattle.gf_fanfile.specs.Lines.{goes_on_line, is_no_comment}
 use Rattle.gf_fanfile.proofs.LinesLaws.{line_first}

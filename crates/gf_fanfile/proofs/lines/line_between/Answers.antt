@@ -1,8 +1,8 @@
-use Rattle.std.proofs.Common.{◌≡◌, ◌∙◌, sym, ap, take, length, arith}
+use Rattle.std.proofs.Common.{◌∙◌, sym, ap, take, arith}
 use Rattle.std.proofs.lemmas.List.{length-take}
 use Rattle.gf_text.specs.Tokens.{lexeme, lexemes, word_more}
 use Rattle.gf_fanfile.specs.Lines.{with_name, sections_from}
-use Rattle.gf_fanfile.proofs.LinesLaws.{is_name, is_other, is_longer, cut_lexeme}
+use Rattle.gf_fanfile.proofs.LinesLaws.{is_name, cut_lexeme}
 use Rattle.gf_fanfile.proofs.lines.line_between.Goals as goal
 
 pub returns-in_default-word_from-clause-line : goal.returns-in_default-word_from-clause-line

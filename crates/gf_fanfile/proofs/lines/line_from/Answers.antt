@@ -1,6 +1,4 @@
-use Rattle.std.proofs.Common.{◌≡◌, ◌∙◌, sym, subst, length}
-use Rattle.gf_fanfile.specs.Lines.{Sections}
-use Rattle.gf_fanfile.specs.Found.{IsLineFound}
+use Rattle.std.proofs.Common.{◌∙◌, sym}
 use Rattle.gf_fanfile.proofs.LinesLaws.{lines_ended}
 use Rattle.gf_fanfile.proofs.lines.line_from.Goals as goal
 

@@ -1,11 +1,9 @@
-use Rattle.std.proofs.Common.{◌≡◌, ◌∙◌, ap, sym, length, if◌then◌else◌, Err}
+use Rattle.std.proofs.Common.{◌∙◌, ap, sym, length}
 use Rattle.gf_text.proofs.MachineLaws.{run_go}
-use Rattle.gf_text.specs.Machine.{run}
-use Rattle.gf_fanfile.specs.declared.error.FanFileError.TheVariants as errors
 use Rattle.gf_fanfile.specs.declared.numbers.NumberState.TheVariants.{Unread}
 use Rattle.gf_fanfile.specs.NumberText.{number_step}
 use Rattle.gf_fanfile.specs.Lines.{content_from}
-use Rattle.gf_fanfile.specs.FanText.{the_number, number_to, held, first_value, content_read}
+use Rattle.gf_fanfile.specs.FanText.{the_number, number_to, content_read}
 use Rattle.gf_fanfile.specs.Found.{lexeme_of, tokens_left}
 use Rattle.gf_fanfile.specs.Given.{number_move}
 use Rattle.gf_fanfile.proofs.ReadingLaws.{below_read, read_ended, read_halted, read_done}

@@ -1,4 +1,4 @@
-use Rattle.std.proofs.Common.{◌≡◌, ◌∷◌, ◌++◌, ap, take, length, arith}
+use Rattle.std.proofs.Common.{◌∷◌, ◌++◌, ap, length, arith}
 use Rattle.std.proofs.lemmas.List.{length-take}
 use Rattle.gf_fanfile.specs.Lines.{line_end, sections_from, front_place, content_from}
 use Rattle.gf_fanfile.proofs.LinesLaws.{left_word}

@@ -1,4 +1,4 @@
-use Rattle.std.proofs.Common.{◌≡◌, ◌∙◌, refl, sym, ap, length}
+use Rattle.std.proofs.Common.{◌∙◌, refl, sym, ap, length}
 use Rattle.gf_text.proofs.MachineLaws.{run_go}
 use Rattle.gf_fanfile.specs.RowText.{row_state, row_step_at, row_step, row_start}
 use Rattle.gf_fanfile.specs.Lines.{content_from}
@@ -31,8 +31,8 @@ returns-in-Done c =
     let content = content_from source c.args.from in
     let ends = ap (row_step_at l.rows.items l.row.items l.minus) (sym c.text_of.ensures) ∙ sym c.in_ok-taken.ensures.step ∙ ap (λ m. row_move m c.step.new.rows.items c.step.new.row.items) c.in-Done.is in
     rw c.of.ensures (
-        read_done row_step (λ rs. the_rows rs) (length source) (content_read (length source) rows content) row_start content refl (row_state l.rows.items l.row.items l.minus) (tokens_left source l.place) l.invariant.same
-        (lexeme_of source c.in-Some.token) (tokens_left source c.in-Some.rest) c.in-Some.ensures.token c.step.new.rows.items ends
+    read_done row_step (λ rs. the_rows rs) (length source) (content_read (length source) rows content) row_start content refl (row_state l.rows.items l.row.items l.minus) (tokens_left source l.place) l.invariant.same
+    (lexeme_of source c.in-Some.token) (tokens_left source c.in-Some.rest) c.in-Some.ensures.token c.step.new.rows.items ends
     )
 
 pub loop-token-preserved : goal.loop-token-preserved
