@@ -11,6 +11,8 @@ mod orders;
 #[cfg(test)]
 mod polynomials;
 #[cfg(test)]
+mod rays;
+#[cfg(test)]
 mod real_bases;
 #[cfg(test)]
 mod strict;

@@ -134,7 +134,7 @@ fn vector_in(alloc: Global, n: usize, text: &str) -> Result<IntVec, Fail>
 }
 
 // The vectors that stand in the text, each behind a bar.
-fn vectors_in(alloc: Global, n: u32, text: &str) -> Result<Vec<IntVec>, Fail>
+pub(crate) fn vectors_in(alloc: Global, n: u32, text: &str) -> Result<Vec<IntVec>, Fail>
     ensures { IfOk result (λ rows. AreRows n rows.items) }
 {
     let mut rows = Vec::new(alloc);
