@@ -1,13 +1,13 @@
 -- The weight of an order that is lex, or a weight before lex.
 -- To cite: lex_weight, weighted_weight, lex_remains.
-use Rattle.std.specs.Prelude.{◌≡◌, ◌↔◌, ℕ, zero, suc, true, List, [], ◌∷◌, length, replicate, All, ℤ, pos, ◌≤ℤ◌}
+use Rattle.std.specs.Prelude.{◌≡◌, ℕ, zero, suc, true, List, [], ◌∷◌, replicate, All, ℤ, pos, ◌≤ℤ◌}
 use Rattle.std.proofs.Common.{arith, refl, sym, ◌∙◌, subst, inl, inr}
 use Rattle.std.proofs.lemmas.Int.{ints}
 use Rattle.std.proofs.lemmas.List.{length-replicate}
 use Rattle.std.proofs.lemmas.List.Elements.{All-replicate}
 use Rattle.gf_exponents.specs.Exponents.{Exponents, weight}
-use Rattle.gf_exponents.specs.Orders.{gains, IsWeightedBelow, IsLexBelow}
-use Rattle.gf_exponents.specs.SixOrders.{MonomialOrder, below_of}
+use Rattle.gf_exponents.specs.Orders.{gains}
+use Rattle.gf_exponents.specs.SixOrders.{MonomialOrder}
 use Rattle.gf_exponents.proofs.WholeWeightLaws.{length-gains}
 use Rattle.gf_order.specs.Comparisons.{HasEntries, is_weight_before_lex}
 use Rattle.gf_conversion.specs.Weights.{IsWeightBeforeLex}
