@@ -132,16 +132,19 @@ buchberger_sound = record {
 bases_sound : IsSound bases
 bases_sound = record {
   holds = λ rows ok. (
-    is_number (as_built (shape bases)).rules (codes "limit") most_pairs rows (λ text. refl) ok,
+    is_flag (as_built (shape bases)).rules (codes "g") rows (λ text. refl) ok,
     (
-      is_number (as_built (shape bases)).rules (codes "pairs") most_pairs rows (λ text. refl) ok,
-      (is_number (as_built (shape bases)).rules (codes "workers") most_workers rows (λ text. refl) ok, tt),
+      is_number (as_built (shape bases)).rules (codes "limit") most_pairs rows (λ text. refl) ok,
+      (
+        is_number (as_built (shape bases)).rules (codes "pairs") most_pairs rows (λ text. refl) ok,
+        (is_number (as_built (shape bases)).rules (codes "workers") most_workers rows (λ text. refl) ok, tt),
+      ),
     ),
   );
   limits = λ rows h.
-      let p = pairs_within rows h.1.0 in
-      let w = number_within (codes "workers") most_workers 1 rows h.1.1.0 (omega arith) (omega arith) in
-      (limit_within (codes "limit") rows h.0, p.0, p.1, w.0, w.1);
+      let p = pairs_within rows h.1.1.0 in
+      let w = number_within (codes "workers") most_workers 1 rows h.1.1.1.0 (omega arith) (omega arith) in
+      (limit_within (codes "limit") rows h.1.0, p.0, p.1, w.0, w.1);
 }
 
 leading_terms_sound : IsSound leading_terms

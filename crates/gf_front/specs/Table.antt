@@ -15,7 +15,7 @@ use Rattle.clap.specs.declared.builder.value_parser.ValueParser.TheVariants as p
 
 -- ---- options, each at most once
 
--- an option without a value: a hyphen and this letter (m is 109, r is 114, w is 119)
+-- an option without a value: a hyphen and this letter (g is 103, m is 109, r is 114, w is 119)
 abbrev pub flag : Text → ℕ → Rule
 flag id letter = record (new_rule id) { short = Some letter; action = Some SetTrue }
 
@@ -76,8 +76,8 @@ buchberger = record {
 abbrev pub bases : Entry
 bases = record {
   name = codes "_bases";
-  options = a_number (codes "limit") most_pairs ∷ a_number (codes "pairs") most_pairs ∷ a_number (codes "workers") most_workers ∷ [];
-  job = λ rows. jobs.Bases (number_where (codes "limit") rows) (number_of (codes "pairs") usual_pairs rows) (number_of (codes "workers") 1 rows);
+  options = a_flag (codes "g") 103 ∷ a_number (codes "limit") most_pairs ∷ a_number (codes "pairs") most_pairs ∷ a_number (codes "workers") most_workers ∷ [];
+  job = λ rows. jobs.Bases (flag_of (codes "g") rows) (number_where (codes "limit") rows) (number_of (codes "pairs") usual_pairs rows) (number_of (codes "workers") 1 rows);
 }
 
 -- a command without options

@@ -29,6 +29,8 @@ pub enum Job {
     },
     /// All marked reduced Gröbner bases of a set's ideal.
     Bases {
+        /// `-g`: the set is a marked Gröbner basis.
+        from_basis: bool,
         /// `--limit N`: so many bases are written at most; without it all are.
         limit: Option<u64>,
         /// `--pairs N`: the budget of pairs of each run of Buchberger's algorithm.
@@ -126,6 +128,7 @@ fn bases(found: &ArgMatches) -> Job
     ensures { bases.job (rows_of (found_of found.now)) ≡ result }
 {
     Job::Bases {
+        from_basis: flag(found, "g"),
         limit: number_where(found, "limit"),
         pairs: number(found, "pairs", PAIRS),
         workers: workers(found),

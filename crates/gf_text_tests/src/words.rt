@@ -59,21 +59,25 @@ fn options_stand_in_any_place(rt: HostRuntime) -> Result<(), Fail> {
         assert_eq!(rt; job, Ok(buchberger(weighted, revlex, pairs)), "{line}");
     }
     let rows = [
-        ("_bases", None, 100_000_000u64, 1u32),
-        ("_bases --limit 3", Some(3u64), 100_000_000, 1),
-        ("_bases --pairs 7 --limit=1", Some(1), 7, 1),
+        ("_bases", false, None, 100_000_000u64, 1u32),
+        ("_bases --limit 3", false, Some(3u64), 100_000_000, 1),
+        ("_bases --pairs 7 --limit=1", false, Some(1), 7, 1),
+        ("_bases -g", true, None, 100_000_000, 1),
+        ("_bases --pairs 7 -g", true, None, 7, 1),
         (
             "_bases --limit 1000000000000",
+            false,
             Some(1_000_000_000_000),
             100_000_000,
             1,
         ),
-        ("_bases --workers 1", None, 100_000_000, 1),
-        ("_bases --workers=64 --pairs 2", None, 2, 64),
+        ("_bases --workers 1", false, None, 100_000_000, 1),
+        ("_bases --workers=64 --pairs 2", false, None, 2, 64),
     ];
-    for (line, limit, pairs, workers) in rows {
+    for (line, from_basis, limit, pairs, workers) in rows {
         let job = answered(rt.alloc(), line)?;
         let bases = Job::Bases {
+            from_basis,
             limit,
             pairs,
             workers,
@@ -174,7 +178,7 @@ fn other_words_are_usage(rt: HostRuntime) -> Result<(), Fail> {
         "_buchberger --version",
         "_buchberger help",
         // Commands and options that are to come.
-        "_bases -g",
+        "_bases -g -g",
         "_bases --certificates",
         "_bases --within FILE",
         "_groebnercone",

@@ -1,5 +1,5 @@
 -- How the list of `_bases` begins, goes on, ends and is refused.
--- To cite: starts, goes_on, ends, stopped_root, stopped_early, stopped_tree, stopped_limit, stopped_piece, stopped_end, unnamed_basis, unnamed_tree,
+-- To cite: starts, goes_on, ends, stopped_early, stopped_tree, stopped_limit, stopped_piece, stopped_end; stopped_list, stopped_root; unnamed_basis, unnamed_tree,
 -- unnamed_full, unnamed_write, unwritten_calm, generators_in. The rest are steps.
 use Rattle.std.specs.Prelude.{◌≡◌, ℕ, Bool, true, false, List, [], ◌∷◌, ◌++◌, length, Option, None, Some}
 use Rattle.std.specs.Io.KnownBytes.{Appends}
@@ -37,10 +37,10 @@ use Rattle.gfan_main.specs.declared.bases.Room.{Room}
 use Rattle.gfan_main.specs.declared.bases.Room.TheVariants.{Endless, Limited}
 use Rattle.gfan_main.specs.Buchberger.{generators_of, of_basis}
 use Rattle.gfan_main.specs.BasesList.{AreAllBases}
-use Rattle.gfan_main.specs.Bases.{IsWithinLimit, IsTextOfBases, IsBegunList, IsBegunToLimit, list_text, begun_text, of_tree, IsListCause, bases_command}
-use Rattle.gfan_main.specs.BasesWriting.{basis_piece, IsUnwritten, IsRoomFor, IsOneLess, IsFull, IsFirstBasis, IsRootRefusal, IsUnnamed, is_none_of, IsUnderWay}
+use Rattle.gfan_main.specs.Bases.{IsWithinLimit, IsTextOfBases, IsBegunList, IsBegunToLimit, list_text, begun_text, of_tree, IsGoingCause, IsListCause, bases_command}
+use Rattle.gfan_main.specs.BasesWriting.{basis_piece, IsUnwritten, IsRoomFor, IsOneLess, IsFull, IsFirstBasis, IsRootRefusal, IsListWritten, IsListStopped, IsUnnamed, is_none_of, IsUnderWay}
 use Rattle.gfan_main.specs.Refused.{without_names}
-use Rattle.gfan_main.specs.Performed.{IsPerformedFor, IsStoppedFor}
+use Rattle.gfan_main.specs.Performed.{IsStoppedFor}
 use Rattle.gfan_main.proofs.BuchbergerLaws.{in_ring}
 use Rattle.gfan_main.proofs.BasesListLaws.{first_node, first_own, all_bases_from}
 use Rattle.gfan_main.proofs.BasesTextLaws.{begun_next, whole_begun, prefix_on, prefix_piece}
@@ -147,63 +147,62 @@ module _ (o : ListOptions) (ring : List (List ℕ)) (fs : List Terms) where
           none (w ∷ ws) = refl
 
       -- there is no room for it
-      pub stopped_limit : (set : List Written) (n m : ℕ) (r : Refusal) → fs ≡ generators_of set → IsFull room r → IsStoppedFor (bases_command o) (ring, (set, None)) held holds n m r
-      stopped_limit set n m r e f = at (room_full o.limit room way.written r way.fits f)
+      pub stopped_limit : (n m : ℕ) (r : Refusal) → IsFull room r → IsListStopped o ring fs held holds n m r
+      stopped_limit n m r f = at (room_full o.limit room way.written r way.fits f)
         where
-          at : IsAtLimit o.limit way.written r → IsStoppedFor (bases_command o) (ring, (set, None)) held holds n m r
-          at l = subst (λ z. IsStoppedFor (bases_command o) (ring, (set, None)) held holds n m z) (sym l.told) (
-            subst (λ gs. IsListCause o (length ring) gs (refusals.ListLimit l.most)) e (IsListCause.at_limit l.most (record {
+          at : IsAtLimit o.limit way.written r → IsListStopped o ring fs held holds n m r
+          at l = subst (λ z. IsListStopped o ring fs held holds n m z) (sym l.told) (
+            IsGoingCause.at_limit l.most (record {
               is_limit = l.is_limit;
               list = way.written ++ b ∷ next.0;
               are_all = all_next;
               longer = omega (arith, l.just, length-append way.written (b ∷ next.0));
-            }) refl),
+            }) refl,
             (
               begun_text ring way.written,
-              subst (λ gs. IsBegunToLimit o.limit ring gs l.most (begun_text ring way.written)) e (record {
+              record {
                 is_limit = l.is_limit;
                 written = way.written;
                 next = b;
                 rest = next.0;
                 begun = begun_here (b ∷ next.0) next.1;
                 just = l.just;
-              }),
+              },
               way.gained,
             ),
           )
 
       -- its piece isn't written whole
-      pub stopped_piece : (set : List Written) (then : Option (List ℕ)) (n m : ℕ) (r : Refusal) → fs ≡ generators_of set → IsUnwritten holds then n m (basis_piece ring is_first b) r →
-          IsStoppedFor (bases_command o) (ring, (set, None)) held then n m r
-      stopped_piece set then n m refusals.WriteFault e u = (
+      pub stopped_piece : (then : Option (List ℕ)) (n m : ℕ) (r : Refusal) → IsUnwritten holds then n m (basis_piece ring is_first b) r → IsListStopped o ring fs held then n m r
+      stopped_piece then n m refusals.WriteFault u = (
         u.0,
         (
           list_text ring (way.written ++ b ∷ next.0),
-          subst (λ gs. IsTextOfBases None ring gs (list_text ring (way.written ++ b ∷ next.0))) e (record {
+          record {
             list = way.written ++ b ∷ next.0;
             are_all = all_next;
             few = tt;
             is_text = refl;
-          }),
+          },
           prefix_piece ring way.written next.0 b held holds then way.gained (subst (λ f. AppendsPrefix holds then (basis_piece ring f b)) way.first u.1),
         ),
       )
-      stopped_piece set then n m refusals.Memory e u = (inr refl, inr (begun_text ring way.written, (way.written, way.rest, subst (λ gs. IsBegunList ring gs way.written way.rest (begun_text ring way.written)) e (begun_here way.rest refl)), Appends-kept held holds then (begun_text ring way.written) way.gained u.0))
-      stopped_piece set then n m _ e u = absurd u
+      stopped_piece then n m refusals.Memory u = (inr refl, inr (begun_text ring way.written, (way.written, way.rest, begun_here way.rest refl), Appends-kept held holds then (begun_text ring way.written) way.gained u.0))
+      stopped_piece then n m _ u = absurd u
 
     -- the next basis is refused
-    pub stopped_tree : (set : List Written) (n m : ℕ) (e : TreeError) → fs ≡ generators_of set → IsTreeRefusal (ideal_in row) row.pairs e → IsStoppedFor (bases_command o) (ring, (set, None)) held holds n m (of_tree e)
-    stopped_tree set n m e q h = at e (subst (λ gs. IsListCause o (length ring) gs (of_tree e)) q (IsListCause.in_tree e (tree_cause e h) refl))
+    pub stopped_tree : (n m : ℕ) (e : TreeError) → IsTreeRefusal (ideal_in row) row.pairs e → IsListStopped o ring fs held holds n m (of_tree e)
+    stopped_tree n m e h = at e (IsGoingCause.in_tree e (tree_cause e h) refl)
       where
-        begun : (r : Refusal) → (written : List MarkedPolynomials) × (rest : List MarkedPolynomials) × IsBegunList ring (generators_of set) written rest (begun_text ring way.written)
-        begun r = (way.written, way.rest, subst (λ gs. IsBegunList ring gs way.written way.rest (begun_text ring way.written)) q (begun_here way.rest refl))
+        begun : (written : List MarkedPolynomials) × (rest : List MarkedPolynomials) × IsBegunList ring fs written rest (begun_text ring way.written)
+        begun = (way.written, way.rest, begun_here way.rest refl)
 
-        at : (e : TreeError) → IsListCause o (length ring) (generators_of set) (of_tree e) → IsStoppedFor (bases_command o) (ring, (set, None)) held holds n m (of_tree e)
-        at (tree_errors.Overflow x) c = (inl c, inr (begun_text ring way.written, begun (refusals.Overflow x), way.gained))
-        at (tree_errors.Exponent x) c = (inl c, inr (begun_text ring way.written, begun (refusals.ExponentOverflow x), way.gained))
-        at (tree_errors.PairBudget basis unsettled) c = (inl c, inr (begun_text ring way.written, begun (refusals.PairBudget basis unsettled), way.gained))
-        at (tree_errors.Cone x) c = (inl c, inr (begun_text ring way.written, begun (refusals.ConeOverflow x.row x.op x.left x.right), way.gained))
-        at tree_errors.Memory c = (inl c, inr (begun_text ring way.written, begun refusals.Memory, way.gained))
+        at : (e : TreeError) → IsGoingCause o (length ring) fs (of_tree e) → IsListStopped o ring fs held holds n m (of_tree e)
+        at (tree_errors.Overflow x) c = (inl c, inr (begun_text ring way.written, begun, way.gained))
+        at (tree_errors.Exponent x) c = (inl c, inr (begun_text ring way.written, begun, way.gained))
+        at (tree_errors.PairBudget basis unsettled) c = (inl c, inr (begun_text ring way.written, begun, way.gained))
+        at (tree_errors.Cone x) c = (inl c, inr (begun_text ring way.written, begun, way.gained))
+        at tree_errors.Memory c = (inl c, inr (begun_text ring way.written, begun, way.gained))
 
     -- nothing is left: all bases are written
     module _ (new : Row) (end : IsRowEnd row new) where
@@ -217,36 +216,48 @@ module _ (o : ListOptions) (ring : List (List ℕ)) (fs : List Terms) where
           at [] all = absurd all.listed
           at (w ∷ ws) all = ap (λ l. list_text ring (w ∷ l)) (sym (append-nil ws)) ∙ whole_begun ring w ws []
 
-      pub ends : (set : List Written) (then : Option (List ℕ)) → fs ≡ generators_of set → Appends holds then (125 ∷ 10 ∷ []) → IsPerformedFor (bases_command o) (ring, (set, None)) held then
-      ends set then e closing = (
+      pub ends : (then : Option (List ℕ)) → Appends holds then (125 ∷ 10 ∷ []) → IsListWritten o ring fs held then
+      ends then closing = (
         list_text ring way.written,
-        subst (λ gs. IsTextOfBases o.limit ring gs (list_text ring way.written)) e (record {
+        record {
           list = way.written;
           are_all = all_written;
           few = room_within o.limit room way.written way.fits;
           is_text = refl;
-        }),
+        },
         subst (Appends held then) (sym whole) (Appends-trans held holds then (begun_text ring way.written) (125 ∷ 10 ∷ []) way.gained closing),
       )
 
       -- its end isn't written whole
-      pub stopped_end : (set : List Written) (then : Option (List ℕ)) (n m : ℕ) (r : Refusal) → fs ≡ generators_of set → IsUnwritten holds then n m (125 ∷ 10 ∷ []) r →
-          IsStoppedFor (bases_command o) (ring, (set, None)) held then n m r
-      stopped_end set then n m refusals.WriteFault e u = (
+      pub stopped_end : (then : Option (List ℕ)) (n m : ℕ) (r : Refusal) → IsUnwritten holds then n m (125 ∷ 10 ∷ []) r → IsListStopped o ring fs held then n m r
+      stopped_end then n m refusals.WriteFault u = (
         u.0,
         (
           list_text ring way.written,
-          subst (λ gs. IsTextOfBases None ring gs (list_text ring way.written)) e (record {
+          record {
             list = way.written;
             are_all = all_written;
             few = tt;
             is_text = refl;
-          }),
+          },
           prefix_on held holds then (begun_text ring way.written) (125 ∷ 10 ∷ []) [] (list_text ring way.written) way.gained u.1 (whole ∙ sym (append-nil (begun_text ring way.written ++ 125 ∷ 10 ∷ []))),
         ),
       )
-      stopped_end set then n m refusals.Memory e u = (inr refl, inr (begun_text ring way.written, (way.written, way.rest, subst (λ gs. IsBegunList ring gs way.written way.rest (begun_text ring way.written)) e (begun_here way.rest refl)), Appends-kept held holds then (begun_text ring way.written) way.gained u.0))
-      stopped_end set then n m _ e u = absurd u
+      stopped_end then n m refusals.Memory u = (inr refl, inr (begun_text ring way.written, (way.written, way.rest, begun_here way.rest refl), Appends-kept held holds then (begun_text ring way.written) way.gained u.0))
+      stopped_end then n m _ u = absurd u
+
+  -- there is no memory before anything is written
+  pub stopped_early : (held : Option (List ℕ)) (n m : ℕ) (r : Refusal) → r ≡ refusals.Memory → IsListStopped o ring fs held held n m r
+  stopped_early held n m r e = subst (λ z. IsListStopped o ring fs held held n m z) (sym e) (inr refl, inl (Keeps-refl held))
+
+-- ---- a set of generators
+
+-- the list of its ideal
+pub stopped_list : (o : ListOptions) (ring : List (List ℕ)) (set : List Written) (held holds : Option (List ℕ)) (n m : ℕ) (r : Refusal) → IsListStopped o ring (generators_of set) held holds n m r →
+    IsStoppedFor (bases_command o) (ring, (set, None)) held holds n m r
+stopped_list o ring set held holds n m refusals.WriteFault s = s
+stopped_list o ring set held holds n m (refusals.ListLimit most) s = (IsListCause.going s.0, s.1)
+stopped_list o ring set held holds n m r s = (elim (s.0) [ inl c ↦ inl (IsListCause.going c) | inr e ↦ inr e ], s.1)
 
 -- the first basis is refused
 pub stopped_root : (o : ListOptions) (ring : List (List ℕ)) (set : List Written) (held : Option (List ℕ)) (n m : ℕ) (r : Refusal) → IsRootRefusal (length ring) (generators_of set) o.pairs r →
@@ -258,10 +269,6 @@ stopped_root o ring set held n m r (e, h, q) = subst (λ z. IsStoppedFor (bases_
     at (basis_errors.Exponent x) c = (inl c, inl (Keeps-refl held))
     at (basis_errors.PairBudget basis unsettled) c = (inl c, inl (Keeps-refl held))
     at basis_errors.Memory c = (inl c, inl (Keeps-refl held))
-
--- there is no memory before anything is written
-pub stopped_early : (o : ListOptions) (ring : List (List ℕ)) (set : List Written) (held : Option (List ℕ)) (n m : ℕ) (r : Refusal) → r ≡ refusals.Memory → IsStoppedFor (bases_command o) (ring, (set, None)) held held n m r
-stopped_early o ring set held n m r e = subst (λ z. IsStoppedFor (bases_command o) (ring, (set, None)) held held n m z) (sym e) (inr refl, inl (Keeps-refl held))
 
 -- ---- lines without a ring, and faults
 

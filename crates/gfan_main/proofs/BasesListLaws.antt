@@ -1,19 +1,20 @@
 -- The list of all bases, from the basis by degree and then lex on; and what such a list has.
--- To cite: given_node, node_given, first_node, first_own, first_top, all_bases_from, weights_are_served. The rest are steps.
+-- To cite: given_node, node_given, first_node, first_own, first_top, own_start, start_of_root, all_bases_from, weights_are_served. The rest are steps.
 use Rattle.std.specs.Prelude.{◌≡◌, ◌⊎◌, ℕ, zero, suc, ◌≤◌, true, List, [], ◌∷◌, length, replicate, Contains, All, ℤ, pos, ◌<ℤ◌}
-use Rattle.std.proofs.Common.{arith, refl, sym, ap, ◌∙◌, inl, inr}
+use Rattle.std.proofs.Common.{arith, refl, sym, ap, ◌∙◌, subst, inl, inr}
 use Rattle.std.proofs.lemmas.List.Elements.{All-nil}
 use Rattle.gf_exponents.specs.Exponents.{Exponents, entry, same, degree, weight, IsInRing}
 use Rattle.gf_exponents.specs.Orders.{gains, IsDeglexBelow, IsWeightedBelow}
 use Rattle.gf_exponents.proofs.OrderLaws.{deglex-order}
 use Rattle.gf_poly.specs.Polynomial.{Terms}
 use Rattle.gf_poly.specs.Marking.{MarkedPolynomial, MarkedPolynomials, polys}
-use Rattle.gf_ideal.specs.Membership.{HasMonomial, AreInVariables}
+use Rattle.gf_ideal.specs.Membership.{HasMonomial, AreInVariables, AreSameIdeal}
 use Rattle.gf_ideal.specs.Marks.{AreMarked}
 use Rattle.gf_ideal.specs.MonomialOrders.{MonomialOrder}
 use Rattle.gf_ideal.specs.Bases.{IsReducedBasis, IsReducedBasisFor, AreArranged}
 use Rattle.gf_ideal.proofs.LawsHold.{marks_have_weights}
-use Rattle.gf_ideal.proofs.MembershipLaws.{variables_of_member}
+use Rattle.gf_ideal.proofs.MembershipLaws.{variables_of_member, member-generator}
+use Rattle.gf_ideal.proofs.PieceLaws.{Contains-polys}
 use Rattle.gf_walk.specs.declared.mark.Mark.TheVariants.{Before}
 use Rattle.gf_walk.specs.Path.{IsRoot}
 use Rattle.gf_walk.specs.Listing.{Among, Leaves}
@@ -29,16 +30,18 @@ use Rattle.gf_facets.proofs.VectorOrder.{before_strict}
 use Rattle.gf_ideal.proofs.ArrangedLists.{arranged_equal}
 use Rattle.gf_ideal.proofs.UniquenessLaws.{unique_by_weight}
 use Rattle.gf_bases.proofs.FiniteLaws.{basis_everywhere}
-use Rattle.gf_bases.proofs.LawsHold.{of_reduced, marked_bases_are_reduced, weights_have_bases}
+use Rattle.gf_bases.proofs.LawsHold.{of_reduced, marked_bases_are_reduced, only_ideals_count, weights_have_bases}
 use Rattle.gf_initial.proofs.TheoremsHold.{monomial_ideals_are_of_bases}
 use Rattle.gf_reverse.specs.Upward.{IsNodeIn, fan_of, IsNode, IsParent}
 use Rattle.gf_reverse.specs.Lists.{IsListOfBases}
-use Rattle.gf_reverse.proofs.TreeLaws.{rank, upward_tree, upward_falls, node_moved, own_fan, back_fan}
+use Rattle.gf_reverse.proofs.TreeLaws.{SameFan, rank, upward_tree, upward_falls, node_moved, own_fan, back_fan}
 use Rattle.gf_reverse.proofs.ListLaws.{own, list_of_bases}
 use Rattle.gf_reverse.proofs.StartLaws.{basis_is_node}
 use Rattle.gf_reverse.proofs.TheoremsHold.{bases_make_a_tree}
 use Rattle.gf_tree.specs.Ideals.{ideal_by}
+use Rattle.gf_tree.specs.Parents.{IsRootFor}
 use Rattle.gfan_main.specs.BasesList.{IsGivenByWeight, AreAllBases, WeightsAreServed}
+use Rattle.gfan_main.specs.BasesWriting.{StartsAt}
 
 -- ---- the bases that some positive weight gives
 
@@ -110,6 +113,75 @@ first_top n fs root e r h = (bases_make_a_tree.root (all_positive n) root mine).
 
     by_weight : IsReducedBasisFor root.variables (polys root.items) (IsWeightedBelow (gains (replicate n (pos 1)))) root.items
     by_weight = (marked_bases_are_reduced.at_order (MonomialOrder.weighted (gains (replicate n (pos 1)))) root.variables (polys root.items) root.items mine.fan.ideal (record { reduced = mine.basis.reduced; arranged = mine.basis.arranged })).1 marks
+
+-- ---- where a list starts
+
+reduced_for_moved : (n : ℕ) (fs gs : List Terms) (below : Exponents → Exponents → Type 0) (bs : List MarkedPolynomial) → AreSameIdeal n fs gs → IsReducedBasisFor n fs below bs → IsReducedBasisFor n gs below bs
+reduced_for_moved n fs gs below bs s r = record {
+  basis = record { members = λ c k. s.inside c.poly (r.basis.members c k); marked = r.basis.marked; initial = λ f m x l. r.basis.initial f (s.back f m) x l };
+  tails = r.tails;
+  heads = r.heads;
+}
+
+-- the first basis of an ideal is the first one of the ideal that it generates
+pub own_start : (n : ℕ) (fs : List Terms) (root : MarkedPolynomials) → StartsAt n fs root → StartsAt n (polys root.items) root
+own_start n fs root s = record {
+  inside = generated.0;
+  first = record {
+    variables = s.first.variables;
+    reduced = reduced_for_moved n fs (polys root.items) IsDeglexBelow root.items generated.1 s.first.reduced;
+    arranged = s.first.arranged;
+    marked = s.first.marked;
+    inside = λ b c. member-generator n (polys root.items) b.poly (Contains-polys root.items b c);
+    back = λ f c. member-generator n (polys root.items) f c;
+  };
+}
+  where
+    generated : AreInVariables n (polys root.items) × AreSameIdeal n fs (polys root.items)
+    generated = only_ideals_count.generated n fs root.items s.inside (reduced_node n fs root (first_node n fs root s.inside s.first.variables s.first.reduced s.first.arranged))
+
+-- marks that are greatest by the weight (1, .., 1) and then lex are so by degree and then lex
+weight_marks : (n : ℕ) (bs : List MarkedPolynomial) → ((b : MarkedPolynomial) → Contains bs b → (x : Exponents) → HasMonomial b.poly x → IsInRing n x) →
+    ((b : MarkedPolynomial) → Contains bs b → IsInRing n b.head) → AreMarked (IsWeightedBelow (gains (replicate n (pos 1)))) bs → AreMarked IsDeglexBelow bs
+weight_marks n bs ring heads m b c = record { monic = (m b c).monic; tail = tail }
+  where
+    tail : (x : Exponents) → HasMonomial b.poly x → (same x b.head ≡ true) ⊎ IsDeglexBelow x b.head
+    tail x h = by ((m b c).tail x h)
+      where
+        ex : weight (gains (replicate n (pos 1))) x ≡ degree x
+        ex = weight-ones n x (ring b c x h)
+
+        eh : weight (gains (replicate n (pos 1))) b.head ≡ degree b.head
+        eh = weight-ones n b.head (heads b c)
+
+        by : (same x b.head ≡ true) ⊎ IsWeightedBelow (gains (replicate n (pos 1))) x b.head → (same x b.head ≡ true) ⊎ IsDeglexBelow x b.head
+        by (inl e) = inl e
+        by (inr (inl l)) = inr (inl (omega (arith, l, ex, eh)))
+        by (inr (inr l)) = inr (inr (sym ex ∙ l.0 ∙ eh, l.1))
+
+-- the root above a basis of an ideal is its first basis
+pub start_of_root : (n : ℕ) (fs : List Terms) (v root : MarkedPolynomials) → IsNodeIn (ideal_by n fs) v → IsRootFor v root → StartsAt n fs root
+start_of_root n fs v root h r = record {
+  inside = node.fan.ideal;
+  first = record {
+    variables = node.variables;
+    reduced = (marked_bases_are_reduced.at_order MonomialOrder.deglex n fs root.items node.fan.ideal (reduced_node n fs root node)).1 marks;
+    arranged = node.basis.arranged;
+    marked = marks;
+    inside = λ b c. node.basis.reduced.basis.members b c;
+    back = λ f c. generated.1.inside f (member-generator n fs f c);
+  };
+}
+  where
+    node : IsNodeIn (ideal_by n fs) root
+    node = node_moved (fan_of (all_positive v.variables) v) (ideal_by n fs) root (subst (λ m. SameFan (fan_of (all_positive m) v) (ideal_by n fs)) (sym h.variables) (back_fan (ideal_by n fs) (fan_of (all_positive n) v) (own_fan (ideal_by n fs) v h))) r.basis
+
+    generated : AreInVariables n (polys root.items) × AreSameIdeal n fs (polys root.items)
+    generated = only_ideals_count.generated n fs root.items node.fan.ideal (reduced_node n fs root node)
+
+    marks : AreMarked IsDeglexBelow root.items
+    marks = weight_marks n root.items (λ b c x k. variables_of_member n fs b.poly node.fan.ideal (node.basis.reduced.basis.members b c) x k) (λ b c. short_head n b.head (node.basis.arranged.canonical b c).head)
+        (subst (λ m. AreMarked (IsWeightedBelow (gains (replicate m (pos 1)))) root.items) node.variables r.by_degree.basis.marked)
 
 -- ---- the list
 

@@ -11,6 +11,7 @@ pub mod BasesListLaws  -- the list of all bases, and what it has
 pub mod OneListLaws  -- an ideal has one list of all bases
 pub mod BasesTextLaws  -- pieces that follow one another are the text of the list
 pub mod BasesLaws  -- how the list is written
+pub mod GivenBasisLaws  -- the list from a basis that is given
 pub mod ExactLaws  -- a source is answered in one way
 pub mod OneTextLaws  -- what `_bases` writes for a source is one text
 pub mod PerformedLaws  -- what a job does to the output

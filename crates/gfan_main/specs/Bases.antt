@@ -81,11 +81,15 @@ pub record IsPastLimit (limit : Option ℕ) (n : ℕ) (fs : List Terms) (most : 
   pub are_all : AreAllBases n fs list
   pub longer : most < length list
 
--- the first basis, by degree and then lex, is refused; or a step of the search, at a basis of the ideal; or the list is past its limit
+-- a step of the search is refused, at a basis of the ideal; or the list is past its limit
+pub data IsGoingCause (o : ListOptions) (n : ℕ) (fs : List Terms) (r : Refusal) : Type 0 where
+  in_tree : (e : TreeError) → IsTreeRefusal (ideal_by n fs) o.pairs e → r ≡ of_tree e → IsGoingCause o n fs r
+  at_limit : (most : ℕ) → IsPastLimit o.limit n fs most → r ≡ refusals.ListLimit most → IsGoingCause o n fs r
+
+-- the first basis, by degree and then lex, is refused; or the list from it on
 pub data IsListCause (o : ListOptions) (n : ℕ) (fs : List Terms) (r : Refusal) : Type 0 where
   at_root : (e : BasisError) → IsBasisRefusal MonomialOrder.deglex n fs o.pairs e → r ≡ of_basis e → IsListCause o n fs r
-  in_tree : (e : TreeError) → IsTreeRefusal (ideal_by n fs) o.pairs e → r ≡ of_tree e → IsListCause o n fs r
-  at_limit : (most : ℕ) → IsPastLimit o.limit n fs most → r ≡ refusals.ListLimit most → IsListCause o n fs r
+  going : IsGoingCause o n fs r → IsListCause o n fs r
 
 -- no operation on the way to the first basis leaves its limits, nor one of the search at a basis of the ideal, and the list isn't
 -- longer than its limit

@@ -1,5 +1,5 @@
 -- How `_bases` writes its list: pieces, and how many bases may still be written. Laws: proofs/BasesLaws.antt.
-use Rattle.std.specs.Prelude.{◌≡◌, ℕ, ◌+◌, Bool, true, false, List, [], ◌∷◌, ◌++◌, length, Option, None, Some}
+use Rattle.std.specs.Prelude.{◌≡◌, ◌⊎◌, ℕ, ◌+◌, Bool, true, false, List, [], ◌∷◌, ◌++◌, length, Option, None, Some}
 use Rattle.std.specs.Io.KnownBytes.{Appends, Keeps}
 use Rattle.gf_outside.specs.Faults.{Rose}
 use Rattle.gf_outside.specs.Moved.{AppendsPrefix}
@@ -8,6 +8,7 @@ use Rattle.gf_poly.specs.Polynomial.{Terms}
 use Rattle.gf_poly.specs.Marking.{MarkedPolynomials}
 use Rattle.gf_text.specs.RingText.{ring_text}
 use Rattle.gf_text.specs.PrintedSets.{basis_text}
+use Rattle.gf_ideal.specs.Membership.{AreInVariables}
 use Rattle.gf_buchberger.specs.declared.bases.BasisError.{BasisError}
 use Rattle.gf_buchberger.specs.Bases.{IsArrangedBasis, IsBasisRefusal}
 use Rattle.gf_reverse.specs.Upward.{IsNodeIn}
@@ -23,7 +24,7 @@ use Rattle.gfan_main.specs.Buchberger.{of_basis}
 use Rattle.gfan_main.specs.Refused.{IsNamedBy}
 use Rattle.gfan_main.specs.BasesList.{AreAllBases}
 use Rattle.gfan_main.specs.Printing.{later_set_text}
-use Rattle.gfan_main.specs.Bases.{begun_text}
+use Rattle.gfan_main.specs.Bases.{IsTextOfBases, IsBegunWhere, IsGoingCause, begun_text}
 
 -- ---- pieces
 
@@ -68,6 +69,25 @@ IsFirstBasis n fs root = IsArrangedBasis MonomialOrder.deglex n fs root
 -- why there is none
 abbrev pub IsRootRefusal : ℕ → List Terms → ℕ → Refusal → Type 0
 IsRootRefusal n fs pairs r = (e : BasisError) × IsBasisRefusal MonomialOrder.deglex n fs pairs e × (r ≡ of_basis e)
+
+-- the list of the ideal of fs in n variables begins at the root
+pub record StartsAt (n : ℕ) (fs : List Terms) (root : MarkedPolynomials) : Type 0 where
+  pub inside : AreInVariables n fs
+  pub first : IsFirstBasis n fs root
+
+-- the output gained all bases of the ideal of fs
+abbrev pub IsListWritten : ListOptions → List (List ℕ) → List Terms → Option (List ℕ) → Option (List ℕ) → Type 0
+IsListWritten o ring fs held holds = (text : List ℕ) × IsTextOfBases o.limit ring fs text × Appends held holds text
+
+-- it gained the beginning of that text that may stand where the list is refused so
+abbrev pub IsListBegun : ListOptions → List (List ℕ) → List Terms → Option (List ℕ) → Option (List ℕ) → Refusal → Type 0
+IsListBegun o ring fs held holds r = (text : List ℕ) × IsBegunWhere o.limit ring fs text r × Appends held holds text
+
+-- why the list isn't written from its first basis on, and what stands of it
+abbrev pub IsListStopped : ListOptions → List (List ℕ) → List Terms → Option (List ℕ) → Option (List ℕ) → ℕ → ℕ → Refusal → Type 0
+IsListStopped o ring fs held holds written writes refusals.WriteFault = Rose written writes × ((text : List ℕ) × IsTextOfBases None ring fs text × AppendsPrefix held holds text)
+IsListStopped o ring fs held holds written writes (refusals.ListLimit most) = IsGoingCause o (length ring) fs (refusals.ListLimit most) × IsListBegun o ring fs held holds (refusals.ListLimit most)
+IsListStopped o ring fs held holds written writes r = (IsGoingCause o (length ring) fs r ⊎ (r ≡ refusals.Memory)) × (Keeps held holds ⊎ IsListBegun o ring fs held holds r)
 
 -- it names no monomials, and is told without a ring
 pub record IsUnnamed (e : Refused) : Type 0 where

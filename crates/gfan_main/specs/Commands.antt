@@ -1,5 +1,5 @@
 -- What the program does for each job: the text that it writes, and why it doesn't.
-use Rattle.std.specs.Prelude.{ℕ, Bool, List, Option}
+use Rattle.std.specs.Prelude.{ℕ, Bool, true, false, List, Option}
 use Rattle.gf_front.specs.declared.command_line.Job.{Job}
 use Rattle.gf_front.specs.declared.command_line.Job.TheVariants as jobs
 use Rattle.gf_front.specs.declared.refusal.Refusal.{Refusal}
@@ -9,6 +9,7 @@ use Rattle.gfan_main.specs.declared.buchberger.Options.{Options}
 use Rattle.gfan_main.specs.declared.bases.ListOptions.{ListOptions}
 use Rattle.gfan_main.specs.Buchberger.{buchberger_command}
 use Rattle.gfan_main.specs.Bases.{bases_command}
+use Rattle.gfan_main.specs.GivenBasis.{given_bases_command}
 use Rattle.gfan_main.specs.Marked.{marked_command}
 use Rattle.gfan_main.specs.Containment.{containment_command}
 use Rattle.gfan_main.specs.LeadingTerms.{leading_terms_command}
@@ -29,7 +30,8 @@ list_options limit pairs = record { limit = limit; pairs = pairs }
 -- the command of a job; that of `_bases` is the same for every number of workers
 abbrev pub command : Job → Command
 command (jobs.Buchberger weighted revlex pairs) = buchberger_command (options weighted revlex pairs)
-command (jobs.Bases limit pairs workers) = bases_command (list_options limit pairs)
+command (jobs.Bases false limit pairs workers) = bases_command (list_options limit pairs)
+command (jobs.Bases true limit pairs workers) = given_bases_command (list_options limit pairs)
 command jobs.IsMarkedGroebnerBasis = marked_command
 command jobs.DoesIdealContain = containment_command
 command (jobs.LeadingTerms listed) = leading_terms_command listed
@@ -61,7 +63,7 @@ IsWithinReach job source = IsInReach (command job) source
 
 -- the job writes one piece at its end; `_bases` alone writes as it goes
 abbrev pub WritesAtEnd : Job → Type 0
-WritesAtEnd (jobs.Bases limit pairs workers) = ⊥
+WritesAtEnd (jobs.Bases from_basis limit pairs workers) = ⊥
 WritesAtEnd _ = Unit {0}
 
 -- ---- kinds of refusals

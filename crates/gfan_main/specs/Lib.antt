@@ -14,6 +14,7 @@ pub mod Stats  -- what `_stats` reads and writes
 pub mod BasesList  -- the list of all bases of an ideal
 pub mod OneList  -- an ideal has one such list
 pub mod Bases  -- what `_bases` reads and writes
+pub mod GivenBasis  -- what `_bases -g` reads and writes
 pub mod Refused  -- a refusal with the ring in whose names it is told
 pub mod BasesWriting  -- how `_bases` writes its list
 pub mod Commands  -- what the program does for each job

@@ -1,5 +1,5 @@
 -- An ideal has one list of all bases, and `_bases` writes one text for a source.
-use Rattle.std.specs.Prelude.{◌≡◌, ℕ, List, Option}
+use Rattle.std.specs.Prelude.{◌≡◌, ℕ, Bool, List, Option}
 use Rattle.gf_poly.specs.Polynomial.{Terms}
 use Rattle.gf_poly.specs.Marking.{MarkedPolynomials}
 use Rattle.gf_ideal.specs.Membership.{AreInVariables}
@@ -14,4 +14,4 @@ ListsAreOne = (n : ℕ) (fs : List Terms) (list other : List MarkedPolynomials) 
 -- two runs of `_bases` that come to the end of the list of one source have written the same text, whatever the numbers of their workers were,
 -- and their limits and budgets
 abbrev pub TextsAreOne : Type 0
-TextsAreOne = (limit other : Option ℕ) (pairs budget workers others : ℕ) (source text same : List ℕ) → IsAnswerTo (jobs.Bases limit pairs workers) source text → IsAnswerTo (jobs.Bases other budget others) source same → text ≡ same
+TextsAreOne = (from_basis : Bool) (limit other : Option ℕ) (pairs budget workers others : ℕ) (source text same : List ℕ) → IsAnswerTo (jobs.Bases from_basis limit pairs workers) source text → IsAnswerTo (jobs.Bases from_basis other budget others) source same → text ≡ same

@@ -1,10 +1,12 @@
 // What `_bases` writes for an input, basis by basis.
-ghost use Rattle.std.specs.Prelude.{◌≡◌, ◌≤◌, [], length, None, IfOk, IfErr, OnOk, MatchResult};
+ghost use Rattle.std.specs.Prelude.{◌≡◌, ◌≤◌, false, [], length, List, None, IfOk, IfErr, OnOk, MatchResult};
 ghost use Rattle.std.specs.Io.KnownBytes.{Appends};
+ghost use Rattle.gf_poly.specs.Polynomial.{Terms};
+ghost use Rattle.gf_poly.specs.Marking.{polys};
 ghost use Rattle.gf_text.specs.Sets.{AreIn};
 ghost use Rattle.gfan_main.specs.Buchberger.{generators_of};
 ghost use Rattle.gfan_main.specs.Bases.{bases_command};
-ghost use Rattle.gfan_main.specs.BasesWriting.{basis_piece, IsUnwritten, IsRoomFor, IsOneLess, IsFull, IsFirstBasis, IsRootRefusal, IsUnnamed};
+ghost use Rattle.gfan_main.specs.BasesWriting.{basis_piece, IsUnwritten, IsRoomFor, IsOneLess, IsFull, IsFirstBasis, IsRootRefusal, StartsAt, IsListWritten, IsListStopped, IsUnnamed};
 ghost use Rattle.gfan_main.specs.Performed.{IsPerformed, IsStopped, IsPerformedFor, IsStoppedFor};
 ghost use Rattle.gfan_main.specs.Refused.{IsOfSource};
 
@@ -149,7 +151,49 @@ fn first_basis(
     }
 }
 
-// Writes the list of all bases of the set's ideal, by so many workers.
+/// Writes the list of all bases of an ideal from its first basis on, by so many workers: the first with the ring, each other one
+/// behind a line end, a comma and a line end, and last the brace that ends the list.
+///
+/// The root is the basis, by degree and then lex, of the ideal that it generates.
+///
+/// # Errors
+///
+/// Those of the list from its first basis on, as `perform` has them.
+pub(crate) fn write_from<R: Threads + Sync, K: Sink, G: Gate>(
+    rt: &R,
+    alloc: Global,
+    ring: &Ring,
+    root: MarkedSet,
+    options: ListOptions,
+    workers: u32,
+    output: &mut K,
+    gate: &G,
+) -> Result<(), Refused>
+    requires first { StartsAt (length ring.now) (polys root.items) root }
+    requires some { 1 ≤ workers }
+    requires most { workers ≤ 64 }
+    ensures done { OnOk result ((fs : List Terms) → StartsAt (length ring.now) fs root
+        → IsListWritten options ring.now fs (K.held output.old) (K.held output.new)) }
+    ensures stopped { IfErr result (λ e. (fs : List Terms) → StartsAt (length ring.now) fs root
+        → IsListStopped options ring.now fs (K.held output.old) (K.held output.new) (K.faults output.old)
+        (K.faults output.new) e.refusal) }
+    ensures told { IfErr result IsUnnamed }
+    ensures calm { MatchResult result (λ _. K.faults output.new ≡ K.faults output.old)
+        (λ e. (e.refusal ≡ Refusal.WriteFault → ⊥) → K.faults output.new ≡ K.faults output.old) }
+{
+    let mut waves = Waves::new(alloc, root, workers, options.pairs, gate)?;
+    let mut room = Room::of(options.limit);
+    let mut is_first = true;
+    'list: while let Some(basis) = waves.next_written(rt)? {
+        room = room.with_one_more()?;
+        write_basis(alloc, ring, &basis, is_first, output)?;
+        is_first = false;
+    }
+    offer(output, b"}\n")?;
+    Ok(())
+}
+
+// Writes the list of all bases of the set's ideal.
 fn write_list<R: Threads + Sync, K: Sink, G: Gate>(
     rt: &R,
     alloc: Global,
@@ -172,16 +216,7 @@ fn write_list<R: Threads + Sync, K: Sink, G: Gate>(
         (λ e. (e.refusal ≡ Refusal.WriteFault → ⊥) → K.faults output.new ≡ K.faults output.old) }
 {
     let root = first_basis(alloc, ring, set, options.pairs)?;
-    let mut waves = Waves::new(alloc, root, workers, options.pairs, gate)?;
-    let mut room = Room::of(options.limit);
-    let mut is_first = true;
-    'list: while let Some(basis) = waves.next_written(rt)? {
-        room = room.with_one_more()?;
-        write_basis(alloc, ring, &basis, is_first, output)?;
-        is_first = false;
-    }
-    offer(output, b"}\n")?;
-    Ok(())
+    write_from(rt, alloc, ring, root, options, workers, output, gate)
 }
 
 /// Writes the ring of the source in a line, and then all marked reduced Gröbner bases of the ideal of its set, each as soon as it is
@@ -215,9 +250,9 @@ pub(crate) fn perform<R: Threads + Sync, K: Sink, G: Gate>(
 ) -> Result<(), Refused>
     requires some { 1 ≤ workers }
     requires most { workers ≤ 64 }
-    ensures done { OnOk result (IsPerformed (Job.Bases options.limit options.pairs workers) source.now
+    ensures done { OnOk result (IsPerformed (Job.Bases false options.limit options.pairs workers) source.now
         (K.held output.old) (K.held output.new)) }
-    ensures stopped { IfErr result (λ e. IsStopped (Job.Bases options.limit options.pairs workers) source.now
+    ensures stopped { IfErr result (λ e. IsStopped (Job.Bases false options.limit options.pairs workers) source.now
         (K.held output.old) (K.held output.new) (K.faults output.old) (K.faults output.new) e.refusal) }
     ensures told { IfErr result (IsOfSource source.now) }
     ensures calm { MatchResult result (λ _. K.faults output.new ≡ K.faults output.old)

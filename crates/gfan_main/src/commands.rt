@@ -9,8 +9,8 @@ use crate::bases::ListOptions;
 use crate::buchberger::Options;
 use crate::refused::Refused;
 use crate::{
-    bases, buchberger, containment, homogenize, initial_forms, leading_terms, mark_polynomial_set,
-    marked, polynomial_set_union, stats,
+    bases, buchberger, containment, given_basis, homogenize, initial_forms, leading_terms,
+    mark_polynomial_set, marked, polynomial_set_union, stats,
 };
 use gf_front::{Job, Refusal};
 use gf_outside::{Sink, WriteFault, write_all};
@@ -91,6 +91,7 @@ pub(crate) fn perform<R: Threads + Sync, K: Sink, G: Gate>(
 {
     match job {
         Job::Bases {
+            from_basis,
             limit,
             pairs,
             workers,
@@ -99,7 +100,11 @@ pub(crate) fn perform<R: Threads + Sync, K: Sink, G: Gate>(
                 limit: *limit,
                 pairs: *pairs,
             };
-            bases::perform(rt, alloc, source, options, *workers, output, gate)
+            if *from_basis {
+                given_basis::perform(rt, alloc, source, options, *workers, output, gate)
+            } else {
+                bases::perform(rt, alloc, source, options, *workers, output, gate)
+            }
         }
         other => write_answer(alloc, other, source, output),
     }

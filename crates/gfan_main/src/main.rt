@@ -17,6 +17,7 @@ mod buchberger;
 mod checks;
 mod commands;
 mod containment;
+mod given_basis;
 mod homogenize;
 mod initial_forms;
 mod laws;

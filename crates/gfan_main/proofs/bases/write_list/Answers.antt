@@ -1,14 +1,9 @@
-use Rattle.std.proofs.Common.{length, refl, sym, ap, subst, true, None, ◌∙◌}
+use Rattle.std.proofs.Common.{length}
 use Rattle.std.proofs.lemmas.Result.{err_from_is_err_and}
-use Rattle.gf_facets.specs.Regions.{all_positive}
-use Rattle.gf_reverse.specs.Upward.{IsNode}
 use Rattle.gfan_main.specs.Buchberger.{generators_of}
-use Rattle.gf_subtree.specs.Answers.{IsRowStep, IsRowEnd, IsRowAnswer}
-use Rattle.gfan_main.specs.Bases.{bases_command}
-use Rattle.gfan_main.specs.BasesWriting.{IsUnderWay}
-use Rattle.gfan_main.specs.Performed.{IsStoppedFor}
-use Rattle.gfan_main.proofs.BasesListLaws.{first_node, first_own}
-use Rattle.gfan_main.proofs.BasesLaws.{starts, goes_on, ends, stopped_root, stopped_early, stopped_tree, stopped_limit, stopped_piece, stopped_end, unnamed_tree, generators_in}
+use Rattle.gfan_main.proofs.BasesListLaws.{own_start}
+use Rattle.gfan_main.proofs.BasesLaws.{stopped_root, stopped_list, generators_in}
+use Rattle.gfan_main.proofs.PerformedLaws.{on_err, on_ok}
 use Rattle.gfan_main.proofs.bases.write_list.Goals as goal
 
 pub returns-in_err-root-clause-stopped : goal.returns-in_err-root-clause-stopped
@@ -16,65 +11,16 @@ returns-in_err-root-clause-stopped g c =
     let p = err_from_is_err_and c.from_residual.result c.from_residual.ensures.1 in
     rw (p.1, p.2) (stopped_root c.args.options c.args.ring.now c.args.set.now (g.K.Sink.held c.args.output.now) (g.K.Sink.faults c.args.output.now) (g.K.Sink.faults c.args.output.now) c.in_err-root.field-0.0.refusal c.in_err-root.ensures.err)
 
-pub new-requires-clause-basis : goal.new-requires-clause-basis
-new-requires-clause-basis g c κs within =
-    let n = length c.args.ring.now in
-    let fs = generators_of c.args.set.now in
-    let first = c.in_ok-root.ensures.ok in
-    subst (λ k. IsNode (all_positive k) c.in_ok-root.root) (sym first.variables)
-    (first_own n fs c.in_ok-root.root (first_node n fs c.in_ok-root.root (generators_in n c.args.set.now c.requires.set) first.variables first.reduced first.arranged))
-
-pub returns-in_err-waves-clause-stopped : goal.returns-in_err-waves-clause-stopped
-returns-in_err-waves-clause-stopped g c =
-    let p = err_from_is_err_and c.from_residual-in_err-waves.result c.from_residual-in_err-waves.ensures.1 in
-    rw p.1 (stopped_early c.args.options c.args.ring.now c.args.set.now (g.K.Sink.held c.args.output.now) (g.K.Sink.faults c.args.output.now) (g.K.Sink.faults c.args.output.now) p.0.refusal (ap (λ r. r.refusal) p.2))
-
-pub list-init : goal.list-init
-list-init g c = record {
-  under_way = subst (λ w. IsUnderWay c.args.options c.args.ring.now (generators_of c.args.set.now) w c.of-room.result true (g.K.Sink.held c.args.output.now) (g.K.Sink.held c.args.output.now)) (sym c.in_ok-waves.ensures.start)
-      (starts c.args.options c.args.ring.now (generators_of c.args.set.now) c.args.alloc c.args.workers c.in_ok-root.root c.of-room.result (g.K.Sink.held c.args.output.now) (generators_in (length c.args.ring.now) c.args.set.now c.requires.set) c.in_ok-root.ensures.ok c.of-room.ensures);
-  calm = refl;
-}
-
-pub returns-in_err-basis-clause-stopped : goal.returns-in_err-basis-clause-stopped
-returns-in_err-basis-clause-stopped g c =
-    let p = err_from_is_err_and c.from_residual-in_err-basis.result c.from_residual-in_err-basis.ensures.1 in
-    rw (p.1, p.2) (stopped_tree c.args.options c.args.ring.now (generators_of c.args.set.now) c.list.waves c.list.room c.list.is_first (g.K.Sink.held c.args.output.now) (g.K.Sink.held c.list.output) c.list.invariant.under_way c.args.set.now (g.K.Sink.faults c.args.output.now) (g.K.Sink.faults c.list.output) c.in_err-basis.field-0.0 refl c.in_err-basis.ensures.cause)
-
-pub returns-in_err-basis-clause-told : goal.returns-in_err-basis-clause-told
-returns-in_err-basis-clause-told g c =
-    let p = err_from_is_err_and c.from_residual-in_err-basis.result c.from_residual-in_err-basis.ensures.1 in
-    rw (p.1, p.2) (unnamed_tree c.in_err-basis.field-0.0)
-
-pub list-preserved : goal.list-preserved
-list-preserved g c =
-    let step : IsRowStep c.list.waves c.next_written.new.self c.in-Some.basis = subst (λ o. IsRowAnswer c.list.waves c.next_written.new.self o) c.in-Some.is c.in_ok-basis.ensures.ok in
-    record {
-      under_way = goes_on c.args.options c.args.ring.now (generators_of c.args.set.now) c.list.waves c.list.room c.list.is_first (g.K.Sink.held c.args.output.now) (g.K.Sink.held c.list.output) c.list.invariant.under_way c.next_written.new.self c.in-Some.basis step c.in_ok-room.room (g.K.Sink.held c.write_basis.new.output) c.in_ok-room.ensures.ok c.in_ok-write_basis.ensures.all;
-      calm = c.in_ok-write_basis.ensures.calm ∙ c.list.invariant.calm;
-    }
-
-pub returns-in_err-room-clause-stopped : goal.returns-in_err-room-clause-stopped
-returns-in_err-room-clause-stopped g c =
-    let step : IsRowStep c.list.waves c.next_written.new.self c.in-Some.basis = subst (λ o. IsRowAnswer c.list.waves c.next_written.new.self o) c.in-Some.is c.in_ok-basis.ensures.ok in
-    let p = err_from_is_err_and c.from_residual-in_err-room.result c.from_residual-in_err-room.ensures.1 in
-    rw (p.1, p.2) (stopped_limit c.args.options c.args.ring.now (generators_of c.args.set.now) c.list.waves c.list.room c.list.is_first (g.K.Sink.held c.args.output.now) (g.K.Sink.held c.list.output) c.list.invariant.under_way c.next_written.new.self c.in-Some.basis step c.args.set.now (g.K.Sink.faults c.args.output.now) (g.K.Sink.faults c.list.output) c.in_err-room.field-0.0 refl c.in_err-room.ensures.err)
-
-pub returns-in_err-write_basis-clause-stopped : goal.returns-in_err-write_basis-clause-stopped
-returns-in_err-write_basis-clause-stopped g c =
-    let step : IsRowStep c.list.waves c.next_written.new.self c.in-Some.basis = subst (λ o. IsRowAnswer c.list.waves c.next_written.new.self o) c.in-Some.is c.in_ok-basis.ensures.ok in
-    let p = err_from_is_err_and c.from_residual-in_err-write_basis.result c.from_residual-in_err-write_basis.ensures.1 in
-    rw (p.1, p.2) (subst (λ k. IsStoppedFor (bases_command c.args.options) (c.args.ring.now, (c.args.set.now, None)) (g.K.Sink.held c.args.output.now) (g.K.Sink.held c.write_basis.new.output) k (g.K.Sink.faults c.write_basis.new.output) c.in_err-write_basis.field-0.0) c.list.invariant.calm
-    (stopped_piece c.args.options c.args.ring.now (generators_of c.args.set.now) c.list.waves c.list.room c.list.is_first (g.K.Sink.held c.args.output.now) (g.K.Sink.held c.list.output) c.list.invariant.under_way c.next_written.new.self c.in-Some.basis step c.args.set.now (g.K.Sink.held c.write_basis.new.output) (g.K.Sink.faults c.list.output) (g.K.Sink.faults c.write_basis.new.output) c.in_err-write_basis.field-0.0 refl c.in_err-write_basis.ensures.err))
-
-pub returns-in_err-offer-clause-stopped : goal.returns-in_err-offer-clause-stopped
-returns-in_err-offer-clause-stopped g c =
-    let end : IsRowEnd c.list.waves c.next_written.new.self = subst (λ o. IsRowAnswer c.list.waves c.next_written.new.self o) c.in_default.is c.in_ok-basis.ensures.ok in
-    let p = err_from_is_err_and c.from_residual-in_err-offer.result c.from_residual-in_err-offer.ensures.1 in
-    rw (p.1, p.2) (subst (λ k. IsStoppedFor (bases_command c.args.options) (c.args.ring.now, (c.args.set.now, None)) (g.K.Sink.held c.args.output.now) (g.K.Sink.held c.offer.new.output) k (g.K.Sink.faults c.offer.new.output) c.in_err-offer.field-0.0) c.list.invariant.calm
-    (stopped_end c.args.options c.args.ring.now (generators_of c.args.set.now) c.list.waves c.list.room c.list.is_first (g.K.Sink.held c.args.output.now) (g.K.Sink.held c.list.output) c.list.invariant.under_way c.next_written.new.self end c.args.set.now (g.K.Sink.held c.offer.new.output) (g.K.Sink.faults c.list.output) (g.K.Sink.faults c.offer.new.output) c.in_err-offer.field-0.0 refl c.in_err-offer.ensures.err))
+pub write_from-requires-clause-first : goal.write_from-requires-clause-first
+write_from-requires-clause-first g c κs within =
+    own_start (length c.args.ring.now) (generators_of c.args.set.now) c.in_ok-root.root (record { inside = generators_in (length c.args.ring.now) c.args.set.now c.requires.set; first = c.in_ok-root.ensures.ok })
 
 pub returns-clause-done : goal.returns-clause-done
 returns-clause-done g c =
-    let end : IsRowEnd c.list.waves c.next_written.new.self = subst (λ o. IsRowAnswer c.list.waves c.next_written.new.self o) c.in_default.is c.in_ok-basis.ensures.ok in
-    ends c.args.options c.args.ring.now (generators_of c.args.set.now) c.list.waves c.list.room c.list.is_first (g.K.Sink.held c.args.output.now) (g.K.Sink.held c.list.output) c.list.invariant.under_way c.next_written.new.self end c.args.set.now (g.K.Sink.held c.offer.new.output) refl c.in_ok-offer.ensures.all
+    on_ok c.write_from.result _ _ (λ h. h (generators_of c.args.set.now) (record { inside = generators_in (length c.args.ring.now) c.args.set.now c.requires.set; first = c.in_ok-root.ensures.ok })) c.write_from.ensures.done
+
+pub returns-clause-stopped : goal.returns-clause-stopped
+returns-clause-stopped g c =
+    on_err c.write_from.result _ _ (λ e h. stopped_list c.args.options c.args.ring.now c.args.set.now (g.K.Sink.held c.args.output.now) (g.K.Sink.held c.write_from.new.output) (g.K.Sink.faults c.args.output.now) (g.K.Sink.faults c.write_from.new.output) e.refusal
+    (h (generators_of c.args.set.now) (record { inside = generators_in (length c.args.ring.now) c.args.set.now c.requires.set; first = c.in_ok-root.ensures.ok })))
+    c.write_from.ensures.stopped
