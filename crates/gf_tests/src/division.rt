@@ -92,6 +92,13 @@ fn realises(weight: &[u8], set: &MarkedSet) -> bool
     true
 }
 
+// The fraction 1.
+fn one() -> Frac
+    ensures { result ≡ one_ℚ }
+{
+    Frac::ONE
+}
+
 // Whether the marked coefficient is 1.
 fn is_one(b: &Marked) -> bool
     requires { HasSomeVariables b.now }
@@ -99,7 +106,7 @@ fn is_one(b: &Marked) -> bool
 {
     // The terms descend: the accessor says so.
     let _ = b.head();
-    b.coefficient() == Frac::ONE
+    b.coefficient() == one()
 }
 
 // Whether the marked coefficient is 1, and the weight sets the marked monomial above the other ones.
