@@ -1,6 +1,6 @@
 -- Words that the table has a match for name one of its commands, each of whose options holds what it takes.
 -- To cite: parsed_as, job_is, no_match, within_limits. The rest are steps.
-use Rattle.std.proofs.Common.{◌≡◌, ◌≤◌, Bool, true, false, not, ◌&&◌, ◌||◌, cond, List, [], ◌∷◌, Option, Some, None, IfSome, is_some, codes, map, inl, inr, arith, refl, sym, ap, ◌∙◌, subst}
+use Rattle.std.proofs.Common.{◌≡◌, ◌≤◌, Bool, true, false, not, ◌&&◌, ◌||◌, cond, List, [], ◌∷◌, ◌++◌, Option, Some, None, IfSome, is_some, codes, map, inl, inr, arith, refl, sym, ap, ◌∙◌, subst}
 use Rattle.std.specs.Prelude.{option_map, option_and_then}
 use Rattle.std.specs.Option.{option_map_or}
 use Rattle.std.specs.List.{find, list_any}
@@ -20,7 +20,7 @@ use Rattle.clap.specs.Simple.{argument_words, built_leaf, entered, inherited, la
 use Rattle.clap.specs.Faults.{check_fault, entered_fault}
 use Rattle.gf_front.specs.declared.command_line.Job.{Job}
 use Rattle.gf_front.specs.declared.command_line.Job.TheVariants as jobs
-use Rattle.gf_front.specs.Table.{Entry, table, commands, tools, shape, most_pairs, most_workers, usual_pairs, number_of, number_where, buchberger, bases, plain, is_marked_groebner_basis, does_ideal_contain, leading_terms}
+use Rattle.gf_front.specs.Table.{Entry, table, commands, tools, cones, shape, most_pairs, most_workers, usual_pairs, number_of, number_where, buchberger, bases, plain, leading_terms, groebner_cone, weight_vector}
 use Rattle.gf_front.specs.Jobs.{HasMatch, HasNumbersInRange, IsJobOfMatch, match_of, job_in, job_of}
 use Rattle.gf_front.specs.Options.{HoldChoices, NamesEntry, IsCommand, HoldsNumber}
 use Rattle.gf_front.proofs.MatchLaws.{Enters, entered_rows, level_rows, rows_pass}
@@ -137,13 +137,16 @@ bases_sound = record {
       is_number (as_built (shape bases)).rules (codes "limit") most_pairs rows (λ text. refl) ok,
       (
         is_number (as_built (shape bases)).rules (codes "pairs") most_pairs rows (λ text. refl) ok,
-        (is_number (as_built (shape bases)).rules (codes "workers") most_workers rows (λ text. refl) ok, tt),
+        (
+          is_flag (as_built (shape bases)).rules (codes "certificates") rows (λ text. refl) ok,
+          (is_number (as_built (shape bases)).rules (codes "workers") most_workers rows (λ text. refl) ok, tt),
+        ),
       ),
     ),
   );
   limits = λ rows h.
       let p = pairs_within rows h.1.1.0 in
-      let w = number_within (codes "workers") most_workers 1 rows h.1.1.1.0 (omega arith) (omega arith) in
+      let w = number_within (codes "workers") most_workers 1 rows h.1.1.1.1.0 (omega arith) (omega arith) in
       (limit_within (codes "limit") rows h.1.0, p.0, p.1, w.0, w.1);
 }
 
@@ -153,11 +156,33 @@ leading_terms_sound = record {
   limits = λ rows h. tt;
 }
 
+groebner_cone_sound : IsSound groebner_cone
+groebner_cone_sound = record {
+  holds = λ rows ok. (
+    is_flag (as_built (shape groebner_cone)).rules (codes "vectorinput") rows (λ text. refl) ok,
+    (is_flag (as_built (shape groebner_cone)).rules (codes "certificates") rows (λ text. refl) ok, tt),
+  );
+  limits = λ rows h. tt;
+}
+
+weight_vector_sound : IsSound weight_vector
+weight_vector_sound = record {
+  holds = λ rows ok. (
+    is_flag (as_built (shape weight_vector)).rules (codes "m") rows (λ text. refl) ok,
+    (is_flag (as_built (shape weight_vector)).rules (codes "e") rows (λ text. refl) ok, tt),
+  );
+  limits = λ rows h. tt;
+}
+
 -- a command without options and numbers
 plain_sound : (name : Text) (job : Job) → HasNumbersInRange job → IsSound (plain name job)
 plain_sound name job within = record { holds = λ rows ok. tt; limits = λ rows h. within }
 
-tools_sound : AreSound tools
+cones_sound : AreSound cones
+unfolding AreSound
+cones_sound = (groebner_cone_sound, refl, (weight_vector_sound, refl, tt))
+
+tools_sound : AreSound (tools ++ cones)
 unfolding AreSound
 tools_sound = (
   plain_sound (codes "_markpolynomialset") jobs.MarkPolynomialSet tt,
@@ -165,7 +190,7 @@ tools_sound = (
   (
     plain_sound (codes "_initialforms") jobs.InitialForms tt,
     refl,
-    (plain_sound (codes "_homogenize") jobs.Homogenize tt, refl, (plain_sound (codes "_polynomialsetunion") jobs.PolynomialSetUnion tt, refl, (plain_sound (codes "_stats") jobs.Stats tt, refl, tt))),
+    (plain_sound (codes "_homogenize") jobs.Homogenize tt, refl, (plain_sound (codes "_polynomialsetunion") jobs.PolynomialSetUnion tt, refl, (plain_sound (codes "_stats") jobs.Stats tt, refl, cones_sound))),
   ),
 )
 
@@ -185,12 +210,20 @@ all_sound = (
   ),
 )
 
--- where the command is `_bases`, its options hold what they take
-pub bases_hold : (m : Text × List Row) → IsCommand m → m.0 ≡ codes "_bases" → HoldChoices bases.options m.1
+-- the options of a command that has an entry's name hold what the entry's take
+entry_holds : (es : List Entry) (e : Entry) (m : Text × List Row) → AreSound es → find (λ f. bytes_eq e.name f.name) es ≡ Some e → NamesEntry es m → m.0 ≡ e.name → HoldChoices e.options m.1
 unfolding AreSound
-bases_hold m (inl k) e = absurd (let yes = (bytes_eq-Decides (codes "_buchberger") (codes "_bases")).1 (sym k.0 ∙ e) in let none : false ≡ true = yes in cc)
-bases_hold m (inr (inl k)) e = k.1
-bases_hold m (inr (inr k)) e = absurd (other_name (is_marked_groebner_basis ∷ does_ideal_contain ∷ leading_terms ∷ tools) (codes "_bases") m all_sound.2.1 k e)
+entry_holds [] e m sound found h same = absurd h
+entry_holds (f ∷ es) e m sound found h same = by (bytes_eq e.name f.name) refl found h
+  where
+    by : (b : Bool) → bytes_eq e.name f.name ≡ b → cond b (Some f) (find (λ g. bytes_eq e.name g.name) es) ≡ Some e → NamesEntry (f ∷ es) m → HoldChoices e.options m.1
+    by true eq is (inl k) = let here : f ≡ e = cc in subst (λ (g : Entry). HoldChoices g.options m.1) here k.1
+    by true eq is (inr k) = absurd (other_name es f.name m sound.1 k (same ∙ (bytes_eq-Decides e.name f.name).0 eq))
+    by false eq is (inl k) = absurd (let yes = (bytes_eq-Decides e.name f.name).1 (sym same ∙ k.0) in let none : false ≡ true = sym eq ∙ yes in cc)
+    by false eq is (inr k) = entry_holds es e m sound.2 is k same
+
+pub choices_hold : (e : Entry) (m : Text × List Row) → find (λ f. bytes_eq e.name f.name) commands ≡ Some e → IsCommand m → m.0 ≡ e.name → HoldChoices e.options m.1
+choices_hold e m found h same = entry_holds commands e m all_sound found h same
 
 -- the rows of each command hold what its options take
 command_of : (m : Text × List Row) → Enters program m → IsCommand m

@@ -15,9 +15,13 @@ use Rattle.clap.specs.declared.builder.value_parser.ValueParser.TheVariants as p
 
 -- ---- options, each at most once
 
--- an option without a value: a hyphen and this letter (g is 103, m is 109, r is 114, w is 119)
+-- an option without a value: a hyphen and this letter (e is 101, g is 103, m is 109, r is 114, w is 119)
 abbrev pub flag : Text → ℕ → Rule
 flag id letter = record (new_rule id) { short = Some letter; action = Some SetTrue }
+
+-- one of two hyphens and its name
+abbrev pub named_flag : Text → Rule
+named_flag id = record (new_rule id) { long = Some id; action = Some SetTrue }
 
 -- an option with a number from 1 to `most`: two hyphens and its name
 abbrev pub number : Text → ℕ → Rule
@@ -26,10 +30,12 @@ number id most = record (new_rule id) { long = Some id; action = Some Set; parse
 -- what an option may be
 pub data Choice : Type 0 where
   a_flag : Text → ℕ → Choice
+  a_named_flag : Text → Choice
   a_number : Text → ℕ → Choice
 
 abbrev pub rule : Choice → Rule
 rule (a_flag id letter) = flag id letter
+rule (a_named_flag id) = named_flag id
 rule (a_number id most) = number id most
 
 -- the most pairs that a budget may have, which is the most bases that a limit may let through too; and the pairs that a budget
@@ -76,8 +82,8 @@ buchberger = record {
 abbrev pub bases : Entry
 bases = record {
   name = codes "_bases";
-  options = a_flag (codes "g") 103 ∷ a_number (codes "limit") most_pairs ∷ a_number (codes "pairs") most_pairs ∷ a_number (codes "workers") most_workers ∷ [];
-  job = λ rows. jobs.Bases (flag_of (codes "g") rows) (number_where (codes "limit") rows) (number_of (codes "pairs") usual_pairs rows) (number_of (codes "workers") 1 rows);
+  options = a_flag (codes "g") 103 ∷ a_number (codes "limit") most_pairs ∷ a_number (codes "pairs") most_pairs ∷ a_named_flag (codes "certificates") ∷ a_number (codes "workers") most_workers ∷ [];
+  job = λ rows. jobs.Bases (flag_of (codes "g") rows) (number_where (codes "limit") rows) (number_of (codes "pairs") usual_pairs rows) (flag_of (codes "certificates") rows) (number_of (codes "workers") 1 rows);
 }
 
 -- a command without options
@@ -97,6 +103,20 @@ leading_terms = record {
   job = λ rows. jobs.LeadingTerms (flag_of (codes "m") rows);
 }
 
+abbrev pub groebner_cone : Entry
+groebner_cone = record {
+  name = codes "_groebnercone";
+  options = a_named_flag (codes "vectorinput") ∷ a_named_flag (codes "certificates") ∷ [];
+  job = λ rows. jobs.GroebnerCone (flag_of (codes "vectorinput") rows) (flag_of (codes "certificates") rows);
+}
+
+abbrev pub weight_vector : Entry
+weight_vector = record {
+  name = codes "_weightvector";
+  options = a_flag (codes "m") 109 ∷ a_flag (codes "e") 101 ∷ [];
+  job = λ rows. jobs.WeightVector (flag_of (codes "m") rows) (flag_of (codes "e") rows);
+}
+
 -- the small tools without options
 abbrev pub mark_polynomial_set : Entry
 mark_polynomial_set = plain (codes "_markpolynomialset") jobs.MarkPolynomialSet
@@ -113,15 +133,18 @@ polynomial_set_union = plain (codes "_polynomialsetunion") jobs.PolynomialSetUni
 abbrev pub stats : Entry
 stats = plain (codes "_stats") jobs.Stats
 
--- those that the table has before the small tools, and those
+-- those that the table has before the small tools, those, and those on cones
 abbrev pub first_commands : List Entry
 first_commands = buchberger ∷ bases ∷ is_marked_groebner_basis ∷ does_ideal_contain ∷ leading_terms ∷ []
 
 abbrev pub tools : List Entry
 tools = mark_polynomial_set ∷ initial_forms ∷ homogenize ∷ polynomial_set_union ∷ stats ∷ []
 
+abbrev pub cones : List Entry
+cones = groebner_cone ∷ weight_vector ∷ []
+
 abbrev pub commands : List Entry
-commands = first_commands ++ tools
+commands = first_commands ++ tools ++ cones
 
 -- a command as clap has it
 abbrev pub shape : Entry → Shape

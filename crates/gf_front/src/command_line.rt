@@ -3,7 +3,7 @@
 //! clap reads the words by the table; what it would say of a fault is never printed.
 ghost use Rattle.std.specs.Prelude.{◌≡◌, [], IfOk, IsErrOf, map, string_bytes, codes, Some};
 ghost use Rattle.clap.specs.Words.{found_of, rows_of, one_of, kind_of};
-ghost use Rattle.gf_front.specs.Table.{most_pairs, most_workers, flag_of, number_of, number_where, buchberger, bases, leading_terms};
+ghost use Rattle.gf_front.specs.Table.{most_pairs, most_workers, flag_of, number_of, number_where, buchberger, bases, leading_terms, groebner_cone, weight_vector};
 ghost use Rattle.gf_front.specs.Jobs.{renamed, HasMatch, IsJobOfMatch, IsMatched, IsJobOf, HasNumbersInRange, job_of};
 ghost use Rattle.gf_front.specs.Options.{HoldsFlag, HoldsNumber, HoldChoices, IsCommand};
 
@@ -35,6 +35,8 @@ pub enum Job {
         limit: Option<u64>,
         /// `--pairs N`: the budget of pairs of each run of Buchberger's algorithm.
         pairs: u64,
+        /// `--certificates`: each basis with a weight, and with a witness of each facet that may be crossed.
+        certificates: bool,
         /// `--workers N`: how many workers list them.
         workers: u32,
     },
@@ -57,6 +59,20 @@ pub enum Job {
     PolynomialSetUnion,
     /// Numbers of a list of marked sets: how many, and how great they are.
     Stats,
+    /// The facets of a cone and the equations that hold on it.
+    GroebnerCone {
+        /// `--vectorinput`: the cone is given by inequalities and equations, not by a marked reduced basis.
+        vector_input: bool,
+        /// `--certificates`: what shows that these are all, too.
+        certificates: bool,
+    },
+    /// A weight of a marked reduced basis, or of each of a list.
+    WeightVector {
+        /// `-m`: a list of marked sets is read.
+        listed: bool,
+        /// `-e`: each weight behind its set.
+        echoed: bool,
+    },
 }
 
 /// Why there is no job.
@@ -131,6 +147,7 @@ fn bases(found: &ArgMatches) -> Job
         from_basis: flag(found, "g"),
         limit: number_where(found, "limit"),
         pairs: number(found, "pairs", PAIRS),
+        certificates: flag(found, "certificates"),
         workers: workers(found),
     }
 }
@@ -142,6 +159,28 @@ fn leading_terms(found: &ArgMatches) -> Job
 {
     Job::LeadingTerms {
         listed: flag(found, "m"),
+    }
+}
+
+/// The job of `_groebnercone`.
+fn groebner_cone(found: &ArgMatches) -> Job
+    requires { HoldChoices groebner_cone.options (rows_of (found_of found.now)) }
+    ensures { groebner_cone.job (rows_of (found_of found.now)) ≡ result }
+{
+    Job::GroebnerCone {
+        vector_input: flag(found, "vectorinput"),
+        certificates: flag(found, "certificates"),
+    }
+}
+
+/// The job of `_weightvector`.
+fn weight_vector(found: &ArgMatches) -> Job
+    requires { HoldChoices weight_vector.options (rows_of (found_of found.now)) }
+    ensures { weight_vector.job (rows_of (found_of found.now)) ≡ result }
+{
+    Job::WeightVector {
+        listed: flag(found, "m"),
+        echoed: flag(found, "e"),
     }
 }
 
@@ -161,6 +200,8 @@ fn job_of(name: &str, found: &ArgMatches) -> Job
         "_homogenize" => Job::Homogenize,
         "_polynomialsetunion" => Job::PolynomialSetUnion,
         "_stats" => Job::Stats,
+        "_groebnercone" => groebner_cone(found),
+        "_weightvector" => weight_vector(found),
         _ => unreachable!(),
     }
 }

@@ -80,9 +80,39 @@ fn options_stand_in_any_place(rt: HostRuntime) -> Result<(), Fail> {
             from_basis,
             limit,
             pairs,
+            certificates: false,
             workers,
         };
         assert_eq!(rt; job, Ok(bases), "{line}");
+    }
+    let certified = Job::Bases {
+        from_basis: true,
+        limit: None,
+        pairs: 7,
+        certificates: true,
+        workers: 1,
+    };
+    let job = answered(rt.alloc(), "_bases --certificates --pairs 7 -g")?;
+    assert_eq!(rt; job, Ok(certified));
+    for (line, vector_input, certificates) in [
+        ("_groebnercone", false, false),
+        ("_groebnercone --vectorinput", true, false),
+        ("_groebnercone --certificates --vectorinput", true, true),
+    ] {
+        let job = answered(rt.alloc(), line)?;
+        let cone = Job::GroebnerCone {
+            vector_input,
+            certificates,
+        };
+        assert_eq!(rt; job, Ok(cone), "{line}");
+    }
+    for (line, listed, echoed) in [
+        ("_weightvector", false, false),
+        ("_weightvector -e", false, true),
+        ("_weightvector -me", true, true),
+    ] {
+        let job = answered(rt.alloc(), line)?;
+        assert_eq!(rt; job, Ok(Job::WeightVector { listed, echoed }), "{line}");
     }
     let rows = [
         ("_ismarkedgroebnerbasis", Job::IsMarkedGroebnerBasis),
@@ -179,9 +209,10 @@ fn other_words_are_usage(rt: HostRuntime) -> Result<(), Fail> {
         "_buchberger help",
         // Commands and options that are to come.
         "_bases -g -g",
-        "_bases --certificates",
         "_bases --within FILE",
-        "_groebnercone",
+        "_groebnercone --certificates --certificates",
+        "_groebnercone -m",
+        "_topolyhedralfan",
         "_fancommonrefinement -i1 A -i2 B",
         "_buchberger --limit 3",
     ];
