@@ -214,13 +214,14 @@ all_sound = (
 entry_holds : (es : List Entry) (e : Entry) (m : Text × List Row) → AreSound es → find (λ f. bytes_eq e.name f.name) es ≡ Some e → NamesEntry es m → m.0 ≡ e.name → HoldChoices e.options m.1
 unfolding AreSound
 entry_holds [] e m sound found h same = absurd h
-entry_holds (f ∷ es) e m sound found h same = by (bytes_eq e.name f.name) refl found h
+entry_holds (f ∷ es) e m sound found h same = by (bytes_eq e.name f.name) refl found h (λ is k. entry_holds es e m sound.2 is k same)
   where
-    by : (b : Bool) → bytes_eq e.name f.name ≡ b → cond b (Some f) (find (λ g. bytes_eq e.name g.name) es) ≡ Some e → NamesEntry (f ∷ es) m → HoldChoices e.options m.1
-    by true eq is (inl k) = let here : f ≡ e = cc in subst (λ (g : Entry). HoldChoices g.options m.1) here k.1
-    by true eq is (inr k) = absurd (other_name es f.name m sound.1 k (same ∙ (bytes_eq-Decides e.name f.name).0 eq))
-    by false eq is (inl k) = absurd (let yes = (bytes_eq-Decides e.name f.name).1 (sym same ∙ k.0) in let none : false ≡ true = sym eq ∙ yes in cc)
-    by false eq is (inr k) = entry_holds es e m sound.2 is k same
+    by : (b : Bool) → bytes_eq e.name f.name ≡ b → cond b (Some f) (find (λ g. bytes_eq e.name g.name) es) ≡ Some e → NamesEntry (f ∷ es) m
+        → (find (λ g. bytes_eq e.name g.name) es ≡ Some e → NamesEntry es m → HoldChoices e.options m.1) → HoldChoices e.options m.1
+    by true eq is (inl k) later = let here : f ≡ e = cc in subst (λ (g : Entry). HoldChoices g.options m.1) here k.1
+    by true eq is (inr k) later = absurd (other_name es f.name m sound.1 k (same ∙ (bytes_eq-Decides e.name f.name).0 eq))
+    by false eq is (inl k) later = absurd (let yes = (bytes_eq-Decides e.name f.name).1 (sym same ∙ k.0) in let none : false ≡ true = sym eq ∙ yes in cc)
+    by false eq is (inr k) later = later is k
 
 pub choices_hold : (e : Entry) (m : Text × List Row) → find (λ f. bytes_eq e.name f.name) commands ≡ Some e → IsCommand m → m.0 ≡ e.name → HoldChoices e.options m.1
 choices_hold e m found h same = entry_holds commands e m all_sound found h same
