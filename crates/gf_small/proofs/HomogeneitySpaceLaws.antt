@@ -1,5 +1,5 @@
 -- The homogeneity space as the null space of rows.
--- To cite: RowsSoFar and its steps, dimension_of.
+-- To cite: RowsSoFar and its steps, basis_of, dimension_of.
 use Rattle.std.specs.Prelude.{◌≡◌, ◌↔◌, ◌⊎◌, ℕ, zero, suc, ◌+◌, ◌<◌, true, false, List, [], ◌∷◌, ◌++◌, length, take, get_or, All, Contains, ℤ, pos}
 use Rattle.std.proofs.Common.{arith, refl, sym, ap, subst, ◌∙◌, inl, inr, append_assoc, append-nil}
 use Rattle.std.proofs.lemmas.Int.{ints}
@@ -17,7 +17,7 @@ use Rattle.gf_gordan.specs.Alternative.{AreRows}
 use Rattle.gf_duality.specs.Rays.{IsLineal, IsRays}
 use Rattle.gf_facets.specs.Rows.{rows_of, rows_of_terms, differences}
 use Rattle.gf_facets.proofs.RowLaws.{same_or_other, row-in, row-from, IsTermRow, length-differences, dot-differences}
-use Rattle.gf_small.specs.HomogeneitySpace.{IsInSpace, HasDimension}
+use Rattle.gf_small.specs.HomogeneitySpace.{IsInSpace, IsBasisOfSpace, HasDimension}
 use Rattle.gf_small.specs.Statistics.{members_of}
 
 -- ---- the rows of lists
@@ -95,7 +95,7 @@ space_exact n w bs v m = (
 )
 
 -- the rows have the width of the space
-rows_width : (n : ℕ) (bs : List MarkedPolynomial) → HaveVariables n bs → Each HasMarkedTerm bs → AreRows n (rows_of bs)
+pub rows_width : (n : ℕ) (bs : List MarkedPolynomial) → HaveVariables n bs → Each HasMarkedTerm bs → AreRows n (rows_of bs)
 rows_width n bs v m k d l = at (row-from bs (get_or (rows_of bs) k d) (Contains-get_or (rows_of bs) k d l))
   where
     at : ((b : MarkedPolynomial) × Contains bs b × IsTermRow b.head b.poly (get_or (rows_of bs) k d)) → length (get_or (rows_of bs) k d) ≡ n
@@ -110,16 +110,15 @@ pub rows_wide : (n : ℕ) (sets : List MarkedPolynomials) (rows : List (List ℤ
 rows_wide n sets rows i h = subst (AreRows n) (sym h.items) (rows_width n (members_of (take i sets)) h.variables h.marked)
 
 -- the lineality space of the rows is the homogeneity space
+pub basis_of : (n : ℕ) (bs : List MarkedPolynomial) (rows lineality rays : List (List ℤ)) → HaveVariables n bs → Each HasMarkedTerm bs → rows ≡ rows_of bs → IsRays n [] rows lineality rays → IsBasisOfSpace n bs lineality
+basis_of n bs rows lineality rays v m e r = record {
+  width = r.lin_width;
+  echelon = r.echelon;
+  spans = λ w l.
+      let exact = space_exact n w bs v m in
+      let spans = r.spans w l in
+      (λ h. spans.0 (subst (λ (z : List (List ℤ)). IsLineal [] z w) (sym e) (exact.0 h)), λ g. exact.1 (subst (λ (z : List (List ℤ)). IsLineal [] z w) e (spans.1 g)));
+}
+
 pub dimension_of : (n d : ℕ) (bs : List MarkedPolynomial) (rows lineality rays : List (List ℤ)) → HaveVariables n bs → Each HasMarkedTerm bs → rows ≡ rows_of bs → IsRays n [] rows lineality rays → d ≡ length lineality → HasDimension n bs d
-dimension_of n d bs rows lineality rays v m e r q = (
-  lineality,
-  record {
-    width = r.lin_width;
-    echelon = r.echelon;
-    spans = λ w l.
-        let exact = space_exact n w bs v m in
-        let spans = r.spans w l in
-        (λ h. spans.0 (subst (λ (z : List (List ℤ)). IsLineal [] z w) (sym e) (exact.0 h)), λ g. exact.1 (subst (λ (z : List (List ℤ)). IsLineal [] z w) e (spans.1 g)));
-  },
-  sym q,
-)
+dimension_of n d bs rows lineality rays v m e r q = (lineality, basis_of n bs rows lineality rays v m e r, sym q)

@@ -6,7 +6,11 @@ use Rattle.gf_poly.specs.declared.Term.{Term}
 use Rattle.gf_poly.specs.Polynomial.{Terms}
 use Rattle.gf_poly.specs.Marking.{MarkedPolynomial}
 use Rattle.gf_gordan.specs.Alternative.{AreRows}
+use Rattle.gf_gordan.specs.declared.error.GordanError.{GordanError}
+use Rattle.gf_gordan.specs.Steps.{Failed}
 use Rattle.gf_duality.specs.Rays.{IsEchelon, Generated}
+use Rattle.gf_duality.specs.Stages.{IsRaysStep}
+use Rattle.gf_facets.specs.Rows.{rows_of}
 
 -- all terms of f have one weight by w
 abbrev pub IsHomogeneousBy : List ℤ → Terms → Type 0
@@ -21,6 +25,11 @@ pub record IsBasisOfSpace (n : ℕ) (bs : List MarkedPolynomial) (basis : List (
   pub width : AreRows n basis
   pub echelon : IsEchelon basis
   pub spans : (w : List ℤ) → length w ≡ n → IsInSpace w bs ↔ Generated n [] basis w
+
+-- why it isn't found: an operation leaves its range in working out the vectors on which all differences of a marked exponent vector
+-- and another one of its polynomial are zero, or there is no memory
+abbrev pub IsSpaceCause : ℕ → List MarkedPolynomial → GordanError → Type 0
+IsSpaceCause n bs = Failed (IsRaysStep n [] (rows_of bs))
 
 -- it has this dimension
 abbrev pub HasDimension : ℕ → List MarkedPolynomial → ℕ → Type 0

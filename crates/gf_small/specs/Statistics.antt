@@ -2,14 +2,12 @@
 use Rattle.std.specs.Prelude.{◌≡◌, ℕ, All, List, [], map, flat_map, length}
 use Rattle.gf_poly.specs.Marking.{MarkedPolynomial, MarkedPolynomials}
 use Rattle.gf_gordan.specs.declared.error.GordanError.{GordanError}
-use Rattle.gf_gordan.specs.Steps.{Failed}
-use Rattle.gf_duality.specs.Stages.{IsRaysStep}
 use Rattle.gf_rays.specs.Cones.{AreRaysWithinLimits}
 use Rattle.gf_facets.specs.Rows.{rows_of}
 use Rattle.gf_small.specs.declared.counts.Stats.{Stats}
 use Rattle.gf_small.specs.Degrees.{greatest}
 use Rattle.gf_small.specs.Counts.{least, degree_of_set, terms_in}
-use Rattle.gf_small.specs.HomogeneitySpace.{HasDimension}
+use Rattle.gf_small.specs.HomogeneitySpace.{HasDimension, IsSpaceCause}
 
 -- all polynomials of these sets
 abbrev pub members_of : List MarkedPolynomials → List MarkedPolynomial
@@ -29,10 +27,9 @@ pub record AreStatistics (n : ℕ) (sets : List MarkedPolynomials) (s : Stats) :
 abbrev pub AreSetsIn : ℕ → List MarkedPolynomials → Type 0
 AreSetsIn n sets = All (λ s. s.variables ≡ n) sets
 
--- why there are none: an operation leaves its range in working out the vectors on which all differences of a marked exponent
--- vector and another one of its polynomial are zero, or there is no memory
+-- why there are none: the homogeneity space of all polynomials isn't found
 abbrev pub IsStatisticsCause : ℕ → List MarkedPolynomials → GordanError → Type 0
-IsStatisticsCause n sets = Failed (IsRaysStep n [] (rows_of (members_of sets)))
+IsStatisticsCause n sets = IsSpaceCause n (members_of sets)
 
 -- no such operation leaves its range
 abbrev pub AreStatisticsWithinLimits : ℕ → List MarkedPolynomials → Type 0

@@ -8,6 +8,7 @@ mod homogenization;
 mod initial;
 mod leading;
 mod marks;
+mod space;
 mod statistics;
 mod unions;
 
@@ -16,5 +17,6 @@ pub use homogenization::{SmallError, homogenize};
 pub use initial::initial_forms;
 pub use leading::leading_terms;
 pub use marks::mark_set;
+pub use space::homogeneity;
 pub use statistics::stats;
 pub use unions::union;

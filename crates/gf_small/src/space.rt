@@ -1,0 +1,55 @@
+//! The homogeneity space of a set of polynomials.
+ghost use Rattle.std.specs.Prelude.{◌≡◌, [], IfOk, IfErr};
+ghost use Rattle.gf_poly.specs.Marking.{Each, HaveVariables, HasMarkedTerm};
+ghost use Rattle.gf_gordan.specs.declared.error.GordanError.TheVariants.{Memory};
+ghost use Rattle.gf_rays.specs.Cones.{AreRaysWithinLimits};
+ghost use Rattle.gf_facets.specs.Rows.{rows_of};
+ghost use Rattle.gf_small.specs.HomogeneitySpace.{IsBasisOfSpace, IsSpaceCause};
+
+use gf_gordan::GordanError;
+use gf_poly::{Marked, MarkedSet};
+use gf_rays::Rays;
+use gf_vec::IntVec;
+use std::alloc::{AllocError, Global};
+
+/// Equal marked polynomials.
+fn copied(alloc: Global, items: &[Marked]) -> Result<Vec<Marked>, AllocError>
+    ensures { IfOk result (λ h. h.items ≡ items.now) }
+{
+    let mut out = Vec::with_capacity(alloc, items.len())?;
+    'items: for i in 0..items.len() {
+        let item = items[i].copy()?;
+        out.push(item)?;
+    }
+    Ok(out)
+}
+
+/// The differences of a marked exponent vector and each other one of its polynomial, of all polynomials.
+fn differences(alloc: Global, n: u32, set: &[Marked]) -> Result<Vec<IntVec>, AllocError>
+    requires { HaveVariables n set.now }
+    ensures value { IfOk result (λ rows. rows.items ≡ rows_of set.now) }
+    ensures marked { IfOk result (λ _. Each HasMarkedTerm set.now) }
+{
+    let set = MarkedSet::new(n, copied(alloc, set)?);
+    gf_cone::rows(alloc, &set)
+}
+
+/// The homogeneity space of polynomials in `n` variables: the vectors by which each of them is homogeneous (Fukuda, Jensen, Thomas,
+/// *Computing Gröbner fans*, 2), as a cone without inequalities whose equations are the marked exponent vector of a polynomial less
+/// each other one; its lineality basis is a basis of the space. Of no polynomials it is the whole space.
+///
+/// # Errors
+///
+/// `Cone` only at an operation of working out that space; it holds the two numbers whose sum, difference or product leaves the range
+/// from `-(2^127 - 1)` to `2^127 - 1`. `Memory`: want of memory.
+pub fn homogeneity(alloc: Global, n: u32, set: &[Marked]) -> Result<Rays, GordanError>
+    requires { HaveVariables n set.now }
+    ensures rows { IfOk result (λ c. (c.ambient ≡ n) × (c.inequalities ≡ []) × (c.equations ≡ rows_of set.now)) }
+    ensures space { IfOk result (λ c. IsBasisOfSpace n set.now c.lineality) }
+    ensures err { IfErr result (IsSpaceCause n set.now) }
+    ensures complete { AreRaysWithinLimits n [] (rows_of set.now) → IfErr result (λ e. e ≡ Memory) }
+{
+    let rows = differences(alloc, n, set)?;
+    let none = Vec::new(alloc);
+    Rays::of(alloc, n, none.as_slice(), rows.as_slice())
+}
