@@ -1,5 +1,5 @@
 -- Sections are read as the grammar says, and the first fault is what is refused.
--- To cite: text_said, text_given, text_fault, content_given. The rest are steps.
+-- To cite: text_said, text_given, text_fault, text_sound, content_given. The rest are steps.
 use Rattle.std.proofs.Common.{◌≡◌, ◌≤◌, ℕ, ◌+◌, Bool, true, false, ◌&&◌, nat_le, List, [], ◌∷◌, ◌++◌, length, Result, Ok, Err, refl, sym, ap, subst, ◌∙◌, inl, inr, append-nil, bytes_eq, arith, if◌then◌else◌, ℤ}
 use Rattle.gf_text.specs.declared.error.Cause.{Cause}
 use Rattle.gf_text.specs.declared.error.Cause.TheVariants.{Unexpected, TooWide, RepeatedName}
@@ -100,6 +100,9 @@ number_only (Finished n) t =
 
 -- ---- what a machine reads of a content
 
+result_apart : {A E : Type 0} (a : A) (e : E) → Ok a ≡ Err e → ⊥
+result_apart a e is = cc
+
 module _ {S A : Type 0} {step : S → List ℕ → Move S A} {start : S} {grammar : List (List ℕ) → A → Type 0} (is : IsMachineOf step start grammar) (make : A → Content) where
   held_said : ((s : S) (t : List ℕ) (a : A) → step s t ≡ done a → t ≡ section_end) → (end : ℕ) (xs : List Lexeme) (c : Content) → EndsOnce xs → held make end (run step start end xs) ≡ Ok c → (a : A) × grammar (texts xs) a × (c ≡ make a)
   held_said only end xs c once e = by (run step start end xs) refl e
@@ -116,7 +119,7 @@ module _ {S A : Type 0} {step : S → List ℕ → Move S A} {start : S} {gramma
     where
       by : (r : Result (A × ℕ) Fault) → run step start end xs ≡ r → held make end r ≡ Err e → IsFaultOf grammar end xs e
       by (Ok a) is_read f = cc
-      by (Err g) is_read f = (g, fault is (IsNumberKind grammar) kind end xs g is_read, cc)
+      by (Err g) is_read f = (g, (λ a text. result_apart (make a) e (sym (held_given end xs a text) ∙ h)), fault is (IsNumberKind grammar) kind end xs g is_read, cc)
 
 -- ---- a number up to a limit
 
@@ -190,6 +193,26 @@ content_fault end rows xs e h = held_fault row_machine (λ rs. the_rows rs) row_
 content_fault end cones xs e h = held_fault cone_machine (λ cs. the_cones cs) cone_kind end xs e h
 content_fault end any xs e h = cc
 
+-- a content of its kind isn't refused
+content_sound : (end : ℕ) (k : ContentKind) (xs : List Lexeme) (c : Content) (e : FanFileError) → IsContent k (texts xs) c → IsContentFault end k xs e → ⊥
+content_sound end (number_to limit) xs (the_number n) e (most, is, text, small) (inl h) =
+    let same : limit ≡ most = cc in
+    let none : is_above limit xs ≡ false = ap (λ l. is_above l xs) same ∙ limit_given most n xs text small in
+    cc
+content_sound end (number_to limit) xs (the_number n) e (most, is, text, small) (inr h) = h.1.1 n text
+content_sound end (number_to limit) xs (the_rows rs) e (is, text) h = cc
+content_sound end (number_to limit) xs (the_cones cs) e (is, text) h = cc
+content_sound end (number_to limit) xs passed e is h = cc
+content_sound end rows xs (the_number n) e (most, is, text, small) h = cc
+content_sound end rows xs (the_rows rs) e (is, text) h = h.1 rs text
+content_sound end rows xs (the_cones cs) e (is, text) h = cc
+content_sound end rows xs passed e is h = cc
+content_sound end cones xs (the_number n) e (most, is, text, small) h = cc
+content_sound end cones xs (the_rows rs) e (is, text) h = cc
+content_sound end cones xs (the_cones cs) e (is, text) h = h.1 cs text
+content_sound end cones xs passed e is h = cc
+content_sound end any xs c e is h = h
+
 -- ---- sections, from left to right
 
 module _ (table : Table) (end : ℕ) where
@@ -243,6 +266,13 @@ module _ (table : Table) (end : ℕ) where
       fault_by seen s ss g (has seen s.name) (Holding s ss) (Reading (seen ++ s.name ∷ []) ss) refl refl refl (ends_once (end_before end ss) s.content some.0)
       (λ f h. sections_fault (seen ++ s.name ∷ []) ss f some.1 h) e
 
+  sections_sound : (seen : List (List ℕ)) (ss : List Section) (all : Named) (e : FanFileError) → AreHeld table end seen ss all → IsFirstFault table end seen ss e → ⊥
+  sections_sound seen [] all e held f = f
+  sections_sound seen (s ∷ ss) [] e held f = held
+  sections_sound seen (s ∷ ss) (k ∷ ks) e (new, name, content, later) (inl f) = cc
+  sections_sound seen (s ∷ ss) (k ∷ ks) e (new, name, content, later) (inr (inl f)) = content_sound end (kind_in table s.name) (content_tokens (end_before end ss) s.content) k.1 e content f.1
+  sections_sound seen (s ∷ ss) (k ∷ ks) e (new, name, content, later) (inr (inr f)) = sections_sound (seen ++ s.name ∷ []) ss ks e later f.2
+
 -- ---- texts
 
 -- what is read is what the sections of the text hold
@@ -255,3 +285,7 @@ text_given table source all h = sections_given table (length source) [] (section
 -- what is refused is the first fault
 pub text_fault : (table : Table) (source : List ℕ) (e : FanFileError) → text_read table source ≡ Err e → IsFirstFault table (length source) [] (sections source) e
 text_fault table source e h = sections_fault table (length source) [] (sections source) e (sections_some source) h
+
+-- a text whose sections hold what they should has no fault
+pub text_sound : (table : Table) (source : List ℕ) (all : Named) (e : FanFileError) → AreHeld table (length source) [] (sections source) all → IsFirstFault table (length source) [] (sections source) e → ⊥
+text_sound table source all e held f = sections_sound table (length source) [] (sections source) all e held f

@@ -8,3 +8,5 @@ pub mod KindsLaws  -- of which kind a fault is
 pub mod ReadingLaws  -- what a loop over the tokens of a content reads
 pub mod FanTextLaws  -- sections are read as the grammar says, and the first fault is refused
 pub mod SectionsLaws  -- sections are read one after another
+pub mod SpanLaws  -- vectors in the span of others, by Gordan's alternative
+pub mod FilesLaws  -- a text says one file at most, and a sound one isn't refused

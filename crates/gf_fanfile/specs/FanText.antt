@@ -1,7 +1,7 @@
 -- What a fan file says: the sections that are looked at, read from left to right.
 -- Which sections these are is a table.
 -- Laws: proofs/FanTextLaws.antt.
-use Rattle.std.specs.Prelude.{◌≡◌, ◌⊎◌, ℕ, ◌+◌, ◌&&◌, nat_le, Bool, true, false, List, [], ◌∷◌, ◌++◌, length, map, bytes_eq, if◌then◌else◌, Result, Ok, Err, Option, Some, None, ℤ}
+use Rattle.std.specs.Prelude.{◌≡◌, ◌⊎◌, ℕ, ◌+◌, ◌&&◌, nat_le, Bool, true, false, List, [], ◌∷◌, ◌++◌, length, bytes_eq, is_some, if◌then◌else◌, Result, Ok, Err, Option, Some, None, ℤ}
 use Rattle.gf_text.specs.Machine.{Lexeme, texts, Fault, IsFault, run}
 use Rattle.gf_text.specs.Kinds.{IsNumberKind}
 use Rattle.gf_text.specs.Tokens.{is_number, decimal_value}
@@ -124,9 +124,13 @@ AreHeld table length seen (s ∷ ss) (h ∷ hs) = (has seen s.name ≡ false) ×
 
 -- ---- the first fault
 
--- a fault among the tokens of a content: at the first token after which none goes on to a text, of its kind
+-- the tokens are no text of the grammar
+abbrev pub AreNoText : {A : Type 0} → (List (List ℕ) → A → Type 0) → List Lexeme → Type 0
+AreNoText {A} grammar xs = (a : A) → grammar (texts xs) a → ⊥
+
+-- a fault among the tokens of a content, which are no text: at the first token after which none goes on to a text, of its kind
 abbrev pub IsFaultOf : {A : Type 0} → (List (List ℕ) → A → Type 0) → ℕ → List Lexeme → FanFileError → Type 0
-IsFaultOf grammar length xs e = (f : Fault) × IsFault grammar (IsNumberKind grammar) xs length f × (e ≡ refused_before length f)
+IsFaultOf grammar length xs e = (f : Fault) × AreNoText grammar xs × IsFault grammar (IsNumberKind grammar) xs length f × (e ≡ refused_before length f)
 
 -- a content of this kind is refused so
 abbrev pub IsContentFault : ℕ → ContentKind → List Lexeme → FanFileError → Type 0
@@ -150,8 +154,9 @@ abbrev pub found : List ℕ → Named → Option Content
 found name [] = None
 found name (h ∷ hs) = if bytes_eq h.0 name then Some h.1 else found name hs
 
+-- a section of this name is there
 abbrev pub is_there : Named → List ℕ → Bool
-is_there all name = has (map (λ (h : List ℕ × Content). h.0) all) name
+is_there all name = is_some (found name all)
 
 -- the first of these names that isn't there
 abbrev pub first_missing : List (List ℕ) → Named → Option (List ℕ)

@@ -7,6 +7,7 @@
 
 mod cones;
 mod error;
+mod file;
 mod lines;
 mod numbers;
 mod places;
@@ -15,4 +16,5 @@ mod sections;
 
 pub use cones::{ConeList, RayNumbers};
 pub use error::{FanFileError, Section};
+pub use file::{FanFile, read_file};
 pub use rows::Vectors;

@@ -5,6 +5,7 @@ use Rattle.gf_text.specs.Tokens.{lexeme}
 use Rattle.gf_fanfile.specs.Lines.{content_from}
 use Rattle.gf_fanfile.specs.FanText.{content_read, kind_in, fan_table, text_read}
 use Rattle.gf_fanfile.proofs.ReadingLaws.{refused_on}
+use Rattle.gf_fanfile.proofs.FilesLaws.{dimension_within}
 use Rattle.gf_fanfile.proofs.SectionsLaws.{IsReadUpTo, begun, one_more, faulty, finished}
 use Rattle.gf_fanfile.proofs.sections.contents_of.Goals as goal
 
@@ -27,11 +28,16 @@ loop-start-preserved c =
       read = subst (λ (ns : List (List ℕ)). IsReadUpTo source c.in-Some.next ns c.in_ok-contents.contents) (sym names) (one_more source l.at l.names l.contents l.invariant.read x c.in-Some.next c.in-Some.ensures.section fresh c.in_ok-contents.contents c.in_ok-contents.ensures);
     }
 
-pub returns : goal.returns
-returns c = finished c.args.source.now c.loop-start.at c.loop-start.names c.loop-start.contents c.loop-start.invariant.read c.in_default.ensures.section
+pub returns-clause-says : goal.returns-clause-says
+returns-clause-says c = finished c.args.source.now c.loop-start.at c.loop-start.names c.loop-start.contents c.loop-start.invariant.read c.in_default.ensures.section
 
-pub returns-in_err-contents : goal.returns-in_err-contents
-returns-in_err-contents c =
+pub returns-clause-dimension : goal.returns-clause-dimension
+returns-clause-dimension c =
+    dimension_within c.args.source.now c.loop-start.contents
+    (finished c.args.source.now c.loop-start.at c.loop-start.names c.loop-start.contents c.loop-start.invariant.read c.in_default.ensures.section)
+
+pub returns-in_err-contents-clause-says : goal.returns-in_err-contents-clause-says
+returns-in_err-contents-clause-says c =
     let source = c.args.source.now in
     let l = c.loop-start in
     let x = lexeme source c.in-Some.start c.in-Some.end in
