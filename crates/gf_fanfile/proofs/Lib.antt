@@ -10,3 +10,4 @@ pub mod FanTextLaws  -- sections are read as the grammar says, and the first fau
 pub mod SectionsLaws  -- sections are read one after another
 pub mod SpanLaws  -- vectors in the span of others, by Gordan's alternative
 pub mod FilesLaws  -- a text says one file at most, and a sound one isn't refused
+pub mod FanWordsLaws  -- numbers of cones, and lines that are written one after another

@@ -35,7 +35,7 @@ impl RayNumbers {
     }
 
     /// These numbers, which it keeps.
-    fn of(numbers: Vec<u64>) -> RayNumbers
+    pub fn of(numbers: Vec<u64>) -> RayNumbers
         ensures { result ≡ numbers.items }
     {
         RayNumbers { numbers }

@@ -1,4 +1,4 @@
-//! Fan files: what is read from their text.
+//! Fan files: what is read from their text, and what is written of a fan.
 //!
 //! A text is cut into lines and sections (`specs/Lines.antt`); machines read the tokens of a content (`specs/RowText.antt`,
 //! `specs/ConeText.antt`, `specs/NumberText.antt`), and what a text says is said apart from them, by grammars
@@ -10,11 +10,15 @@ mod error;
 mod file;
 mod lines;
 mod numbers;
+mod parts;
 mod places;
 mod rows;
 mod sections;
+mod writer;
 
 pub use cones::{ConeList, RayNumbers};
 pub use error::{FanFileError, Section};
 pub use file::{FanFile, read_file};
+pub use parts::{FanParts, ListedCone};
 pub use rows::Vectors;
+pub use writer::write_parts;

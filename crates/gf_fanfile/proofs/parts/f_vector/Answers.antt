@@ -1,0 +1,32 @@
+use Rattle.std.proofs.Common.{◌≡◌, ◌<◌, ◌≤◌, ℕ, ◌+◌, ◌-◌, ◌==◌, false, ◌∷◌, [], ◌++◌, List, length, map, arith, ap, ap₂, sym, ◌∙◌}
+use Rattle.std.specs.List.{range_with_len}
+use Rattle.std.proofs.lemmas.List.FromFn.{map-range_with_len_more}
+use Rattle.std.proofs.lemmas.Bool.Decides.{nat_tests}
+use Rattle.gf_fanfile.specs.FanWords.{greatest_dim, count_of}
+use Rattle.gf_fanfile.proofs.FanWordsLaws.{f_vector_of}
+use Rattle.gf_fanfile.proofs.parts.f_vector.Goals as goal
+
+pub loop-dim-preserved : goal.loop-dim-preserved
+loop-dim-preserved c =
+    let low = c.args.low in
+    let dim = c.loop-dim.dim in
+    let f = count_of c.args.cones.now in
+    let from : low ≤ dim = c.loop-dim.auto.dim in
+    let next : dim + 1 - low ≡ (dim - low) + 1 = omega (arith, from) in
+    let place : low + (dim - low) ≡ dim = omega (arith, from) in
+    c.in_ok-push.ensures.items ∙ ap₂ (λ (xs : List ℕ) (n : ℕ). xs ++ n ∷ []) c.loop-dim.invariant c.count_of.ensures
+    ∙ sym (map-range_with_len_more f low (dim - low) dim place) ∙ ap (λ k. map f (range_with_len low k)) (sym next)
+
+pub returns : goal.returns
+returns c =
+    let low = c.args.low in
+    let dim = c.loop-dim.dim in
+    let cones = c.args.cones.now in
+    let empty : (length cones == 0) ≡ false = sym c.is_empty.ensures ∙ c.if-is_empty.false in
+    let some : 0 < length cones = grind (arith, nat_tests, empty) in
+    let end = c.max-end.ensures in
+    let most = c.greatest_dim.ensures in
+    let behind = c.loop-dim-test.false in
+    let within : dim ≤ c.max-end.result = c.loop-dim.auto.dim-end (omega (arith, end)) in
+    let last : dim - low ≡ greatest_dim cones + 1 - low = omega (arith, end, most, behind, within) in
+    c.loop-dim.invariant ∙ ap (λ k. map (count_of cones) (range_with_len low k)) last ∙ sym (f_vector_of low cones some)
