@@ -11,3 +11,8 @@ pub mod SectionsLaws  -- sections are read one after another
 pub mod SpanLaws  -- vectors in the span of others, by Gordan's alternative
 pub mod FilesLaws  -- a text says one file at most, and a sound one isn't refused
 pub mod FanWordsLaws  -- numbers of cones, and lines that are written one after another
+pub mod LexedLaws  -- tokens at the front of a text
+pub mod WrittenLaws  -- sections that are written are read again
+pub mod PrintedRowsLaws  -- tokens of printed rows
+pub mod PrintedConesLaws  -- tokens of printed numbers and cones
+pub mod AgainLaws  -- what is written of a fan is read again

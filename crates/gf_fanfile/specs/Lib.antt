@@ -6,6 +6,7 @@ pub mod Refused  -- what a fault is refused as
 pub mod FanText  -- sections that are looked at, and what a file says
 pub mod Files  -- what a fan file says, and why it is refused before its cones are built
 pub mod FanWords  -- the text of a fan
+pub mod FansAgain  -- what is written of a fan is read again
 pub mod Found  -- lines and tokens as the program finds them
 pub mod Given  -- what readers did, against their machines
 pub mod Contents  -- what is kept of the sections

@@ -21,4 +21,4 @@ pub use error::{FanFileError, Section};
 pub use file::{FanFile, read_file};
 pub use parts::{FanParts, ListedCone};
 pub use rows::Vectors;
-pub use writer::write_parts;
+pub use writer::{fans_are_read_again, write_parts};

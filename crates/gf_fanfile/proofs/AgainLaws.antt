@@ -1,0 +1,228 @@
+-- What is written of a fan is read again.
+-- To cite: fans_again. The rest are steps.
+use Rattle.std.proofs.Common.{◌≡◌, ◌≤◌, ◌<◌, ℕ, ℤ, ◌+◌, ◌-◌, ◌==◌, Bool, true, false, List, [], ◌∷◌, ◌++◌, length, map, fold, max, take, codes, decimal, Option, None, Some, refl, subst, append-nil, get_or, arith, All, if◌then◌else◌}
+use Rattle.std.specs.List.{AllByRecursion, range_with_len}
+use Rattle.std.proofs.lemmas.List.Elements.{recursion_from_All}
+use Rattle.std.proofs.lemmas.List.Sums.{count_by-le-length}
+use Rattle.gf_text.specs.Machine.{texts}
+use Rattle.gf_text.specs.RingText.{has, is_name}
+use Rattle.gf_fanfile.specs.declared.parts.ListedCone.{ListedCone}
+use Rattle.gf_fanfile.specs.Lines.{before_comment, is_section_name, content_tokens}
+use Rattle.gf_fanfile.specs.ConeText.{most_number}
+use Rattle.gf_fanfile.specs.FanText.{number_to, rows, cones, any, Content, the_number, the_rows, the_cones, passed, Named, kind_in, fan_table, ambient_dim, rays_name, lineality_space, maximal_cones, IsContent}
+use Rattle.gf_fanfile.specs.FanWords.{FanWords, section, greatest_dim, count_of, f_vector, is_simplicial, is_pure, spaced_entries, comment, ray_lines, number_lines, cone_text, told_cone, cone_line, cone_lines, truth_line, dim_line, front_sections, back_sections, fan_text}
+use Rattle.gf_fanfile.specs.FansAgain.{AreWritable, IsWritableCone, IsWritable, file_of, FansAreReadAgain}
+use Rattle.gf_fanfile.specs.Files.{IsFileOf}
+use Rattle.gf_fanfile.proofs.ConeTextLaws.{le_test}
+use Rattle.gf_fanfile.proofs.WrittenLaws.{no_byte, IsContentLine, AreContentLines, ArePlain, contents, IsSaid, AreSaid, written_again}
+use Rattle.gf_fanfile.proofs.PrintedRowsLaws.{no_tail, comment_tail, IsSmall, AreSmall, IsRowLine, AreRowLines, row_as_line, rows_hold, rows_content, rows_plain, first_digit}
+use Rattle.gf_fanfile.proofs.PrintedConesLaws.{IsNumber, AreNumbers, number_is, number_no, number_holds, IsConeLine, AreConeLines, cone_as_line, cones_hold, cones_content, cones_plain, numbers_content, numbers_no}
+
+-- ---- limits, one after another
+
+-- at least one entry, and each is within its limit
+abbrev IsGood : List ℤ → Type 0
+IsGood r = (0 < length r) × AreSmall r
+
+good_rows : (n : ℕ) (rs : List (List ℤ)) → 0 < n → AreWritable n rs → AllByRecursion (λ r. IsGood r) rs
+good_rows n rs some h = recursion_from_All (λ r. IsGood r) rs (λ k d below.
+    let width : length (get_or rs k d) ≡ n = h.width k d below in
+    (omega (arith, width, some), recursion_from_All (λ z. IsSmall z) (get_or rs k d) (h.entries k d below)))
+
+-- a cone's dimension and numbers
+abbrev IsGoodCone : ListedCone → Type 0
+IsGoodCone c = IsNumber c.dim × AreNumbers c.rays
+
+good_cones : (cs : List ListedCone) → All IsWritableCone cs → AllByRecursion (λ c. IsGoodCone c) cs
+good_cones cs h = recursion_from_All (λ c. IsGoodCone c) cs (λ k d below. let w = h k d below in (w.dim, recursion_from_All (λ n. IsNumber n) (get_or cs k d).rays w.rays))
+
+greatest_from : (d : ℕ) (cs : List ListedCone) → IsNumber d → AllByRecursion (λ c. IsGoodCone c) cs → IsNumber (fold (λ e (c : ListedCone). max e c.dim) d cs)
+greatest_from d [] small h = small
+greatest_from d (c ∷ cs) small h = greatest_from (max d c.dim) cs (let here = h.0.0 in omega (arith, small, here)) h.1
+
+counts_within : (cs : List ListedCone) (ds : List ℕ) → IsNumber (length cs) → AreNumbers (map (count_of cs) ds)
+counts_within cs [] few = tt
+counts_within cs (d ∷ ds) few = (omega (arith, few, count_by-le-length (λ (c : ListedCone). c.dim == d) cs), counts_within cs ds few)
+
+vector_within : (low : ℕ) (cs : List ListedCone) → IsNumber (length cs) → AreNumbers (f_vector low cs)
+vector_within low [] few = tt
+vector_within low (c ∷ cs) few = counts_within (c ∷ cs) (range_with_len low (greatest_dim (c ∷ cs) + 1 - low)) few
+
+-- ---- lines
+
+row_lines : (rs : List (List ℤ)) → AllByRecursion (λ r. IsGood r) rs → AreRowLines (map (λ r. spaced_entries r) rs) rs
+row_lines [] h = tt
+row_lines ([] ∷ rs) h = absurd (let some = h.0.0 in omega (arith, some))
+row_lines ((z ∷ zs) ∷ rs) h = (subst (λ l. IsRowLine l (z ∷ zs)) (append-nil (spaced_entries (z ∷ zs))) (row_as_line z zs [] h.0.1 no_tail), row_lines rs h.1)
+
+rays_lines : (i : ℕ) (rs : List (List ℤ)) → i + length rs ≤ most_number → AllByRecursion (λ r. IsGood r) rs → AreRowLines (ray_lines i rs) rs
+rays_lines i [] few h = tt
+rays_lines i ([] ∷ rs) few h = absurd (let some = h.0.0 in omega (arith, some))
+rays_lines i ((z ∷ zs) ∷ rs) few h = (row_as_line z zs (comment (decimal i)) h.0.1 (comment_tail (decimal i) (number_no 10 i (omega arith) refl)), rays_lines (i + 1) rs (omega arith) h.1)
+
+bare_cone : (c : ListedCone) → IsGoodCone c → IsConeLine (cone_text c.rays) c.rays
+bare_cone c h = subst (λ l. IsConeLine l c.rays) (append-nil (cone_text c.rays)) (cone_as_line c.rays [] h.1 no_tail)
+
+told_as_line : (c : ListedCone) → IsGoodCone c → IsConeLine (told_cone c) c.rays
+told_as_line c h = cone_as_line c.rays (comment (codes "Dimension " ++ decimal c.dim)) h.1 (comment_tail (codes "Dimension " ++ decimal c.dim) (number_no 10 c.dim h.0 refl))
+
+one_line : (before : Option ℕ) (c : ListedCone) → IsGoodCone c → IsConeLine (cone_line before c) c.rays
+one_line None c h = told_as_line c h
+one_line (Some d) c h = by (d == c.dim)
+  where
+    by : (v : Bool) → IsConeLine (if v then cone_text c.rays else told_cone c) c.rays
+    by true = bare_cone c h
+    by false = told_as_line c h
+
+lines_of : (before : Option ℕ) (cs : List ListedCone) → AllByRecursion (λ c. IsGoodCone c) cs → AreConeLines (cone_lines before cs) (map (λ (c : ListedCone). c.rays) cs)
+lines_of before [] h = tt
+lines_of before (c ∷ cs) h = (one_line before c h.0, lines_of (Some c.dim) cs h.1)
+
+-- ---- sections
+
+abbrev Lines : List (List ℕ) → Type 0
+Lines ls = AreContentLines ls × ArePlain ls
+
+-- a name of a section that wasn't there before
+record IsNew (seen : List (List ℕ)) (n : List ℕ) : Type 0 where
+  new : has seen n ≡ false
+  name : is_section_name n ≡ true
+  word : is_name n ≡ true
+  bare : before_comment n ≡ n
+  one_line : no_byte 10 n ≡ true
+
+is_said : (seen : List (List ℕ)) (n : List ℕ) (ls : List (List ℕ)) (c : Content) → IsNew seen n → Lines ls → ((end at : ℕ) → IsContent (kind_in fan_table n) (texts (content_tokens end (contents at ls))) c)
+    → IsSaid fan_table seen (section n ls) c
+is_said seen n ls c is lines holds = record { new = is.new; name = is.name; word = is.word; bare = is.bare; one_line = is.one_line; lines = lines.0; plain = lines.1; holds = holds }
+
+decimal_lines : (n : ℕ) → IsNumber n → Lines (decimal n ∷ [])
+decimal_lines n h = ((subst IsContentLine (append-nil (decimal n)) (first_digit (decimal n) [] (number_is n h).0), tt), (number_no 10 n h refl, tt))
+
+dim_lines : (cs : List ListedCone) → AllByRecursion (λ c. IsGoodCone c) cs → Lines (dim_line cs ∷ [])
+dim_lines [] h = ((record { first = 45; others = 49 ∷ []; shape = refl; visible = refl; small = refl; bare = refl }, tt), (refl, tt))
+dim_lines (c ∷ cs) h = decimal_lines (greatest_dim (c ∷ cs)) (greatest_from 0 (c ∷ cs) (omega arith) h)
+
+truth_lines : (v : Bool) → Lines (truth_line v ∷ [])
+truth_lines true = ((record { first = 49; others = []; shape = refl; visible = refl; small = refl; bare = refl }, tt), (refl, tt))
+truth_lines false = ((record { first = 48; others = []; shape = refl; visible = refl; small = refl; bare = refl }, tt), (refl, tt))
+
+numbers_lines : (ns : List ℕ) → AreNumbers ns → Lines (number_lines ns)
+numbers_lines [] h = (tt, tt)
+numbers_lines (n ∷ ns) h = ((numbers_content n ns h, tt), (numbers_no 10 (n ∷ ns) h refl refl, tt))
+
+lines_of_rows : (ls : List (List ℕ)) (rs : List (List ℤ)) → AreRowLines ls rs → Lines ls
+lines_of_rows ls rs h = (rows_content ls rs h, rows_plain ls rs h)
+
+lines_of_cones : (ls cs : List (List ℕ)) → AreConeLines ls cs → Lines ls
+lines_of_cones ls cs h = (cones_content ls cs h, cones_plain ls cs h)
+
+-- a section that isn't looked at
+is_passed : (seen : List (List ℕ)) (n : List ℕ) (ls : List (List ℕ)) → IsNew seen n → kind_in fan_table n ≡ any → Lines ls → IsSaid fan_table seen (section n ls) passed
+is_passed seen n ls is kind lines = is_said seen n ls passed is lines (λ end at. kind)
+
+-- rows, lists, a number
+are_rows : (seen : List (List ℕ)) (n : List ℕ) (ls : List (List ℕ)) (rs : List (List ℤ)) → IsNew seen n → kind_in fan_table n ≡ rows → AreRowLines ls rs → IsSaid fan_table seen (section n ls) (the_rows rs)
+are_rows seen n ls rs is kind lines = is_said seen n ls (the_rows rs) is (lines_of_rows ls rs lines) (λ end at. (kind, rows_hold ls rs lines end at))
+
+are_cones : (seen : List (List ℕ)) (n : List ℕ) (ls cs : List (List ℕ)) → IsNew seen n → kind_in fan_table n ≡ cones → AreConeLines ls cs → IsSaid fan_table seen (section n ls) (the_cones cs)
+are_cones seen n ls cs is kind lines = is_said seen n ls (the_cones cs) is (lines_of_cones ls cs lines) (λ end at. (kind, cones_hold ls cs lines end at))
+
+is_number_to : (seen : List (List ℕ)) (n : List ℕ) (limit k : ℕ) → IsNew seen n → kind_in fan_table n ≡ number_to limit → IsNumber k → k ≤ limit → IsSaid fan_table seen (section n (decimal k ∷ [])) (the_number k)
+is_number_to seen n limit k is kind small below = is_said seen n (decimal k ∷ []) (the_number k) is (decimal_lines k small) (λ end at. (limit, kind, number_holds k small end at, le_test k limit below))
+
+-- ---- the sections of a fan
+
+new_name : (seen : List (List ℕ)) (n : List ℕ) → has seen n ≡ false → is_section_name n ≡ true → is_name n ≡ true → before_comment n ≡ n → no_byte 10 n ≡ true → IsNew seen n
+new_name seen n new name word bare one_line = record { new = new; name = name; word = word; bare = bare; one_line = one_line }
+
+-- the names of its sections, of which the first so many stand before another
+abbrev names : ℕ → List (List ℕ)
+names k = take k (ambient_dim ∷ codes "DIM" ∷ codes "LINEALITY_DIM" ∷ rays_name ∷ codes "N_RAYS" ∷ lineality_space ∷ codes "ORTH_LINEALITY_SPACE" ∷ codes "F_VECTOR" ∷ codes "SIMPLICIAL" ∷ codes "PURE" ∷ codes "CONES" ∷ maximal_cones ∷ [])
+
+module _ (f : FanWords) (h : IsWritable f) where
+  -- what they say
+  abbrev said_of : Named
+  said_of = (ambient_dim, the_number f.ambient)
+      ∷ (codes "DIM", passed)
+      ∷ (codes "LINEALITY_DIM", passed)
+      ∷ (rays_name, the_rows f.rays)
+      ∷ (codes "N_RAYS", passed)
+      ∷ (lineality_space, the_rows f.lineality)
+      ∷ (codes "ORTH_LINEALITY_SPACE", passed)
+      ∷ (codes "F_VECTOR", passed)
+      ∷ (codes "SIMPLICIAL", passed)
+      ∷ (codes "PURE", passed)
+      ∷ (codes "CONES", passed)
+      ∷ (maximal_cones, the_cones (map (λ (c : ListedCone). c.rays) f.maximal))
+      ∷ []
+
+  all_said : AreSaid fan_table [] (front_sections f ++ back_sections f) said_of
+  all_said =
+      let low = length f.lineality in
+      let rays = good_rows f.ambient f.rays h.positive h.rays in
+      let lineality = row_lines f.lineality (good_rows f.ambient f.lineality h.positive h.lineality) in
+      let orthogonal = row_lines f.orthogonal (good_rows f.ambient f.orthogonal h.positive h.orthogonal) in
+      let every = good_cones f.cones h.cones in
+      let count : length f.rays ≤ most_number = h.rays_count in
+      let small : f.ambient ≤ 16 = h.ambient in (
+        refl,
+        is_number_to [] ambient_dim 16 f.ambient (new_name [] ambient_dim refl refl refl refl refl) refl (omega (arith, small)) small,
+        (
+          refl,
+          is_passed (names 1) (codes "DIM") (dim_line f.cones ∷ []) (new_name (names 1) (codes "DIM") refl refl refl refl refl) refl (dim_lines f.cones every),
+          (
+            refl,
+            is_passed (names 2) (codes "LINEALITY_DIM") (decimal low ∷ []) (new_name (names 2) (codes "LINEALITY_DIM") refl refl refl refl refl) refl (decimal_lines low h.lineality_count),
+            (
+              refl,
+              are_rows (names 3) rays_name (ray_lines 0 f.rays) f.rays (new_name (names 3) rays_name refl refl refl refl refl) refl (rays_lines 0 f.rays (omega (arith, count)) rays),
+              (
+                refl,
+                is_passed (names 4) (codes "N_RAYS") (decimal (length f.rays) ∷ []) (new_name (names 4) (codes "N_RAYS") refl refl refl refl refl) refl (decimal_lines (length f.rays) count),
+                (
+                  refl,
+                  are_rows (names 5) lineality_space (map (λ r. spaced_entries r) f.lineality) f.lineality (new_name (names 5) lineality_space refl refl refl refl refl) refl lineality,
+                  (
+                    refl,
+                    is_passed (names 6) (codes "ORTH_LINEALITY_SPACE") (map (λ r. spaced_entries r) f.orthogonal) (new_name (names 6) (codes "ORTH_LINEALITY_SPACE") refl refl refl refl refl) refl (lines_of_rows (map (λ r. spaced_entries r) f.orthogonal) f.orthogonal orthogonal),
+                    (
+                      refl,
+                      is_passed (names 7) (codes "F_VECTOR") (number_lines (f_vector low f.cones)) (new_name (names 7) (codes "F_VECTOR") refl refl refl refl refl) refl (numbers_lines (f_vector low f.cones) (vector_within low f.cones h.cones_count)),
+                      (
+                        refl,
+                        is_passed (names 8) (codes "SIMPLICIAL") (truth_line (is_simplicial low f.maximal) ∷ []) (new_name (names 8) (codes "SIMPLICIAL") refl refl refl refl refl) refl (truth_lines (is_simplicial low f.maximal)),
+                        (
+                          refl,
+                          is_passed (names 9) (codes "PURE") (truth_line (is_pure f.maximal) ∷ []) (new_name (names 9) (codes "PURE") refl refl refl refl refl) refl (truth_lines (is_pure f.maximal)),
+                          (
+                            refl,
+                            is_passed (names 10) (codes "CONES") (cone_lines None f.cones) (new_name (names 10) (codes "CONES") refl refl refl refl refl) refl (lines_of_cones (cone_lines None f.cones) (map (λ (c : ListedCone). c.rays) f.cones) (lines_of None f.cones every)),
+                            (
+                              refl,
+                              are_cones (names 11) maximal_cones (cone_lines None f.maximal) (map (λ (c : ListedCone). c.rays) f.maximal) (new_name (names 11) maximal_cones refl refl refl refl refl) refl (lines_of None f.maximal (good_cones f.maximal h.maximal)),
+                              refl,
+                            ),
+                          ),
+                        ),
+                      ),
+                    ),
+                  ),
+                ),
+              ),
+            ),
+          ),
+        ),
+      )
+
+  fan_again : IsFileOf (fan_text f) (file_of f)
+  fan_again = record {
+    all = said_of;
+    held = written_again fan_table (front_sections f ++ back_sections f) said_of all_said;
+    ambient = refl;
+    rays = refl;
+    lineality = refl;
+    cones = refl;
+  }
+
+pub fans_again : FansAreReadAgain
+fans_again f h = fan_again f h
