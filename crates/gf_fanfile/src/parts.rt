@@ -18,6 +18,7 @@ pub struct ListedCone {
 /// What is written of a fan.
 ///
 /// Cones are listed by their dimensions; the first of each dimension tells it.
+#[derive(Drop)]
 pub struct FanParts<'a> {
     /// The ambient dimension.
     pub ambient: u32,

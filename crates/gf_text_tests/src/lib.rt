@@ -1,7 +1,9 @@
-//! Tests of reading, printing and words: `gf_text`, `gf_front`. They stand in a crate of their own since a crate with tests is
-//! proved twice, with them and without.
+//! Tests of reading, printing and words: `gf_text`, `gf_fanfile`, `gf_front`. They stand in a crate of their own since a crate
+//! with tests is proved twice, with them and without.
 #![tactic(auto)]
 
+#[cfg(test)]
+mod fans;
 #[cfg(test)]
 mod lists;
 #[cfg(test)]

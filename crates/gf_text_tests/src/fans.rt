@@ -1,0 +1,176 @@
+//! Fan files, by hand: what is read of one, why one isn't, and the text of one.
+use gf_fanfile::*;
+use gf_text::{Kind, Syntax};
+use gf_vec::IntVec;
+use std::alloc::Global;
+use std::process::Abort;
+use std::test::Fail;
+
+/// The rays of the plane whose sum is zero.
+const LINE_TEXT: &[u8] = b"AMBIENT_DIM
+2
+
+DIM
+1
+
+LINEALITY_DIM
+0
+
+RAYS
+-1 0\t# 0
+0 -1\t# 1
+1 1\t# 2
+
+N_RAYS
+3
+
+LINEALITY_SPACE
+
+ORTH_LINEALITY_SPACE
+1 0
+0 1
+
+F_VECTOR
+1 3
+
+SIMPLICIAL
+1
+
+PURE
+1
+
+CONES
+{}\t# Dimension 0
+{0}\t# Dimension 1
+{1}
+{2}
+
+MAXIMAL_CONES
+{0}\t# Dimension 1
+{1}
+{2}
+
+";
+
+/// No cones are built of this text, and this is why.
+fn check_refusal(rt: &impl Abort, alloc: Global, source: &[u8], wanted: FanFileError) {
+    match read_file(alloc, source) {
+        Ok(_) => assert!(rt; false, "a refusal"),
+        Err(error) => assert_eq!(rt; error, wanted),
+    }
+}
+
+#[test]
+fn refused_files(rt: HostRuntime) {
+    let alloc = rt.alloc();
+    let texts = [
+        (
+            b"AMBIENT_DIM\n1\n\nRAYS\n\nLINEALITY_SPACE\n".as_slice(),
+            FanFileError::Missing {
+                section: Section::MaximalCones,
+            },
+        ),
+        (
+            b"AMBIENT_DIM\n1\n\nRAYS\n0\n\nLINEALITY_SPACE\n\nMAXIMAL_CONES\n{0}\n",
+            FanFileError::BadRay { number: 0 },
+        ),
+        (
+            b"AMBIENT_DIM\n1\n\nRAYS\n1\n\nLINEALITY_SPACE\n\nMAXIMAL_CONES\n{1}\n",
+            FanFileError::BadRay { number: 1 },
+        ),
+        (
+            b"AMBIENT_DIM\n1\n\nRAYS\n1 2\n\nLINEALITY_SPACE\n\nMAXIMAL_CONES\n{0}\n",
+            FanFileError::Dimensions { left: 2, right: 1 },
+        ),
+        (
+            b"AMBIENT_DIM\n0\nRAYS\n1\nLINEALITY_SPACE\nMAXIMAL_CONES\n",
+            FanFileError::Dimensions { left: 0, right: 1 },
+        ),
+        (
+            b"AMBIENT_DIM\n2\nRAYS\n1 0\n-2 -4\nLINEALITY_SPACE\n1 2\nMAXIMAL_CONES\n{2}\n",
+            FanFileError::BadRay { number: 1 },
+        ),
+        (
+            b"AMBIENT_DIM\n17\nRAYS\n",
+            FanFileError::TooManyVariables { count: 17 },
+        ),
+        (
+            b"AMBIENT_DIM\nRAYS\n",
+            FanFileError::Syntax(Syntax {
+                at: 12,
+                kind: Kind::Unexpected,
+            }),
+        ),
+        (
+            b"A\nA # again\n",
+            FanFileError::Syntax(Syntax {
+                at: 2,
+                kind: Kind::RepeatedName,
+            }),
+        ),
+    ];
+    for (source, wanted) in texts {
+        check_refusal(&rt, alloc, source, wanted);
+    }
+}
+
+/// A vector with these entries.
+fn vector(alloc: Global, entries: &[i128]) -> Result<IntVec, Fail> {
+    Ok(IntVec::from_slice(alloc, entries)?)
+}
+
+/// A cone of this dimension with these rays.
+fn cone(alloc: Global, dim: u32, numbers: &[u64]) -> Result<ListedCone, Fail> {
+    let rays = RayNumbers::of(Vec::from_slice(alloc, numbers)?);
+    Ok(ListedCone { dim, rays })
+}
+
+#[test]
+fn the_text_of_a_fan(rt: HostRuntime) -> Result<(), Fail> {
+    let alloc = rt.alloc();
+    let rays = [
+        vector(alloc, &[-1, 0])?,
+        vector(alloc, &[0, -1])?,
+        vector(alloc, &[1, 1])?,
+    ];
+    let orthogonal = [vector(alloc, &[1, 0])?, vector(alloc, &[0, 1])?];
+    let maximal = [
+        cone(alloc, 1, &[0])?,
+        cone(alloc, 1, &[1])?,
+        cone(alloc, 1, &[2])?,
+    ];
+    let cones = [
+        cone(alloc, 0, &[])?,
+        cone(alloc, 1, &[0])?,
+        cone(alloc, 1, &[1])?,
+        cone(alloc, 1, &[2])?,
+    ];
+    let parts = FanParts {
+        ambient: 2,
+        rays: rays.as_slice(),
+        lineality: &[],
+        orthogonal: orthogonal.as_slice(),
+        cones: cones.as_slice(),
+        maximal: maximal.as_slice(),
+    };
+    let text = write_parts(alloc, &parts)?;
+    assert_eq!(rt; text.as_slice(), LINE_TEXT);
+    Ok(())
+}
+
+#[test]
+fn a_file_with_comments(rt: HostRuntime) -> Result<(), Fail> {
+    let alloc = rt.alloc();
+    let text =
+        b"_type fan\nRAYS # two\n1 -2\n\n 3-4 # 5\nLINEALITY_SPACE\r\nDIM\nx\nMAXIMAL_CONES\n{1 0}\n{}\nAMBIENT_DIM\n2";
+    let file = read_file(alloc, text).ok().ok_or("a file")?;
+    assert_eq!(rt; file.ambient, 2);
+    let rays = file.rays.as_slice();
+    assert_eq!(rt; rays.len(), 2);
+    assert_eq!(rt; rays[1].as_slice(), [3, -4].as_slice());
+    assert!(rt; file.lineality.as_slice().is_empty());
+    let cones = file.cones.as_slice();
+    assert_eq!(rt; cones.len(), 2);
+    assert_eq!(rt; cones[0].as_slice(), [1, 0].as_slice());
+    Ok(())
+}
