@@ -1,7 +1,7 @@
 -- Refusals of the calls, made of those of their parts, and where only memory may be wanting.
 -- To cite: step_tested, form_tested, pairs_tested, pairs_fault, form_required, weight_required, pairs_required,
--- reduced_of_paired, terms_required, weight_only_memory, test_only_memory, basis_only_memory, reduced_only_memory,
--- reduction_only_memory.
+-- reduced_of_paired, terms_required, weight_only_memory, test_only_memory, basis_only_memory, not_excluded, no_first, reduced_memory,
+-- reduced_only_memory, reduction_only_memory.
 use Rattle.std.specs.Prelude.{◌≡◌, ℕ, List, [], ◌∷◌, ◌++◌, map, Result, Ok, Err, IfErr}
 use Rattle.std.proofs.Common.{refl, subst}
 use Rattle.gf_poly.specs.declared.error.PolyError.{PolyError}
@@ -142,14 +142,14 @@ paired_memory P k s (check_errors.Cone o) v w g h = absurd (w.system o h)
 paired_memory P k s check_errors.Memory v w g h = refl
 
 -- what is the first of a list isn't excluded in it
-not_excluded : (bs : List MarkedPolynomial) (i : ℕ) (b : MarkedPolynomial) (x : Exponents) (earlier later xs : List Exponents) → xs ≡ earlier ++ x ∷ later → NoneOffends bs i b xs → IsOffending bs i b x → ⊥
+pub not_excluded : (bs : List MarkedPolynomial) (i : ℕ) (b : MarkedPolynomial) (x : Exponents) (earlier later xs : List Exponents) → xs ≡ earlier ++ x ∷ later → NoneOffends bs i b xs → IsOffending bs i b x → ⊥
 not_excluded bs i b x earlier later xs e n o = at earlier (subst (NoneOffends bs i b) e n)
   where
     at : (ys : List Exponents) → NoneOffends bs i b (ys ++ x ∷ later) → ⊥
     at [] n = n.0 o
     at (y ∷ ys) n = at ys n.1
 
-no_first : (bs : List MarkedPolynomial) (i : ℕ) (x : Exponents) → AreReduced bs → IsFirstOffending bs i x → ⊥
+pub no_first : (bs : List MarkedPolynomial) (i : ℕ) (x : Exponents) → AreReduced bs → IsFirstOffending bs i x → ⊥
 no_first bs i x a f = not_excluded bs i f.first.member x f.first.earlier f.first.later (printed_monomials f.first.member) f.first.printed (a i f.first.member f.first.at) f.first.offends
 
 pub reduced_memory : (k : ℕ) (s : MarkedPolynomials) (e : CheckError) → HaveVariables s.variables s.items → AreChecksWithinLimits s → IsMarkedGroebnerBasis s.variables s.items → AreReduced s.items → IsReducedRefusal k s e → e ≡ check_errors.Memory

@@ -128,6 +128,7 @@ pub fn require_reduced(alloc: Global, marked: &MarkedSet, set: u32) -> Result<Ma
     requires { length marked.now.items < 2 ^ 32 }
     ensures value { IfOk result (IsArranged (monic_set marked.now)) }
     ensures basis { IfOk result (IsReducedBasisOf marked.now) }
+    ensures terms { IfOk result (λ _. AreReduced marked.now.items) }
     ensures err { IfErr result (IsReducedRefusal set marked.now) }
     ensures complete { AreChecksWithinLimits marked.now
         → IsMarkedGroebnerBasis marked.now.variables marked.now.items → AreReduced marked.now.items

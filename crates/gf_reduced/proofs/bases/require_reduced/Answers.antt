@@ -30,3 +30,6 @@ returns-in_err-require_pairs-clause-complete c = λ w g a.
 
 pub returns-clause-basis : goal.returns-clause-basis
 returns-clause-basis c = taken_reduced c.args.marked.now c.in_ok-forms.forms c.in_ok-arranged.arranged c.items-3.result.now c.items-2.result.now c.in_ok-forms.ensures.value (forms_by c.args.marked.now c.in_ok-forms.forms c.items-3.result.now c.in_ok-forms.ensures.value c.items-3.ensures.value) c.items-2.ensures.value c.items.ensures.variables c.in_ok-forms.ensures.marked c.in_ok-positive.ensures.realisable c.in_ok-require_terms.ensures.ok c.in_ok-require_pairs.ensures.ok c.in_ok-arranged.ensures
+
+pub returns-clause-terms : goal.returns-clause-terms
+returns-clause-terms c = subst AreReduced c.items-2.ensures.value c.in_ok-require_terms.ensures.ok
