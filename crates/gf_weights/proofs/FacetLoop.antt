@@ -26,7 +26,7 @@ ascends_more (y ∷ xs) x p f = (
 )
 
 -- an earlier member of an ascending list is before a later one
-ascends_at : (ns : List (List ℤ)) (i j : ℕ) → Ascends ns → i < j → j < length ns → IsBefore (get_or ns i []) (get_or ns j [])
+pub ascends_at : (ns : List (List ℤ)) (i j : ℕ) → Ascends ns → i < j → j < length ns → IsBefore (get_or ns i []) (get_or ns j [])
 ascends_at [] i j p l m = absurd (omega (arith, m))
 ascends_at (x ∷ ns) i zero p l m = absurd (omega (arith, l))
 ascends_at (x ∷ ns) zero (suc j) p l m = p.0 (get_or ns j []) (j, omega (arith, m), get_or_default ns j _ [] (omega (arith, m)))

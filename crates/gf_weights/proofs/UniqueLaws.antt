@@ -1,5 +1,5 @@
 -- A marked list has one printed weight, and each facet one witness.
--- To cite: one_weight, one_witness, one_certificates.
+-- To cite: one_weight, one_witness, normal_there, one_facets, one_certificates.
 use Rattle.std.proofs.Common.{◌≡◌, ℕ, List, [], ◌∷◌, ◌++◌, length, ℤ, arith, refl, sym, ap, ap₂, ◌∙◌, subst, Contains, get_or, drop, inl, inr}
 use Rattle.gf_poly.specs.Marking.{MarkedPolynomial}
 use Rattle.gf_duality.specs.Rays.{IsRays}
@@ -66,7 +66,7 @@ same_facets n bs (f ∷ fs) (g ∷ gs) p q e =
     ap₂ (λ (x : FacetWitness) (xs : List FacetWitness). x ∷ xs) (ap₂ (λ (x y : List ℤ). record { normal = x; witness = y }) a w) rest
 
 -- each normal is that of a facet
-normal_there : (fs : List FacetWitness) (a : List ℤ) → Contains (normals_of fs) a → (f : FacetWitness) × (Contains fs f × (f.normal ≡ a))
+pub normal_there : (fs : List FacetWitness) (a : List ℤ) → Contains (normals_of fs) a → (f : FacetWitness) × (Contains fs f × (f.normal ≡ a))
 normal_there [] a c = absurd (none_in a c)
 normal_there (f ∷ fs) a c = elim (in_cons f.normal (normals_of fs) a c) [
   | inl e ↦ (f, (in_head f fs, sym e))

@@ -9,7 +9,8 @@ use Rattle.gf_facets.specs.Regions.{IsInRegion, all_positive}
 use Rattle.gf_facets.specs.Facets.{IsInOpenCone, IsInsideFacet, IsFlippable}
 use Rattle.gf_facets.specs.MarkedBases.{AreCanonical, IsMarkedReducedBasis}
 use Rattle.gf_weights.specs.declared.certificates.Certificates.{Certificates}
-use Rattle.gf_weights.specs.Weights.{IsPrintedWeight, IsPrintedWitness, AreCertificates}
+use Rattle.gf_weights.specs.declared.certificates.FacetWitness.{FacetWitness}
+use Rattle.gf_weights.specs.Weights.{IsPrintedWeight, IsPrintedWitness, AreWitnessed, AreCertificates}
 
 -- the printed weight is positive and sets each mark above the rest, where any positive vector does; and the marked reduced basis
 -- of an ideal is its reduced Gröbner basis for this weight
@@ -30,3 +31,8 @@ pub record CertificatesAreUnique : Type 0 where
   pub witness : (n : ℕ) (bs : List MarkedPolynomial) (a v w : List ℤ) → IsPrintedWitness n bs a v → IsPrintedWitness n bs a w → v ≡ w
   pub all : (n : ℕ) (bs : List MarkedPolynomial) (c d : Certificates) → AreCertificates n bs c → AreCertificates n bs d →
       (c.weight ≡ d.weight) × (c.facets.items ≡ d.facets.items)
+
+-- a marked list has its printed weight, and its facets that a flip may cross, each with its printed witness
+pub record CertificatesExist : Type 0 where
+  pub weight : (n : ℕ) (bs : List MarkedPolynomial) → AreCanonical n bs → (v : List ℤ) × IsPrintedWeight n bs v
+  pub facets : (n : ℕ) (bs : List MarkedPolynomial) → AreCanonical n bs → (fs : List FacetWitness) × AreWitnessed n bs fs

@@ -1,5 +1,5 @@
 // What the printed weights and witnesses have.
-ghost use Rattle.gf_weights.specs.Theorems.{WeightsGiveBases, WitnessesAreInside, CertificatesAreUnique};
+ghost use Rattle.gf_weights.specs.Theorems.{WeightsGiveBases, WitnessesAreInside, CertificatesAreUnique, CertificatesExist};
 
 /// The printed weight gives the marks, and a marked reduced basis is the reduced one for its printed weight (Fukuda, Jensen,
 /// Thomas, *Computing Gröbner fans*, 2).
@@ -16,4 +16,10 @@ pub fn witnesses_are_inside()
 /// A marked list has one printed weight, and each facet one witness.
 pub fn certificates_are_unique()
     ensures { CertificatesAreUnique }
+{}
+
+/// A marked list has its printed weight, and its facets that a flip may cross, each with its printed witness, whatever the size of
+/// their entries.
+pub fn certificates_exist()
+    ensures { CertificatesExist }
 {}

@@ -11,7 +11,9 @@ mod laws;
 
 pub use certificates::{Certificates, FacetWitness, certify, weight};
 pub use error::WeightError;
-pub use laws::{certificates_are_unique, weights_give_bases, witnesses_are_inside};
+pub use laws::{
+    certificates_are_unique, certificates_exist, weights_give_bases, witnesses_are_inside,
+};
 
 #[cfg(test)]
 mod tests;
