@@ -1,6 +1,6 @@
 -- Pieces that follow one another are the text of the list.
--- To cite: begun_next, whole_begun, prefix_on, prefix_whole. The rest are steps.
-use Rattle.std.specs.Prelude.{◌≡◌, ℕ, ◌+◌, ◌≤◌, true, false, List, [], ◌∷◌, ◌++◌, flat_map, length, take, Option}
+-- To cite: begun_next, piece_more, whole_begun, prefix_on, prefix_piece. The rest are steps.
+use Rattle.std.specs.Prelude.{◌≡◌, ℕ, ◌+◌, ◌≤◌, Bool, true, false, List, [], ◌∷◌, ◌++◌, flat_map, length, take, Option}
 use Rattle.std.specs.Io.KnownBytes.{Appends}
 use Rattle.std.proofs.Common.{arith, refl, sym, ap, ◌∙◌, subst, append_assoc, append-nil, length-append}
 use Rattle.std.proofs.KnownBytes.{Appends-trans}
@@ -8,32 +8,34 @@ use Rattle.std.proofs.Math.Seq.{take-append-add}
 use Rattle.std.proofs.lemmas.List.{take-append-le, flat_map_more}
 use Rattle.std.proofs.lemmas.Grind.{flat_map-append}
 use Rattle.gf_outside.specs.Moved.{AppendsPrefix}
-use Rattle.gf_poly.specs.Marking.{MarkedPolynomials}
 use Rattle.gf_text.specs.RingText.{ring_text}
-use Rattle.gf_text.specs.PrintedSets.{basis_text}
-use Rattle.gfan_main.specs.Printing.{later_set_text, sets_text}
-use Rattle.gfan_main.specs.Bases.{list_text, begun_text}
+use Rattle.gfan_main.specs.Bases.{later_item_text, items_text, list_text, begun_text}
 use Rattle.gfan_main.specs.BasesWriting.{basis_piece, is_none_of}
 
 -- ---- the text
 
 -- what is written, and the piece of one more
-pub begun_next : (ring : List (List ℕ)) (written : List MarkedPolynomials) (b : MarkedPolynomials) →
-    begun_text ring written ++ basis_piece ring (is_none_of written) b ≡ begun_text ring (written ++ b ∷ [])
-begun_next ring [] b = ap (λ l. ring_text ring ++ 123 ∷ l) (sym (append-nil (basis_text ring b.items)))
-begun_next ring (a ∷ ws) b =
-    append_assoc (ring_text ring) (123 ∷ sets_text ring (a ∷ ws)) (later_set_text ring b)
-    ∙ ap (λ l. ring_text ring ++ 123 ∷ l) (flat_map_more (later_set_text ring) (basis_text ring a.items) ws b)
+pub begun_next : (ring items : List (List ℕ)) (t : List ℕ) →
+    begun_text ring items ++ basis_piece ring (is_none_of items) t ≡ begun_text ring (items ++ t ∷ [])
+begun_next ring [] t = ap (λ l. ring_text ring ++ 123 ∷ l) (sym (append-nil t))
+begun_next ring (s ∷ ss) t =
+    append_assoc (ring_text ring) (123 ∷ items_text (s ∷ ss)) (later_item_text t)
+    ∙ ap (λ l. ring_text ring ++ 123 ∷ l) (flat_map_more later_item_text s ss t)
+
+-- what is added to a piece is added to what stands for its basis
+pub piece_more : (ring : List (List ℕ)) (is_first : Bool) (t u : List ℕ) → basis_piece ring is_first t ++ u ≡ basis_piece ring is_first (t ++ u)
+piece_more ring true t u = append_assoc (ring_text ring) (123 ∷ t) u
+piece_more ring false t u = refl
 
 -- what comes after what is written
-abbrev ending : List (List ℕ) → List MarkedPolynomials → List ℕ
-ending ring rest = flat_map (later_set_text ring) rest ++ 125 ∷ 10 ∷ []
+abbrev ending : List (List ℕ) → List ℕ
+ending rest = flat_map later_item_text rest ++ 125 ∷ 10 ∷ []
 
-pub whole_begun : (ring : List (List ℕ)) (b : MarkedPolynomials) (bs rest : List MarkedPolynomials) →
-    list_text ring (b ∷ (bs ++ rest)) ≡ begun_text ring (b ∷ bs) ++ (flat_map (later_set_text ring) rest ++ 125 ∷ 10 ∷ [])
-whole_begun ring b bs rest =
-    ap (λ l. ring_text ring ++ (123 ∷ (basis_text ring b.items ++ l) ++ 125 ∷ 10 ∷ [])) (flat_map-append (later_set_text ring) bs rest)
-    ∙ regroup (ring_text ring) (basis_text ring b.items) (flat_map (later_set_text ring) bs) (flat_map (later_set_text ring) rest) (125 ∷ 10 ∷ [])
+pub whole_begun : (ring : List (List ℕ)) (t : List ℕ) (ts rest : List (List ℕ)) →
+    list_text ring (t ∷ (ts ++ rest)) ≡ begun_text ring (t ∷ ts) ++ (flat_map later_item_text rest ++ 125 ∷ 10 ∷ [])
+whole_begun ring t ts rest =
+    ap (λ l. ring_text ring ++ (123 ∷ (t ++ l) ++ 125 ∷ 10 ∷ [])) (flat_map-append later_item_text ts rest)
+    ∙ regroup (ring_text ring) t (flat_map later_item_text ts) (flat_map later_item_text rest) (125 ∷ 10 ∷ [])
   where
     regroup : (h i f g c : List ℕ) → h ++ (123 ∷ (i ++ (f ++ g)) ++ c) ≡ (h ++ 123 ∷ (i ++ f)) ++ (g ++ c)
     regroup h i f g c = simp append_assoc
@@ -54,13 +56,13 @@ prefix_on a b c xs ys zs whole p q e = (
         ap (take (length xs + q.0)) e ∙ take-append-le (length xs + q.0) (xs ++ ys) zs fits ∙ take-append-add xs ys q.0
 
 -- a prefix of the piece of one more is a prefix of the whole text
-pub prefix_piece : (ring : List (List ℕ)) (written rest : List MarkedPolynomials) (b : MarkedPolynomials) (u v w : Option (List ℕ)) → Appends u v (begun_text ring written) →
-    AppendsPrefix v w (basis_piece ring (is_none_of written) b) → AppendsPrefix u w (list_text ring (written ++ b ∷ rest))
-prefix_piece ring written rest b u v w p q = prefix_on u v w (begun_text ring written) (basis_piece ring (is_none_of written) b) (ending ring rest) (list_text ring (written ++ b ∷ rest)) p q (whole written)
+pub prefix_piece : (ring items rest : List (List ℕ)) (t : List ℕ) (u v w : Option (List ℕ)) → Appends u v (begun_text ring items) →
+    AppendsPrefix v w (basis_piece ring (is_none_of items) t) → AppendsPrefix u w (list_text ring (items ++ t ∷ rest))
+prefix_piece ring items rest t u v w p q = prefix_on u v w (begun_text ring items) (basis_piece ring (is_none_of items) t) (ending rest) (list_text ring (items ++ t ∷ rest)) p q (whole items)
   where
-    whole : (ws : List MarkedPolynomials) → list_text ring (ws ++ b ∷ rest) ≡ (begun_text ring ws ++ basis_piece ring (is_none_of ws) b) ++ ending ring rest
-    whole [] = whole_begun ring b [] rest ∙ ap (λ l. l ++ ending ring rest) (sym (begun_next ring [] b))
-    whole (a ∷ ws) =
-        ap (λ l. list_text ring (a ∷ l)) (sym (append_assoc ws (b ∷ []) rest))
-        ∙ whole_begun ring a (ws ++ b ∷ []) rest
-        ∙ ap (λ l. l ++ ending ring rest) (sym (begun_next ring (a ∷ ws) b))
+    whole : (ss : List (List ℕ)) → list_text ring (ss ++ t ∷ rest) ≡ (begun_text ring ss ++ basis_piece ring (is_none_of ss) t) ++ ending rest
+    whole [] = whole_begun ring t [] rest ∙ ap (λ l. l ++ ending rest) (sym (begun_next ring [] t))
+    whole (s ∷ ss) =
+        ap (λ l. list_text ring (s ∷ l)) (sym (append_assoc ss (t ∷ []) rest))
+        ∙ whole_begun ring s (ss ++ t ∷ []) rest
+        ∙ ap (λ l. l ++ ending rest) (sym (begun_next ring (s ∷ ss) t))

@@ -26,7 +26,8 @@ use Rattle.gf_items.proofs.CheckLaws.{first_kind}
 use Rattle.gf_items.proofs.CommandLaws.{IsExactCommand, exact, no_answer, no_whole, in_reach, of_job, IsTestedCommand, untested, tested, no_tested_answer, no_tested_whole}
 use Rattle.gfan_main.specs.declared.buchberger.Options.{Options}
 use Rattle.gfan_main.specs.declared.bases.ListOptions.{ListOptions}
-use Rattle.gfan_main.specs.Bases.{IsWithinLimit, of_tree, IsGoingCause, IsListCause, IsListWithin, bases_command}
+use Rattle.gfan_main.specs.Certificates.{of_certificate}
+use Rattle.gfan_main.specs.Bases.{IsWithinLimit, of_tree, IsGoingCause, IsListCause, AreCertifiedWithin, IsListWithin, bases_command}
 use Rattle.gfan_main.specs.GivenBasis.{IsGivenListCause, IsGivenListWithin, given_bases_command}
 use Rattle.gfan_main.specs.BasesList.{AreAllBases}
 use Rattle.gfan_main.specs.Buchberger.{generators_of, asked_order, of_basis, buchberger_command}
@@ -41,6 +42,7 @@ use Rattle.gfan_main.specs.PolynomialSetUnion.{polynomial_set_union_command}
 use Rattle.gfan_main.specs.Stats.{stats_command}
 use Rattle.gfan_main.specs.Commands.{options, list_options, command, IsAnswerTo, IsWholeTextOf, IsRefusalOf, IsWithinReach, WritesAtEnd}
 use Rattle.gfan_main.proofs.FormLaws.{form_once}
+use Rattle.gfan_main.proofs.CertificateLaws.{certificate_work, certificate_untested}
 use Rattle.gfan_main.proofs.GivenBasisLaws.{tree_work, tree_untested, given_work, root_within, given_once, given_refuses}
 use Rattle.gfan_main.proofs.ReadSetLaws.{set_kept}
 use Rattle.gfan_main.proofs.CheckedSetLaws.{check_work, check_not_listed, test_cause_untested}
@@ -105,18 +107,21 @@ list_work : (o : ListOptions) (n : ℕ) (fs : List Terms) (r : Refusal) → IsLi
 list_work o n fs r (IsListCause.at_root e h q) = subst IsOfWork (sym q) (basis_work e)
 list_work o n fs r (IsListCause.going (IsGoingCause.in_tree e h q)) = subst IsOfWork (sym q) (tree_work e)
 list_work o n fs r (IsListCause.going (IsGoingCause.at_limit most h q)) = subst IsOfWork (sym q) tt
+list_work o n fs r (IsListCause.going (IsGoingCause.at_certificates b k g u)) = subst IsOfWork (sym u.2) (certificate_work u.0)
 
 past_limit : (limit : Option ℕ) (most : ℕ) (list : List MarkedPolynomials) → limit ≡ Some most → most < length list → IsWithinLimit limit list → ⊥
 past_limit None most list e l w = cc
 past_limit (Some n) most list e l w = let same : n ≡ most = cc in omega arith
 
-going_within : (o : ListOptions) (n : ℕ) (fs : List Terms) (r : Refusal) → IsTreeWithinLimits (ideal_by n fs) o.pairs → ((list : List MarkedPolynomials) → AreAllBases n fs list → IsWithinLimit o.limit list) → IsGoingCause o n fs r → r ≡ refusals.Memory
-going_within o n fs r w few (IsGoingCause.in_tree e h q) = q ∙ ap of_tree (within_memory (ideal_by n fs) o.pairs e w h)
-going_within o n fs r w few (IsGoingCause.at_limit most h q) = absurd (past_limit o.limit most h.list h.is_limit h.longer (few h.list h.are_all))
+going_within : (o : ListOptions) (n : ℕ) (fs : List Terms) (r : Refusal) → IsTreeWithinLimits (ideal_by n fs) o.pairs → ((list : List MarkedPolynomials) → AreAllBases n fs list → IsWithinLimit o.limit list) →
+    AreCertifiedWithin o n fs → IsGoingCause o n fs r → r ≡ refusals.Memory
+going_within o n fs r w few all (IsGoingCause.in_tree e h q) = q ∙ ap of_tree (within_memory (ideal_by n fs) o.pairs e w h)
+going_within o n fs r w few all (IsGoingCause.at_limit most h q) = absurd (past_limit o.limit most h.list h.is_limit h.longer (few h.list h.are_all))
+going_within o n fs r w few all (IsGoingCause.at_certificates b k g u) = u.2 ∙ ap of_certificate (all k b g u.0 u.1)
 
 list_within : (o : ListOptions) (n : ℕ) (fs : List Terms) (r : Refusal) → IsListWithin o n fs → IsListCause o n fs r → r ≡ refusals.Memory
 list_within o n fs r w (IsListCause.at_root e h q) = q ∙ ap of_basis (if_within {A = Unit {0}} MonomialOrder.deglex n o.pairs fs (Err e) w.root h)
-list_within o n fs r w (IsListCause.going h) = going_within o n fs r w.tree w.few h
+list_within o n fs r w (IsListCause.going h) = going_within o n fs r w.tree w.few w.certificates h
 
 bases_exact : (o : ListOptions) → IsExactCommand (bases_command o)
 bases_exact o = record {
@@ -128,7 +133,7 @@ bases_exact o = record {
 
 given_within : (o : ListOptions) (n : ℕ) (s : MarkedPolynomials) (r : Refusal) → IsGivenListWithin o n s → IsGivenListCause o n s r → r ≡ refusals.Memory
 given_within o n s r w (IsGivenListCause.at_root h) = root_within o n s r w h
-given_within o n s r w (IsGivenListCause.going g h) = going_within o n (polys s.items) r w.tree w.few h
+given_within o n s r w (IsGivenListCause.going g h) = going_within o n (polys s.items) r w.tree w.few w.certificates h
 
 given_exact : (o : ListOptions) → IsExactCommand (given_bases_command o)
 given_exact o = record {
@@ -142,8 +147,8 @@ given_exact o = record {
 
 laws : (job : Job) → IsExactCommand (command job)
 laws (jobs.Buchberger weighted revlex pairs) = buchberger_exact (options weighted revlex pairs)
-laws (jobs.Bases false limit pairs workers) = bases_exact (list_options limit pairs)
-laws (jobs.Bases true limit pairs workers) = given_exact (list_options limit pairs)
+laws (jobs.Bases false limit pairs certificates workers) = bases_exact (list_options limit pairs certificates)
+laws (jobs.Bases true limit pairs certificates workers) = given_exact (list_options limit pairs certificates)
 laws jobs.IsMarkedGroebnerBasis = marked_exact
 laws jobs.DoesIdealContain = containment_exact
 laws (jobs.LeadingTerms listed) = leading_exact listed
@@ -201,7 +206,7 @@ command_not_listed c exact_c never source most (IsCommandRefused.no_memory m) = 
 
 pub not_listed : (job : Job) (source : List ℕ) (most : ℕ) → WritesAtEnd job → IsRefusalOf job source (refusals.ListLimit most) → ⊥
 not_listed (jobs.Buchberger weighted revlex pairs) source most w h = command_not_listed (buchberger_command (options weighted revlex pairs)) (buchberger_exact (options weighted revlex pairs)) (λ a m c. basis_not_listed c.0 m c.1) source most h
-not_listed (jobs.Bases from_basis limit pairs workers) source most w h = w
+not_listed (jobs.Bases from_basis limit pairs certificates workers) source most w h = w
 not_listed jobs.IsMarkedGroebnerBasis source most w h = command_not_listed marked_command marked_exact (λ a m c. check_not_listed c.0 m c.1) source most h
 not_listed jobs.DoesIdealContain source most w h = command_not_listed containment_command containment_exact (λ a m c. check_not_listed c.0 m c.1) source most h
 not_listed (jobs.LeadingTerms false) source most w h = command_not_listed (leading_terms_command false) (leading_exact false) (λ a m c. cc) source most h
@@ -227,6 +232,7 @@ list_untested : (o : ListOptions) (n : ℕ) (fs : List Terms) (r : Refusal) → 
 list_untested o n fs r t (IsListCause.at_root e h q) = basis_untested e (subst IsOfTest q t)
 list_untested o n fs r t (IsListCause.going (IsGoingCause.in_tree e h q)) = tree_untested e (subst IsOfTest q t)
 list_untested o n fs r t (IsListCause.going (IsGoingCause.at_limit most h q)) = subst IsOfTest q t
+list_untested o n fs r t (IsListCause.going (IsGoingCause.at_certificates b k g u)) = certificate_untested u.0 (subst IsOfTest u.2 t)
 
 memory_untested : (r : Refusal) → IsOfTest r → r ≡ refusals.Memory → ⊥
 memory_untested r t m = subst IsOfTest m t
@@ -247,8 +253,8 @@ given_tested o = record {
 
 tests_of : (job : Job) → IsTestedCommand (command job)
 tests_of (jobs.Buchberger weighted revlex pairs) = untested (buchberger_command (options weighted revlex pairs)) (λ v r t h. basis_untested h.0 (subst IsOfTest h.1 t))
-tests_of (jobs.Bases false limit pairs workers) = untested (bases_command (list_options limit pairs)) (λ v r t h. list_untested (list_options limit pairs) (length v.0) (generators_of v.1.0) r t h)
-tests_of (jobs.Bases true limit pairs workers) = given_tested (list_options limit pairs)
+tests_of (jobs.Bases false limit pairs certificates workers) = untested (bases_command (list_options limit pairs certificates)) (λ v r t h. list_untested (list_options limit pairs certificates) (length v.0) (generators_of v.1.0) r t h)
+tests_of (jobs.Bases true limit pairs certificates workers) = given_tested (list_options limit pairs certificates)
 tests_of jobs.IsMarkedGroebnerBasis = untested marked_command (λ v r t h. test_cause_untested v.1 r t h)
 tests_of jobs.DoesIdealContain = containment_tested
 tests_of (jobs.LeadingTerms false) = untested (leading_terms_command false) (λ v r t h. memory_untested r t h)

@@ -1,33 +1,30 @@
 -- The list of `_bases -g`: a marked Gröbner basis is reduced and taken up to the root; and why it isn't written.
 -- To cite: few_members, reducible, reduced_is_node, reduced_own, root_starts, way_refused; given_performed, given_stopped_root, given_stopped_list, named_root;
 -- tree_work, tree_untested; given_work, root_within, given_once, given_refuses. The rest are steps.
-use Rattle.std.specs.Prelude.{◌≡◌, ◌⊎◌, ℕ, ◌<◌, List, [], ◌∷◌, length, map, Contains, Option, None, Some, IfSome, Err}
-use Rattle.std.specs.Io.KnownBytes.{Appends, Keeps}
-use Rattle.std.proofs.Common.{true, arith, refl, sym, ap, ◌∙◌, subst, inl, inr}
+use Rattle.std.specs.Prelude.{◌≡◌, ◌⊎◌, ℕ, List, [], ◌∷◌, length, map, Contains, Option, Some, Err}
+use Rattle.std.specs.Io.KnownBytes.{Keeps}
+use Rattle.std.proofs.Common.{true, refl, sym, ap, ◌∙◌, subst, inl, inr}
 use Rattle.std.proofs.KnownBytes.{Keeps-refl}
 use Rattle.std.proofs.lemmas.List.Sorted.{Contains-permutation, IsPermutation-sym}
 use Rattle.gf_frac.specs.Fraction.{◌*ℚ◌}
 use Rattle.gf_frac.proofs.FractionLaws.{one-*ℚ}
-use Rattle.gf_exponents.specs.Exponents.{Exponents}
 use Rattle.gf_exponents.specs.Orders.{lighter}
 use Rattle.gf_exponents.proofs.ExponentsLaws.{same-refl}
-use Rattle.gf_poly.specs.declared.error.PolyError.{PolyError}
-use Rattle.gf_poly.specs.declared.error.PolyError.TheVariants as errors
 use Rattle.gf_poly.specs.Polynomial.{coefficient}
 use Rattle.gf_poly.specs.Marking.{MarkedPolynomial, MarkedPolynomials, HaveVariables, polys, IsArranged}
-use Rattle.gf_ideal.specs.Membership.{AreInVariables, AreSameIdeal}
-use Rattle.gf_ideal.specs.Marks.{IsMarked, AreMarked, IsRealisedBy, IsRealisable}
-use Rattle.gf_ideal.specs.Reduction.{IsMonicForm, AreMonicForms}
+use Rattle.gf_ideal.specs.Membership.{AreInVariables}
+use Rattle.gf_ideal.specs.Marks.{AreMarked, IsRealisedBy, IsRealisable}
+use Rattle.gf_ideal.specs.Reduction.{AreMonicForms}
 use Rattle.gf_ideal.specs.Bases.{IsBasis, AreArranged}
 use Rattle.gf_ideal.proofs.ListLaws.{Contains-here, Contains-there}
 use Rattle.gf_ideal.proofs.MarkWeights.{mark-there}
 use Rattle.gf_ideal.proofs.BasisLaws.{basis_along}
-use Rattle.gf_division.specs.Autoreduction.{IsAutoreduced, IsReducedOf, IsAutoreductionRefusal}
+use Rattle.gf_division.specs.Autoreduction.{IsAutoreduced, IsReducedOf}
 use Rattle.gf_reduced.specs.declared.error.CheckError.{CheckError}
 use Rattle.gf_reduced.specs.declared.error.CheckError.TheVariants as check_errors
 use Rattle.gf_reduced.specs.Forms.{monic_of, monic_set}
 use Rattle.gf_reduced.specs.Markings.{IsMarkedGroebnerBasis, IsBasisOf}
-use Rattle.gf_reduced.specs.Refusals.{of_poly, IsBasisRefusal}
+use Rattle.gf_reduced.specs.Refusals.{of_poly}
 use Rattle.gf_reduced.proofs.FormLaws.{forms_marked_by}
 use Rattle.gf_reduced.proofs.GroebnerLaws.{polys_variables}
 use Rattle.gf_reduced.proofs.RefusalLaws.{basis_only_memory}
@@ -48,17 +45,17 @@ use Rattle.gf_items.specs.Items.{IsTextOf, from}
 use Rattle.gf_items.specs.Sources.{ring_marked_set}
 use Rattle.gf_items.specs.Commands.{IsOfTest, IsOfNumbers, TellsSame, IsOfWork, IsUnanswered, IsCommandRefused}
 use Rattle.gfan_main.specs.declared.bases.ListOptions.{ListOptions}
-use Rattle.gfan_main.specs.BasesList.{IsGivenByWeight}
-use Rattle.gfan_main.specs.Bases.{IsTextOfBases, of_tree, IsGoingCause}
+use Rattle.gfan_main.specs.Bases.{of_tree, IsGoingCause}
 use Rattle.gfan_main.specs.BasesWriting.{StartsAt, IsListWritten, IsListBegun, IsListStopped}
 use Rattle.gfan_main.specs.CheckedSets.{of_check}
-use Rattle.gfan_main.specs.GivenBasis.{IsTextFromBasis, IsWholeFromBasis, IsGivenRootRefusal, IsGivenListCause, IsGivenListWithin, given_bases_command}
+use Rattle.gfan_main.specs.GivenBasis.{IsGivenRootRefusal, IsGivenListCause, IsGivenListWithin}
 use Rattle.gfan_main.specs.Refused.{IsNamedBy}
 use Rattle.gfan_main.specs.Commands.{IsRefusalOf}
 use Rattle.gfan_main.specs.Performed.{IsPerformed, LeavesBegun, IsStopped}
 use Rattle.gfan_main.proofs.ReadSetLaws.{marked_kept}
 use Rattle.gfan_main.proofs.CheckedSetLaws.{named_check, named_numbers, check_work, poly_numbers, poly_untested, paired_once, paired_refutes}
 use Rattle.gfan_main.proofs.BasesListLaws.{given_node, start_of_root}
+use Rattle.gfan_main.proofs.CertificateLaws.{certificate_work, certificate_untested}
 
 -- ---- the basis reduced
 
@@ -133,21 +130,21 @@ named_root source ring s pairs r read (IsGivenRootRefusal.at_tails t d g a h q) 
 named_root source ring s pairs r read (IsGivenRootRefusal.on_the_way e g h q) = subst (IsNamedBy (Some ring)) (sym q) (named_tree ring e)
 
 module _ (o : ListOptions) (workers : ℕ) (source : List ℕ) (ring : List (List ℕ)) (s : MarkedPolynomials) (read : IsTextOf ring_marked_set source (ring, s)) where
-  pub given_performed : (held holds : Option (List ℕ)) → IsMarkedGroebnerBasis s.variables s.items → IsListWritten o ring (polys s.items) held holds → IsPerformed (jobs.Bases true o.limit o.pairs workers) source held holds
+  pub given_performed : (held holds : Option (List ℕ)) → IsMarkedGroebnerBasis s.variables s.items → IsListWritten o ring (polys s.items) held holds → IsPerformed (jobs.Bases true o.limit o.pairs o.certified workers) source held holds
   given_performed held holds g p = record {
     text = p.0;
     is_answer = record { value = (ring, s); read = read; answer = record { formed = tt; is_answer = record { basis = g; list = p.1 } } };
     gained = p.2;
   }
 
-  refused_here : (r : Refusal) → IsGivenListCause o (length ring) s r → IsRefusalOf (jobs.Bases true o.limit o.pairs workers) source r
+  refused_here : (r : Refusal) → IsGivenListCause o (length ring) s r → IsRefusalOf (jobs.Bases true o.limit o.pairs o.certified workers) source r
   refused_here r c = IsCommandRefused.behind_text (ring, s) read (IsUnanswered.in_work tt c)
 
   -- the root is refused before anything is written
-  pub given_stopped_root : (held : Option (List ℕ)) (n : ℕ) (r : Refusal) → IsGivenRootRefusal s o.pairs r → IsStopped (jobs.Bases true o.limit o.pairs workers) source held held n n r
+  pub given_stopped_root : (held : Option (List ℕ)) (n : ℕ) (r : Refusal) → IsGivenRootRefusal s o.pairs r → IsStopped (jobs.Bases true o.limit o.pairs o.certified workers) source held held n n r
   given_stopped_root held n r h = by_root h
     where
-      stop_check : (e : CheckError) → IsGivenListCause o (length ring) s (of_check e) → IsStopped (jobs.Bases true o.limit o.pairs workers) source held held n n (of_check e)
+      stop_check : (e : CheckError) → IsGivenListCause o (length ring) s (of_check e) → IsStopped (jobs.Bases true o.limit o.pairs o.certified workers) source held held n n (of_check e)
       stop_check (check_errors.Overflow x) c = (refused_here _ c, LeavesBegun.nothing (Keeps-refl held))
       stop_check (check_errors.Exponent x) c = (refused_here _ c, LeavesBegun.nothing (Keeps-refl held))
       stop_check (check_errors.NotReduced set i x) c = (refused_here _ c, LeavesBegun.nothing (Keeps-refl held))
@@ -156,7 +153,7 @@ module _ (o : ListOptions) (workers : ℕ) (source : List ℕ) (ring : List (Lis
       stop_check (check_errors.Cone x) c = (refused_here _ c, LeavesBegun.nothing (Keeps-refl held))
       stop_check check_errors.Memory c = (refused_here _ c, LeavesBegun.nothing (Keeps-refl held))
 
-      stop_tree : (e : TreeError) → IsGivenListCause o (length ring) s (of_tree e) → IsStopped (jobs.Bases true o.limit o.pairs workers) source held held n n (of_tree e)
+      stop_tree : (e : TreeError) → IsGivenListCause o (length ring) s (of_tree e) → IsStopped (jobs.Bases true o.limit o.pairs o.certified workers) source held held n n (of_tree e)
       stop_tree (tree_errors.Overflow x) c = (refused_here _ c, LeavesBegun.nothing (Keeps-refl held))
       stop_tree (tree_errors.Exponent x) c = (refused_here _ c, LeavesBegun.nothing (Keeps-refl held))
       stop_tree (tree_errors.PairBudget basis unsettled) c = (refused_here _ c, LeavesBegun.nothing (Keeps-refl held))
@@ -166,21 +163,21 @@ module _ (o : ListOptions) (workers : ℕ) (source : List ℕ) (ring : List (Lis
       cause_as : (z : Refusal) → r ≡ z → IsGivenListCause o (length ring) s z
       cause_as z q = subst (IsGivenListCause o (length ring) s) q (IsGivenListCause.at_root h)
 
-      by_root : IsGivenRootRefusal s o.pairs r → IsStopped (jobs.Bases true o.limit o.pairs workers) source held held n n r
-      by_root (IsGivenRootRefusal.at_check e k q) = subst (λ z. IsStopped (jobs.Bases true o.limit o.pairs workers) source held held n n z) (sym q) (stop_check e (cause_as (of_check e) q))
-      by_root (IsGivenRootRefusal.at_tails t d g a k q) = subst (λ z. IsStopped (jobs.Bases true o.limit o.pairs workers) source held held n n z) (sym q) (stop_check (of_poly d) (cause_as (of_check (of_poly d)) q))
-      by_root (IsGivenRootRefusal.on_the_way e g k q) = subst (λ z. IsStopped (jobs.Bases true o.limit o.pairs workers) source held held n n z) (sym q) (stop_tree e (cause_as (of_tree e) q))
+      by_root : IsGivenRootRefusal s o.pairs r → IsStopped (jobs.Bases true o.limit o.pairs o.certified workers) source held held n n r
+      by_root (IsGivenRootRefusal.at_check e k q) = subst (λ z. IsStopped (jobs.Bases true o.limit o.pairs o.certified workers) source held held n n z) (sym q) (stop_check e (cause_as (of_check e) q))
+      by_root (IsGivenRootRefusal.at_tails t d g a k q) = subst (λ z. IsStopped (jobs.Bases true o.limit o.pairs o.certified workers) source held held n n z) (sym q) (stop_check (of_poly d) (cause_as (of_check (of_poly d)) q))
+      by_root (IsGivenRootRefusal.on_the_way e g k q) = subst (λ z. IsStopped (jobs.Bases true o.limit o.pairs o.certified workers) source held held n n z) (sym q) (stop_tree e (cause_as (of_tree e) q))
 
-  refused_going : (r : Refusal) → IsMarkedGroebnerBasis s.variables s.items → IsGoingCause o (length ring) (polys s.items) r ⊎ (r ≡ refusals.Memory) → IsRefusalOf (jobs.Bases true o.limit o.pairs workers) source r
+  refused_going : (r : Refusal) → IsMarkedGroebnerBasis s.variables s.items → IsGoingCause o (length ring) (polys s.items) r ⊎ (r ≡ refusals.Memory) → IsRefusalOf (jobs.Bases true o.limit o.pairs o.certified workers) source r
   refused_going r g (inl c) = refused_here r (IsGivenListCause.going g c)
   refused_going r g (inr m) = IsCommandRefused.no_memory m
 
-  leaves_going : (held holds : Option (List ℕ)) (r : Refusal) → Keeps held holds ⊎ IsListBegun o ring (polys s.items) held holds r → LeavesBegun (jobs.Bases true o.limit o.pairs workers) source held holds r
+  leaves_going : (held holds : Option (List ℕ)) (r : Refusal) → Keeps held holds ⊎ IsListBegun o ring (polys s.items) held holds r → LeavesBegun (jobs.Bases true o.limit o.pairs o.certified workers) source held holds r
   leaves_going held holds r (inl k) = LeavesBegun.nothing k
   leaves_going held holds r (inr b) = LeavesBegun.beginning (record { text = b.0; begun = record { value = (ring, s); read = read; begun = b.1 }; gained = b.2 })
 
   -- the list is refused from the root on
-  pub given_stopped_list : (held holds : Option (List ℕ)) (n m : ℕ) (r : Refusal) → IsMarkedGroebnerBasis s.variables s.items → IsListStopped o ring (polys s.items) held holds n m r → IsStopped (jobs.Bases true o.limit o.pairs workers) source held holds n m r
+  pub given_stopped_list : (held holds : Option (List ℕ)) (n m : ℕ) (r : Refusal) → IsMarkedGroebnerBasis s.variables s.items → IsListStopped o ring (polys s.items) held holds n m r → IsStopped (jobs.Bases true o.limit o.pairs o.certified workers) source held holds n m r
   given_stopped_list held holds n m refusals.WriteFault g h = (h.0, record { text = h.1.0; is_whole = record { value = (ring, s); read = read; formed = tt; is_whole = record { basis = g; list = h.1.1 } }; gained = h.1.2 })
   given_stopped_list held holds n m (refusals.ListLimit most) g h = (
     refused_here (refusals.ListLimit most) (IsGivenListCause.going g h.0),
@@ -220,6 +217,7 @@ pub given_work : (o : ListOptions) (n : ℕ) (s : MarkedPolynomials) (r : Refusa
 given_work o n s r (IsGivenListCause.at_root h) = root_work s o.pairs r h
 given_work o n s r (IsGivenListCause.going g (IsGoingCause.in_tree e h q)) = subst IsOfWork (sym q) (tree_work e)
 given_work o n s r (IsGivenListCause.going g (IsGoingCause.at_limit most h q)) = subst IsOfWork (sym q) tt
+given_work o n s r (IsGivenListCause.going g (IsGoingCause.at_certificates b k m u)) = subst IsOfWork (sym u.2) (certificate_work u.0)
 
 pub root_within : (o : ListOptions) (n : ℕ) (s : MarkedPolynomials) (r : Refusal) → IsGivenListWithin o n s → IsGivenRootRefusal s o.pairs r → r ≡ refusals.Memory
 root_within o n s r w (IsGivenRootRefusal.at_check e h q) = q ∙ ap of_check (basis_only_memory {A = Unit {0}} 0 s (Err e) w.variables h w.checks w.basis)
@@ -235,6 +233,7 @@ root_tested s pairs r v t (IsGivenRootRefusal.on_the_way e b h q) g = tree_untes
 going_untested : (o : ListOptions) (n : ℕ) (s : MarkedPolynomials) (r : Refusal) → IsOfTest r → IsGoingCause o n (polys s.items) r → ⊥
 going_untested o n s r t (IsGoingCause.in_tree e h q) = tree_untested e (subst IsOfTest q t)
 going_untested o n s r t (IsGoingCause.at_limit most h q) = subst IsOfTest q t
+going_untested o n s r t (IsGoingCause.at_certificates b k m u) = certificate_untested u.0 (subst IsOfTest u.2 t)
 
 given_refutes : (o : ListOptions) (n : ℕ) (s : MarkedPolynomials) (r : Refusal) → HaveVariables s.variables s.items → IsOfTest r → IsGivenListCause o n s r → IsMarkedGroebnerBasis s.variables s.items → ⊥
 given_refutes o n s r v t (IsGivenListCause.at_root h) g = root_tested s o.pairs r v t h g

@@ -9,6 +9,7 @@ pub mod ContainmentLaws  -- whether an ideal contains polynomials
 pub mod RefusedLaws  -- which refusals are told without a ring
 pub mod BasesListLaws  -- the list of all bases, and what it has
 pub mod OneListLaws  -- an ideal has one list of all bases
+pub mod CertificateLaws  -- what stands for a basis is one text, and what its certificates show
 pub mod BasesTextLaws  -- pieces that follow one another are the text of the list
 pub mod BasesLaws  -- how the list is written
 pub mod GivenBasisLaws  -- the list from a basis that is given

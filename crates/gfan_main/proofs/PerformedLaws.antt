@@ -52,7 +52,7 @@ stopped_before job source held n r w h = at r h (refused_as_job job source r h)
 -- its answer is its whole text
 whole_answer : (job : Job) (source text : List ℕ) → WritesAtEnd job → IsAnswerTo job source text → IsWholeTextOf job source text
 whole_answer (jobs.Buchberger weighted revlex pairs) source text w a = record { value = a.value; read = a.read; formed = a.answer.formed; is_whole = a.answer.is_answer }
-whole_answer (jobs.Bases from_basis limit pairs workers) source text w a = absurd w
+whole_answer (jobs.Bases from_basis limit pairs certificates workers) source text w a = absurd w
 whole_answer jobs.IsMarkedGroebnerBasis source text w a = record { value = a.value; read = a.read; formed = a.answer.formed; is_whole = a.answer.is_answer }
 whole_answer jobs.DoesIdealContain source text w a = record { value = a.value; read = a.read; formed = a.answer.formed; is_whole = a.answer.is_answer }
 whole_answer (jobs.LeadingTerms false) source text w a = record { value = a.value; read = a.read; formed = a.answer.formed; is_whole = a.answer.is_answer }
@@ -89,18 +89,18 @@ without_vector source ring set None r = r
 without_vector source ring set (Some v) r = absurd r.read.two.two
 
 module _ (o : ListOptions) (workers : ℕ) (source : List ℕ) (ring : List (List ℕ)) (set : List Written) (read : IsTextOf (ring_set_vector false) source (ring, (set, None))) (held holds : Option (List ℕ)) where
-  pub performed_read : IsPerformedFor (bases_command o) (ring, (set, None)) held holds → IsPerformed (jobs.Bases false o.limit o.pairs workers) source held holds
+  pub performed_read : IsPerformedFor (bases_command o) (ring, (set, None)) held holds → IsPerformed (jobs.Bases false o.limit o.pairs o.certified workers) source held holds
   performed_read p = record { text = p.0; is_answer = record { value = (ring, (set, None)); read = read; answer = record { formed = tt; is_answer = p.1 } }; gained = p.2 }
 
-  refused_read : (r : Refusal) → (bases_command o).IsCause (ring, (set, None)) r ⊎ (r ≡ refusals.Memory) → IsRefusalOf (jobs.Bases false o.limit o.pairs workers) source r
+  refused_read : (r : Refusal) → (bases_command o).IsCause (ring, (set, None)) r ⊎ (r ≡ refusals.Memory) → IsRefusalOf (jobs.Bases false o.limit o.pairs o.certified workers) source r
   refused_read r (inl c) = IsCommandRefused.behind_text (ring, (set, None)) read (IsUnanswered.in_work tt c)
   refused_read r (inr m) = IsCommandRefused.no_memory m
 
-  leaves_read : (r : Refusal) → Keeps held holds ⊎ IsBegunAs (bases_command o) (ring, (set, None)) held holds r → LeavesBegun (jobs.Bases false o.limit o.pairs workers) source held holds r
+  leaves_read : (r : Refusal) → Keeps held holds ⊎ IsBegunAs (bases_command o) (ring, (set, None)) held holds r → LeavesBegun (jobs.Bases false o.limit o.pairs o.certified workers) source held holds r
   leaves_read r (inl k) = LeavesBegun.nothing k
   leaves_read r (inr b) = LeavesBegun.beginning (record { text = b.0; begun = record { value = (ring, (set, None)); read = read; begun = b.1 }; gained = b.2 })
 
-  pub stopped_read : (n m : ℕ) (r : Refusal) → IsStoppedFor (bases_command o) (ring, (set, None)) held holds n m r → IsStopped (jobs.Bases false o.limit o.pairs workers) source held holds n m r
+  pub stopped_read : (n m : ℕ) (r : Refusal) → IsStoppedFor (bases_command o) (ring, (set, None)) held holds n m r → IsStopped (jobs.Bases false o.limit o.pairs o.certified workers) source held holds n m r
   stopped_read n m refusals.WriteFault s = (s.0, record { text = s.1.0; is_whole = record { value = (ring, (set, None)); read = read; formed = tt; is_whole = s.1.1 }; gained = s.1.2 })
   stopped_read n m (refusals.ListLimit most) s = (
     refused_read (refusals.ListLimit most) (inl s.0),

@@ -7,7 +7,6 @@ use Rattle.gf_exponents.specs.SixOrders.{MonomialOrder}
 use Rattle.gf_poly.specs.Polynomial.{Terms}
 use Rattle.gf_poly.specs.Marking.{MarkedPolynomials}
 use Rattle.gf_text.specs.RingText.{ring_text}
-use Rattle.gf_text.specs.PrintedSets.{basis_text}
 use Rattle.gf_ideal.specs.Membership.{AreInVariables}
 use Rattle.gf_buchberger.specs.declared.bases.BasisError.{BasisError}
 use Rattle.gf_buchberger.specs.Bases.{IsArrangedBasis, IsBasisRefusal}
@@ -23,21 +22,36 @@ use Rattle.gfan_main.specs.declared.bases.Room.TheVariants.{Endless, Limited}
 use Rattle.gfan_main.specs.Buchberger.{of_basis}
 use Rattle.gfan_main.specs.Refused.{IsNamedBy}
 use Rattle.gfan_main.specs.BasesList.{AreAllBases}
-use Rattle.gfan_main.specs.Printing.{later_set_text}
-use Rattle.gfan_main.specs.Bases.{IsTextOfBases, IsBegunWhere, IsGoingCause, begun_text}
+use Rattle.gfan_main.specs.Certificates.{IsItemText, IsItemRefusal}
+use Rattle.gfan_main.specs.Bases.{later_item_text, AreItemTexts, IsTextOfBases, IsBegunWhere, IsGoingCause, begun_text}
 
 -- ---- pieces
 
--- the piece of a basis: with the first one the line of the ring and a brace, with each other one what parts them
-abbrev pub basis_piece : List (List ℕ) → Bool → MarkedPolynomials → List ℕ
-basis_piece ring true b = ring_text ring ++ 123 ∷ basis_text ring b.items
-basis_piece ring false b = later_set_text ring b
+-- the piece of what stands for a basis: with the first one the line of the ring and a brace, with each other one what parts them
+abbrev pub basis_piece : List (List ℕ) → Bool → List ℕ → List ℕ
+basis_piece ring true t = ring_text ring ++ 123 ∷ t
+basis_piece ring false t = later_item_text t
+
+-- the piece of this basis
+pub record IsPieceOf (certified : Bool) (ring : List (List ℕ)) (is_first : Bool) (b : MarkedPolynomials) (piece : List ℕ) : Type 0 where
+  pub item : List ℕ
+  pub is_item : IsItemText certified ring b item
+  pub is_piece : piece ≡ basis_piece ring is_first item
+
+-- it is written
+abbrev pub IsBasisWritten : Bool → List (List ℕ) → Bool → MarkedPolynomials → Option (List ℕ) → Option (List ℕ) → Type 0
+IsBasisWritten certified ring is_first b held holds = (piece : List ℕ) × IsPieceOf certified ring is_first b piece × Appends held holds piece
 
 -- why a piece isn't written whole: there is no memory, and nothing is; or a write failed, and a prefix is
 abbrev pub IsUnwritten : Option (List ℕ) → Option (List ℕ) → ℕ → ℕ → List ℕ → Refusal → Type 0
 IsUnwritten held holds written writes piece refusals.WriteFault = Rose written writes × AppendsPrefix held holds piece
 IsUnwritten held holds written writes piece refusals.Memory = Keeps held holds × (writes ≡ written)
 IsUnwritten held holds written writes piece _ = ⊥
+
+-- why a basis isn't written: its piece isn't made, and nothing is written; or it is made, and isn't written whole
+pub data IsBasisUnwritten (certified : Bool) (ring : List (List ℕ)) (is_first : Bool) (b : MarkedPolynomials) (held holds : Option (List ℕ)) (written writes : ℕ) (r : Refusal) : Type 0 where
+  unmade : holds ≡ held → writes ≡ written → IsItemRefusal certified b r → IsBasisUnwritten certified ring is_first b held holds written writes r
+  cut : (piece : List ℕ) → IsPieceOf certified ring is_first b piece → IsUnwritten held holds written writes piece r → IsBasisUnwritten certified ring is_first b held holds written writes r
 
 -- ---- room
 
@@ -77,15 +91,15 @@ pub record StartsAt (n : ℕ) (fs : List Terms) (root : MarkedPolynomials) : Typ
 
 -- the output gained all bases of the ideal of fs
 abbrev pub IsListWritten : ListOptions → List (List ℕ) → List Terms → Option (List ℕ) → Option (List ℕ) → Type 0
-IsListWritten o ring fs held holds = (text : List ℕ) × IsTextOfBases o.limit ring fs text × Appends held holds text
+IsListWritten o ring fs held holds = (text : List ℕ) × IsTextOfBases o.certified o.limit ring fs text × Appends held holds text
 
 -- it gained the beginning of that text that may stand where the list is refused so
 abbrev pub IsListBegun : ListOptions → List (List ℕ) → List Terms → Option (List ℕ) → Option (List ℕ) → Refusal → Type 0
-IsListBegun o ring fs held holds r = (text : List ℕ) × IsBegunWhere o.limit ring fs text r × Appends held holds text
+IsListBegun o ring fs held holds r = (text : List ℕ) × IsBegunWhere o ring fs text r × Appends held holds text
 
 -- why the list isn't written from its first basis on, and what stands of it
 abbrev pub IsListStopped : ListOptions → List (List ℕ) → List Terms → Option (List ℕ) → Option (List ℕ) → ℕ → ℕ → Refusal → Type 0
-IsListStopped o ring fs held holds written writes refusals.WriteFault = Rose written writes × ((text : List ℕ) × IsTextOfBases None ring fs text × AppendsPrefix held holds text)
+IsListStopped o ring fs held holds written writes refusals.WriteFault = Rose written writes × ((text : List ℕ) × IsTextOfBases o.certified None ring fs text × AppendsPrefix held holds text)
 IsListStopped o ring fs held holds written writes (refusals.ListLimit most) = IsGoingCause o (length ring) fs (refusals.ListLimit most) × IsListBegun o ring fs held holds (refusals.ListLimit most)
 IsListStopped o ring fs held holds written writes r = (IsGoingCause o (length ring) fs r ⊎ (r ≡ refusals.Memory)) × (Keeps held holds ⊎ IsListBegun o ring fs held holds r)
 
@@ -95,9 +109,9 @@ pub record IsUnnamed (e : Refused) : Type 0 where
   pub named : IsNamedBy None e.refusal
 
 -- whether nothing is written yet
-abbrev pub is_none_of : List MarkedPolynomials → Bool
+abbrev pub is_none_of : List (List ℕ) → Bool
 is_none_of [] = true
-is_none_of (b ∷ bs) = false
+is_none_of (t ∷ ts) = false
 
 -- the list is under way: some of its bases are written, and the rest is left in the row
 pub record IsUnderWay (o : ListOptions) (ring : List (List ℕ)) (fs : List Terms) (row : Row) (room : Room) (is_first : Bool) (held holds : Option (List ℕ)) : Type 0 where
@@ -108,5 +122,7 @@ pub record IsUnderWay (o : ListOptions) (ring : List (List ℕ)) (fs : List Term
   pub basis : IsNodeIn (ideal_by (length ring) fs) row.start
   pub pairs : row.pairs ≡ o.pairs
   pub fits : IsRoomFor o.limit room written
-  pub first : is_first ≡ is_none_of written
-  pub gained : Appends held holds (begun_text ring written)
+  pub items : List (List ℕ)
+  pub are_items : AreItemTexts o.certified ring written items
+  pub first : is_first ≡ is_none_of items
+  pub gained : Appends held holds (begun_text ring items)

@@ -24,14 +24,14 @@ abbrev pub options : Bool → Bool → ℕ → Options
 options weighted revlex pairs = record { weighted = weighted; revlex = revlex; pairs = pairs }
 
 -- the options of `_bases`
-abbrev pub list_options : Option ℕ → ℕ → ListOptions
-list_options limit pairs = record { limit = limit; pairs = pairs }
+abbrev pub list_options : Option ℕ → ℕ → Bool → ListOptions
+list_options limit pairs certificates = record { limit = limit; pairs = pairs; certified = certificates }
 
 -- the command of a job; that of `_bases` is the same for every number of workers
 abbrev pub command : Job → Command
 command (jobs.Buchberger weighted revlex pairs) = buchberger_command (options weighted revlex pairs)
-command (jobs.Bases false limit pairs workers) = bases_command (list_options limit pairs)
-command (jobs.Bases true limit pairs workers) = given_bases_command (list_options limit pairs)
+command (jobs.Bases false limit pairs certificates workers) = bases_command (list_options limit pairs certificates)
+command (jobs.Bases true limit pairs certificates workers) = given_bases_command (list_options limit pairs certificates)
 command jobs.IsMarkedGroebnerBasis = marked_command
 command jobs.DoesIdealContain = containment_command
 command (jobs.LeadingTerms listed) = leading_terms_command listed
@@ -63,7 +63,7 @@ IsWithinReach job source = IsInReach (command job) source
 
 -- the job writes one piece at its end; `_bases` alone writes as it goes
 abbrev pub WritesAtEnd : Job → Type 0
-WritesAtEnd (jobs.Bases from_basis limit pairs workers) = ⊥
+WritesAtEnd (jobs.Bases from_basis limit pairs certificates workers) = ⊥
 WritesAtEnd _ = Unit {0}
 
 -- ---- kinds of refusals

@@ -1,8 +1,8 @@
 -- `_bases -g`: a marked Gröbner basis is read in place of generators. What is written, and why it isn't.
-use Rattle.std.specs.Prelude.{◌≡◌, ℕ, List, [], length, None}
+use Rattle.std.specs.Prelude.{◌≡◌, ℕ, Bool, List, [], length, None}
 use Rattle.gf_poly.specs.declared.error.PolyError.{PolyError}
 use Rattle.gf_poly.specs.declared.error.PolyError.TheVariants as errors
-use Rattle.gf_poly.specs.Marking.{MarkedPolynomial, MarkedPolynomials, HaveVariables, polys, IsArranged}
+use Rattle.gf_poly.specs.Marking.{MarkedPolynomials, HaveVariables, polys, IsArranged}
 use Rattle.gf_division.specs.Autoreduction.{IsAutoreductionRefusal}
 use Rattle.gf_reduced.specs.declared.error.CheckError.{CheckError}
 use Rattle.gf_reduced.specs.Forms.{monic_set}
@@ -16,7 +16,7 @@ use Rattle.gf_items.specs.Sources.{ring_marked_set}
 use Rattle.gf_items.specs.Commands.{Command}
 use Rattle.gfan_main.specs.declared.bases.ListOptions.{ListOptions}
 use Rattle.gfan_main.specs.BasesList.{AreAllBases}
-use Rattle.gfan_main.specs.Bases.{IsWithinLimit, IsTextOfBases, IsBegunWhere, of_tree, IsGoingCause}
+use Rattle.gfan_main.specs.Bases.{IsWithinLimit, IsTextOfBases, IsBegunWhere, of_tree, IsGoingCause, AreCertifiedWithin}
 use Rattle.gfan_main.specs.CheckedSets.{of_check}
 
 -- ---- what is written
@@ -25,12 +25,12 @@ use Rattle.gfan_main.specs.CheckedSets.{of_check}
 -- than the limit
 pub record IsTextFromBasis (o : ListOptions) (ring : List (List ℕ)) (s : MarkedPolynomials) (text : List ℕ) : Type 0 where
   pub basis : IsMarkedGroebnerBasis s.variables s.items
-  pub list : IsTextOfBases o.limit ring (polys s.items) text
+  pub list : IsTextOfBases o.certified o.limit ring (polys s.items) text
 
 -- the same without a limit
-pub record IsWholeFromBasis (ring : List (List ℕ)) (s : MarkedPolynomials) (text : List ℕ) : Type 0 where
+pub record IsWholeFromBasis (certified : Bool) (ring : List (List ℕ)) (s : MarkedPolynomials) (text : List ℕ) : Type 0 where
   pub basis : IsMarkedGroebnerBasis s.variables s.items
-  pub list : IsTextOfBases None ring (polys s.items) text
+  pub list : IsTextOfBases certified None ring (polys s.items) text
 
 -- ---- why it isn't written
 
@@ -49,7 +49,7 @@ pub data IsGivenListCause (o : ListOptions) (n : ℕ) (s : MarkedPolynomials) (r
   going : IsMarkedGroebnerBasis s.variables s.items → IsGoingCause o n (polys s.items) r → IsGivenListCause o n s r
 
 -- the set, in its variables as any that is read, is a basis, no operation of its checks leaves its limits, nor one of reducing it, nor one
--- of the search at a basis of the ideal, and the list isn't longer than its limit
+-- of the search at a basis of the ideal, nor one of its certificates where they are asked for, and the list isn't longer than its limit
 pub record IsGivenListWithin (o : ListOptions) (n : ℕ) (s : MarkedPolynomials) : Type 0 where
   pub variables : HaveVariables s.variables s.items
   pub same : s.variables ≡ n
@@ -58,6 +58,7 @@ pub record IsGivenListWithin (o : ListOptions) (n : ℕ) (s : MarkedPolynomials)
   pub tails : (t : MarkedPolynomials) (d : PolyError) → IsArranged (monic_set s) t → IsAutoreductionRefusal t.items d → d ≡ errors.Memory
   pub tree : IsTreeWithinLimits (ideal_by n (polys s.items)) o.pairs
   pub few : (list : List MarkedPolynomials) → AreAllBases n (polys s.items) list → IsWithinLimit o.limit list
+  pub certificates : AreCertifiedWithin o n (polys s.items)
 
 -- ---- the command
 
@@ -67,8 +68,8 @@ given_bases_command o = record {
   items = ring_marked_set;
   checks = λ v. [];
   IsAnswer = λ v text. IsTextFromBasis o v.0 v.1 text;
-  IsWhole = λ v text. IsWholeFromBasis v.0 v.1 text;
+  IsWhole = λ v text. IsWholeFromBasis o.certified v.0 v.1 text;
   IsCause = λ v r. IsGivenListCause o (length v.0) v.1 r;
-  IsBegun = λ v text r. IsBegunWhere o.limit v.0 (polys v.1.items) text r;
+  IsBegun = λ v text r. IsBegunWhere o v.0 (polys v.1.items) text r;
   IsWithin = λ v. IsGivenListWithin o (length v.0) v.1;
 }

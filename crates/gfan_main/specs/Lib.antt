@@ -13,7 +13,9 @@ pub mod PolynomialSetUnion  -- what `_polynomialsetunion` reads and writes
 pub mod Stats  -- what `_stats` reads and writes
 pub mod BasesList  -- the list of all bases of an ideal
 pub mod OneList  -- an ideal has one such list
+pub mod Certificates  -- what stands for a basis in the list, with certificates or without
 pub mod Bases  -- what `_bases` reads and writes
+pub mod CertifiedBases  -- what certificates show
 pub mod GivenBasis  -- what `_bases -g` reads and writes
 pub mod Refused  -- a refusal with the ring in whose names it is told
 pub mod BasesWriting  -- how `_bases` writes its list

@@ -11,7 +11,8 @@ use Rattle.gfan_main.specs.Commands.{IsAnswerTo}
 abbrev pub ListsAreOne : Type 0
 ListsAreOne = (n : ℕ) (fs : List Terms) (list other : List MarkedPolynomials) → AreInVariables n fs → AreAllBases n fs list → AreAllBases n fs other → list ≡ other
 
--- two runs of `_bases` that come to the end of the list of one source have written the same text, whatever the numbers of their workers were,
--- and their limits and budgets
+-- two runs of `_bases`, both with certificates or both without, that come to the end of the list of one source have written the same
+-- text, whatever the numbers of their workers were, and their limits and budgets
 abbrev pub TextsAreOne : Type 0
-TextsAreOne = (from_basis : Bool) (limit other : Option ℕ) (pairs budget workers others : ℕ) (source text same : List ℕ) → IsAnswerTo (jobs.Bases from_basis limit pairs workers) source text → IsAnswerTo (jobs.Bases from_basis other budget others) source same → text ≡ same
+TextsAreOne = (from_basis certificates : Bool) (limit other : Option ℕ) (pairs budget workers others : ℕ) (source text same : List ℕ) → IsAnswerTo (jobs.Bases from_basis limit pairs certificates workers) source text →
+    IsAnswerTo (jobs.Bases from_basis other budget certificates others) source same → text ≡ same

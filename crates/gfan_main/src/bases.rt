@@ -3,14 +3,17 @@ ghost use Rattle.std.specs.Prelude.{◌≡◌, ◌≤◌, false, [], length, Lis
 ghost use Rattle.std.specs.Io.KnownBytes.{Appends};
 ghost use Rattle.gf_poly.specs.Polynomial.{Terms};
 ghost use Rattle.gf_poly.specs.Marking.{polys};
+ghost use Rattle.gf_text.specs.PrintedSets.{basis_text};
 ghost use Rattle.gf_text.specs.Sets.{AreIn};
 ghost use Rattle.gfan_main.specs.Buchberger.{generators_of};
+ghost use Rattle.gfan_main.specs.Certificates.{IsItemRefusal};
 ghost use Rattle.gfan_main.specs.Bases.{bases_command};
-ghost use Rattle.gfan_main.specs.BasesWriting.{basis_piece, IsUnwritten, IsRoomFor, IsOneLess, IsFull, IsFirstBasis, IsRootRefusal, StartsAt, IsListWritten, IsListStopped, IsUnnamed};
+ghost use Rattle.gfan_main.specs.BasesWriting.{basis_piece, IsPieceOf, IsBasisWritten, IsUnwritten, IsBasisUnwritten, IsRoomFor, IsOneLess, IsFull, IsFirstBasis, IsRootRefusal, StartsAt, IsListWritten, IsListStopped, IsUnnamed};
 ghost use Rattle.gfan_main.specs.Performed.{IsPerformed, IsStopped, IsPerformedFor, IsStoppedFor};
 ghost use Rattle.gfan_main.specs.Refused.{IsOfSource};
 
 use crate::buchberger::polynomials;
+use crate::certificates::push_certified;
 use crate::refused::Refused;
 use gf_buchberger::basis;
 use gf_front::{Job, Refusal};
@@ -31,6 +34,8 @@ pub struct ListOptions {
     pub limit: Option<u64>,
     /// How many pairs each run of Buchberger's algorithm settles at most.
     pub pairs: u64,
+    /// Each basis is followed by its weight, and by the facets that a flip may cross, each with a witness.
+    pub certified: bool,
 }
 
 // ---- how many may be written
@@ -87,7 +92,7 @@ fn offer<K: Sink>(output: &mut K, piece: &[u8]) -> Result<(), Refusal>
     }
 }
 
-// The piece of a basis: with the first one the line of the ring and a brace, with each other one what parts them.
+// The piece of a basis alone: with the first one the line of the ring and a brace, with each other one what parts them.
 fn piece(
     alloc: Global,
     ring: &Ring,
@@ -95,7 +100,7 @@ fn piece(
     is_first: bool,
 ) -> Result<Vec<u8>, AllocError>
     requires { basis.now.variables ≡ length ring.now }
-    ensures { IfOk result (λ text. text.items ≡ basis_piece ring.now is_first basis.now) }
+    ensures { IfOk result (λ text. text.items ≡ basis_piece ring.now is_first (basis_text ring.now basis.now.items)) }
 {
     let mut text = Vec::new(alloc);
     if is_first {
@@ -108,25 +113,42 @@ fn piece(
     Ok(text)
 }
 
+// The piece of a basis, with its certificates where they are asked for.
+fn item_piece(
+    alloc: Global,
+    ring: &Ring,
+    basis: &MarkedSet,
+    is_first: bool,
+    certified: bool,
+) -> Result<Vec<u8>, Refusal>
+    requires { basis.now.variables ≡ length ring.now }
+    ensures ok { IfOk result (λ text. IsPieceOf certified ring.now is_first basis.now text.items) }
+    ensures err { IfErr result (IsItemRefusal certified basis.now) }
+{
+    let mut text = piece(alloc, ring, basis, is_first)?;
+    if certified {
+        push_certified(&mut text, alloc, basis)?;
+    }
+    Ok(text)
+}
+
 // Writes the piece of a basis.
 fn write_basis<K: Sink>(
     alloc: Global,
     ring: &Ring,
     basis: &MarkedSet,
     is_first: bool,
+    certified: bool,
     output: &mut K,
 ) -> Result<(), Refusal>
     requires { basis.now.variables ≡ length ring.now }
-    ensures all { OnOk result (Appends (K.held output.old) (K.held output.new)
-        (basis_piece ring.now is_first basis.now)) }
-    ensures err { IfErr result (IsUnwritten (K.held output.old) (K.held output.new) (K.faults output.old)
-        (K.faults output.new) (basis_piece ring.now is_first basis.now)) }
+    ensures all { OnOk result (IsBasisWritten certified ring.now is_first basis.now (K.held output.old)
+        (K.held output.new)) }
+    ensures err { IfErr result (IsBasisUnwritten certified ring.now is_first basis.now (K.held output.old)
+        (K.held output.new) (K.faults output.old) (K.faults output.new)) }
     ensures calm { OnOk result (K.faults output.new ≡ K.faults output.old) }
 {
-    let text = match piece(alloc, ring, basis, is_first) {
-        Ok(text) => text,
-        Err(_) => return Err(Refusal::Memory),
-    };
+    let text = item_piece(alloc, ring, basis, is_first, certified)?;
     offer(output, &text)
 }
 
@@ -186,7 +208,7 @@ pub(crate) fn write_from<R: Threads + Sync, K: Sink, G: Gate>(
     let mut is_first = true;
     'list: while let Some(basis) = waves.next_written(rt)? {
         room = room.with_one_more()?;
-        write_basis(alloc, ring, &basis, is_first, output)?;
+        write_basis(alloc, ring, &basis, is_first, options.certified, output)?;
         is_first = false;
     }
     offer(output, b"}\n")?;
@@ -220,7 +242,8 @@ fn write_list<R: Threads + Sync, K: Sink, G: Gate>(
 }
 
 /// Writes the ring of the source in a line, and then all marked reduced Gröbner bases of the ideal of its set, each as soon as it is
-/// found: the first with the ring, and each other one behind a line end, a comma and a line end; last the brace that ends the list.
+/// found: the first with the ring, and each other one behind a line end, a comma and a line end; last the brace that ends the list. With
+/// certificates each basis is followed by its printed weight and by the facets that a flip may cross, each with its printed witness.
 ///
 /// The list is worked off by so many workers, and it is the same for every number of them; before each of their jobs the gate is called.
 /// It begins at the basis by degree and then lex. Every other basis comes from the one above it, across a facet of its cone; the
@@ -233,7 +256,10 @@ fn write_list<R: Threads + Sync, K: Sink, G: Gate>(
 ///   in it, at the first token after which no such text goes on; nothing is written then.
 /// - `Overflow` and `ExponentOverflow` only at a sum of the text, at an operation that a run of Buchberger's algorithm on the set by
 ///   degree and then lex may have, or at one of a flip at a basis of the ideal across a flippable normal; the operands don't fit.
-/// - `ConeOverflow` only at a step of the system that tells whether a normal of such a basis is flippable.
+/// - `ConeOverflow` only at a step of the system that tells whether a normal of such a basis is flippable; with certificates also at one of
+///   finding the rays of such a basis's cone, cut with the orthant.
+/// - `WideVector` only with certificates, at a sum of entries of these rays: of all, or of those on which the normal of a facet is zero that
+///   a flip may cross.
 /// - `PairBudget` only where such a run or flip would have to settle more than `pairs` pairs.
 /// - `ListLimit` exactly where as many bases as the limit are written, and a further one was found.
 /// - `WriteFault` only where a write failed; a prefix of the text of the whole list is written then.
@@ -250,9 +276,9 @@ pub(crate) fn perform<R: Threads + Sync, K: Sink, G: Gate>(
 ) -> Result<(), Refused>
     requires some { 1 ≤ workers }
     requires most { workers ≤ 64 }
-    ensures done { OnOk result (IsPerformed (Job.Bases false options.limit options.pairs workers) source.now
+    ensures done { OnOk result (IsPerformed (Job.Bases false options.limit options.pairs options.certified workers) source.now
         (K.held output.old) (K.held output.new)) }
-    ensures stopped { IfErr result (λ e. IsStopped (Job.Bases false options.limit options.pairs workers) source.now
+    ensures stopped { IfErr result (λ e. IsStopped (Job.Bases false options.limit options.pairs options.certified workers) source.now
         (K.held output.old) (K.held output.new) (K.faults output.old) (K.faults output.new) e.refusal) }
     ensures told { IfErr result (IsOfSource source.now) }
     ensures calm { MatchResult result (λ _. K.faults output.new ≡ K.faults output.old)

@@ -94,11 +94,13 @@ pub(crate) fn perform<R: Threads + Sync, K: Sink, G: Gate>(
             from_basis,
             limit,
             pairs,
+            certificates,
             workers,
         } => {
             let options = ListOptions {
                 limit: *limit,
                 pairs: *pairs,
+                certified: *certificates,
             };
             if *from_basis {
                 given_basis::perform(rt, alloc, source, options, *workers, output, gate)

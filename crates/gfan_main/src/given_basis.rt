@@ -55,9 +55,9 @@ fn root_of(alloc: Global, marked: &MarkedSet, pairs: u64) -> Result<MarkedSet, R
 /// - `Inconsistent` exactly where no positive weight gives the marking, with multipliers that show it.
 /// - `NotBasis` exactly where one does, and the S-polynomial of two members made monic has another normal form than zero: the first
 ///   such pair, with that normal form.
-/// - `Overflow`, `ExponentOverflow`, `ConeOverflow` only at an operation of the checks, of reducing the set, or of the search at a
-///   basis of the ideal, whose operands don't fit.
-/// - `PairBudget`, `ListLimit` and `WriteFault` as `bases::perform` has them.
+/// - `Overflow`, `ExponentOverflow`, `ConeOverflow` only at an operation of the checks, of reducing the set, or of the search or the
+///   certificates at a basis of the ideal, whose operands don't fit.
+/// - `WideVector`, `PairBudget`, `ListLimit` and `WriteFault` as `bases::perform` has them.
 pub(crate) fn perform<R: Threads + Sync, K: Sink, G: Gate>(
     rt: &R,
     alloc: Global,
@@ -69,9 +69,9 @@ pub(crate) fn perform<R: Threads + Sync, K: Sink, G: Gate>(
 ) -> Result<(), Refused>
     requires some { 1 ≤ workers }
     requires most { workers ≤ 64 }
-    ensures done { OnOk result (IsPerformed (Job.Bases true options.limit options.pairs workers) source.now
+    ensures done { OnOk result (IsPerformed (Job.Bases true options.limit options.pairs options.certified workers) source.now
         (K.held output.old) (K.held output.new)) }
-    ensures stopped { IfErr result (λ e. IsStopped (Job.Bases true options.limit options.pairs workers) source.now
+    ensures stopped { IfErr result (λ e. IsStopped (Job.Bases true options.limit options.pairs options.certified workers) source.now
         (K.held output.old) (K.held output.new) (K.faults output.old) (K.faults output.new) e.refusal) }
     ensures told { IfErr result (IsOfSource source.now) }
     ensures calm { MatchResult result (λ _. K.faults output.new ≡ K.faults output.old)

@@ -1,6 +1,7 @@
 // What the list of `_bases` has: laws, each the contract of a function that computes nothing.
 ghost use Rattle.gfan_main.specs.BasesList.{WeightsAreServed};
 ghost use Rattle.gfan_main.specs.OneList.{ListsAreOne, TextsAreOne};
+ghost use Rattle.gfan_main.specs.CertifiedBases.{CertificatesHold};
 
 /// A basis is in the list that `_bases` writes exactly where some positive weight gives it. For each positive weight for which monomials
 /// generate the initial ideal its reduced basis is there, once; and each positive weight lies in the closed cone of a basis that is
@@ -17,4 +18,11 @@ pub fn lists_are_one()
 /// Two runs of `_bases` that write the whole list for one source have written the same bytes, whatever their numbers of workers are.
 pub fn texts_are_one()
     ensures { TextsAreOne }
+{}
+
+/// In a list that `_bases` writes with certificates, each basis is the reduced one for the positive weight that is printed behind it; and
+/// exactly the facets that a flip may cross stand there, each with a positive vector that is zero on the facet's normal and positive
+/// on all other normals (Fukuda, Jensen, Thomas, *Computing Gröbner fans*, 2 and 4).
+pub fn certificates_hold()
+    ensures { CertificatesHold }
 {}

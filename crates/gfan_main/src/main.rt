@@ -14,6 +14,7 @@ ghost use Rattle.gf_front.specs.Lines.{code_of};
 
 mod bases;
 mod buchberger;
+mod certificates;
 mod checks;
 mod commands;
 mod containment;

@@ -6,7 +6,7 @@ use Rattle.gf_reverse.specs.Upward.{IsNode}
 use Rattle.gf_subtree.specs.Answers.{IsRowStep, IsRowEnd, IsRowAnswer}
 use Rattle.gfan_main.specs.BasesWriting.{IsUnderWay, IsListStopped}
 use Rattle.gfan_main.proofs.BasesListLaws.{first_node, first_own}
-use Rattle.gfan_main.proofs.BasesLaws.{starts, step_variables, goes_on, ends, stopped_early, stopped_tree, stopped_limit, stopped_piece, stopped_end, unnamed_tree}
+use Rattle.gfan_main.proofs.BasesLaws.{starts, step_variables, goes_on, ends, stopped_early, stopped_tree, stopped_limit, stopped_piece, stopped_end, unnamed_tree, unnamed_piece, piece_calm}
 use Rattle.gfan_main.proofs.bases.write_from.Goals as goal
 
 pub new-requires-clause-basis : goal.new-requires-clause-basis
@@ -75,3 +75,13 @@ pub returns-clause-done : goal.returns-clause-done
 returns-clause-done g c =
     let end : IsRowEnd c.list.waves c.next_written.new.self = subst (λ o. IsRowAnswer c.list.waves c.next_written.new.self o) c.in_default.is c.in_ok-basis.ensures.ok in
     λ fs s. ends c.args.options c.args.ring.now fs c.list.waves c.list.room c.list.is_first (g.K.Sink.held c.args.output.now) (g.K.Sink.held c.list.output) (c.list.invariant.under_way fs s) c.next_written.new.self end (g.K.Sink.held c.offer.new.output) c.in_ok-offer.ensures.all
+
+pub returns-in_err-write_basis-clause-told : goal.returns-in_err-write_basis-clause-told
+returns-in_err-write_basis-clause-told g c =
+    let p = err_from_is_err_and c.from_residual-in_err-write_basis.result c.from_residual-in_err-write_basis.ensures.1 in
+    rw (p.1, p.2) (unnamed_piece c.args.options.certified c.args.ring.now c.list.is_first c.in-Some.basis (g.K.Sink.held c.list.output) (g.K.Sink.held c.write_basis.new.output) (g.K.Sink.faults c.list.output) (g.K.Sink.faults c.write_basis.new.output) c.in_err-write_basis.field-0.0 c.in_err-write_basis.ensures.err)
+
+pub returns-in_err-write_basis-clause-calm : goal.returns-in_err-write_basis-clause-calm
+returns-in_err-write_basis-clause-calm g c =
+    let p = err_from_is_err_and c.from_residual-in_err-write_basis.result c.from_residual-in_err-write_basis.ensures.1 in
+    rw (p.1, p.2) (λ never. piece_calm c.args.options.certified c.args.ring.now c.list.is_first c.in-Some.basis (g.K.Sink.held c.list.output) (g.K.Sink.held c.write_basis.new.output) (g.K.Sink.faults c.list.output) (g.K.Sink.faults c.write_basis.new.output) (g.K.Sink.faults c.args.output.now) c.in_err-write_basis.field-0.0 c.in_err-write_basis.ensures.err c.list.invariant.calm never)

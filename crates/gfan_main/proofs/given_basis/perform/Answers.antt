@@ -6,13 +6,13 @@ use Rattle.gf_items.specs.Commands.{IsCommandRefused}
 use Rattle.gfan_main.specs.BasesWriting.{StartsAt}
 use Rattle.gfan_main.proofs.BasesListLaws.{own_start}
 use Rattle.gfan_main.proofs.GivenBasisLaws.{given_performed, given_stopped_root, given_stopped_list, named_root}
-use Rattle.gfan_main.proofs.PerformedLaws.{stopped_text, of_unnamed, on_err, on_ok}
+use Rattle.gfan_main.proofs.PerformedLaws.{stopped_text, on_err, on_ok}
 use Rattle.gfan_main.proofs.given_basis.perform.Goals as goal
 
 pub returns-in_err-ring-clause-stopped : goal.returns-in_err-ring-clause-stopped
 returns-in_err-ring-clause-stopped g c =
     let p = err_from_is_err_and c.from_residual.result c.from_residual.ensures.1 in
-    rw (p.1, p.2) (stopped_text (jobs.Bases true c.args.options.limit c.args.options.pairs c.args.workers) c.args.source.now (g.K.Sink.held c.args.output.now) (g.K.Sink.faults c.args.output.now) c.in_err-ring.field-0.0 (IsCommandRefused.in_text c.in_err-ring.field-0.0 c.in_err-ring.ensures.err refl))
+    rw (p.1, p.2) (stopped_text (jobs.Bases true c.args.options.limit c.args.options.pairs c.args.options.certified c.args.workers) c.args.source.now (g.K.Sink.held c.args.output.now) (g.K.Sink.faults c.args.output.now) c.in_err-ring.field-0.0 (IsCommandRefused.in_text c.in_err-ring.field-0.0 c.in_err-ring.ensures.err refl))
 
 pub returns-in-Err-clause-stopped : goal.returns-in-Err-clause-stopped
 returns-in-Err-clause-stopped g c =

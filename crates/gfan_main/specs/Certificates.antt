@@ -1,0 +1,63 @@
+-- What stands for a basis in the list of `_bases`: its text, and where certificates are asked for its printed weight and the facets that
+-- a flip may cross, each with its printed witness. Laws: proofs/CertificateLaws.antt.
+use Rattle.std.specs.Prelude.{◌≡◌, ℕ, Bool, true, false, List, [], ◌∷◌, ◌++◌, ℤ, flat_map}
+use Rattle.gf_poly.specs.Marking.{MarkedPolynomials}
+use Rattle.gf_text.specs.PrintedSets.{basis_text}
+use Rattle.gf_text.specs.VectorText.{vector_text}
+use Rattle.gf_weights.specs.declared.certificates.FacetWitness.{FacetWitness}
+use Rattle.gf_weights.specs.declared.error.WeightError.{WeightError}
+use Rattle.gf_weights.specs.declared.error.WeightError.TheVariants as weight_errors
+use Rattle.gf_weights.specs.Weights.{IsPrintedWeight, AreWitnessed}
+use Rattle.gf_weights.specs.Refusals.{IsCertificateCause}
+use Rattle.gf_front.specs.declared.refusal.Refusal.{Refusal}
+use Rattle.gf_front.specs.declared.refusal.Refusal.TheVariants as refusals
+
+-- ---- the text
+
+-- a facet: its normal and its witness, with a comma between them, in braces
+abbrev pub facet_text : FacetWitness → List ℕ
+facet_text f = 123 ∷ (vector_text f.normal ++ 44 ∷ (vector_text f.witness ++ 125 ∷ []))
+
+-- a comma, a line end, and a facet
+abbrev pub later_facet_text : FacetWitness → List ℕ
+later_facet_text f = 44 ∷ 10 ∷ facet_text f
+
+-- facets, with a comma and a line end between them
+abbrev pub facets_text : List FacetWitness → List ℕ
+facets_text [] = []
+facets_text (f ∷ fs) = facet_text f ++ flat_map later_facet_text fs
+
+-- a line end, the weight, a line end, and the facets in braces
+abbrev pub certificates_text : List ℤ → List FacetWitness → List ℕ
+certificates_text weight facets = 10 ∷ (vector_text weight ++ 10 ∷ 123 ∷ (facets_text facets ++ 125 ∷ []))
+
+-- the certificates of a basis: its printed weight, and exactly the facets that a flip may cross, their normals ascending, each with its
+-- printed witness
+pub record IsCertificatesText (b : MarkedPolynomials) (text : List ℕ) : Type 0 where
+  pub weight : List ℤ
+  pub facets : List FacetWitness
+  pub is_weight : IsPrintedWeight b.variables b.items weight
+  pub are_witnessed : AreWitnessed b.variables b.items facets
+  pub is_text : text ≡ certificates_text weight facets
+
+-- what stands for a basis in the list: its text, with certificates followed by those
+abbrev pub IsItemText : Bool → List (List ℕ) → MarkedPolynomials → List ℕ → Type 0
+IsItemText false ring b text = text ≡ basis_text ring b.items
+IsItemText true ring b text = (told : List ℕ) × IsCertificatesText b told × (text ≡ basis_text ring b.items ++ told)
+
+-- ---- refusals
+
+-- why weights and witnesses aren't told, as a refusal of the run
+abbrev pub of_certificate : WeightError → Refusal
+of_certificate (weight_errors.Cone o) = refusals.ConeOverflow o.row o.op o.left o.right
+of_certificate (weight_errors.Wide w) = refusals.WideVector w
+of_certificate weight_errors.Memory = refusals.Memory
+
+-- an operation of finding the rays of the basis's cone, cut with the orthant, or of adding up those that are printed, is refused
+abbrev pub IsUncertified : MarkedPolynomials → Refusal → Type 0
+IsUncertified b r = (e : WeightError) × IsCertificateCause b.variables b.items e × (r ≡ of_certificate e)
+
+-- why the text isn't made
+abbrev pub IsItemRefusal : Bool → MarkedPolynomials → Refusal → Type 0
+IsItemRefusal false b r = r ≡ refusals.Memory
+IsItemRefusal true b r = IsUncertified b r
