@@ -6,6 +6,8 @@ pub mod BuchbergerLaws  -- what `_buchberger` answers
 pub mod ReadSetLaws  -- what is kept of a set that is read
 pub mod CheckedSetLaws  -- what is answered for a marked set, and why it isn't taken
 pub mod ContainmentLaws  -- whether an ideal contains polynomials
+pub mod ZipLaws  -- two lists, element by element
+pub mod WeightVectorLaws  -- the weights of sets
 pub mod RefusedLaws  -- which refusals are told without a ring
 pub mod BasesListLaws  -- the list of all bases, and what it has
 pub mod OneListLaws  -- an ideal has one list of all bases
@@ -14,6 +16,7 @@ pub mod BasesTextLaws  -- pieces that follow one another are the text of the lis
 pub mod BasesLaws  -- how the list is written
 pub mod GivenBasisLaws  -- the list from a basis that is given
 pub mod ExactLaws  -- a source is answered in one way
+pub mod GivingWeightsLaws  -- the weights that `_weightvector` writes give the bases that it read
 pub mod OneTextLaws  -- what `_bases` writes for a source is one text
 pub mod PerformedLaws  -- what a job does to the output
 pub mod OutcomeLaws  -- how a run ends

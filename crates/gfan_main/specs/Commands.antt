@@ -18,6 +18,7 @@ use Rattle.gfan_main.specs.InitialForms.{initial_forms_command}
 use Rattle.gfan_main.specs.Homogenize.{homogenize_command}
 use Rattle.gfan_main.specs.PolynomialSetUnion.{polynomial_set_union_command}
 use Rattle.gfan_main.specs.Stats.{stats_command}
+use Rattle.gfan_main.specs.WeightVector.{weight_vector_command}
 
 -- the options of `_buchberger`
 abbrev pub options : Bool → Bool → ℕ → Options
@@ -40,6 +41,7 @@ command jobs.InitialForms = initial_forms_command
 command jobs.Homogenize = homogenize_command
 command jobs.PolynomialSetUnion = polynomial_set_union_command
 command jobs.Stats = stats_command
+command (jobs.WeightVector listed echoed) = weight_vector_command listed echoed
 
 -- the text is what the job writes for the source
 abbrev pub IsAnswerTo : Job → List ℕ → List ℕ → Type 0

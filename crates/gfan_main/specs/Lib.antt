@@ -11,6 +11,7 @@ pub mod InitialForms  -- what `_initialforms` reads and writes
 pub mod Homogenize  -- what `_homogenize` reads and writes
 pub mod PolynomialSetUnion  -- what `_polynomialsetunion` reads and writes
 pub mod Stats  -- what `_stats` reads and writes
+pub mod WeightVector  -- what `_weightvector` reads and writes
 pub mod BasesList  -- the list of all bases of an ideal
 pub mod OneList  -- an ideal has one such list
 pub mod Certificates  -- what stands for a basis in the list, with certificates or without
@@ -20,5 +21,6 @@ pub mod GivenBasis  -- what `_bases -g` reads and writes
 pub mod Refused  -- a refusal with the ring in whose names it is told
 pub mod BasesWriting  -- how `_bases` writes its list
 pub mod Commands  -- what the program does for each job
+pub mod GivingWeights  -- the weights that `_weightvector` writes give the bases that it read
 pub mod Performed  -- what a job does to the output
 pub mod Run  -- the top call

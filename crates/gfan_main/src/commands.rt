@@ -10,7 +10,7 @@ use crate::buchberger::Options;
 use crate::refused::Refused;
 use crate::{
     bases, buchberger, containment, given_basis, homogenize, initial_forms, leading_terms,
-    mark_polynomial_set, marked, polynomial_set_union, stats,
+    mark_polynomial_set, marked, polynomial_set_union, stats, weight_vector,
 };
 use gf_front::{Job, Refusal};
 use gf_outside::{Sink, WriteFault, write_all};
@@ -47,6 +47,9 @@ fn answered(alloc: Global, job: &Job, source: &[u8]) -> Result<Vec<u8>, Refused>
         Job::Homogenize => homogenize::answer(alloc, source),
         Job::PolynomialSetUnion => polynomial_set_union::answer(alloc, source),
         Job::Stats => stats::answer(alloc, source),
+        Job::WeightVector { listed, echoed } => {
+            weight_vector::answer(alloc, source, *listed, *echoed)
+        }
     }
 }
 

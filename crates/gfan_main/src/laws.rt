@@ -1,7 +1,8 @@
-// What the list of `_bases` has: laws, each the contract of a function that computes nothing.
+// What the list of `_bases` and the weights of `_weightvector` have: laws, each the contract of a function that computes nothing.
 ghost use Rattle.gfan_main.specs.BasesList.{WeightsAreServed};
 ghost use Rattle.gfan_main.specs.OneList.{ListsAreOne, TextsAreOne};
 ghost use Rattle.gfan_main.specs.CertifiedBases.{CertificatesHold};
+ghost use Rattle.gfan_main.specs.GivingWeights.{WrittenWeightsGiveBases};
 
 /// A basis is in the list that `_bases` writes exactly where some positive weight gives it. For each positive weight for which monomials
 /// generate the initial ideal its reduced basis is there, once; and each positive weight lies in the closed cone of a basis that is
@@ -25,4 +26,10 @@ pub fn texts_are_one()
 /// on all other normals (Fukuda, Jensen, Thomas, *Computing Gröbner fans*, 2 and 4).
 pub fn certificates_hold()
     ensures { CertificatesHold }
+{}
+
+/// What `_weightvector` writes are the sets that it read with their weights, or the weights alone, and each weight gives its basis: it is
+/// positive, and the set, made monic and arranged, is the reduced Gröbner basis for it of the ideal that the set generates.
+pub fn written_weights_give_bases()
+    ensures { WrittenWeightsGiveBases }
 {}

@@ -4,7 +4,7 @@
 // writes the reduced Gröbner basis by lex; `_ismarkedgroebnerbasis` reads a ring and a marked set, and writes whether it is a
 // Gröbner basis for its marking; `_doesidealcontain` reads a ring, a marked basis and a set, and writes whether the basis's ideal
 // contains the set; `_leadingterms` reads a ring and a marked set, and writes its leading terms; `_markpolynomialset`,
-// `_initialforms`, `_homogenize`, `_polynomialsetunion` and `_stats` are small tools on sets. What a run does is told at `run`, what each
+// `_initialforms`, `_homogenize`, `_polynomialsetunion` and `_stats` are small tools on sets; `_weightvector` writes weights that give marked bases. What a run does is told at `run`, what each
 // command writes in `specs/Commands.antt`.
 #![tactic(auto)]
 
@@ -36,6 +36,7 @@ mod tests;
 mod textbook_tests;
 #[cfg(test)]
 mod tool_tests;
+mod weight_vector;
 #[cfg(test)]
 mod workers_tests;
 

@@ -84,10 +84,11 @@ fn outcome<R: Threads + Sync, S: Source, K: Sink, G: Gate>(
 /// - `Syntax`, `TooWide`, `UnknownName` and `TooManyVariables` exactly for the first offending place of the input.
 /// - `Dimensions`, `NotTermOrder`, `NotHomogeneous` and `ZeroPolynomial` exactly where what was read isn't of the form that the
 ///   job needs, at the first place.
-/// - `Inconsistent` and `NotBasis` exactly where a marked set that is read isn't a basis for its marking, unless numbers of the work
-///   before don't fit: no positive weight gives the marking, with multipliers that show it; or the first pair whose S-polynomial
+/// - `Inconsistent`, `NotReduced` and `NotBasis` exactly where a marked set that is read isn't a basis for its marking, or not the reduced
+///   one where the job asks for that, unless numbers of the work before don't fit: no positive weight gives the marking, with
+///   multipliers that show it; or a mark divides a term that it shouldn't, the first one; or the first pair whose S-polynomial
 ///   leaves a remainder, with that remainder.
-/// - `Overflow`, `ExponentOverflow` and `ConeOverflow` only for operands that the job may have, and that don't fit;
+/// - `Overflow`, `ExponentOverflow`, `ConeOverflow` and `WideVector` only for operands that the job may have, and that don't fit;
 ///   `PairBudget` only where the budget of the words is spent.
 /// - `ListLimit` exactly where the limit of the words is reached, and the list goes on.
 /// - `WriteFault` only where a write of this call failed, or took nothing; a prefix of the answer may be

@@ -434,3 +434,84 @@ fn an_ideal_contains_polynomials_or_not(rt: HostRuntime) -> Result<(), Fail> {
     }
     Ok(())
 }
+
+/// A weight of a marked reduced basis, or of each of a list, alone or behind the set as it was read.
+#[test]
+fn bases_are_weighed(rt: HostRuntime) -> Result<(), Fail> {
+    let rows = [
+        ("_weightvector", "Q[a,b] {b-a^2}", 0u8, "(1,3)\n", ""),
+        (
+            "_weightvector -m -e",
+            "Q[a,b] {{b-a^2}}",
+            0,
+            "Q[a,b]\n{{\nb-a^2}\n(1,3)}\n",
+            "",
+        ),
+        (
+            "_weightvector -me",
+            "Q[a,b] {{a^2-b},{b-a^2}}",
+            0,
+            "Q[a,b]\n{{\na^2-b}\n(2,2)\n,\n{\nb-a^2}\n(1,3)}\n",
+            "",
+        ),
+        (
+            "_weightvector -m",
+            "Q[a,b] {{a^2-b},{b-a^2}}",
+            0,
+            "{(2,2)\n,\n(1,3)}\n",
+            "",
+        ),
+        (
+            "_weightvector -e",
+            "Q[a,b,c] {2b-2c,a-c}",
+            0,
+            "Q[a,b,c]\n{\n2*b-2*c,\na-c}\n(2,2,1)\n",
+            "",
+        ),
+        ("_weightvector -m", "Q[a,b] {}", 0, "{}\n", ""),
+        ("_weightvector -m -e", "Q[a,b] {}", 0, "Q[a,b]\n{}\n", ""),
+        ("_weightvector", "Q[a,b] {}", 0, "(1,1)\n", ""),
+        (
+            "_weightvector",
+            "Q[a,b] {a+b,b}",
+            1,
+            "",
+            "gfan: E14 not reduced: set 0 polynomial 0 term b\n",
+        ),
+        (
+            "_weightvector -m",
+            "Q[a,b] {{a-b},{a-b,b-a},{a+b,b}}",
+            1,
+            "",
+            "gfan: E16 inconsistent marking: set 1 multipliers (1,1,0,0)\n",
+        ),
+        (
+            "_weightvector -m",
+            "Q[a,b] {{a-b},{a^2-1,ab-1}}",
+            1,
+            "",
+            "gfan: E15 no basis: set 1 polynomials 0 and 1 leave a-b\n",
+        ),
+        (
+            "_weightvector",
+            "Q[a,b] {a-b,0}",
+            1,
+            "",
+            "gfan: E22 zero polynomial: set 0 polynomial 1\n",
+        ),
+        (
+            "_weightvector -m",
+            "Q[a,b] {a-b}",
+            1,
+            "",
+            "gfan: E8 syntax at byte 8: unexpected\n",
+        ),
+    ];
+    for (words, input, code, text, told) in rows {
+        assert!(rt;
+            ends(&rt, rt.alloc(), words, input, code, text, told)?,
+            "{words} {input}"
+        );
+    }
+    Ok(())
+}
