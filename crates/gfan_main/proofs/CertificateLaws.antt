@@ -1,5 +1,5 @@
 -- What stands for a basis in the list of `_bases` is one text, and what its certificates show.
--- To cite: AllZip-append, items_exist, items_one, certificates_hold, certificate_work, certificate_untested. The rest are steps.
+-- To cite: AllZip-append, items_exist, items_one, certificates_hold, weight_work, weight_untested. The rest are steps.
 use Rattle.std.specs.Prelude.{◌≡◌, ℕ, Bool, true, false, List, [], ◌∷◌, ◌++◌, length, All, Contains, ℤ, pos, ◌<ℤ◌}
 use Rattle.std.specs.List.{AllZip}
 use Rattle.std.proofs.Common.{refl, sym, ap, ap₂, ◌∙◌, subst, inl, inr}
@@ -24,7 +24,7 @@ use Rattle.gf_weights.proofs.WitnessesExist.{weight_exists, facets_exist}
 use Rattle.gf_walk.specs.Listing.{Among}
 use Rattle.gf_items.specs.Commands.{IsOfWork, IsOfTest}
 use Rattle.gfan_main.specs.BasesList.{IsGivenByWeight}
-use Rattle.gfan_main.specs.Certificates.{certificates_text, IsCertificatesText, IsItemText, of_certificate}
+use Rattle.gfan_main.specs.Certificates.{certificates_text, IsCertificatesText, IsItemText, of_weight}
 use Rattle.gfan_main.specs.Bases.{AreItemTexts}
 use Rattle.gfan_main.specs.CertifiedBases.{HasCertificates, CertificatesHold}
 use Rattle.gfan_main.proofs.BasesListLaws.{given_node}
@@ -124,12 +124,12 @@ certificates_hold limit ring fs text v t = (t.list, t.are_all, (t.items, items_s
 
 -- ---- refusals
 
-pub certificate_work : (e : WeightError) → IsOfWork (of_certificate e)
-certificate_work (weight_errors.Cone s) = tt
-certificate_work (weight_errors.Wide w) = tt
-certificate_work weight_errors.Memory = tt
+pub weight_work : (e : WeightError) → IsOfWork (of_weight e)
+weight_work (weight_errors.Cone s) = tt
+weight_work (weight_errors.Wide w) = tt
+weight_work weight_errors.Memory = tt
 
-pub certificate_untested : (e : WeightError) → IsOfTest (of_certificate e) → ⊥
-certificate_untested (weight_errors.Cone s) t = t
-certificate_untested (weight_errors.Wide w) t = t
-certificate_untested weight_errors.Memory t = t
+pub weight_untested : (e : WeightError) → IsOfTest (of_weight e) → ⊥
+weight_untested (weight_errors.Cone s) t = t
+weight_untested (weight_errors.Wide w) t = t
+weight_untested weight_errors.Memory t = t

@@ -26,7 +26,7 @@ use Rattle.gf_items.proofs.CheckLaws.{first_kind}
 use Rattle.gf_items.proofs.CommandLaws.{IsExactCommand, exact, no_answer, no_whole, in_reach, of_job, IsTestedCommand, untested, tested, no_tested_answer, no_tested_whole}
 use Rattle.gfan_main.specs.declared.buchberger.Options.{Options}
 use Rattle.gfan_main.specs.declared.bases.ListOptions.{ListOptions}
-use Rattle.gfan_main.specs.Certificates.{of_certificate}
+use Rattle.gfan_main.specs.Certificates.{of_weight}
 use Rattle.gfan_main.specs.Bases.{IsWithinLimit, of_tree, IsGoingCause, IsListCause, AreCertifiedWithin, IsListWithin, bases_command}
 use Rattle.gfan_main.specs.GivenBasis.{IsGivenListCause, IsGivenListWithin, given_bases_command}
 use Rattle.gfan_main.specs.BasesList.{AreAllBases}
@@ -43,7 +43,7 @@ use Rattle.gfan_main.specs.Stats.{stats_command}
 use Rattle.gfan_main.specs.WeightVector.{weight_vector_command}
 use Rattle.gfan_main.specs.Commands.{options, list_options, command, IsAnswerTo, IsWholeTextOf, IsRefusalOf, IsWithinReach, WritesAtEnd}
 use Rattle.gfan_main.proofs.FormLaws.{form_once}
-use Rattle.gfan_main.proofs.CertificateLaws.{certificate_work, certificate_untested}
+use Rattle.gfan_main.proofs.CertificateLaws.{weight_work, weight_untested}
 use Rattle.gfan_main.proofs.GivenBasisLaws.{tree_work, tree_untested, given_work, root_within, given_once, given_refuses}
 use Rattle.gfan_main.proofs.ReadSetLaws.{set_kept}
 use Rattle.gfan_main.proofs.CheckedSetLaws.{check_work, check_not_listed, test_cause_untested}
@@ -109,7 +109,7 @@ list_work : (o : ListOptions) (n : ℕ) (fs : List Terms) (r : Refusal) → IsLi
 list_work o n fs r (IsListCause.at_root e h q) = subst IsOfWork (sym q) (basis_work e)
 list_work o n fs r (IsListCause.going (IsGoingCause.in_tree e h q)) = subst IsOfWork (sym q) (tree_work e)
 list_work o n fs r (IsListCause.going (IsGoingCause.at_limit most h q)) = subst IsOfWork (sym q) tt
-list_work o n fs r (IsListCause.going (IsGoingCause.at_certificates b k g u)) = subst IsOfWork (sym u.2) (certificate_work u.0)
+list_work o n fs r (IsListCause.going (IsGoingCause.at_certificates b k g u)) = subst IsOfWork (sym u.2) (weight_work u.0)
 
 past_limit : (limit : Option ℕ) (most : ℕ) (list : List MarkedPolynomials) → limit ≡ Some most → most < length list → IsWithinLimit limit list → ⊥
 past_limit None most list e l w = cc
@@ -119,7 +119,7 @@ going_within : (o : ListOptions) (n : ℕ) (fs : List Terms) (r : Refusal) → I
     AreCertifiedWithin o n fs → IsGoingCause o n fs r → r ≡ refusals.Memory
 going_within o n fs r w few all (IsGoingCause.in_tree e h q) = q ∙ ap of_tree (within_memory (ideal_by n fs) o.pairs e w h)
 going_within o n fs r w few all (IsGoingCause.at_limit most h q) = absurd (past_limit o.limit most h.list h.is_limit h.longer (few h.list h.are_all))
-going_within o n fs r w few all (IsGoingCause.at_certificates b k g u) = u.2 ∙ ap of_certificate (all k b g u.0 u.1)
+going_within o n fs r w few all (IsGoingCause.at_certificates b k g u) = u.2 ∙ ap of_weight (all k b g u.0 u.1)
 
 list_within : (o : ListOptions) (n : ℕ) (fs : List Terms) (r : Refusal) → IsListWithin o n fs → IsListCause o n fs r → r ≡ refusals.Memory
 list_within o n fs r w (IsListCause.at_root e h q) = q ∙ ap of_basis (if_within {A = Unit {0}} MonomialOrder.deglex n o.pairs fs (Err e) w.root h)
@@ -237,7 +237,7 @@ list_untested : (o : ListOptions) (n : ℕ) (fs : List Terms) (r : Refusal) → 
 list_untested o n fs r t (IsListCause.at_root e h q) = basis_untested e (subst IsOfTest q t)
 list_untested o n fs r t (IsListCause.going (IsGoingCause.in_tree e h q)) = tree_untested e (subst IsOfTest q t)
 list_untested o n fs r t (IsListCause.going (IsGoingCause.at_limit most h q)) = subst IsOfTest q t
-list_untested o n fs r t (IsListCause.going (IsGoingCause.at_certificates b k g u)) = certificate_untested u.0 (subst IsOfTest u.2 t)
+list_untested o n fs r t (IsListCause.going (IsGoingCause.at_certificates b k g u)) = weight_untested u.0 (subst IsOfTest u.2 t)
 
 memory_untested : (r : Refusal) → IsOfTest r → r ≡ refusals.Memory → ⊥
 memory_untested r t m = subst IsOfTest m t

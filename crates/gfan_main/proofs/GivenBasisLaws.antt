@@ -55,7 +55,7 @@ use Rattle.gfan_main.specs.Performed.{IsPerformed, LeavesBegun, IsStopped}
 use Rattle.gfan_main.proofs.ReadSetLaws.{marked_kept}
 use Rattle.gfan_main.proofs.CheckedSetLaws.{named_check, named_numbers, check_work, poly_numbers, poly_untested, paired_once, paired_refutes}
 use Rattle.gfan_main.proofs.BasesListLaws.{given_node, start_of_root}
-use Rattle.gfan_main.proofs.CertificateLaws.{certificate_work, certificate_untested}
+use Rattle.gfan_main.proofs.CertificateLaws.{weight_work, weight_untested}
 
 -- ---- the basis reduced
 
@@ -217,7 +217,7 @@ pub given_work : (o : ListOptions) (n : ℕ) (s : MarkedPolynomials) (r : Refusa
 given_work o n s r (IsGivenListCause.at_root h) = root_work s o.pairs r h
 given_work o n s r (IsGivenListCause.going g (IsGoingCause.in_tree e h q)) = subst IsOfWork (sym q) (tree_work e)
 given_work o n s r (IsGivenListCause.going g (IsGoingCause.at_limit most h q)) = subst IsOfWork (sym q) tt
-given_work o n s r (IsGivenListCause.going g (IsGoingCause.at_certificates b k m u)) = subst IsOfWork (sym u.2) (certificate_work u.0)
+given_work o n s r (IsGivenListCause.going g (IsGoingCause.at_certificates b k m u)) = subst IsOfWork (sym u.2) (weight_work u.0)
 
 pub root_within : (o : ListOptions) (n : ℕ) (s : MarkedPolynomials) (r : Refusal) → IsGivenListWithin o n s → IsGivenRootRefusal s o.pairs r → r ≡ refusals.Memory
 root_within o n s r w (IsGivenRootRefusal.at_check e h q) = q ∙ ap of_check (basis_only_memory {A = Unit {0}} 0 s (Err e) w.variables h w.checks w.basis)
@@ -233,7 +233,7 @@ root_tested s pairs r v t (IsGivenRootRefusal.on_the_way e b h q) g = tree_untes
 going_untested : (o : ListOptions) (n : ℕ) (s : MarkedPolynomials) (r : Refusal) → IsOfTest r → IsGoingCause o n (polys s.items) r → ⊥
 going_untested o n s r t (IsGoingCause.in_tree e h q) = tree_untested e (subst IsOfTest q t)
 going_untested o n s r t (IsGoingCause.at_limit most h q) = subst IsOfTest q t
-going_untested o n s r t (IsGoingCause.at_certificates b k m u) = certificate_untested u.0 (subst IsOfTest u.2 t)
+going_untested o n s r t (IsGoingCause.at_certificates b k m u) = weight_untested u.0 (subst IsOfTest u.2 t)
 
 given_refutes : (o : ListOptions) (n : ℕ) (s : MarkedPolynomials) (r : Refusal) → HaveVariables s.variables s.items → IsOfTest r → IsGivenListCause o n s r → IsMarkedGroebnerBasis s.variables s.items → ⊥
 given_refutes o n s r v t (IsGivenListCause.at_root h) g = root_tested s o.pairs r v t h g

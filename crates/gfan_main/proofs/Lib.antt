@@ -7,11 +7,11 @@ pub mod ReadSetLaws  -- what is kept of a set that is read
 pub mod CheckedSetLaws  -- what is answered for a marked set, and why it isn't taken
 pub mod ContainmentLaws  -- whether an ideal contains polynomials
 pub mod ZipLaws  -- two lists, element by element
-pub mod WeightVectorLaws  -- the weights of sets
 pub mod RefusedLaws  -- which refusals are told without a ring
 pub mod BasesListLaws  -- the list of all bases, and what it has
 pub mod OneListLaws  -- an ideal has one list of all bases
 pub mod CertificateLaws  -- what stands for a basis is one text, and what its certificates show
+pub mod WeightVectorLaws  -- the weights of sets
 pub mod BasesTextLaws  -- pieces that follow one another are the text of the list
 pub mod BasesLaws  -- how the list is written
 pub mod GivenBasisLaws  -- the list from a basis that is given

@@ -26,10 +26,12 @@ use Rattle.gf_items.specs.Commands.{IsOfTest, IsOfNumbers, TellsSame, IsOfWork, 
 use Rattle.gf_items.proofs.KindLaws.{ring_and_once}
 use Rattle.gf_items.proofs.CommandLaws.{IsExactCommand, IsTestedCommand}
 use Rattle.gfan_main.specs.CheckedSets.{of_check}
-use Rattle.gfan_main.specs.WeightVector.{IsReducedAsRead, IsWeightOfSet, IsRefusedFrom, IsSomeWeightCause, weight_refusal, IsUnweighed, IsWeighedWithin, weight_item, later_weight_item, weight_vector_command}
+use Rattle.gfan_main.specs.Certificates.{of_weight}
+use Rattle.gfan_main.specs.WeightVector.{IsReducedAsRead, IsWeightOfSet, IsRefusedFrom, IsSomeWeightCause, IsUnweighed, IsWeighedWithin, weight_item, later_weight_item, weight_vector_command}
 use Rattle.gfan_main.specs.Refused.{IsNamedBy}
 use Rattle.gfan_main.proofs.ReadSetLaws.{IsSetKept, set_variables, one_kept, list_kept}
 use Rattle.gfan_main.proofs.CheckedSetLaws.{check_work, check_not_listed, reduced_refutes, reduced_once, named_reduced}
+use Rattle.gfan_main.proofs.CertificateLaws.{weight_work, weight_untested}
 use Rattle.gfan_main.proofs.ZipLaws.{zip_there, zip_back}
 
 -- ---- how they are found
@@ -64,12 +66,12 @@ pub set_unweighed : (sets : List MarkedPolynomials) (e : CheckError) (r : Refusa
 set_unweighed sets e r (inl h) q = IsUnweighed.at_set e h q
 set_unweighed sets e r (inr m) q = IsUnweighed.no_memory (q ∙ ap of_check m)
 
-pub weight_unweighed : (sets bases : List MarkedPolynomials) (e : WeightError) (r : Refusal) → AllZip IsReducedAsRead sets bases → ((t : MarkedPolynomials) × Contains bases t × IsWeightCause t.variables t.items e) ⊎ (e ≡ weight_errors.Memory) → r ≡ weight_refusal e → IsUnweighed sets r
+pub weight_unweighed : (sets bases : List MarkedPolynomials) (e : WeightError) (r : Refusal) → AllZip IsReducedAsRead sets bases → ((t : MarkedPolynomials) × Contains bases t × IsWeightCause t.variables t.items e) ⊎ (e ≡ weight_errors.Memory) → r ≡ of_weight e → IsUnweighed sets r
 weight_unweighed sets bases e r a (inl h) q =
     let s = zip_back IsReducedAsRead sets bases h.0 a h.1 in
     IsUnweighed.at_weight e (λ x c. (let t = zip_there IsReducedAsRead sets bases x a c in (t.0, t.2)))
     (record { set = s.0; contained = s.1; basis = h.0; read = s.2; cause = h.2 }) q
-weight_unweighed sets bases e r a (inr m) q = IsUnweighed.no_memory (q ∙ ap weight_refusal m)
+weight_unweighed sets bases e r a (inr m) q = IsUnweighed.no_memory (q ∙ ap of_weight m)
 
 -- ---- what is written
 
@@ -92,7 +94,7 @@ items_all sets weights i l m = take_all i (zip sets weights) (omega (arith, l, m
 
 -- ---- the names in lines
 
-weight_named : (ring : List (List ℕ)) (e : WeightError) → IsNamedBy (Some ring) (weight_refusal e)
+weight_named : (ring : List (List ℕ)) (e : WeightError) → IsNamedBy (Some ring) (of_weight e)
 weight_named ring (weight_errors.Cone o) = λ lent is. tt
 weight_named ring (weight_errors.Wide w) = λ lent is. tt
 weight_named ring weight_errors.Memory = λ lent is. tt
@@ -130,11 +132,6 @@ list_unweighed echoed source ring sets r read h = IsCommandRefused.behind_text (
 
 -- ---- within limits
 
-weight_work : (e : WeightError) → IsOfWork (weight_refusal e)
-weight_work (weight_errors.Cone o) = tt
-weight_work (weight_errors.Wide w) = tt
-weight_work weight_errors.Memory = tt
-
 unweighed_work : (sets : List MarkedPolynomials) (r : Refusal) → IsUnweighed sets r → IsOfWork r
 unweighed_work sets r (IsUnweighed.at_set e h q) = subst IsOfWork (sym q) (check_work e)
 unweighed_work sets r (IsUnweighed.at_weight e a h q) = subst IsOfWork (sym q) (weight_work e)
@@ -147,7 +144,7 @@ refused_within k (s ∷ sets) e w (inr h) = refused_within (k + 1) sets e (λ r 
 
 unweighed_within : (sets : List MarkedPolynomials) (r : Refusal) → ((s : MarkedPolynomials) → Contains sets s → IsWeighedWithin s) → IsUnweighed sets r → r ≡ refusals.Memory
 unweighed_within sets r w (IsUnweighed.at_set e h q) = q ∙ ap of_check (refused_within 0 sets e w h)
-unweighed_within sets r w (IsUnweighed.at_weight e a h q) = q ∙ ap weight_refusal ((w h.set h.contained).weight h.basis h.read.arranged e h.cause)
+unweighed_within sets r w (IsUnweighed.at_weight e a h q) = q ∙ ap of_weight ((w h.set h.contained).weight h.basis h.read.arranged e h.cause)
 unweighed_within sets r w (IsUnweighed.no_memory m) = m
 
 only : (s : MarkedPolynomials) → IsWeighedWithin s → (r : MarkedPolynomials) → Contains (s ∷ []) r → IsWeighedWithin r
@@ -169,7 +166,7 @@ weight_vector_exact true echoed = record {
 
 -- ---- no limit of a list
 
-weight_not_listed : (e : WeightError) (most : ℕ) → refusals.ListLimit most ≡ weight_refusal e → ⊥
+weight_not_listed : (e : WeightError) (most : ℕ) → refusals.ListLimit most ≡ of_weight e → ⊥
 weight_not_listed (weight_errors.Cone o) most q = cc
 weight_not_listed (weight_errors.Wide w) most q = cc
 weight_not_listed weight_errors.Memory most q = cc
@@ -191,15 +188,10 @@ check_kind (check_errors.Inconsistent set ms) = inl tt
 check_kind (check_errors.Cone o) = inr tt
 check_kind check_errors.Memory = inr tt
 
-weight_numbers : (e : WeightError) → IsOfNumbers (weight_refusal e)
+weight_numbers : (e : WeightError) → IsOfNumbers (of_weight e)
 weight_numbers (weight_errors.Cone o) = tt
 weight_numbers (weight_errors.Wide w) = tt
 weight_numbers weight_errors.Memory = tt
-
-weight_untested : (e : WeightError) → IsOfTest (weight_refusal e) → ⊥
-weight_untested (weight_errors.Cone o) t = t
-weight_untested (weight_errors.Wide w) t = t
-weight_untested weight_errors.Memory t = t
 
 -- one that is taken isn't refused by a test
 taken_apart : (n k : ℕ) (s t : MarkedPolynomials) (e : CheckError) → IsSetKept n s → IsOfTest (of_check e) → IsReducedRefusal k s e → IsReducedAsRead s t → ⊥

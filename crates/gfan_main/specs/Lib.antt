@@ -11,10 +11,10 @@ pub mod InitialForms  -- what `_initialforms` reads and writes
 pub mod Homogenize  -- what `_homogenize` reads and writes
 pub mod PolynomialSetUnion  -- what `_polynomialsetunion` reads and writes
 pub mod Stats  -- what `_stats` reads and writes
+pub mod Certificates  -- what stands for a basis in the list, with certificates or without
 pub mod WeightVector  -- what `_weightvector` reads and writes
 pub mod BasesList  -- the list of all bases of an ideal
 pub mod OneList  -- an ideal has one such list
-pub mod Certificates  -- what stands for a basis in the list, with certificates or without
 pub mod Bases  -- what `_bases` reads and writes
 pub mod CertifiedBases  -- what certificates show
 pub mod GivenBasis  -- what `_bases -g` reads and writes

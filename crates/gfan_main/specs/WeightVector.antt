@@ -10,7 +10,6 @@ use Rattle.gf_reduced.specs.Terms.{AreReduced}
 use Rattle.gf_reduced.specs.Markings.{IsMarkedGroebnerBasis, IsReducedBasisOf}
 use Rattle.gf_reduced.specs.Refusals.{IsReducedRefusal, AreChecksWithinLimits}
 use Rattle.gf_weights.specs.declared.error.WeightError.{WeightError}
-use Rattle.gf_weights.specs.declared.error.WeightError.TheVariants as weight_errors
 use Rattle.gf_weights.specs.Weights.{IsPrintedWeight}
 use Rattle.gf_weights.specs.Refusals.{IsWeightCause, IsWeightWithinLimits}
 use Rattle.gf_text.specs.RingText.{ring_text}
@@ -22,6 +21,7 @@ use Rattle.gf_items.specs.Items.{IsTextOf}
 use Rattle.gf_items.specs.Sources.{ring_marked_set, ring_marked_sets}
 use Rattle.gf_items.specs.Commands.{Command}
 use Rattle.gfan_main.specs.CheckedSets.{of_check}
+use Rattle.gfan_main.specs.Certificates.{of_weight}
 
 -- ---- the weights
 
@@ -95,17 +95,11 @@ pub record IsSomeWeightCause (sets : List MarkedPolynomials) (e : WeightError) :
   pub read : IsReducedAsRead set basis
   pub cause : IsWeightCause basis.variables basis.items e
 
--- a refusal of a weight as one of the run
-abbrev pub weight_refusal : WeightError → Refusal
-weight_refusal (weight_errors.Cone o) = refusals.ConeOverflow o.row o.op o.left o.right
-weight_refusal (weight_errors.Wide w) = refusals.WideVector w
-weight_refusal weight_errors.Memory = refusals.Memory
-
 -- a set isn't taken; or all are, and a weight isn't told; or there is no memory
 pub data IsUnweighed (sets : List MarkedPolynomials) (r : Refusal) : Type 0 where
   at_set : (e : CheckError) → IsRefusedFrom 0 sets e → r ≡ of_check e → IsUnweighed sets r
   at_weight : (e : WeightError) → ((s : MarkedPolynomials) → Contains sets s → (t : MarkedPolynomials) × IsReducedAsRead s t) →
-      IsSomeWeightCause sets e → r ≡ weight_refusal e → IsUnweighed sets r
+      IsSomeWeightCause sets e → r ≡ of_weight e → IsUnweighed sets r
   no_memory : r ≡ refusals.Memory → IsUnweighed sets r
 
 -- the set, in its variables as any that is read, is reduced and a basis, and no operation of its checks or of its weight leaves its limits

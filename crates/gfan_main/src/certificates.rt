@@ -1,29 +1,14 @@
 // The certificates of a basis in the list of `_bases`: its printed weight, and the facets that a flip may cross, each with its printed
 // witness.
 ghost use Rattle.std.specs.Prelude.{◌≡◌, ◌++◌, flat_map, ℕ, List, IfErr, OnOk};
-ghost use Rattle.gfan_main.specs.Certificates.{facet_text, later_facet_text, facets_text, certificates_text, IsCertificatesText, of_certificate, IsUncertified};
+ghost use Rattle.gfan_main.specs.Certificates.{facet_text, later_facet_text, facets_text, certificates_text, IsCertificatesText, IsUncertified};
 
+use crate::refused::of_weight;
 use gf_front::Refusal;
 use gf_poly::MarkedSet;
 use gf_text::Printer;
-use gf_weights::{Certificates, FacetWitness, WeightError, certify};
+use gf_weights::{Certificates, FacetWitness, certify};
 use std::alloc::{AllocError, Global};
-
-// Why weights and witnesses aren't told, as a refusal of the run.
-fn of_certificate(error: WeightError) -> Refusal
-    ensures { result ≡ of_certificate error }
-{
-    match error {
-        WeightError::Cone(o) => Refusal::ConeOverflow {
-            row: o.row,
-            op: o.op,
-            left: o.left,
-            right: o.right,
-        },
-        WeightError::Wide(wide) => Refusal::WideVector(wide),
-        WeightError::Memory => Refusal::Memory,
-    }
-}
 
 // Adds a facet.
 fn push_facet(text: &mut Vec<u8>, facet: &FacetWitness) -> Result<(), AllocError>
@@ -82,7 +67,7 @@ pub(crate) fn push_certified(
 {
     let told = match certify(alloc, basis) {
         Ok(told) => told,
-        Err(error) => return Err(of_certificate(error)),
+        Err(error) => return Err(of_weight(error)),
     };
     push_certificates(text, &told)?;
     Ok(())

@@ -1,6 +1,7 @@
 // A refusal on its way to the end of a run.
 ghost use Rattle.std.specs.Prelude.{◌≡◌, Some};
 ghost use Rattle.gf_front.specs.Lines.{line};
+ghost use Rattle.gfan_main.specs.Certificates.{of_weight};
 ghost use Rattle.gfan_main.specs.CheckedSets.{of_check};
 ghost use Rattle.gfan_main.specs.Refused.{names_of, IsNamedBy, WrittenAsFar};
 
@@ -11,6 +12,7 @@ use gf_outside::Sink;
 use gf_reduced::CheckError;
 use gf_text::{Ring, Syntax, TextError};
 use gf_tree::TreeError;
+use gf_weights::WeightError;
 use std::alloc::AllocError;
 
 /// A refusal, with the ring whose names stand in its line where it names monomials.
@@ -57,6 +59,22 @@ pub(crate) fn of_check(error: CheckError) -> Refusal
             right: o.right,
         },
         CheckError::Memory => Refusal::Memory,
+    }
+}
+
+/// Why a weight or a witness isn't told, as a refusal of the run.
+pub(crate) fn of_weight(error: WeightError) -> Refusal
+    ensures { result ≡ of_weight error }
+{
+    match error {
+        WeightError::Cone(o) => Refusal::ConeOverflow {
+            row: o.row,
+            op: o.op,
+            left: o.left,
+            right: o.right,
+        },
+        WeightError::Wide(wide) => Refusal::WideVector(wide),
+        WeightError::Memory => Refusal::Memory,
     }
 }
 

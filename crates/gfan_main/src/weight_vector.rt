@@ -7,9 +7,9 @@ ghost use Rattle.gf_weights.specs.Weights.{IsPrintedWeight};
 ghost use Rattle.gf_weights.specs.Refusals.{IsWeightCause};
 ghost use Rattle.gf_items.specs.Commands.{IsAnswered, IsCommandRefused};
 ghost use Rattle.gfan_main.specs.Refused.{IsOfSource};
-ghost use Rattle.gfan_main.specs.WeightVector.{IsReducedAsRead, IsWeightOfSet, IsRefusedFrom, IsUnweighed, IsWeightsText, weight_item, later_weight_item, weight_items, weights_text, echoed_ring, enclosed, weight_refusal, weight_vector_command};
+ghost use Rattle.gfan_main.specs.WeightVector.{IsReducedAsRead, IsWeightOfSet, IsRefusedFrom, IsUnweighed, IsWeightsText, weight_item, later_weight_item, weight_items, weights_text, echoed_ring, enclosed, weight_vector_command};
 
-use crate::refused::{Refused, of_check};
+use crate::refused::{Refused, of_check, of_weight};
 use gf_front::Refusal;
 use gf_items::{ring_and_marked, ring_and_marked_sets};
 use gf_poly::MarkedSet;
@@ -60,22 +60,6 @@ fn weights_of(alloc: Global, bases: &[MarkedSet]) -> Result<Vec<IntVec>, WeightE
     Ok(weights)
 }
 
-// Why a weight isn't told, as a refusal of the run.
-fn refused(error: WeightError) -> Refusal
-    ensures { result ≡ weight_refusal error }
-{
-    match error {
-        WeightError::Cone(o) => Refusal::ConeOverflow {
-            row: o.row,
-            op: o.op,
-            left: o.left,
-            right: o.right,
-        },
-        WeightError::Wide(wide) => Refusal::WideVector(wide),
-        WeightError::Memory => Refusal::Memory,
-    }
-}
-
 // The weights of the sets: first each is checked, then each is weighed.
 fn weighed(alloc: Global, sets: &[MarkedSet]) -> Result<Vec<IntVec>, Refusal>
     ensures ok { IfOk result (λ weights. AllZip IsWeightOfSet sets.now weights.items) }
@@ -87,7 +71,7 @@ fn weighed(alloc: Global, sets: &[MarkedSet]) -> Result<Vec<IntVec>, Refusal>
     };
     match weights_of(alloc, &bases) {
         Ok(weights) => Ok(weights),
-        Err(error) => Err(refused(error)),
+        Err(error) => Err(of_weight(error)),
     }
 }
 
