@@ -41,7 +41,8 @@ use Rattle.gfan_main.specs.Homogenize.{homogenize_command}
 use Rattle.gfan_main.specs.PolynomialSetUnion.{polynomial_set_union_command}
 use Rattle.gfan_main.specs.Stats.{stats_command}
 use Rattle.gfan_main.specs.WeightVector.{weight_vector_command}
-use Rattle.gfan_main.specs.Commands.{options, list_options, command, IsAnswerTo, IsWholeTextOf, IsRefusalOf, IsWithinReach, WritesAtEnd}
+use Rattle.gfan_main.specs.GroebnerCone.{groebner_cone_command}
+use Rattle.gfan_main.specs.Commands.{options, list_options, cone_options, command, IsAnswerTo, IsWholeTextOf, IsRefusalOf, IsWithinReach, WritesAtEnd}
 use Rattle.gfan_main.proofs.FormLaws.{form_once}
 use Rattle.gfan_main.proofs.CertificateLaws.{weight_work, weight_untested}
 use Rattle.gfan_main.proofs.GivenBasisLaws.{tree_work, tree_untested, given_work, root_within, given_once, given_refuses}
@@ -49,6 +50,7 @@ use Rattle.gfan_main.proofs.ReadSetLaws.{set_kept}
 use Rattle.gfan_main.proofs.CheckedSetLaws.{check_work, check_not_listed, test_cause_untested}
 use Rattle.gfan_main.proofs.ContainmentLaws.{containment_work, containment_within, containment_once, containment_refuses}
 use Rattle.gfan_main.proofs.WeightVectorLaws.{weight_vector_exact, weight_vector_tested, unweighed_not_listed}
+use Rattle.gfan_main.proofs.GroebnerConeLaws.{cone_exact, cone_tested, cone_not_listed}
 use Rattle.gfan_main.proofs.ToolLaws.{mark_polynomial_set_exact, initial_forms_exact, homogenize_exact, polynomial_set_union_exact, stats_exact, homogenize_not_listed, gordan_not_listed, homogenize_untested, gordan_untested}
 
 -- ---- `_buchberger`
@@ -160,6 +162,7 @@ laws jobs.Homogenize = homogenize_exact
 laws jobs.PolynomialSetUnion = polynomial_set_union_exact
 laws jobs.Stats = stats_exact
 laws (jobs.WeightVector listed echoed) = weight_vector_exact listed echoed
+laws (jobs.GroebnerCone vector_input certificates) = cone_exact vector_input (cone_options certificates)
 
 pub exact_text : (job : Job) (source : List ℕ) (r d : Refusal) → IsOfText r → IsRefusalOf job source r → IsRefusalOf job source d → (d ≡ r) ⊎ (d ≡ refusals.Memory)
 exact_text job source r d t h k = exact (command job) (laws job) source r d (inl t) h k
@@ -221,6 +224,7 @@ not_listed jobs.PolynomialSetUnion source most w h = command_not_listed polynomi
 not_listed jobs.Stats source most w h = command_not_listed stats_command stats_exact (λ a m c. gordan_not_listed c.0 m c.1) source most h
 not_listed (jobs.WeightVector false echoed) source most w h = command_not_listed (weight_vector_command false echoed) (weight_vector_exact false echoed) (λ a m c. unweighed_not_listed (a.1 ∷ []) m c) source most h
 not_listed (jobs.WeightVector true echoed) source most w h = command_not_listed (weight_vector_command true echoed) (weight_vector_exact true echoed) (λ a m c. unweighed_not_listed a.1 m c) source most h
+not_listed (jobs.GroebnerCone vector_input certificates) source most w h = command_not_listed (groebner_cone_command vector_input (cone_options certificates)) (cone_exact vector_input (cone_options certificates)) (λ a m c. cone_not_listed vector_input (cone_options certificates) a m c) source most h
 
 pub refused_as_job : (job : Job) (source : List ℕ) (r : Refusal) → IsRefusalOf job source r → IsOfJob r
 refused_as_job job source r h = of_job (command job) (laws job) source r h
@@ -270,6 +274,7 @@ tests_of jobs.Homogenize = untested homogenize_command (λ v r t h. homogenize_u
 tests_of jobs.PolynomialSetUnion = untested polynomial_set_union_command (λ v r t h. memory_untested r t h)
 tests_of jobs.Stats = untested stats_command (λ v r t h. gordan_untested h.0 (subst IsOfTest h.1 t))
 tests_of (jobs.WeightVector listed echoed) = weight_vector_tested listed echoed
+tests_of (jobs.GroebnerCone vector_input certificates) = cone_tested vector_input (cone_options certificates)
 
 pub test_as : (job : Job) (source : List ℕ) (r d : Refusal) → IsOfTest r → IsRefusalOf job source r → IsRefusalOf job source d → TellsSame r d ⊎ IsOfNumbers d
 test_as job source r d t h k = tested (command job) (laws job) (tests_of job) source r d t h k

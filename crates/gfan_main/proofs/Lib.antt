@@ -1,10 +1,11 @@
 pub mod FormLaws  -- the form of what is read fails in one way at most
-pub mod ToolFormLaws  -- the form that the small tools need fails in one way at most
+pub mod ToolFormLaws  -- the form that the small tools, and those on cones, need fails in one way at most
 pub mod PolynomialListLaws  -- the polynomials of a marked set
 pub mod ToolLaws  -- each of the small tools answers in one way
 pub mod BuchbergerLaws  -- what `_buchberger` answers
 pub mod ReadSetLaws  -- what is kept of a set that is read
 pub mod CheckedSetLaws  -- what is answered for a marked set, and why it isn't taken
+pub mod GroebnerConeLaws  -- what `_groebnercone` answers, and why it doesn't
 pub mod ContainmentLaws  -- whether an ideal contains polynomials
 pub mod ZipLaws  -- two lists, element by element
 pub mod RefusedLaws  -- which refusals are told without a ring

@@ -7,6 +7,7 @@ use Rattle.gf_front.specs.declared.refusal.Refusal.TheVariants as refusals
 use Rattle.gf_items.specs.Commands.{Command, IsAnswered, IsWholeFor, IsCommandRefused, IsInReach, IsBegunFor}
 use Rattle.gfan_main.specs.declared.buchberger.Options.{Options}
 use Rattle.gfan_main.specs.declared.bases.ListOptions.{ListOptions}
+use Rattle.gfan_main.specs.declared.groebner_cone.ConeOptions.{ConeOptions}
 use Rattle.gfan_main.specs.Buchberger.{buchberger_command}
 use Rattle.gfan_main.specs.Bases.{bases_command}
 use Rattle.gfan_main.specs.GivenBasis.{given_bases_command}
@@ -19,6 +20,7 @@ use Rattle.gfan_main.specs.Homogenize.{homogenize_command}
 use Rattle.gfan_main.specs.PolynomialSetUnion.{polynomial_set_union_command}
 use Rattle.gfan_main.specs.Stats.{stats_command}
 use Rattle.gfan_main.specs.WeightVector.{weight_vector_command}
+use Rattle.gfan_main.specs.GroebnerCone.{groebner_cone_command}
 
 -- the options of `_buchberger`
 abbrev pub options : Bool → Bool → ℕ → Options
@@ -27,6 +29,10 @@ options weighted revlex pairs = record { weighted = weighted; revlex = revlex; p
 -- the options of `_bases`
 abbrev pub list_options : Option ℕ → ℕ → Bool → ListOptions
 list_options limit pairs certificates = record { limit = limit; pairs = pairs; certified = certificates }
+
+-- the options of `_groebnercone` that say what is told of the cone
+abbrev pub cone_options : Bool → ConeOptions
+cone_options certificates = record { certificates = certificates }
 
 -- the command of a job; that of `_bases` is the same for every number of workers
 abbrev pub command : Job → Command
@@ -42,6 +48,7 @@ command jobs.Homogenize = homogenize_command
 command jobs.PolynomialSetUnion = polynomial_set_union_command
 command jobs.Stats = stats_command
 command (jobs.WeightVector listed echoed) = weight_vector_command listed echoed
+command (jobs.GroebnerCone vector_input certificates) = groebner_cone_command vector_input (cone_options certificates)
 
 -- the text is what the job writes for the source
 abbrev pub IsAnswerTo : Job → List ℕ → List ℕ → Type 0

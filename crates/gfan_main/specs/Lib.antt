@@ -5,7 +5,7 @@ pub mod CheckedSets  -- how a refusal of a check of a marked set is told
 pub mod Marked  -- what `_ismarkedgroebnerbasis` reads and writes
 pub mod Containment  -- what `_doesidealcontain` reads and writes
 pub mod LeadingTerms  -- what `_leadingterms` writes
-pub mod ToolForms  -- the form that the small tools need
+pub mod ToolForms  -- the form that the small tools, and those on cones, need
 pub mod MarkPolynomialSet  -- what `_markpolynomialset` reads and writes
 pub mod InitialForms  -- what `_initialforms` reads and writes
 pub mod Homogenize  -- what `_homogenize` reads and writes
@@ -13,6 +13,7 @@ pub mod PolynomialSetUnion  -- what `_polynomialsetunion` reads and writes
 pub mod Stats  -- what `_stats` reads and writes
 pub mod Certificates  -- what stands for a basis in the list, with certificates or without
 pub mod WeightVector  -- what `_weightvector` reads and writes
+pub mod GroebnerCone  -- what `_groebnercone` reads and writes
 pub mod BasesList  -- the list of all bases of an ideal
 pub mod OneList  -- an ideal has one such list
 pub mod Bases  -- what `_bases` reads and writes

@@ -1,5 +1,5 @@
--- The form that the small tools need of what they read.
-use Rattle.std.specs.Prelude.{◌≡◌, ℕ, ◌+◌, ◌<◌, ◌≤◌, List, Some, ℤ}
+-- The form that the small tools, and those on cones, need of what they read.
+use Rattle.std.specs.Prelude.{◌≡◌, ℕ, ◌+◌, ◌<◌, ◌≤◌, List, [], ◌∷◌, Some, ℤ}
 use Rattle.gf_poly.specs.Marking.{MarkedPolynomial}
 use Rattle.gf_text.specs.declared.written.Written.{Written}
 use Rattle.gf_text.specs.Sets.{AreNonzero, IsFirstZero}
@@ -11,6 +11,19 @@ use Rattle.gfan_main.specs.Buchberger.{FitsVariables, IsLengthRefusal}
 -- a vector has an entry for each of n variables
 abbrev pub for_variables : ℕ → List ℤ → Check
 for_variables n vector = record { Holds = FitsVariables n (Some vector); Fails = IsLengthRefusal n (Some vector) }
+
+-- each of several vectors has, one after another
+abbrev pub for_each : ℕ → List (List ℤ) → List Check
+for_each n [] = []
+for_each n (w ∷ ws) = for_variables n w ∷ for_each n ws
+
+-- a space has a dimension of 1 at least; else it is told that it is 0 where 1 is needed
+abbrev pub IsSpaceRefusal : ℕ → Refusal → Type 0
+IsSpaceRefusal n (refusals.Dimensions left right) = (left ≡ 0) × (right ≡ 1) × (n ≡ 0)
+IsSpaceRefusal n _ = ⊥
+
+abbrev pub for_space : ℕ → Check
+for_space n = record { Holds = 1 ≤ n; Fails = IsSpaceRefusal n }
 
 -- no polynomial of a set is zero; else the first zero one is named
 abbrev pub HasNoZero : List Written → Type 0

@@ -1,9 +1,11 @@
 // Checks of the form of what is read.
-ghost use Rattle.std.specs.Prelude.{◌≡◌, ◌⊎◌, ◌-◌, ◌^◌, Some, None, min, length, IfOk, IfErr, OnOk};
+ghost use Rattle.std.specs.Prelude.{◌≡◌, ◌≤◌, ◌⊎◌, ◌-◌, ◌^◌, Some, None, min, length, IfOk, IfErr, OnOk};
+ghost use Rattle.gf_gordan.specs.Alternative.{AreRows};
 ghost use Rattle.gf_text.specs.Sets.{AreIn, AreNonzero};
+ghost use Rattle.gf_items.specs.Checks.{FirstFails};
 ghost use Rattle.gfan_main.specs.Buchberger.{IsLengthRefusal};
 ghost use Rattle.gfan_main.specs.Refused.{IsNamedBy};
-ghost use Rattle.gfan_main.specs.ToolForms.{IsZeroRefusal};
+ghost use Rattle.gfan_main.specs.ToolForms.{IsZeroRefusal, IsSpaceRefusal, for_each};
 
 use gf_front::Refusal;
 use gf_poly::MarkedSet;
@@ -23,6 +25,30 @@ pub(crate) fn check_entries(n: u32, vector: &IntVec) -> Result<(), Refusal>
             left: entries as u64,
             right: u64::from(n),
         });
+    }
+    Ok(())
+}
+
+/// Whether a space of `n` variables has some.
+pub(crate) fn check_space(n: u32) -> Result<(), Refusal>
+    ensures ok { OnOk result (1 ≤ n) }
+    ensures err { IfErr result (IsSpaceRefusal n) }
+    ensures told { IfErr result (IsNamedBy None) }
+{
+    if n == 0 {
+        return Err(Refusal::Dimensions { left: 0, right: 1 });
+    }
+    Ok(())
+}
+
+/// Whether each vector has an entry for each of `n` variables.
+pub(crate) fn check_each(n: u32, vectors: &[IntVec]) -> Result<(), Refusal>
+    ensures ok { OnOk result (AreRows n vectors.now) }
+    ensures err { IfErr result (FirstFails (for_each n vectors.now)) }
+    ensures told { IfErr result (IsNamedBy None) }
+{
+    'vectors: for vector in vectors {
+        check_entries(n, vector)?;
     }
     Ok(())
 }

@@ -7,10 +7,11 @@ ghost use Rattle.gfan_main.specs.Performed.{IsPerformed, IsStopped};
 
 use crate::bases::ListOptions;
 use crate::buchberger::Options;
+use crate::groebner_cone::ConeOptions;
 use crate::refused::Refused;
 use crate::{
-    bases, buchberger, containment, given_basis, homogenize, initial_forms, leading_terms,
-    mark_polynomial_set, marked, polynomial_set_union, stats, weight_vector,
+    bases, buchberger, containment, given_basis, groebner_cone, homogenize, initial_forms,
+    leading_terms, mark_polynomial_set, marked, polynomial_set_union, stats, weight_vector,
 };
 use gf_front::{Job, Refusal};
 use gf_outside::{Sink, WriteFault, write_all};
@@ -47,6 +48,15 @@ fn answered(alloc: Global, job: &Job, source: &[u8]) -> Result<Vec<u8>, Refused>
         Job::Homogenize => homogenize::answer(alloc, source),
         Job::PolynomialSetUnion => polynomial_set_union::answer(alloc, source),
         Job::Stats => stats::answer(alloc, source),
+        Job::GroebnerCone {
+            vector_input,
+            certificates,
+        } => {
+            let options = ConeOptions {
+                certificates: *certificates,
+            };
+            groebner_cone::answer(alloc, source, *vector_input, options)
+        }
         Job::WeightVector { listed, echoed } => {
             weight_vector::answer(alloc, source, *listed, *echoed)
         }

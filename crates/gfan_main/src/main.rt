@@ -4,8 +4,9 @@
 // writes the reduced Gröbner basis by lex; `_ismarkedgroebnerbasis` reads a ring and a marked set, and writes whether it is a
 // Gröbner basis for its marking; `_doesidealcontain` reads a ring, a marked basis and a set, and writes whether the basis's ideal
 // contains the set; `_leadingterms` reads a ring and a marked set, and writes its leading terms; `_markpolynomialset`,
-// `_initialforms`, `_homogenize`, `_polynomialsetunion` and `_stats` are small tools on sets; `_weightvector` writes weights that give marked bases. What a run does is told at `run`, what each
-// command writes in `specs/Commands.antt`.
+// `_initialforms`, `_homogenize`, `_polynomialsetunion` and `_stats` are small tools on sets; `_groebnercone` tells a cone, and
+// `_weightvector` writes weights that give marked bases. What a run does is told at `run`, what each command writes in
+// `specs/Commands.antt`.
 #![tactic(auto)]
 
 ghost use Rattle.std.specs.Prelude.{◌≡◌};
@@ -19,6 +20,7 @@ mod checks;
 mod commands;
 mod containment;
 mod given_basis;
+mod groebner_cone;
 mod homogenize;
 mod initial_forms;
 mod laws;

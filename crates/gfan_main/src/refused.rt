@@ -3,6 +3,7 @@ ghost use Rattle.std.specs.Prelude.{◌≡◌, Some};
 ghost use Rattle.gf_front.specs.Lines.{line};
 ghost use Rattle.gfan_main.specs.Certificates.{of_weight};
 ghost use Rattle.gfan_main.specs.CheckedSets.{of_check};
+ghost use Rattle.gfan_main.specs.GroebnerCone.{of_sections};
 ghost use Rattle.gfan_main.specs.Refused.{names_of, IsNamedBy, WrittenAsFar};
 
 use gf_buchberger::BasisError;
@@ -10,6 +11,7 @@ use gf_front::{Refusal, WordsError};
 use gf_gordan::GordanError;
 use gf_outside::Sink;
 use gf_reduced::CheckError;
+use gf_sections::SectionsError;
 use gf_text::{Ring, Syntax, TextError};
 use gf_tree::TreeError;
 use gf_weights::WeightError;
@@ -75,6 +77,22 @@ pub(crate) fn of_weight(error: WeightError) -> Refusal
         },
         WeightError::Wide(wide) => Refusal::WideVector(wide),
         WeightError::Memory => Refusal::Memory,
+    }
+}
+
+/// Why the sections of a cone aren't told, as a refusal of the run.
+pub(crate) fn of_sections(error: SectionsError) -> Refusal
+    ensures { result ≡ of_sections error }
+{
+    match error {
+        SectionsError::Cone(o) => Refusal::ConeOverflow {
+            row: o.row,
+            op: o.op,
+            left: o.left,
+            right: o.right,
+        },
+        SectionsError::Wide(w) => Refusal::WideVector(w),
+        SectionsError::Memory => Refusal::Memory,
     }
 }
 
