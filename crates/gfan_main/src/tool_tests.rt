@@ -515,3 +515,73 @@ fn bases_are_weighed(rt: HostRuntime) -> Result<(), Fail> {
     }
     Ok(())
 }
+
+/// The facets of a cone and the equations that hold on it, with what shows that these are all.
+#[test]
+fn a_cone_is_told_in_sections(rt: HostRuntime) -> Result<(), Fail> {
+    let rows = [
+        (
+            "_groebnercone",
+            "Q[a,b] {a^2-b}",
+            0u8,
+            "AMBIENT_DIM\n2\n\nDIM\n2\n\nIMPLIED_EQUATIONS\n\nFACETS\n2 -1\n\n",
+            "",
+        ),
+        (
+            "_groebnercone --vectorinput --certificates",
+            "2 {(1,0),(0,1),(1,1)} {}",
+            0,
+            "AMBIENT_DIM\n2\n\nDIM\n2\n\nIMPLIED_EQUATIONS\n\nFACETS\n0 1\n1 0\n\nFACET_WITNESSES\n1 0\n0 1\n\nREDUNDANT\n1 1\n\nREDUNDANT_COMBINATIONS\n1 1 1\n\nEQUATION_ROWS\n\nEQUATION_COMBINATIONS\n\n",
+            "",
+        ),
+        (
+            "_groebnercone --vectorinput --certificates",
+            "2 {} {(1,0)}",
+            0,
+            "AMBIENT_DIM\n2\n\nDIM\n1\n\nIMPLIED_EQUATIONS\n1 0\n\nFACETS\n\nFACET_WITNESSES\n\nREDUNDANT\n\nREDUNDANT_COMBINATIONS\n\nEQUATION_ROWS\n-1 0\n1 0\n\nEQUATION_COMBINATIONS\n1 1\n1 1\n\n",
+            "",
+        ),
+        (
+            "_groebnercone",
+            "Q[a] {1-a}",
+            1,
+            "",
+            "gfan: E16 inconsistent marking: set 0 multipliers (1,1)\n",
+        ),
+        (
+            "_groebnercone",
+            "Q[a,b] {a+b,b}",
+            1,
+            "",
+            "gfan: E14 not reduced: set 0 polynomial 0 term b\n",
+        ),
+        (
+            "_groebnercone",
+            "Q[a,b] {a^2-1,ab-1}",
+            1,
+            "",
+            "gfan: E15 no basis: set 0 polynomials 0 and 1 leave a-b\n",
+        ),
+        (
+            "_groebnercone --vectorinput",
+            "0 {} {}",
+            1,
+            "",
+            "gfan: E21 dimension 0 where 1 is needed\n",
+        ),
+        (
+            "_groebnercone --vectorinput",
+            "2 {(1,0)} {(1)}",
+            1,
+            "",
+            "gfan: E21 dimension 1 where 2 is needed\n",
+        ),
+    ];
+    for (words, input, code, text, told) in rows {
+        assert!(rt;
+            ends(&rt, rt.alloc(), words, input, code, text, told)?,
+            "{words} {input}"
+        );
+    }
+    Ok(())
+}
