@@ -1,8 +1,8 @@
 -- The weights that `_weightvector` writes give the bases that it read.
 -- To cite: written_weights_give_bases. The rest are steps.
-use Rattle.std.specs.Prelude.{◌≡◌, ℕ, Bool, true, false, List, [], ◌∷◌, length, ℤ}
+use Rattle.std.specs.Prelude.{◌≡◌, ℕ, true, false, List, [], ◌∷◌, length, ℤ}
 use Rattle.std.specs.List.{AllZip}
-use Rattle.std.proofs.Common.{refl, sym, subst}
+use Rattle.std.proofs.Common.{refl, subst}
 use Rattle.gf_poly.specs.Marking.{MarkedPolynomials, Each, HaveVariables, polys}
 use Rattle.gf_ideal.specs.Membership.{AreSameIdeal}
 use Rattle.gf_facets.specs.MarkedBases.{IsMarkedReducedBasis}
@@ -10,10 +10,8 @@ use Rattle.gf_bases.proofs.LawsHold.{only_ideals_count}
 use Rattle.gf_reduced.proofs.GroebnerLaws.{polys_variables}
 use Rattle.gf_weights.specs.Weights.{IsPrintedWeight}
 use Rattle.gf_weights.proofs.WeightLaws.{weight_basis}
-use Rattle.gf_front.specs.declared.command_line.Job.TheVariants as jobs
 use Rattle.gfan_main.specs.WeightVector.{IsWeightOfSet, GivesBasis}
-use Rattle.gfan_main.specs.Commands.{IsAnswerTo}
-use Rattle.gfan_main.specs.GivingWeights.{HasGivingWeights, WrittenWeightsGiveBases}
+use Rattle.gfan_main.specs.GivingWeights.{WrittenWeightsGiveBases}
 use Rattle.gfan_main.proofs.ReadSetLaws.{IsSetKept, set_variables}
 use Rattle.gfan_main.proofs.WeightVectorLaws.{one_read, list_read}
 

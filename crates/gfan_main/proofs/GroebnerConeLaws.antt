@@ -1,17 +1,14 @@
 -- What `_groebnercone` answers, and why it doesn't.
 -- To cite: told_normals, untold_normals; cone_told, cone_refused, named_cone; space_unanswered, inequality_unanswered, equation_unanswered,
 -- vectors_unanswered, vectors_answered, vectors_refused, vectors_told; cone_exact, cone_tested, cone_not_listed. The rest are steps.
-use Rattle.std.specs.Prelude.{◌≡◌, ◌⊎◌, ℕ, ◌≤◌, Bool, true, false, List, [], ◌∷◌, ◌++◌, Some, None, Err, ℤ}
-use Rattle.std.proofs.Common.{refl, sym, ap, ◌∙◌, subst, inl, inr, length}
-use Rattle.gf_poly.specs.Marking.{MarkedPolynomials, Each, HaveVariables}
+use Rattle.std.specs.Prelude.{◌≡◌, ◌⊎◌, ℕ, ◌≤◌, Bool, true, false, List, [], ◌∷◌, ◌++◌, Some, Err, ℤ}
+use Rattle.std.proofs.Common.{sym, ap, ◌∙◌, subst, inl, inr, length}
+use Rattle.gf_poly.specs.Marking.{MarkedPolynomials, HaveVariables}
 use Rattle.gf_gordan.specs.Alternative.{AreRows}
-use Rattle.gf_reduced.specs.declared.error.CheckError.{CheckError}
-use Rattle.gf_reduced.specs.declared.error.CheckError.TheVariants as check_errors
 use Rattle.gf_facets.specs.Regions.{all_positive}
 use Rattle.gf_cone.specs.Cones.{ConeRows, IsConeOf}
 use Rattle.gf_reduced.specs.Markings.{IsMarkedGroebnerBasis}
 use Rattle.gf_reduced.specs.Terms.{AreReduced}
-use Rattle.gf_reduced.specs.Refusals.{IsReducedRefusal}
 use Rattle.gf_reduced.proofs.RefusalLaws.{reduced_only_memory}
 use Rattle.gf_sections.specs.declared.error.SectionsError.{SectionsError}
 use Rattle.gf_sections.specs.declared.error.SectionsError.TheVariants as sections_errors
@@ -21,7 +18,7 @@ use Rattle.gf_front.specs.declared.refusal.Refusal.TheVariants as refusals
 use Rattle.gf_items.specs.Items.{IsTextOf, from}
 use Rattle.gf_items.specs.Kinds.{a_marked_set, dimension, vector_list}
 use Rattle.gf_items.specs.Sources.{ring_marked_set, dimension_two_lists}
-use Rattle.gf_items.specs.Checks.{AllHold, FirstFails}
+use Rattle.gf_items.specs.Checks.{FirstFails}
 use Rattle.gf_items.specs.Commands.{IsOfTest, IsOfNumbers, TellsSame, IsOfWork, IsAnswerFor, IsAnswered, IsUnanswered, IsCommandRefused}
 use Rattle.gf_items.proofs.KindLaws.{items_once, ring_and_once}
 use Rattle.gf_items.proofs.CommandLaws.{IsExactCommand, IsTestedCommand, untested}

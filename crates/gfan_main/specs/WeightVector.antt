@@ -17,7 +17,6 @@ use Rattle.gf_text.specs.PrintedSets.{basis_text}
 use Rattle.gf_text.specs.VectorText.{vector_text}
 use Rattle.gf_front.specs.declared.refusal.Refusal.{Refusal}
 use Rattle.gf_front.specs.declared.refusal.Refusal.TheVariants as refusals
-use Rattle.gf_items.specs.Items.{IsTextOf}
 use Rattle.gf_items.specs.Sources.{ring_marked_set, ring_marked_sets}
 use Rattle.gf_items.specs.Commands.{Command}
 use Rattle.gfan_main.specs.CheckedSets.{of_check}

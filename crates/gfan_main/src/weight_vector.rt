@@ -7,7 +7,7 @@ ghost use Rattle.gf_weights.specs.Weights.{IsPrintedWeight};
 ghost use Rattle.gf_weights.specs.Refusals.{IsWeightCause};
 ghost use Rattle.gf_items.specs.Commands.{IsAnswered, IsCommandRefused};
 ghost use Rattle.gfan_main.specs.Refused.{IsOfSource};
-ghost use Rattle.gfan_main.specs.WeightVector.{IsReducedAsRead, IsWeightOfSet, IsRefusedFrom, IsUnweighed, IsWeightsText, weight_item, later_weight_item, weight_items, weights_text, echoed_ring, enclosed, weight_vector_command};
+ghost use Rattle.gfan_main.specs.WeightVector.{IsReducedAsRead, IsWeightOfSet, IsRefusedFrom, IsUnweighed, IsWeightsText, weight_item, later_weight_item, weight_items, echoed_ring, enclosed, weight_vector_command};
 
 use crate::refused::{Refused, of_check, of_weight};
 use gf_front::Refusal;

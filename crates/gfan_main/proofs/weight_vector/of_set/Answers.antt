@@ -1,4 +1,4 @@
-use Rattle.std.proofs.Common.{[], List, refl, sym, subst}
+use Rattle.std.proofs.Common.{[], List, refl, subst}
 use Rattle.std.proofs.lemmas.Result.{err_from_is_err_and}
 use Rattle.gf_poly.specs.Marking.{MarkedPolynomials}
 use Rattle.gf_items.specs.Kinds.{a_marked_set}

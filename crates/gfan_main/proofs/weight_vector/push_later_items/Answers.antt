@@ -1,4 +1,4 @@
-use Rattle.std.proofs.Common.{List, ℕ, ℤ, ◌++◌, flat_map, ap, ◌∙◌}
+use Rattle.std.proofs.Common.{List, ℤ, ◌++◌, flat_map, ap, ◌∙◌}
 use Rattle.gf_poly.specs.Marking.{MarkedPolynomials}
 use Rattle.gfan_main.specs.WeightVector.{later_weight_item}
 use Rattle.gfan_main.proofs.WeightVectorLaws.{items_more, items_all}
