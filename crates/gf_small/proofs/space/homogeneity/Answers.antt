@@ -17,8 +17,8 @@ returns-clause-space c =
     let none : c.as_slice.result.now ≡ [] = c.as_slice.ensures.value ∙ c.new-none.ensures.items in
     let rows : c.as_slice-2.result.now ≡ rows_of c.args.set.now = c.as_slice-2.ensures.value ∙ c.in_ok-rows.ensures.value in
     IfOk-weaker c.of.result _ _ (λ (o : RowsAndRays) k.
-        let rays = subst (λ (h : List (List ℤ)). IsRays c.args.n h c.as_slice-2.result.now o.lineality o.rays) none k in
-        basis_of c.args.n c.args.set.now c.as_slice-2.result.now o.lineality o.rays c.requires c.in_ok-rows.ensures.marked rows rays) c.of.ensures.rays
+    let rays = subst (λ (h : List (List ℤ)). IsRays c.args.n h c.as_slice-2.result.now o.lineality o.rays) none k in
+    basis_of c.args.n c.args.set.now c.as_slice-2.result.now o.lineality o.rays c.requires c.in_ok-rows.ensures.marked rows rays) c.of.ensures.rays
 
 pub returns-clause-complete : goal.returns-clause-complete
 returns-clause-complete c = λ within.
