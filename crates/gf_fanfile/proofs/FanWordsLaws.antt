@@ -1,7 +1,8 @@
 -- Steps of writing a fan: numbers of cones, lines, and sections one after another.
--- To cite: f_vector_of, rows_text, none_yet, one_more, both_parts, three_parts. The rest are steps.
-use Rattle.std.proofs.Common.{◌≡◌, ◌<◌, ℕ, ◌+◌, ◌-◌, List, [], ◌∷◌, ◌++◌, length, map, flat_map, refl, sym, ap, ◌∙◌, append_assoc, append-nil, arith, ℤ}
+-- To cite: f_vector_of, counts_more, rows_text, none_yet, one_more, both_parts, three_parts. The rest are steps.
+use Rattle.std.proofs.Common.{ap₂, ◌≤◌, ◌≡◌, ◌<◌, ℕ, ◌+◌, ◌-◌, List, [], ◌∷◌, ◌++◌, length, map, flat_map, refl, sym, ap, ◌∙◌, append_assoc, append-nil, arith, ℤ}
 use Rattle.std.specs.List.{range_with_len}
+use Rattle.std.proofs.lemmas.List.FromFn.{map-range_with_len_more}
 use Rattle.gf_fanfile.specs.declared.parts.ListedCone.{ListedCone}
 use Rattle.gf_fanfile.specs.FanWords.{greatest_dim, count_of, f_vector, spaced_entries, lines_text, TextSection, section_text, sections_text}
 
@@ -9,6 +10,13 @@ use Rattle.gf_fanfile.specs.FanWords.{greatest_dim, count_of, f_vector, spaced_e
 pub f_vector_of : (low : ℕ) (cs : List ListedCone) → 0 < length cs → f_vector low cs ≡ map (count_of cs) (range_with_len low (greatest_dim cs + 1 - low))
 f_vector_of low [] h = absurd (omega arith)
 f_vector_of low (c ∷ cs) h = refl
+
+-- numbers of one dimension after another, and one more
+pub counts_more : (f : ℕ → ℕ) (low dim n : ℕ) (old new : List ℕ) → low ≤ dim → old ≡ map f (range_with_len low (dim - low)) → n ≡ f dim → new ≡ old ++ n ∷ [] → new ≡ map f (range_with_len low (dim + 1 - low))
+counts_more f low dim n old new from before here is =
+    let next : dim + 1 - low ≡ (dim - low) + 1 = omega (arith, from) in
+    let place : low + (dim - low) ≡ dim = omega (arith, from) in
+    is ∙ ap₂ (λ (xs : List ℕ) (m : ℕ). xs ++ m ∷ []) before here ∙ sym (map-range_with_len_more f low (dim - low) dim place) ∙ ap (λ k. map f (range_with_len low k)) (sym next)
 
 -- rows, each with the end of its line
 pub rows_text : (rs : List (List ℤ)) → flat_map (λ r. spaced_entries r ++ 10 ∷ []) rs ≡ lines_text (map (λ r. spaced_entries r) rs)

@@ -6,7 +6,7 @@ use Rattle.gf_fanfile.specs.declared.file.FanFile.{FanFile}
 use Rattle.gf_fanfile.specs.declared.parts.ListedCone.{ListedCone}
 use Rattle.gf_fanfile.specs.RowText.{most_row_entry}
 use Rattle.gf_fanfile.specs.ConeText.{most_number}
-use Rattle.gf_fanfile.specs.Files.{IsFileOf}
+use Rattle.gf_fanfile.specs.Files.{IsFileOf, AreBelow}
 use Rattle.gf_fanfile.specs.FanWords.{FanWords, fan_text}
 
 -- n entries each, within the limit of rows
@@ -18,6 +18,10 @@ pub record AreWritable (n : ℕ) (rows : List (List ℤ)) : Type 0 where
 pub record IsWritableCone (c : ListedCone) : Type 0 where
   pub dim : c.dim ≤ most_number
   pub rays : All (λ k. k ≤ most_number) c.rays
+
+-- the numbers in the cones are below this one
+abbrev pub AreNumbersBelow : ℕ → List ListedCone → Type 0
+AreNumbersBelow count cs = All (λ (c : ListedCone). AreBelow count c.rays) cs
 
 -- Within the limits of fan files: the ambient dimension is from 1 to 16, each row has as many entries, and entries, dimensions
 -- and how many there are don't pass their limits.

@@ -5,6 +5,7 @@
 //! (`specs/FanText.antt`).
 #![tactic(auto)]
 
+mod again;
 mod cones;
 mod error;
 mod file;
@@ -16,9 +17,10 @@ mod rows;
 mod sections;
 mod writer;
 
+pub use again::{fans_are_read_again, parts_are_writable};
 pub use cones::{ConeList, RayNumbers};
 pub use error::{FanFileError, Section};
 pub use file::{FanFile, read_file};
 pub use parts::{FanParts, ListedCone};
 pub use rows::Vectors;
-pub use writer::{fans_are_read_again, write_parts};
+pub use writer::write_parts;

@@ -4,7 +4,6 @@ ghost use Rattle.gf_text.specs.PrintedText.{is_below_zero};
 ghost use Rattle.gf_text.specs.VectorText.{entry_text};
 ghost use Rattle.gf_fanfile.specs.FanText.{rays_name};
 ghost use Rattle.gf_fanfile.specs.FanWords.{spaced_entries, spaced_numbers, comment, ray_lines, number_lines, cone_text, told_cone, cone_line, cone_lines, truth_line, dim_line, section, lines_text, section_text, sections_text, front_sections, back_sections, fan_text};
-ghost use Rattle.gf_fanfile.specs.FansAgain.{FansAreReadAgain};
 
 use crate::parts::{FanParts, ListedCone, f_vector, greatest_dim, is_pure, is_simplicial};
 use gf_text::push_number;
@@ -285,11 +284,3 @@ pub fn write_parts(alloc: Global, parts: &FanParts) -> Result<Vec<u8>, AllocErro
     push_back(alloc, &mut out, parts)?;
     Ok(out)
 }
-
-/// What is written of a fan within the limits of fan files is read again: the ambient dimension, the rays, the basis of the
-/// lineality space, and the maximal cones.
-///
-/// It does nothing; its contract is the law.
-pub fn fans_are_read_again()
-    ensures { FansAreReadAgain }
-{}

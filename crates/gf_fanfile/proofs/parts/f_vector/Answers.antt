@@ -1,21 +1,13 @@
-use Rattle.std.proofs.Common.{◌≡◌, ◌<◌, ◌≤◌, ℕ, ◌+◌, ◌-◌, ◌==◌, false, ◌∷◌, [], ◌++◌, List, length, map, arith, ap, ap₂, sym, ◌∙◌}
+use Rattle.std.proofs.Common.{◌≡◌, ◌<◌, ◌≤◌, ◌+◌, ◌-◌, ◌==◌, false, length, map, arith, ap, sym, ◌∙◌}
 use Rattle.std.specs.List.{range_with_len}
-use Rattle.std.proofs.lemmas.List.FromFn.{map-range_with_len_more}
 use Rattle.std.proofs.lemmas.Bool.Decides.{nat_tests}
 use Rattle.gf_fanfile.specs.FanWords.{greatest_dim, count_of}
-use Rattle.gf_fanfile.proofs.FanWordsLaws.{f_vector_of}
+use Rattle.gf_fanfile.proofs.FanWordsLaws.{f_vector_of, counts_more}
 use Rattle.gf_fanfile.proofs.parts.f_vector.Goals as goal
 
 pub loop-dim-preserved : goal.loop-dim-preserved
 loop-dim-preserved c =
-    let low = c.args.low in
-    let dim = c.loop-dim.dim in
-    let f = count_of c.args.cones.now in
-    let from : low ≤ dim = c.loop-dim.auto.dim in
-    let next : dim + 1 - low ≡ (dim - low) + 1 = omega (arith, from) in
-    let place : low + (dim - low) ≡ dim = omega (arith, from) in
-    c.in_ok-push.ensures.items ∙ ap₂ (λ (xs : List ℕ) (n : ℕ). xs ++ n ∷ []) c.loop-dim.invariant c.count_of.ensures
-    ∙ sym (map-range_with_len_more f low (dim - low) dim place) ∙ ap (λ k. map f (range_with_len low k)) (sym next)
+    counts_more (count_of c.args.cones.now) c.args.low c.loop-dim.dim c.count_of.result c.loop-dim.counts.items c.push.new.self.items c.loop-dim.auto.dim c.loop-dim.invariant c.count_of.ensures c.in_ok-push.ensures.items
 
 pub returns : goal.returns
 returns c =

@@ -1,0 +1,83 @@
+//! What is written of a fan is read again. The functions here do nothing; their contracts are laws.
+ghost use Rattle.std.specs.Prelude.{◌<◌, ◌≤◌, All, length, unsigned_abs};
+ghost use Rattle.gf_gordan.specs.Alternative.{AreRows};
+ghost use Rattle.gf_fanfile.specs.ConeText.{most_number};
+ghost use Rattle.gf_fanfile.specs.RowText.{most_row_entry};
+ghost use Rattle.gf_fanfile.specs.FansAgain.{AreWritable, IsWritableCone, AreNumbersBelow, IsWritable, FansAreReadAgain};
+
+use crate::parts::{FanParts, ListedCone};
+use gf_vec::IntVec;
+
+/// What is written of a fan within the limits of fan files is read again: the ambient dimension, the rays, the basis of the
+/// lineality space, and the maximal cones.
+pub fn fans_are_read_again()
+    ensures { FansAreReadAgain }
+{}
+
+/// Vectors in memory are few.
+fn vectors_are_few(vectors: &[IntVec])
+    ensures { length vectors.now ≤ most_number }
+{}
+
+/// Cones in memory are few.
+fn cones_are_few(cones: &[ListedCone])
+    ensures { length cones.now ≤ most_number }
+{}
+
+/// The entries of a vector are within the limit of rows.
+fn entries_are_within(row: &IntVec)
+    ensures { All (λ z. unsigned_abs z ≤ most_row_entry) row.now }
+{
+    let _entries = row.as_slice();
+}
+
+/// Rows of this length can be written.
+fn rows_are_writable(n: u32, rows: &[IntVec])
+    requires { AreRows n rows.now }
+    ensures { AreWritable n rows.now }
+{
+    'rows: for row in rows {
+        entries_are_within(row);
+    }
+}
+
+/// A cone whose numbers are within their limit can be written.
+fn cone_is_writable(cone: &ListedCone)
+    requires { All (λ k. k ≤ most_number) cone.now.rays }
+    ensures { IsWritableCone cone.now }
+{
+    let _dim = cone.dim;
+}
+
+/// Cones of these rays can be written.
+fn cones_are_writable(rays: &[IntVec], cones: &[ListedCone])
+    requires { AreNumbersBelow (length rays.now) cones.now }
+    ensures { All IsWritableCone cones.now }
+{
+    vectors_are_few(rays);
+    'cones: for cone in cones {
+        cone_is_writable(cone);
+    }
+}
+
+/// What is written of a fan is within the limits of fan files, where its ambient dimension is from 1 to 16, its rows have as
+/// many entries, and the numbers in its cones are those of its rays.
+pub fn parts_are_writable(parts: &FanParts)
+    requires positive { 0 < parts.now.ambient }
+    requires dimension { parts.now.ambient ≤ 16 }
+    requires rays { AreRows parts.now.ambient parts.now.rays }
+    requires lineality { AreRows parts.now.ambient parts.now.lineality }
+    requires orthogonal { AreRows parts.now.ambient parts.now.orthogonal }
+    requires cones { AreNumbersBelow (length parts.now.rays) parts.now.cones }
+    requires maximal { AreNumbersBelow (length parts.now.rays) parts.now.maximal }
+    ensures { IsWritable parts.now }
+{
+    rows_are_writable(parts.ambient, parts.rays);
+    rows_are_writable(parts.ambient, parts.lineality);
+    rows_are_writable(parts.ambient, parts.orthogonal);
+    cones_are_writable(parts.rays, parts.cones);
+    cones_are_writable(parts.rays, parts.maximal);
+    vectors_are_few(parts.rays);
+    vectors_are_few(parts.lineality);
+    cones_are_few(parts.cones);
+}
