@@ -1,7 +1,8 @@
 //! Fan files, by hand: what is read of one, why one isn't, and the text of one.
 use gf_fanfile::*;
+use gf_gordan::ConeOverflow;
 use gf_text::{Kind, Syntax};
-use gf_vec::IntVec;
+use gf_vec::{IntVec, VecOp};
 use std::alloc::Global;
 use std::process::Abort;
 use std::test::Fail;
@@ -112,6 +113,27 @@ fn refused_files(rt: HostRuntime) {
     for (source, wanted) in texts {
         check_refusal(&rt, alloc, source, wanted);
     }
+}
+
+#[test]
+fn a_test_of_a_ray_leaves_the_range(rt: HostRuntime) {
+    let alloc = rt.alloc();
+    let text = b"AMBIENT_DIM
+2
+RAYS
+170141183460469231731687303715884105727 170141183460469231731687303715884105726
+LINEALITY_SPACE
+170141183460469231731687303715884105725 170141183460469231731687303715884105722
+MAXIMAL_CONES
+{1}
+";
+    let wanted = ConeOverflow {
+        row: 0,
+        op: VecOp::Mul,
+        left: 170_141_183_460_469_231_731_687_303_715_884_105_725,
+        right: 170_141_183_460_469_231_731_687_303_715_884_105_726,
+    };
+    check_refusal(&rt, alloc, text, FanFileError::Cone(wanted));
 }
 
 /// A vector with these entries.
