@@ -1,5 +1,5 @@
 //! The first pair of cones whose meet isn't a face of both.
-ghost use Rattle.std.specs.Prelude.{◌≡◌, ◌<◌, ◌^◌, ℕ, MatchOption, IfNone, IfOk, IfErr, OnOk, length};
+ghost use Rattle.std.specs.Prelude.{◌<◌, ◌^◌, ℕ, MatchOption, IfNone, IfOk, IfErr, OnOk, length};
 ghost use Rattle.gf_gordan.specs.Steps.{Failed};
 ghost use Rattle.gf_fan.specs.Pairs.{AreOfAmbient, AreMeeting, AreMeetingAt, AreOfOneLineality, IsOneLinealityAt, IsFirstClash, IsPairStep};
 ghost use Rattle.gf_fan.specs.Refusals.{IsPairRefusal};

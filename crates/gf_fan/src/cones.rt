@@ -1,5 +1,5 @@
 //! The cones of a fan.
-ghost use Rattle.std.specs.Prelude.{◌≡◌, ◌++◌, ◌∷◌, [], ◌<◌, ◌↔◌, ℕ, ℤ, List, All, Bool, Contains, IfOk, IfErr, IsTrue, filter, length, slice_index_or};
+ghost use Rattle.std.specs.Prelude.{◌≡◌, ◌++◌, [], ◌<◌, All, IfOk, IfErr, length, slice_index_or};
 ghost use Rattle.gf_gordan.specs.Steps.{Failed};
 ghost use Rattle.gf_duality.specs.Rays.{IsImplied};
 ghost use Rattle.gf_duality.specs.Stages.{IsRaysStep};

@@ -1,8 +1,8 @@
 //! The fan of cones.
-ghost use Rattle.std.specs.Prelude.{◌≡◌, ◌<◌, ◌↔◌, ◌^◌, [], List, ℤ, IfOk, IfErr, IsTrue, length};
+ghost use Rattle.std.specs.Prelude.{◌≡◌, ◌<◌, ◌↔◌, ◌^◌, List, IfOk, IfErr, IsTrue, length};
 ghost use Rattle.gf_fan.specs.declared.error.FanError.TheVariants.{Memory};
 ghost use Rattle.gf_fan.specs.Pairs.{AreOfAmbient, AreMeeting, AreOfOneLineality};
-ghost use Rattle.gf_fan.specs.FansOfCones.{IsCommonLineality, AreCommonRays, AreAllFaces, AreDimensions, IsFanOf, IsFan};
+ghost use Rattle.gf_fan.specs.FansOfCones.{IsCommonLineality, IsFanOf, IsFan};
 ghost use Rattle.gf_fan.specs.Refusals.{IsFanRefusal, IsFanWithinLimits};
 ghost use Rattle.gf_fan.specs.Holding.{IsInSome, IsHoldingStep};
 
