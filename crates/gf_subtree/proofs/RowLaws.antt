@@ -10,8 +10,8 @@ use Rattle.gf_walk.specs.Listing.{IsLeftAt}
 use Rattle.gf_walk.specs.Pieces.{AreBelow, Follows, GoesDown, PiecesLeave}
 use Rattle.gf_walk.specs.declared.expand.Piece.{Piece}
 use Rattle.gf_walk.specs.declared.expand.Piece.TheVariants.{Ready, Under, Refused}
-use Rattle.gf_waves.specs.Frontier.{Frontier, due_at, share_at}
-use Rattle.gf_waves.specs.Wave.{IsWaved, IsExpansion, IsAsked, IsGiven, IsReadied, IsCall}
+use Rattle.gf_waves.specs.Frontier.{Frontier, due_at, times_at}
+use Rattle.gf_waves.specs.Wave.{IsWaved, IsExpansion, ExpandsOn, IsAsked, IsGiven, IsReadied, IsCall}
 use Rattle.gf_waves.proofs.WaveLaws.{readied_leaves}
 use Rattle.gf_subtree.specs.Rows.{AreAmong}
 
@@ -62,22 +62,31 @@ module _ {T N L E : Type 0} (lt : L → L → Type 0) (up : T → N → L → N 
   down_among : (most : ℕ) (w : Place T N L) (ps : List (Piece T N L E)) → GoesDown lt up refuses most w ps → In w.tree w.here → AreAmong In Is ps
   down_among most w ps g i = subst (AreAmong In Is) (sym g.whole) (among_both g.below g.rest (children_among w.tree w.here w.mark g.mark g.below g.children i) (follows_among _ _ g.rest g.follows i))
 
-  one_among : (most : ℕ) (w : Place T N L) (ps : List (Piece T N L E)) → IsExpansion lt up refuses most w ps → In w.tree w.here → AreAmong In Is ps
-  one_among most w ps (inl (inl g)) i = down_among most w ps g i
-  one_among most w ps (inl (inr h)) i = subst (AreAmong In Is) (sym h.2) (ready w.tree w.here i, down_among most _ h.1 h.3 i)
-  one_among most w ps (inr h) i = subst (AreAmong In Is) (sym h.1) (i, tt)
+  one_among : (w : Place T N L) (ps : List (Piece T N L E)) → IsExpansion lt up refuses w ps → In w.tree w.here → AreAmong In Is ps
+  one_among w ps (inl (inl g)) i = down_among 1 w ps g i
+  one_among w ps (inl (inr h)) i = subst (AreAmong In Is) (sym h.2) (ready w.tree w.here i, down_among 1 _ h.1 h.3 i)
+  one_among w ps (inr h) i = subst (AreAmong In Is) (sym h.1) (i, tt)
+
+  -- ---- a job
+
+  on_among : (k : ℕ) (olds news : List (Piece T N L E)) → ExpandsOn lt up refuses k olds news → AreAmong In Is olds → AreAmong In Is news
+  on_among zero olds news h a = subst (AreAmong In Is) (sym h) a
+  on_among (suc k) [] news h a = subst (AreAmong In Is) (sym h) a
+  on_among (suc k) (Ready v ∷ ps) news h a = subst (AreAmong In Is) (sym h.1) (a.0, on_among (suc k) ps h.0 h.2 a.1)
+  on_among (suc k) (Under w ∷ ps) news h a = on_among k (h.0 ++ ps) news h.2 (among_both h.0 ps (one_among w h.0 h.1 a.0) a.1)
+  on_among (suc k) (Refused w e ∷ ps) news h a = subst (AreAmong In Is) (sym h) a
 
   -- ---- a wave
 
-  waved_among : (most m : ℕ) (olds news : List (Piece T N L E)) → IsWaved lt up refuses most m olds news → AreAmong In Is olds → AreAmong In Is news
-  waved_among most zero olds news h a = subst (AreAmong In Is) (sym h) a
-  waved_among most (suc m) [] news h a = subst (AreAmong In Is) (sym h) a
-  waved_among most (suc m) (Ready v ∷ ps) news h a = subst (AreAmong In Is) (sym h.1) (a.0, waved_among most (suc m) ps h.0 h.2 a.1)
-  waved_among most (suc m) (Under w ∷ ps) news h a = subst (AreAmong In Is) (sym h.2) (among_both h.0 h.1 (one_among most w h.0 h.3 a.0) (waved_among most m ps h.1 h.4 a.1))
-  waved_among most (suc m) (Refused w e ∷ ps) news h a = subst (AreAmong In Is) (sym h.2) (among_both h.0 h.1 (one_among most w h.0 h.3 a.0) (waved_among most m ps h.1 h.4 a.1))
+  waved_among : (times m : ℕ) (olds news : List (Piece T N L E)) → IsWaved lt up refuses times m olds news → AreAmong In Is olds → AreAmong In Is news
+  waved_among times zero olds news h a = subst (AreAmong In Is) (sym h) a
+  waved_among times (suc m) [] news h a = subst (AreAmong In Is) (sym h) a
+  waved_among times (suc m) (Ready v ∷ ps) news h a = subst (AreAmong In Is) (sym h.1) (a.0, waved_among times (suc m) ps h.0 h.2 a.1)
+  waved_among times (suc m) (Under w ∷ ps) news h a = subst (AreAmong In Is) (sym h.2) (among_both h.0 h.1 (on_among times (Under w ∷ []) h.0 h.3 (a.0, tt)) (waved_among times m ps h.1 h.4 a.1))
+  waved_among times (suc m) (Refused w e ∷ ps) news h a = subst (AreAmong In Is) (sym h.2) (among_both h.0 h.1 (on_among times (Under w ∷ []) h.0 h.3 (a.0, tt)) (waved_among times m ps h.1 h.4 a.1))
 
   pub readied_among : (workers jobs next : ℕ) (olds worked : List (Piece T N L E)) → IsReadied lt up refuses workers jobs olds next worked → AreAmong In Is olds → AreAmong In Is worked
-  readied_among workers jobs next olds worked (inl h) a = waved_among (share_at workers (length olds)) (due_at workers (length olds)) olds worked h.3 a
+  readied_among workers jobs next olds worked (inl h) a = waved_among (times_at workers jobs (length olds)) (due_at workers (length olds)) olds worked h.3 a
   readied_among workers jobs next olds worked (inr h) a = subst (AreAmong In Is) (sym h.2) a
 
   -- ---- an answer

@@ -1,6 +1,6 @@
 -- How a row is cut up for a wave, and put together again.
 -- To cite: waved_jobs, worked_all, planned_few, planned_count, goes_ready, goes_under, goes_refused, goes_none, goes_end.
-use Rattle.std.proofs.Common.{◌≡◌, ℕ, zero, suc, ◌<◌, ◌≤◌, ◌+◌, ◌*◌, List, [], ◌∷◌, ◌++◌, Option, Some, None, length, refl, sym, ap, inl, inr, subst, ◌∙◌, append_assoc, arith, get_or, length-append, append-nil}
+use Rattle.std.proofs.Common.{◌≡◌, ℕ, zero, suc, ◌<◌, ◌≤◌, ◌+◌, ◌*◌, List, [], ◌∷◌, ◌++◌, Option, Some, None, length, refl, sym, ap, subst, ◌∙◌, append_assoc, arith, get_or, length-append, append-nil}
 use Rattle.std.proofs.Math.Nat.{suc-mul}
 use Rattle.gf_walk.specs.Place.{Place}
 use Rattle.gf_walk.specs.declared.expand.Piece.{Piece}
@@ -9,38 +9,39 @@ use Rattle.gf_waves.specs.declared.job.Job.{Job}
 use Rattle.gf_waves.specs.declared.job.Job.TheVariants.{Due, Stopped, Done}
 use Rattle.gf_waves.specs.Frontier.{job_number, walkers_up_to}
 use Rattle.gf_waves.specs.Plans.{IsPlanned, IsWorked, AreWorked, job_pieces, pieces_of}
-use Rattle.gf_waves.specs.Wave.{IsWaved, IsExpansion}
+use Rattle.gf_waves.specs.Wave.{IsWaved, ExpandsOn}
+use Rattle.gf_waves.proofs.JobLaws.{on_refused}
 
 -- ---- a row that was cut up, worked on and put together again
 
-module _ {T N L E : Type 0} (lt : L → L → Type 0) (up : T → N → L → N → Type 0) (refuses : Place T N L → E → Type 0) (most : ℕ) where
+module _ {T N L E : Type 0} (lt : L → L → Type 0) (up : T → N → L → N → Type 0) (refuses : Place T N L → E → Type 0) (times : ℕ) (some : 0 < times) where
   -- what a walker that was due became
-  expanded : (w : Place T N L) (n : ℕ) (t : Job T N L E) → IsWorked lt up refuses most (Due w n) t → IsExpansion lt up refuses most w (job_pieces t)
+  expanded : (w : Place T N L) (n : ℕ) (t : Job T N L E) → IsWorked lt up refuses times (Due w n) t → ExpandsOn lt up refuses times (Under w ∷ []) (job_pieces t)
   expanded w n (Due x k) h = absurd h
-  expanded w n (Stopped x e) h = inr (e, ap (λ y. Refused y e ∷ []) h.0, h.1)
-  expanded w n (Done ps) h = inl h.0
+  expanded w n (Stopped x e) h = subst (λ y. ExpandsOn lt up refuses times (Under w ∷ []) (Refused y e ∷ [])) (sym h.0) (on_refused lt up refuses times some w e h.1)
+  expanded w n (Done ps) h = h.0
 
-  expanded_few : (w : Place T N L) (n : ℕ) (t : Job T N L E) → IsWorked lt up refuses most (Due w n) t → length (job_pieces t) ≤ most + 2
+  expanded_few : (w : Place T N L) (n : ℕ) (t : Job T N L E) → IsWorked lt up refuses times (Due w n) t → length (job_pieces t) ≤ times * 2 + 1
   expanded_few w n (Due x k) h = absurd h
   expanded_few w n (Stopped x e) h = omega arith
   expanded_few w n (Done ps) h = h.1
 
   -- the first place of a plan is a job
-  job_first : (m n : ℕ) (ps tail : List (Piece T N L E)) (w : Place T N L) (places qs : List (Option N)) (js dones : List (Job T N L E)) → places ≡ None ∷ qs → AreWorked lt up refuses most (Due w (job_number n) ∷ js) dones →
-      ((ts : List (Job T N L E)) → AreWorked lt up refuses most js ts → IsWaved lt up refuses most m ps (pieces_of qs ts ++ tail)) →
-      (front : List (Piece T N L E)) × (rest : List (Piece T N L E)) × (pieces_of places dones ++ tail ≡ front ++ rest) × IsExpansion lt up refuses most w front × IsWaved lt up refuses most m ps rest
+  job_first : (m n : ℕ) (ps tail : List (Piece T N L E)) (w : Place T N L) (places qs : List (Option N)) (js dones : List (Job T N L E)) → places ≡ None ∷ qs → AreWorked lt up refuses times (Due w (job_number n) ∷ js) dones →
+      ((ts : List (Job T N L E)) → AreWorked lt up refuses times js ts → IsWaved lt up refuses times m ps (pieces_of qs ts ++ tail)) →
+      (front : List (Piece T N L E)) × (rest : List (Piece T N L E)) × (pieces_of places dones ++ tail ≡ front ++ rest) × ExpandsOn lt up refuses times (Under w ∷ []) front × IsWaved lt up refuses times m ps rest
   job_first m n ps tail w places qs js [] e a rec = absurd a
   job_first m n ps tail w places qs js (t ∷ ts) e a rec = (job_pieces t, pieces_of qs ts ++ tail, ap (λ q. pieces_of q (t ∷ ts) ++ tail) e ∙ append_assoc (job_pieces t) (pieces_of qs ts) tail, expanded w (job_number n) t a.0, rec ts a.1)
 
-  pub waved_jobs : (m n : ℕ) (olds tail : List (Piece T N L E)) (places : List (Option N)) (jobs dones : List (Job T N L E)) → IsPlanned m n olds places jobs tail → AreWorked lt up refuses most jobs dones → IsWaved lt up refuses most m olds (pieces_of places dones ++ tail)
+  pub waved_jobs : (m n : ℕ) (olds tail : List (Piece T N L E)) (places : List (Option N)) (jobs dones : List (Job T N L E)) → IsPlanned m n olds places jobs tail → AreWorked lt up refuses times jobs dones → IsWaved lt up refuses times m olds (pieces_of places dones ++ tail)
   waved_jobs zero n olds tail places jobs dones p a = ap (λ q. pieces_of q dones ++ tail) p.0 ∙ p.2
   waved_jobs (suc m) n [] tail places jobs dones p a = ap (λ q. pieces_of q dones ++ tail) p.0 ∙ p.2
   waved_jobs (suc m) n (Ready v ∷ ps) tail places jobs dones p a = (pieces_of p.0 dones ++ tail, ap (λ q. pieces_of q dones ++ tail) p.1, waved_jobs (suc m) n ps tail p.0 jobs dones p.2 a)
-  waved_jobs (suc m) n (Under w ∷ ps) tail places jobs dones p a = job_first m n ps tail w places p.0 p.1 dones p.2 (subst (λ s. AreWorked lt up refuses most s dones) p.3 a) (λ ts h. waved_jobs m (n + 1) ps tail p.0 p.1 ts p.4 h)
-  waved_jobs (suc m) n (Refused w e ∷ ps) tail places jobs dones p a = job_first m n ps tail w places p.0 p.1 dones p.2 (subst (λ s. AreWorked lt up refuses most s dones) p.3 a) (λ ts h. waved_jobs m (n + 1) ps tail p.0 p.1 ts p.4 h)
+  waved_jobs (suc m) n (Under w ∷ ps) tail places jobs dones p a = job_first m n ps tail w places p.0 p.1 dones p.2 (subst (λ s. AreWorked lt up refuses times s dones) p.3 a) (λ ts h. waved_jobs m (n + 1) ps tail p.0 p.1 ts p.4 h)
+  waved_jobs (suc m) n (Refused w e ∷ ps) tail places jobs dones p a = job_first m n ps tail w places p.0 p.1 dones p.2 (subst (λ s. AreWorked lt up refuses times s dones) p.3 a) (λ ts h. waved_jobs m (n + 1) ps tail p.0 p.1 ts p.4 h)
 
   -- job by job from index by index
-  pub worked_all : (ss ts : List (Job T N L E)) → length ts ≡ length ss → ((i : ℕ) (d : Job T N L E) → i < length ss → IsWorked lt up refuses most (get_or ss i d) (get_or ts i d)) → AreWorked lt up refuses most ss ts
+  pub worked_all : (ss ts : List (Job T N L E)) → length ts ≡ length ss → ((i : ℕ) (d : Job T N L E) → i < length ss → IsWorked lt up refuses times (get_or ss i d) (get_or ts i d)) → AreWorked lt up refuses times ss ts
   worked_all [] [] e z = tt
   worked_all [] (t ∷ ts) e z = absurd (omega arith)
   worked_all (s ∷ ss) [] e z = absurd (omega arith)
@@ -48,25 +49,25 @@ module _ {T N L E : Type 0} (lt : L → L → Type 0) (up : T → N → L → N 
 
   -- ---- its length
 
-  longer : (m a b c k : ℕ) → a ≤ most + 2 → b ≤ c + m * (most + 1) → k ≡ a + b → k ≤ suc c + suc m * (most + 1)
-  longer m a b c k h j e = (let x : suc m * (most + 1) ≡ (most + 1) + m * (most + 1) = (let y = suc-mul m (most + 1) in omega (arith, y)) in omega (arith, x))
+  longer : (m a b c k : ℕ) → a ≤ times * 2 + 1 → b ≤ c + m * (times * 2) → k ≡ a + b → k ≤ suc c + suc m * (times * 2)
+  longer m a b c k h j e = (let x : suc m * (times * 2) ≡ times * 2 + m * (times * 2) = (let y = suc-mul m (times * 2) in omega (arith, y)) in omega (arith, x))
 
-  few_first : (m n : ℕ) (ps tail : List (Piece T N L E)) (w : Place T N L) (places qs : List (Option N)) (js dones : List (Job T N L E)) → places ≡ None ∷ qs → AreWorked lt up refuses most (Due w (job_number n) ∷ js) dones →
-      ((ts : List (Job T N L E)) → AreWorked lt up refuses most js ts → length (pieces_of qs ts ++ tail) ≤ length ps + m * (most + 1)) → length (pieces_of places dones ++ tail) ≤ suc (length ps) + suc m * (most + 1)
+  few_first : (m n : ℕ) (ps tail : List (Piece T N L E)) (w : Place T N L) (places qs : List (Option N)) (js dones : List (Job T N L E)) → places ≡ None ∷ qs → AreWorked lt up refuses times (Due w (job_number n) ∷ js) dones →
+      ((ts : List (Job T N L E)) → AreWorked lt up refuses times js ts → length (pieces_of qs ts ++ tail) ≤ length ps + m * (times * 2)) → length (pieces_of places dones ++ tail) ≤ suc (length ps) + suc m * (times * 2)
   few_first m n ps tail w places qs js [] e a rec = absurd a
   few_first m n ps tail w places qs js (t ∷ ts) e a rec = longer m (length (job_pieces t)) (length (pieces_of qs ts ++ tail)) (length ps) (length (pieces_of places (t ∷ ts) ++ tail)) (expanded_few w (job_number n) t a.0) (rec ts a.1)
       (ap (λ q. length (pieces_of q (t ∷ ts) ++ tail)) e ∙ ap length (append_assoc (job_pieces t) (pieces_of qs ts) tail) ∙ length-append (job_pieces t) (pieces_of qs ts ++ tail))
 
   -- the row is longer by at most so much a job
-  pub planned_few : (m n : ℕ) (olds tail : List (Piece T N L E)) (places : List (Option N)) (jobs dones : List (Job T N L E)) → IsPlanned m n olds places jobs tail → AreWorked lt up refuses most jobs dones → length (pieces_of places dones ++ tail) ≤ length olds + m * (most + 1)
+  pub planned_few : (m n : ℕ) (olds tail : List (Piece T N L E)) (places : List (Option N)) (jobs dones : List (Job T N L E)) → IsPlanned m n olds places jobs tail → AreWorked lt up refuses times jobs dones → length (pieces_of places dones ++ tail) ≤ length olds + m * (times * 2)
   planned_few zero n olds tail places jobs dones p a = (let k : length (pieces_of places dones ++ tail) ≡ length olds = ap length (ap (λ q. pieces_of q dones ++ tail) p.0 ∙ p.2) in omega arith)
   planned_few (suc m) n [] tail places jobs dones p a = (let k : length (pieces_of places dones ++ tail) ≡ 0 = ap length (ap (λ q. pieces_of q dones ++ tail) p.0 ∙ p.2) in omega arith)
   planned_few (suc m) n (Ready v ∷ ps) tail places jobs dones p a =
       let h = planned_few (suc m) n ps tail p.0 jobs dones p.2 a in
       let k : length (pieces_of places dones ++ tail) ≡ suc (length (pieces_of p.0 dones ++ tail)) = ap (λ q. length (pieces_of q dones ++ tail)) p.1 in
       omega (arith, h, k)
-  planned_few (suc m) n (Under w ∷ ps) tail places jobs dones p a = few_first m n ps tail w places p.0 p.1 dones p.2 (subst (λ s. AreWorked lt up refuses most s dones) p.3 a) (λ ts h. planned_few m (n + 1) ps tail p.0 p.1 ts p.4 h)
-  planned_few (suc m) n (Refused w e ∷ ps) tail places jobs dones p a = few_first m n ps tail w places p.0 p.1 dones p.2 (subst (λ s. AreWorked lt up refuses most s dones) p.3 a) (λ ts h. planned_few m (n + 1) ps tail p.0 p.1 ts p.4 h)
+  planned_few (suc m) n (Under w ∷ ps) tail places jobs dones p a = few_first m n ps tail w places p.0 p.1 dones p.2 (subst (λ s. AreWorked lt up refuses times s dones) p.3 a) (λ ts h. planned_few m (n + 1) ps tail p.0 p.1 ts p.4 h)
+  planned_few (suc m) n (Refused w e ∷ ps) tail places jobs dones p a = few_first m n ps tail w places p.0 p.1 dones p.2 (subst (λ s. AreWorked lt up refuses times s dones) p.3 a) (λ ts h. planned_few m (n + 1) ps tail p.0 p.1 ts p.4 h)
 
 -- ---- how many jobs there are
 

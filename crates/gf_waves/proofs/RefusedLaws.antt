@@ -10,7 +10,7 @@ use Rattle.gf_walk.specs.Pieces.{AreBelow, Follows, GoesDown}
 use Rattle.gf_walk.specs.declared.expand.Piece.{Piece}
 use Rattle.gf_walk.specs.declared.expand.Piece.TheVariants.{Ready, Under, Refused}
 use Rattle.gf_waves.specs.Frontier.{AreRefusals, IsFrontRefused}
-use Rattle.gf_waves.specs.Wave.{IsWaved, IsExpansion, IsGiven, is_served}
+use Rattle.gf_waves.specs.Wave.{IsWaved, IsExpansion, ExpandsOn, IsGiven, is_served}
 
 module _ {T N L E : Type 0} (lt : L → L → Type 0) (up : T → N → L → N → Type 0) (refuses : Place T N L → E → Type 0) where
   refusals_both : (ps qs : List (Piece T N L E)) → AreRefusals refuses ps → AreRefusals refuses qs → AreRefusals refuses (ps ++ qs)
@@ -36,19 +36,28 @@ module _ {T N L E : Type 0} (lt : L → L → Type 0) (up : T → N → L → N 
   down_refusals : (most : ℕ) (w : Place T N L) (ps : List (Piece T N L E)) → GoesDown lt up refuses most w ps → AreRefusals refuses ps
   down_refusals most w ps g = subst (AreRefusals refuses) (sym g.whole) (refusals_both g.below g.rest (below_refusals w.tree w.here w.mark g.mark g.below g.children) (follows_refusals _ _ g.rest g.follows))
 
-  one_refusals : (most : ℕ) (w : Place T N L) (ps : List (Piece T N L E)) → IsExpansion lt up refuses most w ps → AreRefusals refuses ps
-  one_refusals most w ps (inl (inl g)) = down_refusals most w ps g
-  one_refusals most w ps (inl (inr h)) = subst (AreRefusals refuses) (sym h.2) (down_refusals most _ h.1 h.3)
-  one_refusals most w ps (inr h) = subst (AreRefusals refuses) (sym h.1) (h.2, tt)
+  one_refusals : (w : Place T N L) (ps : List (Piece T N L E)) → IsExpansion lt up refuses w ps → AreRefusals refuses ps
+  one_refusals w ps (inl (inl g)) = down_refusals 1 w ps g
+  one_refusals w ps (inl (inr h)) = subst (AreRefusals refuses) (sym h.2) (down_refusals 1 _ h.1 h.3)
+  one_refusals w ps (inr h) = subst (AreRefusals refuses) (sym h.1) (h.2, tt)
+
+  -- ---- a job
+
+  on_refusals : (k : ℕ) (olds news : List (Piece T N L E)) → ExpandsOn lt up refuses k olds news → AreRefusals refuses olds → AreRefusals refuses news
+  on_refusals zero olds news h a = subst (AreRefusals refuses) (sym h) a
+  on_refusals (suc k) [] news h a = subst (AreRefusals refuses) (sym h) a
+  on_refusals (suc k) (Ready v ∷ ps) news h a = subst (AreRefusals refuses) (sym h.1) (on_refusals (suc k) ps h.0 h.2 a)
+  on_refusals (suc k) (Under w ∷ ps) news h a = on_refusals k (h.0 ++ ps) news h.2 (refusals_both h.0 ps (one_refusals w h.0 h.1) a)
+  on_refusals (suc k) (Refused w e ∷ ps) news h a = subst (AreRefusals refuses) (sym h) a
 
   -- ---- a wave
 
-  pub waved_refusals : (most m : ℕ) (olds news : List (Piece T N L E)) → IsWaved lt up refuses most m olds news → AreRefusals refuses olds → AreRefusals refuses news
-  waved_refusals most zero olds news h a = subst (AreRefusals refuses) (sym h) a
-  waved_refusals most (suc m) [] news h a = subst (AreRefusals refuses) (sym h) a
-  waved_refusals most (suc m) (Ready v ∷ ps) news h a = subst (AreRefusals refuses) (sym h.1) (waved_refusals most (suc m) ps h.0 h.2 a)
-  waved_refusals most (suc m) (Under w ∷ ps) news h a = subst (AreRefusals refuses) (sym h.2) (refusals_both h.0 h.1 (one_refusals most w h.0 h.3) (waved_refusals most m ps h.1 h.4 a))
-  waved_refusals most (suc m) (Refused w e ∷ ps) news h a = subst (AreRefusals refuses) (sym h.2) (refusals_both h.0 h.1 (one_refusals most w h.0 h.3) (waved_refusals most m ps h.1 h.4 a.1))
+  pub waved_refusals : (times m : ℕ) (olds news : List (Piece T N L E)) → IsWaved lt up refuses times m olds news → AreRefusals refuses olds → AreRefusals refuses news
+  waved_refusals times zero olds news h a = subst (AreRefusals refuses) (sym h) a
+  waved_refusals times (suc m) [] news h a = subst (AreRefusals refuses) (sym h) a
+  waved_refusals times (suc m) (Ready v ∷ ps) news h a = subst (AreRefusals refuses) (sym h.1) (waved_refusals times (suc m) ps h.0 h.2 a)
+  waved_refusals times (suc m) (Under w ∷ ps) news h a = subst (AreRefusals refuses) (sym h.2) (refusals_both h.0 h.1 (on_refusals times (Under w ∷ []) h.0 h.3 tt) (waved_refusals times m ps h.1 h.4 a))
+  waved_refusals times (suc m) (Refused w e ∷ ps) news h a = subst (AreRefusals refuses) (sym h.2) (refusals_both h.0 h.1 (on_refusals times (Under w ∷ []) h.0 h.3 tt) (waved_refusals times m ps h.1 h.4 a.1))
 
   -- ---- an answer
 

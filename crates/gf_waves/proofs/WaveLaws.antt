@@ -9,8 +9,8 @@ use Rattle.gf_walk.specs.Pieces.{PiecesLeave}
 use Rattle.gf_walk.specs.declared.expand.Piece.{Piece}
 use Rattle.gf_walk.specs.declared.expand.Piece.TheVariants.{Ready, Under, Refused}
 use Rattle.gf_walk.proofs.PiecesLaws.{expansion_leaves}
-use Rattle.gf_waves.specs.Wave.{IsWaved, IsExpansion, IsGiven, IsAsked, IsReadied, IsAfter}
-use Rattle.gf_waves.specs.Frontier.{due_at, share_at}
+use Rattle.gf_waves.specs.Wave.{IsWaved, IsExpansion, ExpandsOn, IsGiven, IsAsked, IsReadied, IsAfter}
+use Rattle.gf_waves.specs.Frontier.{due_at, times_at}
 use Rattle.gf_walk.specs.Walk.{IsOver}
 use Rattle.gf_walk.proofs.ListLaws.{gives}
 
@@ -21,21 +21,29 @@ leave_both left (Ready v ∷ ps) qs front back a b = (a.0 ++ back, ap (λ f. f +
 leave_both left (Under w ∷ ps) qs front back a b = (a.0, a.1 ++ back, ap (λ f. f ++ back) a.2 ∙ append_assoc a.0 a.1 back, a.3, leave_both left ps qs a.1 back a.4 b)
 leave_both left (Refused w e ∷ ps) qs front back a b = (a.0, a.1 ++ back, ap (λ f. f ++ back) a.2 ∙ append_assoc a.0 a.1 back, a.3, leave_both left ps qs a.1 back a.4 b)
 
-module _ {T N L E : Type 0} (lt : L → L → Type 0) (up : T → N → L → N → Type 0) (strict : IsStrictOrder lt) (trees : (t : T) → IsTree (up t)) (refuses : Place T N L → E → Type 0) (most : ℕ) where
-  one_leaves : (w : Place T N L) (ps : List (Piece T N L E)) → IsExpansion lt up refuses most w ps → (nodes : List N) → IsLeftAt lt up w nodes → PiecesLeave (IsLeftAt lt up) ps nodes
-  one_leaves w ps (inl h) nodes l = expansion_leaves lt up strict trees refuses most w ps h nodes l
+module _ {T N L E : Type 0} (lt : L → L → Type 0) (up : T → N → L → N → Type 0) (strict : IsStrictOrder lt) (trees : (t : T) → IsTree (up t)) (refuses : Place T N L → E → Type 0) where
+  one_leaves : (w : Place T N L) (ps : List (Piece T N L E)) → IsExpansion lt up refuses w ps → (nodes : List N) → IsLeftAt lt up w nodes → PiecesLeave (IsLeftAt lt up) ps nodes
+  one_leaves w ps (inl h) nodes l = expansion_leaves lt up strict trees refuses 1 w ps h nodes l
   one_leaves w ps (inr h) nodes l = subst (λ k. PiecesLeave (IsLeftAt lt up) k nodes) (sym h.1) (nodes, [], sym (append-nil nodes), l, refl)
 
-  join_waved : (w : Place T N L) (front rest news : List (Piece T N L E)) (f b nodes : List N) → news ≡ front ++ rest → nodes ≡ f ++ b → IsExpansion lt up refuses most w front → IsLeftAt lt up w f → PiecesLeave (IsLeftAt lt up) rest b → PiecesLeave (IsLeftAt lt up) news nodes
-  join_waved w front rest news f b nodes e n x l k = subst (λ r. PiecesLeave (IsLeftAt lt up) r nodes) (sym e) (subst (λ r. PiecesLeave (IsLeftAt lt up) (front ++ rest) r) (sym n) (leave_both (IsLeftAt lt up) front rest f b (one_leaves w front x f l) k))
+  -- a job leaves what was left
+  on_leaves : (k : ℕ) (olds news : List (Piece T N L E)) → ExpandsOn lt up refuses k olds news → (nodes : List N) → PiecesLeave (IsLeftAt lt up) olds nodes → PiecesLeave (IsLeftAt lt up) news nodes
+  on_leaves zero olds news h nodes l = subst (λ r. PiecesLeave (IsLeftAt lt up) r nodes) (sym h) l
+  on_leaves (suc k) [] news h nodes l = subst (λ r. PiecesLeave (IsLeftAt lt up) r nodes) (sym h) l
+  on_leaves (suc k) (Ready v ∷ ps) news h nodes l = subst (λ r. PiecesLeave (IsLeftAt lt up) r nodes) (sym h.1) (l.0, l.1, on_leaves (suc k) ps h.0 h.2 l.0 l.2)
+  on_leaves (suc k) (Under w ∷ ps) news h nodes l = on_leaves k (h.0 ++ ps) news h.2 nodes (subst (PiecesLeave (IsLeftAt lt up) (h.0 ++ ps)) (sym l.2) (leave_both (IsLeftAt lt up) h.0 ps l.0 l.1 (one_leaves w h.0 h.1 l.0 l.3) l.4))
+  on_leaves (suc k) (Refused w e ∷ ps) news h nodes l = subst (λ r. PiecesLeave (IsLeftAt lt up) r nodes) (sym h) l
+
+  join_waved : (times : ℕ) (w : Place T N L) (front rest news : List (Piece T N L E)) (f b nodes : List N) → news ≡ front ++ rest → nodes ≡ f ++ b → ExpandsOn lt up refuses times (Under w ∷ []) front → IsLeftAt lt up w f → PiecesLeave (IsLeftAt lt up) rest b → PiecesLeave (IsLeftAt lt up) news nodes
+  join_waved times w front rest news f b nodes e n x l k = subst (λ r. PiecesLeave (IsLeftAt lt up) r nodes) (sym e) (subst (λ r. PiecesLeave (IsLeftAt lt up) (front ++ rest) r) (sym n) (leave_both (IsLeftAt lt up) front rest f b (on_leaves times (Under w ∷ []) front x f (f, [], sym (append-nil f), l, refl)) k))
 
   -- a wave leaves what was left
-  pub waved_leaves : (m : ℕ) (olds news : List (Piece T N L E)) → IsWaved lt up refuses most m olds news → (nodes : List N) → PiecesLeave (IsLeftAt lt up) olds nodes → PiecesLeave (IsLeftAt lt up) news nodes
-  waved_leaves zero olds news h nodes l = subst (λ r. PiecesLeave (IsLeftAt lt up) r nodes) (sym h) l
-  waved_leaves (suc m) [] news h nodes l = subst (λ r. PiecesLeave (IsLeftAt lt up) r nodes) (sym h) l
-  waved_leaves (suc m) (Ready v ∷ ps) news h nodes l = subst (λ r. PiecesLeave (IsLeftAt lt up) r nodes) (sym h.1) (l.0, l.1, waved_leaves (suc m) ps h.0 h.2 l.0 l.2)
-  waved_leaves (suc m) (Under w ∷ ps) news h nodes l = join_waved w h.0 h.1 news l.0 l.1 nodes h.2 l.2 h.3 l.3 (waved_leaves m ps h.1 h.4 l.1 l.4)
-  waved_leaves (suc m) (Refused w e ∷ ps) news h nodes l = join_waved w h.0 h.1 news l.0 l.1 nodes h.2 l.2 h.3 l.3 (waved_leaves m ps h.1 h.4 l.1 l.4)
+  pub waved_leaves : (times m : ℕ) (olds news : List (Piece T N L E)) → IsWaved lt up refuses times m olds news → (nodes : List N) → PiecesLeave (IsLeftAt lt up) olds nodes → PiecesLeave (IsLeftAt lt up) news nodes
+  waved_leaves times zero olds news h nodes l = subst (λ r. PiecesLeave (IsLeftAt lt up) r nodes) (sym h) l
+  waved_leaves times (suc m) [] news h nodes l = subst (λ r. PiecesLeave (IsLeftAt lt up) r nodes) (sym h) l
+  waved_leaves times (suc m) (Ready v ∷ ps) news h nodes l = subst (λ r. PiecesLeave (IsLeftAt lt up) r nodes) (sym h.1) (l.0, l.1, waved_leaves times (suc m) ps h.0 h.2 l.0 l.2)
+  waved_leaves times (suc m) (Under w ∷ ps) news h nodes l = join_waved times w h.0 h.1 news l.0 l.1 nodes h.2 l.2 h.3 l.3 (waved_leaves times m ps h.1 h.4 l.1 l.4)
+  waved_leaves times (suc m) (Refused w e ∷ ps) news h nodes l = join_waved times w h.0 h.1 news l.0 l.1 nodes h.2 l.2 h.3 l.3 (waved_leaves times m ps h.1 h.4 l.1 l.4)
 
 -- ---- an answer
 
@@ -66,5 +74,5 @@ module _ {T N L E : Type 0} (lt : L → L → Type 0) (up : T → N → L → N 
   given_leaves (Under w ∷ ps) answer news (inr h) nodes l = given_leaves ps answer news h.1 nodes (subst (λ k. PiecesLeave (IsLeftAt lt up) ps k) (sym (l.2 ∙ ap (λ f. f ++ l.1) (over_leaves w h.0 l.0 l.3))) l.4)
 
   pub readied_leaves : (workers jobs next : ℕ) (olds worked : List (Piece T N L E)) → IsReadied lt up refuses workers jobs olds next worked → (nodes : List N) → PiecesLeave (IsLeftAt lt up) olds nodes → PiecesLeave (IsLeftAt lt up) worked nodes
-  readied_leaves workers jobs next olds worked (inl h) nodes l = waved_leaves lt up strict trees refuses (share_at workers (length olds)) (due_at workers (length olds)) olds worked h.3 nodes l
+  readied_leaves workers jobs next olds worked (inl h) nodes l = waved_leaves lt up strict trees refuses (times_at workers jobs (length olds)) (due_at workers (length olds)) olds worked h.3 nodes l
   readied_leaves workers jobs next olds worked (inr h) nodes l = subst (λ r. PiecesLeave (IsLeftAt lt up) r nodes) (sym h.2) l

@@ -17,13 +17,14 @@ pub record Frontier (T N L E : Type 0) : Type 0 where
 abbrev pub most_pieces : ℕ → ℕ
 most_pieces workers = (workers + 1) * 32
 
--- how many walkers a wave may expand: two a worker, and no more than leave each four places
+-- how many walkers a wave works on, one a job: one for each worker, and no more than leave each four places
 abbrev pub due_at : ℕ → ℕ → ℕ
-due_at workers length = min (2 * workers) ((most_pieces workers - length) / 4)
+due_at workers length = min workers ((most_pieces workers - length) / 4)
 
--- into how many subtrees at most, each
-abbrev pub share_at : ℕ → ℕ → ℕ
-share_at workers length = (most_pieces workers - length) / due_at workers length - 1
+-- how often each of these jobs expands: eight times, but no more often than its share of the places allows, two each time; and the first
+-- jobs no more often than there were jobs before, and once, so that there is soon work for all
+abbrev pub times_at : ℕ → ℕ → ℕ → ℕ
+times_at workers jobs length = min (jobs + 1) (min 8 ((most_pieces workers - length) / due_at workers length / 2))
 
 -- ---- pieces
 

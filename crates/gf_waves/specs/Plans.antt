@@ -1,13 +1,13 @@
 -- How a row is cut up for a wave, and put together again: its walkers become jobs, side by side, and its ready nodes stay in their places.
 -- Laws: proofs/PlanLaws.antt.
-use Rattle.std.specs.Prelude.{◌≡◌, ◌<◌, ◌≤◌, ◌+◌, length, slice_index_or, ℕ, zero, suc, List, [], ◌∷◌, ◌++◌, Option, Some, None}
+use Rattle.std.specs.Prelude.{◌≡◌, ◌<◌, ◌≤◌, ◌+◌, ◌*◌, length, slice_index_or, ℕ, zero, suc, List, [], ◌∷◌, ◌++◌, Option, Some, None}
 use Rattle.gf_walk.specs.Place.{Place}
-use Rattle.gf_walk.specs.Pieces.{Expands}
 use Rattle.gf_walk.specs.declared.expand.Piece.{Piece}
 use Rattle.gf_walk.specs.declared.expand.Piece.TheVariants.{Ready, Under, Refused}
 use Rattle.gf_waves.specs.declared.job.Job.{Job}
 use Rattle.gf_waves.specs.declared.job.Job.TheVariants.{Due, Stopped, Done}
 use Rattle.gf_waves.specs.Frontier.{job_number}
+use Rattle.gf_waves.specs.Wave.{ExpandsOn, IsExpansion}
 
 -- ---- cutting up
 
@@ -22,25 +22,34 @@ IsPlanned {T} {N} {L} {E} (suc m) n (Refused w e ∷ ps) places jobs tail = (qs 
 
 -- ---- working
 
--- a walker that was due is expanded, or refused; other jobs stay
+-- a walker is expanded before a row
+abbrev pub IsExpanded : {T N L E : Type 0} → (L → L → Type 0) → (T → N → L → N → Type 0) → (Place T N L → E → Type 0) → Place T N L → List (Piece T N L E) → List (Piece T N L E) → Type 0
+IsExpanded {T} {N} {L} {E} lt up refuses w olds news = (front : List (Piece T N L E)) × (news ≡ front ++ olds) × IsExpansion lt up refuses w front
+
+-- some pieces are done with: what the others may become with the expansions that are left, that stands behind these
+abbrev pub IsOn : {T N L E : Type 0} → (L → L → Type 0) → (T → N → L → N → Type 0) → (Place T N L → E → Type 0) → ℕ → List (Piece T N L E) → List (Piece T N L E) → ℕ → List (Piece T N L E) → List (Piece T N L E) → Type 0
+IsOn {T} {N} {L} {E} lt up refuses left dones olds less more rest =
+    (first : List (Piece T N L E)) × (more ≡ dones ++ first) × ((news : List (Piece T N L E)) → ExpandsOn lt up refuses less rest news → ExpandsOn lt up refuses left olds (first ++ news))
+
+-- a walker that was due is expanded so many times, or refused; other jobs stay
 abbrev pub IsWorked : {T N L E : Type 0} → (L → L → Type 0) → (T → N → L → N → Type 0) → (Place T N L → E → Type 0) → ℕ → Job T N L E → Job T N L E → Type 0
-IsWorked lt up refuses most (Due w n) (Due x k) = ⊥
-IsWorked lt up refuses most (Due w n) (Stopped x e) = (x ≡ w) × refuses w e
-IsWorked lt up refuses most (Due w n) (Done ps) = Expands lt up refuses most w ps.items × (length ps.items ≤ most + 2)
-IsWorked lt up refuses most (Stopped w e) new = new ≡ Stopped w e
-IsWorked lt up refuses most (Done ps) new = new ≡ Done ps
+IsWorked lt up refuses times (Due w n) (Due x k) = ⊥
+IsWorked lt up refuses times (Due w n) (Stopped x e) = (x ≡ w) × refuses w e
+IsWorked lt up refuses times (Due w n) (Done ps) = ExpandsOn lt up refuses times (Under w ∷ []) ps.items × (length ps.items ≤ times * 2 + 1)
+IsWorked lt up refuses times (Stopped w e) new = new ≡ Stopped w e
+IsWorked lt up refuses times (Done ps) new = new ≡ Done ps
 
 -- job by job
 abbrev pub AreWorked : {T N L E : Type 0} → (L → L → Type 0) → (T → N → L → N → Type 0) → (Place T N L → E → Type 0) → ℕ → List (Job T N L E) → List (Job T N L E) → Type 0
-AreWorked lt up refuses most [] [] = Unit {0}
-AreWorked lt up refuses most [] (t ∷ ts) = ⊥
-AreWorked lt up refuses most (s ∷ ss) [] = ⊥
-AreWorked lt up refuses most (s ∷ ss) (t ∷ ts) = IsWorked lt up refuses most s t × AreWorked lt up refuses most ss ts
+AreWorked lt up refuses times [] [] = Unit {0}
+AreWorked lt up refuses times [] (t ∷ ts) = ⊥
+AreWorked lt up refuses times (s ∷ ss) [] = ⊥
+AreWorked lt up refuses times (s ∷ ss) (t ∷ ts) = IsWorked lt up refuses times s t × AreWorked lt up refuses times ss ts
 
 -- the same, index by index
-pub record AreWorkedAt {T N L E : Type 0} (lt : L → L → Type 0) (up : T → N → L → N → Type 0) (refuses : Place T N L → E → Type 0) (most : ℕ) (olds news : List (Job T N L E)) : Type 0 where
+pub record AreWorkedAt {T N L E : Type 0} (lt : L → L → Type 0) (up : T → N → L → N → Type 0) (refuses : Place T N L → E → Type 0) (times : ℕ) (olds news : List (Job T N L E)) : Type 0 where
   pub same_length : length news ≡ length olds
-  pub each : (i : ℕ) (d : Job T N L E) → i < length olds → IsWorked lt up refuses most (slice_index_or olds i d) (slice_index_or news i d)
+  pub each : (i : ℕ) (d : Job T N L E) → i < length olds → IsWorked lt up refuses times (slice_index_or olds i d) (slice_index_or news i d)
 
 -- ---- putting together
 

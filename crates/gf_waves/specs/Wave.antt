@@ -5,26 +5,37 @@ use Rattle.std.specs.Prelude.{◌≡◌, ℕ, zero, suc, ◌+◌, ◌<◌, lengt
 use Rattle.std.specs.declared.result.Result.{Result}
 use Rattle.std.specs.declared.result.Result.TheVariants.{Ok, Err}
 use Rattle.gf_walk.specs.Place.{Place}
-use Rattle.gf_waves.specs.Frontier.{Frontier, due_at, share_at, job_number, walkers_up_to}
+use Rattle.gf_waves.specs.Frontier.{Frontier, due_at, times_at, job_number, walkers_up_to}
 use Rattle.gf_walk.specs.Walk.{Advances, IsOver}
 use Rattle.gf_walk.specs.Listing.{IsFirstOf}
 use Rattle.gf_walk.specs.Pieces.{Expands, PiecesLeave}
 use Rattle.gf_walk.specs.declared.expand.Piece.{Piece}
 use Rattle.gf_walk.specs.declared.expand.Piece.TheVariants.{Ready, Under, Refused}
 
+-- ---- a job
+
+-- a walker is expanded into its node, its next child's subtree and what follows; or it stays with the refusal that it was met by before anything
+-- was listed
+abbrev pub IsExpansion : {T N L E : Type 0} → (L → L → Type 0) → (T → N → L → N → Type 0) → (Place T N L → E → Type 0) → Place T N L → List (Piece T N L E) → Type 0
+IsExpansion {E = E} lt up refuses w ps = Expands lt up refuses 1 w ps ⊎ ((e : E) × (ps ≡ Refused w e ∷ []) × refuses w e)
+
+-- so many times the first walker of a row is expanded in place, unless it stands refused
+abbrev pub ExpandsOn : {T N L E : Type 0} → (L → L → Type 0) → (T → N → L → N → Type 0) → (Place T N L → E → Type 0) → ℕ → List (Piece T N L E) → List (Piece T N L E) → Type 0
+ExpandsOn lt up refuses zero olds news = news ≡ olds
+ExpandsOn lt up refuses (suc k) [] news = news ≡ []
+ExpandsOn {T} {N} {L} {E} lt up refuses (suc k) (Ready v ∷ ps) news = (rest : List (Piece T N L E)) × (news ≡ Ready v ∷ rest) × ExpandsOn lt up refuses (suc k) ps rest
+ExpandsOn {T} {N} {L} {E} lt up refuses (suc k) (Under w ∷ ps) news = (front : List (Piece T N L E)) × IsExpansion lt up refuses w front × ExpandsOn lt up refuses k (front ++ ps) news
+ExpandsOn lt up refuses (suc k) (Refused w e ∷ ps) news = news ≡ Refused w e ∷ ps
+
 -- ---- a wave
 
--- a walker is expanded, or stays with the refusal that it was met by before anything was listed
-abbrev pub IsExpansion : {T N L E : Type 0} → (L → L → Type 0) → (T → N → L → N → Type 0) → (Place T N L → E → Type 0) → ℕ → Place T N L → List (Piece T N L E) → Type 0
-IsExpansion {E = E} lt up refuses most w ps = Expands lt up refuses most w ps ⊎ ((e : E) × (ps ≡ Refused w e ∷ []) × refuses w e)
-
--- the first so many walkers of a row are expanded in place, and the other pieces stay
+-- the first so many walkers of a row, each by itself, are expanded in place, so many times; and the other pieces stay
 abbrev pub IsWaved : {T N L E : Type 0} → (L → L → Type 0) → (T → N → L → N → Type 0) → (Place T N L → E → Type 0) → ℕ → ℕ → List (Piece T N L E) → List (Piece T N L E) → Type 0
-IsWaved lt up refuses most zero olds news = news ≡ olds
-IsWaved lt up refuses most (suc m) [] news = news ≡ []
-IsWaved {T} {N} {L} {E} lt up refuses most (suc m) (Ready v ∷ ps) news = (rest : List (Piece T N L E)) × (news ≡ Ready v ∷ rest) × IsWaved lt up refuses most (suc m) ps rest
-IsWaved {T} {N} {L} {E} lt up refuses most (suc m) (Under w ∷ ps) news = (front : List (Piece T N L E)) × (rest : List (Piece T N L E)) × (news ≡ front ++ rest) × IsExpansion lt up refuses most w front × IsWaved lt up refuses most m ps rest
-IsWaved {T} {N} {L} {E} lt up refuses most (suc m) (Refused w f ∷ ps) news = (front : List (Piece T N L E)) × (rest : List (Piece T N L E)) × (news ≡ front ++ rest) × IsExpansion lt up refuses most w front × IsWaved lt up refuses most m ps rest
+IsWaved lt up refuses times zero olds news = news ≡ olds
+IsWaved lt up refuses times (suc m) [] news = news ≡ []
+IsWaved {T} {N} {L} {E} lt up refuses times (suc m) (Ready v ∷ ps) news = (rest : List (Piece T N L E)) × (news ≡ Ready v ∷ rest) × IsWaved lt up refuses times (suc m) ps rest
+IsWaved {T} {N} {L} {E} lt up refuses times (suc m) (Under w ∷ ps) news = (front : List (Piece T N L E)) × (rest : List (Piece T N L E)) × (news ≡ front ++ rest) × ExpandsOn lt up refuses times (Under w ∷ []) front × IsWaved lt up refuses times m ps rest
+IsWaved {T} {N} {L} {E} lt up refuses times (suc m) (Refused w f ∷ ps) news = (front : List (Piece T N L E)) × (rest : List (Piece T N L E)) × (news ≡ front ++ rest) × ExpandsOn lt up refuses times (Under w ∷ []) front × IsWaved lt up refuses times m ps rest
 
 -- a node is ready in front, or nothing is left
 abbrev pub is_served : {T N L E : Type 0} → List (Piece T N L E) → Bool
@@ -54,7 +65,7 @@ IsGiven lt up refuses (Under w ∷ ps) answer news = IsAsked lt up refuses w ps 
 abbrev pub IsReadied : {T N L E : Type 0} → (L → L → Type 0) → (T → N → L → N → Type 0) → (Place T N L → E → Type 0) → ℕ → ℕ → List (Piece T N L E) → ℕ → List (Piece T N L E) → Type 0
 IsReadied lt up refuses workers jobs olds next news =
     let due = due_at workers (length olds) in
-    ((is_served olds ≡ false) × (0 < due) × (next ≡ job_number (jobs + walkers_up_to due olds)) × IsWaved lt up refuses (share_at workers (length olds)) due olds news)
+    ((is_served olds ≡ false) × (0 < due) × (next ≡ job_number (jobs + walkers_up_to due olds)) × IsWaved lt up refuses (times_at workers jobs (length olds)) due olds news)
     ⊎ (((is_served olds ≡ true) ⊎ (due ≡ 0)) × (next ≡ jobs) × (news ≡ olds))
 
 -- what is left is worked off, and the answer is taken out of that; or there was no memory for a wave, and nothing is done

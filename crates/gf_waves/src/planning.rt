@@ -7,19 +7,9 @@ ghost use Rattle.gf_waves.specs.Frontier.{job_number};
 ghost use Rattle.gf_waves.specs.Plans.{IsPlanned, job_pieces, pieces_of};
 
 use crate::job::Job;
+use crate::rows::{push, put_behind};
 use gf_walk::{Piece, Tree, Walker};
 use std::collections::VecDeque;
-
-/// Puts a piece behind a row that has room.
-pub fn push<T: Tree>(row: &mut VecDeque<Piece<T>>, piece: Piece<T>)
-    requires { length row.old.items < deque_capacity row.old }
-    ensures items { row.new.items ≡ row.old.items ++ piece ∷ [] }
-    ensures room { deque_capacity row.old ≤ deque_capacity row.new }
-{
-    if row.push_back(piece).is_err() {
-        unreachable!();
-    }
-}
 
 /// One job more, behind those that are there. At its last value a job's number stays.
 fn add_job<T: Tree>(jobs: &mut Vec<Job<T>>, walker: Walker<T>, first: u64)
@@ -90,12 +80,7 @@ fn put<T: Tree>(row: &mut VecDeque<Piece<T>>, job: Job<T>)
     match job {
         Job::Due(walker, _number) => push(row, Piece::Under(walker)),
         Job::Stopped(walker, refusal) => push(row, Piece::Refused(walker, refusal)),
-        Job::Done(pieces) => {
-            let mut pieces = VecDeque::from(pieces);
-            if row.append(&mut pieces).is_err() {
-                unreachable!();
-            }
-        }
+        Job::Done(pieces) => put_behind(row, pieces),
     }
 }
 

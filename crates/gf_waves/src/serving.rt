@@ -6,12 +6,13 @@ ghost use Rattle.gf_walk.specs.Pieces.{PiecesLeave, RefusesAt};
 ghost use Rattle.gf_walk.specs.Listing.{IsLeftAt};
 ghost use Rattle.gf_walk.specs.declared.expand.Piece.{Piece};
 ghost use Rattle.gf_walk.specs.declared.expand.Piece.TheVariants.{Under};
-ghost use Rattle.gf_waves.specs.Frontier.{AreRefusals, IsFrontRefused, IsHeld, due_at, most_pieces};
+ghost use Rattle.gf_waves.specs.Frontier.{AreRefusals, IsFrontRefused, IsHeld, due_at, times_at, most_pieces};
 ghost use Rattle.gf_waves.specs.Wave.{IsAfter, IsGiven, IsReadied, is_served};
 
 use crate::Gate;
+use crate::rows::push_before;
 use crate::wave::wave;
-use gf_walk::{Piece, Tree, Walker};
+use gf_walk::{Piece, Tree};
 use std::alloc::AllocError;
 use std::collections::VecDeque;
 use std::thread::Threads;
@@ -27,26 +28,29 @@ fn is_served<T: Tree>(row: &VecDeque<Piece<T>>) -> bool
     }
 }
 
-/// How many walkers are due in a wave over a row: two a worker, and no more than leave each four places.
+/// How many walkers are due in a wave over a row: one for each worker, and no more than leave each four places.
 fn due(workers: u32, length: usize) -> usize
     requires { workers ≤ 64 }
-    ensures { result ≡ due_at workers length }
+    ensures is { result ≡ due_at workers length }
+    ensures fits { result * 4 ≤ most_pieces workers - length }
 {
     let free = ((workers as usize + 1) * 32).saturating_sub(length);
-    (2 * workers as usize).min(free / 4)
+    (workers as usize).min(free / 4)
 }
 
-/// Into how many subtrees each of them is expanded at most.
-fn share(workers: u32, length: usize, due: usize) -> usize
+/// How often the job of each of them expands: eight times at most, by the places that there are and by the jobs before.
+fn times(workers: u32, jobs: u64, length: usize, due: usize) -> usize
     requires workers { workers ≤ 64 }
     requires some { 0 < due }
-    requires due { due * 4 ≤ most_pieces workers - length }
-    ensures is { result ≡ (most_pieces workers - length) / due - 1 }
-    ensures fits { due * (result + 1) ≤ most_pieces workers - length }
-    ensures few { result ≤ 4096 }
+    requires due { due ≡ due_at workers length }
+    ensures is { result ≡ times_at workers jobs length }
+    ensures fits { due * (result * 2) ≤ most_pieces workers - length }
+    ensures few { result ≤ 8 }
+    ensures some { 1 ≤ result }
 {
     let free = ((workers as usize + 1) * 32).saturating_sub(length);
-    (free / due).saturating_sub(1)
+    let most = (free / due / 2).min(8);
+    jobs.saturating_add(1).min(most as u64) as usize
 }
 
 /// The refusal that stands for want of memory. Any call of any tree may be refused so.
@@ -88,18 +92,8 @@ where
     if due == 0 {
         return Ok(());
     }
-    let most = share(workers, row.len(), due);
-    wave(rt, gate, row, workers, due, most, jobs)
-}
-
-/// Puts a walker before a row that has room.
-fn put_back<T: Tree>(row: &mut VecDeque<Piece<T>>, walker: Walker<T>)
-    requires { length row.old.items < deque_capacity row.old }
-    ensures { row.new.items ≡ Under walker ∷ row.old.items }
-{
-    if row.push_front(Piece::Under(walker)).is_err() {
-        unreachable!();
-    }
+    let times = times(workers, *jobs, row.len(), due);
+    wave(rt, gate, row, workers, due, times, jobs)
 }
 
 /// The first node of a row. A walker in front is asked for it.
@@ -111,19 +105,19 @@ fn give_first<T: Tree>(row: &mut VecDeque<Piece<T>>) -> Result<Option<T::Node>, 
         match piece {
             Piece::Ready(node) => return Ok(Some(node)),
             Piece::Refused(walker, refusal) => {
-                put_back(row, walker);
+                push_before(row, Piece::Under(walker));
                 return Err(refusal);
             }
             Piece::Under(walker) => {
                 let mut walker = walker;
                 match walker.advance() {
                     Ok(Some(node)) => {
-                        put_back(row, walker);
+                        push_before(row, Piece::Under(walker));
                         return Ok(Some(node));
                     }
                     Ok(None) => {}
                     Err(refusal) => {
-                        put_back(row, walker);
+                        push_before(row, Piece::Under(walker));
                         return Err(refusal);
                     }
                 }

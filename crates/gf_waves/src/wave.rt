@@ -1,4 +1,4 @@
-//! One wave: the first walkers of the row are expanded, side by side.
+//! One wave: the first walkers of the row are worked on, side by side.
 ghost use Rattle.std.specs.Prelude.{◌≡◌, ◌<◌, ◌≤◌, ◌+◌, ◌*◌, length, OnOk, OnErr};
 ghost use Rattle.gf_walk.specs.Pieces.{RefusesAt};
 ghost use Rattle.gf_waves.specs.Frontier.{AreRefusals, job_number, walkers_up_to};
@@ -21,22 +21,22 @@ fn work_all<R: Threads + Sync, T: Tree + Send, G: Gate>(
     gate: &G,
     jobs: &mut [Job<T>],
     workers: usize,
-    most: usize,
+    times: usize,
 )
 where
     T::Node: Send,
     T::Label: Send,
     T::Error: Send,
     requires some { 1 ≤ workers }
-    requires most { most ≤ 4096 }
-    ensures { AreWorkedAt T.before T.up (RefusesAt T.up T.refuses) most jobs.old jobs.new }
+    requires times { times ≤ 8 }
+    ensures { AreWorkedAt T.before T.up (RefusesAt T.up T.refuses) times jobs.old jobs.new }
 {
     let each = |_: usize, job: &mut Job<T>|
-        requires { most ≤ 4096 }
-        ensures { IsWorked T.before T.up (RefusesAt T.up T.refuses) most job.entry.now job.exit.now }
+        requires { times ≤ 8 }
+        ensures { IsWorked T.before T.up (RefusesAt T.up T.refuses) times job.entry.now job.exit.now }
     {
-        let old = mem::replace(job, Job::Done(Vec::new(alloc)));
-        *job = work(alloc, gate, old, most);
+        let old = mem::replace(job, Job::Done(VecDeque::new(alloc)));
+        *job = work(alloc, gate, old, times);
     };
     thread::for_each_mut(rt, jobs, workers, &each);
 }
@@ -48,20 +48,20 @@ fn work_jobs<R: Threads + Sync, T: Tree + Send, G: Gate>(
     gate: &G,
     jobs: &mut Vec<Job<T>>,
     workers: usize,
-    most: usize,
+    times: usize,
 )
 where
     T::Node: Send,
     T::Label: Send,
     T::Error: Send,
     requires some { 1 ≤ workers }
-    requires most { most ≤ 4096 }
-    ensures { AreWorkedAt T.before T.up (RefusesAt T.up T.refuses) most jobs.old.items jobs.new.items }
+    requires times { times ≤ 8 }
+    ensures { AreWorkedAt T.before T.up (RefusesAt T.up T.refuses) times jobs.old.items jobs.new.items }
 {
-    work_all(rt, alloc, gate, jobs.as_mut_slice(), workers, most);
+    work_all(rt, alloc, gate, jobs.as_mut_slice(), workers, times);
 }
 
-/// A wave: the first walkers of the row, as many as are due, are expanded, each into at most so many subtrees.
+/// A wave: the first walkers of the row, as many as are due, are worked on, each with so many expansions.
 ///
 /// # Errors
 ///
@@ -72,7 +72,7 @@ pub fn wave<R: Threads + Sync, T: Tree + Send, G: Gate>(
     row: &mut VecDeque<Piece<T>>,
     workers: u32,
     due: usize,
-    most: usize,
+    times: usize,
     jobs: &mut u64,
 ) -> Result<(), AllocError>
 where
@@ -81,10 +81,11 @@ where
     T::Error: Send,
     requires some { 1 ≤ workers }
     requires few_workers { workers ≤ 64 }
-    requires share { most ≤ 4096 }
-    requires fits { length row.old.items + due * (most + 1) ≤ (workers + 1) * 32 }
+    requires few_times { times ≤ 8 }
+    requires some_times { 1 ≤ times }
+    requires fits { length row.old.items + due * (times * 2) ≤ (workers + 1) * 32 }
     requires refused { AreRefusals (RefusesAt T.up T.refuses) row.old.items }
-    ensures waved { OnOk result (IsWaved T.before T.up (RefusesAt T.up T.refuses) most due row.old.items row.new.items) }
+    ensures waved { OnOk result (IsWaved T.before T.up (RefusesAt T.up T.refuses) times due row.old.items row.new.items) }
     ensures counted { OnOk result (jobs.new ≡ job_number (jobs.old + walkers_up_to due row.old.items)) }
     ensures few { length row.new.items ≤ (workers + 1) * 32 }
     ensures refused { AreRefusals (RefusesAt T.up T.refuses) row.new.items }
@@ -97,7 +98,7 @@ where
     let mut news = VecDeque::with_capacity(alloc, (workers as usize + 1) * 32)?;
     plan(row, &mut places, &mut slots, due, *jobs);
     *jobs = jobs.saturating_add(slots.len() as u64);
-    work_jobs(rt, alloc, gate, &mut slots, workers as usize, most);
+    work_jobs(rt, alloc, gate, &mut slots, workers as usize, times);
     merge(&mut places, &mut slots, row, &mut news);
     *row = news;
     Ok(())

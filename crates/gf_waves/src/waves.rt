@@ -10,7 +10,7 @@ ghost use Rattle.gf_waves.specs.Frontier.{AreRefusals, IsFrontRefused, is_ready,
 ghost use Rattle.gf_waves.specs.Wave.{IsAfter, IsCall};
 
 use crate::Gate;
-use crate::planning::push;
+use crate::rows::push;
 use crate::serving::{give, no_memory, work_off};
 use gf_walk::{Piece, Tree, Walker};
 use std::alloc::Global;

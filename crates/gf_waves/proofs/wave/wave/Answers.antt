@@ -17,7 +17,7 @@ merge-requires-clause-room g c =
     let dones = c.work_jobs.new.jobs.items in
     let tail = c.plan.new.row.items in
     let e = c.work_jobs.ensures in
-    let few = planned_few lt up refuses c.args.most c.args.due c.args.jobs.now c.args.row.now.items tail places jobs dones c.plan.ensures (worked_all lt up refuses c.args.most jobs dones e.same_length e.each) in
+    let few = planned_few lt up refuses c.args.times c.requires.some_times c.args.due c.args.jobs.now c.args.row.now.items tail places jobs dones c.plan.ensures (worked_all lt up refuses c.args.times c.requires.some_times jobs dones e.same_length e.each) in
     let fits = c.requires.fits in
     let room : (c.args.workers + 1) * 32 ≤ deque_capacity c.in_ok-news.news = search rules in
     omega (arith, few, fits, room)
@@ -30,8 +30,8 @@ returns-clause-waved g c =
     let jobs = c.plan.new.jobs.items in
     let dones = c.work_jobs.new.jobs.items in
     let e = c.work_jobs.ensures in
-    subst (IsWaved lt up refuses c.args.most c.args.due c.args.row.now.items) (sym c.merge.ensures)
-    (waved_jobs lt up refuses c.args.most c.args.due c.args.jobs.now c.args.row.now.items c.plan.new.row.items c.plan.new.places.items jobs dones c.plan.ensures (worked_all lt up refuses c.args.most jobs dones e.same_length e.each))
+    subst (IsWaved lt up refuses c.args.times c.args.due c.args.row.now.items) (sym c.merge.ensures)
+    (waved_jobs lt up refuses c.args.times c.requires.some_times c.args.due c.args.jobs.now c.args.row.now.items c.plan.new.row.items c.plan.new.places.items jobs dones c.plan.ensures (worked_all lt up refuses c.args.times c.requires.some_times jobs dones e.same_length e.each))
 
 pub returns-clause-refused : goal.returns-clause-refused
 returns-clause-refused g c =
@@ -42,8 +42,8 @@ returns-clause-refused g c =
     let dones = c.work_jobs.new.jobs.items in
     let e = c.work_jobs.ensures in
     subst (AreRefusals refuses) (sym c.merge.ensures)
-    (waved_refusals lt up refuses c.args.most c.args.due c.args.row.now.items _
-    (waved_jobs lt up refuses c.args.most c.args.due c.args.jobs.now c.args.row.now.items c.plan.new.row.items c.plan.new.places.items jobs dones c.plan.ensures (worked_all lt up refuses c.args.most jobs dones e.same_length e.each)) c.requires.refused)
+    (waved_refusals lt up refuses c.args.times c.args.due c.args.row.now.items _
+    (waved_jobs lt up refuses c.args.times c.requires.some_times c.args.due c.args.jobs.now c.args.row.now.items c.plan.new.row.items c.plan.new.places.items jobs dones c.plan.ensures (worked_all lt up refuses c.args.times c.requires.some_times jobs dones e.same_length e.each)) c.requires.refused)
 
 pub returns-clause-counted : goal.returns-clause-counted
 returns-clause-counted g c =
@@ -60,7 +60,7 @@ returns-clause-few g c =
     let dones = c.work_jobs.new.jobs.items in
     let tail = c.plan.new.row.items in
     let e = c.work_jobs.ensures in
-    let few = planned_few lt up refuses c.args.most c.args.due c.args.jobs.now c.args.row.now.items tail c.plan.new.places.items jobs dones c.plan.ensures (worked_all lt up refuses c.args.most jobs dones e.same_length e.each) in
+    let few = planned_few lt up refuses c.args.times c.requires.some_times c.args.due c.args.jobs.now c.args.row.now.items tail c.plan.new.places.items jobs dones c.plan.ensures (worked_all lt up refuses c.args.times c.requires.some_times jobs dones e.same_length e.each) in
     let fits = c.requires.fits in
     let same = ap length c.merge.ensures in
     omega (arith, few, fits, same)

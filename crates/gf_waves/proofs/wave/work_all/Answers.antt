@@ -8,7 +8,7 @@ pub for_each_mut-requires-clause-accepts : goal.for_each_mut-requires-clause-acc
 for_each_mut-requires-clause-accepts g c κs within =
     let b = c.type_bounds in
     λ i p inside at. (
-      c.requires.most,
+      c.requires.times,
       (
         record { owned = b.send-T.owned; leaving = λ k. Quiet-if (k (of_param 0)) unseen unseen (λ x w. tt) (λ x w. tt) },
         record { owned = b.send-T-Node.owned; leaving = λ k. Quiet-if (k (of_param 2)) unseen unseen (λ x w. tt) (λ x w. tt) },
