@@ -16,9 +16,9 @@ use Rattle.gf_waves.proofs.JobLaws.{on_refused}
 
 module _ {T N L E : Type 0} (lt : L → L → Type 0) (up : T → N → L → N → Type 0) (refuses : Place T N L → E → Type 0) (times : ℕ) (some : 0 < times) where
   -- what a walker that was due became
-  expanded : (w : Place T N L) (n : ℕ) (t : Job T N L E) → IsWorked lt up refuses times (Due w n) t → ExpandsOn lt up refuses times (Under w ∷ []) (job_pieces t)
+  expanded : (w : Place T N L) (n : ℕ) (t : Job T N L E) → IsWorked lt up refuses times (Due w n) t → ExpandsOn lt up refuses times 8 (Under w ∷ []) (job_pieces t)
   expanded w n (Due x k) h = absurd h
-  expanded w n (Stopped x e) h = subst (λ y. ExpandsOn lt up refuses times (Under w ∷ []) (Refused y e ∷ [])) (sym h.0) (on_refused lt up refuses times some w e h.1)
+  expanded w n (Stopped x e) h = subst (λ y. ExpandsOn lt up refuses times 8 (Under w ∷ []) (Refused y e ∷ [])) (sym h.0) (on_refused lt up refuses times 7 some w e h.1)
   expanded w n (Done ps) h = h.0
 
   expanded_few : (w : Place T N L) (n : ℕ) (t : Job T N L E) → IsWorked lt up refuses times (Due w n) t → length (job_pieces t) ≤ times * 2 + 1
@@ -29,7 +29,7 @@ module _ {T N L E : Type 0} (lt : L → L → Type 0) (up : T → N → L → N 
   -- the first place of a plan is a job
   job_first : (m n : ℕ) (ps tail : List (Piece T N L E)) (w : Place T N L) (places qs : List (Option N)) (js dones : List (Job T N L E)) → places ≡ None ∷ qs → AreWorked lt up refuses times (Due w (job_number n) ∷ js) dones →
       ((ts : List (Job T N L E)) → AreWorked lt up refuses times js ts → IsWaved lt up refuses times m ps (pieces_of qs ts ++ tail)) →
-      (front : List (Piece T N L E)) × (rest : List (Piece T N L E)) × (pieces_of places dones ++ tail ≡ front ++ rest) × ExpandsOn lt up refuses times (Under w ∷ []) front × IsWaved lt up refuses times m ps rest
+      (front : List (Piece T N L E)) × (rest : List (Piece T N L E)) × (pieces_of places dones ++ tail ≡ front ++ rest) × ExpandsOn lt up refuses times 8 (Under w ∷ []) front × IsWaved lt up refuses times m ps rest
   job_first m n ps tail w places qs js [] e a rec = absurd a
   job_first m n ps tail w places qs js (t ∷ ts) e a rec = (job_pieces t, pieces_of qs ts ++ tail, ap (λ q. pieces_of q (t ∷ ts) ++ tail) e ∙ append_assoc (job_pieces t) (pieces_of qs ts) tail, expanded w (job_number n) t a.0, rec ts a.1)
 

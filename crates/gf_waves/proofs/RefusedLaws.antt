@@ -43,12 +43,13 @@ module _ {T N L E : Type 0} (lt : L → L → Type 0) (up : T → N → L → N 
 
   -- ---- a job
 
-  on_refusals : (k : ℕ) (olds news : List (Piece T N L E)) → ExpandsOn lt up refuses k olds news → AreRefusals refuses olds → AreRefusals refuses news
-  on_refusals zero olds news h a = subst (AreRefusals refuses) (sym h) a
-  on_refusals (suc k) [] news h a = subst (AreRefusals refuses) (sym h) a
-  on_refusals (suc k) (Ready v ∷ ps) news h a = subst (AreRefusals refuses) (sym h.1) (on_refusals (suc k) ps h.0 h.2 a)
-  on_refusals (suc k) (Under w ∷ ps) news h a = on_refusals k (h.0 ++ ps) news h.2 (refusals_both h.0 ps (one_refusals w h.0 h.1) a)
-  on_refusals (suc k) (Refused w e ∷ ps) news h a = subst (AreRefusals refuses) (sym h) a
+  on_refusals : (k n : ℕ) (olds news : List (Piece T N L E)) → ExpandsOn lt up refuses k n olds news → AreRefusals refuses olds → AreRefusals refuses news
+  on_refusals zero n olds news h a = subst (AreRefusals refuses) (sym h) a
+  on_refusals (suc k) zero olds news h a = subst (AreRefusals refuses) (sym h) a
+  on_refusals (suc k) (suc n) [] news h a = subst (AreRefusals refuses) (sym h) a
+  on_refusals (suc k) (suc n) (Ready v ∷ ps) news h a = subst (AreRefusals refuses) (sym h.1) (on_refusals (suc k) n ps h.0 h.2 a)
+  on_refusals (suc k) (suc n) (Under w ∷ ps) news h a = on_refusals k (suc n) (h.0 ++ ps) news h.2 (refusals_both h.0 ps (one_refusals w h.0 h.1) a)
+  on_refusals (suc k) (suc n) (Refused w e ∷ ps) news h a = subst (AreRefusals refuses) (sym h) a
 
   -- ---- a wave
 
@@ -56,8 +57,8 @@ module _ {T N L E : Type 0} (lt : L → L → Type 0) (up : T → N → L → N 
   waved_refusals times zero olds news h a = subst (AreRefusals refuses) (sym h) a
   waved_refusals times (suc m) [] news h a = subst (AreRefusals refuses) (sym h) a
   waved_refusals times (suc m) (Ready v ∷ ps) news h a = subst (AreRefusals refuses) (sym h.1) (waved_refusals times (suc m) ps h.0 h.2 a)
-  waved_refusals times (suc m) (Under w ∷ ps) news h a = subst (AreRefusals refuses) (sym h.2) (refusals_both h.0 h.1 (on_refusals times (Under w ∷ []) h.0 h.3 tt) (waved_refusals times m ps h.1 h.4 a))
-  waved_refusals times (suc m) (Refused w e ∷ ps) news h a = subst (AreRefusals refuses) (sym h.2) (refusals_both h.0 h.1 (on_refusals times (Under w ∷ []) h.0 h.3 tt) (waved_refusals times m ps h.1 h.4 a.1))
+  waved_refusals times (suc m) (Under w ∷ ps) news h a = subst (AreRefusals refuses) (sym h.2) (refusals_both h.0 h.1 (on_refusals times 8 (Under w ∷ []) h.0 h.3 tt) (waved_refusals times m ps h.1 h.4 a))
+  waved_refusals times (suc m) (Refused w e ∷ ps) news h a = subst (AreRefusals refuses) (sym h.2) (refusals_both h.0 h.1 (on_refusals times 8 (Under w ∷ []) h.0 h.3 tt) (waved_refusals times m ps h.1 h.4 a.1))
 
   -- ---- an answer
 

@@ -27,15 +27,16 @@ module _ {T N L E : Type 0} (lt : L → L → Type 0) (up : T → N → L → N 
   one_leaves w ps (inr h) nodes l = subst (λ k. PiecesLeave (IsLeftAt lt up) k nodes) (sym h.1) (nodes, [], sym (append-nil nodes), l, refl)
 
   -- a job leaves what was left
-  on_leaves : (k : ℕ) (olds news : List (Piece T N L E)) → ExpandsOn lt up refuses k olds news → (nodes : List N) → PiecesLeave (IsLeftAt lt up) olds nodes → PiecesLeave (IsLeftAt lt up) news nodes
-  on_leaves zero olds news h nodes l = subst (λ r. PiecesLeave (IsLeftAt lt up) r nodes) (sym h) l
-  on_leaves (suc k) [] news h nodes l = subst (λ r. PiecesLeave (IsLeftAt lt up) r nodes) (sym h) l
-  on_leaves (suc k) (Ready v ∷ ps) news h nodes l = subst (λ r. PiecesLeave (IsLeftAt lt up) r nodes) (sym h.1) (l.0, l.1, on_leaves (suc k) ps h.0 h.2 l.0 l.2)
-  on_leaves (suc k) (Under w ∷ ps) news h nodes l = on_leaves k (h.0 ++ ps) news h.2 nodes (subst (PiecesLeave (IsLeftAt lt up) (h.0 ++ ps)) (sym l.2) (leave_both (IsLeftAt lt up) h.0 ps l.0 l.1 (one_leaves w h.0 h.1 l.0 l.3) l.4))
-  on_leaves (suc k) (Refused w e ∷ ps) news h nodes l = subst (λ r. PiecesLeave (IsLeftAt lt up) r nodes) (sym h) l
+  on_leaves : (k n : ℕ) (olds news : List (Piece T N L E)) → ExpandsOn lt up refuses k n olds news → (nodes : List N) → PiecesLeave (IsLeftAt lt up) olds nodes → PiecesLeave (IsLeftAt lt up) news nodes
+  on_leaves zero n olds news h nodes l = subst (λ r. PiecesLeave (IsLeftAt lt up) r nodes) (sym h) l
+  on_leaves (suc k) zero olds news h nodes l = subst (λ r. PiecesLeave (IsLeftAt lt up) r nodes) (sym h) l
+  on_leaves (suc k) (suc n) [] news h nodes l = subst (λ r. PiecesLeave (IsLeftAt lt up) r nodes) (sym h) l
+  on_leaves (suc k) (suc n) (Ready v ∷ ps) news h nodes l = subst (λ r. PiecesLeave (IsLeftAt lt up) r nodes) (sym h.1) (l.0, l.1, on_leaves (suc k) n ps h.0 h.2 l.0 l.2)
+  on_leaves (suc k) (suc n) (Under w ∷ ps) news h nodes l = on_leaves k (suc n) (h.0 ++ ps) news h.2 nodes (subst (PiecesLeave (IsLeftAt lt up) (h.0 ++ ps)) (sym l.2) (leave_both (IsLeftAt lt up) h.0 ps l.0 l.1 (one_leaves w h.0 h.1 l.0 l.3) l.4))
+  on_leaves (suc k) (suc n) (Refused w e ∷ ps) news h nodes l = subst (λ r. PiecesLeave (IsLeftAt lt up) r nodes) (sym h) l
 
-  join_waved : (times : ℕ) (w : Place T N L) (front rest news : List (Piece T N L E)) (f b nodes : List N) → news ≡ front ++ rest → nodes ≡ f ++ b → ExpandsOn lt up refuses times (Under w ∷ []) front → IsLeftAt lt up w f → PiecesLeave (IsLeftAt lt up) rest b → PiecesLeave (IsLeftAt lt up) news nodes
-  join_waved times w front rest news f b nodes e n x l k = subst (λ r. PiecesLeave (IsLeftAt lt up) r nodes) (sym e) (subst (λ r. PiecesLeave (IsLeftAt lt up) (front ++ rest) r) (sym n) (leave_both (IsLeftAt lt up) front rest f b (on_leaves times (Under w ∷ []) front x f (f, [], sym (append-nil f), l, refl)) k))
+  join_waved : (times : ℕ) (w : Place T N L) (front rest news : List (Piece T N L E)) (f b nodes : List N) → news ≡ front ++ rest → nodes ≡ f ++ b → ExpandsOn lt up refuses times 8 (Under w ∷ []) front → IsLeftAt lt up w f → PiecesLeave (IsLeftAt lt up) rest b → PiecesLeave (IsLeftAt lt up) news nodes
+  join_waved times w front rest news f b nodes e n x l k = subst (λ r. PiecesLeave (IsLeftAt lt up) r nodes) (sym e) (subst (λ r. PiecesLeave (IsLeftAt lt up) (front ++ rest) r) (sym n) (leave_both (IsLeftAt lt up) front rest f b (on_leaves times 8 (Under w ∷ []) front x f (f, [], sym (append-nil f), l, refl)) k))
 
   -- a wave leaves what was left
   pub waved_leaves : (times m : ℕ) (olds news : List (Piece T N L E)) → IsWaved lt up refuses times m olds news → (nodes : List N) → PiecesLeave (IsLeftAt lt up) olds nodes → PiecesLeave (IsLeftAt lt up) news nodes

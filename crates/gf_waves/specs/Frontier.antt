@@ -21,10 +21,10 @@ most_pieces workers = (workers + 1) * 32
 abbrev pub due_at : ℕ → ℕ → ℕ
 due_at workers length = min workers ((most_pieces workers - length) / 4)
 
--- how often each of these jobs expands: eight times, but no more often than its share of the places allows, two each time; and the first
+-- how often each of these jobs expands at most: 24 times, but no more often than its share of the places allows, two each time; and the first
 -- jobs no more often than there were jobs before, and once, so that there is soon work for all
 abbrev pub times_at : ℕ → ℕ → ℕ → ℕ
-times_at workers jobs length = min (jobs + 1) (min 8 ((most_pieces workers - length) / due_at workers length / 2))
+times_at workers jobs length = min (jobs + 1) (min 24 ((most_pieces workers - length) / due_at workers length / 2))
 
 -- ---- pieces
 

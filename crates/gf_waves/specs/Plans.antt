@@ -26,16 +26,16 @@ IsPlanned {T} {N} {L} {E} (suc m) n (Refused w e ∷ ps) places jobs tail = (qs 
 abbrev pub IsExpanded : {T N L E : Type 0} → (L → L → Type 0) → (T → N → L → N → Type 0) → (Place T N L → E → Type 0) → Place T N L → List (Piece T N L E) → List (Piece T N L E) → Type 0
 IsExpanded {T} {N} {L} {E} lt up refuses w olds news = (front : List (Piece T N L E)) × (news ≡ front ++ olds) × IsExpansion lt up refuses w front
 
--- some pieces are done with: what the others may become with the expansions that are left, that stands behind these
-abbrev pub IsOn : {T N L E : Type 0} → (L → L → Type 0) → (T → N → L → N → Type 0) → (Place T N L → E → Type 0) → ℕ → List (Piece T N L E) → List (Piece T N L E) → ℕ → List (Piece T N L E) → List (Piece T N L E) → Type 0
-IsOn {T} {N} {L} {E} lt up refuses left dones olds less more rest =
-    (first : List (Piece T N L E)) × (more ≡ dones ++ first) × ((news : List (Piece T N L E)) → ExpandsOn lt up refuses less rest news → ExpandsOn lt up refuses left olds (first ++ news))
+-- some pieces are done with: what the others may become with the expansions and nodes that are left, that stands behind these
+abbrev pub IsOn : {T N L E : Type 0} → (L → L → Type 0) → (T → N → L → N → Type 0) → (Place T N L → E → Type 0) → ℕ → ℕ → List (Piece T N L E) → List (Piece T N L E) → ℕ → ℕ → List (Piece T N L E) → List (Piece T N L E) → Type 0
+IsOn {T} {N} {L} {E} lt up refuses left nodes dones olds less fewer more rest =
+    (first : List (Piece T N L E)) × (more ≡ dones ++ first) × ((news : List (Piece T N L E)) → ExpandsOn lt up refuses less fewer rest news → ExpandsOn lt up refuses left nodes olds (first ++ news))
 
--- a walker that was due is expanded so many times, or refused; other jobs stay
+-- a walker that was due is worked on, or refused; other jobs stay
 abbrev pub IsWorked : {T N L E : Type 0} → (L → L → Type 0) → (T → N → L → N → Type 0) → (Place T N L → E → Type 0) → ℕ → Job T N L E → Job T N L E → Type 0
 IsWorked lt up refuses times (Due w n) (Due x k) = ⊥
 IsWorked lt up refuses times (Due w n) (Stopped x e) = (x ≡ w) × refuses w e
-IsWorked lt up refuses times (Due w n) (Done ps) = ExpandsOn lt up refuses times (Under w ∷ []) ps.items × (length ps.items ≤ times * 2 + 1)
+IsWorked lt up refuses times (Due w n) (Done ps) = ExpandsOn lt up refuses times 8 (Under w ∷ []) ps.items × (length ps.items ≤ times * 2 + 1)
 IsWorked lt up refuses times (Stopped w e) new = new ≡ Stopped w e
 IsWorked lt up refuses times (Done ps) new = new ≡ Done ps
 

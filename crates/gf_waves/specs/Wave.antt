@@ -19,23 +19,25 @@ use Rattle.gf_walk.specs.declared.expand.Piece.TheVariants.{Ready, Under, Refuse
 abbrev pub IsExpansion : {T N L E : Type 0} → (L → L → Type 0) → (T → N → L → N → Type 0) → (Place T N L → E → Type 0) → Place T N L → List (Piece T N L E) → Type 0
 IsExpansion {E = E} lt up refuses w ps = Expands lt up refuses 1 w ps ⊎ ((e : E) × (ps ≡ Refused w e ∷ []) × refuses w e)
 
--- so many times the first walker of a row is expanded in place, unless it stands refused
-abbrev pub ExpandsOn : {T N L E : Type 0} → (L → L → Type 0) → (T → N → L → N → Type 0) → (Place T N L → E → Type 0) → ℕ → List (Piece T N L E) → List (Piece T N L E) → Type 0
-ExpandsOn lt up refuses zero olds news = news ≡ olds
-ExpandsOn lt up refuses (suc k) [] news = news ≡ []
-ExpandsOn {T} {N} {L} {E} lt up refuses (suc k) (Ready v ∷ ps) news = (rest : List (Piece T N L E)) × (news ≡ Ready v ∷ rest) × ExpandsOn lt up refuses (suc k) ps rest
-ExpandsOn {T} {N} {L} {E} lt up refuses (suc k) (Under w ∷ ps) news = (front : List (Piece T N L E)) × IsExpansion lt up refuses w front × ExpandsOn lt up refuses k (front ++ ps) news
-ExpandsOn lt up refuses (suc k) (Refused w e ∷ ps) news = news ≡ Refused w e ∷ ps
+-- at most so many times the first walker of a row is expanded in place, unless it stands refused, until so many nodes are in front of what is left
+abbrev pub ExpandsOn : {T N L E : Type 0} → (L → L → Type 0) → (T → N → L → N → Type 0) → (Place T N L → E → Type 0) → ℕ → ℕ → List (Piece T N L E) → List (Piece T N L E) → Type 0
+ExpandsOn lt up refuses zero n olds news = news ≡ olds
+ExpandsOn lt up refuses (suc k) zero olds news = news ≡ olds
+ExpandsOn lt up refuses (suc k) (suc n) [] news = news ≡ []
+ExpandsOn {T} {N} {L} {E} lt up refuses (suc k) (suc n) (Ready v ∷ ps) news = (rest : List (Piece T N L E)) × (news ≡ Ready v ∷ rest) × ExpandsOn lt up refuses (suc k) n ps rest
+ExpandsOn {T} {N} {L} {E} lt up refuses (suc k) (suc n) (Under w ∷ ps) news = (front : List (Piece T N L E)) × IsExpansion lt up refuses w front × ExpandsOn lt up refuses k (suc n) (front ++ ps) news
+ExpandsOn lt up refuses (suc k) (suc n) (Refused w e ∷ ps) news = news ≡ Refused w e ∷ ps
 
 -- ---- a wave
 
--- the first so many walkers of a row, each by itself, are expanded in place, so many times; and the other pieces stay
+-- the first so many walkers of a row, each by itself, are expanded in place, at most so many times, until each has eight nodes in front; and the
+-- other pieces stay
 abbrev pub IsWaved : {T N L E : Type 0} → (L → L → Type 0) → (T → N → L → N → Type 0) → (Place T N L → E → Type 0) → ℕ → ℕ → List (Piece T N L E) → List (Piece T N L E) → Type 0
 IsWaved lt up refuses times zero olds news = news ≡ olds
 IsWaved lt up refuses times (suc m) [] news = news ≡ []
 IsWaved {T} {N} {L} {E} lt up refuses times (suc m) (Ready v ∷ ps) news = (rest : List (Piece T N L E)) × (news ≡ Ready v ∷ rest) × IsWaved lt up refuses times (suc m) ps rest
-IsWaved {T} {N} {L} {E} lt up refuses times (suc m) (Under w ∷ ps) news = (front : List (Piece T N L E)) × (rest : List (Piece T N L E)) × (news ≡ front ++ rest) × ExpandsOn lt up refuses times (Under w ∷ []) front × IsWaved lt up refuses times m ps rest
-IsWaved {T} {N} {L} {E} lt up refuses times (suc m) (Refused w f ∷ ps) news = (front : List (Piece T N L E)) × (rest : List (Piece T N L E)) × (news ≡ front ++ rest) × ExpandsOn lt up refuses times (Under w ∷ []) front × IsWaved lt up refuses times m ps rest
+IsWaved {T} {N} {L} {E} lt up refuses times (suc m) (Under w ∷ ps) news = (front : List (Piece T N L E)) × (rest : List (Piece T N L E)) × (news ≡ front ++ rest) × ExpandsOn lt up refuses times 8 (Under w ∷ []) front × IsWaved lt up refuses times m ps rest
+IsWaved {T} {N} {L} {E} lt up refuses times (suc m) (Refused w f ∷ ps) news = (front : List (Piece T N L E)) × (rest : List (Piece T N L E)) × (news ≡ front ++ rest) × ExpandsOn lt up refuses times 8 (Under w ∷ []) front × IsWaved lt up refuses times m ps rest
 
 -- a node is ready in front, or nothing is left
 abbrev pub is_served : {T N L E : Type 0} → List (Piece T N L E) → Bool

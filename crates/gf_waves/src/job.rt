@@ -37,41 +37,46 @@ fn expand_before<T: Tree>(alloc: Global, row: &mut VecDeque<Piece<T>>, walker: W
     }
 }
 
-/// Works on the piece in front of a row, where so many expansions are left: a node goes behind those that are done, and a walker is
-/// expanded. How many expansions are left; none, where the walker in front stands refused, and where there is no piece.
+/// Works on the piece in front of a row, where so many expansions are left, and so many nodes: a node goes behind those that are done,
+/// and a walker is expanded. How many are left of both; no expansion, where the walker in front stands refused, where there is no
+/// piece, and where no node is left.
 fn step<T: Tree>(
     alloc: Global,
     done: &mut VecDeque<Piece<T>>,
     row: &mut VecDeque<Piece<T>>,
     left: usize,
-) -> usize
+    nodes: usize,
+) -> (usize, usize)
     requires some { 0 < left }
     requires room { length row.old.items + 2 ≤ deque_capacity row.old }
     requires room_for_done { length done.old.items < deque_capacity done.old }
-    ensures on { IsOn T.before T.up (RefusesAt T.up T.refuses) left done.old.items row.old.items result done.new.items row.new.items }
-    ensures falls { 3 * result + length row.new.items < 3 * left + length row.old.items }
-    ensures few { length done.new.items + length row.new.items + 2 * result ≤ length done.old.items + length row.old.items + 2 * left }
+    ensures on { IsOn T.before T.up (RefusesAt T.up T.refuses) left nodes done.old.items row.old.items result.0 result.1 done.new.items row.new.items }
+    ensures falls { 3 * result.0 + length row.new.items < 3 * left + length row.old.items }
+    ensures few { length done.new.items + length row.new.items + 2 * result.0 ≤ length done.old.items + length row.old.items + 2 * left }
     ensures room { deque_capacity row.old ≤ deque_capacity row.new }
     ensures room_for_done { deque_capacity done.old ≤ deque_capacity done.new }
 {
+    if nodes == 0 {
+        return (0, nodes);
+    }
     match row.pop_front() {
         Some(Piece::Ready(node)) => {
             push(done, Piece::Ready(node));
-            left
+            (left, nodes - 1)
         }
         Some(Piece::Under(walker)) => {
             expand_before(alloc, row, walker);
-            left - 1
+            (left - 1, nodes)
         }
         Some(Piece::Refused(walker, refusal)) => {
             push_before(row, Piece::Refused(walker, refusal));
-            0
+            (0, nodes)
         }
-        None => 0,
+        None => (0, nodes),
     }
 }
 
-/// What a walker is expanded into, so many times the first that there is.
+/// What a walker becomes by so many expansions of the first walker that there is, or by fewer, where eight nodes are in front.
 ///
 /// # Errors
 ///
@@ -81,8 +86,8 @@ fn expand_on<T: Tree>(
     walker: Walker<T>,
     times: usize,
 ) -> Result<VecDeque<Piece<T>>, (Walker<T>, T::Error)>
-    requires { times ≤ 8 }
-    ensures on { IfOk result (λ ps. ExpandsOn T.before T.up (RefusesAt T.up T.refuses) times (Under walker ∷ []) ps.items) }
+    requires { times ≤ 24 }
+    ensures on { IfOk result (λ ps. ExpandsOn T.before T.up (RefusesAt T.up T.refuses) times 8 (Under walker ∷ []) ps.items) }
     ensures few { IfOk result (λ ps. length ps.items ≤ times * 2 + 1) }
     ensures unchanged { IfErr result (λ p. p.0 ≡ walker) }
     ensures refused { IfErr result (λ p. RefusesAt T.up T.refuses walker p.1) }
@@ -98,8 +103,9 @@ fn expand_on<T: Tree>(
     };
     push(&mut row, Piece::Under(walker));
     let mut left = times;
+    let mut nodes = 8;
     while left > 0 {
-        left = step(alloc, &mut done, &mut row, left);
+        (left, nodes) = step(alloc, &mut done, &mut row, left, nodes);
     }
     put_behind(&mut done, row);
     Ok(done)
@@ -107,7 +113,7 @@ fn expand_on<T: Tree>(
 
 /// What becomes of a job: a walker that is due is worked on, with so many expansions.
 pub fn work<T: Tree, G: Gate>(alloc: Global, gate: &G, job: Job<T>, times: usize) -> Job<T>
-    requires { times ≤ 8 }
+    requires { times ≤ 24 }
     ensures { IsWorked T.before T.up (RefusesAt T.up T.refuses) times job result }
 {
     match job {

@@ -38,18 +38,18 @@ fn due(workers: u32, length: usize) -> usize
     (workers as usize).min(free / 4)
 }
 
-/// How often the job of each of them expands: eight times at most, by the places that there are and by the jobs before.
+/// How often the job of each of them expands: at most 24 times, by the places that there are and by the jobs before.
 fn times(workers: u32, jobs: u64, length: usize, due: usize) -> usize
     requires workers { workers ≤ 64 }
     requires some { 0 < due }
     requires due { due ≡ due_at workers length }
     ensures is { result ≡ times_at workers jobs length }
     ensures fits { due * (result * 2) ≤ most_pieces workers - length }
-    ensures few { result ≤ 8 }
+    ensures few { result ≤ 24 }
     ensures some { 1 ≤ result }
 {
     let free = ((workers as usize + 1) * 32).saturating_sub(length);
-    let most = (free / due / 2).min(8);
+    let most = (free / due / 2).min(24);
     jobs.saturating_add(1).min(most as u64) as usize
 }
 

@@ -28,11 +28,11 @@ where
     T::Label: Send,
     T::Error: Send,
     requires some { 1 ≤ workers }
-    requires times { times ≤ 8 }
+    requires times { times ≤ 24 }
     ensures { AreWorkedAt T.before T.up (RefusesAt T.up T.refuses) times jobs.old jobs.new }
 {
     let each = |_: usize, job: &mut Job<T>|
-        requires { times ≤ 8 }
+        requires { times ≤ 24 }
         ensures { IsWorked T.before T.up (RefusesAt T.up T.refuses) times job.entry.now job.exit.now }
     {
         let old = mem::replace(job, Job::Done(VecDeque::new(alloc)));
@@ -55,7 +55,7 @@ where
     T::Label: Send,
     T::Error: Send,
     requires some { 1 ≤ workers }
-    requires times { times ≤ 8 }
+    requires times { times ≤ 24 }
     ensures { AreWorkedAt T.before T.up (RefusesAt T.up T.refuses) times jobs.old.items jobs.new.items }
 {
     work_all(rt, alloc, gate, jobs.as_mut_slice(), workers, times);
@@ -81,7 +81,7 @@ where
     T::Error: Send,
     requires some { 1 ≤ workers }
     requires few_workers { workers ≤ 64 }
-    requires few_times { times ≤ 8 }
+    requires few_times { times ≤ 24 }
     requires some_times { 1 ≤ times }
     requires fits { length row.old.items + due * (times * 2) ≤ (workers + 1) * 32 }
     requires refused { AreRefusals (RefusesAt T.up T.refuses) row.old.items }
