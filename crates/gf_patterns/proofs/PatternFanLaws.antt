@@ -1,0 +1,97 @@
+-- The cones of one polynomial as lists for its hypersurface and its Minkowski fan, and those of no polynomial.
+use Rattle.std.proofs.Common.{◌≡◌, ◌≢◌, ℕ, zero, suc, List, [], ◌∷◌, length, ℤ, arith, sym, ap, ◌∙◌, subst, Contains, inl, inr, AllPairs}
+use Rattle.std.proofs.lemmas.List.Elements.{All-contains, All-append}
+use Rattle.gf_vec.specs.Vector.{zeros}
+use Rattle.gf_vec.proofs.VectorLaws.{length-zeros}
+use Rattle.gf_gordan.specs.Alternative.{AreRows, GordansAlternative}
+use Rattle.gf_duality.specs.Faces.{Rows, IsInCone, IsFaceOf, part}
+use Rattle.gf_duality.proofs.ListLaws.{none_in, in_head, in_tail, in_cons, all_by}
+use Rattle.gf_fans.specs.Fans.{MeetInFaces}
+use Rattle.gf_fans.proofs.FanLaws.{is_in, own_face}
+use Rattle.gf_patterns.specs.Refinements.{HaveEntries}
+use Rattle.gf_patterns.specs.Interiors.{HaveInteriors}
+use Rattle.gf_patterns.specs.Patterns.{IsOnPrevariety, IsAnywhere}
+use Rattle.gf_patterns.specs.PatternRows.{vector_difference, point_at, single_rows, pair_rows, AreSingleCones, ArePairCones}
+use Rattle.gf_patterns.specs.PatternFans.{whole_space, IsFanOfPatterns, IsPrevarietyList, IsMinkowskiList}
+use Rattle.gf_patterns.proofs.MeetLaws.{meets_self, same_sym}
+use Rattle.gf_patterns.proofs.RefinementLaws.{fan_of}
+use Rattle.gf_patterns.proofs.InnerLaws.{inner}
+use Rattle.gf_patterns.proofs.InteriorLaws.{interior_relative, relative_same}
+use Rattle.gf_patterns.proofs.RowLaws.{IsRowsOf}
+use Rattle.gf_patterns.proofs.ConeLaws.{single_is, pair_is, singles_fan, pairs_fan, singles_minkowski, pairs_hypersurface}
+
+-- each cone of the fan has a vector of its relative interior
+pub interiors : (n : ℕ) (cones : List Rows) → GordansAlternative → HaveEntries n cones → HaveInteriors n cones
+interiors n cones g w f k =
+    let c : Rows = k.cone in let zs : List (List ℤ) = k.face.0 in let wc = w c k.listed in
+    let wz : AreRows n zs = all_by (λ t. length t ≡ n) zs (λ t i. All-contains (λ t. length t ≡ n) c.inequalities t wc.0 (All-contains (Contains c.inequalities) zs t k.face.1.0 i)) in
+    let r = inner n (part c zs) g wc.0 (All-append (λ t. length t ≡ n) c.equations zs wc.1 wz) in
+    (r.0, relative_same n (part c zs) f r.0 (same_sym n f (part c zs) k.face.1.1) (interior_relative n (part c zs) r.0 r.1))
+
+pub minus_long : (n : ℕ) (a g : List ℤ) → length a ≡ n → length g ≡ n → length (vector_difference a g) ≡ n
+minus_long n [] g la lg = la
+minus_long zero (x ∷ a) g la lg = absurd (omega (arith, la))
+minus_long (suc n) (x ∷ a) [] la lg = absurd (omega (arith, lg))
+minus_long (suc n) (x ∷ a) (y ∷ g) la lg = ap suc (minus_long n a g (omega (arith, la)) (omega (arith, lg)))
+
+-- rows that are differences of points
+rows_wide : (n : ℕ) (A S : List (List ℤ)) (a : List ℤ) (c : Rows) → IsRowsOf n A S a c → AreRows n c.inequalities
+rows_wide n A S a c r = all_by (λ t. length t ≡ n) c.inequalities (λ h k. let o = r.each h k in ap length o.1.1 ∙ minus_long n a o.0 (r.wide a (r.inside a r.first)) (r.wide o.0 o.1.0))
+
+no_rows : (n : ℕ) → AreRows n []
+no_rows n = all_by (λ t. length t ≡ n) [] (λ t k. absurd (none_in t k))
+
+single_width : (n : ℕ) (A : List (List ℤ)) (cones : List Rows) → AreRows n A → AreSingleCones A cones → HaveEntries n cones
+single_width n A cones w s c k =
+    let p = s.each c k in
+    subst (λ z. AreRows n z.inequalities × AreRows n z.equations) (sym p.1.1) (rows_wide n A (point_at A p.0 ∷ []) (point_at A p.0) (single_rows A p.0) (single_is n A p.0 w p.1.0), no_rows n)
+
+pair_width : (n : ℕ) (A : List (List ℤ)) (cones : List Rows) → AreRows n A → ArePairCones A cones → HaveEntries n cones
+pair_width n A cones w s c k =
+    let p = s.each c k in let a : List ℤ = point_at A p.0 in let b : List ℤ = point_at A p.1 in
+    let is = pair_is n A p.0 p.1 w p.2.0 p.2.1 in
+    let one : AreRows n (vector_difference a b ∷ []) = all_by (λ t. length t ≡ n) (vector_difference a b ∷ []) (λ t i. elim (in_cons (vector_difference a b) [] t i) [
+      | inl e ↦ ap length e ∙ minus_long n a b (is.wide a (is.inside a is.first)) (is.wide b (is.inside b (in_tail a (b ∷ []) b (in_head b []))))
+      | inr j ↦ absurd (none_in t j)
+    ]) in
+    subst (λ z. AreRows n z.inequalities × AreRows n z.equations) (sym p.2.2) (rows_wide n A (a ∷ b ∷ []) a (pair_rows A p.0 p.1) is, one)
+
+-- the hypersurface of one polynomial
+pub hypersurface_list : (n : ℕ) (A : List (List ℤ)) (cones : List Rows) → GordansAlternative → AreRows n A → AllPairs (λ x y. x ≢ y) A → ArePairCones A cones → IsPrevarietyList n (A ∷ []) cones
+hypersurface_list n A cones g w different s =
+    let wide = pair_width n A cones w s in record { width = wide; fan = pairs_fan n A cones w s; patterns = pairs_hypersurface n A cones w different s (interiors n cones g wide) }
+
+-- the Minkowski fan of one polynomial
+pub minkowski_list : (n : ℕ) (A : List (List ℤ)) (b : List ℤ) (cones : List Rows) → GordansAlternative → AreRows n A → Contains A b → AreSingleCones A cones → IsMinkowskiList n (A ∷ []) cones
+minkowski_list n A b cones g w kb s =
+    let wide = single_width n A cones w s in record { width = wide; fan = singles_fan n A cones w s; patterns = singles_minkowski n A b cones w kb s (interiors n cones g wide) }
+
+-- of no polynomial both are the whole space
+pub whole_list : (Admitted : List (List (List ℤ)) → List ℤ → Type 0) (n : ℕ) → ((w : List ℤ) → Admitted [] w) → IsFanOfPatterns Admitted n [] (whole_space ∷ [])
+whole_list Admitted n ad =
+    let only : (c : Rows) → Contains (whole_space ∷ []) c → c ≡ whole_space = λ c k. elim (in_cons whole_space [] c k) [ inl e ↦ e | inr i ↦ absurd (none_in c i) ] in
+    let all_in : (x : List ℤ) → IsInCone whole_space x = λ x. is_in whole_space x (λ h k. absurd (none_in h k)) (λ h k. absurd (none_in h k)) in
+    record {
+      width = λ c k. subst (λ z. AreRows n z.inequalities × AreRows n z.equations) (sym (only c k)) (no_rows n, no_rows n);
+      fan = fan_of n (whole_space ∷ []) (λ c d k l. subst (λ z. MeetInFaces n z d) (sym (only c k)) (subst (λ z. MeetInFaces n whole_space z) (sym (only d l)) (meets_self n whole_space)));
+      patterns = record {
+        each = λ f k.
+            let c = only k.cone k.listed in let face : IsFaceOf n f whole_space = subst (IsFaceOf n f) c k.face in let zs : List (List ℤ) = face.0 in
+            record {
+              vector = zeros n;
+              width = length-zeros n;
+              admitted = ad (zeros n);
+              closed = λ u lu. (
+                (λ i A ka. absurd (none_in A ka)),
+                (λ z. (face.1.1 u lu).1 (is_in (part whole_space zs) u (λ h kh. absurd (none_in h kh)) (λ h kh. absurd (none_in h (All-contains (Contains whole_space.inequalities) zs h face.1.0 kh))))),
+              );
+            };
+        every = λ w lw h. (whole_space, (record { cone = whole_space; listed = in_head whole_space []; face = own_face n whole_space }, λ u lu. (λ i A ka. absurd (none_in A ka), λ z. all_in u)));
+      };
+    }
+
+pub whole_prevariety : (n : ℕ) → IsPrevarietyList n [] (whole_space ∷ [])
+whole_prevariety n = whole_list IsOnPrevariety n (λ w A k. absurd (none_in A k))
+
+pub whole_minkowski : (n : ℕ) → IsMinkowskiList n [] (whole_space ∷ [])
+whole_minkowski n = whole_list IsAnywhere n (λ w. tt)
