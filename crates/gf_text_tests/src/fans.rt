@@ -136,11 +136,6 @@ MAXIMAL_CONES
     check_refusal(&rt, alloc, text, FanFileError::Cone(wanted));
 }
 
-/// A vector with these entries.
-fn vector(alloc: Global, entries: &[i128]) -> Result<IntVec, Fail> {
-    Ok(IntVec::from_slice(alloc, entries)?)
-}
-
 /// A cone of this dimension with these rays.
 fn cone(alloc: Global, dim: u32, numbers: &[u64]) -> Result<ListedCone, Fail> {
     let rays = RayNumbers::of(Vec::from_slice(alloc, numbers)?);
@@ -151,11 +146,14 @@ fn cone(alloc: Global, dim: u32, numbers: &[u64]) -> Result<ListedCone, Fail> {
 fn the_text_of_a_fan(rt: HostRuntime) -> Result<(), Fail> {
     let alloc = rt.alloc();
     let rays = [
-        vector(alloc, &[-1, 0])?,
-        vector(alloc, &[0, -1])?,
-        vector(alloc, &[1, 1])?,
+        IntVec::from_slice(alloc, &[-1, 0])?,
+        IntVec::from_slice(alloc, &[0, -1])?,
+        IntVec::from_slice(alloc, &[1, 1])?,
     ];
-    let orthogonal = [vector(alloc, &[1, 0])?, vector(alloc, &[0, 1])?];
+    let orthogonal = [
+        IntVec::from_slice(alloc, &[1, 0])?,
+        IntVec::from_slice(alloc, &[0, 1])?,
+    ];
     let maximal = [
         cone(alloc, 1, &[0])?,
         cone(alloc, 1, &[1])?,
