@@ -9,3 +9,4 @@ mod ComplementLaws  -- what is orthogonal to the lineality space of a cone is wh
 mod SettledLaws  -- what holds of each, one further
 mod SizeLaws  -- dimensions are between that of the lineality space and the number of variables
 mod MakingLaws  -- the fan of cones, from its parts; what a refusal says
+mod FanConeLaws  -- the cones of a fan: they meet in faces, and what is inside what
