@@ -20,7 +20,7 @@ use Rattle.clap.specs.Simple.{argument_words, built_leaf, entered, inherited, la
 use Rattle.clap.specs.Faults.{check_fault, entered_fault}
 use Rattle.gf_front.specs.declared.command_line.Job.{Job}
 use Rattle.gf_front.specs.declared.command_line.Job.TheVariants as jobs
-use Rattle.gf_front.specs.Table.{Entry, table, commands, tools, cones, shape, most_pairs, most_workers, usual_pairs, number_of, number_where, buchberger, bases, plain, leading_terms, groebner_cone, weight_vector}
+use Rattle.gf_front.specs.Table.{Entry, table, commands, tools, cones, shape, most_pairs, most_workers, usual_pairs, number_of, number_where, buchberger, bases, plain, leading_terms, groebner_cone, weight_vector, to_polyhedral_fan}
 use Rattle.gf_front.specs.Jobs.{HasMatch, HasNumbersInRange, IsJobOfMatch, match_of, job_in, job_of}
 use Rattle.gf_front.specs.Options.{HoldChoices, NamesEntry, IsCommand, HoldsNumber}
 use Rattle.gf_front.proofs.MatchLaws.{Enters, entered_rows, level_rows, rows_pass}
@@ -174,13 +174,19 @@ weight_vector_sound = record {
   limits = λ rows h. tt;
 }
 
+to_polyhedral_fan_sound : IsSound to_polyhedral_fan
+to_polyhedral_fan_sound = record {
+  holds = λ rows ok. (is_flag (as_built (shape to_polyhedral_fan)).rules (codes "restrict") rows (λ text. refl) ok, tt);
+  limits = λ rows h. tt;
+}
+
 -- a command without options and numbers
 plain_sound : (name : Text) (job : Job) → HasNumbersInRange job → IsSound (plain name job)
 plain_sound name job within = record { holds = λ rows ok. tt; limits = λ rows h. within }
 
 cones_sound : AreSound cones
 unfolding AreSound
-cones_sound = (groebner_cone_sound, refl, (weight_vector_sound, refl, tt))
+cones_sound = (groebner_cone_sound, refl, (weight_vector_sound, refl, (to_polyhedral_fan_sound, refl, (plain_sound (codes "_homogeneityspace") jobs.HomogeneitySpace tt, refl, tt))))
 
 tools_sound : AreSound (tools ++ cones)
 unfolding AreSound

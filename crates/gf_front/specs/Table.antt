@@ -117,6 +117,16 @@ weight_vector = record {
   job = λ rows. jobs.WeightVector (flag_of (codes "m") rows) (flag_of (codes "e") rows);
 }
 
+abbrev pub to_polyhedral_fan : Entry
+to_polyhedral_fan = record {
+  name = codes "_topolyhedralfan";
+  options = a_named_flag (codes "restrict") ∷ [];
+  job = λ rows. jobs.ToPolyhedralFan (flag_of (codes "restrict") rows);
+}
+
+abbrev pub homogeneity_space : Entry
+homogeneity_space = plain (codes "_homogeneityspace") jobs.HomogeneitySpace
+
 -- the small tools without options
 abbrev pub mark_polynomial_set : Entry
 mark_polynomial_set = plain (codes "_markpolynomialset") jobs.MarkPolynomialSet
@@ -133,7 +143,7 @@ polynomial_set_union = plain (codes "_polynomialsetunion") jobs.PolynomialSetUni
 abbrev pub stats : Entry
 stats = plain (codes "_stats") jobs.Stats
 
--- those that the table has before the small tools, those, and those on cones
+-- those that the table has before the small tools, those, and those on cones and fans
 abbrev pub first_commands : List Entry
 first_commands = buchberger ∷ bases ∷ is_marked_groebner_basis ∷ does_ideal_contain ∷ leading_terms ∷ []
 
@@ -141,7 +151,7 @@ abbrev pub tools : List Entry
 tools = mark_polynomial_set ∷ initial_forms ∷ homogenize ∷ polynomial_set_union ∷ stats ∷ []
 
 abbrev pub cones : List Entry
-cones = groebner_cone ∷ weight_vector ∷ []
+cones = groebner_cone ∷ weight_vector ∷ to_polyhedral_fan ∷ homogeneity_space ∷ []
 
 abbrev pub commands : List Entry
 commands = first_commands ++ tools ++ cones

@@ -3,7 +3,7 @@
 //! clap reads the words by the table; what it would say of a fault is never printed.
 ghost use Rattle.std.specs.Prelude.{◌≡◌, [], IfOk, IsErrOf, map, string_bytes, codes, Some};
 ghost use Rattle.clap.specs.Words.{found_of, rows_of, one_of, kind_of};
-ghost use Rattle.gf_front.specs.Table.{most_pairs, most_workers, flag_of, number_of, number_where, buchberger, bases, leading_terms, groebner_cone, weight_vector};
+ghost use Rattle.gf_front.specs.Table.{most_pairs, most_workers, flag_of, number_of, number_where, buchberger, bases, leading_terms, groebner_cone, weight_vector, to_polyhedral_fan};
 ghost use Rattle.gf_front.specs.Jobs.{renamed, HasMatch, IsJobOfMatch, IsMatched, IsJobOf, HasNumbersInRange, job_of};
 ghost use Rattle.gf_front.specs.Options.{HoldsFlag, HoldsNumber, HoldChoices, IsCommand};
 
@@ -73,6 +73,13 @@ pub enum Job {
         /// `-e`: each weight behind its set.
         echoed: bool,
     },
+    /// The fan of the cones of marked reduced bases.
+    ToPolyhedralFan {
+        /// `--restrict`: each cone is cut with the non-negative orthant.
+        restrict: bool,
+    },
+    /// The space of the vectors by which each polynomial of a set is homogeneous, as a fan.
+    HomogeneitySpace,
 }
 
 /// Why there is no job.
@@ -184,6 +191,16 @@ fn weight_vector(found: &ArgMatches) -> Job
     }
 }
 
+/// The job of `_topolyhedralfan`.
+fn to_polyhedral_fan(found: &ArgMatches) -> Job
+    requires { HoldChoices to_polyhedral_fan.options (rows_of (found_of found.now)) }
+    ensures { to_polyhedral_fan.job (rows_of (found_of found.now)) ≡ result }
+{
+    Job::ToPolyhedralFan {
+        restrict: flag(found, "restrict"),
+    }
+}
+
 /// The job of a command with its options.
 fn job_of(name: &str, found: &ArgMatches) -> Job
     requires { IsCommand (name.now, rows_of (found_of found.now)) }
@@ -202,6 +219,8 @@ fn job_of(name: &str, found: &ArgMatches) -> Job
         "_stats" => Job::Stats,
         "_groebnercone" => groebner_cone(found),
         "_weightvector" => weight_vector(found),
+        "_topolyhedralfan" => to_polyhedral_fan(found),
+        "_homogeneityspace" => Job::HomogeneitySpace,
         _ => unreachable!(),
     }
 }

@@ -222,6 +222,21 @@ pub(crate) fn cone_overflow<E: Sink>(
     )
 }
 
+pub(crate) fn not_a_fan<E: Sink>(faults: &mut E, first: u32, second: u32) -> Result<(), WriteFault>
+    ensures { Told (E.held faults.old) (E.held faults.new) (E.faults faults.old) (E.faults faults.new)
+        (message [] (Refusal.NotAFan first second)) result }
+{
+    write_pieces(
+        faults,
+        &[
+            Piece::Text("E18 no fan: cones "),
+            Piece::Index(first),
+            Piece::Text(" and "),
+            Piece::Index(second),
+        ],
+    )
+}
+
 pub(crate) fn dimensions<E: Sink>(faults: &mut E, left: u64, right: u64) -> Result<(), WriteFault>
     ensures { Told (E.held faults.old) (E.held faults.new) (E.faults faults.old) (E.faults faults.new)
         (message [] (Refusal.Dimensions left right)) result }

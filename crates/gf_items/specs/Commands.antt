@@ -56,6 +56,7 @@ abbrev pub IsOfTest : Refusal → Type 0
 IsOfTest (refusals.NotReduced set polynomial term) = Unit {0}
 IsOfTest (refusals.NotBasis set first second remainder) = Unit {0}
 IsOfTest (refusals.Inconsistent set multipliers) = Unit {0}
+IsOfTest (refusals.NotAFan first second) = Unit {0}
 IsOfTest _ = ⊥
 
 -- the second is the first; or both say that no positive weight gives the marking of a set, which different multipliers may show
@@ -73,6 +74,7 @@ IsOfWork (refusals.PairBudget basis unsettled) = Unit {0}
 IsOfWork (refusals.NotReduced set polynomial term) = Unit {0}
 IsOfWork (refusals.NotBasis set first second remainder) = Unit {0}
 IsOfWork (refusals.Inconsistent set multipliers) = Unit {0}
+IsOfWork (refusals.NotAFan first second) = Unit {0}
 IsOfWork (refusals.ListLimit written) = Unit {0}
 IsOfWork refusals.Memory = Unit {0}
 IsOfWork _ = ⊥

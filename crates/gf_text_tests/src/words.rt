@@ -123,6 +123,12 @@ fn options_stand_in_any_place(rt: HostRuntime) -> Result<(), Fail> {
         ("_polynomialsetunion", Job::PolynomialSetUnion),
         ("_polynomialsetunion --", Job::PolynomialSetUnion),
         ("_stats", Job::Stats),
+        ("_topolyhedralfan", Job::ToPolyhedralFan { restrict: false }),
+        (
+            "_topolyhedralfan --restrict",
+            Job::ToPolyhedralFan { restrict: true },
+        ),
+        ("_homogeneityspace", Job::HomogeneitySpace),
     ];
     for (line, wanted) in rows {
         let job = answered(rt.alloc(), line)?;
@@ -174,6 +180,7 @@ fn other_words_are_usage(rt: HostRuntime) -> Result<(), Fail> {
         "_polynomialsetunion -s",
         "_stats -m",
         "_stats _stats",
+        "_homogeneityspace --restrict",
         "_markpolynomialsets",
         "_polynomialset",
         // Out of range, or no number.
@@ -212,7 +219,7 @@ fn other_words_are_usage(rt: HostRuntime) -> Result<(), Fail> {
         "_bases --within FILE",
         "_groebnercone --certificates --certificates",
         "_groebnercone -m",
-        "_topolyhedralfan",
+        "_tropicalhypersurface",
         "_fancommonrefinement -i1 A -i2 B",
         "_buchberger --limit 3",
     ];
@@ -400,6 +407,11 @@ fn a_spent_budget_tells_two_numbers(rt: HostRuntime) -> Result<(), Fail> {
     assert!(rt; is_told(alloc, None, refusal, 4, line)?);
     let limit = Refusal::ListLimit { written: 2 };
     assert!(rt; is_told(alloc, None, limit, 4, b"gfan: E24 list limit: 2 written\n")?);
+    let cones = Refusal::NotAFan {
+        first: 0,
+        second: 1,
+    };
+    assert!(rt; is_told(alloc, None, cones, 1, b"gfan: E18 no fan: cones 0 and 1\n")?);
     Ok(())
 }
 
