@@ -39,7 +39,7 @@ use Rattle.gfan_main.specs.declared.bases.Room.{Room}
 use Rattle.gfan_main.specs.declared.bases.Room.TheVariants.{Endless, Limited}
 use Rattle.gfan_main.specs.Buchberger.{generators_of, of_basis}
 use Rattle.gfan_main.specs.BasesList.{AreAllBases}
-use Rattle.gfan_main.specs.Certificates.{IsItemText, IsItemRefusal, of_weight}
+use Rattle.gfan_main.specs.Certificates.{IsItemText, IsItemRefusal, of_weight_error}
 use Rattle.gfan_main.specs.Bases.{AreItemTexts, IsWithinLimit, IsTextOfBases, IsBegunList, IsBegunText, list_text, begun_text, of_tree, IsGoingCause, IsListCause, bases_command}
 use Rattle.gfan_main.specs.BasesWriting.{basis_piece, IsBasisWritten, IsUnwritten, IsBasisUnwritten, IsRoomFor, IsOneLess, IsFull, IsFirstBasis, IsRootRefusal, IsListWritten, IsListStopped, IsUnnamed, is_none_of, IsUnderWay}
 use Rattle.gfan_main.specs.Refused.{without_names}
@@ -209,7 +209,7 @@ module _ (o : ListOptions) (ring : List (List ℕ)) (fs : List Terms) where
       stopped_unmade : (n m : ℕ) (r : Refusal) → IsItemRefusal o.certified b r → IsListStopped o ring fs held holds n m r
       stopped_unmade n m r h = at o.certified r h (unmade_cause o.certified r refl h)
         where
-          told : (e : WeightError) → IsGoingCause o (length ring) fs (of_weight e) ⊎ (of_weight e ≡ refusals.Memory) → IsListStopped o ring fs held holds n m (of_weight e)
+          told : (e : WeightError) → IsGoingCause o (length ring) fs (of_weight_error e) ⊎ (of_weight_error e ≡ refusals.Memory) → IsListStopped o ring fs held holds n m (of_weight_error e)
           told (weight_errors.Cone x) c = (c, inr (begun_text ring way.items, begun_now, way.gained))
           told (weight_errors.Wide x) c = (c, inr (begun_text ring way.items, begun_now, way.gained))
           told weight_errors.Memory c = (c, inr (begun_text ring way.items, begun_now, way.gained))
@@ -354,7 +354,7 @@ unnamed_write held holds n m piece refusals.WriteFault u = record { ring = refl;
 unnamed_write held holds n m piece refusals.Memory u = record { ring = refl; named = λ lent is. tt }
 unnamed_write held holds n m piece _ u = absurd u
 
-unnamed_certificate : (e : WeightError) → IsUnnamed (without_names (of_weight e))
+unnamed_certificate : (e : WeightError) → IsUnnamed (without_names (of_weight_error e))
 unnamed_certificate (weight_errors.Cone x) = record { ring = refl; named = λ lent is. tt }
 unnamed_certificate (weight_errors.Wide x) = record { ring = refl; named = λ lent is. tt }
 unnamed_certificate weight_errors.Memory = record { ring = refl; named = λ lent is. tt }

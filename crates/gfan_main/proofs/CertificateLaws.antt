@@ -24,7 +24,7 @@ use Rattle.gf_weights.proofs.WitnessesExist.{weight_exists, facets_exist}
 use Rattle.gf_walk.specs.Listing.{Among}
 use Rattle.gf_items.specs.Commands.{IsOfWork, IsOfTest}
 use Rattle.gfan_main.specs.BasesList.{IsGivenByWeight}
-use Rattle.gfan_main.specs.Certificates.{certificates_text, IsCertificatesText, IsItemText, of_weight}
+use Rattle.gfan_main.specs.Certificates.{certificates_text, IsCertificatesText, IsItemText, of_weight_error}
 use Rattle.gfan_main.specs.Bases.{AreItemTexts}
 use Rattle.gfan_main.specs.CertifiedBases.{HasCertificates, CertificatesHold}
 use Rattle.gfan_main.proofs.BasesListLaws.{given_node}
@@ -124,12 +124,12 @@ certificates_hold limit ring fs text v t = (t.list, t.are_all, (t.items, items_s
 
 -- ---- refusals
 
-pub weight_work : (e : WeightError) → IsOfWork (of_weight e)
+pub weight_work : (e : WeightError) → IsOfWork (of_weight_error e)
 weight_work (weight_errors.Cone s) = tt
 weight_work (weight_errors.Wide w) = tt
 weight_work weight_errors.Memory = tt
 
-pub weight_untested : (e : WeightError) → IsOfTest (of_weight e) → ⊥
+pub weight_untested : (e : WeightError) → IsOfTest (of_weight_error e) → ⊥
 weight_untested (weight_errors.Cone s) t = t
 weight_untested (weight_errors.Wide w) t = t
 weight_untested weight_errors.Memory t = t

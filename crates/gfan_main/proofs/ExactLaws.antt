@@ -26,7 +26,7 @@ use Rattle.gf_items.proofs.CheckLaws.{first_kind}
 use Rattle.gf_items.proofs.CommandLaws.{IsExactCommand, exact, no_answer, no_whole, in_reach, of_job, IsTestedCommand, untested, tested, no_tested_answer, no_tested_whole}
 use Rattle.gfan_main.specs.declared.buchberger.Options.{Options}
 use Rattle.gfan_main.specs.declared.bases.ListOptions.{ListOptions}
-use Rattle.gfan_main.specs.Certificates.{of_weight}
+use Rattle.gfan_main.specs.Certificates.{of_weight_error}
 use Rattle.gfan_main.specs.Bases.{IsWithinLimit, of_tree, IsGoingCause, IsListCause, AreCertifiedWithin, IsListWithin, bases_command}
 use Rattle.gfan_main.specs.GivenBasis.{IsGivenListCause, IsGivenListWithin, given_bases_command}
 use Rattle.gfan_main.specs.BasesList.{AreAllBases}
@@ -42,6 +42,8 @@ use Rattle.gfan_main.specs.PolynomialSetUnion.{polynomial_set_union_command}
 use Rattle.gfan_main.specs.Stats.{stats_command}
 use Rattle.gfan_main.specs.WeightVector.{weight_vector_command}
 use Rattle.gfan_main.specs.GroebnerCone.{groebner_cone_command}
+use Rattle.gfan_main.specs.ToPolyhedralFan.{to_polyhedral_fan_command}
+use Rattle.gfan_main.specs.HomogeneitySpace.{nonzero_of, homogeneity_space_command}
 use Rattle.gfan_main.specs.Commands.{options, list_options, cone_options, command, IsAnswerTo, IsWholeTextOf, IsRefusalOf, IsWithinReach, WritesAtEnd}
 use Rattle.gfan_main.proofs.FormLaws.{form_once}
 use Rattle.gfan_main.proofs.CertificateLaws.{weight_work, weight_untested}
@@ -51,6 +53,8 @@ use Rattle.gfan_main.proofs.CheckedSetLaws.{check_work, check_not_listed, test_c
 use Rattle.gfan_main.proofs.ContainmentLaws.{containment_work, containment_within, containment_once, containment_refuses}
 use Rattle.gfan_main.proofs.WeightVectorLaws.{weight_vector_exact, weight_vector_tested, unweighed_not_listed}
 use Rattle.gfan_main.proofs.GroebnerConeLaws.{cone_exact, cone_tested, cone_not_listed}
+use Rattle.gfan_main.proofs.ToPolyhedralFanLaws.{to_polyhedral_fan_exact, to_polyhedral_fan_tested, no_fan_not_listed}
+use Rattle.gfan_main.proofs.HomogeneitySpaceLaws.{homogeneity_space_exact, homogeneity_space_tested, no_space_not_listed}
 use Rattle.gfan_main.proofs.ToolLaws.{mark_polynomial_set_exact, initial_forms_exact, homogenize_exact, polynomial_set_union_exact, stats_exact, homogenize_not_listed, gordan_not_listed, homogenize_untested, gordan_untested}
 
 -- ---- `_buchberger`
@@ -121,7 +125,7 @@ going_within : (o : ListOptions) (n : ℕ) (fs : List Terms) (r : Refusal) → I
     AreCertifiedWithin o n fs → IsGoingCause o n fs r → r ≡ refusals.Memory
 going_within o n fs r w few all (IsGoingCause.in_tree e h q) = q ∙ ap of_tree (within_memory (ideal_by n fs) o.pairs e w h)
 going_within o n fs r w few all (IsGoingCause.at_limit most h q) = absurd (past_limit o.limit most h.list h.is_limit h.longer (few h.list h.are_all))
-going_within o n fs r w few all (IsGoingCause.at_certificates b k g u) = u.2 ∙ ap of_weight (all k b g u.0 u.1)
+going_within o n fs r w few all (IsGoingCause.at_certificates b k g u) = u.2 ∙ ap of_weight_error (all k b g u.0 u.1)
 
 list_within : (o : ListOptions) (n : ℕ) (fs : List Terms) (r : Refusal) → IsListWithin o n fs → IsListCause o n fs r → r ≡ refusals.Memory
 list_within o n fs r w (IsListCause.at_root e h q) = q ∙ ap of_basis (if_within {A = Unit {0}} MonomialOrder.deglex n o.pairs fs (Err e) w.root h)
@@ -163,6 +167,8 @@ laws jobs.PolynomialSetUnion = polynomial_set_union_exact
 laws jobs.Stats = stats_exact
 laws (jobs.WeightVector listed echoed) = weight_vector_exact listed echoed
 laws (jobs.GroebnerCone vector_input certificates) = cone_exact vector_input (cone_options certificates)
+laws (jobs.ToPolyhedralFan restrict) = to_polyhedral_fan_exact restrict
+laws jobs.HomogeneitySpace = homogeneity_space_exact
 
 pub exact_text : (job : Job) (source : List ℕ) (r d : Refusal) → IsOfText r → IsRefusalOf job source r → IsRefusalOf job source d → (d ≡ r) ⊎ (d ≡ refusals.Memory)
 exact_text job source r d t h k = exact (command job) (laws job) source r d (inl t) h k
@@ -225,6 +231,8 @@ not_listed jobs.Stats source most w h = command_not_listed stats_command stats_e
 not_listed (jobs.WeightVector false echoed) source most w h = command_not_listed (weight_vector_command false echoed) (weight_vector_exact false echoed) (λ a m c. unweighed_not_listed (a.1 ∷ []) m c) source most h
 not_listed (jobs.WeightVector true echoed) source most w h = command_not_listed (weight_vector_command true echoed) (weight_vector_exact true echoed) (λ a m c. unweighed_not_listed a.1 m c) source most h
 not_listed (jobs.GroebnerCone vector_input certificates) source most w h = command_not_listed (groebner_cone_command vector_input (cone_options certificates)) (cone_exact vector_input (cone_options certificates)) (λ a m c. cone_not_listed vector_input (cone_options certificates) a m c) source most h
+not_listed (jobs.ToPolyhedralFan restrict) source most w h = command_not_listed (to_polyhedral_fan_command restrict) (to_polyhedral_fan_exact restrict) (λ a m c. no_fan_not_listed restrict (length a.0) a.1 m c) source most h
+not_listed jobs.HomogeneitySpace source most w h = command_not_listed homogeneity_space_command homogeneity_space_exact (λ a m c. no_space_not_listed (length a.0) (nonzero_of a.1.0) m c) source most h
 
 pub refused_as_job : (job : Job) (source : List ℕ) (r : Refusal) → IsRefusalOf job source r → IsOfJob r
 refused_as_job job source r h = of_job (command job) (laws job) source r h
@@ -275,6 +283,8 @@ tests_of jobs.PolynomialSetUnion = untested polynomial_set_union_command (λ v r
 tests_of jobs.Stats = untested stats_command (λ v r t h. gordan_untested h.0 (subst IsOfTest h.1 t))
 tests_of (jobs.WeightVector listed echoed) = weight_vector_tested listed echoed
 tests_of (jobs.GroebnerCone vector_input certificates) = cone_tested vector_input (cone_options certificates)
+tests_of (jobs.ToPolyhedralFan restrict) = to_polyhedral_fan_tested restrict
+tests_of jobs.HomogeneitySpace = homogeneity_space_tested
 
 pub test_as : (job : Job) (source : List ℕ) (r d : Refusal) → IsOfTest r → IsRefusalOf job source r → IsRefusalOf job source d → TellsSame r d ⊎ IsOfNumbers d
 test_as job source r d t h k = tested (command job) (laws job) (tests_of job) source r d t h k

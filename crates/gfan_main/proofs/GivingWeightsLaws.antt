@@ -13,7 +13,8 @@ use Rattle.gf_weights.proofs.WeightLaws.{weight_basis}
 use Rattle.gfan_main.specs.WeightVector.{IsWeightOfSet, GivesBasis}
 use Rattle.gfan_main.specs.GivingWeights.{WrittenWeightsGiveBases}
 use Rattle.gfan_main.proofs.ReadSetLaws.{IsSetKept, set_variables}
-use Rattle.gfan_main.proofs.WeightVectorLaws.{one_read, list_read}
+use Rattle.gfan_main.proofs.WeightVectorLaws.{one_read}
+use Rattle.gfan_main.proofs.ReducedListLaws.{list_read}
 
 gives_basis : (s : MarkedPolynomials) (v : List ℤ) → HaveVariables s.variables s.items → IsWeightOfSet s v → GivesBasis s v
 gives_basis s v h w =

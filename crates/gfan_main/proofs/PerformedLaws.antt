@@ -66,6 +66,8 @@ whole_answer (jobs.WeightVector false echoed) source text w a = record { value =
 whole_answer (jobs.WeightVector true echoed) source text w a = record { value = a.value; read = a.read; formed = a.answer.formed; is_whole = a.answer.is_answer }
 whole_answer (jobs.GroebnerCone false certificates) source text w a = record { value = a.value; read = a.read; formed = a.answer.formed; is_whole = a.answer.is_answer }
 whole_answer (jobs.GroebnerCone true certificates) source text w a = record { value = a.value; read = a.read; formed = a.answer.formed; is_whole = a.answer.is_answer }
+whole_answer (jobs.ToPolyhedralFan restrict) source text w a = record { value = a.value; read = a.read; formed = a.answer.formed; is_whole = a.answer.is_answer }
+whole_answer jobs.HomogeneitySpace source text w a = record { value = a.value; read = a.read; formed = a.answer.formed; is_whole = a.answer.is_answer }
 
 -- its one write fails
 pub stopped_write : (job : Job) (source text : List ℕ) (held holds : Option (List ℕ)) (n m : ℕ) → WritesAtEnd job → IsAnswerTo job source text → Rose n m → AppendsPrefix held holds text → IsStopped job source held holds n m refusals.WriteFault

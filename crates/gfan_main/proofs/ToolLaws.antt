@@ -1,7 +1,7 @@
 -- Each of the small tools answers a source in one way: its record has the laws of an exact command, and names no limit of a list.
 -- To cite: mark_polynomial_set_exact, initial_forms_exact, homogenize_exact, polynomial_set_union_exact, stats_exact; homogenize_not_listed,
 -- homogenize_untested, gordan_not_listed, gordan_untested; length_unanswered, zero_unanswered, marked_answered; entries_unanswered, forms_answered; room_unanswered, exponent_unanswered,
--- homogenized_answered; stats_unanswered, stats_answered, named_gordan, seven_pieces. The rest are steps.
+-- homogenized_answered; stats_unanswered, stats_answered, gordan_work, named_gordan, seven_pieces. The rest are steps.
 use Rattle.std.specs.Prelude.{◌≡◌, ◌⊎◌, ℕ, ◌^◌, ◌<◌, All, List, [], ◌∷◌, ◌++◌, length, None, Some, ℤ}
 use Rattle.std.specs.List.{concat}
 use Rattle.std.proofs.Common.{arith, refl, sym, ap, ◌∙◌, subst, inl, inr, append_assoc, append-nil}
@@ -153,7 +153,7 @@ homogenize_not_listed ws most h = h
 
 -- ---- `_stats`
 
-gordan_work : (e : GordanError) → IsOfWork (of_gordan e)
+pub gordan_work : (e : GordanError) → IsOfWork (of_gordan e)
 gordan_work (gordan_errors.Cone o) = tt
 gordan_work gordan_errors.Memory = tt
 

@@ -1,5 +1,5 @@
 -- The weights of sets: how they are found, why they aren't, and that a source is answered in one way.
--- To cite: first_refused, weights_joined, set_unweighed, weight_unweighed, items_more, items_all, one_read, list_read, named_one, named_list, one_unweighed, list_unweighed;
+-- To cite: weights_joined, set_unweighed, weight_unweighed, items_more, items_all, one_read, named_one, named_list, one_unweighed, list_unweighed;
 -- weight_vector_exact, weight_vector_tested, unweighed_not_listed. The rest are steps.
 use Rattle.std.specs.Prelude.{◌≡◌, ◌⊎◌, ℕ, zero, suc, ◌+◌, ◌<◌, ◌≤◌, Bool, true, false, List, [], ◌∷◌, ◌++◌, length, take, zip, flat_map, Contains, Some, ℤ}
 use Rattle.std.specs.List.{AllZip}
@@ -7,12 +7,10 @@ use Rattle.std.proofs.Common.{arith, sym, ap, ◌∙◌, subst, inl, inr, get_or
 use Rattle.std.proofs.lemmas.List.{take_more, take_all}
 use Rattle.std.proofs.lemmas.List.Concat.{flat_map-append}
 use Rattle.std.proofs.lemmas.Slice.Zip.{length-zip, get_or-zip}
-use Rattle.gf_poly.specs.Marking.{MarkedPolynomials, Each}
-use Rattle.gf_ideal.proofs.ListLaws.{contained_each, Contains-here, Contains-there}
+use Rattle.gf_poly.specs.Marking.{MarkedPolynomials, Each, HaveVariables}
+use Rattle.gf_ideal.proofs.ListLaws.{contained_each}
 use Rattle.gf_reduced.specs.declared.error.CheckError.{CheckError}
 use Rattle.gf_reduced.specs.declared.error.CheckError.TheVariants as check_errors
-use Rattle.gf_reduced.specs.Refusals.{IsReducedRefusal}
-use Rattle.gf_reduced.proofs.RefusalLaws.{reduced_memory}
 use Rattle.gf_weights.specs.declared.error.WeightError.{WeightError}
 use Rattle.gf_weights.specs.declared.error.WeightError.TheVariants as weight_errors
 use Rattle.gf_weights.specs.Weights.{IsPrintedWeight}
@@ -26,30 +24,17 @@ use Rattle.gf_items.specs.Commands.{IsOfTest, IsOfNumbers, TellsSame, IsOfWork, 
 use Rattle.gf_items.proofs.KindLaws.{ring_and_once}
 use Rattle.gf_items.proofs.CommandLaws.{IsExactCommand, IsTestedCommand}
 use Rattle.gfan_main.specs.CheckedSets.{of_check}
-use Rattle.gfan_main.specs.Certificates.{of_weight}
-use Rattle.gfan_main.specs.WeightVector.{IsReducedAsRead, IsWeightOfSet, IsRefusedFrom, IsUnweighed, IsWeighedWithin, weight_item, later_weight_item, weight_vector_command}
+use Rattle.gfan_main.specs.Certificates.{of_weight_error}
+use Rattle.gfan_main.specs.WeightVector.{IsWeightOfSet, IsUnweighed, IsWeighedWithin, weight_item, later_weight_item, weight_vector_command}
+use Rattle.gfan_main.specs.ReducedSets.{IsReducedAsRead, IsRefusedFrom}
 use Rattle.gfan_main.specs.Refused.{IsNamedBy}
-use Rattle.gfan_main.proofs.ReadSetLaws.{IsSetKept, set_variables, one_kept, list_kept}
-use Rattle.gfan_main.proofs.CheckedSetLaws.{check_work, check_not_listed, reduced_refutes, reduced_once, named_reduced}
+use Rattle.gfan_main.proofs.ReadSetLaws.{IsSetKept, one_kept}
+use Rattle.gfan_main.proofs.CheckedSetLaws.{check_work, check_not_listed}
 use Rattle.gfan_main.proofs.CertificateLaws.{weight_work, weight_untested}
+use Rattle.gfan_main.proofs.ReducedListLaws.{refused_named, refused_within, refused_once, refused_refutes, list_read}
 use Rattle.gfan_main.proofs.ZipLaws.{zip_there, zip_back}
 
 -- ---- how they are found
-
--- the sets before a place are taken, and the one there isn't
-refused_at : (k i : ℕ) (sets bases : List MarkedPolynomials) (s : MarkedPolynomials) (e : CheckError) → i < length sets → s ≡ get_or sets i s → AllZip IsReducedAsRead (take i sets) bases → IsReducedRefusal (k + i) s e → IsRefusedFrom k sets e
-refused_at k i [] bases s e l q z h = absurd (omega arith)
-refused_at k zero (r ∷ sets) bases s e l q z h =
-    let there : k + zero ≡ k = omega arith in
-    inl (subst (λ (x : MarkedPolynomials). IsReducedRefusal k x e) q (subst (λ (n : ℕ). IsReducedRefusal n s e) there h))
-refused_at k (suc i) (r ∷ sets) [] s e l q z h = absurd z
-refused_at k (suc i) (r ∷ sets) (t ∷ bases) s e l q z h =
-    let there : k + suc i ≡ k + 1 + i = omega arith in
-    inr ((t, z.0), refused_at (k + 1) i sets bases s e (omega arith) q z.1 (subst (λ (n : ℕ). IsReducedRefusal n s e) there h))
-
--- the same counted from the first
-pub first_refused : (i : ℕ) (sets bases : List MarkedPolynomials) (s : MarkedPolynomials) (e : CheckError) → i < length sets → s ≡ get_or sets i s → AllZip IsReducedAsRead (take i sets) bases → IsReducedRefusal i s e → IsRefusedFrom 0 sets e
-first_refused i sets bases s e l q z h = let there : i ≡ 0 + i = omega arith in refused_at 0 i sets bases s e l q z (subst (λ (n : ℕ). IsReducedRefusal n s e) there h)
 
 -- the weights of the bases are those of the sets
 pub weights_joined : (sets bases : List MarkedPolynomials) (weights : List (List ℤ)) → AllZip IsReducedAsRead sets bases → AllZip (λ t v. IsPrintedWeight t.variables t.items v) bases weights → AllZip IsWeightOfSet sets weights
@@ -66,12 +51,12 @@ pub set_unweighed : (sets : List MarkedPolynomials) (e : CheckError) (r : Refusa
 set_unweighed sets e r (inl h) q = IsUnweighed.at_set e h q
 set_unweighed sets e r (inr m) q = IsUnweighed.no_memory (q ∙ ap of_check m)
 
-pub weight_unweighed : (sets bases : List MarkedPolynomials) (e : WeightError) (r : Refusal) → AllZip IsReducedAsRead sets bases → ((t : MarkedPolynomials) × Contains bases t × IsWeightCause t.variables t.items e) ⊎ (e ≡ weight_errors.Memory) → r ≡ of_weight e → IsUnweighed sets r
+pub weight_unweighed : (sets bases : List MarkedPolynomials) (e : WeightError) (r : Refusal) → AllZip IsReducedAsRead sets bases → ((t : MarkedPolynomials) × Contains bases t × IsWeightCause t.variables t.items e) ⊎ (e ≡ weight_errors.Memory) → r ≡ of_weight_error e → IsUnweighed sets r
 weight_unweighed sets bases e r a (inl h) q =
     let s = zip_back IsReducedAsRead sets bases h.0 a h.1 in
     IsUnweighed.at_weight e (λ x c. (let t = zip_there IsReducedAsRead sets bases x a c in (t.0, t.2)))
     (record { set = s.0; contained = s.1; basis = h.0; read = s.2; cause = h.2 }) q
-weight_unweighed sets bases e r a (inr m) q = IsUnweighed.no_memory (q ∙ ap of_weight m)
+weight_unweighed sets bases e r a (inr m) q = IsUnweighed.no_memory (q ∙ ap of_weight_error m)
 
 -- ---- what is written
 
@@ -94,15 +79,10 @@ items_all sets weights i l m = take_all i (zip sets weights) (omega (arith, l, m
 
 -- ---- the names in lines
 
-weight_named : (ring : List (List ℕ)) (e : WeightError) → IsNamedBy (Some ring) (of_weight e)
+weight_named : (ring : List (List ℕ)) (e : WeightError) → IsNamedBy (Some ring) (of_weight_error e)
 weight_named ring (weight_errors.Cone o) = λ lent is. tt
 weight_named ring (weight_errors.Wide w) = λ lent is. tt
 weight_named ring weight_errors.Memory = λ lent is. tt
-
-refused_named : (k : ℕ) (ring : List (List ℕ)) (sets : List MarkedPolynomials) (e : CheckError) → Each (IsSetKept (length ring)) sets → IsRefusedFrom k sets e → IsNamedBy (Some ring) (of_check e)
-refused_named k ring [] e v h = absurd h
-refused_named k ring (s ∷ sets) e v (inl h) = named_reduced k ring s e v.0 h
-refused_named k ring (s ∷ sets) e v (inr h) = refused_named (k + 1) ring sets e v.1 h.1
 
 unweighed_named : (ring : List (List ℕ)) (sets : List MarkedPolynomials) (r : Refusal) → Each (IsSetKept (length ring)) sets → IsUnweighed sets r → IsNamedBy (Some ring) r
 unweighed_named ring sets r v (IsUnweighed.at_set e h q) = subst (IsNamedBy (Some ring)) (sym q) (refused_named 0 ring sets e v h)
@@ -112,9 +92,6 @@ unweighed_named ring sets r v (IsUnweighed.no_memory m) = subst (IsNamedBy (Some
 -- the sets of a source have the variables of its ring
 pub one_read : (source : List ℕ) (v : List (List ℕ) × MarkedPolynomials) → IsTextOf ring_marked_set source v → Each (IsSetKept (length v.0)) (v.1 ∷ [])
 one_read source v read = (one_kept v.0 (from source read.read.behind) read.end v.1 read.read.two, tt)
-
-pub list_read : (source : List ℕ) (v : List (List ℕ) × List MarkedPolynomials) → IsTextOf ring_marked_sets source v → Each (IsSetKept (length v.0)) v.1
-list_read source v read = list_kept v.0 (from source read.read.behind) read.end v.1 read.read.two
 
 pub named_one : (source : List ℕ) (ring : List (List ℕ)) (s : MarkedPolynomials) (r : Refusal) → IsTextOf ring_marked_set source (ring, s) → IsUnweighed (s ∷ []) r → IsNamedBy (Some ring) r
 named_one source ring s r read h = unweighed_named ring (s ∷ []) r (one_read source (ring, s) read) h
@@ -137,14 +114,10 @@ unweighed_work sets r (IsUnweighed.at_set e h q) = subst IsOfWork (sym q) (check
 unweighed_work sets r (IsUnweighed.at_weight e a h q) = subst IsOfWork (sym q) (weight_work e)
 unweighed_work sets r (IsUnweighed.no_memory m) = subst IsOfWork (sym m) tt
 
-refused_within : (k : ℕ) (sets : List MarkedPolynomials) (e : CheckError) → ((s : MarkedPolynomials) → Contains sets s → IsWeighedWithin s) → IsRefusedFrom k sets e → e ≡ check_errors.Memory
-refused_within k [] e w h = absurd h
-refused_within k (s ∷ sets) e w (inl h) = let l = w s (Contains-here s sets) in reduced_memory k s e l.variables l.checks l.basis l.terms h
-refused_within k (s ∷ sets) e w (inr h) = refused_within (k + 1) sets e (λ r c. w r (Contains-there s r sets c)) h.1
-
 unweighed_within : (sets : List MarkedPolynomials) (r : Refusal) → ((s : MarkedPolynomials) → Contains sets s → IsWeighedWithin s) → IsUnweighed sets r → r ≡ refusals.Memory
-unweighed_within sets r w (IsUnweighed.at_set e h q) = q ∙ ap of_check (refused_within 0 sets e w h)
-unweighed_within sets r w (IsUnweighed.at_weight e a h q) = q ∙ ap of_weight ((w h.set h.contained).weight h.basis h.read.arranged e h.cause)
+unweighed_within sets r w (IsUnweighed.at_set e h q) =
+    q ∙ ap of_check (refused_within 0 sets e (λ s c. (let l = w s c in record { variables = l.variables; basis = l.basis; terms = l.terms; checks = l.checks })) h)
+unweighed_within sets r w (IsUnweighed.at_weight e a h q) = q ∙ ap of_weight_error ((w h.set h.contained).weight h.basis h.read.arranged e h.cause)
 unweighed_within sets r w (IsUnweighed.no_memory m) = m
 
 only : (s : MarkedPolynomials) → IsWeighedWithin s → (r : MarkedPolynomials) → Contains (s ∷ []) r → IsWeighedWithin r
@@ -166,7 +139,7 @@ weight_vector_exact true echoed = record {
 
 -- ---- no limit of a list
 
-weight_not_listed : (e : WeightError) (most : ℕ) → refusals.ListLimit most ≡ of_weight e → ⊥
+weight_not_listed : (e : WeightError) (most : ℕ) → refusals.ListLimit most ≡ of_weight_error e → ⊥
 weight_not_listed (weight_errors.Cone o) most q = cc
 weight_not_listed (weight_errors.Wide w) most q = cc
 weight_not_listed weight_errors.Memory most q = cc
@@ -178,39 +151,10 @@ unweighed_not_listed sets most (IsUnweighed.no_memory m) = cc
 
 -- ---- sets that aren't reduced bases
 
--- a check is of a test, or its numbers don't fit
-check_kind : (e : CheckError) → IsOfTest (of_check e) ⊎ IsOfNumbers (of_check e)
-check_kind (check_errors.Overflow o) = inr tt
-check_kind (check_errors.Exponent o) = inr tt
-check_kind (check_errors.NotReduced set i x) = inl tt
-check_kind (check_errors.NotBasis set i j r) = inl tt
-check_kind (check_errors.Inconsistent set ms) = inl tt
-check_kind (check_errors.Cone o) = inr tt
-check_kind check_errors.Memory = inr tt
-
-weight_numbers : (e : WeightError) → IsOfNumbers (of_weight e)
+weight_numbers : (e : WeightError) → IsOfNumbers (of_weight_error e)
 weight_numbers (weight_errors.Cone o) = tt
 weight_numbers (weight_errors.Wide w) = tt
 weight_numbers weight_errors.Memory = tt
-
--- one that is taken isn't refused by a test
-taken_apart : (n k : ℕ) (s t : MarkedPolynomials) (e : CheckError) → IsSetKept n s → IsOfTest (of_check e) → IsReducedRefusal k s e → IsReducedAsRead s t → ⊥
-taken_apart n k s t e v o h a = reduced_refutes k s e (set_variables n s v) o h a.terms a.basis.basis.marked
-
-refused_once : (n k : ℕ) (sets : List MarkedPolynomials) (e d : CheckError) → Each (IsSetKept n) sets → IsOfTest (of_check e) → IsRefusedFrom k sets e → IsRefusedFrom k sets d → TellsSame (of_check e) (of_check d) ⊎ IsOfNumbers (of_check d)
-refused_once n k [] e d v t h g = absurd h
-refused_once n k (s ∷ sets) e d v t (inl h) (inl g) = reduced_once k s e d (set_variables n s v.0) t h g
-refused_once n k (s ∷ sets) e d v t (inl h) (inr g) = absurd (taken_apart n k s g.0.0 e v.0 t h g.0.1)
-refused_once n k (s ∷ sets) e d v t (inr h) (inl g) = elim (check_kind d) [
-  | inl o ↦ absurd (taken_apart n k s h.0.0 d v.0 o g h.0.1)
-  | inr o ↦ inr o
-]
-refused_once n k (s ∷ sets) e d v t (inr h) (inr g) = refused_once n (k + 1) sets e d v.1 t h.1 g.1
-
-refused_refutes : (n k : ℕ) (sets : List MarkedPolynomials) (e : CheckError) → Each (IsSetKept n) sets → IsOfTest (of_check e) → IsRefusedFrom k sets e → ((s : MarkedPolynomials) → Contains sets s → (t : MarkedPolynomials) × IsReducedAsRead s t) → ⊥
-refused_refutes n k [] e v t h a = h
-refused_refutes n k (s ∷ sets) e v t (inl h) a = let b = a s (Contains-here s sets) in taken_apart n k s b.0 e v.0 t h b.1
-refused_refutes n k (s ∷ sets) e v t (inr h) a = refused_refutes n (k + 1) sets e v.1 t h.1 (λ r c. a r (Contains-there s r sets c))
 
 unweighed_once : (n : ℕ) (sets : List MarkedPolynomials) (r d : Refusal) → Each (IsSetKept n) sets → IsOfTest r → IsUnweighed sets r → IsUnweighed sets d → TellsSame r d ⊎ IsOfNumbers d
 unweighed_once n sets r d v t (IsUnweighed.at_set e h q) (IsUnweighed.at_set f k p) =

@@ -48,14 +48,14 @@ IsItemText true ring b text = (told : List ℕ) × IsCertificatesText b told × 
 -- ---- refusals
 
 -- why weights and witnesses aren't told, as a refusal of the run
-abbrev pub of_weight : WeightError → Refusal
-of_weight (weight_errors.Cone o) = refusals.ConeOverflow o.row o.op o.left o.right
-of_weight (weight_errors.Wide w) = refusals.WideVector w
-of_weight weight_errors.Memory = refusals.Memory
+abbrev pub of_weight_error : WeightError → Refusal
+of_weight_error (weight_errors.Cone o) = refusals.ConeOverflow o.row o.op o.left o.right
+of_weight_error (weight_errors.Wide w) = refusals.WideVector w
+of_weight_error weight_errors.Memory = refusals.Memory
 
 -- an operation of finding the rays of the basis's cone, cut with the orthant, or of adding up those that are printed, is refused
 abbrev pub IsUncertified : MarkedPolynomials → Refusal → Type 0
-IsUncertified b r = (e : WeightError) × IsCertificateCause b.variables b.items e × (r ≡ of_weight e)
+IsUncertified b r = (e : WeightError) × IsCertificateCause b.variables b.items e × (r ≡ of_weight_error e)
 
 -- why the text isn't made
 abbrev pub IsItemRefusal : Bool → MarkedPolynomials → Refusal → Type 0

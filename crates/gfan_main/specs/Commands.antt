@@ -21,6 +21,8 @@ use Rattle.gfan_main.specs.PolynomialSetUnion.{polynomial_set_union_command}
 use Rattle.gfan_main.specs.Stats.{stats_command}
 use Rattle.gfan_main.specs.WeightVector.{weight_vector_command}
 use Rattle.gfan_main.specs.GroebnerCone.{groebner_cone_command}
+use Rattle.gfan_main.specs.ToPolyhedralFan.{to_polyhedral_fan_command}
+use Rattle.gfan_main.specs.HomogeneitySpace.{homogeneity_space_command}
 
 -- the options of `_buchberger`
 abbrev pub options : Bool → Bool → ℕ → Options
@@ -49,6 +51,8 @@ command jobs.PolynomialSetUnion = polynomial_set_union_command
 command jobs.Stats = stats_command
 command (jobs.WeightVector listed echoed) = weight_vector_command listed echoed
 command (jobs.GroebnerCone vector_input certificates) = groebner_cone_command vector_input (cone_options certificates)
+command (jobs.ToPolyhedralFan restrict) = to_polyhedral_fan_command restrict
+command jobs.HomogeneitySpace = homogeneity_space_command
 
 -- the text is what the job writes for the source
 abbrev pub IsAnswerTo : Job → List ℕ → List ℕ → Type 0

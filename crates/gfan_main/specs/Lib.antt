@@ -12,7 +12,11 @@ pub mod Homogenize  -- what `_homogenize` reads and writes
 pub mod PolynomialSetUnion  -- what `_polynomialsetunion` reads and writes
 pub mod Stats  -- what `_stats` reads and writes
 pub mod Certificates  -- what stands for a basis in the list, with certificates or without
+pub mod ReducedSets  -- lists of marked sets that are read as reduced bases
 pub mod WeightVector  -- what `_weightvector` reads and writes
+pub mod FanTexts  -- the text of the fan of cones
+pub mod ToPolyhedralFan  -- what `_topolyhedralfan` reads and writes
+pub mod HomogeneitySpace  -- what `_homogeneityspace` reads and writes
 pub mod GroebnerCone  -- what `_groebnercone` reads and writes
 pub mod BasesList  -- the list of all bases of an ideal
 pub mod OneList  -- an ideal has one such list

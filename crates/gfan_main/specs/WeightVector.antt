@@ -1,5 +1,5 @@
 -- `_weightvector`: what it reads and writes, and why it doesn't.
-use Rattle.std.specs.Prelude.{◌≡◌, ◌⊎◌, ℕ, ◌+◌, Bool, true, false, List, [], ◌∷◌, ◌++◌, length, flat_map, zip, All, Contains, ℤ, pos, ◌<ℤ◌}
+use Rattle.std.specs.Prelude.{◌≡◌, ℕ, ◌+◌, Bool, true, false, List, [], ◌∷◌, ◌++◌, length, flat_map, zip, All, Contains, ℤ, pos, ◌<ℤ◌}
 use Rattle.std.specs.List.{AllZip}
 use Rattle.gf_exponents.specs.Orders.{gains}
 use Rattle.gf_poly.specs.Marking.{MarkedPolynomials, HaveVariables, polys, IsArranged}
@@ -7,8 +7,8 @@ use Rattle.gf_ideal.specs.Bases.{IsReducedBasis}
 use Rattle.gf_reduced.specs.declared.error.CheckError.{CheckError}
 use Rattle.gf_reduced.specs.Forms.{monic_set}
 use Rattle.gf_reduced.specs.Terms.{AreReduced}
-use Rattle.gf_reduced.specs.Markings.{IsMarkedGroebnerBasis, IsReducedBasisOf}
-use Rattle.gf_reduced.specs.Refusals.{IsReducedRefusal, AreChecksWithinLimits}
+use Rattle.gf_reduced.specs.Markings.{IsMarkedGroebnerBasis}
+use Rattle.gf_reduced.specs.Refusals.{AreChecksWithinLimits}
 use Rattle.gf_weights.specs.declared.error.WeightError.{WeightError}
 use Rattle.gf_weights.specs.Weights.{IsPrintedWeight}
 use Rattle.gf_weights.specs.Refusals.{IsWeightCause, IsWeightWithinLimits}
@@ -20,16 +20,10 @@ use Rattle.gf_front.specs.declared.refusal.Refusal.TheVariants as refusals
 use Rattle.gf_items.specs.Sources.{ring_marked_set, ring_marked_sets}
 use Rattle.gf_items.specs.Commands.{Command}
 use Rattle.gfan_main.specs.CheckedSets.{of_check}
-use Rattle.gfan_main.specs.Certificates.{of_weight}
+use Rattle.gfan_main.specs.Certificates.{of_weight_error}
+use Rattle.gfan_main.specs.ReducedSets.{IsReducedAsRead, AreReducedAsRead, IsRefusedFrom}
 
 -- ---- the weights
-
--- no term of s is one that a mark divides, but the marks by themselves; and t, the members of s made monic and arranged, is the reduced
--- Gröbner basis of the ideal of s for its marking
-pub record IsReducedAsRead (s t : MarkedPolynomials) : Type 0 where
-  pub terms : AreReduced s.items
-  pub arranged : IsArranged (monic_set s) t
-  pub basis : IsReducedBasisOf s t
 
 -- v is the weight that is printed of that basis
 pub record IsWeightOfSet (s : MarkedPolynomials) (v : List ℤ) : Type 0 where
@@ -81,11 +75,6 @@ pub record IsWeightsText (listed echoed : Bool) (ring : List (List ℕ)) (sets :
 
 -- ---- why it isn't written
 
--- the first of the sets that isn't taken as a reduced basis is refused so; the sets are counted from k
-abbrev pub IsRefusedFrom : ℕ → List MarkedPolynomials → CheckError → Type 0
-IsRefusedFrom k [] e = ⊥
-IsRefusedFrom k (s ∷ sets) e = IsReducedRefusal k s e ⊎ (((t : MarkedPolynomials) × IsReducedAsRead s t) × IsRefusedFrom (k + 1) sets e)
-
 -- the weight of one of the sets isn't told
 pub record IsSomeWeightCause (sets : List MarkedPolynomials) (e : WeightError) : Type 0 where
   pub set : MarkedPolynomials
@@ -97,8 +86,8 @@ pub record IsSomeWeightCause (sets : List MarkedPolynomials) (e : WeightError) :
 -- a set isn't taken; or all are, and a weight isn't told; or there is no memory
 pub data IsUnweighed (sets : List MarkedPolynomials) (r : Refusal) : Type 0 where
   at_set : (e : CheckError) → IsRefusedFrom 0 sets e → r ≡ of_check e → IsUnweighed sets r
-  at_weight : (e : WeightError) → ((s : MarkedPolynomials) → Contains sets s → (t : MarkedPolynomials) × IsReducedAsRead s t) →
-      IsSomeWeightCause sets e → r ≡ of_weight e → IsUnweighed sets r
+  at_weight : (e : WeightError) → AreReducedAsRead sets →
+      IsSomeWeightCause sets e → r ≡ of_weight_error e → IsUnweighed sets r
   no_memory : r ≡ refusals.Memory → IsUnweighed sets r
 
 -- the set, in its variables as any that is read, is reduced and a basis, and no operation of its checks or of its weight leaves its limits

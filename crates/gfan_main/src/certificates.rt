@@ -3,7 +3,7 @@
 ghost use Rattle.std.specs.Prelude.{◌≡◌, ◌++◌, flat_map, ℕ, List, IfErr, OnOk};
 ghost use Rattle.gfan_main.specs.Certificates.{facet_text, later_facet_text, facets_text, certificates_text, IsCertificatesText, IsUncertified};
 
-use crate::refused::of_weight;
+use crate::refused::of_weight_error;
 use gf_front::Refusal;
 use gf_poly::MarkedSet;
 use gf_text::Printer;
@@ -67,7 +67,7 @@ pub(crate) fn push_certified(
 {
     let told = match certify(alloc, basis) {
         Ok(told) => told,
-        Err(error) => return Err(of_weight(error)),
+        Err(error) => return Err(of_weight_error(error)),
     };
     push_certificates(text, &told)?;
     Ok(())

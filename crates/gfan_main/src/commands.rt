@@ -10,8 +10,9 @@ use crate::buchberger::Options;
 use crate::groebner_cone::ConeOptions;
 use crate::refused::Refused;
 use crate::{
-    bases, buchberger, containment, given_basis, groebner_cone, homogenize, initial_forms,
-    leading_terms, mark_polynomial_set, marked, polynomial_set_union, stats, weight_vector,
+    bases, buchberger, containment, given_basis, groebner_cone, homogeneity_space, homogenize,
+    initial_forms, leading_terms, mark_polynomial_set, marked, polynomial_set_union, stats,
+    to_polyhedral_fan, weight_vector,
 };
 use gf_front::{Job, Refusal};
 use gf_outside::{Sink, WriteFault, write_all};
@@ -60,6 +61,8 @@ fn answered(alloc: Global, job: &Job, source: &[u8]) -> Result<Vec<u8>, Refused>
         Job::WeightVector { listed, echoed } => {
             weight_vector::answer(alloc, source, *listed, *echoed)
         }
+        Job::ToPolyhedralFan { restrict } => to_polyhedral_fan::answer(alloc, source, *restrict),
+        Job::HomogeneitySpace => homogeneity_space::answer(alloc, source),
     }
 }
 

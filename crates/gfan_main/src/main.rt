@@ -4,9 +4,9 @@
 // writes the reduced Gröbner basis by lex; `_ismarkedgroebnerbasis` reads a ring and a marked set, and writes whether it is a
 // Gröbner basis for its marking; `_doesidealcontain` reads a ring, a marked basis and a set, and writes whether the basis's ideal
 // contains the set; `_leadingterms` reads a ring and a marked set, and writes its leading terms; `_markpolynomialset`,
-// `_initialforms`, `_homogenize`, `_polynomialsetunion` and `_stats` are small tools on sets; `_groebnercone` tells a cone, and
-// `_weightvector` writes weights that give marked bases. What a run does is told at `run`, what each command writes in
-// `specs/Commands.antt`.
+// `_initialforms`, `_homogenize`, `_polynomialsetunion` and `_stats` are small tools on sets; `_groebnercone` tells a cone,
+// `_weightvector` writes weights that give marked bases, `_topolyhedralfan` the fan of the cones of such bases, `_homogeneityspace` the
+// vectors by which polynomials are homogeneous. What a run does is told at `run`, what each command writes in `specs/Commands.antt`.
 #![tactic(auto)]
 
 ghost use Rattle.std.specs.Prelude.{◌≡◌};
@@ -19,8 +19,10 @@ mod certificates;
 mod checks;
 mod commands;
 mod containment;
+mod fan_text;
 mod given_basis;
 mod groebner_cone;
+mod homogeneity_space;
 mod homogenize;
 mod initial_forms;
 mod laws;
@@ -29,6 +31,7 @@ mod mark_polynomial_set;
 mod marked;
 mod polynomial_set_union;
 mod printing;
+mod reduced_sets;
 mod refused;
 mod run;
 mod stats;
@@ -36,6 +39,7 @@ mod stats;
 mod tests;
 #[cfg(test)]
 mod textbook_tests;
+mod to_polyhedral_fan;
 #[cfg(test)]
 mod tool_tests;
 mod weight_vector;

@@ -1,10 +1,11 @@
 // A refusal on its way to the end of a run.
 ghost use Rattle.std.specs.Prelude.{◌≡◌, Some};
 ghost use Rattle.gf_front.specs.Lines.{line};
-ghost use Rattle.gfan_main.specs.Certificates.{of_weight};
+ghost use Rattle.gfan_main.specs.Certificates.{of_weight_error};
 ghost use Rattle.gfan_main.specs.CheckedSets.{of_check};
 ghost use Rattle.gfan_main.specs.GroebnerCone.{of_sections};
 ghost use Rattle.gfan_main.specs.Refused.{names_of, IsNamedBy, WrittenAsFar};
+ghost use Rattle.gfan_main.specs.Stats.{of_gordan};
 
 use gf_buchberger::BasisError;
 use gf_front::{Refusal, WordsError};
@@ -65,8 +66,8 @@ pub(crate) fn of_check(error: CheckError) -> Refusal
 }
 
 /// Why a weight or a witness isn't told, as a refusal of the run.
-pub(crate) fn of_weight(error: WeightError) -> Refusal
-    ensures { result ≡ of_weight error }
+pub(crate) fn of_weight_error(error: WeightError) -> Refusal
+    ensures { result ≡ of_weight_error error }
 {
     match error {
         WeightError::Cone(o) => Refusal::ConeOverflow {
@@ -93,6 +94,21 @@ pub(crate) fn of_sections(error: SectionsError) -> Refusal
         },
         SectionsError::Wide(w) => Refusal::WideVector(w),
         SectionsError::Memory => Refusal::Memory,
+    }
+}
+
+/// Why rays aren't found, as a refusal of the run.
+pub(crate) fn of_gordan(error: GordanError) -> Refusal
+    ensures { result ≡ of_gordan error }
+{
+    match error {
+        GordanError::Cone(o) => Refusal::ConeOverflow {
+            row: o.row,
+            op: o.op,
+            left: o.left,
+            right: o.right,
+        },
+        GordanError::Memory => Refusal::Memory,
     }
 }
 
@@ -191,15 +207,7 @@ impl From<GordanError> for Refused {
     ghost from_gives = { λ g e. e ≡ without_names (of_gordan g) };
 
     fn from(error: GordanError) -> Refused {
-        Refused::from(match error {
-            GordanError::Cone(o) => Refusal::ConeOverflow {
-                row: o.row,
-                op: o.op,
-                left: o.left,
-                right: o.right,
-            },
-            GordanError::Memory => Refusal::Memory,
-        })
+        Refused::from(of_gordan(error))
     }
 }
 

@@ -87,7 +87,8 @@ fn outcome<R: Threads + Sync, S: Source, K: Sink, G: Gate>(
 /// - `Inconsistent`, `NotReduced` and `NotBasis` exactly where a marked set that is read isn't a basis for its marking, or not the reduced
 ///   one where the job asks for that, unless numbers of the work before don't fit: no positive weight gives the marking, with
 ///   multipliers that show it; or a mark divides a term that it shouldn't, the first one; or the first pair whose S-polynomial
-///   leaves a remainder, with that remainder.
+///   leaves a remainder, with that remainder. `NotAFan` exactly where the cones of such sets have no fan, at the first pair whose meet isn't a
+///   face of both, unless numbers of the work don't fit.
 /// - `Overflow`, `ExponentOverflow`, `ConeOverflow` and `WideVector` only for operands that the job may have, and that don't fit;
 ///   `PairBudget` only where the budget of the words is spent.
 /// - `ListLimit` exactly where the limit of the words is reached, and the list goes on.

@@ -585,3 +585,66 @@ fn a_cone_is_told_in_sections(rt: HostRuntime) -> Result<(), Fail> {
     }
     Ok(())
 }
+
+/// The fan of the cones of marked reduced bases, and the homogeneity space of a set.
+#[test]
+fn fans_are_written(rt: HostRuntime) -> Result<(), Fail> {
+    let rows = [
+        (
+            "_topolyhedralfan",
+            "Q[a,b] {{a-b},{b-a}}",
+            0u8,
+            "AMBIENT_DIM\n2\n\nDIM\n2\n\nLINEALITY_DIM\n1\n\nRAYS\n-1 1\t# 0\n1 -1\t# 1\n\nN_RAYS\n2\n\nLINEALITY_SPACE\n1 1\n\nORTH_LINEALITY_SPACE\n1 -1\n\nF_VECTOR\n1 2\n\nSIMPLICIAL\n1\n\nPURE\n1\n\nCONES\n{}\t# Dimension 1\n{0}\t# Dimension 2\n{1}\n\nMAXIMAL_CONES\n{0}\t# Dimension 2\n{1}\n\n",
+            "",
+        ),
+        (
+            "_topolyhedralfan --restrict",
+            "Q[a,b] {{a^2-b},{b-a^2}}",
+            0,
+            "AMBIENT_DIM\n2\n\nDIM\n2\n\nLINEALITY_DIM\n0\n\nRAYS\n0 1\t# 0\n1 0\t# 1\n1 2\t# 2\n\nN_RAYS\n3\n\nLINEALITY_SPACE\n\nORTH_LINEALITY_SPACE\n1 0\n0 1\n\nF_VECTOR\n1 3 2\n\nSIMPLICIAL\n1\n\nPURE\n1\n\nCONES\n{}\t# Dimension 0\n{0}\t# Dimension 1\n{1}\n{2}\n{0 2}\t# Dimension 2\n{1 2}\n\nMAXIMAL_CONES\n{0 2}\t# Dimension 2\n{1 2}\n\n",
+            "",
+        ),
+        (
+            "_topolyhedralfan",
+            "Q[a] {}",
+            0,
+            "AMBIENT_DIM\n1\n\nDIM\n-1\n\nLINEALITY_DIM\n0\n\nRAYS\n\nN_RAYS\n0\n\nLINEALITY_SPACE\n\nORTH_LINEALITY_SPACE\n1\n\nF_VECTOR\n\nSIMPLICIAL\n1\n\nPURE\n1\n\nCONES\n\nMAXIMAL_CONES\n\n",
+            "",
+        ),
+        (
+            "_topolyhedralfan",
+            "Q[a,b] {{a-b},{b-a^2}}",
+            1,
+            "",
+            "gfan: E18 no fan: cones 0 and 1\n",
+        ),
+        (
+            "_topolyhedralfan",
+            "Q[a,b] {{a-b},{a+b,b}}",
+            1,
+            "",
+            "gfan: E14 not reduced: set 1 polynomial 0 term b\n",
+        ),
+        (
+            "_homogeneityspace",
+            "Q[a,b] {a-b,0}",
+            0,
+            "AMBIENT_DIM\n2\n\nDIM\n1\n\nLINEALITY_DIM\n1\n\nRAYS\n\nN_RAYS\n0\n\nLINEALITY_SPACE\n1 1\n\nORTH_LINEALITY_SPACE\n1 -1\n\nF_VECTOR\n1\n\nSIMPLICIAL\n1\n\nPURE\n1\n\nCONES\n{}\t# Dimension 1\n\nMAXIMAL_CONES\n{}\t# Dimension 1\n\n",
+            "",
+        ),
+        (
+            "_homogeneityspace",
+            "Q[a,b] {a-b} {}",
+            1,
+            "",
+            "gfan: E8 syntax at byte 13: unexpected\n",
+        ),
+    ];
+    for (words, input, code, text, told) in rows {
+        assert!(rt;
+            ends(&rt, rt.alloc(), words, input, code, text, told)?,
+            "{words} {input}"
+        );
+    }
+    Ok(())
+}

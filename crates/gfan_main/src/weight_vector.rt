@@ -2,18 +2,17 @@
 ghost use Rattle.std.specs.Prelude.{◌≡◌, ◌⊎◌, ◌++◌, All, Contains, length, flat_map, zip, true, false, IfOk, IfErr, OnOk};
 ghost use Rattle.std.specs.List.{AllZip};
 ghost use Rattle.gf_poly.specs.Marking.{MarkedPolynomials};
-ghost use Rattle.gf_reduced.specs.Refusals.{IsReducedRefusal};
 ghost use Rattle.gf_weights.specs.Weights.{IsPrintedWeight};
 ghost use Rattle.gf_weights.specs.Refusals.{IsWeightCause};
 ghost use Rattle.gf_items.specs.Commands.{IsAnswered, IsCommandRefused};
 ghost use Rattle.gfan_main.specs.Refused.{IsOfSource};
-ghost use Rattle.gfan_main.specs.WeightVector.{IsReducedAsRead, IsWeightOfSet, IsRefusedFrom, IsUnweighed, IsWeightsText, weight_item, later_weight_item, weight_items, echoed_ring, enclosed, weight_vector_command};
+ghost use Rattle.gfan_main.specs.WeightVector.{IsWeightOfSet, IsUnweighed, IsWeightsText, weight_item, later_weight_item, weight_items, echoed_ring, enclosed, weight_vector_command};
 
-use crate::refused::{Refused, of_check, of_weight};
+use crate::reduced_sets::reduced_bases;
+use crate::refused::{Refused, of_check, of_weight_error};
 use gf_front::Refusal;
 use gf_items::{ring_and_marked, ring_and_marked_sets};
 use gf_poly::MarkedSet;
-use gf_reduced::{CheckError, require_reduced};
 use gf_text::{Printer, Ring};
 use gf_vec::IntVec;
 use gf_weights::{WeightError, weight};
@@ -21,30 +20,6 @@ use std::alloc::{AllocError, Global};
 use std::slice::from_ref;
 
 // ---- the weights
-
-// The set at a place as the reduced basis that it is. Sets and members are counted in 32 bits.
-fn reduced_basis(alloc: Global, set: &MarkedSet, place: usize) -> Result<MarkedSet, CheckError>
-    ensures ok { IfOk result (IsReducedAsRead set.now) }
-    ensures err { IfErr result (IsReducedRefusal place set.now) }
-{
-    if place > u32::MAX as usize || set.items().len() > u32::MAX as usize {
-        return Err(CheckError::Memory);
-    }
-    require_reduced(alloc, set, place as u32)
-}
-
-// Each of the sets so.
-fn reduced_bases(alloc: Global, sets: &[MarkedSet]) -> Result<Vec<MarkedSet>, CheckError>
-    ensures ok { IfOk result (λ bases. AllZip IsReducedAsRead sets.now bases.items) }
-    ensures err { IfErr result (λ e. IsRefusedFrom 0 sets.now e ⊎ (e ≡ CheckError.Memory)) }
-{
-    let mut bases = Vec::new(alloc);
-    'sets: for i in 0..sets.len() {
-        let basis = reduced_basis(alloc, &sets[i], i)?;
-        bases.push(basis)?;
-    }
-    Ok(bases)
-}
 
 // The weights of the bases.
 fn weights_of(alloc: Global, bases: &[MarkedSet]) -> Result<Vec<IntVec>, WeightError>
@@ -71,7 +46,7 @@ fn weighed(alloc: Global, sets: &[MarkedSet]) -> Result<Vec<IntVec>, Refusal>
     };
     match weights_of(alloc, &bases) {
         Ok(weights) => Ok(weights),
-        Err(error) => Err(of_weight(error)),
+        Err(error) => Err(of_weight_error(error)),
     }
 }
 

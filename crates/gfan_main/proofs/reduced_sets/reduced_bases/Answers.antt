@@ -1,9 +1,9 @@
 use Rattle.std.proofs.Common.{inl}
 use Rattle.std.proofs.lemmas.Result.{err_from_is_err_and}
-use Rattle.gfan_main.specs.WeightVector.{IsReducedAsRead}
+use Rattle.gfan_main.specs.ReducedSets.{IsReducedAsRead}
 use Rattle.gfan_main.proofs.ZipLaws.{zip_more}
-use Rattle.gfan_main.proofs.WeightVectorLaws.{first_refused}
-use Rattle.gfan_main.proofs.weight_vector.reduced_bases.Goals as goal
+use Rattle.gfan_main.proofs.ReducedListLaws.{first_refused}
+use Rattle.gfan_main.proofs.reduced_sets.reduced_bases.Goals as goal
 
 pub returns-in_err-basis-clause-err : goal.returns-in_err-basis-clause-err
 returns-in_err-basis-clause-err c =

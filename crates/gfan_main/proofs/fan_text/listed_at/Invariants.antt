@@ -1,0 +1,7 @@
+use Rattle.std.proofs.Common.{◌≡◌, take}
+use Rattle.gfan_main.specs.FanTexts.{listed_at}
+use Rattle.gfan_main.proofs.fan_text.listed_at.Given as goal
+
+-- the places so far
+abbrev pub invariant-places : goal.invariant-places
+invariant-places l = l.out.items ≡ listed_at l.cones (take l.place-index l.places)
