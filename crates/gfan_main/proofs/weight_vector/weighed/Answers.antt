@@ -1,7 +1,7 @@
 use Rattle.std.proofs.Common.{List, sym, subst}
 use Rattle.std.specs.List.{AllZip}
 use Rattle.gf_poly.specs.Marking.{MarkedPolynomials}
-use Rattle.gfan_main.specs.WeightVector.{IsReducedAsRead}
+use Rattle.gfan_main.specs.ReducedSets.{IsReducedAsRead}
 use Rattle.gfan_main.proofs.WeightVectorLaws.{weights_joined, set_unweighed, weight_unweighed}
 use Rattle.gfan_main.proofs.weight_vector.weighed.Goals as goal
 
