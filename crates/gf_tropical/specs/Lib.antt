@@ -1,0 +1,1 @@
+pub mod ConeLists  -- lists of cones so far
