@@ -1,7 +1,7 @@
 -- What is taken in several reads is taken in one, and what a read from memory gives.
 -- To cite: Took-append. The rest are steps.
 use Rattle.std.proofs.Common.{◌≡◌, ◌<◌, ℕ, ◌+◌, ◌-◌, ◌≤◌, min, List, [], ◌++◌, length, take, drop, arith, ap, sym, ◌∙◌, length-append, length-drop}
-use Rattle.std.proofs.lemmas.List.{take_at, drop-drop, take-append-drop, length-take-le, drop_all}
+use Rattle.std.proofs.lemmas.List.{take_at, drop-drop, take-append-drop, length-take-le, drop_all, take_all}
 use Rattle.std.specs.declared.option.Option.{Option}
 use Rattle.std.specs.Io.KnownBytes.{Consumes}
 use Rattle.std.proofs.KnownBytes.{Consumes-trans}
@@ -40,3 +40,9 @@ copied_front bytes into copied at count e fits =
 pub nothing_left : (bytes : List ℕ) (at count room most : ℕ) → 1 ≤ most → 0 < room → at ≤ length bytes → count ≡ min (min room most) (length bytes - at) → count ≡ 0
     → drop (at + count) bytes ≡ []
 nothing_left bytes at count room most m r within e none = drop_all (at + count) bytes (omega arith)
+
+-- what was copied to the front of a buffer from behind a place of bytes, and what is left of them
+pub taken_front : (bytes into : List ℕ) (at count : ℕ) → take count into ≡ take count (take (length bytes - at) (drop at bytes)) → drop at bytes ≡ take count into ++ drop (at + count) bytes
+taken_front bytes into at count e =
+    let all : take (length bytes - at) (drop at bytes) ≡ drop at bytes = take_all (length bytes - at) (drop at bytes) (omega (arith, length-drop at bytes)) in
+    rw (e, all, ← drop-drop count at bytes) (sym (take-append-drop count (drop at bytes)))

@@ -1,7 +1,7 @@
 -- What a call took from a source or added to a sink, where that is told, and how many bytes it counted.
 -- `Consumes`, `Appends` and `Keeps`, for bytes that may be unknown, are std's.
 -- Laws: proofs/MovedLaws.antt.
-use Rattle.std.specs.Prelude.{◌≡◌, ℕ, ◌+◌, ◌-◌, ◌^◌, ◌≤◌, min, Result, MatchResult, List, length, take}
+use Rattle.std.specs.Prelude.{◌≡◌, ℕ, ◌+◌, ◌-◌, ◌^◌, ◌≤◌, min, Result, MatchResult, List, [], length, take, Some, None}
 use Rattle.std.specs.declared.option.Option.{Option}
 use Rattle.std.specs.Io.KnownBytes.{Consumes, Appends}
 
@@ -31,6 +31,16 @@ pub record TookAtMost (old new : Option (List ℕ)) (before now n : ℕ) : Type 
   pub bytes : List ℕ
   pub took : Took old new before now bytes
   pub at_most : length bytes ≤ n
+
+-- nothing is left of a file, since none is chosen, and nothing was given
+pub record NothingIsChosen (left : Option (List ℕ)) (before now : ℕ) : Type 0 where
+  pub none : left ≡ Some []
+  pub given : now ≡ before
+
+-- what is left of the chosen file; nothing where none is chosen
+abbrev pub left_of : {F : Type 0} → (F → Option (List ℕ)) → Option F → Option (List ℕ)
+left_of remaining None = Some []
+left_of remaining (Some file) = remaining file
 
 -- ---- sinks
 

@@ -29,3 +29,14 @@ pub enum InputError {
 #[derive(Clone, Copy, Debug, PartialEq, Eq, Error)]
 #[error("write failed")]
 pub struct WriteFault;
+
+/// Why a file was not opened.
+#[derive(Clone, Copy, Debug, PartialEq, Eq, Error)]
+pub enum OpenError {
+    /// The opening failed. The object that failed has counted it.
+    #[error("open failed")]
+    Failed,
+    /// There was no memory for it.
+    #[error("no memory")]
+    Memory,
+}

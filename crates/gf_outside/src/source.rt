@@ -16,7 +16,7 @@ use std::alloc::Global;
 pub const MAX_INPUT: usize = 67_108_864;
 
 /// The most bytes that are asked for at once.
-const CHUNK: usize = 16_384;
+pub(crate) const CHUNK: usize = 16_384;
 
 /// What gives bytes, and counts its faults.
 pub trait Source {

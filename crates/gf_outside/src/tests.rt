@@ -1,5 +1,7 @@
 //! Reads and writes over memory and over std, with faults at each call in turn.
 use crate::*;
+use std::alloc::{AllocError, Global};
+use std::fs;
 use std::test::Fail;
 
 /// The number of the call that fails, what is answered, by hand: three reads of a byte, and one that
@@ -96,4 +98,86 @@ fn one_byte_more_is_too_long(rt: HostRuntime) -> Result<(), Fail> {
     let read = read_all(alloc, &mut source);
     assert_eq!(rt; read.err(), Some(InputError::InputTooLong));
     Ok(())
+}
+
+/// Two files, by hand: an opening, and three reads of a byte and one that finds the end.
+#[test]
+fn each_call_of_a_load_fails_in_turn(rt: HostRuntime) -> Result<(), Fail> {
+    let alloc = rt.alloc();
+    for failing in 0u64..6 {
+        let files = vec![in alloc; file(alloc, "a", b"xy")?, file(alloc, "b", b"abc")?]?;
+        let mut files = MemFiles::new(files, 1, vec![in alloc; failing]?);
+        let read = load(alloc, &mut files, "b");
+        if failing == 0 {
+            assert_eq!(rt; read.err(), Some(InputError::OpenFault));
+        } else if failing < 5 {
+            assert_eq!(rt; read.err(), Some(InputError::ReadFault), "at {failing}");
+        } else {
+            let all = read.map_err(|_| "no call of this number")?;
+            assert_eq!(rt; all.as_slice(), b"abc".as_slice());
+        }
+    }
+    Ok(())
+}
+
+#[test]
+fn a_name_that_is_not_there_is_not_opened(rt: HostRuntime) -> Result<(), Fail> {
+    let alloc = rt.alloc();
+    let files = vec![in alloc; file(alloc, "a", b"xy")?, file(alloc, "", b"abc")?]?;
+    let mut files = MemFiles::new(files, 1, vec![in alloc]?);
+    assert_eq!(rt;
+        load(alloc, &mut files, "b").err(),
+        Some(InputError::OpenFault)
+    );
+    assert_eq!(rt;
+        load(alloc, &mut files, "").err(),
+        Some(InputError::OpenFault)
+    );
+    assert_eq!(rt; files.read(&mut [0u8; 4]), Ok(0));
+    Ok(())
+}
+
+#[test]
+fn sure_files_never_fail(rt: HostRuntime) -> Result<(), Fail> {
+    let alloc = rt.alloc();
+    let mut files = SureFiles::new(vec![in alloc;
+        file(alloc, "a", b"xy")?,
+        file(alloc, "a", b"z")?,
+    ]?);
+    for (name, bytes) in [("a", b"xy".as_slice()), ("b", b""), ("a", b"xy")] {
+        let all = load(alloc, &mut files, name).map_err(|_| "a fault")?;
+        assert_eq!(rt; all.as_slice(), bytes);
+    }
+    Ok(())
+}
+
+#[test]
+fn a_file_of_the_system_is_read(rt: HostRuntime) -> Result<(), Fail> {
+    let alloc = rt.alloc();
+    let path = "gf_outside_test.txt";
+    fs::write(&rt, path, "AMBIENT_DIM\n2\n")?;
+    let mut files = RealFiles::new(&rt);
+    let all = load(alloc, &mut files, path);
+    fs::remove_file(&rt, path)?;
+    assert_eq!(rt;
+        all.map_err(|_| "a fault")?.as_slice(),
+        b"AMBIENT_DIM\n2\n".as_slice()
+    );
+    assert_eq!(rt;
+        load(alloc, &mut files, path).err(),
+        Some(InputError::OpenFault)
+    );
+    assert_eq!(rt;
+        load(alloc, &mut files, "").err(),
+        Some(InputError::OpenFault)
+    );
+    Ok(())
+}
+
+/// A file in memory.
+fn file(alloc: Global, name: &str, bytes: &[u8]) -> Result<MemFile, AllocError> {
+    Ok(MemFile {
+        name: String::from_str(alloc, name)?,
+        bytes: bytes.to_vec(alloc)?,
+    })
 }
