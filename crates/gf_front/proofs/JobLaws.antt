@@ -160,7 +160,13 @@ groebner_cone_sound : IsSound groebner_cone
 groebner_cone_sound = record {
   holds = λ rows ok. (
     is_flag (as_built (shape groebner_cone)).rules (codes "vectorinput") rows (λ text. refl) ok,
-    (is_flag (as_built (shape groebner_cone)).rules (codes "certificates") rows (λ text. refl) ok, tt),
+    (
+      is_flag (as_built (shape groebner_cone)).rules (codes "certificates") rows (λ text. refl) ok,
+      (
+        is_flag (as_built (shape groebner_cone)).rules (codes "restrict") rows (λ text. refl) ok,
+        (is_flag (as_built (shape groebner_cone)).rules (codes "asfan") rows (λ text. refl) ok, tt),
+      ),
+    ),
   );
   limits = λ rows h. tt;
 }

@@ -106,8 +106,8 @@ leading_terms = record {
 abbrev pub groebner_cone : Entry
 groebner_cone = record {
   name = codes "_groebnercone";
-  options = a_named_flag (codes "vectorinput") ∷ a_named_flag (codes "certificates") ∷ [];
-  job = λ rows. jobs.GroebnerCone (flag_of (codes "vectorinput") rows) (flag_of (codes "certificates") rows);
+  options = a_named_flag (codes "vectorinput") ∷ a_named_flag (codes "certificates") ∷ a_named_flag (codes "restrict") ∷ a_named_flag (codes "asfan") ∷ [];
+  job = λ rows. jobs.GroebnerCone (flag_of (codes "vectorinput") rows) (flag_of (codes "certificates") rows) (flag_of (codes "restrict") rows) (flag_of (codes "asfan") rows);
 }
 
 abbrev pub weight_vector : Entry

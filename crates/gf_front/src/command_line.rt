@@ -65,6 +65,10 @@ pub enum Job {
         vector_input: bool,
         /// `--certificates`: what shows that these are all, too.
         certificates: bool,
+        /// `--restrict`: the cone is cut with the non-negative orthant.
+        restricted: bool,
+        /// `--asfan`: the fan of all faces of the cone in place of this.
+        as_fan: bool,
     },
     /// A weight of a marked reduced basis, or of each of a list.
     WeightVector {
@@ -177,6 +181,8 @@ fn groebner_cone(found: &ArgMatches) -> Job
     Job::GroebnerCone {
         vector_input: flag(found, "vectorinput"),
         certificates: flag(found, "certificates"),
+        restricted: flag(found, "restrict"),
+        as_fan: flag(found, "asfan"),
     }
 }
 

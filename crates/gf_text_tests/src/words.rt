@@ -94,15 +94,37 @@ fn options_stand_in_any_place(rt: HostRuntime) -> Result<(), Fail> {
     };
     let job = answered(rt.alloc(), "_bases --certificates --pairs 7 -g")?;
     assert_eq!(rt; job, Ok(certified));
-    for (line, vector_input, certificates) in [
-        ("_groebnercone", false, false),
-        ("_groebnercone --vectorinput", true, false),
-        ("_groebnercone --certificates --vectorinput", true, true),
+    for (line, vector_input, certificates, restricted, as_fan) in [
+        ("_groebnercone", false, false, false, false),
+        ("_groebnercone --vectorinput", true, false, false, false),
+        (
+            "_groebnercone --certificates --vectorinput",
+            true,
+            true,
+            false,
+            false,
+        ),
+        (
+            "_groebnercone --restrict --certificates",
+            false,
+            true,
+            true,
+            false,
+        ),
+        (
+            "_groebnercone --asfan --vectorinput",
+            true,
+            false,
+            false,
+            true,
+        ),
     ] {
         let job = answered(rt.alloc(), line)?;
         let cone = Job::GroebnerCone {
             vector_input,
             certificates,
+            restricted,
+            as_fan,
         };
         assert_eq!(rt; job, Ok(cone), "{line}");
     }

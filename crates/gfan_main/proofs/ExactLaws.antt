@@ -166,7 +166,7 @@ laws jobs.Homogenize = homogenize_exact
 laws jobs.PolynomialSetUnion = polynomial_set_union_exact
 laws jobs.Stats = stats_exact
 laws (jobs.WeightVector listed echoed) = weight_vector_exact listed echoed
-laws (jobs.GroebnerCone vector_input certificates) = cone_exact vector_input (cone_options certificates)
+laws (jobs.GroebnerCone vector_input certificates restricted as_fan) = cone_exact vector_input (cone_options certificates restricted as_fan)
 laws (jobs.ToPolyhedralFan restrict) = to_polyhedral_fan_exact restrict
 laws jobs.HomogeneitySpace = homogeneity_space_exact
 
@@ -230,7 +230,7 @@ not_listed jobs.PolynomialSetUnion source most w h = command_not_listed polynomi
 not_listed jobs.Stats source most w h = command_not_listed stats_command stats_exact (λ a m c. gordan_not_listed c.0 m c.1) source most h
 not_listed (jobs.WeightVector false echoed) source most w h = command_not_listed (weight_vector_command false echoed) (weight_vector_exact false echoed) (λ a m c. unweighed_not_listed (a.1 ∷ []) m c) source most h
 not_listed (jobs.WeightVector true echoed) source most w h = command_not_listed (weight_vector_command true echoed) (weight_vector_exact true echoed) (λ a m c. unweighed_not_listed a.1 m c) source most h
-not_listed (jobs.GroebnerCone vector_input certificates) source most w h = command_not_listed (groebner_cone_command vector_input (cone_options certificates)) (cone_exact vector_input (cone_options certificates)) (λ a m c. cone_not_listed vector_input (cone_options certificates) a m c) source most h
+not_listed (jobs.GroebnerCone vector_input certificates restricted as_fan) source most w h = command_not_listed (groebner_cone_command vector_input (cone_options certificates restricted as_fan)) (cone_exact vector_input (cone_options certificates restricted as_fan)) (λ a m c. cone_not_listed vector_input (cone_options certificates restricted as_fan) a m c) source most h
 not_listed (jobs.ToPolyhedralFan restrict) source most w h = command_not_listed (to_polyhedral_fan_command restrict) (to_polyhedral_fan_exact restrict) (λ a m c. no_fan_not_listed restrict (length a.0) a.1 m c) source most h
 not_listed jobs.HomogeneitySpace source most w h = command_not_listed homogeneity_space_command homogeneity_space_exact (λ a m c. no_space_not_listed (length a.0) (nonzero_of a.1.0) m c) source most h
 
@@ -282,7 +282,7 @@ tests_of jobs.Homogenize = untested homogenize_command (λ v r t h. homogenize_u
 tests_of jobs.PolynomialSetUnion = untested polynomial_set_union_command (λ v r t h. memory_untested r t h)
 tests_of jobs.Stats = untested stats_command (λ v r t h. gordan_untested h.0 (subst IsOfTest h.1 t))
 tests_of (jobs.WeightVector listed echoed) = weight_vector_tested listed echoed
-tests_of (jobs.GroebnerCone vector_input certificates) = cone_tested vector_input (cone_options certificates)
+tests_of (jobs.GroebnerCone vector_input certificates restricted as_fan) = cone_tested vector_input (cone_options certificates restricted as_fan)
 tests_of (jobs.ToPolyhedralFan restrict) = to_polyhedral_fan_tested restrict
 tests_of jobs.HomogeneitySpace = homogeneity_space_tested
 

@@ -76,7 +76,7 @@ no_space_named n bs r (IsNoSpace.no_memory m) = subst (IsNamedBy None) (sym m) (
 -- ---- a source is answered in one way
 
 -- one cone by itself
-one_meets : (n : ℕ) (c : RowsAndRays) → AreMeeting n (c ∷ [])
+pub one_meets : (n : ℕ) (c : RowsAndRays) → AreMeeting n (c ∷ [])
 one_meets n c = λ i j d l m. absurd (omega (arith, l, m))
 
 no_space_work : (n : ℕ) (bs : List MarkedPolynomial) (r : Refusal) → IsNoSpace n bs r → IsOfWork r

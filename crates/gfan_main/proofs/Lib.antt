@@ -5,6 +5,7 @@ pub mod ToolLaws  -- each of the small tools answers in one way
 pub mod BuchbergerLaws  -- what `_buchberger` answers
 pub mod ReadSetLaws  -- what is kept of a set that is read
 pub mod CheckedSetLaws  -- what is answered for a marked set, and why it isn't taken
+pub mod ToldConeLaws  -- what is told of a cone, and that only numbers keep it from being told
 pub mod GroebnerConeLaws  -- what `_groebnercone` answers, and why it doesn't
 pub mod ContainmentLaws  -- whether an ideal contains polynomials
 pub mod ZipLaws  -- two lists, element by element

@@ -64,8 +64,8 @@ whole_answer jobs.PolynomialSetUnion source text w a = record { value = a.value;
 whole_answer jobs.Stats source text w a = record { value = a.value; read = a.read; formed = a.answer.formed; is_whole = a.answer.is_answer }
 whole_answer (jobs.WeightVector false echoed) source text w a = record { value = a.value; read = a.read; formed = a.answer.formed; is_whole = a.answer.is_answer }
 whole_answer (jobs.WeightVector true echoed) source text w a = record { value = a.value; read = a.read; formed = a.answer.formed; is_whole = a.answer.is_answer }
-whole_answer (jobs.GroebnerCone false certificates) source text w a = record { value = a.value; read = a.read; formed = a.answer.formed; is_whole = a.answer.is_answer }
-whole_answer (jobs.GroebnerCone true certificates) source text w a = record { value = a.value; read = a.read; formed = a.answer.formed; is_whole = a.answer.is_answer }
+whole_answer (jobs.GroebnerCone false certificates restricted as_fan) source text w a = record { value = a.value; read = a.read; formed = a.answer.formed; is_whole = a.answer.is_answer }
+whole_answer (jobs.GroebnerCone true certificates restricted as_fan) source text w a = record { value = a.value; read = a.read; formed = a.answer.formed; is_whole = a.answer.is_answer }
 whole_answer (jobs.ToPolyhedralFan restrict) source text w a = record { value = a.value; read = a.read; formed = a.answer.formed; is_whole = a.answer.is_answer }
 whole_answer jobs.HomogeneitySpace source text w a = record { value = a.value; read = a.read; formed = a.answer.formed; is_whole = a.answer.is_answer }
 

@@ -7,7 +7,7 @@ use Rattle.gf_front.specs.declared.refusal.Refusal.TheVariants as refusals
 use Rattle.gf_items.specs.Commands.{Command, IsAnswered, IsWholeFor, IsCommandRefused, IsInReach, IsBegunFor}
 use Rattle.gfan_main.specs.declared.buchberger.Options.{Options}
 use Rattle.gfan_main.specs.declared.bases.ListOptions.{ListOptions}
-use Rattle.gfan_main.specs.declared.groebner_cone.ConeOptions.{ConeOptions}
+use Rattle.gfan_main.specs.declared.told_cone.ConeOptions.{ConeOptions}
 use Rattle.gfan_main.specs.Buchberger.{buchberger_command}
 use Rattle.gfan_main.specs.Bases.{bases_command}
 use Rattle.gfan_main.specs.GivenBasis.{given_bases_command}
@@ -33,8 +33,8 @@ abbrev pub list_options : Option ℕ → ℕ → Bool → ListOptions
 list_options limit pairs certificates = record { limit = limit; pairs = pairs; certified = certificates }
 
 -- the options of `_groebnercone` that say what is told of the cone
-abbrev pub cone_options : Bool → ConeOptions
-cone_options certificates = record { certificates = certificates }
+abbrev pub cone_options : Bool → Bool → Bool → ConeOptions
+cone_options certificates restricted as_fan = record { certificates = certificates; restricted = restricted; as_fan = as_fan }
 
 -- the command of a job; that of `_bases` is the same for every number of workers
 abbrev pub command : Job → Command
@@ -50,7 +50,7 @@ command jobs.Homogenize = homogenize_command
 command jobs.PolynomialSetUnion = polynomial_set_union_command
 command jobs.Stats = stats_command
 command (jobs.WeightVector listed echoed) = weight_vector_command listed echoed
-command (jobs.GroebnerCone vector_input certificates) = groebner_cone_command vector_input (cone_options certificates)
+command (jobs.GroebnerCone vector_input certificates restricted as_fan) = groebner_cone_command vector_input (cone_options certificates restricted as_fan)
 command (jobs.ToPolyhedralFan restrict) = to_polyhedral_fan_command restrict
 command jobs.HomogeneitySpace = homogeneity_space_command
 

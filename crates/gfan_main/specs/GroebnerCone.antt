@@ -6,22 +6,13 @@ use Rattle.gf_reduced.specs.declared.error.CheckError.{CheckError}
 use Rattle.gf_reduced.specs.Markings.{IsMarkedGroebnerBasis}
 use Rattle.gf_reduced.specs.Terms.{AreReduced}
 use Rattle.gf_reduced.specs.Refusals.{IsReducedRefusal, AreChecksWithinLimits}
-use Rattle.gf_sections.specs.declared.error.SectionsError.{SectionsError}
-use Rattle.gf_sections.specs.declared.error.SectionsError.TheVariants as sections_errors
-use Rattle.gf_sections.specs.ConeText.{IsConeText, IsConeCause, IsConeWithinLimits}
 use Rattle.gf_front.specs.declared.refusal.Refusal.{Refusal}
-use Rattle.gf_front.specs.declared.refusal.Refusal.TheVariants as refusals
 use Rattle.gf_items.specs.Sources.{ring_marked_set, dimension_two_lists}
 use Rattle.gf_items.specs.Commands.{Command}
-use Rattle.gfan_main.specs.declared.groebner_cone.ConeOptions.{ConeOptions}
+use Rattle.gfan_main.specs.declared.told_cone.ConeOptions.{ConeOptions}
 use Rattle.gfan_main.specs.CheckedSets.{of_check}
 use Rattle.gfan_main.specs.ToolForms.{for_space, for_each}
-
--- a refusal of the sections as one of the run
-abbrev pub of_sections : SectionsError → Refusal
-of_sections (sections_errors.Cone o) = refusals.ConeOverflow o.row o.op o.left o.right
-of_sections (sections_errors.Wide w) = refusals.WideVector w
-of_sections sections_errors.Memory = refusals.Memory
+use Rattle.gfan_main.specs.ToldCones.{IsTold, IsUntold, IsTellingWithin}
 
 -- ---- the cone of a marked reduced basis
 
@@ -31,13 +22,13 @@ pub record IsBasisConeText (o : ConeOptions) (s : MarkedPolynomials) (text : Lis
   pub reduced : AreReduced s.items
   pub normals : List (List ℤ)
   pub are_normals : AreNormals s.items normals
-  pub cone : IsConeText s.variables o.certificates normals [] text
+  pub cone : IsTold o s.variables normals [] text
 
 -- the set isn't taken as a reduced basis; or it is one, and its cone isn't told
 pub data IsBasisConeCause (o : ConeOptions) (s : MarkedPolynomials) (r : Refusal) : Type 0 where
   at_check : (e : CheckError) → IsReducedRefusal 0 s e → r ≡ of_check e → IsBasisConeCause o s r
-  at_cone : (normals : List (List ℤ)) (e : SectionsError) → IsMarkedGroebnerBasis s.variables s.items → AreReduced s.items → AreNormals s.items normals →
-      IsConeCause s.variables o.certificates normals [] e → r ≡ of_sections e → IsBasisConeCause o s r
+  at_cone : (normals : List (List ℤ)) → IsMarkedGroebnerBasis s.variables s.items → AreReduced s.items → AreNormals s.items normals →
+      IsUntold o s.variables normals [] r → IsBasisConeCause o s r
 
 -- the set, in its variables as any that is read, is a reduced basis, and no operation of its checks leaves its limits, nor one that tells
 -- its cone
@@ -46,7 +37,7 @@ pub record IsBasisConeWithin (o : ConeOptions) (s : MarkedPolynomials) : Type 0 
   pub basis : IsMarkedGroebnerBasis s.variables s.items
   pub reduced : AreReduced s.items
   pub checks : AreChecksWithinLimits s
-  pub cone : (normals : List (List ℤ)) → AreNormals s.items normals → IsConeWithinLimits s.variables o.certificates normals []
+  pub cone : (normals : List (List ℤ)) → AreNormals s.items normals → IsTellingWithin o s.variables normals []
 
 -- ---- the command
 
@@ -67,9 +58,9 @@ groebner_cone_command true o = record {
   Value = ℕ × (List (List ℤ) × List (List ℤ));
   items = dimension_two_lists;
   checks = λ v. for_space v.0 ∷ for_each v.0 (v.1.0 ++ v.1.1);
-  IsAnswer = λ v text. IsConeText v.0 o.certificates v.1.0 v.1.1 text;
-  IsWhole = λ v text. IsConeText v.0 o.certificates v.1.0 v.1.1 text;
-  IsCause = λ v r. (e : SectionsError) × (r ≡ of_sections e) × IsConeCause v.0 o.certificates v.1.0 v.1.1 e;
+  IsAnswer = λ v text. IsTold o v.0 v.1.0 v.1.1 text;
+  IsWhole = λ v text. IsTold o v.0 v.1.0 v.1.1 text;
+  IsCause = λ v r. IsUntold o v.0 v.1.0 v.1.1 r;
   IsBegun = λ v text r. ⊥;
-  IsWithin = λ v. IsConeWithinLimits v.0 o.certificates v.1.0 v.1.1;
+  IsWithin = λ v. IsTellingWithin o v.0 v.1.0 v.1.1;
 }

@@ -17,6 +17,7 @@ pub mod WeightVector  -- what `_weightvector` reads and writes
 pub mod FanTexts  -- the text of the fan of cones
 pub mod ToPolyhedralFan  -- what `_topolyhedralfan` reads and writes
 pub mod HomogeneitySpace  -- what `_homogeneityspace` reads and writes
+pub mod ToldCones  -- what `_groebnercone` tells of a cone
 pub mod GroebnerCone  -- what `_groebnercone` reads and writes
 pub mod BasesList  -- the list of all bases of an ideal
 pub mod OneList  -- an ideal has one such list

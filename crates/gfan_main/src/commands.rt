@@ -7,8 +7,8 @@ ghost use Rattle.gfan_main.specs.Performed.{IsPerformed, IsStopped};
 
 use crate::bases::ListOptions;
 use crate::buchberger::Options;
-use crate::groebner_cone::ConeOptions;
 use crate::refused::Refused;
+use crate::told_cone::ConeOptions;
 use crate::{
     bases, buchberger, containment, given_basis, groebner_cone, homogeneity_space, homogenize,
     initial_forms, leading_terms, mark_polynomial_set, marked, polynomial_set_union, stats,
@@ -52,9 +52,13 @@ fn answered(alloc: Global, job: &Job, source: &[u8]) -> Result<Vec<u8>, Refused>
         Job::GroebnerCone {
             vector_input,
             certificates,
+            restricted,
+            as_fan,
         } => {
             let options = ConeOptions {
                 certificates: *certificates,
+                restricted: *restricted,
+                as_fan: *as_fan,
             };
             groebner_cone::answer(alloc, source, *vector_input, options)
         }

@@ -1,29 +1,39 @@
 // What `_groebnercone` writes for an input.
-ghost use Rattle.std.specs.Prelude.{true, false, IfOk, IfErr};
+ghost use Rattle.std.specs.Prelude.{◌≡◌, ◌≤◌, true, false, IfOk, IfErr};
+ghost use Rattle.gf_gordan.specs.Alternative.{AreRows};
 ghost use Rattle.gf_items.specs.Commands.{IsAnswered, IsCommandRefused, IsAnswerFor, IsUnanswered};
 ghost use Rattle.gfan_main.specs.GroebnerCone.{IsBasisConeText, IsBasisConeCause, groebner_cone_command};
 ghost use Rattle.gfan_main.specs.Refused.{IsNamedBy, IsOfSource};
+ghost use Rattle.gfan_main.specs.ToldCones.{cut_of};
 
 use crate::checks::{check_each, check_space};
-use crate::refused::{Refused, of_check, of_sections};
+use crate::refused::{Refused, of_check};
+use crate::told_cone::{ConeOptions, restricted, told};
 use gf_cone::Cone;
 use gf_front::Refusal;
 use gf_items::{RingAndMarked, dimension_and_lists, ring_and_marked};
 use gf_poly::MarkedSet;
 use gf_reduced::require_reduced;
-use gf_sections::cone_text;
 use gf_vec::IntVec;
 use std::alloc::Global;
 
-/// What `_groebnercone` tells of a cone.
-#[derive(Clone, Copy, Debug)]
-pub struct ConeOptions {
-    /// A witness of each facet, and a combination for each row that is none, are told too.
-    pub certificates: bool,
+// The rows of a cone that are told: its normals, and the unit vectors behind them where it is cut with the non-negative orthant.
+fn rows_told(cone: &Cone, cut: bool) -> &[IntVec]
+    ensures rows { result.now ≡ cut_of cut cone.now }
+    ensures widths { AreRows cone.now.variables result.now }
+{
+    if cut { cone.vectors() } else { cone.normals() }
 }
 
 // The text of the cone of a marked set, where it is the reduced Gröbner basis for its marking. Its members are counted in 32 bits.
-fn basis_cone(alloc: Global, marked: &MarkedSet, options: ConeOptions) -> Result<Vec<u8>, Refusal>
+fn basis_cone(
+    alloc: Global,
+    n: u32,
+    marked: &MarkedSet,
+    options: ConeOptions,
+) -> Result<Vec<u8>, Refusal>
+    requires few { n ≤ 16 }
+    requires variables { marked.now.variables ≡ n }
     ensures ok { IfOk result (λ text. IsBasisConeText options marked.now text.items) }
     ensures err { IfErr result (IsBasisConeCause options marked.now) }
 {
@@ -36,37 +46,27 @@ fn basis_cone(alloc: Global, marked: &MarkedSet, options: ConeOptions) -> Result
         Err(error) => return Err(of_check(error)),
     };
     let cone = Cone::of(alloc, marked)?;
-    match cone_text(
-        alloc,
-        cone.variables(),
-        cone.normals(),
-        &[],
-        options.certificates,
-    ) {
-        Ok(text) => Ok(text),
-        Err(error) => Err(of_sections(error)),
-    }
+    told(alloc, n, rows_told(&cone, options.restricted), &[], options)
 }
 
 // The text of the cone of inequalities and equations in `n` variables, each with an entry for each variable.
 fn vector_cone(
     alloc: Global,
     n: u32,
-    inequalities: &[IntVec],
+    inequalities: Vec<IntVec>,
     equations: &[IntVec],
     options: ConeOptions,
 ) -> Result<Vec<u8>, Refusal>
-    ensures ok { IfOk result (λ text. IsAnswerFor (groebner_cone_command true options) (n, (inequalities.now, equations.now)) text.items) }
-    ensures err { IfErr result (IsUnanswered (groebner_cone_command true options) (n, (inequalities.now, equations.now))) }
+    requires few { n ≤ 16 }
+    ensures ok { IfOk result (λ text. IsAnswerFor (groebner_cone_command true options) (n, (inequalities.items, equations.now)) text.items) }
+    ensures err { IfErr result (IsUnanswered (groebner_cone_command true options) (n, (inequalities.items, equations.now))) }
     ensures told { IfErr result (IsNamedBy None) }
 {
     check_space(n)?;
-    check_each(n, inequalities)?;
+    check_each(n, inequalities.as_slice())?;
     check_each(n, equations)?;
-    match cone_text(alloc, n, inequalities, equations, options.certificates) {
-        Ok(text) => Ok(text),
-        Err(error) => Err(of_sections(error)),
-    }
+    let rows = restricted(alloc, n, inequalities, options.restricted)?;
+    told(alloc, n, rows.as_slice(), equations, options)
 }
 
 // What is written for a source with a marked set.
@@ -76,7 +76,7 @@ fn of_basis(alloc: Global, source: &[u8], options: ConeOptions) -> Result<Vec<u8
     ensures told { IfErr result (IsOfSource source.now) }
 {
     let RingAndMarked { ring, set } = ring_and_marked(alloc, source)?;
-    match basis_cone(alloc, &set, options) {
+    match basis_cone(alloc, ring.len(), &set, options) {
         Ok(text) => Ok(text),
         Err(refusal) => Err(Refused {
             refusal,
@@ -95,7 +95,7 @@ fn of_vectors(alloc: Global, source: &[u8], options: ConeOptions) -> Result<Vec<
     let text = vector_cone(
         alloc,
         read.dimension,
-        &read.inequalities,
+        read.inequalities,
         &read.equations,
         options,
     )?;
@@ -104,7 +104,8 @@ fn of_vectors(alloc: Global, source: &[u8], options: ConeOptions) -> Result<Vec<
 
 /// The sections of a cone, as `cone_text` of `gf_sections` has them: of the cone of the marked set of the source, on which none of the
 /// set's normals is negative; or with vectors for input of the cone of the inequalities and equations of the source. The marked set
-/// is the reduced Gröbner basis for its marking, where marked coefficients may be any.
+/// is the reduced Gröbner basis for its marking, where marked coefficients may be any. The cone may be cut with the non-negative orthant.
+/// As a fan, the fan of all faces of the cone is told in place of its sections.
 ///
 /// # Errors
 ///

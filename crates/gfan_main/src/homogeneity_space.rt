@@ -53,8 +53,8 @@ fn space_of(alloc: Global, n: u32, set: &[Written]) -> Result<Rays, GordanError>
     Ok(space)
 }
 
-// One cone.
-fn alone(alloc: Global, cone: Rays) -> Result<Vec<Rays>, AllocError>
+/// One cone.
+pub(crate) fn alone(alloc: Global, cone: Rays) -> Result<Vec<Rays>, AllocError>
     ensures { IfOk result (λ cones. cones.items ≡ cone ∷ []) }
 {
     let mut cones = Vec::new(alloc);

@@ -40,6 +40,7 @@ mod tests;
 #[cfg(test)]
 mod textbook_tests;
 mod to_polyhedral_fan;
+mod told_cone;
 #[cfg(test)]
 mod tool_tests;
 mod weight_vector;

@@ -3,7 +3,7 @@ ghost use Rattle.std.specs.Prelude.{◌≡◌, Some};
 ghost use Rattle.gf_front.specs.Lines.{line};
 ghost use Rattle.gfan_main.specs.Certificates.{of_weight_error};
 ghost use Rattle.gfan_main.specs.CheckedSets.{of_check};
-ghost use Rattle.gfan_main.specs.GroebnerCone.{of_sections};
+ghost use Rattle.gfan_main.specs.ToldCones.{of_sections};
 ghost use Rattle.gfan_main.specs.Refused.{names_of, IsNamedBy, WrittenAsFar};
 ghost use Rattle.gfan_main.specs.Stats.{of_gordan};
 

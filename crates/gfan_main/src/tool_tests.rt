@@ -542,6 +542,20 @@ fn a_cone_is_told_in_sections(rt: HostRuntime) -> Result<(), Fail> {
             "",
         ),
         (
+            "_groebnercone --asfan",
+            "Q[a,b] {a-b}",
+            0,
+            "AMBIENT_DIM\n2\n\nDIM\n2\n\nLINEALITY_DIM\n1\n\nRAYS\n1 -1\t# 0\n\nN_RAYS\n1\n\nLINEALITY_SPACE\n1 1\n\nORTH_LINEALITY_SPACE\n1 -1\n\nF_VECTOR\n1 1\n\nSIMPLICIAL\n1\n\nPURE\n1\n\nCONES\n{}\t# Dimension 1\n{0}\t# Dimension 2\n\nMAXIMAL_CONES\n{0}\t# Dimension 2\n\n",
+            "",
+        ),
+        (
+            "_groebnercone --restrict --vectorinput",
+            "2 {(2,-1)} {}",
+            0,
+            "AMBIENT_DIM\n2\n\nDIM\n2\n\nIMPLIED_EQUATIONS\n\nFACETS\n0 1\n2 -1\n\n",
+            "",
+        ),
+        (
             "_groebnercone",
             "Q[a] {1-a}",
             1,

@@ -1,5 +1,5 @@
-use Rattle.std.proofs.Common.{ℕ, refl, sym, subst}
-use Rattle.std.proofs.lemmas.Result.{err_from_is_err_and}
+use Rattle.std.proofs.Common.{ℕ, refl, subst, ◌∙◌}
+use Rattle.std.proofs.lemmas.Result.{err_from_is_err_and, IfOk-weaker, IfErr-weaker}
 use Rattle.gf_gordan.specs.Alternative.{AreRows}
 use Rattle.gf_reduced.specs.declared.error.CheckError.TheVariants as check_errors
 use Rattle.gfan_main.specs.GroebnerCone.{IsBasisConeCause}
@@ -17,13 +17,15 @@ returns-in_err-cone-clause-err c =
     let p = err_from_is_err_and c.from_residual.result c.from_residual.ensures.1 in
     rw (p.1, p.2) (IsBasisConeCause.at_check check_errors.Memory tt refl)
 
-pub cone_text-requires-clause-inequalities : goal.cone_text-requires-clause-inequalities
-cone_text-requires-clause-inequalities c = subst (λ (k : ℕ). AreRows k c.normals.result.now) (sym c.variables.ensures) c.normals.ensures.widths
+pub told-requires-clause-inequalities : goal.told-requires-clause-inequalities
+told-requires-clause-inequalities c = subst (λ (k : ℕ). AreRows k c.rows_told.result.now) (c.in_ok-cone.ensures.variables ∙ c.requires.variables) c.rows_told.ensures.widths
 
-pub returns-in-Ok-cone_text-clause-ok : goal.returns-in-Ok-cone_text-clause-ok
-returns-in-Ok-cone_text-clause-ok c =
-    told_normals c.args.options c.args.marked.now c.in_ok-cone.cone c.variables.result c.normals.result.now c.in-Ok-cone_text.text.items c.in-Ok.ensures.basis.basis.marked c.in-Ok.ensures.terms c.in_ok-cone.ensures c.variables.ensures c.normals.ensures.value c.in-Ok-cone_text.ensures.ok
+pub returns-clause-ok : goal.returns-clause-ok
+returns-clause-ok c =
+    IfOk-weaker c.told.result _ _ (λ text k. told_normals c.args.options c.args.marked.now c.in_ok-cone.cone c.args.n c.rows_told.result.now text.items c.in-Ok.ensures.basis.basis.marked c.in-Ok.ensures.terms c.in_ok-cone.ensures c.requires.variables
+    c.rows_told.ensures.rows k) c.told.ensures.ok
 
 pub returns-clause-err : goal.returns-clause-err
 returns-clause-err c =
-    untold_normals c.args.options c.args.marked.now c.in_ok-cone.cone c.variables.result c.normals.result.now c.in-Err-cone_text.error c.of_sections.result c.in-Ok.ensures.basis.basis.marked c.in-Ok.ensures.terms c.in_ok-cone.ensures c.variables.ensures c.normals.ensures.value c.in-Err-cone_text.ensures.err c.of_sections.ensures
+    IfErr-weaker c.told.result _ _ (λ r k. untold_normals c.args.options c.args.marked.now c.in_ok-cone.cone c.args.n c.rows_told.result.now r c.in-Ok.ensures.basis.basis.marked c.in-Ok.ensures.terms c.in_ok-cone.ensures c.requires.variables
+    c.rows_told.ensures.rows k) c.told.ensures.err
