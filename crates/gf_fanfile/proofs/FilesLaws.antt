@@ -6,7 +6,7 @@ use Rattle.gf_text.specs.Machine.{texts}
 use Rattle.gf_text.proofs.SetTokensLaws.{is_mark, le_from}
 use Rattle.gf_fanfile.specs.declared.error.FanFileError.{FanFileError}
 use Rattle.gf_fanfile.specs.declared.error.FanFileError.TheVariants as errors
-use Rattle.gf_fanfile.specs.declared.error.Section.TheVariants as names
+use Rattle.gf_text.specs.declared.error.Section.TheVariants as names
 use Rattle.gf_fanfile.specs.declared.file.FanFile.{FanFile}
 use Rattle.gf_fanfile.specs.declared.sections.Contents.{Contents}
 use Rattle.gf_fanfile.specs.Lines.{Section, sections, content_tokens, end_before}

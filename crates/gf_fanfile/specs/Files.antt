@@ -10,8 +10,8 @@ use Rattle.gf_gordan.specs.declared.error.ConeOverflow.{ConeOverflow}
 use Rattle.gf_duality.specs.Rays.{Generated}
 use Rattle.gf_fanfile.specs.declared.error.FanFileError.{FanFileError}
 use Rattle.gf_fanfile.specs.declared.error.FanFileError.TheVariants as errors
-use Rattle.gf_fanfile.specs.declared.error.Section.{Section}
-use Rattle.gf_fanfile.specs.declared.error.Section.TheVariants as names
+use Rattle.gf_text.specs.declared.error.Section.{Section}
+use Rattle.gf_text.specs.declared.error.Section.TheVariants as names
 use Rattle.gf_fanfile.specs.declared.file.FanFile.{FanFile}
 use Rattle.gf_fanfile.specs.Lines.{sections}
 use Rattle.gf_fanfile.specs.FanText.{the_number, the_rows, the_cones, Named, fan_table, AreHeld, IsFirstFault, found, wanted, first_missing, ambient_dim, rays_name, lineality_space, maximal_cones}

@@ -4,17 +4,8 @@ ghost use Rattle.gf_fanfile.specs.declared.error.FanFileError.TheVariants.{Memor
 ghost use Rattle.gf_fanfile.specs.Refused.{refused_before, cause_of};
 
 use gf_gordan::ConeOverflow;
-use gf_text::{Kind, Syntax};
+use gf_text::{Kind, Section, Syntax};
 use std::alloc::{AllocError, AllocFailed};
-
-/// The sections that a fan file has to have.
-#[derive(Clone, Copy, Debug, PartialEq, Eq)]
-pub enum Section {
-    AmbientDim,
-    Rays,
-    LinealitySpace,
-    MaximalCones,
-}
 
 /// Why a fan file isn't read.
 #[derive(Clone, Copy, Debug, PartialEq, Eq)]

@@ -8,10 +8,11 @@ ghost use Rattle.gf_fanfile.specs.Contents.{Says};
 ghost use Rattle.gf_fanfile.specs.Files.{IsFileOf, IsOutside, AreBelow, IsSound, IsRayTestStep, AreTestsWithin, IsBehind, IsLengthFault, IsRayFault, IsNumberFault, IsFormFault, IsFileRefused};
 
 use crate::cones::{ConeList, RayNumbers};
-use crate::error::{FanFileError, Section};
+use crate::error::FanFileError;
 use crate::rows::Vectors;
 use crate::sections::{Contents, contents_of};
 use gf_gordan::{Answer, GordanError, strict};
+use gf_text::Section;
 use gf_vec::IntVec;
 use std::alloc::Global;
 

@@ -19,7 +19,7 @@ mod writer;
 
 pub use again::{fans_are_read_again, parts_are_writable};
 pub use cones::{ConeList, RayNumbers};
-pub use error::{FanFileError, Section};
+pub use error::FanFileError;
 pub use file::{FanFile, read_file};
 pub use parts::{FanParts, ListedCone};
 pub use rows::Vectors;

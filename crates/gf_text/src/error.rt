@@ -20,6 +20,15 @@ pub enum Kind {
     ZeroDenominator,
 }
 
+/// The sections that a fan file has to have.
+#[derive(Clone, Copy, Debug, PartialEq, Eq)]
+pub enum Section {
+    AmbientDim,
+    Rays,
+    LinealitySpace,
+    MaximalCones,
+}
+
 /// Why a machine can't take a token, or the end of the text.
 #[derive(Clone, Copy, Debug, PartialEq, Eq)]
 pub enum Cause {

@@ -22,7 +22,7 @@ mod vector_printer;
 mod vector_reader;
 mod written;
 
-pub use error::{Kind, Syntax, TextError};
+pub use error::{Kind, Section, Syntax, TextError};
 pub use names::{DifferentNames, Ring};
 pub use printer::{
     Printer, marked_sets_are_kept, polynomials_are_kept, rings_are_read_again,
