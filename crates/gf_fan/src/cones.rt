@@ -22,7 +22,7 @@ pub struct FanCone {
 }
 
 /// What a cone has as its rays are the rays of its rows.
-fn has_its_rays(c: &Rays)
+pub(crate) fn has_its_rays(c: &Rays)
     ensures { HasItsRays c.now }
 {
     c.inequalities();
