@@ -1,8 +1,8 @@
 -- The fan of all meets of the maximal cones of two fans is their common refinement.
-use Rattle.std.proofs.Common.{◌≡◌, ℕ, List, get_or, Contains, arith, sym, ap₂, ◌∙◌, subst}
+use Rattle.std.proofs.Common.{◌≡◌, ℕ, List, get_or, Contains, arith, sym, ap₂, ◌∙◌, subst, All, ap, ℤ}
 use Rattle.std.proofs.lemmas.List.Elements.{Contains-get_or}
 use Rattle.gf_gordan.specs.Alternative.{GordansAlternative}
-use Rattle.gf_duality.specs.Faces.{Rows, SameCone, IsFaceOf}
+use Rattle.gf_duality.specs.Faces.{Rows, SameCone, IsFaceOf, part}
 use Rattle.gf_fans.specs.Fans.{meet, MeetInFaces}
 use Rattle.gf_fans.proofs.FanLaws.{both_in}
 use Rattle.gf_fans.proofs.Meeting.{left_in, right_in}
@@ -14,15 +14,18 @@ use Rattle.gf_patterns.proofs.RefinementLaws.{in_meets, of_meets, meets_refine}
 use Rattle.gf_rays.specs.Cones.{RowsAndRays, rows_of}
 use Rattle.gf_fan.specs.declared.cones.FanCone.{FanCone}
 use Rattle.gf_fan.specs.FanLists.{FanLists}
-use Rattle.gf_fan.specs.FansOfCones.{IsFanOf, IsFan}
+use Rattle.gf_fan.specs.FansOfCones.{IsFanOf, IsFan, vanishing_rows}
 use Rattle.gf_fan.specs.Pairs.{AreMeeting}
 use Rattle.gf_fan.proofs.FanConeLaws.{cones_meet}
 use Rattle.gf_refine.specs.FanRows.{cone_rows, fan_rows}
-use Rattle.gf_refine.specs.FansRefined.{IsMeetOfCones, AreDifferentCones, IsRefinementOf}
+use Rattle.gf_refine.specs.FansRefined.{IsMeetOfCones, AreDifferentCones, IsRefinementOf, IsPartOfMeet}
 use Rattle.gf_refine.specs.Meets.{maximal_cones, AreMeetsOf}
 use Rattle.gf_refine.specs.Laws.{FansAreConeLists, RefinementsAreOfFaces}
 use Rattle.gf_refine.proofs.FanRowLaws.{given_rows, in_rows, of_rows, list_width, list_meets, given_faces, face_listed, listed_face, different}
 use Rattle.gf_refine.proofs.MaximalLaws.{maximal_some, maximal_faces}
+use Rattle.gf_duality.proofs.ListLaws.{all_by}
+use Rattle.gf_fans.specs.FaceLists.{numbered}
+use Rattle.gf_fan.proofs.ZeroRowLaws.{are_zero_rows}
 
 -- ---- the list of meets
 
@@ -97,6 +100,24 @@ refined_by n meets f g h gordan sf sg eg en sh m =
 pub refined_meeting : (n : ℕ) (meets : List RowsAndRays) (f g : FanLists) → IsFan f → IsFan g → g.ambient ≡ f.ambient → n ≡ f.ambient → AreMeetsOf f.ambient (maximal_cones f) (maximal_cones g) meets → AreMeeting n meets
 refined_meeting n meets f g sf sg eg en m =
     subst (λ z. AreMeeting z meets) (sym en) (meets_meeting f.ambient sf.0 sg.0 meets f g sf.1 (subst (λ z. IsFanOf z sg.0 g) eg sg.1) m)
+
+-- the rows of its cones
+pub refined_parts : (meets : List RowsAndRays) (f g h : FanLists) (n : ℕ) → IsFan f → IsFan g → IsFanOf n meets h → AreMeetsOf f.ambient (maximal_cones f) (maximal_cones g) meets → (k : FanCone) → Contains h.cones k → IsPartOfMeet f g k
+refined_parts meets f g h n sf sg sh m k c =
+    let a = sh.cones.each k c in
+    let o : RowsAndRays = a.origin in
+    let w = m.each o a.listed in
+    let flat : List (List ℤ) = vanishing_rows o.inequalities (numbered h.rays k.numbers) in
+    let own : All (Contains o.inequalities) flat = all_by (Contains o.inequalities) flat (λ t i. ((are_zero_rows o.inequalities (numbered h.rays k.numbers)).each t i).0) in
+    record {
+      c = w.0;
+      d = w.1;
+      first = maximal_some f.ambient sf.0 f sf.1 w.0 w.2.0;
+      second = maximal_some g.ambient sg.0 g sg.1 w.1 w.2.1;
+      zero = flat;
+      own = subst (λ (r : Rows). All (Contains r.inequalities) flat) w.2.2.rows own;
+      rows = ap₂ (λ (i j : List (List ℤ)). record { inequalities = i; equations = j }) a.inequalities a.equations ∙ ap (λ (r : Rows). part r flat) w.2.2.rows;
+    }
 
 -- ---- what functions of this crate name
 

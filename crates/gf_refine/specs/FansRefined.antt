@@ -1,7 +1,7 @@
 -- The common refinement of two fans: its cones are exactly what a cone of the one and a cone of the other share.
 -- Source: Ziegler, Lectures on Polytopes, 7.1.
-use Rattle.std.specs.Prelude.{◌≡◌, ℕ, List, Any, AllPairs, Contains}
-use Rattle.gf_duality.specs.Faces.{SameCone}
+use Rattle.std.specs.Prelude.{◌≡◌, ℕ, List, ℤ, All, Any, AllPairs, Contains}
+use Rattle.gf_duality.specs.Faces.{SameCone, part}
 use Rattle.gf_fans.specs.Fans.{meet}
 use Rattle.gf_rays.specs.Cones.{rows_of}
 use Rattle.gf_fan.specs.declared.cones.FanCone.{FanCone}
@@ -23,3 +23,14 @@ pub record IsRefinementOf (f g h : FanLists) : Type 0 where
   pub each : (k : FanCone) → Contains h.cones k → (c : FanCone) × (d : FanCone) × (Contains f.cones c × Contains g.cones d × IsMeetOfCones f.ambient c d k)
   pub every : (c d : FanCone) → Contains f.cones c → Contains g.cones d → Any (IsMeetOfCones f.ambient c d) h.cones
   pub once : AreDifferentCones f.ambient h.cones
+
+-- k is a part of what a cone of f and a cone of g share: the rows of the one, then of the other, and some of the inequalities once more
+-- as equations
+pub record IsPartOfMeet (f g : FanLists) (k : FanCone) : Type 0 where
+  pub c : FanCone
+  pub d : FanCone
+  pub first : Contains f.cones c
+  pub second : Contains g.cones d
+  pub zero : List (List ℤ)
+  pub own : All (Contains (meet (rows_of c.cone) (rows_of d.cone)).inequalities) zero
+  pub rows : rows_of k.cone ≡ part (meet (rows_of c.cone) (rows_of d.cone)) zero

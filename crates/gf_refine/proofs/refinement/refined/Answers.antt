@@ -3,7 +3,7 @@ use Rattle.std.proofs.lemmas.Result.{IfOk-weaker, IfErr-weaker}
 use Rattle.gf_fan.specs.Pairs.{AreOfAmbient}
 use Rattle.gf_refine.specs.Meets.{maximal_cones}
 use Rattle.gf_refine.proofs.MeetLaws.{meets_ambient}
-use Rattle.gf_refine.proofs.RefinementLaws.{refined_by, refined_meeting}
+use Rattle.gf_refine.proofs.RefinementLaws.{refined_by, refined_meeting, refined_parts}
 use Rattle.gf_refine.proofs.StepLaws.{faces_refused}
 use Rattle.gf_refine.proofs.refinement.refined.Goals as goal
 
@@ -22,3 +22,7 @@ returns-clause-ok g c =
 pub returns-clause-err : goal.returns-clause-err
 returns-clause-err g c =
     IfErr-weaker c.of_meeting.result _ _ (λ e t. faces_refused c.args.first.now c.args.second.now c.ambient.result c.in_ok-meets.meets.items e c.are_fans.ensures.first c.are_fans.ensures.second c.ambient.ensures c.in_ok-meets.ensures.meets t) c.of_meeting.ensures.err
+
+pub returns-clause-rows : goal.returns-clause-rows
+returns-clause-rows g c =
+    IfOk-weaker c.of_meeting.result _ _ (λ h s. refined_parts c.in_ok-meets.meets.items c.args.first.now c.args.second.now h c.ambient.result c.are_fans.ensures.first c.are_fans.ensures.second s c.in_ok-meets.ensures.meets) c.of_meeting.ensures.ok
