@@ -19,7 +19,7 @@ use Rattle.gf_fan.specs.Pairs.{AreMeeting}
 use Rattle.gf_fan.proofs.FanConeLaws.{cones_meet}
 use Rattle.gf_refine.specs.FanRows.{cone_rows, fan_rows}
 use Rattle.gf_refine.specs.FansRefined.{IsMeetOfCones, AreDifferentCones, IsRefinementOf, IsPartOfMeet}
-use Rattle.gf_refine.specs.Meets.{maximal_cones, AreMeetsOf}
+use Rattle.gf_refine.specs.Meets.{maximal_of, AreMeetsOf}
 use Rattle.gf_refine.specs.Laws.{FansAreConeLists, RefinementsAreOfFaces}
 use Rattle.gf_refine.proofs.FanRowLaws.{given_rows, in_rows, of_rows, list_width, list_meets, given_faces, face_listed, listed_face, different}
 use Rattle.gf_refine.proofs.MaximalLaws.{maximal_some, maximal_faces}
@@ -30,7 +30,7 @@ use Rattle.gf_fan.proofs.ZeroRowLaws.{are_zero_rows}
 -- ---- the list of meets
 
 -- any two of them meet in faces
-pub meets_meeting : (n : ℕ) (ps qs meets : List RowsAndRays) (f g : FanLists) → IsFanOf n ps f → IsFanOf n qs g → AreMeetsOf n (maximal_cones f) (maximal_cones g) meets → AreMeeting n meets
+pub meets_meeting : (n : ℕ) (ps qs meets : List RowsAndRays) (f g : FanLists) → IsFanOf n ps f → IsFanOf n qs g → AreMeetsOf n (maximal_of f) (maximal_of g) meets → AreMeeting n meets
 meets_meeting n ps qs meets f g sf sg m i j d h l =
     let x = m.each (get_or meets i d) (Contains-get_or meets i d (omega (arith, h, l))) in
     let y = m.each (get_or meets j d) (Contains-get_or meets j d l) in
@@ -58,11 +58,11 @@ same_list n cs ds meets m x = (
 )
 
 -- their fan is the common refinement of the lists
-common_rows : (n : ℕ) (ps qs meets : List RowsAndRays) (f g h : FanLists) → GordansAlternative → IsFanOf n ps f → IsFanOf n qs g → IsFanOf n meets h → AreMeetsOf n (maximal_cones f) (maximal_cones g) meets → IsCommonRefinement n (fan_rows f) (fan_rows g) (fan_rows h)
+common_rows : (n : ℕ) (ps qs meets : List RowsAndRays) (f g h : FanLists) → GordansAlternative → IsFanOf n ps f → IsFanOf n qs g → IsFanOf n meets h → AreMeetsOf n (maximal_of f) (maximal_of g) meets → IsCommonRefinement n (fan_rows f) (fan_rows g) (fan_rows h)
 common_rows n ps qs meets f g h gordan sf sg sh m =
-    let xs = cone_rows (maximal_cones f) in let ys = cone_rows (maximal_cones g) in
+    let xs = cone_rows (maximal_of f) in let ys = cone_rows (maximal_of g) in
     refinement_same n xs (fan_rows f) ys (fan_rows g) (all_meets xs ys) (fan_rows h) (maximal_faces n ps f gordan sf) (maximal_faces n qs g gordan sg)
-    (λ x. let e = same_list n (maximal_cones f) (maximal_cones g) meets m x in let d = given_faces n meets h gordan sh x in (λ i. d.0 (e.0 i), λ i. e.1 (d.1 i)))
+    (λ x. let e = same_list n (maximal_of f) (maximal_of g) meets m x in let d = given_faces n meets h gordan sh x in (λ i. d.0 (e.0 i), λ i. e.1 (d.1 i)))
     (meets_refine n xs ys)
 
 -- ---- fans and lists of cones
@@ -90,19 +90,19 @@ refinement_of_rows n ps qs meets f g h gordan sf sg sh en r = record {
 }
 
 -- the fan of the meets is the common refinement
-pub refined_by : (n : ℕ) (meets : List RowsAndRays) (f g h : FanLists) → GordansAlternative → IsFan f → IsFan g → g.ambient ≡ f.ambient → n ≡ f.ambient → IsFanOf n meets h → AreMeetsOf f.ambient (maximal_cones f) (maximal_cones g) meets → IsRefinementOf f g h
+pub refined_by : (n : ℕ) (meets : List RowsAndRays) (f g h : FanLists) → GordansAlternative → IsFan f → IsFan g → g.ambient ≡ f.ambient → n ≡ f.ambient → IsFanOf n meets h → AreMeetsOf f.ambient (maximal_of f) (maximal_of g) meets → IsRefinementOf f g h
 refined_by n meets f g h gordan sf sg eg en sh m =
     let p : IsFanOf n sf.0 f = subst (λ z. IsFanOf z sf.0 f) (sym en) sf.1 in
     let q : IsFanOf n sg.0 g = subst (λ z. IsFanOf z sg.0 g) (eg ∙ sym en) sg.1 in
-    let k : AreMeetsOf n (maximal_cones f) (maximal_cones g) meets = subst (λ z. AreMeetsOf z (maximal_cones f) (maximal_cones g) meets) (sym en) m in
+    let k : AreMeetsOf n (maximal_of f) (maximal_of g) meets = subst (λ z. AreMeetsOf z (maximal_of f) (maximal_of g) meets) (sym en) m in
     refinement_of_rows n sf.0 sg.0 meets f g h gordan p q sh en (common_rows n sf.0 sg.0 meets f g h gordan p q sh k)
 
-pub refined_meeting : (n : ℕ) (meets : List RowsAndRays) (f g : FanLists) → IsFan f → IsFan g → g.ambient ≡ f.ambient → n ≡ f.ambient → AreMeetsOf f.ambient (maximal_cones f) (maximal_cones g) meets → AreMeeting n meets
+pub refined_meeting : (n : ℕ) (meets : List RowsAndRays) (f g : FanLists) → IsFan f → IsFan g → g.ambient ≡ f.ambient → n ≡ f.ambient → AreMeetsOf f.ambient (maximal_of f) (maximal_of g) meets → AreMeeting n meets
 refined_meeting n meets f g sf sg eg en m =
     subst (λ z. AreMeeting z meets) (sym en) (meets_meeting f.ambient sf.0 sg.0 meets f g sf.1 (subst (λ z. IsFanOf z sg.0 g) eg sg.1) m)
 
 -- the rows of its cones
-pub refined_parts : (meets : List RowsAndRays) (f g h : FanLists) (n : ℕ) → IsFan f → IsFan g → IsFanOf n meets h → AreMeetsOf f.ambient (maximal_cones f) (maximal_cones g) meets → (k : FanCone) → Contains h.cones k → IsPartOfMeet f g k
+pub refined_parts : (meets : List RowsAndRays) (f g h : FanLists) (n : ℕ) → IsFan f → IsFan g → IsFanOf n meets h → AreMeetsOf f.ambient (maximal_of f) (maximal_of g) meets → (k : FanCone) → Contains h.cones k → IsPartOfMeet f g k
 refined_parts meets f g h n sf sg sh m k c =
     let a = sh.cones.each k c in
     let o : RowsAndRays = a.origin in

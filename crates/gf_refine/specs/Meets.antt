@@ -14,8 +14,8 @@ abbrev pub no_cone : FanCone
 no_cone = record { dim = 0; numbers = []; cone = record { ambient = 0; inequalities = []; equations = []; lineality = []; rays = []; implied = [] } }
 
 -- the maximal cones of a fan, in order
-abbrev pub maximal_cones : FanLists → List FanCone
-maximal_cones f = map (λ i. slice_index_or f.cones i no_cone) f.maximal
+abbrev pub maximal_of : FanLists → List FanCone
+maximal_of f = map (λ i. slice_index_or f.cones i no_cone) f.maximal
 
 -- m is what c and d share: the rows of the one, then of the other, with the rays
 pub record IsMeetByRays (n : ℕ) (c d m : RowsAndRays) : Type 0 where

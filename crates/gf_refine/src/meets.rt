@@ -4,7 +4,7 @@ ghost use Rattle.std.specs.List.{AllZip, range_with_len};
 ghost use Rattle.gf_gordan.specs.Steps.{Failed};
 ghost use Rattle.gf_gordan.specs.declared.error.GordanError.TheVariants.{Memory};
 ghost use Rattle.gf_fan.specs.FansOfCones.{IsFan};
-ghost use Rattle.gf_refine.specs.Meets.{no_cone, maximal_cones, IsMeetAt, IsFoundCone, AreMeetsOf};
+ghost use Rattle.gf_refine.specs.Meets.{no_cone, maximal_of, IsMeetAt, IsFoundCone, AreMeetsOf};
 ghost use Rattle.gf_refine.specs.Refusals.{IsRefineStep};
 
 use gf_fan::{Fan, meet_of};
@@ -27,7 +27,7 @@ pub(crate) fn are_fans(first: &Fan, second: &Fan)
 /// The maximal cone with a number, counted from 0.
 fn maximal_cone(fan: &Fan, i: usize) -> &Rays
     requires { i < length fan.now.maximal }
-    ensures value { result.now ≡ (slice_index_or (maximal_cones fan.now) i no_cone).cone }
+    ensures value { result.now ≡ (slice_index_or (maximal_of fan.now) i no_cone).cone }
     ensures ambient { result.now.ambient ≡ fan.now.ambient }
 {
     let place = fan.maximal()[i] as usize;
@@ -41,7 +41,7 @@ fn maximal_cone(fan: &Fan, i: usize) -> &Rays
 fn meet_at(alloc: Global, first: &Fan, second: &Fan, k: usize) -> Result<Rays, GordanError>
     requires ambient { second.now.ambient ≡ first.now.ambient }
     requires pair { k < length first.now.maximal * length second.now.maximal }
-    ensures { IsMeetAt first.now.ambient (maximal_cones first.now) (maximal_cones second.now) k result }
+    ensures { IsMeetAt first.now.ambient (maximal_of first.now) (maximal_of second.now) k result }
 {
     let count = second.maximal().len();
     let c = maximal_cone(first, k / count);
@@ -59,7 +59,7 @@ fn met<R: Threads + Sync>(
 ) -> Result<Vec<Result<Rays, GordanError>>, AllocError>
     requires ambient { second.now.ambient ≡ first.now.ambient }
     requires count { count ≡ length first.now.maximal * length second.now.maximal }
-    ensures { IfOk result (λ v. AllZip (IsMeetAt first.now.ambient (maximal_cones first.now) (maximal_cones second.now)) (range_with_len 0 count) v.items) }
+    ensures { IfOk result (λ v. AllZip (IsMeetAt first.now.ambient (maximal_of first.now) (maximal_of second.now)) (range_with_len 0 count) v.items) }
 {
     (0..count)
         .into_par_iter()
@@ -67,7 +67,7 @@ fn met<R: Threads + Sync>(
             |k: usize| -> Result<Rays, GordanError>
                 requires ambient { second.now.ambient ≡ first.now.ambient }
                 requires pair { k < length first.now.maximal * length second.now.maximal }
-                ensures { IsMeetAt first.entry.now.ambient (maximal_cones first.entry.now) (maximal_cones second.entry.now) k result }
+                ensures { IsMeetAt first.entry.now.ambient (maximal_of first.entry.now) (maximal_of second.entry.now) k result }
             { meet_at(alloc, first, second, k) },
         )
         .with_min_len(1)
@@ -111,7 +111,7 @@ pub(crate) fn all_meets<R: Threads + Sync>(
     second: &Fan,
 ) -> Result<Vec<Rays>, GordanError>
     requires { second.now.ambient ≡ first.now.ambient }
-    ensures meets { IfOk result (λ out. AreMeetsOf first.now.ambient (maximal_cones first.now) (maximal_cones second.now) out.items) }
+    ensures meets { IfOk result (λ out. AreMeetsOf first.now.ambient (maximal_of first.now) (maximal_of second.now) out.items) }
     ensures count { IfOk result (λ out. length out.items < 2 ^ 32) }
     ensures err { IfErr result (Failed (IsRefineStep first.now second.now)) }
 {

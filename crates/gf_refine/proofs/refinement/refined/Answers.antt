@@ -1,7 +1,7 @@
 use Rattle.std.proofs.Common.{sym, subst}
 use Rattle.std.proofs.lemmas.Result.{IfOk-weaker, IfErr-weaker}
 use Rattle.gf_fan.specs.Pairs.{AreOfAmbient}
-use Rattle.gf_refine.specs.Meets.{maximal_cones}
+use Rattle.gf_refine.specs.Meets.{maximal_of}
 use Rattle.gf_refine.proofs.MeetLaws.{meets_ambient}
 use Rattle.gf_refine.proofs.RefinementLaws.{refined_by, refined_meeting, refined_parts}
 use Rattle.gf_refine.proofs.StepLaws.{faces_refused}
@@ -10,7 +10,7 @@ use Rattle.gf_refine.proofs.refinement.refined.Goals as goal
 pub of_meeting-requires-clause-cones : goal.of_meeting-requires-clause-cones
 of_meeting-requires-clause-cones g c =
     let f = c.args.first.now in
-    subst (λ n. AreOfAmbient n c.in_ok-meets.meets.items) (sym c.ambient.ensures) (meets_ambient f.ambient (maximal_cones f) (maximal_cones c.args.second.now) c.in_ok-meets.meets.items c.in_ok-meets.ensures.meets)
+    subst (λ n. AreOfAmbient n c.in_ok-meets.meets.items) (sym c.ambient.ensures) (meets_ambient f.ambient (maximal_of f) (maximal_of c.args.second.now) c.in_ok-meets.meets.items c.in_ok-meets.ensures.meets)
 
 pub of_meeting-requires-clause-meeting : goal.of_meeting-requires-clause-meeting
 of_meeting-requires-clause-meeting g c = refined_meeting c.ambient.result c.in_ok-meets.meets.items c.args.first.now c.args.second.now c.are_fans.ensures.first c.are_fans.ensures.second c.requires c.ambient.ensures c.in_ok-meets.ensures.meets
