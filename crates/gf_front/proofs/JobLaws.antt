@@ -20,11 +20,11 @@ use Rattle.clap.specs.Simple.{argument_words, built_leaf, entered, inherited, la
 use Rattle.clap.specs.Faults.{check_fault, entered_fault}
 use Rattle.gf_front.specs.declared.command_line.Job.{Job}
 use Rattle.gf_front.specs.declared.command_line.Job.TheVariants as jobs
-use Rattle.gf_front.specs.Table.{Entry, table, commands, tools, cones, shape, most_pairs, most_workers, usual_pairs, number_of, number_where, buchberger, bases, plain, leading_terms, groebner_cone, weight_vector, to_polyhedral_fan}
+use Rattle.gf_front.specs.Table.{Entry, table, commands, tools, cones, fans, shape, most_pairs, most_workers, usual_pairs, number_of, number_where, buchberger, bases, plain, leading_terms, groebner_cone, weight_vector, to_polyhedral_fan, fan_common_refinement}
 use Rattle.gf_front.specs.Jobs.{HasMatch, HasNumbersInRange, IsJobOfMatch, match_of, job_in, job_of}
 use Rattle.gf_front.specs.Options.{HoldChoices, NamesEntry, IsCommand, HoldsNumber}
 use Rattle.gf_front.proofs.MatchLaws.{Enters, entered_rows, level_rows, rows_pass}
-use Rattle.gf_front.proofs.OptionLaws.{is_flag, is_number, number_within}
+use Rattle.gf_front.proofs.OptionLaws.{is_flag, is_number, is_text, number_within}
 
 -- ---- the command
 
@@ -51,9 +51,34 @@ some_of : {X : Type 0} (o : Option X) → (not (is_some o) && true) ≡ false �
 some_of None e = cc
 some_of (Some x) e = (x, refl)
 
+third_check : (a b c : Bool) → check_kinds a b c ≡ [] → c ≡ false
+third_check true b c e = cc
+third_check false true c e = cc
+third_check false false true e = cc
+third_check false false false e = refl
+
+-- an option without which the command isn't taken is missing
+abbrev lacks : List Rule → List Row → Bool
+lacks rules rows = list_any (λ (a : Rule). a.required && not (is_given a.id rows)) rules
+
+none_lacks : (s : Shape) (rows : List Row) → check_fault s rows false ≡ [] → lacks s.rules rows ≡ false
+none_lacks s rows e =
+    by s.subcommand_negates_reqs
+    (third_check (true && (s.arg_required_else_help && not (list_any (λ (r : Row). explicit_source r.source) rows))) (true && s.subcommand_required)
+    (not (s.subcommand_negates_reqs && false) && lacks s.rules rows) e)
+  where
+    by : (b : Bool) → (not (b && false) && lacks s.rules rows) ≡ false → lacks s.rules rows ≡ false
+    by true h = h
+    by false h = h
+
+both_there : (a b : Bool) → (not a || (not b || false)) ≡ false → (a ≡ true) × (b ≡ true)
+both_there true true e = (refl, refl)
+both_there true false e = cc
+both_there false b e = cc
+
 -- what an entry promises: a match holds for each option what it takes, and the numbers of its job are in their ranges
 record IsSound (e : Entry) : Type 0 where
-  holds : (rows : List Row) → rows_pass (as_built (shape e)).rules rows ≡ true → HoldChoices e.options rows
+  holds : (rows : List Row) → rows_pass (as_built (shape e)).rules rows ≡ true → lacks (as_built (shape e)).rules rows ≡ false → HoldChoices e.options rows
   limits : (rows : List Row) → HoldChoices e.options rows → HasNumbersInRange (e.job rows)
 
 -- each entry does, and no other entry has its name
@@ -66,15 +91,15 @@ either true b e = cc
 either false b e = (refl, e)
 
 -- the command that is found is one of the entries
-entry_found : (es : List Entry) (p : Shape → Bool) (m : Text × List Row) (s : Shape) → AreSound es → find p (map (λ e. as_built (shape e)) es) ≡ Some s → m.0 ≡ s.name → rows_pass s.rules m.1 ≡ true → NamesEntry es m
+entry_found : (es : List Entry) (p : Shape → Bool) (m : Text × List Row) (s : Shape) → AreSound es → find p (map (λ e. as_built (shape e)) es) ≡ Some s → m.0 ≡ s.name → rows_pass s.rules m.1 ≡ true → lacks s.rules m.1 ≡ false → NamesEntry es m
 unfolding AreSound
-entry_found [] p m s sound found name rows = cc
-entry_found (e ∷ es) p m s sound found name rows = by (p (as_built (shape e))) found (λ rest. entry_found es p m s sound.2 rest name rows)
+entry_found [] p m s sound found name rows there = cc
+entry_found (e ∷ es) p m s sound found name rows there = by (p (as_built (shape e))) found (λ rest. entry_found es p m s sound.2 rest name rows there)
   where
     by : (b : Bool) → cond b (Some (as_built (shape e))) (find p (map (λ f. as_built (shape f)) es)) ≡ Some s → (find p (map (λ f. as_built (shape f)) es) ≡ Some s → NamesEntry es m) → NamesEntry (e ∷ es) m
     by true here later =
         let same : as_built (shape e) ≡ s = cc in
-        inl (name ∙ ap (λ (z : Shape). z.name) (sym same), sound.0.holds m.1 (subst (λ (z : Shape). rows_pass z.rules m.1 ≡ true) (sym same) rows))
+        inl (name ∙ ap (λ (z : Shape). z.name) (sym same), sound.0.holds m.1 (subst (λ (z : Shape). rows_pass z.rules m.1 ≡ true) (sym same) rows) (subst (λ (z : Shape). lacks z.rules m.1 ≡ false) (sym same) there))
     by false here later = inr (later here)
 
 -- an entry of another name isn't the command
@@ -119,7 +144,7 @@ limit_within id rows is = by (one_of id rows) refl
 
 buchberger_sound : IsSound buchberger
 buchberger_sound = record {
-  holds = λ rows ok. (
+  holds = λ rows ok there. (
     is_flag (as_built (shape buchberger)).rules (codes "w") rows (λ text. refl) ok,
     (
       is_flag (as_built (shape buchberger)).rules (codes "r") rows (λ text. refl) ok,
@@ -131,7 +156,7 @@ buchberger_sound = record {
 
 bases_sound : IsSound bases
 bases_sound = record {
-  holds = λ rows ok. (
+  holds = λ rows ok there. (
     is_flag (as_built (shape bases)).rules (codes "g") rows (λ text. refl) ok,
     (
       is_number (as_built (shape bases)).rules (codes "limit") most_pairs rows (λ text. refl) ok,
@@ -152,13 +177,13 @@ bases_sound = record {
 
 leading_terms_sound : IsSound leading_terms
 leading_terms_sound = record {
-  holds = λ rows ok. (is_flag (as_built (shape leading_terms)).rules (codes "m") rows (λ text. refl) ok, tt);
+  holds = λ rows ok there. (is_flag (as_built (shape leading_terms)).rules (codes "m") rows (λ text. refl) ok, tt);
   limits = λ rows h. tt;
 }
 
 groebner_cone_sound : IsSound groebner_cone
 groebner_cone_sound = record {
-  holds = λ rows ok. (
+  holds = λ rows ok there. (
     is_flag (as_built (shape groebner_cone)).rules (codes "vectorinput") rows (λ text. refl) ok,
     (
       is_flag (as_built (shape groebner_cone)).rules (codes "certificates") rows (λ text. refl) ok,
@@ -173,7 +198,7 @@ groebner_cone_sound = record {
 
 weight_vector_sound : IsSound weight_vector
 weight_vector_sound = record {
-  holds = λ rows ok. (
+  holds = λ rows ok there. (
     is_flag (as_built (shape weight_vector)).rules (codes "m") rows (λ text. refl) ok,
     (is_flag (as_built (shape weight_vector)).rules (codes "e") rows (λ text. refl) ok, tt),
   );
@@ -182,19 +207,41 @@ weight_vector_sound = record {
 
 to_polyhedral_fan_sound : IsSound to_polyhedral_fan
 to_polyhedral_fan_sound = record {
-  holds = λ rows ok. (is_flag (as_built (shape to_polyhedral_fan)).rules (codes "restrict") rows (λ text. refl) ok, tt);
+  holds = λ rows ok there. (is_flag (as_built (shape to_polyhedral_fan)).rules (codes "restrict") rows (λ text. refl) ok, tt);
+  limits = λ rows h. tt;
+}
+
+fan_common_refinement_sound : IsSound fan_common_refinement
+fan_common_refinement_sound = record {
+  holds = λ rows ok there.
+      let p = both_there (is_given (codes "i1") rows) (is_given (codes "i2") rows) there in (
+        is_text (as_built (shape fan_common_refinement)).rules (codes "i1") rows ok p.0,
+        (is_text (as_built (shape fan_common_refinement)).rules (codes "i2") rows ok p.1, tt),
+      );
   limits = λ rows h. tt;
 }
 
 -- a command without options and numbers
 plain_sound : (name : Text) (job : Job) → HasNumbersInRange job → IsSound (plain name job)
-plain_sound name job within = record { holds = λ rows ok. tt; limits = λ rows h. within }
+plain_sound name job within = record { holds = λ rows ok there. tt; limits = λ rows h. within }
 
-cones_sound : AreSound cones
+fans_sound : AreSound fans
 unfolding AreSound
-cones_sound = (groebner_cone_sound, refl, (weight_vector_sound, refl, (to_polyhedral_fan_sound, refl, (plain_sound (codes "_homogeneityspace") jobs.HomogeneitySpace tt, refl, tt))))
+fans_sound = (
+  fan_common_refinement_sound,
+  refl,
+  (
+    plain_sound (codes "_tropicalhypersurface") jobs.TropicalHypersurface tt,
+    refl,
+    (plain_sound (codes "_tropicalintersection") jobs.TropicalIntersection tt, refl, (plain_sound (codes "_minkowskisum") jobs.MinkowskiSum tt, refl, tt)),
+  ),
+)
 
-tools_sound : AreSound (tools ++ cones)
+cones_sound : AreSound (cones ++ fans)
+unfolding AreSound
+cones_sound = (groebner_cone_sound, refl, (weight_vector_sound, refl, (to_polyhedral_fan_sound, refl, (plain_sound (codes "_homogeneityspace") jobs.HomogeneitySpace tt, refl, fans_sound))))
+
+tools_sound : AreSound (tools ++ cones ++ fans)
 unfolding AreSound
 tools_sound = (
   plain_sound (codes "_markpolynomialset") jobs.MarkPolynomialSet tt,
@@ -240,7 +287,7 @@ choices_hold e m found h same = entry_holds commands e m all_sound found h same
 
 -- the rows of each command hold what its options take
 command_of : (m : Text × List Row) → Enters program m → IsCommand m
-command_of m h = entry_found commands (λ s. answers_to h.word (label_of s)) m h.shape all_sound h.found h.name h.rows
+command_of m h = entry_found commands (λ s. answers_to h.word (label_of s)) m h.shape all_sound h.found h.name h.rows (none_lacks h.shape m.1 h.checked)
 
 -- where the table has a match for the words, they name a command
 matched_command : (words : List Text) → HasMatch words → (m : Text × List Row) × (match_of words ≡ Some m) × IsCommand m

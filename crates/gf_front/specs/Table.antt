@@ -1,12 +1,12 @@
 -- The table of commands and their options, as clap reads words by it.
 -- What clap makes of a table is said by its own definitions: `new_rule` is an option and `new_shape` a command to which
 -- nothing was added yet, `with_subcommand` adds a command.
-use Rattle.std.specs.Prelude.{ℕ, Bool, true, false, List, [], ◌∷◌, ◌++◌, map, Option, Some, codes, option_map}
+use Rattle.std.specs.Prelude.{ℕ, Bool, true, false, List, [], ◌∷◌, ◌++◌, map, Option, Some, codes, option_map, unwrap_or}
 use Rattle.std.specs.Option.{option_map_or}
 use Rattle.std.specs.List.{fold}
 use Rattle.std.specs.Str.{bytes_eq}
 use Rattle.std.specs.Str.Parse.{digits_value, without_leading_plus}
-use Rattle.clap.specs.Words.{App, Shape, Row, Rule, Text, one_of, new_rule, with_subcommand}
+use Rattle.clap.specs.Words.{App, Shape, Row, Rule, Text, one_of, first_of, new_rule, with_subcommand}
 use Rattle.gf_front.specs.declared.command_line.Job.{Job}
 use Rattle.gf_front.specs.declared.command_line.Job.TheVariants as jobs
 use Rattle.clap.specs.Simple.{new_shape}
@@ -27,16 +27,22 @@ named_flag id = record (new_rule id) { long = Some id; action = Some SetTrue }
 abbrev pub number : Text → ℕ → Rule
 number id most = record (new_rule id) { long = Some id; action = Some Set; parser = Some (parsers.Unsigned 1 most) }
 
+-- an option with the name of a file, without which the command isn't taken: two hyphens and its name
+abbrev pub file : Text → Rule
+file id = record (new_rule id) { long = Some id; action = Some Set; required = true }
+
 -- what an option may be
 pub data Choice : Type 0 where
   a_flag : Text → ℕ → Choice
   a_named_flag : Text → Choice
   a_number : Text → ℕ → Choice
+  a_file : Text → Choice
 
 abbrev pub rule : Choice → Rule
 rule (a_flag id letter) = flag id letter
 rule (a_named_flag id) = named_flag id
 rule (a_number id most) = number id most
+rule (a_file id) = file id
 
 -- the most pairs that a budget may have, which is the most bases that a limit may let through too; and the pairs that a budget
 -- has where the words don't say it
@@ -63,6 +69,10 @@ number_of id otherwise rows = option_map_or (λ text. digits_value 10 (without_l
 -- the number of the option, where it is there
 abbrev pub number_where : Text → List Row → Option ℕ
 number_where id rows = option_map (λ text. digits_value 10 (without_leading_plus text)) (one_of id rows)
+
+-- the text of the option, and none where it isn't there
+abbrev pub text_of : Text → List Row → Text
+text_of id rows = unwrap_or (first_of id rows) []
 
 -- ---- commands
 
@@ -127,6 +137,22 @@ to_polyhedral_fan = record {
 abbrev pub homogeneity_space : Entry
 homogeneity_space = plain (codes "_homogeneityspace") jobs.HomogeneitySpace
 
+abbrev pub fan_common_refinement : Entry
+fan_common_refinement = record {
+  name = codes "_fancommonrefinement";
+  options = a_file (codes "i1") ∷ a_file (codes "i2") ∷ [];
+  job = λ rows. jobs.FanCommonRefinement (text_of (codes "i1") rows) (text_of (codes "i2") rows);
+}
+
+abbrev pub tropical_hypersurface : Entry
+tropical_hypersurface = plain (codes "_tropicalhypersurface") jobs.TropicalHypersurface
+
+abbrev pub tropical_intersection : Entry
+tropical_intersection = plain (codes "_tropicalintersection") jobs.TropicalIntersection
+
+abbrev pub minkowski_sum : Entry
+minkowski_sum = plain (codes "_minkowskisum") jobs.MinkowskiSum
+
 -- the small tools without options
 abbrev pub mark_polynomial_set : Entry
 mark_polynomial_set = plain (codes "_markpolynomialset") jobs.MarkPolynomialSet
@@ -143,7 +169,7 @@ polynomial_set_union = plain (codes "_polynomialsetunion") jobs.PolynomialSetUni
 abbrev pub stats : Entry
 stats = plain (codes "_stats") jobs.Stats
 
--- those that the table has before the small tools, those, and those on cones and fans
+-- those that the table has before the small tools, those, those on cones, and those that make fans of fans and of polynomials
 abbrev pub first_commands : List Entry
 first_commands = buchberger ∷ bases ∷ is_marked_groebner_basis ∷ does_ideal_contain ∷ leading_terms ∷ []
 
@@ -153,8 +179,11 @@ tools = mark_polynomial_set ∷ initial_forms ∷ homogenize ∷ polynomial_set_
 abbrev pub cones : List Entry
 cones = groebner_cone ∷ weight_vector ∷ to_polyhedral_fan ∷ homogeneity_space ∷ []
 
+abbrev pub fans : List Entry
+fans = fan_common_refinement ∷ tropical_hypersurface ∷ tropical_intersection ∷ minkowski_sum ∷ []
+
 abbrev pub commands : List Entry
-commands = first_commands ++ tools ++ cones
+commands = first_commands ++ tools ++ cones ++ fans
 
 -- a command as clap has it
 abbrev pub shape : Entry → Shape

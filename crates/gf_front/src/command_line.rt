@@ -3,10 +3,11 @@
 //! clap reads the words by the table; what it would say of a fault is never printed.
 ghost use Rattle.std.specs.Prelude.{◌≡◌, [], IfOk, IsErrOf, map, string_bytes, codes, Some};
 ghost use Rattle.clap.specs.Words.{found_of, rows_of, one_of, kind_of};
-ghost use Rattle.gf_front.specs.Table.{most_pairs, most_workers, flag_of, number_of, number_where, buchberger, bases, leading_terms, groebner_cone, weight_vector, to_polyhedral_fan};
+ghost use Rattle.gf_front.specs.Table.{most_pairs, most_workers, flag_of, number_of, number_where, text_of, buchberger, bases, leading_terms, groebner_cone, weight_vector, to_polyhedral_fan, fan_common_refinement};
 ghost use Rattle.gf_front.specs.Jobs.{renamed, HasMatch, IsJobOfMatch, IsMatched, IsJobOf, HasNumbersInRange, job_of};
-ghost use Rattle.gf_front.specs.Options.{HoldsFlag, HoldsNumber, HoldChoices, IsCommand};
+ghost use Rattle.gf_front.specs.Options.{HoldsFlag, HoldsNumber, HoldsText, HoldChoices, IsCommand};
 
+use crate::name::Name;
 use crate::table::table;
 use clap::ArgMatches;
 use clap::error::ErrorKind;
@@ -84,6 +85,19 @@ pub enum Job {
     },
     /// The space of the vectors by which each polynomial of a set is homogeneous, as a fan.
     HomogeneitySpace,
+    /// The fan of the meets of the cones of two fans.
+    FanCommonRefinement {
+        /// `--i1 FILE`: the file of the first fan.
+        first: Name,
+        /// `--i2 FILE`: the file of the second fan.
+        second: Name,
+    },
+    /// The tropical hypersurface of a polynomial, as a fan.
+    TropicalHypersurface,
+    /// The meet of the tropical hypersurfaces of a set of polynomials, as a fan.
+    TropicalIntersection,
+    /// The fan of the Minkowski sum of the Newton polytopes of a set of polynomials.
+    MinkowskiSum,
 }
 
 /// Why there is no job.
@@ -135,6 +149,14 @@ fn workers(found: &ArgMatches) -> u32
 {
     let number = number(found, "workers", 1);
     number as u32
+}
+
+/// The text of an option.
+fn text<'f>(found: &'f ArgMatches, id: &str) -> &'f str
+    requires { HoldsText id.now (rows_of (found_of found.now)) }
+    ensures { result.now ≡ text_of id.now (rows_of (found_of found.now)) }
+{
+    found.get_str(id).unwrap()
 }
 
 /// The job of `_buchberger`.
@@ -207,12 +229,23 @@ fn to_polyhedral_fan(found: &ArgMatches) -> Job
     }
 }
 
-/// The job of a command with its options.
-fn job_of(name: &str, found: &ArgMatches) -> Job
-    requires { IsCommand (name.now, rows_of (found_of found.now)) }
-    ensures { job_of (name.now, rows_of (found_of found.now)) ≡ Some result }
+/// The job of `_fancommonrefinement`.
+fn fan_common_refinement(alloc: Global, found: &ArgMatches) -> Result<Job, AllocError>
+    requires { HoldChoices fan_common_refinement.options (rows_of (found_of found.now)) }
+    ensures { IfOk result (λ job. fan_common_refinement.job (rows_of (found_of found.now)) ≡ job) }
 {
-    match name {
+    Ok(Job::FanCommonRefinement {
+        first: Name::new(alloc, text(found, "i1"))?,
+        second: Name::new(alloc, text(found, "i2"))?,
+    })
+}
+
+/// The job of a command with its options.
+fn job_of(alloc: Global, name: &str, found: &ArgMatches) -> Result<Job, AllocError>
+    requires { IsCommand (name.now, rows_of (found_of found.now)) }
+    ensures { IfOk result (λ job. job_of (name.now, rows_of (found_of found.now)) ≡ Some job) }
+{
+    Ok(match name {
         "_buchberger" => buchberger(found),
         "_bases" => bases(found),
         "_ismarkedgroebnerbasis" => Job::IsMarkedGroebnerBasis,
@@ -227,8 +260,12 @@ fn job_of(name: &str, found: &ArgMatches) -> Job
         "_weightvector" => weight_vector(found),
         "_topolyhedralfan" => to_polyhedral_fan(found),
         "_homogeneityspace" => Job::HomogeneitySpace,
+        "_fancommonrefinement" => fan_common_refinement(alloc, found)?,
+        "_tropicalhypersurface" => Job::TropicalHypersurface,
+        "_tropicalintersection" => Job::TropicalIntersection,
+        "_minkowskisum" => Job::MinkowskiSum,
         _ => unreachable!(),
-    }
+    })
 }
 
 /// Why clap refuses the words.
@@ -255,7 +292,7 @@ fn matched<'a>(alloc: Global, words: &'a [&'a str]) -> Result<Job, WordsError>
     let Some((name, found)) = matches.subcommand() else {
         unreachable!()
     };
-    Ok(job_of(name, found))
+    Ok(job_of(alloc, name, found)?)
 }
 
 /// The word, or what it is read as.

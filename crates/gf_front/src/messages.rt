@@ -9,7 +9,7 @@ use crate::refusal::Refusal;
 use gf_frac::Overflow;
 use gf_outside::{Sink, WriteFault};
 use gf_poly::{ExponentOverflow, MarkedSet, Mono, Pairs, Poly};
-use gf_text::{Ring, Syntax};
+use gf_text::{Ring, Section, Syntax};
 use gf_vec::{IntVec, VecOp, WideVector};
 
 pub(crate) fn wide_vector<E: Sink>(faults: &mut E, wide: &WideVector) -> Result<(), WriteFault>
@@ -235,6 +235,23 @@ pub(crate) fn not_a_fan<E: Sink>(faults: &mut E, first: u32, second: u32) -> Res
             Piece::Index(second),
         ],
     )
+}
+
+pub(crate) fn missing<E: Sink>(faults: &mut E, section: Section) -> Result<(), WriteFault>
+    ensures { Told (E.held faults.old) (E.held faults.new) (E.faults faults.old) (E.faults faults.new)
+        (message [] (Refusal.Missing section)) result }
+{
+    write_pieces(
+        faults,
+        &[Piece::Text("E19 missing section "), Piece::Section(section)],
+    )
+}
+
+pub(crate) fn bad_ray<E: Sink>(faults: &mut E, number: u64) -> Result<(), WriteFault>
+    ensures { Told (E.held faults.old) (E.held faults.new) (E.faults faults.old) (E.faults faults.new)
+        (message [] (Refusal.BadRay number)) result }
+{
+    write_numbered(faults, "E20 bad ray ", number)
 }
 
 pub(crate) fn dimensions<E: Sink>(faults: &mut E, left: u64, right: u64) -> Result<(), WriteFault>
