@@ -48,6 +48,7 @@ work_apart (refusals.NotReduced set polynomial term) w e = elim e [ inl x ↦ x 
 work_apart (refusals.NotBasis set first second remainder) w e = elim e [ inl x ↦ x | inr x ↦ x ]
 work_apart (refusals.Inconsistent set multipliers) w e = elim e [ inl x ↦ x | inr x ↦ x ]
 work_apart (refusals.NotAFan first second) w e = elim e [ inl x ↦ x | inr x ↦ x ]
+work_apart (refusals.BadRay number) w e = elim e [ inl x ↦ x | inr x ↦ x ]
 work_apart (refusals.ListLimit written) w e = elim e [ inl x ↦ x | inr x ↦ x ]
 work_apart refusals.Memory w e = elim e [ inl x ↦ x | inr x ↦ x ]
 work_apart _ w e = absurd w
@@ -57,6 +58,7 @@ test_work (refusals.NotReduced set polynomial term) t = tt
 test_work (refusals.NotBasis set first second remainder) t = tt
 test_work (refusals.Inconsistent set multipliers) t = tt
 test_work (refusals.NotAFan first second) t = tt
+test_work (refusals.BadRay number) t = tt
 test_work _ t = absurd t
 
 text_no_test : (e : TextError) → IsOfTest (of_text e) → ⊥

@@ -31,6 +31,7 @@ IsOfText _ = ⊥
 -- what is read isn't of the form that the job needs
 abbrev pub IsOfForm : Refusal → Type 0
 IsOfForm (refusals.NotTermOrder index) = Unit {0}
+IsOfForm (refusals.Missing section) = Unit {0}
 IsOfForm (refusals.Dimensions left right) = Unit {0}
 IsOfForm (refusals.ZeroPolynomial set index) = Unit {0}
 IsOfForm (refusals.NotHomogeneous polynomial first second) = Unit {0}
@@ -57,6 +58,7 @@ IsOfTest (refusals.NotReduced set polynomial term) = Unit {0}
 IsOfTest (refusals.NotBasis set first second remainder) = Unit {0}
 IsOfTest (refusals.Inconsistent set multipliers) = Unit {0}
 IsOfTest (refusals.NotAFan first second) = Unit {0}
+IsOfTest (refusals.BadRay number) = Unit {0}
 IsOfTest _ = ⊥
 
 -- the second is the first; or both say that no positive weight gives the marking of a set, which different multipliers may show
@@ -75,6 +77,7 @@ IsOfWork (refusals.NotReduced set polynomial term) = Unit {0}
 IsOfWork (refusals.NotBasis set first second remainder) = Unit {0}
 IsOfWork (refusals.Inconsistent set multipliers) = Unit {0}
 IsOfWork (refusals.NotAFan first second) = Unit {0}
+IsOfWork (refusals.BadRay number) = Unit {0}
 IsOfWork (refusals.ListLimit written) = Unit {0}
 IsOfWork refusals.Memory = Unit {0}
 IsOfWork _ = ⊥
