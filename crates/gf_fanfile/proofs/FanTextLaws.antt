@@ -194,7 +194,7 @@ content_fault end cones xs e h = held_fault cone_machine (λ cs. the_cones cs) c
 content_fault end any xs e h = cc
 
 -- a content of its kind isn't refused
-content_sound : (end : ℕ) (k : ContentKind) (xs : List Lexeme) (c : Content) (e : FanFileError) → IsContent k (texts xs) c → IsContentFault end k xs e → ⊥
+pub content_sound : (end : ℕ) (k : ContentKind) (xs : List Lexeme) (c : Content) (e : FanFileError) → IsContent k (texts xs) c → IsContentFault end k xs e → ⊥
 content_sound end (number_to limit) xs (the_number n) e (most, is, text, small) (inl h) =
     let same : limit ≡ most = cc in
     let none : is_above limit xs ≡ false = ap (λ l. is_above l xs) same ∙ limit_given most n xs text small in

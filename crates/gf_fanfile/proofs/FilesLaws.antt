@@ -1,6 +1,6 @@
 -- What the contents of a text say of its file; a text says one file at most, and a sound one is refused for its numbers alone.
--- To cite: dimension_within, file_of_contents, text_refused, missing_ambient, missing_rays, missing_lineality, missing_cones,
--- file_once, refused_sound. The rest are steps.
+-- To cite: dimension_within, file_within, file_of_contents, text_refused, missing_ambient, missing_rays, missing_lineality, missing_cones,
+-- sections_once, file_once, behind_holds, length_sound, none_missing, refused_sound. The rest are steps.
 use Rattle.std.proofs.Common.{◌≡◌, ◌⊎◌, ℕ, ◌≤◌, ◌<◌, Bool, true, false, List, [], ◌∷◌, ◌++◌, length, Option, None, Some, refl, sym, ap, ap₂, subst, ◌∙◌, inl, inr, bytes_eq, arith, All, Contains, IfSome, if◌then◌else◌, ℤ}
 use Rattle.gf_text.specs.Machine.{texts}
 use Rattle.gf_text.proofs.SetTokensLaws.{is_mark, le_from}
@@ -46,6 +46,9 @@ dimension_within source c s = by c.ambient refl
     by : (o : Option ℕ) → c.ambient ≡ o → IfSome o (λ n. n ≤ 16)
     by None is = tt
     by (Some n) is = held_within (length source) [] (sections source) s.all n (text_said fan_table source s.all s.read) (s.kept.ambient ∙ ap number_kept is)
+
+pub file_within : (source : List ℕ) (f : FanFile) → IsFileOf source f → f.ambient ≤ 16
+file_within source f h = held_within (length source) [] (sections source) h.all f.ambient h.held h.ambient
 
 -- ---- contents and files
 
@@ -115,7 +118,7 @@ module _ (source : List ℕ) (c : Contents) (s : Says source c) where
 
 -- ---- one file
 
-sections_once : (source : List ℕ) (all other : Named) → AreSectionsOf source all → AreSectionsOf source other → all ≡ other
+pub sections_once : (source : List ℕ) (all other : Named) → AreSectionsOf source all → AreSectionsOf source other → all ≡ other
 sections_once source all other h k =
     let e = text_given fan_table source all h in
     let f = text_given fan_table source other k in
@@ -136,13 +139,13 @@ file_once source f g h k =
 
 -- ---- a sound file isn't refused
 
-behind_holds : {X : Type 0} (P Q : X → Type 0) (xs : List X) (i : ℕ) (x : X) → IsBehind Q xs i x → All P xs → P x
+pub behind_holds : {X : Type 0} (P Q : X → Type 0) (xs : List X) (i : ℕ) (x : X) → IsBehind Q xs i x → All P xs → P x
 behind_holds P Q xs i x b all = subst P (b.here x) (all i x b.within)
 
 behind_in : {X : Type 0} (Q : X → Type 0) (xs : List X) (i : ℕ) (x : X) → IsBehind Q xs i x → Contains xs x
 behind_in Q xs i x b = (i, b.within, b.here x)
 
-length_sound : (n : ℕ) (rs : List (List ℤ)) (e : FanFileError) → All (λ t. length t ≡ n) rs → IsLengthFault n rs e → ⊥
+pub length_sound : (n : ℕ) (rs : List (List ℤ)) (e : FanFileError) → All (λ t. length t ≡ n) rs → IsLengthFault n rs e → ⊥
 length_sound n rs e all h = h.other (behind_holds (λ t. length t ≡ n) (λ t. length t ≡ n) rs h.place h.row h.first all)
 
 form_sound : (f : FanFile) (e : FanFileError) → IsSound f → AreTestsWithin f → IsFormFault f e → ⊥
@@ -160,7 +163,7 @@ form_sound f e s within (at_number p r l o h) =
     let above = h.above in
     omega (arith, small, above)
 
-none_missing : (source : List ℕ) (f : FanFile) (h : IsFileOf source f) → first_missing wanted h.all ≡ None
+pub none_missing : (source : List ℕ) (f : FanFile) (h : IsFileOf source f) → first_missing wanted h.all ≡ None
 none_missing source f h = (let a = h.ambient in let r = h.rays in let l = h.lineality in let m = h.cones in rw (a, r, l, m) refl)
 
 pub refused_sound : (source : List ℕ) (f : FanFile) (e : FanFileError) → IsFileOf source f → IsSound f → AreTestsWithin f → IsFileRefused source e → e ≡ errors.Memory

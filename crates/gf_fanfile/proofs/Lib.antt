@@ -16,3 +16,9 @@ pub mod WrittenLaws  -- sections that are written are read again
 pub mod PrintedRowsLaws  -- tokens of printed rows
 pub mod PrintedConesLaws  -- tokens of printed numbers and cones
 pub mod AgainLaws  -- what is written of a fan is read again
+pub mod OnceLaws  -- a text is refused in one way, but for limits
+pub mod FanPartsLaws  -- what is written of a fan is read off it
+pub mod GeneratedLaws  -- Farkas' lemma; the dual cone of the dual cone
+pub mod FilesFansLaws  -- the cones of a file, and why they have no fan
+pub mod WrittenFansLaws  -- what is written of a fan is a file whose cones can be built
+pub mod FanOnceLaws  -- a fan file is refused in one way, but for limits

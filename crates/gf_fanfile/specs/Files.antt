@@ -114,3 +114,9 @@ pub data IsFileRefused (source : List ℕ) (e : FanFileError) : Type 0 where
   not_there : (all : Named) (section : Section) → AreSectionsOf source all → first_missing wanted all ≡ Some (section_name section) → e ≡ errors.Missing section → IsFileRefused source e
   in_form : (f : FanFile) → IsFileOf source f → IsFormFault f e → IsFileRefused source e
   no_memory : e ≡ errors.Memory → IsFileRefused source e
+
+-- it says that an operation leaves the range, or that there is no memory; what else it says, it says of the text alone
+abbrev pub IsOfLimits : FanFileError → Type 0
+IsOfLimits (errors.Cone step) = Unit {0}
+IsOfLimits errors.Memory = Unit {0}
+IsOfLimits _ = ⊥

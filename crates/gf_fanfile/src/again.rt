@@ -3,9 +3,14 @@ ghost use Rattle.std.specs.Prelude.{◌<◌, ◌≤◌, All, length, unsigned_ab
 ghost use Rattle.gf_gordan.specs.Alternative.{AreRows};
 ghost use Rattle.gf_fanfile.specs.ConeText.{most_number};
 ghost use Rattle.gf_fanfile.specs.RowText.{most_row_entry};
-ghost use Rattle.gf_fanfile.specs.FansAgain.{AreWritable, IsWritableCone, AreNumbersBelow, IsWritable, FansAreReadAgain};
+ghost use Rattle.gf_fanfile.specs.Files.{IsFileOf};
+ghost use Rattle.gf_fanfile.specs.FanWords.{fan_text};
+ghost use Rattle.gf_fanfile.specs.FansAgain.{AreWritable, IsWritableCone, AreNumbersBelow, IsWritable, file_of, FansAreReadAgain};
+ghost use Rattle.gf_fanfile.specs.FanTexts.{listed_cone, listed_cones, parts_of_fan};
+ghost use Rattle.gf_fanfile.specs.WrittenFans.{WrittenFansAreSound, WrittenConesAreRead};
 
 use crate::parts::{FanParts, ListedCone};
+use gf_fan::{Fan, FanCone};
 use gf_vec::IntVec;
 
 /// What is written of a fan within the limits of fan files is read again: the ambient dimension, the rays, the basis of the
@@ -80,4 +85,60 @@ pub fn parts_are_writable(parts: &FanParts)
     vectors_are_few(parts.rays);
     vectors_are_few(parts.lineality);
     cones_are_few(parts.cones);
+}
+
+/// What is written of a fan, whose cones have the rays of their rows, is a file whose cones can be built.
+pub fn written_fans_are_sound()
+    ensures { WrittenFansAreSound }
+{}
+
+/// The cones of the file that a fan's text says are its maximal cones.
+pub fn written_cones_are_read()
+    ensures { WrittenConesAreRead }
+{}
+
+/// Numbers of 32 bits are within the limit of ray numbers.
+fn numbers_are_within(numbers: &[u32])
+    ensures { All (λ k. k ≤ most_number) numbers.now }
+{
+    'numbers: for number in numbers {
+        let _number = *number;
+    }
+}
+
+/// The dimension and the numbers of a cone of a fan are within their limit.
+fn fan_cone_is_writable(cone: &FanCone)
+    ensures { IsWritableCone (listed_cone cone.now) }
+{
+    let _dim = cone.dim;
+    numbers_are_within(cone.numbers.as_slice());
+}
+
+/// The cones of a fan can be written.
+fn fan_cones_are_writable(cones: &[FanCone])
+    ensures all { All IsWritableCone (listed_cones cones.now) }
+    ensures count { length cones.now ≤ most_number }
+{
+    'cones: for cone in cones {
+        fan_cone_is_writable(cone);
+    }
+}
+
+/// What is written of a fan is within the limits of fan files, where its ambient dimension is from 1 to 16 and its rays and its
+/// lineality vectors have as many entries; and its text says what was written of it.
+pub fn fan_is_read_again(fan: &Fan)
+    requires positive { 0 < fan.now.ambient }
+    requires dimension { fan.now.ambient ≤ 16 }
+    requires rays { AreRows fan.now.ambient fan.now.rays }
+    requires lineality { AreRows fan.now.ambient fan.now.lineality }
+    ensures writable { IsWritable (parts_of_fan fan.now) }
+    ensures file { IsFileOf (fan_text (parts_of_fan fan.now)) (file_of (parts_of_fan fan.now)) }
+{
+    fans_are_read_again();
+    fan_cones_are_writable(fan.cones());
+    rows_are_writable(fan.ambient(), fan.rays());
+    rows_are_writable(fan.ambient(), fan.lineality());
+    rows_are_writable(fan.ambient(), fan.orthogonal());
+    vectors_are_few(fan.rays());
+    vectors_are_few(fan.lineality());
 }

@@ -3,7 +3,8 @@ ghost use Rattle.std.specs.Prelude.{◌≡◌};
 ghost use Rattle.gf_fanfile.specs.declared.error.FanFileError.TheVariants.{Memory};
 ghost use Rattle.gf_fanfile.specs.Refused.{refused_before, cause_of};
 
-use gf_gordan::ConeOverflow;
+use gf_fan::FanError;
+use gf_gordan::{ConeOverflow, GordanError};
 use gf_text::{Kind, Section, Syntax};
 use std::alloc::{AllocError, AllocFailed};
 
@@ -71,5 +72,32 @@ impl<T: Drop> From<AllocFailed<T>> for FanFileError {
 
     fn from(_: AllocFailed<T>) -> FanFileError {
         FanFileError::Memory
+    }
+}
+
+impl From<GordanError> for FanFileError {
+    ghost use Rattle.gf_fanfile.specs.FilesFans.{refusal_of_gordan};
+
+    ghost from_gives = { λ error e. e ≡ refusal_of_gordan error };
+
+    fn from(error: GordanError) -> FanFileError {
+        match error {
+            GordanError::Cone(step) => FanFileError::Cone(step),
+            GordanError::Memory => FanFileError::Memory,
+        }
+    }
+}
+
+impl From<FanError> for FanFileError {
+    ghost use Rattle.gf_fanfile.specs.FilesFans.{refusal_of_fan};
+
+    ghost from_gives = { λ error e. e ≡ refusal_of_fan error };
+
+    fn from(error: FanError) -> FanFileError {
+        match error {
+            FanError::Cone(step) => FanFileError::Cone(step),
+            FanError::NotAFan { first, second } => FanFileError::NotAFan { first, second },
+            FanError::Memory => FanFileError::Memory,
+        }
     }
 }

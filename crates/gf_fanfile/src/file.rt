@@ -5,7 +5,7 @@ ghost use Rattle.gf_gordan.specs.Steps.{Failed};
 ghost use Rattle.gf_duality.specs.Rays.{Generated};
 ghost use Rattle.gf_fanfile.specs.declared.error.FanFileError.TheVariants.{Memory};
 ghost use Rattle.gf_fanfile.specs.Contents.{Says};
-ghost use Rattle.gf_fanfile.specs.Files.{IsFileOf, IsOutside, AreBelow, IsSound, IsRayTestStep, AreTestsWithin, IsBehind, IsLengthFault, IsRayFault, IsNumberFault, IsFormFault, IsFileRefused};
+ghost use Rattle.gf_fanfile.specs.Files.{IsFileOf, IsOutside, AreBelow, IsSound, IsRayTestStep, AreTestsWithin, IsBehind, IsLengthFault, IsRayFault, IsNumberFault, IsFormFault, IsFileRefused, IsOfLimits};
 
 use crate::cones::{ConeList, RayNumbers};
 use crate::error::FanFileError;
@@ -202,6 +202,7 @@ pub fn read_file(alloc: Global, source: &[u8]) -> Result<FanFile, FanFileError>
     ensures sound { IfOk result IsSound }
     ensures err { IfErr result (IsFileRefused source.now) }
     ensures complete { (f : FanFile) → IsFileOf source.now f → IsSound f → AreTestsWithin f → MatchResult result (λ g. g ≡ f) (λ e. e ≡ Memory) }
+    ensures always { (e : FanFileError) → IsFileRefused source.now e → (IsOfLimits e → ⊥) → MatchResult result (λ _. ⊥) (λ d. (d ≡ e) ⊎ IsOfLimits d) }
 {
     let file = whole(contents_of(alloc, source)?)?;
     check(alloc, &file)?;

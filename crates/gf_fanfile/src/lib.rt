@@ -7,7 +7,10 @@
 
 mod again;
 mod cones;
+mod duals;
 mod error;
+mod fan;
+mod fan_writer;
 mod file;
 mod lines;
 mod numbers;
@@ -17,9 +20,15 @@ mod rows;
 mod sections;
 mod writer;
 
-pub use again::{fans_are_read_again, parts_are_writable};
+pub use again::{
+    fan_is_read_again, fans_are_read_again, parts_are_writable, written_cones_are_read,
+    written_fans_are_sound,
+};
 pub use cones::{ConeList, RayNumbers};
+pub use duals::{duals_of_duals, farkas_lemma};
 pub use error::FanFileError;
+pub use fan::read;
+pub use fan_writer::write;
 pub use file::{FanFile, read_file};
 pub use parts::{FanParts, ListedCone};
 pub use rows::Vectors;

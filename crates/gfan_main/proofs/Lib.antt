@@ -10,7 +10,7 @@ pub mod GroebnerConeLaws  -- what `_groebnercone` answers, and why it doesn't
 pub mod ContainmentLaws  -- whether an ideal contains polynomials
 pub mod ZipLaws  -- two lists, element by element
 pub mod ReducedListLaws  -- lists of marked sets that are read as reduced bases
-pub mod FanTextLaws  -- what is written of a fan, and why there is none
+pub mod FanTextLaws  -- why cones have no fan
 pub mod ToPolyhedralFanLaws  -- the fan of the cones of marked sets
 pub mod HomogeneitySpaceLaws  -- the homogeneity space of a set
 pub mod RefusedLaws  -- which refusals are told without a ring

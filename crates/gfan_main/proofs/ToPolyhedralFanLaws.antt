@@ -33,7 +33,8 @@ use Rattle.gf_items.proofs.CommandLaws.{IsExactCommand, IsTestedCommand}
 use Rattle.gfan_main.specs.CheckedSets.{of_check}
 use Rattle.gfan_main.specs.Stats.{of_gordan}
 use Rattle.gfan_main.specs.ReducedSets.{IsReducedAsRead, IsRefusedFrom}
-use Rattle.gfan_main.specs.FanTexts.{IsFanText, of_fan}
+use Rattle.gf_fanfile.specs.FanTexts.{IsFanText}
+use Rattle.gfan_main.specs.FanTexts.{of_fan}
 use Rattle.gfan_main.specs.ToPolyhedralFan.{inequalities_of, IsConeOfSet, IsFanOfSetsText, IsConeStepOfSet, IsConeStepOfSets, IsNoFanOfSets, AreSetsWithin, to_polyhedral_fan_command}
 use Rattle.gfan_main.specs.Refused.{IsNamedBy}
 use Rattle.gfan_main.proofs.ReadSetLaws.{IsSetKept}

@@ -15,7 +15,8 @@ use Rattle.gf_front.specs.declared.refusal.Refusal.TheVariants as refusals
 use Rattle.gf_items.specs.Sources.{ring_set_vector}
 use Rattle.gf_items.specs.Commands.{Command}
 use Rattle.gfan_main.specs.Stats.{of_gordan}
-use Rattle.gfan_main.specs.FanTexts.{IsFanText, of_fan}
+use Rattle.gf_fanfile.specs.FanTexts.{IsFanText}
+use Rattle.gfan_main.specs.FanTexts.{of_fan}
 
 -- ---- the space
 

@@ -14,7 +14,7 @@ pub mod Stats  -- what `_stats` reads and writes
 pub mod Certificates  -- what stands for a basis in the list, with certificates or without
 pub mod ReducedSets  -- lists of marked sets that are read as reduced bases
 pub mod WeightVector  -- what `_weightvector` reads and writes
-pub mod FanTexts  -- the text of the fan of cones
+pub mod FanTexts  -- why there is no fan, as a refusal of the run
 pub mod ToPolyhedralFan  -- what `_topolyhedralfan` reads and writes
 pub mod HomogeneitySpace  -- what `_homogeneityspace` reads and writes
 pub mod ToldCones  -- what `_groebnercone` tells of a cone

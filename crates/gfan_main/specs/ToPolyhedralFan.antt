@@ -18,7 +18,8 @@ use Rattle.gf_items.specs.Sources.{ring_marked_sets}
 use Rattle.gf_items.specs.Commands.{Command}
 use Rattle.gfan_main.specs.CheckedSets.{of_check}
 use Rattle.gfan_main.specs.ReducedSets.{AreReducedAsRead, IsRefusedFrom, IsCheckedWithin}
-use Rattle.gfan_main.specs.FanTexts.{IsFanText, of_fan}
+use Rattle.gf_fanfile.specs.FanTexts.{IsFanText}
+use Rattle.gfan_main.specs.FanTexts.{of_fan}
 
 -- ---- the cones
 

@@ -12,7 +12,8 @@ use Rattle.gf_fan.specs.Refusals.{IsFanRefusal, IsFanWithinLimits}
 use Rattle.gf_front.specs.declared.refusal.Refusal.{Refusal}
 use Rattle.gf_front.specs.declared.refusal.Refusal.TheVariants as refusals
 use Rattle.gfan_main.specs.declared.told_cone.ConeOptions.{ConeOptions}
-use Rattle.gfan_main.specs.FanTexts.{IsFanText, of_fan}
+use Rattle.gf_fanfile.specs.FanTexts.{IsFanText}
+use Rattle.gfan_main.specs.FanTexts.{of_fan}
 use Rattle.gfan_main.specs.ToPolyhedralFan.{inequalities_of}
 
 -- a refusal of the sections as one of the run

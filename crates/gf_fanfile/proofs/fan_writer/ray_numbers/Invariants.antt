@@ -1,5 +1,5 @@
 use Rattle.std.proofs.Common.{◌≡◌, take}
-use Rattle.gfan_main.proofs.fan_text.ray_numbers.Given as goal
+use Rattle.gf_fanfile.proofs.fan_writer.ray_numbers.Given as goal
 
 -- the numbers so far
 abbrev pub invariant-numbers : goal.invariant-numbers

@@ -1,6 +1,6 @@
 use Rattle.std.proofs.Common.{◌≡◌, take}
-use Rattle.gfan_main.specs.FanTexts.{listed_cones}
-use Rattle.gfan_main.proofs.fan_text.listed_cones.Given as goal
+use Rattle.gf_fanfile.specs.FanTexts.{listed_cones}
+use Rattle.gf_fanfile.proofs.fan_writer.listed_cones.Given as goal
 
 -- the cones so far
 abbrev pub invariant-cones : goal.invariant-cones

@@ -1,8 +1,8 @@
 use Rattle.std.proofs.Common.{◌≡◌, ◌∙◌, IfOk, ap, ap₂, subst}
 use Rattle.gf_fanfile.specs.FanWords.{FanWords, fan_text}
-use Rattle.gfan_main.specs.FanTexts.{listed_cones, listed_at}
-use Rattle.gfan_main.proofs.FanTextLaws.{maximal_inside, parts_same}
-use Rattle.gfan_main.proofs.fan_text.text_of.Goals as goal
+use Rattle.gf_fanfile.specs.FanTexts.{listed_cones, listed_at}
+use Rattle.gf_fanfile.proofs.FanPartsLaws.{maximal_inside, parts_same}
+use Rattle.gf_fanfile.proofs.fan_writer.write.Goals as goal
 
 pub listed_at-requires : goal.listed_at-requires
 listed_at-requires c = maximal_inside c.args.fan.now c.maximal.result.now c.cones-2.result.now c.cones-2.ensures.fan c.maximal.ensures c.cones-2.ensures.value

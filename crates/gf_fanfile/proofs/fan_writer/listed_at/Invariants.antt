@@ -1,6 +1,6 @@
 use Rattle.std.proofs.Common.{◌≡◌, take}
-use Rattle.gfan_main.specs.FanTexts.{listed_at}
-use Rattle.gfan_main.proofs.fan_text.listed_at.Given as goal
+use Rattle.gf_fanfile.specs.FanTexts.{listed_at}
+use Rattle.gf_fanfile.proofs.fan_writer.listed_at.Given as goal
 
 -- the places so far
 abbrev pub invariant-places : goal.invariant-places

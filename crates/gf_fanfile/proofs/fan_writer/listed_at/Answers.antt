@@ -1,5 +1,5 @@
-use Rattle.gfan_main.proofs.FanTextLaws.{listed_more}
-use Rattle.gfan_main.proofs.fan_text.listed_at.Goals as goal
+use Rattle.gf_fanfile.proofs.FanPartsLaws.{listed_more}
+use Rattle.gf_fanfile.proofs.fan_writer.listed_at.Goals as goal
 
 pub places-preserved : goal.places-preserved
 places-preserved c =

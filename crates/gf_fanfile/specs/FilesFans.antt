@@ -1,0 +1,101 @@
+-- The fan that a fan file says, and why there is none.
+-- A cone of a file is what the rays with its numbers and the lineality space generate. Its rows are the rays and the lineality
+-- basis of the dual cone, whose rows are these rays and the vectors of the lineality space.
+-- Laws: proofs/GeneratedLaws.antt, proofs/FilesFansLaws.antt.
+use Rattle.std.specs.Prelude.{◌≡◌, ◌↔◌, ℕ, List, ℤ, length, Contains}
+use Rattle.std.specs.List.{AllZip}
+use Rattle.gf_gordan.specs.declared.error.ConeOverflow.{ConeOverflow}
+use Rattle.gf_gordan.specs.declared.error.GordanError.{GordanError}
+use Rattle.gf_gordan.specs.declared.error.GordanError.TheVariants as gordan_errors
+use Rattle.gf_duality.specs.Rays.{Generated, IsRays}
+use Rattle.gf_duality.specs.Faces.{IsInCone}
+use Rattle.gf_duality.specs.Stages.{IsRaysStep}
+use Rattle.gf_fans.specs.FaceLists.{numbered}
+use Rattle.gf_rays.specs.Cones.{RowsAndRays, rows_of}
+use Rattle.gf_fan.specs.declared.error.FanError.{FanError}
+use Rattle.gf_fan.specs.declared.error.FanError.TheVariants as fan_errors
+use Rattle.gf_fan.specs.FanLists.{FanLists}
+use Rattle.gf_fan.specs.FansOfCones.{IsFanOf}
+use Rattle.gf_fan.specs.Pairs.{AreMeeting}
+use Rattle.gf_fan.specs.Refusals.{IsFanRefusal, IsFanWithinLimits}
+use Rattle.gf_fanfile.specs.declared.error.FanFileError.{FanFileError}
+use Rattle.gf_fanfile.specs.declared.error.FanFileError.TheVariants as errors
+use Rattle.gf_fanfile.specs.declared.file.FanFile.{FanFile}
+use Rattle.gf_fanfile.specs.Files.{IsFileOf, IsSound, AreTestsWithin, IsFileRefused}
+
+-- ---- the fan
+
+-- c is the cone that these rays and lineality vectors generate, by the rays and the lineality basis of the dual cone as rows
+pub record IsGeneratedCone (n : ℕ) (rays lineality : List (List ℤ)) (c : RowsAndRays) : Type 0 where
+  pub ambient : c.ambient ≡ n
+  pub generated : (v : List ℤ) → length v ≡ n → IsInCone (rows_of c) v ↔ Generated n rays lineality v
+  pub rows : IsRays n rays lineality c.equations c.inequalities
+  pub are_rays : IsRays n c.inequalities c.equations c.lineality c.rays
+
+-- the cone of these numbers in a file
+abbrev pub IsConeOfFile : FanFile → List ℕ → RowsAndRays → Type 0
+IsConeOfFile f numbers c = IsGeneratedCone f.ambient (numbered f.rays numbers) f.lineality c
+
+-- the cones of a file, one for each list of numbers, in order
+abbrev pub AreConesOfFile : FanFile → List RowsAndRays → Type 0
+AreConesOfFile f cones = AllZip (IsConeOfFile f) f.cones cones
+
+-- the fan of the cones of a file
+pub record IsFanOfFile (f : FanFile) (h : FanLists) : Type 0 where
+  pub cones : List RowsAndRays
+  pub of_file : AreConesOfFile f cones
+  pub is_fan : IsFanOf f.ambient cones h
+
+-- the text says a file whose cones can be built, and this is their fan
+pub record IsFanOfText (source : List ℕ) (h : FanLists) : Type 0 where
+  pub file : FanFile
+  pub is_file : IsFileOf source file
+  pub sound : IsSound file
+  pub of_file : IsFanOfFile file h
+
+-- ---- operations
+
+-- an operation of finding the rays of the dual cone of these rays and lineality vectors, or then those of its dual cone
+pub data IsGeneratingStep (n : ℕ) (rays lineality : List (List ℤ)) (s : ConeOverflow) : Type 0 where
+  of_dual : IsRaysStep n rays lineality s → IsGeneratingStep n rays lineality s
+  of_cone : (lines duals : List (List ℤ)) → IsRays n rays lineality lines duals → IsRaysStep n duals lines s → IsGeneratingStep n rays lineality s
+
+-- an operation of finding one of the cones of a file
+pub record IsConesStep (f : FanFile) (s : ConeOverflow) : Type 0 where
+  pub numbers : List ℕ
+  pub listed : Contains f.cones numbers
+  pub step : IsGeneratingStep f.ambient (numbered f.rays numbers) f.lineality s
+
+-- No operation on this file leaves the range: of the tests of its rays, of finding its cones, of making their fan.
+pub record IsFileWithinLimits (f : FanFile) : Type 0 where
+  pub tests : AreTestsWithin f
+  pub cones : (s : ConeOverflow) → IsConesStep f s → ⊥
+  pub fan : (cones : List RowsAndRays) → AreConesOfFile f cones → IsFanWithinLimits f.ambient cones
+
+-- the meet of any two of its cones is a face of both
+abbrev pub AreFileConesMeeting : FanFile → Type 0
+AreFileConesMeeting f = (cones : List RowsAndRays) → AreConesOfFile f cones → AreMeeting f.ambient cones
+
+-- ---- refusals
+
+-- a refusal of finding rays as one of a fan file
+abbrev pub refusal_of_gordan : GordanError → FanFileError
+refusal_of_gordan (gordan_errors.Cone s) = errors.Cone s
+refusal_of_gordan gordan_errors.Memory = errors.Memory
+
+-- a refusal of a fan as one of a fan file
+abbrev pub refusal_of_fan : FanError → FanFileError
+refusal_of_fan (fan_errors.Cone s) = errors.Cone s
+refusal_of_fan (fan_errors.NotAFan first second) = errors.NotAFan first second
+refusal_of_fan fan_errors.Memory = errors.Memory
+
+-- the fan of the cones of this file is refused so: an operation of finding its cones leaves the range, or they are found and this is
+-- why they have no fan
+pub data IsFanFault (f : FanFile) (e : FanFileError) : Type 0 where
+  in_cone : (s : ConeOverflow) → IsConesStep f s → e ≡ errors.Cone s → IsFanFault f e
+  in_fan : (cones : List RowsAndRays) (d : FanError) → AreConesOfFile f cones → IsFanRefusal f.ambient cones d → e ≡ refusal_of_fan d → IsFanFault f e
+
+-- the text is refused so: it says no file whose cones can be built, or they have no fan; or there is no memory
+pub data IsFanFileRefusal (source : List ℕ) (e : FanFileError) : Type 0 where
+  before_cones : IsFileRefused source e → IsFanFileRefusal source e
+  behind_form : (f : FanFile) → IsFileOf source f → IsSound f → IsFanFault f e → IsFanFileRefusal source e
