@@ -2,6 +2,7 @@
 ghost use Rattle.std.specs.Prelude.{◌≡◌, ◌≢◌, [], ◌∷◌, IfOk};
 ghost use Rattle.gf_poly.specs.Polynomial.{HasVariables};
 ghost use Rattle.gf_patterns.specs.Patterns.{points};
+ghost use Rattle.gf_patterns.specs.PatternRows.{AreSingleCones, ArePairCones};
 ghost use Rattle.gf_patterns.specs.PatternFans.{IsPrevarietyList, IsMinkowskiList};
 
 use crate::cone_rows::ConeRows;
@@ -16,7 +17,8 @@ use std::alloc::{AllocError, Global};
 /// Want of memory.
 pub fn hypersurface_cones(alloc: Global, n: u32, f: &Poly) -> Result<Vec<ConeRows>, AllocError>
     requires { HasVariables n f.now }
-    ensures { IfOk result (λ cones. IsPrevarietyList n (points f.now ∷ []) cones.items) }
+    ensures fan { IfOk result (λ cones. IsPrevarietyList n (points f.now ∷ []) cones.items) }
+    ensures rows { IfOk result (λ cones. ArePairCones (points f.now) cones.items) }
 {
     gordans_alternative();
     pair_cones(alloc, f.terms())
@@ -30,7 +32,8 @@ pub fn hypersurface_cones(alloc: Global, n: u32, f: &Poly) -> Result<Vec<ConeRow
 pub fn minkowski_cones(alloc: Global, n: u32, f: &Poly) -> Result<Vec<ConeRows>, AllocError>
     requires variables { HasVariables n f.now }
     requires not_zero { f.now ≢ [] }
-    ensures { IfOk result (λ cones. IsMinkowskiList n (points f.now ∷ []) cones.items) }
+    ensures fan { IfOk result (λ cones. IsMinkowskiList n (points f.now ∷ []) cones.items) }
+    ensures rows { IfOk result (λ cones. AreSingleCones (points f.now) cones.items) }
 {
     gordans_alternative();
     single_cones(alloc, f.terms())
