@@ -1,6 +1,5 @@
 -- The common refinement of the fans of the first polynomials, one further.
-use Rattle.std.proofs.Common.{◌≡◌, ◌≢◌, ℕ, ◌+◌, ◌<◌, ◌≤◌, List, [], ◌∷◌, ◌++◌, length, map, take, get_or, ℤ, Contains, sym, subst}
-use Rattle.std.proofs.lemmas.List.{take_all}
+use Rattle.std.proofs.Common.{◌≡◌, ◌≢◌, ℕ, ◌+◌, ◌<◌, List, [], ◌∷◌, length, map, take, get_or, Contains, sym, subst}
 use Rattle.gf_gordan.specs.Alternative.{GordansAlternative}
 use Rattle.gf_fan.specs.declared.cones.FanCone.{FanCone}
 use Rattle.gf_fan.specs.FanLists.{FanLists}
@@ -35,9 +34,6 @@ so_far_next kind n set i f h next new gordan law of_faces z l e nz p s r parts o
   fan = subst (λ As. IsFanBy kind n As new) (sym (points_next set i f l e)) (refined_by kind n (map points (take i set)) (points f ∷ []) h next new gordan law of_faces (front_points set i z) (own_points f nz) old.fan p r);
   systems = refined_systems (IsConeBy kind (map points set)) h next new old.systems (more_systems (IsConeBy kind (points f ∷ [])) (IsConeBy kind (map points set)) next (more_cones kind (points f ∷ []) (map points set) (within_set set i f l e)) s) parts;
 }
-
-pub so_far_all : (kind : Kind) (n : ℕ) (set : List Terms) (i : ℕ) (h : FanLists) → length set ≤ i → IsSoFar kind n set i h → IsFanBy kind n (map points set) h
-so_far_all kind n set i h l s = subst (λ (t : List Terms). IsFanBy kind n (map points t) h) (take_all i set l) s.fan
 
 pub one_step : (kind : Kind) (n : ℕ) (set : List Terms) (i : ℕ) (f : Terms) (e : TropicalError) → i < length set → f ≡ get_or set i f → Fails (IsStepOf (IsConeBy kind (points f ∷ [])) n) e → Fails (IsStepOf (IsConeBy kind (map points set)) n) e
 one_step kind n set i f e l q x = Fails-weaker (IsStepOf (IsConeBy kind (points f ∷ [])) n) (IsStepOf (IsConeBy kind (map points set)) n) e (λ s k. step_into (IsConeBy kind (points f ∷ [])) (IsConeBy kind (map points set)) n s (more_cones kind (points f ∷ []) (map points set) (within_set set i f l q)) k) x

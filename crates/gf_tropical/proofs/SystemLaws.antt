@@ -1,5 +1,5 @@
 -- The systems of rows that fans come of.
-use Rattle.std.proofs.Common.{◌≡◌, ℕ, List, [], ◌∷◌, ◌++◌, map, filter, Bool, true, false, cond, ℤ, All, Any, Contains, refl, sym, ap₂, subst, inl, inr}
+use Rattle.std.proofs.Common.{◌≡◌, ℕ, List, [], ◌∷◌, ◌++◌, map, ℤ, All, Any, Contains, refl, sym, ap₂, subst, inl, inr}
 use Rattle.gf_gordan.specs.declared.error.ConeOverflow.{ConeOverflow}
 use Rattle.gf_gordan.specs.declared.error.GordanError.{GordanError}
 use Rattle.gf_gordan.specs.declared.error.GordanError.TheVariants as gordan
@@ -19,7 +19,6 @@ use Rattle.gf_fan.proofs.ZeroRowLaws.{are_zero_rows}
 use Rattle.gf_refine.specs.FansRefined.{IsPartOfMeet}
 use Rattle.gf_refine.specs.Refusals.{IsRefineStep}
 use Rattle.gf_poly.specs.Polynomial.{Terms}
-use Rattle.gf_patterns.specs.Patterns.{points}
 use Rattle.gf_patterns.specs.PatternRows.{AreSingleCones, ArePairCones}
 use Rattle.gf_patterns.specs.PatternFans.{whole_space}
 use Rattle.gf_tropical.specs.declared.error.TropicalError.{TropicalError}
@@ -28,7 +27,7 @@ use Rattle.gf_tropical.specs.declared.kind.Kind.{Kind}
 use Rattle.gf_tropical.specs.declared.kind.Kind.TheVariants.{Prevariety, Minkowski}
 use Rattle.gf_tropical.specs.Kinds.{IsConeBy}
 use Rattle.gf_tropical.specs.Systems.{IsSystemOf, start, whole, face, both}
-use Rattle.gf_tropical.specs.Refusals.{of_gordan, NoneIsZero, IsZeroRefusal, IsTropicalRefusal, IsTropicalWithinLimits}
+use Rattle.gf_tropical.specs.Refusals.{of_gordan, IsTropicalRefusal, IsTropicalWithinLimits}
 use Rattle.gf_tropical.specs.Making.{IsFanOfRows, AreOfSystems, IsStepOf, Fails}
 
 -- ---- systems
@@ -125,16 +124,6 @@ pub whole_into : (G : Rows → Type 0) (c : Rows) → Contains (whole_space ∷ 
 whole_into G c k = elim (in_cons whole_space [] c k) [ inl e ↦ whole c e | inr i ↦ absurd (none_in c i) ]
 
 -- ---- what a refusal says
-
-pub refused_of : (kind : Kind) (n : ℕ) (set : List Terms) (e : TropicalError) → NoneIsZero set → Fails (IsStepOf (IsConeBy kind (map points set)) n) e → IsTropicalRefusal (λ As. IsSystemOf (IsConeBy kind As)) n set e
-refused_of kind n set (Cone s) z x = (z, x)
-refused_of kind n set (ZeroPolynomial number index) z x = absurd x
-refused_of kind n set Memory z x = x
-
-pub refused_zero : (kind : Kind) (n : ℕ) (set : List Terms) (e : TropicalError) → IsZeroRefusal set e → IsTropicalRefusal (λ As. IsSystemOf (IsConeBy kind As)) n set e
-refused_zero kind n set (Cone s) x = absurd x
-refused_zero kind n set (ZeroPolynomial number index) x = x
-refused_zero kind n set Memory x = absurd x
 
 pub only_memory : (IsSystem : List (List (List ℤ)) → Rows → Type 0) (n : ℕ) (set : List Terms) (e : TropicalError) → IsTropicalWithinLimits IsSystem n set → IsTropicalRefusal IsSystem n set e → e ≡ Memory
 only_memory IsSystem n set (Cone s) w x = absurd (w.within s x.1)

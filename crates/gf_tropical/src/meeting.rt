@@ -38,11 +38,7 @@ fn with_rays(alloc: Global, n: u32, cones: &[ConeRows]) -> Result<Vec<Rays>, Gor
 /// # Errors
 /// An operation of the system of one of the cones, or of one of their faces, that leaves the range; want of memory; there is none
 /// for `2^32` cones or more.
-pub(crate) fn fan_of_cones(
-    alloc: Global,
-    n: u32,
-    cones: &[ConeRows],
-) -> Result<Fan, TropicalError>
+pub(crate) fn fan_of_cones(alloc: Global, n: u32, cones: &[ConeRows]) -> Result<Fan, TropicalError>
     requires ambient { n < 2 ^ 31 }
     requires width { HaveEntries n cones.now }
     requires meeting { MeetPairwise n cones.now }

@@ -33,12 +33,7 @@ pub(crate) fn fan_of_none(kind: Kind, alloc: Global, n: u32) -> Result<Fan, Trop
 ///
 /// # Errors
 /// An operation of the system of one of its cones, or of one of their faces, that leaves the range; want of memory.
-pub(crate) fn fan_of_one(
-    kind: Kind,
-    alloc: Global,
-    n: u32,
-    f: &Poly,
-) -> Result<Fan, TropicalError>
+pub(crate) fn fan_of_one(kind: Kind, alloc: Global, n: u32, f: &Poly) -> Result<Fan, TropicalError>
     requires ambient { n < 2 ^ 31 }
     requires variables { HasVariables n f.now }
     requires not_zero { f.now ≢ [] }
