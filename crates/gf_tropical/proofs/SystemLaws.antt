@@ -28,7 +28,7 @@ use Rattle.gf_tropical.specs.declared.kind.Kind.TheVariants.{Prevariety, Minkows
 use Rattle.gf_tropical.specs.Kinds.{IsConeBy}
 use Rattle.gf_tropical.specs.Systems.{IsSystemOf, start, whole, face, both}
 use Rattle.gf_tropical.specs.Refusals.{of_gordan, IsTropicalRefusal, IsTropicalWithinLimits}
-use Rattle.gf_tropical.specs.Making.{IsFanOfRows, AreOfSystems, IsStepOf, Fails}
+use Rattle.gf_tropical.specs.Making.{IsFanOfRows, AreOfSystems, IsStepOf, IsWidthRefusal}
 
 -- ---- systems
 
@@ -42,14 +42,14 @@ systems_into F G c to (both d e f is x y) = both d e f is (systems_into F G d to
 pub step_into : (F G : Rows → Type 0) (n : ℕ) (s : ConeOverflow) → ((d : Rows) → F d → IsSystemOf G d) → IsStepOf F n s → IsStepOf G n s
 step_into F G n s to x = record { system = x.system; is_system = systems_into F G x.system to x.is_system; step = x.step }
 
-pub Fails-weaker : (P Q : ConeOverflow → Type 0) (e : TropicalError) → ((s : ConeOverflow) → P s → Q s) → Fails P e → Fails Q e
-Fails-weaker P Q (Cone s) to x = to s x
-Fails-weaker P Q (ZeroPolynomial number index) to x = x
-Fails-weaker P Q Memory to x = x
+pub IsWidthRefusal-weaker : (P Q : ConeOverflow → Type 0) (e : TropicalError) → ((s : ConeOverflow) → P s → Q s) → IsWidthRefusal P e → IsWidthRefusal Q e
+IsWidthRefusal-weaker P Q (Cone s) to x = to s x
+IsWidthRefusal-weaker P Q (ZeroPolynomial number index) to x = x
+IsWidthRefusal-weaker P Q Memory to x = x
 
-pub failed_fails : (P : ConeOverflow → Type 0) (g : GordanError) (e : TropicalError) → e ≡ of_gordan g → Failed P g → Fails P e
-failed_fails P (gordan.Cone s) e q x = subst (Fails P) (sym q) x
-failed_fails P gordan.Memory e q x = subst (Fails P) (sym q) tt
+pub failed_width : (P : ConeOverflow → Type 0) (g : GordanError) (e : TropicalError) → e ≡ of_gordan g → Failed P g → IsWidthRefusal P e
+failed_width P (gordan.Cone s) e q x = subst (IsWidthRefusal P) (sym q) x
+failed_width P gordan.Memory e q x = subst (IsWidthRefusal P) (sym q) tt
 
 -- ---- the cones of one polynomial
 
