@@ -1,6 +1,6 @@
 -- Why cones have no fan, as a refusal of the run; and there is a fan within its limits.
 -- To cite: meeting_refutes, fan_within, fan_work, fan_not_listed, fan_named. The rest are steps.
-use Rattle.std.specs.Prelude.{◌≡◌, ℕ, List, Option, Some}
+use Rattle.std.specs.Prelude.{◌≡◌, ℕ, List, Option}
 use Rattle.std.proofs.Common.{refl}
 use Rattle.gf_rays.specs.Cones.{RowsAndRays}
 use Rattle.gf_fan.specs.declared.error.FanError.{FanError}
