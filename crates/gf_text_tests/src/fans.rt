@@ -1,7 +1,7 @@
 //! Fan files, by hand: what is read of one, why one isn't, and the text of one.
 use gf_fanfile::*;
 use gf_gordan::ConeOverflow;
-use gf_text::{Kind, Syntax};
+use gf_text::{Kind, Section, Syntax};
 use gf_vec::{IntVec, VecOp};
 use std::alloc::Global;
 use std::process::Abort;
@@ -134,6 +134,39 @@ MAXIMAL_CONES
         right: 170_141_183_460_469_231_731_687_303_715_884_105_726,
     };
     check_refusal(&rt, alloc, text, FanFileError::Cone(wanted));
+}
+
+#[test]
+fn cones_that_are_no_fan(rt: HostRuntime) {
+    let alloc = rt.alloc();
+    let text =
+        b"AMBIENT_DIM\n2\nRAYS\n1 0\n0 1\n1 1\nLINEALITY_SPACE\nMAXIMAL_CONES\n{0 2}\n{1 2}\n{0 1}\n";
+    match read(alloc, text) {
+        Ok(_) => assert!(rt; false, "a refusal"),
+        Err(error) => {
+            assert_eq!(rt;
+                error,
+                FanFileError::NotAFan {
+                    first: 0,
+                    second: 2
+                }
+            );
+        }
+    }
+}
+
+/// The text of the fan of a text.
+fn written_again(alloc: Global, source: &[u8]) -> Result<Vec<u8>, Fail> {
+    let fan = read(alloc, source).ok().ok_or("a fan")?;
+    Ok(write(alloc, &fan)?)
+}
+
+#[test]
+fn a_fan_is_read_and_written(rt: HostRuntime) -> Result<(), Fail> {
+    let alloc = rt.alloc();
+    let text = written_again(alloc, LINE_TEXT)?;
+    assert_eq!(rt; text.as_slice(), LINE_TEXT);
+    Ok(())
 }
 
 /// A cone of this dimension with these rays.
