@@ -1,8 +1,7 @@
 -- Words that the table has a match for name one of its commands, each of whose options holds what it takes.
 -- To cite: parsed_as, job_is, no_match, within_limits. The rest are steps.
-use Rattle.std.proofs.Common.{◌≡◌, ◌≤◌, Bool, true, false, not, ◌&&◌, ◌||◌, cond, List, [], ◌∷◌, ◌++◌, Option, Some, None, IfSome, is_some, codes, map, inl, inr, arith, refl, sym, ap, ◌∙◌, subst}
+use Rattle.std.proofs.Common.{◌≡◌, ◌≤◌, Bool, true, false, not, ◌&&◌, ◌||◌, cond, List, [], ◌∷◌, Option, Some, None, IfSome, is_some, codes, map, inl, inr, arith, refl, sym, ap, ◌∙◌, subst}
 use Rattle.std.specs.Prelude.{option_map, option_and_then}
-use Rattle.std.specs.Option.{option_map_or}
 use Rattle.std.specs.List.{find, list_any}
 use Rattle.std.specs.Str.{bytes_eq}
 use Rattle.std.proofs.lemmas.Slice.Eq.{bytes_eq-Decides}
@@ -20,7 +19,7 @@ use Rattle.clap.specs.Simple.{argument_words, built_leaf, entered, inherited, la
 use Rattle.clap.specs.Faults.{check_fault, entered_fault}
 use Rattle.gf_front.specs.declared.command_line.Job.{Job}
 use Rattle.gf_front.specs.declared.command_line.Job.TheVariants as jobs
-use Rattle.gf_front.specs.Table.{Entry, table, commands, tools, cones, fans, shape, most_pairs, most_workers, usual_pairs, number_of, number_where, buchberger, bases, plain, leading_terms, groebner_cone, weight_vector, to_polyhedral_fan, fan_common_refinement}
+use Rattle.gf_front.specs.Table.{Entry, table, commands, without_options, shape, most_pairs, most_workers, usual_pairs, number_of, number_where, buchberger, bases, plain, leading_terms, groebner_cone, weight_vector, to_polyhedral_fan, fan_common_refinement}
 use Rattle.gf_front.specs.Jobs.{HasMatch, HasNumbersInRange, IsJobOfMatch, match_of, job_in, job_of}
 use Rattle.gf_front.specs.Options.{HoldChoices, NamesEntry, IsCommand, HoldsNumber}
 use Rattle.gf_front.proofs.MatchLaws.{Enters, entered_rows, level_rows, rows_pass}
@@ -225,49 +224,39 @@ fan_common_refinement_sound = record {
 plain_sound : (name : Text) (job : Job) → HasNumbersInRange job → IsSound (plain name job)
 plain_sound name job within = record { holds = λ rows ok there. tt; limits = λ rows h. within }
 
-fans_sound : AreSound fans
+none_sound : AreSound []
 unfolding AreSound
-fans_sound = (
-  fan_common_refinement_sound,
-  refl,
-  (
-    plain_sound (codes "_tropicalhypersurface") jobs.TropicalHypersurface tt,
-    refl,
-    (plain_sound (codes "_tropicalintersection") jobs.TropicalIntersection tt, refl, (plain_sound (codes "_minkowskisum") jobs.MinkowskiSum tt, refl, tt)),
-  ),
-)
+none_sound = tt
 
-cones_sound : AreSound (cones ++ fans)
+next : (e : Entry) (es : List Entry) → IsSound e → list_any (λ (f : Entry). bytes_eq e.name f.name) es ≡ false → AreSound es → AreSound (e ∷ es)
 unfolding AreSound
-cones_sound = (groebner_cone_sound, refl, (weight_vector_sound, refl, (to_polyhedral_fan_sound, refl, (plain_sound (codes "_homogeneityspace") jobs.HomogeneitySpace tt, refl, fans_sound))))
+next e es sound new rest = (sound, new, rest)
 
-tools_sound : AreSound (tools ++ cones ++ fans)
-unfolding AreSound
-tools_sound = (
-  plain_sound (codes "_markpolynomialset") jobs.MarkPolynomialSet tt,
-  refl,
-  (
-    plain_sound (codes "_initialforms") jobs.InitialForms tt,
-    refl,
-    (plain_sound (codes "_homogenize") jobs.Homogenize tt, refl, (plain_sound (codes "_polynomialsetunion") jobs.PolynomialSetUnion tt, refl, (plain_sound (codes "_stats") jobs.Stats tt, refl, cones_sound))),
-  ),
-)
+without_sound : AreSound without_options
+without_sound =
+    next _ _ (plain_sound (codes "_ismarkedgroebnerbasis") jobs.IsMarkedGroebnerBasis tt) refl
+    (next _ _ (plain_sound (codes "_doesidealcontain") jobs.DoesIdealContain tt) refl
+    (next _ _ (plain_sound (codes "_markpolynomialset") jobs.MarkPolynomialSet tt) refl
+    (next _ _ (plain_sound (codes "_initialforms") jobs.InitialForms tt) refl
+    (next _ _ (plain_sound (codes "_homogenize") jobs.Homogenize tt) refl
+    (next _ _ (plain_sound (codes "_polynomialsetunion") jobs.PolynomialSetUnion tt) refl
+    (next _ _ (plain_sound (codes "_stats") jobs.Stats tt) refl
+    (next _ _ (plain_sound (codes "_homogeneityspace") jobs.HomogeneitySpace tt) refl
+    (next _ _ (plain_sound (codes "_tropicalhypersurface") jobs.TropicalHypersurface tt) refl
+    (next _ _ (plain_sound (codes "_tropicalintersection") jobs.TropicalIntersection tt) refl
+    (next _ _ (plain_sound (codes "_minkowskisum") jobs.MinkowskiSum tt) refl
+    none_sound))))))))))
 
 all_sound : AreSound commands
-unfolding AreSound
-all_sound = (
-  buchberger_sound,
-  refl,
-  (
-    bases_sound,
-    refl,
-    (
-      plain_sound (codes "_ismarkedgroebnerbasis") jobs.IsMarkedGroebnerBasis tt,
-      refl,
-      (plain_sound (codes "_doesidealcontain") jobs.DoesIdealContain tt, refl, (leading_terms_sound, refl, tools_sound)),
-    ),
-  ),
-)
+all_sound =
+    next _ _ buchberger_sound refl
+    (next _ _ bases_sound refl
+    (next _ _ leading_terms_sound refl
+    (next _ _ groebner_cone_sound refl
+    (next _ _ weight_vector_sound refl
+    (next _ _ to_polyhedral_fan_sound refl
+    (next _ _ fan_common_refinement_sound refl
+    without_sound))))))
 
 -- the options of a command that has an entry's name hold what the entry's take
 entry_holds : (es : List Entry) (e : Entry) (m : Text × List Row) → AreSound es → find (λ f. bytes_eq e.name f.name) es ≡ Some e → NamesEntry es m → m.0 ≡ e.name → HoldChoices e.options m.1

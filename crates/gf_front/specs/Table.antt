@@ -100,12 +100,6 @@ bases = record {
 abbrev pub plain : Text → Job → Entry
 plain name job = record { name = name; options = []; job = λ rows. job }
 
-abbrev pub is_marked_groebner_basis : Entry
-is_marked_groebner_basis = plain (codes "_ismarkedgroebnerbasis") jobs.IsMarkedGroebnerBasis
-
-abbrev pub does_ideal_contain : Entry
-does_ideal_contain = plain (codes "_doesidealcontain") jobs.DoesIdealContain
-
 abbrev pub leading_terms : Entry
 leading_terms = record {
   name = codes "_leadingterms";
@@ -134,9 +128,6 @@ to_polyhedral_fan = record {
   job = λ rows. jobs.ToPolyhedralFan (flag_of (codes "restrict") rows);
 }
 
-abbrev pub homogeneity_space : Entry
-homogeneity_space = plain (codes "_homogeneityspace") jobs.HomogeneitySpace
-
 abbrev pub fan_common_refinement : Entry
 fan_common_refinement = record {
   name = codes "_fancommonrefinement";
@@ -144,54 +135,34 @@ fan_common_refinement = record {
   job = λ rows. jobs.FanCommonRefinement (text_of (codes "i1") rows) (text_of (codes "i2") rows);
 }
 
-abbrev pub tropical_hypersurface : Entry
-tropical_hypersurface = plain (codes "_tropicalhypersurface") jobs.TropicalHypersurface
+-- those with options, and those without
+abbrev pub with_options : List Entry
+with_options = buchberger ∷ bases ∷ leading_terms ∷ groebner_cone ∷ weight_vector ∷ to_polyhedral_fan ∷ fan_common_refinement ∷ []
 
-abbrev pub tropical_intersection : Entry
-tropical_intersection = plain (codes "_tropicalintersection") jobs.TropicalIntersection
-
-abbrev pub minkowski_sum : Entry
-minkowski_sum = plain (codes "_minkowskisum") jobs.MinkowskiSum
-
--- the small tools without options
-abbrev pub mark_polynomial_set : Entry
-mark_polynomial_set = plain (codes "_markpolynomialset") jobs.MarkPolynomialSet
-
-abbrev pub initial_forms : Entry
-initial_forms = plain (codes "_initialforms") jobs.InitialForms
-
-abbrev pub homogenize : Entry
-homogenize = plain (codes "_homogenize") jobs.Homogenize
-
-abbrev pub polynomial_set_union : Entry
-polynomial_set_union = plain (codes "_polynomialsetunion") jobs.PolynomialSetUnion
-
-abbrev pub stats : Entry
-stats = plain (codes "_stats") jobs.Stats
-
--- those that the table has before the small tools, those, those on cones, and those that make fans of fans and of polynomials
-abbrev pub first_commands : List Entry
-first_commands = buchberger ∷ bases ∷ is_marked_groebner_basis ∷ does_ideal_contain ∷ leading_terms ∷ []
-
-abbrev pub tools : List Entry
-tools = mark_polynomial_set ∷ initial_forms ∷ homogenize ∷ polynomial_set_union ∷ stats ∷ []
-
-abbrev pub cones : List Entry
-cones = groebner_cone ∷ weight_vector ∷ to_polyhedral_fan ∷ homogeneity_space ∷ []
-
-abbrev pub fans : List Entry
-fans = fan_common_refinement ∷ tropical_hypersurface ∷ tropical_intersection ∷ minkowski_sum ∷ []
+abbrev pub without_options : List Entry
+without_options =
+    plain (codes "_ismarkedgroebnerbasis") jobs.IsMarkedGroebnerBasis
+    ∷ plain (codes "_doesidealcontain") jobs.DoesIdealContain
+    ∷ plain (codes "_markpolynomialset") jobs.MarkPolynomialSet
+    ∷ plain (codes "_initialforms") jobs.InitialForms
+    ∷ plain (codes "_homogenize") jobs.Homogenize
+    ∷ plain (codes "_polynomialsetunion") jobs.PolynomialSetUnion
+    ∷ plain (codes "_stats") jobs.Stats
+    ∷ plain (codes "_homogeneityspace") jobs.HomogeneitySpace
+    ∷ plain (codes "_tropicalhypersurface") jobs.TropicalHypersurface
+    ∷ plain (codes "_tropicalintersection") jobs.TropicalIntersection
+    ∷ plain (codes "_minkowskisum") jobs.MinkowskiSum
+    ∷ []
 
 abbrev pub commands : List Entry
-commands = first_commands ++ tools ++ cones ++ fans
+commands = with_options ++ without_options
 
 -- a command as clap has it
-abbrev pub shape : Entry → Shape
-shape e = record (new_shape e.name) { rules = map rule e.options }
+abbrev pub shape_with : Text → List Choice → Shape
+shape_with name options = record (new_shape name) { rules = map rule options }
 
--- a command without options
-abbrev pub plain_shape : Text → Shape
-plain_shape name = record (new_shape name) { rules = [] }
+abbrev pub shape : Entry → Shape
+shape e = shape_with e.name e.options
 
 -- ---- the program
 

@@ -1,0 +1,41 @@
+-- Options added to a command, and commands added to the program.
+use Rattle.std.proofs.Common.{◌≡◌, ◌+◌, ◌<◌, ℕ, false, List, [], ◌∷◌, ◌++◌, map, take, length, ◌||◌, get_or, sym, ap, ◌∙◌}
+use Rattle.std.specs.List.{fold}
+use Rattle.std.specs.Borrow.{Bor}
+use Rattle.std.proofs.lemmas.List.{map_push, map_more}
+use Rattle.std.proofs.lemmas.List.Sums.{fold-append}
+use Rattle.clap.specs.Words.{AddsArg, App, Rule, Shape, Text, rule_of, shape_of, with_subcommand}
+use Rattle.clap.specs.Simple.{new_shape}
+use Rattle.clap.specs.declared.builder.arg.Arg.{Arg}
+use Rattle.clap.specs.declared.builder.command.Command.{Command}
+use Rattle.clap.specs.declared.builder.command.Command.TheViews.{out-Command}
+use Rattle.gf_front.specs.Table.{Choice, rule, shape_with}
+use Rattle.gf_front.specs.Choices.{choice_of, choices_of, plain_shape}
+use Rattle.gf_front.specs.declared.table.Choice.{Choice as Listed}
+
+-- one more option
+pub one_more : (c d : Command) (a : Arg) (name : Text) (options : List Choice) (o : Choice) → AddsArg c a d → a.global ≡ false → rule_of a ≡ rule o → shape_of c ≡ shape_with name options
+    → shape_of d ≡ shape_with name (options ++ o ∷ [])
+one_more c d a name options o adds local is so =
+    ap (λ (p : App). p.top) (adds.shape local)
+    ∙ ap (λ (s : Shape). record s { rules = s.rules ++ rule_of a ∷ [] }) so
+    ∙ ap (λ (r : Rule). record (new_shape name) { rules = map rule options ++ r ∷ [] }) is
+    ∙ ap (λ (rs : List Rule). record (new_shape name) { rules = rs }) (sym (map_push rule options o))
+
+pub one_listed : (c d : Command) (a : Arg) (name : Text) (xs : List Listed) (i : ℕ) (x : Listed) → i < length xs → AddsArg c a d → a.global ≡ false → rule_of a ≡ rule (choice_of (get_or xs i x))
+    → shape_of c ≡ shape_with name (choices_of (take i xs)) → shape_of d ≡ shape_with name (choices_of (take (i + 1) xs))
+one_listed c d a name xs i x l adds local is so =
+    one_more c d a name (choices_of (take i xs)) (choice_of (get_or xs i x)) adds local is so ∙ ap (shape_with name) (sym (map_more choice_of xs i x l))
+
+-- which isn't global
+pub still_local : (c d : Command) (a : Arg) → AddsArg c a d → a.global ≡ false → (out-Command c).has_globals ≡ false → (out-Command d).has_globals ≡ false
+still_local c d a adds local none = adds.globals ∙ ap (λ b. b || a.global) none ∙ local
+
+-- one more command without options
+pub one_named : (a p q : App) (names : List (Bor Text)) (i : ℕ) (d : Bor Text) → i < length names → p ≡ fold with_subcommand a (map plain_shape (take i names))
+    → q ≡ with_subcommand p (plain_shape (get_or names i d)) → q ≡ fold with_subcommand a (map plain_shape (take (i + 1) names))
+one_named a p q names i d l so is =
+    is
+    ∙ ap (λ (b : App). with_subcommand b (plain_shape (get_or names i d))) so
+    ∙ sym (fold-append with_subcommand a (map plain_shape (take i names)) (plain_shape (get_or names i d) ∷ []))
+    ∙ ap (fold with_subcommand a) (sym (map_more plain_shape names i d l))

@@ -1,0 +1,21 @@
+-- The options of a command as the code lists them.
+use Rattle.std.specs.Prelude.{List, [], map}
+use Rattle.std.specs.Borrow.{Bor}
+use Rattle.clap.specs.Words.{Shape, Text}
+use Rattle.gf_front.specs.declared.table.Choice.{Choice as Listed}
+use Rattle.gf_front.specs.declared.table.Choice.TheVariants as listed
+use Rattle.gf_front.specs.Table.{Choice, a_flag, a_named_flag, a_number, a_file, most_pairs, most_workers, shape_with}
+
+abbrev pub choice_of : Listed → Choice
+choice_of (listed.Flag id letter) = a_flag id.now letter
+choice_of (listed.NamedFlag id) = a_named_flag id.now
+choice_of (listed.Amount id) = a_number id.now most_pairs
+choice_of (listed.Workers id) = a_number id.now most_workers
+choice_of (listed.File id) = a_file id.now
+
+abbrev pub choices_of : List Listed → List Choice
+choices_of = map choice_of
+
+-- a command of this name without options
+abbrev pub plain_shape : Bor Text → Shape
+plain_shape name = shape_with name.now []
