@@ -7,7 +7,7 @@ use gf_frac::{Frac, Op, Overflow};
 use gf_front::*;
 use gf_outside::MemSink;
 use gf_poly::{ExponentOverflow, MarkedSet, Mono, Pairs};
-use gf_text::{Kind, Reader, Ring, Syntax};
+use gf_text::{Kind, Reader, Ring, Section, Syntax};
 use gf_vec::{IntVec, VecOp, WideVector};
 use std::alloc::Global;
 use std::test::Fail;
@@ -151,6 +151,9 @@ fn options_stand_in_any_place(rt: HostRuntime) -> Result<(), Fail> {
             Job::ToPolyhedralFan { restrict: true },
         ),
         ("_homogeneityspace", Job::HomogeneitySpace),
+        ("_tropicalhypersurface", Job::TropicalHypersurface),
+        ("_tropicalintersection", Job::TropicalIntersection),
+        ("_minkowskisum --", Job::MinkowskiSum),
     ];
     for (line, wanted) in rows {
         let job = answered(rt.alloc(), line)?;
@@ -159,6 +162,28 @@ fn options_stand_in_any_place(rt: HostRuntime) -> Result<(), Fail> {
     for (line, listed) in [("_leadingterms", false), ("_leadingterms -m", true)] {
         let job = answered(rt.alloc(), line)?;
         assert_eq!(rt; job, Ok(Job::LeadingTerms { listed }), "{line}");
+    }
+    Ok(())
+}
+
+/// The names of the two files of a common refinement.
+fn files(job: &Result<Job, WordsError>) -> Option<(&str, &str)> {
+    match job {
+        Ok(Job::FanCommonRefinement { first, second }) => Some((first.as_str(), second.as_str())),
+        _ => None,
+    }
+}
+
+#[test]
+fn a_refinement_has_two_files(rt: HostRuntime) -> Result<(), Fail> {
+    for (line, first, second) in [
+        ("_fancommonrefinement -i1 A -i2 B", "A", "B"),
+        ("_fancommonrefinement --i2 B --i1 A", "A", "B"),
+        ("_fancommonrefinement --i1=a/b.fan -i2 -", "a/b.fan", "-"),
+        ("_fancommonrefinement -i1  -i2 ", "", ""),
+    ] {
+        let job = answered(rt.alloc(), line)?;
+        assert_eq!(rt; files(&job), Some((first, second)), "{line}");
     }
     Ok(())
 }
@@ -241,9 +266,19 @@ fn other_words_are_usage(rt: HostRuntime) -> Result<(), Fail> {
         "_bases --within FILE",
         "_groebnercone --certificates --certificates",
         "_groebnercone -m",
-        "_tropicalhypersurface",
-        "_fancommonrefinement -i1 A -i2 B",
+        "_tropicalintersection --basistest",
+        "_saturation",
         "_buchberger --limit 3",
+        // A file is missing, or there is one too many.
+        "_fancommonrefinement",
+        "_fancommonrefinement -i1 A",
+        "_fancommonrefinement --i2 B",
+        "_fancommonrefinement -i1 A -i2",
+        "_fancommonrefinement -i1 A -i2 -i1",
+        "_fancommonrefinement -i1 A -i2 B -i1 A",
+        "_fancommonrefinement A B",
+        "_tropicalhypersurface -m",
+        "_minkowskisum -i1 A",
     ];
     for line in rows {
         assert_eq!(rt;
@@ -281,6 +316,8 @@ fn refusals_have_their_lines(rt: HostRuntime) -> Result<(), Fail> {
     assert!(rt; is_told(alloc, None, read, 5, b"gfan: E1 read failed\n")?);
     let write = Refusal::WriteFault;
     assert!(rt; is_told(alloc, None, write, 6, b"gfan: E2 write failed\n")?);
+    let open = Refusal::OpenFault;
+    assert!(rt; is_told(alloc, None, open, 5, b"gfan: E3 open failed\n")?);
     let order = Refusal::NotTermOrder { index: 3 };
     assert!(rt; is_told(alloc, None, order, 1, b"gfan: E7 no term order: weight 3\n")?);
     let wide = Refusal::TooWide { at: 6 };
@@ -307,6 +344,8 @@ fn refusals_have_their_lines(rt: HostRuntime) -> Result<(), Fail> {
     assert!(rt; is_told(alloc, None, many, 1, b"gfan: E11 too many variables: 17\n")?);
     let long = Refusal::InputTooLong;
     assert!(rt; is_told(alloc, None, long, 1, b"gfan: E12 input too long\n")?);
+    let ray = Refusal::BadRay { number: 7 };
+    assert!(rt; is_told(alloc, None, ray, 1, b"gfan: E20 bad ray 7\n")?);
     let length = Refusal::Dimensions { left: 1, right: 2 };
     let line = b"gfan: E21 dimension 1 where 2 is needed\n".as_slice();
     assert!(rt; is_told(alloc, None, length, 1, line)?);
@@ -317,6 +356,32 @@ fn refusals_have_their_lines(rt: HostRuntime) -> Result<(), Fail> {
     assert!(rt; is_told(alloc, None, Refusal::Usage, 2, line)?);
     assert!(rt; is_told(alloc, None, Refusal::Memory, 7, b"gfan: no memory\n")?);
     assert_eq!(rt; Status::Done.code(), 0);
+    Ok(())
+}
+
+#[test]
+fn missing_sections_are_named(rt: HostRuntime) -> Result<(), Fail> {
+    for (section, line) in [
+        (
+            Section::AmbientDim,
+            b"gfan: E19 missing section AMBIENT_DIM\n".as_slice(),
+        ),
+        (
+            Section::Rays,
+            b"gfan: E19 missing section RAYS\n".as_slice(),
+        ),
+        (
+            Section::LinealitySpace,
+            b"gfan: E19 missing section LINEALITY_SPACE\n".as_slice(),
+        ),
+        (
+            Section::MaximalCones,
+            b"gfan: E19 missing section MAXIMAL_CONES\n".as_slice(),
+        ),
+    ] {
+        let missing = Refusal::Missing { section };
+        assert!(rt; is_told(rt.alloc(), None, missing, 1, line)?);
+    }
     Ok(())
 }
 
