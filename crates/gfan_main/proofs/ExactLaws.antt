@@ -19,7 +19,7 @@ use Rattle.gf_front.specs.declared.command_line.Job.TheVariants as jobs
 use Rattle.gf_front.specs.declared.refusal.Refusal.{Refusal}
 use Rattle.gf_front.specs.declared.refusal.Refusal.TheVariants as refusals
 use Rattle.gf_items.specs.Items.{from}
-use Rattle.gf_items.specs.Commands.{Command, of_text, IsOfText, IsOfForm, IsOfNumbers, IsOfTest, TellsSame, IsOfWork, IsOfJob, IsUnanswered, IsCommandRefused}
+use Rattle.gf_items.specs.Commands.{Command, of_text, IsOfText, IsOfForm, IsExactRefusal, IsOfNumbers, IsOfTest, TellsSame, IsOfWork, IsOfJob, IsUnanswered, IsAnswered, IsWholeFor, IsCommandRefused, IsInReach}
 use Rattle.gf_items.specs.Kinds.{a_set, a_marked_set, marked_set_list, vector_where}
 use Rattle.gf_items.proofs.KindLaws.{ring_and_once}
 use Rattle.gf_items.proofs.CheckLaws.{first_kind}
@@ -44,7 +44,9 @@ use Rattle.gfan_main.specs.WeightVector.{weight_vector_command}
 use Rattle.gfan_main.specs.GroebnerCone.{groebner_cone_command}
 use Rattle.gfan_main.specs.ToPolyhedralFan.{to_polyhedral_fan_command}
 use Rattle.gfan_main.specs.HomogeneitySpace.{nonzero_of, homogeneity_space_command}
-use Rattle.gfan_main.specs.Commands.{options, list_options, cone_options, command, IsAnswerTo, IsWholeTextOf, IsRefusalOf, IsWithinReach, WritesAtEnd}
+use Rattle.gfan_main.specs.declared.tropical.TropicalFan.TheVariants as fans
+use Rattle.gfan_main.specs.Tropical.{tropical_command}
+use Rattle.gfan_main.specs.Commands.{options, list_options, cone_options, JobWork, work_of, IsOnInput, IsAnswerTo, IsWholeTextOf, IsRefusalOf, IsWithinReach, WritesAtEnd}
 use Rattle.gfan_main.proofs.FormLaws.{form_once}
 use Rattle.gfan_main.proofs.CertificateLaws.{weight_work, weight_untested}
 use Rattle.gfan_main.proofs.GivenBasisLaws.{tree_work, tree_untested, given_work, root_within, given_once, given_refuses}
@@ -55,6 +57,7 @@ use Rattle.gfan_main.proofs.WeightVectorLaws.{weight_vector_exact, weight_vector
 use Rattle.gfan_main.proofs.GroebnerConeLaws.{cone_exact, cone_tested, cone_not_listed}
 use Rattle.gfan_main.proofs.ToPolyhedralFanLaws.{to_polyhedral_fan_exact, to_polyhedral_fan_tested, no_fan_not_listed}
 use Rattle.gfan_main.proofs.HomogeneitySpaceLaws.{homogeneity_space_exact, homogeneity_space_tested, no_space_not_listed}
+use Rattle.gfan_main.proofs.TropicalLaws.{tropical_exact, tropical_tested}
 use Rattle.gfan_main.proofs.ToolLaws.{mark_polynomial_set_exact, initial_forms_exact, homogenize_exact, polynomial_set_union_exact, stats_exact, homogenize_not_listed, gordan_not_listed, homogenize_untested, gordan_untested}
 
 -- ---- `_buchberger`
@@ -153,7 +156,12 @@ given_exact o = record {
 
 -- ---- each job
 
-laws : (job : Job) → IsExactCommand (command job)
+-- this holds of the command of a job, where it works on the input
+abbrev OfCommand : JobWork → (Command → Type 0) → Type 0
+OfCommand (JobWork.on_input c) P = P c
+OfCommand JobWork.on_files P = Unit {0}
+
+laws : (job : Job) → OfCommand (work_of job) IsExactCommand
 laws (jobs.Buchberger weighted revlex pairs) = buchberger_exact (options weighted revlex pairs)
 laws (jobs.Bases false limit pairs certificates workers) = bases_exact (list_options limit pairs certificates)
 laws (jobs.Bases true limit pairs certificates workers) = given_exact (list_options limit pairs certificates)
@@ -169,27 +177,51 @@ laws (jobs.WeightVector listed echoed) = weight_vector_exact listed echoed
 laws (jobs.GroebnerCone vector_input certificates restricted as_fan) = cone_exact vector_input (cone_options certificates restricted as_fan)
 laws (jobs.ToPolyhedralFan restrict) = to_polyhedral_fan_exact restrict
 laws jobs.HomogeneitySpace = homogeneity_space_exact
+laws jobs.TropicalHypersurface = tropical_exact fans.Hypersurface
+laws jobs.TropicalIntersection = tropical_exact fans.Intersection
+laws jobs.MinkowskiSum = tropical_exact fans.MinkowskiSum
+laws (jobs.FanCommonRefinement first second) = tt
+
+work_exact : (w : JobWork) → OfCommand w IsExactCommand → (source : List ℕ) (r d : Refusal) → IsExactRefusal r → IsOnInput w (λ c. IsCommandRefused c source r) → IsOnInput w (λ c. IsCommandRefused c source d) → (d ≡ r) ⊎ (d ≡ refusals.Memory)
+work_exact (JobWork.on_input c) l source r d t h k = exact c l source r d t h k
+work_exact JobWork.on_files l source r d t h k = absurd h
+
+work_no_answer : (w : JobWork) → OfCommand w IsExactCommand → (source : List ℕ) (r : Refusal) (text : List ℕ) → IsExactRefusal r → IsOnInput w (λ c. IsCommandRefused c source r) → IsOnInput w (λ c. IsAnswered c source text) → ⊥
+work_no_answer (JobWork.on_input c) l source r text t h a = no_answer c l source r text t h a
+work_no_answer JobWork.on_files l source r text t h a = h
+
+work_no_whole : (w : JobWork) → OfCommand w IsExactCommand → (source : List ℕ) (r : Refusal) (text : List ℕ) → IsExactRefusal r → IsOnInput w (λ c. IsCommandRefused c source r) → IsOnInput w (λ c. IsWholeFor c source text) → ⊥
+work_no_whole (JobWork.on_input c) l source r text t h a = no_whole c l source r text t h a
+work_no_whole JobWork.on_files l source r text t h a = h
+
+work_answered : (w : JobWork) → OfCommand w IsExactCommand → (source : List ℕ) (d : Refusal) → IsOnInput w (λ c. IsInReach c source) → IsOnInput w (λ c. IsCommandRefused c source d) → d ≡ refusals.Memory
+work_answered (JobWork.on_input c) l source d w h = in_reach c l source d w h
+work_answered JobWork.on_files l source d w h = absurd h
+
+work_of_job : (w : JobWork) → OfCommand w IsExactCommand → (source : List ℕ) (r : Refusal) → IsOnInput w (λ c. IsCommandRefused c source r) → IsOfJob r
+work_of_job (JobWork.on_input c) l source r h = of_job c l source r h
+work_of_job JobWork.on_files l source r h = absurd h
 
 pub exact_text : (job : Job) (source : List ℕ) (r d : Refusal) → IsOfText r → IsRefusalOf job source r → IsRefusalOf job source d → (d ≡ r) ⊎ (d ≡ refusals.Memory)
-exact_text job source r d t h k = exact (command job) (laws job) source r d (inl t) h k
+exact_text job source r d t h k = work_exact (work_of job) (laws job) source r d (inl t) h k
 
 pub exact_form : (job : Job) (source : List ℕ) (r d : Refusal) → IsOfForm r → IsRefusalOf job source r → IsRefusalOf job source d → (d ≡ r) ⊎ (d ≡ refusals.Memory)
-exact_form job source r d f h k = exact (command job) (laws job) source r d (inr f) h k
+exact_form job source r d f h k = work_exact (work_of job) (laws job) source r d (inr f) h k
 
 pub text_no_answer : (job : Job) (source : List ℕ) (r : Refusal) (text : List ℕ) → IsOfText r → IsRefusalOf job source r → IsAnswerTo job source text → ⊥
-text_no_answer job source r text t h a = no_answer (command job) (laws job) source r text (inl t) h a
+text_no_answer job source r text t h a = work_no_answer (work_of job) (laws job) source r text (inl t) h a
 
 pub form_no_answer : (job : Job) (source : List ℕ) (r : Refusal) (text : List ℕ) → IsOfForm r → IsRefusalOf job source r → IsAnswerTo job source text → ⊥
-form_no_answer job source r text f h a = no_answer (command job) (laws job) source r text (inr f) h a
+form_no_answer job source r text f h a = work_no_answer (work_of job) (laws job) source r text (inr f) h a
 
 pub text_no_whole : (job : Job) (source : List ℕ) (r : Refusal) (text : List ℕ) → IsOfText r → IsRefusalOf job source r → IsWholeTextOf job source text → ⊥
-text_no_whole job source r text t h a = no_whole (command job) (laws job) source r text (inl t) h a
+text_no_whole job source r text t h a = work_no_whole (work_of job) (laws job) source r text (inl t) h a
 
 pub form_no_whole : (job : Job) (source : List ℕ) (r : Refusal) (text : List ℕ) → IsOfForm r → IsRefusalOf job source r → IsWholeTextOf job source text → ⊥
-form_no_whole job source r text f h a = no_whole (command job) (laws job) source r text (inr f) h a
+form_no_whole job source r text f h a = work_no_whole (work_of job) (laws job) source r text (inr f) h a
 
 pub all_answered : (job : Job) (source : List ℕ) (d : Refusal) → IsWithinReach job source → IsRefusalOf job source d → d ≡ refusals.Memory
-all_answered job source d w h = in_reach (command job) (laws job) source d w h
+all_answered job source d w h = work_answered (work_of job) (laws job) source d w h
 
 -- ---- no other job comes to the limit of a list
 
@@ -219,6 +251,7 @@ command_not_listed c exact_c never source most (IsCommandRefused.no_memory m) = 
 pub not_listed : (job : Job) (source : List ℕ) (most : ℕ) → WritesAtEnd job → IsRefusalOf job source (refusals.ListLimit most) → ⊥
 not_listed (jobs.Buchberger weighted revlex pairs) source most w h = command_not_listed (buchberger_command (options weighted revlex pairs)) (buchberger_exact (options weighted revlex pairs)) (λ a m c. basis_not_listed c.0 m c.1) source most h
 not_listed (jobs.Bases from_basis limit pairs certificates workers) source most w h = w
+not_listed (jobs.FanCommonRefinement first second) source most w h = w
 not_listed jobs.IsMarkedGroebnerBasis source most w h = command_not_listed marked_command marked_exact (λ a m c. check_not_listed c.0 m c.1) source most h
 not_listed jobs.DoesIdealContain source most w h = command_not_listed containment_command containment_exact (λ a m c. check_not_listed c.0 m c.1) source most h
 not_listed (jobs.LeadingTerms false) source most w h = command_not_listed (leading_terms_command false) (leading_exact false) (λ a m c. cc) source most h
@@ -233,9 +266,12 @@ not_listed (jobs.WeightVector true echoed) source most w h = command_not_listed 
 not_listed (jobs.GroebnerCone vector_input certificates restricted as_fan) source most w h = command_not_listed (groebner_cone_command vector_input (cone_options certificates restricted as_fan)) (cone_exact vector_input (cone_options certificates restricted as_fan)) (λ a m c. cone_not_listed vector_input (cone_options certificates restricted as_fan) a m c) source most h
 not_listed (jobs.ToPolyhedralFan restrict) source most w h = command_not_listed (to_polyhedral_fan_command restrict) (to_polyhedral_fan_exact restrict) (λ a m c. no_fan_not_listed restrict (length a.0) a.1 m c) source most h
 not_listed jobs.HomogeneitySpace source most w h = command_not_listed homogeneity_space_command homogeneity_space_exact (λ a m c. no_space_not_listed (length a.0) (nonzero_of a.1.0) m c) source most h
+not_listed jobs.TropicalHypersurface source most w h = command_not_listed (tropical_command fans.Hypersurface) (tropical_exact fans.Hypersurface) (λ a m c. gordan_not_listed c.0 m c.1) source most h
+not_listed jobs.TropicalIntersection source most w h = command_not_listed (tropical_command fans.Intersection) (tropical_exact fans.Intersection) (λ a m c. gordan_not_listed c.0 m c.1) source most h
+not_listed jobs.MinkowskiSum source most w h = command_not_listed (tropical_command fans.MinkowskiSum) (tropical_exact fans.MinkowskiSum) (λ a m c. gordan_not_listed c.0 m c.1) source most h
 
 pub refused_as_job : (job : Job) (source : List ℕ) (r : Refusal) → IsRefusalOf job source r → IsOfJob r
-refused_as_job job source r h = of_job (command job) (laws job) source r h
+refused_as_job job source r h = work_of_job (work_of job) (laws job) source r h
 
 -- ---- tests that take work
 
@@ -268,7 +304,7 @@ given_tested o = record {
   wholes = λ source v r text read t h a. given_refuses o source v r read t h a.basis;
 }
 
-tests_of : (job : Job) → IsTestedCommand (command job)
+tests_of : (job : Job) → OfCommand (work_of job) IsTestedCommand
 tests_of (jobs.Buchberger weighted revlex pairs) = untested (buchberger_command (options weighted revlex pairs)) (λ v r t h. basis_untested h.0 (subst IsOfTest h.1 t))
 tests_of (jobs.Bases false limit pairs certificates workers) = untested (bases_command (list_options limit pairs certificates)) (λ v r t h. list_untested (list_options limit pairs certificates) (length v.0) (generators_of v.1.0) r t h)
 tests_of (jobs.Bases true limit pairs certificates workers) = given_tested (list_options limit pairs certificates)
@@ -285,12 +321,28 @@ tests_of (jobs.WeightVector listed echoed) = weight_vector_tested listed echoed
 tests_of (jobs.GroebnerCone vector_input certificates restricted as_fan) = cone_tested vector_input (cone_options certificates restricted as_fan)
 tests_of (jobs.ToPolyhedralFan restrict) = to_polyhedral_fan_tested restrict
 tests_of jobs.HomogeneitySpace = homogeneity_space_tested
+tests_of jobs.TropicalHypersurface = tropical_tested fans.Hypersurface
+tests_of jobs.TropicalIntersection = tropical_tested fans.Intersection
+tests_of jobs.MinkowskiSum = tropical_tested fans.MinkowskiSum
+tests_of (jobs.FanCommonRefinement first second) = tt
+
+work_tested : (w : JobWork) → OfCommand w IsExactCommand → OfCommand w IsTestedCommand → (source : List ℕ) (r d : Refusal) → IsOfTest r → IsOnInput w (λ c. IsCommandRefused c source r) → IsOnInput w (λ c. IsCommandRefused c source d) → TellsSame r d ⊎ IsOfNumbers d
+work_tested (JobWork.on_input c) l m source r d t h k = tested c l m source r d t h k
+work_tested JobWork.on_files l m source r d t h k = absurd h
+
+work_tested_answer : (w : JobWork) → OfCommand w IsExactCommand → OfCommand w IsTestedCommand → (source : List ℕ) (r : Refusal) (text : List ℕ) → IsOfTest r → IsOnInput w (λ c. IsCommandRefused c source r) → IsOnInput w (λ c. IsAnswered c source text) → ⊥
+work_tested_answer (JobWork.on_input c) l m source r text t h a = no_tested_answer c l m source r text t h a
+work_tested_answer JobWork.on_files l m source r text t h a = h
+
+work_tested_whole : (w : JobWork) → OfCommand w IsExactCommand → OfCommand w IsTestedCommand → (source : List ℕ) (r : Refusal) (text : List ℕ) → IsOfTest r → IsOnInput w (λ c. IsCommandRefused c source r) → IsOnInput w (λ c. IsWholeFor c source text) → ⊥
+work_tested_whole (JobWork.on_input c) l m source r text t h a = no_tested_whole c l m source r text t h a
+work_tested_whole JobWork.on_files l m source r text t h a = h
 
 pub test_as : (job : Job) (source : List ℕ) (r d : Refusal) → IsOfTest r → IsRefusalOf job source r → IsRefusalOf job source d → TellsSame r d ⊎ IsOfNumbers d
-test_as job source r d t h k = tested (command job) (laws job) (tests_of job) source r d t h k
+test_as job source r d t h k = work_tested (work_of job) (laws job) (tests_of job) source r d t h k
 
 pub test_no_answer : (job : Job) (source : List ℕ) (r : Refusal) (text : List ℕ) → IsOfTest r → IsRefusalOf job source r → IsAnswerTo job source text → ⊥
-test_no_answer job source r text t h a = no_tested_answer (command job) (laws job) (tests_of job) source r text t h a
+test_no_answer job source r text t h a = work_tested_answer (work_of job) (laws job) (tests_of job) source r text t h a
 
 pub test_no_whole : (job : Job) (source : List ℕ) (r : Refusal) (text : List ℕ) → IsOfTest r → IsRefusalOf job source r → IsWholeTextOf job source text → ⊥
-test_no_whole job source r text t h a = no_tested_whole (command job) (laws job) (tests_of job) source r text t h a
+test_no_whole job source r text t h a = work_tested_whole (work_of job) (laws job) (tests_of job) source r text t h a

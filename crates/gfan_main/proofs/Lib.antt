@@ -13,6 +13,9 @@ pub mod ReducedListLaws  -- lists of marked sets that are read as reduced bases
 pub mod FanTextLaws  -- why cones have no fan
 pub mod ToPolyhedralFanLaws  -- the fan of the cones of marked sets
 pub mod HomogeneitySpaceLaws  -- the homogeneity space of a set
+pub mod TropicalLaws  -- the fans of polynomials
+pub mod FanFileLaws  -- what a fan file says within limits, and what is refused of it exactly
+pub mod CommonRefinementLaws  -- the common refinement of the fans of two texts
 pub mod RefusedLaws  -- which refusals are told without a ring
 pub mod BasesListLaws  -- the list of all bases, and what it has
 pub mod OneListLaws  -- an ideal has one list of all bases
@@ -26,3 +29,5 @@ pub mod GivingWeightsLaws  -- the weights that `_weightvector` writes give the b
 pub mod OneTextLaws  -- what `_bases` writes for a source is one text
 pub mod PerformedLaws  -- what a job does to the output
 pub mod OutcomeLaws  -- how a run ends
+pub mod FilesRunLaws  -- how a run on files ends
+pub mod RunLaws  -- how a run ends, on the input or on files

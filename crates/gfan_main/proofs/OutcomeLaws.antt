@@ -44,7 +44,7 @@ read_known left (Some rest) source bytes k c e =
     sym (p ∙ ap (λ l. bytes ++ l) e ∙ append-nil bytes)
 
 -- no more is taken than is known to be left
-taken_known : (left leaves : Option (List ℕ)) (source bytes : List ℕ) → left ≡ Some source → Consumes left leaves bytes → length bytes ≤ length source
+pub taken_known : (left leaves : Option (List ℕ)) (source bytes : List ℕ) → left ≡ Some source → Consumes left leaves bytes → length bytes ≤ length source
 taken_known left None source bytes k c = absurd (subst (λ l. Consumes l None bytes) k c)
 taken_known left (Some rest) source bytes k c =
     let p : source ≡ bytes ++ rest = subst (λ l. Consumes l (Some rest) bytes) k c in
@@ -61,7 +61,7 @@ pub words_cause : (words : List (List ℕ)) (left : Option (List ℕ)) (given : 
 words_cause words left given held read written words_errors.Usage h = h refl
 words_cause words left given held read written words_errors.Memory h = took_nothing left left given given refl refl
 
-same_job : (words : List (List ℕ)) (j k : Job) → IsJobOf words j → IsJobOf words k → k ≡ j
+pub same_job : (words : List (List ℕ)) (j k : Job) → IsJobOf words j → IsJobOf words k → k ≡ j
 same_job words j k a b =
     let first = a.is in
     let second = b.is in
@@ -105,6 +105,7 @@ module _ (words : List (List ℕ)) (left leaves : Option (List ℕ)) (given give
   refused_here : (job : Job) (source : List ℕ) (r : Refusal) → AsksForJobHere job source → IsCauseHere r → IsRefusedHere written writes job source r
   refused_here job source refusals.Usage g c = absurd (c g.asked.matched)
   refused_here job source refusals.ReadFault g c = absurd (g.known.calm c.0)
+  refused_here job source refusals.OpenFault g c = absurd c
   refused_here job source refusals.InputTooLong g c = absurd (not_too_long source g.known g.short c)
   refused_here job source refusals.WriteFault g c = IsRefusedHere.at_write c.1.text c.0 (whole_here job source c.1.text g c.1.whole)
   refused_here job source (refusals.ListLimit most) g c = IsRefusedHere.at_job (refusal_here job source (refusals.ListLimit most) g c.0)
@@ -125,6 +126,9 @@ module _ (words : List (List ℕ)) (left leaves : Option (List ℕ)) (given give
   no_read_fault : IsOfJob refusals.ReadFault → ⊥
   no_read_fault k = elim k [ inl y ↦ elim y [ inl z ↦ z | inr z ↦ z ] | inr y ↦ y ]
 
+  no_open_fault : IsOfJob refusals.OpenFault → ⊥
+  no_open_fault k = elim k [ inl y ↦ elim y [ inl z ↦ z | inr z ↦ z ] | inr y ↦ y ]
+
   no_long : IsOfJob refusals.InputTooLong → ⊥
   no_long k = elim k [ inl y ↦ elim y [ inl z ↦ z | inr z ↦ z ] | inr y ↦ y ]
 
@@ -139,6 +143,7 @@ module _ (words : List (List ℕ)) (left leaves : Option (List ℕ)) (given give
   pub stopped_cause : (job : Job) (source : List ℕ) (r : Refusal) → IsJobOf words job → ReadWhole left leaves given gives source → IsStopped job source held holds written writes r → IsCauseHere r
   stopped_cause job source refusals.Usage j b s = not_outside job source refusals.Usage no_usage s.0
   stopped_cause job source refusals.ReadFault j b s = not_outside job source refusals.ReadFault no_read_fault s.0
+  stopped_cause job source refusals.OpenFault j b s = not_outside job source refusals.OpenFault no_open_fault s.0
   stopped_cause job source refusals.InputTooLong j b s = not_outside job source refusals.InputTooLong no_long s.0
   stopped_cause job source refusals.WriteFault j b s = (s.0, record { text = s.1.text; whole = record { job = job; asked = j; source = source; read = b; is_whole = s.1.is_whole }; gained = s.1.gained })
   stopped_cause job source (refusals.ListLimit most) j b s = (record { job = job; asked = j; source = source; read = b; refused = s.0 }, stands job source (refusals.ListLimit most) j b s.1)
@@ -158,6 +163,7 @@ module _ (words : List (List ℕ)) (left leaves : Option (List ℕ)) (given give
   pub input_refused : (r : Refusal) → (IsOfOutside r → ⊥) → IsCauseHere r → InputRefused words left leaves given gives r
   input_refused refusals.Usage n c = absurd (n tt)
   input_refused refusals.ReadFault n c = absurd (n tt)
+  input_refused refusals.OpenFault n c = absurd (n tt)
   input_refused refusals.InputTooLong n c = absurd (n tt)
   input_refused refusals.WriteFault n c = absurd (n tt)
   input_refused refusals.Memory n c = absurd (n tt)
@@ -232,6 +238,7 @@ module _ (words : List (List ℕ)) (left leaves : Option (List ℕ)) (given give
   pub within_refused : (r : Refusal) → (r ≡ refusals.Usage → TookAtMost left leaves given gives 67108864) → (statuses.Refused r ≡ statuses.Refused refusals.InputTooLong → ⊥) → IsCauseHere r → TookAtMost left leaves given gives 67108864
   within_refused refusals.Usage u n c = u refl
   within_refused refusals.ReadFault u n c = c.1
+  within_refused refusals.OpenFault u n c = absurd c
   within_refused refusals.InputTooLong u n c = absurd (n refl)
   within_refused refusals.WriteFault u n c = took_whole left leaves given gives c.1.whole.source c.1.whole.read
   within_refused (refusals.ListLimit most) u n c = input_within (refusals.ListLimit most) c.0
@@ -251,6 +258,7 @@ module _ (words : List (List ℕ)) (left leaves : Option (List ℕ)) (given give
   pub long_refused : (source : List ℕ) (r : Refusal) → IsKnown left read reads source → IsMatched words → 67108864 < length source → IsCauseHere r → IsRefusedWith (statuses.Refused r) refusals.InputTooLong
   long_refused source refusals.Usage k m l c = absurd (c m)
   long_refused source refusals.ReadFault k m l c = absurd (k.calm c.0)
+  long_refused source refusals.OpenFault k m l c = absurd c
   long_refused source refusals.InputTooLong k m l c = inl refl
   long_refused source refusals.WriteFault k m l c = absurd (not_whole source c.1.whole.source k l c.1.whole.read)
   long_refused source (refusals.ListLimit most) k m l c = absurd (input_not_long source (refusals.ListLimit most) k l c.0)

@@ -53,6 +53,7 @@ stopped_before job source held n r w h = at r h (refused_as_job job source r h)
 whole_answer : (job : Job) (source text : List ℕ) → WritesAtEnd job → IsAnswerTo job source text → IsWholeTextOf job source text
 whole_answer (jobs.Buchberger weighted revlex pairs) source text w a = record { value = a.value; read = a.read; formed = a.answer.formed; is_whole = a.answer.is_answer }
 whole_answer (jobs.Bases from_basis limit pairs certificates workers) source text w a = absurd w
+whole_answer (jobs.FanCommonRefinement first second) source text w a = absurd w
 whole_answer jobs.IsMarkedGroebnerBasis source text w a = record { value = a.value; read = a.read; formed = a.answer.formed; is_whole = a.answer.is_answer }
 whole_answer jobs.DoesIdealContain source text w a = record { value = a.value; read = a.read; formed = a.answer.formed; is_whole = a.answer.is_answer }
 whole_answer (jobs.LeadingTerms false) source text w a = record { value = a.value; read = a.read; formed = a.answer.formed; is_whole = a.answer.is_answer }
@@ -68,6 +69,9 @@ whole_answer (jobs.GroebnerCone false certificates restricted as_fan) source tex
 whole_answer (jobs.GroebnerCone true certificates restricted as_fan) source text w a = record { value = a.value; read = a.read; formed = a.answer.formed; is_whole = a.answer.is_answer }
 whole_answer (jobs.ToPolyhedralFan restrict) source text w a = record { value = a.value; read = a.read; formed = a.answer.formed; is_whole = a.answer.is_answer }
 whole_answer jobs.HomogeneitySpace source text w a = record { value = a.value; read = a.read; formed = a.answer.formed; is_whole = a.answer.is_answer }
+whole_answer jobs.TropicalHypersurface source text w a = record { value = a.value; read = a.read; formed = a.answer.formed; is_whole = a.answer.is_answer }
+whole_answer jobs.TropicalIntersection source text w a = record { value = a.value; read = a.read; formed = a.answer.formed; is_whole = a.answer.is_answer }
+whole_answer jobs.MinkowskiSum source text w a = record { value = a.value; read = a.read; formed = a.answer.formed; is_whole = a.answer.is_answer }
 
 -- its one write fails
 pub stopped_write : (job : Job) (source text : List ℕ) (held holds : Option (List ℕ)) (n m : ℕ) → WritesAtEnd job → IsAnswerTo job source text → Rose n m → AppendsPrefix held holds text → IsStopped job source held holds n m refusals.WriteFault

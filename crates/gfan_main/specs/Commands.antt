@@ -23,6 +23,8 @@ use Rattle.gfan_main.specs.WeightVector.{weight_vector_command}
 use Rattle.gfan_main.specs.GroebnerCone.{groebner_cone_command}
 use Rattle.gfan_main.specs.ToPolyhedralFan.{to_polyhedral_fan_command}
 use Rattle.gfan_main.specs.HomogeneitySpace.{homogeneity_space_command}
+use Rattle.gfan_main.specs.declared.tropical.TropicalFan.TheVariants as fans
+use Rattle.gfan_main.specs.Tropical.{tropical_command}
 
 -- the options of `_buchberger`
 abbrev pub options : Bool → Bool → ℕ → Options
@@ -36,47 +38,67 @@ list_options limit pairs certificates = record { limit = limit; pairs = pairs; c
 abbrev pub cone_options : Bool → Bool → Bool → ConeOptions
 cone_options certificates restricted as_fan = record { certificates = certificates; restricted = restricted; as_fan = as_fan }
 
--- the command of a job; that of `_bases` is the same for every number of workers
-abbrev pub command : Job → Command
-command (jobs.Buchberger weighted revlex pairs) = buchberger_command (options weighted revlex pairs)
-command (jobs.Bases false limit pairs certificates workers) = bases_command (list_options limit pairs certificates)
-command (jobs.Bases true limit pairs certificates workers) = given_bases_command (list_options limit pairs certificates)
-command jobs.IsMarkedGroebnerBasis = marked_command
-command jobs.DoesIdealContain = containment_command
-command (jobs.LeadingTerms listed) = leading_terms_command listed
-command jobs.MarkPolynomialSet = mark_polynomial_set_command
-command jobs.InitialForms = initial_forms_command
-command jobs.Homogenize = homogenize_command
-command jobs.PolynomialSetUnion = polynomial_set_union_command
-command jobs.Stats = stats_command
-command (jobs.WeightVector listed echoed) = weight_vector_command listed echoed
-command (jobs.GroebnerCone vector_input certificates restricted as_fan) = groebner_cone_command vector_input (cone_options certificates restricted as_fan)
-command (jobs.ToPolyhedralFan restrict) = to_polyhedral_fan_command restrict
-command jobs.HomogeneitySpace = homogeneity_space_command
+-- how a job works: by a command on the input; or on files, and it doesn't read the input
+pub data JobWork : Type 1 where
+  on_input : Command → JobWork
+  on_files : JobWork
+
+-- that of each job; that of `_bases` is the same for every number of workers
+abbrev pub work_of : Job → JobWork
+work_of (jobs.Buchberger weighted revlex pairs) = JobWork.on_input (buchberger_command (options weighted revlex pairs))
+work_of (jobs.Bases false limit pairs certificates workers) = JobWork.on_input (bases_command (list_options limit pairs certificates))
+work_of (jobs.Bases true limit pairs certificates workers) = JobWork.on_input (given_bases_command (list_options limit pairs certificates))
+work_of jobs.IsMarkedGroebnerBasis = JobWork.on_input marked_command
+work_of jobs.DoesIdealContain = JobWork.on_input containment_command
+work_of (jobs.LeadingTerms listed) = JobWork.on_input (leading_terms_command listed)
+work_of jobs.MarkPolynomialSet = JobWork.on_input mark_polynomial_set_command
+work_of jobs.InitialForms = JobWork.on_input initial_forms_command
+work_of jobs.Homogenize = JobWork.on_input homogenize_command
+work_of jobs.PolynomialSetUnion = JobWork.on_input polynomial_set_union_command
+work_of jobs.Stats = JobWork.on_input stats_command
+work_of (jobs.WeightVector listed echoed) = JobWork.on_input (weight_vector_command listed echoed)
+work_of (jobs.GroebnerCone vector_input certificates restricted as_fan) = JobWork.on_input (groebner_cone_command vector_input (cone_options certificates restricted as_fan))
+work_of (jobs.ToPolyhedralFan restrict) = JobWork.on_input (to_polyhedral_fan_command restrict)
+work_of jobs.HomogeneitySpace = JobWork.on_input homogeneity_space_command
+work_of jobs.TropicalHypersurface = JobWork.on_input (tropical_command fans.Hypersurface)
+work_of jobs.TropicalIntersection = JobWork.on_input (tropical_command fans.Intersection)
+work_of jobs.MinkowskiSum = JobWork.on_input (tropical_command fans.MinkowskiSum)
+work_of (jobs.FanCommonRefinement first second) = JobWork.on_files
+
+-- the job works on the input by a command of which this holds
+abbrev pub IsOnInput : JobWork → (Command → Type 0) → Type 0
+IsOnInput (JobWork.on_input c) P = P c
+IsOnInput JobWork.on_files P = ⊥
 
 -- the text is what the job writes for the source
 abbrev pub IsAnswerTo : Job → List ℕ → List ℕ → Type 0
-IsAnswerTo job source text = IsAnswered (command job) source text
+IsAnswerTo job source text = IsOnInput (work_of job) (λ c. IsAnswered c source text)
 
 -- the text is all that the job writes for the source, where nothing stops it
 abbrev pub IsWholeTextOf : Job → List ℕ → List ℕ → Type 0
-IsWholeTextOf job source text = IsWholeFor (command job) source text
+IsWholeTextOf job source text = IsOnInput (work_of job) (λ c. IsWholeFor c source text)
 
 -- the job has no answer for the source, for this reason
 abbrev pub IsRefusalOf : Job → List ℕ → Refusal → Type 0
-IsRefusalOf job source refusal = IsCommandRefused (command job) source refusal
+IsRefusalOf job source refusal = IsOnInput (work_of job) (λ c. IsCommandRefused c source refusal)
 
 -- the job may have written this for the source before it is refused so
 abbrev pub IsBegunBy : Job → List ℕ → List ℕ → Refusal → Type 0
-IsBegunBy job source text refusal = IsBegunFor (command job) source text refusal
+IsBegunBy job source text refusal = IsOnInput (work_of job) (λ c. IsBegunFor c source text refusal)
 
 -- the source is what the job reads, and nothing that the job may do with it leaves its limits
 abbrev pub IsWithinReach : Job → List ℕ → Type 0
-IsWithinReach job source = IsInReach (command job) source
+IsWithinReach job source = IsOnInput (work_of job) (λ c. IsInReach c source)
 
--- the job writes one piece at its end; `_bases` alone writes as it goes
+-- the job reads the input; `_fancommonrefinement` alone doesn't
+abbrev pub ReadsInput : Job → Type 0
+ReadsInput (jobs.FanCommonRefinement first second) = ⊥
+ReadsInput _ = Unit {0}
+
+-- the job reads the input and writes one piece at its end; `_bases` writes as it goes
 abbrev pub WritesAtEnd : Job → Type 0
 WritesAtEnd (jobs.Bases from_basis limit pairs certificates workers) = ⊥
+WritesAtEnd (jobs.FanCommonRefinement first second) = ⊥
 WritesAtEnd _ = Unit {0}
 
 -- ---- kinds of refusals

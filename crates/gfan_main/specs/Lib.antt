@@ -17,6 +17,7 @@ pub mod WeightVector  -- what `_weightvector` reads and writes
 pub mod FanTexts  -- why there is no fan, as a refusal of the run
 pub mod ToPolyhedralFan  -- what `_topolyhedralfan` reads and writes
 pub mod HomogeneitySpace  -- what `_homogeneityspace` reads and writes
+pub mod Tropical  -- what `_tropicalhypersurface`, `_tropicalintersection` and `_minkowskisum` read and write
 pub mod ToldCones  -- what `_groebnercone` tells of a cone
 pub mod GroebnerCone  -- what `_groebnercone` reads and writes
 pub mod BasesList  -- the list of all bases of an ideal
@@ -26,6 +27,7 @@ pub mod CertifiedBases  -- what certificates show
 pub mod GivenBasis  -- what `_bases -g` reads and writes
 pub mod Refused  -- a refusal with the ring in whose names it is told
 pub mod BasesWriting  -- how `_bases` writes its list
+pub mod CommonRefinement  -- what `_fancommonrefinement` reads and writes
 pub mod Commands  -- what the program does for each job
 pub mod GivingWeights  -- the weights that `_weightvector` writes give the bases that it read
 pub mod Performed  -- what a job does to the output

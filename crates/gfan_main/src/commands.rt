@@ -1,18 +1,19 @@
-// What the program does for each job.
+// What the program does for each job that reads the input.
 ghost use Rattle.std.specs.Prelude.{◌≡◌, IfOk, IfErr, OnOk, MatchResult};
 ghost use Rattle.gf_front.specs.Jobs.{HasNumbersInRange};
 ghost use Rattle.gfan_main.specs.Refused.{IsOfSource};
-ghost use Rattle.gfan_main.specs.Commands.{IsAnswerTo, IsRefusalOf, WritesAtEnd};
+ghost use Rattle.gfan_main.specs.Commands.{IsAnswerTo, IsRefusalOf, ReadsInput, WritesAtEnd};
 ghost use Rattle.gfan_main.specs.Performed.{IsPerformed, IsStopped};
 
 use crate::bases::ListOptions;
 use crate::buchberger::Options;
 use crate::refused::Refused;
 use crate::told_cone::ConeOptions;
+use crate::tropical::TropicalFan;
 use crate::{
     bases, buchberger, containment, given_basis, groebner_cone, homogeneity_space, homogenize,
     initial_forms, leading_terms, mark_polynomial_set, marked, polynomial_set_union, stats,
-    to_polyhedral_fan, weight_vector,
+    to_polyhedral_fan, tropical, weight_vector,
 };
 use gf_front::{Job, Refusal};
 use gf_outside::{Sink, WriteFault, write_all};
@@ -21,7 +22,12 @@ use std::alloc::Global;
 use std::thread::Threads;
 
 /// What a job that writes one piece at its end writes for the source.
-fn answered(alloc: Global, job: &Job, source: &[u8]) -> Result<Vec<u8>, Refused>
+fn answered<R: Threads + Sync>(
+    rt: &R,
+    alloc: Global,
+    job: &Job,
+    source: &[u8],
+) -> Result<Vec<u8>, Refused>
     requires { WritesAtEnd job.now }
     ensures ok { IfOk result (λ text. IsAnswerTo job.now source.now text.items) }
     ensures err { IfErr result (λ e. IsRefusalOf job.now source.now e.refusal) }
@@ -40,7 +46,7 @@ fn answered(alloc: Global, job: &Job, source: &[u8]) -> Result<Vec<u8>, Refused>
             };
             buchberger::answer(alloc, source, options)
         }
-        Job::Bases { .. } => unreachable!(),
+        Job::Bases { .. } | Job::FanCommonRefinement { .. } => unreachable!(),
         Job::IsMarkedGroebnerBasis => marked::answer(alloc, source),
         Job::DoesIdealContain => containment::answer(alloc, source),
         Job::LeadingTerms { listed } => leading_terms::answer(alloc, source, *listed),
@@ -67,11 +73,19 @@ fn answered(alloc: Global, job: &Job, source: &[u8]) -> Result<Vec<u8>, Refused>
         }
         Job::ToPolyhedralFan { restrict } => to_polyhedral_fan::answer(alloc, source, *restrict),
         Job::HomogeneitySpace => homogeneity_space::answer(alloc, source),
+        Job::TropicalHypersurface => {
+            tropical::answer(rt, alloc, source, TropicalFan::Hypersurface)
+        }
+        Job::TropicalIntersection => {
+            tropical::answer(rt, alloc, source, TropicalFan::Intersection)
+        }
+        Job::MinkowskiSum => tropical::answer(rt, alloc, source, TropicalFan::MinkowskiSum),
     }
 }
 
 /// Writes the answer of such a job.
-fn write_answer<K: Sink>(
+fn write_answer<R: Threads + Sync, K: Sink>(
+    rt: &R,
     alloc: Global,
     job: &Job,
     source: &[u8],
@@ -85,7 +99,7 @@ fn write_answer<K: Sink>(
     ensures calm { MatchResult result (λ _. K.faults output.new ≡ K.faults output.old)
         (λ e. (e.refusal ≡ Refusal.WriteFault → ⊥) → K.faults output.new ≡ K.faults output.old) }
 {
-    let text = answered(alloc, job, source)?;
+    let text = answered(rt, alloc, job, source)?;
     match write_all(output, &text) {
         Ok(()) => Ok(()),
         Err(WriteFault) => Err(Refused::from(Refusal::WriteFault)),
@@ -101,7 +115,8 @@ pub(crate) fn perform<R: Threads + Sync, K: Sink, G: Gate>(
     output: &mut K,
     gate: &G,
 ) -> Result<(), Refused>
-    requires { HasNumbersInRange job.now }
+    requires limits { HasNumbersInRange job.now }
+    requires input { ReadsInput job.now }
     ensures done { OnOk result (IsPerformed job.now source.now (K.held output.old) (K.held output.new)) }
     ensures stopped { IfErr result (λ e. IsStopped job.now source.now (K.held output.old)
         (K.held output.new) (K.faults output.old) (K.faults output.new) e.refusal) }
@@ -128,6 +143,6 @@ pub(crate) fn perform<R: Threads + Sync, K: Sink, G: Gate>(
                 bases::perform(rt, alloc, source, options, *workers, output, gate)
             }
         }
-        other => write_answer(alloc, other, source, output),
+        other => write_answer(rt, alloc, other, source, output),
     }
 }

@@ -6,7 +6,10 @@
 // contains the set; `_leadingterms` reads a ring and a marked set, and writes its leading terms; `_markpolynomialset`,
 // `_initialforms`, `_homogenize`, `_polynomialsetunion` and `_stats` are small tools on sets; `_groebnercone` tells a cone,
 // `_weightvector` writes weights that give marked bases, `_topolyhedralfan` the fan of the cones of such bases, `_homogeneityspace` the
-// vectors by which polynomials are homogeneous. What a run does is told at `run`, what each command writes in `specs/Commands.antt`.
+// vectors by which polynomials are homogeneous, `_tropicalhypersurface` the tropical hypersurface of a polynomial, `_tropicalintersection`
+// the meet of those of a set, `_minkowskisum` the normal fan of the sum of Newton polytopes; `_fancommonrefinement` reads two files and
+// writes the fan of the meets of the cones of their fans. What a run does is told at `run`, what each command writes in
+// `specs/Commands.antt` and `specs/CommonRefinement.antt`.
 #![tactic(auto)]
 
 ghost use Rattle.std.specs.Prelude.{◌≡◌};
@@ -18,6 +21,7 @@ mod buchberger;
 mod certificates;
 mod checks;
 mod commands;
+mod common_refinement;
 mod containment;
 mod fan_text;
 mod given_basis;
@@ -32,6 +36,8 @@ mod marked;
 mod polynomial_set_union;
 mod printing;
 mod reduced_sets;
+#[cfg(test)]
+mod refinement_tests;
 mod refused;
 mod run;
 mod stats;
@@ -43,6 +49,7 @@ mod to_polyhedral_fan;
 mod told_cone;
 #[cfg(test)]
 mod tool_tests;
+mod tropical;
 mod weight_vector;
 #[cfg(test)]
 mod workers_tests;
@@ -50,7 +57,7 @@ mod workers_tests;
 use crate::refused::Refused;
 use crate::run::run;
 use gf_front::{Status, WordsError};
-use gf_outside::{StdSink, StdSource};
+use gf_outside::{RealFiles, StdSink, StdSource};
 use gf_waves::FreeGate;
 use std::env;
 use std::io::ErrorKind;
@@ -83,6 +90,7 @@ fn main(rt: HostRuntime) -> ExitCode {
         Ok(words) => {
             let mut input = StdSource::new(rt.stdin());
             let mut output = StdSink::new(rt.stdout());
+            let mut files = RealFiles::new(&rt);
             run(
                 &rt,
                 rt.alloc(),
@@ -90,6 +98,7 @@ fn main(rt: HostRuntime) -> ExitCode {
                 &mut input,
                 &mut output,
                 &mut faults,
+                &mut files,
                 &FreeGate,
             )
         }

@@ -19,8 +19,8 @@ use gf_text::{Ring, Written};
 use gf_vec::IntVec;
 use std::alloc::{AllocError, Global};
 
-// The polynomials of a set, without their marks. None is zero, since each has a marked term.
-fn polynomials(alloc: Global, set: &MarkedSet) -> Result<Vec<Poly>, AllocError>
+/// The polynomials of a set, without their marks. None is zero, since each has a marked term.
+pub(crate) fn polynomials(alloc: Global, set: &MarkedSet) -> Result<Vec<Poly>, AllocError>
     ensures value { IfOk result (λ fs. fs.items ≡ polys set.now.items) }
     ensures some { IfOk result (λ fs. All (λ f. f ≢ []) fs.items) }
     ensures variables { IfOk result (λ fs. All (HasVariables set.now.variables) fs.items) }

@@ -6,15 +6,19 @@ ghost use Rattle.gfan_main.specs.CheckedSets.{of_check};
 ghost use Rattle.gfan_main.specs.ToldCones.{of_sections};
 ghost use Rattle.gfan_main.specs.Refused.{names_of, IsNamedBy, WrittenAsFar};
 ghost use Rattle.gfan_main.specs.Stats.{of_gordan};
+ghost use Rattle.gfan_main.specs.Tropical.{of_tropical};
 
 use gf_buchberger::BasisError;
+use gf_fanfile::FanFileError;
 use gf_front::{Refusal, WordsError};
 use gf_gordan::GordanError;
 use gf_outside::Sink;
 use gf_reduced::CheckError;
+use gf_refine::RefineError;
 use gf_sections::SectionsError;
 use gf_text::{Ring, Syntax, TextError};
 use gf_tree::TreeError;
+use gf_tropical::TropicalError;
 use gf_weights::WeightError;
 use std::alloc::AllocError;
 
@@ -109,6 +113,22 @@ pub(crate) fn of_gordan(error: GordanError) -> Refusal
             right: o.right,
         },
         GordanError::Memory => Refusal::Memory,
+    }
+}
+
+/// Why there is no fan of polynomials, as a refusal of the run.
+pub(crate) fn of_tropical(error: TropicalError) -> Refusal
+    ensures { result ≡ of_tropical error }
+{
+    match error {
+        TropicalError::Cone(o) => Refusal::ConeOverflow {
+            row: o.row,
+            op: o.op,
+            left: o.left,
+            right: o.right,
+        },
+        TropicalError::ZeroPolynomial { set, index } => Refusal::ZeroPolynomial { set, index },
+        TropicalError::Memory => Refusal::Memory,
     }
 }
 
@@ -245,6 +265,52 @@ impl From<TreeError> for Refused {
                 right: o.right,
             },
             TreeError::Memory => Refusal::Memory,
+        })
+    }
+}
+
+impl From<FanFileError> for Refused {
+    ghost use Rattle.gfan_main.specs.CommonRefinement.{of_fan_file};
+    ghost use Rattle.gfan_main.specs.Refused.{without_names};
+
+    ghost from_gives = { λ f e. e ≡ without_names (of_fan_file f) };
+
+    fn from(error: FanFileError) -> Refused {
+        Refused::from(match error {
+            FanFileError::Syntax(s) => Refusal::Syntax(s),
+            FanFileError::TooWide { at } => Refusal::TooWide { at },
+            FanFileError::TooManyVariables { count } => Refusal::TooManyVariables { count },
+            FanFileError::Cone(o) => Refusal::ConeOverflow {
+                row: o.row,
+                op: o.op,
+                left: o.left,
+                right: o.right,
+            },
+            FanFileError::NotAFan { first, second } => Refusal::NotAFan { first, second },
+            FanFileError::Missing { section } => Refusal::Missing { section },
+            FanFileError::BadRay { number } => Refusal::BadRay { number },
+            FanFileError::Dimensions { left, right } => Refusal::Dimensions { left, right },
+            FanFileError::Memory => Refusal::Memory,
+        })
+    }
+}
+
+impl From<RefineError> for Refused {
+    ghost use Rattle.gfan_main.specs.CommonRefinement.{of_refine};
+    ghost use Rattle.gfan_main.specs.Refused.{without_names};
+
+    ghost from_gives = { λ r e. e ≡ without_names (of_refine r) };
+
+    fn from(error: RefineError) -> Refused {
+        Refused::from(match error {
+            RefineError::Cone(o) => Refusal::ConeOverflow {
+                row: o.row,
+                op: o.op,
+                left: o.left,
+                right: o.right,
+            },
+            RefineError::Dimensions { left, right } => Refusal::Dimensions { left, right },
+            RefineError::Memory => Refusal::Memory,
         })
     }
 }

@@ -1,6 +1,6 @@
 // The small tools over memory: the status, what is written, and what is told.
 use crate::run::run;
-use gf_outside::{MemSink, MemSource};
+use gf_outside::{MemSink, MemSource, SureFiles};
 use gf_waves::FreeGate;
 use std::alloc::Global;
 use std::test::Fail;
@@ -23,6 +23,7 @@ fn ends<R: Threads + Sync>(
     let mut source = MemSource::new(input.as_bytes().to_vec(alloc)?, 7, vec![in alloc]?);
     let mut output = MemSink::new(alloc, 8, vec![in alloc]?);
     let mut faults = MemSink::new(alloc, 1_000, vec![in alloc]?);
+    let mut files = SureFiles::new(vec![in alloc]?);
     let status = run(
         rt,
         alloc,
@@ -30,6 +31,7 @@ fn ends<R: Threads + Sync>(
         &mut source,
         &mut output,
         &mut faults,
+        &mut files,
         &FreeGate,
     );
     Ok(
@@ -652,6 +654,111 @@ fn fans_are_written(rt: HostRuntime) -> Result<(), Fail> {
             1,
             "",
             "gfan: E8 syntax at byte 13: unexpected\n",
+        ),
+    ];
+    for (words, input, code, text, told) in rows {
+        assert!(rt;
+            ends(&rt, rt.alloc(), words, input, code, text, told)?,
+            "{words} {input}"
+        );
+    }
+    Ok(())
+}
+
+/// Tropical hypersurfaces, their meets and Minkowski fans, by the maximum convention; the number of polynomials is judged before zero
+/// polynomials.
+#[test]
+fn fans_of_polynomials_are_written(rt: HostRuntime) -> Result<(), Fail> {
+    let tropical_line =
+        "AMBIENT_DIM\n2\n\nDIM\n1\n\nLINEALITY_DIM\n0\n\nRAYS\n-1 0\t# 0\n0 -1\t# 1\n1 1\t# 2\n\nN_RAYS\n3\n\nLINEALITY_SPACE\n\nORTH_LINEALITY_SPACE\n1 0\n0 1\n\nF_VECTOR\n1 3\n\nSIMPLICIAL\n1\n\nPURE\n1\n\nCONES\n{}\t# Dimension 0\n{0}\t# Dimension 1\n{1}\n{2}\n\nMAXIMAL_CONES\n{0}\t# Dimension 1\n{1}\n{2}\n\n";
+    let whole_space =
+        "AMBIENT_DIM\n1\n\nDIM\n1\n\nLINEALITY_DIM\n1\n\nRAYS\n\nN_RAYS\n0\n\nLINEALITY_SPACE\n1\n\nORTH_LINEALITY_SPACE\n\nF_VECTOR\n1\n\nSIMPLICIAL\n1\n\nPURE\n1\n\nCONES\n{}\t# Dimension 1\n\nMAXIMAL_CONES\n{}\t# Dimension 1\n\n";
+    let rows = [
+        (
+            "_tropicalhypersurface",
+            "Q[a,b] {a+b+1}",
+            0u8,
+            tropical_line,
+            "",
+        ),
+        (
+            "_tropicalhypersurface",
+            "Q[a,b] {a-b}",
+            0,
+            "AMBIENT_DIM\n2\n\nDIM\n1\n\nLINEALITY_DIM\n1\n\nRAYS\n\nN_RAYS\n0\n\nLINEALITY_SPACE\n1 1\n\nORTH_LINEALITY_SPACE\n1 -1\n\nF_VECTOR\n1\n\nSIMPLICIAL\n1\n\nPURE\n1\n\nCONES\n{}\t# Dimension 1\n\nMAXIMAL_CONES\n{}\t# Dimension 1\n\n",
+            "",
+        ),
+        (
+            "_tropicalhypersurface",
+            "Q[a,b] {a}",
+            0,
+            "AMBIENT_DIM\n2\n\nDIM\n-1\n\nLINEALITY_DIM\n0\n\nRAYS\n\nN_RAYS\n0\n\nLINEALITY_SPACE\n\nORTH_LINEALITY_SPACE\n1 0\n0 1\n\nF_VECTOR\n\nSIMPLICIAL\n1\n\nPURE\n1\n\nCONES\n\nMAXIMAL_CONES\n\n",
+            "",
+        ),
+        (
+            "_tropicalhypersurface",
+            "Q[a] {0}",
+            1,
+            "",
+            "gfan: E22 zero polynomial: set 0 polynomial 0\n",
+        ),
+        (
+            "_tropicalhypersurface",
+            "Q[a] {a,0}",
+            1,
+            "",
+            "gfan: E21 dimension 2 where 1 is needed\n",
+        ),
+        (
+            "_tropicalhypersurface",
+            "Q[a] {}",
+            1,
+            "",
+            "gfan: E21 dimension 0 where 1 is needed\n",
+        ),
+        (
+            "_tropicalintersection",
+            "Q[a,b] {a+b+1,a-b}",
+            0,
+            "AMBIENT_DIM\n2\n\nDIM\n1\n\nLINEALITY_DIM\n0\n\nRAYS\n1 1\t# 0\n\nN_RAYS\n1\n\nLINEALITY_SPACE\n\nORTH_LINEALITY_SPACE\n1 0\n0 1\n\nF_VECTOR\n1 1\n\nSIMPLICIAL\n1\n\nPURE\n1\n\nCONES\n{}\t# Dimension 0\n{0}\t# Dimension 1\n\nMAXIMAL_CONES\n{0}\t# Dimension 1\n\n",
+            "",
+        ),
+        (
+            "_tropicalintersection",
+            "Q[a,b] {a+b+1,2a+b-3}",
+            0,
+            tropical_line,
+            "",
+        ),
+        ("_tropicalintersection", "Q[a] {}", 0, whole_space, ""),
+        (
+            "_tropicalintersection",
+            "Q[a,b] {a+b,a-a}",
+            1,
+            "",
+            "gfan: E22 zero polynomial: set 0 polynomial 1\n",
+        ),
+        (
+            "_minkowskisum",
+            "Q[a,b] {a+1,b+1}",
+            0,
+            "AMBIENT_DIM\n2\n\nDIM\n2\n\nLINEALITY_DIM\n0\n\nRAYS\n-1 0\t# 0\n0 -1\t# 1\n0 1\t# 2\n1 0\t# 3\n\nN_RAYS\n4\n\nLINEALITY_SPACE\n\nORTH_LINEALITY_SPACE\n1 0\n0 1\n\nF_VECTOR\n1 4 4\n\nSIMPLICIAL\n1\n\nPURE\n1\n\nCONES\n{}\t# Dimension 0\n{0}\t# Dimension 1\n{1}\n{2}\n{3}\n{0 1}\t# Dimension 2\n{0 2}\n{1 3}\n{2 3}\n\nMAXIMAL_CONES\n{0 1}\t# Dimension 2\n{0 2}\n{1 3}\n{2 3}\n\n",
+            "",
+        ),
+        ("_minkowskisum", "Q[a] {}", 0, whole_space, ""),
+        (
+            "_minkowskisum",
+            "Q[a] {0}",
+            1,
+            "",
+            "gfan: E22 zero polynomial: set 0 polynomial 0\n",
+        ),
+        (
+            "_minkowskisum",
+            "Q[a] {} (1)",
+            1,
+            "",
+            "gfan: E8 syntax at byte 8: unexpected\n",
         ),
     ];
     for (words, input, code, text, told) in rows {

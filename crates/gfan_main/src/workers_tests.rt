@@ -1,6 +1,6 @@
 // `_bases` by several workers, over memory: the same bytes, the same refusals, and jobs side by side.
 use crate::run::run;
-use gf_outside::{MemSink, SureSource};
+use gf_outside::{MemSink, SureFiles, SureSource};
 use gf_waves::{FreeGate, Gate};
 use std::alloc::Global;
 use std::sync::atomic::{AtomicU64, Ordering};
@@ -46,6 +46,7 @@ fn ended<R: Threads + Sync, G: Gate>(
     let mut source = SureSource::new(String::from_str(alloc, input)?.into_bytes());
     let mut output = MemSink::new(alloc, 1_000, vec![in alloc]?);
     let mut faults = MemSink::new(alloc, 1_000, vec![in alloc]?);
+    let mut files = SureFiles::new(vec![in alloc]?);
     let status = run(
         rt,
         alloc,
@@ -53,6 +54,7 @@ fn ended<R: Threads + Sync, G: Gate>(
         &mut source,
         &mut output,
         &mut faults,
+        &mut files,
         gate,
     );
     Ok(Ending {
