@@ -58,6 +58,11 @@ fn options_stand_in_any_place(rt: HostRuntime) -> Result<(), Fail> {
         let job = answered(rt.alloc(), line)?;
         assert_eq!(rt; job, Ok(buchberger(weighted, revlex, pairs)), "{line}");
     }
+    Ok(())
+}
+
+#[test]
+fn a_list_has_a_limit_and_workers(rt: HostRuntime) -> Result<(), Fail> {
     let rows = [
         ("_bases", false, None, 100_000_000u64, 1u32),
         ("_bases --limit 3", false, Some(3u64), 100_000_000, 1),
@@ -85,6 +90,11 @@ fn options_stand_in_any_place(rt: HostRuntime) -> Result<(), Fail> {
         };
         assert_eq!(rt; job, Ok(bases), "{line}");
     }
+    Ok(())
+}
+
+#[test]
+fn a_list_has_certificates(rt: HostRuntime) -> Result<(), Fail> {
     let certified = Job::Bases {
         from_basis: true,
         limit: None,
@@ -94,6 +104,11 @@ fn options_stand_in_any_place(rt: HostRuntime) -> Result<(), Fail> {
     };
     let job = answered(rt.alloc(), "_bases --certificates --pairs 7 -g")?;
     assert_eq!(rt; job, Ok(certified));
+    Ok(())
+}
+
+#[test]
+fn a_cone_has_four_options(rt: HostRuntime) -> Result<(), Fail> {
     for (line, vector_input, certificates, restricted, as_fan) in [
         ("_groebnercone", false, false, false, false),
         ("_groebnercone --vectorinput", true, false, false, false),
@@ -128,40 +143,50 @@ fn options_stand_in_any_place(rt: HostRuntime) -> Result<(), Fail> {
         };
         assert_eq!(rt; job, Ok(cone), "{line}");
     }
-    for (line, listed, echoed) in [
-        ("_weightvector", false, false),
-        ("_weightvector -e", false, true),
-        ("_weightvector -me", true, true),
-    ] {
-        let job = answered(rt.alloc(), line)?;
-        assert_eq!(rt; job, Ok(Job::WeightVector { listed, echoed }), "{line}");
-    }
-    let rows = [
-        ("_ismarkedgroebnerbasis", Job::IsMarkedGroebnerBasis),
-        ("_doesidealcontain", Job::DoesIdealContain),
-        ("_markpolynomialset", Job::MarkPolynomialSet),
-        ("_initialforms", Job::InitialForms),
-        ("_homogenize", Job::Homogenize),
-        ("_polynomialsetunion", Job::PolynomialSetUnion),
-        ("_polynomialsetunion --", Job::PolynomialSetUnion),
-        ("_stats", Job::Stats),
-        ("_topolyhedralfan", Job::ToPolyhedralFan { restrict: false }),
+    Ok(())
+}
+
+#[test]
+fn other_commands_have_their_jobs(rt: HostRuntime) -> Result<(), Fail> {
+    for (line, wanted) in [
+        ("_ismarkedgroebnerbasis", "Ok(IsMarkedGroebnerBasis)"),
+        ("_doesidealcontain", "Ok(DoesIdealContain)"),
+        ("_leadingterms", "Ok(LeadingTerms { listed: false })"),
+        ("_leadingterms -m", "Ok(LeadingTerms { listed: true })"),
+        ("_markpolynomialset", "Ok(MarkPolynomialSet)"),
+        ("_initialforms", "Ok(InitialForms)"),
+        ("_homogenize", "Ok(Homogenize)"),
+        ("_polynomialsetunion", "Ok(PolynomialSetUnion)"),
+        ("_polynomialsetunion --", "Ok(PolynomialSetUnion)"),
+        ("_stats", "Ok(Stats)"),
+        (
+            "_weightvector",
+            "Ok(WeightVector { listed: false, echoed: false })",
+        ),
+        (
+            "_weightvector -e",
+            "Ok(WeightVector { listed: false, echoed: true })",
+        ),
+        (
+            "_weightvector -me",
+            "Ok(WeightVector { listed: true, echoed: true })",
+        ),
+        (
+            "_topolyhedralfan",
+            "Ok(ToPolyhedralFan { restrict: false })",
+        ),
         (
             "_topolyhedralfan --restrict",
-            Job::ToPolyhedralFan { restrict: true },
+            "Ok(ToPolyhedralFan { restrict: true })",
         ),
-        ("_homogeneityspace", Job::HomogeneitySpace),
-        ("_tropicalhypersurface", Job::TropicalHypersurface),
-        ("_tropicalintersection", Job::TropicalIntersection),
-        ("_minkowskisum --", Job::MinkowskiSum),
-    ];
-    for (line, wanted) in rows {
+        ("_homogeneityspace", "Ok(HomogeneitySpace)"),
+        ("_tropicalhypersurface", "Ok(TropicalHypersurface)"),
+        ("_tropicalintersection", "Ok(TropicalIntersection)"),
+        ("_minkowskisum --", "Ok(MinkowskiSum)"),
+    ] {
         let job = answered(rt.alloc(), line)?;
-        assert_eq!(rt; job, Ok(wanted), "{line}");
-    }
-    for (line, listed) in [("_leadingterms", false), ("_leadingterms -m", true)] {
-        let job = answered(rt.alloc(), line)?;
-        assert_eq!(rt; job, Ok(Job::LeadingTerms { listed }), "{line}");
+        let shown = format!(in rt.alloc(); "{job:?}")?;
+        assert_eq!(rt; shown.as_str(), wanted, "{line}");
     }
     Ok(())
 }
