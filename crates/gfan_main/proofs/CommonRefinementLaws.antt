@@ -1,11 +1,9 @@
 -- What `_fancommonrefinement` answers, why it doesn't, and that two texts are answered in one way.
 -- To cite: refined_told, words_once, words_no_text, once_no_text, within_answered; file_unnamed, refine_unnamed, memory_unnamed, write_unnamed, loading_unnamed;
 -- loaded_all, second_along. The rest are steps.
-use Rattle.std.specs.Prelude.{◌≡◌, ◌≢◌, ◌⊎◌, ℕ, nat_eq, ◌≤◌, true, false, List, length, Option, Some, None, Result, Ok, Err}
-use Rattle.std.specs.Io.KnownBytes.{Appends, Keeps}
-use Rattle.std.proofs.Common.{arith, refl, sym, ap, ◌∙◌, subst, inl, inr}
-use Rattle.gf_outside.specs.Faults.{Rose}
-use Rattle.gf_outside.specs.Moved.{Counts, Took, AppendsPrefix}
+use Rattle.std.specs.Prelude.{◌≡◌, ◌⊎◌, ℕ, List, Option, None}
+use Rattle.std.proofs.Common.{refl, sym, ap, ◌∙◌, subst, inl, inr}
+use Rattle.gf_outside.specs.Moved.{Took}
 use Rattle.gf_fan.specs.FanLists.{FanLists}
 use Rattle.gf_front.specs.declared.refusal.Refusal.{Refusal}
 use Rattle.gf_front.specs.declared.refusal.Refusal.TheVariants as refusals
@@ -21,7 +19,7 @@ use Rattle.gf_refine.specs.declared.error.RefineError.TheVariants as refine_erro
 use Rattle.gf_refine.specs.Refusals.{IsRefineRefusal}
 use Rattle.gfan_main.specs.Refused.{IsNamedBy, without_names}
 use Rattle.gfan_main.specs.BasesWriting.{IsUnnamed}
-use Rattle.gfan_main.specs.CommonRefinement.{of_fan_file, of_refine, IsLoaded, AreLoaded, IsRefinementText, IsRefinementRefused, IsOfWords, IsRefusedInWords, IsRefinementWithin, IsRefined, IsLoadingCause, IsFilesCause}
+use Rattle.gfan_main.specs.CommonRefinement.{of_fan_file, of_refine, IsLoaded, AreLoaded, IsRefinementText, IsRefinementRefused, IsRefusedInWords, IsRefinementWithin, IsLoadingCause}
 use Rattle.gf_fanfile.proofs.FanOnceLaws.{refusals_once, refusal_refutes}
 use Rattle.gfan_main.proofs.FanFileLaws.{told_words, words_refused_once, within_memory, ambient_once}
 

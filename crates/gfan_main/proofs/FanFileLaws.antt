@@ -1,6 +1,6 @@
 -- What a fan file says within limits, and what is refused of it exactly.
 -- To cite: within_memory, ambient_once, told_words, words_refused_once. The rest are steps.
-use Rattle.std.specs.Prelude.{◌≡◌, ◌⊎◌, ℕ, nat_eq, ◌<◌, Bool, true, false, List, [], ◌∷◌, ◌++◌, length, if◌then◌else◌}
+use Rattle.std.specs.Prelude.{◌≡◌, ◌⊎◌, ℕ, nat_eq, Bool, true, false, List, [], ◌∷◌, ◌++◌, length, if◌then◌else◌}
 use Rattle.std.proofs.Common.{arith, refl, sym, ap, ◌∙◌, subst, inl, inr}
 use Rattle.gf_fan.specs.declared.error.FanError.{FanError}
 use Rattle.gf_fan.specs.declared.error.FanError.TheVariants as fan_errors
@@ -8,7 +8,6 @@ use Rattle.gf_fan.specs.FanLists.{FanLists}
 use Rattle.gf_text.specs.declared.error.Cause.{Cause}
 use Rattle.gf_text.specs.declared.error.Cause.TheVariants as causes
 use Rattle.gf_text.specs.Machine.{Lexeme, Fault}
-use Rattle.gf_text.specs.RingText.{has}
 use Rattle.gf_fanfile.specs.declared.error.FanFileError.{FanFileError}
 use Rattle.gf_fanfile.specs.declared.error.FanFileError.TheVariants as errors
 use Rattle.gf_fanfile.specs.declared.file.FanFile.{FanFile}
@@ -18,7 +17,7 @@ use Rattle.gf_fanfile.specs.RowText.{AreRowTexts}
 use Rattle.gf_fanfile.specs.ConeText.{AreConeTexts}
 use Rattle.gf_fanfile.specs.NumberText.{IsOneNumberText}
 use Rattle.gf_fanfile.specs.FanText.{ContentKind, number_to, rows, cones, any, kind_in, Table, fan_table, IsFaultOf, IsContentFault, IsFirstFault, first_missing, wanted}
-use Rattle.gf_fanfile.specs.Files.{IsFileOf, IsSound, IsOfLimits, IsFormFault, zero_dimension, at_rays, at_lineality, at_ray, at_number, IsFileRefused, in_text, not_there, in_form, no_memory}
+use Rattle.gf_fanfile.specs.Files.{IsOfLimits, IsFormFault, zero_dimension, at_rays, at_lineality, at_ray, at_number, IsFileRefused, in_text, not_there, in_form, no_memory}
 use Rattle.gf_fanfile.specs.FilesFans.{IsFanOfText, IsFileWithinLimits, AreFileConesMeeting, refusal_of_fan, IsFanFault, in_cone, in_fan, IsFanFileRefusal, before_cones, behind_form}
 use Rattle.gf_fanfile.proofs.FanTextLaws.{text_sound}
 use Rattle.gf_fanfile.proofs.FilesLaws.{sections_once, file_once, length_sound, none_missing, refused_sound}

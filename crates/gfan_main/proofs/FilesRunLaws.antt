@@ -2,11 +2,10 @@
 -- To cite: words_other, input_job, other_reads, answer_job, refusal_job, reach_job, input_no_files, job_matched; reading_cause, unnamed_input; files_done, files_cause, files_usage, files_read_fault, files_open_fault, files_too_long,
 -- files_listed, files_outside, files_overflow, files_exponent_overflow, files_pair_budget, files_write, files_quiet, files_within, refined_within;
 -- refined_text, refused_files, files_long_refused, files_long_not_done. The rest are steps.
-use Rattle.std.specs.Prelude.{◌≡◌, ◌⊎◌, ℕ, ◌+◌, ◌<◌, ◌≤◌, List, length, Option, Some, None, IfSome}
-use Rattle.std.specs.Io.KnownBytes.{Consumes, Appends, Keeps}
+use Rattle.std.specs.Prelude.{◌≡◌, ◌⊎◌, ℕ, ◌<◌, ◌≤◌, List, length, Option, Some, IfSome}
+use Rattle.std.specs.Io.KnownBytes.{Keeps}
 use Rattle.std.proofs.Common.{arith, refl, sym, ap, ◌∙◌, subst, inl, inr}
 use Rattle.gf_outside.specs.Faults.{Rose}
-use Rattle.gf_outside.specs.Moved.{Counts, TookExactly, TookAtMost, AppendsPrefix}
 use Rattle.gf_front.specs.declared.command_line.Job.{Job}
 use Rattle.gf_front.specs.declared.command_line.Job.TheVariants as jobs
 use Rattle.gf_front.specs.declared.command_line.WordsError.{WordsError}
@@ -25,7 +24,7 @@ use Rattle.gfan_main.specs.Refused.{IsNamedBy}
 use Rattle.gfan_main.specs.BasesWriting.{IsUnnamed}
 use Rattle.gfan_main.specs.Commands.{ReadsInput, IsAnswerTo, IsRefusalOf, IsWithinReach, IsOverflow, IsExponentOverflow, IsPairBudget}
 use Rattle.gfan_main.specs.CommonRefinement.{of_fan_file, of_refine, IsLoaded, AreLoaded, IsWithinFile, AreWithinFiles, IsFileTooLong, IsRefinementText, IsRefinementRefused, IsRefined, IsLoadingCause, IsFilesCause}
-use Rattle.gfan_main.specs.Run.{AsksForInput, AsksForNoFiles, AsksForFiles, AsksForFans, AsksForJob, Answered, Refined, RefinedInPart, FilesRefused, LongFile, IsOfOutside, IsReadingCause, IsCause, IsRunFilesCause, IsRingOfInput, IsOfInput, IsRefusedWith}
+use Rattle.gfan_main.specs.Run.{AsksForInput, AsksForNoFiles, AsksForFiles, Refined, RefinedInPart, FilesRefused, LongFile, IsOfOutside, IsReadingCause, IsCause, IsRunFilesCause, IsRingOfInput, IsOfInput, IsRefusedWith}
 use Rattle.gfan_main.proofs.OutcomeLaws.{same_job, taken_known}
 
 -- ---- words

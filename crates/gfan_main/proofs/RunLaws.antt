@@ -13,9 +13,9 @@ use Rattle.gf_front.specs.declared.refusal.Refusal.{Refusal}
 use Rattle.gf_front.specs.declared.refusal.Refusal.TheVariants as refusals
 use Rattle.gf_front.specs.declared.refusal.Status.TheVariants as statuses
 use Rattle.gf_front.specs.Jobs.{IsMatched, IsJobOf}
-use Rattle.gf_items.specs.Commands.{IsOfText, IsOfForm, IsOfNumbers, IsOfTest, TellsSame}
+use Rattle.gf_items.specs.Commands.{IsOfText, IsOfForm, IsOfNumbers, IsOfTest}
 use Rattle.gfan_main.specs.Commands.{IsRefusalOf, IsWithinReach, IsOverflow, IsExponentOverflow, IsConeOverflow, IsPairBudget}
-use Rattle.gfan_main.specs.CommonRefinement.{AreWithinFiles, IsRefinementText, IsRefinementRefused, IsRefusedInWords, IsRefinementWithin}
+use Rattle.gfan_main.specs.CommonRefinement.{AreWithinFiles, IsRefinementRefused, IsRefusedInWords, IsRefinementWithin}
 use Rattle.gfan_main.specs.Run.{IsKnown, AsksForJob, AsksForInput, AsksForFiles, AsksForFans, Answered, AnsweredInPart, Refined, RefinedInPart, InputRefused, FilesRefused, LongFile, StandsBegun, IsOfOutside, IsRefusedWith, IsTestedWith, IsDoneUnlessMemory, IsRunInputCause, IsRunFilesCause}
 use Rattle.gfan_main.proofs.OutcomeLaws.{within_done, within_refused, refused_in_reach, text_not_done, text_refused, form_not_done, form_refused, test_not_done, test_refused, long_not_done, long_refused, input_refused}
 use Rattle.gfan_main.proofs.CommonRefinementLaws.{refined_told, words_once, words_no_text, once_no_text, within_answered}
