@@ -1,0 +1,384 @@
+-- How the list of `_bases` begins, goes on, ends and is refused.
+-- To cite: starts, goes_on, ends, stopped_early, stopped_tree, stopped_limit, stopped_piece, stopped_end; stopped_list, stopped_root; unnamed_basis, unnamed_tree,
+-- unnamed_full, unnamed_write, unnamed_piece, unwritten_calm, piece_calm, generators_in. The rest are steps.
+use Rattle.std.specs.Prelude.{◌≡◌, ◌⊎◌, ℕ, Bool, true, false, List, [], ◌∷◌, ◌++◌, length, Option, None, Some}
+use Rattle.std.specs.Io.KnownBytes.{Appends}
+use Rattle.std.specs.Global.{Global}
+use Rattle.std.proofs.Common.{arith, refl, sym, ap, ◌∙◌, subst, inl, inr, append_assoc, append-nil, length-append}
+use Rattle.std.proofs.KnownBytes.{Appends-nil, Appends-trans, Appends-kept, Keeps-refl}
+use Rattle.gf_outside.specs.Moved.{AppendsPrefix}
+use Rattle.gf_poly.specs.Polynomial.{Terms}
+use Rattle.gf_poly.specs.Marking.{MarkedPolynomials}
+use Rattle.gf_text.specs.declared.written.Written.{Written}
+use Rattle.gf_text.specs.Sets.{AreIn}
+use Rattle.gf_ideal.specs.Membership.{AreInVariables}
+use Rattle.gf_buchberger.specs.declared.bases.BasisError.{BasisError}
+use Rattle.gf_buchberger.specs.declared.bases.BasisError.TheVariants as basis_errors
+use Rattle.gf_buchberger.proofs.JobLaws.{ring_variables}
+use Rattle.gf_walk.specs.declared.mark.Mark.TheVariants.{Before}
+use Rattle.gf_walk.specs.Listing.{Among, Leaves}
+use Rattle.gf_walk.specs.Whole.{IsFinite}
+use Rattle.gf_facets.specs.Regions.{all_positive}
+use Rattle.gf_facets.specs.LexPositive.{IsBefore}
+use Rattle.gf_reverse.specs.Upward.{IsNode, IsNodeIn, IsParent, fan_of}
+use Rattle.gf_reverse.proofs.TreeLaws.{SameFan, count, upward_finite, node_moved, own_fan, back_fan}
+use Rattle.gf_tree.specs.declared.error.TreeError.{TreeError}
+use Rattle.gf_tree.specs.declared.error.TreeError.TheVariants as tree_errors
+use Rattle.gf_tree.specs.Ideals.{ideal_by}
+use Rattle.gf_tree.specs.Refusals.{IsTreeRefusal}
+use Rattle.gf_tree.proofs.RefusalLaws.{refusal_moved}
+use Rattle.gf_subtree.specs.Rows.{Row, ideal_in, AreLeftIn, row_at}
+use Rattle.gf_subtree.specs.Answers.{IsRowStep, IsRowEnd}
+use Rattle.gf_subtree.proofs.BasisRowLaws.{start_leaves}
+use Rattle.gf_weights.specs.declared.error.WeightError.{WeightError}
+use Rattle.gf_weights.specs.declared.error.WeightError.TheVariants as weight_errors
+use Rattle.gf_front.specs.declared.refusal.Refusal.{Refusal}
+use Rattle.gf_front.specs.declared.refusal.Refusal.TheVariants as refusals
+use Rattle.gfan.specs.declared.bases.ListOptions.{ListOptions}
+use Rattle.gfan.specs.declared.bases.Room.{Room}
+use Rattle.gfan.specs.declared.bases.Room.TheVariants.{Endless, Limited}
+use Rattle.gfan.specs.Buchberger.{generators_of, of_basis}
+use Rattle.gfan.specs.BasesList.{AreAllBases}
+use Rattle.gfan.specs.Certificates.{IsItemText, IsItemRefusal, of_weight_error}
+use Rattle.gfan.specs.Bases.{AreItemTexts, IsWithinLimit, IsTextOfBases, IsBegunList, IsBegunText, list_text, begun_text, of_tree, IsGoingCause, IsListCause, bases_command}
+use Rattle.gfan.specs.BasesWriting.{basis_piece, IsBasisWritten, IsUnwritten, IsBasisUnwritten, IsRoomFor, IsOneLess, IsFull, IsFirstBasis, IsRootRefusal, IsListWritten, IsListStopped, IsUnnamed, is_none_of, IsUnderWay}
+use Rattle.gfan.specs.Refused.{without_names}
+use Rattle.gfan.specs.Performed.{IsStoppedFor}
+use Rattle.gfan.proofs.BuchbergerLaws.{in_ring}
+use Rattle.gfan.proofs.BasesListLaws.{first_node, first_own, node_given, all_bases_from}
+use Rattle.gfan.proofs.CertificateLaws.{AllZip-append, items_exist}
+use Rattle.gfan.proofs.BasesTextLaws.{begun_next, whole_begun, prefix_on, prefix_piece}
+
+-- ---- room
+
+pub room_next : (limit : Option ℕ) (room after : Room) (written : List MarkedPolynomials) (b : MarkedPolynomials) → IsRoomFor limit room written → IsOneLess room after → IsRoomFor limit after (written ++ b ∷ [])
+room_next None Endless Endless written b h l = tt
+room_next None Endless (Limited most left) written b h l = absurd l
+room_next None (Limited most left) after written b h l = absurd h
+room_next (Some limit) Endless after written b h l = absurd h
+room_next (Some limit) (Limited most left) Endless written b h l = absurd l
+room_next (Some limit) (Limited most left) (Limited same less) written b h l = (l.0 ∙ h.0, omega (arith, h.1, l.1, length-append written (b ∷ [])))
+
+-- the limit is reached
+pub record IsAtLimit (limit : Option ℕ) (written : List MarkedPolynomials) (r : Refusal) : Type 0 where
+  pub most : ℕ
+  pub told : r ≡ refusals.ListLimit most
+  pub is_limit : limit ≡ Some most
+  pub just : length written ≡ most
+
+pub room_full : (limit : Option ℕ) (room : Room) (written : List MarkedPolynomials) (r : Refusal) → IsRoomFor limit room written → IsFull room r → IsAtLimit limit written r
+room_full None Endless written r h f = absurd f
+room_full None (Limited most left) written r h f = absurd h
+room_full (Some limit) Endless written r h f = absurd h
+room_full (Some limit) (Limited most left) written r h f = record { most = most; told = f.1; is_limit = ap Some (sym h.0); just = omega (arith, h.0, h.1, f.0) }
+
+room_within : (limit : Option ℕ) (room : Room) (written : List MarkedPolynomials) → IsRoomFor limit room written → IsWithinLimit limit written
+room_within None Endless written h = tt
+room_within None (Limited most left) written h = absurd h
+room_within (Some limit) Endless written h = absurd h
+room_within (Some limit) (Limited most left) written h = omega (arith, h.1)
+
+-- ---- the list under way
+
+among_right : (xs ys : List MarkedPolynomials) (x : MarkedPolynomials) → Among ys x → Among (xs ++ ys) x
+among_right [] ys x j = j
+among_right (y ∷ xs) ys x j = inr (among_right xs ys x j)
+
+module _ (o : ListOptions) (ring : List (List ℕ)) (fs : List Terms) where
+  -- before the first basis
+  pub starts : (alloc : Global) (workers : ℕ) (root : MarkedPolynomials) (room : Room) (held : Option (List ℕ)) → AreInVariables (length ring) fs → IsFirstBasis (length ring) fs root → IsRoomFor o.limit room [] →
+      IsUnderWay o ring fs (row_at alloc root workers o.pairs) room true held held
+  starts alloc workers root room held v first h = record {
+    written = [];
+    items = [];
+    are_items = tt;
+    rest = finite.nodes;
+    are_all = all_bases_from (length ring) fs root finite.nodes v first.variables first.reduced first.arranged finite.leaves;
+    left = start_leaves alloc root workers o.pairs mine finite.nodes (subst (λ n. Leaves IsBefore (IsParent (all_positive n)) Before root 0 finite.nodes) (sym first.variables) finite.leaves);
+    basis = node;
+    pairs = refl;
+    fits = h;
+    first = refl;
+    gained = Appends-nil held;
+  }
+    where
+      node : IsNodeIn (ideal_by (length ring) fs) root
+      node = first_node (length ring) fs root v first.variables first.reduced first.arranged
+
+      mine : IsNode (all_positive root.variables) root
+      mine = subst (λ k. IsNode (all_positive k) root) (sym first.variables) (first_own (length ring) fs root node)
+
+      finite : IsFinite IsBefore (IsParent (all_positive (length ring))) root (count (all_positive (length ring)) root)
+      finite = upward_finite (all_positive (length ring)) root (first_own (length ring) fs root node)
+
+  module _ (row : Row) (room : Room) (is_first : Bool) (held holds : Option (List ℕ)) (way : IsUnderWay o ring fs row room is_first held holds) where
+    -- the ideal of the row is the one that is read
+    same_fan : SameFan (ideal_in row) (ideal_by (length ring) fs)
+    same_fan = subst (λ n. SameFan (fan_of (all_positive n) row.start) (ideal_by (length ring) fs)) (sym way.basis.variables) (back_fan (ideal_by (length ring) fs) (fan_of (all_positive (length ring)) row.start) (own_fan (ideal_by (length ring) fs) row.start way.basis))
+
+    from_row : (x : MarkedPolynomials) → IsNodeIn (ideal_in row) x → IsNodeIn (ideal_by (length ring) fs) x
+    from_row x h = node_moved (ideal_in row) (ideal_by (length ring) fs) x same_fan h
+
+    -- a refusal of the waves is one at a basis of that ideal
+    tree_cause : (e : TreeError) → IsTreeRefusal (ideal_in row) row.pairs e → IsTreeRefusal (ideal_by (length ring) fs) o.pairs e
+    tree_cause e h = subst (λ p. IsTreeRefusal (ideal_by (length ring) fs) p e) way.pairs (refusal_moved (ideal_in row) (ideal_by (length ring) fs) row.pairs e same_fan h)
+
+    -- what is written until now
+    begun_here : (rest : List MarkedPolynomials) → way.rest ≡ rest → IsBegunList o.certified ring fs way.written rest (begun_text ring way.items)
+    begun_here rest e = record {
+      are_all = subst (λ l. AreAllBases (length ring) fs (way.written ++ l)) e way.are_all;
+      items = way.items;
+      are_items = way.are_items;
+      is_text = refl;
+    }
+
+    begun_now : IsBegunText o.certified ring fs (begun_text ring way.items)
+    begun_now = (way.written, way.rest, begun_here way.rest refl)
+
+    module _ (new : Row) (b : MarkedPolynomials) (step : IsRowStep row new b) where
+      next : (rest : List MarkedPolynomials) × (way.rest ≡ b ∷ rest) × AreLeftIn new rest
+      next = step.first way.rest way.left
+
+      all_next : AreAllBases (length ring) fs (way.written ++ b ∷ next.0)
+      all_next = subst (λ l. AreAllBases (length ring) fs (way.written ++ l)) next.1 way.are_all
+
+      -- a basis is of the variables of the ring
+      pub step_variables : b.variables ≡ length ring
+      step_variables = (from_row b step.basis).variables
+
+      -- what stands for it follows the others
+      more_items : (t : List ℕ) (rest : List MarkedPolynomials) (ts : List (List ℕ)) → IsItemText o.certified ring b t → AreItemTexts o.certified ring rest ts →
+          AreItemTexts o.certified ring (way.written ++ b ∷ rest) (way.items ++ t ∷ ts)
+      more_items t rest ts i r = AllZip-append (IsItemText o.certified ring) way.written (b ∷ rest) way.items (t ∷ ts) way.are_items (i, r)
+
+      all_with : AreAllBases (length ring) fs ((way.written ++ b ∷ []) ++ next.0)
+      all_with = subst (AreAllBases (length ring) fs) (sym (append_assoc way.written (b ∷ []) next.0)) all_next
+
+      -- one more basis is written
+      pub goes_on : (after : Room) (then : Option (List ℕ)) → IsOneLess room after → IsBasisWritten o.certified ring is_first b holds then → IsUnderWay o ring fs new after false held then
+      goes_on after then less (piece, p, gained) = record {
+        written = way.written ++ b ∷ [];
+        rest = next.0;
+        are_all = all_with;
+        left = next.2;
+        basis = subst (IsNodeIn (ideal_by (length ring) fs)) (sym step.same.start) way.basis;
+        pairs = step.same.pairs ∙ way.pairs;
+        fits = room_next o.limit room after way.written b way.fits less;
+        items = way.items ++ p.item ∷ [];
+        are_items = more_items p.item [] [] p.is_item tt;
+        first = none way.items;
+        gained = subst (Appends held then) (ap (λ f. begun_text ring way.items ++ basis_piece ring f p.item) way.first ∙ begun_next ring way.items p.item)
+            (Appends-trans held holds then (begun_text ring way.items) (basis_piece ring is_first p.item) way.gained (subst (Appends holds then) p.is_piece gained));
+      }
+        where
+          none : (ts : List (List ℕ)) → false ≡ is_none_of (ts ++ p.item ∷ [])
+          none [] = refl
+          none (t ∷ ts) = refl
+
+      -- there is no room for it
+      pub stopped_limit : (n m : ℕ) (r : Refusal) → IsFull room r → IsListStopped o ring fs held holds n m r
+      stopped_limit n m r f = at (room_full o.limit room way.written r way.fits f)
+        where
+          at : IsAtLimit o.limit way.written r → IsListStopped o ring fs held holds n m r
+          at l = subst (λ z. IsListStopped o ring fs held holds n m z) (sym l.told) (
+            IsGoingCause.at_limit l.most (record {
+              is_limit = l.is_limit;
+              list = way.written ++ b ∷ next.0;
+              are_all = all_next;
+              longer = omega (arith, l.just, length-append way.written (b ∷ next.0));
+            }) refl,
+            (
+              begun_text ring way.items,
+              record {
+                is_limit = l.is_limit;
+                written = way.written;
+                next = b;
+                rest = next.0;
+                begun = begun_here (b ∷ next.0) next.1;
+                just = l.just;
+              },
+              way.gained,
+            ),
+          )
+
+      -- its piece isn't made: there is no memory, or its certificates are refused
+      unmade_cause : (k : Bool) (r : Refusal) → o.certified ≡ k → IsItemRefusal k b r → IsGoingCause o (length ring) fs r ⊎ (r ≡ refusals.Memory)
+      unmade_cause false r e m = inr m
+      unmade_cause true r e u = inl (IsGoingCause.at_certificates b e (node_given (length ring) fs b (from_row b step.basis)) u)
+
+      stopped_unmade : (n m : ℕ) (r : Refusal) → IsItemRefusal o.certified b r → IsListStopped o ring fs held holds n m r
+      stopped_unmade n m r h = at o.certified r h (unmade_cause o.certified r refl h)
+        where
+          told : (e : WeightError) → IsGoingCause o (length ring) fs (of_weight_error e) ⊎ (of_weight_error e ≡ refusals.Memory) → IsListStopped o ring fs held holds n m (of_weight_error e)
+          told (weight_errors.Cone x) c = (c, inr (begun_text ring way.items, begun_now, way.gained))
+          told (weight_errors.Wide x) c = (c, inr (begun_text ring way.items, begun_now, way.gained))
+          told weight_errors.Memory c = (c, inr (begun_text ring way.items, begun_now, way.gained))
+
+          at : (k : Bool) (r : Refusal) → IsItemRefusal k b r → IsGoingCause o (length ring) fs r ⊎ (r ≡ refusals.Memory) → IsListStopped o ring fs held holds n m r
+          at false r e c = subst (IsListStopped o ring fs held holds n m) (sym e) (inr refl, inr (begun_text ring way.items, begun_now, way.gained))
+          at true r (e, q, is) c = subst (IsListStopped o ring fs held holds n m) (sym is) (told e (subst (λ z. IsGoingCause o (length ring) fs z ⊎ (z ≡ refusals.Memory)) is c))
+
+      -- what stands for the bases behind it
+      later : (ts : List (List ℕ)) × AreItemTexts o.certified ring next.0 ts
+      later = items_exist o.certified (length ring) ring fs next.0 (λ x j. all_next.only x (among_right way.written (b ∷ next.0) x (inr j)))
+
+      -- a prefix of it is written
+      cut_prefix : (then : Option (List ℕ)) (t : List ℕ) → IsItemText o.certified ring b t → AppendsPrefix holds then (basis_piece ring (is_none_of way.items) t) →
+          (text : List ℕ) × IsTextOfBases o.certified None ring fs text × AppendsPrefix held then text
+      cut_prefix then t i p = (
+        list_text ring (way.items ++ t ∷ later.0),
+        record {
+          list = way.written ++ b ∷ next.0;
+          are_all = all_next;
+          few = tt;
+          items = way.items ++ t ∷ later.0;
+          are_items = more_items t next.0 later.0 i later.1;
+          is_text = refl;
+        },
+        prefix_piece ring way.items later.0 t held holds then way.gained p,
+      )
+
+      -- its piece isn't made, or isn't written whole
+      pub stopped_piece : (then : Option (List ℕ)) (n m : ℕ) (r : Refusal) → IsBasisUnwritten o.certified ring is_first b holds then n m r → IsListStopped o ring fs held then n m r
+      stopped_piece then n m r (IsBasisUnwritten.unmade same calm h) = subst (λ z. IsListStopped o ring fs held z n m r) (sym same) (stopped_unmade n m r h)
+      stopped_piece then n m r (IsBasisUnwritten.cut piece p u) = at r u
+        where
+          at : (r : Refusal) → IsUnwritten holds then n m piece r → IsListStopped o ring fs held then n m r
+          at refusals.WriteFault u = (u.0, cut_prefix then p.item p.is_item (subst (λ f. AppendsPrefix holds then (basis_piece ring f p.item)) way.first (subst (AppendsPrefix holds then) p.is_piece u.1)))
+          at refusals.Memory u = (inr refl, inr (begun_text ring way.items, begun_now, Appends-kept held holds then (begun_text ring way.items) way.gained u.0))
+          at _ u = absurd u
+
+    -- the next basis is refused
+    pub stopped_tree : (n m : ℕ) (e : TreeError) → IsTreeRefusal (ideal_in row) row.pairs e → IsListStopped o ring fs held holds n m (of_tree e)
+    stopped_tree n m e h = at e (IsGoingCause.in_tree e (tree_cause e h) refl)
+      where
+        at : (e : TreeError) → IsGoingCause o (length ring) fs (of_tree e) → IsListStopped o ring fs held holds n m (of_tree e)
+        at (tree_errors.Overflow x) c = (inl c, inr (begun_text ring way.items, begun_now, way.gained))
+        at (tree_errors.Exponent x) c = (inl c, inr (begun_text ring way.items, begun_now, way.gained))
+        at (tree_errors.PairBudget basis unsettled) c = (inl c, inr (begun_text ring way.items, begun_now, way.gained))
+        at (tree_errors.Cone x) c = (inl c, inr (begun_text ring way.items, begun_now, way.gained))
+        at tree_errors.Memory c = (inl c, inr (begun_text ring way.items, begun_now, way.gained))
+
+    -- nothing is left: all bases are written
+    module _ (new : Row) (end : IsRowEnd row new) where
+      all_written : AreAllBases (length ring) fs way.written
+      all_written = subst (AreAllBases (length ring) fs) (ap (λ l. way.written ++ l) (end.none way.rest way.left) ∙ append-nil way.written) way.are_all
+
+      whole : list_text ring way.items ≡ begun_text ring way.items ++ 125 ∷ 10 ∷ []
+      whole = at way.written way.items all_written way.are_items
+        where
+          at : (ws : List MarkedPolynomials) (ts : List (List ℕ)) → AreAllBases (length ring) fs ws → AreItemTexts o.certified ring ws ts → list_text ring ts ≡ begun_text ring ts ++ 125 ∷ 10 ∷ []
+          at [] ts all z = absurd all.listed
+          at (w ∷ ws) [] all z = absurd z
+          at (w ∷ ws) (t ∷ ts) all z = ap (λ l. list_text ring (t ∷ l)) (sym (append-nil ts)) ∙ whole_begun ring t ts []
+
+      pub ends : (then : Option (List ℕ)) → Appends holds then (125 ∷ 10 ∷ []) → IsListWritten o ring fs held then
+      ends then closing = (
+        list_text ring way.items,
+        record {
+          list = way.written;
+          are_all = all_written;
+          few = room_within o.limit room way.written way.fits;
+          items = way.items;
+          are_items = way.are_items;
+          is_text = refl;
+        },
+        subst (Appends held then) (sym whole) (Appends-trans held holds then (begun_text ring way.items) (125 ∷ 10 ∷ []) way.gained closing),
+      )
+
+      -- its end isn't written whole
+      pub stopped_end : (then : Option (List ℕ)) (n m : ℕ) (r : Refusal) → IsUnwritten holds then n m (125 ∷ 10 ∷ []) r → IsListStopped o ring fs held then n m r
+      stopped_end then n m refusals.WriteFault u = (
+        u.0,
+        (
+          list_text ring way.items,
+          record {
+            list = way.written;
+            are_all = all_written;
+            few = tt;
+            items = way.items;
+            are_items = way.are_items;
+            is_text = refl;
+          },
+          prefix_on held holds then (begun_text ring way.items) (125 ∷ 10 ∷ []) [] (list_text ring way.items) way.gained u.1 (whole ∙ sym (append-nil (begun_text ring way.items ++ 125 ∷ 10 ∷ []))),
+        ),
+      )
+      stopped_end then n m refusals.Memory u = (inr refl, inr (begun_text ring way.items, begun_now, Appends-kept held holds then (begun_text ring way.items) way.gained u.0))
+      stopped_end then n m _ u = absurd u
+
+  -- there is no memory before anything is written
+  pub stopped_early : (held : Option (List ℕ)) (n m : ℕ) (r : Refusal) → r ≡ refusals.Memory → IsListStopped o ring fs held held n m r
+  stopped_early held n m r e = subst (λ z. IsListStopped o ring fs held held n m z) (sym e) (inr refl, inl (Keeps-refl held))
+
+-- ---- a set of generators
+
+-- the list of its ideal
+pub stopped_list : (o : ListOptions) (ring : List (List ℕ)) (set : List Written) (held holds : Option (List ℕ)) (n m : ℕ) (r : Refusal) → IsListStopped o ring (generators_of set) held holds n m r →
+    IsStoppedFor (bases_command o) (ring, (set, None)) held holds n m r
+stopped_list o ring set held holds n m refusals.WriteFault s = s
+stopped_list o ring set held holds n m (refusals.ListLimit most) s = (IsListCause.going s.0, s.1)
+stopped_list o ring set held holds n m r s = (elim (s.0) [ inl c ↦ inl (IsListCause.going c) | inr e ↦ inr e ], s.1)
+
+-- the first basis is refused
+pub stopped_root : (o : ListOptions) (ring : List (List ℕ)) (set : List Written) (held : Option (List ℕ)) (n m : ℕ) (r : Refusal) → IsRootRefusal (length ring) (generators_of set) o.pairs r →
+    IsStoppedFor (bases_command o) (ring, (set, None)) held held n m r
+stopped_root o ring set held n m r (e, h, q) = subst (λ z. IsStoppedFor (bases_command o) (ring, (set, None)) held held n m z) (sym q) (at e (IsListCause.at_root e h refl))
+  where
+    at : (e : BasisError) → IsListCause o (length ring) (generators_of set) (of_basis e) → IsStoppedFor (bases_command o) (ring, (set, None)) held held n m (of_basis e)
+    at (basis_errors.Overflow x) c = (inl c, inl (Keeps-refl held))
+    at (basis_errors.Exponent x) c = (inl c, inl (Keeps-refl held))
+    at (basis_errors.PairBudget basis unsettled) c = (inl c, inl (Keeps-refl held))
+    at basis_errors.Memory c = (inl c, inl (Keeps-refl held))
+
+-- ---- lines without a ring, and faults
+
+pub unnamed_basis : (e : BasisError) → IsUnnamed (without_names (of_basis e))
+unnamed_basis (basis_errors.Overflow x) = record { ring = refl; named = λ lent is. tt }
+unnamed_basis (basis_errors.Exponent x) = record { ring = refl; named = λ lent is. tt }
+unnamed_basis (basis_errors.PairBudget basis unsettled) = record { ring = refl; named = λ lent is. tt }
+unnamed_basis basis_errors.Memory = record { ring = refl; named = λ lent is. tt }
+
+pub unnamed_tree : (e : TreeError) → IsUnnamed (without_names (of_tree e))
+unnamed_tree (tree_errors.Overflow x) = record { ring = refl; named = λ lent is. tt }
+unnamed_tree (tree_errors.Exponent x) = record { ring = refl; named = λ lent is. tt }
+unnamed_tree (tree_errors.PairBudget basis unsettled) = record { ring = refl; named = λ lent is. tt }
+unnamed_tree (tree_errors.Cone x) = record { ring = refl; named = λ lent is. tt }
+unnamed_tree tree_errors.Memory = record { ring = refl; named = λ lent is. tt }
+
+pub unnamed_full : (room : Room) (r : Refusal) → IsFull room r → IsUnnamed (without_names r)
+unnamed_full Endless r f = absurd f
+unnamed_full (Limited limit left) r f = subst (λ z. IsUnnamed (without_names z)) (sym f.1) (record { ring = refl; named = λ lent is. tt })
+
+pub unnamed_write : (held holds : Option (List ℕ)) (n m : ℕ) (piece : List ℕ) (r : Refusal) → IsUnwritten held holds n m piece r → IsUnnamed (without_names r)
+unnamed_write held holds n m piece refusals.WriteFault u = record { ring = refl; named = λ lent is. tt }
+unnamed_write held holds n m piece refusals.Memory u = record { ring = refl; named = λ lent is. tt }
+unnamed_write held holds n m piece _ u = absurd u
+
+unnamed_certificate : (e : WeightError) → IsUnnamed (without_names (of_weight_error e))
+unnamed_certificate (weight_errors.Cone x) = record { ring = refl; named = λ lent is. tt }
+unnamed_certificate (weight_errors.Wide x) = record { ring = refl; named = λ lent is. tt }
+unnamed_certificate weight_errors.Memory = record { ring = refl; named = λ lent is. tt }
+
+unnamed_item : (certified : Bool) (b : MarkedPolynomials) (r : Refusal) → IsItemRefusal certified b r → IsUnnamed (without_names r)
+unnamed_item false b r e = subst (λ z. IsUnnamed (without_names z)) (sym e) (record { ring = refl; named = λ lent is. tt })
+unnamed_item true b r (e, h, q) = subst (λ z. IsUnnamed (without_names z)) (sym q) (unnamed_certificate e)
+
+pub unnamed_piece : (certified : Bool) (ring : List (List ℕ)) (is_first : Bool) (b : MarkedPolynomials) (held holds : Option (List ℕ)) (n m : ℕ) (r : Refusal) → IsBasisUnwritten certified ring is_first b held holds n m r → IsUnnamed (without_names r)
+unnamed_piece certified ring is_first b held holds n m r (IsBasisUnwritten.unmade same calm h) = unnamed_item certified b r h
+unnamed_piece certified ring is_first b held holds n m r (IsBasisUnwritten.cut piece p u) = unnamed_write held holds n m piece r u
+
+-- no fault is counted but that of a write
+pub unwritten_calm : (held holds : Option (List ℕ)) (n m k : ℕ) (piece : List ℕ) (r : Refusal) → IsUnwritten held holds n m piece r → n ≡ k → (r ≡ refusals.WriteFault → ⊥) → m ≡ k
+unwritten_calm held holds n m k piece refusals.WriteFault u e never = absurd (never refl)
+unwritten_calm held holds n m k piece refusals.Memory u e never = u.1 ∙ e
+unwritten_calm held holds n m k piece _ u e never = absurd u
+
+pub piece_calm : (certified : Bool) (ring : List (List ℕ)) (is_first : Bool) (b : MarkedPolynomials) (held holds : Option (List ℕ)) (n m k : ℕ) (r : Refusal) → IsBasisUnwritten certified ring is_first b held holds n m r →
+    n ≡ k → (r ≡ refusals.WriteFault → ⊥) → m ≡ k
+piece_calm certified ring is_first b held holds n m k r (IsBasisUnwritten.unmade same calm h) e never = calm ∙ e
+piece_calm certified ring is_first b held holds n m k r (IsBasisUnwritten.cut piece p u) e never = unwritten_calm held holds n m k piece r u e never
+
+-- ---- generators
+
+pub generators_in : (n : ℕ) (set : List Written) → AreIn n set → AreInVariables n (generators_of set)
+generators_in n set v = ring_variables n (generators_of set) (in_ring n set (generators_of set) v refl)

@@ -1,0 +1,260 @@
+-- The list of all bases, from the basis by degree and then lex on; and what such a list has.
+-- To cite: given_node, node_given, first_node, first_own, first_top, own_start, start_of_root, all_bases_from, weights_are_served. The rest are steps.
+use Rattle.std.specs.Prelude.{◌≡◌, ◌⊎◌, ℕ, zero, suc, ◌≤◌, true, List, [], ◌∷◌, length, replicate, Contains, All, ℤ, pos, ◌<ℤ◌}
+use Rattle.std.proofs.Common.{arith, refl, sym, ap, ◌∙◌, subst, inl, inr}
+use Rattle.std.proofs.lemmas.List.Elements.{All-nil}
+use Rattle.gf_exponents.specs.Exponents.{Exponents, entry, same, degree, weight, IsInRing}
+use Rattle.gf_exponents.specs.Orders.{gains, IsDeglexBelow, IsWeightedBelow}
+use Rattle.gf_exponents.proofs.OrderLaws.{deglex-order}
+use Rattle.gf_poly.specs.Polynomial.{Terms}
+use Rattle.gf_poly.specs.Marking.{MarkedPolynomial, MarkedPolynomials, polys}
+use Rattle.gf_ideal.specs.Membership.{HasMonomial, AreInVariables, AreSameIdeal}
+use Rattle.gf_ideal.specs.Marks.{AreMarked}
+use Rattle.gf_ideal.specs.MonomialOrders.{MonomialOrder}
+use Rattle.gf_ideal.specs.Bases.{IsReducedBasis, IsReducedBasisFor, AreArranged}
+use Rattle.gf_ideal.proofs.LawsHold.{marks_have_weights}
+use Rattle.gf_ideal.proofs.MembershipLaws.{variables_of_member, member-generator}
+use Rattle.gf_ideal.proofs.PieceLaws.{Contains-polys}
+use Rattle.gf_walk.specs.declared.mark.Mark.TheVariants.{Before}
+use Rattle.gf_walk.specs.Path.{IsRoot}
+use Rattle.gf_walk.specs.Listing.{Among, Leaves}
+use Rattle.gf_walk.specs.Whole.{IsWholeList}
+use Rattle.gf_walk.proofs.FinitenessLaws.{no_loop-rank, whole_below}
+use Rattle.gf_facets.specs.Regions.{IsInRegion, all_positive}
+use Rattle.gf_facets.specs.LexPositive.{IsBefore}
+use Rattle.gf_facets.specs.Facets.{IsInClosedCone}
+use Rattle.gf_facets.specs.InitialIdeals.{IsMonomialAt}
+use Rattle.gf_facets.specs.MarkedBases.{IsMarkedReducedBasis, IsBasisInRegion}
+use Rattle.gf_facets.proofs.SystemLaws.{all_positive-region}
+use Rattle.gf_facets.proofs.VectorOrder.{before_strict}
+use Rattle.gf_ideal.proofs.ArrangedLists.{arranged_equal}
+use Rattle.gf_ideal.proofs.UniquenessLaws.{unique_by_weight}
+use Rattle.gf_bases.proofs.FiniteLaws.{basis_everywhere}
+use Rattle.gf_bases.proofs.LawsHold.{of_reduced, marked_bases_are_reduced, only_ideals_count, weights_have_bases}
+use Rattle.gf_initial.proofs.TheoremsHold.{monomial_ideals_are_of_bases}
+use Rattle.gf_reverse.specs.Upward.{IsNodeIn, fan_of, IsNode, IsParent}
+use Rattle.gf_reverse.specs.Lists.{IsListOfBases}
+use Rattle.gf_reverse.proofs.TreeLaws.{SameFan, rank, upward_tree, upward_falls, node_moved, own_fan, back_fan}
+use Rattle.gf_reverse.proofs.ListLaws.{own, list_of_bases}
+use Rattle.gf_reverse.proofs.StartLaws.{basis_is_node}
+use Rattle.gf_reverse.proofs.TheoremsHold.{bases_make_a_tree}
+use Rattle.gf_tree.specs.Ideals.{ideal_by}
+use Rattle.gf_tree.specs.Parents.{IsRootFor}
+use Rattle.gfan.specs.BasesList.{IsGivenByWeight, AreAllBases, WeightsAreServed}
+use Rattle.gfan.specs.BasesWriting.{StartsAt}
+
+-- ---- the bases that some positive weight gives
+
+pub given_node : (n : ℕ) (fs : List Terms) (x : MarkedPolynomials) → AreInVariables n fs → IsGivenByWeight n fs x → IsNodeIn (ideal_by n fs) x
+given_node n fs x v g = record {
+  fan = record { ideal = v; region = all_positive-region n };
+  variables = g.variables;
+  basis = basis_everywhere n fs x.items (of_reduced n fs g.weight x.items g.reduced g.arranged);
+}
+
+reduced_node : (n : ℕ) (fs : List Terms) (x : MarkedPolynomials) → IsNodeIn (ideal_by n fs) x → IsMarkedReducedBasis n fs x.items
+reduced_node n fs x h = record { reduced = h.basis.reduced; arranged = h.basis.arranged }
+
+pub node_given : (n : ℕ) (fs : List Terms) (x : MarkedPolynomials) → IsNodeIn (ideal_by n fs) x → IsGivenByWeight n fs x
+node_given n fs x h =
+    let w = (marked_bases_are_reduced.weights n fs x.items h.fan.ideal).0 (reduced_node n fs x h) in
+    record { variables = h.variables; arranged = w.0; weight = w.1.0; reduced = w.1.1 }
+
+-- ---- the first basis
+
+weight-ones : (n : ℕ) (x : Exponents) → ((i : ℕ) → n ≤ i → entry x i ≡ 0) → weight (gains (replicate n (pos 1))) x ≡ degree x
+weight-ones zero [] h = refl
+weight-ones zero (a ∷ x) h = omega (arith, h 0 (omega arith), weight-ones zero x (λ i l. h (suc i) (omega arith)))
+weight-ones (suc n) [] h = refl
+weight-ones (suc n) (a ∷ x) h = omega (arith, weight-ones n x (λ i l. h (suc i) (omega arith)))
+
+-- marks that are greatest by degree and then lex are so by the weight (1, .., 1) and then lex
+degree_marks : (n : ℕ) (bs : List MarkedPolynomial) → ((b : MarkedPolynomial) → Contains bs b → (x : Exponents) → HasMonomial b.poly x → IsInRing n x) →
+    ((b : MarkedPolynomial) → Contains bs b → IsInRing n b.head) → AreMarked IsDeglexBelow bs → AreMarked (IsWeightedBelow (gains (replicate n (pos 1)))) bs
+degree_marks n bs ring heads m b c = record { monic = (m b c).monic; tail = tail }
+  where
+    tail : (x : Exponents) → HasMonomial b.poly x → (same x b.head ≡ true) ⊎ IsWeightedBelow (gains (replicate n (pos 1))) x b.head
+    tail x h = by ((m b c).tail x h)
+      where
+        ex : weight (gains (replicate n (pos 1))) x ≡ degree x
+        ex = weight-ones n x (ring b c x h)
+
+        eh : weight (gains (replicate n (pos 1))) b.head ≡ degree b.head
+        eh = weight-ones n b.head (heads b c)
+
+        by : (same x b.head ≡ true) ⊎ IsDeglexBelow x b.head → (same x b.head ≡ true) ⊎ IsWeightedBelow (gains (replicate n (pos 1))) x b.head
+        by (inl e) = inl e
+        by (inr (inl l)) = inr (inl (omega (arith, l, ex, eh)))
+        by (inr (inr l)) = inr (inr (ex ∙ l.0 ∙ sym eh, l.1))
+
+short_head : (n : ℕ) (x : Exponents) → length x ≡ n → IsInRing n x
+short_head n [] e i l = refl
+short_head zero (a ∷ x) e i l = absurd (omega arith)
+short_head (suc n) (a ∷ x) e zero l = absurd (omega arith)
+short_head (suc n) (a ∷ x) e (suc i) l = short_head n x (omega arith) i (omega arith)
+
+pub first_node : (n : ℕ) (fs : List Terms) (root : MarkedPolynomials) → AreInVariables n fs → root.variables ≡ n → IsReducedBasisFor n fs IsDeglexBelow root.items → AreArranged n root.items →
+    IsNodeIn (ideal_by n fs) root
+first_node n fs root v e r a = (basis_is_node n fs IsDeglexBelow root v deglex-order (marks_have_weights.by_deglex n root.items r.basis.marked) e r a).0
+
+pub first_own : (n : ℕ) (fs : List Terms) (root : MarkedPolynomials) → IsNodeIn (ideal_by n fs) root → IsNode (all_positive n) root
+first_own n fs root h = own (all_positive n) (ideal_by n fs) root refl h
+
+-- nothing is above it
+pub first_top : (n : ℕ) (fs : List Terms) (root : MarkedPolynomials) → root.variables ≡ n → IsReducedBasisFor n fs IsDeglexBelow root.items → IsNodeIn (ideal_by n fs) root →
+    IsRoot (IsParent (all_positive n)) root
+first_top n fs root e r h = (bases_make_a_tree.root (all_positive n) root mine).1 by_weight
+  where
+    mine : IsNode (all_positive n) root
+    mine = first_own n fs root h
+
+    marks : AreMarked (IsWeightedBelow (gains (replicate n (pos 1)))) root.items
+    marks = degree_marks n root.items (λ b c x k. variables_of_member n fs b.poly h.fan.ideal (h.basis.reduced.basis.members b c) x k) (λ b c. short_head n b.head (h.basis.arranged.canonical b c).head) r.basis.marked
+
+    by_weight : IsReducedBasisFor root.variables (polys root.items) (IsWeightedBelow (gains (replicate n (pos 1)))) root.items
+    by_weight = (marked_bases_are_reduced.at_order (MonomialOrder.weighted (gains (replicate n (pos 1)))) root.variables (polys root.items) root.items mine.fan.ideal (record { reduced = mine.basis.reduced; arranged = mine.basis.arranged })).1 marks
+
+-- ---- where a list starts
+
+reduced_for_moved : (n : ℕ) (fs gs : List Terms) (below : Exponents → Exponents → Type 0) (bs : List MarkedPolynomial) → AreSameIdeal n fs gs → IsReducedBasisFor n fs below bs → IsReducedBasisFor n gs below bs
+reduced_for_moved n fs gs below bs s r = record {
+  basis = record { members = λ c k. s.inside c.poly (r.basis.members c k); marked = r.basis.marked; initial = λ f m x l. r.basis.initial f (s.back f m) x l };
+  tails = r.tails;
+  heads = r.heads;
+}
+
+-- the first basis of an ideal is the first one of the ideal that it generates
+pub own_start : (n : ℕ) (fs : List Terms) (root : MarkedPolynomials) → StartsAt n fs root → StartsAt n (polys root.items) root
+own_start n fs root s = record {
+  inside = generated.0;
+  first = record {
+    variables = s.first.variables;
+    reduced = reduced_for_moved n fs (polys root.items) IsDeglexBelow root.items generated.1 s.first.reduced;
+    arranged = s.first.arranged;
+    marked = s.first.marked;
+    inside = λ b c. member-generator n (polys root.items) b.poly (Contains-polys root.items b c);
+    back = λ f c. member-generator n (polys root.items) f c;
+  };
+}
+  where
+    generated : AreInVariables n (polys root.items) × AreSameIdeal n fs (polys root.items)
+    generated = only_ideals_count.generated n fs root.items s.inside (reduced_node n fs root (first_node n fs root s.inside s.first.variables s.first.reduced s.first.arranged))
+
+-- marks that are greatest by the weight (1, .., 1) and then lex are so by degree and then lex
+weight_marks : (n : ℕ) (bs : List MarkedPolynomial) → ((b : MarkedPolynomial) → Contains bs b → (x : Exponents) → HasMonomial b.poly x → IsInRing n x) →
+    ((b : MarkedPolynomial) → Contains bs b → IsInRing n b.head) → AreMarked (IsWeightedBelow (gains (replicate n (pos 1)))) bs → AreMarked IsDeglexBelow bs
+weight_marks n bs ring heads m b c = record { monic = (m b c).monic; tail = tail }
+  where
+    tail : (x : Exponents) → HasMonomial b.poly x → (same x b.head ≡ true) ⊎ IsDeglexBelow x b.head
+    tail x h = by ((m b c).tail x h)
+      where
+        ex : weight (gains (replicate n (pos 1))) x ≡ degree x
+        ex = weight-ones n x (ring b c x h)
+
+        eh : weight (gains (replicate n (pos 1))) b.head ≡ degree b.head
+        eh = weight-ones n b.head (heads b c)
+
+        by : (same x b.head ≡ true) ⊎ IsWeightedBelow (gains (replicate n (pos 1))) x b.head → (same x b.head ≡ true) ⊎ IsDeglexBelow x b.head
+        by (inl e) = inl e
+        by (inr (inl l)) = inr (inl (omega (arith, l, ex, eh)))
+        by (inr (inr l)) = inr (inr (sym ex ∙ l.0 ∙ eh, l.1))
+
+-- the root above a basis of an ideal is its first basis
+pub start_of_root : (n : ℕ) (fs : List Terms) (v root : MarkedPolynomials) → IsNodeIn (ideal_by n fs) v → IsRootFor v root → StartsAt n fs root
+start_of_root n fs v root h r = record {
+  inside = node.fan.ideal;
+  first = record {
+    variables = node.variables;
+    reduced = (marked_bases_are_reduced.at_order MonomialOrder.deglex n fs root.items node.fan.ideal (reduced_node n fs root node)).1 marks;
+    arranged = node.basis.arranged;
+    marked = marks;
+    inside = λ b c. node.basis.reduced.basis.members b c;
+    back = λ f c. generated.1.inside f (member-generator n fs f c);
+  };
+}
+  where
+    node : IsNodeIn (ideal_by n fs) root
+    node = node_moved (fan_of (all_positive v.variables) v) (ideal_by n fs) root (subst (λ m. SameFan (fan_of (all_positive m) v) (ideal_by n fs)) (sym h.variables) (back_fan (ideal_by n fs) (fan_of (all_positive n) v) (own_fan (ideal_by n fs) v h))) r.basis
+
+    generated : AreInVariables n (polys root.items) × AreSameIdeal n fs (polys root.items)
+    generated = only_ideals_count.generated n fs root.items node.fan.ideal (reduced_node n fs root node)
+
+    marks : AreMarked IsDeglexBelow root.items
+    marks = weight_marks n root.items (λ b c x k. variables_of_member n fs b.poly node.fan.ideal (node.basis.reduced.basis.members b c) x k) (λ b c. short_head n b.head (node.basis.arranged.canonical b c).head)
+        (subst (λ m. AreMarked (IsWeightedBelow (gains (replicate m (pos 1)))) root.items) node.variables r.by_degree.basis.marked)
+
+-- ---- the list
+
+-- what is left before the first basis is the list of all
+pub all_bases_from : (n : ℕ) (fs : List Terms) (root : MarkedPolynomials) (nodes : List MarkedPolynomials) → AreInVariables n fs → root.variables ≡ n → IsReducedBasisFor n fs IsDeglexBelow root.items → AreArranged n root.items →
+    Leaves IsBefore (IsParent (all_positive n)) Before root 0 nodes → AreAllBases n fs nodes
+all_bases_from n fs root nodes v e r a left = record {
+  only = λ x j. node_given n fs x (from x (list.only x j));
+  all = λ x g. list.all x (into x (given_node n fs x v g));
+  once = list.once;
+  root = root;
+  listed = list.all root mine;
+  by_degree = r;
+  is_root = top;
+  paths = whole.paths;
+  lead = whole.lead;
+  rises = whole.rises;
+}
+  where
+    node : IsNodeIn (ideal_by n fs) root
+    node = first_node n fs root v e r a
+
+    mine : IsNode (all_positive n) root
+    mine = first_own n fs root node
+
+    top : IsRoot (IsParent (all_positive n)) root
+    top = first_top n fs root e r node
+
+    whole : IsWholeList IsBefore (IsParent (all_positive n)) root nodes
+    whole = whole_below IsBefore (IsParent (all_positive n)) before_strict (upward_tree (all_positive n)) root (no_loop-rank (IsParent (all_positive n)) (rank (all_positive n)) (upward_falls (all_positive n)) root) nodes left
+
+    list : IsListOfBases (all_positive n) root nodes
+    list = list_of_bases (all_positive n) root root nodes mine mine top whole
+
+    into : (x : MarkedPolynomials) → IsNodeIn (ideal_by n fs) x → IsNodeIn (fan_of (all_positive n) root) x
+    into x h = node_moved (ideal_by n fs) (fan_of (all_positive n) root) x (own_fan (ideal_by n fs) root node) h
+
+    from : (x : MarkedPolynomials) → IsNodeIn (fan_of (all_positive n) root) x → IsNodeIn (ideal_by n fs) x
+    from x h = node_moved (fan_of (all_positive n) root) (ideal_by n fs) x (back_fan (ideal_by n fs) (fan_of (all_positive n) root) (own_fan (ideal_by n fs) root node)) h
+
+-- ---- weights
+
+-- all positive vectors are the region of a list
+in_region : (n : ℕ) (w : List ℤ) → length w ≡ n → All (λ k. pos 0 <ℤ k) w → IsInRegion n (all_positive n) w
+in_region n w l p = record { width = l; positive = p; rows = All-nil _ }
+
+region_given : (n : ℕ) (fs : List Terms) (bs : List MarkedPolynomial) → AreInVariables n fs → IsBasisInRegion n fs (all_positive n) bs → IsGivenByWeight n fs (record { variables = n; items = bs })
+region_given n fs bs v b = node_given n fs (record { variables = n; items = bs }) (record { fan = record { ideal = v; region = all_positive-region n }; variables = refl; basis = b })
+
+monomial : (n : ℕ) (fs : List Terms) (list : List MarkedPolynomials) (w : List ℤ) → AreInVariables n fs → AreAllBases n fs list → length w ≡ n → All (λ k. pos 0 <ℤ k) w → IsMonomialAt n fs w →
+    (x : MarkedPolynomials) × Among list x × IsReducedBasis n fs (gains w) x.items × ((y : MarkedPolynomials) → Among list y → IsReducedBasis n fs (gains w) y.items → x ≡ y)
+monomial n fs list w v all l p m = at ((monomial_ideals_are_of_bases n (all_positive n) fs w v (in_region n w l p)).0 m)
+  where
+    at : ((bs : List MarkedPolynomial) × IsBasisInRegion n fs (all_positive n) bs × IsReducedBasis n fs (gains w) bs) →
+        (x : MarkedPolynomials) × Among list x × IsReducedBasis n fs (gains w) x.items × ((y : MarkedPolynomials) → Among list y → IsReducedBasis n fs (gains w) y.items → x ≡ y)
+    at (bs, b, r) = (record { variables = n; items = bs }, all.all (record { variables = n; items = bs }) (region_given n fs bs v b), r, one)
+      where
+        one : (y : MarkedPolynomials) → Among list y → IsReducedBasis n fs (gains w) y.items → record { variables = n; items = bs } ≡ y
+        one y j s =
+            let g = all.only y j in
+            let same : bs ≡ y.items = arranged_equal n bs y.items b.arranged g.arranged (unique_by_weight n fs (gains w) bs y.items r s) in
+            ap (λ cs. record { variables = n; items = cs }) same ∙ ap (λ k. record { variables = k; items = y.items }) (sym g.variables)
+
+cones : (n : ℕ) (fs : List Terms) (list : List MarkedPolynomials) (w : List ℤ) → AreInVariables n fs → AreAllBases n fs list → length w ≡ n → All (λ k. pos 0 <ℤ k) w →
+    (x : MarkedPolynomials) × Among list x × IsInClosedCone w x.items
+cones n fs list w v all l p = at (weights_have_bases n (all_positive n) fs w v (in_region n w l p))
+  where
+    at : ((bs : List MarkedPolynomial) × IsBasisInRegion n fs (all_positive n) bs × AreMarked (IsWeightedBelow (gains w)) bs × IsInClosedCone w bs) → (x : MarkedPolynomials) × Among list x × IsInClosedCone w x.items
+    at (bs, b, m, c) = (record { variables = n; items = bs }, all.all (record { variables = n; items = bs }) (region_given n fs bs v b), c)
+
+pub weights_are_served : WeightsAreServed
+weights_are_served = record {
+  exactly = λ n fs list x all. (all.only x, all.all x);
+  monomial = monomial;
+  cones = cones;
+}

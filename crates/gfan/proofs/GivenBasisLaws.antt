@@ -1,0 +1,260 @@
+-- The list of `_bases -g`: a marked Gröbner basis is reduced and taken up to the root; and why it isn't written.
+-- To cite: few_members, reducible, reduced_is_node, reduced_own, root_starts, way_refused; given_performed, given_stopped_root, given_stopped_list, named_root;
+-- tree_work, tree_untested; given_work, root_within, given_once, given_refuses. The rest are steps.
+use Rattle.std.specs.Prelude.{◌≡◌, ◌⊎◌, ℕ, List, [], ◌∷◌, length, map, Contains, Option, Some, Err}
+use Rattle.std.specs.Io.KnownBytes.{Keeps}
+use Rattle.std.proofs.Common.{true, refl, sym, ap, ◌∙◌, subst, inl, inr}
+use Rattle.std.proofs.KnownBytes.{Keeps-refl}
+use Rattle.std.proofs.lemmas.List.Sorted.{Contains-permutation, IsPermutation-sym}
+use Rattle.gf_frac.specs.Fraction.{◌*ℚ◌}
+use Rattle.gf_frac.proofs.FractionLaws.{one-*ℚ}
+use Rattle.gf_exponents.specs.Orders.{lighter}
+use Rattle.gf_exponents.proofs.ExponentsLaws.{same-refl}
+use Rattle.gf_poly.specs.Polynomial.{coefficient}
+use Rattle.gf_poly.specs.Marking.{MarkedPolynomial, MarkedPolynomials, HaveVariables, polys, IsArranged}
+use Rattle.gf_ideal.specs.Membership.{AreInVariables}
+use Rattle.gf_ideal.specs.Marks.{AreMarked, IsRealisedBy, IsRealisable}
+use Rattle.gf_ideal.specs.Reduction.{AreMonicForms}
+use Rattle.gf_ideal.specs.Bases.{IsBasis, AreArranged}
+use Rattle.gf_ideal.proofs.ListLaws.{Contains-here, Contains-there}
+use Rattle.gf_ideal.proofs.MarkWeights.{mark-there}
+use Rattle.gf_ideal.proofs.BasisLaws.{basis_along}
+use Rattle.gf_division.specs.Autoreduction.{IsAutoreduced, IsReducedOf}
+use Rattle.gf_reduced.specs.declared.error.CheckError.{CheckError}
+use Rattle.gf_reduced.specs.declared.error.CheckError.TheVariants as check_errors
+use Rattle.gf_reduced.specs.Forms.{monic_of, monic_set}
+use Rattle.gf_reduced.specs.Markings.{IsMarkedGroebnerBasis, IsBasisOf}
+use Rattle.gf_reduced.specs.Refusals.{of_poly}
+use Rattle.gf_reduced.proofs.FormLaws.{forms_marked_by}
+use Rattle.gf_reduced.proofs.GroebnerLaws.{polys_variables}
+use Rattle.gf_reduced.proofs.RefusalLaws.{basis_only_memory}
+use Rattle.gf_facets.specs.Regions.{all_positive}
+use Rattle.gf_reverse.specs.Upward.{IsNode, IsNodeIn, fan_of}
+use Rattle.gf_reverse.proofs.TreeLaws.{SameFan, own_fan, back_fan}
+use Rattle.gf_reverse.proofs.ListLaws.{own}
+use Rattle.gf_tree.specs.declared.error.TreeError.{TreeError}
+use Rattle.gf_tree.specs.declared.error.TreeError.TheVariants as tree_errors
+use Rattle.gf_tree.specs.Ideals.{ideal_by}
+use Rattle.gf_tree.specs.Parents.{ideal_of, IsRootFor}
+use Rattle.gf_tree.specs.Refusals.{IsTreeRefusal}
+use Rattle.gf_tree.proofs.RefusalLaws.{refusal_moved, within_memory}
+use Rattle.gf_front.specs.declared.command_line.Job.TheVariants as jobs
+use Rattle.gf_front.specs.declared.refusal.Refusal.{Refusal}
+use Rattle.gf_front.specs.declared.refusal.Refusal.TheVariants as refusals
+use Rattle.gf_items.specs.Items.{IsTextOf, from}
+use Rattle.gf_items.specs.Sources.{ring_marked_set}
+use Rattle.gf_items.specs.Commands.{IsOfTest, IsOfNumbers, TellsSame, IsOfWork, IsUnanswered, IsCommandRefused}
+use Rattle.gfan.specs.declared.bases.ListOptions.{ListOptions}
+use Rattle.gfan.specs.Bases.{of_tree, IsGoingCause}
+use Rattle.gfan.specs.BasesWriting.{StartsAt, IsListWritten, IsListBegun, IsListStopped}
+use Rattle.gfan.specs.CheckedSets.{of_check}
+use Rattle.gfan.specs.GivenBasis.{IsGivenRootRefusal, IsGivenListCause, IsGivenListWithin}
+use Rattle.gfan.specs.Refused.{IsNamedBy}
+use Rattle.gfan.specs.Commands.{IsRefusalOf}
+use Rattle.gfan.specs.Performed.{IsPerformed, LeavesBegun, IsStopped}
+use Rattle.gfan.proofs.ReadSetLaws.{marked_kept}
+use Rattle.gfan.proofs.CheckedSetLaws.{named_check, named_numbers, check_work, poly_numbers, poly_untested, paired_once, paired_refutes}
+use Rattle.gfan.proofs.BasesListLaws.{given_node, start_of_root}
+use Rattle.gfan.proofs.CertificateLaws.{weight_work, weight_untested}
+
+-- ---- the basis reduced
+
+-- monic members are their own monic forms
+monic_themselves : (w : List ℕ) (bs : List MarkedPolynomial) → AreMarked (lighter w) bs → AreMonicForms bs bs
+monic_themselves w [] m = tt
+monic_themselves w (b ∷ bs) m = (
+  record { there = mark-there (lighter w) b (m b (Contains-here b bs)); equation = λ x. ap (λ z. z *ℚ coefficient b.poly x) (m b (Contains-here b bs)).monic ∙ one-*ℚ (coefficient b.poly x) },
+  same-refl b.head,
+  monic_themselves w bs (λ c k. m c (Contains-there b c bs k)),
+)
+
+-- a marked basis s, and t, its members made monic and arranged
+module _ (s t : MarkedPolynomials) (v : HaveVariables s.variables s.items) (a : IsArranged (monic_set s) t) (h : IsBasisOf s t) where
+  marked : AreMarked (lighter h.marked.weight) t.items
+  marked c k = forms_marked_by h.marked.weight s.items h.marked.marks c (Contains-permutation t.items (map monic_of s.items) c (IsPermutation-sym (map monic_of s.items) t.items a.members) k)
+
+  realised : (b : MarkedPolynomial) → Contains t.items b → IsRealisedBy h.marked.weight b
+  realised b k = record { there = mark-there (lighter h.marked.weight) b (marked b k); tail = (marked b k).tail }
+
+  pub reducible : IsRealisable t.variables t.items
+  reducible = subst (λ n. IsRealisable n t.items) (sym a.variables) (h.marked.weight, h.marked.positive, realised)
+
+  inside : AreInVariables s.variables (polys s.items)
+  inside = polys_variables s.variables s.items v
+
+  moved : IsBasis s.variables (polys s.items) t.items
+  moved = basis_along s.variables (polys t.items) (polys s.items) t.items (record { inside = h.ideal.back; back = h.ideal.inside }) (subst (λ n. IsBasis n (polys t.items) t.items) a.variables h.basis)
+
+  module _ (u : MarkedPolynomials) (r : IsAutoreduced t u) (arranged : AreArranged t.variables u.items) (reduced : IsReducedOf t.variables t.items u.items) where
+    pub reduced_is_node : IsNodeIn (ideal_by s.variables (polys s.items)) u
+    reduced_is_node = given_node s.variables (polys s.items) u inside (record {
+      variables = r.arranged.variables ∙ a.variables;
+      arranged = subst (λ n. AreArranged n u.items) a.variables arranged;
+      weight = h.marked.weight;
+      reduced = (subst (λ n. IsReducedOf n t.items u.items) a.variables reduced).at (polys s.items) h.marked.weight inside
+          (record { forms = t.items; monic = monic_themselves h.marked.weight t.items marked; basis = moved }) h.marked.positive realised;
+    })
+
+    -- it is a basis of the ideal that it generates
+    pub reduced_own : IsNodeIn (ideal_of u) u
+    reduced_own = subst (λ n. IsNode (all_positive n) u) (sym reduced_is_node.variables) (own (all_positive s.variables) (ideal_by s.variables (polys s.items)) u refl reduced_is_node)
+
+    -- the root above it is the first basis of the list
+    pub root_starts : (root : MarkedPolynomials) → IsRootFor u root → StartsAt s.variables (polys s.items) root
+    root_starts root q = start_of_root s.variables (polys s.items) u root reduced_is_node q
+
+    -- a step of the way is refused at a basis of the ideal
+    pub way_refused : (pairs : ℕ) (e : TreeError) → IsTreeRefusal (ideal_of u) pairs e → IsTreeRefusal (ideal_by s.variables (polys s.items)) pairs e
+    way_refused pairs e q = refusal_moved (ideal_of u) (ideal_by s.variables (polys s.items)) pairs e same q
+      where
+        same : SameFan (ideal_of u) (ideal_by s.variables (polys s.items))
+        same = subst (λ n. SameFan (fan_of (all_positive n) u) (ideal_by s.variables (polys s.items))) (sym reduced_is_node.variables)
+            (back_fan (ideal_by s.variables (polys s.items)) (fan_of (all_positive s.variables) u) (own_fan (ideal_by s.variables (polys s.items)) u reduced_is_node))
+
+-- ---- the command
+
+named_tree : (ring : List (List ℕ)) (e : TreeError) → IsNamedBy (Some ring) (of_tree e)
+named_tree ring (tree_errors.Overflow x) = λ lent is. tt
+named_tree ring (tree_errors.Exponent x) = λ lent is. tt
+named_tree ring (tree_errors.PairBudget basis unsettled) = λ lent is. tt
+named_tree ring (tree_errors.Cone x) = λ lent is. tt
+named_tree ring tree_errors.Memory = λ lent is. tt
+
+-- the set of a source has its variables
+read_variables : (source : List ℕ) (v : List (List ℕ) × MarkedPolynomials) → IsTextOf ring_marked_set source v → HaveVariables v.1.variables v.1.items
+read_variables source v read = marked_kept v.0 (from source read.read.behind) read.end v.1 read.read.two
+
+pub named_root : (source : List ℕ) (ring : List (List ℕ)) (s : MarkedPolynomials) (pairs : ℕ) (r : Refusal) → IsTextOf ring_marked_set source (ring, s) → IsGivenRootRefusal s pairs r → IsNamedBy (Some ring) r
+named_root source ring s pairs r read (IsGivenRootRefusal.at_check e h q) = subst (IsNamedBy (Some ring)) (sym q) (named_check (Unit {0}) 0 ring s e read.read.two.variables (read_variables source (ring, s) read) h)
+named_root source ring s pairs r read (IsGivenRootRefusal.at_tails t d g a h q) = subst (IsNamedBy (Some ring)) (sym q) (named_numbers ring d)
+named_root source ring s pairs r read (IsGivenRootRefusal.on_the_way e g h q) = subst (IsNamedBy (Some ring)) (sym q) (named_tree ring e)
+
+module _ (o : ListOptions) (workers : ℕ) (source : List ℕ) (ring : List (List ℕ)) (s : MarkedPolynomials) (read : IsTextOf ring_marked_set source (ring, s)) where
+  pub given_performed : (held holds : Option (List ℕ)) → IsMarkedGroebnerBasis s.variables s.items → IsListWritten o ring (polys s.items) held holds → IsPerformed (jobs.Bases true o.limit o.pairs o.certified workers) source held holds
+  given_performed held holds g p = record {
+    text = p.0;
+    is_answer = record { value = (ring, s); read = read; answer = record { formed = tt; is_answer = record { basis = g; list = p.1 } } };
+    gained = p.2;
+  }
+
+  refused_here : (r : Refusal) → IsGivenListCause o (length ring) s r → IsRefusalOf (jobs.Bases true o.limit o.pairs o.certified workers) source r
+  refused_here r c = IsCommandRefused.behind_text (ring, s) read (IsUnanswered.in_work tt c)
+
+  -- the root is refused before anything is written
+  pub given_stopped_root : (held : Option (List ℕ)) (n : ℕ) (r : Refusal) → IsGivenRootRefusal s o.pairs r → IsStopped (jobs.Bases true o.limit o.pairs o.certified workers) source held held n n r
+  given_stopped_root held n r h = by_root h
+    where
+      stop_check : (e : CheckError) → IsGivenListCause o (length ring) s (of_check e) → IsStopped (jobs.Bases true o.limit o.pairs o.certified workers) source held held n n (of_check e)
+      stop_check (check_errors.Overflow x) c = (refused_here _ c, LeavesBegun.nothing (Keeps-refl held))
+      stop_check (check_errors.Exponent x) c = (refused_here _ c, LeavesBegun.nothing (Keeps-refl held))
+      stop_check (check_errors.NotReduced set i x) c = (refused_here _ c, LeavesBegun.nothing (Keeps-refl held))
+      stop_check (check_errors.NotBasis set i j x) c = (refused_here _ c, LeavesBegun.nothing (Keeps-refl held))
+      stop_check (check_errors.Inconsistent set ms) c = (refused_here _ c, LeavesBegun.nothing (Keeps-refl held))
+      stop_check (check_errors.Cone x) c = (refused_here _ c, LeavesBegun.nothing (Keeps-refl held))
+      stop_check check_errors.Memory c = (refused_here _ c, LeavesBegun.nothing (Keeps-refl held))
+
+      stop_tree : (e : TreeError) → IsGivenListCause o (length ring) s (of_tree e) → IsStopped (jobs.Bases true o.limit o.pairs o.certified workers) source held held n n (of_tree e)
+      stop_tree (tree_errors.Overflow x) c = (refused_here _ c, LeavesBegun.nothing (Keeps-refl held))
+      stop_tree (tree_errors.Exponent x) c = (refused_here _ c, LeavesBegun.nothing (Keeps-refl held))
+      stop_tree (tree_errors.PairBudget basis unsettled) c = (refused_here _ c, LeavesBegun.nothing (Keeps-refl held))
+      stop_tree (tree_errors.Cone x) c = (refused_here _ c, LeavesBegun.nothing (Keeps-refl held))
+      stop_tree tree_errors.Memory c = (refused_here _ c, LeavesBegun.nothing (Keeps-refl held))
+
+      cause_as : (z : Refusal) → r ≡ z → IsGivenListCause o (length ring) s z
+      cause_as z q = subst (IsGivenListCause o (length ring) s) q (IsGivenListCause.at_root h)
+
+      by_root : IsGivenRootRefusal s o.pairs r → IsStopped (jobs.Bases true o.limit o.pairs o.certified workers) source held held n n r
+      by_root (IsGivenRootRefusal.at_check e k q) = subst (λ z. IsStopped (jobs.Bases true o.limit o.pairs o.certified workers) source held held n n z) (sym q) (stop_check e (cause_as (of_check e) q))
+      by_root (IsGivenRootRefusal.at_tails t d g a k q) = subst (λ z. IsStopped (jobs.Bases true o.limit o.pairs o.certified workers) source held held n n z) (sym q) (stop_check (of_poly d) (cause_as (of_check (of_poly d)) q))
+      by_root (IsGivenRootRefusal.on_the_way e g k q) = subst (λ z. IsStopped (jobs.Bases true o.limit o.pairs o.certified workers) source held held n n z) (sym q) (stop_tree e (cause_as (of_tree e) q))
+
+  refused_going : (r : Refusal) → IsMarkedGroebnerBasis s.variables s.items → IsGoingCause o (length ring) (polys s.items) r ⊎ (r ≡ refusals.Memory) → IsRefusalOf (jobs.Bases true o.limit o.pairs o.certified workers) source r
+  refused_going r g (inl c) = refused_here r (IsGivenListCause.going g c)
+  refused_going r g (inr m) = IsCommandRefused.no_memory m
+
+  leaves_going : (held holds : Option (List ℕ)) (r : Refusal) → Keeps held holds ⊎ IsListBegun o ring (polys s.items) held holds r → LeavesBegun (jobs.Bases true o.limit o.pairs o.certified workers) source held holds r
+  leaves_going held holds r (inl k) = LeavesBegun.nothing k
+  leaves_going held holds r (inr b) = LeavesBegun.beginning (record { text = b.0; begun = record { value = (ring, s); read = read; begun = b.1 }; gained = b.2 })
+
+  -- the list is refused from the root on
+  pub given_stopped_list : (held holds : Option (List ℕ)) (n m : ℕ) (r : Refusal) → IsMarkedGroebnerBasis s.variables s.items → IsListStopped o ring (polys s.items) held holds n m r → IsStopped (jobs.Bases true o.limit o.pairs o.certified workers) source held holds n m r
+  given_stopped_list held holds n m refusals.WriteFault g h = (h.0, record { text = h.1.0; is_whole = record { value = (ring, s); read = read; formed = tt; is_whole = record { basis = g; list = h.1.1 } }; gained = h.1.2 })
+  given_stopped_list held holds n m (refusals.ListLimit most) g h = (
+    refused_here (refusals.ListLimit most) (IsGivenListCause.going g h.0),
+    record { text = h.1.0; begun = record { value = (ring, s); read = read; begun = h.1.1 }; gained = h.1.2 },
+  )
+  given_stopped_list held holds n m r g h = (refused_going r g h.0, leaves_going held holds r h.1)
+
+-- ---- its laws
+
+pub tree_work : (e : TreeError) → IsOfWork (of_tree e)
+tree_work (tree_errors.Overflow o) = tt
+tree_work (tree_errors.Exponent o) = tt
+tree_work (tree_errors.PairBudget b u) = tt
+tree_work (tree_errors.Cone s) = tt
+tree_work tree_errors.Memory = tt
+
+tree_numbers : (e : TreeError) → IsOfNumbers (of_tree e)
+tree_numbers (tree_errors.Overflow o) = tt
+tree_numbers (tree_errors.Exponent o) = tt
+tree_numbers (tree_errors.PairBudget b u) = tt
+tree_numbers (tree_errors.Cone s) = tt
+tree_numbers tree_errors.Memory = tt
+
+pub tree_untested : (e : TreeError) → IsOfTest (of_tree e) → ⊥
+tree_untested (tree_errors.Overflow o) t = t
+tree_untested (tree_errors.Exponent o) t = t
+tree_untested (tree_errors.PairBudget b u) t = t
+tree_untested (tree_errors.Cone s) t = t
+tree_untested tree_errors.Memory t = t
+
+root_work : (s : MarkedPolynomials) (pairs : ℕ) (r : Refusal) → IsGivenRootRefusal s pairs r → IsOfWork r
+root_work s pairs r (IsGivenRootRefusal.at_check e h q) = subst IsOfWork (sym q) (check_work e)
+root_work s pairs r (IsGivenRootRefusal.at_tails t d g a h q) = subst IsOfWork (sym q) (check_work (of_poly d))
+root_work s pairs r (IsGivenRootRefusal.on_the_way e g h q) = subst IsOfWork (sym q) (tree_work e)
+
+pub given_work : (o : ListOptions) (n : ℕ) (s : MarkedPolynomials) (r : Refusal) → IsGivenListCause o n s r → IsOfWork r
+given_work o n s r (IsGivenListCause.at_root h) = root_work s o.pairs r h
+given_work o n s r (IsGivenListCause.going g (IsGoingCause.in_tree e h q)) = subst IsOfWork (sym q) (tree_work e)
+given_work o n s r (IsGivenListCause.going g (IsGoingCause.at_limit most h q)) = subst IsOfWork (sym q) tt
+given_work o n s r (IsGivenListCause.going g (IsGoingCause.at_certificates b k m u)) = subst IsOfWork (sym u.2) (weight_work u.0)
+
+pub root_within : (o : ListOptions) (n : ℕ) (s : MarkedPolynomials) (r : Refusal) → IsGivenListWithin o n s → IsGivenRootRefusal s o.pairs r → r ≡ refusals.Memory
+root_within o n s r w (IsGivenRootRefusal.at_check e h q) = q ∙ ap of_check (basis_only_memory {A = Unit {0}} 0 s (Err e) w.variables h w.checks w.basis)
+root_within o n s r w (IsGivenRootRefusal.at_tails t d g a h q) = q ∙ ap (λ x. of_check (of_poly x)) (w.tails t d a h)
+root_within o n s r w (IsGivenRootRefusal.on_the_way e g h q) = q ∙ ap of_tree (within_memory (ideal_by n (polys s.items)) o.pairs e w.tree (subst (λ k. IsTreeRefusal (ideal_by k (polys s.items)) o.pairs e) w.same h))
+
+-- a test of the set isn't told where the set is a basis, nor by the rest of the work
+root_tested : (s : MarkedPolynomials) (pairs : ℕ) (r : Refusal) → HaveVariables s.variables s.items → IsOfTest r → IsGivenRootRefusal s pairs r → IsMarkedGroebnerBasis s.variables s.items → ⊥
+root_tested s pairs r v t (IsGivenRootRefusal.at_check e h q) g = paired_refutes (Unit {0}) 0 s e v (subst IsOfTest q t) h g
+root_tested s pairs r v t (IsGivenRootRefusal.at_tails u d b a h q) g = poly_untested d (subst IsOfTest q t)
+root_tested s pairs r v t (IsGivenRootRefusal.on_the_way e b h q) g = tree_untested e (subst IsOfTest q t)
+
+going_untested : (o : ListOptions) (n : ℕ) (s : MarkedPolynomials) (r : Refusal) → IsOfTest r → IsGoingCause o n (polys s.items) r → ⊥
+going_untested o n s r t (IsGoingCause.in_tree e h q) = tree_untested e (subst IsOfTest q t)
+going_untested o n s r t (IsGoingCause.at_limit most h q) = subst IsOfTest q t
+going_untested o n s r t (IsGoingCause.at_certificates b k m u) = weight_untested u.0 (subst IsOfTest u.2 t)
+
+given_refutes : (o : ListOptions) (n : ℕ) (s : MarkedPolynomials) (r : Refusal) → HaveVariables s.variables s.items → IsOfTest r → IsGivenListCause o n s r → IsMarkedGroebnerBasis s.variables s.items → ⊥
+given_refutes o n s r v t (IsGivenListCause.at_root h) g = root_tested s o.pairs r v t h g
+given_refutes o n s r v t (IsGivenListCause.going b h) g = going_untested o n s r t h
+
+root_once : (s : MarkedPolynomials) (pairs : ℕ) (r d : Refusal) → HaveVariables s.variables s.items → IsOfTest r → IsGivenRootRefusal s pairs r → IsGivenRootRefusal s pairs d → TellsSame r d ⊎ IsOfNumbers d
+root_once s pairs r d v t (IsGivenRootRefusal.at_check e h q) (IsGivenRootRefusal.at_check f k p) =
+    let once = paired_once (Unit {0}) (Unit {0}) 0 s e f v (subst IsOfTest q t) h k in
+    subst (λ x. TellsSame r x ⊎ IsOfNumbers x) (sym p) (subst (λ x. TellsSame x (of_check f) ⊎ IsOfNumbers (of_check f)) (sym q) once)
+root_once s pairs r d v t h (IsGivenRootRefusal.at_tails u f g a k p) = inr (subst IsOfNumbers (sym p) (poly_numbers f))
+root_once s pairs r d v t h (IsGivenRootRefusal.on_the_way f g k p) = inr (subst IsOfNumbers (sym p) (tree_numbers f))
+root_once s pairs r d v t (IsGivenRootRefusal.at_tails u f g a h q) k = absurd (poly_untested f (subst IsOfTest q t))
+root_once s pairs r d v t (IsGivenRootRefusal.on_the_way e g h q) k = absurd (tree_untested e (subst IsOfTest q t))
+
+given_same : (o : ListOptions) (n : ℕ) (s : MarkedPolynomials) (r d : Refusal) → HaveVariables s.variables s.items → IsOfTest r → IsGivenListCause o n s r → IsGivenListCause o n s d → TellsSame r d ⊎ IsOfNumbers d
+given_same o n s r d v t (IsGivenListCause.at_root h) (IsGivenListCause.at_root k) = root_once s o.pairs r d v t h k
+given_same o n s r d v t (IsGivenListCause.at_root h) (IsGivenListCause.going g k) = absurd (root_tested s o.pairs r v t h g)
+given_same o n s r d v t (IsGivenListCause.going g h) k = absurd (going_untested o n s r t h)
+
+pub given_once : (o : ListOptions) (source : List ℕ) (v : List (List ℕ) × MarkedPolynomials) (r d : Refusal) → IsTextOf ring_marked_set source v → IsOfTest r → IsGivenListCause o (length v.0) v.1 r → IsGivenListCause o (length v.0) v.1 d → TellsSame r d ⊎ IsOfNumbers d
+given_once o source v r d read t h k = given_same o (length v.0) v.1 r d (read_variables source v read) t h k
+
+pub given_refuses : (o : ListOptions) (source : List ℕ) (v : List (List ℕ) × MarkedPolynomials) (r : Refusal) → IsTextOf ring_marked_set source v → IsOfTest r → IsGivenListCause o (length v.0) v.1 r → IsMarkedGroebnerBasis v.1.variables v.1.items → ⊥
+given_refuses o source v r read t h g = given_refutes o (length v.0) v.1 r (read_variables source v read) t h g

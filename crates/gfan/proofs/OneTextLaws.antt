@@ -1,0 +1,54 @@
+-- What `_bases` writes for a source is one text.
+-- To cite: one_text.
+use Rattle.std.specs.Prelude.{◌≡◌, ℕ, Bool, true, false, List, [], ◌∷◌, length, Option, ℤ}
+use Rattle.std.proofs.Common.{sym, ap, ◌∙◌, subst}
+use Rattle.gf_ideal.specs.Membership.{AreInVariables}
+use Rattle.gf_buchberger.proofs.JobLaws.{ring_variables}
+use Rattle.gf_poly.specs.Marking.{MarkedPolynomials, polys}
+use Rattle.gf_reduced.proofs.GroebnerLaws.{polys_variables}
+use Rattle.gf_front.specs.declared.command_line.Job.TheVariants as jobs
+use Rattle.gf_text.specs.declared.written.Written.{Written}
+use Rattle.gf_items.specs.Items.{IsTextOf, from}
+use Rattle.gf_items.specs.Sources.{ring_set_vector, ring_marked_set}
+use Rattle.gf_items.specs.Kinds.{a_set, a_marked_set, vector_where}
+use Rattle.gf_items.proofs.KindLaws.{ring_and_once}
+use Rattle.gf_items.proofs.ReadingLaws.{source_once}
+use Rattle.gfan.specs.Buchberger.{generators_of}
+use Rattle.gfan.specs.Bases.{AreItemTexts, IsTextOfBases, list_text}
+use Rattle.gfan.specs.OneList.{TextsAreOne}
+use Rattle.gfan.specs.Commands.{IsAnswerTo}
+use Rattle.gfan.proofs.ReadSetLaws.{set_kept, marked_kept}
+use Rattle.gfan.proofs.OneListLaws.{one_list}
+use Rattle.gfan.proofs.CertificateLaws.{items_one}
+
+-- what is read is in the variables of the ring
+read_variables : (source : List ℕ) (v : List (List ℕ) × (List Written × Option (List ℤ))) → IsTextOf (ring_set_vector false) source v → AreInVariables (length v.0) (generators_of v.1.0)
+read_variables source v r = ring_variables (length v.0) (generators_of v.1.0) (record { each = λ f c. (set_kept v.0 (from source r.read.behind) r.read.two.behind v.1.0 r.read.two.one f c).0 })
+
+-- the list of generators
+generators_text : (certificates : Bool) (limit other : Option ℕ) (pairs budget workers others : ℕ) (source text same : List ℕ) → IsAnswerTo (jobs.Bases false limit pairs certificates workers) source text → IsAnswerTo (jobs.Bases false other budget certificates others) source same → text ≡ same
+generators_text certificates limit other pairs budget workers others source text same a b =
+    let once = source_once (ring_set_vector false) (ring_and_once a_set (vector_where false ∷ [])) source in
+    let values = once.once a.value b.value a.read b.read in
+    let moved = subst (λ (v : List (List ℕ) × (List Written × Option (List ℤ))). IsTextOfBases certificates other v.0 (generators_of v.1.0) same) values b.answer.is_answer in
+    let mine = a.answer.is_answer in
+    let lists = one_list (length a.value.0) (generators_of a.value.1.0) mine.list moved.list (read_variables source a.value a.read) mine.are_all moved.are_all in
+    let items = items_one certificates a.value.0 mine.list mine.items moved.items mine.are_items (subst (λ l. AreItemTexts certificates a.value.0 l moved.items) (sym lists) moved.are_items) in
+    mine.is_text ∙ ap (list_text a.value.0) items ∙ sym moved.is_text
+
+-- the list from a basis that is given
+given_text : (certificates : Bool) (limit other : Option ℕ) (pairs budget workers others : ℕ) (source text same : List ℕ) → IsAnswerTo (jobs.Bases true limit pairs certificates workers) source text → IsAnswerTo (jobs.Bases true other budget certificates others) source same → text ≡ same
+given_text certificates limit other pairs budget workers others source text same a b =
+    let once = source_once ring_marked_set (ring_and_once a_marked_set []) source in
+    let values = once.once a.value b.value a.read b.read in
+    let moved = subst (λ (v : List (List ℕ) × MarkedPolynomials). IsTextOfBases certificates other v.0 (polys v.1.items) same) values b.answer.is_answer.list in
+    let mine = a.answer.is_answer.list in
+    let marked = a.read.read.two in
+    let inside = subst (λ n. AreInVariables n (polys a.value.1.items)) marked.variables (polys_variables a.value.1.variables a.value.1.items (marked_kept a.value.0 (from source a.read.read.behind) a.read.end a.value.1 marked)) in
+    let lists = one_list (length a.value.0) (polys a.value.1.items) mine.list moved.list inside mine.are_all moved.are_all in
+    let items = items_one certificates a.value.0 mine.list mine.items moved.items mine.are_items (subst (λ l. AreItemTexts certificates a.value.0 l moved.items) (sym lists) moved.are_items) in
+    mine.is_text ∙ ap (list_text a.value.0) items ∙ sym moved.is_text
+
+pub one_text : TextsAreOne
+one_text false = generators_text
+one_text true = given_text

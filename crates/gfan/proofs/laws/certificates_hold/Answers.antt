@@ -1,0 +1,5 @@
+use Rattle.gfan.proofs.CertificateLaws.{certificates_hold}
+use Rattle.gfan.proofs.laws.certificates_hold.Goals as goal
+
+pub returns : goal.returns
+returns c = certificates_hold

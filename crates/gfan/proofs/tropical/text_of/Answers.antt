@@ -1,0 +1,10 @@
+use Rattle.std.proofs.Common.{None, arith, sym, subst}
+use Rattle.gf_items.specs.Commands.{IsUnanswered}
+use Rattle.gfan.specs.Tropical.{tropical_command}
+use Rattle.gfan.proofs.TropicalLaws.{fan_unanswered}
+use Rattle.gfan.proofs.tropical.text_of.Goals as goal
+
+pub returns-clause-err : goal.returns-clause-err
+returns-clause-err g c =
+    subst (IsUnanswered (tropical_command c.args.which) (c.args.ring.now, (c.args.set.items, None))) (sym c.of_tropical.ensures)
+    (fan_unanswered c.args.which c.args.ring.now c.args.set.items c.len.result c.len-n.result c.in_ok-list.list.items c.deref.result.now c.in-Err.error (omega (arith, c.len.ensures, c.args.set.ok.0)) c.in_ok-check_number.ensures.ok c.in_ok-list.ensures.formed c.len-n.ensures.value c.deref.ensures.value c.in_ok-list.ensures.value c.in_ok-list.ensures.some c.in-Err.ensures.err)

@@ -1,0 +1,143 @@
+-- `_bases`: what it writes, and why it doesn't.
+use Rattle.std.specs.Prelude.{◌≡◌, ℕ, ◌<◌, ◌≤◌, Bool, true, false, List, [], ◌∷◌, ◌++◌, flat_map, length, Option, None, Some, ℤ}
+use Rattle.std.specs.List.{AllZip}
+use Rattle.gf_exponents.specs.SixOrders.{MonomialOrder}
+use Rattle.gf_poly.specs.Polynomial.{Terms}
+use Rattle.gf_poly.specs.Marking.{MarkedPolynomials}
+use Rattle.gf_text.specs.RingText.{ring_text}
+use Rattle.gf_text.specs.declared.written.Written.{Written}
+use Rattle.gf_buchberger.specs.declared.bases.BasisError.{BasisError}
+use Rattle.gf_buchberger.specs.Bases.{IsBasisRefusal, AreRunsWithinLimits}
+use Rattle.gf_tree.specs.declared.error.TreeError.{TreeError}
+use Rattle.gf_tree.specs.declared.error.TreeError.TheVariants as tree_errors
+use Rattle.gf_tree.specs.Ideals.{ideal_by}
+use Rattle.gf_tree.specs.Refusals.{IsTreeRefusal, IsTreeWithinLimits}
+use Rattle.gf_weights.specs.Refusals.{AreCertificatesWithinLimits}
+use Rattle.gf_front.specs.declared.refusal.Refusal.{Refusal}
+use Rattle.gf_front.specs.declared.refusal.Refusal.TheVariants as refusals
+use Rattle.gf_items.specs.Sources.{ring_set_vector}
+use Rattle.gf_items.specs.Commands.{Command}
+use Rattle.gfan.specs.declared.bases.ListOptions.{ListOptions}
+use Rattle.gfan.specs.Buchberger.{generators_of, of_basis}
+use Rattle.gfan.specs.BasesList.{IsGivenByWeight, AreAllBases}
+use Rattle.gfan.specs.Certificates.{IsItemText, IsUncertified}
+
+-- ---- what is written
+
+-- a line end, a comma, a line end, and what stands for a basis
+abbrev pub later_item_text : List ℕ → List ℕ
+later_item_text t = 10 ∷ 44 ∷ 10 ∷ t
+
+-- what stands for bases, with a comma on a line of its own between them
+abbrev pub items_text : List (List ℕ) → List ℕ
+items_text [] = []
+items_text (t ∷ ts) = t ++ flat_map later_item_text ts
+
+-- the ring in a line, and these items in braces
+abbrev pub list_text : List (List ℕ) → List (List ℕ) → List ℕ
+list_text ring ts = ring_text ring ++ (123 ∷ (items_text ts ++ 125 ∷ 10 ∷ []))
+
+-- its beginning, up to the last of these items; nothing where there are none
+abbrev pub begun_text : List (List ℕ) → List (List ℕ) → List ℕ
+begun_text ring [] = []
+begun_text ring (t ∷ ts) = ring_text ring ++ 123 ∷ items_text (t ∷ ts)
+
+-- what stands for each of these bases
+abbrev pub AreItemTexts : Bool → List (List ℕ) → List MarkedPolynomials → List (List ℕ) → Type 0
+AreItemTexts certified ring bs ts = AllZip (IsItemText certified ring) bs ts
+
+-- the list isn't longer than the limit, where one is given
+abbrev pub IsWithinLimit : Option ℕ → List MarkedPolynomials → Type 0
+IsWithinLimit None list = Unit {0}
+IsWithinLimit (Some most) list = length list ≤ most
+
+-- the ring in a line, and all bases of the ideal of fs, which are no more than the limit, with certificates or without
+pub record IsTextOfBases (certified : Bool) (limit : Option ℕ) (ring : List (List ℕ)) (fs : List Terms) (text : List ℕ) : Type 0 where
+  pub list : List MarkedPolynomials
+  pub are_all : AreAllBases (length ring) fs list
+  pub few : IsWithinLimit limit list
+  pub items : List (List ℕ)
+  pub are_items : AreItemTexts certified ring list items
+  pub is_text : text ≡ list_text ring items
+
+-- ---- what is written before the list is refused
+
+-- the beginning of that text, up to the last of the bases that are written, behind which the rest of the list comes
+pub record IsBegunList (certified : Bool) (ring : List (List ℕ)) (fs : List Terms) (written rest : List MarkedPolynomials) (text : List ℕ) : Type 0 where
+  pub are_all : AreAllBases (length ring) fs (written ++ rest)
+  pub items : List (List ℕ)
+  pub are_items : AreItemTexts certified ring written items
+  pub is_text : text ≡ begun_text ring items
+
+-- some of the bases, from the first on, or none
+abbrev pub IsBegunText : Bool → List (List ℕ) → List Terms → List ℕ → Type 0
+IsBegunText certified ring fs text = (written : List MarkedPolynomials) × (rest : List MarkedPolynomials) × IsBegunList certified ring fs written rest text
+
+-- just as many as the limit lets through, and a further one in the list
+pub record IsBegunToLimit (o : ListOptions) (ring : List (List ℕ)) (fs : List Terms) (most : ℕ) (text : List ℕ) : Type 0 where
+  pub is_limit : o.limit ≡ Some most
+  pub written : List MarkedPolynomials
+  pub next : MarkedPolynomials
+  pub rest : List MarkedPolynomials
+  pub begun : IsBegunList o.certified ring fs written (next ∷ rest) text
+  pub just : length written ≡ most
+
+-- at the limit just so many bases; else some of them, from the first on, or none
+abbrev pub IsBegunWhere : ListOptions → List (List ℕ) → List Terms → List ℕ → Refusal → Type 0
+IsBegunWhere o ring fs text (refusals.ListLimit most) = IsBegunToLimit o ring fs most text
+IsBegunWhere o ring fs text _ = IsBegunText o.certified ring fs text
+
+-- ---- why it isn't written
+
+-- a refusal of the search as one of the run
+abbrev pub of_tree : TreeError → Refusal
+of_tree (tree_errors.Overflow x) = refusals.Overflow x
+of_tree (tree_errors.Exponent x) = refusals.ExponentOverflow x
+of_tree (tree_errors.PairBudget basis unsettled) = refusals.PairBudget basis unsettled
+of_tree (tree_errors.Cone x) = refusals.ConeOverflow x.row x.op x.left x.right
+of_tree tree_errors.Memory = refusals.Memory
+
+-- there are more bases than the limit lets through
+pub record IsPastLimit (limit : Option ℕ) (n : ℕ) (fs : List Terms) (most : ℕ) : Type 0 where
+  pub is_limit : limit ≡ Some most
+  pub list : List MarkedPolynomials
+  pub are_all : AreAllBases n fs list
+  pub longer : most < length list
+
+-- a step of the search is refused, at a basis of the ideal; or the list is past its limit; or, where certificates are asked for, those of
+-- a basis of the ideal are refused
+pub data IsGoingCause (o : ListOptions) (n : ℕ) (fs : List Terms) (r : Refusal) : Type 0 where
+  in_tree : (e : TreeError) → IsTreeRefusal (ideal_by n fs) o.pairs e → r ≡ of_tree e → IsGoingCause o n fs r
+  at_limit : (most : ℕ) → IsPastLimit o.limit n fs most → r ≡ refusals.ListLimit most → IsGoingCause o n fs r
+  at_certificates : (b : MarkedPolynomials) → o.certified ≡ true → IsGivenByWeight n fs b → IsUncertified b r → IsGoingCause o n fs r
+
+-- the first basis, by degree and then lex, is refused; or the list from it on
+pub data IsListCause (o : ListOptions) (n : ℕ) (fs : List Terms) (r : Refusal) : Type 0 where
+  at_root : (e : BasisError) → IsBasisRefusal MonomialOrder.deglex n fs o.pairs e → r ≡ of_basis e → IsListCause o n fs r
+  going : IsGoingCause o n fs r → IsListCause o n fs r
+
+-- where certificates are asked for, no operation of those of a basis of the ideal leaves its limits
+abbrev pub AreCertifiedWithin : ListOptions → ℕ → List Terms → Type 0
+AreCertifiedWithin o n fs = o.certified ≡ true → (b : MarkedPolynomials) → IsGivenByWeight n fs b → AreCertificatesWithinLimits b.variables b.items
+
+-- no operation on the way to the first basis leaves its limits, nor one of the search at a basis of the ideal, nor one of its certificates
+-- where they are asked for, and the list isn't longer than its limit
+pub record IsListWithin (o : ListOptions) (n : ℕ) (fs : List Terms) : Type 0 where
+  pub root : AreRunsWithinLimits MonomialOrder.deglex fs o.pairs
+  pub tree : IsTreeWithinLimits (ideal_by n fs) o.pairs
+  pub few : (list : List MarkedPolynomials) → AreAllBases n fs list → IsWithinLimit o.limit list
+  pub certificates : AreCertifiedWithin o n fs
+
+-- ---- the command
+
+abbrev pub bases_command : ListOptions → Command
+bases_command o = record {
+  Value = List (List ℕ) × (List Written × Option (List ℤ));
+  items = ring_set_vector false;
+  checks = λ v. [];
+  IsAnswer = λ v text. IsTextOfBases o.certified o.limit v.0 (generators_of v.1.0) text;
+  IsWhole = λ v text. IsTextOfBases o.certified None v.0 (generators_of v.1.0) text;
+  IsCause = λ v r. IsListCause o (length v.0) (generators_of v.1.0) r;
+  IsBegun = λ v text r. IsBegunWhere o v.0 (generators_of v.1.0) text r;
+  IsWithin = λ v. IsListWithin o (length v.0) (generators_of v.1.0);
+}

@@ -1,0 +1,36 @@
+-- What the certificates show that `_bases` writes. Laws: proofs/CertificateLaws.antt.
+-- Source: Fukuda, Jensen, Thomas, Computing Gröbner fans, 2 and 4.
+use Rattle.std.specs.Prelude.{◌≡◌, ◌↔◌, ℕ, true, List, ◌++◌, length, All, Contains, ℤ, pos, ◌<ℤ◌, Option}
+use Rattle.std.specs.List.{AllZip}
+use Rattle.gf_exponents.specs.Orders.{gains}
+use Rattle.gf_poly.specs.Polynomial.{Terms}
+use Rattle.gf_poly.specs.Marking.{MarkedPolynomials}
+use Rattle.gf_text.specs.PrintedSets.{basis_text}
+use Rattle.gf_ideal.specs.Membership.{AreInVariables}
+use Rattle.gf_ideal.specs.Bases.{IsReducedBasis}
+use Rattle.gf_facets.specs.Regions.{IsInRegion, all_positive}
+use Rattle.gf_facets.specs.Normals.{Ascends}
+use Rattle.gf_facets.specs.Facets.{IsInsideFacet, IsFlippable}
+use Rattle.gf_weights.specs.declared.certificates.FacetWitness.{FacetWitness}
+use Rattle.gf_weights.specs.Weights.{normals_of}
+use Rattle.gfan.specs.BasesList.{AreAllBases}
+use Rattle.gfan.specs.Certificates.{certificates_text}
+use Rattle.gfan.specs.Bases.{list_text, IsTextOfBases}
+
+-- what is printed behind a basis of the ideal of fs: a positive weight, for which it is the ideal's reduced basis; and exactly the facets
+-- that a flip may cross, their normals ascending, each with a positive vector that is zero on its normal and positive on all others
+pub record HasCertificates (ring : List (List ℕ)) (fs : List Terms) (b : MarkedPolynomials) (text : List ℕ) : Type 0 where
+  pub weight : List ℤ
+  pub facets : List FacetWitness
+  pub is_text : text ≡ basis_text ring b.items ++ certificates_text weight facets
+  pub width : length weight ≡ length ring
+  pub positive : All (λ x. pos 0 <ℤ x) weight
+  pub reduced : IsReducedBasis (length ring) fs (gains weight) b.items
+  pub rises : Ascends (normals_of facets)
+  pub exactly : (a : List ℤ) → Contains (normals_of facets) a ↔ IsFlippable (length ring) (all_positive (length ring)) b.items a
+  pub inside : (f : FacetWitness) → Contains facets f → IsInRegion (length ring) (all_positive (length ring)) f.witness × IsInsideFacet b.items f.normal f.witness
+
+-- so it is with each basis of a list that is written with certificates
+abbrev pub CertificatesHold : Type 0
+CertificatesHold = (limit : Option ℕ) (ring : List (List ℕ)) (fs : List Terms) (text : List ℕ) → AreInVariables (length ring) fs → IsTextOfBases true limit ring fs text →
+    (list : List MarkedPolynomials) × AreAllBases (length ring) fs list × ((items : List (List ℕ)) × AllZip (HasCertificates ring fs) list items × (text ≡ list_text ring items))

@@ -1,0 +1,75 @@
+-- `_bases -g`: a marked Gröbner basis is read in place of generators. What is written, and why it isn't.
+use Rattle.std.specs.Prelude.{◌≡◌, ℕ, Bool, List, [], length, None}
+use Rattle.gf_poly.specs.declared.error.PolyError.{PolyError}
+use Rattle.gf_poly.specs.declared.error.PolyError.TheVariants as errors
+use Rattle.gf_poly.specs.Marking.{MarkedPolynomials, HaveVariables, polys, IsArranged}
+use Rattle.gf_division.specs.Autoreduction.{IsAutoreductionRefusal}
+use Rattle.gf_reduced.specs.declared.error.CheckError.{CheckError}
+use Rattle.gf_reduced.specs.Forms.{monic_set}
+use Rattle.gf_reduced.specs.Markings.{IsMarkedGroebnerBasis}
+use Rattle.gf_reduced.specs.Refusals.{of_poly, IsBasisRefusal, AreChecksWithinLimits}
+use Rattle.gf_tree.specs.declared.error.TreeError.{TreeError}
+use Rattle.gf_tree.specs.Ideals.{ideal_by}
+use Rattle.gf_tree.specs.Refusals.{IsTreeRefusal, IsTreeWithinLimits}
+use Rattle.gf_front.specs.declared.refusal.Refusal.{Refusal}
+use Rattle.gf_items.specs.Sources.{ring_marked_set}
+use Rattle.gf_items.specs.Commands.{Command}
+use Rattle.gfan.specs.declared.bases.ListOptions.{ListOptions}
+use Rattle.gfan.specs.BasesList.{AreAllBases}
+use Rattle.gfan.specs.Bases.{IsWithinLimit, IsTextOfBases, IsBegunWhere, of_tree, IsGoingCause, AreCertifiedWithin}
+use Rattle.gfan.specs.CheckedSets.{of_check}
+
+-- ---- what is written
+
+-- the set is a Gröbner basis for its marking; then the ring in a line, and all bases of the ideal that it generates, which are no more
+-- than the limit
+pub record IsTextFromBasis (o : ListOptions) (ring : List (List ℕ)) (s : MarkedPolynomials) (text : List ℕ) : Type 0 where
+  pub basis : IsMarkedGroebnerBasis s.variables s.items
+  pub list : IsTextOfBases o.certified o.limit ring (polys s.items) text
+
+-- the same without a limit
+pub record IsWholeFromBasis (certified : Bool) (ring : List (List ℕ)) (s : MarkedPolynomials) (text : List ℕ) : Type 0 where
+  pub basis : IsMarkedGroebnerBasis s.variables s.items
+  pub list : IsTextOfBases certified None ring (polys s.items) text
+
+-- ---- why it isn't written
+
+-- the set isn't taken as a basis; or it is one, and its members made monic and arranged aren't reduced, or a step of the way up from the
+-- reduced basis to the root is refused, at a basis of the ideal
+pub data IsGivenRootRefusal (s : MarkedPolynomials) (pairs : ℕ) (r : Refusal) : Type 0 where
+  at_check : (e : CheckError) → IsBasisRefusal 0 s e → r ≡ of_check e → IsGivenRootRefusal s pairs r
+  at_tails : (t : MarkedPolynomials) (d : PolyError) → IsMarkedGroebnerBasis s.variables s.items → IsArranged (monic_set s) t →
+      IsAutoreductionRefusal t.items d → r ≡ of_check (of_poly d) → IsGivenRootRefusal s pairs r
+  on_the_way : (e : TreeError) → IsMarkedGroebnerBasis s.variables s.items → IsTreeRefusal (ideal_by s.variables (polys s.items)) pairs e →
+      r ≡ of_tree e → IsGivenRootRefusal s pairs r
+
+-- so is the root; or the set is a basis, and the list is refused from the root on
+pub data IsGivenListCause (o : ListOptions) (n : ℕ) (s : MarkedPolynomials) (r : Refusal) : Type 0 where
+  at_root : IsGivenRootRefusal s o.pairs r → IsGivenListCause o n s r
+  going : IsMarkedGroebnerBasis s.variables s.items → IsGoingCause o n (polys s.items) r → IsGivenListCause o n s r
+
+-- the set, in its variables as any that is read, is a basis, no operation of its checks leaves its limits, nor one of reducing it, nor one
+-- of the search at a basis of the ideal, nor one of its certificates where they are asked for, and the list isn't longer than its limit
+pub record IsGivenListWithin (o : ListOptions) (n : ℕ) (s : MarkedPolynomials) : Type 0 where
+  pub variables : HaveVariables s.variables s.items
+  pub same : s.variables ≡ n
+  pub basis : IsMarkedGroebnerBasis s.variables s.items
+  pub checks : AreChecksWithinLimits s
+  pub tails : (t : MarkedPolynomials) (d : PolyError) → IsArranged (monic_set s) t → IsAutoreductionRefusal t.items d → d ≡ errors.Memory
+  pub tree : IsTreeWithinLimits (ideal_by n (polys s.items)) o.pairs
+  pub few : (list : List MarkedPolynomials) → AreAllBases n (polys s.items) list → IsWithinLimit o.limit list
+  pub certificates : AreCertifiedWithin o n (polys s.items)
+
+-- ---- the command
+
+abbrev pub given_bases_command : ListOptions → Command
+given_bases_command o = record {
+  Value = List (List ℕ) × MarkedPolynomials;
+  items = ring_marked_set;
+  checks = λ v. [];
+  IsAnswer = λ v text. IsTextFromBasis o v.0 v.1 text;
+  IsWhole = λ v text. IsWholeFromBasis o.certified v.0 v.1 text;
+  IsCause = λ v r. IsGivenListCause o (length v.0) v.1 r;
+  IsBegun = λ v text r. IsBegunWhere o v.0 (polys v.1.items) text r;
+  IsWithin = λ v. IsGivenListWithin o (length v.0) v.1;
+}

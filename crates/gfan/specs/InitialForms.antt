@@ -1,0 +1,27 @@
+-- `_initialforms`: what it reads and writes, and why it doesn't.
+use Rattle.std.specs.Prelude.{◌≡◌, ℕ, List, [], ◌∷◌, length, ℤ}
+use Rattle.gf_text.specs.declared.written.Written.{Written}
+use Rattle.gf_small.specs.InitialForms.{AreInitialForms}
+use Rattle.gf_front.specs.declared.refusal.Refusal.TheVariants as refusals
+use Rattle.gf_items.specs.Sources.{ring_set_and_vector}
+use Rattle.gf_items.specs.Commands.{Command}
+use Rattle.gfan.specs.Printing.{IsPrintedSet}
+use Rattle.gfan.specs.ToolForms.{for_variables}
+
+-- The ring in a line, and the initial forms of the polynomials by the vector, in the order that was read.
+pub record IsFormsText (ring : List (List ℕ)) (ws : List Written) (vector : List ℤ) (text : List ℕ) : Type 0 where
+  pub forms : List Written
+  pub are_forms : AreInitialForms vector ws forms
+  pub is_text : IsPrintedSet ring forms text
+
+abbrev pub initial_forms_command : Command
+initial_forms_command = record {
+  Value = List (List ℕ) × (List Written × List ℤ);
+  items = ring_set_and_vector;
+  checks = λ v. for_variables (length v.0) v.1.1 ∷ [];
+  IsAnswer = λ v text. IsFormsText v.0 v.1.0 v.1.1 text;
+  IsWhole = λ v text. IsFormsText v.0 v.1.0 v.1.1 text;
+  IsCause = λ v r. r ≡ refusals.Memory;
+  IsBegun = λ v text r. ⊥;
+  IsWithin = λ v. Unit {0};
+}

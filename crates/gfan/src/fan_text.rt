@@ -1,0 +1,47 @@
+// The text of the fan of cones.
+ghost use Rattle.std.specs.Prelude.{◌≡◌, ◌≤◌, IfOk, IfErr};
+ghost use Rattle.gf_fan.specs.Pairs.{AreOfAmbient};
+ghost use Rattle.gf_fan.specs.Refusals.{IsFanRefusal};
+ghost use Rattle.gf_fanfile.specs.FanTexts.{IsFanText};
+ghost use Rattle.gfan.specs.FanTexts.{of_fan};
+
+use gf_fan::{Fan, FanError};
+use gf_fanfile::write;
+use gf_front::Refusal;
+use gf_rays::Rays;
+use std::alloc::Global;
+
+/// The text of the fan of all faces of these cones of vectors of `n` entries, as `write` of `gf_fanfile` has it. Cones are
+/// counted in 32 bits.
+///
+/// # Errors
+/// Those of `Fan::from_cones`.
+pub(crate) fn fan_text(alloc: Global, n: u32, cones: Vec<Rays>) -> Result<Vec<u8>, FanError>
+    requires ambient { n ≤ 16 }
+    requires cones { AreOfAmbient n cones.items }
+    ensures ok { IfOk result (λ text. IsFanText n cones.items text.items) }
+    ensures err { IfErr result (IsFanRefusal n cones.items) }
+{
+    if cones.len() > u32::MAX as usize {
+        return Err(FanError::Memory);
+    }
+    let fan = Fan::from_cones(alloc, n, cones)?;
+    let text = write(alloc, &fan)?;
+    Ok(text)
+}
+
+/// Why there is no fan, as a refusal of the run.
+pub(crate) fn of_fan(error: FanError) -> Refusal
+    ensures { result ≡ of_fan error }
+{
+    match error {
+        FanError::Cone(o) => Refusal::ConeOverflow {
+            row: o.row,
+            op: o.op,
+            left: o.left,
+            right: o.right,
+        },
+        FanError::NotAFan { first, second } => Refusal::NotAFan { first, second },
+        FanError::Memory => Refusal::Memory,
+    }
+}

@@ -1,0 +1,91 @@
+// What `_bases -g` writes for an input, basis by basis.
+ghost use Rattle.std.specs.Prelude.{◌≡◌, ◌≤◌, true, IfOk, IfErr, OnOk, MatchResult};
+ghost use Rattle.gf_poly.specs.Marking.{polys};
+ghost use Rattle.gf_reduced.specs.Markings.{IsMarkedGroebnerBasis};
+ghost use Rattle.gfan.specs.BasesWriting.{StartsAt};
+ghost use Rattle.gfan.specs.GivenBasis.{IsGivenRootRefusal};
+ghost use Rattle.gfan.specs.Performed.{IsPerformed, IsStopped};
+ghost use Rattle.gfan.specs.Refused.{IsOfSource};
+
+use crate::bases::{ListOptions, write_from};
+use crate::refused::{Refused, of_check};
+use gf_division::autoreduce;
+use gf_front::{Job, Refusal};
+use gf_items::{RingAndMarked, ring_and_marked};
+use gf_outside::Sink;
+use gf_poly::MarkedSet;
+use gf_reduced::{CheckError, require_basis};
+use gf_tree::to_root;
+use gf_waves::Gate;
+use std::alloc::Global;
+use std::thread::Threads;
+
+// The basis, by degree and then lex, of the ideal of a marked Gröbner basis: the set is checked, reduced, and taken up to the root.
+// Its members are counted in 32 bits.
+fn root_of(alloc: Global, marked: &MarkedSet, pairs: u64) -> Result<MarkedSet, Refusal>
+    ensures basis { IfOk result (λ _. IsMarkedGroebnerBasis marked.now.variables marked.now.items) }
+    ensures root { IfOk result (λ root. StartsAt marked.now.variables (polys marked.now.items) root) }
+    ensures err { IfErr result (IsGivenRootRefusal marked.now pairs) }
+{
+    if marked.items().len() > u32::MAX as usize {
+        return Err(Refusal::Memory);
+    }
+    let basis = match require_basis(alloc, marked, 0) {
+        Ok(basis) => basis,
+        Err(error) => return Err(of_check(error)),
+    };
+    let reduced = match autoreduce(alloc, &basis) {
+        Ok(reduced) => reduced,
+        Err(error) => return Err(of_check(CheckError::from(error))),
+    };
+    match to_root(alloc, reduced, pairs) {
+        Ok(root) => Ok(root),
+        Err(error) => Err(Refused::from(error).refusal),
+    }
+}
+
+/// Writes the ring of the source in a line, and then all marked reduced Gröbner bases of the ideal that its marked set generates, as
+/// `bases::perform` does for a set of generators. The marked set is a Gröbner basis for its marking; it needn't be reduced.
+///
+/// # Errors
+///
+/// - `Syntax`, `TooWide`, `UnknownName` and `TooManyVariables` exactly where the source isn't the text of a ring and of a set
+///   in it, at the first token after which no such text goes on; nothing is written then.
+/// - `ZeroPolynomial` where nothing remains of a polynomial of the set, with the index of the first one.
+/// - `Inconsistent` exactly where no positive weight gives the marking, with multipliers that show it.
+/// - `NotBasis` exactly where one does, and the S-polynomial of two members made monic has another normal form than zero: the first
+///   such pair, with that normal form.
+/// - `Overflow`, `ExponentOverflow`, `ConeOverflow` only at an operation of the checks, of reducing the set, or of the search or the
+///   certificates at a basis of the ideal, whose operands don't fit.
+/// - `WideVector`, `PairBudget`, `ListLimit` and `WriteFault` as `bases::perform` has them.
+pub(crate) fn perform<R: Threads + Sync, K: Sink, G: Gate>(
+    rt: &R,
+    alloc: Global,
+    source: &[u8],
+    options: ListOptions,
+    workers: u32,
+    output: &mut K,
+    gate: &G,
+) -> Result<(), Refused>
+    requires some { 1 ≤ workers }
+    requires most { workers ≤ 64 }
+    ensures done { OnOk result (IsPerformed (Job.Bases true options.limit options.pairs options.certified workers) source.now
+        (K.held output.old) (K.held output.new)) }
+    ensures stopped { IfErr result (λ e. IsStopped (Job.Bases true options.limit options.pairs options.certified workers) source.now
+        (K.held output.old) (K.held output.new) (K.faults output.old) (K.faults output.new) e.refusal) }
+    ensures told { IfErr result (IsOfSource source.now) }
+    ensures calm { MatchResult result (λ _. K.faults output.new ≡ K.faults output.old)
+        (λ e. (e.refusal ≡ Refusal.WriteFault → ⊥) → K.faults output.new ≡ K.faults output.old) }
+{
+    let RingAndMarked { ring, set } = ring_and_marked(alloc, source)?;
+    let root = match root_of(alloc, &set, options.pairs) {
+        Ok(root) => root,
+        Err(refusal) => {
+            return Err(Refused {
+                refusal,
+                ring: Some(ring),
+            });
+        }
+    };
+    write_from(rt, alloc, &ring, root, options, workers, output, gate)
+}

@@ -1,0 +1,35 @@
+// What the list of `_bases` and the weights of `_weightvector` have: laws, each the contract of a function that computes nothing.
+ghost use Rattle.gfan.specs.BasesList.{WeightsAreServed};
+ghost use Rattle.gfan.specs.OneList.{ListsAreOne, TextsAreOne};
+ghost use Rattle.gfan.specs.CertifiedBases.{CertificatesHold};
+ghost use Rattle.gfan.specs.GivingWeights.{WrittenWeightsGiveBases};
+
+/// A basis is in the list that `_bases` writes exactly where some positive weight gives it. For each positive weight for which monomials
+/// generate the initial ideal its reduced basis is there, once; and each positive weight lies in the closed cone of a basis that is
+/// there (Fukuda, Jensen, Thomas, *Computing Gröbner fans*, 2).
+pub fn weights_are_served()
+    ensures { WeightsAreServed }
+{}
+
+/// The ideal of a set has one list of all bases in the order of their paths, so that what `_bases` writes for a ring and a set is one text.
+pub fn lists_are_one()
+    ensures { ListsAreOne }
+{}
+
+/// Two runs of `_bases` that write the whole list for one source have written the same bytes, whatever their numbers of workers are.
+pub fn texts_are_one()
+    ensures { TextsAreOne }
+{}
+
+/// In a list that `_bases` writes with certificates, each basis is the reduced one for the positive weight that is printed behind it; and
+/// exactly the facets that a flip may cross stand there, each with a positive vector that is zero on the facet's normal and positive
+/// on all other normals (Fukuda, Jensen, Thomas, *Computing Gröbner fans*, 2 and 4).
+pub fn certificates_hold()
+    ensures { CertificatesHold }
+{}
+
+/// What `_weightvector` writes are the sets that it read with their weights, or the weights alone, and each weight gives its basis: it is
+/// positive, and the set, made monic and arranged, is the reduced Gröbner basis for it of the ideal that the set generates.
+pub fn written_weights_give_bases()
+    ensures { WrittenWeightsGiveBases }
+{}

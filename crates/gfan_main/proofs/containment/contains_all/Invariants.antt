@@ -1,8 +1,0 @@
-use Rattle.std.specs.Prelude.{take}
-use Rattle.gf_poly.specs.Marking.{polys}
-use Rattle.gfan_main.specs.Buchberger.{generators_of}
-use Rattle.gfan_main.specs.Containment.{AreMembers}
-use Rattle.gfan_main.proofs.containment.contains_all.Given as goal
-
-abbrev pub invariant-polynomials : goal.invariant-polynomials
-invariant-polynomials l = AreMembers l.basis.variables (polys l.basis.items) (generators_of (take l.i l.set))
