@@ -1,0 +1,19 @@
+//! Pure difference binomials, `x^u - x^v` and monomials: what steps of reduction and runs of Buchberger's algorithm make of
+//! them, and that no coefficient on the way is large.
+//!
+//! Start at `specs/Binomials.antt`; `specs/Laws.antt` has the theorems. The functions compute nothing: each one's contract is a
+//! theorem, so that the check proves it.
+#![tactic(auto)]
+
+ghost use Rattle.gf_binomials.specs.Laws.{BinomialsStayBinomials, OperationsOnBinomialsFit};
+
+/// Reductions, S-polynomials, monic forms, runs of Buchberger's algorithm and tails lead from pure difference binomials to such
+/// (Eisenbud, Sturmfels, *Binomial ideals*, 1.1).
+pub fn binomials_stay_binomials()
+    ensures { BinomialsStayBinomials }
+{}
+
+/// No operation on coefficients of a run on pure difference binomials leaves the range of 128 bits.
+pub fn operations_on_binomials_fit()
+    ensures { OperationsOnBinomialsFit }
+{}

@@ -1,0 +1,5 @@
+use Rattle.gf_saturation.proofs.TheoremsHold.{monomials_are_told}
+use Rattle.gf_saturation.proofs.monomials_are_told.Goals as goal
+
+pub returns : goal.returns
+returns c = monomials_are_told

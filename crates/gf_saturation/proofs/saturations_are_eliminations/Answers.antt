@@ -1,0 +1,5 @@
+use Rattle.gf_saturation.proofs.TheoremsHold.{saturations_are_eliminations}
+use Rattle.gf_saturation.proofs.saturations_are_eliminations.Goals as goal
+
+pub returns : goal.returns
+returns c = saturations_are_eliminations

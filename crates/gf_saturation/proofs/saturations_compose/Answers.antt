@@ -1,0 +1,5 @@
+use Rattle.gf_saturation.proofs.TheoremsHold.{saturations_compose}
+use Rattle.gf_saturation.proofs.saturations_compose.Goals as goal
+
+pub returns : goal.returns
+returns c = saturations_compose
