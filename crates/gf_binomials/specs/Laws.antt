@@ -1,5 +1,5 @@
 -- The theorems on differences of two monomials that functions of this crate name.
-use Rattle.std.specs.Prelude.{List, Contains}
+use Rattle.std.specs.Prelude.{ℕ, ◌+◌, ◌<◌, ◌≤◌, ◌^◌, List, [], ◌∷◌, length, Contains}
 use Rattle.gf_frac.specs.Fraction.{Fraction}
 use Rattle.gf_frac.specs.Fits.{Fits}
 use Rattle.gf_frac.specs.declared.refusal.Op.{Op}
@@ -9,7 +9,8 @@ use Rattle.gf_poly.specs.Polynomial.{Terms}
 use Rattle.gf_poly.specs.Marking.{MarkedPolynomial}
 use Rattle.gf_ideal.specs.Reduction.{Reached, IsSPolynomial, IsMonicForm}
 use Rattle.gf_ideal.specs.Operands.{IsReductionOperation, IsSPolynomialOperation, IsMonicOperation, IsStepOperation}
-use Rattle.gf_ideal.specs.WorkLists.{IsWorkList, IsTail, IsRunOperation}
+use Rattle.gf_ideal.specs.WorkLists.{IsWorkList, IsTail, IsRunOperation, IsRunExponents}
+use Rattle.gf_binomials.specs.Antichains.{IsAntichain, HasShortExponents}
 use Rattle.gf_binomials.specs.Binomials.{IsBinomial, AreBinomials, IsMarkedBinomial, AreMarkedBinomials}
 
 -- what reductions, S-polynomials and monic forms make of them are such differences; so are the members of each list that
@@ -34,3 +35,11 @@ pub record OperationsOnBinomialsFit : Type 0 where
       AreMarkedBinomials (Contains bs) → IsTail bs b → IsStepOperation (Contains bs) b.poly at op left right → Fits op left right
   pub run : (fs : List Terms) (order : MonomialOrder) (op : Op) (left right : Fraction) → AreBinomials fs →
       IsRunOperation fs (below_of order) op left right → Fits op left right
+
+-- a run, by any order, on one polynomial none of whose monomials divides another has one member at most, and adds only exponents
+-- of the polynomial to 0
+pub record PrincipalRunsAreShort : Type 0 where
+  pub exponents : (order : MonomialOrder) (f : Terms) (left right : ℕ) → IsAntichain f → HasShortExponents f →
+      IsRunExponents (f ∷ []) (below_of order) left right → left + right < 2 ^ 31
+  pub members : (order : MonomialOrder) (f : Terms) (bs : List MarkedPolynomial) → IsAntichain f →
+      IsWorkList (f ∷ []) (below_of order) bs → length bs ≤ 1

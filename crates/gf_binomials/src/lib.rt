@@ -5,7 +5,7 @@
 //! theorem, so that the check proves it.
 #![tactic(auto)]
 
-ghost use Rattle.gf_binomials.specs.Laws.{BinomialsStayBinomials, OperationsOnBinomialsFit};
+ghost use Rattle.gf_binomials.specs.Laws.{BinomialsStayBinomials, OperationsOnBinomialsFit, PrincipalRunsAreShort};
 
 /// Reductions, S-polynomials, monic forms, runs of Buchberger's algorithm and tails lead from pure difference binomials to such
 /// (Eisenbud, Sturmfels, *Binomial ideals*, 1.1).
@@ -16,4 +16,10 @@ pub fn binomials_stay_binomials()
 /// No operation on coefficients of a run on pure difference binomials leaves the range of 128 bits.
 pub fn operations_on_binomials_fit()
     ensures { OperationsOnBinomialsFit }
+{}
+
+/// A run on one polynomial none of whose monomials divides another has one member, and its sums of exponents are exponents of the
+/// polynomial.
+pub fn principal_runs_are_short()
+    ensures { PrincipalRunsAreShort }
 {}
