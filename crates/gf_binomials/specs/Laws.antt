@@ -7,6 +7,8 @@ use Rattle.gf_exponents.specs.Exponents.{Exponents}
 use Rattle.gf_exponents.specs.SixOrders.{MonomialOrder, below_of}
 use Rattle.gf_poly.specs.Polynomial.{Terms}
 use Rattle.gf_poly.specs.Marking.{MarkedPolynomial}
+use Rattle.gf_ideal.specs.Bases.{IsBasis, HasReducedTails, AreApart}
+use Rattle.gf_ideal.specs.Membership.{IsInVariables}
 use Rattle.gf_ideal.specs.Reduction.{Reached, IsSPolynomial, IsMonicForm}
 use Rattle.gf_ideal.specs.Operands.{IsReductionOperation, IsSPolynomialOperation, IsMonicOperation, IsStepOperation}
 use Rattle.gf_ideal.specs.WorkLists.{IsWorkList, IsTail, IsRunOperation, IsRunExponents}
@@ -43,3 +45,10 @@ pub record PrincipalRunsAreShort : Type 0 where
       IsRunExponents (f ∷ []) (below_of order) left right → left + right < 2 ^ 31
   pub members : (order : MonomialOrder) (f : Terms) (bs : List MarkedPolynomial) → IsAntichain f →
       IsWorkList (f ∷ []) (below_of order) bs → length bs ≤ 1
+
+-- a reduced basis of an ideal with one generator has one member at most, which is a monic form of the generator
+pub record PrincipalBasesAreForms : Type 0 where
+  pub forms : (n : ℕ) (f : Terms) (hs : List MarkedPolynomial) → IsInVariables n f → IsBasis n (f ∷ []) hs → HasReducedTails hs →
+      AreApart hs → (h : MarkedPolynomial) → Contains hs h → IsMonicForm f h
+  pub members : (n : ℕ) (f : Terms) (hs : List MarkedPolynomial) → IsInVariables n f → IsBasis n (f ∷ []) hs → HasReducedTails hs →
+      AreApart hs → length hs ≤ 1

@@ -5,7 +5,7 @@
 //! theorem, so that the check proves it.
 #![tactic(auto)]
 
-ghost use Rattle.gf_binomials.specs.Laws.{BinomialsStayBinomials, OperationsOnBinomialsFit, PrincipalRunsAreShort};
+ghost use Rattle.gf_binomials.specs.Laws.{BinomialsStayBinomials, OperationsOnBinomialsFit, PrincipalRunsAreShort, PrincipalBasesAreForms};
 
 /// Reductions, S-polynomials, monic forms, runs of Buchberger's algorithm and tails lead from pure difference binomials to such
 /// (Eisenbud, Sturmfels, *Binomial ideals*, 1.1).
@@ -22,4 +22,9 @@ pub fn operations_on_binomials_fit()
 /// polynomial.
 pub fn principal_runs_are_short()
     ensures { PrincipalRunsAreShort }
+{}
+
+/// A reduced Gröbner basis of an ideal with one generator is the generator, divided by one of its coefficients.
+pub fn principal_bases_are_forms()
+    ensures { PrincipalBasesAreForms }
 {}
