@@ -1,7 +1,7 @@
 -- The theorems on faces and fans that functions of this crate name.
 use Rattle.std.specs.Prelude.{◌≡◌, ◌↔◌, ℕ, suc, List, ◌++◌, ℤ, Contains}
 use Rattle.gf_duality.specs.Rays.{IsRays}
-use Rattle.gf_duality.specs.Faces.{Rows, SameCone}
+use Rattle.gf_duality.specs.Faces.{Rows, SameCone, IsFaceOf}
 use Rattle.gf_fans.specs.Dimension.{HasDimension}
 use Rattle.gf_fans.specs.FaceLists.{IsPartOn}
 use Rattle.gf_fans.specs.Fans.{MeetInFaces, MeetPairwise, FacesAreFan}
@@ -31,6 +31,11 @@ HasRays n c = (lin rays : List (List ℤ)) × IsRays n c.inequalities c.equation
 pub record FansAreTestedByPairs : Type 0 where
   pub fan : (n : ℕ) (cones : List Rows) → ((c : Rows) → Contains cones c → HasRays n c) → FacesAreFan n cones ↔ MeetPairwise n cones
   pub lineality : (n : ℕ) (c d : Rows) (lin rays lines others : List (List ℤ)) → IsRays n c.inequalities c.equations lin rays → IsRays n d.inequalities d.equations lines others → MeetInFaces n c d → lin ≡ lines
+
+-- what is a face of a cone, and which cones meet in a face of both, depends on the cones alone and not on the rows that they are given by
+pub record FacesAreOfCones : Type 0 where
+  pub face : (n : ℕ) (f c d : Rows) → HasRays n d → SameCone n c d → IsFaceOf n f c → IsFaceOf n f d
+  pub meet : (n : ℕ) (a b c d : Rows) → HasRays n c → HasRays n d → SameCone n a c → SameCone n b d → MeetInFaces n a b → MeetInFaces n c d
 
 -- the meet of two cones is a face of both where rows of theirs keep them apart but for the rays that they share
 abbrev pub SeparatedConesMeetInFaces : Type 0

@@ -4,7 +4,7 @@
 //! each one's contract is a theorem, so that the check proves it.
 #![tactic(auto)]
 
-ghost use Rattle.gf_fans.specs.Theorems.{FacesAreRayLists, FacetsHaveOneLess, FansAreTestedByPairs, SeparatedConesMeetInFaces};
+ghost use Rattle.gf_fans.specs.Theorems.{FacesAreRayLists, FacetsHaveOneLess, FansAreTestedByPairs, FacesAreOfCones, SeparatedConesMeetInFaces};
 
 /// A face of a cone is its list of rays (Ziegler, *Lectures on Polytopes*, 2).
 pub fn faces_are_ray_lists()
@@ -20,6 +20,11 @@ pub fn facets_have_one_less()
 /// lineality space of its own.
 pub fn fans_are_tested_by_pairs()
     ensures { FansAreTestedByPairs }
+{}
+
+/// A face of a cone is one whatever rows the cone is given by, and so it is with cones that meet in a face of both.
+pub fn faces_are_of_cones()
+    ensures { FacesAreOfCones }
 {}
 
 /// Rows of two cones that keep them apart, but for the rays that they share, show that they meet in a face of both.
