@@ -1,0 +1,1 @@
+pub mod Laws  -- the theorems that functions of this crate name
