@@ -12,7 +12,7 @@ use Rattle.gf_ideal.specs.Membership.{HasMonomial, IsInVariables, AreInVariables
 use Rattle.gf_ideal.specs.Reduction.{IsIrreducible}
 use Rattle.gf_ideal.specs.MonomialOrders.{IsOfGrade}
 use Rattle.gf_ideal.specs.Bases.{HasReducedTails, IsHeaviest}
-use Rattle.gf_ideal.specs.Theorems.{AreHomogeneous}
+use Rattle.gf_ideal.specs.LawsOfBases.{AreHomogeneous}
 use Rattle.gf_ideal.proofs.TermLaws.{nothing_there}
 use Rattle.gf_ideal.proofs.OrderWeights.{IsGrading, grading}
 use Rattle.gf_ideal.proofs.SpanLaws.{Spans-zero, Spans-++, Spans-times, Spans-generator}

@@ -15,7 +15,7 @@ use Rattle.gf_poly.proofs.PolynomialLaws.{coefficient-++, coefficient-same}
 use Rattle.gf_ideal.specs.Membership.{HasMonomial, IsInVariables, AreInVariables, IsMember, Spans}
 use Rattle.gf_ideal.specs.Marks.{Piece, value, IsMarked, AreMarked}
 use Rattle.gf_ideal.specs.Reduction.{IsDivisible}
-use Rattle.gf_ideal.specs.Bases.{AreMembers, IsBasis, IsTwin, IsCanonical, AreApart, AreAscending}
+use Rattle.gf_ideal.specs.Bases.{AreMembers, IsBasis, IsTwin, IsCanonical, AreApart, HaveAscendingMarks}
 use Rattle.gf_ideal.proofs.ListLaws.{Each-weaker, each_contained, contained_each, Contains-here, Contains-there, Contains-cases}
 use Rattle.gf_ideal.proofs.ListedTerms.{by_terms}
 use Rattle.gf_ideal.proofs.SpanLaws.{Spans-equal, Spans-difference}
@@ -262,12 +262,12 @@ form_of n fs ks below w k v o inside m mw h = at (divided ks w B f mw closed wit
 -- a form more in an ascending list, unless its mark is there
 record Placed (c : MarkedPolynomial) (cs : List MarkedPolynomial) : Type 0 where
   items : List MarkedPolynomial
-  ascending : AreAscending items
+  ascending : HaveAscendingMarks items
   some : (d : MarkedPolynomial) × Contains items d × (same c.head d.head ≡ true)
   keeps : (d : MarkedPolynomial) → Contains cs d → Contains items d
   only : (d : MarkedPolynomial) → Contains items d → (c ≡ d) ⊎ Contains cs d
 
-placed : (c : MarkedPolynomial) (cs : List MarkedPolynomial) → AreAscending cs → Placed c cs
+placed : (c : MarkedPolynomial) (cs : List MarkedPolynomial) → HaveAscendingMarks cs → Placed c cs
 placed c [] a = record { items = c ∷ []; ascending = (tt, tt); some = (c, Contains-here c [], same-refl c.head); keeps = λ d h. Contains-there c d [] h; only = λ d h. Contains-cases c d [] h }
 placed c (b ∷ cs) a = at (lex-total c.head b.head) (placed c cs a.1)
   where
@@ -310,7 +310,7 @@ placed c (b ∷ cs) a = at (lex-total c.head b.head) (placed c cs a.1)
 -- the forms of the members js of ks, ascending
 record Forms (n : ℕ) (fs : List Terms) (ks : List MarkedPolynomial) (below : Exponents → Exponents → Type 0) (w : List ℕ) (js : List MarkedPolynomial) : Type 0 where
   items : List MarkedPolynomial
-  ascending : AreAscending items
+  ascending : HaveAscendingMarks items
   each : (c : MarkedPolynomial) → Contains items c → IsForm n fs ks below w c
   there : (j : MarkedPolynomial) → Contains js j → (c : MarkedPolynomial) × Contains items c × (same j.head c.head ≡ true)
   back : (c : MarkedPolynomial) → Contains items c → (j : MarkedPolynomial) × Contains js j × (same j.head c.head ≡ true)
@@ -349,7 +349,7 @@ forms_of n fs ks below w form (j ∷ js) inside = at (form j (inside j (Contains
             back d (inr h) = let i = r.back d h in (i.0, Contains-there j i.0 js i.1, i.2)
 
 -- marks that ascend, and of which none divides another, are apart
-apart_of : (cs : List MarkedPolynomial) → AreAscending cs →
+apart_of : (cs : List MarkedPolynomial) → HaveAscendingMarks cs →
     ((c d : MarkedPolynomial) → Contains cs c → Contains cs d → (y : Exponents) → same d.head (plus y c.head) ≡ true → same c.head d.head ≡ true) →
     AreApart cs
 apart_of [] a h = tt

@@ -14,7 +14,7 @@ use Rattle.gf_poly.specs.Polynomial.{Terms}
 use Rattle.gf_poly.specs.Marking.{MarkedPolynomial}
 use Rattle.gf_ideal.specs.Membership.{HasMonomial, AreInVariables}
 use Rattle.gf_ideal.specs.Marks.{AreMarked, IsPositive}
-use Rattle.gf_ideal.specs.Theorems.{AreHomogeneous}
+use Rattle.gf_ideal.specs.LawsOfBases.{AreHomogeneous}
 use Rattle.gf_ideal.proofs.MembershipLaws.{variables_of_member}
 use Rattle.gf_ideal.proofs.PieceLaws.{Contains-polys}
 use Rattle.gf_ideal.proofs.MarkWeights.{mark-there}

@@ -10,7 +10,7 @@ use Rattle.gf_ideal.specs.Marks.{AreMarked, IsPositive}
 use Rattle.gf_ideal.specs.Reduction.{IsDivisible}
 use Rattle.gf_ideal.specs.MonomialOrders.{MonomialOrder, below_of, IsAdmissible}
 use Rattle.gf_ideal.specs.Bases.{IsReducedBasis, IsReducedBasisFor, AreArranged}
-use Rattle.gf_ideal.specs.Theorems.{AreHomogeneous}
+use Rattle.gf_ideal.specs.LawsOfBases.{AreHomogeneous}
 use Rattle.gf_facets.specs.Regions.{Region, IsInRegion, all_positive}
 use Rattle.gf_facets.specs.Facets.{IsInClosedCone}
 use Rattle.gf_facets.specs.MarkedBases.{IsMarkedReducedBasis, IsBasisInRegion}

@@ -26,7 +26,7 @@ use Rattle.gf_ideal.proofs.BasisLaws.{basis_along}
 use Rattle.gf_ideal.proofs.InterreductionLaws.{reduced_by_order}
 use Rattle.gf_ideal.proofs.StepLaws.{IsWithin}
 use Rattle.gf_ideal.proofs.LawsHold.{marks_have_weights}
-use Rattle.gf_ideal.proofs.TheoremsHold.{bases_go_by_their_marks, reduced_bases_are_unique}
+use Rattle.gf_ideal.proofs.LawsOfBasesHold.{bases_go_by_their_marks, reduced_bases_are_unique}
 use Rattle.gf_ideal.proofs.SmallBases.{principal_ideal}
 use Rattle.gf_binomials.specs.Antichains.{IsAntichain, HasShortExponents}
 use Rattle.gf_binomials.proofs.PrincipalRuns.{there_along, form_from}

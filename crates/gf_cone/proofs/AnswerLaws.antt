@@ -29,7 +29,7 @@ use Rattle.gf_cone.specs.Keeping.{AreVectorsKept}
 use Rattle.gf_cone.proofs.SmallLaws.{units_small}
 use Rattle.gf_cone.specs.Cones.{ConeRows, all_rows, normal_at, other_rows, IsConeOf, HasInterior}
 use Rattle.gf_cone.specs.Crossing.{IsCrossable}
-use Rattle.gf_cone.specs.Answers.{AnswersSystem, AnswersFlip, AnswersFacet, TellsFlip, TellsFacet, IsFlipTold, IsFacetTold}
+use Rattle.gf_cone.specs.Answers.{AnswersSystem, AnswersFlip, AnswersFacet, TellsFlip, TellsFacet, IsFlipTold, IsFacetAnswered}
 use Rattle.gf_cone.specs.declared.answer.FacetAnswer.{FacetAnswer}
 use Rattle.gf_cone.specs.declared.answer.FacetAnswer.TheVariants.{Facet, Redundant}
 use Rattle.gf_cone.specs.declared.answer.FlipAnswer.{FlipAnswer}
@@ -141,7 +141,7 @@ module _ (n : ℕ) (k : Region) (bs : List MarkedPolynomial) (c : ConeRows) (i :
 pub flip_told : (c : ConeRows) (i : ℕ) → i < length c.normals → AreRows c.variables (all_rows c) → HasInterior c → (answer : FlipAnswer) → AnswersFlip c i answer → IsFlipTold c i answer
 flip_told c i l wide h answer s n k bs is = flip_tells n k bs c i l is wide h answer s
 
-pub facet_told : (c : ConeRows) (i : ℕ) → i < length c.normals → AreRows c.variables (all_rows c) → HasInterior c → (answer : FacetAnswer) → AnswersFacet c i answer → IsFacetTold c i answer
+pub facet_told : (c : ConeRows) (i : ℕ) → i < length c.normals → AreRows c.variables (all_rows c) → HasInterior c → (answer : FacetAnswer) → AnswersFacet c i answer → IsFacetAnswered c i answer
 facet_told c i l wide h answer s n k bs is = facet_tells n k bs c i l is wide h answer s
 
 -- ---- as a program asks

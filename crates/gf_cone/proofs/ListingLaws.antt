@@ -14,7 +14,7 @@ use Rattle.gf_vec.specs.Primitive.{IsPrimitivePart}
 use Rattle.gf_poly.specs.Marking.{MarkedPolynomial}
 use Rattle.gf_ideal.proofs.ListLaws.{Contains-here, Contains-there, Contains-cases}
 use Rattle.gf_walk.specs.Path.{Precedes}
-use Rattle.gf_facets.specs.Rows.{rows_of}
+use Rattle.gf_facets.specs.Rows.{rows_of_polynomials}
 use Rattle.gf_facets.proofs.PrimitiveLaws.{primitive_unique}
 use Rattle.gf_facets.proofs.VectorOrder.{vectors_compare, before_strict}
 use Rattle.gf_facets.specs.Normals.{Ascends, AreNormals}
@@ -178,7 +178,7 @@ pub has_small : (xs more : List (List ℤ)) (v : List ℤ) → IsSmall v → All
 has_small xs more v s k m = contained_all IsSmall more (λ a c. elim ((m.has a).0 c) [ inl e ↦ subst IsSmall (sym e) s | inr n ↦ All-contains IsSmall xs a k n ])
 
 -- the primitive parts of all rows
-pub gathered : (bs : List MarkedPolynomial) (all : List (List ℤ)) → Gathers [] (rows_of bs) all → AreNormals bs all
+pub gathered : (bs : List MarkedPolynomial) (all : List (List ℤ)) → Gathers [] (rows_of_polynomials bs) all → AreNormals bs all
 gathered bs all g = record {
   rises = g.rises;
   only = λ a c. elim ((g.has a).0 c) [ inl n ↦ absurd (omega (arith, n.1)) | inr t ↦ t ];

@@ -21,7 +21,7 @@ use Rattle.gf_poly.specs.Marking.{MarkedPolynomial, Each, HaveVariables, HasMark
 use Rattle.gf_poly.proofs.CoefficientLaws.{apart}
 use Rattle.gf_ideal.proofs.ListLaws.{each_contained, contained_each}
 use Rattle.gf_poly.proofs.CoefficientLaws.{term_length}
-use Rattle.gf_facets.specs.Rows.{differences, row_between, rows_of_terms, rows_of}
+use Rattle.gf_facets.specs.Rows.{differences, row_between, rows_of_terms, rows_of_polynomials}
 use Rattle.gf_facets.specs.Systems.{unit}
 use Rattle.gf_cone.specs.Small.{IsSmall}
 
@@ -101,20 +101,20 @@ rows_more x f i t start now new l e n h =
     ∙ ap (λ w. start ++ w) (sym (rows-append x (take i f) (t ∷ [])))
     ∙ ap (λ w. start ++ rows_of_terms x w) (ap (λ (s : Term). take i f ++ s ∷ []) e ∙ sym (take_more f i t l))
 
-members-append : (bs cs : List MarkedPolynomial) → rows_of (bs ++ cs) ≡ rows_of bs ++ rows_of cs
+members-append : (bs cs : List MarkedPolynomial) → rows_of_polynomials (bs ++ cs) ≡ rows_of_polynomials bs ++ rows_of_polynomials cs
 members-append [] cs = refl
-members-append (b ∷ bs) cs = ap (λ w. rows_of_terms b.head b.poly ++ w) (members-append bs cs) ∙ sym (append_assoc (rows_of_terms b.head b.poly) (rows_of bs) (rows_of cs))
+members-append (b ∷ bs) cs = ap (λ w. rows_of_terms b.head b.poly ++ w) (members-append bs cs) ∙ sym (append_assoc (rows_of_terms b.head b.poly) (rows_of_polynomials bs) (rows_of_polynomials cs))
 
 -- the rows of the first i members, which are marked
 pub record Collecting (bs : List MarkedPolynomial) (rows : List (List ℤ)) (i : ℕ) : Type 0 where
-  pub items : rows ≡ rows_of (take i bs)
+  pub items : rows ≡ rows_of_polynomials (take i bs)
   pub marked : (k : ℕ) (b : MarkedPolynomial) → k < i → get_or bs k b ≡ b → HasMarkedTerm b
 
 pub Collecting-more : (bs : List MarkedPolynomial) (i : ℕ) (b : MarkedPolynomial) (rows new : List (List ℤ)) → i < length bs → b ≡ get_or bs i b → HasMarkedTerm b → new ≡ rows ++ rows_of_terms b.head b.poly → Collecting bs rows i → Collecting bs new (i + 1)
 Collecting-more bs i b rows new l e m n h = record {
   items =
-      n ∙ ap (λ w. w ++ rows_of_terms b.head b.poly) h.items ∙ ap (λ w. rows_of (take i bs) ++ w) (sym (append-nil (rows_of_terms b.head b.poly)))
-      ∙ sym (members-append (take i bs) (b ∷ [])) ∙ ap rows_of (ap (λ (c : MarkedPolynomial). take i bs ++ c ∷ []) e ∙ sym (take_more bs i b l));
+      n ∙ ap (λ w. w ++ rows_of_terms b.head b.poly) h.items ∙ ap (λ w. rows_of_polynomials (take i bs) ++ w) (sym (append-nil (rows_of_terms b.head b.poly)))
+      ∙ sym (members-append (take i bs) (b ∷ [])) ∙ ap rows_of_polynomials (ap (λ (c : MarkedPolynomial). take i bs ++ c ∷ []) e ∙ sym (take_more bs i b l));
   marked = λ k c s q. at k c (cases_lt k i) s q;
 }
   where
@@ -124,8 +124,8 @@ Collecting-more bs i b rows new l e m n h = record {
         let j : k ≡ i = omega arith in
         subst HasMarkedTerm (e ∙ get_or_default bs i b c l ∙ subst (λ (z : ℕ). get_or bs z c ≡ c) j q) m
 
-pub Collecting-end : (bs : List MarkedPolynomial) (rows : List (List ℤ)) (i : ℕ) → length bs ≤ i → Collecting bs rows i → (rows ≡ rows_of bs) × Each HasMarkedTerm bs
-Collecting-end bs rows i l h = (h.items ∙ ap rows_of (take_all i bs l), each_contained HasMarkedTerm bs (λ b c. h.marked c.0 b (omega (arith, c.1)) c.2))
+pub Collecting-end : (bs : List MarkedPolynomial) (rows : List (List ℤ)) (i : ℕ) → length bs ≤ i → Collecting bs rows i → (rows ≡ rows_of_polynomials bs) × Each HasMarkedTerm bs
+Collecting-end bs rows i l h = (h.items ∙ ap rows_of_polynomials (take_all i bs l), each_contained HasMarkedTerm bs (λ b c. h.marked c.0 b (omega (arith, c.1)) c.2))
 
 pub collected_marked : (bs items : List MarkedPolynomial) (rows : List (List ℤ)) (i : ℕ) → items ≡ bs → length items ≤ i → Collecting items rows i → Each HasMarkedTerm bs
 collected_marked bs items rows i e l h = subst (Each HasMarkedTerm) e (Collecting-end items rows i l h).1
@@ -138,8 +138,8 @@ unit_set (suc n) zero l = refl
 unit_set (suc n) (suc i) l = ap (λ w. pos 0 ∷ w) (unit_set n i (omega arith))
 
 -- all rows
-pub all_collected : (bs items : List MarkedPolynomial) (rows : List (List ℤ)) (i : ℕ) → items ≡ bs → length items ≤ i → Collecting items rows i → rows ≡ rows_of bs
-all_collected bs items rows i e l h = (Collecting-end items rows i l h).0 ∙ ap rows_of e
+pub all_collected : (bs items : List MarkedPolynomial) (rows : List (List ℤ)) (i : ℕ) → items ≡ bs → length items ≤ i → Collecting items rows i → rows ≡ rows_of_polynomials bs
+all_collected bs items rows i e l h = (Collecting-end items rows i l h).0 ∙ ap rows_of_polynomials e
 
 pub some_variables : (n : ℕ) (bs items : List MarkedPolynomial) (i : ℕ) (b : MarkedPolynomial) → items ≡ bs → HaveVariables n bs → i < length items → b ≡ get_or items i b → (m : ℕ) × HasVariables m b.poly
 some_variables n bs items i b e v l q = (n, contained_each (λ (c : MarkedPolynomial). HasVariables n c.poly) items (subst (HaveVariables n) (sym e) v) b (i, l, sym q))

@@ -9,7 +9,7 @@ use Rattle.gf_vec.specs.Vector.{zeros}
 use Rattle.gf_vec.specs.Primitive.{IsPrimitivePart}
 use Rattle.gf_vec.proofs.VectorLaws.{length-times}
 use Rattle.gf_poly.specs.Marking.{MarkedPolynomial}
-use Rattle.gf_facets.specs.Rows.{rows_of, IsNormal}
+use Rattle.gf_facets.specs.Rows.{rows_of_polynomials, IsNormal}
 use Rattle.gf_facets.specs.Systems.{unit, units}
 use Rattle.gf_facets.specs.Normals.{AreNormals}
 use Rattle.gf_facets.proofs.PrimitiveLaws.{divided-entry}
@@ -39,10 +39,10 @@ primitive_small t a p s = record { entries = entries }
         subst (λ (x : ℤ). unsigned_abs x < 2 ^ 31) (sym same) (omega (arith, small, grown, ap unsigned_abs here))
 
 -- so is each normal of a marked list with small rows
-pub normal_small : (bs : List MarkedPolynomial) (a : List ℤ) → All IsSmall (rows_of bs) → IsNormal bs a → IsSmall a
-normal_small bs a s p = primitive_small p.0 a p.2 (All-contains IsSmall (rows_of bs) p.0 s p.1)
+pub normal_small : (bs : List MarkedPolynomial) (a : List ℤ) → All IsSmall (rows_of_polynomials bs) → IsNormal bs a → IsSmall a
+normal_small bs a s p = primitive_small p.0 a p.2 (All-contains IsSmall (rows_of_polynomials bs) p.0 s p.1)
 
-pub normals_small : (bs : List MarkedPolynomial) (ns : List (List ℤ)) → All IsSmall (rows_of bs) → AreNormals bs ns → All IsSmall ns
+pub normals_small : (bs : List MarkedPolynomial) (ns : List (List ℤ)) → All IsSmall (rows_of_polynomials bs) → AreNormals bs ns → All IsSmall ns
 normals_small bs ns s m = contained_all IsSmall ns (λ a c. normal_small bs a s (m.only a c))
 
 -- so are the unit vectors

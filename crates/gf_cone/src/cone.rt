@@ -10,7 +10,7 @@ ghost use Rattle.gf_facets.specs.Regions.{all_positive};
 ghost use Rattle.gf_facets.specs.Normals.{others_of};
 ghost use Rattle.gf_cone.specs.Small.{IsSmall};
 ghost use Rattle.gf_cone.specs.Cones.{all_rows, normal_at, other_rows, IsConeOf, HasInterior, HasUnits};
-ghost use Rattle.gf_cone.specs.Answers.{AnswersFacet, AnswersFlip, IsFacetTold, IsFlipTold, IsNormalStep};
+ghost use Rattle.gf_cone.specs.Answers.{AnswersFacet, AnswersFlip, IsFacetAnswered, IsFlipTold, IsNormalStep};
 
 use crate::answer::{FacetAnswer, FlipAnswer};
 use crate::listing::normals;
@@ -100,7 +100,7 @@ impl Cone {
         requires place { place < length self.now.normals }
         requires interior { HasInterior self.now }
         ensures ok { IfOk result (AnswersFacet self.now place) }
-        ensures told { IfOk result (IsFacetTold self.now place) }
+        ensures told { IfOk result (IsFacetAnswered self.now place) }
         ensures err { IfErr result (Failed (IsNormalStep self.now.variables (others_of place self.now.normals) (normal_at self.now place))) }
         // no step leaves the range with three variables and entries up to 500
         ensures three_columns { self.now.variables ≤ 3 → HaveEntriesUpTo 500 self.now.normals → IfErr result (λ e. e ≡ Memory) }

@@ -4,7 +4,7 @@ ghost use Rattle.gf_int.specs.Range.{InRange};
 ghost use Rattle.gf_vec.specs.Vector.{zeros};
 ghost use Rattle.gf_poly.specs.Marking.{Each, HaveVariables, HasMarkedTerm};
 ghost use Rattle.gf_poly.specs.Polynomial.{HasVariables};
-ghost use Rattle.gf_facets.specs.Rows.{differences, row_between, rows_of_terms, rows_of};
+ghost use Rattle.gf_facets.specs.Rows.{differences, row_between, rows_of_terms, rows_of_polynomials};
 ghost use Rattle.gf_facets.specs.Systems.{unit, units};
 ghost use Rattle.gf_cone.specs.Small.{IsSmall};
 
@@ -132,7 +132,7 @@ pub fn with_units(alloc: Global, rows: Vec<IntVec>, n: usize) -> Result<Vec<IntV
 /// # Errors
 /// Want of memory.
 pub fn rows(alloc: Global, set: &MarkedSet) -> Result<Vec<IntVec>, AllocError>
-    ensures rows { IfOk result (λ rows. rows.items ≡ rows_of set.now.items) }
+    ensures rows { IfOk result (λ rows. rows.items ≡ rows_of_polynomials set.now.items) }
     ensures small { IfOk result (λ rows. All IsSmall rows.items) }
     ensures marked { IfOk result (λ _. Each HasMarkedTerm set.now.items) }
     ensures variables { IfOk result (λ _. HaveVariables set.now.variables set.now.items) }

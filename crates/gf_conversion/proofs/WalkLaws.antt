@@ -19,9 +19,9 @@ use Rattle.gf_flip.specs.Crossings.{IsCrossing}
 use Rattle.gf_flip.specs.Reached.{IsReachedByFlips}
 use Rattle.gf_flip.proofs.ReachedLaws.{reached_first, reached_crossing, reached_next}
 use Rattle.gf_reverse.specs.Upward.{LeadsTowards}
-use Rattle.gf_reverse.proofs.TheoremsHold.{root_has_no_way_up}
+use Rattle.gf_reverse.proofs.LawsHold.{root_has_no_way_up}
 use Rattle.gf_conversion.specs.Weights.{IsWeightBeforeLex}
-use Rattle.gf_conversion.specs.Steps.{IsSomeBasis, IsAcrossTowards, IsStep, IsWalkedFrom, IsWalkEnd}
+use Rattle.gf_conversion.specs.Steps.{IsSomeBasis, IsAcrossTowards, IsConversionStep, IsWalkedFrom, IsWalkEnd}
 use Rattle.gf_conversion.specs.declared.steps.Step.{Step}
 use Rattle.gf_conversion.specs.declared.steps.Step.TheVariants.{Arrived, Across}
 
@@ -33,14 +33,14 @@ crossing_towards s r a b u = reached_crossing b.0 s a b.1 u.flippable
 pub walked_none : (s : MarkedPolynomials) → IsWalkedFrom s s
 walked_none s = record { variables = refl; bases = λ fs b. b }
 
-pub walked_more : (r : List ℤ) (s t u : MarkedPolynomials) (x : Step) → IsWalkedFrom s t → IsStep r t x → x ≡ Across u → IsWalkedFrom s u
-walked_more r s t u x w told e = (let h : IsAcrossTowards r t u = subst (IsStep r t) e told in record {
+pub walked_more : (r : List ℤ) (s t u : MarkedPolynomials) (x : Step) → IsWalkedFrom s t → IsConversionStep r t x → x ≡ Across u → IsWalkedFrom s u
+walked_more r s t u x w told e = (let h : IsAcrossTowards r t u = subst (IsConversionStep r t) e told in record {
   variables = h.variables ∙ w.variables;
   bases = λ fs b. reached_next fs t u h.normal (w.bases fs b) h.leads.flippable h.neighbour h.variables;
 })
 
-pub walk_ends : (r : List ℤ) (s t : MarkedPolynomials) (x : Step) → IsWalkedFrom s t → IsStep r t x → x ≡ Arrived → IsWalkEnd r s t
-walk_ends r s t x w told e = record { walked = w; arrived = subst (IsStep r t) e told }
+pub walk_ends : (r : List ℤ) (s t : MarkedPolynomials) (x : Step) → IsWalkedFrom s t → IsConversionStep r t x → x ≡ Arrived → IsWalkEnd r s t
+walk_ends r s t x w told e = record { walked = w; arrived = subst (IsConversionStep r t) e told }
 
 pub some_walked : (s t : MarkedPolynomials) → IsSomeBasis s → IsWalkedFrom s t → IsSomeBasis t
 some_walked s t b w = (b.0, w.bases b.0 b.1)

@@ -41,9 +41,9 @@ pub record IsAcrossTowards (r : List ℤ) (s t : MarkedPolynomials) : Type 0 whe
   pub neighbour : IsNeighbour s.variables s.items normal t.items
   pub variables : t.variables ≡ s.variables
 
-abbrev pub IsStep : List ℤ → MarkedPolynomials → Step → Type 0
-IsStep r s Arrived = HasArrived r s
-IsStep r s (Across t) = IsAcrossTowards r s t
+abbrev pub IsConversionStep : List ℤ → MarkedPolynomials → Step → Type 0
+IsConversionStep r s Arrived = HasArrived r s
+IsConversionStep r s (Across t) = IsAcrossTowards r s t
 
 -- ---- the walk
 

@@ -3,7 +3,7 @@
 ghost use Rattle.std.specs.Prelude.{◌≡◌, ◌<◌, length, IfSome};
 ghost use Rattle.gf_facets.specs.Regions.{all_positive};
 ghost use Rattle.gf_cone.specs.Cones.{IsConeOf};
-ghost use Rattle.gf_conversion.specs.Steps.{IsSomeBasis, IsLeadTold, IsFacetTold, IsStep};
+ghost use Rattle.gf_conversion.specs.Steps.{IsSomeBasis, IsLeadTold, IsFacetTold, IsConversionStep};
 
 use crate::signs::is_negative;
 use gf_cone::{Cone, KnownCone};
@@ -80,7 +80,7 @@ pub(crate) fn next_step(
 ) -> Option<Step>
     requires basis { IsSomeBasis here.now }
     requires width { length weight.now ≡ here.now.variables }
-    ensures { IfSome result (IsStep weight.now here.now) }
+    ensures { IfSome result (IsConversionStep weight.now here.now) }
 {
     let cone = cone_of(alloc, here)?;
     let told = facet_towards(&cone, weight)?;

@@ -17,7 +17,7 @@ use Rattle.gf_gordan.specs.Alternative.{AreRows}
 use Rattle.gf_duality.specs.Generators.{Made, nothing, ray, IsDescribed}
 use Rattle.gf_duality.specs.Rays.{Satisfies, IsLineal, Generated, IsRays}
 use Rattle.gf_duality.specs.Faces.{Rows, IsInCone, SameCone}
-use Rattle.gf_duality.specs.Stages.{opposite}
+use Rattle.gf_vec.specs.Vector.{opposite}
 use Rattle.gf_duality.proofs.ListLaws.{none_in, in_head, in_tail, in_cons, all_by, of_rest}
 use Rattle.gf_vec.proofs.DotLaws.{own_zero, dot-times_right}
 use Rattle.gf_vec.proofs.VectorIdentities.{vv, ◌⊡◌, by, vsame}

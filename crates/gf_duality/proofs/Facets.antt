@@ -9,7 +9,7 @@ use Rattle.gf_vec.specs.Vector.{dot, vector_sum, zeros}
 use Rattle.gf_duality.specs.Generators.{Made, AreValid, IsDescribed}
 use Rattle.gf_duality.specs.Rays.{Satisfies}
 use Rattle.gf_duality.specs.Faces.{Rows, IsInCone, IsFacetRow, sum_of, IsWitness, IsOfFullDimension, cone_of}
-use Rattle.gf_duality.specs.Stages.{opposite}
+use Rattle.gf_vec.specs.Vector.{opposite}
 use Rattle.gf_duality.proofs.ListLaws.{none_in, in_head, in_cons, all_by}
 use Rattle.gf_vec.proofs.DotLaws.{own_zero, own_not_negative}
 use Rattle.gf_vec.proofs.VectorIdentities.{vv, vz, ◌⊞◌, ◌⊡◌, by, vsame}

@@ -23,4 +23,4 @@ pub mod Facets  -- each facet row has a witness
 pub mod StageLaws  -- what is made is in the next stage
 pub mod Implied  -- rows that are zero on the whole cone
 pub mod Sums  -- sums of rays as weights and witnesses
-mod TheoremsHold  -- what functions of this crate name
+mod LawsHold  -- what functions of this crate name

@@ -14,7 +14,7 @@ use Rattle.gf_gordan.specs.Elimination.{row_at, size_at, signed_at}
 use Rattle.gf_duality.specs.Combining.{pair}
 use Rattle.gf_duality.specs.Generators.{Made, ray, IsDescribed, unit_vectors}
 use Rattle.gf_duality.specs.Elimination.{IsTurned, IsFirstAt, IsEliminated, begun, skipped, turned, IsNullSpace, columns, with_values}
-use Rattle.gf_duality.specs.Stages.{opposite}
+use Rattle.gf_vec.specs.Vector.{opposite}
 use Rattle.gf_duality.proofs.ListLaws.{none_in, in_cons, in_head, in_tail, zip_from, zip_to, of_rest, rest_cover, all_by}
 use Rattle.gf_vec.proofs.DotLaws.{dot-times_right, dot-plus_right}
 use Rattle.gf_vec.proofs.EntryLaws.{same_by, signum_up, entry_times, entry_plus, drop_times, drop_plus}

@@ -10,7 +10,7 @@ use Rattle.gf_vec.proofs.PrimitiveLaws.{primitive_of, primitive_opposite}
 use Rattle.gf_vec.proofs.VectorIdentities.{vv, ◌⊡◌, vsame}
 use Rattle.gf_gordan.specs.Elimination.{IsPivot}
 use Rattle.gf_duality.specs.Elimination.{IsNormalised}
-use Rattle.gf_duality.specs.Stages.{opposite}
+use Rattle.gf_vec.specs.Vector.{opposite}
 use Rattle.gf_duality.proofs.ListLaws.{place, less, at, more}
 
 -- a vector has one pivot at most

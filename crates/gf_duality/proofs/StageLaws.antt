@@ -7,7 +7,8 @@ use Rattle.gf_int.proofs.SignLaws.{sign_of, negative, none, positive, zero-cance
 use Rattle.gf_vec.specs.Vector.{dot, vector_sum}
 use Rattle.gf_vec.specs.Primitive.{IsPrimitivePart}
 use Rattle.gf_duality.specs.Combining.{pair}
-use Rattle.gf_duality.specs.Stages.{InStage, kept, turned, combined, IsLeveled, size, opposite}
+use Rattle.gf_duality.specs.Stages.{InStage, kept, turned, combined, IsLeveled, size}
+use Rattle.gf_vec.specs.Vector.{opposite}
 use Rattle.gf_vec.proofs.VectorIdentities.{vv, ◌⊡◌, by, vsame}
 use Rattle.gf_duality.proofs.Described.{Along, along, multiple_of, pair_zero, divided_dot}
 

@@ -4,4 +4,4 @@ pub mod Combining  -- sums and differences of multiples of two vectors, and thei
 pub mod Elimination  -- elimination, echelon bases, null spaces, and their operations
 pub mod Stages  -- one inequality after another, and the end; all operations
 pub mod Faces  -- faces, interior points, facets
-pub mod Theorems  -- what functions of this crate name
+pub mod Laws  -- what functions of this crate name

@@ -7,15 +7,12 @@ use Rattle.gf_vec.specs.Primitive.{IsPrimitivePart}
 use Rattle.gf_gordan.specs.declared.error.ConeOverflow.{ConeOverflow}
 use Rattle.gf_gordan.specs.Steps.{IsDotStep}
 use Rattle.gf_duality.specs.Combining.{IsCombining, pair}
+use Rattle.gf_vec.specs.Vector.{opposite}
 use Rattle.gf_duality.specs.Elimination.{IsNullSpace, IsNullStep, IsEliminationStep}
 
 -- the absolute value
 abbrev pub size : ℤ → ℤ
 size z = pos (unsigned_abs z)
-
--- the opposite vector
-abbrev pub opposite : List ℤ → List ℤ
-opposite xs = scaled (negsuc 0) xs
 
 -- the vectors of the stage after these inequalities: from a basis, each combination that is zero at the next inequality, and opposites
 pub data InStage : List (List ℤ) → List (List ℤ) → List ℤ → Type 0 where

@@ -1,10 +1,10 @@
 //! Cones by rows and by what generates them: lineality spaces, rays, echelon bases, faces. Definitions and laws.
 //!
-//! Start at `specs/Rays.antt` and read on as `specs/Lib.antt` lists the files; `specs/Theorems.antt` has the theorems. The
+//! Start at `specs/Rays.antt` and read on as `specs/Lib.antt` lists the files; `specs/Laws.antt` has the theorems. The
 //! functions compute nothing: each one's contract is a theorem, so that the check proves it.
 #![tactic(auto)]
 
-ghost use Rattle.gf_duality.specs.Theorems.{RaysAreUnique, SumsOfRaysAreInside, FacetsHaveWitnesses};
+ghost use Rattle.gf_duality.specs.Laws.{RaysAreUnique, SumsOfRaysAreInside, FacetsHaveWitnesses};
 
 /// A cone has one lineality basis and one list of rays, whatever inequalities and equations it is given by (Ziegler,
 /// *Lectures on Polytopes*, 1 and 2).

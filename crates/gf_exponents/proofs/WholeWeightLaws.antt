@@ -8,7 +8,7 @@ use Rattle.std.proofs.lemmas.Int.{ints}
 use Rattle.std.proofs.lemmas.List.Elements.{recursion_from_All}
 use Rattle.std.specs.List.{AllByRecursion}
 use Rattle.gf_exponents.specs.Exponents.{Exponents, entry, same, plus, weight, whole_weight}
-use Rattle.gf_exponents.specs.Orders.{IsStrict, IsMonomialOrder, Row, is_less, is_alike, row_of, negated_row_of, gains, losses, IsLexBelow, IsFacetBelow}
+use Rattle.gf_exponents.specs.Orders.{IsStrict, IsMonomialOrder, WeightRow, is_less, is_alike, row_of, negated_row_of, gains, losses, IsLexBelow, IsFacetBelow}
 use Rattle.gf_exponents.proofs.WeightLaws.{weight-plus, weight-same}
 use Rattle.gf_exponents.proofs.OrderLaws.{lex-strict, lex-total}
 
@@ -71,7 +71,7 @@ positive-gains w h i l = at w (recursion_from_All (λ k. pos 1 ≤ℤ k) w h) i 
 
 -- ---- the order of a row
 
-row-strict : (r : Row) → IsStrict (IsFacetBelow r)
+row-strict : (r : WeightRow) → IsStrict (IsFacetBelow r)
 row-strict r = record { irreflexive = never; transitive = chain; invariant = shift; along_left = left; along_right = right }
   where
     never : (x y : Exponents) → same x y ≡ true → IsFacetBelow r x y → ⊥
@@ -96,7 +96,7 @@ row-strict r = record { irreflexive = never; transitive = chain; invariant = shi
     right x y z s (inl h) = inl (omega (arith, h, weight-same r.gain y z s, weight-same r.loss y z s))
     right x y z s (inr h) = inr (omega (arith, h.0, weight-same r.gain y z s, weight-same r.loss y z s), lex-strict.along_right x y z s h.1)
 
-row-total : (r : Row) (x y : Exponents) → IsFacetBelow r x y ⊎ (same x y ≡ true) ⊎ IsFacetBelow r y x
+row-total : (r : WeightRow) (x y : Exponents) → IsFacetBelow r x y ⊎ (same x y ≡ true) ⊎ IsFacetBelow r y x
 row-total r x y = at (cases_lt (weight r.gain x + weight r.loss y) (weight r.gain y + weight r.loss x)) (cases_lt (weight r.gain y + weight r.loss x) (weight r.gain x + weight r.loss y)) (lex-total x y)
   where
     at : is_less r x y ⊎ (weight r.gain y + weight r.loss x ≤ weight r.gain x + weight r.loss y) →
@@ -110,5 +110,5 @@ row-total r x y = at (cases_lt (weight r.gain x + weight r.loss y) (weight r.gai
     at (inr g) (inr h) (inr (inr l)) = inr (inr (inr (omega arith, l)))
 
 -- the order of a row is a monomial order
-pub row-order : (r : Row) → IsMonomialOrder (IsFacetBelow r)
+pub row-order : (r : WeightRow) → IsMonomialOrder (IsFacetBelow r)
 row-order r = record { strict = row-strict r; total = row-total r }

@@ -69,20 +69,20 @@ abbrev pub IsWeightedRevlexBelow : List ℕ → Exponents → Exponents → Type
 IsWeightedRevlexBelow w x y = (weight w x < weight w y) ⊎ ((weight w x ≡ weight w y) × IsRevlexBelow x y)
 
 -- an integer weight: what counts for an exponent, and what counts against it
-pub record Row : Type 0 where
+pub record WeightRow : Type 0 where
   pub gain : List ℕ
   pub loss : List ℕ
 
 -- the row is smaller at x than at y
-abbrev pub is_less : Row → Exponents → Exponents → Type 0
+abbrev pub is_less : WeightRow → Exponents → Exponents → Type 0
 is_less r x y = weight r.gain x + weight r.loss y < weight r.gain y + weight r.loss x
 
 -- the row is the same at both
-abbrev pub is_alike : Row → Exponents → Exponents → Type 0
+abbrev pub is_alike : WeightRow → Exponents → Exponents → Type 0
 is_alike r x y = weight r.gain x + weight r.loss y ≡ weight r.gain y + weight r.loss x
 
 -- facet, by the row of the negated normal: the row is smaller, or equal and lex says so
-abbrev pub IsFacetBelow : Row → Exponents → Exponents → Type 0
+abbrev pub IsFacetBelow : WeightRow → Exponents → Exponents → Type 0
 IsFacetBelow r x y = is_less r x y ⊎ (is_alike r x y × IsLexBelow x y)
 
 -- of whole weights, what counts for an exponent: the entries that aren't negative
@@ -98,9 +98,9 @@ losses (pos k ∷ ws) = 0 ∷ losses ws
 losses (negsuc k ∷ ws) = suc k ∷ losses ws
 
 -- whole weights as a row
-abbrev pub row_of : List ℤ → Row
+abbrev pub row_of : List ℤ → WeightRow
 row_of ws = record { gain = gains ws; loss = losses ws }
 
 -- their negatives as a row
-abbrev pub negated_row_of : List ℤ → Row
+abbrev pub negated_row_of : List ℤ → WeightRow
 negated_row_of ws = record { gain = losses ws; loss = gains ws }

@@ -2,7 +2,7 @@
 -- Laws: proofs/SixOrdersLaws.antt. Source: Cox, Little, O'Shea, Ideals, Varieties, and Algorithms, 2.2.
 use Rattle.std.specs.Prelude.{◌≡◌, ℕ, ◌<◌, ◌≤◌, List}
 use Rattle.gf_exponents.specs.Exponents.{Exponents, entry}
-use Rattle.gf_exponents.specs.Orders.{Row, IsLexBelow, IsDeglexBelow, IsRevlexBelow, IsWeightedBelow, IsWeightedRevlexBelow, IsFacetBelow}
+use Rattle.gf_exponents.specs.Orders.{WeightRow, IsLexBelow, IsDeglexBelow, IsRevlexBelow, IsWeightedBelow, IsWeightedRevlexBelow, IsFacetBelow}
 
 -- one of the six; `facet` has the row of the negated normal of the facet
 pub data MonomialOrder : Type 0 where
@@ -11,7 +11,7 @@ pub data MonomialOrder : Type 0 where
   revlex : MonomialOrder
   weighted : List ℕ → MonomialOrder
   weighted_revlex : List ℕ → MonomialOrder
-  facet : Row → MonomialOrder
+  facet : WeightRow → MonomialOrder
 
 -- x is below y by the order
 abbrev pub below_of : MonomialOrder → Exponents → Exponents → Type 0

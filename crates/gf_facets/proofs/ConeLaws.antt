@@ -14,7 +14,7 @@ use Rattle.gf_exponents.proofs.WholeWeightLaws.{whole_weight-same}
 use Rattle.gf_poly.specs.declared.Term.{Term}
 use Rattle.gf_poly.specs.Marking.{MarkedPolynomial}
 use Rattle.gf_ideal.specs.Bases.{IsCanonical}
-use Rattle.gf_facets.specs.Rows.{differences, rows_of, IsNormal}
+use Rattle.gf_facets.specs.Rows.{differences, rows_of_polynomials, IsNormal}
 use Rattle.gf_facets.specs.Facets.{IsInClosedCone, IsInOpenCone}
 use Rattle.gf_facets.specs.MarkedBases.{AreCanonical}
 use Rattle.gf_facets.proofs.PrimitiveLaws.{primitive_part, divided-entry}
@@ -39,14 +39,14 @@ term_weights n b t w k c = dot-differences w b.head t.mono (k.head ∙ sym (term
 -- ---- by rows
 
 pub rows_closed : (n : ℕ) (bs : List MarkedPolynomial) (w : List ℤ) → AreCanonical n bs → IsInClosedCone w bs →
-    (t : List ℤ) → Contains (rows_of bs) t → pos 0 ≤ℤ dot t w
+    (t : List ℤ) → Contains (rows_of_polynomials bs) t → pos 0 ≤ℤ dot t w
 rows_closed n bs w k h t c = at (row-from bs t c)
   where
     at : ((b : MarkedPolynomial) × Contains bs b × IsTermRow b.head b.poly t) → pos 0 ≤ℤ dot t w
     at b = omega (arith, ints, row_weights n b.0 t w (k b.0 b.1) b.2, h b.0 b.1 b.2.term.mono (monomial_of n b.0 b.2.term (k b.0 b.1) b.2.inside))
 
 pub closed_by_rows : (n : ℕ) (bs : List MarkedPolynomial) (w : List ℤ) → AreCanonical n bs →
-    ((t : List ℤ) → Contains (rows_of bs) t → pos 0 ≤ℤ dot t w) → IsInClosedCone w bs
+    ((t : List ℤ) → Contains (rows_of_polynomials bs) t → pos 0 ≤ℤ dot t w) → IsInClosedCone w bs
 closed_by_rows n bs w k h b c x m = at (term_of b.poly x m)
   where
     at : ((t : Term) × Contains b.poly t × (same x t.mono ≡ true)) → whole_weight w x ≤ℤ whole_weight w b.head
@@ -56,7 +56,7 @@ closed_by_rows n bs w k h b c x m = at (term_of b.poly x m)
     ]
 
 pub rows_open : (n : ℕ) (bs : List MarkedPolynomial) (w : List ℤ) → AreCanonical n bs → IsInOpenCone w bs →
-    (t : List ℤ) → Contains (rows_of bs) t → pos 0 <ℤ dot t w
+    (t : List ℤ) → Contains (rows_of_polynomials bs) t → pos 0 <ℤ dot t w
 rows_open n bs w k h t c = at (row-from bs t c)
   where
     at : ((b : MarkedPolynomial) × Contains bs b × IsTermRow b.head b.poly t) → pos 0 <ℤ dot t w
@@ -66,7 +66,7 @@ rows_open n bs w k h t c = at (row-from bs t c)
     ]
 
 pub open_by_rows : (n : ℕ) (bs : List MarkedPolynomial) (w : List ℤ) → AreCanonical n bs →
-    ((t : List ℤ) → Contains (rows_of bs) t → pos 0 <ℤ dot t w) → IsInOpenCone w bs
+    ((t : List ℤ) → Contains (rows_of_polynomials bs) t → pos 0 <ℤ dot t w) → IsInOpenCone w bs
 open_by_rows n bs w k h b c x m = at (term_of b.poly x m)
   where
     at : ((t : Term) × Contains b.poly t × (same x t.mono ≡ true)) → (same x b.head ≡ true) ⊎ (whole_weight w x <ℤ whole_weight w b.head)
@@ -78,7 +78,7 @@ open_by_rows n bs w k h b c x m = at (term_of b.poly x m)
 -- ---- by normals
 
 -- each row has its normal
-pub normal_from : (bs : List MarkedPolynomial) (t : List ℤ) → Contains (rows_of bs) t → (a : List ℤ) × IsNormal bs a × IsPrimitivePart t a
+pub normal_from : (bs : List MarkedPolynomial) (t : List ℤ) → Contains (rows_of_polynomials bs) t → (a : List ℤ) × IsNormal bs a × IsPrimitivePart t a
 normal_from bs t c = let p = primitive_part t in (p.0, (t, c, p.1), p.1)
 
 pub normals_closed : (n : ℕ) (bs : List MarkedPolynomial) (w : List ℤ) → AreCanonical n bs → IsInClosedCone w bs →

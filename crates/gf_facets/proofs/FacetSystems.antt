@@ -23,7 +23,7 @@ use Rattle.gf_ideal.proofs.ListLaws.{Contains-here}
 use Rattle.gf_facets.specs.Rows.{IsNormal}
 use Rattle.gf_facets.specs.Systems.{units}
 use Rattle.gf_facets.specs.Normals.{AreNormals, others_of, flip_rows}
-use Rattle.gf_facets.specs.Combinations.{IsCombination, IsRedundant}
+use Rattle.gf_facets.specs.Combinations.{IsCombination, IsRowRedundant}
 use Rattle.gf_facets.specs.Regions.{Region, IsInRegion}
 use Rattle.gf_facets.specs.Facets.{IsInOpenCone, IsInsideFacet, IsFacet, IsFlippable}
 use Rattle.gf_facets.specs.MarkedBases.{AreCanonical}
@@ -152,7 +152,7 @@ combination_of_farkas n a w rows ms e wide l p q f = record { positive = omega (
 
 -- so a is redundant
 pub redundant_of_farkas : (n : ℕ) (a w : List ℤ) (rows : List (List ℤ)) (ms es : List ℤ) → AreRows n rows → length a ≡ n →
-    All (λ t. pos 0 <ℤ dot t w) rows → pos 0 <ℤ dot a w → IsFarkas n rows (a ∷ []) ms es → IsRedundant n rows a
+    All (λ t. pos 0 <ℤ dot t w) rows → pos 0 <ℤ dot a w → IsFarkas n rows (a ∷ []) ms es → IsRowRedundant n rows a
 redundant_of_farkas n a w rows ms [] wide l p q f = absurd (omega (arith, f.equations_len))
 redundant_of_farkas n a w rows ms (e ∷ (d ∷ es)) wide l p q f = absurd (omega (arith, f.equations_len))
 redundant_of_farkas n a w rows ms (e ∷ []) wide l p q f = (neg_ℤ e, ms, combination_of_farkas n a w rows ms e wide l p q f)
@@ -178,7 +178,7 @@ vanishing (m ∷ ms) (t ∷ rows) v w h p e =
 
 -- where a vector is positive on a, and another one on the rows and zero on a, a is not redundant
 pub not_redundant : (n : ℕ) (a v w : List ℤ) (rows : List (List ℤ)) → AreRows n rows → pos 0 <ℤ dot a w →
-    IsSolution n rows (a ∷ []) v → IsRedundant n rows a → ⊥
+    IsSolution n rows (a ∷ []) v → IsRowRedundant n rows a → ⊥
 not_redundant n a v w rows wide q s r = absurd (omega (arith, ints, above, none))
   where
     k : ℤ
@@ -242,7 +242,7 @@ module _ (n : ℕ) (bs : List MarkedPolynomial) (k : AreCanonical n bs) (ns : Li
 module _ (n : ℕ) (bs : List MarkedPolynomial) (w : List ℤ) (k : AreCanonical n bs) (o : IsInOpenCone w bs) where
   -- a system of a normal, what is beside it being positive on w, has a solution or makes it redundant
   solvable_or_redundant : (a : List ℤ) (beside rows : List (List ℤ)) → IsFacetSystem bs a beside rows → IsNormal bs a → AreRows n beside →
-      All (λ t. pos 0 <ℤ dot t w) beside → IsSolvable n rows (a ∷ []) ⊎ IsRedundant n rows a
+      All (λ t. pos 0 <ℤ dot t w) beside → IsSolvable n rows (a ∷ []) ⊎ IsRowRedundant n rows a
   solvable_or_redundant a beside rows s q wide p = at (alternative.one n rows (a ∷ []) rows_wide (one_row (λ t. length t ≡ n) a long))
     where
       long : length a ≡ n
@@ -251,7 +251,7 @@ module _ (n : ℕ) (bs : List MarkedPolynomial) (w : List ℤ) (k : AreCanonical
       rows_wide : AreRows n rows
       rows_wide = system_wide n bs a beside rows s k wide
 
-      at : IsSolvable n rows (a ∷ []) ⊎ IsRefutable n rows (a ∷ []) → IsSolvable n rows (a ∷ []) ⊎ IsRedundant n rows a
+      at : IsSolvable n rows (a ∷ []) ⊎ IsRefutable n rows (a ∷ []) → IsSolvable n rows (a ∷ []) ⊎ IsRowRedundant n rows a
       at (inl v) = inl v
       at (inr f) = inr (redundant_of_farkas n a w rows f.0 f.1 rows_wide long (rows_by (λ t. pos 0 <ℤ dot t w) bs a beside rows s (λ b h d. normals_open n bs w k o b h) (λ t c. All-contains (λ t. pos 0 <ℤ dot t w) beside t p c)) (normals_open n bs w k o a q) f.2)
 
@@ -259,24 +259,24 @@ module _ (n : ℕ) (bs : List MarkedPolynomial) (w : List ℤ) (k : AreCanonical
     here_positive : pos 0 <ℤ dot (get_or ns i []) w
     here_positive = normals_open n bs w k o (get_or ns i []) (normal_here n bs k ns i m l)
 
-    pub facet_or_redundant : IsFacet n bs (get_or ns i []) ⊎ IsRedundant n (others_of i ns) (get_or ns i [])
+    pub facet_or_redundant : IsFacet n bs (get_or ns i []) ⊎ IsRowRedundant n (others_of i ns) (get_or ns i [])
     facet_or_redundant = at (solvable_or_redundant (get_or ns i []) [] (others_of i ns) (facet_system bs ns i m l) (normal_here n bs k ns i m l) (All-nil (λ t. length t ≡ n)) (All-nil (λ t. pos 0 <ℤ dot t w)))
       where
-        at : IsSolvable n (others_of i ns) (get_or ns i [] ∷ []) ⊎ IsRedundant n (others_of i ns) (get_or ns i []) → IsFacet n bs (get_or ns i []) ⊎ IsRedundant n (others_of i ns) (get_or ns i [])
+        at : IsSolvable n (others_of i ns) (get_or ns i [] ∷ []) ⊎ IsRowRedundant n (others_of i ns) (get_or ns i []) → IsFacet n bs (get_or ns i []) ⊎ IsRowRedundant n (others_of i ns) (get_or ns i [])
         at (inl v) = inl (facet_of_solution n bs k ns i m l v.0 v.1)
         at (inr r) = inr r
 
-    pub facet_not_redundant : IsFacet n bs (get_or ns i []) → IsRedundant n (others_of i ns) (get_or ns i []) → ⊥
+    pub facet_not_redundant : IsFacet n bs (get_or ns i []) → IsRowRedundant n (others_of i ns) (get_or ns i []) → ⊥
     facet_not_redundant f r = not_redundant n (get_or ns i []) f.point w (others_of i ns) (facet_rows_wide n bs k ns i m l) here_positive (solution_of_facet n bs k ns i m l f) r
 
-    pub flippable_or_redundant : (g : Region) → AreRows n g.rows → IsInRegion n g w → IsFlippable n g bs (get_or ns i []) ⊎ IsRedundant n (flip_rows n g ns i) (get_or ns i [])
+    pub flippable_or_redundant : (g : Region) → AreRows n g.rows → IsInRegion n g w → IsFlippable n g bs (get_or ns i []) ⊎ IsRowRedundant n (flip_rows n g ns i) (get_or ns i [])
     flippable_or_redundant g wide r = at (solvable_or_redundant (get_or ns i []) (g.rows ++ units n n) (flip_rows n g ns i) (flip_system n g bs ns i m l) (normal_here n bs k ns i m l) (region_rows_wide n g wide) (rows_of_region n g w r))
       where
-        at : IsSolvable n (flip_rows n g ns i) (get_or ns i [] ∷ []) ⊎ IsRedundant n (flip_rows n g ns i) (get_or ns i []) → IsFlippable n g bs (get_or ns i []) ⊎ IsRedundant n (flip_rows n g ns i) (get_or ns i [])
+        at : IsSolvable n (flip_rows n g ns i) (get_or ns i [] ∷ []) ⊎ IsRowRedundant n (flip_rows n g ns i) (get_or ns i []) → IsFlippable n g bs (get_or ns i []) ⊎ IsRowRedundant n (flip_rows n g ns i) (get_or ns i [])
         at (inl v) = inl (flippable_of_solution n bs k ns i m l g v.0 v.1)
         at (inr c) = inr c
 
-    pub flippable_not_redundant : (g : Region) → AreRows n g.rows → IsFlippable n g bs (get_or ns i []) → IsRedundant n (flip_rows n g ns i) (get_or ns i []) → ⊥
+    pub flippable_not_redundant : (g : Region) → AreRows n g.rows → IsFlippable n g bs (get_or ns i []) → IsRowRedundant n (flip_rows n g ns i) (get_or ns i []) → ⊥
     flippable_not_redundant g wide f r = not_redundant n (get_or ns i []) f.point w (flip_rows n g ns i) (flip_rows_wide n bs k ns i m l g wide) here_positive (solution_of_flippable n bs k ns i m l g f) r
 
 -- ---- whether a normal is flippable

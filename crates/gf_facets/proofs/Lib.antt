@@ -16,4 +16,4 @@ pub mod FacetSystems  -- facet or combination, flippable or combination
 pub mod TurningLaws  -- which normals are crossed first on the way to a vector
 pub mod FirstLaws  -- the normal that is crossed first is one of a facet
 pub mod FacetConeLaws  -- the facets alone define the cone
-pub mod TheoremsHold  -- the theorems of specs/Theorems.antt
+pub mod LawsHold  -- the theorems of specs/Laws.antt

@@ -6,7 +6,7 @@ use Rattle.std.proofs.lemmas.List.{get_or_default}
 use Rattle.gf_vec.specs.Primitive.{IsPrimitivePart}
 use Rattle.gf_poly.specs.Marking.{MarkedPolynomial}
 use Rattle.gf_ideal.proofs.ListLaws.{Contains-here, Contains-there, Contains-cases}
-use Rattle.gf_facets.specs.Rows.{rows_of, IsNormal}
+use Rattle.gf_facets.specs.Rows.{rows_of_polynomials, IsNormal}
 use Rattle.gf_facets.specs.LexPositive.{IsBefore}
 use Rattle.gf_facets.specs.Normals.{Ascends, others_of}
 use Rattle.gf_facets.proofs.VectorLaws.{vector_or_not}
@@ -45,7 +45,7 @@ pub record NormalsListed (bs : List MarkedPolynomial) : Type 0 where
   pub all : (a : List ℤ) → IsNormal bs a → Contains list a
 
 pub normals_listed : (bs : List MarkedPolynomial) → NormalsListed bs
-normals_listed bs = let r = parts_listed (rows_of bs) in record { list = r.list; only = r.only; all = λ a q. r.all q.0 a q.1 q.2 }
+normals_listed bs = let r = parts_listed (rows_of_polynomials bs) in record { list = r.list; only = r.only; all = λ a q. r.all q.0 a q.1 q.2 }
 
 -- ---- the others of one
 

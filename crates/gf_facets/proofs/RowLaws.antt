@@ -17,7 +17,7 @@ use Rattle.gf_ideal.specs.Bases.{IsCanonical}
 use Rattle.gf_ideal.proofs.ListLaws.{Contains-here, Contains-there, Contains-cases, each_contained}
 use Rattle.gf_ideal.proofs.ListedTerms.{listed}
 use Rattle.gf_ideal.proofs.KeptForms.{term_there}
-use Rattle.gf_facets.specs.Rows.{differences, row_between, rows_of_terms, rows_of}
+use Rattle.gf_facets.specs.Rows.{differences, row_between, rows_of_terms, rows_of_polynomials}
 
 -- ---- the members' rows
 
@@ -48,14 +48,14 @@ term-row x (s ∷ f) t c n = at (Contains-cases s t f c) (λ k. term-row x f t k
 
 -- the row of an unmarked term is one of the rows
 pub row-in : (bs : List MarkedPolynomial) (b : MarkedPolynomial) (t : Term) → Contains bs b → Contains b.poly t →
-    same b.head t.mono ≡ false → Contains (rows_of bs) (differences b.head t.mono)
+    same b.head t.mono ≡ false → Contains (rows_of_polynomials bs) (differences b.head t.mono)
 row-in [] b t c k n = absurd (omega (arith, c.1))
 row-in (d ∷ bs) b t c k n = at (Contains-cases d b bs c) (λ l. row-in bs b t l k n)
   where
-    at : (d ≡ b) ⊎ Contains bs b → (Contains bs b → Contains (rows_of bs) (differences b.head t.mono)) →
-        Contains (rows_of (d ∷ bs)) (differences b.head t.mono)
-    at (inl e) r = Contains-append_left (rows_of_terms d.head d.poly) (rows_of bs) (differences b.head t.mono) (subst (λ (z : MarkedPolynomial). Contains (rows_of_terms z.head z.poly) (differences b.head t.mono)) (sym e) (term-row b.head b.poly t k n))
-    at (inr l) r = Contains-append_right (rows_of_terms d.head d.poly) (rows_of bs) (differences b.head t.mono) (r l)
+    at : (d ≡ b) ⊎ Contains bs b → (Contains bs b → Contains (rows_of_polynomials bs) (differences b.head t.mono)) →
+        Contains (rows_of_polynomials (d ∷ bs)) (differences b.head t.mono)
+    at (inl e) r = Contains-append_left (rows_of_terms d.head d.poly) (rows_of_polynomials bs) (differences b.head t.mono) (subst (λ (z : MarkedPolynomial). Contains (rows_of_terms z.head z.poly) (differences b.head t.mono)) (sym e) (term-row b.head b.poly t k n))
+    at (inr l) r = Contains-append_right (rows_of_terms d.head d.poly) (rows_of_polynomials bs) (differences b.head t.mono) (r l)
 
 -- the term that a row comes from
 pub record IsTermRow (x : Exponents) (f : Terms) (r : List ℤ) : Type 0 where
@@ -79,13 +79,13 @@ row-term x (t ∷ f) r c = at (Contains-append_cases (row_between x t.mono) (row
         one (inr n) = absurd (omega (arith, n.1))
 
 -- each row is that of an unmarked term of a member
-pub row-from : (bs : List MarkedPolynomial) (r : List ℤ) → Contains (rows_of bs) r →
+pub row-from : (bs : List MarkedPolynomial) (r : List ℤ) → Contains (rows_of_polynomials bs) r →
     (b : MarkedPolynomial) × Contains bs b × IsTermRow b.head b.poly r
 row-from [] r c = absurd (omega (arith, c.1))
-row-from (b ∷ bs) r c = at (Contains-append_cases (rows_of_terms b.head b.poly) (rows_of bs) r c) (λ k. row-from bs r k)
+row-from (b ∷ bs) r c = at (Contains-append_cases (rows_of_terms b.head b.poly) (rows_of_polynomials bs) r c) (λ k. row-from bs r k)
   where
-    at : Contains (rows_of_terms b.head b.poly) r ⊎ Contains (rows_of bs) r →
-        (Contains (rows_of bs) r → (d : MarkedPolynomial) × Contains bs d × IsTermRow d.head d.poly r) →
+    at : Contains (rows_of_terms b.head b.poly) r ⊎ Contains (rows_of_polynomials bs) r →
+        (Contains (rows_of_polynomials bs) r → (d : MarkedPolynomial) × Contains bs d × IsTermRow d.head d.poly r) →
         (d : MarkedPolynomial) × Contains (b ∷ bs) d × IsTermRow d.head d.poly r
     at (inl k) rec = (b, Contains-here b bs, row-term b.head b.poly r k)
     at (inr k) rec = let q = rec k in (q.0, Contains-there b q.0 bs q.1, q.2)

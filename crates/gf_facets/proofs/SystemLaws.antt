@@ -24,7 +24,7 @@ use Rattle.gf_ideal.proofs.ListLaws.{contained_each}
 use Rattle.gf_ideal.proofs.ListedTerms.{variables_by_terms}
 use Rattle.gf_ideal.proofs.KeptForms.{marked_there, canonical_marked}
 use Rattle.gf_ideal.proofs.MarkWeights.{realised_of_marked}
-use Rattle.gf_facets.specs.Rows.{rows_of}
+use Rattle.gf_facets.specs.Rows.{rows_of_polynomials}
 use Rattle.gf_facets.specs.Systems.{units, system_of}
 use Rattle.gf_facets.specs.Regions.{Region, IsRegion, IsInRegion, all_positive}
 use Rattle.gf_facets.specs.Facets.{IsInOpenCone}
@@ -72,7 +72,7 @@ all_positive-region n = record {
 -- ---- the system
 
 -- each row has n entries
-row_wide : (n : ℕ) (bs : List MarkedPolynomial) → AreCanonical n bs → (t : List ℤ) → Contains (rows_of bs) t → length t ≡ n
+row_wide : (n : ℕ) (bs : List MarkedPolynomial) → AreCanonical n bs → (t : List ℤ) → Contains (rows_of_polynomials bs) t → length t ≡ n
 row_wide n bs k t c = at (row-from bs t c)
   where
     at : ((b : MarkedPolynomial) × Contains bs b × IsTermRow b.head b.poly t) → length t ≡ n
@@ -81,16 +81,16 @@ row_wide n bs k t c = at (row-from bs t c)
         ap (λ (z : List ℤ). length z) b.2.row ∙ length-differences b.0.head b.2.term.mono (h ∙ sym (term_length n b.0.poly b.2.term (k b.0 b.1).variables b.2.inside)) ∙ h
 
 by_row : (P : List ℤ → Type 0) (n : ℕ) (rows : List (List ℤ)) (bs : List MarkedPolynomial) → ((t : List ℤ) → Contains rows t → P t) →
-    ((t : List ℤ) → Contains (rows_of bs) t → P t) → ((t : List ℤ) → Contains (units n n) t → P t) → All P (rows ++ system_of n bs)
+    ((t : List ℤ) → Contains (rows_of_polynomials bs) t → P t) → ((t : List ℤ) → Contains (units n n) t → P t) → All P (rows ++ system_of n bs)
 by_row P n rows bs f g h = contained_all P (rows ++ system_of n bs) (λ t c. first t (Contains-append_cases rows (system_of n bs) t c))
   where
-    second : (t : List ℤ) → Contains (rows_of bs) t ⊎ Contains (units n n) t → P t
+    second : (t : List ℤ) → Contains (rows_of_polynomials bs) t ⊎ Contains (units n n) t → P t
     second t (inl c) = g t c
     second t (inr c) = h t c
 
     first : (t : List ℤ) → Contains rows t ⊎ Contains (system_of n bs) t → P t
     first t (inl c) = f t c
-    first t (inr c) = second t (Contains-append_cases (rows_of bs) (units n n) t c)
+    first t (inr c) = second t (Contains-append_cases (rows_of_polynomials bs) (units n n) t c)
 
 pub system_wide : (n : ℕ) (k : Region) (bs : List MarkedPolynomial) → AreRows n k.rows → AreCanonical n bs →
     AreRows n (k.rows ++ system_of n bs)
@@ -111,10 +111,10 @@ pub inside_of_solution : (n : ℕ) (k : Region) (bs : List MarkedPolynomial) (v 
 inside_of_solution n k bs v c s = (
   record {
     width = s.width;
-    positive = positive_by_units n v s.width (λ t i. row t (Contains-append_right k.rows (system_of n bs) t (Contains-append_right (rows_of bs) (units n n) t i)));
+    positive = positive_by_units n v s.width (λ t i. row t (Contains-append_right k.rows (system_of n bs) t (Contains-append_right (rows_of_polynomials bs) (units n n) t i)));
     rows = contained_all (λ t. pos 0 <ℤ dot t v) k.rows (λ t i. row t (Contains-append_left k.rows (system_of n bs) t i));
   },
-  open_by_rows n bs v c (λ t i. row t (Contains-append_right k.rows (system_of n bs) t (Contains-append_left (rows_of bs) (units n n) t i))),
+  open_by_rows n bs v c (λ t i. row t (Contains-append_right k.rows (system_of n bs) t (Contains-append_left (rows_of_polynomials bs) (units n n) t i))),
 )
   where
     row : (t : List ℤ) → Contains (k.rows ++ system_of n bs) t → pos 0 <ℤ dot t v

@@ -12,5 +12,5 @@ pub record IsCombination (n : ℕ) (rows : List (List ℤ)) (a : List ℤ) (k : 
   pub sum : scaled k a ≡ combined n ms rows
 
 -- some multiple is some combination
-abbrev pub IsRedundant : ℕ → List (List ℤ) → List ℤ → Type 0
-IsRedundant n rows a = (k : ℤ) × (ms : List ℤ) × IsCombination n rows a k ms
+abbrev pub IsRowRedundant : ℕ → List (List ℤ) → List ℤ → Type 0
+IsRowRedundant n rows a = (k : ℤ) × (ms : List ℤ) × IsCombination n rows a k ms

@@ -10,4 +10,4 @@ pub mod Beyond  -- monomials that are further along a vector
 pub mod MarkedBases  -- the marked reduced Gröbner bases of an ideal
 pub mod InitialIdeals  -- initial ideals, and where monomials generate them
 pub mod Neighbours  -- the two bases on both sides of a facet
-pub mod Theorems  -- the theorems that functions of this crate name
+pub mod Laws  -- the theorems that functions of this crate name

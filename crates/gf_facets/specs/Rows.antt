@@ -25,13 +25,13 @@ rows_of_terms x [] = []
 rows_of_terms x (t ∷ f) = row_between x t.mono ++ rows_of_terms x f
 
 -- the rows of each member, in their order
-abbrev pub rows_of : List MarkedPolynomial → List (List ℤ)
-rows_of [] = []
-rows_of (b ∷ bs) = rows_of_terms b.head b.poly ++ rows_of bs
+abbrev pub rows_of_polynomials : List MarkedPolynomial → List (List ℤ)
+rows_of_polynomials [] = []
+rows_of_polynomials (b ∷ bs) = rows_of_terms b.head b.poly ++ rows_of_polynomials bs
 
 -- a is a row divided by its content
 abbrev pub IsNormal : List MarkedPolynomial → List ℤ → Type 0
-IsNormal bs a = (t : List ℤ) × Contains (rows_of bs) t × IsPrimitivePart t a
+IsNormal bs a = (t : List ℤ) × Contains (rows_of_polynomials bs) t × IsPrimitivePart t a
 
 -- the vector of the negatives
 abbrev pub negated : List ℤ → List ℤ

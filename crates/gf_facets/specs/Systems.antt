@@ -4,7 +4,7 @@
 use Rattle.std.specs.Prelude.{ℕ, zero, suc, List, [], ◌∷◌, ◌++◌, ℤ, pos}
 use Rattle.gf_poly.specs.Marking.{MarkedPolynomial}
 use Rattle.gf_vec.specs.Vector.{zeros}
-use Rattle.gf_facets.specs.Rows.{rows_of}
+use Rattle.gf_facets.specs.Rows.{rows_of_polynomials}
 
 -- of n entries that at i is 1, and the others are 0
 abbrev pub unit : ℕ → ℕ → List ℤ
@@ -19,4 +19,4 @@ units n (suc k) = units n k ++ unit n k ∷ []
 
 -- the rows, then the unit vectors
 abbrev pub system_of : ℕ → List MarkedPolynomial → List (List ℤ)
-system_of n bs = rows_of bs ++ units n n
+system_of n bs = rows_of_polynomials bs ++ units n n

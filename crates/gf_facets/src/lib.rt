@@ -1,10 +1,10 @@
 //! Cones of marked lists of polynomials: rows, normals, facets, flippable facets, regions, neighbours. Definitions and laws.
 //!
-//! Start at `specs/Rows.antt` and read on as `specs/Lib.antt` lists the files; `specs/Theorems.antt` has the theorems.
+//! Start at `specs/Rows.antt` and read on as `specs/Lib.antt` lists the files; `specs/Laws.antt` has the theorems.
 //! The functions compute nothing: each one's contract is a theorem, so that the check proves it.
 #![tactic(auto)]
 
-ghost use Rattle.gf_facets.specs.Theorems.{LexPositiveVectors, VectorsAreOrdered, LinearMapsGivePoints, NormalsDefineCones, FacetsDefineCones, WeightsAreSolutions, FacetsAreTold, FlippableNormalsAreTold};
+ghost use Rattle.gf_facets.specs.Laws.{LexPositiveVectors, VectorsAreOrdered, LinearMapsGivePoints, NormalsDefineCones, FacetsDefineCones, WeightsAreSolutions, FacetsAreTold, FlippableNormalsAreTold};
 
 /// A vector is zero, or its first nonzero entry is positive, or that of its negative is; vectors of the second kind are
 /// closed under sums and positive multiples.

@@ -9,7 +9,7 @@ use Rattle.gf_text.specs.RingText.{has, is_name}
 use Rattle.gf_fanfile.specs.declared.parts.ListedCone.{ListedCone}
 use Rattle.gf_fanfile.specs.Lines.{before_comment, is_section_name, content_tokens}
 use Rattle.gf_fanfile.specs.ConeText.{most_number}
-use Rattle.gf_fanfile.specs.FanText.{number_to, rows, cones, any, Content, the_number, the_rows, the_cones, passed, Named, kind_in, fan_table, ambient_dim, rays_name, lineality_space, maximal_cones, IsContent}
+use Rattle.gf_fanfile.specs.FanText.{number_to, rows, cones, any, Content, the_number, the_rows, the_cones, passed, Named, kind_in, fan_table, ambient_dim, rays_name, lineality_space, maximal_cones, IsContentText}
 use Rattle.gf_fanfile.specs.FanWords.{FanWords, section, greatest_dim, count_of, f_vector, is_simplicial, is_pure, spaced_entries, comment, ray_lines, number_lines, cone_text, told_cone, cone_line, cone_lines, truth_line, dim_line, front_sections, back_sections, fan_text}
 use Rattle.gf_fanfile.specs.FansAgain.{AreWritable, IsWritableCone, IsWritable, file_of, FansAreReadAgain}
 use Rattle.gf_fanfile.specs.Files.{IsFileOf}
@@ -91,7 +91,7 @@ record IsNew (seen : List (List ℕ)) (n : List ℕ) : Type 0 where
   bare : before_comment n ≡ n
   one_line : no_byte 10 n ≡ true
 
-is_said : (seen : List (List ℕ)) (n : List ℕ) (ls : List (List ℕ)) (c : Content) → IsNew seen n → Lines ls → ((end at : ℕ) → IsContent (kind_in fan_table n) (texts (content_tokens end (contents at ls))) c)
+is_said : (seen : List (List ℕ)) (n : List ℕ) (ls : List (List ℕ)) (c : Content) → IsNew seen n → Lines ls → ((end at : ℕ) → IsContentText (kind_in fan_table n) (texts (content_tokens end (contents at ls))) c)
     → IsSaid fan_table seen (section n ls) c
 is_said seen n ls c is lines holds = record { new = is.new; name = is.name; word = is.word; bare = is.bare; one_line = is.one_line; lines = lines.0; plain = lines.1; holds = holds }
 

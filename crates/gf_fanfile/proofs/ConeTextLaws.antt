@@ -11,7 +11,7 @@ use Rattle.std.proofs.lemmas.Bool.Decides.{leb_tells}
 use Rattle.gf_text.specs.Marks.{brace, brace_end}
 use Rattle.gf_text.specs.SetText.{IsNumberText}
 use Rattle.gf_fanfile.specs.Lines.{line_end, section_end}
-use Rattle.gf_fanfile.specs.ConeText.{most_number, AreNumberTexts, IsConeText, AreConeTexts, ConePlace, before, inside, closed, ConeState, ConeMove, cone_step, cone_start}
+use Rattle.gf_fanfile.specs.ConeText.{most_number, AreNumberTexts, IsConeNumbersText, AreConeTexts, ConePlace, before, inside, closed, ConeState, ConeMove, cone_step, cone_start}
 
 abbrev Texts : Type 0
 Texts = List (List ℕ)
@@ -185,7 +185,7 @@ numbers_given (m ∷ ms) first (t, more, is, number, are) cs ns rest =
     ∙ numbers_given ms more are cs (ns ++ m ∷ []) rest
     ∙ ap (λ l. after cone_step (cs ++ l ∷ [], before) rest) (append_assoc ns (m ∷ []) ms)
 
-cone_given : (c : List ℕ) (first : Texts) → IsConeText first c → (cs : Cones) (rest : Texts) → after cone_step (cs, before) (first ++ rest) ≡ after cone_step (cs ++ c ∷ [], before) rest
+cone_given : (c : List ℕ) (first : Texts) → IsConeNumbersText first c → (cs : Cones) (rest : Texts) → after cone_step (cs, before) (first ++ rest) ≡ after cone_step (cs ++ c ∷ [], before) rest
 cone_given c first (more, is, are) cs rest =
     ap (λ l. after cone_step (cs, before) (l ++ rest)) is
     ∙ after-go cone_step (cs, before) (cs, inside []) brace (more ++ rest) refl

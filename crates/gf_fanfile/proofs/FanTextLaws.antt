@@ -19,7 +19,7 @@ use Rattle.gf_fanfile.specs.ConeText.{most_number, before, inside, closed, ConeS
 use Rattle.gf_fanfile.specs.declared.numbers.NumberState.{NumberState}
 use Rattle.gf_fanfile.specs.declared.numbers.NumberState.TheVariants.{Unread, Read, Finished}
 use Rattle.gf_fanfile.specs.NumberText as one
-use Rattle.gf_fanfile.specs.FanText.{ContentKind, number_to, rows, cones, any, Content, the_number, the_rows, the_cones, passed, IsContent, held, is_above, first_value, content_read, Table, kind_in, Named, then_content, sections_read, text_read, AreHeld, IsFaultOf, IsContentFault, IsFirstFault}
+use Rattle.gf_fanfile.specs.FanText.{ContentKind, number_to, rows, cones, any, Content, the_number, the_rows, the_cones, passed, IsContentText, held, is_above, first_value, content_read, Table, kind_in, Named, then_content, sections_read, text_read, AreHeld, IsFaultOf, IsContentFault, IsFirstFault}
 use Rattle.gf_text.specs.Kinds.{IsNumberKind}
 use Rattle.gf_fanfile.proofs.KindsLaws.{row_kind, cone_kind, number_kind}
 use Rattle.gf_fanfile.proofs.RowTextLaws.{row_machine}
@@ -157,23 +157,23 @@ limit_given limit n (x ∷ xs) (t, is, (digits, same, small)) h =
 -- ---- contents
 
 number_said : (end limit : ℕ) (xs : List Lexeme) (c : Content) (v : Bool) → is_above limit xs ≡ v → EndsOnce xs
-    → (if v then Err (errors.TooManyVariables (first_value xs)) else held (λ n. the_number n) end (run one.number_step Unread end xs)) ≡ Ok c → IsContent (number_to limit) (texts xs) c
+    → (if v then Err (errors.TooManyVariables (first_value xs)) else held (λ n. the_number n) end (run one.number_step Unread end xs)) ≡ Ok c → IsContentText (number_to limit) (texts xs) c
 number_said end limit xs c true is once e = cc
 number_said end limit xs c false is once e =
     let h = held_said number_machine (λ n. the_number n) (λ s t. only_is t (one.number_step s t) (number_only s t)) end xs c once e in
-    subst (λ d. IsContent (number_to limit) (texts xs) d) (sym h.2) (limit, refl, h.1, limit_said limit h.0 xs h.1 is)
+    subst (λ d. IsContentText (number_to limit) (texts xs) d) (sym h.2) (limit, refl, h.1, limit_said limit h.0 xs h.1 is)
 
-content_said : (end : ℕ) (k : ContentKind) (xs : List Lexeme) (c : Content) → EndsOnce xs → content_read end k xs ≡ Ok c → IsContent k (texts xs) c
+content_said : (end : ℕ) (k : ContentKind) (xs : List Lexeme) (c : Content) → EndsOnce xs → content_read end k xs ≡ Ok c → IsContentText k (texts xs) c
 content_said end (number_to limit) xs c once e = number_said end limit xs c (is_above limit xs) refl once e
 content_said end rows xs c once e =
     let h = held_said row_machine (λ rs. the_rows rs) (λ s t. only_is t (row_step s t) (row_only s.rows s.entries s.negative t)) end xs c once e in
-    subst (λ d. IsContent rows (texts xs) d) (sym h.2) (refl, h.1)
+    subst (λ d. IsContentText rows (texts xs) d) (sym h.2) (refl, h.1)
 content_said end cones xs c once e =
     let h = held_said cone_machine (λ cs. the_cones cs) (λ s t. only_is t (cone_step s t) (cone_only s t)) end xs c once e in
-    subst (λ d. IsContent cones (texts xs) d) (sym h.2) (refl, h.1)
-content_said end any xs c once e = (let same : passed ≡ c = cc in subst (λ d. IsContent any (texts xs) d) same refl)
+    subst (λ d. IsContentText cones (texts xs) d) (sym h.2) (refl, h.1)
+content_said end any xs c once e = (let same : passed ≡ c = cc in subst (λ d. IsContentText any (texts xs) d) same refl)
 
-pub content_given : (end : ℕ) (k : ContentKind) (xs : List Lexeme) (c : Content) → IsContent k (texts xs) c → content_read end k xs ≡ Ok c
+pub content_given : (end : ℕ) (k : ContentKind) (xs : List Lexeme) (c : Content) → IsContentText k (texts xs) c → content_read end k xs ≡ Ok c
 content_given end k xs (the_number n) (limit, is, text, small) =
     let none = limit_given limit n xs text small in
     let here : content_read end (number_to limit) xs ≡ Ok (the_number n) = rw none (held_given number_machine (λ m. the_number m) end xs n text) in
@@ -194,7 +194,7 @@ content_fault end cones xs e h = held_fault cone_machine (λ cs. the_cones cs) c
 content_fault end any xs e h = cc
 
 -- a content of its kind isn't refused
-pub content_sound : (end : ℕ) (k : ContentKind) (xs : List Lexeme) (c : Content) (e : FanFileError) → IsContent k (texts xs) c → IsContentFault end k xs e → ⊥
+pub content_sound : (end : ℕ) (k : ContentKind) (xs : List Lexeme) (c : Content) (e : FanFileError) → IsContentText k (texts xs) c → IsContentFault end k xs e → ⊥
 content_sound end (number_to limit) xs (the_number n) e (most, is, text, small) (inl h) =
     let same : limit ≡ most = cc in
     let none : is_above limit xs ≡ false = ap (λ l. is_above l xs) same ∙ limit_given most n xs text small in

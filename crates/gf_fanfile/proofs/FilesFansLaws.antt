@@ -26,7 +26,7 @@ use Rattle.gf_fanfile.specs.declared.error.FanFileError.{FanFileError}
 use Rattle.gf_fanfile.specs.declared.error.FanFileError.TheVariants as errors
 use Rattle.gf_fanfile.specs.declared.file.FanFile.{FanFile}
 use Rattle.gf_fanfile.specs.Duals.{DualsOfDuals}
-use Rattle.gf_fanfile.specs.Files.{IsFileOf, AreBelow, IsSound, no_memory}
+use Rattle.gf_fanfile.specs.Files.{IsFileOf, AreBelow, IsSoundFile, no_memory}
 use Rattle.gf_fanfile.specs.FilesFans.{IsGeneratedCone, IsConeOfFile, AreConesOfFile, IsFanOfFile, IsFanOfText, IsGeneratingStep, of_dual, of_cone, IsConesStep, IsFileWithinLimits, AreFileConesMeeting, refusal_of_gordan, refusal_of_fan, IsFanFault, in_cone, in_fan, IsFanFileRefusal, before_cones, behind_form}
 use Rattle.gf_fanfile.proofs.FilesLaws.{file_once, file_within}
 
@@ -91,7 +91,7 @@ fan_refused f cones d e a h q = inl (in_fan cones d a h q)
 narrow : (source : List ℕ) (f : FanFile) (h : FanLists) → IsFileOf source f → IsFanOfFile f h → h.ambient ≤ 16
 narrow source f h is k = subst (λ n. n ≤ 16) (sym k.is_fan.ambient) (file_within source f is)
 
-fault_refused : (source : List ℕ) (f : FanFile) (e : FanFileError) → IsFileOf source f → IsSound f → IsFanFault f e ⊎ (e ≡ errors.Memory) → IsFanFileRefusal source e
+fault_refused : (source : List ℕ) (f : FanFile) (e : FanFileError) → IsFileOf source f → IsSoundFile f → IsFanFault f e ⊎ (e ≡ errors.Memory) → IsFanFileRefusal source e
 fault_refused source f e is s (inl h) = behind_form f is s h
 fault_refused source f e is s (inr m) = before_cones (no_memory m)
 
@@ -109,7 +109,7 @@ only_memory f e w m (inr q) = q
 
 -- ---- what is answered
 
-pub fan_said : (source : List ℕ) (f : FanFile) (r : Result FanLists FanFileError) → IsFileOf source f → IsSound f → IfOk r (IsFanOfFile f) → IfOk r (IsFanOfText source)
+pub fan_said : (source : List ℕ) (f : FanFile) (r : Result FanLists FanFileError) → IsFileOf source f → IsSoundFile f → IfOk r (IsFanOfFile f) → IfOk r (IsFanOfText source)
 fan_said source f (Ok h) is s k = record { file = f; is_file = is; sound = s; of_file = k }
 fan_said source f (Err e) is s k = tt
 
@@ -117,7 +117,7 @@ pub fan_narrow : (source : List ℕ) (f : FanFile) (r : Result FanLists FanFileE
 fan_narrow source f (Ok h) is k = narrow source f h is k
 fan_narrow source f (Err e) is k = tt
 
-pub fan_refusal : (source : List ℕ) (f : FanFile) (r : Result FanLists FanFileError) → IsFileOf source f → IsSound f → IfErr r (λ e. IsFanFault f e ⊎ (e ≡ errors.Memory)) → IfErr r (IsFanFileRefusal source)
+pub fan_refusal : (source : List ℕ) (f : FanFile) (r : Result FanLists FanFileError) → IsFileOf source f → IsSoundFile f → IfErr r (λ e. IsFanFault f e ⊎ (e ≡ errors.Memory)) → IfErr r (IsFanFileRefusal source)
 fan_refusal source f (Ok h) is s k = tt
 fan_refusal source f (Err e) is s k = fault_refused source f e is s k
 

@@ -10,17 +10,17 @@ use Rattle.gf_text.specs.declared.error.Section.TheVariants as names
 use Rattle.gf_fanfile.specs.declared.file.FanFile.{FanFile}
 use Rattle.gf_fanfile.specs.declared.sections.Contents.{Contents}
 use Rattle.gf_fanfile.specs.Lines.{Section, sections, content_tokens, end_before}
-use Rattle.gf_fanfile.specs.FanText.{ContentKind, number_to, Content, the_number, the_rows, IsContent, kind_in, Named, fan_table, text_read, AreHeld, found, wanted, first_missing, ambient_dim, rays_name, lineality_space, maximal_cones}
+use Rattle.gf_fanfile.specs.FanText.{ContentKind, number_to, Content, the_number, the_rows, IsContentText, kind_in, Named, fan_table, text_read, AreHeld, found, wanted, first_missing, ambient_dim, rays_name, lineality_space, maximal_cones}
 use Rattle.gf_fanfile.specs.Found.{IsRefusedSo}
 use Rattle.gf_fanfile.specs.Contents.{Says, number_kept, rows_kept, cones_kept}
-use Rattle.gf_fanfile.specs.Files.{AreSectionsOf, IsFileOf, IsOutside, AreBelow, IsSound, AreTestsWithin, IsBehind, IsLengthFault, IsFormFault, zero_dimension, at_rays, at_lineality, at_ray, at_number, IsFileRefused, in_text, not_there, in_form, no_memory}
+use Rattle.gf_fanfile.specs.Files.{AreSectionsOf, IsFileOf, IsOutside, AreBelow, IsSoundFile, AreTestsWithin, IsBehind, IsLengthFault, IsFormFault, zero_dimension, at_rays, at_lineality, at_ray, at_number, IsFileRefused, in_text, not_there, in_form, no_memory}
 use Rattle.gf_fanfile.proofs.FanTextLaws.{text_said, text_given, text_fault, text_sound}
 
 -- ---- the ambient dimension is at most 16
 
-dimension_of_content : (k : ContentKind) (ts : List (List ℕ)) (c : Content) (n : ℕ) → k ≡ number_to 16 → c ≡ the_number n → IsContent k ts c → n ≤ 16
+dimension_of_content : (k : ContentKind) (ts : List (List ℕ)) (c : Content) (n : ℕ) → k ≡ number_to 16 → c ≡ the_number n → IsContentText k ts c → n ≤ 16
 dimension_of_content k ts c n is_kind is_number h =
-    let g : IsContent k ts (the_number n) = subst (λ d. IsContent k ts d) is_number h in
+    let g : IsContentText k ts (the_number n) = subst (λ d. IsContentText k ts d) is_number h in
     let same : 16 ≡ g.0 = (let e : number_to 16 ≡ number_to g.0 = sym is_kind ∙ g.1 in cc) in
     let small = le_from n g.0 g.3 in
     omega (arith, same, small)
@@ -148,7 +148,7 @@ behind_in Q xs i x b = (i, b.within, b.here x)
 pub length_sound : (n : ℕ) (rs : List (List ℤ)) (e : FanFileError) → All (λ t. length t ≡ n) rs → IsLengthFault n rs e → ⊥
 length_sound n rs e all h = h.other (behind_holds (λ t. length t ≡ n) (λ t. length t ≡ n) rs h.place h.row h.first all)
 
-form_sound : (f : FanFile) (e : FanFileError) → IsSound f → AreTestsWithin f → IsFormFault f e → ⊥
+form_sound : (f : FanFile) (e : FanFileError) → IsSoundFile f → AreTestsWithin f → IsFormFault f e → ⊥
 form_sound f e s within (zero_dimension z is) = (let p = s.positive in omega (arith, z, p))
 form_sound f e s within (at_rays p h) = length_sound f.ambient f.rays e s.rays h
 form_sound f e s within (at_lineality p r h) = length_sound f.ambient f.lineality e s.lineality h
@@ -166,7 +166,7 @@ form_sound f e s within (at_number p r l o h) =
 pub none_missing : (source : List ℕ) (f : FanFile) (h : IsFileOf source f) → first_missing wanted h.all ≡ None
 none_missing source f h = (let a = h.ambient in let r = h.rays in let l = h.lineality in let m = h.cones in rw (a, r, l, m) refl)
 
-pub refused_sound : (source : List ℕ) (f : FanFile) (e : FanFileError) → IsFileOf source f → IsSound f → AreTestsWithin f → IsFileRefused source e → e ≡ errors.Memory
+pub refused_sound : (source : List ℕ) (f : FanFile) (e : FanFileError) → IsFileOf source f → IsSoundFile f → AreTestsWithin f → IsFileRefused source e → e ≡ errors.Memory
 refused_sound source f e h s within (in_text fault) = absurd (text_sound fan_table source h.all e h.held fault)
 refused_sound source f e h s within (not_there all section held missing is) =
     let same : first_missing wanted all ≡ first_missing wanted h.all = ap (first_missing wanted) (sections_once source all h.all held h.held) in

@@ -9,7 +9,7 @@ use Rattle.gf_text.proofs.SetTokensLaws.{number_no_mark}
 use Rattle.gf_text.proofs.PrintedTokensLaws.{decimal_number, number_word}
 use Rattle.gf_text.proofs.SpelledLaws.{IsSpelled, goes_on, mark_token, spelled-none, spelled-token, spelled-space, spelled-++}
 use Rattle.gf_fanfile.specs.Lines.{all_parted, line_tokens, line_end, section_end, content_tokens}
-use Rattle.gf_fanfile.specs.ConeText.{most_number, AreNumberTexts, IsConeText, AreConeTexts}
+use Rattle.gf_fanfile.specs.ConeText.{most_number, AreNumberTexts, IsConeNumbersText, AreConeTexts}
 use Rattle.gf_fanfile.specs.NumberText.{IsOneNumberText}
 use Rattle.gf_fanfile.specs.FanWords.{spaced_numbers, cone_text}
 use Rattle.gf_fanfile.proofs.WrittenLaws.{no_byte, IsContentLine, AreContentLines, ArePlain, contents}
@@ -102,7 +102,7 @@ number_holds n h end at =
 
 -- the line says this list, wherever it stands
 pub record IsConeLine (l c : List ℕ) : Type 0 where
-  pub said : (at : ℕ) → IsConeText (texts (line_tokens (record { text = l; at = at })) ++ line_end ∷ []) c
+  pub said : (at : ℕ) → IsConeNumbersText (texts (line_tokens (record { text = l; at = at })) ++ line_end ∷ []) c
   pub content : IsContentLine l
   pub plain : no_byte 10 l ≡ true
 
@@ -124,7 +124,7 @@ cone_as_line ns tail h is = record {
   said = λ at. (
       let ts = brace ∷ (words ns ++ brace_end ∷ []) in
       let line = spelled_line (cone_text ns) tail ts is (cone_no 35 ns h refl refl refl refl) (cone_spelled ns is.blank h) (refl, words_clear ns (brace_end ∷ []) h (refl, tt)) at in
-      subst (λ us. IsConeText (us ++ line_end ∷ []) ns) (sym line) ((words ns ++ brace_end ∷ []) ++ line_end ∷ [], refl, numbers_said ns h)
+      subst (λ us. IsConeNumbersText (us ++ line_end ∷ []) ns) (sym line) ((words ns ++ brace_end ∷ []) ++ line_end ∷ [], refl, numbers_said ns h)
       );
   content = record { first = 123; others = (spaced_numbers ns ++ 125 ∷ []) ++ tail; shape = refl; visible = refl; small = refl; bare = refl };
   plain = no_byte-++ 10 (cone_text ns) tail (cone_no 10 ns h refl refl refl refl) is.plain;

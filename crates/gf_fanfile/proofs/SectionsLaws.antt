@@ -10,7 +10,7 @@ use Rattle.gf_fanfile.specs.declared.sections.Contents.{Contents}
 use Rattle.gf_fanfile.specs.Lines.{with_name, sections_from, content_from}
 use Rattle.gf_fanfile.specs.Refused.{refused_at}
 use Rattle.gf_fanfile.specs.FanText.{Content, number_to, rows, cones, the_number, the_rows, the_cones, passed, Named, fan_table, kind_in, content_read, then_content, sections_read, text_read, found, ambient_dim, rays_name, lineality_space, maximal_cones}
-use Rattle.gf_fanfile.specs.Contents.{no_contents, IsKept, at_ambient, at_rays, at_lineality, at_cones, at_other, number_kept, rows_kept, cones_kept, AreKept, Says}
+use Rattle.gf_fanfile.specs.Contents.{no_contents, IsSectionKept, at_ambient, at_rays, at_lineality, at_cones, at_other, number_kept, rows_kept, cones_kept, AreSectionsKept, Says}
 
 abbrev pub names_of : Named → List (List ℕ)
 names_of all = map (λ (h : List ℕ × Content). h.0) all
@@ -36,7 +36,7 @@ found_other : (name : List ℕ) (c : Content) (done : Named) (x : List ℕ) → 
 found_other name c [] x other = ap (λ v. if v then Some c else None) other
 found_other name c (h ∷ done) x other = ap (λ l. if bytes_eq h.0 x then Some h.1 else l) (found_other name c done x other)
 
-module _ (done : Named) (name : List ℕ) (b a : Contents) (kept : AreKept done b) (new : has (names_of done) name ≡ false) where
+module _ (done : Named) (name : List ℕ) (b a : Contents) (kept : AreSectionsKept done b) (new : has (names_of done) name ≡ false) where
   other_at : (x y : List ℕ) (c : Content) → name ≡ y → bytes_eq y x ≡ false → found x (done ++ (name, c) ∷ []) ≡ found x done
   other_at x y c is other = found_other name c done x (ap (λ n. bytes_eq n x) is ∙ other)
 
@@ -47,7 +47,7 @@ module _ (done : Named) (name : List ℕ) (b a : Contents) (kept : AreKept done 
       by true h = (let same = is_mark name x h in let there : bytes_eq x name ≡ true = ap (bytes_eq x) same ∙ ap (λ n. bytes_eq n x) (sym same) ∙ h in cc)
       by false h = refl
 
-  pub kept_more : (read : Result Content FanFileError) → IsKept name b a read → (c : Content) × (read ≡ Ok c) × AreKept (done ++ (name, c) ∷ []) a
+  pub kept_more : (read : Result Content FanFileError) → IsSectionKept name b a read → (c : Content) × (read ≡ Ok c) × AreSectionsKept (done ++ (name, c) ∷ []) a
   kept_more read (at_ambient n is got same) =
       let name_is = sym (is_mark ambient_dim name is) in
       let c = the_number n in (
@@ -133,7 +133,7 @@ pub record IsReadUpTo (source : List ℕ) (at : ℕ) (names : List (List ℕ)) (
   pub done : Named
   pub names_are : names_of done ≡ names
   pub left : text_read fan_table source ≡ all_behind done (sections_read fan_table (length source) names (sections_from source at).all)
-  pub kept : AreKept done c
+  pub kept : AreSectionsKept done c
 
 behind_none : (r : Result Named FanFileError) → r ≡ all_behind [] r
 behind_none (Ok all) = refl
@@ -178,7 +178,7 @@ module _ (source : List ℕ) (at : ℕ) (names : List (List ℕ)) (b : Contents)
     faulty new e is_fault = fresh new ∙ ap (λ c. all_behind r.done (then_content c x.text Later)) is_fault
 
     -- its content is kept
-    pub one_more : has names x.text ≡ false → (a : Contents) → IsKept x.text b a Reading → IsReadUpTo source next (names ++ x.text ∷ []) a
+    pub one_more : has names x.text ≡ false → (a : Contents) → IsSectionKept x.text b a Reading → IsReadUpTo source next (names ++ x.text ∷ []) a
     one_more new a kept =
         let more = kept_more r.done x.text b a r.kept (ap (λ l. has l x.text) r.names_are ∙ new) Reading kept in
         record {

@@ -8,7 +8,7 @@ use Rattle.gf_text.specs.Tokens.{is_space, lex_tokens, word_more}
 use Rattle.gf_text.specs.RingText.{has, is_name}
 use Rattle.gf_text.proofs.SpelledLaws.{word_token}
 use Rattle.gf_fanfile.specs.Lines.{before_line, lines, before_comment, all_parted, line_tokens, is_capital, is_section_name, Sections, with_name, with_line, with_tokens, sections_of, sections, content_tokens, end_before}
-use Rattle.gf_fanfile.specs.FanText.{Content, IsContent, Table, kind_in, Named, AreHeld}
+use Rattle.gf_fanfile.specs.FanText.{Content, IsContentText, Table, kind_in, Named, AreHeld}
 use Rattle.gf_fanfile.specs.FanWords.{TextSection, lines_text, section_text, sections_text}
 use Rattle.gf_fanfile.proofs.LexedLaws.{lex_token}
 
@@ -162,7 +162,7 @@ pub record IsSaid (table : Table) (seen : List (List ℕ)) (w : TextSection) (c 
   pub one_line : no_byte 10 w.name ≡ true
   pub lines : AreContentLines w.lines
   pub plain : ArePlain w.lines
-  pub holds : (end at : ℕ) → IsContent (kind_in table w.name) (texts (content_tokens end (contents at w.lines))) c
+  pub holds : (end at : ℕ) → IsContentText (kind_in table w.name) (texts (content_tokens end (contents at w.lines))) c
 
 abbrev pub AreSaid : Table → List (List ℕ) → List TextSection → Named → Type 0
 AreSaid table seen [] cs = cs ≡ []

@@ -21,13 +21,13 @@ AreNumberTexts ts [] = ts ≡ brace_end ∷ line_end ∷ []
 AreNumberTexts ts (n ∷ ns) = (t : List ℕ) × (rest : List (List ℕ)) × (ts ≡ t ∷ rest) × IsNumberText t n most_number × AreNumberTexts rest ns
 
 -- a list of numbers between braces, up to the end of its line
-abbrev pub IsConeText : List (List ℕ) → List ℕ → Type 0
-IsConeText ts ns = (rest : List (List ℕ)) × (ts ≡ brace ∷ rest) × AreNumberTexts rest ns
+abbrev pub IsConeNumbersText : List (List ℕ) → List ℕ → Type 0
+IsConeNumbersText ts ns = (rest : List (List ℕ)) × (ts ≡ brace ∷ rest) × AreNumberTexts rest ns
 
 -- lists up to the end of their section
 abbrev pub AreConeTexts : List (List ℕ) → List (List ℕ) → Type 0
 AreConeTexts ts [] = ts ≡ section_end ∷ []
-AreConeTexts ts (c ∷ cs) = (first : List (List ℕ)) × (rest : List (List ℕ)) × (ts ≡ first ++ rest) × IsConeText first c × AreConeTexts rest cs
+AreConeTexts ts (c ∷ cs) = (first : List (List ℕ)) × (rest : List (List ℕ)) × (ts ≡ first ++ rest) × IsConeNumbersText first c × AreConeTexts rest cs
 
 -- ---- the machine
 

@@ -8,12 +8,12 @@ abbrev pub no_contents : Contents
 no_contents = record { ambient = None; rays = None; lineality = None; cones = None }
 
 -- behind these contents, that of the section of this name is kept, as it is read
-pub data IsKept (name : List ℕ) (before after : Contents) (read : Result Content FanFileError) : Type 0 where
-  at_ambient : (n : ℕ) → bytes_eq ambient_dim name ≡ true → read ≡ Ok (the_number n) → after ≡ record before { ambient = Some n } → IsKept name before after read
-  at_rays : (rs : List (List ℤ)) → bytes_eq rays_name name ≡ true → read ≡ Ok (the_rows rs) → after ≡ record before { rays = Some rs } → IsKept name before after read
-  at_lineality : (rs : List (List ℤ)) → bytes_eq lineality_space name ≡ true → read ≡ Ok (the_rows rs) → after ≡ record before { lineality = Some rs } → IsKept name before after read
-  at_cones : (cs : List (List ℕ)) → bytes_eq maximal_cones name ≡ true → read ≡ Ok (the_cones cs) → after ≡ record before { cones = Some cs } → IsKept name before after read
-  at_other : bytes_eq ambient_dim name ≡ false → bytes_eq rays_name name ≡ false → bytes_eq lineality_space name ≡ false → bytes_eq maximal_cones name ≡ false → read ≡ Ok passed → after ≡ before → IsKept name before after read
+pub data IsSectionKept (name : List ℕ) (before after : Contents) (read : Result Content FanFileError) : Type 0 where
+  at_ambient : (n : ℕ) → bytes_eq ambient_dim name ≡ true → read ≡ Ok (the_number n) → after ≡ record before { ambient = Some n } → IsSectionKept name before after read
+  at_rays : (rs : List (List ℤ)) → bytes_eq rays_name name ≡ true → read ≡ Ok (the_rows rs) → after ≡ record before { rays = Some rs } → IsSectionKept name before after read
+  at_lineality : (rs : List (List ℤ)) → bytes_eq lineality_space name ≡ true → read ≡ Ok (the_rows rs) → after ≡ record before { lineality = Some rs } → IsSectionKept name before after read
+  at_cones : (cs : List (List ℕ)) → bytes_eq maximal_cones name ≡ true → read ≡ Ok (the_cones cs) → after ≡ record before { cones = Some cs } → IsSectionKept name before after read
+  at_other : bytes_eq ambient_dim name ≡ false → bytes_eq rays_name name ≡ false → bytes_eq lineality_space name ≡ false → bytes_eq maximal_cones name ≡ false → read ≡ Ok passed → after ≡ before → IsSectionKept name before after read
 
 -- what is kept of a number, of rows, of lists
 abbrev pub number_kept : Option ℕ → Option Content
@@ -29,7 +29,7 @@ cones_kept None = None
 cones_kept (Some cs) = Some (the_cones cs)
 
 -- of these sections these contents are kept
-pub record AreKept (all : Named) (c : Contents) : Type 0 where
+pub record AreSectionsKept (all : Named) (c : Contents) : Type 0 where
   pub ambient : found ambient_dim all ≡ number_kept c.ambient
   pub rays : found rays_name all ≡ rows_kept c.rays
   pub lineality : found lineality_space all ≡ rows_kept c.lineality
@@ -39,4 +39,4 @@ pub record AreKept (all : Named) (c : Contents) : Type 0 where
 pub record Says (source : List ℕ) (c : Contents) : Type 0 where
   pub all : Named
   pub read : text_read fan_table source ≡ Ok all
-  pub kept : AreKept all c
+  pub kept : AreSectionsKept all c

@@ -33,11 +33,11 @@ pub data Content : Type 0 where
   passed : Content
 
 -- these tokens are a content of this kind
-abbrev pub IsContent : ContentKind → List (List ℕ) → Content → Type 0
-IsContent k ts (the_number n) = (limit : ℕ) × (k ≡ number_to limit) × IsOneNumberText ts n × (nat_le n limit ≡ true)
-IsContent k ts (the_rows rs) = (k ≡ rows) × AreRowTexts ts rs
-IsContent k ts (the_cones cs) = (k ≡ cones) × AreConeTexts ts cs
-IsContent k ts passed = k ≡ any
+abbrev pub IsContentText : ContentKind → List (List ℕ) → Content → Type 0
+IsContentText k ts (the_number n) = (limit : ℕ) × (k ≡ number_to limit) × IsOneNumberText ts n × (nat_le n limit ≡ true)
+IsContentText k ts (the_rows rs) = (k ≡ rows) × AreRowTexts ts rs
+IsContentText k ts (the_cones cs) = (k ≡ cones) × AreConeTexts ts cs
+IsContentText k ts passed = k ≡ any
 
 -- what was read of a content, in a text of this length
 abbrev pub held : {A : Type 0} → (A → Content) → ℕ → Result (A × ℕ) Fault → Result Content FanFileError
@@ -120,7 +120,7 @@ abbrev pub AreHeld : Table → ℕ → List (List ℕ) → List Section → Name
 AreHeld table length seen [] all = all ≡ []
 AreHeld table length seen (s ∷ ss) [] = ⊥
 AreHeld table length seen (s ∷ ss) (h ∷ hs) = (has seen s.name ≡ false) × (h.0 ≡ s.name)
-    × IsContent (kind_in table s.name) (texts (content_tokens (end_before length ss) s.content)) h.1 × AreHeld table length (seen ++ s.name ∷ []) ss hs
+    × IsContentText (kind_in table s.name) (texts (content_tokens (end_before length ss) s.content)) h.1 × AreHeld table length (seen ++ s.name ∷ []) ss hs
 
 -- ---- the first fault
 
@@ -145,7 +145,7 @@ IsFirstFault table length seen [] e = ⊥
 IsFirstFault table length seen (s ∷ ss) e = let xs = content_tokens (end_before length ss) s.content in
     ((has seen s.name ≡ true) × (e ≡ refused_at s.at causes.RepeatedName))
     ⊎ ((has seen s.name ≡ false) × IsContentFault length (kind_in table s.name) xs e)
-    ⊎ ((has seen s.name ≡ false) × ((c : Content) × IsContent (kind_in table s.name) (texts xs) c) × IsFirstFault table length (seen ++ s.name ∷ []) ss e)
+    ⊎ ((has seen s.name ≡ false) × ((c : Content) × IsContentText (kind_in table s.name) (texts xs) c) × IsFirstFault table length (seen ++ s.name ∷ []) ss e)
 
 -- ---- what is looked for
 

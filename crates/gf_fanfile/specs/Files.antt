@@ -49,7 +49,7 @@ abbrev pub AreBelow : ℕ → List ℕ → Type 0
 AreBelow count numbers = All (λ k. k < count) numbers
 
 -- a file whose cones can be built
-pub record IsSound (f : FanFile) : Type 0 where
+pub record IsSoundFile (f : FanFile) : Type 0 where
   pub positive : 0 < f.ambient
   pub rays : AreRows f.ambient f.rays
   pub lineality : AreRows f.ambient f.lineality

@@ -21,7 +21,7 @@ use Rattle.gf_fan.specs.Refusals.{IsFanRefusal, IsFanWithinLimits}
 use Rattle.gf_fanfile.specs.declared.error.FanFileError.{FanFileError}
 use Rattle.gf_fanfile.specs.declared.error.FanFileError.TheVariants as errors
 use Rattle.gf_fanfile.specs.declared.file.FanFile.{FanFile}
-use Rattle.gf_fanfile.specs.Files.{IsFileOf, IsSound, AreTestsWithin, IsFileRefused}
+use Rattle.gf_fanfile.specs.Files.{IsFileOf, IsSoundFile, AreTestsWithin, IsFileRefused}
 
 -- ---- the fan
 
@@ -50,7 +50,7 @@ pub record IsFanOfFile (f : FanFile) (h : FanLists) : Type 0 where
 pub record IsFanOfText (source : List ℕ) (h : FanLists) : Type 0 where
   pub file : FanFile
   pub is_file : IsFileOf source file
-  pub sound : IsSound file
+  pub sound : IsSoundFile file
   pub of_file : IsFanOfFile file h
 
 -- ---- operations
@@ -98,4 +98,4 @@ pub data IsFanFault (f : FanFile) (e : FanFileError) : Type 0 where
 -- the text is refused so: it says no file whose cones can be built, or they have no fan; or there is no memory
 pub data IsFanFileRefusal (source : List ℕ) (e : FanFileError) : Type 0 where
   before_cones : IsFileRefused source e → IsFanFileRefusal source e
-  behind_form : (f : FanFile) → IsFileOf source f → IsSound f → IsFanFault f e → IsFanFileRefusal source e
+  behind_form : (f : FanFile) → IsFileOf source f → IsSoundFile f → IsFanFault f e → IsFanFileRefusal source e

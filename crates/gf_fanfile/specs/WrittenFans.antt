@@ -8,7 +8,7 @@ use Rattle.gf_rays.specs.Cones.{RowsAndRays, rows_of}
 use Rattle.gf_fan.specs.declared.cones.FanCone.{FanCone}
 use Rattle.gf_fan.specs.FanLists.{FanLists}
 use Rattle.gf_fan.specs.FansOfCones.{IsFanOf}
-use Rattle.gf_fanfile.specs.Files.{IsSound}
+use Rattle.gf_fanfile.specs.Files.{IsSoundFile}
 use Rattle.gf_fanfile.specs.FansAgain.{file_of}
 use Rattle.gf_fanfile.specs.FanTexts.{parts_of_fan}
 use Rattle.gf_fanfile.specs.FilesFans.{AreConesOfFile}
@@ -19,7 +19,7 @@ HaveTheirRays n cones = (c : RowsAndRays) → Contains cones c → IsRays n c.in
 
 -- what is written of a fan is a file whose cones can be built: its rays lie outside its lineality space, and numbers are those of rays
 abbrev pub WrittenFansAreSound : Type 0
-WrittenFansAreSound = (n : ℕ) (given : List RowsAndRays) (f : FanLists) → 0 < n → HaveTheirRays n given → IsFanOf n given f → IsSound (file_of (parts_of_fan f))
+WrittenFansAreSound = (n : ℕ) (given : List RowsAndRays) (f : FanLists) → 0 < n → HaveTheirRays n given → IsFanOf n given f → IsSoundFile (file_of (parts_of_fan f))
 
 -- c is the cone at this place
 pub record IsConeAt (n : ℕ) (cones : List FanCone) (i : ℕ) (c : RowsAndRays) : Type 0 where

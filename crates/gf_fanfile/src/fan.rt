@@ -4,7 +4,7 @@ ghost use Rattle.gf_gordan.specs.Alternative.{AreRows};
 ghost use Rattle.gf_gordan.specs.Steps.{Failed};
 ghost use Rattle.gf_fans.specs.FaceLists.{numbered};
 ghost use Rattle.gf_fanfile.specs.declared.error.FanFileError.TheVariants.{Memory};
-ghost use Rattle.gf_fanfile.specs.Files.{IsFileOf, AreBelow, IsSound, IsOfLimits};
+ghost use Rattle.gf_fanfile.specs.Files.{IsFileOf, AreBelow, IsSoundFile, IsOfLimits};
 ghost use Rattle.gf_fanfile.specs.FilesFans.{IsGeneratedCone, IsConeOfFile, AreConesOfFile, IsFanOfFile, IsFanOfText, IsGeneratingStep, IsConesStep, IsFileWithinLimits, AreFileConesMeeting, IsFanFault, IsFanFileRefusal};
 
 use crate::cones::RayNumbers;
@@ -52,7 +52,7 @@ fn rays_at(alloc: Global, rays: &[IntVec], numbers: &[u64]) -> Result<Vec<IntVec
 
 /// The cone of these numbers of rays of a file.
 fn cone_of(alloc: Global, file: &FanFile, cone: &RayNumbers) -> Result<Rays, GordanError>
-    requires sound { IsSound file.now }
+    requires sound { IsSoundFile file.now }
     requires below { AreBelow (length file.now.rays) cone.now }
     ensures ok { IfOk result (IsConeOfFile file.now cone.now) }
     ensures err { IfErr result (Failed (IsGeneratingStep file.now.ambient (numbered file.now.rays cone.now) file.now.lineality)) }
@@ -63,7 +63,7 @@ fn cone_of(alloc: Global, file: &FanFile, cone: &RayNumbers) -> Result<Rays, Gor
 
 /// The cones of a file.
 fn cones_of(alloc: Global, file: &FanFile) -> Result<Vec<Rays>, GordanError>
-    requires { IsSound file.now }
+    requires { IsSoundFile file.now }
     ensures ok { IfOk result (λ cones. AreConesOfFile file.now cones.items) }
     ensures err { IfErr result (Failed (IsConesStep file.now)) }
 {
@@ -78,7 +78,7 @@ fn cones_of(alloc: Global, file: &FanFile) -> Result<Vec<Rays>, GordanError>
 
 /// The fan of the cones of a file. Cones are counted in 32 bits.
 fn fan_of(alloc: Global, file: &FanFile) -> Result<Fan, FanFileError>
-    requires sound { IsSound file.now }
+    requires sound { IsSoundFile file.now }
     requires ambient { file.now.ambient ≤ 16 }
     ensures ok { IfOk result (IsFanOfFile file.now) }
     ensures err { IfErr result (λ e. IsFanFault file.now e ⊎ (e ≡ Memory)) }
@@ -107,7 +107,7 @@ pub fn read(alloc: Global, source: &[u8]) -> Result<Fan, FanFileError>
     ensures fan { IfOk result (IsFanOfText source.now) }
     ensures ambient { IfOk result (λ h. h.ambient ≤ 16) }
     ensures err { IfErr result (IsFanFileRefusal source.now) }
-    ensures complete { (f : FanFile) → IsFileOf source.now f → IsSound f → IsFileWithinLimits f → AreFileConesMeeting f → MatchResult result (IsFanOfFile f) (λ e. e ≡ Memory) }
+    ensures complete { (f : FanFile) → IsFileOf source.now f → IsSoundFile f → IsFileWithinLimits f → AreFileConesMeeting f → MatchResult result (IsFanOfFile f) (λ e. e ≡ Memory) }
     ensures always { (e : FanFileError) → IsFanFileRefusal source.now e → (IsOfLimits e → ⊥) → MatchResult result (λ _. ⊥) (λ d. (d ≡ e) ⊎ IsOfLimits d) }
 {
     let file = read_file(alloc, source)?;

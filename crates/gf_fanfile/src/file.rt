@@ -5,7 +5,7 @@ ghost use Rattle.gf_gordan.specs.Steps.{Failed};
 ghost use Rattle.gf_duality.specs.Rays.{Generated};
 ghost use Rattle.gf_fanfile.specs.declared.error.FanFileError.TheVariants.{Memory};
 ghost use Rattle.gf_fanfile.specs.Contents.{Says};
-ghost use Rattle.gf_fanfile.specs.Files.{IsFileOf, IsOutside, AreBelow, IsSound, IsRayTestStep, AreTestsWithin, IsBehind, IsLengthFault, IsRayFault, IsNumberFault, IsFormFault, IsFileRefused, IsOfLimits};
+ghost use Rattle.gf_fanfile.specs.Files.{IsFileOf, IsOutside, AreBelow, IsSoundFile, IsRayTestStep, AreTestsWithin, IsBehind, IsLengthFault, IsRayFault, IsNumberFault, IsFormFault, IsFileRefused, IsOfLimits};
 
 use crate::cones::{ConeList, RayNumbers};
 use crate::error::FanFileError;
@@ -164,7 +164,7 @@ fn check_numbers(count: usize, cones: &[RayNumbers]) -> Result<(), FanFileError>
 /// # Errors
 /// Those of its form; want of memory.
 fn check(alloc: Global, file: &FanFile) -> Result<(), FanFileError>
-    ensures { MatchResult result (λ _. IsSound file.now) (λ e. IsFormFault file.now e ⊎ (e ≡ Memory)) }
+    ensures { MatchResult result (λ _. IsSoundFile file.now) (λ e. IsFormFault file.now e ⊎ (e ≡ Memory)) }
 {
     let n = file.ambient;
     if n == 0 {
@@ -199,9 +199,9 @@ fn check(alloc: Global, file: &FanFile) -> Result<(), FanFileError>
 /// `Memory` may come at any time.
 pub fn read_file(alloc: Global, source: &[u8]) -> Result<FanFile, FanFileError>
     ensures file { IfOk result (IsFileOf source.now) }
-    ensures sound { IfOk result IsSound }
+    ensures sound { IfOk result IsSoundFile }
     ensures err { IfErr result (IsFileRefused source.now) }
-    ensures complete { (f : FanFile) → IsFileOf source.now f → IsSound f → AreTestsWithin f → MatchResult result (λ g. g ≡ f) (λ e. e ≡ Memory) }
+    ensures complete { (f : FanFile) → IsFileOf source.now f → IsSoundFile f → AreTestsWithin f → MatchResult result (λ g. g ≡ f) (λ e. e ≡ Memory) }
     ensures always { (e : FanFileError) → IsFileRefused source.now e → (IsOfLimits e → ⊥) → MatchResult result (λ _. ⊥) (λ d. (d ≡ e) ⊎ IsOfLimits d) }
 {
     let file = whole(contents_of(alloc, source)?)?;

@@ -4,7 +4,7 @@ ghost use Rattle.gf_text.specs.Tokens.{lexeme};
 ghost use Rattle.gf_fanfile.specs.Lines.{sections_from, content_from, with_name};
 ghost use Rattle.gf_fanfile.specs.FanText.{content_read, kind_in, fan_table, text_read};
 ghost use Rattle.gf_fanfile.specs.Found.{IsRefusedSo};
-ghost use Rattle.gf_fanfile.specs.Contents.{IsKept, Says, no_contents};
+ghost use Rattle.gf_fanfile.specs.Contents.{IsSectionKept, Says, no_contents};
 
 use crate::cones::{ConeList, cones_from};
 use crate::error::{FanFileError, fault_of};
@@ -62,7 +62,7 @@ fn with_section(
     contents: Contents,
 ) -> Result<Contents, FanFileError>
     requires { from ≤ length source.now }
-    ensures { MatchResult result (λ kept. IsKept name.now contents kept (content_read (length source.now) (kind_in fan_table name.now) (content_from source.now from))) (λ e. IsRefusedSo e (content_read (length source.now) (kind_in fan_table name.now) (content_from source.now from))) }
+    ensures { MatchResult result (λ kept. IsSectionKept name.now contents kept (content_read (length source.now) (kind_in fan_table name.now) (content_from source.now from))) (λ e. IsRefusedSo e (content_read (length source.now) (kind_in fan_table name.now) (content_from source.now from))) }
 {
     let Contents {
         ambient,

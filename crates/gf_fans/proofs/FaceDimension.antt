@@ -11,7 +11,7 @@ use Rattle.gf_duality.specs.Generators.{Made, line, summed, divided, IsDescribed
 use Rattle.gf_duality.specs.Faces.{sum_of}
 use Rattle.gf_fans.specs.Dimension.{HasDimension}
 use Rattle.gf_fans.specs.FaceLists.{IsPartOn}
-use Rattle.gf_fans.specs.Theorems.{IsGreatestPart}
+use Rattle.gf_fans.specs.Laws.{IsGreatestPart}
 use Rattle.gf_duality.proofs.ListLaws.{none_in, in_head, in_tail, in_cons}
 use Rattle.gf_vec.proofs.EntryLaws.{cancel}
 use Rattle.gf_vec.proofs.VectorIdentities.{vv, ◌⊞◌, ◌⊡◌, by, vsame}

@@ -11,12 +11,12 @@ use Rattle.gf_int.proofs.RingLaws.{same, dv, dn, dneg, ◌⊗◌, ◌⊖◌}
 use Rattle.gf_vec.specs.Vector.{dot, vector_sum}
 use Rattle.gf_vec.proofs.VectorLaws.{length-times}
 use Rattle.gf_duality.specs.Generators.{Made, AreValid}
-use Rattle.gf_duality.specs.Stages.{opposite}
+use Rattle.gf_vec.specs.Vector.{opposite}
 use Rattle.gf_duality.specs.Rays.{IsRays, Generated}
 use Rattle.gf_duality.specs.Faces.{Rows, IsInCone, SameCone, part, IsFaceOf, sum_of}
 use Rattle.gf_fans.specs.FaceLists.{IsPartOn, AreZeroRows}
 use Rattle.gf_fans.specs.Fans.{meet, MeetInFaces, MeetPairwise, FacesAreFan}
-use Rattle.gf_fans.specs.Theorems.{HasRays}
+use Rattle.gf_fans.specs.Laws.{HasRays}
 use Rattle.gf_duality.proofs.ListLaws.{none_in, in_head, in_tail, in_cons, all_by, place, less, at, more}
 use Rattle.gf_vec.proofs.VectorIdentities.{vv, ◌⊞◌, ◌⊡◌, by}
 use Rattle.gf_duality.proofs.Made.{Made-dot_zero}

@@ -9,4 +9,4 @@ pub mod SeparatingLaws  -- rows that keep two cones apart
 pub mod Ordered  -- lists that were sorted by a key; ascending numbers
 pub mod PartNumbers  -- faces by the numbers of their rays, and their dimensions
 pub mod HeightLoops  -- loops over parts and numbers, one further
-mod TheoremsHold  -- what functions of this crate name
+mod LawsHold  -- what functions of this crate name

@@ -6,7 +6,7 @@ use Rattle.gf_int.proofs.RingLaws.{same, dn, dneg}
 use Rattle.gf_int.proofs.SignLaws.{sign_of, negative, none, positive}
 use Rattle.gf_vec.specs.Vector.{dot}
 use Rattle.gf_vec.proofs.VectorIdentities.{vv, ◌⊡◌, by}
-use Rattle.gf_duality.specs.Stages.{opposite}
+use Rattle.gf_vec.specs.Vector.{opposite}
 use Rattle.gf_duality.specs.Faces.{Rows, IsInCone}
 use Rattle.gf_duality.proofs.ListLaws.{none_in, in_head, in_tail, in_cons, all_by}
 use Rattle.gf_fans.specs.Fans.{meet}

@@ -14,7 +14,7 @@ use Rattle.gf_duality.proofs.Determined.{described_of, less_never}
 use Rattle.gf_fans.specs.Dimension.{HasDimension}
 use Rattle.gf_fans.specs.FaceLists.{IsPartOn, AreNumbers, IsFaceBy, numbered}
 use Rattle.gf_fans.specs.Heights.{AreParts, IsWithinPart, IsNextBelow, AreHeights}
-use Rattle.gf_fans.specs.Theorems.{IsGreatestPart}
+use Rattle.gf_fans.specs.Laws.{IsGreatestPart}
 use Rattle.gf_fans.proofs.FaceLaws.{face_rays}
 use Rattle.gf_fans.proofs.FaceDimension.{dimension_above, dimension_lineality, part_of_part}
 use Rattle.gf_fans.proofs.Ordered.{by_lengths, within_all, same_numbers, missing}

@@ -3,7 +3,7 @@ use Rattle.std.proofs.Common.{ℕ, Contains}
 use Rattle.std.proofs.lemmas.List.Elements.{All-contains}
 use Rattle.gf_duality.specs.Faces.{Rows, SameCone, part, IsFaceOf}
 use Rattle.gf_fans.specs.Fans.{meet, MeetInFaces}
-use Rattle.gf_fans.specs.Theorems.{HasRays}
+use Rattle.gf_fans.specs.Laws.{HasRays}
 use Rattle.gf_fans.proofs.Meeting.{left_in, right_in}
 use Rattle.gf_fans.proofs.FanLaws.{up_in, both_in, part_in, of_part, part_zero, exposed_face, face_same}
 

@@ -5,7 +5,7 @@ use Rattle.std.proofs.lemmas.List.Elements.{All-contains, Contains-append_left, 
 use Rattle.gf_vec.specs.Vector.{dot}
 use Rattle.gf_vec.proofs.VectorLaws.{dot-times}
 use Rattle.gf_duality.specs.Generators.{Made, ray, line, AreValid}
-use Rattle.gf_duality.specs.Stages.{opposite}
+use Rattle.gf_vec.specs.Vector.{opposite}
 use Rattle.gf_duality.specs.Rays.{IsRays}
 use Rattle.gf_duality.specs.Faces.{Rows, SameCone, IsInCone, part, IsFaceOf}
 use Rattle.gf_duality.proofs.ListLaws.{none_in, in_head, in_tail, in_cons}

@@ -3,4 +3,4 @@ pub mod FaceLists  -- faces of a cone by the lists of their rays
 pub mod Heights  -- all faces by numbers, and their dimensions by what is inside what
 pub mod Fans  -- fans of cones
 pub mod Separating  -- rows that keep two cones apart but for the rays that they share
-pub mod Theorems  -- the theorems that functions of this crate name
+pub mod Laws  -- the theorems that functions of this crate name

@@ -1,10 +1,10 @@
 //! Faces of cones by the lists of their rays, dimensions of faces, and fans. Definitions and laws.
 //!
-//! Read `specs/Lib.antt` for the definitions in order; `specs/Theorems.antt` has the theorems. The functions compute nothing:
+//! Read `specs/Lib.antt` for the definitions in order; `specs/Laws.antt` has the theorems. The functions compute nothing:
 //! each one's contract is a theorem, so that the check proves it.
 #![tactic(auto)]
 
-ghost use Rattle.gf_fans.specs.Theorems.{FacesAreRayLists, FacetsHaveOneLess, FansAreTestedByPairs, FacesAreOfCones, SeparatedConesMeetInFaces};
+ghost use Rattle.gf_fans.specs.Laws.{FacesAreRayLists, FacetsHaveOneLess, FansAreTestedByPairs, FacesAreOfCones, SeparatedConesMeetInFaces};
 
 /// A face of a cone is its list of rays (Ziegler, *Lectures on Polytopes*, 2).
 pub fn faces_are_ray_lists()

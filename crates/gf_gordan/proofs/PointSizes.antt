@@ -5,7 +5,7 @@ use Rattle.std.specs.List.{AllByRecursion}
 use Rattle.std.proofs.Math.Nat.{mul-le-mul, mul-le-mul_left}
 use Rattle.gf_int.specs.Content.{scaled}
 use Rattle.gf_vec.specs.Vector.{dot, vector_sum, entry_at}
-use Rattle.gf_gordan.specs.Elimination.{IsPivot, size_at, lifted, greatest, push_factor, IsPushed}
+use Rattle.gf_gordan.specs.Elimination.{IsPivot, size_at, lifted, greatest_value, push_factor, IsPushed}
 use Rattle.gf_gordan.specs.Recursion.{IsPoint, nothing, kept, pushed}
 use Rattle.gf_gordan.specs.Equations.{IsPointOn}
 use Rattle.gf_gordan.specs.Equations as equations
@@ -63,7 +63,7 @@ lifted_up n b q r j v p l u k =
 
 -- ---- a pushed point
 
-pub greatest_up : (n b : ℕ) (rows : List (List ℤ)) (r : List ℤ) → Sized n b rows → UpTo b r → greatest rows r ≤ n * (b * b)
+pub greatest_up : (n b : ℕ) (rows : List (List ℤ)) (r : List ℤ) → Sized n b rows → UpTo b r → greatest_value rows r ≤ n * (b * b)
 greatest_up n b [] r z u = omega arith
 greatest_up n b (t ∷ ts) r z u =
     let d = dot_up n b b t r (omega (arith, z.widths.0)) z.entries.0 u in

@@ -8,7 +8,7 @@ use Rattle.gf_vec.specs.declared.error.VecOp.TheVariants.{Add, Sub, Mul}
 use Rattle.gf_vec.specs.Vector.{dot, entry_at}
 use Rattle.gf_vec.specs.Steps.{value_of}
 use Rattle.gf_gordan.specs.declared.error.ConeOverflow.{ConeOverflow}
-use Rattle.gf_gordan.specs.Elimination.{IsPivot, row_at, size_at, signed_at, lifted, greatest, push_factor, scale_part, scale_from, scale_of, taken, IsSystemBy, column}
+use Rattle.gf_gordan.specs.Elimination.{IsPivot, row_at, size_at, signed_at, lifted, greatest_value, push_factor, scale_part, scale_from, scale_of, taken, IsSystemBy, column}
 use Rattle.gf_gordan.specs.Steps.{IsWideStep, IsDotStep, IsCrossStep, IsReducing, IsEliminating, IsLifting, IsFactorStep, IsAddingStep, IsPushing, IsScaling, IsTakingOne, IsTaking, IsSumming, IsCarrying}
 use Rattle.gf_gordan.specs.Recursion.{IsRowsStep, earlier, testing, eliminating, below, pushing, carrying}
 use Rattle.gf_gordan.specs.Equations.{IsStepOn}
@@ -85,7 +85,7 @@ no_factor n b row rows r s z u h (inl w) =
     width (t ∷ ts) zero l a = a.0
     width (t ∷ ts) (suc k) l a = width ts k (omega arith) a.1
 no_factor n b row rows r s z u h (inr w) =
-    no_wide row Add (pos 1) (pos (greatest rows r)) s (1 + suc n * (b * b)) (sum_up (pos 1) (pos (greatest rows r)) 1 (suc n * (b * b)) (omega arith) (greatest_up (suc n) b rows r z u)) h w
+    no_wide row Add (pos 1) (pos (greatest_value rows r)) s (1 + suc n * (b * b)) (sum_up (pos 1) (pos (greatest_value rows r)) 1 (suc n * (b * b)) (omega arith) (greatest_up (suc n) b rows r z u)) h w
 
 no_adding : (f l b row : ℕ) (factor : ℤ) (u r : List ℤ) (s : ConeOverflow) → unsigned_abs factor ≤ f → UpTo l u → UpTo b r → f * l + b < 2 ^ 127 → IsAddingStep row factor u r s → ⊥
 no_adding f l b row factor u r s h k m room w = at w.2

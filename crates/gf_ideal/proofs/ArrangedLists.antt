@@ -9,7 +9,7 @@ use Rattle.gf_exponents.proofs.OrderLaws.{lex-strict}
 use Rattle.gf_poly.specs.Marking.{MarkedPolynomial}
 use Rattle.gf_poly.proofs.MonomialLaws.{same_lists}
 use Rattle.gf_poly.proofs.CoefficientLaws.{descending_unique}
-use Rattle.gf_ideal.specs.Bases.{IsTwin, AreSameBasis, IsCanonical, AreAscending, AreArranged}
+use Rattle.gf_ideal.specs.Bases.{IsTwin, AreSameBasis, IsCanonical, HaveAscendingMarks, AreArranged}
 use Rattle.gf_ideal.proofs.ListLaws.{Contains-here, Contains-there, Contains-cases, contained_each}
 
 -- twins as a program keeps them are equal
@@ -27,7 +27,7 @@ never : (x : Exponents) → IsLexBelow x x → ⊥
 never x l = lex-strict.irreflexive x x (same-refl x) l
 
 -- the first of one ascending list is that of the other
-first_equal : (b c : MarkedPolynomial) (bs cs : List MarkedPolynomial) → AreAscending (b ∷ bs) → AreAscending (c ∷ cs) →
+first_equal : (b c : MarkedPolynomial) (bs cs : List MarkedPolynomial) → HaveAscendingMarks (b ∷ bs) → HaveAscendingMarks (c ∷ cs) →
     Contains (c ∷ cs) b → Contains (b ∷ bs) c → b ≡ c
 first_equal b c bs cs h k p q = at (Contains-cases c b cs p) (Contains-cases b c bs q)
   where
@@ -37,7 +37,7 @@ first_equal b c bs cs h k p q = at (Contains-cases c b cs p) (Contains-cases b c
     at (inr s) (inr t) = absurd (never b.head (lex-strict.transitive b.head c.head b.head (contained_each (λ (d : MarkedPolynomial). IsLexBelow b.head d.head) bs h.0 c t) (contained_each (λ (d : MarkedPolynomial). IsLexBelow c.head d.head) cs k.0 b s)))
 
 -- the rest of the one is in the rest of the other
-rest_there : (b c : MarkedPolynomial) (bs cs : List MarkedPolynomial) → AreAscending (b ∷ bs) → b ≡ c →
+rest_there : (b c : MarkedPolynomial) (bs cs : List MarkedPolynomial) → HaveAscendingMarks (b ∷ bs) → b ≡ c →
     HasThese (b ∷ bs) (c ∷ cs) → HasThese bs cs
 rest_there b c bs cs h e t d q = at (Contains-cases c d cs (t d (Contains-there b d bs q)))
   where
@@ -45,7 +45,7 @@ rest_there b c bs cs h e t d q = at (Contains-cases c d cs (t d (Contains-there 
     at (inr k) = k
     at (inl f) = absurd (never b.head (subst (λ (x : MarkedPolynomial). IsLexBelow b.head x.head) (sym (e ∙ f)) (contained_each (λ (x : MarkedPolynomial). IsLexBelow b.head x.head) bs h.0 d q)))
 
-ascending_equal : (bs cs : List MarkedPolynomial) → AreAscending bs → AreAscending cs → HasThese bs cs →
+ascending_equal : (bs cs : List MarkedPolynomial) → HaveAscendingMarks bs → HaveAscendingMarks cs → HasThese bs cs →
     HasThese cs bs → bs ≡ cs
 ascending_equal [] [] h k t u = refl
 ascending_equal [] (c ∷ cs) h k t u = absurd (omega (arith, (u c (Contains-here c cs)).1))

@@ -18,7 +18,7 @@ use Rattle.gf_poly.specs.Marking.{MarkedPolynomial, MarkedPolynomials, Each, Has
 use Rattle.gf_poly.proofs.CoefficientLaws.{term_length, term_nonzero, term_coefficient}
 use Rattle.gf_ideal.specs.Membership.{HasMonomial}
 use Rattle.gf_ideal.specs.Reduction.{IsMonicForm}
-use Rattle.gf_ideal.specs.Bases.{AreApart, IsCanonical, AreAscending, AreArranged}
+use Rattle.gf_ideal.specs.Bases.{AreApart, IsCanonical, HaveAscendingMarks, AreArranged}
 use Rattle.gf_ideal.proofs.ListLaws.{Each-weaker, each_contained, Contains-cases}
 use Rattle.gf_ideal.proofs.ArrangementLaws.{apart-arranged}
 
@@ -53,7 +53,7 @@ monic_form n f g v d q = record { there = λ z. nonzero (sym at_head ∙ z); equ
 
 -- sorted marks of one length that are apart ascend
 ascending_from : (n : ℕ) (bs : List MarkedPolynomial) → Each (λ (b : MarkedPolynomial). length b.head ≡ n) bs →
-    AreApart bs → IsSortedByKey (λ (b : MarkedPolynomial). b.head) lex bs → AreAscending bs
+    AreApart bs → IsSortedByKey (λ (b : MarkedPolynomial). b.head) lex bs → HaveAscendingMarks bs
 ascending_from n [] l a s = tt
 ascending_from n (b ∷ []) l a s = (tt, tt)
 ascending_from n (b ∷ c ∷ cs) l a s = at (ascending_from n (c ∷ cs) l.1 a.1 (λ k d p q. later k d p q))
@@ -73,7 +73,7 @@ ascending_from n (b ∷ c ∷ cs) l a s = at (ascending_from n (c ∷ cs) l.1 a.
         absurd (cc)
     next Greater m f = m
 
-    at : AreAscending (c ∷ cs) → AreAscending (b ∷ c ∷ cs)
+    at : HaveAscendingMarks (c ∷ cs) → HaveAscendingMarks (b ∷ c ∷ cs)
     at r =
         let first = next (lex c.head b.head) (lex-compares c.head b.head (l.1.0 ∙ sym l.0)) (s 0 b (omega arith) (omega arith)) in
         ((first, Each-weaker (λ (d : MarkedPolynomial). IsLexBelow c.head d.head) (λ (d : MarkedPolynomial). IsLexBelow b.head d.head) (λ d m. lex-strict.transitive b.head c.head d.head first m) cs r.0), r)

@@ -31,5 +31,5 @@ pub mod WorkLaws  -- the lists of Buchberger's algorithm
 pub mod NormalFormLaws  -- normal forms by the rule
 pub mod KeptForms  -- what a program keeps, and what the theory speaks of
 pub mod LawsHold  -- the laws of specs/Laws.antt
-pub mod TheoremsHold  -- the theorems of specs/Theorems.antt
+pub mod LawsOfBasesHold  -- the theorems of specs/LawsOfBases.antt
 pub mod SmallBases  -- the zero ideal, ideals with one generator

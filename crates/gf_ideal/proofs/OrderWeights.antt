@@ -6,7 +6,7 @@ use Rattle.std.proofs.Common.{arith, refl, sym, ap, ◌∙◌, inl, inr}
 use Rattle.std.proofs.Math.Nat.{mul-le-mul_left}
 use Rattle.std.proofs.lemmas.Bool.{cases_lt}
 use Rattle.gf_exponents.specs.Exponents.{Exponents, entry, same, plus, degree, weight}
-use Rattle.gf_exponents.specs.Orders.{lighter, Row, is_less, is_alike, IsLexBelow, IsDeglexBelow, IsRevlexBelow, IsWeightedBelow, IsWeightedRevlexBelow, IsFacetBelow}
+use Rattle.gf_exponents.specs.Orders.{lighter, WeightRow, is_less, is_alike, IsLexBelow, IsDeglexBelow, IsRevlexBelow, IsWeightedBelow, IsWeightedRevlexBelow, IsFacetBelow}
 use Rattle.gf_exponents.proofs.ExponentsLaws.{entry-plus, entries_same, same_by_entries}
 use Rattle.gf_exponents.proofs.WeightLaws.{weight-nil, weight-plus, weight-same}
 use Rattle.gf_ideal.specs.Marks.{IsPositive}
@@ -220,7 +220,7 @@ weight-lifted (suc n) c gain v loss x p b =
         omega (arith, eu, el, eg, ap (λ (z : ℕ). c * z) ev, s, ih)
 
 -- the row of a facet, among monomials of one positive weight
-pub facet-weights : (n : ℕ) (v : List ℕ) (r : Row) → IsPositive n v → HasWeightsFor (IsOfGrade n v) (IsFacetBelow r)
+pub facet-weights : (n : ℕ) (v : List ℕ) (r : WeightRow) → IsPositive n v → HasWeightsFor (IsOfGrade n v) (IsFacetBelow r)
 facet-weights n v r p = by_row (IsOfGrade n v) (is_less r) (is_alike r) (λ k. at (box_of r.loss))
   where
     at : {k : ℕ} → ((c : ℕ) × IsShort c r.loss) →
@@ -246,7 +246,7 @@ weight-zeros (a ∷ w) [] h = refl
 weight-zeros (a ∷ w) (b ∷ x) h = omega (arith, ap (λ (z : ℕ). z * b) (h 0), weight-zeros w x (λ i. h (suc i)))
 
 -- a row that takes nothing away is one of weights
-pub facet_gain-weights : (Alike : Exponents → Exponents → Type 0) (r : Row) → HasNoLoss r →
+pub facet_gain-weights : (Alike : Exponents → Exponents → Type 0) (r : WeightRow) → HasNoLoss r →
     HasWeightsFor Alike (IsFacetBelow r)
 facet_gain-weights Alike r h = by_row Alike (is_less r) (is_alike r) (λ k. (r.gain, λ x y p q a. (λ l. omega (arith, l, weight-zeros r.loss x h, weight-zeros r.loss y h), λ e. omega (arith, e, weight-zeros r.loss x h, weight-zeros r.loss y h))))
 

@@ -11,12 +11,12 @@ use Rattle.gf_ideal.specs.Membership.{HasMonomial, IsInVariables, AreInVariables
 use Rattle.gf_ideal.specs.Marks.{IsMarked, AreMarked, IsPositive}
 use Rattle.gf_ideal.specs.Bases.{HasReducedTails, IsReducedBasis}
 use Rattle.gf_ideal.specs.Settled.{ArePairsSettled}
-use Rattle.gf_ideal.specs.Theorems.{SmallIdealsHaveBases}
+use Rattle.gf_ideal.specs.LawsOfBases.{SmallIdealsHaveBases}
 use Rattle.gf_ideal.proofs.ListLaws.{Contains-cases}
 use Rattle.gf_ideal.proofs.MembershipLaws.{spans_of_member}
 use Rattle.gf_ideal.proofs.InterreductionLaws.{reduced_by_weight}
 use Rattle.gf_ideal.proofs.BasisLaws.{basis_of_groebner}
-use Rattle.gf_ideal.proofs.TheoremsHold.{buchbergers_criterion}
+use Rattle.gf_ideal.proofs.LawsOfBasesHold.{buchbergers_criterion}
 
 nothing : {A : Type 0} (x : A) → Contains [] x → ⊥
 nothing x c = absurd (omega (arith, c.1))

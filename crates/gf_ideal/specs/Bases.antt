@@ -103,11 +103,11 @@ pub record IsCanonical (n : ℕ) (b : MarkedPolynomial) : Type 0 where
   pub head : length b.head ≡ n
 
 -- the marks ascend by lex, no two the same
-abbrev pub AreAscending : List MarkedPolynomial → Type 0
-AreAscending [] = Unit {0}
-AreAscending (b ∷ bs) = Each (λ (c : MarkedPolynomial). IsLexBelow b.head c.head) bs × AreAscending bs
+abbrev pub HaveAscendingMarks : List MarkedPolynomial → Type 0
+HaveAscendingMarks [] = Unit {0}
+HaveAscendingMarks (b ∷ bs) = Each (λ (c : MarkedPolynomial). IsLexBelow b.head c.head) bs × HaveAscendingMarks bs
 
 -- each member is kept so, and the marks ascend
 pub record AreArranged (n : ℕ) (bs : List MarkedPolynomial) : Type 0 where
   pub canonical : (b : MarkedPolynomial) → Contains bs b → IsCanonical n b
-  pub ascending : AreAscending bs
+  pub ascending : HaveAscendingMarks bs

@@ -10,4 +10,4 @@ pub mod Settled  -- when a pair is settled
 pub mod NormalForms  -- the normal form by a rule without choice
 pub mod WorkLists  -- the lists of Buchberger's algorithm
 pub mod Laws  -- the laws of ideals, steps and marks that functions of this crate name
-pub mod Theorems  -- the theorems on Gröbner bases that functions of this crate name
+pub mod LawsOfBases  -- the theorems on Gröbner bases that functions of this crate name

@@ -5,7 +5,7 @@
 -- Gröbner Bases and Convex Polytopes, 1 (weights in place of orders).
 use Rattle.std.specs.Prelude.{◌≡◌, ◌⊎◌, ℕ, ◌≤◌, List}
 use Rattle.gf_exponents.specs.Exponents.{Exponents, entry, weight}
-use Rattle.gf_exponents.specs.Orders.{Row, lighter}
+use Rattle.gf_exponents.specs.Orders.{WeightRow, lighter}
 pub use Rattle.gf_exponents.specs.SixOrders.{MonomialOrder, below_of}
 use Rattle.gf_poly.specs.Polynomial.{Terms}
 use Rattle.gf_poly.specs.Marking.{Each}
@@ -21,7 +21,7 @@ abbrev pub IsHomogeneous : ℕ → List ℕ → Terms → Type 0
 IsHomogeneous n grade f = (x y : Exponents) → HasMonomial f x → HasMonomial f y → IsOfGrade n grade x y
 
 -- the row takes nothing away: the order by it is a weighted one
-abbrev pub HasNoLoss : Row → Type 0
+abbrev pub HasNoLoss : WeightRow → Type 0
 HasNoLoss r = (i : ℕ) → entry r.loss i ≡ 0
 
 -- the order is good on polynomials of n variables that are homogeneous by the grade

@@ -1,11 +1,11 @@
 //! Ideals of polynomials over the rational numbers, reduction, Gröbner bases: definitions and laws.
 //!
 //! Start at `specs/Membership.antt` and read on as `specs/Lib.antt` lists the files; `specs/Laws.antt` and
-//! `specs/Theorems.antt` have the theorems.
+//! `specs/LawsOfBases.antt` have the theorems.
 //! The functions compute nothing: each one's contract is a theorem, so that the check proves it.
 #![tactic(auto)]
 
-ghost use Rattle.gf_ideal.specs.Theorems.{BuchbergersCriterion, PairsAreSettled, BasesGoByTheirMarks, MembershipIsDecided, NormalFormsAreUnique, BasesMayBeInterreduced, BasesMayBeArranged, ReducedBasesAreUnique, RunsEndWithABasis, SmallIdealsHaveBases};
+ghost use Rattle.gf_ideal.specs.LawsOfBases.{BuchbergersCriterion, PairsAreSettled, BasesGoByTheirMarks, MembershipIsDecided, NormalFormsAreUnique, BasesMayBeInterreduced, BasesMayBeArranged, ReducedBasesAreUnique, RunsEndWithABasis, SmallIdealsHaveBases};
 ghost use Rattle.gf_ideal.specs.OrderTable.{OrderTable, MultiplesAreHomogeneous};
 ghost use Rattle.gf_ideal.specs.Laws.{MembersAreSpanned, IdealsAreClosed, StepsKeepTheIdeal, GeneratorsMayBeExchanged, StepsLeaveLessWork, OrdersAreWeights, MarksHaveWeights};
 

@@ -9,4 +9,4 @@ pub mod LiftedLaws  -- lifts are a basis on the other side
 pub mod FlipLaws  -- neighbours: one at most, and what lifts lead to
 pub mod NeighbourLaws  -- a neighbour exists across each flippable facet
 pub mod CrossingLaws  -- leading monomials on both sides of a facet
-pub mod TheoremsHold  -- the theorems of specs/Theorems.antt
+pub mod LawsHold  -- the theorems of specs/Laws.antt

@@ -11,7 +11,7 @@ use Rattle.gf_poly.specs.Marking.{MarkedPolynomial, polys}
 use Rattle.gf_ideal.specs.Membership.{AreInVariables}
 use Rattle.gf_ideal.specs.Marks.{AreMarked, IsPositive}
 use Rattle.gf_ideal.specs.MonomialOrders.{MonomialOrder, below_of}
-use Rattle.gf_ideal.specs.Theorems.{AreHomogeneous}
+use Rattle.gf_ideal.specs.LawsOfBases.{AreHomogeneous}
 use Rattle.gf_ideal.specs.Bases.{IsBasis, IsReducedBasisFor}
 use Rattle.gf_ideal.proofs.MembershipLaws.{variables_of_member}
 use Rattle.gf_ideal.proofs.InterreductionLaws.{reduced_by_order}

@@ -1,10 +1,10 @@
 //! Initial forms of Gröbner bases, the two sides of a facet, and what a flip leads to: definitions and laws.
 //!
-//! Start at `specs/Parts.antt`; `specs/Theorems.antt` has the theorems. The functions compute nothing: each one's contract
+//! Start at `specs/Parts.antt`; `specs/Laws.antt` has the theorems. The functions compute nothing: each one's contract
 //! is a theorem, so that the check proves it.
 #![tactic(auto)]
 
-ghost use Rattle.gf_initial.specs.Theorems.{InitialFormsOfBases, PartsAreInitialForms, MonomialIdealsAreOfBases, NeighboursExist, NeighboursAreUnique, NeighboursHaveParts, FlipsGiveNeighbours};
+ghost use Rattle.gf_initial.specs.Laws.{InitialFormsOfBases, PartsAreInitialForms, MonomialIdealsAreOfBases, NeighboursExist, NeighboursAreUnique, NeighboursHaveParts, FlipsGiveNeighbours};
 
 /// In the closed cone of a marked reduced Gröbner basis the initial forms of its members are the marked reduced basis of
 /// the initial ideal (Sturmfels, *Gröbner Bases and Convex Polytopes*, 1 and 2).

@@ -10,4 +10,4 @@ pub mod PatternFanLaws  -- lists of cones for prevarieties and Minkowski fans
 pub mod CoverLaws  -- lists of cones with the same faces
 pub mod PointLaws  -- the points of a polynomial
 pub mod FormLaws  -- patterns and initial forms
-mod TheoremsHold  -- what functions of this crate name
+mod LawsHold  -- what functions of this crate name

@@ -3,4 +3,4 @@ pub mod Interiors  -- relative interiors, told without rows
 pub mod Patterns  -- the terms of greatest weight, and the closed cones of vectors with them
 pub mod PatternRows  -- the cones of one or two exponents by rows
 pub mod PatternFans  -- lists of cones whose faces are a prevariety or a Minkowski fan
-pub mod Theorems  -- the theorems that functions of this crate name
+pub mod Laws  -- the theorems that functions of this crate name

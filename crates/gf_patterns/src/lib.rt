@@ -1,11 +1,11 @@
 //! Common refinements of fans, and the cones of patterns of polynomials: hypersurfaces, prevarieties, Minkowski fans.
 //! Definitions and laws.
 //!
-//! Read `specs/Lib.antt` for the definitions in order; `specs/Theorems.antt` has the theorems. The functions compute nothing:
+//! Read `specs/Lib.antt` for the definitions in order; `specs/Laws.antt` has the theorems. The functions compute nothing:
 //! each one's contract is a theorem, so that the check proves it.
 #![tactic(auto)]
 
-ghost use Rattle.gf_patterns.specs.Theorems.{MeetsAreRefinements, ConesHaveInteriors, FacesAreOfCones, MaximalConesSuffice, PatternsAreOfInitialForms, PatternsHaveCones, PatternsAreRefined, VectorsAreInOneCone};
+ghost use Rattle.gf_patterns.specs.Laws.{MeetsAreRefinements, ConesHaveInteriors, FacesAreOfCones, MaximalConesSuffice, PatternsAreOfInitialForms, PatternsHaveCones, PatternsAreRefined, VectorsAreInOneCone};
 
 use gf_gordan::gordans_alternative;
 

@@ -12,7 +12,7 @@ use Rattle.gf_ideal.specs.Bases.{IsBasis}
 use Rattle.gf_ideal.specs.NormalForms.{IsNormalForm}
 use Rattle.gf_ideal.proofs.ListedTerms.{variables_by_terms}
 use Rattle.gf_ideal.proofs.NormalFormLaws.{normal_form-reached}
-use Rattle.gf_ideal.proofs.TheoremsHold.{membership_is_decided}
+use Rattle.gf_ideal.proofs.LawsOfBasesHold.{membership_is_decided}
 use Rattle.gf_division.specs.NormalForms.{HasSomeWeight}
 use Rattle.gf_reduced.specs.Forms.{monic_of, monic_set}
 use Rattle.gf_reduced.specs.Markings.{IsMarkedGroebnerBasis, IsBasisOf, IsReducedBasisOf}

@@ -18,13 +18,13 @@ use Rattle.gf_ideal.specs.Marks.{AreMarked, IsRealisable}
 use Rattle.gf_ideal.specs.Settled.{IsAt, IsSettledPair, ArePairsSettled}
 use Rattle.gf_ideal.proofs.CriteriaLaws.{pair_by_steps, pair_by_product, pair_by_chain, pair_turned}
 use Rattle.gf_ideal.proofs.NormalFormLaws.{normal_form-reached}
-use Rattle.gf_ideal.proofs.TheoremsHold.{buchbergers_criterion}
+use Rattle.gf_ideal.proofs.LawsOfBasesHold.{buchbergers_criterion}
 use Rattle.gf_division.proofs.ReducerLaws.{members_equal, member_contained, member_length}
 use Rattle.gf_division.proofs.SPolynomialLaws.{join_length}
 use Rattle.gf_reduced.specs.Forms.{monic_of}
 use Rattle.gf_reduced.specs.Markings.{IsMarkedGroebnerBasis}
 use Rattle.gf_reduced.specs.Pairs.{IsRemainderAt, Vanishes}
-use Rattle.gf_reduced.specs.Criteria.{IsDividedBefore, IsExcused, IsPassed, ArePassedFrom, AreAllPassed, HasFailing}
+use Rattle.gf_reduced.specs.Criteria.{IsDividedBefore, IsPairExcused, IsPassed, ArePassedFrom, AreAllPassed, HasFailing}
 use Rattle.gf_reduced.proofs.FormLaws.{forms-variables, forms_marked_by}
 use Rattle.gf_reduced.proofs.GroebnerLaws.{polys_variables, s_at, groebner_of_forms}
 
@@ -46,10 +46,10 @@ coprime_by_test x y u a v m r p q j k e t i =
 
 -- ---- one pair
 
-pub excused_coprime : (bs : List MarkedPolynomial) (i j : ℕ) (b c : MarkedPolynomial) (x y : Exponents) → IsAt bs i b → IsAt bs j c → x ≡ b.head → y ≡ c.head → AreCoprime x y → IsExcused bs i j
+pub excused_coprime : (bs : List MarkedPolynomial) (i j : ℕ) (b c : MarkedPolynomial) (x y : Exponents) → IsAt bs i b → IsAt bs j c → x ≡ b.head → y ≡ c.head → AreCoprime x y → IsPairExcused bs i j
 excused_coprime bs i j b c x y p q e f k = record { first = b; second = c; at_first = p; at_second = q; criterion = inl (subst (λ (z : Exponents). AreCoprime z c.head) e (subst (AreCoprime x) f k)) }
 
-pub excused_divided : (bs : List MarkedPolynomial) (i j : ℕ) (b c : MarkedPolynomial) (x y m : Exponents) → IsAt bs i b → IsAt bs j c → x ≡ b.head → y ≡ c.head → m ≡ join x y → IsDividedBefore bs i m → IsExcused bs i j
+pub excused_divided : (bs : List MarkedPolynomial) (i j : ℕ) (b c : MarkedPolynomial) (x y m : Exponents) → IsAt bs i b → IsAt bs j c → x ≡ b.head → y ≡ c.head → m ≡ join x y → IsDividedBefore bs i m → IsPairExcused bs i j
 excused_divided bs i j b c x y m p q e f g d = record { first = b; second = c; at_first = p; at_second = q; criterion = inr (subst (IsDividedBefore bs i) (g ∙ ap (λ (z : Exponents). join z y) e ∙ ap (join b.head) f) d) }
 
 pub divided_before : (bs : List MarkedPolynomial) (i k : ℕ) (b : MarkedPolynomial) (h x : Exponents) → IsAt bs k b → k < i → h ≡ b.head → Divides h x → IsDividedBefore bs i x
@@ -102,7 +102,7 @@ module _ (n : ℕ) (w : List ℕ) (bs : List MarkedPolynomial) (v : AreInVariabl
   by_steps i j z b c p q = pair_by_steps n bs (lighter w) b c z.s [] v (lighter-strict w) m (member_contained bs i b p) (member_contained bs j c q) (s_at bs i j b c [] z p q) (normal_form-reached bs z.s [] z.normal_form.reached) (inl (λ x. refl))
 
   -- a pair that a criterion settles, where those of earlier members are settled
-  by_criterion : (i j : ℕ) → i < j → ((k l : ℕ) → k < i → k < l → Settled k l) → IsExcused bs i j → Settled i j
+  by_criterion : (i j : ℕ) → i < j → ((k l : ℕ) → k < i → k < l → Settled k l) → IsPairExcused bs i j → Settled i j
   unfolding Settled
   by_criterion i j l earlier e b c p q = subst (λ (x : MarkedPolynomial). IsSettledPair n bs (lighter w) x c) (members_equal bs i e.first b e.at_first p) (subst (λ (y : MarkedPolynomial). IsSettledPair n bs (lighter w) e.first y) (members_equal bs j e.second c e.at_second q) (at e.criterion))
     where

@@ -13,7 +13,7 @@ use Rattle.gf_ideal.specs.Marks.{IsRealisable}
 use Rattle.gf_ideal.specs.Reduction.{IsDivisible, IsSPolynomial}
 use Rattle.gf_ideal.specs.Bases.{IsBasis, IsGroebnerBasis}
 use Rattle.gf_ideal.specs.Settled.{IsAt}
-use Rattle.gf_ideal.specs.Theorems.{DoPairsReduceToZero}
+use Rattle.gf_ideal.specs.LawsOfBases.{DoPairsReduceToZero}
 use Rattle.gf_ideal.proofs.MembershipLaws.{member-generator, same_ideal}
 use Rattle.gf_ideal.proofs.PieceLaws.{Contains-polys, Contains-marked}
 use Rattle.gf_ideal.proofs.ListLaws.{contained_each}
@@ -24,7 +24,7 @@ use Rattle.gf_ideal.proofs.MarkWeights.{mark-there}
 use Rattle.gf_ideal.proofs.BasisLaws.{remainder_zero, basis_of_groebner, basis_along}
 use Rattle.gf_ideal.proofs.ArrangementLaws.{basis-arranged}
 use Rattle.gf_ideal.proofs.NormalFormLaws.{normal_form-reached}
-use Rattle.gf_ideal.proofs.TheoremsHold.{buchbergers_criterion}
+use Rattle.gf_ideal.proofs.LawsOfBasesHold.{buchbergers_criterion}
 use Rattle.gf_division.specs.NormalForms.{HasSomeWeight}
 use Rattle.gf_division.proofs.ReducerLaws.{members_equal, member_contained}
 use Rattle.gf_reduced.specs.Forms.{monic_of, monic_set}

@@ -19,12 +19,12 @@ use Rattle.gf_reduced.specs.Forms.{monic_of, IsFormRefusal}
 use Rattle.gf_reduced.specs.Markings.{IsMarkingStep, IsMarkedGroebnerBasis}
 use Rattle.gf_reduced.specs.Terms.{printed_monomials, IsOffending, NoneOffends, IsFirstOffending, AreReduced}
 use Rattle.gf_exponents.specs.Exponents.{Exponents}
-use Rattle.gf_reduced.specs.Refusals.{of_gordan, of_poly, IsPairsRefusal, IsPairsFault, IsTermsFault, IsWeightRefusal, IsTestCause, IsTestRefusal, IsRequireCause, IsPairedRefusal, IsBasisRefusal, IsReducedRefusal, IsSystemWithinLimits, AreChecksWithinLimits, IsReductionWithinLimits}
+use Rattle.gf_reduced.specs.Refusals.{check_of_gordan, of_poly, IsPairsRefusal, IsPairsFault, IsTermsFault, IsSetWeightRefusal, IsTestCause, IsTestRefusal, IsRequireCause, IsPairedRefusal, IsReducedBasisRefusal, IsReducedRefusal, IsSystemWithinLimits, AreChecksWithinLimits, IsReductionWithinLimits}
 use Rattle.gf_reduced.proofs.GroebnerLaws.{failing_refutes}
 
 -- ---- the test
 
-pub step_tested : (s : MarkedPolynomials) (e : GordanError) → Failed (IsMarkingStep s.variables s.items) e → IsTestRefusal s (of_gordan e)
+pub step_tested : (s : MarkedPolynomials) (e : GordanError) → Failed (IsMarkingStep s.variables s.items) e → IsTestRefusal s (check_of_gordan e)
 step_tested s (gordan_errors.Cone o) h = h
 step_tested s gordan_errors.Memory h = tt
 
@@ -52,7 +52,7 @@ form_required P k s (errors.Overflow o) h = IsRequireCause.monic h
 form_required P k s (errors.Exponent o) h = IsRequireCause.monic h
 form_required P k s errors.Memory h = tt
 
-pub weight_required : (P : Type 0) (k : ℕ) (s : MarkedPolynomials) (e : CheckError) → IsWeightRefusal k s e → IsPairedRefusal P k s e
+pub weight_required : (P : Type 0) (k : ℕ) (s : MarkedPolynomials) (e : CheckError) → IsSetWeightRefusal k s e → IsPairedRefusal P k s e
 weight_required P k s (check_errors.Overflow o) h = elim h [ ]
 weight_required P k s (check_errors.Exponent o) h = elim h [ ]
 weight_required P k s (check_errors.NotReduced set i x) h = elim h [ ]
@@ -98,7 +98,7 @@ terms_required k s items e q r h = at e (subst (λ (bs : List MarkedPolynomial).
 
 -- ---- within limits
 
-pub weight_memory : (k : ℕ) (s : MarkedPolynomials) (e : CheckError) → IsRealisable s.variables s.items → IsSystemWithinLimits s → IsWeightRefusal k s e → e ≡ check_errors.Memory
+pub weight_memory : (k : ℕ) (s : MarkedPolynomials) (e : CheckError) → IsRealisable s.variables s.items → IsSystemWithinLimits s → IsSetWeightRefusal k s e → e ≡ check_errors.Memory
 weight_memory k s (check_errors.Overflow o) r w h = elim h [ ]
 weight_memory k s (check_errors.Exponent o) r w h = elim h [ ]
 weight_memory k s (check_errors.NotReduced set i x) r w h = elim h [ ]
@@ -107,7 +107,7 @@ weight_memory k s (check_errors.Inconsistent set ms) r w h = absurd (h.1.none r)
 weight_memory k s (check_errors.Cone o) r w h = absurd (w o h)
 weight_memory k s check_errors.Memory r w h = refl
 
-pub weight_only_memory : {A : Type 0} (k : ℕ) (s : MarkedPolynomials) (t : Result A CheckError) → IfErr t (IsWeightRefusal k s) → IsRealisable s.variables s.items → IsSystemWithinLimits s → IfErr t (λ e. e ≡ check_errors.Memory)
+pub weight_only_memory : {A : Type 0} (k : ℕ) (s : MarkedPolynomials) (t : Result A CheckError) → IfErr t (IsSetWeightRefusal k s) → IsRealisable s.variables s.items → IsSystemWithinLimits s → IfErr t (λ e. e ≡ check_errors.Memory)
 weight_only_memory k s (Ok a) h r w = h
 weight_only_memory k s (Err e) h r w = weight_memory k s e r w h
 
@@ -161,7 +161,7 @@ reduced_memory k s (check_errors.Inconsistent set ms) v w g a h = paired_memory 
 reduced_memory k s (check_errors.Cone o) v w g a h = paired_memory (AreReduced s.items) k s (check_errors.Cone o) v w g h
 reduced_memory k s check_errors.Memory v w g a h = refl
 
-pub basis_only_memory : {A : Type 0} (k : ℕ) (s : MarkedPolynomials) (t : Result A CheckError) → HaveVariables s.variables s.items → IfErr t (IsBasisRefusal k s) → AreChecksWithinLimits s → IsMarkedGroebnerBasis s.variables s.items → IfErr t (λ e. e ≡ check_errors.Memory)
+pub basis_only_memory : {A : Type 0} (k : ℕ) (s : MarkedPolynomials) (t : Result A CheckError) → HaveVariables s.variables s.items → IfErr t (IsReducedBasisRefusal k s) → AreChecksWithinLimits s → IsMarkedGroebnerBasis s.variables s.items → IfErr t (λ e. e ≡ check_errors.Memory)
 basis_only_memory k s (Ok a) v h w g = h
 basis_only_memory k s (Err e) v h w g = paired_memory (Unit {0}) k s e v w g h
 

@@ -19,7 +19,7 @@ use Rattle.gf_facets.specs.Regions.{all_positive, IsInRegion}
 use Rattle.gf_facets.specs.Facets.{IsInOpenCone}
 use Rattle.gf_facets.proofs.SystemLaws.{canonical_all, inside_of_solution, marked_system_wide, solvable_of_realisable, realisable_of_solution}
 use Rattle.gf_reduced.specs.Markings.{GivesMarks, IsInconsistent, IsWeightAnswer, IsMarkingStep}
-use Rattle.gf_reduced.specs.Refusals.{of_gordan, IsWeightRefusal}
+use Rattle.gf_reduced.specs.Refusals.{check_of_gordan, IsSetWeightRefusal}
 
 pub rows_for : (n k : ℕ) (bs : List MarkedPolynomial) (rows : List (List ℤ)) → k ≡ n → HaveVariables n bs → Each HasMarkedTerm bs → rows ≡ system_of n bs → AreRows k rows
 rows_for n k bs rows q v m e = subst (λ (j : ℕ). AreRows j rows) (sym q) (subst (AreRows n) (sym e) (marked_system_wide n bs v m))
@@ -56,7 +56,7 @@ system_refused n k bs rows Memory e q h = tt
 
 -- ---- as a refusal of the checks
 
-pub step_refused : (k : ℕ) (s : MarkedPolynomials) (e : GordanError) → Failed (IsMarkingStep s.variables s.items) e → IsWeightRefusal k s (of_gordan e)
+pub step_refused : (k : ℕ) (s : MarkedPolynomials) (e : GordanError) → Failed (IsMarkingStep s.variables s.items) e → IsSetWeightRefusal k s (check_of_gordan e)
 step_refused k s (Cone o) h = h
 step_refused k s Memory h = tt
 

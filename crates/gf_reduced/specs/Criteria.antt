@@ -17,7 +17,7 @@ pub record IsDividedBefore (bs : List MarkedPolynomial) (i : ℕ) (x : Exponents
   pub divides : Divides member.head x
 
 -- the marks of the members at i and j are coprime, or the mark of a member before i divides the least common multiple of theirs
-pub record IsExcused (bs : List MarkedPolynomial) (i j : ℕ) : Type 0 where
+pub record IsPairExcused (bs : List MarkedPolynomial) (i j : ℕ) : Type 0 where
   pub first : MarkedPolynomial
   pub second : MarkedPolynomial
   pub at_first : IsAt bs i first
@@ -26,7 +26,7 @@ pub record IsExcused (bs : List MarkedPolynomial) (i j : ℕ) : Type 0 where
 
 -- the pair is so, or its S-polynomial has the normal form zero
 abbrev pub IsPassed : List MarkedPolynomial → ℕ → ℕ → Type 0
-IsPassed bs i j = IsExcused bs i j ⊎ Vanishes bs i j
+IsPassed bs i j = IsPairExcused bs i j ⊎ Vanishes bs i j
 
 -- so is that of the member at i with each later one
 abbrev pub ArePassedFrom : List MarkedPolynomial → ℕ → Type 0

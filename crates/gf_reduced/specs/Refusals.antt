@@ -20,9 +20,9 @@ use Rattle.gf_reduced.specs.Pairs.{IsFirstFailing}
 
 -- ---- refusals of other crates
 
-abbrev pub of_gordan : GordanError → CheckError
-of_gordan (gordan_errors.Cone o) = check_errors.Cone o
-of_gordan gordan_errors.Memory = check_errors.Memory
+abbrev pub check_of_gordan : GordanError → CheckError
+check_of_gordan (gordan_errors.Cone o) = check_errors.Cone o
+check_of_gordan gordan_errors.Memory = check_errors.Memory
 
 abbrev pub of_poly : PolyError → CheckError
 of_poly (errors.Overflow o) = check_errors.Overflow o
@@ -59,11 +59,11 @@ IsTermsFault k bs _ = ⊥
 -- ---- the calls; the set has the number k
 
 -- no positive weight gives the marking, or a step of the elimination leaves its range
-abbrev pub IsWeightRefusal : ℕ → MarkedPolynomials → CheckError → Type 0
-IsWeightRefusal k s (check_errors.Inconsistent set ms) = (set ≡ k) × IsInconsistent s.variables s.items ms
-IsWeightRefusal k s (check_errors.Cone o) = IsMarkingStep s.variables s.items o
-IsWeightRefusal k s check_errors.Memory = Unit {0}
-IsWeightRefusal k s _ = ⊥
+abbrev pub IsSetWeightRefusal : ℕ → MarkedPolynomials → CheckError → Type 0
+IsSetWeightRefusal k s (check_errors.Inconsistent set ms) = (set ≡ k) × IsInconsistent s.variables s.items ms
+IsSetWeightRefusal k s (check_errors.Cone o) = IsMarkingStep s.variables s.items o
+IsSetWeightRefusal k s check_errors.Memory = Unit {0}
+IsSetWeightRefusal k s _ = ⊥
 
 -- why a set isn't tested: at a step of the elimination; or, where a positive weight gives the marking, at a member that isn't made
 -- monic, or at a pair of the monic ones
@@ -95,8 +95,8 @@ IsPairedRefusal P k s (check_errors.Cone o) = IsMarkingStep s.variables s.items 
 IsPairedRefusal P k s check_errors.Memory = Unit {0}
 
 -- why a set isn't taken as a basis
-abbrev pub IsBasisRefusal : ℕ → MarkedPolynomials → CheckError → Type 0
-IsBasisRefusal k s e = IsPairedRefusal (Unit {0}) k s e
+abbrev pub IsReducedBasisRefusal : ℕ → MarkedPolynomials → CheckError → Type 0
+IsReducedBasisRefusal k s e = IsPairedRefusal (Unit {0}) k s e
 
 -- why it isn't taken as a reduced basis: the same with the terms tested before the pairs; or a positive weight gives the marking, and
 -- a term offends, the first of these

@@ -6,7 +6,7 @@ ghost use Rattle.gf_reduced.specs.Forms.{monic_set};
 ghost use Rattle.gf_reduced.specs.Markings.{IsMarkedGroebnerBasis, IsBasisOf, IsReducedBasisOf};
 ghost use Rattle.gf_reduced.specs.Pairs.{MembersShareVariables, DoAllVanish};
 ghost use Rattle.gf_reduced.specs.Terms.{AreReduced};
-ghost use Rattle.gf_reduced.specs.Refusals.{IsTestRefusal, IsBasisRefusal, IsReducedRefusal, IsPairsFault, IsTermsFault, AreChecksWithinLimits};
+ghost use Rattle.gf_reduced.specs.Refusals.{IsTestRefusal, IsReducedBasisRefusal, IsReducedRefusal, IsPairsFault, IsTermsFault, AreChecksWithinLimits};
 ghost use Rattle.gf_reduced.specs.declared.error.CheckError.TheVariants.{Memory};
 
 use crate::criteria::are_all_passed;
@@ -100,7 +100,7 @@ pub fn require_basis(alloc: Global, marked: &MarkedSet, set: u32) -> Result<Mark
     requires { length marked.now.items < 2 ^ 32 }
     ensures value { IfOk result (IsArranged (monic_set marked.now)) }
     ensures basis { IfOk result (IsBasisOf marked.now) }
-    ensures err { IfErr result (IsBasisRefusal set marked.now) }
+    ensures err { IfErr result (IsReducedBasisRefusal set marked.now) }
     ensures complete { AreChecksWithinLimits marked.now
         → IsMarkedGroebnerBasis marked.now.variables marked.now.items → IfErr result (λ e. e ≡ Memory) }
 {

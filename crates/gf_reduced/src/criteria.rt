@@ -4,7 +4,7 @@ ghost use Rattle.gf_exponents.specs.Exponents.{AreCoprime};
 ghost use Rattle.gf_poly.specs.Marking.{HaveVariables};
 ghost use Rattle.gf_division.specs.NormalForms.{HasSomeWeight};
 ghost use Rattle.gf_reduced.specs.Pairs.{MembersShareVariables};
-ghost use Rattle.gf_reduced.specs.Criteria.{IsDividedBefore, IsExcused, IsPassed, HasFailing, ArePassedFrom, AreAllPassed};
+ghost use Rattle.gf_reduced.specs.Criteria.{IsDividedBefore, IsPairExcused, IsPassed, HasFailing, ArePassedFrom, AreAllPassed};
 ghost use Rattle.gf_reduced.specs.Refusals.{IsPairsRefusal};
 
 use crate::pairs::remainder_at;
@@ -42,7 +42,7 @@ fn is_excused(by: &[Marked], i: usize, j: usize) -> bool
     requires variables { MembersShareVariables by.now }
     requires first { i < length by.now }
     requires second { j < length by.now }
-    ensures { IsTrue result → IsExcused by.now i j }
+    ensures { IsTrue result → IsPairExcused by.now i j }
 {
     let b = &by[i];
     let c = &by[j];

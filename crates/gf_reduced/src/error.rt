@@ -56,9 +56,9 @@ impl<T: Drop> From<AllocFailed<T>> for CheckError {
 }
 
 impl From<GordanError> for CheckError {
-    ghost use Rattle.gf_reduced.specs.Refusals.{of_gordan};
+    ghost use Rattle.gf_reduced.specs.Refusals.{check_of_gordan};
 
-    ghost from_gives = { λ e r. r ≡ of_gordan e };
+    ghost from_gives = { λ e r. r ≡ check_of_gordan e };
 
     fn from(error: GordanError) -> CheckError {
         match error {

@@ -5,7 +5,7 @@ ghost use Rattle.gf_poly.specs.Marking.{Each, HasMarkedTerm};
 ghost use Rattle.gf_ideal.specs.Marks.{IsRealisable};
 ghost use Rattle.gf_facets.specs.Systems.{system_of};
 ghost use Rattle.gf_reduced.specs.Markings.{GivesMarks, IsWeightAnswer, IsMarkingStep};
-ghost use Rattle.gf_reduced.specs.Refusals.{IsWeightRefusal, IsSystemWithinLimits};
+ghost use Rattle.gf_reduced.specs.Refusals.{IsSetWeightRefusal, IsSystemWithinLimits};
 ghost use Rattle.gf_reduced.specs.declared.error.CheckError.TheVariants.{Memory};
 
 use crate::error::CheckError;
@@ -68,7 +68,7 @@ pub(crate) fn has_weight(alloc: Global, marked: &MarkedSet) -> Result<bool, Gord
 pub fn positive(alloc: Global, marked: &MarkedSet, set: u32) -> Result<IntVec, CheckError>
     ensures ok { IfOk result (GivesMarks marked.now.variables marked.now.items) }
     ensures realisable { IfOk result (λ _. IsRealisable marked.now.variables marked.now.items) }
-    ensures err { IfErr result (IsWeightRefusal set marked.now) }
+    ensures err { IfErr result (IsSetWeightRefusal set marked.now) }
     ensures complete { IsRealisable marked.now.variables marked.now.items
         → IsSystemWithinLimits marked.now → IfErr result (λ e. e ≡ Memory) }
 {

@@ -22,7 +22,7 @@ use Rattle.gf_facets.specs.MarkedBases.{AreCanonical, IsBasisInRegion}
 use Rattle.gf_reverse.specs.LeadingNumber.{leading_number}
 use Rattle.gf_reverse.specs.Heights.{above_terms, above_members, above_bases}
 use Rattle.gf_facets.specs.Regions.{Region}
-use Rattle.gf_reverse.specs.Upward.{IsRootWeight, LeadsUp, Fan, IsFan, IsNodeIn, IsParentIn}
+use Rattle.gf_reverse.specs.Upward.{IsRootWeight, LeadsUp, Fan, IsFanOfIdeal, IsNodeIn, IsParentIn}
 use Rattle.gf_reverse.proofs.LeadingNumberLaws.{leading_number_falls}
 use Rattle.gf_reverse.proofs.RootLaws.{one_root}
 use Rattle.gf_reverse.proofs.UpwardLaws.{parent_nodes, same_list}
@@ -33,8 +33,8 @@ use Rattle.gf_facets.specs.LexPositive.{IsNegative}
 use Rattle.gf_facets.specs.Neighbours.{AreAdjacent}
 use Rattle.gf_facets.proofs.NormalLaws.{normal-length, normal-nonzero}
 use Rattle.gf_facets.proofs.NormalListLaws.{NormalsListed, normals_listed}
-use Rattle.gf_all_bases.specs.AllBases.{all_bases, number_of_bases}
-use Rattle.gf_all_bases.proofs.AllBasesLaws.{listed_in}
+use Rattle.gf_reverse.specs.AllBases.{all_bases, number_of_bases}
+use Rattle.gf_reverse.proofs.AllBasesLaws.{listed_in}
 use Rattle.gf_reverse.proofs.RootwardLaws.{AreSignable, NearRoot, near_root, negative_at, normal-signable, root_weight}
 
 -- ---- heights
@@ -190,9 +190,9 @@ mapped_node F [] v j = elim j [ ]
 mapped_node F (x ∷ xs) v (inl e) = (ap (λ (z : MarkedPolynomials). z.variables) (sym e), inl (ap (λ (z : MarkedPolynomials). z.items) e))
 mapped_node F (x ∷ xs) v (inr j) = let r = mapped_node F xs v j in (r.0, inr r.1)
 
-pub listed_basis : (F : Fan) (bs : List MarkedPolynomial) → IsFan F → Among (bases_of F) bs → IsBasisInRegion F.variables F.ideal F.region bs
+pub listed_basis : (F : Fan) (bs : List MarkedPolynomial) → IsFanOfIdeal F → Among (bases_of F) bs → IsBasisInRegion F.variables F.ideal F.region bs
 listed_basis F bs f j = (listed_in F.variables F.region F.ideal bs f.ideal f.region.widths).0 (of_among (bases_of F) bs j)
 
-pub listed_node : (F : Fan) → IsFan F → (v : MarkedPolynomials) → Among (node_list F) v → IsNodeIn F v
+pub listed_node : (F : Fan) → IsFanOfIdeal F → (v : MarkedPolynomials) → Among (node_list F) v → IsNodeIn F v
 unfolding node_list
 listed_node F fan v j = let m = mapped_node F (bases_of F) v j in record { fan = fan; variables = m.0; basis = listed_basis F v.items fan m.1 }

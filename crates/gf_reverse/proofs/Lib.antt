@@ -1,3 +1,4 @@
+pub mod AllBasesLaws  -- the list of all bases holds exactly them
 pub mod StepsLaws  -- monomials a multiple of a vector apart
 pub mod CrossingLaws  -- what enters and what leaves where a facet is crossed
 pub mod NumberLaws  -- binary numbers that fall
@@ -13,4 +14,4 @@ pub mod ChildLaws  -- which neighbours are children
 pub mod ListLaws  -- paths, and the list of all bases
 pub mod LeftLaws  -- what a walker has left, by whole paths
 pub mod StartLaws  -- a reduced basis for an order is a node
-pub mod TheoremsHold  -- the theorems of specs/Theorems.antt
+pub mod LawsHold  -- the theorems of specs/Laws.antt

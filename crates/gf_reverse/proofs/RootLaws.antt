@@ -13,7 +13,7 @@ use Rattle.gf_ideal.specs.Membership.{HasMonomial, AreInVariables}
 use Rattle.gf_ideal.specs.Marks.{AreMarked}
 use Rattle.gf_ideal.specs.MonomialOrders.{MonomialOrder}
 use Rattle.gf_ideal.specs.Bases.{IsReducedBasisFor}
-use Rattle.gf_ideal.proofs.TheoremsHold.{bases_may_be_interreduced, reduced_bases_are_unique}
+use Rattle.gf_ideal.proofs.LawsOfBasesHold.{bases_may_be_interreduced, reduced_bases_are_unique}
 use Rattle.gf_facets.specs.Rows.{IsNormal}
 use Rattle.gf_facets.specs.LexPositive.{IsLexPositive, rooted}
 use Rattle.gf_facets.specs.Regions.{Region}

@@ -15,7 +15,7 @@ use Rattle.gf_reverse.specs.Heights.{above_bases}
 use Rattle.gf_facets.specs.Regions.{Region, IsRegion, IsInRegion}
 use Rattle.gf_facets.specs.MarkedBases.{IsBasisInRegion}
 use Rattle.gf_facets.specs.LexPositive.{IsBefore}
-use Rattle.gf_reverse.specs.Upward.{IsWayUp, Fan, IsFan, IsNodeIn, IsParentIn, fan_of, IsNode, IsParent}
+use Rattle.gf_reverse.specs.Upward.{IsWayUp, Fan, IsFanOfIdeal, IsNodeIn, IsParentIn, fan_of, IsNode, IsParent}
 use Rattle.gf_bases.proofs.LawsHold.{only_ideals_count}
 use Rattle.gf_facets.proofs.VectorOrder.{before_strict}
 use Rattle.gf_reverse.proofs.UpwardLaws.{parents_tree, parent_nodes}
@@ -27,8 +27,8 @@ pub record SameFan (F G : Fan) : Type 0 where
   pub region : F.region ≡ G.region
   pub ideal : AreSameIdeal G.variables F.ideal G.ideal
   pub back : AreSameIdeal G.variables G.ideal F.ideal
-  pub fan : IsFan F
-  pub other : IsFan G
+  pub fan : IsFanOfIdeal F
+  pub other : IsFanOfIdeal G
 
 -- a basis in one is a basis in the other
 basis_moved : (F G : Fan) (bs : List MarkedPolynomial) → SameFan F G → IsBasisInRegion F.variables F.ideal F.region bs → IsBasisInRegion G.variables G.ideal G.region bs
@@ -47,7 +47,7 @@ parent_moved F G v c u s p = subst (λ k. IsParentIn (record { variables = G.var
 
     onto : (n : ℕ) → n ≡ G.variables → n ≡ F.variables → IsParentIn (record { variables = G.variables; ideal = G.ideal; region = F.region }) v c u
     onto n e f = record {
-      fan = subst (λ k. IsFan (record { variables = G.variables; ideal = G.ideal; region = k })) (sym s.region) s.other;
+      fan = subst (λ k. IsFanOfIdeal (record { variables = G.variables; ideal = G.ideal; region = k })) (sym s.region) s.other;
       child = p.child ∙ s.variables;
       parent = p.parent ∙ s.variables;
       normal = p.normal;

@@ -43,19 +43,19 @@ pub record Fan : Type 0 where
   pub region : Region
 
 -- its generators are in its variables, and its region has its root
-pub record IsFan (F : Fan) : Type 0 where
+pub record IsFanOfIdeal (F : Fan) : Type 0 where
   pub ideal : AreInVariables F.variables F.ideal
   pub region : IsRegion F.variables F.region
 
 -- v is a basis of the ideal in the region
 pub record IsNodeIn (F : Fan) (v : MarkedPolynomials) : Type 0 where
-  pub fan : IsFan F
+  pub fan : IsFanOfIdeal F
   pub variables : v.variables ≡ F.variables
   pub basis : IsBasisInRegion F.variables F.ideal F.region v.items
 
 -- u is across the way up from v, and c leads back
 pub record IsParentIn (F : Fan) (v : MarkedPolynomials) (c : List ℤ) (u : MarkedPolynomials) : Type 0 where
-  pub fan : IsFan F
+  pub fan : IsFanOfIdeal F
   pub child : v.variables ≡ F.variables
   pub parent : u.variables ≡ F.variables
   pub normal : List ℤ

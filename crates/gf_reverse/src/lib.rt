@@ -1,10 +1,21 @@
 //! Reverse search over the marked reduced Gröbner bases of an ideal in a region: definitions and laws.
 //!
-//! Start at `specs/Upward.antt`; `specs/Theorems.antt` has the theorems. The functions compute nothing: each one's contract
+//! Start at `specs/Upward.antt`; `specs/Laws.antt` has the theorems. The functions compute nothing: each one's contract
 //! is a theorem, so that the check proves it.
 #![tactic(auto)]
 
-ghost use Rattle.gf_reverse.specs.Theorems.{NegativeNormalsCanBeCrossed, RootHasNoWayUp, CrossingsFall, NoCycles, BasesMakeATree, TheTreeIsFinite, BasesHavePaths, WhatIsLeft};
+ghost use Rattle.gf_reverse.specs.Laws.{BasesAreListed, WeightsAreListed, NegativeNormalsCanBeCrossed, RootHasNoWayUp, CrossingsFall, NoCycles, BasesMakeATree, TheTreeIsFinite, BasesHavePaths, WhatIsLeft};
+
+/// The list of all bases holds exactly the marked reduced Gröbner bases of the ideal in the region (Mora, Robbiano 1988).
+pub fn bases_are_listed()
+    ensures { BasesAreListed }
+{}
+
+/// Each vector of the region lies in the closed cone of a listed basis; where monomials generate the initial ideal, one of
+/// them is the reduced one for the vector.
+pub fn weights_are_listed()
+    ensures { WeightsAreListed }
+{}
 
 /// A basis of a region with a normal that is negative at a root weight has a flippable one (Fukuda, Jensen, Thomas, *Computing
 /// Gröbner fans*, 3). The weight's entries are at least 0.

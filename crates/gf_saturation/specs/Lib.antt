@@ -1,2 +1,2 @@
 pub mod Saturations  -- saturations, Rabinowitsch's trick, elimination of the last variable, polynomials of one term
-pub mod Theorems  -- the theorems that functions of this crate name
+pub mod Laws  -- the theorems that functions of this crate name

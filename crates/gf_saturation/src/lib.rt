@@ -1,11 +1,11 @@
 //! Saturations of ideals by monomials and by the product of the variables, and how Gröbner bases in one more variable give them:
 //! definitions and laws.
 //!
-//! Start at `specs/Saturations.antt`; `specs/Theorems.antt` has the theorems. The functions compute nothing: each one's contract
+//! Start at `specs/Saturations.antt`; `specs/Laws.antt` has the theorems. The functions compute nothing: each one's contract
 //! is a theorem, so that the check proves it.
 #![tactic(auto)]
 
-ghost use Rattle.gf_saturation.specs.Theorems.{SaturationsAreEliminations, SaturationsCompose, VariablesOneByOne, BasesEliminate, SaturationsAreWorkedOut, MonomialsAreTold};
+ghost use Rattle.gf_saturation.specs.Laws.{SaturationsAreEliminations, SaturationsCompose, VariablesOneByOne, BasesEliminate, SaturationsAreWorkedOut, MonomialsAreTold};
 
 /// Rabinowitsch's trick for any monomial u: with `u*t - 1` and one more variable t among the generators, what the ideal has
 /// without t is the saturation by u (Cox, Little, O'Shea, *Ideals, Varieties, and Algorithms*, 4.4).

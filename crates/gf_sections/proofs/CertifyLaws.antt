@@ -20,7 +20,7 @@ use Rattle.gf_duality.proofs.ListLaws.{all_by}
 use Rattle.gf_sections.specs.ConeRows.{AreAscending}
 use Rattle.gf_sections.specs.Flagged.{AreFlagsOf, flagged}
 use Rattle.gf_sections.specs.Errors.{of_system, of_sum}
-use Rattle.gf_sections.specs.Certificates.{IsTold, AreRowsWith, IsRedundant, AreVanishing, IsCombinationOf, IsZeroCombination, value_columns}
+use Rattle.gf_sections.specs.Certificates.{AreRowsTold, AreRowsWith, IsRedundant, AreVanishing, IsCombinationOf, IsZeroCombination, value_columns}
 use Rattle.gf_sections.specs.ConeText.{AreCertificates, IsCertificateCause, IsCombiningStep, IsWitnessStep, combining, vanishing, IsSectionsCause, finding, certifying, AreSections, certificate_sections}
 use Rattle.gf_sections.specs.SectionText.{cone_sections}
 use Rattle.gf_sections.specs.declared.certificates.Certificates.{Certificates}
@@ -38,7 +38,7 @@ pub record IsKnownCone (n : ℕ) (rows lin rays facets implied : List (List ℤ)
   pub are_implied : IsImplied n rows [] implied
   pub ascending : AreAscending rows
 
-pub told_of : (n : ℕ) (rows lin rays facets implied : List (List ℤ)) → IsKnownCone n rows lin rays facets implied → IsTold n rows facets implied
+pub told_of : (n : ℕ) (rows lin rays facets implied : List (List ℤ)) → IsKnownCone n rows lin rays facets implied → AreRowsTold n rows facets implied
 told_of n rows lin rays facets implied k = record { rows_width = k.width; lineality = lin; rays = rays; are_rays = k.are_rays; are_facets = k.are_facets; are_implied = k.are_implied }
 
 -- ---- flags as the functions give them, by what their arguments are
@@ -61,8 +61,8 @@ vanishing_with n rows lin rays facets implied zero_rows k z = record { rows_widt
 pub vanishing_read : (n m : ℕ) (rows read zero_rows given : List (List ℤ)) → m ≡ n → read ≡ rows → given ≡ zero_rows → AreVanishing n rows zero_rows → AreVanishing m read given
 vanishing_read n m rows read zero_rows given em er eg v = subst (λ (k : ℕ). AreVanishing k read given) (sym em) (subst (λ (l : List (List ℤ)). AreVanishing n l given) (sym er) (subst (AreVanishing n rows) (sym eg) v))
 
-pub told_read : (n m : ℕ) (rows facets implied read : List (List ℤ)) → m ≡ n → read ≡ implied → IsTold n rows facets implied → IsTold m rows facets read
-told_read n m rows facets implied read em er t = subst (λ (k : ℕ). IsTold k rows facets read) (sym em) (subst (IsTold n rows facets) (sym er) t)
+pub told_read : (n m : ℕ) (rows facets implied read : List (List ℤ)) → m ≡ n → read ≡ implied → AreRowsTold n rows facets implied → AreRowsTold m rows facets read
+told_read n m rows facets implied read em er t = subst (λ (k : ℕ). AreRowsTold k rows facets read) (sym em) (subst (AreRowsTold n rows facets) (sym er) t)
 
 pub combinations_read : (n m : ℕ) (facets implied read redundant given out : List (List ℤ)) → m ≡ n → read ≡ implied → given ≡ redundant → AllZip (IsCombinationOf m facets read) given out → AllZip (IsCombinationOf n facets implied) redundant out
 combinations_read n m facets implied read redundant given out em er eg a = subst (λ (k : ℕ). AllZip (IsCombinationOf k facets implied) redundant out) em (subst (λ (l : List (List ℤ)). AllZip (IsCombinationOf m facets l) redundant out) er (subst (λ (l : List (List ℤ)). AllZip (IsCombinationOf m facets read) l out) eg a))

@@ -13,7 +13,7 @@ use Rattle.gf_duality.specs.Stages.{IsRaysStep}
 use Rattle.gf_rays.specs.Parts.{zeros_of}
 use Rattle.gf_rays.specs.Sums.{adding_steps}
 use Rattle.gf_sections.specs.ConeRows.{AreConeRows, given_rows}
-use Rattle.gf_sections.specs.Certificates.{IsTold, IsInsideFacet, IsRedundant, AreRowsWith, IsCombinationOf, IsZeroCombination, value_columns}
+use Rattle.gf_sections.specs.Certificates.{AreRowsTold, IsInsideRowFacet, IsRedundant, AreRowsWith, IsCombinationOf, IsZeroCombination, value_columns}
 use Rattle.gf_sections.specs.SectionText.{rows_section, cone_sections}
 use Rattle.gf_sections.specs.declared.certificates.Certificates.{Certificates}
 use Rattle.gf_sections.specs.declared.error.SectionsError.{SectionsError}
@@ -24,7 +24,7 @@ use Rattle.gf_sections.specs.declared.error.SectionsError.TheVariants as errors
 -- v is the sum of the rays of the facet of f, which lies on it and inside all else
 pub record IsFacetSum (n : ℕ) (rows rays : List (List ℤ)) (f v : List ℤ) : Type 0 where
   pub value : v ≡ sum_of n (zeros_of f rays)
-  pub inside_facet : IsInsideFacet n rows f v
+  pub inside_facet : IsInsideRowFacet n rows f v
 
 -- a sum for each facet; the redundant rows, and a combination for each; the rows that are zero on the whole cone, and one for each
 pub record AreCertificates (n : ℕ) (rows rays facets implied : List (List ℤ)) (c : Certificates) : Type 0 where
@@ -55,7 +55,7 @@ IsCertificateText true n rows rays facets implied text = (c : Certificates) × A
 pub record AreSections (n : ℕ) (certified : Bool) (rows : List (List ℤ)) (text : List ℕ) : Type 0 where
   pub facets : List (List ℤ)
   pub implied : List (List ℤ)
-  pub told : IsTold n rows facets implied
+  pub told : AreRowsTold n rows facets implied
   pub dim : ℕ
   pub dimension : dim + length implied ≡ n
   pub more : List ℕ
@@ -93,7 +93,7 @@ IsCertificateCause n rows rays facets implied errors.Memory = Unit {0}
 -- an operation of finding the rays of the cone of these rows, or where certificates are asked for one of these
 pub data IsSectionsCause (n : ℕ) (certified : Bool) (rows : List (List ℤ)) (e : SectionsError) : Type 0 where
   finding : (s : ConeOverflow) → IsRaysStep n rows [] s → e ≡ errors.Cone s → IsSectionsCause n certified rows e
-  certifying : (facets implied : List (List ℤ)) (told : IsTold n rows facets implied) → certified ≡ true → IsCertificateCause n rows told.rays facets implied e → IsSectionsCause n certified rows e
+  certifying : (facets implied : List (List ℤ)) (told : AreRowsTold n rows facets implied) → certified ≡ true → IsCertificateCause n rows told.rays facets implied e → IsSectionsCause n certified rows e
   no_memory : e ≡ errors.Memory → IsSectionsCause n certified rows e
 
 -- the same of the rows of the cone of inequalities and equations

@@ -13,7 +13,7 @@ use Rattle.gf_poly.specs.Marking.{MarkedPolynomial, MarkedPolynomials}
 use Rattle.gf_poly.proofs.CollectLaws.{nonempty_by_test}
 use Rattle.gf_small.specs.declared.counts.Counts.{Counts}
 use Rattle.gf_small.specs.Degrees.{greatest}
-use Rattle.gf_small.specs.Counts.{least, degree_of_set, terms_in, AreCounts}
+use Rattle.gf_small.specs.Counts.{least, degree_of_set, terms_in, AreSetCounts}
 
 greatest-push : (ks : List ℕ) (k : ℕ) → greatest (ks ++ k ∷ []) ≡ max (greatest ks) k
 greatest-push [] k = omega arith
@@ -69,7 +69,7 @@ terms-more bs sum next i b l e few q h = record {
 
 -- those of the first i sets
 abbrev pub CountsSoFar : List MarkedPolynomials → Counts → ℕ → Type 0
-CountsSoFar sets c i = AreCounts (take i sets) c
+CountsSoFar sets c i = AreSetCounts (take i sets) c
 
 pub counts-none : (sets : List MarkedPolynomials) (c : Counts) → c ≡ record { max_degree = 0; min_degree = 0; max_polynomials = 0; max_terms = 0 } → CountsSoFar sets c 0
 counts-none sets c e = subst (λ (d : Counts). CountsSoFar sets d 0) (sym e) (record { max_degree = refl; min_degree = refl; max_polynomials = refl; max_terms = refl })
@@ -87,8 +87,8 @@ counts-more sets c d i s first l e f g m p t h = record {
     by true q r = least-first degree_of_set sets i s d.min_degree (eq_by i 0 (sym q)) l e r
     by false q r = least-more degree_of_set sets i s c.min_degree d.min_degree (nonempty_by_test i q) l e r h.min_degree
 
-pub counts-all : (sets : List MarkedPolynomials) (c : Counts) (i : ℕ) → length sets ≤ i → CountsSoFar sets c i → AreCounts sets c
-counts-all sets c i l h = subst (λ (z : List MarkedPolynomials). AreCounts z c) (take_all i sets l) h
+pub counts-all : (sets : List MarkedPolynomials) (c : Counts) (i : ℕ) → length sets ≤ i → CountsSoFar sets c i → AreSetCounts sets c
+counts-all sets c i l h = subst (λ (z : List MarkedPolynomials). AreSetCounts z c) (take_all i sets l) h
 
 -- the greater of two numbers, as `max` answers it, and the smaller
 pub ord_max-is : (a b : ℕ) → ord_max nat_cmp a b ≡ max a b

@@ -15,16 +15,16 @@ use Rattle.gf_poly.proofs.CoefficientLaws.{term_length}
 use Rattle.gf_ideal.proofs.ListLaws.{Each-++}
 use Rattle.gf_gordan.specs.Alternative.{AreRows}
 use Rattle.gf_duality.specs.Rays.{IsLineal, IsRays}
-use Rattle.gf_facets.specs.Rows.{rows_of, rows_of_terms, differences}
+use Rattle.gf_facets.specs.Rows.{rows_of_polynomials, rows_of_terms, differences}
 use Rattle.gf_facets.proofs.RowLaws.{same_or_other, row-in, row-from, IsTermRow, length-differences, dot-differences}
-use Rattle.gf_small.specs.HomogeneitySpace.{IsInSpace, IsBasisOfSpace, HasDimension}
+use Rattle.gf_small.specs.HomogeneitySpace.{IsInSpace, IsBasisOfSpace, HasSpaceDimension}
 use Rattle.gf_small.specs.Statistics.{members_of}
 
 -- ---- the rows of lists
 
-rows_of-++ : (bs cs : List MarkedPolynomial) → rows_of (bs ++ cs) ≡ rows_of bs ++ rows_of cs
+rows_of-++ : (bs cs : List MarkedPolynomial) → rows_of_polynomials (bs ++ cs) ≡ rows_of_polynomials bs ++ rows_of_polynomials cs
 rows_of-++ [] cs = refl
-rows_of-++ (b ∷ bs) cs = ap (λ z. rows_of_terms b.head b.poly ++ z) (rows_of-++ bs cs) ∙ sym (append_assoc (rows_of_terms b.head b.poly) (rows_of bs) (rows_of cs))
+rows_of-++ (b ∷ bs) cs = ap (λ z. rows_of_terms b.head b.poly ++ z) (rows_of-++ bs cs) ∙ sym (append_assoc (rows_of_terms b.head b.poly) (rows_of_polynomials bs) (rows_of_polynomials cs))
 
 members_of-push : (sets : List MarkedPolynomials) (s : MarkedPolynomials) → members_of (sets ++ s ∷ []) ≡ members_of sets ++ s.items
 members_of-push [] s = append-nil s.items
@@ -32,7 +32,7 @@ members_of-push (t ∷ sets) s = ap (λ z. t.items ++ z) (members_of-push sets s
 
 -- the rows of the first i sets
 pub record RowsSoFar (n : ℕ) (sets : List MarkedPolynomials) (rows : List (List ℤ)) (i : ℕ) : Type 0 where
-  pub items : rows ≡ rows_of (members_of (take i sets))
+  pub items : rows ≡ rows_of_polynomials (members_of (take i sets))
   pub marked : Each HasMarkedTerm (members_of (take i sets))
   pub variables : HaveVariables n (members_of (take i sets))
 
@@ -43,11 +43,11 @@ next_members : (sets : List MarkedPolynomials) (i : ℕ) (s : MarkedPolynomials)
 next_members sets i s l e = ap members_of (take_more sets i s l ∙ ap (λ (z : MarkedPolynomials). take i sets ++ z ∷ []) (sym e)) ∙ members_of-push (take i sets) s
 
 pub rows-more : (n : ℕ) (sets : List MarkedPolynomials) (rows next : List (List ℤ)) (i : ℕ) (s : MarkedPolynomials) → i < length sets → s ≡ get_or sets i s → s.variables ≡ n →
-    Each HasMarkedTerm s.items → HaveVariables s.variables s.items → next ≡ rows ++ rows_of s.items → RowsSoFar n sets rows i → RowsSoFar n sets next (i + 1)
+    Each HasMarkedTerm s.items → HaveVariables s.variables s.items → next ≡ rows ++ rows_of_polynomials s.items → RowsSoFar n sets rows i → RowsSoFar n sets next (i + 1)
 rows-more n sets rows next i s l e q m v r h =
     let more = next_members sets i s l e in
     record {
-      items = r ∙ ap (λ (z : List (List ℤ)). z ++ rows_of s.items) h.items ∙ sym (rows_of-++ (members_of (take i sets)) s.items) ∙ ap rows_of (sym more);
+      items = r ∙ ap (λ (z : List (List ℤ)). z ++ rows_of_polynomials s.items) h.items ∙ sym (rows_of-++ (members_of (take i sets)) s.items) ∙ ap rows_of_polynomials (sym more);
       marked = subst (Each HasMarkedTerm) (sym more) (Each-++ HasMarkedTerm (members_of (take i sets)) s.items h.marked m);
       variables = subst (HaveVariables n) (sym more) (Each-++ (λ (b : MarkedPolynomial). HasVariables n b.poly) (members_of (take i sets)) s.items h.variables (subst (λ (k : ℕ). HaveVariables k s.items) q v));
     }
@@ -61,7 +61,7 @@ each_member P (d ∷ bs) b h (suc k, l, e) = each_member P bs b h.1 (k, omega ar
 
 -- ---- the space
 
-flat_on : (n : ℕ) (w : List ℤ) (bs : List MarkedPolynomial) → HaveVariables n bs → Each HasMarkedTerm bs → IsInSpace w bs → (r : List ℤ) → Contains (rows_of bs) r → dot r w ≡ pos 0
+flat_on : (n : ℕ) (w : List ℤ) (bs : List MarkedPolynomial) → HaveVariables n bs → Each HasMarkedTerm bs → IsInSpace w bs → (r : List ℤ) → Contains (rows_of_polynomials bs) r → dot r w ≡ pos 0
 flat_on n w bs v m h r c = at (row-from bs r c)
   where
     at : ((b : MarkedPolynomial) × Contains bs b × IsTermRow b.head b.poly r) → dot r w ≡ pos 0
@@ -73,7 +73,7 @@ flat_on n w bs v m h r c = at (row-from bs r c)
         let lengths : length b.head ≡ length q.2.term.mono = term_length n b.poly top variables marked.term ∙ sym (term_length n b.poly q.2.term variables q.2.inside) in
         ap (λ (z : List ℤ). dot z w) q.2.row ∙ dot-differences w b.head q.2.term.mono lengths ∙ omega (arith, ints, h b q.1 top q.2.term marked.term q.2.inside)
 
-level : (n : ℕ) (w : List ℤ) (bs : List MarkedPolynomial) → HaveVariables n bs → Each HasMarkedTerm bs → All (λ e. dot e w ≡ pos 0) (rows_of bs) → (b : MarkedPolynomial) → Contains bs b → (t : Term) → Contains b.poly t → whole_weight w t.mono ≡ whole_weight w b.head
+level : (n : ℕ) (w : List ℤ) (bs : List MarkedPolynomial) → HaveVariables n bs → Each HasMarkedTerm bs → All (λ e. dot e w ≡ pos 0) (rows_of_polynomials bs) → (b : MarkedPolynomial) → Contains bs b → (t : Term) → Contains b.poly t → whole_weight w t.mono ≡ whole_weight w b.head
 level n w bs v m h b c t k = at (same_or_other b.head t.mono)
   where
     variables : HasVariables n b.poly
@@ -86,19 +86,19 @@ level n w bs v m h b c t k = at (same_or_other b.head t.mono)
     at (inl s) = sym (whole_weight-same w b.head t.mono s)
     at (inr d) =
         let lengths : length b.head ≡ length t.mono = term_length n b.poly (record { coef = marked.mark; mono = b.head }) variables marked.term ∙ sym (term_length n b.poly t variables k) in
-        omega (arith, ints, dot-differences w b.head t.mono lengths, All-contains (λ e. dot e w ≡ pos 0) (rows_of bs) (differences b.head t.mono) h (row-in bs b t c k d))
+        omega (arith, ints, dot-differences w b.head t.mono lengths, All-contains (λ e. dot e w ≡ pos 0) (rows_of_polynomials bs) (differences b.head t.mono) h (row-in bs b t c k d))
 
-space_exact : (n : ℕ) (w : List ℤ) (bs : List MarkedPolynomial) → HaveVariables n bs → Each HasMarkedTerm bs → IsInSpace w bs ↔ IsLineal [] (rows_of bs) w
+space_exact : (n : ℕ) (w : List ℤ) (bs : List MarkedPolynomial) → HaveVariables n bs → Each HasMarkedTerm bs → IsInSpace w bs ↔ IsLineal [] (rows_of_polynomials bs) w
 space_exact n w bs v m = (
-  λ h. record { flat = λ k d l. absurd (omega arith); zero = λ k d l. flat_on n w bs v m h _ (Contains-get_or (rows_of bs) k d l) },
+  λ h. record { flat = λ k d l. absurd (omega arith); zero = λ k d l. flat_on n w bs v m h _ (Contains-get_or (rows_of_polynomials bs) k d l) },
   λ h b c s t a e. level n w bs v m h.zero b c s a ∙ sym (level n w bs v m h.zero b c t e),
 )
 
 -- the rows have the width of the space
-pub rows_width : (n : ℕ) (bs : List MarkedPolynomial) → HaveVariables n bs → Each HasMarkedTerm bs → AreRows n (rows_of bs)
-rows_width n bs v m k d l = at (row-from bs (get_or (rows_of bs) k d) (Contains-get_or (rows_of bs) k d l))
+pub rows_width : (n : ℕ) (bs : List MarkedPolynomial) → HaveVariables n bs → Each HasMarkedTerm bs → AreRows n (rows_of_polynomials bs)
+rows_width n bs v m k d l = at (row-from bs (get_or (rows_of_polynomials bs) k d) (Contains-get_or (rows_of_polynomials bs) k d l))
   where
-    at : ((b : MarkedPolynomial) × Contains bs b × IsTermRow b.head b.poly (get_or (rows_of bs) k d)) → length (get_or (rows_of bs) k d) ≡ n
+    at : ((b : MarkedPolynomial) × Contains bs b × IsTermRow b.head b.poly (get_or (rows_of_polynomials bs) k d)) → length (get_or (rows_of_polynomials bs) k d) ≡ n
     at q =
         let variables : HasVariables n q.0.poly = each_member (λ (b : MarkedPolynomial). HasVariables n b.poly) bs q.0 v q.1 in
         let marked : HasMarkedTerm q.0 = each_member HasMarkedTerm bs q.0 m q.1 in
@@ -110,7 +110,7 @@ pub rows_wide : (n : ℕ) (sets : List MarkedPolynomials) (rows : List (List ℤ
 rows_wide n sets rows i h = subst (AreRows n) (sym h.items) (rows_width n (members_of (take i sets)) h.variables h.marked)
 
 -- the lineality space of the rows is the homogeneity space
-pub basis_of : (n : ℕ) (bs : List MarkedPolynomial) (rows lineality rays : List (List ℤ)) → HaveVariables n bs → Each HasMarkedTerm bs → rows ≡ rows_of bs → IsRays n [] rows lineality rays → IsBasisOfSpace n bs lineality
+pub basis_of : (n : ℕ) (bs : List MarkedPolynomial) (rows lineality rays : List (List ℤ)) → HaveVariables n bs → Each HasMarkedTerm bs → rows ≡ rows_of_polynomials bs → IsRays n [] rows lineality rays → IsBasisOfSpace n bs lineality
 basis_of n bs rows lineality rays v m e r = record {
   width = r.lin_width;
   echelon = r.echelon;
@@ -120,5 +120,5 @@ basis_of n bs rows lineality rays v m e r = record {
       (λ h. spans.0 (subst (λ (z : List (List ℤ)). IsLineal [] z w) (sym e) (exact.0 h)), λ g. exact.1 (subst (λ (z : List (List ℤ)). IsLineal [] z w) e (spans.1 g)));
 }
 
-pub dimension_of : (n d : ℕ) (bs : List MarkedPolynomial) (rows lineality rays : List (List ℤ)) → HaveVariables n bs → Each HasMarkedTerm bs → rows ≡ rows_of bs → IsRays n [] rows lineality rays → d ≡ length lineality → HasDimension n bs d
+pub dimension_of : (n d : ℕ) (bs : List MarkedPolynomial) (rows lineality rays : List (List ℤ)) → HaveVariables n bs → Each HasMarkedTerm bs → rows ≡ rows_of_polynomials bs → IsRays n [] rows lineality rays → d ≡ length lineality → HasSpaceDimension n bs d
 dimension_of n d bs rows lineality rays v m e r q = (lineality, basis_of n bs rows lineality rays v m e r, sym q)

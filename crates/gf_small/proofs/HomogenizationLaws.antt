@@ -26,7 +26,7 @@ use Rattle.gf_text.specs.declared.written.Written.{Written}
 use Rattle.gf_text.specs.declared.written.Written.TheVariants as written
 use Rattle.gf_text.specs.Sets.{IsIn, AreIn}
 use Rattle.gf_small.specs.Degrees.{total_degree}
-use Rattle.gf_small.specs.Homogenization.{new_exponent, filled, filled_term, ExponentsFit, IsPastLimit, IsFirstPastLimit, IsWithinLimit, IsPastLimitIn, IsFirstOverflow, IsMarkedHomogenization, IsWrittenHomogenization, AreHomogenizations, HasExponent, IsHomogenizeCause}
+use Rattle.gf_small.specs.Homogenization.{new_exponent, filled, filled_term, ExponentsFit, IsExponentPastLimit, IsFirstPastLimit, IsHomogenizedWithinLimit, IsPastLimitIn, IsFirstExponentPastLimit, IsMarkedHomogenization, IsWrittenHomogenization, AreHomogenizations, HasExponent, IsHomogenizeCause}
 use Rattle.gf_small.specs.declared.homogenization.SmallError.{SmallError}
 use Rattle.gf_small.specs.declared.homogenization.SmallError.TheVariants as errors
 use Rattle.gf_poly.proofs.MarkingLaws.{mark_at}
@@ -93,7 +93,7 @@ filled-fits d f out i l k = subst (ExponentsFit d) (take_all i f l) k.fits
 split_terms : (f : Terms) (i : ℕ) (t : Term) → i < length f → t ≡ get_or f i t → f ≡ take i f ++ t ∷ drop (i + 1) f
 split_terms f i t l e = sym (take-append-drop i f) ∙ ap (λ (z : Terms). take i f ++ z) (drop_more f i t l ∙ ap (λ (z : Term). z ∷ drop (i + 1) f) (sym e))
 
-pub filled-past : (d : ℕ) (f out : Terms) (i : ℕ) (t : Term) (o : ExponentOverflow) → i < length f → t ≡ get_or f i t → IsPastLimit (new_exponent d t.mono) o → FilledSoFar d f out i → IsFirstPastLimit d f o
+pub filled-past : (d : ℕ) (f out : Terms) (i : ℕ) (t : Term) (o : ExponentOverflow) → i < length f → t ≡ get_or f i t → IsExponentPastLimit (new_exponent d t.mono) o → FilledSoFar d f out i → IsFirstPastLimit d f o
 filled-past d f out i t o l e p k = record { earlier = take i f; term = t; later = drop (i + 1) f; split = split_terms f i t l e; before = k.fits; past = p }
 
 -- ---- no two of them are alike
@@ -188,7 +188,7 @@ filled-mark d (s ∷ f) g (suc i) t e l q = filled-mark d f (map (filled_term d)
 pub record DoneSoFar (n : ℕ) (fs gs : List Written) (i : ℕ) : Type 0 where
   pub items : AreHomogenizations (take i fs) gs
   pub variables : AreIn (n + 1) gs
-  pub fits : All IsWithinLimit (take i fs)
+  pub fits : All IsHomogenizedWithinLimit (take i fs)
 
 pub done-none : (n : ℕ) (fs : List Written) → DoneSoFar n fs [] 0
 done-none n fs = record { items = tt; variables = tt; fits = λ k e l. absurd (omega arith) }
@@ -202,20 +202,20 @@ homogenized_in n written.Zero (written.Nonzero c) h v = absurd h
 homogenized_in n (written.Nonzero b) written.Zero h v = absurd h
 homogenized_in n (written.Nonzero b) (written.Nonzero c) h v = h.variables n v
 
-pub done-more : (n : ℕ) (fs gs next : List Written) (i : ℕ) (f g : Written) → i < length fs → f ≡ get_or fs i f → IsIn n f → IsWrittenHomogenization f g → IsWithinLimit f → next ≡ gs ++ g ∷ [] → DoneSoFar n fs gs i → DoneSoFar n fs next (i + 1)
+pub done-more : (n : ℕ) (fs gs next : List Written) (i : ℕ) (f g : Written) → i < length fs → f ≡ get_or fs i f → IsIn n f → IsWrittenHomogenization f g → IsHomogenizedWithinLimit f → next ≡ gs ++ g ∷ [] → DoneSoFar n fs gs i → DoneSoFar n fs next (i + 1)
 done-more n fs gs next i f g l e v h w q k = record {
   items = subst (AreHomogenizations (take (i + 1) fs)) (sym q) (all_zip_more IsWrittenHomogenization fs gs i f g l e k.items h);
   variables = subst (AreIn (n + 1)) (sym q) (AreIn-push (n + 1) gs g k.variables (homogenized_in n f g h v));
-  fits = subst (All IsWithinLimit) (sym (next_of fs i f l e)) (All-push IsWithinLimit (take i fs) f k.fits w);
+  fits = subst (All IsHomogenizedWithinLimit) (sym (next_of fs i f l e)) (All-push IsHomogenizedWithinLimit (take i fs) f k.fits w);
 }
 
 pub done-items : (n : ℕ) (fs gs : List Written) (i : ℕ) → length fs ≤ i → DoneSoFar n fs gs i → AreHomogenizations fs gs
 done-items n fs gs i l k = subst (λ (z : List Written). AreHomogenizations z gs) (take_all i fs l) k.items
 
-pub done-fits : (n : ℕ) (fs gs : List Written) (i : ℕ) → length fs ≤ i → DoneSoFar n fs gs i → All IsWithinLimit fs
-done-fits n fs gs i l k = subst (All IsWithinLimit) (take_all i fs l) k.fits
+pub done-fits : (n : ℕ) (fs gs : List Written) (i : ℕ) → length fs ≤ i → DoneSoFar n fs gs i → All IsHomogenizedWithinLimit fs
+done-fits n fs gs i l k = subst (All IsHomogenizedWithinLimit) (take_all i fs l) k.fits
 
-pub done-past : (n : ℕ) (fs gs : List Written) (i : ℕ) (f : Written) (o : ExponentOverflow) → i < length fs → f ≡ get_or fs i f → IsPastLimitIn f o → DoneSoFar n fs gs i → IsFirstOverflow fs o
+pub done-past : (n : ℕ) (fs gs : List Written) (i : ℕ) (f : Written) (o : ExponentOverflow) → i < length fs → f ≡ get_or fs i f → IsPastLimitIn f o → DoneSoFar n fs gs i → IsFirstExponentPastLimit fs o
 done-past n fs gs i f o l e p k = record {
   earlier = take i fs;
   polynomial = f;
@@ -311,20 +311,20 @@ exponent_along (errors.TooManyVariables count) f h = h
 exponent_along (errors.Exponent o) f h = f o h
 exponent_along errors.Memory f h = tt
 
-pub homogenize_cause : (n : ℕ) (fs : List Written) (e : SmallError) → n < 16 → HasExponent (IsFirstOverflow fs) e → IsHomogenizeCause n fs e
+pub homogenize_cause : (n : ℕ) (fs : List Written) (e : SmallError) → n < 16 → HasExponent (IsFirstExponentPastLimit fs) e → IsHomogenizeCause n fs e
 homogenize_cause n fs (errors.TooManyVariables count) l h = absurd h
 homogenize_cause n fs (errors.Exponent o) l h = (l, h)
 homogenize_cause n fs errors.Memory l h = tt
 
 -- where each exponent is within the limit none passes it
-pub never_past : (fs : List Written) (o : ExponentOverflow) → All IsWithinLimit fs → IsFirstOverflow fs o → ⊥
-never_past fs o h v = by v.polynomial (All-contains IsWithinLimit fs v.polynomial h (subst (λ (z : List Written). Contains z v.polynomial) (sym v.split) (Contains-append_right v.earlier (v.polynomial ∷ v.later) v.polynomial (0, omega arith, refl)))) v.past
+pub never_past : (fs : List Written) (o : ExponentOverflow) → All IsHomogenizedWithinLimit fs → IsFirstExponentPastLimit fs o → ⊥
+never_past fs o h v = by v.polynomial (All-contains IsHomogenizedWithinLimit fs v.polynomial h (subst (λ (z : List Written). Contains z v.polynomial) (sym v.split) (Contains-append_right v.earlier (v.polynomial ∷ v.later) v.polynomial (0, omega arith, refl)))) v.past
   where
-    by : (f : Written) → IsWithinLimit f → IsPastLimitIn f o → ⊥
+    by : (f : Written) → IsHomogenizedWithinLimit f → IsPastLimitIn f o → ⊥
     by written.Zero w p = absurd p
     by (written.Nonzero b) w p = absurd (omega (arith, All-contains (λ (t : Term). new_exponent (total_degree b.poly) t.mono < 2 ^ 31) b.poly p.term w (subst (λ (z : Terms). Contains z p.term) (sym p.split) (Contains-append_right p.earlier (p.term ∷ p.later) p.term (0, omega arith, refl))), p.past.leaves))
 
-pub only_memory : (fs : List Written) (e : SmallError) → All IsWithinLimit fs → HasExponent (IsFirstOverflow fs) e → e ≡ errors.Memory
+pub only_memory : (fs : List Written) (e : SmallError) → All IsHomogenizedWithinLimit fs → HasExponent (IsFirstExponentPastLimit fs) e → e ≡ errors.Memory
 only_memory fs (errors.TooManyVariables count) w h = absurd h
 only_memory fs (errors.Exponent o) w h = absurd (never_past fs o w h)
 only_memory fs errors.Memory w h = refl

@@ -21,7 +21,7 @@ terms_in [] = 0
 terms_in (b ∷ bs) = length b.poly + terms_in bs
 
 -- what is counted of these sets without vectors
-pub record AreCounts (sets : List MarkedPolynomials) (c : Counts) : Type 0 where
+pub record AreSetCounts (sets : List MarkedPolynomials) (c : Counts) : Type 0 where
   pub max_degree : c.max_degree ≡ greatest (map degree_of_set sets)
   pub min_degree : c.min_degree ≡ least (map degree_of_set sets)
   pub max_polynomials : c.max_polynomials ≡ greatest (map (λ t. length t.items) sets)

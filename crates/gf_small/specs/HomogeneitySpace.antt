@@ -10,7 +10,7 @@ use Rattle.gf_gordan.specs.declared.error.GordanError.{GordanError}
 use Rattle.gf_gordan.specs.Steps.{Failed}
 use Rattle.gf_duality.specs.Rays.{IsEchelon, Generated}
 use Rattle.gf_duality.specs.Stages.{IsRaysStep}
-use Rattle.gf_facets.specs.Rows.{rows_of}
+use Rattle.gf_facets.specs.Rows.{rows_of_polynomials}
 
 -- all terms of f have one weight by w
 abbrev pub IsHomogeneousBy : List ℤ → Terms → Type 0
@@ -29,8 +29,8 @@ pub record IsBasisOfSpace (n : ℕ) (bs : List MarkedPolynomial) (basis : List (
 -- why it isn't found: an operation leaves its range in working out the vectors on which all differences of a marked exponent vector
 -- and another one of its polynomial are zero, or there is no memory
 abbrev pub IsSpaceCause : ℕ → List MarkedPolynomial → GordanError → Type 0
-IsSpaceCause n bs = Failed (IsRaysStep n [] (rows_of bs))
+IsSpaceCause n bs = Failed (IsRaysStep n [] (rows_of_polynomials bs))
 
 -- it has this dimension
-abbrev pub HasDimension : ℕ → List MarkedPolynomial → ℕ → Type 0
-HasDimension n bs d = (basis : List (List ℤ)) × IsBasisOfSpace n bs basis × (length basis ≡ d)
+abbrev pub HasSpaceDimension : ℕ → List MarkedPolynomial → ℕ → Type 0
+HasSpaceDimension n bs d = (basis : List (List ℤ)) × IsBasisOfSpace n bs basis × (length basis ≡ d)

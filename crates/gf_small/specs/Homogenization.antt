@@ -54,12 +54,12 @@ AreHomogenizations fs gs = AllZip IsWrittenHomogenization fs gs
 abbrev pub ExponentsFit : ℕ → Terms → Type 0
 ExponentsFit d f = All (λ t. new_exponent d t.mono < 2 ^ 31) f
 
-abbrev pub IsWithinLimit : Written → Type 0
-IsWithinLimit written.Zero = Unit {0}
-IsWithinLimit (written.Nonzero b) = ExponentsFit (total_degree b.poly) b.poly
+abbrev pub IsHomogenizedWithinLimit : Written → Type 0
+IsHomogenizedWithinLimit written.Zero = Unit {0}
+IsHomogenizedWithinLimit (written.Nonzero b) = ExponentsFit (total_degree b.poly) b.poly
 
 -- o has the limit, and what a new exponent k is more
-pub record IsPastLimit (k : ℕ) (o : ExponentOverflow) : Type 0 where
+pub record IsExponentPastLimit (k : ℕ) (o : ExponentOverflow) : Type 0 where
   pub leaves : 2 ^ 31 ≤ k
   pub left : o.left ≡ 2 ^ 31 - 1
   pub right : o.right ≡ k - (2 ^ 31 - 1)
@@ -71,25 +71,25 @@ pub record IsFirstPastLimit (d : ℕ) (f : Terms) (o : ExponentOverflow) : Type 
   pub later : Terms
   pub split : f ≡ earlier ++ term ∷ later
   pub before : ExponentsFit d earlier
-  pub past : IsPastLimit (new_exponent d term.mono) o
+  pub past : IsExponentPastLimit (new_exponent d term.mono) o
 
 abbrev pub IsPastLimitIn : Written → ExponentOverflow → Type 0
 IsPastLimitIn written.Zero o = ⊥
 IsPastLimitIn (written.Nonzero b) o = IsFirstPastLimit (total_degree b.poly) b.poly o
 
 -- and of the first polynomial with such a term
-pub record IsFirstOverflow (fs : List Written) (o : ExponentOverflow) : Type 0 where
+pub record IsFirstExponentPastLimit (fs : List Written) (o : ExponentOverflow) : Type 0 where
   pub earlier : List Written
   pub polynomial : Written
   pub later : List Written
   pub split : fs ≡ earlier ++ polynomial ∷ later
-  pub before : All IsWithinLimit earlier
+  pub before : All IsHomogenizedWithinLimit earlier
   pub past : IsPastLimitIn polynomial o
 
 -- why polynomials in n variables aren't homogenised: there would be more than 16 variables; or there is room, and a new
 -- exponent passes the limit; or there is no memory
 abbrev pub IsHomogenizeCause : ℕ → List Written → SmallError → Type 0
-IsHomogenizeCause n fs (errors.Exponent o) = (n < 16) × IsFirstOverflow fs o
+IsHomogenizeCause n fs (errors.Exponent o) = (n < 16) × IsFirstExponentPastLimit fs o
 IsHomogenizeCause n fs (errors.TooManyVariables count) = (16 < n + 1) × (count ≡ n + 1)
 IsHomogenizeCause n fs errors.Memory = Unit {0}
 

@@ -3,11 +3,11 @@ use Rattle.std.specs.Prelude.{◌≡◌, ℕ, All, List, [], map, flat_map, leng
 use Rattle.gf_poly.specs.Marking.{MarkedPolynomial, MarkedPolynomials}
 use Rattle.gf_gordan.specs.declared.error.GordanError.{GordanError}
 use Rattle.gf_rays.specs.Cones.{AreRaysWithinLimits}
-use Rattle.gf_facets.specs.Rows.{rows_of}
+use Rattle.gf_facets.specs.Rows.{rows_of_polynomials}
 use Rattle.gf_small.specs.declared.counts.Stats.{Stats}
 use Rattle.gf_small.specs.Degrees.{greatest}
 use Rattle.gf_small.specs.Counts.{least, degree_of_set, terms_in}
-use Rattle.gf_small.specs.HomogeneitySpace.{HasDimension, IsSpaceCause}
+use Rattle.gf_small.specs.HomogeneitySpace.{HasSpaceDimension, IsSpaceCause}
 
 -- all polynomials of these sets
 abbrev pub members_of : List MarkedPolynomials → List MarkedPolynomial
@@ -17,7 +17,7 @@ members_of sets = flat_map (λ s. s.items) sets
 pub record AreStatistics (n : ℕ) (sets : List MarkedPolynomials) (s : Stats) : Type 0 where
   pub bases : s.bases ≡ length sets
   pub variables : s.variables ≡ n
-  pub homogeneity : HasDimension n (members_of sets) s.homogeneity
+  pub homogeneity : HasSpaceDimension n (members_of sets) s.homogeneity
   pub max_degree : s.max_degree ≡ greatest (map degree_of_set sets)
   pub min_degree : s.min_degree ≡ least (map degree_of_set sets)
   pub max_polynomials : s.max_polynomials ≡ greatest (map (λ t. length t.items) sets)
@@ -33,4 +33,4 @@ IsStatisticsCause n sets = IsSpaceCause n (members_of sets)
 
 -- no such operation leaves its range
 abbrev pub AreStatisticsWithinLimits : ℕ → List MarkedPolynomials → Type 0
-AreStatisticsWithinLimits n sets = AreRaysWithinLimits n [] (rows_of (members_of sets))
+AreStatisticsWithinLimits n sets = AreRaysWithinLimits n [] (rows_of_polynomials (members_of sets))

@@ -1,7 +1,7 @@
 //! What is counted of a list of marked sets.
 ghost use Rattle.std.specs.Prelude.{◌≡◌, map, max, min, length, if◌then◌else◌};
 ghost use Rattle.gf_small.specs.Degrees.{greatest, total_degree as degree_of};
-ghost use Rattle.gf_small.specs.Counts.{degree_of_set as set_degree_of, terms_in, AreCounts};
+ghost use Rattle.gf_small.specs.Counts.{degree_of_set as set_degree_of, terms_in, AreSetCounts};
 
 use crate::degrees::total_degree;
 use gf_poly::{Marked, MarkedSet};
@@ -86,7 +86,7 @@ fn with_set(counts: &Counts, is_first: bool, set: &MarkedSet) -> Counts
 
 /// The counts of the sets.
 pub(crate) fn counts_of(sets: &[MarkedSet]) -> Counts
-    ensures { AreCounts sets.now result }
+    ensures { AreSetCounts sets.now result }
 {
     let mut counts = Counts {
         max_degree: 0,

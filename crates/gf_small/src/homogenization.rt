@@ -7,7 +7,7 @@ ghost use Rattle.gf_text.specs.RingText.{is_name, has};
 ghost use Rattle.gf_text.specs.Sets.{IsIn, AreIn};
 ghost use Rattle.gf_small.specs.declared.homogenization.SmallError.TheVariants.{Memory};
 ghost use Rattle.gf_small.specs.Degrees.{total_degree as degree_of};
-ghost use Rattle.gf_small.specs.Homogenization.{new_exponent as exponent_of, filled_term as term_of, ExponentsFit, IsWithinLimit, IsPastLimit, IsFirstPastLimit, IsPastLimitIn, IsFirstOverflow, IsMarkedHomogenization, IsWrittenHomogenization, AreHomogenizations, IsHomogenizeCause, HasExponent};
+ghost use Rattle.gf_small.specs.Homogenization.{new_exponent as exponent_of, filled_term as term_of, ExponentsFit, IsHomogenizedWithinLimit, IsExponentPastLimit, IsFirstPastLimit, IsPastLimitIn, IsFirstExponentPastLimit, IsMarkedHomogenization, IsWrittenHomogenization, AreHomogenizations, IsHomogenizeCause, HasExponent};
 
 use crate::degrees::total_degree;
 use gf_division::place_of;
@@ -64,7 +64,7 @@ fn new_exponent(d: u64, x: &Mono) -> Result<u32, ExponentOverflow>
     requires { degree x.now ≤ d }
     ensures value { IfOk result (λ exponent. exponent ≡ exponent_of d x.now) }
     ensures fits { IfOk result (λ exponent. exponent < 2 ^ 31) }
-    ensures past { IfErr result (IsPastLimit (exponent_of d x.now)) }
+    ensures past { IfErr result (IsExponentPastLimit (exponent_of d x.now)) }
 {
     let exponent = d - x.degree();
     if exponent > MOST {
@@ -97,7 +97,7 @@ fn filled_term(alloc: Global, d: u64, t: &Term) -> Result<Term, ExponentOverflow
     requires below { degree t.now.mono ≤ d }
     ensures value { IfOk result (λ term. term ≡ term_of d t.now) }
     ensures fits { IfOk result (λ _. exponent_of d t.now.mono < 2 ^ 31) }
-    ensures past { IfErr result (IsPastLimit (exponent_of d t.now.mono)) }
+    ensures past { IfErr result (IsExponentPastLimit (exponent_of d t.now.mono)) }
 {
     let exponent = new_exponent(d, &t.mono)?;
     Ok(Term {
@@ -156,7 +156,7 @@ fn marked_homogenization(alloc: Global, b: &Marked) -> Result<Marked, SmallError
 fn written_homogenization(alloc: Global, f: &Written) -> Result<Written, SmallError>
     requires { (n : ℕ) × ((n < ROOM) × IsIn n f.now) }
     ensures value { IfOk result (IsWrittenHomogenization f.now) }
-    ensures fits { IfOk result (λ _. IsWithinLimit f.now) }
+    ensures fits { IfOk result (λ _. IsHomogenizedWithinLimit f.now) }
     ensures cause { IfErr result (HasExponent (IsPastLimitIn f.now)) }
 {
     match f {
@@ -174,9 +174,9 @@ fn homogenizations(alloc: Global, n: u32, set: &[Written]) -> Result<Vec<Written
     requires variables { AreIn n set.now }
     ensures value { IfOk result (λ all. AreHomogenizations set.now all.items) }
     ensures variables { IfOk result (λ all. AreIn (n + 1) all.items) }
-    ensures fits { IfOk result (λ _. All IsWithinLimit set.now) }
-    ensures cause { IfErr result (HasExponent (IsFirstOverflow set.now)) }
-    ensures complete { All IsWithinLimit set.now → IfErr result (λ e. e ≡ Memory) }
+    ensures fits { IfOk result (λ _. All IsHomogenizedWithinLimit set.now) }
+    ensures cause { IfErr result (HasExponent (IsFirstExponentPastLimit set.now)) }
+    ensures complete { All IsHomogenizedWithinLimit set.now → IfErr result (λ e. e ≡ Memory) }
 {
     let mut all = Vec::with_capacity(alloc, set.len())?;
     'polynomials: for f in set {
@@ -208,9 +208,9 @@ pub fn homogenize(
     ensures set { IfOk result (λ h. AreHomogenizations set.now h.1.items) }
     ensures variables { IfOk result (λ h. AreIn (length h.0) h.1.items) }
     ensures room { IfOk result (λ _. length ring.now < 16) }
-    ensures fits { IfOk result (λ _. All IsWithinLimit set.now) }
+    ensures fits { IfOk result (λ _. All IsHomogenizedWithinLimit set.now) }
     ensures cause { IfErr result (IsHomogenizeCause (length ring.now) set.now) }
-    ensures complete { length ring.now < 16 → All IsWithinLimit set.now → IfErr result (λ e. e ≡ Memory) }
+    ensures complete { length ring.now < 16 → All IsHomogenizedWithinLimit set.now → IfErr result (λ e. e ≡ Memory) }
 {
     let n = ring.len();
     if n == 16 {

@@ -3,7 +3,7 @@ ghost use Rattle.std.specs.Prelude.{◌≡◌, [], IfOk, IfErr};
 ghost use Rattle.gf_poly.specs.Marking.{Each, HaveVariables, HasMarkedTerm};
 ghost use Rattle.gf_gordan.specs.declared.error.GordanError.TheVariants.{Memory};
 ghost use Rattle.gf_rays.specs.Cones.{AreRaysWithinLimits};
-ghost use Rattle.gf_facets.specs.Rows.{rows_of};
+ghost use Rattle.gf_facets.specs.Rows.{rows_of_polynomials};
 ghost use Rattle.gf_small.specs.HomogeneitySpace.{IsBasisOfSpace, IsSpaceCause};
 
 use gf_gordan::GordanError;
@@ -27,7 +27,7 @@ fn copied(alloc: Global, items: &[Marked]) -> Result<Vec<Marked>, AllocError>
 /// The differences of a marked exponent vector and each other one of its polynomial, of all polynomials.
 fn differences(alloc: Global, n: u32, set: &[Marked]) -> Result<Vec<IntVec>, AllocError>
     requires { HaveVariables n set.now }
-    ensures value { IfOk result (λ rows. rows.items ≡ rows_of set.now) }
+    ensures value { IfOk result (λ rows. rows.items ≡ rows_of_polynomials set.now) }
     ensures marked { IfOk result (λ _. Each HasMarkedTerm set.now) }
 {
     let set = MarkedSet::new(n, copied(alloc, set)?);
@@ -44,10 +44,10 @@ fn differences(alloc: Global, n: u32, set: &[Marked]) -> Result<Vec<IntVec>, All
 /// from `-(2^127 - 1)` to `2^127 - 1`. `Memory`: want of memory.
 pub fn homogeneity(alloc: Global, n: u32, set: &[Marked]) -> Result<Rays, GordanError>
     requires { HaveVariables n set.now }
-    ensures rows { IfOk result (λ c. (c.ambient ≡ n) × (c.inequalities ≡ []) × (c.equations ≡ rows_of set.now)) }
+    ensures rows { IfOk result (λ c. (c.ambient ≡ n) × (c.inequalities ≡ []) × (c.equations ≡ rows_of_polynomials set.now)) }
     ensures space { IfOk result (λ c. IsBasisOfSpace n set.now c.lineality) }
     ensures err { IfErr result (IsSpaceCause n set.now) }
-    ensures complete { AreRaysWithinLimits n [] (rows_of set.now) → IfErr result (λ e. e ≡ Memory) }
+    ensures complete { AreRaysWithinLimits n [] (rows_of_polynomials set.now) → IfErr result (λ e. e ≡ Memory) }
 {
     let rows = differences(alloc, n, set)?;
     let none = Vec::new(alloc);

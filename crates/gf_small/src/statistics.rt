@@ -3,8 +3,8 @@ ghost use Rattle.std.specs.Prelude.{◌≡◌, IfOk, IfErr};
 ghost use Rattle.gf_poly.specs.Marking.{Each, HaveVariables, HasMarkedTerm};
 ghost use Rattle.gf_gordan.specs.Alternative.{AreRows};
 ghost use Rattle.gf_gordan.specs.declared.error.GordanError.TheVariants.{Memory};
-ghost use Rattle.gf_facets.specs.Rows.{rows_of};
-ghost use Rattle.gf_small.specs.HomogeneitySpace.{HasDimension};
+ghost use Rattle.gf_facets.specs.Rows.{rows_of_polynomials};
+ghost use Rattle.gf_small.specs.HomogeneitySpace.{HasSpaceDimension};
 ghost use Rattle.gf_small.specs.Statistics.{members_of, AreSetsIn, AreStatistics, IsStatisticsCause, AreStatisticsWithinLimits};
 
 use crate::counts::{Counts, Stats, counts_of};
@@ -17,7 +17,7 @@ use std::alloc::{AllocError, Global};
 /// The differences of a marked exponent vector and each other one of its polynomial, of all polynomials.
 fn all_rows(alloc: Global, n: u32, sets: &[MarkedSet]) -> Result<Vec<IntVec>, AllocError>
     requires { AreSetsIn n sets.now }
-    ensures value { IfOk result (λ rows. rows.items ≡ rows_of (members_of sets.now)) }
+    ensures value { IfOk result (λ rows. rows.items ≡ rows_of_polynomials (members_of sets.now)) }
     ensures marked { IfOk result (λ _. Each HasMarkedTerm (members_of sets.now)) }
     ensures variables { IfOk result (λ _. HaveVariables n (members_of sets.now)) }
     ensures width { IfOk result (λ rows. AreRows n rows.items) }
@@ -33,7 +33,7 @@ fn all_rows(alloc: Global, n: u32, sets: &[MarkedSet]) -> Result<Vec<IntVec>, Al
 /// The dimension of the homogeneity space.
 fn dimension(alloc: Global, n: u32, sets: &[MarkedSet]) -> Result<u64, GordanError>
     requires { AreSetsIn n sets.now }
-    ensures ok { IfOk result (HasDimension n (members_of sets.now)) }
+    ensures ok { IfOk result (HasSpaceDimension n (members_of sets.now)) }
     ensures err { IfErr result (IsStatisticsCause n sets.now) }
     ensures complete { AreStatisticsWithinLimits n sets.now → IfErr result (λ e. e ≡ Memory) }
 {

@@ -33,8 +33,8 @@ use Rattle.gf_tree.specs.Refusals.{IsTreeRefusal}
 use Rattle.gf_tree.specs.Walks.{Walk, AreLeft, HasListLeft, walk_at}
 use Rattle.gf_tree.proofs.ParentLaws.{same_width}
 use Rattle.gf_tree.proofs.RefusalLaws.{refusal_moved}
-use Rattle.gf_subtree.specs.Rows.{Row, up_in, RefusesWalker, HavePaths, AreLeftIn, IsOfIdeal, AreAmong, HasRowLeft, row_at}
-use Rattle.gf_subtree.specs.Answers.{IsSameList, IsRowStep, IsRowEnd, IsRowKept, IsResumedAs}
+use Rattle.gf_subtree.specs.Rows.{Row, up_in, RefusesWalker, HavePaths, AreLeftIn, IsOfIdeal, AreAmong, HasRowLeft, first_row}
+use Rattle.gf_subtree.specs.Answers.{IsSameList, IsNextRow, IsRowEnd, IsRowKept, IsResumedAs}
 use Rattle.gf_subtree.proofs.RowLaws.{AreAmongAfter, above, call_among}
 
 -- ---- of the ideal, along the tree
@@ -80,14 +80,14 @@ row_of f pairs s n = record { frontier = f; pairs = pairs; start = s; given = n 
 
 -- ---- the beginning
 
-pub start_leaves : (alloc : Global) (root : MarkedPolynomials) (workers pairs : ℕ) → IsNodeIn (ideal_of root) root → (nodes : List MarkedPolynomials) → AreLeft (walk_at root pairs) nodes → AreLeftIn (row_at alloc root workers pairs) nodes
+pub start_leaves : (alloc : Global) (root : MarkedPolynomials) (workers pairs : ℕ) → IsNodeIn (ideal_of root) root → (nodes : List MarkedPolynomials) → AreLeft (walk_at root pairs) nodes → AreLeftIn (first_row alloc root workers pairs) nodes
 start_leaves alloc root workers pairs h nodes l =
     let k = all_positive root.variables in
     let g = gives IsBefore (IsParent k) before_strict (upward_tree k) Before root 0 Listed root 0 (Some root) (λ top r at. listed_here IsBefore (IsParent k) top r root root 0 refl at) nodes l in
     let p = rising_paths k Before root 0 nodes h l in
     record { pieces = (g.0, g.1, (g.0, [], sym (append-nil g.0), g.2, refl)); paths = p.paths; lead = p.lead; rises = p.rises }
 
-pub left_at_start : (alloc : Global) (root : MarkedPolynomials) (workers pairs : ℕ) → IsNodeIn (ideal_of root) root → HasRowLeft (row_at alloc root workers pairs)
+pub left_at_start : (alloc : Global) (root : MarkedPolynomials) (workers pairs : ℕ) → IsNodeIn (ideal_of root) root → HasRowLeft (first_row alloc root workers pairs)
 left_at_start alloc root workers pairs h =
     let f = upward_finite (all_positive root.variables) root h in
     record {
@@ -177,7 +177,7 @@ module _ (f g : Frontier BasisTree MarkedPolynomials (List ℤ) TreeError) (pair
           few = (let w : length had.rest + n ≤ count (all_positive s.variables) s = had.few in let k : length a.0 + m ≤ count (all_positive s.variables) s = omega (arith, w, long, more) in k);
         }
 
-    pub row_step : IsRowStep (row_of f pairs s n) (row_of g pairs s m) v
+    pub row_step : IsNextRow (row_of f pairs s n) (row_of g pairs s m) v
     row_step =
         let a = first had.rest had.left in
         let long : length had.rest ≡ suc (length a.0) = ap length a.1 in

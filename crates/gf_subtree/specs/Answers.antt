@@ -25,7 +25,7 @@ pub record IsSameList (old new : Row) : Type 0 where
   pub start : new.start ≡ old.start
 
 -- v is given: a basis of the ideal, the first of those that were left; the others are left, and they are fewer
-pub record IsRowStep (old new : Row) (v : MarkedPolynomials) : Type 0 where
+pub record IsNextRow (old new : Row) (v : MarkedPolynomials) : Type 0 where
   pub same : IsSameList old new
   pub given : new.given ≡ old.given + 1
   pub basis : IsNodeIn (ideal_in old) v
@@ -43,7 +43,7 @@ pub record IsRowEnd (old new : Row) : Type 0 where
 
 -- the first basis of what was left, or that nothing was
 abbrev pub IsRowAnswer : Row → Row → Option MarkedPolynomials → Type 0
-IsRowAnswer old new (Some v) = IsRowStep old new v
+IsRowAnswer old new (Some v) = IsNextRow old new v
 IsRowAnswer old new None = IsRowEnd old new
 
 -- what was left is left

@@ -96,8 +96,8 @@ pub record HasRowLeft (r : Row) : Type 0 where
 -- ---- how a row begins
 
 -- a basis that is ready without a job, and a walker at it for what is below
-abbrev pub row_at : Global → MarkedPolynomials → ℕ → ℕ → Row
-row_at alloc root workers pairs = record {
+abbrev pub first_row : Global → MarkedPolynomials → ℕ → ℕ → Row
+first_row alloc root workers pairs = record {
   frontier = record {
     workers = workers;
     jobs = 0;

@@ -7,7 +7,7 @@ ghost use Rattle.gf_tree.specs.Parents.{ideal_of};
 ghost use Rattle.gf_tree.specs.Refusals.{IsTreeRefusal, IsTreeWithinLimits};
 ghost use Rattle.gf_tree.specs.Walks.{AreLeft, walk_at};
 ghost use Rattle.gf_tree.specs.declared.error.TreeError.TheVariants.{Memory};
-ghost use Rattle.gf_subtree.specs.Rows.{AreLeftIn, HasRowLeft, RefusesWalker, ideal_in, row_at};
+ghost use Rattle.gf_subtree.specs.Rows.{AreLeftIn, HasRowLeft, RefusesWalker, ideal_in, first_row};
 ghost use Rattle.gf_subtree.specs.Answers.{IsResumedAs, IsRowAnswer, IsRowCall, IsRowKept, IsToldInFront};
 
 use gf_poly::MarkedSet;
@@ -57,7 +57,7 @@ impl<'g, G: Gate> Waves<'g, G> {
         requires basis { IsNodeIn (ideal_of root) root }
         requires some { 1 ≤ workers }
         requires most { workers ≤ 64 }
-        ensures start { IfOk result (λ w. w ≡ row_at alloc root workers pairs) }
+        ensures start { IfOk result (λ w. w ≡ first_row alloc root workers pairs) }
         ensures list { IfOk result (λ w. (nodes : List MarkedPolynomials) → AreLeft (walk_at root pairs) nodes → AreLeftIn w nodes) }
     {
         let start = Snapshot::of(&root);

@@ -23,7 +23,7 @@ use Rattle.gf_poly.proofs.CoefficientLaws.{apart, coefficient-contains}
 use Rattle.gf_poly.proofs.DescendingLaws.{equal_same, deglex-total, greater_trans, never_greater}
 use Rattle.gf_text.specs.declared.tree.Factor.{Factor}
 use Rattle.gf_text.specs.declared.tree.WrittenTerm.{WrittenTerm}
-use Rattle.gf_text.specs.Combining.{raised_by, then_factors, times_factors, exponents_of, coefficient_of, term_written, terms_written, sums_of, ExponentsFit, SumsHaveVariables, before_all, with_coefficient, IsPlaceOf, IsFirstRemainingAt, FindsFirst, IsSumOf}
+use Rattle.gf_text.specs.Combining.{raised_by, then_factors, times_factors, exponents_of, coefficient_of, term_written, terms_written, sums_of, WrittenExponentsFit, SumsHaveVariables, before_all, with_coefficient, IsPlaceOf, IsFirstRemainingAt, FindsFirst, IsSumOf}
 
 -- ---- powers, one after another
 
@@ -90,7 +90,7 @@ taken_on n us i d x h e t =
 pub taken_refused : (n : ℕ) (us : List WrittenTerm) (i : ℕ) (d : WrittenTerm) (o : ExponentOverflow) → i < length us → exponents_of n (get_or us i d) ≡ Err o → Taken n us i → terms_written n us ≡ Err o
 taken_refused n us i d o h e t = sym t.all ∙ terms_refused n t.terms o us i d h (refused_term n (get_or us i d) o e)
 
-pub taken_all : (n : ℕ) (us : List WrittenTerm) (i : ℕ) → length us ≤ i → Taken n us i → ExponentsFit n us
+pub taken_all : (n : ℕ) (us : List WrittenTerm) (i : ℕ) → length us ≤ i → Taken n us i → WrittenExponentsFit n us
 taken_all n us i h t = (t.terms, sym t.all ∙ terms_end n t.terms us i h)
 
 -- ---- places in a sum

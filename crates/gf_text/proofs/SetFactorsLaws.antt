@@ -10,7 +10,7 @@ use Rattle.gf_text.specs.declared.set_reader.Part.{Part}
 use Rattle.gf_text.specs.Machine.{go, done, after}
 use Rattle.gf_text.specs.Tokens.{decimal_value}
 use Rattle.gf_text.specs.RingText.{IsRing}
-use Rattle.gf_text.specs.SetText.{variable, sign, most_exponent, IsFactorText, IsStar, AreMoreFactors, IsMonomialText, SetState, with_name, with_factor, next_term, all_of, next_polynomial, behind_step, set_step}
+use Rattle.gf_text.specs.SetText.{variable, sign, most_exponent, IsFactorText, IsStar, AreMoreFactors, IsMonomialText, SetState, with_variable, with_factor, next_term, all_of, next_polynomial, behind_step, set_step}
 use Rattle.gf_text.specs.Marks.{plus_mark, minus_mark, comma, star, slash, caret, brace_end}
 use Rattle.gf_text.proofs.MachineLaws.{after-go, after-done}
 use Rattle.gf_text.proofs.SetTokensLaws.{named_word, no_name, word_no_mark, number_within}
@@ -32,7 +32,7 @@ module _ (ring : List (List ℕ)) where
 
   -- a name is taken
   abbrev pub Takes : SetState → Part → Type 0
-  Takes s p = (t : List ℕ) (v : ℕ) (ts : Texts) → variable ring t ≡ Some v → Leads s (t ∷ ts) (at.Name, with_name p v) ts
+  Takes s p = (t : List ℕ) (v : ℕ) (ts : Texts) → variable ring t ≡ Some v → Leads s (t ∷ ts) (at.Name, with_variable p v) ts
 
   -- Behind these tokens this part is read, and maybe a name whose exponent is open.
   pub record Behind (s : SetState) (ts rest : Texts) (p : Part) : Type 0 where
@@ -64,11 +64,11 @@ module _ (ring : List (List ℕ)) (is_ring : IsRing ring) where
   like_takes s p like t v ts named =
       let word = named_word ring is_ring t v named in
       let no_star = word_no_mark t 42 word refl in
-      let here : behind_step ring p t ≡ go (at.Name, with_name p v) = rw (no_star, named) refl in
-      after-go (set_step ring) s (at.Name, with_name p v) t ts (like t (word_no_mark t 47 word refl) (word_no_mark t 94 word refl) ∙ here)
+      let here : behind_step ring p t ≡ go (at.Name, with_variable p v) = rw (no_star, named) refl in
+      after-go (set_step ring) s (at.Name, with_variable p v) t ts (like t (word_no_mark t 47 word refl) (word_no_mark t 94 word refl) ∙ here)
 
   star_takes : (p : Part) → Takes ring (at.Star, p) p
-  star_takes p t v ts named = after-go (set_step ring) (at.Star, p) (at.Name, with_name p v) t ts (rw named refl)
+  star_takes p t v ts named = after-go (set_step ring) (at.Star, p) (at.Name, with_variable p v) t ts (rw named refl)
 
   like_star : (s : SetState) (p : Part) → Like ring s p → (ts : Texts) → Leads ring s (star ∷ ts) (at.Star, p) ts
   like_star s p like ts = after-go (set_step ring) s (at.Star, p) star ts (like star refl refl)
@@ -99,7 +99,7 @@ module _ (ring : List (List ℕ)) (is_ring : IsRing ring) where
 
   factor_read : (f : Factor) (ts : Texts) → IsFactorText ring ts f → (s : SetState) (p : Part) → Takes ring s p → (rest : Texts) → Behind ring s ts rest (record p { factors = p.factors ++ f ∷ [] })
   factor_read f ts (name, named, inl h) s p takes rest =
-      let q = with_name p f.variable in
+      let q = with_variable p f.variable in
       record {
         state = (at.Name, q);
         part = with_factor q 1;
@@ -108,7 +108,7 @@ module _ (ring : List (List ℕ)) (is_ring : IsRing ring) where
         on = ap (λ l. after (set_step ring) s (l ++ rest)) h.0 ∙ takes name f.variable rest named;
       }
   factor_read f ts (name, named, inr (k, is, number)) s p takes rest =
-      let q = with_name p f.variable in
+      let q = with_variable p f.variable in
       let digits = number.0 in
       let within = number_within k f.exponent most_exponent number in
       record {

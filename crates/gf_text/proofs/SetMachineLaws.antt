@@ -10,7 +10,7 @@ use Rattle.gf_text.specs.declared.set_reader.Part.{Part}
 use Rattle.gf_text.specs.Machine.{go, done, after, Reads, HasOneMeaning}
 use Rattle.gf_text.specs.Tokens.{lexemes, ring_more}
 use Rattle.gf_text.specs.RingText.{IsRing}
-use Rattle.gf_text.specs.SetText.{variable, IsSetText, SetState, with_name, with_factor, with_numer, with_denom, all_of, behind_step, set_step, empty, set_at}
+use Rattle.gf_text.specs.SetText.{variable, IsSetText, SetState, with_variable, with_factor, with_numer, with_denom, all_of, behind_step, set_step, empty, set_at}
 use Rattle.gf_text.specs.Marks.{brace, brace_end}
 use Rattle.gf_text.proofs.MachineLaws.{after-go, after-done, reads, is_read, one_meaning, IsMachineOf}
 use Rattle.gf_text.proofs.SetTokensLaws.{no_name}
@@ -66,7 +66,7 @@ module _ (ring : List (List ℕ)) (is_ring : IsRing ring) where
   set_goes_on (at.Denominator, p) = by_token (at.Denominator, p) (at.Behind, with_denom p 1) one refl (behind_ends (with_denom p 1))
   set_goes_on (at.Star, p) =
       let n = first_name in
-      by_token (at.Star, p) (at.Name, with_name p n.1) n.0 (rw (n.2) refl) (name_ends (with_name p n.1))
+      by_token (at.Star, p) (at.Name, with_variable p n.1) n.0 (rw (n.2) refl) (name_ends (with_variable p n.1))
   set_goes_on (at.Name, p) = name_ends p
   set_goes_on (at.Exponent, p) = by_token (at.Exponent, p) (at.Behind, with_factor p 1) one refl (behind_ends (with_factor p 1))
   set_goes_on (at.Behind, p) = behind_ends p

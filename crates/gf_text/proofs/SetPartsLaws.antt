@@ -6,7 +6,7 @@ use Rattle.gf_text.specs.declared.tree.Factor.{Factor}
 use Rattle.gf_text.specs.declared.tree.WrittenTerm.{WrittenTerm}
 use Rattle.gf_text.specs.declared.set_reader.Part.{Part}
 use Rattle.gf_text.specs.Tokens.{decimal_value}
-use Rattle.gf_text.specs.SetText.{variable, sign, most, most_exponent, IsNumberText, IsFactorText, IsStar, AreMoreFactors, IsRationalText, IsTermText, AreMoreTerms, IsPolynomialText, AreMorePolynomials, with_name, with_factor, with_sign, with_numer, with_denom, part_terms, next_term, all_of, next_polynomial}
+use Rattle.gf_text.specs.SetText.{variable, sign, most, most_exponent, IsNumberText, IsFactorText, IsStar, AreMoreFactors, IsRationalText, IsTermText, AreMoreTerms, IsPolynomialText, AreMorePolynomials, with_variable, with_factor, with_sign, with_numer, with_denom, part_terms, next_term, all_of, next_polynomial}
 use Rattle.gf_text.specs.Marks.{comma, slash, caret, brace_end}
 
 abbrev Texts : Type 0
@@ -142,7 +142,7 @@ module _ (ring : List (List ℕ)) where
   factor_by t v k power named (inl h) = (t, named, inl (ap (λ l. t ∷ l) h.0, h.1))
   factor_by t v k power named (inr (u, is, number)) = (t, named, inr (u, ap (λ l. t ∷ l) is, number))
 
-  pub one_factor : (p : Part) (t : List ℕ) (v : ℕ) (ts : Texts) (ps : Sets) → variable ring t ≡ Some v → Named (with_name p v) ts ps → Factored p (t ∷ ts) ps
+  pub one_factor : (p : Part) (t : List ℕ) (v : ℕ) (ts : Texts) (ps : Sets) → variable ring t ≡ Some v → Named (with_variable p v) ts ps → Factored p (t ∷ ts) ps
   one_factor p t v ts ps named n = record {
     first = t ∷ n.power;
     f = record { variable = v; exponent = n.k };

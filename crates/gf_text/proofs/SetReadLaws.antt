@@ -9,7 +9,7 @@ use Rattle.gf_text.specs.declared.set_reader.SetPlace.TheVariants as at
 use Rattle.gf_text.specs.declared.set_reader.Part.{Part}
 use Rattle.gf_text.specs.Machine.{go, done, halt, after, followed}
 use Rattle.gf_text.specs.Tokens.{is_number, decimal_value}
-use Rattle.gf_text.specs.SetText.{variable, most, most_exponent, IsNumberText, IsSetText, SetState, SetMove, with_name, with_factor, with_sign, with_numer, with_denom, next_term, all_of, next_polynomial, is_word, name_or_by, number_or, term_or, front_step, end_step, behind_step, token_step, set_step, empty}
+use Rattle.gf_text.specs.SetText.{variable, most, most_exponent, IsNumberText, IsSetText, SetState, SetMove, with_variable, with_factor, with_sign, with_numer, with_denom, next_term, all_of, next_polynomial, is_word, name_or_by, number_or, term_or, front_step, end_step, behind_step, token_step, set_step, empty}
 use Rattle.gf_text.specs.Marks.{plus_mark, minus_mark, comma, star, slash, caret, brace, brace_end}
 use Rattle.gf_text.proofs.MachineLaws.{not_yet}
 use Rattle.gf_text.proofs.SetPartsLaws.{Behind, Factored, Named, Powered, Numbered, Divided, FreshTerm, Term, Fresh, Polynomial, First, one_factor, more_factors, more_terms, more_polynomials, at_end, factor_term, number_term, signed, bare}
@@ -49,7 +49,7 @@ module _ (ring : List (List ℕ)) where
 
   -- a name, or what another token does
   named_by : (o : Option ℕ) (p : Part) (t : List ℕ) (other : SetMove) (ts : Texts) (ps : Sets) → Then (name_or_by o p t other) ts ps
-      → ((v : ℕ) × (o ≡ Some v) × From (at.Name, with_name p v) ts ps) ⊎ Then other ts ps
+      → ((v : ℕ) × (o ≡ Some v) × From (at.Name, with_variable p v) ts ps) ⊎ Then other ts ps
   named_by (Some v) p t other ts ps e = inl (v, refl, e)
   named_by None p t other ts ps e = elim (chosen (is_word t) (halt UnknownName) other ts ps e) [
     | inl h ↦ halted UnknownName ts ps h.1
@@ -88,9 +88,9 @@ module _ (ring : List (List ℕ)) where
   -- ---- what is read, token by token
 
   module _ (t : List ℕ) (ts : Texts) (later : Later ts) where
-    name_on : (p : Part) (ps : Sets) (v : ℕ) → variable ring t ≡ Some v → From (at.Name, with_name p v) ts ps → Factored ring p (t ∷ ts) ps
+    name_on : (p : Part) (ps : Sets) (v : ℕ) → variable ring t ≡ Some v → From (at.Name, with_variable p v) ts ps → Factored ring p (t ∷ ts) ps
     unfolding Said Later
-    name_on p ps v named e = one_factor ring p t v ts ps named (later at.Name (with_name p v) ps e)
+    name_on p ps v named e = one_factor ring p t v ts ps named (later at.Name (with_variable p v) ps e)
 
     -- behind a whole term
     end_on : (p : Part) (ps : Sets) → Then (end_step p t) ts ps → Behind ring p (t ∷ ts) ps

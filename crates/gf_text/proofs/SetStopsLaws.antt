@@ -10,7 +10,7 @@ use Rattle.gf_text.specs.declared.set_reader.Part.{Part}
 use Rattle.gf_text.specs.Machine.{go, done, halt}
 use Rattle.gf_text.specs.Tokens.{is_number, decimal_value}
 use Rattle.gf_text.specs.RingText.{IsRing}
-use Rattle.gf_text.specs.SetText.{variable, most, most_exponent, SetState, SetMove, with_name, with_factor, with_sign, with_numer, with_denom, next_term, all_of, next_polynomial, is_word, name_or_by, number_or, term_or, front_step, end_step, behind_step, token_step}
+use Rattle.gf_text.specs.SetText.{variable, most, most_exponent, SetState, SetMove, with_variable, with_factor, with_sign, with_numer, with_denom, next_term, all_of, next_polynomial, is_word, name_or_by, number_or, term_or, front_step, end_step, behind_step, token_step}
 use Rattle.gf_text.specs.Marks.{plus_mark, minus_mark, comma, star, slash, caret, brace, brace_end}
 use Rattle.gf_text.proofs.KindsLaws.{one}
 use Rattle.gf_text.proofs.SetTokensLaws.{named_word, no_name, word_no_number, word_no_mark, number_no_word, number_no_mark, le_false, not_le, not_zero, zero_number}
@@ -86,7 +86,7 @@ module _ (ring : List (List ℕ)) where
   either place t false x y h k = k refl
 
   named : (place : SetPlace) (t : List ℕ) (o : Option ℕ) (p : Part) (other : SetMove) → takes_name place ≡ true → Says place t other → Says place t (name_or_by o p t other)
-  named place t (Some v) p other takes h = says_go place t (at.Name, with_name p v)
+  named place t (Some v) p other takes h = says_go place t (at.Name, with_variable p v)
   named place t None p other takes h = either place t (is_word t) (halt UnknownName) other (λ word. says place t UnknownName (takes, word)) (λ no. h)
 
   numbered : (place : SetPlace) (t : List ℕ) (most_here : ℕ) (u : SetState) (other : SetMove) → takes_number place ≡ true → limit place ≡ most_here → Says place t other → Says place t (number_or t most_here (go u) other)
@@ -263,7 +263,7 @@ module _ (ring : List (List ℕ)) where
   pub name_goes : IsRing ring → (place : SetPlace) → takes_name place ≡ true → (p : Part) (t : List ℕ) (v : ℕ) → variable ring t ≡ Some v → (u : SetState) × (token_step ring place p t ≡ go u)
   name_goes is_ring place h p t v name =
       let s = word_step place h p t (named_word ring is_ring t v name) in
-      ((at.Name, with_name s.part v), s.is ∙ ap (λ o. name_or_by o s.part t s.other) name)
+      ((at.Name, with_variable s.part v), s.is ∙ ap (λ o. name_or_by o s.part t s.other) name)
 
   -- a number is unexpected where none may stand
   behind_number : IsRing ring → (p : Part) (t : List ℕ) → is_number t ≡ true → behind_step ring p t ≡ halt Unexpected

@@ -7,7 +7,7 @@ use Rattle.gf_text.specs.declared.set_reader.Part.{Part}
 use Rattle.gf_text.specs.Machine.{done, after}
 use Rattle.gf_text.specs.Tokens.{decimal_value}
 use Rattle.gf_text.specs.RingText.{IsRing}
-use Rattle.gf_text.specs.SetText.{sign, most, IsNumberText, IsRationalText, IsTermText, AreMoreTerms, IsFrontSign, IsPolynomialText, AreMorePolynomials, IsSetText, SetState, with_name, with_sign, with_numer, with_denom, part_terms, next_term, all_of, next_polynomial, set_step, empty}
+use Rattle.gf_text.specs.SetText.{sign, most, IsNumberText, IsRationalText, IsTermText, AreMoreTerms, IsFrontSign, IsPolynomialText, AreMorePolynomials, IsSetText, SetState, with_variable, with_sign, with_numer, with_denom, part_terms, next_term, all_of, next_polynomial, set_step, empty}
 use Rattle.gf_text.specs.Marks.{plus_mark, minus_mark, slash, brace, brace_end}
 use Rattle.gf_text.proofs.MachineLaws.{after-go, after-done}
 use Rattle.gf_text.proofs.SetFactorsLaws.{Leads, Like, Takes, behind_like, number_like, like_sign, like_comma, like_end, Behind, then_factors, behind_at, factors_read, monomial_read}
@@ -82,7 +82,7 @@ module _ (ring : List (List ℕ)) (is_ring : IsRing ring) where
           after-go (set_step ring) (at.Term, p) (at.Number, with_numer p (decimal_value t)) t ts (rw (digits, within) refl)
 
       named : Takes ring (at.Term, p) p
-      named t v ts h = after-go (set_step ring) (at.Term, p) (at.Name, with_name p v) t ts (rw (word_no_number t (named_word ring is_ring t v h), h) refl)
+      named t v ts h = after-go (set_step ring) (at.Term, p) (at.Name, with_variable p v) t ts (rw (word_no_number t (named_word ring is_ring t v h), h) refl)
 
   -- terms behind a term
 
@@ -144,7 +144,7 @@ module _ (ring : List (List ℕ)) (is_ring : IsRing ring) where
       named : Takes ring (at.Polynomial, p) p
       named t v ts h =
           let word = named_word ring is_ring t v h in
-          after-go (set_step ring) (at.Polynomial, p) (at.Name, with_name p v) t ts (rw (word_no_mark t 43 word refl, word_no_mark t 45 word refl, word_no_number t word, h) refl)
+          after-go (set_step ring) (at.Polynomial, p) (at.Name, with_variable p v) t ts (rw (word_no_mark t 43 word refl, word_no_mark t 45 word refl, word_no_number t word, h) refl)
 
   first_opens : (p : Part) → Opens (at.First, p) p
   first_opens p = record { sign_on = signed; begins = record { number_on = number; name_on = named } }
@@ -163,7 +163,7 @@ module _ (ring : List (List ℕ)) (is_ring : IsRing ring) where
       named : Takes ring (at.First, p) p
       named t v ts h =
           let word = named_word ring is_ring t v h in
-          after-go (set_step ring) (at.First, p) (at.Name, with_name p v) t ts
+          after-go (set_step ring) (at.First, p) (at.Name, with_variable p v) t ts
           (rw (word_no_mark t 125 word refl, word_no_mark t 43 word refl, word_no_mark t 45 word refl, word_no_number t word, h) refl)
 
   -- the sign at the front, or none, and the term behind it

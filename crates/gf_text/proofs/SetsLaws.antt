@@ -14,7 +14,7 @@ use Rattle.gf_text.specs.declared.combine.Sums.TheVariants as came
 use Rattle.gf_text.specs.declared.written.Written.{Written}
 use Rattle.gf_text.specs.declared.written.Written.TheVariants as written
 use Rattle.gf_text.specs.declared.tree.WrittenTerm.{WrittenTerm}
-use Rattle.gf_text.specs.Combining.{SumsHaveVariables, IsFirstRemaining, IsFirstRemainingAt, IsSumMarked, terms_written, ExponentsFit}
+use Rattle.gf_text.specs.Combining.{SumsHaveVariables, IsFirstRemaining, IsFirstRemainingAt, IsSumMarked, terms_written, WrittenExponentsFit}
 use Rattle.gf_text.specs.Sets.{IsWritten, AreWritten, IsIn, AreIn, AllSumsFit, IsSummed, IsSummingCause, IsWhatRemains, IsCombiningCause, Adds, AreNonzero, from_poly}
 use Rattle.gf_text.proofs.CombiningLaws.{sums_push_ok, sums_push_refused, sums_push_after}
 
@@ -65,7 +65,7 @@ pub adds_exponent : (n : ℕ) (us : List WrittenTerm) (old : List Written) (o : 
 adds_exponent n us old o cause qs h = sums_push_refused n qs us h.sums o h.exponents cause
 
 -- a sum before it leaves its range, and its exponents fit
-pub keeps_overflow : (n : ℕ) (us : List WrittenTerm) (o : Overflow) → ExponentsFit n us → Adds n (us ∷ []) (came.Overflow o) (came.Overflow o)
+pub keeps_overflow : (n : ℕ) (us : List WrittenTerm) (o : Overflow) → WrittenExponentsFit n us → Adds n (us ∷ []) (came.Overflow o) (came.Overflow o)
 keeps_overflow n us o fit qs h =
     let first = h.2 in (
       h.0 ++ fit.0 ∷ [],

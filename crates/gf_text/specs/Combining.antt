@@ -66,8 +66,8 @@ sums_of n [] = Ok []
 sums_of n (q ∷ qs) = before_all (terms_written n q) (sums_of n qs)
 
 -- each exponent of these terms stays within its limit
-abbrev pub ExponentsFit : ℕ → List WrittenTerm → Type 0
-ExponentsFit n us = (f : Terms) × (terms_written n us ≡ Ok f)
+abbrev pub WrittenExponentsFit : ℕ → List WrittenTerm → Type 0
+WrittenExponentsFit n us = (f : Terms) × (terms_written n us ≡ Ok f)
 
 -- each sum has n variables
 abbrev pub SumsHaveVariables : ℕ → List Terms → Type 0

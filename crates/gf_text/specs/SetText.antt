@@ -102,8 +102,8 @@ abbrev pub SetMove : Type 0
 SetMove = Move SetState (List (List WrittenTerm))
 
 -- the name of this variable is read, its exponent isn't yet
-abbrev pub with_name : Part → ℕ → Part
-with_name p v = record p { variable = v }
+abbrev pub with_variable : Part → ℕ → Part
+with_variable p v = record p { variable = v }
 
 -- the power of the variable whose name is read
 abbrev pub with_factor : Part → ℕ → Part
@@ -145,7 +145,7 @@ is_word (b ∷ bs) = is_letter b
 
 -- a name of the ring is taken; another letter can't stand where a name may; another token does something else
 abbrev pub name_or_by : Option ℕ → Part → List ℕ → SetMove → SetMove
-name_or_by (Some v) p t other = go (at.Name, with_name p v)
+name_or_by (Some v) p t other = go (at.Name, with_variable p v)
 name_or_by None p t other = if is_word t then halt cause.UnknownName else other
 
 abbrev pub name_or : List (List ℕ) → Part → List ℕ → SetMove → SetMove

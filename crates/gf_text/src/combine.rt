@@ -3,7 +3,7 @@ ghost use Rattle.std.specs.Prelude.{◌≡◌, ◌≤◌, ◌<◌, ◌^◌, IfOk
 ghost use Rattle.gf_frac.specs.Fraction.{zero_ℚ};
 ghost use Rattle.gf_poly.specs.Polynomial.{Terms, coefficient, SamePolynomial, IsDescending, HasVariables};
 ghost use Rattle.gf_text.specs.Limits.{IsFactorWithin, AreFactorsWithin, IsTermWithin, AreTermsWithin, ArePolynomialsWithin};
-ghost use Rattle.gf_text.specs.Combining.{raised_by, times_factors, exponents_of, coefficient_of, term_written, terms_written, ExponentsFit, IsSumOf, FindsFirst, IsPlaceOf};
+ghost use Rattle.gf_text.specs.Combining.{raised_by, times_factors, exponents_of, coefficient_of, term_written, terms_written, WrittenExponentsFit, IsSumOf, FindsFirst, IsPlaceOf};
 ghost use Rattle.gf_text.specs.Sets.{IsExponentCause, IsSummed, IsSummingCause, HasSums, Adds, from_poly};
 
 use crate::error::TextError;
@@ -89,7 +89,7 @@ fn terms_from(alloc: Global, n: usize, terms: &[WrittenTerm]) -> Result<Vec<Term
 fn check_terms(alloc: Global, n: usize, terms: &[WrittenTerm]) -> Result<(), ExponentOverflow>
     requires room { n ≤ ROOM }
     requires within { AreTermsWithin n terms.now }
-    ensures ok { OnOk result (ExponentsFit n terms.now) }
+    ensures ok { OnOk result (WrittenExponentsFit n terms.now) }
     ensures err { IfErr result (λ o. terms_written n terms.now ≡ Err o) }
 {
     'terms: for term in terms {

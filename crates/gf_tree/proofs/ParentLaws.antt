@@ -9,7 +9,7 @@ use Rattle.gf_walk.specs.Whole.{IsRootOf}
 use Rattle.gf_facets.specs.Regions.{Region, all_positive}
 use Rattle.gf_reverse.specs.Upward.{IsNode, IsNodeIn, IsParent, IsWayUp, LeadsUp, fan_of}
 use Rattle.gf_reverse.specs.Answers.{IsAcross, IsWayAnswer}
-use Rattle.gf_reverse.proofs.TheoremsHold.{root_has_no_way_up, bases_make_a_tree}
+use Rattle.gf_reverse.proofs.LawsHold.{root_has_no_way_up, bases_make_a_tree}
 use Rattle.gf_reverse.proofs.ListLaws.{root_above, root_own}
 use Rattle.gf_tree.specs.declared.above.Parent.{Parent}
 use Rattle.gf_tree.specs.declared.error.TreeError.{TreeError}

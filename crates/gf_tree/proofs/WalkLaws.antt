@@ -9,7 +9,7 @@ use Rattle.gf_walk.specs.Path.{Leads, IsRoot}
 use Rattle.gf_walk.specs.Place.{Place, StandsBelow}
 use Rattle.gf_walk.specs.Listing.{Leaves, IsLeftAt, IsFirstOf}
 use Rattle.gf_walk.specs.Walk.{Steps, Advances}
-use Rattle.gf_walk.specs.Split.{Splits, AreParts, IsCutAt, AreCutAt}
+use Rattle.gf_walk.specs.Split.{Splits, AreSplitParts, IsCutAt, AreCutAt}
 use Rattle.gf_walk.specs.Whole.{IsRootOf, StandsAfter}
 use Rattle.gf_facets.specs.LexPositive.{IsBefore}
 use Rattle.gf_facets.specs.Regions.{Region, all_positive}
@@ -134,7 +134,7 @@ module _ (p q : Place BasisTree MarkedPolynomials (List ℤ)) (n m : ℕ) (list 
 -- ---- two parts
 
 module _ (p f r : Place BasisTree MarkedPolynomials (List ℤ)) (n a b : ℕ) (cut : AreCutAt IsBefore up_in p f r) (ef : f.tree ≡ p.tree) (er : r.tree ≡ p.tree)
-    (list : (nodes : List MarkedPolynomials) → IsLeftAt IsBefore up_in p nodes → AreParts IsBefore up_in nodes f r) (za : a ≡ 0) (zb : b ≡ 0) (had : HasListLeft (walk_of p n)) where
+    (list : (nodes : List MarkedPolynomials) → IsLeftAt IsBefore up_in p nodes → AreSplitParts IsBefore up_in nodes f r) (za : a ≡ 0) (zb : b ≡ 0) (had : HasListLeft (walk_of p n)) where
   at_is : r.here ≡ f.here
   at_is = sym (cut.next had.left.top had.left.path had.left.at).node
 
@@ -161,7 +161,7 @@ module _ (p f r : Place BasisTree MarkedPolynomials (List ℤ)) (n a b : ℕ) (c
   }
 
   -- how long the parts are
-  few_parts : (s : AreParts IsBefore up_in had.rest f r) → suc (length s.front + length s.back) ≤ count (all_positive p.tree.variables) p.here
+  few_parts : (s : AreSplitParts IsBefore up_in had.rest f r) → suc (length s.front + length s.back) ≤ count (all_positive p.tree.variables) p.here
   few_parts s = (let e : length had.rest ≡ suc (length (s.front ++ s.back)) = ap length s.whole in let g : length (s.front ++ s.back) ≡ length s.front + length s.back = length-append s.front s.back in let w : length had.rest + n ≤ count (all_positive p.tree.variables) p.here = had.few in omega (arith, e, g, w))
 
   pub left_first : HasListLeft (walk_of f a)

@@ -27,7 +27,7 @@ use Rattle.gf_tropical.specs.declared.kind.Kind.{Kind}
 use Rattle.gf_tropical.specs.declared.kind.Kind.TheVariants.{Prevariety, Minkowski}
 use Rattle.gf_tropical.specs.Kinds.{IsConeBy}
 use Rattle.gf_tropical.specs.Systems.{IsSystemOf, start, whole, face, both}
-use Rattle.gf_tropical.specs.Refusals.{of_gordan, IsTropicalRefusal, IsTropicalWithinLimits}
+use Rattle.gf_tropical.specs.Refusals.{tropical_of_gordan, IsTropicalRefusal, IsTropicalWithinLimits}
 use Rattle.gf_tropical.specs.Making.{IsFanOfRows, AreOfSystems, IsStepOf, IsWidthRefusal}
 
 -- ---- systems
@@ -47,7 +47,7 @@ IsWidthRefusal-weaker P Q (Cone s) to x = to s x
 IsWidthRefusal-weaker P Q (ZeroPolynomial number index) to x = x
 IsWidthRefusal-weaker P Q Memory to x = x
 
-pub failed_width : (P : ConeOverflow → Type 0) (g : GordanError) (e : TropicalError) → e ≡ of_gordan g → Failed P g → IsWidthRefusal P e
+pub failed_width : (P : ConeOverflow → Type 0) (g : GordanError) (e : TropicalError) → e ≡ tropical_of_gordan g → Failed P g → IsWidthRefusal P e
 failed_width P (gordan.Cone s) e q x = subst (IsWidthRefusal P) (sym q) x
 failed_width P gordan.Memory e q x = subst (IsWidthRefusal P) (sym q) tt
 

@@ -1,7 +1,8 @@
--- The weight of an exponent list, one entry further.
+-- The weight of an exponent list, one entry further, and how wide a share of it is.
 use Rattle.std.proofs.Common.{◌≡◌, ℕ, ◌+◌, ◌*◌, ◌^◌, ◌<◌, ◌≤◌, List, length, get_or, drop, ℤ, pos, ◌+ℤ◌, ◌-ℤ◌, ◌*ℤ◌, unsigned_abs, arith, refl, ap, ◌∙◌}
-use Rattle.std.proofs.lemmas.Int.{ints}
+use Rattle.std.proofs.lemmas.Int.{ints, unsigned_abs-mul}
 use Rattle.std.proofs.lemmas.List.{drop_more}
+use Rattle.std.proofs.lemmas.Nat.{mul-le}
 use Rattle.gf_exponents.specs.Exponents.{Exponents, whole_weight}
 
 pub weight-drop : (w : List ℤ) (x : Exponents) (i : ℕ) → i < length w → length x ≡ length w →
@@ -22,3 +23,9 @@ Weighed-more w x i sum part next h e p b n s = record {
   value = omega (arith, ints, s.value, p ∙ ap (λ z. get_or w i (pos 0) *ℤ z) (less_nothing (get_or x i 0)), n, weight-drop w x i h e);
   bound = omega (arith, ints, s.bound, b, n);
 }
+
+-- an entry within 2^63 times a difference of exponents of 32 bits
+pub share_bound : (e : ℤ) (x y : ℕ) → unsigned_abs e ≤ 2 ^ 63 → x < 2 ^ 32 → y < 2 ^ 32 → unsigned_abs (e *ℤ (pos x -ℤ pos y)) ≤ 2 ^ 95
+share_bound e x y h a b =
+    let d : unsigned_abs (pos x -ℤ pos y) ≤ 2 ^ 32 = omega (arith, ints) in
+    rw unsigned_abs-mul (mul-le (unsigned_abs e) (unsigned_abs (pos x -ℤ pos y)) (2 ^ 63) (2 ^ 32) h d)

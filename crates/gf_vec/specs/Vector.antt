@@ -1,6 +1,6 @@
 -- Whole vectors, as lists of whole numbers: sums, dot products, combinations of rows.
 -- `times k xs`, each entry times k, stands in gf_int. Laws: proofs/VectorLaws.antt, proofs/DotLaws.antt, proofs/EntryLaws.antt.
-use Rattle.std.specs.Prelude.{ℕ, List, [], ◌∷◌, ℤ, pos, ◌+ℤ◌, ◌*ℤ◌, replicate, ◌<ℤ◌, ◌⊎◌, slice_index_or}
+use Rattle.std.specs.Prelude.{ℕ, List, [], ◌∷◌, ℤ, pos, ◌+ℤ◌, ◌*ℤ◌, negsuc, replicate, ◌<ℤ◌, ◌⊎◌, slice_index_or}
 use Rattle.gf_int.specs.Content.{scaled}
 
 -- the dot product, of the shorter length
@@ -28,6 +28,10 @@ abbrev pub combined : ℕ → List ℤ → List (List ℤ) → List ℤ
 combined n [] rows = zeros n
 combined n (m ∷ ms) [] = zeros n
 combined n (m ∷ ms) (t ∷ ts) = vector_sum (scaled m t) (combined n ms ts)
+
+-- the opposite vector
+abbrev pub opposite : List ℤ → List ℤ
+opposite xs = scaled (negsuc 0) xs
 
 -- what each row gives on a vector
 abbrev pub values : List (List ℤ) → List ℤ → List ℤ

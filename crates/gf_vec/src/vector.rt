@@ -1,7 +1,7 @@
 //! The vector, and the calls that make, read or change one.
 ghost use Rattle.std.specs.Prelude.{◌≡◌, pos, All, IfOk, IfErr, length};
 ghost use Rattle.gf_int.specs.Range.{InRange};
-ghost use Rattle.gf_vec.specs.Vector.{dot, vector_sum};
+ghost use Rattle.gf_vec.specs.Vector.{dot, vector_sum, opposite};
 ghost use Rattle.gf_int.specs.Content.{scaled};
 ghost use Rattle.gf_vec.specs.Steps.{NoneWide, IsFirstWide, IfWide, dot_steps, sum_steps};
 ghost use Rattle.std.specs.Prelude.{negsuc};
@@ -72,6 +72,18 @@ impl IntVec {
         Ok(IntVec {
             entries: self.entries.clone()?,
         })
+    }
+
+    /// The vector with each entry's sign turned.
+    ///
+    /// # Errors
+    /// Want of memory alone.
+    pub fn opposite(&self) -> Result<IntVec, AllocError>
+        ensures { IfOk result (λ v. v ≡ opposite self.now) }
+    {
+        let mut v = self.copy()?;
+        v.negate();
+        Ok(v)
     }
 
     /// The entries.

@@ -7,12 +7,12 @@ use Rattle.gf_walk.specs.declared.mark.Mark.TheVariants.{Before, After, Listed, 
 use Rattle.gf_walk.specs.declared.expand.Piece.{Piece}
 use Rattle.gf_walk.specs.declared.expand.Piece.TheVariants.{Ready, Under, Refused}
 use Rattle.gf_walk.specs.Path.{IsStrictOrder, IsTree, Leads, IsPath}
-use Rattle.gf_walk.specs.Left.{IsBelow, IsOpen}
+use Rattle.gf_walk.specs.Left.{IsBelowMark, IsOpen}
 use Rattle.gf_walk.specs.Place.{Place, IsPlaced}
 use Rattle.gf_walk.specs.Tree.{RisesBy}
 use Rattle.gf_walk.specs.Walk.{HasNoChild, IsLeastChild, Steps}
 use Rattle.gf_walk.specs.Listing.{Among, LeadTo, Leaves, IsLeftAt}
-use Rattle.gf_walk.specs.Pieces.{PiecesLeave, AreBelow, Follows, GoesDown, Expands, subtree}
+use Rattle.gf_walk.specs.Pieces.{PiecesLeave, ArePiecesBelow, Follows, GoesDown, Expands, subtree}
 use Rattle.gf_walk.proofs.LeftLaws.{open_from_left, left_from_open}
 use Rattle.gf_walk.proofs.StepLaws.{up_cases, up_from, finished_open, none_cases}
 use Rattle.gf_walk.proofs.ClimbLaws.{last_step, Stands-start, Stands-child}
@@ -33,21 +33,21 @@ module _ {L : Type 0} (lt : L → L → Type 0) where
   contains_cases c rs b (zero, h, e) = inl e
   contains_cases c rs b (suc i, h, e) = inr (i, omega arith, e)
 
-  past_mark : IsStrictOrder lt → (m : Mark L) (c b : L) → IsBelow lt m (c ∷ []) → lt c b → IsBelow lt m (b ∷ [])
+  past_mark : IsStrictOrder lt → (m : Mark L) (c b : L) → IsBelowMark lt m (c ∷ []) → lt c b → IsBelowMark lt m (b ∷ [])
   past_mark strict Before c b h k = tt
   past_mark strict (After a) c b h k = strict.transitive a c b h k
   past_mark strict Listed c b h k = tt
   past_mark strict Finished c b h k = h
 
-  pub listed_after : (a : L) → IsBelow lt (After a) [] → ⊥
+  pub listed_after : (a : L) → IsBelowMark lt (After a) [] → ⊥
   listed_after a h = h
 
-  module _ {N : Type 0} (up : N → L → N → Type 0) (u : N) (m : Mark L) (c : L) (ls rs : List L) (is : ls ≡ c ∷ rs) (rises : RisesBy lt ls) (among : (b : L) (w : N) → up w b u → IsBelow lt m (b ∷ []) → Contains ls b) where
+  module _ {N : Type 0} (up : N → L → N → Type 0) (u : N) (m : Mark L) (c : L) (ls rs : List L) (is : ls ≡ c ∷ rs) (rises : RisesBy lt ls) (among : (b : L) (w : N) → up w b u → IsBelowMark lt m (b ∷ []) → Contains ls b) where
     pub rises_next : RisesBy lt rs
     rises_next = rises_on c rs (subst (RisesBy lt) is rises)
 
     -- the child under the first label is the least
-    pub first_least : (v : N) → up v c u → IsBelow lt m (c ∷ []) → (h : IsLeastChild lt up u m v) × (h.label ≡ c)
+    pub first_least : (v : N) → up v c u → IsBelowMark lt m (c ∷ []) → (h : IsLeastChild lt up u m v) × (h.label ≡ c)
     first_least v child past = (
       record {
         label = c;
@@ -62,14 +62,14 @@ module _ {L : Type 0} (lt : L → L → Type 0) where
     )
 
     -- without a child there, the others are among the rest
-    pub among_on : ((w : N) → up w c u → IsBelow lt m (c ∷ []) → ⊥) → (b : L) (w : N) → up w b u → IsBelow lt m (b ∷ []) → Contains rs b
+    pub among_on : ((w : N) → up w c u → IsBelowMark lt m (c ∷ []) → ⊥) → (b : L) (w : N) → up w b u → IsBelowMark lt m (b ∷ []) → Contains rs b
     among_on none b w child past = elim (contains_cases c rs b (subst (λ l. Contains l b) is (among b w child past))) [
-      | inl e ↦ absurd (none w (subst (λ x. up w x u) (sym e) child) (subst (λ x. IsBelow lt m (x ∷ [])) (sym e) past))
+      | inl e ↦ absurd (none w (subst (λ x. up w x u) (sym e) child) (subst (λ x. IsBelowMark lt m (x ∷ [])) (sym e) past))
       | inr k ↦ k
     ]
 
     -- and so they are past the child there
-    pub among_after : IsStrictOrder lt → IsBelow lt m (c ∷ []) → (b : L) (w : N) → up w b u → IsBelow lt (After c) (b ∷ []) → Contains rs b
+    pub among_after : IsStrictOrder lt → IsBelowMark lt m (c ∷ []) → (b : L) (w : N) → up w b u → IsBelowMark lt (After c) (b ∷ []) → Contains rs b
     among_after strict past b w child k = elim (contains_cases c rs b (subst (λ l. Contains l b) is (among b w child (past_mark strict m c b past k)))) [
       | inl e ↦ absurd (strict.irreflexive c (subst (λ x. lt c x) (sym e) k))
       | inr j ↦ j
@@ -77,12 +77,12 @@ module _ {L : Type 0} (lt : L → L → Type 0) where
 
 module _ {L : Type 0} {N : Type 0} (lt : L → L → Type 0) (up : N → L → N → Type 0) (u : N) (m : Mark L) where
   -- where no label is left there is no child
-  pub none_left : (ls : List L) → ls ≡ [] → ((b : L) (w : N) → up w b u → IsBelow lt m (b ∷ []) → Contains ls b) → HasNoChild lt up u m
+  pub none_left : (ls : List L) → ls ≡ [] → ((b : L) (w : N) → up w b u → IsBelowMark lt m (b ∷ []) → Contains ls b) → HasNoChild lt up u m
   none_left ls e among b w child past = let p = subst (λ l. Contains l b) e (among b w child past) in absurd (let k = p.1 in omega arith)
 
 -- one more child
 pub below_more : {T N L E : Type 0} (lt : L → L → Type 0) (up : T → N → L → N → Type 0) (t : T) (u : N) (m m1 : Mark L) (ps : List (Piece T N L E)) (w : Place T N L) (c : L) →
-    AreBelow lt up t u m ps m1 → w ≡ subtree t w.here → (h : IsLeastChild lt (up t) u m1 w.here) → h.label ≡ c → AreBelow lt up t u m (ps ++ Under w ∷ []) (After c)
+    ArePiecesBelow lt up t u m ps m1 → w ≡ subtree t w.here → (h : IsLeastChild lt (up t) u m1 w.here) → h.label ≡ c → ArePiecesBelow lt up t u m (ps ++ Under w ∷ []) (After c)
 below_more lt up t u m m1 [] w c b is h e = (let p = subst (λ k. (j : IsLeastChild lt (up t) u k w.here) × (After j.label ≡ After c)) (sym b) (h, ap After e) in (is, p.0, p.1))
 below_more lt up t u m m1 (Ready v ∷ ps) w c b is h e = absurd b
 below_more lt up t u m m1 (Refused x f ∷ ps) w c b is h e = absurd b
@@ -118,7 +118,7 @@ module _ {N L : Type 0} (lt : L → L → Type 0) (up : N → L → N → Type 0
       ] refl
 
   -- where no child is left, all below the node is listed
-  pub leaves_finished : (v : N) (m : Mark L) (d : ℕ) (nodes : List N) → HasNoChild lt up v m → (IsBelow lt m [] → ⊥) → Leaves lt up m v d nodes → Leaves lt up Finished v d nodes
+  pub leaves_finished : (v : N) (m : Mark L) (d : ℕ) (nodes : List N) → HasNoChild lt up v m → (IsBelowMark lt m [] → ⊥) → Leaves lt up m v d nodes → Leaves lt up Finished v d nodes
   leaves_finished v m d nodes none past l = record {
     top = l.top;
     path = l.path;
@@ -153,7 +153,7 @@ module _ {N L : Type 0} (lt : L → L → Type 0) (up : N → L → N → Type 0
       none top (p ∷ ps) xs lead open_at = absurd (open_at p (inl refl))
 
   -- the least child comes first, with its subtree, and then what is left after its label
-  pub leaves_child : (u v : N) (m : Mark L) (d : ℕ) (nodes : List N) → (IsBelow lt m [] → ⊥) → (h : IsLeastChild lt up u m v) → Leaves lt up m u d nodes →
+  pub leaves_child : (u v : N) (m : Mark L) (d : ℕ) (nodes : List N) → (IsBelowMark lt m [] → ⊥) → (h : IsLeastChild lt up u m v) → Leaves lt up m u d nodes →
       (front : List N) × (back : List N) × (nodes ≡ front ++ back) × Leaves lt up Before v 0 front × Leaves lt up (After h.label) u d back
   leaves_child u v m d nodes past h left =
       let steps : Steps lt up m u d Listed v (d + 1) (Some v) = λ top r at. found lt up strict top m r v v (d + 1) (Stands-child lt up strict tree top m r u m d (d + 1) v (Stands-start lt up top m r u d at) past h refl) refl in
@@ -171,9 +171,9 @@ module _ {N L : Type 0} (lt : L → L → Type 0) (up : N → L → N → Type 0
 
 module _ {T N L E : Type 0} (lt : L → L → Type 0) (up : T → N → L → N → Type 0) (strict : IsStrictOrder lt) (trees : (t : T) → IsTree (up t)) where
   -- the children first, and then what is left after the last
-  pub below_leave : (t : T) (u : N) (d : ℕ) (m m1 : Mark L) (ps rest : List (Piece T N L E)) → (IsBelow lt m [] → ⊥) → AreBelow lt up t u m ps m1 →
-      ((IsBelow lt m1 [] → ⊥) → (back : List N) → Leaves lt (up t) m1 u d back → PiecesLeave (IsLeftAt lt up) rest back) → (nodes : List N) → Leaves lt (up t) m u d nodes → PiecesLeave (IsLeftAt lt up) (ps ++ rest) nodes
-  below_leave t u d m m1 [] rest past b later nodes l = later (subst (λ k. IsBelow lt k [] → ⊥) b past) nodes (subst (λ k. Leaves lt (up t) k u d nodes) b l)
+  pub below_leave : (t : T) (u : N) (d : ℕ) (m m1 : Mark L) (ps rest : List (Piece T N L E)) → (IsBelowMark lt m [] → ⊥) → ArePiecesBelow lt up t u m ps m1 →
+      ((IsBelowMark lt m1 [] → ⊥) → (back : List N) → Leaves lt (up t) m1 u d back → PiecesLeave (IsLeftAt lt up) rest back) → (nodes : List N) → Leaves lt (up t) m u d nodes → PiecesLeave (IsLeftAt lt up) (ps ++ rest) nodes
+  below_leave t u d m m1 [] rest past b later nodes l = later (subst (λ k. IsBelowMark lt k [] → ⊥) b past) nodes (subst (λ k. Leaves lt (up t) k u d nodes) b l)
   below_leave t u d m m1 (Ready v ∷ ps) rest past b later nodes l = absurd b
   below_leave t u d m m1 (Refused x e ∷ ps) rest past b later nodes l = absurd b
   below_leave t u d m m1 (Under w ∷ ps) rest past b later nodes l =
@@ -181,7 +181,7 @@ module _ {T N L E : Type 0} (lt : L → L → Type 0) (up : T → N → L → N 
       (k.0, k.1, k.2, subst (λ x. IsLeftAt lt up x k.0) (sym b.0) k.3, below_leave t u d (After b.1.label) m1 ps rest (λ h. h) b.2 later k.1 k.4)
 
   -- what follows them leaves that
-  follows_leave : (refuses : Place T N L → E → Type 0) (Full : Type 0) (w : Place T N L) (rest : List (Piece T N L E)) → (IsBelow lt w.mark [] → ⊥) → Follows lt up refuses w Full rest → (nodes : List N) → IsLeftAt lt up w nodes → PiecesLeave (IsLeftAt lt up) rest nodes
+  follows_leave : (refuses : Place T N L → E → Type 0) (Full : Type 0) (w : Place T N L) (rest : List (Piece T N L E)) → (IsBelowMark lt w.mark [] → ⊥) → Follows lt up refuses w Full rest → (nodes : List N) → IsLeftAt lt up w nodes → PiecesLeave (IsLeftAt lt up) rest nodes
   follows_leave refuses Full w [] past f nodes l = leaves_nothing lt (up w.tree) strict (trees w.tree) w.here w.depth nodes f.1 (leaves_finished lt (up w.tree) strict (trees w.tree) w.here w.mark w.depth nodes f.0 past l)
   follows_leave refuses Full w (Ready v ∷ ps) past f nodes l = absurd f
   follows_leave refuses Full w (Under x ∷ ps) past f nodes l =
@@ -230,7 +230,7 @@ placed_above is_node up w x tree nodes p same c step less =
     ] refl
 
 -- the children and what follows them, put together
-pub goes_down : {T N L E : Type 0} (lt : L → L → Type 0) (up : T → N → L → N → Type 0) (refuses : Place T N L → E → Type 0) (most count : ℕ) (w : Place T N L) (mark : Mark L) (below rest pieces : List (Piece T N L E)) → pieces ≡ below ++ rest → (IsBelow lt w.mark [] → ⊥) → AreBelow lt up w.tree w.here w.mark below mark →
+pub goes_down : {T N L E : Type 0} (lt : L → L → Type 0) (up : T → N → L → N → Type 0) (refuses : Place T N L → E → Type 0) (most count : ℕ) (w : Place T N L) (mark : Mark L) (below rest pieces : List (Piece T N L E)) → pieces ≡ below ++ rest → (IsBelowMark lt w.mark [] → ⊥) → ArePiecesBelow lt up w.tree w.here w.mark below mark →
     length below ≤ most → count ≡ length below → Follows lt up refuses (record { tree = w.tree; here = w.here; mark = mark; depth = w.depth }) (most ≤ count) rest → GoesDown lt up refuses most w pieces
 goes_down lt up refuses most count w mark below rest pieces whole listed children few counted follows = record {
   below = below;

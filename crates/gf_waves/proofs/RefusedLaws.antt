@@ -6,7 +6,7 @@ use Rattle.std.specs.declared.result.Result.{Result}
 use Rattle.gf_walk.specs.declared.mark.Mark.{Mark}
 use Rattle.gf_walk.specs.declared.mark.Mark.TheVariants.{After}
 use Rattle.gf_walk.specs.Place.{Place}
-use Rattle.gf_walk.specs.Pieces.{AreBelow, Follows, GoesDown}
+use Rattle.gf_walk.specs.Pieces.{ArePiecesBelow, Follows, GoesDown}
 use Rattle.gf_walk.specs.declared.expand.Piece.{Piece}
 use Rattle.gf_walk.specs.declared.expand.Piece.TheVariants.{Ready, Under, Refused}
 use Rattle.gf_waves.specs.Frontier.{AreRefusals, IsFrontRefused}
@@ -21,7 +21,7 @@ module _ {T N L E : Type 0} (lt : L → L → Type 0) (up : T → N → L → N 
 
   -- ---- an expansion
 
-  below_refusals : (t : T) (u : N) (m m1 : Mark L) (ps : List (Piece T N L E)) → AreBelow lt up t u m ps m1 → AreRefusals refuses ps
+  below_refusals : (t : T) (u : N) (m m1 : Mark L) (ps : List (Piece T N L E)) → ArePiecesBelow lt up t u m ps m1 → AreRefusals refuses ps
   below_refusals t u m m1 [] b = tt
   below_refusals t u m m1 (Ready v ∷ ps) b = absurd b
   below_refusals t u m m1 (Under w ∷ ps) b = below_refusals t u (After b.1.label) m1 ps b.2

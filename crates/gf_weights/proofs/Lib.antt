@@ -6,4 +6,4 @@ mod RefusalLaws  -- what a refusal says
 mod FacetLoop  -- the loop over normals, one place further
 pub mod RaysExist  -- a cone that is cut has its rays, and a marked list its normals
 pub mod WitnessesExist  -- and its weight and witnesses
-mod TheoremsHold  -- what functions of this crate name
+mod LawsHold  -- what functions of this crate name

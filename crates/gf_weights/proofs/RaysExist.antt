@@ -35,7 +35,7 @@ use Rattle.gf_duality.proofs.Described.{multiple_of, split_step, pruned}
 use Rattle.gf_duality.proofs.Thinning.{same_rays}
 use Rattle.gf_duality.proofs.Finishing.{finish}
 use Rattle.gf_duality.proofs.Determined.{same_rays_of}
-use Rattle.gf_facets.specs.Rows.{rows_of}
+use Rattle.gf_facets.specs.Rows.{rows_of_polynomials}
 use Rattle.gf_facets.specs.Systems.{unit, units}
 use Rattle.gf_facets.specs.LexPositive.{IsBefore}
 use Rattle.gf_facets.specs.Normals.{Ascends, AreNormals}
@@ -116,7 +116,7 @@ collected (t ∷ r) =
 
 -- a marked list has its normals
 pub normals_exist : (bs : List MarkedPolynomial) → (ns : List (List ℤ)) × AreNormals bs ns
-normals_exist bs = let g = collected (rows_of bs) in (g.0, record { rises = g.1.rises; only = g.1.only; all = λ a k. g.1.all a k.0 k.1 k.2 })
+normals_exist bs = let g = collected (rows_of_polynomials bs) in (g.0, record { rises = g.1.rises; only = g.1.only; all = λ a k. g.1.all a k.0 k.1 k.2 })
 
 -- ---- the orthant
 

@@ -18,12 +18,12 @@ use Rattle.gf_cone.specs.Cones.{ConeRows, all_rows, IsConeOf}
 use Rattle.gf_weights.specs.declared.error.WeightError.{WeightError}
 use Rattle.gf_weights.specs.declared.error.WeightError.TheVariants.{Cone, Wide, Memory}
 use Rattle.gf_weights.specs.Cuts.{IsCutOf}
-use Rattle.gf_weights.specs.Refusals.{of_gordan, of_vector, IsWeightCause, IsCertificateCause}
+use Rattle.gf_weights.specs.Refusals.{weight_of_gordan, of_vector, IsWeightCause, IsBasisCertificateCause}
 use Rattle.gf_weights.proofs.CutLaws.{cut_rows, cut_rays, ambient_is}
 
 -- the rays of the cone aren't found
 pub cut_refused : (n m : ℕ) (bs : List MarkedPolynomial) (c : ConeRows) (given : List (List ℤ)) (none : List (List ℤ)) (e : GordanError) → IsConeOf n (all_positive n) bs c → m ≡ c.variables → given ≡ all_rows c → none ≡ [] →
-    Failed (IsRaysStep m given none) e → IsWeightCause n bs (of_gordan e)
+    Failed (IsRaysStep m given none) e → IsWeightCause n bs (weight_of_gordan e)
 cut_refused n m bs c given none (gordan_errors.Cone s) k em eg en f =
     let a = subst (λ (z : ℕ). IsRaysStep z given none s) (em ∙ k.variables) f in
     let b = subst (λ (z : List (List ℤ)). IsRaysStep n z none s) eg a in
@@ -31,7 +31,7 @@ cut_refused n m bs c given none (gordan_errors.Cone s) k em eg en f =
 cut_refused n m bs c given none gordan_errors.Memory k em eg en f = tt
 
 -- what isn't told for the weight isn't for all
-pub weight_first : (n : ℕ) (bs : List MarkedPolynomial) (e : WeightError) → IsWeightCause n bs e → IsCertificateCause n bs e
+pub weight_first : (n : ℕ) (bs : List MarkedPolynomial) (e : WeightError) → IsWeightCause n bs e → IsBasisCertificateCause n bs e
 weight_first n bs (Cone s) h = h
 weight_first n bs (Wide w) h = inl h
 weight_first n bs Memory h = tt
@@ -43,6 +43,6 @@ weight_refused n bs c r vec_errors.Memory k h = tt
 
 -- nor that of a facet's
 pub witness_refused : (n : ℕ) (bs : List MarkedPolynomial) (c : ConeRows) (r : RowsAndRays) (a : List ℤ) (e : VecError) → IsCutOf n bs c r → IsFlippable n (all_positive n) bs a →
-    IfWide (λ w. IsFirstWide w (adding_steps (zeros r.ambient) (zeros_of a r.rays))) e → IsCertificateCause n bs (of_vector e)
+    IfWide (λ w. IsFirstWide w (adding_steps (zeros r.ambient) (zeros_of a r.rays))) e → IsBasisCertificateCause n bs (of_vector e)
 witness_refused n bs c r a (vec_errors.Wide w) k f h = inr (a, f, (r.rays, cut_rays n bs c r k, subst (λ (m : ℕ). IsFirstWide w (adding_steps (zeros m) (zeros_of a r.rays))) (ambient_is n bs c r k) h))
 witness_refused n bs c r a vec_errors.Memory k f h = tt

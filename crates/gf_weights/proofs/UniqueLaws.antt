@@ -15,7 +15,7 @@ use Rattle.gf_facets.proofs.VectorOrder.{before_strict}
 use Rattle.gf_duality.proofs.ListLaws.{none_in, in_head, in_tail, in_cons}
 use Rattle.gf_weights.specs.declared.certificates.FacetWitness.{FacetWitness}
 use Rattle.gf_weights.specs.declared.certificates.Certificates.{Certificates}
-use Rattle.gf_weights.specs.Weights.{AreCutRows, AreCutRays, IsPrintedWeight, IsPrintedWitness, AreWitnessed, AreCertificates, normals_of}
+use Rattle.gf_weights.specs.Weights.{AreCutRows, AreCutRays, IsPrintedWeight, IsPrintedWitness, AreWitnessed, AreBasisCertificates, normals_of}
 
 -- ascending lists with the same members are one
 pub same_ascending : (xs ys : List (List ℤ)) → Ascends xs → Ascends ys → ((x : List ℤ) → Contains xs x → Contains ys x) → ((x : List ℤ) → Contains ys x → Contains xs x) → xs ≡ ys
@@ -79,5 +79,5 @@ one_facets n bs fs gs p q =
     (λ a c. let r = normal_there fs a c in q.all a (subst (IsFlippable n (all_positive n) bs) r.1.1 (p.flippable r.0 r.1.0)))
     (λ a c. let r = normal_there gs a c in p.all a (subst (IsFlippable n (all_positive n) bs) r.1.1 (q.flippable r.0 r.1.0))))
 
-pub one_certificates : (n : ℕ) (bs : List MarkedPolynomial) (c d : Certificates) → AreCertificates n bs c → AreCertificates n bs d → (c.weight ≡ d.weight) × (c.facets.items ≡ d.facets.items)
+pub one_certificates : (n : ℕ) (bs : List MarkedPolynomial) (c d : Certificates) → AreBasisCertificates n bs c → AreBasisCertificates n bs d → (c.weight ≡ d.weight) × (c.facets.items ≡ d.facets.items)
 one_certificates n bs c d p q = (one_weight n bs c.weight d.weight p.weight q.weight, one_facets n bs c.facets.items d.facets.items p.facets q.facets)

@@ -20,9 +20,9 @@ use Rattle.gf_weights.specs.Weights.{AreCutRows, AreCutRays}
 
 -- ---- refusals of other crates
 
-abbrev pub of_gordan : GordanError → WeightError
-of_gordan (gordan_errors.Cone o) = Cone o
-of_gordan gordan_errors.Memory = Memory
+abbrev pub weight_of_gordan : GordanError → WeightError
+weight_of_gordan (gordan_errors.Cone o) = Cone o
+weight_of_gordan gordan_errors.Memory = Memory
 
 abbrev pub of_vector : VecError → WeightError
 of_vector (vec_errors.Wide w) = Wide w
@@ -50,10 +50,10 @@ IsWeightCause n bs (Wide e) = IsWideWeight n bs e
 IsWeightCause n bs Memory = Unit {0}
 
 -- why the weight and the witnesses aren't
-abbrev pub IsCertificateCause : ℕ → List MarkedPolynomial → WeightError → Type 0
-IsCertificateCause n bs (Cone s) = IsCutStep n bs s
-IsCertificateCause n bs (Wide e) = IsWideWeight n bs e ⊎ IsWideWitness n bs e
-IsCertificateCause n bs Memory = Unit {0}
+abbrev pub IsBasisCertificateCause : ℕ → List MarkedPolynomial → WeightError → Type 0
+IsBasisCertificateCause n bs (Cone s) = IsCutStep n bs s
+IsBasisCertificateCause n bs (Wide e) = IsWideWeight n bs e ⊎ IsWideWitness n bs e
+IsBasisCertificateCause n bs Memory = Unit {0}
 
 -- ---- within limits
 
@@ -63,4 +63,4 @@ IsWeightWithinLimits n bs = (e : WeightError) → IsWeightCause n bs e → e ≡
 
 -- nor for the weight and the witnesses
 abbrev pub AreCertificatesWithinLimits : ℕ → List MarkedPolynomial → Type 0
-AreCertificatesWithinLimits n bs = (e : WeightError) → IsCertificateCause n bs e → e ≡ Memory
+AreCertificatesWithinLimits n bs = (e : WeightError) → IsBasisCertificateCause n bs e → e ≡ Memory

@@ -50,6 +50,6 @@ pub record AreWitnessed (n : ℕ) (bs : List MarkedPolynomial) (fs : List FacetW
   pub all : (a : List ℤ) → IsFlippable n (all_positive n) bs a → Contains (normals_of fs) a
 
 -- the weight, and these facets
-pub record AreCertificates (n : ℕ) (bs : List MarkedPolynomial) (c : Certificates) : Type 0 where
+pub record AreBasisCertificates (n : ℕ) (bs : List MarkedPolynomial) (c : Certificates) : Type 0 where
   pub weight : IsPrintedWeight n bs c.weight
   pub facets : AreWitnessed n bs c.facets.items

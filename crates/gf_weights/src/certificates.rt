@@ -1,8 +1,8 @@
 //! The printed weight of a marked reduced Gröbner basis, and the facets of its cone that a flip may cross, each with a witness.
 ghost use Rattle.std.specs.Prelude.{◌≡◌, IfOk, IfErr};
-ghost use Rattle.gf_weights.specs.Weights.{IsPrintedWeight, AreWitnessed, AreCertificates};
+ghost use Rattle.gf_weights.specs.Weights.{IsPrintedWeight, AreWitnessed, AreBasisCertificates};
 ghost use Rattle.gf_weights.specs.Cuts.{IsCutOf};
-ghost use Rattle.gf_weights.specs.Refusals.{IsWeightCause, IsCertificateCause, IsWeightWithinLimits, AreCertificatesWithinLimits};
+ghost use Rattle.gf_weights.specs.Refusals.{IsWeightCause, IsBasisCertificateCause, IsWeightWithinLimits, AreCertificatesWithinLimits};
 ghost use Rattle.gf_weights.specs.declared.error.WeightError.TheVariants.{Memory};
 
 use crate::cut::{Cut, cut_cone, is_flippable};
@@ -48,7 +48,7 @@ pub fn weight(alloc: Global, set: &MarkedSet) -> Result<IntVec, WeightError>
 fn facets(alloc: Global, set: &MarkedSet, cut: &Cut) -> Result<Vec<FacetWitness>, WeightError>
     requires { IsCutOf set.now.variables set.now.items cut.now.cone cut.now.rays }
     ensures ok { IfOk result (λ found. AreWitnessed set.now.variables set.now.items found.items) }
-    ensures err { IfErr result (IsCertificateCause set.now.variables set.now.items) }
+    ensures err { IfErr result (IsBasisCertificateCause set.now.variables set.now.items) }
 {
     let normals = cut.cone.normals();
     let mut found = Vec::new(alloc);
@@ -69,8 +69,8 @@ fn facets(alloc: Global, set: &MarkedSet, cut: &Cut) -> Result<Vec<FacetWitness>
 ///
 /// Those of `weight`, and `Wide` for the sum of the rays of such a facet as well.
 pub fn certify(alloc: Global, set: &MarkedSet) -> Result<Certificates, WeightError>
-    ensures value { IfOk result (AreCertificates set.now.variables set.now.items) }
-    ensures err { IfErr result (IsCertificateCause set.now.variables set.now.items) }
+    ensures value { IfOk result (AreBasisCertificates set.now.variables set.now.items) }
+    ensures err { IfErr result (IsBasisCertificateCause set.now.variables set.now.items) }
     ensures complete { AreCertificatesWithinLimits set.now.variables set.now.items → IfErr result (λ e. e ≡ Memory) }
 {
     let cut = cut_cone(alloc, set)?;

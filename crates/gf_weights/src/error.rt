@@ -33,9 +33,9 @@ impl<T: Drop> From<AllocFailed<T>> for WeightError {
 }
 
 impl From<GordanError> for WeightError {
-    ghost use Rattle.gf_weights.specs.Refusals.{of_gordan};
+    ghost use Rattle.gf_weights.specs.Refusals.{weight_of_gordan};
 
-    ghost from_gives = { λ g e. e ≡ of_gordan g };
+    ghost from_gives = { λ g e. e ≡ weight_of_gordan g };
 
     fn from(error: GordanError) -> WeightError {
         match error {

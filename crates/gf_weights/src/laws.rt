@@ -1,5 +1,5 @@
 // What the printed weights and witnesses have.
-ghost use Rattle.gf_weights.specs.Theorems.{WeightsGiveBases, WitnessesAreInside, CertificatesAreUnique, CertificatesExist};
+ghost use Rattle.gf_weights.specs.Laws.{WeightsGiveBases, WitnessesAreInside, CertificatesAreUnique, CertificatesExist};
 
 /// The printed weight gives the marks, and a marked reduced basis is the reduced one for its printed weight (Fukuda, Jensen,
 /// Thomas, *Computing Gröbner fans*, 2).

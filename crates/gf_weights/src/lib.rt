@@ -1,7 +1,7 @@
 //! The weight that is printed of a marked reduced Gröbner basis, and a vector inside each of its flippable facets: sums of the
 //! primitive vectors along the extreme rays of its cone, cut with the non-negative orthant.
 //!
-//! Start at `specs/Weights.antt`; `specs/Theorems.antt` has the theorems.
+//! Start at `specs/Weights.antt`; `specs/Laws.antt` has the theorems.
 #![tactic(auto)]
 
 mod certificates;

@@ -27,8 +27,8 @@ use Rattle.gf_tree.specs.declared.error.TreeError.TheVariants as tree_errors
 use Rattle.gf_tree.specs.Ideals.{ideal_by}
 use Rattle.gf_tree.specs.Refusals.{IsTreeRefusal}
 use Rattle.gf_tree.proofs.RefusalLaws.{refusal_moved}
-use Rattle.gf_subtree.specs.Rows.{Row, ideal_in, AreLeftIn, row_at}
-use Rattle.gf_subtree.specs.Answers.{IsRowStep, IsRowEnd}
+use Rattle.gf_subtree.specs.Rows.{Row, ideal_in, AreLeftIn, first_row}
+use Rattle.gf_subtree.specs.Answers.{IsNextRow, IsRowEnd}
 use Rattle.gf_subtree.proofs.BasisRowLaws.{start_leaves}
 use Rattle.gf_weights.specs.declared.error.WeightError.{WeightError}
 use Rattle.gf_weights.specs.declared.error.WeightError.TheVariants as weight_errors
@@ -41,7 +41,7 @@ use Rattle.gfan.specs.Buchberger.{generators_of, of_basis}
 use Rattle.gfan.specs.BasesList.{AreAllBases}
 use Rattle.gfan.specs.Certificates.{IsItemText, IsItemRefusal, of_weight_error}
 use Rattle.gfan.specs.Bases.{AreItemTexts, IsWithinLimit, IsTextOfBases, IsBegunList, IsBegunText, list_text, begun_text, of_tree, IsGoingCause, IsListCause, bases_command}
-use Rattle.gfan.specs.BasesWriting.{basis_piece, IsBasisWritten, IsUnwritten, IsBasisUnwritten, IsRoomFor, IsOneLess, IsFull, IsFirstBasis, IsRootRefusal, IsListWritten, IsListStopped, IsUnnamed, is_none_of, IsUnderWay}
+use Rattle.gfan.specs.BasesWriting.{basis_piece, IsBasisWritten, IsUnwritten, IsBasisUnwritten, HasRoomFor, IsOneLess, IsFull, IsFirstBasis, IsRootRefusal, IsListWritten, IsListStopped, IsUnnamed, is_none_of, IsUnderWay}
 use Rattle.gfan.specs.Refused.{without_names}
 use Rattle.gfan.specs.Performed.{IsStoppedFor}
 use Rattle.gfan.proofs.BuchbergerLaws.{in_ring}
@@ -51,7 +51,7 @@ use Rattle.gfan.proofs.BasesTextLaws.{begun_next, whole_begun, prefix_on, prefix
 
 -- ---- room
 
-pub room_next : (limit : Option ℕ) (room after : Room) (written : List MarkedPolynomials) (b : MarkedPolynomials) → IsRoomFor limit room written → IsOneLess room after → IsRoomFor limit after (written ++ b ∷ [])
+pub room_next : (limit : Option ℕ) (room after : Room) (written : List MarkedPolynomials) (b : MarkedPolynomials) → HasRoomFor limit room written → IsOneLess room after → HasRoomFor limit after (written ++ b ∷ [])
 room_next None Endless Endless written b h l = tt
 room_next None Endless (Limited most left) written b h l = absurd l
 room_next None (Limited most left) after written b h l = absurd h
@@ -66,13 +66,13 @@ pub record IsAtLimit (limit : Option ℕ) (written : List MarkedPolynomials) (r 
   pub is_limit : limit ≡ Some most
   pub just : length written ≡ most
 
-pub room_full : (limit : Option ℕ) (room : Room) (written : List MarkedPolynomials) (r : Refusal) → IsRoomFor limit room written → IsFull room r → IsAtLimit limit written r
+pub room_full : (limit : Option ℕ) (room : Room) (written : List MarkedPolynomials) (r : Refusal) → HasRoomFor limit room written → IsFull room r → IsAtLimit limit written r
 room_full None Endless written r h f = absurd f
 room_full None (Limited most left) written r h f = absurd h
 room_full (Some limit) Endless written r h f = absurd h
 room_full (Some limit) (Limited most left) written r h f = record { most = most; told = f.1; is_limit = ap Some (sym h.0); just = omega (arith, h.0, h.1, f.0) }
 
-room_within : (limit : Option ℕ) (room : Room) (written : List MarkedPolynomials) → IsRoomFor limit room written → IsWithinLimit limit written
+room_within : (limit : Option ℕ) (room : Room) (written : List MarkedPolynomials) → HasRoomFor limit room written → IsWithinLimit limit written
 room_within None Endless written h = tt
 room_within None (Limited most left) written h = absurd h
 room_within (Some limit) Endless written h = absurd h
@@ -86,8 +86,8 @@ among_right (y ∷ xs) ys x j = inr (among_right xs ys x j)
 
 module _ (o : ListOptions) (ring : List (List ℕ)) (fs : List Terms) where
   -- before the first basis
-  pub starts : (alloc : Global) (workers : ℕ) (root : MarkedPolynomials) (room : Room) (held : Option (List ℕ)) → AreInVariables (length ring) fs → IsFirstBasis (length ring) fs root → IsRoomFor o.limit room [] →
-      IsUnderWay o ring fs (row_at alloc root workers o.pairs) room true held held
+  pub starts : (alloc : Global) (workers : ℕ) (root : MarkedPolynomials) (room : Room) (held : Option (List ℕ)) → AreInVariables (length ring) fs → IsFirstBasis (length ring) fs root → HasRoomFor o.limit room [] →
+      IsUnderWay o ring fs (first_row alloc root workers o.pairs) room true held held
   starts alloc workers root room held v first h = record {
     written = [];
     items = [];
@@ -135,7 +135,7 @@ module _ (o : ListOptions) (ring : List (List ℕ)) (fs : List Terms) where
     begun_now : IsBegunText o.certified ring fs (begun_text ring way.items)
     begun_now = (way.written, way.rest, begun_here way.rest refl)
 
-    module _ (new : Row) (b : MarkedPolynomials) (step : IsRowStep row new b) where
+    module _ (new : Row) (b : MarkedPolynomials) (step : IsNextRow row new b) where
       next : (rest : List MarkedPolynomials) × (way.rest ≡ b ∷ rest) × AreLeftIn new rest
       next = step.first way.rest way.left
 

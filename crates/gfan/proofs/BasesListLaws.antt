@@ -31,13 +31,13 @@ use Rattle.gf_ideal.proofs.ArrangedLists.{arranged_equal}
 use Rattle.gf_ideal.proofs.UniquenessLaws.{unique_by_weight}
 use Rattle.gf_bases.proofs.FiniteLaws.{basis_everywhere}
 use Rattle.gf_bases.proofs.LawsHold.{of_reduced, marked_bases_are_reduced, only_ideals_count, weights_have_bases}
-use Rattle.gf_initial.proofs.TheoremsHold.{monomial_ideals_are_of_bases}
+use Rattle.gf_initial.proofs.LawsHold.{monomial_ideals_are_of_bases}
 use Rattle.gf_reverse.specs.Upward.{IsNodeIn, fan_of, IsNode, IsParent}
 use Rattle.gf_reverse.specs.Lists.{IsListOfBases}
 use Rattle.gf_reverse.proofs.TreeLaws.{SameFan, rank, upward_tree, upward_falls, node_moved, own_fan, back_fan}
 use Rattle.gf_reverse.proofs.ListLaws.{own, list_of_bases}
 use Rattle.gf_reverse.proofs.StartLaws.{basis_is_node}
-use Rattle.gf_reverse.proofs.TheoremsHold.{bases_make_a_tree}
+use Rattle.gf_reverse.proofs.LawsHold.{bases_make_a_tree}
 use Rattle.gf_tree.specs.Ideals.{ideal_by}
 use Rattle.gf_tree.specs.Parents.{IsRootFor}
 use Rattle.gfan.specs.BasesList.{IsGivenByWeight, AreAllBases, WeightsAreServed}

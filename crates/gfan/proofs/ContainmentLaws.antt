@@ -16,7 +16,7 @@ use Rattle.gf_reduced.specs.declared.error.CheckError.{CheckError}
 use Rattle.gf_reduced.specs.declared.error.CheckError.TheVariants as check_errors
 use Rattle.gf_reduced.specs.Forms.{monic_set}
 use Rattle.gf_reduced.specs.Markings.{IsMarkedGroebnerBasis, IsBasisOf}
-use Rattle.gf_reduced.specs.Refusals.{of_poly, IsBasisRefusal}
+use Rattle.gf_reduced.specs.Refusals.{of_poly, IsReducedBasisRefusal}
 use Rattle.gf_reduced.proofs.RefusalLaws.{basis_only_memory}
 use Rattle.gf_text.specs.declared.written.Written.{Written}
 use Rattle.gf_text.specs.declared.written.Written.TheVariants as written
@@ -29,7 +29,7 @@ use Rattle.gf_items.specs.Commands.{IsOfTest, IsOfNumbers, TellsSame, IsOfWork, 
 use Rattle.gfan.specs.Buchberger.{polynomial_of, generators_of}
 use Rattle.gfan.specs.Printing.{verdict_text}
 use Rattle.gfan.specs.CheckedSets.{of_check}
-use Rattle.gfan.specs.Containment.{AreMembers, IsSomeReductionRefusal, IsContainmentRefusal, IsContainmentWithin, IsContainmentText, containment_command}
+use Rattle.gfan.specs.Containment.{AllAreMembers, IsSomeReductionRefusal, IsContainmentRefusal, IsContainmentWithin, IsContainmentText, containment_command}
 use Rattle.gfan.specs.Refused.{IsNamedBy}
 use Rattle.gfan.proofs.BuchbergerLaws.{polynomials_next}
 use Rattle.gfan.proofs.ReadSetLaws.{marked_kept}
@@ -41,12 +41,12 @@ use Rattle.gfan.proofs.CheckedSetLaws.{named_check, named_numbers, check_work, p
 pub zero_member : (n : ℕ) (gs : List Terms) (w : Written) → w ≡ written.Zero → IsTrue true ↔ IsMember n gs (polynomial_of w)
 zero_member n gs w e = (λ t. subst (λ (z : Written). IsMember n gs (polynomial_of z)) (sym e) (member-zero n gs), λ m. refl)
 
-pub members_none : (n : ℕ) (gs : List Terms) → AreMembers n gs []
+pub members_none : (n : ℕ) (gs : List Terms) → AllAreMembers n gs []
 members_none n gs f c = absurd (omega (arith, c.1))
 
-pub members_next : (n : ℕ) (gs : List Terms) (ws : List Written) (i : ℕ) (w : Written) → i < length ws → w ≡ slice_index_or ws i w → AreMembers n gs (generators_of (take i ws)) → IsMember n gs (polynomial_of w) → AreMembers n gs (generators_of (take (i + 1) ws))
+pub members_next : (n : ℕ) (gs : List Terms) (ws : List Written) (i : ℕ) (w : Written) → i < length ws → w ≡ slice_index_or ws i w → AllAreMembers n gs (generators_of (take i ws)) → IsMember n gs (polynomial_of w) → AllAreMembers n gs (generators_of (take (i + 1) ws))
 members_next n gs ws i w l e h m =
-    subst (AreMembers n gs) (polynomials_next ws i w (generators_of (take i ws)) (polynomial_of w) l e refl refl)
+    subst (AllAreMembers n gs) (polynomials_next ws i w (generators_of (take i ws)) (polynomial_of w) l e refl refl)
     (λ f c. elim (Contains-last (generators_of (take i ws)) (polynomial_of w) f c) [ inl k ↦ h f k | inr q ↦ subst (IsMember n gs) (sym q) m ])
 
 generator_at : (ws : List Written) (i : ℕ) (w : Written) → i < length ws → w ≡ slice_index_or ws i w → Contains (generators_of ws) (polynomial_of w)
@@ -55,11 +55,11 @@ generator_at (v ∷ ws) zero w l e = subst (Contains (generators_of (v ∷ ws)))
 generator_at (v ∷ ws) (suc i) w l e = Contains-there (polynomial_of v) (polynomial_of w) (generators_of ws) (generator_at ws i w (omega arith) e)
 
 -- one that isn't a member
-pub not_member : (n : ℕ) (gs : List Terms) (ws : List Written) (i : ℕ) (w : Written) (b : Bool) → i < length ws → w ≡ slice_index_or ws i w → b ≡ false → IsTrue b ↔ IsMember n gs (polynomial_of w) → IsTrue false ↔ AreMembers n gs (generators_of ws)
+pub not_member : (n : ℕ) (gs : List Terms) (ws : List Written) (i : ℕ) (w : Written) (b : Bool) → i < length ws → w ≡ slice_index_or ws i w → b ≡ false → IsTrue b ↔ IsMember n gs (polynomial_of w) → IsTrue false ↔ AllAreMembers n gs (generators_of ws)
 not_member n gs ws i w b l e q h = (λ t. absurd (cc), λ a. sym q ∙ h.1 (a (polynomial_of w) (generator_at ws i w l e)))
 
-pub all_members : (n : ℕ) (gs : List Terms) (ws : List Written) (i : ℕ) → length ws ≤ i → AreMembers n gs (generators_of (take i ws)) → IsTrue true ↔ AreMembers n gs (generators_of ws)
-all_members n gs ws i l h = (λ t. subst (λ (xs : List Written). AreMembers n gs (generators_of xs)) (take_all i ws l) h, λ a. refl)
+pub all_members : (n : ℕ) (gs : List Terms) (ws : List Written) (i : ℕ) → length ws ≤ i → AllAreMembers n gs (generators_of (take i ws)) → IsTrue true ↔ AllAreMembers n gs (generators_of ws)
+all_members n gs ws i l h = (λ t. subst (λ (xs : List Written). AllAreMembers n gs (generators_of xs)) (take_all i ws l) h, λ a. refl)
 
 pub in_next : (n : ℕ) (ws : List Written) (i : ℕ) (w : Written) → AreIn n ws → i < length ws → w ≡ slice_index_or ws i w → IsIn n w
 in_next n [] i w h l e = absurd (omega arith)
@@ -73,7 +73,7 @@ some_refused bs ws i w errors.Memory l p h = tt
 
 -- ---- by the basis, and by the set that was read
 
-pub basis_refused : (s : MarkedPolynomials) (fs : List Terms) (e : CheckError) → IsBasisRefusal 0 s e → IsContainmentRefusal s fs e
+pub basis_refused : (s : MarkedPolynomials) (fs : List Terms) (e : CheckError) → IsReducedBasisRefusal 0 s e → IsContainmentRefusal s fs e
 basis_refused s fs e h = IsContainmentRefusal.at_basis h
 
 pub no_room : (s : MarkedPolynomials) (fs : List Terms) → IsContainmentRefusal s fs check_errors.Memory
@@ -85,9 +85,9 @@ member_refused s t fs d b a h = IsContainmentRefusal.at_member t d b.marked a h 
 pub in_basis : (s t : MarkedPolynomials) (ws : List Written) → IsArranged (monic_set s) t → AreIn s.variables ws → AreIn t.variables ws
 in_basis s t ws a h = subst (λ n. AreIn n ws) (sym a.variables) h
 
-pub members_moved : (s t : MarkedPolynomials) (fs : List Terms) (b : Bool) → t.variables ≡ s.variables → IsBasisOf s t → IsTrue b ↔ AreMembers t.variables (polys t.items) fs → IsTrue b ↔ AreMembers s.variables (polys s.items) fs
+pub members_moved : (s t : MarkedPolynomials) (fs : List Terms) (b : Bool) → t.variables ≡ s.variables → IsBasisOf s t → IsTrue b ↔ AllAreMembers t.variables (polys t.items) fs → IsTrue b ↔ AllAreMembers s.variables (polys s.items) fs
 members_moved s t fs b q h told =
-    let here = subst (λ n. IsTrue b ↔ AreMembers n (polys t.items) fs) q told in
+    let here = subst (λ n. IsTrue b ↔ AllAreMembers n (polys t.items) fs) q told in
     (λ x f c. h.ideal.back f (here.0 x f c), λ a. here.1 (λ f c. h.ideal.inside f (a f c)))
 
 -- ---- the command
@@ -100,11 +100,11 @@ named_containment source ring s ws e read (IsContainmentRefusal.at_basis h) =
     let m = read.read.two.one in named_check (Unit {0}) 0 ring s e m.variables (marked_kept ring (from source read.read.behind) read.read.two.behind s m) h
 named_containment source ring s ws e read (IsContainmentRefusal.at_member t d g a h q) = subst (λ z. IsNamedBy (Some ring) (of_check z)) (sym q) (named_numbers ring d)
 
-pub containment_answered : (source text : List ℕ) (ring : List (List ℕ)) (s : MarkedPolynomials) (ws : List Written) (b : Bool) → IsTextOf ring_marked_set_and_set source (ring, (s, ws)) → IsMarkedGroebnerBasis s.variables s.items → IsTrue b ↔ AreMembers s.variables (polys s.items) (generators_of ws) → text ≡ verdict_text b → IsAnswered containment_command source text
+pub containment_answered : (source text : List ℕ) (ring : List (List ℕ)) (s : MarkedPolynomials) (ws : List Written) (b : Bool) → IsTextOf ring_marked_set_and_set source (ring, (s, ws)) → IsMarkedGroebnerBasis s.variables s.items → IsTrue b ↔ AllAreMembers s.variables (polys s.items) (generators_of ws) → text ≡ verdict_text b → IsAnswered containment_command source text
 containment_answered source text ring s ws b read g h e = record {
   value = (ring, (s, ws));
   read = read;
-  answer = record { formed = tt; is_answer = record { basis = g; verdict = verdict-of (AreMembers s.variables (polys s.items) (generators_of ws)) b text h e } };
+  answer = record { formed = tt; is_answer = record { basis = g; verdict = verdict-of (AllAreMembers s.variables (polys s.items) (generators_of ws)) b text h e } };
 }
 
 -- ---- its laws

@@ -19,7 +19,7 @@ use Rattle.gf_small.specs.MarksByWeight.{AreMarkedByWeight}
 use Rattle.gf_small.specs.Degrees.{total_degree}
 use Rattle.gf_small.specs.InitialForms.{AreInitialForms}
 use Rattle.gf_small.specs.declared.homogenization.SmallError.TheVariants as homogenize_errors
-use Rattle.gf_small.specs.Homogenization.{new_exponent, ExponentsFit, IsWithinLimit, IsPastLimitIn, IsFirstOverflow, AreHomogenizations, IsHomogenizeCause}
+use Rattle.gf_small.specs.Homogenization.{new_exponent, ExponentsFit, IsHomogenizedWithinLimit, IsPastLimitIn, IsFirstExponentPastLimit, AreHomogenizations, IsHomogenizeCause}
 use Rattle.gf_small.specs.declared.counts.Stats.{Stats}
 use Rattle.gf_small.specs.Statistics.{AreStatistics, IsStatisticsCause}
 use Rattle.gf_front.specs.declared.refusal.Refusal.{Refusal}
@@ -104,7 +104,7 @@ at_middle : {A : Type 0} (P : A → Type 0) (front back : List A) (x : A) → Al
 at_middle P [] back x all = All-head P x back all
 at_middle P (f ∷ front) back x all = at_middle P front back x (All-tail P f (front ++ x ∷ back) all)
 
-past_apart : (w : Written) (o : ExponentOverflow) → IsWithinLimit w → IsPastLimitIn w o → ⊥
+past_apart : (w : Written) (o : ExponentOverflow) → IsHomogenizedWithinLimit w → IsPastLimitIn w o → ⊥
 past_apart written.Zero o w h = h
 past_apart (written.Nonzero b) o w h =
     let d = total_degree b.poly in
@@ -112,10 +112,10 @@ past_apart (written.Nonzero b) o w h =
     let past = h.past.leaves in
     omega arith
 
-none_past : (ws : List Written) (o : ExponentOverflow) → All IsWithinLimit ws → IsFirstOverflow ws o → ⊥
-none_past ws o w h = past_apart h.polynomial o (at_middle IsWithinLimit h.earlier h.later h.polynomial (subst (All IsWithinLimit) h.split w)) h.past
+none_past : (ws : List Written) (o : ExponentOverflow) → All IsHomogenizedWithinLimit ws → IsFirstExponentPastLimit ws o → ⊥
+none_past ws o w h = past_apart h.polynomial o (at_middle IsHomogenizedWithinLimit h.earlier h.later h.polynomial (subst (All IsHomogenizedWithinLimit) h.split w)) h.past
 
-homogenize_within : (ws : List Written) (r : Refusal) → All IsWithinLimit ws → IsHomogenizeRefusal ws r → r ≡ refusals.Memory
+homogenize_within : (ws : List Written) (r : Refusal) → All IsHomogenizedWithinLimit ws → IsHomogenizeRefusal ws r → r ≡ refusals.Memory
 homogenize_within ws (refusals.ExponentOverflow o) w h = absurd (none_past ws o w h)
 homogenize_within ws refusals.Memory w h = refl
 homogenize_within ws _ w h = absurd h

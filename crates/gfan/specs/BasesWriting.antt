@@ -56,11 +56,11 @@ pub data IsBasisUnwritten (certified : Bool) (ring : List (List ℕ)) (is_first 
 -- ---- room
 
 -- there is just so much room behind the bases that are written
-abbrev pub IsRoomFor : Option ℕ → Room → List MarkedPolynomials → Type 0
-IsRoomFor None Endless written = Unit {0}
-IsRoomFor None (Limited limit left) written = ⊥
-IsRoomFor (Some most) Endless written = ⊥
-IsRoomFor (Some most) (Limited limit left) written = (limit ≡ most) × (length written + left ≡ most)
+abbrev pub HasRoomFor : Option ℕ → Room → List MarkedPolynomials → Type 0
+HasRoomFor None Endless written = Unit {0}
+HasRoomFor None (Limited limit left) written = ⊥
+HasRoomFor (Some most) Endless written = ⊥
+HasRoomFor (Some most) (Limited limit left) written = (limit ≡ most) × (length written + left ≡ most)
 
 -- the room once one more is written
 abbrev pub IsOneLess : Room → Room → Type 0
@@ -121,7 +121,7 @@ pub record IsUnderWay (o : ListOptions) (ring : List (List ℕ)) (fs : List Term
   pub left : AreLeftIn row rest
   pub basis : IsNodeIn (ideal_by (length ring) fs) row.start
   pub pairs : row.pairs ≡ o.pairs
-  pub fits : IsRoomFor o.limit room written
+  pub fits : HasRoomFor o.limit room written
   pub items : List (List ℕ)
   pub are_items : AreItemTexts o.certified ring written items
   pub first : is_first ≡ is_none_of items

@@ -8,7 +8,7 @@ use Rattle.gf_weights.specs.declared.certificates.FacetWitness.{FacetWitness}
 use Rattle.gf_weights.specs.declared.error.WeightError.{WeightError}
 use Rattle.gf_weights.specs.declared.error.WeightError.TheVariants as weight_errors
 use Rattle.gf_weights.specs.Weights.{IsPrintedWeight, AreWitnessed}
-use Rattle.gf_weights.specs.Refusals.{IsCertificateCause}
+use Rattle.gf_weights.specs.Refusals.{IsBasisCertificateCause}
 use Rattle.gf_front.specs.declared.refusal.Refusal.{Refusal}
 use Rattle.gf_front.specs.declared.refusal.Refusal.TheVariants as refusals
 
@@ -55,7 +55,7 @@ of_weight_error weight_errors.Memory = refusals.Memory
 
 -- an operation of finding the rays of the basis's cone, cut with the orthant, or of adding up those that are printed, is refused
 abbrev pub IsUncertified : MarkedPolynomials → Refusal → Type 0
-IsUncertified b r = (e : WeightError) × IsCertificateCause b.variables b.items e × (r ≡ of_weight_error e)
+IsUncertified b r = (e : WeightError) × IsBasisCertificateCause b.variables b.items e × (r ≡ of_weight_error e)
 
 -- why the text isn't made
 abbrev pub IsItemRefusal : Bool → MarkedPolynomials → Refusal → Type 0

@@ -11,7 +11,7 @@ use Rattle.gf_fanfile.specs.declared.error.FanFileError.TheVariants as file_erro
 use Rattle.gf_fanfile.specs.declared.file.FanFile.{FanFile}
 use Rattle.gf_fanfile.specs.FanWords.{fan_text}
 use Rattle.gf_fanfile.specs.FanTexts.{parts_of_fan}
-use Rattle.gf_fanfile.specs.Files.{IsFileOf, IsSound}
+use Rattle.gf_fanfile.specs.Files.{IsFileOf, IsSoundFile}
 use Rattle.gf_fanfile.specs.FilesFans.{IsFanOfText, IsFanFileRefusal, IsFileWithinLimits, AreFileConesMeeting}
 use Rattle.gf_refine.specs.declared.error.RefineError.{RefineError}
 use Rattle.gf_refine.specs.declared.error.RefineError.TheVariants as refine_errors
@@ -114,7 +114,7 @@ pub record IsRefusedInWords (a : List ℕ) (r : Refusal) : Type 0 where
 pub record IsFanTextWithin (source : List ℕ) : Type 0 where
   pub file : FanFile
   pub is_file : IsFileOf source file
-  pub sound : IsSound file
+  pub sound : IsSoundFile file
   pub meeting : AreFileConesMeeting file
   pub within : IsFileWithinLimits file
 

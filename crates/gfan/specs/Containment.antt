@@ -9,7 +9,7 @@ use Rattle.gf_division.specs.Steps.{IsReductionRefusal}
 use Rattle.gf_reduced.specs.declared.error.CheckError.{CheckError}
 use Rattle.gf_reduced.specs.Forms.{monic_set}
 use Rattle.gf_reduced.specs.Markings.{IsMarkedGroebnerBasis}
-use Rattle.gf_reduced.specs.Refusals.{of_poly, IsBasisRefusal, AreChecksWithinLimits, IsReductionWithinLimits}
+use Rattle.gf_reduced.specs.Refusals.{of_poly, IsReducedBasisRefusal, AreChecksWithinLimits, IsReductionWithinLimits}
 use Rattle.gf_text.specs.declared.written.Written.{Written}
 use Rattle.gf_items.specs.Sources.{ring_marked_set_and_set}
 use Rattle.gf_items.specs.Commands.{Command}
@@ -20,13 +20,13 @@ use Rattle.gfan.specs.CheckedSets.{of_check}
 -- ---- what is written
 
 -- each of the polynomials fs is in the ideal that gs generates in n variables
-abbrev pub AreMembers : ℕ → List Terms → List Terms → Type 0
-AreMembers n gs fs = (f : Terms) → Contains fs f → IsMember n gs f
+abbrev pub AllAreMembers : ℕ → List Terms → List Terms → Type 0
+AllAreMembers n gs fs = (f : Terms) → Contains fs f → IsMember n gs f
 
 -- the set is a Gröbner basis for its marking; 1 where its ideal contains each of the polynomials, and 0 where it doesn't
 pub record IsContainmentText (s : MarkedPolynomials) (fs : List Terms) (text : List ℕ) : Type 0 where
   pub basis : IsMarkedGroebnerBasis s.variables s.items
-  pub verdict : IsVerdict (AreMembers s.variables (polys s.items) fs) text
+  pub verdict : IsVerdict (AllAreMembers s.variables (polys s.items) fs) text
 
 -- ---- why it isn't written
 
@@ -43,7 +43,7 @@ IsSomeReductionRefusal bs fs errors.Memory = Unit {0}
 
 -- the set isn't taken as a basis; or it is one, t are its members made monic and arranged, and a polynomial isn't reduced by them
 pub data IsContainmentRefusal (s : MarkedPolynomials) (fs : List Terms) (e : CheckError) : Type 0 where
-  at_basis : IsBasisRefusal 0 s e → IsContainmentRefusal s fs e
+  at_basis : IsReducedBasisRefusal 0 s e → IsContainmentRefusal s fs e
   at_member : (t : MarkedPolynomials) (d : PolyError) → IsMarkedGroebnerBasis s.variables s.items → IsArranged (monic_set s) t →
       IsSomeReductionRefusal t.items fs d → e ≡ of_poly d → IsContainmentRefusal s fs e
 

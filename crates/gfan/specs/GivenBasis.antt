@@ -7,7 +7,7 @@ use Rattle.gf_division.specs.Autoreduction.{IsAutoreductionRefusal}
 use Rattle.gf_reduced.specs.declared.error.CheckError.{CheckError}
 use Rattle.gf_reduced.specs.Forms.{monic_set}
 use Rattle.gf_reduced.specs.Markings.{IsMarkedGroebnerBasis}
-use Rattle.gf_reduced.specs.Refusals.{of_poly, IsBasisRefusal, AreChecksWithinLimits}
+use Rattle.gf_reduced.specs.Refusals.{of_poly, IsReducedBasisRefusal, AreChecksWithinLimits}
 use Rattle.gf_tree.specs.declared.error.TreeError.{TreeError}
 use Rattle.gf_tree.specs.Ideals.{ideal_by}
 use Rattle.gf_tree.specs.Refusals.{IsTreeRefusal, IsTreeWithinLimits}
@@ -37,7 +37,7 @@ pub record IsWholeFromBasis (certified : Bool) (ring : List (List ℕ)) (s : Mar
 -- the set isn't taken as a basis; or it is one, and its members made monic and arranged aren't reduced, or a step of the way up from the
 -- reduced basis to the root is refused, at a basis of the ideal
 pub data IsGivenRootRefusal (s : MarkedPolynomials) (pairs : ℕ) (r : Refusal) : Type 0 where
-  at_check : (e : CheckError) → IsBasisRefusal 0 s e → r ≡ of_check e → IsGivenRootRefusal s pairs r
+  at_check : (e : CheckError) → IsReducedBasisRefusal 0 s e → r ≡ of_check e → IsGivenRootRefusal s pairs r
   at_tails : (t : MarkedPolynomials) (d : PolyError) → IsMarkedGroebnerBasis s.variables s.items → IsArranged (monic_set s) t →
       IsAutoreductionRefusal t.items d → r ≡ of_check (of_poly d) → IsGivenRootRefusal s pairs r
   on_the_way : (e : TreeError) → IsMarkedGroebnerBasis s.variables s.items → IsTreeRefusal (ideal_by s.variables (polys s.items)) pairs e →

@@ -12,7 +12,7 @@ use Rattle.gf_items.specs.Commands.{Command}
 use Rattle.gfan.specs.declared.told_cone.ConeOptions.{ConeOptions}
 use Rattle.gfan.specs.CheckedSets.{of_check}
 use Rattle.gfan.specs.ToolForms.{for_space, for_each}
-use Rattle.gfan.specs.ToldCones.{IsTold, IsUntold, IsTellingWithin}
+use Rattle.gfan.specs.ToldCones.{IsConeTold, IsUntold, IsTellingWithin}
 
 -- ---- the cone of a marked reduced basis
 
@@ -22,7 +22,7 @@ pub record IsBasisConeText (o : ConeOptions) (s : MarkedPolynomials) (text : Lis
   pub reduced : AreReduced s.items
   pub normals : List (List ℤ)
   pub are_normals : AreNormals s.items normals
-  pub cone : IsTold o s.variables normals [] text
+  pub cone : IsConeTold o s.variables normals [] text
 
 -- the set isn't taken as a reduced basis; or it is one, and its cone isn't told
 pub data IsBasisConeCause (o : ConeOptions) (s : MarkedPolynomials) (r : Refusal) : Type 0 where
@@ -58,8 +58,8 @@ groebner_cone_command true o = record {
   Value = ℕ × (List (List ℤ) × List (List ℤ));
   items = dimension_two_lists;
   checks = λ v. for_space v.0 ∷ for_each v.0 (v.1.0 ++ v.1.1);
-  IsAnswer = λ v text. IsTold o v.0 v.1.0 v.1.1 text;
-  IsWhole = λ v text. IsTold o v.0 v.1.0 v.1.1 text;
+  IsAnswer = λ v text. IsConeTold o v.0 v.1.0 v.1.1 text;
+  IsWhole = λ v text. IsConeTold o v.0 v.1.0 v.1.1 text;
   IsCause = λ v r. IsUntold o v.0 v.1.0 v.1.1 r;
   IsBegun = λ v text r. ⊥;
   IsWithin = λ v. IsTellingWithin o v.0 v.1.0 v.1.1;

@@ -3,7 +3,7 @@ use Rattle.std.specs.Prelude.{◌≡◌, ℕ, false, List, [], ◌∷◌, flat_m
 use Rattle.gf_poly.specs.Marking.{MarkedPolynomial}
 use Rattle.gf_gordan.specs.declared.error.GordanError.{GordanError}
 use Rattle.gf_duality.specs.Rays.{IsRays, IsImplied}
-use Rattle.gf_facets.specs.Rows.{rows_of}
+use Rattle.gf_facets.specs.Rows.{rows_of_polynomials}
 use Rattle.gf_rays.specs.Cones.{RowsAndRays, AreRaysWithinLimits}
 use Rattle.gf_small.specs.HomogeneitySpace.{IsBasisOfSpace, IsSpaceCause}
 use Rattle.gf_text.specs.declared.written.Written.{Written}
@@ -34,7 +34,7 @@ nonzero_of ws = flat_map marked_of ws
 pub record IsSpaceCone (n : ℕ) (bs : List MarkedPolynomial) (c : RowsAndRays) : Type 0 where
   pub ambient : c.ambient ≡ n
   pub inequalities : c.inequalities ≡ []
-  pub equations : c.equations ≡ rows_of bs
+  pub equations : c.equations ≡ rows_of_polynomials bs
   pub basis : IsBasisOfSpace n bs c.lineality
   pub rays : IsRays c.ambient c.inequalities c.equations c.lineality c.rays
   pub implied : IsImplied c.ambient c.inequalities c.equations c.implied
@@ -57,7 +57,7 @@ pub data IsNoSpace (n : ℕ) (bs : List MarkedPolynomial) (r : Refusal) : Type 0
 
 -- no operation of finding the space leaves its range, nor one of finding its fan
 pub record IsSpaceWithin (n : ℕ) (bs : List MarkedPolynomial) : Type 0 where
-  pub space : AreRaysWithinLimits n [] (rows_of bs)
+  pub space : AreRaysWithinLimits n [] (rows_of_polynomials bs)
   pub fan : (c : RowsAndRays) → IsSpaceCone n bs c → IsFanWithinLimits n (c ∷ [])
 
 -- ---- the command

@@ -1,7 +1,7 @@
 -- `_homogenize`: what it reads and writes, and why it doesn't.
 use Rattle.std.specs.Prelude.{ℕ, All, List, [], ◌∷◌, ◌++◌, length}
 use Rattle.gf_text.specs.declared.written.Written.{Written}
-use Rattle.gf_small.specs.Homogenization.{AreHomogenizations, IsFirstOverflow, IsWithinLimit}
+use Rattle.gf_small.specs.Homogenization.{AreHomogenizations, IsFirstExponentPastLimit, IsHomogenizedWithinLimit}
 use Rattle.gf_front.specs.declared.refusal.Refusal.{Refusal}
 use Rattle.gf_front.specs.declared.refusal.Refusal.TheVariants as refusals
 use Rattle.gf_items.specs.Sources.{ring_set_and_name}
@@ -17,7 +17,7 @@ pub record IsHomogenizedText (ring : List (List ℕ)) (ws : List Written) (name 
 
 -- an exponent of the new variable passes the limit, the first one that does, or there is no memory
 abbrev pub IsHomogenizeRefusal : List Written → Refusal → Type 0
-IsHomogenizeRefusal ws (refusals.ExponentOverflow o) = IsFirstOverflow ws o
+IsHomogenizeRefusal ws (refusals.ExponentOverflow o) = IsFirstExponentPastLimit ws o
 IsHomogenizeRefusal ws refusals.Memory = Unit {0}
 IsHomogenizeRefusal ws _ = ⊥
 
@@ -30,5 +30,5 @@ homogenize_command = record {
   IsWhole = λ v text. IsHomogenizedText v.0 v.1.0 v.1.1 text;
   IsCause = λ v r. IsHomogenizeRefusal v.1.0 r;
   IsBegun = λ v text r. ⊥;
-  IsWithin = λ v. All IsWithinLimit v.1.0;
+  IsWithin = λ v. All IsHomogenizedWithinLimit v.1.0;
 }

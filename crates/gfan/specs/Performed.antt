@@ -18,7 +18,7 @@ pub record IsPerformed (job : Job) (source : List ℕ) (held holds : Option (Lis
   pub gained : Appends held holds text
 
 -- the output gained a prefix of all that the job writes for the source
-pub record IsCutOff (job : Job) (source : List ℕ) (held holds : Option (List ℕ)) : Type 0 where
+pub record IsCutShort (job : Job) (source : List ℕ) (held holds : Option (List ℕ)) : Type 0 where
   pub text : List ℕ
   pub is_whole : IsWholeTextOf job source text
   pub gained : AppendsPrefix held holds text
@@ -37,7 +37,7 @@ pub data LeavesBegun (job : Job) (source : List ℕ) (held holds : Option (List 
 -- why the job isn't performed, and what it leaves: where a write failed a prefix of its text; where a list came to its limit what it
 -- wrote until then; else nothing, or what it may have written until then
 abbrev pub IsStopped : Job → List ℕ → Option (List ℕ) → Option (List ℕ) → ℕ → ℕ → Refusal → Type 0
-IsStopped job source held holds written writes refusals.WriteFault = Rose written writes × IsCutOff job source held holds
+IsStopped job source held holds written writes refusals.WriteFault = Rose written writes × IsCutShort job source held holds
 IsStopped job source held holds written writes (refusals.ListLimit most) =
     IsRefusalOf job source (refusals.ListLimit most) × IsBegunIn job source held holds (refusals.ListLimit most)
 IsStopped job source held holds written writes refusal = IsRefusalOf job source refusal × LeavesBegun job source held holds refusal

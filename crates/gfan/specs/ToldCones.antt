@@ -63,8 +63,8 @@ IsToldWithin true certified n inequalities equations = IsConeFanWithin n inequal
 
 -- the text tells the cone of these inequalities and equations by the options: with the unit vectors as further inequalities where it is cut
 -- with the non-negative orthant
-abbrev pub IsTold : ConeOptions → ℕ → List (List ℤ) → List (List ℤ) → List ℕ → Type 0
-IsTold o n inequalities equations text = IsToldAs o.as_fan o.certificates n (inequalities_of o.restricted n inequalities) equations text
+abbrev pub IsConeTold : ConeOptions → ℕ → List (List ℤ) → List (List ℤ) → List ℕ → Type 0
+IsConeTold o n inequalities equations text = IsToldAs o.as_fan o.certificates n (inequalities_of o.restricted n inequalities) equations text
 
 -- it isn't told for this reason
 abbrev pub IsUntold : ConeOptions → ℕ → List (List ℤ) → List (List ℤ) → Refusal → Type 0

@@ -8,7 +8,7 @@ ghost use Rattle.gf_text.specs.Sets.{AreIn};
 ghost use Rattle.gfan.specs.Buchberger.{generators_of};
 ghost use Rattle.gfan.specs.Certificates.{IsItemRefusal};
 ghost use Rattle.gfan.specs.Bases.{bases_command};
-ghost use Rattle.gfan.specs.BasesWriting.{basis_piece, IsPieceOf, IsBasisWritten, IsUnwritten, IsBasisUnwritten, IsRoomFor, IsOneLess, IsFull, IsFirstBasis, IsRootRefusal, StartsAt, IsListWritten, IsListStopped, IsUnnamed};
+ghost use Rattle.gfan.specs.BasesWriting.{basis_piece, IsPieceOf, IsBasisWritten, IsUnwritten, IsBasisUnwritten, HasRoomFor, IsOneLess, IsFull, IsFirstBasis, IsRootRefusal, StartsAt, IsListWritten, IsListStopped, IsUnnamed};
 ghost use Rattle.gfan.specs.Performed.{IsPerformed, IsStopped, IsPerformedFor, IsStoppedFor};
 ghost use Rattle.gfan.specs.Refused.{IsOfSource};
 
@@ -49,7 +49,7 @@ enum Room {
 
 impl Room {
     fn of(limit: Option<u64>) -> Room
-        ensures { IsRoomFor limit result [] }
+        ensures { HasRoomFor limit result [] }
     {
         match limit {
             None => Room::Endless,

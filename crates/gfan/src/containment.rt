@@ -8,7 +8,7 @@ ghost use Rattle.gf_reduced.specs.Markings.{IsMarkedGroebnerBasis};
 ghost use Rattle.gf_text.specs.Sets.{IsIn, AreIn};
 ghost use Rattle.gf_items.specs.Commands.{IsAnswered, IsCommandRefused};
 ghost use Rattle.gfan.specs.Buchberger.{polynomial_of, generators_of};
-ghost use Rattle.gfan.specs.Containment.{AreMembers, IsSomeReductionRefusal, IsContainmentRefusal, containment_command};
+ghost use Rattle.gfan.specs.Containment.{AllAreMembers, IsSomeReductionRefusal, IsContainmentRefusal, containment_command};
 ghost use Rattle.gfan.specs.Refused.{IsOfSource};
 
 use crate::printing::verdict;
@@ -36,7 +36,7 @@ fn contains_one(alloc: Global, basis: &MarkedSet, read: &Written) -> Result<bool
 fn contains_all(alloc: Global, basis: &MarkedSet, set: &[Written]) -> Result<bool, PolyError>
     requires basis { IsBasis basis.now.variables (polys basis.now.items) basis.now.items }
     requires variables { AreIn basis.now.variables set.now }
-    ensures ok { IfOk result (λ r. IsTrue r ↔ AreMembers basis.now.variables (polys basis.now.items) (generators_of set.now)) }
+    ensures ok { IfOk result (λ r. IsTrue r ↔ AllAreMembers basis.now.variables (polys basis.now.items) (generators_of set.now)) }
     ensures cause { IfErr result (IsSomeReductionRefusal basis.now.items (generators_of set.now)) }
 {
     'polynomials: for i in 0..set.len() {
@@ -53,7 +53,7 @@ fn contains_all(alloc: Global, basis: &MarkedSet, set: &[Written]) -> Result<boo
 fn decided(alloc: Global, marked: &MarkedSet, set: &[Written]) -> Result<bool, CheckError>
     requires { AreIn marked.now.variables set.now }
     ensures basis { IfOk result (λ _. IsMarkedGroebnerBasis marked.now.variables marked.now.items) }
-    ensures ok { IfOk result (λ r. IsTrue r ↔ AreMembers marked.now.variables (polys marked.now.items) (generators_of set.now)) }
+    ensures ok { IfOk result (λ r. IsTrue r ↔ AllAreMembers marked.now.variables (polys marked.now.items) (generators_of set.now)) }
     ensures err { IfErr result (IsContainmentRefusal marked.now (generators_of set.now)) }
 {
     if marked.items().len() > u32::MAX as usize {

@@ -1,4 +1,4 @@
-use Rattle.gf_duality.proofs.TheoremsHold.{facets_have_witnesses}
+use Rattle.gf_duality.proofs.LawsHold.{facets_have_witnesses}
 use Rattle.gf_duality.proofs.facets_have_witnesses.Goals as goal
 
 pub returns : goal.returns

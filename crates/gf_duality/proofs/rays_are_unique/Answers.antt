@@ -1,4 +1,4 @@
-use Rattle.gf_duality.proofs.TheoremsHold.{rays_are_unique}
+use Rattle.gf_duality.proofs.LawsHold.{rays_are_unique}
 use Rattle.gf_duality.proofs.rays_are_unique.Goals as goal
 
 pub returns : goal.returns

@@ -1,4 +1,4 @@
-use Rattle.gf_duality.proofs.TheoremsHold.{sums_of_rays_are_inside}
+use Rattle.gf_duality.proofs.LawsHold.{sums_of_rays_are_inside}
 use Rattle.gf_duality.proofs.sums_of_rays_are_inside.Goals as goal
 
 pub returns : goal.returns

@@ -1,4 +1,4 @@
-use Rattle.gf_facets.proofs.TheoremsHold.{facets_are_told}
+use Rattle.gf_facets.proofs.LawsHold.{facets_are_told}
 use Rattle.gf_facets.proofs.facets_are_told.Goals as goal
 
 pub returns : goal.returns

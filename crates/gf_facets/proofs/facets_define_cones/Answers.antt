@@ -1,4 +1,4 @@
-use Rattle.gf_facets.proofs.TheoremsHold.{facets_define_cones}
+use Rattle.gf_facets.proofs.LawsHold.{facets_define_cones}
 use Rattle.gf_facets.proofs.facets_define_cones.Goals as goal
 
 pub returns : goal.returns

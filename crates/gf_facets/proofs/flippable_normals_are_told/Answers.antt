@@ -1,4 +1,4 @@
-use Rattle.gf_facets.proofs.TheoremsHold.{flippable_normals_are_told}
+use Rattle.gf_facets.proofs.LawsHold.{flippable_normals_are_told}
 use Rattle.gf_facets.proofs.flippable_normals_are_told.Goals as goal
 
 pub returns : goal.returns

@@ -1,4 +1,4 @@
-use Rattle.gf_facets.proofs.TheoremsHold.{lex_positive_vectors}
+use Rattle.gf_facets.proofs.LawsHold.{lex_positive_vectors}
 use Rattle.gf_facets.proofs.lex_positive_vectors.Goals as goal
 
 pub returns : goal.returns

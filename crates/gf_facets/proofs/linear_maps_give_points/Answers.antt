@@ -1,4 +1,4 @@
-use Rattle.gf_facets.proofs.TheoremsHold.{linear_maps_give_points}
+use Rattle.gf_facets.proofs.LawsHold.{linear_maps_give_points}
 use Rattle.gf_facets.proofs.linear_maps_give_points.Goals as goal
 
 pub returns : goal.returns

@@ -1,4 +1,4 @@
-use Rattle.gf_facets.proofs.TheoremsHold.{normals_define_cones}
+use Rattle.gf_facets.proofs.LawsHold.{normals_define_cones}
 use Rattle.gf_facets.proofs.normals_define_cones.Goals as goal
 
 pub returns : goal.returns

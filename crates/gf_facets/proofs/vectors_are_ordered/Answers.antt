@@ -1,4 +1,4 @@
-use Rattle.gf_facets.proofs.TheoremsHold.{vectors_are_ordered}
+use Rattle.gf_facets.proofs.LawsHold.{vectors_are_ordered}
 use Rattle.gf_facets.proofs.vectors_are_ordered.Goals as goal
 
 pub returns : goal.returns

@@ -1,4 +1,4 @@
-use Rattle.gf_facets.proofs.TheoremsHold.{weights_are_solutions}
+use Rattle.gf_facets.proofs.LawsHold.{weights_are_solutions}
 use Rattle.gf_facets.proofs.weights_are_solutions.Goals as goal
 
 pub returns : goal.returns

@@ -1,4 +1,4 @@
-use Rattle.gf_fans.proofs.TheoremsHold.{faces_are_of_cones}
+use Rattle.gf_fans.proofs.LawsHold.{faces_are_of_cones}
 use Rattle.gf_fans.proofs.faces_are_of_cones.Goals as goal
 
 pub returns : goal.returns

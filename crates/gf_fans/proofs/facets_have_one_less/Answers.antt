@@ -1,4 +1,4 @@
-use Rattle.gf_fans.proofs.TheoremsHold.{facets_have_one_less}
+use Rattle.gf_fans.proofs.LawsHold.{facets_have_one_less}
 use Rattle.gf_fans.proofs.facets_have_one_less.Goals as goal
 
 pub returns : goal.returns

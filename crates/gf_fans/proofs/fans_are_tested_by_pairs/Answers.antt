@@ -1,4 +1,4 @@
-use Rattle.gf_fans.proofs.TheoremsHold.{fans_are_tested_by_pairs}
+use Rattle.gf_fans.proofs.LawsHold.{fans_are_tested_by_pairs}
 use Rattle.gf_fans.proofs.fans_are_tested_by_pairs.Goals as goal
 
 pub returns : goal.returns

@@ -1,4 +1,4 @@
-use Rattle.gf_fans.proofs.TheoremsHold.{separated_cones_meet_in_faces}
+use Rattle.gf_fans.proofs.LawsHold.{separated_cones_meet_in_faces}
 use Rattle.gf_fans.proofs.separated_cones_meet_in_faces.Goals as goal
 
 pub returns : goal.returns

@@ -1,4 +1,4 @@
-use Rattle.gf_ideal.proofs.TheoremsHold.{bases_go_by_their_marks as law}
+use Rattle.gf_ideal.proofs.LawsOfBasesHold.{bases_go_by_their_marks as law}
 use Rattle.gf_ideal.proofs.bases_go_by_their_marks.Goals as goal
 
 pub returns : goal.returns

@@ -1,4 +1,4 @@
-use Rattle.gf_ideal.proofs.TheoremsHold.{bases_may_be_arranged as law}
+use Rattle.gf_ideal.proofs.LawsOfBasesHold.{bases_may_be_arranged as law}
 use Rattle.gf_ideal.proofs.bases_may_be_arranged.Goals as goal
 
 pub returns : goal.returns

@@ -1,4 +1,4 @@
-use Rattle.gf_ideal.proofs.TheoremsHold.{buchbergers_criterion as law}
+use Rattle.gf_ideal.proofs.LawsOfBasesHold.{buchbergers_criterion as law}
 use Rattle.gf_ideal.proofs.buchberger_criterion.Goals as goal
 
 pub returns : goal.returns

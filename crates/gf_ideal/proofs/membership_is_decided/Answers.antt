@@ -1,4 +1,4 @@
-use Rattle.gf_ideal.proofs.TheoremsHold.{membership_is_decided as law}
+use Rattle.gf_ideal.proofs.LawsOfBasesHold.{membership_is_decided as law}
 use Rattle.gf_ideal.proofs.membership_is_decided.Goals as goal
 
 pub returns : goal.returns

@@ -1,4 +1,4 @@
-use Rattle.gf_ideal.proofs.TheoremsHold.{normal_forms_are_unique as law}
+use Rattle.gf_ideal.proofs.LawsOfBasesHold.{normal_forms_are_unique as law}
 use Rattle.gf_ideal.proofs.normal_forms_are_unique.Goals as goal
 
 pub returns : goal.returns

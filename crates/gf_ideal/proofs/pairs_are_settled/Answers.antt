@@ -1,4 +1,4 @@
-use Rattle.gf_ideal.proofs.TheoremsHold.{pairs_are_settled as law}
+use Rattle.gf_ideal.proofs.LawsOfBasesHold.{pairs_are_settled as law}
 use Rattle.gf_ideal.proofs.pairs_are_settled.Goals as goal
 
 pub returns : goal.returns

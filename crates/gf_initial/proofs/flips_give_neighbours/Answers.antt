@@ -1,4 +1,4 @@
-use Rattle.gf_initial.proofs.TheoremsHold.{flips_give_neighbours}
+use Rattle.gf_initial.proofs.LawsHold.{flips_give_neighbours}
 use Rattle.gf_initial.proofs.flips_give_neighbours.Goals as goal
 
 pub returns : goal.returns

@@ -1,4 +1,4 @@
-use Rattle.gf_initial.proofs.TheoremsHold.{initial_forms_of_bases}
+use Rattle.gf_initial.proofs.LawsHold.{initial_forms_of_bases}
 use Rattle.gf_initial.proofs.initial_forms_of_bases.Goals as goal
 
 pub returns : goal.returns

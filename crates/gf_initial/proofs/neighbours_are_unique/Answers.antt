@@ -1,4 +1,4 @@
-use Rattle.gf_initial.proofs.TheoremsHold.{neighbours_are_unique}
+use Rattle.gf_initial.proofs.LawsHold.{neighbours_are_unique}
 use Rattle.gf_initial.proofs.neighbours_are_unique.Goals as goal
 
 pub returns : goal.returns

@@ -1,4 +1,4 @@
-use Rattle.gf_initial.proofs.TheoremsHold.{neighbours_exist}
+use Rattle.gf_initial.proofs.LawsHold.{neighbours_exist}
 use Rattle.gf_initial.proofs.neighbours_exist.Goals as goal
 
 pub returns : goal.returns

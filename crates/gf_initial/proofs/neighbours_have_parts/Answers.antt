@@ -1,4 +1,4 @@
-use Rattle.gf_initial.proofs.TheoremsHold.{neighbours_have_parts}
+use Rattle.gf_initial.proofs.LawsHold.{neighbours_have_parts}
 use Rattle.gf_initial.proofs.neighbours_have_parts.Goals as goal
 
 pub returns : goal.returns

@@ -1,4 +1,4 @@
-use Rattle.gf_initial.proofs.TheoremsHold.{parts_are_initial_forms}
+use Rattle.gf_initial.proofs.LawsHold.{parts_are_initial_forms}
 use Rattle.gf_initial.proofs.parts_are_initial_forms.Goals as goal
 
 pub returns : goal.returns

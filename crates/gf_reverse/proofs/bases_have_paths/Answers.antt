@@ -1,4 +1,4 @@
-use Rattle.gf_reverse.proofs.TheoremsHold.{bases_have_paths}
+use Rattle.gf_reverse.proofs.LawsHold.{bases_have_paths}
 use Rattle.gf_reverse.proofs.bases_have_paths.Goals as goal
 
 pub returns : goal.returns

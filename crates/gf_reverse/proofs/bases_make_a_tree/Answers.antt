@@ -1,4 +1,4 @@
-use Rattle.gf_reverse.proofs.TheoremsHold.{bases_make_a_tree}
+use Rattle.gf_reverse.proofs.LawsHold.{bases_make_a_tree}
 use Rattle.gf_reverse.proofs.bases_make_a_tree.Goals as goal
 
 pub returns : goal.returns

@@ -1,4 +1,4 @@
-use Rattle.gf_reverse.proofs.TheoremsHold.{crossings_fall}
+use Rattle.gf_reverse.proofs.LawsHold.{crossings_fall}
 use Rattle.gf_reverse.proofs.crossings_fall.Goals as goal
 
 pub returns : goal.returns

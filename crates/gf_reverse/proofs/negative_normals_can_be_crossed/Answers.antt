@@ -1,4 +1,4 @@
-use Rattle.gf_reverse.proofs.TheoremsHold.{negative_normals_can_be_crossed}
+use Rattle.gf_reverse.proofs.LawsHold.{negative_normals_can_be_crossed}
 use Rattle.gf_reverse.proofs.negative_normals_can_be_crossed.Goals as goal
 
 pub returns : goal.returns

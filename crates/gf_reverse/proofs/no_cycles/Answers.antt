@@ -1,4 +1,4 @@
-use Rattle.gf_reverse.proofs.TheoremsHold.{no_cycles}
+use Rattle.gf_reverse.proofs.LawsHold.{no_cycles}
 use Rattle.gf_reverse.proofs.no_cycles.Goals as goal
 
 pub returns : goal.returns

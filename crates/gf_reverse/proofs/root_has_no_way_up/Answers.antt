@@ -1,4 +1,4 @@
-use Rattle.gf_reverse.proofs.TheoremsHold.{root_has_no_way_up}
+use Rattle.gf_reverse.proofs.LawsHold.{root_has_no_way_up}
 use Rattle.gf_reverse.proofs.root_has_no_way_up.Goals as goal
 
 pub returns : goal.returns

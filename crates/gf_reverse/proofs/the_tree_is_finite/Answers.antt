@@ -1,4 +1,4 @@
-use Rattle.gf_reverse.proofs.TheoremsHold.{the_tree_is_finite}
+use Rattle.gf_reverse.proofs.LawsHold.{the_tree_is_finite}
 use Rattle.gf_reverse.proofs.the_tree_is_finite.Goals as goal
 
 pub returns : goal.returns

@@ -1,4 +1,4 @@
-use Rattle.gf_reverse.proofs.TheoremsHold.{what_is_left}
+use Rattle.gf_reverse.proofs.LawsHold.{what_is_left}
 use Rattle.gf_reverse.proofs.what_is_left.Goals as goal
 
 pub returns : goal.returns

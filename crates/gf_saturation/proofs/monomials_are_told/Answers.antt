@@ -1,4 +1,4 @@
-use Rattle.gf_saturation.proofs.TheoremsHold.{monomials_are_told}
+use Rattle.gf_saturation.proofs.LawsHold.{monomials_are_told}
 use Rattle.gf_saturation.proofs.monomials_are_told.Goals as goal
 
 pub returns : goal.returns

@@ -1,4 +1,4 @@
-use Rattle.gf_saturation.proofs.TheoremsHold.{saturations_are_eliminations}
+use Rattle.gf_saturation.proofs.LawsHold.{saturations_are_eliminations}
 use Rattle.gf_saturation.proofs.saturations_are_eliminations.Goals as goal
 
 pub returns : goal.returns

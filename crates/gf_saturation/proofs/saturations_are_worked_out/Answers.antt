@@ -1,4 +1,4 @@
-use Rattle.gf_saturation.proofs.TheoremsHold.{saturations_are_worked_out}
+use Rattle.gf_saturation.proofs.LawsHold.{saturations_are_worked_out}
 use Rattle.gf_saturation.proofs.saturations_are_worked_out.Goals as goal
 
 pub returns : goal.returns

@@ -1,4 +1,4 @@
-use Rattle.gf_saturation.proofs.TheoremsHold.{saturations_compose}
+use Rattle.gf_saturation.proofs.LawsHold.{saturations_compose}
 use Rattle.gf_saturation.proofs.saturations_compose.Goals as goal
 
 pub returns : goal.returns

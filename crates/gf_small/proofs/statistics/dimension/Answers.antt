@@ -1,7 +1,7 @@
 use Rattle.std.proofs.Common.{◌≡◌, ◌∙◌, List, [], ℤ, length, sym, ap, subst}
 use Rattle.std.proofs.lemmas.Result.{err_from_is_err_and}
 use Rattle.gf_duality.specs.Rays.{IsRays}
-use Rattle.gf_facets.specs.Rows.{rows_of}
+use Rattle.gf_facets.specs.Rows.{rows_of_polynomials}
 use Rattle.gf_rays.specs.Cones.{AreRaysWithinLimits}
 use Rattle.gf_small.specs.Statistics.{members_of}
 use Rattle.gf_small.proofs.HomogeneitySpaceLaws.{dimension_of}
@@ -11,7 +11,7 @@ pub returns-in_err-space-clause-complete : goal.returns-in_err-space-clause-comp
 returns-in_err-space-clause-complete c = λ within.
     let p = err_from_is_err_and c.from_residual-in_err-space.result c.from_residual-in_err-space.ensures.1 in
     let none : c.as_slice.result.now ≡ [] = c.as_slice.ensures.value ∙ c.new-none.ensures.items in
-    let rows : c.as_slice-2.result.now ≡ rows_of (members_of c.args.sets.now) = c.as_slice-2.ensures.value ∙ c.in_ok-rows.ensures.value in
+    let rows : c.as_slice-2.result.now ≡ rows_of_polynomials (members_of c.args.sets.now) = c.as_slice-2.ensures.value ∙ c.in_ok-rows.ensures.value in
     let limits : AreRaysWithinLimits c.args.n c.as_slice.result.now c.as_slice-2.result.now = subst (λ (h : List (List ℤ)). AreRaysWithinLimits c.args.n h c.as_slice-2.result.now) (sym none) (subst (AreRaysWithinLimits c.args.n []) (sym rows) within) in
     rw (p.1, p.2) (c.in_err-space.ensures.complete limits)
 

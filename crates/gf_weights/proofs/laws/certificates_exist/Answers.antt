@@ -1,4 +1,4 @@
-use Rattle.gf_weights.proofs.TheoremsHold.{certificates_exist}
+use Rattle.gf_weights.proofs.LawsHold.{certificates_exist}
 use Rattle.gf_weights.proofs.laws.certificates_exist.Goals as goal
 
 pub returns : goal.returns

@@ -1,4 +1,4 @@
-use Rattle.gf_weights.proofs.TheoremsHold.{weights_give_bases}
+use Rattle.gf_weights.proofs.LawsHold.{weights_give_bases}
 use Rattle.gf_weights.proofs.laws.weights_give_bases.Goals as goal
 
 pub returns : goal.returns

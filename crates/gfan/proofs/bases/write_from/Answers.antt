@@ -3,7 +3,7 @@ use Rattle.std.proofs.lemmas.Result.{err_from_is_err_and}
 use Rattle.gf_poly.specs.Marking.{polys}
 use Rattle.gf_facets.specs.Regions.{all_positive}
 use Rattle.gf_reverse.specs.Upward.{IsNode}
-use Rattle.gf_subtree.specs.Answers.{IsRowStep, IsRowEnd, IsRowAnswer}
+use Rattle.gf_subtree.specs.Answers.{IsNextRow, IsRowEnd, IsRowAnswer}
 use Rattle.gfan.specs.BasesWriting.{IsUnderWay, IsListStopped}
 use Rattle.gfan.proofs.BasesListLaws.{first_node, first_own}
 use Rattle.gfan.proofs.BasesLaws.{starts, step_variables, goes_on, ends, stopped_early, stopped_tree, stopped_limit, stopped_piece, stopped_end, unnamed_tree, unnamed_piece, piece_calm}
@@ -40,12 +40,12 @@ returns-in_err-basis-clause-told g c =
 
 pub write_basis-requires : goal.write_basis-requires
 write_basis-requires g c =
-    let step : IsRowStep c.list.waves c.next_written.new.self c.in-Some.basis = subst (λ o. IsRowAnswer c.list.waves c.next_written.new.self o) c.in-Some.is c.in_ok-basis.ensures.ok in
+    let step : IsNextRow c.list.waves c.next_written.new.self c.in-Some.basis = subst (λ o. IsRowAnswer c.list.waves c.next_written.new.self o) c.in-Some.is c.in_ok-basis.ensures.ok in
     step_variables c.args.options c.args.ring.now (polys c.args.root.items) c.list.waves c.list.room c.list.is_first (g.K.Sink.held c.args.output.now) (g.K.Sink.held c.list.output) (c.list.invariant.under_way (polys c.args.root.items) c.requires.first) c.next_written.new.self c.in-Some.basis step
 
 pub list-preserved : goal.list-preserved
 list-preserved g c =
-    let step : IsRowStep c.list.waves c.next_written.new.self c.in-Some.basis = subst (λ o. IsRowAnswer c.list.waves c.next_written.new.self o) c.in-Some.is c.in_ok-basis.ensures.ok in
+    let step : IsNextRow c.list.waves c.next_written.new.self c.in-Some.basis = subst (λ o. IsRowAnswer c.list.waves c.next_written.new.self o) c.in-Some.is c.in_ok-basis.ensures.ok in
     record {
       under_way = λ fs s. goes_on c.args.options c.args.ring.now fs c.list.waves c.list.room c.list.is_first (g.K.Sink.held c.args.output.now) (g.K.Sink.held c.list.output) (c.list.invariant.under_way fs s) c.next_written.new.self c.in-Some.basis step c.in_ok-room.room (g.K.Sink.held c.write_basis.new.output) c.in_ok-room.ensures.ok c.in_ok-write_basis.ensures.all;
       calm = c.in_ok-write_basis.ensures.calm ∙ c.list.invariant.calm;
@@ -53,13 +53,13 @@ list-preserved g c =
 
 pub returns-in_err-room-clause-stopped : goal.returns-in_err-room-clause-stopped
 returns-in_err-room-clause-stopped g c =
-    let step : IsRowStep c.list.waves c.next_written.new.self c.in-Some.basis = subst (λ o. IsRowAnswer c.list.waves c.next_written.new.self o) c.in-Some.is c.in_ok-basis.ensures.ok in
+    let step : IsNextRow c.list.waves c.next_written.new.self c.in-Some.basis = subst (λ o. IsRowAnswer c.list.waves c.next_written.new.self o) c.in-Some.is c.in_ok-basis.ensures.ok in
     let p = err_from_is_err_and c.from_residual-in_err-room.result c.from_residual-in_err-room.ensures.1 in
     rw (p.1, p.2) (λ fs s. stopped_limit c.args.options c.args.ring.now fs c.list.waves c.list.room c.list.is_first (g.K.Sink.held c.args.output.now) (g.K.Sink.held c.list.output) (c.list.invariant.under_way fs s) c.next_written.new.self c.in-Some.basis step (g.K.Sink.faults c.args.output.now) (g.K.Sink.faults c.list.output) c.in_err-room.field-0.0 c.in_err-room.ensures.err)
 
 pub returns-in_err-write_basis-clause-stopped : goal.returns-in_err-write_basis-clause-stopped
 returns-in_err-write_basis-clause-stopped g c =
-    let step : IsRowStep c.list.waves c.next_written.new.self c.in-Some.basis = subst (λ o. IsRowAnswer c.list.waves c.next_written.new.self o) c.in-Some.is c.in_ok-basis.ensures.ok in
+    let step : IsNextRow c.list.waves c.next_written.new.self c.in-Some.basis = subst (λ o. IsRowAnswer c.list.waves c.next_written.new.self o) c.in-Some.is c.in_ok-basis.ensures.ok in
     let p = err_from_is_err_and c.from_residual-in_err-write_basis.result c.from_residual-in_err-write_basis.ensures.1 in
     rw (p.1, p.2) (λ fs s. subst (λ k. IsListStopped c.args.options c.args.ring.now fs (g.K.Sink.held c.args.output.now) (g.K.Sink.held c.write_basis.new.output) k (g.K.Sink.faults c.write_basis.new.output) c.in_err-write_basis.field-0.0) c.list.invariant.calm
     (stopped_piece c.args.options c.args.ring.now fs c.list.waves c.list.room c.list.is_first (g.K.Sink.held c.args.output.now) (g.K.Sink.held c.list.output) (c.list.invariant.under_way fs s) c.next_written.new.self c.in-Some.basis step (g.K.Sink.held c.write_basis.new.output) (g.K.Sink.faults c.list.output) (g.K.Sink.faults c.write_basis.new.output) c.in_err-write_basis.field-0.0 c.in_err-write_basis.ensures.err))

@@ -9,7 +9,7 @@ use Rattle.gf_tree.specs.declared.error.TreeError.TheVariants.{Memory}
 use Rattle.gf_tree.specs.Parents.{ideal_of}
 use Rattle.gf_tree.specs.Refusals.{IsTreeRefusal}
 use Rattle.gf_subtree.specs.Rows.{Row, up_in, RefusesWalker, ideal_in}
-use Rattle.gf_subtree.specs.Answers.{IsRowStep}
+use Rattle.gf_subtree.specs.Answers.{IsNextRow}
 use Rattle.gf_subtree.proofs.BasisRowLaws.{row_of, left_after, row_step, left_at_end, left_kept, front_refused}
 use Rattle.gf_subtree.proofs.waves.Waves.next.Goals as goal
 
@@ -28,8 +28,8 @@ returns-in-Ok-Some-clause-ok g c =
     let q = c.next_written.new.self in
     let e = c.in-Ok-Some.ensures in
     let new = row_of q c.self.inside.pairs c.self.inside.start.value c.raise.new.self in
-    subst (λ (r : Row). IsRowStep r new c.into_basis.result) c.self.view_is
-    (subst (λ (b : MarkedPolynomials). IsRowStep (row_of f c.self.inside.pairs c.self.inside.start.value c.self.inside.given) new b) (sym c.into_basis.ensures)
+    subst (λ (r : Row). IsNextRow r new c.into_basis.result) c.self.view_is
+    (subst (λ (b : MarkedPolynomials). IsNextRow (row_of f c.self.inside.pairs c.self.inside.start.value c.self.inside.given) new b) (sym c.into_basis.ensures)
     (row_step f q c.self.inside.pairs c.self.inside.start.value c.self.inside.given c.raise.new.self e.workers e.bound e.refusals c.self.invariant c.in-Ok-Some.node
     (subst (λ (o : Option MarkedPolynomials). IsCall IsBefore up_in RefusesWalker (λ r. r ≡ Memory) f (Ok o) q) c.in-Ok-Some.field-0-is e.call)
     (λ nodes l. subst (IsFirstOf (PiecesLeave (IsLeftAt IsBefore up_in) q.pieces) nodes) c.in-Ok-Some.field-0-is (e.list nodes l)) c.in_ok-raise.ensures.ok))

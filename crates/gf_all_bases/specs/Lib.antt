@@ -1,2 +1,0 @@
-pub mod AllBases  -- the list of all of them, as a total function
-pub mod Laws  -- the theorems that functions of this crate name
