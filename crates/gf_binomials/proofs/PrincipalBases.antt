@@ -1,5 +1,5 @@
 -- A reduced basis of an ideal with one generator has one member at most, which is a monic form of the generator.
--- To cite: monic_at, basis_forms, basis_short, antichain_within, short_within.
+-- To cite: only, alone_in, monic_at, basis_forms, basis_short, antichain_within, short_within.
 use Rattle.std.specs.Prelude.{◌≡◌, ◌⊎◌, ℕ, ◌≤◌, true, false, List, [], ◌∷◌, length, Contains}
 use Rattle.std.proofs.Common.{arith, sym, ap, ◌∙◌, subst, inl, inr}
 use Rattle.gf_frac.specs.Fraction.{◌*ℚ◌, reciprocal_ℚ}
@@ -61,10 +61,10 @@ monic_at-marked below f y g = record {
 
 -- ---- the members
 
-only : {A : Type 0} (x y : A) → Contains (x ∷ []) y → x ≡ y
+pub only : {A : Type 0} (x y : A) → Contains (x ∷ []) y → x ≡ y
 only x y c = elim (Contains-cases x y [] c) [ inl e ↦ e | inr k ↦ absurd (omega (arith, k.1)) ]
 
-alone_in : (n : ℕ) (f : Terms) → IsInVariables n f → AreInVariables n (f ∷ [])
+pub alone_in : (n : ℕ) (f : Terms) → IsInVariables n f → AreInVariables n (f ∷ [])
 alone_in n f v g c = subst (λ (h : Terms). IsInVariables n h) (only f g c) v
 
 -- the ideal of zero
