@@ -1,16 +1,17 @@
 -- Refusals of a flip are operations of the flip.
 -- To cite: remainder_refused, difference_refused, member_refused, parts_refused, lifts_refused, tails_refused, flip_within.
 use Rattle.std.specs.Prelude.{◌≡◌, ℕ, List, ℤ, Contains, Result, Ok, Err, IfErr}
-use Rattle.std.proofs.Common.{arith, refl, subst, inl, inr}
+use Rattle.std.proofs.Common.{arith, refl, sym, subst, inl, inr}
 use Rattle.gf_exponents.specs.Orders.{negated_row_of}
 use Rattle.gf_exponents.specs.SixOrders.{MonomialOrder}
 use Rattle.gf_frac.specs.Fits.{Fits}
 use Rattle.gf_frac.specs.declared.refusal.Op.TheVariants.{Sub}
 use Rattle.gf_poly.specs.declared.error.PolyError.{PolyError}
 use Rattle.gf_poly.specs.declared.error.PolyError.TheVariants as errors
-use Rattle.gf_poly.specs.Polynomial.{Terms}
+use Rattle.gf_poly.specs.Polynomial.{Terms, HasVariables, IsDescending}
 use Rattle.gf_poly.specs.Sums.{IsLikeCause}
-use Rattle.gf_poly.specs.Marking.{MarkedPolynomial}
+use Rattle.gf_poly.specs.Marking.{MarkedPolynomial, HasMarkedTerm}
+use Rattle.gf_poly.proofs.CoefficientLaws.{term_coefficient}
 use Rattle.gf_ideal.specs.NormalForms.{IsNormalForm}
 use Rattle.gf_division.specs.Steps.{IsReductionRefusal}
 use Rattle.gf_division.specs.Autoreduction.{IsAutoreductionRefusal}
@@ -33,12 +34,17 @@ remainder_refused bs h f e q r = at e (subst (λ (z : Terms). IsReductionRefusal
     at errors.Memory k = tt
 
 -- the difference with its remainder
-pub difference_refused : (bs : List MarkedPolynomial) (h : MarkedPolynomial) (f g r : Terms) (e : PolyError) → f ≡ h.poly → g ≡ h.poly →
-    IsNormalForm bs f r → IsLikeCause Sub g r e → IsLiftRefusal bs h e
-difference_refused bs h f g r e p q n k = at e (subst (λ (w : Terms). IsLikeCause Sub w r e) q k)
+pub difference_refused : (n : ℕ) (bs : List MarkedPolynomial) (h : MarkedPolynomial) (f g r : Terms) (e : PolyError) → f ≡ h.poly → g ≡ h.poly →
+    HasVariables n h.poly → HasMarkedTerm h → HasVariables n r → IsDescending r → IsNormalForm bs f r → IsLikeCause Sub g r e → IsLiftRefusal bs h e
+difference_refused n bs h f g r e p q v m w d k c = at e (subst (λ (w : Terms). IsLikeCause Sub w r e) q c)
   where
     at : (e : PolyError) → IsLikeCause Sub h.poly r e → IsLiftRefusal bs h e
-    at (errors.Overflow o) c = (IsLiftOperation.difference r c.at (subst (λ (w : Terms). IsNormalForm bs w r) p n) c.operation c.like, λ f. c.leaves (subst (λ op. Fits op o.left o.right) c.operation f))
+    at (errors.Overflow o) c = (
+      IsLiftOperation.difference r c.at (subst (λ (w : Terms). IsNormalForm bs w r) p k) c.operation
+      (sym (term_coefficient n h.poly (record { coef = o.left; mono = c.at }) v m.descending c.like.left))
+      (sym (term_coefficient n r (record { coef = o.right; mono = c.at }) w d c.like.right)),
+      λ f. c.leaves (subst (λ op. Fits op o.left o.right) c.operation f),
+    )
     at (errors.Exponent o) c = absurd c
     at errors.Memory c = tt
 

@@ -11,8 +11,7 @@ use Rattle.gf_exponents.specs.Exponents.{Exponents}
 use Rattle.gf_exponents.specs.Orders.{IsFacetBelow, negated_row_of}
 use Rattle.gf_exponents.specs.SixOrders.{MonomialOrder}
 use Rattle.gf_poly.specs.declared.error.PolyError.{PolyError}
-use Rattle.gf_poly.specs.Polynomial.{Terms}
-use Rattle.gf_poly.specs.Sums.{AreLike}
+use Rattle.gf_poly.specs.Polynomial.{Terms, coefficient}
 use Rattle.gf_poly.specs.Refusals.{IsRefusedBy}
 use Rattle.gf_poly.specs.Marking.{MarkedPolynomial, MarkedPolynomials}
 use Rattle.gf_ideal.specs.NormalForms.{IsNormalForm}
@@ -28,11 +27,11 @@ use Rattle.gf_flip.specs.Along.{AreAlong, IsBasisOfParts}
 
 -- ---- lifts
 
--- the operation is one of a reduction of h by bs, or the difference of like coefficients of h and its remainder
+-- the operation is one of a reduction of h by bs, or the difference of a coefficient of h and that of its remainder at the same monomial
 pub data IsLiftOperation (bs : List MarkedPolynomial) (h : MarkedPolynomial) (op : Op) (left right : Fraction) : Type 0 where
   remainder : IsReductionOperation (Contains bs) h.poly op left right → IsLiftOperation bs h op left right
-  difference : (r : Terms) (at : Exponents) → IsNormalForm bs h.poly r → op ≡ Sub →
-      AreLike h.poly r (record { coef = left; mono = at }) (record { coef = right; mono = at }) → IsLiftOperation bs h op left right
+  difference : (r : Terms) (at : Exponents) → IsNormalForm bs h.poly r → op ≡ Sub → left ≡ coefficient h.poly at →
+      right ≡ coefficient r at → IsLiftOperation bs h op left right
 
 -- why h isn't lifted
 abbrev pub IsLiftRefusal : List MarkedPolynomial → MarkedPolynomial → PolyError → Type 0

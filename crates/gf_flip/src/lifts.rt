@@ -21,9 +21,11 @@ fn lift(alloc: Global, member: &Marked, by: &MarkedSet) -> Result<Marked, PolyEr
     ensures variables { IfOk result (λ l. HasVariables by.now.variables l.poly) }
     ensures cause { IfErr result (IsLiftRefusal by.now.items member.now) }
 {
+    // What `head` ensures says that the terms of the member descend, also where the difference is refused.
+    let head = member.head();
     let rest = normal_form(alloc, member.poly(), by)?;
     let poly = member.poly().sub(&rest)?;
-    let place = place_of(poly.terms(), member.head());
+    let place = place_of(poly.terms(), head);
     Ok(Marked::mark(poly, place))
 }
 
