@@ -8,7 +8,7 @@ use Rattle.std.proofs.lemmas.List.Elements.{AllZip-get_or, length_all_zip, All-c
 use Rattle.std.proofs.lemmas.List.Quantifiers.{all_pairs_push}
 use Rattle.gf_int.specs.Content.{IsPrimitive, scaled}
 use Rattle.gf_int.proofs.RingLaws.{same, dv, dn, dneg, ◌⊗◌, ◌⊕◌}
-use Rattle.gf_int.proofs.SignLaws.{zero-cancel}
+use Rattle.gf_int.proofs.SignLaws.{zero-cancel, zero_product}
 use Rattle.gf_vec.specs.Vector.{vector_sum, zeros, entry_at}
 use Rattle.gf_vec.proofs.VectorLaws.{length-times, length-plus}
 use Rattle.gf_gordan.specs.Elimination.{IsPivot, row_at, size_at, signed_at}
@@ -16,7 +16,7 @@ use Rattle.gf_duality.specs.Generators.{Made, nothing, line, summed, divided}
 use Rattle.gf_duality.specs.Rays.{IsEchelon}
 use Rattle.gf_duality.specs.Elimination.{IsTurned, IsFirstAt, IsEliminated, begun, skipped, turned, IsNormalised, IsEchelonBasis}
 use Rattle.gf_duality.proofs.ListLaws.{none_in, in_cons, in_more, in_last, snoc_cases, zip_from, zip_to, all_by, place, less, at, more, of_rest, rest_cover}
-use Rattle.gf_vec.proofs.EntryLaws.{signum_up, entry_times, entry_plus, times_zero, cancel, all_zero}
+use Rattle.gf_vec.proofs.EntryLaws.{signum_up, entry_times, entry_plus, cancel, all_zero}
 use Rattle.gf_duality.proofs.PivotLaws.{pivot_unique}
 use Rattle.gf_vec.proofs.VectorIdentities.{vv, vz, ◌⊞◌, ◌⊡◌, vsame}
 use Rattle.gf_duality.proofs.Made.{Made-into, span-times}
@@ -76,7 +76,7 @@ turned_zero n j r t u i lt lr s e f = zero-cancel s.c (entry_at u i) s.c_positiv
 
 -- not zero where t is not and r is
 turned_not_zero : (n j : ℕ) (r t u : List ℤ) (i : ℕ) → length t ≡ n → length r ≡ n → Turned n j r t u → entry_at r i ≡ pos 0 → entry_at u i ≡ pos 0 → entry_at t i ≡ pos 0
-turned_not_zero n j r t u i lt lr s f z = zero-cancel s.a (entry_at t i) s.a_positive (sym (linear_left s.a s.b (entry_at t i) (entry_at r i) f) ∙ sym (turned_entry n j r t u i lt lr s) ∙ times_zero s.c (entry_at u i) z)
+turned_not_zero n j r t u i lt lr s f z = zero-cancel s.a (entry_at t i) s.a_positive (sym (linear_left s.a s.b (entry_at t i) (entry_at r i) f) ∙ sym (turned_entry n j r t u i lt lr s) ∙ zero_product s.c (entry_at u i) z)
 
 -- ---- the shape
 
@@ -258,7 +258,7 @@ normal_entry t z i s = sym (entry_times s.factor z i) ∙ ap (λ v. entry_at v i
 normal_pivot : (n : ℕ) (t z : List ℤ) (p : ℕ) → length t ≡ n → IsNormalised t z → IsPivot t p → IsPivot z p
 normal_pivot n t z p lt s k = record {
   inside = let a = k.inside in let b : length z ≡ length t = normal_long n t z lt s ∙ sym lt in omega (arith, a, b);
-  not_zero = λ e. k.not_zero (sym (normal_entry t z p s) ∙ times_zero s.factor (entry_at z p) e);
+  not_zero = λ e. k.not_zero (sym (normal_entry t z p s) ∙ zero_product s.factor (entry_at z p) e);
   first = λ i hi. cancel s.factor (entry_at z i) s.not_zero (normal_entry t z i s ∙ k.first i hi);
 }
 

@@ -6,7 +6,7 @@ use Rattle.std.proofs.lemmas.List.{get_or_default}
 use Rattle.std.proofs.lemmas.List.Elements.{All-contains, recursion_from_All}
 use Rattle.gf_int.specs.Content.{AllZero, IsPrimitive, scaled}
 use Rattle.gf_int.proofs.RingLaws.{same, dv, dn, dneg, ◌⊗◌, ◌⊕◌}
-use Rattle.gf_int.proofs.SignLaws.{sign_of, negative, none, positive}
+use Rattle.gf_int.proofs.SignLaws.{sign_of, negative, none, positive, zero_product}
 use Rattle.gf_vec.specs.Vector.{vector_sum, zeros, combined, entry_at}
 use Rattle.gf_vec.proofs.VectorLaws.{length-times, length-combined}
 use Rattle.gf_gordan.specs.Alternative.{AreRows}
@@ -14,7 +14,7 @@ use Rattle.gf_gordan.specs.Elimination.{IsPivot}
 use Rattle.gf_duality.specs.Generators.{Made, nothing, line, summed, divided}
 use Rattle.gf_duality.specs.Rays.{IsEchelon, Generated}
 use Rattle.gf_duality.proofs.ListLaws.{none_in, in_head, in_tail, in_cons, all_by}
-use Rattle.gf_vec.proofs.EntryLaws.{entry_times, entry_plus, times_zero, cancel, all_zero}
+use Rattle.gf_vec.proofs.EntryLaws.{entry_times, entry_plus, cancel, all_zero}
 use Rattle.gf_duality.proofs.PivotLaws.{pivot_unique}
 use Rattle.gf_vec.proofs.VectorIdentities.{vv, vz, ◌⊞◌, ◌⊡◌, vsame}
 use Rattle.gf_duality.proofs.Made.{span-times}
@@ -89,7 +89,7 @@ combined_entry n m ms t ts i w = entry_plus (scaled m t) (combined n ms ts) i (l
 combined_zero : (n : ℕ) (ms : List ℤ) (rows : List (List ℤ)) (i : ℕ) → AllByRecursion (λ t. length t ≡ n) rows → ((y : List ℤ) → Contains rows y → entry_at y i ≡ pos 0) → entry_at (combined n ms rows) i ≡ pos 0
 combined_zero n [] rows i w f = entry_zeros n i
 combined_zero n (m ∷ ms) [] i w f = entry_zeros n i
-combined_zero n (m ∷ ms) (t ∷ ts) i w f = combined_entry n m ms t ts i w ∙ ap₂ ◌+ℤ◌ (times_zero m (entry_at t i) (f t (in_head t ts))) (combined_zero n ms ts i w.1 (λ y c. f y (in_tail t ts y c)))
+combined_zero n (m ∷ ms) (t ∷ ts) i w f = combined_entry n m ms t ts i w ∙ ap₂ ◌+ℤ◌ (zero_product m (entry_at t i) (f t (in_head t ts))) (combined_zero n ms ts i w.1 (λ y c. f y (in_tail t ts y c)))
 
 no_more : (x : ℤ) → x +ℤ pos 0 ≡ x
 no_more x = omega (arith, ints)
@@ -132,7 +132,7 @@ combined_pivot n (m ∷ ms) (t ∷ ts) q w s k = elim (zero_or m) [
       let own : IsPivot whole p.0 = record {
         inside = let h = p.1.0.inside in omega (arith, h, w.0, length-combined n (m ∷ ms) (t ∷ ts) w);
         not_zero = λ e. p.1.0.not_zero (cancel m (entry_at t p.0) nz (sym (combined_head n m ms t ts p.0 w (λ y c. p.1.1 y p.0 c (omega arith))) ∙ e));
-        first = λ i h. combined_head n m ms t ts i w (λ y c. p.1.1 y i c (omega (arith, h))) ∙ times_zero m (entry_at t i) (p.1.0.first i h);
+        first = λ i h. combined_head n m ms t ts i w (λ y c. p.1.1 y i c (omega (arith, h))) ∙ zero_product m (entry_at t i) (p.1.0.first i h);
       } in
       (t, (in_head t ts, subst (IsPivot t) (pivot_unique whole p.0 q own k) p.1.0))
 ]
@@ -168,7 +168,7 @@ span_none n rows v w e m l f =
     let c = combination n rows v w m in
     let u = recursion_from_All (λ t. length t ≡ n) rows w in
     let z : combined n c.by rows ≡ zeros n = combined_none n c.by rows u (staircase_of rows rows e (λ x i. i) e.rising)
-    (λ y p i k. ap (λ t. entry_at t p) (sym c.is) ∙ entry_times c.factor v p ∙ times_zero c.factor (entry_at v p) (f y p i k)) in
+    (λ y p i k. ap (λ t. entry_at t p) (sym c.is) ∙ entry_times c.factor v p ∙ zero_product c.factor (entry_at v p) (f y p i k)) in
     let k = c.factor in
     times_cancel k v (zeros n) c.positive_factor (c.is ∙ z ∙ vsame (vz n) (dv k ⊡ vz n) (λ t. omega arith))
 
@@ -180,7 +180,7 @@ span_pivot n rows v q w e m k =
     let moved : IsPivot (scaled c.factor v) q = record {
       inside = let h = k.inside in omega (arith, h, length-times c.factor v);
       not_zero = λ z. k.not_zero (cancel c.factor (entry_at v q) (positive_not_zero c.factor c.positive_factor) (sym (entry_times c.factor v q) ∙ z));
-      first = λ i h. entry_times c.factor v i ∙ times_zero c.factor (entry_at v i) (k.first i h);
+      first = λ i h. entry_times c.factor v i ∙ zero_product c.factor (entry_at v i) (k.first i h);
     } in
     combined_pivot n c.by rows q u (staircase_of rows rows e (λ x i. i) e.rising) (subst (λ t. IsPivot t q) c.is moved)
 

@@ -4,7 +4,7 @@
 use Rattle.std.specs.Prelude.{◌≡◌, ◌⊎◌, ℕ, zero, suc, ◌+◌, ◌-◌, ◌≤◌, Bool, true, false, ◌&&◌, ◌==◌, [], ◌∷◌, max, length}
 use Rattle.std.proofs.Common.{arith, refl, sym, ap, ◌∙◌, inl, inr, get_or}
 use Rattle.std.proofs.lemmas.Bool.Decides.{nat_tests}
-use Rattle.std.proofs.lemmas.Bool.{cases_lt}
+use Rattle.std.proofs.lemmas.Bool.{cases_lt, and_parts}
 use Rattle.gf_exponents.specs.Exponents.{Exponents, entry, same, plus, join, minus, AreCoprime, NoMultiple}
 
 -- ---- products
@@ -25,10 +25,6 @@ same_numbers a = grind (arith, nat_tests)
 pub same-refl : (x : Exponents) → same x x ≡ true
 same-refl [] = refl
 same-refl (a ∷ x) = ap (λ t. t && same x x) (same_numbers a) ∙ same-refl x
-
-pub both_true : (s t : Bool) → (s && t) ≡ true → (s ≡ true) × (t ≡ true)
-both_true true t h = (refl, h)
-both_true false t h = absurd (cc)
 
 pub same-sym : (x y : Exponents) → same x y ≡ same y x
 same-sym [] [] = refl
@@ -67,23 +63,23 @@ pub same_along : (x y z : Exponents) → same x y ≡ true → same x z ≡ same
 same_along [] [] z h = refl
 same_along [] (b ∷ y) [] h = sym h ∙ same-sym [] (b ∷ y)
 same_along [] (b ∷ y) (c ∷ z) h =
-    let p = both_true (b == 0) (same [] y) h in
+    let p = and_parts (b == 0) (same [] y) h in
     ap (λ n. (c == 0) && n) (same_along [] y z p.1) ∙ ap (λ s. s && same y z) (one b c (eq_by b 0 p.0))
   where
     one : (b c : ℕ) → b ≡ 0 → (c == 0) ≡ (b == c)
     one b c h = grind (arith, nat_tests)
 same_along (a ∷ x) [] [] h = h
 same_along (a ∷ x) [] (c ∷ z) h =
-    let p = both_true (a == 0) (same x []) h in
+    let p = and_parts (a == 0) (same x []) h in
     ap (λ n. (a == c) && n) (same_along x [] z p.1) ∙ ap (λ s. s && same [] z) (one a c (eq_by a 0 p.0))
   where
     one : (a c : ℕ) → a ≡ 0 → (a == c) ≡ (c == 0)
     one a c h = grind (arith, nat_tests)
 same_along (a ∷ x) (b ∷ y) [] h =
-    let p = both_true (a == b) (same x y) h in
+    let p = and_parts (a == b) (same x y) h in
     ap (λ n. (a == 0) && n) (same_along x y [] p.1) ∙ ap (λ s. s && same y []) (ap (λ n. n == 0) (eq_by a b p.0))
 same_along (a ∷ x) (b ∷ y) (c ∷ z) h =
-    let p = both_true (a == b) (same x y) h in
+    let p = and_parts (a == b) (same x y) h in
     ap (λ n. (a == c) && n) (same_along x y z p.1) ∙ ap (λ s. s && same y z) (ap (λ n. n == c) (eq_by a b p.0))
 
 none_here : (a b : ℕ) (x e : Exponents) → b + 1 ≤ a → NoMultiple (a ∷ x) (b ∷ e)
@@ -193,12 +189,12 @@ same_by_entries (a ∷ x) (b ∷ y) h = both (a == b) (same x y) (equal_test a b
 
 pub entries_same : (x y : Exponents) → same x y ≡ true → (i : ℕ) → entry x i ≡ entry y i
 entries_same [] [] h i = refl
-entries_same [] (b ∷ y) h zero = sym (eq_by b 0 (both_true (b == 0) (same [] y) h).0)
-entries_same [] (b ∷ y) h (suc i) = entries_same [] y (both_true (b == 0) (same [] y) h).1 i
-entries_same (a ∷ x) [] h zero = eq_by a 0 (both_true (a == 0) (same x []) h).0
-entries_same (a ∷ x) [] h (suc i) = entries_same x [] (both_true (a == 0) (same x []) h).1 i
-entries_same (a ∷ x) (b ∷ y) h zero = eq_by a b (both_true (a == b) (same x y) h).0
-entries_same (a ∷ x) (b ∷ y) h (suc i) = entries_same x y (both_true (a == b) (same x y) h).1 i
+entries_same [] (b ∷ y) h zero = sym (eq_by b 0 (and_parts (b == 0) (same [] y) h).0)
+entries_same [] (b ∷ y) h (suc i) = entries_same [] y (and_parts (b == 0) (same [] y) h).1 i
+entries_same (a ∷ x) [] h zero = eq_by a 0 (and_parts (a == 0) (same x []) h).0
+entries_same (a ∷ x) [] h (suc i) = entries_same x [] (and_parts (a == 0) (same x []) h).1 i
+entries_same (a ∷ x) (b ∷ y) h zero = eq_by a b (and_parts (a == b) (same x y) h).0
+entries_same (a ∷ x) (b ∷ y) h (suc i) = entries_same x y (and_parts (a == b) (same x y) h).1 i
 
 pub entry-get_or : (x : Exponents) (i : ℕ) → get_or x i 0 ≡ entry x i
 entry-get_or [] i = refl

@@ -8,7 +8,6 @@ use Rattle.gf_int.specs.Content.{scaled}
 use Rattle.gf_int.proofs.RingLaws.{same, dv, ◌⊕◌, ◌⊗◌}
 use Rattle.gf_vec.specs.Vector.{dot, vector_sum, zeros, combined}
 use Rattle.gf_vec.proofs.VectorLaws.{dot_comm, dot-plus, dot-times, dot-zeros, length-zeros, length-plus, length-times, length-combined}
-use Rattle.gf_vec.proofs.EntryLaws.{times_zero}
 use Rattle.gf_vec.proofs.DotLaws.{vector_ext}
 use Rattle.gf_gordan.specs.Alternative.{AreRows, IsSolution, IsFarkas}
 use Rattle.gf_duality.specs.Rays.{Generated}
@@ -16,14 +15,15 @@ use Rattle.gf_duality.proofs.ListLaws.{none_in, in_head}
 use Rattle.gf_duality.proofs.Made.{Made-dot_zero}
 use Rattle.gf_duality.proofs.Generated.{generated-made}
 use Rattle.gf_duality.proofs.EchelonUnique.{no_widths}
+use Rattle.gf_int.proofs.SignLaws.{zero_product}
 
 -- a combination by so many times the multipliers gives so many times the values
 times_sum : (k e q y : ℤ) → (k *ℤ e) *ℤ q +ℤ k *ℤ y ≡ k *ℤ (e *ℤ q +ℤ y)
 times_sum k e q y = same ((dv k ⊗ dv e) ⊗ dv q ⊕ dv k ⊗ dv y) (dv k ⊗ (dv e ⊗ dv q ⊕ dv y)) (omega arith)
 
 times_values : (n : ℕ) (k : ℤ) (es : List ℤ) (rows : List (List ℤ)) (u : List ℤ) → AllByRecursion (λ t. length t ≡ n) rows → dot (combined n (scaled k es) rows) u ≡ k *ℤ dot (combined n es rows) u
-times_values n k [] rows u w = let z = dot-zeros n u in rw z (sym (times_zero k (pos 0) refl))
-times_values n k (e ∷ es) [] u w = let z = dot-zeros n u in rw z (sym (times_zero k (pos 0) refl))
+times_values n k [] rows u w = let z = dot-zeros n u in rw z (sym (zero_product k (pos 0) refl))
+times_values n k (e ∷ es) [] u w = let z = dot-zeros n u in rw z (sym (zero_product k (pos 0) refl))
 times_values n k (e ∷ es) (r ∷ rows) u w =
     let y = dot (combined n es rows) u in
     dot-plus (scaled (k *ℤ e) r) (combined n (scaled k es) rows) u (length-times (k *ℤ e) r ∙ w.0 ∙ sym (length-combined n (scaled k es) rows w.1))

@@ -4,7 +4,7 @@ use Rattle.std.proofs.lemmas.Int.{ints}
 use Rattle.std.proofs.lemmas.List.Elements.{All-contains}
 use Rattle.gf_int.specs.Content.{scaled}
 use Rattle.gf_int.proofs.RingLaws.{dv, dn, dneg, ◌⊗◌, ◌⊕◌}
-use Rattle.gf_int.proofs.SignLaws.{0<-*ℤ, sign_of, negative, none, positive}
+use Rattle.gf_int.proofs.SignLaws.{0<-*ℤ, sign_of, negative, none, positive, zero_product}
 use Rattle.gf_vec.specs.Vector.{dot, vector_sum, zeros, entry_at}
 use Rattle.gf_vec.proofs.VectorLaws.{length-times}
 use Rattle.gf_gordan.specs.Elimination.{IsPivot}
@@ -12,7 +12,7 @@ use Rattle.gf_duality.specs.Generators.{Made, nothing, ray, line, summed, multip
 use Rattle.gf_duality.specs.Rays.{IsEchelon}
 use Rattle.gf_fans.specs.Dimension.{AreFree, HasDimension}
 use Rattle.gf_duality.proofs.ListLaws.{none_in, in_head, in_tail, in_cons}
-use Rattle.gf_vec.proofs.EntryLaws.{entry_times, entry_plus, times_zero, cancel}
+use Rattle.gf_vec.proofs.EntryLaws.{entry_times, entry_plus, cancel}
 use Rattle.gf_vec.proofs.VectorIdentities.{vv, vz, ◌⊞◌, ◌⊡◌, vsame}
 use Rattle.gf_duality.proofs.Described.{pair_zero}
 use Rattle.gf_duality.proofs.Made.{Made-length, divided_length, Made-dot_zero, span-times}
@@ -165,10 +165,10 @@ both_zero x y e f = rw (e, f) refl
 span_entry : (n : ℕ) (rays lin : List (List ℤ)) (v : List ℤ) (p : ℕ) → ((z : List ℤ) → Contains rays z → ⊥) → ((z : List ℤ) → Contains lin z → entry_at z p ≡ pos 0) → Made n rays lin v → entry_at v p ≡ pos 0
 span_entry n rays lin v p never f (nothing m rs ls) = zeros_entry m p
 span_entry n rays lin v p never f (ray m rs ls w l c) = absurd (never w c)
-span_entry n rays lin v p never f (line m rs ls b u w l c e) = ap (λ t. entry_at t p) e ∙ entry_times b u p ∙ times_zero b (entry_at u p) (f u c)
+span_entry n rays lin v p never f (line m rs ls b u w l c e) = ap (λ t. entry_at t p) e ∙ entry_times b u p ∙ zero_product b (entry_at u p) (f u c)
 span_entry n rays lin v p never f (summed m rs ls u w z e g h) =
     ap (λ t. entry_at t p) e ∙ entry_plus u w p (Made-length m rs ls u g ∙ sym (Made-length m rs ls w h)) ∙ both_zero (entry_at u p) (entry_at w p) (span_entry m rs ls u p never f g) (span_entry m rs ls w p never f h)
-span_entry n rays lin v p never f (multiplied m rs ls b u w k e g) = ap (λ t. entry_at t p) e ∙ entry_times b u p ∙ times_zero b (entry_at u p) (span_entry m rs ls u p never f g)
+span_entry n rays lin v p never f (multiplied m rs ls b u w k e g) = ap (λ t. entry_at t p) e ∙ entry_times b u p ∙ zero_product b (entry_at u p) (span_entry m rs ls u p never f g)
 span_entry n rays lin v p never f (divided m rs ls b u w k e g) = cancel b (entry_at u p) (positive_not_zero b k) (sym (entry_times b u p) ∙ ap (λ t. entry_at t p) e ∙ span_entry m rs ls w p never f g)
 
 free_of : (n : ℕ) (rows whole : List (List ℤ)) → IsEchelon whole → ((x : List ℤ) → Contains rows x → Contains whole x) → AllPairs (λ x y. (p q : ℕ) → IsPivot x p → IsPivot y q → p < q) rows → AreFree n rows

@@ -120,10 +120,6 @@ pub *ℚ_assoc : (x y z : Fraction) → (x *ℚ y) *ℚ z ≡ x *ℚ (y *ℚ z)
 pub *ℚ-+ℚ : (x y z : Fraction) → x *ℚ (y +ℚ z) ≡ x *ℚ y +ℚ x *ℚ z
 *ℚ-+ℚ = each_q _ (λ a a' k. each_q _ (λ b b' l. each_q _ (λ c c' m. simp overs (over-eq _ _ _ _ (simp dens (simp naturals (diff-eq _ _ _ _ (omega arith))))))))
 
--- a sum times a fraction
-pub +ℚ-*ℚ : (x y z : Fraction) → (x +ℚ y) *ℚ z ≡ x *ℚ z +ℚ y *ℚ z
-+ℚ-*ℚ = each_q _ (λ a a' k. each_q _ (λ b b' l. each_q _ (λ c c' m. simp overs (over-eq _ _ _ _ (simp dens (simp naturals (diff-eq _ _ _ _ (omega arith))))))))
-
 -- the summands in the middle change places
 pub +ℚ-middle : (a b c d : Fraction) → (a +ℚ b) +ℚ (c +ℚ d) ≡ (a +ℚ c) +ℚ (b +ℚ d)
 +ℚ-middle = each_q _ (λ a a' k. each_q _ (λ b b' l. each_q _ (λ c c' m. each_q _ (λ d d' n. simp overs (over-eq _ _ _ _ (simp dens (simp naturals (diff-eq _ _ _ _ (omega arith)))))))))
@@ -198,11 +194,6 @@ pub num-zero : zero_ℚ.num ≡ pos 0
 unfolding over gcd
 num-zero = refl
 
--- the denominator of zero
-pub den-zero : zero_ℚ.den ≡ 1
-unfolding over gcd
-den-zero = refl
-
 -- the numerator of one
 pub num-one : one_ℚ.num ≡ pos 1
 unfolding over gcd
@@ -262,10 +253,6 @@ unfolding reciprocal_ℚ
 -- the reciprocal of a nonzero fraction, times it
 pub reciprocal_ℚ-*ℚ : (x : Fraction) → ¬ (x ≡ zero_ℚ) → reciprocal_ℚ x *ℚ x ≡ one_ℚ
 reciprocal_ℚ-*ℚ x h = *ℚ_comm (reciprocal_ℚ x) x ∙ *ℚ-reciprocal_ℚ x h
-
--- a quotient times the divisor
-pub quotient-*ℚ : (x y : Fraction) → ¬ (y ≡ zero_ℚ) → (x *ℚ reciprocal_ℚ y) *ℚ y ≡ x
-quotient-*ℚ x y h = *ℚ_assoc x (reciprocal_ℚ y) y ∙ ap (λ z. x *ℚ z) (reciprocal_ℚ-*ℚ y h) ∙ *ℚ-one x
 
 -- a nonzero factor is cancelled
 pub *ℚ_cancel : (x y z : Fraction) → ¬ (x ≡ zero_ℚ) → x *ℚ y ≡ x *ℚ z → y ≡ z

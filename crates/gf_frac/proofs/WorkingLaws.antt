@@ -2,11 +2,11 @@
 use Rattle.std.specs.Prelude.{◌≡◌, ℕ, zero, suc, ◌-◌, ◌*◌, ◌/◌, ◌<◌, ◌≤◌, ◌^◌, ℤ, pos, negsuc, ◌+ℤ◌, ◌*ℤ◌}
 use Rattle.std.specs.Int.RustNames.{unsigned_abs, int_div}
 use Rattle.std.proofs.Common.{arith, refl, ap, sym, ◌∙◌, subst}
-use Rattle.std.proofs.Math.Nat.{mul-div_cancel', mul-pos, one-dvd}
+use Rattle.std.proofs.Math.Nat.{mul-div_cancel', mul-pos}
 use Rattle.std.specs.Int.{IsGcd}
 use Rattle.std.proofs.lemmas.Int.{ints}
-use Rattle.std.proofs.lemmas.Nat.Gcd.{dvd_refl, le_of_dvd}
-use Rattle.gf_int.specs.Gcd.{gcd, gcd-is, gcd-same, gcd-positive}
+use Rattle.std.proofs.lemmas.Nat.Gcd.{le_of_dvd}
+use Rattle.gf_int.specs.Gcd.{gcd, gcd-is, gcd-positive}
 use Rattle.gf_int.specs.Range.{InRange}
 use Rattle.gf_int.specs.Integers.{each, naturals, diff-eq}
 use Rattle.gf_frac.specs.Fraction.{Fraction, over, over-eq, ◌+ℚ◌, ◌*ℚ◌, div-times}
@@ -14,6 +14,7 @@ use Rattle.gf_frac.specs.Fields.{IsLowest}
 use Rattle.gf_frac.proofs.PartsLaws.{IsLowest-whole}
 use Rattle.gf_frac.proofs.LowestLaws.{lowest_product, sum_common}
 use Rattle.gf_frac.specs.Fits.{FitsAdd, FitsMul, FitsSum, FitsProduct, IsReduced, IsSum, IsSumWorking, sum_numerator, sum_denominator, IsProduct, product_numerator, product_denominator}
+use Rattle.gf_int.proofs.ContentLaws.{gcd-by_one}
 
 factor_positive : (g x y : ℕ) → g * x ≡ y → 0 < y → 0 < x
 factor_positive g zero y e h = absurd (omega arith)
@@ -139,9 +140,6 @@ product_made a c x y n b d g h u v m la lc eg eh ex ey hn eu ev hm =
 gcd-one : gcd 1 1 ≡ 1
 unfolding gcd
 gcd-one = refl
-
-gcd-by_one : (n : ℕ) → gcd n 1 ≡ 1
-gcd-by_one n = sym (gcd-same n 1 1 (one-dvd n, dvd_refl 1, λ d x y. y))
 
 by_one : (a : ℤ) → int_div a (pos 1) ≡ a
 by_one (pos n) = omega (arith, ints)

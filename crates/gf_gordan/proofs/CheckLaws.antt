@@ -1,9 +1,8 @@
 -- Sums of multiples one entry and one vector further, and what the checks of multipliers say together.
 use Rattle.std.proofs.Common.{◌≡◌, ℕ, zero, suc, ◌+◌, ◌<◌, ◌≤◌, List, [], ◌∷◌, ◌++◌, length, ℤ, pos, negsuc, ◌+ℤ◌, ◌*ℤ◌, ◌≤ℤ◌, arith, sym, refl, ap, ap₂, ◌∙◌, subst, take, drop, get_or, set, All, inl, inr, append_assoc}
 use Rattle.std.specs.List.{AllByRecursion}
-use Rattle.std.proofs.Math.IntN.{+ℤ_assoc}
 use Rattle.std.proofs.lemmas.Int.{ints}
-use Rattle.std.proofs.lemmas.List.{take_more, drop_more, take_all, drop_all, append-nil, length-take, get_or_at, set_at}
+use Rattle.std.proofs.lemmas.List.{take_more, drop_more, drop_all, length-take, get_or_at, set_at}
 use Rattle.std.proofs.lemmas.List.Elements.{recursion_from_All, All-from_recursion, All-drop}
 use Rattle.gf_int.specs.Content.{IsContent, scaled}
 use Rattle.gf_vec.specs.Vector.{vector_sum, zeros, combined, SomePositive}
@@ -44,10 +43,6 @@ Added-more m xs start now next i z h e ez en a =
           ∙ sym (append_assoc front (z ∷ []) (drop (i + 1) start)) ∙ ap (λ l. l ++ drop (i + 1) start) (sym more);
     }
 
-pub Added-all : (m : ℤ) (xs start now : List ℤ) (i : ℕ) → length start ≤ i → length start ≡ length xs → Added m xs start now i → now ≡ vector_sum start (scaled m xs)
-Added-all m xs start now i h e a =
-    a.items ∙ ap₂ (λ k l. vector_sum k (scaled m l) ++ drop i start) (take_all i start h) (take_all i xs (omega arith)) ∙ ap (λ l. vector_sum start (scaled m xs) ++ l) (drop_all i start h) ∙ append-nil _
-
 -- ---- combinations that are added
 
 -- what is left to add gives what the whole gives
@@ -61,9 +56,6 @@ combined_more n ms ts i h e = let k : i < length ts = omega arith in rw (drop_mo
 
 left_len : (n : ℕ) (ms : List ℤ) (ts : List (List ℤ)) (i : ℕ) → AreRows n ts → length (combined n (drop i ms) (drop i ts)) ≡ n
 left_len n ms ts i w = length-combined n (drop i ms) (drop i ts) (recursion_from_All (λ t. length t ≡ n) (drop i ts) (All-drop (λ t. length t ≡ n) i ts w))
-
-pub Combining-start : (ms : List ℤ) (ts : List (List ℤ)) (start : List ℤ) → Combining ms ts start start 0
-Combining-start ms ts start = record { len = refl; whole = refl }
 
 -- one vector further
 pub Combining-more : (ms : List ℤ) (ts : List (List ℤ)) (start now next : List ℤ) (i : ℕ) (m : ℤ) (t : List ℤ) → i < length ms → length ms ≡ length ts → AreRows (length start) ts →

@@ -8,6 +8,7 @@ mod MultiplierLaws  -- multipliers of the recursion refute
 mod RecursionLaws  -- the recursion on rows, one row further
 mod EquationLaws  -- the recursion with equations, one equation further
 mod EquationSound  -- points solve, and multipliers refute, with equations
+mod BelowLaws  -- the recursion below the last equation
 pub mod AlternativeLaws  -- solutions, Farkas multipliers, and that none has both
 pub mod ExistenceLaws  -- each system has a solution or multipliers, and none has both
 mod CheckLaws  -- sums of multiples, and what the checks of a candidate say together

@@ -1,8 +1,8 @@
 -- How large the recursion's multipliers are: few aren't zero, whatever the number of rows.
-use Rattle.std.proofs.Common.{◌≡◌, ℕ, zero, suc, ◌+◌, ◌*◌, ◌<◌, ◌≤◌, List, [], ◌∷◌, ◌++◌, length, ℤ, pos, ◌*ℤ◌, neg_ℤ, arith, sym, refl, ap, ◌∙◌, subst, unsigned_abs, length-append}
+use Rattle.std.proofs.Common.{◌≡◌, ℕ, zero, suc, ◌+◌, ◌*◌, ◌≤◌, List, [], ◌∷◌, ◌++◌, length, ℤ, pos, ◌*ℤ◌, neg_ℤ, arith, sym, refl, ap, ◌∙◌, subst, unsigned_abs}
 use Rattle.std.specs.Int.{int_signum}
 use Rattle.std.specs.List.{AllByRecursion}
-use Rattle.std.proofs.Math.Nat.{mul-le-mul_left, mul-le-mul_right}
+use Rattle.std.proofs.Math.Nat.{mul-le-mul_right}
 use Rattle.gf_int.specs.Content.{scaled}
 use Rattle.gf_vec.specs.Vector.{dot, zeros, entry_at}
 use Rattle.gf_gordan.specs.Elimination.{IsPivot, size_at, IsSystemBy, column, taken, IsCarried}
@@ -10,14 +10,13 @@ use Rattle.gf_gordan.specs.Elimination as elimination
 use Rattle.gf_gordan.specs.Recursion.{IsMultipliers, zero_row, prefix, carried}
 use Rattle.gf_gordan.specs.Equations.{IsMultipliersOn}
 use Rattle.gf_gordan.specs.Equations as equations
-use Rattle.gf_gordan.proofs.PointLaws.{HaveWidth}
 use Rattle.gf_gordan.proofs.SystemLaws.{length-system, length-contents}
 use Rattle.gf_gordan.proofs.MultiplierLaws.{IsMultipliers-length}
 use Rattle.gf_gordan.proofs.EquationSound.{IsMultipliersOn-refutes}
 use Rattle.gf_gordan.proofs.SizeLaws.{UpTo, up_weaker, up_none, up_cons, up_zeros, up_append, up_times, up_divided, neg_up, product_up, signum_up}
 use Rattle.gf_gordan.proofs.ReducedSizes.{twice, one_twice, below_bound, one_below, size_up, Sized, Sized-below, IsSmallContent, contents_up, column_up}
-use Rattle.gf_gordan.proofs.PointSizes.{Sized-front, Sized-back, Sized-append, last_long, last_up}
-use Rattle.gf_gordan.proofs.ScaleSizes.{power, counted, counted_one, used, used-append, used-zeros, used-times, used-kept, used-taken, dot_used, taken_up}
+use Rattle.gf_gordan.proofs.PointSizes.{Sized-front, Sized-back, Sized-append, last_long, last_up, more}
+use Rattle.gf_gordan.proofs.ScaleSizes.{power, counted_one, used, used-append, used-zeros, used-times, used-kept, used-taken, dot_used, taken_up}
 
 -- ---- how many aren't zero
 
@@ -94,9 +93,6 @@ carried_up n b l r j col cs ms out k d =
     let f = up_times (size_at r j) b (taken_bound n b l) (taken cs ms) (size_up b r j k.row) (takings_up n b l r j col cs ms k) in
     up_divided _ _ out d.0 d.1
     (up_append (1 + suc n * (taken_bound n b l * b)) (scaled (size_at r j) (taken cs ms)) (x ∷ []) (up_weaker (b * taken_bound n b l) _ _ (swapped n (taken_bound n b l) b) f) (up_cons _ x [] (omega (arith, o)) (up_none _)))
-
-more : (n : ℕ) → n + 1 ≡ suc n
-more n = omega arith
 
 -- the system by the last row, and its multipliers
 pub Carries-rows : (n b : ℕ) (rows : List (List ℤ)) (r : List ℤ) (j : ℕ) (cs : List ℤ) (below : List (List ℤ)) (ms : List ℤ) → 1 ≤ b → Sized (n + 1) b (rows ++ r ∷ []) → IsPivot r j → IsSystemBy r j rows cs below → IsMultipliers n below ms →

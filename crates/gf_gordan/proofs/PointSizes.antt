@@ -1,18 +1,17 @@
 -- How large the entries of the recursion's points are.
-use Rattle.std.proofs.Common.{◌≡◌, ℕ, zero, suc, ◌+◌, ◌*◌, ◌<◌, ◌≤◌, max, List, [], ◌∷◌, ◌++◌, length, ℤ, pos, ◌*ℤ◌, neg_ℤ, arith, sym, ap, ◌∙◌, subst, unsigned_abs, remove, insert}
+use Rattle.std.proofs.Common.{◌≡◌, ℕ, zero, suc, ◌+◌, ◌*◌, ◌≤◌, List, [], ◌∷◌, ◌++◌, length, ℤ, ◌*ℤ◌, neg_ℤ, arith, sym, ◌∙◌, subst, unsigned_abs, remove}
 use Rattle.std.specs.Int.{int_signum}
-use Rattle.std.specs.List.{AllByRecursion}
-use Rattle.std.proofs.Math.Nat.{mul-le-mul, mul-le-mul_left}
 use Rattle.gf_int.specs.Content.{scaled}
-use Rattle.gf_vec.specs.Vector.{dot, vector_sum, entry_at}
+use Rattle.gf_vec.specs.Vector.{dot, entry_at}
 use Rattle.gf_gordan.specs.Elimination.{IsPivot, size_at, lifted, greatest_value, push_factor, IsPushed}
 use Rattle.gf_gordan.specs.Recursion.{IsPoint, nothing, kept, pushed}
 use Rattle.gf_gordan.specs.Equations.{IsPointOn}
 use Rattle.gf_gordan.specs.Equations as equations
-use Rattle.gf_gordan.proofs.PointLaws.{HaveWidth, IsPoint-positive, all_snoc, length-remove_lem}
+use Rattle.gf_gordan.proofs.PointLaws.{all_snoc, length-remove_lem}
 use Rattle.gf_gordan.proofs.MultiplierLaws.{all_front}
 use Rattle.gf_gordan.proofs.SizeLaws.{UpTo, up_weaker, up_zeros, up_times, up_sum, up_remove, up_insert, up_divided, neg_up, product_up, signum_up, dot_up}
-use Rattle.gf_gordan.proofs.ReducedSizes.{below_bound, one_below, size_up, Sized, Sized-below}
+use Rattle.gf_gordan.proofs.ReducedSizes.{below_bound, size_up, Sized, Sized-below}
+use Rattle.gf_int.proofs.ListLaws.{all_join, all_back}
 
 -- what bounds a lifted point, where the point has n entries of at most q
 abbrev pub lift_bound : ℕ → ℕ → ℕ → ℕ
@@ -28,16 +27,8 @@ point_bound (suc n) b = (1 + suc n * (b * b)) * lift_bound n b (point_bound n (b
 pub Sized-front : (n b : ℕ) (xs ys : List (List ℤ)) → Sized n b (xs ++ ys) → Sized n b xs
 Sized-front n b xs ys z = record { widths = all_front (λ t. length t ≡ n) xs ys z.widths; entries = all_front (UpTo b) xs ys z.entries }
 
-all_back : {X : Type 0} (P : X → Type 0) (xs ys : List X) → AllByRecursion P (xs ++ ys) → AllByRecursion P ys
-all_back P [] ys h = h
-all_back P (x ∷ xs) ys h = all_back P xs ys h.1
-
 pub Sized-back : (n b : ℕ) (xs ys : List (List ℤ)) → Sized n b (xs ++ ys) → Sized n b ys
 Sized-back n b xs ys z = record { widths = all_back (λ t. length t ≡ n) xs ys z.widths; entries = all_back (UpTo b) xs ys z.entries }
-
-all_join : {X : Type 0} (P : X → Type 0) (xs ys : List X) → AllByRecursion P xs → AllByRecursion P ys → AllByRecursion P (xs ++ ys)
-all_join P [] ys h k = k
-all_join P (x ∷ xs) ys h k = (h.0, all_join P xs ys h.1 k)
 
 pub Sized-append : (n b : ℕ) (xs ys : List (List ℤ)) → Sized n b xs → Sized n b ys → Sized n b (xs ++ ys)
 Sized-append n b xs ys y z = record { widths = all_join (λ t. length t ≡ n) xs ys y.widths z.widths; entries = all_join (UpTo b) xs ys y.entries z.entries }
@@ -51,7 +42,7 @@ last_up n b xs r z = (all_snoc (UpTo b) xs r z.entries).1
 
 -- ---- a lifted point
 
-grown : (n p : ℕ) → p ≤ suc n * p
+pub grown : (n p : ℕ) → p ≤ suc n * p
 grown n p = omega arith
 
 pub lifted_up : (n b q : ℕ) (r : List ℤ) (j : ℕ) (v : List ℤ) → IsPivot r j → length r ≡ n + 1 → UpTo b r → UpTo q v → UpTo (lift_bound n b q) (lifted r j v)
@@ -79,7 +70,7 @@ pushed_up n b q rows r j v u p z l ur uv h =
     (up_sum ((1 + suc n * (b * b)) * lift_bound n b q) b (scaled (push_factor rows r) (lifted r j v)) r
     (up_times (push_factor rows r) (1 + suc n * (b * b)) (lift_bound n b q) (lifted r j v) (factor_up (suc n) b rows r z ur) (lifted_up n b q r j v p l ur uv)) ur)
 
-more : (n : ℕ) → n + 1 ≡ suc n
+pub more : (n : ℕ) → n + 1 ≡ suc n
 more n = omega arith
 
 -- the points of the recursion on rows

@@ -1,18 +1,18 @@
 -- How large the entries and contents of the system by a vector are.
-use Rattle.std.proofs.Common.{◌≡◌, ◌≢◌, ℕ, zero, suc, ◌+◌, ◌*◌, ◌<◌, ◌≤◌, List, [], ◌∷◌, ◌++◌, length, ℤ, pos, negsuc, ◌*ℤ◌, neg_ℤ, ◌<ℤ◌, arith, sym, refl, ap, ◌∙◌, subst, unsigned_abs, inl, inr, ◌⊎◌, remove}
+use Rattle.std.proofs.Common.{◌≡◌, ◌≢◌, ℕ, zero, suc, ◌+◌, ◌*◌, ◌<◌, ◌≤◌, List, [], ◌∷◌, length, ℤ, pos, negsuc, neg_ℤ, ◌<ℤ◌, arith, sym, refl, subst, unsigned_abs, inl, inr, ◌⊎◌, remove}
 use Rattle.std.specs.Int.{int_signum, ◌∣◌}
 use Rattle.std.specs.List.{AllByRecursion}
-use Rattle.std.proofs.lemmas.Int.{ints, unsigned_abs-mul}
+use Rattle.std.proofs.lemmas.Int.{ints}
 use Rattle.std.proofs.lemmas.Nat.Gcd.{dvd-zero, le_of_dvd}
 use Rattle.std.proofs.Math.Nat.{eq-zero_of_zero-dvd, mul-le-mul, dvd-mul_right}
 use Rattle.gf_int.specs.Content.{scaled, DividesAll, AllZero, IsContent, IsPrimitive}
-use Rattle.gf_vec.specs.Vector.{vector_sum, entry_at}
+use Rattle.gf_vec.specs.Vector.{entry_at}
 use Rattle.gf_vec.specs.Primitive.{IsDivided}
-use Rattle.gf_vec.proofs.EntryLaws.{entry_times}
 use Rattle.gf_vec.proofs.PrimitiveLaws.{primitive_of}
 use Rattle.gf_gordan.specs.Elimination.{IsPivot, size_at, signed_at, reduced, IsSystemBy, column}
 use Rattle.gf_gordan.proofs.PointLaws.{HaveWidth, HaveWidth-below}
-use Rattle.gf_gordan.proofs.SizeLaws.{UpTo, up_weaker, up_none, up_cons, up_times, up_sum, up_remove, up_divided, neg_up, product_up, signum_up}
+use Rattle.gf_gordan.proofs.SizeLaws.{UpTo, up_none, up_cons, up_times, up_sum, up_remove, up_divided, neg_up, product_up, signum_up}
+use Rattle.gf_int.proofs.SignLaws.{abs_positive}
 
 -- what bounds the entries before the division
 abbrev pub twice : ℕ → ℕ
@@ -72,16 +72,11 @@ divides_at d [] i h = dvd-zero d
 divides_at d (x ∷ xs) zero h = h.0
 divides_at d (x ∷ xs) (suc i) h = divides_at d xs i h.1
 
-size_of : (x : ℤ) → x ≢ pos 0 → 0 < unsigned_abs x
-size_of (pos zero) n = absurd (n refl)
-size_of (pos (suc k)) n = omega arith
-size_of (negsuc k) n = omega arith
-
 -- the content of a vector is at most the bound of its entries
 pub content_up : (b : ℕ) (xs : List ℤ) (c : ℕ) → 1 ≤ b → IsContent xs c → UpTo b xs → c ≤ b
 content_up b xs c p h u = elim (zero_or_somewhere xs) [
   | inl z ↦ (let k = content_of_zeros xs c z h in omega arith)
-  | inr s ↦ (let k = le_of_dvd (size_of (entry_at xs s.place) s.not_zero) (divides_at c xs s.place h.divides) in let l = u.at s.place in omega arith)
+  | inr s ↦ (let k = le_of_dvd (abs_positive (entry_at xs s.place) s.not_zero) (divides_at c xs s.place h.divides) in let l = u.at s.place in omega arith)
 ]
 
 -- a primitive vector of at most one entry

@@ -1,7 +1,7 @@
 -- How many multipliers of the recursion aren't zero, how large the scale is, and how often a vector is taken.
-use Rattle.std.proofs.Common.{◌≡◌, ◌≢◌, ℕ, zero, suc, ◌+◌, ◌*◌, ◌<◌, ◌≤◌, ◌/◌, List, [], ◌∷◌, ◌++◌, length, ℤ, pos, negsuc, ◌+ℤ◌, ◌*ℤ◌, neg_ℤ, ◌<ℤ◌, arith, sym, refl, ap, ◌∙◌, subst, take, unsigned_abs, int_div}
+use Rattle.std.proofs.Common.{◌≡◌, ◌≢◌, ℕ, zero, suc, ◌+◌, ◌*◌, ◌<◌, ◌≤◌, ◌/◌, List, [], ◌∷◌, ◌++◌, length, ℤ, pos, negsuc, ◌*ℤ◌, neg_ℤ, ◌<ℤ◌, arith, refl, take, unsigned_abs, int_div}
 use Rattle.std.specs.List.{AllByRecursion}
-use Rattle.std.proofs.lemmas.Int.{ints, unsigned_abs-mul}
+use Rattle.std.proofs.lemmas.Int.{ints}
 use Rattle.std.proofs.Math.IntN.{zero-*ℤ, *ℤ-zero}
 use Rattle.std.proofs.Math.Nat.{mul-le-mul, mul-le-mul_left, mul-le-mul_right, div-le_of_le-mul}
 use Rattle.gf_int.specs.Content.{scaled}
@@ -20,11 +20,6 @@ power m (suc n) = m * power m n
 pub power_one : (m n : ℕ) → 1 ≤ m → 1 ≤ power m n
 power_one m zero h = omega arith
 power_one m (suc n) h = let k : 1 * 1 ≤ m * power m n = mul-le-mul h (power_one m n h) in omega (arith, k)
-
-pub power_grows : (m i n : ℕ) → 1 ≤ m → i ≤ n → power m i ≤ power m n
-power_grows m zero n h l = power_one m n h
-power_grows m (suc i) zero h l = absurd (omega arith)
-power_grows m (suc i) (suc n) h l = mul-le-mul_left m (power_grows m i n h (omega arith))
 
 -- ---- how many entries aren't zero
 

@@ -1,14 +1,13 @@
 -- How large entries are: of multiples, sums, parts and quotients of vectors, and of dot products.
-use Rattle.std.proofs.Common.{◌≡◌, ◌≢◌, ℕ, zero, suc, ◌+◌, ◌*◌, ◌^◌, ◌<◌, ◌≤◌, List, [], ◌∷◌, ◌++◌, length, ℤ, pos, negsuc, ◌+ℤ◌, ◌-ℤ◌, ◌*ℤ◌, neg_ℤ, ◌<ℤ◌, arith, sym, refl, ap, ◌∙◌, subst, take, drop, insert, remove, get_or, unsigned_abs, inl, inr, ◌⊎◌, min}
+use Rattle.std.proofs.Common.{◌≡◌, ℕ, zero, suc, ◌+◌, ◌*◌, ◌^◌, ◌<◌, ◌≤◌, List, [], ◌∷◌, ◌++◌, length, ℤ, pos, negsuc, ◌+ℤ◌, ◌-ℤ◌, ◌*ℤ◌, neg_ℤ, ◌<ℤ◌, arith, sym, ap, ◌∙◌, subst, take, drop, insert, remove, unsigned_abs, inl, inr}
 use Rattle.std.specs.Int.{int_signum}
 use Rattle.std.specs.List.{AllByRecursion}
 use Rattle.std.proofs.lemmas.Int.{ints, unsigned_abs-mul}
-use Rattle.std.proofs.Math.Nat.{mul-le-mul, mul-le-mul_left}
+use Rattle.std.proofs.Math.Nat.{mul-le-mul}
 use Rattle.gf_int.specs.Content.{scaled}
-use Rattle.gf_vec.specs.declared.error.VecOp.{VecOp}
 use Rattle.gf_vec.specs.declared.error.WideVector.{WideVector}
 use Rattle.gf_vec.specs.Vector.{dot, vector_sum, zeros, entry_at}
-use Rattle.gf_vec.specs.Steps.{value_of, IsWide, FitsRange, dot_steps, IsFirstWide}
+use Rattle.gf_vec.specs.Steps.{IsWide, dot_steps, IsFirstWide}
 use Rattle.gf_vec.specs.Primitive.{IsDivided}
 use Rattle.gf_vec.proofs.EntryLaws.{entry_times}
 

@@ -1,21 +1,21 @@
 -- No step of the recursion leaves the range where the bounds of its numbers have room.
-use Rattle.std.proofs.Common.{◌≡◌, ◌≢◌, ℕ, zero, suc, ◌+◌, ◌*◌, ◌^◌, ◌<◌, ◌≤◌, List, [], ◌∷◌, ◌++◌, length, ℤ, pos, ◌+ℤ◌, ◌-ℤ◌, ◌*ℤ◌, arith, sym, refl, ap, ◌∙◌, subst, take, drop, unsigned_abs, int_div, inl, inr, ◌⊎◌}
+use Rattle.std.proofs.Common.{◌≡◌, ℕ, zero, suc, ◌+◌, ◌*◌, ◌^◌, ◌<◌, ◌≤◌, List, [], ◌∷◌, ◌++◌, length, ℤ, pos, ◌*ℤ◌, arith, refl, ◌∙◌, subst, take, drop, unsigned_abs, int_div, inl, inr, ◌⊎◌}
 use Rattle.std.specs.List.{AllByRecursion}
 use Rattle.std.proofs.lemmas.List.{length-drop}
-use Rattle.std.proofs.Math.Nat.{mul-le-mul, mul-le-mul_left, mul-le-mul_right}
+use Rattle.std.proofs.Math.Nat.{mul-le-mul_right}
 use Rattle.gf_vec.specs.declared.error.VecOp.{VecOp}
 use Rattle.gf_vec.specs.declared.error.VecOp.TheVariants.{Add, Sub, Mul}
 use Rattle.gf_vec.specs.Vector.{dot, entry_at}
 use Rattle.gf_vec.specs.Steps.{value_of}
 use Rattle.gf_gordan.specs.declared.error.ConeOverflow.{ConeOverflow}
-use Rattle.gf_gordan.specs.Elimination.{IsPivot, row_at, size_at, signed_at, lifted, greatest_value, push_factor, scale_part, scale_from, scale_of, taken, IsSystemBy, column}
+use Rattle.gf_gordan.specs.Elimination.{IsPivot, row_at, size_at, signed_at, lifted, greatest_value, push_factor, scale_part, scale_from, scale_of, taken, column}
 use Rattle.gf_gordan.specs.Steps.{IsWideStep, IsDotStep, IsCrossStep, IsReducing, IsEliminating, IsLifting, IsFactorStep, IsAddingStep, IsPushing, IsScaling, IsTakingOne, IsTaking, IsSumming, IsCarrying}
 use Rattle.gf_gordan.specs.Recursion.{IsRowsStep, earlier, testing, eliminating, below, pushing, carrying}
 use Rattle.gf_gordan.specs.Equations.{IsStepOn}
 use Rattle.gf_gordan.specs.Equations as equations
 use Rattle.gf_gordan.proofs.SizeLaws.{UpTo, up_drop, up_take, sum_up, difference_up, product_up, not_wide, no_dot_step}
 use Rattle.gf_gordan.proofs.ReducedSizes.{twice, one_twice, below_bound, one_below, size_up, signed_up, Sized, Sized-below, IsSmallContent}
-use Rattle.gf_gordan.proofs.PointSizes.{lift_bound, point_bound, Sized-front, Sized-append, last_long, last_up, lifted_up, greatest_up, factor_up, point_up, point_on_up}
+use Rattle.gf_gordan.proofs.PointSizes.{lift_bound, point_bound, Sized-front, last_long, last_up, lifted_up, greatest_up, factor_up, point_up, point_on_up, more, grown}
 use Rattle.gf_gordan.proofs.ScaleSizes.{power, counted, counted_some, used, used-take, used-taken, counted_product, dot_used, scale_up, joined_up, taking_up}
 use Rattle.gf_gordan.proofs.MultiplierSizes.{taken_bound, multiplier_bound, Carries, Carries-rows, Carries-on, takings_up, multiplier_up, multiplier_on_up, Sized-whole}
 
@@ -67,12 +67,9 @@ vector_up b (t ∷ ts) (suc k) h u = vector_up b ts k (omega arith) u.1
 no_eliminating : (b : ℕ) (vectors : List (List ℤ)) (r : List ℤ) (j : ℕ) (s : ConeOverflow) → UpTo b r → AllByRecursion (UpTo b) vectors → twice b < 2 ^ 127 → IsEliminating vectors r j s → ⊥
 no_eliminating b vectors r j s u v k h = no_reducing b h.0 r j (row_at vectors h.0) s u (vector_up b vectors h.0 h.1 v) k h.2
 
-once : (n p : ℕ) → p ≤ suc n * p
-once n p = omega arith
-
 no_lifting : (n b q row : ℕ) (r : List ℤ) (j : ℕ) (v : List ℤ) (s : ConeOverflow) → length r ≡ n + 1 → UpTo b r → UpTo q v → lift_bound n b q < 2 ^ 127 → IsLifting row r j v s → ⊥
 no_lifting n b q row r j v s l u k h (inl w) =
-    no_wide row Mul (size_at r j) (entry_at v w.0) s (b * q) (product_up (size_at r j) (entry_at v w.0) b q (size_up b r j u) (k.at w.0)) (let o = once n (b * q) in omega (arith, h, o)) w.2
+    no_wide row Mul (size_at r j) (entry_at v w.0) s (b * q) (product_up (size_at r j) (entry_at v w.0) b q (size_up b r j u) (k.at w.0)) (let o = grown n (b * q) in omega (arith, h, o)) w.2
 no_lifting n b q row r j v s l u k h (inr w) =
     no_dot (suc n) b q row (drop (j + 1) r) (drop j v) s (omega (arith, l, length-drop (j + 1) r)) (up_drop b (j + 1) r u) (up_drop q j v k) h w
 
@@ -138,8 +135,8 @@ no_taking n b l r j col cs ms s k room own w = at w.2
 
     at : IsTakingOne w.0 (entry_at ms w.0) (int_div (scale_of cs ms) (entry_at cs w.0)) (size_at r j) (entry_at col w.0) s → ⊥
     at (inl x) = no_wide w.0 Mul (entry_at ms w.0) (int_div (scale_of cs ms) (entry_at cs w.0)) s (taken_bound n b l) part own x
-    at (inr (inl x)) = no_wide w.0 Mul (entry_at ms w.0 *ℤ int_div (scale_of cs ms) (entry_at cs w.0)) (size_at r j) s (taken_bound n b l * b) (product_up (entry_at ms w.0 *ℤ int_div (scale_of cs ms) (entry_at cs w.0)) (size_at r j) (taken_bound n b l) b part (size_up b r j k.row)) (let o = once n (taken_bound n b l * b) in omega (arith, room, o)) x
-    at (inr (inr x)) = no_wide w.0 Mul (entry_at ms w.0 *ℤ int_div (scale_of cs ms) (entry_at cs w.0)) (entry_at col w.0) s (taken_bound n b l * b) (product_up (entry_at ms w.0 *ℤ int_div (scale_of cs ms) (entry_at cs w.0)) (entry_at col w.0) (taken_bound n b l) b part (k.column.at w.0)) (let o = once n (taken_bound n b l * b) in omega (arith, room, o)) x
+    at (inr (inl x)) = no_wide w.0 Mul (entry_at ms w.0 *ℤ int_div (scale_of cs ms) (entry_at cs w.0)) (size_at r j) s (taken_bound n b l * b) (product_up (entry_at ms w.0 *ℤ int_div (scale_of cs ms) (entry_at cs w.0)) (size_at r j) (taken_bound n b l) b part (size_up b r j k.row)) (let o = grown n (taken_bound n b l * b) in omega (arith, room, o)) x
+    at (inr (inr x)) = no_wide w.0 Mul (entry_at ms w.0 *ℤ int_div (scale_of cs ms) (entry_at cs w.0)) (entry_at col w.0) s (taken_bound n b l * b) (product_up (entry_at ms w.0 *ℤ int_div (scale_of cs ms) (entry_at cs w.0)) (entry_at col w.0) (taken_bound n b l) b part (k.column.at w.0)) (let o = grown n (taken_bound n b l * b) in omega (arith, room, o)) x
 
 few_sums : (u c t p n : ℕ) → u + c ≤ t → t ≤ suc n → u * p + c * p ≤ suc n * p
 few_sums u c t p n h k = let l : (u + c) * p ≤ suc n * p = mul-le-mul_right p (omega arith) in omega (arith, l)
@@ -163,9 +160,6 @@ no_carrying n b l all row r j col cs ms s k scaling room own (inr (inl w)) = no_
 no_carrying n b l all row r j col cs ms s k scaling room own (inr (inr w)) = no_summing n b l row r j col cs ms s k room w
 
 -- ---- the steps of the recursion
-
-more : (n : ℕ) → n + 1 ≡ suc n
-more n = omega arith
 
 -- room for n + 1 columns
 room_at : (m n b : ℕ) → m ≡ n + 1 → HasRoom m b → HasRoomAt n b × HasRoom n (below_bound n b)

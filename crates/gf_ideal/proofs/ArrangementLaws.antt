@@ -45,7 +45,7 @@ from_places (b ∷ bs) h = (
 abbrev IsFrom : ℕ → ℕ → ℕ → ℕ → Type 0
 IsFrom a b i k = ((i ≡ a) × (k ≡ b)) ⊎ ((i ≡ b) × (k ≡ a)) ⊎ ((i ≡ a → ⊥) × (i ≡ b → ⊥) × (k ≡ i))
 
-same_or_not : (i j : ℕ) → (i ≡ j) ⊎ (i ≡ j → ⊥)
+pub same_or_not : (i j : ℕ) → (i ≡ j) ⊎ (i ≡ j → ⊥)
 same_or_not i j = elim (cases_lt i j) [
   | inl l ↦ inr (λ e. absurd (omega arith))
   | inr g ↦ elim (cases_lt j i) [ inl l ↦ inr (λ e. absurd (omega arith)) | inr h ↦ inl (omega arith) ]

@@ -17,7 +17,6 @@ use Rattle.gf_poly.proofs.PolynomialLaws.{coefficient-++, coefficient-factor, ti
 use Rattle.gf_ideal.specs.Marks.{Piece, level, value, IsMarked, IsCombined}
 use Rattle.gf_ideal.specs.Reduction.{IsDivisible, IsIrreducible}
 use Rattle.gf_ideal.specs.Settled.{IsPieceBelow, IsSettledEverywhere}
-use Rattle.gf_ideal.specs.Bases.{IsHeaviest}
 use Rattle.gf_ideal.proofs.Identities.{merged, exchange_inner}
 use Rattle.gf_ideal.proofs.ListLaws.{Each-++, Each-weaker}
 use Rattle.gf_ideal.proofs.TermLaws.{nothing_there}
@@ -257,19 +256,6 @@ divisible_at by w x ps m h n = at (find (IsPieceWithin by w (weight w x)) x ps h
     at : Found (IsPieceWithin by w (weight w x)) x ps ⊎ NoneAt x ps → IsDivisible by x
     at (inl f) = record { member = f.piece.of; contained = f.holds.member; rest = f.piece.shift; divides = f.like }
     at (inr z) = absurd (n (nothing_at by w x ps m h z))
-
--- a mark divides each monomial of greatest weight
-pub divisible_heaviest : (by : MarkedPolynomial → Type 0) (w : List ℕ) (f : Terms) (x : Exponents) →
-    ((b : MarkedPolynomial) → by b → IsMarked (lighter w) b) →
-    ((b c : MarkedPolynomial) → by b → by c → IsSettledEverywhere by (lighter w) b c) → IsCombined by f →
-    IsHeaviest w f x → IsDivisible by x
-divisible_heaviest by w f x m s c t = at (standard by w f m s c)
-  where
-    at : IsStandard by w f → IsDivisible by x
-    at (inl z) = absurd (t.there (z x))
-    at (inr k) =
-        let l = t.heaviest k.top k.there in
-        divisible_at by w x k.pieces m (Each-weaker (IsPieceWithin by w (weight w k.top)) (IsPieceWithin by w (weight w x)) (λ p g. record { member = g.member; within = omega (arith, g.within) }) k.pieces k.within) (λ z. t.there (k.equal x ∙ z))
 
 -- an irreducible sum of multiples is 0
 pub irreducible_zero : (by : MarkedPolynomial → Type 0) (w : List ℕ) (f : Terms) →

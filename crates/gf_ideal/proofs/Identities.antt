@@ -13,9 +13,6 @@ merged = each_q _ (λ a a' k. each_q _ (λ b b' l. each_q _ (λ c c' m. each_q _
 pub exchange_inner : (a b r s : Fraction) → (a +ℚ b) +ℚ (r +ℚ s) ≡ a +ℚ (r +ℚ (b +ℚ s))
 exchange_inner = each_q _ (λ a a' k. each_q _ (λ b b' l. each_q _ (λ c c' m. each_q _ (λ d d' n. simp overs (over-eq _ _ _ _ (simp dens (simp naturals (diff-eq _ _ _ _ (omega arith)))))))))
 
-pub swap_front : (a b c : Fraction) → a +ℚ (b +ℚ c) ≡ b +ℚ (a +ℚ c)
-swap_front = each_q _ (λ a a' k. each_q _ (λ b b' l. each_q _ (λ c c' m. simp overs (over-eq _ _ _ _ (simp dens (simp naturals (diff-eq _ _ _ _ (omega arith))))))))
-
 pub neg_one : (p : Fraction) → neg_ℚ one_ℚ *ℚ p ≡ neg_ℚ p
 neg_one p = neg_ℚ-*ℚ one_ℚ p ∙ ap neg_ℚ (one-*ℚ p)
 
@@ -43,8 +40,6 @@ pub one_not_zero : one_ℚ ≢ zero_ℚ
 one_not_zero e = zero-not-one (sym e)
 
 -- ---- for products
-pub swap_outer : (o a b p : Fraction) → (o +ℚ a) +ℚ (b +ℚ p) ≡ (o +ℚ b) +ℚ (a +ℚ p)
-swap_outer = each_q _ (λ a a' k. each_q _ (λ b b' l. each_q _ (λ c c' m. each_q _ (λ d d' n. simp overs (over-eq _ _ _ _ (simp dens (simp naturals (diff-eq _ _ _ _ (omega arith)))))))))
 
 pub joined : (c d x p : Fraction) → c *ℚ x +ℚ (d *ℚ x +ℚ p) ≡ (c +ℚ d) *ℚ x +ℚ p
 joined = each_q _ (λ a a' k. each_q _ (λ b b' l. each_q _ (λ c c' m. each_q _ (λ d d' n. simp overs (over-eq _ _ _ _ (simp dens (simp naturals (diff-eq _ _ _ _ (omega arith)))))))))

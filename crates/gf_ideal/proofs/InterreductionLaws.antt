@@ -113,12 +113,6 @@ pub tail-member : (n : ℕ) (fs : List Terms) (bs : List MarkedPolynomial) (b : 
 tail-member n fs bs b v m (IsTail.member d c) = m b c
 tail-member n fs bs b v m (IsTail.step d e t h s k) = member-reached n fs (Contains bs) d.poly b.poly v m (reached-one (Contains bs) d.poly b.poly s) (tail-member n fs bs d v m t)
 
--- a tail has the mark of a member
-pub tail-head : (bs : List MarkedPolynomial) (b : MarkedPolynomial) → IsTail bs b →
-    (d : MarkedPolynomial) × Contains bs d × (same d.head b.head ≡ true)
-tail-head bs b (IsTail.member d c) = (b, c, same-refl b.head)
-tail-head bs b (IsTail.step d e t h s k) = let r = tail-head bs d t in (r.0, r.1, same_trans r.0.head d.head b.head r.2 h)
-
 -- a basis of tails
 pub basis-of_tails : (n : ℕ) (fs : List Terms) (bs cs : List MarkedPolynomial) → AreInVariables n fs → IsBasis n fs bs →
     ((c : MarkedPolynomial) → Contains cs c → IsTail bs c) →

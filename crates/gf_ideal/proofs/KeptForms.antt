@@ -1,10 +1,10 @@
 -- From what a program keeps to what the theory speaks of: marks, monic forms and arranged lists of `gf_poly`.
 -- To cite: term_there, marked_there, monic_form, arranged_list. The rest are steps.
-use Rattle.std.specs.Prelude.{◌≡◌, ◌⊎◌, ◌≢◌, ℕ, suc, ◌+◌, ◌<◌, ◌≤◌, true, false, List, [], ◌∷◌, length, Contains, IsSortedByKey, slice_index_or}
+use Rattle.std.specs.Prelude.{◌≡◌, ◌≢◌, ℕ, suc, ◌+◌, ◌<◌, ◌≤◌, true, false, List, [], ◌∷◌, length, Contains, IsSortedByKey, slice_index_or}
 use Rattle.std.specs.Ordering.{MatchOrdering, is_lt}
 use Rattle.std.specs.declared.cmp.Ordering.{Ordering}
 use Rattle.std.specs.declared.cmp.Ordering.TheVariants.{Less, Equal, Greater}
-use Rattle.std.proofs.Common.{arith, sym, ap, ◌∙◌, subst, inl, inr}
+use Rattle.std.proofs.Common.{arith, sym, ap, ◌∙◌, subst}
 use Rattle.std.proofs.lemmas.List.Sorted.{Contains-permutation, IsPermutation-sym}
 use Rattle.gf_frac.specs.Fraction.{Fraction, ◌*ℚ◌, reciprocal_ℚ, zero_ℚ}
 use Rattle.gf_frac.proofs.FractionLaws.{*ℚ_assoc, *ℚ-reciprocal_ℚ, one-*ℚ}
@@ -19,7 +19,7 @@ use Rattle.gf_poly.proofs.CoefficientLaws.{term_length, term_nonzero, term_coeff
 use Rattle.gf_ideal.specs.Membership.{HasMonomial}
 use Rattle.gf_ideal.specs.Reduction.{IsMonicForm}
 use Rattle.gf_ideal.specs.Bases.{AreApart, IsCanonical, HaveAscendingMarks, AreArranged}
-use Rattle.gf_ideal.proofs.ListLaws.{Each-weaker, each_contained, Contains-cases}
+use Rattle.gf_ideal.proofs.ListLaws.{Each-weaker, each_contained}
 use Rattle.gf_ideal.proofs.ArrangementLaws.{apart-arranged}
 
 -- ---- terms of a descending list

@@ -1,22 +1,19 @@
 -- What holds of each listed term holds of each monomial: from the lists that a program keeps to polynomials.
 -- To cite: variables_by_terms, fits_by_terms, fits_by_monomials, box_of_monomial, marked_by_terms.
-use Rattle.std.specs.Prelude.{◌≡◌, ◌⊎◌, ℕ, true, [], ◌∷◌, ◌^◌}
-use Rattle.std.proofs.Common.{arith, sym, ap, ◌∙◌, inl, inr}
+use Rattle.std.specs.Prelude.{◌≡◌, ℕ, true, [], ◌∷◌, ◌^◌}
+use Rattle.std.proofs.Common.{arith, sym, ap, ◌∙◌}
 use Rattle.gf_frac.specs.Fraction.{one_ℚ}
 use Rattle.gf_exponents.specs.Exponents.{Exponents, same, IsInRing}
-use Rattle.gf_exponents.specs.Orders.{IsStrict}
-use Rattle.gf_exponents.proofs.ExponentsLaws.{same_flip, same_trans, entries_same, entry-past}
+use Rattle.gf_exponents.proofs.ExponentsLaws.{same_flip, entries_same, entry-past}
 use Rattle.gf_poly.specs.declared.Term.{Term}
 use Rattle.gf_poly.specs.declared.TheConstants.{ROOM}
 use Rattle.gf_poly.specs.Monomial.{IsMonomial}
 use Rattle.gf_poly.proofs.MonomialLaws.{entry-limit}
 use Rattle.gf_poly.specs.Polynomial.{Terms, coefficient, HasVariables}
-use Rattle.gf_poly.specs.Marking.{MarkedPolynomial, Each}
+use Rattle.gf_poly.specs.Marking.{Each}
 use Rattle.gf_poly.proofs.PolynomialLaws.{times-plain}
 use Rattle.gf_ideal.specs.Membership.{HasMonomial, IsInVariables}
-use Rattle.gf_ideal.specs.Marks.{IsMarked}
-use Rattle.gf_ideal.specs.Measure.{IsInBox, FitsBox}
-use Rattle.gf_ideal.proofs.ListLaws.{Each-weaker}
+use Rattle.gf_ideal.specs.Measure.{IsInBox}
 use Rattle.gf_ideal.proofs.TermLaws.{found_term}
 
 -- a monomial of f is that of one of its terms
@@ -37,25 +34,6 @@ variables_by_terms n f h = by_terms (IsInRing n) f (λ x y s r i l. sym (entries
     each [] h = tt
     each (t ∷ f) h = (λ i l. entry-past t.mono i (omega (arith, h.0)), each f h.1)
 
--- lists whose monomials fit are polynomials that fit
-pub fits_by_terms : (limit n : ℕ) (f : Terms) → Each (λ (t : Term). IsInBox limit n t.mono) f → FitsBox limit n f
-fits_by_terms limit n f h = by_terms (IsInBox limit n) f (λ x y s b. record { below = λ i. omega (arith, b.below i, entries_same x y s i); beyond = λ i l. sym (entries_same x y s i) ∙ b.beyond i l }) h
-
--- a polynomial whose listed terms are at the mark or below it
-pub marked_by_terms : (below : Exponents → Exponents → Type 0) (b : MarkedPolynomial) → IsStrict below →
-    coefficient b.poly b.head ≡ one_ℚ → Each (λ (t : Term). (same t.mono b.head ≡ true) ⊎ below t.mono b.head) b.poly →
-    IsMarked below b
-marked_by_terms below b o one h = record { monic = one; tail = by_terms (λ x. (same x b.head ≡ true) ⊎ below x b.head) b.poly along h }
-  where
-    along : (x y : Exponents) → same x y ≡ true → (same x b.head ≡ true) ⊎ below x b.head →
-        (same y b.head ≡ true) ⊎ below y b.head
-    along x y s (inl e) = inl (same_trans y x b.head (same_flip x y s) e)
-    along x y s (inr l) = inr (o.along_left x y b.head s l)
-
 -- a monomial that a program keeps is in the box of its limits
 pub box_of_monomial : (x : Exponents) → IsMonomial x → IsInBox (2 ^ 31) ROOM x
 box_of_monomial x h = record { below = entry-limit x h.limit; beyond = λ i l. entry-past x i (omega (arith, h.room)) }
-
--- a polynomial whose listed monomials are such fits
-pub fits_by_monomials : (f : Terms) → Each (λ (t : Term). IsMonomial t.mono) f → FitsBox (2 ^ 31) ROOM f
-fits_by_monomials f h = fits_by_terms (2 ^ 31) ROOM f (Each-weaker (λ (t : Term). IsMonomial t.mono) (λ (t : Term). IsInBox (2 ^ 31) ROOM t.mono) (λ t m. box_of_monomial t.mono m) f h)

@@ -3,13 +3,12 @@
 -- positive weight), order-marks.
 use Rattle.std.specs.Prelude.{◌≡◌, ◌⊎◌, ℕ, ◌≤◌, true, List, [], ◌∷◌, Contains, max}
 use Rattle.std.proofs.Common.{arith, sym, ◌∙◌, inl, inr}
-use Rattle.gf_frac.specs.Fraction.{one_ℚ}
 use Rattle.gf_exponents.specs.Exponents.{Exponents, same}
 use Rattle.gf_exponents.specs.Orders.{lighter}
 use Rattle.gf_exponents.proofs.ExponentsLaws.{entries_same, same_flip, same_trans}
 use Rattle.gf_exponents.proofs.WeightLaws.{weight-same}
 use Rattle.gf_poly.specs.declared.Term.{Term}
-use Rattle.gf_poly.specs.Polynomial.{Terms, coefficient}
+use Rattle.gf_poly.specs.Polynomial.{Terms}
 use Rattle.gf_poly.specs.Marking.{MarkedPolynomial, Each}
 use Rattle.gf_ideal.specs.Membership.{HasMonomial}
 use Rattle.gf_ideal.specs.Marks.{IsMarked, AreMarked, IsPositive, HasPositiveWeight, IsRealisedBy, IsRealisable}
@@ -124,11 +123,6 @@ list_traded Alike below n ps h g b = at (collect (λ p k. IsPairShort p k) (λ p
         all w h (p ∷ ps) s g b = (h p.0 p.1 s.0.first s.0.second g.0 b.0, all w h ps s.1 g.1 b.1)
 
 -- ---- marks with any coefficient
-
--- a monic polynomial whose mark a weight sets above the rest is marked by the weight, and back
-pub marked_of_realised : (w : List ℕ) (b : MarkedPolynomial) → coefficient b.poly b.head ≡ one_ℚ → IsRealisedBy w b →
-    IsMarked (lighter w) b
-marked_of_realised w b one r = record { monic = one; tail = r.tail }
 
 -- and back
 pub realised_of_marked : (w : List ℕ) (b : MarkedPolynomial) → IsMarked (lighter w) b → IsRealisedBy w b

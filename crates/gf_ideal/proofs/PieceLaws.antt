@@ -7,14 +7,14 @@ use Rattle.gf_frac.specs.Fraction.{Fraction, ◌+ℚ◌, ◌*ℚ◌, one_ℚ}
 use Rattle.gf_frac.proofs.FractionLaws.{+ℚ-zero}
 use Rattle.gf_exponents.specs.Exponents.{Exponents, plus, same}
 use Rattle.gf_exponents.proofs.ExponentsLaws.{plus_assoc}
-use Rattle.gf_poly.specs.Polynomial.{Terms, coefficient, SamePolynomial, times}
+use Rattle.gf_poly.specs.Polynomial.{Terms, coefficient, times}
 use Rattle.gf_poly.specs.Marking.{MarkedPolynomial, polys, Each}
 use Rattle.gf_poly.proofs.PolynomialLaws.{coefficient-++, SamePolynomial-times, times-times, times-++, times-plain}
 use Rattle.gf_ideal.specs.Membership.{Spans}
 use Rattle.gf_ideal.specs.Marks.{Piece, level, value, IsCombined}
-use Rattle.gf_ideal.proofs.Identities.{swap_front}
 use Rattle.gf_ideal.proofs.ListLaws.{Contains-here, Contains-there, Contains-cases, Each-++}
-use Rattle.gf_ideal.proofs.SpanLaws.{Spans-equal, Spans-zero, Spans-++, Spans-times}
+use Rattle.gf_ideal.proofs.SpanLaws.{Spans-zero, Spans-++, Spans-times}
+use Rattle.gf_poly.proofs.MergeLaws.{swap_first}
 
 -- the sum of two lists
 pub value-++ : (ps qs : List Piece) → value (ps ++ qs) ≡ value ps ++ value qs
@@ -84,7 +84,7 @@ find P x (p ∷ ps) h = at (same x (level p)) refl (find P x ps h.1)
       equal = λ e.
           coefficient-++ (times p.factor p.shift p.of.poly) (value ps) e
           ∙ ap (λ z. coefficient (times p.factor p.shift p.of.poly) e +ℚ z) (f.equal e)
-          ∙ swap_front _ _ _
+          ∙ swap_first _ _ _
           ∙ ap (λ z. coefficient (times f.piece.factor f.piece.shift f.piece.of.poly) e +ℚ z) (sym (coefficient-++ (times p.factor p.shift p.of.poly) (value f.rest) e));
     })
     at false e (inr n) = inr (e, n)
@@ -111,11 +111,6 @@ Contains-marked (d ∷ bs) f c = at (Contains-cases d.poly f (polys bs) c) (λ k
         (b : MarkedPolynomial) × Contains (d ∷ bs) b × (b.poly ≡ f)
     at (inl e) r = (d, Contains-here d bs, e)
     at (inr k) r = let b = r k in (b.0, Contains-there d b.0 bs b.1, b.2)
-
--- an equal polynomial
-pub Combined-equal : (by : MarkedPolynomial → Type 0) (f g : Terms) → SamePolynomial f g → IsCombined by f →
-    IsCombined by g
-Combined-equal by f g h c = record { pieces = c.pieces; members = c.members; equal = λ e. sym (h e) ∙ c.equal e }
 
 -- what a list of polynomials spans is a sum of pieces where each of the list is
 pub combined_of_spans : (by : MarkedPolynomial → Type 0) (fs : List Terms) (f : Terms) →
@@ -151,8 +146,3 @@ pub spans_value : (fs : List Terms) (by : MarkedPolynomial → Type 0) →
     Spans fs (value ps)
 spans_value fs by h [] m = Spans-zero fs
 spans_value fs by h (p ∷ ps) m = Spans-++ fs (times p.factor p.shift p.of.poly) (value ps) (Spans-times fs p.of.poly p.factor p.shift (h p.of m.0)) (spans_value fs by h ps m.1)
-
--- and back
-pub spans_of_combined : (fs : List Terms) (by : MarkedPolynomial → Type 0) (f : Terms) →
-    ((b : MarkedPolynomial) → by b → Spans fs b.poly) → IsCombined by f → Spans fs f
-spans_of_combined fs by f h c = Spans-equal fs (value c.pieces) f (λ e. sym (c.equal e)) (spans_value fs by h c.pieces c.members)

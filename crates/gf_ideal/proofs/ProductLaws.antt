@@ -3,7 +3,7 @@
 use Rattle.std.specs.Prelude.{◌≡◌, ◌⊎◌, Bool, true, false, if◌then◌else◌, List, [], ◌∷◌, ◌++◌}
 use Rattle.std.proofs.Common.{refl, sym, ap, ◌∙◌, subst, inl, inr}
 use Rattle.gf_frac.specs.Fraction.{Fraction, ◌+ℚ◌, ◌*ℚ◌, neg_ℚ, zero_ℚ, one_ℚ}
-use Rattle.gf_frac.proofs.FractionLaws.{+ℚ_assoc, +ℚ_comm, +ℚ-zero, *ℚ-zero, *ℚ_comm, zero-+ℚ, one-*ℚ}
+use Rattle.gf_frac.proofs.FractionLaws.{+ℚ_assoc, +ℚ_comm, +ℚ-zero, *ℚ-zero, *ℚ_comm, zero-+ℚ, one-*ℚ, +ℚ-middle}
 use Rattle.gf_exponents.specs.Exponents.{Exponents, plus, same, join, AreCoprime}
 use Rattle.gf_exponents.specs.Orders.{IsStrict}
 use Rattle.gf_exponents.proofs.ExponentsLaws.{plus_comm, same-refl, same_flip, same_of, join-coprime}
@@ -13,7 +13,7 @@ use Rattle.gf_poly.specs.Marking.{MarkedPolynomial, Each}
 use Rattle.gf_poly.proofs.PolynomialLaws.{coefficient-++, SamePolynomial-times, coefficient-factor, times-plain}
 use Rattle.gf_ideal.specs.Marks.{Piece, value, IsMarked}
 use Rattle.gf_ideal.specs.Settled.{IsPieceBelow, IsSettledAtJoin}
-use Rattle.gf_ideal.proofs.Identities.{swap_outer, joined, crossed_over, neg_one}
+use Rattle.gf_ideal.proofs.Identities.{joined, crossed_over, neg_one}
 use Rattle.gf_ideal.proofs.ListLaws.{Each-++}
 use Rattle.gf_ideal.proofs.TermLaws.{without, Canonical, canonical, canonical_terms}
 use Rattle.gf_ideal.proofs.PieceLaws.{Each-scale, coefficient-value-++, scale, value-scale}
@@ -39,7 +39,7 @@ poly_product-more (t ∷ f) s g e =
     coefficient-++ (times t.coef t.mono (s ∷ g)) (poly_product f (s ∷ g)) e
     ∙ ap (λ z. coefficient (times t.coef t.mono (s ∷ g)) e +ℚ z) (poly_product-more f s g e)
     ∙ ap (λ z. (z +ℚ coefficient (times t.coef t.mono g) e) +ℚ (coefficient (times s.coef s.mono f) e +ℚ coefficient (poly_product f g) e)) (one_term s t e)
-    ∙ swap_outer _ _ _ _
+    ∙ +ℚ-middle _ _ _ _
     ∙ ap (λ z. coefficient (times s.coef s.mono (t ∷ f)) e +ℚ z) (sym (coefficient-++ (times t.coef t.mono g) (poly_product f g) e))
 
 -- products are commutative

@@ -120,19 +120,6 @@ settled_at_join by below b c h =
     }
 
 -- ---- a longer list
-pub settled_more : (by kept : MarkedPolynomial → Type 0) (below : Exponents → Exponents → Type 0) (b c : MarkedPolynomial) →
-    ((d : MarkedPolynomial) → by d → kept d) → IsSettledAtJoin by below b c → IsSettledAtJoin kept below b c
-settled_more by kept below b c h s = record {
-  left = s.left;
-  right = s.right;
-  of_left = s.of_left;
-  of_right = s.of_right;
-  bridge = record {
-    pieces = s.bridge.pieces;
-    lower = Each-weaker (IsPieceBelow by below (plus s.left b.head)) (IsPieceBelow kept below (plus s.left b.head)) (λ p q. record { member = h p.of q.member; lower = q.lower }) s.bridge.pieces s.bridge.lower;
-    equation = s.bridge.equation;
-  };
-}
 
 -- the pairs of two places are settled
 abbrev pub AreWorkingPairsSettled : (Exponents → Exponents → Type 0) → List MarkedPolynomial → Type 0

@@ -42,8 +42,7 @@ use Rattle.gf_bases.proofs.ContainmentLaws.{AreMultiples, contained_same}
 use Rattle.gf_bases.proofs.GradedBasisLaws.{IsOfOneClass}
 use Rattle.gf_initial.proofs.InitialLaws.{from_initial, into_initial}
 use Rattle.gf_initial.proofs.ClassLaws.{apart_or_not, multiple-grading, further_marks}
-use Rattle.gf_facets.proofs.RowLaws.{same_or_other}
-use Rattle.gf_poly.proofs.InitialFormLaws.{of_weight, coefficient-on, coefficient-off}
+use Rattle.gf_poly.proofs.InitialFormLaws.{of_weight, coefficient-on, coefficient-off, same_or_not}
 use Rattle.gf_facets.proofs.NormalLaws.{HasFurther}
 
 -- a marked reduced basis of which each unmarked monomial is lighter by v, or further along a, where v is orthogonal to a
@@ -238,8 +237,8 @@ other_or_not b = at ((top_heaviest []).some (without b.head b.poly))
 
     at : SamePolynomial (without b.head b.poly) [] ⊎ ((x : Exponents) × IsHeaviest [] (without b.head b.poly) x) →
         HasOther b ⊎ HasNoOther b
-    at (inl z) = inr (λ x m. elim (same_or_other x b.head) [ inl s ↦ s | inr e ↦ absurd (m (off x e ∙ z x)) ])
-    at (inr t) = elim (same_or_other t.0 b.head) [
+    at (inl z) = inr (λ x m. elim (same_or_not x b.head) [ inl s ↦ s | inr e ↦ absurd (m (off x e ∙ z x)) ])
+    at (inr t) = elim (same_or_not t.0 b.head) [
       | inl s ↦ absurd (t.1.there (none_left b.head t.0 b.poly s))
       | inr e ↦ inl (t.0, (λ z. t.1.there (sym (off t.0 e) ∙ z)), e)
     ]

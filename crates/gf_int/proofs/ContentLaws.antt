@@ -10,10 +10,14 @@ use Rattle.std.proofs.lemmas.Nat.Gcd.{dvd_trans, dvd-zero}
 use Rattle.std.proofs.Math.Nat.{mul-dvd-mul_left, eq-one_of_dvd-one, dvd_of_mul-dvd-mul_left, mul-div_cancel', div-le_self, eq-zero_of_zero-dvd, dvd_antisymm, one-dvd, zero-div}
 use Rattle.gf_int.proofs.RingLaws.{same, dn, dv, dneg, ◌⊗◌}
 use Rattle.gf_int.specs.Range.{InRange}
-use Rattle.gf_int.specs.Gcd.{gcd, gcd-is}
+use Rattle.gf_int.specs.Gcd.{gcd, gcd-is, gcd-same}
 use Rattle.gf_int.specs.Content.{DividesAll, AllZero, IsGcdOfAll, IsContent, IsPrimitive, scaled, quotients}
 
 -- ---- the greatest common divisor, entry by entry
+
+-- with 1 each number has the common divisor 1
+pub gcd-by_one : (n : ℕ) → gcd n 1 ≡ 1
+gcd-by_one n = sym (gcd-same n 1 1 (one-dvd n, one-dvd 1, λ d h k. k))
 
 all_snoc : (d : ℕ) (xs : List ℤ) (x : ℤ) → DividesAll d (xs ++ x ∷ []) → DividesAll d xs × (d ∣ unsigned_abs x)
 all_snoc d [] x h = (tt, h.0)
@@ -57,7 +61,8 @@ IsGcdOfAll-exists (x ∷ xs) = let r = IsGcdOfAll-exists xs in (gcd r.0 (unsigne
 
 -- ---- the content
 
-abs_zero : (x : ℤ) → unsigned_abs x ≡ 0 → x ≡ pos 0
+-- a number of size 0 is zero
+pub abs_zero : (x : ℤ) → unsigned_abs x ≡ 0 → x ≡ pos 0
 abs_zero (pos n) e = ap pos e
 abs_zero (negsuc n) e = absurd (omega arith)
 
@@ -69,7 +74,8 @@ zero_all : (d : ℕ) (xs : List ℤ) → AllZero xs → DividesAll d xs
 zero_all d [] h = tt
 zero_all d (x ∷ xs) h = (subst (λ z. d ∣ unsigned_abs z) (sym h.0) (dvd-zero d), zero_all d xs h.1)
 
-one_all : (xs : List ℤ) → DividesAll 1 xs
+-- 1 divides each entry
+pub one_all : (xs : List ℤ) → DividesAll 1 xs
 one_all [] = tt
 one_all (x ∷ xs) = (one-dvd (unsigned_abs x), one_all xs)
 

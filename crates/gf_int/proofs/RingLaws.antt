@@ -4,7 +4,7 @@
 -- specs/Integers.antt has the other engine.
 use Rattle.std.proofs.Common.{◌≡◌, ℕ, ◌+◌, ◌*◌, ℤ, pos, ◌+ℤ◌, ◌-ℤ◌, ◌*ℤ◌, neg_ℤ, arith, ap}
 use borrow.Author.Differences.{up, down, same_in, sum_is_lem, product_is, neg_is}
-pub use Rattle.gf_int.specs.Integers.{*ℤ_assoc, swap_right, swap_middle, cancel_factor}
+pub use Rattle.gf_int.specs.Integers.{*ℤ_assoc, swap_middle, cancel_factor}
 
 -- ---- the calculus
 
@@ -69,7 +69,3 @@ neg-*ℤ a b = same (dneg (dv a) ⊗ dv b) (dneg (dv a ⊗ dv b)) (omega arith)
 -- a negative factor on the right
 pub *ℤ-neg : (a b : ℤ) → a *ℤ neg_ℤ b ≡ neg_ℤ (a *ℤ b)
 *ℤ-neg a b = same (dv a ⊗ dneg (dv b)) (dneg (dv a ⊗ dv b)) (omega arith)
-
--- a whole equation times k, with a summand on the other side
-pub times-sum : (a b c k : ℤ) → a +ℤ b ≡ c → k *ℤ a ≡ k *ℤ c -ℤ k *ℤ b
-times-sum a b c k h = rw (← h) (same (dv k ⊗ dv a) (dv k ⊗ (dv a ⊕ dv b) ⊖ dv k ⊗ dv b) (omega arith))

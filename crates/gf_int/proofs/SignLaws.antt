@@ -1,6 +1,6 @@
 -- Signs and order of products of whole numbers.
 -- To cite: 0≤-*ℤ, 0<-*ℤ, <0-*ℤ, the cancellations of a positive factor, zero_of_*ℤ, ≤ℤ-*ℤ, <ℤ-*ℤ.
-use Rattle.std.proofs.Common.{◌≡◌, ◌*◌, ◌<◌, ℕ, zero, suc, ℤ, pos, negsuc, ◌-ℤ◌, ◌*ℤ◌, ◌<ℤ◌, ◌≤ℤ◌, arith, ◌⊎◌, inl, inr, refl}
+use Rattle.std.proofs.Common.{◌≡◌, ◌≢◌, ◌*◌, ◌<◌, ℕ, zero, suc, ℤ, pos, negsuc, ◌-ℤ◌, ◌*ℤ◌, ◌<ℤ◌, ◌≤ℤ◌, unsigned_abs, arith, ◌⊎◌, inl, inr, refl}
 use Rattle.std.proofs.lemmas.Int.{ints}
 use Rattle.gf_int.proofs.RingLaws.{*ℤ--ℤ}
 
@@ -17,6 +17,39 @@ pub sign_of : (x : ℤ) → IsSigned x
 sign_of (pos zero) = none (omega (arith, ints))
 sign_of (pos (suc n)) = positive (omega (arith, ints))
 sign_of (negsuc n) = negative (omega (arith, ints))
+
+-- ---- zero and signs
+
+-- each number is zero or isn't
+pub zero_or_not : (x : ℤ) → (x ≡ pos 0) ⊎ (x ≢ pos 0)
+zero_or_not (pos zero) = inl refl
+zero_or_not (pos (suc n)) = inr (λ e. absurd (omega (arith, ints, e)))
+zero_or_not (negsuc n) = inr (λ e. absurd (omega (arith, ints, e)))
+
+-- a positive number isn't negative
+pub not_negative : (x : ℤ) → pos 0 <ℤ x → pos 0 ≤ℤ x
+not_negative x h = omega (arith, ints)
+
+-- nor zero
+pub positive_not_zero : (x : ℤ) → pos 0 <ℤ x → x ≢ pos 0
+positive_not_zero x h e = absurd (omega (arith, ints))
+
+-- a number that is neither negative nor zero is positive
+pub above_zero : (x : ℤ) → pos 0 ≤ℤ x → x ≢ pos 0 → pos 0 <ℤ x
+above_zero (pos zero) h n = absurd (n refl)
+above_zero (pos (suc k)) h n = omega (arith, ints)
+above_zero (negsuc k) h n = absurd (omega (arith, ints))
+
+-- a number that isn't zero has a positive size
+pub abs_positive : (x : ℤ) → x ≢ pos 0 → 0 < unsigned_abs x
+abs_positive (pos zero) n = absurd (n refl)
+abs_positive (pos (suc k)) n = omega arith
+abs_positive (negsuc k) n = omega arith
+
+-- a square isn't negative
+pub square_not_negative : (z : ℤ) → pos 0 ≤ℤ (z *ℤ z)
+square_not_negative (pos n) = omega (arith, ints)
+square_not_negative (negsuc n) = omega (arith, ints)
 
 -- ---- signs of products
 
@@ -42,7 +75,8 @@ pub <0-*ℤ : (a b : ℤ) → pos 0 <ℤ a → b <ℤ pos 0 → (a *ℤ b) <ℤ 
 <0-*ℤ (pos (suc a)) (pos b) h k = absurd (omega (arith, ints))
 <0-*ℤ (negsuc a) b h k = absurd (omega (arith, ints))
 
-zero_product : (a x : ℤ) → x ≡ pos 0 → a *ℤ x ≡ pos 0
+-- a multiple of zero is zero
+pub zero_product : (a x : ℤ) → x ≡ pos 0 → a *ℤ x ≡ pos 0
 zero_product a x e = rw e (omega (arith, ints))
 
 -- ---- a positive factor is cancelled
@@ -92,7 +126,3 @@ zero_of_*ℤ (negsuc a) (negsuc b) e = absurd (omega (arith, ints))
 -- a factor that isn't negative keeps the order
 pub ≤ℤ-*ℤ : (k a b : ℤ) → pos 0 ≤ℤ k → a ≤ℤ b → (k *ℤ a) ≤ℤ (k *ℤ b)
 ≤ℤ-*ℤ k a b h l = let p : pos 0 ≤ℤ (k *ℤ (b -ℤ a)) = 0≤-*ℤ k (b -ℤ a) h (omega (arith, ints)) in omega (arith, ints, p, *ℤ--ℤ k b a)
-
--- a positive factor keeps the strict order
-pub <ℤ-*ℤ : (k a b : ℤ) → pos 0 <ℤ k → a <ℤ b → (k *ℤ a) <ℤ (k *ℤ b)
-<ℤ-*ℤ k a b h l = let p : pos 0 <ℤ (k *ℤ (b -ℤ a)) = 0<-*ℤ k (b -ℤ a) h (omega (arith, ints)) in omega (arith, ints, p, *ℤ--ℤ k b a)

@@ -1,11 +1,11 @@
 -- Coefficients of descending lists in n variables, and that such a list is known by its coefficients.
 -- To cite: coefficient-above, coefficient-head, coefficient-skip, term_length, term_nonzero, term_coefficient,
 -- descending_unique, found_at, skipped_at, not_found_at.
-use Rattle.std.specs.Prelude.{◌≡◌, ◌⊎◌, ◌≢◌, ℕ, ◌+◌, ◌<◌, ◌≤◌, Bool, true, false, if◌then◌else◌, [], ◌∷◌, length, Contains}
+use Rattle.std.specs.Prelude.{◌≡◌, ◌⊎◌, ◌≢◌, ℕ, ◌+◌, ◌<◌, Bool, true, false, if◌then◌else◌, [], ◌∷◌, length, Contains}
 use Rattle.std.specs.declared.cmp.Ordering.{Ordering}
 use Rattle.std.specs.declared.cmp.Ordering.TheVariants.{Greater, Less, Equal}
 use Rattle.std.proofs.Common.{arith, refl, sym, ap, subst, ◌∙◌, inl, inr, drop, get_or}
-use Rattle.std.proofs.lemmas.List.{drop_more, drop_all}
+use Rattle.std.proofs.lemmas.List.{drop_more}
 use Rattle.gf_frac.specs.Fraction.{Fraction, ◌+ℚ◌, neg_ℚ, zero_ℚ}
 use Rattle.gf_frac.proofs.FractionLaws.{+ℚ_assoc, +ℚ_comm, +ℚ-zero, zero-+ℚ, +ℚ-neg_ℚ}
 use Rattle.gf_exponents.specs.Exponents.{Exponents, same}
@@ -79,7 +79,7 @@ pub record Finding (f : Terms) (e : Exponents) (fs : Terms) : Type 0 where
   pub descending : IsDescending fs
   pub variables : HasVariables (length e) fs
 
-head_at : (f : Terms) (i : ℕ) (t : Term) → i < length f → t ≡ get_or f i t → drop i f ≡ t ∷ drop (i + 1) f
+pub head_at : (f : Terms) (i : ℕ) (t : Term) → i < length f → t ≡ get_or f i t → drop i f ≡ t ∷ drop (i + 1) f
 head_at f i t h is = drop_more f i t h ∙ ap (λ (x : Term). x ∷ drop (i + 1) f) (sym is)
 
 pub skipped_at : (f : Terms) (e : Exponents) (i : ℕ) (t : Term) → i < length f → t ≡ get_or f i t → deglex t.mono e ≡ Greater → Finding f e (drop i f) → Finding f e (drop (i + 1) f)
@@ -102,9 +102,6 @@ passed_at f e i t h is g m =
     let n : Finding f e (t ∷ drop (i + 1) f) = subst (Finding f e) (head_at f i t h is) m in
     let above : deglex e t.mono ≡ Greater = less_greater t.mono e g in
     sym (coefficient-above (length e) (t ∷ drop (i + 1) f) e n.variables refl (above, IsAbove-from e t.mono (drop (i + 1) f) above n.descending.1)) ∙ n.coefficient_left
-
-pub not_found_at : (f : Terms) (e : Exponents) (i : ℕ) → length f ≤ i → Finding f e (drop i f) → zero_ℚ ≡ coefficient f e
-not_found_at f e i h m = sym (ap (λ fs. coefficient fs e) (drop_all i f h)) ∙ m.coefficient_left
 
 -- ---- one list for one polynomial
 -- a head above another's doesn't vanish there

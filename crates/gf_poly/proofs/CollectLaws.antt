@@ -1,12 +1,12 @@
 -- Sums of like terms, in a list in order.
 -- To cite: short_fits, like-short, descending_fits, Collecting-start, run_at, next_at, ended, sum_at_end, fits_at_end, sum_overflow_at, cause_along, fits_along.
-use Rattle.std.specs.Prelude.{◌≡◌, ℕ, ◌+◌, ◌<◌, ◌≤◌, ◌==◌, Bool, true, false, cond, if◌then◌else◌, [], ◌∷◌, ◌++◌, length, Result, Ok, Err, IfErr}
+use Rattle.std.specs.Prelude.{◌≡◌, ℕ, ◌+◌, ◌<◌, ◌≤◌, ◌==◌, Bool, true, false, cond, if◌then◌else◌, [], ◌∷◌, ◌++◌, length}
 use Rattle.std.specs.Ordering.{is_lt, is_eq, ordering_reverse}
 use Rattle.std.specs.declared.cmp.Ordering.{Ordering}
 use Rattle.std.specs.declared.cmp.Ordering.TheVariants.{Greater, Less, Equal}
 use Rattle.std.proofs.Common.{arith, refl, sym, ap, subst, ◌∙◌, inl, inr, drop, get_or, append_assoc, append-nil, length-append}
 use Rattle.std.proofs.lemmas.Bool.Decides.{nat_tests}
-use Rattle.std.proofs.lemmas.List.{drop_more, drop_all}
+use Rattle.std.proofs.lemmas.List.{drop_all}
 use Rattle.gf_frac.specs.Fraction.{Fraction, ◌+ℚ◌, zero_ℚ}
 use Rattle.gf_frac.specs.Fits.{FitsAdd}
 use Rattle.gf_frac.specs.declared.refusal.Overflow.{Overflow}
@@ -22,6 +22,7 @@ use Rattle.gf_poly.specs.Sums.{PushesNonzero}
 use Rattle.gf_poly.specs.Collecting.{like, sum_of_coefficients, SumsFit, SumsFitFrom, LikeSumsFit, IsLikeSumOverflow, IsLikeSumCause, IsNotBelow, IsOrdered, HasLikeTerms}
 use Rattle.gf_poly.proofs.PolynomialLaws.{coefficient-++}
 use Rattle.gf_poly.proofs.DescendingLaws.{deglex-total, greater_trans, less_greater, never_greater, equal_same, AllAbove, IsDescending-push, HasVariables-push}
+use Rattle.gf_poly.proofs.CoefficientLaws.{head_at}
 
 -- ---- like terms
 like-yes : (x : Exponents) (t : Term) (f : Terms) → deglex x t.mono ≡ Equal → like x (t ∷ f) ≡ t ∷ like x f
@@ -54,7 +55,7 @@ pub descending_fits : (f : Terms) → IsDescending f → LikeSumsFit f
 descending_fits f descending = record { at = λ x. short_fits (like x f) (like-short x f descending) }
 
 -- ---- order
-alike_itself : (x : Exponents) → deglex x x ≡ Equal
+pub alike_itself : (x : Exponents) → deglex x x ≡ Equal
 alike_itself x = at (deglex x x) refl
   where
     at : (o : Ordering) → deglex x x ≡ o → deglex x x ≡ Equal
@@ -126,7 +127,7 @@ Collecting-start f t x o e = subst (λ y. Collecting (t ∷ f) [] y t.coef f) (s
     below y g = ap (λ o. cond (is_eq o) (t ∷ like y f) (like y f)) (deglex-total.antisymm y t.mono ∙ ap ordering_reverse g)
 
 -- another term at x
-chosen_sum : (b : Bool) (x y : Fraction) → (if b then x +ℚ y else zero_ℚ) ≡ (if b then x else zero_ℚ) +ℚ (if b then y else zero_ℚ)
+pub chosen_sum : (b : Bool) (x y : Fraction) → (if b then x +ℚ y else zero_ℚ) ≡ (if b then x else zero_ℚ) +ℚ (if b then y else zero_ℚ)
 chosen_sum true x y = refl
 chosen_sum false x y = sym (+ℚ-zero zero_ℚ)
 
@@ -213,8 +214,6 @@ Collecting-next f out new x c t fs o p m = record {
 }
 
 -- ---- the same by places
-head_at : (f : Terms) (i : ℕ) (t : Term) → i < length f → t ≡ get_or f i t → drop i f ≡ t ∷ drop (i + 1) f
-head_at f i t h is = drop_more f i t h ∙ ap (λ (x : Term). x ∷ drop (i + 1) f) (sym is)
 
 pub nonempty_by_test : (n : ℕ) → false ≡ (n == 0) → 0 < n
 nonempty_by_test n h = grind (arith, nat_tests)
@@ -295,7 +294,3 @@ cause_of f g (errors.Overflow o) h w = record {
 }
 cause_of f g (errors.Exponent o) h w = w
 cause_of f g errors.Memory h w = tt
-
-pub cause_along : {T : Type 0} (f g : Terms) (r : Result T PolyError) → HasLikeTerms f g → IfErr r (IsLikeSumCause g) → IfErr r (IsLikeSumCause f)
-cause_along f g (Ok x) h w = w
-cause_along f g (Err e) h w = cause_of f g e h w

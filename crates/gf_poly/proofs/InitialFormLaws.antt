@@ -1,7 +1,7 @@
 -- The terms of one weight, and the initial form as the loop builds it.
 -- To cite: Heaviest, Heaviest-start, heavier_at, as_heavy_at, lighter_at, initial_form_at, descending_at, variables_at,
 -- initial_form_unique. The rest are steps.
-use Rattle.std.specs.Prelude.{◌≡◌, ◌≢◌, ◌⊎◌, ℕ, zero, suc, ◌+◌, ◌*◌, ◌^◌, ◌<◌, ◌≤◌, Bool, true, false, if◌then◌else◌, List, [], ◌∷◌, ◌++◌, length, take, drop, get_or, Contains, ℤ, pos, negsuc, ◌+ℤ◌, ◌*ℤ◌, ◌<ℤ◌, ◌≤ℤ◌, unsigned_abs}
+use Rattle.std.specs.Prelude.{◌≡◌, ◌≢◌, ◌⊎◌, ℕ, suc, ◌+◌, ◌^◌, ◌<◌, ◌≤◌, Bool, true, false, if◌then◌else◌, List, [], ◌∷◌, ◌++◌, length, take, get_or, Contains, ℤ, negsuc, ◌<ℤ◌, ◌≤ℤ◌, unsigned_abs}
 use Rattle.std.specs.Ordering.{int_eq, int_cmp, MatchOrdering}
 use Rattle.std.specs.declared.cmp.Ordering.{Ordering}
 use Rattle.std.specs.declared.cmp.Ordering.TheVariants.{Less, Equal, Greater}
@@ -9,7 +9,7 @@ use Rattle.std.proofs.Common.{arith, refl, sym, ap, subst, ◌∙◌, inl, inr}
 use Rattle.std.proofs.lemmas.Bool.Decides.{Decides-int_eq}
 use Rattle.std.proofs.lemmas.Cmp.{int_ranked}
 use Rattle.std.proofs.lemmas.Int.{ints}
-use Rattle.std.proofs.lemmas.List.{take_more, take_all, drop_more, append-nil}
+use Rattle.std.proofs.lemmas.List.{take_more, take_all, append-nil}
 use Rattle.gf_frac.specs.Fraction.{◌+ℚ◌, zero_ℚ}
 use Rattle.gf_frac.proofs.FractionLaws.{zero-+ℚ, zero_or_not}
 use Rattle.gf_exponents.specs.Exponents.{Exponents, same, whole_weight}
@@ -19,7 +19,7 @@ use Rattle.gf_poly.specs.Polynomial.{Terms, coefficient, SamePolynomial, IsAbove
 use Rattle.gf_poly.specs.InitialForms.{IsOfGreatestWeight, IsInitialForm}
 use Rattle.gf_poly.proofs.PolynomialLaws.{coefficient-same}
 use Rattle.gf_poly.proofs.DescendingLaws.{Contains-cons, Contains-none}
-use Rattle.gf_poly.proofs.CoefficientLaws.{coefficient-contains}
+use Rattle.gf_poly.proofs.CoefficientLaws.{coefficient-contains, term_nonzero}
 use Rattle.gf_poly.proofs.ProductLaws.{HasVariables-at}
 
 -- ---- tests of weights
@@ -44,7 +44,7 @@ test_false a b n = at (int_eq a b) refl
     at true h = absurd (n (equal a b h))
     at false h = refl
 
-same_or_not : (x y : Exponents) → (same x y ≡ true) ⊎ (same x y ≡ false)
+pub same_or_not : (x y : Exponents) → (same x y ≡ true) ⊎ (same x y ≡ false)
 same_or_not x y = at (same x y)
   where
     at : (b : Bool) → (b ≡ true) ⊎ (b ≡ false)
@@ -166,9 +166,6 @@ pub record Heaviest (w : List ℤ) (f out : Terms) (m : ℤ) : Type 0 where
   pub above : AreAtMost w m f
   pub reached : ((f ≡ []) × (m <ℤ negsuc (2 ^ 101))) ⊎ IsReached w m f
 
-pub Heaviest-start : (w : List ℤ) (f : Terms) (m : ℤ) → m <ℤ negsuc (2 ^ 101) → Heaviest w (take 0 f) [] m
-Heaviest-start w f m l = record { items = refl; above = tt; reached = inl (refl, l) }
-
 pushed : (f : Terms) (i : ℕ) (t : Term) → i < length f → t ≡ get_or f i t → take (i + 1) f ≡ take i f ++ t ∷ []
 pushed f i t h is = take_more f i t h ∙ ap (λ (s : Term). take i f ++ s ∷ []) (sym is)
 
@@ -223,11 +220,6 @@ reached_by w m (t ∷ f) (inr r) = at (reached_by w m f r)
     at : ((s : Term) × Contains f s × (whole_weight w s.mono ≡ m)) → (s : Term) × Contains (t ∷ f) s × (whole_weight w s.mono ≡ m)
     at p = (p.0, (suc p.1.0, omega (arith, p.1.1), p.1.2), p.2)
 
-nonzero-contains : (f : Terms) (t : Term) → IsDescending f → Contains f t → t.coef ≢ zero_ℚ
-nonzero-contains [] t d (k, l, e) = absurd (omega arith)
-nonzero-contains (s ∷ f) t d (zero, l, e) = λ z. d.0 (ap (λ (u : Term). u.coef) e ∙ z)
-nonzero-contains (s ∷ f) t d (suc k, l, e) = nonzero-contains f t d.2 (k, omega arith, e)
-
 -- the terms of greatest weight are the initial form
 initial : (n : ℕ) (w : List ℤ) (f : Terms) (m : ℤ) → HasVariables n f → IsDescending f → AreAtMost w m f → (f ≡ []) ⊎ IsReached w m f → IsInitialForm w f (of_weight w m f)
 initial n w f m v d a r = record { heaviest = heaviest; lighter = lighter }
@@ -243,7 +235,7 @@ initial n w f m v d a r = record { heaviest = heaviest; lighter = lighter }
         at : ((t : Term) × Contains f t × (whole_weight w t.mono ≡ m)) → whole_weight w x ≡ m
         at p =
             let k : length p.0.mono ≡ n = HasVariables-at n f p.1.0 p.0 p.1.1 (sym p.1.2) v in
-            let l : whole_weight w p.0.mono ≤ℤ whole_weight w x = h p.0.mono (λ z. nonzero-contains f p.0 d p.1 (sym (coefficient-contains n f p.0 v d p.1 k) ∙ z)) in
+            let l : whole_weight w p.0.mono ≤ℤ whole_weight w x = h p.0.mono (λ z. term_nonzero f p.0 d p.1 (sym (coefficient-contains n f p.0 v d p.1 k) ∙ z)) in
             omega (arith, ints, weighs w m f x a c, l, p.2)
 
     heaviest : (x : Exponents) → IsOfGreatestWeight w f x → coefficient (of_weight w m f) x ≡ coefficient f x

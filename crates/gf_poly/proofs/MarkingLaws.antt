@@ -1,23 +1,22 @@
 -- Marked terms by their places, monic polynomials, and lists of marked polynomials.
 -- To cite: coefficient_at, coefficient_nonzero, head_value, head_marked, monic_value, monic_cause, length-products,
 -- HaveVariables-permutation, by_head, arranged. The rest are steps.
-use Rattle.std.specs.Prelude.{◌≡◌, ◌≢◌, ℕ, zero, suc, ◌<◌, List, [], ◌∷◌, length, Contains, All, IsPermutation, IsSortedByKey}
+use Rattle.std.specs.Prelude.{◌≡◌, ◌≢◌, ℕ, zero, suc, ◌<◌, List, [], ◌∷◌, length, Contains, IsPermutation, IsSortedByKey}
 use Rattle.std.specs.List.Sorted.{IsStableByKey}
 use Rattle.std.specs.Cmp.{IsStrictWeakOrder}
 use Rattle.std.specs.Ordering.{is_lt}
 use Rattle.std.proofs.lemmas.Cmp.{nat_list_cmp_total}
 use Rattle.std.proofs.Common.{arith, refl, sym, ap, subst, ◌∙◌, inl, inr, get_or}
-use Rattle.std.proofs.lemmas.List.Sorted.{All-permutation, ranks_by}
-use Rattle.std.proofs.lemmas.List.Elements.{All-cons}
+use Rattle.std.proofs.lemmas.List.Sorted.{ranks_by}
 use Rattle.gf_frac.specs.Fraction.{Fraction, ◌*ℚ◌, reciprocal_ℚ, zero_ℚ, one_ℚ}
 use Rattle.gf_frac.proofs.FractionLaws.{reciprocal_ℚ-*ℚ, zero-*ℚ, zero-not-one}
 use Rattle.gf_exponents.specs.Orders.{lex}
 use Rattle.gf_poly.specs.declared.error.PolyError.{PolyError}
 use Rattle.gf_poly.specs.declared.Term.{Term}
 use Rattle.gf_poly.specs.declared.products.Scaling.TheVariants.{Over}
-use Rattle.gf_poly.specs.Polynomial.{Terms, times, times_term, IsDescending, HasVariables}
+use Rattle.gf_poly.specs.Polynomial.{Terms, times, times_term, IsDescending}
 use Rattle.gf_poly.specs.Products.{HasProducts, ScalesFit, IsScaleCause}
-use Rattle.gf_poly.specs.Marking.{MarkedPolynomial, HaveVariables, head_of, HasMark, HasMarkedTerm, IsMonicOf, IsMonicCause, MarkedPolynomials, IsArranged}
+use Rattle.gf_poly.specs.Marking.{MarkedPolynomial, head_of, HasMark, HasMarkedTerm, IsMonicOf, IsMonicCause, MarkedPolynomials, IsArranged}
 use Rattle.gf_poly.proofs.DescendingLaws.{Contains-cons, Contains-there, Contains-none}
 use Rattle.gf_poly.proofs.ProductLaws.{IsScaled-products, KeepsVariables-scaled}
 
@@ -80,16 +79,6 @@ monic_at f h i k m n p w =
     }
 
 -- ---- lists
-all_of : (n : ℕ) (bs : List MarkedPolynomial) → HaveVariables n bs → All (λ (b : MarkedPolynomial). HasVariables n b.poly) bs
-all_of n [] h = λ k d l. absurd (omega arith)
-all_of n (b ∷ bs) h = All-cons (λ (a : MarkedPolynomial). HasVariables n a.poly) b bs h.0 (all_of n bs h.1)
-
-of_all : (n : ℕ) (bs : List MarkedPolynomial) → All (λ (b : MarkedPolynomial). HasVariables n b.poly) bs → HaveVariables n bs
-of_all n [] h = tt
-of_all n (b ∷ bs) h = (h 0 b (omega arith), of_all n bs (λ k d l. h (suc k) d (omega arith)))
-
-pub HaveVariables-permutation : (n : ℕ) (xs ys : List MarkedPolynomial) → IsPermutation xs ys → HaveVariables n xs → HaveVariables n ys
-HaveVariables-permutation n xs ys p h = of_all n ys (All-permutation (λ (b : MarkedPolynomial). HasVariables n b.poly) xs ys p (all_of n xs h))
 
 -- ---- the same of a marked polynomial that is kept as its terms f and the place i
 pub coefficient_at : (b : MarkedPolynomial) (f g : Terms) (i : ℕ) (t : Term) → ◌≡◌ {A = MarkedPolynomial} (record { poly = f; head = head_of f i }) b → g ≡ f → i < length f → t ≡ get_or g i t → HasMark b (get_or g i t).coef

@@ -3,7 +3,7 @@
 use Rattle.std.specs.Prelude.{◌≡◌, ◌≢◌, ◌⊎◌, ℕ, ◌+◌, ◌≤◌, ◌<◌, [], ◌∷◌, ◌++◌, length, if◌then◌else◌, true, false, Bool, Contains}
 use Rattle.std.specs.declared.cmp.Ordering.TheVariants.{Greater, Equal}
 use Rattle.std.proofs.Common.{refl, sym, ap, ◌∙◌, subst, drop, get_or, inl, inr}
-use Rattle.std.proofs.lemmas.List.{drop_more, drop_all}
+use Rattle.std.proofs.lemmas.List.{drop_all}
 use Rattle.gf_frac.specs.Fraction.{Fraction, ◌+ℚ◌, neg_ℚ, zero_ℚ}
 use Rattle.gf_frac.specs.Fits.{Fits}
 use Rattle.gf_frac.specs.declared.refusal.Overflow.{Overflow}
@@ -14,9 +14,11 @@ use Rattle.gf_poly.specs.declared.Term.{Term}
 use Rattle.gf_poly.specs.declared.merge.Sign.{Sign}
 use Rattle.gf_poly.specs.declared.merge.Sign.TheVariants.{Plus, Minus}
 use Rattle.gf_poly.specs.Polynomial.{Terms, coefficient, IsAbove, IsDescending, HasVariables}
-use Rattle.gf_poly.specs.Sums.{operation, signed, IsSignedSum, AreLike, LikeTermsFit, IsLikeOverflow, PushesNonzero}
+use Rattle.gf_poly.specs.Sums.{operation, signed, IsSignedSum, AreLike, IsLikeOverflow, PushesNonzero}
 use Rattle.gf_poly.proofs.PolynomialLaws.{coefficient-++}
-use Rattle.gf_poly.proofs.DescendingLaws.{never_greater, greater_trans, equal_same, Contains-cons, Contains-none, IsAbove-from, IsAbove-contains, AllAbove, AllAbove-rest, AllAbove-push, IsDescending-push, HasVariables-push}
+use Rattle.gf_poly.proofs.DescendingLaws.{never_greater, greater_trans, equal_same, Contains-cons, IsAbove-from, IsAbove-contains, AllAbove, AllAbove-rest, AllAbove-push, IsDescending-push, HasVariables-push}
+use Rattle.gf_poly.proofs.CoefficientLaws.{head_at}
+use Rattle.gf_poly.proofs.CollectLaws.{chosen_sum}
 
 -- ---- signs
 neg-zero : neg_ℚ zero_ℚ ≡ zero_ℚ
@@ -90,7 +92,7 @@ Merging-left sign f g out fs gs t m a = record {
 }
 
 -- ---- the second head is greater
-swap_first : (u a b : Fraction) → u +ℚ (a +ℚ b) ≡ a +ℚ (u +ℚ b)
+pub swap_first : (u a b : Fraction) → u +ℚ (a +ℚ b) ≡ a +ℚ (u +ℚ b)
 swap_first u a b = sym (+ℚ_assoc u a b) ∙ ap (λ z. z +ℚ b) (+ℚ_comm u a) ∙ +ℚ_assoc a u b
 
 like_right : (fs gs : Terms) (h s t : Term) → IsAbove h.mono fs → AreLike fs (h ∷ gs) s t → AreLike fs gs s t
@@ -119,9 +121,6 @@ IsAbove-head : (s t : Term) (gs : Terms) → deglex s.mono t.mono ≡ Greater �
 IsAbove-head s t gs h d = (h, IsAbove-from s.mono t.mono gs h d.1)
 
 -- ---- like heads
-chosen_sum : (b : Bool) (x y : Fraction) → (if b then x +ℚ y else zero_ℚ) ≡ (if b then x else zero_ℚ) +ℚ (if b then y else zero_ℚ)
-chosen_sum true x y = refl
-chosen_sum false x y = sym (+ℚ-zero zero_ℚ)
 
 five : (o a b x y : Fraction) → (o +ℚ (a +ℚ b)) +ℚ (x +ℚ y) ≡ o +ℚ ((a +ℚ x) +ℚ (b +ℚ y))
 five o a b x y = +ℚ_assoc o (a +ℚ b) (x +ℚ y) ∙ ap (λ z. o +ℚ z) (+ℚ-middle a b x y)
@@ -186,8 +185,6 @@ Merging-neither sign f g out fs gs s t c m alike value w nothing = record {
     none false = refl
 
 -- ---- the same by places
-head_at : (f : Terms) (i : ℕ) (t : Term) → i < length f → t ≡ get_or f i t → drop i f ≡ t ∷ drop (i + 1) f
-head_at f i t h is = drop_more f i t h ∙ ap (λ (x : Term). x ∷ drop (i + 1) f) (sym is)
 
 pub at_left : (sign : Sign) (f g out new gs : Terms) (i : ℕ) (s t : Term) → i < length f → t ≡ get_or f i t → s ≡ t → new ≡ out ++ s ∷ [] → (IsDescending gs → IsAbove t.mono gs) → Merging sign f g out (drop i f) gs → Merging sign f g new (drop (i + 1) f) gs
 at_left sign f g out new gs i s t h is copied pushed a m =
@@ -225,9 +222,6 @@ ended sign f g out i j h k m = subst (λ fs. Merging sign f g out fs []) (drop_a
 
 pub at_end : (sign : Sign) (f g out : Terms) → Merging sign f g out [] [] → IsSignedSum sign f g out
 at_end sign f g out m e = sym (ap (λ z. coefficient out e +ℚ (zero_ℚ +ℚ z)) (signed-zero sign) ∙ ap (λ z. coefficient out e +ℚ z) (+ℚ-zero zero_ℚ) ∙ +ℚ-zero _) ∙ m.sum e
-
-pub fits_at_end : (sign : Sign) (f g out : Terms) → Merging sign f g out [] [] → LikeTermsFit (operation sign) f g
-fits_at_end sign f g out m = record { at = λ s t l. elim (m.fits s t l) [ inl h ↦ h | inr h ↦ absurd (Contains-none s h.left) ] }
 
 -- ---- a sum that leaves the range
 later : (fs gs : Terms) (x y s t : Term) → x.mono ≡ y.mono → IsAbove x.mono fs → IsAbove y.mono gs → deglex s.mono x.mono ≡ Greater → AreLike (x ∷ fs) (y ∷ gs) s t → ⊥

@@ -9,8 +9,7 @@ use Rattle.std.proofs.lemmas.List.Elements.{All-get_or, All-from_get_or}
 use Rattle.std.proofs.lemmas.Grind.{get_or-set_at}
 use Rattle.gf_exponents.specs.Exponents.{Exponents, entry, plus, minus, join, degree, Divides}
 use Rattle.gf_poly.specs.declared.TheConstants.{ROOM}
-use Rattle.gf_poly.specs.Monomial.{IsMonomial, ProductFits, IsFirstOverflow}
-use Rattle.gf_poly.specs.declared.monomial.ExponentOverflow.{ExponentOverflow}
+use Rattle.gf_poly.specs.Monomial.{IsMonomial, ProductFits}
 pub use Rattle.gf_exponents.proofs.ExponentsLaws.{entry-get_or, same_lists}
 use Rattle.gf_exponents.proofs.WeightLaws.{degree-plus}
 use Rattle.gf_exponents.proofs.ExponentsLaws.{entry-past, entry-plus, entry-minus, entry-join, entries_same, same_by_entries}
@@ -189,10 +188,6 @@ IsMonomial-minus x y e h = record { room = omega (arith, length-minus x y e, h.r
 
 pub IsMonomial-join : (x y : Exponents) → length x ≡ length y → IsMonomial x → IsMonomial y → IsMonomial (join x y)
 IsMonomial-join x y e h k = record { room = omega (arith, length-join x y e, h.room); limit = limit_by_entries (join x y) (λ i. omega (arith, entry-limit x h.limit i, entry-limit y k.limit i, entry-join x y i)) }
-
--- a product that fits has no first overflow
-pub no_overflow : (x y : Exponents) (o : ExponentOverflow) → IsFirstOverflow x y o → ¬ (ProductFits x y)
-no_overflow x y o h p = absurd (omega (arith, h.leaves, p.at h.at))
 
 -- ---- the total degree, entry by entry
 pub degree-take : (x : List ℕ) (i : ℕ) → i < length x → degree (take (i + 1) x) ≡ degree (take i x) + get_or x i 0

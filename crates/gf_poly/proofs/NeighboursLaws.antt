@@ -1,8 +1,7 @@
 -- Terms descend where the first isn't zero, and each further one isn't and stands below the one before it.
 -- To cite: above_last; below_first, below_next, below_all; nonzero_at, above_next. The rest are steps.
-use Rattle.std.proofs.Common.{◌≡◌, ◌≢◌, ◌≤◌, ◌<◌, ◌∙◌, ◌+◌, ℕ, zero, suc, [], ◌∷◌, ◌++◌, length, take, get_or, sym, ap, subst, add-one, arith}
+use Rattle.std.proofs.Common.{◌≡◌, ◌≢◌, ◌<◌, ◌∙◌, ◌+◌, ℕ, zero, suc, [], ◌∷◌, ◌++◌, length, take, get_or, sym, ap, subst, add-one, arith}
 use Rattle.std.proofs.Math.Seq.{take-suc}
-use Rattle.std.proofs.lemmas.List.{take_all}
 use Rattle.std.specs.declared.cmp.Ordering.TheVariants.{Greater}
 use Rattle.gf_frac.specs.Fraction.{zero_ℚ}
 use Rattle.gf_exponents.specs.Exponents.{Exponents}
@@ -25,11 +24,6 @@ below_push (u ∷ f) s t h nonzero below = (
   below_push f s t h.2 nonzero below,
 )
 
--- the first term
-pub below_first : (f : Terms) (t : Term) → 0 < length f → t ≡ get_or f 0 t → t.coef ≢ zero_ℚ → IsDescending (take 1 f)
-below_first [] t h is nonzero = absurd (omega arith)
-below_first (s ∷ f) t h is nonzero = (subst (λ (u : Term). u.coef ≢ zero_ℚ) is nonzero, tt, tt)
-
 -- one more term
 pub below_next : (f : Terms) (i j : ℕ) (s t : Term) → i ≡ j + 1 → i < length f → s ≡ get_or f j s → t ≡ get_or f i t → t.coef ≢ zero_ℚ → deglex s.mono t.mono ≡ Greater
     → IsDescending (take i f) → IsDescending (take (i + 1) f)
@@ -38,26 +32,13 @@ below_next f i j s t next within at_s at_t nonzero below h =
     let all : take (i + 1) f ≡ (take j f ++ s ∷ []) ++ t ∷ [] = ap (λ k. take k f) (add-one i) ∙ take-suc f i t within ∙ ap (λ u. take i f ++ u ∷ []) (sym at_t) ∙ ap (λ l. l ++ t ∷ []) front in
     subst IsDescending (sym all) (below_push (take j f) s t (subst IsDescending front h) nonzero below)
 
--- all of them
-pub below_all : (f : Terms) (i : ℕ) → length f ≤ i → IsDescending (take i f) → IsDescending f
-below_all f i past h = subst IsDescending (take_all i f past) h
-
 -- ---- from all terms to neighbours
-
-nonzero_here : (f : Terms) (i : ℕ) (t : Term) → i < length f → IsDescending f → (get_or f i t).coef ≢ zero_ℚ
-nonzero_here [] i t within h = absurd (omega arith)
-nonzero_here (s ∷ f) zero t within h = h.0
-nonzero_here (s ∷ f) (suc i) t within h = nonzero_here f i t (omega arith) h.2
 
 above_here : (f : Terms) (j : ℕ) (s t : Term) → suc j < length f → IsDescending f → deglex (get_or f j s).mono (get_or f (suc j) t).mono ≡ Greater
 above_here [] j s t within h = absurd (omega arith)
 above_here (u ∷ []) j s t within h = absurd (omega arith)
 above_here (u ∷ v ∷ f) zero s t within h = h.1.0
 above_here (u ∷ v ∷ f) (suc j) s t within h = above_here (v ∷ f) j s t (omega arith) h.2
-
--- no term is zero
-pub nonzero_at : (f : Terms) (i : ℕ) (t : Term) → i < length f → t ≡ get_or f i t → IsDescending f → t.coef ≢ zero_ℚ
-nonzero_at f i t within is h = subst (λ (u : Term). u.coef ≢ zero_ℚ) (sym is) (nonzero_here f i t within h)
 
 -- each stands above the next
 pub above_next : (f : Terms) (i j : ℕ) (s t : Term) → i ≡ j + 1 → i < length f → s ≡ get_or f j s → t ≡ get_or f i t → IsDescending f → deglex s.mono t.mono ≡ Greater

@@ -8,8 +8,8 @@ use Rattle.std.proofs.lemmas.Cmp.{ranked}
 use Rattle.std.specs.Cmp.Lexicographic.{slice_cmp}
 use Rattle.std.specs.declared.cmp.Ordering.{Ordering}
 use Rattle.std.specs.declared.cmp.Ordering.TheVariants.{Greater, Less, Equal}
-use Rattle.std.proofs.Common.{arith, refl, sym, ap, subst, ◌∙◌, inl, inr, drop, get_or, append_assoc, append-nil}
-use Rattle.std.proofs.lemmas.List.{drop_more, drop_all}
+use Rattle.std.proofs.Common.{arith, refl, sym, ap, subst, ◌∙◌, inl, inr, drop, get_or, append_assoc}
+use Rattle.std.proofs.lemmas.List.{drop_all}
 use Rattle.gf_frac.specs.Fraction.{Fraction, ◌*ℚ◌, reciprocal_ℚ, zero_ℚ, one_ℚ}
 use Rattle.gf_frac.proofs.FractionLaws.{zero-*ℚ, zero_of_*ℚ, zero_or_not, *ℚ_comm}
 use Rattle.gf_exponents.specs.Exponents.{Exponents, plus, degree}
@@ -28,6 +28,7 @@ use Rattle.gf_poly.specs.Products.{HasProducts, IsScaled, TermFits, IsFirstTerm,
 use Rattle.gf_poly.proofs.MonomialLaws.{length-plus}
 use Rattle.gf_poly.proofs.PolynomialLaws.{coefficient-factor, coefficient-times}
 use Rattle.gf_poly.proofs.DescendingLaws.{never_greater, greater_trans, Contains-cons, Contains-none, IsAbove-contains}
+use Rattle.gf_poly.proofs.CoefficientLaws.{head_at}
 
 -- ---- what a loop over the terms has done
 -- out has the products so far, and fs is left
@@ -36,12 +37,6 @@ pub record Multiplying (fits : Term → Type 0) (c : Fraction) (u : Exponents) (
   pub zero : c ≡ zero_ℚ → out ≡ []
   pub descending : IsDescending fs
   pub fit : (t : Term) → Contains f t → fits t ⊎ Contains fs t
-
-pub Multiplying-start : (fits : Term → Type 0) (c : Fraction) (u : Exponents) (f : Terms) → IsDescending f → Multiplying fits c u f [] f
-Multiplying-start fits c u f d = record { nonzero = λ n. refl; zero = λ z. refl; descending = d; fit = λ t h. inr h }
-
-head_at : (f : Terms) (i : ℕ) (t : Term) → i < length f → t ≡ get_or f i t → drop i f ≡ t ∷ drop (i + 1) f
-head_at f i t h is = drop_more f i t h ∙ ap (λ (x : Term). x ∷ drop (i + 1) f) (sym is)
 
 one_more : (fits : Term → Type 0) (c : Fraction) (u : Exponents) (f out new fs : Terms) (t : Term) → fits t → PushesNonzero out new (times_term c u t) → Multiplying fits c u f out (t ∷ fs) → Multiplying fits c u f new fs
 one_more fits c u f out new fs t w p m = record {
@@ -67,11 +62,6 @@ multiplied_at fits c u f out new i t x m h is value product w p l =
     let r : Term = record { coef = x; mono = m } in
     let e : r ≡ times_term c u t = λ q. record { coef = value q; mono = product q } in
     one_more fits c u f out new (drop (i + 1) f) t w (subst (PushesNonzero out new) e p) (subst (Multiplying fits c u f out) (head_at f i t h is) l)
-
-pub HasProducts-end : (fits : Term → Type 0) (c : Fraction) (u : Exponents) (f out : Terms) (i : ℕ) → length f ≤ i → Multiplying fits c u f out (drop i f) → HasProducts c u f out
-HasProducts-end fits c u f out i h l =
-    let m : Multiplying fits c u f out [] = subst (Multiplying fits c u f out) (drop_all i f h) l in
-    record { nonzero = λ n. sym (append-nil out) ∙ m.nonzero n; zero = m.zero }
 
 pub fits_at_end : (fits : Term → Type 0) (c : Fraction) (u : Exponents) (f out : Terms) (i : ℕ) → length f ≤ i → Multiplying fits c u f out (drop i f) → (t : Term) → Contains f t → fits t
 fits_at_end fits c u f out i h l t k =

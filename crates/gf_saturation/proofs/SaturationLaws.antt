@@ -12,13 +12,14 @@ use Rattle.gf_poly.specs.declared.Term.{Term}
 use Rattle.gf_poly.specs.Polynomial.{Terms, coefficient, SamePolynomial, times}
 use Rattle.gf_poly.proofs.PolynomialLaws.{coefficient-++, coefficient-times, SamePolynomial-times, times-times, times-plain}
 use Rattle.gf_ideal.specs.Membership.{IsInVariables, AreInVariables, IsMember, Spans}
-use Rattle.gf_ideal.proofs.Identities.{neg_one, turned, swap_front}
+use Rattle.gf_ideal.proofs.Identities.{neg_one, turned}
 use Rattle.gf_ideal.proofs.RingLaws.{ring-along, ring-plus}
 use Rattle.gf_ideal.proofs.ListedTerms.{by_terms}
 use Rattle.gf_ideal.proofs.SpanLaws.{Spans-equal, Spans-zero, Spans-generator, Spans-++, Spans-times, Spans-difference, Spans-trans}
 use Rattle.gf_ideal.proofs.MembershipLaws.{variables-times, variables-equal, variables_of_member, spans_of_member, member_of_spans, member-equal, member-times}
 use Rattle.gf_saturation.specs.Saturations.{powered, product_power, IsSaturatedBy, IsSaturated, next_variable, rabinowitsch, AreExtended}
 use Rattle.gf_saturation.proofs.SubstitutionLaws.{mapped, mapped-++, mapped_same, cut, inverted, inverted-keeps, inverted_multiple, inverted_trick, ring-powered, ring-next}
+use Rattle.gf_poly.proofs.MergeLaws.{swap_first}
 
 -- ---- in how many variables
 
@@ -112,7 +113,7 @@ lifted_one n u gs f r s = Spans-equal gs (times one_ℚ m f ++ times (neg_ℚ on
     all e = at (coefficient (times one_ℚ m f) e) (coefficient f e) ∙ ap (λ z. coefficient f e +ℚ z) (sym (coefficient-++ (times one_ℚ m f) (times (neg_ℚ one_ℚ) [] f) e ∙ ap (λ z. coefficient (times one_ℚ m f) e +ℚ z) (coefficient-times (neg_ℚ one_ℚ) [] f e ∙ neg_one (coefficient f e))))
       where
         at : (a b : Fraction) → a ≡ b +ℚ (a +ℚ neg_ℚ b)
-        at a b = sym (+ℚ-zero a) ∙ ap (λ z. a +ℚ z) (sym (+ℚ-neg_ℚ b)) ∙ swap_front a b (neg_ℚ b)
+        at a b = sym (+ℚ-zero a) ∙ ap (λ z. a +ℚ z) (sym (+ℚ-neg_ℚ b)) ∙ swap_first a b (neg_ℚ b)
 
     equal : SamePolynomial (times one_ℚ m f ++ times (neg_ℚ one_ℚ) [] d) f
     equal e =

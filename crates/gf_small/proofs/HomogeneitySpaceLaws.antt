@@ -16,9 +16,10 @@ use Rattle.gf_ideal.proofs.ListLaws.{Each-++}
 use Rattle.gf_gordan.specs.Alternative.{AreRows}
 use Rattle.gf_duality.specs.Rays.{IsLineal, IsRays}
 use Rattle.gf_facets.specs.Rows.{rows_of_polynomials, rows_of_terms, differences}
-use Rattle.gf_facets.proofs.RowLaws.{same_or_other, row-in, row-from, IsTermRow, length-differences, dot-differences}
+use Rattle.gf_facets.proofs.RowLaws.{row-in, row-from, IsTermRow, length-differences, dot-differences}
 use Rattle.gf_small.specs.HomogeneitySpace.{IsInSpace, IsBasisOfSpace, HasSpaceDimension}
 use Rattle.gf_small.specs.Statistics.{members_of}
+use Rattle.gf_poly.proofs.InitialFormLaws.{same_or_not}
 
 -- ---- the rows of lists
 
@@ -74,7 +75,7 @@ flat_on n w bs v m h r c = at (row-from bs r c)
         ap (λ (z : List ℤ). dot z w) q.2.row ∙ dot-differences w b.head q.2.term.mono lengths ∙ omega (arith, ints, h b q.1 top q.2.term marked.term q.2.inside)
 
 level : (n : ℕ) (w : List ℤ) (bs : List MarkedPolynomial) → HaveVariables n bs → Each HasMarkedTerm bs → All (λ e. dot e w ≡ pos 0) (rows_of_polynomials bs) → (b : MarkedPolynomial) → Contains bs b → (t : Term) → Contains b.poly t → whole_weight w t.mono ≡ whole_weight w b.head
-level n w bs v m h b c t k = at (same_or_other b.head t.mono)
+level n w bs v m h b c t k = at (same_or_not b.head t.mono)
   where
     variables : HasVariables n b.poly
     variables = each_member (λ (d : MarkedPolynomial). HasVariables n d.poly) bs b v c

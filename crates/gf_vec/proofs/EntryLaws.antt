@@ -31,10 +31,7 @@ drop_plus (suc m) [] (y ∷ ys) e = absurd (omega arith)
 drop_plus (suc m) (x ∷ xs) [] e = absurd (omega arith)
 drop_plus (suc m) (x ∷ xs) (y ∷ ys) e = drop_plus m xs ys (omega arith)
 
-pub times_zero : (a x : ℤ) → x ≡ pos 0 → a *ℤ x ≡ pos 0
-times_zero a x e = rw e (omega (arith, ints))
-
-min_one : (n : ℕ) → min (suc n) 1 ≡ 1
+pub min_one : (n : ℕ) → min (suc n) 1 ≡ 1
 min_one n = omega arith
 
 -- the sign of a positive number

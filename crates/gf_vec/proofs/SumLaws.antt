@@ -1,5 +1,5 @@
 -- A sum of two vectors in place, one entry further.
-use Rattle.std.proofs.Common.{◌≡◌, ℕ, suc, ◌+◌, ◌<◌, ◌≤◌, List, [], ◌∷◌, ◌++◌, length, ℤ, pos, ◌+ℤ◌, arith, sym, refl, ap, ◌∙◌, take, drop, get_or, set, inl, inr, append_assoc, subst, negsuc, ◌*ℤ◌, map, All}
+use Rattle.std.proofs.Common.{◌≡◌, ℕ, ◌+◌, ◌<◌, ◌≤◌, List, [], ◌∷◌, ◌++◌, length, ℤ, pos, ◌+ℤ◌, arith, sym, refl, ap, ◌∙◌, take, drop, get_or, set, inl, inr, append_assoc, subst, negsuc, ◌*ℤ◌, map, All}
 use Rattle.std.proofs.lemmas.List.{take_more, drop_more, length-take, get_or_at, set_at, take_all, take_at, append-nil, drop_all, length-map}
 use Rattle.std.specs.List.{AllByRecursion}
 use Rattle.std.proofs.lemmas.Int.{unsigned_abs-mul}
@@ -9,6 +9,7 @@ use Rattle.gf_vec.specs.Vector.{vector_sum}
 use Rattle.gf_vec.specs.Steps.{NoneWide, IsWide, sum_steps, IsFirstWide}
 use Rattle.gf_vec.specs.declared.error.VecOp.TheVariants.{Add}
 use Rattle.gf_vec.specs.declared.error.WideVector.{WideVector}
+use Rattle.gf_vec.proofs.VectorLaws.{length-plus}
 
 -- the entries before i are sums, and what is left gives what the whole gives
 pub record Summed (xs ys now : List ℤ) (i : ℕ) : Type 0 where
@@ -23,17 +24,12 @@ plus-push [] (z ∷ ys) x y e = absurd (omega arith)
 plus-push (z ∷ xs) [] x y e = absurd (omega arith)
 plus-push (z ∷ xs) (w ∷ ys) x y e = ap (λ l. (z +ℤ w) ∷ l) (plus-push xs ys x y (omega arith))
 
-length_of : (xs ys : List ℤ) → length xs ≡ length ys → length (vector_sum xs ys) ≡ length xs
-length_of [] ys e = refl
-length_of (x ∷ xs) [] e = absurd (omega arith)
-length_of (x ∷ xs) (y ∷ ys) e = ap suc (length_of xs ys (omega arith))
-
-all_push : (xs : List ℤ) (x : ℤ) → AllByRecursion InRange xs → InRange x → AllByRecursion InRange (xs ++ x ∷ [])
+pub all_push : (xs : List ℤ) (x : ℤ) → AllByRecursion InRange xs → InRange x → AllByRecursion InRange (xs ++ x ∷ [])
 all_push [] x h k = (k, tt)
 all_push (y ∷ xs) x h k = (h.0, all_push xs x h.1 k)
 
 front_len : (xs ys : List ℤ) (i : ℕ) → i < length xs → length xs ≡ length ys → length (vector_sum (take i xs) (take i ys)) ≡ i
-front_len xs ys i h e = length_of (take i xs) (take i ys) (omega (arith, length-take i xs, length-take i ys)) ∙ omega (arith, length-take i xs)
+front_len xs ys i h e = length-plus (take i xs) (take i ys) (omega (arith, length-take i xs, length-take i ys)) ∙ omega (arith, length-take i xs)
 
 split : (xs ys : List ℤ) (i : ℕ) → i < length xs → length xs ≡ length ys →
     sum_steps (drop i xs) (drop i ys) ≡ record { op = Add; left = get_or xs i (pos 0); right = get_or ys i (pos 0) } ∷ sum_steps (drop (i + 1) xs) (drop (i + 1) ys)

@@ -17,7 +17,7 @@ dot_comm (x ∷ xs) (y ∷ ys) = cc (*ℤ_comm x y, dot_comm xs ys)
 plus_step : (x y z a b : ℤ) → (x +ℤ y) *ℤ z +ℤ (a +ℤ b) ≡ x *ℤ z +ℤ a +ℤ (y *ℤ z +ℤ b)
 plus_step x y z a b = same ((dv x ⊕ dv y) ⊗ dv z ⊕ (dv a ⊕ dv b)) (dv x ⊗ dv z ⊕ dv a ⊕ (dv y ⊗ dv z ⊕ dv b)) (omega arith)
 
-times_step : (k x y a : ℤ) → k *ℤ x *ℤ y +ℤ k *ℤ a ≡ k *ℤ (x *ℤ y +ℤ a)
+pub times_step : (k x y a : ℤ) → k *ℤ x *ℤ y +ℤ k *ℤ a ≡ k *ℤ (x *ℤ y +ℤ a)
 times_step k x y a = same (dv k ⊗ dv x ⊗ dv y ⊕ dv k ⊗ dv a) (dv k ⊗ (dv x ⊗ dv y ⊕ dv a)) (omega arith)
 
 pub dot-plus : (xs ys zs : List ℤ) → length xs ≡ length ys → dot (vector_sum xs ys) zs ≡ dot xs zs +ℤ dot ys zs

@@ -39,10 +39,11 @@ use Rattle.gf_facets.specs.Rows.{rows_of_polynomials}
 use Rattle.gf_facets.specs.Systems.{unit, units}
 use Rattle.gf_facets.specs.LexPositive.{IsBefore}
 use Rattle.gf_facets.specs.Normals.{Ascends, AreNormals}
-use Rattle.gf_facets.proofs.PrimitiveLaws.{primitive_part, primitive_unique}
+use Rattle.gf_facets.proofs.PrimitiveLaws.{primitive_unique}
 use Rattle.gf_facets.proofs.UnitLaws.{dot-unit, unit_of, unit_there}
 use Rattle.gf_facets.proofs.VectorOrder.{before_strict, vectors_compare}
 use Rattle.gf_weights.proofs.FacetLoop.{ascends_at}
+use Rattle.gf_gordan.proofs.ExistenceLaws.{divided_exists}
 
 -- ---- ascending lists
 
@@ -98,7 +99,7 @@ collected : (r : List (List ℤ)) → (ys : List (List ℤ)) × IsCollected r ys
 collected [] = ([], record { rises = tt; only = λ a c. absurd (none_in a c); all = λ a t c p. absurd (none_in t c) })
 collected (t ∷ r) =
     let rest = collected r in
-    let v = primitive_part t in
+    let v = divided_exists t in
     let m = put_in rest.0 v.0 rest.1.rises in (
       m.0,
       record {
@@ -247,7 +248,7 @@ mates_of h p (x ∷ rays) =
     elim (sign_of (dot h x)) [
       | positive g ↦ without (λ d. omega (arith, ints, g, d))
       | none g ↦ without (λ d. omega (arith, ints, g, d))
-      | negative g ↦ let v = primitive_part (pair h p x) in record {
+      | negative g ↦ let v = divided_exists (pair h p x) in record {
         mates = v.0 ∷ k.mates;
         from = λ y c. elim (in_cons v.0 k.mates y c) [
           | inl e ↦ (x, in_head x rays, g, subst (IsPrimitivePart (pair h p x)) (sym e) v.1)

@@ -1,6 +1,7 @@
 use Rattle.std.proofs.Common.{◌-◌, arith}
-use Rattle.gf_poly.proofs.NeighboursLaws.{below_next, nonzero_at, above_next}
+use Rattle.gf_poly.proofs.NeighboursLaws.{below_next, above_next}
 use Rattle.gf_poly.proofs.descending.descend.Goals as goal
+use Rattle.gf_poly.proofs.MarkingLaws.{nonzero_at}
 
 pub terms-preserved : goal.terms-preserved
 terms-preserved c =
