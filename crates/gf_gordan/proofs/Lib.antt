@@ -12,10 +12,10 @@ mod BelowLaws  -- the recursion below the last equation
 pub mod AlternativeLaws  -- solutions, Farkas multipliers, and that none has both
 pub mod ExistenceLaws  -- each system has a solution or multipliers, and none has both
 mod CheckLaws  -- sums of multiples, and what the checks of a candidate say together
-mod SizeLaws  -- how large entries of multiples, sums, quotients and dot products are
+pub mod SizeLaws  -- how large entries of multiples, sums, quotients and dot products are
 mod ReducedSizes  -- how large the entries and contents of the system by a vector are
 mod PointSizes  -- how large points are
 mod ScaleSizes  -- how many multipliers aren't zero, how large the scale and the takings are
 mod MultiplierSizes  -- how large multipliers are
 mod StepSizes  -- no step leaves the range where the bounds have room
-mod ThreeColumns  -- with three columns and entries up to 500 they have
+pub mod ThreeColumns  -- with three columns and entries up to 500 they have
