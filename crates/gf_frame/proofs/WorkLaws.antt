@@ -1,0 +1,83 @@
+-- What is done with texts that are loaded is what the run of the command does.
+-- To cite: done_by, stopped_by, nothing_left, nothing_but_limit, text_stopped, answer_whole, once_along, once_alone, loaded_length. The rest are steps.
+use Rattle.std.specs.Prelude.{◌≡◌, ℕ, List, [], ◌∷◌, length}
+use Rattle.std.specs.Io.KnownBytes.{Appends}
+use Rattle.std.proofs.Common.{arith, refl, inl}
+use Rattle.std.proofs.KnownBytes.{Keeps-refl}
+use Rattle.gf_text.specs.declared.error.TextError.{TextError}
+use Rattle.gf_text.specs.declared.error.TextError.TheVariants as errors
+use Rattle.gf_front.specs.declared.refusal.Refusal.{Refusal}
+use Rattle.gf_front.specs.declared.refusal.Refusal.TheVariants as refusals
+use Rattle.gf_items.specs.Commands.{of_text}
+use Rattle.gf_frame.specs.Seen.{Seen, OutputSeen}
+use Rattle.gf_frame.specs.Loading.{Origin, AreLoaded}
+use Rattle.gf_frame.specs.Commands.{Writing, Command, WritesOnce, GoesAlong, IsWholeBy, IsOfWriting, IsAnswered, IsWholeFor, IsRefusedOn}
+use Rattle.gf_frame.specs.Runs.{TakesTurns, IsCarriedOut, IsDoneBy, IsStoppedBy, IsLeftInOutput, IsDoneOn, IsStoppedOn}
+use Rattle.gf_frame.proofs.CommandLaws.{IsLawful, refused_kind}
+
+carried_out : (c : Command) (writing : Writing c.Value) (texts : List (List ℕ)) (m : Seen) (o s : OutputSeen) (text : List ℕ) → (TakesTurns writing → ⊥) → IsAnswered c texts text → Appends o.held s.held text → IsCarriedOut c writing texts m m o s
+carried_out c Writing.at_end texts m o s text n a g = (refl, (text, a, g))
+carried_out c (Writing.as_it_goes whole begun) texts m o s text n a g = (refl, (text, a, g))
+carried_out c (Writing.in_turns turns) texts m o s text n a g = absurd (n tt)
+
+module _ (c : Command) (p q : Seen) (texts : List (List ℕ)) (o s : OutputSeen) (loaded : AreLoaded c.reads p q texts) where
+  pub done_by : IsDoneOn c texts o s → IsDoneBy c p q o s
+  done_by d = record { texts = texts; then = q; loaded = loaded; gone = carried_out c c.writing texts q o s d.text d.alone d.answered d.gained; calm = d.calm }
+
+  pub stopped_by : (r : Refusal) → IsStoppedOn c texts o s r → IsStoppedBy c p q o s r
+  stopped_by r (IsStoppedOn.in_work h left e) = IsStoppedBy.in_work texts loaded h left e
+  stopped_by r (IsStoppedOn.in_writing text w e rose part) = IsStoppedBy.in_writing texts text loaded w e rose part
+
+-- a refusal of a command that doesn't write as it goes leaves nothing
+pub nothing_left : (c : Command) → IsLawful c → (GoesAlong c.writing → ⊥) → (texts : List (List ℕ)) (o : OutputSeen) (r : Refusal) → IsRefusedOn c texts r → IsLeftInOutput c texts o o r
+nothing_left c laws n texts o r h = at r (refused_kind c laws texts r h)
+  where
+    at : (r : Refusal) → IsOfWriting c.writing r → IsLeftInOutput c texts o o r
+    at (refusals.ListLimit most) k = absurd (n k)
+    at r k = inl (Keeps-refl o.held)
+
+-- so does any refusal but that at the limit of a list
+pub nothing_but_limit : (c : Command) (texts : List (List ℕ)) (o : OutputSeen) (r : Refusal) → ((most : ℕ) → r ≡ refusals.ListLimit most → ⊥) → IsLeftInOutput c texts o o r
+nothing_but_limit c texts o (refusals.ListLimit most) n = absurd (n most refl)
+nothing_but_limit c texts o r n = inl (Keeps-refl o.held)
+
+text_no_limit : (e : TextError) (most : ℕ) → of_text e ≡ refusals.ListLimit most → ⊥
+text_no_limit (errors.Overflow o) most q = cc
+text_no_limit (errors.Exponent o) most q = cc
+text_no_limit (errors.Syntax s) most q = cc
+text_no_limit (errors.TooWide at) most q = cc
+text_no_limit (errors.UnknownName at) most q = cc
+text_no_limit (errors.TooManyVariables count) most q = cc
+text_no_limit (errors.ZeroPolynomial set index) most q = cc
+text_no_limit errors.Memory most q = cc
+
+-- a text that is refused leaves nothing
+pub text_stopped : (c : Command) (texts : List (List ℕ)) (o : OutputSeen) (e : TextError) → c.reading.IsRefused texts e → IsStoppedOn c texts o o (of_text e)
+text_stopped c texts o e h = IsStoppedOn.in_work (IsRefusedOn.in_text e h refl) (nothing_but_limit c texts o (of_text e) (text_no_limit e)) refl
+
+-- the answer of a command that writes once is its whole text
+pub answer_whole : (c : Command) (texts : List (List ℕ)) (text : List ℕ) → WritesOnce c.writing → IsAnswered c texts text → IsWholeFor c texts text
+answer_whole c texts text e a = record { value = a.value; read = a.read; formed = a.formed; is_whole = whole c.writing e }
+  where
+    whole : (writing : Writing c.Value) → WritesOnce writing → IsWholeBy writing c.IsAnswer a.value text
+    whole Writing.at_end e = a.is_answer
+    whole (Writing.as_it_goes w b) e = absurd e
+    whole (Writing.in_turns t) e = absurd e
+
+-- such a command neither writes as it goes nor takes turns
+pub once_along : {A : Type 0} (writing : Writing A) → WritesOnce writing → GoesAlong writing → ⊥
+once_along Writing.at_end e g = g
+once_along (Writing.as_it_goes w b) e g = e
+once_along (Writing.in_turns t) e g = e
+
+pub once_alone : {A : Type 0} (writing : Writing A) → WritesOnce writing → TakesTurns writing → ⊥
+once_alone Writing.at_end e t = t
+once_alone (Writing.as_it_goes w b) e t = e
+once_alone (Writing.in_turns u) e t = e
+
+-- there are as many texts as sources
+pub loaded_length : (os : List Origin) (p q : Seen) (ts : List (List ℕ)) → AreLoaded os p q ts → length ts ≡ length os
+loaded_length [] p q [] l = refl
+loaded_length [] p q (t ∷ ts) l = absurd l
+loaded_length (o ∷ os) p q [] l = absurd l
+loaded_length (o ∷ os) p q (t ∷ ts) l = let e = loaded_length os l.0 q ts l.2 in omega (arith, e)
