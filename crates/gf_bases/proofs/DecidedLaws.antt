@@ -1,16 +1,9 @@
 -- What is decided: that numbers are equal, what holds of the elements of a list, and which elements something holds of.
--- To cite: equal_or_not, search, each_or_not, Chosen, chosen.
-use Rattle.std.specs.Prelude.{◌≡◌, ◌⊎◌, ℕ, List, [], ◌∷◌, Contains}
+-- To cite: same_or_not, search, each_or_not, Chosen, chosen.
+use Rattle.std.specs.Prelude.{◌≡◌, ◌⊎◌, List, [], ◌∷◌, Contains}
 use Rattle.std.proofs.Common.{arith, sym, subst, inl, inr}
-use Rattle.std.proofs.lemmas.Bool.{cases_lt}
 use Rattle.gf_poly.specs.Marking.{Each}
 use Rattle.gf_ideal.proofs.ListLaws.{Contains-here, Contains-there, Contains-cases}
-
-pub equal_or_not : (a b : ℕ) → (a ≡ b) ⊎ (a ≡ b → ⊥)
-equal_or_not a b = elim (cases_lt a b) [
-  | inl l ↦ inr (λ e. absurd (omega arith))
-  | inr g ↦ elim (cases_lt b a) [ inl l ↦ inr (λ e. absurd (omega arith)) | inr h ↦ inl (omega arith) ]
-]
 
 -- each element is good, or one of them gives something else
 pub search : {A : Type 0} (Good : A → Type 0) (Other : Type 0) (xs : List A) →

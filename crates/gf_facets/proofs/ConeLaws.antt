@@ -17,9 +17,11 @@ use Rattle.gf_ideal.specs.Bases.{IsCanonical}
 use Rattle.gf_facets.specs.Rows.{differences, rows_of_polynomials, IsNormal}
 use Rattle.gf_facets.specs.Facets.{IsInClosedCone, IsInOpenCone}
 use Rattle.gf_facets.specs.MarkedBases.{AreCanonical}
-use Rattle.gf_facets.proofs.PrimitiveLaws.{primitive_part, divided-entry}
+use Rattle.gf_facets.proofs.PrimitiveLaws.{divided-entry}
 use Rattle.gf_poly.proofs.CoefficientLaws.{term_length}
-use Rattle.gf_facets.proofs.RowLaws.{same_or_other, row-in, IsTermRow, row-from, term_of, monomial_of, dot-differences}
+use Rattle.gf_facets.proofs.RowLaws.{row-in, IsTermRow, row-from, term_of, monomial_of, dot-differences}
+use Rattle.gf_gordan.proofs.ExistenceLaws.{divided_exists}
+use Rattle.gf_poly.proofs.InitialFormLaws.{same_or_not}
 
 -- ---- what a row gives
 
@@ -50,7 +52,7 @@ pub closed_by_rows : (n : ℕ) (bs : List MarkedPolynomial) (w : List ℤ) → A
 closed_by_rows n bs w k h b c x m = at (term_of b.poly x m)
   where
     at : ((t : Term) × Contains b.poly t × (same x t.mono ≡ true)) → whole_weight w x ≤ℤ whole_weight w b.head
-    at t = elim (same_or_other b.head t.0.mono) [
+    at t = elim (same_or_not b.head t.0.mono) [
       | inl s ↦ omega (arith, ints, whole_weight-same w x t.0.mono t.2, whole_weight-same w b.head t.0.mono s)
       | inr o ↦ omega (arith, ints, h (differences b.head t.0.mono) (row-in bs b t.0 c t.1 o), term_weights n b t.0 w (k b c) t.1, whole_weight-same w x t.0.mono t.2)
     ]
@@ -70,7 +72,7 @@ pub open_by_rows : (n : ℕ) (bs : List MarkedPolynomial) (w : List ℤ) → Are
 open_by_rows n bs w k h b c x m = at (term_of b.poly x m)
   where
     at : ((t : Term) × Contains b.poly t × (same x t.mono ≡ true)) → (same x b.head ≡ true) ⊎ (whole_weight w x <ℤ whole_weight w b.head)
-    at t = elim (same_or_other b.head t.0.mono) [
+    at t = elim (same_or_not b.head t.0.mono) [
       | inl s ↦ inl (same_trans x t.0.mono b.head t.2 (same_flip b.head t.0.mono s))
       | inr o ↦ inr (omega (arith, ints, h (differences b.head t.0.mono) (row-in bs b t.0 c t.1 o), term_weights n b t.0 w (k b c) t.1, whole_weight-same w x t.0.mono t.2))
     ]
@@ -79,7 +81,7 @@ open_by_rows n bs w k h b c x m = at (term_of b.poly x m)
 
 -- each row has its normal
 pub normal_from : (bs : List MarkedPolynomial) (t : List ℤ) → Contains (rows_of_polynomials bs) t → (a : List ℤ) × IsNormal bs a × IsPrimitivePart t a
-normal_from bs t c = let p = primitive_part t in (p.0, (t, c, p.1), p.1)
+normal_from bs t c = let p = divided_exists t in (p.0, (t, c, p.1), p.1)
 
 pub normals_closed : (n : ℕ) (bs : List MarkedPolynomial) (w : List ℤ) → AreCanonical n bs → IsInClosedCone w bs →
     (a : List ℤ) → IsNormal bs a → pos 0 ≤ℤ dot a w

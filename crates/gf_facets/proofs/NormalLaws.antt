@@ -27,11 +27,13 @@ use Rattle.gf_facets.specs.Beyond.{IsStepsFrom, IsFurther, IsBeyond}
 use Rattle.gf_facets.specs.MarkedBases.{AreCanonical}
 use Rattle.gf_facets.proofs.VectorLaws.{IsNonzero, vectors_by_entries, get-negated, length-negated, dot-negated, vector_or_not}
 use Rattle.gf_facets.proofs.WholeLaws.{no_multiple}
-use Rattle.gf_facets.proofs.PrimitiveLaws.{primitive_part, multiple_divided, primitive_unique, divided-entry}
+use Rattle.gf_facets.proofs.PrimitiveLaws.{multiple_divided, primitive_unique, divided-entry}
 use Rattle.gf_vec.proofs.EntryLaws.{entry_times}
 use Rattle.gf_vec.proofs.PrimitiveLaws.{primitive_of, primitive_opposite}
 use Rattle.gf_poly.proofs.CoefficientLaws.{term_length}
-use Rattle.gf_facets.proofs.RowLaws.{same_or_other, row-in, IsTermRow, row-from, term_of, monomial_of, length-differences, get-differences, dot-differences, differs}
+use Rattle.gf_facets.proofs.RowLaws.{row-in, IsTermRow, row-from, term_of, monomial_of, length-differences, get-differences, dot-differences, differs}
+use Rattle.gf_gordan.proofs.ExistenceLaws.{divided_exists}
+use Rattle.gf_poly.proofs.InitialFormLaws.{same_or_not}
 
 -- ---- normals
 
@@ -87,9 +89,9 @@ pub normal_of_monomial : (n : ℕ) (bs : List MarkedPolynomial) (b : MarkedPolyn
 normal_of_monomial n bs b x k c m u = at (term_of b.poly x m)
   where
     at : ((t : Term) × Contains b.poly t × (same x t.mono ≡ true)) → (a : List ℤ) × IsNormal bs a × ((j : ℕ) × (0 < j) × IsStepsFrom j a x b.head)
-    at t = elim (same_or_other b.head t.0.mono) [
+    at t = elim (same_or_not b.head t.0.mono) [
       | inl s ↦ absurd (let v : same x b.head ≡ true = same_trans x t.0.mono b.head t.2 (same_flip b.head t.0.mono s) in cc)
-      | inr o ↦ found o (primitive_part (differences b.head t.0.mono))
+      | inr o ↦ found o (divided_exists (differences b.head t.0.mono))
     ]
       where
         found : same b.head t.0.mono ≡ false → ((a : List ℤ) × IsPrimitivePart (differences b.head t.0.mono) a) →
@@ -146,9 +148,9 @@ beyond_of_inside n bs a v k one f b c = record { monic = one b c; tail = λ x m.
   where
     at : (x : Exponents) → HasMonomial b.poly x → ((t : Term) × Contains b.poly t × (same x t.mono ≡ true)) →
         (same x b.head ≡ true) ⊎ IsBeyond v (negated a) x b.head
-    at x m t = elim (same_or_other b.head t.0.mono) [
+    at x m t = elim (same_or_not b.head t.0.mono) [
       | inl s ↦ inl (same_trans x t.0.mono b.head t.2 (same_flip b.head t.0.mono s))
-      | inr o ↦ inr (along (further o (primitive_part (differences b.head t.0.mono))))
+      | inr o ↦ inr (along (further o (divided_exists (differences b.head t.0.mono))))
     ]
       where
         lengths : length b.head ≡ length t.0.mono
@@ -216,7 +218,7 @@ inside_of_beyond n cs a v k e prime nz o m h = record { normal = normal; zero = 
         (differences h.member.head t.0.mono, row-in cs h.member t.0 h.contained t.1 (apart h.member.head t.0.mono f), part h.member t.0 h.contained t.1 f)
       where
         apart : (x y : Exponents) → IsFurther a y x → same x y ≡ false
-        apart x y f = elim (same_or_other x y) [ inl s ↦ absurd (never x y s f) | inr q ↦ q ]
+        apart x y f = elim (same_or_not x y) [ inl s ↦ absurd (never x y s f) | inr q ↦ q ]
 
     positive : (b : List ℤ) → IsNormal cs b → (b ≡ negated a → ⊥) → pos 0 <ℤ dot b v
     positive b p other = at (row-from cs p.0 p.1)

@@ -10,8 +10,9 @@ use Rattle.gf_facets.specs.Rows.{rows_of_polynomials, IsNormal}
 use Rattle.gf_facets.specs.LexPositive.{IsBefore}
 use Rattle.gf_facets.specs.Normals.{Ascends, others_of}
 use Rattle.gf_facets.proofs.VectorLaws.{vector_or_not}
-use Rattle.gf_facets.proofs.PrimitiveLaws.{primitive_part, primitive_unique}
+use Rattle.gf_facets.proofs.PrimitiveLaws.{primitive_unique}
 use Rattle.gf_facets.proofs.VectorOrder.{before_strict}
+use Rattle.gf_gordan.proofs.ExistenceLaws.{divided_exists}
 
 -- ---- the list of normals
 
@@ -23,7 +24,7 @@ record PartsListed (rows : List (List ℤ)) : Type 0 where
 
 parts_listed : (rows : List (List ℤ)) → PartsListed rows
 parts_listed [] = record { list = []; only = λ a c. absurd (omega (arith, c.1)); all = λ t a c p. absurd (omega (arith, c.1)) }
-parts_listed (t ∷ rows) = at (primitive_part t) (parts_listed rows)
+parts_listed (t ∷ rows) = at (divided_exists t) (parts_listed rows)
   where
     at : ((u : List ℤ) × IsPrimitivePart t u) → PartsListed rows → PartsListed (t ∷ rows)
     at u r = record {

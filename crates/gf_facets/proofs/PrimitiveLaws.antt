@@ -1,24 +1,19 @@
 -- The primitive vector of a row: there is one and one alone.
--- To cite: primitive_part, not_all_zero, multiple_content, multiple_divided, primitive_unique, divided-entry.
+-- To cite: divided_exists, not_all_zero, multiple_content, multiple_divided, primitive_unique, divided-entry.
 use Rattle.std.specs.Prelude.{◌≡◌, ◌⊎◌, ℕ, zero, suc, ◌*◌, ◌<◌, List, [], ◌∷◌, get_or, ℤ, pos, negsuc, ◌*ℤ◌, unsigned_abs}
 use Rattle.std.specs.Int.{◌∣◌}
 use Rattle.std.proofs.Common.{arith, refl, sym, ap, ◌∙◌, ◌/◌, subst, inl, inr}
 use Rattle.std.proofs.lemmas.Int.{ints, unsigned_abs-mul}
 use Rattle.std.proofs.Math.IntN.{*ℤ-zero}
 use Rattle.std.proofs.Math.Nat.{dvd-mul_right, dvd_of_mul-dvd-mul_left, mul-div_cancel'}
-use Rattle.gf_int.specs.Content.{DividesAll, AllZero, IsContent, IsPrimitive, scaled, quotients}
+use Rattle.gf_int.specs.Content.{DividesAll, AllZero, IsContent, IsPrimitive, scaled}
 use Rattle.gf_int.proofs.ContentLaws.{IsContent-exists, IsContent-same}
 use Rattle.gf_vec.specs.Primitive.{IsDivided, IsPrimitivePart}
-use Rattle.gf_vec.proofs.DividedLaws.{IsDivided-quotients}
 use Rattle.gf_vec.proofs.EntryLaws.{entry_times, same_by}
 use Rattle.gf_vec.proofs.PrimitiveLaws.{times_cancel}
 use Rattle.gf_facets.proofs.VectorLaws.{IsNonzero}
 
 -- ---- divided by the content
-
--- each vector has its primitive part
-pub primitive_part : (t : List ℤ) → (a : List ℤ) × IsPrimitivePart t a
-primitive_part t = let c = IsContent-exists t in (quotients (pos c.0) t, (pos c.0, IsDivided-quotients t c.0 c.1))
 
 -- the divisor is a natural number
 natural_divisor : (t : List ℤ) (c : ℤ) (a : List ℤ) → IsDivided t c a →

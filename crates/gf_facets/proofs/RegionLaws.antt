@@ -7,7 +7,7 @@ use Rattle.std.proofs.lemmas.Int.{ints}
 use Rattle.std.proofs.lemmas.List.Elements.{All-from_recursion, recursion_from_All}
 use Rattle.gf_int.specs.Content.{scaled}
 use Rattle.gf_int.proofs.RingLaws.{dv, dn, dneg, ◌⊕◌, ◌⊗◌, same as same_number}
-use Rattle.gf_int.proofs.SignLaws.{0<-*ℤ, ≤ℤ-*ℤ, zero_of_*ℤ}
+use Rattle.gf_int.proofs.SignLaws.{0<-*ℤ, ≤ℤ-*ℤ, zero_of_*ℤ, square_not_negative}
 use Rattle.gf_vec.specs.Vector.{dot, vector_sum}
 use Rattle.gf_vec.proofs.VectorLaws.{dot_comm, dot-plus, dot-times, length-plus, length-times}
 use Rattle.gf_exponents.specs.Exponents.{Exponents, same, weight, whole_weight}
@@ -100,20 +100,16 @@ all_bounded a bs = collect (λ b m. IsBounded a b m) (λ b k l h p x n. omega (a
 
 -- ---- the weight
 
-square : (z : ℤ) → pos 0 ≤ℤ (z *ℤ z)
-square (pos a) = omega (arith, ints)
-square (negsuc a) = omega (arith, ints)
-
--- a vector that isn't zero has a positive square
+-- a vector that isn't zero has a positive square_not_negative
 pub dot-itself : (a : List ℤ) → IsNonzero a → pos 0 <ℤ dot a a
 dot-itself [] n = absurd (n.1 refl)
-dot-itself (x ∷ a) (zero, n) = let s = own_not_negative a in let z : (x *ℤ x ≡ pos 0) → ⊥ = (λ e. elim (zero_of_*ℤ x x e) [ inl p ↦ n p | inr p ↦ n p ]) in positive (x *ℤ x) (dot a a) (square x) z s
+dot-itself (x ∷ a) (zero, n) = let s = own_not_negative a in let z : (x *ℤ x ≡ pos 0) → ⊥ = (λ e. elim (zero_of_*ℤ x x e) [ inl p ↦ n p | inr p ↦ n p ]) in positive (x *ℤ x) (dot a a) (square_not_negative x) z s
   where
     positive : (p q : ℤ) → pos 0 ≤ℤ p → (p ≡ pos 0 → ⊥) → pos 0 ≤ℤ q → pos 0 <ℤ (p +ℤ q)
     positive (pos zero) q h n k = absurd (n refl)
     positive (pos (suc p)) q h n k = omega (arith, ints, k)
     positive (negsuc p) q h n k = absurd (omega (arith, ints, h))
-dot-itself (x ∷ a) (suc i, n) = omega (arith, ints, square x, dot-itself a (i, n))
+dot-itself (x ∷ a) (suc i, n) = omega (arith, ints, square_not_negative x, dot-itself a (i, n))
 
 -- with v inside, some vector of the region gives the marks that lighter by v or further along a gives
 pub beyond_weight : (n : ℕ) (k : Region) (v a : List ℤ) (bs : List MarkedPolynomial) → IsInRegion n k v →

@@ -1,7 +1,7 @@
 -- Rows and monomials: the row of each unmarked term is one of the rows, and each row is such a one.
--- To cite: same_or_other, row-in, IsTermRow, row-from, term_of, monomial_of, length-differences, get-differences,
+-- To cite: same_or_not, row-in, IsTermRow, row-from, term_of, monomial_of, length-differences, get-differences,
 -- dot-differences, differs, rows-append, rows_by_terms.
-use Rattle.std.specs.Prelude.{◌≡◌, ◌⊎◌, ℕ, zero, suc, Bool, true, false, if◌then◌else◌, List, [], ◌∷◌, length, get_or, Contains, ℤ, pos, ◌+ℤ◌, ◌-ℤ◌, ◌*ℤ◌}
+use Rattle.std.specs.Prelude.{◌≡◌, ◌⊎◌, ℕ, zero, suc, true, false, if◌then◌else◌, List, [], ◌∷◌, length, get_or, Contains, ℤ, pos, ◌+ℤ◌, ◌-ℤ◌, ◌*ℤ◌}
 use Rattle.std.proofs.Common.{arith, refl, sym, ap, ◌∙◌, subst, inl, inr}
 use Rattle.std.proofs.lemmas.Int.{ints}
 use Rattle.std.proofs.lemmas.List.Elements.{Contains-append_left, Contains-append_right, Contains-append_cases}
@@ -18,18 +18,11 @@ use Rattle.gf_ideal.proofs.ListLaws.{Contains-here, Contains-there, Contains-cas
 use Rattle.gf_ideal.proofs.ListedTerms.{listed}
 use Rattle.gf_ideal.proofs.KeptForms.{term_there}
 use Rattle.gf_facets.specs.Rows.{differences, row_between, rows_of_terms, rows_of_polynomials}
+use Rattle.gf_poly.proofs.InitialFormLaws.{same_or_not}
 
 -- ---- the members' rows
 
--- whether two monomials are the same
-pub same_or_other : (x y : Exponents) → (same x y ≡ true) ⊎ (same x y ≡ false)
-same_or_other x y = at (same x y)
-  where
-    at : (b : Bool) → (b ≡ true) ⊎ (b ≡ false)
-    at true = inl refl
-    at false = inr refl
-
-row-is : (x y : Exponents) → same x y ≡ false → row_between x y ≡ differences x y ∷ []
+pub row-is : (x y : Exponents) → same x y ≡ false → row_between x y ≡ differences x y ∷ []
 row-is x y e = ap (λ b. if b then [] else (differences x y ∷ [])) e
 
 row-none : (x y : Exponents) → same x y ≡ true → row_between x y ≡ []
@@ -66,7 +59,7 @@ pub record IsTermRow (x : Exponents) (f : Terms) (r : List ℤ) : Type 0 where
 
 row-term : (x : Exponents) (f : Terms) (r : List ℤ) → Contains (rows_of_terms x f) r → IsTermRow x f r
 row-term x [] r c = absurd (omega (arith, c.1))
-row-term x (t ∷ f) r c = at (Contains-append_cases (row_between x t.mono) (rows_of_terms x f) r c) (same_or_other x t.mono) (λ k. row-term x f r k)
+row-term x (t ∷ f) r c = at (Contains-append_cases (row_between x t.mono) (rows_of_terms x f) r c) (same_or_not x t.mono) (λ k. row-term x f r k)
   where
     at : Contains (row_between x t.mono) r ⊎ Contains (rows_of_terms x f) r → (same x t.mono ≡ true) ⊎ (same x t.mono ≡ false) →
         (Contains (rows_of_terms x f) r → IsTermRow x f r) → IsTermRow x (t ∷ f) r

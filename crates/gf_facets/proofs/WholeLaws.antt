@@ -18,6 +18,7 @@ use Rattle.gf_int.specs.Content.{scaled}
 use Rattle.gf_vec.specs.Vector.{dot, vector_sum}
 use Rattle.gf_facets.specs.Beyond.{IsFurther, IsBeyond}
 use Rattle.gf_facets.proofs.VectorLaws.{three, IsNonzero}
+use Rattle.gf_vec.proofs.VectorLaws.{times_step}
 
 -- the weight of a product
 pub weight-product : (w : List ℤ) (x y : Exponents) → whole_weight w (plus x y) ≡ whole_weight w x +ℤ whole_weight w y
@@ -27,9 +28,6 @@ weight-product w x y = omega (arith, ints, weight_split w (plus x y), weight_spl
 
 spread : (v w x p q : ℤ) → (v +ℤ w) *ℤ x +ℤ (p +ℤ q) ≡ (v *ℤ x +ℤ p) +ℤ (w *ℤ x +ℤ q)
 spread v w x p q = same_number ((dv v ⊕ dv w) ⊗ dv x ⊕ (dv p ⊕ dv q)) ((dv v ⊗ dv x ⊕ dv p) ⊕ (dv w ⊗ dv x ⊕ dv q)) (omega arith)
-
-factored : (k v x p : ℤ) → k *ℤ v *ℤ x +ℤ k *ℤ p ≡ k *ℤ (v *ℤ x +ℤ p)
-factored k v x p = same_number (dv k ⊗ dv v ⊗ dv x ⊕ dv k ⊗ dv p) (dv k ⊗ (dv v ⊗ dv x ⊕ dv p)) (omega arith)
 
 pub weight-sum : (v w : List ℤ) (x : Exponents) → length v ≡ length w → whole_weight (vector_sum v w) x ≡ whole_weight v x +ℤ whole_weight w x
 weight-sum [] [] x e = refl
@@ -41,7 +39,7 @@ weight-sum (a ∷ v) (b ∷ w) (c ∷ x) e = ap (λ z. (a +ℤ b) *ℤ pos c +�
 pub weight-multiple : (k : ℤ) (v : List ℤ) (x : Exponents) → whole_weight (scaled k v) x ≡ k *ℤ whole_weight v x
 weight-multiple k [] x = sym (*ℤ-zero k)
 weight-multiple k (a ∷ v) [] = sym (*ℤ-zero k)
-weight-multiple k (a ∷ v) (c ∷ x) = ap (λ z. k *ℤ a *ℤ pos c +ℤ z) (weight-multiple k v x) ∙ factored k a (pos c) (whole_weight v x)
+weight-multiple k (a ∷ v) (c ∷ x) = ap (λ z. k *ℤ a *ℤ pos c +ℤ z) (weight-multiple k v x) ∙ times_step k a (pos c) (whole_weight v x)
 
 -- ---- monomials a multiple apart
 
