@@ -14,4 +14,5 @@ pub mod ChildLaws  -- which neighbours are children
 pub mod ListLaws  -- paths, and the list of all bases
 pub mod LeftLaws  -- what a walker has left, by whole paths
 pub mod StartLaws  -- a reduced basis for an order is a node
+pub mod TermOrderLaws  -- a term order as a weight, and its reduced basis
 pub mod LawsHold  -- the theorems of specs/Laws.antt

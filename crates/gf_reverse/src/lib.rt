@@ -4,6 +4,7 @@
 //! is a theorem, so that the check proves it.
 #![tactic(auto)]
 
+ghost use Rattle.gf_reverse.specs.TermOrders.{TermOrdersHaveBases};
 ghost use Rattle.gf_reverse.specs.Laws.{BasesAreListed, WeightsAreListed, NegativeNormalsCanBeCrossed, RootHasNoWayUp, CrossingsFall, NoCycles, BasesMakeATree, TheTreeIsFinite, BasesHavePaths, WhatIsLeft};
 
 /// The list of all bases holds exactly the marked reduced Gröbner bases of the ideal in the region (Mora, Robbiano 1988).
@@ -57,4 +58,10 @@ pub fn bases_have_paths()
 /// A walker's step answers the first of the bases that were left and leaves the others.
 pub fn what_is_left()
     ensures { WhatIsLeft }
+{}
+
+/// For each term order an ideal has one reduced basis, and some positive weight gives it: of the comparisons of finitely many monomials, each
+/// is one of a positive weight (Sturmfels, *Gröbner Bases and Convex Polytopes*, 1).
+pub fn term_orders_have_bases()
+    ensures { TermOrdersHaveBases }
 {}
