@@ -1,6 +1,6 @@
 -- What holds of the lineality vectors and the rays after each inequality.
 use Rattle.gf_duality.proofs.ListLaws.{none_in, in_head, in_tail, in_cons, in_rest, stood, of_rest, rest_cover, in_last, in_more}
-use Rattle.gf_duality.specs.Stages.{IsLeveled}
+use Rattle.gf_duality.specs.Straightening.{IsLeveled}
 use Rattle.gf_duality.specs.Combining.{pair}
 use Rattle.gf_duality.specs.Generators.{Made, nothing, ray, line, multiplied, AreValid, IsDescribed, divided}
 use Rattle.std.proofs.Common.{◌≡◌, ◌≢◌, ℕ, zero, suc, ◌+◌, ◌-◌, ◌<◌, List, [], ◌∷◌, ◌++◌, length, ℤ, pos, negsuc, ◌+ℤ◌, ◌-ℤ◌, ◌*ℤ◌, neg_ℤ, ◌<ℤ◌, ◌≤ℤ◌, arith, sym, refl, ap, ◌∙◌, subst, Contains, ◌⊎◌, inl, inr, remove, get_or}

@@ -20,7 +20,6 @@ pub mod RaySums  -- the sum of rays
 pub mod Interior  -- the sum of the rays
 pub mod FacetRows  -- facet rows, by witnesses
 pub mod Facets  -- each facet row has a witness
-pub mod StageLaws  -- what is made is in the next stage
 pub mod Implied  -- rows that are zero on the whole cone
 pub mod Sums  -- sums of rays as weights and witnesses
 mod LawsHold  -- what functions of this crate name

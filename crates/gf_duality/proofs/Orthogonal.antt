@@ -1,6 +1,6 @@
 -- Orthogonal lineality vectors, and rays brought to be orthogonal to them.
 use Rattle.gf_duality.proofs.ListLaws.{none_in, in_head, in_tail, in_cons, in_last, in_more}
-use Rattle.gf_duality.specs.Stages.{IsLeveled, IsStraightened, done, next, IsOrthogonalized, start, added, gone}
+use Rattle.gf_duality.specs.Straightening.{IsLeveled, IsStraightened, done, next, IsOrthogonalized, start, added, gone}
 use Rattle.gf_duality.specs.Generators.{Made, nothing, ray, line, summed, multiplied, divided, IsDescribed}
 use Rattle.std.proofs.Common.{◌≡◌, ℕ, List, [], ◌∷◌, ◌++◌, length, ℤ, pos, ◌+ℤ◌, ◌*ℤ◌, neg_ℤ, ◌<ℤ◌, ◌≤ℤ◌, arith, sym, refl, ap, ◌∙◌, subst, Contains, inl, inr}
 use Rattle.std.proofs.lemmas.Int.{ints}

@@ -12,7 +12,7 @@ use Rattle.gf_gordan.specs.Steps.{Failed}
 use Rattle.gf_gordan.specs.declared.error.GordanError.{GordanError}
 use Rattle.gf_gordan.specs.declared.error.GordanError.TheVariants as gordan_errors
 use Rattle.gf_duality.specs.Rays.{IsRays, Satisfies}
-use Rattle.gf_duality.specs.Stages.{IsRaysStep}
+use Rattle.gf_rays.specs.Reached.{IsRaysStep}
 use Rattle.gf_duality.proofs.ListLaws.{all_by, zip_from}
 use Rattle.gf_fans.specs.FaceLists.{numbered}
 use Rattle.gf_fans.proofs.PartNumbers.{of_number}

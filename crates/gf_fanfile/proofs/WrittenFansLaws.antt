@@ -17,6 +17,7 @@ use Rattle.gf_fans.proofs.PartNumbers.{in_map, of_map}
 use Rattle.gf_rays.specs.Cones.{RowsAndRays, rows_of}
 use Rattle.gf_fan.specs.declared.cones.FanCone.{FanCone}
 use Rattle.gf_fan.specs.FanLists.{FanLists}
+use Rattle.gf_fan.specs.Parts.{HaveTheirRays}
 use Rattle.gf_fan.specs.FansOfCones.{IsFanOf, IsFan, IsCommonLineality}
 use Rattle.gf_fanfile.specs.declared.parts.ListedCone.{ListedCone}
 use Rattle.gf_fanfile.specs.ConeText.{most_number}
@@ -24,7 +25,7 @@ use Rattle.gf_fanfile.specs.Files.{IsOutside, AreBelow}
 use Rattle.gf_fanfile.specs.FansAgain.{AreWritable, IsWritableCone, IsWritable, file_of}
 use Rattle.gf_fanfile.specs.FanTexts.{listed_cone, listed_cones, one_listed, listed_at, parts_of_fan}
 use Rattle.gf_fanfile.specs.FilesFans.{IsGeneratedCone}
-use Rattle.gf_fanfile.specs.WrittenFans.{HaveTheirRays, WrittenFansAreSound, IsConeAt, WrittenConesAreRead}
+use Rattle.gf_fanfile.specs.WrittenFans.{WrittenFansAreSound, IsConeAt, WrittenConesAreRead}
 
 -- ---- rays and the lineality space
 

@@ -9,7 +9,7 @@ use Rattle.gf_gordan.specs.declared.error.GordanError.{GordanError}
 use Rattle.gf_gordan.specs.declared.error.GordanError.TheVariants as gordan_errors
 use Rattle.gf_duality.specs.Rays.{Generated, IsRays}
 use Rattle.gf_duality.specs.Faces.{IsInCone}
-use Rattle.gf_duality.specs.Stages.{IsRaysStep}
+use Rattle.gf_rays.specs.Reached.{IsRaysStep}
 use Rattle.gf_fans.specs.FaceLists.{numbered}
 use Rattle.gf_rays.specs.Cones.{RowsAndRays, rows_of}
 use Rattle.gf_fan.specs.declared.error.FanError.{FanError}

@@ -1,21 +1,17 @@
 -- The text of a fan says a file whose cones can be built, and they are the cones that were written.
 -- Laws: proofs/WrittenFansLaws.antt.
-use Rattle.std.specs.Prelude.{◌≡◌, ◌<◌, ℕ, List, Contains, Some, slice_get}
+use Rattle.std.specs.Prelude.{◌≡◌, ◌<◌, ℕ, List, Some, slice_get}
 use Rattle.std.specs.List.{AllZip}
-use Rattle.gf_duality.specs.Rays.{IsRays}
 use Rattle.gf_duality.specs.Faces.{SameCone}
 use Rattle.gf_rays.specs.Cones.{RowsAndRays, rows_of}
 use Rattle.gf_fan.specs.declared.cones.FanCone.{FanCone}
 use Rattle.gf_fan.specs.FanLists.{FanLists}
+use Rattle.gf_fan.specs.Parts.{HaveTheirRays}
 use Rattle.gf_fan.specs.FansOfCones.{IsFanOf}
 use Rattle.gf_fanfile.specs.Files.{IsSoundFile}
 use Rattle.gf_fanfile.specs.FansAgain.{file_of}
 use Rattle.gf_fanfile.specs.FanTexts.{parts_of_fan}
 use Rattle.gf_fanfile.specs.FilesFans.{AreConesOfFile}
-
--- the lineality basis and the rays of each of these cones are those of its rows
-abbrev pub HaveTheirRays : ℕ → List RowsAndRays → Type 0
-HaveTheirRays n cones = (c : RowsAndRays) → Contains cones c → IsRays n c.inequalities c.equations c.lineality c.rays
 
 -- what is written of a fan is a file whose cones can be built: its rays lie outside its lineality space, and numbers are those of rays
 abbrev pub WrittenFansAreSound : Type 0

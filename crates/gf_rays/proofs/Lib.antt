@@ -8,8 +8,11 @@ mod LevelLaws  -- a vector brought along another one
 mod LinedLaws  -- the state after an inequality that is not zero on a lineality vector
 mod StateLaws  -- what a state says of widths and flags
 mod StraightLaws  -- a vector straightened along one vector more
-mod StepLaws  -- what a refusal says
+mod StepLaws  -- the operations of one inequality
 mod FinishLaws  -- from the last state to the rays
+pub mod ReachedLaws  -- what holds of the states that are reached
+pub mod ReachedSizes  -- how large the entries of reached states are
+pub mod RoomLaws  -- bounds with room for any equations and lineality space
 mod ImpliedLaws  -- inequalities that are zero on all rays
 mod SumLaws  -- sums of lists of vectors
 pub mod OrderLaws  -- vectors in lexicographic order: sorted, ascending, each once

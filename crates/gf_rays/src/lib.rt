@@ -14,6 +14,7 @@ mod facets;
 mod finish;
 mod flags;
 mod implied;
+mod laws;
 mod level;
 mod numbers;
 mod part;
@@ -29,5 +30,6 @@ mod zeros;
 
 pub use faces::Face;
 pub use facets::listed;
+pub use laws::{small_systems_stay_within_limits, systems_with_room_stay_within_limits};
 pub use numbers::Numbers;
 pub use rays::Rays;

@@ -15,7 +15,7 @@ use Rattle.gf_vec.specs.Steps.{IfWide}
 use Rattle.gf_duality.specs.Generators.{unit_vectors}
 use Rattle.gf_duality.specs.Rays.{IsRays, IsImplied, IsZeroOn}
 use Rattle.gf_duality.specs.Faces.{IsFacetRow, AreFacetRows, cone_of}
-use Rattle.gf_duality.specs.Stages.{IsRaysStep}
+use Rattle.gf_rays.specs.Reached.{IsRaysStep}
 use Rattle.gf_duality.proofs.ListLaws.{all_by}
 use Rattle.gf_sections.specs.ConeRows.{AreAscending}
 use Rattle.gf_sections.specs.Flagged.{AreFlagsOf, flagged}

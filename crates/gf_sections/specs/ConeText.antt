@@ -9,7 +9,7 @@ use Rattle.gf_gordan.specs.Equations.{IsStepOn}
 use Rattle.gf_duality.specs.Generators.{unit_vectors}
 use Rattle.gf_duality.specs.Rays.{IsZeroOn}
 use Rattle.gf_duality.specs.Faces.{sum_of}
-use Rattle.gf_duality.specs.Stages.{IsRaysStep}
+use Rattle.gf_rays.specs.Reached.{IsRaysStep}
 use Rattle.gf_rays.specs.Parts.{zeros_of}
 use Rattle.gf_rays.specs.Sums.{adding_steps}
 use Rattle.gf_sections.specs.ConeRows.{AreConeRows, given_rows}

@@ -9,7 +9,7 @@ use Rattle.gf_gordan.specs.Alternative.{AreRows}
 use Rattle.gf_gordan.specs.declared.error.GordanError.{GordanError}
 use Rattle.gf_gordan.specs.Steps.{Failed}
 use Rattle.gf_duality.specs.Rays.{IsEchelon, Generated}
-use Rattle.gf_duality.specs.Stages.{IsRaysStep}
+use Rattle.gf_rays.specs.Reached.{IsRaysStep}
 use Rattle.gf_facets.specs.Rows.{rows_of_polynomials}
 
 -- all terms of f have one weight by w

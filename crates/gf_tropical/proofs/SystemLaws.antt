@@ -1,12 +1,12 @@
 -- The systems of rows that fans come of.
-use Rattle.std.proofs.Common.{◌≡◌, ℕ, List, [], ◌∷◌, ◌++◌, map, ℤ, All, Any, Contains, refl, sym, ap₂, subst, inl, inr}
+use Rattle.std.proofs.Common.{◌≡◌, ℕ, List, [], ◌∷◌, ◌++◌, map, length, length-append, ℤ, ◌≢◌, Any, Contains, arith, refl, sym, ap, ap₂, ◌∙◌, subst, inl, inr}
 use Rattle.gf_gordan.specs.declared.error.ConeOverflow.{ConeOverflow}
 use Rattle.gf_gordan.specs.declared.error.GordanError.{GordanError}
 use Rattle.gf_gordan.specs.declared.error.GordanError.TheVariants as gordan
 use Rattle.gf_gordan.specs.Steps.{Failed}
 use Rattle.gf_duality.specs.Faces.{Rows, part}
-use Rattle.gf_duality.specs.Stages.{IsRaysStep}
-use Rattle.gf_duality.proofs.ListLaws.{none_in, in_head, in_cons, all_by}
+use Rattle.gf_rays.specs.Reached.{IsRaysStep}
+use Rattle.gf_duality.proofs.ListLaws.{none_in, in_head, in_cons}
 use Rattle.gf_fans.specs.Fans.{meet}
 use Rattle.gf_fans.specs.FaceLists.{numbered}
 use Rattle.gf_fans.proofs.PartNumbers.{in_map}
@@ -14,8 +14,8 @@ use Rattle.gf_rays.specs.Cones.{RowsAndRays, rows_of}
 use Rattle.gf_fan.specs.declared.cones.FanCone.{FanCone}
 use Rattle.gf_fan.specs.FanLists.{FanLists}
 use Rattle.gf_fan.specs.FansOfCones.{vanishing_rows}
+use Rattle.gf_fan.specs.FaceSystems.{IsFaceSystem}
 use Rattle.gf_fan.specs.Refusals.{IsFacesStep}
-use Rattle.gf_fan.proofs.ZeroRowLaws.{are_zero_rows}
 use Rattle.gf_refine.specs.FansRefined.{IsPartOfMeet}
 use Rattle.gf_refine.specs.Refusals.{IsRefineStep}
 use Rattle.gf_poly.specs.Polynomial.{Terms}
@@ -26,21 +26,11 @@ use Rattle.gf_tropical.specs.declared.error.TropicalError.TheVariants.{Cone, Zer
 use Rattle.gf_tropical.specs.declared.kind.Kind.{Kind}
 use Rattle.gf_tropical.specs.declared.kind.Kind.TheVariants.{Prevariety, Minkowski}
 use Rattle.gf_tropical.specs.Kinds.{IsConeBy}
-use Rattle.gf_tropical.specs.Systems.{IsSystemOf, start, whole, face, both}
+use Rattle.gf_tropical.specs.Systems.{IsSystemOf, whole, own, both, IsFanSystem, one, more}
 use Rattle.gf_tropical.specs.Refusals.{tropical_of_gordan, IsTropicalRefusal, IsTropicalWithinLimits}
-use Rattle.gf_tropical.specs.Making.{IsFanOfRows, AreOfSystems, IsStepOf, IsWidthRefusal}
+use Rattle.gf_tropical.specs.Making.{IsFanOfRows, AreOfSystems, IsStepOf, IsOfCones, of_one, space, IsStepOfCones, IsWidthRefusal}
 
 -- ---- systems
-
--- what comes of systems of others is one of theirs
-pub systems_into : (F G : Rows → Type 0) (c : Rows) → ((d : Rows) → F d → IsSystemOf G d) → IsSystemOf F c → IsSystemOf G c
-systems_into F G c to (start d x) = to d x
-systems_into F G c to (whole d e) = whole d e
-systems_into F G c to (face d f zero own e x) = face d f zero own e (systems_into F G d to x)
-systems_into F G c to (both d e f is x y) = both d e f is (systems_into F G d to x) (systems_into F G e to y)
-
-pub step_into : (F G : Rows → Type 0) (n : ℕ) (s : ConeOverflow) → ((d : Rows) → F d → IsSystemOf G d) → IsStepOf F n s → IsStepOf G n s
-step_into F G n s to x = record { system = x.system; is_system = systems_into F G x.system to x.is_system; step = x.step }
 
 pub IsWidthRefusal-weaker : (P Q : ConeOverflow → Type 0) (e : TropicalError) → ((s : ConeOverflow) → P s → Q s) → IsWidthRefusal P e → IsWidthRefusal Q e
 IsWidthRefusal-weaker P Q (Cone s) to x = to s x
@@ -59,73 +49,90 @@ pair_cones_by A cones s c k = let p = s.each c k in record { of = A; listed = in
 pub single_cones_by : (A : List (List ℤ)) (cones : List Rows) → AreSingleCones A cones → (c : Rows) → Contains cones c → IsConeBy Minkowski (A ∷ []) c
 single_cones_by A cones s c k = let p = s.each c k in record { of = A; listed = in_head A []; i = p.0; inside = p.1.0; rows = p.1.1 }
 
--- the cones of one of the polynomials are cones of them all
-pub more_cones : (kind : Kind) (As Bs : List (List (List ℤ))) → ((A : List (List ℤ)) → Contains As A → Contains Bs A) → (c : Rows) → IsConeBy kind As c → IsSystemOf (IsConeBy kind Bs) c
-more_cones Prevariety As Bs within c x = start c (record { of = x.of; listed = within x.of x.listed; i = x.i; j = x.j; ordered = x.ordered; inside = x.inside; rows = x.rows })
-more_cones Minkowski As Bs within c x = start c (record { of = x.of; listed = within x.of x.listed; i = x.i; inside = x.inside; rows = x.rows })
-
 -- ---- the fan of cones by rows
-
--- the inequalities that are zero on a face
-vanishing_own : (rows vectors : List (List ℤ)) → All (Contains rows) (vanishing_rows rows vectors)
-vanishing_own rows vectors = all_by (Contains rows) (vanishing_rows rows vectors) (λ t c. ((are_zero_rows rows vectors).each t c).0)
 
 given_listed : (given : List RowsAndRays) (cones : List Rows) (c : RowsAndRays) → map rows_of given ≡ cones → Contains given c → Contains cones (rows_of c)
 given_listed given cones c e k = subst (λ z. Contains z (rows_of c)) e (in_map rows_of given c k)
 
--- a cone of the fan is a part of one of the cones
-pub fan_systems : (n : ℕ) (cones : List Rows) (h : FanLists) → IsFanOfRows n cones h → AreOfSystems (Contains cones) h
+-- a cone of the fan is a face of one of the cones
+pub fan_systems : (n : ℕ) (cones : List Rows) (h : FanLists) → IsFanOfRows n cones h → (k : FanCone) → Contains h.cones k → (c : Rows) × (Contains cones c × IsFaceSystem n c (rows_of k.cone))
 fan_systems n cones h s k c =
     let a = s.fan.cones.each k c in
-    let o : RowsAndRays = a.origin in
-    let flat : List (List ℤ) = vanishing_rows o.inequalities (numbered h.rays k.numbers) in
-    face (rows_of o) (rows_of k.cone) flat (vanishing_own o.inequalities (numbered h.rays k.numbers)) (ap₂ (λ (i j : List (List ℤ)). record { inequalities = i; equations = j }) a.inequalities a.equations) (start (rows_of o) (given_listed s.given cones o s.rows a.listed))
+    let o : RowsAndRays = a.origin in (
+      rows_of o,
+      (
+        given_listed s.given cones o s.rows a.listed,
+        record { lineality = h.lineality; rays = numbered h.rays k.numbers; are_rays = a.face.are_rays; rows = ap₂ (λ (i j : List (List ℤ)). record { inequalities = i; equations = j }) a.inequalities a.equations },
+      ),
+    )
 
 -- an operation of finding the rays of one of the cones
-pub step_of_cone : (n : ℕ) (cones : List Rows) (s : ConeOverflow) → Any (λ (c : Rows). IsRaysStep n c.inequalities c.equations s) cones → IsStepOf (Contains cones) n s
-step_of_cone n cones s a = record { system = a.1; is_system = start a.1 (a.0, a.2, a.3); step = a.4 }
+pub step_of_cone : (n : ℕ) (cones : List Rows) (s : ConeOverflow) → Any (λ (c : Rows). IsRaysStep n c.inequalities c.equations s) cones → IsStepOfCones n cones s
+step_of_cone n cones s a = record { system = a.1; is_system = of_one a.1 a.1 (a.0, a.2, a.3) (inl refl); step = a.4 }
 
 -- an operation of listing the faces
-pub step_of_faces : (n : ℕ) (given : List RowsAndRays) (cones : List Rows) (s : ConeOverflow) → map rows_of given ≡ cones → IsFacesStep n given s → IsStepOf (Contains cones) n s
-step_of_faces n given cones s e (inl x) =
-    let o : RowsAndRays = x.origin in
-    let flat : List (List ℤ) = vanishing_rows o.inequalities x.part in
-    record {
-      system = part (rows_of o) flat;
-      is_system = face (rows_of o) (part (rows_of o) flat) flat (vanishing_own o.inequalities x.part) refl (start (rows_of o) (given_listed given cones o e x.listed));
-      step = x.step;
-    }
-step_of_faces n given cones s e (inr x) = record { system = whole_space; is_system = whole whole_space refl; step = x.1 }
+pub step_of_faces : (n : ℕ) (rays : List RowsAndRays) (cones : List Rows) (s : ConeOverflow) → map rows_of rays ≡ cones → IsFacesStep n rays s → IsStepOfCones n cones s
+step_of_faces n rays cones s e (inl x) = record { system = x.face; is_system = of_one (rows_of x.origin) x.face (given_listed rays cones x.origin e x.listed) (inr x.is_face); step = x.step }
+step_of_faces n rays cones s e (inr x) = record { system = whole_space; is_system = space whole_space refl; step = x.1 }
+
+-- the faces of the whole space are the whole space
+whole_face : (n : ℕ) (c f : Rows) → c ≡ whole_space → IsFaceSystem n c f → f ≡ whole_space
+whole_face n c f e x = x.rows ∙ ap (λ (r : Rows). part r (vanishing_rows r.inequalities x.rays)) e
+
+-- of the cones of no polynomial
+pub step_of_none : (kind : Kind) (n : ℕ) (cones : List Rows) (s : ConeOverflow) → cones ≡ whole_space ∷ [] → IsStepOfCones n cones s → IsStepOf kind n [] s
+step_of_none kind n cones s e x = record { system = x.system; is_system = whole x.system (is x.system x.is_system); step = x.step }
+  where
+    cone : (c : Rows) → Contains cones c → c ≡ whole_space
+    cone c k = elim (in_cons whole_space [] c (subst (λ z. Contains z c) e k)) [ inl q ↦ q | inr i ↦ absurd (none_in c i) ]
+
+    is : (f : Rows) → IsOfCones n cones f → f ≡ whole_space
+    is f (of_one c g k (inl q)) = q ∙ cone c k
+    is f (of_one c g k (inr y)) = whole_face n c f (cone c k) y
+    is f (space g q) = q
+
+-- of those of one polynomial
+pub step_of_one : (kind : Kind) (n : ℕ) (As : List (List (List ℤ))) (A : List (List ℤ)) (cones : List Rows) (s : ConeOverflow) → Contains As A → ((c : Rows) → Contains cones c → IsConeBy kind (A ∷ []) c) → IsStepOfCones n cones s → IsStepOf kind n As s
+step_of_one kind n As A cones s l by x = record { system = x.system; is_system = is x.system x.is_system; step = x.step }
+  where
+    is : (f : Rows) → IsOfCones n cones f → IsSystemOf (IsConeBy kind) n As f
+    is f (of_one c g k y) = own A c f l (by c k) y
+    is f (space g q) = whole f q
+
+-- an operation that the set has too
+pub step_listed : (kind : Kind) (n : ℕ) (As : List (List (List ℤ))) (A : List (List ℤ)) (s : ConeOverflow) → Contains As A → IsStepOf kind n (A ∷ []) s → IsStepOf kind n As s
+step_listed kind n As A s l x = record { system = x.system; is_system = is x.system x.is_system; step = x.step }
+  where
+    is : (f : Rows) → IsSystemOf (IsConeBy kind) n (A ∷ []) f → IsSystemOf (IsConeBy kind) n As f
+    is f (whole g q) = whole f q
+    is f (own B c g k y z) = own A c f l (subst (λ D. IsConeBy kind (D ∷ []) c) (elim (in_cons A [] B k) [ inl e ↦ e | inr i ↦ absurd (none_in B i) ]) y) z
+    is f (both [] after B c d g e nz p q y) = absurd (nz refl)
+    is f (both (C ∷ before) after B c d g e nz p q y) = absurd (let z = ap length e in let w = length-append before (B ∷ after) in omega (arith, z, w))
 
 -- an operation of finding a common refinement
-pub step_of_refining : (First : Rows → Type 0) (n : ℕ) (f g : FanLists) (s : ConeOverflow) → f.ambient ≡ n → AreOfSystems First f → AreOfSystems First g → IsRefineStep f g s → IsStepOf First n s
-step_of_refining First n f g s e p q (inl x) =
+pub step_of_refining : (kind : Kind) (n : ℕ) (As before after : List (List (List ℤ))) (A : List (List ℤ)) (f g : FanLists) (s : ConeOverflow) → As ≡ before ++ A ∷ after → before ≢ [] → f.ambient ≡ n →
+    AreOfSystems kind n before f → AreOfSystems kind n (A ∷ []) g → IsRefineStep f g s → IsStepOf kind n As s
+step_of_refining kind n As before after A f g s is nz e p q (inl x) =
     let c : Rows = rows_of x.c.cone in let d : Rows = rows_of x.d.cone in let m : Rows = meet c d in
-    let of : IsSystemOf First m = both c d m refl (p x.c x.first) (q x.d x.second) in
     elim x.step [
-      | inl y ↦ record { system = m; is_system = of; step = subst (λ k. IsRaysStep k m.inequalities m.equations s) e y }
-      | inr y ↦
-          let flat : List (List ℤ) = vanishing_rows m.inequalities y.part in
-          record { system = part m flat; is_system = face m (part m flat) flat (vanishing_own m.inequalities y.part) refl of; step = subst (λ k. IsRaysStep k m.inequalities (m.equations ++ flat) s) e y.step }
+      | inl y ↦ record { system = m; is_system = both before after A c d m is nz (p x.c x.first) (q x.d x.second) (inl refl); step = subst (λ k. IsRaysStep k m.inequalities m.equations s) e y }
+      | inr y ↦ record { system = y.face; is_system = both before after A c d y.face is nz (p x.c x.first) (q x.d x.second) (inr (subst (λ k. IsFaceSystem k m y.face) e y.is_face)); step = subst (λ k. IsRaysStep k y.face.inequalities y.face.equations s) e y.step }
     ]
-step_of_refining First n f g s e p q (inr x) = record { system = whole_space; is_system = whole whole_space refl; step = subst (λ k. IsRaysStep k [] [] s) e x.1 }
+step_of_refining kind n As before after A f g s is nz e p q (inr x) = record { system = whole_space; is_system = whole whole_space refl; step = subst (λ k. IsRaysStep k [] [] s) e x.1 }
 
-pub refined_systems : (First : Rows → Type 0) (f g h : FanLists) → AreOfSystems First f → AreOfSystems First g → ((k : FanCone) → Contains h.cones k → IsPartOfMeet f g k) → AreOfSystems First h
-refined_systems First f g h p q parts k c =
+pub refined_systems : (kind : Kind) (n : ℕ) (As all : List (List (List ℤ))) (A : List (List ℤ)) (f g h : FanLists) → all ≡ As ++ A ∷ [] → As ≢ [] → f.ambient ≡ n → AreOfSystems kind n As f → AreOfSystems kind n (A ∷ []) g →
+    ((k : FanCone) → Contains h.cones k → IsPartOfMeet f g k) → AreOfSystems kind n all h
+refined_systems kind n As all A f g h is nz e p q parts k c =
     let x = parts k c in
-    let a : Rows = rows_of x.c.cone in let b : Rows = rows_of x.d.cone in
-    face (meet a b) (rows_of k.cone) x.zero x.own x.rows (both a b (meet a b) refl (p x.c x.first) (q x.d x.second))
+    more As all A (rows_of x.c.cone) (rows_of x.d.cone) (rows_of k.cone) is nz (p x.c x.first) (q x.d x.second) (subst (λ i. IsFaceSystem i (meet (rows_of x.c.cone) (rows_of x.d.cone)) (rows_of k.cone)) e x.face)
 
-pub more_systems : (F G : Rows → Type 0) (h : FanLists) → ((c : Rows) → F c → IsSystemOf G c) → AreOfSystems F h → AreOfSystems G h
-more_systems F G h to s k c = systems_into F G (rows_of k.cone) to (s k c)
-
--- the whole space is all that comes of no polynomial
-pub whole_into : (G : Rows → Type 0) (c : Rows) → Contains (whole_space ∷ []) c → IsSystemOf G c
-whole_into G c k = elim (in_cons whole_space [] c k) [ inl e ↦ whole c e | inr i ↦ absurd (none_in c i) ]
+-- the cones of the fan of one polynomial
+pub one_systems : (kind : Kind) (n : ℕ) (A : List (List ℤ)) (cones : List Rows) (h : FanLists) → ((c : Rows) → Contains cones c → IsConeBy kind (A ∷ []) c) → IsFanOfRows n cones h → AreOfSystems kind n (A ∷ []) h
+one_systems kind n A cones h by s k c = let x = fan_systems n cones h s k c in one A (A ∷ []) x.0 (rows_of k.cone) refl (by x.0 x.1.0) x.1.1
 
 -- ---- what a refusal says
 
-pub only_memory : (IsSystem : List (List (List ℤ)) → Rows → Type 0) (n : ℕ) (set : List Terms) (e : TropicalError) → IsTropicalWithinLimits IsSystem n set → IsTropicalRefusal IsSystem n set e → e ≡ Memory
+pub only_memory : (IsSystem : ℕ → List (List (List ℤ)) → Rows → Type 0) (n : ℕ) (set : List Terms) (e : TropicalError) → IsTropicalWithinLimits IsSystem n set → IsTropicalRefusal IsSystem n set e → e ≡ Memory
 only_memory IsSystem n set (Cone s) w x = absurd (w.within s x.1)
 only_memory IsSystem n set (ZeroPolynomial number index) w x = absurd (w.not_zero index [] x.1.inside x.1.zero)
 only_memory IsSystem n set Memory w x = refl

@@ -24,7 +24,7 @@ use Rattle.gf_duality.specs.Combining.{pair}
 use Rattle.gf_duality.specs.Faces.{Rows}
 use Rattle.gf_duality.specs.Rays.{IsRays}
 use Rattle.gf_duality.specs.Generators.{Made, nothing, ray, line, summed, multiplied, divided, IsDescribed, unit_vectors}
-use Rattle.gf_duality.specs.Stages.{start}
+use Rattle.gf_duality.specs.Straightening.{start}
 use Rattle.gf_duality.proofs.ListLaws.{none_in, in_head, in_tail, in_cons, all_by}
 use Rattle.gf_duality.proofs.Made.{Made-into}
 use Rattle.gf_duality.proofs.Equations.{in_map, map_in, units_width}

@@ -9,7 +9,7 @@ use Rattle.gf_vec.specs.declared.error.VecError.TheVariants as vec_errors
 use Rattle.gf_gordan.specs.declared.error.ConeOverflow.{ConeOverflow}
 use Rattle.gf_gordan.specs.declared.error.GordanError.{GordanError}
 use Rattle.gf_gordan.specs.declared.error.GordanError.TheVariants as gordan_errors
-use Rattle.gf_duality.specs.Stages.{IsRaysStep}
+use Rattle.gf_rays.specs.Reached.{IsRaysStep}
 use Rattle.gf_rays.specs.Sums.{adding_steps}
 use Rattle.gf_rays.specs.Parts.{zeros_of}
 use Rattle.gf_facets.specs.Regions.{all_positive}

@@ -4,7 +4,7 @@ use Rattle.std.specs.List.{AllZip}
 use Rattle.gf_poly.specs.Marking.{MarkedPolynomials}
 use Rattle.gf_gordan.specs.declared.error.ConeOverflow.{ConeOverflow}
 use Rattle.gf_duality.specs.Rays.{IsRays, IsImplied}
-use Rattle.gf_duality.specs.Stages.{IsRaysStep}
+use Rattle.gf_rays.specs.Reached.{IsRaysStep}
 use Rattle.gf_facets.specs.Normals.{AreNormals}
 use Rattle.gf_facets.specs.Systems.{units}
 use Rattle.gf_rays.specs.Cones.{RowsAndRays}

@@ -65,14 +65,14 @@ pub record IsTropicalText (which : TropicalFan) (n : ℕ) (fs : List Terms) (tex
 -- ---- why it isn't written
 
 -- the systems of rows that such a fan is made from
-abbrev pub systems_of : TropicalFan → List (List (List ℤ)) → Rows → Type 0
+abbrev pub systems_of : TropicalFan → ℕ → List (List (List ℤ)) → Rows → Type 0
 systems_of fans.Hypersurface = IsPairSystem
 systems_of fans.Intersection = IsPairSystem
 systems_of fans.MinkowskiSum = IsSingleSystem
 
 -- an operation of finding the rays of one of them
 abbrev pub IsTropicalStep : TropicalFan → ℕ → List Terms → ConeOverflow → Type 0
-IsTropicalStep which n fs s = IsSystemStep (systems_of which (points_of_each fs)) n s
+IsTropicalStep which n fs s = IsSystemStep (systems_of which n (points_of_each fs)) n s
 
 -- a refusal of such a fan as one of the run
 abbrev pub of_tropical : TropicalError → Refusal
