@@ -193,10 +193,10 @@ module _ (n : ℕ) (below : Exponents → Exponents → Type 0) (o : IsMonomialO
       zero_at : (i : ℕ) → entry_at (combined n ms (rows ps)) i ≡ pos 0
       zero_at i =
           let sum : entry_at (combined n ms (rows ps)) i +ℤ entry_at (zeros n) i ≡ pos 0 =
-              sym (entry_plus (combined n ms (rows ps)) (zeros n) i (length-combined n ms (rows ps) (rows_wide ps t) ∙ sym (length-combined n [] [] tt)))
-              ∙ ap (λ z. entry_at (vector_sum (combined n ms (rows ps)) z) i) (sym (none-combined es))
-              ∙ ap (λ z. entry_at z i) f.zero_sum
-              ∙ entry-zeros n i
+          sym (entry_plus (combined n ms (rows ps)) (zeros n) i (length-combined n ms (rows ps) (rows_wide ps t) ∙ sym (length-combined n [] [] tt)))
+          ∙ ap (λ z. entry_at (vector_sum (combined n ms (rows ps)) z) i) (sym (none-combined es))
+          ∙ ap (λ z. entry_at z i) f.zero_sum
+          ∙ entry-zeros n i
           in
           omega (arith, ints, sum, entry-zeros n i)
 
@@ -475,7 +475,7 @@ module _ (n : ℕ) (below : Exponents → Exponents → Type 0) (t : IsTermOrder
       whole_below : (x y : Exponents) → ((i : ℕ) → entry x i ≤ suc k) → ((i : ℕ) → entry y i ≤ suc k) → ((i : ℕ) → n ≤ i → entry x i ≡ entry y i) → below x y → whole_weight v x <ℤ whole_weight v y
       whole_below x y p q a l =
           let h = heavier n below t.order v ps.0 ps.1.pairs (recursion_from_All (λ s. pos 0 <ℤ dot s v) (rows n below t.order ps.0) solution.1.positive) (trimmed n x, trimmed n y)
-              (ps.1.all (trimmed n x) (trimmed n y) (in_box n (suc k) x p) (in_box n (suc k) y q) (trimmed_below x y a l)) in
+          (ps.1.all (trimmed n x) (trimmed n y) (in_box n (suc k) x p) (in_box n (suc k) y q) (trimmed_below x y a l)) in
           subst (λ z. z <ℤ whole_weight v y) (weigh x) (subst (λ z. whole_weight v (trimmed n x) <ℤ z) (weigh y) h)
 
       above_one : (i : ℕ) → i < n → below [] (variable i)

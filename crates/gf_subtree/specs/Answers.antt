@@ -3,16 +3,18 @@ use Rattle.std.specs.Prelude.{◌≡◌, ◌⊎◌, ◌+◌, ◌≤◌, ℕ, suc
 use Rattle.std.specs.declared.result.Result.{Result}
 use Rattle.std.specs.declared.result.Result.TheVariants.{Err}
 use Rattle.gf_poly.specs.Marking.{MarkedPolynomials}
+use Rattle.gf_walk.specs.Listing.{Among}
 use Rattle.gf_walk.specs.Place.{Place}
 use Rattle.gf_walk.specs.declared.expand.Piece.TheVariants.{Under}
 use Rattle.gf_waves.specs.Frontier.{IsFrontRefused}
 use Rattle.gf_waves.specs.Wave.{IsCall}
 use Rattle.gf_facets.specs.LexPositive.{IsBefore}
-use Rattle.gf_reverse.specs.Upward.{IsNodeIn}
+use Rattle.gf_reverse.specs.Upward.{Fan, IsNodeIn}
 use Rattle.gf_tree.specs.declared.tree.BasisTree.{BasisTree}
 use Rattle.gf_tree.specs.declared.error.TreeError.{TreeError}
 use Rattle.gf_tree.specs.declared.error.TreeError.TheVariants.{Memory}
 use Rattle.gf_tree.specs.Parents.{ideal_of}
+use Rattle.gf_tree.specs.Refusals.{IsCallRefusal}
 use Rattle.gf_tree.specs.Walks.{Walk, AreLeft}
 use Rattle.gf_subtree.specs.Rows.{Row, up_in, RefusesWalker, ideal_in, row_left_at_most, AreLeftIn}
 
@@ -62,6 +64,17 @@ IsRowCall old answer new = IsCall IsBefore up_in RefusesWalker (λ e. e ≡ Memo
 -- a refusal is that of the walker in front, which has the next basis: the first in list order; or there is no memory
 abbrev pub IsToldInFront : Row → TreeError → Type 0
 IsToldInFront row e = IsFrontRefused RefusesWalker row.frontier.pieces e ⊎ (e ≡ Memory)
+
+-- the basis isn't one of these behind the first of them
+abbrev pub IsNotLater : List MarkedPolynomials → MarkedPolynomials → Type 0
+IsNotLater [] v = Unit {0}
+IsNotLater (x ∷ rest) v = Among rest v → ⊥
+
+-- why the next basis isn't given, where these are left: a call at a basis of the ideal that is given already, or is the first of them, is
+-- refused so; or there is no memory
+pub data IsRefusedEarly (F : Fan) (pairs : ℕ) (nodes : List MarkedPolynomials) (e : TreeError) : Type 0 where
+  at : (v : MarkedPolynomials) → IsNodeIn F v → IsNotLater nodes v → IsCallRefusal F.region pairs v e → IsRefusedEarly F pairs nodes e
+  memory : e ≡ Memory → IsRefusedEarly F pairs nodes e
 
 -- ---- going on where a walker stands
 

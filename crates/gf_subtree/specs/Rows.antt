@@ -1,11 +1,12 @@
 -- The list of all bases of an ideal as several workers work it off: a row of pieces in list order, each a ready basis or a walker for
 -- what is between and behind them.
 -- Laws: proofs/RowLaws.antt, proofs/BasisRowLaws.antt.
-use Rattle.std.specs.Prelude.{◌≡◌, ℕ, ◌+◌, ◌-◌, ◌*◌, ◌≤◌, List, [], ◌∷◌, length, ℤ}
+use Rattle.std.specs.Prelude.{◌≡◌, ◌⊎◌, ℕ, ◌+◌, ◌-◌, ◌*◌, ◌≤◌, List, [], ◌∷◌, ◌++◌, length, ℤ}
 use Rattle.std.specs.Global.{Global}
 use Rattle.gf_poly.specs.Marking.{MarkedPolynomials}
 use Rattle.gf_walk.specs.Place.{Place}
-use Rattle.gf_walk.specs.Listing.{IsLeftAt, Rises}
+use Rattle.gf_walk.specs.Path.{Precedes}
+use Rattle.gf_walk.specs.Listing.{Among, IsLeftAt, Rises}
 use Rattle.gf_walk.specs.Pieces.{PiecesLeave, RefusesAt}
 use Rattle.gf_walk.specs.declared.mark.Mark.TheVariants.{Listed}
 use Rattle.gf_walk.specs.declared.expand.Piece.{Piece}
@@ -13,13 +14,13 @@ use Rattle.gf_walk.specs.declared.expand.Piece.TheVariants.{Ready, Under, Refuse
 use Rattle.gf_waves.specs.Frontier.{Frontier, AreRefusals}
 use Rattle.gf_facets.specs.LexPositive.{IsBefore}
 use Rattle.gf_facets.specs.Regions.{Region, all_positive}
-use Rattle.gf_reverse.specs.Upward.{Fan, IsNodeIn, IsParent, fan_of}
+use Rattle.gf_reverse.specs.Upward.{Fan, IsNodeIn, IsParent}
 use Rattle.gf_reverse.specs.Lists.{IsPathOf}
 use Rattle.gf_reverse.proofs.TreeLaws.{count}
 use Rattle.gf_tree.specs.declared.tree.BasisTree.{BasisTree}
 use Rattle.gf_tree.specs.declared.error.TreeError.{TreeError}
 use Rattle.gf_tree.specs.Parents.{ideal_of}
-use Rattle.gf_tree.specs.Refusals.{IsTreeRefusal}
+use Rattle.gf_tree.specs.Refusals.{IsCallRefusal}
 
 -- ---- the tree of bases
 
@@ -29,7 +30,7 @@ up_in t = IsParent (all_positive t.variables)
 
 -- why a walker over it is refused: a call of the tree at its basis, or above, is
 abbrev pub RefusesWalker : Place BasisTree MarkedPolynomials (List ℤ) → TreeError → Type 0
-RefusesWalker = RefusesAt up_in (λ t v e. IsTreeRefusal (fan_of (all_positive t.variables) v) t.pairs e)
+RefusesWalker = RefusesAt up_in (λ t v e. IsCallRefusal (all_positive t.variables) t.pairs v e)
 
 -- ---- rows
 
@@ -62,12 +63,32 @@ HavePaths k [] (x ∷ xs) = ⊥
 HavePaths k (p ∷ ps) [] = ⊥
 HavePaths k (p ∷ ps) (x ∷ xs) = IsPathOf k x p × HavePaths k ps xs
 
--- the bases that are left, each once, in the order of their paths: piece by piece the ready basis, or what the walker has left
+-- piece by piece, as `PiecesLeave` has it, with the nodes `later` behind them: and no walker stands behind a node that it, a later piece or
+-- `later` has; `early v x` says that v doesn't come behind x
+abbrev pub LeaveInOrder : {T N L E : Type 0} → (Place T N L → List N → Type 0) → (N → N → Type 0) → List N → List (Piece T N L E) → List N → Type 0
+LeaveInOrder left early later [] nodes = nodes ≡ []
+LeaveInOrder {N = N} left early later (Ready v ∷ ps) nodes = (rest : List N) × (nodes ≡ v ∷ rest) × LeaveInOrder left early later ps rest
+LeaveInOrder {N = N} left early later (Under w ∷ ps) nodes =
+    (front : List N) × (back : List N) × (nodes ≡ front ++ back) × left w front × ((x : N) → Among (nodes ++ later) x → early w.here x) × LeaveInOrder left early later ps back
+LeaveInOrder {N = N} left early later (Refused w e ∷ ps) nodes =
+    (front : List N) × (back : List N) × (nodes ≡ front ++ back) × left w front × ((x : N) → Among (nodes ++ later) x → early w.here x) × LeaveInOrder left early later ps back
+
+-- v and x have paths from the root, and that of v doesn't come behind that of x
+pub record IsNotBehind (k : Region) (v x : MarkedPolynomials) : Type 0 where
+  pub path : List (List ℤ)
+  pub other : List (List ℤ)
+  pub of_path : IsPathOf k v path
+  pub of_other : IsPathOf k x other
+  pub early : (path ≡ other) ⊎ Precedes IsBefore path other
+
+-- the bases that are left, each once, in the order of their paths: piece by piece the ready basis, or what the walker has left; no walker
+-- stands behind what is left from it on
 pub record AreLeftIn (r : Row) (nodes : List MarkedPolynomials) : Type 0 where
   pub pieces : PiecesLeave (IsLeftAt IsBefore up_in) r.frontier.pieces nodes
   pub paths : List (List (List ℤ))
   pub lead : HavePaths (region_in r) paths nodes
   pub rises : Rises IsBefore paths
+  pub order : LeaveInOrder (IsLeftAt IsBefore up_in) (IsNotBehind (region_in r)) [] r.frontier.pieces nodes
 
 -- the tree has these variables and this budget, and v is a basis of the ideal
 pub record IsOfIdeal (F : Fan) (budget : ℕ) (t : BasisTree) (v : MarkedPolynomials) : Type 0 where

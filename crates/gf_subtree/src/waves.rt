@@ -8,7 +8,7 @@ ghost use Rattle.gf_tree.specs.Refusals.{IsTreeRefusal, IsTreeWithinLimits};
 ghost use Rattle.gf_tree.specs.Walks.{AreLeft, walk_at};
 ghost use Rattle.gf_tree.specs.declared.error.TreeError.TheVariants.{Memory};
 ghost use Rattle.gf_subtree.specs.Rows.{AreLeftIn, HasRowLeft, RefusesWalker, ideal_in, first_row};
-ghost use Rattle.gf_subtree.specs.Answers.{IsResumedAs, IsRowAnswer, IsRowCall, IsRowKept, IsToldInFront};
+ghost use Rattle.gf_subtree.specs.Answers.{IsResumedAs, IsRowAnswer, IsRowCall, IsRowKept, IsRefusedEarly, IsToldInFront};
 
 use gf_poly::MarkedSet;
 use gf_tree::{BasisTree, Node, TreeError, Walker};
@@ -139,6 +139,8 @@ impl<'g, G: Gate> Waves<'g, G> {
         ensures bound { length self.new.frontier.pieces ≤ (self.new.frontier.workers + 1) * 32 }
         ensures refusals { AreRefusals RefusesWalker self.new.frontier.pieces }
         ensures front { IfErr result (IsToldInFront self.new) }
+        ensures early { IfErr result (λ e. (nodes : List MarkedPolynomials) → AreLeftIn self.old nodes
+            → IsRefusedEarly (ideal_in self.old) self.old.pairs nodes e) }
         ensures cause { IfErr result (IsTreeRefusal (ideal_in self.old) self.old.pairs) }
     {
         self.given.raise()?;
@@ -162,8 +164,8 @@ impl<'g, G: Gate> Waves<'g, G> {
     ///
     /// # Errors
     ///
-    /// As for `parent` of `gf_tree`, at bases of this ideal: the first refusal in list order, after all bases before it. What is left is
-    /// the same, and a later call goes on from there.
+    /// As for `parent` of `gf_tree`, at bases of this ideal: the first refusal in list order, after all bases before it, of a call at a
+    /// basis that is given already or is the next one. What is left is the same, and a later call goes on from there.
     #[tactic(auto, using(gf_tree::proofs::RefusalLaws::only_memory))]
     pub fn next_written<R: Threads + Sync>(
         &mut self,
@@ -175,6 +177,8 @@ impl<'g, G: Gate> Waves<'g, G> {
         ensures bound { length self.new.frontier.pieces ≤ (self.new.frontier.workers + 1) * 32 }
         ensures refusals { AreRefusals RefusesWalker self.new.frontier.pieces }
         ensures front { IfErr result (IsToldInFront self.new) }
+        ensures early { IfErr result (λ e. (nodes : List MarkedPolynomials) → AreLeftIn self.old nodes
+            → IsRefusedEarly (ideal_in self.old) self.old.pairs nodes e) }
         ensures cause { IfErr result (IsTreeRefusal (ideal_in self.old) self.old.pairs) }
         ensures complete { IsTreeWithinLimits (ideal_in self.old) self.old.pairs → IfErr result (λ e. e ≡ Memory) }
     {

@@ -1,5 +1,5 @@
 -- Refusals of a search: of its steps, seen from another basis of the same ideal, and where it stays within its limits.
--- To cite: flip_refused, cone_refused, place_refused, refusal_moved, limits_moved, refusal_beside, refusal_above, refusal_over, within_memory, only_memory,
+-- To cite: flip_refused, cone_refused, flip_at, cone_at, place_at, refusal_moved, limits_moved, refusal_beside, call_refused, refusal_above, refusal_over, within_memory, only_memory,
 -- only_memory_back.
 use Rattle.std.specs.Prelude.{◌≡◌, ℕ, ◌<◌, ◌≤◌, List, [], ◌∷◌, ℤ, length, Result, Ok, Err, IfErr}
 use Rattle.std.proofs.Common.{arith, refl, sym, ap, ◌∙◌, subst}
@@ -20,10 +20,11 @@ use Rattle.gf_flip.proofs.RefusalSteps.{flip_refusal_within}
 use Rattle.gf_walk.specs.Walk.{IsRefused, IsRefusedAbove}
 use Rattle.gf_reverse.specs.Upward.{Fan, IsNodeIn, IsNode, IsParent, fan_of}
 use Rattle.gf_reverse.proofs.TreeLaws.{SameFan, own_fan, back_fan, node_moved}
-use Rattle.gf_reverse.proofs.ListLaws.{root_above}
+use Rattle.gf_reverse.proofs.ListLaws.{root_above, root_own}
+use Rattle.gf_tree.proofs.LabelLaws.{across_in}
 use Rattle.gf_tree.specs.declared.error.TreeError.{TreeError}
 use Rattle.gf_tree.specs.declared.error.TreeError.TheVariants.{Memory, Cone}
-use Rattle.gf_tree.specs.Refusals.{of_flip_error, of_cone_error, IsConeStep, IsTreeRefusal, IsTreeWithinLimits}
+use Rattle.gf_tree.specs.Refusals.{of_flip_error, of_cone_error, IsConeStep, IsTreeRefusal, IsRefusedAt, IsCallRefusal, IsTreeWithinLimits}
 
 -- ---- steps
 
@@ -45,6 +46,28 @@ place_refused k pairs v c i (cones.Cone s) e h is l f q =
     IsTreeRefusal.system v s h (record { cone = c; is_cone = is; place = i; inside = l; step = f }) q
 place_refused k pairs v c i cones.Memory e h is l f q = IsTreeRefusal.memory q
 
+-- ---- calls at one basis
+
+pub flip_at : (k : Region) (pairs : ℕ) (v : MarkedPolynomials) (a : List ℤ) (r : BasisError) (e : TreeError) → IsFlippable v.variables k v.items a →
+    IsFlipRefusal v.variables v.items a pairs r → e ≡ of_flip_error r → IsRefusedAt k pairs v e
+flip_at k pairs v a r e f c q = IsRefusedAt.flip a r f c q
+
+pub cone_at : (k : Region) (pairs : ℕ) (v : MarkedPolynomials) (c : ConeRows) (m : ℕ) (r : GordanError) (e : TreeError) → IsConeOf v.variables k v.items c →
+    m ≤ length c.normals → Failed (IsStepBefore c m) r → e ≡ of_cone_error r → IsRefusedAt k pairs v e
+cone_at k pairs v c m (cones.Cone s) e is l f q = IsRefusedAt.system s (record { cone = c; is_cone = is; place = f.0; inside = omega (arith, l, f.1); step = f.2 }) q
+cone_at k pairs v c m cones.Memory e is l f q = IsRefusedAt.memory q
+
+pub place_at : (k : Region) (pairs : ℕ) (v : MarkedPolynomials) (c : ConeRows) (i : ℕ) (r : GordanError) (e : TreeError) → IsConeOf v.variables k v.items c →
+    i < length c.normals → Failed (IsNormalStep c.variables (other_rows c i) (normal_at c i)) r → e ≡ of_cone_error r → IsRefusedAt k pairs v e
+place_at k pairs v c i (cones.Cone s) e is l f q = IsRefusedAt.system s (record { cone = c; is_cone = is; place = i; inside = l; step = f }) q
+place_at k pairs v c i cones.Memory e is l f q = IsRefusedAt.memory q
+
+-- a refusal at a basis is one of a search over the bases of its ideal
+at_refused : (k : Region) (pairs : ℕ) (v : MarkedPolynomials) (e : TreeError) → IsNode k v → IsRefusedAt k pairs v e → IsTreeRefusal (fan_of k v) pairs e
+at_refused k pairs v e h (IsRefusedAt.flip a r f c q) = IsTreeRefusal.flip v a r h f c q
+at_refused k pairs v e h (IsRefusedAt.system s t q) = IsTreeRefusal.system v s h t q
+at_refused k pairs v e h (IsRefusedAt.memory q) = IsTreeRefusal.memory q
+
 -- ---- the same ideal by other generators
 
 pub refusal_moved : (F G : Fan) (pairs : ℕ) (e : TreeError) → SameFan F G → IsTreeRefusal F pairs e → IsTreeRefusal G pairs e
@@ -64,13 +87,23 @@ limits_moved F G pairs s w = record {
 pub refusal_beside : (k : Region) (pairs : ℕ) (v w : MarkedPolynomials) (e : TreeError) → IsNodeIn (fan_of k v) w → IsTreeRefusal (fan_of k w) pairs e → IsTreeRefusal (fan_of k v) pairs e
 refusal_beside k pairs v w e h r = refusal_moved (fan_of k w) (fan_of k v) pairs e (back_fan (fan_of k v) (fan_of k w) (own_fan (fan_of k v) w h)) r
 
+-- a refusal of a call at a basis
+pub call_refused : (k : Region) (pairs : ℕ) (v : MarkedPolynomials) (e : TreeError) → IsNode k v → IsCallRefusal k pairs v e → IsTreeRefusal (fan_of k v) pairs e
+call_refused k pairs v e h (IsCallRefusal.here r) = at_refused k pairs v e h r
+call_refused k pairs v e h (IsCallRefusal.beside w b a r) =
+    let m = across_in k v w b h a in
+    refusal_beside k pairs v w e m (at_refused k pairs w e (root_own k v w h m) r)
+call_refused k pairs v e h (IsCallRefusal.memory q) = IsTreeRefusal.memory q
+
 -- a refusal at a basis above
 pub refusal_above : (k : Region) (pairs : ℕ) (v : MarkedPolynomials) (most : ℕ) (e : TreeError) → IsNode k v →
-    IsRefused (IsParent k) (λ w r. IsTreeRefusal (fan_of k w) pairs r) v most e → IsTreeRefusal (fan_of k v) pairs e
-refusal_above k pairs v most e h r = refusal_beside k pairs v r.node e (root_above k v r.node r.path h r.leads) r.refused
+    IsRefused (IsParent k) (λ w r. IsCallRefusal k pairs w r) v most e → IsTreeRefusal (fan_of k v) pairs e
+refusal_above k pairs v most e h r =
+    let m = root_above k v r.node r.path h r.leads in
+    refusal_beside k pairs v r.node e m (call_refused k pairs r.node e (root_own k v r.node h m) r.refused)
 
 pub refusal_over : (k : Region) (pairs : ℕ) (v : MarkedPolynomials) (e : TreeError) → IsNode k v →
-    IsRefusedAbove (IsParent k) (λ w r. IsTreeRefusal (fan_of k w) pairs r) v e → IsTreeRefusal (fan_of k v) pairs e
+    IsRefusedAbove (IsParent k) (λ w r. IsCallRefusal k pairs w r) v e → IsTreeRefusal (fan_of k v) pairs e
 refusal_over k pairs v e h r = refusal_above k pairs v r.0 e h r.1
 
 -- ---- where nothing leaves its limits, only memory may be wanting

@@ -1,5 +1,5 @@
 -- Why a search over the bases of an ideal is refused, and when it stays within its limits. Laws: proofs/RefusalLaws.antt.
-use Rattle.std.specs.Prelude.{◌≡◌, ℕ, ◌<◌, List, ℤ, length}
+use Rattle.std.specs.Prelude.{◌≡◌, ℕ, ◌<◌, List, ℤ, length, Some}
 use Rattle.gf_poly.specs.Marking.{MarkedPolynomials}
 use Rattle.gf_gordan.specs.declared.error.ConeOverflow.{ConeOverflow}
 use Rattle.gf_gordan.specs.declared.error.GordanError.{GordanError}
@@ -10,7 +10,9 @@ use Rattle.gf_facets.specs.Facets.{IsFlippable}
 use Rattle.gf_cone.specs.Cones.{ConeRows, normal_at, other_rows, IsConeOf}
 use Rattle.gf_cone.specs.Answers.{IsNormalStep}
 use Rattle.gf_flip.specs.Operations.{IsFlipRefusal, IsFlipWithinLimits}
-use Rattle.gf_reverse.specs.Upward.{Fan, IsNodeIn}
+use Rattle.gf_facets.specs.Regions.{Region}
+use Rattle.gf_reverse.specs.Upward.{Fan, IsNodeIn, fan_of}
+use Rattle.gf_reverse.specs.Answers.{IsAcross}
 use Rattle.gf_tree.specs.declared.error.TreeError.{TreeError}
 use Rattle.gf_tree.specs.declared.error.TreeError.TheVariants.{Overflow, Exponent, PairBudget, Cone, Memory}
 
@@ -43,6 +45,19 @@ pub data IsTreeRefusal (F : Fan) (pairs : ℕ) (e : TreeError) : Type 0 where
       IsFlipRefusal v.variables v.items a pairs r → e ≡ of_flip_error r → IsTreeRefusal F pairs e
   system : (v : MarkedPolynomials) (s : ConeOverflow) → IsNodeIn F v → IsConeStep F v s → e ≡ Cone s → IsTreeRefusal F pairs e
   memory : e ≡ Memory → IsTreeRefusal F pairs e
+
+-- why a call at the basis v alone is refused: a flip across a flippable normal of v is refused so, or a step of the system of a normal of v
+-- leaves its range; or there is no memory
+pub data IsRefusedAt (k : Region) (pairs : ℕ) (v : MarkedPolynomials) (e : TreeError) : Type 0 where
+  flip : (a : List ℤ) (r : BasisError) → IsFlippable v.variables k v.items a → IsFlipRefusal v.variables v.items a pairs r → e ≡ of_flip_error r → IsRefusedAt k pairs v e
+  system : (s : ConeOverflow) → IsConeStep (fan_of k v) v s → e ≡ Cone s → IsRefusedAt k pairs v e
+  memory : e ≡ Memory → IsRefusedAt k pairs v e
+
+-- why a call of the tree at the basis v is refused: so at v, or at a basis on the other side of a facet of v; or there is no memory
+pub data IsCallRefusal (k : Region) (pairs : ℕ) (v : MarkedPolynomials) (e : TreeError) : Type 0 where
+  here : IsRefusedAt k pairs v e → IsCallRefusal k pairs v e
+  beside : (w : MarkedPolynomials) (b : List ℤ) → IsAcross k v b (Some w) → IsRefusedAt k pairs w e → IsCallRefusal k pairs v e
+  memory : e ≡ Memory → IsCallRefusal k pairs v e
 
 -- no flip across a flippable normal of a basis of F leaves its limits, and no step of the systems of its normals leaves its range
 pub record IsTreeWithinLimits (F : Fan) (pairs : ℕ) : Type 0 where

@@ -2,9 +2,9 @@
 ghost use Rattle.std.specs.Prelude.{◌≡◌, IfOk, IfErr};
 ghost use Rattle.gf_facets.specs.LexPositive.{IsBefore};
 ghost use Rattle.gf_facets.specs.Regions.{all_positive};
-ghost use Rattle.gf_reverse.specs.Upward.{IsNode, IsParent, fan_of};
+ghost use Rattle.gf_reverse.specs.Upward.{IsNode, IsParent};
 ghost use Rattle.gf_tree.specs.FanTree.{before_strict, rank, count, upward_tree, upward_nodes, upward_falls, upward_level, upward_finite};
-ghost use Rattle.gf_tree.specs.Refusals.{IsTreeRefusal};
+ghost use Rattle.gf_tree.specs.Refusals.{IsCallRefusal};
 ghost use Rattle.gf_tree.specs.declared.error.TreeError.TheVariants.{Memory};
 
 use crate::steps::{arrived, below, led_back, normals, way_up};
@@ -40,11 +40,11 @@ impl Tree for BasisTree {
 
     ghost is_memory = { λ e. e ≡ Memory };
 
-    ghost refuses = { λ t v e. IsTreeRefusal (fan_of (all_positive t.variables) v) t.pairs e };
+    ghost refuses = { λ t v e. IsCallRefusal (all_positive t.variables) t.pairs v e };
 
     ghost from_memory = { λ a e h. h };
 
-    ghost memory = { λ t v e h. IsTreeRefusal.memory h };
+    ghost memory = { λ t v e h. IsCallRefusal.memory h };
 
     ghost strict = { before_strict };
 

@@ -1,5 +1,5 @@
 -- A wave and a call keep what is left.
--- To cite: given_leaves, readied_leaves.
+-- To cite: over_leaves, given_leaves, readied_leaves.
 use Rattle.std.proofs.Common.{◌≡◌, ℕ, zero, suc, List, [], ◌∷◌, ◌++◌, length, refl, sym, ap, inl, inr, subst, ◌∙◌, append_assoc, append-nil, Option, Some, None, Ok, Err}
 use Rattle.std.specs.declared.result.Result.{Result}
 use Rattle.gf_walk.specs.Path.{IsPath, IsStrictOrder, IsTree}
@@ -49,7 +49,7 @@ module _ {T N L E : Type 0} (lt : L → L → Type 0) (up : T → N → L → N 
 -- ---- an answer
 
 module _ {T N L E : Type 0} (lt : L → L → Type 0) (up : T → N → L → N → Type 0) (strict : IsStrictOrder lt) (trees : (t : T) → IsTree (up t)) (refuses : Place T N L → E → Type 0) where
-  over_leaves : (w : Place T N L) → IsOver lt up w → (nodes : List N) → IsLeftAt lt up w nodes → nodes ≡ []
+  pub over_leaves : (w : Place T N L) → IsOver lt up w → (nodes : List N) → IsLeftAt lt up w nodes → nodes ≡ []
   over_leaves w over nodes l = none l.lists.paths nodes l.lists.lead (λ q j path. over l.top l.path l.at q path (l.lists.only q j))
     where
       none : (ps : List (List L)) (xs : List N) → LeadTo (up w.tree) l.top ps xs → ((q : List L) → Among ps q → IsPath (up w.tree) l.top q → ⊥) → xs ≡ []

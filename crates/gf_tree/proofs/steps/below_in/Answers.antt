@@ -4,7 +4,7 @@ use Rattle.gf_facets.specs.Regions.{all_positive}
 use Rattle.gf_tree.specs.Places.{IsVectorPlace}
 use Rattle.gf_tree.proofs.LabelLaws.{child_none, child_upward}
 use Rattle.gf_tree.proofs.ParentLaws.{same_width}
-use Rattle.gf_tree.proofs.RefusalLaws.{place_refused}
+use Rattle.gf_tree.proofs.RefusalLaws.{place_at}
 use Rattle.gf_tree.proofs.WayLaws.{no_crossing, place_read, missing_read, cone_moved, shown_crossing, refuted_crossing, negative_read, small_at}
 use Rattle.gf_tree.proofs.steps.below_in.Goals as goal
 
@@ -47,7 +47,7 @@ returns-in_err-crossing-clause-cause c =
     let is = cone_moved m v cone e c.requires.cone in
     let at = place_read v.variables m e v.items cone is c.normals-list.result.now c.args.normal.now c.in-Some.place c.normals-list.ensures.value (subst (IsVectorPlace c.normals-list.result.now c.args.normal.now) c.in-Some.is c.place_of.ensures) in
     let p = err_from_is_err_and c.from_residual.result c.from_residual.ensures.1 in
-    rw p.1 (place_refused (all_positive m) c.args.tree.now.pairs v cone c.in-Some.place c.in_err-crossing.field-0.0 p.0 c.requires.node is at.0 c.in_err-crossing.ensures.err p.2)
+    rw p.1 (place_at (all_positive m) c.args.tree.now.pairs v cone c.in-Some.place c.in_err-crossing.field-0.0 p.0 is at.0 c.in_err-crossing.ensures.err p.2)
 
 pub returns-in-None-crossing : goal.returns-in-None-crossing
 returns-in-None-crossing c =

@@ -7,7 +7,7 @@ use Rattle.gf_cone.specs.Cones.{ConeRows, normal_at, IsConeOf}
 use Rattle.gf_reverse.specs.Upward.{IsWayUp}
 use Rattle.gf_tree.specs.Places.{IsVectorPlace}
 use Rattle.gf_tree.proofs.ParentLaws.{same_width}
-use Rattle.gf_tree.proofs.RefusalLaws.{cone_refused}
+use Rattle.gf_tree.proofs.RefusalLaws.{cone_at}
 use Rattle.gf_tree.proofs.WayLaws.{cone_moved, no_way, place_read, missing_read, told_way, not_told}
 use Rattle.gf_tree.proofs.steps.led_back.Goals as goal
 
@@ -35,7 +35,7 @@ returns-in_err-is_way_up-clause-cause c =
     let is_still = subst (λ (z : ConeRows). IsConeOf v.variables (all_positive m) v.items z) (sym c.learn.ensures) is in
     let still = subst (λ (z : ConeRows). (c.in-Some.place < length z.normals) × (normal_at z c.in-Some.place ≡ c.args.back.now)) (sym c.learn.ensures) at in
     let p = err_from_is_err_and c.from_residual-in_err-is_way_up.result c.from_residual-in_err-is_way_up.ensures.1 in
-    rw p.1 (cone_refused (all_positive m) c.args.tree.now.pairs v learned _ c.in_err-is_way_up.field-0.0 p.0 c.requires is_still (let l = still.0 in omega (arith, l)) c.in_err-is_way_up.ensures.err p.2)
+    rw p.1 (cone_at (all_positive m) c.args.tree.now.pairs v learned _ c.in_err-is_way_up.field-0.0 p.0 is_still (let l = still.0 in omega (arith, l)) c.in_err-is_way_up.ensures.err p.2)
 
 pub returns-in-true-clause-ok : goal.returns-in-true-clause-ok
 returns-in-true-clause-ok c =

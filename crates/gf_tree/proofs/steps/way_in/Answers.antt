@@ -3,7 +3,7 @@ use Rattle.std.proofs.lemmas.Result.{err_from_is_err_and}
 use Rattle.gf_facets.specs.Regions.{all_positive}
 use Rattle.gf_cone.specs.Crossing.{IsWayShown}
 use Rattle.gf_tree.proofs.ParentLaws.{same_width}
-use Rattle.gf_tree.proofs.RefusalLaws.{cone_refused}
+use Rattle.gf_tree.proofs.RefusalLaws.{cone_refused, cone_at}
 use Rattle.gf_tree.proofs.WayLaws.{cone_moved, way_none, way_read}
 use Rattle.gf_tree.proofs.steps.way_in.Goals as goal
 
@@ -14,6 +14,14 @@ returns-in_err-way-clause-cause c =
     let is = cone_moved m v c.args.cone.now (same_width m v c.requires.node) c.requires.cone in
     let p = err_from_is_err_and c.from_residual.result c.from_residual.ensures.1 in
     rw p.1 (cone_refused (all_positive m) c.args.tree.now.pairs v c.args.cone.now _ c.in_err-way.field-0.0 p.0 c.requires.node is (omega arith) c.in_err-way.ensures.err p.2)
+
+pub returns-in_err-way-clause-at : goal.returns-in_err-way-clause-at
+returns-in_err-way-clause-at c =
+    let m = c.args.tree.now.variables in
+    let v = c.args.set.now in
+    let is = cone_moved m v c.args.cone.now (same_width m v c.requires.node) c.requires.cone in
+    let p = err_from_is_err_and c.from_residual.result c.from_residual.ensures.1 in
+    rw p.1 (cone_at (all_positive m) c.args.tree.now.pairs v c.args.cone.now _ c.in_err-way.field-0.0 p.0 is (omega arith) c.in_err-way.ensures.err p.2)
 
 pub returns-in-None-clause-ok : goal.returns-in-None-clause-ok
 returns-in-None-clause-ok c =

@@ -1,4 +1,4 @@
-use Rattle.std.specs.Prelude.{◌≡◌, Option, Ok}
+use Rattle.std.specs.Prelude.{◌≡◌, List, Option, Ok}
 use Rattle.std.proofs.Common.{arith, sym, subst}
 use Rattle.gf_poly.specs.Marking.{MarkedPolynomials}
 use Rattle.gf_walk.specs.Listing.{IsLeftAt, IsFirstOf}
@@ -8,9 +8,9 @@ use Rattle.gf_facets.specs.LexPositive.{IsBefore}
 use Rattle.gf_tree.specs.declared.error.TreeError.TheVariants.{Memory}
 use Rattle.gf_tree.specs.Parents.{ideal_of}
 use Rattle.gf_tree.specs.Refusals.{IsTreeRefusal}
-use Rattle.gf_subtree.specs.Rows.{Row, up_in, RefusesWalker, ideal_in}
-use Rattle.gf_subtree.specs.Answers.{IsNextRow}
-use Rattle.gf_subtree.proofs.BasisRowLaws.{row_of, left_after, row_step, left_at_end, left_kept, front_refused}
+use Rattle.gf_subtree.specs.Rows.{Row, up_in, RefusesWalker, ideal_in, AreLeftIn}
+use Rattle.gf_subtree.specs.Answers.{IsNextRow, IsRowEnd, IsRowKept, IsRefusedEarly}
+use Rattle.gf_subtree.proofs.BasisRowLaws.{row_of, left_after, row_step, left_at_end, row_end, left_kept, row_kept, front_refused, row_early}
 use Rattle.gf_subtree.proofs.waves.Waves.next.Goals as goal
 
 pub invariant_of-self-in-Ok-Some : goal.invariant_of-self-in-Ok-Some
@@ -58,3 +58,31 @@ returns-in-Err-clause-cause g c =
     let kept = left_kept f q c.self.inside.pairs c.self.inside.start.value c.self.inside.given c.lower-in-Err.new.self e.workers e.bound e.refusals c.self.invariant c.in-Err.refusal e.call (λ nodes l. e.list nodes l) (omega (arith, c.lower-in-Err.ensures, c.in_ok-raise.ensures.ok)) in
     subst (λ (r : Row). IsTreeRefusal (ideal_in r) r.pairs c.in-Err.refusal) c.self.view_is
     (front_refused (ideal_of c.self.inside.start.value) c.self.inside.pairs q.pieces c.in-Err.refusal e.refused kept.among)
+
+pub returns-in-Err-clause-early : goal.returns-in-Err-clause-early
+returns-in-Err-clause-early g c =
+    let f = c.self.inside.inner in
+    let q = c.next_written.new.self in
+    let e = c.in-Err.ensures in
+    let kept = left_kept f q c.self.inside.pairs c.self.inside.start.value c.self.inside.given c.lower-in-Err.new.self e.workers e.bound e.refusals c.self.invariant c.in-Err.refusal e.call (λ nodes l. e.list nodes l) (omega (arith, c.lower-in-Err.ensures, c.in_ok-raise.ensures.ok)) in
+    let same = row_kept f q c.self.inside.pairs c.self.inside.start.value c.self.inside.given c.lower-in-Err.new.self e.workers e.bound e.refusals c.self.invariant c.in-Err.refusal e.call (λ nodes l. e.list nodes l) (omega (arith, c.lower-in-Err.ensures, c.in_ok-raise.ensures.ok)) in
+    subst (λ (r : Row). (nodes : List MarkedPolynomials) → AreLeftIn r nodes → IsRefusedEarly (ideal_in r) r.pairs nodes c.in-Err.refusal) c.self.view_is
+    (row_early f q c.self.inside.pairs c.self.inside.start.value c.self.inside.given c.lower-in-Err.new.self same c.in-Err.refusal kept.among e.refused)
+
+pub returns-in-Ok-None-clause-ok : goal.returns-in-Ok-None-clause-ok
+returns-in-Ok-None-clause-ok g c =
+    let f = c.self.inside.inner in
+    let q = c.next_written.new.self in
+    let e = c.in-Ok-None.ensures in
+    subst (λ (r : Row). IsRowEnd r (row_of q c.self.inside.pairs c.self.inside.start.value c.lower.new.self)) c.self.view_is
+    (row_end f q c.self.inside.pairs c.self.inside.start.value c.self.inside.given c.lower.new.self e.workers e.bound e.refusals c.self.invariant
+    (subst (λ (o : Option MarkedPolynomials). IsCall IsBefore up_in RefusesWalker (λ r. r ≡ Memory) f (Ok o) q) c.in-Ok-None.field-0-is e.call)
+    (λ nodes l. subst (IsFirstOf (PiecesLeave (IsLeftAt IsBefore up_in) q.pieces) nodes) c.in-Ok-None.field-0-is (e.list nodes l)) (omega (arith, c.lower.ensures, c.in_ok-raise.ensures.ok)))
+
+pub returns-in-Err-clause-unchanged : goal.returns-in-Err-clause-unchanged
+returns-in-Err-clause-unchanged g c =
+    let f = c.self.inside.inner in
+    let q = c.next_written.new.self in
+    let e = c.in-Err.ensures in
+    subst (λ (r : Row). IsRowKept r (row_of q c.self.inside.pairs c.self.inside.start.value c.lower-in-Err.new.self)) c.self.view_is
+    (row_kept f q c.self.inside.pairs c.self.inside.start.value c.self.inside.given c.lower-in-Err.new.self e.workers e.bound e.refusals c.self.invariant c.in-Err.refusal e.call (λ nodes l. e.list nodes l) (omega (arith, c.lower-in-Err.ensures, c.in_ok-raise.ensures.ok)))

@@ -1,13 +1,20 @@
+use Rattle.std.specs.Prelude.{Some}
 use Rattle.std.proofs.Common.{◌∙◌, ap, sym, subst}
 use Rattle.std.proofs.lemmas.Result.{err_from_is_err_and}
 use Rattle.gf_facets.specs.Rows.{negated}
 use Rattle.gf_facets.specs.Regions.{all_positive}
-use Rattle.gf_reverse.specs.Upward.{fan_of}
+use Rattle.gf_reverse.specs.Answers.{IsAcross}
 use Rattle.gf_tree.specs.Parents.{IsBelowTold}
-use Rattle.gf_tree.specs.Refusals.{IsTreeRefusal}
-use Rattle.gf_tree.proofs.LabelLaws.{child_led, across_node, across_in}
-use Rattle.gf_tree.proofs.RefusalLaws.{refusal_beside}
+use Rattle.gf_tree.specs.Refusals.{IsCallRefusal}
+use Rattle.gf_tree.proofs.LabelLaws.{child_led, across_node}
 use Rattle.gf_tree.proofs.tree.BasisTreeTree.child.Goals as goal
+
+pub returns-in_err-neighbour-clause-err : goal.returns-in_err-neighbour-clause-err
+returns-in_err-neighbour-clause-err c =
+    let k = all_positive c.args.self.now.variables in
+    let u = c.args.node.now in
+    let p = err_from_is_err_and c.from_residual.result c.from_residual.ensures.1 in
+    rw p.1 (subst (λ e. IsCallRefusal k c.args.self.now.pairs u e) (sym p.2) (IsCallRefusal.here c.in_err-neighbour.ensures.cause))
 
 pub returns-in-None-clause-ok : goal.returns-in-None-clause-ok
 returns-in-None-clause-ok c =
@@ -23,9 +30,9 @@ pub returns-in_err-child-clause-err : goal.returns-in_err-child-clause-err
 returns-in_err-child-clause-err c =
     let k = all_positive c.args.self.now.variables in
     let u = c.args.node.now in
-    let there = across_in k u c.in-Some.neighbour c.args.label.now c.requires (subst (IsBelowTold k u c.args.label.now) c.in-Some.is c.in_ok-neighbour.ensures.ok) in
+    let there : IsAcross k u c.args.label.now (Some c.in-Some.neighbour) = subst (IsBelowTold k u c.args.label.now) c.in-Some.is c.in_ok-neighbour.ensures.ok in
     let p = err_from_is_err_and c.from_residual-in_err-child.result c.from_residual-in_err-child.ensures.1 in
-    rw p.1 (subst (λ e. IsTreeRefusal (fan_of k u) c.args.self.now.pairs e) (sym p.2) (refusal_beside k c.args.self.now.pairs u c.in-Some.neighbour c.in_err-child.field-0.0 there c.in_err-child.ensures.cause))
+    rw p.1 (subst (λ e. IsCallRefusal k c.args.self.now.pairs u e) (sym p.2) (IsCallRefusal.beside c.in-Some.neighbour c.args.label.now there c.in_err-child.ensures.cause))
 
 pub returns-clause-ok : goal.returns-clause-ok
 returns-clause-ok c =
