@@ -1,5 +1,5 @@
 -- A command on one text, as gf_items has it, is a command here, lawful where it was exact and tested.
--- To cite: one_lawful, at_once; one_refused, one_answered, one_whole, one_reach, one_begun. The rest are steps.
+-- To cite: one_lawful, IsSoundAtEnd, at_end_lawful, IsSoundAlong, along_lawful, at_once; one_refused, one_answered, one_whole, one_reach, one_begun. The rest are steps.
 use Rattle.std.specs.Prelude.{◌≡◌, ◌⊎◌, ℕ, List, [], ◌∷◌}
 use Rattle.std.proofs.Common.{refl, subst, inl, inr}
 use Rattle.gf_front.specs.declared.refusal.Refusal.{Refusal}
@@ -135,3 +135,22 @@ one_refused c writing source r (IsCommandRefused.no_memory m) = IsRefusedOn.no_m
 
 pub one_whole : (c : OneText) (source text : List ℕ) → IsOneWhole c source text → IsWholeFor (on_one c (along c)) (source ∷ []) text
 one_whole c source text a = record { value = a.value; read = a.read; formed = a.formed; is_whole = a.is_whole }
+
+-- ---- what a command on the input owes
+
+-- one that writes at its end is told in one way, and doesn't come to the limit of a list
+pub record IsSoundAtEnd (c : OneText) : Type 0 where
+  pub exact : IsExactCommand c
+  pub tested : IsTestedCommand c
+  pub unlisted : (a : c.Value) (most : ℕ) → c.IsCause a (refusals.ListLimit most) → ⊥
+
+pub at_end_lawful : (c : OneText) → IsSoundAtEnd c → IsLawful (on_one c Writing.at_end)
+at_end_lawful c h = one_lawful c h.exact Writing.at_end h.tested (λ a most w. absurd (h.unlisted a most w)) (λ a text w. inr w) tt (λ x. x)
+
+-- one that writes as it goes is told in one way
+pub record IsSoundAlong (c : OneText) : Type 0 where
+  pub exact : IsExactCommand c
+  pub tested : IsTestedCommand c
+
+pub along_lawful : (c : OneText) → IsSoundAlong c → IsLawful (on_one c (along c))
+along_lawful c h = one_lawful c h.exact (along c) h.tested (λ a most w. tt) (λ a text w. inl w) tt (λ x. x)
