@@ -74,11 +74,11 @@ dividing-more bs f old s t qs rs j b q e k w r h = subst (Dividing bs f t) (sym 
   form = normal_forming-more bs f old s t j b q e k w h.form;
   divided = subst (λ (z : Term). IsDivisionByRule bs f (with_quotient qs j z) (joined_terms t)) quotient (IsDivisionByRule.next qs (joined_terms s) (joined_terms t) (subst (IsDivisionByRule bs f qs) (sym e) h.divided) (rule_step bs s t j b q k w));
   places = length-with_quotient qs j q ∙ h.places;
-  variables = record { at = λ n v. with-variables n qs j q (h.variables.at n v) (w.variables ∙ k.head ∙ first_length n s k.term (record { descending = k.variables.sound.descending; variables = subst (HasVariables n) (sym e) (h.form.kept.at n v) }) k.is) };
+  variables = record { at = λ n v. with-variables n qs j q (h.variables.at n v) (w.variables ∙ k.found.head ∙ first_length n s k.found.term (record { descending = k.found.variables.sound.descending; variables = subst (HasVariables n) (sym e) (h.form.kept.at n v) }) k.found.is) };
 })
   where
-    quotient : record { coef = coefficient (joined_terms s) k.term.mono; mono = q.mono } ≡ q
-    quotient = λ i. record { coef = (ap (coefficient (joined_terms s)) (first_head _ k.term k.is) ∙ w.coefficient_is) i; mono = q.mono }
+    quotient : record { coef = coefficient (joined_terms s) k.found.term.mono; mono = q.mono } ≡ q
+    quotient = λ i. record { coef = (ap (coefficient (joined_terms s)) (first_head _ k.found.term k.found.is) ∙ w.coefficient_is) i; mono = q.mono }
 
 -- ---- products
 

@@ -42,19 +42,19 @@ pub found_facts : (bs : List MarkedPolynomial) (spared : Option Exponents) (old 
 found_facts bs spared old s o j b i e v t a h = rule_facts bs spared old s j b e v t a (subst (IsSought bs spared s) i h)
 
 pub less_left : (bs : List MarkedPolynomial) (spared : Option Exponents) (w : List ℕ) (old s t : Split) (j : ℕ) (b : MarkedPolynomial) (q : Term) → joined_terms s ≡ joined_terms old → AreMarked (lighter w) bs → RuleFacts bs spared s j b → TakesStep b s q t → work_left (2 ^ 31) ROOM bs (joined_terms t) < work_left (2 ^ 31) ROOM bs (joined_terms old)
-less_left bs spared w old s t j b q e m k h = subst (λ (f : Terms). work_left (2 ^ 31) ROOM bs (joined_terms t) < work_left (2 ^ 31) ROOM bs f) e (less_work bs spared w s t j b q m k h)
+less_left bs spared w old s t j b q e m k h = subst (λ (f : Terms). work_left (2 ^ 31) ROOM bs (joined_terms t) < work_left (2 ^ 31) ROOM bs f) e (less_work bs spared w s t j b q m k.found h)
 
 pub normal_forming-more : (bs : List MarkedPolynomial) (f : Terms) (old s t : Split) (j : ℕ) (b : MarkedPolynomial) (q : Term) → joined_terms s ≡ joined_terms old → RuleFacts bs None s j b → TakesStep b s q t → NormalForming bs f old → NormalForming bs f t
 normal_forming-more bs f old s t j b q e k w h = record {
   reached = IsRuleReached.next (joined_terms s) (joined_terms t) (subst (IsRuleReached bs f) (sym e) h.reached) (rule_step bs s t j b q k w);
-  variables = share_step bs None s t j b q k w;
+  variables = share_step bs None s t j b q k.found w;
   above = front_irreducible bs None t.above w.passed s.above w.above k.above;
-  kept = keeps_step bs None f s t j b q k w (keeps_along f (joined_terms old) (joined_terms s) e h.kept);
+  kept = keeps_step bs None f s t j b q k.found w (keeps_along f (joined_terms old) (joined_terms s) e h.kept);
 }
 
 -- a refusal of the step is one of the reduction
 pub rule_refused : (bs : List MarkedPolynomial) (f : Terms) (old s : Split) (j : ℕ) (b : MarkedPolynomial) (e : PolyError) → joined_terms s ≡ joined_terms old → RuleFacts bs None s j b → NormalForming bs f old → IsStepRefusal (joined_terms s) b (head_of s.below 0) e → IsReductionRefusal bs f e
-rule_refused bs f old s j b e q k h r = reduction_refused bs f (joined_terms s) b (head_of s.below 0) e (normal_form-reached bs f (joined_terms s) (subst (IsRuleReached bs f) (sym q) h.reached)) (member_contained bs j b k.at) r
+rule_refused bs f old s j b e q k h r = reduction_refused bs f (joined_terms s) b (head_of s.below 0) e (normal_form-reached bs f (joined_terms s) (subst (IsRuleReached bs f) (sym q) h.reached)) (member_contained bs j b k.found.at) r
 
 -- at the end
 pub normal_form_at : (bs : List MarkedPolynomial) (f r : Terms) (old s : Split) → joined_terms s ≡ joined_terms old → s.below ≡ [] → r ≡ joined_terms s → AreIrreducible bs None s.above → NormalForming bs f old → IsNormalForm bs f r

@@ -1,6 +1,6 @@
 -- The rule of the normal form: the step that the search leads to is the rule's, it leaves less work, and its refusal is one
 -- of the reduction.
--- To cite: share_along, RuleFacts, rule_facts, rule_shares, rule_step, step-of_rule, keeps_step, front_irreducible, irreducible_whole,
+-- To cite: share_along, Found, found_at, found_shares, found_divides, RuleFacts, rule_facts, rule_step, step-of_rule, keeps_step, front_irreducible, irreducible_whole,
 -- less_work, operation_more, exponents_more, reduction_refused.
 use Rattle.std.specs.Prelude.{◌≡◌, ◌⊎◌, ℕ, ◌<◌, ◌^◌, Bool, true, false, List, [], ◌∷◌, ◌++◌, length, Contains, None}
 use Rattle.std.specs.declared.option.Option.{Option}
@@ -33,7 +33,7 @@ use Rattle.gf_ideal.proofs.ListLaws.{Each-++}
 use Rattle.gf_ideal.proofs.ListedTerms.{listed, box_of_monomial}
 use Rattle.gf_ideal.proofs.MeasureLaws.{work_left-at}
 use Rattle.gf_division.specs.Steps.{IsStepRefusal, IsReductionRefusal}
-use Rattle.gf_division.specs.Dividends.{Split, joined_terms, IsSound, IsTermInFront, SharesVariables, TakesStep}
+use Rattle.gf_division.specs.Dividends.{Split, joined_terms, IsSound, IsTermInFront, DividesFirst, SharesVariables, TakesStep}
 use Rattle.gf_division.specs.Reducers.{IsBeside, AreIrreducible, ShareVariables, IsReducibleFirst}
 use Rattle.gf_division.proofs.DescendingParts.{descending-back, variables-back}
 use Rattle.gf_division.proofs.DividendLaws.{first_head, first_length}
@@ -47,8 +47,8 @@ sound_same n s t e h = record { descending = subst IsDescending (sym e) h.descen
 pub share_along : (s t : Split) (bs : List MarkedPolynomial) (spared : Option Exponents) → joined_terms t ≡ joined_terms s → ShareVariables s bs spared → ShareVariables t bs spared
 share_along s t bs spared e v = record { n = v.n; sound = sound_same v.n s t e v.sound; members = v.members; spare = v.spare }
 
--- what the search has found: the step at x by the member b at the place j
-pub record RuleFacts (bs : List MarkedPolynomial) (spared : Option Exponents) (s : Split) (j : ℕ) (b : MarkedPolynomial) : Type 0 where
+-- the step at the first term below the place, by the member b at the place j
+pub record Found (bs : List MarkedPolynomial) (spared : Option Exponents) (s : Split) (j : ℕ) (b : MarkedPolynomial) : Type 0 where
   pub term : Term
   pub is : IsTermInFront s.below term
   pub at : IsAt bs j b
@@ -59,10 +59,9 @@ pub record RuleFacts (bs : List MarkedPolynomial) (spared : Option Exponents) (s
   pub beside : IsBeside spared term.mono
   pub monomial : IsMonomial term.mono
   pub variables : ShareVariables s bs spared
-  pub above : AreIrreducible bs spared s.above
 
-pub rule_facts : (bs : List MarkedPolynomial) (spared : Option Exponents) (old s : Split) (j : ℕ) (b : MarkedPolynomial) → b ≡ get_or bs j b → ShareVariables old bs spared → joined_terms s ≡ joined_terms old → AreIrreducible bs spared s.above → IsReducibleFirst bs spared s j → RuleFacts bs spared s j b
-rule_facts bs spared old s j b e v t a r =
+pub found_at : (bs : List MarkedPolynomial) (spared : Option Exponents) (s : Split) (j : ℕ) (b : MarkedPolynomial) → b ≡ get_or bs j b → ShareVariables s bs spared → IsReducibleFirst bs spared s j → Found bs spared s j b
+found_at bs spared s j b e v r =
     let d = r.divisor in
     let q : IsAt bs j b = record { within = d.at.within; is = sym e } in
     let m : d.member ≡ b = members_equal bs j d.member b d.at q in
@@ -77,13 +76,23 @@ rule_facts bs spared old s j b e v t a r =
       poly = subst (λ (n : ℕ). HasVariables n b.poly) (sym l) (subst (λ (c : MarkedPolynomial). HasVariables (length r.term.mono) c.poly) m d.poly);
       beside = r.beside;
       monomial = r.monomial;
-      variables = share_along old s bs spared t v;
-      above = a;
+      variables = v;
     }
 
 -- so the step may be taken
-pub rule_shares : (bs : List MarkedPolynomial) (spared : Option Exponents) (s : Split) (j : ℕ) (b : MarkedPolynomial) → RuleFacts bs spared s j b → SharesVariables b s
-rule_shares bs spared s j b k = record { n = k.variables.n; sound = k.variables.sound; poly = subst (λ (n : ℕ). HasVariables n b.poly) (k.head ∙ first_length k.variables.n s k.term k.variables.sound k.is) k.poly }
+pub found_shares : (bs : List MarkedPolynomial) (spared : Option Exponents) (s : Split) (j : ℕ) (b : MarkedPolynomial) → Found bs spared s j b → SharesVariables b s
+found_shares bs spared s j b k = record { n = k.variables.n; sound = k.variables.sound; poly = subst (λ (n : ℕ). HasVariables n b.poly) (k.head ∙ first_length k.variables.n s k.term k.variables.sound k.is) k.poly }
+
+pub found_divides : (bs : List MarkedPolynomial) (spared : Option Exponents) (s : Split) (j : ℕ) (b : MarkedPolynomial) → Found bs spared s j b → DividesFirst b.head s.below
+found_divides bs spared s j b k = record { term = k.term; first = k.is; divides = k.divides }
+
+-- the same, and no term above the place can be divided
+pub record RuleFacts (bs : List MarkedPolynomial) (spared : Option Exponents) (s : Split) (j : ℕ) (b : MarkedPolynomial) : Type 0 where
+  pub found : Found bs spared s j b
+  pub above : AreIrreducible bs spared s.above
+
+pub rule_facts : (bs : List MarkedPolynomial) (spared : Option Exponents) (old s : Split) (j : ℕ) (b : MarkedPolynomial) → b ≡ get_or bs j b → ShareVariables old bs spared → joined_terms s ≡ joined_terms old → AreIrreducible bs spared s.above → IsReducibleFirst bs spared s j → RuleFacts bs spared s j b
+rule_facts bs spared old s j b e v t a r = record { found = found_at bs spared s j b e (share_along old s bs spared t v) r; above = a }
 
 -- ---- the step is one of the rule
 
@@ -133,7 +142,7 @@ greatest_divisible bs s n t h f a x m d = onto (listed Q (joined_terms s) x (Eac
         along (inr l) = inr (deglex-order.strict.along_left r.0.mono x t.mono (same_flip x r.0.mono r.2) l)
 
 -- the step that was taken, as one by the list
-abbrev pub step_by : (bs : List MarkedPolynomial) (spared : Option Exponents) (s t : Split) (j : ℕ) (b : MarkedPolynomial) (q : Term) → RuleFacts bs spared s j b → TakesStep b s q t → IsStep (Contains bs) (joined_terms s) (joined_terms t)
+abbrev pub step_by : (bs : List MarkedPolynomial) (spared : Option Exponents) (s t : Split) (j : ℕ) (b : MarkedPolynomial) (q : Term) → Found bs spared s j b → TakesStep b s q t → IsStep (Contains bs) (joined_terms s) (joined_terms t)
 step_by bs spared s t j b q k w =
     let e = first_head s.below k.term k.is in
     record {
@@ -147,7 +156,8 @@ step_by bs spared s t j b q k w =
     }
 
 abbrev pub rule_step : (bs : List MarkedPolynomial) (s t : Split) (j : ℕ) (b : MarkedPolynomial) (q : Term) → RuleFacts bs None s j b → TakesStep b s q t → IsRuleStep bs (joined_terms s) (joined_terms t)
-rule_step bs s t j b q k w =
+rule_step bs s t j b q r w =
+    let k = r.found in
     let p = step_by bs None s t j b q k w in
     record {
       at = p.at;
@@ -158,7 +168,7 @@ rule_step bs s t j b q k w =
       there = p.there;
       divides = p.divides;
       first = λ i c l m. no_multiple c.head k.term.mono (k.first i c l m);
-      greatest = greatest_divisible bs s k.variables.n k.term k.variables.sound k.is k.above;
+      greatest = greatest_divisible bs s k.variables.n k.term k.variables.sound k.is r.above;
       equal = p.equal;
     }
 
@@ -172,7 +182,7 @@ front_irreducible bs spared f g h e a = front f (subst (AreIrreducible bs spared
     front [] a = tt
     front (t ∷ f) a = (a.0, front f a.1)
 
-pub share_step : (bs : List MarkedPolynomial) (spared : Option Exponents) (s t : Split) (j : ℕ) (b : MarkedPolynomial) (q : Term) → RuleFacts bs spared s j b → TakesStep b s q t → ShareVariables t bs spared
+pub share_step : (bs : List MarkedPolynomial) (spared : Option Exponents) (s t : Split) (j : ℕ) (b : MarkedPolynomial) (q : Term) → Found bs spared s j b → TakesStep b s q t → ShareVariables t bs spared
 share_step bs spared s t j b q k w = record {
   n = k.variables.n;
   sound = w.sound k.variables.n k.variables.sound;
@@ -180,7 +190,7 @@ share_step bs spared s t j b q k w = record {
   spare = k.variables.spare;
 }
 
-pub keeps_step : (bs : List MarkedPolynomial) (spared : Option Exponents) (f : Terms) (s t : Split) (j : ℕ) (b : MarkedPolynomial) (q : Term) → RuleFacts bs spared s j b → TakesStep b s q t → KeepsVariables f (joined_terms s) → KeepsVariables f (joined_terms t)
+pub keeps_step : (bs : List MarkedPolynomial) (spared : Option Exponents) (f : Terms) (s t : Split) (j : ℕ) (b : MarkedPolynomial) (q : Term) → Found bs spared s j b → TakesStep b s q t → KeepsVariables f (joined_terms s) → KeepsVariables f (joined_terms t)
 keeps_step bs spared f s t j b q k w v = record {
   at = λ n h. (w.sound n (record { descending = k.variables.sound.descending; variables = v.at n h })).variables;
 }
@@ -201,7 +211,7 @@ all_above s e = ap (λ (z : Terms). s.above ++ z) e ∙ append-nil s.above
 
 -- ---- less work
 
-pub less_work : (bs : List MarkedPolynomial) (spared : Option Exponents) (w : List ℕ) (s t : Split) (j : ℕ) (b : MarkedPolynomial) (q : Term) → AreMarked (lighter w) bs → RuleFacts bs spared s j b → TakesStep b s q t → work_left (2 ^ 31) ROOM bs (joined_terms t) < work_left (2 ^ 31) ROOM bs (joined_terms s)
+pub less_work : (bs : List MarkedPolynomial) (spared : Option Exponents) (w : List ℕ) (s t : Split) (j : ℕ) (b : MarkedPolynomial) (q : Term) → AreMarked (lighter w) bs → Found bs spared s j b → TakesStep b s q t → work_left (2 ^ 31) ROOM bs (joined_terms t) < work_left (2 ^ 31) ROOM bs (joined_terms s)
 less_work bs spared w s t j b q m k h = work_left-at (2 ^ 31) ROOM w bs (joined_terms s) (joined_terms t) m (step_by bs spared s t j b q k h) (box_of_monomial k.term.mono k.monomial)
 
 -- ---- refusals

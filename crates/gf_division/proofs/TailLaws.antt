@@ -1,5 +1,5 @@
 -- One tail, reduced: the steps at unmarked monomials, and what they end with.
--- To cite: AreElsewhere, elsewhere_none, elsewhere_more, elsewhere_end, head_at_place, Tailing, tailing-none, tailing-more,
+-- To cite: AreElsewhere, elsewhere_none, elsewhere_more, elsewhere_end, head_at_place, TailStart, tail_start,
 -- tail_refused, TailFacts, tail_facts, tail_variables, tail_there, reduced_tail_at, kept_form_at.
 use Rattle.std.specs.Prelude.{◌≡◌, ℕ, zero, suc, ◌+◌, ◌<◌, ◌≤◌, Bool, true, false, List, [], ◌∷◌, ◌++◌, length, Contains, Some, take}
 use Rattle.std.specs.declared.option.Option.{Option}
@@ -25,15 +25,14 @@ use Rattle.gf_ideal.proofs.ListLaws.{Each-++}
 use Rattle.gf_ideal.proofs.ListedTerms.{listed}
 use Rattle.gf_ideal.proofs.MarkWeights.{mark-there}
 use Rattle.gf_ideal.proofs.InterreductionLaws.{tail-marked}
-use Rattle.gf_division.specs.Steps.{IsStepRefusal}
 use Rattle.gf_division.specs.NormalForms.{HasSomeWeight}
-use Rattle.gf_division.specs.Dividends.{Split, joined_terms, TakesStep}
+use Rattle.gf_division.specs.Dividends.{Split, joined_terms}
 use Rattle.gf_division.specs.Reducers.{IsBeside, IsSpareIn, AreIrreducible, ShareVariables}
+use Rattle.gf_division.specs.Remainders.{ReachedBeside, IsWorkedOn, IsWorkRefusal}
 use Rattle.gf_division.specs.Autoreduction.{IsTailRefusal, ShareSomeVariables, IsKeptForm}
-use Rattle.gf_division.proofs.DividendLaws.{first_head}
 use Rattle.gf_division.proofs.StepLaws.{head_length}
-use Rattle.gf_division.proofs.ReducerLaws.{member_contained, member_variables}
-use Rattle.gf_division.proofs.RuleLaws.{RuleFacts, step_by, share_step, keeps_step, keeps_along, front_irreducible, all_above, operation_more, exponents_more, only, divisible_along}
+use Rattle.gf_division.proofs.ReducerLaws.{member_variables}
+use Rattle.gf_division.proofs.RuleLaws.{operation_more, exponents_more, only, divisible_along}
 
 -- ---- the place of a monomial
 
@@ -76,18 +75,24 @@ head_at_place x f i t l e q = head_at f i t l e ∙ equal_same t.mono x q
 
 -- ---- the steps
 
--- what holds after some steps that spare the mark of b
-pub record Tailing (ks : List MarkedPolynomial) (b : MarkedPolynomial) (spared : Option Exponents) (s : Split) : Type 0 where
+-- a polynomial that steps at other monomials than the mark of b lead to from b
+tail_reached : (ks : List MarkedPolynomial) (b : MarkedPolynomial) (g : Terms) → Contains ks b → ReachedBeside ks (Some b.head) b.poly g → IsTail ks (record { poly = g; head = b.head })
+tail_reached ks b _ c ReachedBeside.here = IsTail.member b c
+tail_reached ks b _ c (ReachedBeside.next g h r s n) = IsTail.step (record { poly = g; head = b.head }) (record { poly = h; head = b.head }) (tail_reached ks b g c r) (same-refl b.head) s n
+
+-- where the tail of b is reduced
+pub record TailStart (ks : List MarkedPolynomial) (b : MarkedPolynomial) (spared : Option Exponents) (s : Split) : Type 0 where
   pub spare : spared ≡ Some b.head
-  pub tail : IsTail ks (record { poly = joined_terms s; head = b.head })
+  pub contained : Contains ks b
+  pub same : joined_terms s ≡ b.poly
   pub variables : ShareVariables s ks spared
   pub above : AreIrreducible ks spared s.above
-  pub kept : KeepsVariables b.poly (joined_terms s)
 
-pub tailing-none : (ks : List MarkedPolynomial) (b : MarkedPolynomial) (spared : Option Exponents) (f : Terms) (s : Split) → spared ≡ Some b.head → f ≡ b.poly → IsDescending f → ShareSomeVariables ks → Contains ks b → HasMarkedTerm b → s ≡ record { above = []; below = f } → Tailing ks b spared s
-tailing-none ks b spared f s es ef d v c m e = subst (Tailing ks b spared) (sym e) (subst (λ (z : Option Exponents). Tailing ks b z (record { above = []; below = f })) (sym es) (record {
+pub tail_start : (ks : List MarkedPolynomial) (b : MarkedPolynomial) (spared : Option Exponents) (f : Terms) (s : Split) → spared ≡ Some b.head → f ≡ b.poly → IsDescending f → ShareSomeVariables ks → Contains ks b → HasMarkedTerm b → s ≡ record { above = []; below = f } → TailStart ks b spared s
+tail_start ks b spared f s es ef d v c m e = subst (TailStart ks b spared) (sym e) (subst (λ (z : Option Exponents). TailStart ks b z (record { above = []; below = f })) (sym es) (record {
   spare = refl;
-  tail = subst (λ (g : Terms). IsTail ks (record { poly = g; head = b.head })) (sym ef) (IsTail.member b c);
+  contained = c;
+  same = ef;
   variables = record {
     n = v.n;
     sound = record { descending = d; variables = subst (HasVariables v.n) (sym ef) w };
@@ -95,59 +100,40 @@ tailing-none ks b spared f s es ef d v c m e = subst (Tailing ks b spared) (sym 
     spare = head_length v.n b w m;
   };
   above = tt;
-  kept = record { at = λ n h. subst (HasVariables n) (sym ef) h };
 }))
   where
     w : HasVariables v.n b.poly
     w = member_variables v.n ks b v.each c
 
-unmarked : (ks : List MarkedPolynomial) (b : MarkedPolynomial) (spared : Option Exponents) (s : Split) (j : ℕ) (c : MarkedPolynomial) → spared ≡ Some b.head → (k : RuleFacts ks spared s j c) → same k.term.mono b.head ≡ false
-unmarked ks b spared s j c e k = subst (λ (z : Option Exponents). IsBeside z k.term.mono) e k.beside
+tail_from : (ks : List MarkedPolynomial) (b : MarkedPolynomial) (spared : Option Exponents) (s : Split) (g : Terms) → TailStart ks b spared s → ReachedBeside ks spared (joined_terms s) g → IsTail ks (record { poly = g; head = b.head })
+tail_from ks b spared s g t r = tail_reached ks b g t.contained (subst (λ (f : Terms). ReachedBeside ks (Some b.head) f g) t.same (subst (λ (z : Option Exponents). ReachedBeside ks z (joined_terms s) g) t.spare r))
 
-pub tailing-more : (ks : List MarkedPolynomial) (b : MarkedPolynomial) (spared : Option Exponents) (old s t : Split) (j : ℕ) (c : MarkedPolynomial) (q : Term) → joined_terms s ≡ joined_terms old → RuleFacts ks spared s j c → TakesStep c s q t → Tailing ks b spared old → Tailing ks b spared t
-tailing-more ks b spared old s t j c q e k w h = record {
-  spare = h.spare;
-  tail = IsTail.step (record { poly = joined_terms s; head = b.head }) (record { poly = joined_terms t; head = b.head }) (subst (λ (g : Terms). IsTail ks (record { poly = g; head = b.head })) (sym e) h.tail) (same-refl b.head) (step_by ks spared s t j c q k w) (unmarked ks b spared s j c h.spare k);
-  variables = share_step ks spared s t j c q k w;
-  above = front_irreducible ks spared t.above w.passed s.above w.above k.above;
-  kept = keeps_step ks spared b.poly s t j c q k w (keeps_along b.poly (joined_terms old) (joined_terms s) e h.kept);
-}
-
--- a refusal of the step
-pub tail_refused : (ks : List MarkedPolynomial) (b : MarkedPolynomial) (spared : Option Exponents) (old s : Split) (j : ℕ) (c : MarkedPolynomial) (e : PolyError) → joined_terms s ≡ joined_terms old → RuleFacts ks spared s j c → Tailing ks b spared old → IsStepRefusal (joined_terms s) c (head_of s.below 0) e → IsTailRefusal ks e
-tail_refused ks b spared old s j c e q k h r = at e r
+-- a refusal of a step
+pub tail_refused : (ks : List MarkedPolynomial) (b : MarkedPolynomial) (spared : Option Exponents) (s : Split) (e : PolyError) → TailStart ks b spared s → IsWorkRefusal ks spared (joined_terms s) e → IsTailRefusal ks e
+tail_refused ks b spared s e t r = at e r
   where
-    from : IsTail ks (record { poly = joined_terms s; head = b.head })
-    from = subst (λ (g : Terms). IsTail ks (record { poly = g; head = b.head })) (sym q) h.tail
-
-    beside : same (head_of s.below 0) b.head ≡ false
-    beside = subst (λ (x : Exponents). same x b.head ≡ false) (first_head s.below k.term k.is) (unmarked ks b spared s j c h.spare k)
-
-    more : (d : MarkedPolynomial) → d ≡ c → Contains ks d
-    more d g = only ks c (member_contained ks j c k.at) d g
-
-    at : (e : PolyError) → IsStepRefusal (joined_terms s) c (head_of s.below 0) e → IsTailRefusal ks e
-    at (errors.Overflow o) r = (
+    at : (e : PolyError) → IsWorkRefusal ks spared (joined_terms s) e → IsTailRefusal ks e
+    at (errors.Overflow o) k = (
       record {
-        from = record { poly = joined_terms s; head = b.head };
-        tail = from;
-        at = head_of s.below 0;
-        unmarked = beside;
-        operation = operation_more (λ (d : MarkedPolynomial). d ≡ c) (Contains ks) more (joined_terms s) (head_of s.below 0) o.op o.left o.right r.0;
+        from = record { poly = k.from; head = b.head };
+        tail = tail_from ks b spared s k.from t k.reached;
+        at = k.at;
+        unmarked = subst (λ (z : Option Exponents). IsBeside z k.at) t.spare k.beside;
+        operation = operation_more (λ (d : MarkedPolynomial). d ≡ k.member) (Contains ks) (λ d g. only ks k.member k.contained d g) k.from k.at o.op o.left o.right k.refused.0;
       },
-      r.1,
+      k.refused.1,
     )
-    at (errors.Exponent o) r = (
+    at (errors.Exponent o) k = (
       record {
-        from = record { poly = joined_terms s; head = b.head };
-        tail = from;
-        at = head_of s.below 0;
-        unmarked = beside;
-        sum = exponents_more (λ (d : MarkedPolynomial). d ≡ c) (Contains ks) more (joined_terms s) (head_of s.below 0) o.left o.right r.0;
+        from = record { poly = k.from; head = b.head };
+        tail = tail_from ks b spared s k.from t k.reached;
+        at = k.at;
+        unmarked = subst (λ (z : Option Exponents). IsBeside z k.at) t.spare k.beside;
+        sum = exponents_more (λ (d : MarkedPolynomial). d ≡ k.member) (Contains ks) (λ d g. only ks k.member k.contained d g) k.from k.at o.left o.right k.refused.0;
       },
-      r.1,
+      k.refused.1,
     )
-    at errors.Memory r = tt
+    at errors.Memory k = tt
 
 -- ---- the end
 
@@ -170,21 +156,18 @@ irreducible_beside ks x f a y m d = at (same y x) refl
     at true e = e
     at false e = absurd (there e (listed (λ (t : Term). IsBeside (Some x) t.mono → IsDivisible (Contains ks) t.mono → ⊥) f y a m))
 
-pub tail_facts : (ks : List MarkedPolynomial) (b : MarkedPolynomial) (spared : Option Exponents) (old s : Split) (g : Terms) → HasMarkedTerm b → joined_terms s ≡ joined_terms old → s.below ≡ [] → g ≡ joined_terms s → AreIrreducible ks spared s.above → Tailing ks b spared old → TailFacts ks b g
-tail_facts ks b spared old s g m e n q a h = record {
-  tail = subst (λ (f : Terms). IsTail ks (record { poly = f; head = b.head })) (sym whole) h.tail;
-  irreducible = irreducible_beside ks b.head g (subst (AreIrreducible ks (Some b.head)) (sym (q ∙ all_above s n)) (subst (λ (z : Option Exponents). AreIrreducible ks z s.above) h.spare a));
-  kept = keeps_along b.poly (joined_terms old) g whole h.kept;
-  descending = subst IsDescending (sym whole) h.variables.sound.descending;
-  variables = subst (HasVariables (length b.head)) (sym whole) (subst (λ (k : ℕ). HasVariables k (joined_terms old)) (sym long) h.variables.sound.variables);
+pub tail_facts : (ks : List MarkedPolynomial) (b : MarkedPolynomial) (spared : Option Exponents) (old s : Split) (g : Terms) → HasMarkedTerm b → TailStart ks b spared old → g ≡ joined_terms s → AreIrreducible ks spared (joined_terms s) → IsWorkedOn ks spared old s → TailFacts ks b g
+tail_facts ks b spared old s g m t q a h = record {
+  tail = tail_from ks b spared old g t (subst (ReachedBeside ks spared (joined_terms old)) (sym q) h.reached);
+  irreducible = irreducible_beside ks b.head g (subst (AreIrreducible ks (Some b.head)) (sym q) (subst (λ (z : Option Exponents). AreIrreducible ks z (joined_terms s)) t.spare a));
+  kept = record { at = λ n v. subst (HasVariables n) (sym q) (h.kept.at n (subst (HasVariables n) (sym t.same) v)) };
+  descending = subst IsDescending (sym q) h.variables.sound.descending;
+  variables = subst (HasVariables (length b.head)) (sym q) (subst (λ (k : ℕ). HasVariables k (joined_terms s)) (sym long) h.variables.sound.variables);
   marked = m;
 }
   where
-    whole : g ≡ joined_terms old
-    whole = q ∙ e
-
     long : length b.head ≡ h.variables.n
-    long = subst (IsSpareIn h.variables.n) h.spare h.variables.spare
+    long = subst (IsSpareIn h.variables.n) t.spare h.variables.spare
 
 -- the mark is a monomial of it
 pub tail_there : (ks : List MarkedPolynomial) (b : MarkedPolynomial) (g : Terms) → HasSomeWeight ks → TailFacts ks b g → HasMonomial g b.head

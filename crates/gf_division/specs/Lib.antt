@@ -6,3 +6,4 @@ pub mod SPolynomials  -- S-polynomials of any marked polynomials
 pub mod Autoreduction  -- the reduced basis from any basis
 pub mod Dividends  -- a polynomial under reduction, with a place in it
 pub mod Reducers  -- which member reduces a term
+pub mod Remainders  -- remainders by any steps

@@ -11,8 +11,9 @@ ghost use Rattle.gf_division.specs.NormalForms.{HasSomeWeight};
 ghost use Rattle.gf_division.specs.Autoreduction.{AreNeededForms, IsAutoreduced, IsReducedOf, IsTailRefusal, IsNeededRefusal, IsAutoreductionRefusal, ShareSomeVariables, MakesNeedless, IsNeededAt, KeepVariables, IsKeptForm, AreKeptForms};
 
 use crate::dividend::Dividend;
+use crate::front::Guide;
 use crate::monic::made_monic;
-use crate::reducers::seek;
+use crate::remainders::work_off;
 use gf_poly::{Marked, MarkedSet, Mono, PolyError, Term};
 use std::alloc::Global;
 use std::cmp::Ordering;
@@ -84,7 +85,12 @@ pub fn place_of(terms: &[Term], x: &Mono) -> usize
 ///
 /// `Overflow` and `Exponent` only where two numbers of a step at an unmarked monomial of a tail, by a member, don't fit; it
 /// holds them.
-pub fn reduced_tail(alloc: Global, member: &Marked, by: &[Marked]) -> Result<Marked, PolyError>
+pub fn reduced_tail(
+    alloc: Global,
+    member: &Marked,
+    by: &[Marked],
+    guide: &mut Guide,
+) -> Result<Marked, PolyError>
     requires member { Contains by.now member.now }
     requires marked { HasSomeWeight by.now }
     requires variables { ShareSomeVariables by.now }
@@ -94,17 +100,14 @@ pub fn reduced_tail(alloc: Global, member: &Marked, by: &[Marked]) -> Result<Mar
 {
     let spared = Some(member.head().copy());
     let mut rest = Dividend::new(alloc, member.poly().copy()?);
-    'steps: while let Some(j) = seek(&mut rest, by, &spared)? {
-        let reducer = &by[j];
-        let _ = rest.step(reducer)?;
-    }
+    work_off(alloc, &mut rest, by, &spared, guide)?;
     let tail = rest.into_poly()?;
     let place = place_of(tail.terms(), member.head());
     Ok(Marked::mark(tail, place))
 }
 
 // The members with their tails reduced by one another.
-fn tails(alloc: Global, members: &[Marked]) -> Result<Vec<Marked>, PolyError>
+fn tails(alloc: Global, members: &[Marked], guide: &mut Guide) -> Result<Vec<Marked>, PolyError>
     requires marked { HasSomeWeight members.now }
     requires variables { ShareSomeVariables members.now }
     ensures tails { IfOk result (λ cs. AreReducedTails members.now members.now cs.items) }
@@ -113,7 +116,7 @@ fn tails(alloc: Global, members: &[Marked]) -> Result<Vec<Marked>, PolyError>
 {
     let mut done = Vec::with_capacity(alloc, members.len())?;
     'members: for i in 0..members.len() {
-        let member = reduced_tail(alloc, &members[i], members)?;
+        let member = reduced_tail(alloc, &members[i], members, guide)?;
         done.push(member)?;
     }
     Ok(done)
@@ -139,8 +142,28 @@ pub fn autoreduce(alloc: Global, set: &MarkedSet) -> Result<MarkedSet, PolyError
     ensures reduced { IfOk result (λ t. IsReducedOf set.now.variables set.now.items t.items) }
     ensures cause { IfErr result (IsAutoreductionRefusal set.now.items) }
 {
+    autoreduce_by(alloc, set, &mut Guide::unknown(alloc))
+}
+
+/// The same, with an order in which the marks are greatest: by it long tails are reduced.
+///
+/// # Errors
+///
+/// Those of `autoreduce`.
+pub fn autoreduce_by(
+    alloc: Global,
+    set: &MarkedSet,
+    guide: &mut Guide,
+) -> Result<MarkedSet, PolyError>
+    requires { IsRealisable set.now.variables set.now.items }
+    ensures value { IfOk result (IsAutoreduced set.now) }
+    ensures arranged { IfOk result (λ t. AreArranged set.now.variables t.items) }
+    ensures marked { IfOk result (λ t. HasPositiveWeight set.now.variables t.items) }
+    ensures reduced { IfOk result (λ t. IsReducedOf set.now.variables set.now.items t.items) }
+    ensures cause { IfErr result (IsAutoreductionRefusal set.now.items) }
+{
     let forms = needed_forms(alloc, set.items())?;
-    let reduced = tails(alloc, &forms)?;
+    let reduced = tails(alloc, &forms, guide)?;
     let all = MarkedSet::new(set.variables(), reduced).arrange()?;
     Ok(all)
 }

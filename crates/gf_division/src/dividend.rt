@@ -9,6 +9,7 @@ ghost use Rattle.gf_poly.specs.Sums.{PushesNonzero};
 ghost use Rattle.gf_division.specs.Steps.{IsStepRefusal};
 ghost use Rattle.gf_division.specs.Dividends.{split_of, joined_terms, IsSound, IsTermInFront, DividesFirst, AreOver, AreOverProducts, PassesOne, FirstIs, Descends, MovesUp, TakesFromFirst, IsFirstRefusal, TakesAway, IsDifferenceRefusal, IsScalingOverflow, Subtracts, IsSubtractionRefusal, SharesVariables, TakesStep};
 
+use crate::front::{Front, Guide};
 use gf_frac::{Frac, Overflow};
 use gf_poly::{Marked, Mono, Poly, PolyError, Term};
 use std::alloc::{AllocError, Global};
@@ -16,11 +17,13 @@ use std::cmp::Ordering;
 
 /// The terms above the place, the greatest first, and the terms below it, the greatest last.
 ///
-/// A step of reduction works at the place: it copies no term, and moves none that it doesn't pass.
+/// A step of reduction works at the place: it copies no term, and moves none that it doesn't pass. Where monomials wait to be
+/// reduced, one that a step adds waits too.
 #[derive(Drop)]
 pub struct Dividend {
     above: Vec<Term>,
     below: Vec<Term>,
+    front: Option<Front>,
 }
 
 // The product; by 1, from either side, it is the other number.
@@ -79,6 +82,7 @@ impl Dividend {
         Dividend {
             above: Vec::new(alloc),
             below,
+            front: None,
         }
     }
 
@@ -87,7 +91,11 @@ impl Dividend {
         requires { IsDescending (joined_terms (split_of self)) }
         ensures { IfOk result (λ f. f ≡ joined_terms (split_of self)) }
     {
-        let Dividend { above, below } = self;
+        let Dividend {
+            above,
+            below,
+            front: _,
+        } = self;
         let terms = joined(above, below)?;
         Ok(Poly::from_descending(terms))
     }
@@ -198,6 +206,66 @@ impl Dividend {
         }
     }
 
+    // A new monomial waits, where some do.
+    fn wait(&mut self, x: &Mono) -> Result<(), AllocError>
+        ensures { OnOk result (split_of self.new ≡ split_of self.old) }
+    {
+        match &mut self.front {
+            Some(front) => front.push(x),
+            None => Ok(()),
+        }
+    }
+
+    /// From now on monomials wait to be reduced, the greatest by the guide first: those that are there, and those that steps add.
+    pub(crate) fn watch(&mut self, alloc: Global, guide: &Guide) -> Result<(), AllocError>
+        ensures { OnOk result (split_of self.new ≡ split_of self.old) }
+    {
+        let mut front = Front::new(alloc, guide)?;
+        'above: for i in 0..self.above.len() {
+            front.push(&self.above[i].mono)?;
+        }
+        'below: for i in 0..self.below.len() {
+            front.push(&self.below[i].mono)?;
+        }
+        self.front = Some(front);
+        Ok(())
+    }
+
+    /// How many monomials wait.
+    pub(crate) fn waiting(&self) -> usize {
+        match &self.front {
+            Some(front) => front.len(),
+            None => 0,
+        }
+    }
+
+    /// Takes the greatest monomial out that waits.
+    pub(crate) fn foremost(&mut self, alloc: Global) -> Option<Mono>
+        ensures { split_of self.new ≡ split_of self.old }
+    {
+        match &mut self.front {
+            Some(front) => front.pop(alloc),
+            None => None,
+        }
+    }
+
+    /// Moves the place to the first term that isn't greater than `x`, and answers how that one compares with it.
+    pub(crate) fn go_to(&mut self, x: &Mono) -> Result<Ordering, AllocError>
+        requires { IsDescending (joined_terms (split_of self.old)) }
+        ensures { OnOk result (joined_terms (split_of self.new) ≡ joined_terms (split_of self.old)) }
+    {
+        self.ascend(x)?;
+        self.descend(x)
+    }
+
+    /// Moves the place above all terms.
+    pub(crate) fn rewind(&mut self) -> Result<(), AllocError>
+        ensures above { OnOk result ((split_of self.new).above ≡ []) }
+        ensures same { OnOk result (joined_terms (split_of self.new) ≡ joined_terms (split_of self.old)) }
+    {
+        self.rise(0)
+    }
+
     // Takes `coef` times `mono` away, which is below the terms above the place; the place is below it then.
     fn take_away(&mut self, coef: &Frac, mono: Mono) -> Result<(), PolyError>
         requires sound { IsSound (length mono) (split_of self.old) }
@@ -209,6 +277,7 @@ impl Dividend {
         match self.descend(&mono)? {
             Ordering::Equal => self.take_from_next(coef),
             _ => {
+                self.wait(&mono)?;
                 self.above.push(Term {
                     coef: coef.neg(),
                     mono,

@@ -4,16 +4,21 @@
 mod autoreduction;
 mod dividend;
 mod divisions;
+mod front;
 mod monic;
 mod normal_forms;
 mod reducers;
+mod remainders;
 mod s_polynomials;
 mod steps;
+mod weights;
 
-pub use autoreduction::{autoreduce, place_of, reduced_tail};
+pub use autoreduction::{autoreduce, autoreduce_by, place_of, reduced_tail};
 pub use dividend::Dividend;
 pub use divisions::{Division, divide};
+pub use front::Guide;
 pub use normal_forms::{normal_form, reduced};
 pub use reducers::divisor_of;
+pub use remainders::remainder;
 pub use s_polynomials::s_poly;
 pub use steps::reduce_step;

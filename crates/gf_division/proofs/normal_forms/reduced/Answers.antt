@@ -3,7 +3,7 @@ use Rattle.std.proofs.lemmas.Result.{err_from_is_err_and}
 use Rattle.std.specs.Prelude.{None}
 use Rattle.gf_division.specs.Dividends.{split_of}
 use Rattle.gf_division.specs.Reducers.{IsSought}
-use Rattle.gf_division.proofs.RuleLaws.{rule_shares}
+use Rattle.gf_division.proofs.RuleLaws.{found_shares, found_divides}
 use Rattle.gf_division.proofs.NormalFormLaws.{normal_forming-none, normal_forming-more, found_facts, less_left, rule_refused, normal_form_at}
 use Rattle.gf_division.proofs.normal_forms.reduced.Goals as goal
 
@@ -13,12 +13,12 @@ steps-init c = normal_forming-none c.args.by.now c.args.f (split_of c.new-rest.r
 pub step-requires-clause-variables : goal.step-requires-clause-variables
 step-requires-clause-variables c =
     let k = found_facts c.args.by.now None (split_of c.steps.rest) (split_of c.seek.new.rest) c.in_ok-j.field-0 c.in-Some.j c.index-by-j.result c.in-Some.is c.index-by-j.is c.steps.invariant.variables c.in_ok-j.ensures.same c.in_ok-j.ensures.above c.in_ok-j.ensures.found in
-    rule_shares _ _ (split_of c.seek.new.rest) _ c.index-by-j.result k
+    found_shares _ _ (split_of c.seek.new.rest) _ c.index-by-j.result k.found
 
 pub step-requires-clause-divides : goal.step-requires-clause-divides
 step-requires-clause-divides c =
     let k = found_facts c.args.by.now None (split_of c.steps.rest) (split_of c.seek.new.rest) c.in_ok-j.field-0 c.in-Some.j c.index-by-j.result c.in-Some.is c.index-by-j.is c.steps.invariant.variables c.in_ok-j.ensures.same c.in_ok-j.ensures.above c.in_ok-j.ensures.found in
-    record { term = k.term; first = k.is; divides = k.divides }
+    found_divides _ _ (split_of c.seek.new.rest) _ c.index-by-j.result k.found
 
 pub returns-in_err-step-clause-cause : goal.returns-in_err-step-clause-cause
 returns-in_err-step-clause-cause c =

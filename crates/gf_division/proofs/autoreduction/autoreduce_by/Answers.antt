@@ -1,5 +1,5 @@
 use Rattle.gf_division.proofs.AutoreductionLaws.{Autoreducing, given_variables, forms_some_variables, forms_weight, tails_variables, autoreducing, autoreduced_arranged, autoreduced_marked, autoreduced_reduced}
-use Rattle.gf_division.proofs.autoreduction.autoreduce.Goals as goal
+use Rattle.gf_division.proofs.autoreduction.autoreduce_by.Goals as goal
 
 pub needed_forms-requires : goal.needed_forms-requires
 needed_forms-requires c = given_variables c.args.set.now.variables c.args.set.now.items c.items.result.now c.items.ensures.value c.items.ensures.variables

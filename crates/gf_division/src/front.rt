@@ -1,0 +1,159 @@
+//! Which monomials are reduced first in a long reduction: the greatest by an order in which the marks are greatest, so that equal
+//! terms meet before they are reduced. Nothing is asked of it: reductions end by any.
+
+ghost use Rattle.std.specs.Prelude.{◌≤◌, length};
+ghost use Rattle.gf_poly.specs.declared.TheConstants.{ROOM};
+
+use crate::weights::{heft_of, weight_of};
+use gf_poly::{Marked, Mono, ROOM};
+use std::alloc::{AllocError, Global};
+use std::collections::BinaryHeap;
+
+/// How many steps by the rule come first where the order of the marks is another one: short reductions need no other.
+const PATIENCE: u64 = 64;
+
+/// An order in which marks are greatest: a weight, and of one weight lex or revlex.
+///
+/// A weight of no entries, or of fewer than there are variables, counts zeros for the rest.
+#[derive(Drop)]
+pub struct Guide {
+    weight: Vec<i64>,
+    by_revlex: bool,
+    is_known: bool,
+}
+
+impl Guide {
+    /// The order by this weight and then lex, or revlex.
+    pub fn by(weight: Vec<i64>, by_revlex: bool) -> Guide {
+        Guide {
+            weight,
+            by_revlex,
+            is_known: true,
+        }
+    }
+
+    /// A weight of the marks, and then lex; it is looked for once a reduction is long.
+    pub fn unknown(alloc: Global) -> Guide {
+        Guide {
+            weight: Vec::new(alloc),
+            by_revlex: false,
+            is_known: false,
+        }
+    }
+
+    // Whether this is the order by which the rule goes.
+    fn is_by_degree(&self) -> bool {
+        if self.weight.is_empty() || self.by_revlex {
+            return false;
+        }
+        'entries: for w in &self.weight {
+            if *w != 1 {
+                return false;
+            }
+        }
+        true
+    }
+
+    /// How many steps by the rule come first.
+    pub(crate) fn patience(&self) -> u64 {
+        if self.is_by_degree() {
+            return u64::MAX;
+        }
+        PATIENCE
+    }
+
+    /// Looks for a weight of these marks, unless an order is known.
+    pub(crate) fn find(&mut self, alloc: Global, by: &[Marked]) {
+        if self.is_known {
+            return;
+        }
+        self.is_known = true;
+        if let Some(weight) = weight_of(alloc, by) {
+            self.weight = weight;
+        }
+    }
+}
+
+/// A monomial that waits, arranged so that lists compare as monomials do.
+#[derive(Clone, Copy, Debug, PartialEq, Eq, PartialOrd, Ord)]
+struct Waiting {
+    level: i128,
+    exponents: [u32; ROOM],
+}
+
+// The exponents arranged so that lists compare as monomials do by lex or by revlex; twice gives them back.
+fn arranged(x: &[u32], by_revlex: bool) -> [u32; ROOM]
+    requires { length x.now ≤ ROOM }
+{
+    let mut all = [0; ROOM];
+    let n = x.len();
+    'variables: for i in 0..n {
+        all[i] = if by_revlex {
+            u32::MAX - x[n - 1 - i]
+        } else {
+            x[i]
+        };
+    }
+    all
+}
+
+// The monomial with these exponents, if they are within the limit.
+fn monomial(alloc: Global, exponents: &[u32]) -> Option<Mono> {
+    if exponents.len() > ROOM {
+        return None;
+    }
+    'entries: for i in 0..exponents.len() {
+        if exponents[i] >= 1 << 31 {
+            return None;
+        }
+    }
+    Some(Mono::new(alloc, exponents))
+}
+
+/// Monomials that wait to be reduced.
+#[derive(Drop)]
+pub struct Front {
+    weight: Vec<i64>,
+    by_revlex: bool,
+    n: usize,
+    heap: BinaryHeap<Waiting>,
+}
+
+impl Front {
+    /// No monomials yet.
+    pub fn new(alloc: Global, guide: &Guide) -> Result<Front, AllocError> {
+        Ok(Front {
+            weight: guide.weight.clone()?,
+            by_revlex: guide.by_revlex,
+            n: 0,
+            heap: BinaryHeap::new(alloc),
+        })
+    }
+
+    /// How many wait.
+    pub fn len(&self) -> usize {
+        self.heap.len()
+    }
+
+    /// Adds a monomial; all have equally many variables.
+    pub fn push(&mut self, x: &Mono) -> Result<(), AllocError> {
+        let exponents = x.exponents();
+        self.n = exponents.len();
+        self.heap.push(Waiting {
+            level: heft_of(&self.weight, exponents),
+            exponents: arranged(exponents, self.by_revlex),
+        })?;
+        Ok(())
+    }
+
+    /// Takes the greatest out.
+    pub fn pop(&mut self, alloc: Global) -> Option<Mono> {
+        let top = self.heap.pop()?;
+        let n = self.n;
+        if n > ROOM {
+            return None;
+        }
+        let exponents = arranged(&top.exponents[..n], self.by_revlex);
+        monomial(alloc, &exponents[..n])
+    }
+}

@@ -1,0 +1,184 @@
+//! Remainders: no mark divides a monomial of what is left. Which term a step takes is free, so a long reduction takes the greatest
+//! by an order in which the marks are greatest: equal terms meet before they are reduced.
+
+ghost use Rattle.std.specs.Prelude.{◌≡◌, IfOk, IfErr, IfSome, IsTrue, OnOk};
+ghost use Rattle.gf_poly.specs.Polynomial.{IsDescending, KeepsVariables};
+ghost use Rattle.gf_division.specs.Steps.{IsReductionRefusal};
+ghost use Rattle.gf_division.specs.NormalForms.{HasSomeWeight, HaveSameVariables};
+ghost use Rattle.gf_division.specs.Dividends.{split_of, joined_terms};
+ghost use Rattle.gf_division.specs.Reducers.{AreIrreducible, ShareVariables, IsReducibleFirst};
+ghost use Rattle.gf_division.specs.Remainders.{IsRemainder, IsWorkedOn, IsNextStep, IsWorkRefusal};
+
+use crate::dividend::Dividend;
+use crate::front::Guide;
+use crate::reducers::{reducer_of, seek};
+use gf_poly::{Marked, Mono, Poly, PolyError};
+use std::alloc::{AllocError, Global};
+use std::cmp::Ordering;
+
+// Whether a mark divides `x`; a mark in other variables doesn't.
+fn is_open(x: &Mono, by: &[Marked]) -> bool {
+    let degree = x.degree();
+    'members: for j in 0..by.len() {
+        let mark = by[j].head();
+        if mark.degree() <= degree
+            && mark.exponents().len() == x.exponents().len()
+            && mark.divides(x)
+        {
+            return true;
+        }
+    }
+    false
+}
+
+// The first member that reduces the term at `x`, where the polynomial has one; the place is at that term then.
+fn reducer_at(
+    rest: &mut Dividend,
+    x: &Mono,
+    by: &[Marked],
+    spared: &Option<Mono>,
+) -> Result<Option<usize>, AllocError>
+    requires variables { ShareVariables (split_of rest.old) by.now spared.now }
+    ensures same { OnOk result (joined_terms (split_of rest.new) ≡ joined_terms (split_of rest.old)) }
+    ensures found { IfOk result (λ o. IfSome o (IsReducibleFirst by.now spared.now (split_of rest.new))) }
+{
+    match rest.go_to(x)? {
+        Ordering::Equal => {}
+        _ => return Ok(None),
+    }
+    match rest.next() {
+        Some(t) => {
+            // Called for the proof alone: what `exponents` ensures says that each exponent is below 2^31, by which reductions
+            // are shown to end.
+            let _ = t.mono.exponents();
+            Ok(reducer_of(&t.mono, by, spared))
+        }
+        None => Ok(None),
+    }
+}
+
+// The place goes to the foremost term that waits and that a member reduces, and else to the first term that one reduces; answers
+// the place of the first such member.
+fn next(
+    alloc: Global,
+    rest: &mut Dividend,
+    by: &[Marked],
+    spared: &Option<Mono>,
+) -> Result<Option<usize>, AllocError>
+    requires variables { ShareVariables (split_of rest.old) by.now spared.now }
+    ensures same { OnOk result (joined_terms (split_of rest.new) ≡ joined_terms (split_of rest.old)) }
+    ensures found { IfOk result (IsNextStep by.now spared.now (split_of rest.new)) }
+{
+    'waiting: for _ in 0..rest.waiting() {
+        let x = match rest.foremost(alloc) {
+            Some(x) => x,
+            None => continue,
+        };
+        if is_open(&x, by) {
+            let found = reducer_at(rest, &x, by, spared)?;
+            if let Some(j) = found {
+                return Ok(Some(j));
+            }
+        }
+    }
+    rest.rewind()?;
+    seek(rest, by, spared)
+}
+
+// Steps by the rule, so many at most; whether no member reduces a term any more.
+fn by_rule(
+    rest: &mut Dividend,
+    by: &[Marked],
+    spared: &Option<Mono>,
+    most: u64,
+) -> Result<bool, PolyError>
+    requires variables { ShareVariables (split_of rest.old) by.now spared.now }
+    requires above { AreIrreducible by.now spared.now (split_of rest.old).above }
+    ensures worked { OnOk result (IsWorkedOn by.now spared.now (split_of rest.old) (split_of rest.new)) }
+    ensures done { IfOk result (λ d. IsTrue d → AreIrreducible by.now spared.now (joined_terms (split_of rest.new))) }
+    ensures cause { IfErr result (IsWorkRefusal by.now spared.now (joined_terms (split_of rest.old))) }
+{
+    'steps: for _ in 0..most {
+        match seek(rest, by, spared)? {
+            Some(j) => {
+                let member = &by[j];
+                let _ = rest.step(member)?;
+            }
+            None => return Ok(true),
+        }
+    }
+    Ok(false)
+}
+
+// Steps by the guide, until no member reduces a term.
+fn by_guide(
+    alloc: Global,
+    rest: &mut Dividend,
+    by: &[Marked],
+    spared: &Option<Mono>,
+) -> Result<(), PolyError>
+    requires marked { HasSomeWeight by.now }
+    requires variables { ShareVariables (split_of rest.old) by.now spared.now }
+    ensures worked { OnOk result (IsWorkedOn by.now spared.now (split_of rest.old) (split_of rest.new)) }
+    ensures done { OnOk result (AreIrreducible by.now spared.now (joined_terms (split_of rest.new))) }
+    ensures cause { IfErr result (IsWorkRefusal by.now spared.now (joined_terms (split_of rest.old))) }
+{
+    'steps: while let Some(j) = next(alloc, rest, by, spared)? {
+        let member = &by[j];
+        let _ = rest.step(member)?;
+    }
+    Ok(())
+}
+
+/// Steps until no member reduces a term that isn't spared.
+pub(crate) fn work_off(
+    alloc: Global,
+    rest: &mut Dividend,
+    by: &[Marked],
+    spared: &Option<Mono>,
+    guide: &mut Guide,
+) -> Result<(), PolyError>
+    requires marked { HasSomeWeight by.now }
+    requires variables { ShareVariables (split_of rest.old) by.now spared.now }
+    requires above { AreIrreducible by.now spared.now (split_of rest.old).above }
+    ensures worked { OnOk result (IsWorkedOn by.now spared.now (split_of rest.old) (split_of rest.new)) }
+    ensures done { OnOk result (AreIrreducible by.now spared.now (joined_terms (split_of rest.new))) }
+    ensures cause { IfErr result (IsWorkRefusal by.now spared.now (joined_terms (split_of rest.old))) }
+{
+    if by_rule(rest, by, spared, guide.patience())? {
+        return Ok(());
+    }
+    guide.find(alloc, by);
+    rest.watch(alloc, guide)?;
+    by_guide(alloc, rest, by, spared)
+}
+
+/// A remainder of `f` by these members: steps by them lead to it, and no marked monomial divides a monomial of it. It is worked
+/// out in the place of `f`.
+///
+/// The members are monic, some weight sets each mark above the rest, and they have the variables of `f`. Where they are a Gröbner
+/// basis for their marking there is one remainder, the normal form; else it depends on which terms are taken (Cox, Little,
+/// O'Shea, *Ideals, Varieties, and Algorithms*, 2.6), and it is left open which it is. The first steps take the deglex greatest
+/// term; a reduction that is longer takes the greatest by the guide's order, which merges equal terms before they are reduced.
+///
+/// # Errors
+///
+/// `Overflow` and `Exponent` only where two numbers of a step by the members, from a polynomial that such steps lead to, don't
+/// fit; it holds them.
+pub fn remainder(
+    alloc: Global,
+    f: Poly,
+    by: &[Marked],
+    guide: &mut Guide,
+) -> Result<Poly, PolyError>
+    requires marked { HasSomeWeight by.now }
+    requires variables { HaveSameVariables f by.now }
+    ensures value { IfOk result (IsRemainder by.now f) }
+    ensures descending { IfOk result IsDescending }
+    ensures variables { IfOk result (KeepsVariables f) }
+    ensures cause { IfErr result (IsReductionRefusal by.now f) }
+{
+    let mut rest = Dividend::new(alloc, f);
+    work_off(alloc, &mut rest, by, &None, guide)?;
+    Ok(rest.into_poly()?)
+}
