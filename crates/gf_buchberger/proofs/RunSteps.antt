@@ -21,7 +21,6 @@ use Rattle.gf_ideal.proofs.CriteriaLaws.{pair_by_steps, pair_by_product, pair_by
 use Rattle.gf_ideal.proofs.ListLaws.{Contains-here, Contains-there, Contains-cases, Contains-last}
 use Rattle.gf_ideal.proofs.ListedTerms.{variables_by_terms}
 use Rattle.gf_ideal.proofs.PieceLaws.{Contains-marked}
-use Rattle.gf_ideal.proofs.NormalFormLaws.{normal_form-reached}
 use Rattle.gf_ideal.proofs.StepLaws.{reached-more}
 use Rattle.gf_ideal.proofs.WorkLaws.{work-marked}
 use Rattle.gf_buchberger.specs.declared.queue.Waiting.{Waiting}
@@ -221,7 +220,7 @@ pub reduced_pair : (order : MonomialOrder) (n : ℕ) (fs : List Terms) (w : Wait
 reduced_pair order n fs w old new run h = at h.left
   where
     steps : Reached (Contains old.members) h.s h.r
-    steps = normal_form-reached old.members h.s h.r h.normal.reached
+    steps = h.normal.reached
 
     in_b : Contains old.members h.b
     in_b = contained_at old.members w.first h.b h.at_i

@@ -12,7 +12,7 @@ use Rattle.gf_poly.specs.Marking.{MarkedPolynomial}
 use Rattle.gf_poly.specs.Refusals.{IsRefusedBy, NoSum, UnlessMemory}
 use Rattle.gf_ideal.specs.Marks.{IsMarked}
 use Rattle.gf_ideal.specs.Reduction.{IsMonicForm, IsSPolynomial, HasOneMonomial}
-use Rattle.gf_ideal.specs.NormalForms.{IsNormalForm}
+use Rattle.gf_division.specs.Remainders.{IsRemainder}
 use Rattle.gf_ideal.specs.Bases.{IsGreatest}
 use Rattle.gf_ideal.specs.Operands.{IsMonicOperation}
 use Rattle.gf_ideal.specs.Settled.{IsAt, IsSettledPair}
@@ -145,7 +145,7 @@ IsExcused s i j = ((b c : MarkedPolynomial) → IsAt s.members i b → IsAt s.me
 
 -- ---- one pair
 
--- r is the normal form by the members of the S-polynomial of those at i and j: zero, and the state is as before, or a new
+-- r is a remainder by the members of the S-polynomial of those at i and j: zero, and the state is as before, or a new
 -- member
 pub record IsReducedPair (order : MonomialOrder) (old new : State) (i j : ℕ) : Type 0 where
   pub b : MarkedPolynomial
@@ -155,7 +155,7 @@ pub record IsReducedPair (order : MonomialOrder) (old new : State) (i j : ℕ) :
   pub s : Terms
   pub is_s : IsSPolynomial b c s
   pub r : Terms
-  pub normal : IsNormalForm old.members s r
+  pub normal : IsRemainder old.members s r
   pub variables : (n : ℕ) → MembersHaveVariables n old.members → HasVariables n r
   pub left : ((r ≡ []) × (new ≡ old)) ⊎ ((r ≢ []) × IsAppended order r old new)
 
@@ -175,7 +175,7 @@ pub record IsSettledBy (order : MonomialOrder) (old new : State) (i j : ℕ) : T
 pub data IsRefusedPair (order : MonomialOrder) (s : State) (i j : ℕ) (e : PolyError) : Type 0 where
   s_polynomial : (b c : MarkedPolynomial) → IsAt s.members i b → IsAt s.members j c → IsMonicPairRefusal b c e → IsRefusedPair order s i j e
   reduction : (b c : MarkedPolynomial) (f : Terms) → IsAt s.members i b → IsAt s.members j c → IsSPolynomial b c f → IsReductionRefusal s.members f e → IsRefusedPair order s i j e
-  monic : (b c : MarkedPolynomial) (f r : Terms) → IsAt s.members i b → IsAt s.members j c → IsSPolynomial b c f → IsNormalForm s.members f r → IsAppendRefusal order r e → IsRefusedPair order s i j e
+  monic : (b c : MarkedPolynomial) (f r : Terms) → IsAt s.members i b → IsAt s.members j c → IsSPolynomial b c f → IsRemainder s.members f r → IsAppendRefusal order r e → IsRefusedPair order s i j e
 
 -- the same, unless there is no memory
 abbrev pub IsSettlingRefusal : MonomialOrder → State → ℕ → ℕ → PolyError → Type 0

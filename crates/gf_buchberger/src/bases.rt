@@ -7,9 +7,10 @@ ghost use Rattle.gf_buchberger.specs.Jobs.{HaveRingVariables, IsSuited, IsBasisJ
 ghost use Rattle.gf_buchberger.specs.Runs.{MembersHaveVariables};
 
 use crate::generators::entered;
+use crate::guides::guide_of;
 use crate::queue::Strategy;
 use crate::runs::{Run, Stop, settle_all};
-use gf_division::autoreduce;
+use gf_division::autoreduce_by;
 use gf_frac::Overflow;
 use gf_order::Order;
 use gf_poly::{ExponentOverflow, MarkedSet, Pairs, Poly, PolyError};
@@ -79,7 +80,11 @@ pub fn run_by(alloc: Global, job: &Job, strategy: Strategy) -> Result<MarkedSet,
     ensures ok { IfOk result (IsArrangedBasis job.now.order.now job.now.n job.now.set.now) }
     ensures err { IfErr result (IsBasisRefusal job.now.order.now job.now.n job.now.set.now job.now.pairs) }
 {
-    let start = match entered(alloc, job.set, job.order, strategy) {
+    let guide = match guide_of(alloc, job.n, job.order) {
+        Ok(guide) => guide,
+        Err(_) => return Err(BasisError::Memory),
+    };
+    let start = match entered(alloc, job.set, job.order, strategy, guide) {
         Ok(start) => start,
         Err(refusal) => return Err(refused(refusal)),
     };
@@ -87,8 +92,13 @@ pub fn run_by(alloc: Global, job: &Job, strategy: Strategy) -> Result<MarkedSet,
         Ok(run) => run,
         Err(stop) => return Err(stopped(alloc, job.n, stop)),
     };
-    let members = MarkedSet::new(job.n, run.members);
-    match autoreduce(alloc, &members) {
+    let Run {
+        members,
+        mut guide,
+        ..
+    } = run;
+    let members = MarkedSet::new(job.n, members);
+    match autoreduce_by(alloc, &members, &mut guide) {
         Ok(basis) => Ok(basis),
         Err(refusal) => Err(refused(refusal)),
     }
@@ -98,7 +108,7 @@ pub fn run_by(alloc: Global, job: &Job, strategy: Strategy) -> Result<MarkedSet,
 /// monomials, monic, ascending by the exponents of the marked monomials. It is worked out by one run of Buchberger's
 /// algorithm.
 ///
-/// Zero polynomials are passed over. The others enter one after another, each as its normal form by those before, made
+/// Zero polynomials are passed over. The others enter one after another, each as a remainder by those before, made
 /// monic; then at most `pairs` pairs are settled, first those whose least common multiple has the least degree, of these
 /// those where it is least by the order; one that a criterion sets aside counts as settled.
 ///

@@ -6,6 +6,7 @@
 
 mod bases;
 mod generators;
+mod guides;
 mod homogeneity;
 mod laws;
 mod leading;

@@ -10,7 +10,7 @@ ghost use Rattle.gf_buchberger.specs.Runs.{MembersHaveVariables, AreReducers, Is
 use crate::leading::leading;
 use crate::pairs::PairTable;
 use crate::queue::{Queue, Strategy, Waiting};
-use gf_division::{reduced, s_poly};
+use gf_division::{Guide, remainder, s_poly};
 use gf_order::Order;
 use gf_poly::{Marked, Mono, Poly, PolyError};
 use std::alloc::{AllocError, Global};
@@ -22,6 +22,7 @@ pub struct Run {
     pub table: PairTable,
     pub queue: Queue,
     pub strategy: Strategy,
+    pub guide: Guide,
 }
 
 /// Why not all pairs are settled.
@@ -90,7 +91,7 @@ fn push_pairs(
 
 impl Run {
     /// The run that has no members yet.
-    pub fn new(alloc: Global, strategy: Strategy) -> Run
+    pub fn new(alloc: Global, strategy: Strategy, guide: Guide) -> Run
         ensures members { result.members.items ≡ [] }
         ensures table { result.table ≡ record { members = 0; marks = [] } }
         ensures queue { result.queue ≡ [] }
@@ -100,6 +101,7 @@ impl Run {
             table: PairTable::new(alloc),
             queue: Queue::new(alloc),
             strategy,
+            guide,
         }
     }
 
@@ -207,7 +209,7 @@ impl Run {
         ensures cause { IfErr result (IsSettlingRefusal order.now (state_of self.old) i j) }
     {
         let s = s_poly(alloc, &self.members[i as usize], &self.members[j as usize])?;
-        let r = reduced(alloc, s, &self.members)?;
+        let r = remainder(alloc, s, &self.members, &mut self.guide)?;
         if r.is_zero() {
             return Ok(());
         }

@@ -6,34 +6,34 @@ use Rattle.gf_buchberger.proofs.bases.run_by.Goals as goal
 pub entered-requires : goal.entered-requires
 entered-requires c = record { n = c.args.job.now.n; job = c.requires }
 
-pub returns-in-Err-clause-err : goal.returns-in-Err-clause-err
-returns-in-Err-clause-err c = generators_stop c.args.job.now.order.now c.args.job.now.n c.args.job.now.pairs c.args.job.now.set.now c.in-Err.refusal c.refused.result c.requires.ring c.in-Err.ensures.cause c.refused.ensures
+pub returns-in-Err-entered-clause-err : goal.returns-in-Err-entered-clause-err
+returns-in-Err-entered-clause-err c = generators_stop c.args.job.now.order.now c.args.job.now.n c.args.job.now.pairs c.args.job.now.set.now c.in-Err-entered.refusal c.refused.result c.requires.ring c.in-Err-entered.ensures.cause c.refused.ensures
 
 pub settle_all-requires : goal.settle_all-requires
-settle_all-requires c = record { n = c.args.job.now.n; fs = c.args.job.now.set.now; job = c.requires; run = c.in-Ok.ensures.ok.run c.args.job.now.n c.requires.ring }
+settle_all-requires c = record { n = c.args.job.now.n; fs = c.args.job.now.set.now; job = c.requires; run = c.in-Ok-entered.ensures.ok.run c.args.job.now.n c.requires.ring }
 
 pub stopped-requires : goal.stopped-requires
-stopped-requires c = stop_variables c.args.job.now.order.now c.args.job.now.n c.args.job.now.pairs c.args.job.now.set.now (state_of c.in-Ok.start) c.in-Err-settle_all.stop (c.in-Ok.ensures.ok.run c.args.job.now.n c.requires.ring) c.in-Err-settle_all.ensures.stop
+stopped-requires c = stop_variables c.args.job.now.order.now c.args.job.now.n c.args.job.now.pairs c.args.job.now.set.now (state_of c.in-Ok-entered.start) c.in-Err-settle_all.stop (c.in-Ok-entered.ensures.ok.run c.args.job.now.n c.requires.ring) c.in-Err-settle_all.ensures.stop
 
 pub returns-in-Err-settle_all-clause-err : goal.returns-in-Err-settle_all-clause-err
-returns-in-Err-settle_all-clause-err c = stop_stops c.args.job.now.order.now c.args.job.now.n c.args.job.now.pairs c.args.job.now.set.now (state_of c.in-Ok.start) c.in-Err-settle_all.stop c.stopped.result c.in-Ok.ensures.ok.unsettled (c.in-Ok.ensures.ok.run c.args.job.now.n c.requires.ring) c.in-Err-settle_all.ensures.stop c.stopped.ensures
+returns-in-Err-settle_all-clause-err c = stop_stops c.args.job.now.order.now c.args.job.now.n c.args.job.now.pairs c.args.job.now.set.now (state_of c.in-Ok-entered.start) c.in-Err-settle_all.stop c.stopped.result c.in-Ok-entered.ensures.ok.unsettled (c.in-Ok-entered.ensures.ok.run c.args.job.now.n c.requires.ring) c.in-Err-settle_all.ensures.stop c.stopped.ensures
 
 pub new-members-requires : goal.new-members-requires
 new-members-requires c =
-    let e = is_end c.args.job.now.order.now c.args.job.now.n c.args.job.now.pairs c.args.job.now.set.now (state_of c.in-Ok.start) (state_of c.in-Ok-settle_all.run') c.requires c.in-Ok.ensures.ok c.in-Ok-settle_all.ensures.done in
+    let e = is_end c.args.job.now.order.now c.args.job.now.n c.args.job.now.pairs c.args.job.now.set.now (state_of c.in-Ok-entered.start) (state_of c.in-Ok-settle_all.run') c.requires c.in-Ok-entered.ensures.ok c.in-Ok-settle_all.ensures.done in
     variables_each c.args.job.now.n _ e.variables
 
-pub autoreduce-requires : goal.autoreduce-requires
-autoreduce-requires c =
-    let e = is_end c.args.job.now.order.now c.args.job.now.n c.args.job.now.pairs c.args.job.now.set.now (state_of c.in-Ok.start) (state_of c.in-Ok-settle_all.run') c.requires c.in-Ok.ensures.ok c.in-Ok-settle_all.ensures.done in
+pub autoreduce_by-requires : goal.autoreduce_by-requires
+autoreduce_by-requires c =
+    let e = is_end c.args.job.now.order.now c.args.job.now.n c.args.job.now.pairs c.args.job.now.set.now (state_of c.in-Ok-entered.start) (state_of c.in-Ok-settle_all.run') c.requires c.in-Ok-entered.ensures.ok c.in-Ok-settle_all.ensures.done in
     end_realisable c.args.job.now.order.now c.args.job.now.n c.args.job.now.set.now _ c.new-members.result e c.new-members.ensures
 
-pub returns-in-Ok-autoreduce-clause-ok : goal.returns-in-Ok-autoreduce-clause-ok
-returns-in-Ok-autoreduce-clause-ok c =
-    let e = is_end c.args.job.now.order.now c.args.job.now.n c.args.job.now.pairs c.args.job.now.set.now (state_of c.in-Ok.start) (state_of c.in-Ok-settle_all.run') c.requires c.in-Ok.ensures.ok c.in-Ok-settle_all.ensures.done in
-    arranged_basis c.args.job.now.order.now c.args.job.now.n c.args.job.now.set.now _ c.new-members.result c.in-Ok-autoreduce.basis e c.new-members.ensures c.in-Ok-autoreduce.ensures.value c.in-Ok-autoreduce.ensures.arranged c.in-Ok-autoreduce.ensures.marked c.in-Ok-autoreduce.ensures.reduced
+pub returns-in-Ok-autoreduce_by-clause-ok : goal.returns-in-Ok-autoreduce_by-clause-ok
+returns-in-Ok-autoreduce_by-clause-ok c =
+    let e = is_end c.args.job.now.order.now c.args.job.now.n c.args.job.now.pairs c.args.job.now.set.now (state_of c.in-Ok-entered.start) (state_of c.in-Ok-settle_all.run') c.requires c.in-Ok-entered.ensures.ok c.in-Ok-settle_all.ensures.done in
+    arranged_basis c.args.job.now.order.now c.args.job.now.n c.args.job.now.set.now _ c.new-members.result c.in-Ok-autoreduce_by.basis e c.new-members.ensures c.in-Ok-autoreduce_by.ensures.value c.in-Ok-autoreduce_by.ensures.arranged c.in-Ok-autoreduce_by.ensures.marked c.in-Ok-autoreduce_by.ensures.reduced
 
 pub returns-clause-err : goal.returns-clause-err
 returns-clause-err c =
-    let e = is_end c.args.job.now.order.now c.args.job.now.n c.args.job.now.pairs c.args.job.now.set.now (state_of c.in-Ok.start) (state_of c.in-Ok-settle_all.run') c.requires c.in-Ok.ensures.ok c.in-Ok-settle_all.ensures.done in
-    autoreduction_stops c.args.job.now.order.now c.args.job.now.n c.args.job.now.pairs c.args.job.now.set.now _ c.new-members.result c.in-Err-autoreduce.refusal c.refused-in-Err-autoreduce.result e c.new-members.ensures c.in-Err-autoreduce.ensures.cause c.refused-in-Err-autoreduce.ensures
+    let e = is_end c.args.job.now.order.now c.args.job.now.n c.args.job.now.pairs c.args.job.now.set.now (state_of c.in-Ok-entered.start) (state_of c.in-Ok-settle_all.run') c.requires c.in-Ok-entered.ensures.ok c.in-Ok-settle_all.ensures.done in
+    autoreduction_stops c.args.job.now.order.now c.args.job.now.n c.args.job.now.pairs c.args.job.now.set.now _ c.new-members.result c.in-Err-autoreduce_by.refusal c.refused-in-Err-autoreduce_by.result e c.new-members.ensures c.in-Err-autoreduce_by.ensures.cause c.refused-in-Err-autoreduce_by.ensures

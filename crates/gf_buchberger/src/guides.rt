@@ -1,0 +1,36 @@
+//! The order of a run, as one that tells which terms a long reduction takes first.
+
+ghost use Rattle.gf_order.specs.Comparisons.{HasEntries};
+
+use gf_division::Guide;
+use gf_order::Order;
+use gf_poly::ROOM;
+use std::alloc::{AllocError, Global};
+
+// How heavy each variable is by the order: 0 by lex and revlex.
+fn weights(alloc: Global, n: usize, order: &Order) -> Result<Vec<i64>, AllocError>
+    requires { HasEntries n order.now }
+{
+    let mut weights = Vec::new(alloc);
+    if n > ROOM {
+        return Ok(weights);
+    }
+    'variables: for i in 0..n {
+        let mut unit = [0; ROOM];
+        unit[i] = 1;
+        let weight = match i64::try_from(order.level(&unit[..n])) {
+            Ok(weight) => weight,
+            Err(_) => 0,
+        };
+        weights.push(weight)?;
+    }
+    Ok(weights)
+}
+
+/// The order, as a guide.
+pub fn guide_of(alloc: Global, n: u32, order: &Order) -> Result<Guide, AllocError>
+    requires { HasEntries n order.now }
+{
+    let weights = weights(alloc, n as usize, order)?;
+    Ok(Guide::by(weights, order.is_by_revlex()))
+}
