@@ -1,4 +1,5 @@
--- Pairs of members of a monic marked list, by the normal forms of their S-polynomials. Laws: proofs/PairLaws.antt.
+-- Pairs of members of a monic marked list, by the normal forms of their S-polynomials, or by any remainders of them.
+-- Laws: proofs/PairLaws.antt.
 -- Source: Cox, Little, O'Shea, Ideals, Varieties, and Algorithms, 2.6 (Buchberger's criterion).
 use Rattle.std.specs.Prelude.{◌≢◌, ℕ, ◌<◌, List, [], length}
 use Rattle.gf_poly.specs.Polynomial.{Terms, IsDescending, HasVariables}
@@ -6,6 +7,7 @@ use Rattle.gf_poly.specs.Marking.{MarkedPolynomial, HaveVariables}
 use Rattle.gf_ideal.specs.Reduction.{IsSPolynomial}
 use Rattle.gf_ideal.specs.NormalForms.{IsNormalForm}
 use Rattle.gf_ideal.specs.Settled.{IsAt}
+use Rattle.gf_division.specs.Remainders.{IsRemainder}
 
 -- the members have the same number of variables
 pub record MembersShareVariables (bs : List MarkedPolynomial) : Type 0 where
@@ -24,7 +26,19 @@ pub record IsRemainderAt (bs : List MarkedPolynomial) (i j : ℕ) (r : Terms) : 
   pub descending : IsDescending r
   pub variables : (n : ℕ) → HaveVariables n bs → HasVariables n r
 
--- it is zero
+-- r is some remainder of that S-polynomial, kept so
+pub record IsRestAt (bs : List MarkedPolynomial) (i j : ℕ) (r : Terms) : Type 0 where
+  pub first : MarkedPolynomial
+  pub second : MarkedPolynomial
+  pub at_first : IsAt bs i first
+  pub at_second : IsAt bs j second
+  pub s : Terms
+  pub is_s : IsSPolynomial first second s
+  pub rest : IsRemainder bs s r
+  pub descending : IsDescending r
+  pub variables : (n : ℕ) → HaveVariables n bs → HasVariables n r
+
+-- the normal form is zero
 abbrev pub Vanishes : List MarkedPolynomial → ℕ → ℕ → Type 0
 Vanishes bs i j = IsRemainderAt bs i j []
 

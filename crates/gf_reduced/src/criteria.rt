@@ -7,7 +7,8 @@ ghost use Rattle.gf_reduced.specs.Pairs.{MembersShareVariables};
 ghost use Rattle.gf_reduced.specs.Criteria.{IsDividedBefore, IsPairExcused, IsPassed, HasFailing, ArePassedFrom, AreAllPassed};
 ghost use Rattle.gf_reduced.specs.Refusals.{IsPairsRefusal};
 
-use crate::pairs::remainder_at;
+use crate::pairs::rest_at;
+use gf_division::Guide;
 use gf_poly::{Marked, Mono, PolyError};
 use std::alloc::Global;
 
@@ -53,8 +54,14 @@ fn is_excused(by: &[Marked], i: usize, j: usize) -> bool
     is_divided_before(by, i, &multiple)
 }
 
-// Whether a criterion settles the pair, or its S-polynomial has the normal form zero.
-fn is_passed(alloc: Global, by: &[Marked], i: usize, j: usize) -> Result<bool, PolyError>
+// Whether a criterion settles the pair, or its S-polynomial has the remainder zero.
+fn is_passed(
+    alloc: Global,
+    by: &[Marked],
+    i: usize,
+    j: usize,
+    guide: &mut Guide,
+) -> Result<bool, PolyError>
     requires marked { HasSomeWeight by.now }
     requires variables { MembersShareVariables by.now }
     requires first { i < length by.now }
@@ -66,12 +73,17 @@ fn is_passed(alloc: Global, by: &[Marked], i: usize, j: usize) -> Result<bool, P
     if is_excused(by, i, j) {
         return Ok(true);
     }
-    let rest = remainder_at(alloc, by, i, j)?;
+    let rest = rest_at(alloc, by, i, j, guide)?;
     Ok(rest.is_zero())
 }
 
 // Whether so it is for the member at `i` and each later one.
-fn are_passed_from(alloc: Global, by: &[Marked], i: usize) -> Result<bool, PolyError>
+fn are_passed_from(
+    alloc: Global,
+    by: &[Marked],
+    i: usize,
+    guide: &mut Guide,
+) -> Result<bool, PolyError>
     requires marked { HasSomeWeight by.now }
     requires variables { MembersShareVariables by.now }
     requires first { i < length by.now }
@@ -80,14 +92,14 @@ fn are_passed_from(alloc: Global, by: &[Marked], i: usize) -> Result<bool, PolyE
     ensures cause { IfErr result (IsPairsRefusal by.now) }
 {
     'later: for j in i + 1..by.len() {
-        if !is_passed(alloc, by, i, j)? {
+        if !is_passed(alloc, by, i, j, guide)? {
             return Ok(false);
         }
     }
     Ok(true)
 }
 
-/// Whether each pair of members is settled by a criterion, or its S-polynomial has the normal form zero; else that of some pair
+/// Whether each pair of members is settled by a criterion, or its S-polynomial has the remainder zero; else that of some pair
 /// has another one.
 ///
 /// The members are monic, and some weight sets each mark above the rest.
@@ -103,8 +115,9 @@ pub(crate) fn are_all_passed(alloc: Global, by: &[Marked]) -> Result<bool, PolyE
     ensures no { IfOk result (λ r. r ≡ false → HasFailing by.now) }
     ensures cause { IfErr result (IsPairsRefusal by.now) }
 {
+    let mut guide = Guide::unknown(alloc);
     'members: for i in 0..by.len() {
-        if !are_passed_from(alloc, by, i)? {
+        if !are_passed_from(alloc, by, i, &mut guide)? {
             return Ok(false);
         }
     }

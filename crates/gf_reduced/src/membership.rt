@@ -8,7 +8,7 @@ ghost use Rattle.gf_ideal.specs.Bases.{IsBasis};
 ghost use Rattle.gf_division.specs.Steps.{IsReductionRefusal};
 ghost use Rattle.gf_reduced.specs.Refusals.{IsReductionWithinLimits};
 
-use gf_division::normal_form;
+use gf_division::{Guide, remainder};
 use gf_poly::{MarkedSet, Poly, PolyError};
 use std::alloc::Global;
 
@@ -31,6 +31,6 @@ pub fn contains(alloc: Global, basis: &MarkedSet, f: &Poly) -> Result<bool, Poly
 {
     // The members have their variables.
     let _ = basis.items();
-    let rest = normal_form(alloc, f, basis)?;
+    let rest = remainder(alloc, f.copy()?, basis.items(), &mut Guide::unknown(alloc))?;
     Ok(rest.is_zero())
 }

@@ -1,10 +1,10 @@
 //! The S-polynomials of the pairs of a monic set, and their normal forms.
 ghost use Rattle.std.specs.Prelude.{◌≡◌, ◌<◌, ◌^◌, length, IfOk, IfErr, IfSome, IfNone};
 ghost use Rattle.gf_division.specs.NormalForms.{HasSomeWeight};
-ghost use Rattle.gf_reduced.specs.Pairs.{MembersShareVariables, IsRemainderAt, IsFirstFailingWith, IsFirstFailing, VanishFrom, DoAllVanish};
+ghost use Rattle.gf_reduced.specs.Pairs.{MembersShareVariables, IsRemainderAt, IsRestAt, IsFirstFailingWith, IsFirstFailing, VanishFrom, DoAllVanish};
 ghost use Rattle.gf_reduced.specs.Refusals.{IsPairsRefusal};
 
-use gf_division::{reduced, s_poly};
+use gf_division::{Guide, reduced, remainder, s_poly};
 use gf_poly::{Marked, Poly, PolyError};
 use std::alloc::Global;
 
@@ -36,6 +36,30 @@ pub(crate) fn remainder_at(
 {
     let f = s_poly(alloc, &by[i], &by[j])?;
     let rest = reduced(alloc, f, by)?;
+    Ok(rest)
+}
+
+/// A remainder of the S-polynomial of two members: which terms the steps take is free, so a long reduction goes by the guide.
+///
+/// # Errors
+///
+/// `Overflow` and `Exponent` only where two numbers of that S-polynomial, or of a step of its reduction by the members, don't fit.
+pub(crate) fn rest_at(
+    alloc: Global,
+    by: &[Marked],
+    i: usize,
+    j: usize,
+    guide: &mut Guide,
+) -> Result<Poly, PolyError>
+    requires marked { HasSomeWeight by.now }
+    requires variables { MembersShareVariables by.now }
+    requires first { i < length by.now }
+    requires second { j < length by.now }
+    ensures value { IfOk result (IsRestAt by.now i j) }
+    ensures cause { IfErr result (IsPairsRefusal by.now) }
+{
+    let f = s_poly(alloc, &by[i], &by[j])?;
+    let rest = remainder(alloc, f, by, guide)?;
     Ok(rest)
 }
 
