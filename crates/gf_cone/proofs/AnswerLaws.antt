@@ -55,6 +55,14 @@ others_inside (x ∷ vs) zero t c = let k = c in (suc k.0, omega (arith, k.1), k
 others_inside (x ∷ vs) (suc i) t (zero, l, e) = (zero, omega arith, e)
 others_inside (x ∷ vs) (suc i) t (suc j, l, e) = let k = others_inside vs i t (j, omega (arith, l), e) in (suc k.0, omega (arith, k.1), k.2)
 
+-- the rows of the system of a normal
+pub given_rows_are : (c : ConeRows) (i : ℕ) (vs given rows : List (List ℤ)) → given ≡ rows → rows ≡ others_of i vs → vs ≡ all_rows c → others_of i (all_rows c) ≡ other_rows c i → given ≡ other_rows c i
+given_rows_are c i vs given rows e f g h = e ∙ f ∙ ap (others_of i) g ∙ h
+
+-- what holds of a system holds of one with as many columns, the same rows and the same normal
+pub system_for : (P : ℕ → List (List ℤ) → List ℤ → Type 0) (n m : ℕ) (rows given : List (List ℤ)) (a b : List ℤ) → m ≡ n → given ≡ rows → b ≡ a → P m given b → P n rows a
+system_for P n m rows given a b em er ea h = rw (← em, ← er, ← ea) h
+
 -- what holds of all vectors holds of the others, and of the one
 pub others_all_of : (P : List ℤ → Type 0) (vs : List (List ℤ)) (i : ℕ) → All P vs → All P (others_of i vs)
 others_all_of P vs i h = contained_all P (others_of i vs) (λ t c. All-contains P vs t h (others_inside vs i t c))

@@ -1,36 +1,30 @@
 -- Which normals a flip may cross, shown or refuted without the system; the least of those that lead up.
--- To cite: solution_of_shown, not_crossable_sum, not_crossable_above, sum_by_entries, step_before, step_at, first_steps, decided_flip, decided_crossing.
-use Rattle.std.specs.Prelude.{◌≡◌, ◌⊎◌, ℕ, zero, suc, ◌+◌, ◌<◌, ◌≤◌, List, [], ◌∷◌, ◌++◌, length, get_or, Contains, All, ℤ, pos, ◌+ℤ◌, ◌*ℤ◌, ◌<ℤ◌, ◌≤ℤ◌}
-use Rattle.std.proofs.Common.{arith, refl, sym, ap, ◌∙◌, subst, inl, inr}
+-- To cite: solution_of_shown, not_crossable_sum, not_crossable_above, sum_by_entries, step_at, first_steps, decided_flip, decided_crossing.
+use Rattle.std.specs.Prelude.{◌≡◌, ℕ, zero, suc, ◌+◌, ◌<◌, ◌≤◌, List, [], ◌∷◌, ◌++◌, length, get_or, Contains, All, ℤ, pos, ◌+ℤ◌, ◌*ℤ◌, ◌<ℤ◌, ◌≤ℤ◌}
+use Rattle.std.proofs.Common.{arith, refl, sym, ap, ◌∙◌, subst}
 use Rattle.std.proofs.lemmas.Int.{ints}
 use Rattle.std.proofs.Common.{eqb, true, false}
 use Rattle.std.specs.Prelude.{◌↔◌, Bool, IsTrue, Option, Some, None, Result, Ok, Err, IfOk, IfSome, IsNone}
 use Rattle.std.specs.declared.cmp.Ordering.{Ordering}
 use Rattle.std.specs.declared.cmp.Ordering.TheVariants.{Less}
-use Rattle.std.proofs.lemmas.Bool.{cases_lt, eq-eqb, ne_eqb, false≢true}
+use Rattle.std.proofs.lemmas.Bool.{eq-eqb, ne_eqb, false≢true}
 use Rattle.gf_vec.specs.RootSign.{root_sign}
 use Rattle.gf_facets.specs.LexPositive.{IsNegative}
 use Rattle.gf_facets.specs.Regions.{all_positive}
 use Rattle.gf_facets.proofs.RootSignLaws.{negative_sign, sign_negative}
-use Rattle.std.proofs.lemmas.List.{get_or_default, get_or_push}
+use Rattle.std.proofs.lemmas.List.{get_or_default}
 use Rattle.std.proofs.Math.ListN.{get_or-append}
 use Rattle.std.proofs.lemmas.List.Elements.{All-cons, All-nil, All-contains, Contains-append_right}
 use Rattle.gf_int.proofs.SignLaws.{0≤-*ℤ, 0<-*ℤ}
 use Rattle.gf_vec.specs.Vector.{dot, vector_sum}
 use Rattle.gf_vec.proofs.VectorLaws.{dot-plus}
-use Rattle.gf_gordan.specs.declared.error.GordanError.{GordanError}
 use Rattle.gf_gordan.specs.Alternative.{AreRows, IsSolution}
-use Rattle.gf_gordan.specs.Steps.{Failed}
-use Rattle.gf_gordan.proofs.SystemLaws.{Failed-weaker}
 use Rattle.gf_ideal.proofs.ListLaws.{Contains-here, Contains-there}
 use Rattle.gf_facets.specs.Normals.{others_of}
 use Rattle.gf_facets.proofs.UnitLaws.{positive_by_units}
 use Rattle.gf_cone.specs.Small.{IsSmall}
 use Rattle.gf_cone.specs.Cones.{ConeRows, all_rows, normal_at, other_rows, HasUnits}
-use Rattle.gf_cone.specs.Answers.{IsNormalStep}
-use Rattle.gf_cone.specs.Crossing.{IsShownBy, IsCrossable, IsStepBefore, IsRemembered, AreRemembered, IsFlipDecided, IsCrossingDecided}
-use Rattle.gf_cone.specs.declared.known.Known.{Known}
-use Rattle.gf_cone.specs.declared.known.Known.TheVariants.{Open}
+use Rattle.gf_cone.specs.Crossing.{IsShownBy, IsCrossable, IsFlipDecided, IsCrossingDecided}
 use Rattle.gf_cone.proofs.AnswerLaws.{others-append, crossable_flippable}
 
 -- ---- the others of one, by places
@@ -135,13 +129,6 @@ not_crossable_above c i j a u e l h m p s =
 
 -- ---- refusals
 
--- a step of one of the first systems
-pub step_before : (c : ConeRows) (j e : ℕ) → j < e → (r : GordanError) → Failed (IsNormalStep c.variables (other_rows c j) (normal_at c j)) r → Failed (IsStepBefore c e) r
-step_before c j e l r h = Failed-weaker (IsNormalStep c.variables (other_rows c j) (normal_at c j)) (IsStepBefore c e) (λ s k. (j, l, k)) r h
-
-pub steps_more : (c : ConeRows) (e f : ℕ) → e ≤ f → (r : GordanError) → Failed (IsStepBefore c e) r → Failed (IsStepBefore c f) r
-steps_more c e f l r h = Failed-weaker (IsStepBefore c e) (IsStepBefore c f) (λ s k. (k.0, omega (arith, l, k.1), k.2)) r h
-
 -- ---- as a program asks
 
 -- one vector more is as asked
@@ -153,19 +140,6 @@ shown_next vectors place k w v l e z p =
       zero = λ q. subst (λ (t : List ℤ). dot t w ≡ pos 0) r (z (eq-eqb k place q));
       positive = λ n. subst (λ (t : List ℤ). pos 0 <ℤ dot t w) r (p (ne_eqb k place n));
     }
-
--- one entry more is open
-pub open_more : (known new : List Known) (i : ℕ) → length known ≡ i → ((k : ℕ) (d : Known) → k < i → get_or known k d ≡ Open) → new ≡ known ++ Open ∷ [] →
-    (k : ℕ) (d : Known) → k < i + 1 → get_or new k d ≡ Open
-open_more known new i e h q k d l = subst (λ (z : List Known). get_or z k d ≡ Open) (sym q) (at (cases_lt k i))
-  where
-    at : (k < i) ⊎ (i ≤ k) → get_or (known ++ Open ∷ []) k d ≡ Open
-    at (inl s) = get_or-append known (Open ∷ []) d k (omega (arith, e, s)) ∙ h k d s
-    at (inr g) = get_or_push known Open d k (omega (arith, e, g, l))
-
--- nothing is known yet
-pub none_known : (c : ConeRows) (known : List Known) → length known ≡ length c.normals → ((k : ℕ) (d : Known) → k < length known → get_or known k d ≡ Open) → AreRemembered c known
-none_known c known e h = record { each = e; true_of = λ i d l. subst (IsRemembered c i) (sym (h i d l)) tt }
 
 -- the rows at two places make the normal
 pub sum_at : (c : ConeRows) (given : List (List ℤ)) (i j k : ℕ) (a b d : List ℤ) → given ≡ all_rows c → AreRows c.variables given → i < length c.normals → j < length given → k < length given →

@@ -1,5 +1,5 @@
 -- Ascending lists of vectors: a vector put in, the normals collected, the others of one.
--- To cite: lower_through, higher_end, higher_at, place_between, is_in, inserted, gathers_none, gathers_one, gathers_append, has_small, gathered.
+-- To cite: lower_through, higher_at, place_between, is_in, inserted, gathers_none, gathers_one, gathers_append, has_small, gathered.
 use Rattle.std.specs.Prelude.{◌≡◌, ◌⊎◌, ◌↔◌, ℕ, zero, suc, ◌+◌, ◌<◌, ◌≤◌, List, [], ◌∷◌, ◌++◌, length, All, Contains, ℤ, ◌<ℤ◌, take}
 use Rattle.std.specs.List.{insert}
 use Rattle.std.specs.Ordering.{int_cmp, MatchOrdering}
@@ -75,9 +75,6 @@ lower_through v x xs i o h l e c q = place_more v x xs i o l e c q (λ y k. befo
 -- what stands at the place i, if anything does, comes after v
 pub record IsHigher (v : List ℤ) (i : ℕ) (xs : List (List ℤ)) : Type 0 where
   pub at : (d : List ℤ) → i < length xs → Precedes ◌<ℤ◌ v (get_or xs i d)
-
-pub higher_end : (v : List ℤ) (i : ℕ) (xs : List (List ℤ)) → length xs ≤ i → IsHigher v i xs
-higher_end v i xs g = record { at = λ d l. absurd (omega arith) }
 
 pub higher_at : (v x : List ℤ) (xs : List (List ℤ)) (i : ℕ) (o : Ordering) → i < length xs → x ≡ get_or xs i x → o ≡ slice_cmp int_cmp x v → o ≡ Greater → IsHigher v i xs
 higher_at v x xs i o l e c q = record { at = λ d m. subst (Precedes ◌<ℤ◌ v) (e ∙ get_or_default xs i x d l) above }

@@ -24,6 +24,7 @@ use Rattle.gf_poly.proofs.CoefficientLaws.{term_length}
 use Rattle.gf_facets.specs.Rows.{differences, row_between, rows_of_terms, rows_of_polynomials}
 use Rattle.gf_facets.specs.Systems.{unit}
 use Rattle.gf_cone.specs.Small.{IsSmall}
+use Rattle.gf_facets.proofs.RowLaws.{row-is}
 
 -- ---- one row
 
@@ -67,9 +68,6 @@ differing_next x y left right entries new i z ex ey e mx my l q n d =
 row-none : (x y : Exponents) → x ≡ y → row_between x y ≡ []
 row-none x y e = ap (λ b. if b then [] else (differences x y ∷ [])) (subst (λ z. same x z ≡ true) e (same-refl x))
 
-row-some : (x y : Exponents) → same x y ≡ false → row_between x y ≡ differences x y ∷ []
-row-some x y e = ap (λ b. if b then [] else (differences x y ∷ [])) e
-
 equal_by_test : (a b : Exponents) (r : Bool) → r ≡ pointwise eqb a b → r ≡ true → a ≡ b
 equal_by_test a b r e t = (slice_eq-Decides Decides-eqb a b (pointwise eqb a b) refl).0 (sym e ∙ t)
 
@@ -82,7 +80,7 @@ same_row x y a b rows r ea eb e t = sym (append-nil rows) ∙ ap (λ w. rows ++ 
 
 pub other_row : (x y a b : Exponents) (rows new : List (List ℤ)) (d : List ℤ) (r : Bool) → length x ≡ length y → a ≡ x → b ≡ y → r ≡ pointwise eqb a b → r ≡ false → d ≡ differences x y → new ≡ rows ++ d ∷ [] → new ≡ rows ++ row_between x y
 other_row x y a b rows new d r l ea eb e f q n =
-    n ∙ ap (λ w. rows ++ w ∷ []) q ∙ ap (λ w. rows ++ w) (sym (row-some x y (apart x y l (λ p. other_by_test a b r e f (ea ∙ p ∙ sym eb)))))
+    n ∙ ap (λ w. rows ++ w ∷ []) q ∙ ap (λ w. rows ++ w) (sym (row-is x y (apart x y l (λ p. other_by_test a b r e f (ea ∙ p ∙ sym eb)))))
 
 -- a row's two monomials have the same variables
 pub lengths_at : (b : MarkedPolynomial) (x : Exponents) (f : Terms) (i : ℕ) (t : Term) → ((n : ℕ) × HasVariables n b.poly) → HasMarkedTerm b → x ≡ b.head → f ≡ b.poly → i < length f → t ≡ get_or f i t → length x ≡ length t.mono

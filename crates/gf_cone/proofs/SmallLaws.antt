@@ -1,5 +1,5 @@
 -- Small vectors: primitive parts of small rows, unit vectors, and that small entries fit what the code asks for.
--- To cite: primitive_small, normal_small, normals_small, units_small, small_for_sign.
+-- To cite: primitive_small, normal_small, units_small, small_for_sign.
 use Rattle.std.specs.Prelude.{◌≡◌, ℕ, zero, suc, ◌*◌, ◌<◌, ◌≤◌, ◌^◌, List, length, get_or, All, ℤ, pos, ◌*ℤ◌, unsigned_abs}
 use Rattle.std.proofs.Common.{arith, sym, ap, ◌∙◌, subst}
 use Rattle.std.proofs.lemmas.Int.{unsigned_abs-mul}
@@ -11,7 +11,6 @@ use Rattle.gf_vec.proofs.VectorLaws.{length-times}
 use Rattle.gf_poly.specs.Marking.{MarkedPolynomial}
 use Rattle.gf_facets.specs.Rows.{rows_of_polynomials, IsNormal}
 use Rattle.gf_facets.specs.Systems.{unit, units}
-use Rattle.gf_facets.specs.Normals.{AreNormals}
 use Rattle.gf_facets.proofs.PrimitiveLaws.{divided-entry}
 use Rattle.gf_facets.proofs.SystemLaws.{contained_all}
 use Rattle.gf_facets.proofs.UnitLaws.{unit_of}
@@ -41,9 +40,6 @@ primitive_small t a p s = record { entries = entries }
 -- so is each normal of a marked list with small rows
 pub normal_small : (bs : List MarkedPolynomial) (a : List ℤ) → All IsSmall (rows_of_polynomials bs) → IsNormal bs a → IsSmall a
 normal_small bs a s p = primitive_small p.0 a p.2 (All-contains IsSmall (rows_of_polynomials bs) p.0 s p.1)
-
-pub normals_small : (bs : List MarkedPolynomial) (ns : List (List ℤ)) → All IsSmall (rows_of_polynomials bs) → AreNormals bs ns → All IsSmall ns
-normals_small bs ns s m = contained_all IsSmall ns (λ a c. normal_small bs a s (m.only a c))
 
 -- so are the unit vectors
 pub units_small : (n k : ℕ) → All IsSmall (units n k)

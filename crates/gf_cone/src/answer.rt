@@ -6,7 +6,7 @@ use gf_vec::IntVec;
 /// others.
 ///
 /// There is a multiplier of each other normal, in their order; none is negative, and `times` is at least 1.
-#[derive(Drop, Debug)]
+#[derive(Drop)]
 pub enum FacetAnswer {
     Facet { witness: IntVec },
     Redundant { times: i128, multipliers: IntVec },
@@ -17,14 +17,14 @@ pub enum FacetAnswer {
 ///
 /// There is a multiplier of each other normal and then of each unit vector, in their order; none is negative, and `times` is
 /// at least 1.
-#[derive(Drop, Debug)]
+#[derive(Drop)]
 pub enum FlipAnswer {
     Yes { witness: IntVec },
     No { times: i128, multipliers: IntVec },
 }
 
 /// The place of a normal, and a positive vector that is zero on it and positive on all other normals.
-#[derive(Drop, Debug)]
+#[derive(Drop)]
 pub struct Way {
     pub place: usize,
     pub witness: IntVec,

@@ -1,7 +1,6 @@
 -- What is said of polynomials is combined to these polynomials, with their marks.
 -- To cite: listed, all_listed, sums_listed, listed_fit, listed_written. The rest are steps.
-use Rattle.std.proofs.Common.{◌≡◌, ◌≢◌, ◌≤◌, ◌<◌, ◌^◌, ◌+◌, ◌-◌, ℕ, zero, suc, ℤ, pos, negsuc, Bool, true, false, cond, ◌==◌, nat_lt, slice_index, slice_set, replicate, List, [], ◌∷◌, ◌++◌, length, bytes_eq, Ok, refl, sym, ap, subst, ◌∙◌, inl, inr, arith, append_assoc, length-append, if◌then◌else◌}
-use Rattle.std.specs.Prelude.{Contains}
+use Rattle.std.proofs.Common.{◌≡◌, ◌≤◌, ◌<◌, ◌^◌, ◌+◌, ◌-◌, ℕ, zero, suc, ℤ, pos, negsuc, Bool, true, false, cond, ◌==◌, nat_lt, slice_index, slice_set, replicate, List, [], ◌∷◌, ◌++◌, length, bytes_eq, Ok, refl, sym, ap, subst, ◌∙◌, inl, inr, arith, append_assoc, length-append, if◌then◌else◌}
 use Rattle.std.specs.Ordering.{is_eq}
 use Rattle.std.specs.declared.cmp.Ordering.{Ordering}
 use Rattle.std.specs.declared.cmp.Ordering.TheVariants.{Greater, Less, Equal}
@@ -9,7 +8,7 @@ use Rattle.std.specs.Int.RustNames.{unsigned_abs}
 use Rattle.std.proofs.lemmas.Bool.Decides.{eqb_tells, nat_tests}
 use Rattle.std.proofs.lemmas.Slice.Eq.{bytes_eq-Decides}
 use Rattle.gf_frac.specs.Fraction.{Fraction, over, over-parts, ◌+ℚ◌, zero_ℚ}
-use Rattle.gf_frac.proofs.FractionLaws.{over-neg, +ℚ_assoc, +ℚ_comm, +ℚ-zero, zero-+ℚ}
+use Rattle.gf_frac.proofs.FractionLaws.{over-neg, +ℚ_assoc, +ℚ-zero, zero-+ℚ}
 use Rattle.gf_exponents.specs.Exponents.{Exponents, same}
 use Rattle.gf_exponents.specs.Orders.{deglex}
 use Rattle.gf_exponents.proofs.ExponentsLaws.{same-refl}
@@ -18,8 +17,8 @@ use Rattle.gf_poly.specs.Polynomial.{Terms, IsDescending, HasVariables, SamePoly
 use Rattle.gf_poly.specs.Collecting.{like, LikeSumsFit}
 use Rattle.gf_poly.specs.Marking.{MarkedPolynomial}
 use Rattle.gf_poly.proofs.CollectLaws.{short_fits, like-short}
-use Rattle.gf_poly.proofs.CoefficientLaws.{apart}
-use Rattle.gf_poly.proofs.DescendingLaws.{equal_same, Contains-cons, Contains-none}
+use Rattle.gf_poly.proofs.CoefficientLaws.{apart, term_nonzero}
+use Rattle.gf_poly.proofs.DescendingLaws.{equal_same}
 use Rattle.gf_text.specs.declared.written.Written.{Written}
 use Rattle.gf_text.specs.declared.written.Written.TheVariants as written
 use Rattle.gf_text.specs.PrintedText.{is_below_zero}
@@ -28,6 +27,7 @@ use Rattle.gf_text.specs.Sets.{AreWritten, AllSumsFit}
 use Rattle.gf_text.specs.WrittenText.{IsKeptMarked, IsWrittenKept, AreWrittenKept}
 use Rattle.gf_text.proofs.PrintedTermsLaws.{AreSmall, factors_from, term_said}
 use Rattle.gf_text.proofs.PrintedPolynomialsLaws.{IsFine, AreFine, all_fine, fine_at, head_term, head_is, others_said, said, all_said}
+use Rattle.gf_poly.proofs.MergeLaws.{swap_first}
 
 -- ---- terms
 
@@ -187,9 +187,6 @@ unfolding part
 with_term true a c k = sym (+ℚ_assoc a c k)
 with_term false a c k = zero-+ℚ (zero_ℚ +ℚ k)
 
-swapped : (a b c : Fraction) → a +ℚ (b +ℚ c) ≡ b +ℚ (a +ℚ c)
-swapped a b c = sym (+ℚ_assoc a b c) ∙ ap (λ z. z +ℚ c) (+ℚ_comm a b) ∙ +ℚ_assoc b a c
-
 -- the coefficient at the marked monomial, and of the others
 taken_apart : (n : ℕ) (head : Exponents) (f : Terms) (e : Exponents) → length head ≡ n → HasVariables n f → coefficient f e ≡ part (same e head) (coefficient f head) +ℚ coefficient (others head f) e
 unfolding part
@@ -216,7 +213,7 @@ taken_apart n head (t ∷ f) e same_length variables = by (bytes_eq t.mono head)
         let other : same head t.mono ≡ false = apart head t.mono (same_length ∙ sym variables.0) (λ is. differs (sym is)) in
         let here : coefficient (t ∷ f) head ≡ coefficient f head = ap (λ b. part b t.coef +ℚ coefficient f head) other ∙ zero-+ℚ (coefficient f head) in
         ap (λ k. part (same e t.mono) t.coef +ℚ k) later
-        ∙ swapped (part (same e t.mono) t.coef) (part (same e head) (coefficient f head)) (coefficient (others head f) e)
+        ∙ swap_first (part (same e t.mono) t.coef) (part (same e head) (coefficient f head)) (coefficient (others head f) e)
         ∙ ap (λ k. part (same e head) k +ℚ coefficient (t ∷ others head f) e) (sym here)
 
     by : (v : Bool) → bytes_eq t.mono head ≡ v → coefficient f e ≡ part (same e head) (coefficient f head) +ℚ coefficient (others head f) e
@@ -227,13 +224,6 @@ taken_apart n head (t ∷ f) e same_length variables = by (bytes_eq t.mono head)
 listed_sum : (n : ℕ) (m : MarkedPolynomial) → IsKeptMarked n m → length m.head ≡ n → SamePolynomial m.poly (listed n (written.Nonzero m))
 unfolding part
 listed_sum n m kept same_length = λ e. taken_apart n m.head m.poly e same_length kept.variables
-
-nonzero_contained : (f : Terms) (t : Term) → IsDescending f → Contains f t → t.coef ≢ zero_ℚ
-nonzero_contained [] t descending h = absurd (Contains-none t h)
-nonzero_contained (s ∷ f) t descending h = elim (Contains-cons f t s h) [
-  | inl is ↦ subst (λ (u : Term). u.coef ≢ zero_ℚ) (sym is) descending.0
-  | inr there ↦ nonzero_contained f t descending.2 there
-]
 
 listed_marked : (n : ℕ) (m : MarkedPolynomial) → IsKeptMarked n m → IsSumMarked (listed n (written.Nonzero m)) m
 listed_marked n m kept =
@@ -250,7 +240,7 @@ listed_marked n m kept =
         term = head;
         stands = refl;
         monomial = refl;
-        remains = λ zero. nonzero_contained m.poly head kept.marked.descending stands (sum m.head ∙ zero);
+        remains = λ zero. term_nonzero m.poly head kept.marked.descending stands (sum m.head ∙ zero);
         before = λ k below. absurd (omega arith);
       };
     }

@@ -1,5 +1,5 @@
 -- Terms and sums of terms, one after another.
--- To cite: factors_on, factors_refused, factors_end; terms_on, terms_refused, terms_end, terms_fit; sums_push_ok, sums_push_refused, sums_push_after; sums_append_ok, sums_append_refused, sums_append_after; found_place; not_yet, none_left, first_found. The rest are steps.
+-- To cite: terms_on, terms_end, terms_fit; sums_push_ok, sums_push_refused, sums_push_after; sums_append_ok, sums_append_refused, sums_append_after; found_place; not_yet, none_left, first_found. The rest are steps.
 use Rattle.std.proofs.Common.{◌≡◌, ◌≢◌, ◌<◌, ◌≤◌, ℕ, zero, suc, ◌+◌, ◌^◌, Bool, true, false, nat_lt, slice_index, slice_set, replicate, IfSome, inl, inr, arith, if◌then◌else◌, List, [], ◌∷◌, ◌++◌, length, drop, get_or, Result, Ok, Err, Option, Some, None, MatchOption, slice_get, refl, sym, ap, subst, ◌∙◌, add-one, append_assoc, append-nil}
 use Rattle.std.proofs.Math.Seq.{drop-cons}
 use Rattle.std.proofs.lemmas.List.{drop_all}
@@ -8,7 +8,7 @@ use Rattle.std.proofs.lemmas.Bool.{cases_lt}
 use Rattle.std.proofs.lemmas.List.{length-replicate}
 use Rattle.std.proofs.Math.ListN.{length-set}
 use Rattle.std.specs.Result.{result_ok}
-use Rattle.std.specs.Ordering.{ordering_index, ordering_reverse}
+use Rattle.std.specs.Ordering.{ordering_index}
 use Rattle.std.specs.List.Sorted.{IsNonDecreasingBy, IsSearchInRange, IsBinarySearchResult}
 use Rattle.gf_frac.specs.Fraction.{◌+ℚ◌, zero_ℚ}
 use Rattle.gf_frac.proofs.FractionLaws.{zero-+ℚ}
@@ -20,24 +20,13 @@ use Rattle.gf_poly.specs.declared.Term.{Term}
 use Rattle.gf_poly.specs.declared.monomial.ExponentOverflow.{ExponentOverflow}
 use Rattle.gf_poly.specs.Polynomial.{Terms, IsAbove, IsDescending, HasVariables, SamePolynomial, coefficient}
 use Rattle.gf_poly.proofs.CoefficientLaws.{apart, coefficient-contains}
-use Rattle.gf_poly.proofs.DescendingLaws.{equal_same, deglex-total, greater_trans, never_greater}
+use Rattle.gf_poly.proofs.DescendingLaws.{equal_same, greater_trans}
 use Rattle.gf_text.specs.declared.tree.Factor.{Factor}
 use Rattle.gf_text.specs.declared.tree.WrittenTerm.{WrittenTerm}
-use Rattle.gf_text.specs.Combining.{raised_by, then_factors, times_factors, exponents_of, coefficient_of, term_written, terms_written, sums_of, WrittenExponentsFit, SumsHaveVariables, before_all, with_coefficient, IsPlaceOf, IsFirstRemainingAt, FindsFirst, IsSumOf}
+use Rattle.gf_text.specs.Combining.{raised_by, then_factors, times_factors, exponents_of, coefficient_of, term_written, terms_written, sums_of, SumsHaveVariables, before_all, with_coefficient, IsPlaceOf, IsFirstRemainingAt, FindsFirst, IsSumOf}
+use Rattle.gf_poly.proofs.CollectLaws.{alike_itself}
 
 -- ---- powers, one after another
-
-factors_at : (x : Exponents) (fs : List Factor) (i : ℕ) (d : Factor) → i < length fs → times_factors x (drop i fs) ≡ then_factors (raised_by x (get_or fs i d)) (λ y. times_factors y (drop (i + 1) fs))
-factors_at x fs i d h = let front : drop i fs ≡ get_or fs i d ∷ drop (i + 1) fs = rw add-one (drop-cons fs i d h) in ap (times_factors x) front
-
-pub factors_on : (x y : Exponents) (fs : List Factor) (i : ℕ) (d : Factor) → i < length fs → raised_by x (get_or fs i d) ≡ Ok y → times_factors x (drop i fs) ≡ times_factors y (drop (i + 1) fs)
-factors_on x y fs i d h e = factors_at x fs i d h ∙ ap (λ r. then_factors r (λ z. times_factors z (drop (i + 1) fs))) e
-
-pub factors_refused : (x : Exponents) (o : ExponentOverflow) (fs : List Factor) (i : ℕ) (d : Factor) → i < length fs → raised_by x (get_or fs i d) ≡ Err o → times_factors x (drop i fs) ≡ Err o
-factors_refused x o fs i d h e = factors_at x fs i d h ∙ ap (λ r. then_factors r (λ z. times_factors z (drop (i + 1) fs))) e
-
-pub factors_end : (x : Exponents) (fs : List Factor) (i : ℕ) → length fs ≤ i → times_factors x (drop i fs) ≡ Ok x
-factors_end x fs i h = ap (times_factors x) (drop_all i fs h)
 
 -- ---- terms, one after another
 
@@ -62,9 +51,6 @@ pub terms_on : (n : ℕ) (out : Terms) (t : Term) (us : List WrittenTerm) (i : �
 terms_on n out t us i d h e =
     ap (onto out) (terms_at n us i d h ∙ ap (λ r. before_all r (terms_written n (drop (i + 1) us))) e) ∙ onto_next out t (terms_written n (drop (i + 1) us))
 
-pub terms_refused : (n : ℕ) (out : Terms) (o : ExponentOverflow) (us : List WrittenTerm) (i : ℕ) (d : WrittenTerm) → i < length us → term_written n (get_or us i d) ≡ Err o → onto out (terms_written n (drop i us)) ≡ Err o
-terms_refused n out o us i d h e = ap (onto out) (terms_at n us i d h ∙ ap (λ r. before_all r (terms_written n (drop (i + 1) us))) e)
-
 pub terms_end : (n : ℕ) (out : Terms) (us : List WrittenTerm) (i : ℕ) → length us ≤ i → onto out (terms_written n (drop i us)) ≡ Ok out
 terms_end n out us i h = ap (λ l. onto out (terms_written n l)) (drop_all i us h) ∙ ap (λ l. Ok l) (append-nil out)
 
@@ -76,9 +62,6 @@ pub record Taken (n : ℕ) (us : List WrittenTerm) (i : ℕ) : Type 0 where
 pub said_term : (n : ℕ) (u : WrittenTerm) (x : Exponents) → exponents_of n u ≡ Ok x → term_written n u ≡ Ok (record { coef = coefficient_of u; mono = x })
 said_term n u x e = ap (with_coefficient (coefficient_of u)) e
 
-refused_term : (n : ℕ) (u : WrittenTerm) (o : ExponentOverflow) → exponents_of n u ≡ Err o → term_written n u ≡ Err o
-refused_term n u o e = ap (with_coefficient (coefficient_of u)) e
-
 abbrev pub taken_none : (n : ℕ) (us : List WrittenTerm) → Taken n us 0
 taken_none n us = record { terms = []; all = onto_nothing (terms_written n us) }
 
@@ -86,12 +69,6 @@ abbrev pub taken_on : (n : ℕ) (us : List WrittenTerm) (i : ℕ) (d : WrittenTe
 taken_on n us i d x h e t =
     let next : Term = record { coef = coefficient_of (get_or us i d); mono = x } in
     record { terms = t.terms ++ next ∷ []; all = sym (terms_on n t.terms next us i d h (said_term n (get_or us i d) x e)) ∙ t.all }
-
-pub taken_refused : (n : ℕ) (us : List WrittenTerm) (i : ℕ) (d : WrittenTerm) (o : ExponentOverflow) → i < length us → exponents_of n (get_or us i d) ≡ Err o → Taken n us i → terms_written n us ≡ Err o
-taken_refused n us i d o h e t = sym t.all ∙ terms_refused n t.terms o us i d h (refused_term n (get_or us i d) o e)
-
-pub taken_all : (n : ℕ) (us : List WrittenTerm) (i : ℕ) → length us ≤ i → Taken n us i → WrittenExponentsFit n us
-taken_all n us i h t = (t.terms, sym t.all ∙ terms_end n t.terms us i h)
 
 -- ---- places in a sum
 
@@ -123,19 +100,11 @@ rises f e descending i j d up within = elim (cases_lt i j) [
       subst (λ k. ordering_index (deglex e (get_or f i d).mono) ≤ ordering_index (deglex e (get_or f k d).mono)) eq (omega arith)
 ]
 
-deglex-self : (e : Exponents) → deglex e e ≡ Equal
-deglex-self e = by (deglex e e) refl
-  where
-    by : (o : Ordering) → deglex e e ≡ o → deglex e e ≡ Equal
-    by Less is = let flipped = deglex-total.antisymm e e ∙ ap ordering_reverse is in let a : Less ≡ Greater = sym is ∙ flipped in cc
-    by Equal is = is
-    by Greater is = absurd (never_greater e is)
-
 -- no monomial is e
 no_coefficient : (f : Terms) (e : Exponents) → HasVariables (length e) f → ((k : ℕ) (d : Term) → k < length f → deglex e (get_or f k d).mono ≢ Equal) → coefficient f e ≡ zero_ℚ
 no_coefficient [] e h other = refl
 no_coefficient (t ∷ f) e h other =
-    let differs : e ≡ t.mono → ⊥ = λ is. other 0 t (omega arith) (subst (λ z. deglex e z ≡ Equal) is (deglex-self e)) in
+    let differs : e ≡ t.mono → ⊥ = λ is. other 0 t (omega arith) (subst (λ z. deglex e z ≡ Equal) is (alike_itself e)) in
     ap (λ b. (if b then t.coef else zero_ℚ) +ℚ coefficient f e) (apart e t.mono (sym h.0) differs)
     ∙ zero-+ℚ (coefficient f e)
     ∙ no_coefficient f e h.1 (λ k d within. other (suc k) d (omega arith))
@@ -145,7 +114,7 @@ nonzero_in [] i d h k = absurd (omega arith)
 nonzero_in (t ∷ f) zero d h k = h.0
 nonzero_in (t ∷ f) (suc i) d h k = nonzero_in f i d h.2 (omega arith)
 
-same_at : (f : Terms) (i : ℕ) (s t : Term) → i < length f → get_or f i s ≡ get_or f i t
+pub same_at : (f : Terms) (i : ℕ) (s t : Term) → i < length f → get_or f i s ≡ get_or f i t
 same_at [] i s t h = absurd (omega arith)
 same_at (u ∷ f) zero s t h = refl
 same_at (u ∷ f) (suc i) s t h = same_at f i s t (omega arith)
@@ -378,9 +347,3 @@ sums_variables n (q ∷ qs) fs e = by (terms_written n q) (sums_of n qs) refl re
     by (Ok t) (Ok xs) is are later h = let same : t ∷ xs ≡ fs = cc in subst (SumsHaveVariables n) same (terms_variables n q t is, later xs are)
     by (Ok t) (Err o) is are later h = cc
     by (Err o) rs is are later h = cc
-
--- the sum at a place has its variables
-pub have_at : (n : ℕ) (fs : List Terms) (i : ℕ) (d : Terms) → SumsHaveVariables n fs → i < length fs → HasVariables n (get_or fs i d)
-have_at n [] i d h k = absurd (omega arith)
-have_at n (f ∷ fs) zero d h k = h.0
-have_at n (f ∷ fs) (suc i) d h k = have_at n fs i d h.1 (omega arith)

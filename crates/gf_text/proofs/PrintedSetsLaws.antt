@@ -8,12 +8,7 @@ use Rattle.gf_poly.specs.Marking.{MarkedPolynomial, head_of}
 use Rattle.gf_poly.proofs.CoefficientLaws.{coefficient-contains}
 use Rattle.gf_text.specs.PrintedText.{first_text}
 use Rattle.gf_text.specs.PrintedSets.{other_text, marked_text, members_text}
-use Rattle.gf_text.proofs.CombiningLaws.{variables_at_place}
-
-same_at : (f : Terms) (i : ℕ) (s t : Term) → i < length f → get_or f i s ≡ get_or f i t
-same_at [] i s t h = absurd (omega arith)
-same_at (u ∷ f) zero s t h = refl
-same_at (u ∷ f) (suc i) s t h = same_at f i s t (omega arith)
+use Rattle.gf_text.proofs.CombiningLaws.{variables_at_place, same_at}
 
 head_of-get : (f : Terms) (i : ℕ) (d : Term) → i < length f → head_of f i ≡ (get_or f i d).mono
 head_of-get [] i d h = absurd (omega arith)

@@ -1,9 +1,8 @@
 -- The pieces of a printed term, one after another.
--- To cite: powers_next, powers_end, bare_text, sized_text. The rest are steps.
-use Rattle.std.proofs.Common.{◌≡◌, ◌<◌, ◌≤◌, ℕ, ◌+◌, Bool, true, false, not, ◌||◌, ◌&&◌, ◌==◌, List, [], ◌∷◌, ◌++◌, length, drop, get_or, refl, sym, ap, ◌∙◌, arith, if◌then◌else◌, add-one, append_assoc, slice_get, Some}
+-- To cite: powers_next, bare_text, sized_text. The rest are steps.
+use Rattle.std.proofs.Common.{◌≡◌, ◌<◌, ℕ, ◌+◌, Bool, true, false, not, ◌||◌, ◌&&◌, ◌==◌, List, [], ◌∷◌, ◌++◌, length, drop, get_or, refl, sym, ap, ◌∙◌, arith, if◌then◌else◌, add-one, append_assoc, slice_get, Some}
 use Rattle.std.proofs.lemmas.Option.{get_or_from_slice_get}
 use Rattle.std.proofs.Math.Seq.{drop-cons}
-use Rattle.std.proofs.lemmas.List.{drop_all}
 use Rattle.std.specs.List.{list_any}
 use Rattle.gf_text.specs.PrintedText.{power_text, powers, powers_text, next_text, joined, pieces, is_unit, size_text, unsigned_text}
 use Rattle.gf_frac.specs.Fraction.{Fraction}
@@ -37,10 +36,6 @@ powers_next names es out new b after i name h same is text some =
     ∙ append_assoc out next (powers_text (b || not (get_or es i 0 == 0)) later)
     ∙ ap (λ n. out ++ (next_text b n (get_or es i 0) ++ powers_text (b || not (get_or es i 0 == 0)) later)) (sym (get_or_from_slice_get names i name name is))
     ∙ ap (λ l. out ++ l) (sym (powers_on names es b i name (omega arith) h))
-
-pub powers_end : (names : List (List ℕ)) (es : List ℕ) (b : Bool) (i : ℕ) → length names ≤ i → powers_text b (powers (drop i names) (drop i es)) ≡ []
-powers_end names es true i h = rw (drop_all i names h) refl
-powers_end names es false i h = rw (drop_all i names h) refl
 
 -- some power stands where some exponent isn't 0
 some_power : (names : List (List ℕ)) (es : List ℕ) → length es ≡ length names → list_any (λ e. not (e == 0)) es ≡ true → (p : List ℕ) × (ps : List (List ℕ)) × (powers names es ≡ p ∷ ps)

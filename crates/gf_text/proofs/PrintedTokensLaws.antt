@@ -1,6 +1,6 @@
 -- The tokens of printed numbers, names and powers, where no letter, digit or _ follows.
 -- To cite: IsPiece, piece-none, piece-token, piece-++, piece-joined; number_word, decimal_number, number_piece, names_of_ring, Names. The rest are steps.
-use Rattle.std.proofs.Common.{◌≡◌, ◌≤◌, ◌<◌, ◌^◌, ◌*◌, ◌/◌, ◌%◌, ◌+◌, ◌-◌, ℕ, zero, suc, Bool, true, false, ◌&&◌, ◌||◌, ◌==◌, nat_eq, max, List, [], ◌∷◌, ◌++◌, length, get_or, decimal, Some, refl, sym, ap, ◌∙◌, subst, arith, inl, inr, bytes_eq, if◌then◌else◌}
+use Rattle.std.proofs.Common.{◌≡◌, ◌≤◌, ◌<◌, ◌^◌, ◌*◌, ◌/◌, ◌%◌, ◌+◌, ◌-◌, ℕ, zero, suc, Bool, true, false, ◌||◌, ◌==◌, nat_eq, max, List, [], ◌∷◌, ◌++◌, length, get_or, decimal, Some, refl, sym, ap, ◌∙◌, subst, arith, inl, inr, bytes_eq, if◌then◌else◌}
 use Rattle.std.proofs.lemmas.Bool.Decides.{nat_tests, eqb_tells}
 use Rattle.std.proofs.lemmas.Fmt.{decimal_by_steps_wide}
 use Rattle.std.proofs.lemmas.List.Folds.{length-prefix_len, list_any-append}
@@ -10,20 +10,16 @@ use Rattle.gf_text.specs.Tokens.{is_space, is_digit, is_letter, is_name_byte, is
 use Rattle.gf_text.specs.RingText.{is_name, has, AreNew, IsRing}
 use Rattle.gf_text.specs.SetText.{variable}
 use Rattle.gf_text.proofs.SpelledLaws.{IsToken, IsSpelled, goes_on, spelled-none, spelled-token, spelled-++}
+use Rattle.std.proofs.lemmas.Bool.{and_parts}
 
 -- ---- decimal digits
-
-and_both : (a b : Bool) → (a && b) ≡ true → (a ≡ true) × (b ≡ true)
-and_both true true e = (refl, refl)
-and_both true false e = cc
-and_both false b e = cc
 
 digit_of : (n : ℕ) → n < 10 → is_digit (48 + n) ≡ true
 digit_of n h = grind (arith, nat_tests)
 
 digits_push : (ds : List ℕ) (d : ℕ) → list_all is_digit ds ≡ true → is_digit d ≡ true → list_all is_digit (ds ++ d ∷ []) ≡ true
 digits_push [] d all one = rw one refl
-digits_push (x ∷ ds) d all one = let both = and_both (is_digit x) (list_all is_digit ds) all in rw both.0 (digits_push ds d both.1 one)
+digits_push (x ∷ ds) d all one = let both = and_parts (is_digit x) (list_all is_digit ds) all in rw both.0 (digits_push ds d both.1 one)
 
 number_push : (ds : List ℕ) (d : ℕ) → is_number ds ≡ true → is_digit d ≡ true → is_number (ds ++ d ∷ []) ≡ true
 number_push [] d all one = cc
@@ -60,7 +56,7 @@ digits_end : (ds rest : List ℕ) → list_all is_digit ds ≡ true → goes_on 
 digits_end [] [] all stops = refl
 digits_end [] (b ∷ rest) all stops = rw (different_digit b stops) refl
 digits_end (d ∷ ds) rest all stops =
-    let both = and_both (is_digit d) (list_all is_digit ds) all in
+    let both = and_parts (is_digit d) (list_all is_digit ds) all in
     rw both.0 (omega (arith, digits_end ds rest both.1 stops))
 
 digit_visible : (b : ℕ) → is_digit b ≡ true → is_space b ≡ false
@@ -69,14 +65,14 @@ digit_visible b h = grind (arith, nat_tests, h)
 letter_visible : (b : ℕ) → is_letter b ≡ true → is_space b ≡ false
 letter_visible b h = grind (arith, nat_tests, h)
 
-letter_no_digit : (b : ℕ) → is_letter b ≡ true → is_digit b ≡ false
+pub letter_no_digit : (b : ℕ) → is_letter b ≡ true → is_digit b ≡ false
 letter_no_digit b h = grind (arith, nat_tests, h)
 
 -- a number, where names are of any length
 pub number_word : (ds rest : List ℕ) → is_number ds ≡ true → goes_on rest ≡ false → IsToken word_more ds rest
 number_word [] rest digits stops = cc
 number_word (d ∷ ds) rest digits stops =
-    let both = and_both (is_digit d) (list_all is_digit ds) digits in
+    let both = and_parts (is_digit d) (list_all is_digit ds) digits in
     record {
       first = d;
       others = ds;
@@ -89,7 +85,7 @@ module _ (ring : List (List ℕ)) where
   pub number_token : (ds rest : List ℕ) → is_number ds ≡ true → goes_on rest ≡ false → IsToken (ring_more ring) ds rest
   number_token [] rest digits stops = cc
   number_token (d ∷ ds) rest digits stops =
-      let both = and_both (is_digit d) (list_all is_digit ds) digits in
+      let both = and_parts (is_digit d) (list_all is_digit ds) digits in
       record {
         first = d;
         others = ds;
@@ -106,7 +102,7 @@ letter_name_byte b h = rw h refl
 
 name_bytes : (n : List ℕ) → is_name n ≡ true → list_all is_name_byte n ≡ true
 name_bytes [] named = cc
-name_bytes (b ∷ bs) named = let both = and_both (is_letter b) (list_all is_name_byte bs) named in rw (letter_name_byte b both.0, both.1) refl
+name_bytes (b ∷ bs) named = let both = and_parts (is_letter b) (list_all is_name_byte bs) named in rw (letter_name_byte b both.0, both.1) refl
 
 same_byte : (a b : ℕ) → nat_eq a b ≡ true → a ≡ b
 same_byte a b h = elim (eqb_tells a b) [ inl k ↦ k.1 | inr k ↦ let no = k.0 in cc ]
@@ -119,14 +115,14 @@ no_longer : (n m rest : List ℕ) → list_all is_name_byte m ≡ true → goes_
 no_longer n [] rest bytes stops starts = omega arith
 no_longer [] (c ∷ cs) [] bytes stops starts = cc
 no_longer [] (c ∷ cs) (b ∷ rest) bytes stops starts =
-    let first = and_both (nat_eq c b) (starts_with nat_eq rest cs) starts in
+    let first = and_parts (nat_eq c b) (starts_with nat_eq rest cs) starts in
     let same = same_byte c b first.0 in
-    let is = (and_both (is_name_byte c) (list_all is_name_byte cs) bytes).0 in
+    let is = (and_parts (is_name_byte c) (list_all is_name_byte cs) bytes).0 in
     let isnt : is_name_byte c ≡ false = ap is_name_byte same ∙ stops in
     cc
 no_longer (a ∷ n) (c ∷ cs) rest bytes stops starts =
-    let first = and_both (nat_eq c a) (starts_with nat_eq (n ++ rest) cs) starts in
-    let later = no_longer n cs rest (and_both (is_name_byte c) (list_all is_name_byte cs) bytes).1 stops first.1 in
+    let first = and_parts (nat_eq c a) (starts_with nat_eq (n ++ rest) cs) starts in
+    let later = no_longer n cs rest (and_parts (is_name_byte c) (list_all is_name_byte cs) bytes).1 stops first.1 in
     omega arith
 
 starts_itself : (n rest : List ℕ) → starts_with nat_eq (n ++ rest) n ≡ true
@@ -156,7 +152,7 @@ named_at before (n ∷ ns) (suc v) new h = named_at (before ++ n ∷ []) ns v ne
 name_token : (ring : List (List ℕ)) (n rest : List ℕ) → is_name n ≡ true → longest ring (n ++ rest) ≡ length n → IsToken (ring_more ring) n rest
 name_token ring [] rest named most = cc
 name_token ring (c ∷ cs) rest named most =
-    let letter = (and_both (is_letter c) (list_all is_name_byte cs) named).0 in
+    let letter = (and_parts (is_letter c) (list_all is_name_byte cs) named).0 in
     record {
       first = c;
       others = cs;

@@ -1,7 +1,6 @@
 -- The machine of rings reads exactly what the grammar of rings says, and a printed ring is read again.
 -- To cite: ring_machine, ring_reads, ring_read, ring_halts, long_name, long_is_name, long_is_new, long_stops, one_ring, rings_again. The rest are steps.
 use Rattle.std.proofs.Common.{◌≡◌, ◌<◌, ◌≤◌, ℕ, zero, suc, ◌+◌, Bool, true, false, ◌||◌, List, [], ◌∷◌, ◌++◌, length, flat_map, Ok, refl, sym, ap, ◌∙◌, subst, inl, inr, append_assoc, append-nil, bytes_eq, arith, if◌then◌else◌, replicate}
-use Rattle.std.proofs.lemmas.Slice.Eq.{bytes_eq-Decides}
 use Rattle.std.proofs.lemmas.List.{length-replicate}
 use Rattle.std.specs.List.{list_all}
 use Rattle.gf_text.specs.declared.error.Cause.{Cause}
@@ -16,6 +15,7 @@ use Rattle.gf_text.specs.Marks.{bracket, comma, bracket_end}
 use Rattle.gf_text.specs.Tokens.{is_name_byte, lexemes, word_more, Position}
 use Rattle.gf_text.proofs.MachineLaws.{after-go, after-done, first, not_yet, reads, one_meaning, IsMachineOf}
 use Rattle.gf_text.proofs.SpelledLaws.{IsSpelled, goes_on, spelled-none, spelled-token, spelled-++, spelled-read, mark_token, word_token}
+use Rattle.gf_text.proofs.SetTokensLaws.{is_mark}
 
 -- ---- what the machine does at a token
 
@@ -30,9 +30,6 @@ stops cause = halt cause
 
 abbrev pub ends : Names → Move RingState Names
 ends names = done names
-
-is_mark : (t mark : List ℕ) → bytes_eq t mark ≡ true → t ≡ mark
-is_mark t mark is = (bytes_eq-Decides t mark).0 is
 
 pub is_letter_q : (before : Names) (t : List ℕ) (v : Bool) → bytes_eq t letter_q ≡ v → (u : RingState) → (if v then goes (at.Bracket, before) else stops Unexpected) ≡ goes u → (t ≡ letter_q) × (u ≡ (at.Bracket, before))
 is_letter_q before t true is u e = (is_mark t letter_q is, cc)

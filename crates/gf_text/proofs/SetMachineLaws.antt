@@ -1,6 +1,6 @@
 -- The machine of sets is one of the grammar of sets: it reads exactly its texts, and from each state on some tokens lead to
 -- a set.
--- To cite: first_name, set_machine, set_reads, set_is_read, one_set. The rest are steps.
+-- To cite: first_name, set_machine, set_reads, one_set. The rest are steps.
 use Rattle.std.proofs.Common.{◌≡◌, ℕ, true, List, [], ◌∷◌, length, Some, Ok, refl, ap, ◌∙◌, bytes_eq, arith}
 use Rattle.std.proofs.lemmas.Slice.Eq.{bytes_eq-Decides}
 use Rattle.gf_text.specs.declared.error.Cause.TheVariants.{Ended}
@@ -12,7 +12,7 @@ use Rattle.gf_text.specs.Tokens.{lexemes, ring_more}
 use Rattle.gf_text.specs.RingText.{IsRing}
 use Rattle.gf_text.specs.SetText.{variable, IsSetText, SetState, with_variable, with_factor, with_numer, with_denom, all_of, behind_step, set_step, empty, set_at}
 use Rattle.gf_text.specs.Marks.{brace, brace_end}
-use Rattle.gf_text.proofs.MachineLaws.{after-go, after-done, reads, is_read, one_meaning, IsMachineOf}
+use Rattle.gf_text.proofs.MachineLaws.{after-go, after-done, reads, one_meaning, IsMachineOf}
 use Rattle.gf_text.proofs.SetTokensLaws.{no_name}
 use Rattle.gf_text.proofs.KindsLaws.{one}
 use Rattle.gf_text.proofs.SetStopsLaws.{reason}
@@ -83,9 +83,6 @@ set_machine ring is = record {
 
 pub set_reads : (ring : Texts) (source : List ℕ) (from : ℕ) (ps : Sets) (place : ℕ) → set_at ring source from ≡ Ok (ps, place) → Reads (IsSetText ring) (lexemes (ring_more ring) source from) ps place
 set_reads ring source from ps place e = reads (set_step ring) (IsSetText ring) (at.Brace, empty) (length source) (lexemes (ring_more ring) source from) ps place (λ ts. set_said ring ts ps) e
-
-pub set_is_read : (ring : Texts) → IsRing ring → (source : List ℕ) (from : ℕ) (ps : Sets) (place : ℕ) → Reads (IsSetText ring) (lexemes (ring_more ring) source from) ps place → set_at ring source from ≡ Ok (ps, place)
-set_is_read ring is source from ps place r = is_read (set_step ring) (IsSetText ring) (at.Brace, empty) (length source) (lexemes (ring_more ring) source from) ps place (λ ts. set_given ring is ts ps) r
 
 pub one_set : (ring : Texts) → IsRing ring → HasOneMeaning (IsSetText ring)
 one_set ring is = one_meaning (set_step ring) (IsSetText ring) (at.Brace, empty) (set_given ring is)

@@ -1,17 +1,15 @@
 -- The tokens of a set: no token is two of a name of the ring, a number, a mark; and what the tests of the machine say.
 -- To cite: named_word, no_name, word_no_number, word_no_mark, number_no_word, number_no_mark, is_mark, number_within, le_from, not_le, le_false, not_zero, zero_number, positive. The rest are steps.
 use Rattle.std.proofs.Common.{◌≡◌, ◌<◌, ◌≤◌, ℕ, ◌+◌, Bool, true, false, cond, ◌&&◌, ◌==◌, nat_le, List, [], ◌∷◌, ◌++◌, Option, Some, None, refl, sym, ap, ◌∙◌, inl, inr, bytes_eq, arith}
-use Rattle.std.proofs.lemmas.Bool.Decides.{nat_tests, leb_tells, eqb_tells}
+use Rattle.std.proofs.lemmas.Bool.Decides.{leb_tells, eqb_tells}
 use Rattle.std.proofs.lemmas.Slice.Eq.{bytes_eq-Decides}
 use Rattle.std.specs.List.{position_from, list_all}
 use Rattle.gf_text.specs.Tokens.{is_letter, is_digit, is_name_byte, is_number, decimal_value}
 use Rattle.gf_text.specs.RingText.{is_name, AreNew, IsRing}
 use Rattle.gf_text.specs.SetText.{variable, is_word, IsNumberText}
+use Rattle.gf_text.proofs.PrintedTokensLaws.{letter_no_digit}
 
 -- ---- bytes
-
-letter_no_digit : (b : ℕ) → is_letter b ≡ true → is_digit b ≡ false
-letter_no_digit b h = grind (arith, nat_tests, h)
 
 -- ---- tests of tokens
 

@@ -1,6 +1,6 @@
 -- Bytes that spell tokens: what the tokens of a text are where pieces of it stand one after another.
 -- To cite: IsToken, IsSpelled, spelled-none, spelled-token, spelled-space, spelled-++, spelled-read; mark_token, word_token. The rest are steps.
-use Rattle.std.proofs.Common.{◌≡◌, ◌≤◌, ℕ, ◌+◌, Bool, true, false, ◌&&◌, List, [], ◌∷◌, ◌++◌, length, take, refl, sym, ap, ◌∙◌, subst, arith, append_assoc, length-append}
+use Rattle.std.proofs.Common.{◌≡◌, ◌≤◌, ℕ, ◌+◌, Bool, true, false, List, [], ◌∷◌, ◌++◌, length, take, refl, sym, ap, ◌∙◌, subst, arith, append_assoc, length-append}
 use Rattle.std.proofs.lemmas.Bool.Decides.{nat_tests}
 use Rattle.std.proofs.lemmas.List.Folds.{length-prefix_len}
 use Rattle.std.proofs.Math.Seq.{drop-append_seam, take-append_seam}
@@ -9,6 +9,7 @@ use Rattle.gf_text.specs.Machine.{Lexeme, behind, texts, behind_all, Reads}
 use Rattle.gf_text.specs.Tokens.{is_space, is_digit, is_letter, is_name_byte, word_more, lex_tokens, lexemes}
 use Rattle.gf_text.specs.RingText.{is_name}
 use Rattle.gf_text.proofs.TokensLaws.{lex-skip}
+use Rattle.std.proofs.lemmas.Bool.{and_parts}
 
 -- t is the whole token at the front of t and the rest
 pub record IsToken (more : List ℕ → ℕ) (t rest : List ℕ) : Type 0 where
@@ -107,16 +108,11 @@ abbrev pub goes_on : List ℕ → Bool
 goes_on [] = false
 goes_on (b ∷ bs) = is_name_byte b
 
-and_both : (a b : Bool) → (a && b) ≡ true → (a ≡ true) × (b ≡ true)
-and_both true true e = (refl, refl)
-and_both true false e = cc
-and_both false b e = cc
-
 name_end : (cs rest : List ℕ) → list_all is_name_byte cs ≡ true → goes_on rest ≡ false → prefix_len is_name_byte (cs ++ rest) ≡ length cs
 name_end [] [] all stops = refl
 name_end [] (b ∷ rest) all stops = rw stops refl
 name_end (c ∷ cs) rest all stops =
-    let both = and_both (is_name_byte c) (list_all is_name_byte cs) all in
+    let both = and_parts (is_name_byte c) (list_all is_name_byte cs) all in
     rw both.0 (omega (arith, name_end cs rest both.1 stops))
 
 letter-least : (b : ℕ) → is_letter b ≡ true → 65 ≤ b
@@ -132,7 +128,7 @@ space-most b h = grind (arith, nat_tests, h)
 pub word_token : (n rest : List ℕ) → is_name n ≡ true → goes_on rest ≡ false → IsToken word_more n rest
 word_token [] rest named stops = cc
 word_token (c ∷ cs) rest named stops =
-    let both = and_both (is_letter c) (list_all is_name_byte cs) named in
+    let both = and_parts (is_letter c) (list_all is_name_byte cs) named in
     let least = letter-least c both.0 in
     record {
       first = c;

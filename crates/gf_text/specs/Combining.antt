@@ -19,6 +19,7 @@ abbrev pub raised_by : Exponents → Factor → Result Exponents ExponentOverflo
 raised_by x f = if nat_lt (slice_index x f.variable + f.exponent) (2 ^ 31) then Ok (slice_set x f.variable (slice_index x f.variable + f.exponent))
     else Err (record { left = slice_index x f.variable; right = f.exponent })
 
+-- what comes next, where a monomial came of the factors so far
 abbrev pub then_factors : Result Exponents ExponentOverflow → (Exponents → Result Exponents ExponentOverflow) → Result Exponents ExponentOverflow
 then_factors (Ok x) next = next x
 then_factors (Err o) next = Err o
@@ -37,6 +38,7 @@ signed_fraction false c = c
 abbrev pub coefficient_of : WrittenTerm → Fraction
 coefficient_of u = signed_fraction u.minus (over (pos u.numer) (u.denom - 1))
 
+-- the term of a coefficient and a monomial, where there is one
 abbrev pub with_coefficient : Fraction → Result Exponents ExponentOverflow → Result Term ExponentOverflow
 with_coefficient c (Ok x) = Ok (record { coef = c; mono = x })
 with_coefficient c (Err o) = Err o

@@ -33,6 +33,7 @@ next_text some name e = if e == 0 then [] else (if some then 42 ∷ power_text n
 
 -- ---- coefficients
 
+-- whether a whole number is negative
 abbrev pub is_below_zero : ℤ → Bool
 is_below_zero (pos n) = false
 is_below_zero (negsuc n) = true
@@ -69,5 +70,6 @@ inner_sign c = if is_below_zero c.num then 45 ∷ [] else 43 ∷ []
 abbrev pub first_text : List (List ℕ) → Fraction → List ℕ → List ℕ
 first_text names c es = leading_sign c ++ unsigned_text names c es
 
+-- a term behind another: its sign is always written
 abbrev pub later_text : List (List ℕ) → Fraction → List ℕ → List ℕ
 later_text names c es = inner_sign c ++ unsigned_text names c es

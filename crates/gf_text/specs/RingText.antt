@@ -32,6 +32,7 @@ pub record IsRing (names : List (List ℕ)) : Type 0 where
 
 -- ---- the grammar
 
+-- the letter that a ring begins with
 abbrev pub letter_q : List ℕ
 letter_q = 81 ∷ []
 
@@ -56,6 +57,7 @@ pub record IsRingText (ts names : List (List ℕ)) : Type 0 where
 abbrev pub RingState : Type 0
 RingState = RingPlace × List (List ℕ)
 
+-- what the next token does to what is read of a ring
 abbrev pub ring_step : RingState → List ℕ → Move RingState (List (List ℕ))
 ring_step (at.Letter, names) t = if bytes_eq t letter_q then go (at.Bracket, names) else halt cause.Unexpected
 ring_step (at.Bracket, names) t = if bytes_eq t bracket then go (at.Variable, names) else halt cause.Unexpected

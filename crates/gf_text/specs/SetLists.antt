@@ -69,6 +69,7 @@ sets_at ring source from = sets_from ring (opening, []) source from
 abbrev pub sets_first : ListState SetState (List (List WrittenTerm))
 sets_first = (first_item, [])
 
+-- inside its first item, of which nothing is read
 abbrev pub sets_inside : ListState SetState (List (List WrittenTerm))
 sets_inside = (inside (at.Brace, empty), [])
 

@@ -21,6 +21,7 @@ variable ring t = position_from (λ n. bytes_eq n t) 0 ring
 
 -- ---- tokens
 
+-- the token of a sign, by whether it is a minus
 abbrev pub sign : Bool → List ℕ
 sign true = minus_mark
 sign false = plus_mark
@@ -98,6 +99,7 @@ IsSetText ring ts (q ∷ qs) = (first : List (List ℕ)) × (rest : List (List �
 abbrev pub SetState : Type 0
 SetState = SetPlace × Part
 
+-- what a token does to what is read of a set
 abbrev pub SetMove : Type 0
 SetMove = Move SetState (List (List WrittenTerm))
 
@@ -109,12 +111,15 @@ with_variable p v = record p { variable = v }
 abbrev pub with_factor : Part → ℕ → Part
 with_factor p k = record p { factors = p.factors ++ record { variable = p.variable; exponent = k } ∷ [] }
 
+-- the sign of the term is read
 abbrev pub with_sign : Part → Bool → Part
 with_sign p m = record p { minus = m }
 
+-- its numerator is read
 abbrev pub with_numer : Part → ℕ → Part
 with_numer p n = record p { numer = n }
 
+-- its denominator is read
 abbrev pub with_denom : Part → ℕ → Part
 with_denom p n = record p { denom = n }
 
@@ -148,6 +153,7 @@ abbrev pub name_or_by : Option ℕ → Part → List ℕ → SetMove → SetMove
 name_or_by (Some v) p t other = go (at.Name, with_variable p v)
 name_or_by None p t other = if is_word t then halt cause.UnknownName else other
 
+-- the same, by the names of the ring
 abbrev pub name_or : List (List ℕ) → Part → List ℕ → SetMove → SetMove
 name_or ring p t other = name_or_by (variable ring t) p t other
 
@@ -186,6 +192,7 @@ denominator_step p t = if is_number t && decimal_value t == 0 then halt cause.Ze
 abbrev pub exponent_step : Part → List ℕ → SetMove
 exponent_step p t = number_or t most_exponent (go (at.Behind, with_factor p (decimal_value t))) (halt cause.Unexpected)
 
+-- what the next token does, by what is expected
 abbrev pub token_step : List (List ℕ) → SetPlace → Part → List ℕ → SetMove
 token_step ring at.Brace p t = if bytes_eq t brace then go (at.First, p) else halt cause.Unexpected
 token_step ring at.First p t = if bytes_eq t brace_end then done p.polynomials else front_step ring p t
@@ -198,6 +205,7 @@ token_step ring at.Name p t = if bytes_eq t caret then go (at.Exponent, p) else 
 token_step ring at.Exponent p t = exponent_step p t
 token_step ring at.Behind p t = behind_step ring p t
 
+-- the same, of a state
 abbrev pub set_step : List (List ℕ) → SetState → List ℕ → SetMove
 set_step ring s t = token_step ring s.0 s.1 t
 

@@ -68,6 +68,7 @@ vector_text zs = (40 ∷ entries_text zs) ++ 41 ∷ []
 abbrev pub VectorState : Type 0
 VectorState = VectorPlace × List ℤ
 
+-- what a token does to what is read of a vector
 abbrev pub VectorMove : Type 0
 VectorMove = Move VectorState (List ℤ)
 
@@ -80,6 +81,7 @@ size_step m zs t = if is_number t then (if nat_le (decimal_value t) most_entry t
 abbrev pub entry_step : List ℤ → List ℕ → VectorMove
 entry_step zs t = if bytes_eq t minus_mark then go (at.Negative, zs) else size_step false zs t
 
+-- what the next token does, by what is expected
 abbrev pub vector_step : VectorState → List ℕ → VectorMove
 vector_step (at.Parenthesis, zs) t = if bytes_eq t parenthesis then go (at.First, zs) else halt cause.Unexpected
 vector_step (at.First, zs) t = if bytes_eq t parenthesis_end then done zs else entry_step zs t

@@ -54,6 +54,7 @@ abbrev pub AreWrittenKept : ℕ → List Written → Type 0
 AreWrittenKept n [] = Unit {0}
 AreWrittenKept n (w ∷ ws) = IsWrittenKept n w × AreWrittenKept n ws
 
+-- each marked polynomial of the list is in n variables and in range
 abbrev pub AreKept : ℕ → List MarkedPolynomial → Type 0
 AreKept n [] = Unit {0}
 AreKept n (m ∷ ms) = IsKeptMarked n m × AreKept n ms

@@ -13,7 +13,7 @@ use crate::tokens::{is_name_byte, word_from};
 use std::alloc::{AllocError, Global};
 
 /// What may stand next in a ring: the letter Q, the bracket, a name, or what follows a name.
-#[derive(Clone, Copy, Debug, PartialEq, Eq)]
+#[derive(Clone, Copy)]
 pub enum RingPlace {
     Letter,
     Bracket,
@@ -22,7 +22,7 @@ pub enum RingPlace {
 }
 
 /// What a token does in a ring.
-#[derive(Clone, Copy, Debug, PartialEq, Eq)]
+#[derive(Clone, Copy)]
 pub enum RingStep {
     Go(RingPlace),
     Done,

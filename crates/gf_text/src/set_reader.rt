@@ -17,7 +17,7 @@ use std::mem;
 /// What may stand next in a set: the brace; behind it the first polynomial or the end; a polynomial; a term behind a
 /// sign; what follows a numerator; a denominator; what follows a `*`; what follows a name; an exponent; what follows a
 /// rational number or a power.
-#[derive(Clone, Copy, Debug, PartialEq, Eq)]
+#[derive(Clone, Copy)]
 pub enum SetPlace {
     Brace,
     First,
@@ -32,7 +32,7 @@ pub enum SetPlace {
 }
 
 /// What a token does in a set.
-#[derive(Clone, Copy, Debug, PartialEq, Eq)]
+#[derive(Clone, Copy)]
 pub enum SetStep {
     Go(SetPlace),
     Done,

@@ -7,7 +7,7 @@ ghost use Rattle.gf_text.specs.Given.{IsNumberRead};
 use crate::names::{Name, Ring};
 
 /// A token: its text, and the place of its first byte in the source.
-#[derive(Clone, Copy, Debug)]
+#[derive(Clone, Copy)]
 pub struct Token<'a> {
     pub text: &'a [u8],
     pub at: u64,

@@ -7,7 +7,7 @@ use std::marker::Model;
 use std::mem;
 
 /// A power of a variable, as it is written: the variable's number and the exponent.
-#[derive(Clone, Copy, Debug, Default, PartialEq, Eq)]
+#[derive(Clone, Copy, Default)]
 pub struct Factor {
     pub variable: u8,
     pub exponent: u32,

@@ -14,7 +14,7 @@ use std::alloc::{AllocError, Global};
 
 /// What may stand next in a vector: the parenthesis; behind it the first entry or the end; an entry; a number behind a
 /// `-`; what follows an entry.
-#[derive(Clone, Copy, Debug, PartialEq, Eq)]
+#[derive(Clone, Copy)]
 pub enum VectorPlace {
     Parenthesis,
     First,
@@ -24,7 +24,7 @@ pub enum VectorPlace {
 }
 
 /// What a token does in a vector.
-#[derive(Clone, Copy, Debug, PartialEq, Eq)]
+#[derive(Clone, Copy)]
 pub enum VectorStep {
     Go(VectorPlace),
     Done,
