@@ -1,5 +1,5 @@
 -- The union of sets of polynomials: each polynomial once, where it is first seen.
--- Laws: proofs/UnionLaws.antt.
+-- Laws: proofs/UnionsLaws.antt.
 use Rattle.std.specs.Prelude.{◌≡◌, ℕ, All, Any, List, [], ◌∷◌, ◌++◌, flat_map}
 use Rattle.gf_poly.specs.Polynomial.{Terms, SamePolynomial}
 use Rattle.gf_text.specs.declared.written.Written.{Written}
