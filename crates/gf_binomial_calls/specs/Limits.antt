@@ -1,0 +1,46 @@
+-- Ideals whose bases, flips and searches stay within their limits: that of one pure difference binomial, and those of monomials.
+-- Laws: proofs/LimitLaws.antt, proofs/SystemLimits.antt, proofs/TermLimits.antt.
+use Rattle.std.specs.Prelude.{◌≡◌, ℕ, ◌<◌, ◌≤◌, ◌^◌, List, [], ◌∷◌, Some, ℤ}
+use Rattle.gf_exponents.specs.Exponents.{Exponents, entry, Divides}
+use Rattle.gf_exponents.specs.SixOrders.{MonomialOrder}
+use Rattle.gf_poly.specs.Polynomial.{Terms}
+use Rattle.gf_poly.specs.Marking.{MarkedPolynomial, MarkedPolynomials}
+use Rattle.gf_ideal.specs.Membership.{HasMonomial, IsInVariables}
+use Rattle.gf_gordan.specs.Sizes.{HaveEntriesUpTo}
+use Rattle.gf_gordan.specs.declared.error.ConeOverflow.{ConeOverflow}
+use Rattle.gf_buchberger.specs.Bases.{AreRunsWithinLimits}
+use Rattle.gf_facets.specs.Regions.{Region}
+use Rattle.gf_facets.specs.Facets.{IsFlippable}
+use Rattle.gf_facets.specs.MarkedBases.{IsBasisInRegion}
+use Rattle.gf_flip.specs.Operations.{IsFlipWithinLimits}
+use Rattle.gf_reverse.specs.Upward.{Fan, IsNodeIn}
+use Rattle.gf_tree.specs.Refusals.{IsConeStep, IsTreeWithinLimits}
+use Rattle.gf_binomials.specs.Antichains.{IsAntichain, HasShortExponents}
+use Rattle.gf_binomials.specs.Binomials.{IsBinomialOf, IsBinomial}
+use Rattle.gf_binomial_bases.specs.Laws.{HaveOneMonomial}
+
+-- a pure difference binomial of which neither monomial divides the other, with exponents below 2^31
+pub record IsPlainGenerator (f : Terms) : Type 0 where
+  pub binomial : IsBinomial f
+  pub antichain : IsAntichain f
+  pub short : HasShortExponents f
+
+-- the exponents of f are b at most
+abbrev pub HasExponentsUpTo : ℕ → Terms → Type 0
+HasExponentsUpTo b f = (x : Exponents) → HasMonomial f x → (i : ℕ) → entry x i ≤ b
+
+-- x^p - x^q is such a generator where neither of p and q divides the other. Of its ideal, in each region: the runs by any order and the
+-- flips stay within their limits, whatever the budget is; so does the search over its bases unless a step of the system of a
+-- normal leaves its range, which none does with three variables at most and exponents and rows of the region up to 500. Of
+-- monomials the search always does: there is nothing to flip, and no normal
+pub record LimitsAreMet : Type 0 where
+  pub generators : (p q : Exponents) (f : Terms) → IsBinomialOf (Some p) (Some q) f → (Divides p q → ⊥) → (Divides q p → ⊥) →
+      ((i : ℕ) → entry p i < 2 ^ 31) → ((i : ℕ) → entry q i < 2 ^ 31) → IsPlainGenerator f
+  pub runs : (order : MonomialOrder) (f : Terms) (budget : ℕ) → IsPlainGenerator f → AreRunsWithinLimits order (f ∷ []) budget
+  pub flips : (n : ℕ) (f : Terms) (k : Region) (bs : List MarkedPolynomial) (a : List ℤ) (budget : ℕ) → IsInVariables n f →
+      IsPlainGenerator f → IsBasisInRegion n (f ∷ []) k bs → IsFlippable n k bs a → IsFlipWithinLimits n bs a budget
+  pub search : (F : Fan) (f : Terms) (pairs : ℕ) → F.ideal ≡ f ∷ [] → IsPlainGenerator f →
+      ((v : MarkedPolynomials) (s : ConeOverflow) → IsNodeIn F v → IsConeStep F v s → ⊥) → IsTreeWithinLimits F pairs
+  pub small_search : (F : Fan) (f : Terms) (pairs : ℕ) → F.ideal ≡ f ∷ [] → IsPlainGenerator f → F.variables ≤ 3 →
+      HaveEntriesUpTo 500 F.region.rows → HasExponentsUpTo 500 f → IsTreeWithinLimits F pairs
+  pub monomials : (F : Fan) (pairs : ℕ) → HaveOneMonomial F.ideal → IsTreeWithinLimits F pairs

@@ -1,0 +1,33 @@
+-- Polynomials that are written as a monomial, or as the difference of two, without numbers before them.
+-- Laws: proofs/WrittenLaws.antt, proofs/SetLaws.antt.
+use Rattle.std.specs.Prelude.{◌≡◌, ◌≢◌, List, [], ◌∷◌, map}
+use Rattle.gf_poly.specs.Polynomial.{Terms}
+use Rattle.gf_poly.specs.Marking.{Each}
+use Rattle.gf_text.specs.declared.tree.WrittenTerm.{WrittenTerm}
+use Rattle.gf_text.specs.declared.written.Written.{Written}
+use Rattle.gf_text.specs.declared.written.Written.TheVariants as written
+
+-- no number stands before the powers, or it is 1
+pub record HasNoNumber (u : WrittenTerm) : Type 0 where
+  pub numerator : u.numer ≡ 1
+  pub denominator : u.denom ≡ 1
+
+-- one such term, of either sign, or two of different signs
+abbrev pub IsPlainlyWritten : List WrittenTerm → Type 0
+IsPlainlyWritten [] = ⊥
+IsPlainlyWritten (u ∷ []) = HasNoNumber u
+IsPlainlyWritten (u ∷ v ∷ []) = HasNoNumber u × HasNoNumber v × (u.minus ≢ v.minus)
+IsPlainlyWritten (u ∷ v ∷ w ∷ us) = ⊥
+
+-- so is each polynomial
+abbrev pub ArePlainlyWritten : List (List WrittenTerm) → Type 0
+ArePlainlyWritten qs = Each IsPlainlyWritten qs
+
+-- the polynomial that a written one adds up to
+abbrev pub polynomial_of : Written → Terms
+polynomial_of written.Zero = []
+polynomial_of (written.Nonzero m) = m.poly
+
+-- those of a list
+abbrev pub polynomials_of : List Written → List Terms
+polynomials_of ws = map polynomial_of ws
