@@ -7,12 +7,13 @@ use Rattle.std.proofs.lemmas.Int.{ints, unsigned_abs-mul}
 use Rattle.std.proofs.lemmas.Nat.Gcd.{dvd_refl}
 use Rattle.std.proofs.Math.Nat.{one-dvd, mul-le-mul}
 use lib.IntN.{neg_ℤ}
-use Rattle.gf_int.specs.Gcd.{gcd, gcd-same}
+use Rattle.gf_int.specs.Gcd.{gcd}
 use Rattle.gf_int.specs.Range.{InRange}
 use Rattle.gf_frac.specs.Fraction.{Fraction, over, whole, ◌+ℚ◌, ◌*ℚ◌, neg_ℚ, reciprocal_ℚ, zero_ℚ, one_ℚ}
 use Rattle.gf_frac.specs.Fields.{IsLowest, parts_back}
 use Rattle.gf_frac.specs.Fits.{FitsAdd, FitsSub, FitsMul, FitsDiv, FitsSum, FitsProduct}
 use Rattle.gf_frac.proofs.FractionLaws.{over-+, over-*, over-neg, one-*ℚ, *ℚ-reciprocal_ℚ, *ℚ_cancel, neg_ℚ-*ℚ, neg_ℚ-neg_ℚ, zero-not-one}
+use Rattle.gf_int.proofs.ContentLaws.{gcd-by_one}
 
 -- x is a whole number of absolute value k at most
 pub record IsSmallWhole (k : ℕ) (x : Fraction) : Type 0 where
@@ -74,9 +75,6 @@ den_of k x l h = ap (λ (y : Fraction). y.den) h.is ∙ (parts_back h.number 1 (
 gcd-one : gcd 1 1 ≡ 1
 unfolding gcd
 gcd-one = refl
-
-gcd-by_one : (n : ℕ) → gcd n 1 ≡ 1
-gcd-by_one n = sym (gcd-same n 1 1 (one-dvd n, dvd_refl 1, λ d x y. y))
 
 by_one : (a : ℤ) → int_div a (pos 1) ≡ a
 by_one (pos n) = omega (arith, ints)

@@ -3,11 +3,10 @@ use Rattle.gf_duality.proofs.ListLaws.{none_in, in_head, in_tail, in_cons, in_re
 use Rattle.gf_duality.specs.Straightening.{IsLeveled}
 use Rattle.gf_duality.specs.Combining.{pair}
 use Rattle.gf_duality.specs.Generators.{Made, nothing, ray, line, multiplied, AreValid, IsDescribed, divided}
-use Rattle.std.proofs.Common.{◌≡◌, ◌≢◌, ℕ, zero, suc, ◌+◌, ◌-◌, ◌<◌, List, [], ◌∷◌, ◌++◌, length, ℤ, pos, negsuc, ◌+ℤ◌, ◌-ℤ◌, ◌*ℤ◌, neg_ℤ, ◌<ℤ◌, ◌≤ℤ◌, arith, sym, refl, ap, ◌∙◌, subst, Contains, ◌⊎◌, inl, inr, remove, get_or}
+use Rattle.std.proofs.Common.{◌≡◌, ◌≢◌, ℕ, zero, ◌+◌, ◌-◌, ◌<◌, List, [], ◌∷◌, ◌++◌, length, ℤ, pos, negsuc, ◌+ℤ◌, ◌-ℤ◌, ◌*ℤ◌, neg_ℤ, ◌<ℤ◌, ◌≤ℤ◌, arith, sym, refl, ap, ◌∙◌, subst, Contains, ◌⊎◌, inl, inr, remove, get_or}
 use Rattle.std.proofs.lemmas.Int.{ints}
 use Rattle.std.proofs.lemmas.List.{get_or_default}
-use Rattle.std.proofs.lemmas.List.Elements.{Contains-append_left, Contains-append_right, Contains-append_cases}
-use Rattle.std.proofs.lemmas.List.Edits.{get_or-remove_below, get_or-remove_above, length-remove}
+use Rattle.std.proofs.lemmas.List.Elements.{Contains-append_left}
 use Rattle.gf_int.specs.Content.{scaled}
 use Rattle.gf_vec.specs.Vector.{dot, vector_sum, zeros}
 use Rattle.gf_int.proofs.RingLaws.{same, dv, dn, dneg, ◌⊕◌, ◌⊗◌, ◌⊖◌}
@@ -217,7 +216,7 @@ pair_dot n h p q k lp lq = same (by k (vpair h (vv p lp) (vv q lq))) (by h (vv p
 pub minus_up : (z : ℤ) → z <ℤ pos 0 → pos 0 <ℤ neg_ℤ z
 minus_up z h = omega (arith, ints)
 
-sum_up : (a b : ℤ) → pos 0 ≤ℤ a → pos 0 ≤ℤ b → pos 0 ≤ℤ (a +ℤ b)
+pub sum_up : (a b : ℤ) → pos 0 ≤ℤ a → pos 0 ≤ℤ b → pos 0 ≤ℤ (a +ℤ b)
 sum_up a b h k = omega (arith, ints)
 
 sum_above : (a b : ℤ) → pos 0 ≤ℤ a → pos 0 <ℤ b → pos 0 <ℤ (a +ℤ b)

@@ -1,5 +1,5 @@
 -- The rays and the lineality basis are determined by the cone.
-use Rattle.std.proofs.Common.{◌≡◌, ◌≢◌, ℕ, zero, suc, ◌<◌, List, [], ◌∷◌, length, ℤ, pos, negsuc, ◌*ℤ◌, neg_ℤ, ◌<ℤ◌, ◌≤ℤ◌, arith, sym, refl, ap, ◌∙◌, subst, Contains, ◌⊎◌, inl, inr, get_or, remove, All}
+use Rattle.std.proofs.Common.{◌≡◌, ℕ, zero, ◌<◌, List, [], ◌∷◌, length, ℤ, pos, negsuc, ◌*ℤ◌, neg_ℤ, ◌<ℤ◌, ◌≤ℤ◌, arith, sym, refl, ap, ◌∙◌, subst, Contains, ◌⊎◌, inl, inr, get_or, remove, All}
 use Rattle.std.specs.Ordering.{int_cmp}
 use Rattle.std.specs.Cmp.Lexicographic.{slice_cmp}
 use Rattle.std.specs.declared.cmp.Ordering.TheVariants.{Less, Equal}
@@ -8,11 +8,11 @@ use Rattle.std.proofs.Common.{rules}
 use Rattle.std.proofs.lemmas.Int.{ints}
 use Rattle.std.proofs.lemmas.List.{get_or_default}
 use Rattle.std.proofs.lemmas.List.Elements.{All-contains}
-use Rattle.gf_int.specs.Content.{AllZero, IsPrimitive, scaled}
-use Rattle.gf_int.proofs.RingLaws.{same, dv, dn, dneg, ◌⊗◌}
+use Rattle.gf_int.specs.Content.{AllZero, IsPrimitive}
+use Rattle.gf_int.proofs.RingLaws.{same, dn, dneg}
 use Rattle.gf_int.proofs.SignLaws.{sign_of, negative, none, positive, zero-cancel}
 use Rattle.gf_vec.specs.Vector.{dot, zeros}
-use Rattle.gf_vec.proofs.VectorLaws.{dot_comm, dot-zeros, dot-times, length-times}
+use Rattle.gf_vec.proofs.VectorLaws.{length-times}
 use Rattle.gf_gordan.specs.Alternative.{AreRows}
 use Rattle.gf_duality.specs.Generators.{Made, nothing, ray, IsDescribed}
 use Rattle.gf_duality.specs.Rays.{Satisfies, IsLineal, Generated, IsRays}
@@ -20,7 +20,7 @@ use Rattle.gf_duality.specs.Faces.{Rows, IsInCone, SameCone}
 use Rattle.gf_vec.specs.Vector.{opposite}
 use Rattle.gf_duality.proofs.ListLaws.{none_in, in_head, in_tail, in_cons, all_by, of_rest}
 use Rattle.gf_vec.proofs.DotLaws.{own_zero, dot-times_right}
-use Rattle.gf_vec.proofs.VectorIdentities.{vv, ◌⊡◌, by, vsame}
+use Rattle.gf_vec.proofs.VectorIdentities.{vv, ◌⊡◌, by}
 use Rattle.gf_duality.proofs.Made.{Made-dot_zero}
 use Rattle.gf_duality.proofs.Taking.{ZeroWhere}
 use Rattle.gf_duality.proofs.Described.{pruned}
@@ -122,7 +122,7 @@ less_never x y f g =
     let b : slice_cmp int_cmp x x ≡ Equal = tied_itself o x in
     let e : Less ≡ Equal = sym a ∙ b in absurd (search rules)
 
-opposite_dot : (h v : List ℤ) → dot h (opposite v) ≡ neg_ℤ (dot h v)
+pub opposite_dot : (h v : List ℤ) → dot h (opposite v) ≡ neg_ℤ (dot h v)
 opposite_dot h v = same (by h (dneg (dn 1) ⊡ vv v refl)) (dneg (by h (vv v refl))) (omega arith)
 
 -- rays of the same rows
@@ -136,13 +136,13 @@ one_description n hs es lin rays lines others s t =
     let t2 : IsRays n hs es lin others = subst (λ l. IsRays n hs es l others) (sym e) t in
     (e, same_ordered (λ x y. slice_cmp int_cmp x y ≡ Less) rays others (λ x y cx cy f g. less_never x y f g) s.ascending t.ascending (λ r c. ray_member n hs es lin rays others r s t2 c) (λ r c. ray_member n hs es lin others rays r t2 s c))
 
-minus_up : (x y : ℤ) → y ≡ neg_ℤ x → pos 0 ≤ℤ x → pos 0 ≤ℤ y → x ≡ pos 0
+pub minus_up : (x y : ℤ) → y ≡ neg_ℤ x → pos 0 ≤ℤ x → pos 0 ≤ℤ y → x ≡ pos 0
 minus_up x y e a b = omega (arith, ints, e, a, b)
 
-zero_up : (x : ℤ) → x ≡ pos 0 → pos 0 ≤ℤ x
+pub zero_up : (x : ℤ) → x ≡ pos 0 → pos 0 ≤ℤ x
 zero_up x e = omega (arith, ints, e)
 
-minus_zero : (x y : ℤ) → y ≡ neg_ℤ x → x ≡ pos 0 → y ≡ pos 0
+pub minus_zero : (x y : ℤ) → y ≡ neg_ℤ x → x ≡ pos 0 → y ≡ pos 0
 minus_zero x y e z = omega (arith, ints, e, z)
 
 -- lineal for the one rows, lineal for the others

@@ -1,5 +1,5 @@
 -- What an elimination leaves: pivots rise, each is alone in its column, and the span is the same.
-use Rattle.std.proofs.Common.{◌≡◌, ◌≢◌, ℕ, zero, suc, ◌+◌, ◌<◌, List, [], ◌∷◌, ◌++◌, length, ℤ, pos, ◌+ℤ◌, ◌*ℤ◌, neg_ℤ, ◌<ℤ◌, arith, sym, refl, ap, ap₂, ◌∙◌, subst, Contains, ◌⊎◌, inl, inr, get_or, AllPairs, All, remove, negsuc, unsigned_abs}
+use Rattle.std.proofs.Common.{◌≡◌, ◌≢◌, ℕ, zero, suc, ◌+◌, ◌<◌, List, [], ◌∷◌, ◌++◌, length, ℤ, pos, ◌+ℤ◌, ◌*ℤ◌, neg_ℤ, ◌<ℤ◌, arith, sym, refl, ap, ap₂, ◌∙◌, subst, Contains, ◌⊎◌, inl, inr, get_or, AllPairs, remove, negsuc, unsigned_abs}
 use Rattle.std.specs.Int.{int_signum}
 use Rattle.std.specs.List.{AllZip}
 use Rattle.std.proofs.lemmas.Int.{ints}
@@ -18,7 +18,7 @@ use Rattle.gf_duality.specs.Elimination.{IsTurned, IsFirstAt, IsEliminated, begu
 use Rattle.gf_duality.proofs.ListLaws.{none_in, in_cons, in_more, in_last, snoc_cases, zip_from, zip_to, all_by, place, less, at, more, of_rest, rest_cover}
 use Rattle.gf_vec.proofs.EntryLaws.{signum_up, entry_times, entry_plus, cancel, all_zero}
 use Rattle.gf_duality.proofs.PivotLaws.{pivot_unique}
-use Rattle.gf_vec.proofs.VectorIdentities.{vv, vz, ◌⊞◌, ◌⊡◌, vsame}
+use Rattle.gf_vec.proofs.VectorIdentities.{vv, ◌⊞◌, ◌⊡◌, vsame}
 use Rattle.gf_duality.proofs.Made.{Made-into, span-times}
 
 -- ---- one row turned
@@ -64,7 +64,7 @@ turned_entry : (n j : ℕ) (r t u : List ℤ) (i : ℕ) → length t ≡ n → l
 turned_entry n j r t u i lt lr s = sym (entry_times s.c u i) ∙ ap (λ v. entry_at v i) s.is
     ∙ entry_plus (scaled s.a t) (scaled s.b r) i (length-times s.a t ∙ lt ∙ sym lr ∙ sym (length-times s.b r)) ∙ ap₂ ◌+ℤ◌ (entry_times s.a t i) (entry_times s.b r i)
 
-linear_zero : (a b x y : ℤ) → x ≡ pos 0 → y ≡ pos 0 → a *ℤ x +ℤ b *ℤ y ≡ pos 0
+pub linear_zero : (a b x y : ℤ) → x ≡ pos 0 → y ≡ pos 0 → a *ℤ x +ℤ b *ℤ y ≡ pos 0
 linear_zero a b x y e f = rw (e, f) (omega (arith, ints))
 
 linear_left : (a b x y : ℤ) → y ≡ pos 0 → a *ℤ x +ℤ b *ℤ y ≡ a *ℤ x

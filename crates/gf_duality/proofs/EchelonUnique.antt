@@ -1,25 +1,24 @@
 -- A span has one echelon basis.
-use Rattle.std.proofs.Common.{◌≡◌, ◌≢◌, ℕ, zero, suc, ◌<◌, List, [], ◌∷◌, length, ℤ, pos, ◌+ℤ◌, ◌*ℤ◌, neg_ℤ, ◌<ℤ◌, arith, sym, refl, ap, ap₂, ◌∙◌, subst, Contains, ◌⊎◌, inl, inr, get_or, All, AllPairs}
+use Rattle.std.proofs.Common.{◌≡◌, ◌≢◌, ℕ, zero, suc, ◌<◌, List, [], ◌∷◌, length, ℤ, pos, ◌+ℤ◌, ◌*ℤ◌, neg_ℤ, ◌<ℤ◌, arith, sym, refl, ap, ap₂, ◌∙◌, subst, Contains, ◌⊎◌, inl, inr, AllPairs}
 use Rattle.std.specs.List.{AllByRecursion}
 use Rattle.std.proofs.lemmas.Int.{ints}
-use Rattle.std.proofs.lemmas.List.{get_or_default}
 use Rattle.std.proofs.lemmas.List.Elements.{All-contains, recursion_from_All}
 use Rattle.gf_int.specs.Content.{AllZero, IsPrimitive, scaled}
 use Rattle.gf_int.proofs.RingLaws.{same, dv, dn, dneg, ◌⊗◌, ◌⊕◌}
-use Rattle.gf_int.proofs.SignLaws.{sign_of, negative, none, positive, zero_product}
+use Rattle.gf_int.proofs.SignLaws.{positive, zero_product, positive_not_zero, zero_or_not}
 use Rattle.gf_vec.specs.Vector.{vector_sum, zeros, combined, entry_at}
 use Rattle.gf_vec.proofs.VectorLaws.{length-times, length-combined}
 use Rattle.gf_gordan.specs.Alternative.{AreRows}
 use Rattle.gf_gordan.specs.Elimination.{IsPivot}
-use Rattle.gf_duality.specs.Generators.{Made, nothing, line, summed, divided}
-use Rattle.gf_duality.specs.Rays.{IsEchelon, Generated}
-use Rattle.gf_duality.proofs.ListLaws.{none_in, in_head, in_tail, in_cons, all_by}
-use Rattle.gf_vec.proofs.EntryLaws.{entry_times, entry_plus, cancel, all_zero}
+use Rattle.gf_duality.specs.Generators.{Made, summed}
+use Rattle.gf_duality.specs.Rays.{IsEchelon}
+use Rattle.gf_duality.proofs.ListLaws.{none_in, in_head, in_tail, in_cons}
+use Rattle.gf_vec.proofs.EntryLaws.{entry_times, entry_plus, cancel}
 use Rattle.gf_duality.proofs.PivotLaws.{pivot_unique}
 use Rattle.gf_vec.proofs.VectorIdentities.{vv, vz, ◌⊞◌, ◌⊡◌, vsame}
 use Rattle.gf_duality.proofs.Made.{span-times}
 use Rattle.gf_duality.proofs.Generated.{made-generated}
-use Rattle.gf_duality.proofs.Echelon.{own_member}
+use Rattle.gf_duality.proofs.Echelon.{own_member, linear_zero}
 use Rattle.gf_vec.proofs.PrimitiveLaws.{primitive_same, times_cancel}
 
 -- ---- ordered lists
@@ -77,7 +76,7 @@ staircase_of (b ∷ rows) whole e s r =
       staircase_of rows whole e (λ x c. s x (in_tail b rows x c)) (λ i k d h l. r (suc i) (suc k) d (omega arith) (omega arith)),
     )
 
-entry_zeros : (n i : ℕ) → entry_at (zeros n) i ≡ pos 0
+pub entry_zeros : (n i : ℕ) → entry_at (zeros n) i ≡ pos 0
 entry_zeros zero i = refl
 entry_zeros (suc n) zero = refl
 entry_zeros (suc n) (suc i) = entry_zeros n i
@@ -106,10 +105,6 @@ combined_rest n m ms t ts w z =
 factor_zero : (m x : ℤ) → x ≢ pos 0 → m *ℤ x ≡ pos 0 → m ≡ pos 0
 factor_zero m x n e = cancel x m n (same (dv x ⊗ dv m) (dv m ⊗ dv x) (omega arith) ∙ e)
 
-zero_or : (m : ℤ) → (m ≡ pos 0) ⊎ (m ≢ pos 0)
-zero_or (pos zero) = inl refl
-zero_or m = elim (sign_of m) [ none z ↦ inl z | positive g ↦ inr (λ e. omega (arith, ints, g, e)) | negative g ↦ inr (λ e. omega (arith, ints, g, e)) ]
-
 -- a combination that is zero at all pivots is zero
 pub combined_none : (n : ℕ) (ms : List ℤ) (rows : List (List ℤ)) → AllByRecursion (λ t. length t ≡ n) rows → IsStaircase rows → ((y : List ℤ) (p : ℕ) → Contains rows y → IsPivot y p → entry_at (combined n ms rows) p ≡ pos 0) → combined n ms rows ≡ zeros n
 combined_none n [] rows w s f = refl
@@ -124,7 +119,7 @@ combined_none n (m ∷ ms) (t ∷ ts) w s f =
 pub combined_pivot : (n : ℕ) (ms : List ℤ) (rows : List (List ℤ)) (q : ℕ) → AllByRecursion (λ t. length t ≡ n) rows → IsStaircase rows → IsPivot (combined n ms rows) q → (y : List ℤ) × (Contains rows y × IsPivot y q)
 combined_pivot n [] rows q w s k = absurd (k.not_zero (entry_zeros n q))
 combined_pivot n (m ∷ ms) [] q w s k = absurd (k.not_zero (entry_zeros n q))
-combined_pivot n (m ∷ ms) (t ∷ ts) q w s k = elim (zero_or m) [
+combined_pivot n (m ∷ ms) (t ∷ ts) q w s k = elim (zero_or_not m) [
   | inl z ↦ let r = combined_pivot n ms ts q w.1 s.1 (subst (λ v. IsPivot v q) (combined_rest n m ms t ts w z) k) in (r.0, (in_tail t ts r.0 r.1.0, r.1.1))
   | inr nz ↦
       let p = s.0 in
@@ -159,9 +154,6 @@ combination n rows v w m =
     let l = length-combined n g.lin_by rows u in
     record { factor = g.factor; by = g.lin_by; positive_factor = g.positive; is = g.is ∙ none_taken n g.rays_by (combined n g.lin_by rows) l }
 
-positive_not_zero : (c : ℤ) → pos 0 <ℤ c → c ≢ pos 0
-positive_not_zero c h = λ e. omega (arith, ints, h, e)
-
 -- a member that is zero at all pivots is zero
 pub span_none : (n : ℕ) (rows : List (List ℤ)) (v : List ℤ) → AreRows n rows → IsEchelon rows → Made n [] rows v → length v ≡ n → ((y : List ℤ) (p : ℕ) → Contains rows y → IsPivot y p → entry_at v p ≡ pos 0) → v ≡ zeros n
 span_none n rows v w e m l f =
@@ -192,9 +184,6 @@ zero_entry (y ∷ x) (suc p) z = zero_entry x p z.1
 even : (x y : ℤ) → y *ℤ x +ℤ neg_ℤ x *ℤ y ≡ pos 0
 even x y = same (dv y ⊗ dv x ⊕ dneg (dv x) ⊗ dv y) (dn 0) (omega arith)
 
-both_zero : (a b x y : ℤ) → x ≡ pos 0 → y ≡ pos 0 → a *ℤ x +ℤ b *ℤ y ≡ pos 0
-both_zero a b x y e f = rw (e, f) (omega (arith, ints))
-
 pub same_place : (p q : ℕ) → (p ≡ q) ⊎ (p ≢ q)
 same_place zero zero = inl refl
 same_place zero (suc q) = inr (λ e. omega arith)
@@ -220,7 +209,7 @@ basis_member n xs ys x wx wy ex ey to from c =
       | inl e ↦ at q ∙ ap (λ k. a *ℤ entry_at x k +ℤ neg_ℤ b *ℤ entry_at y k) (sym e) ∙ even b a
       | inr ne ↦
           let g = span_pivot n ys t q wy ey (to t ct) pt in
-          at q ∙ both_zero a (neg_ℤ b) (entry_at x q) (entry_at y q) (ex.alone t x q p ct c pt px (λ e. ne (sym e))) (ey.alone g.0 y q p g.1.0 cy g.1.1 py (λ e. ne (sym e)))
+          at q ∙ linear_zero a (neg_ℤ b) (entry_at x q) (entry_at y q) (ex.alone t x q p ct c pt px (λ e. ne (sym e))) (ey.alone g.0 y q p g.1.0 cy g.1.1 py (λ e. ne (sym e)))
     ]) in
     let crosswise : scaled a x ≡ scaled b y =
     vsame (dv a ⊡ vv x lx) ((dv a ⊡ vv x lx ⊞ dneg (dv b) ⊡ vv y ly) ⊞ dv b ⊡ vv y ly) (λ t. omega arith) ∙ ap (λ t. vector_sum t (scaled b y)) nothing_left ∙ vsame (vz n ⊞ dv b ⊡ vv y ly) (dv b ⊡ vv y ly) (λ t. omega arith) in

@@ -1,20 +1,18 @@
 -- The solutions of equations, one after another, from the unit vectors on.
-use Rattle.gf_duality.proofs.ListLaws.{none_in, in_head, in_tail, in_cons, in_last, in_more, rest_cover, stood}
-use Rattle.gf_duality.specs.Straightening.{IsLeveled}
+use Rattle.gf_duality.proofs.ListLaws.{none_in, in_head, in_tail, in_cons, in_last, in_more}
 use Rattle.gf_duality.specs.Combining.{pair}
 use Rattle.gf_duality.specs.Generators.{Made, nothing, ray, line, summed, multiplied, divided, AreValid, IsDescribed, unit_vectors}
-use Rattle.std.proofs.Common.{◌≡◌, ◌≢◌, ℕ, zero, suc, ◌+◌, ◌<◌, List, [], ◌∷◌, ◌++◌, length, ℤ, pos, ◌+ℤ◌, ◌*ℤ◌, neg_ℤ, ◌<ℤ◌, arith, sym, refl, ap, ap₂, ◌∙◌, subst, Contains, ◌⊎◌, inl, inr, get_or, map}
+use Rattle.std.proofs.Common.{◌≡◌, ℕ, zero, suc, ◌+◌, ◌<◌, List, [], ◌∷◌, ◌++◌, length, ℤ, pos, ◌+ℤ◌, ◌*ℤ◌, ◌<ℤ◌, arith, sym, refl, ap, ap₂, ◌∙◌, subst, Contains, ◌⊎◌, inl, inr, map}
 use Rattle.std.proofs.lemmas.Int.{ints}
 use Rattle.std.proofs.lemmas.List.Elements.{Contains-append_left}
 use Rattle.gf_int.specs.Content.{scaled}
-use Rattle.gf_vec.specs.Vector.{dot, vector_sum, zeros, entry_at}
-use Rattle.gf_int.proofs.RingLaws.{dv, dn, dneg, ◌⊗◌}
+use Rattle.gf_vec.specs.Vector.{dot, vector_sum, zeros}
+use Rattle.gf_int.proofs.RingLaws.{dv, ◌⊗◌}
 use Rattle.gf_vec.proofs.VectorLaws.{length-zeros}
 use Rattle.gf_vec.proofs.VectorIdentities.{vv, vz, ◌⊞◌, ◌⊡◌, vsame}
-use Rattle.gf_duality.proofs.Made.{Made-into, span-times}
+use Rattle.gf_duality.proofs.Made.{Made-into}
 use Rattle.gf_duality.proofs.Stepping.{step_equation}
-use Rattle.gf_duality.proofs.Described.{Along, along, along_zero}
-use Rattle.std.proofs.lemmas.List.{get_or_default}
+use Rattle.gf_duality.proofs.Described.{Along, along_zero}
 
 no_rows : (lin : List (List ℤ)) → AreValid [] [] lin
 no_rows lin = record { up = λ h x c d. absurd (none_in h c); flat = λ h x c d. absurd (none_in h c) }

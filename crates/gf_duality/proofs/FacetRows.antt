@@ -1,27 +1,16 @@
 -- Facet rows of a full-dimensional cone: a row is one exactly where it has a witness, a vector on which it is zero and all
 -- other rows are positive.
-use Rattle.std.proofs.Common.{◌≡◌, ◌≢◌, ℕ, List, [], ◌∷◌, length, ℤ, pos, ◌+ℤ◌, ◌-ℤ◌, ◌*ℤ◌, neg_ℤ, ◌<ℤ◌, ◌≤ℤ◌, arith, sym, refl, ap, ◌∙◌, subst, Contains, ◌⊎◌, inl, inr, All}
+use Rattle.std.proofs.Common.{◌≡◌, ℕ, List, [], ◌∷◌, length, ℤ, pos, ◌+ℤ◌, ◌-ℤ◌, ◌*ℤ◌, neg_ℤ, ◌<ℤ◌, ◌≤ℤ◌, arith, sym, refl, ap, ◌∙◌, subst, Contains, ◌⊎◌, inl, inr, All}
 use Rattle.std.proofs.lemmas.Int.{ints}
 use Rattle.std.proofs.lemmas.List.Elements.{All-contains}
-use Rattle.gf_int.specs.Content.{AllZero, IsPrimitive, scaled}
+use Rattle.gf_int.specs.Content.{scaled}
 use Rattle.gf_int.proofs.RingLaws.{same, dv, dn, dneg, ◌⊗◌, ◌⊕◌, ◌⊖◌}
-use Rattle.gf_int.proofs.SignLaws.{0≤-*ℤ, 0<-*ℤ, sign_of, negative, none, positive, zero-cancel, 0≤-cancel}
+use Rattle.gf_int.proofs.SignLaws.{0≤-*ℤ, 0<-*ℤ, sign_of, negative, none, positive, 0≤-cancel, zero_or_not, not_negative}
 use Rattle.gf_vec.specs.Vector.{dot, vector_sum}
-use Rattle.gf_vec.proofs.VectorLaws.{dot_comm, dot-times, length-times}
-use Rattle.gf_gordan.specs.Alternative.{AreRows}
 use Rattle.gf_duality.specs.Generators.{Made, IsDescribed}
-use Rattle.gf_duality.specs.Rays.{Satisfies, IsRays}
-use Rattle.gf_duality.specs.Faces.{Rows, IsInCone, IsFacetRow, IsWitness, IsOfFullDimension, cone_of, sum_of}
+use Rattle.gf_duality.specs.Faces.{IsInCone, IsFacetRow, IsWitness, IsOfFullDimension, cone_of}
 use Rattle.gf_duality.proofs.ListLaws.{none_in, in_head, in_tail, in_cons, all_by}
-use Rattle.gf_vec.proofs.DotLaws.{own_zero, own_not_negative}
-use Rattle.gf_vec.proofs.VectorIdentities.{vv, ◌⊞◌, ◌⊡◌, by, vsame}
-use Rattle.gf_duality.proofs.Made.{Made-dot_zero}
-use Rattle.gf_duality.proofs.RaySums.{sum_long, sum_zero}
-use Rattle.gf_vec.proofs.PrimitiveLaws.{primitive_same}
-use Rattle.gf_duality.proofs.Determined.{described_of}
-use Rattle.gf_duality.proofs.Interior.{some_above, sum_in}
-use Rattle.gf_duality.proofs.Uniqueness.{face_made}
-use Rattle.gf_duality.proofs.Taking.{ZeroWhere}
+use Rattle.gf_vec.proofs.VectorIdentities.{vv, ◌⊞◌, ◌⊡◌, by}
 
 -- ---- the rays on which a row is zero
 
@@ -29,9 +18,6 @@ pub record Part (rays : List (List ℤ)) (t : List ℤ) : Type 0 where
   pub part : List (List ℤ)
   pub of_part : (x : List ℤ) → Contains part x → Contains rays x × (dot t x ≡ pos 0)
   pub all : (x : List ℤ) → Contains rays x → dot t x ≡ pos 0 → Contains part x
-
-pub zero_or_not : (z : ℤ) → (z ≡ pos 0) ⊎ (z ≢ pos 0)
-zero_or_not z = elim (sign_of z) [ none e ↦ inl e | positive g ↦ inr (λ e. omega (arith, ints, g, e)) | negative g ↦ inr (λ e. omega (arith, ints, g, e)) ]
 
 pub part_of : (rays : List (List ℤ)) (t : List ℤ) → Part rays t
 part_of [] t = record { part = []; of_part = λ x c. absurd (none_in x c); all = λ x c z. absurd (none_in x c) }
@@ -166,9 +152,6 @@ least_of (t ∷ rows) v x r s z g f =
 
 -- ---- a cone with an interior point
 
-weak : (x : ℤ) → pos 0 <ℤ x → pos 0 ≤ℤ x
-weak x h = omega (arith, ints, h)
-
 no_equations : (v : List ℤ) → All (λ e. dot e v ≡ pos 0) []
 no_equations v = λ k d h. absurd (omega arith)
 
@@ -176,7 +159,7 @@ pub in_cone : (rows : List (List ℤ)) (v : List ℤ) → ((h : List ℤ) → Co
 in_cone rows v f = record { not_negative = all_by (λ h. pos 0 ≤ℤ dot h v) rows f; zero = no_equations v }
 
 pub full_in : (n : ℕ) (rows lin rays : List (List ℤ)) (w : List ℤ) → IsOfFullDimension n rows lin rays w → IsInCone (cone_of rows) w
-full_in n rows lin rays w f = in_cone rows w (λ h c. weak (dot h w) (f.inside h c))
+full_in n rows lin rays w f = in_cone rows w (λ h c. not_negative (dot h w) (f.inside h c))
 
 pub made_in : (n : ℕ) (rows lin rays : List (List ℤ)) (x : List ℤ) → IsDescribed n rows [] lin rays → length x ≡ n → IsInCone (cone_of rows) x → Made n rays lin x
 made_in n rows lin rays x d l i = d.complete x l (λ h c. All-contains (λ k. pos 0 ≤ℤ dot k x) rows h i.not_negative c) (λ e c. absurd (none_in e c))

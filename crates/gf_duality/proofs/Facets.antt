@@ -1,16 +1,14 @@
 -- Each facet row of a full-dimensional cone has a witness: the sum of the rays on which it is zero.
-use Rattle.std.proofs.Common.{◌≡◌, ◌≢◌, ℕ, List, [], ◌∷◌, length, ℤ, pos, negsuc, ◌+ℤ◌, ◌-ℤ◌, ◌*ℤ◌, neg_ℤ, ◌<ℤ◌, ◌≤ℤ◌, arith, sym, refl, ap, ◌∙◌, subst, Contains, ◌⊎◌, inl, inr, All}
+use Rattle.std.proofs.Common.{◌≡◌, ℕ, List, [], ◌∷◌, length, ℤ, pos, neg_ℤ, ◌<ℤ◌, ◌≤ℤ◌, arith, sym, refl, ap, ◌∙◌, subst, Contains, inl, inr}
 use Rattle.std.proofs.lemmas.Int.{ints}
 use Rattle.std.proofs.lemmas.List.Elements.{All-contains}
 use Rattle.gf_int.specs.Content.{AllZero, IsPrimitive, scaled}
-use Rattle.gf_int.proofs.RingLaws.{same, dv, dn, dneg, ◌⊗◌, ◌⊕◌, ◌⊖◌}
+use Rattle.gf_int.proofs.RingLaws.{same, dv, dn, dneg, ◌⊗◌, ◌⊕◌}
 use Rattle.gf_int.proofs.SignLaws.{sign_of, negative, none, positive}
 use Rattle.gf_vec.specs.Vector.{dot, vector_sum, zeros}
-use Rattle.gf_duality.specs.Generators.{Made, AreValid, IsDescribed}
-use Rattle.gf_duality.specs.Rays.{Satisfies}
-use Rattle.gf_duality.specs.Faces.{Rows, IsInCone, IsFacetRow, sum_of, IsWitness, IsOfFullDimension, cone_of}
-use Rattle.gf_vec.specs.Vector.{opposite}
-use Rattle.gf_duality.proofs.ListLaws.{none_in, in_head, in_cons, all_by}
+use Rattle.gf_duality.specs.Generators.{Made, AreValid}
+use Rattle.gf_duality.specs.Faces.{IsInCone, IsFacetRow, sum_of, IsWitness, IsOfFullDimension, cone_of}
+use Rattle.gf_duality.proofs.ListLaws.{none_in, in_head, in_cons}
 use Rattle.gf_vec.proofs.DotLaws.{own_zero, own_not_negative}
 use Rattle.gf_vec.proofs.VectorIdentities.{vv, vz, ◌⊞◌, ◌⊡◌, by, vsame}
 use Rattle.gf_duality.proofs.Made.{Made-dot_zero}

@@ -21,6 +21,7 @@ use Rattle.gf_duality.proofs.Described.{minimal}
 use Rattle.gf_duality.proofs.Orthogonal.{Basis, orthogonal_all}
 use Rattle.gf_duality.proofs.Generated.{made-generated, generated-made}
 use Rattle.gf_duality.proofs.Echelon.{SameSpan}
+use Rattle.gf_duality.proofs.EchelonUnique.{no_widths}
 
 -- what is made and lineal is made of the lineality vectors alone
 pub flat_made : (n : ℕ) (hs rays lin : List (List ℤ)) (v : List ℤ) → AreValid hs rays lin → ((x : List ℤ) → Contains rays x → (h : List ℤ) × (Contains hs h × (pos 0 <ℤ dot h x))) → Made n rays lin v → IsFlat hs v → Made n [] lin v
@@ -41,9 +42,6 @@ flat_made n hs rays lin v va pt (multiplied m rs ls a x w k e p) f =
     ]
 flat_made n hs rays lin v va pt (divided m rs ls a x w k e p) f =
     divided m [] ls a x w k e (flat_made m hs rs ls w va pt p (λ h c. ap (dot h) (sym e) ∙ dot-times_right a h x ∙ ap (λ t. a *ℤ t) (f h c) ∙ omega (arith, ints)))
-
-no_widths : (n : ℕ) → AreRows n []
-no_widths n = λ k d h. absurd (omega arith)
 
 pub finish : (n : ℕ) (hs es lin rays ech out : List (List ℤ)) → IsDescribed n hs es lin rays → SameSpan n lin ech → IsEchelon ech → Basis n lin out →
     ((r y : List ℤ) → Contains rays r → Contains out y → dot r y ≡ pos 0) → All IsPrimitive rays → AllPairs (λ x y. slice_cmp int_cmp x y ≡ Less) rays →

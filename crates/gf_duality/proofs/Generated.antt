@@ -1,5 +1,5 @@
 -- What is made, as a combination with multipliers, and back.
-use Rattle.gf_duality.proofs.ListLaws.{in_head, in_tail, place}
+use Rattle.gf_duality.proofs.ListLaws.{in_head, in_tail}
 use Rattle.gf_duality.specs.Generators.{Made, nothing, ray, line, summed, multiplied, divided}
 use Rattle.std.proofs.Common.{◌≡◌, ℕ, zero, suc, ◌<◌, List, [], ◌∷◌, length, ℤ, pos, ◌+ℤ◌, ◌*ℤ◌, ◌<ℤ◌, ◌≤ℤ◌, arith, sym, refl, ap, ◌∙◌, Contains, slice_index_or}
 use Rattle.std.specs.List.{AllByRecursion}
@@ -14,6 +14,7 @@ use Rattle.gf_gordan.specs.Alternative.{AreRows}
 use Rattle.gf_duality.specs.Rays.{Generated}
 use Rattle.gf_vec.proofs.VectorIdentities.{Vec, moved, vv, vz, ◌⊞◌, ◌⊡◌, vsame}
 use Rattle.gf_duality.proofs.Made.{Made-length, divided_length}
+use Rattle.gf_duality.proofs.Described.{sum_up}
 
 abbrev HaveWidth : ℕ → List (List ℤ) → Type 0
 HaveWidth n rows = AllByRecursion (λ t. length t ≡ n) rows
@@ -51,13 +52,10 @@ times_fit : (k : ℤ) (ms : List ℤ) → pos 0 ≤ℤ k → AllByRecursion (λ 
 times_fit k [] h a = tt
 times_fit k (m ∷ ms) h a = (0≤-*ℤ k m h a.0, times_fit k ms h a.1)
 
-sum_fits : (x y : ℤ) → pos 0 ≤ℤ x → pos 0 ≤ℤ y → pos 0 ≤ℤ (x +ℤ y)
-sum_fits x y h k = omega (arith, ints)
-
 plus_fits : (xs ys : List ℤ) → AllByRecursion (λ m. pos 0 ≤ℤ m) xs → AllByRecursion (λ m. pos 0 ≤ℤ m) ys → AllByRecursion (λ m. pos 0 ≤ℤ m) (vector_sum xs ys)
 plus_fits [] ys a b = tt
 plus_fits (x ∷ xs) [] a b = tt
-plus_fits (x ∷ xs) (y ∷ ys) a b = (sum_fits x y a.0 b.0, plus_fits xs ys a.1 b.1)
+plus_fits (x ∷ xs) (y ∷ ys) a b = (sum_up x y a.0 b.0, plus_fits xs ys a.1 b.1)
 
 -- multipliers, by recursion
 record Counts (n : ℕ) (rays lin : List (List ℤ)) (v : List ℤ) : Type 0 where

@@ -1,10 +1,10 @@
 -- The sum of the rays of a cone: each row is positive there, or zero on the whole cone.
-use Rattle.std.proofs.Common.{◌≡◌, ℕ, List, [], ◌∷◌, length, ℤ, pos, ◌+ℤ◌, ◌*ℤ◌, ◌<ℤ◌, ◌≤ℤ◌, arith, sym, ap, ◌∙◌, subst, Contains, ◌⊎◌, inl, inr, All}
+use Rattle.std.proofs.Common.{◌≡◌, ℕ, List, [], ◌∷◌, length, ℤ, pos, ◌<ℤ◌, ◌≤ℤ◌, arith, sym, subst, Contains, ◌⊎◌, inl, inr}
 use Rattle.std.proofs.lemmas.Int.{ints}
 use Rattle.std.proofs.lemmas.List.Elements.{All-contains}
 use Rattle.gf_int.proofs.SignLaws.{sign_of, negative, none, positive}
 use Rattle.gf_vec.specs.Vector.{dot}
-use Rattle.gf_duality.specs.Generators.{Made, IsDescribed}
+use Rattle.gf_duality.specs.Generators.{IsDescribed}
 use Rattle.gf_duality.specs.Rays.{Satisfies, IsRays}
 use Rattle.gf_duality.specs.Faces.{Rows, IsInCone, IsInterior, sum_of}
 use Rattle.gf_duality.proofs.ListLaws.{none_in, in_head, in_tail, in_cons, all_by}

@@ -1,38 +1,34 @@
 -- The null space that is read from an elimination of the columns of equations is what the equations are zero on.
-use Rattle.std.proofs.Common.{◌≡◌, ◌≢◌, ℕ, zero, suc, ◌+◌, ◌<◌, ◌≤◌, List, [], ◌∷◌, ◌++◌, length, ℤ, pos, negsuc, ◌+ℤ◌, ◌*ℤ◌, neg_ℤ, ◌<ℤ◌, arith, sym, refl, ap, ap₂, ◌∙◌, subst, Contains, ◌⊎◌, inl, inr, remove, map, take, drop, unsigned_abs, length-append, All}
+use Rattle.std.proofs.Common.{◌≡◌, ◌≢◌, ℕ, zero, suc, ◌+◌, ◌<◌, ◌≤◌, List, [], ◌∷◌, ◌++◌, length, ℤ, pos, negsuc, ◌+ℤ◌, ◌*ℤ◌, neg_ℤ, ◌<ℤ◌, arith, sym, refl, ap, ap₂, ◌∙◌, subst, Contains, inl, inr, remove, map, take, drop, unsigned_abs, length-append}
 use Rattle.std.specs.Int.{int_signum}
 use Rattle.std.proofs.lemmas.Int.{ints}
-use Rattle.std.proofs.lemmas.List.{get_or_default, take_more, length-drop, take_all, drop_at}
+use Rattle.std.proofs.lemmas.List.{take_more, length-drop, take_all}
 use Rattle.std.proofs.lemmas.List.Elements.{All-contains}
 use Rattle.gf_int.specs.Content.{scaled}
 use Rattle.gf_int.proofs.RingLaws.{same, dv, dn, dneg, ◌⊗◌, ◌⊕◌}
-use Rattle.gf_int.proofs.SignLaws.{sign_of, negative, none, positive, zero-cancel}
+use Rattle.gf_int.proofs.SignLaws.{positive}
 use Rattle.gf_vec.specs.Vector.{dot, vector_sum, zeros, values, entry_at}
-use Rattle.gf_vec.proofs.VectorLaws.{length-times, length-plus}
+use Rattle.gf_vec.proofs.VectorLaws.{length-times}
 use Rattle.gf_gordan.specs.Alternative.{AreRows}
 use Rattle.gf_gordan.specs.Elimination.{row_at, size_at, signed_at}
 use Rattle.gf_duality.specs.Combining.{pair}
-use Rattle.gf_duality.specs.Generators.{Made, ray, IsDescribed, unit_vectors}
-use Rattle.gf_duality.specs.Elimination.{IsTurned, IsFirstAt, IsEliminated, begun, skipped, turned, IsNullSpace, columns, with_values}
+use Rattle.gf_duality.specs.Generators.{ray, IsDescribed, unit_vectors}
+use Rattle.gf_duality.specs.Elimination.{IsTurned, IsEliminated, begun, skipped, turned, IsNullSpace, columns, with_values}
 use Rattle.gf_vec.specs.Vector.{opposite}
-use Rattle.gf_duality.proofs.ListLaws.{none_in, in_cons, in_head, in_tail, zip_from, zip_to, of_rest, rest_cover, all_by}
-use Rattle.gf_vec.proofs.DotLaws.{dot-times_right, dot-plus_right}
+use Rattle.gf_duality.proofs.ListLaws.{none_in, in_cons, zip_from, zip_to, of_rest, rest_cover}
+use Rattle.gf_vec.proofs.DotLaws.{dot-times_right, length-values}
 use Rattle.gf_vec.proofs.EntryLaws.{same_by, signum_up, entry_times, entry_plus, drop_times, drop_plus}
 use Rattle.gf_vec.proofs.VectorIdentities.{vv, vz, ◌⊞◌, ◌⊡◌, by, vsame}
 use Rattle.gf_duality.proofs.PairLaws.{vpair}
 use Rattle.gf_duality.proofs.Made.{Made-into, span-times, span-made, Made-dot_zero}
-use Rattle.gf_duality.proofs.Described.{Along, pair_zero}
+use Rattle.gf_duality.proofs.Described.{Along}
 use Rattle.gf_duality.proofs.Equations.{equation_flat, equation_lined, in_map, map_in, units_width, all_of}
-use Rattle.gf_duality.proofs.Echelon.{Turned, turned_of, turn_in, Shape, shape, SameSpan, basis_span, basis_echelon}
+use Rattle.gf_duality.proofs.Echelon.{Turned, turned_of, turn_in, SameSpan, basis_span}
 
 -- the first entries are what the equations give on the others
 pub record IsConsistent (n : ℕ) (es : List (List ℤ)) (w : List ℤ) : Type 0 where
   pub long : length w ≡ length es + n
   pub value : (i : ℕ) → i < length es → entry_at w i ≡ dot (row_at es i) (drop (length es) w)
-
-values_long : (es : List (List ℤ)) (x : List ℤ) → length (values es x) ≡ length es
-values_long [] x = refl
-values_long (e ∷ es) x = ap suc (values_long es x)
 
 drop_values : (es : List (List ℤ)) (x y : List ℤ) → drop (length es) (values es x ++ y) ≡ y
 drop_values [] x y = refl
@@ -45,7 +41,7 @@ entry_values (e ∷ es) x y (suc i) h = entry_values es x y i (omega arith)
 
 column_consistent : (n : ℕ) (es : List (List ℤ)) (x : List ℤ) → length x ≡ n → IsConsistent n es (with_values es x)
 column_consistent n es x l = record {
-  long = length-append (values es x) x ∙ ap₂ ◌+◌ (values_long es x) l;
+  long = length-append (values es x) x ∙ ap₂ ◌+◌ (length-values es x) l;
   value = λ i h. entry_values es x x i h ∙ ap (dot (row_at es i)) (sym (drop_values es x x));
 }
 

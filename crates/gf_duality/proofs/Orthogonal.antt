@@ -1,6 +1,6 @@
 -- Orthogonal lineality vectors, and rays brought to be orthogonal to them.
 use Rattle.gf_duality.proofs.ListLaws.{none_in, in_head, in_tail, in_cons, in_last, in_more}
-use Rattle.gf_duality.specs.Straightening.{IsLeveled, IsStraightened, done, next, IsOrthogonalized, start, added, gone}
+use Rattle.gf_duality.specs.Straightening.{IsStraightened, done, next, IsOrthogonalized, start, added, gone}
 use Rattle.gf_duality.specs.Generators.{Made, nothing, ray, line, summed, multiplied, divided, IsDescribed}
 use Rattle.std.proofs.Common.{◌≡◌, ℕ, List, [], ◌∷◌, ◌++◌, length, ℤ, pos, ◌+ℤ◌, ◌*ℤ◌, neg_ℤ, ◌<ℤ◌, ◌≤ℤ◌, arith, sym, refl, ap, ◌∙◌, subst, Contains, inl, inr}
 use Rattle.std.proofs.lemmas.Int.{ints}
@@ -13,6 +13,7 @@ use Rattle.gf_vec.proofs.DotLaws.{own_zero, dot-times_right}
 use Rattle.gf_vec.proofs.VectorIdentities.{vv, vz, ◌⊞◌, ◌⊡◌, by, vsame}
 use Rattle.gf_duality.proofs.Made.{Made-length, Made-into, Made-dot_zero, span-times, span-made}
 use Rattle.gf_duality.proofs.Described.{Along, along}
+use Rattle.gf_duality.proofs.Echelon.{own_member}
 
 -- a multiple of w is a multiple of x and some of ys
 pub record Straight (n : ℕ) (ys : List (List ℤ)) (x w : List ℤ) : Type 0 where
@@ -100,9 +101,6 @@ pub record Basis (n : ℕ) (lin out : List (List ℤ)) : Type 0 where
 
 span_more : (n : ℕ) (ys : List (List ℤ)) (w v : List ℤ) → Made n [] ys v → Made n [] (ys ++ w ∷ []) v
 span_more n ys w v m = Made-into n [] ys [] (ys ++ w ∷ []) v (λ z l c. absurd (none_in z c)) (λ a z l c. line n [] (ys ++ w ∷ []) a z _ l (Contains-append_left ys (w ∷ []) z c) refl) m
-
-own_member : (n : ℕ) (ys : List (List ℤ)) (x : List ℤ) → length x ≡ n → Contains ys x → Made n [] ys x
-own_member n ys x l c = line n [] ys (pos 1) x x l c (vsame (vv x l) (dn 1 ⊡ vv x l) (λ w. omega arith))
 
 -- w from x and the span, and x from w
 straight_back : (n : ℕ) (ys next_ : List (List ℤ)) (x w : List ℤ) → length x ≡ n → Straight n ys x w → ((y : List ℤ) → Made n [] ys y → Made n [] next_ y) → Made n [] next_ w → Made n [] next_ x

@@ -1,5 +1,5 @@
 -- Pivots: one for each vector, and made positive.
-use Rattle.std.proofs.Common.{◌≡◌, ℕ, List, length, ℤ, pos, negsuc, ◌*ℤ◌, neg_ℤ, ◌<ℤ◌, arith, refl, ◌∙◌, subst, All}
+use Rattle.std.proofs.Common.{◌≡◌, ℕ, List, ℤ, pos, negsuc, ◌*ℤ◌, neg_ℤ, ◌<ℤ◌, arith, refl, ◌∙◌, subst, All}
 use Rattle.std.proofs.lemmas.Int.{ints}
 use Rattle.gf_int.proofs.RingLaws.{dv, dn, dneg}
 use Rattle.gf_vec.specs.Vector.{entry_at}

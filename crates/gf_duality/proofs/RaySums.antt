@@ -1,5 +1,5 @@
 -- The sum of rays: it is generated, and a row that is negative on none of them is zero on it only where it is zero on each.
-use Rattle.std.proofs.Common.{◌≡◌, ℕ, List, [], ◌∷◌, length, ℤ, pos, ◌+ℤ◌, ◌≤ℤ◌, arith, refl, ap, ◌∙◌, Contains, ◌⊎◌, inl, inr}
+use Rattle.std.proofs.Common.{◌≡◌, ℕ, List, [], ◌∷◌, length, ℤ, pos, ◌+ℤ◌, ◌≤ℤ◌, arith, refl, ap, ◌∙◌, Contains, inl, inr}
 use Rattle.std.proofs.lemmas.Int.{ints}
 use Rattle.gf_int.specs.Content.{scaled}
 use Rattle.gf_int.proofs.RingLaws.{same, dn, ◌⊕◌}
@@ -8,7 +8,7 @@ use Rattle.gf_vec.proofs.VectorIdentities.{vv, ◌⊞◌, ◌⊡◌, by}
 use Rattle.gf_duality.specs.Generators.{Made, nothing, ray, summed, multiplied}
 use Rattle.gf_duality.specs.Faces.{sum_of}
 use Rattle.gf_duality.proofs.ListLaws.{none_in, in_head, in_tail, in_cons}
-use Rattle.gf_duality.proofs.Made.{Made-length, Made-dot, Made-dot_zero}
+use Rattle.gf_duality.proofs.Made.{Made-length, Made-dot}
 
 -- the sum of vectors is made
 pub sum_made : (n : ℕ) (rays lin rows : List (List ℤ)) → ((x : List ℤ) → Contains rows x → length x ≡ n) → ((x : List ℤ) → Contains rows x → Contains rays x) → Made n rays lin (sum_of n rows)

@@ -1,12 +1,12 @@
 -- Sums of rays as weights and as witnesses.
-use Rattle.std.proofs.Common.{◌≡◌, ℕ, List, [], ◌∷◌, length, ℤ, pos, ◌<ℤ◌, ◌≤ℤ◌, arith, sym, ap, ◌∙◌, subst, Contains, ◌⊎◌, inl, inr, All}
+use Rattle.std.proofs.Common.{◌≡◌, ℕ, List, [], ◌∷◌, length, ℤ, pos, ◌<ℤ◌, ◌≤ℤ◌, arith, sym, ap, ◌∙◌, subst, Contains, ◌⊎◌, inl, inr}
 use Rattle.std.proofs.lemmas.Int.{ints}
 use Rattle.std.proofs.lemmas.List.Elements.{All-contains}
-use Rattle.gf_int.proofs.SignLaws.{sign_of, negative, none, positive}
+use Rattle.gf_int.proofs.SignLaws.{sign_of, negative, none, positive, not_negative}
 use Rattle.gf_vec.specs.Vector.{dot}
 use Rattle.gf_duality.specs.Generators.{Made, IsDescribed, AreValid}
 use Rattle.gf_duality.specs.Rays.{IsRays, Satisfies}
-use Rattle.gf_duality.specs.Faces.{IsInterior, IsInCone, sum_of, IsWitness, cone_of}
+use Rattle.gf_duality.specs.Faces.{IsInCone, sum_of, IsWitness, cone_of}
 use Rattle.gf_duality.proofs.ListLaws.{none_in, in_head, in_cons}
 use Rattle.gf_duality.proofs.Made.{Made-dot, Made-dot_zero}
 use Rattle.gf_duality.proofs.RaySums.{sum_made, sum_long, sum_zero}
@@ -15,16 +15,13 @@ use Rattle.gf_duality.proofs.Interior.{interior}
 use Rattle.gf_duality.proofs.Uniqueness.{face_made}
 use Rattle.gf_duality.proofs.FacetRows.{Part, part_of, in_cone, made_in}
 
-weak : (z : ℤ) → pos 0 <ℤ z → pos 0 ≤ℤ z
-weak z h = omega (arith, ints, h)
-
 -- where some vector is positive on all rows, the sum of the rays is
 pub sum_positive : (n : ℕ) (rows lin rays : List (List ℤ)) (w h : List ℤ) → IsRays n rows [] lin rays → length w ≡ n → ((k : List ℤ) → Contains rows k → pos 0 <ℤ dot k w) → Contains rows h → pos 0 <ℤ dot h (sum_of n rays)
 sum_positive n rows lin rays w h r lw up ch =
     elim (All-contains (λ k. (pos 0 <ℤ dot k (sum_of n rays)) ⊎ ((x : List ℤ) → length x ≡ n → IsInCone (cone_of rows) x → dot k x ≡ pos 0)) rows h (interior n (cone_of rows) lin rays r).positive ch) [
       | inl g ↦ g
       | inr z ↦
-          let e : dot h w ≡ pos 0 = z w lw (in_cone rows w (λ k c. weak (dot k w) (up k c))) in
+          let e : dot h w ≡ pos 0 = z w lw (in_cone rows w (λ k c. not_negative (dot k w) (up k c))) in
           let g = up h ch in absurd (omega (arith, ints, e, g))
     ]
 
@@ -40,7 +37,7 @@ sum_witness n rows lin rays a v p r ca s =
       up = λ h x k i. elim (in_cons a [] h k) [ inl e ↦ subst (λ (q : List ℤ). pos 0 ≤ℤ dot q x) (sym e) (d.valid.up a x ca i) | inr j ↦ absurd (none_in h j) ];
       flat = λ h x k i. elim (in_cons a [] h k) [ inl e ↦ subst (λ (q : List ℤ). dot q x ≡ pos 0) (sym e) (d.valid.flat a x ca i) | inr j ↦ absurd (none_in h j) ];
     } in
-    let v_in : IsInCone (cone_of rows) v = in_cone rows v (λ h k. elim (s.others h k) [ inl e ↦ let z : dot h v ≡ pos 0 = ap (λ (q : List ℤ). dot q v) e ∙ s.zero in omega (arith, ints, z) | inr g ↦ weak (dot h v) g ]) in
+    let v_in : IsInCone (cone_of rows) v = in_cone rows v (λ h k. elim (s.others h k) [ inl e ↦ let z : dot h v ≡ pos 0 = ap (λ (q : List ℤ). dot q v) e ∙ s.zero in omega (arith, ints, z) | inr g ↦ not_negative (dot h v) g ]) in
     let zero : dot a t ≡ pos 0 = Made-dot_zero n part [] a t (λ x k. (p.of_part x k).1) (λ x k. absurd (none_in x k)) m in
     let of_part : Made n part lin v = face_made n (a ∷ []) rays part lin t v one (λ x k z. p.all x k (z a (in_head a []) zero)) (made_in n rows lin rays v d s.width v_in)
     (λ h k z. elim (in_cons a [] h k) [ inl e ↦ ap (λ (q : List ℤ). dot q v) e ∙ s.zero | inr j ↦ absurd (none_in h j) ]) in

@@ -1,5 +1,5 @@
 -- The sum or difference of multiples of two vectors, and its operations.
-use Rattle.std.specs.Prelude.{◌≡◌, ℕ, ◌<◌, List, ℤ, pos, ◌*ℤ◌, neg_ℤ, ◌⊎◌, length}
+use Rattle.std.specs.Prelude.{ℕ, ◌<◌, List, ℤ, ◌*ℤ◌, neg_ℤ, ◌⊎◌, length}
 use Rattle.gf_int.specs.Content.{scaled}
 use Rattle.gf_vec.specs.declared.error.VecOp.{VecOp}
 use Rattle.gf_vec.specs.declared.error.VecOp.TheVariants.{Add, Sub, Mul}

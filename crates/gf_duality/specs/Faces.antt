@@ -1,13 +1,12 @@
 -- Faces of cones, their interior points, facets.
-use Rattle.std.specs.Prelude.{◌≡◌, ◌≢◌, ℕ, ◌<◌, List, [], ◌∷◌, ◌++◌, ℤ, pos, ◌<ℤ◌, ◌⊎◌, length, All, Any, AllPairs, ◌↔◌, slice_index_or, Contains, replicate}
+use Rattle.std.specs.Prelude.{◌≡◌, ℕ, ◌<◌, List, [], ◌∷◌, ◌++◌, ℤ, pos, ◌<ℤ◌, ◌⊎◌, length, All, Any, AllPairs, ◌↔◌, Contains, replicate}
 use Rattle.std.specs.Ordering.{int_cmp}
 use Rattle.std.specs.Cmp.Lexicographic.{slice_cmp}
 use Rattle.std.specs.declared.cmp.Ordering.TheVariants.{Less}
 use Rattle.gf_int.specs.Content.{IsPrimitive}
 use Rattle.gf_vec.specs.Vector.{dot, combined}
 use Rattle.gf_gordan.specs.Alternative.{AreRows}
-use Rattle.gf_duality.specs.Generators.{Made}
-use Rattle.gf_duality.specs.Rays.{Satisfies, IsLineal, IsRays}
+use Rattle.gf_duality.specs.Rays.{Satisfies, IsRays}
 
 -- a cone by its rows
 pub record Rows : Type 0 where

@@ -4,7 +4,7 @@ use Rattle.std.proofs.lemmas.Int.{ints}
 use Rattle.std.proofs.lemmas.List.Elements.{All-contains, Contains-append_left, Contains-append_right, Contains-append_cases}
 use Rattle.gf_int.specs.Content.{scaled}
 use Rattle.gf_int.proofs.RingLaws.{same, dv, dn, dneg, ◌⊕◌, ◌⊗◌}
-use Rattle.gf_int.proofs.SignLaws.{sign_of, negative, none, positive}
+use Rattle.gf_int.proofs.SignLaws.{sign_of, negative, none, positive, positive_not_zero, above_zero, zero_or_not}
 use Rattle.gf_vec.specs.Vector.{dot, vector_sum}
 use Rattle.gf_duality.specs.Combining.{pair}
 use Rattle.gf_duality.specs.Generators.{Made, line, summed, divided, IsDescribed, AreValid}
@@ -20,7 +20,7 @@ use Rattle.gf_duality.proofs.Described.{pair_dot, pair_zero}
 use Rattle.gf_duality.proofs.Echelon.{own_member}
 use Rattle.gf_duality.proofs.RaySums.{sum_made, sum_long, sum_zero}
 use Rattle.gf_duality.proofs.Interior.{some_above}
-use Rattle.gf_duality.proofs.FacetRows.{zero_or_not, reached, least_of, part_of}
+use Rattle.gf_duality.proofs.FacetRows.{reached, least_of, part_of}
 use Rattle.gf_fans.proofs.FaceLaws.{part_made, all_zero_or, part_on}
 use Rattle.gf_fans.proofs.Rank.{dimension_below, dimension_step, dimension_basis}
 use Rattle.gf_duality.proofs.Determined.{described_of}
@@ -138,9 +138,6 @@ both_zero b x y z e f g = let q : b *ℤ x ≡ pos 0 = rw f (omega (arith, ints)
 pair_none : (a b c d : ℤ) → c ≡ pos 0 → d ≡ pos 0 → a *ℤ c +ℤ neg_ℤ b *ℤ d ≡ pos 0
 pair_none a b c d e f = rw (e, f) (omega (arith, ints))
 
-positive_not : (z : ℤ) → pos 0 <ℤ z → z ≢ pos 0
-positive_not z h e = omega (arith, ints, h, e)
-
 there_and_back : (n : ℕ) (b k : ℤ) (v x r : List ℤ) → length v ≡ n → length x ≡ n → length r ≡ n → scaled k x ≡ vector_sum (vector_sum (scaled b v) (vector_sum (scaled k x) (scaled (neg_ℤ (pos 0)) r))) (scaled (neg_ℤ b) v)
 there_and_back n b k v x r lv lx lr = vsame (dv k ⊡ vv x lx) (dv b ⊡ vv v lv ⊞ (dv k ⊡ vv x lx ⊞ dneg (dn 0) ⊡ vv r lr) ⊞ dneg (dv b) ⊡ vv v lv) (λ z. omega arith)
 
@@ -204,12 +201,12 @@ facet_step n hs es lin rays start d cs up_start =
                 up = λ h q k i. elim (in_cons u [] h k) [ inl e ↦ subst (λ (z : List ℤ). pos 0 ≤ℤ dot z q) (sym e) (d.valid.up u q cu i) | inr j ↦ absurd (none_in h j) ];
                 flat = λ h q k i. elim (in_cons u [] h k) [ inl e ↦ subst (λ (z : List ℤ). dot z q ≡ pos 0) (sym e) (d.valid.flat u q cu i) | inr j ↦ absurd (none_in h j) ];
               } in
-              let narrow : IsZeroWithin rays u t = elim (g.greatest u cu (flat_at u cu l.zero)) [ inl f ↦ absurd (positive_not (dot u r) up_u (f r cr)) | inr k ↦ k ] in
+              let narrow : IsZeroWithin rays u t = elim (g.greatest u cu (flat_at u cu l.zero)) [ inl f ↦ absurd (positive_not_zero (dot u r) up_u (f r cr)) | inr k ↦ k ] in
               let of_part : Made n p.part lin w = part_made n (u ∷ []) rays p.part lin w one (λ q c f. p.all q c (narrow q c (f u (in_head u [])))) mw
               (λ h k. elim (in_cons u [] h k) [ inl e ↦ ap (λ (z : List ℤ). dot z w) e ∙ uw | inr j ↦ absurd (none_in h j) ]) in
               let tw : dot t w ≡ pos 0 = Made-dot_zero n p.part lin t w (λ q c. (p.of_part q c).1) (λ q c. d.valid.flat t q ct c) of_part in
               let ty : dot t y ≡ pos 0 = up_zero b (dot t v) (dot t y) (dot t w) (at_w t) tv tw in
-              let ux : dot u x ≡ pos 0 = must_vanish (dot u r) (dot u x) (dot t x) (dot t r) (sym (at t) ∙ ty) tx (positive_not (dot t r) up_r) in
+              let ux : dot u x ≡ pos 0 = must_vanish (dot u r) (dot u x) (dot t x) (dot t r) (sym (at t) ∙ ty) tx (positive_not_zero (dot t r) up_r) in
               let k : ℤ = dot u r in
               let sub : (q : List ℤ) → Contains p.part q → Contains some q = λ q c. every q (p.of_part q c).0 (p.of_part q c).1 in
               let sw : Made n [] (some ++ lin) w = joined_span n p.part some lin w sub of_part in
@@ -253,9 +250,6 @@ face_below n hs es lin rays flat some r d e k sub p cr out hs_ hl =
           (own_member n (rays ++ lin) r (k.rays_width r cr) (Contains-append_left rays lin r cr)) t.1.1
     ]
 
-above_zero : (z : ℤ) → pos 0 ≤ℤ z → z ≢ pos 0 → pos 0 <ℤ z
-above_zero z h n = elim (sign_of z) [ positive k ↦ k | none k ↦ absurd (n k) | negative k ↦ absurd (omega (arith, ints, h, k)) ]
-
 -- the dimension is one more than that of any such part
 pub dimension_above : (n : ℕ) (hs es lin rays flat some : List (List ℤ)) (r : List ℤ) (d : ℕ) → IsRays n hs es lin rays → ((t : List ℤ) → Contains flat t → Contains hs t) → IsPartOn flat rays some → Contains rays r → (Contains some r → ⊥) →
     IsGreatestPart hs rays some → HasDimension n (some ++ lin) d → HasDimension n (rays ++ lin) (suc d)
@@ -273,11 +267,11 @@ dimension_above n hs es lin rays flat some r d q sub p cr out most h =
           let zero_some : (x : List ℤ) → Contains some x → dot t x ≡ pos 0 = λ x c. f.1.1 x (p.each x c).0 ((p.each x c).1 s s0.1.0) in
           let m = part_on (t ∷ []) rays q.ascending in
           let within : (x : List ℤ) → Contains some x → Contains m.0 x = λ x c. m.1.every x (p.each x c).0 (λ u i. elim (in_cons t [] u i) [ inl e ↦ ap (λ (y : List ℤ). dot y x) e ∙ zero_some x c | inr j ↦ absurd (none_in u j) ]) in
-          let less : ((x : List ℤ) → Contains rays x → Contains m.0 x) → ⊥ = λ all. positive_not (dot t a) up_a ((m.1.each a (all a ca)).1 t (in_head t [])) in
+          let less : ((x : List ℤ) → Contains rays x → Contains m.0 x) → ⊥ = λ all. positive_not_zero (dot t a) up_a ((m.1.each a (all a ca)).1 t (in_head t [])) in
           let back : (x : List ℤ) → Contains m.0 x → Contains some x = most (t ∷ []) m.0 one m.1 within less in
           dimension_step n (some ++ lin) (rays ++ lin) d t a (joined_width n hs es lin rays k) h (joined_sub n hs es lin rays some k (λ x c. (p.each x c).0))
           (λ x c. elim (Contains-append_cases some lin x c) [ inl i ↦ zero_some x i | inr b ↦ k.valid.flat t x g.listed b ])
-          (own_member n (rays ++ lin) a (k.rays_width a ca) (Contains-append_left rays lin a ca)) (positive_not (dot t a) up_a)
+          (own_member n (rays ++ lin) a (k.rays_width a ca) (Contains-append_left rays lin a ca)) (positive_not_zero (dot t a) up_a)
           (λ x c z. g.spans some (λ y i e. back y (m.1.every y i (λ u j. elim (in_cons t [] u j) [ inl w ↦ ap (λ (v : List ℤ). dot v y) w ∙ e | inr v ↦ absurd (none_in u v) ]))) x c z)
     ]
 

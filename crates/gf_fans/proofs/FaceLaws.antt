@@ -16,8 +16,8 @@ use Rattle.gf_duality.proofs.ListLaws.{none_in, in_head, in_tail, in_cons, all_b
 use Rattle.gf_duality.proofs.Made.{Made-dot, Made-dot_zero, Made-into}
 use Rattle.gf_duality.proofs.Generated.{made-generated, generated-made}
 use Rattle.gf_duality.proofs.Uniqueness.{face_made}
-use Rattle.gf_duality.proofs.FacetRows.{zero_or_not}
 use Rattle.gf_duality.proofs.Determined.{described_of, less_never}
+use Rattle.gf_int.proofs.SignLaws.{zero_or_not}
 
 zero_at : (n : ℕ) (t : List ℤ) → dot t (zeros n) ≡ pos 0
 zero_at n t = dot_comm t (zeros n) ∙ dot-zeros n t

@@ -22,13 +22,13 @@ use Rattle.gf_vec.proofs.VectorIdentities.{vv, ◌⊞◌, ◌⊡◌, by}
 use Rattle.gf_duality.proofs.Made.{Made-dot_zero}
 use Rattle.gf_duality.proofs.Taking.{enough}
 use Rattle.gf_duality.proofs.RaySums.{sum_long, sum_zero, sum_made}
-use Rattle.gf_fans.proofs.Meeting.{zero_rows, left_in, right_in, opposite_at}
+use Rattle.gf_fans.proofs.Meeting.{zero_rows, left_in, right_in}
 use Rattle.gf_duality.proofs.Implied.{ray_in}
 use Rattle.gf_duality.proofs.Interior.{sum_in}
-use Rattle.gf_duality.proofs.FacetRows.{zero_or_not}
 use Rattle.gf_duality.proofs.EchelonUnique.{same_ordered}
-use Rattle.gf_duality.proofs.Determined.{described_of, same_rays_of, rays_determined, less_never}
+use Rattle.gf_duality.proofs.Determined.{described_of, same_rays_of, rays_determined, less_never, opposite_dot, minus_up, zero_up, minus_zero}
 use Rattle.gf_fans.proofs.FaceLaws.{part_made, part_on, face_rays}
+use Rattle.gf_int.proofs.SignLaws.{zero_or_not}
 
 -- ---- membership
 
@@ -79,24 +79,15 @@ no_more b x y z e f g h = let q : b *ℤ x ≡ pos 0 = rw f (omega (arith, ints)
 both_none : (b x y z : ℤ) → z ≡ b *ℤ x -ℤ y → x ≡ pos 0 → y ≡ pos 0 → z ≡ pos 0
 both_none b x y z e f g = let q : b *ℤ x ≡ pos 0 = rw f (omega (arith, ints)) in omega (arith, ints, e, q, g)
 
-zero_up : (x : ℤ) → x ≡ pos 0 → pos 0 ≤ℤ x
-zero_up x e = omega (arith, ints, e)
-
-zero_both : (x y : ℤ) → y ≡ neg_ℤ x → pos 0 ≤ℤ x → pos 0 ≤ℤ y → x ≡ pos 0
-zero_both x y e a b = omega (arith, ints, e, a, b)
-
-minus_none : (x y : ℤ) → y ≡ neg_ℤ x → x ≡ pos 0 → y ≡ pos 0
-minus_none x y e f = omega (arith, ints, e, f)
-
 -- rows that are not negative on a cone, of whatever rows, are zero on a face of it
 pub exposed_face : (n : ℕ) (c : Rows) (lin rays flat : List (List ℤ)) → IsRays n c.inequalities c.equations lin rays → ((t x : List ℤ) → Contains flat t → length x ≡ n → IsInCone c x → pos 0 ≤ℤ dot t x) → IsFaceOf n (part c flat) c
 exposed_face n c lin rays flat r up =
     let d = described_of n c.inequalities c.equations lin rays r in
     let line_in : (l : List ℤ) → Contains lin l → IsInCone c l = λ l k. is_in c l (λ h i. zero_up (dot h l) (d.valid.flat h l i k)) (λ e i. d.lin_solves e l i k) in
     let back_in : (l : List ℤ) → Contains lin l → IsInCone c (opposite l) = λ l k. is_in c (opposite l)
-    (λ h i. zero_up (dot h (opposite l)) (minus_none (dot h l) (dot h (opposite l)) (opposite_at h l) (d.valid.flat h l i k))) (λ e i. minus_none (dot e l) (dot e (opposite l)) (opposite_at e l) (d.lin_solves e l i k)) in
+    (λ h i. zero_up (dot h (opposite l)) (minus_zero (dot h l) (dot h (opposite l)) (opposite_dot h l) (d.valid.flat h l i k))) (λ e i. minus_zero (dot e l) (dot e (opposite l)) (opposite_dot e l) (d.lin_solves e l i k)) in
     let flat_lin : (t l : List ℤ) → Contains flat t → Contains lin l → dot t l ≡ pos 0 = λ t l ct k.
-    zero_both (dot t l) (dot t (opposite l)) (opposite_at t l) (up t l ct (d.lin_width l k) (line_in l k)) (up t (opposite l) ct (length-times (negsuc 0) l ∙ d.lin_width l k) (back_in l k)) in
+    minus_up (dot t l) (dot t (opposite l)) (opposite_dot t l) (up t l ct (d.lin_width l k) (line_in l k)) (up t (opposite l) ct (length-times (negsuc 0) l ∙ d.lin_width l k) (back_in l k)) in
     let va : AreValid flat rays lin = record { up = λ t x ct k. up t x ct (d.rays_width x k) (ray_in n c.inequalities c.equations lin rays x d k); flat = flat_lin } in
     let p = part_on flat rays r.ascending in
     let some : List (List ℤ) = p.0 in
@@ -199,7 +190,7 @@ fan_pairs n cones f i j d h l =
 
 -- ---- the test by lists
 
-same_turned : (n : ℕ) (c d : Rows) → SameCone n c d → SameCone n d c
+pub same_turned : (n : ℕ) (c d : Rows) → SameCone n c d → SameCone n d c
 same_turned n c d s x l = ((s x l).1, (s x l).0)
 
 -- cones whose meet is a face of both have one lineality basis

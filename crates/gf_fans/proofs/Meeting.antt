@@ -1,12 +1,9 @@
 -- Rows that are zero on a vector, the opposite of a vector, and the halves of a meet.
-use Rattle.std.proofs.Common.{◌≡◌, List, [], ◌∷◌, ◌++◌, ℤ, pos, neg_ℤ, ◌<ℤ◌, ◌≤ℤ◌, arith, sym, refl, ap, ◌∙◌, subst, Contains, ◌⊎◌, inl, inr}
+use Rattle.std.proofs.Common.{◌≡◌, List, [], ◌∷◌, ◌++◌, ℤ, pos, ◌<ℤ◌, ◌≤ℤ◌, arith, sym, ap, ◌∙◌, subst, Contains, ◌⊎◌, inl, inr}
 use Rattle.std.proofs.lemmas.Int.{ints}
 use Rattle.std.proofs.lemmas.List.Elements.{All-contains, Contains-append_left, Contains-append_right}
-use Rattle.gf_int.proofs.RingLaws.{same, dn, dneg}
 use Rattle.gf_int.proofs.SignLaws.{sign_of, negative, none, positive}
 use Rattle.gf_vec.specs.Vector.{dot}
-use Rattle.gf_vec.proofs.VectorIdentities.{vv, ◌⊡◌, by}
-use Rattle.gf_vec.specs.Vector.{opposite}
 use Rattle.gf_duality.specs.Faces.{Rows, IsInCone}
 use Rattle.gf_duality.proofs.ListLaws.{none_in, in_head, in_tail, in_cons, all_by}
 use Rattle.gf_fans.specs.Fans.{meet}
@@ -44,9 +41,6 @@ zero_rows (h ∷ hs) v =
         all = λ t c z. elim (in_cons h hs t c) [ inl e ↦ subst (Contains (h ∷ s.rows)) (sym e) (in_head h s.rows) | inr k ↦ in_tail h s.rows t (s.all t k z) ];
       }
     ]
-
-pub opposite_at : (h x : List ℤ) → dot h (opposite x) ≡ neg_ℤ (dot h x)
-opposite_at h x = same (by h (dneg (dn 1) ⊡ vv x refl)) (dneg (by h (vv x refl))) (omega arith)
 
 -- the halves of what the rows of two cones say
 pub left_in : (c d : Rows) (x : List ℤ) → IsInCone (meet c d) x → IsInCone c x

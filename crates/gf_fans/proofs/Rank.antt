@@ -1,10 +1,10 @@
 -- Vectors none of which is spanned by those behind it are no more than any that span them.
-use Rattle.std.proofs.Common.{◌≡◌, ◌≢◌, ℕ, zero, suc, ◌<◌, ◌≤◌, List, [], ◌∷◌, length, ℤ, pos, ◌+ℤ◌, ◌*ℤ◌, neg_ℤ, ◌<ℤ◌, arith, sym, refl, ap, ◌∙◌, subst, Contains, ◌⊎◌, inl, inr, AllPairs}
+use Rattle.std.proofs.Common.{◌≡◌, ◌≢◌, ℕ, suc, ◌<◌, ◌≤◌, List, [], ◌∷◌, length, ℤ, pos, ◌+ℤ◌, ◌*ℤ◌, neg_ℤ, ◌<ℤ◌, arith, sym, refl, ap, ◌∙◌, subst, Contains, ◌⊎◌, inl, inr, AllPairs}
 use Rattle.std.proofs.lemmas.Int.{ints}
 use Rattle.std.proofs.lemmas.List.Elements.{All-contains}
 use Rattle.gf_int.specs.Content.{scaled}
 use Rattle.gf_int.proofs.RingLaws.{dv, dn, dneg, ◌⊗◌, ◌⊕◌}
-use Rattle.gf_int.proofs.SignLaws.{0<-*ℤ, sign_of, negative, none, positive, zero_product}
+use Rattle.gf_int.proofs.SignLaws.{0<-*ℤ, sign_of, negative, none, positive, zero_product, positive_not_zero}
 use Rattle.gf_vec.specs.Vector.{dot, vector_sum, zeros, entry_at}
 use Rattle.gf_vec.proofs.VectorLaws.{length-times}
 use Rattle.gf_gordan.specs.Elimination.{IsPivot}
@@ -17,6 +17,7 @@ use Rattle.gf_vec.proofs.VectorIdentities.{vv, vz, ◌⊞◌, ◌⊡◌, vsame}
 use Rattle.gf_duality.proofs.Described.{pair_zero}
 use Rattle.gf_duality.proofs.Made.{Made-length, divided_length, Made-dot_zero, span-times}
 use Rattle.gf_duality.proofs.Echelon.{own_member, span_into}
+use Rattle.gf_duality.proofs.EchelonUnique.{entry_zeros}
 
 -- a multiple of x is one of y and what ys span
 record Apart (n : ℕ) (y : List ℤ) (ys : List (List ℤ)) (x : List ℤ) : Type 0 where
@@ -91,9 +92,6 @@ more_span n x xs v w m = span_into n xs (x ∷ xs) v (λ z c. own_member n (x �
 product_not_zero : (a b : ℤ) → a ≢ pos 0 → b ≢ pos 0 → a *ℤ b ≢ pos 0
 product_not_zero a b f g e = g (cancel a b f e)
 
-positive_not_zero : (a : ℤ) → pos 0 <ℤ a → a ≢ pos 0
-positive_not_zero a h e = omega (arith, ints, h, e)
-
 zero_left : (n : ℕ) (y w x : List ℤ) (ys : List (List ℤ)) (k a : ℤ) → length y ≡ n → length x ≡ n → pos 0 <ℤ k → a ≡ pos 0 → Made n [] ys w → scaled k x ≡ vector_sum (scaled a y) w → Made n [] ys x
 zero_left n y w x ys k a ly lx g z m e =
     let lw = Made-length n [] ys w m in
@@ -153,17 +151,12 @@ free_short n (y ∷ ys) xs wy wx f i = elim (exchange n y ys xs (wy y (in_head y
   | inr r ↦ let h : length r.rest ≤ length ys = free_short n ys r.rest (λ z c. wy z (in_tail y ys z c)) (λ z c. Made-length n [] ys z (r.inside z c)) r.free r.inside in let o = r.one in omega (arith, h, o)
 ]
 
-zeros_entry : (n p : ℕ) → entry_at (zeros n) p ≡ pos 0
-zeros_entry zero p = refl
-zeros_entry (suc n) zero = refl
-zeros_entry (suc n) (suc p) = zeros_entry n p
-
 both_zero : (x y : ℤ) → x ≡ pos 0 → y ≡ pos 0 → x +ℤ y ≡ pos 0
 both_zero x y e f = rw (e, f) refl
 
 -- what is zero in a column on all that span, is so on what they span
 span_entry : (n : ℕ) (rays lin : List (List ℤ)) (v : List ℤ) (p : ℕ) → ((z : List ℤ) → Contains rays z → ⊥) → ((z : List ℤ) → Contains lin z → entry_at z p ≡ pos 0) → Made n rays lin v → entry_at v p ≡ pos 0
-span_entry n rays lin v p never f (nothing m rs ls) = zeros_entry m p
+span_entry n rays lin v p never f (nothing m rs ls) = entry_zeros m p
 span_entry n rays lin v p never f (ray m rs ls w l c) = absurd (never w c)
 span_entry n rays lin v p never f (line m rs ls b u w l c e) = ap (λ t. entry_at t p) e ∙ entry_times b u p ∙ zero_product b (entry_at u p) (f u c)
 span_entry n rays lin v p never f (summed m rs ls u w z e g h) =

@@ -1,5 +1,5 @@
 -- The cones of single points and of pairs of points: the Minkowski fan and the hypersurface of one polynomial.
-use Rattle.std.proofs.Common.{◌≡◌, ◌≢◌, ℕ, ◌<◌, List, [], ◌∷◌, length, map, ℤ, pos, ◌-ℤ◌, arith, sym, ap, ◌∙◌, subst, Contains, ◌⊎◌, inl, inr, AllPairs, remove, get_or}
+use Rattle.std.proofs.Common.{◌≡◌, ◌≢◌, ℕ, ◌<◌, List, [], ◌∷◌, length, ℤ, pos, ◌-ℤ◌, arith, sym, ap, ◌∙◌, subst, Contains, ◌⊎◌, inl, inr, AllPairs, remove, get_or}
 use Rattle.std.proofs.lemmas.Int.{ints}
 use Rattle.std.proofs.lemmas.List.{get_or_default}
 use Rattle.std.proofs.lemmas.List.Elements.{All-contains, Contains-get_or}
@@ -17,14 +17,7 @@ use Rattle.gf_patterns.specs.PatternRows.{vector_difference, point_at, single_ro
 use Rattle.gf_patterns.proofs.RefinementLaws.{fan_of}
 use Rattle.gf_patterns.proofs.PatternLaws.{highest_of}
 use Rattle.gf_patterns.proofs.RowLaws.{dot_minus, IsRowsOf, top, rows_meet, face_closed, closed_face, one_list}
-
-in_mapped : (f : List ℤ → List ℤ) (xs : List (List ℤ)) (x : List ℤ) → Contains xs x → Contains (map f xs) (f x)
-in_mapped f [] x k = absurd (none_in x k)
-in_mapped f (y ∷ xs) x k = elim (in_cons y xs x k) [ inl e ↦ subst (λ z. Contains (map f (y ∷ xs)) (f z)) (sym e) (in_head (f y) (map f xs)) | inr i ↦ in_tail (f y) (map f xs) (f x) (in_mapped f xs x i) ]
-
-of_mapped : (f : List ℤ → List ℤ) (xs : List (List ℤ)) (h : List ℤ) → Contains (map f xs) h → (x : List ℤ) × (Contains xs x × (h ≡ f x))
-of_mapped f [] h k = absurd (none_in h k)
-of_mapped f (y ∷ xs) h k = elim (in_cons (f y) (map f xs) h k) [ inl e ↦ (y, (in_head y xs, e)) | inr i ↦ let r = of_mapped f xs h i in (r.0, (in_tail y xs r.0 r.1.0, r.1.1)) ]
+use Rattle.gf_duality.proofs.Equations.{in_map, map_in}
 
 wide_at : (n : ℕ) (A : List (List ℤ)) → AreRows n A → (b : List ℤ) → Contains A b → length b ≡ n
 wide_at n A w b k = All-contains (λ t. length t ≡ n) A b w k
@@ -47,15 +40,15 @@ single_is n A i w li =
           | inr j ↦ absurd (none_in s j)
           | inl e ↦ let q : dot s u ≡ dot a u = ap (λ z. dot z u) e in elim (rest_cover A i [] b li kb) [
             | inr j ↦ elim (in_cons a [] b j) [ inl t ↦ let p : dot b u ≡ dot a u = ap (λ z. dot z u) t in omega (arith, ints, q, p) | inr x ↦ absurd (none_in b x) ]
-            | inl j ↦ let v = difference_up n A a b u w ka kb in let g = up_in (single_rows A i) u (vector_difference a b) c (in_mapped (vector_difference a) rest b j) in omega (arith, ints, q, v, g)
+            | inl j ↦ let v = difference_up n A a b u w ka kb in let g = up_in (single_rows A i) u (vector_difference a b) c (map_in (vector_difference a) rest b j) in omega (arith, ints, q, v, g)
           ]
         ]),
         (λ p. is_in (single_rows A i) u
-            (λ h k. let o = of_mapped (vector_difference a) rest h k in let kg = of_rest A i o.0 li o.1.0 in let v = difference_up n A a o.0 u w ka kg in let g = p a o.0 (in_head a []) kg in let e : dot h u ≡ dot (vector_difference a o.0) u = ap (λ z. dot z u) o.1.1 in omega (arith, ints, v, g, e))
+            (λ h k. let o = in_map (vector_difference a) rest h k in let kg = of_rest A i o.0 li o.1.0 in let v = difference_up n A a o.0 u w ka kg in let g = p a o.0 (in_head a []) kg in let e : dot h u ≡ dot (vector_difference a o.0) u = ap (λ z. dot z u) o.1.1 in omega (arith, ints, v, g, e))
             (λ h k. absurd (none_in h k))),
       );
-      each = λ h k. let o = of_mapped (vector_difference a) rest h k in (o.0, (of_rest A i o.0 li o.1.0, o.1.1));
-      every = λ g k. elim (rest_cover A i [] g li k) [ inl j ↦ inr (in_mapped (vector_difference a) rest g j) | inr j ↦ inl j ];
+      each = λ h k. let o = in_map (vector_difference a) rest h k in (o.0, (of_rest A i o.0 li o.1.0, o.1.1));
+      every = λ g k. elim (rest_cover A i [] g li k) [ inl j ↦ inr (map_in (vector_difference a) rest g j) | inr j ↦ inl j ];
     }
 
 -- the members of two places, or of the rest
@@ -95,11 +88,11 @@ pair_is n A i j w l lj =
             let q = level_of s ks in
             elim (rest_of_two A i j g l lj kg) [
               | inl x ↦ let p = level_of g x in omega (arith, ints, p, q)
-              | inr x ↦ let v = difference_up n A a g u w ka kg in let t = up_in (pair_rows A i j) u (vector_difference a g) c (in_mapped (vector_difference a) rest g x) in omega (arith, ints, q, v, t)
+              | inr x ↦ let v = difference_up n A a g u w ka kg in let t = up_in (pair_rows A i j) u (vector_difference a g) c (map_in (vector_difference a) rest g x) in omega (arith, ints, q, v, t)
             ]),
         (λ p. is_in (pair_rows A i j) u
             (λ h k.
-            let o = of_mapped (vector_difference a) rest h k in let kg = of_rest_of_two A i j o.0 l lj o.1.0 in
+            let o = in_map (vector_difference a) rest h k in let kg = of_rest_of_two A i j o.0 l lj o.1.0 in
             let v = difference_up n A a o.0 u w ka kg in let g = p a o.0 (in_head a (b ∷ [])) kg in let e : dot h u ≡ dot (vector_difference a o.0) u = ap (λ z. dot z u) o.1.1 in
             omega (arith, ints, v, g, e))
             (λ h k. elim (in_cons (vector_difference a b) [] h k) [
@@ -110,8 +103,8 @@ pair_is n A i j w l lj =
                   omega (arith, ints, v, f, g, q)
             ])),
       );
-      each = λ h k. let o = of_mapped (vector_difference a) rest h k in (o.0, (of_rest_of_two A i j o.0 l lj o.1.0, o.1.1));
-      every = λ g k. elim (rest_of_two A i j g l lj k) [ inl x ↦ inl x | inr x ↦ inr (in_mapped (vector_difference a) rest g x) ];
+      each = λ h k. let o = in_map (vector_difference a) rest h k in (o.0, (of_rest_of_two A i j o.0 l lj o.1.0, o.1.1));
+      every = λ g k. elim (rest_of_two A i j g l lj k) [ inl x ↦ inl x | inr x ↦ inr (map_in (vector_difference a) rest g x) ];
     }
 
 -- ---- fans

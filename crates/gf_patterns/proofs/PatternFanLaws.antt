@@ -7,18 +7,19 @@ use Rattle.gf_gordan.specs.Alternative.{AreRows, GordansAlternative}
 use Rattle.gf_duality.specs.Faces.{Rows, IsInCone, IsFaceOf, part}
 use Rattle.gf_duality.proofs.ListLaws.{none_in, in_head, in_tail, in_cons, all_by}
 use Rattle.gf_fans.specs.Fans.{MeetInFaces}
-use Rattle.gf_fans.proofs.FanLaws.{is_in, own_face}
+use Rattle.gf_fans.proofs.FanLaws.{is_in, own_face, same_turned}
 use Rattle.gf_patterns.specs.Refinements.{HaveEntries}
 use Rattle.gf_patterns.specs.Interiors.{HaveInteriors}
 use Rattle.gf_patterns.specs.Patterns.{IsOnPrevariety, IsAnywhere}
 use Rattle.gf_patterns.specs.PatternRows.{vector_difference, point_at, single_rows, pair_rows, AreSingleCones, ArePairCones}
 use Rattle.gf_patterns.specs.PatternFans.{whole_space, IsFanOfPatterns, IsPrevarietyList, IsMinkowskiList}
-use Rattle.gf_patterns.proofs.MeetLaws.{meets_self, same_sym}
+use Rattle.gf_patterns.proofs.MeetLaws.{meets_self}
 use Rattle.gf_patterns.proofs.RefinementLaws.{fan_of}
 use Rattle.gf_patterns.proofs.InnerLaws.{inner}
 use Rattle.gf_patterns.proofs.InteriorLaws.{interior_relative, relative_same}
 use Rattle.gf_patterns.proofs.RowLaws.{IsRowsOf}
 use Rattle.gf_patterns.proofs.ConeLaws.{single_is, pair_is, singles_fan, pairs_fan, singles_minkowski, pairs_hypersurface}
+use Rattle.gf_duality.proofs.EchelonUnique.{no_widths}
 
 -- each cone of the fan has a vector of its relative interior
 pub interiors : (n : ℕ) (cones : List Rows) → GordansAlternative → HaveEntries n cones → HaveInteriors n cones
@@ -26,7 +27,7 @@ interiors n cones g w f k =
     let c : Rows = k.cone in let zs : List (List ℤ) = k.face.0 in let wc = w c k.listed in
     let wz : AreRows n zs = all_by (λ t. length t ≡ n) zs (λ t i. All-contains (λ t. length t ≡ n) c.inequalities t wc.0 (All-contains (Contains c.inequalities) zs t k.face.1.0 i)) in
     let r = inner n (part c zs) g wc.0 (All-append (λ t. length t ≡ n) c.equations zs wc.1 wz) in
-    (r.0, relative_same n (part c zs) f r.0 (same_sym n f (part c zs) k.face.1.1) (interior_relative n (part c zs) r.0 r.1))
+    (r.0, relative_same n (part c zs) f r.0 (same_turned n f (part c zs) k.face.1.1) (interior_relative n (part c zs) r.0 r.1))
 
 pub minus_long : (n : ℕ) (a g : List ℤ) → length a ≡ n → length g ≡ n → length (vector_difference a g) ≡ n
 minus_long n [] g la lg = la
@@ -38,13 +39,10 @@ minus_long (suc n) (x ∷ a) (y ∷ g) la lg = ap suc (minus_long n a g (omega (
 rows_wide : (n : ℕ) (A S : List (List ℤ)) (a : List ℤ) (c : Rows) → IsRowsOf n A S a c → AreRows n c.inequalities
 rows_wide n A S a c r = all_by (λ t. length t ≡ n) c.inequalities (λ h k. let o = r.each h k in ap length o.1.1 ∙ minus_long n a o.0 (r.wide a (r.inside a r.first)) (r.wide o.0 o.1.0))
 
-no_rows : (n : ℕ) → AreRows n []
-no_rows n = all_by (λ t. length t ≡ n) [] (λ t k. absurd (none_in t k))
-
 single_width : (n : ℕ) (A : List (List ℤ)) (cones : List Rows) → AreRows n A → AreSingleCones A cones → HaveEntries n cones
 single_width n A cones w s c k =
     let p = s.each c k in
-    subst (λ z. AreRows n z.inequalities × AreRows n z.equations) (sym p.1.1) (rows_wide n A (point_at A p.0 ∷ []) (point_at A p.0) (single_rows A p.0) (single_is n A p.0 w p.1.0), no_rows n)
+    subst (λ z. AreRows n z.inequalities × AreRows n z.equations) (sym p.1.1) (rows_wide n A (point_at A p.0 ∷ []) (point_at A p.0) (single_rows A p.0) (single_is n A p.0 w p.1.0), no_widths n)
 
 pair_width : (n : ℕ) (A : List (List ℤ)) (cones : List Rows) → AreRows n A → ArePairCones A cones → HaveEntries n cones
 pair_width n A cones w s c k =
@@ -72,7 +70,7 @@ whole_list Admitted n ad =
     let only : (c : Rows) → Contains (whole_space ∷ []) c → c ≡ whole_space = λ c k. elim (in_cons whole_space [] c k) [ inl e ↦ e | inr i ↦ absurd (none_in c i) ] in
     let all_in : (x : List ℤ) → IsInCone whole_space x = λ x. is_in whole_space x (λ h k. absurd (none_in h k)) (λ h k. absurd (none_in h k)) in
     record {
-      width = λ c k. subst (λ z. AreRows n z.inequalities × AreRows n z.equations) (sym (only c k)) (no_rows n, no_rows n);
+      width = λ c k. subst (λ z. AreRows n z.inequalities × AreRows n z.equations) (sym (only c k)) (no_widths n, no_widths n);
       fan = fan_of n (whole_space ∷ []) (λ c d k l. subst (λ z. MeetInFaces n z d) (sym (only c k)) (subst (λ z. MeetInFaces n whole_space z) (sym (only d l)) (meets_self n whole_space)));
       patterns = record {
         each = λ f k.

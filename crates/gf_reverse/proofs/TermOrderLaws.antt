@@ -2,7 +2,7 @@
 -- Gröbner basis for it, and a positive weight gives that basis.
 -- To cite: term_order_exists, term_orders_have_bases. The rest are steps.
 -- Source: Sturmfels, Gröbner Bases and Convex Polytopes, 1 (a weight in place of an order).
-use Rattle.std.specs.Prelude.{◌≡◌, ◌⊎◌, ℕ, Bool, zero, suc, ◌+◌, ◌<◌, ◌≤◌, true, List, [], ◌∷◌, ◌++◌, map, length, replicate, unsigned_abs, All, ℤ, pos, negsuc, ◌+ℤ◌, ◌-ℤ◌, ◌*ℤ◌, ◌<ℤ◌, ◌≤ℤ◌}
+use Rattle.std.specs.Prelude.{◌≡◌, ◌⊎◌, ℕ, zero, suc, ◌+◌, ◌<◌, ◌≤◌, true, List, [], ◌∷◌, ◌++◌, map, length, unsigned_abs, ℤ, pos, negsuc, ◌+ℤ◌, ◌-ℤ◌, ◌*ℤ◌, ◌<ℤ◌, ◌≤ℤ◌}
 use Rattle.std.specs.List.{AllByRecursion}
 use Rattle.std.proofs.Common.{arith, refl, sym, ap, ap₂, ◌∙◌, subst, inl, inr}
 use Rattle.std.proofs.lemmas.Bool.{cases_eq}
@@ -13,11 +13,11 @@ use Rattle.gf_int.proofs.RingLaws.{dv, dn, ◌⊕◌, ◌⊖◌, ◌⊗◌, same
 use Rattle.gf_vec.specs.Vector.{dot, entry_at, vector_sum, zeros, combined, SomePositive}
 use Rattle.gf_vec.proofs.VectorLaws.{length-times, length-combined}
 use Rattle.gf_vec.proofs.EntryLaws.{entry_times, entry_plus}
-use Rattle.gf_gordan.specs.Alternative.{AreRows, IsSolution, IsFarkas, IsSolvable, IsRefutable}
+use Rattle.gf_gordan.specs.Alternative.{IsSolvable, IsRefutable}
 use Rattle.gf_gordan.proofs.ExistenceLaws.{alternative}
-use Rattle.gf_exponents.specs.Exponents.{Exponents, entry, same, plus, weight, whole_weight, IsInRing}
+use Rattle.gf_exponents.specs.Exponents.{Exponents, entry, same, plus, whole_weight}
 use Rattle.gf_exponents.specs.Orders.{IsMonomialOrder, IsTermOrder, lighter, gains}
-use Rattle.gf_exponents.proofs.ExponentsLaws.{plus-nil, plus_comm, same_trans, same_flip, same_shift, same_shift_right, entry-plus, same_by_entries, entries_same}
+use Rattle.gf_exponents.proofs.ExponentsLaws.{plus_comm, same_trans, same_flip, same_shift, same_shift_right, entry-plus, same_by_entries, entries_same}
 use Rattle.gf_poly.specs.Polynomial.{Terms}
 use Rattle.gf_poly.specs.Marking.{MarkedPolynomial}
 use Rattle.gf_ideal.specs.Membership.{AreInVariables}

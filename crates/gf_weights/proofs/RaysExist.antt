@@ -12,7 +12,7 @@ use Rattle.std.proofs.lemmas.List.Elements.{All-nil, All-contains, Contains-appe
 use Rattle.gf_int.specs.Content.{IsPrimitive, scaled}
 use Rattle.gf_int.proofs.ContentLaws.{IsPrimitive-one}
 use Rattle.gf_int.proofs.RingLaws.{dv}
-use Rattle.gf_int.proofs.SignLaws.{sign_of, negative, none, positive}
+use Rattle.gf_int.proofs.SignLaws.{sign_of, negative, none, positive, zero_or_not}
 use Rattle.gf_vec.specs.Vector.{dot, zeros}
 use Rattle.gf_vec.specs.Primitive.{IsPrimitivePart}
 use Rattle.gf_vec.proofs.DividedLaws.{IsContent-unit}
@@ -30,7 +30,6 @@ use Rattle.gf_duality.proofs.Made.{Made-into}
 use Rattle.gf_duality.proofs.Equations.{in_map, map_in, units_width}
 use Rattle.gf_duality.proofs.Orthogonal.{basis}
 use Rattle.gf_duality.proofs.Taking.{ZeroWhere}
-use Rattle.gf_duality.proofs.FacetRows.{zero_or_not}
 use Rattle.gf_duality.proofs.Described.{multiple_of, split_step, pruned}
 use Rattle.gf_duality.proofs.Thinning.{same_rays}
 use Rattle.gf_duality.proofs.Finishing.{finish}

@@ -6,7 +6,6 @@ use Rattle.gf_vec.specs.Vector.{dot}
 use Rattle.gf_poly.specs.Marking.{MarkedPolynomial}
 use Rattle.gf_duality.specs.Faces.{sum_of}
 use Rattle.gf_duality.specs.Rays.{IsRays}
-use Rattle.gf_duality.proofs.FacetRows.{zero_or_not}
 use Rattle.gf_rays.specs.Cones.{RowsAndRays}
 use Rattle.gf_rays.specs.Parts.{zeros_of}
 use Rattle.gf_facets.specs.Systems.{units}
@@ -23,6 +22,7 @@ use Rattle.gf_weights.proofs.CutLaws.{weight_is, witness_is}
 use Rattle.gf_weights.proofs.CrossLaws.{crossing_of_rays, not_crossing}
 use Rattle.gf_weights.proofs.FacetLoop.{facets_none, facets_passed, facets_next, facets_all}
 use Rattle.gf_weights.proofs.RaysExist.{normals_exist, rays_exist}
+use Rattle.gf_int.proofs.SignLaws.{zero_or_not}
 
 -- ---- which rows are zero on all rays on which another is
 
