@@ -1,6 +1,6 @@
 -- The theorems of specs/Laws.antt.
 use Rattle.gf_gordan.specs.Alternative.{GordansAlternative}
-use Rattle.gf_patterns.specs.Laws.{MeetsAreRefinements, ConesHaveInteriors, FacesAreOfCones, MaximalConesSuffice, PatternsAreOfInitialForms, PatternsHaveCones, PatternsAreRefined, VectorsAreInOneCone}
+use Rattle.gf_patterns.specs.Laws.{MeetsAreRefinements, ConesHaveInteriors, FacesOfFacesAreFaces, MaximalConesSuffice, PatternsAreOfInitialForms, PatternsHaveCones, PatternsAreRefined, VectorsAreInOneCone}
 use Rattle.gf_patterns.specs.Patterns.{IsAnywhere, IsOnPrevariety}
 use Rattle.gf_patterns.proofs.RefinementLaws.{meets_fan, meets_width, meets_refine}
 use Rattle.gf_patterns.proofs.InnerLaws.{inner}
@@ -21,7 +21,7 @@ cones_have_interiors g = record {
   faces = λ n cones w. interiors n cones g w;
 }
 
-pub faces_are_of_cones : FacesAreOfCones
+pub faces_are_of_cones : FacesOfFacesAreFaces
 faces_are_of_cones = record { same = face_of_same; nested = face_of_face }
 
 pub maximal_cones_suffice : GordansAlternative → MaximalConesSuffice

@@ -26,7 +26,7 @@ pub record ConesHaveInteriors : Type 0 where
   pub faces : (n : ℕ) (cones : List Rows) → HaveEntries n cones → HaveInteriors n cones
 
 -- the faces of a cone don't depend on its rows, and a face of a face is a face
-pub record FacesAreOfCones : Type 0 where
+pub record FacesOfFacesAreFaces : Type 0 where
   pub same : (n : ℕ) (c d f : Rows) (w : List ℤ) → SameCone n c d → IsRelativeInterior n f w → IsFaceOf n f c → IsFaceOf n f d
   pub nested : (n : ℕ) (c d f : Rows) (w : List ℤ) → IsRelativeInterior n f w → IsFaceOf n d c → IsFaceOf n f d → IsFaceOf n f c
 

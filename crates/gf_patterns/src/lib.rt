@@ -5,7 +5,7 @@
 //! each one's contract is a theorem, so that the check proves it.
 #![tactic(auto)]
 
-ghost use Rattle.gf_patterns.specs.Laws.{MeetsAreRefinements, ConesHaveInteriors, FacesAreOfCones, MaximalConesSuffice, PatternsAreOfInitialForms, PatternsHaveCones, PatternsAreRefined, VectorsAreInOneCone};
+ghost use Rattle.gf_patterns.specs.Laws.{MeetsAreRefinements, ConesHaveInteriors, FacesOfFacesAreFaces, MaximalConesSuffice, PatternsAreOfInitialForms, PatternsHaveCones, PatternsAreRefined, VectorsAreInOneCone};
 
 use gf_gordan::gordans_alternative;
 
@@ -24,7 +24,7 @@ pub fn cones_have_interiors()
 
 /// The faces of a cone don't depend on the rows by which it is given, and faces of faces are faces.
 pub fn faces_are_of_cones()
-    ensures { FacesAreOfCones }
+    ensures { FacesOfFacesAreFaces }
 {}
 
 /// Cones, and those of them that hold the others, have the same faces; of what cones a fan has nothing more is needed.
