@@ -1,9 +1,10 @@
 -- What the contents of a text say of its file; a text says one file at most, and a sound one is refused for its numbers alone.
 -- To cite: dimension_within, file_within, file_of_contents, text_refused, missing_ambient, missing_rays, missing_lineality, missing_cones,
--- sections_once, file_once, behind_holds, length_sound, none_missing, refused_sound. The rest are steps.
+-- sections_once, file_once, behind_holds, length_sound, none_missing, sound_refused, refused_sound. The rest are steps.
 use Rattle.std.proofs.Common.{◌≡◌, ◌⊎◌, ℕ, ◌≤◌, ◌<◌, Bool, true, false, List, [], ◌∷◌, ◌++◌, length, Option, None, Some, refl, sym, ap, ap₂, subst, ◌∙◌, inl, inr, bytes_eq, arith, All, Contains, IfSome, if◌then◌else◌, ℤ}
 use Rattle.gf_text.specs.Machine.{texts}
 use Rattle.gf_text.proofs.SetTokensLaws.{is_mark, le_from}
+use Rattle.gf_gordan.specs.declared.error.ConeOverflow.{ConeOverflow}
 use Rattle.gf_fanfile.specs.declared.error.FanFileError.{FanFileError}
 use Rattle.gf_fanfile.specs.declared.error.FanFileError.TheVariants as errors
 use Rattle.gf_text.specs.declared.error.Section.TheVariants as names
@@ -13,7 +14,7 @@ use Rattle.gf_fanfile.specs.Lines.{Section, sections, content_tokens, end_before
 use Rattle.gf_fanfile.specs.FanText.{ContentKind, number_to, Content, the_number, the_rows, IsContentText, kind_in, Named, fan_table, text_read, AreHeld, found, wanted, first_missing, ambient_dim, rays_name, lineality_space, maximal_cones}
 use Rattle.gf_fanfile.specs.Found.{IsRefusedSo}
 use Rattle.gf_fanfile.specs.Contents.{Says, number_kept, rows_kept, cones_kept}
-use Rattle.gf_fanfile.specs.Files.{AreSectionsOf, IsFileOf, IsOutside, AreBelow, IsSoundFile, AreTestsWithin, IsBehind, IsLengthFault, IsFormFault, zero_dimension, at_rays, at_lineality, at_ray, at_number, IsFileRefused, in_text, not_there, in_form, no_memory}
+use Rattle.gf_fanfile.specs.Files.{AreSectionsOf, IsFileOf, IsOutside, AreBelow, IsSoundFile, IsTestStep, AreTestsWithin, IsBehind, IsLengthFault, IsFormFault, zero_dimension, at_rays, at_lineality, at_ray, at_number, IsFileRefused, in_text, not_there, in_form, no_memory}
 use Rattle.gf_fanfile.proofs.FanTextLaws.{text_said, text_given, text_fault, text_sound}
 
 -- ---- the ambient dimension is at most 16
@@ -148,29 +149,37 @@ behind_in Q xs i x b = (i, b.within, b.here x)
 pub length_sound : (n : ℕ) (rs : List (List ℤ)) (e : FanFileError) → All (λ t. length t ≡ n) rs → IsLengthFault n rs e → ⊥
 length_sound n rs e all h = h.other (behind_holds (λ t. length t ≡ n) (λ t. length t ≡ n) rs h.place h.row h.first all)
 
-form_sound : (f : FanFile) (e : FanFileError) → IsSoundFile f → AreTestsWithin f → IsFormFault f e → ⊥
-form_sound f e s within (zero_dimension z is) = (let p = s.positive in omega (arith, z, p))
-form_sound f e s within (at_rays p h) = length_sound f.ambient f.rays e s.rays h
-form_sound f e s within (at_lineality p r h) = length_sound f.ambient f.lineality e s.lineality h
-form_sound f e s within (at_ray p r l h) = elim h.refused [
-  | inl g ↦ behind_holds (IsOutside f.ambient f.lineality) (IsOutside f.ambient f.lineality) f.rays h.place h.ray h.first s.outside g.0
-  | inr g ↦ within h.ray g.0 (behind_in (IsOutside f.ambient f.lineality) f.rays h.place h.ray h.first) g.1
+-- a sound file is refused only for an operation of the test of one of its rays
+form_sound : (f : FanFile) (e : FanFileError) → IsSoundFile f → IsFormFault f e → (s : ConeOverflow) × (IsTestStep f s × (e ≡ errors.Cone s))
+form_sound f e s (zero_dimension z is) = absurd (let p = s.positive in omega (arith, z, p))
+form_sound f e s (at_rays p h) = absurd (length_sound f.ambient f.rays e s.rays h)
+form_sound f e s (at_lineality p r h) = absurd (length_sound f.ambient f.lineality e s.lineality h)
+form_sound f e s (at_ray p r l h) = elim h.refused [
+  | inl g ↦ absurd (behind_holds (IsOutside f.ambient f.lineality) (IsOutside f.ambient f.lineality) f.rays h.place h.ray h.first s.outside g.0)
+  | inr g ↦ (g.0, ((h.ray, (behind_in (IsOutside f.ambient f.lineality) f.rays h.place h.ray h.first, g.1)), g.2))
 ]
-form_sound f e s within (at_number p r l o h) =
+form_sound f e s (at_number p r l o h) =
     let count = length f.rays in
     let below = behind_holds (AreBelow count) (AreBelow count) f.cones h.place h.cone h.first s.below in
     let small : h.number < count = behind_holds (λ k. k < count) (λ k. k < count) h.cone h.within h.number h.first_within below in
     let above = h.above in
-    omega (arith, small, above)
+    absurd (omega (arith, small, above))
 
 pub none_missing : (source : List ℕ) (f : FanFile) (h : IsFileOf source f) → first_missing wanted h.all ≡ None
 none_missing source f h = (let a = h.ambient in let r = h.rays in let l = h.lineality in let m = h.cones in rw (a, r, l, m) refl)
 
-pub refused_sound : (source : List ℕ) (f : FanFile) (e : FanFileError) → IsFileOf source f → IsSoundFile f → AreTestsWithin f → IsFileRefused source e → e ≡ errors.Memory
-refused_sound source f e h s within (in_text fault) = absurd (text_sound fan_table source h.all e h.held fault)
-refused_sound source f e h s within (not_there all section held missing is) =
+-- and a text that says it for memory alone, or for such an operation
+pub sound_refused : (source : List ℕ) (f : FanFile) (e : FanFileError) → IsFileOf source f → IsSoundFile f → IsFileRefused source e → (e ≡ errors.Memory) ⊎ ((s : ConeOverflow) × (IsTestStep f s × (e ≡ errors.Cone s)))
+sound_refused source f e h s (in_text fault) = absurd (text_sound fan_table source h.all e h.held fault)
+sound_refused source f e h s (not_there all section held missing is) =
     let same : first_missing wanted all ≡ first_missing wanted h.all = ap (first_missing wanted) (sections_once source all h.all held h.held) in
     let none = none_missing source f h in
     absurd (cc)
-refused_sound source f e h s within (in_form g k fault) = absurd (form_sound f e s within (subst (λ q. IsFormFault q e) (file_once source f g h k) fault))
-refused_sound source f e h s within (no_memory is) = is
+sound_refused source f e h s (in_form g k fault) = inr (form_sound f e s (subst (λ q. IsFormFault q e) (file_once source f g h k) fault))
+sound_refused source f e h s (no_memory is) = inl is
+
+pub refused_sound : (source : List ℕ) (f : FanFile) (e : FanFileError) → IsFileOf source f → IsSoundFile f → AreTestsWithin f → IsFileRefused source e → e ≡ errors.Memory
+refused_sound source f e h s within r = elim (sound_refused source f e h s r) [
+  | inl m ↦ m
+  | inr t ↦ absurd (within t.1.0.0 t.0 t.1.0.1.0 t.1.0.1.1)
+]

@@ -22,3 +22,4 @@ pub mod GeneratedLaws  -- Farkas' lemma; the dual cone of the dual cone
 pub mod FilesFansLaws  -- the cones of a file, and why they have no fan
 pub mod WrittenFansLaws  -- what is written of a fan is a file whose cones can be built
 pub mod FanOnceLaws  -- a fan file is refused in one way, but for limits
+pub mod ReadAgainLaws  -- what is written of a fan is read as that fan

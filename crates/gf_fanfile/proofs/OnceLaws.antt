@@ -18,7 +18,7 @@ use Rattle.gf_fanfile.specs.NumberText.{IsOneNumberText}
 use Rattle.gf_fanfile.specs.FanText.{ContentKind, number_to, rows, cones, any, kind_in, Table, fan_table, IsFaultOf, IsContentFault, IsFirstFault, wanted, first_missing}
 use Rattle.gf_fanfile.specs.Files.{IsFileOf, section_name, IsOutside, AreBelow, IsSoundFile, IsBehind, IsLengthFault, IsRayFault, IsNumberFault, IsFormFault, zero_dimension, at_rays, at_lineality, at_ray, at_number, IsFileRefused, in_text, not_there, in_form, no_memory, IsOfLimits}
 use Rattle.gf_fanfile.proofs.FanTextLaws.{content_sound, text_sound}
-use Rattle.gf_fanfile.proofs.FilesLaws.{sections_once, file_once, behind_holds, length_sound, none_missing}
+use Rattle.gf_fanfile.proofs.FilesLaws.{sections_once, file_once, behind_holds, length_sound, none_missing, sound_refused}
 
 -- ---- the first fault of the text
 
@@ -125,15 +125,6 @@ form_once f e d told (at_number p s m u h) (at_lineality q r g) = absurd (length
 form_once f e d told (at_number p s m u h) (at_ray q r l g) = inr (ray_refutes f.ambient f.lineality f.rays d u g)
 form_once f e d told (at_number p s m u h) (at_number q r l o g) = inl (number_once (length f.rays) f.cones e d h g)
 
--- a file that is refused, but for limits, isn't sound
-form_unsound : (f : FanFile) (e : FanFileError) → (IsOfLimits e → ⊥) → IsSoundFile f → IsFormFault f e → ⊥
-form_unsound f e told s (zero_dimension z is) = (let p = s.positive in omega (arith, z, p))
-form_unsound f e told s (at_rays p h) = length_sound f.ambient f.rays e s.rays h
-form_unsound f e told s (at_lineality p r h) = length_sound f.ambient f.lineality e s.lineality h
-form_unsound f e told s (at_ray p r l h) = told (ray_refutes f.ambient f.lineality f.rays e s.outside h)
-form_unsound f e told s (at_number p r l o h) =
-    below_refutes (length f.rays) h.cone h.within h.number h.first_within h.above (behind_holds (AreBelow (length f.rays)) (AreBelow (length f.rays)) f.cones h.place h.cone h.first s.below)
-
 -- ---- texts
 
 -- names of sections are different
@@ -179,10 +170,7 @@ refused_once source e d told (in_form f said h) (in_form g read k) = form_once f
 
 -- a text that is refused, but for limits, says no sound file
 pub refused_unsound : (source : List ℕ) (f : FanFile) (e : FanFileError) → (IsOfLimits e → ⊥) → IsFileOf source f → IsSoundFile f → IsFileRefused source e → ⊥
-refused_unsound source f e told h s (in_text fault) = text_sound fan_table source h.all e h.held fault
-refused_unsound source f e told h s (not_there all section held missing is) =
-    let same : first_missing wanted all ≡ first_missing wanted h.all = ap (first_missing wanted) (sections_once source all h.all held h.held) in
-    let none = none_missing source f h in
-    cc
-refused_unsound source f e told h s (in_form g k fault) = form_unsound f e told s (subst (λ q. IsFormFault q e) (file_once source f g h k) fault)
-refused_unsound source f e told h s (no_memory is) = told (subst IsOfLimits (sym is) tt)
+refused_unsound source f e told h s r = elim (sound_refused source f e h s r) [
+  | inl m ↦ told (subst IsOfLimits (sym m) tt)
+  | inr t ↦ told (subst IsOfLimits (sym t.1.1) tt)
+]

@@ -1,5 +1,5 @@
 -- What is written of a fan is a file whose cones can be built, and is within the limits of fan files.
--- To cite: written_fans_are_sound, written_cones_are_read, cones_writable, fan_orthogonal, writable_along, fan_writable. The rest are steps.
+-- To cite: written_fans_are_sound, written_cones_are_read, cones_writable, fan_ray_rows, fan_lineality, fan_orthogonal, writable_along, fan_writable. The rest are steps.
 use Rattle.std.proofs.Common.{◌≡◌, ℕ, zero, suc, ◌<◌, ◌≤◌, List, [], ◌∷◌, ◌++◌, length, map, get_or, slice_get, remove, Option, None, Some, All, Contains, ℤ, refl, sym, ap, ◌∙◌, subst, inl, inr, arith}
 use Rattle.std.specs.List.{AllZip}
 use Rattle.std.proofs.lemmas.List.{get_or_default, length-map}
@@ -44,16 +44,16 @@ lineality_rows : (n : ℕ) (given : List RowsAndRays) (lin : List (List ℤ)) �
 lineality_rows n [] lin h c = subst (AreRows n) (sym (c.none refl)) (no_widths n)
 lineality_rows n (x ∷ given) lin h c = subst (AreRows n) (c.each x (in_head x given)) (h x (in_head x given)).lin_width
 
-module _ (n : ℕ) (given : List RowsAndRays) (f : FanLists) (h : HaveTheirRays n given) (s : IsFanOf n given f) where
+module _ (n : ℕ) (given : List RowsAndRays) (f : FanLists) (s : IsFanOf n given f) where
   fan_rays : AreRows n f.rays
   fan_rays = all_by (λ (t : List ℤ). length t ≡ n) f.rays (λ r k. (
       let c = s.rays.each r k in
-      All-contains (λ (t : List ℤ). length t ≡ n) c.0.rays r (h c.0 c.1.0).rays_width c.1.1))
+      All-contains (λ (t : List ℤ). length t ≡ n) c.0.rays r (s.own c.0 c.1.0).rays_width c.1.1))
 
   fan_outside : All (IsOutside n f.lineality) f.rays
   fan_outside = all_by (IsOutside n f.lineality) f.rays (λ r k. (
       let c = s.rays.each r k in
-      subst (λ l. IsOutside n l r) (s.lineality.each c.0 c.1.0) (ray_outside n c.0.inequalities c.0.equations c.0.lineality c.0.rays r (h c.0 c.1.0) c.1.1)))
+      subst (λ l. IsOutside n l r) (s.lineality.each c.0 c.1.0) (ray_outside n c.0.inequalities c.0.equations c.0.lineality c.0.rays r (s.own c.0 c.1.0) c.1.1)))
 
 -- the cone of these rays of a fan
 abbrev IsGenerated : ℕ → FanLists → List ℕ → RowsAndRays → Type 0
@@ -81,13 +81,13 @@ numbers_below n given f s = all_by (AreBelow (length f.rays)) (file_of (parts_of
     subst (AreBelow (length f.rays)) same (s.cones.each k.0 k.1.0).face.listed.inside)
 
 pub written_fans_are_sound : WrittenFansAreSound
-written_fans_are_sound = λ n given f p h s.
+written_fans_are_sound = λ n given f p s.
     let m = sym s.ambient in
     record {
       positive = subst (λ k. 0 < k) m p;
-      rays = subst (λ k. AreRows k f.rays) m (fan_rays n given f h s);
-      lineality = subst (λ k. AreRows k f.lineality) m (lineality_rows n given f.lineality h s.lineality);
-      outside = subst (λ k. All (IsOutside k f.lineality) f.rays) m (fan_outside n given f h s);
+      rays = subst (λ k. AreRows k f.rays) m (fan_rays n given f s);
+      lineality = subst (λ k. AreRows k f.lineality) m (lineality_rows n given f.lineality s.own s.lineality);
+      outside = subst (λ k. All (IsOutside k f.lineality) f.rays) m (fan_outside n given f s);
       below = numbers_below n given f s;
     }
 
@@ -140,6 +140,12 @@ listed_writable : (cones : List FanCone) (places : List ℕ) → All IsWritableC
 listed_writable cones places h = all_by IsWritableCone (listed_at cones places) (λ c k.
     let m = of_places cones places c k in
     subst IsWritableCone m.1.1 (All-contains IsWritableCone (listed_cones cones) (listed_cone m.0) h (in_map (λ (x : FanCone). listed_cone x) cones m.0 m.1.0)))
+
+pub fan_ray_rows : (f : FanLists) (n : ℕ) (rows : List (List ℤ)) → IsFan f → n ≡ f.ambient → rows ≡ f.rays → AreRows n rows
+fan_ray_rows f n rows h e q = subst (λ m. AreRows m rows) (sym e) (subst (AreRows f.ambient) (sym q) (fan_rays f.ambient h.0 f h.1))
+
+pub fan_lineality : (f : FanLists) (n : ℕ) (rows : List (List ℤ)) → IsFan f → n ≡ f.ambient → rows ≡ f.lineality → AreRows n rows
+fan_lineality f n rows h e q = subst (λ m. AreRows m rows) (sym e) (subst (AreRows f.ambient) (sym q) (lineality_rows f.ambient h.0 f.lineality h.1.own h.1.lineality))
 
 pub fan_orthogonal : (f : FanLists) (n : ℕ) (rows : List (List ℤ)) → IsFan f → n ≡ f.ambient → rows ≡ f.orthogonal → AreRows n rows
 fan_orthogonal f n rows h e q = subst (λ m. AreRows m rows) (sym e) (subst (AreRows f.ambient) (sym q) h.1.orthogonal.width)

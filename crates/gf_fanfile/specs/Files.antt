@@ -61,6 +61,10 @@ pub record IsSoundFile (f : FanFile) : Type 0 where
 abbrev pub IsRayTestStep : ℕ → List (List ℤ) → List ℤ → ConeOverflow → Type 0
 IsRayTestStep n lineality r step = IsStepOn (length (r ∷ []) + length lineality) n (r ∷ []) lineality step
 
+-- an operation of the test of one of its rays leaves the range
+abbrev pub IsTestStep : FanFile → ConeOverflow → Type 0
+IsTestStep f step = (r : List ℤ) × (Contains f.rays r × IsRayTestStep f.ambient f.lineality r step)
+
 -- no operation of the tests of its rays leaves the range
 abbrev pub AreTestsWithin : FanFile → Type 0
 AreTestsWithin f = (r : List ℤ) (step : ConeOverflow) → Contains f.rays r → IsRayTestStep f.ambient f.lineality r step → ⊥

@@ -2,7 +2,7 @@
 -- A cone of a file is what the rays with its numbers and the lineality space generate. Its rows are the rays and the lineality
 -- basis of the dual cone, whose rows are these rays and the vectors of the lineality space.
 -- Laws: proofs/GeneratedLaws.antt, proofs/FilesFansLaws.antt.
-use Rattle.std.specs.Prelude.{◌≡◌, ◌↔◌, ℕ, List, ℤ, length, Contains}
+use Rattle.std.specs.Prelude.{◌≡◌, ◌↔◌, ◌⊎◌, ℕ, List, ℤ, length, Contains}
 use Rattle.std.specs.List.{AllZip}
 use Rattle.gf_gordan.specs.declared.error.ConeOverflow.{ConeOverflow}
 use Rattle.gf_gordan.specs.declared.error.GordanError.{GordanError}
@@ -17,11 +17,11 @@ use Rattle.gf_fan.specs.declared.error.FanError.TheVariants as fan_errors
 use Rattle.gf_fan.specs.FanLists.{FanLists}
 use Rattle.gf_fan.specs.FansOfCones.{IsFanOf}
 use Rattle.gf_fan.specs.Pairs.{AreMeeting}
-use Rattle.gf_fan.specs.Refusals.{IsFanRefusal, IsFanWithinLimits}
+use Rattle.gf_fan.specs.Refusals.{IsFanStep, IsFanRefusal, IsFanWithinLimits}
 use Rattle.gf_fanfile.specs.declared.error.FanFileError.{FanFileError}
 use Rattle.gf_fanfile.specs.declared.error.FanFileError.TheVariants as errors
 use Rattle.gf_fanfile.specs.declared.file.FanFile.{FanFile}
-use Rattle.gf_fanfile.specs.Files.{IsFileOf, IsSoundFile, AreTestsWithin, IsFileRefused}
+use Rattle.gf_fanfile.specs.Files.{IsFileOf, IsSoundFile, IsTestStep, AreTestsWithin, IsFileRefused}
 
 -- ---- the fan
 
@@ -66,6 +66,12 @@ pub record IsConesStep (f : FanFile) (s : ConeOverflow) : Type 0 where
   pub listed : Contains f.cones numbers
   pub step : IsGeneratingStep f.ambient (numbered f.rays numbers) f.lineality s
 
+-- an operation on this file: of the test of one of its rays, of finding one of its cones, or of making their fan
+pub data IsFileStep (f : FanFile) (s : ConeOverflow) : Type 0 where
+  testing : IsTestStep f s → IsFileStep f s
+  finding : IsConesStep f s → IsFileStep f s
+  making : (cones : List RowsAndRays) → AreConesOfFile f cones → IsFanStep f.ambient cones s → IsFileStep f s
+
 -- No operation on this file leaves the range: of the tests of its rays, of finding its cones, of making their fan.
 pub record IsFileWithinLimits (f : FanFile) : Type 0 where
   pub tests : AreTestsWithin f
@@ -88,6 +94,10 @@ abbrev pub refusal_of_fan : FanError → FanFileError
 refusal_of_fan (fan_errors.Cone s) = errors.Cone s
 refusal_of_fan (fan_errors.NotAFan first second) = errors.NotAFan first second
 refusal_of_fan fan_errors.Memory = errors.Memory
+
+-- it says that memory is wanting, or that such an operation on the file leaves the range
+abbrev pub IsFileLimit : FanFile → FanFileError → Type 0
+IsFileLimit f e = (e ≡ errors.Memory) ⊎ ((s : ConeOverflow) × (IsFileStep f s × (e ≡ errors.Cone s)))
 
 -- the fan of the cones of this file is refused so: an operation of finding its cones leaves the range, or they are found and this is
 -- why they have no fan

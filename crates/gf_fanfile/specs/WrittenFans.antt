@@ -1,21 +1,24 @@
--- The text of a fan says a file whose cones can be built, and they are the cones that were written.
--- Laws: proofs/WrittenFansLaws.antt.
+-- The text of a fan says a file whose cones can be built, and they are the cones that were written; so it is read as the fan that was
+-- written.
+-- Laws: proofs/WrittenFansLaws.antt, proofs/ReadAgainLaws.antt.
 use Rattle.std.specs.Prelude.{◌≡◌, ◌<◌, ℕ, List, Some, slice_get}
 use Rattle.std.specs.List.{AllZip}
 use Rattle.gf_duality.specs.Faces.{SameCone}
 use Rattle.gf_rays.specs.Cones.{RowsAndRays, rows_of}
 use Rattle.gf_fan.specs.declared.cones.FanCone.{FanCone}
 use Rattle.gf_fan.specs.FanLists.{FanLists}
-use Rattle.gf_fan.specs.Parts.{HaveTheirRays}
-use Rattle.gf_fan.specs.FansOfCones.{IsFanOf}
+use Rattle.gf_fan.specs.FansOfCones.{IsFanOf, IsFan}
+use Rattle.gf_fan.specs.SameCones.{HaveSameCones}
+use Rattle.gf_fanfile.specs.declared.error.FanFileError.{FanFileError}
 use Rattle.gf_fanfile.specs.Files.{IsSoundFile}
-use Rattle.gf_fanfile.specs.FansAgain.{file_of}
+use Rattle.gf_fanfile.specs.FanWords.{fan_text}
+use Rattle.gf_fanfile.specs.FansAgain.{IsWritable, file_of}
 use Rattle.gf_fanfile.specs.FanTexts.{parts_of_fan}
-use Rattle.gf_fanfile.specs.FilesFans.{AreConesOfFile}
+use Rattle.gf_fanfile.specs.FilesFans.{AreConesOfFile, AreFileConesMeeting, IsFileLimit, IsFanFileRefusal, IsFanOfText}
 
 -- what is written of a fan is a file whose cones can be built: its rays lie outside its lineality space, and numbers are those of rays
 abbrev pub WrittenFansAreSound : Type 0
-WrittenFansAreSound = (n : ℕ) (given : List RowsAndRays) (f : FanLists) → 0 < n → HaveTheirRays n given → IsFanOf n given f → IsSoundFile (file_of (parts_of_fan f))
+WrittenFansAreSound = (n : ℕ) (given : List RowsAndRays) (f : FanLists) → 0 < n → IsFanOf n given f → IsSoundFile (file_of (parts_of_fan f))
 
 -- c is the cone at this place
 pub record IsConeAt (n : ℕ) (cones : List FanCone) (i : ℕ) (c : RowsAndRays) : Type 0 where
@@ -26,3 +29,11 @@ pub record IsConeAt (n : ℕ) (cones : List FanCone) (i : ℕ) (c : RowsAndRays)
 -- the cones of that file are the maximal cones that were written, in their order
 abbrev pub WrittenConesAreRead : Type 0
 WrittenConesAreRead = (n : ℕ) (given cones : List RowsAndRays) (f : FanLists) → IsFanOf n given f → AreConesOfFile (file_of (parts_of_fan f)) cones → AllZip (IsConeAt n f.cones) f.maximal cones
+
+-- these cones meet in faces; the text is refused for memory alone, or for an operation on that file that leaves the range; a fan that
+-- it says has the same cones as the fan that was written, each of them, and is written as the same text
+pub record WrittenFansAreRead : Type 0 where
+  pub meeting : (f : FanLists) → IsFan f → AreFileConesMeeting (file_of (parts_of_fan f))
+  pub refused : (f : FanLists) (e : FanFileError) → IsFan f → IsWritable (parts_of_fan f) → IsFanFileRefusal (fan_text (parts_of_fan f)) e → IsFileLimit (file_of (parts_of_fan f)) e
+  pub cones : (f h : FanLists) → IsFan f → IsWritable (parts_of_fan f) → IsFanOfText (fan_text (parts_of_fan f)) h → HaveSameCones f h
+  pub text : (f h : FanLists) → IsFan f → IsFan h → HaveSameCones f h → fan_text (parts_of_fan h) ≡ fan_text (parts_of_fan f)

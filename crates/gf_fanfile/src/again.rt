@@ -1,17 +1,23 @@
-//! What is written of a fan is read again. The functions here do nothing; their contracts are laws.
-ghost use Rattle.std.specs.Prelude.{◌<◌, ◌≤◌, All, length, unsigned_abs};
+//! What is written of a fan is read again. But for the last one, the functions here do nothing; their contracts are laws.
+ghost use Rattle.std.specs.Prelude.{◌≡◌, ◌<◌, ◌≤◌, All, IfOk, IfErr, length, unsigned_abs};
 ghost use Rattle.gf_gordan.specs.Alternative.{AreRows};
+ghost use Rattle.gf_fan.specs.SameCones.{HaveSameCones};
 ghost use Rattle.gf_fanfile.specs.ConeText.{most_number};
 ghost use Rattle.gf_fanfile.specs.RowText.{most_row_entry};
 ghost use Rattle.gf_fanfile.specs.Files.{IsFileOf};
 ghost use Rattle.gf_fanfile.specs.FanWords.{fan_text};
 ghost use Rattle.gf_fanfile.specs.FansAgain.{AreWritable, IsWritableCone, AreNumbersBelow, IsWritable, file_of, FansAreReadAgain};
 ghost use Rattle.gf_fanfile.specs.FanTexts.{listed_cone, listed_cones, parts_of_fan};
-ghost use Rattle.gf_fanfile.specs.WrittenFans.{WrittenFansAreSound, WrittenConesAreRead};
+ghost use Rattle.gf_fanfile.specs.FilesFans.{IsFileLimit};
+ghost use Rattle.gf_fanfile.specs.WrittenFans.{WrittenFansAreSound, WrittenConesAreRead, WrittenFansAreRead};
 
+use crate::error::FanFileError;
+use crate::fan::read;
+use crate::fan_writer::write;
 use crate::parts::{FanParts, ListedCone};
 use gf_fan::{Fan, FanCone};
 use gf_vec::IntVec;
+use std::alloc::Global;
 
 /// What is written of a fan within the limits of fan files is read again: the ambient dimension, the rays, the basis of the
 /// lineality space, and the maximal cones.
@@ -87,7 +93,7 @@ pub fn parts_are_writable(parts: &FanParts)
     cones_are_few(parts.cones);
 }
 
-/// What is written of a fan, whose cones have the rays of their rows, is a file whose cones can be built.
+/// What is written of a fan is a file whose cones can be built.
 pub fn written_fans_are_sound()
     ensures { WrittenFansAreSound }
 {}
@@ -95,6 +101,12 @@ pub fn written_fans_are_sound()
 /// The cones of the file that a fan's text says are its maximal cones.
 pub fn written_cones_are_read()
     ensures { WrittenConesAreRead }
+{}
+
+/// The text of a fan is read as that fan: refused for memory alone or for an operation that leaves the range, it says a fan that has the
+/// same cones, each of them, and is written as the same text.
+pub fn written_fans_are_read()
+    ensures { WrittenFansAreRead }
 {}
 
 /// Numbers of 32 bits are within the limit of ray numbers.
@@ -124,13 +136,11 @@ fn fan_cones_are_writable(cones: &[FanCone])
     }
 }
 
-/// What is written of a fan is within the limits of fan files, where its ambient dimension is from 1 to 16 and its rays and its
-/// lineality vectors have as many entries; and its text says what was written of it.
+/// What is written of a fan is within the limits of fan files, where its ambient dimension is from 1 to 16; and its text says what
+/// was written of it.
 pub fn fan_is_read_again(fan: &Fan)
     requires positive { 0 < fan.now.ambient }
     requires dimension { fan.now.ambient ≤ 16 }
-    requires rays { AreRows fan.now.ambient fan.now.rays }
-    requires lineality { AreRows fan.now.ambient fan.now.lineality }
     ensures writable { IsWritable (parts_of_fan fan.now) }
     ensures file { IsFileOf (fan_text (parts_of_fan fan.now)) (file_of (parts_of_fan fan.now)) }
 {
@@ -141,4 +151,27 @@ pub fn fan_is_read_again(fan: &Fan)
     rows_are_writable(fan.ambient(), fan.orthogonal());
     vectors_are_few(fan.rays());
     vectors_are_few(fan.lineality());
+}
+
+/// The fan that is read of the text of a fan whose ambient dimension is from 1 to 16: it has the same cones, each of them, and is
+/// written as the same text.
+///
+/// # Errors
+/// - `Cone`: an operation that leaves the range, of the test of one of the rays that were written, of finding one of the cones, or of
+///   making their fan, as `read` has it;
+/// - `Memory`.
+///
+/// There is no other refusal.
+pub fn read_again(alloc: Global, fan: &Fan) -> Result<Fan, FanFileError>
+    requires positive { 0 < fan.now.ambient }
+    requires dimension { fan.now.ambient ≤ 16 }
+    ensures cones { IfOk result (HaveSameCones fan.now) }
+    ensures text { IfOk result (λ h. fan_text (parts_of_fan h) ≡ fan_text (parts_of_fan fan.now)) }
+    ensures err { IfErr result (IsFileLimit (file_of (parts_of_fan fan.now))) }
+{
+    written_fans_are_read();
+    fan_is_read_again(fan);
+    fan.cones();
+    let text = write(alloc, fan)?;
+    read(alloc, text.as_slice())
 }

@@ -73,7 +73,7 @@ impl ConeList {
 }
 
 /// Where the next token of a list stands: before the brace, in it, or behind it.
-#[derive(Clone, Copy, Debug, PartialEq, Eq)]
+#[derive(Clone, Copy)]
 pub(crate) enum ListPlace {
     Before,
     Inside,
@@ -81,7 +81,7 @@ pub(crate) enum ListPlace {
 }
 
 /// What a token does in lists of ray numbers.
-#[derive(Clone, Copy, Debug, PartialEq, Eq)]
+#[derive(Clone, Copy)]
 pub(crate) enum ConeStep {
     Go(ListPlace),
     /// It is the end of the lists.

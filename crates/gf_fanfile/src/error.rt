@@ -31,7 +31,7 @@ pub enum FanFileError {
 }
 
 /// Why a token can't be taken.
-#[derive(Clone, Copy, Debug, PartialEq, Eq)]
+#[derive(Clone, Copy)]
 pub(crate) enum Reason {
     /// It can't stand there.
     Unexpected,

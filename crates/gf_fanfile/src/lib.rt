@@ -21,8 +21,8 @@ mod sections;
 mod writer;
 
 pub use again::{
-    fan_is_read_again, fans_are_read_again, parts_are_writable, written_cones_are_read,
-    written_fans_are_sound,
+    fan_is_read_again, fans_are_read_again, parts_are_writable, read_again, written_cones_are_read,
+    written_fans_are_read, written_fans_are_sound,
 };
 pub use cones::{ConeList, RayNumbers};
 pub use duals::{duals_of_duals, farkas_lemma};

@@ -7,7 +7,7 @@ ghost use Rattle.gf_fanfile.specs.Found.{IsLineFound, IsLineWithin};
 use gf_text::word_from;
 
 /// The first line that has tokens, at a place or behind it.
-#[derive(Clone, Copy, Debug, PartialEq, Eq)]
+#[derive(Clone, Copy)]
 pub(crate) enum Line {
     /// There is none.
     Ended,

@@ -12,7 +12,7 @@ use crate::places::{Place, content_at, place_of, text_of, token_at};
 use gf_text::{Number, number_of};
 
 /// Before the number, behind it, or behind its line.
-#[derive(Clone, Copy, Debug, PartialEq, Eq)]
+#[derive(Clone, Copy)]
 pub(crate) enum NumberState {
     Unread,
     Read(u64),
@@ -20,7 +20,7 @@ pub(crate) enum NumberState {
 }
 
 /// What a token does.
-#[derive(Clone, Copy, Debug, PartialEq, Eq)]
+#[derive(Clone, Copy)]
 pub(crate) enum NumberStep {
     Go(NumberState),
     Done(u64),

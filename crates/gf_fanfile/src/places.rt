@@ -8,7 +8,7 @@ use crate::lines::{Line, line_from};
 use gf_text::word_from;
 
 /// A token of a content.
-#[derive(Clone, Copy, Debug, PartialEq, Eq)]
+#[derive(Clone, Copy)]
 pub(crate) enum Token {
     /// Bytes of a line.
     Word { start: usize, end: usize },
@@ -21,7 +21,7 @@ pub(crate) enum Token {
 }
 
 /// What is left of a content.
-#[derive(Clone, Copy, Debug, PartialEq, Eq)]
+#[derive(Clone, Copy)]
 pub(crate) enum Place {
     /// The rest of a line, from `at` to `end` without its comment, behind a `-` or something else; the next line begins at
     /// `next`.

@@ -46,7 +46,7 @@ impl Vectors {
 }
 
 /// What a token does in rows.
-#[derive(Clone, Copy, Debug, PartialEq, Eq)]
+#[derive(Clone, Copy)]
 pub(crate) enum RowStep {
     /// It is taken; whether it was a `-`.
     Go(bool),

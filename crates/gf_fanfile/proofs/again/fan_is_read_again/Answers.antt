@@ -1,7 +1,13 @@
 use Rattle.gf_fanfile.specs.FansAgain.{IsWritable}
 use Rattle.gf_fanfile.specs.FanTexts.{parts_of_fan}
-use Rattle.gf_fanfile.proofs.WrittenFansLaws.{fan_orthogonal, writable_along, fan_writable}
+use Rattle.gf_fanfile.proofs.WrittenFansLaws.{fan_ray_rows, fan_lineality, fan_orthogonal, writable_along, fan_writable}
 use Rattle.gf_fanfile.proofs.again.fan_is_read_again.Goals as goal
+
+pub rows_are_writable-requires : goal.rows_are_writable-requires
+rows_are_writable-requires c = fan_ray_rows c.args.fan.now c.ambient.result c.rays.result.now c.cones.ensures.fan c.ambient.ensures c.rays.ensures
+
+pub rows_are_writable-requires-2 : goal.rows_are_writable-requires-2
+rows_are_writable-requires-2 c = fan_lineality c.args.fan.now c.ambient-2.result c.lineality.result.now c.cones.ensures.fan c.ambient-2.ensures c.lineality.ensures
 
 pub rows_are_writable-requires-3 : goal.rows_are_writable-requires-3
 rows_are_writable-requires-3 c = fan_orthogonal c.args.fan.now c.ambient-3.result c.orthogonal.result.now c.cones.ensures.fan c.ambient-3.ensures c.orthogonal.ensures
