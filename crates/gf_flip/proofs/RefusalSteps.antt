@@ -41,8 +41,8 @@ difference_refused n bs h f g r e p q v m w d k c = at e (subst (λ (w : Terms).
     at : (e : PolyError) → IsLikeCause Sub h.poly r e → IsLiftRefusal bs h e
     at (errors.Overflow o) c = (
       IsLiftOperation.difference r c.at (subst (λ (w : Terms). IsNormalForm bs w r) p k) c.operation
-      (sym (term_coefficient n h.poly (record { coef = o.left; mono = c.at }) v m.descending c.like.left))
-      (sym (term_coefficient n r (record { coef = o.right; mono = c.at }) w d c.like.right)),
+          (sym (term_coefficient n h.poly (record { coef = o.left; mono = c.at }) v m.descending c.like.left))
+          (sym (term_coefficient n r (record { coef = o.right; mono = c.at }) w d c.like.right)),
       λ f. c.leaves (subst (λ op. Fits op o.left o.right) c.operation f),
     )
     at (errors.Exponent o) c = absurd c
