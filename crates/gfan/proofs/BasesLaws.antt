@@ -1,10 +1,11 @@
 -- How the list of `_bases` begins, goes on, ends and is refused.
 -- To cite: starts, goes_on, ends, stopped_early, stopped_tree, stopped_limit, stopped_piece, stopped_end; stopped_list, stopped_root; unnamed_basis, unnamed_tree,
 -- unnamed_full, unnamed_write, unnamed_piece, unwritten_calm, piece_calm, generators_in. The rest are steps.
-use Rattle.std.specs.Prelude.{◌≡◌, ◌⊎◌, ℕ, Bool, true, false, List, [], ◌∷◌, ◌++◌, length, Option, None, Some}
+use Rattle.std.specs.Prelude.{◌≡◌, ◌⊎◌, ℕ, zero, suc, ◌+◌, ◌<◌, Bool, true, false, List, [], ◌∷◌, ◌++◌, length, Option, None, Some}
 use Rattle.std.specs.Io.KnownBytes.{Appends}
 use Rattle.std.specs.Global.{Global}
 use Rattle.std.proofs.Common.{arith, refl, sym, ap, ◌∙◌, subst, inl, inr, append_assoc, append-nil, length-append}
+use Rattle.std.proofs.lemmas.Bool.{cases_lt}
 use Rattle.std.proofs.KnownBytes.{Appends-nil, Appends-trans, Appends-kept, Keeps-refl}
 use Rattle.gf_outside.specs.Moved.{AppendsPrefix}
 use Rattle.gf_poly.specs.Polynomial.{Terms}
@@ -25,11 +26,9 @@ use Rattle.gf_reverse.proofs.TreeLaws.{SameFan, count, upward_finite, node_moved
 use Rattle.gf_tree.specs.declared.error.TreeError.{TreeError}
 use Rattle.gf_tree.specs.declared.error.TreeError.TheVariants as tree_errors
 use Rattle.gf_tree.specs.Ideals.{ideal_by}
-use Rattle.gf_tree.specs.Refusals.{IsTreeRefusal}
-use Rattle.gf_tree.proofs.RefusalLaws.{refusal_moved}
 use Rattle.gf_subtree.specs.Rows.{Row, ideal_in, AreLeftIn, first_row}
-use Rattle.gf_subtree.specs.Answers.{IsNextRow, IsRowEnd}
-use Rattle.gf_subtree.proofs.BasisRowLaws.{start_leaves}
+use Rattle.gf_subtree.specs.Answers.{IsNextRow, IsRowEnd, IsRefusedEarly}
+use Rattle.gf_subtree.proofs.BasisRowLaws.{start_leaves, early_moved}
 use Rattle.gf_weights.specs.declared.error.WeightError.{WeightError}
 use Rattle.gf_weights.specs.declared.error.WeightError.TheVariants as weight_errors
 use Rattle.gf_front.specs.declared.refusal.Refusal.{Refusal}
@@ -40,14 +39,14 @@ use Rattle.gfan.specs.declared.bases.Room.TheVariants.{Endless, Limited}
 use Rattle.gfan.specs.Buchberger.{generators_of, of_basis}
 use Rattle.gfan.specs.BasesList.{AreAllBases}
 use Rattle.gfan.specs.Certificates.{IsItemText, IsItemRefusal, of_weight_error}
-use Rattle.gfan.specs.Bases.{AreItemTexts, IsWithinLimit, IsTextOfBases, IsBegunList, IsBegunText, list_text, begun_text, of_tree, IsGoingCause, IsListCause, bases_command}
+use Rattle.gfan.specs.Bases.{AreItemTexts, IsWithinLimit, IsTextOfBases, IsBegunList, IsBegunText, IsFullText, list_text, begun_text, of_tree, IsSearchRefused, IsGoingCause, IsListCause, bases_command}
 use Rattle.gfan.specs.BasesWriting.{basis_piece, IsBasisWritten, IsUnwritten, IsBasisUnwritten, HasRoomFor, IsOneLess, IsFull, IsFirstBasis, IsRootRefusal, IsListWritten, IsListStopped, IsUnnamed, is_none_of, IsUnderWay}
 use Rattle.gfan.specs.Refused.{without_names}
 use Rattle.gfan.specs.Performed.{IsStoppedFor}
 use Rattle.gfan.proofs.BuchbergerLaws.{in_ring}
-use Rattle.gfan.proofs.BasesListLaws.{first_node, first_own, node_given, all_bases_from}
+use Rattle.gfan.proofs.BasesListLaws.{among_left, among_right, first_node, first_own, all_bases_from}
 use Rattle.gfan.proofs.CertificateLaws.{AllZip-append, items_exist}
-use Rattle.gfan.proofs.BasesTextLaws.{begun_next, whole_begun, prefix_on, prefix_piece}
+use Rattle.gfan.proofs.BasesTextLaws.{begun_next, whole_begun, prefix_on, prefix_piece, prefix_begun}
 
 -- ---- room
 
@@ -80,9 +79,20 @@ room_within (Some limit) (Limited most left) written h = omega (arith, h.1)
 
 -- ---- the list under way
 
-among_right : (xs ys : List MarkedPolynomials) (x : MarkedPolynomials) → Among ys x → Among (xs ++ ys) x
-among_right [] ys x j = j
-among_right (y ∷ xs) ys x j = inr (among_right xs ys x j)
+-- a list is longer than a number: so many of it, one more, and the rest
+pub record IsCutBehind (xs : List MarkedPolynomials) (k : ℕ) : Type 0 where
+  pub front : List MarkedPolynomials
+  pub next : MarkedPolynomials
+  pub rest : List MarkedPolynomials
+  pub whole : xs ≡ front ++ next ∷ rest
+  pub just : length front ≡ k
+
+cut_behind : (xs : List MarkedPolynomials) (k : ℕ) → k < length xs → IsCutBehind xs k
+cut_behind [] k l = absurd (omega arith)
+cut_behind (x ∷ xs) zero l = record { front = []; next = x; rest = xs; whole = refl; just = refl }
+cut_behind (x ∷ xs) (suc k) l =
+    let c = cut_behind xs k (omega arith) in
+    record { front = x ∷ c.front; next = c.next; rest = c.rest; whole = ap (λ l. x ∷ l) c.whole; just = ap suc c.just }
 
 module _ (o : ListOptions) (ring : List (List ℕ)) (fs : List Terms) where
   -- before the first basis
@@ -119,9 +129,15 @@ module _ (o : ListOptions) (ring : List (List ℕ)) (fs : List Terms) where
     from_row : (x : MarkedPolynomials) → IsNodeIn (ideal_in row) x → IsNodeIn (ideal_by (length ring) fs) x
     from_row x h = node_moved (ideal_in row) (ideal_by (length ring) fs) x same_fan h
 
-    -- a refusal of the waves is one at a basis of that ideal
-    tree_cause : (e : TreeError) → IsTreeRefusal (ideal_in row) row.pairs e → IsTreeRefusal (ideal_by (length ring) fs) o.pairs e
-    tree_cause e h = subst (λ p. IsTreeRefusal (ideal_by (length ring) fs) p e) way.pairs (refusal_moved (ideal_in row) (ideal_by (length ring) fs) row.pairs e same_fan h)
+    -- a refusal of the waves comes of a call at a basis of that ideal, one that is written or the next one
+    tree_cause : (e : TreeError) → ((nodes : List MarkedPolynomials) → AreLeftIn row nodes → IsRefusedEarly (ideal_in row) row.pairs nodes e) → IsSearchRefused o (length ring) fs e
+    tree_cause e h = record {
+      written = way.written;
+      rest = way.rest;
+      are_all = way.are_all;
+      few = room_within o.limit room way.written way.fits;
+      early = subst (λ p. IsRefusedEarly (ideal_by (length ring) fs) p way.rest e) way.pairs (early_moved (ideal_in row) (ideal_by (length ring) fs) row.pairs way.rest e same_fan (h way.rest way.left));
+    }
 
     -- what is written until now
     begun_here : (rest : List MarkedPolynomials) → way.rest ≡ rest → IsBegunList o.certified ring fs way.written rest (begun_text ring way.items)
@@ -132,8 +148,8 @@ module _ (o : ListOptions) (ring : List (List ℕ)) (fs : List Terms) where
       is_text = refl;
     }
 
-    begun_now : IsBegunText o.certified ring fs (begun_text ring way.items)
-    begun_now = (way.written, way.rest, begun_here way.rest refl)
+    begun_now : IsBegunText o ring fs (begun_text ring way.items)
+    begun_now = (way.written, way.rest, begun_here way.rest refl, room_within o.limit room way.written way.fits)
 
     module _ (new : Row) (b : MarkedPolynomials) (step : IsNextRow row new b) where
       next : (rest : List MarkedPolynomials) × (way.rest ≡ b ∷ rest) × AreLeftIn new rest
@@ -202,62 +218,104 @@ module _ (o : ListOptions) (ring : List (List ℕ)) (fs : List Terms) where
           )
 
       -- its piece isn't made: there is no memory, or its certificates are refused
-      unmade_cause : (k : Bool) (r : Refusal) → o.certified ≡ k → IsItemRefusal k b r → IsGoingCause o (length ring) fs r ⊎ (r ≡ refusals.Memory)
-      unmade_cause false r e m = inr m
-      unmade_cause true r e u = inl (IsGoingCause.at_certificates b e (node_given (length ring) fs b (from_row b step.basis)) u)
-
-      stopped_unmade : (n m : ℕ) (r : Refusal) → IsItemRefusal o.certified b r → IsListStopped o ring fs held holds n m r
-      stopped_unmade n m r h = at o.certified r h (unmade_cause o.certified r refl h)
+      stopped_unmade : (after : Room) (n m : ℕ) (r : Refusal) → IsOneLess room after → IsItemRefusal o.certified b r → IsListStopped o ring fs held holds n m r
+      stopped_unmade after n m r less h = at o.certified r refl h
         where
-          told : (e : WeightError) → IsGoingCause o (length ring) fs (of_weight_error e) ⊎ (of_weight_error e ≡ refusals.Memory) → IsListStopped o ring fs held holds n m (of_weight_error e)
-          told (weight_errors.Cone x) c = (c, inr (begun_text ring way.items, begun_now, way.gained))
-          told (weight_errors.Wide x) c = (c, inr (begun_text ring way.items, begun_now, way.gained))
-          told weight_errors.Memory c = (c, inr (begun_text ring way.items, begun_now, way.gained))
+          told : (e : WeightError) → IsGoingCause o (length ring) fs (of_weight_error e) → IsListStopped o ring fs held holds n m (of_weight_error e)
+          told (weight_errors.Cone x) c = (inl c, inr (begun_text ring way.items, (tt, inl c, begun_now), way.gained))
+          told (weight_errors.Wide x) c = (inl c, inr (begun_text ring way.items, (tt, inl c, begun_now), way.gained))
+          told weight_errors.Memory c = (inl c, inr (begun_text ring way.items, (tt, inl c, begun_now), way.gained))
 
-          at : (k : Bool) (r : Refusal) → IsItemRefusal k b r → IsGoingCause o (length ring) fs r ⊎ (r ≡ refusals.Memory) → IsListStopped o ring fs held holds n m r
-          at false r e c = subst (IsListStopped o ring fs held holds n m) (sym e) (inr refl, inr (begun_text ring way.items, begun_now, way.gained))
-          at true r (e, q, is) c = subst (IsListStopped o ring fs held holds n m) (sym is) (told e (subst (λ z. IsGoingCause o (length ring) fs z ⊎ (z ≡ refusals.Memory)) is c))
+          at : (k : Bool) (r : Refusal) → o.certified ≡ k → IsItemRefusal k b r → IsListStopped o ring fs held holds n m r
+          at false r e q = subst (IsListStopped o ring fs held holds n m) (sym q) (inr refl, inr (begun_text ring way.items, (tt, inr refl, begun_now), way.gained))
+          at true r e (w, u, q) = subst (IsListStopped o ring fs held holds n m) (sym q) (told w (IsGoingCause.at_certificates (record {
+            certified = e;
+            written = way.written;
+            basis = b;
+            rest = next.0;
+            are_all = all_next;
+            few = room_within o.limit after (way.written ++ b ∷ []) (room_next o.limit room after way.written b way.fits less);
+            uncertified = (w, u, refl);
+          })))
 
       -- what stands for the bases behind it
       later : (ts : List (List ℕ)) × AreItemTexts o.certified ring next.0 ts
       later = items_exist o.certified (length ring) ring fs next.0 (λ x j. all_next.only x (among_right way.written (b ∷ next.0) x (inr j)))
 
-      -- a prefix of it is written
-      cut_prefix : (then : Option (List ℕ)) (t : List ℕ) → IsItemText o.certified ring b t → AppendsPrefix holds then (basis_piece ring (is_none_of way.items) t) →
-          (text : List ℕ) × IsTextOfBases o.certified None ring fs text × AppendsPrefix held then text
-      cut_prefix then t i p = (
+      -- a prefix of it is written: of the text of the whole list, where that isn't longer than the limit
+      cut_whole : (then : Option (List ℕ)) (t : List ℕ) → IsItemText o.certified ring b t → AppendsPrefix holds then (basis_piece ring (is_none_of way.items) t) →
+          IsWithinLimit o.limit (way.written ++ b ∷ next.0) → (text : List ℕ) × IsFullText o ring fs text × AppendsPrefix held then text
+      cut_whole then t i p few = (
         list_text ring (way.items ++ t ∷ later.0),
-        record {
+        IsFullText.to_its_end (record {
           list = way.written ++ b ∷ next.0;
           are_all = all_next;
-          few = tt;
+          few = few;
           items = way.items ++ t ∷ later.0;
           are_items = more_items t next.0 later.0 i later.1;
           is_text = refl;
-        },
+        }),
         prefix_piece ring way.items later.0 t held holds then way.gained p,
       )
 
+      -- or of its beginning with as many bases as the limit lets through
+      cut_limited : (then : Option (List ℕ)) (t : List ℕ) (most k : ℕ) → IsItemText o.certified ring b t → AppendsPrefix holds then (basis_piece ring (is_none_of way.items) t) →
+          o.limit ≡ Some most → length way.written + suc k ≡ most → IsCutBehind next.0 k → (text : List ℕ) × IsFullText o ring fs text × AppendsPrefix held then text
+      cut_limited then t most k i p is_limit room c = (
+        begun_text ring (way.items ++ t ∷ behind.0),
+        IsFullText.to_the_limit most (record {
+          is_limit = is_limit;
+          written = way.written ++ b ∷ c.front;
+          next = c.next;
+          rest = c.rest;
+          begun = record {
+            are_all = subst (AreAllBases (length ring) fs) (ap (λ l. way.written ++ b ∷ l) c.whole ∙ sym (append_assoc way.written (b ∷ c.front) (c.next ∷ c.rest))) all_next;
+            items = way.items ++ t ∷ behind.0;
+            are_items = more_items t c.front behind.0 i behind.1;
+            is_text = refl;
+          };
+          just = omega (arith, room, c.just, length-append way.written (b ∷ c.front));
+        }),
+        prefix_begun ring way.items behind.0 t held holds then way.gained p,
+      )
+        where
+          behind : (ts : List (List ℕ)) × AreItemTexts o.certified ring c.front ts
+          behind = items_exist o.certified (length ring) ring fs c.front
+              (λ x j. all_next.only x (among_right way.written (b ∷ next.0) x (inr (subst (λ l. Among l x) (sym c.whole) (among_left c.front (c.next ∷ c.rest) x j)))))
+
+      cut_prefix : (after : Room) (then : Option (List ℕ)) (t : List ℕ) → IsOneLess room after → IsItemText o.certified ring b t → AppendsPrefix holds then (basis_piece ring (is_none_of way.items) t) →
+          (text : List ℕ) × IsFullText o ring fs text × AppendsPrefix held then text
+      cut_prefix after then t less i p = at o.limit refl room after way.fits less
+        where
+          at : (limit : Option ℕ) → o.limit ≡ limit → (room after : Room) → HasRoomFor limit room way.written → IsOneLess room after → (text : List ℕ) × IsFullText o ring fs text × AppendsPrefix held then text
+          at None e room after h l = cut_whole then t i p (subst (λ x. IsWithinLimit x (way.written ++ b ∷ next.0)) (sym e) tt)
+          at (Some most) e Endless after h l = absurd h
+          at (Some most) e (Limited limit left) Endless h l = absurd l
+          at (Some most) e (Limited limit left) (Limited same k) h l = elim (cases_lt k (length next.0)) [
+            | inl more ↦ cut_limited then t most k i p e (omega (arith, h.1, l.1)) (cut_behind next.0 k more)
+            | inr few ↦ cut_whole then t i p (subst (λ x. IsWithinLimit x (way.written ++ b ∷ next.0)) (sym e) (omega (arith, few, h.1, l.1, length-append way.written (b ∷ next.0))))
+          ]
+
       -- its piece isn't made, or isn't written whole
-      pub stopped_piece : (then : Option (List ℕ)) (n m : ℕ) (r : Refusal) → IsBasisUnwritten o.certified ring is_first b holds then n m r → IsListStopped o ring fs held then n m r
-      stopped_piece then n m r (IsBasisUnwritten.unmade same calm h) = subst (λ z. IsListStopped o ring fs held z n m r) (sym same) (stopped_unmade n m r h)
-      stopped_piece then n m r (IsBasisUnwritten.cut piece p u) = at r u
+      pub stopped_piece : (after : Room) (then : Option (List ℕ)) (n m : ℕ) (r : Refusal) → IsOneLess room after → IsBasisUnwritten o.certified ring is_first b holds then n m r → IsListStopped o ring fs held then n m r
+      stopped_piece after then n m r less (IsBasisUnwritten.unmade same calm h) = subst (λ z. IsListStopped o ring fs held z n m r) (sym same) (stopped_unmade after n m r less h)
+      stopped_piece after then n m r less (IsBasisUnwritten.cut piece p u) = at r u
         where
           at : (r : Refusal) → IsUnwritten holds then n m piece r → IsListStopped o ring fs held then n m r
-          at refusals.WriteFault u = (u.0, cut_prefix then p.item p.is_item (subst (λ f. AppendsPrefix holds then (basis_piece ring f p.item)) way.first (subst (AppendsPrefix holds then) p.is_piece u.1)))
-          at refusals.Memory u = (inr refl, inr (begun_text ring way.items, begun_now, Appends-kept held holds then (begun_text ring way.items) way.gained u.0))
+          at refusals.WriteFault u = (u.0, cut_prefix after then p.item less p.is_item (subst (λ f. AppendsPrefix holds then (basis_piece ring f p.item)) way.first (subst (AppendsPrefix holds then) p.is_piece u.1)))
+          at refusals.Memory u = (inr refl, inr (begun_text ring way.items, (tt, inr refl, begun_now), Appends-kept held holds then (begun_text ring way.items) way.gained u.0))
           at _ u = absurd u
 
     -- the next basis is refused
-    pub stopped_tree : (n m : ℕ) (e : TreeError) → IsTreeRefusal (ideal_in row) row.pairs e → IsListStopped o ring fs held holds n m (of_tree e)
+    pub stopped_tree : (n m : ℕ) (e : TreeError) → ((nodes : List MarkedPolynomials) → AreLeftIn row nodes → IsRefusedEarly (ideal_in row) row.pairs nodes e) → IsListStopped o ring fs held holds n m (of_tree e)
     stopped_tree n m e h = at e (IsGoingCause.in_tree e (tree_cause e h) refl)
       where
         at : (e : TreeError) → IsGoingCause o (length ring) fs (of_tree e) → IsListStopped o ring fs held holds n m (of_tree e)
-        at (tree_errors.Overflow x) c = (inl c, inr (begun_text ring way.items, begun_now, way.gained))
-        at (tree_errors.Exponent x) c = (inl c, inr (begun_text ring way.items, begun_now, way.gained))
-        at (tree_errors.PairBudget basis unsettled) c = (inl c, inr (begun_text ring way.items, begun_now, way.gained))
-        at (tree_errors.Cone x) c = (inl c, inr (begun_text ring way.items, begun_now, way.gained))
-        at tree_errors.Memory c = (inl c, inr (begun_text ring way.items, begun_now, way.gained))
+        at (tree_errors.Overflow x) c = (inl c, inr (begun_text ring way.items, (tt, inl c, begun_now), way.gained))
+        at (tree_errors.Exponent x) c = (inl c, inr (begun_text ring way.items, (tt, inl c, begun_now), way.gained))
+        at (tree_errors.PairBudget basis unsettled) c = (inl c, inr (begun_text ring way.items, (tt, inl c, begun_now), way.gained))
+        at (tree_errors.Cone x) c = (inl c, inr (begun_text ring way.items, (tt, inl c, begun_now), way.gained))
+        at tree_errors.Memory c = (inl c, inr (begun_text ring way.items, (tt, inl c, begun_now), way.gained))
 
     -- nothing is left: all bases are written
     module _ (new : Row) (end : IsRowEnd row new) where
@@ -292,18 +350,18 @@ module _ (o : ListOptions) (ring : List (List ℕ)) (fs : List Terms) where
         u.0,
         (
           list_text ring way.items,
-          record {
+          IsFullText.to_its_end (record {
             list = way.written;
             are_all = all_written;
-            few = tt;
+            few = room_within o.limit room way.written way.fits;
             items = way.items;
             are_items = way.are_items;
             is_text = refl;
-          },
+          }),
           prefix_on held holds then (begun_text ring way.items) (125 ∷ 10 ∷ []) [] (list_text ring way.items) way.gained u.1 (whole ∙ sym (append-nil (begun_text ring way.items ++ 125 ∷ 10 ∷ []))),
         ),
       )
-      stopped_end then n m refusals.Memory u = (inr refl, inr (begun_text ring way.items, begun_now, Appends-kept held holds then (begun_text ring way.items) way.gained u.0))
+      stopped_end then n m refusals.Memory u = (inr refl, inr (begun_text ring way.items, (tt, inr refl, begun_now), Appends-kept held holds then (begun_text ring way.items) way.gained u.0))
       stopped_end then n m _ u = absurd u
 
   -- there is no memory before anything is written

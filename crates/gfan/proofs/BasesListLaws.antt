@@ -1,10 +1,10 @@
 -- The list of all bases, from the basis by degree and then lex on; and what such a list has.
--- To cite: given_node, node_given, first_node, first_own, first_top, own_start, start_of_root, all_bases_from, weights_are_served. The rest are steps.
-use Rattle.std.specs.Prelude.{◌≡◌, ◌⊎◌, ℕ, zero, suc, ◌≤◌, true, List, [], ◌∷◌, length, replicate, Contains, All, ℤ, pos, ◌<ℤ◌}
+-- To cite: among_left, among_right, given_node, node_given, first_node, first_own, first_top, own_start, start_of_root, all_bases_from, weights_are_served. The rest are steps.
+use Rattle.std.specs.Prelude.{◌≡◌, ◌⊎◌, ℕ, zero, suc, ◌≤◌, Bool, true, List, [], ◌∷◌, ◌++◌, length, replicate, Contains, All, ℤ, pos, ◌<ℤ◌}
 use Rattle.std.proofs.Common.{arith, refl, sym, ap, ◌∙◌, subst, inl, inr}
 use Rattle.std.proofs.lemmas.List.Elements.{All-nil}
 use Rattle.gf_exponents.specs.Exponents.{Exponents, entry, same, degree, weight, IsInRing}
-use Rattle.gf_exponents.specs.Orders.{gains, IsDeglexBelow, IsWeightedBelow}
+use Rattle.gf_exponents.specs.Orders.{gains, IsDeglexBelow, IsWeightedBelow, IsTermOrder}
 use Rattle.gf_exponents.proofs.OrderLaws.{deglex-order}
 use Rattle.gf_poly.specs.Polynomial.{Terms}
 use Rattle.gf_poly.specs.Marking.{MarkedPolynomial, MarkedPolynomials, polys}
@@ -37,11 +37,24 @@ use Rattle.gf_reverse.specs.Lists.{IsListOfBases}
 use Rattle.gf_reverse.proofs.TreeLaws.{SameFan, rank, upward_tree, upward_falls, node_moved, own_fan, back_fan}
 use Rattle.gf_reverse.proofs.ListLaws.{own, list_of_bases}
 use Rattle.gf_reverse.proofs.StartLaws.{basis_is_node}
+use Rattle.gf_reverse.specs.TermOrders.{below_by}
+use Rattle.gf_reverse.proofs.TermOrderLaws.{term_orders_have_bases}
 use Rattle.gf_reverse.proofs.LawsHold.{bases_make_a_tree}
 use Rattle.gf_tree.specs.Ideals.{ideal_by}
 use Rattle.gf_tree.specs.Parents.{IsRootFor}
 use Rattle.gfan.specs.BasesList.{IsGivenByWeight, AreAllBases, WeightsAreServed}
 use Rattle.gfan.specs.BasesWriting.{StartsAt}
+
+-- ---- among two lists
+
+pub among_left : (xs ys : List MarkedPolynomials) (x : MarkedPolynomials) → Among xs x → Among (xs ++ ys) x
+among_left [] ys x j = absurd j
+among_left (y ∷ xs) ys x (inl e) = inl e
+among_left (y ∷ xs) ys x (inr j) = inr (among_left xs ys x j)
+
+pub among_right : (xs ys : List MarkedPolynomials) (x : MarkedPolynomials) → Among ys x → Among (xs ++ ys) x
+among_right [] ys x j = j
+among_right (y ∷ xs) ys x j = inr (among_right xs ys x j)
 
 -- ---- the bases that some positive weight gives
 
@@ -252,9 +265,33 @@ cones n fs list w v all l p = at (weights_have_bases n (all_positive n) fs w v (
     at : ((bs : List MarkedPolynomial) × IsBasisInRegion n fs (all_positive n) bs × AreMarked (IsWeightedBelow (gains w)) bs × IsInClosedCone w bs) → (x : MarkedPolynomials) × Among list x × IsInClosedCone w x.items
     at (bs, b, m, c) = (record { variables = n; items = bs }, all.all (record { variables = n; items = bs }) (region_given n fs bs v b), c)
 
+-- ---- term orders
+
+orders : (n : ℕ) (fs : List Terms) (list : List MarkedPolynomials) (less : Exponents → Exponents → Bool) → AreInVariables n fs → AreAllBases n fs list → IsTermOrder n (below_by less) →
+    (x : MarkedPolynomials) × Among list x × IsReducedBasisFor n fs (below_by less) x.items × ((y : MarkedPolynomials) → Among list y → IsReducedBasisFor n fs (below_by less) y.items → x ≡ y)
+orders n fs list less v all t = (x, all.all x given, found.2, one)
+  where
+    found : (bs : List MarkedPolynomial) × IsMarkedReducedBasis n fs bs × IsReducedBasisFor n fs (below_by less) bs × ((cs : List MarkedPolynomial) → IsMarkedReducedBasis n fs cs → IsReducedBasisFor n fs (below_by less) cs → bs ≡ cs)
+    found = term_orders_have_bases n fs less v t
+
+    x : MarkedPolynomials
+    x = record { variables = n; items = found.0 }
+
+    given : IsGivenByWeight n fs x
+    given =
+        let w = (marked_bases_are_reduced.weights n fs found.0 v).0 found.1 in
+        record { variables = refl; arranged = w.0; weight = w.1.0; reduced = w.1.1 }
+
+    one : (y : MarkedPolynomials) → Among list y → IsReducedBasisFor n fs (below_by less) y.items → x ≡ y
+    one y j r =
+        let g = all.only y j in
+        let same : found.0 ≡ y.items = found.3 y.items (reduced_node n fs y (given_node n fs y v g)) r in
+        ap (λ cs. record { variables = n; items = cs }) same ∙ ap (λ k. record { variables = k; items = y.items }) (sym g.variables)
+
 pub weights_are_served : WeightsAreServed
 weights_are_served = record {
   exactly = λ n fs list x all. (all.only x, all.all x);
   monomial = monomial;
   cones = cones;
+  orders = orders;
 }

@@ -1,5 +1,5 @@
 -- Pieces that follow one another are the text of the list.
--- To cite: begun_next, piece_more, whole_begun, prefix_on, prefix_piece. The rest are steps.
+-- To cite: begun_next, piece_more, whole_begun, prefix_on, prefix_piece, prefix_begun. The rest are steps.
 use Rattle.std.specs.Prelude.{◌≡◌, ℕ, ◌+◌, ◌≤◌, Bool, true, false, List, [], ◌∷◌, ◌++◌, flat_map, length, take, Option}
 use Rattle.std.specs.Io.KnownBytes.{Appends}
 use Rattle.std.proofs.Common.{arith, refl, sym, ap, ◌∙◌, subst, append_assoc, append-nil, length-append}
@@ -66,3 +66,25 @@ prefix_piece ring items rest t u v w p q = prefix_on u v w (begun_text ring item
         ap (λ l. list_text ring (s ∷ l)) (sym (append_assoc ss (t ∷ []) rest))
         ∙ whole_begun ring s (ss ++ t ∷ []) rest
         ∙ ap (λ l. l ++ ending rest) (sym (begun_next ring (s ∷ ss) t))
+
+-- ---- prefixes of a beginning
+
+begun_more : (ring : List (List ℕ)) (t : List ℕ) (ts rest : List (List ℕ)) → begun_text ring (t ∷ (ts ++ rest)) ≡ begun_text ring (t ∷ ts) ++ flat_map later_item_text rest
+begun_more ring t ts rest =
+    ap (λ l. ring_text ring ++ 123 ∷ (t ++ l)) (flat_map-append later_item_text ts rest)
+    ∙ regroup (ring_text ring) t (flat_map later_item_text ts) (flat_map later_item_text rest)
+  where
+    regroup : (h i f g : List ℕ) → h ++ 123 ∷ (i ++ (f ++ g)) ≡ (h ++ 123 ∷ (i ++ f)) ++ g
+    regroup h i f g = simp append_assoc
+
+-- a prefix of the piece of one more is a prefix of what stands once others are written behind it
+pub prefix_begun : (ring items rest : List (List ℕ)) (t : List ℕ) (u v w : Option (List ℕ)) → Appends u v (begun_text ring items) →
+    AppendsPrefix v w (basis_piece ring (is_none_of items) t) → AppendsPrefix u w (begun_text ring (items ++ t ∷ rest))
+prefix_begun ring items rest t u v w p q = prefix_on u v w (begun_text ring items) (basis_piece ring (is_none_of items) t) (flat_map later_item_text rest) (begun_text ring (items ++ t ∷ rest)) p q (whole items)
+  where
+    whole : (ss : List (List ℕ)) → begun_text ring (ss ++ t ∷ rest) ≡ (begun_text ring ss ++ basis_piece ring (is_none_of ss) t) ++ flat_map later_item_text rest
+    whole [] = begun_more ring t [] rest ∙ ap (λ l. l ++ flat_map later_item_text rest) (sym (begun_next ring [] t))
+    whole (s ∷ ss) =
+        ap (λ l. begun_text ring (s ∷ l)) (sym (append_assoc ss (t ∷ []) rest))
+        ∙ begun_more ring s (ss ++ t ∷ []) rest
+        ∙ ap (λ l. l ++ flat_map later_item_text rest) (sym (begun_next ring (s ∷ ss) t))

@@ -1,6 +1,6 @@
 -- What stands for a basis in the list of `_bases` is one text, and what its certificates show.
--- To cite: AllZip-append, items_exist, items_one, certificates_hold, weight_work, weight_untested. The rest are steps.
-use Rattle.std.specs.Prelude.{◌≡◌, ℕ, Bool, true, false, List, [], ◌∷◌, ◌++◌, length, All, Contains, ℤ, pos, ◌<ℤ◌}
+-- To cite: AllZip-append, items_exist, items_one, certified_list, weight_work, weight_untested. The rest are steps.
+use Rattle.std.specs.Prelude.{◌≡◌, ℕ, Bool, true, false, List, [], ◌∷◌, ◌++◌, length, All, Contains, ℤ, pos, ◌<ℤ◌, Option}
 use Rattle.std.specs.List.{AllZip}
 use Rattle.std.proofs.Common.{refl, sym, ap, ap₂, ◌∙◌, subst, inl, inr}
 use Rattle.gf_exponents.specs.Orders.{gains}
@@ -25,8 +25,8 @@ use Rattle.gf_walk.specs.Listing.{Among}
 use Rattle.gf_items.specs.Commands.{IsOfWork, IsOfTest}
 use Rattle.gfan.specs.BasesList.{IsGivenByWeight}
 use Rattle.gfan.specs.Certificates.{certificates_text, IsCertificatesText, IsItemText, of_weight_error}
-use Rattle.gfan.specs.Bases.{AreItemTexts}
-use Rattle.gfan.specs.CertifiedBases.{HasCertificates, CertificatesHold}
+use Rattle.gfan.specs.Bases.{AreItemTexts, IsTextOfBases}
+use Rattle.gfan.specs.CertifiedBases.{HasCertificates, IsCertifiedList}
 use Rattle.gfan.proofs.BasesListLaws.{given_node}
 
 -- ---- items
@@ -119,8 +119,8 @@ items_show ring fs [] (t ∷ ts) v g a = absurd a
 items_show ring fs (b ∷ bs) [] v g a = absurd a
 items_show ring fs (b ∷ bs) (t ∷ ts) v g a = (item_shows ring fs b t v (g b (inl refl)) a.0, items_show ring fs bs ts v (λ c j. g c (inr j)) a.1)
 
-pub certificates_hold : CertificatesHold
-certificates_hold limit ring fs text v t = (t.list, t.are_all, (t.items, items_show ring fs t.list t.items v t.are_all.only t.are_items, t.is_text))
+pub certified_list : (limit : Option ℕ) (ring : List (List ℕ)) (fs : List Terms) (text : List ℕ) → AreInVariables (length ring) fs → IsTextOfBases true limit ring fs text → IsCertifiedList ring fs text
+certified_list limit ring fs text v t = (t.list, t.are_all, (t.items, items_show ring fs t.list t.items v t.are_all.only t.are_items, t.is_text))
 
 -- ---- refusals
 

@@ -2,7 +2,7 @@
 -- its limits a job is answered.
 -- To cite: test_as, test_no_answer, test_no_whole; exact_text, exact_form, text_no_answer, form_no_answer, text_no_whole, form_no_whole, all_answered, refused_as_job, not_listed. The rest are steps.
 use Rattle.std.specs.Prelude.{◌≡◌, ◌⊎◌, ℕ, ◌<◌, Bool, true, false, List, [], ◌∷◌, length, Err, Option, None, Some}
-use Rattle.std.proofs.Common.{arith, sym, ap, ◌∙◌, subst, inl, inr}
+use Rattle.std.proofs.Common.{arith, refl, sym, ap, ◌∙◌, subst, inl, inr}
 use Rattle.gf_exponents.specs.SixOrders.{MonomialOrder}
 use Rattle.gf_poly.specs.Polynomial.{Terms}
 use Rattle.gf_poly.specs.Marking.{MarkedPolynomials, polys}
@@ -47,6 +47,8 @@ use Rattle.gfan.specs.HomogeneitySpace.{nonzero_of, homogeneity_space_command}
 use Rattle.gfan.specs.declared.tropical.TropicalFan.TheVariants as fans
 use Rattle.gfan.specs.Tropical.{tropical_command}
 use Rattle.gfan.specs.Commands.{options, list_options, cone_options, JobWork, work_of, IsOnInput, IsAnswerTo, IsWholeTextOf, IsRefusalOf, IsWithinReach, WritesAtEnd}
+use Rattle.gf_subtree.proofs.BasisRowLaws.{early_refused}
+use Rattle.gfan.proofs.BasesListLaws.{among_right}
 use Rattle.gfan.proofs.FormLaws.{form_once}
 use Rattle.gfan.proofs.CertificateLaws.{weight_work, weight_untested}
 use Rattle.gfan.proofs.GivenBasisLaws.{tree_work, tree_untested, given_work, root_within, given_once, given_refuses}
@@ -118,7 +120,7 @@ list_work : (o : ListOptions) (n : ℕ) (fs : List Terms) (r : Refusal) → IsLi
 list_work o n fs r (IsListCause.at_root e h q) = subst IsOfWork (sym q) (basis_work e)
 list_work o n fs r (IsListCause.going (IsGoingCause.in_tree e h q)) = subst IsOfWork (sym q) (tree_work e)
 list_work o n fs r (IsListCause.going (IsGoingCause.at_limit most h q)) = subst IsOfWork (sym q) tt
-list_work o n fs r (IsListCause.going (IsGoingCause.at_certificates b k g u)) = subst IsOfWork (sym u.2) (weight_work u.0)
+list_work o n fs r (IsListCause.going (IsGoingCause.at_certificates c)) = subst IsOfWork (sym c.uncertified.2) (weight_work c.uncertified.0)
 
 past_limit : (limit : Option ℕ) (most : ℕ) (list : List MarkedPolynomials) → limit ≡ Some most → most < length list → IsWithinLimit limit list → ⊥
 past_limit None most list e l w = cc
@@ -126,9 +128,10 @@ past_limit (Some n) most list e l w = let same : n ≡ most = cc in omega arith
 
 going_within : (o : ListOptions) (n : ℕ) (fs : List Terms) (r : Refusal) → IsTreeWithinLimits (ideal_by n fs) o.pairs → ((list : List MarkedPolynomials) → AreAllBases n fs list → IsWithinLimit o.limit list) →
     AreCertifiedWithin o n fs → IsGoingCause o n fs r → r ≡ refusals.Memory
-going_within o n fs r w few all (IsGoingCause.in_tree e h q) = q ∙ ap of_tree (within_memory (ideal_by n fs) o.pairs e w h)
+going_within o n fs r w few all (IsGoingCause.in_tree e h q) = q ∙ ap of_tree (within_memory (ideal_by n fs) o.pairs e w (early_refused (ideal_by n fs) o.pairs h.rest e h.early))
 going_within o n fs r w few all (IsGoingCause.at_limit most h q) = absurd (past_limit o.limit most h.list h.is_limit h.longer (few h.list h.are_all))
-going_within o n fs r w few all (IsGoingCause.at_certificates b k g u) = u.2 ∙ ap of_weight_error (all k b g u.0 u.1)
+going_within o n fs r w few all (IsGoingCause.at_certificates c) =
+    c.uncertified.2 ∙ ap of_weight_error (all c.certified c.basis (c.are_all.only c.basis (among_right c.written (c.basis ∷ c.rest) c.basis (inl refl))) c.uncertified.0 c.uncertified.1)
 
 list_within : (o : ListOptions) (n : ℕ) (fs : List Terms) (r : Refusal) → IsListWithin o n fs → IsListCause o n fs r → r ≡ refusals.Memory
 list_within o n fs r w (IsListCause.at_root e h q) = q ∙ ap of_basis (if_within {A = Unit {0}} MonomialOrder.deglex n o.pairs fs (Err e) w.root h)
@@ -285,7 +288,7 @@ list_untested : (o : ListOptions) (n : ℕ) (fs : List Terms) (r : Refusal) → 
 list_untested o n fs r t (IsListCause.at_root e h q) = basis_untested e (subst IsOfTest q t)
 list_untested o n fs r t (IsListCause.going (IsGoingCause.in_tree e h q)) = tree_untested e (subst IsOfTest q t)
 list_untested o n fs r t (IsListCause.going (IsGoingCause.at_limit most h q)) = subst IsOfTest q t
-list_untested o n fs r t (IsListCause.going (IsGoingCause.at_certificates b k g u)) = weight_untested u.0 (subst IsOfTest u.2 t)
+list_untested o n fs r t (IsListCause.going (IsGoingCause.at_certificates c)) = weight_untested c.uncertified.0 (subst IsOfTest c.uncertified.2 t)
 
 memory_untested : (r : Refusal) → IsOfTest r → r ≡ refusals.Memory → ⊥
 memory_untested r t m = subst IsOfTest m t

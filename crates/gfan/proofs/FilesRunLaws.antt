@@ -1,5 +1,5 @@
 -- How a run ends where the words ask for a job on files.
--- To cite: words_other, input_job, other_reads, answer_job, refusal_job, reach_job, input_no_files, job_matched; reading_cause, unnamed_input; files_done, files_cause, files_usage, files_read_fault, files_open_fault, files_too_long,
+-- To cite: words_other, input_job, other_reads, answer_job, refusal_job, reach_job, past_job, input_no_files, job_matched; reading_cause, unnamed_input; files_done, files_cause, files_usage, files_read_fault, files_open_fault, files_too_long,
 -- files_listed, files_outside, files_overflow, files_exponent_overflow, files_pair_budget, files_write, files_quiet, files_within, refined_within;
 -- refined_text, refused_files, files_long_refused, files_long_not_done. The rest are steps.
 use Rattle.std.specs.Prelude.{◌≡◌, ◌⊎◌, ℕ, ◌<◌, ◌≤◌, List, length, Option, Some, IfSome}
@@ -22,7 +22,7 @@ use Rattle.gf_refine.specs.declared.error.RefineError.TheVariants as refine_erro
 use Rattle.gfan.specs.declared.refused.Refused.{Refused}
 use Rattle.gfan.specs.Refused.{IsNamedBy}
 use Rattle.gfan.specs.BasesWriting.{IsUnnamed}
-use Rattle.gfan.specs.Commands.{ReadsInput, IsAnswerTo, IsRefusalOf, IsWithinReach, IsOverflow, IsExponentOverflow, IsPairBudget}
+use Rattle.gfan.specs.Commands.{ReadsInput, IsAnswerTo, IsRefusalOf, IsWithinReach, IsPastReach, IsOverflow, IsExponentOverflow, IsPairBudget}
 use Rattle.gfan.specs.CommonRefinement.{of_fan_file, of_refine, IsLoaded, AreLoaded, IsWithinFile, AreWithinFiles, IsFileTooLong, IsRefinementText, IsRefinementRefused, IsRefined, IsLoadingCause, IsFilesCause}
 use Rattle.gfan.specs.Run.{AsksForInput, AsksForNoFiles, AsksForFiles, Refined, RefinedInPart, FilesRefused, LongFile, IsOfOutside, IsReadingCause, IsCause, IsRunFilesCause, IsRingOfInput, IsOfInput, IsRefusedWith}
 use Rattle.gfan.proofs.OutcomeLaws.{same_job, taken_known}
@@ -51,6 +51,9 @@ refusal_job words job source r j a first second k = subst (λ i. IsRefusalOf i s
 
 pub reach_job : (words : List (List ℕ)) (job : Job) (source : List ℕ) → IsJobOf words job → IsWithinReach job source → AsksForNoFiles words
 reach_job words job source j a first second k = subst (λ i. IsWithinReach i source) (same_job words (jobs.FanCommonRefinement first second) job k j) a
+
+pub past_job : (words : List (List ℕ)) (job : Job) (source : List ℕ) (most : ℕ) → IsJobOf words job → IsPastReach job source most → AsksForNoFiles words
+past_job words job source most j a first second k = subst (λ i. IsPastReach i source most) (same_job words (jobs.FanCommonRefinement first second) job k j) a
 
 pub input_no_files : (words : List (List ℕ)) → AsksForInput words → AsksForNoFiles words
 input_no_files words a = input_job words a.job a.asked a.reads

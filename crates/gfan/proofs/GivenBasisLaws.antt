@@ -1,6 +1,6 @@
 -- The list of `_bases -g`: a marked Gröbner basis is reduced and taken up to the root; and why it isn't written.
 -- To cite: few_members, reducible, reduced_is_node, reduced_own, root_starts, way_refused; given_performed, given_stopped_root, given_stopped_list, named_root;
--- tree_work, tree_untested; given_work, root_within, given_once, given_refuses. The rest are steps.
+-- tree_work, tree_untested; given_work, root_within, root_past, given_once, given_refuses. The rest are steps.
 use Rattle.std.specs.Prelude.{◌≡◌, ◌⊎◌, ℕ, List, [], ◌∷◌, length, map, Contains, Option, Some, Err}
 use Rattle.std.specs.Io.KnownBytes.{Keeps}
 use Rattle.std.proofs.Common.{true, refl, sym, ap, ◌∙◌, subst, inl, inr}
@@ -19,12 +19,14 @@ use Rattle.gf_ideal.specs.Bases.{IsBasis, AreArranged}
 use Rattle.gf_ideal.proofs.ListLaws.{Contains-here, Contains-there}
 use Rattle.gf_ideal.proofs.MarkWeights.{mark-there}
 use Rattle.gf_ideal.proofs.BasisLaws.{basis_along}
-use Rattle.gf_division.specs.Autoreduction.{IsAutoreduced, IsReducedOf}
+use Rattle.gf_poly.specs.declared.error.PolyError.{PolyError}
+use Rattle.gf_poly.specs.declared.error.PolyError.TheVariants as errors
+use Rattle.gf_division.specs.Autoreduction.{IsAutoreduced, IsReducedOf, IsAutoreductionRefusal}
 use Rattle.gf_reduced.specs.declared.error.CheckError.{CheckError}
 use Rattle.gf_reduced.specs.declared.error.CheckError.TheVariants as check_errors
 use Rattle.gf_reduced.specs.Forms.{monic_of, monic_set}
 use Rattle.gf_reduced.specs.Markings.{IsMarkedGroebnerBasis, IsBasisOf}
-use Rattle.gf_reduced.specs.Refusals.{of_poly}
+use Rattle.gf_reduced.specs.Refusals.{of_poly, AreChecksWithinLimits}
 use Rattle.gf_reduced.proofs.FormLaws.{forms_marked_by}
 use Rattle.gf_reduced.proofs.GroebnerLaws.{polys_variables}
 use Rattle.gf_reduced.proofs.RefusalLaws.{basis_only_memory}
@@ -36,7 +38,7 @@ use Rattle.gf_tree.specs.declared.error.TreeError.{TreeError}
 use Rattle.gf_tree.specs.declared.error.TreeError.TheVariants as tree_errors
 use Rattle.gf_tree.specs.Ideals.{ideal_by}
 use Rattle.gf_tree.specs.Parents.{ideal_of, IsRootFor}
-use Rattle.gf_tree.specs.Refusals.{IsTreeRefusal}
+use Rattle.gf_tree.specs.Refusals.{IsTreeRefusal, IsTreeWithinLimits}
 use Rattle.gf_tree.proofs.RefusalLaws.{refusal_moved, within_memory}
 use Rattle.gf_front.specs.declared.command_line.Job.TheVariants as jobs
 use Rattle.gf_front.specs.declared.refusal.Refusal.{Refusal}
@@ -48,7 +50,7 @@ use Rattle.gfan.specs.declared.bases.ListOptions.{ListOptions}
 use Rattle.gfan.specs.Bases.{of_tree, IsGoingCause}
 use Rattle.gfan.specs.BasesWriting.{StartsAt, IsListWritten, IsListBegun, IsListStopped}
 use Rattle.gfan.specs.CheckedSets.{of_check}
-use Rattle.gfan.specs.GivenBasis.{IsGivenRootRefusal, IsGivenListCause, IsGivenListWithin}
+use Rattle.gfan.specs.GivenBasis.{IsGivenRootRefusal, IsGivenListCause, IsGivenListWithin, IsGivenListPast}
 use Rattle.gfan.specs.Refused.{IsNamedBy}
 use Rattle.gfan.specs.Commands.{IsRefusalOf}
 use Rattle.gfan.specs.Performed.{IsPerformed, LeavesBegun, IsStopped}
@@ -172,18 +174,18 @@ module _ (o : ListOptions) (workers : ℕ) (source : List ℕ) (ring : List (Lis
   refused_going r g (inl c) = refused_here r (IsGivenListCause.going g c)
   refused_going r g (inr m) = IsCommandRefused.no_memory m
 
-  leaves_going : (held holds : Option (List ℕ)) (r : Refusal) → Keeps held holds ⊎ IsListBegun o ring (polys s.items) held holds r → LeavesBegun (jobs.Bases true o.limit o.pairs o.certified workers) source held holds r
-  leaves_going held holds r (inl k) = LeavesBegun.nothing k
-  leaves_going held holds r (inr b) = LeavesBegun.beginning (record { text = b.0; begun = record { value = (ring, s); read = read; begun = b.1 }; gained = b.2 })
+  leaves_going : (held holds : Option (List ℕ)) (r : Refusal) → IsMarkedGroebnerBasis s.variables s.items → Keeps held holds ⊎ IsListBegun o ring (polys s.items) held holds r → LeavesBegun (jobs.Bases true o.limit o.pairs o.certified workers) source held holds r
+  leaves_going held holds r g (inl k) = LeavesBegun.nothing k
+  leaves_going held holds r g (inr b) = LeavesBegun.beginning (record { text = b.0; begun = record { value = (ring, s); read = read; begun = record { basis = g; begun = b.1 } }; gained = b.2 })
 
   -- the list is refused from the root on
   pub given_stopped_list : (held holds : Option (List ℕ)) (n m : ℕ) (r : Refusal) → IsMarkedGroebnerBasis s.variables s.items → IsListStopped o ring (polys s.items) held holds n m r → IsStopped (jobs.Bases true o.limit o.pairs o.certified workers) source held holds n m r
   given_stopped_list held holds n m refusals.WriteFault g h = (h.0, record { text = h.1.0; is_whole = record { value = (ring, s); read = read; formed = tt; is_whole = record { basis = g; list = h.1.1 } }; gained = h.1.2 })
   given_stopped_list held holds n m (refusals.ListLimit most) g h = (
     refused_here (refusals.ListLimit most) (IsGivenListCause.going g h.0),
-    record { text = h.1.0; begun = record { value = (ring, s); read = read; begun = h.1.1 }; gained = h.1.2 },
+    record { text = h.1.0; begun = record { value = (ring, s); read = read; begun = record { basis = g; begun = h.1.1 } }; gained = h.1.2 },
   )
-  given_stopped_list held holds n m r g h = (refused_going r g h.0, leaves_going held holds r h.1)
+  given_stopped_list held holds n m r g h = (refused_going r g h.0, leaves_going held holds r g h.1)
 
 -- ---- its laws
 
@@ -217,12 +219,19 @@ pub given_work : (o : ListOptions) (n : ℕ) (s : MarkedPolynomials) (r : Refusa
 given_work o n s r (IsGivenListCause.at_root h) = root_work s o.pairs r h
 given_work o n s r (IsGivenListCause.going g (IsGoingCause.in_tree e h q)) = subst IsOfWork (sym q) (tree_work e)
 given_work o n s r (IsGivenListCause.going g (IsGoingCause.at_limit most h q)) = subst IsOfWork (sym q) tt
-given_work o n s r (IsGivenListCause.going g (IsGoingCause.at_certificates b k m u)) = subst IsOfWork (sym u.2) (weight_work u.0)
+given_work o n s r (IsGivenListCause.going g (IsGoingCause.at_certificates c)) = subst IsOfWork (sym c.uncertified.2) (weight_work c.uncertified.0)
+
+root_only : (pairs n : ℕ) (s : MarkedPolynomials) (r : Refusal) → HaveVariables s.variables s.items → s.variables ≡ n → IsMarkedGroebnerBasis s.variables s.items → AreChecksWithinLimits s →
+    ((t : MarkedPolynomials) (d : PolyError) → IsArranged (monic_set s) t → IsAutoreductionRefusal t.items d → d ≡ errors.Memory) → IsTreeWithinLimits (ideal_by n (polys s.items)) pairs → IsGivenRootRefusal s pairs r → r ≡ refusals.Memory
+root_only pairs n s r v same basis checks tails tree (IsGivenRootRefusal.at_check e h q) = q ∙ ap of_check (basis_only_memory {A = Unit {0}} 0 s (Err e) v h checks basis)
+root_only pairs n s r v same basis checks tails tree (IsGivenRootRefusal.at_tails t d g a h q) = q ∙ ap (λ x. of_check (of_poly x)) (tails t d a h)
+root_only pairs n s r v same basis checks tails tree (IsGivenRootRefusal.on_the_way e g h q) = q ∙ ap of_tree (within_memory (ideal_by n (polys s.items)) pairs e tree (subst (λ k. IsTreeRefusal (ideal_by k (polys s.items)) pairs e) same h))
 
 pub root_within : (o : ListOptions) (n : ℕ) (s : MarkedPolynomials) (r : Refusal) → IsGivenListWithin o n s → IsGivenRootRefusal s o.pairs r → r ≡ refusals.Memory
-root_within o n s r w (IsGivenRootRefusal.at_check e h q) = q ∙ ap of_check (basis_only_memory {A = Unit {0}} 0 s (Err e) w.variables h w.checks w.basis)
-root_within o n s r w (IsGivenRootRefusal.at_tails t d g a h q) = q ∙ ap (λ x. of_check (of_poly x)) (w.tails t d a h)
-root_within o n s r w (IsGivenRootRefusal.on_the_way e g h q) = q ∙ ap of_tree (within_memory (ideal_by n (polys s.items)) o.pairs e w.tree (subst (λ k. IsTreeRefusal (ideal_by k (polys s.items)) o.pairs e) w.same h))
+root_within o n s r w h = root_only o.pairs n s r w.variables w.same w.basis w.checks w.tails w.tree h
+
+pub root_past : (o : ListOptions) (n : ℕ) (s : MarkedPolynomials) (most : ℕ) (r : Refusal) → IsGivenListPast o n s most → IsGivenRootRefusal s o.pairs r → r ≡ refusals.Memory
+root_past o n s most r w h = root_only o.pairs n s r w.variables w.same w.basis w.checks w.tails w.tree h
 
 -- a test of the set isn't told where the set is a basis, nor by the rest of the work
 root_tested : (s : MarkedPolynomials) (pairs : ℕ) (r : Refusal) → HaveVariables s.variables s.items → IsOfTest r → IsGivenRootRefusal s pairs r → IsMarkedGroebnerBasis s.variables s.items → ⊥
@@ -233,7 +242,7 @@ root_tested s pairs r v t (IsGivenRootRefusal.on_the_way e b h q) g = tree_untes
 going_untested : (o : ListOptions) (n : ℕ) (s : MarkedPolynomials) (r : Refusal) → IsOfTest r → IsGoingCause o n (polys s.items) r → ⊥
 going_untested o n s r t (IsGoingCause.in_tree e h q) = tree_untested e (subst IsOfTest q t)
 going_untested o n s r t (IsGoingCause.at_limit most h q) = subst IsOfTest q t
-going_untested o n s r t (IsGoingCause.at_certificates b k m u) = weight_untested u.0 (subst IsOfTest u.2 t)
+going_untested o n s r t (IsGoingCause.at_certificates c) = weight_untested c.uncertified.0 (subst IsOfTest c.uncertified.2 t)
 
 given_refutes : (o : ListOptions) (n : ℕ) (s : MarkedPolynomials) (r : Refusal) → HaveVariables s.variables s.items → IsOfTest r → IsGivenListCause o n s r → IsMarkedGroebnerBasis s.variables s.items → ⊥
 given_refutes o n s r v t (IsGivenListCause.at_root h) g = root_tested s o.pairs r v t h g

@@ -27,6 +27,8 @@ pub mod GivenBasisLaws  -- the list from a basis that is given
 pub mod ExactLaws  -- a source is answered in one way
 pub mod GivingWeightsLaws  -- the weights that `_weightvector` writes give the bases that it read
 pub mod OneTextLaws  -- what `_bases` writes for a source is one text
+pub mod LimitLaws  -- where the list goes on past its limit
+pub mod ServedLaws  -- what the answer of `_bases` has
 pub mod PerformedLaws  -- what a job does to the output
 pub mod OutcomeLaws  -- how a run ends
 pub mod FilesRunLaws  -- how a run on files ends

@@ -1,23 +1,30 @@
 -- An ideal has one list of all bases.
--- To cite: one_list. The rest are steps.
+-- To cite: list_exists, one_list. The rest are steps.
 use Rattle.std.specs.Prelude.{◌≡◌, ◌⊎◌, ℕ, List, [], ◌∷◌, length, ℤ}
 use Rattle.std.proofs.Common.{arith, refl, sym, ap, ◌∙◌, subst, inl, inr}
 use Rattle.gf_poly.specs.Polynomial.{Terms}
-use Rattle.gf_poly.specs.Marking.{MarkedPolynomials}
+use Rattle.gf_poly.specs.Marking.{MarkedPolynomial, MarkedPolynomials}
+use Rattle.gf_exponents.specs.Orders.{IsDeglexBelow}
 use Rattle.gf_ideal.specs.Membership.{AreInVariables}
+use Rattle.gf_ideal.specs.MonomialOrders.{MonomialOrder}
+use Rattle.gf_ideal.specs.Bases.{IsReducedBasisFor}
+use Rattle.gf_bases.proofs.ExistenceLaws.{homogeneous_in_ring}
+use Rattle.gf_bases.proofs.LawsHold.{reduced_bases_exist}
 use Rattle.gf_walk.specs.Path.{IsStrictOrder, IsTree, Leads, Precedes}
 use Rattle.gf_walk.specs.Listing.{Among, Rises, LeadTo}
+use Rattle.gf_walk.specs.Whole.{IsFinite}
 use Rattle.gf_walk.proofs.ListLaws.{leads_one, precedes_itself, precedes_trans}
 use Rattle.gf_walk.proofs.FinitenessLaws.{one_path, no_loop-rank}
 use Rattle.gf_facets.specs.Regions.{all_positive}
 use Rattle.gf_facets.specs.LexPositive.{IsBefore}
+use Rattle.gf_facets.specs.MarkedBases.{IsMarkedReducedBasis}
 use Rattle.gf_facets.proofs.VectorOrder.{before_strict}
 use Rattle.gf_reverse.specs.Upward.{IsParent}
-use Rattle.gf_reverse.proofs.TreeLaws.{rank, upward_tree, upward_falls}
+use Rattle.gf_reverse.proofs.TreeLaws.{rank, count, upward_tree, upward_falls, upward_finite}
 use Rattle.gf_reverse.proofs.ListLaws.{same_root}
 use Rattle.gf_tree.specs.Ideals.{ideal_by}
 use Rattle.gfan.specs.BasesList.{AreAllBases}
-use Rattle.gfan.proofs.BasesListLaws.{given_node}
+use Rattle.gfan.proofs.BasesListLaws.{given_node, first_node, first_own, all_bases_from}
 
 -- two lists that rise and have the same paths are one
 module _ {L : Type 0} (lt : L → L → Type 0) (strict : IsStrictOrder lt) where
@@ -88,3 +95,17 @@ one_list n fs a b v all other =
     let paths : all.paths ≡ other.paths = rising_one IsBefore before_strict all.paths other.paths all.rises other.rises
     (same_paths n fs a b other.root all.paths other.paths all other lead other.lead) (same_paths n fs b a other.root other.paths all.paths other all other.lead lead) in
     nodes_one (IsParent k) (upward_tree k) other.root other.paths a b (subst (λ ps. LeadTo (IsParent k) other.root ps a) paths lead) other.lead
+
+-- ---- there is one
+
+pub list_exists : (n : ℕ) (fs : List Terms) → AreInVariables n fs → (list : List MarkedPolynomials) × AreAllBases n fs list
+list_exists n fs v = (finite.nodes, all_bases_from n fs root finite.nodes v refl reduced.2 reduced.1.arranged finite.leaves)
+  where
+    reduced : (bs : List MarkedPolynomial) × IsMarkedReducedBasis n fs bs × IsReducedBasisFor n fs IsDeglexBelow bs
+    reduced = reduced_bases_exist.for_order MonomialOrder.deglex n [] fs tt v (homogeneous_in_ring n fs v)
+
+    root : MarkedPolynomials
+    root = record { variables = n; items = reduced.0 }
+
+    finite : IsFinite IsBefore (IsParent (all_positive n)) root (count (all_positive n) root)
+    finite = upward_finite (all_positive n) root (first_own n fs root (first_node n fs root v refl reduced.2 reduced.1.arranged))

@@ -1,9 +1,10 @@
 -- What `_bases` writes for a source is one text.
--- To cite: one_text.
+-- To cite: read_variables, given_variables, IsListOfSource, list_of_source, one_text. The rest are steps.
 use Rattle.std.specs.Prelude.{◌≡◌, ℕ, Bool, true, false, List, [], ◌∷◌, length, Option, ℤ}
-use Rattle.std.proofs.Common.{sym, ap, ◌∙◌, subst}
+use Rattle.std.proofs.Common.{refl, sym, ap, ◌∙◌, subst}
 use Rattle.gf_ideal.specs.Membership.{AreInVariables}
 use Rattle.gf_buchberger.proofs.JobLaws.{ring_variables}
+use Rattle.gf_poly.specs.Polynomial.{Terms}
 use Rattle.gf_poly.specs.Marking.{MarkedPolynomials, polys}
 use Rattle.gf_reduced.proofs.GroebnerLaws.{polys_variables}
 use Rattle.gf_front.specs.declared.command_line.Job.TheVariants as jobs
@@ -16,14 +17,43 @@ use Rattle.gf_items.proofs.ReadingLaws.{source_once}
 use Rattle.gfan.specs.Buchberger.{generators_of}
 use Rattle.gfan.specs.Bases.{AreItemTexts, IsTextOfBases, list_text}
 use Rattle.gfan.specs.OneList.{TextsAreOne}
+use Rattle.gfan.specs.ListSources.{HasPolynomials}
 use Rattle.gfan.specs.Commands.{IsAnswerTo}
 use Rattle.gfan.proofs.ReadSetLaws.{set_kept, marked_kept}
 use Rattle.gfan.proofs.OneListLaws.{one_list}
 use Rattle.gfan.proofs.CertificateLaws.{items_one}
 
 -- what is read is in the variables of the ring
-read_variables : (source : List ℕ) (v : List (List ℕ) × (List Written × Option (List ℤ))) → IsTextOf (ring_set_vector false) source v → AreInVariables (length v.0) (generators_of v.1.0)
+pub read_variables : (source : List ℕ) (v : List (List ℕ) × (List Written × Option (List ℤ))) → IsTextOf (ring_set_vector false) source v → AreInVariables (length v.0) (generators_of v.1.0)
 read_variables source v r = ring_variables (length v.0) (generators_of v.1.0) (record { each = λ f c. (set_kept v.0 (from source r.read.behind) r.read.two.behind v.1.0 r.read.two.one f c).0 })
+
+pub given_variables : (source : List ℕ) (v : List (List ℕ) × MarkedPolynomials) → IsTextOf ring_marked_set source v → AreInVariables (length v.0) (polys v.1.items)
+given_variables source v r = subst (λ n. AreInVariables n (polys v.1.items)) r.read.two.variables (polys_variables v.1.variables v.1.items (marked_kept v.0 (from source r.read.behind) r.end v.1 r.read.two))
+
+-- the answer for a source is the list of the ideal that the source says
+pub record IsListOfSource (from_basis certificates : Bool) (limit : Option ℕ) (source text : List ℕ) : Type 0 where
+  pub ring : List (List ℕ)
+  pub ideal : List Terms
+  pub read : HasPolynomials from_basis source ring ideal
+  pub inside : AreInVariables (length ring) ideal
+  pub is_list : IsTextOfBases certificates limit ring ideal text
+
+pub list_of_source : (from_basis certificates : Bool) (limit : Option ℕ) (pairs workers : ℕ) (source text : List ℕ) →
+    IsAnswerTo (jobs.Bases from_basis limit pairs certificates workers) source text → IsListOfSource from_basis certificates limit source text
+list_of_source false certificates limit pairs workers source text a = record {
+  ring = a.value.0;
+  ideal = generators_of a.value.1.0;
+  read = (a.value.1, a.read, refl);
+  inside = read_variables source a.value a.read;
+  is_list = a.answer.is_answer;
+}
+list_of_source true certificates limit pairs workers source text a = record {
+  ring = a.value.0;
+  ideal = polys a.value.1.items;
+  read = (a.value.1, a.read, refl);
+  inside = given_variables source a.value a.read;
+  is_list = a.answer.is_answer.list;
+}
 
 -- the list of generators
 generators_text : (certificates : Bool) (limit other : Option ℕ) (pairs budget workers others : ℕ) (source text same : List ℕ) → IsAnswerTo (jobs.Bases false limit pairs certificates workers) source text → IsAnswerTo (jobs.Bases false other budget certificates others) source same → text ≡ same
@@ -43,9 +73,7 @@ given_text certificates limit other pairs budget workers others source text same
     let values = once.once a.value b.value a.read b.read in
     let moved = subst (λ (v : List (List ℕ) × MarkedPolynomials). IsTextOfBases certificates other v.0 (polys v.1.items) same) values b.answer.is_answer.list in
     let mine = a.answer.is_answer.list in
-    let marked = a.read.read.two in
-    let inside = subst (λ n. AreInVariables n (polys a.value.1.items)) marked.variables (polys_variables a.value.1.variables a.value.1.items (marked_kept a.value.0 (from source a.read.read.behind) a.read.end a.value.1 marked)) in
-    let lists = one_list (length a.value.0) (polys a.value.1.items) mine.list moved.list inside mine.are_all moved.are_all in
+    let lists = one_list (length a.value.0) (polys a.value.1.items) mine.list moved.list (given_variables source a.value a.read) mine.are_all moved.are_all in
     let items = items_one certificates a.value.0 mine.list mine.items moved.items mine.are_items (subst (λ l. AreItemTexts certificates a.value.0 l moved.items) (sym lists) moved.are_items) in
     mine.is_text ∙ ap (list_text a.value.0) items ∙ sym moved.is_text
 

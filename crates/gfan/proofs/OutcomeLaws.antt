@@ -1,5 +1,5 @@
 -- How a run ends, from what its parts promise.
--- To cite: words_usage, words_cause, took_nothing, within_done, within_refused, done_in_reach, refused_in_reach, text_not_done, text_refused,
+-- To cite: words_usage, words_cause, took_nothing, within_done, within_refused, done_in_reach, refused_in_reach, limit_refused, limit_not_done, text_not_done, text_refused,
 -- form_not_done, form_refused, test_not_done, test_refused, long_not_done, long_refused, performed_done, stopped_cause, stopped_quiet, stopped_not_usage, input_refused,
 -- of_input. The rest are steps.
 use Rattle.std.specs.Prelude.{◌≡◌, ◌⊎◌, ℕ, ◌<◌, ◌≤◌, ◌++◌, List, [], length, Option, None, Some, IfSome}
@@ -17,11 +17,12 @@ use Rattle.gf_front.specs.declared.refusal.Status.TheVariants as statuses
 use Rattle.gf_front.specs.Jobs.{IsMatched, IsJobOf}
 use Rattle.gf_front.specs.Lines.{of_words}
 use Rattle.gf_items.specs.Commands.{IsOfText, IsOfForm, IsOfNumbers, IsOfTest, IsOfJob}
-use Rattle.gfan.specs.Commands.{IsAnswerTo, IsWholeTextOf, IsRefusalOf, IsWithinReach}
+use Rattle.gfan.specs.Commands.{IsAnswerTo, IsWholeTextOf, IsRefusalOf, IsWithinReach, IsPastReach}
 use Rattle.gfan.specs.Performed.{IsPerformed, IsBegunIn, LeavesBegun, IsStopped}
 use Rattle.gfan.specs.Run.{IsKnown, AsksForJob, ReadWhole, HasAnswer, HasWholeText, Answered, InputRefused, StandsBegun, LeavesWritten, IsRefusedWith, IsTestedWith, IsDoneUnlessMemory, IsCause, IsRingOfInput, IsOfInput, IsOfOutside}
 use Rattle.gfan.specs.declared.refused.Refused.{Refused}
 use Rattle.gfan.specs.Refused.{IsRingOf, IsOfSource}
+use Rattle.gfan.proofs.LimitLaws.{past_refused, past_unanswered}
 use Rattle.gfan.proofs.ExactLaws.{test_as, test_no_answer, test_no_whole, exact_text, exact_form, text_no_answer, form_no_answer, text_no_whole, form_no_whole, all_answered, refused_as_job}
 
 -- ---- bytes
@@ -188,11 +189,24 @@ module _ (words : List (List ℕ)) (left leaves : Option (List ℕ)) (given give
       at (IsRefusedHere.at_write text rose a) = absurd (calm rose)
       at (IsRefusedHere.at_memory m) = inr (ap (λ d. statuses.Refused d) m)
 
-  -- ---- what is refused exactly
-
   refused_as : (r d : Refusal) → (d ≡ r) ⊎ (d ≡ refusals.Memory) → IsRefusedWith (statuses.Refused d) r
   refused_as r d (inl e) = inl (ap (λ x. statuses.Refused x) e)
   refused_as r d (inr e) = inr (ap (λ x. statuses.Refused x) e)
+
+  -- ---- past the limit of a list
+
+  pub limit_refused : (job : Job) (source : List ℕ) (most : ℕ) (r : Refusal) → AsksForJobHere job source → IsPastReach job source most → (Rose written writes → ⊥) → IsCauseHere r → IsRefusedWith (statuses.Refused r) (refusals.ListLimit most)
+  limit_refused job source most r g p calm c = at (refused_here job source r g c)
+    where
+      at : IsRefusedHere written writes job source r → IsRefusedWith (statuses.Refused r) (refusals.ListLimit most)
+      at (IsRefusedHere.at_job h) = refused_as (refusals.ListLimit most) r (past_refused job source most r p h)
+      at (IsRefusedHere.at_write text rose a) = absurd (calm rose)
+      at (IsRefusedHere.at_memory m) = refused_as (refusals.ListLimit most) r (inr m)
+
+  pub limit_not_done : (job : Job) (source : List ℕ) (most : ℕ) → AsksForJobHere job source → IsPastReach job source most → Answered words left leaves given gives held holds → ⊥
+  limit_not_done job source most g p a = past_unanswered job source most a.text p (answer_here job source a.text g a.answer)
+
+  -- ---- what is refused exactly
 
   pub text_refused : (job : Job) (source : List ℕ) (r d : Refusal) → AsksForJobHere job source → IsOfText r → IsRefusalOf job source r → IsCauseHere d → IsRefusedWith (statuses.Refused d) r
   text_refused job source r d g t h c = at (refused_here job source d g c)

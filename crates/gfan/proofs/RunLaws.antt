@@ -1,8 +1,8 @@
 -- How a run ends, whether the words ask for a job on the input or on files.
 -- To cite: same_refused; run_usage, run_read_fault, run_open_fault, run_too_long, run_short, run_long, run_files_short, run_files_long, run_job, run_text,
 -- run_form, run_test, run_overflow, run_exponent_overflow, run_cone_overflow, run_pair_budget, run_list_limit, run_write_fault, run_write_part,
--- run_complete, run_files_complete, run_text_always, run_form_always, run_test_always, run_exact, run_always; done_short, done_long, done_files_short,
--- done_files_long, done_text_always, done_form_always, done_test_always, done_exact, done_always. The rest are steps.
+-- run_complete, run_files_complete, run_limit_always, run_text_always, run_form_always, run_test_always, run_exact, run_always; done_short, done_long, done_files_short,
+-- done_files_long, done_text_always, done_form_always, done_test_always, done_limit_always, done_exact, done_always. The rest are steps.
 use Rattle.std.specs.Prelude.{◌≡◌, ◌⊎◌, ℕ, ◌<◌, List, length, Option}
 use Rattle.std.proofs.Common.{refl, sym, ap, subst, inl, inr}
 use Rattle.gf_outside.specs.Faults.{Rose}
@@ -14,12 +14,12 @@ use Rattle.gf_front.specs.declared.refusal.Refusal.TheVariants as refusals
 use Rattle.gf_front.specs.declared.refusal.Status.TheVariants as statuses
 use Rattle.gf_front.specs.Jobs.{IsMatched, IsJobOf}
 use Rattle.gf_items.specs.Commands.{IsOfText, IsOfForm, IsOfNumbers, IsOfTest}
-use Rattle.gfan.specs.Commands.{IsRefusalOf, IsWithinReach, IsOverflow, IsExponentOverflow, IsConeOverflow, IsPairBudget}
+use Rattle.gfan.specs.Commands.{IsRefusalOf, IsWithinReach, IsPastReach, IsOverflow, IsExponentOverflow, IsConeOverflow, IsPairBudget}
 use Rattle.gfan.specs.CommonRefinement.{AreWithinFiles, IsRefinementRefused, IsRefusedInWords, IsRefinementWithin}
 use Rattle.gfan.specs.Run.{IsKnown, AsksForJob, AsksForInput, AsksForFiles, AsksForFans, Answered, AnsweredInPart, Refined, RefinedInPart, InputRefused, FilesRefused, LongFile, StandsBegun, IsOfOutside, IsRefusedWith, IsTestedWith, IsDoneUnlessMemory, IsRunInputCause, IsRunFilesCause}
-use Rattle.gfan.proofs.OutcomeLaws.{within_done, within_refused, refused_in_reach, text_not_done, text_refused, form_not_done, form_refused, test_not_done, test_refused, long_not_done, long_refused, input_refused}
+use Rattle.gfan.proofs.OutcomeLaws.{within_done, within_refused, refused_in_reach, limit_refused, limit_not_done, text_not_done, text_refused, form_not_done, form_refused, test_not_done, test_refused, long_not_done, long_refused, input_refused}
 use Rattle.gfan.proofs.CommonRefinementLaws.{refined_told, words_once, words_no_text, once_no_text, within_answered}
-use Rattle.gfan.proofs.FilesRunLaws.{answer_job, refusal_job, reach_job, input_no_files, files_usage, files_read_fault, files_open_fault, files_too_long, files_listed, files_outside, files_overflow, files_exponent_overflow, files_pair_budget, files_write, files_within, refined_within, refined_text, IsRefusedOnTexts, refused_files, files_long_refused, files_long_not_done}
+use Rattle.gfan.proofs.FilesRunLaws.{answer_job, refusal_job, reach_job, past_job, input_no_files, files_usage, files_read_fault, files_open_fault, files_too_long, files_listed, files_outside, files_overflow, files_exponent_overflow, files_pair_budget, files_write, files_within, refined_within, refined_text, IsRefusedOnTexts, refused_files, files_long_refused, files_long_not_done}
 
 pub same_refused : {r s : Refusal} → statuses.Refused s ≡ statuses.Refused r → r ≡ s
 same_refused e = cc
@@ -194,6 +194,12 @@ module _ (words : List (List ℕ)) (left leaves : Option (List ℕ)) (given give
       at (IsRefusedOnTexts.at_write text rose t) = absurd (calm rose)
       at (IsRefusedOnTexts.at_memory m) = inr (ap (λ x. statuses.Refused x) m)
 
+  -- ---- past the limit of a list
+
+  pub run_limit_always : (s : Refusal) (job : Job) (source : List ℕ) (most : ℕ) → AsksForJob words left read reads job source → IsPastReach job source most → (Rose written writes → ⊥) → Cause s → IsRefusedWith (statuses.Refused s) (refusals.ListLimit most)
+  run_limit_always s job source most g p calm (inl i) = limit_refused words left leaves given gives held holds read reads written writes job source most s g p calm i.1.cause
+  run_limit_always s job source most g p calm (inr f) = absurd (past_job words job source most g.asked p f.first f.second f.asked)
+
   -- ---- what is refused exactly
 
   pub run_text_always : (s : Refusal) (job : Job) (source : List ℕ) (r : Refusal) → AsksForJob words left read reads job source → IsOfText r → IsRefusalOf job source r → Cause s → IsRefusedWith (statuses.Refused s) r
@@ -265,6 +271,10 @@ module _ (words : List (List ℕ)) (left leaves : Option (List ℕ)) (given give
   pub done_test_always : (read reads : ℕ) (job : Job) (source : List ℕ) (r : Refusal) → AsksForJob words left read reads job source → IsOfTest r → IsRefusalOf job source r → Done → ⊥
   done_test_always read reads job source r g t h (inl a) = test_not_done words left leaves given gives held holds read reads 0 0 job source r g t h a
   done_test_always read reads job source r g t h (inr d) = refusal_job words job source r g.asked h d.first d.second d.asked
+
+  pub done_limit_always : (read reads : ℕ) (job : Job) (source : List ℕ) (most : ℕ) → AsksForJob words left read reads job source → IsPastReach job source most → Done → ⊥
+  done_limit_always read reads job source most g p (inl a) = limit_not_done words left leaves given gives held holds read reads 0 0 job source most g p a
+  done_limit_always read reads job source most g p (inr d) = past_job words job source most g.asked p d.first d.second d.asked
 
   module _ {unopened unopens taken takes : ℕ} (first second a b : List ℕ) (g : AsksForFiles words bytes unopened unopens taken takes first second a b) where
     pub done_files_long : (67108864 < length a) ⊎ (67108864 < length b) → Done → ⊥

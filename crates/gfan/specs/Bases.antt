@@ -1,5 +1,5 @@
 -- `_bases`: what it writes, and why it doesn't.
-use Rattle.std.specs.Prelude.{◌≡◌, ℕ, ◌<◌, ◌≤◌, Bool, true, false, List, [], ◌∷◌, ◌++◌, flat_map, length, Option, None, Some, ℤ}
+use Rattle.std.specs.Prelude.{◌≡◌, ◌⊎◌, ℕ, ◌<◌, ◌≤◌, Bool, true, false, List, [], ◌∷◌, ◌++◌, flat_map, length, Option, None, Some, ℤ}
 use Rattle.std.specs.List.{AllZip}
 use Rattle.gf_exponents.specs.SixOrders.{MonomialOrder}
 use Rattle.gf_poly.specs.Polynomial.{Terms}
@@ -11,12 +11,13 @@ use Rattle.gf_buchberger.specs.Bases.{IsBasisRefusal, AreRunsWithinLimits}
 use Rattle.gf_tree.specs.declared.error.TreeError.{TreeError}
 use Rattle.gf_tree.specs.declared.error.TreeError.TheVariants as tree_errors
 use Rattle.gf_tree.specs.Ideals.{ideal_by}
-use Rattle.gf_tree.specs.Refusals.{IsTreeRefusal, IsTreeWithinLimits}
+use Rattle.gf_tree.specs.Refusals.{IsTreeWithinLimits}
+use Rattle.gf_subtree.specs.Answers.{IsRefusedEarly}
 use Rattle.gf_weights.specs.Refusals.{AreCertificatesWithinLimits}
 use Rattle.gf_front.specs.declared.refusal.Refusal.{Refusal}
 use Rattle.gf_front.specs.declared.refusal.Refusal.TheVariants as refusals
 use Rattle.gf_items.specs.Sources.{ring_set_vector}
-use Rattle.gf_items.specs.Commands.{Command}
+use Rattle.gf_items.specs.Commands.{Command, IsOfNumbers}
 use Rattle.gfan.specs.declared.bases.ListOptions.{ListOptions}
 use Rattle.gfan.specs.Buchberger.{generators_of, of_basis}
 use Rattle.gfan.specs.BasesList.{IsGivenByWeight, AreAllBases}
@@ -69,9 +70,9 @@ pub record IsBegunList (certified : Bool) (ring : List (List ℕ)) (fs : List Te
   pub are_items : AreItemTexts certified ring written items
   pub is_text : text ≡ begun_text ring items
 
--- some of the bases, from the first on, or none
-abbrev pub IsBegunText : Bool → List (List ℕ) → List Terms → List ℕ → Type 0
-IsBegunText certified ring fs text = (written : List MarkedPolynomials) × (rest : List MarkedPolynomials) × IsBegunList certified ring fs written rest text
+-- some of the bases, from the first on, or none; no more than the limit lets through
+abbrev pub IsBegunText : ListOptions → List (List ℕ) → List Terms → List ℕ → Type 0
+IsBegunText o ring fs text = (written : List MarkedPolynomials) × (rest : List MarkedPolynomials) × IsBegunList o.certified ring fs written rest text × IsWithinLimit o.limit written
 
 -- just as many as the limit lets through, and a further one in the list
 pub record IsBegunToLimit (o : ListOptions) (ring : List (List ℕ)) (fs : List Terms) (most : ℕ) (text : List ℕ) : Type 0 where
@@ -82,10 +83,11 @@ pub record IsBegunToLimit (o : ListOptions) (ring : List (List ℕ)) (fs : List 
   pub begun : IsBegunList o.certified ring fs written (next ∷ rest) text
   pub just : length written ≡ most
 
--- at the limit just so many bases; else some of them, from the first on, or none
-abbrev pub IsBegunWhere : ListOptions → List (List ℕ) → List Terms → List ℕ → Refusal → Type 0
-IsBegunWhere o ring fs text (refusals.ListLimit most) = IsBegunToLimit o ring fs most text
-IsBegunWhere o ring fs text _ = IsBegunText o.certified ring fs text
+-- all that is written where nothing stops it: the text of the list; or, where that goes on past the limit, its beginning, with just as many
+-- bases as the limit lets through
+pub data IsFullText (o : ListOptions) (ring : List (List ℕ)) (fs : List Terms) (text : List ℕ) : Type 0 where
+  to_its_end : IsTextOfBases o.certified o.limit ring fs text → IsFullText o ring fs text
+  to_the_limit : (most : ℕ) → IsBegunToLimit o ring fs most text → IsFullText o ring fs text
 
 -- ---- why it isn't written
 
@@ -104,12 +106,36 @@ pub record IsPastLimit (limit : Option ℕ) (n : ℕ) (fs : List Terms) (most : 
   pub are_all : AreAllBases n fs list
   pub longer : most < length list
 
--- a step of the search is refused, at a basis of the ideal; or the list is past its limit; or, where certificates are asked for, those of
--- a basis of the ideal are refused
+-- behind some of the bases, which the limit lets through, a call of the search is refused at a basis that is one of these, or is the next one
+pub record IsSearchRefused (o : ListOptions) (n : ℕ) (fs : List Terms) (e : TreeError) : Type 0 where
+  pub written : List MarkedPolynomials
+  pub rest : List MarkedPolynomials
+  pub are_all : AreAllBases n fs (written ++ rest)
+  pub few : IsWithinLimit o.limit written
+  pub early : IsRefusedEarly (ideal_by n fs) o.pairs rest e
+
+-- certificates are asked for, and behind some of the bases those of the next one, which the limit lets through, are refused
+pub record AreCertificatesRefused (o : ListOptions) (n : ℕ) (fs : List Terms) (r : Refusal) : Type 0 where
+  pub certified : o.certified ≡ true
+  pub written : List MarkedPolynomials
+  pub basis : MarkedPolynomials
+  pub rest : List MarkedPolynomials
+  pub are_all : AreAllBases n fs (written ++ basis ∷ rest)
+  pub few : IsWithinLimit o.limit (written ++ basis ∷ [])
+  pub uncertified : IsUncertified basis r
+
+-- a step of the search is refused, at a basis that isn't behind the limit; or the list is past its limit; or, where certificates are asked
+-- for, those of a basis that the limit lets through are refused
 pub data IsGoingCause (o : ListOptions) (n : ℕ) (fs : List Terms) (r : Refusal) : Type 0 where
-  in_tree : (e : TreeError) → IsTreeRefusal (ideal_by n fs) o.pairs e → r ≡ of_tree e → IsGoingCause o n fs r
+  in_tree : (e : TreeError) → IsSearchRefused o n fs e → r ≡ of_tree e → IsGoingCause o n fs r
   at_limit : (most : ℕ) → IsPastLimit o.limit n fs most → r ≡ refusals.ListLimit most → IsGoingCause o n fs r
-  at_certificates : (b : MarkedPolynomials) → o.certified ≡ true → IsGivenByWeight n fs b → IsUncertified b r → IsGoingCause o n fs r
+  at_certificates : AreCertificatesRefused o n fs r → IsGoingCause o n fs r
+
+-- what stands where the list is refused so: at the limit just as many bases; at numbers, where the list from its first basis on is refused,
+-- or without memory, some of them, from the first on, or none; and nothing stands at a refusal that isn't one of these
+abbrev pub IsBegunWhere : ListOptions → List (List ℕ) → List Terms → List ℕ → Refusal → Type 0
+IsBegunWhere o ring fs text (refusals.ListLimit most) = IsBegunToLimit o ring fs most text
+IsBegunWhere o ring fs text r = IsOfNumbers r × (IsGoingCause o (length ring) fs r ⊎ (r ≡ refusals.Memory)) × IsBegunText o ring fs text
 
 -- the first basis, by degree and then lex, is refused; or the list from it on
 pub data IsListCause (o : ListOptions) (n : ℕ) (fs : List Terms) (r : Refusal) : Type 0 where
@@ -128,6 +154,16 @@ pub record IsListWithin (o : ListOptions) (n : ℕ) (fs : List Terms) : Type 0 w
   pub few : (list : List MarkedPolynomials) → AreAllBases n fs list → IsWithinLimit o.limit list
   pub certificates : AreCertifiedWithin o n fs
 
+-- the list goes on past its limit, and before that no operation leaves its limits: none on the way to the first basis, none of a call at a
+-- basis that the limit lets through, or at the next one, and none of the certificates of one that it lets through, where they are asked for
+pub record IsListPast (o : ListOptions) (n : ℕ) (fs : List Terms) (most : ℕ) : Type 0 where
+  pub root : AreRunsWithinLimits MonomialOrder.deglex fs o.pairs
+  pub past : IsPastLimit o.limit n fs most
+  pub calls : (written rest : List MarkedPolynomials) (e : TreeError) → past.list ≡ written ++ rest → length written ≤ most →
+      IsRefusedEarly (ideal_by n fs) o.pairs rest e → e ≡ tree_errors.Memory
+  pub certificates : (written rest : List MarkedPolynomials) (b : MarkedPolynomials) → past.list ≡ written ++ b ∷ rest → length written < most →
+      o.certified ≡ true → AreCertificatesWithinLimits b.variables b.items
+
 -- ---- the command
 
 abbrev pub bases_command : ListOptions → Command
@@ -136,7 +172,7 @@ bases_command o = record {
   items = ring_set_vector false;
   checks = λ v. [];
   IsAnswer = λ v text. IsTextOfBases o.certified o.limit v.0 (generators_of v.1.0) text;
-  IsWhole = λ v text. IsTextOfBases o.certified None v.0 (generators_of v.1.0) text;
+  IsWhole = λ v text. IsFullText o v.0 (generators_of v.1.0) text;
   IsCause = λ v r. IsListCause o (length v.0) (generators_of v.1.0) r;
   IsBegun = λ v text r. IsBegunWhere o v.0 (generators_of v.1.0) text r;
   IsWithin = λ v. IsListWithin o (length v.0) (generators_of v.1.0);

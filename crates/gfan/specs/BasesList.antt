@@ -1,8 +1,9 @@
 -- The list of all marked reduced Gröbner bases of an ideal, in the order of their paths.
 -- Laws: proofs/BasesListLaws.antt. Source: Fukuda, Jensen, Thomas, Computing Gröbner fans, 2 and 3; Avis and Fukuda, Reverse Search
 -- for Enumeration.
-use Rattle.std.specs.Prelude.{◌≡◌, ◌↔◌, ℕ, List, length, All, ℤ, pos, ◌<ℤ◌}
-use Rattle.gf_exponents.specs.Orders.{gains, IsDeglexBelow}
+use Rattle.std.specs.Prelude.{◌≡◌, ◌↔◌, ℕ, Bool, List, length, All, ℤ, pos, ◌<ℤ◌}
+use Rattle.gf_exponents.specs.Exponents.{Exponents}
+use Rattle.gf_exponents.specs.Orders.{gains, IsDeglexBelow, IsTermOrder}
 use Rattle.gf_poly.specs.Polynomial.{Terms}
 use Rattle.gf_poly.specs.Marking.{MarkedPolynomials}
 use Rattle.gf_ideal.specs.Membership.{AreInVariables}
@@ -15,6 +16,7 @@ use Rattle.gf_facets.specs.LexPositive.{IsBefore}
 use Rattle.gf_facets.specs.Facets.{IsInClosedCone}
 use Rattle.gf_facets.specs.InitialIdeals.{IsMonomialAt}
 use Rattle.gf_reverse.specs.Upward.{IsParent}
+use Rattle.gf_reverse.specs.TermOrders.{below_by}
 
 -- some positive weight gives the basis: it is the reduced one of the ideal of fs in n variables for this weight, arranged
 pub record IsGivenByWeight (n : ℕ) (fs : List Terms) (x : MarkedPolynomials) : Type 0 where
@@ -41,8 +43,8 @@ pub record AreAllBases (n : ℕ) (fs : List Terms) (list : List MarkedPolynomial
 -- ---- what such a list has
 
 -- a basis is listed exactly where some positive weight gives it. For each positive weight for which monomials generate the initial
--- ideal the reduced basis is listed, and no other listed basis is one for it. Each positive weight lies in the closed cone of a listed
--- basis
+-- ideal the reduced basis is listed, and no other listed basis is one for it; so it is for each term order. Each positive weight lies in the
+-- closed cone of a listed basis
 pub record WeightsAreServed : Type 0 where
   pub exactly : (n : ℕ) (fs : List Terms) (list : List MarkedPolynomials) (x : MarkedPolynomials) → AreAllBases n fs list →
       Among list x ↔ IsGivenByWeight n fs x
@@ -52,3 +54,7 @@ pub record WeightsAreServed : Type 0 where
       × ((y : MarkedPolynomials) → Among list y → IsReducedBasis n fs (gains w) y.items → x ≡ y)
   pub cones : (n : ℕ) (fs : List Terms) (list : List MarkedPolynomials) (w : List ℤ) → AreInVariables n fs → AreAllBases n fs list →
       length w ≡ n → All (λ k. pos 0 <ℤ k) w → (x : MarkedPolynomials) × Among list x × IsInClosedCone w x.items
+  pub orders : (n : ℕ) (fs : List Terms) (list : List MarkedPolynomials) (less : Exponents → Exponents → Bool) → AreInVariables n fs → AreAllBases n fs list →
+      IsTermOrder n (below_by less) →
+      (x : MarkedPolynomials) × Among list x × IsReducedBasisFor n fs (below_by less) x.items
+      × ((y : MarkedPolynomials) → Among list y → IsReducedBasisFor n fs (below_by less) y.items → x ≡ y)

@@ -23,7 +23,7 @@ use Rattle.gfan.specs.Buchberger.{of_basis}
 use Rattle.gfan.specs.Refused.{IsNamedBy}
 use Rattle.gfan.specs.BasesList.{AreAllBases}
 use Rattle.gfan.specs.Certificates.{IsItemText, IsItemRefusal}
-use Rattle.gfan.specs.Bases.{later_item_text, AreItemTexts, IsTextOfBases, IsBegunWhere, IsGoingCause, begun_text}
+use Rattle.gfan.specs.Bases.{later_item_text, AreItemTexts, IsTextOfBases, IsFullText, IsBegunWhere, IsGoingCause, begun_text}
 
 -- ---- pieces
 
@@ -99,7 +99,7 @@ IsListBegun o ring fs held holds r = (text : List ℕ) × IsBegunWhere o ring fs
 
 -- why the list isn't written from its first basis on, and what stands of it
 abbrev pub IsListStopped : ListOptions → List (List ℕ) → List Terms → Option (List ℕ) → Option (List ℕ) → ℕ → ℕ → Refusal → Type 0
-IsListStopped o ring fs held holds written writes refusals.WriteFault = Rose written writes × ((text : List ℕ) × IsTextOfBases o.certified None ring fs text × AppendsPrefix held holds text)
+IsListStopped o ring fs held holds written writes refusals.WriteFault = Rose written writes × ((text : List ℕ) × IsFullText o ring fs text × AppendsPrefix held holds text)
 IsListStopped o ring fs held holds written writes (refusals.ListLimit most) = IsGoingCause o (length ring) fs (refusals.ListLimit most) × IsListBegun o ring fs held holds (refusals.ListLimit most)
 IsListStopped o ring fs held holds written writes r = (IsGoingCause o (length ring) fs r ⊎ (r ≡ refusals.Memory)) × (Keeps held holds ⊎ IsListBegun o ring fs held holds r)
 

@@ -1,6 +1,6 @@
 -- What the certificates show that `_bases` writes. Laws: proofs/CertificateLaws.antt.
 -- Source: Fukuda, Jensen, Thomas, Computing Gröbner fans, 2 and 4.
-use Rattle.std.specs.Prelude.{◌≡◌, ◌↔◌, ℕ, true, List, ◌++◌, length, All, Contains, ℤ, pos, ◌<ℤ◌, Option}
+use Rattle.std.specs.Prelude.{◌≡◌, ◌↔◌, ℕ, Bool, true, List, ◌++◌, length, All, Contains, ℤ, pos, ◌<ℤ◌, Option}
 use Rattle.std.specs.List.{AllZip}
 use Rattle.gf_exponents.specs.Orders.{gains}
 use Rattle.gf_poly.specs.Polynomial.{Terms}
@@ -11,11 +11,14 @@ use Rattle.gf_ideal.specs.Bases.{IsReducedBasis}
 use Rattle.gf_facets.specs.Regions.{IsInRegion, all_positive}
 use Rattle.gf_facets.specs.Normals.{Ascends}
 use Rattle.gf_facets.specs.Facets.{IsInsideFacet, IsFlippable}
+use Rattle.gf_front.specs.declared.command_line.Job.TheVariants as jobs
 use Rattle.gf_weights.specs.declared.certificates.FacetWitness.{FacetWitness}
 use Rattle.gf_weights.specs.Weights.{normals_of}
 use Rattle.gfan.specs.BasesList.{AreAllBases}
 use Rattle.gfan.specs.Certificates.{certificates_text}
 use Rattle.gfan.specs.Bases.{list_text, IsTextOfBases}
+use Rattle.gfan.specs.Commands.{IsAnswerTo}
+use Rattle.gfan.specs.ListSources.{HasPolynomials}
 
 -- what is printed behind a basis of the ideal of fs: a positive weight, for which it is the ideal's reduced basis; and exactly the facets
 -- that a flip may cross, their normals ascending, each with a positive vector that is zero on its normal and positive on all others
@@ -30,7 +33,13 @@ pub record HasCertificates (ring : List (List ℕ)) (fs : List Terms) (b : Marke
   pub exactly : (a : List ℤ) → Contains (normals_of facets) a ↔ IsFlippable (length ring) (all_positive (length ring)) b.items a
   pub inside : (f : FacetWitness) → Contains facets f → IsInRegion (length ring) (all_positive (length ring)) f.witness × IsInsideFacet b.items f.normal f.witness
 
--- so it is with each basis of a list that is written with certificates
-abbrev pub CertificatesHold : Type 0
-CertificatesHold = (limit : Option ℕ) (ring : List (List ℕ)) (fs : List Terms) (text : List ℕ) → AreInVariables (length ring) fs → IsTextOfBases true limit ring fs text →
-    (list : List MarkedPolynomials) × AreAllBases (length ring) fs list × ((items : List (List ℕ)) × AllZip (HasCertificates ring fs) list items × (text ≡ list_text ring items))
+-- the text is that of all bases of the ideal of fs, and so it is with what is printed behind each of them
+abbrev pub IsCertifiedList : List (List ℕ) → List Terms → List ℕ → Type 0
+IsCertifiedList ring fs text = (list : List MarkedPolynomials) × AreAllBases (length ring) fs list × ((items : List (List ℕ)) × AllZip (HasCertificates ring fs) list items × (text ≡ list_text ring items))
+
+-- so it is with a list that is written with certificates, of polynomials in the variables of the ring; and with the answer of
+-- `_bases --certificates` for a source
+pub record CertificatesHold : Type 0 where
+  pub of_lists : (limit : Option ℕ) (ring : List (List ℕ)) (fs : List Terms) (text : List ℕ) → AreInVariables (length ring) fs → IsTextOfBases true limit ring fs text → IsCertifiedList ring fs text
+  pub of_answers : (from_basis : Bool) (limit : Option ℕ) (pairs workers : ℕ) (source text : List ℕ) → IsAnswerTo (jobs.Bases from_basis limit pairs true workers) source text →
+      (ring : List (List ℕ)) × (fs : List Terms) × HasPolynomials from_basis source ring fs × IsCertifiedList ring fs text

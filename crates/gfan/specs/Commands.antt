@@ -1,16 +1,20 @@
 -- What the program does for each job: the text that it writes, and why it doesn't.
-use Rattle.std.specs.Prelude.{ℕ, Bool, true, false, List, Option}
+use Rattle.std.specs.Prelude.{ℕ, Bool, true, false, List, length, Option, ℤ}
+use Rattle.gf_poly.specs.Marking.{MarkedPolynomials}
+use Rattle.gf_text.specs.declared.written.Written.{Written}
 use Rattle.gf_front.specs.declared.command_line.Job.{Job}
 use Rattle.gf_front.specs.declared.command_line.Job.TheVariants as jobs
 use Rattle.gf_front.specs.declared.refusal.Refusal.{Refusal}
 use Rattle.gf_front.specs.declared.refusal.Refusal.TheVariants as refusals
+use Rattle.gf_items.specs.Items.{IsTextOf}
+use Rattle.gf_items.specs.Sources.{ring_set_vector, ring_marked_set}
 use Rattle.gf_items.specs.Commands.{Command, IsAnswered, IsWholeFor, IsCommandRefused, IsInReach, IsBegunFor}
 use Rattle.gfan.specs.declared.buchberger.Options.{Options}
 use Rattle.gfan.specs.declared.bases.ListOptions.{ListOptions}
 use Rattle.gfan.specs.declared.told_cone.ConeOptions.{ConeOptions}
-use Rattle.gfan.specs.Buchberger.{buchberger_command}
-use Rattle.gfan.specs.Bases.{bases_command}
-use Rattle.gfan.specs.GivenBasis.{given_bases_command}
+use Rattle.gfan.specs.Buchberger.{generators_of, buchberger_command}
+use Rattle.gfan.specs.Bases.{IsListPast, bases_command}
+use Rattle.gfan.specs.GivenBasis.{IsGivenListPast, given_bases_command}
 use Rattle.gfan.specs.Marked.{marked_command}
 use Rattle.gfan.specs.Containment.{containment_command}
 use Rattle.gfan.specs.LeadingTerms.{leading_terms_command}
@@ -89,6 +93,14 @@ IsBegunBy job source text refusal = IsOnInput (work_of job) (λ c. IsBegunFor c 
 -- the source is what the job reads, and nothing that the job may do with it leaves its limits
 abbrev pub IsWithinReach : Job → List ℕ → Type 0
 IsWithinReach job source = IsOnInput (work_of job) (λ c. IsInReach c source)
+
+-- the job is `_bases`, the source is what it reads, and nothing that it may do with it leaves its limits, but the list goes on past this limit
+abbrev pub IsPastReach : Job → List ℕ → ℕ → Type 0
+IsPastReach (jobs.Bases false limit pairs certificates workers) source most =
+    (v : List (List ℕ) × (List Written × Option (List ℤ))) × IsTextOf (ring_set_vector false) source v × IsListPast (list_options limit pairs certificates) (length v.0) (generators_of v.1.0) most
+IsPastReach (jobs.Bases true limit pairs certificates workers) source most =
+    (v : List (List ℕ) × MarkedPolynomials) × IsTextOf ring_marked_set source v × IsGivenListPast (list_options limit pairs certificates) (length v.0) v.1 most
+IsPastReach _ source most = ⊥
 
 -- the job reads the input; `_fancommonrefinement` alone doesn't
 abbrev pub ReadsInput : Job → Type 0

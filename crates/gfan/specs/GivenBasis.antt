@@ -1,5 +1,5 @@
 -- `_bases -g`: a marked Gröbner basis is read in place of generators. What is written, and why it isn't.
-use Rattle.std.specs.Prelude.{◌≡◌, ℕ, Bool, List, [], length, None}
+use Rattle.std.specs.Prelude.{◌≡◌, ℕ, List, [], length}
 use Rattle.gf_poly.specs.declared.error.PolyError.{PolyError}
 use Rattle.gf_poly.specs.declared.error.PolyError.TheVariants as errors
 use Rattle.gf_poly.specs.Marking.{MarkedPolynomials, HaveVariables, polys, IsArranged}
@@ -16,7 +16,7 @@ use Rattle.gf_items.specs.Sources.{ring_marked_set}
 use Rattle.gf_items.specs.Commands.{Command}
 use Rattle.gfan.specs.declared.bases.ListOptions.{ListOptions}
 use Rattle.gfan.specs.BasesList.{AreAllBases}
-use Rattle.gfan.specs.Bases.{IsWithinLimit, IsTextOfBases, IsBegunWhere, of_tree, IsGoingCause, AreCertifiedWithin}
+use Rattle.gfan.specs.Bases.{IsWithinLimit, IsTextOfBases, IsFullText, IsBegunWhere, of_tree, IsPastLimit, IsGoingCause, AreCertifiedWithin}
 use Rattle.gfan.specs.CheckedSets.{of_check}
 
 -- ---- what is written
@@ -27,10 +27,15 @@ pub record IsTextFromBasis (o : ListOptions) (ring : List (List ℕ)) (s : Marke
   pub basis : IsMarkedGroebnerBasis s.variables s.items
   pub list : IsTextOfBases o.certified o.limit ring (polys s.items) text
 
--- the same without a limit
-pub record IsWholeFromBasis (certified : Bool) (ring : List (List ℕ)) (s : MarkedPolynomials) (text : List ℕ) : Type 0 where
+-- the same with all that is written of that list where nothing stops it
+pub record IsFullFromBasis (o : ListOptions) (ring : List (List ℕ)) (s : MarkedPolynomials) (text : List ℕ) : Type 0 where
   pub basis : IsMarkedGroebnerBasis s.variables s.items
-  pub list : IsTextOfBases certified None ring (polys s.items) text
+  pub list : IsFullText o ring (polys s.items) text
+
+-- the set is a Gröbner basis for its marking, and of the list this stands where it is refused so; so nothing stands where the set isn't one
+pub record IsBegunFromBasis (o : ListOptions) (ring : List (List ℕ)) (s : MarkedPolynomials) (text : List ℕ) (r : Refusal) : Type 0 where
+  pub basis : IsMarkedGroebnerBasis s.variables s.items
+  pub begun : IsBegunWhere o ring (polys s.items) text r
 
 -- ---- why it isn't written
 
@@ -60,6 +65,17 @@ pub record IsGivenListWithin (o : ListOptions) (n : ℕ) (s : MarkedPolynomials)
   pub few : (list : List MarkedPolynomials) → AreAllBases n (polys s.items) list → IsWithinLimit o.limit list
   pub certificates : AreCertifiedWithin o n (polys s.items)
 
+-- the same, but the list goes on past its limit
+pub record IsGivenListPast (o : ListOptions) (n : ℕ) (s : MarkedPolynomials) (most : ℕ) : Type 0 where
+  pub variables : HaveVariables s.variables s.items
+  pub same : s.variables ≡ n
+  pub basis : IsMarkedGroebnerBasis s.variables s.items
+  pub checks : AreChecksWithinLimits s
+  pub tails : (t : MarkedPolynomials) (d : PolyError) → IsArranged (monic_set s) t → IsAutoreductionRefusal t.items d → d ≡ errors.Memory
+  pub tree : IsTreeWithinLimits (ideal_by n (polys s.items)) o.pairs
+  pub certificates : AreCertifiedWithin o n (polys s.items)
+  pub past : IsPastLimit o.limit n (polys s.items) most
+
 -- ---- the command
 
 abbrev pub given_bases_command : ListOptions → Command
@@ -68,8 +84,8 @@ given_bases_command o = record {
   items = ring_marked_set;
   checks = λ v. [];
   IsAnswer = λ v text. IsTextFromBasis o v.0 v.1 text;
-  IsWhole = λ v text. IsWholeFromBasis o.certified v.0 v.1 text;
+  IsWhole = λ v text. IsFullFromBasis o v.0 v.1 text;
   IsCause = λ v r. IsGivenListCause o (length v.0) v.1 r;
-  IsBegun = λ v text r. IsBegunWhere o v.0 (polys v.1.items) text r;
+  IsBegun = λ v text r. IsBegunFromBasis o v.0 v.1 text r;
   IsWithin = λ v. IsGivenListWithin o (length v.0) v.1;
 }

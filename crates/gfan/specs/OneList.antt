@@ -1,4 +1,5 @@
 -- An ideal has one list of all bases, and `_bases` writes one text for a source.
+-- Laws: proofs/OneListLaws.antt, proofs/OneTextLaws.antt.
 use Rattle.std.specs.Prelude.{◌≡◌, ℕ, Bool, List, Option}
 use Rattle.gf_poly.specs.Polynomial.{Terms}
 use Rattle.gf_poly.specs.Marking.{MarkedPolynomials}
@@ -7,7 +8,11 @@ use Rattle.gf_front.specs.declared.command_line.Job.TheVariants as jobs
 use Rattle.gfan.specs.BasesList.{AreAllBases}
 use Rattle.gfan.specs.Commands.{IsAnswerTo}
 
--- so that what is written for an ideal is one text
+-- each ideal has a list of all its bases
+abbrev pub ListsExist : Type 0
+ListsExist = (n : ℕ) (fs : List Terms) → AreInVariables n fs → (list : List MarkedPolynomials) × AreAllBases n fs list
+
+-- and no two, so that what is written for an ideal is one text
 abbrev pub ListsAreOne : Type 0
 ListsAreOne = (n : ℕ) (fs : List Terms) (list other : List MarkedPolynomials) → AreInVariables n fs → AreAllBases n fs list → AreAllBases n fs other → list ≡ other
 

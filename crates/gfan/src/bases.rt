@@ -261,8 +261,9 @@ fn write_list<R: Threads + Sync, K: Sink, G: Gate>(
 /// - `WideVector` only with certificates, at a sum of entries of these rays: of all, or of those on which the normal of a facet is zero that
 ///   a flip may cross.
 /// - `PairBudget` only where such a run or flip would have to settle more than `pairs` pairs.
-/// - `ListLimit` exactly where as many bases as the limit are written, and a further one was found.
-/// - `WriteFault` only where a write failed; a prefix of the text of the whole list is written then.
+/// - `ListLimit` only where as many bases as the limit are written, and a further one was found; and always where there is a further one and no
+///   number of the work leaves its range.
+/// - `WriteFault` only where a write failed; a prefix is written then of the text of the list, or of what stands at its limit.
 ///
 /// On the others from `Overflow` on, what is written ends where a basis ends, or nothing is.
 pub(crate) fn perform<R: Threads + Sync, K: Sink, G: Gate>(

@@ -1,14 +1,26 @@
 // What the list of `_bases` and the weights of `_weightvector` have: laws, each the contract of a function that computes nothing.
 ghost use Rattle.gfan.specs.BasesList.{WeightsAreServed};
-ghost use Rattle.gfan.specs.OneList.{ListsAreOne, TextsAreOne};
+ghost use Rattle.gfan.specs.OneList.{ListsExist, ListsAreOne, TextsAreOne};
+ghost use Rattle.gfan.specs.Served.{WrittenListsServe};
 ghost use Rattle.gfan.specs.CertifiedBases.{CertificatesHold};
 ghost use Rattle.gfan.specs.GivingWeights.{WrittenWeightsGiveBases};
 
 /// A basis is in the list that `_bases` writes exactly where some positive weight gives it. For each positive weight for which monomials
-/// generate the initial ideal its reduced basis is there, once; and each positive weight lies in the closed cone of a basis that is
-/// there (Fukuda, Jensen, Thomas, *Computing Gröbner fans*, 2).
+/// generate the initial ideal its reduced basis is there, once; so is that for each term order; and each positive weight lies in the
+/// closed cone of a basis that is there (Fukuda, Jensen, Thomas, *Computing Gröbner fans*, 2).
 pub fn weights_are_served()
     ensures { WeightsAreServed }
+{}
+
+/// What `_bases` answers for a source is the list of all bases of the ideal of the polynomials that the source says, and so it is with the
+/// weights and the term orders: with each of them as `weights_are_served` has it.
+pub fn written_lists_serve()
+    ensures { WrittenListsServe }
+{}
+
+/// The ideal of a set has a list of all bases in the order of their paths.
+pub fn lists_exist()
+    ensures { ListsExist }
 {}
 
 /// The ideal of a set has one list of all bases in the order of their paths, so that what `_bases` writes for a ring and a set is one text.
@@ -21,7 +33,7 @@ pub fn texts_are_one()
     ensures { TextsAreOne }
 {}
 
-/// In a list that `_bases` writes with certificates, each basis is the reduced one for the positive weight that is printed behind it; and
+/// In a list that `_bases` writes with certificates, and so in its answer for a source, each basis is the reduced one for the positive weight that is printed behind it; and
 /// exactly the facets that a flip may cross stand there, each with a positive vector that is zero on the facet's normal and positive
 /// on all other normals (Fukuda, Jensen, Thomas, *Computing Gröbner fans*, 2 and 4).
 pub fn certificates_hold()

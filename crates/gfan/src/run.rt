@@ -7,7 +7,7 @@ ghost use Rattle.gf_outside.specs.Moved.{TookExactly, TookAtMost};
 ghost use Rattle.gf_front.specs.Jobs.{IsMatched, IsJobOf};
 ghost use Rattle.gf_front.specs.declared.command_line.Job.{Job};
 ghost use Rattle.gf_items.specs.Commands.{IsOfText, IsOfForm, IsOfNumbers, IsOfTest};
-ghost use Rattle.gfan.specs.Commands.{ReadsInput, IsRefusalOf, IsWithinReach, IsOverflow, IsExponentOverflow, IsConeOverflow, IsPairBudget};
+ghost use Rattle.gfan.specs.Commands.{ReadsInput, IsRefusalOf, IsWithinReach, IsPastReach, IsOverflow, IsExponentOverflow, IsConeOverflow, IsPairBudget};
 ghost use Rattle.gfan.specs.CommonRefinement.{AreWithinFiles, IsRefinementRefused, IsRefusedInWords, IsRefinementWithin};
 ghost use Rattle.gfan.specs.Run.{ReadWhole, IsReadingCause, Answered, AnsweredInPart, InputRefused, Refined, RefinedInPart, FilesRefused, LongFile, IsKnown, AsksForJob, AsksForInput, AsksForNoFiles, AsksForFiles, AsksForFans, IsRunInputCause, IsRunFilesCause, IsOfInput, IsOfOutside, IsTold, IsRefusedWith, IsTestedWith, IsDoneUnlessMemory, StandsBegun, LeavesWritten};
 
@@ -113,7 +113,7 @@ fn outcome<R: Threads + Sync, S: Source, K: Sink, F: Files, G: Gate>(
 ///   pair whose meet isn't a face of both, unless numbers of the work don't fit.
 /// - `Overflow`, `ExponentOverflow`, `ConeOverflow` and `WideVector` only for operands that the job may have, and that don't fit;
 ///   `PairBudget` only where the budget of the words is spent.
-/// - `ListLimit` exactly where the limit of the words is reached, and the list goes on.
+/// - `ListLimit` only where the limit of the words is reached, and the list goes on; and always there, unless numbers of the work don't fit.
 /// - `WriteFault` only where a write of this call failed, or took nothing; a prefix of the answer may be
 ///   written then. Any other refusal leaves nothing in the output, or the beginning of the text of a job that writes as it goes.
 /// - `Memory` at any growth.
@@ -241,6 +241,11 @@ pub fn run<R: Threads + Sync, S: Source, K: Sink, E: Sink, F: Files, G: Gate>(
         (S.given input.old) (S.given input.new) (K.held output.old) (K.held output.new)
         (Refusal.ListLimit most) }
 
+    // And wherever the list goes on past the limit and nothing that the job may do leaves its limits, that is the answer.
+    ensures limit_always { (job : Job) (source : List ℕ) (most : ℕ) → AsksForJob (map string_bytes words.now) (S.left input.old)
+        (S.faults input.old) (S.faults input.new) job source → IsPastReach job source most
+        → (Rose (K.faults output.old) (K.faults output.new) → ⊥) → IsRefusedWith result (Refusal.ListLimit most) }
+
     // No other refusal comes from what is read.
     ensures job { (refusal : Refusal) → result ≡ Status.Refused refusal → (IsOfOutside refusal → ⊥)
         → InputRefused (map string_bytes words.now) (S.left input.old) (S.left input.new)
@@ -248,7 +253,7 @@ pub fn run<R: Threads + Sync, S: Source, K: Sink, E: Sink, F: Files, G: Gate>(
         ⊎ FilesRefused (map string_bytes words.now) (F.bytes files.old) (F.left files.new)
         (F.given files.old) (F.given files.new) refusal }
 
-    // A write failed, and what is written is a prefix of the whole text.
+    // A write failed, and what is written is a prefix of the whole text, or of a list of what stands at its limit.
     ensures write_fault { result ≡ Status.Refused Refusal.WriteFault
         → Rose (K.faults output.old) (K.faults output.new) }
     ensures write_part { result ≡ Status.Refused Refusal.WriteFault

@@ -31,7 +31,7 @@ list-init g c = record {
 pub returns-in_err-basis-clause-stopped : goal.returns-in_err-basis-clause-stopped
 returns-in_err-basis-clause-stopped g c =
     let p = err_from_is_err_and c.from_residual-in_err-basis.result c.from_residual-in_err-basis.ensures.1 in
-    rw (p.1, p.2) (λ fs s. stopped_tree c.args.options c.args.ring.now fs c.list.waves c.list.room c.list.is_first (g.K.Sink.held c.args.output.now) (g.K.Sink.held c.list.output) (c.list.invariant.under_way fs s) (g.K.Sink.faults c.args.output.now) (g.K.Sink.faults c.list.output) c.in_err-basis.field-0.0 c.in_err-basis.ensures.cause)
+    rw (p.1, p.2) (λ fs s. stopped_tree c.args.options c.args.ring.now fs c.list.waves c.list.room c.list.is_first (g.K.Sink.held c.args.output.now) (g.K.Sink.held c.list.output) (c.list.invariant.under_way fs s) (g.K.Sink.faults c.args.output.now) (g.K.Sink.faults c.list.output) c.in_err-basis.field-0.0 c.in_err-basis.ensures.early)
 
 pub returns-in_err-basis-clause-told : goal.returns-in_err-basis-clause-told
 returns-in_err-basis-clause-told g c =
@@ -62,7 +62,7 @@ returns-in_err-write_basis-clause-stopped g c =
     let step : IsNextRow c.list.waves c.next_written.new.self c.in-Some.basis = subst (λ o. IsRowAnswer c.list.waves c.next_written.new.self o) c.in-Some.is c.in_ok-basis.ensures.ok in
     let p = err_from_is_err_and c.from_residual-in_err-write_basis.result c.from_residual-in_err-write_basis.ensures.1 in
     rw (p.1, p.2) (λ fs s. subst (λ k. IsListStopped c.args.options c.args.ring.now fs (g.K.Sink.held c.args.output.now) (g.K.Sink.held c.write_basis.new.output) k (g.K.Sink.faults c.write_basis.new.output) c.in_err-write_basis.field-0.0) c.list.invariant.calm
-    (stopped_piece c.args.options c.args.ring.now fs c.list.waves c.list.room c.list.is_first (g.K.Sink.held c.args.output.now) (g.K.Sink.held c.list.output) (c.list.invariant.under_way fs s) c.next_written.new.self c.in-Some.basis step (g.K.Sink.held c.write_basis.new.output) (g.K.Sink.faults c.list.output) (g.K.Sink.faults c.write_basis.new.output) c.in_err-write_basis.field-0.0 c.in_err-write_basis.ensures.err))
+    (stopped_piece c.args.options c.args.ring.now fs c.list.waves c.list.room c.list.is_first (g.K.Sink.held c.args.output.now) (g.K.Sink.held c.list.output) (c.list.invariant.under_way fs s) c.next_written.new.self c.in-Some.basis step c.in_ok-room.room (g.K.Sink.held c.write_basis.new.output) (g.K.Sink.faults c.list.output) (g.K.Sink.faults c.write_basis.new.output) c.in_err-write_basis.field-0.0 c.in_ok-room.ensures.ok c.in_err-write_basis.ensures.err))
 
 pub returns-in_err-offer-clause-stopped : goal.returns-in_err-offer-clause-stopped
 returns-in_err-offer-clause-stopped g c =

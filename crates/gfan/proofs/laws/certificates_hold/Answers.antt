@@ -1,4 +1,4 @@
-use Rattle.gfan.proofs.CertificateLaws.{certificates_hold}
+use Rattle.gfan.proofs.ServedLaws.{certificates_hold}
 use Rattle.gfan.proofs.laws.certificates_hold.Goals as goal
 
 pub returns : goal.returns

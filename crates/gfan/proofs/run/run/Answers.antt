@@ -2,7 +2,7 @@ use Rattle.std.specs.Prelude.{map, string_bytes}
 use Rattle.std.proofs.Common.{◌∙◌, ap, sym, subst}
 use Rattle.gf_front.specs.declared.refusal.Status.TheVariants as statuses
 use Rattle.gfan.proofs.OutcomeLaws.{took_nothing}
-use Rattle.gfan.proofs.RunLaws.{same_refused, run_usage, run_read_fault, run_open_fault, run_too_long, run_short, run_long, run_files_short, run_files_long, run_job, run_text, run_form, run_test, run_overflow, run_exponent_overflow, run_cone_overflow, run_pair_budget, run_list_limit, run_write_fault, run_write_part, run_complete, run_files_complete, run_text_always, run_form_always, run_test_always, run_exact, run_always, done_short, done_long, done_files_short, done_files_long, done_text_always, done_form_always, done_test_always, done_exact, done_always}
+use Rattle.gfan.proofs.RunLaws.{same_refused, run_usage, run_read_fault, run_open_fault, run_too_long, run_short, run_long, run_files_short, run_files_long, run_job, run_text, run_form, run_test, run_overflow, run_exponent_overflow, run_cone_overflow, run_pair_budget, run_list_limit, run_write_fault, run_write_part, run_complete, run_files_complete, run_limit_always, run_text_always, run_form_always, run_test_always, run_exact, run_always, done_short, done_long, done_files_short, done_files_long, done_text_always, done_form_always, done_test_always, done_limit_always, done_exact, done_always}
 use Rattle.gfan.specs.Run.{LeavesWritten}
 use Rattle.gfan.proofs.run.run.Goals as goal
 
@@ -29,6 +29,9 @@ returns-in-Ok-clause-form_always g c = λ job source refusal given of_form refus
 
 pub returns-in-Ok-clause-test_always : goal.returns-in-Ok-clause-test_always
 returns-in-Ok-clause-test_always g c = λ job source refusal given of_test refused. absurd (done_test_always _ _ _ _ _ _ _ _ _ _ _ _ _ job source refusal given of_test refused c.in-Ok.ensures.done)
+
+pub returns-in-Ok-clause-limit_always : goal.returns-in-Ok-clause-limit_always
+returns-in-Ok-clause-limit_always g c = λ job source most given past calm. absurd (done_limit_always _ _ _ _ _ _ _ _ _ _ _ _ _ job source most given past c.in-Ok.ensures.done)
 
 pub returns-in-Ok-clause-files_exact : goal.returns-in-Ok-clause-files_exact
 returns-in-Ok-clause-files_exact g c = λ first second a b refusal asks refused. absurd (done_exact _ _ _ _ _ _ _ _ _ _ _ first second a b asks.files refusal refused c.in-Ok.ensures.done)
@@ -108,6 +111,9 @@ returns-in-Err-clause-pair_budget g c = λ refusal is kind. run_pair_budget _ _ 
 
 pub returns-in-Err-clause-list_limit : goal.returns-in-Err-clause-list_limit
 returns-in-Err-clause-list_limit g c = λ most is. run_list_limit _ _ _ _ _ _ _ _ _ _ _ _ _ _ _ _ _ _ _ _ most is c.in-Err.ensures.cause
+
+pub returns-in-Err-clause-limit_always : goal.returns-in-Err-clause-limit_always
+returns-in-Err-clause-limit_always g c = λ job source most given past calm. run_limit_always _ _ _ _ _ _ _ _ _ _ _ _ _ _ _ _ _ _ _ _ c.in-Err.refused.refusal job source most given past calm c.in-Err.ensures.cause
 
 pub returns-in-Err-clause-job : goal.returns-in-Err-clause-job
 returns-in-Err-clause-job g c = λ refusal is other. run_job _ _ _ _ _ _ _ _ _ _ _ _ _ _ _ _ _ _ _ _ refusal is other c.in-Err.ensures.cause

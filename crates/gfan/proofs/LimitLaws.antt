@@ -1,0 +1,124 @@
+-- Where the list of `_bases` goes on past its limit, and nothing that the job may do leaves its limits, the limit is told.
+-- To cite: past_refused, past_unanswered. The rest are steps.
+use Rattle.std.specs.Prelude.{◌≡◌, ◌⊎◌, ℕ, ◌<◌, ◌≤◌, true, false, List, [], ◌∷◌, ◌++◌, length, Err, Option, None, Some}
+use Rattle.std.proofs.Common.{arith, refl, ap, ◌∙◌, subst, inl, inr, length-append}
+use Rattle.gf_exponents.specs.SixOrders.{MonomialOrder}
+use Rattle.gf_poly.specs.Polynomial.{Terms}
+use Rattle.gf_poly.specs.Marking.{MarkedPolynomials, polys}
+use Rattle.gf_ideal.specs.Membership.{AreInVariables}
+use Rattle.gf_text.specs.declared.error.TextError.{TextError}
+use Rattle.gf_text.specs.declared.error.TextError.TheVariants as text_errors
+use Rattle.gf_buchberger.proofs.BasesOfRuns.{if_within}
+use Rattle.gf_tree.specs.Ideals.{ideal_by}
+use Rattle.gf_tree.proofs.RefusalLaws.{within_memory}
+use Rattle.gf_subtree.proofs.BasisRowLaws.{early_refused}
+use Rattle.gf_front.specs.declared.command_line.Job.{Job}
+use Rattle.gf_front.specs.declared.command_line.Job.TheVariants as jobs
+use Rattle.gf_front.specs.declared.refusal.Refusal.{Refusal}
+use Rattle.gf_front.specs.declared.refusal.Refusal.TheVariants as refusals
+use Rattle.gf_items.specs.Items.{Item, IsTextOf, IsTextRefused}
+use Rattle.gf_items.specs.Commands.{Command, of_text, IsUnanswered, IsCommandRefused}
+use Rattle.gf_items.specs.Kinds.{a_set, a_marked_set, vector_where}
+use Rattle.gf_items.specs.ReadOnce.{IsReadOnce}
+use Rattle.gf_items.proofs.KindLaws.{ring_and_once}
+use Rattle.gf_items.proofs.ReadingLaws.{source_once}
+use Rattle.gfan.specs.declared.bases.ListOptions.{ListOptions}
+use Rattle.gfan.specs.Certificates.{of_weight_error}
+use Rattle.gfan.specs.Bases.{IsWithinLimit, of_tree, IsPastLimit, IsGoingCause, IsListCause, IsListPast, bases_command}
+use Rattle.gfan.specs.GivenBasis.{IsGivenListCause, IsGivenListPast, given_bases_command}
+use Rattle.gfan.specs.BasesList.{AreAllBases}
+use Rattle.gfan.specs.Buchberger.{generators_of, of_basis}
+use Rattle.gfan.specs.Commands.{list_options, IsAnswerTo, IsRefusalOf, IsPastReach}
+use Rattle.gfan.proofs.BasesListLaws.{among_right}
+use Rattle.gfan.proofs.GivenBasisLaws.{root_past}
+use Rattle.gfan.proofs.OneListLaws.{one_list}
+use Rattle.gfan.proofs.OneTextLaws.{read_variables, given_variables}
+
+-- ---- the work is refused at the limit, or for want of memory
+
+abbrev IsAtLimitOrMemory : ℕ → Refusal → Type 0
+IsAtLimitOrMemory most r = (r ≡ refusals.ListLimit most) ⊎ (r ≡ refusals.Memory)
+
+one_limit : (limit : Option ℕ) (a b : ℕ) → limit ≡ Some a → limit ≡ Some b → a ≡ b
+one_limit limit a b p q = cc
+
+within_most : (limit : Option ℕ) (most : ℕ) (list : List MarkedPolynomials) → limit ≡ Some most → IsWithinLimit limit list → length list ≤ most
+within_most None most list e w = cc
+within_most (Some n) most list e w = let same : n ≡ most = cc in omega arith
+
+list_past : (o : ListOptions) (n : ℕ) (fs : List Terms) (most : ℕ) (r : Refusal) → AreInVariables n fs → IsListPast o n fs most → IsListCause o n fs r → IsAtLimitOrMemory most r
+list_past o n fs most r v w (IsListCause.at_root e h q) = inr (q ∙ ap of_basis (if_within {A = Unit {0}} MonomialOrder.deglex n o.pairs fs (Err e) w.root h))
+list_past o n fs most r v w (IsListCause.going (IsGoingCause.in_tree e h q)) =
+    inr (q ∙ ap of_tree (w.calls h.written h.rest e (one_list n fs w.past.list (h.written ++ h.rest) v w.past.are_all h.are_all) (within_most o.limit most h.written w.past.is_limit h.few) h.early))
+list_past o n fs most r v w (IsListCause.going (IsGoingCause.at_limit m h q)) = inl (q ∙ ap (λ k. refusals.ListLimit k) (one_limit o.limit m most h.is_limit w.past.is_limit))
+list_past o n fs most r v w (IsListCause.going (IsGoingCause.at_certificates c)) =
+    let few : length (c.written ++ c.basis ∷ []) ≤ most = within_most o.limit most (c.written ++ c.basis ∷ []) w.past.is_limit c.few in
+    let short : length c.written < most = omega (arith, few, length-append c.written (c.basis ∷ [])) in
+    inr (c.uncertified.2 ∙ ap of_weight_error (w.certificates c.written c.rest c.basis (one_list n fs w.past.list (c.written ++ c.basis ∷ c.rest) v w.past.are_all c.are_all) short c.certified c.uncertified.0 c.uncertified.1))
+
+given_past : (o : ListOptions) (n : ℕ) (s : MarkedPolynomials) (most : ℕ) (r : Refusal) → IsGivenListPast o n s most → IsGivenListCause o n s r → IsAtLimitOrMemory most r
+given_past o n s most r w (IsGivenListCause.at_root h) = inr (root_past o n s most r w h)
+given_past o n s most r w (IsGivenListCause.going g (IsGoingCause.in_tree e h q)) = inr (q ∙ ap of_tree (within_memory (ideal_by n (polys s.items)) o.pairs e w.tree (early_refused (ideal_by n (polys s.items)) o.pairs h.rest e h.early)))
+given_past o n s most r w (IsGivenListCause.going g (IsGoingCause.at_limit m h q)) = inl (q ∙ ap (λ k. refusals.ListLimit k) (one_limit o.limit m most h.is_limit w.past.is_limit))
+given_past o n s most r w (IsGivenListCause.going g (IsGoingCause.at_certificates c)) =
+    inr (c.uncertified.2 ∙ ap of_weight_error (w.certificates c.certified c.basis (c.are_all.only c.basis (among_right c.written (c.basis ∷ c.rest) c.basis (inl refl))) c.uncertified.0 c.uncertified.1))
+
+-- ---- so is the job
+
+-- the text that is read isn't refused
+text_memory : {A : Type 0} (item : Item A) (source : List ℕ) (a : A) → IsReadOnce item → IsTextOf item source a → (e : TextError) → IsTextRefused item source e → of_text e ≡ refusals.Memory
+text_memory item source a laws read (text_errors.Overflow o) h = absurd ((source_once item laws source).apart a (text_errors.Overflow o) read h (λ q. cc))
+text_memory item source a laws read (text_errors.Exponent o) h = absurd ((source_once item laws source).apart a (text_errors.Exponent o) read h (λ q. cc))
+text_memory item source a laws read (text_errors.Syntax s) h = absurd ((source_once item laws source).apart a (text_errors.Syntax s) read h (λ q. cc))
+text_memory item source a laws read (text_errors.TooWide at) h = absurd ((source_once item laws source).apart a (text_errors.TooWide at) read h (λ q. cc))
+text_memory item source a laws read (text_errors.UnknownName at) h = absurd ((source_once item laws source).apart a (text_errors.UnknownName at) read h (λ q. cc))
+text_memory item source a laws read (text_errors.TooManyVariables count) h = absurd ((source_once item laws source).apart a (text_errors.TooManyVariables count) read h (λ q. cc))
+text_memory item source a laws read (text_errors.ZeroPolynomial set index) h = absurd ((source_once item laws source).apart a (text_errors.ZeroPolynomial set index) read h (λ q. cc))
+text_memory item source a laws read text_errors.Memory h = refl
+
+generators_past : (o : ListOptions) (source : List ℕ) (v : (bases_command o).Value) (most : ℕ) (d : Refusal) → IsTextOf (bases_command o).items source v → IsListPast o (length v.0) (generators_of v.1.0) most →
+    IsCommandRefused (bases_command o) source d → IsAtLimitOrMemory most d
+generators_past o source v most d read p (IsCommandRefused.in_text e h q) = inr (q ∙ text_memory (bases_command o).items source v (ring_and_once a_set (vector_where false ∷ [])) read e h)
+generators_past o source v most d read p (IsCommandRefused.behind_text a k (IsUnanswered.in_form f)) = absurd f
+generators_past o source v most d read p (IsCommandRefused.behind_text a k (IsUnanswered.in_work g w)) =
+    let same = (source_once (bases_command o).items (ring_and_once a_set (vector_where false ∷ [])) source).once v a read k in
+    list_past o (length v.0) (generators_of v.1.0) most d (read_variables source v read) p (subst (λ (x : (bases_command o).Value). IsListCause o (length x.0) (generators_of x.1.0) d) same w)
+generators_past o source v most d read p (IsCommandRefused.behind_text a k (IsUnanswered.no_memory m)) = inr m
+generators_past o source v most d read p (IsCommandRefused.no_memory m) = inr m
+
+basis_past : (o : ListOptions) (source : List ℕ) (v : (given_bases_command o).Value) (most : ℕ) (d : Refusal) → IsTextOf (given_bases_command o).items source v → IsGivenListPast o (length v.0) v.1 most →
+    IsCommandRefused (given_bases_command o) source d → IsAtLimitOrMemory most d
+basis_past o source v most d read p (IsCommandRefused.in_text e h q) = inr (q ∙ text_memory (given_bases_command o).items source v (ring_and_once a_marked_set []) read e h)
+basis_past o source v most d read p (IsCommandRefused.behind_text a k (IsUnanswered.in_form f)) = absurd f
+basis_past o source v most d read p (IsCommandRefused.behind_text a k (IsUnanswered.in_work g w)) =
+    let same = (source_once (given_bases_command o).items (ring_and_once a_marked_set []) source).once v a read k in
+    given_past o (length v.0) v.1 most d p (subst (λ (x : (given_bases_command o).Value). IsGivenListCause o (length x.0) x.1 d) same w)
+basis_past o source v most d read p (IsCommandRefused.behind_text a k (IsUnanswered.no_memory m)) = inr m
+basis_past o source v most d read p (IsCommandRefused.no_memory m) = inr m
+
+pub past_refused : (job : Job) (source : List ℕ) (most : ℕ) (d : Refusal) → IsPastReach job source most → IsRefusalOf job source d → (d ≡ refusals.ListLimit most) ⊎ (d ≡ refusals.Memory)
+past_refused (jobs.Bases false limit pairs certificates workers) source most d p h = generators_past (list_options limit pairs certificates) source p.0 most d p.1 p.2 h
+past_refused (jobs.Bases true limit pairs certificates workers) source most d p h = basis_past (list_options limit pairs certificates) source p.0 most d p.1 p.2 h
+past_refused _ source most d p h = absurd p
+
+-- ---- and it isn't answered
+
+too_long : (limit : Option ℕ) (most : ℕ) (list : List MarkedPolynomials) → limit ≡ Some most → most < length list → IsWithinLimit limit list → ⊥
+too_long None most list e l w = cc
+too_long (Some n) most list e l w = let same : n ≡ most = cc in omega arith
+
+no_text : (n : ℕ) (fs : List Terms) (limit : Option ℕ) (most : ℕ) (list : List MarkedPolynomials) → AreInVariables n fs → IsPastLimit limit n fs most → AreAllBases n fs list → IsWithinLimit limit list → ⊥
+no_text n fs limit most list v p all few = too_long limit most p.list p.is_limit p.longer (subst (IsWithinLimit limit) (one_list n fs list p.list v all p.are_all) few)
+
+pub past_unanswered : (job : Job) (source : List ℕ) (most : ℕ) (text : List ℕ) → IsPastReach job source most → IsAnswerTo job source text → ⊥
+past_unanswered (jobs.Bases false limit pairs certificates workers) source most text p a =
+    let o = list_options limit pairs certificates in
+    let same = (source_once (bases_command o).items (ring_and_once a_set (vector_where false ∷ [])) source).once a.value p.0 a.read p.1 in
+    no_text (length a.value.0) (generators_of a.value.1.0) limit most a.answer.is_answer.list (read_variables source a.value a.read)
+    (subst (λ (x : (bases_command o).Value). IsPastLimit limit (length x.0) (generators_of x.1.0) most) same p.2.past) a.answer.is_answer.are_all a.answer.is_answer.few
+past_unanswered (jobs.Bases true limit pairs certificates workers) source most text p a =
+    let o = list_options limit pairs certificates in
+    let same = (source_once (given_bases_command o).items (ring_and_once a_marked_set []) source).once a.value p.0 a.read p.1 in
+    no_text (length a.value.0) (polys a.value.1.items) limit most a.answer.is_answer.list.list (given_variables source a.value a.read)
+    (subst (λ (x : (given_bases_command o).Value). IsPastLimit limit (length x.0) (polys x.1.items) most) same p.2.past) a.answer.is_answer.list.are_all a.answer.is_answer.list.few
+past_unanswered _ source most text p a = absurd p

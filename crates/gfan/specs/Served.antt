@@ -1,0 +1,47 @@
+-- What the list that `_bases` writes for a source has for each weight and each term order. Laws: proofs/ServedLaws.antt.
+-- Source: Fukuda, Jensen, Thomas, Computing Gröbner fans, 2.
+use Rattle.std.specs.Prelude.{◌≡◌, ◌↔◌, ℕ, Bool, List, length, All, ℤ, pos, ◌<ℤ◌, Option}
+use Rattle.gf_exponents.specs.Exponents.{Exponents}
+use Rattle.gf_exponents.specs.Orders.{gains, IsTermOrder}
+use Rattle.gf_poly.specs.Polynomial.{Terms}
+use Rattle.gf_poly.specs.Marking.{MarkedPolynomials}
+use Rattle.gf_ideal.specs.Bases.{IsReducedBasis, IsReducedBasisFor}
+use Rattle.gf_walk.specs.Listing.{Among}
+use Rattle.gf_facets.specs.Facets.{IsInClosedCone}
+use Rattle.gf_facets.specs.InitialIdeals.{IsMonomialAt}
+use Rattle.gf_reverse.specs.TermOrders.{below_by}
+use Rattle.gf_front.specs.declared.command_line.Job.TheVariants as jobs
+use Rattle.gfan.specs.BasesList.{IsGivenByWeight, AreAllBases}
+use Rattle.gfan.specs.Bases.{AreItemTexts, list_text}
+use Rattle.gfan.specs.Commands.{IsAnswerTo}
+use Rattle.gfan.specs.ListSources.{HasPolynomials}
+
+-- a basis is listed exactly where some positive weight gives it; for each positive weight for which monomials generate the initial ideal, and
+-- for each term order, the reduced basis is listed, and no other listed basis is one for it; each positive weight lies in the closed cone of
+-- a listed basis
+pub record ServesWeights (n : ℕ) (fs : List Terms) (list : List MarkedPolynomials) : Type 0 where
+  pub exactly : (x : MarkedPolynomials) → Among list x ↔ IsGivenByWeight n fs x
+  pub monomial : (w : List ℤ) → length w ≡ n → All (λ k. pos 0 <ℤ k) w → IsMonomialAt n fs w →
+      (x : MarkedPolynomials) × Among list x × IsReducedBasis n fs (gains w) x.items
+      × ((y : MarkedPolynomials) → Among list y → IsReducedBasis n fs (gains w) y.items → x ≡ y)
+  pub orders : (less : Exponents → Exponents → Bool) → IsTermOrder n (below_by less) →
+      (x : MarkedPolynomials) × Among list x × IsReducedBasisFor n fs (below_by less) x.items
+      × ((y : MarkedPolynomials) → Among list y → IsReducedBasisFor n fs (below_by less) y.items → x ≡ y)
+  pub cones : (w : List ℤ) → length w ≡ n → All (λ k. pos 0 <ℤ k) w → (x : MarkedPolynomials) × Among list x × IsInClosedCone w x.items
+
+-- the text is that of all bases of the ideal that the source says, and their list has all this
+pub record HasServingList (from_basis certificates : Bool) (source text : List ℕ) : Type 0 where
+  pub ring : List (List ℕ)
+  pub ideal : List Terms
+  pub read : HasPolynomials from_basis source ring ideal
+  pub list : List MarkedPolynomials
+  pub are_all : AreAllBases (length ring) ideal list
+  pub items : List (List ℕ)
+  pub are_items : AreItemTexts certificates ring list items
+  pub is_text : text ≡ list_text ring items
+  pub serves : ServesWeights (length ring) ideal list
+
+-- so it is with the answer of `_bases` for a source
+abbrev pub WrittenListsServe : Type 0
+WrittenListsServe = (from_basis certificates : Bool) (limit : Option ℕ) (pairs workers : ℕ) (source text : List ℕ) →
+    IsAnswerTo (jobs.Bases from_basis limit pairs certificates workers) source text → HasServingList from_basis certificates source text
