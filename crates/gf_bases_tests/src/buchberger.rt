@@ -1,14 +1,15 @@
 //! Worked bases by several orders, refusals by their operands, and both lists of a spent budget.
 
-ghost use Rattle.std.specs.Prelude.{List, IfOk};
+ghost use Rattle.std.specs.Prelude.{◌<◌, ◌^◌, length, List, IfOk, IfErr};
 ghost use Rattle.gf_order.specs.Comparisons.{HasEntries};
 ghost use Rattle.gf_poly.specs.Polynomial.{Terms};
-ghost use Rattle.gf_buchberger.specs.Jobs.{HaveRingVariables, IsSuited};
+ghost use Rattle.gf_buchberger.specs.Homogeneity.{IsFirstInhomogeneous};
+ghost use Rattle.gf_buchberger.specs.Jobs.{HaveOneDegree, HaveRingVariables, IsSuited};
 
 use gf_buchberger::*;
 use gf_frac::Op;
 use gf_order::Order;
-use gf_poly::MarkedSet;
+use gf_poly::{MarkedSet, Poly};
 use gf_samples::{lists_members, poly, polys};
 use gf_vec::IntVec;
 use std::alloc::{AllocError, Global};
@@ -307,6 +308,15 @@ fn found_by_the_second_run(rt: HostRuntime) -> Result<(), Fail> {
     Ok(())
 }
 
+/// `homogeneous`, with both of its clauses as those of a caller.
+fn of_one_degree(set: &[Poly]) -> Result<(), NotHomogeneous>
+    requires { length set.now < 2 ^ 32 }
+    ensures ok { IfOk result (λ _. HaveOneDegree set.now) }
+    ensures err { IfErr result (IsFirstInhomogeneous set.now) }
+{
+    homogeneous(set)
+}
+
 // a^2 - b^2, and a^2 - b
 #[test]
 fn second_polynomial_inhomogeneous(rt: HostRuntime) -> Result<(), Fail> {
@@ -314,8 +324,8 @@ fn second_polynomial_inhomogeneous(rt: HostRuntime) -> Result<(), Fail> {
     let first = poly(alloc, &[(1, [2, 0, 0]), (-1, [0, 2, 0])])?;
     let second = poly(alloc, &[(1, [2, 0, 0]), (-1, [0, 1, 0])])?;
     let set = vec![in alloc; first, second]?;
-    assert!(rt; homogeneous(&set[..1]).is_ok());
-    let refusal = homogeneous(&set).err().ok_or("a refusal")?;
+    assert!(rt; of_one_degree(&set[..1]).is_ok());
+    let refusal = of_one_degree(&set).err().ok_or("a refusal")?;
     assert!(rt; refusal.polynomial == 1);
     assert!(rt; refusal.first.exponents() == [2, 0, 0].as_slice());
     assert!(rt; refusal.second.exponents() == [0, 1, 0].as_slice());

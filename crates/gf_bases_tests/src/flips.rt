@@ -201,6 +201,6 @@ fn flips_lead_to_all_bases_and_back(rt: HostRuntime) -> Result<(), Fail> {
             &[(1, [1, 0, 2]), (-1, [0, 1, 0])],
         ],
     )?;
-    assert_eq!(rt; running, 33);
+    assert!(rt; running == 33);
     Ok(())
 }

@@ -131,7 +131,7 @@ fn linear_forms_are_listed(rt: HostRuntime) -> Result<(), Fail> {
     if stream(alloc, root, &mut places).is_err() {
         return Err("refused".into());
     }
-    assert_eq!(rt; places.len(), 3);
+    assert!(rt; places.len() == 3);
     for listed in &places {
         assert!(rt; *listed);
     }
@@ -192,9 +192,9 @@ fn nodes_may_be_sent(rt: HostRuntime) -> Result<(), Fail> {
 fn small_ideals_are_counted(rt: HostRuntime) -> Result<(), Fail> {
     let alloc = rt.alloc();
     // a^2 - b; the unit ideal; the zero ideal; a monomial ideal
-    assert_eq!(rt; number(alloc, &[&[(1, [2, 0]), (-1, [0, 1])]])?, 2);
-    assert_eq!(rt; number(alloc, &[&[(3, [0, 0])]])?, 1);
-    assert_eq!(rt; number(alloc, &[])?, 1);
-    assert_eq!(rt; number(alloc, &[&[(1, [1, 1])], &[(1, [0, 2])]])?, 1);
+    assert!(rt; number(alloc, &[&[(1, [2, 0]), (-1, [0, 1])]])? == 2);
+    assert!(rt; number(alloc, &[&[(3, [0, 0])]])? == 1);
+    assert!(rt; number(alloc, &[])? == 1);
+    assert!(rt; number(alloc, &[&[(1, [1, 1])], &[(1, [0, 2])]])? == 1);
     Ok(())
 }

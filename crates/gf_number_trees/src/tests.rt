@@ -65,10 +65,10 @@ fn written<R: Threads + Sync, G: Gate>(
 fn lists_in_path_order(rt: HostRuntime) -> Result<(), Fail> {
     // by hand: each number before 2k and 2k + 1, the even one first
     let all = list_all(rt.alloc(), numbers(rt.alloc(), 7), 1)?;
-    assert_eq!(rt; all.as_slice(), [1, 2, 4, 5, 3, 6, 7].as_slice());
+    assert!(rt; all.as_slice() == [1, 2, 4, 5, 3, 6, 7].as_slice());
     let below = list_all(rt.alloc(), numbers(rt.alloc(), 11), 2)?;
-    assert_eq!(rt; below.as_slice(), [2, 4, 8, 9, 5, 10, 11].as_slice());
-    assert_eq!(rt; to_root(rt.alloc(), &numbers(rt.alloc(), 7), 6)?, 1);
+    assert!(rt; below.as_slice() == [2, 4, 8, 9, 5, 10, 11].as_slice());
+    assert!(rt; to_root(rt.alloc(), &numbers(rt.alloc(), 7), 6)? == 1);
     Ok(())
 }
 
@@ -87,7 +87,7 @@ fn an_iterator_ends_after_its_refusal(rt: HostRuntime) -> Result<(), Fail> {
     assert!(rt; nodes.next().is_none());
     // the walker stands where it was, and is refused so again
     let mut walker = nodes.into_walker();
-    assert_eq!(rt; *walker.position().here, 5);
+    assert!(rt; *walker.position().here == 5);
     assert!(rt; walker.advance() == Err(NumberError::Chosen(5)));
     Ok(())
 }
@@ -96,7 +96,7 @@ fn an_iterator_ends_after_its_refusal(rt: HostRuntime) -> Result<(), Fail> {
 fn a_split_after_the_first(rt: HostRuntime) -> Result<(), Fail> {
     let mut walker = Walker::at(rt.alloc(), numbers(rt.alloc(), 7), 1);
     assert!(rt; walker.is_at_start());
-    assert_eq!(rt; walker.advance()?, Some(1));
+    assert!(rt; walker.advance()? == Some(1));
     assert!(rt; matches!(walker.position().mark, Mark::Listed));
     let Ok(
         Split::Parts {
@@ -108,14 +108,14 @@ fn a_split_after_the_first(rt: HostRuntime) -> Result<(), Fail> {
         return Err(Fail::new("two parts"));
     };
     for number in [2, 4, 5] {
-        assert_eq!(rt; first.advance()?, Some(number));
+        assert!(rt; first.advance()? == Some(number));
     }
-    assert_eq!(rt; first.advance()?, None);
+    assert!(rt; first.advance()? == None);
     for number in [3, 6, 7] {
-        assert_eq!(rt; rest.advance()?, Some(number));
+        assert!(rt; rest.advance()? == Some(number));
     }
-    assert_eq!(rt; rest.advance()?, None);
-    assert_eq!(rt; rest.advance()?, None);
+    assert!(rt; rest.advance()? == None);
+    assert!(rt; rest.advance()? == None);
     assert!(rt; matches!(rest.split(), Ok(Split::Ended)));
     Ok(())
 }
@@ -124,23 +124,23 @@ fn a_split_after_the_first(rt: HostRuntime) -> Result<(), Fail> {
 fn one_list_for_every_number_of_workers(rt: HostRuntime) -> Result<(), Fail> {
     let alloc = rt.alloc();
     let expected = list_all(alloc, numbers(alloc, 3000), 1)?;
-    assert_eq!(rt; expected.len(), 3000);
+    assert!(rt; expected.len() == 3000);
     for workers in [1, 2, 4, 64] {
         if 1 <= workers && workers <= 64 {
             let mut waves = Waves::new(alloc, numbers(alloc, 3000), 1, workers, &FreeGate)?;
-            assert_eq!(rt; waves.workers(), workers);
-            assert_eq!(rt; waves.ready(), 1);
+            assert!(rt; waves.workers() == workers);
+            assert!(rt; waves.ready() == 1);
             let front = written(&rt, alloc, &mut waves, 1000)?;
-            assert_eq!(rt; front.nodes.len(), 1000);
+            assert!(rt; front.nodes.len() == 1000);
             assert!(rt; expected.starts_with(front.nodes.as_slice()));
             let back = written(&rt, alloc, &mut waves, 3000)?;
-            assert_eq!(rt; back.nodes.len(), 2000);
+            assert!(rt; back.nodes.len() == 2000);
             assert!(rt; expected.ends_with(back.nodes.as_slice()));
             assert!(rt; back.refusal.is_none());
             // nothing refuses here, so no wave may leave a walker unexpanded
             assert!(rt; !front.was_refused && !back.was_refused);
-            assert_eq!(rt; waves.next_written(&rt)?, None);
-            assert_eq!(rt; waves.ready(), 0);
+            assert!(rt; waves.next_written(&rt)? == None);
+            assert!(rt; waves.ready() == 0);
         }
     }
     Ok(())
@@ -161,10 +161,10 @@ fn one_refusal_for_every_number_of_workers(rt: HostRuntime) -> Result<(), Fail> 
             };
             let mut waves = Waves::new(alloc, tree, 1, workers, &FreeGate)?;
             let front = written(&rt, alloc, &mut waves, 4000)?;
-            assert_eq!(rt; front.nodes.len(), place + 1);
+            assert!(rt; front.nodes.len() == place + 1);
             assert!(rt; all.starts_with(front.nodes.as_slice()));
-            assert_eq!(rt; front.refusal, Some(NumberError::Chosen(300)));
-            assert_eq!(rt; waves.next_written(&rt), Err(NumberError::Chosen(300)));
+            assert!(rt; front.refusal == Some(NumberError::Chosen(300)));
+            assert!(rt; waves.next_written(&rt) == Err(NumberError::Chosen(300)));
         }
     }
     Ok(())
@@ -178,10 +178,10 @@ fn a_list_goes_on_after_any_node(rt: HostRuntime) -> Result<(), Fail> {
         let node = all[place];
         if 1 <= node && node <= 100 {
             let walker = Walker::after(alloc, numbers(alloc, 100), node)?;
-            assert_eq!(rt; *walker.position().here, node);
+            assert!(rt; *walker.position().here == node);
             let mut waves = Waves::resume(alloc, walker, 4, &FreeGate)?;
             let rest = written(&rt, alloc, &mut waves, 200)?;
-            assert_eq!(rt; rest.nodes.as_slice(), &all[place + 1..]);
+            assert!(rt; rest.nodes.as_slice() == &all[place + 1..]);
             assert!(rt; rest.refusal.is_none());
         }
     }
@@ -215,7 +215,7 @@ fn jobs_are_numbered_in_turn(rt: HostRuntime) -> Result<(), Fail> {
             };
             let mut waves = Waves::new(alloc, numbers(alloc, 40), 1, workers, &gate)?;
             let all = written(&rt, alloc, &mut waves, 100)?;
-            assert_eq!(rt; all.nodes.len(), 40);
+            assert!(rt; all.nodes.len() == 40);
             // as many as there were jobs, from 0 on: so each came once
             let jobs = gate.jobs.load(Ordering::SeqCst);
             let expected = if 1 <= jobs && jobs <= 64 {
@@ -223,7 +223,7 @@ fn jobs_are_numbered_in_turn(rt: HostRuntime) -> Result<(), Fail> {
             } else {
                 0
             };
-            assert_eq!(rt; gate.numbers.load(Ordering::SeqCst), expected);
+            assert!(rt; gate.numbers.load(Ordering::SeqCst) == expected);
         }
     }
     Ok(())
@@ -272,9 +272,9 @@ fn two_jobs_run_at_the_same_time(rt: HostRuntime) -> Result<(), Fail> {
     };
     let mut waves = Waves::new(alloc, numbers(alloc, 200), 1, 2, &gate)?;
     let all = written(&rt, alloc, &mut waves, 300)?;
-    assert_eq!(rt; all.nodes.len(), 200);
-    assert_eq!(rt; gate.first.load(Ordering::SeqCst), 1);
-    assert_eq!(rt; gate.second.load(Ordering::SeqCst), 1);
-    assert_eq!(rt; gate.spent.load(Ordering::SeqCst), 0);
+    assert!(rt; all.nodes.len() == 200);
+    assert!(rt; gate.first.load(Ordering::SeqCst) == 1);
+    assert!(rt; gate.second.load(Ordering::SeqCst) == 1);
+    assert!(rt; gate.spent.load(Ordering::SeqCst) == 0);
     Ok(())
 }

@@ -259,7 +259,7 @@ fn guessed(alloc: Global, guess: Found) -> Result<String, Fail> {
 fn guesses(rt: HostRuntime) -> Result<(), Fail> {
     let alloc = rt.alloc();
     let right = guessed(alloc, Found::Point(vector_in(alloc, 2, "4 6")?))?;
-    assert_eq!(rt; right.as_str(), "true Point(IntVec { entries: [2, 3] })");
+    assert!(rt; right.as_str() == "true Point(IntVec { entries: [2, 3] })");
     let zero_on_a_row = guessed(alloc, Found::Point(vector_in(alloc, 2, "1 0")?))?;
     assert!(rt; zero_on_a_row.starts_with("true Point"));
     let wrong = guessed(alloc, Found::Farkas(vector_in(alloc, 2, "1 1")?))?;

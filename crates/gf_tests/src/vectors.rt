@@ -10,15 +10,15 @@ const LARGEST: i128 = i128::MAX;
 fn small_vectors(rt: HostRuntime) -> Result<(), Fail> {
     let first = IntVec::from_slice(rt.alloc(), &[1, 2])?;
     let second = IntVec::from_slice(rt.alloc(), &[3, -1])?;
-    assert_eq!(rt; first.dot(&second), Ok(1));
-    assert_eq!(rt; first.add(&second)?.as_slice(), [4, 1].as_slice());
+    assert!(rt; first.dot(&second) == Ok(1));
+    assert!(rt; first.add(&second)?.as_slice() == [4, 1].as_slice());
     let unit = IntVec::from_slice(rt.alloc(), &[1, 0])?;
-    assert_eq!(rt; unit.add(&first)?.as_slice(), [2, 2].as_slice());
-    assert_eq!(rt; first.copy()? == first, true);
-    assert_eq!(rt; first.lex_cmp(&second), Ordering::Less);
+    assert!(rt; unit.add(&first)?.as_slice() == [2, 2].as_slice());
+    assert!(rt; (first.copy()? == first) == true);
+    assert!(rt; first.lex_cmp(&second) == Ordering::Less);
     let mut turned = IntVec::from_slice(rt.alloc(), &[0, -2, LARGEST])?;
     turned.negate();
-    assert_eq!(rt; turned.as_slice(), [0, 2, -LARGEST].as_slice());
+    assert!(rt; turned.as_slice() == [0, 2, -LARGEST].as_slice());
     Ok(())
 }
 
@@ -27,13 +27,13 @@ fn small_vectors(rt: HostRuntime) -> Result<(), Fail> {
 fn primitive_vectors(rt: HostRuntime) -> Result<(), Fail> {
     let mut vector = IntVec::from_slice(rt.alloc(), &[4, -6])?;
     vector.primitive();
-    assert_eq!(rt; vector.as_slice(), [2, -3].as_slice());
+    assert!(rt; vector.as_slice() == [2, -3].as_slice());
     let mut zero = IntVec::from_slice(rt.alloc(), &[0, 0])?;
     zero.primitive();
-    assert_eq!(rt; zero.as_slice(), [0, 0].as_slice());
+    assert!(rt; zero.as_slice() == [0, 0].as_slice());
     let mut wide = IntVec::from_slice(rt.alloc(), &[LARGEST, -LARGEST])?;
     wide.primitive();
-    assert_eq!(rt; wide.as_slice(), [1, -1].as_slice());
+    assert!(rt; wide.as_slice() == [1, -1].as_slice());
     Ok(())
 }
 
@@ -47,22 +47,22 @@ fn wide_operations(rt: HostRuntime) -> Result<(), Fail> {
         left: 1,
         right: LARGEST,
     };
-    assert_eq!(rt; first.dot(&second), Err(wide));
+    assert!(rt; first.dot(&second) == Err(wide));
     let square = WideVector {
         op: VecOp::Mul,
         left: 1 << 64,
         right: 1 << 63,
     };
-    assert_eq!(rt; product(1 << 64, 1 << 63), Err(square));
-    assert_eq!(rt; product(i64::MIN as i128, i64::MIN as i128), Ok(1 << 126));
+    assert!(rt; product(1 << 64, 1 << 63) == Err(square));
+    assert!(rt; product(i64::MIN as i128, i64::MIN as i128) == Ok(1 << 126));
     let least = WideVector {
         op: VecOp::Sub,
         left: -LARGEST,
         right: 1,
     };
-    assert_eq!(rt; difference(-LARGEST, 1), Err(least));
-    assert_eq!(rt; quotient(-LARGEST, 2), -LARGEST / 2);
-    assert_eq!(rt; quotient(-7, 2), -3);
+    assert!(rt; difference(-LARGEST, 1) == Err(least));
+    assert!(rt; quotient(-LARGEST, 2) == -LARGEST / 2);
+    assert!(rt; quotient(-7, 2) == -3);
     let third = IntVec::from_slice(rt.alloc(), &[0, 1, LARGEST])?;
     match first.add(&third) {
         Ok(_) => assert!(rt; false),
@@ -72,7 +72,7 @@ fn wide_operations(rt: HostRuntime) -> Result<(), Fail> {
                 left: LARGEST,
                 right: 1,
             };
-            assert_eq!(rt; error, VecError::Wide(sum));
+            assert!(rt; error == VecError::Wide(sum));
         }
     }
     Ok(())
@@ -81,20 +81,11 @@ fn wide_operations(rt: HostRuntime) -> Result<(), Fail> {
 // by hand
 #[test]
 fn root_signs(rt: HostRuntime) -> Result<(), Fail> {
-    assert_eq!(rt;
-        IntVec::from_slice(rt.alloc(), &[-1, 0, 1])?.root_sign(),
-        Ordering::Less
-    );
-    assert_eq!(rt;
-        IntVec::from_slice(rt.alloc(), &[-1, 3])?.root_sign(),
-        Ordering::Greater
-    );
-    assert_eq!(rt;
-        IntVec::from_slice(rt.alloc(), &[0, 0])?.root_sign(),
-        Ordering::Equal
-    );
+    assert!(rt; IntVec::from_slice(rt.alloc(), &[-1, 0, 1])?.root_sign() == Ordering::Less);
+    assert!(rt; IntVec::from_slice(rt.alloc(), &[-1, 3])?.root_sign() == Ordering::Greater);
+    assert!(rt; IntVec::from_slice(rt.alloc(), &[0, 0])?.root_sign() == Ordering::Equal);
     let wide = IntVec::from_slice(rt.alloc(), &[1 << 64, -(1 << 64)])?;
-    assert_eq!(rt; wide.root_sign(), Ordering::Greater);
+    assert!(rt; wide.root_sign() == Ordering::Greater);
     Ok(())
 }
 
@@ -109,6 +100,6 @@ fn hash_of<T: Hash>(value: &T) -> u64 {
 fn hashes(rt: HostRuntime) -> Result<(), Fail> {
     let first = IntVec::from_slice(rt.alloc(), &[5, -7])?;
     let second = first.copy()?;
-    assert_eq!(rt; hash_of(&first), hash_of(&second));
+    assert!(rt; hash_of(&first) == hash_of(&second));
     Ok(())
 }

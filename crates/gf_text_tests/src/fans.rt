@@ -57,7 +57,7 @@ MAXIMAL_CONES
 fn check_refusal(rt: &impl Abort, alloc: Global, source: &[u8], wanted: FanFileError) {
     match read_file(alloc, source) {
         Ok(_) => assert!(rt; false, "a refusal"),
-        Err(error) => assert_eq!(rt; error, wanted),
+        Err(error) => assert!(rt; error == wanted),
     }
 }
 
@@ -144,12 +144,12 @@ fn cones_that_are_no_fan(rt: HostRuntime) {
     match read(alloc, text) {
         Ok(_) => assert!(rt; false, "a refusal"),
         Err(error) => {
-            assert_eq!(rt;
-                error,
-                FanFileError::NotAFan {
-                    first: 0,
-                    second: 2
-                }
+            assert!(rt;
+                error
+                    == FanFileError::NotAFan {
+                        first: 0,
+                        second: 2
+                    }
             );
         }
     }
@@ -165,7 +165,7 @@ fn written_again(alloc: Global, source: &[u8]) -> Result<Vec<u8>, Fail> {
 fn a_fan_is_read_and_written(rt: HostRuntime) -> Result<(), Fail> {
     let alloc = rt.alloc();
     let text = written_again(alloc, LINE_TEXT)?;
-    assert_eq!(rt; text.as_slice(), LINE_TEXT);
+    assert!(rt; text.as_slice() == LINE_TEXT);
     Ok(())
 }
 
@@ -207,7 +207,7 @@ fn the_text_of_a_fan(rt: HostRuntime) -> Result<(), Fail> {
         maximal: maximal.as_slice(),
     };
     let text = write_parts(alloc, &parts)?;
-    assert_eq!(rt; text.as_slice(), LINE_TEXT);
+    assert!(rt; text.as_slice() == LINE_TEXT);
     Ok(())
 }
 
@@ -217,13 +217,13 @@ fn a_file_with_comments(rt: HostRuntime) -> Result<(), Fail> {
     let text =
         b"_type fan\nRAYS # two\n1 -2\n\n 3-4 # 5\nLINEALITY_SPACE\r\nDIM\nx\nMAXIMAL_CONES\n{1 0}\n{}\nAMBIENT_DIM\n2";
     let file = read_file(alloc, text).ok().ok_or("a file")?;
-    assert_eq!(rt; file.ambient, 2);
+    assert!(rt; file.ambient == 2);
     let rays = file.rays.as_slice();
-    assert_eq!(rt; rays.len(), 2);
-    assert_eq!(rt; rays[1].as_slice(), [3, -4].as_slice());
+    assert!(rt; rays.len() == 2);
+    assert!(rt; rays[1].as_slice() == [3, -4].as_slice());
     assert!(rt; file.lineality.as_slice().is_empty());
     let cones = file.cones.as_slice();
-    assert_eq!(rt; cones.len(), 2);
-    assert_eq!(rt; cones[0].as_slice(), [1, 0].as_slice());
+    assert!(rt; cones.len() == 2);
+    assert!(rt; cones[0].as_slice() == [1, 0].as_slice());
     Ok(())
 }

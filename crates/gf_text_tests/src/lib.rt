@@ -11,6 +11,8 @@ mod rings;
 #[cfg(test)]
 mod sets;
 #[cfg(test)]
+mod streams;
+#[cfg(test)]
 mod vectors;
 #[cfg(test)]
 mod words;

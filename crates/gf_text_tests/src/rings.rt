@@ -19,7 +19,7 @@ fn check_ring(
         Ok(ring) => Printer::ring(&mut line, &ring)?,
         Err(_) => line.extend_from_slice(b"refused")?,
     }
-    assert_eq!(rt; line.as_slice(), wanted);
+    assert!(rt; line.as_slice() == wanted);
     Ok(())
 }
 
@@ -47,7 +47,7 @@ fn rings(rt: HostRuntime) -> Result<(), Fail> {
 fn check_fault(rt: &impl Abort, alloc: Global, source: &[u8], at: u64, kind: Kind) {
     let mut reader = Reader::new(source);
     match reader.read_ring(alloc) {
-        Err(TextError::Syntax(fault)) => assert_eq!(rt; fault, Syntax { at, kind }),
+        Err(TextError::Syntax(fault)) => assert!(rt; fault == Syntax { at, kind }),
         _ => assert!(rt; false, "a fault at {at}"),
     }
 }
@@ -74,7 +74,7 @@ fn faults_of_rings(rt: HostRuntime) {
 fn check_count(rt: &impl Abort, alloc: Global, source: &[u8], count: u64) {
     let mut reader = Reader::new(source);
     match reader.read_ring(alloc) {
-        Err(TextError::TooManyVariables { count: found }) => assert_eq!(rt; found, count),
+        Err(TextError::TooManyVariables { count: found }) => assert!(rt; found == count),
         _ => assert!(rt; false, "{count} names"),
     }
 }
@@ -103,8 +103,8 @@ fn tokens(rt: HostRuntime) {
     for (text, at) in tokens {
         match reader.token() {
             Ok(token) => {
-                assert_eq!(rt; token.text, text);
-                assert_eq!(rt; token.at, at);
+                assert!(rt; token.text == text);
+                assert!(rt; token.at == at);
             }
             Err(_) => assert!(rt; false, "a token at {at}"),
         }
@@ -113,14 +113,14 @@ fn tokens(rt: HostRuntime) {
         at: 18,
         kind: Kind::Unexpected,
     };
-    assert_eq!(rt; reader.token().err(), Some(TextError::Syntax(unknown)));
-    assert_eq!(rt; reader.end().err(), Some(unknown));
+    assert!(rt; reader.token().err() == Some(TextError::Syntax(unknown)));
+    assert!(rt; reader.end().err() == Some(unknown));
     let ended = Syntax {
         at: 2,
         kind: Kind::Ended,
     };
     let mut other = Reader::new(b" \n");
-    assert_eq!(rt; other.token().err(), Some(TextError::Syntax(ended)));
+    assert!(rt; other.token().err() == Some(TextError::Syntax(ended)));
 }
 
 #[test]
@@ -128,8 +128,8 @@ fn names_and_end(rt: HostRuntime) -> Result<(), Fail> {
     let alloc = rt.alloc();
     let mut reader = Reader::new(b"Q[x,y_2] \n");
     let ring = reader.read_ring(alloc).ok().ok_or("a ring")?;
-    assert_eq!(rt; ring.len(), 2);
-    assert_eq!(rt; ring.name(1), b"y_2".as_slice());
+    assert!(rt; ring.len() == 2);
+    assert!(rt; ring.name(1) == b"y_2".as_slice());
     assert!(rt; reader.end().is_ok());
     Ok(())
 }
@@ -139,7 +139,7 @@ fn fractions(rt: HostRuntime) -> Result<(), Fail> {
     let alloc = rt.alloc();
     let mut reader = Reader::new(b"Q[x,y]");
     let ring = reader.read_ring(alloc).ok().ok_or("a ring")?;
-    assert_eq!(rt; ring.len(), 2);
+    assert!(rt; ring.len() == 2);
     let mut terms = Vec::new(alloc);
     terms.push(Term {
         coef: Frac::new(-3, 2),
@@ -150,12 +150,12 @@ fn fractions(rt: HostRuntime) -> Result<(), Fail> {
         mono: Mono::new(alloc, &[0, 0]),
     })?;
     let poly = Poly::from_terms(terms).ok().ok_or("a sum")?;
-    assert_eq!(rt; poly.terms().len(), 2);
+    assert!(rt; poly.terms().len() == 2);
     let mut items = Vec::new(alloc);
     items.push(Marked::mark(poly, 1))?;
     let set = MarkedSet::new(2, items);
     let mut text = Vec::new(alloc);
     Printer::basis(&mut text, &ring, &set)?;
-    assert_eq!(rt; text.as_slice(), b"{\n-7-3/2*x^2*y}".as_slice());
+    assert!(rt; text.as_slice() == b"{\n-7-3/2*x^2*y}".as_slice());
     Ok(())
 }

@@ -71,7 +71,7 @@ fn each_text_says_its_polynomials(rt: HostRuntime) -> Result<(), Fail> {
     ];
     for (source, wanted) in rows {
         let line = polynomials_of(alloc, source.as_bytes())?;
-        assert_eq!(rt; line.as_slice(), wanted.as_bytes(), "at {source}");
+        assert!(rt; line.as_slice() == wanted.as_bytes(), "at {source}");
     }
     Ok(())
 }
@@ -157,7 +157,7 @@ fn each_text_is_refused_at_its_place(rt: HostRuntime) -> Result<(), Fail> {
         let error = polynomials_of(alloc, source.as_bytes())
             .err()
             .ok_or("a refusal")?;
-        assert_eq!(rt; error, wanted, "at {source}");
+        assert!(rt; error == wanted, "at {source}");
     }
     Ok(())
 }

@@ -56,7 +56,7 @@ fn options_stand_in_any_place(rt: HostRuntime) -> Result<(), Fail> {
     ];
     for (line, weighted, revlex, pairs) in rows {
         let job = answered(rt.alloc(), line)?;
-        assert_eq!(rt; job, Ok(buchberger(weighted, revlex, pairs)), "{line}");
+        assert!(rt; job == Ok(buchberger(weighted, revlex, pairs)), "{line}");
     }
     Ok(())
 }
@@ -88,7 +88,7 @@ fn a_list_has_a_limit_and_workers(rt: HostRuntime) -> Result<(), Fail> {
             certificates: false,
             workers,
         };
-        assert_eq!(rt; job, Ok(bases), "{line}");
+        assert!(rt; job == Ok(bases), "{line}");
     }
     Ok(())
 }
@@ -103,7 +103,7 @@ fn a_list_has_certificates(rt: HostRuntime) -> Result<(), Fail> {
         workers: 1,
     };
     let job = answered(rt.alloc(), "_bases --certificates --pairs 7 -g")?;
-    assert_eq!(rt; job, Ok(certified));
+    assert!(rt; job == Ok(certified));
     Ok(())
 }
 
@@ -141,7 +141,7 @@ fn a_cone_has_four_options(rt: HostRuntime) -> Result<(), Fail> {
             restricted,
             as_fan,
         };
-        assert_eq!(rt; job, Ok(cone), "{line}");
+        assert!(rt; job == Ok(cone), "{line}");
     }
     Ok(())
 }
@@ -186,7 +186,7 @@ fn other_commands_have_their_jobs(rt: HostRuntime) -> Result<(), Fail> {
     ] {
         let job = answered(rt.alloc(), line)?;
         let shown = format!(in rt.alloc(); "{job:?}")?;
-        assert_eq!(rt; shown.as_str(), wanted, "{line}");
+        assert!(rt; shown.as_str() == wanted, "{line}");
     }
     Ok(())
 }
@@ -208,7 +208,7 @@ fn a_refinement_has_two_files(rt: HostRuntime) -> Result<(), Fail> {
         ("_fancommonrefinement -i1  -i2 ", "", ""),
     ] {
         let job = answered(rt.alloc(), line)?;
-        assert_eq!(rt; files(&job), Some((first, second)), "{line}");
+        assert!(rt; files(&job) == Some((first, second)), "{line}");
     }
     Ok(())
 }
@@ -306,14 +306,13 @@ fn other_words_are_usage(rt: HostRuntime) -> Result<(), Fail> {
         "_minkowskisum -i1 A",
     ];
     for line in rows {
-        assert_eq!(rt;
-            answered(rt.alloc(), line)?,
-            Err(WordsError::Usage),
+        assert!(rt;
+            answered(rt.alloc(), line)? == Err(WordsError::Usage),
             "{line}"
         );
     }
     let none: Vec<String> = Vec::new(rt.alloc());
-    assert_eq!(rt; words(rt.alloc(), &none), Err(WordsError::Usage));
+    assert!(rt; words(rt.alloc(), &none) == Err(WordsError::Usage));
     Ok(())
 }
 
@@ -380,7 +379,7 @@ fn refusals_have_their_lines(rt: HostRuntime) -> Result<(), Fail> {
     let line = b"gfan: E23 usage: gfan _COMMAND [OPTIONS]\n".as_slice();
     assert!(rt; is_told(alloc, None, Refusal::Usage, 2, line)?);
     assert!(rt; is_told(alloc, None, Refusal::Memory, 7, b"gfan: no memory\n")?);
-    assert_eq!(rt; Status::Done.code(), 0);
+    assert!(rt; Status::Done.code() == 0);
     Ok(())
 }
 
@@ -592,7 +591,7 @@ fn monomials_have_the_names_of_the_ring(rt: HostRuntime) -> Result<(), Fail> {
     let ring = Reader::new(b"Q[a,b]")
         .read_ring(alloc)
         .map_err(|_| "no ring")?;
-    assert_eq!(rt; ring.len(), 2);
+    assert!(rt; ring.len() == 2);
     let refusal = not_homogeneous(alloc, &[2, 0], &[0, 1]);
     let line = b"gfan: E25 not homogeneous: polynomial 0: a^2 and b\n".as_slice();
     assert!(rt; is_told(alloc, Some(&ring), refusal, 1, line)?);
@@ -649,7 +648,7 @@ fn a_line_breaks_off_at_each_piece(rt: HostRuntime) -> Result<(), Fail> {
     let ring = Reader::new(b"Q[a,b]")
         .read_ring(alloc)
         .map_err(|_| "no ring")?;
-    assert_eq!(rt; ring.len(), 2);
+    assert!(rt; ring.len() == 2);
     let pieces = [
         b"gfan: ".as_slice(),
         b"E25 not homogeneous: polynomial ",
