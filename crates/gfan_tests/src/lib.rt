@@ -1,4 +1,4 @@
-//! Tests of `run` over memory: what it writes, tells and answers where no clause says so. They stand in a crate of their own since a crate with
+//! Tests of `run` over memory: faults of the outside, files, workers, budgets. Other runs are rows of `gfan_runs`. They stand in a crate of their own since a crate with
 //! tests is proved twice, with them and without.
 #![tactic(auto)]
 
@@ -6,9 +6,5 @@
 mod refinement;
 #[cfg(test)]
 mod runs;
-#[cfg(test)]
-mod textbook;
-#[cfg(test)]
-mod tools;
 #[cfg(test)]
 mod workers;

@@ -87,8 +87,8 @@ fn workers_write_the_same_bytes(rt: HostRuntime) -> Result<(), Fail> {
         for (words, input, code, text) in rows {
             let line = format!(in alloc; "{words} {workers}")?;
             let end = ended(&rt, alloc, line.as_str(), input, &FreeGate)?;
-            assert_eq!(rt; end.code, code, "{line}");
-            assert_eq!(rt; end.written.as_slice(), text.as_bytes(), "{line}");
+            assert!(rt; end.code == code, "{line}");
+            assert!(rt; end.written.as_slice() == text.as_bytes(), "{line}");
         }
     }
     Ok(())
@@ -99,8 +99,8 @@ fn workers_write_the_same_bytes(rt: HostRuntime) -> Result<(), Fail> {
 fn workers_tell_the_same_refusal(rt: HostRuntime) -> Result<(), Fail> {
     let alloc = rt.alloc();
     let first = ended(&rt, alloc, "_bases", WIDE, &FreeGate)?;
-    assert_eq!(rt; first.code, 3);
-    assert_eq!(rt; first.written.as_slice(), BEGINNING.as_bytes());
+    assert!(rt; first.code == 3);
+    assert!(rt; first.written.as_slice() == BEGINNING.as_bytes());
     for workers in ["2", "4", "64"] {
         let line = format!(in alloc; "_bases --workers {workers}")?;
         let end = ended(&rt, alloc, line.as_str(), WIDE, &FreeGate)?;
@@ -152,9 +152,9 @@ fn two_jobs_run_at_the_same_time(rt: HostRuntime) -> Result<(), Fail> {
         spent: AtomicU64::new(0),
     };
     let end = ended(&rt, alloc, "_bases --workers 2", TWO_DIFFERENCES, &gate)?;
-    assert_eq!(rt; end.written.as_slice(), THREE_BASES.as_bytes());
-    assert_eq!(rt; gate.first.load(Ordering::SeqCst), 1);
-    assert_eq!(rt; gate.second.load(Ordering::SeqCst), 1);
-    assert_eq!(rt; gate.spent.load(Ordering::SeqCst), 0);
+    assert!(rt; end.written.as_slice() == THREE_BASES.as_bytes());
+    assert!(rt; gate.first.load(Ordering::SeqCst) == 1);
+    assert!(rt; gate.second.load(Ordering::SeqCst) == 1);
+    assert!(rt; gate.spent.load(Ordering::SeqCst) == 0);
     Ok(())
 }
