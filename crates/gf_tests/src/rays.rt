@@ -78,3 +78,15 @@ fn value_past_the_range(rt: HostRuntime) -> Result<(), Fail> {
     assert!(rt; refused);
     Ok(())
 }
+
+// By hand: the half plane of (1, -1) is a face of itself, and its border, the line of (1, 1), the only other one.
+#[test]
+fn faces_by_hand(rt: HostRuntime) -> Result<(), Fail> {
+    let alloc = rt.alloc();
+    let cone = Rays::of(alloc, 2, &vectors_in(alloc, 2, "| 1 -1")?, &[])?;
+    let faces = cone.faces()?;
+    assert!(rt; faces.len() == 2);
+    assert!(rt; faces[0].dim == 1 && faces[0].rays.as_slice().is_empty());
+    assert!(rt; faces[1].dim == 2 && faces[1].rays.as_slice() == [0].as_slice());
+    Ok(())
+}

@@ -227,3 +227,15 @@ fn a_file_with_comments(rt: HostRuntime) -> Result<(), Fail> {
     assert!(rt; cones[0].as_slice() == [1, 0].as_slice());
     Ok(())
 }
+
+#[test]
+fn vectors_in_a_fan(rt: HostRuntime) -> Result<(), Fail> {
+    let alloc = rt.alloc();
+    let fan = read(alloc, LINE_TEXT).ok().ok_or("a fan")?;
+    assert!(rt; fan.ambient() == 2);
+    let inside = IntVec::from_slice(alloc, &[2, 2])?;
+    let outside = IntVec::from_slice(alloc, &[-1, -1])?;
+    assert!(rt; fan.contains(&inside).ok().ok_or("an answer")?);
+    assert!(rt; !fan.contains(&outside).ok().ok_or("an answer")?);
+    Ok(())
+}
