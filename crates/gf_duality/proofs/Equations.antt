@@ -2,7 +2,7 @@
 use Rattle.gf_duality.proofs.ListLaws.{none_in, in_head, in_tail, in_cons, in_last, in_more}
 use Rattle.gf_duality.specs.Combining.{pair}
 use Rattle.gf_duality.specs.Generators.{Made, nothing, ray, line, summed, multiplied, divided, AreValid, IsDescribed, unit_vectors}
-use Rattle.std.proofs.Common.{◌≡◌, ℕ, zero, suc, ◌+◌, ◌<◌, List, [], ◌∷◌, ◌++◌, length, ℤ, pos, ◌+ℤ◌, ◌*ℤ◌, ◌<ℤ◌, arith, sym, refl, ap, ap₂, ◌∙◌, subst, Contains, ◌⊎◌, inl, inr, map}
+use Rattle.std.proofs.Common.{◌≡◌, ℕ, zero, suc, List, [], ◌∷◌, ◌++◌, length, ℤ, pos, ◌+ℤ◌, ◌*ℤ◌, ◌<ℤ◌, arith, sym, refl, ap, ap₂, ◌∙◌, subst, Contains, ◌⊎◌, inl, inr, map}
 use Rattle.std.proofs.lemmas.Int.{ints}
 use Rattle.std.proofs.lemmas.List.Elements.{Contains-append_left}
 use Rattle.gf_int.specs.Content.{scaled}

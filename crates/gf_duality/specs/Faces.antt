@@ -1,5 +1,5 @@
 -- Faces of cones, their interior points, facets.
-use Rattle.std.specs.Prelude.{◌≡◌, ℕ, ◌<◌, List, [], ◌∷◌, ◌++◌, ℤ, pos, ◌<ℤ◌, ◌⊎◌, length, All, Any, AllPairs, ◌↔◌, Contains, replicate}
+use Rattle.std.specs.Prelude.{◌≡◌, ℕ, List, [], ◌∷◌, ◌++◌, ℤ, pos, ◌<ℤ◌, ◌⊎◌, length, All, Any, AllPairs, ◌↔◌, Contains, replicate}
 use Rattle.std.specs.Ordering.{int_cmp}
 use Rattle.std.specs.Cmp.Lexicographic.{slice_cmp}
 use Rattle.std.specs.declared.cmp.Ordering.TheVariants.{Less}

@@ -1,17 +1,17 @@
 -- Where bounds on rows have room, no operation of meets and faces leaves the range.
-use Rattle.std.proofs.Common.{◌≡◌, ℕ, ◌+◌, ◌<◌, ◌≤◌, List, [], ℤ, ◌++◌, true, length, length-append, unsigned_abs, All, get_or, Contains, refl, sym, ap, ◌∙◌, subst, arith, inl, inr}
+use Rattle.std.proofs.Common.{◌≡◌, ℕ, ◌+◌, ◌<◌, ◌≤◌, List, [], ℤ, true, length, length-append, unsigned_abs, All, refl, sym, ap, ◌∙◌, subst, arith, inl, inr}
 use Rattle.std.proofs.lemmas.List.{get_or_default}
 use Rattle.std.proofs.lemmas.List.Elements.{All-append, All-filter}
 use Rattle.gf_gordan.specs.declared.error.ConeOverflow.{ConeOverflow}
 use Rattle.gf_duality.specs.Faces.{Rows, part}
 use Rattle.gf_fans.specs.Fans.{meet}
-use Rattle.gf_rays.specs.Cones.{RowsAndRays, rows_of}
+use Rattle.gf_rays.specs.Cones.{rows_of}
 use Rattle.gf_rays.specs.Reached.{IsRaysStep}
 use Rattle.gf_rays.specs.Limits.{IsSmallSystem, has_room}
 use Rattle.gf_rays.proofs.RoomLaws.{systems_with_room_stay_within_limits}
 use Rattle.gf_fan.specs.FansOfCones.{is_zero_on, vanishing_rows}
 use Rattle.gf_fan.specs.FaceSystems.{IsFaceSystem}
-use Rattle.gf_fan.specs.Limits.{HaveRoom, FansWithRoomStayWithinLimits}
+use Rattle.gf_fan.specs.Limits.{FansWithRoomStayWithinLimits}
 
 abbrev IsLong : ℕ → List ℤ → Type 0
 IsLong n t = length t ≡ n

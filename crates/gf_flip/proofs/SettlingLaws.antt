@@ -3,22 +3,22 @@
 use Rattle.std.specs.Prelude.{◌≡◌, ◌⊎◌, ℕ, ◌+◌, ◌<◌, ◌≤◌, Bool, true, false, List, [], ◌∷◌, ◌++◌, length, take, drop, remove, get_or, Contains, Some, None}
 use Rattle.std.proofs.Common.{arith, refl, sym, ap, ◌∙◌, subst, inl, inr}
 use Rattle.std.proofs.lemmas.Bool.{cases_lt}
-use Rattle.std.proofs.lemmas.List.{take_more, take_all, drop_more, get_or_default, get_or_append_left, get_or_push}
+use Rattle.std.proofs.lemmas.List.{take_more, take_all, drop_more, get_or_append_left, get_or_push}
 use Rattle.std.proofs.lemmas.List.Elements.{Contains-push_cases}
 use Rattle.gf_frac.specs.Fraction.{one_ℚ}
 use Rattle.gf_exponents.specs.Exponents.{Exponents, same}
 use Rattle.gf_exponents.proofs.ExponentsLaws.{same-refl}
 use Rattle.gf_poly.specs.declared.Term.{Term}
-use Rattle.gf_poly.specs.Polynomial.{Terms, HasVariables, KeepsVariables}
+use Rattle.gf_poly.specs.Polynomial.{Terms, HasVariables}
 use Rattle.gf_poly.specs.Marking.{MarkedPolynomial, MarkedPolynomials, HaveVariables, HasMark, HasMarkedTerm, IsArranged}
 use Rattle.gf_ideal.specs.Membership.{HasMonomial}
 use Rattle.gf_ideal.specs.Marks.{HasPositiveWeight, IsRealisable}
 use Rattle.gf_ideal.specs.Reduction.{IsDivisible, IsIrreducible}
 use Rattle.gf_ideal.specs.NormalForms.{IsNormalForm, IsRuleReached}
 use Rattle.gf_ideal.specs.Settled.{IsAt}
-use Rattle.gf_ideal.specs.Bases.{AreArranged, IsCanonical}
+use Rattle.gf_ideal.specs.Bases.{AreArranged}
 use Rattle.gf_ideal.specs.WorkLists.{IsTail, IsReducedTail}
-use Rattle.gf_division.specs.Autoreduction.{ShareSomeVariables, AreNeededForms, KeepVariables, IsAutoreduced, IsReducedOf}
+use Rattle.gf_division.specs.Autoreduction.{ShareSomeVariables, IsAutoreduced, IsReducedOf}
 use Rattle.gf_ideal.proofs.ListLaws.{Each-++}
 use Rattle.gf_division.specs.Reducers.{AreIrreducible, IsBeside}
 use Rattle.gf_division.proofs.ReducerLaws.{member_at, members_equal, member_contained, member_variables}

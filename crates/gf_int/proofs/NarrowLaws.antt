@@ -1,5 +1,5 @@
 -- Numbers of 64 bits: as ones of 128, and their products.
-use Rattle.std.proofs.Common.{ℤ, ◌*ℤ◌, ◌*◌, ◌^◌, ◌≤◌, unsigned_abs, FitsSigned, arith}
+use Rattle.std.proofs.Common.{ℤ, ◌*ℤ◌, ◌^◌, ◌≤◌, unsigned_abs, FitsSigned, arith}
 use Rattle.std.specs.Int.{w64, w128}
 use Rattle.std.proofs.lemmas.Int.{ints, unsigned_abs-mul, fits_signed_from_abs}
 use Rattle.std.proofs.lemmas.Nat.{mul-le}

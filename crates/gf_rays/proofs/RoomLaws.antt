@@ -1,5 +1,5 @@
 -- Where bounds on the rows have room, no operation of finding the rays leaves the range, whatever the equations and the lineality space.
-use Rattle.std.proofs.Common.{◌≡◌, ℕ, zero, suc, ◌+◌, ◌*◌, ◌^◌, ◌<◌, ◌≤◌, ◌-◌, List, [], ◌∷◌, ◌++◌, length, ℤ, pos, neg_ℤ, ◌<ℤ◌, ◌⊎◌, arith, sym, refl, ap, ◌∙◌, subst, inl, inr, get_or, map, drop, remove, length-append, unsigned_abs, All, Contains, Bool, true, false, ◌&&◌, cond}
+use Rattle.std.proofs.Common.{◌≡◌, ℕ, zero, suc, ◌+◌, ◌*◌, ◌^◌, ◌<◌, ◌≤◌, ◌-◌, List, [], ◌∷◌, ◌++◌, length, ℤ, neg_ℤ, ◌⊎◌, arith, sym, refl, ap, ◌∙◌, subst, inl, inr, get_or, map, drop, remove, length-append, unsigned_abs, All, Contains, Bool, true, false, ◌&&◌, cond}
 use Rattle.std.proofs.Math.Nat.{mul-le-mul_left}
 use Rattle.std.proofs.lemmas.Bool.{ltb-true}
 use Rattle.std.proofs.lemmas.List.{get_or_default, length-map}
@@ -21,7 +21,7 @@ use Rattle.gf_duality.proofs.ListLaws.{none_in, snoc_cases, first_in, zip_from, 
 use Rattle.gf_duality.proofs.Orthogonal.{basis as orthogonal_basis, straightened}
 use Rattle.gf_fans.proofs.PartNumbers.{of_map}
 use Rattle.gf_rays.specs.declared.ray.Ray.{Ray}
-use Rattle.gf_rays.specs.Limits.{turned_bound, next_bound, along_bound, straight_bound, orthogonal_bound, fits, ends_fit, rows_fit, starts_fit, has_room, SystemsWithRoomStayWithinLimits, SmallSystemsHaveRoom}
+use Rattle.gf_rays.specs.Limits.{turned_bound, next_bound, along_bound, straight_bound, orthogonal_bound, fits, rows_fit, starts_fit, has_room, SystemsWithRoomStayWithinLimits, SmallSystemsHaveRoom}
 use Rattle.gf_rays.specs.MarkedRays.{IsPruned, vectors_of}
 use Rattle.gf_rays.specs.Reached.{IsReached, begun, split, lined, IsRaysStep, null_space, taking, lineality, straight, echelon, implied}
 use Rattle.gf_rays.specs.Splitting.{IsSplit}
@@ -29,7 +29,7 @@ use Rattle.gf_rays.proofs.EliminateLaws.{units_long, dot_unit}
 use Rattle.gf_rays.proofs.PruneLaws.{of_pruned}
 use Rattle.gf_rays.proofs.ReachedLaws.{reached_state, chosen_in}
 use Rattle.gf_rays.proofs.SplitLaws.{vector_in, of_vector, both_of}
-use Rattle.gf_rays.proofs.ReachedSizes.{AreUpTo, BothUpTo, weaker, mono, turned_step, next_step, above, no_dot, no_combining, not_sub, eliminated_up, elimination_counts, no_elimination, begin_rows, normal_up, unitary_eliminated, AreUnitary, unitary_up, units_unitary, entry_up, sized_last, snoc_long, split_up, lined_up, no_row_step, room_below, append_long, middle_in, front_in}
+use Rattle.gf_rays.proofs.ReachedSizes.{AreUpTo, BothUpTo, mono, turned_step, next_step, above, no_dot, no_combining, not_sub, eliminated_up, elimination_counts, no_elimination, begin_rows, normal_up, unitary_eliminated, unitary_up, units_unitary, entry_up, sized_last, snoc_long, split_up, lined_up, no_row_step, room_below, middle_in, front_in}
 
 -- ---- along vectors, to be orthogonal to them
 

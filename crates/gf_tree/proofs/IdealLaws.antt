@@ -1,7 +1,7 @@
 -- The bases of an ideal that is given by generators.
 -- To cite: start_of_ideal, list_for, refusal_for, limits_from.
-use Rattle.std.specs.Prelude.{◌≡◌, ℕ, List, []}
-use Rattle.std.proofs.Common.{refl, sym, ◌∙◌, subst}
+use Rattle.std.specs.Prelude.{◌≡◌, ℕ, List}
+use Rattle.std.proofs.Common.{refl, sym, subst}
 use Rattle.gf_exponents.specs.SixOrders.{MonomialOrder}
 use Rattle.gf_poly.specs.Polynomial.{Terms}
 use Rattle.gf_poly.specs.Marking.{MarkedPolynomials}
@@ -10,7 +10,7 @@ use Rattle.gf_buchberger.specs.Jobs.{HaveRingVariables}
 use Rattle.gf_facets.specs.Regions.{Region, all_positive}
 use Rattle.gf_facets.proofs.SystemLaws.{all_positive-region}
 use Rattle.gf_flip.proofs.ReachedLaws.{reached_first}
-use Rattle.gf_reverse.specs.Upward.{Fan, IsNodeIn, IsNode, fan_of}
+use Rattle.gf_reverse.specs.Upward.{Fan, IsNodeIn, fan_of}
 use Rattle.gf_reverse.specs.Lists.{IsListOfBases}
 use Rattle.gf_reverse.proofs.TreeLaws.{SameFan, own_fan, back_fan, node_moved}
 use Rattle.gf_reverse.proofs.ListLaws.{own}

@@ -1,7 +1,7 @@
 -- A list that is under way: what a walker gave, and then what it has left; and the whole list below the root.
 -- To cite: given_none, given_more, given_all, refusal_given, limits_given, all_left, list_below, root_list, all_given, part_given, all_listed, part_listed.
-use Rattle.std.specs.Prelude.{◌≡◌, ℕ, List, [], ◌∷◌, ◌++◌, ℤ}
-use Rattle.std.proofs.Common.{refl, sym, ap, ◌∙◌, subst}
+use Rattle.std.specs.Prelude.{◌≡◌, ℕ, List, [], ◌∷◌, ◌++◌}
+use Rattle.std.proofs.Common.{refl, sym, ◌∙◌, subst}
 use Rattle.gf_poly.specs.Marking.{MarkedPolynomials}
 use Rattle.gf_walk.specs.declared.mark.Mark.TheVariants.{Before}
 use Rattle.gf_walk.specs.Path.{IsRoot}
@@ -14,7 +14,7 @@ use Rattle.gf_facets.specs.Regions.{Region, all_positive}
 use Rattle.gf_facets.proofs.VectorOrder.{before_strict}
 use Rattle.gf_reverse.specs.Upward.{Fan, IsNode, IsNodeIn, IsParent, fan_of}
 use Rattle.gf_reverse.specs.Lists.{IsListOfBases}
-use Rattle.gf_reverse.proofs.TreeLaws.{SameFan, own_fan, back_fan, node_moved, rank, upward_tree, upward_falls, upward_finite}
+use Rattle.gf_reverse.proofs.TreeLaws.{own_fan, back_fan, node_moved, rank, upward_tree, upward_falls, upward_finite}
 use Rattle.gf_reverse.proofs.ListLaws.{own, list_of_bases}
 use Rattle.gf_tree.specs.Ideals.{IsListFor}
 use Rattle.gf_tree.specs.Parents.{ideal_of, IsRootFor}

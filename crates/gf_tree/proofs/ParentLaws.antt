@@ -1,13 +1,13 @@
 -- What is above a basis, and the root of the tree.
 -- To cite: moved_node, same_width, top_exactly, above_none, above_some, told_root, roots_told, root_for.
-use Rattle.std.specs.Prelude.{◌≡◌, ◌↔◌, ℕ, List, ℤ, pos, length, Some, None, Result, Ok, Err, IfOk}
-use Rattle.std.proofs.Common.{refl, sym, ap, ◌∙◌, subst}
+use Rattle.std.specs.Prelude.{◌≡◌, ◌↔◌, ℕ, List, ℤ, pos, Some, None, Result, Ok, Err, IfOk}
+use Rattle.std.proofs.Common.{refl, sym, ◌∙◌, subst}
 use Rattle.std.proofs.lemmas.List.{length-replicate}
 use Rattle.gf_poly.specs.Marking.{MarkedPolynomials, polys}
 use Rattle.gf_walk.specs.Path.{IsRoot}
 use Rattle.gf_walk.specs.Whole.{IsRootOf}
 use Rattle.gf_facets.specs.Regions.{Region, all_positive}
-use Rattle.gf_reverse.specs.Upward.{IsNode, IsNodeIn, IsParent, IsWayUp, LeadsUp, fan_of}
+use Rattle.gf_reverse.specs.Upward.{IsNode, IsNodeIn, IsParent, IsWayUp, LeadsUp}
 use Rattle.gf_reverse.specs.Answers.{IsAcross, IsWayAnswer}
 use Rattle.gf_reverse.proofs.LawsHold.{root_has_no_way_up, bases_make_a_tree}
 use Rattle.gf_reverse.proofs.ListLaws.{root_above, root_own}

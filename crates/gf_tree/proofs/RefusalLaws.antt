@@ -1,10 +1,9 @@
 -- Refusals of a search: of its steps, seen from another basis of the same ideal, and where it stays within its limits.
 -- To cite: flip_refused, cone_refused, flip_at, cone_at, place_at, refusal_moved, limits_moved, refusal_beside, call_refused, refusal_above, refusal_over, within_memory, only_memory,
 -- only_memory_back.
-use Rattle.std.specs.Prelude.{◌≡◌, ℕ, ◌<◌, ◌≤◌, List, [], ◌∷◌, ℤ, length, Result, Ok, Err, IfErr}
-use Rattle.std.proofs.Common.{arith, refl, sym, ap, ◌∙◌, subst}
+use Rattle.std.specs.Prelude.{◌≡◌, ℕ, ◌<◌, ◌≤◌, List, ℤ, length, Result, Ok, Err, IfErr}
+use Rattle.std.proofs.Common.{arith, sym, ap, ◌∙◌, subst}
 use Rattle.gf_poly.specs.Marking.{MarkedPolynomials}
-use Rattle.gf_gordan.specs.declared.error.ConeOverflow.{ConeOverflow}
 use Rattle.gf_gordan.specs.declared.error.GordanError.{GordanError}
 use Rattle.gf_gordan.specs.declared.error.GordanError.TheVariants as cones
 use Rattle.gf_gordan.specs.Steps.{Failed}
@@ -15,7 +14,7 @@ use Rattle.gf_facets.specs.Facets.{IsFlippable}
 use Rattle.gf_cone.specs.Cones.{ConeRows, normal_at, other_rows, IsConeOf}
 use Rattle.gf_cone.specs.Answers.{IsNormalStep}
 use Rattle.gf_cone.specs.Crossing.{IsStepBefore}
-use Rattle.gf_flip.specs.Operations.{IsFlipRefusal, IsFlipWithinLimits}
+use Rattle.gf_flip.specs.Operations.{IsFlipRefusal}
 use Rattle.gf_flip.proofs.RefusalSteps.{flip_refusal_within}
 use Rattle.gf_walk.specs.Walk.{IsRefused, IsRefusedAbove}
 use Rattle.gf_reverse.specs.Upward.{Fan, IsNodeIn, IsNode, IsParent, fan_of}
@@ -24,7 +23,7 @@ use Rattle.gf_reverse.proofs.ListLaws.{root_above, root_own}
 use Rattle.gf_tree.proofs.LabelLaws.{across_in}
 use Rattle.gf_tree.specs.declared.error.TreeError.{TreeError}
 use Rattle.gf_tree.specs.declared.error.TreeError.TheVariants.{Memory, Cone}
-use Rattle.gf_tree.specs.Refusals.{of_flip_error, of_cone_error, IsConeStep, IsTreeRefusal, IsRefusedAt, IsCallRefusal, IsTreeWithinLimits}
+use Rattle.gf_tree.specs.Refusals.{of_flip_error, of_cone_error, IsTreeRefusal, IsRefusedAt, IsCallRefusal, IsTreeWithinLimits}
 
 -- ---- steps
 

@@ -1,27 +1,27 @@
 -- A walker's step, in the words of bases and paths.
 -- To cite: walk_of, count_along, left_at_top, left_after, step_to, advance_own, left_at_end, step_end, parts_of, left_first, left_rest, resumed, left_resumed.
-use Rattle.std.specs.Prelude.{◌≡◌, ◌⊎◌, ℕ, suc, ◌+◌, ◌-◌, ◌<◌, ◌≤◌, List, [], ◌∷◌, ◌++◌, ℤ, length, Option, Some, None, IfSome}
+use Rattle.std.specs.Prelude.{◌≡◌, ℕ, suc, ◌+◌, ◌-◌, ◌≤◌, List, [], ◌∷◌, ◌++◌, ℤ, length, Option, Some, None, IfSome}
 use Rattle.std.proofs.Common.{arith, refl, sym, ap, ◌∙◌, subst, length-append}
 use Rattle.gf_poly.specs.Marking.{MarkedPolynomials}
 use Rattle.gf_walk.specs.declared.mark.Mark.{Mark}
 use Rattle.gf_walk.specs.declared.mark.Mark.TheVariants.{Before, Listed, Finished}
 use Rattle.gf_walk.specs.Path.{Leads, IsRoot}
-use Rattle.gf_walk.specs.Place.{Place, StandsBelow}
+use Rattle.gf_walk.specs.Place.{Place}
 use Rattle.gf_walk.specs.Listing.{Leaves, IsLeftAt, IsFirstOf}
 use Rattle.gf_walk.specs.Walk.{Steps, Advances}
-use Rattle.gf_walk.specs.Split.{Splits, AreSplitParts, IsCutAt, AreCutAt}
+use Rattle.gf_walk.specs.Split.{AreSplitParts, AreCutAt}
 use Rattle.gf_walk.specs.Whole.{IsRootOf, StandsAfter}
 use Rattle.gf_facets.specs.LexPositive.{IsBefore}
 use Rattle.gf_facets.specs.Regions.{Region, all_positive}
-use Rattle.gf_reverse.specs.Upward.{Fan, IsNode, IsNodeIn, IsParent, fan_of}
-use Rattle.gf_reverse.specs.Lists.{AnswersByPaths, IsListOfBases}
+use Rattle.gf_reverse.specs.Upward.{IsNode, IsNodeIn, IsParent, fan_of}
+use Rattle.gf_reverse.specs.Lists.{AnswersByPaths}
 use Rattle.gf_reverse.proofs.TreeLaws.{count, upward_level, upward_finite}
 use Rattle.gf_reverse.proofs.LeftLaws.{advance_answers, top_seen_below}
 use Rattle.gf_reverse.proofs.ListLaws.{own, root_above, below_node, same_root}
 use Rattle.gf_tree.specs.declared.tree.BasisTree.{BasisTree}
 use Rattle.gf_tree.proofs.ParentLaws.{same_width}
-use Rattle.gf_tree.specs.Parents.{ideal_of, IsRootFor}
-use Rattle.gf_tree.specs.Walks.{Walk, region_at, ideal_at, AreLeft, HasListLeft, left_at_most, walk_at}
+use Rattle.gf_tree.specs.Parents.{ideal_of}
+use Rattle.gf_tree.specs.Walks.{Walk, AreLeft, HasListLeft}
 use Rattle.gf_tree.specs.Steps.{IsStepTo, IsEnd, IsAdvance, AreWalkParts, IsResumed}
 
 -- where a walker over the tree stands, and how many bases it gave

@@ -1,4 +1,3 @@
-use Rattle.std.proofs.Common.{◌∙◌}
 use Rattle.gf_buchberger.proofs.JobLaws.{ring_of_each}
 use Rattle.gf_bases_tests.proofs.buchberger.basis_of.Goals as goal
 

@@ -1,12 +1,11 @@
-use Rattle.std.proofs.Common.{subst, List}
-use Rattle.gf_walk.specs.Listing.{IsLeftAt}
+use Rattle.std.proofs.Common.{subst}
 use Rattle.gf_walk.specs.Split.{IsCutAt, Splits, HaveTree}
 use Rattle.gf_facets.specs.LexPositive.{IsBefore}
 use Rattle.gf_facets.specs.Regions.{all_positive}
 use Rattle.gf_tree.specs.Refusals.{IsTreeRefusal}
 use Rattle.gf_tree.specs.Walks.{Walk, ideal_at}
 use Rattle.gf_tree.proofs.RefusalLaws.{refusal_above}
-use Rattle.gf_tree.proofs.WalkLaws.{walk_of, up_in, left_first, left_rest, left_read, parts_of, parts_read}
+use Rattle.gf_tree.proofs.WalkLaws.{up_in, left_first, left_rest, left_read, parts_of, parts_read}
 use Rattle.gf_tree.proofs.split.cut.Goals as goal
 
 pub invariant_of-first : goal.invariant_of-first

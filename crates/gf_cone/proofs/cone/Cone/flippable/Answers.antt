@@ -1,4 +1,4 @@
-use Rattle.std.proofs.Common.{◌≤◌, ◌≡◌, ◌∙◌, sym, ap, subst, ℤ, ℕ, List, length}
+use Rattle.std.proofs.Common.{◌≤◌, ◌≡◌, ◌∙◌, sym, ap, subst, ℕ, length}
 use Rattle.gf_gordan.specs.Alternative.{AreRows}
 use Rattle.gf_facets.specs.Normals.{others_of}
 use Rattle.gf_cone.specs.Cones.{ConeRows, all_rows, other_rows, normal_at}
