@@ -131,9 +131,6 @@ pub record HasMore (xs : List (List ℤ)) (v : List ℤ) (more : List (List ℤ)
 pub inserted : (v : List ℤ) (i : ℕ) (xs more : List (List ℤ)) → Ascends xs → GoesInAt v i xs → more ≡ insert xs i v → HasMore xs v more
 inserted v i xs more h p e = subst (HasMore xs v) (sym e) (record { rises = inserted_ascends v i xs h p; has = λ a. (inserted_cases v a i xs p, inserted_back v a i xs p) })
 
-pub known : (v : List ℤ) (xs : List (List ℤ)) → Ascends xs → Contains xs v → HasMore xs v xs
-known v xs h c = record { rises = h; has = λ a. (inr, λ k. elim k [ inl e ↦ subst (Contains xs) (sym e) c | inr m ↦ m ]) }
-
 -- ---- normals collected
 
 pub gathers_none : (xs : List (List ℤ)) → Ascends xs → Gathers xs [] xs

@@ -1,5 +1,5 @@
 -- The facets that lead towards a weight, among the normals that a program keeps.
--- To cite: not_crossed, NoneBefore, leads_more, facet_there, nowhere, facet_inside, facet_read.
+-- To cite: not_crossed, NoneBefore, leads_more, facet_there, nowhere, facet_read.
 use Rattle.std.specs.Prelude.{◌≡◌, ℕ, ◌+◌, ◌<◌, ◌≤◌, Bool, true, false, List, [], length, get_or, ℤ, Option, None}
 use Rattle.std.proofs.Common.{arith, sym, ap, ◌∙◌, subst, inl, inr}
 use Rattle.std.proofs.lemmas.Bool.{cases_lt, false≢true}
@@ -38,9 +38,6 @@ nowhere r c i l h = λ n k bs is a u. (
     h p.0 (omega (arith, l, p.1)) n k bs is (subst (LeadsTowards n k r bs) (sym (get_or_default c.normals p.0 [] a p.1 ∙ p.2)) u))
 
 -- ---- as a program reads it
-
-pub facet_inside : (r : List ℤ) (c : ConeRows) (t : Towards) (i : ℕ) (given : List (List ℤ)) → IsFacetTold r c t → t ≡ Facet i → given ≡ c.normals → i < length given
-facet_inside r c t i given h e q = subst (λ (z : List (List ℤ)). i < length z) (sym q) (subst (IsFacetTold r c) e h).0
 
 pub facet_read : (r : List ℤ) (c : ConeRows) (t : Towards) (i : ℕ) (given : List (List ℤ)) (x : List ℤ) → IsFacetTold r c t → t ≡ Facet i → given ≡ c.normals → x ≡ get_or given i x →
     (n : ℕ) (k : Region) (bs : List MarkedPolynomial) → IsConeOf n k bs c → LeadsTowards n k r bs x

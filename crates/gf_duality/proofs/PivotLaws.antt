@@ -1,5 +1,5 @@
 -- Pivots: one for each vector, and made positive.
-use Rattle.std.proofs.Common.{◌≡◌, ℕ, List, ℤ, pos, negsuc, ◌*ℤ◌, neg_ℤ, ◌<ℤ◌, arith, refl, ◌∙◌, subst, All}
+use Rattle.std.proofs.Common.{◌≡◌, ℕ, List, ℤ, pos, negsuc, ◌*ℤ◌, neg_ℤ, ◌<ℤ◌, arith, refl, ◌∙◌, subst}
 use Rattle.std.proofs.lemmas.Int.{ints}
 use Rattle.gf_int.proofs.RingLaws.{dv, dn, dneg}
 use Rattle.gf_vec.specs.Vector.{entry_at}
@@ -53,12 +53,3 @@ normal_down v w p d k g =
       primitive = primitive_opposite w (primitive_of v w d);
       leading = λ q j. opposite_up _ _ (entry_times (negsuc 0) w q) (subst (λ t. entry_at w t <ℤ pos 0) (pivot_unique w p q k (pivot_opposite w q j)) g);
     }
-
-pub normal_zero : (v w : List ℤ) → IsPrimitivePart v w → All (λ x. x ≡ pos 0) w → IsNormalised v w
-normal_zero v w d z = record {
-  factor = d.0;
-  not_zero = λ e. let h = d.1.positive in omega (arith, ints, h);
-  multiple = d.1.multiple;
-  primitive = primitive_of v w d;
-  leading = λ q j. absurd (j.not_zero (z q (pos 0) j.inside));
-}

@@ -1,5 +1,5 @@
 -- The dimension of a cone is one more than that of its greatest proper faces.
-use Rattle.std.proofs.Common.{◌≡◌, ◌≢◌, ℕ, suc, ◌<◌, List, [], ◌∷◌, ◌++◌, length, ℤ, pos, ◌+ℤ◌, ◌*ℤ◌, ◌-ℤ◌, neg_ℤ, ◌<ℤ◌, ◌≤ℤ◌, arith, sym, refl, ap, ◌∙◌, subst, Contains, ◌⊎◌, inl, inr}
+use Rattle.std.proofs.Common.{◌≡◌, ◌≢◌, ℕ, suc, List, [], ◌∷◌, ◌++◌, length, ℤ, pos, ◌+ℤ◌, ◌*ℤ◌, ◌-ℤ◌, neg_ℤ, ◌<ℤ◌, ◌≤ℤ◌, arith, sym, refl, ap, ◌∙◌, subst, Contains, ◌⊎◌, inl, inr}
 use Rattle.std.proofs.lemmas.Int.{ints}
 use Rattle.std.proofs.lemmas.List.Elements.{All-contains, Contains-append_left, Contains-append_right, Contains-append_cases}
 use Rattle.gf_int.specs.Content.{scaled}
@@ -22,7 +22,7 @@ use Rattle.gf_duality.proofs.RaySums.{sum_made, sum_long, sum_zero}
 use Rattle.gf_duality.proofs.Interior.{some_above}
 use Rattle.gf_duality.proofs.FacetRows.{reached, least_of, part_of}
 use Rattle.gf_fans.proofs.FaceLaws.{part_made, all_zero_or, part_on}
-use Rattle.gf_fans.proofs.Rank.{dimension_below, dimension_step, dimension_basis}
+use Rattle.gf_fans.proofs.Rank.{dimension_step, dimension_basis}
 use Rattle.gf_duality.proofs.Determined.{described_of}
 use Rattle.gf_duality.specs.Rays.{IsRays}
 
@@ -236,19 +236,6 @@ joined_sub n hs es lin rays some d sub x c = elim (Contains-append_cases some li
   | inl a ↦ own_member n (rays ++ lin) x (d.rays_width x (sub x a)) (Contains-append_left rays lin x (sub x a))
   | inr b ↦ own_member n (rays ++ lin) x (d.lin_width x b) (Contains-append_right rays lin x b)
 ]
-
--- a face that lacks a ray has a smaller dimension
-pub face_below : (n : ℕ) (hs es lin rays flat some : List (List ℤ)) (r : List ℤ) (d e : ℕ) → IsDescribed n hs es lin rays → ((t : List ℤ) → Contains flat t → Contains hs t) → IsPartOn flat rays some → Contains rays r → (Contains some r → ⊥) →
-    HasDimension n (some ++ lin) d → HasDimension n (rays ++ lin) e → d < e
-face_below n hs es lin rays flat some r d e k sub p cr out hs_ hl =
-    elim (all_zero_or flat r) [
-      | inl z ↦ absurd (out (p.every r cr z))
-      | inr n_ ↦
-          let t = some_not flat r n_ in
-          dimension_below n (some ++ lin) (rays ++ lin) d e t.0 r hs_ hl (joined_sub n hs es lin rays some k (λ x c. (p.each x c).0))
-          (λ x c. elim (Contains-append_cases some lin x c) [ inl a ↦ (p.each x a).1 t.0 t.1.0 | inr b ↦ k.valid.flat t.0 x (sub t.0 t.1.0) b ])
-          (own_member n (rays ++ lin) r (k.rays_width r cr) (Contains-append_left rays lin r cr)) t.1.1
-    ]
 
 -- the dimension is one more than that of any such part
 pub dimension_above : (n : ℕ) (hs es lin rays flat some : List (List ℤ)) (r : List ℤ) (d : ℕ) → IsRays n hs es lin rays → ((t : List ℤ) → Contains flat t → Contains hs t) → IsPartOn flat rays some → Contains rays r → (Contains some r → ⊥) →

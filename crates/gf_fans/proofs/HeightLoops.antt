@@ -1,14 +1,11 @@
 -- Loops over parts and numbers, one further.
-use Rattle.std.proofs.Common.{◌≡◌, ℕ, ◌+◌, ◌-◌, ◌<◌, List, [], ◌∷◌, ◌++◌, length, arith, refl, sym, ap, ◌∙◌, subst, Contains, ◌⊎◌, inl, inr, get_or}
+use Rattle.std.proofs.Common.{◌≡◌, ℕ, ◌+◌, ◌-◌, ◌<◌, List, [], ◌∷◌, ◌++◌, length, arith, sym, ap, ◌∙◌, subst, Contains, ◌⊎◌, inl, inr, get_or}
 use Rattle.std.proofs.lemmas.List.{get_or_default, get_or_append_left, get_or-append_right, length-append}
 use Rattle.std.proofs.lemmas.List.Quantifiers.{all_pairs_push}
-use Rattle.gf_duality.proofs.ListLaws.{none_in, place, less, at, more, first_in, last_in, snoc_cases}
+use Rattle.gf_duality.proofs.ListLaws.{place, less, at, more, first_in, last_in, snoc_cases}
 use Rattle.gf_fans.specs.Heights.{AreFirst, IsWithinPart, IsNextBelow, IsHeight, AreHeights}
 
 -- ---- the first part, all numbers
-
-pub first_none : AreFirst 0 []
-first_none = record { ascending = λ i j d h l. absurd (omega (arith, l)); each = λ i c. absurd (none_in i c); every = λ i h. absurd (omega (arith, h)) }
 
 pub first_more : (n : ℕ) (out new : List ℕ) → new ≡ out ++ n ∷ [] → AreFirst n out → AreFirst (n + 1) new
 first_more n out new e s = subst (AreFirst (n + 1)) (sym e) (record {
@@ -22,9 +19,6 @@ first_more n out new e s = subst (AreFirst (n + 1)) (sym e) (record {
 pub record HeightsSoFar (least : ℕ) (parts : List (List ℕ)) (i : ℕ) (out : List ℕ) : Type 0 where
   pub long : length out ≡ i
   pub each : (j : ℕ) → j < i → IsHeight least parts out j
-
-pub heights_none : (least : ℕ) (parts : List (List ℕ)) → HeightsSoFar least parts 0 []
-heights_none least parts = record { long = refl; each = λ j h. absurd (omega (arith, h)) }
 
 before_push : (out : List ℕ) (x j : ℕ) → j < length out → get_or (out ++ x ∷ []) j 0 ≡ get_or out j 0
 before_push out x j h = get_or_append_left out (x ∷ []) 0 j h

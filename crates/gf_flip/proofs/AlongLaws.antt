@@ -1,5 +1,5 @@
 -- The terms along a vector, one term and one member after another.
--- To cite: selected-none, selected-kept, selected-dropped, along_selected, along-none, along_more, along_end, width_at.
+-- To cite: selected-none, selected-kept, selected-dropped, along_selected, along_more, along_end, width_at.
 use Rattle.std.specs.Prelude.{◌≡◌, ℕ, zero, suc, ◌+◌, ◌<◌, ◌≤◌, Bool, true, false, if◌then◌else◌, List, [], ◌∷◌, ◌++◌, length, take, get_or, ℤ}
 use Rattle.std.proofs.Common.{arith, refl, sym, ap, ◌∙◌, subst, inl, inr}
 use Rattle.std.proofs.lemmas.List.{take_more, take_all}
@@ -92,10 +92,6 @@ matched-push R [] [] x y m r = (r, tt)
 matched-push R [] (z ∷ ys) x y m r = elim m [ ]
 matched-push R (w ∷ xs) [] x y m r = elim m [ ]
 matched-push R (w ∷ xs) (z ∷ ys) x y m r = (m.0, matched-push R xs ys x y m.1 r)
-
--- no members
-pub along-none : (a : List ℤ) → AreAlong a [] []
-along-none a = record { parts = []; each = tt; polynomials = refl; variables = λ n h f c. absurd (omega (arith, c.1)) }
 
 -- and one more
 pub along_more : (a : List ℤ) (bs : List MarkedPolynomial) (b : MarkedPolynomial) (fs : List Terms) (f : Terms) → AreAlong a bs fs →

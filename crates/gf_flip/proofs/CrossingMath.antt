@@ -128,9 +128,6 @@ liftable n bs a hs c p d k = record { monic = (q.further d k).monic; none = λ t
     q : ArePartFacts n c.generators bs p.along.parts hs a v
     q = own_parts n bs a hs c p
 
-    less : Terms → MarkedPolynomial
-    less t = record { poly = d.poly ++ times (neg_ℚ one_ℚ) [] t; head = d.head }
-
     marked : (t : Terms) → Reached (Contains bs) d.poly t → IsIrreducible (Contains bs) t → IsMarked (IsBeyond v a) (record { poly = d.poly ++ times (neg_ℚ one_ℚ) [] t; head = d.head })
     marked t s i = lifted_marked n c.generators v a d (record { poly = d.poly ++ times (neg_ℚ one_ℚ) [] t; head = d.head }) (q.further d k)
         (lifted_of_lift n c.generators bs p.along.parts v a d (record { poly = d.poly ++ times (neg_ℚ one_ℚ) [] t; head = d.head }) c.variables q.side.reduced.basis (side-weak n c.generators v (negated a) bs q.side) q.levels c.flippable.inside.zero (q.basis.members d k) (q.further d k)

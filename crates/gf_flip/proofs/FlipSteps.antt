@@ -1,5 +1,5 @@
 -- The steps of a flip, as the code has them.
--- To cite: have_at, weight_at, realisable_at, neighbour_at, if_neighbour, if_tails_refused, job_at, parts_at, along_at, Ending,
+-- To cite: have_at, weight_at, realisable_at, neighbour_at, if_neighbour, if_tails_refused, job_at, parts_at, Ending,
 -- ending_at, lifts_weight, ended_variables, ended_neighbour.
 use Rattle.std.specs.Prelude.{◌≡◌, ℕ, Bool, List, length, Contains, Result, Ok, Err, IfOk, IfErr, ℤ}
 use Rattle.std.proofs.Common.{refl, sym, ap, ◌∙◌, subst}
@@ -40,9 +40,6 @@ have_at n m bs items v e q = subst (λ (z : ℕ). HaveVariables z items) (sym q)
 
 pub weight_at : (n : ℕ) (bs items : List MarkedPolynomial) (a : List ℤ) → IsCrossing n bs a → items ≡ bs → HasSomeWeight items
 weight_at n bs items a c e = let w = crossing_weight n bs a c in subst HasSomeWeight (sym e) (w.0, w.2)
-
-pub along_at : (a b : List ℤ) (bs items : List MarkedPolynomial) (fs : List Terms) → AreAlong b items fs → b ≡ a → items ≡ bs → AreAlong a bs fs
-along_at a b bs items fs h e q = subst (λ (z : List ℤ). AreAlong z bs fs) e (subst (λ (z : List MarkedPolynomial). AreAlong b z fs) q h)
 
 -- the normal is within the limit
 pub bounded_at : (n : ℕ) (bs items : List MarkedPolynomial) (a b : List ℤ) → IsCrossing n bs a → items ≡ bs → HaveMonomialsAlone items → b ≡ a → AreBounded b

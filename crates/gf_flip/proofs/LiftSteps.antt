@@ -1,8 +1,8 @@
 -- The lifts, one after another.
--- To cite: AreLifting, lifting-none, lifting_more, lifting_end, lift_there, lifted_member.
-use Rattle.std.specs.Prelude.{◌≡◌, ℕ, ◌+◌, ◌<◌, ◌≤◌, List, [], ◌∷◌, ◌++◌, length, take, get_or}
+-- To cite: AreLifting, lifting_more, lift_there, lifted_member.
+use Rattle.std.specs.Prelude.{◌≡◌, ℕ, ◌+◌, ◌<◌, List, [], ◌∷◌, ◌++◌, length, take, get_or}
 use Rattle.std.proofs.Common.{sym, ap, ◌∙◌, subst}
-use Rattle.std.proofs.lemmas.List.{take_more, take_all}
+use Rattle.std.proofs.lemmas.List.{take_more}
 use Rattle.gf_frac.specs.Fraction.{◌+ℚ◌, neg_ℚ, zero_ℚ, one_ℚ}
 use Rattle.gf_poly.specs.Polynomial.{Terms, coefficient, HasVariables, KeepsBothVariables}
 use Rattle.gf_poly.specs.Sums.{IsDifference}
@@ -40,9 +40,6 @@ pub record AreLifting (n : ℕ) (bs hs ls : List MarkedPolynomial) : Type 0 wher
   pub lifts : AreLifts bs hs ls
   pub variables : HaveVariables n ls
 
-pub lifting-none : (n : ℕ) (bs : List MarkedPolynomial) → AreLifting n bs [] []
-lifting-none n bs = record { lifts = tt; variables = tt }
-
 pub lifting_more : (n : ℕ) (bs hs : List MarkedPolynomial) (i : ℕ) (h l : MarkedPolynomial) (old new : List MarkedPolynomial) → i < length hs →
     h ≡ get_or hs i h → IsLift bs h l → HasVariables n l.poly → new ≡ old ++ l ∷ [] → AreLifting n bs (take i hs) old →
     AreLifting n bs (take (i + 1) hs) new
@@ -51,9 +48,6 @@ lifting_more n bs hs i h l old new k q t v e s = record {
       (subst (λ (z : List MarkedPolynomial). AreLifts bs (take i hs ++ h ∷ []) z) (sym e) (matched-push (IsLift bs) (take i hs) old h l s.lifts t));
   variables = subst (HaveVariables n) (sym e) (Each-++ (λ (b : MarkedPolynomial). HasVariables n b.poly) old (l ∷ []) s.variables (v, tt));
 }
-
-pub lifting_end : (n : ℕ) (bs hs ls : List MarkedPolynomial) (i : ℕ) → length hs ≤ i → AreLifting n bs (take i hs) ls → AreLifting n bs hs ls
-lifting_end n bs hs ls i l s = subst (λ (z : List MarkedPolynomial). AreLifting n bs z ls) (take_all i hs l) s
 
 -- ---- as the code has it
 

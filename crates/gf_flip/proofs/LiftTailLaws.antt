@@ -1,9 +1,9 @@
 -- Tails of lifts: which stay as they are, and that the others are reduced by all of them.
--- To cite: undivided_none, undivided_more, ArePassed, passed_at, passed_more, stays_at, copies_more, copies-length, copied_at,
+-- To cite: ArePassed, passed_at, passed_more, stays_at, copies_more, copies-length, copied_at,
 -- undivided_along, stay_reduced.
 use Rattle.std.specs.Prelude.{◌≡◌, ◌⊎◌, ℕ, zero, suc, ◌+◌, ◌<◌, ◌≤◌, Bool, true, false, List, [], ◌∷◌, ◌++◌, length, take, get_or, Contains}
 use Rattle.std.proofs.Common.{arith, refl, sym, ap, ◌∙◌, subst, inl, inr, eqb}
-use Rattle.std.proofs.lemmas.Bool.{cases_lt, cases_eq, ne_eqb, false≢true}
+use Rattle.std.proofs.lemmas.Bool.{cases_eq, ne_eqb, false≢true}
 use Rattle.std.proofs.lemmas.List.{take_more, take_all, get_or_default}
 use Rattle.gf_exponents.specs.Exponents.{Exponents, same, plus, Divides}
 use Rattle.gf_exponents.proofs.ExponentsLaws.{same_of, same_along, same_trans}
@@ -21,25 +21,6 @@ use Rattle.gf_flip.specs.LiftTails.{IsCopy, AreCopies, AreUndivided, HasUndivide
 use Rattle.gf_flip.proofs.AlongLaws.{matched-push}
 
 -- ---- marks that are tried
-
-pub undivided_none : (ls : List MarkedPolynomial) (flags : List Bool) (copied : Bool) (x : Exponents) → AreUndivided ls flags copied x 0
-undivided_none ls flags copied x = record { none = λ j b l a n d. absurd (omega (arith, l)) }
-
-pub undivided_more : (ls : List MarkedPolynomial) (flags : List Bool) (copied : Bool) (x : Exponents) (i : ℕ) (b : MarkedPolynomial) (f : Bool) →
-    IsAt ls i b → i < length flags → f ≡ get_or flags i f → ((copied ≡ true → f ≡ true → ⊥) → Divides b.head x → ⊥) →
-    AreUndivided ls flags copied x i → AreUndivided ls flags copied x (i + 1)
-undivided_more ls flags copied x i b f h l e n k = record { none = λ j c m a s d. at j c (cases_lt j i) m a s d }
-  where
-    at : (j : ℕ) (c : MarkedPolynomial) → (j < i) ⊎ (i ≤ j) → j < i + 1 → IsAt ls j c → (copied ≡ true → get_or flags j false ≡ true → ⊥) → Divides c.head x → ⊥
-    at j c (inl q) m a s d = k.none j c q a s d
-    at j c (inr q) m a s d =
-        let p : j ≡ i = omega (arith, q, m) in
-        n (λ t r. s t (ap (λ (z : ℕ). get_or flags z false) p ∙ get_or_default flags i false f l ∙ sym e ∙ r))
-        (subst (λ (z : MarkedPolynomial). Divides z.head x) (members_equal ls i c b (subst (λ (z : ℕ). IsAt ls z c) p a) h) d)
-
-pub undivided_end : (ls : List MarkedPolynomial) (flags : List Bool) (copied : Bool) (x : Exponents) (i : ℕ) → length ls ≤ i →
-    AreUndivided ls flags copied x i → AreUndivided ls flags copied x (length ls)
-undivided_end ls flags copied x i l k = record { none = λ j b m a s d. k.none j b (omega (arith, m, l)) a s d }
 
 -- ---- the terms of a lift
 

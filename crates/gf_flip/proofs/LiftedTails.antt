@@ -89,9 +89,6 @@ lifted_step n fs v a hs ks h x f g vars o nz further tails lifts c s u t = recor
         down y z (inl l) d = omega (arith, ints, l, d)
         down y z (inr k) d = omega (arith, ints, further-weight v a y z o k, d)
 
-    taken : Terms
-    taken = times (neg_ℚ (coefficient f s.at)) s.rest s.member.poly
-
     -- so is all that it takes away
     under : IsWithin (λ (y : Exponents). whole_weight v y <ℤ whole_weight v h.head) (times (neg_ℚ (coefficient f s.at)) s.rest s.member.poly)
     under = multiple_within (Contains ks) (λ (y : Exponents). whole_weight v y <ℤ whole_weight v h.head) s.member (neg_ℚ (coefficient f s.at)) s.rest closed s.contained

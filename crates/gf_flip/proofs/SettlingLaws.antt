@@ -1,5 +1,5 @@
 -- Members that are needed and settled: kept one after another, they are the list autoreduced.
--- To cite: undivided_more, undivided_form, settled_at, picked-none, picked-more, AreKeptUp, kept_up-none, kept_up-more, kept_up_end, kept_variables, reduced_form, reduced_as.
+-- To cite: undivided_more, undivided_form, settled_at, picked-more, AreKeptUp, kept_up-none, kept_up-more, kept_up_end, kept_variables, reduced_form, reduced_as.
 use Rattle.std.specs.Prelude.{◌≡◌, ◌⊎◌, ℕ, ◌+◌, ◌<◌, ◌≤◌, Bool, true, false, List, [], ◌∷◌, ◌++◌, length, take, drop, remove, get_or, Contains, Some, None}
 use Rattle.std.proofs.Common.{arith, refl, sym, ap, ◌∙◌, subst, inl, inr}
 use Rattle.std.proofs.lemmas.Bool.{cases_lt}
@@ -65,9 +65,6 @@ settled_at bs b i h f v l q m o eh ef a = record { at = λ c p. subst (IsSettled
     }
 
 -- ---- the flags
-
-pub picked-none : (bs : List MarkedPolynomial) (flags : List Bool) → flags ≡ [] → ArePicked bs flags 0
-picked-none bs flags e = subst (λ (z : List Bool). ArePicked bs z 0) (sym e) (record { size = refl; at = λ j l. absurd (omega arith) })
 
 pub picked-more : (bs : List MarkedPolynomial) (flags new : List Bool) (i : ℕ) (f : Bool) → IsPick bs i f → new ≡ flags ++ f ∷ [] → ArePicked bs flags i → ArePicked bs new (i + 1)
 picked-more bs flags new i f p e h = subst (λ (z : List Bool). ArePicked bs z (i + 1)) (sym e) (record { size = size; at = λ j l. at j (cases_lt j i) l })

@@ -1,10 +1,9 @@
 -- The tail of one lift, reduced step by step, as the code does it.
--- To cite: IsChosen, tail_term, Tailing, tailing-none, tailing-more, tailing-less, ArePassedOver, over_more, over_end, tail_there, reduced_at.
+-- To cite: IsChosen, tail_term, Tailing, tailing-none, tailing-more, tailing-less, ArePassedOver, tail_there, reduced_at.
 use Rattle.std.specs.declared.option.Option.{Option}
-use Rattle.std.specs.Prelude.{◌≡◌, ℕ, ◌+◌, ◌<◌, ◌≤◌, ◌^◌, Bool, true, false, Some, IfSome, List, [], ◌∷◌, ◌++◌, length, take, get_or, Contains}
+use Rattle.std.specs.Prelude.{◌≡◌, ℕ, ◌<◌, ◌^◌, Bool, true, false, Some, IfSome, List, length, take, get_or, Contains}
 use Rattle.std.proofs.Common.{refl, sym, ap, ◌∙◌, subst}
-use Rattle.std.proofs.lemmas.List.{take_more, take_all}
-use Rattle.gf_exponents.specs.Exponents.{Exponents, same, Divides}
+use Rattle.gf_exponents.specs.Exponents.{Exponents, same}
 use Rattle.gf_exponents.specs.Orders.{lighter}
 use Rattle.gf_exponents.proofs.ExponentsLaws.{same_along}
 use Rattle.gf_exponents.proofs.OrderLaws.{lighter-strict}
@@ -17,7 +16,6 @@ use Rattle.gf_ideal.specs.Membership.{HasMonomial}
 use Rattle.gf_ideal.specs.Marks.{AreMarked}
 use Rattle.gf_ideal.specs.Measure.{work_left}
 use Rattle.gf_ideal.specs.Reduction.{IsDivisible, IsStep}
-use Rattle.gf_ideal.proofs.ListLaws.{Each-++}
 use Rattle.gf_ideal.proofs.ListedTerms.{listed, box_of_monomial}
 use Rattle.gf_ideal.proofs.MarkWeights.{mark-there}
 use Rattle.gf_ideal.proofs.MeasureLaws.{work_left-at}
@@ -71,15 +69,6 @@ pub tailing_variables : (ls : List MarkedPolynomial) (b : MarkedPolynomial) (h :
 tailing_variables ls b h f i v l q m e t =
     t.kept.at (length h) (member_variables (length h) ls b (lifts_width ls b h i v l q m e) (member_contained ls i b (member_at ls i b l q)))
 
-is_divisor : (ls : List MarkedPolynomial) (h : Exponents) (f : Terms) (x : Exponents) (j : ℕ) (d : MarkedPolynomial) → (k : IsTailTerm ls h f x j) → d ≡ get_or ls j d → k.divisor.member ≡ d
-is_divisor ls h f x j d k q = members_equal ls j k.divisor.member d k.divisor.at (member_at ls j d k.divisor.at.within q)
-
-pub divisor_divides : (ls : List MarkedPolynomial) (h : Exponents) (f : Terms) (x : Exponents) (j : ℕ) (d : MarkedPolynomial) → IsTailTerm ls h f x j → d ≡ get_or ls j d → Divides d.head x
-divisor_divides ls h f x j d k q = subst (λ (z : MarkedPolynomial). Divides z.head x) (is_divisor ls h f x j d k q) k.divisor.divides
-
-pub divisor_variables : (ls : List MarkedPolynomial) (h : Exponents) (f : Terms) (x : Exponents) (j : ℕ) (d : MarkedPolynomial) → IsTailTerm ls h f x j → d ≡ get_or ls j d → HasVariables (length x) d.poly
-divisor_variables ls h f x j d k q = subst (λ (z : MarkedPolynomial). HasVariables (length x) z.poly) (is_divisor ls h f x j d k q) k.divisor.poly
-
 tail_step : (ls : List MarkedPolynomial) (h : Exponents) (f g : Terms) (x : Exponents) (j : ℕ) (d : MarkedPolynomial) → IsTailTerm ls h f x j → d ≡ get_or ls j d → StepsTo f d x g → IsStep (Contains ls) f g
 tail_step ls h f g x j d k q s = record {
   at = x;
@@ -109,14 +98,6 @@ tailing-less ls w h f g x j d m k q s = work_left-at (2 ^ 31) ROOM w ls f g m (t
 -- no mark divides an unmarked term before the place i
 abbrev pub ArePassedOver : List MarkedPolynomial → Exponents → ℕ → Terms → Type 0
 ArePassedOver ls h i f = AreIrreducible ls (Some h) (take i f)
-
-pub over_more : (ls : List MarkedPolynomial) (h : Exponents) (i : ℕ) (f : Terms) (t : Term) → i < length f → t ≡ get_or f i t → (same t.mono h ≡ false → IsDivisible (Contains ls) t.mono → ⊥) →
-    ArePassedOver ls h i f → ArePassedOver ls h (i + 1) f
-over_more ls h i f t l e n k = subst (AreIrreducible ls (Some h)) (sym (take_more f i t l ∙ ap (λ (w : Term). take i f ++ w ∷ []) (sym e)))
-    (Each-++ (λ (t : Term). IsBeside (Some h) t.mono → IsDivisible (Contains ls) t.mono → ⊥) (take i f) (t ∷ []) k (n, tt))
-
-pub over_end : (ls : List MarkedPolynomial) (h : Exponents) (i : ℕ) (f : Terms) → length f ≤ i → ArePassedOver ls h i f → AreIrreducible ls (Some h) f
-over_end ls h i f l k = subst (AreIrreducible ls (Some h)) (take_all i f l) k
 
 pub irreducible_beside : (ls : List MarkedPolynomial) (h : Exponents) (f : Terms) → AreIrreducible ls (Some h) f → (x : Exponents) → HasMonomial f x → IsDivisible (Contains ls) x → same x h ≡ true
 irreducible_beside ls h f a x m d = at (same x h) refl

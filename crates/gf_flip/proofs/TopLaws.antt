@@ -1,5 +1,5 @@
 -- Lifts that end once nothing is left along the normal, as the code works them out.
--- To cite: SeekingLine, seeking-none, seeking_more, line_found, Topping, topping-none, topping_more, topping_less, top_step, shares_at,
+-- To cite: SeekingLine, seeking_more, Topping, topping-none, topping_more, topping_less, top_step, shares_at,
 -- divides_at, off_more, off_end, top_remainder_at, top_there, top_lift_at, AreTopping, topping_all.
 use Rattle.std.specs.Prelude.{◌≡◌, ℕ, ◌+◌, ◌<◌, ◌≤◌, ◌^◌, true, None, List, [], ◌∷◌, ◌++◌, length, take, get_or, Contains, ℤ, pos, ◌+ℤ◌, ◌*ℤ◌}
 use Rattle.std.proofs.Common.{arith, refl, sym, ap, ◌∙◌, subst, inl, inr}
@@ -51,18 +51,11 @@ pub record SeekingLine (n : ℕ) (old new : Split) : Type 0 where
   pub same : joined_terms new ≡ joined_terms old
   pub sound : IsSound n new
 
-pub seeking-none : (n : ℕ) (s : Split) → IsSound n s → SeekingLine n s s
-seeking-none n s v = record { same = refl; sound = v }
-
 pub seeking_more : (n : ℕ) (old now new : Split) → PassesOne now new → SeekingLine n old now → SeekingLine n old new
 seeking_more n old now new w k = let e = terms_down now new w in record { same = e ∙ k.same; sound = sound_same n now new e k.sound }
 
 pub first_width : (n : ℕ) (old s : Split) (t : Term) → IsTermInFront s.below t → SeekingLine n old s → length t.mono ≡ n
 first_width n old s t f k = first_length n s t k.sound f
-
--- the search has found a member
-pub line_found : (bs : List MarkedPolynomial) (s : Split) (t : Term) (j : ℕ) → IsTermInFront s.below t → IsDivisorAt bs t.mono j → IsMonomial t.mono → IsReducibleFirst bs None s j
-line_found bs s t j i d m = record { term = t; is = i; divisor = d; beside = tt; monomial = m }
 
 -- ---- the steps
 
@@ -273,9 +266,6 @@ beside_end a nz b x i f ef ex l h y m p = at (listed (λ (t : Term). AreMultiple
 pub monic_member : (bs : List MarkedPolynomial) (b : MarkedPolynomial) (j : ℕ) → HasSomeWeight bs → j < length bs → b ≡ get_or bs j b → coefficient b.poly b.head ≡ one_ℚ
 monic_member bs b j w l e = (w.1 b (j, l, sym e)).monic
 
-pub untouched_variables : (n : ℕ) (bs : List MarkedPolynomial) (b l : MarkedPolynomial) (j : ℕ) → HaveVariables n bs → j < length bs → b ≡ get_or bs j b → l ≡ b → HasVariables n l.poly
-untouched_variables n bs b l j v k e q = subst (λ (z : MarkedPolynomial). HasVariables n z.poly) (sym q) (member_variables n bs b v (j, k, sym e))
-
 -- ---- all lifts
 
 pub record AreTopping (n : ℕ) (bs : List MarkedPolynomial) (a : List ℤ) (hs ls : List MarkedPolynomial) : Type 0 where
@@ -290,7 +280,3 @@ topping_all n bs a hs i h l old new k q t v e s = record {
       (subst (λ (z : List MarkedPolynomial). AreTopLifts bs a (take i hs ++ h ∷ []) z) (sym e) (matched-push (IsTopLift bs a) (take i hs) old h l s.lifts t));
   variables = subst (HaveVariables n) (sym e) (Each-++ (λ (b : MarkedPolynomial). HasVariables n b.poly) old (l ∷ []) s.variables (v, tt));
 }
-
-pub topping_end : (n : ℕ) (bs : List MarkedPolynomial) (a : List ℤ) (hs ls : List MarkedPolynomial) (i : ℕ) → length hs ≤ i → AreTopping n bs a (take i hs) ls →
-    AreTopping n bs a hs ls
-topping_end n bs a hs ls i l s = subst (λ (z : List MarkedPolynomial). AreTopping n bs a z ls) (take_all i hs l) s

@@ -74,11 +74,6 @@ zero_all : (d : ℕ) (xs : List ℤ) → AllZero xs → DividesAll d xs
 zero_all d [] h = tt
 zero_all d (x ∷ xs) h = (subst (λ z. d ∣ unsigned_abs z) (sym h.0) (dvd-zero d), zero_all d xs h.1)
 
--- 1 divides each entry
-pub one_all : (xs : List ℤ) → DividesAll 1 xs
-one_all [] = tt
-one_all (x ∷ xs) = (one-dvd (unsigned_abs x), one_all xs)
-
 -- where the greatest common divisor is 0 the content is 1
 pub IsContent-zero : (xs : List ℤ) → IsGcdOfAll xs 0 → IsContent xs 1
 IsContent-zero xs h = let z = all_zero xs h.divides in record { positive = omega arith; divides = zero_all 1 xs z; greatest = inr (z, refl) }

@@ -304,18 +304,10 @@ units_unitary n = record { each = each }
     each : (x : List ℤ) → Contains (unit_vectors n) x → IsUnitary x
     each x (k, l, e) = subst IsUnitary (get_or_default (unit_vectors n) k [] x l ∙ e) (unit k (omega (arith, units_long n, l)))
 
-same_map : (f : List ℤ → List ℤ) (xs : List (List ℤ)) → ((x : List ℤ) → f x ≡ x) → map f xs ≡ xs
-same_map f [] h = refl
-same_map f (x ∷ xs) h = ap (λ y. y ∷ map f xs) (h x) ∙ ap (λ l. x ∷ l) (same_map f xs h)
-
 none_eliminated : (n : ℕ) (rows : List (List ℤ)) (j : ℕ) (done left : List (List ℤ)) → length done ≡ 0 → IsEliminated n rows j done left → left ≡ rows
 none_eliminated n rows j out left z eliminated_begun = refl
 none_eliminated n rows m out left z (skipped j k done rest e y p) = none_eliminated n rows j out left z p
 none_eliminated n rows m out left z (turned j k done from others rest whole i e h f za zb eo p) = absurd (omega (arith, z, snoc_long others (row_at from i) out eo))
-
-pub values_long : (es : List (List ℤ)) (x : List ℤ) → length (values es x) ≡ length es
-values_long [] x = refl
-values_long (e ∷ es) x = ap suc (values_long es x)
 
 dropped : (es : List (List ℤ)) (x : List ℤ) → drop (length es) (with_values es x) ≡ x
 dropped [] x = refl
@@ -338,11 +330,6 @@ normal_up b t z u d = record {
       let q = less_of (unsigned_abs d.factor) (unsigned_abs (entry_at z p)) (omega (arith, ints, d.not_zero)) in
       let a = u.at p in omega (arith, e, q, a);
 }
-
-null_up : (n : ℕ) (basis : List (List ℤ)) → IsNullSpace n [] basis → AreUpTo 1 basis
-null_up n basis b =
-    let u = unitary_eliminated n (map (drop 0) b.left) n b.basis.done b.basis.left (begin_rows _ n 0 [] b.done b.left (none_done _ n b.done b.left b.eliminated) b.eliminated) b.basis.eliminated in
-    record { each = λ z c. let t = zip_from IsNormalised b.basis.done basis z b.basis.normal c in normal_up 1 t.0 z (unitary_up t.0 (u.first.each t.0 t.1.0)) t.1.1 }
 
 no_null_step : (row n : ℕ) (s : ConeOverflow) → IsNullStep row n [] s → ⊥
 no_null_step row n s (eliminating k) = absurd (omega (arith, k.column))

@@ -348,11 +348,6 @@ in_box zero k x h = inl refl
 in_box (suc n) k [] h = in_spread k 0 (box n k) (trimmed n []) (omega arith) (in_box n k [] (λ i. omega arith))
 in_box (suc n) k (a ∷ x) h = in_spread k a (box n k) (trimmed n x) (h 0) (in_box n k x (λ i. h (suc i)))
 
-length-trimmed : (n : ℕ) (x : Exponents) → length (trimmed n x) ≡ n
-length-trimmed zero x = refl
-length-trimmed (suc n) [] = ap suc (length-trimmed n [])
-length-trimmed (suc n) (a ∷ x) = ap suc (length-trimmed n x)
-
 parts-entry : (n : ℕ) (x : Exponents) (i : ℕ) → entry (beyond_first n x) i + entry (trimmed n x) i ≡ entry x i
 parts-entry zero x i = omega arith
 parts-entry (suc n) [] zero = refl

@@ -1,24 +1,21 @@
 -- The bases of an ideal that is given by generators.
--- To cite: start_of_ideal, list_for, refusal_for, limits_from.
-use Rattle.std.specs.Prelude.{◌≡◌, ℕ, List}
-use Rattle.std.proofs.Common.{refl, sym, subst}
+-- To cite: start_of_ideal, list_for.
+use Rattle.std.specs.Prelude.{ℕ, List}
+use Rattle.std.proofs.Common.{refl, subst}
 use Rattle.gf_exponents.specs.SixOrders.{MonomialOrder}
 use Rattle.gf_poly.specs.Polynomial.{Terms}
 use Rattle.gf_poly.specs.Marking.{MarkedPolynomials}
 use Rattle.gf_buchberger.specs.Bases.{IsArrangedBasis}
 use Rattle.gf_buchberger.specs.Jobs.{HaveRingVariables}
-use Rattle.gf_facets.specs.Regions.{Region, all_positive}
+use Rattle.gf_facets.specs.Regions.{all_positive}
 use Rattle.gf_facets.proofs.SystemLaws.{all_positive-region}
 use Rattle.gf_flip.proofs.ReachedLaws.{reached_first}
 use Rattle.gf_reverse.specs.Upward.{Fan, IsNodeIn, fan_of}
 use Rattle.gf_reverse.specs.Lists.{IsListOfBases}
 use Rattle.gf_reverse.proofs.TreeLaws.{SameFan, own_fan, back_fan, node_moved}
 use Rattle.gf_reverse.proofs.ListLaws.{own}
-use Rattle.gf_tree.specs.declared.error.TreeError.{TreeError}
 use Rattle.gf_tree.specs.Ideals.{ideal_by, IsListFor}
 use Rattle.gf_tree.specs.Parents.{ideal_of}
-use Rattle.gf_tree.specs.Refusals.{IsTreeRefusal, IsTreeWithinLimits}
-use Rattle.gf_tree.proofs.RefusalLaws.{refusal_moved, limits_moved}
 
 -- the basis by degree, then lex, is a basis of its ideal, and so of the ideal that it generates
 pub start_of_ideal : (n : ℕ) (fs : List Terms) (s : MarkedPolynomials) → HaveRingVariables n fs → IsArrangedBasis MonomialOrder.deglex n fs s → IsNodeIn (ideal_by n fs) s × IsNodeIn (ideal_of s) s
@@ -42,11 +39,3 @@ list_for F v nodes h l = record {
   where
     same : SameFan F (fan_of F.region v)
     same = own_fan F v h
-
--- a refusal at a basis of the ideal that v generates is one at a basis of F
-pub refusal_for : (F : Fan) (k : Region) (v : MarkedPolynomials) (pairs : ℕ) (e : TreeError) → F.region ≡ k → IsNodeIn F v → IsTreeRefusal (fan_of k v) pairs e → IsTreeRefusal F pairs e
-refusal_for F k v pairs e q h r = refusal_moved (fan_of F.region v) F pairs e (back_fan F (fan_of F.region v) (own_fan F v h)) (subst (λ (j : Region). IsTreeRefusal (fan_of j v) pairs e) (sym q) r)
-
--- and limits are kept alike
-pub limits_from : (F : Fan) (k : Region) (v : MarkedPolynomials) (pairs : ℕ) → F.region ≡ k → IsNodeIn F v → IsTreeWithinLimits F pairs → IsTreeWithinLimits (fan_of k v) pairs
-limits_from F k v pairs q h w = subst (λ (j : Region). IsTreeWithinLimits (fan_of j v) pairs) q (limits_moved F (fan_of F.region v) pairs (own_fan F v h) w)

@@ -1,14 +1,13 @@
 -- What is above a basis, and the root of the tree.
--- To cite: moved_node, same_width, top_exactly, above_none, above_some, told_root, roots_told, root_for.
-use Rattle.std.specs.Prelude.{◌≡◌, ◌↔◌, ℕ, List, ℤ, pos, Some, None, Result, Ok, Err, IfOk}
+-- To cite: moved_node, same_width, top_exactly, told_root, roots_told, root_for.
+use Rattle.std.specs.Prelude.{◌≡◌, ◌↔◌, ℕ, List, ℤ, pos, Result, Ok, Err, IfOk}
 use Rattle.std.proofs.Common.{refl, sym, ◌∙◌, subst}
 use Rattle.std.proofs.lemmas.List.{length-replicate}
 use Rattle.gf_poly.specs.Marking.{MarkedPolynomials, polys}
 use Rattle.gf_walk.specs.Path.{IsRoot}
 use Rattle.gf_walk.specs.Whole.{IsRootOf}
 use Rattle.gf_facets.specs.Regions.{Region, all_positive}
-use Rattle.gf_reverse.specs.Upward.{IsNode, IsNodeIn, IsParent, IsWayUp, LeadsUp}
-use Rattle.gf_reverse.specs.Answers.{IsAcross, IsWayAnswer}
+use Rattle.gf_reverse.specs.Upward.{IsNode, IsNodeIn, IsParent, LeadsUp}
 use Rattle.gf_reverse.proofs.LawsHold.{root_has_no_way_up, bases_make_a_tree}
 use Rattle.gf_reverse.proofs.ListLaws.{root_above, root_own}
 use Rattle.gf_tree.specs.declared.above.Parent.{Parent}
@@ -31,14 +30,6 @@ top_exactly v h =
     root_has_no_way_up.exactly v.variables (polys v.items) k k.root v.items h.fan.ideal h.fan.region.widths (root_has_no_way_up.own v.variables k h.fan.region) h.basis
 
 -- ---- what is above a basis
-
-pub above_none : (m : ℕ) (v : MarkedPolynomials) → m ≡ v.variables → IsWayAnswer (all_positive m) v None → IsParentTold v Root
-above_none m v e h = subst (λ (j : ℕ). (a : List ℤ) → LeadsUp v.variables (all_positive j) v.items a → ⊥) e h
-
-pub above_some : (m : ℕ) (v u : MarkedPolynomials) (a : List ℤ) → m ≡ v.variables → IsNodeIn (ideal_of v) v → IsWayAnswer (all_positive m) v (Some a) → IsAcross (all_positive m) v a (Some u) → IsParentTold v (Up a u)
-above_some m v u a e h w x =
-    let y = subst (λ (j : ℕ). IsAcross (all_positive j) v a (Some u)) e x in
-    (subst (λ (j : ℕ). IsWayUp v.variables (all_positive j) v.items a) e w, record { fan = h.fan; variables = y.0; basis = y.1.there }, y.1)
 
 -- the answer tells whether it is the root
 pub told_root : (v : MarkedPolynomials) (p : Parent) → IsNodeIn (ideal_of v) v → IsParentTold v p → p ≡ Root ↔ IsDegreeBasis v

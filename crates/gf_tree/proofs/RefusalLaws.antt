@@ -38,13 +38,6 @@ cone_refused k pairs v c m (cones.Cone s) e h is l f q =
     IsTreeRefusal.system v s h (record { cone = c; is_cone = is; place = f.0; inside = omega (arith, l, f.1); step = f.2 }) q
 cone_refused k pairs v c m cones.Memory e h is l f q = IsTreeRefusal.memory q
 
--- a step of the system of the normal at a place
-pub place_refused : (k : Region) (pairs : ℕ) (v : MarkedPolynomials) (c : ConeRows) (i : ℕ) (r : GordanError) (e : TreeError) → IsNode k v → IsConeOf v.variables k v.items c →
-    i < length c.normals → Failed (IsNormalStep c.variables (other_rows c i) (normal_at c i)) r → e ≡ of_cone_error r → IsTreeRefusal (fan_of k v) pairs e
-place_refused k pairs v c i (cones.Cone s) e h is l f q =
-    IsTreeRefusal.system v s h (record { cone = c; is_cone = is; place = i; inside = l; step = f }) q
-place_refused k pairs v c i cones.Memory e h is l f q = IsTreeRefusal.memory q
-
 -- ---- calls at one basis
 
 pub flip_at : (k : Region) (pairs : ℕ) (v : MarkedPolynomials) (a : List ℤ) (r : BasisError) (e : TreeError) → IsFlippable v.variables k v.items a →

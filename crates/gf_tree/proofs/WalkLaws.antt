@@ -1,5 +1,5 @@
 -- A walker's step, in the words of bases and paths.
--- To cite: walk_of, count_along, left_at_top, left_after, step_to, advance_own, left_at_end, step_end, parts_of, left_first, left_rest, resumed, left_resumed.
+-- To cite: walk_of, count_along, left_at_top, left_after, step_to, advance_own, step_end, parts_of, left_first, left_rest, resumed, left_resumed.
 use Rattle.std.specs.Prelude.{◌≡◌, ℕ, suc, ◌+◌, ◌-◌, ◌≤◌, List, [], ◌∷◌, ◌++◌, ℤ, length, Option, Some, None, IfSome}
 use Rattle.std.proofs.Common.{arith, refl, sym, ap, ◌∙◌, subst, length-append}
 use Rattle.gf_poly.specs.Marking.{MarkedPolynomials}
@@ -115,14 +115,6 @@ advance_own old new None e = tt
 
 module _ (p q : Place BasisTree MarkedPolynomials (List ℤ)) (n m : ℕ) (list : (nodes : List MarkedPolynomials) → IsLeftAt IsBefore up_in p nodes → IsFirstOf (IsLeftAt IsBefore up_in q) nodes None)
     (stays : q ≡ record p { mark = Finished }) (same : m ≡ n) (had : HasListLeft (walk_of p n)) where
-  pub left_at_end : HasListLeft (walk_of q m)
-  left_at_end = record {
-    basis = subst (λ (r : Place BasisTree MarkedPolynomials (List ℤ)). IsNode (all_positive r.tree.variables) r.here) (sym stays) had.basis;
-    rest = [];
-    left = (list had.rest had.left).1;
-    few = (let w : length had.rest + n ≤ count (all_positive p.tree.variables) p.here = had.few in let c : count (all_positive q.tree.variables) q.here ≡ count (all_positive p.tree.variables) p.here = ap (λ (r : Place BasisTree MarkedPolynomials (List ℤ)). count (all_positive r.tree.variables) r.here) stays in let g : 0 + m ≤ count (all_positive q.tree.variables) q.here = omega (arith, w, c, same) in g);
-  }
-
   pub step_end : IsEnd (walk_of p n) (walk_of q m)
   step_end = record {
     none = λ nodes l. (list nodes l).0;
@@ -185,10 +177,6 @@ module _ (p f r : Place BasisTree MarkedPolynomials (List ℤ)) (n a b : ℕ) (c
         left = s.past;
         few = (let w = few_parts s in let g : length s.back + b ≤ count (all_positive r.tree.variables) r.here = omega (arith, w, c, zb) in g);
       }
-
--- nothing was left
-pub left_nothing : (p : Place BasisTree MarkedPolynomials (List ℤ)) (n : ℕ) → ((nodes : List MarkedPolynomials) → IsLeftAt IsBefore up_in p nodes → nodes ≡ []) → HasListLeft (walk_of p n) → AreLeft (walk_of p n) []
-left_nothing p n list had = subst (AreLeft (walk_of p n)) (list had.rest had.left) had.left
 
 -- ---- going on after a basis
 

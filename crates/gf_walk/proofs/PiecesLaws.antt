@@ -1,5 +1,5 @@
 -- A walker's list in pieces: along the labels, and what the pieces leave.
--- To cite: expansion_leaves, and for the proofs of `expand` rises_next, first_least, among_on, among_after, below_more, goes_down, placed_above, insert_first.
+-- To cite: expansion_leaves, and for the proofs of `expand` rises_next, first_least, among_after, below_more, goes_down, placed_above, insert_first.
 use Rattle.std.proofs.Common.{◌≡◌, ℕ, zero, suc, ◌<◌, ◌≤◌, ◌+◌, List, [], ◌∷◌, ◌++◌, ◌⊎◌, length, refl, sym, ap, inl, inr, subst, ◌∙◌, arith, Some, length-append, append-nil}
 use Rattle.std.specs.List.{Contains, insert}
 use Rattle.gf_walk.specs.declared.mark.Mark.{Mark}
@@ -39,9 +39,6 @@ module _ {L : Type 0} (lt : L → L → Type 0) where
   past_mark strict Listed c b h k = tt
   past_mark strict Finished c b h k = h
 
-  pub listed_after : (a : L) → IsBelowMark lt (After a) [] → ⊥
-  listed_after a h = h
-
   module _ {N : Type 0} (up : N → L → N → Type 0) (u : N) (m : Mark L) (c : L) (ls rs : List L) (is : ls ≡ c ∷ rs) (rises : RisesBy lt ls) (among : (b : L) (w : N) → up w b u → IsBelowMark lt m (b ∷ []) → Contains ls b) where
     pub rises_next : RisesBy lt rs
     rises_next = rises_on c rs (subst (RisesBy lt) is rises)
@@ -61,24 +58,12 @@ module _ {L : Type 0} (lt : L → L → Type 0) where
       refl,
     )
 
-    -- without a child there, the others are among the rest
-    pub among_on : ((w : N) → up w c u → IsBelowMark lt m (c ∷ []) → ⊥) → (b : L) (w : N) → up w b u → IsBelowMark lt m (b ∷ []) → Contains rs b
-    among_on none b w child past = elim (contains_cases c rs b (subst (λ l. Contains l b) is (among b w child past))) [
-      | inl e ↦ absurd (none w (subst (λ x. up w x u) (sym e) child) (subst (λ x. IsBelowMark lt m (x ∷ [])) (sym e) past))
-      | inr k ↦ k
-    ]
-
-    -- and so they are past the child there
+    -- the others are past the child there
     pub among_after : IsStrictOrder lt → IsBelowMark lt m (c ∷ []) → (b : L) (w : N) → up w b u → IsBelowMark lt (After c) (b ∷ []) → Contains rs b
     among_after strict past b w child k = elim (contains_cases c rs b (subst (λ l. Contains l b) is (among b w child (past_mark strict m c b past k)))) [
       | inl e ↦ absurd (strict.irreflexive c (subst (λ x. lt c x) (sym e) k))
       | inr j ↦ j
     ]
-
-module _ {L : Type 0} {N : Type 0} (lt : L → L → Type 0) (up : N → L → N → Type 0) (u : N) (m : Mark L) where
-  -- where no label is left there is no child
-  pub none_left : (ls : List L) → ls ≡ [] → ((b : L) (w : N) → up w b u → IsBelowMark lt m (b ∷ []) → Contains ls b) → HasNoChild lt up u m
-  none_left ls e among b w child past = let p = subst (λ l. Contains l b) e (among b w child past) in absurd (let k = p.1 in omega arith)
 
 -- one more child
 pub below_more : {T N L E : Type 0} (lt : L → L → Type 0) (up : T → N → L → N → Type 0) (t : T) (u : N) (m m1 : Mark L) (ps : List (Piece T N L E)) (w : Place T N L) (c : L) →
