@@ -14,7 +14,7 @@ use Rattle.gf_tree.specs.Ideals.{ideal_by}
 use Rattle.gf_binomials.specs.Binomials.{IsBinomial, AreBinomials, AreMarkedBinomials}
 use Rattle.gf_binomials.proofs.BinomialLaws.{reduction_fits}
 use Rattle.gf_binomials.proofs.RunLaws.{run_fits}
-use Rattle.gf_binomial_calls.specs.Written.{polynomials_of}
+use Rattle.gf_binomial_calls.specs.Written.{written_polynomials}
 use Rattle.gf_binomial_calls.specs.Laws.{FlipsOfBinomialsFit, RefusalsTellNoOverflow, PlainSetsAreBinomials}
 use Rattle.gf_binomial_calls.proofs.FlipLaws.{flip_fits}
 use Rattle.gf_binomial_calls.proofs.TreeLaws.{flip_narrow, tree_narrow}
@@ -49,7 +49,7 @@ refusals_tell_no_overflow = record {
 }
 
 pub plain_sets_are_binomials : PlainSetsAreBinomials
-plain_sets_are_binomials = record { meaning = λ n qs ws h r f c. contained_each IsBinomial (polynomials_of ws) (set_binomials n qs ws h r) f c; sums = set_sums }
+plain_sets_are_binomials = record { meaning = λ n qs ws h r f c. contained_each IsBinomial (written_polynomials ws) (set_binomials n qs ws h r) f c; sums = set_sums }
 
 pub limits_are_met : LimitsAreMet
 limits_are_met = record { generators = plain_difference; runs = runs_within; flips = flip_within; search = search_within; small_search = small_search; monomials = monomials_within }

@@ -15,7 +15,7 @@ use Rattle.gf_text.specs.Sets.{AreWritten, IsWhatRemains, IsCombiningCause}
 use Rattle.gf_binomials.specs.Binomials.{IsBinomial}
 use Rattle.gf_binomials.proofs.MonomialLaws.{binomial_of-equal}
 use Rattle.gf_frac.proofs.FractionLaws.{+ℚ-neg_ℚ}
-use Rattle.gf_binomial_calls.specs.Written.{IsPlainlyWritten, ArePlainlyWritten, polynomials_of}
+use Rattle.gf_binomial_calls.specs.Written.{IsPlainlyWritten, ArePlainlyWritten, written_polynomials}
 use Rattle.gf_binomial_calls.proofs.WrittenLaws.{plain_binomial, plain_sums}
 
 -- f is the sum of plainly written terms
@@ -46,7 +46,7 @@ set_sums n qs o h c =
 
 -- ---- what is left of them
 
-written_binomials : (n : ℕ) (fs : List Terms) (ws : List Written) → Each (IsPlain n) fs → AreWritten fs ws → Each IsBinomial (polynomials_of ws)
+written_binomials : (n : ℕ) (fs : List Terms) (ws : List Written) → Each (IsPlain n) fs → AreWritten fs ws → Each IsBinomial (written_polynomials ws)
 written_binomials n [] [] h a = tt
 written_binomials n [] (w ∷ ws) h a = absurd a
 written_binomials n (f ∷ fs) [] h a = absurd a
@@ -56,5 +56,5 @@ written_binomials n (f ∷ fs) (written.Nonzero m ∷ ws) h a =
     (record { first = b.first; second = b.second; binomial = binomial_of-equal b.first b.second f m.poly (λ e. sym (a.0.sum e)) b.binomial }, written_binomials n fs ws h.1 a.1)
 
 -- the polynomials that are read are pure difference binomials
-pub set_binomials : (n : ℕ) (qs : List (List WrittenTerm)) (ws : List Written) → ArePlainlyWritten qs → IsWhatRemains n qs ws → Each IsBinomial (polynomials_of ws)
+pub set_binomials : (n : ℕ) (qs : List (List WrittenTerm)) (ws : List Written) → ArePlainlyWritten qs → IsWhatRemains n qs ws → Each IsBinomial (written_polynomials ws)
 set_binomials n qs ws h r = written_binomials n r.sums ws (sums_plain n qs r.sums h r.exponents) r.written

@@ -30,7 +30,7 @@ use Rattle.gf_text.specs.declared.written.Written.{Written}
 use Rattle.gf_text.specs.Sets.{IsWhatRemains, IsCombiningCause}
 use Rattle.gf_binomials.specs.Binomials.{IsBinomial, AreBinomials, AreMarkedBinomials}
 use Rattle.gf_binomial_calls.specs.Sets.{IsBinomialSet}
-use Rattle.gf_binomial_calls.specs.Written.{ArePlainlyWritten, polynomials_of}
+use Rattle.gf_binomial_calls.specs.Written.{ArePlainlyWritten, written_polynomials}
 
 -- the operands of each operation of a flip fit: of a basis in any region of an ideal that such binomials generate, across any
 -- normal that may be crossed there
@@ -63,5 +63,5 @@ pub record RefusalsTellNoOverflow : Type 0 where
 
 -- polynomials that are written so are read as such binomials, and no sum of like terms leaves the range
 pub record PlainSetsAreBinomials : Type 0 where
-  pub meaning : (n : ℕ) (qs : List (List WrittenTerm)) (ws : List Written) → ArePlainlyWritten qs → IsWhatRemains n qs ws → AreBinomials (polynomials_of ws)
+  pub meaning : (n : ℕ) (qs : List (List WrittenTerm)) (ws : List Written) → ArePlainlyWritten qs → IsWhatRemains n qs ws → AreBinomials (written_polynomials ws)
   pub sums : (n : ℕ) (qs : List (List WrittenTerm)) (o : Overflow) → ArePlainlyWritten qs → IsCombiningCause n qs (text_errors.Overflow o) → ⊥

@@ -24,10 +24,10 @@ abbrev pub ArePlainlyWritten : List (List WrittenTerm) → Type 0
 ArePlainlyWritten qs = Each IsPlainlyWritten qs
 
 -- the polynomial that a written one adds up to
-abbrev pub polynomial_of : Written → Terms
-polynomial_of written.Zero = []
-polynomial_of (written.Nonzero m) = m.poly
+abbrev pub written_polynomial : Written → Terms
+written_polynomial written.Zero = []
+written_polynomial (written.Nonzero m) = m.poly
 
 -- those of a list
-abbrev pub polynomials_of : List Written → List Terms
-polynomials_of ws = map polynomial_of ws
+abbrev pub written_polynomials : List Written → List Terms
+written_polynomials ws = map written_polynomial ws

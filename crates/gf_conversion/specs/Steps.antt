@@ -41,6 +41,7 @@ pub record IsAcrossTowards (r : List ℤ) (s t : MarkedPolynomials) : Type 0 whe
   pub neighbour : IsNeighbour s.variables s.items normal t.items
   pub variables : t.variables ≡ s.variables
 
+-- the walk has arrived at s, or goes on to a basis across such a facet
 abbrev pub IsConversionStep : List ℤ → MarkedPolynomials → Step → Type 0
 IsConversionStep r s Arrived = HasArrived r s
 IsConversionStep r s (Across t) = IsAcrossTowards r s t

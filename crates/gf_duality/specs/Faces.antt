@@ -13,9 +13,11 @@ pub record Rows : Type 0 where
   pub inequalities : List (List ℤ)
   pub equations : List (List ℤ)
 
+-- v satisfies the rows
 abbrev pub IsInCone : Rows → List ℤ → Type 0
 IsInCone c v = Satisfies c.inequalities c.equations v
 
+-- the same vectors of n entries are in both
 abbrev pub SameCone : ℕ → Rows → Rows → Type 0
 SameCone n c d = (v : List ℤ) → length v ≡ n → IsInCone c v ↔ IsInCone d v
 
@@ -53,6 +55,7 @@ pub record AreFacetRows (n : ℕ) (c : Rows) (rows : List (List ℤ)) : Type 0 w
 
 -- ---- cones of inequalities alone
 
+-- the cone on which these rows aren't negative
 abbrev pub cone_of : List (List ℤ) → Rows
 cone_of rows = record { inequalities = rows; equations = [] }
 

@@ -22,6 +22,7 @@ pub record IsNextBelow (parts : List (List ℕ)) (i j : ℕ) : Type 0 where
 abbrev pub IsHeight : ℕ → List (List ℕ) → List ℕ → ℕ → Type 0
 IsHeight least parts heights i = (((j : ℕ) → j < i → IsWithinPart parts j i → ⊥) × (slice_index_or heights i 0 ≡ least)) ⊎ ((j : ℕ) × (IsNextBelow parts i j × (slice_index_or heights i 0 ≡ slice_index_or heights j 0 + 1)))
 
+-- a height for each part, by those inside it
 pub record AreHeights (least : ℕ) (parts : List (List ℕ)) (heights : List ℕ) : Type 0 where
   pub long : length heights ≡ length parts
   pub each : (i : ℕ) → i < length parts → IsHeight least parts heights i

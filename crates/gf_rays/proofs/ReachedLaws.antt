@@ -9,7 +9,7 @@ use Rattle.gf_duality.proofs.ListLaws.{none_in, snoc_cases, first_in, last_in}
 use Rattle.gf_rays.specs.declared.ray.Ray.{Ray}
 use Rattle.gf_rays.specs.FlatRows.{AreFlatRows, AreFlatFirst, none as first_none, taken as first_taken, left as first_left}
 use Rattle.gf_rays.specs.Leveling.{IsRowStep}
-use Rattle.gf_rays.specs.Reached.{IsReached, begun, split, lined, AreChosen, none, taken, left, IsRaysStep, taking, implied}
+use Rattle.gf_rays.specs.Reached.{IsReachedState, begun, split, lined, AreChosen, none, taken, left, IsRaysStep, taking, implied}
 use Rattle.gf_rays.specs.States.{IsConeState, AreFinished}
 use Rattle.gf_rays.proofs.LinedLaws.{lined_state}
 use Rattle.gf_rays.proofs.StateLaws.{state_start, flat_after}
@@ -19,7 +19,7 @@ use Rattle.gf_rays.proofs.StraightLaws.{parts_at}
 use Rattle.gf_rays.proofs.ImpliedLaws.{flat_zero, zero_flat}
 
 -- each reached state is one
-pub reached_state : (n : ℕ) (es hs lin : List (List ℤ)) (rays : List Ray) → AreRows n es → IsReached n es hs lin rays → IsConeState n hs es lin rays
+pub reached_state : (n : ℕ) (es hs lin : List (List ℤ)) (rays : List Ray) → AreRows n es → IsReachedState n es hs lin rays → IsConeState n hs es lin rays
 reached_state n es hs lin rays w (begun basis b) = state_start n es basis w b
 reached_state n es hs lin rays w (split before l old middle out h whole e f b p g r) =
     subst (λ (t : List (List ℤ)). IsConeState n t es lin rays) (sym e) (state_pruned n _ es lin middle rays (flat_after n before es lin old middle h (reached_state n es before lin old w r) f b) p)
@@ -27,7 +27,7 @@ reached_state n es hs lin rays w (lined before whole lines old next h l i all e 
     subst (λ (t : List (List ℤ)). IsConeState n t es lin rays) (sym e) (lined_state n before es whole old i h l lin rays (reached_state n es before whole old w r) k.inside k.signed k.up b)
 
 -- an operation of taking in the row at k
-pub reached_row_step : (n k : ℕ) (hs es lin : List (List ℤ)) (rays : List Ray) (h : List ℤ) (s : ConeOverflow) → k < length hs → h ≡ get_or hs k h → IsReached n es (take k hs) lin rays → IsRowStep k h lin rays s → IsRaysStep n hs es s
+pub reached_row_step : (n k : ℕ) (hs es lin : List (List ℤ)) (rays : List Ray) (h : List ℤ) (s : ConeOverflow) → k < length hs → h ≡ get_or hs k h → IsReachedState n es (take k hs) lin rays → IsRowStep k h lin rays s → IsRaysStep n hs es s
 reached_row_step n k hs es lin rays h s hk e r d = taking (take k hs) (drop (suc k) hs) lin rays h (parts_at hs k h hk e) r (subst (λ m. IsRowStep m h lin rays s) (sym (length-take-within k hs hk)) d)
 
 -- rows by the flags of the rays are those that are zero on the cone

@@ -32,7 +32,7 @@ use Rattle.gf_rays.specs.declared.ray.Ray.{Ray}
 use Rattle.gf_rays.specs.Leveling.{IsLine, IsLinedBy, IsLeveledRay, IsLeveling, IsRowStep, lineal, splitting, leveling}
 use Rattle.gf_rays.specs.Limits.{turned_bound, next_bound, reached_bound, IsPointed, IsUnitRow, BeginWithUnits, SmallSystemsStayWithinLimits, PartsOfOrthantsStayWithinLimits, TwoRowsOfThreeVariables}
 use Rattle.gf_rays.specs.MarkedRays.{IsPruned, vectors_of}
-use Rattle.gf_rays.specs.Reached.{IsReached, begun, split, lined, IsRaysStep, null_space, taking, lineality, straight, echelon, implied}
+use Rattle.gf_rays.specs.Reached.{IsReachedState, begun, split, lined, IsRaysStep, null_space, taking, lineality, straight, echelon, implied}
 use Rattle.gf_rays.specs.Splitting.{IsSplit, testing, pairing}
 use Rattle.gf_rays.proofs.EliminateLaws.{units_long, unit_long, dot_unit, unit_same, unit_other}
 use Rattle.gf_rays.proofs.PruneLaws.{of_pruned}
@@ -494,7 +494,7 @@ front_units n rows h whole e f x c = f x (subst (λ (l : List (List ℤ)). Conta
 no_rows : (n : ℕ) → AreRows n []
 no_rows n k d h = absurd (omega (arith, h))
 
-reached_unitary : (n : ℕ) (hs lin : List (List ℤ)) (rays : List Ray) → ((x : List ℤ) → Contains hs x → IsUnitRow n x) → IsReached n [] hs lin rays → BothUnitary lin (vectors_of rays)
+reached_unitary : (n : ℕ) (hs lin : List (List ℤ)) (rays : List Ray) → ((x : List ℤ) → Contains hs x → IsUnitRow n x) → IsReachedState n [] hs lin rays → BothUnitary lin (vectors_of rays)
 reached_unitary n hs lin rays f (begun basis k) = record { first = null_unitary n basis k; second = record { each = λ x c. absurd (none_in x c) } }
 reached_unitary n hs lin rays f (split before lines old middle out h whole e z k p g r) =
     let q = reached_unitary n before lin old (front_units n before h hs e f) r in
@@ -545,7 +545,7 @@ reached_unitary n hs lin rays f (lined before whole lines old next h l i all e k
 
 -- ---- how large they are after unit vectors and some rows more
 
-few_rows : (n b u : ℕ) (hs lin : List (List ℤ)) (rays : List Ray) → 1 ≤ n → 1 ≤ b → length hs ≤ u → BeginWithUnits n u hs → IsReached n [] hs lin rays → BothUpTo (reached_bound n b (length hs - u)) lin (vectors_of rays)
+few_rows : (n b u : ℕ) (hs lin : List (List ℤ)) (rays : List Ray) → 1 ≤ n → 1 ≤ b → length hs ≤ u → BeginWithUnits n u hs → IsReachedState n [] hs lin rays → BothUpTo (reached_bound n b (length hs - u)) lin (vectors_of rays)
 few_rows n b u hs lin rays hn hb few f r =
     let q = reached_unitary n hs lin rays (λ x c. subst (IsUnitRow n) (get_or_default hs c.0 [] x c.1 ∙ c.2) (f c.0 (omega (arith, c.1, few)) c.1)) r in
     let one = reached_one n b (length hs - u) hn hb in
@@ -558,7 +558,7 @@ front_begins n u rows h whole e f k hk hl =
 at_next : (n b u k m : ℕ) (xs ys : List (List ℤ)) → m ≡ suc k → u ≤ k → BothUpTo (next_bound n b (reached_bound n b (k - u))) xs ys → BothUpTo (reached_bound n b (m - u)) xs ys
 at_next n b u k m xs ys e h q = let s : suc (k - u) ≡ m - u = omega (arith, e, h) in subst (λ i. BothUpTo (reached_bound n b i) xs ys) s q
 
-reached_up : (n b u : ℕ) (hs lin : List (List ℤ)) (rays : List Ray) → 1 ≤ n → 1 ≤ b → AreSized n b hs → BeginWithUnits n u hs → IsReached n [] hs lin rays → BothUpTo (reached_bound n b (length hs - u)) lin (vectors_of rays)
+reached_up : (n b u : ℕ) (hs lin : List (List ℤ)) (rays : List Ray) → 1 ≤ n → 1 ≤ b → AreSized n b hs → BeginWithUnits n u hs → IsReachedState n [] hs lin rays → BothUpTo (reached_bound n b (length hs - u)) lin (vectors_of rays)
 reached_up n b u hs lin rays hn hb s f (begun basis k) = few_rows n b u [] basis [] hn hb (omega arith) f (begun basis k)
 reached_up n b u hs lin rays hn hb s f (split before lines old middle out h whole e z k p g r) = elim (place (length before) u) [
   | less l ↦ at_next n b u (length before) (length hs) lin (vectors_of rays) (snoc_long before h hs e) (omega (arith, l)) (split_up n b (reached_bound n b (length before - u)) h lin old middle rays hn hb (reached_one n b (length before - u) hn hb) (s.long h (sized_last before h hs e)) (s.small.each h (sized_last before h hs e)) k p (reached_up n b u before lin old hn hb (sized_front n b before h hs e s) (front_begins n u before h hs e f) r))
@@ -589,7 +589,7 @@ no_row_step n b m row h lin rays s e u ul ur small room (leveling i l y line cy 
 
 -- ---- at the end, where the lineality space is zero
 
-zero_lines : (n : ℕ) (hs lin : List (List ℤ)) (rays : List Ray) → IsPointed n hs → IsReached n [] hs lin rays → (x : List ℤ) → Contains lin x → x ≡ zeros n
+zero_lines : (n : ℕ) (hs lin : List (List ℤ)) (rays : List Ray) → IsPointed n hs → IsReachedState n [] hs lin rays → (x : List ℤ) → Contains lin x → x ≡ zeros n
 zero_lines n hs lin rays p r x c =
     let t = reached_state n [] hs lin rays (λ k d h. absurd (omega (arith, h))) r in
     p x (t.described.lin_width x c) (λ h k. t.described.valid.flat h x k c)

@@ -23,7 +23,7 @@ use Rattle.gf_fans.proofs.PartNumbers.{of_map}
 use Rattle.gf_rays.specs.declared.ray.Ray.{Ray}
 use Rattle.gf_rays.specs.Limits.{turned_bound, next_bound, along_bound, straight_bound, orthogonal_bound, fits, rows_fit, starts_fit, has_room, SystemsWithRoomStayWithinLimits, SmallSystemsHaveRoom}
 use Rattle.gf_rays.specs.MarkedRays.{IsPruned, vectors_of}
-use Rattle.gf_rays.specs.Reached.{IsReached, begun, split, lined, IsRaysStep, null_space, taking, lineality, straight, echelon, implied}
+use Rattle.gf_rays.specs.Reached.{IsReachedState, begun, split, lined, IsRaysStep, null_space, taking, lineality, straight, echelon, implied}
 use Rattle.gf_rays.specs.Splitting.{IsSplit}
 use Rattle.gf_rays.proofs.EliminateLaws.{units_long, dot_unit}
 use Rattle.gf_rays.proofs.PruneLaws.{of_pruned}
@@ -336,7 +336,7 @@ module _ (n b count : ℕ) (es : List (List ℤ)) (hn : 1 ≤ n) (hb : 1 ≤ b) 
         room = f.stays;
       }
 
-  reached_room : (hs lin : List (List ℤ)) (rays : List Ray) → AreWide n b hs → length hs ≤ count → IsReached n es hs lin rays → HasRoom n b count hs lin rays
+  reached_room : (hs lin : List (List ℤ)) (rays : List Ray) → AreWide n b hs → length hs ≤ count → IsReachedState n es hs lin rays → HasRoom n b count hs lin rays
   reached_room hs lin rays w l (begun basis k) = started n b count es basis hb we starts k
   reached_room hs lin rays w l (split before lines old middle out h whole e z k p g r) =
       let c = sized_last before h hs e in
@@ -393,16 +393,16 @@ no_step n b hs es s hn hb wh we room k = by_step k
     turns : turned_bound b n < 2 ^ 127
     turns = below_fits (turned_bound b n) parts.0
 
-    state : (rows lin : List (List ℤ)) (rays : List Ray) → AreWide n b rows → length rows ≤ length hs → IsReached n es rows lin rays → HasRoom n b (length hs) rows lin rays
+    state : (rows lin : List (List ℤ)) (rays : List Ray) → AreWide n b rows → length rows ≤ length hs → IsReachedState n es rows lin rays → HasRoom n b (length hs) rows lin rays
     state rows lin rays w l r = reached_room n b (length hs) es hn hb we parts.1 rows lin rays w l r
 
-    width : (rows lin : List (List ℤ)) (rays : List Ray) → IsReached n es rows lin rays → (x : List ℤ) → Contains lin x → length x ≡ n
+    width : (rows lin : List (List ℤ)) (rays : List Ray) → IsReachedState n es rows lin rays → (x : List ℤ) → Contains lin x → length x ≡ n
     width rows lin rays r = (reached_state n es rows lin rays (wide_rows n b es we) r).described.lin_width
 
-    last : (lin : List (List ℤ)) (rays : List Ray) → IsReached n es hs lin rays → (q : HasRoom n b (length hs) hs lin rays) × EndsFit n q.some (length lin) q.bound
+    last : (lin : List (List ℤ)) (rays : List Ray) → IsReachedState n es hs lin rays → (q : HasRoom n b (length hs) hs lin rays) × EndsFit n q.some (length lin) q.bound
     last lin rays r = let q = state hs lin rays wh (omega arith) r in (q, ends_room n b (length hs - length hs) q.some (length lin) q.bound (omega arith) q.room)
 
-    wide_lin : (lin : List (List ℤ)) (rays : List Ray) (r : IsReached n es hs lin rays) → AreWide n (last lin rays r).0.bound lin
+    wide_lin : (lin : List (List ℤ)) (rays : List Ray) (r : IsReachedState n es hs lin rays) → AreWide n (last lin rays r).0.bound lin
     wide_lin lin rays r = record { long = width hs lin rays r; small = (last lin rays r).0.up.first }
 
     by_step : IsRaysStep n hs es s → ⊥

@@ -25,6 +25,7 @@ reached_bound n b (suc k) = next_bound n b (reached_bound n b k)
 abbrev pub along_bound : ℕ → ℕ → ℕ → ℕ
 along_bound n o x = n * (o * o) * x + n * (o * x) * o
 
+-- the same after so many of these vectors, in turn
 abbrev pub straight_bound : ℕ → ℕ → ℕ → ℕ → ℕ
 straight_bound n o zero x = x
 straight_bound n o (suc k) x = along_bound n o (straight_bound n o k x)
@@ -36,6 +37,7 @@ orthogonal_bound n m (suc k) = orthogonal_bound n m k + straight_bound n (orthog
 
 -- ---- whether these bounds have room
 
+-- numbers up to b stay within the range of an entry
 abbrev pub fits : ℕ → Bool
 fits b = ltb b (2 ^ 127)
 

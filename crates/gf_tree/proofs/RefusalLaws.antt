@@ -23,7 +23,7 @@ use Rattle.gf_reverse.proofs.ListLaws.{root_above, root_own}
 use Rattle.gf_tree.proofs.LabelLaws.{across_in}
 use Rattle.gf_tree.specs.declared.error.TreeError.{TreeError}
 use Rattle.gf_tree.specs.declared.error.TreeError.TheVariants.{Memory, Cone}
-use Rattle.gf_tree.specs.Refusals.{of_flip_error, of_cone_error, IsTreeRefusal, IsRefusedAt, IsCallRefusal, IsTreeWithinLimits}
+use Rattle.gf_tree.specs.Refusals.{of_flip_error, of_cone_error, IsTreeRefusal, IsRefusedAtBasis, IsCallRefusal, IsTreeWithinLimits}
 
 -- ---- steps
 
@@ -41,24 +41,24 @@ cone_refused k pairs v c m cones.Memory e h is l f q = IsTreeRefusal.memory q
 -- ---- calls at one basis
 
 pub flip_at : (k : Region) (pairs : ℕ) (v : MarkedPolynomials) (a : List ℤ) (r : BasisError) (e : TreeError) → IsFlippable v.variables k v.items a →
-    IsFlipRefusal v.variables v.items a pairs r → e ≡ of_flip_error r → IsRefusedAt k pairs v e
-flip_at k pairs v a r e f c q = IsRefusedAt.flip a r f c q
+    IsFlipRefusal v.variables v.items a pairs r → e ≡ of_flip_error r → IsRefusedAtBasis k pairs v e
+flip_at k pairs v a r e f c q = IsRefusedAtBasis.flip a r f c q
 
 pub cone_at : (k : Region) (pairs : ℕ) (v : MarkedPolynomials) (c : ConeRows) (m : ℕ) (r : GordanError) (e : TreeError) → IsConeOf v.variables k v.items c →
-    m ≤ length c.normals → Failed (IsStepBefore c m) r → e ≡ of_cone_error r → IsRefusedAt k pairs v e
-cone_at k pairs v c m (cones.Cone s) e is l f q = IsRefusedAt.system s (record { cone = c; is_cone = is; place = f.0; inside = omega (arith, l, f.1); step = f.2 }) q
-cone_at k pairs v c m cones.Memory e is l f q = IsRefusedAt.memory q
+    m ≤ length c.normals → Failed (IsStepBefore c m) r → e ≡ of_cone_error r → IsRefusedAtBasis k pairs v e
+cone_at k pairs v c m (cones.Cone s) e is l f q = IsRefusedAtBasis.system s (record { cone = c; is_cone = is; place = f.0; inside = omega (arith, l, f.1); step = f.2 }) q
+cone_at k pairs v c m cones.Memory e is l f q = IsRefusedAtBasis.memory q
 
 pub place_at : (k : Region) (pairs : ℕ) (v : MarkedPolynomials) (c : ConeRows) (i : ℕ) (r : GordanError) (e : TreeError) → IsConeOf v.variables k v.items c →
-    i < length c.normals → Failed (IsNormalStep c.variables (other_rows c i) (normal_at c i)) r → e ≡ of_cone_error r → IsRefusedAt k pairs v e
-place_at k pairs v c i (cones.Cone s) e is l f q = IsRefusedAt.system s (record { cone = c; is_cone = is; place = i; inside = l; step = f }) q
-place_at k pairs v c i cones.Memory e is l f q = IsRefusedAt.memory q
+    i < length c.normals → Failed (IsNormalStep c.variables (other_rows c i) (normal_at c i)) r → e ≡ of_cone_error r → IsRefusedAtBasis k pairs v e
+place_at k pairs v c i (cones.Cone s) e is l f q = IsRefusedAtBasis.system s (record { cone = c; is_cone = is; place = i; inside = l; step = f }) q
+place_at k pairs v c i cones.Memory e is l f q = IsRefusedAtBasis.memory q
 
 -- a refusal at a basis is one of a search over the bases of its ideal
-at_refused : (k : Region) (pairs : ℕ) (v : MarkedPolynomials) (e : TreeError) → IsNode k v → IsRefusedAt k pairs v e → IsTreeRefusal (fan_of k v) pairs e
-at_refused k pairs v e h (IsRefusedAt.flip a r f c q) = IsTreeRefusal.flip v a r h f c q
-at_refused k pairs v e h (IsRefusedAt.system s t q) = IsTreeRefusal.system v s h t q
-at_refused k pairs v e h (IsRefusedAt.memory q) = IsTreeRefusal.memory q
+at_refused : (k : Region) (pairs : ℕ) (v : MarkedPolynomials) (e : TreeError) → IsNode k v → IsRefusedAtBasis k pairs v e → IsTreeRefusal (fan_of k v) pairs e
+at_refused k pairs v e h (IsRefusedAtBasis.flip a r f c q) = IsTreeRefusal.flip v a r h f c q
+at_refused k pairs v e h (IsRefusedAtBasis.system s t q) = IsTreeRefusal.system v s h t q
+at_refused k pairs v e h (IsRefusedAtBasis.memory q) = IsTreeRefusal.memory q
 
 -- ---- the same ideal by other generators
 

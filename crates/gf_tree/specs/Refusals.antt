@@ -18,12 +18,14 @@ use Rattle.gf_tree.specs.declared.error.TreeError.TheVariants.{Overflow, Exponen
 
 -- ---- the same refusal, of the search
 
+-- that of a flip
 abbrev pub of_flip_error : BasisError → TreeError
 of_flip_error (flips.Overflow o) = Overflow o
 of_flip_error (flips.Exponent o) = Exponent o
 of_flip_error (flips.PairBudget s unsettled) = PairBudget s unsettled
 of_flip_error flips.Memory = Memory
 
+-- that of the system of a normal
 abbrev pub of_cone_error : GordanError → TreeError
 of_cone_error (cones.Cone s) = Cone s
 of_cone_error cones.Memory = Memory
@@ -48,15 +50,15 @@ pub data IsTreeRefusal (F : Fan) (pairs : ℕ) (e : TreeError) : Type 0 where
 
 -- why a call at the basis v alone is refused: a flip across a flippable normal of v is refused so, or a step of the system of a normal of v
 -- leaves its range; or there is no memory
-pub data IsRefusedAt (k : Region) (pairs : ℕ) (v : MarkedPolynomials) (e : TreeError) : Type 0 where
-  flip : (a : List ℤ) (r : BasisError) → IsFlippable v.variables k v.items a → IsFlipRefusal v.variables v.items a pairs r → e ≡ of_flip_error r → IsRefusedAt k pairs v e
-  system : (s : ConeOverflow) → IsConeStep (fan_of k v) v s → e ≡ Cone s → IsRefusedAt k pairs v e
-  memory : e ≡ Memory → IsRefusedAt k pairs v e
+pub data IsRefusedAtBasis (k : Region) (pairs : ℕ) (v : MarkedPolynomials) (e : TreeError) : Type 0 where
+  flip : (a : List ℤ) (r : BasisError) → IsFlippable v.variables k v.items a → IsFlipRefusal v.variables v.items a pairs r → e ≡ of_flip_error r → IsRefusedAtBasis k pairs v e
+  system : (s : ConeOverflow) → IsConeStep (fan_of k v) v s → e ≡ Cone s → IsRefusedAtBasis k pairs v e
+  memory : e ≡ Memory → IsRefusedAtBasis k pairs v e
 
 -- why a call of the tree at the basis v is refused: so at v, or at a basis on the other side of a facet of v; or there is no memory
 pub data IsCallRefusal (k : Region) (pairs : ℕ) (v : MarkedPolynomials) (e : TreeError) : Type 0 where
-  here : IsRefusedAt k pairs v e → IsCallRefusal k pairs v e
-  beside : (w : MarkedPolynomials) (b : List ℤ) → IsAcross k v b (Some w) → IsRefusedAt k pairs w e → IsCallRefusal k pairs v e
+  here : IsRefusedAtBasis k pairs v e → IsCallRefusal k pairs v e
+  beside : (w : MarkedPolynomials) (b : List ℤ) → IsAcross k v b (Some w) → IsRefusedAtBasis k pairs w e → IsCallRefusal k pairs v e
   memory : e ≡ Memory → IsCallRefusal k pairs v e
 
 -- no flip across a flippable normal of a basis of F leaves its limits, and no step of the systems of its normals leaves its range

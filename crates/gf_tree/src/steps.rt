@@ -8,7 +8,7 @@ ghost use Rattle.gf_reverse.specs.Upward.{IsNode, fan_of};
 ghost use Rattle.gf_reverse.specs.Answers.{IsAcross, IsWayAnswer};
 ghost use Rattle.gf_tree.specs.Places.{IsVectorPlace};
 ghost use Rattle.gf_tree.specs.Parents.{IsBelowTold, IsLedBack};
-ghost use Rattle.gf_tree.specs.Refusals.{IsTreeRefusal, IsRefusedAt};
+ghost use Rattle.gf_tree.specs.Refusals.{IsTreeRefusal, IsRefusedAtBasis};
 
 use crate::node::{Facet, Neighbour, cone_near, cone_of};
 use crate::{BasisTree, Node, TreeError};
@@ -42,7 +42,7 @@ pub(crate) fn crossed(
     requires flippable { IsFlippable set.now.variables (all_positive tree.now.variables) set.now.items normal.now }
     ensures ok { IfOk result (λ w. IsAcross (all_positive tree.now.variables) set.now normal.now (Some w)) }
     ensures cause { IfErr result (IsTreeRefusal (fan_of (all_positive tree.now.variables) set.now) tree.now.pairs) }
-    ensures at { IfErr result (IsRefusedAt (all_positive tree.now.variables) tree.now.pairs set.now) }
+    ensures at { IfErr result (IsRefusedAtBasis (all_positive tree.now.variables) tree.now.pairs set.now) }
 {
     let across = flip(tree.alloc, set, normal, tree.pairs)?;
     Ok(across)
@@ -53,7 +53,7 @@ pub(crate) fn arrived(tree: &BasisTree, node: &Node, facet: &Facet) -> Result<No
     requires node { IsNode (all_positive tree.now.variables) node.now }
     requires flippable { IsFlippable node.now.variables (all_positive tree.now.variables) node.now.items facet.now }
     ensures ok { IfOk result (λ w. IsAcross (all_positive tree.now.variables) node.now facet.now (Some w)) }
-    ensures cause { IfErr result (IsRefusedAt (all_positive tree.now.variables) tree.now.pairs node.now) }
+    ensures cause { IfErr result (IsRefusedAtBasis (all_positive tree.now.variables) tree.now.pairs node.now) }
 {
     let basis = crossed(tree, &node.basis, &facet.normal)?;
     let cone = cone_near(tree.alloc, &basis, &facet.witness, &facet.normal)?;
@@ -73,7 +73,7 @@ fn below_in(
     requires node { IsNode (all_positive tree.now.variables) set.now }
     requires cone { IsConeOf set.now.variables (all_positive set.now.variables) set.now.items cone.now }
     ensures ok { IfOk result (IsBelowTold (all_positive tree.now.variables) set.now normal.now) }
-    ensures cause { IfErr result (IsRefusedAt (all_positive tree.now.variables) tree.now.pairs set.now) }
+    ensures cause { IfErr result (IsRefusedAtBasis (all_positive tree.now.variables) tree.now.pairs set.now) }
 {
     let list = cone.normals();
     let place = match place_of(list, normal) {
@@ -102,7 +102,7 @@ pub(crate) fn below(
 ) -> Result<Option<Neighbour>, TreeError>
     requires { IsNode (all_positive tree.now.variables) node.now }
     ensures ok { IfOk result (IsBelowTold (all_positive tree.now.variables) node.now normal.now) }
-    ensures cause { IfErr result (IsRefusedAt (all_positive tree.now.variables) tree.now.pairs node.now) }
+    ensures cause { IfErr result (IsRefusedAtBasis (all_positive tree.now.variables) tree.now.pairs node.now) }
 {
     match &node.cone {
         Some(cone) => below_in(tree, &node.basis, cone, normal),
@@ -123,7 +123,7 @@ pub(crate) fn way_in(
     requires cone { IsConeOf set.now.variables (all_positive set.now.variables) set.now.items cone.now }
     ensures ok { IfOk result (IsWayAnswer (all_positive tree.now.variables) set.now) }
     ensures cause { IfErr result (IsTreeRefusal (fan_of (all_positive tree.now.variables) set.now) tree.now.pairs) }
-    ensures at { IfErr result (IsRefusedAt (all_positive tree.now.variables) tree.now.pairs set.now) }
+    ensures at { IfErr result (IsRefusedAtBasis (all_positive tree.now.variables) tree.now.pairs set.now) }
 {
     let way = match cone.way()? {
         Some(way) => way,
@@ -140,7 +140,7 @@ pub(crate) fn way_in(
 pub(crate) fn way_up(tree: &BasisTree, node: &Node) -> Result<Option<Facet>, TreeError>
     requires { IsNode (all_positive tree.now.variables) node.now }
     ensures ok { IfOk result (IsWayAnswer (all_positive tree.now.variables) node.now) }
-    ensures cause { IfErr result (IsRefusedAt (all_positive tree.now.variables) tree.now.pairs node.now) }
+    ensures cause { IfErr result (IsRefusedAtBasis (all_positive tree.now.variables) tree.now.pairs node.now) }
 {
     match &node.cone {
         Some(cone) => way_in(tree, &node.basis, cone),
@@ -161,7 +161,7 @@ pub(crate) fn led_back(
 ) -> Result<Option<Node>, TreeError>
     requires { IsNode (all_positive tree.now.variables) neighbour }
     ensures ok { IfOk result (IsLedBack (all_positive tree.now.variables) neighbour back.now) }
-    ensures cause { IfErr result (IsRefusedAt (all_positive tree.now.variables) tree.now.pairs neighbour) }
+    ensures cause { IfErr result (IsRefusedAtBasis (all_positive tree.now.variables) tree.now.pairs neighbour) }
 {
     let Neighbour { basis, witness } = neighbour;
     let mut cone = cone_near(tree.alloc, &basis, &witness, normal)?;

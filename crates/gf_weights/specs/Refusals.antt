@@ -20,10 +20,12 @@ use Rattle.gf_weights.specs.Weights.{AreCutRows, AreCutRays}
 
 -- ---- refusals of other crates
 
+-- that of a system or of a double description
 abbrev pub weight_of_gordan : GordanError → WeightError
 weight_of_gordan (gordan_errors.Cone o) = Cone o
 weight_of_gordan gordan_errors.Memory = Memory
 
+-- that of a sum of vectors
 abbrev pub of_vector : VecError → WeightError
 of_vector (vec_errors.Wide w) = Wide w
 of_vector vec_errors.Memory = Memory
