@@ -54,7 +54,7 @@ pub record AreCongruent (n : ℕ) (fs : List Terms) (x y : Exponents) : Type 0 w
   pub agree : (i : ℕ) → n ≤ i → entry x i ≡ entry y i
   pub member : IsMember n fs (binomial (Some (cut n x)) (Some (cut n y)))
 
-at_other : (x y : Exponents) → same y x ≡ false → indicator (Some x) y ≡ zero_ℚ
+pub at_other : (x y : Exponents) → same y x ≡ false → indicator (Some x) y ≡ zero_ℚ
 at_other x y h = ap (λ b. if b then one_ℚ else zero_ℚ) h
 
 same_or_not : (x y : Exponents) → (same y x ≡ true) ⊎ (same y x ≡ false)

@@ -1,10 +1,9 @@
 -- The reduced bases of an ideal that differences of two monomials generate are such differences.
 -- To cite: reduced_binomials.
 use Rattle.std.specs.Prelude.{◌≡◌, ◌⊎◌, ℕ, Bool, true, false, if◌then◌else◌, List, [], ◌++◌, Contains, Option, Some, None}
-use Rattle.std.proofs.Common.{arith, refl, ap, sym, ◌∙◌, inl, inr}
-use Rattle.gf_int.specs.Integers.{diff-eq, naturals}
-use Rattle.gf_frac.specs.Fraction.{Fraction, over-eq, ◌+ℚ◌, neg_ℚ, zero_ℚ, one_ℚ}
-use Rattle.gf_frac.proofs.FractionLaws.{overs, each_q, dens, +ℚ-neg_ℚ}
+use Rattle.std.proofs.Common.{refl, ap, sym, ◌∙◌, inl, inr}
+use Rattle.gf_frac.specs.Fraction.{◌+ℚ◌, neg_ℚ, zero_ℚ, one_ℚ}
+use Rattle.gf_frac.proofs.FractionLaws.{+ℚ-neg_ℚ}
 use Rattle.gf_exponents.specs.Exponents.{Exponents, same, plus}
 use Rattle.gf_exponents.proofs.ExponentsLaws.{same_flip, same_trans}
 use Rattle.gf_poly.specs.Polynomial.{Terms, coefficient, SamePolynomial, times}
@@ -19,20 +18,11 @@ use Rattle.gf_ideal.proofs.LeadingLaws.{top_heaviest}
 use Rattle.gf_bases.proofs.DifferenceLaws.{difference, less_zero}
 use Rattle.gf_bases.proofs.GradedBasisLaws.{basis-graded}
 use Rattle.gf_binomials.specs.Binomials.{indicator, AreBinomials, IsMarkedBinomial, AreMarkedBinomials}
-use Rattle.gf_binomial_bases.proofs.CongruenceLaws.{monomial_terms, monomial_terms-is, binomial, binomial-is, IsDecided, AreCongruent, congruence-grading, congruent_symmetric, member_of_congruent, generators_congruent}
-
--- where the difference is zero
-zero_difference : (a b : Fraction) → a +ℚ neg_ℚ b ≡ zero_ℚ → a ≡ b
-zero_difference a b h = sym (less_zero a) ∙ ap (λ z. a +ℚ neg_ℚ z) (sym h) ∙ back a b
-  where
-    back : (a b : Fraction) → a +ℚ neg_ℚ (a +ℚ neg_ℚ b) ≡ b
-    back = each_q _ (λ a a' k. each_q _ (λ b b' l. simp overs (over-eq _ _ _ _ (simp dens (simp naturals (diff-eq _ _ _ _ (omega arith)))))))
+use Rattle.gf_binomial_bases.proofs.CongruenceLaws.{monomial_terms, monomial_terms-is, binomial, binomial-is, IsDecided, AreCongruent, congruence-grading, congruent_symmetric, member_of_congruent, generators_congruent, at_other}
+use Rattle.gf_ideal.proofs.UniquenessLaws.{equal_if}
 
 at_itself : (x y : Exponents) → same y x ≡ true → indicator (Some x) y ≡ one_ℚ
 at_itself x y h = ap (λ b. if b then one_ℚ else zero_ℚ) h
-
-at_another : (x y : Exponents) → same y x ≡ false → indicator (Some x) y ≡ zero_ℚ
-at_another x y h = ap (λ b. if b then one_ℚ else zero_ℚ) h
 
 -- ---- one member
 
@@ -46,7 +36,7 @@ record HasOther (n : ℕ) (fs : List Terms) (b : MarkedPolynomial) (y : Exponent
 with_other : (n : ℕ) (fs : List Terms) (bs : List MarkedPolynomial) (b : MarkedPolynomial) (y : Exponents) → IsMember n fs b.poly →
     ((f : Terms) → IsMember n fs f → IsIrreducible (Contains bs) f → SamePolynomial f []) → HasReducedTails bs → Contains bs b →
     coefficient b.poly b.head ≡ one_ℚ → HasOther n fs b y → IsMarkedBinomial b
-with_other n fs bs b y inside decides tails c monic o = record { tail = t; binomial = record { equation = λ e. zero_difference (coefficient b.poly e) (coefficient g e) (sym (difference b.poly g e) ∙ zero e) ∙ (binomial-is h t).equation e } }
+with_other n fs bs b y inside decides tails c monic o = record { tail = t; binomial = record { equation = λ e. equal_if (coefficient b.poly e) (coefficient g e) (sym (difference b.poly g e) ∙ zero e) ∙ (binomial-is h t).equation e } }
   where
     h : Option Exponents
     h = Some b.head
@@ -67,12 +57,12 @@ with_other n fs bs b y inside decides tails c monic o = record { tail = t; binom
     -- nothing is left at the mark
     at_mark : (e : Exponents) → same e b.head ≡ true → same e y ≡ false → coefficient d e ≡ zero_ℚ
     at_mark e s f = at_d e ∙ ap (λ z. z +ℚ neg_ℚ (indicator h e +ℚ neg_ℚ (indicator t e))) (coefficient-same b.poly e b.head s ∙ monic)
-        ∙ ap (λ z. one_ℚ +ℚ neg_ℚ (z +ℚ neg_ℚ (indicator t e))) (at_itself b.head e s) ∙ ap (λ z. one_ℚ +ℚ neg_ℚ (one_ℚ +ℚ neg_ℚ z)) (at_another y e f)
+        ∙ ap (λ z. one_ℚ +ℚ neg_ℚ (z +ℚ neg_ℚ (indicator t e))) (at_itself b.head e s) ∙ ap (λ z. one_ℚ +ℚ neg_ℚ (one_ℚ +ℚ neg_ℚ z)) (at_other y e f)
         ∙ ap (λ z. one_ℚ +ℚ neg_ℚ z) (less_zero one_ℚ) ∙ +ℚ-neg_ℚ one_ℚ
 
     -- beside both it is b
     beside : (e : Exponents) → same e b.head ≡ false → same e y ≡ false → coefficient d e ≡ coefficient b.poly e
-    beside e s f = at_d e ∙ ap (λ z. coefficient b.poly e +ℚ neg_ℚ (z +ℚ neg_ℚ (indicator t e))) (at_another b.head e s) ∙ ap (λ z. coefficient b.poly e +ℚ neg_ℚ (zero_ℚ +ℚ neg_ℚ z)) (at_another y e f)
+    beside e s f = at_d e ∙ ap (λ z. coefficient b.poly e +ℚ neg_ℚ (z +ℚ neg_ℚ (indicator t e))) (at_other b.head e s) ∙ ap (λ z. coefficient b.poly e +ℚ neg_ℚ (zero_ℚ +ℚ neg_ℚ z)) (at_other y e f)
         ∙ ap (λ z. coefficient b.poly e +ℚ neg_ℚ z) (+ℚ-neg_ℚ zero_ℚ) ∙ less_zero _
 
     no : (x y : Exponents) → same x y ≡ true → same x y ≡ false → ⊥
@@ -111,7 +101,7 @@ reduced_binomials n fs bs v two dec inside decides tails monic b c = at ((top_he
     at_mark e s = at_rest e ∙ ap (λ z. z +ℚ neg_ℚ (indicator (Some b.head) e)) (coefficient-same b.poly e b.head s ∙ monic b c) ∙ ap (λ z. one_ℚ +ℚ neg_ℚ z) (at_itself b.head e s) ∙ +ℚ-neg_ℚ one_ℚ
 
     beside : (e : Exponents) → same e b.head ≡ false → coefficient rest e ≡ coefficient b.poly e
-    beside e s = at_rest e ∙ ap (λ z. coefficient b.poly e +ℚ neg_ℚ z) (at_another b.head e s) ∙ less_zero _
+    beside e s = at_rest e ∙ ap (λ z. coefficient b.poly e +ℚ neg_ℚ z) (at_other b.head e s) ∙ less_zero _
 
     in_ring : IsInVariables n b.poly
     in_ring = variables_of_member n fs b.poly v (inside b c)
@@ -120,7 +110,7 @@ reduced_binomials n fs bs v two dec inside decides tails monic b c = at ((top_he
     head_there z = one_not_zero (sym (monic b c) ∙ z)
 
     at : SamePolynomial rest [] ⊎ ((x : Exponents) × IsHeaviest [] rest x) → IsMarkedBinomial b
-    at (inl z) = record { tail = None; binomial = record { equation = λ e. zero_difference (coefficient b.poly e) (indicator (Some b.head) e) (sym (at_rest e) ∙ z e) ∙ sym (less_zero _) } }
+    at (inl z) = record { tail = None; binomial = record { equation = λ e. equal_if (coefficient b.poly e) (indicator (Some b.head) e) (sym (at_rest e) ∙ z e) ∙ sym (less_zero _) } }
     at (inr x) = by (same x.0 b.head) refl
       where
         by : (p : Bool) → same x.0 b.head ≡ p → IsMarkedBinomial b

@@ -39,9 +39,10 @@ use Rattle.gf_binomials.specs.Binomials.{IsBinomialOf, IsBinomial, AreBinomials}
 use Rattle.gf_binomials.proofs.MonomialLaws.{IsTheMonomial, one_of_two}
 use Rattle.gf_binomials.proofs.RunLaws.{run_fits}
 use Rattle.gf_binomials.proofs.PrincipalRuns.{AreAmong, reached_within, step_short, tail_within, form_from, form-among, work_forms, run_short}
-use Rattle.gf_binomials.proofs.PrincipalBases.{only, alone_in, basis_forms, basis_short, antichain_within, short_within}
+use Rattle.gf_binomials.proofs.PrincipalBases.{alone_in, basis_forms, basis_short, antichain_within, short_within}
 use Rattle.gf_binomial_calls.specs.Limits.{IsPlainGenerator}
 use Rattle.gf_binomial_calls.proofs.FlipLaws.{flip_fits}
+use Rattle.gf_ideal.proofs.SmallBases.{only}
 
 -- ---- generators
 

@@ -31,9 +31,10 @@ use Rattle.gf_cone.specs.Cones.{ConeRows, normal_at, other_rows}
 use Rattle.gf_reverse.specs.Upward.{Fan, IsNodeIn}
 use Rattle.gf_tree.specs.Refusals.{IsConeStep, IsTreeWithinLimits}
 use Rattle.gf_binomials.proofs.PrincipalRuns.{form_from}
-use Rattle.gf_binomials.proofs.PrincipalBases.{only, basis_forms}
+use Rattle.gf_binomials.proofs.PrincipalBases.{basis_forms}
 use Rattle.gf_binomial_calls.specs.Limits.{IsPlainGenerator, HasExponentsUpTo}
 use Rattle.gf_binomial_calls.proofs.LimitLaws.{search_within}
+use Rattle.gf_ideal.proofs.SmallBases.{only}
 
 -- ---- entries
 

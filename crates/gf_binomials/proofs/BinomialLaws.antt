@@ -18,7 +18,7 @@ use Rattle.gf_ideal.specs.Operands.{IsStepOperation, IsReductionOperation, IsSPo
 use Rattle.gf_ideal.proofs.Identities.{neg_one}
 use Rattle.gf_binomials.specs.Binomials.{indicator, IsBinomialOf, IsBinomial, IsMarkedBinomial, AreMarkedBinomials}
 use Rattle.gf_binomials.proofs.WholeLaws.{IsSmallWhole, IsPlusMinusOne, small-neg, small-*, small-+, fits-sub, fits-mul, fits-div}
-use Rattle.gf_binomials.proofs.MonomialLaws.{at_like, IsTheMonomial, indicator-small, binomial_of-small, binomial_of-equal, first_alone, second_alone, IsFirst, one_of_two, shifted, multiple_of_binomial, first_replaced, second_replaced, both_replaced, turned_round}
+use Rattle.gf_binomials.proofs.MonomialLaws.{at_like, IsTheMonomial, indicator-small, binomial_of-small, binomial_of-equal, first_alone, second_alone, IsFirst, one_of_two, shifted, multiple_of_binomial, first_replaced, second_replaced, turned_round}
 
 -- ---- one step
 
@@ -83,7 +83,7 @@ binomial-s_polynomial b c s hb hc q = record {
         ∙ ap (λ z. (indicator (Some (plus q.left b.head)) e +ℚ neg_ℚ (indicator r e)) +ℚ z) (multiple_of_binomial (neg_ℚ one_ℚ) q.right (Some c.head) hc.tail c.poly hc.binomial e ∙ neg_one _)
         ∙ ap (λ z. (z +ℚ neg_ℚ (indicator r e)) +ℚ neg_ℚ (indicator (Some (plus q.right c.head)) e +ℚ neg_ℚ (indicator t e))) (at_like (plus q.left b.head) (join b.head c.head) e q.of_left)
         ∙ ap (λ z. (indicator (Some (join b.head c.head)) e +ℚ neg_ℚ (indicator r e)) +ℚ neg_ℚ (z +ℚ neg_ℚ (indicator t e))) (at_like (plus q.right c.head) (join b.head c.head) e q.of_right)
-        ∙ both_replaced (indicator (Some (join b.head c.head)) e) (indicator r e) (indicator t e);
+        ∙ first_replaced (indicator (Some (join b.head c.head)) e) (indicator r e) (indicator t e);
   };
 }
   where

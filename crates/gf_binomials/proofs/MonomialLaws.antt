@@ -110,8 +110,5 @@ first_replaced = each_q _ (λ a a' k. each_q _ (λ b b' l. each_q _ (λ c c' m. 
 pub second_replaced : (p q t : Fraction) → (p +ℚ neg_ℚ q) +ℚ (q +ℚ neg_ℚ t) ≡ p +ℚ neg_ℚ t
 second_replaced = each_q _ (λ a a' k. each_q _ (λ b b' l. each_q _ (λ c c' m. simp overs (over-eq _ _ _ _ (simp dens (simp naturals (diff-eq _ _ _ _ (omega arith))))))))
 
-pub both_replaced : (j s t : Fraction) → (j +ℚ neg_ℚ s) +ℚ neg_ℚ (j +ℚ neg_ℚ t) ≡ t +ℚ neg_ℚ s
-both_replaced = each_q _ (λ a a' k. each_q _ (λ b b' l. each_q _ (λ c c' m. simp overs (over-eq _ _ _ _ (simp dens (simp naturals (diff-eq _ _ _ _ (omega arith))))))))
-
 pub turned_round : (p q : Fraction) → neg_ℚ (p +ℚ neg_ℚ q) ≡ q +ℚ neg_ℚ p
 turned_round = each_q _ (λ a a' k. each_q _ (λ b b' l. simp overs (over-eq _ _ _ _ (simp dens (simp naturals (diff-eq _ _ _ _ (omega arith)))))))

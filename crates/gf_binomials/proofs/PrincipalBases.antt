@@ -1,5 +1,5 @@
 -- A reduced basis of an ideal with one generator has one member at most, which is a monic form of the generator.
--- To cite: only, alone_in, monic_at, basis_forms, basis_short, antichain_within, short_within.
+-- To cite: alone_in, monic_at, basis_forms, basis_short, antichain_within, short_within.
 use Rattle.std.specs.Prelude.{◌≡◌, ◌⊎◌, ℕ, ◌≤◌, true, false, List, [], ◌∷◌, length, Contains}
 use Rattle.std.proofs.Common.{arith, sym, ap, ◌∙◌, subst, inl, inr}
 use Rattle.gf_frac.specs.Fraction.{◌*ℚ◌, reciprocal_ℚ}
@@ -17,7 +17,7 @@ use Rattle.gf_ideal.specs.Marks.{IsMarked, AreMarked, HasPositiveWeight}
 use Rattle.gf_ideal.specs.Reduction.{IsMonicForm}
 use Rattle.gf_ideal.specs.Bases.{IsBasis, IsGreatest, HasReducedTails, AreApart, AreSameBasis, IsTwin}
 use Rattle.gf_ideal.proofs.Identities.{one_not_zero}
-use Rattle.gf_ideal.proofs.ListLaws.{Contains-here, Contains-there, Contains-cases}
+use Rattle.gf_ideal.proofs.ListLaws.{Contains-here, Contains-there}
 use Rattle.gf_ideal.proofs.SpanLaws.{Spans-trans}
 use Rattle.gf_ideal.proofs.MembershipLaws.{spans_of_member}
 use Rattle.gf_ideal.proofs.GeneratorLaws.{monic_generator}
@@ -27,7 +27,7 @@ use Rattle.gf_ideal.proofs.InterreductionLaws.{reduced_by_order}
 use Rattle.gf_ideal.proofs.StepLaws.{IsWithin}
 use Rattle.gf_ideal.proofs.LawsHold.{marks_have_weights}
 use Rattle.gf_ideal.proofs.LawsOfBasesHold.{bases_go_by_their_marks, reduced_bases_are_unique}
-use Rattle.gf_ideal.proofs.SmallBases.{principal_ideal}
+use Rattle.gf_ideal.proofs.SmallBases.{principal_ideal, spans_nothing, only}
 use Rattle.gf_binomials.specs.Antichains.{IsAntichain, HasShortExponents}
 use Rattle.gf_binomials.proofs.PrincipalRuns.{there_along, form_from}
 
@@ -61,16 +61,8 @@ monic_at-marked below f y g = record {
 
 -- ---- the members
 
-pub only : {A : Type 0} (x y : A) → Contains (x ∷ []) y → x ≡ y
-only x y c = elim (Contains-cases x y [] c) [ inl e ↦ e | inr k ↦ absurd (omega (arith, k.1)) ]
-
 pub alone_in : (n : ℕ) (f : Terms) → IsInVariables n f → AreInVariables n (f ∷ [])
 alone_in n f v g c = subst (λ (h : Terms). IsInVariables n h) (only f g c) v
-
--- the ideal of zero
-spans_nothing : (f : Terms) → Spans [] f → SamePolynomial f []
-spans_nothing f (Spans.none k z) = z
-spans_nothing f (Spans.more c u p k g j s q) = absurd (omega (arith, j.1))
 
 spans_zero : (f g : Terms) → SamePolynomial f [] → Spans (f ∷ []) g → SamePolynomial g []
 spans_zero f g z s = spans_nothing g (Spans-trans [] (f ∷ []) g (λ p c. Spans.none p (subst (λ (h : Terms). SamePolynomial h []) (only f p c) z)) s)

@@ -1,6 +1,6 @@
 -- Small whole numbers among fractions: sums, differences and products of them are small, and stay in range.
 -- To cite: IsSmallWhole, small-up, small-zero, small-one, small-neg, small-+, small-*, IsPlusMinusOne, fits-add, fits-sub, fits-mul, fits-div.
-use Rattle.std.specs.Prelude.{◌≡◌, ◌⊎◌, ℕ, ◌+◌, ◌*◌, ◌/◌, ◌<◌, ◌≤◌, ◌^◌, ℤ, pos, negsuc, ◌+ℤ◌, ◌*ℤ◌}
+use Rattle.std.specs.Prelude.{◌≡◌, ◌⊎◌, ℕ, ◌+◌, ◌*◌, ◌/◌, ◌<◌, ◌≤◌, ◌^◌, ℤ, pos, ◌+ℤ◌, ◌*ℤ◌}
 use Rattle.std.specs.Int.RustNames.{unsigned_abs, int_div}
 use Rattle.std.proofs.Common.{arith, refl, ap, sym, ◌∙◌, subst, inl, inr}
 use Rattle.std.proofs.lemmas.Int.{ints, unsigned_abs-mul}
@@ -14,6 +14,8 @@ use Rattle.gf_frac.specs.Fields.{IsLowest, parts_back}
 use Rattle.gf_frac.specs.Fits.{FitsAdd, FitsSub, FitsMul, FitsDiv, FitsSum, FitsProduct}
 use Rattle.gf_frac.proofs.FractionLaws.{over-+, over-*, over-neg, one-*ℚ, *ℚ-reciprocal_ℚ, *ℚ_cancel, neg_ℚ-*ℚ, neg_ℚ-neg_ℚ, zero-not-one}
 use Rattle.gf_int.proofs.ContentLaws.{gcd-by_one}
+use Rattle.gf_frac.proofs.WorkingLaws.{times_one, gcd-one, by_one}
+use Rattle.gf_frac.proofs.PartsLaws.{abs_neg}
 
 -- x is a whole number of absolute value k at most
 pub record IsSmallWhole (k : ℕ) (x : Fraction) : Type 0 where
@@ -30,11 +32,8 @@ small-zero = record { number = pos 0; is = refl; size = omega arith }
 pub small-one : IsSmallWhole 1 one_ℚ
 small-one = record { number = pos 1; is = refl; size = omega arith }
 
-abs-neg : (z : ℤ) → unsigned_abs (neg_ℤ z) ≡ unsigned_abs z
-abs-neg z = omega (arith, ints)
-
 pub small-neg : (k : ℕ) (x : Fraction) → IsSmallWhole k x → IsSmallWhole k (neg_ℚ x)
-small-neg k x h = record { number = neg_ℤ h.number; is = ap neg_ℚ h.is ∙ over-neg h.number 0; size = omega (arith, abs-neg h.number, h.size) }
+small-neg k x h = record { number = neg_ℤ h.number; is = ap neg_ℚ h.is ∙ over-neg h.number 0; size = omega (arith, abs_neg h.number, h.size) }
 
 abs-sum : (a b : ℤ) → unsigned_abs (a +ℤ b) ≤ unsigned_abs a + unsigned_abs b
 abs-sum a b = omega (arith, ints)
@@ -71,20 +70,6 @@ den_of : (k : ℕ) (x : Fraction) → k < 2 ^ 127 → IsSmallWhole k x → x.den
 den_of k x l h = ap (λ (y : Fraction). y.den) h.is ∙ (parts_back h.number 1 (lowest_whole h.number (omega (arith, l, h.size)))).1
 
 -- ---- their operations fit
-
-gcd-one : gcd 1 1 ≡ 1
-unfolding gcd
-gcd-one = refl
-
-by_one : (a : ℤ) → int_div a (pos 1) ≡ a
-by_one (pos n) = omega (arith, ints)
-by_one (negsuc n) = omega (arith, ints)
-
-times_one : (a : ℤ) (g : ℕ) → g ≡ 1 → a *ℤ pos (1 / g) ≡ a
-times_one a g e = rw e (unit a)
-  where
-    unit : (a : ℤ) → a *ℤ pos 1 ≡ a
-    unit a = omega (arith, ints)
 
 sum_at : (a c : ℤ) → unsigned_abs a < 2 ^ 126 → unsigned_abs c < 2 ^ 126 → FitsSum a 1 c 1
 sum_at a c h l = record {

@@ -26,9 +26,10 @@ use Rattle.gf_duality.proofs.Taking.{ZeroWhere}
 use Rattle.gf_duality.proofs.Described.{pruned}
 use Rattle.gf_duality.proofs.Generated.{made-generated, generated-made}
 use Rattle.gf_duality.proofs.Echelon.{own_member}
-use Rattle.gf_duality.proofs.EchelonUnique.{same_ordered, same_place, one_basis, no_widths}
+use Rattle.gf_duality.proofs.EchelonUnique.{same_ordered, one_basis, no_widths}
 use Rattle.gf_vec.proofs.PrimitiveLaws.{primitive_same}
 use Rattle.gf_duality.proofs.Uniqueness.{matched}
+use Rattle.std.proofs.lemmas.Bool.{cases_eq}
 
 -- some row is positive on x, or all are zero
 pub some_positive : (hs : List (List ℤ)) (x : List ℤ) → ((h : List ℤ) → Contains hs h → pos 0 ≤ℤ dot h x) → ((h : List ℤ) × (Contains hs h × (pos 0 <ℤ dot h x))) ⊎ ((h : List ℤ) → Contains hs h → dot h x ≡ pos 0)
@@ -77,7 +78,7 @@ alone_of n hs es lin rays r x s cr cx z =
     let i = cr.0 in let k = cx.0 in
     let er : get_or rays i [] ≡ r = get_or_default rays i [] r cr.1 ∙ cr.2 in
     let ex : get_or rays k [] ≡ x = get_or_default rays k [] x cx.1 ∙ cx.2 in
-    elim (same_place i k) [
+    elim (cases_eq i k) [
       | inl e ↦ sym ex ∙ ap (λ j. get_or rays j []) (sym e) ∙ er
       | inr ne ↦
           let w : ZeroWhere hs (get_or rays i []) (get_or rays k []) = subst (λ t. ZeroWhere hs t (get_or rays k [])) (sym er) (subst (ZeroWhere hs r) (sym ex) z) in

@@ -1,5 +1,5 @@
 -- A span has one echelon basis.
-use Rattle.std.proofs.Common.{◌≡◌, ◌≢◌, ℕ, zero, suc, ◌<◌, List, [], ◌∷◌, length, ℤ, pos, ◌+ℤ◌, ◌*ℤ◌, neg_ℤ, ◌<ℤ◌, arith, sym, refl, ap, ap₂, ◌∙◌, subst, Contains, ◌⊎◌, inl, inr, AllPairs}
+use Rattle.std.proofs.Common.{◌≡◌, ◌≢◌, ℕ, zero, suc, ◌<◌, List, [], ◌∷◌, length, ℤ, pos, ◌+ℤ◌, ◌*ℤ◌, neg_ℤ, ◌<ℤ◌, arith, sym, refl, ap, ap₂, ◌∙◌, subst, Contains, inl, inr, AllPairs}
 use Rattle.std.specs.List.{AllByRecursion}
 use Rattle.std.proofs.lemmas.Int.{ints}
 use Rattle.std.proofs.lemmas.List.Elements.{All-contains, recursion_from_All}
@@ -20,6 +20,7 @@ use Rattle.gf_duality.proofs.Made.{span-times}
 use Rattle.gf_duality.proofs.Generated.{made-generated}
 use Rattle.gf_duality.proofs.Echelon.{own_member, linear_zero}
 use Rattle.gf_vec.proofs.PrimitiveLaws.{primitive_same, times_cancel}
+use Rattle.std.proofs.lemmas.Bool.{cases_eq}
 
 -- ---- ordered lists
 
@@ -184,12 +185,6 @@ zero_entry (y ∷ x) (suc p) z = zero_entry x p z.1
 even : (x y : ℤ) → y *ℤ x +ℤ neg_ℤ x *ℤ y ≡ pos 0
 even x y = same (dv y ⊗ dv x ⊕ dneg (dv x) ⊗ dv y) (dn 0) (omega arith)
 
-pub same_place : (p q : ℕ) → (p ≡ q) ⊎ (p ≢ q)
-same_place zero zero = inl refl
-same_place zero (suc q) = inr (λ e. omega arith)
-same_place (suc p) zero = inr (λ e. omega arith)
-same_place (suc p) (suc q) = elim (same_place p q) [ inl e ↦ inl (ap suc e) | inr n ↦ inr (λ e. n (omega arith)) ]
-
 -- each row of the one basis is a row of the other
 basis_member : (n : ℕ) (xs ys : List (List ℤ)) (x : List ℤ) → AreRows n xs → AreRows n ys → IsEchelon xs → IsEchelon ys → ((v : List ℤ) → Contains xs v → Made n [] ys v) → ((v : List ℤ) → Contains ys v → Made n [] xs v) → Contains xs x → Contains ys x
 basis_member n xs ys x wx wy ex ey to from c =
@@ -205,7 +200,7 @@ basis_member n xs ys x wx wy ex ey to from c =
     let lz = (dv a ⊡ vv x lx ⊞ dneg (dv b) ⊡ vv y ly).long in
     let mz : Made n [] xs z = summed n [] xs _ _ _ refl (span-times n xs a x (own_member n xs x lx c)) (span-times n xs (neg_ℤ b) y (from y cy)) in
     let at : (q : ℕ) → entry_at z q ≡ a *ℤ entry_at x q +ℤ neg_ℤ b *ℤ entry_at y q = λ q. entry_plus (scaled a x) (scaled (neg_ℤ b) y) q (length-times a x ∙ lx ∙ sym ly ∙ sym (length-times (neg_ℤ b) y)) ∙ ap₂ ◌+ℤ◌ (entry_times a x q) (entry_times (neg_ℤ b) y q) in
-    let nothing_left : z ≡ zeros n = span_none n xs z wx ex mz lz (λ t q ct pt. elim (same_place p q) [
+    let nothing_left : z ≡ zeros n = span_none n xs z wx ex mz lz (λ t q ct pt. elim (cases_eq p q) [
       | inl e ↦ at q ∙ ap (λ k. a *ℤ entry_at x k +ℤ neg_ℤ b *ℤ entry_at y k) (sym e) ∙ even b a
       | inr ne ↦
           let g = span_pivot n ys t q wy ey (to t ct) pt in

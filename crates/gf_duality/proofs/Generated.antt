@@ -8,13 +8,14 @@ use Rattle.std.proofs.lemmas.List.Elements.{All-from_recursion, recursion_from_A
 use Rattle.gf_int.specs.Content.{scaled}
 use Rattle.gf_vec.specs.Vector.{dot, vector_sum, zeros, combined, values}
 use Rattle.gf_int.proofs.RingLaws.{dv, dn, ◌⊗◌}
-use Rattle.gf_int.proofs.SignLaws.{0≤-*ℤ, 0<-*ℤ}
+use Rattle.gf_int.proofs.SignLaws.{0<-*ℤ}
 use Rattle.gf_vec.proofs.VectorLaws.{dot-zeros, dot-combined, length-combined, length-zeros, length-times}
 use Rattle.gf_gordan.specs.Alternative.{AreRows}
 use Rattle.gf_duality.specs.Rays.{Generated}
 use Rattle.gf_vec.proofs.VectorIdentities.{Vec, moved, vv, vz, ◌⊞◌, ◌⊡◌, vsame}
 use Rattle.gf_duality.proofs.Made.{Made-length, divided_length}
 use Rattle.gf_duality.proofs.Described.{sum_up}
+use Rattle.gf_gordan.proofs.MultiplierLaws.{zeros_signs, times_not_negative}
 
 abbrev HaveWidth : ℕ → List (List ℤ) → Type 0
 HaveWidth n rows = AllByRecursion (λ t. length t ≡ n) rows
@@ -39,18 +40,10 @@ dot-spike [] i a d u l = absurd (omega arith)
 dot-spike (t ∷ ts) zero a d u l = ap (λ z. a *ℤ dot t u +ℤ z) (dot-zeros (length ts) (values ts u)) ∙ omega (arith, ints)
 dot-spike (t ∷ ts) (suc i) a d u l = ap (λ z. pos 0 *ℤ dot t u +ℤ z) (dot-spike ts i a d u (omega arith)) ∙ omega (arith, ints)
 
-zeros_fit : (n : ℕ) → AllByRecursion (λ m. pos 0 ≤ℤ m) (zeros n)
-zeros_fit zero = tt
-zeros_fit (suc n) = (omega (arith, ints), zeros_fit n)
-
 spike_fits : (n i : ℕ) (a : ℤ) → pos 0 ≤ℤ a → AllByRecursion (λ m. pos 0 ≤ℤ m) (spike n i a)
 spike_fits zero i a h = tt
-spike_fits (suc n) zero a h = (h, zeros_fit n)
+spike_fits (suc n) zero a h = (h, zeros_signs n)
 spike_fits (suc n) (suc i) a h = (omega (arith, ints), spike_fits n i a h)
-
-times_fit : (k : ℤ) (ms : List ℤ) → pos 0 ≤ℤ k → AllByRecursion (λ m. pos 0 ≤ℤ m) ms → AllByRecursion (λ m. pos 0 ≤ℤ m) (scaled k ms)
-times_fit k [] h a = tt
-times_fit k (m ∷ ms) h a = (0≤-*ℤ k m h a.0, times_fit k ms h a.1)
 
 plus_fits : (xs ys : List ℤ) → AllByRecursion (λ m. pos 0 ≤ℤ m) xs → AllByRecursion (λ m. pos 0 ≤ℤ m) ys → AllByRecursion (λ m. pos 0 ≤ℤ m) (vector_sum xs ys)
 plus_fits [] ys a b = tt
@@ -76,7 +69,7 @@ counts n rays lin v wr wl (nothing m rs ls) = record {
   k_positive = omega (arith, ints);
   ms_len = length-zeros (length rs);
   ks_len = length-zeros (length ls);
-  fit = zeros_fit (length rs);
+  fit = zeros_signs (length rs);
   is = vsame (dn 1 ⊡ vz m) (vc rs wr (vz (length rs)) ⊞ vc ls wl (vz (length ls))) (λ w. omega arith);
 }
 counts n rays lin v wr wl (ray m rs ls w l c) = record {
@@ -99,7 +92,7 @@ counts n rays lin v wr wl (line m rs ls a x w l c e) = record {
   k_positive = omega (arith, ints);
   ms_len = length-zeros (length rs);
   ks_len = length-spike (length ls) c.0 a;
-  fit = zeros_fit (length rs);
+  fit = zeros_signs (length rs);
   is = ap (scaled (pos 1)) e ∙ vsame (dn 1 ⊡ (dv a ⊡ vv x l)) (vc rs wr (vz (length rs)) ⊞ record {
     long = length-combined m (spike (length ls) c.0 a) ls wl;
     on = λ u. moved (ap (λ z. a *ℤ dot z u) (sym c.2) ∙ sym (dot-spike ls c.0 a x u c.1) ∙ sym (dot-combined m (spike (length ls) c.0 a) ls u wl)) (dv a ⊗ dv (dot x u));
@@ -115,7 +108,7 @@ counts n rays lin v wr wl (summed m rs ls x y w e f g) =
       k_positive = 0<-*ℤ k l s.k_positive t.k_positive;
       ms_len = (dv l ⊡ vv s.ms s.ms_len ⊞ dv k ⊡ vv t.ms t.ms_len).long;
       ks_len = (dv l ⊡ vv s.ks s.ks_len ⊞ dv k ⊡ vv t.ks t.ks_len).long;
-      fit = plus_fits _ _ (times_fit l s.ms (omega (arith, ints, t.k_positive)) s.fit) (times_fit k t.ms (omega (arith, ints, s.k_positive)) t.fit);
+      fit = plus_fits _ _ (times_not_negative l s.ms (omega (arith, ints, t.k_positive)) s.fit) (times_not_negative k t.ms (omega (arith, ints, s.k_positive)) t.fit);
       is = ap (scaled (k *ℤ l)) e
           ∙ vsame (dv k ⊗ dv l ⊡ (vv x lx ⊞ vv y ly)) (dv l ⊡ (dv k ⊡ vv x lx) ⊞ dv k ⊡ (dv l ⊡ vv y ly)) (λ w. omega arith)
           ∙ ap (λ z. vector_sum (scaled l z) (scaled k (scaled l y))) s.is ∙ ap (λ z. vector_sum (scaled l (vector_sum (combined m s.ms rs) (combined m s.ks ls))) (scaled k z)) t.is
@@ -131,7 +124,7 @@ counts n rays lin v wr wl (multiplied m rs ls a x w g e f) =
       k_positive = s.k_positive;
       ms_len = length-times a s.ms ∙ s.ms_len;
       ks_len = length-times a s.ks ∙ s.ks_len;
-      fit = times_fit a s.ms g s.fit;
+      fit = times_not_negative a s.ms g s.fit;
       is = ap (scaled k) e ∙ vsame (dv k ⊡ (dv a ⊡ vv x lx)) (dv a ⊡ (dv k ⊡ vv x lx)) (λ w. omega arith) ∙ ap (scaled a) s.is
           ∙ vsame (dv a ⊡ (vc rs wr (vv s.ms s.ms_len) ⊞ vc ls wl (vv s.ks s.ks_len))) (vc rs wr (dv a ⊡ vv s.ms s.ms_len) ⊞ vc ls wl (dv a ⊡ vv s.ks s.ks_len)) (λ w. omega arith);
     }

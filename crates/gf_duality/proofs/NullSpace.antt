@@ -51,7 +51,7 @@ columns_width n es w c = let t = in_map (with_values es) (unit_vectors n) w c in
 drop_long : (n m : ℕ) (w : List ℤ) → length w ≡ m + n → length (drop m w) ≡ n
 drop_long n m w l = omega (arith, length-drop m w, l)
 
-right_columns : (es xs : List (List ℤ)) → map (drop (length es)) (map (with_values es) xs) ≡ xs
+pub right_columns : (es xs : List (List ℤ)) → map (drop (length es)) (map (with_values es) xs) ≡ xs
 right_columns es [] = refl
 right_columns es (x ∷ xs) = ap₂ ◌∷◌ (drop_values es x x) (right_columns es xs)
 

@@ -33,7 +33,7 @@ pub record AreBase (n : ℕ) (ys : List (List ℤ)) : Type 0 where
 tail_base : (n : ℕ) (y : List ℤ) (ys whole : List (List ℤ)) → whole ≡ y ∷ ys → AreBase n whole → AreBase n ys
 tail_base n y ys whole e b = record { width = λ z c. b.width z (subst (λ t. Contains t z) (sym e) (in_tail y ys z c)); positive = λ z c. b.positive z (subst (λ t. Contains t z) (sym e) (in_tail y ys z c)) }
 
-head_in : (y : List ℤ) (ys whole : List (List ℤ)) → whole ≡ y ∷ ys → Contains whole y
+pub head_in : (y : List ℤ) (ys whole : List (List ℤ)) → whole ≡ y ∷ ys → Contains whole y
 head_in y ys whole e = subst (λ t. Contains t y) (sym e) (in_head y ys)
 
 span_tail : (n : ℕ) (y : List ℤ) (ys whole : List (List ℤ)) (v : List ℤ) → whole ≡ y ∷ ys → Made n [] ys v → Made n [] whole v

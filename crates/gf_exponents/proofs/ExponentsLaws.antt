@@ -4,7 +4,7 @@
 use Rattle.std.specs.Prelude.{◌≡◌, ◌⊎◌, ℕ, zero, suc, ◌+◌, ◌-◌, ◌≤◌, Bool, true, false, ◌&&◌, ◌==◌, [], ◌∷◌, max, length}
 use Rattle.std.proofs.Common.{arith, refl, sym, ap, ◌∙◌, inl, inr, get_or}
 use Rattle.std.proofs.lemmas.Bool.Decides.{nat_tests}
-use Rattle.std.proofs.lemmas.Bool.{cases_lt, and_parts}
+use Rattle.std.proofs.lemmas.Bool.{cases_lt, and_parts, and_from}
 use Rattle.gf_exponents.specs.Exponents.{Exponents, entry, same, plus, join, minus, AreCoprime, NoMultiple}
 
 -- ---- products
@@ -174,18 +174,14 @@ entry-minus (a ∷ x) [] (suc i) = omega arith
 entry-minus (a ∷ x) (b ∷ y) zero = refl
 entry-minus (a ∷ x) (b ∷ y) (suc i) = entry-minus x y i
 
-both : (s t : Bool) → s ≡ true → t ≡ true → (s && t) ≡ true
-both true t h k = k
-both false t h k = absurd (cc)
-
 equal_test : (a b : ℕ) → a ≡ b → (a == b) ≡ true
 equal_test a b h = grind (arith, nat_tests)
 
 pub same_by_entries : (x y : Exponents) → ((i : ℕ) → entry x i ≡ entry y i) → same x y ≡ true
 same_by_entries [] [] h = refl
-same_by_entries [] (b ∷ y) h = both (b == 0) (same [] y) (equal_test b 0 (sym (h 0))) (same_by_entries [] y (λ i. h (suc i)))
-same_by_entries (a ∷ x) [] h = both (a == 0) (same x []) (equal_test a 0 (h 0)) (same_by_entries x [] (λ i. h (suc i)))
-same_by_entries (a ∷ x) (b ∷ y) h = both (a == b) (same x y) (equal_test a b (h 0)) (same_by_entries x y (λ i. h (suc i)))
+same_by_entries [] (b ∷ y) h = and_from (b == 0) (same [] y) (equal_test b 0 (sym (h 0))) (same_by_entries [] y (λ i. h (suc i)))
+same_by_entries (a ∷ x) [] h = and_from (a == 0) (same x []) (equal_test a 0 (h 0)) (same_by_entries x [] (λ i. h (suc i)))
+same_by_entries (a ∷ x) (b ∷ y) h = and_from (a == b) (same x y) (equal_test a b (h 0)) (same_by_entries x y (λ i. h (suc i)))
 
 pub entries_same : (x y : Exponents) → same x y ≡ true → (i : ℕ) → entry x i ≡ entry y i
 entries_same [] [] h i = refl

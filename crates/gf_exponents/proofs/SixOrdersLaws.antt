@@ -28,7 +28,7 @@ abbrev pub variable : ℕ → Exponents
 variable zero = 1 ∷ []
 variable (suc i) = 0 ∷ variable i
 
-entry-variable : (i : ℕ) → entry (variable i) i ≡ 1
+pub entry-variable : (i : ℕ) → entry (variable i) i ≡ 1
 entry-variable zero = refl
 entry-variable (suc i) = entry-variable i
 

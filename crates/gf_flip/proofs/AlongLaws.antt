@@ -1,6 +1,6 @@
 -- The terms along a vector, one term and one member after another.
 -- To cite: selected-none, selected-kept, selected-dropped, along_selected, along_more, along_end, width_at.
-use Rattle.std.specs.Prelude.{◌≡◌, ℕ, zero, suc, ◌+◌, ◌<◌, ◌≤◌, Bool, true, false, if◌then◌else◌, List, [], ◌∷◌, ◌++◌, length, take, get_or, ℤ}
+use Rattle.std.specs.Prelude.{◌≡◌, ℕ, zero, suc, ◌+◌, ◌<◌, ◌≤◌, false, if◌then◌else◌, List, [], ◌∷◌, ◌++◌, length, take, get_or, ℤ}
 use Rattle.std.proofs.Common.{arith, refl, sym, ap, ◌∙◌, subst, inl, inr}
 use Rattle.std.proofs.lemmas.List.{take_more, take_all}
 use Rattle.std.proofs.lemmas.List.Elements.{Contains-append_left, Contains-append_right, Contains-append_cases}
@@ -16,6 +16,7 @@ use Rattle.gf_ideal.proofs.GeneratorLaws.{polys-++}
 use Rattle.gf_initial.specs.Parts.{Matching, IsPartAlong}
 use Rattle.gf_initial.proofs.ClassLaws.{multiple-grading}
 use Rattle.gf_flip.specs.Along.{HasNonzero, IsSelected, IsAlong, AreAlong}
+use Rattle.gf_ideal.proofs.CriterionLaws.{not_same}
 
 -- ---- terms
 
@@ -50,13 +51,6 @@ variables_selected P n f g (IsSelected.dropped s k l q r) h = variables_selected
 
 elsewhere : (t : Term) (f : Terms) (x : Exponents) → same x t.mono ≡ false → coefficient (t ∷ f) x ≡ coefficient f x
 elsewhere t f x h = ap (λ b. (if b then t.coef else zero_ℚ) +ℚ coefficient f x) h ∙ zero-+ℚ _
-
-not_same : (x y : Exponents) → (same x y ≡ true → ⊥) → same x y ≡ false
-not_same x y n = at (same x y) refl
-  where
-    at : (b : Bool) → same x y ≡ b → b ≡ false
-    at true s = absurd (n s)
-    at false s = refl
 
 on_selected : (a : List ℤ) (n : HasNonzero a) (h : Exponents) (f g : Terms) (x : Exponents) → IsSelected (IsTermAlong a h) f g →
     AreMultipleApart a x h → coefficient g x ≡ coefficient f x

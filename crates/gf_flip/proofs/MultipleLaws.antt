@@ -1,6 +1,6 @@
 -- Whether exponents are a multiple of a vector apart, as the code tests it: an exact quotient, then entry by entry.
 -- To cite: exact, small_factor, apart_more, apart_end, apart_first, not_apart.
-use Rattle.std.specs.Prelude.{◌≡◌, ◌≢◌, ◌⊎◌, ℕ, zero, suc, ◌+◌, ◌*◌, ◌<◌, ◌≤◌, ◌^◌, List, [], ◌∷◌, length, get_or, ℤ, pos, negsuc, ◌+ℤ◌, ◌-ℤ◌, ◌*ℤ◌, unsigned_abs, int_div, int_rem}
+use Rattle.std.specs.Prelude.{◌≡◌, ◌≢◌, ◌⊎◌, ℕ, zero, suc, ◌+◌, ◌*◌, ◌<◌, ◌≤◌, ◌^◌, List, [], ◌∷◌, length, get_or, ℤ, pos, ◌+ℤ◌, ◌-ℤ◌, ◌*ℤ◌, unsigned_abs, int_div, int_rem}
 use Rattle.std.proofs.Common.{arith, refl, sym, ap, ◌∙◌, inl, inr}
 use Rattle.std.proofs.lemmas.Bool.{cases_lt}
 use Rattle.std.specs.Int.{w128}
@@ -11,29 +11,21 @@ use Rattle.gf_int.proofs.RingLaws.{dv, dn, ◌⊖◌, ◌⊗◌, same as same_nu
 use Rattle.gf_exponents.specs.Exponents.{Exponents, entry}
 use Rattle.gf_exponents.proofs.ExponentsLaws.{entry-get_or, entry-past}
 use Rattle.gf_ideal.specs.OrderTable.{AreMultipleApart}
+use Rattle.gf_int.proofs.SignLaws.{abs_positive}
+use Rattle.gf_int.proofs.ContentLaws.{abs_zero}
 
 none_left : (m a : ℕ) → m * a < a → m ≡ 0
 none_left zero a l = refl
 none_left (suc m) a l = absurd (omega arith)
 
-nothing : (z : ℤ) → unsigned_abs z ≡ 0 → z ≡ pos 0
-nothing (pos zero) e = refl
-nothing (pos (suc n)) e = absurd (omega arith)
-nothing (negsuc n) e = absurd (omega arith)
-
-size : (a : ℤ) → a ≢ pos 0 → 0 < unsigned_abs a
-size (pos zero) n = absurd (n refl)
-size (pos (suc k)) n = omega arith
-size (negsuc k) n = omega arith
-
 -- the quotient of a multiple
 pub exact : (d a k : ℤ) → a ≢ pos 0 → d ≡ k *ℤ a → int_div d a ≡ k
 exact d a k n e =
-    let r = rem_below d a (size a n) in
+    let r = rem_below d a (abs_positive a n) in
     let q = quot-rem d a in
     let m : (k -ℤ int_div d a) *ℤ a ≡ int_rem d a = rest (int_div d a) (int_rem d a) q in
     let l : unsigned_abs (k -ℤ int_div d a) * unsigned_abs a < unsigned_abs a = omega (arith, sym (unsigned_abs-mul (k -ℤ int_div d a) a), ap unsigned_abs m, r) in
-    let z : k -ℤ int_div d a ≡ pos 0 = nothing (k -ℤ int_div d a) (none_left (unsigned_abs (k -ℤ int_div d a)) (unsigned_abs a) l) in
+    let z : k -ℤ int_div d a ≡ pos 0 = abs_zero (k -ℤ int_div d a) (none_left (unsigned_abs (k -ℤ int_div d a)) (unsigned_abs a) l) in
     omega (arith, ints, z)
   where
     rest : (q r : ℤ) → q *ℤ a +ℤ r ≡ d → (k -ℤ q) *ℤ a ≡ r
@@ -44,7 +36,7 @@ more k z l = grind arith
 
 -- and its size
 pub small_factor : (d a k : ℤ) → a ≢ pos 0 → d ≡ k *ℤ a → unsigned_abs k ≤ unsigned_abs d
-small_factor d a k n e = omega (arith, more (unsigned_abs k) (unsigned_abs a) (size a n), unsigned_abs-mul k a, ap unsigned_abs e)
+small_factor d a k n e = omega (arith, more (unsigned_abs k) (unsigned_abs a) (abs_positive a n), unsigned_abs-mul k a, ap unsigned_abs e)
 
 -- ---- entry by entry
 

@@ -1,7 +1,7 @@
 -- A run that takes the pairs in turn, one step further, and its end: a reduced Gröbner basis.
 -- To cite: turn_reducers, taken_start, entered-none, entered-more, entered-skipped, entered-all, turning-start, turning-more, turning-row, turn_end.
 use Rattle.std.specs.Prelude.{◌≡◌, ◌≢◌, ◌⊎◌, ℕ, zero, suc, ◌+◌, ◌<◌, ◌≤◌, Bool, true, false, List, [], ◌∷◌, ◌++◌, length, Contains, slice_index_or}
-use Rattle.std.proofs.Common.{arith, refl, sym, ap, ◌∙◌, subst, inl, inr}
+use Rattle.std.proofs.Common.{arith, sym, ap, ◌∙◌, subst, inl, inr}
 use Rattle.std.proofs.lemmas.Bool.{cases_lt}
 use Rattle.std.proofs.lemmas.List.{get_or_default}
 use Rattle.gf_exponents.specs.SixOrders.{MonomialOrder, below_of}
@@ -37,6 +37,8 @@ use Rattle.gf_buchberger.proofs.JobLaws.{ring_variables, run_weight}
 use Rattle.gf_buchberger.proofs.ReducedPairLaws.{AreRead, are_read, s_polynomial_is, s_polynomial_variables}
 use Rattle.gf_buchberger.proofs.RunSteps.{in_variables, length-last, contained_old}
 use Rattle.gf_flip.specs.Turns.{ArePairExcused, IsMadeFrom, IsGrown, IsTakenIn, IsPairTaken, IsUnderway, IsOfKind, AreTakenInWhere, IsEarlier, IsTurning, AreKeptIn}
+use Rattle.gf_division.proofs.ReducerLaws.{members_equal}
+use Rattle.std.proofs.lemmas.List.Elements.{Contains-push}
 
 -- ---- lists of a run
 
@@ -90,10 +92,6 @@ longer_variables n bs d v h p = record { heads = λ b c. head b (Contains-last b
     poly b (inl c) = v.polys b c
     poly b (inr e) = subst (λ (z : MarkedPolynomial). HasVariables n z.poly) (sym e) p
 
-last_contained : (bs : List MarkedPolynomial) (b : MarkedPolynomial) → Contains (bs ++ b ∷ []) b
-last_contained [] b = (zero, omega arith, refl)
-last_contained (a ∷ bs) b = let c = last_contained bs b in (suc c.0, omega (arith, c.1), c.2)
-
 further_on : (order : MonomialOrder) (n : ℕ) (fs : List Terms) (f : Terms) (old new : List MarkedPolynomial) → IsUnderway order n fs old → IsOrigin fs old f → HasVariables n f →
     IsTakenIn order f old new → IsFurtherOn order n fs f old new
 further_on order n fs f old new u origin v t = at t.left
@@ -112,7 +110,7 @@ further_on order n fs f old new u origin v t = at t.left
       size = omega (arith, length-last old g.member);
       remainder = t.r;
       reached = reached-more (Contains old) (Contains (old ++ g.member ∷ [])) f t.r (λ d k. contained_old old g.member d k) steps;
-      settled = inr (g.member, last_contained old g.member, g.monic);
+      settled = inr (g.member, Contains-push old g.member, g.monic);
     })
 
     at : ((t.r ≡ []) × (new ≡ old)) ⊎ ((t.r ≢ []) × IsGrown order t.r old new) → IsFurtherOn order n fs f old new
@@ -204,9 +202,6 @@ turning-row order n fs bs i j l t = record { underway = t.underway; settled = λ
     at p q m (inl s) (inr k) = inr (omega arith, omega arith)
     at p q m (inr s) (inr k) = absurd (omega (arith, s.1))
 
-same_member : (bs : List MarkedPolynomial) (i : ℕ) (b c : MarkedPolynomial) → IsAt bs i b → IsAt bs i c → b ≡ c
-same_member bs i b c p q = sym p.is ∙ get_or_default bs i b c p.within ∙ q.is
-
 -- members keep their places
 at_before : (bs : List MarkedPolynomial) (d c : MarkedPolynomial) (i : ℕ) → i < length bs → IsAt (bs ++ d ∷ []) i c → IsAt bs i c
 at_before [] d c i l h = absurd (omega arith)
@@ -243,7 +238,7 @@ turned_on order n fs old new i j l m t (IsPairTaken.excused b c x y o e) = subst
 
     at : (p q : ℕ) (d g : MarkedPolynomial) → p < q → IsEarlier p q i j ⊎ ((p ≡ i) × (q ≡ j)) → IsAt old p d → IsAt old q g → IsSettledPair n old (below_of order) d g
     at p q d g s (inl r) u v = t.settled p q d g s r u v
-    at p q d g s (inr r) u v = settled d g (same_member old i b d x (subst (λ (z : ℕ). IsAt old z d) r.0 u)) (same_member old j c g y (subst (λ (z : ℕ). IsAt old z g) r.1 v)) o
+    at p q d g s (inr r) u v = settled d g (members_equal old i b d x (subst (λ (z : ℕ). IsAt old z d) r.0 u)) (members_equal old j c g y (subst (λ (z : ℕ). IsAt old z g) r.1 v)) o
 turned_on order n fs old new i j l m t (IsPairTaken.reduced b c s x y is_s has taken) = record {
   turning = record { underway = w.underway; settled = λ p q d g o r u v. at p q d g o (earlier_or_here p q i j r) u v };
   kept = w.kept;
@@ -270,8 +265,8 @@ turned_on order n fs old new i j l m t (IsPairTaken.reduced b c s x y is_s has t
         let k : q ≤ j = elim r [ inl h ↦ omega arith | inr h ↦ omega (arith, h.0) ] in
         pair_more n old new (below_of order) d g w.kept.at (t.settled p q d g o r (old_at p d (omega arith) u) (old_at q g (omega arith) v))
     at p q d g o (inr r) u v =
-        subst (λ (z : MarkedPolynomial). IsSettledPair n new (below_of order) z g) (same_member old i b d x (subst (λ (z : ℕ). IsAt old z d) r.0 (old_at p d (omega (arith, r.0)) u)))
-        (subst (λ (z : MarkedPolynomial). IsSettledPair n new (below_of order) b z) (same_member old j c g y (subst (λ (z : ℕ). IsAt old z g) r.1 (old_at q g (omega (arith, r.1)) v))) pair)
+        subst (λ (z : MarkedPolynomial). IsSettledPair n new (below_of order) z g) (members_equal old i b d x (subst (λ (z : ℕ). IsAt old z d) r.0 (old_at p d (omega (arith, r.0)) u)))
+        (subst (λ (z : MarkedPolynomial). IsSettledPair n new (below_of order) b z) (members_equal old j c g y (subst (λ (z : ℕ). IsAt old z g) r.1 (old_at q g (omega (arith, r.1)) v))) pair)
 
 -- ---- the end
 

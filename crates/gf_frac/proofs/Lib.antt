@@ -1,4 +1,4 @@
 pub mod FractionLaws  -- the field of fractions
-mod PartsLaws  -- the two numbers of a fraction as the code works them out
+pub mod PartsLaws  -- the two numbers of a fraction as the code works them out
 mod LowestLaws  -- which sums and products are in lowest terms as they come
-mod WorkingLaws  -- what the code works out is the sum, or the product, of the fractions
+pub mod WorkingLaws  -- what the code works out is the sum, or the product, of the fractions

@@ -30,7 +30,7 @@ denominator_is p q x h e = sym (parts_back p q h).1 ∙ ap (λ y. y.den) e
 
 -- ---- negatives
 
-abs_neg : (p : ℤ) → unsigned_abs (neg_ℤ p) ≡ unsigned_abs p
+pub abs_neg : (p : ℤ) → unsigned_abs (neg_ℤ p) ≡ unsigned_abs p
 abs_neg (pos zero) = refl
 abs_neg (pos (suc n)) = refl
 abs_neg (negsuc n) = refl

@@ -137,15 +137,15 @@ product_made a c x y n b d g h u v m la lc eg eh ex ey hn eu ev hm =
 
 -- ---- whole numbers
 
-gcd-one : gcd 1 1 ≡ 1
+pub gcd-one : gcd 1 1 ≡ 1
 unfolding gcd
 gcd-one = refl
 
-by_one : (a : ℤ) → int_div a (pos 1) ≡ a
+pub by_one : (a : ℤ) → int_div a (pos 1) ≡ a
 by_one (pos n) = omega (arith, ints)
 by_one (negsuc n) = omega (arith, ints)
 
-times_one : (a : ℤ) (g : ℕ) → g ≡ 1 → a *ℤ pos (1 / g) ≡ a
+pub times_one : (a : ℤ) (g : ℕ) → g ≡ 1 → a *ℤ pos (1 / g) ≡ a
 times_one a g e = rw e (unit a)
   where
     unit : (a : ℤ) → a *ℤ pos 1 ≡ a

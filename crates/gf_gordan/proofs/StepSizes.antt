@@ -37,10 +37,10 @@ HasRoom (suc n) b = HasRoomAt n b × HasRoom n (below_bound n b)
 
 -- ---- single operations
 
-no_wide : (row : ℕ) (op : VecOp) (x y : ℤ) (s : ConeOverflow) (b : ℕ) → unsigned_abs (value_of op x y) ≤ b → b < 2 ^ 127 → IsWideStep row op x y s → ⊥
+pub no_wide : (row : ℕ) (op : VecOp) (x y : ℤ) (s : ConeOverflow) (b : ℕ) → unsigned_abs (value_of op x y) ≤ b → b < 2 ^ 127 → IsWideStep row op x y s → ⊥
 no_wide row op x y s b h r w = not_wide (value_of op x y) b h r w.1
 
-no_dot : (k a b row : ℕ) (xs ys : List ℤ) (s : ConeOverflow) → length xs ≤ k → UpTo a xs → UpTo b ys → k * (a * b) < 2 ^ 127 → IsDotStep row xs ys s → ⊥
+pub no_dot : (k a b row : ℕ) (xs ys : List ℤ) (s : ConeOverflow) → length xs ≤ k → UpTo a xs → UpTo b ys → k * (a * b) < 2 ^ 127 → IsDotStep row xs ys s → ⊥
 no_dot k a b row xs ys s l u v r w = no_dot_step k a b 0 (pos 0) xs ys _ l u v (omega arith) (omega (arith, r)) w.1
 
 -- ---- one elimination

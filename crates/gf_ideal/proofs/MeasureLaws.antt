@@ -3,7 +3,7 @@
 -- heights that no longer change once they are as deep as the box is large, the box itself.
 use Rattle.std.specs.Prelude.{◌≡◌, ◌⊎◌, ℕ, zero, suc, ◌+◌, ◌<◌, ◌≤◌, ◌||◌, ℤ, pos, negsuc, Bool, true, false, if◌then◌else◌, List, [], ◌∷◌, ◌++◌, length, Contains}
 use Rattle.std.proofs.Common.{arith, refl, sym, ap, ◌∙◌, subst, inl, inr}
-use Rattle.std.proofs.lemmas.Bool.{cases_lt}
+use Rattle.std.proofs.lemmas.Bool.{cases_lt, or_parts, or_right}
 use Rattle.gf_frac.specs.Fraction.{Fraction, ◌+ℚ◌, neg_ℚ, zero_ℚ}
 use Rattle.gf_frac.proofs.FractionLaws.{zero_by_num, zero-+ℚ, zero_or_not, num_by_zero}
 use Rattle.gf_exponents.specs.Exponents.{Exponents, entry, same, plus, minus}
@@ -27,14 +27,6 @@ clash q = cc
 yes_or_no : (b : Bool) → (b ≡ true) ⊎ (b ≡ false)
 yes_or_no true = inl refl
 yes_or_no false = inr refl
-
-or_right : (s t : Bool) → t ≡ true → (s || t) ≡ true
-or_right true t h = refl
-or_right false t h = h
-
-or_false : (s t : Bool) → (s || t) ≡ false → (s ≡ false) × (t ≡ false)
-or_false true t h = clash h
-or_false false t h = (refl, h)
 
 -- two tests that hold together are one
 one_test : (s t : Bool) → (s ≡ true → t ≡ true) → (t ≡ true → s ≡ true) → s ≡ t
@@ -187,7 +179,7 @@ lists-along (t ∷ f) d e h = ap (λ b. b || lists f d) (same_along d e t.mono h
 coefficient-none : (f : Terms) (e : Exponents) → lists f e ≡ false → coefficient f e ≡ zero_ℚ
 coefficient-none [] e h = refl
 coefficient-none (t ∷ f) e h =
-    let p = or_false (same e t.mono) (lists f e) h in
+    let p = or_parts (same e t.mono) (lists f e) h in
     ap (λ b. (if b then t.coef else zero_ℚ) +ℚ coefficient f e) p.0 ∙ zero-+ℚ _ ∙ coefficient-none f e p.1
 
 zero_number : (x : Fraction) → is_zero_number x.num ≡ true → x ≡ zero_ℚ
@@ -211,7 +203,7 @@ support_in-has f (t ∷ g) x h = at (lists g t.mono || is_zero_number (coefficie
         HasMonomial f x × ((same x t.mono || lists g x) ≡ true)
     at true q r h = let p = r h in (p.0, or_right (same x t.mono) (lists g x) p.1)
     at false q r h = elim (yes_or_no (same x t.mono)) [
-      | inl s ↦ (λ z. clash (sym (number_zero (coefficient f t.mono) (sym (coefficient-same f x t.mono s) ∙ z)) ∙ (or_false (lists g t.mono) (is_zero_number (coefficient f t.mono).num) q).1), ap (λ b. b || lists g x) s)
+      | inl s ↦ (λ z. clash (sym (number_zero (coefficient f t.mono) (sym (coefficient-same f x t.mono s) ∙ z)) ∙ (or_parts (lists g t.mono) (is_zero_number (coefficient f t.mono).num) q).1), ap (λ b. b || lists g x) s)
       | inr m ↦ let p = r (sym (ap (λ b. b || within (support_in f g) x) m) ∙ h) in (p.0, or_right (same x t.mono) (lists g x) p.1)
     ]
 
@@ -245,7 +237,7 @@ support_in-distinct f (t ∷ g) = at (lists g t.mono || is_zero_number (coeffici
     at : (b : Bool) → (lists g t.mono || is_zero_number (coefficient f t.mono).num) ≡ b → IsDistinct (support_in f g) →
         IsDistinct (if b then support_in f g else (t.mono ∷ support_in f g))
     at true q r = r
-    at false q r = (apart (or_false (lists g t.mono) (is_zero_number (coefficient f t.mono).num) q).0 (within (support_in f g) t.mono) refl, r)
+    at false q r = (apart (or_parts (lists g t.mono) (is_zero_number (coefficient f t.mono).num) q).0 (within (support_in f g) t.mono) refl, r)
 
 -- each monomial of the support is one of the polynomial
 pub support-has : (f : Terms) (x : Exponents) → within (support f) x ≡ true → HasMonomial f x

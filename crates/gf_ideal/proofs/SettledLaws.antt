@@ -25,7 +25,7 @@ times_along c x y (t ∷ f) e h =
     ap (λ b. (if b then c *ℚ t.coef else zero_ℚ) +ℚ coefficient (times c x f) e) (same-sym e (plus x t.mono) ∙ same_along (plus x t.mono) (plus y t.mono) e (same_shift_right t.mono x y h) ∙ same-sym (plus y t.mono) e)
     ∙ ap (λ z. (if same e (plus y t.mono) then c *ℚ t.coef else zero_ℚ) +ℚ z) (times_along c x y f e h)
 
-twice : (x y : Exponents) (f : Terms) → times one_ℚ (plus x y) f ≡ times one_ℚ x (times one_ℚ y f)
+pub twice : (x y : Exponents) (f : Terms) → times one_ℚ (plus x y) f ≡ times one_ℚ x (times one_ℚ y f)
 twice x y f = ap (λ c. times c (plus x y) f) (sym (one-*ℚ one_ℚ)) ∙ times-times one_ℚ one_ℚ x y f
 
 -- what is settled at the least common multiple is so at each one

@@ -21,11 +21,11 @@ use Rattle.gf_ideal.proofs.LawsOfBasesHold.{buchbergers_criterion}
 nothing : {A : Type 0} (x : A) → Contains [] x → ⊥
 nothing x c = absurd (omega (arith, c.1))
 
-only : {A : Type 0} (x y : A) → Contains (x ∷ []) y → x ≡ y
+pub only : {A : Type 0} (x y : A) → Contains (x ∷ []) y → x ≡ y
 only x y c = elim (Contains-cases x y [] c) [ inl e ↦ e | inr k ↦ absurd (nothing y k) ]
 
 -- the members of the zero ideal are zero
-spans_nothing : (f : Terms) → Spans [] f → SamePolynomial f []
+pub spans_nothing : (f : Terms) → Spans [] f → SamePolynomial f []
 spans_nothing f (Spans.none k z) = z
 spans_nothing f (Spans.more c u p k g j s q) = absurd (nothing p j)
 

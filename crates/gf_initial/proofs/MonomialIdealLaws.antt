@@ -46,7 +46,7 @@ monomial-at x y h = by (same y x) refl
     by false e = absurd (h (ap (λ b. (if b then one_ℚ else zero_ℚ) +ℚ zero_ℚ) e ∙ +ℚ-zero zero_ℚ))
 
 -- none elsewhere
-monomial-off : (x y : Exponents) → same y x ≡ false → coefficient (monomial x) y ≡ zero_ℚ
+pub monomial-off : (x y : Exponents) → same y x ≡ false → coefficient (monomial x) y ≡ zero_ℚ
 monomial-off x y e = ap (λ b. (if b then one_ℚ else zero_ℚ) +ℚ zero_ℚ) e ∙ +ℚ-zero zero_ℚ
 
 -- x = u m

@@ -59,7 +59,7 @@ pub 0≤-*ℤ : (a b : ℤ) → pos 0 ≤ℤ a → pos 0 ≤ℤ b → pos 0 ≤�
 0≤-*ℤ (pos a) (negsuc b) h k = absurd (omega (arith, ints))
 0≤-*ℤ (negsuc a) b h k = absurd (omega (arith, ints))
 
-mul_positive : (a b : ℕ) → 0 < a → 0 < b → 0 < a * b
+pub mul_positive : (a b : ℕ) → 0 < a → 0 < b → 0 < a * b
 mul_positive a b h k = grind arith
 
 -- a product of positive numbers is positive

@@ -18,7 +18,7 @@ mod SumLaws  -- sums of lists of vectors
 pub mod OrderLaws  -- vectors in lexicographic order: sorted, ascending, each once
 mod FacetLoops  -- rows that a loop takes, one place further
 mod LeastLaws  -- among inequalities with the same flags there is a least one
-mod FacetLaws  -- facet rows by flags
+pub mod FacetLaws  -- facet rows by flags
 pub mod PartLaws  -- the rays on which an inequality is zero
 pub mod FacePartLaws  -- whether a cone is a face of another one, by flags
 pub mod FlagFaceLaws  -- faces by flags, one inequality further

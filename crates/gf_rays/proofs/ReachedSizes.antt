@@ -7,18 +7,17 @@ use Rattle.std.proofs.lemmas.List.Edits.{length-remove}
 use Rattle.std.proofs.lemmas.Slice.Zip.{AllZip-long}
 use Rattle.std.proofs.lemmas.List.Elements.{All-contains, Contains-append_cases, Contains-append_left}
 use Rattle.gf_int.specs.Content.{scaled}
-use Rattle.gf_int.proofs.SignLaws.{zero-cancel, 0<-cancel, zero_product}
+use Rattle.gf_int.proofs.SignLaws.{zero-cancel, 0<-cancel, zero_product, mul_positive}
 use Rattle.gf_vec.specs.declared.error.VecOp.{VecOp}
 use Rattle.gf_vec.specs.declared.error.VecOp.TheVariants.{Add, Sub, Mul}
 use Rattle.gf_vec.specs.Vector.{dot, vector_sum, zeros, values, entry_at}
-use Rattle.gf_vec.specs.Steps.{value_of}
 use Rattle.gf_vec.specs.Primitive.{IsPrimitivePart}
 use Rattle.gf_vec.proofs.EntryLaws.{entry_times, all_zero, cancel}
-use Rattle.gf_vec.proofs.VectorLaws.{dot_comm, length-times}
+use Rattle.gf_vec.proofs.VectorLaws.{dot_comm, length-times, length-zeros}
 use Rattle.gf_gordan.specs.Alternative.{AreRows}
 use Rattle.gf_gordan.specs.Elimination.{row_at, size_at, signed_at}
 use Rattle.gf_gordan.specs.Sizes.{HaveEntriesUpTo}
-use Rattle.gf_gordan.specs.Steps.{IsWideStep, IsDotStep}
+use Rattle.gf_gordan.specs.Steps.{IsDotStep}
 use Rattle.gf_gordan.specs.declared.error.ConeOverflow.{ConeOverflow}
 use Rattle.gf_duality.specs.Combining.{IsMixStep, IsCombining, pair}
 use Rattle.gf_duality.specs.Generators.{unit_vectors}
@@ -37,8 +36,12 @@ use Rattle.gf_rays.specs.Splitting.{IsSplit, testing, pairing}
 use Rattle.gf_rays.proofs.EliminateLaws.{units_long, unit_long, dot_unit, unit_same, unit_other}
 use Rattle.gf_rays.proofs.PruneLaws.{of_pruned}
 use Rattle.gf_rays.proofs.ReachedLaws.{reached_state, chosen_in}
-use Rattle.gf_gordan.proofs.SizeLaws.{UpTo, sum_up, neg_up, difference_up, product_up, signum_up, not_wide, up_weaker, up_times, up_sum, up_divided, up_zeros, less_of, dot_up, no_dot_step}
+use Rattle.gf_gordan.proofs.SizeLaws.{UpTo, sum_up, neg_up, difference_up, product_up, up_weaker, up_times, up_sum, up_divided, up_zeros, less_of, dot_up}
 use Rattle.gf_rays.proofs.SplitLaws.{vector_in, of_vector}
+use Rattle.gf_duality.proofs.NullSpace.{right_columns}
+use Rattle.gf_duality.proofs.EchelonUnique.{no_widths}
+use Rattle.gf_gordan.proofs.ReducedSizes.{signed_up}
+use Rattle.gf_gordan.proofs.StepSizes.{no_wide, no_dot}
 
 -- each entry of each vector is at most b in absolute value
 pub record AreUpTo (b : ℕ) (xs : List (List ℤ)) : Type 0 where
@@ -70,11 +73,8 @@ square_le (suc k) = less_of (suc k) (suc k) (omega arith)
 pub turned_step : (b j : ℕ) → turned_bound b j ≤ turned_bound b (suc j)
 turned_step b j = let q = square_le (turned_bound b j) in omega (arith, q)
 
-pub above : (x y : ℕ) → 0 < x → 0 < y → 0 < x * y
-above x y h k = let q = less_of x y h in omega (arith, q, k)
-
 pub next_step : (n b m : ℕ) → 1 ≤ n → 1 ≤ b → 1 ≤ m → m ≤ next_bound n b m
-next_step n b m hn hb hm = let q = less_of (n * (b * m)) m (above n (b * m) (omega (arith, hn)) (above b m (omega (arith, hb)) (omega (arith, hm)))) in omega (arith, q)
+next_step n b m hn hb hm = let q = less_of (n * (b * m)) m (mul_positive n (b * m) (omega (arith, hn)) (mul_positive b m (omega (arith, hb)) (omega (arith, hm)))) in omega (arith, q)
 
 reached_one : (n b k : ℕ) → 1 ≤ n → 1 ≤ b → 1 ≤ reached_bound n b k
 reached_one n b zero hn hb = omega arith
@@ -85,9 +85,6 @@ reached_step n b k hn hb = next_step n b (reached_bound n b k) hn hb (reached_on
 
 -- ---- operations within bounds
 
-no_wide : (row : ℕ) (op : VecOp) (x y : ℤ) (s : ConeOverflow) (b : ℕ) → unsigned_abs (value_of op x y) ≤ b → b < 2 ^ 127 → IsWideStep row op x y s → ⊥
-no_wide row op x y s b h k w = not_wide (value_of op x y) b h k w.1
-
 no_mix : (row : ℕ) (op : VecOp) (a x b y : ℤ) (s : ConeOverflow) (p q u v : ℕ) → op ≢ Mul → unsigned_abs a ≤ p → unsigned_abs x ≤ q → unsigned_abs b ≤ u → unsigned_abs y ≤ v → p * q + u * v < 2 ^ 127 → IsMixStep row op a x b y s → ⊥
 no_mix row op a x b y s p q u v n ha hx hb hy room (inl w) = no_wide row Mul a x s (p * q) (product_up a x p q ha hx) (omega (arith, room)) w
 no_mix row op a x b y s p q u v n ha hx hb hy room (inr (inl w)) = no_wide row Mul b y s (u * v) (product_up b y u v hb hy) (omega (arith, room)) w
@@ -97,9 +94,6 @@ no_mix row Mul a x b y s p q u v n ha hx hb hy room (inr (inr w)) = absurd (n re
 
 pub no_combining : (row : ℕ) (op : VecOp) (a : ℤ) (xs : List ℤ) (b : ℤ) (ys : List ℤ) (s : ConeOverflow) (p q u v : ℕ) → op ≢ Mul → unsigned_abs a ≤ p → UpTo q xs → unsigned_abs b ≤ u → UpTo v ys → p * q + u * v < 2 ^ 127 → IsCombining row op a xs b ys s → ⊥
 no_combining row op a xs b ys s p q u v n ha hx hb hy room w = no_mix row op a (entry_at xs w.0) b (entry_at ys w.0) s p q u v n ha (hx.at w.0) hb (hy.at w.0) room w.2
-
-pub no_dot : (n a b row : ℕ) (xs ys : List ℤ) (s : ConeOverflow) → length xs ≤ n → UpTo a xs → UpTo b ys → n * (a * b) < 2 ^ 127 → IsDotStep row xs ys s → ⊥
-no_dot n a b row xs ys s l u v room w = no_dot_step n a b 0 (pos 0) xs ys _ l u v (omega arith) (omega (arith, room)) w.1
 
 abbrev IsNotMul : VecOp → Type 0
 IsNotMul Add = Unit {0}
@@ -113,9 +107,6 @@ not_add : Add ≢ Mul
 not_add e = subst IsNotMul e tt
 
 -- ---- elimination
-
-signed_up : (b : ℕ) (r : List ℤ) (j : ℕ) (t : List ℤ) → UpTo b t → unsigned_abs (signed_at r j t) ≤ b
-signed_up b r j t u = let q = product_up (int_signum (entry_at r j)) (entry_at t j) 1 b (signum_up (entry_at r j)) (u.at j) in omega (arith, q)
 
 turned_up : (b : ℕ) (r : List ℤ) (j : ℕ) (t u : List ℤ) → UpTo b r → UpTo b t → IsTurned r j t u → UpTo (b * b + b * b) u
 turned_up b r j t u ur ut d = up_divided (b * b + b * b) _ u d.0 d.1 (up_sum (b * b) (b * b) _ _ (up_times (size_at r j) b b t (ur.at j) ut) (up_times (neg_ℤ (signed_at r j t)) b b r (neg_up (signed_at r j t) b (signed_up b r j t ut)) ur))
@@ -313,12 +304,8 @@ dropped : (es : List (List ℤ)) (x : List ℤ) → drop (length es) (with_value
 dropped [] x = refl
 dropped (e ∷ es) x = dropped es x
 
-dropped_all : (es xs : List (List ℤ)) → map (drop (length es)) (map (with_values es) xs) ≡ xs
-dropped_all es [] = refl
-dropped_all es (x ∷ xs) = ap (λ y. y ∷ map (drop (length es)) (map (with_values es) xs)) (dropped es x) ∙ ap (λ l. x ∷ l) (dropped_all es xs)
-
 pub begin_rows : (m n j : ℕ) (es done left : List (List ℤ)) → length done ≡ 0 → IsEliminated m (columns n es) j done left → AreUnitary (map (drop (length es)) left)
-begin_rows m n j es done left z e = subst AreUnitary (sym (ap (map (drop (length es))) (none_eliminated m (columns n es) j done left z e) ∙ dropped_all es (unit_vectors n))) (units_unitary n)
+begin_rows m n j es done left z e = subst AreUnitary (sym (ap (map (drop (length es))) (none_eliminated m (columns n es) j done left z e) ∙ right_columns es (unit_vectors n))) (units_unitary n)
 
 none_done : (m n : ℕ) (done left : List (List ℤ)) → IsEliminated m (columns n []) 0 done left → length done ≡ 0
 none_done m n done left e = let q = elimination_counts m (columns n []) 0 done left e in omega (arith, q.0)
@@ -491,15 +478,12 @@ null_unitary n basis b =
 front_units : (n : ℕ) (rows : List (List ℤ)) (h : List ℤ) (whole : List (List ℤ)) → whole ≡ rows ++ h ∷ [] → ((x : List ℤ) → Contains whole x → IsUnitRow n x) → (x : List ℤ) → Contains rows x → IsUnitRow n x
 front_units n rows h whole e f x c = f x (subst (λ (l : List (List ℤ)). Contains l x) (sym e) (first_in rows h x c))
 
-no_rows : (n : ℕ) → AreRows n []
-no_rows n k d h = absurd (omega (arith, h))
-
 reached_unitary : (n : ℕ) (hs lin : List (List ℤ)) (rays : List Ray) → ((x : List ℤ) → Contains hs x → IsUnitRow n x) → IsReachedState n [] hs lin rays → BothUnitary lin (vectors_of rays)
 reached_unitary n hs lin rays f (begun basis k) = record { first = null_unitary n basis k; second = record { each = λ x c. absurd (none_in x c) } }
 reached_unitary n hs lin rays f (split before lines old middle out h whole e z k p g r) =
     let q = reached_unitary n before lin old (front_units n before h hs e f) r in
     let u = f h (sized_last before h hs e) in
-    let d = (reached_state n [] before lin old (no_rows n) r).described in
+    let d = (reached_state n [] before lin old (no_widths n) r).described in
     record {
       first = q.first;
       second = record {
@@ -516,7 +500,7 @@ reached_unitary n hs lin rays f (split before lines old middle out h whole e z k
 reached_unitary n hs lin rays f (lined before whole lines old next h l i all e k z r) =
     let q = reached_unitary n before whole old (front_units n before h hs e f) r in
     let u = f h (sized_last before h hs e) in
-    let d = (reached_state n [] before whole old (no_rows n) r).described in
+    let d = (reached_state n [] before whole old (no_widths n) r).described in
     let at = get_or whole i [] in
     let ci : Contains whole at = (i, k.inside, get_or_default whole i at [] k.inside) in
     let up : pos 0 <ℤ dot (get_or (unit_vectors n) u.place []) l = subst (λ o. pos 0 <ℤ dot o l) u.is k.up in
@@ -602,10 +586,6 @@ own_zero : (n : ℕ) → dot (zeros n) (zeros n) ≡ pos 0
 own_zero zero = refl
 own_zero (suc n) = let q = own_zero n in omega (arith, ints, q)
 
-zeros_long : (n : ℕ) → length (zeros n) ≡ n
-zeros_long zero = refl
-zeros_long (suc n) = ap suc (zeros_long n)
-
 orthogonal_none : (n : ℕ) (lin out : List (List ℤ)) → ((x : List ℤ) → Contains lin x → x ≡ zeros n) → IsOrthogonalized lin out → length out ≡ 0
 orthogonal_none n lin out z start = refl
 orthogonal_none n lin out z (added before old x w whole all e f r s up) =
@@ -636,7 +616,7 @@ no_orthogonalizing row n lin s z k =
       | inl t ↦ let q = append_long t.before t.after t.y in omega (arith, o, q, ap length t.parts)
       | inr t ↦
           let q : t.0 ≡ zeros n = straight_none k.out k.x t.0 o t.1.0 ∙ z k.x (subst (λ (l : List (List ℤ)). Contains l k.x) (sym k.parts) (middle_in k.before k.after k.x)) in
-          no_dot n 0 0 row (zeros n) (zeros n) s (omega (arith, zeros_long n)) (up_zeros 0 n) (up_zeros 0 n) (omega arith) (subst (λ v. IsDotStep row v v s) q t.1.1)
+          no_dot n 0 0 row (zeros n) (zeros n) s (omega (arith, length-zeros n)) (up_zeros 0 n) (up_zeros 0 n) (omega arith) (subst (λ v. IsDotStep row v v s) q t.1.1)
     ]
 
 turned_none : (j : ℕ) → turned_bound 0 j ≡ 0

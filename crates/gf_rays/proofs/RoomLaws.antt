@@ -1,7 +1,7 @@
 -- Where bounds on the rows have room, no operation of finding the rays leaves the range, whatever the equations and the lineality space.
 use Rattle.std.proofs.Common.{◌≡◌, ℕ, zero, suc, ◌+◌, ◌*◌, ◌^◌, ◌<◌, ◌≤◌, ◌-◌, List, [], ◌∷◌, ◌++◌, length, ℤ, neg_ℤ, ◌⊎◌, arith, sym, refl, ap, ◌∙◌, subst, inl, inr, get_or, map, drop, remove, length-append, unsigned_abs, All, Contains, Bool, true, false, ◌&&◌, cond}
 use Rattle.std.proofs.Math.Nat.{mul-le-mul_left}
-use Rattle.std.proofs.lemmas.Bool.{ltb-true}
+use Rattle.std.proofs.lemmas.Bool.{ltb-true, and_parts, true_from_ne_false}
 use Rattle.std.proofs.lemmas.List.{get_or_default, length-map}
 use Rattle.std.proofs.lemmas.List.Edits.{length-remove}
 use Rattle.std.proofs.lemmas.List.Elements.{All-contains, Contains-append_cases}
@@ -18,7 +18,7 @@ use Rattle.gf_duality.specs.Rays.{IsZeroOn}
 use Rattle.gf_duality.specs.Elimination.{IsEliminated, IsNormalised, IsNullSpace, IsNullStep, eliminating, reducing, with_values, columns}
 use Rattle.gf_duality.specs.Straightening.{IsLeveled, IsStraightened, done as straight_done, next as straight_next, IsOrthogonalized, start, added, gone, IsStraightening, IsOrthogonalizing}
 use Rattle.gf_duality.proofs.ListLaws.{none_in, snoc_cases, first_in, zip_from, all_by, place, less, at, more}
-use Rattle.gf_duality.proofs.Orthogonal.{basis as orthogonal_basis, straightened}
+use Rattle.gf_duality.proofs.Orthogonal.{basis as orthogonal_basis, straightened, head_in}
 use Rattle.gf_fans.proofs.PartNumbers.{of_map}
 use Rattle.gf_rays.specs.declared.ray.Ray.{Ray}
 use Rattle.gf_rays.specs.Limits.{turned_bound, next_bound, along_bound, straight_bound, orthogonal_bound, fits, rows_fit, starts_fit, has_room, SystemsWithRoomStayWithinLimits, SmallSystemsHaveRoom}
@@ -28,8 +28,10 @@ use Rattle.gf_rays.specs.Splitting.{IsSplit}
 use Rattle.gf_rays.proofs.EliminateLaws.{units_long, dot_unit}
 use Rattle.gf_rays.proofs.PruneLaws.{of_pruned}
 use Rattle.gf_rays.proofs.ReachedLaws.{reached_state, chosen_in}
-use Rattle.gf_rays.proofs.SplitLaws.{vector_in, of_vector, both_of}
-use Rattle.gf_rays.proofs.ReachedSizes.{AreUpTo, BothUpTo, mono, turned_step, next_step, above, no_dot, no_combining, not_sub, eliminated_up, elimination_counts, no_elimination, begin_rows, normal_up, unitary_eliminated, unitary_up, units_unitary, entry_up, sized_last, snoc_long, split_up, lined_up, no_row_step, room_below, middle_in, front_in}
+use Rattle.gf_rays.proofs.SplitLaws.{vector_in, of_vector}
+use Rattle.gf_rays.proofs.ReachedSizes.{AreUpTo, BothUpTo, mono, turned_step, next_step, no_combining, not_sub, eliminated_up, elimination_counts, no_elimination, begin_rows, normal_up, unitary_eliminated, unitary_up, units_unitary, entry_up, sized_last, snoc_long, split_up, lined_up, no_row_step, room_below, middle_in, front_in}
+use Rattle.gf_gordan.proofs.StepSizes.{no_dot}
+use Rattle.gf_int.proofs.SignLaws.{mul_positive}
 
 -- ---- along vectors, to be orthogonal to them
 
@@ -40,7 +42,7 @@ more_by : (y c : ℕ) → 1 ≤ c → y ≤ y * c
 more_by y c h = let q = mul-le-mul_left y h in omega (arith, q)
 
 along_step : (n o v : ℕ) → 1 ≤ n → 1 ≤ o → v ≤ along_bound n o v
-along_step n o v hn ho = let q = less_of (n * (o * o)) v (above n (o * o) (omega (arith, hn)) (above o o (omega (arith, ho)) (omega (arith, ho)))) in omega (arith, q)
+along_step n o v hn ho = let q = less_of (n * (o * o)) v (mul_positive n (o * o) (omega (arith, hn)) (mul_positive o o (omega (arith, ho)) (omega (arith, ho)))) in omega (arith, q)
 
 straight_step : (n o v k : ℕ) → 1 ≤ n → 1 ≤ o → straight_bound n o k v ≤ straight_bound n o (suc k) v
 straight_step n o v k hn ho = along_step n o (straight_bound n o k v) hn ho
@@ -81,9 +83,6 @@ wide_tail n b y ys whole e w = record {
   long = λ t c. w.long t (subst (λ (l : List (List ℤ)). Contains l t) (sym e) (suc c.0, omega (arith, c.1), c.2));
   small = record { each = λ t c. w.small.each t (subst (λ (l : List (List ℤ)). Contains l t) (sym e) (suc c.0, omega (arith, c.1), c.2)) };
 }
-
-head_in : (y : List ℤ) (ys whole : List (List ℤ)) → whole ≡ y ∷ ys → Contains whole y
-head_in y ys whole e = subst (λ (l : List (List ℤ)). Contains l y) (sym e) (0, omega arith, refl)
 
 straight_up : (n o v : ℕ) (ys : List (List ℤ)) (x w : List ℤ) → 1 ≤ n → 1 ≤ o → AreWide n o ys → UpTo v x → IsStraightened ys x w → UpTo (straight_bound n o (length ys) v) w
 straight_up n o v ys x w hn ho wy ux (straight_done u) = ux
@@ -281,7 +280,7 @@ one_turned b j h = let q = turned_mono b 0 j (omega arith) in omega (arith, q, h
 start_at : (n b k p c : ℕ) → starts_fit n b k p ≡ true → c ≤ n → n ≤ c + p → (rows_fit n b k false c (turned_bound b n) ≡ true) ⊎ ((c ≡ n) × (rows_fit n b k false c 1 ≡ true))
 start_at n b k zero c h l g = inr (omega (arith, l, g), subst (λ d. rows_fit n b k false d 1 ≡ true) (let e : n ≡ c = omega (arith, l, g) in e) h)
 start_at n b k (suc p) c h l g =
-    let t = both_of (rows_fit n b k false (n - suc p) (turned_bound b n)) (starts_fit n b k p) h in
+    let t = and_parts (rows_fit n b k false (n - suc p) (turned_bound b n)) (starts_fit n b k p) h in
     elim (nearer n c p l g) [
       | inl e ↦ inl (subst (λ d. rows_fit n b k false d (turned_bound b n) ≡ true) (sym e) t.0)
       | inr f ↦ start_at n b k p c t.1 l f
@@ -307,8 +306,8 @@ record HasNextRoom (n b k : ℕ) (some : Bool) (c m : ℕ) : Type 0 where
 
 next_room : (n b k j : ℕ) (some : Bool) (c m : ℕ) → j ≡ suc k → rows_fit n b j some c m ≡ true → HasNextRoom n b k some c m
 next_room n b k j some c m e h =
-    let t = both_of (fits (next_bound n b m)) (rows_fit n b k some c (cond some (next_bound n b m) m) && rows_fit n b k true (c - 1) (next_bound n b m)) (subst (λ i. rows_fit n b i some c m ≡ true) e h) in
-    let u = both_of (rows_fit n b k some c (cond some (next_bound n b m) m)) (rows_fit n b k true (c - 1) (next_bound n b m)) t.1 in
+    let t = and_parts (fits (next_bound n b m)) (rows_fit n b k some c (cond some (next_bound n b m) m) && rows_fit n b k true (c - 1) (next_bound n b m)) (subst (λ i. rows_fit n b i some c m ≡ true) e h) in
+    let u = and_parts (rows_fit n b k some c (cond some (next_bound n b m) m)) (rows_fit n b k true (c - 1) (next_bound n b m)) t.1 in
     record { next = below_fits (next_bound n b m) t.0; stays = u.0; goes = u.1 }
 
 before_last : (count : ℕ) (before : List (List ℤ)) (h : List ℤ) (whole : List (List ℤ)) → whole ≡ before ++ h ∷ [] → length whole ≤ count → count - length before ≡ suc (count - length whole)
@@ -369,17 +368,13 @@ record EndsFit (n : ℕ) (some : Bool) (c m : ℕ) : Type 0 where
 ends_room : (n b j : ℕ) (some : Bool) (c m : ℕ) → j ≡ 0 → rows_fit n b j some c m ≡ true → EndsFit n some c m
 ends_room n b j some c m e h =
     let w = orthogonal_bound n m c in
-    let t = both_of (fits (n * (w * w))) (cond some (fits (straight_bound n w c m)) true && fits (turned_bound m c)) (subst (λ i. rows_fit n b i some c m ≡ true) e h) in
-    let u = both_of (cond some (fits (straight_bound n w c m)) true) (fits (turned_bound m c)) t.1 in
+    let t = and_parts (fits (n * (w * w))) (cond some (fits (straight_bound n w c m)) true && fits (turned_bound m c)) (subst (λ i. rows_fit n b i some c m ≡ true) e h) in
+    let u = and_parts (cond some (fits (straight_bound n w c m)) true) (fits (turned_bound m c)) t.1 in
     record {
       own = below_fits (n * (w * w)) t.0;
       along = λ q. below_fits (straight_bound n w c m) (subst (λ x. cond x (fits (straight_bound n w c m)) true ≡ true) q u.0);
       turned = below_fits (turned_bound m c) u.1;
     }
-
-of_some : (b : Bool) → (b ≡ false → ⊥) → b ≡ true
-of_some true h = refl
-of_some false h = absurd (h refl)
 
 wide_rows : (n b : ℕ) (rows : List (List ℤ)) → AreWide n b rows → AreRows n rows
 wide_rows n b rows w = all_by (λ t. length t ≡ n) rows w.long
@@ -388,7 +383,7 @@ no_step : (n b : ℕ) (hs es : List (List ℤ)) (s : ConeOverflow) → 1 ≤ n �
 no_step n b hs es s hn hb wh we room k = by_step k
   where
     parts : (fits (turned_bound b n) ≡ true) × (starts_fit n b (length hs) n ≡ true)
-    parts = both_of (fits (turned_bound b n)) (starts_fit n b (length hs) n) room
+    parts = and_parts (fits (turned_bound b n)) (starts_fit n b (length hs) n) room
 
     turns : turned_bound b n < 2 ^ 127
     turns = below_fits (turned_bound b n) parts.0
@@ -423,7 +418,7 @@ no_step n b hs es s hn hb wh we room k = by_step k
         let m = q.0.bound in
         let w = orthogonal_bound n m (length lin) in
         let t = orthogonal_up n m lin ortho hn (wide_lin lin rays r) o in
-        let some : q.0.some ≡ true = of_some q.0.some (λ e. q.0.empty e y c) in
+        let some : q.0.some ≡ true = true_from_ne_false q.0.some (λ e. q.0.empty e y c) in
         let fits_along = q.1.along some in
         let short : straight_bound n w (length ortho) m ≤ straight_bound n w (length lin) m = straight_mono n w m (length ortho) (length lin) hn (orthogonal_one n m (length lin)) t.fewer in
         no_straightening (length hs + length es) n w m ortho y.vector s hn (orthogonal_one n m (length lin)) q.0.one (orthogonal_wide n m lin ortho (wide_lin lin rays r) o t.small) (q.0.up.second.each y.vector (vector_in rays y c)) (omega (arith, short, fits_along)) d

@@ -34,6 +34,7 @@ use Rattle.gf_facets.specs.InitialIdeals.{monomial}
 use Rattle.gf_facets.proofs.RegionLaws.{dot-itself}
 use Rattle.gf_bases.proofs.ContainmentLaws.{divisible_monomial}
 use Rattle.gf_initial.specs.Crossings.{HaveParts}
+use Rattle.gf_initial.proofs.MonomialIdealLaws.{monomial-off}
 
 -- ---- multiples of a
 steps_sum : (j k : ℕ) (c : ℤ) → pos (j + k) *ℤ c ≡ pos j *ℤ c +ℤ pos k *ℤ c
@@ -55,9 +56,6 @@ steps-more j k a x u h t p q i =
 
 coefficient-at : (x y : Exponents) → same y x ≡ true → coefficient (monomial x) y ≡ one_ℚ
 coefficient-at x y s = ap (λ b. (if b then one_ℚ else zero_ℚ) +ℚ zero_ℚ) s ∙ +ℚ-zero one_ℚ
-
-coefficient-off : (x y : Exponents) → same y x ≡ false → coefficient (monomial x) y ≡ zero_ℚ
-coefficient-off x y s = ap (λ b. (if b then one_ℚ else zero_ℚ) +ℚ zero_ℚ) s ∙ +ℚ-zero zero_ℚ
 
 pub along_divisible : (by : MarkedPolynomial → Type 0) (x y : Exponents) → same x y ≡ true → IsDivisible by x → IsDivisible by y
 along_divisible by x y s d = record { member = d.member; contained = d.contained; rest = d.rest; divides = same_trans y x _ (same_flip x y s) d.divides }
@@ -101,7 +99,7 @@ what_enters_pulls n a bs cs x h r out enters =
       where
         same_case : (b : Bool) → same y x ≡ b → B y
         same_case true s = along_b x y (same_flip y x s) ((0, steps-none a x), r)
-        same_case false s = absurd (m (coefficient-off x y s))
+        same_case false s = absurd (m (monomial-off x y s))
 
     at : Divided h.there B (monomial x) → IsPulledOut a bs cs x
     at q = found (divisible_monomial h.here f)
@@ -147,7 +145,7 @@ what_enters_pulls n a bs cs x h r out enters =
             }
               where
                 remains : HasMonomial q.remainder y.0
-                remains z = y.1 (sym (zero-+ℚ _) ∙ ap (λ w. w +ℚ coefficient f y.0) (sym z) ∙ sym (q.equal y.0) ∙ coefficient-off x y.0 s)
+                remains z = y.1 (sym (zero-+ℚ _) ∙ ap (λ w. w +ℚ coefficient f y.0) (sym z) ∙ sym (q.equal y.0) ∙ monomial-off x y.0 s)
 
                 positive : (k : ℕ) → IsStepsFrom k a x y.0 → 0 < k
                 positive zero p = absurd (let e : same y.0 x ≡ true = same_by_entries y.0 x (λ i. omega (arith, ints, p i)) in cc)

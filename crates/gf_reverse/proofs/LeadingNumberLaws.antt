@@ -27,19 +27,12 @@ use Rattle.gf_reverse.proofs.StepsLaws.{below_by_negative}
 use Rattle.gf_reverse.proofs.CrossingLaws.{IsPulledOut, Enters, what_enters_pulls, something_enters, along_divisible}
 use Rattle.gf_reverse.proofs.NumberLaws.{Turns, binary_falls}
 use Rattle.gf_reverse.proofs.WeightListLaws.{below-is, among_below, below-ascends}
+use Rattle.std.proofs.lemmas.Bool.{or_right, or_left}
 
 -- ---- the test of a mark
 either : (b c : Bool) → (b || c) ≡ true → (b ≡ true) ⊎ (c ≡ true)
 either true c e = inl refl
 either false c e = inr e
-
-either_left : (b c : Bool) → b ≡ true → (b || c) ≡ true
-either_left true c e = refl
-either_left false c e = absurd (cc)
-
-either_right : (b c : Bool) → c ≡ true → (b || c) ≡ true
-either_right true c e = refl
-either_right false c e = e
 
 led-divisible : (bs : List MarkedPolynomial) (x : Exponents) → is_led bs x ≡ true → IsDivisible (Contains bs) x
 led-divisible [] x e = absurd (cc)
@@ -58,8 +51,8 @@ divisible-led (b ∷ bs) x d = at (Contains-cases b d.member bs d.contained) (di
     quotient u h s = same_by_entries x (plus (minus x h) h) (λ i. omega (arith, entries_same x (plus u h) s i, entry-plus u h i, entry-plus (minus x h) h i, entry-minus x h i))
 
     at : (b ≡ d.member) ⊎ Contains bs d.member → (IsDivisible (Contains bs) x → is_led bs x ≡ true) → is_led (b ∷ bs) x ≡ true
-    at (inl e) rec = either_left _ _ (quotient d.rest b.head (subst (λ (c : MarkedPolynomial). same x (plus d.rest c.head) ≡ true) (sym e) d.divides))
-    at (inr k) rec = either_right _ _ (rec (record { member = d.member; contained = k; rest = d.rest; divides = d.divides }))
+    at (inl e) rec = or_left _ _ (quotient d.rest b.head (subst (λ (c : MarkedPolynomial). same x (plus d.rest c.head) ≡ true) (sym e) d.divides))
+    at (inr k) rec = or_right _ _ (rec (record { member = d.member; contained = k; rest = d.rest; divides = d.divides }))
 
 undivided-led : (bs : List MarkedPolynomial) (x : Exponents) → (IsDivisible (Contains bs) x → ⊥) → is_led bs x ≡ false
 undivided-led bs x n = at (is_led bs x) refl

@@ -38,6 +38,7 @@ use Rattle.gf_bases.proofs.ExistenceLaws.{homogeneous_in_ring}
 use Rattle.gf_bases.proofs.ReducedFormLaws.{reduced_form}
 use Rattle.gf_bases.proofs.RunLaws.{basis_exists}
 use Rattle.gf_reverse.specs.TermOrders.{below_by, TermOrdersHaveBases}
+use Rattle.gf_exponents.proofs.SixOrdersLaws.{entry-variable, variable}
 
 -- ---- powers
 
@@ -381,15 +382,6 @@ weight-trimmed (a ∷ w) [] = ap (λ z. a *ℤ pos 0 +ℤ z) (weight-trimmed w [
 weight-trimmed (a ∷ w) (b ∷ x) = ap (λ z. a *ℤ pos b +ℤ z) (weight-trimmed w x)
 
 -- ---- the trade of a term order for a weight
-
--- the i-th variable
-abbrev variable : ℕ → Exponents
-variable zero = 1 ∷ []
-variable (suc i) = 0 ∷ variable i
-
-entry-variable : (i : ℕ) → entry (variable i) i ≡ 1
-entry-variable zero = refl
-entry-variable (suc i) = entry-variable i
 
 variable_past : (n i j : ℕ) → i < n → n ≤ j → entry (variable i) j ≡ 0
 variable_past n zero zero l m = absurd (omega arith)

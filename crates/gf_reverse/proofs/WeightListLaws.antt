@@ -24,7 +24,7 @@ among-left (z ∷ xs) ys x (inl e) = inl e
 among-left (z ∷ xs) ys x (inr j) = inr (among-left xs ys x j)
 among-left [] ys x j = elim j [ ]
 
-among-right : {X : Type 0} (xs ys : List X) (x : X) → Among ys x → Among (xs ++ ys) x
+pub among-right : {X : Type 0} (xs ys : List X) (x : X) → Among ys x → Among (xs ++ ys) x
 among-right [] ys x j = j
 among-right (z ∷ xs) ys x j = inr (among-right xs ys x j)
 

@@ -14,7 +14,8 @@ use Rattle.gf_ideal.proofs.SpanLaws.{Spans-equal, Spans-zero, Spans-++, Spans-ti
 use Rattle.gf_ideal.proofs.MembershipLaws.{variables-times, spans_of_member, member_of_spans, member-equal, member-times}
 use Rattle.gf_saturation.specs.Saturations.{powered, product_power, IsSaturatedBy, IsSaturated, next_variable, one_polynomial}
 use Rattle.gf_saturation.proofs.SubstitutionLaws.{entry-product_power, ring-product_power, next-here, next-below, ring-next, ring-powered}
-use Rattle.gf_saturation.proofs.SaturationLaws.{times_same, times_twice, saturated_twice, saturated_same, product_powers}
+use Rattle.gf_saturation.proofs.SaturationLaws.{times_same, saturated_twice, saturated_same, product_powers}
+use Rattle.gf_ideal.proofs.SettledLaws.{twice}
 
 -- ---- by no variable
 
@@ -74,7 +75,7 @@ pub saturated_all : (n k : ℕ) (fs : List Terms) (f : Terms) → k ≤ n → Ar
 saturated_all n k fs f l v w s = record {
   power = p;
   member = member-equal n fs (times one_ℚ d (times one_ℚ u f)) (times one_ℚ (product_power n p) f)
-      (λ e. ap (λ g. coefficient g e) (sym (times_twice d u f)) ∙ times_same one_ℚ (plus d u) (product_power n p) f meets e)
+      (λ e. ap (λ g. coefficient g e) (sym (twice d u f)) ∙ times_same one_ℚ (plus d u) (product_power n p) f meets e)
       (member-times n fs (times one_ℚ u f) one_ℚ d d_ring all);
 }
   where

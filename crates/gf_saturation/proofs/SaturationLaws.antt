@@ -10,7 +10,7 @@ use Rattle.gf_exponents.specs.Exponents.{Exponents, entry, same, plus, IsInRing}
 use Rattle.gf_exponents.proofs.ExponentsLaws.{same-sym, same_along, same_flip, same_shift_right, same_by_entries, entries_same, entry-plus, plus-nil, plus_assoc, plus_comm}
 use Rattle.gf_poly.specs.declared.Term.{Term}
 use Rattle.gf_poly.specs.Polynomial.{Terms, coefficient, SamePolynomial, times}
-use Rattle.gf_poly.proofs.PolynomialLaws.{coefficient-++, coefficient-times, SamePolynomial-times, times-times, times-plain}
+use Rattle.gf_poly.proofs.PolynomialLaws.{coefficient-++, coefficient-times, SamePolynomial-times, times-plain}
 use Rattle.gf_ideal.specs.Membership.{IsInVariables, AreInVariables, IsMember, Spans}
 use Rattle.gf_ideal.proofs.Identities.{neg_one, turned}
 use Rattle.gf_ideal.proofs.RingLaws.{ring-along, ring-plus}
@@ -20,6 +20,7 @@ use Rattle.gf_ideal.proofs.MembershipLaws.{variables-times, variables-equal, var
 use Rattle.gf_saturation.specs.Saturations.{powered, product_power, IsSaturatedBy, IsSaturated, next_variable, rabinowitsch, AreExtended}
 use Rattle.gf_saturation.proofs.SubstitutionLaws.{mapped, mapped-++, mapped_same, cut, inverted, inverted-keeps, inverted_multiple, inverted_trick, ring-powered, ring-next}
 use Rattle.gf_poly.proofs.MergeLaws.{swap_first}
+use Rattle.gf_ideal.proofs.SettledLaws.{twice}
 
 -- ---- in how many variables
 
@@ -52,9 +53,6 @@ times_same c u w [] h e = refl
 times_same c u w (t ∷ f) h e =
     ap (λ b. (if b then c *ℚ t.coef else zero_ℚ) +ℚ coefficient (times c u f) e) (same-sym e (plus u t.mono) ∙ same_along (plus u t.mono) (plus w t.mono) e (same_shift_right t.mono u w h) ∙ same-sym (plus w t.mono) e)
     ∙ ap (λ z. (if same e (plus w t.mono) then c *ℚ t.coef else zero_ℚ) +ℚ z) (times_same c u w f h e)
-
-pub times_twice : (u w : Exponents) (f : Terms) → times one_ℚ (plus u w) f ≡ times one_ℚ u (times one_ℚ w f)
-times_twice u w f = ap (λ c. times c (plus u w) f) (sym (one-*ℚ one_ℚ)) ∙ times-times one_ℚ one_ℚ u w f
 
 -- ---- from the saturation to the extended ideal
 
@@ -124,7 +122,7 @@ lifted_one n u gs f r s = Spans-equal gs (times one_ℚ m f ++ times (neg_ℚ on
 -- so does a power of it
 lifted : (n : ℕ) (u : Exponents) (gs : List Terms) (k : ℕ) (f : Terms) → Spans gs (rabinowitsch n u) → Spans gs (times one_ℚ (powered k (plus u (next_variable n))) f) → Spans gs f
 lifted n u gs zero f r s = Spans-equal gs (times one_ℚ [] f) f (λ e. ap (λ z. coefficient z e) (times-plain f)) s
-lifted n u gs (suc k) f r s = lifted n u gs k f r (lifted_one n u gs (times one_ℚ (powered k m) f) r (Spans-equal gs (times one_ℚ (plus m (powered k m)) f) (times one_ℚ m (times one_ℚ (powered k m) f)) (λ e. ap (λ z. coefficient z e) (times_twice m (powered k m) f)) s))
+lifted n u gs (suc k) f r s = lifted n u gs k f r (lifted_one n u gs (times one_ℚ (powered k m) f) r (Spans-equal gs (times one_ℚ (plus m (powered k m)) f) (times one_ℚ m (times one_ℚ (powered k m) f)) (λ e. ap (λ z. coefficient z e) (twice m (powered k m) f)) s))
   where
     m : Exponents
     m = plus u (next_variable n)
@@ -155,7 +153,7 @@ extended_of_saturated n u fs gs f h v x s = member_of_spans (suc n) gs f (extend
 
     equal : SamePolynomial (times one_ℚ (powered k t) (times one_ℚ (powered k u) f)) (times one_ℚ (powered k (plus u t)) f)
     equal e =
-        ap (λ z. coefficient z e) (sym (times_twice (powered k t) (powered k u) f) ∙ ap (λ y. times one_ℚ y f) (plus_comm (powered k t) (powered k u)))
+        ap (λ z. coefficient z e) (sym (twice (powered k t) (powered k u) f) ∙ ap (λ y. times one_ℚ y f) (plus_comm (powered k t) (powered k u)))
         ∙ times_same one_ℚ (plus (powered k u) (powered k t)) (powered k (plus u t)) f (same_flip (powered k (plus u t)) (plus (powered k u) (powered k t)) (powered-plus k u t)) e
 
 -- ---- from the extended ideal to the saturation
@@ -231,7 +229,7 @@ powered-sum (suc j) k u = let e : suc (j + k) ≡ suc j + k = omega arith in plu
 -- more of the power
 more_power : (n : ℕ) (u : Exponents) (fs : List Terms) (f : Terms) (j k : ℕ) → IsInRing n u → IsMember n fs (times one_ℚ (powered k u) f) → IsMember n fs (times one_ℚ (powered (j + k) u) f)
 more_power n u fs f j k r m = member-equal n fs (times one_ℚ (powered j u) (times one_ℚ (powered k u) f)) (times one_ℚ (powered (j + k) u) f)
-    (λ e. ap (λ z. coefficient z e) (sym (times_twice (powered j u) (powered k u) f) ∙ ap (λ y. times one_ℚ y f) (powered-sum j k u)))
+    (λ e. ap (λ z. coefficient z e) (sym (twice (powered j u) (powered k u) f) ∙ ap (λ y. times one_ℚ y f) (powered-sum j k u)))
     (member-times n fs (times one_ℚ (powered k u) f) one_ℚ (powered j u) (ring-powered n j u r) m)
 
 pub saturated_twice : (n : ℕ) (u v : Exponents) (fs gs : List Terms) → IsInRing n u → IsInRing n v → ((f : Terms) → IsMember n gs f ↔ IsSaturatedBy n fs v f) →
@@ -249,8 +247,8 @@ saturated_twice n u v fs gs ru rv eq f = (to, from)
               power = k + j;
               member = member-equal n fs (times one_ℚ (powered k u) (times one_ℚ (powered (j + k) v) (times one_ℚ (powered j u) f))) (times one_ℚ (powered (k + j) (plus u v)) f)
                   (λ e.
-                  ap (λ z. coefficient (times one_ℚ (powered k u) z) e) (sym (times_twice (powered (j + k) v) (powered j u) f))
-                  ∙ ap (λ z. coefficient z e) (sym (times_twice (powered k u) (plus (powered (j + k) v) (powered j u)) f))
+                  ap (λ z. coefficient (times one_ℚ (powered k u) z) e) (sym (twice (powered (j + k) v) (powered j u) f))
+                  ∙ ap (λ z. coefficient z e) (sym (twice (powered k u) (plus (powered (j + k) v) (powered j u)) f))
                   ∙ times_same one_ℚ (plus (powered k u) (plus (powered (j + k) v) (powered j u))) (powered (k + j) (plus u v)) f
                   (same_by_entries (plus (powered k u) (plus (powered (j + k) v) (powered j u))) (powered (k + j) (plus u v)) (λ i.
                   omega (
@@ -278,7 +276,7 @@ saturated_twice n u v fs gs ru rv eq f = (to, from)
         member = member-equal n fs (times one_ℚ (powered s.power (plus u v)) f) (times one_ℚ (powered s.power v) (times one_ℚ (powered s.power u) f))
             (λ e.
             times_same one_ℚ (powered s.power (plus u v)) (plus (powered s.power u) (powered s.power v)) f (powered-plus s.power u v) e
-            ∙ ap (λ z. coefficient z e) (ap (λ y. times one_ℚ y f) (plus_comm (powered s.power u) (powered s.power v)) ∙ times_twice (powered s.power v) (powered s.power u) f))
+            ∙ ap (λ z. coefficient z e) (ap (λ y. times one_ℚ y f) (plus_comm (powered s.power u) (powered s.power v)) ∙ twice (powered s.power v) (powered s.power u) f))
             s.member;
       });
     }

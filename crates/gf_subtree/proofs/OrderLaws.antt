@@ -19,6 +19,7 @@ use Rattle.gf_waves.specs.Wave.{IsWaved, IsExpansion, ExpandsOn, IsAsked, IsGive
 use Rattle.gf_waves.proofs.WaveLaws.{over_leaves}
 use Rattle.gf_subtree.specs.Rows.{AreAmong, LeaveInOrder}
 use Rattle.gf_subtree.proofs.RowLaws.{among_both, one_among}
+use Rattle.gf_reverse.proofs.WeightListLaws.{among-right}
 
 -- ---- nodes in order
 
@@ -30,10 +31,6 @@ AreSorted {N} early (x ∷ xs) = early x x × ((y : N) → Among xs y → early 
 pub sorted_right : {N : Type 0} (early : N → N → Type 0) (xs ys : List N) → AreSorted early (xs ++ ys) → AreSorted early ys
 sorted_right early [] ys s = s
 sorted_right early (x ∷ xs) ys s = sorted_right early xs ys s.2
-
-among_behind : {N : Type 0} (xs ys : List N) (x : N) → Among ys x → Among (xs ++ ys) x
-among_behind [] ys x j = j
-among_behind (y ∷ xs) ys x j = inr (among_behind xs ys x j)
 
 first_early : {N : Type 0} (early : N → N → Type 0) (v : N) (rest : List N) → AreSorted early (v ∷ rest) → (x : N) → Among (v ∷ rest) x → early v x
 first_early early v rest s x (inl e) = subst (early v) e s.0
@@ -97,10 +94,10 @@ module _ {T N L E : Type 0} (lt : L → L → Type 0) (up : T → N → L → N 
       (l.0, l.1, arrange later ps l.0 l.2 (subst (AreSorted early) whole s).2 (are_fewer (nodes ++ later) (l.0 ++ later) ps (λ x j. subst (λ z. Among z x) (sym whole) (inr j)) f))
   arrange later (Under w ∷ ps) nodes l s f =
       let whole : nodes ++ later ≡ l.0 ++ (l.1 ++ later) = over_both later nodes l.0 l.1 l.2 in
-      (l.0, l.1, l.2, l.3, fine_early (nodes ++ later) l.0 (l.1 ++ later) w whole l.3 s f.0, arrange later ps l.1 l.4 (sorted_right early l.0 (l.1 ++ later) (subst (AreSorted early) whole s)) (are_fewer (nodes ++ later) (l.1 ++ later) ps (λ x j. subst (λ z. Among z x) (sym whole) (among_behind l.0 (l.1 ++ later) x j)) f.1))
+      (l.0, l.1, l.2, l.3, fine_early (nodes ++ later) l.0 (l.1 ++ later) w whole l.3 s f.0, arrange later ps l.1 l.4 (sorted_right early l.0 (l.1 ++ later) (subst (AreSorted early) whole s)) (are_fewer (nodes ++ later) (l.1 ++ later) ps (λ x j. subst (λ z. Among z x) (sym whole) (among-right l.0 (l.1 ++ later) x j)) f.1))
   arrange later (Refused w e ∷ ps) nodes l s f =
       let whole : nodes ++ later ≡ l.0 ++ (l.1 ++ later) = over_both later nodes l.0 l.1 l.2 in
-      (l.0, l.1, l.2, l.3, fine_early (nodes ++ later) l.0 (l.1 ++ later) w whole l.3 s f.0, arrange later ps l.1 l.4 (sorted_right early l.0 (l.1 ++ later) (subst (AreSorted early) whole s)) (are_fewer (nodes ++ later) (l.1 ++ later) ps (λ x j. subst (λ z. Among z x) (sym whole) (among_behind l.0 (l.1 ++ later) x j)) f.1))
+      (l.0, l.1, l.2, l.3, fine_early (nodes ++ later) l.0 (l.1 ++ later) w whole l.3 s f.0, arrange later ps l.1 l.4 (sorted_right early l.0 (l.1 ++ later) (subst (AreSorted early) whole s)) (are_fewer (nodes ++ later) (l.1 ++ later) ps (λ x j. subst (λ z. Among z x) (sym whole) (among-right l.0 (l.1 ++ later) x j)) f.1))
 
   order_both : (later : List N) (ps qs : List (Piece T N L E)) (front back : List N) → Orders (back ++ later) ps front → Orders later qs back → Orders later (ps ++ qs) (front ++ back)
   order_both later [] qs front back a b = subst (λ f. Orders later qs (f ++ back)) (sym a) b

@@ -7,5 +7,5 @@ pub mod PrimitiveLaws  -- primitive vectors, and that two on one ray are one
 pub mod StepLaws  -- the first operation that leaves the range
 pub mod WeightLaws  -- the weight of an exponent list, one entry further
 mod RootSignLaws  -- the sum of the entries, one entry further
-mod DotSteps  -- a dot product and its steps, one entry further
+pub mod DotSteps  -- a dot product and its steps, one entry further
 pub mod SumLaws  -- sums and negatives in place, one entry further

@@ -23,10 +23,7 @@ use Rattle.gf_cone.specs.Cones.{ConeRows, all_rows, other_rows}
 use Rattle.gf_cone.specs.Crossing.{IsCrossable}
 use Rattle.gf_cone.proofs.CrossingLaws.{in_all, solution_of_shown}
 use Rattle.gf_weights.specs.Cuts.{HasRaysOf, IsZeroAt, HasRayOff, HasRayOffOthers}
-
--- the row at a place is one of them
-row_in : (rows : List (List ℤ)) (k : ℕ) → k < length rows → Contains rows (get_or rows k [])
-row_in rows k l = (k, l, get_or_default rows k (get_or rows k []) [] l)
+use Rattle.gf_rays.proofs.FacetLaws.{row_in}
 
 -- that at another place is one of the others
 other_row : (ns beside : List (List ℤ)) (i k : ℕ) → i < length ns → k < length (ns ++ beside) → (k ≡ i → ⊥) → Contains (others_of i ns ++ beside) (get_or (ns ++ beside) k [])
