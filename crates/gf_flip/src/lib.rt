@@ -11,6 +11,5 @@ mod reduction;
 mod tails;
 mod tops;
 mod turns;
-mod weights;
 
 pub use flips::{FlipError, flip};

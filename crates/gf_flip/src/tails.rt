@@ -15,8 +15,7 @@ ghost use Rattle.gf_division.specs.Steps.{StepsTo};
 ghost use Rattle.gf_flip.specs.LiftTails.{AreUndivided, HasUndividedTailAt, IsTailTerm, IsReducedLiftAt, IsNextInTurn, AreTailsInTurn};
 
 use crate::tops::Lifts;
-use crate::weights::{heft_of, weight_of};
-use gf_division::{Dividend, divisor_of, place_of};
+use gf_division::{Dividend, divisor_of, place_of, weight_of};
 use gf_poly::{Marked, Mono, Poly, PolyError, Term};
 use std::alloc::Global;
 
@@ -106,6 +105,15 @@ fn divisor_beside(y: &Mono, lifts: &[Marked], head: &Mono) -> Option<usize>
         Some(j) if is_unmarked(head, y) => Some(j),
         _ => None,
     }
+}
+
+// How heavy a monomial is, as far as the numbers fit. Nothing is asked of it: reductions end by any order of terms.
+fn heft_of(weight: &[i64], x: &[u32]) -> i64 {
+    let mut sum = 0i64;
+    'entries: for (w, e) in weight.iter().zip(x) {
+        sum = sum.wrapping_add(w.wrapping_mul(i64::from(*e)));
+    }
+    sum
 }
 
 // The heaviest unmarked term, of those that aren't heavier than the bar, that a lift reduces; and the first such lift.
