@@ -1,9 +1,7 @@
 //! Flips of all bases of small ideals. A facet is only crossed where the cone of the basis tells that a flip may cross it, so
 //! that what a flip asks for holds at each call.
 
-ghost use Rattle.std.specs.Prelude.{◌≡◌, ◌<◌, All, length, IfOk, IfSome, OnOk};
-ghost use Rattle.gf_poly.specs.Marking.{Each};
-ghost use Rattle.gf_poly.specs.Polynomial.{HasVariables};
+ghost use Rattle.std.specs.Prelude.{◌<◌, All, length, IfOk, IfSome, OnOk};
 ghost use Rattle.gf_buchberger.specs.Jobs.{HaveRingVariables};
 ghost use Rattle.gf_flip.specs.Reached.{IsReachedByFlips};
 

@@ -19,4 +19,5 @@ pub use bases::{BasisError, basis};
 pub use homogeneity::{NotHomogeneous, homogeneous};
 pub use laws::{monomials_stay_within_limits, orders_that_suit};
 pub use leading::leading as leading_place;
+pub use runs::{are_coprime, is_single};
 pub use second_run::basis_by_second_run;

@@ -34,8 +34,8 @@ pub enum Stop {
     Refused(PolyError),
 }
 
-// Whether no variable occurs in both.
-fn are_coprime(x: &Mono, y: &Mono) -> bool
+/// Whether no variable occurs in both.
+pub fn are_coprime(x: &Mono, y: &Mono) -> bool
     requires { length x.now ≡ length y.now }
     ensures { IsTrue result → AreCoprime x.now y.now }
 {
@@ -48,8 +48,8 @@ fn are_coprime(x: &Mono, y: &Mono) -> bool
     true
 }
 
-// Whether the member has no monomial but the marked one.
-fn is_single(member: &Marked) -> bool
+/// Whether the member has no monomial but the marked one.
+pub fn is_single(member: &Marked) -> bool
     ensures { IsTrue result → HasOneMonomial member.now }
 {
     // Called for the proof alone: what `head` ensures says that the mark is that of a term.

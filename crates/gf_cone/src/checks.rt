@@ -1,5 +1,5 @@
 //! Guesses judged by exact arithmetic.
-ghost use Rattle.std.specs.Prelude.{◌≡◌, ◌<◌, ◌<ℤ◌, ◌≤ℤ◌, ℕ, pos, IsTrue, IsFalse, All, length, slice_index_or, []};
+ghost use Rattle.std.specs.Prelude.{◌≡◌, ◌<◌, ◌<ℤ◌, ◌≤ℤ◌, ℕ, pos, IsTrue, IsFalse, All, length, slice_index_or};
 ghost use Rattle.gf_vec.specs.Vector.{dot, vector_sum};
 ghost use Rattle.gf_gordan.specs.Alternative.{AreRows};
 ghost use Rattle.gf_cone.specs.Crossing.{IsShownBy};

@@ -1,5 +1,5 @@
 //! A cone that remembers what was found out about its normals.
-ghost use Rattle.std.specs.Prelude.{◌≡◌, ◌↔◌, ◌+◌, ◌<◌, ◌≤◌, ℕ, List, [], ◌∷◌, length, slice_index_or, All, IsTrue, IfOk, IfErr, IfSome, IsNone};
+ghost use Rattle.std.specs.Prelude.{◌≡◌, ◌↔◌, ◌+◌, ◌<◌, ◌≤◌, ℕ, [], ◌∷◌, length, slice_index_or, All, IsTrue, IfOk, IfErr, IfSome, IsNone};
 ghost use Rattle.gf_gordan.specs.Alternative.{AreRows, IsSolution};
 ghost use Rattle.gf_gordan.specs.Steps.{Failed};
 ghost use Rattle.gf_gordan.specs.Sizes.{HaveEntriesUpTo};

@@ -1,5 +1,5 @@
 //! The rows of a marked set, and the unit vectors.
-ghost use Rattle.std.specs.Prelude.{◌≡◌, ◌++◌, ◌<◌, ◌^◌, ◌-ℤ◌, ℕ, pos, length, slice_set, unsigned_abs, All, IfOk};
+ghost use Rattle.std.specs.Prelude.{◌≡◌, ◌++◌, ◌<◌, ◌-ℤ◌, ℕ, pos, length, slice_set, All, IfOk};
 ghost use Rattle.gf_int.specs.Range.{InRange};
 ghost use Rattle.gf_vec.specs.Vector.{zeros};
 ghost use Rattle.gf_poly.specs.Marking.{Each, HaveVariables, HasMarkedTerm};

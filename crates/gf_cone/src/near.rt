@@ -7,7 +7,7 @@ use crate::checks::all_positive_on;
 use crate::cone::Cone;
 use crate::shots::{along, combination, vector_of};
 use gf_gordan::{Answer, strict};
-use gf_vec::{IntVec, VecError, WideVector, difference, product, quotient, total};
+use gf_vec::{IntVec, VecError, WideVector, product, quotient, total};
 use std::alloc::Global;
 
 /// Vectors of the inside are kept with entries up to this one where that can be done.

@@ -27,8 +27,8 @@ fn makes_needless(x: &Mono, y: &Mono, is_before: bool) -> bool
     x.divides(y) && (is_before || !y.divides(x))
 }
 
-// Whether the member at the place `i` is needed.
-fn is_needed(items: &[Marked], i: usize) -> bool
+/// Whether the member at the place `i` is needed.
+pub fn is_needed(items: &[Marked], i: usize) -> bool
     requires within { i < length items.now }
     requires variables { ShareSomeVariables items.now }
     ensures yes { IsTrue result → IsNeededAt items.now i }

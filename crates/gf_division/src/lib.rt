@@ -13,7 +13,7 @@ mod s_polynomials;
 mod steps;
 mod weights;
 
-pub use autoreduction::{autoreduce, autoreduce_by, place_of, reduced_tail};
+pub use autoreduction::{autoreduce, autoreduce_by, is_needed, place_of, reduced_tail};
 pub use dividend::Dividend;
 pub use divisions::{Division, divide};
 pub use front::Guide;

@@ -1,14 +1,13 @@
 //! The terms of a polynomial whose exponents are multiples of a vector apart from the mark.
 
-ghost use Rattle.std.specs.Prelude.{◌≡◌, ◌≢◌, ◌<◌, ◌≤◌, ◌^◌, ◌+◌, ℕ, ℤ, pos, ◌+ℤ◌, ◌-ℤ◌, ◌*ℤ◌, false, All, IfOk, IsTrue, length, get_or, unsigned_abs};
-ghost use Rattle.gf_exponents.specs.Exponents.{entry};
+ghost use Rattle.std.specs.Prelude.{◌≡◌, ◌≢◌, ◌<◌, ◌≤◌, ◌^◌, ℤ, pos, ◌-ℤ◌, ◌*ℤ◌, false, IfOk, IsTrue, length, get_or, unsigned_abs};
 ghost use Rattle.gf_ideal.specs.OrderTable.{AreMultipleApart};
 ghost use Rattle.gf_poly.specs.Polynomial.{HasVariables};
 ghost use Rattle.gf_poly.specs.Marking.{HaveVariables};
 ghost use Rattle.gf_order.specs.Weights.{AreBounded};
 ghost use Rattle.gf_flip.specs.Along.{HasNonzero, IsAlong, AreAlong};
 
-use gf_poly::{Marked, Mono, Poly, Term};
+use gf_poly::{Marked, Poly};
 use std::alloc::{AllocError, Global};
 
 // The place of an entry that isn't zero.

@@ -1,44 +1,17 @@
 //! The reduced basis of the members of a run. Where no mark divides a tail, which is usual for few small polynomials, nothing is
 //! worked out or copied: the members that aren't needed are dropped.
 
-ghost use Rattle.std.specs.Prelude.{◌≡◌, ◌<◌, false, length, IfSome, IsTrue};
+ghost use Rattle.std.specs.Prelude.{◌<◌, false, length, IfSome, IsTrue};
 ghost use Rattle.gf_poly.specs.Marking.{HaveVariables};
-ghost use Rattle.gf_ideal.specs.Marks.{HasPositiveWeight, IsRealisable};
-ghost use Rattle.gf_ideal.specs.Bases.{AreArranged};
-ghost use Rattle.gf_division.specs.Autoreduction.{ShareSomeVariables, MakesNeedless, IsNeededAt, IsAutoreduced, IsReducedOf};
+ghost use Rattle.gf_ideal.specs.Marks.{IsRealisable};
+ghost use Rattle.gf_division.specs.Autoreduction.{ShareSomeVariables};
 ghost use Rattle.gf_flip.specs.Settling.{IsSettledAt, IsPick, ArePicked, IsKeptWhere, IsPickedFrom, IsReducedForm};
 
 use crate::tails::is_reduced;
 use crate::turns::is_monic;
-use gf_division::autoreduce;
-use gf_poly::{Marked, MarkedSet, Mono};
+use gf_division::{autoreduce, is_needed};
+use gf_poly::{Marked, MarkedSet};
 use std::alloc::Global;
-
-// Whether a member with the mark `x` makes one with the mark `y` needless, which it stands before or doesn't.
-fn makes_needless(x: &Mono, y: &Mono, is_before: bool) -> bool
-    requires { length x.now ≡ length y.now }
-    ensures yes { IsTrue result → MakesNeedless x.now y.now is_before }
-    ensures no { result ≡ false → MakesNeedless x.now y.now is_before → ⊥ }
-{
-    x.divides(y) && (is_before || !y.divides(x))
-}
-
-// Whether the member at the place `i` is needed.
-fn is_needed(items: &[Marked], i: usize) -> bool
-    requires within { i < length items.now }
-    requires variables { ShareSomeVariables items.now }
-    ensures yes { IsTrue result → IsNeededAt items.now i }
-    ensures no { result ≡ false → IsNeededAt items.now i → ⊥ }
-{
-    let member = &items[i];
-    'members: for j in 0..items.len() {
-        let other = &items[j];
-        if makes_needless(other.head(), member.head(), j < i) {
-            return false;
-        }
-    }
-    true
-}
 
 // Whether the member at the place `i` is monic, and no mark divides its tail.
 fn is_settled(items: &[Marked], i: usize) -> bool

@@ -2,7 +2,7 @@
 //! it is copied; where it was copied from the set that is flipped, only the marks of lifts that weren't are tried. Of the
 //! others each time the heaviest term is reduced that a mark divides, which keeps the numbers small.
 
-ghost use Rattle.std.specs.Prelude.{◌≡◌, ◌<◌, false, true, Some, length, Contains, IfNone, IfOk, IfErr, IfSome, IsTrue};
+ghost use Rattle.std.specs.Prelude.{◌≡◌, ◌<◌, false, true, Some, length, Contains, IfNone, IfOk, IfSome, IsTrue};
 ghost use Rattle.gf_exponents.specs.Exponents.{Divides, same};
 ghost use Rattle.gf_poly.specs.Marking.{HaveVariables};
 ghost use Rattle.gf_poly.specs.Polynomial.{HasVariables};

@@ -1,10 +1,9 @@
 //! Lifts that end once nothing is left along the normal: members of the basis of the parts, less what steps lead to.
 
-ghost use Rattle.std.specs.Prelude.{◌≡◌, ◌≢◌, ◌<◌, ◌++◌, ◌∷◌, ℤ, pos, false, None, [], length, get_or, Contains, IfSome, IsTrue};
+ghost use Rattle.std.specs.Prelude.{◌≡◌, ◌≢◌, ◌<◌, ◌++◌, ◌∷◌, pos, false, None, [], length, get_or, Contains, IfSome, IsTrue};
 ghost use Rattle.gf_frac.specs.Fraction.{one_ℚ};
 ghost use Rattle.gf_poly.specs.Marking.{HaveVariables};
-ghost use Rattle.gf_poly.specs.Polynomial.{coefficient, HasVariables, IsDescending, KeepsVariables};
-ghost use Rattle.gf_ideal.specs.Marks.{HasPositiveWeight};
+ghost use Rattle.gf_poly.specs.Polynomial.{coefficient, HasVariables};
 ghost use Rattle.gf_division.specs.NormalForms.{HasSomeWeight};
 ghost use Rattle.gf_division.specs.Dividends.{split_of, joined_terms, IsSound};
 ghost use Rattle.gf_division.specs.Reducers.{IsDivisorAt, IsSought};

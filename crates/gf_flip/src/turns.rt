@@ -1,21 +1,20 @@
 //! The reduced basis of few small polynomials by a run that takes the pairs in turn: no pair waits in a queue, and none is
 //! marked. Nothing is told of a refusal.
 
-ghost use Rattle.std.specs.Prelude.{◌≡◌, ◌≢◌, ◌+◌, ◌<◌, ◌≤◌, ℕ, true, false, [], length, Contains, IfSome, IfOk, IfErr, IsTrue};
-ghost use Rattle.gf_exponents.specs.Exponents.{AreCoprime};
+ghost use Rattle.std.specs.Prelude.{◌≡◌, ◌≢◌, ◌+◌, ◌<◌, ◌≤◌, true, false, [], length, Contains, IfSome, IfOk, IfErr, IsTrue};
 ghost use Rattle.gf_frac.specs.Fraction.{one_ℚ};
-ghost use Rattle.gf_poly.specs.Polynomial.{HasVariables, KeepsVariables};
+ghost use Rattle.gf_poly.specs.Polynomial.{KeepsVariables};
 ghost use Rattle.gf_poly.specs.Marking.{HasMark, HaveVariables};
 ghost use Rattle.gf_ideal.specs.NormalForms.{IsNormalForm};
-ghost use Rattle.gf_ideal.specs.Reduction.{HasOneMonomial, IsDivisible, IsIrreducible};
+ghost use Rattle.gf_ideal.specs.Reduction.{IsDivisible, IsIrreducible};
 ghost use Rattle.gf_division.specs.NormalForms.{HasSomeWeight, HaveSameVariables};
 ghost use Rattle.gf_buchberger.specs.Jobs.{IsBasisJob};
-ghost use Rattle.gf_buchberger.specs.Runs.{MembersHaveVariables, IsAppendable};
+ghost use Rattle.gf_buchberger.specs.Runs.{IsAppendable};
 ghost use Rattle.gf_buchberger.specs.Bases.{IsArrangedBasis, IsBasisRefusal};
-ghost use Rattle.gf_flip.specs.Turns.{ArePairExcused, IsMadeFrom, IsGrown, IsTakenIn, IsPairTaken, IsUnderway, IsOfKind, AreTakenInWhere, IsTurning, AreKeptIn};
+ghost use Rattle.gf_flip.specs.Turns.{ArePairExcused, IsMadeFrom, IsGrown, IsTakenIn, IsUnderway, IsOfKind, AreTakenInWhere, IsTurning, AreKeptIn};
 
 use crate::reduction::reduced_form;
-use gf_buchberger::{BasisError, basis, leading_place};
+use gf_buchberger::{BasisError, are_coprime, basis, is_single, leading_place};
 use gf_division::{divisor_of, reduced, s_poly};
 use gf_frac::Frac;
 use gf_order::Order;
@@ -28,29 +27,6 @@ pub struct Task<'a> {
     pub n: u32,
     pub list: &'a [Poly],
     pub order: &'a Order,
-}
-
-// Whether no variable occurs in both.
-fn are_coprime(x: &Mono, y: &Mono) -> bool
-    requires { length x.now ≡ length y.now }
-    ensures { IsTrue result → AreCoprime x.now y.now }
-{
-    let (x, y) = (x.exponents(), y.exponents());
-    'variables: for i in 0..x.len() {
-        if x[i].min(y[i]) != 0 {
-            return false;
-        }
-    }
-    true
-}
-
-// Whether the member has no monomial but the marked one.
-fn is_single(member: &Marked) -> bool
-    ensures { IsTrue result → HasOneMonomial member.now }
-{
-    // Called for the proof alone: what `head` ensures says that the mark is that of a term.
-    let _ = member.head();
-    member.poly().terms().len() == 1
 }
 
 // Whether the pair needs no reduction: both have one monomial alone, or the marks are coprime.

@@ -1,6 +1,6 @@
 //! The content of a slice of whole numbers.
 
-ghost use Rattle.std.specs.Prelude.{◌≡◌, ◌<◌, ◌^◌, All};
+ghost use Rattle.std.specs.Prelude.{◌<◌, ◌^◌, All};
 ghost use Rattle.gf_int.specs.Range.{InRange};
 ghost use Rattle.gf_int.specs.Content.{IsContent, IsGcdOfAll};
 

@@ -29,3 +29,5 @@ pub use check::is_solution;
 pub use error::{ConeOverflow, GordanError};
 pub use feasibility::{gordans_alternative, strict, strict_guessed, strict_plain};
 pub use found::Found;
+pub use operations::signed;
+pub use pivoting::has_least;

@@ -21,7 +21,7 @@ fn vector_of(entries: Vec<i128>) -> Option<IntVec> {
 }
 
 /// Whether some entry is `-2^127`.
-fn has_least(xs: &[i128]) -> bool
+pub fn has_least(xs: &[i128]) -> bool
     ensures { IsFalse result → All InRange xs.now }
 {
     for x in xs {

@@ -1,7 +1,7 @@
 //! A source and a sink in memory that move a few bytes a call and fail at given calls.
 //!
 //! Calls are counted from 0, the failing ones too.
-ghost use Rattle.std.specs.Prelude.{◌≡◌, ◌⊎◌, ◌≤◌, ◌<◌, ◌↔◌, ℕ, List, [], length, min, Ok, Some, IsErr, IfOk, OnOk};
+ghost use Rattle.std.specs.Prelude.{◌≡◌, ◌⊎◌, ◌≤◌, ◌<◌, ◌↔◌, [], length, min, Ok, Some, IsErr, IfOk, OnOk};
 ghost use Rattle.std.specs.Io.{ReadsAtMost, WritesAtMost};
 ghost use Rattle.std.specs.Io.KnownBytes.{ReadConsumes, WriteAppends};
 ghost use Rattle.gf_outside.specs.Faults.{HasCause, Rose};

@@ -1,7 +1,7 @@
 //! A source over a reader of std, and a sink over a writer: the edge to real files and streams.
 //!
 //! What is left and what is held is what std's own contracts tell of the reader and the writer.
-ghost use Rattle.std.specs.Prelude.{◌≡◌, ℕ};
+ghost use Rattle.std.specs.Prelude.{◌≡◌};
 
 use crate::{Failed, Sink, Source};
 use std::io::{Read, Write};

@@ -28,7 +28,7 @@ mod straight;
 mod sum;
 mod zeros;
 
-pub use faces::Face;
+pub use faces::{Face, is_within};
 pub use facets::listed;
 pub use laws::{small_systems_stay_within_limits, systems_with_room_stay_within_limits};
 pub use numbers::Numbers;

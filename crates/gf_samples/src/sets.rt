@@ -1,7 +1,7 @@
 //! Lists of polynomials, and marked sets.
 
 ghost use Rattle.std.specs.Prelude.{◌≡◌, IfOk};
-ghost use Rattle.gf_poly.specs.Marking.{Each, HaveVariables};
+ghost use Rattle.gf_poly.specs.Marking.{Each};
 ghost use Rattle.gf_poly.specs.Polynomial.{HasVariables};
 ghost use Rattle.gf_samples.specs.Rows.{IsSetIn};
 

@@ -1,6 +1,6 @@
 //! Polynomials as rows.
 
-ghost use Rattle.std.specs.Prelude.{◌≡◌, ◌≤◌, ◌<◌, ◌^◌, length, IfOk, IfSome, IsTrue};
+ghost use Rattle.std.specs.Prelude.{◌≡◌, ◌<◌, length, IfOk, IfSome, IsTrue};
 ghost use Rattle.gf_poly.specs.Monomial.{IsMonomial};
 ghost use Rattle.gf_poly.specs.Polynomial.{HasVariables};
 

@@ -1,5 +1,5 @@
 //! The tree of the bases of an ideal.
-ghost use Rattle.std.specs.Prelude.{◌≡◌, IfOk, IfErr};
+ghost use Rattle.std.specs.Prelude.{◌≡◌};
 ghost use Rattle.gf_facets.specs.LexPositive.{IsBefore};
 ghost use Rattle.gf_facets.specs.Regions.{all_positive};
 ghost use Rattle.gf_reverse.specs.Upward.{IsNode, IsParent};

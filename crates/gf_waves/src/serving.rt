@@ -1,7 +1,5 @@
 //! The next node of a row.
-ghost use Rattle.std.specs.Prelude.{ℕ, ◌≡◌, ◌+◌, ◌-◌, ◌*◌, ◌≤◌, ◌<◌, ◌/◌, ◌∷◌, length, List, IfErr, OnOk, OnErr, true, false};
-ghost use Rattle.std.specs.VecDeque.{deque_capacity};
-ghost use Rattle.gf_walk.specs.Place.{Place};
+ghost use Rattle.std.specs.Prelude.{ℕ, ◌≡◌, ◌+◌, ◌-◌, ◌*◌, ◌≤◌, ◌<◌, ◌/◌, length, List, IfErr, OnOk, OnErr, true, false};
 ghost use Rattle.gf_walk.specs.Pieces.{PiecesLeave, RefusesAt};
 ghost use Rattle.gf_walk.specs.Listing.{IsLeftAt};
 ghost use Rattle.gf_walk.specs.declared.expand.Piece.{Piece};

@@ -1,7 +1,7 @@
 //! The cone of a marked set, cut with the non-negative orthant, by its rays.
-ghost use Rattle.std.specs.Prelude.{◌≡◌, ◌<◌, ◌↔◌, ℕ, length, IsTrue, IfOk, IfErr};
+ghost use Rattle.std.specs.Prelude.{◌<◌, ◌↔◌, ℕ, length, IsTrue, IfOk, IfErr};
 ghost use Rattle.gf_cone.specs.Crossing.{IsCrossable};
-ghost use Rattle.gf_weights.specs.Cuts.{HasRaysOf, IsCutOf, IsZeroAt, HasRayOff, HasRayOffOthers};
+ghost use Rattle.gf_weights.specs.Cuts.{HasRaysOf, IsCutOf, IsZeroAt, HasRayOff};
 ghost use Rattle.gf_weights.specs.Refusals.{IsWeightCause};
 
 use crate::error::WeightError;
