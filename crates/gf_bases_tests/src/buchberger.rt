@@ -15,12 +15,12 @@ use gf_vec::IntVec;
 use std::alloc::{AllocError, Global};
 use std::test::Fail;
 
-// the greatest coefficient, and the greatest exponent
+/// the greatest coefficient, and the greatest exponent
 const M: i128 = i128::MAX;
 
 const E: u32 = 2_147_483_647;
 
-// Lex.
+/// Lex.
 fn by_lex() -> Order
     ensures entries { HasEntries 3 result }
     ensures suited { (fs : List Terms) → HaveRingVariables 3 fs → IsSuited result 3 fs }
@@ -28,7 +28,7 @@ fn by_lex() -> Order
     Order::lex()
 }
 
-// Deglex.
+/// Deglex.
 fn by_deglex() -> Order
     ensures entries { HasEntries 3 result }
     ensures suited { (fs : List Terms) → HaveRingVariables 3 fs → IsSuited result 3 fs }
@@ -36,7 +36,7 @@ fn by_deglex() -> Order
     Order::deglex()
 }
 
-// The order along the facet with normal (0, -1, 0): of two monomials the one with more of b is greater.
+/// The order along the facet with normal (0, -1, 0): of two monomials the one with more of b is greater.
 fn by_facet(alloc: Global) -> Result<Order, AllocError>
     ensures entries { IfOk result (HasEntries 3) }
     ensures suited { IfOk result (λ order. (fs : List Terms) → HaveRingVariables 3 fs → IsSuited order 3 fs) }
@@ -45,7 +45,7 @@ fn by_facet(alloc: Global) -> Result<Order, AllocError>
     Ok(Order::facet(normal))
 }
 
-// The basis of the ideal of these polynomials, by an order that is good on all.
+/// The basis of the ideal of these polynomials, by an order that is good on all.
 fn basis_of(
     alloc: Global,
     rows: &[&[(i128, [u32; 3])]],
@@ -59,7 +59,7 @@ fn basis_of(
     Ok(basis(alloc, 3, &set, order, pairs))
 }
 
-// The basis of the ideal of polynomials in four variables, by lex.
+/// The basis of the ideal of polynomials in four variables, by lex.
 fn basis_of_four(
     alloc: Global,
     rows: &[&[(i128, [u32; 4])]],
@@ -69,7 +69,7 @@ fn basis_of_four(
     Ok(basis(alloc, 4, &set, &order, 1000))
 }
 
-// a^3 - 2ab and a^2 b - 2b^2 + a
+/// a^3 - 2ab and a^2 b - 2b^2 + a
 fn two_cubics(
     alloc: Global,
     order: &Order,
@@ -83,7 +83,7 @@ fn two_cubics(
     basis_of(alloc, &[&first, &second], order, pairs)
 }
 
-// Cox, Little, O'Shea, Ideals, Varieties, and Algorithms, 2.7: by deglex a^2, ab, b^2 - a/2; by lex, by hand, a - 2b^2 and so b^3
+/// Cox, Little, O'Shea, Ideals, Varieties, and Algorithms, 2.7: by deglex a^2, ab, b^2 - a/2; by lex, by hand, a - 2b^2 and so b^3
 #[test]
 fn cubics(rt: HostRuntime) -> Result<(), Fail> {
     let alloc = rt.alloc();
@@ -113,7 +113,7 @@ fn cubics(rt: HostRuntime) -> Result<(), Fail> {
     Ok(())
 }
 
-// the same by deglex with one pair: as the book has it, the remainder of the first pair is -a^2
+/// the same by deglex with one pair: as the book has it, the remainder of the first pair is -a^2
 #[test]
 fn spent(rt: HostRuntime) -> Result<(), Fail> {
     let alloc = rt.alloc();
@@ -140,7 +140,7 @@ fn spent(rt: HostRuntime) -> Result<(), Fail> {
     Ok(())
 }
 
-// a - b, b - c by deglex; a - b by an order along a facet
+/// a - b, b - c by deglex; a - b by an order along a facet
 #[test]
 fn differences(rt: HostRuntime) -> Result<(), Fail> {
     let alloc = rt.alloc();
@@ -166,7 +166,7 @@ fn differences(rt: HostRuntime) -> Result<(), Fail> {
     Ok(())
 }
 
-// Whether the product of these numbers, or of their negatives, is refused, in either order.
+/// Whether the product of these numbers, or of their negatives, is refused, in either order.
 fn refuses_product(found: &Result<MarkedSet, BasisError>, x: u128, y: u128) -> bool {
     match found {
         Err(BasisError::Overflow(o)) => {
@@ -178,7 +178,7 @@ fn refuses_product(found: &Result<MarkedSet, BasisError>, x: u128, y: u128) -> b
     }
 }
 
-// Whether the sum of these exponents is refused.
+/// Whether the sum of these exponents is refused.
 fn refuses_sum(found: &Result<MarkedSet, BasisError>, left: u32, right: u32) -> bool {
     match found {
         Err(BasisError::Exponent(o)) => o.left == u64::from(left) && o.right == u64::from(right),
@@ -186,7 +186,7 @@ fn refuses_sum(found: &Result<MarkedSet, BasisError>, left: u32, right: u32) -> 
     }
 }
 
-// a - Mb with b - 2 takes the product of M and 2; with b before and 2a behind it none; and a - b takes a b^E to b times b^E
+/// a - Mb with b - 2 takes the product of M and 2; with b before and 2a behind it none; and a - b takes a b^E to b times b^E
 #[test]
 fn numbers(rt: HostRuntime) -> Result<(), Fail> {
     let alloc = rt.alloc();
@@ -215,8 +215,8 @@ fn numbers(rt: HostRuntime) -> Result<(), Fail> {
     Ok(())
 }
 
-// Katsura's system in four variables by lex, its values worked out by SymPy 1.14: the last member is
-// t^8 - 8/11 t^7 + 4/33 t^6 + .. - 1/128304 t, and in the others y and z are told by t.
+/// Katsura's system in four variables by lex, its values worked out by SymPy 1.14: the last member is
+/// t^8 - 8/11 t^7 + 4/33 t^6 + .. - 1/128304 t, and in the others y and z are told by t.
 #[test]
 fn katsura(rt: HostRuntime) -> Result<(), Fail> {
     let alloc = rt.alloc();
@@ -265,7 +265,7 @@ fn katsura(rt: HostRuntime) -> Result<(), Fail> {
     Ok(())
 }
 
-// The basis of the ideal of these polynomials by lex, by two runs of so many pairs.
+/// The basis of the ideal of these polynomials by lex, by two runs of so many pairs.
 fn by_two_runs(
     alloc: Global,
     rows: &[&[(i128, [u32; 3])]],
@@ -279,7 +279,7 @@ fn by_two_runs(
     }
 }
 
-// 3ab^2c - 2abc + ac, -2b^4 - 3b^2c^2 + 2bc^3, -2a^2c^2 + 2b^3 - 2b
+/// 3ab^2c - 2abc + ac, -2b^4 - 3b^2c^2 + 2bc^3, -2a^2c^2 + 2b^3 - 2b
 fn second_system(alloc: Global, pairs: u64) -> Result<Result<MarkedSet, BasisError>, Fail> {
     let f = [(3, [1, 2, 1]), (-2, [1, 1, 1]), (1, [1, 0, 1])];
     let g = [(-2, [0, 4, 0]), (-3, [0, 2, 2]), (2, [0, 1, 3])];
@@ -287,8 +287,8 @@ fn second_system(alloc: Global, pairs: u64) -> Result<Result<MarkedSet, BasisErr
     by_two_runs(alloc, &[&f, &g, &h], pairs)
 }
 
-// By the first choice of pairs numbers leave 128 bits; by the second choice they don't. As Singular 4.3 has it, the least member
-// is bc^12 - bc^11 - 3/2 bc^10 + .. - 1/27 b. With 100 pairs the first run is refused for numbers, and the second one is spent.
+/// By the first choice of pairs numbers leave 128 bits; by the second choice they don't. As Singular 4.3 has it, the least member
+/// is bc^12 - bc^11 - 3/2 bc^10 + .. - 1/27 b. With 100 pairs the first run is refused for numbers, and the second one is spent.
 #[test]
 fn found_by_the_second_run(rt: HostRuntime) -> Result<(), Fail> {
     let alloc = rt.alloc();
@@ -317,7 +317,7 @@ fn of_one_degree(set: &[Poly]) -> Result<(), NotHomogeneous>
     homogeneous(set)
 }
 
-// a^2 - b^2, and a^2 - b
+/// a^2 - b^2, and a^2 - b
 #[test]
 fn second_polynomial_inhomogeneous(rt: HostRuntime) -> Result<(), Fail> {
     let alloc = rt.alloc();

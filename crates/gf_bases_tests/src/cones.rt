@@ -12,7 +12,7 @@ use gf_vec::IntVec;
 use std::alloc::Global;
 use std::test::Fail;
 
-// c * a^x * b^y * c^z
+/// c * a^x * b^y * c^z
 fn term(alloc: Global, coef: i64, x: u8, y: u8, z: u8) -> Term
     ensures { result.mono ≡ x ∷ y ∷ z ∷ [] }
 {
@@ -23,7 +23,7 @@ fn term(alloc: Global, coef: i64, x: u8, y: u8, z: u8) -> Term
     }
 }
 
-// The sum of two terms.
+/// The sum of two terms.
 fn two(_n: u32, first: Term, second: Term, alloc: Global) -> Result<Poly, PolyError>
     requires { HasVariables _n (first ∷ second ∷ []) }
     ensures { IfOk result (HasVariables _n) }
@@ -32,7 +32,7 @@ fn two(_n: u32, first: Term, second: Term, alloc: Global) -> Result<Poly, PolyEr
     Poly::from_terms(terms)
 }
 
-// The polynomial with its first term marked.
+/// The polynomial with its first term marked.
 fn marked(_n: u32, p: Poly) -> Result<Marked, PolyError>
     requires { HasVariables _n p }
     ensures { IfOk result (λ b. HasVariables _n b.poly) }
@@ -43,7 +43,7 @@ fn marked(_n: u32, p: Poly) -> Result<Marked, PolyError>
     Ok(Marked::mark(p, 0))
 }
 
-// a - c
+/// a - c
 fn first_of(alloc: Global) -> Result<Marked, PolyError>
     ensures { IfOk result (λ b. HasVariables 3 b.poly) }
 {
@@ -53,7 +53,7 @@ fn first_of(alloc: Global) -> Result<Marked, PolyError>
     )
 }
 
-// b - c
+/// b - c
 fn second_of(alloc: Global) -> Result<Marked, PolyError>
     ensures { IfOk result (λ b. HasVariables 3 b.poly) }
 {
@@ -63,7 +63,7 @@ fn second_of(alloc: Global) -> Result<Marked, PolyError>
     )
 }
 
-// a*b - c^2
+/// a*b - c^2
 fn third_of(alloc: Global) -> Result<Marked, PolyError>
     ensures { IfOk result (λ b. HasVariables 3 b.poly) }
 {
@@ -73,21 +73,21 @@ fn third_of(alloc: Global) -> Result<Marked, PolyError>
     )
 }
 
-// The cone of the first two.
+/// The cone of the first two.
 fn cone_of_two(alloc: Global) -> Result<Cone, Fail> {
     let items = vec![in alloc; first_of(alloc)?, second_of(alloc)?]?;
     let set = MarkedSet::new(3, items);
     Ok(Cone::of(alloc, &set)?)
 }
 
-// The cone of all three.
+/// The cone of all three.
 fn cone_of_three(alloc: Global) -> Result<Cone, Fail> {
     let items = vec![in alloc; first_of(alloc)?, second_of(alloc)?, third_of(alloc)?]?;
     let set = MarkedSet::new(3, items);
     Ok(Cone::of(alloc, &set)?)
 }
 
-// c * a^x in one variable
+/// c * a^x in one variable
 fn short_term(alloc: Global, coef: i64, x: u8) -> Term
     ensures { result.mono ≡ x ∷ [] }
 {
@@ -97,7 +97,7 @@ fn short_term(alloc: Global, coef: i64, x: u8) -> Term
     }
 }
 
-// The cone of a - 1 in one variable.
+/// The cone of a - 1 in one variable.
 fn cone_of_one(alloc: Global) -> Result<Cone, Fail> {
     let poly = two(1, short_term(alloc, 1, 1), short_term(alloc, -1, 0), alloc)?;
     let items = vec![in alloc; marked(1, poly)?]?;
@@ -105,7 +105,7 @@ fn cone_of_one(alloc: Global) -> Result<Cone, Fail> {
     Ok(Cone::of(alloc, &set)?)
 }
 
-// Whether the vector at a place has these entries.
+/// Whether the vector at a place has these entries.
 fn is_at(vectors: &[IntVec], place: usize, entries: &[i128]) -> bool {
     match vectors.get(place) {
         Some(vector) => vector.as_slice() == entries,
@@ -113,7 +113,7 @@ fn is_at(vectors: &[IntVec], place: usize, entries: &[i128]) -> bool {
     }
 }
 
-// the root of a - b, b - c: both normals are flippable
+/// the root of a - b, b - c: both normals are flippable
 #[test]
 fn two_flippable(rt: HostRuntime) -> Result<(), Fail> {
     let cone = cone_of_two(rt.alloc())?;
@@ -135,7 +135,7 @@ fn facet_of(cone: &Cone, place: usize) -> Result<FacetAnswer, GordanError>
     cone.facet(place)
 }
 
-// 1 times (1, 1, -2) is 1 times (0, 1, -1) and 1 times (1, 0, -1)
+/// 1 times (1, 1, -2) is 1 times (0, 1, -1) and 1 times (1, 0, -1)
 #[test]
 fn redundant_sum(rt: HostRuntime) -> Result<(), Fail> {
     let cone = cone_of_three(rt.alloc())?;
@@ -150,7 +150,7 @@ fn redundant_sum(rt: HostRuntime) -> Result<(), Fail> {
     Ok(())
 }
 
-// the same, and the two others, by a cone that remembers; it is the root
+/// the same, and the two others, by a cone that remembers; it is the root
 #[test]
 fn remembered(rt: HostRuntime) -> Result<(), Fail> {
     let cone = cone_of_three(rt.alloc())?;
@@ -167,7 +167,7 @@ fn remembered(rt: HostRuntime) -> Result<(), Fail> {
     Ok(())
 }
 
-// a - 1: its normal is one of a facet, and 1 times the unit vector
+/// a - 1: its normal is one of a facet, and 1 times the unit vector
 #[test]
 fn unit_vector_of_one(rt: HostRuntime) -> Result<(), Fail> {
     let cone = cone_of_one(rt.alloc())?;
@@ -183,7 +183,7 @@ fn unit_vector_of_one(rt: HostRuntime) -> Result<(), Fail> {
     Ok(())
 }
 
-// past the facet of (-1, 0, 1), seen from the other side at (1, 2, 1), is the cone of a - c and b - c
+/// past the facet of (-1, 0, 1), seen from the other side at (1, 2, 1), is the cone of a - c and b - c
 #[test]
 fn near_a_facet(rt: HostRuntime) -> Result<(), Fail> {
     let cone = cone_of_two(rt.alloc())?;

@@ -7,7 +7,7 @@ use gf_samples::polys;
 use std::alloc::Global;
 use std::test::Fail;
 
-// The basis of the ideal of these polynomials by lex.
+/// The basis of the ideal of these polynomials by lex.
 fn by_lex(alloc: Global, rows: &[&[(i128, [u32; 3])]]) -> Result<MarkedSet, Fail> {
     let set = polys(alloc, rows)?;
     let order = Order::lex();
@@ -17,8 +17,8 @@ fn by_lex(alloc: Global, rows: &[&[(i128, [u32; 3])]]) -> Result<MarkedSet, Fail
     Ok(found)
 }
 
-// By both choices of pairs numbers leave 128 bits. As Singular 4.3 has it, the least member is
-// bc^5 - 5268/7565 bc^4 - .. - 8857836/54657125 bc.
+/// By both choices of pairs numbers leave 128 bits. As Singular 4.3 has it, the least member is
+/// bc^5 - 5268/7565 bc^4 - .. - 8857836/54657125 bc.
 #[test]
 fn three_terms_each(rt: HostRuntime) -> Result<(), Fail> {
     let alloc = rt.alloc();
@@ -35,8 +35,8 @@ fn three_terms_each(rt: HostRuntime) -> Result<(), Fail> {
     Ok(())
 }
 
-// Noonburg's system in three variables. As Gfan 0.6.2 has it, the least member is c^14 - 10/11 c^13 - .. + 11/80, and the greatest
-// ends in 18135549358159047/862182552840400.
+/// Noonburg's system in three variables. As Gfan 0.6.2 has it, the least member is c^14 - 10/11 c^13 - .. + 11/80, and the greatest
+/// ends in 18135549358159047/862182552840400.
 #[test]
 fn noonburg(rt: HostRuntime) -> Result<(), Fail> {
     let alloc = rt.alloc();

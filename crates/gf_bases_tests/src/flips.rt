@@ -14,7 +14,7 @@ use gf_samples::{lists_members, polys};
 use std::alloc::Global;
 use std::test::Fail;
 
-// The basis by degree, then lex.
+/// The basis by degree, then lex.
 fn start(alloc: Global, n: u32, list: &[Poly]) -> Result<MarkedSet, PolyError>
     requires { HaveRingVariables n list.now }
     ensures { IfOk result (IsReachedByFlips list.now) }
@@ -26,7 +26,7 @@ fn start(alloc: Global, n: u32, list: &[Poly]) -> Result<MarkedSet, PolyError>
     }
 }
 
-// The basis across the facet of the normal at a place, if there is one and a flip may cross it.
+/// The basis across the facet of the normal at a place, if there is one and a flip may cross it.
 fn across(
     alloc: Global,
     list: &[Poly],
@@ -71,7 +71,7 @@ fn same_member(b: &Marked, c: &Marked) -> bool {
     b.index() == c.index() && same_poly(b.poly(), c.poly())
 }
 
-// Whether the two sets have the same members in the same order.
+/// Whether the two sets have the same members in the same order.
 fn same(s: &MarkedSet, t: &MarkedSet) -> bool {
     let (xs, ys) = (s.items(), t.items());
     if xs.len() != ys.len() {
@@ -94,7 +94,7 @@ fn is_among(found: &[MarkedSet], set: &MarkedSet) -> bool {
     false
 }
 
-// Whether a flip of `next` leads back to the set.
+/// Whether a flip of `next` leads back to the set.
 fn leads_back(
     alloc: Global,
     list: &[Poly],
@@ -113,7 +113,7 @@ fn leads_back(
     Ok(false)
 }
 
-// Crosses all facets of a basis; those bases that are new are added. Whether all flips lead back.
+/// Crosses all facets of a basis; those bases that are new are added. Whether all flips lead back.
 fn visit(
     alloc: Global,
     list: &[Poly],
@@ -139,7 +139,7 @@ fn visit(
     Ok(all_back)
 }
 
-// How many bases flips lead to from the first one, if each flip leads back.
+/// How many bases flips lead to from the first one, if each flip leads back.
 fn count(alloc: Global, n: u32, list: &[Poly]) -> Result<usize, PolyError>
     requires { HaveRingVariables n list.now }
 {
@@ -157,7 +157,7 @@ fn count(alloc: Global, n: u32, list: &[Poly]) -> Result<usize, PolyError>
     Ok(0)
 }
 
-// The number of bases of the ideal in three variables that these generate.
+/// The number of bases of the ideal in three variables that these generate.
 fn bases_of(alloc: Global, rows: &[&[(i128, [u32; 3])]]) -> Result<usize, PolyError> {
     let list = polys(alloc, rows)?;
     count(alloc, 3, &list)
@@ -187,7 +187,7 @@ fn linear_forms_are_flipped(rt: HostRuntime) -> Result<(), Fail> {
     Ok(())
 }
 
-// The numbers of bases are those that Gfan 0.6.2 lists.
+/// The numbers of bases are those that Gfan 0.6.2 lists.
 #[test]
 fn flips_lead_to_all_bases_and_back(rt: HostRuntime) -> Result<(), Fail> {
     let alloc = rt.alloc();

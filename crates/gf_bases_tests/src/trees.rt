@@ -13,7 +13,7 @@ use gf_tree::{Bases, Node, Parent, Split, TreeError, Walker, list_bases, parent}
 use std::alloc::Global;
 use std::test::Fail;
 
-// The basis by degree, then lex.
+/// The basis by degree, then lex.
 fn start(alloc: Global, n: u32, list: &[Poly]) -> Result<MarkedSet, PolyError>
     requires { HaveRingVariables n list.now }
     ensures { IfOk result (λ s. IsNodeIn (ideal_of s) s) }
@@ -25,7 +25,7 @@ fn start(alloc: Global, n: u32, list: &[Poly]) -> Result<MarkedSet, PolyError>
     }
 }
 
-// The basis of {a - b, b - c} by degree, then lex: its root.
+/// The basis of {a - b, b - c} by degree, then lex: its root.
 fn linear(alloc: Global) -> Result<MarkedSet, PolyError>
     ensures { IfOk result (λ s. IsNodeIn (ideal_of s) s) }
 {
@@ -39,7 +39,7 @@ fn linear(alloc: Global) -> Result<MarkedSet, PolyError>
     start(alloc, 3, &list)
 }
 
-// Whether a basis is the one of the linear forms that is listed at a place.
+/// Whether a basis is the one of the linear forms that is listed at a place.
 fn is_listed(set: &MarkedSet, place: usize) -> bool {
     match place {
         0 => lists_members(
@@ -67,7 +67,7 @@ fn is_listed(set: &MarkedSet, place: usize) -> bool {
     }
 }
 
-// Takes a walker's bases one by one; whether each is that of the linear forms at its place.
+/// Takes a walker's bases one by one; whether each is that of the linear forms at its place.
 fn stream(alloc: Global, root: MarkedSet, places: &mut Vec<bool>) -> Result<(), TreeError>
     requires { IsNodeIn (ideal_of root) root }
 {
@@ -79,7 +79,7 @@ fn stream(alloc: Global, root: MarkedSet, places: &mut Vec<bool>) -> Result<(), 
     Ok(())
 }
 
-// The place after those of the bases that a walker has left, from `first` on; none where one isn't that of the linear forms.
+/// The place after those of the bases that a walker has left, from `first` on; none where one isn't that of the linear forms.
 fn end_of(walker: Walker, first: usize) -> Option<usize> {
     let mut bases = Bases::new(walker);
     'places: for place in first..4 {
@@ -96,7 +96,7 @@ fn end_of(walker: Walker, first: usize) -> Option<usize> {
     None
 }
 
-// How many bases the ideal of these in two variables has.
+/// How many bases the ideal of these in two variables has.
 fn number(alloc: Global, rows: &[&[(i128, [u32; 2])]]) -> Result<usize, PolyError> {
     let list = polys(alloc, rows)?;
     let root = start(alloc, 2, &list)?;
@@ -106,7 +106,7 @@ fn number(alloc: Global, rows: &[&[(i128, [u32; 2])]]) -> Result<usize, PolyErro
     }
 }
 
-// The last basis of the linear forms.
+/// The last basis of the linear forms.
 fn last(alloc: Global) -> Result<Option<MarkedSet>, PolyError>
     ensures { IfOk result (λ o. IfSome o (λ s. IsNodeIn (ideal_of s) s)) }
 {
@@ -173,7 +173,7 @@ fn the_last_basis_is_below_the_root(rt: HostRuntime) -> Result<(), Fail> {
     Ok(())
 }
 
-// A value that may go to another thread.
+/// A value that may go to another thread.
 fn sent<T: Send>(value: T) -> T
     ensures { result ≡ value }
 {

@@ -12,7 +12,7 @@ use gf_order::Order;
 use gf_poly::{MarkedSet, Poly};
 use std::alloc::Global;
 
-// The basis at the end of a walk that begins at the basis by degree; nothing where numbers don't fit, or where the budget is spent.
+/// The basis at the end of a walk that begins at the basis by degree; nothing where numbers don't fit, or where the budget is spent.
 fn by_walk(alloc: Global, n: u32, set: &[Poly], order: &Order, pairs: u64) -> Option<MarkedSet>
     requires variables { HaveRingVariables n set.now }
     requires entries { HasEntries n order.now }
@@ -31,7 +31,7 @@ fn by_walk(alloc: Global, n: u32, set: &[Poly], order: &Order, pairs: u64) -> Op
     walked(alloc, start, &weight, pairs)
 }
 
-// The basis by other ways than the first run, which was refused since numbers don't fit.
+/// The basis by other ways than the first run, which was refused since numbers don't fit.
 fn by_other_ways(
     alloc: Global,
     n: u32,
@@ -55,7 +55,7 @@ fn by_other_ways(
     basis_by_second_run(alloc, n, set, order, pairs, first)
 }
 
-// The basis by the first way that ends.
+/// The basis by the first way that ends.
 fn by_ways(
     alloc: Global,
     n: u32,

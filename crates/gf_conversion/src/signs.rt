@@ -7,7 +7,7 @@ ghost use Rattle.gf_facets.specs.LexPositive.{IsNegative};
 use gf_vec::{IntVec, WideVector};
 use std::cmp::Ordering;
 
-// The sign of the first entry that isn't zero.
+/// The sign of the first entry that isn't zero.
 fn leading_sign(entries: &[i128]) -> Ordering
     ensures { result ≡ first_sign entries.now }
 {

@@ -26,7 +26,7 @@ pub(crate) enum Step {
     Across(MarkedSet),
 }
 
-// The cone of a basis.
+/// The cone of a basis.
 fn cone_of(alloc: Global, set: &MarkedSet) -> Option<KnownCone>
     ensures { IfSome result (IsConeOf set.now.variables (all_positive set.now.variables) set.now.items) }
 {
@@ -39,7 +39,7 @@ fn cone_of(alloc: Global, set: &MarkedSet) -> Option<KnownCone>
     }
 }
 
-// Whether the facet of the normal at a place leads towards a weight; none where numbers don't fit.
+/// Whether the facet of the normal at a place leads towards a weight; none where numbers don't fit.
 fn leads(cone: &KnownCone, weight: &IntVec, place: usize) -> Option<bool>
     requires place { place < length cone.now.normals }
     requires width { length weight.now ≡ cone.now.variables }
@@ -57,7 +57,7 @@ fn leads(cone: &KnownCone, weight: &IntVec, place: usize) -> Option<bool>
     }
 }
 
-// The first normal whose facet leads towards a weight; nothing where numbers don't fit.
+/// The first normal whose facet leads towards a weight; nothing where numbers don't fit.
 fn facet_towards(cone: &KnownCone, weight: &IntVec) -> Option<Towards>
     requires { length weight.now ≡ cone.now.variables }
     ensures { IfSome result (IsFacetTold weight.now cone.now) }

@@ -10,7 +10,7 @@ ghost use Rattle.gf_flip.specs.Along.{HasNonzero, IsAlong, AreAlong};
 use gf_poly::{Marked, Poly};
 use std::alloc::{AllocError, Global};
 
-// The place of an entry that isn't zero.
+/// The place of an entry that isn't zero.
 pub fn pivot_of(normal: &[i128]) -> usize
     requires { HasNonzero normal.now }
     ensures inside { result < length normal.now }
@@ -24,7 +24,7 @@ pub fn pivot_of(normal: &[i128]) -> usize
     unreachable!()
 }
 
-// The exponent x less y.
+/// The exponent x less y.
 fn less(x: u32, y: u32) -> i128
     ensures value { result ≡ pos x -ℤ pos y }
     ensures bound { unsigned_abs result ≤ 2 ^ 32 }
@@ -32,7 +32,7 @@ fn less(x: u32, y: u32) -> i128
     x as i128 - y as i128
 }
 
-// A multiple of an entry.
+/// A multiple of an entry.
 fn multiple(k: i128, a: i128) -> i128
     requires small { unsigned_abs k ≤ 2 ^ 32 }
     requires bounded { unsigned_abs a ≤ 2 ^ 63 }
@@ -41,7 +41,7 @@ fn multiple(k: i128, a: i128) -> i128
     k * a
 }
 
-// The number k for which d is k times a, if there is one.
+/// The number k for which d is k times a, if there is one.
 fn multiplier(d: i128, a: i128) -> i128
     requires small { unsigned_abs d ≤ 2 ^ 32 }
     requires nonzero { a ≢ pos 0 }
@@ -52,7 +52,7 @@ fn multiplier(d: i128, a: i128) -> i128
     d / a
 }
 
-// Whether the exponents of x are those of y and a multiple of the normal.
+/// Whether the exponents of x are those of y and a multiple of the normal.
 pub fn is_apart(x: &[u32], y: &[u32], normal: &[i128], pivot: usize) -> bool
     requires same_length { length x.now ≡ length normal.now }
     requires same_variables { length y.now ≡ length normal.now }
@@ -71,7 +71,7 @@ pub fn is_apart(x: &[u32], y: &[u32], normal: &[i128], pivot: usize) -> bool
     true
 }
 
-// The terms of a member along the normal.
+/// The terms of a member along the normal.
 fn part(alloc: Global, member: &Marked, normal: &[i128], pivot: usize) -> Result<Poly, AllocError>
     requires variables { HasVariables (length normal.now) member.now.poly }
     requires bounded { AreBounded normal.now }

@@ -24,7 +24,7 @@ use std::alloc::Global;
 /// Why there is no flip: as there may be no basis.
 pub type FlipError = BasisError;
 
-// The same refusal, of a flip.
+/// The same refusal, of a flip.
 fn refused(refusal: PolyError) -> FlipError
     ensures { result ≡ of_poly_error refusal }
 {
@@ -35,7 +35,7 @@ fn refused(refusal: PolyError) -> FlipError
     }
 }
 
-// The reduced basis of the parts, for the order along the facet.
+/// The reduced basis of the parts, for the order along the facet.
 fn basis_of_parts(
     alloc: Global,
     set: &MarkedSet,
@@ -62,7 +62,7 @@ fn basis_of_parts(
     Ok(below)
 }
 
-// The basis on the other side, from the remainders by the set.
+/// The basis on the other side, from the remainders by the set.
 fn crossed(
     alloc: Global,
     set: &MarkedSet,
@@ -81,7 +81,7 @@ fn crossed(
     autoreduce(alloc, &all)
 }
 
-// The basis on the other side, from lifts that end early, if all numbers fit.
+/// The basis on the other side, from lifts that end early, if all numbers fit.
 fn early(alloc: Global, set: &MarkedSet, below: &[Marked], normal: &IntVec) -> Option<MarkedSet>
     requires crossing { IsCrossing set.now.variables set.now.items normal.now }
     requires bounded { AreBounded normal.now }

@@ -12,7 +12,7 @@ use gf_division::{normal_form, place_of};
 use gf_poly::{Marked, MarkedSet, PolyError};
 use std::alloc::Global;
 
-// A member less its remainder, marked as it is.
+/// A member less its remainder, marked as it is.
 fn lift(alloc: Global, member: &Marked, by: &MarkedSet) -> Result<Marked, PolyError>
     requires marked { HasPositiveWeight by.now.variables by.now.items }
     requires variables { HasVariables by.now.variables member.now.poly }

@@ -4,7 +4,7 @@ ghost use Rattle.gf_flip.specs.Limits.{AreMonomials, HasMonomialsAlone, HaveMono
 
 use gf_poly::{Marked, Term};
 
-// Each term is looked at.
+/// Each term is looked at.
 fn see_terms(terms: &[Term])
     ensures { AreMonomials terms.now }
 {
@@ -14,7 +14,7 @@ fn see_terms(terms: &[Term])
     }
 }
 
-// The mark is looked at, and each term.
+/// The mark is looked at, and each term.
 fn see_member(member: &Marked)
     ensures { HasMonomialsAlone member.now }
 {

@@ -13,7 +13,7 @@ use gf_division::{autoreduce, is_needed};
 use gf_poly::{Marked, MarkedSet};
 use std::alloc::Global;
 
-// Whether the member at the place `i` is monic, and no mark divides its tail.
+/// Whether the member at the place `i` is monic, and no mark divides its tail.
 fn is_settled(items: &[Marked], i: usize) -> bool
     requires within { i < length items.now }
     requires variables { ShareSomeVariables items.now }
@@ -27,7 +27,7 @@ fn is_settled(items: &[Marked], i: usize) -> bool
     is_reduced(member.poly().terms(), items, head)
 }
 
-// Whether the member at the place `i` is needed; nothing where it is and has to be worked on.
+/// Whether the member at the place `i` is needed; nothing where it is and has to be worked on.
 fn pick(items: &[Marked], i: usize) -> Option<bool>
     requires within { i < length items.now }
     requires variables { ShareSomeVariables items.now }
@@ -42,7 +42,7 @@ fn pick(items: &[Marked], i: usize) -> Option<bool>
     Some(true)
 }
 
-// Of each member whether it is needed; nothing where a needed one has to be worked on.
+/// Of each member whether it is needed; nothing where a needed one has to be worked on.
 fn picks(alloc: Global, items: &[Marked]) -> Option<Vec<bool>>
     requires { ShareSomeVariables items.now }
     ensures { IfSome result (λ flags. ArePicked items.now flags.items (length items.now)) }
@@ -58,7 +58,7 @@ fn picks(alloc: Global, items: &[Marked]) -> Option<Vec<bool>>
     Some(flags)
 }
 
-// Adds a member, unless it isn't picked.
+/// Adds a member, unless it isn't picked.
 fn keep(kept: &mut Vec<Marked>, member: Marked, needed: bool) -> Option<()>
     ensures { IfSome result (λ _. IsKeptWhere needed member kept.old.items kept.new.items) }
 {
@@ -71,7 +71,7 @@ fn keep(kept: &mut Vec<Marked>, member: Marked, needed: bool) -> Option<()>
     }
 }
 
-// The picked members.
+/// The picked members.
 fn picked(alloc: Global, members: Vec<Marked>, flags: &[bool]) -> Option<Vec<Marked>>
     requires { ArePicked members.items flags.now (length members.items) }
     ensures { IfSome result (λ kept. IsPickedFrom members.items kept.items) }
@@ -85,7 +85,7 @@ fn picked(alloc: Global, members: Vec<Marked>, flags: &[bool]) -> Option<Vec<Mar
     Some(kept)
 }
 
-// The members autoreduced.
+/// The members autoreduced.
 fn autoreduced(alloc: Global, n: u32, members: Vec<Marked>) -> Option<MarkedSet>
     requires variables { HaveVariables n members.items }
     requires realisable { IsRealisable n members.items }
@@ -98,7 +98,7 @@ fn autoreduced(alloc: Global, n: u32, members: Vec<Marked>) -> Option<MarkedSet>
     }
 }
 
-// The picked members arranged.
+/// The picked members arranged.
 fn arranged(alloc: Global, n: u32, members: Vec<Marked>, flags: &[bool]) -> Option<MarkedSet>
     requires variables { HaveVariables n members.items }
     requires realisable { IsRealisable n members.items }

@@ -19,7 +19,7 @@ use gf_division::{Dividend, divisor_of, place_of, weight_of};
 use gf_poly::{Marked, Mono, Poly, PolyError, Term};
 use std::alloc::Global;
 
-// Whether the mark of a lift divides `x`; it isn't tried where both are of copied lifts.
+/// Whether the mark of a lift divides `x`; it isn't tried where both are of copied lifts.
 fn reduces(lift: &Marked, is_copy: bool, x: &Mono, of_copy: bool) -> bool
     requires { HasVariables (length x.now) lift.now.poly }
     ensures { result ≡ false → (of_copy ≡ true → is_copy ≡ true → ⊥) → Divides lift.now.head x.now → ⊥ }
@@ -30,7 +30,7 @@ fn reduces(lift: &Marked, is_copy: bool, x: &Mono, of_copy: bool) -> bool
     lift.head().divides(x)
 }
 
-// Whether the mark of one of the lifts that are tried divides `x`.
+/// Whether the mark of one of the lifts that are tried divides `x`.
 fn is_divided(lifts: &[Marked], copied: &[bool], x: &Mono, of_copy: bool) -> bool
     requires variables { HaveVariables (length x.now) lifts.now }
     requires flags { length copied.now ≡ length lifts.now }
@@ -45,7 +45,7 @@ fn is_divided(lifts: &[Marked], copied: &[bool], x: &Mono, of_copy: bool) -> boo
     false
 }
 
-// Whether a term at `x` that isn't the marked one is divided by a mark that is tried.
+/// Whether a term at `x` that isn't the marked one is divided by a mark that is tried.
 fn is_divided_beside(
     lifts: &[Marked],
     copied: &[bool],
@@ -63,7 +63,7 @@ fn is_divided_beside(
     is_divided(lifts, copied, x, of_copy)
 }
 
-// Whether no unmarked term of the lift at a place is divided by a mark that is tried.
+/// Whether no unmarked term of the lift at a place is divided by a mark that is tried.
 fn stays(lifts: &[Marked], copied: &[bool], at: usize) -> bool
     requires inside { at < length lifts.now }
     requires flags { length copied.now ≡ length lifts.now }
@@ -84,7 +84,7 @@ fn stays(lifts: &[Marked], copied: &[bool], at: usize) -> bool
     true
 }
 
-// Whether `y` is another monomial than the head.
+/// Whether `y` is another monomial than the head.
 fn is_unmarked(head: &Mono, y: &Mono) -> bool
     requires { length head.now ≡ length y.now }
     ensures yes { IsTrue result → same y.now head.now ≡ false }
@@ -93,7 +93,7 @@ fn is_unmarked(head: &Mono, y: &Mono) -> bool
     head.exponents() != y.exponents()
 }
 
-// The lift that reduces a term at `y`, which isn't the marked one.
+/// The lift that reduces a term at `y`, which isn't the marked one.
 fn divisor_beside(y: &Mono, lifts: &[Marked], head: &Mono) -> Option<usize>
     requires members { HaveVariables (length y.now) lifts.now }
     requires head { length head.now ≡ length y.now }
@@ -107,7 +107,7 @@ fn divisor_beside(y: &Mono, lifts: &[Marked], head: &Mono) -> Option<usize>
     }
 }
 
-// How heavy a monomial is, as far as the numbers fit. Nothing is asked of it: reductions end by any order of terms.
+/// How heavy a monomial is, as far as the numbers fit. Nothing is asked of it: reductions end by any order of terms.
 fn heft_of(weight: &[i64], x: &[u32]) -> i64 {
     let mut sum = 0i64;
     'entries: for (w, e) in weight.iter().zip(x) {
@@ -116,7 +116,7 @@ fn heft_of(weight: &[i64], x: &[u32]) -> i64 {
     sum
 }
 
-// The heaviest unmarked term, of those that aren't heavier than the bar, that a lift reduces; and the first such lift.
+/// The heaviest unmarked term, of those that aren't heavier than the bar, that a lift reduces; and the first such lift.
 fn heaviest(
     f: &Poly,
     lifts: &[Marked],
@@ -145,8 +145,8 @@ fn heaviest(
     best
 }
 
-// The heaviest such term that isn't heavier than the bar; where there is none, since the weight may be a wrong one, the
-// heaviest of all.
+/// The heaviest such term that isn't heavier than the bar; where there is none, since the weight may be a wrong one, the
+/// heaviest of all.
 fn next_term(
     f: &Poly,
     lifts: &[Marked],
@@ -164,7 +164,7 @@ fn next_term(
     heaviest(f, lifts, head, weight, i64::MAX)
 }
 
-// The polynomial after the step at its monomial `at` by a lift, whose mark divides it.
+/// The polynomial after the step at its monomial `at` by a lift, whose mark divides it.
 fn stepped(alloc: Global, f: Poly, at: &Mono, by: &Marked) -> Result<Poly, PolyError>
     requires variables { HasVariables (length at.now) f }
     requires member { HasVariables (length at.now) by.now.poly }
@@ -194,7 +194,7 @@ pub fn is_reduced(terms: &[Term], lifts: &[Marked], head: &Mono) -> bool
     true
 }
 
-// The lift at a place with its tail reduced by all of them, the heaviest term first, if all numbers fit.
+/// The lift at a place with its tail reduced by all of them, the heaviest term first, if all numbers fit.
 fn reduced_lift(alloc: Global, lifts: &[Marked], at: usize, weight: &[i64]) -> Option<Marked>
     requires inside { at < length lifts.now }
     requires marked { HasSomeWeight lifts.now }
@@ -222,7 +222,7 @@ fn reduced_lift(alloc: Global, lifts: &[Marked], at: usize, weight: &[i64]) -> O
     Some(Marked::mark(rest, place))
 }
 
-// Reduces the tail of the lift at a place, unless it stays. A weight is found where one is needed first.
+/// Reduces the tail of the lift at a place, unless it stays. A weight is found where one is needed first.
 fn settle(
     alloc: Global,
     all: &mut Vec<Marked>,

@@ -28,7 +28,7 @@ pub struct Lifts {
     pub copied: Vec<bool>,
 }
 
-// The member that reduces a term at `y`, if that is a multiple of the normal apart from `x`.
+/// The member that reduces a term at `y`, if that is a multiple of the normal apart from `x`.
 fn reducer_on_line(
     y: &Mono,
     by: &[Marked],
@@ -50,8 +50,8 @@ fn reducer_on_line(
     divisor_of(y, by)
 }
 
-// Moves the place down to the first term that is a multiple of the normal apart from `x` and that a member reduces; the
-// place of that member, if there is such a term.
+/// Moves the place down to the first term that is a multiple of the normal apart from `x` and that a member reduces; the
+/// place of that member, if there is such a term.
 fn seek_line(
     rest: &mut Dividend,
     by: &[Marked],
@@ -82,7 +82,7 @@ fn seek_line(
     Some(None)
 }
 
-// Whether no term is a multiple of the normal apart from `x`.
+/// Whether no term is a multiple of the normal apart from `x`.
 fn is_off(terms: &[Term], x: &Mono, normal: &[i128], pivot: usize) -> bool
     requires terms { HasVariables (length normal.now) terms.now }
     requires variables { length x.now ≡ length normal.now }
@@ -100,8 +100,8 @@ fn is_off(terms: &[Term], x: &Mono, normal: &[i128], pivot: usize) -> bool
     true
 }
 
-// What steps by the members lead to, each at a term that is a multiple of the normal apart from `x`, once no member reduces
-// such a term; if none is left.
+/// What steps by the members lead to, each at a term that is a multiple of the normal apart from `x`, once no member reduces
+/// such a term; if none is left.
 fn top_remainder(
     alloc: Global,
     f: Poly,
@@ -137,7 +137,7 @@ fn top_remainder(
     Some(left)
 }
 
-// A member less what steps by the set lead to, marked as it is.
+/// A member less what steps by the set lead to, marked as it is.
 fn top_lift(
     alloc: Global,
     member: &Marked,
@@ -168,8 +168,8 @@ fn top_lift(
     Some(Marked::mark(poly, place))
 }
 
-// The lift, of the one kind or the other, and whether it is copied from the set. A member of the set with the same mark is looked
-// for from a place on.
+/// The lift, of the one kind or the other, and whether it is copied from the set. A member of the set with the same mark is looked
+/// for from a place on.
 fn lifted(
     alloc: Global,
     member: &Marked,
@@ -196,7 +196,7 @@ fn lifted(
     Some((lift, false))
 }
 
-// Whether no term of the member but the marked one is a multiple of the normal apart from the mark.
+/// Whether no term of the member but the marked one is a multiple of the normal apart from the mark.
 fn is_alone(member: &Marked, normal: &[i128], pivot: usize) -> bool
     requires variables { HasVariables (length normal.now) member.now.poly }
     requires bounded { AreBounded normal.now }
@@ -215,7 +215,7 @@ fn is_alone(member: &Marked, normal: &[i128], pivot: usize) -> bool
     true
 }
 
-// Whether `x` is another monomial than the head, and a multiple of the normal apart from it.
+/// Whether `x` is another monomial than the head, and a multiple of the normal apart from it.
 fn is_beside_on_line(x: &Mono, head: &Mono, normal: &[i128], pivot: usize) -> bool
     requires same_length { length x.now ≡ length normal.now }
     requires same_variables { length head.now ≡ length normal.now }
@@ -230,7 +230,7 @@ fn is_beside_on_line(x: &Mono, head: &Mono, normal: &[i128], pivot: usize) -> bo
     }
 }
 
-// Whether the member has this mark.
+/// Whether the member has this mark.
 fn has_mark(member: &Marked, head: &Mono) -> bool
     ensures { IsTrue result → member.now.head ≡ head.now }
 {
@@ -240,7 +240,7 @@ fn has_mark(member: &Marked, head: &Mono) -> bool
     }
 }
 
-// The place of a member with this mark, looked for from a place on, and then before it.
+/// The place of a member with this mark, looked for from a place on, and then before it.
 fn place_of_mark(head: &Mono, by: &[Marked], from: usize) -> Option<usize>
     ensures { IfSome result (λ j. IsMarkedAt by.now head.now j) }
 {
@@ -257,7 +257,7 @@ fn place_of_mark(head: &Mono, by: &[Marked], from: usize) -> Option<usize>
     None
 }
 
-// The member of the set with the mark of a monomial, if no other term of it is along the normal. It is looked for from a place on.
+/// The member of the set with the mark of a monomial, if no other term of it is along the normal. It is looked for from a place on.
 fn untouched(
     alloc: Global,
     member: &Marked,
@@ -291,7 +291,7 @@ fn untouched(
     }
 }
 
-// Adds a lift.
+/// Adds a lift.
 fn push(lifts: &mut Lifts, lift: Marked, is_copy: bool) -> Option<()>
     ensures members { IfSome result (λ _. lifts.new.members.items ≡ lifts.old.members.items ++ lift ∷ []) }
     ensures copied { IfSome result (λ _. lifts.new.copied.items ≡ lifts.old.copied.items ++ is_copy ∷ []) }

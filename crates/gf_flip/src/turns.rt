@@ -29,7 +29,7 @@ pub struct Task<'a> {
     pub order: &'a Order,
 }
 
-// Whether the pair needs no reduction: both have one monomial alone, or the marks are coprime.
+/// Whether the pair needs no reduction: both have one monomial alone, or the marks are coprime.
 fn is_excused(b: &Marked, c: &Marked) -> bool
     requires { length b.now.head ≡ length c.now.head }
     ensures { IsTrue result → ArePairExcused b.now c.now }
@@ -40,7 +40,7 @@ fn is_excused(b: &Marked, c: &Marked) -> bool
     are_coprime(b.head(), c.head())
 }
 
-// The fraction 1.
+/// The fraction 1.
 fn one() -> Frac
     ensures { result ≡ one_ℚ }
 {
@@ -54,7 +54,7 @@ pub fn is_monic(member: &Marked) -> bool
     member.coefficient() == one()
 }
 
-// The polynomial divided by its marked coefficient, if all numbers fit; where that is 1 it is moved.
+/// The polynomial divided by its marked coefficient, if all numbers fit; where that is 1 it is moved.
 fn made_monic(f: Marked) -> Option<Marked>
     ensures { IfSome result (IsMadeFrom f) }
 {
@@ -67,7 +67,7 @@ fn made_monic(f: Marked) -> Option<Marked>
     }
 }
 
-// Adds the monic form of `r` as a member, marked at its greatest monomial.
+/// Adds the monic form of `r` as a member, marked at its greatest monomial.
 fn grow(members: &mut Vec<Marked>, order: &Order, r: Poly) -> Option<()>
     requires some { r ≢ [] }
     requires variables { IsAppendable order.now r members.old.items }
@@ -84,7 +84,7 @@ fn grow(members: &mut Vec<Marked>, order: &Order, r: Poly) -> Option<()>
     Some(())
 }
 
-// Whether a mark divides `x`.
+/// Whether a mark divides `x`.
 fn is_divisible(x: &Mono, by: &[Marked]) -> bool
     requires { HaveVariables (length x.now) by.now }
     ensures { result ≡ false → IsDivisible (Contains by.now) x.now → ⊥ }
@@ -95,7 +95,7 @@ fn is_divisible(x: &Mono, by: &[Marked]) -> bool
     }
 }
 
-// Whether no mark divides a term.
+/// Whether no mark divides a term.
 fn is_irreducible(f: &Poly, by: &[Marked]) -> bool
     requires { HaveSameVariables f.now by.now }
     ensures { IsTrue result → IsIrreducible (Contains by.now) f.now }
@@ -110,7 +110,7 @@ fn is_irreducible(f: &Poly, by: &[Marked]) -> bool
     true
 }
 
-// The normal form by the members, if all numbers fit; where no mark divides a term it is the polynomial, which is moved.
+/// The normal form by the members, if all numbers fit; where no mark divides a term it is the polynomial, which is moved.
 fn normal_of(alloc: Global, f: Poly, by: &[Marked]) -> Option<Poly>
     requires marked { HasSomeWeight by.now }
     requires variables { HaveSameVariables f by.now }
@@ -126,7 +126,7 @@ fn normal_of(alloc: Global, f: Poly, by: &[Marked]) -> Option<Poly>
     }
 }
 
-// Reduces a polynomial by the members; what is left is a new member.
+/// Reduces a polynomial by the members; what is left is a new member.
 fn take_in(alloc: Global, members: &mut Vec<Marked>, order: &Order, f: Poly) -> Option<()>
     requires variables { IsAppendable order.now f members.old.items }
     requires marked { HasSomeWeight members.old.items }
@@ -140,7 +140,7 @@ fn take_in(alloc: Global, members: &mut Vec<Marked>, order: &Order, f: Poly) -> 
     Some(())
 }
 
-// Whether the polynomial is one term alone, or isn't.
+/// Whether the polynomial is one term alone, or isn't.
 fn is_of_kind(f: &Poly, single: bool) -> bool
     ensures yes { IsTrue result → IsOfKind single f.now }
     ensures no { result ≡ false → IsOfKind single f.now → ⊥ }
@@ -151,7 +151,7 @@ fn is_of_kind(f: &Poly, single: bool) -> bool
     f.terms().len() != 1
 }
 
-// Each of the polynomials is taken in that is one term alone, or that isn't.
+/// Each of the polynomials is taken in that is one term alone, or that isn't.
 fn enter(alloc: Global, task: &Task, members: &mut Vec<Marked>, single: bool) -> Option<()>
     requires { IsUnderway task.now.order.now task.now.n task.now.list.now members.old.items }
     ensures underway { IfSome result (λ _. IsUnderway task.now.order.now task.now.n task.now.list.now members.new.items) }
@@ -171,7 +171,7 @@ fn enter(alloc: Global, task: &Task, members: &mut Vec<Marked>, single: bool) ->
     Some(())
 }
 
-// Settles the pair of i and j.
+/// Settles the pair of i and j.
 fn take_turn(
     alloc: Global,
     members: &mut Vec<Marked>,
@@ -198,7 +198,7 @@ fn take_turn(
     Some(())
 }
 
-// Settles the pairs of j with the members before it.
+/// Settles the pairs of j with the members before it.
 fn take_row(alloc: Global, members: &mut Vec<Marked>, task: &Task, j: usize) -> Option<()>
     requires turning { IsTurning task.now.order.now task.now.n task.now.list.now members.old.items 0 j }
     requires second { j < length members.old.items }
@@ -212,7 +212,7 @@ fn take_row(alloc: Global, members: &mut Vec<Marked>, task: &Task, j: usize) -> 
     Some(())
 }
 
-// All polynomials are taken in, and all pairs are settled; at most `bound` members are worked off.
+/// All polynomials are taken in, and all pairs are settled; at most `bound` members are worked off.
 fn run(alloc: Global, task: &Task, bound: u64) -> Option<Vec<Marked>>
     requires { IsBasisJob task.now.order.now task.now.n task.now.list.now }
     ensures turning { IfSome result (λ bs. IsTurning task.now.order.now task.now.n task.now.list.now bs.items 0 (length bs.items)) }
@@ -231,7 +231,7 @@ fn run(alloc: Global, task: &Task, bound: u64) -> Option<Vec<Marked>>
     None
 }
 
-// The reduced basis, if all numbers fit and no list has more members than `bound`.
+/// The reduced basis, if all numbers fit and no list has more members than `bound`.
 fn basis_in_turn(alloc: Global, task: &Task, bound: u64) -> Option<MarkedSet>
     requires { IsBasisJob task.now.order.now task.now.n task.now.list.now }
     ensures { IfSome result (IsArrangedBasis task.now.order.now task.now.n task.now.list.now) }

@@ -11,7 +11,7 @@ ghost use Rattle.gf_frac.specs.Fits.{FitsSum, IsSum, IsSumWorking, FitsProduct, 
 use gf_gcd::gcd;
 use std::cmp::Ordering;
 
-// The product with a natural number, where it is in range.
+/// The product with a natural number, where it is in range.
 fn scaled(a: i128, k: u128) -> Option<i128>
     requires { k < 2 ^ 127 }
     ensures { MatchOption result (¬ (InRange (a *ℤ pos k))) (λ z. (z ≡ a *ℤ pos k) × InRange z) }
@@ -19,7 +19,7 @@ fn scaled(a: i128, k: u128) -> Option<i128>
     product(a, k as i128)
 }
 
-// The product, where it is in range; of numbers of 64 bits it always is.
+/// The product, where it is in range; of numbers of 64 bits it always is.
 fn product(a: i128, c: i128) -> Option<i128>
     ensures { MatchOption result (¬ (InRange (a *ℤ c))) (λ z. (z ≡ a *ℤ c) × InRange z) }
 {
@@ -30,7 +30,7 @@ fn product(a: i128, c: i128) -> Option<i128>
     if z == i128::MIN { None } else { Some(z) }
 }
 
-// The product of numbers of 64 bits.
+/// The product of numbers of 64 bits.
 fn narrow_product(a: i64, c: i64) -> i128
     ensures value { result ≡ a *ℤ c }
     ensures range { InRange result }
@@ -38,7 +38,7 @@ fn narrow_product(a: i64, c: i64) -> i128
     i128::from(a) * i128::from(c)
 }
 
-// The sum, where it is in range.
+/// The sum, where it is in range.
 fn total(a: i128, b: i128) -> Option<i128>
     ensures { MatchOption result (¬ (InRange (a +ℤ b))) (λ z. (z ≡ a +ℤ b) × InRange z) }
 {
@@ -46,7 +46,7 @@ fn total(a: i128, b: i128) -> Option<i128>
     if z == i128::MIN { None } else { Some(z) }
 }
 
-// The product of natural numbers, where it is in range.
+/// The product of natural numbers, where it is in range.
 fn common_multiple(b: u128, k: u128) -> Option<u128>
     ensures { MatchOption result (2 ^ 127 ≤ b * k) (λ z. (z ≡ b * k) × (z < 2 ^ 127)) }
 {
@@ -54,7 +54,7 @@ fn common_multiple(b: u128, k: u128) -> Option<u128>
     if z >> 127 == 0 { Some(z) } else { None }
 }
 
-// The product of natural numbers, where it is below 2^128; of numbers of 64 bits it always is.
+/// The product of natural numbers, where it is below 2^128; of numbers of 64 bits it always is.
 fn natural_product(b: u128, k: u128) -> Option<u128>
     ensures { MatchOption result (2 ^ 128 ≤ b * k) (λ z. z ≡ b * k) }
 {
@@ -64,7 +64,7 @@ fn natural_product(b: u128, k: u128) -> Option<u128>
     b.checked_mul(k)
 }
 
-// The greatest common divisor with a positive number.
+/// The greatest common divisor with a positive number.
 fn common(a: u128, b: u128) -> u128
     requires { 0 < b }
     ensures value { result ≡ greatest_common a b }
@@ -77,7 +77,7 @@ fn common(a: u128, b: u128) -> u128
     gcd(b, a % b)
 }
 
-// The negative of a number in range.
+/// The negative of a number in range.
 pub fn negated(z: i128) -> i128
     requires { InRange z }
     ensures { result ≡ neg_ℤ z }
@@ -85,7 +85,7 @@ pub fn negated(z: i128) -> i128
     -z
 }
 
-// The denominator `q` with the sign of `p`; zero where `p` is zero.
+/// The denominator `q` with the sign of `p`; zero where `p` is zero.
 pub fn signed_like(p: i128, q: u128) -> i128
     requires { q < 2 ^ 127 }
     ensures { result ≡ signed_as p q }
@@ -97,7 +97,7 @@ pub fn signed_like(p: i128, q: u128) -> i128
     }
 }
 
-// The quotient, rounded toward zero.
+/// The quotient, rounded toward zero.
 fn quotient(a: i128, g: u128) -> i128
     requires positive { 0 < g }
     requires fits { g < 2 ^ 127 }
@@ -109,7 +109,7 @@ fn quotient(a: i128, g: u128) -> i128
     a / g as i128
 }
 
-// The quotient of natural numbers.
+/// The quotient of natural numbers.
 fn natural_quotient(q: u128, g: u128) -> u128
     requires { 0 < g }
     ensures { result ≡ q / g }
@@ -123,7 +123,7 @@ fn natural_quotient(q: u128, g: u128) -> u128
     q / g
 }
 
-// The numbers of the lowest terms of `p/q`, whose common divisors are those of `p` and `g`.
+/// The numbers of the lowest terms of `p/q`, whose common divisors are those of `p` and `g`.
 fn lowest_by(p: i128, q: u128, g: u128) -> (i128, u128)
     requires numerator { InRange p }
     requires positive { 0 < q }
@@ -162,7 +162,7 @@ pub fn sum_parts(a: i128, b: u128, c: i128, d: u128) -> Option<(i128, u128)>
     sum_of_quotients(a, b, c, d)
 }
 
-// The same of whole numbers.
+/// The same of whole numbers.
 fn whole_sum(a: i128, c: i128) -> Option<(i128, u128)>
     requires left { InRange a }
     requires right { InRange c }
@@ -174,7 +174,7 @@ fn whole_sum(a: i128, c: i128) -> Option<(i128, u128)>
     Some((numerator, 1))
 }
 
-// The same of any fractions.
+/// The same of any fractions.
 fn sum_of_quotients(a: i128, b: u128, c: i128, d: u128) -> Option<(i128, u128)>
     requires left { IsLowest a b }
     requires right { IsLowest c d }
@@ -186,7 +186,7 @@ fn sum_of_quotients(a: i128, b: u128, c: i128, d: u128) -> Option<(i128, u128)>
     Some(lowest_by(numerator, denominator, divisor))
 }
 
-// The numbers of a sum's working, and the common divisor of the denominators, where they are in range.
+/// The numbers of a sum's working, and the common divisor of the denominators, where they are in range.
 fn sum_working(a: i128, b: u128, c: i128, d: u128) -> Option<(i128, u128, u128)>
     requires left { IsLowest a b }
     requires right { IsLowest c d }
@@ -221,7 +221,7 @@ pub fn product_parts(a: i128, b: u128, c: i128, d: u128) -> Option<(i128, u128)>
     product_of_quotients(a, b, c, d)
 }
 
-// The same of whole numbers.
+/// The same of whole numbers.
 fn whole_product(a: i128, c: i128) -> Option<(i128, u128)>
     ensures { MatchOption result (¬ (FitsProduct a 1 c 1)) (IsProduct a 1 c 1) }
 {
@@ -231,7 +231,7 @@ fn whole_product(a: i128, c: i128) -> Option<(i128, u128)>
     Some((numerator, 1))
 }
 
-// The same of any fractions.
+/// The same of any fractions.
 fn product_of_quotients(a: i128, b: u128, c: i128, d: u128) -> Option<(i128, u128)>
     requires left { IsLowest a b }
     requires right { IsLowest c d }

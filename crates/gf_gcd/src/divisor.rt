@@ -22,7 +22,7 @@ pub fn gcd(a: u128, b: u128) -> u128
     x
 }
 
-// The remainder of a division.
+/// The remainder of a division.
 fn remainder(x: u128, y: u128) -> u128
     requires { 0 < y }
     ensures { result ≡ x % y }

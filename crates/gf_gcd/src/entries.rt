@@ -17,7 +17,7 @@ pub fn content(xs: &[i128]) -> u128
     if common == 0 { 1 } else { common }
 }
 
-// The greatest common divisor of the entries; of zeros alone it is 0.
+/// The greatest common divisor of the entries; of zeros alone it is 0.
 fn gcd_of_all(xs: &[i128]) -> u128
     requires range { All InRange xs.now }
     ensures common { IsGcdOfAll xs.now result }

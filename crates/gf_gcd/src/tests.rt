@@ -1,7 +1,7 @@
 use super::*;
 use std::test::Fail;
 
-// by hand
+/// by hand
 #[test]
 fn divisors(rt: HostRuntime) -> Result<(), Fail> {
     assert_eq!(rt; gcd(12, 18), 6);
@@ -11,7 +11,7 @@ fn divisors(rt: HostRuntime) -> Result<(), Fail> {
     Ok(())
 }
 
-// by hand; the content of zeros is 1
+/// by hand; the content of zeros is 1
 #[test]
 fn contents(rt: HostRuntime) -> Result<(), Fail> {
     assert_eq!(rt; content(&[4, -6, 0]), 2);

@@ -8,14 +8,14 @@ use gf_frac::Frac;
 use gf_poly::{Mono, Poly, PolyError, ROOM, Term};
 use std::alloc::Global;
 
-// Whether these are the exponents of a monomial.
+/// Whether these are the exponents of a monomial.
 fn is_monomial(exponents: &[u32]) -> bool
     ensures { IsTrue result → IsMonomial exponents.now }
 {
     exponents.len() <= ROOM && exponents.iter().all(|k| *k < 1 << 31)
 }
 
-// The term of a row, unless the coefficient or an exponent leaves its range.
+/// The term of a row, unless the coefficient or an exponent leaves its range.
 fn term<const N: usize>(alloc: Global, coef: i128, exponents: [u32; N]) -> Option<Term>
     ensures { IfSome result (λ t. length t.mono ≡ N) }
 {

@@ -2,7 +2,7 @@ use super::*;
 use gf_poly::PolyError;
 use std::test::Fail;
 
-// 2ab - a + a, and 3a^2 + b marked at b; and what is no polynomial
+/// 2ab - a + a, and 3a^2 + b marked at b; and what is no polynomial
 #[test]
 fn rows(rt: HostRuntime) -> Result<(), Fail> {
     let alloc = rt.alloc();

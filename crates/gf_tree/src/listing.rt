@@ -12,7 +12,7 @@ use crate::{TreeError, Walker, to_root};
 use gf_poly::MarkedSet;
 use std::alloc::Global;
 
-// A basis and all below it, each once, in the order of their paths.
+/// A basis and all below it, each once, in the order of their paths.
 fn listed_below(alloc: Global, top: MarkedSet, pairs: u64) -> Result<Vec<MarkedSet>, TreeError>
     requires { IsNodeIn (ideal_of top) top }
     ensures value { IfOk result (λ v. AreLeft (walk_at top pairs) v.items) }
@@ -26,7 +26,7 @@ fn listed_below(alloc: Global, top: MarkedSet, pairs: u64) -> Result<Vec<MarkedS
     Ok(all)
 }
 
-// What `list_bases` answers.
+/// What `list_bases` answers.
 fn listed(alloc: Global, set: MarkedSet, pairs: u64) -> Result<Vec<MarkedSet>, TreeError>
     requires { IsNodeIn (ideal_of set) set }
     ensures value { IfOk result (λ v. IsListOfBases (all_positive set.variables) set v.items) }

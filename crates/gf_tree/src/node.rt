@@ -44,7 +44,7 @@ impl Node {
         }
     }
 
-    // The basis.
+    /// The basis.
     pub(crate) fn basis(&self) -> &MarkedSet
         ensures { result.now ≡ self.now }
     {
@@ -59,7 +59,7 @@ impl Node {
     }
 }
 
-// The cone of a basis, of which nothing is known yet.
+/// The cone of a basis, of which nothing is known yet.
 pub(crate) fn cone_of(alloc: Global, set: &MarkedSet) -> Result<KnownCone, AllocError>
     ensures { IfOk result (IsConeOf set.now.variables (all_positive set.now.variables) set.now.items) }
 {
@@ -67,8 +67,8 @@ pub(crate) fn cone_of(alloc: Global, set: &MarkedSet) -> Result<KnownCone, Alloc
     KnownCone::new(alloc, cone, None)
 }
 
-// The cone of a basis, with a vector of its inside. That is looked for near a vector inside the facet that the cone shares with a
-// neighbour, whose normal there is `normal`.
+/// The cone of a basis, with a vector of its inside. That is looked for near a vector inside the facet that the cone shares with a
+/// neighbour, whose normal there is `normal`.
 pub(crate) fn cone_near(
     alloc: Global,
     set: &MarkedSet,
@@ -82,7 +82,7 @@ pub(crate) fn cone_near(
     KnownCone::new(alloc, cone, inner)
 }
 
-// A normal, and a vector inside its facet.
+/// A normal, and a vector inside its facet.
 #[derive(Drop)]
 pub(crate) struct Facet {
     pub(crate) normal: IntVec,
@@ -97,7 +97,7 @@ impl Model for Facet {
     ghost view = { λ f. f.normal };
 }
 
-// A basis across a facet, and a vector inside the facet.
+/// A basis across a facet, and a vector inside the facet.
 #[derive(Drop)]
 pub(crate) struct Neighbour {
     pub(crate) basis: MarkedSet,

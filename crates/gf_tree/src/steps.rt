@@ -19,7 +19,7 @@ use gf_vec::IntVec;
 use std::alloc::{AllocError, Global};
 use std::cmp::Ordering;
 
-// The place of a vector in a list.
+/// The place of a vector in a list.
 fn place_of(list: &[IntVec], v: &IntVec) -> Option<usize>
     ensures { IsVectorPlace list.now v.now result }
 {
@@ -32,7 +32,7 @@ fn place_of(list: &[IntVec], v: &IntVec) -> Option<usize>
     None
 }
 
-// The neighbour across a flippable normal.
+/// The neighbour across a flippable normal.
 pub(crate) fn crossed(
     tree: &BasisTree,
     set: &MarkedSet,
@@ -48,7 +48,7 @@ pub(crate) fn crossed(
     Ok(across)
 }
 
-// The neighbour across a flippable normal, with its cone.
+/// The neighbour across a flippable normal, with its cone.
 pub(crate) fn arrived(tree: &BasisTree, node: &Node, facet: &Facet) -> Result<Node, TreeError>
     requires node { IsNode (all_positive tree.now.variables) node.now }
     requires flippable { IsFlippable node.now.variables (all_positive tree.now.variables) node.now.items facet.now }
@@ -63,7 +63,7 @@ pub(crate) fn arrived(tree: &BasisTree, node: &Node, facet: &Facet) -> Result<No
     })
 }
 
-// What `below` answers, by the cone of the basis.
+/// What `below` answers, by the cone of the basis.
 fn below_in(
     tree: &BasisTree,
     set: &MarkedSet,
@@ -94,7 +94,7 @@ fn below_in(
     }
 }
 
-// The neighbour across a facet that leads down from a basis; none where no flip may cross it, or where it lies towards the root.
+/// The neighbour across a facet that leads down from a basis; none where no flip may cross it, or where it lies towards the root.
 pub(crate) fn below(
     tree: &BasisTree,
     node: &Node,
@@ -113,7 +113,7 @@ pub(crate) fn below(
     }
 }
 
-// The way up, by the cone of the basis: the least flippable normal that is negative at the root.
+/// The way up, by the cone of the basis: the least flippable normal that is negative at the root.
 pub(crate) fn way_in(
     tree: &BasisTree,
     set: &MarkedSet,
@@ -136,7 +136,7 @@ pub(crate) fn way_in(
     }))
 }
 
-// The way up.
+/// The way up.
 pub(crate) fn way_up(tree: &BasisTree, node: &Node) -> Result<Option<Facet>, TreeError>
     requires { IsNode (all_positive tree.now.variables) node.now }
     ensures ok { IfOk result (IsWayAnswer (all_positive tree.now.variables) node.now) }
@@ -151,8 +151,8 @@ pub(crate) fn way_up(tree: &BasisTree, node: &Node) -> Result<Option<Facet>, Tre
     }
 }
 
-// A neighbour with its cone, where the facet that was crossed is its way up; `normal` is its normal on the other side, and `back`
-// on this one. The cone knows a vector inside that facet, and keeps what is found out.
+/// A neighbour with its cone, where the facet that was crossed is its way up; `normal` is its normal on the other side, and `back`
+/// on this one. The cone knows a vector inside that facet, and keeps what is found out.
 pub(crate) fn led_back(
     tree: &BasisTree,
     neighbour: Neighbour,
@@ -179,7 +179,7 @@ pub(crate) fn led_back(
     }
 }
 
-// These vectors again.
+/// These vectors again.
 fn copied(alloc: Global, list: &[IntVec]) -> Result<Vec<IntVec>, AllocError>
     ensures { IfOk result (λ v. v.items ≡ list.now) }
 {
@@ -191,7 +191,7 @@ fn copied(alloc: Global, list: &[IntVec]) -> Result<Vec<IntVec>, AllocError>
     Ok(out)
 }
 
-// The normals of a basis, each once, ascending.
+/// The normals of a basis, each once, ascending.
 pub(crate) fn normals(tree: &BasisTree, node: &Node) -> Result<Vec<IntVec>, AllocError>
     ensures { IfOk result (λ ns. AreNormals node.now.items ns.items) }
 {

@@ -12,7 +12,7 @@ use crate::{BasisTree, Node, Parent, TreeError};
 use gf_poly::MarkedSet;
 use std::alloc::Global;
 
-// What is above a basis.
+/// What is above a basis.
 fn above(tree: &BasisTree, set: &MarkedSet) -> Result<Parent, TreeError>
     requires same { tree.now.variables ≡ set.now.variables }
     requires basis { IsNodeIn (ideal_of set.now) set.now }
@@ -31,7 +31,7 @@ fn above(tree: &BasisTree, set: &MarkedSet) -> Result<Parent, TreeError>
     })
 }
 
-// The root above a basis.
+/// The root above a basis.
 fn ascended(tree: &BasisTree, set: MarkedSet) -> Result<MarkedSet, TreeError>
     requires same { tree.now.variables ≡ set.variables }
     requires basis { IsNodeIn (ideal_of set) set }

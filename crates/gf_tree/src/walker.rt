@@ -82,7 +82,7 @@ impl Walker {
         self.inner
     }
 
-    // What `advance` answers.
+    /// What `advance` answers.
     fn step(&mut self) -> Result<Option<MarkedSet>, TreeError>
         ensures ok { IfOk result (IsAdvance self.old self.new) }
         ensures unchanged { OnErr result (self.new ≡ self.old) }
@@ -138,7 +138,7 @@ impl Walker {
     }
 }
 
-// What `after` answers.
+/// What `after` answers.
 fn resume(tree: BasisTree, basis: MarkedSet) -> Result<Walker, TreeError>
     requires same { tree.variables ≡ basis.variables }
     requires basis { IsNodeIn (ideal_of basis) basis }

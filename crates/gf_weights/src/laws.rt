@@ -1,4 +1,4 @@
-// What the printed weights and witnesses have.
+//! What the printed weights and witnesses have.
 ghost use Rattle.gf_weights.specs.Laws.{WeightsGiveBases, WitnessesAreInside, CertificatesAreUnique, CertificatesExist};
 
 /// The printed weight gives the marks, and a marked reduced basis is the reduced one for its printed weight (Fukuda, Jensen,

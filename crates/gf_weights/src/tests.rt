@@ -4,12 +4,12 @@ use gf_samples::marked_set;
 use gf_vec::IntVec;
 use std::test::Fail;
 
-// Whether the entries are these.
+/// Whether the entries are these.
 fn is(v: &IntVec, entries: &[i128]) -> bool {
     v.as_slice() == entries
 }
 
-// Whether the only facet has this normal and this witness.
+/// Whether the only facet has this normal and this witness.
 fn is_one(facets: &[FacetWitness], normal: &[i128], witness: &[i128]) -> bool {
     match facets {
         [facet] => is(&facet.normal, normal) && is(&facet.witness, witness),
