@@ -13,7 +13,7 @@ use std::alloc::{AllocError, Global};
 const LIMIT: i128 = 1 << 62;
 
 /// The column that is basic in a line.
-#[derive(Clone, Copy, Debug, PartialEq, Eq, PartialOrd, Ord)]
+#[derive(Clone, Copy, PartialEq, Eq, PartialOrd, Ord)]
 pub(crate) enum Column {
     Row(usize),
     Equation(usize),

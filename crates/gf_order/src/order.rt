@@ -13,13 +13,13 @@ use std::marker::Model;
 
 /// A weight with which an order is no term order; `index` is the place, counted from 0, of its first entry that is too
 /// small.
-#[derive(Clone, Copy, Debug, PartialEq, Eq)]
+#[derive(Clone, Copy, PartialEq, Eq)]
 pub struct NotTermOrder {
     pub index: u32,
 }
 
 /// Which order it is, with its weight.
-#[derive(Drop, Debug)]
+#[derive(Drop)]
 enum Kind {
     Lex,
     Deglex,
@@ -30,7 +30,7 @@ enum Kind {
 }
 
 /// An order of monomials.
-#[derive(Drop, Debug)]
+#[derive(Drop)]
 pub struct Order {
     kind: Kind,
 }

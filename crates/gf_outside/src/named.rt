@@ -5,7 +5,7 @@ ghost use Rattle.gf_outside.specs.Memory.{place_named, bytes_or_none};
 use std::marker::Model;
 
 /// A file in memory.
-#[derive(Debug, Drop)]
+#[derive(Drop)]
 pub struct MemFile {
     pub name: String,
     pub bytes: Vec<u8>,
