@@ -1,7 +1,6 @@
 -- What is decided: that numbers are equal, what holds of the elements of a list, and which elements something holds of.
 -- To cite: same_or_not, search, each_or_not, Chosen, chosen.
-use Rattle.std.specs.Prelude.{◌≡◌, ◌⊎◌, List, [], ◌∷◌, Contains}
-use Rattle.std.proofs.Common.{arith, sym, subst, inl, inr}
+use Rattle.std.proofs.Common.{◌≡◌, ◌⊎◌, List, [], ◌∷◌, Contains, arith, sym, subst, inl, inr}
 use Rattle.gf_poly.specs.Marking.{Each}
 use Rattle.gf_ideal.proofs.ListLaws.{Contains-here, Contains-there, Contains-cases}
 

@@ -3,8 +3,7 @@
 -- To cite: lists_induction, IsNew, IsDownward, dickson. The rest are steps: the monomials that no listed one divides are covered by
 -- cells, in each of which some exponents are free and the others fixed; a monomial more cuts one cell into cells with
 -- fewer free exponents.
-use Rattle.std.specs.Prelude.{◌≡◌, ◌⊎◌, ℕ, zero, suc, ◌+◌, ◌<◌, ◌≤◌, true, false, Bool, ◌==◌, List, [], ◌∷◌, ◌++◌, length}
-use Rattle.std.proofs.Common.{arith, refl, sym, ap, ◌∙◌, subst, inl, inr}
+use Rattle.std.proofs.Common.{◌≡◌, ◌⊎◌, ℕ, zero, suc, ◌+◌, ◌<◌, ◌≤◌, true, false, Bool, ◌==◌, List, [], ◌∷◌, ◌++◌, length, arith, refl, sym, ap, ◌∙◌, subst, inl, inr}
 use Rattle.std.proofs.lemmas.Bool.{cases_lt}
 use Rattle.std.proofs.lemmas.Bool.Decides.{nat_tests}
 use Rattle.gf_exponents.specs.Exponents.{Exponents, entry, same, plus, IsInRing, NoMultiple}

@@ -1,7 +1,6 @@
 -- The difference of two polynomials, monomial by monomial.
 -- To cite: difference, less_summand, other_summand, less_zero.
-use Rattle.std.specs.Prelude.{◌≡◌, [], ◌++◌}
-use Rattle.std.proofs.Common.{sym, ap, ◌∙◌}
+use Rattle.std.proofs.Common.{◌≡◌, [], ◌++◌, sym, ap, ◌∙◌}
 use Rattle.gf_frac.specs.Fraction.{Fraction, ◌+ℚ◌, ◌*ℚ◌, neg_ℚ, zero_ℚ, one_ℚ}
 use Rattle.gf_frac.proofs.FractionLaws.{+ℚ-zero, +ℚ-neg_ℚ, +ℚ_assoc, +ℚ_comm, zero-+ℚ}
 use Rattle.gf_exponents.specs.Exponents.{Exponents}

@@ -1,8 +1,7 @@
 -- The list of all marked reduced bases of a region, and whether generators and rows are in n variables.
 -- To cite: variables_or_not, AreOfVariables, suits_or_not, basis_of_vector, vector_of_basis,
 -- basis_everywhere, ListedInRegion, listed_in_region.
-use Rattle.std.specs.Prelude.{◌≡◌, ◌⊎◌, ◌≢◌, ℕ, List, [], ◌∷◌, length, Contains, ℤ}
-use Rattle.std.proofs.Common.{arith, inl, inr}
+use Rattle.std.proofs.Common.{◌≡◌, ◌⊎◌, ◌≢◌, ℕ, List, [], ◌∷◌, length, Contains, ℤ, arith, inl, inr}
 use Rattle.std.proofs.lemmas.List.Elements.{All-contains}
 use Rattle.gf_gordan.specs.Alternative.{AreRows}
 use Rattle.gf_frac.specs.Fraction.{zero_ℚ}

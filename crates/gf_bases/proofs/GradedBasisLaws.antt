@@ -1,7 +1,6 @@
 -- What grades the generators grades each basis with reduced tails: homogeneous ideals have homogeneous reduced bases.
 -- To cite: IsOfOneClass, basis-graded, reduced-homogeneous. The rest are steps: the part of one class of a member is a member.
-use Rattle.std.specs.Prelude.{◌≡◌, ◌⊎◌, ℕ, List, [], ◌++◌, Contains}
-use Rattle.std.proofs.Common.{sym, ap, refl, ◌∙◌, subst, inl, inr}
+use Rattle.std.proofs.Common.{◌≡◌, ◌⊎◌, ℕ, List, [], ◌++◌, Contains, sym, ap, refl, ◌∙◌, subst, inl, inr}
 use Rattle.gf_frac.specs.Fraction.{◌+ℚ◌, neg_ℚ, zero_ℚ, one_ℚ}
 use Rattle.gf_frac.proofs.FractionLaws.{+ℚ-neg_ℚ, zero-+ℚ, zero_or_not}
 use Rattle.gf_exponents.specs.Exponents.{Exponents, plus}

@@ -1,7 +1,6 @@
 -- The theorems of specs/Laws.antt.
 -- To cite besides: of_reduced, to_reduced.
-use Rattle.std.specs.Prelude.{◌≡◌, ◌⊎◌, ℕ, suc, ◌<◌, List, [], ◌∷◌, Contains, true}
-use Rattle.std.proofs.Common.{arith, refl, sym, ap, ◌∙◌, subst, inl, inr}
+use Rattle.std.proofs.Common.{◌≡◌, ◌⊎◌, ℕ, suc, ◌<◌, List, [], ◌∷◌, Contains, true, arith, refl, sym, ap, ◌∙◌, subst, inl, inr}
 use Rattle.gf_exponents.specs.Exponents.{Exponents, Divides, IsInRing, NoMultiple, same, plus}
 use Rattle.gf_exponents.specs.Orders.{lighter, IsWeightedBelow}
 use Rattle.gf_exponents.proofs.ExponentsLaws.{plus_comm, multiple_or_not}

@@ -1,8 +1,7 @@
 -- Each Gröbner basis becomes the reduced one, arranged as a program keeps it, with numbers of any size.
 -- To cite: through (divisibility along two quotients), reduced_form. The rest are steps: members whose marks are multiples of
 -- others' are dropped, tails are divided, what is left is arranged.
-use Rattle.std.specs.Prelude.{◌≡◌, ◌⊎◌, if◌then◌else◌, ℕ, Bool, true, false, List, [], ◌∷◌, ◌++◌, Contains}
-use Rattle.std.proofs.Common.{arith, refl, sym, ap, ◌∙◌, subst, inl, inr}
+use Rattle.std.proofs.Common.{◌≡◌, ◌⊎◌, if◌then◌else◌, ℕ, Bool, true, false, List, [], ◌∷◌, ◌++◌, Contains, arith, refl, sym, ap, ◌∙◌, subst, inl, inr}
 use Rattle.gf_frac.specs.Fraction.{Fraction, ◌+ℚ◌, neg_ℚ, zero_ℚ, one_ℚ}
 use Rattle.gf_frac.proofs.FractionLaws.{+ℚ-zero, zero-+ℚ, +ℚ_assoc, +ℚ_comm, +ℚ-neg_ℚ, zero_or_not}
 use Rattle.gf_exponents.specs.Exponents.{Exponents, same, plus, IsInRing, NoMultiple}

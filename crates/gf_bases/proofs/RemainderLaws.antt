@@ -1,8 +1,7 @@
 -- Remainders of members of an ideal, and monic forms.
 -- To cite: remainder (a member is an irreducible member and multiples, none of which leaves a set that steps don't
 -- leave), monic, monic_is, monic-marked.
-use Rattle.std.specs.Prelude.{◌≡◌, ℕ, List, [], ◌++◌, Contains}
-use Rattle.std.proofs.Common.{sym, ap, ◌∙◌}
+use Rattle.std.proofs.Common.{◌≡◌, ℕ, List, [], ◌++◌, Contains, sym, ap, ◌∙◌}
 use Rattle.gf_frac.specs.Fraction.{reciprocal_ℚ, ◌+ℚ◌, ◌*ℚ◌, neg_ℚ, one_ℚ}
 use Rattle.gf_frac.proofs.FractionLaws.{*ℚ_assoc, *ℚ-reciprocal_ℚ, one-*ℚ}
 use Rattle.gf_exponents.specs.Exponents.{Exponents, IsInRing}

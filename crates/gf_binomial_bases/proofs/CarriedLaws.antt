@@ -1,8 +1,7 @@
 -- What steps of a basis of differences make of a difference of two monomials, modulo the parts of the basis: as long as
 -- neither of the two is spanned by the parts, both are carried on to monomials that are the same modulo the parts.
 -- To cite: spans_binomial, spans_chain, spans_turned, IsCarried, carried_reached, alone_reached.
-use Rattle.std.specs.Prelude.{◌≡◌, List, [], ◌++◌, Contains, ℤ, Option, Some, None}
-use Rattle.std.proofs.Common.{ap, sym, ◌∙◌, subst}
+use Rattle.std.proofs.Common.{◌≡◌, List, [], ◌++◌, Contains, ℤ, Option, Some, None, ap, sym, ◌∙◌, subst}
 use Rattle.gf_frac.specs.Fraction.{◌+ℚ◌, neg_ℚ, one_ℚ}
 use Rattle.gf_frac.proofs.FractionLaws.{one-*ℚ, zero-not-one}
 use Rattle.gf_exponents.specs.Exponents.{Exponents, plus}

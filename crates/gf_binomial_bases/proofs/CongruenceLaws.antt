@@ -1,7 +1,6 @@
 -- Monomials whose difference is in the ideal: where the ideal is decided, they are classes that products keep.
 -- To cite: monomial_terms, binomial, binomial-is, binomials_same, AreCongruent, congruence-grading, IsDecided, generators_congruent.
-use Rattle.std.specs.Prelude.{◌≡◌, ◌⊎◌, ℕ, ◌≤◌, Bool, true, false, if◌then◌else◌, List, [], ◌∷◌, ◌++◌, Contains, Option, Some, None}
-use Rattle.std.proofs.Common.{arith, refl, ap, sym, ◌∙◌, inl, inr}
+use Rattle.std.proofs.Common.{◌≡◌, ◌⊎◌, ℕ, ◌≤◌, Bool, true, false, if◌then◌else◌, List, [], ◌∷◌, ◌++◌, Contains, Option, Some, None, arith, refl, ap, sym, ◌∙◌, inl, inr}
 use Rattle.gf_frac.specs.Fraction.{◌+ℚ◌, ◌*ℚ◌, neg_ℚ, zero_ℚ, one_ℚ}
 use Rattle.gf_frac.proofs.FractionLaws.{+ℚ-zero, +ℚ-neg_ℚ, one-*ℚ}
 use Rattle.gf_exponents.specs.Exponents.{Exponents, entry, same, plus, IsInRing}

@@ -1,7 +1,6 @@
 -- Monomials without the variables past the first n.
 -- To cite: cut, cut-ring, cut-same, cut-along, cut-plus.
-use Rattle.std.specs.Prelude.{◌≡◌, ℕ, zero, suc, ◌<◌, true, [], ◌∷◌}
-use Rattle.std.proofs.Common.{arith, refl, sym, ◌∙◌, inl, inr}
+use Rattle.std.proofs.Common.{◌≡◌, ℕ, zero, suc, ◌<◌, true, [], ◌∷◌, arith, refl, sym, ◌∙◌, inl, inr}
 use Rattle.std.proofs.lemmas.Bool.{cases_lt}
 use Rattle.gf_exponents.specs.Exponents.{Exponents, entry, same, plus, IsInRing}
 use Rattle.gf_exponents.proofs.ExponentsLaws.{entry-plus, entries_same, same_by_entries}

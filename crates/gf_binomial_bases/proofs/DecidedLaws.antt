@@ -1,7 +1,6 @@
 -- With a basis, membership is decided: a polynomial is a sum of multiples of the members and an irreducible rest.
 -- To cite: decided_by_basis.
-use Rattle.std.specs.Prelude.{◌⊎◌, ℕ, List, [], ◌++◌, Contains}
-use Rattle.std.proofs.Common.{sym, ap, ◌∙◌, inl, inr}
+use Rattle.std.proofs.Common.{◌⊎◌, ℕ, List, [], ◌++◌, Contains, sym, ap, ◌∙◌, inl, inr}
 use Rattle.gf_frac.specs.Fraction.{◌+ℚ◌, neg_ℚ, one_ℚ}
 use Rattle.gf_frac.proofs.FractionLaws.{zero-+ℚ}
 use Rattle.gf_exponents.specs.Exponents.{Exponents, IsInRing}

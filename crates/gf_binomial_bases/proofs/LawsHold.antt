@@ -1,6 +1,5 @@
 -- The theorems of specs/Laws.antt.
-use Rattle.std.specs.Prelude.{◌≡◌, ◌⊎◌, Bool, true, false, Contains, Some, None}
-use Rattle.std.proofs.Common.{refl, sym, ap, ◌∙◌, inl, inr}
+use Rattle.std.proofs.Common.{◌≡◌, ◌⊎◌, Bool, true, false, Contains, Some, None, refl, sym, ap, ◌∙◌, inl, inr}
 use Rattle.gf_frac.specs.Fraction.{◌+ℚ◌, neg_ℚ}
 use Rattle.gf_exponents.specs.Exponents.{Exponents, same}
 use Rattle.gf_exponents.specs.Orders.{lighter}

@@ -1,8 +1,7 @@
 -- Lifts of the reduced basis of the parts of a basis of differences are differences: where a member has two terms, its
 -- remainder is zero, and where it has one, its remainder is a monomial or zero.
 -- To cite: lift-binomial, basis_of_parts-binomials.
-use Rattle.std.specs.Prelude.{◌≡◌, ◌≢◌, ℕ, Bool, true, false, if◌then◌else◌, List, [], ◌++◌, Contains, ℤ, Option, Some, None}
-use Rattle.std.proofs.Common.{refl, ap, sym, ◌∙◌}
+use Rattle.std.proofs.Common.{◌≡◌, ◌≢◌, ℕ, Bool, true, false, if◌then◌else◌, List, [], ◌++◌, Contains, ℤ, Option, Some, None, refl, ap, sym, ◌∙◌}
 use Rattle.gf_frac.specs.Fraction.{Fraction, ◌+ℚ◌, neg_ℚ, zero_ℚ, one_ℚ}
 use Rattle.gf_frac.proofs.FractionLaws.{+ℚ-neg_ℚ}
 use Rattle.gf_exponents.specs.Exponents.{Exponents, same, plus, IsInRing}

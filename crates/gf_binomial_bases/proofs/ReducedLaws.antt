@@ -1,7 +1,6 @@
 -- The reduced bases of an ideal that differences of two monomials generate are such differences.
 -- To cite: reduced_binomials.
-use Rattle.std.specs.Prelude.{◌≡◌, ◌⊎◌, ℕ, Bool, true, false, if◌then◌else◌, List, [], ◌++◌, Contains, Option, Some, None}
-use Rattle.std.proofs.Common.{refl, ap, sym, ◌∙◌, inl, inr}
+use Rattle.std.proofs.Common.{◌≡◌, ◌⊎◌, ℕ, Bool, true, false, if◌then◌else◌, List, [], ◌++◌, Contains, Option, Some, None, refl, ap, sym, ◌∙◌, inl, inr}
 use Rattle.gf_frac.specs.Fraction.{◌+ℚ◌, neg_ℚ, zero_ℚ, one_ℚ}
 use Rattle.gf_frac.proofs.FractionLaws.{+ℚ-neg_ℚ}
 use Rattle.gf_exponents.specs.Exponents.{Exponents, same, plus}

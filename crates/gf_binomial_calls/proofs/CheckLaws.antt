@@ -1,7 +1,6 @@
 -- Tests of a marked set of pure difference binomials, as it is read: no operation on coefficients is refused.
 -- To cite: polys_binomial, autoreduction_fits, paired_fits, test_fits, monic_forms_fit.
-use Rattle.std.specs.Prelude.{◌≡◌, ℕ, List, Contains, map}
-use Rattle.std.proofs.Common.{arith, subst, inl, inr}
+use Rattle.std.proofs.Common.{◌≡◌, ℕ, List, Contains, map, arith, subst, inl, inr}
 use Rattle.std.proofs.lemmas.List.Sorted.{Contains-permutation, IsPermutation-sym}
 use Rattle.gf_frac.specs.Fits.{Fits}
 use Rattle.gf_frac.specs.declared.refusal.Overflow.{Overflow}

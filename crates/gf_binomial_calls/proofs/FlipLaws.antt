@@ -1,7 +1,6 @@
 -- Operations of flips of bases of differences of two monomials stay in range.
 -- To cite: flip_fits, forms_binomials.
-use Rattle.std.specs.Prelude.{List, Contains, ℤ}
-use Rattle.std.proofs.Common.{arith, sym, subst}
+use Rattle.std.proofs.Common.{List, Contains, ℤ, arith, sym, subst}
 use Rattle.gf_frac.specs.Fraction.{Fraction}
 use Rattle.gf_frac.specs.Fits.{Fits}
 use Rattle.gf_frac.specs.declared.refusal.Op.{Op}

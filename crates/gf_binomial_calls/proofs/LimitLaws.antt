@@ -1,7 +1,6 @@
 -- Runs and flips of an ideal that one pure difference binomial generates stay within their limits.
 -- To cite: plain_difference, runs_within, flip_within, search_within.
-use Rattle.std.specs.Prelude.{◌≡◌, ◌⊎◌, ℕ, zero, suc, ◌+◌, ◌<◌, ◌≤◌, ◌^◌, Bool, true, false, if◌then◌else◌, List, [], ◌∷◌, length, Contains, Some, ℤ}
-use Rattle.std.proofs.Common.{arith, refl, sym, ap, ◌∙◌, subst, inl, inr}
+use Rattle.std.proofs.Common.{◌≡◌, ◌⊎◌, ℕ, zero, suc, ◌+◌, ◌<◌, ◌≤◌, ◌^◌, Bool, true, false, if◌then◌else◌, List, [], ◌∷◌, length, Contains, Some, ℤ, arith, refl, sym, ap, ◌∙◌, subst, inl, inr}
 use Rattle.gf_frac.specs.Fraction.{◌*ℚ◌, neg_ℚ, zero_ℚ, one_ℚ}
 use Rattle.gf_frac.proofs.FractionLaws.{*ℚ-zero}
 use Rattle.gf_exponents.specs.Exponents.{Exponents, entry, same, plus, Divides}

@@ -1,8 +1,7 @@
 -- The systems of the normals of an ideal with one generator stay in range, where there are at most three variables and the
 -- exponents and the rows of the region are up to 500.
 -- To cite: systems_within, small_search.
-use Rattle.std.specs.Prelude.{◌≡◌, ℕ, zero, suc, ◌+◌, ◌≤◌, List, [], ◌∷◌, ◌++◌, length, All, Contains, Err, ℤ, pos, ◌-ℤ◌, unsigned_abs}
-use Rattle.std.proofs.Common.{arith, refl, sym, ◌∙◌, subst, inl, inr}
+use Rattle.std.proofs.Common.{◌≡◌, ℕ, zero, suc, ◌+◌, ◌≤◌, List, [], ◌∷◌, ◌++◌, length, All, Contains, Err, ℤ, pos, ◌-ℤ◌, unsigned_abs, arith, refl, sym, ◌∙◌, subst, inl, inr}
 use Rattle.std.proofs.lemmas.Int.{ints}
 use Rattle.std.proofs.lemmas.List.{get_or_default}
 use Rattle.std.proofs.lemmas.List.Elements.{All-contains, Contains-get_or, Contains-append_cases}

@@ -1,7 +1,6 @@
 -- Bases of ideals that monomials generate have no normals, so a search over them has nothing to do.
 -- To cite: no_normals, monomials_within.
-use Rattle.std.specs.Prelude.{◌≡◌, ℕ, true, false, List, [], Contains, ℤ}
-use Rattle.std.proofs.Common.{sym, subst}
+use Rattle.std.proofs.Common.{◌≡◌, ℕ, true, false, List, [], Contains, ℤ, sym, subst}
 use Rattle.std.proofs.lemmas.List.Elements.{Contains-get_or}
 use Rattle.gf_exponents.specs.Exponents.{same}
 use Rattle.gf_exponents.proofs.ExponentsLaws.{same_flip}

@@ -1,7 +1,6 @@
 -- A search over the bases of an ideal that pure difference binomials generate isn't refused for coefficients.
 -- To cite: flip_narrow, tree_narrow.
-use Rattle.std.specs.Prelude.{◌≡◌, ℕ, List, ℤ}
-use Rattle.std.proofs.Common.{sym, subst}
+use Rattle.std.proofs.Common.{◌≡◌, ℕ, List, ℤ, sym, subst}
 use Rattle.gf_frac.specs.declared.refusal.Overflow.{Overflow}
 use Rattle.gf_poly.specs.Polynomial.{Terms}
 use Rattle.gf_poly.specs.Marking.{MarkedPolynomial}

@@ -1,8 +1,7 @@
 -- What plainly written polynomials mean, and that their like terms are added in range.
 -- To cite: plain_binomial, plain_sums.
-use Rattle.std.specs.Prelude.{◌≡◌, ◌≢◌, ℕ, ◌+◌, ◌-◌, ◌≤◌, Bool, true, false, if◌then◌else◌, cond, List, [], ◌∷◌, ◌++◌, length, pos, Result, Ok, Err, Some, None}
 use Rattle.std.specs.Ordering.{is_eq}
-use Rattle.std.proofs.Common.{arith, refl, ap, sym, ◌∙◌, subst}
+use Rattle.std.proofs.Common.{◌≡◌, ◌≢◌, ℕ, ◌+◌, ◌-◌, ◌≤◌, Bool, true, false, if◌then◌else◌, cond, List, [], ◌∷◌, ◌++◌, length, pos, Result, Ok, Err, Some, None, arith, refl, ap, sym, ◌∙◌, subst}
 use Rattle.std.proofs.lemmas.List.{length-append}
 use Rattle.gf_frac.specs.Fraction.{Fraction, over, ◌+ℚ◌, neg_ℚ, zero_ℚ, one_ℚ}
 use Rattle.gf_frac.specs.declared.refusal.Overflow.{Overflow}

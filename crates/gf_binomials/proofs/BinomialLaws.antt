@@ -1,8 +1,7 @@
 -- Differences of two monomials stay such: under steps by marked ones, in S-polynomials, in monic forms.
 -- To cite: Stepped, stepped, binomial_step, binomial-reached, binomial-s_polynomial, binomial-monic, binomial-tail, step_fits,
 -- reduction_fits, s_polynomial_fits, monic_fits.
-use Rattle.std.specs.Prelude.{◌≡◌, ◌⊎◌, Option, Some}
-use Rattle.std.proofs.Common.{arith, ap, sym, ◌∙◌, subst, inl, inr}
+use Rattle.std.proofs.Common.{◌≡◌, ◌⊎◌, Option, Some, arith, ap, sym, ◌∙◌, subst, inl, inr}
 use Rattle.gf_frac.specs.Fraction.{Fraction, ◌+ℚ◌, ◌*ℚ◌, neg_ℚ, one_ℚ}
 use Rattle.gf_frac.specs.Fits.{Fits}
 use Rattle.gf_frac.specs.declared.refusal.Op.{Op}

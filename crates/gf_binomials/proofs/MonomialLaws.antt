@@ -1,8 +1,7 @@
 -- Monomials that may be missing, and differences of two: coefficients, multiples.
 -- To cite: IsTheMonomial, monomial_or_not, indicator-small, binomial_of-small, shifted, at_shifted, at_shifted-none, at_like, multiple_of_binomial,
 -- binomial_of-equal, first_alone, second_alone.
-use Rattle.std.specs.Prelude.{◌≡◌, ◌≢◌, ◌⊎◌, if◌then◌else◌, Bool, true, false, Option, Some, None}
-use Rattle.std.proofs.Common.{arith, refl, ap, sym, ◌∙◌, subst, inl, inr}
+use Rattle.std.proofs.Common.{◌≡◌, ◌≢◌, ◌⊎◌, if◌then◌else◌, Bool, true, false, Option, Some, None, arith, refl, ap, sym, ◌∙◌, subst, inl, inr}
 use Rattle.gf_int.specs.Integers.{diff-eq, naturals}
 use Rattle.gf_frac.specs.Fraction.{Fraction, over-eq, ◌+ℚ◌, ◌*ℚ◌, neg_ℚ, zero_ℚ, one_ℚ}
 use Rattle.gf_frac.proofs.FractionLaws.{overs, each_q, dens, +ℚ-zero, zero-+ℚ, +ℚ-neg_ℚ, *ℚ-zero}

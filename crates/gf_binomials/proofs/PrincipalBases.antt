@@ -1,7 +1,6 @@
 -- A reduced basis of an ideal with one generator has one member at most, which is a monic form of the generator.
 -- To cite: alone_in, monic_at, basis_forms, basis_short, antichain_within, short_within.
-use Rattle.std.specs.Prelude.{◌≡◌, ◌⊎◌, ℕ, ◌≤◌, true, false, List, [], ◌∷◌, length, Contains}
-use Rattle.std.proofs.Common.{arith, sym, ap, ◌∙◌, subst, inl, inr}
+use Rattle.std.proofs.Common.{◌≡◌, ◌⊎◌, ℕ, ◌≤◌, true, false, List, [], ◌∷◌, length, Contains, arith, sym, ap, ◌∙◌, subst, inl, inr}
 use Rattle.gf_frac.specs.Fraction.{◌*ℚ◌, reciprocal_ℚ}
 use Rattle.gf_frac.proofs.FractionLaws.{one-*ℚ, *ℚ_assoc, *ℚ-reciprocal_ℚ, reciprocal_ℚ-*ℚ}
 use Rattle.gf_exponents.specs.Exponents.{Exponents, same, plus}

@@ -1,8 +1,7 @@
 -- Runs of Buchberger's algorithm on one polynomial none of whose monomials divides another: they have one member, and add no
 -- exponents but those of the polynomial to 0.
 -- To cite: IsAmong, closed-among, reached_within, shift_short, step_short, tail_within, IsFormOf, form-among, work_forms, run_short.
-use Rattle.std.specs.Prelude.{◌≡◌, ◌⊎◌, ℕ, ◌+◌, ◌<◌, ◌≤◌, ◌^◌, true, List, [], ◌∷◌, ◌++◌, length, Contains, max}
-use Rattle.std.proofs.Common.{arith, sym, ap, ap₂, ◌∙◌, subst, inl, inr}
+use Rattle.std.proofs.Common.{◌≡◌, ◌⊎◌, ℕ, ◌+◌, ◌<◌, ◌≤◌, ◌^◌, true, List, [], ◌∷◌, ◌++◌, length, Contains, max, arith, sym, ap, ap₂, ◌∙◌, subst, inl, inr}
 use Rattle.gf_frac.specs.Fraction.{Fraction, ◌+ℚ◌, ◌*ℚ◌, neg_ℚ, zero_ℚ, one_ℚ}
 use Rattle.gf_frac.proofs.FractionLaws.{one-*ℚ, *ℚ-zero, neg_ℚ-*ℚ, +ℚ-neg_ℚ, *ℚ_cancel}
 use Rattle.gf_exponents.specs.Exponents.{Exponents, entry, same, plus, join}

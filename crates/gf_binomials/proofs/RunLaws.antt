@@ -1,7 +1,6 @@
 -- Runs of Buchberger's algorithm on differences of two monomials: their lists, and their operations.
 -- To cite: list_binomials, origin-binomial, tail-binomial, run_fits, tail_fits.
-use Rattle.std.specs.Prelude.{◌≡◌, ◌⊎◌, List, [], ◌∷◌, ◌++◌, Contains}
-use Rattle.std.proofs.Common.{arith, sym, subst, inl, inr}
+use Rattle.std.proofs.Common.{◌≡◌, ◌⊎◌, List, [], ◌∷◌, ◌++◌, Contains, arith, sym, subst, inl, inr}
 use Rattle.gf_frac.specs.Fraction.{Fraction}
 use Rattle.gf_frac.specs.Fits.{Fits}
 use Rattle.gf_frac.specs.declared.refusal.Op.{Op}

@@ -1,9 +1,7 @@
 -- Answers about a normal: what an answer tells of the cone.
 -- To cite: others-append, flip_told, facet_told, crossable_flippable, cone_of, kept_of, kept_wide, positive_for,
 -- answer_for, IfOk-weaker.
-use Rattle.std.specs.Prelude.{◌≡◌, ◌⊎◌, ℕ, zero, suc, ◌<◌, ◌≤◌, ◌↔◌, Result, Ok, Err, IfOk, take, drop, List, [], ◌∷◌, ◌++◌, length, get_or, Contains, All, ℤ, pos, ◌<ℤ◌, unsigned_abs}
-use Rattle.std.proofs.Common.{arith, refl, sym, ap, ◌∙◌, subst, inl, inr, append_assoc}
-use Rattle.std.proofs.Common.{length-append}
+use Rattle.std.proofs.Common.{◌≡◌, ◌⊎◌, ℕ, zero, suc, ◌<◌, ◌≤◌, ◌↔◌, Result, Ok, Err, IfOk, take, drop, List, [], ◌∷◌, ◌++◌, length, get_or, Contains, All, ℤ, pos, ◌<ℤ◌, unsigned_abs, arith, refl, sym, ap, ◌∙◌, subst, inl, inr, append_assoc, length-append}
 use Rattle.std.proofs.lemmas.List.{get_or_default, take-append-drop}
 use Rattle.std.proofs.Math.Seq.{take-append_seam, drop-append_seam}
 use Rattle.std.proofs.Math.ListN.{get_or-append}

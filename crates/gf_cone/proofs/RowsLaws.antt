@@ -1,7 +1,6 @@
 -- Rows as they are made, one by one.
 -- To cite: Differing, differing_next, same_row, other_row, lengths_at, rows_more, Collecting, Collecting-more, all_collected, unit_set.
-use Rattle.std.specs.Prelude.{◌≡◌, ◌⊎◌, if◌then◌else◌, ℕ, zero, suc, ◌+◌, ◌<◌, ◌≤◌, ◌^◌, Bool, true, false, List, [], ◌∷◌, ◌++◌, length, ℤ, pos, ◌-ℤ◌, All, unsigned_abs}
-use Rattle.std.proofs.Common.{arith, refl, sym, ap, ◌∙◌, subst, inl, inr, get_or, take, set, append_assoc}
+use Rattle.std.proofs.Common.{◌≡◌, ◌⊎◌, if◌then◌else◌, ℕ, zero, suc, ◌+◌, ◌<◌, ◌≤◌, ◌^◌, Bool, true, false, List, [], ◌∷◌, ◌++◌, length, ℤ, pos, ◌-ℤ◌, All, unsigned_abs, arith, refl, sym, ap, ◌∙◌, subst, inl, inr, get_or, take, set, append_assoc}
 use Rattle.std.proofs.lemmas.Bool.{cases_lt}
 use Rattle.std.proofs.lemmas.Int.{ints}
 use Rattle.std.proofs.lemmas.List.{take_more, take_all, get_or_default, append-nil}
@@ -18,9 +17,8 @@ use Rattle.gf_poly.specs.declared.Term.{Term}
 use Rattle.gf_poly.specs.Monomial.{IsMonomial}
 use Rattle.gf_poly.specs.Polynomial.{Terms, HasVariables}
 use Rattle.gf_poly.specs.Marking.{MarkedPolynomial, Each, HaveVariables, HasMarkedTerm}
-use Rattle.gf_poly.proofs.CoefficientLaws.{apart}
+use Rattle.gf_poly.proofs.CoefficientLaws.{apart, term_length}
 use Rattle.gf_ideal.proofs.ListLaws.{each_contained, contained_each}
-use Rattle.gf_poly.proofs.CoefficientLaws.{term_length}
 use Rattle.gf_facets.specs.Rows.{differences, row_between, rows_of_terms, rows_of_polynomials}
 use Rattle.gf_facets.specs.Systems.{unit}
 use Rattle.gf_cone.specs.Small.{IsSmall}

@@ -1,7 +1,6 @@
 -- Small vectors: primitive parts of small rows, unit vectors, and that small entries fit what the code asks for.
 -- To cite: primitive_small, normal_small, units_small, small_for_sign.
-use Rattle.std.specs.Prelude.{◌≡◌, ℕ, zero, suc, ◌*◌, ◌<◌, ◌≤◌, ◌^◌, List, length, get_or, All, ℤ, pos, ◌*ℤ◌, unsigned_abs}
-use Rattle.std.proofs.Common.{arith, sym, ap, ◌∙◌, subst}
+use Rattle.std.proofs.Common.{◌≡◌, ℕ, zero, suc, ◌*◌, ◌<◌, ◌≤◌, ◌^◌, List, length, get_or, All, ℤ, pos, ◌*ℤ◌, unsigned_abs, arith, sym, ap, ◌∙◌, subst}
 use Rattle.std.proofs.lemmas.Int.{unsigned_abs-mul}
 use Rattle.std.proofs.lemmas.List.{get_or_default}
 use Rattle.std.proofs.lemmas.List.Elements.{All-contains}

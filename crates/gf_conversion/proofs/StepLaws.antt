@@ -1,7 +1,6 @@
 -- The facets that lead towards a weight, among the normals that a program keeps.
 -- To cite: not_crossed, NoneBefore, leads_more, facet_there, nowhere, facet_read.
-use Rattle.std.specs.Prelude.{◌≡◌, ℕ, ◌+◌, ◌<◌, ◌≤◌, Bool, true, false, List, [], length, get_or, ℤ, Option, None}
-use Rattle.std.proofs.Common.{arith, sym, ap, ◌∙◌, subst, inl, inr}
+use Rattle.std.proofs.Common.{◌≡◌, ℕ, ◌+◌, ◌<◌, ◌≤◌, Bool, true, false, List, [], length, get_or, ℤ, Option, None, arith, sym, ap, ◌∙◌, subst, inl, inr}
 use Rattle.std.proofs.lemmas.Bool.{cases_lt, false≢true}
 use Rattle.std.proofs.lemmas.List.{get_or_default}
 use Rattle.gf_poly.specs.Marking.{MarkedPolynomial}

@@ -1,7 +1,6 @@
 -- From one basis to the next, and where a walk ends.
 -- To cite: crossing_towards, walked_none, walked_more, walk_ends, some_walked, by_degree, start_basis, some_arrived.
-use Rattle.std.specs.Prelude.{◌≡◌, ℕ, List, ℤ, Option, Some, None, IfSome}
-use Rattle.std.proofs.Common.{refl, ◌∙◌, subst, inl, inr}
+use Rattle.std.proofs.Common.{◌≡◌, ℕ, List, ℤ, Option, Some, None, IfSome, refl, ◌∙◌, subst, inl, inr}
 use Rattle.gf_exponents.specs.Orders.{gains, IsWeightedBelow}
 use Rattle.gf_exponents.specs.SixOrders.{MonomialOrder, below_of}
 use Rattle.gf_poly.specs.Polynomial.{Terms}

@@ -1,7 +1,6 @@
 -- The weight of an order that is lex, or a weight before lex.
 -- To cite: lex_weight, weighted_weight, lex_remains.
-use Rattle.std.specs.Prelude.{◌≡◌, ℕ, zero, suc, true, List, [], ◌∷◌, replicate, All, ℤ, pos, ◌≤ℤ◌}
-use Rattle.std.proofs.Common.{arith, refl, sym, ◌∙◌, subst, inl, inr}
+use Rattle.std.proofs.Common.{◌≡◌, ℕ, zero, suc, true, List, [], ◌∷◌, replicate, All, ℤ, pos, ◌≤ℤ◌, arith, refl, sym, ◌∙◌, subst, inl, inr}
 use Rattle.std.proofs.lemmas.Int.{ints}
 use Rattle.std.proofs.lemmas.List.{length-replicate}
 use Rattle.std.proofs.lemmas.List.Elements.{All-replicate}

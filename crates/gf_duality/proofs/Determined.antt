@@ -1,23 +1,21 @@
 -- The rays and the lineality basis are determined by the cone.
-use Rattle.std.proofs.Common.{◌≡◌, ℕ, zero, List, [], ◌∷◌, length, ℤ, pos, negsuc, ◌*ℤ◌, neg_ℤ, ◌<ℤ◌, ◌≤ℤ◌, arith, sym, refl, ap, ◌∙◌, subst, Contains, ◌⊎◌, inl, inr, get_or, remove, All}
+use Rattle.std.proofs.Common.{◌≡◌, ℕ, zero, List, [], ◌∷◌, length, ℤ, pos, negsuc, ◌*ℤ◌, neg_ℤ, ◌<ℤ◌, ◌≤ℤ◌, arith, sym, refl, ap, ◌∙◌, subst, Contains, ◌⊎◌, inl, inr, get_or, remove, All, rules}
 use Rattle.std.specs.Ordering.{int_cmp}
 use Rattle.std.specs.Cmp.Lexicographic.{slice_cmp}
 use Rattle.std.specs.declared.cmp.Ordering.TheVariants.{Less, Equal}
 use Rattle.std.proofs.lemmas.Cmp.{lists_total, int_cmp_total, tied_itself}
-use Rattle.std.proofs.Common.{rules}
 use Rattle.std.proofs.lemmas.Int.{ints}
 use Rattle.std.proofs.lemmas.List.{get_or_default}
 use Rattle.std.proofs.lemmas.List.Elements.{All-contains}
 use Rattle.gf_int.specs.Content.{AllZero, IsPrimitive}
 use Rattle.gf_int.proofs.RingLaws.{same, dn, dneg}
 use Rattle.gf_int.proofs.SignLaws.{sign_of, negative, none, positive, zero-cancel}
-use Rattle.gf_vec.specs.Vector.{dot, zeros}
+use Rattle.gf_vec.specs.Vector.{dot, zeros, opposite}
 use Rattle.gf_vec.proofs.VectorLaws.{length-times}
 use Rattle.gf_gordan.specs.Alternative.{AreRows}
 use Rattle.gf_duality.specs.Generators.{Made, nothing, ray, IsDescribed}
 use Rattle.gf_duality.specs.Rays.{Satisfies, IsLineal, Generated, IsRays}
 use Rattle.gf_duality.specs.Faces.{Rows, IsInCone, SameCone}
-use Rattle.gf_vec.specs.Vector.{opposite}
 use Rattle.gf_duality.proofs.ListLaws.{none_in, in_head, in_tail, in_cons, all_by, of_rest}
 use Rattle.gf_vec.proofs.DotLaws.{own_zero, dot-times_right}
 use Rattle.gf_vec.proofs.VectorIdentities.{vv, ◌⊡◌, by}

@@ -7,14 +7,13 @@ use Rattle.std.proofs.lemmas.List.Elements.{All-contains}
 use Rattle.gf_int.specs.Content.{scaled}
 use Rattle.gf_int.proofs.RingLaws.{same, dv, dn, dneg, ◌⊗◌, ◌⊕◌}
 use Rattle.gf_int.proofs.SignLaws.{positive}
-use Rattle.gf_vec.specs.Vector.{dot, vector_sum, zeros, values, entry_at}
+use Rattle.gf_vec.specs.Vector.{dot, vector_sum, zeros, values, entry_at, opposite}
 use Rattle.gf_vec.proofs.VectorLaws.{length-times}
 use Rattle.gf_gordan.specs.Alternative.{AreRows}
 use Rattle.gf_gordan.specs.Elimination.{row_at, size_at, signed_at}
 use Rattle.gf_duality.specs.Combining.{pair}
 use Rattle.gf_duality.specs.Generators.{ray, IsDescribed, unit_vectors}
 use Rattle.gf_duality.specs.Elimination.{IsTurned, IsEliminated, begun, skipped, turned, IsNullSpace, columns, with_values}
-use Rattle.gf_vec.specs.Vector.{opposite}
 use Rattle.gf_duality.proofs.ListLaws.{none_in, in_cons, zip_from, zip_to, of_rest, rest_cover}
 use Rattle.gf_vec.proofs.DotLaws.{dot-times_right, length-values}
 use Rattle.gf_vec.proofs.EntryLaws.{same_by, signum_up, entry_times, entry_plus, drop_times, drop_plus}

@@ -2,7 +2,7 @@
 use Rattle.std.proofs.Common.{◌≡◌, ℕ, List, ℤ, pos, negsuc, ◌*ℤ◌, neg_ℤ, ◌<ℤ◌, arith, refl, ◌∙◌, subst}
 use Rattle.std.proofs.lemmas.Int.{ints}
 use Rattle.gf_int.proofs.RingLaws.{dv, dn, dneg}
-use Rattle.gf_vec.specs.Vector.{entry_at}
+use Rattle.gf_vec.specs.Vector.{entry_at, opposite}
 use Rattle.gf_vec.specs.Primitive.{IsPrimitivePart}
 use Rattle.gf_vec.proofs.VectorLaws.{length-times}
 use Rattle.gf_vec.proofs.EntryLaws.{entry_times}
@@ -10,7 +10,6 @@ use Rattle.gf_vec.proofs.PrimitiveLaws.{primitive_of, primitive_opposite}
 use Rattle.gf_vec.proofs.VectorIdentities.{vv, ◌⊡◌, vsame}
 use Rattle.gf_gordan.specs.Elimination.{IsPivot}
 use Rattle.gf_duality.specs.Elimination.{IsNormalised}
-use Rattle.gf_vec.specs.Vector.{opposite}
 use Rattle.gf_duality.proofs.ListLaws.{place, less, at, more}
 
 -- a vector has one pivot at most

@@ -1,8 +1,7 @@
 -- Monomials form a commutative monoid with cancellation; divisibility, least common multiples, quotients.
 -- To cite: plus_assoc, plus_comm, same_trans, same_flip, same-plus, multiple_or_not, same_by_entries, entries_same and
 -- same_lists, by which a fact on exponent vectors becomes one on each entry. The rest are steps.
-use Rattle.std.specs.Prelude.{◌≡◌, ◌⊎◌, ℕ, zero, suc, ◌+◌, ◌-◌, ◌≤◌, Bool, true, false, ◌&&◌, ◌==◌, [], ◌∷◌, max, length}
-use Rattle.std.proofs.Common.{arith, refl, sym, ap, ◌∙◌, inl, inr, get_or}
+use Rattle.std.proofs.Common.{◌≡◌, ◌⊎◌, ℕ, zero, suc, ◌+◌, ◌-◌, ◌≤◌, Bool, true, false, ◌&&◌, ◌==◌, [], ◌∷◌, max, length, arith, refl, sym, ap, ◌∙◌, inl, inr, get_or}
 use Rattle.std.proofs.lemmas.Bool.Decides.{nat_tests}
 use Rattle.std.proofs.lemmas.Bool.{cases_lt, and_parts, and_from}
 use Rattle.gf_exponents.specs.Exponents.{Exponents, entry, same, plus, join, minus, AreCoprime, NoMultiple}

@@ -1,7 +1,6 @@
 -- Each of the six orders is a monomial order; which are term orders, in n variables.
 -- To cite: order-is, term-order, term-weights. The rest are steps.
-use Rattle.std.specs.Prelude.{◌≡◌, ◌⊎◌, ℕ, zero, suc, ◌*◌, ◌<◌, ◌≤◌, true, List, [], ◌∷◌}
-use Rattle.std.proofs.Common.{arith, refl, sym, ap, inl, inr}
+use Rattle.std.proofs.Common.{◌≡◌, ◌⊎◌, ℕ, zero, suc, ◌*◌, ◌<◌, ◌≤◌, true, List, [], ◌∷◌, arith, refl, sym, ap, inl, inr}
 use Rattle.std.proofs.lemmas.Bool.{cases_lt}
 use Rattle.gf_exponents.specs.Exponents.{Exponents, entry, same, IsInRing, degree, weight}
 use Rattle.std.proofs.Math.Nat.{mul-le-mul_right}

@@ -1,7 +1,6 @@
 -- Weights and degrees of products, and of the same monomial.
 -- To cite: weight-nil, weight-plus, weight-same, degree-plus, degree-same.
-use Rattle.std.specs.Prelude.{◌≡◌, ℕ, ◌+◌, ◌==◌, true, List, [], ◌∷◌}
-use Rattle.std.proofs.Common.{arith, refl, sym, ◌∙◌}
+use Rattle.std.proofs.Common.{◌≡◌, ℕ, ◌+◌, ◌==◌, true, List, [], ◌∷◌, arith, refl, sym, ◌∙◌}
 use Rattle.gf_exponents.specs.Exponents.{Exponents, plus, same, weight, degree}
 use Rattle.gf_exponents.proofs.ExponentsLaws.{same-sym, eq_by}
 use Rattle.std.proofs.lemmas.Bool.{and_parts}

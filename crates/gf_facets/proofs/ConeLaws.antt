@@ -1,8 +1,7 @@
 -- The closed and the open cone of a marked list: by its rows, and by its normals.
 -- To cite: row_value, rows_closed, closed_by_rows, rows_open, open_by_rows, normals_closed, closed_by_normals, normals_open,
 -- open_by_normals, normal_from.
-use Rattle.std.specs.Prelude.{◌≡◌, ◌⊎◌, ℕ, ◌<◌, true, false, List, Contains, ℤ, pos, ◌*ℤ◌, ◌-ℤ◌, ◌<ℤ◌, ◌≤ℤ◌}
-use Rattle.std.proofs.Common.{arith, sym, ap, ◌∙◌, inl, inr}
+use Rattle.std.proofs.Common.{◌≡◌, ◌⊎◌, ℕ, ◌<◌, true, false, List, Contains, ℤ, pos, ◌*ℤ◌, ◌-ℤ◌, ◌<ℤ◌, ◌≤ℤ◌, arith, sym, ap, ◌∙◌, inl, inr}
 use Rattle.std.proofs.lemmas.Int.{ints}
 use Rattle.gf_int.proofs.SignLaws.{0≤-*ℤ, 0≤-cancel, 0<-*ℤ, 0<-cancel}
 use Rattle.gf_vec.specs.Vector.{dot}

@@ -1,8 +1,7 @@
 -- From a vector of the open cone towards another one, which some normal is negative on: the normal that is crossed first
 -- is one of a facet, and it is negative there too.
 -- To cite: CrossedFirst, crossed_first, flippable_towards_root.
-use Rattle.std.specs.Prelude.{◌≡◌, ◌⊎◌, ℕ, suc, List, [], ◌∷◌, ◌++◌, length, Contains, All, ℤ, pos, ◌<ℤ◌}
-use Rattle.std.proofs.Common.{arith, sym, ◌∙◌, subst, inl, inr}
+use Rattle.std.proofs.Common.{◌≡◌, ◌⊎◌, ℕ, suc, List, [], ◌∷◌, ◌++◌, length, Contains, All, ℤ, pos, ◌<ℤ◌, arith, sym, ◌∙◌, subst, inl, inr}
 use Rattle.std.proofs.lemmas.List.Elements.{All-from_recursion, All-append, All-contains, Contains-append_left, Contains-append_right}
 use Rattle.gf_int.specs.Content.{scaled}
 use Rattle.gf_poly.specs.Marking.{MarkedPolynomial}

@@ -1,7 +1,6 @@
 -- The normals of a marked list can be listed; in an ascending list, the others of one are the rest.
 -- To cite: NormalsListed, normals_listed, OthersListed, others_listed, others_only, others_all.
-use Rattle.std.specs.Prelude.{◌≡◌, ◌⊎◌, ℕ, zero, suc, ◌<◌, List, [], ◌∷◌, length, get_or, Contains, ℤ}
-use Rattle.std.proofs.Common.{arith, sym, ◌∙◌, subst, inl, inr}
+use Rattle.std.proofs.Common.{◌≡◌, ◌⊎◌, ℕ, zero, suc, ◌<◌, List, [], ◌∷◌, length, get_or, Contains, ℤ, arith, sym, ◌∙◌, subst, inl, inr}
 use Rattle.std.proofs.lemmas.List.{get_or_default}
 use Rattle.gf_vec.specs.Primitive.{IsPrimitivePart}
 use Rattle.gf_poly.specs.Marking.{MarkedPolynomial}

@@ -1,8 +1,7 @@
 -- The primitive vector of a row: there is one and one alone.
 -- To cite: divided_exists, not_all_zero, multiple_content, multiple_divided, primitive_unique, divided-entry.
-use Rattle.std.specs.Prelude.{◌≡◌, ◌⊎◌, ℕ, zero, suc, ◌*◌, ◌<◌, List, [], ◌∷◌, get_or, ℤ, pos, negsuc, ◌*ℤ◌, unsigned_abs}
 use Rattle.std.specs.Int.{◌∣◌}
-use Rattle.std.proofs.Common.{arith, refl, sym, ap, ◌∙◌, ◌/◌, subst, inl, inr}
+use Rattle.std.proofs.Common.{◌≡◌, ◌⊎◌, ℕ, zero, suc, ◌*◌, ◌<◌, List, [], ◌∷◌, get_or, ℤ, pos, negsuc, ◌*ℤ◌, unsigned_abs, arith, refl, sym, ap, ◌∙◌, ◌/◌, subst, inl, inr}
 use Rattle.std.proofs.lemmas.Int.{ints, unsigned_abs-mul}
 use Rattle.std.proofs.Math.IntN.{*ℤ-zero}
 use Rattle.std.proofs.Math.Nat.{dvd-mul_right, dvd_of_mul-dvd-mul_left, mul-div_cancel'}

@@ -1,8 +1,7 @@
 -- Rows and monomials: the row of each unmarked term is one of the rows, and each row is such a one.
 -- To cite: same_or_not, row-in, IsTermRow, row-from, term_of, monomial_of, length-differences, get-differences,
 -- dot-differences, differs, rows-append, rows_by_terms.
-use Rattle.std.specs.Prelude.{◌≡◌, ◌⊎◌, ℕ, zero, suc, true, false, if◌then◌else◌, List, [], ◌∷◌, length, get_or, Contains, ℤ, pos, ◌+ℤ◌, ◌-ℤ◌, ◌*ℤ◌}
-use Rattle.std.proofs.Common.{arith, refl, sym, ap, ◌∙◌, subst, inl, inr}
+use Rattle.std.proofs.Common.{◌≡◌, ◌⊎◌, ℕ, zero, suc, true, false, if◌then◌else◌, List, [], ◌∷◌, length, get_or, Contains, ℤ, pos, ◌+ℤ◌, ◌-ℤ◌, ◌*ℤ◌, arith, refl, sym, ap, ◌∙◌, subst, inl, inr}
 use Rattle.std.proofs.lemmas.Int.{ints}
 use Rattle.std.proofs.lemmas.List.Elements.{Contains-append_left, Contains-append_right, Contains-append_cases}
 use Rattle.gf_int.proofs.RingLaws.{dv, ◌⊕◌, ◌⊖◌, ◌⊗◌, same as same_number}

@@ -3,8 +3,7 @@
 -- To cite: contained_all, region_rows_wide, rows_of_region, region_of_rows, all_positive-region, system_wide, solution_of_inside, inside_of_solution, HasVector, vector_or_none,
 -- marks_of_open, open_of_marks, whole_of, length-whole, whole-in_region, whole-weight, open_of_weight, positive_or_none,
 -- canonical_all, solvable_of_realisable, realisable_of_solution, marked_system_wide.
-use Rattle.std.specs.Prelude.{◌≡◌, ◌⊎◌, ℕ, zero, suc, ◌<◌, true, List, [], ◌∷◌, ◌++◌, length, get_or, replicate, Contains, All, ℤ, pos, ◌<ℤ◌}
-use Rattle.std.proofs.Common.{arith, refl, sym, ap, ◌∙◌, inl, inr}
+use Rattle.std.proofs.Common.{◌≡◌, ◌⊎◌, ℕ, zero, suc, ◌<◌, true, List, [], ◌∷◌, ◌++◌, length, get_or, replicate, Contains, All, ℤ, pos, ◌<ℤ◌, arith, refl, sym, ap, ◌∙◌, inl, inr}
 use Rattle.std.proofs.lemmas.Int.{ints}
 use Rattle.std.proofs.lemmas.List.{get_or_default}
 use Rattle.std.proofs.lemmas.List.Elements.{All-nil, All-contains, All-append, All-replicate, Contains-append_left, Contains-append_right, Contains-append_cases}

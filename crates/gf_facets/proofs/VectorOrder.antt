@@ -1,11 +1,10 @@
 -- The order of vectors is strict and total, and is what a program compares by.
 -- To cite: before_strict, vectors_compare.
-use Rattle.std.specs.Prelude.{◌≡◌, List, [], ◌∷◌, ℤ, ◌<ℤ◌}
 use Rattle.std.specs.Ordering.{int_cmp, ordering_then, MatchOrdering}
 use Rattle.std.specs.Cmp.Lexicographic.{slice_cmp}
 use Rattle.std.specs.declared.cmp.Ordering.{Ordering}
 use Rattle.std.specs.declared.cmp.Ordering.TheVariants.{Less, Equal, Greater}
-use Rattle.std.proofs.Common.{arith, refl, sym, ap₂, inl, inr}
+use Rattle.std.proofs.Common.{◌≡◌, List, [], ◌∷◌, ℤ, ◌<ℤ◌, arith, refl, sym, ap₂, inl, inr}
 use Rattle.std.proofs.lemmas.Int.{ints}
 use Rattle.std.proofs.lemmas.Cmp.{int_ranked}
 use Rattle.gf_walk.specs.Path.{IsStrictOrder}

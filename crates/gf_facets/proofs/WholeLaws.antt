@@ -1,8 +1,7 @@
 -- Whole weights of monomials that are products, or a multiple of a vector apart; strict comparisons by whole weights.
 -- To cite: weight-product, weight-sum, weight-multiple, weight-apart, further-weight, IsTilted,
 -- tilted-strict, tilted-order, no_multiple, further-strict, beyond-strict.
-use Rattle.std.specs.Prelude.{◌≡◌, ◌⊎◌, ℕ, suc, ◌+◌, ◌≤◌, true, List, [], ◌∷◌, get_or, ℤ, pos, ◌+ℤ◌, ◌*ℤ◌, ◌<ℤ◌, length}
-use Rattle.std.proofs.Common.{arith, refl, sym, ap, ◌∙◌, inl, inr}
+use Rattle.std.proofs.Common.{◌≡◌, ◌⊎◌, ℕ, suc, ◌+◌, ◌≤◌, true, List, [], ◌∷◌, get_or, ℤ, pos, ◌+ℤ◌, ◌*ℤ◌, ◌<ℤ◌, length, arith, refl, sym, ap, ◌∙◌, inl, inr}
 use Rattle.std.proofs.Math.IntN.{*ℤ-zero}
 use Rattle.std.proofs.lemmas.Int.{ints}
 use Rattle.gf_int.proofs.RingLaws.{dv, dn, ◌⊕◌, ◌⊗◌, same as same_number, *ℤ-+ℤ}

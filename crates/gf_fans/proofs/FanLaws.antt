@@ -8,10 +8,9 @@ use Rattle.std.proofs.lemmas.List.{get_or_default}
 use Rattle.std.proofs.lemmas.List.Elements.{All-contains, Contains-append_left, Contains-append_right, Contains-append_cases}
 use Rattle.gf_int.specs.Content.{scaled}
 use Rattle.gf_int.proofs.RingLaws.{same, dv, dn, dneg, ◌⊗◌, ◌⊖◌}
-use Rattle.gf_vec.specs.Vector.{dot, vector_sum}
+use Rattle.gf_vec.specs.Vector.{dot, vector_sum, opposite}
 use Rattle.gf_vec.proofs.VectorLaws.{length-times}
 use Rattle.gf_duality.specs.Generators.{Made, AreValid}
-use Rattle.gf_vec.specs.Vector.{opposite}
 use Rattle.gf_duality.specs.Rays.{IsRays, Generated}
 use Rattle.gf_duality.specs.Faces.{Rows, IsInCone, SameCone, part, IsFaceOf, sum_of}
 use Rattle.gf_fans.specs.FaceLists.{IsPartOn, AreZeroRows}

@@ -2,10 +2,9 @@
 use Rattle.std.proofs.Common.{◌≡◌, ℕ, List, [], ◌∷◌, ◌++◌, length, ℤ, pos, negsuc, ◌*ℤ◌, ◌≤ℤ◌, arith, refl, sym, subst, ap, ◌∙◌, Contains, ◌⊎◌, inl, inr}
 use Rattle.std.proofs.lemmas.Int.{ints}
 use Rattle.std.proofs.lemmas.List.Elements.{All-contains, Contains-append_left, Contains-append_right, Contains-append_cases}
-use Rattle.gf_vec.specs.Vector.{dot}
+use Rattle.gf_vec.specs.Vector.{dot, opposite}
 use Rattle.gf_vec.proofs.VectorLaws.{dot-times}
 use Rattle.gf_duality.specs.Generators.{Made, ray, line, AreValid}
-use Rattle.gf_vec.specs.Vector.{opposite}
 use Rattle.gf_duality.specs.Rays.{IsRays}
 use Rattle.gf_duality.specs.Faces.{Rows, SameCone, IsInCone, part, IsFaceOf}
 use Rattle.gf_duality.proofs.ListLaws.{none_in, in_head, in_tail, in_cons}

@@ -1,8 +1,7 @@
 -- The steps of a flip, as the code has them.
 -- To cite: have_at, weight_at, realisable_at, neighbour_at, if_neighbour, if_tails_refused, job_at, parts_at, Ending,
 -- ending_at, lifts_weight, ended_variables, ended_neighbour.
-use Rattle.std.specs.Prelude.{◌≡◌, ℕ, Bool, List, length, Contains, Result, Ok, Err, IfOk, IfErr, ℤ}
-use Rattle.std.proofs.Common.{refl, sym, ap, ◌∙◌, subst}
+use Rattle.std.proofs.Common.{◌≡◌, ℕ, Bool, List, length, Contains, Result, Ok, Err, IfOk, IfErr, ℤ, refl, sym, ap, ◌∙◌, subst}
 use Rattle.gf_exponents.specs.Orders.{negated_row_of}
 use Rattle.gf_exponents.specs.SixOrders.{MonomialOrder}
 use Rattle.gf_order.specs.Comparisons.{HasEntries}

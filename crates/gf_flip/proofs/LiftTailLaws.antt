@@ -1,8 +1,7 @@
 -- Tails of lifts: which stay as they are, and that the others are reduced by all of them.
 -- To cite: ArePassed, passed_at, passed_more, stays_at, copies_more, copies-length, copied_at,
 -- undivided_along, stay_reduced.
-use Rattle.std.specs.Prelude.{◌≡◌, ◌⊎◌, ℕ, zero, suc, ◌+◌, ◌<◌, ◌≤◌, Bool, true, false, List, [], ◌∷◌, ◌++◌, length, take, get_or, Contains}
-use Rattle.std.proofs.Common.{arith, refl, sym, ap, ◌∙◌, subst, inl, inr, eqb}
+use Rattle.std.proofs.Common.{◌≡◌, ◌⊎◌, ℕ, zero, suc, ◌+◌, ◌<◌, ◌≤◌, Bool, true, false, List, [], ◌∷◌, ◌++◌, length, take, get_or, Contains, arith, refl, sym, ap, ◌∙◌, subst, inl, inr, eqb}
 use Rattle.std.proofs.lemmas.Bool.{cases_eq, ne_eqb, false≢true}
 use Rattle.std.proofs.lemmas.List.{take_more, take_all, get_or_default}
 use Rattle.gf_exponents.specs.Exponents.{Exponents, same, plus, Divides}

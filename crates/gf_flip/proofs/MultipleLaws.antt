@@ -1,10 +1,9 @@
 -- Whether exponents are a multiple of a vector apart, as the code tests it: an exact quotient, then entry by entry.
 -- To cite: exact, small_factor, apart_more, apart_end, apart_first, not_apart.
 use Rattle.std.specs.Prelude.{◌≡◌, ◌≢◌, ◌⊎◌, ℕ, zero, suc, ◌+◌, ◌*◌, ◌<◌, ◌≤◌, ◌^◌, List, [], ◌∷◌, length, get_or, ℤ, pos, ◌+ℤ◌, ◌-ℤ◌, ◌*ℤ◌, unsigned_abs, int_div, int_rem}
-use Rattle.std.proofs.Common.{arith, refl, sym, ap, ◌∙◌, inl, inr}
+use Rattle.std.proofs.Common.{arith, refl, sym, ap, ◌∙◌, inl, inr, to_z, of_z}
 use Rattle.std.proofs.lemmas.Bool.{cases_lt}
 use Rattle.std.specs.Int.{w128}
-use Rattle.std.proofs.Common.{to_z, of_z}
 use Rattle.std.proofs.lemmas.Int.{ints, unsigned_abs-mul, quot-rem, rem_below, to_z-of_z, fits_signed_from_abs}
 use Rattle.gf_order.specs.Weights.{AreBounded}
 use Rattle.gf_int.proofs.RingLaws.{dv, dn, ◌⊖◌, ◌⊗◌, same as same_number}

@@ -1,7 +1,6 @@
 -- Bases that a walk reaches: the first by degree, then lex; and those across facets that a flip may cross.
 -- To cite: reached_first, told_flippable, reached_crossing, reached_next.
-use Rattle.std.specs.Prelude.{◌≡◌, ℕ, ◌<◌, Bool, true, List, [], length, get_or, ℤ}
-use Rattle.std.proofs.Common.{refl, sym, ap, ◌∙◌, subst}
+use Rattle.std.proofs.Common.{◌≡◌, ℕ, ◌<◌, Bool, true, List, [], length, get_or, ℤ, refl, sym, ap, ◌∙◌, subst}
 use Rattle.std.proofs.lemmas.List.{get_or_default}
 use Rattle.gf_exponents.specs.SixOrders.{MonomialOrder, below_of}
 use Rattle.gf_exponents.proofs.SixOrdersLaws.{order-is}

@@ -1,7 +1,6 @@
 -- Refusals of a flip are operations of the flip.
 -- To cite: remainder_refused, difference_refused, member_refused, parts_refused, lifts_refused, tails_refused, flip_within.
-use Rattle.std.specs.Prelude.{◌≡◌, ℕ, List, ℤ, Contains, Result, Ok, Err, IfErr}
-use Rattle.std.proofs.Common.{arith, refl, sym, subst, inl, inr}
+use Rattle.std.proofs.Common.{◌≡◌, ℕ, List, ℤ, Contains, Result, Ok, Err, IfErr, arith, refl, sym, subst, inl, inr}
 use Rattle.gf_exponents.specs.Orders.{negated_row_of}
 use Rattle.gf_exponents.specs.SixOrders.{MonomialOrder}
 use Rattle.gf_frac.specs.Fits.{Fits}

@@ -1,7 +1,6 @@
 -- Exponents below 2^31 give rows and normals with entries below 2^31 in absolute value.
 -- To cite: normal_bounded.
-use Rattle.std.specs.Prelude.{ℕ, zero, suc, ◌<◌, ◌^◌, List, [], ◌∷◌, All, ℤ, pos, ◌-ℤ◌, unsigned_abs}
-use Rattle.std.proofs.Common.{arith, sym, subst}
+use Rattle.std.proofs.Common.{ℕ, zero, suc, ◌<◌, ◌^◌, List, [], ◌∷◌, All, ℤ, pos, ◌-ℤ◌, unsigned_abs, arith, sym, subst}
 use Rattle.std.proofs.lemmas.Int.{ints}
 use Rattle.gf_exponents.specs.Exponents.{Exponents}
 use Rattle.gf_order.specs.Weights.{AreBounded}

@@ -1,8 +1,7 @@
 -- The tail of one lift, reduced step by step, as the code does it.
 -- To cite: IsChosen, tail_term, Tailing, tailing-none, tailing-more, tailing-less, ArePassedOver, tail_there, reduced_at.
 use Rattle.std.specs.declared.option.Option.{Option}
-use Rattle.std.specs.Prelude.{◌≡◌, ℕ, ◌<◌, ◌^◌, Bool, true, false, Some, IfSome, List, length, take, get_or, Contains}
-use Rattle.std.proofs.Common.{refl, sym, ap, ◌∙◌, subst}
+use Rattle.std.proofs.Common.{◌≡◌, ℕ, ◌<◌, ◌^◌, Bool, true, false, Some, IfSome, List, length, take, get_or, Contains, refl, sym, ap, ◌∙◌, subst}
 use Rattle.gf_exponents.specs.Exponents.{Exponents, same}
 use Rattle.gf_exponents.specs.Orders.{lighter}
 use Rattle.gf_exponents.proofs.ExponentsLaws.{same_along}

@@ -1,8 +1,7 @@
 -- Lifts that end once nothing is left along the normal, as the code works them out.
 -- To cite: SeekingLine, seeking_more, Topping, topping-none, topping_more, topping_less, top_step, shares_at,
 -- divides_at, off_more, off_end, top_remainder_at, top_there, top_lift_at, AreTopping, topping_all.
-use Rattle.std.specs.Prelude.{◌≡◌, ℕ, ◌+◌, ◌<◌, ◌≤◌, ◌^◌, true, None, List, [], ◌∷◌, ◌++◌, length, take, get_or, Contains, ℤ, pos, ◌+ℤ◌, ◌*ℤ◌}
-use Rattle.std.proofs.Common.{arith, refl, sym, ap, ◌∙◌, subst, inl, inr}
+use Rattle.std.proofs.Common.{◌≡◌, ℕ, ◌+◌, ◌<◌, ◌≤◌, ◌^◌, true, None, List, [], ◌∷◌, ◌++◌, length, take, get_or, Contains, ℤ, pos, ◌+ℤ◌, ◌*ℤ◌, arith, refl, sym, ap, ◌∙◌, subst, inl, inr}
 use Rattle.std.proofs.lemmas.List.{take_more, take_all}
 use Rattle.gf_int.proofs.RingLaws.{dv, dn, ◌⊕◌, ◌⊗◌, same as same_number}
 use Rattle.gf_frac.specs.Fraction.{Fraction, ◌+ℚ◌, neg_ℚ, zero_ℚ, one_ℚ}

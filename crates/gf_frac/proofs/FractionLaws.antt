@@ -2,9 +2,8 @@
 -- To cite: `over-+`, `over-*`, `over-neg` (the ruleset `overs`), `each_q` with `over-eq` for an identity in one line,
 -- the laws of the ring, `*ℚ-reciprocal_ℚ`, `zero_of_*ℚ`, `zero_by_num`, `Decides-fraction_eq`. An identity between fractions:
 --   each_q _ (λ a a' k. each_q _ (λ b b' l. simp overs (over-eq _ _ _ _ (simp dens (simp naturals (diff-eq _ _ _ _ (omega arith)))))))
-use Rattle.std.specs.Prelude.{◌≡◌, ℕ, zero, suc, ◌+◌, ◌-◌, ◌*◌, ◌<◌, ℤ, pos, negsuc, ◌+ℤ◌, ◌*ℤ◌, ◌⊎◌}
 use Rattle.std.specs.Int.RustNames.{unsigned_abs}
-use Rattle.std.proofs.Common.{arith, sym, refl, ap, ◌∙◌, subst, inl, inr}
+use Rattle.std.proofs.Common.{◌≡◌, ℕ, zero, suc, ◌+◌, ◌-◌, ◌*◌, ◌<◌, ℤ, pos, negsuc, ◌+ℤ◌, ◌*ℤ◌, ◌⊎◌, arith, sym, refl, ap, ◌∙◌, subst, inl, inr}
 use Rattle.std.proofs.Math.Nat.{mul-pos}
 use Rattle.std.proofs.lemmas.Int.{ints}
 use lib.IntN.{neg_ℤ}

@@ -1,10 +1,9 @@
 -- Which sums and products are in lowest terms as they come, and what a sum has to be reduced by.
 -- A product of fractions whose factors were cancelled crosswise is in lowest terms. A sum has only divisors of the
 -- denominators' common divisor to lose. Source: Knuth, The Art of Computer Programming, volume 2, 4.5.1.
-use Rattle.std.specs.Prelude.{◌≡◌, ℕ, suc, ◌+◌, ◌*◌, ◌/◌, ◌<◌, ◌≤◌, ℤ, pos, negsuc, ◌+ℤ◌, ◌*ℤ◌, ◌⊎◌}
 use Rattle.std.specs.Int.{IsGcd, ◌∣◌}
 use Rattle.std.specs.Int.RustNames.{unsigned_abs, int_div}
-use Rattle.std.proofs.Common.{arith, sym, ap, ap₂, ◌∙◌, subst, inl, inr}
+use Rattle.std.proofs.Common.{◌≡◌, ℕ, suc, ◌+◌, ◌*◌, ◌/◌, ◌<◌, ◌≤◌, ℤ, pos, negsuc, ◌+ℤ◌, ◌*ℤ◌, ◌⊎◌, arith, sym, ap, ap₂, ◌∙◌, subst, inl, inr}
 use Rattle.std.proofs.lemmas.Int.{ints, unsigned_abs-mul}
 use Rattle.std.proofs.lemmas.Nat.Gcd.{dvd_trans, dvd_refl, IsGcd-swap}
 use Rattle.std.proofs.Math.Nat.{one-dvd, dvd-add, dvd-add_iff_left, dvd-mul_left, mul-div_cancel', mul_comm}

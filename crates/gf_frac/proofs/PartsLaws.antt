@@ -1,8 +1,7 @@
 -- The two numbers of a fraction as the code keeps them and works them out.
-use Rattle.std.specs.Prelude.{◌≡◌, ℕ, zero, suc, ◌-◌, ◌/◌, ◌<◌, ◌^◌, ℤ, pos, negsuc, FitsSigned}
 use Rattle.std.specs.Int.{w128, cast_signed, cast_unsigned, IsGcd}
 use Rattle.std.specs.Int.RustNames.{unsigned_abs, int_div}
-use Rattle.std.proofs.Common.{arith, ap, sym, ◌∙◌, subst, ◌≤◌, refl}
+use Rattle.std.proofs.Common.{◌≡◌, ℕ, zero, suc, ◌-◌, ◌/◌, ◌<◌, ◌^◌, ℤ, pos, negsuc, FitsSigned, arith, ap, sym, ◌∙◌, subst, ◌≤◌, refl}
 use Rattle.std.proofs.lemmas.Int.{ints, to_z-of_z}
 use Rattle.std.proofs.lemmas.Nat.Gcd.{IsGcd-swap, dvd_refl}
 use Rattle.std.proofs.Math.Nat.{one-dvd}

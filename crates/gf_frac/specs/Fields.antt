@@ -1,8 +1,7 @@
 -- What a `Frac` keeps of its two numbers: lowest terms, both within the range.
-use Rattle.std.specs.Prelude.{◌≡◌, ℕ, ◌-◌, ◌<◌, ◌^◌, ℤ}
 use Rattle.std.specs.Int.{IsGcd}
 use Rattle.std.specs.Int.RustNames.{unsigned_abs}
-use Rattle.std.proofs.Common.{ap}
+use Rattle.std.proofs.Common.{◌≡◌, ℕ, ◌-◌, ◌<◌, ◌^◌, ℤ, ap}
 use Rattle.gf_int.specs.Range.{InRange}
 use Rattle.gf_frac.specs.Fraction.{Fraction, over, over-parts}
 

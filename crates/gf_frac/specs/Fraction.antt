@@ -1,10 +1,9 @@
 -- Fractions of any size in lowest terms: sums, products, negatives, reciprocals, quotients.
 -- Zero is 0/1. Two fractions are equal where their two numbers are, so `≡` is equality of values.
 -- Here stand the laws that these definitions are made of; the field is in proofs/FractionLaws.antt.
-use Rattle.std.specs.Prelude.{◌≡◌, ℕ, zero, suc, ◌-◌, ◌*◌, ◌/◌, ◌<◌, ℤ, pos, negsuc, ◌+ℤ◌, ◌*ℤ◌}
 use Rattle.std.specs.Int.{IsGcd, ◌∣◌}
 use Rattle.std.specs.Int.RustNames.{unsigned_abs, int_div}
-use Rattle.std.proofs.Common.{arith, sym, refl, ap, ◌∙◌, subst}
+use Rattle.std.proofs.Common.{◌≡◌, ℕ, zero, suc, ◌-◌, ◌*◌, ◌/◌, ◌<◌, ℤ, pos, negsuc, ◌+ℤ◌, ◌*ℤ◌, arith, sym, refl, ap, ◌∙◌, subst}
 use Rattle.std.proofs.Math.Nat.{pos_of_dvd_of_pos, mul-div_cancel', dvd-mul_left}
 use Rattle.std.proofs.lemmas.Int.{ints, unsigned_abs-mul}
 use Rattle.std.specs.Coded.{Coded, code_by, coded×, coded_ℤ, coded_ℕ}

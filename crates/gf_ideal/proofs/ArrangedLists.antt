@@ -1,7 +1,6 @@
 -- Bases that are the same up to the order and the form of their members are equal lists, once both are arranged.
 -- To cite: arranged_equal. The rest are steps.
-use Rattle.std.specs.Prelude.{◌≡◌, ◌⊎◌, ℕ, List, [], ◌∷◌, Contains}
-use Rattle.std.proofs.Common.{arith, refl, sym, ap, ◌∙◌, subst, inl, inr}
+use Rattle.std.proofs.Common.{◌≡◌, ◌⊎◌, ℕ, List, [], ◌∷◌, Contains, arith, refl, sym, ap, ◌∙◌, subst, inl, inr}
 use Rattle.gf_exponents.specs.Exponents.{Exponents}
 use Rattle.gf_exponents.specs.Orders.{IsLexBelow}
 use Rattle.gf_exponents.proofs.ExponentsLaws.{same-refl, entries_same}

@@ -2,8 +2,7 @@
 -- by each weight and each order that gives the marks; and each pair is settled.
 -- To cite: member_pieces, basis_heaviest, basis_greatest, settled_of_basis, remainder_zero, basis_by_pairs,
 -- groebner_by_weight, groebner_by_order, basis_of_groebner, basis_of_groebner_for, basis_along (the same ideal).
-use Rattle.std.specs.Prelude.{◌≡◌, ◌⊎◌, ◌≢◌, ℕ, ◌≤◌, true, false, List, [], ◌∷◌, ◌++◌, Contains}
-use Rattle.std.proofs.Common.{arith, refl, sym, ap, ◌∙◌, inl, inr}
+use Rattle.std.proofs.Common.{◌≡◌, ◌⊎◌, ◌≢◌, ℕ, ◌≤◌, true, false, List, [], ◌∷◌, ◌++◌, Contains, arith, refl, sym, ap, ◌∙◌, inl, inr}
 use Rattle.gf_frac.specs.Fraction.{Fraction, ◌+ℚ◌, ◌*ℚ◌, neg_ℚ, zero_ℚ, one_ℚ}
 use Rattle.gf_frac.proofs.FractionLaws.{zero-+ℚ, one-*ℚ}
 use Rattle.gf_exponents.specs.Exponents.{Exponents, plus, same, join, minus, weight, IsInRing}

@@ -2,8 +2,7 @@
 -- remainder, its normal form or its monic form.
 -- To cite: same_by_dropping, same_by_exchange, dropped_generator, reduced_generator, monic_generator, monic_list,
 -- member-longer, entered-zero, entered-appended (a generator enters a list by its remainder).
-use Rattle.std.specs.Prelude.{◌≡◌, ◌⊎◌, ℕ, true, List, [], ◌∷◌, ◌++◌, Contains}
-use Rattle.std.proofs.Common.{arith, refl, sym, ap, subst, inl, inr}
+use Rattle.std.proofs.Common.{◌≡◌, ◌⊎◌, ℕ, true, List, [], ◌∷◌, ◌++◌, Contains, arith, refl, sym, ap, subst, inl, inr}
 use Rattle.std.proofs.lemmas.List.Elements.{Contains-append_left, Contains-append_right, Contains-append_cases}
 use Rattle.gf_exponents.specs.Exponents.{same}
 use Rattle.gf_poly.specs.Polynomial.{Terms, SamePolynomial}

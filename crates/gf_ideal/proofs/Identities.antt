@@ -1,7 +1,6 @@
 -- Identities between fractions, each in one line.
 -- To show one: `each_q` once for each variable, then the simplification that stands in each proof here.
-use Rattle.std.specs.Prelude.{◌≡◌, ◌≢◌, ℕ, ◌+◌, ◌-◌, ◌*◌, ◌<◌, suc, ℤ, pos, ◌*ℤ◌}
-use Rattle.std.proofs.Common.{arith, sym, ap, ◌∙◌}
+use Rattle.std.proofs.Common.{◌≡◌, ◌≢◌, ℕ, ◌+◌, ◌-◌, ◌*◌, ◌<◌, suc, ℤ, pos, ◌*ℤ◌, arith, sym, ap, ◌∙◌}
 use Rattle.std.proofs.lemmas.Int.{ints}
 use Rattle.gf_int.specs.Integers.{diff-eq, naturals}
 use Rattle.gf_frac.specs.Fraction.{Fraction, over, over-eq, over-parts, whole, ◌+ℚ◌, ◌*ℚ◌, neg_ℚ, zero_ℚ, one_ℚ}

@@ -1,8 +1,7 @@
 -- Settled in whole numbers and in the ring's variables, and in fractions and any variables.
 -- To cite: settled_of_pair, pair_of_settled. The rest are steps: pieces whose shifts leave the ring are left out, and the
 -- denominators are cleared.
-use Rattle.std.specs.Prelude.{◌≡◌, ◌⊎◌, ℕ, ◌-◌, ◌*◌, ◌<◌, ℤ, pos, ◌*ℤ◌, List, [], ◌∷◌, ◌++◌, Contains}
-use Rattle.std.proofs.Common.{arith, refl, sym, ap, ◌∙◌, inl, inr}
+use Rattle.std.proofs.Common.{◌≡◌, ◌⊎◌, ℕ, ◌-◌, ◌*◌, ◌<◌, ℤ, pos, ◌*ℤ◌, List, [], ◌∷◌, ◌++◌, Contains, arith, refl, sym, ap, ◌∙◌, inl, inr}
 use Rattle.std.proofs.Math.Nat.{mul-pos}
 use Rattle.gf_frac.specs.Fraction.{Fraction, over, whole, ◌+ℚ◌, ◌*ℚ◌, neg_ℚ, zero_ℚ, one_ℚ}
 use Rattle.gf_frac.proofs.FractionLaws.{+ℚ_assoc, +ℚ_comm, +ℚ-zero, +ℚ-neg_ℚ, *ℚ-+ℚ, *ℚ-zero, *ℚ_assoc, *ℚ_comm, zero-+ℚ, zero_or_not, one-*ℚ}

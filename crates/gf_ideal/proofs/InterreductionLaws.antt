@@ -1,7 +1,6 @@
 -- Interreduction: members that are not needed may go, tails may be reduced, and what is left is the reduced basis.
 -- To cite: interreduced, reduced-tails, apart-tails (all at once), basis-kept, basis-tails, tail-marked, tail-member, tail-head, reduced_by_weight, reduced_by_order.
-use Rattle.std.specs.Prelude.{◌≡◌, ◌⊎◌, ℕ, Bool, true, false, List, [], ◌∷◌, Contains}
-use Rattle.std.proofs.Common.{arith, refl, sym, ap, ◌∙◌, subst, inl, inr}
+use Rattle.std.proofs.Common.{◌≡◌, ◌⊎◌, ℕ, Bool, true, false, List, [], ◌∷◌, Contains, arith, refl, sym, ap, ◌∙◌, subst, inl, inr}
 use Rattle.gf_frac.specs.Fraction.{◌+ℚ◌, neg_ℚ, zero_ℚ}
 use Rattle.gf_frac.proofs.FractionLaws.{+ℚ-zero, zero_or_not}
 use Rattle.gf_exponents.specs.Exponents.{Exponents, plus, same, NoMultiple}

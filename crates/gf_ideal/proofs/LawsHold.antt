@@ -1,6 +1,5 @@
 -- The laws that functions of this crate name.
-use Rattle.std.specs.Prelude.{[], Contains}
-use Rattle.std.proofs.Common.{refl}
+use Rattle.std.proofs.Common.{[], Contains, refl}
 use Rattle.gf_exponents.specs.Exponents.{Exponents}
 use Rattle.gf_exponents.specs.Orders.{IsLexBelow, IsDeglexBelow, IsWeightedBelow}
 use Rattle.gf_ideal.specs.MonomialOrders.{below_of, IsOfGrade}

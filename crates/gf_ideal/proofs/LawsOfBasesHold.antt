@@ -1,6 +1,5 @@
 -- The theorems of specs/LawsOfBases.antt.
-use Rattle.std.specs.Prelude.{◌++◌, ◌≡◌, ℕ, List, [], Contains}
-use Rattle.std.proofs.Common.{refl, sym, subst, inl}
+use Rattle.std.proofs.Common.{◌++◌, ◌≡◌, ℕ, List, [], Contains, refl, sym, subst, inl}
 use Rattle.std.proofs.lemmas.List.Elements.{Contains-append_left}
 use Rattle.gf_exponents.specs.Orders.{lighter, IsStrict}
 use Rattle.gf_exponents.proofs.OrderLaws.{lighter-strict}

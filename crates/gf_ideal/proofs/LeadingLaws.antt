@@ -1,8 +1,7 @@
 -- Leading monomials: each polynomial is zero, or has a greatest monomial by each monomial order and one of greatest
 -- weight by each weight.
 -- To cite: top_greatest, top_heaviest. The rest are steps.
-use Rattle.std.specs.Prelude.{◌≡◌, ◌⊎◌, ◌≢◌, ℕ, ◌<◌, ◌≤◌, true, List, [], ◌∷◌}
-use Rattle.std.proofs.Common.{arith, sym, ap, ◌∙◌, inl, inr}
+use Rattle.std.proofs.Common.{◌≡◌, ◌⊎◌, ◌≢◌, ℕ, ◌<◌, ◌≤◌, true, List, [], ◌∷◌, arith, sym, ap, ◌∙◌, inl, inr}
 use Rattle.std.proofs.lemmas.Bool.{cases_lt}
 use Rattle.gf_frac.specs.Fraction.{zero_ℚ, one_ℚ}
 use Rattle.gf_exponents.specs.Exponents.{Exponents, plus, same, weight}

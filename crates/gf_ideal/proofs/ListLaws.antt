@@ -1,6 +1,5 @@
 -- Lists: what holds of each element, and of each that is contained.
-use Rattle.std.specs.Prelude.{◌≡◌, ◌⊎◌, ℕ, zero, suc, ◌<◌, ◌≤◌, List, [], ◌∷◌, ◌++◌, length, Contains, slice_index_or, max}
-use Rattle.std.proofs.Common.{arith, refl, sym, subst, inl, inr}
+use Rattle.std.proofs.Common.{◌≡◌, ◌⊎◌, ℕ, zero, suc, ◌<◌, ◌≤◌, List, [], ◌∷◌, ◌++◌, length, Contains, slice_index_or, max, arith, refl, sym, subst, inl, inr}
 use Rattle.gf_poly.specs.Marking.{Each}
 
 -- two lists, one after the other

@@ -1,7 +1,6 @@
 -- What holds of each listed term holds of each monomial: from the lists that a program keeps to polynomials.
 -- To cite: variables_by_terms, fits_by_terms, fits_by_monomials, box_of_monomial, marked_by_terms.
-use Rattle.std.specs.Prelude.{◌≡◌, ℕ, true, [], ◌∷◌, ◌^◌}
-use Rattle.std.proofs.Common.{arith, sym, ap, ◌∙◌}
+use Rattle.std.proofs.Common.{◌≡◌, ℕ, true, [], ◌∷◌, ◌^◌, arith, sym, ap, ◌∙◌}
 use Rattle.gf_frac.specs.Fraction.{one_ℚ}
 use Rattle.gf_exponents.specs.Exponents.{Exponents, same, IsInRing}
 use Rattle.gf_exponents.proofs.ExponentsLaws.{same_flip, entries_same, entry-past}

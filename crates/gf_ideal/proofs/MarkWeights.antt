@@ -1,8 +1,7 @@
 -- Marks that an order gives are marks that a positive weight gives.
 -- To cite: marked_by, marked_positive, poly_traded, list_traded (finitely many comparisons of an order are made by one
 -- positive weight), order-marks.
-use Rattle.std.specs.Prelude.{◌≡◌, ◌⊎◌, ℕ, ◌≤◌, true, List, [], ◌∷◌, Contains, max}
-use Rattle.std.proofs.Common.{arith, sym, ◌∙◌, inl, inr}
+use Rattle.std.proofs.Common.{◌≡◌, ◌⊎◌, ℕ, ◌≤◌, true, List, [], ◌∷◌, Contains, max, arith, sym, ◌∙◌, inl, inr}
 use Rattle.gf_exponents.specs.Exponents.{Exponents, same}
 use Rattle.gf_exponents.specs.Orders.{lighter}
 use Rattle.gf_exponents.proofs.ExponentsLaws.{entries_same, same_flip, same_trans}

@@ -1,8 +1,7 @@
 -- A step of reduction leaves less work, wherever some weight sets each mark above the rest.
 -- To cite: work_left-smaller, work_left-smaller_at, work_left-step. The rest are steps: lists of monomials and what they sum to, the monomials of a polynomial,
 -- heights that no longer change once they are as deep as the box is large, the box itself.
-use Rattle.std.specs.Prelude.{◌≡◌, ◌⊎◌, ℕ, zero, suc, ◌+◌, ◌<◌, ◌≤◌, ◌||◌, ℤ, pos, negsuc, Bool, true, false, if◌then◌else◌, List, [], ◌∷◌, ◌++◌, length, Contains}
-use Rattle.std.proofs.Common.{arith, refl, sym, ap, ◌∙◌, subst, inl, inr}
+use Rattle.std.proofs.Common.{◌≡◌, ◌⊎◌, ℕ, zero, suc, ◌+◌, ◌<◌, ◌≤◌, ◌||◌, ℤ, pos, negsuc, Bool, true, false, if◌then◌else◌, List, [], ◌∷◌, ◌++◌, length, Contains, arith, refl, sym, ap, ◌∙◌, subst, inl, inr}
 use Rattle.std.proofs.lemmas.Bool.{cases_lt, or_parts, or_right}
 use Rattle.gf_frac.specs.Fraction.{Fraction, ◌+ℚ◌, neg_ℚ, zero_ℚ}
 use Rattle.gf_frac.proofs.FractionLaws.{zero_by_num, zero-+ℚ, zero_or_not, num_by_zero}

@@ -1,8 +1,7 @@
 -- Members of an ideal, in whole numbers and in the ring's own variables.
 -- To cite: spans_of_member, member_of_spans, variables_of_member (the bridge to the working form), and the closure laws
 -- member-.. below them. The first part has the closure of the literal form that the bridge is made of.
-use Rattle.std.specs.Prelude.{◌≡◌, ◌⊎◌, ℕ, ◌-◌, ◌*◌, ℤ, pos, ◌*ℤ◌, List, [], ◌∷◌, ◌++◌, Contains}
-use Rattle.std.proofs.Common.{arith, refl, sym, ap, ◌∙◌, subst, append_assoc, inl, inr}
+use Rattle.std.proofs.Common.{◌≡◌, ◌⊎◌, ℕ, ◌-◌, ◌*◌, ℤ, pos, ◌*ℤ◌, List, [], ◌∷◌, ◌++◌, Contains, arith, refl, sym, ap, ◌∙◌, subst, append_assoc, inl, inr}
 use Rattle.std.proofs.Math.Nat.{mul-pos}
 use Rattle.gf_frac.specs.Fraction.{Fraction, over, whole, ◌+ℚ◌, ◌*ℚ◌, neg_ℚ, zero_ℚ, one_ℚ}
 use Rattle.gf_frac.proofs.FractionLaws.{+ℚ-zero, *ℚ-zero, *ℚ-+ℚ, *ℚ_assoc, *ℚ_comm, zero-+ℚ, zero_or_not, one-*ℚ, +ℚ-middle}

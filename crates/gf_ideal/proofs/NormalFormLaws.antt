@@ -1,7 +1,6 @@
 -- Normal forms by the rule: they are remainders, and a polynomial has one at most.
 -- To cite: normal_form-reached, normal_form-unique.
-use Rattle.std.specs.Prelude.{◌≡◌, ◌⊎◌, ℕ, true, false, List, Contains, slice_index_or}
-use Rattle.std.proofs.Common.{arith, refl, sym, ap, ◌∙◌, subst, inl, inr}
+use Rattle.std.proofs.Common.{◌≡◌, ◌⊎◌, ℕ, true, false, List, Contains, slice_index_or, arith, refl, sym, ap, ◌∙◌, subst, inl, inr}
 use Rattle.std.proofs.lemmas.Bool.{cases_lt}
 use Rattle.gf_frac.specs.Fraction.{◌+ℚ◌, neg_ℚ}
 use Rattle.gf_exponents.specs.Exponents.{Exponents, same, plus, NoMultiple}

@@ -1,8 +1,7 @@
 -- The six orders row by row, traded for a weight.
 -- To cite: multiple-weight (monomials a multiple of a apart weigh alike), order_table, multiples_are_homogeneous.
-use Rattle.std.specs.Prelude.{◌≡◌, ℕ, zero, suc, ◌*◌, ◌≤◌, true, List, [], ◌∷◌, get_or, All, ℤ, pos, negsuc, ◌+ℤ◌, ◌*ℤ◌, ◌≤ℤ◌}
 use Rattle.std.specs.List.{AllByRecursion}
-use Rattle.std.proofs.Common.{arith, refl, sym, ap, ◌∙◌, inl, inr}
+use Rattle.std.proofs.Common.{◌≡◌, ℕ, zero, suc, ◌*◌, ◌≤◌, true, List, [], ◌∷◌, get_or, All, ℤ, pos, negsuc, ◌+ℤ◌, ◌*ℤ◌, ◌≤ℤ◌, arith, refl, sym, ap, ◌∙◌, inl, inr}
 use Rattle.std.proofs.lemmas.Int.{ints}
 use Rattle.std.proofs.lemmas.List.Elements.{recursion_from_All}
 use Rattle.gf_int.proofs.RingLaws.{dv, dn, ◌⊕◌, ◌⊗◌, same as same_number}

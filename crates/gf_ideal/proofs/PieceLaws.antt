@@ -1,8 +1,7 @@
 -- Sums of multiples of marked polynomials.
 -- To cite: value-++, coefficient-value-++, value-scale, Each-scale, find (a piece whose mark comes to a monomial),
 -- combined_of_spans and spans_of_combined. The rest are steps.
-use Rattle.std.specs.Prelude.{◌≡◌, ◌⊎◌, suc, Bool, true, false, List, [], ◌∷◌, ◌++◌, map, length, Contains}
-use Rattle.std.proofs.Common.{arith, refl, sym, ap, ◌∙◌, inl, inr, subst, append_assoc}
+use Rattle.std.proofs.Common.{◌≡◌, ◌⊎◌, suc, Bool, true, false, List, [], ◌∷◌, ◌++◌, map, length, Contains, arith, refl, sym, ap, ◌∙◌, inl, inr, subst, append_assoc}
 use Rattle.gf_frac.specs.Fraction.{Fraction, ◌+ℚ◌, ◌*ℚ◌, one_ℚ}
 use Rattle.gf_frac.proofs.FractionLaws.{+ℚ-zero}
 use Rattle.gf_exponents.specs.Exponents.{Exponents, plus, same}

@@ -1,7 +1,6 @@
 -- A pair whose S-polynomial was reduced to zero, or to a multiple of a member, is settled; so is a pair of two monomials.
 -- To cite: settled_by_steps, settled_monomials, s_polynomial-within.
-use Rattle.std.specs.Prelude.{◌≡◌, ◌⊎◌, ◌≢◌, Bool, true, false, List, [], ◌∷◌}
-use Rattle.std.proofs.Common.{refl, sym, ap, ◌∙◌, inl, inr}
+use Rattle.std.proofs.Common.{◌≡◌, ◌⊎◌, ◌≢◌, Bool, true, false, List, [], ◌∷◌, refl, sym, ap, ◌∙◌, inl, inr}
 use Rattle.gf_frac.specs.Fraction.{Fraction, ◌+ℚ◌, neg_ℚ, zero_ℚ, one_ℚ}
 use Rattle.gf_frac.proofs.FractionLaws.{+ℚ-zero, +ℚ-neg_ℚ, zero-+ℚ, zero_or_not}
 use Rattle.gf_exponents.specs.Exponents.{Exponents, plus, same, join, minus}

@@ -1,7 +1,6 @@
 -- Monomials in the first n variables.
 -- To cite: in_ring (a monomial is one in the first n variables, or it isn't), beyond, ring-along, ring-left, ring-plus.
-use Rattle.std.specs.Prelude.{◌≡◌, ◌⊎◌, ℕ, zero, suc, ◌≤◌, Bool, true, false, [], ◌∷◌}
-use Rattle.std.proofs.Common.{arith, refl, sym, ◌∙◌, inl, inr}
+use Rattle.std.proofs.Common.{◌≡◌, ◌⊎◌, ℕ, zero, suc, ◌≤◌, Bool, true, false, [], ◌∷◌, arith, refl, sym, ◌∙◌, inl, inr}
 use Rattle.gf_exponents.specs.Exponents.{Exponents, entry, same, plus, IsInRing}
 use Rattle.gf_exponents.proofs.ExponentsLaws.{entry-plus, entries_same, same_by_entries}
 

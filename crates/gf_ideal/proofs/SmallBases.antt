@@ -1,7 +1,6 @@
 -- The smallest bases: none for the zero ideal, and one marked polynomial for the ideal that it generates.
 -- To cite: zero_ideal, principal_ideal.
-use Rattle.std.specs.Prelude.{◌≡◌, ◌⊎◌, ℕ, true, List, [], ◌∷◌, Contains}
-use Rattle.std.proofs.Common.{arith, sym, subst, inl, inr}
+use Rattle.std.proofs.Common.{◌≡◌, ◌⊎◌, ℕ, true, List, [], ◌∷◌, Contains, arith, sym, subst, inl, inr}
 use Rattle.gf_exponents.specs.Exponents.{same, plus}
 use Rattle.gf_exponents.specs.Orders.{lighter}
 use Rattle.gf_exponents.proofs.WeightLaws.{weight-plus, weight-same}

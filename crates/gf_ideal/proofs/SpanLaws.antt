@@ -1,7 +1,6 @@
 -- Sums of multiples of polynomials by terms: the working form of membership.
 -- To cite: Spans-equal, Spans-zero, Spans-generator, Spans-++, Spans-times, Spans-difference, Spans-trans.
-use Rattle.std.specs.Prelude.{List, [], ◌++◌, Contains}
-use Rattle.std.proofs.Common.{refl, sym, ap, ◌∙◌, append_assoc}
+use Rattle.std.proofs.Common.{List, [], ◌++◌, Contains, refl, sym, ap, ◌∙◌, append_assoc}
 use Rattle.gf_frac.specs.Fraction.{Fraction, ◌+ℚ◌, ◌*ℚ◌, neg_ℚ, one_ℚ}
 use Rattle.gf_frac.proofs.FractionLaws.{+ℚ-zero, zero-+ℚ}
 use Rattle.gf_exponents.specs.Exponents.{Exponents, plus}

@@ -1,8 +1,7 @@
 -- Steps of reduction: what they take away, and that they stay in the ideal and in the variables.
 -- To cite: the ruleset `steps` for loops, reached_trans, operation-reached, step-gone, member-reached, member-reached_back, variables-reached, taken (what steps take
 -- away is a sum of pieces inside any set of monomials that steps don't leave).
-use Rattle.std.specs.Prelude.{◌≡◌, ◌⊎◌, ℕ, true, List, [], ◌∷◌, ◌++◌}
-use Rattle.std.proofs.Common.{arith, refl, sym, ap, ◌∙◌, inl, inr}
+use Rattle.std.proofs.Common.{◌≡◌, ◌⊎◌, ℕ, true, List, [], ◌∷◌, ◌++◌, arith, refl, sym, ap, ◌∙◌, inl, inr}
 use Rattle.gf_frac.specs.Fraction.{Fraction, reciprocal_ℚ, ◌+ℚ◌, ◌*ℚ◌, neg_ℚ, zero_ℚ, one_ℚ}
 use Rattle.gf_frac.proofs.FractionLaws.{+ℚ_assoc, +ℚ-zero, +ℚ-neg_ℚ, *ℚ-one, *ℚ-zero, *ℚ_assoc, *ℚ_comm, zero-+ℚ, zero_or_not, one-*ℚ, *ℚ-reciprocal_ℚ}
 use Rattle.gf_frac.specs.declared.refusal.Op.{Op}

@@ -1,8 +1,7 @@
 -- Buchberger's criterion for an order: the finitely many comparisons in settled pairs are traded for those of one weight.
 -- To cite: traded, basis_by_order. The rest are steps: of each pair the pieces of the grade of its least common multiple
 -- are kept, and a box is found for all that is compared.
-use Rattle.std.specs.Prelude.{◌≡◌, ◌⊎◌, ℕ, ◌≤◌, true, List, [], ◌∷◌, Contains, max}
-use Rattle.std.proofs.Common.{arith, refl, sym, ap, ◌∙◌, inl, inr}
+use Rattle.std.proofs.Common.{◌≡◌, ◌⊎◌, ℕ, ◌≤◌, true, List, [], ◌∷◌, Contains, max, arith, refl, sym, ap, ◌∙◌, inl, inr}
 use Rattle.gf_frac.specs.Fraction.{Fraction, ◌+ℚ◌, zero_ℚ, one_ℚ}
 use Rattle.gf_frac.proofs.FractionLaws.{zero-+ℚ}
 use Rattle.gf_exponents.specs.Exponents.{Exponents, plus, same, join}

@@ -1,8 +1,7 @@
 -- The lists of Buchberger's algorithm: members of the ideal, marked, homogeneous where the generators are; and the list
 -- that the algorithm ends with is a basis.
 -- To cite: work-marked, work-members, work-homogeneous, run_basis, order_basis.
-use Rattle.std.specs.Prelude.{◌⊎◌, ℕ, List, [], Contains}
-use Rattle.std.proofs.Common.{arith, sym, subst, inl, inr}
+use Rattle.std.proofs.Common.{◌⊎◌, ℕ, List, [], Contains, arith, sym, subst, inl, inr}
 use Rattle.gf_frac.specs.Fraction.{Fraction, neg_ℚ, one_ℚ}
 use Rattle.gf_exponents.specs.Exponents.{Exponents, plus, join}
 use Rattle.gf_poly.specs.Polynomial.{Terms, SamePolynomial, times}

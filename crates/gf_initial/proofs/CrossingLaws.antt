@@ -1,7 +1,6 @@
 -- Neighbours have parts on their common facet: two bases of one ideal.
 -- To cite: parts_of_neighbours.
-use Rattle.std.specs.Prelude.{◌≡◌, ℕ, true, false, Bool, List, Contains, get_or, ℤ, pos, ◌+ℤ◌, ◌*ℤ◌}
-use Rattle.std.proofs.Common.{arith, refl, sym, ap, ◌∙◌, subst, inl, inr}
+use Rattle.std.proofs.Common.{◌≡◌, ℕ, true, false, Bool, List, Contains, get_or, ℤ, pos, ◌+ℤ◌, ◌*ℤ◌, arith, refl, sym, ap, ◌∙◌, subst, inl, inr}
 use Rattle.std.proofs.lemmas.Int.{ints}
 use Rattle.gf_int.proofs.RingLaws.{*ℤ-neg}
 use Rattle.gf_exponents.specs.Exponents.{Exponents, same, entry, whole_weight}

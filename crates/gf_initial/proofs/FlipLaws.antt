@@ -32,7 +32,7 @@ use Rattle.gf_facets.specs.Beyond.{IsFurther, IsBeyond}
 use Rattle.gf_facets.specs.MarkedBases.{IsMarkedReduced, IsBasisInRegion}
 use Rattle.gf_facets.specs.Neighbours.{AreAdjacent}
 use Rattle.gf_initial.specs.Lifts.{IsLift, AreLifts, IsLifted, AreLifted, IsTopLift, AreTopLifts}
-use Rattle.gf_facets.proofs.VectorLaws.{IsNonzero}
+use Rattle.gf_facets.proofs.VectorLaws.{IsNonzero, get-negated, negated-twice, dot-negated}
 use Rattle.gf_facets.proofs.WholeLaws.{beyond-strict}
 use Rattle.gf_bases.proofs.KeptLaws.{marked-twin}
 use Rattle.gf_initial.proofs.MatchingLaws.{matched-map}
@@ -41,7 +41,6 @@ use Rattle.gf_facets.proofs.RegionLaws.{beyond_weight, beyond-positive}
 use Rattle.gf_initial.proofs.LiftLaws.{part_ring}
 use Rattle.gf_initial.proofs.LiftedLaws.{lifted_basis, lifted_marks, lifted_of_lift, lifted_of_top}
 use Rattle.gf_initial.proofs.ClassLaws.{facet_marks}
-use Rattle.gf_facets.proofs.VectorLaws.{get-negated, negated-twice, dot-negated}
 use Rattle.gf_facets.proofs.PrimitiveLaws.{divided-entry}
 use Rattle.gf_facets.proofs.NormalLaws.{normal_of, normal-length, normal-primitive, normal-nonzero, row-further, beyond_of_inside, HasFurther, inside_of_beyond}
 use Rattle.gf_initial.proofs.SideLaws.{IsSide, side-weak, level_of_along, along_of_level, level_parts, parts_marked, parts_of_one_class, apart-negated, negated-apart, same_ideals, sides_same, side_further}

@@ -1,7 +1,6 @@
 -- Lifts: what steps of a basis take from a member of the ideal of the parts, and that lifts decide membership by their marks.
 -- To cite: further-flat, lift-taken, taken_exists, taken_member, part_ring, lifts_decide.
-use Rattle.std.specs.Prelude.{◌≡◌, ◌⊎◌, ℕ, List, [], ◌++◌, Contains, ℤ, pos}
-use Rattle.std.proofs.Common.{arith, refl, sym, ◌∙◌, inl, inr}
+use Rattle.std.proofs.Common.{◌≡◌, ◌⊎◌, ℕ, List, [], ◌++◌, Contains, ℤ, pos, arith, refl, sym, ◌∙◌, inl, inr}
 use Rattle.std.proofs.lemmas.Int.{ints}
 use Rattle.gf_frac.specs.Fraction.{neg_ℚ, zero_ℚ, one_ℚ}
 use Rattle.gf_frac.proofs.FractionLaws.{zero_or_not}

@@ -1,8 +1,7 @@
 -- Lifts: members of the ideal whose initial forms are the members of a basis of the parts. There are some, and they are a
 -- basis on the other side.
 -- To cite: lifted_marked, lifted_of_lower, lifted_of_taken, lifted_of_lift, lifted_of_top, lifted_marks, lifted_basis, lifts_exist.
-use Rattle.std.specs.Prelude.{◌≡◌, ◌⊎◌, ◌≢◌, ℕ, true, List, [], ◌∷◌, ◌++◌, length, Contains, ℤ, pos, ◌<ℤ◌, ◌≤ℤ◌}
-use Rattle.std.proofs.Common.{arith, refl, sym, ap, ◌∙◌, subst, inl, inr}
+use Rattle.std.proofs.Common.{◌≡◌, ◌⊎◌, ◌≢◌, ℕ, true, List, [], ◌∷◌, ◌++◌, length, Contains, ℤ, pos, ◌<ℤ◌, ◌≤ℤ◌, arith, refl, sym, ap, ◌∙◌, subst, inl, inr}
 use Rattle.std.proofs.lemmas.Int.{ints}
 use Rattle.gf_frac.specs.Fraction.{◌+ℚ◌, neg_ℚ, zero_ℚ, one_ℚ}
 use Rattle.gf_frac.proofs.FractionLaws.{zero_or_not}

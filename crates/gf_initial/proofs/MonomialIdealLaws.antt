@@ -1,7 +1,6 @@
 -- At a vector of a region monomials generate the initial ideal exactly where the reduced basis for the vector has its marks.
 -- To cite: monomial-there, monomial-at, open_where_monomial, monomial_where_open.
-use Rattle.std.specs.Prelude.{◌≡◌, ◌≢◌, ◌⊎◌, if◌then◌else◌, ℕ, Bool, true, false, List, [], Contains, ℤ, ◌<ℤ◌}
-use Rattle.std.proofs.Common.{arith, refl, sym, ap, ◌∙◌, inl, inr}
+use Rattle.std.proofs.Common.{◌≡◌, ◌≢◌, ◌⊎◌, if◌then◌else◌, ℕ, Bool, true, false, List, [], Contains, ℤ, ◌<ℤ◌, arith, refl, sym, ap, ◌∙◌, inl, inr}
 use Rattle.std.proofs.lemmas.Int.{ints}
 use Rattle.gf_frac.specs.Fraction.{◌+ℚ◌, ◌*ℚ◌, zero_ℚ, one_ℚ}
 use Rattle.gf_frac.proofs.FractionLaws.{+ℚ-zero, zero-+ℚ, one-*ℚ, zero_or_not}

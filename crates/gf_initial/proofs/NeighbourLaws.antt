@@ -1,8 +1,7 @@
 -- Across each flippable facet there is a neighbour, with numbers of any size.
 -- To cite: neighbour_exists. The rest are steps: the reduced basis of the parts for the order along the facet exists, its
 -- lifts are a basis, and that has a reduced form.
-use Rattle.std.specs.Prelude.{◌≡◌, ℕ, List, length, ℤ}
-use Rattle.std.proofs.Common.{arith, sym, ◌∙◌, inl}
+use Rattle.std.proofs.Common.{◌≡◌, ℕ, List, length, ℤ, arith, sym, ◌∙◌, inl}
 use Rattle.std.proofs.lemmas.Int.{ints}
 use Rattle.gf_exponents.specs.Orders.{IsFacetBelow, negated_row_of, gains}
 use Rattle.gf_exponents.proofs.WholeWeightLaws.{row-order, natural-weight}

@@ -1,8 +1,7 @@
 -- Initial forms of a basis: in the closed cone of its marking they are a basis, of the initial ideal.
 -- To cite: IsLevelPart, level_of_initial, initial_of_level, part-there, parts-variables, divisible_part, divisible_whole,
 -- parts_decide, parts_basis, parts_reduced, IsTopPart, IsUnder, top_of_pieces, closed-under, top_part.
-use Rattle.std.specs.Prelude.{◌≡◌, ◌⊎◌, ◌≢◌, ℕ, true, List, [], ◌∷◌, ◌++◌, Contains, ℤ, ◌<ℤ◌, ◌≤ℤ◌}
-use Rattle.std.proofs.Common.{arith, refl, sym, ap, ◌∙◌, subst, inl, inr}
+use Rattle.std.proofs.Common.{◌≡◌, ◌⊎◌, ◌≢◌, ℕ, true, List, [], ◌∷◌, ◌++◌, Contains, ℤ, ◌<ℤ◌, ◌≤ℤ◌, arith, refl, sym, ap, ◌∙◌, subst, inl, inr}
 use Rattle.std.proofs.lemmas.Int.{ints}
 use Rattle.gf_frac.specs.Fraction.{Fraction, ◌+ℚ◌, ◌*ℚ◌, zero_ℚ}
 use Rattle.gf_frac.proofs.FractionLaws.{zero-+ℚ, zero_or_not}

@@ -1,9 +1,8 @@
 -- The greatest common divisor, what coprime numbers divide, and lowest terms.
 -- `gcd` counts Euclid's steps; what it means is std's `IsGcd`, which `gcd-is` shows of it. The laws stand here
 -- since the fields of a fraction are made of them. Source: Euclid, Elements, book 7, propositions 2 and 30.
-use Rattle.std.specs.Prelude.{◌≡◌, ℕ, zero, suc, ◌+◌, ◌*◌, ◌%◌, ◌/◌, ◌<◌, ◌≤◌}
 use Rattle.std.specs.Int.{IsGcd, ◌∣◌}
-use Rattle.std.proofs.Common.{arith, sym, refl, ap, ◌∙◌, subst}
+use Rattle.std.proofs.Common.{◌≡◌, ℕ, zero, suc, ◌+◌, ◌*◌, ◌%◌, ◌/◌, ◌<◌, ◌≤◌, arith, sym, refl, ap, ◌∙◌, subst}
 use Rattle.std.proofs.Math.Nat.{mod-lt, dvd-mul_left, dvd_antisymm, eq_of_mul-eq-mul_left, mul-one, mul_comm, div-add-mod, pos_of_dvd_of_pos}
 use Rattle.std.proofs.lemmas.Nat.Gcd.{IsGcd-from_zero, IsGcd-from_mod, IsGcd-swap, dvd-zero, same_from_IsGcd}
 use Rattle.std.proofs.lemmas.Nat.{mod-mul-add}

@@ -3,8 +3,7 @@
 -- and natural numbers are multiplied out by `omega`. To show an identity: `each` once for each variable,
 -- then `simp naturals (diff-eq _ _ _ _ (omega arith))`.
 -- More laws: proofs/RingLaws.antt and proofs/SignLaws.antt.
-use Rattle.std.proofs.Common.{◌≡◌, ℕ, ◌+◌, ◌*◌, ◌<◌, arith, ap, subst}
-use Rattle.std.specs.Prelude.{ℤ, pos, negsuc, ◌+ℤ◌, ◌*ℤ◌, ◌-ℤ◌}
+use Rattle.std.proofs.Common.{ℤ, pos, negsuc, ◌+ℤ◌, ◌*ℤ◌, ◌-ℤ◌, ◌≡◌, ℕ, ◌+◌, ◌*◌, ◌<◌, arith, ap, subst}
 use lib.IntN.{neg_ℤ}
 use Rattle.std.proofs.Math.Nat.{eq_of_mul-eq-mul_right}
 use borrow.Author.Differences.{up, down}

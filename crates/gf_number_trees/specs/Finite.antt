@@ -1,6 +1,5 @@
 -- The tree of the numbers is finite.
-use Rattle.std.specs.Prelude.{◌≡◌, ℕ, ◌/◌, ◌%◌, ◌<◌, ◌⊎◌, List, [], ◌∷◌, length}
-use Rattle.std.proofs.Common.{arith, inl, inr, sym, ◌∙◌, zero, suc}
+use Rattle.std.proofs.Common.{◌≡◌, ℕ, ◌/◌, ◌%◌, ◌<◌, ◌⊎◌, List, [], ◌∷◌, length, arith, inl, inr, sym, ◌∙◌, zero, suc}
 use Rattle.std.proofs.lemmas.Bool.{cases_order}
 use Rattle.gf_walk.specs.Listing.{Among}
 use Rattle.gf_walk.specs.Path.{IsRoot}

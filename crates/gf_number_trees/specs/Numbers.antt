@@ -1,6 +1,5 @@
 -- The tree of the numbers from 1 to a limit, where 2 u and 2 u + 1 are below u.
-use Rattle.std.specs.Prelude.{◌≡◌, ℕ, ◌+◌, ◌*◌, ◌<◌, ◌≤◌, ◌⊎◌}
-use Rattle.std.proofs.Common.{arith, inl, inr, sym, ◌∙◌, List, [], ◌∷◌, zero, suc, refl, subst}
+use Rattle.std.proofs.Common.{◌≡◌, ℕ, ◌+◌, ◌*◌, ◌<◌, ◌≤◌, ◌⊎◌, arith, inl, inr, sym, ◌∙◌, List, [], ◌∷◌, zero, suc, refl, subst}
 use Rattle.std.specs.List.{Contains}
 use Rattle.gf_walk.specs.Tree.{HasLabels}
 use Rattle.std.proofs.lemmas.Bool.{cases_order}

@@ -1,6 +1,5 @@
 -- The entries of a kept order's weight, and what it compares first.
-use Rattle.std.specs.Prelude.{◌≡◌, ℕ, List, length, ℤ, pos, ◌-ℤ◌}
-use Rattle.std.proofs.Common.{arith, sym, ap, subst, ◌∙◌}
+use Rattle.std.proofs.Common.{◌≡◌, ℕ, List, length, ℤ, pos, ◌-ℤ◌, arith, sym, ap, subst, ◌∙◌}
 use Rattle.std.proofs.lemmas.Int.{ints}
 use Rattle.gf_exponents.specs.Exponents.{Exponents, weight, whole_weight}
 use Rattle.gf_exponents.specs.Orders.{gains, losses}

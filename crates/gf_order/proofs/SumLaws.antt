@@ -1,6 +1,5 @@
 -- The difference of two weights, one entry further.
-use Rattle.std.specs.Prelude.{◌≡◌, ℕ, ◌+◌, ◌*◌, ◌^◌, ◌<◌, ◌≤◌, List, length, get_or, drop, ℤ, pos, ◌+ℤ◌, ◌-ℤ◌, ◌*ℤ◌, unsigned_abs}
-use Rattle.std.proofs.Common.{arith}
+use Rattle.std.proofs.Common.{◌≡◌, ℕ, ◌+◌, ◌*◌, ◌^◌, ◌<◌, ◌≤◌, List, length, get_or, drop, ℤ, pos, ◌+ℤ◌, ◌-ℤ◌, ◌*ℤ◌, unsigned_abs, arith}
 use Rattle.std.proofs.lemmas.Int.{ints}
 use Rattle.gf_int.proofs.RingLaws.{*ℤ--ℤ}
 use Rattle.gf_vec.proofs.WeightLaws.{weight-drop}

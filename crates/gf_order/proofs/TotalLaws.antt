@@ -1,9 +1,8 @@
 -- Comparisons by one of the six orders are total, and products keep them.
-use Rattle.std.specs.Prelude.{◌≡◌, length}
 use Rattle.std.specs.Ordering.{ordering_reverse}
 use Rattle.std.specs.declared.cmp.Ordering.{Ordering}
 use Rattle.std.specs.declared.cmp.Ordering.TheVariants.{Less, Equal, Greater}
-use Rattle.std.proofs.Common.{refl, sym, ap, inl, inr}
+use Rattle.std.proofs.Common.{◌≡◌, length, refl, sym, ap, inl, inr}
 use Rattle.gf_exponents.specs.Exponents.{Exponents, plus}
 use Rattle.gf_exponents.specs.SixOrders.{MonomialOrder, below_of}
 use Rattle.gf_exponents.proofs.ExponentsLaws.{same-refl, same_of, entries_same, same_lists}

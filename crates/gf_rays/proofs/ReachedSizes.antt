@@ -10,7 +10,7 @@ use Rattle.gf_int.specs.Content.{scaled}
 use Rattle.gf_int.proofs.SignLaws.{zero-cancel, 0<-cancel, zero_product, mul_positive}
 use Rattle.gf_vec.specs.declared.error.VecOp.{VecOp}
 use Rattle.gf_vec.specs.declared.error.VecOp.TheVariants.{Add, Sub, Mul}
-use Rattle.gf_vec.specs.Vector.{dot, vector_sum, zeros, values, entry_at}
+use Rattle.gf_vec.specs.Vector.{dot, vector_sum, zeros, values, entry_at, opposite}
 use Rattle.gf_vec.specs.Primitive.{IsPrimitivePart}
 use Rattle.gf_vec.proofs.EntryLaws.{entry_times, all_zero, cancel}
 use Rattle.gf_vec.proofs.VectorLaws.{dot_comm, length-times, length-zeros}
@@ -23,7 +23,6 @@ use Rattle.gf_duality.specs.Combining.{IsMixStep, IsCombining, pair}
 use Rattle.gf_duality.specs.Generators.{unit_vectors}
 use Rattle.gf_duality.specs.Rays.{IsZeroOn}
 use Rattle.gf_duality.specs.Elimination.{IsTurned, IsEliminated, begun as eliminated_begun, skipped, turned, IsEliminationStep, IsNormalised, IsNullSpace, IsNullStep, eliminating, reducing, with_values, columns}
-use Rattle.gf_vec.specs.Vector.{opposite}
 use Rattle.gf_duality.specs.Straightening.{IsLeveled, IsStraightened, done as straight_done, next as straight_next, IsOrthogonalized, start, added, gone, IsOrthogonalizing}
 use Rattle.gf_duality.proofs.ListLaws.{none_in, snoc_cases, first_in, last_in, zip_from, of_rest, all_by, place, less, at, more}
 use Rattle.gf_duality.proofs.Echelon.{turn_in}

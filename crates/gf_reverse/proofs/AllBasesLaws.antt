@@ -1,7 +1,6 @@
 -- The list of all marked reduced bases holds exactly them.
 -- To cite: listed_in, listed_from, bases_are_listed, weights_are_listed.
-use Rattle.std.specs.Prelude.{◌≡◌, ◌⊎◌, ◌↔◌, ℕ, List, length, Contains}
-use Rattle.std.proofs.Common.{inl, inr}
+use Rattle.std.proofs.Common.{◌≡◌, ◌⊎◌, ◌↔◌, ℕ, List, length, Contains, inl, inr}
 use Rattle.std.proofs.lemmas.List.Elements.{All-nil}
 use Rattle.gf_gordan.specs.Alternative.{AreRows}
 use Rattle.gf_poly.specs.Polynomial.{Terms}

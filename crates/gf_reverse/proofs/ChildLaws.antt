@@ -1,7 +1,6 @@
 -- Children: which neighbours of a basis have it as their parent.
 -- To cite: child_across, child_flippable, child_negative, child_only.
-use Rattle.std.specs.Prelude.{◌≡◌, List, ℤ}
-use Rattle.std.proofs.Common.{refl, sym, ap, ◌∙◌, subst}
+use Rattle.std.proofs.Common.{◌≡◌, List, ℤ, refl, sym, ap, ◌∙◌, subst}
 use Rattle.gf_poly.specs.Marking.{MarkedPolynomials, polys}
 use Rattle.gf_facets.specs.Rows.{negated}
 use Rattle.gf_facets.specs.Regions.{Region}

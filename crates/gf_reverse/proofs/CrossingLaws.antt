@@ -1,7 +1,6 @@
 -- What enters and what leaves the leading monomials where a facet is crossed.
 -- To cite: something_enters, what_enters_pulls. The rest are steps.
-use Rattle.std.specs.Prelude.{◌≡◌, ◌⊎◌, ℕ, zero, suc, ◌+◌, ◌<◌, Bool, true, false, if◌then◌else◌, List, [], Contains, get_or, ℤ, pos, ◌+ℤ◌, ◌*ℤ◌, ◌<ℤ◌}
-use Rattle.std.proofs.Common.{arith, refl, sym, ap, ◌∙◌, inl, inr}
+use Rattle.std.proofs.Common.{◌≡◌, ◌⊎◌, ℕ, zero, suc, ◌+◌, ◌<◌, Bool, true, false, if◌then◌else◌, List, [], Contains, get_or, ℤ, pos, ◌+ℤ◌, ◌*ℤ◌, ◌<ℤ◌, arith, refl, sym, ap, ◌∙◌, inl, inr}
 use Rattle.std.proofs.lemmas.Int.{ints}
 use Rattle.gf_frac.specs.Fraction.{◌+ℚ◌, zero_ℚ, one_ℚ}
 use Rattle.gf_frac.proofs.FractionLaws.{+ℚ-zero, zero-+ℚ, zero_or_not, zero-not-one}

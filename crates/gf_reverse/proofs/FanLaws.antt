@@ -1,7 +1,6 @@
 -- The fan of an ideal in a region is a finite tree: the way up ends at one root, and what is below a node can be listed.
 -- To cite: bases_of, crossing_falls, walks_fall, rank_in, parents_fall, no_cycle, parents_climb, roots_one, node_list.
-use Rattle.std.specs.Prelude.{◌≡◌, ◌⊎◌, ℕ, ◌+◌, ◌<◌, ◌≤◌, List, [], ◌∷◌, ◌++◌, length, Contains, max, map, All, ℤ, pos, ◌<ℤ◌}
-use Rattle.std.proofs.Common.{arith, refl, sym, ap, ◌∙◌, subst, inl, inr}
+use Rattle.std.proofs.Common.{◌≡◌, ◌⊎◌, ℕ, ◌+◌, ◌<◌, ◌≤◌, List, [], ◌∷◌, ◌++◌, length, Contains, max, map, All, ℤ, pos, ◌<ℤ◌, arith, refl, sym, ap, ◌∙◌, subst, inl, inr}
 use Rattle.std.proofs.lemmas.List.{length-map}
 use Rattle.std.proofs.lemmas.List.Elements.{Contains-append_cases, Contains-append_left, Contains-append_right}
 use Rattle.gf_gordan.specs.Alternative.{AreRows}

@@ -1,6 +1,5 @@
 -- The theorems of specs/Laws.antt.
-use Rattle.std.specs.Prelude.{◌⊎◌, ◌↔◌, ℕ, List, Contains, All, ℤ, pos, ◌≤ℤ◌}
-use Rattle.std.proofs.Common.{subst, inl, inr}
+use Rattle.std.proofs.Common.{◌⊎◌, ◌↔◌, ℕ, List, Contains, All, ℤ, pos, ◌≤ℤ◌, subst, inl, inr}
 use Rattle.gf_exponents.specs.Exponents.{Exponents, IsInRing}
 use Rattle.gf_exponents.specs.Orders.{gains, IsWeightedBelow}
 use Rattle.gf_poly.specs.Polynomial.{Terms}

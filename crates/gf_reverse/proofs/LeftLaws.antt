@@ -1,7 +1,6 @@
 -- What a walker has left, by whole paths.
 -- To cite: advance_answers, advance_ends, top_seen_below.
-use Rattle.std.specs.Prelude.{ℕ, List, ◌++◌, ℤ}
-use Rattle.std.proofs.Common.{sym, subst, inl, inr}
+use Rattle.std.proofs.Common.{ℕ, List, ◌++◌, ℤ, sym, subst, inl, inr}
 use Rattle.gf_poly.specs.Marking.{MarkedPolynomials}
 use Rattle.gf_walk.specs.declared.mark.Mark.{Mark}
 use Rattle.gf_walk.specs.Path.{Leads}

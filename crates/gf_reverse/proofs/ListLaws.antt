@@ -1,7 +1,6 @@
 -- The whole list below the root is the list of all bases, and each basis has one path.
 -- To cite: own, path_exists, path_one, same_root, list_of_bases, root_above, root_own, path_below, below_top.
-use Rattle.std.specs.Prelude.{◌≡◌, ℕ, zero, suc, ◌≤◌, List, [], ◌∷◌, ◌++◌, length, ℤ}
-use Rattle.std.proofs.Common.{arith, refl, sym, subst, inl, inr}
+use Rattle.std.proofs.Common.{◌≡◌, ℕ, zero, suc, ◌≤◌, List, [], ◌∷◌, ◌++◌, length, ℤ, arith, refl, sym, subst, inl, inr}
 use Rattle.gf_poly.specs.Marking.{MarkedPolynomials}
 use Rattle.gf_walk.specs.Path.{IsRoot, Leads}
 use Rattle.gf_walk.specs.Listing.{Among, LeadTo}

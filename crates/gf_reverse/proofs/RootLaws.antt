@@ -1,7 +1,6 @@
 -- No facet leads towards a root weight exactly from the reduced basis for its order: by the weight, then lex.
 -- To cite: root_basis, root_is_top, one_root.
-use Rattle.std.specs.Prelude.{◌≡◌, ◌⊎◌, ℕ, Bool, true, false, List, All, ℤ, pos, ◌≤ℤ◌}
-use Rattle.std.proofs.Common.{refl, inl, inr}
+use Rattle.std.proofs.Common.{◌≡◌, ◌⊎◌, ℕ, Bool, true, false, List, All, ℤ, pos, ◌≤ℤ◌, refl, inl, inr}
 use Rattle.gf_exponents.specs.Exponents.{Exponents, same}
 use Rattle.gf_exponents.specs.Orders.{IsStrict, IsWeightedBelow, gains}
 use Rattle.gf_exponents.proofs.ExponentsLaws.{same-refl, same_flip}

@@ -1,8 +1,7 @@
 -- A basis with a normal that is negative at a root weight has a facet with such a normal that a flip may cross: some vector
 -- of the region gives each normal the sign that it has at the root weight, and on the way to it a facet is crossed.
 -- To cite: sign_or, normal_sign, root_weight, weight_everywhere, near_root, negative_at, normal-signable, negative_gives_flippable.
-use Rattle.std.specs.Prelude.{◌≡◌, ◌⊎◌, ℕ, zero, suc, ◌<◌, List, [], ◌∷◌, ◌++◌, length, Contains, All, ℤ, pos, negsuc, ◌<ℤ◌, ◌≤ℤ◌}
-use Rattle.std.proofs.Common.{arith, refl, sym, ap, ◌∙◌, subst, inl, inr}
+use Rattle.std.proofs.Common.{◌≡◌, ◌⊎◌, ℕ, zero, suc, ◌<◌, List, [], ◌∷◌, ◌++◌, length, Contains, All, ℤ, pos, negsuc, ◌<ℤ◌, ◌≤ℤ◌, arith, refl, sym, ap, ◌∙◌, subst, inl, inr}
 use Rattle.std.proofs.lemmas.Int.{ints}
 use Rattle.std.proofs.lemmas.List.Elements.{All-nil, All-append, All-contains, Contains-append_left, Contains-append_right}
 use Rattle.gf_int.specs.Content.{AllZero, scaled}

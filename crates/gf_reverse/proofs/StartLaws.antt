@@ -1,7 +1,6 @@
 -- A reduced Gröbner basis for an order is a node of the fan of its ideal, in the region of all positive vectors.
 -- To cite: basis_is_node.
-use Rattle.std.specs.Prelude.{◌≡◌, ℕ, List}
-use Rattle.std.proofs.Common.{refl}
+use Rattle.std.proofs.Common.{◌≡◌, ℕ, List, refl}
 use Rattle.gf_exponents.specs.Exponents.{Exponents}
 use Rattle.gf_exponents.specs.Orders.{IsMonomialOrder}
 use Rattle.gf_poly.specs.Polynomial.{Terms}

@@ -1,7 +1,6 @@
 -- The parent relation is that of a tree: one parent by one label, one child under each.
 -- To cite: one_way, same_list, from_parent, parents_tree, parent_nodes.
-use Rattle.std.specs.Prelude.{◌≡◌, ℕ, List, ℤ}
-use Rattle.std.proofs.Common.{sym, ap, ap₂, ◌∙◌, subst, inl, inr}
+use Rattle.std.proofs.Common.{◌≡◌, ℕ, List, ℤ, sym, ap, ap₂, ◌∙◌, subst, inl, inr}
 use Rattle.gf_poly.specs.Marking.{MarkedPolynomial, MarkedPolynomials}
 use Rattle.gf_walk.specs.Path.{IsTree}
 use Rattle.gf_facets.specs.Rows.{negated}

@@ -1,7 +1,6 @@
 -- Whether a facet leads up is decided, and the least of those that do is found.
 -- To cite: way_or_none.
-use Rattle.std.specs.Prelude.{◌≡◌, ◌⊎◌, ℕ, List, [], ◌∷◌, Contains, ℤ}
-use Rattle.std.proofs.Common.{arith, sym, subst, inl, inr}
+use Rattle.std.proofs.Common.{◌≡◌, ◌⊎◌, ℕ, List, [], ◌∷◌, Contains, ℤ, arith, sym, subst, inl, inr}
 use Rattle.gf_poly.specs.Marking.{MarkedPolynomial}
 use Rattle.gf_gordan.specs.Alternative.{AreRows}
 use Rattle.gf_ideal.proofs.ListLaws.{Contains-here, Contains-there, Contains-cases}

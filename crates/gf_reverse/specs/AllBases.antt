@@ -1,7 +1,6 @@
 -- All marked reduced Gröbner bases of an ideal in a region, as one list, so that their number may stand in a measure.
 -- It is a total function, and nobody computes it. Laws: proofs/AllBasesLaws.antt.
-use Rattle.std.specs.Prelude.{◌⊎◌, ℕ, List, [], length}
-use Rattle.std.proofs.Common.{inl, inr}
+use Rattle.std.proofs.Common.{◌⊎◌, ℕ, List, [], length, inl, inr}
 use Rattle.gf_poly.specs.Polynomial.{Terms}
 use Rattle.gf_poly.specs.Marking.{MarkedPolynomial}
 use Rattle.gf_facets.specs.Regions.{Region}

@@ -1,7 +1,6 @@
 -- Elimination of the last variable by its weight before lex.
 -- To cite: free_by_head, bound_by_head, left_over_variables, member_of_left_over, left_over_of_member, same_members.
-use Rattle.std.specs.Prelude.{◌≡◌, ◌⊎◌, ℕ, zero, suc, ◌<◌, ◌≤◌, true, List, [], ◌∷◌, Contains}
-use Rattle.std.proofs.Common.{arith, refl, sym, ap, ◌∙◌, inl, inr}
+use Rattle.std.proofs.Common.{◌≡◌, ◌⊎◌, ℕ, zero, suc, ◌<◌, ◌≤◌, true, List, [], ◌∷◌, Contains, arith, refl, sym, ap, ◌∙◌, inl, inr}
 use Rattle.std.proofs.lemmas.Bool.{cases_lt}
 use Rattle.gf_exponents.specs.Exponents.{Exponents, entry, same, plus, weight, IsInRing}
 use Rattle.gf_exponents.specs.Orders.{IsDeglexBelow, IsWeightedBelow}

@@ -1,7 +1,6 @@
 -- The saturation, one variable after another; where 1 is reached, the rest may be left out.
 -- To cite: saturated_none, saturated_next, saturated_all, product_power-next.
-use Rattle.std.specs.Prelude.{◌≡◌, ◌⊎◌, ◌↔◌, ℕ, zero, suc, ◌<◌, ◌≤◌, true, List, [], ◌∷◌, ◌++◌}
-use Rattle.std.proofs.Common.{arith, refl, sym, ap, ◌∙◌, inl, inr}
+use Rattle.std.proofs.Common.{◌≡◌, ◌⊎◌, ◌↔◌, ℕ, zero, suc, ◌<◌, ◌≤◌, true, List, [], ◌∷◌, ◌++◌, arith, refl, sym, ap, ◌∙◌, inl, inr}
 use Rattle.std.proofs.lemmas.Bool.{cases_lt}
 use Rattle.gf_frac.specs.Fraction.{◌*ℚ◌, one_ℚ}
 use Rattle.gf_frac.proofs.FractionLaws.{*ℚ_comm, one-*ℚ}

@@ -1,7 +1,6 @@
 -- A list that is under way: what a walker gave, and then what it has left; and the whole list below the root.
 -- To cite: given_none, given_more, given_all, refusal_given, limits_given, all_left, list_below, root_list, all_given, part_given, all_listed, part_listed.
-use Rattle.std.specs.Prelude.{◌≡◌, ℕ, List, [], ◌∷◌, ◌++◌}
-use Rattle.std.proofs.Common.{refl, sym, ◌∙◌, subst}
+use Rattle.std.proofs.Common.{◌≡◌, ℕ, List, [], ◌∷◌, ◌++◌, refl, sym, ◌∙◌, subst}
 use Rattle.gf_poly.specs.Marking.{MarkedPolynomials}
 use Rattle.gf_walk.specs.declared.mark.Mark.TheVariants.{Before}
 use Rattle.gf_walk.specs.Path.{IsRoot}

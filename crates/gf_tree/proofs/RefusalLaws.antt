@@ -1,8 +1,7 @@
 -- Refusals of a search: of its steps, seen from another basis of the same ideal, and where it stays within its limits.
 -- To cite: flip_refused, cone_refused, flip_at, cone_at, place_at, refusal_moved, limits_moved, refusal_beside, call_refused, refusal_above, refusal_over, within_memory, only_memory,
 -- only_memory_back.
-use Rattle.std.specs.Prelude.{◌≡◌, ℕ, ◌<◌, ◌≤◌, List, ℤ, length, Result, Ok, Err, IfErr}
-use Rattle.std.proofs.Common.{arith, sym, ap, ◌∙◌, subst}
+use Rattle.std.proofs.Common.{◌≡◌, ℕ, ◌<◌, ◌≤◌, List, ℤ, length, Result, Ok, Err, IfErr, arith, sym, ap, ◌∙◌, subst}
 use Rattle.gf_poly.specs.Marking.{MarkedPolynomials}
 use Rattle.gf_gordan.specs.declared.error.GordanError.{GordanError}
 use Rattle.gf_gordan.specs.declared.error.GordanError.TheVariants as cones

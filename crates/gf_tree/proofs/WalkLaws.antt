@@ -1,7 +1,6 @@
 -- A walker's step, in the words of bases and paths.
 -- To cite: walk_of, count_along, left_at_top, left_after, step_to, advance_own, step_end, parts_of, left_first, left_rest, resumed, left_resumed.
-use Rattle.std.specs.Prelude.{◌≡◌, ℕ, suc, ◌+◌, ◌-◌, ◌≤◌, List, [], ◌∷◌, ◌++◌, ℤ, length, Option, Some, None, IfSome}
-use Rattle.std.proofs.Common.{arith, refl, sym, ap, ◌∙◌, subst, length-append}
+use Rattle.std.proofs.Common.{◌≡◌, ℕ, suc, ◌+◌, ◌-◌, ◌≤◌, List, [], ◌∷◌, ◌++◌, ℤ, length, Option, Some, None, IfSome, arith, refl, sym, ap, ◌∙◌, subst, length-append}
 use Rattle.gf_poly.specs.Marking.{MarkedPolynomials}
 use Rattle.gf_walk.specs.declared.mark.Mark.{Mark}
 use Rattle.gf_walk.specs.declared.mark.Mark.TheVariants.{Before, Listed, Finished}

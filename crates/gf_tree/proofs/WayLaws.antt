@@ -1,8 +1,7 @@
 -- The way up among the normals that a program keeps: ascending, each once.
 -- To cite: place_of_normal, way_found, way_none, least_of_way, no_crossing, no_way, way_read, place_read, missing_read, told_way,
 -- not_told, cone_moved, shown_crossing, refuted_crossing, negative_read, small_at.
-use Rattle.std.specs.Prelude.{◌≡◌, ◌⊎◌, ℕ, ◌<◌, ◌≤◌, ◌^◌, List, [], length, get_or, Contains, All, ℤ, unsigned_abs, Option, Some, None, Bool, true, false, IsTrue, ◌↔◌}
-use Rattle.std.proofs.Common.{arith, refl, sym, ap, ◌∙◌, subst, inl, inr}
+use Rattle.std.proofs.Common.{◌≡◌, ◌⊎◌, ℕ, ◌<◌, ◌≤◌, ◌^◌, List, [], length, get_or, Contains, All, ℤ, unsigned_abs, Option, Some, None, Bool, true, false, IsTrue, ◌↔◌, arith, refl, sym, ap, ◌∙◌, subst, inl, inr}
 use Rattle.std.proofs.lemmas.Bool.{cases_lt}
 use Rattle.std.proofs.lemmas.List.{get_or_default}
 use Rattle.std.specs.declared.cmp.Ordering.{Ordering}

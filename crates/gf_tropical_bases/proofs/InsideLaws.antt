@@ -1,8 +1,7 @@
 -- Where the initial ideal has no polynomial of one term, the vector is on the prevariety: else the initial form of a generator has one
 -- term.
 -- To cite: top_term, free_inside.
-use Rattle.std.specs.Prelude.{◌≡◌, ◌≢◌, ◌⊎◌, ℕ, suc, Bool, true, false, if◌then◌else◌, List, [], ◌∷◌, map, length, drop, ℤ, pos, ◌<ℤ◌, ◌≤ℤ◌, Contains}
-use Rattle.std.proofs.Common.{arith, refl, sym, ap, ◌∙◌, subst, inl, inr}
+use Rattle.std.proofs.Common.{◌≡◌, ◌≢◌, ◌⊎◌, ℕ, suc, Bool, true, false, if◌then◌else◌, List, [], ◌∷◌, map, length, drop, ℤ, pos, ◌<ℤ◌, ◌≤ℤ◌, Contains, arith, refl, sym, ap, ◌∙◌, subst, inl, inr}
 use Rattle.std.proofs.lemmas.Int.{ints}
 use Rattle.gf_frac.specs.Fraction.{◌+ℚ◌, zero_ℚ}
 use Rattle.gf_frac.proofs.FractionLaws.{+ℚ-zero, zero_or_not}

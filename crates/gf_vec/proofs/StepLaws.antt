@@ -1,6 +1,5 @@
 -- The first operation of a list that leaves the range.
-use Rattle.std.specs.Prelude.{List, [], ◌∷◌}
-use Rattle.std.proofs.Common.{inl, inr}
+use Rattle.std.proofs.Common.{List, [], ◌∷◌, inl, inr}
 use Rattle.gf_vec.specs.Steps.{IsWide, IsFirstWide}
 use Rattle.gf_vec.specs.declared.error.WideVector.{WideVector}
 

@@ -1,7 +1,6 @@
 -- A wave and a call keep that each refusal in the row is its walker's, and a refusal that is told is that of the walker in front.
 -- To cite: waved_refusals, given_refusals, given_refused_any, starved_refused.
-use Rattle.std.proofs.Common.{◌≡◌, ℕ, zero, suc, List, [], ◌∷◌, ◌++◌, refl, sym, inl, inr, subst, Option, Some, None, Ok, Err, true, false}
-use Rattle.std.specs.Prelude.{IfErr}
+use Rattle.std.proofs.Common.{IfErr, ◌≡◌, ℕ, zero, suc, List, [], ◌∷◌, ◌++◌, refl, sym, inl, inr, subst, Option, Some, None, Ok, Err, true, false}
 use Rattle.std.specs.declared.result.Result.{Result}
 use Rattle.gf_walk.specs.declared.mark.Mark.{Mark}
 use Rattle.gf_walk.specs.declared.mark.Mark.TheVariants.{After}

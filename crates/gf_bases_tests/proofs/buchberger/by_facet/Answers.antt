@@ -1,5 +1,4 @@
-use Rattle.std.proofs.Common.{arith, ap, sym, subst, ◌∙◌}
-use Rattle.std.specs.Prelude.{ℤ, pos, negsuc, List, [], ◌∷◌, All, ◌≤ℤ◌}
+use Rattle.std.proofs.Common.{ℤ, pos, negsuc, List, [], ◌∷◌, All, ◌≤ℤ◌, arith, ap, sym, subst, ◌∙◌}
 use Rattle.std.proofs.lemmas.Int.{ints}
 use Rattle.std.proofs.lemmas.List.Elements.{All-from_recursion}
 use Rattle.gf_exponents.specs.SixOrders.{MonomialOrder}

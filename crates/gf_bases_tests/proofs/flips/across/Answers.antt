@@ -1,5 +1,4 @@
-use Rattle.std.specs.Prelude.{length}
-use Rattle.std.proofs.Common.{arith, ap}
+use Rattle.std.proofs.Common.{length, arith, ap}
 use Rattle.gf_cone.specs.Cones.{ConeRows}
 use Rattle.gf_flip.proofs.ReachedLaws.{told_flippable, reached_crossing, reached_next}
 use Rattle.gf_bases_tests.proofs.flips.across.Goals as goal

@@ -1,5 +1,4 @@
-use Rattle.std.specs.Prelude.{All, IfSome}
-use Rattle.std.proofs.Common.{sym, ap, ◌∙◌, subst}
+use Rattle.std.proofs.Common.{All, IfSome, sym, ap, ◌∙◌, subst}
 use Rattle.std.proofs.lemmas.List.Elements.{All-push}
 use Rattle.gf_flip.specs.Reached.{IsReachedByFlips}
 use Rattle.gf_bases_tests.proofs.flips.visit.Goals as goal

@@ -1,5 +1,4 @@
-use Rattle.std.specs.Prelude.{length}
-use Rattle.std.proofs.Common.{refl, sym, ap, ◌∙◌, subst}
+use Rattle.std.proofs.Common.{length, refl, sym, ap, ◌∙◌, subst}
 use Rattle.gf_flip.specs.Along.{HasNonzero}
 use Rattle.gf_flip.proofs.CrossingMath.{crossing_width, crossing_nonzero, monic_parts}
 use Rattle.gf_flip.proofs.LiftTailLaws.{copies-length}

@@ -1,5 +1,4 @@
-use Rattle.std.specs.Prelude.{List, ℤ, length, IfErr}
-use Rattle.std.proofs.Common.{refl, sym, ap, ◌∙◌, subst}
+use Rattle.std.proofs.Common.{List, ℤ, length, IfErr, refl, sym, ap, ◌∙◌, subst}
 use Rattle.std.proofs.lemmas.Result.{err_from_is_err_and}
 use Rattle.gf_flip.specs.Along.{HasNonzero}
 use Rattle.gf_flip.specs.Operations.{IsFlipRefusal}

@@ -1,5 +1,4 @@
-use Rattle.std.specs.Prelude.{Some}
-use Rattle.std.proofs.Common.{refl}
+use Rattle.std.proofs.Common.{Some, refl}
 use Rattle.gf_division.proofs.ReducerLaws.{beside_by_test, not_beside_by_test}
 use Rattle.gf_flip.proofs.tails.is_unmarked.Goals as goal
 

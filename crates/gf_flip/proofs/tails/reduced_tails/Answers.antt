@@ -1,5 +1,4 @@
-use Rattle.std.specs.Prelude.{List, Bool}
-use Rattle.std.proofs.Common.{arith, sym, ap, ◌∙◌, subst, length, ℕ}
+use Rattle.std.proofs.Common.{List, Bool, arith, sym, ap, ◌∙◌, subst, length, ℕ}
 use Rattle.gf_flip.specs.LiftTails.{IsNextInTurn, AreTailsInTurn}
 use Rattle.gf_flip.proofs.TailsInTurn.{turned-length, turned_weight, turned_variables}
 use Rattle.gf_flip.proofs.tails.reduced_tails.Goals as goal

@@ -1,5 +1,4 @@
-use Rattle.std.specs.Prelude.{List}
-use Rattle.std.proofs.Common.{refl, sym, subst, inl, inr}
+use Rattle.std.proofs.Common.{List, refl, sym, subst, inl, inr}
 use Rattle.gf_poly.specs.Marking.{MarkedPolynomial}
 use Rattle.gf_division.specs.NormalForms.{HasSomeWeight}
 use Rattle.gf_flip.specs.LiftTails.{HasUndividedTailAt, IsReducedLiftAt}

@@ -1,5 +1,4 @@
-use Rattle.std.specs.Prelude.{Contains}
-use Rattle.std.proofs.Common.{sym, ap, ◌∙◌, subst}
+use Rattle.std.proofs.Common.{Contains, sym, ap, ◌∙◌, subst}
 use Rattle.gf_poly.specs.Marking.{MarkedPolynomial}
 use Rattle.gf_division.proofs.ReducerLaws.{member_at, members_equal}
 use Rattle.gf_buchberger.proofs.SingleLaws.{single_at}

@@ -1,5 +1,4 @@
-use Rattle.std.proofs.Common.{◌≡◌, rules, ◌∙◌, ap, subst, sym}
-use Rattle.std.specs.Prelude.{FitsSigned, pos, ℤ}
+use Rattle.std.proofs.Common.{FitsSigned, pos, ℤ, ◌≡◌, rules, ◌∙◌, ap, subst, sym}
 use Rattle.std.specs.Int.RustNames.{unsigned_abs, int_div}
 use Rattle.std.specs.Int.{w128}
 use Rattle.std.proofs.lemmas.Int.{to_z-of_z}

@@ -1,5 +1,4 @@
-use Rattle.std.specs.Prelude.{ℕ}
-use Rattle.std.proofs.Common.{subst}
+use Rattle.std.proofs.Common.{ℕ, subst}
 use Rattle.std.proofs.lemmas.Result.{IfOk-weaker, IfErr-weaker}
 use Rattle.gf_facets.specs.Regions.{all_positive}
 use Rattle.gf_reverse.specs.Lists.{IsListOfBases}

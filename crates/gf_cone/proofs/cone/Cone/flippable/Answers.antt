@@ -1,8 +1,7 @@
-use Rattle.std.proofs.Common.{◌≤◌, ◌≡◌, ◌∙◌, sym, ap, subst, ℕ, length}
+use Rattle.std.proofs.Common.{IfErr, ◌≤◌, ◌≡◌, ◌∙◌, sym, ap, subst, ℕ, length}
 use Rattle.gf_gordan.specs.Alternative.{AreRows}
 use Rattle.gf_facets.specs.Normals.{others_of}
 use Rattle.gf_cone.specs.Cones.{ConeRows, all_rows, other_rows, normal_at}
-use Rattle.std.specs.Prelude.{IfErr}
 use Rattle.gf_gordan.specs.Steps.{Failed}
 use Rattle.gf_cone.specs.Answers.{AnswersSystem, IsFlipTold, IsNormalStep}
 use Rattle.gf_cone.proofs.AnswerLaws.{flip_told, kept_wide, positive_for, answer_for, interior_of_others, others-append, others_all_of, given_rows_are, row_read, system_for, IfOk-weaker, small_others, small_at}

@@ -1,5 +1,4 @@
-use Rattle.std.specs.Prelude.{◌≡◌, List, Option, Ok}
-use Rattle.std.proofs.Common.{arith, sym, subst}
+use Rattle.std.proofs.Common.{◌≡◌, List, Option, Ok, arith, sym, subst}
 use Rattle.gf_poly.specs.Marking.{MarkedPolynomials}
 use Rattle.gf_walk.specs.Listing.{IsLeftAt, IsFirstOf}
 use Rattle.gf_walk.specs.Pieces.{PiecesLeave}

@@ -1,5 +1,4 @@
-use Rattle.std.specs.Prelude.{Some}
-use Rattle.std.proofs.Common.{◌∙◌, ap, sym, subst}
+use Rattle.std.proofs.Common.{Some, ◌∙◌, ap, sym, subst}
 use Rattle.std.proofs.lemmas.Result.{err_from_is_err_and}
 use Rattle.gf_facets.specs.Rows.{negated}
 use Rattle.gf_facets.specs.Regions.{all_positive}
