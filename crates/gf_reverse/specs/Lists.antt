@@ -12,7 +12,7 @@ use Rattle.gf_walk.specs.Listing.{Among, Rises, LeadTo}
 use Rattle.gf_walk.specs.Whole.{EachOnce}
 use Rattle.gf_facets.specs.Regions.{Region}
 use Rattle.gf_facets.specs.LexPositive.{IsBefore}
-use Rattle.gf_reverse.specs.Upward.{IsNodeIn, fan_of, IsNode, IsParent}
+use Rattle.gf_reverse.specs.Upward.{Fan, IsNodeIn, fan_of, IsNode, IsParent}
 
 -- p is the path of v: it leads down from a basis that nothing is above
 pub record IsPathOf (k : Region) (v : MarkedPolynomials) (p : List (List ℤ)) : Type 0 where
@@ -20,16 +20,20 @@ pub record IsPathOf (k : Region) (v : MarkedPolynomials) (p : List (List ℤ)) :
   pub is_root : IsRoot (IsParent k) root
   pub leads : Leads (IsParent k) root p v
 
--- exactly the bases of the ideal of v, each once, and their paths rise
-pub record IsListOfBases (k : Region) (v : MarkedPolynomials) (nodes : List MarkedPolynomials) : Type 0 where
-  pub only : (x : MarkedPolynomials) → Among nodes x → IsNodeIn (fan_of k v) x
-  pub all : (x : MarkedPolynomials) → IsNodeIn (fan_of k v) x → Among nodes x
+-- exactly the marked reduced Gröbner bases of F, each once, and their paths rise
+pub record IsListFor (F : Fan) (nodes : List MarkedPolynomials) : Type 0 where
+  pub only : (x : MarkedPolynomials) → Among nodes x → IsNodeIn F x
+  pub all : (x : MarkedPolynomials) → IsNodeIn F x → Among nodes x
   pub once : EachOnce nodes
   pub root : MarkedPolynomials
-  pub is_root : IsRoot (IsParent k) root
+  pub is_root : IsRoot (IsParent F.region) root
   pub paths : List (List (List ℤ))
-  pub lead : LeadTo (IsParent k) root paths nodes
+  pub lead : LeadTo (IsParent F.region) root paths nodes
   pub rises : Rises IsBefore paths
+
+-- the list of the bases of the ideal that v generates
+abbrev pub IsListOfBases : Region → MarkedPolynomials → List MarkedPolynomials → Type 0
+IsListOfBases k v = IsListFor (fan_of k v)
 
 -- x is left for a walker: its path goes on from that of the walker's top, and is left at the path of the walker's basis
 pub record IsLeftBasis (k : Region) (mark : Mark (List ℤ)) (top : List (List ℤ)) (here : List (List ℤ)) (x : MarkedPolynomials) : Type 0 where

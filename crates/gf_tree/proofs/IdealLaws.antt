@@ -10,10 +10,10 @@ use Rattle.gf_facets.specs.Regions.{all_positive}
 use Rattle.gf_facets.proofs.SystemLaws.{all_positive-region}
 use Rattle.gf_flip.proofs.ReachedLaws.{reached_first}
 use Rattle.gf_reverse.specs.Upward.{Fan, IsNodeIn, fan_of}
-use Rattle.gf_reverse.specs.Lists.{IsListOfBases}
+use Rattle.gf_reverse.specs.Lists.{IsListFor, IsListOfBases}
 use Rattle.gf_reverse.proofs.TreeLaws.{SameFan, own_fan, back_fan, node_moved}
 use Rattle.gf_reverse.proofs.ListLaws.{own}
-use Rattle.gf_tree.specs.Ideals.{ideal_by, IsListFor}
+use Rattle.gf_tree.specs.Ideals.{ideal_by}
 use Rattle.gf_tree.specs.Parents.{ideal_of}
 
 -- the basis by degree, then lex, is a basis of its ideal, and so of the ideal that it generates

@@ -12,10 +12,9 @@ use Rattle.gf_facets.specs.LexPositive.{IsBefore}
 use Rattle.gf_facets.specs.Regions.{Region, all_positive}
 use Rattle.gf_facets.proofs.VectorOrder.{before_strict}
 use Rattle.gf_reverse.specs.Upward.{Fan, IsNode, IsNodeIn, IsParent, fan_of}
-use Rattle.gf_reverse.specs.Lists.{IsListOfBases}
+use Rattle.gf_reverse.specs.Lists.{IsListFor, IsListOfBases}
 use Rattle.gf_reverse.proofs.TreeLaws.{own_fan, back_fan, node_moved, rank, upward_tree, upward_falls, upward_finite}
 use Rattle.gf_reverse.proofs.ListLaws.{own, list_of_bases}
-use Rattle.gf_tree.specs.Ideals.{IsListFor}
 use Rattle.gf_tree.specs.Parents.{ideal_of, IsRootFor}
 use Rattle.gf_tree.specs.Walks.{Walk, region_at, ideal_at, AreLeft, walk_at}
 use Rattle.gf_tree.specs.Steps.{IsStepTo, IsEnd, HasGiven}
