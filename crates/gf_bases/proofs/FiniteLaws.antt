@@ -19,7 +19,7 @@ use Rattle.gf_facets.specs.MarkedBases.{IsMarkedReducedBasis, IsBasisInRegion}
 use Rattle.gf_facets.proofs.SystemLaws.{contained_all, HasVector, vector_or_none, marks_of_open, open_of_marks, whole_of, whole-in_region, open_of_weight}
 use Rattle.gf_bases.proofs.DecidedLaws.{each_or_not, Chosen, chosen}
 use Rattle.gf_bases.proofs.AllBasesLaws.{Listed, bases_exist}
-use Rattle.gf_ideal.proofs.ArrangementLaws.{same_or_not}
+use Rattle.std.proofs.lemmas.Bool.{cases_eq}
 
 -- ---- n variables
 
@@ -47,7 +47,7 @@ pub record AreOfVariables (n : ℕ) (k : Region) (fs : List Terms) : Type 0 wher
   pub widths : AreRows n k.rows
 
 pub suits_or_not : (n : ℕ) (k : Region) (fs : List Terms) → AreOfVariables n k fs ⊎ (AreOfVariables n k fs → ⊥)
-suits_or_not n k fs = at (each_or_not (IsInVariables n) (variables_or_not n) fs) (each_or_not (λ (c : List ℤ). length c ≡ n) (λ c. same_or_not (length c) n) k.rows)
+suits_or_not n k fs = at (each_or_not (IsInVariables n) (variables_or_not n) fs) (each_or_not (λ (c : List ℤ). length c ≡ n) (λ c. cases_eq (length c) n) k.rows)
   where
     at : Each (IsInVariables n) fs ⊎ (Each (IsInVariables n) fs → ⊥) →
         Each (λ (c : List ℤ). length c ≡ n) k.rows ⊎ (Each (λ (c : List ℤ). length c ≡ n) k.rows → ⊥) →

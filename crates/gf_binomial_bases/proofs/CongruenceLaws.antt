@@ -1,6 +1,6 @@
 -- Monomials whose difference is in the ideal: where the ideal is decided, they are classes that products keep.
 -- To cite: monomial_terms, binomial, binomial-is, binomials_same, AreCongruent, congruence-grading, IsDecided, generators_congruent.
-use Rattle.std.proofs.Common.{◌≡◌, ◌⊎◌, ℕ, ◌≤◌, Bool, true, false, if◌then◌else◌, List, [], ◌∷◌, ◌++◌, Contains, Option, Some, None, arith, refl, ap, sym, ◌∙◌, inl, inr}
+use Rattle.std.proofs.Common.{◌≡◌, ◌⊎◌, ℕ, ◌≤◌, true, false, if◌then◌else◌, List, [], ◌∷◌, ◌++◌, Contains, Option, Some, None, arith, refl, ap, sym, ◌∙◌, inl, inr}
 use Rattle.gf_frac.specs.Fraction.{◌+ℚ◌, ◌*ℚ◌, neg_ℚ, zero_ℚ, one_ℚ}
 use Rattle.gf_frac.proofs.FractionLaws.{+ℚ-zero, +ℚ-neg_ℚ, one-*ℚ}
 use Rattle.gf_exponents.specs.Exponents.{Exponents, entry, same, plus, IsInRing}
@@ -15,6 +15,7 @@ use Rattle.gf_ideal.proofs.OrderWeights.{IsGrading}
 use Rattle.gf_binomials.specs.Binomials.{indicator, IsBinomialOf, IsBinomial, AreBinomials}
 use Rattle.gf_binomials.proofs.MonomialLaws.{at_like, IsTheMonomial, IsFirst, one_of_two, multiple_of_binomial, second_replaced, turned_round}
 use Rattle.gf_binomial_bases.proofs.CutLaws.{cut, cut-ring, cut-same, cut-along, cut-plus}
+use Rattle.gf_poly.proofs.InitialFormLaws.{same_or_not}
 
 -- ---- differences as polynomials
 
@@ -56,22 +57,15 @@ pub record AreCongruent (n : ℕ) (fs : List Terms) (x y : Exponents) : Type 0 w
 pub at_other : (x y : Exponents) → same y x ≡ false → indicator (Some x) y ≡ zero_ℚ
 at_other x y h = ap (λ b. if b then one_ℚ else zero_ℚ) h
 
-same_or_not : (x y : Exponents) → (same y x ≡ true) ⊎ (same y x ≡ false)
-same_or_not x y = at (same y x) refl
-  where
-    at : (b : Bool) → same y x ≡ b → (same y x ≡ true) ⊎ (same y x ≡ false)
-    at true h = inl h
-    at false h = inr h
-
 -- both at one place
 pub monomials_same : (s : Option Exponents) (x y : Exponents) → IsTheMonomial s x → IsTheMonomial s y → same x y ≡ true
-monomials_same s x y h k = elim (same_or_not y x) [ inl t ↦ t | inr f ↦ absurd (one_not_zero (sym h.one ∙ k.like x ∙ at_other y x f)) ]
+monomials_same s x y h k = elim (same_or_not x y) [ inl t ↦ t | inr f ↦ absurd (one_not_zero (sym h.one ∙ k.like x ∙ at_other y x f)) ]
 
 variables_of_binomial : (n : ℕ) (x y : Exponents) → IsInRing n x → IsInRing n y → IsInVariables n (binomial (Some x) (Some y))
 variables_of_binomial n x y h k e m = at (one_of_two (Some x) (Some y) (binomial (Some x) (Some y)) e (binomial-is (Some x) (Some y)) m)
   where
     is : (z : Exponents) → IsInRing n z → IsTheMonomial (Some z) e → IsInRing n e
-    is z r s = elim (same_or_not z e) [ inl t ↦ ring-along n z e (same_flip e z t) r | inr f ↦ absurd (one_not_zero (sym s.one ∙ at_other z e f)) ]
+    is z r s = elim (same_or_not e z) [ inl t ↦ ring-along n z e (same_flip e z t) r | inr f ↦ absurd (one_not_zero (sym s.one ∙ at_other z e f)) ]
 
     at : IsFirst (Some x) (Some y) e ⊎ IsFirst (Some y) (Some x) e → IsInRing n e
     at (inl f) = is x h f.there

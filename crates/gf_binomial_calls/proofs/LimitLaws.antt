@@ -15,7 +15,7 @@ use Rattle.gf_ideal.specs.Reduction.{IsMonicForm}
 use Rattle.gf_ideal.specs.Bases.{IsBasis, IsReducedBasisFor}
 use Rattle.gf_ideal.specs.WorkLists.{IsWorkList, IsRunExponents}
 use Rattle.gf_ideal.proofs.Identities.{one_not_zero}
-use Rattle.gf_ideal.proofs.StepLaws.{IsWithin, sum_within}
+use Rattle.gf_ideal.proofs.StepLaws.{IsWithin, sum_within, monic-monomials}
 use Rattle.gf_division.specs.Autoreduction.{AreNeededForms}
 use Rattle.gf_buchberger.specs.Bases.{AreRunsWithinLimits}
 use Rattle.gf_buchberger.specs.Pairs.{pairs_below}
@@ -37,7 +37,7 @@ use Rattle.gf_tree.specs.Refusals.{IsConeStep, IsTreeWithinLimits}
 use Rattle.gf_binomials.specs.Binomials.{IsBinomialOf, IsBinomial, AreBinomials}
 use Rattle.gf_binomials.proofs.MonomialLaws.{IsTheMonomial, one_of_two}
 use Rattle.gf_binomials.proofs.RunLaws.{run_fits}
-use Rattle.gf_binomials.proofs.PrincipalRuns.{AreAmong, reached_within, step_short, tail_within, form_from, form-among, work_forms, run_short}
+use Rattle.gf_binomials.proofs.PrincipalRuns.{AreAmong, reached_within, step_short, tail_within, form-among, work_forms, run_short}
 use Rattle.gf_binomials.proofs.PrincipalBases.{alone_in, basis_forms, basis_short, antichain_within, short_within}
 use Rattle.gf_binomial_calls.specs.Limits.{IsPlainGenerator}
 use Rattle.gf_binomial_calls.proofs.FlipLaws.{flip_fits}
@@ -144,7 +144,7 @@ flip_within n f k bs a budget v g b q = record {
 
     -- the basis of the part
     hs_within : (hs : List MarkedPolynomial) → IsBasisOfParts n bs a hs → (h : MarkedPolynomial) → Contains hs h → IsWithin (HasMonomial f) h.poly
-    hs_within hs p h c = λ x m. o.within x (form_from o.part.poly h x form m)
+    hs_within hs p h c = λ x m. o.within x (monic-monomials o.part.poly h form x m)
       where
         o : IsOnePart f p.along.parts
         o = one p.along
@@ -173,7 +173,7 @@ flip_within n f k bs a budget v g b q = record {
     forms_among hs ls ks p l m d c =
         let e = m.inside d c in
         let w = lifts_within hs ls p l e.member (e.place, e.needed.at.within, e.needed.at.is) in
-        record { head = w d.head e.form.form.there; within = λ x t. w x (form_from e.member.poly d x e.form.form t) }
+        record { head = w d.head e.form.form.there; within = λ x t. w x (monic-monomials e.member.poly d e.form.form x t) }
 
     exponents : (left right : ℕ) → IsFlipExponents n bs a left right → left + right < 2 ^ 31
     exponents left right (IsFlipExponents.parts fs h r) =

@@ -29,11 +29,11 @@ use Rattle.gf_facets.proofs.UnitLaws.{unit_of}
 use Rattle.gf_cone.specs.Cones.{ConeRows, normal_at, other_rows}
 use Rattle.gf_reverse.specs.Upward.{Fan, IsNodeIn}
 use Rattle.gf_tree.specs.Refusals.{IsConeStep, IsTreeWithinLimits}
-use Rattle.gf_binomials.proofs.PrincipalRuns.{form_from}
 use Rattle.gf_binomials.proofs.PrincipalBases.{basis_forms}
 use Rattle.gf_binomial_calls.specs.Limits.{IsPlainGenerator, HasExponentsUpTo}
 use Rattle.gf_binomial_calls.proofs.LimitLaws.{search_within}
 use Rattle.gf_ideal.proofs.SmallBases.{only}
+use Rattle.gf_ideal.proofs.StepLaws.{monic-monomials}
 
 -- ---- entries
 
@@ -94,7 +94,7 @@ systems_within F f e few low short v s node step =
             let t = d.2.term in
             let w = canonical d.0 d.1 in
             up_divided 500 k.0 b k.2.0 k.2.1 (subst (UpTo 500) (sym d.2.row)
-            (differences_up 500 d.0.head t.mono (short d.0.head m.there) (short t.mono (form_from f d.0 t.mono m (term_there n d.0.poly t w.variables w.descending d.2.inside)))))
+            (differences_up 500 d.0.head t.mono (short d.0.head m.there) (short t.mono (monic-monomials f d.0 m t.mono (term_there n d.0.poly t w.variables w.descending d.2.inside)))))
 
     normal_long : (b : List ℤ) → IsNormal v.items b → length b ≡ c.variables
     normal_long b k = normal-length n v.items b canonical k ∙ sym step.is_cone.variables

@@ -23,12 +23,12 @@ use Rattle.gf_ideal.proofs.GeneratorLaws.{monic_generator}
 use Rattle.gf_ideal.proofs.LeadingLaws.{top_greatest}
 use Rattle.gf_ideal.proofs.BasisLaws.{basis_along}
 use Rattle.gf_ideal.proofs.InterreductionLaws.{reduced_by_order}
-use Rattle.gf_ideal.proofs.StepLaws.{IsWithin}
+use Rattle.gf_ideal.proofs.StepLaws.{IsWithin, monic-monomials}
 use Rattle.gf_ideal.proofs.LawsHold.{marks_have_weights}
 use Rattle.gf_ideal.proofs.LawsOfBasesHold.{bases_go_by_their_marks, reduced_bases_are_unique}
 use Rattle.gf_ideal.proofs.SmallBases.{principal_ideal, spans_nothing, only}
 use Rattle.gf_binomials.specs.Antichains.{IsAntichain, HasShortExponents}
-use Rattle.gf_binomials.proofs.PrincipalRuns.{there_along, form_from}
+use Rattle.gf_binomials.proofs.PrincipalRuns.{there_along}
 
 -- ---- what has no other monomials
 
@@ -55,7 +55,7 @@ monic_at-form f y h = record {
 monic_at-marked : (below : Exponents → Exponents → Type 0) (f : Terms) (y : Exponents) → IsGreatest below f y → IsMarked below (monic_at f y)
 monic_at-marked below f y g = record {
   monic = coefficient-times (reciprocal_ℚ (coefficient f y)) [] f y ∙ reciprocal_ℚ-*ℚ (coefficient f y) g.there;
-  tail = λ x n. g.greatest x (form_from f (monic_at f y) x (monic_at-form f y g.there) n);
+  tail = λ x n. g.greatest x (monic-monomials f (monic_at f y) (monic_at-form f y g.there) x n);
 }
 
 -- ---- the members
@@ -83,7 +83,7 @@ same_as_form n f hs y v b t a g = reduced_bases_are_unique.for_order (MonomialOr
     form = monic_at-form f y g.there
 
     in_ring : IsInVariables n q.poly
-    in_ring x m = v x (form_from f q x form m)
+    in_ring x m = v x (monic-monomials f q form x m)
 
     inside : AreInVariables n (q.poly ∷ [])
     inside = alone_in n q.poly in_ring

@@ -2,7 +2,7 @@
 -- exponents but those of the polynomial to 0.
 -- To cite: IsAmong, closed-among, reached_within, shift_short, step_short, tail_within, IsFormOf, form-among, work_forms, run_short.
 use Rattle.std.proofs.Common.{◌≡◌, ◌⊎◌, ℕ, ◌+◌, ◌<◌, ◌≤◌, ◌^◌, true, List, [], ◌∷◌, ◌++◌, length, Contains, max, arith, sym, ap, ap₂, ◌∙◌, subst, inl, inr}
-use Rattle.gf_frac.specs.Fraction.{Fraction, ◌+ℚ◌, ◌*ℚ◌, neg_ℚ, zero_ℚ, one_ℚ}
+use Rattle.gf_frac.specs.Fraction.{Fraction, ◌+ℚ◌, ◌*ℚ◌, neg_ℚ, one_ℚ}
 use Rattle.gf_frac.proofs.FractionLaws.{one-*ℚ, *ℚ-zero, neg_ℚ-*ℚ, +ℚ-neg_ℚ, *ℚ_cancel}
 use Rattle.gf_exponents.specs.Exponents.{Exponents, entry, same, plus, join}
 use Rattle.gf_exponents.specs.Orders.{IsStrict}
@@ -18,7 +18,7 @@ use Rattle.gf_ideal.specs.Operands.{AreThese, IsShiftOperation, IsStepExponents}
 use Rattle.gf_ideal.specs.Reduction.{IsDivisible, IsStep, Reached, IsSPolynomial, IsMonicForm}
 use Rattle.gf_ideal.specs.WorkLists.{IsOrigin, IsWorkList, IsTail, IsRunExponents}
 use Rattle.gf_ideal.proofs.ListLaws.{Contains-here, Contains-cases, Contains-last}
-use Rattle.gf_ideal.proofs.StepLaws.{IsClosed, IsWithin, reached-one, taken}
+use Rattle.gf_ideal.proofs.StepLaws.{IsClosed, IsWithin, reached-one, taken, monic-monomials}
 use Rattle.gf_binomials.specs.Antichains.{IsAntichain, HasShortExponents}
 
 -- ---- members with monomials of f
@@ -78,15 +78,11 @@ pub record IsFormOf (below : Exponents → Exponents → Type 0) (f : Terms) (b 
 abbrev pub AreFormsOf : (Exponents → Exponents → Type 0) → Terms → List MarkedPolynomial → Type 0
 AreFormsOf below f bs = (b : MarkedPolynomial) → Contains bs b → IsFormOf below f b
 
--- they have the same monomials
-pub form_from : (f : Terms) (b : MarkedPolynomial) (x : Exponents) → IsMonicForm f b → HasMonomial b.poly x → HasMonomial f x
-form_from f b x m n = λ z. n (*ℚ_cancel (coefficient f b.head) (coefficient b.poly x) zero_ℚ m.there (m.equation x ∙ z ∙ sym (*ℚ-zero (coefficient f b.head))))
-
 pub form_to : (f : Terms) (b : MarkedPolynomial) (x : Exponents) → IsMonicForm f b → HasMonomial f x → HasMonomial b.poly x
 form_to f b x m n = λ z. n (sym (m.equation x) ∙ ap (λ c. coefficient f b.head *ℚ c) z ∙ *ℚ-zero (coefficient f b.head))
 
 pub form-among : (f : Terms) (b : MarkedPolynomial) → IsMonicForm f b → IsAmong f b
-form-among f b m = record { head = m.there; within = λ x n. form_from f b x m n }
+form-among f b m = record { head = m.there; within = λ x n. monic-monomials f b m x n }
 
 -- two of them have the same mark
 pub forms_alike : (below : Exponents → Exponents → Type 0) (f : Terms) (b c : MarkedPolynomial) → IsStrict below → IsFormOf below f b → IsFormOf below f c → same c.head b.head ≡ true

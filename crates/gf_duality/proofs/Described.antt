@@ -1,12 +1,12 @@
 -- What holds of the lineality vectors and the rays after each inequality.
-use Rattle.gf_duality.proofs.ListLaws.{none_in, in_head, in_tail, in_cons, in_rest, stood, of_rest, rest_cover, in_last, in_more}
+use Rattle.gf_duality.proofs.ListLaws.{none_in, in_head, in_tail, in_cons, in_rest, stood, of_rest, rest_cover, in_more}
 use Rattle.gf_duality.specs.Straightening.{IsLeveled}
 use Rattle.gf_duality.specs.Combining.{pair}
 use Rattle.gf_duality.specs.Generators.{Made, nothing, ray, line, multiplied, AreValid, IsDescribed, divided}
 use Rattle.std.proofs.Common.{◌≡◌, ◌≢◌, ℕ, zero, ◌<◌, List, [], ◌∷◌, ◌++◌, length, ℤ, pos, negsuc, ◌+ℤ◌, ◌-ℤ◌, ◌*ℤ◌, neg_ℤ, ◌<ℤ◌, ◌≤ℤ◌, arith, sym, refl, ap, ◌∙◌, subst, Contains, ◌⊎◌, inl, inr, remove, get_or}
 use Rattle.std.proofs.lemmas.Int.{ints}
 use Rattle.std.proofs.lemmas.List.{get_or_default}
-use Rattle.std.proofs.lemmas.List.Elements.{Contains-append_left}
+use Rattle.std.proofs.lemmas.List.Elements.{Contains-append_left, Contains-push}
 use Rattle.gf_int.specs.Content.{scaled}
 use Rattle.gf_vec.specs.Vector.{dot, vector_sum, zeros}
 use Rattle.gf_int.proofs.RingLaws.{same, dv, dn, dneg, ◌⊕◌, ◌⊗◌, ◌⊖◌}
@@ -137,9 +137,9 @@ lined n hs es lin rays lines next h l d ll g fl zl s =
             | inr f ↦ let t = of_line x f.0 c f.1.1 in let k = t.d in
                 line n next lines (a *ℤ k) f.0 _ t.long f.1.0 (ap (scaled a) t.pair_is ∙ vsame (dv a ⊡ (dv k ⊡ vv f.0 t.long)) (dv a ⊗ dv k ⊡ vv f.0 t.long) (λ w. omega arith))
           ])
-          (d.complete v lv (λ k c. up k (Contains-append_left hs (h ∷ []) k c)) zero) (up h (in_last hs h));
+          (d.complete v lv (λ k c. up k (Contains-append_left hs (h ∷ []) k c)) zero) (up h (Contains-push hs h));
       pointed = λ y cy. elim (s.next_from y cy) [
-        | inl e ↦ (h, (in_last hs h, subst (λ t. pos 0 <ℤ dot h t) (sym e) g))
+        | inl e ↦ (h, (Contains-push hs h, subst (λ t. pos 0 <ℤ dot h t) (sym e) g))
         | inr f ↦ let p = d.pointed f.0 f.1.0 in
             (p.0, (Contains-append_left hs (h ∷ []) p.0 p.1.0, along_positive n h l f.0 y p.0 ll (d.rays_width f.0 f.1.0) (of_ray f.0 y f.1.0 f.1.1) (fl p.0 p.1.0) p.1.1))
       ];
@@ -274,7 +274,7 @@ split_step n hs es lin rays next h d flat s =
                 let f = s.paired x y (t.of_p x cx).0 (t.of_q y cy).0 g (t.of_q y cy).1 in
                 divided_made n next lin (pair h x y) f.0 (vpair h (vv x lx) (vv y ly)).long f.1.0 f.1.1
           ])
-          (d.complete v lv (λ k c. up k (Contains-append_left hs (h ∷ []) k c)) zero) (up h (in_last hs h));
+          (d.complete v lv (λ k c. up k (Contains-append_left hs (h ∷ []) k c)) zero) (up h (Contains-push hs h));
       pointed = λ y cy. elim (s.from y cy) [
         | inl a ↦ let p = d.pointed y a.0 in (p.0, (Contains-append_left hs (h ∷ []) p.0 p.1.0, p.1.1))
         | inr t ↦ let p = d.pointed t.p t.in_p in (

@@ -4,7 +4,7 @@ use Rattle.std.specs.Int.{int_signum}
 use Rattle.std.specs.List.{AllZip}
 use Rattle.std.proofs.lemmas.Int.{ints}
 use Rattle.std.proofs.lemmas.List.{get_or_default}
-use Rattle.std.proofs.lemmas.List.Elements.{AllZip-get_or, length_all_zip, All-contains, Contains-append_left, Contains-append_right, Contains-append_cases}
+use Rattle.std.proofs.lemmas.List.Elements.{AllZip-get_or, length_all_zip, All-contains, Contains-append_left, Contains-append_right, Contains-append_cases, Contains-push}
 use Rattle.std.proofs.lemmas.List.Quantifiers.{all_pairs_push}
 use Rattle.gf_int.specs.Content.{IsPrimitive, scaled}
 use Rattle.gf_int.proofs.RingLaws.{same, dv, dn, dneg, ◌⊗◌, ◌⊕◌}
@@ -15,7 +15,7 @@ use Rattle.gf_gordan.specs.Elimination.{IsPivot, row_at, size_at, signed_at}
 use Rattle.gf_duality.specs.Generators.{Made, nothing, line, summed, divided}
 use Rattle.gf_duality.specs.Rays.{IsEchelon}
 use Rattle.gf_duality.specs.Elimination.{IsTurned, IsFirstAt, IsEliminated, begun, skipped, turned, IsNormalised, IsEchelonBasis}
-use Rattle.gf_duality.proofs.ListLaws.{none_in, in_cons, in_more, in_last, snoc_cases, zip_from, zip_to, all_by, place, less, at, more, of_rest, rest_cover}
+use Rattle.gf_duality.proofs.ListLaws.{none_in, in_cons, in_more, snoc_cases, zip_from, zip_to, all_by, place, less, at, more, of_rest, rest_cover}
 use Rattle.gf_vec.proofs.EntryLaws.{signum_up, entry_times, entry_plus, cancel, all_zero}
 use Rattle.gf_duality.proofs.PivotLaws.{pivot_unique}
 use Rattle.gf_vec.proofs.VectorIdentities.{vv, ◌⊞◌, ◌⊡◌, vsame}
@@ -215,7 +215,7 @@ eliminated_span n rows j done left w (turned b m old from others rest out k e hb
     let lr : length r ≡ n = sh.left_width r (turn_in from b k f) in
     let mr : Made n [] rows r = s.from r (Contains-append_right old from r (turn_in from b k f)) in
     let now : List (List ℤ) = (others ++ r ∷ []) ++ rest in
-    let cr : Contains now r = Contains-append_left (others ++ r ∷ []) rest r (in_last others r) in
+    let cr : Contains now r = Contains-append_left (others ++ r ∷ []) rest r (Contains-push others r) in
     let own : Made n [] now r = own_member n now r lr cr in
     let of_done : (t u : List ℤ) → Contains old t → IsTurned r b t u → Turned n b r t u = λ t u c i. turned_of n b r t u (sh.done_width t c) lr nz i in
     let of_left : (t u : List ℤ) → Contains from t → IsTurned r b t u → Turned n b r t u = λ t u c i. turned_of n b r t u (sh.left_width t c) lr nz i in

@@ -1,10 +1,10 @@
 -- The solutions of equations, one after another, from the unit vectors on.
-use Rattle.gf_duality.proofs.ListLaws.{none_in, in_head, in_tail, in_cons, in_last, in_more}
+use Rattle.gf_duality.proofs.ListLaws.{none_in, in_head, in_tail, in_cons, in_more}
 use Rattle.gf_duality.specs.Combining.{pair}
 use Rattle.gf_duality.specs.Generators.{Made, nothing, ray, line, summed, multiplied, divided, AreValid, IsDescribed, unit_vectors}
 use Rattle.std.proofs.Common.{◌≡◌, ℕ, zero, suc, List, [], ◌∷◌, ◌++◌, length, ℤ, pos, ◌+ℤ◌, ◌*ℤ◌, ◌<ℤ◌, arith, sym, refl, ap, ap₂, ◌∙◌, subst, Contains, ◌⊎◌, inl, inr, map}
 use Rattle.std.proofs.lemmas.Int.{ints}
-use Rattle.std.proofs.lemmas.List.Elements.{Contains-append_left}
+use Rattle.std.proofs.lemmas.List.Elements.{Contains-append_left, Contains-push}
 use Rattle.gf_int.specs.Content.{scaled}
 use Rattle.gf_vec.specs.Vector.{dot, vector_sum, zeros}
 use Rattle.gf_int.proofs.RingLaws.{dv, ◌⊗◌}
@@ -47,7 +47,7 @@ equation_lined n es lin lines e l d ll g zl from to =
             | inr f ↦ let t = f.1.1 in let k = t.d in
                 line n [] lines (a *ℤ k) f.0 _ t.long f.1.0 (ap (scaled a) t.pair_is ∙ vsame (dv a ⊡ (dv k ⊡ vv f.0 t.long)) (dv a ⊗ dv k ⊡ vv f.0 t.long) (λ w. omega arith))
           ])
-          (d.complete v lv (λ h c. absurd (none_in h c)) (λ k c. z k (Contains-append_left es (e ∷ []) k c))) (z e (in_last es e));
+          (d.complete v lv (λ h c. absurd (none_in h c)) (λ k c. z k (Contains-append_left es (e ∷ []) k c))) (z e (Contains-push es e));
       pointed = λ x c. absurd (none_in x c);
     }
 

@@ -1,10 +1,10 @@
 -- Orthogonal lineality vectors, and rays brought to be orthogonal to them.
-use Rattle.gf_duality.proofs.ListLaws.{none_in, in_head, in_tail, in_cons, in_last, in_more}
+use Rattle.gf_duality.proofs.ListLaws.{none_in, in_head, in_tail, in_cons, in_more}
 use Rattle.gf_duality.specs.Straightening.{IsStraightened, done, next, IsOrthogonalized, start, added, gone}
 use Rattle.gf_duality.specs.Generators.{Made, nothing, ray, line, summed, multiplied, divided, IsDescribed}
 use Rattle.std.proofs.Common.{◌≡◌, ℕ, List, [], ◌∷◌, ◌++◌, length, ℤ, pos, ◌+ℤ◌, ◌*ℤ◌, neg_ℤ, ◌<ℤ◌, ◌≤ℤ◌, arith, sym, refl, ap, ◌∙◌, subst, Contains, inl, inr}
 use Rattle.std.proofs.lemmas.Int.{ints}
-use Rattle.std.proofs.lemmas.List.Elements.{Contains-append_left}
+use Rattle.std.proofs.lemmas.List.Elements.{Contains-append_left, Contains-push}
 use Rattle.gf_int.specs.Content.{scaled}
 use Rattle.gf_vec.specs.Vector.{dot, vector_sum, zeros}
 use Rattle.gf_int.proofs.RingLaws.{same, dv, dn, dneg, ◌⊕◌, ◌⊗◌}
@@ -117,20 +117,20 @@ basis n lin out width start = record { base = record { width = λ y c. absurd (n
 basis n lin out width (added before ys x w whole all e q b f g) =
     let wide : (z : List ℤ) → Contains before z → length z ≡ n = λ z c. width z (subst (λ t. Contains t z) (sym e) (Contains-append_left before (x ∷ []) z c)) in
     let i : Basis n before ys = basis n before ys wide b in
-    let lx : length x ≡ n = width x (subst (λ t. Contains t x) (sym e) (in_last before x)) in
+    let lx : length x ≡ n = width x (subst (λ t. Contains t x) (sym e) (Contains-push before x)) in
     let s : Straight n ys x w = straightened n ys x w i.base lx f in
     let into : (v : List ℤ) → Made n [] ys v → Made n [] (before ++ x ∷ []) v = λ v m. Made-into n [] ys [] (before ++ x ∷ []) v (λ z l c. absurd (none_in z c)) (λ a z l c. span-times n (before ++ x ∷ []) a z (span_more n before x z (i.within z c))) m in
-    let ww : Made n [] (ys ++ w ∷ []) w = own_member n (ys ++ w ∷ []) w s.long (in_last ys w) in
+    let ww : Made n [] (ys ++ w ∷ []) w = own_member n (ys ++ w ∷ []) w s.long (Contains-push ys w) in
     subst (λ t. Basis n whole t) (sym q) (subst (λ t. Basis n t (ys ++ w ∷ [])) (sym e) (record {
       base = record { width = in_more (λ y. length y ≡ n) ys w i.base.width s.long; positive = in_more (λ y. pos 0 <ℤ dot y y) ys w i.base.positive g };
       orthogonal = orthogonal_more ys w i.orthogonal (λ y c. straight_zero n ys x w y i.base i.orthogonal lx f c);
-      within = in_more (λ y. Made n [] (before ++ x ∷ []) y) ys w (λ y c. span_more n before x y (i.within y c)) (straight_on n ys (before ++ x ∷ []) x w s into (own_member n (before ++ x ∷ []) x lx (in_last before x)));
+      within = in_more (λ y. Made n [] (before ++ x ∷ []) y) ys w (λ y c. span_more n before x y (i.within y c)) (straight_on n ys (before ++ x ∷ []) x w s into (own_member n (before ++ x ∷ []) x lx (Contains-push before x)));
       covers = in_more (λ y. Made n [] (ys ++ w ∷ []) y) before x (λ y c. span_more n ys w y (i.covers y c)) (straight_back n ys (ys ++ w ∷ []) x w lx s (λ v m. span_more n ys w v m) ww);
     }))
 basis n lin out width (gone before ys x w whole e b f g) =
     let wide : (z : List ℤ) → Contains before z → length z ≡ n = λ z c. width z (subst (λ t. Contains t z) (sym e) (Contains-append_left before (x ∷ []) z c)) in
     let i : Basis n before ys = basis n before ys wide b in
-    let lx : length x ≡ n = width x (subst (λ t. Contains t x) (sym e) (in_last before x)) in
+    let lx : length x ≡ n = width x (subst (λ t. Contains t x) (sym e) (Contains-push before x)) in
     let s : Straight n ys x w = straightened n ys x w i.base lx f in
     let zero : w ≡ zeros n = own_zero w g ∙ ap zeros s.long in
     subst (λ t. Basis n t ys) (sym e) (record {

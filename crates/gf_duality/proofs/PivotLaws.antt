@@ -27,13 +27,13 @@ normal_up v w p d k g = record {
   leading = λ q j. subst (λ t. pos 0 <ℤ entry_at w t) (pivot_unique w p q k j) g;
 }
 
-opposite_zero_back : (x y : ℤ) → x ≡ negsuc 0 *ℤ y → x ≡ pos 0 → y ≡ pos 0
+pub opposite_zero_back : (x y : ℤ) → x ≡ negsuc 0 *ℤ y → x ≡ pos 0 → y ≡ pos 0
 opposite_zero_back x y e z = omega (arith, ints, e, z)
 
 opposite_up : (x y : ℤ) → x ≡ negsuc 0 *ℤ y → y <ℤ pos 0 → pos 0 <ℤ x
 opposite_up x y e z = omega (arith, ints, e, z)
 
-zero_opposite : (x y : ℤ) → x ≡ negsuc 0 *ℤ y → y ≡ pos 0 → x ≡ pos 0
+pub zero_opposite : (x y : ℤ) → x ≡ negsuc 0 *ℤ y → y ≡ pos 0 → x ≡ pos 0
 zero_opposite x y e z = omega (arith, ints, e, z)
 
 pivot_opposite : (w : List ℤ) (q : ℕ) → IsPivot (opposite w) q → IsPivot w q

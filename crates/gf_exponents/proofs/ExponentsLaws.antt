@@ -1,9 +1,9 @@
 -- Monomials form a commutative monoid with cancellation; divisibility, least common multiples, quotients.
 -- To cite: plus_assoc, plus_comm, same_trans, same_flip, same-plus, multiple_or_not, same_by_entries, entries_same and
 -- same_lists, by which a fact on exponent vectors becomes one on each entry. The rest are steps.
-use Rattle.std.proofs.Common.{◌≡◌, ◌⊎◌, ℕ, zero, suc, ◌+◌, ◌-◌, ◌≤◌, Bool, true, false, ◌&&◌, ◌==◌, [], ◌∷◌, max, length, arith, refl, sym, ap, ◌∙◌, inl, inr, get_or}
+use Rattle.std.proofs.Common.{◌≡◌, ◌⊎◌, ℕ, zero, suc, ◌+◌, ◌-◌, ◌≤◌, true, false, ◌&&◌, ◌==◌, [], ◌∷◌, max, length, arith, refl, sym, ap, ◌∙◌, inl, inr, get_or}
 use Rattle.std.proofs.lemmas.Bool.Decides.{nat_tests}
-use Rattle.std.proofs.lemmas.Bool.{cases_lt, and_parts, and_from}
+use Rattle.std.proofs.lemmas.Bool.{cases_lt, and_parts, and_from, and_right}
 use Rattle.gf_exponents.specs.Exponents.{Exponents, entry, same, plus, join, minus, AreCoprime, NoMultiple}
 
 -- ---- products
@@ -85,21 +85,17 @@ none_here : (a b : ℕ) (x e : Exponents) → b + 1 ≤ a → NoMultiple (a ∷ 
 none_here a b x e h [] = ap (λ s. s && same e x) (not_eq b a (λ q. absurd (omega arith)))
 none_here a b x e h (c ∷ y) = ap (λ s. s && same e (plus x y)) (not_eq b (a + c) (λ q. absurd (omega arith)))
 
-and_false : (s t : Bool) → t ≡ false → (s && t) ≡ false
-and_false true t h = h
-and_false false t h = refl
-
 none_after : (a b : ℕ) (x e : Exponents) → NoMultiple x e → NoMultiple (a ∷ x) (b ∷ e)
-none_after a b x e h [] = and_false (b == a) (same e x) (ap (same e) (sym (plus-nil x)) ∙ h [])
-none_after a b x e h (c ∷ y) = and_false (b == (a + c)) (same e (plus x y)) (h y)
+none_after a b x e h [] = and_right (b == a) (same e x) (ap (same e) (sym (plus-nil x)) ∙ h [])
+none_after a b x e h (c ∷ y) = and_right (b == (a + c)) (same e (plus x y)) (h y)
 
 empty_none_here : (a : ℕ) (x : Exponents) → 1 ≤ a → NoMultiple (a ∷ x) []
 empty_none_here a x h [] = ap (λ s. s && same [] x) (not_eq a 0 (λ q. absurd (omega arith)))
 empty_none_here a x h (c ∷ y) = ap (λ s. s && same [] (plus x y)) (not_eq (a + c) 0 (λ q. absurd (omega arith)))
 
 empty_none_after : (a : ℕ) (x : Exponents) → NoMultiple x [] → NoMultiple (a ∷ x) []
-empty_none_after a x h [] = and_false (a == 0) (same [] x) (ap (same []) (sym (plus-nil x)) ∙ h [])
-empty_none_after a x h (c ∷ y) = and_false ((a + c) == 0) (same [] (plus x y)) (h y)
+empty_none_after a x h [] = and_right (a == 0) (same [] x) (ap (same []) (sym (plus-nil x)) ∙ h [])
+empty_none_after a x h (c ∷ y) = and_right ((a + c) == 0) (same [] (plus x y)) (h y)
 
 pub multiple_or_not : (x e : Exponents) → ((y : Exponents) × (same e (plus x y) ≡ true)) ⊎ NoMultiple x e
 multiple_or_not [] e = inl (e, same-refl e)

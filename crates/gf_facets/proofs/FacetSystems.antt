@@ -14,7 +14,7 @@ use Rattle.gf_int.specs.Content.{scaled}
 use Rattle.gf_int.proofs.RingLaws.{dv, dneg, ◌⊗◌, same as same_number}
 use Rattle.gf_int.proofs.SignLaws.{0≤-*ℤ, 0<-*ℤ, <0-cancel, zero_of_*ℤ}
 use Rattle.gf_vec.specs.Vector.{dot, vector_sum, zeros, combined, values}
-use Rattle.gf_vec.proofs.VectorLaws.{dot-plus, dot-times, dot-zeros, dot-combined, dot-not_negative, dot-positive, length-times, length-combined}
+use Rattle.gf_vec.proofs.VectorLaws.{dot-plus, dot-times, dot-zeros, dot-combined, dot-not_negative, dot-positive, length-times, length-combined, plus-zeros}
 use Rattle.gf_gordan.specs.Alternative.{AreRows, IsSolution, IsSolvable, IsFarkas, IsRefutable}
 use Rattle.gf_gordan.proofs.ExistenceLaws.{alternative}
 use Rattle.gf_poly.specs.Marking.{MarkedPolynomial}
@@ -26,7 +26,6 @@ use Rattle.gf_facets.specs.Combinations.{IsCombination, IsRowRedundant}
 use Rattle.gf_facets.specs.Regions.{Region, IsInRegion}
 use Rattle.gf_facets.specs.Facets.{IsInOpenCone, IsInsideFacet, IsFacet, IsFlippable}
 use Rattle.gf_facets.specs.MarkedBases.{AreCanonical}
-use Rattle.gf_facets.proofs.VectorLaws.{plus-zeros}
 use Rattle.gf_facets.proofs.NormalLaws.{normal-length}
 use Rattle.gf_facets.proofs.NormalListLaws.{NormalsListed, normals_listed, OthersListed, others_listed, others_only, others_all}
 use Rattle.gf_facets.proofs.ConeLaws.{normals_open}
@@ -133,7 +132,7 @@ combination_of_farkas n a w rows ms e wide l p q f = record { positive = omega (
     long = length-combined n ms rows widths
 
     zero_sum : vector_sum (combined n ms rows) (scaled e a) ≡ zeros n
-    zero_sum = ap (vector_sum (combined n ms rows)) (sym (plus-zeros (scaled e a) n (length-times e a ∙ l))) ∙ f.zero_sum
+    zero_sum = ap (vector_sum (combined n ms rows)) (sym (plus-zeros n (scaled e a) (length-times e a ∙ l))) ∙ f.zero_sum
 
     value : dot (combined n ms rows) w +ℤ e *ℤ dot a w ≡ pos 0
     value = ap (λ z. dot (combined n ms rows) w +ℤ z) (sym (dot-times e a w)) ∙ sym (dot-plus (combined n ms rows) (scaled e a) w (long ∙ sym (length-times e a ∙ l))) ∙ ap (λ (z : List ℤ). dot z w) zero_sum ∙ dot-zeros n w

@@ -6,10 +6,10 @@ use Rattle.std.specs.List.{AllByRecursion}
 use Rattle.gf_int.specs.Content.{scaled}
 use Rattle.gf_int.proofs.SignLaws.{IsSigned, sign_of, 0<-*ℤ, 0<-cancel, zero-cancel}
 use Rattle.gf_vec.specs.Vector.{vector_sum, zeros, combined, SomePositive}
-use Rattle.gf_vec.proofs.VectorLaws.{length-times, length-combined}
+use Rattle.gf_vec.proofs.VectorLaws.{length-times, length-combined, plus-zeros, zeros-plus}
 use Rattle.gf_facets.specs.Rows.{negated}
 use Rattle.gf_facets.specs.LexPositive.{IsLexPositive}
-use Rattle.gf_facets.proofs.VectorLaws.{plus-zeros, zeros-plus, times-zero}
+use Rattle.gf_facets.proofs.VectorLaws.{times-zero}
 
 -- ---- zeros
 pub lex-zeros : (n : ℕ) → IsLexPositive (zeros n) → ⊥
@@ -71,7 +71,7 @@ lex-combined n (m ∷ ms) [] e w h k = absurd (omega arith)
 lex-combined n (m ∷ ms) (t ∷ ts) e w h k = more (lex-combined n ms ts (omega arith) w.1 h.1 k.1)
   where
     skip : m ≡ pos 0 → vector_sum (scaled m t) (combined n ms ts) ≡ combined n ms ts
-    skip z = ap (λ c. vector_sum (scaled c t) (combined n ms ts)) z ∙ ap (λ v. vector_sum v (combined n ms ts)) (times-zero t n w.0) ∙ zeros-plus (combined n ms ts) n (length-combined n ms ts w.1)
+    skip z = ap (λ c. vector_sum (scaled c t) (combined n ms ts)) z ∙ ap (λ v. vector_sum v (combined n ms ts)) (times-zero t n w.0) ∙ zeros-plus n (combined n ms ts) (length-combined n ms ts w.1)
 
     more : IsLexPositive (combined n ms ts) ⊎ ((combined n ms ts ≡ zeros n) × (SomePositive ms → ⊥)) →
         IsLexPositive (combined n (m ∷ ms) (t ∷ ts)) ⊎ ((combined n (m ∷ ms) (t ∷ ts) ≡ zeros n) × (SomePositive (m ∷ ms) → ⊥))
@@ -83,6 +83,6 @@ lex-combined n (m ∷ ms) (t ∷ ts) e w h k = more (lex-combined n ms ts (omega
       ]
       | IsSigned.positive s ↦ elim r [
         | inl p ↦ inl (lex-plus (scaled m t) (combined n ms ts) (lex-times m t s k.0) p)
-        | inr q ↦ inl (subst IsLexPositive (sym (ap (vector_sum (scaled m t)) q.0 ∙ plus-zeros (scaled m t) n (length-times m t ∙ w.0))) (lex-times m t s k.0))
+        | inr q ↦ inl (subst IsLexPositive (sym (ap (vector_sum (scaled m t)) q.0 ∙ plus-zeros n (scaled m t) (length-times m t ∙ w.0))) (lex-times m t s k.0))
       ]
     ]

@@ -1,6 +1,6 @@
 -- Vectors by their entries: multiples, negatives, sums with zeros.
 -- To cite: three, IsNonzero, vectors_by_entries, minus_one, get-negated, length-negated, negated-twice, dot-negated,
--- plus-zeros, zeros-plus, times-zero, times-zeros, vector_or_not.
+-- times-zero, times-zeros, vector_or_not.
 use Rattle.std.specs.Ordering.{int_cmp, MatchOrdering}
 use Rattle.std.specs.declared.cmp.Ordering.{Ordering}
 use Rattle.std.specs.declared.cmp.Ordering.TheVariants.{Less, Equal, Greater}
@@ -9,7 +9,7 @@ use Rattle.std.proofs.Math.IntN.{*ℤ-zero}
 use Rattle.std.proofs.lemmas.Cmp.{int_ranked}
 use Rattle.std.proofs.lemmas.Int.{ints}
 use Rattle.gf_int.specs.Content.{scaled}
-use Rattle.gf_vec.specs.Vector.{dot, vector_sum, zeros}
+use Rattle.gf_vec.specs.Vector.{dot, zeros}
 use Rattle.gf_vec.proofs.VectorLaws.{length-times, dot-times}
 use Rattle.gf_vec.proofs.EntryLaws.{entry_times}
 use Rattle.gf_facets.specs.Rows.{negated}
@@ -62,17 +62,6 @@ pub dot-negated : (xs ys : List ℤ) → dot (negated xs) ys ≡ neg_ℤ (dot xs
 dot-negated xs ys = dot-times (negsuc 0) xs ys ∙ minus_one (dot xs ys)
 
 -- ---- zeros
-
-pub plus-zeros : (xs : List ℤ) (n : ℕ) → length xs ≡ n → vector_sum xs (zeros n) ≡ xs
-plus-zeros [] n e = refl
-plus-zeros (x ∷ xs) zero e = absurd (omega arith)
-plus-zeros (x ∷ xs) (suc n) e = ap₂ ◌∷◌ (omega (arith, ints)) (plus-zeros xs n (omega arith))
-
-pub zeros-plus : (xs : List ℤ) (n : ℕ) → length xs ≡ n → vector_sum (zeros n) xs ≡ xs
-zeros-plus [] zero e = refl
-zeros-plus [] (suc n) e = absurd (omega arith)
-zeros-plus (x ∷ xs) zero e = absurd (omega arith)
-zeros-plus (x ∷ xs) (suc n) e = ap₂ ◌∷◌ (omega (arith, ints)) (zeros-plus xs n (omega arith))
 
 pub times-zero : (xs : List ℤ) (n : ℕ) → length xs ≡ n → scaled (pos 0) xs ≡ zeros n
 times-zero [] zero e = refl

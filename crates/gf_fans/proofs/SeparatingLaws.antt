@@ -17,6 +17,7 @@ use Rattle.gf_fans.specs.Separating.{IsNowherePositive, AreSeparating, IsCutOff,
 use Rattle.gf_fans.proofs.Meeting.{left_in, right_in}
 use Rattle.gf_fans.proofs.FaceLaws.{part_made, part_on}
 use Rattle.gf_fans.proofs.FanLaws.{up_in, zero_in, both_in, part_in, of_part, part_zero, exposed_face, face_same, meet_turned}
+use Rattle.gf_duality.proofs.PivotLaws.{opposite_zero_back, zero_opposite}
 
 -- opposite rows
 abbrev opposites : List (List ℤ) → List (List ℤ)
@@ -40,18 +41,12 @@ turned_up x y e h = omega (arith, ints, e, h)
 turned_down : (x y : ℤ) → y ≡ negsuc 0 *ℤ x → pos 0 ≤ℤ y → pos 0 ≤ℤ x → x ≡ pos 0
 turned_down x y e h k = omega (arith, ints, e, h, k)
 
-turned_zero : (x y : ℤ) → y ≡ negsuc 0 *ℤ x → x ≡ pos 0 → y ≡ pos 0
-turned_zero x y e f = omega (arith, ints, e, f)
-
-zero_back : (x y : ℤ) → y ≡ negsuc 0 *ℤ x → y ≡ pos 0 → x ≡ pos 0
-zero_back x y e f = omega (arith, ints, e, f)
-
 zero_of : (x y : ℤ) → y ≡ negsuc 0 *ℤ x → pos 0 ≤ℤ x → pos 0 ≤ℤ y → y ≡ pos 0
 zero_of x y e f g = omega (arith, ints, e, f, g)
 
 -- a row that is positive on no ray of a cone, and zero on its lineality vectors, is positive nowhere on it
 down_on : (n : ℕ) (rays lin : List (List ℤ)) (h x : List ℤ) → IsNowherePositive rays h → ((l : List ℤ) → Contains lin l → dot h l ≡ pos 0) → Made n rays lin x → pos 0 ≤ℤ dot (opposite h) x
-down_on n rays lin h x w f m = Made-dot n rays lin (opposite h) x (λ r c. turned_up (dot h r) (dot (opposite h) r) (turned_at h r) (All-contains (λ v. dot h v ≤ℤ pos 0) rays r w c)) (λ l c. turned_zero (dot h l) (dot (opposite h) l) (turned_at h l) (f l c)) m
+down_on n rays lin h x w f m = Made-dot n rays lin (opposite h) x (λ r c. turned_up (dot h r) (dot (opposite h) r) (turned_at h r) (All-contains (λ v. dot h v ≤ℤ pos 0) rays r w c)) (λ l c. zero_opposite (dot (opposite h) l) (dot h l) (turned_at h l) (f l c)) m
 
 separated_one : (n : ℕ) (c d : Rows) (lin rays others left right : List (List ℤ)) → IsRays n c.inequalities c.equations lin rays → IsRays n d.inequalities d.equations lin others →
     AreSeparating c.inequalities others left → AreSeparating d.inequalities rays right → AreSettled left right others rays → IsFaceOf n (meet c d) c
@@ -69,7 +64,7 @@ separated_one n c d lin rays others left right rc rd sl sr settled =
     ] in
     let flat_lin : (t l : List ℤ) → Contains flat t → Contains lin l → dot t l ≡ pos 0 = λ t l k i. elim (Contains-append_cases left (opposites right) t k) [
       | inl j ↦ a.valid.flat t l (of_left t j).0 i
-      | inr j ↦ let f = of_opposite right t j in ap (λ (u : List ℤ). dot u l) f.1.1 ∙ turned_zero (dot f.0 l) (dot (opposite f.0) l) (turned_at f.0 l) (b.valid.flat f.0 l (of_right f.0 f.1.0).0 i)
+      | inr j ↦ let f = of_opposite right t j in ap (λ (u : List ℤ). dot u l) f.1.1 ∙ zero_opposite (dot (opposite f.0) l) (dot f.0 l) (turned_at f.0 l) (b.valid.flat f.0 l (of_right f.0 f.1.0).0 i)
     ] in
     let va : AreValid flat rays lin = record { up = λ t x k i. up t x k (a.rays_width x i) (ray_in n c.inequalities c.equations lin rays x a i); flat = flat_lin } in
     let p = part_on flat rays rc.ascending in
@@ -77,7 +72,7 @@ separated_one n c d lin rays others left right rc rd sl sr settled =
     let shared : (r : List ℤ) → Contains some r → Contains others r = λ r k. elim (All-contains (λ r. Contains others r ⊎ IsCutOff left r ⊎ IsCutOff right r) rays r settled (p.1.each r k).0) [
       | inl i ↦ i
       | inr (inl (i, h, b, e, z)) ↦ absurd (z ((p.1.each r k).1 h (Contains-append_left left (opposites right) h (i, b, e))))
-      | inr (inr (i, h, b, e, z)) ↦ absurd (z (zero_back (dot h r) (dot (opposite h) r) (turned_at h r) ((p.1.each r k).1 (opposite h) (Contains-append_right left (opposites right) (opposite h) (opposite_in right h (i, b, e))))))
+      | inr (inr (i, h, b, e, z)) ↦ absurd (z (opposite_zero_back (dot (opposite h) r) (dot h r) (turned_at h r) ((p.1.each r k).1 (opposite h) (Contains-append_right left (opposites right) (opposite h) (opposite_in right h (i, b, e))))))
     ] in
     let same : SameCone n (part c flat) (meet c d) = λ x l. (
       λ s.

@@ -1,10 +1,9 @@
 -- The terms along a vector, one term and one member after another.
 -- To cite: selected-none, selected-kept, selected-dropped, along_selected, along_more, along_end, width_at.
-use Rattle.std.proofs.Common.{◌≡◌, ℕ, zero, suc, ◌+◌, ◌<◌, ◌≤◌, false, if◌then◌else◌, List, [], ◌∷◌, ◌++◌, length, take, get_or, ℤ, arith, refl, sym, ap, ◌∙◌, subst, inl, inr}
+use Rattle.std.proofs.Common.{◌≡◌, ℕ, zero, suc, ◌+◌, ◌<◌, ◌≤◌, if◌then◌else◌, List, [], ◌∷◌, ◌++◌, length, take, get_or, ℤ, arith, refl, sym, ap, ◌∙◌, subst, inl, inr}
 use Rattle.std.proofs.lemmas.List.{take_more, take_all}
 use Rattle.std.proofs.lemmas.List.Elements.{Contains-append_left, Contains-append_right, Contains-append_cases}
 use Rattle.gf_frac.specs.Fraction.{◌+ℚ◌, zero_ℚ}
-use Rattle.gf_frac.proofs.FractionLaws.{zero-+ℚ}
 use Rattle.gf_exponents.specs.Exponents.{Exponents, same}
 use Rattle.gf_poly.specs.declared.Term.{Term}
 use Rattle.gf_poly.specs.Polynomial.{Terms, coefficient, HasVariables, IsAbove, IsDescending}
@@ -16,6 +15,7 @@ use Rattle.gf_initial.specs.Parts.{Matching, IsPartAlong}
 use Rattle.gf_initial.proofs.ClassLaws.{multiple-grading}
 use Rattle.gf_flip.specs.Along.{HasNonzero, IsSelected, IsAlong, AreAlong}
 use Rattle.gf_ideal.proofs.CriterionLaws.{not_same}
+use Rattle.gf_poly.proofs.InitialFormLaws.{elsewhere}
 
 -- ---- terms
 
@@ -47,9 +47,6 @@ variables_selected : (P : Term → Type 0) (n : ℕ) (f g : Terms) → IsSelecte
 variables_selected P n f g IsSelected.none h = tt
 variables_selected P n f g (IsSelected.kept s k l q r) h = (h.0, variables_selected P n k l r h.1)
 variables_selected P n f g (IsSelected.dropped s k l q r) h = variables_selected P n k g r h.1
-
-elsewhere : (t : Term) (f : Terms) (x : Exponents) → same x t.mono ≡ false → coefficient (t ∷ f) x ≡ coefficient f x
-elsewhere t f x h = ap (λ b. (if b then t.coef else zero_ℚ) +ℚ coefficient f x) h ∙ zero-+ℚ _
 
 on_selected : (a : List ℤ) (n : HasNonzero a) (h : Exponents) (f g : Terms) (x : Exponents) → IsSelected (IsTermAlong a h) f g →
     AreMultipleApart a x h → coefficient g x ≡ coefficient f x

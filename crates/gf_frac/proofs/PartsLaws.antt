@@ -1,8 +1,8 @@
 -- The two numbers of a fraction as the code keeps them and works them out.
 use Rattle.std.specs.Int.{w128, cast_signed, cast_unsigned, IsGcd}
 use Rattle.std.specs.Int.RustNames.{unsigned_abs, int_div}
-use Rattle.std.proofs.Common.{◌≡◌, ℕ, zero, suc, ◌-◌, ◌/◌, ◌<◌, ◌^◌, ℤ, pos, negsuc, FitsSigned, arith, ap, sym, ◌∙◌, subst, ◌≤◌, refl}
-use Rattle.std.proofs.lemmas.Int.{ints, to_z-of_z}
+use Rattle.std.proofs.Common.{◌≡◌, ℕ, zero, suc, ◌-◌, ◌/◌, ◌<◌, ◌^◌, ℤ, pos, negsuc, FitsSigned, arith, ap, sym, ◌∙◌, subst, refl}
+use Rattle.std.proofs.lemmas.Int.{to_z-of_z}
 use Rattle.std.proofs.lemmas.Nat.Gcd.{IsGcd-swap, dvd_refl}
 use Rattle.std.proofs.Math.Nat.{one-dvd}
 use lib.IntN.{neg_ℤ}
@@ -12,6 +12,7 @@ use Rattle.gf_frac.specs.Fraction.{Fraction, over, over-parts, neg_ℚ, signed_a
 use Rattle.gf_frac.specs.Fields.{IsLowest, parts_back}
 use Rattle.gf_frac.specs.Fits.{IsReduced}
 use Rattle.gf_frac.proofs.FractionLaws.{zero_by_num}
+use Rattle.gf_int.proofs.ContentLaws.{quotient-smaller}
 
 -- ---- a fraction's own numbers
 
@@ -73,13 +74,9 @@ reciprocal_of x p n q m e f g h =
 
 -- ---- the lowest terms that the code works out
 
-quotient_abs : (p : ℤ) (g : ℕ) → unsigned_abs (int_div p (pos g)) ≤ unsigned_abs p
-quotient_abs (pos a) g = omega arith
-quotient_abs (negsuc a) g = omega (arith, ints)
-
 -- a quotient of a number in range is in range
 pub InRange-quotient : (p : ℤ) (g : ℕ) → InRange p → InRange (int_div p (pos g))
-InRange-quotient p g h = record { within = omega (arith, quotient_abs p g, h.within) }
+InRange-quotient p g h = record { within = omega (arith, quotient-smaller g p, h.within) }
 
 num-over : (p : ℤ) (q : ℕ) → 0 < q → int_div p (pos (gcd (unsigned_abs p) q)) ≡ (over p (q - 1)).num
 unfolding over

@@ -5,7 +5,7 @@ use Rattle.std.specs.Prelude.{◌≡◌, ◌⊎◌, ℕ, zero, suc, ◌<◌, Lis
 use Rattle.std.specs.List.Sorted.{apply_swaps, SwapsInRange}
 use Rattle.std.specs.List.{swap}
 use Rattle.std.proofs.Common.{arith, refl, sym, ◌∙◌, subst, inl, inr, get_or}
-use Rattle.std.proofs.lemmas.Bool.{cases_lt}
+use Rattle.std.proofs.lemmas.Bool.{cases_eq}
 use Rattle.std.proofs.lemmas.List.Edits.{Swapped, swapped_from_swap, length-swap}
 use Rattle.std.proofs.lemmas.List.Sorted.{Contains-permutation, IsPermutation-sym}
 use Rattle.gf_exponents.specs.Exponents.{Exponents, NoMultiple}
@@ -45,12 +45,6 @@ from_places (b ∷ bs) h = (
 abbrev IsFrom : ℕ → ℕ → ℕ → ℕ → Type 0
 IsFrom a b i k = ((i ≡ a) × (k ≡ b)) ⊎ ((i ≡ b) × (k ≡ a)) ⊎ ((i ≡ a → ⊥) × (i ≡ b → ⊥) × (k ≡ i))
 
-pub same_or_not : (i j : ℕ) → (i ≡ j) ⊎ (i ≡ j → ⊥)
-same_or_not i j = elim (cases_lt i j) [
-  | inl l ↦ inr (λ e. absurd (omega arith))
-  | inr g ↦ elim (cases_lt j i) [ inl l ↦ inr (λ e. absurd (omega arith)) | inr h ↦ inl (omega arith) ]
-]
-
 one_place : (a b i j k l : ℕ) → IsFrom a b i k → IsFrom a b j l → k ≡ l → i ≡ j
 one_place a b i j k l (inl p) (inl q) e = omega (arith, p.0, q.0)
 one_place a b i j k l (inl p) (inr (inl q)) e = omega (arith, p.0, p.1, q.0, q.1, e)
@@ -64,7 +58,7 @@ one_place a b i j k l (inr (inr p)) (inr (inr q)) e = omega (arith, p.2, q.2, e)
 
 came_from : (xs ys : List MarkedPolynomial) (a b i : ℕ) (d : MarkedPolynomial) → a < length xs → b < length xs →
     i < length xs → ys ≡ swap xs a b → (k : ℕ) × (k < length xs) × (get_or ys i d ≡ get_or xs k d) × IsFrom a b i k
-came_from xs ys a b i d la lb li e = at (swapped_from_swap xs ys a b d la lb e) (same_or_not i a) (same_or_not i b)
+came_from xs ys a b i d la lb li e = at (swapped_from_swap xs ys a b d la lb e) (cases_eq i a) (cases_eq i b)
   where
     at : Swapped (λ i. get_or xs i d) (λ i. get_or ys i d) a b → (i ≡ a) ⊎ (i ≡ a → ⊥) → (i ≡ b) ⊎ (i ≡ b → ⊥) →
         (k : ℕ) × (k < length xs) × (get_or ys i d ≡ get_or xs k d) × IsFrom a b i k

@@ -2,7 +2,7 @@
 -- To cite: work_left-smaller, work_left-smaller_at, work_left-step. The rest are steps: lists of monomials and what they sum to, the monomials of a polynomial,
 -- heights that no longer change once they are as deep as the box is large, the box itself.
 use Rattle.std.proofs.Common.{◌≡◌, ◌⊎◌, ℕ, zero, suc, ◌+◌, ◌<◌, ◌≤◌, ◌||◌, ℤ, pos, negsuc, Bool, true, false, if◌then◌else◌, List, [], ◌∷◌, ◌++◌, length, Contains, arith, refl, sym, ap, ◌∙◌, subst, inl, inr}
-use Rattle.std.proofs.lemmas.Bool.{cases_lt, or_parts, or_right}
+use Rattle.std.proofs.lemmas.Bool.{cases_lt, or_parts, or_right, cases_Bool}
 use Rattle.gf_frac.specs.Fraction.{Fraction, ◌+ℚ◌, neg_ℚ, zero_ℚ}
 use Rattle.gf_frac.proofs.FractionLaws.{zero_by_num, zero-+ℚ, zero_or_not, num_by_zero}
 use Rattle.gf_exponents.specs.Exponents.{Exponents, entry, same, plus, minus}
@@ -22,10 +22,6 @@ use Rattle.gf_ideal.proofs.StepLaws.{step-gone}
 
 clash : {A : Type 0} → true ≡ false → A
 clash q = cc
-
-yes_or_no : (b : Bool) → (b ≡ true) ⊎ (b ≡ false)
-yes_or_no true = inl refl
-yes_or_no false = inr refl
 
 -- two tests that hold together are one
 one_test : (s t : Bool) → (s ≡ true → t ≡ true) → (t ≡ true → s ≡ true) → s ≡ t
@@ -65,7 +61,7 @@ within-except x e (y ∷ ys) n h = at (same x y) refl (within-except x e ys n) h
     at : (b : Bool) → same x y ≡ b → (within ys e ≡ true → within (except x ys) e ≡ true) →
         (same e y || within ys e) ≡ true → within (if b then except x ys else (y ∷ except x ys)) e ≡ true
     at true q r h = r (sym (ap (λ b. b || within ys e) (sym (same-sym y e) ∙ sym (same_along x y e q) ∙ n)) ∙ h)
-    at false q r h = elim (yes_or_no (same e y)) [
+    at false q r h = elim (cases_Bool (same e y)) [
       | inl p ↦ ap (λ b. b || within (except x ys) e) p
       | inr m ↦ or_right (same e y) (within (except x ys) e) (r (sym (ap (λ b. b || within ys e) m) ∙ h))
     ]
@@ -80,7 +76,7 @@ except-within x e (y ∷ ys) h = at (same x y) refl (except-within x e ys) h
         within (if b then except x ys else (y ∷ except x ys)) e ≡ true →
         ((same e y || within ys e) ≡ true) × (same x e ≡ false)
     at true q r h = let p = r h in (or_right (same e y) (within ys e) p.0, p.1)
-    at false q r h = elim (yes_or_no (same e y)) [
+    at false q r h = elim (cases_Bool (same e y)) [
       | inl p ↦ (ap (λ b. b || within ys e) p, same-sym x e ∙ same_along e y x p ∙ same-sym y x ∙ q)
       | inr m ↦ let p = r (sym (ap (λ b. b || within (except x ys) e) m) ∙ h) in (or_right (same e y) (within ys e) p.0, p.1)
     ]
@@ -107,7 +103,7 @@ except-shorter x (y ∷ ys) h = at (same x y) refl (except-le x ys) (except-shor
 within-raised : (u y e : Exponents) (ys : List Exponents) → within ys y ≡ true → same e (plus u y) ≡ true →
     within (raised u ys) e ≡ true
 within-raised u y e [] h s = clash (sym h)
-within-raised u y e (z ∷ ys) h s = elim (yes_or_no (same y z)) [
+within-raised u y e (z ∷ ys) h s = elim (cases_Bool (same y z)) [
   | inl p ↦ ap (λ b. b || within (raised u ys) e) (same_trans e (plus u y) (plus u z) s (same_shift u y z p))
   | inr m ↦ or_right (same e (plus u z)) (within (raised u ys) e) (within-raised u y e ys (sym (ap (λ b. b || within ys y) m) ∙ h) s)
 ]
@@ -153,7 +149,7 @@ total-covered : (f : Exponents → ℕ) (xs ys : List Exponents) → IsAlike f �
 total-covered f [] ys a p c = omega arith
 total-covered f (x ∷ xs) ys a p c =
     let here : within ys x ≡ true = c x (ap (λ b. b || within xs x) (same-refl x)) in
-    let rest : total f xs ≤ total f (except x ys) = total-covered f xs (except x ys) a p.1 (λ e o. within-except x e ys (apart e o (yes_or_no (same x e))) (c e (or_right (same e x) (within xs e) o))) in
+    let rest : total f xs ≤ total f (except x ys) = total-covered f xs (except x ys) a p.1 (λ e o. within-except x e ys (apart e o (cases_Bool (same x e))) (c e (or_right (same e x) (within xs e) o))) in
     omega (arith, rest, total-except f x ys a here)
   where
     apart : (e : Exponents) → within xs e ≡ true → (same x e ≡ true) ⊎ (same x e ≡ false) → same x e ≡ false
@@ -201,7 +197,7 @@ support_in-has f (t ∷ g) x h = at (lists g t.mono || is_zero_number (coefficie
         within (if b then support_in f g else (t.mono ∷ support_in f g)) x ≡ true →
         HasMonomial f x × ((same x t.mono || lists g x) ≡ true)
     at true q r h = let p = r h in (p.0, or_right (same x t.mono) (lists g x) p.1)
-    at false q r h = elim (yes_or_no (same x t.mono)) [
+    at false q r h = elim (cases_Bool (same x t.mono)) [
       | inl s ↦ (λ z. clash (sym (number_zero (coefficient f t.mono) (sym (coefficient-same f x t.mono s) ∙ z)) ∙ (or_parts (lists g t.mono) (is_zero_number (coefficient f t.mono).num) q).1), ap (λ b. b || lists g x) s)
       | inr m ↦ let p = r (sym (ap (λ b. b || within (support_in f g) x) m) ∙ h) in (p.0, or_right (same x t.mono) (lists g x) p.1)
     ]
@@ -213,13 +209,13 @@ support_in-all f (t ∷ g) x n h = at (lists g t.mono || is_zero_number (coeffic
     at : (b : Bool) → (lists g t.mono || is_zero_number (coefficient f t.mono).num) ≡ b →
         (lists g x ≡ true → within (support_in f g) x ≡ true) → (same x t.mono || lists g x) ≡ true →
         within (if b then support_in f g else (t.mono ∷ support_in f g)) x ≡ true
-    at false q r h = elim (yes_or_no (same x t.mono)) [
+    at false q r h = elim (cases_Bool (same x t.mono)) [
       | inl s ↦ ap (λ b. b || within (support_in f g) x) s
       | inr m ↦ or_right (same x t.mono) (within (support_in f g) x) (r (sym (ap (λ b. b || lists g x) m) ∙ h))
     ]
-    at true q r h = elim (yes_or_no (same x t.mono)) [
+    at true q r h = elim (cases_Bool (same x t.mono)) [
       | inr m ↦ r (sym (ap (λ b. b || lists g x) m) ∙ h)
-      | inl s ↦ elim (yes_or_no (lists g t.mono)) [
+      | inl s ↦ elim (cases_Bool (lists g t.mono)) [
         | inl l ↦ r (lists-along g x t.mono s ∙ l)
         | inr l ↦ absurd (n (coefficient-same f x t.mono s ∙ zero_number (coefficient f t.mono) (sym (ap (λ b. b || is_zero_number (coefficient f t.mono).num) l) ∙ q)))
       ]
@@ -244,7 +240,7 @@ support-has f x h = (support_in-has f f x h).0
 
 -- and each of the polynomial is there
 pub support-all : (f : Terms) (x : Exponents) → HasMonomial f x → within (support f) x ≡ true
-support-all f x n = at (yes_or_no (lists f x))
+support-all f x n = at (cases_Bool (lists f x))
   where
     at : (lists f x ≡ true) ⊎ (lists f x ≡ false) → within (support f) x ≡ true
     at (inl h) = support_in-all f f x n h
@@ -359,7 +355,7 @@ height-stable : (xs : List Exponents) (w : List ℕ) (bs : List MarkedPolynomial
 height-stable xs w bs zero [] x m l c = ap suc (sym (all_brought-agree xs w (λ _. 1) (λ _. 0) bs x (λ e p q. clash (sym (c e p q))) m ∙ total-nothing xs (all_brought bs x)))
 height-stable xs w bs zero (z ∷ s) x m l c = absurd (omega arith)
 height-stable xs w bs (suc k) s x m l c = ap suc (all_brought-agree xs w (height xs bs k) (height xs bs (suc k)) bs x
-    (λ y less here. height-stable xs w bs k (except y s) y m (omega (arith, except-shorter y s (c y less here))) (λ e lower q. within-except y e s (apart y e lower (yes_or_no (same y e))) (c e (omega (arith, less, lower)) q))) m)
+    (λ y less here. height-stable xs w bs k (except y s) y m (omega (arith, except-shorter y s (c y less here))) (λ e lower q. within-except y e s (apart y e lower (cases_Bool (same y e))) (c e (omega (arith, less, lower)) q))) m)
   where
     apart : (y e : Exponents) → lighter w e y → (same y e ≡ true) ⊎ (same y e ≡ false) → same y e ≡ false
     apart y e l (inr n) = n
@@ -382,7 +378,7 @@ multiple-brought : (b : MarkedPolynomial) (c : Fraction) (u x e : Exponents) →
     same x e ≡ false → HasMonomial (times c u b.poly) e → within (brought b x) e ≡ true
 multiple-brought b c u x e s n m = let r = found c u b.poly e m in
     ap (λ t. within (if t then raised (minus x b.head) (except b.head (support b.poly)) else []) e) divides
-    ∙ within-raised (minus x b.head) r.0 e (except b.head (support b.poly)) (within-except b.head r.0 (support b.poly) (other r.0 r.2 (yes_or_no (same b.head r.0))) (support-all b.poly r.0 r.1)) (same_trans e (plus u r.0) (plus (minus x b.head) r.0) r.2 (same_shift_right r.0 u (minus x b.head) shift))
+    ∙ within-raised (minus x b.head) r.0 e (except b.head (support b.poly)) (within-except b.head r.0 (support b.poly) (other r.0 r.2 (cases_Bool (same b.head r.0))) (support-all b.poly r.0 r.1)) (same_trans e (plus u r.0) (plus (minus x b.head) r.0) r.2 (same_shift_right r.0 u (minus x b.head) shift))
   where
     shift : same u (minus x b.head) ≡ true
     shift = same_by_entries u (minus x b.head) (λ i. omega (arith, entries_same x (plus u b.head) s i, entry-plus u b.head i, entry-minus x b.head i))
@@ -404,7 +400,7 @@ work_in-step xs w bs f g s m each here =
     let alike : IsAlike v = inside-alike xs (height xs bs k) (height-alike xs bs k) in
     let there : within (support f) s.at ≡ true = support-all f s.at s.there in
     let cover : total v (support g) ≤ total v (except s.at (support f) ++ brought s.member s.at) =
-    total-covered v (support g) (except s.at (support f) ++ brought s.member s.at) alike (support_in-distinct g g) (λ e q. from e (support-has g e q) (yes_or_no (same s.at e)) (zero_or_not (coefficient f e))) in
+    total-covered v (support g) (except s.at (support f) ++ brought s.member s.at) alike (support_in-distinct g g) (λ e q. from e (support-has g e q) (cases_Bool (same s.at e)) (zero_or_not (coefficient f e))) in
     let parts = total-++ v (except s.at (support f)) (brought s.member s.at) in
     let at_x : v s.at ≡ height xs bs k s.at = ap (λ q. if q then height xs bs k s.at else 0) here in
     let stable : height xs bs k s.at ≡ suc (total v (all_brought bs s.at)) = height-stable xs w bs k xs s.at each (omega arith) (λ e l q. q) in
@@ -425,7 +421,7 @@ work_in-step xs w bs f g s m each here =
 
 within-front : (a : ℕ) (ys : List Exponents) (e : Exponents) → within ys e ≡ true → within (front a ys) (a ∷ e) ≡ true
 within-front a [] e h = h
-within-front a (y ∷ ys) e h = elim (yes_or_no (same e y)) [
+within-front a (y ∷ ys) e h = elim (cases_Bool (same e y)) [
   | inl p ↦ ap (λ b. b || within (front a ys) (a ∷ e)) (same_by_entries (a ∷ e) (a ∷ y) (λ i. entries p i))
   | inr m ↦ or_right (same (a ∷ e) (a ∷ y)) (within (front a ys) (a ∷ e)) (within-front a ys e (sym (ap (λ b. b || within ys e) m) ∙ h))
 ]

@@ -2,10 +2,10 @@
 use Rattle.std.proofs.Common.{◌≡◌, ◌≢◌, ℕ, zero, suc, ◌+◌, ◌*◌, ◌^◌, ◌<◌, ◌≤◌, List, [], ◌∷◌, ◌++◌, length, ℤ, pos, negsuc, ◌+ℤ◌, ◌*ℤ◌, neg_ℤ, ◌<ℤ◌, ◌-◌, ◌⊎◌, arith, sym, refl, ap, ◌∙◌, subst, inl, inr, get_or, map, drop, remove, length-append, unsigned_abs, All, Contains}
 use Rattle.std.specs.Int.{int_signum}
 use Rattle.std.proofs.lemmas.Int.{ints, unsigned_abs-mul}
-use Rattle.std.proofs.lemmas.List.{get_or_default}
+use Rattle.std.proofs.lemmas.List.{get_or_default, get_or_append_left}
 use Rattle.std.proofs.lemmas.List.Edits.{length-remove}
 use Rattle.std.proofs.lemmas.Slice.Zip.{AllZip-long}
-use Rattle.std.proofs.lemmas.List.Elements.{All-contains, Contains-append_cases, Contains-append_left}
+use Rattle.std.proofs.lemmas.List.Elements.{All-contains, Contains-append_cases, Contains-append_left, Contains-push}
 use Rattle.gf_int.specs.Content.{scaled}
 use Rattle.gf_int.proofs.SignLaws.{zero-cancel, 0<-cancel, zero_product, mul_positive}
 use Rattle.gf_vec.specs.declared.error.VecOp.{VecOp}
@@ -24,7 +24,7 @@ use Rattle.gf_duality.specs.Generators.{unit_vectors}
 use Rattle.gf_duality.specs.Rays.{IsZeroOn}
 use Rattle.gf_duality.specs.Elimination.{IsTurned, IsEliminated, begun as eliminated_begun, skipped, turned, IsEliminationStep, IsNormalised, IsNullSpace, IsNullStep, eliminating, reducing, with_values, columns}
 use Rattle.gf_duality.specs.Straightening.{IsLeveled, IsStraightened, done as straight_done, next as straight_next, IsOrthogonalized, start, added, gone, IsOrthogonalizing}
-use Rattle.gf_duality.proofs.ListLaws.{none_in, snoc_cases, first_in, last_in, zip_from, of_rest, all_by, place, less, at, more}
+use Rattle.gf_duality.proofs.ListLaws.{none_in, snoc_cases, first_in, zip_from, of_rest, all_by, place, less, at, more}
 use Rattle.gf_duality.proofs.Echelon.{turn_in}
 use Rattle.gf_rays.specs.declared.ray.Ray.{Ray}
 use Rattle.gf_rays.specs.Leveling.{IsLine, IsLinedBy, IsLeveledRay, IsLeveling, IsRowStep, lineal, splitting, leveling}
@@ -45,11 +45,6 @@ use Rattle.gf_gordan.proofs.StepSizes.{no_wide, no_dot}
 -- each entry of each vector is at most b in absolute value
 pub record AreUpTo (b : ℕ) (xs : List (List ℤ)) : Type 0 where
   pub each : (x : List ℤ) → Contains xs x → UpTo b x
-
-append_at : (xs ys : List (List ℤ)) (k : ℕ) (d : List ℤ) → k < length xs → get_or (xs ++ ys) k d ≡ get_or xs k d
-append_at [] ys k d h = absurd (omega arith)
-append_at (x ∷ xs) ys zero d h = refl
-append_at (x ∷ xs) ys (suc k) d h = append_at xs ys k d (omega (arith, h))
 
 pub snoc_long : (rows : List (List ℤ)) (h : List ℤ) (whole : List (List ℤ)) → whole ≡ rows ++ h ∷ [] → length whole ≡ suc (length rows)
 snoc_long [] h whole e = ap length e
@@ -335,7 +330,7 @@ sized_front n b rows h whole e s = record {
 }
 
 pub sized_last : (rows : List (List ℤ)) (h : List ℤ) (whole : List (List ℤ)) → whole ≡ rows ++ h ∷ [] → Contains whole h
-sized_last rows h whole e = subst (λ (l : List (List ℤ)). Contains l h) (sym e) (last_in rows h)
+sized_last rows h whole e = subst (λ (l : List (List ℤ)). Contains l h) (sym e) (Contains-push rows h)
 
 pair_up : (n b m : ℕ) (h p q y : List ℤ) → length h ≡ n → UpTo b h → UpTo m p → UpTo m q → IsPrimitivePart (pair h p q) y → UpTo (next_bound n b m) y
 pair_up n b m h p q y l u up uq d =
@@ -536,7 +531,7 @@ few_rows n b u hs lin rays hn hb few f r =
 
 front_begins : (n u : ℕ) (rows : List (List ℤ)) (h : List ℤ) (whole : List (List ℤ)) → whole ≡ rows ++ h ∷ [] → BeginWithUnits n u whole → BeginWithUnits n u rows
 front_begins n u rows h whole e f k hk hl =
-    subst (IsUnitRow n) (ap (λ (l : List (List ℤ)). get_or l k []) e ∙ append_at rows (h ∷ []) k [] hl) (f k hk (let s = snoc_long rows h whole e in omega (arith, s, hl)))
+    subst (IsUnitRow n) (ap (λ (l : List (List ℤ)). get_or l k []) e ∙ get_or_append_left rows (h ∷ []) [] k hl) (f k hk (let s = snoc_long rows h whole e in omega (arith, s, hl)))
 
 at_next : (n b u k m : ℕ) (xs ys : List (List ℤ)) → m ≡ suc k → u ≤ k → BothUpTo (next_bound n b (reached_bound n b (k - u))) xs ys → BothUpTo (reached_bound n b (m - u)) xs ys
 at_next n b u k m xs ys e h q = let s : suc (k - u) ≡ m - u = omega (arith, e, h) in subst (λ i. BothUpTo (reached_bound n b i) xs ys) s q
@@ -644,7 +639,7 @@ no_reached_step n b u hs s hn hb z p f room ends (taking before after lin rays h
       small = record { each = λ x c. z.small.each x (subst (λ (l : List (List ℤ)). Contains l x) (sym e) (front_in before after h x c)) };
     } in
     let fits : suc (length before) ≤ length hs = omega (arith, ap length e, length-append before (h ∷ after)) in
-    let fb : BeginWithUnits n u before = λ i hi hl. subst (IsUnitRow n) (ap (λ (l : List (List ℤ)). get_or l i []) e ∙ append_at before (h ∷ after) i [] hl) (f i hi (omega (arith, fits, hl))) in
+    let fb : BeginWithUnits n u before = λ i hi hl. subst (IsUnitRow n) (ap (λ (l : List (List ℤ)). get_or l i []) e ∙ get_or_append_left before (h ∷ after) [] i hl) (f i hi (omega (arith, fits, hl))) in
     let ch : Contains hs h = subst (λ (l : List (List ℤ)). Contains l h) (sym e) (middle_in before after h) in
     let q = reached_up n b u before lin rays hn hb zb fb r in
     let late : u ≤ length before → ⊥ = λ hu.
@@ -709,7 +704,7 @@ orthant_pointed n others x l f = all_zero n x l (λ i h.
     sym (dot_unit n i x l h) ∙ dot_comm x e ∙ f e (Contains-append_left (unit_vectors n) others e (i, k, get_or_default (unit_vectors n) i e [] k)))
 
 orthant_begins : (n : ℕ) (others : List (List ℤ)) → BeginWithUnits n n (unit_vectors n ++ others)
-orthant_begins n others k h l = record { place = k; inside = h; is = append_at (unit_vectors n) others k [] (omega (arith, units_long n, h)) }
+orthant_begins n others k h l = record { place = k; inside = h; is = get_or_append_left (unit_vectors n) others [] k (omega (arith, units_long n, h)) }
 
 pub parts_of_orthants_stay_within_limits : PartsOfOrthantsStayWithinLimits
 parts_of_orthants_stay_within_limits n b others hn hb w u room ends =

@@ -1,6 +1,6 @@
 -- The reading number falls where a facet with a negative normal is crossed.
 -- To cite: leading_number_falls.
-use Rattle.std.proofs.Common.{◌≡◌, ◌⊎◌, ◌||◌, ℕ, ◌<◌, ◌≤◌, Bool, true, false, List, [], ◌∷◌, length, Contains, get_or, All, ℤ, pos, ◌*ℤ◌, ◌<ℤ◌, ◌≤ℤ◌, arith, refl, sym, ap, ◌∙◌, subst, inl, inr}
+use Rattle.std.proofs.Common.{◌≡◌, ◌⊎◌, ℕ, ◌<◌, ◌≤◌, Bool, true, false, List, [], ◌∷◌, length, Contains, get_or, All, ℤ, pos, ◌*ℤ◌, ◌<ℤ◌, ◌≤ℤ◌, arith, refl, sym, ap, ◌∙◌, subst, inl, inr}
 use Rattle.std.proofs.lemmas.Int.{ints}
 use Rattle.std.proofs.Math.IntN.{*ℤ-zero}
 use Rattle.std.proofs.lemmas.List.{get_or_past}
@@ -26,16 +26,12 @@ use Rattle.gf_reverse.proofs.StepsLaws.{below_by_negative}
 use Rattle.gf_reverse.proofs.CrossingLaws.{IsPulledOut, Enters, what_enters_pulls, something_enters, along_divisible}
 use Rattle.gf_reverse.proofs.NumberLaws.{Turns, binary_falls}
 use Rattle.gf_reverse.proofs.WeightListLaws.{below-is, among_below, below-ascends}
-use Rattle.std.proofs.lemmas.Bool.{or_right, or_left}
+use Rattle.std.proofs.lemmas.Bool.{or_right, or_left, or_cases}
 
 -- ---- the test of a mark
-either : (b c : Bool) → (b || c) ≡ true → (b ≡ true) ⊎ (c ≡ true)
-either true c e = inl refl
-either false c e = inr e
-
 led-divisible : (bs : List MarkedPolynomial) (x : Exponents) → is_led bs x ≡ true → IsDivisible (Contains bs) x
 led-divisible [] x e = absurd (cc)
-led-divisible (b ∷ bs) x e = at (either (same x (plus (minus x b.head) b.head)) (is_led bs x) e) (led-divisible bs x)
+led-divisible (b ∷ bs) x e = at (or_cases (same x (plus (minus x b.head) b.head)) (is_led bs x) e) (led-divisible bs x)
   where
     at : (same x (plus (minus x b.head) b.head) ≡ true) ⊎ (is_led bs x ≡ true) → (is_led bs x ≡ true → IsDivisible (Contains bs) x) →
         IsDivisible (Contains (b ∷ bs)) x

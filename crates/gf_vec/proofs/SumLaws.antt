@@ -1,6 +1,6 @@
 -- A sum of two vectors in place, one entry further.
 use Rattle.std.proofs.Common.{◌≡◌, ℕ, ◌+◌, ◌<◌, ◌≤◌, List, [], ◌∷◌, ◌++◌, length, ℤ, pos, ◌+ℤ◌, arith, sym, refl, ap, ◌∙◌, take, drop, get_or, set, inl, inr, append_assoc, subst, negsuc, ◌*ℤ◌, map, All}
-use Rattle.std.proofs.lemmas.List.{take_more, drop_more, length-take, get_or_at, set_at, take_all, take_at, append-nil, drop_all, length-map}
+use Rattle.std.proofs.lemmas.List.{take_more, drop_more, length-take, get_or_at, set_at, take_all, append-nil, drop_all, length-map}
 use Rattle.std.specs.List.{AllByRecursion}
 use Rattle.std.proofs.lemmas.Int.{unsigned_abs-mul}
 use Rattle.std.proofs.lemmas.List.Elements.{All-from_recursion, recursion_from_All}
@@ -60,10 +60,6 @@ Summed-more xs ys now next i z h e ez fz en s =
 pub Summed-wide : (xs ys now : List ℤ) (i : ℕ) (x y : ℤ) (w : WideVector) → i < length xs → length xs ≡ length ys →
     x ≡ get_or xs i (pos 0) → y ≡ get_or ys i (pos 0) → w ≡ record { op = Add; left = x; right = y } → IsWide w → Summed xs ys now i → IsFirstWide w (sum_steps xs ys)
 Summed-wide xs ys now i x y w h e ex ey ew iw s = s.first w (rw (split xs ys i h e) (inl (rw (← ex, ← ey) (sym ew), iw)))
-
--- a slice that was lent and comes back as long as before
-pub put_back : (len : ℕ) (new rest : List ℤ) → length new ≡ len → take len (new ++ rest) ≡ new
-put_back len new rest e = take_at new rest len e
 
 negative_range : (x : ℤ) → InRange x → InRange (negsuc 0 *ℤ x)
 negative_range x h = record { within = omega (arith, unsigned_abs-mul (negsuc 0) x, h.within) }

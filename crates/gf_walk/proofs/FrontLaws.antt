@@ -5,13 +5,13 @@ use Rattle.gf_walk.specs.declared.mark.Mark.{Mark}
 use Rattle.gf_walk.specs.declared.mark.Mark.TheVariants.{Before, After, Listed, Finished}
 use Rattle.gf_walk.specs.Path.{Precedes, Begins, IsStrictOrder}
 use Rattle.gf_walk.specs.Left.{IsLeft}
-use Rattle.gf_walk.proofs.CutLaws.{cancel}
+use Rattle.std.proofs.lemmas.List.{append_cancel_left}
 
 begins_on : {L : Type 0} (p y z : List L) → Begins y z → Begins (p ++ y) (p ++ z)
 begins_on p y z b = (b.0, ap (λ w. p ++ w) b.1 ∙ sym (append_assoc p y b.0))
 
 begins_off : {L : Type 0} (p y z : List L) → Begins (p ++ y) (p ++ z) → Begins y z
-begins_off p y z b = (b.0, cancel p z (y ++ b.0) (b.1 ∙ append_assoc p y b.0))
+begins_off p y z b = (b.0, append_cancel_left p z (y ++ b.0) (b.1 ∙ append_assoc p y b.0))
 
 module _ {L : Type 0} (lt : L → L → Type 0) where
   -- a path that comes before another does so behind any front
@@ -36,7 +36,7 @@ module _ {L : Type 0} (lt : L → L → Type 0) where
 
     -- and what is left behind that path is left below the node
     pub left_under : (m : Mark L) (p r q : List L) → IsLeft lt m (p ++ r) (p ++ q) → IsLeft lt m r q
-    left_under Before p r q (inl e) = inl (cancel p r q e)
+    left_under Before p r q (inl e) = inl (append_cancel_left p r q e)
     left_under Before p r q (inr h) = inr (precedes_off p r q h)
     left_under Listed p r q h = precedes_off p r q h
     left_under (After a) p r q h = (precedes_off p r q h.0, λ b l g. h.1 b l (subst (λ w. Begins w (p ++ q)) (sym (append_assoc p r (b ∷ []))) (begins_on p (r ++ b ∷ []) q g)))
