@@ -26,6 +26,7 @@ mod workspace;
 
 pub use answer::Answer;
 pub use check::is_solution;
+pub use entries::pivot;
 pub use error::{ConeOverflow, GordanError};
 pub use feasibility::{gordans_alternative, strict, strict_guessed, strict_plain};
 pub use found::Found;
