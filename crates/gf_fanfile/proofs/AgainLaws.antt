@@ -4,6 +4,7 @@ use Rattle.std.proofs.Common.{◌≡◌, ◌≤◌, ◌<◌, ℕ, ℤ, ◌+◌, 
 use Rattle.std.specs.List.{AllByRecursion, range_with_len}
 use Rattle.std.proofs.lemmas.List.Elements.{recursion_from_All}
 use Rattle.std.proofs.lemmas.List.Sums.{count_by-le-length}
+use Rattle.gf_text.specs.declared.TheConstants.{MOST_VARIABLES}
 use Rattle.gf_text.specs.Machine.{texts}
 use Rattle.gf_text.specs.RingText.{has, is_name}
 use Rattle.gf_fanfile.specs.declared.parts.ListedCone.{ListedCone}
@@ -164,9 +165,9 @@ module _ (f : FanWords) (h : IsWritable f) where
       let orthogonal = row_lines f.orthogonal (good_rows f.ambient f.orthogonal h.positive h.orthogonal) in
       let every = good_cones f.cones h.cones in
       let count : length f.rays ≤ most_number = h.rays_count in
-      let small : f.ambient ≤ 16 = h.ambient in (
+      let small : f.ambient ≤ MOST_VARIABLES = h.ambient in (
         refl,
-        is_number_to [] ambient_dim 16 f.ambient (new_name [] ambient_dim refl refl refl refl refl) refl (omega (arith, small)) small,
+        is_number_to [] ambient_dim MOST_VARIABLES f.ambient (new_name [] ambient_dim refl refl refl refl refl) refl (omega (arith, small)) small,
         (
           refl,
           is_passed (names 1) (codes "DIM") (dim_line f.cones ∷ []) (new_name (names 1) (codes "DIM") refl refl refl refl refl) refl (dim_lines f.cones every),

@@ -22,6 +22,7 @@ use Rattle.gf_fan.specs.declared.error.FanError.TheVariants as fan_errors
 use Rattle.gf_fan.specs.FanLists.{FanLists}
 use Rattle.gf_fan.specs.Pairs.{AreOfAmbient, AreMeeting}
 use Rattle.gf_fan.specs.Refusals.{IsFanRefusal, IsFanWithinLimits}
+use Rattle.gf_text.specs.declared.TheConstants.{MOST_VARIABLES}
 use Rattle.gf_fanfile.specs.declared.error.FanFileError.{FanFileError}
 use Rattle.gf_fanfile.specs.declared.error.FanFileError.TheVariants as errors
 use Rattle.gf_fanfile.specs.declared.file.FanFile.{FanFile}
@@ -88,8 +89,8 @@ cones_refused f gordan_errors.Memory e h q = inr q
 pub fan_refused : (f : FanFile) (cones : List RowsAndRays) (d : FanError) (e : FanFileError) → AreConesOfFile f cones → IsFanRefusal f.ambient cones d → e ≡ refusal_of_fan d → IsFanFault f e ⊎ (e ≡ errors.Memory)
 fan_refused f cones d e a h q = inl (in_fan cones d a h q)
 
-narrow : (source : List ℕ) (f : FanFile) (h : FanLists) → IsFileOf source f → IsFanOfFile f h → h.ambient ≤ 16
-narrow source f h is k = subst (λ n. n ≤ 16) (sym k.is_fan.ambient) (file_within source f is)
+narrow : (source : List ℕ) (f : FanFile) (h : FanLists) → IsFileOf source f → IsFanOfFile f h → h.ambient ≤ MOST_VARIABLES
+narrow source f h is k = subst (λ n. n ≤ MOST_VARIABLES) (sym k.is_fan.ambient) (file_within source f is)
 
 fault_refused : (source : List ℕ) (f : FanFile) (e : FanFileError) → IsFileOf source f → IsSoundFile f → IsFanFault f e ⊎ (e ≡ errors.Memory) → IsFanFileRefusal source e
 fault_refused source f e is s (inl h) = behind_form f is s h
@@ -113,7 +114,7 @@ pub fan_said : (source : List ℕ) (f : FanFile) (r : Result FanLists FanFileErr
 fan_said source f (Ok h) is s k = record { file = f; is_file = is; sound = s; of_file = k }
 fan_said source f (Err e) is s k = tt
 
-pub fan_narrow : (source : List ℕ) (f : FanFile) (r : Result FanLists FanFileError) → IsFileOf source f → IfOk r (IsFanOfFile f) → IfOk r (λ h. h.ambient ≤ 16)
+pub fan_narrow : (source : List ℕ) (f : FanFile) (r : Result FanLists FanFileError) → IsFileOf source f → IfOk r (IsFanOfFile f) → IfOk r (λ h. h.ambient ≤ MOST_VARIABLES)
 fan_narrow source f (Ok h) is k = narrow source f h is k
 fan_narrow source f (Err e) is k = tt
 

@@ -2,6 +2,7 @@
 -- To cite: dimension_within, file_within, file_of_contents, text_refused, missing_ambient, missing_rays, missing_lineality, missing_cones,
 -- sections_once, file_once, behind_holds, length_sound, none_missing, sound_refused, refused_sound. The rest are steps.
 use Rattle.std.proofs.Common.{◌≡◌, ◌⊎◌, ℕ, ◌≤◌, ◌<◌, Bool, true, false, List, [], ◌∷◌, ◌++◌, length, Option, None, Some, refl, sym, ap, ap₂, subst, ◌∙◌, inl, inr, bytes_eq, arith, All, Contains, IfSome, if◌then◌else◌, ℤ}
+use Rattle.gf_text.specs.declared.TheConstants.{MOST_VARIABLES}
 use Rattle.gf_text.specs.Machine.{texts}
 use Rattle.gf_text.proofs.SetTokensLaws.{is_mark, le_from}
 use Rattle.gf_gordan.specs.declared.error.ConeOverflow.{ConeOverflow}
@@ -17,38 +18,38 @@ use Rattle.gf_fanfile.specs.Contents.{Says, number_kept, rows_kept, cones_kept}
 use Rattle.gf_fanfile.specs.Files.{AreSectionsOf, IsFileOf, IsOutside, AreBelow, IsSoundFile, IsTestStep, AreTestsWithin, IsBehind, IsLengthFault, IsFormFault, zero_dimension, at_rays, at_lineality, at_ray, at_number, IsFileRefused, in_text, not_there, in_form, no_memory}
 use Rattle.gf_fanfile.proofs.FanTextLaws.{text_said, text_given, text_fault, text_sound}
 
--- ---- the ambient dimension is at most 16
+-- ---- the ambient dimension is at most MOST_VARIABLES
 
-dimension_of_content : (k : ContentKind) (ts : List (List ℕ)) (c : Content) (n : ℕ) → k ≡ number_to 16 → c ≡ the_number n → IsContentText k ts c → n ≤ 16
+dimension_of_content : (k : ContentKind) (ts : List (List ℕ)) (c : Content) (n : ℕ) → k ≡ number_to MOST_VARIABLES → c ≡ the_number n → IsContentText k ts c → n ≤ MOST_VARIABLES
 dimension_of_content k ts c n is_kind is_number h =
     let g : IsContentText k ts (the_number n) = subst (λ d. IsContentText k ts d) is_number h in
-    let same : 16 ≡ g.0 = (let e : number_to 16 ≡ number_to g.0 = sym is_kind ∙ g.1 in cc) in
+    let same : MOST_VARIABLES ≡ g.0 = (let e : number_to MOST_VARIABLES ≡ number_to g.0 = sym is_kind ∙ g.1 in cc) in
     let small = le_from n g.0 g.3 in
     omega (arith, same, small)
 
-kind_of_ambient : (name : List ℕ) → bytes_eq name ambient_dim ≡ true → kind_in fan_table name ≡ number_to 16
+kind_of_ambient : (name : List ℕ) → bytes_eq name ambient_dim ≡ true → kind_in fan_table name ≡ number_to MOST_VARIABLES
 kind_of_ambient name h = ap (kind_in fan_table) (is_mark name ambient_dim h)
 
-held_within : (end : ℕ) (seen : List (List ℕ)) (ss : List Section) (all : Named) (n : ℕ) → AreHeld fan_table end seen ss all → found ambient_dim all ≡ Some (the_number n) → n ≤ 16
+held_within : (end : ℕ) (seen : List (List ℕ)) (ss : List Section) (all : Named) (n : ℕ) → AreHeld fan_table end seen ss all → found ambient_dim all ≡ Some (the_number n) → n ≤ MOST_VARIABLES
 held_within end seen [] [] n held e = cc
 held_within end seen [] (h ∷ hs) n held e = cc
 held_within end seen (s ∷ ss) [] n held e = absurd held
 held_within end seen (s ∷ ss) (h ∷ hs) n (new, name, content, later) e = by (bytes_eq h.0 ambient_dim) refl (λ f. held_within end (seen ++ s.name ∷ []) ss hs n later f) e
   where
-    by : (v : Bool) → bytes_eq h.0 ambient_dim ≡ v → (found ambient_dim hs ≡ Some (the_number n) → n ≤ 16) → (if v then Some h.1 else found ambient_dim hs) ≡ Some (the_number n) → n ≤ 16
+    by : (v : Bool) → bytes_eq h.0 ambient_dim ≡ v → (found ambient_dim hs ≡ Some (the_number n) → n ≤ MOST_VARIABLES) → (if v then Some h.1 else found ambient_dim hs) ≡ Some (the_number n) → n ≤ MOST_VARIABLES
     by true is more f = (
         let number : h.1 ≡ the_number n = cc in
         dimension_of_content (kind_in fan_table s.name) (texts (content_tokens (end_before end ss) s.content)) h.1 n (kind_of_ambient s.name (ap (λ b. bytes_eq b ambient_dim) (sym name) ∙ is)) number content)
     by false is more f = more f
 
-pub dimension_within : (source : List ℕ) (c : Contents) → Says source c → IfSome c.ambient (λ n. n ≤ 16)
+pub dimension_within : (source : List ℕ) (c : Contents) → Says source c → IfSome c.ambient (λ n. n ≤ MOST_VARIABLES)
 dimension_within source c s = by c.ambient refl
   where
-    by : (o : Option ℕ) → c.ambient ≡ o → IfSome o (λ n. n ≤ 16)
+    by : (o : Option ℕ) → c.ambient ≡ o → IfSome o (λ n. n ≤ MOST_VARIABLES)
     by None is = tt
     by (Some n) is = held_within (length source) [] (sections source) s.all n (text_said fan_table source s.all s.read) (s.kept.ambient ∙ ap number_kept is)
 
-pub file_within : (source : List ℕ) (f : FanFile) → IsFileOf source f → f.ambient ≤ 16
+pub file_within : (source : List ℕ) (f : FanFile) → IsFileOf source f → f.ambient ≤ MOST_VARIABLES
 file_within source f h = held_within (length source) [] (sections source) h.all f.ambient h.held h.ambient
 
 -- ---- contents and files

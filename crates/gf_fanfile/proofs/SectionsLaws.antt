@@ -1,6 +1,7 @@
 -- Sections are read one after another, and what is kept of them.
 -- To cite: kind_ambient, kind_rays, kind_lineality, kind_cones; IsReadUpTo, begun, one_more, repeated, faulty, finished. The rest are steps.
 use Rattle.std.proofs.Common.{◌≡◌, ℕ, Bool, true, false, ◌||◌, List, [], ◌∷◌, ◌++◌, length, map, bytes_eq, Option, Some, None, Result, Ok, Err, refl, sym, ap, ◌∙◌, append_assoc, append-nil, if◌then◌else◌}
+use Rattle.gf_text.specs.declared.TheConstants.{MOST_VARIABLES}
 use Rattle.gf_text.specs.Machine.{Lexeme}
 use Rattle.gf_text.specs.RingText.{has}
 use Rattle.gf_text.specs.declared.error.Cause.TheVariants.{RepeatedName}
@@ -109,7 +110,7 @@ module _ (done : Named) (name : List ℕ) (b a : Contents) (kept : AreSectionsKe
 
 -- ---- what sections hold
 
-pub kind_ambient : (name : List ℕ) → bytes_eq ambient_dim name ≡ true → kind_in fan_table name ≡ number_to 16
+pub kind_ambient : (name : List ℕ) → bytes_eq ambient_dim name ≡ true → kind_in fan_table name ≡ number_to MOST_VARIABLES
 kind_ambient name is = rw is refl
 
 pub kind_rays : (name : List ℕ) → bytes_eq ambient_dim name ≡ false → bytes_eq rays_name name ≡ true → kind_in fan_table name ≡ rows

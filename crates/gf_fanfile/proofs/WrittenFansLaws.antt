@@ -19,6 +19,7 @@ use Rattle.gf_fan.specs.declared.cones.FanCone.{FanCone}
 use Rattle.gf_fan.specs.FanLists.{FanLists}
 use Rattle.gf_fan.specs.Parts.{HaveTheirRays}
 use Rattle.gf_fan.specs.FansOfCones.{IsFanOf, IsFan, IsCommonLineality}
+use Rattle.gf_text.specs.declared.TheConstants.{MOST_VARIABLES}
 use Rattle.gf_fanfile.specs.declared.parts.ListedCone.{ListedCone}
 use Rattle.gf_fanfile.specs.ConeText.{most_number}
 use Rattle.gf_fanfile.specs.Files.{IsOutside, AreBelow}
@@ -153,7 +154,7 @@ fan_orthogonal f n rows h e q = subst (λ m. AreRows m rows) (sym e) (subst (Are
 pub writable_along : (n m : ℕ) (rows others : List (List ℤ)) → n ≡ m → rows ≡ others → AreWritable n rows → AreWritable m others
 writable_along n m rows others e q w = subst (λ k. AreWritable k others) e (subst (AreWritable n) q w)
 
-pub fan_writable : (f : FanLists) (cones : List FanCone) (rays lineality : List (List ℤ)) → 0 < f.ambient → f.ambient ≤ 16 → AreWritable f.ambient f.rays → AreWritable f.ambient f.lineality → AreWritable f.ambient f.orthogonal →
+pub fan_writable : (f : FanLists) (cones : List FanCone) (rays lineality : List (List ℤ)) → 0 < f.ambient → f.ambient ≤ MOST_VARIABLES → AreWritable f.ambient f.rays → AreWritable f.ambient f.lineality → AreWritable f.ambient f.orthogonal →
     cones ≡ f.cones → All IsWritableCone (listed_cones cones) → length cones ≤ most_number → rays ≡ f.rays → length rays ≤ most_number → lineality ≡ f.lineality → length lineality ≤ most_number → IsWritable (parts_of_fan f)
 fan_writable f cones rays lineality p a r l o e each k q m s t =
     let all : All IsWritableCone (listed_cones f.cones) = subst (λ (ks : List FanCone). All IsWritableCone (listed_cones ks)) e each in

@@ -2,6 +2,7 @@
 -- Which sections these are is a table.
 -- Laws: proofs/FanTextLaws.antt.
 use Rattle.std.specs.Prelude.{◌≡◌, ◌⊎◌, ℕ, ◌+◌, ◌&&◌, nat_le, Bool, true, false, List, [], ◌∷◌, ◌++◌, length, bytes_eq, is_some, if◌then◌else◌, Result, Ok, Err, Option, Some, None, ℤ}
+use Rattle.gf_text.specs.declared.TheConstants.{MOST_VARIABLES}
 use Rattle.gf_text.specs.Machine.{Lexeme, texts, Fault, IsFault, run}
 use Rattle.gf_text.specs.Kinds.{IsNumberKind}
 use Rattle.gf_text.specs.Tokens.{is_number, decimal_value}
@@ -86,7 +87,7 @@ maximal_cones = 77 ∷ 65 ∷ 88 ∷ 73 ∷ 77 ∷ 65 ∷ 76 ∷ 95 ∷ 67 ∷ 7
 
 -- the four sections of a fan file: AMBIENT_DIM, RAYS, LINEALITY_SPACE, MAXIMAL_CONES
 abbrev pub fan_table : Table
-fan_table = (ambient_dim, number_to 16) ∷ (rays_name, rows) ∷ (lineality_space, rows) ∷ (maximal_cones, cones) ∷ []
+fan_table = (ambient_dim, number_to MOST_VARIABLES) ∷ (rays_name, rows) ∷ (lineality_space, rows) ∷ (maximal_cones, cones) ∷ []
 
 -- the names of sections that are looked for, in order
 abbrev pub wanted : List (List ℕ)

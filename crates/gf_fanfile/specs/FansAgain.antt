@@ -2,6 +2,7 @@
 -- Laws: proofs/AgainLaws.antt.
 use Rattle.std.specs.Prelude.{ℕ, ◌<◌, ◌≤◌, ℤ, List, length, map, unsigned_abs, All}
 use Rattle.gf_gordan.specs.Alternative.{AreRows}
+use Rattle.gf_text.specs.declared.TheConstants.{MOST_VARIABLES}
 use Rattle.gf_fanfile.specs.declared.file.FanFile.{FanFile}
 use Rattle.gf_fanfile.specs.declared.parts.ListedCone.{ListedCone}
 use Rattle.gf_fanfile.specs.RowText.{most_row_entry}
@@ -23,11 +24,11 @@ pub record IsWritableCone (c : ListedCone) : Type 0 where
 abbrev pub AreNumbersBelow : ℕ → List ListedCone → Type 0
 AreNumbersBelow count cs = All (λ (c : ListedCone). AreBelow count c.rays) cs
 
--- Within the limits of fan files: the ambient dimension is from 1 to 16, each row has as many entries, and entries, dimensions
+-- Within the limits of fan files: the ambient dimension is from 1 to MOST_VARIABLES, each row has as many entries, and entries, dimensions
 -- and how many there are don't pass their limits.
 pub record IsWritable (f : FanWords) : Type 0 where
   pub positive : 0 < f.ambient
-  pub ambient : f.ambient ≤ 16
+  pub ambient : f.ambient ≤ MOST_VARIABLES
   pub rays : AreWritable f.ambient f.rays
   pub lineality : AreWritable f.ambient f.lineality
   pub orthogonal : AreWritable f.ambient f.orthogonal

@@ -2,6 +2,7 @@
 ghost use Rattle.std.specs.Prelude.{◌≡◌, ◌<◌, ◌≤◌, All, IfOk, IfErr, length, unsigned_abs};
 ghost use Rattle.gf_gordan.specs.Alternative.{AreRows};
 ghost use Rattle.gf_fan.specs.SameCones.{HaveSameCones};
+ghost use Rattle.gf_text.specs.declared.TheConstants.{MOST_VARIABLES};
 ghost use Rattle.gf_fanfile.specs.ConeText.{most_number};
 ghost use Rattle.gf_fanfile.specs.RowText.{most_row_entry};
 ghost use Rattle.gf_fanfile.specs.Files.{IsFileOf};
@@ -71,11 +72,11 @@ fn cones_are_writable(rays: &[IntVec], cones: &[ListedCone])
     }
 }
 
-/// What is written of a fan is within the limits of fan files, where its ambient dimension is from 1 to 16, its rows have as
+/// What is written of a fan is within the limits of fan files, where its ambient dimension is from 1 to `MOST_VARIABLES`, its rows have as
 /// many entries, and the numbers in its cones are those of its rays.
 pub fn parts_are_writable(parts: &FanParts)
     requires positive { 0 < parts.now.ambient }
-    requires dimension { parts.now.ambient ≤ 16 }
+    requires dimension { parts.now.ambient ≤ MOST_VARIABLES }
     requires rays { AreRows parts.now.ambient parts.now.rays }
     requires lineality { AreRows parts.now.ambient parts.now.lineality }
     requires orthogonal { AreRows parts.now.ambient parts.now.orthogonal }
@@ -136,11 +137,11 @@ fn fan_cones_are_writable(cones: &[FanCone])
     }
 }
 
-/// What is written of a fan is within the limits of fan files, where its ambient dimension is from 1 to 16; and its text says what
+/// What is written of a fan is within the limits of fan files, where its ambient dimension is from 1 to `MOST_VARIABLES`; and its text says what
 /// was written of it.
 pub fn fan_is_read_again(fan: &Fan)
     requires positive { 0 < fan.now.ambient }
-    requires dimension { fan.now.ambient ≤ 16 }
+    requires dimension { fan.now.ambient ≤ MOST_VARIABLES }
     ensures writable { IsWritable (parts_of_fan fan.now) }
     ensures file { IsFileOf (fan_text (parts_of_fan fan.now)) (file_of (parts_of_fan fan.now)) }
 {
@@ -153,7 +154,7 @@ pub fn fan_is_read_again(fan: &Fan)
     vectors_are_few(fan.lineality());
 }
 
-/// The fan that is read of the text of a fan whose ambient dimension is from 1 to 16: it has the same cones, each of them, and is
+/// The fan that is read of the text of a fan whose ambient dimension is from 1 to `MOST_VARIABLES`: it has the same cones, each of them, and is
 /// written as the same text.
 ///
 /// # Errors
@@ -164,7 +165,7 @@ pub fn fan_is_read_again(fan: &Fan)
 /// There is no other refusal.
 pub fn read_again(alloc: Global, fan: &Fan) -> Result<Fan, FanFileError>
     requires positive { 0 < fan.now.ambient }
-    requires dimension { fan.now.ambient ≤ 16 }
+    requires dimension { fan.now.ambient ≤ MOST_VARIABLES }
     ensures cones { IfOk result (HaveSameCones fan.now) }
     ensures text { IfOk result (λ h. fan_text (parts_of_fan h) ≡ fan_text (parts_of_fan fan.now)) }
     ensures err { IfErr result (IsFileLimit (file_of (parts_of_fan fan.now))) }

@@ -15,7 +15,7 @@ pub enum FanFileError {
     Syntax(Syntax),
     /// The number that begins there passes its limit.
     TooWide { at: u64 },
-    /// The ambient dimension is above 16.
+    /// The ambient dimension is above `MOST_VARIABLES`.
     TooManyVariables { count: u64 },
     /// A step of a system of inequalities and equations leaves the range of 128 bits.
     Cone(ConeOverflow),

@@ -3,6 +3,7 @@ ghost use Rattle.std.specs.Prelude.{◌≡◌, ◌⊎◌, ◌≤◌, length, IfO
 ghost use Rattle.gf_gordan.specs.Alternative.{AreRows};
 ghost use Rattle.gf_gordan.specs.Steps.{Failed};
 ghost use Rattle.gf_fans.specs.FaceLists.{numbered};
+ghost use Rattle.gf_text.specs.declared.TheConstants.{MOST_VARIABLES};
 ghost use Rattle.gf_fanfile.specs.declared.error.FanFileError.TheVariants.{Memory};
 ghost use Rattle.gf_fanfile.specs.Files.{IsFileOf, AreBelow, IsSoundFile, IsOfLimits};
 ghost use Rattle.gf_fanfile.specs.FilesFans.{IsGeneratedCone, IsConeOfFile, AreConesOfFile, IsFanOfFile, IsFanOfText, IsGeneratingStep, IsConesStep, IsFileWithinLimits, AreFileConesMeeting, IsFanFault, IsFanFileRefusal};
@@ -79,7 +80,7 @@ fn cones_of(alloc: Global, file: &FanFile) -> Result<Vec<Rays>, GordanError>
 /// The fan of the cones of a file. Cones are counted in 32 bits.
 fn fan_of(alloc: Global, file: &FanFile) -> Result<Fan, FanFileError>
     requires sound { IsSoundFile file.now }
-    requires ambient { file.now.ambient ≤ 16 }
+    requires ambient { file.now.ambient ≤ MOST_VARIABLES }
     ensures ok { IfOk result (IsFanOfFile file.now) }
     ensures err { IfErr result (λ e. IsFanFault file.now e ⊎ (e ≡ Memory)) }
 {
@@ -105,7 +106,7 @@ fn fan_of(alloc: Global, file: &FanFile) -> Result<Fan, FanFileError>
 /// `Memory` may come at any time; there is none for `2^32` cones or more.
 pub fn read(alloc: Global, source: &[u8]) -> Result<Fan, FanFileError>
     ensures fan { IfOk result (IsFanOfText source.now) }
-    ensures ambient { IfOk result (λ h. h.ambient ≤ 16) }
+    ensures ambient { IfOk result (λ h. h.ambient ≤ MOST_VARIABLES) }
     ensures err { IfErr result (IsFanFileRefusal source.now) }
     ensures complete { (f : FanFile) → IsFileOf source.now f → IsSoundFile f → IsFileWithinLimits f → AreFileConesMeeting f → MatchResult result (IsFanOfFile f) (λ e. e ≡ Memory) }
     ensures always { (e : FanFileError) → IsFanFileRefusal source.now e → (IsOfLimits e → ⊥) → MatchResult result (λ _. ⊥) (λ d. (d ≡ e) ⊎ IsOfLimits d) }

@@ -3,6 +3,7 @@ ghost use Rattle.std.specs.Prelude.{◌≡◌, ◌⊎◌, ◌<◌, ◌≤◌, �
 ghost use Rattle.gf_gordan.specs.Alternative.{AreRows};
 ghost use Rattle.gf_gordan.specs.Steps.{Failed};
 ghost use Rattle.gf_duality.specs.Rays.{Generated};
+ghost use Rattle.gf_text.specs.declared.TheConstants.{MOST_VARIABLES};
 ghost use Rattle.gf_fanfile.specs.declared.error.FanFileError.TheVariants.{Memory};
 ghost use Rattle.gf_fanfile.specs.Contents.{Says};
 ghost use Rattle.gf_fanfile.specs.Files.{IsFileOf, IsOutside, AreBelow, IsSoundFile, IsRayTestStep, AreTestsWithin, IsBehind, IsLengthFault, IsRayFault, IsNumberFault, IsFormFault, IsFileRefused, IsOfLimits};
@@ -31,7 +32,7 @@ pub struct FanFile {
 
 /// The file that these contents of a text make, where all four are there.
 fn whole(contents: Contents) -> Result<FanFile, FanFileError>
-    requires { IfSome contents.ambient (λ n. n ≤ 16) }
+    requires { IfSome contents.ambient (λ n. n ≤ MOST_VARIABLES) }
     ensures file { IfOk result (λ f. (source : List ℕ) → Says source contents → IsFileOf source f) }
     ensures missing { IfErr result (λ e. (source : List ℕ) → Says source contents → IsFileRefused source e) }
 {
@@ -188,7 +189,7 @@ fn check(alloc: Global, file: &FanFile) -> Result<(), FanFileError>
 /// # Errors
 /// In this order, and the first that holds:
 /// - `Syntax`, `TooWide` and `TooManyVariables` at the first place of the text where nothing that is read goes on to a
-///   file's section, where a section's name comes a second time, or where the ambient dimension passes 16;
+///   file's section, where a section's name comes a second time, or where the ambient dimension passes `MOST_VARIABLES`;
 /// - `Missing`: the first of the four sections that isn't there;
 /// - `Dimensions`: the ambient dimension is 0; the first row of the rays, and then of the lineality space, that hasn't as many
 ///   entries;

@@ -9,7 +9,7 @@ ghost use Rattle.gf_fanfile.specs.Given.{number_move};
 use crate::cones::MOST_NUMBER;
 use crate::error::{FanFileError, Reason, refused};
 use crate::places::{Place, content_at, place_of, text_of, token_at};
-use gf_text::{Number, number_of};
+use gf_text::{MOST_VARIABLES, Number, number_of};
 
 /// Before the number, behind it, or behind its line.
 #[derive(Clone, Copy)]
@@ -28,7 +28,7 @@ pub(crate) enum NumberStep {
 }
 
 /// The greatest ambient dimension.
-const MOST_DIMENSION: u64 = 16;
+const MOST_DIMENSION: u64 = MOST_VARIABLES as u64;
 
 /// What a token does.
 fn step(state: NumberState, t: &[u8]) -> NumberStep
@@ -55,10 +55,10 @@ fn step(state: NumberState, t: &[u8]) -> NumberStep
     }
 }
 
-/// The first number, where it is above 16 but not too wide.
+/// The first number, where it is above `MOST_VARIABLES` but not too wide.
 fn above(source: &[u8], place: Place) -> Option<u64>
     requires { IsPlaceWithin source.now place }
-    ensures { MatchOption result (is_above 16 (tokens_left source.now place) ≡ false) (λ n. (is_above 16 (tokens_left source.now place) ≡ true) × (n ≡ first_value (tokens_left source.now place))) }
+    ensures { MatchOption result (is_above MOST_VARIABLES (tokens_left source.now place) ≡ false) (λ n. (is_above MOST_VARIABLES (tokens_left source.now place) ≡ true) × (n ≡ first_value (tokens_left source.now place))) }
 {
     let Some((token, _)) = token_at(source, place) else {
         return None;
@@ -72,7 +72,7 @@ fn above(source: &[u8], place: Place) -> Option<u64>
 /// The ambient dimension in the content that begins at this place of the source.
 pub(crate) fn dimension_from(source: &[u8], from: usize) -> Result<u64, FanFileError>
     requires { from ≤ length source.now }
-    ensures { IsReadSo (λ n. the_number n) result (content_read (length source.now) (number_to 16) (content_from source.now from)) }
+    ensures { IsReadSo (λ n. the_number n) result (content_read (length source.now) (number_to MOST_VARIABLES) (content_from source.now from)) }
 {
     let (mut place, _) = content_at(source, from);
     if let Some(count) = above(source, place) {

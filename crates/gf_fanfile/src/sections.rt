@@ -1,5 +1,6 @@
 //! The sections of a fan file, from left to right.
 ghost use Rattle.std.specs.Prelude.{◌≡◌, ◌≤◌, ◌<◌, [], None, length, IfOk, IfSome, MatchOption, MatchResult};
+ghost use Rattle.gf_text.specs.declared.TheConstants.{MOST_VARIABLES};
 ghost use Rattle.gf_text.specs.Tokens.{lexeme};
 ghost use Rattle.gf_fanfile.specs.Lines.{sections_from, content_from, with_name};
 ghost use Rattle.gf_fanfile.specs.FanText.{content_read, kind_in, fan_table, text_read};
@@ -117,7 +118,7 @@ fn with_section(
 /// What the sections of a text hold.
 pub(crate) fn contents_of(alloc: Global, source: &[u8]) -> Result<Contents, FanFileError>
     ensures says { MatchResult result (Says source.now) (λ e. IsRefusedSo e (text_read fan_table source.now)) }
-    ensures dimension { IfOk result (λ c. IfSome c.ambient (λ n. n ≤ 16)) }
+    ensures dimension { IfOk result (λ c. IfSome c.ambient (λ n. n ≤ MOST_VARIABLES)) }
 {
     let mut names = DifferentNames::new(alloc);
     let mut contents = Contents::none();

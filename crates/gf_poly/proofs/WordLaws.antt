@@ -1,7 +1,7 @@
 -- The word of the variables that occur in a monomial: of products, of least common multiples, of divisors, and in comparisons by lex.
 -- To cite: word_set, word_kept, word-ones, word-raised, word-plus, word-join, within_word, compare-by_words. The rest are steps.
 use Rattle.std.specs.Prelude.{◌≡◌, ◌≢◌, ℕ, zero, suc, ◌+◌, ◌-◌, ◌*◌, ◌/◌, ◌%◌, ◌^◌, ◌<◌, ◌≤◌, ◌⊎◌, [], ◌∷◌, length, replicate, take, min, bit_and, bit_or, bit_xor}
-use Rattle.std.specs.Int.{bit_at, w16}
+use Rattle.std.specs.Int.{bit_at, w32}
 use Rattle.std.specs.Ordering.{nat_cmp, ordering_then}
 use Rattle.std.specs.Cmp.{nat_cmp_is}
 use Rattle.std.specs.declared.cmp.Ordering.TheVariants.{Less, Greater}
@@ -10,8 +10,9 @@ use Rattle.std.proofs.Math.ListN.{set}
 use Rattle.std.specs.Int.Bits.{xor_zero_r}
 use Rattle.std.proofs.lemmas.List.{length-take}
 use Rattle.std.proofs.lemmas.Bool.{cases_lt}
-use Rattle.std.proofs.lemmas.Nat.{shr_split, div_below, xor_lt, and_le_l, pow_pos}
-use Rattle.std.proofs.Math.Nat.{pow-suc}
+use Rattle.std.proofs.lemmas.Nat.{shr_split, div_below, or_lt, xor_lt, and_le_l, pow_pos}
+use Rattle.std.proofs.Math.Nat.{pow-suc, mod-le}
+use Rattle.std.proofs.Math.Pow.{pow-lt}
 use Rattle.std.proofs.lemmas.Nat.Bits.{bit_at-zero, bit_at_and, bit_at_or, bit_at_set_same, bit_at_set_other, bit_at_above, bit_at_xor, same_from_bits_below}
 use Rattle.gf_exponents.specs.Exponents.{Exponents, entry, plus, join, Divides}
 use Rattle.gf_exponents.specs.Orders.{lex}
@@ -21,19 +22,23 @@ use Rattle.gf_poly.specs.Monomial.{IsWordOf}
 use Rattle.gf_poly.proofs.MonomialLaws.{same_or_not, entry-take_more, entry-take_last, entries_by_divides, entry-ones, entry-raised, entry-set_other}
 
 -- ---- one variable more
+-- the bit of variable i
+bit_fits : (i : ℕ) → 1 * 2 ^ (ROOM - 1 - i) % 2 ^ 32 < 2 ^ ROOM
+bit_fits i = omega (arith, mod-le (1 * 2 ^ (ROOM - 1 - i)) (2 ^ 32), pow-lt {i = ROOM - 1 - i} {j = ROOM} (omega arith))
+
 -- it occurs
-pub word_set : (x z : Exponents) (i w : ℕ) → i < ROOM → 0 < entry z i → ((k : ℕ) → k ≢ i → entry z k ≡ entry x k) → IsWordOf x w → IsWordOf z (bit_or w (1 * 2 ^ (15 - i) % 2 ^ 16))
-word_set x z i w r p same h = record { bits = λ k j e. place k j e (same_or_not k i) }
+pub word_set : (x z : Exponents) (i w : ℕ) → i < ROOM → 0 < entry z i → ((k : ℕ) → k ≢ i → entry z k ≡ entry x k) → IsWordOf x w → IsWordOf z (bit_or w (1 * 2 ^ (ROOM - 1 - i) % 2 ^ 32))
+word_set x z i w r p same h = record { fits = or_lt ROOM w (1 * 2 ^ (ROOM - 1 - i) % 2 ^ 32) h.fits (bit_fits i); bits = λ k j e. place k j e (same_or_not k i) }
   where
-    place : (k j : ℕ) → k + j + 1 ≡ ROOM → (k ≡ i) ⊎ (k ≢ i) → bit_at (bit_or w (1 * 2 ^ (15 - i) % 2 ^ 16)) j ≡ min (entry z k) 1
+    place : (k j : ℕ) → k + j + 1 ≡ ROOM → (k ≡ i) ⊎ (k ≢ i) → bit_at (bit_or w (1 * 2 ^ (ROOM - 1 - i) % 2 ^ 32)) j ≡ min (entry z k) 1
     place k j e (inl q) =
-        let here : j ≡ 15 - i = omega arith in
-        omega (arith, ap (λ n. bit_at (bit_or w (1 * 2 ^ (15 - i) % 2 ^ 16)) n) here, bit_at_set_same w16 w (15 - i) (omega arith), ap (λ n. entry z n) q)
-    place k j e (inr d) = bit_at_set_other w16 w (15 - i) (omega arith) j (λ q. d (omega arith)) ∙ h.bits k j e ∙ ap (λ n. min n 1) (sym (same k d))
+        let here : j ≡ ROOM - 1 - i = omega arith in
+        omega (arith, ap (λ n. bit_at (bit_or w (1 * 2 ^ (ROOM - 1 - i) % 2 ^ 32)) n) here, bit_at_set_same w32 w (ROOM - 1 - i) (omega arith), ap (λ n. entry z n) q)
+    place k j e (inr d) = bit_at_set_other w32 w (ROOM - 1 - i) (omega arith) j (λ q. d (omega arith)) ∙ h.bits k j e ∙ ap (λ n. min n 1) (sym (same k d))
 
 -- among the first i + 1 exponents, and it doesn't occur
 pub word_kept : (x : Exponents) (i w : ℕ) → entry x i ≡ 0 → IsWordOf (take i x) w → IsWordOf (take (i + 1) x) w
-word_kept x i w z h = record { bits = λ k j e. h.bits k j e ∙ ap (λ n. min n 1) (same k (same_or_not k i)) }
+word_kept x i w z h = record { fits = h.fits; bits = λ k j e. h.bits k j e ∙ ap (λ n. min n 1) (same k (same_or_not k i)) }
   where
     same : (k : ℕ) → (k ≡ i) ⊎ (k ≢ i) → entry (take i x) k ≡ entry (take (i + 1) x) k
     same k (inl q) = ap (λ n. entry (take i x) n) q ∙ entry-past (take i x) i (omega (arith, length-take i x)) ∙ sym z ∙ sym (entry-take_last x i) ∙ ap (λ n. entry (take (i + 1) x) n) (sym q)
@@ -41,20 +46,23 @@ word_kept x i w z h = record { bits = λ k j e. h.bits k j e ∙ ap (λ n. min n
 
 -- ---- the monomial 1, a power more, products, least common multiples, divisors
 pub word-ones : (n : ℕ) → IsWordOf (replicate n 0) 0
-word-ones n = record { bits = λ i j e. omega (arith, bit_at-zero j, entry-ones n i) }
+word-ones n = record { fits = pow_pos ROOM; bits = λ i j e. omega (arith, bit_at-zero j, entry-ones n i) }
 
-pub word-raised : (x : Exponents) (i by w : ℕ) → i < length x → i < 16 → 0 < by → IsWordOf x w → IsWordOf (set x i (get_or x i 0 + by)) (bit_or w (1 * 2 ^ (15 - i) % 2 ^ 16))
+pub word-raised : (x : Exponents) (i by w : ℕ) → i < length x → i < ROOM → 0 < by → IsWordOf x w → IsWordOf (set x i (get_or x i 0 + by)) (bit_or w (1 * 2 ^ (ROOM - 1 - i) % 2 ^ 32))
 word-raised x i by w l r p h = word_set x (set x i (get_or x i 0 + by)) i w r (omega (arith, entry-raised x i by l)) (λ k d. entry-set_other x i k (get_or x i 0 + by) d) h
 
 pub word-plus : (x y : Exponents) (v w : ℕ) → IsWordOf x v → IsWordOf y w → IsWordOf (plus x y) (bit_or v w)
-word-plus x y v w h k = record { bits = λ i j e. omega (arith, bit_at_or v w j, h.bits i j e, k.bits i j e, entry-plus x y i) }
+word-plus x y v w h k = record { fits = or_lt ROOM v w h.fits k.fits; bits = λ i j e. omega (arith, bit_at_or v w j, h.bits i j e, k.bits i j e, entry-plus x y i) }
 
 pub word-join : (x y : Exponents) (v w : ℕ) → IsWordOf x v → IsWordOf y w → IsWordOf (join x y) (bit_or v w)
-word-join x y v w h k = record { bits = λ i j e. omega (arith, bit_at_or v w j, h.bits i j e, k.bits i j e, entry-join x y i) }
+word-join x y v w h k = record { fits = or_lt ROOM v w h.fits k.fits; bits = λ i j e. omega (arith, bit_at_or v w j, h.bits i j e, k.bits i j e, entry-join x y i) }
 
 -- each variable of a divisor occurs in its multiples
-pub within_word : (x y : Exponents) (v w : ℕ) → v < 2 ^ 16 → IsWordOf x v → IsWordOf y w → Divides x y → bit_and v w ≡ v
-within_word x y v w l h k d = same_from_bits_below 16 (bit_and v w) v (omega (arith, and_le_l v w)) l (λ j b. let e : 15 - j + j + 1 ≡ ROOM = omega arith in omega (arith, bit_at_and v w j, h.bits (15 - j) j e, k.bits (15 - j) j e, entries_by_divides x y d (15 - j)))
+pub within_word : (x y : Exponents) (v w : ℕ) → IsWordOf x v → IsWordOf y w → Divides x y → bit_and v w ≡ v
+within_word x y v w h k d = same_from_bits_below ROOM (bit_and v w) v (omega (arith, h.fits, and_le_l v w)) h.fits place
+  where
+    place : (j : ℕ) → j < ROOM → bit_at (bit_and v w) j ≡ bit_at v j
+    place j b = let e : ROOM - 1 - j + j + 1 ≡ ROOM = omega arith in omega (arith, bit_at_and v w j, h.bits (ROOM - 1 - j) j e, k.bits (ROOM - 1 - j) j e, entries_by_divides x y d (ROOM - 1 - j))
 
 -- ---- comparisons by lex
 -- the m bits of w, from the highest, say which of the first m variables occur in x
@@ -100,5 +108,5 @@ compare_in (suc m) (suc a ∷ x) (suc b ∷ y) v w h k d = absurd (omega (
 ))
 
 -- where a variable occurs in one of the two alone, and none before the first such one in both
-pub compare-by_words : (x y : Exponents) (v w : ℕ) → v < 2 ^ 16 → w < 2 ^ 16 → IsWordOf x v → IsWordOf y w → bit_and v w < bit_xor v w → lex x y ≡ nat_cmp v w
-compare-by_words x y v w lv lw h k d = compare_in 16 x y v w (record { fits = lv; bits = h.bits }) (record { fits = lw; bits = k.bits }) d
+pub compare-by_words : (x y : Exponents) (v w : ℕ) → IsWordOf x v → IsWordOf y w → bit_and v w < bit_xor v w → lex x y ≡ nat_cmp v w
+compare-by_words x y v w h k d = compare_in ROOM x y v w (record { fits = h.fits; bits = h.bits }) (record { fits = k.fits; bits = k.bits }) d

@@ -8,8 +8,9 @@ use Rattle.gf_exponents.specs.Exponents.{Exponents, entry, degree}
 use Rattle.gf_poly.specs.declared.TheConstants.{ROOM}
 use Rattle.gf_poly.specs.declared.monomial.ExponentOverflow.{ExponentOverflow}
 
--- the bits of w, the highest first, say of each variable whether it occurs in x
+-- the ROOM bits of w, the highest first, say of each variable whether it occurs in x, and no bit past them is set
 pub record IsWordOf (x : Exponents) (w : ℕ) : Type 0 where
+  pub fits : w < 2 ^ ROOM
   pub bits : (i j : ℕ) → i + j + 1 ≡ ROOM → bit_at w j ≡ min (entry x i) 1
 
 -- what is kept of a monomial: its exponents, inline, their sum, and the word of the variables that occur

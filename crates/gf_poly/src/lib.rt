@@ -30,7 +30,7 @@ pub use monomial::{ExponentOverflow, Mono};
 pub use polynomial::Poly;
 
 /// The number of variables that a monomial has room for, without an allocation.
-pub const ROOM: usize = 16;
+pub const ROOM: usize = 25;
 
 /// A term of a polynomial: a coefficient and a monomial.
 #[derive(Drop)]

@@ -18,7 +18,7 @@ const MOST: u32 = (1 << 31) - 1;
 #[derive(Drop)]
 pub struct Mono {
     total: u64,
-    word: u16,
+    word: u32,
     exponents: SmallVec<u32, ROOM>,
 }
 
@@ -53,12 +53,12 @@ fn total_of(exponents: &[u32]) -> u64
     total
 }
 
-// The word of the variables that occur, the first variable's bit the highest: set where the exponent is another than 0.
-fn word_of(exponents: &[u32]) -> u16
+// The word of the variables that occur, the first variable's bit the highest of `ROOM`: set where the exponent is another than 0.
+fn word_of(exponents: &[u32]) -> u32
     requires { length exponents.now ≤ ROOM }
     ensures { IsWordOf exponents.now result }
 {
-    let mut word = 0u16;
+    let mut word = 0u32;
     'entries: for i in 0..exponents.len() {
         if exponents[i] != 0 {
             word |= 1 << (ROOM - 1 - i);
@@ -91,7 +91,7 @@ fn sums(x: &[u32], y: &[u32]) -> Result<[u32; ROOM], ExponentOverflow>
 }
 
 // Whether each variable of the word `x` is one of the word `y`.
-fn is_within(x: u16, y: u16) -> bool
+fn is_within(x: u32, y: u32) -> bool
     ensures { IsTrue result ↔ (bit_and x y ≡ x) }
 {
     x & y == x
@@ -99,7 +99,7 @@ fn is_within(x: u16, y: u16) -> bool
 
 // Whether a variable is in one of the two words alone, and none before the first such one is in both. Monomials with these
 // words then compare by lex as the words do.
-fn words_decide(x: u16, y: u16) -> bool
+fn words_decide(x: u32, y: u32) -> bool
     ensures { IsTrue result ↔ (bit_and x y < bit_xor x y) }
 {
     x & y < x ^ y
@@ -145,13 +145,31 @@ fn maxima(x: &[u32], y: &[u32]) -> [u32; ROOM]
     all
 }
 
+// The exponents, and zeros behind them.
+fn padded(exponents: &[u32]) -> [u32; ROOM]
+    requires { length exponents.now ≤ ROOM }
+    ensures { take (length exponents.now) result ≡ exponents.now }
+{
+    let mut all = [0; ROOM];
+    'entries: for i in 0..exponents.len() {
+        all[i] = exponents[i];
+    }
+    all
+}
+
 impl Mono {
     /// The monomial with these exponents, one for each variable.
     pub fn new(alloc: Global, exponents: &[u32]) -> Mono
         requires { IsMonomial exponents.now }
         ensures { result ≡ exponents.now }
     {
-        Mono::known(alloc, exponents, total_of(exponents), word_of(exponents))
+        Mono::known(
+            alloc,
+            padded(exponents),
+            exponents.len(),
+            total_of(exponents),
+            word_of(exponents),
+        )
     }
 
     /// The monomial 1 in n variables, at most `ROOM`.
@@ -166,17 +184,18 @@ impl Mono {
         }
     }
 
-    // The monomial with these exponents, whose sum and word are known.
-    fn known(alloc: Global, exponents: &[u32], total: u64, word: u16) -> Mono
-        requires exponents { IsMonomial exponents.now }
-        requires total { total ≡ total_degree exponents.now }
-        requires word { IsWordOf exponents.now word }
-        ensures { result ≡ exponents.now }
+    // The monomial with the first `n` of these exponents, whose sum and word are known.
+    fn known(alloc: Global, all: [u32; ROOM], n: usize, total: u64, word: u32) -> Mono
+        requires room { n ≤ ROOM }
+        requires exponents { IsMonomial (take n all) }
+        requires total { total ≡ total_degree (take n all) }
+        requires word { IsWordOf (take n all) word }
+        ensures { result ≡ take n all }
     {
         Mono {
             total,
             word,
-            exponents: SmallVec::from_slice(alloc, exponents).unwrap(),
+            exponents: SmallVec::from_buf_and_len(alloc, all, n),
         }
     }
 
@@ -192,9 +211,11 @@ impl Mono {
     pub fn copy(&self) -> Mono
         ensures { result ≡ self.now }
     {
+        let x = self.exponents();
         Mono::known(
             *self.exponents.allocator(),
-            self.exponents(),
+            padded(x),
+            x.len(),
             self.total,
             self.word,
         )
@@ -208,7 +229,7 @@ impl Mono {
     }
 
     // The word of the variables that occur.
-    fn word(&self) -> u16
+    fn word(&self) -> u32
         ensures { IsWordOf self.now result }
     {
         self.word
@@ -261,7 +282,8 @@ impl Mono {
         let all = sums(x, other.exponents())?;
         Ok(Mono::known(
             *self.exponents.allocator(),
-            &all[..x.len()],
+            all,
+            x.len(),
             self.total + other.total,
             self.word | other.word,
         ))
@@ -284,12 +306,13 @@ impl Mono {
     {
         let x = self.exponents();
         let all = differences(x, by.exponents());
-        let quotient = &all[..x.len()];
+        let word = word_of(&all[..x.len()]);
         Mono::known(
             *self.exponents.allocator(),
-            quotient,
+            all,
+            x.len(),
             self.total - by.total,
-            word_of(quotient),
+            word,
         )
     }
 
@@ -300,11 +323,12 @@ impl Mono {
     {
         let x = self.exponents();
         let all = maxima(x, other.exponents());
-        let multiple = &all[..x.len()];
+        let total = total_of(&all[..x.len()]);
         Mono::known(
             *self.exponents.allocator(),
-            multiple,
-            total_of(multiple),
+            all,
+            x.len(),
+            total,
             self.word | other.word,
         )
     }

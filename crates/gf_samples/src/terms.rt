@@ -33,7 +33,7 @@ fn term<const N: usize>(alloc: Global, coef: i128, exponents: [u32; N]) -> Optio
 /// # Errors
 ///
 /// `Overflow` where a sum of like terms doesn't fit; `Memory` also where a coefficient is `-2^127`, an exponent is `2^31` or
-/// more, or there are more than 16 variables.
+/// more, or there are more than `ROOM` variables.
 #[tactic(auto, using(crate::proofs::PushLaws::terms_push))]
 pub fn poly<const N: usize>(alloc: Global, rows: &[(i128, [u32; N])]) -> Result<Poly, PolyError>
     ensures { IfOk result (HasVariables N) }

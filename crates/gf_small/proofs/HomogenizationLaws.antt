@@ -14,6 +14,7 @@ use Rattle.gf_frac.specs.declared.refusal.Overflow.{Overflow}
 use Rattle.gf_exponents.specs.Exponents.{Exponents, same, degree}
 use Rattle.gf_exponents.specs.Orders.{deglex, lex}
 use Rattle.gf_exponents.proofs.ExponentsLaws.{entries_same, same_lists}
+use Rattle.gf_poly.specs.declared.TheConstants.{ROOM}
 use Rattle.gf_poly.specs.declared.Term.{Term}
 use Rattle.gf_poly.specs.declared.monomial.ExponentOverflow.{ExponentOverflow}
 use Rattle.gf_poly.specs.Monomial.{IsMonomial}
@@ -22,6 +23,7 @@ use Rattle.gf_poly.specs.Collecting.{like, IsLikeSumOverflow}
 use Rattle.gf_poly.specs.Marking.{MarkedPolynomial, HasMarkedTerm, head_of}
 use Rattle.gf_poly.proofs.CoefficientLaws.{term_length, term_nonzero, term_coefficient}
 use Rattle.gf_poly.proofs.DescendingLaws.{equal_same, never_greater}
+use Rattle.gf_text.specs.declared.TheConstants.{MOST_VARIABLES}
 use Rattle.gf_text.specs.declared.written.Written.{Written}
 use Rattle.gf_text.specs.declared.written.Written.TheVariants as written
 use Rattle.gf_text.specs.Sets.{IsIn, AreIn}
@@ -63,7 +65,7 @@ degree_at (s ∷ f) (suc i) t l e = omega (arith, degree_at f i t (omega arith) 
 
 -- ---- a monomial
 
-pub filled-monomial : (x : Exponents) (e : ℕ) → length x < 16 → IsMonomial x → e < 2 ^ 31 → IsMonomial (x ++ e ∷ [])
+pub filled-monomial : (x : Exponents) (e : ℕ) → length x < ROOM → IsMonomial x → e < 2 ^ 31 → IsMonomial (x ++ e ∷ [])
 filled-monomial x e l m h = record { room = omega (arith, length-append x (e ∷ [])); limit = All-push (λ (k : ℕ). k < 2 ^ 31) x e m.limit h }
 
 -- ---- the terms
@@ -311,7 +313,7 @@ exponent_along (errors.TooManyVariables count) f h = h
 exponent_along (errors.Exponent o) f h = f o h
 exponent_along errors.Memory f h = tt
 
-pub homogenize_cause : (n : ℕ) (fs : List Written) (e : SmallError) → n < 16 → HasExponent (IsFirstExponentPastLimit fs) e → IsHomogenizeCause n fs e
+pub homogenize_cause : (n : ℕ) (fs : List Written) (e : SmallError) → n < MOST_VARIABLES → HasExponent (IsFirstExponentPastLimit fs) e → IsHomogenizeCause n fs e
 homogenize_cause n fs (errors.TooManyVariables count) l h = absurd h
 homogenize_cause n fs (errors.Exponent o) l h = (l, h)
 homogenize_cause n fs errors.Memory l h = tt

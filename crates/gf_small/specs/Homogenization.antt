@@ -7,6 +7,7 @@ use Rattle.gf_poly.specs.declared.Term.{Term}
 use Rattle.gf_poly.specs.declared.monomial.ExponentOverflow.{ExponentOverflow}
 use Rattle.gf_poly.specs.Polynomial.{Terms, SamePolynomial, IsDescending, HasVariables}
 use Rattle.gf_poly.specs.Marking.{MarkedPolynomial}
+use Rattle.gf_text.specs.declared.TheConstants.{MOST_VARIABLES}
 use Rattle.gf_text.specs.declared.written.Written.{Written}
 use Rattle.gf_text.specs.declared.written.Written.TheVariants as written
 use Rattle.gf_small.specs.declared.homogenization.SmallError.{SmallError}
@@ -86,11 +87,11 @@ pub record IsFirstExponentPastLimit (fs : List Written) (o : ExponentOverflow) :
   pub before : All IsHomogenizedWithinLimit earlier
   pub past : IsPastLimitIn polynomial o
 
--- why polynomials in n variables aren't homogenised: there would be more than 16 variables; or there is room, and a new
+-- why polynomials in n variables aren't homogenised: there would be more than MOST_VARIABLES; or there is room, and a new
 -- exponent passes the limit; or there is no memory
 abbrev pub IsHomogenizeCause : ℕ → List Written → SmallError → Type 0
-IsHomogenizeCause n fs (errors.Exponent o) = (n < 16) × IsFirstExponentPastLimit fs o
-IsHomogenizeCause n fs (errors.TooManyVariables count) = (16 < n + 1) × (count ≡ n + 1)
+IsHomogenizeCause n fs (errors.Exponent o) = (n < MOST_VARIABLES) × IsFirstExponentPastLimit fs o
+IsHomogenizeCause n fs (errors.TooManyVariables count) = (MOST_VARIABLES < n + 1) × (count ≡ n + 1)
 IsHomogenizeCause n fs errors.Memory = Unit {0}
 
 -- ---- inside

@@ -12,7 +12,7 @@ ghost use Rattle.gf_small.specs.Homogenization.{new_exponent as exponent_of, fil
 use crate::degrees::total_degree;
 use gf_division::place_of;
 use gf_poly::{ExponentOverflow, Marked, Mono, Poly, PolyError, ROOM, Term};
-use gf_text::{Ring, Written};
+use gf_text::{MOST_VARIABLES, Ring, Written};
 use std::alloc::{AllocError, AllocFailed, Global};
 
 /// The greatest exponent.
@@ -23,7 +23,7 @@ const MOST: u64 = (1 << 31) - 1;
 pub enum SmallError {
     /// An exponent of the new variable passes `2^31 - 1`: this limit, and what the exponent is more.
     Exponent(ExponentOverflow),
-    /// There would be so many variables, more than 16.
+    /// There would be so many variables, more than `MOST_VARIABLES`.
     TooManyVariables { count: u64 },
     /// There is no memory.
     Memory,
@@ -192,7 +192,7 @@ fn homogenizations(alloc: Global, n: u32, set: &[Written]) -> Result<Vec<Written
 ///
 /// # Errors
 ///
-/// - `TooManyVariables` exactly where the ring has 16 variables already; it holds the new number.
+/// - `TooManyVariables` exactly where the ring has `MOST_VARIABLES` variables already; it holds the new number.
 /// - `Exponent` exactly where there is room, and a new exponent is above `2^31 - 1`. It holds this limit and what the exponent is more,
 ///   for the first polynomial with such a term, and of it for the deglex greatest such term.
 pub fn homogenize(
@@ -207,14 +207,16 @@ pub fn homogenize(
     ensures ring { IfOk result (λ h. h.0 ≡ ring.now ++ name.now ∷ []) }
     ensures set { IfOk result (λ h. AreHomogenizations set.now h.1.items) }
     ensures variables { IfOk result (λ h. AreIn (length h.0) h.1.items) }
-    ensures room { IfOk result (λ _. length ring.now < 16) }
+    ensures room { IfOk result (λ _. length ring.now < MOST_VARIABLES) }
     ensures fits { IfOk result (λ _. All IsHomogenizedWithinLimit set.now) }
     ensures cause { IfErr result (IsHomogenizeCause (length ring.now) set.now) }
-    ensures complete { length ring.now < 16 → All IsHomogenizedWithinLimit set.now → IfErr result (λ e. e ≡ Memory) }
+    ensures complete { length ring.now < MOST_VARIABLES → All IsHomogenizedWithinLimit set.now → IfErr result (λ e. e ≡ Memory) }
 {
     let n = ring.len();
-    if n == 16 {
-        return Err(SmallError::TooManyVariables { count: 17 });
+    if n as usize >= MOST_VARIABLES {
+        return Err(SmallError::TooManyVariables {
+            count: u64::from(n) + 1,
+        });
     }
     let set = homogenizations(alloc, n, set)?;
     let ring = ring.extended(alloc, name)?;

@@ -4,6 +4,7 @@ ghost use Rattle.std.specs.Prelude.{◌≡◌, ◌⊎◌, ◌≤◌, ◌^◌, �
 ghost use Rattle.gf_exponents.specs.Exponents.{same, weight as weight_by};
 ghost use Rattle.gf_exponents.specs.Orders.{lighter};
 ghost use Rattle.gf_frac.specs.Fraction.{one_ℚ};
+ghost use Rattle.gf_poly.specs.declared.TheConstants.{ROOM};
 ghost use Rattle.gf_poly.specs.Polynomial.{HasVariables, coefficient};
 ghost use Rattle.gf_division.specs.Divisions.{IsDivisionRefusal};
 ghost use Rattle.gf_division.specs.MonicForms.{HasSomeVariables};
@@ -34,7 +35,7 @@ fn share(w: u8, exponent: u32) -> u64
 
 // The weight of a monomial.
 fn weight_of(weight: &[u8], mono: &Mono) -> u64
-    requires short { length weight.now ≤ 16 }
+    requires short { length weight.now ≤ ROOM }
     requires same_variables { length mono.now ≡ length weight.now }
     ensures { result ≡ weight_by weight.now mono.now }
 {
@@ -48,7 +49,7 @@ fn weight_of(weight: &[u8], mono: &Mono) -> u64
 
 // Whether a monomial is the marked one or lighter.
 fn is_within(weight: &[u8], mono: &Mono, head: &Mono) -> bool
-    requires short { length weight.now ≤ 16 }
+    requires short { length weight.now ≤ ROOM }
     requires same_variables { length mono.now ≡ length weight.now }
     requires of_head { length head.now ≡ length weight.now }
     ensures { IsTrue result → (same mono.now head.now ≡ true) ⊎ lighter weight.now mono.now head.now }
@@ -61,7 +62,7 @@ fn is_within(weight: &[u8], mono: &Mono, head: &Mono) -> bool
 
 // Whether the weight sets the marked monomial above the other ones.
 fn sets_above(weight: &[u8], b: &Marked) -> bool
-    requires short { length weight.now ≤ 16 }
+    requires short { length weight.now ≤ ROOM }
     requires variables { HasVariables (length weight.now) b.now.poly }
     ensures { IsTrue result → IsRealisedBy weight.now b.now }
 {
@@ -78,7 +79,7 @@ fn sets_above(weight: &[u8], b: &Marked) -> bool
 
 // Whether that weight does so for each member.
 fn realises(weight: &[u8], set: &MarkedSet) -> bool
-    requires short { length weight.now ≤ 16 }
+    requires short { length weight.now ≤ ROOM }
     requires variables { set.now.variables ≡ length weight.now }
     requires positive { IsPositive (length weight.now) weight.now }
     ensures { IsTrue result → IsRealisable set.now.variables set.now.items }
@@ -112,7 +113,7 @@ fn is_one(b: &Marked) -> bool
 
 // Whether the marked coefficient is 1, and the weight sets the marked monomial above the other ones.
 fn marks(weight: &[u8], b: &Marked) -> bool
-    requires short { length weight.now ≤ 16 }
+    requires short { length weight.now ≤ ROOM }
     requires variables { HasVariables (length weight.now) b.now.poly }
     ensures { IsTrue result → IsMarked (lighter weight.now) b.now }
 {
@@ -121,7 +122,7 @@ fn marks(weight: &[u8], b: &Marked) -> bool
 
 // Whether that holds of each member.
 fn marks_all(weight: &[u8], set: &MarkedSet) -> bool
-    requires short { length weight.now ≤ 16 }
+    requires short { length weight.now ≤ ROOM }
     requires variables { set.now.variables ≡ length weight.now }
     requires positive { IsPositive (length weight.now) weight.now }
     ensures { IsTrue result → HasPositiveWeight set.now.variables set.now.items }

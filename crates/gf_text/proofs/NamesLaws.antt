@@ -6,6 +6,7 @@ use Rattle.std.proofs.lemmas.Slice.Eq.{bytes_eq-Decides}
 use Rattle.std.proofs.lemmas.List.{map-append, get_or-map, take_more, length-map}
 use Rattle.std.specs.Bool.{Decides}
 use Rattle.std.specs.List.{list_any}
+use Rattle.gf_text.specs.declared.TheConstants.{MOST_VARIABLES}
 use Rattle.gf_text.specs.RingText.{is_name, has, AreNew, IsRing}
 
 same_either_way : (m n : List ℕ) → bytes_eq m n ≡ bytes_eq n m
@@ -52,7 +53,7 @@ new_last : (before ns : List (List ℕ)) (n : List ℕ) → AreNew before ns →
 new_last before [] n all named new = (named, subst (λ l. has l n ≡ false) (append-nil before) new, tt)
 new_last before (m ∷ ms) n all named new = (all.0, all.1, new_last (before ++ m ∷ []) ms n all.2 named (subst (λ l. has l n ≡ false) (sym (append_assoc before (m ∷ []) ms)) new))
 
-pub with_new : (names : List (List ℕ)) (n : List ℕ) → IsRing names → is_name n ≡ true → has names n ≡ false → length names < 16 → IsRing (names ++ n ∷ [])
+pub with_new : (names : List (List ℕ)) (n : List ℕ) → IsRing names → is_name n ≡ true → has names n ≡ false → length names < MOST_VARIABLES → IsRing (names ++ n ∷ [])
 with_new names n ring named new room = record {
   some = omega (arith, length-append names (n ∷ []));
   few = omega (arith, length-append names (n ∷ []));

@@ -3,6 +3,7 @@
 use Rattle.std.proofs.Common.{◌≡◌, ◌<◌, ◌≤◌, ℕ, zero, suc, ◌+◌, Bool, true, false, ◌||◌, List, [], ◌∷◌, ◌++◌, length, flat_map, Ok, refl, sym, ap, ◌∙◌, subst, inl, inr, append_assoc, append-nil, bytes_eq, arith, if◌then◌else◌, replicate}
 use Rattle.std.proofs.lemmas.List.{length-replicate}
 use Rattle.std.specs.List.{list_all}
+use Rattle.gf_text.specs.declared.TheConstants.{MOST_VARIABLES}
 use Rattle.gf_text.specs.declared.error.Cause.{Cause}
 use Rattle.gf_text.specs.declared.error.Cause.TheVariants.{Ended, Unexpected, RepeatedName, ZeroDenominator, TooWide, UnknownName}
 use Rattle.gf_text.specs.declared.error.TextError.{TextError}
@@ -291,7 +292,7 @@ ring_machine = record {
 pub ring_reads : (source : List ℕ) (from : ℕ) (names : Names) (place : ℕ) → ring_at source from ≡ Ok (names, place) → Reads IsRingText (lexemes word_more source from) names place
 ring_reads source from names place e = reads ring_step IsRingText (at.Letter, []) (length source) (lexemes word_more source from) names place (λ ts. ring_said ts names) e
 
-pub ring_read : (source : List ℕ) (from : ℕ) (names : Names) (place : ℕ) → ring_at source from ≡ Ok (names, place) → length names ≤ 16 → IsRingRead (record { source = source; at = from }) place names
+pub ring_read : (source : List ℕ) (from : ℕ) (names : Names) (place : ℕ) → ring_at source from ≡ Ok (names, place) → length names ≤ MOST_VARIABLES → IsRingRead (record { source = source; at = from }) place names
 ring_read source from names place e few =
     let r = ring_reads source from names place e in
     record { text = r; ring = record { some = r.text.some; few = few; different = r.text.different } }

@@ -6,6 +6,7 @@ use Rattle.std.specs.List.{list_any, list_all}
 use Rattle.gf_text.specs.Machine.{Move, go, done, halt, Fault, run}
 use Rattle.gf_text.specs.Marks.{bracket, comma, bracket_end}
 use Rattle.gf_text.specs.Tokens.{is_letter, is_name_byte, lexemes, word_more}
+use Rattle.gf_text.specs.declared.TheConstants.{MOST_VARIABLES}
 use Rattle.gf_text.specs.declared.error.Cause.TheVariants as cause
 use Rattle.gf_text.specs.declared.ring_reader.RingPlace.{RingPlace}
 use Rattle.gf_text.specs.declared.ring_reader.RingPlace.TheVariants as at
@@ -24,10 +25,10 @@ abbrev pub AreNew : List (List ℕ) → List (List ℕ) → Type 0
 AreNew before [] = Unit {0}
 AreNew before (n ∷ ns) = (is_name n ≡ true) × (has before n ≡ false) × AreNew (before ++ n ∷ []) ns
 
--- 1 to 16 different names
+-- 1 to MOST_VARIABLES different names
 pub record IsRing (names : List (List ℕ)) : Type 0 where
   pub some : 0 < length names
-  pub few : length names ≤ 16
+  pub few : length names ≤ MOST_VARIABLES
   pub different : AreNew [] names
 
 -- ---- the grammar

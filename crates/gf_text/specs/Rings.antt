@@ -1,5 +1,6 @@
 -- Rings as they are read.
 use Rattle.std.specs.Prelude.{◌≡◌, ℕ, ◌<◌, ◌+◌, ◌++◌, List, length}
+use Rattle.gf_text.specs.declared.TheConstants.{MOST_VARIABLES}
 use Rattle.gf_text.specs.declared.error.TextError.{TextError}
 use Rattle.gf_text.specs.declared.error.TextError.TheVariants as errors
 use Rattle.gf_text.specs.Machine.{Reads}
@@ -17,13 +18,13 @@ pub record IsRingRead (old : Position) (place : ℕ) (names : List (List ℕ)) :
 abbrev pub HasNoRing : Position → TextError → Type 0
 HasNoRing old e = IsNoText IsRingText IsRingKind (lexemes word_more old.source old.at) (length old.source) e
 
--- a ring's text stands there, and it has so many names, more than 16
+-- a ring's text stands there, and it has so many names, more than MOST_VARIABLES
 pub record HasTooMany (old : Position) (count : ℕ) : Type 0 where
   pub names : List (List ℕ)
   pub place : ℕ
   pub text : Reads IsRingText (lexemes word_more old.source old.at) names place
   pub number : length names ≡ count
-  pub many : 16 < count
+  pub many : MOST_VARIABLES < count
 
 -- why a ring is refused
 abbrev pub IsRingCause : Position → TextError → Type 0

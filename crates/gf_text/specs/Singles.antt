@@ -1,5 +1,6 @@
 -- Dimensions and names of new variables as they are read.
 use Rattle.std.specs.Prelude.{ℕ, ◌≤◌, ◌<◌, List, length}
+use Rattle.gf_text.specs.declared.TheConstants.{MOST_VARIABLES}
 use Rattle.gf_text.specs.declared.error.TextError.{TextError}
 use Rattle.gf_text.specs.declared.error.TextError.TheVariants as errors
 use Rattle.gf_text.specs.Machine.{Reads}
@@ -11,17 +12,17 @@ use Rattle.gf_text.specs.Given.{IsNoText}
 -- this dimension is read, and the reader goes to this place
 pub record IsDimensionRead (old : Position) (place n : ℕ) : Type 0 where
   pub text : Reads IsDimensionText (lexemes word_more old.source old.at) n place
-  pub few : n ≤ 16
+  pub few : n ≤ MOST_VARIABLES
 
 -- no dimension's text stands there, and the fault is of this kind
 abbrev pub HasNoDimension : Position → TextError → Type 0
 HasNoDimension old e = IsNoText IsDimensionText (IsNumberKind IsDimensionText) (lexemes word_more old.source old.at) (length old.source) e
 
--- a dimension's text stands there, and it is this one, more than 16
+-- a dimension's text stands there, and it is this one, more than MOST_VARIABLES
 pub record HasGreatDimension (old : Position) (count : ℕ) : Type 0 where
   pub place : ℕ
   pub text : Reads IsDimensionText (lexemes word_more old.source old.at) count place
-  pub many : 16 < count
+  pub many : MOST_VARIABLES < count
 
 -- why a dimension is refused
 abbrev pub IsDimensionCause : Position → TextError → Type 0

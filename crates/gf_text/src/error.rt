@@ -66,7 +66,7 @@ pub enum TextError {
     TooWide { at: u64 },
     /// No name of the ring stands there, where one may stand and a letter does.
     UnknownName { at: u64 },
-    /// The ring has more than 16 variables.
+    /// The ring has more than `MOST_VARIABLES` variables, or the dimension is above that.
     TooManyVariables { count: u64 },
     /// The polynomial of a marked set is zero.
     ZeroPolynomial { set: u32, index: u32 },

@@ -34,3 +34,6 @@ pub use term_printer::push_number;
 pub use tokens::{Number, Token, number_of, word_from};
 pub use vector_reader::vectors_have_one_meaning;
 pub use written::Written;
+
+/// The most variables of a ring that is read, and the greatest dimension. A monomial has room for as many (`ROOM` of `gf_poly`).
+pub const MOST_VARIABLES: usize = 24;

@@ -2,6 +2,7 @@
 ghost use Rattle.std.specs.Prelude.{◌≡◌, ◌++◌, ◌∷◌, ◌<◌, ◌≤◌, [], false, true, IfOk, IfSome, OnOk, length, not, slice_get, if◌then◌else◌};
 ghost use Rattle.gf_text.specs.RingText.{is_name, has, IsRing};
 ghost use Rattle.gf_text.specs.SetText.{variable};
+ghost use Rattle.gf_text.specs.declared.TheConstants.{MOST_VARIABLES};
 
 use indexmap::IndexSet;
 use std::alloc::{AllocError, Global};
@@ -117,11 +118,11 @@ impl Ring {
         Ring { names }
     }
 
-    /// How many variables it has: 1 to 16.
+    /// How many variables it has: 1 to `MOST_VARIABLES`.
     pub fn len(&self) -> u32
         ensures value { result ≡ length self.now }
         ensures some { 0 < result }
-        ensures few { result ≤ 16 }
+        ensures few { result ≤ MOST_VARIABLES }
     {
         self.names.len() as u32
     }
@@ -149,14 +150,15 @@ impl Ring {
         self.names().iter().any(|n| n.as_slice() == name)
     }
 
-    /// The ring with a variable of this name behind its own. The name is a new one, and the ring has fewer than 16 variables.
+    /// The ring with a variable of this name behind its own. The name is a new one, and the ring has fewer than
+    /// `MOST_VARIABLES` variables.
     ///
     /// # Errors
     /// Where memory runs out.
     pub fn extended(&self, alloc: Global, name: &[u8]) -> Result<Ring, AllocError>
         requires named { is_name name.now ≡ true }
         requires new { has self.now name.now ≡ false }
-        requires room { length self.now < 16 }
+        requires room { length self.now < MOST_VARIABLES }
         ensures { IfOk result (λ ring. ring ≡ self.now ++ name.now ∷ []) }
     {
         let mut names = copied(alloc, self.names())?;
@@ -183,7 +185,7 @@ fn copied(alloc: Global, names: &[Name]) -> Result<Vec<Name>, AllocError>
     Ok(all)
 }
 
-/// The place of the name among names, of which there are at most 16.
+/// The place of the name among names.
 fn place_of(names: &[Name], name: &[u8]) -> Option<usize>
     ensures place { result ≡ variable names.now name.now }
     ensures within { IfSome result (λ i. i < length names.now) }

@@ -80,7 +80,7 @@ impl<'a> Reader<'a> {
     /// # Errors
     /// - `Syntax` at the first token after which no text of a ring goes on: `RepeatedName` where a name stands that was
     ///   there already, `Unexpected` elsewhere, and `Ended` with the length of the source where the text ends before.
-    /// - `TooManyVariables` where the ring has more than 16 names, with their number.
+    /// - `TooManyVariables` where the ring has more than `MOST_VARIABLES` names, with their number.
     ///
     /// After a refusal the reader is where it was.
     pub fn read_ring(&mut self, alloc: Global) -> Result<Ring, TextError>
@@ -219,12 +219,12 @@ impl<'a> Reader<'a> {
         Ok(vectors)
     }
 
-    /// Reads the dimension that stands at the reader's place, a number up to 16, and goes behind it.
+    /// Reads the dimension that stands at the reader's place, a number up to `MOST_VARIABLES`, and goes behind it.
     ///
     /// # Errors
     /// - `Syntax` at a token that is no number: `Unexpected`, or `Ended` with the length of the source where none follows.
     /// - `TooWide` at a number past `2^63 - 1`; leading zeros don't count.
-    /// - `TooManyVariables` at any other number past 16, with that number.
+    /// - `TooManyVariables` at any other number past `MOST_VARIABLES`, with that number.
     ///
     /// After a refusal the reader is where it was.
     pub fn read_dimension(&mut self) -> Result<u32, TextError>

@@ -7,6 +7,7 @@ ghost use Rattle.gf_text.specs.Marks.{bracket, comma, bracket_end};
 ghost use Rattle.gf_text.specs.Given.{ReturnsRead, ring_move};
 ghost use Rattle.gf_text.specs.Rings.{IsRingRead, IsRingCause};
 
+use crate::MOST_VARIABLES;
 use crate::error::{Cause, TextError, refused_at};
 use crate::names::{DifferentNames, Ring};
 use crate::tokens::{is_name_byte, word_from};
@@ -28,9 +29,6 @@ pub enum RingStep {
     Done,
     Halt(Cause),
 }
-
-/// The most variables of a ring.
-const MOST_VARIABLES: usize = 16;
 
 /// Whether all bytes are letters, digits and `_`.
 fn are_name_bytes(bytes: &[u8]) -> bool

@@ -2,6 +2,7 @@
 ghost use Rattle.std.specs.Prelude.{◌≡◌, ◌≤◌, IfOk, IfErr, length};
 ghost use Rattle.gf_text.specs.Singles.{IsDimensionRead, IsDimensionCause, IsNameRead, IsNameCause};
 
+use crate::MOST_VARIABLES;
 use crate::error::{Cause, TextError, refused_at};
 use crate::names::Ring;
 use crate::ring_reader::is_name;
@@ -9,7 +10,7 @@ use crate::tokens::{Number, number_of, word_from};
 use crate::vector_reader::MOST_ENTRY;
 
 /// The greatest dimension.
-const MOST_DIMENSION: u128 = 16;
+const MOST_DIMENSION: u128 = MOST_VARIABLES as u128;
 
 /// The dimension that stands in the source from this place on, and the place behind it.
 pub(crate) fn dimension_from(source: &[u8], from: usize) -> Result<(u32, usize), TextError>

@@ -92,8 +92,8 @@ fn refused_files(rt: HostRuntime) {
             FanFileError::BadRay { number: 1 },
         ),
         (
-            b"AMBIENT_DIM\n17\nRAYS\n",
-            FanFileError::TooManyVariables { count: 17 },
+            b"AMBIENT_DIM\n25\nRAYS\n",
+            FanFileError::TooManyVariables { count: 25 },
         ),
         (
             b"AMBIENT_DIM\nRAYS\n",

@@ -32,11 +32,11 @@ fn lists_of_vectors(rt: HostRuntime) -> Result<(), Fail> {
 #[test]
 fn dimensions_and_names(rt: HostRuntime) -> Result<(), Fail> {
     let alloc = rt.alloc();
-    let mut reader = Reader::new(b" 0016 17 Q[a,b] c_1 b");
-    assert!(rt; reader.read_dimension().ok() == Some(16));
-    assert!(rt; reader.read_dimension().err() == Some(TextError::TooManyVariables { count: 17 }));
+    let mut reader = Reader::new(b" 0024 25 Q[a,b] c_1 b");
+    assert!(rt; reader.read_dimension().ok() == Some(24));
+    assert!(rt; reader.read_dimension().err() == Some(TextError::TooManyVariables { count: 25 }));
     let token = reader.token().ok().ok_or("a token")?;
-    assert!(rt; token.text == b"17".as_slice());
+    assert!(rt; token.text == b"25".as_slice());
     let ring = reader.read_ring(alloc).ok().ok_or("a ring")?;
     let name = reader.read_name(&ring).ok().ok_or("a name")?;
     assert!(rt; name == b"c_1".as_slice());
@@ -45,7 +45,7 @@ fn dimensions_and_names(rt: HostRuntime) -> Result<(), Fail> {
         kind: Kind::RepeatedName,
     };
     assert!(rt; reader.read_name(&ring).err() == Some(TextError::Syntax(repeated)));
-    assert!(rt; ring.len() < 16);
+    assert!(rt; ring.len() < 24);
     let mut line = Vec::new(alloc);
     Printer::ring(&mut line, &ring.extended(alloc, b"c_1")?)?;
     assert!(rt; line.as_slice() == b"Q[a,b,c_1]\n".as_slice());

@@ -70,7 +70,7 @@ fn faults_of_rings(rt: HostRuntime) {
     }
 }
 
-/// The ring that a text begins with has more than 16 names, this many.
+/// The ring that a text begins with has more than 24 names, this many.
 fn check_count(rt: &impl Abort, alloc: Global, source: &[u8], count: u64) {
     let mut reader = Reader::new(source);
     match reader.read_ring(alloc) {
@@ -82,7 +82,12 @@ fn check_count(rt: &impl Abort, alloc: Global, source: &[u8], count: u64) {
 #[test]
 fn too_many_names(rt: HostRuntime) {
     let alloc = rt.alloc();
-    check_count(&rt, alloc, b"Q[a,b,c,d,e,f,g,h,i,j,k,l,m,n,o,p,q]", 17);
+    check_count(
+        &rt,
+        alloc,
+        b"Q[a,b,c,d,e,f,g,h,i,j,k,l,m,n,o,p,q,r,s,t,u,v,w,x,y]",
+        25,
+    );
 }
 
 #[test]

@@ -364,8 +364,8 @@ fn refusals_have_their_lines(rt: HostRuntime) -> Result<(), Fail> {
             b"gfan: E10 unknown name at byte 67108863\n"
         )?
     );
-    let many = Refusal::TooManyVariables { count: 17 };
-    assert!(rt; is_told(alloc, None, many, 1, b"gfan: E11 too many variables: 17\n")?);
+    let many = Refusal::TooManyVariables { count: 25 };
+    assert!(rt; is_told(alloc, None, many, 1, b"gfan: E11 too many variables: 25\n")?);
     let long = Refusal::InputTooLong;
     assert!(rt; is_told(alloc, None, long, 1, b"gfan: E12 input too long\n")?);
     let ray = Refusal::BadRay { number: 7 };

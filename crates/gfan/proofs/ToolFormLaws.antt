@@ -4,6 +4,7 @@ use Rattle.std.specs.Prelude.{◌≡◌, ℕ, zero, suc, ◌-◌, ◌^◌, ◌<�
 use Rattle.std.proofs.Common.{arith, sym, ap, ◌∙◌, subst, inl, inr}
 use Rattle.std.proofs.lemmas.List.Elements.{All-head, All-tail}
 use Rattle.gf_gordan.specs.Alternative.{AreRows}
+use Rattle.gf_text.specs.declared.TheConstants.{MOST_VARIABLES}
 use Rattle.gf_text.specs.declared.written.Written.{Written}
 use Rattle.gf_text.specs.Sets.{IsFirstZero}
 use Rattle.gf_front.specs.declared.refusal.Refusal.{Refusal}
@@ -52,7 +53,7 @@ room_check n = record { once = once; apart = apart; kind = kind }
     once (refusals.TooManyVariables a) _ h k = absurd k
     once _ d h k = absurd h
 
-    apart : (r : Refusal) → n < 16 → IsRoomRefusal n r → ⊥
+    apart : (r : Refusal) → n < MOST_VARIABLES → IsRoomRefusal n r → ⊥
     apart (refusals.TooManyVariables a) l h = omega arith
     apart _ l h = h
 

@@ -10,6 +10,7 @@ use Rattle.gf_poly.specs.declared.Term.{Term}
 use Rattle.gf_poly.specs.declared.monomial.ExponentOverflow.{ExponentOverflow}
 use Rattle.gf_poly.specs.Polynomial.{Terms}
 use Rattle.gf_poly.specs.Marking.{MarkedPolynomials, polys}
+use Rattle.gf_text.specs.declared.TheConstants.{MOST_VARIABLES}
 use Rattle.gf_text.specs.declared.written.Written.{Written}
 use Rattle.gf_text.specs.declared.written.Written.TheVariants as written
 use Rattle.gf_text.specs.Sets.{AreNonzero}
@@ -136,7 +137,7 @@ room_unanswered ring ws name count h = IsUnanswered.in_form (inl (h.1, omega (ar
 pub exponent_unanswered : (ring : List (List ℕ)) (ws : List Written) (name : List ℕ) (o : ExponentOverflow) → IsHomogenizeCause (length ring) ws (homogenize_errors.Exponent o) → IsUnanswered homogenize_command (ring, (ws, name)) (refusals.ExponentOverflow o)
 exponent_unanswered ring ws name o h = IsUnanswered.in_work (h.0, tt) h.1
 
-pub homogenized_answered : (ring extended : List (List ℕ)) (ws : List Written) (name : List ℕ) (fs : List Written) (text : List ℕ) → length ring < 16 → extended ≡ ring ++ name ∷ [] → AreHomogenizations ws fs
+pub homogenized_answered : (ring extended : List (List ℕ)) (ws : List Written) (name : List ℕ) (fs : List Written) (text : List ℕ) → length ring < MOST_VARIABLES → extended ≡ ring ++ name ∷ [] → AreHomogenizations ws fs
     → IsPrintedSet extended fs text → IsAnswerFor homogenize_command (ring, (ws, name)) text
 homogenized_answered ring extended ws name fs text l e h p = record {
   formed = (l, tt);

@@ -1,6 +1,7 @@
 -- The form that the small tools, and those on cones, need of what they read.
 use Rattle.std.specs.Prelude.{◌≡◌, ℕ, ◌+◌, ◌<◌, ◌≤◌, List, [], ◌∷◌, Some, ℤ}
 use Rattle.gf_poly.specs.Marking.{MarkedPolynomial}
+use Rattle.gf_text.specs.declared.TheConstants.{MOST_VARIABLES}
 use Rattle.gf_text.specs.declared.written.Written.{Written}
 use Rattle.gf_text.specs.Sets.{AreNonzero, IsFirstZero}
 use Rattle.gf_front.specs.declared.refusal.Refusal.{Refusal}
@@ -38,8 +39,8 @@ without_zero ws = record { Holds = HasNoZero ws; Fails = IsZeroRefusal ws }
 
 -- there may be one more than n variables; else their new number is told
 abbrev pub IsRoomRefusal : ℕ → Refusal → Type 0
-IsRoomRefusal n (refusals.TooManyVariables count) = (count ≡ n + 1) × (16 ≤ n)
+IsRoomRefusal n (refusals.TooManyVariables count) = (count ≡ n + 1) × (MOST_VARIABLES ≤ n)
 IsRoomRefusal n _ = ⊥
 
 abbrev pub for_one_more : ℕ → Check
-for_one_more n = record { Holds = n < 16; Fails = IsRoomRefusal n }
+for_one_more n = record { Holds = n < MOST_VARIABLES; Fails = IsRoomRefusal n }

@@ -1,5 +1,6 @@
 // The text of the fan of cones.
 ghost use Rattle.std.specs.Prelude.{◌≡◌, ◌≤◌, IfOk, IfErr};
+ghost use Rattle.gf_text.specs.declared.TheConstants.{MOST_VARIABLES};
 ghost use Rattle.gf_fan.specs.Pairs.{AreOfAmbient};
 ghost use Rattle.gf_fan.specs.Refusals.{IsFanRefusal};
 ghost use Rattle.gf_fanfile.specs.FanTexts.{IsFanText};
@@ -17,7 +18,7 @@ use std::alloc::Global;
 /// # Errors
 /// Those of `Fan::from_cones`.
 pub(crate) fn fan_text(alloc: Global, n: u32, cones: Vec<Rays>) -> Result<Vec<u8>, FanError>
-    requires ambient { n ≤ 16 }
+    requires ambient { n ≤ MOST_VARIABLES }
     requires cones { AreOfAmbient n cones.items }
     ensures ok { IfOk result (λ text. IsFanText n cones.items text.items) }
     ensures err { IfErr result (IsFanRefusal n cones.items) }

@@ -1,6 +1,7 @@
 // What `_groebnercone` writes for an input.
 ghost use Rattle.std.specs.Prelude.{◌≡◌, ◌≤◌, true, false, IfOk, IfErr};
 ghost use Rattle.gf_gordan.specs.Alternative.{AreRows};
+ghost use Rattle.gf_text.specs.declared.TheConstants.{MOST_VARIABLES};
 ghost use Rattle.gf_items.specs.Commands.{IsAnswered, IsCommandRefused, IsAnswerFor, IsUnanswered};
 ghost use Rattle.gfan.specs.GroebnerCone.{IsBasisConeText, IsBasisConeCause, groebner_cone_command};
 ghost use Rattle.gfan.specs.Refused.{IsNamedBy, IsOfSource};
@@ -32,7 +33,7 @@ fn basis_cone(
     marked: &MarkedSet,
     options: ConeOptions,
 ) -> Result<Vec<u8>, Refusal>
-    requires few { n ≤ 16 }
+    requires few { n ≤ MOST_VARIABLES }
     requires variables { marked.now.variables ≡ n }
     ensures ok { IfOk result (λ text. IsBasisConeText options marked.now text.items) }
     ensures err { IfErr result (IsBasisConeCause options marked.now) }
@@ -57,7 +58,7 @@ fn vector_cone(
     equations: &[IntVec],
     options: ConeOptions,
 ) -> Result<Vec<u8>, Refusal>
-    requires few { n ≤ 16 }
+    requires few { n ≤ MOST_VARIABLES }
     ensures ok { IfOk result (λ text. IsAnswerFor (groebner_cone_command true options) (n, (inequalities.items, equations.now)) text.items) }
     ensures err { IfErr result (IsUnanswered (groebner_cone_command true options) (n, (inequalities.items, equations.now))) }
     ensures told { IfErr result (IsNamedBy None) }

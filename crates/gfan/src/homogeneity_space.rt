@@ -1,5 +1,6 @@
 // What `_homogeneityspace` writes for an input.
 ghost use Rattle.std.specs.Prelude.{◌≡◌, ◌≤◌, ◌∷◌, ◌++◌, [], IfOk, IfErr, OnOk};
+ghost use Rattle.gf_text.specs.declared.TheConstants.{MOST_VARIABLES};
 ghost use Rattle.gf_text.specs.Sets.{AreIn};
 ghost use Rattle.gf_small.specs.HomogeneitySpace.{IsSpaceCause};
 ghost use Rattle.gf_items.specs.Commands.{IsAnswered, IsCommandRefused};
@@ -64,7 +65,7 @@ pub(crate) fn alone(alloc: Global, cone: Rays) -> Result<Vec<Rays>, AllocError>
 
 // The text of the fan of the homogeneity space of a set in `n` variables.
 fn space_text(alloc: Global, n: u32, set: &[Written]) -> Result<Vec<u8>, Refusal>
-    requires few { n ≤ 16 }
+    requires few { n ≤ MOST_VARIABLES }
     requires variables { AreIn n set.now }
     ensures ok { IfOk result (λ text. IsSpaceText n (nonzero_of set.now) text.items) }
     ensures err { IfErr result (IsNoSpace n (nonzero_of set.now)) }

@@ -42,7 +42,7 @@ fn text_of(alloc: Global, ring: &Ring, set: &[Written], name: &[u8]) -> Result<V
 ///
 /// - `Syntax`, `TooWide`, `UnknownName` and `TooManyVariables` exactly where the source isn't the text of a ring, of a set in it and of a
 ///   name that the ring doesn't have, at the first token after which no such text goes on; a name that it has is a repeated one.
-/// - `TooManyVariables` too, with the new number, exactly where the source is such a text and the ring has 16 variables.
+/// - `TooManyVariables` too, with the new number, exactly where the source is such a text and the ring has `MOST_VARIABLES` variables.
 /// - `Overflow` only at a sum of the text. `ExponentOverflow` only at such a sum, or at the first power of the new variable that passes
 ///   `2^31 - 1`, with that limit and what the power is more.
 pub(crate) fn answer(alloc: Global, source: &[u8]) -> Result<Vec<u8>, Refused>

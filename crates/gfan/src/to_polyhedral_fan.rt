@@ -2,6 +2,7 @@
 ghost use Rattle.std.specs.Prelude.{◌≡◌, ◌≤◌, [], All, IfOk, IfErr};
 ghost use Rattle.std.specs.List.{AllZip};
 ghost use Rattle.gf_gordan.specs.Steps.{Failed};
+ghost use Rattle.gf_text.specs.declared.TheConstants.{MOST_VARIABLES};
 ghost use Rattle.gf_items.specs.Commands.{IsAnswered, IsCommandRefused};
 ghost use Rattle.gfan.specs.Refused.{IsOfSource};
 ghost use Rattle.gfan.specs.ToPolyhedralFan.{IsConeOfSet, IsConeStepOfSet, IsConeStepOfSets, IsFanOfSetsText, IsNoFanOfSets, to_polyhedral_fan_command};
@@ -42,7 +43,7 @@ fn cones_of(alloc: Global, sets: &[MarkedSet], cut: bool) -> Result<Vec<Rays>, G
 
 // The text of the fan of the cones of marked sets in `n` variables, where each is a reduced basis: first all are checked.
 fn fan_of_sets(alloc: Global, n: u32, sets: &[MarkedSet], cut: bool) -> Result<Vec<u8>, Refusal>
-    requires few { n ≤ 16 }
+    requires few { n ≤ MOST_VARIABLES }
     requires variables { All (λ s. s.variables ≡ n) sets.now }
     ensures ok { IfOk result (λ text. IsFanOfSetsText cut n sets.now text.items) }
     ensures err { IfErr result (IsNoFanOfSets cut n sets.now) }

@@ -1,6 +1,7 @@
 // What `_groebnercone` tells of a cone.
 ghost use Rattle.std.specs.Prelude.{◌≡◌, ◌≤◌, ◌∷◌, [], IfOk, IfErr};
 ghost use Rattle.gf_gordan.specs.Alternative.{AreRows};
+ghost use Rattle.gf_text.specs.declared.TheConstants.{MOST_VARIABLES};
 ghost use Rattle.gfan.specs.ToPolyhedralFan.{inequalities_of};
 ghost use Rattle.gfan.specs.ToldCones.{IsConeFanText, IsConeFanCause, IsToldAs, IsUntoldAs};
 
@@ -46,7 +47,7 @@ fn cone_fan(
     inequalities: &[IntVec],
     equations: &[IntVec],
 ) -> Result<Vec<u8>, Refusal>
-    requires few { n ≤ 16 }
+    requires few { n ≤ MOST_VARIABLES }
     requires inequalities { AreRows n inequalities.now }
     requires equations { AreRows n equations.now }
     ensures ok { IfOk result (λ text. IsConeFanText n inequalities.now equations.now text.items) }
@@ -71,7 +72,7 @@ pub(crate) fn told(
     equations: &[IntVec],
     options: ConeOptions,
 ) -> Result<Vec<u8>, Refusal>
-    requires few { n ≤ 16 }
+    requires few { n ≤ MOST_VARIABLES }
     requires inequalities { AreRows n inequalities.now }
     requires equations { AreRows n equations.now }
     ensures ok { IfOk result (λ text. IsToldAs options.as_fan options.certificates n inequalities.now equations.now text.items) }

@@ -2,6 +2,7 @@
 ghost use Rattle.std.specs.Prelude.{◌≡◌, ◌≢◌, ◌⊎◌, ◌<◌, ◌≤◌, ◌^◌, [], All, length, None, IfOk, IfErr, OnOk};
 ghost use Rattle.gf_poly.specs.Polynomial.{HasVariables};
 ghost use Rattle.gf_tropical.specs.Refusals.{IsTropicalRefusal};
+ghost use Rattle.gf_text.specs.declared.TheConstants.{MOST_VARIABLES};
 ghost use Rattle.gf_text.specs.Sets.{AreIn};
 ghost use Rattle.gf_items.specs.Commands.{IsAnswerFor, IsUnanswered, IsAnswered, IsCommandRefused};
 ghost use Rattle.gfan.specs.Buchberger.{generators_of};
@@ -80,7 +81,7 @@ fn fan_of<R: Threads + Sync>(
     list: &[Poly],
     which: TropicalFan,
 ) -> Result<Fan, TropicalError>
-    requires few { n ≤ 16 }
+    requires few { n ≤ MOST_VARIABLES }
     requires variables { All (HasVariables n) list.now }
     requires count { length list.now < 2 ^ 32 }
     requires number { HasNumber which (length list.now) }

@@ -1,4 +1,5 @@
 use Rattle.std.proofs.Common.{◌∙◌, ap, sym, length}
+use Rattle.gf_text.specs.declared.TheConstants.{MOST_VARIABLES}
 use Rattle.gf_text.proofs.MachineLaws.{run_go}
 use Rattle.gf_fanfile.specs.declared.numbers.NumberState.TheVariants.{Unread}
 use Rattle.gf_fanfile.specs.NumberText.{number_step}
@@ -14,7 +15,7 @@ returns-in_default-token_at c =
     let source = c.args.source.now in
     let l = c.loop-token in
     let content = content_from source c.args.from in
-    read_ended number_step (λ n. the_number n) (length source) (content_read (length source) (number_to 16) content) Unread content (below_read (length source) 16 content l.invariant.below) l.state (tokens_left source l.place) l.invariant.same c.refused.result c.in_default-token_at.ensures.token c.refused.ensures
+    read_ended number_step (λ n. the_number n) (length source) (content_read (length source) (number_to MOST_VARIABLES) content) Unread content (below_read (length source) MOST_VARIABLES content l.invariant.below) l.state (tokens_left source l.place) l.invariant.same c.refused.result c.in_default-token_at.ensures.token c.refused.ensures
 
 pub returns-in-Halt : goal.returns-in-Halt
 returns-in-Halt c =
@@ -22,7 +23,7 @@ returns-in-Halt c =
     let l = c.loop-token in
     let content = content_from source c.args.from in
     let stops = ap (number_step l.state) (sym c.text_of.ensures) ∙ sym c.step-taken.ensures ∙ ap (λ m. number_move m) c.in-Halt.is in
-    read_halted number_step (λ n. the_number n) (length source) (content_read (length source) (number_to 16) content) Unread content (below_read (length source) 16 content l.invariant.below) l.state (tokens_left source l.place) l.invariant.same
+    read_halted number_step (λ n. the_number n) (length source) (content_read (length source) (number_to MOST_VARIABLES) content) Unread content (below_read (length source) MOST_VARIABLES content l.invariant.below) l.state (tokens_left source l.place) l.invariant.same
     (lexeme_of source c.in-Some-token_at.token) (tokens_left source c.in-Some-token_at.rest) c.in-Some-token_at.ensures.token c.refused-in-Halt.result c.place_of.result c.in-Halt.reason stops (c.place_of.ensures source) c.refused-in-Halt.ensures
 
 pub returns-in-Done : goal.returns-in-Done
@@ -31,7 +32,7 @@ returns-in-Done c =
     let l = c.loop-token in
     let content = content_from source c.args.from in
     let ends = ap (number_step l.state) (sym c.text_of.ensures) ∙ sym c.step-taken.ensures ∙ ap (λ m. number_move m) c.in-Done.is in
-    read_done number_step (λ n. the_number n) (length source) (content_read (length source) (number_to 16) content) Unread content (below_read (length source) 16 content l.invariant.below) l.state (tokens_left source l.place) l.invariant.same
+    read_done number_step (λ n. the_number n) (length source) (content_read (length source) (number_to MOST_VARIABLES) content) Unread content (below_read (length source) MOST_VARIABLES content l.invariant.below) l.state (tokens_left source l.place) l.invariant.same
     (lexeme_of source c.in-Some-token_at.token) (tokens_left source c.in-Some-token_at.rest) c.in-Some-token_at.ensures.token c.in-Done.n ends
 
 pub loop-token-preserved : goal.loop-token-preserved

@@ -1,4 +1,5 @@
 use Rattle.std.proofs.Common.{◌≡◌, false, length}
+use Rattle.gf_text.specs.declared.TheConstants.{MOST_VARIABLES}
 use Rattle.gf_text.specs.Machine.{run}
 use Rattle.gf_fanfile.specs.Lines.{content_from}
 use Rattle.gf_fanfile.specs.NumberText.{number_step}
@@ -10,7 +11,7 @@ use Rattle.gf_fanfile.proofs.numbers.dimension_from.Given as goal
 abbrev pub invariant-loop-token : goal.invariant-loop-token
 invariant-loop-token l = record {
   within : IsPlaceWithin l.source l.place;
-  below : is_above 16 (content_from l.source l.from) ≡ false;
+  below : is_above MOST_VARIABLES (content_from l.source l.from) ≡ false;
   same : run number_step l.state (length l.source) (tokens_left l.source l.place) ≡ run number_step Unread (length l.source) (content_from l.source l.from);
 }
 

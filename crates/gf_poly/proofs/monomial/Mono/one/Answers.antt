@@ -2,6 +2,7 @@ use Rattle.std.proofs.Common.{arith, ℕ, ◌≡◌, ◌^◌, ◌<◌, ◌∙◌
 use Rattle.std.proofs.lemmas.List.{take-replicate, length-replicate}
 use Rattle.std.proofs.lemmas.List.Elements.{All-replicate}
 use Rattle.gf_exponents.specs.Exponents.{Exponents, degree}
+use Rattle.gf_poly.specs.declared.TheConstants.{ROOM}
 use Rattle.gf_poly.specs.Monomial.{IsWordOf}
 use Rattle.gf_poly.proofs.MonomialLaws.{degree-ones}
 use Rattle.gf_poly.proofs.WordLaws.{word-ones}
@@ -11,7 +12,7 @@ pub invariant_of-result : goal.invariant_of-result
 invariant_of-result c =
     let n = c.args.n in
     let v = c.from_buf_and_len.result in
-    let is : v.items ≡ replicate n 0 = c.from_buf_and_len.ensures.items ∙ take-replicate n 16 0 c.requires in
+    let is : v.items ≡ replicate n 0 = c.from_buf_and_len.ensures.items ∙ take-replicate n ROOM 0 c.requires in
     record {
       room = omega (arith, ap (λ (l : Exponents). length l) is, length-replicate {A = ℕ} n 0, c.requires);
       limit = subst (λ l. All (λ k. k < 2 ^ 31) l) (sym is) (All-replicate (λ k. k < 2 ^ 31) n 0 (omega arith));
@@ -21,4 +22,4 @@ invariant_of-result c =
     }
 
 pub returns : goal.returns
-returns c = c.from_buf_and_len.ensures.items ∙ take-replicate c.args.n 16 0 c.requires
+returns c = c.from_buf_and_len.ensures.items ∙ take-replicate c.args.n ROOM 0 c.requires

@@ -4,6 +4,7 @@ use Rattle.std.proofs.lemmas.List.{length-set}
 use Rattle.smallvec.specs.SmallVec.{with_items}
 use Rattle.smallvec.proofs.SmallVecLemmas.{items-with_items}
 use Rattle.gf_exponents.specs.Exponents.{Exponents, degree}
+use Rattle.gf_poly.specs.declared.TheConstants.{ROOM}
 use Rattle.gf_poly.specs.Monomial.{IsWordOf}
 use Rattle.gf_poly.proofs.MonomialLaws.{degree-limit, degree-raised, limit-raised}
 use Rattle.gf_poly.proofs.WordLaws.{word-raised}
@@ -30,5 +31,5 @@ invariant_of-self-then-by-ne0 c =
       limit = subst (λ l. All (λ k. k < 2 ^ 31) l) (sym same) (limit-raised v.items i by inside (omega (arith, fits, c.requires.limit)) m.limit);
       inline = m.inline;
       total_degree = omega (arith, m.total_degree, c.from-2.ensures, degree-raised v.items i by inside, ap degree same);
-      occurring = subst (λ l. IsWordOf l (bit_or c.self.inside.word (1 * 2 ^ (15 - i) % 2 ^ 16))) (sym same) (word-raised v.items i by c.self.inside.word inside (omega (arith, m.room)) (omega (arith, c.if-by-ne0.true)) m.occurring);
+      occurring = subst (λ l. IsWordOf l (bit_or c.self.inside.word (1 * 2 ^ (ROOM - 1 - i) % 2 ^ 32))) (sym same) (word-raised v.items i by c.self.inside.word inside (omega (arith, m.room)) (omega (arith, c.if-by-ne0.true)) m.occurring);
     })
