@@ -4,8 +4,8 @@ use Rattle.gf_poly.proofs.MonomialLaws.{IsMonomial-join}
 use Rattle.gf_poly.proofs.WordLaws.{word-join}
 use Rattle.gf_poly.proofs.monomial.Mono.lcm.Goals as goal
 
-pub total_of-requires-clause-limit : goal.total_of-requires-clause-limit
-total_of-requires-clause-limit c = rw (c.maxima-all.ensures, c.exponents-x.ensures.value, c.exponents.ensures.value) (IsMonomial-join c.args.self.now c.args.other.now c.requires c.exponents-x.ensures.valid c.exponents.ensures.valid).limit
+pub total_of-total-requires-clause-limit : goal.total_of-total-requires-clause-limit
+total_of-total-requires-clause-limit c = rw (c.maxima-all.ensures, c.exponents-x.ensures.value, c.exponents.ensures.value) (IsMonomial-join c.args.self.now c.args.other.now c.requires c.exponents-x.ensures.valid c.exponents.ensures.valid).limit
 
 pub known-requires-clause-exponents : goal.known-requires-clause-exponents
 known-requires-clause-exponents c = rw (c.maxima-all.ensures, c.exponents-x.ensures.value, c.exponents.ensures.value) (IsMonomial-join c.args.self.now c.args.other.now c.requires c.exponents-x.ensures.valid c.exponents.ensures.valid)
