@@ -5,6 +5,8 @@ pub mod StepLaws  -- one step
 pub mod ReducerLaws  -- the search for a reducer
 pub mod RuleLaws  -- the steps of the rule
 pub mod NormalFormLaws  -- the loop of a normal form
+pub mod FirstStepLaws  -- steps by first divisors lead to one remainder
+pub mod NormalFormExists  -- and that is the normal form
 pub mod RemainderLaws  -- steps at whichever terms
 pub mod PlaceLaws  -- the step at a monomial
 pub mod SPolynomialLaws  -- S-polynomials as code forms them

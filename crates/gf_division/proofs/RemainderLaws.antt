@@ -1,6 +1,6 @@
 -- Steps at whichever terms: what they lead to, and what is left when no term can be divided any more.
 -- To cite: reducible_first, worked-none, worked-more, worked-same, worked_along, less_found, work_refused, work_follows, refusal_follows, Working,
--- working-none, working-more, working_end, share_start, remainder_at, remainder_refused.
+-- working-none, working-more, working_end, share_start, remainder_at, normal_form_of, remainder_refused.
 use Rattle.std.specs.Prelude.{◌≡◌, ℕ, ◌<◌, ◌^◌, List, [], ◌++◌, Contains, None, Some, IfSome, Result, Ok, Err, OnOk, IfErr}
 use Rattle.std.specs.declared.option.Option.{Option}
 use Rattle.std.proofs.Common.{refl, sym, ap, ◌∙◌, subst}
@@ -16,14 +16,17 @@ use Rattle.gf_poly.specs.Marking.{MarkedPolynomial, head_of}
 use Rattle.gf_ideal.specs.Marks.{AreMarked}
 use Rattle.gf_ideal.specs.Measure.{work_left}
 use Rattle.gf_ideal.specs.Reduction.{Reached}
+use Rattle.gf_ideal.specs.NormalForms.{IsNormalForm}
 use Rattle.gf_division.specs.Steps.{IsStepRefusal, IsReductionRefusal}
 use Rattle.gf_division.specs.NormalForms.{HaveSameVariables}
 use Rattle.gf_division.specs.Dividends.{Split, joined_terms, IsTermInFront, TakesStep}
-use Rattle.gf_division.specs.Reducers.{IsBeside, IsDivisorAt, IsReducibleFirst, AreIrreducible, ShareVariables}
+use Rattle.gf_division.specs.Reducers.{IsFirstFor, IsBeside, IsDivisorAt, IsReducibleFirst, AreIrreducible, ShareVariables}
 use Rattle.gf_division.specs.Remainders.{IsRemainder, ReachedBeside, IsWorkedOn, IsWorkFault, IsWorkRefusal}
 use Rattle.gf_division.proofs.DividendLaws.{first_head}
 use Rattle.gf_division.proofs.ReducerLaws.{member_contained}
-use Rattle.gf_division.proofs.RuleLaws.{Found, share_along, step_by, share_step, keeps_step, keeps_along, less_work, front_irreducible, irreducible_whole, all_above, reduction_refused}
+use Rattle.gf_division.proofs.RuleLaws.{Found, share_along, step_by, share_step, keeps_step, keeps_along, less_work, front_irreducible, irreducible_whole, all_above, reduction_refused, no_multiple}
+use Rattle.gf_division.proofs.FirstStepLaws.{IsFirstReached}
+use Rattle.gf_division.proofs.NormalFormExists.{normal_form-of_first}
 
 -- ---- the place
 
@@ -47,16 +50,20 @@ worked-same bs spared old now s e h = record {
   kept = keeps_along (joined_terms old) (joined_terms now) (joined_terms s) e h.kept;
 }
 
+-- no mark of a member before it divides the monomial
+found_first : (bs : List MarkedPolynomial) (spared : Option Exponents) (s : Split) (j : ℕ) (b : MarkedPolynomial) (k : Found bs spared s j b) → IsFirstFor bs k.term.mono b
+found_first bs spared s j b k = record { place = j; at = k.at; before = λ i c l m. no_multiple c.head k.term.mono (k.first i c l m) }
+
 pub worked-more : (bs : List MarkedPolynomial) (spared : Option Exponents) (old now s t : Split) (j : ℕ) (b : MarkedPolynomial) (q : Term) → joined_terms s ≡ joined_terms now → Found bs spared s j b → TakesStep b s q t → IsWorkedOn bs spared old now → IsWorkedOn bs spared old t
 worked-more bs spared old now s t j b q e k w h = record {
-  reached = ReachedBeside.next (joined_terms s) (joined_terms t) (reached-same bs spared (joined_terms old) (joined_terms now) (joined_terms s) e h.reached) (step_by bs spared s t j b q k w) k.beside;
+  reached = ReachedBeside.next (joined_terms s) (joined_terms t) (reached-same bs spared (joined_terms old) (joined_terms now) (joined_terms s) e h.reached) (step_by bs spared s t j b q k w) k.beside (found_first bs spared s j b k);
   variables = share_step bs spared s t j b q k w;
   kept = keeps_step bs spared (joined_terms old) s t j b q k w (keeps_along (joined_terms old) (joined_terms now) (joined_terms s) e h.kept);
 }
 
 reached_along : (bs : List MarkedPolynomial) (spared : Option Exponents) (f g h : Terms) → ReachedBeside bs spared f g → ReachedBeside bs spared g h → ReachedBeside bs spared f h
 reached_along bs spared f g _ r ReachedBeside.here = r
-reached_along bs spared f g _ r (ReachedBeside.next k h q s b) = ReachedBeside.next k h (reached_along bs spared f g k r q) s b
+reached_along bs spared f g _ r (ReachedBeside.next k h q s b d) = ReachedBeside.next k h (reached_along bs spared f g k r q) s b d
 
 pub worked_along : (bs : List MarkedPolynomial) (spared : Option Exponents) (old now new : Split) → IsWorkedOn bs spared old now → IsWorkedOn bs spared now new → IsWorkedOn bs spared old new
 worked_along bs spared old now new h k = record {
@@ -67,7 +74,11 @@ worked_along bs spared old now new h k = record {
 
 pub reached_by : (bs : List MarkedPolynomial) (spared : Option Exponents) (f g : Terms) → ReachedBeside bs spared f g → Reached (Contains bs) f g
 reached_by bs spared f _ ReachedBeside.here = Reached.here f (λ x. refl)
-reached_by bs spared f _ (ReachedBeside.next g h r s b) = Reached.next g h (reached_by bs spared f g r) s
+reached_by bs spared f _ (ReachedBeside.next g h r s b d) = Reached.next g h (reached_by bs spared f g r) s
+
+reached_first : (bs : List MarkedPolynomial) (spared : Option Exponents) (f g : Terms) → ReachedBeside bs spared f g → IsFirstReached bs f g
+reached_first bs spared f _ ReachedBeside.here = IsFirstReached.here f (λ x. refl)
+reached_first bs spared f _ (ReachedBeside.next g h r s b d) = IsFirstReached.next g h (reached_first bs spared f g r) (record { step = s; first = d })
 
 pub less_found : (bs : List MarkedPolynomial) (spared : Option Exponents) (w : List ℕ) (now s t : Split) (j : ℕ) (b : MarkedPolynomial) (q : Term) → joined_terms s ≡ joined_terms now → AreMarked (lighter w) bs → Found bs spared s j b → TakesStep b s q t → work_left (2 ^ 31) ROOM bs (joined_terms t) < work_left (2 ^ 31) ROOM bs (joined_terms now)
 less_found bs spared w now s t j b q e m k h = subst (λ (f : Terms). work_left (2 ^ 31) ROOM bs (joined_terms t) < work_left (2 ^ 31) ROOM bs f) e (less_work bs spared w s t j b q m k h)
@@ -155,6 +166,12 @@ remainder_at bs f r old s e q a h = record {
   reached = subst (λ (z : Terms). Reached (Contains bs) z r) (terms_start f old e) (subst (Reached (Contains bs) (joined_terms old)) (sym q) (reached_by bs None (joined_terms old) (joined_terms s) h.reached));
   irreducible = irreducible_whole bs r (subst (AreIrreducible bs None) (sym q) a);
 }
+
+-- by a weight of the marks it is the normal form, whichever terms were taken
+pub normal_form_of : (bs : List MarkedPolynomial) (w : List ℕ) (f r : Terms) (old s : Split) → AreMarked (lighter w) bs → old ≡ record { above = []; below = f } → r ≡ joined_terms s → AreIrreducible bs None (joined_terms s) → IsWorkedOn bs None old s → IsNormalForm bs f r
+normal_form_of bs w f r old s m e q a h = normal_form-of_first bs w f r m
+    (subst (λ (z : Terms). IsFirstReached bs z r) (terms_start f old e) (subst (IsFirstReached bs (joined_terms old)) (sym q) (reached_first bs None (joined_terms old) (joined_terms s) h.reached)))
+    (irreducible_whole bs r (subst (AreIrreducible bs None) (sym q) a))
 
 pub remainder_keeps : (bs : List MarkedPolynomial) (f r : Terms) (old s : Split) → old ≡ record { above = []; below = f } → r ≡ joined_terms s → IsWorkedOn bs None old s → KeepsVariables f r
 remainder_keeps bs f r old s e q h = record { at = λ n v. subst (HasVariables n) (sym q) (h.kept.at n (subst (HasVariables n) (sym (terms_start f old e)) v)) }

@@ -78,7 +78,7 @@ head_at_place x f i t l e q = head_at f i t l e ∙ equal_same t.mono x q
 -- a polynomial that steps at other monomials than the mark of b lead to from b
 tail_reached : (ks : List MarkedPolynomial) (b : MarkedPolynomial) (g : Terms) → Contains ks b → ReachedBeside ks (Some b.head) b.poly g → IsTail ks (record { poly = g; head = b.head })
 tail_reached ks b _ c ReachedBeside.here = IsTail.member b c
-tail_reached ks b _ c (ReachedBeside.next g h r s n) = IsTail.step (record { poly = g; head = b.head }) (record { poly = h; head = b.head }) (tail_reached ks b g c r) (same-refl b.head) s n
+tail_reached ks b _ c (ReachedBeside.next g h r s n d) = IsTail.step (record { poly = g; head = b.head }) (record { poly = h; head = b.head }) (tail_reached ks b g c r) (same-refl b.head) s n
 
 -- where the tail of b is reduced
 pub record TailStart (ks : List MarkedPolynomial) (b : MarkedPolynomial) (spared : Option Exponents) (s : Split) : Type 0 where

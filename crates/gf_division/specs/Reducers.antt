@@ -2,7 +2,7 @@
 -- Laws: proofs/ReducerLaws.antt. Source: Cox, Little, O'Shea, Ideals, Varieties, and Algorithms, 2.3.
 use Rattle.std.specs.Prelude.{◌≡◌, ℕ, ◌<◌, false, List, [], length, Contains, Some, None}
 use Rattle.std.specs.declared.option.Option.{Option}
-use Rattle.gf_exponents.specs.Exponents.{Exponents, same, Divides}
+use Rattle.gf_exponents.specs.Exponents.{Exponents, same, Divides, NoMultiple}
 use Rattle.gf_poly.specs.declared.Term.{Term}
 use Rattle.gf_poly.specs.Monomial.{IsMonomial}
 use Rattle.gf_poly.specs.Polynomial.{Terms, HasVariables}
@@ -19,6 +19,12 @@ pub record IsDivisorAt (bs : List MarkedPolynomial) (x : Exponents) (j : ℕ) : 
   pub first : (i : ℕ) (b : MarkedPolynomial) → i < j → IsAt bs i b → Divides b.head x → ⊥
   pub head : length member.head ≡ length x
   pub poly : HasVariables (length x) member.poly
+
+-- b stands at a place of the list, and the mark of no member before that one divides x
+pub record IsFirstFor (bs : List MarkedPolynomial) (x : Exponents) (b : MarkedPolynomial) : Type 0 where
+  pub place : ℕ
+  pub at : IsAt bs place b
+  pub before : (i : ℕ) (c : MarkedPolynomial) → i < place → IsAt bs i c → NoMultiple c.head x
 
 -- x isn't the spared monomial
 abbrev pub IsBeside : Option Exponents → Exponents → Type 0

@@ -11,7 +11,7 @@ use Rattle.gf_poly.specs.Marking.{MarkedPolynomial}
 use Rattle.gf_ideal.specs.Reduction.{IsStep, IsIrreducible, Reached}
 use Rattle.gf_division.specs.Steps.{IsStepRefusal}
 use Rattle.gf_division.specs.Dividends.{Split, joined_terms}
-use Rattle.gf_division.specs.Reducers.{IsBeside, AreIrreducible, ShareVariables, IsReducibleFirst}
+use Rattle.gf_division.specs.Reducers.{IsFirstFor, IsBeside, AreIrreducible, ShareVariables, IsReducibleFirst}
 
 -- r is a remainder of f: steps lead from f to it, and no mark divides a monomial of it
 pub record IsRemainder (bs : List MarkedPolynomial) (f r : Terms) : Type 0 where
@@ -20,10 +20,11 @@ pub record IsRemainder (bs : List MarkedPolynomial) (f r : Terms) : Type 0 where
 
 -- ---- on the way
 
--- finitely many steps at other monomials than the spared one
+-- finitely many steps at other monomials than the spared one, each by the first member whose mark divides the monomial
 pub data ReachedBeside (bs : List MarkedPolynomial) (spared : Option Exponents) (f : Terms) : Terms → Type 0 where
   here : ReachedBeside bs spared f f
-  next : (g h : Terms) → ReachedBeside bs spared f g → (s : IsStep (Contains bs) g h) → IsBeside spared s.at → ReachedBeside bs spared f h
+  next : (g h : Terms) → ReachedBeside bs spared f g → (s : IsStep (Contains bs) g h) → IsBeside spared s.at →
+      IsFirstFor bs s.at s.member → ReachedBeside bs spared f h
 
 -- old became new by such steps
 pub record IsWorkedOn (bs : List MarkedPolynomial) (spared : Option Exponents) (old new : Split) : Type 0 where

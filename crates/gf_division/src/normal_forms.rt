@@ -7,8 +7,8 @@ ghost use Rattle.gf_ideal.specs.NormalForms.{IsNormalForm};
 ghost use Rattle.gf_division.specs.Steps.{IsReductionRefusal};
 ghost use Rattle.gf_division.specs.NormalForms.{HasSomeWeight, HaveSameVariables};
 
-use crate::dividend::Dividend;
-use crate::reducers::seek;
+use crate::front::Guide;
+use crate::remainders::remainder;
 use gf_poly::{Marked, MarkedSet, Poly, PolyError};
 use std::alloc::Global;
 
@@ -27,19 +27,15 @@ pub fn reduced(alloc: Global, f: Poly, by: &[Marked]) -> Result<Poly, PolyError>
     ensures variables { IfOk result (KeepsVariables f) }
     ensures cause { IfErr result (IsReductionRefusal by.now f) }
 {
-    let mut rest = Dividend::new(alloc, f);
-    'steps: while let Some(j) = seek(&mut rest, by, &None)? {
-        let member = &by[j];
-        let _ = rest.step(member)?;
-    }
-    Ok(rest.into_poly()?)
+    remainder(alloc, f, by, &mut Guide::unknown(alloc))
 }
 
 /// The normal form of `f` by the set: no marked monomial divides a monomial of it.
 ///
 /// Each time the deglex greatest term that a marked monomial divides is taken away, by the first member whose marked
 /// monomial divides it. The marked coefficients are 1, and some positive weight sets each marked monomial above the
-/// other ones of its polynomial, so that this ends.
+/// other ones of its polynomial, so that this ends. What it ends with doesn't depend on which terms are taken, so a long reduction
+/// takes them in another order (`remainder`).
 ///
 /// # Errors
 ///

@@ -1,8 +1,10 @@
-//! Remainders: no mark divides a monomial of what is left. Which term a step takes is free, so a long reduction takes the greatest
-//! by an order in which the marks are greatest: equal terms meet before they are reduced.
+//! Remainders: no mark divides a monomial of what is left. Each term is taken by the first member whose mark divides it, and then the
+//! order in which terms are taken makes no difference to what is left. So a long reduction takes the greatest by an order in which
+//! the marks are greatest: equal terms meet before they are reduced.
 
 ghost use Rattle.std.specs.Prelude.{◌≡◌, IfOk, IfErr, IfSome, IsTrue, OnOk};
 ghost use Rattle.gf_poly.specs.Polynomial.{IsDescending, KeepsVariables};
+ghost use Rattle.gf_ideal.specs.NormalForms.{IsNormalForm};
 ghost use Rattle.gf_division.specs.Steps.{IsReductionRefusal};
 ghost use Rattle.gf_division.specs.NormalForms.{HasSomeWeight, HaveSameVariables};
 ghost use Rattle.gf_division.specs.Dividends.{split_of, joined_terms};
@@ -153,13 +155,14 @@ pub(crate) fn work_off(
     by_guide(alloc, rest, by, spared)
 }
 
-/// A remainder of `f` by these members: steps by them lead to it, and no marked monomial divides a monomial of it. It is worked
+/// The remainder of `f` by these members: steps by them lead to it, and no marked monomial divides a monomial of it. It is worked
 /// out in the place of `f`.
 ///
-/// The members are monic, some weight sets each mark above the rest, and they have the variables of `f`. Where they are a Gröbner
-/// basis for their marking there is one remainder, the normal form; else it depends on which terms are taken (Cox, Little,
-/// O'Shea, *Ideals, Varieties, and Algorithms*, 2.6), and it is left open which it is. The first steps take the deglex greatest
-/// term; a reduction that is longer takes the greatest by the guide's order, which merges equal terms before they are reduced.
+/// The members are monic, some weight sets each mark above the rest, and they have the variables of `f`. Each step takes a term by
+/// the first member whose mark divides it. Other members may lead to another remainder, unless they are a Gröbner basis for their
+/// marking (Cox, Little, O'Shea, *Ideals, Varieties, and Algorithms*, 2.6); but which term is taken makes no difference, so it is the
+/// normal form by the rule, which takes the deglex greatest one. So do the first steps here; a reduction that is longer takes the
+/// greatest by the guide's order, which merges equal terms before they are reduced.
 ///
 /// # Errors
 ///
@@ -174,6 +177,7 @@ pub fn remainder(
     requires marked { HasSomeWeight by.now }
     requires variables { HaveSameVariables f by.now }
     ensures value { IfOk result (IsRemainder by.now f) }
+    ensures normal_form { IfOk result (IsNormalForm by.now f) }
     ensures descending { IfOk result IsDescending }
     ensures variables { IfOk result (KeepsVariables f) }
     ensures cause { IfErr result (IsReductionRefusal by.now f) }

@@ -19,7 +19,7 @@ use Rattle.gf_reduced.specs.Terms.{AreReduced}
 use Rattle.gf_reduced.specs.Pairs.{MembersShareVariables}
 use Rattle.gf_reduced.specs.Criteria.{AreAllPassed, HasFailing}
 use Rattle.gf_reduced.proofs.CriteriaLaws.{passed_groebner}
-use Rattle.gf_reduced.proofs.GroebnerLaws.{polys_variables, some_weight, rest_refutes, basis_of}
+use Rattle.gf_reduced.proofs.GroebnerLaws.{polys_variables, some_weight, failing_refutes, basis_of}
 use Rattle.gf_reduced.proofs.ReducedLaws.{reduced_of}
 
 -- the monic forms, as the set of them lends them
@@ -52,7 +52,7 @@ pub tested : (s : MarkedPolynomials) (by : List MarkedPolynomial) (r : Bool) →
 tested s by r q v m passed failing = at r passed failing
   where
     given : HasFailing by → IsMarkedGroebnerBasis s.variables s.items → ⊥
-    given f = let g : HasFailing (map monic_of s.items) = subst HasFailing q f in rest_refutes s.variables s.items g.first g.second g.rest v g.remainder g.nonzero
+    given f = let g : HasFailing (map monic_of s.items) = subst HasFailing q f in failing_refutes s.variables s.items g.first g.second g.rest v g.remainder g.nonzero
 
     at : (z : Bool) → (IsTrue z → AreAllPassed by) → (z ≡ false → HasFailing by) → IsTrue z ↔ IsMarkedGroebnerBasis s.variables s.items
     at true x y = (λ t. passed_groebner s.variables s.items v m (subst AreAllPassed q (x refl)), λ g. refl)

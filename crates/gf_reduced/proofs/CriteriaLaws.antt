@@ -18,15 +18,15 @@ use Rattle.gf_ideal.specs.Marks.{AreMarked, IsRealisable}
 use Rattle.gf_ideal.specs.Settled.{IsAt, IsSettledPair, ArePairsSettled}
 use Rattle.gf_ideal.proofs.CriteriaLaws.{pair_by_steps, pair_by_product, pair_by_chain, pair_turned}
 use Rattle.gf_ideal.proofs.LawsOfBasesHold.{buchbergers_criterion}
+use Rattle.gf_ideal.proofs.NormalFormLaws.{normal_form-reached}
 use Rattle.gf_division.proofs.ReducerLaws.{members_equal, member_contained, member_length}
 use Rattle.gf_division.proofs.SPolynomialLaws.{join_length}
 use Rattle.gf_reduced.specs.Forms.{monic_of}
 use Rattle.gf_reduced.specs.Markings.{IsMarkedGroebnerBasis}
-use Rattle.gf_reduced.specs.Pairs.{IsRestAt, DoAllVanish}
+use Rattle.gf_reduced.specs.Pairs.{IsRemainderAt, Vanishes, DoAllVanish}
 use Rattle.gf_reduced.specs.Criteria.{IsDividedBefore, IsPairExcused, IsPassed, ArePassedFrom, AreAllPassed, HasFailing}
 use Rattle.gf_reduced.proofs.FormLaws.{forms-variables, forms_marked_by}
-use Rattle.gf_reduced.proofs.PairLaws.{rest_of_normal}
-use Rattle.gf_reduced.proofs.GroebnerLaws.{polys_variables, rest_pair, groebner_of_forms}
+use Rattle.gf_reduced.proofs.GroebnerLaws.{polys_variables, s_at, groebner_of_forms}
 
 -- ---- coprime monomials
 
@@ -55,7 +55,7 @@ excused_divided bs i j b c x y m p q e f g d = record { first = b; second = c; a
 pub divided_before : (bs : List MarkedPolynomial) (i k : ℕ) (b : MarkedPolynomial) (h x : Exponents) → IsAt bs k b → k < i → h ≡ b.head → Divides h x → IsDividedBefore bs i x
 divided_before bs i k b h x p l e d = record { place = k; before = l; member = b; at = p; divides = subst (λ (z : Exponents). Divides z x) e d }
 
-pub failing_by : (bs : List MarkedPolynomial) (i j : ℕ) (r : Terms) → IsRestAt bs i j r → r ≢ [] → HasFailing bs
+pub failing_by : (bs : List MarkedPolynomial) (i j : ℕ) (r : Terms) → IsRemainderAt bs i j r → r ≢ [] → HasFailing bs
 failing_by bs i j r p n = record { first = i; second = j; rest = r; remainder = p; nonzero = n }
 
 -- ---- variables
@@ -92,7 +92,7 @@ all_passed_next bs i p h k l = at (cases_lt k i)
 
 -- where all normal forms are zero
 pub vanish_passed : (bs : List MarkedPolynomial) → DoAllVanish bs → AreAllPassed bs
-vanish_passed bs h i l j q r = inr (rest_of_normal bs i j [] (h i l j q r))
+vanish_passed bs h i l j q r = inr (h i l j q r)
 
 -- ---- they are settled
 
@@ -100,10 +100,10 @@ module _ (n : ℕ) (w : List ℕ) (bs : List MarkedPolynomial) (v : AreInVariabl
   Settled : ℕ → ℕ → Type 0
   Settled i j = (b c : MarkedPolynomial) → IsAt bs i b → IsAt bs j c → IsSettledPair n bs (lighter w) b c
 
-  -- a pair whose S-polynomial has the remainder zero
-  by_steps : (i j : ℕ) → IsRestAt bs i j [] → Settled i j
+  -- a pair whose S-polynomial has the normal form zero
+  by_steps : (i j : ℕ) → Vanishes bs i j → Settled i j
   unfolding Settled
-  by_steps i j z b c p q = pair_by_steps n bs (lighter w) b c z.s [] v (lighter-strict w) m (member_contained bs i b p) (member_contained bs j c q) (rest_pair bs i j b c [] z p q) z.rest.reached (inl (λ x. refl))
+  by_steps i j z b c p q = pair_by_steps n bs (lighter w) b c z.s [] v (lighter-strict w) m (member_contained bs i b p) (member_contained bs j c q) (s_at bs i j b c [] z p q) (normal_form-reached bs z.s [] z.normal_form.reached) (inl (λ x. refl))
 
   -- a pair that a criterion settles, where those of earlier members are settled
   by_criterion : (i j : ℕ) → i < j → ((k l : ℕ) → k < i → k < l → Settled k l) → IsPairExcused bs i j → Settled i j

@@ -1,5 +1,5 @@
 -- The pairs of the monic forms tell whether a marked set is a Gröbner basis for its marking.
--- To cite: polys_variables, some_weight, s_at, rest_pair, groebner_of_forms, rest_refutes, failing_refutes, basis_of.
+-- To cite: polys_variables, some_weight, s_at, groebner_of_forms, failing_refutes, basis_of.
 use Rattle.std.specs.Prelude.{◌≡◌, ◌≢◌, ℕ, true, List, [], map, Contains, IsPermutation}
 use Rattle.std.proofs.Common.{sym, subst}
 use Rattle.std.proofs.lemmas.List.Sorted.{Contains-permutation, IsPermutation-sym}
@@ -18,6 +18,7 @@ use Rattle.gf_ideal.proofs.PieceLaws.{Contains-polys, Contains-marked}
 use Rattle.gf_ideal.proofs.ListLaws.{contained_each}
 use Rattle.gf_ideal.proofs.ListedTerms.{variables_by_terms}
 use Rattle.gf_ideal.proofs.StepLaws.{member-s_polynomial}
+use Rattle.gf_ideal.proofs.NormalFormLaws.{normal_form-reached}
 use Rattle.gf_ideal.proofs.GeneratorLaws.{monic_list}
 use Rattle.gf_ideal.proofs.MarkWeights.{mark-there}
 use Rattle.gf_ideal.proofs.BasisLaws.{remainder_zero, basis_of_groebner, basis_along}
@@ -26,8 +27,7 @@ use Rattle.gf_division.specs.NormalForms.{HasSomeWeight}
 use Rattle.gf_division.proofs.ReducerLaws.{members_equal, member_contained}
 use Rattle.gf_reduced.specs.Forms.{monic_of, monic_set}
 use Rattle.gf_reduced.specs.Markings.{IsMarkedGroebnerBasis, IsBasisOf}
-use Rattle.gf_reduced.specs.Pairs.{IsRemainderAt, IsRestAt}
-use Rattle.gf_reduced.proofs.PairLaws.{rest_of_normal}
+use Rattle.gf_reduced.specs.Pairs.{IsRemainderAt}
 use Rattle.gf_reduced.proofs.FormLaws.{AreThere, realised_there, forms-variables, are_forms, form_of, form_there, forms_marked_by}
 
 -- ---- the polynomials of a list as a program keeps them
@@ -60,11 +60,8 @@ divisible_there bs x d = record { member = monic_of d.member; contained = form_t
 -- ---- pairs
 
 -- the S-polynomial of the members at i and j
-pub rest_pair : (bs : List MarkedPolynomial) (i j : ℕ) (b c : MarkedPolynomial) (r : Terms) (v : IsRestAt bs i j r) → IsAt bs i b → IsAt bs j c → IsSPolynomial b c v.s
-rest_pair bs i j b c r v p q = subst (λ (x : MarkedPolynomial). IsSPolynomial x c v.s) (members_equal bs i v.first b v.at_first p) (subst (λ (y : MarkedPolynomial). IsSPolynomial v.first y v.s) (members_equal bs j v.second c v.at_second q) v.is_s)
-
 pub s_at : (bs : List MarkedPolynomial) (i j : ℕ) (b c : MarkedPolynomial) (r : Terms) (v : IsRemainderAt bs i j r) → IsAt bs i b → IsAt bs j c → IsSPolynomial b c v.s
-s_at bs i j b c r v p q = rest_pair bs i j b c r (rest_of_normal bs i j r v) p q
+s_at bs i j b c r v p q = subst (λ (x : MarkedPolynomial). IsSPolynomial x c v.s) (members_equal bs i v.first b v.at_first p) (subst (λ (y : MarkedPolynomial). IsSPolynomial v.first y v.s) (members_equal bs j v.second c v.at_second q) v.is_s)
 
 -- the monic forms are a Gröbner basis for a weight that gives the marks
 pub groebner_of_forms : (n : ℕ) (bs : List MarkedPolynomial) → HaveVariables n bs → (r : IsRealisable n bs) → IsGroebnerBasis n (polys (map monic_of bs)) r.0 (map monic_of bs) → IsMarkedGroebnerBasis n bs
@@ -91,10 +88,10 @@ forms_basis n bs v g = basis_of_groebner n (polys forms) forms g.weight (record 
     same_ideals : AreSameIdeal n (polys bs) (polys forms)
     same_ideals = forms_ideal n bs v (λ b k. (g.marks b k).there)
 
--- so each remainder of an S-polynomial of two is zero
-pub rest_refutes : (n : ℕ) (bs : List MarkedPolynomial) (i j : ℕ) (r : Terms) → HaveVariables n bs → IsRestAt (map monic_of bs) i j r → r ≢ [] → IsMarkedGroebnerBasis n bs → ⊥
-rest_refutes n bs i j r v p z g =
-    z (descending_unique n r [] (p.variables n kept) tt p.descending tt (remainder_zero n (polys forms) forms p.s r inside basis s_member p.rest.reached p.rest.irreducible))
+-- so the normal form of each S-polynomial of two is zero
+pub failing_refutes : (n : ℕ) (bs : List MarkedPolynomial) (i j : ℕ) (r : Terms) → HaveVariables n bs → IsRemainderAt (map monic_of bs) i j r → r ≢ [] → IsMarkedGroebnerBasis n bs → ⊥
+failing_refutes n bs i j r v p z g =
+    z (descending_unique n r [] (p.variables n kept) tt p.descending tt (remainder_zero n (polys forms) forms p.s r inside basis s_member (normal_form-reached forms p.s r p.normal_form.reached) p.normal_form.irreducible))
   where
     forms : List MarkedPolynomial
     forms = map monic_of bs
@@ -119,10 +116,6 @@ rest_refutes n bs i j r v p z g =
         let one = member_contained forms i p.first p.at_first in
         let two = member_contained forms j p.second p.at_second in
         member-s_polynomial n (polys forms) p.first p.second p.s inside (marked p.first one) (marked p.second two) (member p.first one) (member p.second two) p.is_s
-
--- nor is a normal form another one
-pub failing_refutes : (n : ℕ) (bs : List MarkedPolynomial) (i j : ℕ) (r : Terms) → HaveVariables n bs → IsRemainderAt (map monic_of bs) i j r → r ≢ [] → IsMarkedGroebnerBasis n bs → ⊥
-failing_refutes n bs i j r v p z g = rest_refutes n bs i j r v (rest_of_normal (map monic_of bs) i j r p) z g
 
 -- ---- arranged
 

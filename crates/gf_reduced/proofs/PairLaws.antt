@@ -1,6 +1,5 @@
--- Pairs of members, and the normal forms and remainders of their S-polynomials.
--- To cite: pair_at, pair_variables, remainder_of, rest_of, rest_of_normal, s_refused, reduction_refused, VanishBefore, vanish_next,
--- AllVanishBefore.
+-- Pairs of members, and the normal forms of their S-polynomials.
+-- To cite: pair_at, pair_variables, remainder_of, s_refused, reduction_refused, VanishBefore, vanish_next, AllVanishBefore.
 use Rattle.std.specs.Prelude.{◌≡◌, ◌⊎◌, ℕ, ◌+◌, ◌<◌, ◌≤◌, true, List, [], length}
 use Rattle.std.proofs.Common.{arith, sym, ap, ◌∙◌, subst, get_or, inl, inr}
 use Rattle.std.proofs.lemmas.Bool.{cases_lt}
@@ -15,14 +14,12 @@ use Rattle.gf_poly.proofs.PolynomialLaws.{coefficient-++, SamePolynomial-times}
 use Rattle.gf_ideal.specs.Reduction.{IsSPolynomial}
 use Rattle.gf_ideal.specs.NormalForms.{IsNormalForm}
 use Rattle.gf_ideal.specs.Settled.{IsAt}
-use Rattle.gf_ideal.proofs.NormalFormLaws.{normal_form-reached}
 use Rattle.gf_division.specs.MonicForms.{IsMadeMonic}
 use Rattle.gf_division.specs.NormalForms.{HasSomeWeight, HaveSameVariables}
-use Rattle.gf_division.specs.Remainders.{IsRemainder}
 use Rattle.gf_division.specs.SPolynomials.{ArePairOf, KeepsPairVariables, IsSPolynomialOf, IsPairRefusal}
 use Rattle.gf_division.specs.Steps.{IsReductionRefusal}
 use Rattle.gf_division.proofs.ReducerLaws.{member_at, member_contained, member_variables}
-use Rattle.gf_reduced.specs.Pairs.{MembersShareVariables, IsRemainderAt, IsRestAt, Vanishes, VanishFrom}
+use Rattle.gf_reduced.specs.Pairs.{MembersShareVariables, IsRemainderAt, Vanishes, VanishFrom}
 use Rattle.gf_reduced.specs.Refusals.{IsPairCause, IsPairsRefusal}
 
 -- ---- S-polynomials of monic ones
@@ -90,33 +87,6 @@ remainder_of bs i j b c f r p s k h d v = record {
   normal_form = h;
   descending = d;
   variables = λ n u. v.at n (k.at n (p.are n u));
-}
-
-pub rest_of : (bs : List MarkedPolynomial) (i j : ℕ) (b c : MarkedPolynomial) (f r : Terms) → IsPairAt bs i j b c → IsSPolynomialOf b c f → KeepsPairVariables b c f → IsRemainder bs f r → IsDescending r → KeepsVariables f r → IsRestAt bs i j r
-rest_of bs i j b c f r p s k h d v = record {
-  first = b;
-  second = c;
-  at_first = p.first;
-  at_second = p.second;
-  s = f;
-  is_s = s_of_monic b c f p.first_monic p.second_monic s;
-  rest = h;
-  descending = d;
-  variables = λ n u. v.at n (k.at n (p.are n u));
-}
-
--- a normal form is a remainder
-abbrev pub rest_of_normal : (bs : List MarkedPolynomial) (i j : ℕ) (r : Terms) → IsRemainderAt bs i j r → IsRestAt bs i j r
-rest_of_normal bs i j r h = record {
-  first = h.first;
-  second = h.second;
-  at_first = h.at_first;
-  at_second = h.at_second;
-  s = h.s;
-  is_s = h.is_s;
-  rest = record { reached = normal_form-reached bs h.s r h.normal_form.reached; irreducible = h.normal_form.irreducible };
-  descending = h.descending;
-  variables = h.variables;
 }
 
 -- ---- refusals

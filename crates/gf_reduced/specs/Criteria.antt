@@ -6,7 +6,7 @@ use Rattle.gf_exponents.specs.Exponents.{Exponents, Divides, AreCoprime, join}
 use Rattle.gf_poly.specs.Polynomial.{Terms}
 use Rattle.gf_poly.specs.Marking.{MarkedPolynomial}
 use Rattle.gf_ideal.specs.Settled.{IsAt}
-use Rattle.gf_reduced.specs.Pairs.{IsRestAt}
+use Rattle.gf_reduced.specs.Pairs.{IsRemainderAt, Vanishes}
 
 -- the mark of a member before the place i divides x
 pub record IsDividedBefore (bs : List MarkedPolynomial) (i : ℕ) (x : Exponents) : Type 0 where
@@ -24,9 +24,9 @@ pub record IsPairExcused (bs : List MarkedPolynomial) (i j : ℕ) : Type 0 where
   pub at_second : IsAt bs j second
   pub criterion : AreCoprime first.head second.head ⊎ IsDividedBefore bs i (join first.head second.head)
 
--- the pair is so, or its S-polynomial has the remainder zero
+-- the pair is so, or its S-polynomial has the normal form zero
 abbrev pub IsPassed : List MarkedPolynomial → ℕ → ℕ → Type 0
-IsPassed bs i j = IsPairExcused bs i j ⊎ IsRestAt bs i j []
+IsPassed bs i j = IsPairExcused bs i j ⊎ Vanishes bs i j
 
 -- so is that of the member at i with each later one
 abbrev pub ArePassedFrom : List MarkedPolynomial → ℕ → Type 0
@@ -36,10 +36,10 @@ ArePassedFrom bs i = (j : ℕ) → i < j → j < length bs → IsPassed bs i j
 abbrev pub AreAllPassed : List MarkedPolynomial → Type 0
 AreAllPassed bs = (i : ℕ) → i < length bs → ArePassedFrom bs i
 
--- the S-polynomial of some two members has another remainder than zero
+-- the S-polynomial of some two members has another normal form than zero
 pub record HasFailing (bs : List MarkedPolynomial) : Type 0 where
   pub first : ℕ
   pub second : ℕ
   pub rest : Terms
-  pub remainder : IsRestAt bs first second rest
+  pub remainder : IsRemainderAt bs first second rest
   pub nonzero : rest ≢ []

@@ -1,4 +1,4 @@
--- Pairs of members of a monic marked list, by the normal forms of their S-polynomials, or by any remainders of them.
+-- Pairs of members of a monic marked list, by the normal forms of their S-polynomials.
 -- Laws: proofs/PairLaws.antt.
 -- Source: Cox, Little, O'Shea, Ideals, Varieties, and Algorithms, 2.6 (Buchberger's criterion).
 use Rattle.std.specs.Prelude.{◌≢◌, ℕ, ◌<◌, List, [], length}
@@ -7,7 +7,6 @@ use Rattle.gf_poly.specs.Marking.{MarkedPolynomial, HaveVariables}
 use Rattle.gf_ideal.specs.Reduction.{IsSPolynomial}
 use Rattle.gf_ideal.specs.NormalForms.{IsNormalForm}
 use Rattle.gf_ideal.specs.Settled.{IsAt}
-use Rattle.gf_division.specs.Remainders.{IsRemainder}
 
 -- the members have the same number of variables
 pub record MembersShareVariables (bs : List MarkedPolynomial) : Type 0 where
@@ -23,18 +22,6 @@ pub record IsRemainderAt (bs : List MarkedPolynomial) (i j : ℕ) (r : Terms) : 
   pub s : Terms
   pub is_s : IsSPolynomial first second s
   pub normal_form : IsNormalForm bs s r
-  pub descending : IsDescending r
-  pub variables : (n : ℕ) → HaveVariables n bs → HasVariables n r
-
--- r is some remainder of that S-polynomial, kept so
-pub record IsRestAt (bs : List MarkedPolynomial) (i j : ℕ) (r : Terms) : Type 0 where
-  pub first : MarkedPolynomial
-  pub second : MarkedPolynomial
-  pub at_first : IsAt bs i first
-  pub at_second : IsAt bs j second
-  pub s : Terms
-  pub is_s : IsSPolynomial first second s
-  pub rest : IsRemainder bs s r
   pub descending : IsDescending r
   pub variables : (n : ℕ) → HaveVariables n bs → HasVariables n r
 

@@ -48,8 +48,8 @@ pub fn is_marked_basis(alloc: Global, marked: &MarkedSet) -> Result<bool, CheckE
     Ok(are)
 }
 
-// Refuses a set with a pair whose S-polynomial has another normal form than zero. A basis is told by any remainders, and only a set
-// that isn't one is gone through by the normal forms, pair by pair.
+// Refuses a set with a pair whose S-polynomial has another normal form than zero. A basis is told by the pairs that no criterion
+// settles, and only a set that isn't one is gone through pair by pair.
 fn require_pairs(alloc: Global, by: &[Marked], set: u32) -> Result<(), CheckError>
     requires few { length by.now < 2 ^ 32 }
     requires marked { HasSomeWeight by.now }

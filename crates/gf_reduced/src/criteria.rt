@@ -7,7 +7,7 @@ ghost use Rattle.gf_reduced.specs.Pairs.{MembersShareVariables};
 ghost use Rattle.gf_reduced.specs.Criteria.{IsDividedBefore, IsPairExcused, IsPassed, HasFailing, ArePassedFrom, AreAllPassed};
 ghost use Rattle.gf_reduced.specs.Refusals.{IsPairsRefusal};
 
-use crate::pairs::rest_at;
+use crate::pairs::remainder_at;
 use gf_division::Guide;
 use gf_poly::{Marked, Mono, PolyError};
 use std::alloc::Global;
@@ -54,7 +54,7 @@ fn is_excused(by: &[Marked], i: usize, j: usize) -> bool
     is_divided_before(by, i, &multiple)
 }
 
-// Whether a criterion settles the pair, or its S-polynomial has the remainder zero.
+// Whether a criterion settles the pair, or its S-polynomial has the normal form zero.
 fn is_passed(
     alloc: Global,
     by: &[Marked],
@@ -73,7 +73,7 @@ fn is_passed(
     if is_excused(by, i, j) {
         return Ok(true);
     }
-    let rest = rest_at(alloc, by, i, j, guide)?;
+    let rest = remainder_at(alloc, by, i, j, guide)?;
     Ok(rest.is_zero())
 }
 
@@ -99,7 +99,7 @@ fn are_passed_from(
     Ok(true)
 }
 
-/// Whether each pair of members is settled by a criterion, or its S-polynomial has the remainder zero; else that of some pair
+/// Whether each pair of members is settled by a criterion, or its S-polynomial has the normal form zero; else that of some pair
 /// has another one.
 ///
 /// The members are monic, and some weight sets each mark above the rest.

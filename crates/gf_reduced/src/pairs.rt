@@ -1,10 +1,10 @@
 //! The S-polynomials of the pairs of a monic set, and their normal forms.
 ghost use Rattle.std.specs.Prelude.{◌≡◌, ◌<◌, ◌^◌, length, IfOk, IfErr, IfSome, IfNone};
 ghost use Rattle.gf_division.specs.NormalForms.{HasSomeWeight};
-ghost use Rattle.gf_reduced.specs.Pairs.{MembersShareVariables, IsRemainderAt, IsRestAt, IsFirstFailingWith, IsFirstFailing, VanishFrom, DoAllVanish};
+ghost use Rattle.gf_reduced.specs.Pairs.{MembersShareVariables, IsRemainderAt, IsFirstFailingWith, IsFirstFailing, VanishFrom, DoAllVanish};
 ghost use Rattle.gf_reduced.specs.Refusals.{IsPairsRefusal};
 
-use gf_division::{Guide, reduced, remainder, s_poly};
+use gf_division::{Guide, remainder, s_poly};
 use gf_poly::{Marked, Poly, PolyError};
 use std::alloc::Global;
 
@@ -16,35 +16,12 @@ pub(crate) struct FailingPair {
     pub remainder: Poly,
 }
 
-/// The normal form of the S-polynomial of two members.
+/// The normal form of the S-polynomial of two members; a long reduction takes its terms by the guide.
 ///
 /// # Errors
 ///
 /// `Overflow` and `Exponent` only where two numbers of that S-polynomial, or of a step of its reduction by the members, don't fit.
 pub(crate) fn remainder_at(
-    alloc: Global,
-    by: &[Marked],
-    i: usize,
-    j: usize,
-) -> Result<Poly, PolyError>
-    requires marked { HasSomeWeight by.now }
-    requires variables { MembersShareVariables by.now }
-    requires first { i < length by.now }
-    requires second { j < length by.now }
-    ensures value { IfOk result (IsRemainderAt by.now i j) }
-    ensures cause { IfErr result (IsPairsRefusal by.now) }
-{
-    let f = s_poly(alloc, &by[i], &by[j])?;
-    let rest = reduced(alloc, f, by)?;
-    Ok(rest)
-}
-
-/// A remainder of the S-polynomial of two members: which terms the steps take is free, so a long reduction goes by the guide.
-///
-/// # Errors
-///
-/// `Overflow` and `Exponent` only where two numbers of that S-polynomial, or of a step of its reduction by the members, don't fit.
-pub(crate) fn rest_at(
     alloc: Global,
     by: &[Marked],
     i: usize,
@@ -55,7 +32,7 @@ pub(crate) fn rest_at(
     requires variables { MembersShareVariables by.now }
     requires first { i < length by.now }
     requires second { j < length by.now }
-    ensures value { IfOk result (IsRestAt by.now i j) }
+    ensures value { IfOk result (IsRemainderAt by.now i j) }
     ensures cause { IfErr result (IsPairsRefusal by.now) }
 {
     let f = s_poly(alloc, &by[i], &by[j])?;
@@ -64,7 +41,12 @@ pub(crate) fn rest_at(
 }
 
 // The first later member whose pair with that at `i` fails.
-fn failing_with(alloc: Global, by: &[Marked], i: usize) -> Result<Option<FailingPair>, PolyError>
+fn failing_with(
+    alloc: Global,
+    by: &[Marked],
+    i: usize,
+    guide: &mut Guide,
+) -> Result<Option<FailingPair>, PolyError>
     requires marked { HasSomeWeight by.now }
     requires variables { MembersShareVariables by.now }
     requires first { i < length by.now }
@@ -74,7 +56,7 @@ fn failing_with(alloc: Global, by: &[Marked], i: usize) -> Result<Option<Failing
     ensures cause { IfErr result (IsPairsRefusal by.now) }
 {
     'later: for j in i + 1..by.len() {
-        let rest = remainder_at(alloc, by, i, j)?;
+        let rest = remainder_at(alloc, by, i, j, guide)?;
         if !rest.is_zero() {
             return Ok(Some(FailingPair {
                 first: i,
@@ -102,8 +84,9 @@ pub(crate) fn first_failing(alloc: Global, by: &[Marked]) -> Result<Option<Faili
     ensures none { IfOk result (λ o. IfNone o (DoAllVanish by.now)) }
     ensures cause { IfErr result (IsPairsRefusal by.now) }
 {
+    let mut guide = Guide::unknown(alloc);
     'members: for i in 0..by.len() {
-        let found = failing_with(alloc, by, i)?;
+        let found = failing_with(alloc, by, i, &mut guide)?;
         if let Some(pair) = found {
             return Ok(Some(pair));
         }

@@ -1,7 +1,7 @@
 use Rattle.std.proofs.lemmas.Result.{err_from_is_err_and}
 use Rattle.std.specs.Prelude.{None}
 use Rattle.gf_division.specs.Dividends.{split_of}
-use Rattle.gf_division.proofs.RemainderLaws.{share_start, nothing_above, remainder_at, remainder_keeps, remainder_refused}
+use Rattle.gf_division.proofs.RemainderLaws.{share_start, nothing_above, remainder_at, normal_form_of, remainder_keeps, remainder_refused}
 use Rattle.gf_division.proofs.remainders.remainder.Goals as goal
 
 pub work_off-requires-clause-variables : goal.work_off-requires-clause-variables
@@ -17,6 +17,9 @@ returns-in_err-work_off-clause-cause c =
 
 pub returns-clause-value : goal.returns-clause-value
 returns-clause-value c = remainder_at c.args.by.now c.args.f c.in_ok-into_poly.field-0 (split_of c.new-rest.result) (split_of c.work_off.new.rest) c.new-rest.ensures.value c.in_ok-into_poly.ensures c.in_ok-work_off.ensures.done c.in_ok-work_off.ensures.worked
+
+pub returns-clause-normal_form : goal.returns-clause-normal_form
+returns-clause-normal_form c = normal_form_of c.args.by.now c.requires.marked.0 c.args.f c.in_ok-into_poly.field-0 (split_of c.new-rest.result) (split_of c.work_off.new.rest) c.requires.marked.1 c.new-rest.ensures.value c.in_ok-into_poly.ensures c.in_ok-work_off.ensures.done c.in_ok-work_off.ensures.worked
 
 pub returns-clause-variables : goal.returns-clause-variables
 returns-clause-variables c = remainder_keeps c.args.by.now c.args.f c.in_ok-into_poly.field-0 (split_of c.new-rest.result) (split_of c.work_off.new.rest) c.new-rest.ensures.value c.in_ok-into_poly.ensures c.in_ok-work_off.ensures.worked

@@ -8,8 +8,8 @@ returns-in_err-f-clause-cause c =
     let at = pair_at c.args.by.now c.args.i c.args.j c.index-by-i.result c.index-by-j.result c.requires.marked c.requires.variables c.requires.first c.requires.second c.index-by-i.is c.index-by-j.is in
     rw (p.1, p.2) (s_refused c.args.by.now c.args.i c.args.j c.index-by-i.result c.index-by-j.result c.in_err-f.field-0.0 at c.in_err-f.ensures.cause)
 
-pub reduced-requires-clause-variables : goal.reduced-requires-clause-variables
-reduced-requires-clause-variables c =
+pub remainder-requires-clause-variables : goal.remainder-requires-clause-variables
+remainder-requires-clause-variables c =
     let at = pair_at c.args.by.now c.args.i c.args.j c.index-by-i.result c.index-by-j.result c.requires.marked c.requires.variables c.requires.first c.requires.second c.index-by-i.is c.index-by-j.is in
     pair_variables c.args.by.now c.args.i c.args.j c.index-by-i.result c.index-by-j.result c.in_ok-f.f at c.in_ok-f.ensures.variables
 
@@ -22,4 +22,4 @@ returns-in_err-rest-clause-cause c =
 pub returns-clause-value : goal.returns-clause-value
 returns-clause-value c =
     let at = pair_at c.args.by.now c.args.i c.args.j c.index-by-i.result c.index-by-j.result c.requires.marked c.requires.variables c.requires.first c.requires.second c.index-by-i.is c.index-by-j.is in
-    remainder_of c.args.by.now c.args.i c.args.j c.index-by-i.result c.index-by-j.result c.in_ok-f.f c.in_ok-rest.rest at c.in_ok-f.ensures.value c.in_ok-f.ensures.variables c.in_ok-rest.ensures.value c.in_ok-rest.ensures.descending c.in_ok-rest.ensures.variables
+    remainder_of c.args.by.now c.args.i c.args.j c.index-by-i.result c.index-by-j.result c.in_ok-f.f c.in_ok-rest.rest at c.in_ok-f.ensures.value c.in_ok-f.ensures.variables c.in_ok-rest.ensures.normal_form c.in_ok-rest.ensures.descending c.in_ok-rest.ensures.variables
