@@ -10,7 +10,7 @@ use gf_walk::{FiniteTree, Tree};
 use std::alloc::{AllocError, Global};
 
 /// What a call of the tree is refused by.
-#[derive(Clone, Copy, Drop, PartialEq)]
+#[derive(Clone, Copy, Debug, Drop, PartialEq)]
 pub enum NumberError {
     /// Want of memory.
     Memory,
