@@ -7,7 +7,7 @@ use gf_vec::{VecError, WideVector};
 use std::alloc::{AllocError, AllocFailed};
 
 /// Why a weight, or the witnesses of facets, aren't told.
-#[derive(Drop)]
+#[derive(Debug, Drop, PartialEq, Eq)]
 pub enum WeightError {
     /// An operation of finding the rays leaves the range.
     Cone(ConeOverflow),
