@@ -20,7 +20,7 @@ use Rattle.gf_poly.proofs.ProductLaws.{HasVariables-at}
 use Rattle.gf_patterns.specs.Patterns.{points, IsOnPrevariety, IsAnywhere}
 use Rattle.gf_patterns.specs.PatternRows.{vector_difference, point_at, single_rows, pair_rows}
 use Rattle.gf_patterns.specs.PatternFans.{whole_space}
-use Rattle.gf_patterns.proofs.PatternFanLaws.{minus_long}
+use Rattle.gf_patterns.proofs.RowLaws.{minus_long}
 use Rattle.gf_tropical.specs.Refusals.{NoneIsZero, IsSystemStep, IsTropicalWithinLimits}
 use Rattle.gf_tropical.specs.Systems.{IsConeOrFace, IsFanSystem, none, one, more, IsSystemOf, whole, own, both, IsPairCone, IsSingleCone, IsPairSystem, IsSingleSystem}
 use Rattle.gf_tropical.specs.Limits.{HaveExponentsUpTo, terms_but, HasRoomUpTo, PolynomialsWithRoomStayWithinLimits, TrinomialsStayWithinLimits}

@@ -21,7 +21,7 @@ use Rattle.gf_fan.specs.Refusals.{IsFacesStep}
 use Rattle.gf_refine.specs.FansRefined.{IsMeetOfCones, IsRefinementOf, IsPartOfMeet}
 use Rattle.gf_refine.specs.Refusals.{IsRefineStep}
 use Rattle.gf_poly.specs.Polynomial.{Terms}
-use Rattle.gf_patterns.specs.PatternRows.{AreSingleCones, ArePairCones}
+use Rattle.gf_patterns.specs.Vertices.{AreVertexCones, AreVertexPairCones}
 use Rattle.gf_patterns.specs.PatternFans.{whole_space}
 use Rattle.gf_tropical.specs.declared.error.TropicalError.{TropicalError}
 use Rattle.gf_tropical.specs.declared.error.TropicalError.TheVariants.{Cone, ZeroPolynomial, Memory}
@@ -47,11 +47,11 @@ failed_width P gordan.Memory e q x = subst (IsWidthRefusal P) (sym q) tt
 
 -- ---- the cones of one polynomial
 
-pub pair_cones_by : (A : List (List ℤ)) (cones : List Rows) → ArePairCones A cones → (c : Rows) → Contains cones c → IsConeBy Prevariety (A ∷ []) c
-pair_cones_by A cones s c k = let p = s.each c k in record { of = A; listed = in_head A []; i = p.0; j = p.1; ordered = p.2.0; inside = p.2.1; rows = p.2.2 }
+pub pair_cones_by : (A : List (List ℤ)) (cones : List Rows) (n : ℕ) → AreVertexPairCones n A cones → (c : Rows) → Contains cones c → IsConeBy Prevariety (A ∷ []) c
+pair_cones_by A cones n s c k = let p = s.each c k in record { of = A; listed = in_head A []; i = p.0; j = p.1; ordered = p.2.0; inside = p.2.1; rows = p.2.2 }
 
-pub single_cones_by : (A : List (List ℤ)) (cones : List Rows) → AreSingleCones A cones → (c : Rows) → Contains cones c → IsConeBy Minkowski (A ∷ []) c
-single_cones_by A cones s c k = let p = s.each c k in record { of = A; listed = in_head A []; i = p.0; inside = p.1.0; rows = p.1.1 }
+pub single_cones_by : (A : List (List ℤ)) (cones : List Rows) (n : ℕ) → AreVertexCones n A cones → (c : Rows) → Contains cones c → IsConeBy Minkowski (A ∷ []) c
+single_cones_by A cones n s c k = let p = s.each c k in record { of = A; listed = in_head A []; i = p.0; inside = p.1.0; rows = p.1.1 }
 
 -- ---- the fan of cones by rows
 
