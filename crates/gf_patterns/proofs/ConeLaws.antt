@@ -13,9 +13,10 @@ use Rattle.gf_fans.proofs.FanLaws.{is_in, up_in, zero_in, of_part}
 use Rattle.gf_patterns.specs.Refinements.{IsFaceOfSome}
 use Rattle.gf_patterns.specs.Interiors.{HaveInteriors}
 use Rattle.gf_patterns.specs.Patterns.{IsHighest, IsClosedCone, IsOnHypersurface, IsPrevariety, IsMinkowskiFan}
-use Rattle.gf_patterns.specs.PatternRows.{vector_difference, point_at, single_rows, pair_rows, AreSingleCones, ArePairCones}
+use Rattle.gf_patterns.specs.PatternRows.{vector_difference, point_at, single_rows, pair_rows}
+use Rattle.gf_patterns.specs.Vertices.{IsVertex, AreVertexCones, AreVertexPairCones}
 use Rattle.gf_patterns.proofs.RefinementLaws.{fan_of}
-use Rattle.gf_patterns.proofs.PatternLaws.{highest_of}
+use Rattle.gf_patterns.proofs.VertexLaws.{vertex_of, two_vertices}
 use Rattle.gf_patterns.proofs.RowLaws.{dot_minus, IsRowsOf, top, rows_meet, face_closed, closed_face, one_list}
 use Rattle.gf_duality.proofs.Equations.{in_map, map_in}
 
@@ -109,13 +110,13 @@ pair_is n A i j w l lj =
 
 -- ---- fans
 
-pub singles_fan : (n : ℕ) (A : List (List ℤ)) (cones : List Rows) → AreRows n A → AreSingleCones A cones → MeetPairwise n cones
+pub singles_fan : (n : ℕ) (A : List (List ℤ)) (cones : List Rows) → AreRows n A → AreVertexCones n A cones → MeetPairwise n cones
 singles_fan n A cones w s = fan_of n cones (λ c d k l.
     let p = s.each c k in let q = s.each d l in
     subst (λ z. MeetInFaces n z d) (sym p.1.1) (subst (λ z. MeetInFaces n (single_rows A p.0) z) (sym q.1.1)
     (rows_meet n A (point_at A p.0 ∷ []) (point_at A q.0 ∷ []) (point_at A p.0) (point_at A q.0) (single_rows A p.0) (single_rows A q.0) (single_is n A p.0 w p.1.0) (single_is n A q.0 w q.1.0))))
 
-pub pairs_fan : (n : ℕ) (A : List (List ℤ)) (cones : List Rows) → AreRows n A → ArePairCones A cones → MeetPairwise n cones
+pub pairs_fan : (n : ℕ) (A : List (List ℤ)) (cones : List Rows) → AreRows n A → AreVertexPairCones n A cones → MeetPairwise n cones
 pairs_fan n A cones w s = fan_of n cones (λ c d k l.
     let p = s.each c k in let q = s.each d l in
     subst (λ z. MeetInFaces n z d) (sym p.2.2) (subst (λ z. MeetInFaces n (pair_rows A p.0 p.1) z) (sym q.2.2)
@@ -124,32 +125,32 @@ pairs_fan n A cones w s = fan_of n cones (λ c d k l.
 -- ---- what the cones are
 
 -- the faces of the cones of single points are the Minkowski fan of one polynomial
-pub singles_minkowski : (n : ℕ) (A : List (List ℤ)) (b : List ℤ) (cones : List Rows) → AreRows n A → Contains A b → AreSingleCones A cones → HaveInteriors n cones → IsMinkowskiFan n (A ∷ []) cones
+pub singles_minkowski : (n : ℕ) (A : List (List ℤ)) (b : List ℤ) (cones : List Rows) → AreRows n A → Contains A b → AreVertexCones n A cones → HaveInteriors n cones → IsMinkowskiFan n (A ∷ []) cones
 singles_minkowski n A b cones w kb s inner = record {
   each = λ f k.
       let p = s.each k.cone k.listed in let i = inner f k in
       record { vector = i.0; width = i.1.width; admitted = tt; closed = face_closed n A (point_at A p.0 ∷ []) (point_at A p.0) i.0 (single_rows A p.0) f (single_is n A p.0 w p.1.0) (subst (IsFaceOf n f) p.1.1 k.face) i.1 };
   every = λ v lv ad.
-      let h = highest_of A v b kb in let k : ℕ = h.1.listed.0 in let lk = h.1.listed.1 in
+      let h = vertex_of n A v b (wide_at n A w) lv kb in let k : ℕ = h.1.0.listed.0 in let lk = h.1.0.listed.1 in
       let a : List ℤ = point_at A k in
-      let e : a ≡ h.0 = get_or_default A k [] h.0 lk ∙ h.1.listed.2 in
-      let f = closed_face n A (a ∷ []) a v (single_rows A k) (single_is n A k w lk) (λ x kx. elim (in_cons a [] x kx) [ inl q ↦ subst (IsHighest A v) (sym (q ∙ e)) h.1 | inr y ↦ absurd (none_in x y) ]) in
-      (f.0, (record { cone = single_rows A k; listed = s.every k lk; face = f.1.0 }, f.1.1));
+      let e : a ≡ h.0 = get_or_default A k [] h.0 lk ∙ h.1.0.listed.2 in
+      let f = closed_face n A (a ∷ []) a v (single_rows A k) (single_is n A k w lk) (λ x kx. elim (in_cons a [] x kx) [ inl q ↦ subst (IsHighest A v) (sym (q ∙ e)) h.1.0 | inr y ↦ absurd (none_in x y) ]) in
+      (f.0, (record { cone = single_rows A k; listed = s.every k lk (subst (IsVertex n A) (sym e) h.1.1); face = f.1.0 }, f.1.1));
 }
 
 -- a pair of places, the lesser first
-pair_at : (n : ℕ) (A : List (List ℤ)) (cones : List Rows) (v : List ℤ) (i j : ℕ) → AreRows n A → ArePairCones A cones → i < j → j < length A → IsHighest A v (point_at A i) → IsHighest A v (point_at A j) →
+pair_at : (n : ℕ) (A : List (List ℤ)) (cones : List Rows) (v : List ℤ) (i j : ℕ) → AreRows n A → AreVertexPairCones n A cones → i < j → j < length A → IsHighest A v (point_at A i) → IsHighest A v (point_at A j) → IsVertex n A (point_at A i) → IsVertex n A (point_at A j) →
     (f : Rows) × (IsFaceOfSome n cones f × IsClosedCone n (A ∷ []) v f)
-pair_at n A cones v i j w s l lj hi hj =
+pair_at n A cones v i j w s l lj hi hj vi vj =
     let a : List ℤ = point_at A i in let b : List ℤ = point_at A j in
     let f = closed_face n A (a ∷ b ∷ []) a v (pair_rows A i j) (pair_is n A i j w l lj) (λ x kx. elim (in_cons a (b ∷ []) x kx) [
       | inl q ↦ subst (IsHighest A v) (sym q) hi
       | inr y ↦ elim (in_cons b [] x y) [ inl q ↦ subst (IsHighest A v) (sym q) hj | inr z ↦ absurd (none_in x z) ]
     ]) in
-    (f.0, (record { cone = pair_rows A i j; listed = s.every i j l lj; face = f.1.0 }, f.1.1))
+    (f.0, (record { cone = pair_rows A i j; listed = s.every i j l lj vi vj; face = f.1.0 }, f.1.1))
 
 -- the faces of the cones of pairs of points are the hypersurface
-pub pairs_hypersurface : (n : ℕ) (A : List (List ℤ)) (cones : List Rows) → AreRows n A → AllPairs (λ x y. x ≢ y) A → ArePairCones A cones → HaveInteriors n cones → IsPrevariety n (A ∷ []) cones
+pub pairs_hypersurface : (n : ℕ) (A : List (List ℤ)) (cones : List Rows) → AreRows n A → AllPairs (λ x y. x ≢ y) A → AreVertexPairCones n A cones → HaveInteriors n cones → IsPrevariety n (A ∷ []) cones
 pairs_hypersurface n A cones w different s inner = record {
   each = λ f k.
       let p = s.each k.cone k.listed in let i = inner f k in
@@ -170,14 +171,15 @@ pairs_hypersurface n A cones w different s inner = record {
         closed = face_closed n A (a ∷ b ∷ []) a i.0 (pair_rows A p.0 p.1) f is fk i.1;
       };
   every = λ v lv on.
-      let h = on A (in_head A []) in
+      let h = two_vertices n A v (wide_at n A w) lv (on A (in_head A [])) in
       let i : ℕ = h.first.listed.0 in let li = h.first.listed.1 in let j : ℕ = h.second.listed.0 in let lj = h.second.listed.1 in
       let ei : point_at A i ≡ h.one = get_or_default A i [] h.one li ∙ h.first.listed.2 in
       let ej : point_at A j ≡ h.two = get_or_default A j [] h.two lj ∙ h.second.listed.2 in
       let hi = subst (IsHighest A v) (sym ei) h.first in let hj = subst (IsHighest A v) (sym ej) h.second in
+      let vi = subst (IsVertex n A) (sym ei) h.first_vertex in let vj = subst (IsVertex n A) (sym ej) h.second_vertex in
       elim (place j i) [
-        | less g ↦ pair_at n A cones v i j w s g lj hi hj
-        | more g ↦ pair_at n A cones v j i w s g li hj hi
+        | less g ↦ pair_at n A cones v i j w s g lj hi hj vi vj
+        | more g ↦ pair_at n A cones v j i w s g li hj hi vj vi
         | at g ↦ absurd (h.other (sym ei ∙ ap (point_at A) (sym g) ∙ ej))
       ];
 }

@@ -1,12 +1,12 @@
 -- The theorems of specs/Laws.antt.
 use Rattle.gf_gordan.specs.Alternative.{GordansAlternative}
-use Rattle.gf_patterns.specs.Laws.{MeetsAreRefinements, ConesHaveInteriors, FacesOfFacesAreFaces, MaximalConesSuffice, PatternsAreOfInitialForms, PatternsHaveCones, PatternsAreRefined, VectorsAreInOneCone}
+use Rattle.gf_patterns.specs.Laws.{MeetsAreRefinements, ConesHaveInteriors, FacesOfFacesAreFaces, MaximalConesSuffice, PatternsAreOfInitialForms, PatternsHaveCones, VerticesSuffice, PatternsAreRefined, VectorsAreInOneCone}
 use Rattle.gf_patterns.specs.Patterns.{IsAnywhere, IsOnPrevariety}
 use Rattle.gf_patterns.proofs.RefinementLaws.{meets_fan, meets_width, meets_refine}
 use Rattle.gf_patterns.proofs.InnerLaws.{inner}
 use Rattle.gf_patterns.proofs.InteriorLaws.{interior_relative}
 use Rattle.gf_patterns.proofs.PatternLaws.{anywhere, on_prevariety, refined_patterns, own_alone}
-use Rattle.gf_patterns.proofs.PatternFanLaws.{interiors, hypersurface_list, minkowski_list, whole_prevariety, whole_minkowski}
+use Rattle.gf_patterns.proofs.PatternFanLaws.{interiors, hypersurface_list, minkowski_list, all_singles, all_pairs, vertex_solvable, whole_prevariety, whole_minkowski}
 use Rattle.gf_patterns.proofs.NestedFaces.{face_of_same, face_of_face}
 use Rattle.gf_patterns.proofs.CoverLaws.{covered_same, patterns_same, refinement_same}
 use Rattle.gf_patterns.proofs.FormLaws.{pattern_form}
@@ -37,10 +37,17 @@ patterns_are_of_initial_forms = pattern_form
 
 pub patterns_have_cones : GordansAlternative → PatternsHaveCones
 patterns_have_cones g = record {
-  singles = λ n A b cones w k s. minkowski_list n A b cones g w k s;
-  pairs = λ n A cones w d s. hypersurface_list n A cones g w d s;
+  singles = λ n A b cones w k s. minkowski_list n A b cones g w k (all_singles n A cones s);
+  pairs = λ n A cones w d s. hypersurface_list n A cones g w d (all_pairs n A cones s);
   prevariety = whole_prevariety;
   minkowski = whole_minkowski;
+}
+
+pub vertices_suffice : GordansAlternative → VerticesSuffice
+vertices_suffice g = record {
+  singles = λ n A b cones w k s. minkowski_list n A b cones g w k s;
+  pairs = λ n A cones w d s. hypersurface_list n A cones g w d s;
+  vertex = vertex_solvable;
 }
 
 pub patterns_are_refined : GordansAlternative → PatternsAreRefined

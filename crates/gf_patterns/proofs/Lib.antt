@@ -5,6 +5,7 @@ pub mod InteriorLaws  -- relative interiors
 pub mod NestedFaces  -- faces without rows, faces of faces
 pub mod PatternLaws  -- patterns, and the closed cones of several polynomials
 pub mod RowLaws  -- cones of patterns by rows
+mod VertexLaws  -- each pattern has a vertex, and each of two members two of them
 pub mod ConeLaws  -- the cones of single points and of pairs
 pub mod PatternFanLaws  -- lists of cones for prevarieties and Minkowski fans
 pub mod CoverLaws  -- lists of cones with the same faces

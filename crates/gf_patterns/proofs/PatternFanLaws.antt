@@ -1,23 +1,27 @@
 -- The cones of one polynomial as lists for its hypersurface and its Minkowski fan, and those of no polynomial.
-use Rattle.std.proofs.Common.{◌≡◌, ◌≢◌, ℕ, zero, suc, List, [], ◌∷◌, length, ℤ, arith, sym, ap, ◌∙◌, subst, Contains, inl, inr, AllPairs}
+use Rattle.std.proofs.Common.{◌≡◌, ◌≢◌, ℕ, ◌<◌, List, [], ◌∷◌, length, ℤ, pos, ◌<ℤ◌, ◌↔◌, arith, sym, ap, ◌∙◌, subst, Contains, inl, inr, AllPairs, remove}
+use Rattle.std.proofs.lemmas.Int.{ints}
+use Rattle.std.proofs.lemmas.List.{get_or_default}
 use Rattle.std.proofs.lemmas.List.Elements.{All-contains, All-append}
-use Rattle.gf_vec.specs.Vector.{zeros}
+use Rattle.gf_vec.specs.Vector.{dot, zeros}
 use Rattle.gf_vec.proofs.VectorLaws.{length-zeros}
-use Rattle.gf_gordan.specs.Alternative.{AreRows, GordansAlternative}
+use Rattle.gf_gordan.specs.Alternative.{AreRows, GordansAlternative, IsSolvable}
 use Rattle.gf_duality.specs.Faces.{Rows, IsInCone, IsFaceOf, part}
-use Rattle.gf_duality.proofs.ListLaws.{none_in, in_head, in_tail, in_cons, all_by}
+use Rattle.gf_duality.proofs.Equations.{in_map}
+use Rattle.gf_duality.proofs.ListLaws.{none_in, in_head, in_tail, in_cons, all_by, of_rest, stood, place, less, at, more}
 use Rattle.gf_fans.specs.Fans.{MeetInFaces}
 use Rattle.gf_fans.proofs.FanLaws.{is_in, own_face, same_turned}
 use Rattle.gf_patterns.specs.Refinements.{HaveEntries}
 use Rattle.gf_patterns.specs.Interiors.{HaveInteriors}
 use Rattle.gf_patterns.specs.Patterns.{IsOnPrevariety, IsAnywhere}
 use Rattle.gf_patterns.specs.PatternRows.{vector_difference, point_at, single_rows, pair_rows, AreSingleCones, ArePairCones}
+use Rattle.gf_patterns.specs.Vertices.{IsVertex, AreVertexCones, AreVertexPairCones}
 use Rattle.gf_patterns.specs.PatternFans.{whole_space, IsFanOfPatterns, IsPrevarietyList, IsMinkowskiList}
 use Rattle.gf_patterns.proofs.MeetLaws.{meets_self}
 use Rattle.gf_patterns.proofs.RefinementLaws.{fan_of}
 use Rattle.gf_patterns.proofs.InnerLaws.{inner}
 use Rattle.gf_patterns.proofs.InteriorLaws.{interior_relative, relative_same}
-use Rattle.gf_patterns.proofs.RowLaws.{IsRowsOf}
+use Rattle.gf_patterns.proofs.RowLaws.{minus_long, IsRowsOf, row_value}
 use Rattle.gf_patterns.proofs.ConeLaws.{single_is, pair_is, singles_fan, pairs_fan, singles_minkowski, pairs_hypersurface}
 use Rattle.gf_duality.proofs.EchelonUnique.{no_widths}
 
@@ -29,22 +33,20 @@ interiors n cones g w f k =
     let r = inner n (part c zs) g wc.0 (All-append (λ t. length t ≡ n) c.equations zs wc.1 wz) in
     (r.0, relative_same n (part c zs) f r.0 (same_turned n f (part c zs) k.face.1.1) (interior_relative n (part c zs) r.0 r.1))
 
-pub minus_long : (n : ℕ) (a g : List ℤ) → length a ≡ n → length g ≡ n → length (vector_difference a g) ≡ n
-minus_long n [] g la lg = la
-minus_long zero (x ∷ a) g la lg = absurd (omega (arith, la))
-minus_long (suc n) (x ∷ a) [] la lg = absurd (omega (arith, lg))
-minus_long (suc n) (x ∷ a) (y ∷ g) la lg = ap suc (minus_long n a g (omega (arith, la)) (omega (arith, lg)))
-
 -- rows that are differences of points
 rows_wide : (n : ℕ) (A S : List (List ℤ)) (a : List ℤ) (c : Rows) → IsRowsOf n A S a c → AreRows n c.inequalities
 rows_wide n A S a c r = all_by (λ t. length t ≡ n) c.inequalities (λ h k. let o = r.each h k in ap length o.1.1 ∙ minus_long n a o.0 (r.wide a (r.inside a r.first)) (r.wide o.0 o.1.0))
 
-single_width : (n : ℕ) (A : List (List ℤ)) (cones : List Rows) → AreRows n A → AreSingleCones A cones → HaveEntries n cones
+-- the rows of the cone of one point have n entries
+pub single_wide : (n : ℕ) (A : List (List ℤ)) (i : ℕ) → AreRows n A → i < length A → AreRows n (single_rows A i).inequalities
+single_wide n A i w l = rows_wide n A (point_at A i ∷ []) (point_at A i) (single_rows A i) (single_is n A i w l)
+
+single_width : (n : ℕ) (A : List (List ℤ)) (cones : List Rows) → AreRows n A → AreVertexCones n A cones → HaveEntries n cones
 single_width n A cones w s c k =
     let p = s.each c k in
     subst (λ z. AreRows n z.inequalities × AreRows n z.equations) (sym p.1.1) (rows_wide n A (point_at A p.0 ∷ []) (point_at A p.0) (single_rows A p.0) (single_is n A p.0 w p.1.0), no_widths n)
 
-pair_width : (n : ℕ) (A : List (List ℤ)) (cones : List Rows) → AreRows n A → ArePairCones A cones → HaveEntries n cones
+pair_width : (n : ℕ) (A : List (List ℤ)) (cones : List Rows) → AreRows n A → AreVertexPairCones n A cones → HaveEntries n cones
 pair_width n A cones w s c k =
     let p = s.each c k in let a : List ℤ = point_at A p.0 in let b : List ℤ = point_at A p.1 in
     let is = pair_is n A p.0 p.1 w p.2.0 p.2.1 in
@@ -55,14 +57,21 @@ pair_width n A cones w s c k =
     subst (λ z. AreRows n z.inequalities × AreRows n z.equations) (sym p.2.2) (rows_wide n A (a ∷ b ∷ []) a (pair_rows A p.0 p.1) is, one)
 
 -- the hypersurface of one polynomial
-pub hypersurface_list : (n : ℕ) (A : List (List ℤ)) (cones : List Rows) → GordansAlternative → AreRows n A → AllPairs (λ x y. x ≢ y) A → ArePairCones A cones → IsPrevarietyList n (A ∷ []) cones
+pub hypersurface_list : (n : ℕ) (A : List (List ℤ)) (cones : List Rows) → GordansAlternative → AreRows n A → AllPairs (λ x y. x ≢ y) A → AreVertexPairCones n A cones → IsPrevarietyList n (A ∷ []) cones
 hypersurface_list n A cones g w different s =
     let wide = pair_width n A cones w s in record { width = wide; fan = pairs_fan n A cones w s; patterns = pairs_hypersurface n A cones w different s (interiors n cones g wide) }
 
 -- the Minkowski fan of one polynomial
-pub minkowski_list : (n : ℕ) (A : List (List ℤ)) (b : List ℤ) (cones : List Rows) → GordansAlternative → AreRows n A → Contains A b → AreSingleCones A cones → IsMinkowskiList n (A ∷ []) cones
+pub minkowski_list : (n : ℕ) (A : List (List ℤ)) (b : List ℤ) (cones : List Rows) → GordansAlternative → AreRows n A → Contains A b → AreVertexCones n A cones → IsMinkowskiList n (A ∷ []) cones
 minkowski_list n A b cones g w kb s =
     let wide = single_width n A cones w s in record { width = wide; fan = singles_fan n A cones w s; patterns = singles_minkowski n A b cones w kb s (interiors n cones g wide) }
+
+-- all cones of single points, and of pairs, are such lists
+pub all_singles : (n : ℕ) (A : List (List ℤ)) (cones : List Rows) → AreSingleCones A cones → AreVertexCones n A cones
+all_singles n A cones s = record { each = s.each; every = λ i l v. s.every i l }
+
+pub all_pairs : (n : ℕ) (A : List (List ℤ)) (cones : List Rows) → ArePairCones A cones → AreVertexPairCones n A cones
+all_pairs n A cones s = record { each = s.each; every = λ i j l lj v u. s.every i j l lj }
 
 -- of no polynomial both are the whole space
 pub whole_list : (Admitted : List (List (List ℤ)) → List ℤ → Type 0) (n : ℕ) → ((w : List ℤ) → Admitted [] w) → IsFanOfPatterns Admitted n [] (whole_space ∷ [])
@@ -93,3 +102,45 @@ whole_prevariety n = whole_list IsOnPrevariety n (λ w A k. absurd (none_in A k)
 
 pub whole_minkowski : (n : ℕ) → IsMinkowskiList n [] (whole_space ∷ [])
 whole_minkowski n = whole_list IsAnywhere n (λ w. tt)
+
+-- points at other places are others
+others_differ : (A : List (List ℤ)) (i : ℕ) (x : List ℤ) → i < length A → AllPairs (λ x y. x ≢ y) A → Contains (remove A i) x → x ≢ point_at A i
+others_differ A i x li different k e =
+    let st = stood A i x li k in let j : ℕ = st.j in
+    let q : point_at A j ≡ x = get_or_default A j [] x st.inside ∙ st.is in
+    elim (place i j) [
+      | less g ↦ different j i [] g li (q ∙ e)
+      | at g ↦ st.other g
+      | more g ↦ different i j [] g st.inside (sym (q ∙ e))
+    ]
+
+-- a point is a vertex where the rows of its cone have a vector on which each is positive
+pub vertex_solvable : (n : ℕ) (A : List (List ℤ)) (i : ℕ) → AreRows n A → AllPairs (λ x y. x ≢ y) A → i < length A → IsVertex n A (point_at A i) ↔ IsSolvable n (single_rows A i).inequalities []
+vertex_solvable n A i w different li =
+    let a : List ℤ = point_at A i in let rest : List (List ℤ) = remove A i in let hs : List (List ℤ) = (single_rows A i).inequalities in
+    let is = single_is n A i w li in let ka = is.inside a is.first in (
+      (λ v. (
+        v.vector,
+        record {
+          width = v.width;
+          positive = all_by (λ t. pos 0 <ℤ dot t v.vector) hs (λ h k.
+              let o = in_map (vector_difference a) rest h k in
+              let up = v.alone o.0 (of_rest A i o.0 li o.1.0) (others_differ A i o.0 li different o.1.0) in
+              let d = row_value n A (a ∷ []) a (single_rows A i) o.0 v.vector is (of_rest A i o.0 li o.1.0) in
+              let e : dot h v.vector ≡ dot (vector_difference a o.0) v.vector = ap (λ z. dot z v.vector) o.1.1 in
+              omega (arith, ints, up, d, e));
+          zero = all_by (λ t. dot t v.vector ≡ pos 0) [] (λ t k. absurd (none_in t k));
+        },
+      )),
+      (λ s. record {
+        vector = s.0;
+        width = s.1.width;
+        alone = λ b kb d. elim (is.every b kb) [
+          | inl one ↦ elim (in_cons a [] b one) [ inl e ↦ absurd (d e) | inr y ↦ absurd (none_in b y) ]
+          | inr row ↦
+              let up : pos 0 <ℤ dot (vector_difference a b) s.0 = All-contains (λ t. pos 0 <ℤ dot t s.0) hs (vector_difference a b) s.1.positive row in
+              let v = row_value n A (a ∷ []) a (single_rows A i) b s.0 is kb in
+              omega (arith, ints, up, v)
+        ];
+      }),
+    )

@@ -1,5 +1,5 @@
 -- Cones of patterns by rows: their meets are faces of both, and their faces are the closed cones of patterns.
-use Rattle.std.proofs.Common.{◌≡◌, ℕ, List, [], ◌∷◌, length, ℤ, pos, ◌+ℤ◌, ◌-ℤ◌, ◌*ℤ◌, arith, sym, refl, ap, ◌∙◌, subst, Contains, ◌⊎◌, inl, inr}
+use Rattle.std.proofs.Common.{◌≡◌, ℕ, zero, suc, List, [], ◌∷◌, length, ℤ, pos, ◌+ℤ◌, ◌-ℤ◌, ◌*ℤ◌, arith, sym, refl, ap, ◌∙◌, subst, Contains, ◌⊎◌, inl, inr}
 use Rattle.std.proofs.lemmas.Int.{ints}
 use Rattle.std.proofs.lemmas.List.Elements.{All-contains}
 use Rattle.gf_int.proofs.RingLaws.{same, dv, ◌⊗◌, ◌⊕◌, ◌⊖◌}
@@ -15,6 +15,12 @@ use Rattle.gf_patterns.specs.Patterns.{IsHighest, HasPattern, ContainsPattern, I
 use Rattle.gf_patterns.specs.PatternRows.{vector_difference}
 use Rattle.gf_patterns.proofs.MeetLaws.{flat_in, same_refl}
 use Rattle.gf_patterns.proofs.PatternLaws.{as_high, level, relative_keeps}
+
+pub minus_long : (n : ℕ) (a g : List ℤ) → length a ≡ n → length g ≡ n → length (vector_difference a g) ≡ n
+minus_long n [] g la lg = la
+minus_long zero (x ∷ a) g la lg = absurd (omega (arith, la))
+minus_long (suc n) (x ∷ a) [] la lg = absurd (omega (arith, lg))
+minus_long (suc n) (x ∷ a) (y ∷ g) la lg = ap suc (minus_long n a g (omega (arith, la)) (omega (arith, lg)))
 
 pub dot_minus : (a g u : List ℤ) → length a ≡ length g → dot (vector_difference a g) u ≡ dot a u -ℤ dot g u
 dot_minus [] [] u l = refl
@@ -136,7 +142,7 @@ face_closed n A S a w c f r (zs, (listed, e)) i u lu =
           ap (λ y. dot y u) o.1.1 ∙ kept_zero n A S a w u o.0 c r (top n A S a c a w r r.first lw cw) o.1.0 (omega (arith, ints, v, t)) k))),
     )
 
-decide_level : (x y : ℤ) → (x ≡ y) ⊎ (x ≡ y → ⊥)
+pub decide_level : (x y : ℤ) → (x ≡ y) ⊎ (x ≡ y → ⊥)
 decide_level x y = elim (sign_of (x -ℤ y)) [ none g ↦ inl (omega (arith, ints, g)) | positive g ↦ inr (λ e. omega (arith, ints, g, e)) | negative g ↦ inr (λ e. omega (arith, ints, g, e)) ]
 
 -- the closed cone of a pattern with all of S is a face of the cone of S

@@ -1,16 +1,17 @@
 -- The theorems that functions of this crate name.
-use Rattle.std.specs.Prelude.{◌≡◌, ◌≢◌, ◌↔◌, ℕ, List, [], ◌∷◌, ◌++◌, ℤ, map, pos, AllPairs, Contains, length}
+use Rattle.std.specs.Prelude.{◌≡◌, ◌≢◌, ◌↔◌, ◌<◌, ℕ, List, [], ◌∷◌, ◌++◌, ℤ, map, pos, AllPairs, Contains, length}
 use Rattle.gf_frac.specs.Fraction.{zero_ℚ}
 use Rattle.gf_poly.specs.Polynomial.{Terms, HasVariables, IsDescending, coefficient}
 use Rattle.gf_poly.specs.InitialForms.{IsInitialForm}
 use Rattle.gf_poly.specs.declared.Term.{Term}
-use Rattle.gf_gordan.specs.Alternative.{AreRows}
+use Rattle.gf_gordan.specs.Alternative.{AreRows, IsSolvable}
 use Rattle.gf_duality.specs.Faces.{Rows, SameCone, IsFaceOf, IsInterior}
 use Rattle.gf_fans.specs.Fans.{MeetPairwise}
 use Rattle.gf_patterns.specs.Refinements.{HaveEntries, all_meets, IsCommonRefinement, HaveSameFaces, IsCoveredBy}
 use Rattle.gf_patterns.specs.Interiors.{IsRelativeInterior, HaveInteriors, IsAloneAround}
 use Rattle.gf_patterns.specs.Patterns.{points, IsHighest, IsClosedCone, IsAnywhere, IsOnPrevariety, ArePatternCones, HavePoints}
-use Rattle.gf_patterns.specs.PatternRows.{AreSingleCones, ArePairCones}
+use Rattle.gf_patterns.specs.PatternRows.{point_at, single_rows, AreSingleCones, ArePairCones}
+use Rattle.gf_patterns.specs.Vertices.{IsVertex, AreVertexCones, AreVertexPairCones}
 use Rattle.gf_patterns.specs.PatternFans.{whole_space, IsPrevarietyList, IsMinkowskiList}
 
 -- the meets of the cones of two fans are a fan, and its cones are exactly the meets of a cone of the one and a cone of the other
@@ -49,6 +50,13 @@ pub record PatternsHaveCones : Type 0 where
   pub pairs : (n : ℕ) (A : List (List ℤ)) (cones : List Rows) → AreRows n A → AllPairs (λ x y. x ≢ y) A → ArePairCones A cones → IsPrevarietyList n (A ∷ []) cones
   pub prevariety : (n : ℕ) → IsPrevarietyList n [] (whole_space ∷ [])
   pub minkowski : (n : ℕ) → IsMinkowskiList n [] (whole_space ∷ [])
+
+-- the cones of the vertices alone, and of the pairs of vertices, will do; and a point is one where the rows of its cone have a
+-- vector on which each is positive
+pub record VerticesSuffice : Type 0 where
+  pub singles : (n : ℕ) (A : List (List ℤ)) (b : List ℤ) (cones : List Rows) → AreRows n A → Contains A b → AreVertexCones n A cones → IsMinkowskiList n (A ∷ []) cones
+  pub pairs : (n : ℕ) (A : List (List ℤ)) (cones : List Rows) → AreRows n A → AllPairs (λ x y. x ≢ y) A → AreVertexPairCones n A cones → IsPrevarietyList n (A ∷ []) cones
+  pub vertex : (n : ℕ) (A : List (List ℤ)) (i : ℕ) → AreRows n A → AllPairs (λ x y. x ≢ y) A → i < length A → IsVertex n A (point_at A i) ↔ IsSolvable n (single_rows A i).inequalities []
 
 -- the common refinement of the fans of two lists of polynomials is the fan of both together
 pub record PatternsAreRefined : Type 0 where

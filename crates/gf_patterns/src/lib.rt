@@ -5,7 +5,7 @@
 //! each one's contract is a theorem, so that the check proves it.
 #![tactic(auto)]
 
-ghost use Rattle.gf_patterns.specs.Laws.{MeetsAreRefinements, ConesHaveInteriors, FacesOfFacesAreFaces, MaximalConesSuffice, PatternsAreOfInitialForms, PatternsHaveCones, PatternsAreRefined, VectorsAreInOneCone};
+ghost use Rattle.gf_patterns.specs.Laws.{MeetsAreRefinements, ConesHaveInteriors, FacesOfFacesAreFaces, MaximalConesSuffice, PatternsAreOfInitialForms, PatternsHaveCones, VerticesSuffice, PatternsAreRefined, VectorsAreInOneCone};
 
 use gf_gordan::gordans_alternative;
 
@@ -43,6 +43,14 @@ pub fn patterns_are_of_initial_forms()
 /// (Maclagan, Sturmfels, *Introduction to Tropical Geometry*, 3.1).
 pub fn patterns_have_cones()
     ensures { PatternsHaveCones }
+{
+    gordans_alternative();
+}
+
+/// The cones of the vertices of its Newton polytope suffice for the Minkowski fan of a polynomial, and those of pairs of vertices for
+/// its tropical hypersurface (Ziegler, *Lectures on Polytopes*, 7.1).
+pub fn vertices_suffice()
+    ensures { VerticesSuffice }
 {
     gordans_alternative();
 }

@@ -17,10 +17,10 @@ use Rattle.gf_fan.proofs.LimitLaws.{small_meet, small_face, face_long, no_system
 use Rattle.gf_poly.specs.declared.Term.{Term}
 use Rattle.gf_poly.specs.Polynomial.{Terms, HasVariables}
 use Rattle.gf_poly.proofs.ProductLaws.{HasVariables-at}
-use Rattle.gf_patterns.specs.Patterns.{points}
+use Rattle.gf_patterns.specs.Patterns.{points, IsOnPrevariety, IsAnywhere}
 use Rattle.gf_patterns.specs.PatternRows.{vector_difference, point_at, single_rows, pair_rows}
 use Rattle.gf_patterns.specs.PatternFans.{whole_space}
-use Rattle.gf_patterns.proofs.PatternFanLaws.{minus_long}
+use Rattle.gf_patterns.proofs.RowLaws.{minus_long}
 use Rattle.gf_tropical.specs.Refusals.{NoneIsZero, IsSystemStep, IsTropicalWithinLimits}
 use Rattle.gf_tropical.specs.Systems.{IsConeOrFace, IsFanSystem, none, one, more, IsSystemOf, whole, own, both, IsPairCone, IsSingleCone, IsPairSystem, IsSingleSystem}
 use Rattle.gf_tropical.specs.Limits.{HaveExponentsUpTo, terms_but, HasRoomUpTo, PolynomialsWithRoomStayWithinLimits, TrinomialsStayWithinLimits}
@@ -106,19 +106,19 @@ sized_more n b j k c h s = let p = s.few in record { small = s.small; few = omeg
 sized_whole : (n b : ℕ) → IsSized n b 0 whole_space
 sized_whole n b = record { small = no_rows n b; few = omega arith }
 
-module _ (First : List (List (List ℤ)) → Rows → Type 0) (n b k : ℕ) (As : List (List (List ℤ))) (firsts : (A : List (List ℤ)) (c : Rows) → Contains As A → First (A ∷ []) c → IsSized n b (length A - k) c) where
-  fan_sized : (Bs : List (List (List ℤ))) (f : Rows) → ((A : List (List ℤ)) → Contains Bs A → Contains As A) → IsFanSystem First n Bs f → IsSized n b (points_but k Bs) f
-  fan_sized Bs f of (none g x) = sized_face n b 0 whole_space f (sized_whole n b) (inr x)
-  fan_sized Bs f of (one A Cs c g e q x) =
+module _ (First : List (List (List ℤ)) → Rows → Type 0) (Admitted : List (List (List ℤ)) → List ℤ → Type 0) (n b k : ℕ) (As : List (List (List ℤ))) (firsts : (A : List (List ℤ)) (c : Rows) → Contains As A → First (A ∷ []) c → IsSized n b (length A - k) c) where
+  fan_sized : (Bs : List (List (List ℤ))) (f : Rows) → ((A : List (List ℤ)) → Contains Bs A → Contains As A) → IsFanSystem First Admitted n Bs f → IsSized n b (points_but k Bs) f
+  fan_sized Bs f of (none g e) = subst (IsSized n b 0) (sym e) (sized_whole n b)
+  fan_sized Bs f of (one A Cs c g e q x m) =
       subst (λ (l : List (List (List ℤ))). IsSized n b (points_but k l) f) (sym e)
-      (sized_more n b (length A - k) (points_but k (A ∷ [])) f (omega arith) (sized_face n b (length A - k) c f (firsts A c (of A (subst (λ (l : List (List (List ℤ))). Contains l A) (sym e) (in_head A []))) q) (inr x)))
-  fan_sized Bs f of (more Cs all A c d g e nz p q x) =
+      (sized_more n b (length A - k) (points_but k (A ∷ [])) f (omega arith) (sized_face n b (length A - k) c f (firsts A c (of A (subst (λ (l : List (List (List ℤ))). Contains l A) (sym e) (in_head A []))) q) (inr x.face)))
+  fan_sized Bs f of (more Cs all A c d g e nz p q x m) =
       let front : (B : List (List ℤ)) → Contains Cs B → Contains As B = λ B i. of B (subst (λ (l : List (List (List ℤ))). Contains l B) (sym e) (Contains-append_left Cs (A ∷ []) B i)) in
       let last : (B : List (List ℤ)) → Contains (A ∷ []) B → Contains As B = λ B i. of B (subst (λ (l : List (List (List ℤ))). Contains l B) (sym e) (Contains-append_right Cs (A ∷ []) B i)) in
       subst (λ m. IsSized n b m f) (sym (but_append k Cs (A ∷ [])) ∙ ap (points_but k) (sym e))
-      (sized_face n b (points_but k Cs + points_but k (A ∷ [])) (meet c d) f (sized_meet n b (points_but k Cs) (points_but k (A ∷ [])) c d (fan_sized Cs c front p) (fan_sized (A ∷ []) d last q)) (inr x))
+      (sized_face n b (points_but k Cs + points_but k (A ∷ [])) (meet c d) f (sized_meet n b (points_but k Cs) (points_but k (A ∷ [])) c d (fan_sized Cs c front p) (fan_sized (A ∷ []) d last q)) (inr x.face))
 
-  system_sized : (f : Rows) → IsSystemOf First n As f → IsSized n b (points_but k As) f
+  system_sized : (f : Rows) → IsSystemOf First Admitted n As f → IsSized n b (points_but k As) f
   system_sized f (whole g e) = subst (IsSized n b (points_but k As)) (sym e) (sized_more n b 0 (points_but k As) whole_space (omega arith) (sized_whole n b))
   system_sized f (own A c g i q x) = sized_more n b (length A - k) (points_but k As) f (but_one k As A i) (sized_face n b (length A - k) c f (firsts A c i q) x)
   system_sized f (both before after A c d g e nz p q x) =
@@ -128,7 +128,7 @@ module _ (First : List (List (List ℤ)) → Rows → Type 0) (n b k : ℕ) (As 
       sized_more n b (points_but k before + points_but k (A ∷ [])) (points_but k As) f up
       (sized_face n b (points_but k before + points_but k (A ∷ [])) (meet c d) f (sized_meet n b (points_but k before) (points_but k (A ∷ [])) c d (fan_sized before c front p) (fan_sized (A ∷ []) d last q)) x)
 
-  no_step : (s : ConeOverflow) → 1 ≤ n → 1 ≤ b → HasRoomUpTo n b (points_but k As) → IsSystemStep (IsSystemOf First n As) n s → ⊥
+  no_step : (s : ConeOverflow) → 1 ≤ n → 1 ≤ b → HasRoomUpTo n b (points_but k As) → IsSystemStep (IsSystemOf First Admitted n As) n s → ⊥
   no_step s hn hb room x = let q = system_sized x.system x.is_system in no_system_step n b (length x.system.inequalities) x.system s hn hb q.small refl (room (length x.system.inequalities) q.few) x.step
 
 -- ---- polynomials
@@ -156,14 +156,14 @@ pub polynomials_with_room_stay_within_limits : PolynomialsWithRoomStayWithinLimi
 polynomials_with_room_stay_within_limits = record {
   prevarieties = λ n b set hn hb nz v u room. record {
     not_zero = nz;
-    within = λ s x. no_step IsPairCone n b 2 (map points set)
+    within = λ s x. no_step IsPairCone IsOnPrevariety n b 2 (map points set)
         (λ A c i q. subst (IsSized n b (length A - 2)) (sym (q.rows ∙ ap (λ (l : List (List ℤ)). pair_rows l q.i q.j) (only_one A q.of q.listed)))
         (pair_sized n b A (points_small n b set v u A i) q.i q.j q.ordered (subst (λ (l : List (List ℤ)). q.j < length l) (only_one A q.of q.listed) q.inside)))
         s hn hb (subst (HasRoomUpTo n b) (sym (terms_points 2 set)) room) x;
   };
   minkowski = λ n b set hn hb nz v u room. record {
     not_zero = nz;
-    within = λ s x. no_step IsSingleCone n b 1 (map points set)
+    within = λ s x. no_step IsSingleCone IsAnywhere n b 1 (map points set)
         (λ A c i q. subst (IsSized n b (length A - 1)) (sym (q.rows ∙ ap (λ (l : List (List ℤ)). single_rows l q.i) (only_one A q.of q.listed)))
         (single_sized n b A (points_small n b set v u A i) q.i (subst (λ (l : List (List ℤ)). q.i < length l) (only_one A q.of q.listed) q.inside)))
         s hn hb (subst (HasRoomUpTo n b) (sym (terms_points 1 set)) room) x;

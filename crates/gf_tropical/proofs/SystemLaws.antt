@@ -4,31 +4,35 @@ use Rattle.gf_gordan.specs.declared.error.ConeOverflow.{ConeOverflow}
 use Rattle.gf_gordan.specs.declared.error.GordanError.{GordanError}
 use Rattle.gf_gordan.specs.declared.error.GordanError.TheVariants as gordan
 use Rattle.gf_gordan.specs.Steps.{Failed}
-use Rattle.gf_duality.specs.Faces.{Rows, part}
+use Rattle.gf_duality.specs.Faces.{Rows, SameCone, part}
 use Rattle.gf_rays.specs.Reached.{IsRaysStep}
 use Rattle.gf_duality.proofs.ListLaws.{none_in, in_head, in_cons}
 use Rattle.gf_fans.specs.Fans.{meet}
 use Rattle.gf_fans.specs.FaceLists.{numbered}
+use Rattle.gf_fans.proofs.FanLaws.{same_turned}
 use Rattle.gf_fans.proofs.PartNumbers.{in_map}
 use Rattle.gf_rays.specs.Cones.{RowsAndRays, rows_of}
 use Rattle.gf_fan.specs.declared.cones.FanCone.{FanCone}
 use Rattle.gf_fan.specs.FanLists.{FanLists}
-use Rattle.gf_fan.specs.FansOfCones.{vanishing_rows}
+use Rattle.gf_fan.specs.FansOfCones.{IsFan, IsFanOf, vanishing_rows}
+use Rattle.gf_fan.proofs.UnderMaximal.{maximal_some}
 use Rattle.gf_fan.specs.FaceSystems.{IsFaceSystem}
 use Rattle.gf_fan.specs.Refusals.{IsFacesStep}
-use Rattle.gf_refine.specs.FansRefined.{IsPartOfMeet}
+use Rattle.gf_refine.specs.FansRefined.{IsMeetOfCones, IsRefinementOf, IsPartOfMeet}
 use Rattle.gf_refine.specs.Refusals.{IsRefineStep}
 use Rattle.gf_poly.specs.Polynomial.{Terms}
-use Rattle.gf_patterns.specs.PatternRows.{AreSingleCones, ArePairCones}
+use Rattle.gf_patterns.specs.Vertices.{AreVertexCones, AreVertexPairCones}
 use Rattle.gf_patterns.specs.PatternFans.{whole_space}
 use Rattle.gf_tropical.specs.declared.error.TropicalError.{TropicalError}
 use Rattle.gf_tropical.specs.declared.error.TropicalError.TheVariants.{Cone, ZeroPolynomial, Memory}
 use Rattle.gf_tropical.specs.declared.kind.Kind.{Kind}
 use Rattle.gf_tropical.specs.declared.kind.Kind.TheVariants.{Prevariety, Minkowski}
-use Rattle.gf_tropical.specs.Kinds.{IsConeBy}
+use Rattle.gf_tropical.specs.Kinds.{IsAdmittedBy, IsConeBy}
 use Rattle.gf_tropical.specs.Systems.{IsSystemOf, whole, own, both, IsFanSystem, one, more}
 use Rattle.gf_tropical.specs.Refusals.{tropical_of_gordan, IsTropicalRefusal, IsTropicalWithinLimits}
 use Rattle.gf_tropical.specs.Making.{IsFanOfRows, AreOfSystems, IsStepOf, IsOfCones, of_one, space, IsStepOfCones, IsWidthRefusal}
+use Rattle.gf_tropical.specs.TropicalFans.{IsPatternFan}
+use Rattle.gf_tropical.proofs.MaximalLaws.{whole_of, whole_of_given, maximal_in}
 
 -- ---- systems
 
@@ -43,11 +47,11 @@ failed_width P gordan.Memory e q x = subst (IsWidthRefusal P) (sym q) tt
 
 -- ---- the cones of one polynomial
 
-pub pair_cones_by : (A : List (List ℤ)) (cones : List Rows) → ArePairCones A cones → (c : Rows) → Contains cones c → IsConeBy Prevariety (A ∷ []) c
-pair_cones_by A cones s c k = let p = s.each c k in record { of = A; listed = in_head A []; i = p.0; j = p.1; ordered = p.2.0; inside = p.2.1; rows = p.2.2 }
+pub pair_cones_by : (A : List (List ℤ)) (cones : List Rows) (n : ℕ) → AreVertexPairCones n A cones → (c : Rows) → Contains cones c → IsConeBy Prevariety (A ∷ []) c
+pair_cones_by A cones n s c k = let p = s.each c k in record { of = A; listed = in_head A []; i = p.0; j = p.1; ordered = p.2.0; inside = p.2.1; rows = p.2.2 }
 
-pub single_cones_by : (A : List (List ℤ)) (cones : List Rows) → AreSingleCones A cones → (c : Rows) → Contains cones c → IsConeBy Minkowski (A ∷ []) c
-single_cones_by A cones s c k = let p = s.each c k in record { of = A; listed = in_head A []; i = p.0; inside = p.1.0; rows = p.1.1 }
+pub single_cones_by : (A : List (List ℤ)) (cones : List Rows) (n : ℕ) → AreVertexCones n A cones → (c : Rows) → Contains cones c → IsConeBy Minkowski (A ∷ []) c
+single_cones_by A cones n s c k = let p = s.each c k in record { of = A; listed = in_head A []; i = p.0; inside = p.1.0; rows = p.1.1 }
 
 -- ---- the fan of cones by rows
 
@@ -55,13 +59,13 @@ given_listed : (given : List RowsAndRays) (cones : List Rows) (c : RowsAndRays) 
 given_listed given cones c e k = subst (λ z. Contains z (rows_of c)) e (in_map rows_of given c k)
 
 -- a cone of the fan is a face of one of the cones
-pub fan_systems : (n : ℕ) (cones : List Rows) (h : FanLists) → IsFanOfRows n cones h → (k : FanCone) → Contains h.cones k → (c : Rows) × (Contains cones c × IsFaceSystem n c (rows_of k.cone))
+fan_systems : (n : ℕ) (cones : List Rows) (h : FanLists) → (s : IsFanOfRows n cones h) → (k : FanCone) → Contains h.cones k → (o : RowsAndRays) × (Contains s.given o × IsFaceSystem n (rows_of o) (rows_of k.cone))
 fan_systems n cones h s k c =
     let a = s.fan.cones.each k c in
     let o : RowsAndRays = a.origin in (
-      rows_of o,
+      o,
       (
-        given_listed s.given cones o s.rows a.listed,
+        a.listed,
         record { lineality = h.lineality; rays = numbered h.rays k.numbers; are_rays = a.face.are_rays; rows = ap₂ (λ (i j : List (List ℤ)). record { inequalities = i; equations = j }) a.inequalities a.equations },
       ),
     )
@@ -95,7 +99,7 @@ step_of_none kind n cones s e x = record { system = x.system; is_system = whole 
 pub step_of_one : (kind : Kind) (n : ℕ) (As : List (List (List ℤ))) (A : List (List ℤ)) (cones : List Rows) (s : ConeOverflow) → Contains As A → ((c : Rows) → Contains cones c → IsConeBy kind (A ∷ []) c) → IsStepOfCones n cones s → IsStepOf kind n As s
 step_of_one kind n As A cones s l by x = record { system = x.system; is_system = is x.system x.is_system; step = x.step }
   where
-    is : (f : Rows) → IsOfCones n cones f → IsSystemOf (IsConeBy kind) n As f
+    is : (f : Rows) → IsOfCones n cones f → IsSystemOf (IsConeBy kind) (IsAdmittedBy kind) n As f
     is f (of_one c g k y) = own A c f l (by c k) y
     is f (space g q) = whole f q
 
@@ -103,7 +107,7 @@ step_of_one kind n As A cones s l by x = record { system = x.system; is_system =
 pub step_listed : (kind : Kind) (n : ℕ) (As : List (List (List ℤ))) (A : List (List ℤ)) (s : ConeOverflow) → Contains As A → IsStepOf kind n (A ∷ []) s → IsStepOf kind n As s
 step_listed kind n As A s l x = record { system = x.system; is_system = is x.system x.is_system; step = x.step }
   where
-    is : (f : Rows) → IsSystemOf (IsConeBy kind) n (A ∷ []) f → IsSystemOf (IsConeBy kind) n As f
+    is : (f : Rows) → IsSystemOf (IsConeBy kind) (IsAdmittedBy kind) n (A ∷ []) f → IsSystemOf (IsConeBy kind) (IsAdmittedBy kind) n As f
     is f (whole g q) = whole f q
     is f (own B c g k y z) = own A c f l (subst (λ D. IsConeBy kind (D ∷ []) c) (elim (in_cons A [] B k) [ inl e ↦ e | inr i ↦ absurd (none_in B i) ]) y) z
     is f (both [] after B c d g e nz p q y) = absurd (nz refl)
@@ -120,15 +124,23 @@ step_of_refining kind n As before after A f g s is nz e p q (inl x) =
     ]
 step_of_refining kind n As before after A f g s is nz e p q (inr x) = record { system = whole_space; is_system = whole whole_space refl; step = subst (λ k. IsRaysStep k [] [] s) e x.1 }
 
-pub refined_systems : (kind : Kind) (n : ℕ) (As all : List (List (List ℤ))) (A : List (List ℤ)) (f g h : FanLists) → all ≡ As ++ A ∷ [] → As ≢ [] → f.ambient ≡ n → AreOfSystems kind n As f → AreOfSystems kind n (A ∷ []) g →
+-- the maximal cones of a common refinement
+pub refined_systems : (kind : Kind) (n : ℕ) (As all : List (List (List ℤ))) (A : List (List ℤ)) (f g h : FanLists) → all ≡ As ++ A ∷ [] → As ≢ [] → f.ambient ≡ n → IsFan f → IsFan g → IsPatternFan (IsAdmittedBy kind) n all h → IsRefinementOf f g h → AreOfSystems kind n As f → AreOfSystems kind n (A ∷ []) g →
     ((k : FanCone) → Contains h.cones k → IsPartOfMeet f g k) → AreOfSystems kind n all h
-refined_systems kind n As all A f g h is nz e p q parts k c =
-    let x = parts k c in
-    more As all A (rows_of x.c.cone) (rows_of x.d.cone) (rows_of k.cone) is nz (p x.c x.first) (q x.d x.second) (subst (λ i. IsFaceSystem i (meet (rows_of x.c.cone) (rows_of x.d.cone)) (rows_of k.cone)) e x.face)
+refined_systems kind n As all A f g h is nz e sf sg ph r p q parts k c =
+    let s : IsFanOf n ph.fan.0 h = subst (λ z. IsFanOf z ph.fan.0 h) ph.ambient ph.fan.1 in
+    let x = parts k (maximal_some n ph.fan.0 h s k c) in
+    let m : Rows = meet (rows_of x.c.cone) (rows_of x.d.cone) in
+    let l = r.every x.c x.d (maximal_some f.ambient sf.0 f sf.1 x.c x.first) (maximal_some g.ambient sg.0 g sg.1 x.d x.second) in
+    let same : SameCone n m (rows_of l.1.cone) = same_turned n (rows_of l.1.cone) m (subst (λ i. IsMeetOfCones i x.c x.d l.1) e l.4) in
+    let face : IsFaceSystem n m (rows_of k.cone) = subst (λ i. IsFaceSystem i m (rows_of k.cone)) e x.face in
+    more As all A (rows_of x.c.cone) (rows_of x.d.cone) (rows_of k.cone) is nz (p x.c x.first) (q x.d x.second) (whole_of n ph.fan.0 h k l.1 m s c (l.0, l.2, l.3) same face) (maximal_in (IsAdmittedBy kind) n all h k ph c)
 
--- the cones of the fan of one polynomial
-pub one_systems : (kind : Kind) (n : ℕ) (A : List (List ℤ)) (cones : List Rows) (h : FanLists) → ((c : Rows) → Contains cones c → IsConeBy kind (A ∷ []) c) → IsFanOfRows n cones h → AreOfSystems kind n (A ∷ []) h
-one_systems kind n A cones h by s k c = let x = fan_systems n cones h s k c in one A (A ∷ []) x.0 (rows_of k.cone) refl (by x.0 x.1.0) x.1.1
+-- the maximal cones of the fan of one polynomial
+pub one_systems : (kind : Kind) (n : ℕ) (A : List (List ℤ)) (cones : List Rows) (h : FanLists) → ((c : Rows) → Contains cones c → IsConeBy kind (A ∷ []) c) → IsFanOfRows n cones h → IsPatternFan (IsAdmittedBy kind) n (A ∷ []) h → AreOfSystems kind n (A ∷ []) h
+one_systems kind n A cones h by s ph k c =
+    let x = fan_systems n cones h s k (maximal_some n s.given h s.fan k c) in let o : RowsAndRays = x.0 in
+    one A (A ∷ []) (rows_of o) (rows_of k.cone) refl (by (rows_of o) (given_listed s.given cones o s.rows x.1.0)) (whole_of_given n s.given h k o s.fan c x.1.0 x.1.1) (maximal_in (IsAdmittedBy kind) n (A ∷ []) h k ph c)
 
 -- ---- what a refusal says
 
