@@ -2,6 +2,7 @@
 use Rattle.std.specs.Prelude.{List, [], map}
 use Rattle.std.specs.Borrow.{Bor}
 use Rattle.clap.specs.Words.{Shape, Text}
+use Rattle.gf_front.specs.declared.plain.PlainCommand.{PlainCommand}
 use Rattle.gf_front.specs.declared.table.Choice.{Choice as Listed}
 use Rattle.gf_front.specs.declared.table.Choice.TheVariants as listed
 use Rattle.gf_front.specs.Table.{Choice, a_flag, a_named_flag, a_number, a_file, most_pairs, most_workers, shape_with}
@@ -16,6 +17,6 @@ choice_of (listed.File id) = a_file id.now
 abbrev pub choices_of : List Listed → List Choice
 choices_of = map choice_of
 
--- a command of this name without options
-abbrev pub plain_shape : Bor Text → Shape
-plain_shape name = shape_with name.now []
+-- a command without options, as the code lists it
+abbrev pub plain_shape : Bor Text × PlainCommand → Shape
+plain_shape c = shape_with c.0.now []
