@@ -1,6 +1,6 @@
 -- Words that the table has a match for name one of its commands, each of whose options holds what it takes.
--- To cite: parsed_as, job_is, no_match, within_limits. The rest are steps.
-use Rattle.std.proofs.Common.{◌≡◌, ◌≤◌, Bool, true, false, not, ◌&&◌, ◌||◌, cond, List, [], ◌∷◌, Option, Some, None, IfSome, is_some, codes, map, inl, inr, arith, refl, sym, ap, ◌∙◌, subst}
+-- To cite: parsed_as, job_is, no_match, within_limits, choices_hold, plain_job, with_its_options. The rest are steps.
+use Rattle.std.proofs.Common.{◌≡◌, ◌≤◌, Bool, true, false, not, ◌&&◌, ◌||◌, cond, List, [], ◌∷◌, ◌++◌, Option, Some, None, IfSome, is_some, codes, map, inl, inr, arith, refl, sym, ap, ◌∙◌, subst}
 use Rattle.std.specs.Prelude.{option_map, option_and_then}
 use Rattle.std.specs.List.{find, list_any}
 use Rattle.std.specs.Str.{bytes_eq}
@@ -19,7 +19,8 @@ use Rattle.clap.specs.Simple.{argument_words, built_leaf, entered, inherited, la
 use Rattle.clap.specs.Faults.{check_fault, entered_fault}
 use Rattle.gf_front.specs.declared.command_line.Job.{Job}
 use Rattle.gf_front.specs.declared.command_line.Job.TheVariants as jobs
-use Rattle.gf_front.specs.Table.{Entry, table, commands, without_options, shape, most_pairs, most_workers, usual_pairs, number_of, number_where, buchberger, bases, plain, leading_terms, groebner_cone, weight_vector, to_polyhedral_fan, fan_common_refinement}
+use Rattle.gf_front.specs.declared.plain.PlainCommand.{PlainCommand}
+use Rattle.gf_front.specs.Table.{Entry, table, commands, with_options, plain_commands, plain_named, shape, most_pairs, most_workers, usual_pairs, number_of, number_where, buchberger, bases, plain, leading_terms, groebner_cone, weight_vector, to_polyhedral_fan, fan_common_refinement}
 use Rattle.gf_front.specs.Jobs.{HasMatch, HasNumbersInRange, IsJobOfMatch, match_of, job_in, job_of}
 use Rattle.gf_front.specs.Options.{HoldChoices, NamesEntry, IsCommand, HoldsNumber}
 use Rattle.gf_front.proofs.MatchLaws.{Enters, entered_rows, level_rows, rows_pass}
@@ -80,10 +81,19 @@ record IsSound (e : Entry) : Type 0 where
   holds : (rows : List Row) → rows_pass (as_built (shape e)).rules rows ≡ true → lacks (as_built (shape e)).rules rows ≡ false → HoldChoices e.options rows
   limits : (rows : List Row) → HoldChoices e.options rows → HasNumbersInRange (e.job rows)
 
--- each entry does, and no other entry has its name
+-- each entry does
 AreSound : List Entry → Type 0
 AreSound [] = Unit {0}
-AreSound (e ∷ es) = IsSound e × (list_any (λ (f : Entry). bytes_eq e.name f.name) es ≡ false) × AreSound es
+AreSound (e ∷ es) = IsSound e × AreSound es
+
+-- no later entry has the name of an entry
+abbrev have_own_names : List Entry → Bool
+have_own_names [] = true
+have_own_names (e ∷ es) = not (list_any (λ (f : Entry). bytes_eq e.name f.name) es) && have_own_names es
+
+own_name : (b rest : Bool) → (not b && rest) ≡ true → (b ≡ false) × (rest ≡ true)
+own_name true rest e = cc
+own_name false rest e = (refl, e)
 
 either : (a b : Bool) → (a || b) ≡ false → (a ≡ false) × (b ≡ false)
 either true b e = cc
@@ -93,7 +103,7 @@ either false b e = (refl, e)
 entry_found : (es : List Entry) (p : Shape → Bool) (m : Text × List Row) (s : Shape) → AreSound es → find p (map (λ e. as_built (shape e)) es) ≡ Some s → m.0 ≡ s.name → rows_pass s.rules m.1 ≡ true → lacks s.rules m.1 ≡ false → NamesEntry es m
 unfolding AreSound
 entry_found [] p m s sound found name rows there = cc
-entry_found (e ∷ es) p m s sound found name rows there = by (p (as_built (shape e))) found (λ rest. entry_found es p m s sound.2 rest name rows there)
+entry_found (e ∷ es) p m s sound found name rows there = by (p (as_built (shape e))) found (λ rest. entry_found es p m s sound.1 rest name rows there)
   where
     by : (b : Bool) → cond b (Some (as_built (shape e))) (find p (map (λ f. as_built (shape f)) es)) ≡ Some s → (find p (map (λ f. as_built (shape f)) es) ≡ Some s → NamesEntry es m) → NamesEntry (e ∷ es) m
     by true here later =
@@ -112,17 +122,20 @@ other_name (f ∷ es) name m d (inl h) e =
 other_name (f ∷ es) name m d (inr h) e = other_name es name m (either (bytes_eq name f.name) (list_any (λ (g : Entry). bytes_eq name g.name) es) d).1 h e
 
 -- the numbers of its job are in their ranges
-limits_of : (es : List Entry) (m : Text × List Row) (job : Job) → AreSound es → NamesEntry es m → job_in es m ≡ Some job → HasNumbersInRange job
+limits_of : (es : List Entry) (m : Text × List Row) (job : Job) → AreSound es → have_own_names es ≡ true → NamesEntry es m → job_in es m ≡ Some job → HasNumbersInRange job
 unfolding AreSound
-limits_of [] m job sound h is = absurd h
-limits_of (e ∷ es) m job sound h is = by (bytes_eq m.0 e.name) refl is (λ k later. limits_of es m job sound.2 k later)
+limits_of [] m job sound own h is = absurd h
+limits_of (e ∷ es) m job sound own h is = by (bytes_eq m.0 e.name) refl is (λ k later. limits_of es m job sound.1 p.1 k later)
   where
+    p : (list_any (λ (f : Entry). bytes_eq e.name f.name) es ≡ false) × (have_own_names es ≡ true)
+    p = own_name (list_any (λ (f : Entry). bytes_eq e.name f.name) es) (have_own_names es) own
+
     by : (b : Bool) → bytes_eq m.0 e.name ≡ b → cond b (Some (e.job m.1)) (job_in es m) ≡ Some job → (NamesEntry es m → job_in es m ≡ Some job → HasNumbersInRange job) → HasNumbersInRange job
     by true eq same later =
         let here : e.job m.1 ≡ job = cc in
         elim h [
           | inl k ↦ subst HasNumbersInRange here (sound.0.limits m.1 k.1)
-          | inr k ↦ absurd (other_name es e.name m sound.1 k ((bytes_eq-Decides m.0 e.name).0 eq))
+          | inr k ↦ absurd (other_name es e.name m p.0 k ((bytes_eq-Decides m.0 e.name).0 eq))
         ]
     by false eq same later = elim h [
       | inl k ↦ absurd (let yes = (bytes_eq-Decides m.0 e.name).1 k.0 in let none : false ≡ true = sym eq ∙ yes in cc)
@@ -220,59 +233,85 @@ fan_common_refinement_sound = record {
   limits = λ rows h. tt;
 }
 
--- a command without options and numbers
-plain_sound : (name : Text) (job : Job) → HasNumbersInRange job → IsSound (plain name job)
-plain_sound name job within = record { holds = λ rows ok there. tt; limits = λ rows h. within }
+-- a command without options
+plain_sound : (c : Text × PlainCommand) → IsSound (plain c)
+plain_sound c = record { holds = λ rows ok there. tt; limits = λ rows h. tt }
 
 none_sound : AreSound []
 unfolding AreSound
 none_sound = tt
 
-next : (e : Entry) (es : List Entry) → IsSound e → list_any (λ (f : Entry). bytes_eq e.name f.name) es ≡ false → AreSound es → AreSound (e ∷ es)
+next : (e : Entry) (es : List Entry) → IsSound e → AreSound es → AreSound (e ∷ es)
 unfolding AreSound
-next e es sound new rest = (sound, new, rest)
+next e es sound rest = (sound, rest)
 
-without_sound : AreSound without_options
-without_sound =
-    next _ _ (plain_sound (codes "_ismarkedgroebnerbasis") jobs.IsMarkedGroebnerBasis tt) refl
-    (next _ _ (plain_sound (codes "_doesidealcontain") jobs.DoesIdealContain tt) refl
-    (next _ _ (plain_sound (codes "_markpolynomialset") jobs.MarkPolynomialSet tt) refl
-    (next _ _ (plain_sound (codes "_initialforms") jobs.InitialForms tt) refl
-    (next _ _ (plain_sound (codes "_homogenize") jobs.Homogenize tt) refl
-    (next _ _ (plain_sound (codes "_polynomialsetunion") jobs.PolynomialSetUnion tt) refl
-    (next _ _ (plain_sound (codes "_stats") jobs.Stats tt) refl
-    (next _ _ (plain_sound (codes "_homogeneityspace") jobs.HomogeneitySpace tt) refl
-    (next _ _ (plain_sound (codes "_tropicalhypersurface") jobs.TropicalHypersurface tt) refl
-    (next _ _ (plain_sound (codes "_tropicalintersection") jobs.TropicalIntersection tt) refl
-    (next _ _ (plain_sound (codes "_minkowskisum") jobs.MinkowskiSum tt) refl
-    none_sound))))))))))
+options_sound : AreSound with_options
+options_sound =
+    next _ _ buchberger_sound
+    (next _ _ bases_sound
+    (next _ _ leading_terms_sound
+    (next _ _ groebner_cone_sound
+    (next _ _ weight_vector_sound
+    (next _ _ to_polyhedral_fan_sound
+    (next _ _ fan_common_refinement_sound
+    none_sound))))))
+
+plains_sound : (cs : List (Text × PlainCommand)) (es : List Entry) → AreSound es → AreSound (map plain cs ++ es)
+plains_sound [] es rest = rest
+plains_sound (c ∷ cs) es rest = next _ _ (plain_sound c) (plains_sound cs es rest)
 
 all_sound : AreSound commands
-all_sound =
-    next _ _ buchberger_sound refl
-    (next _ _ bases_sound refl
-    (next _ _ leading_terms_sound refl
-    (next _ _ groebner_cone_sound refl
-    (next _ _ weight_vector_sound refl
-    (next _ _ to_polyhedral_fan_sound refl
-    (next _ _ fan_common_refinement_sound refl
-    without_sound))))))
+all_sound = plains_sound plain_commands with_options options_sound
+
+own_names : have_own_names commands ≡ true
+own_names = refl
 
 -- the options of a command that has an entry's name hold what the entry's take
-entry_holds : (es : List Entry) (e : Entry) (m : Text × List Row) → AreSound es → find (λ f. bytes_eq e.name f.name) es ≡ Some e → NamesEntry es m → m.0 ≡ e.name → HoldChoices e.options m.1
-unfolding AreSound
-entry_holds [] e m sound found h same = absurd h
-entry_holds (f ∷ es) e m sound found h same = by (bytes_eq e.name f.name) refl found h (λ is k. entry_holds es e m sound.2 is k same)
+entry_holds : (es : List Entry) (e : Entry) (m : Text × List Row) → have_own_names es ≡ true → find (λ f. bytes_eq e.name f.name) es ≡ Some e → NamesEntry es m → m.0 ≡ e.name → HoldChoices e.options m.1
+entry_holds [] e m own found h same = absurd h
+entry_holds (f ∷ es) e m own found h same = by (bytes_eq e.name f.name) refl found h (λ is k. entry_holds es e m p.1 is k same)
   where
+    p : (list_any (λ (g : Entry). bytes_eq f.name g.name) es ≡ false) × (have_own_names es ≡ true)
+    p = own_name (list_any (λ (g : Entry). bytes_eq f.name g.name) es) (have_own_names es) own
+
     by : (b : Bool) → bytes_eq e.name f.name ≡ b → cond b (Some f) (find (λ g. bytes_eq e.name g.name) es) ≡ Some e → NamesEntry (f ∷ es) m
         → (find (λ g. bytes_eq e.name g.name) es ≡ Some e → NamesEntry es m → HoldChoices e.options m.1) → HoldChoices e.options m.1
     by true eq is (inl k) later = let here : f ≡ e = cc in subst (λ (g : Entry). HoldChoices g.options m.1) here k.1
-    by true eq is (inr k) later = absurd (other_name es f.name m sound.1 k (same ∙ (bytes_eq-Decides e.name f.name).0 eq))
+    by true eq is (inr k) later = absurd (other_name es f.name m p.0 k (same ∙ (bytes_eq-Decides e.name f.name).0 eq))
     by false eq is (inl k) later = absurd (let yes = (bytes_eq-Decides e.name f.name).1 (sym same ∙ k.0) in let none : false ≡ true = sym eq ∙ yes in cc)
     by false eq is (inr k) later = later is k
 
 pub choices_hold : (e : Entry) (m : Text × List Row) → find (λ f. bytes_eq e.name f.name) commands ≡ Some e → IsCommand m → m.0 ≡ e.name → HoldChoices e.options m.1
-choices_hold e m found h same = entry_holds commands e m all_sound found h same
+choices_hold e m found h same = entry_holds commands e m own_names found h same
+
+-- ---- the job of a name
+
+-- a command without options has its job
+plain_job_in : (cs : List (Text × PlainCommand)) (es : List Entry) (m : Text × List Row) (k : PlainCommand) → plain_named m.0 cs ≡ Some k → job_in (map plain cs ++ es) m ≡ Some (jobs.Plain k)
+plain_job_in [] es m k named = cc
+plain_job_in (c ∷ cs) es m k named = by (bytes_eq m.0 c.0) named (plain_job_in cs es m k)
+  where
+    by : (b : Bool) → cond b (Some c.1) (plain_named m.0 cs) ≡ Some k → (plain_named m.0 cs ≡ Some k → job_in (map plain cs ++ es) m ≡ Some (jobs.Plain k))
+        → cond b (Some (jobs.Plain c.1)) (job_in (map plain cs ++ es) m) ≡ Some (jobs.Plain k)
+    by true here later = let same : c.1 ≡ k = cc in ap (λ x. Some (jobs.Plain x)) same
+    by false here later = later here
+
+pub plain_job : (m : Text × List Row) (k : PlainCommand) → plain_named m.0 plain_commands ≡ Some k → job_of m ≡ Some (jobs.Plain k)
+plain_job m k named = plain_job_in plain_commands with_options m k named
+
+-- any other command has options
+other_entry : (cs : List (Text × PlainCommand)) (es : List Entry) (m : Text × List Row) → plain_named m.0 cs ≡ None → NamesEntry (map plain cs ++ es) m → NamesEntry es m
+other_entry [] es m none h = h
+other_entry (c ∷ cs) es m none h = by (bytes_eq m.0 c.0) refl none h (other_entry cs es m)
+  where
+    by : (b : Bool) → bytes_eq m.0 c.0 ≡ b → cond b (Some c.1) (plain_named m.0 cs) ≡ None → NamesEntry (plain c ∷ (map plain cs ++ es)) m
+        → (plain_named m.0 cs ≡ None → NamesEntry (map plain cs ++ es) m → NamesEntry es m) → NamesEntry es m
+    by true is here k later = cc
+    by false is here (inl k) later = absurd (let yes = (bytes_eq-Decides m.0 c.0).1 k.0 in let none : false ≡ true = sym is ∙ yes in cc)
+    by false is here (inr k) later = later here k
+
+pub with_its_options : (m : Text × List Row) → plain_named m.0 plain_commands ≡ None → IsCommand m → NamesEntry with_options m
+with_its_options m none h = other_entry plain_commands with_options m none h
 
 -- the rows of each command hold what its options take
 command_of : (m : Text × List Row) → Enters program m → IsCommand m
@@ -296,7 +335,7 @@ command_is words m e is =
 
 -- its numbers are in their ranges
 pub within_limits : (m : Text × List Row) (job : Job) → IsCommand m → job_of m ≡ Some job → HasNumbersInRange job
-within_limits m job h is = limits_of commands m job all_sound h is
+within_limits m job h is = limits_of commands m job all_sound own_names h is
 
 -- ---- what a parse gave
 

@@ -11,6 +11,7 @@ use Rattle.clap.specs.declared.builder.command.Command.{Command}
 use Rattle.clap.specs.declared.builder.command.Command.TheViews.{out-Command}
 use Rattle.gf_front.specs.Table.{Choice, rule, shape_with}
 use Rattle.gf_front.specs.Choices.{choice_of, choices_of, plain_shape}
+use Rattle.gf_front.specs.declared.plain.PlainCommand.{PlainCommand}
 use Rattle.gf_front.specs.declared.table.Choice.{Choice as Listed}
 
 -- one more option
@@ -32,10 +33,10 @@ pub still_local : (c d : Command) (a : Arg) → AddsArg c a d → a.global ≡ f
 still_local c d a adds local none = adds.globals ∙ ap (λ b. b || a.global) none ∙ local
 
 -- one more command without options
-pub one_named : (a p q : App) (names : List (Bor Text)) (i : ℕ) (d : Bor Text) → i < length names → p ≡ fold with_subcommand a (map plain_shape (take i names))
-    → q ≡ with_subcommand p (plain_shape (get_or names i d)) → q ≡ fold with_subcommand a (map plain_shape (take (i + 1) names))
-one_named a p q names i d l so is =
+pub one_plain : (a p q : App) (cs : List (Bor Text × PlainCommand)) (i : ℕ) (d : Bor Text × PlainCommand) → i < length cs → p ≡ fold with_subcommand a (map plain_shape (take i cs))
+    → q ≡ with_subcommand p (plain_shape (get_or cs i d)) → q ≡ fold with_subcommand a (map plain_shape (take (i + 1) cs))
+one_plain a p q cs i d l so is =
     is
-    ∙ ap (λ (b : App). with_subcommand b (plain_shape (get_or names i d))) so
-    ∙ sym (fold-append with_subcommand a (map plain_shape (take i names)) (plain_shape (get_or names i d) ∷ []))
-    ∙ ap (fold with_subcommand a) (sym (map_more plain_shape names i d l))
+    ∙ ap (λ (b : App). with_subcommand b (plain_shape (get_or cs i d))) so
+    ∙ sym (fold-append with_subcommand a (map plain_shape (take i cs)) (plain_shape (get_or cs i d) ∷ []))
+    ∙ ap (fold with_subcommand a) (sym (map_more plain_shape cs i d l))

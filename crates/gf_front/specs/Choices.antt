@@ -17,6 +17,9 @@ choice_of (listed.File id) = a_file id.now
 abbrev pub choices_of : List Listed → List Choice
 choices_of = map choice_of
 
--- a command without options, as the code lists it
+-- the commands without options, as the code lists them
+abbrev pub as_named : Bor Text × PlainCommand → Text × PlainCommand
+as_named c = (c.0.now, c.1)
+
 abbrev pub plain_shape : Bor Text × PlainCommand → Shape
 plain_shape c = shape_with c.0.now []

@@ -171,7 +171,7 @@ plain_commands =
 -- the first of these that has the name
 abbrev pub plain_named : Text → List (Text × PlainCommand) → Option PlainCommand
 plain_named name [] = None
-plain_named name (c ∷ cs) = if bytes_eq c.0 name then Some c.1 else plain_named name cs
+plain_named name (c ∷ cs) = if bytes_eq name c.0 then Some c.1 else plain_named name cs
 
 -- such a command as an entry
 abbrev pub plain : Text × PlainCommand → Entry

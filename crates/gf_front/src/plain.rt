@@ -1,6 +1,7 @@
 //! The commands without options.
-ghost use Rattle.std.specs.Prelude.{◌≡◌};
+ghost use Rattle.std.specs.Prelude.{◌≡◌, map};
 ghost use Rattle.gf_front.specs.Table.{plain_commands, plain_named};
+ghost use Rattle.gf_front.specs.Choices.{as_named};
 
 /// A command without options.
 #[derive(Clone, Copy, Debug, PartialEq, Eq)]
@@ -47,14 +48,21 @@ pub(crate) const PLAIN_COMMANDS: [(&str, PlainCommand); 11] = [
     ("_minkowskisum", PlainCommand::MinkowskiSum),
 ];
 
-/// The command without options that has the name.
-pub(crate) fn plain_command(name: &str) -> Option<PlainCommand>
-    ensures { result ≡ plain_named name.now plain_commands }
+/// The first of these commands that has the name.
+fn named(commands: &[(&str, PlainCommand)], name: &str) -> Option<PlainCommand>
+    ensures { result ≡ plain_named name.now (map as_named commands.now) }
 {
-    for (known, command) in PLAIN_COMMANDS.iter() {
-        if *known == name {
+    for (known, command) in commands {
+        if name == *known {
             return Some(*command);
         }
     }
     None
+}
+
+/// The command without options that has the name.
+pub(crate) fn plain_command(name: &str) -> Option<PlainCommand>
+    ensures { result ≡ plain_named name.now plain_commands }
+{
+    named(&PLAIN_COMMANDS, name)
 }
