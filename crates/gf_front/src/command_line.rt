@@ -3,9 +3,9 @@
 //! clap reads the words by the table; what it would say of a fault is never printed.
 ghost use Rattle.std.specs.Prelude.{◌≡◌, [], IfOk, IsErrOf, map, string_bytes, codes, Some};
 ghost use Rattle.clap.specs.Words.{found_of, rows_of, one_of, kind_of};
-ghost use Rattle.gf_front.specs.Table.{most_pairs, most_workers, flag_of, number_of, number_where, text_of, buchberger, bases, leading_terms, groebner_cone, weight_vector, to_polyhedral_fan, fan_common_refinement};
+ghost use Rattle.gf_front.specs.Table.{most_workers, flag_of, number_of, number_where, text_of, buchberger, bases, leading_terms, groebner_cone, weight_vector, to_polyhedral_fan, fan_common_refinement};
 ghost use Rattle.gf_front.specs.Jobs.{renamed, HasMatch, IsJobOfMatch, IsMatched, IsJobOf, HasNumbersInRange, job_of};
-ghost use Rattle.gf_front.specs.Options.{HoldsFlag, HoldsNumber, HoldsText, HoldChoices, IsCommand};
+ghost use Rattle.gf_front.specs.Options.{HoldsFlag, HoldsUnsigned, HoldsNumber, HoldsText, HoldChoices, IsCommand};
 
 use crate::name::Name;
 use crate::options::{
@@ -70,7 +70,7 @@ fn flag(found: &ArgMatches, id: &str) -> bool
 
 /// The number of an option, and where it isn't there `otherwise`.
 fn number(found: &ArgMatches, id: &str, otherwise: u64) -> u64
-    requires { HoldsNumber id.now most_pairs (rows_of (found_of found.now)) }
+    requires { HoldsUnsigned id.now (rows_of (found_of found.now)) }
     ensures { result ≡ number_of id.now otherwise (rows_of (found_of found.now)) }
 {
     found.get_one::<u64>(id).unwrap_or(otherwise)
@@ -78,7 +78,7 @@ fn number(found: &ArgMatches, id: &str, otherwise: u64) -> u64
 
 /// The number of an option, where it is there.
 fn number_where(found: &ArgMatches, id: &str) -> Option<u64>
-    requires { HoldsNumber id.now most_pairs (rows_of (found_of found.now)) }
+    requires { HoldsUnsigned id.now (rows_of (found_of found.now)) }
     ensures { result ≡ number_where id.now (rows_of (found_of found.now)) }
 {
     found.get_one::<u64>(id)
@@ -86,7 +86,7 @@ fn number_where(found: &ArgMatches, id: &str) -> Option<u64>
 
 /// The number of workers, and one where it isn't there.
 fn workers(found: &ArgMatches) -> u32
-    requires { HoldsNumber (codes "workers") most_workers (rows_of (found_of found.now)) }
+    requires { HoldsNumber (codes "workers") 1 most_workers (rows_of (found_of found.now)) }
     ensures { result ≡ number_of (codes "workers") 1 (rows_of (found_of found.now)) }
 {
     let number = number(found, "workers", 1);
