@@ -1,29 +1,32 @@
 -- Words that the table has a match for name one of its commands, each of whose options holds what it takes.
--- To cite: parsed_as, job_is, no_match, within_limits. The rest are steps.
-use Rattle.std.proofs.Common.{◌≡◌, ◌≤◌, Bool, true, false, not, ◌&&◌, ◌||◌, cond, List, [], ◌∷◌, Option, Some, None, IfSome, is_some, codes, map, inl, inr, arith, refl, sym, ap, ◌∙◌, subst}
-use Rattle.std.specs.Prelude.{option_map, option_and_then}
-use Rattle.std.specs.List.{find, list_any}
+-- To cite: parsed_as, job_is, no_match, within_limits, choices_hold, plain_job, with_its_options. The rest are steps.
+use Rattle.std.proofs.Common.{◌≡◌, ◌≤◌, ℕ, Bool, true, false, not, ◌&&◌, ◌||◌, cond, List, [], ◌∷◌, ◌++◌, Option, Some, None, IfSome, is_some, codes, map, inl, inr, arith, refl, sym, ap, ◌∙◌, subst}
+use Rattle.std.specs.Prelude.{min, option_map, option_and_then}
+use Rattle.std.specs.List.{find, list_all, list_any}
 use Rattle.std.specs.Str.{bytes_eq}
 use Rattle.std.proofs.lemmas.Slice.Eq.{bytes_eq-Decides}
-use Rattle.std.specs.Str.Parse.{digits_value, without_leading_plus}
 use Rattle.clap.specs.declared.error.Error.{Error}
 use Rattle.clap.specs.declared.error.kind.ErrorKind.TheVariants as kinds
 use Rattle.clap.specs.Words.{App, kind_of, HasMatchesOf, Row, Rule, Shape, Text, built, fault_of, is_simple_and_free, one_of, subcommand_name_of, subcommand_rows_of}
 use Rattle.clap.specs.declared.parser.matches.ArgMatches.{ArgMatches}
 use Rattle.clap.specs.declared.parser.matches.ArgMatches.TheViews.{out-ArgMatches}
 use Rattle.clap.specs.Facts.{explicit_source}
-use Rattle.clap.specs.Takes.{is_given}
+use Rattle.clap.specs.Takes.{is_given, value_passes}
+use Rattle.clap.specs.ValueTests.{is_unsigned_in}
 use Rattle.clap.specs.Kinds.{check_kinds, HasKind, IsAmong}
 use Rattle.clap.specs.Walk.{answers_to, nothing_held, walk, rows_after}
-use Rattle.clap.specs.Simple.{argument_words, built_leaf, entered, inherited, label_of, marked_built, names_of, with_leaf_noted}
+use Rattle.clap.specs.Simple.{argument_words, built_leaf, entered, filled, filled_from, index_after, inherited, label_of, marked_built, names_of, with_index, with_leaf_noted}
 use Rattle.clap.specs.Faults.{check_fault, entered_fault}
 use Rattle.gf_front.specs.declared.command_line.Job.{Job}
 use Rattle.gf_front.specs.declared.command_line.Job.TheVariants as jobs
-use Rattle.gf_front.specs.Table.{Entry, table, commands, without_options, shape, most_pairs, most_workers, usual_pairs, number_of, number_where, buchberger, bases, plain, leading_terms, groebner_cone, weight_vector, to_polyhedral_fan, fan_common_refinement}
+use Rattle.gf_front.specs.declared.choice.Choice.{Choice}
+use Rattle.gf_front.specs.declared.choice.Choice.TheVariants as choices
+use Rattle.gf_front.specs.declared.plain.PlainCommand.{PlainCommand}
+use Rattle.gf_front.specs.Table.{Entry, table, commands, with_options, plain_commands, plain_named, rule, is_needed, shape, most_pairs, most_workers, usual_pairs, number_of, buchberger, bases, plain, leading_terms, groebner_cone, weight_vector, to_polyhedral_fan, fan_common_refinement}
 use Rattle.gf_front.specs.Jobs.{HasMatch, HasNumbersInRange, IsJobOfMatch, match_of, job_in, job_of}
-use Rattle.gf_front.specs.Options.{HoldChoices, NamesEntry, IsCommand, HoldsNumber}
-use Rattle.gf_front.proofs.MatchLaws.{Enters, entered_rows, level_rows, rows_pass}
-use Rattle.gf_front.proofs.OptionLaws.{is_flag, is_number, is_text, number_within}
+use Rattle.gf_front.specs.Options.{HoldsChoice, HoldChoices, LiesBetween, NamesEntry, IsCommand}
+use Rattle.gf_front.proofs.MatchLaws.{Enters, accepted, both, entered_rows, level_rows, rows_pass}
+use Rattle.gf_front.proofs.OptionLaws.{is_flag, is_number, is_text, number_within, limit_within}
 
 -- ---- the command
 
@@ -70,35 +73,167 @@ none_lacks s rows e =
     by true h = h
     by false h = h
 
-both_there : (a b : Bool) → (not a || (not b || false)) ≡ false → (a ≡ true) × (b ≡ true)
-both_there true true e = (refl, refl)
-both_there true false e = cc
-both_there false b e = cc
+-- ---- tests
 
--- what an entry promises: a match holds for each option what it takes, and the numbers of its job are in their ranges
-record IsSound (e : Entry) : Type 0 where
-  holds : (rows : List Row) → rows_pass (as_built (shape e)).rules rows ≡ true → lacks (as_built (shape e)).rules rows ≡ false → HoldChoices e.options rows
-  limits : (rows : List Row) → HoldChoices e.options rows → HasNumbersInRange (e.job rows)
-
--- each entry does, and no other entry has its name
-AreSound : List Entry → Type 0
-AreSound [] = Unit {0}
-AreSound (e ∷ es) = IsSound e × (list_any (λ (f : Entry). bytes_eq e.name f.name) es ≡ false) × AreSound es
+own_name : (b rest : Bool) → (not b && rest) ≡ true → (b ≡ false) × (rest ≡ true)
+own_name true rest e = cc
+own_name false rest e = (refl, e)
 
 either : (a b : Bool) → (a || b) ≡ false → (a ≡ false) × (b ≡ false)
 either true b e = cc
 either false b e = (refl, e)
 
--- the command that is found is one of the entries
-entry_found : (es : List Entry) (p : Shape → Bool) (m : Text × List Row) (s : Shape) → AreSound es → find p (map (λ e. as_built (shape e)) es) ≡ Some s → m.0 ≡ s.name → rows_pass s.rules m.1 ≡ true → lacks s.rules m.1 ≡ false → NamesEntry es m
-unfolding AreSound
-entry_found [] p m s sound found name rows there = cc
-entry_found (e ∷ es) p m s sound found name rows there = by (p (as_built (shape e))) found (λ rest. entry_found es p m s sound.2 rest name rows there)
+-- ---- the options of a command
+
+-- an option with its name, as clap has it in a command that is built
+abbrev listed_rule : Text × Choice → Rule
+listed_rule o = rule o.0 o.1
+
+abbrev built_from : ℕ → List (Text × Choice) → List Rule
+built_from i os = filled_from i (map listed_rule os)
+
+-- an option of this name is one of these
+abbrev is_named : Text → List (Text × Choice) → Bool
+is_named id os = list_any (λ (o : Text × Choice). bytes_eq o.0 id) os
+
+-- no two have one name
+abbrev are_apart : List (Text × Choice) → Bool
+are_apart [] = true
+are_apart (o ∷ os) = not (is_named o.0 os) && are_apart os
+
+-- the text is a value of the option
+abbrev takes : Choice → Text → Bool
+takes (choices.Letter letter) v = bytes_eq v (codes "true") || bytes_eq v (codes "false")
+takes choices.Flag v = bytes_eq v (codes "true") || bytes_eq v (codes "false")
+takes (choices.Number least most) v = is_unsigned_in least (min most 9223372036854775807) v
+takes (choices.BareNumber least most) v = is_unsigned_in least (min most 9223372036854775807) v
+takes _ v = true
+
+passes_as : (i : ℕ) (id : Text) (o : Choice) (v : Text) → value_passes (with_index i (filled (rule id o))) v ≡ takes o v
+passes_as i id (choices.Letter letter) v = refl
+passes_as i id choices.Flag v = refl
+passes_as i id (choices.Number least most) v = refl
+passes_as i id choices.File v = refl
+passes_as i id choices.NeededFile v = refl
+passes_as i id (choices.BareNumber least most) v = refl
+passes_as i id choices.BareFile v = refl
+
+-- options of other names take nothing
+none_takes : (os : List (Text × Choice)) (i : ℕ) (id v : Text) → is_named id os ≡ false → accepted (built_from i os) id v ≡ false
+none_takes [] i id v none = refl
+none_takes (o ∷ os) i id v none = by (bytes_eq o.0 id) none (none_takes os (index_after i (filled (listed_rule o))) id v)
   where
+    by : (b : Bool) → (b || is_named id os) ≡ false → (is_named id os ≡ false → accepted (built_from (index_after i (filled (listed_rule o))) os) id v ≡ false)
+        → ((b && value_passes (with_index i (filled (listed_rule o))) v) || accepted (built_from (index_after i (filled (listed_rule o))) os) id v) ≡ false
+    by true n later = cc
+    by false n later = later n
+
+-- the option is one of these
+data IsOneOf (o : Text × Choice) : List (Text × Choice) → Type 0 where
+  first : (os : List (Text × Choice)) → IsOneOf o (o ∷ os)
+  later : (x : Text × Choice) (os : List (Text × Choice)) → IsOneOf o os → IsOneOf o (x ∷ os)
+
+named_so : (o : Text × Choice) (os : List (Text × Choice)) → IsOneOf o os → is_named o.0 os ≡ true
+named_so o _ (IsOneOf.first os) = by (bytes_eq o.0 o.0) ((bytes_eq-Decides o.0 o.0).1 refl)
+  where
+    by : (b : Bool) → b ≡ true → (b || is_named o.0 os) ≡ true
+    by true e = refl
+    by false e = cc
+named_so o _ (IsOneOf.later x os is) = by (bytes_eq x.0 o.0) (named_so o os is)
+  where
+    by : (b : Bool) → is_named o.0 os ≡ true → (b || is_named o.0 os) ≡ true
+    by true e = refl
+    by false e = e
+
+-- a value that is accepted for it is one of its own
+own_value : (o : Text × Choice) (v : Text) (os : List (Text × Choice)) (i : ℕ) → are_apart os ≡ true → IsOneOf o os → accepted (built_from i os) o.0 v ≡ true → takes o.1 v ≡ true
+own_value o v _ i apart (IsOneOf.first os) is =
+    by (bytes_eq o.0 o.0) (value_passes (with_index i (filled (listed_rule o))) v) (accepted (built_from (index_after i (filled (listed_rule o))) os) o.0 v)
+    (none_takes os (index_after i (filled (listed_rule o))) o.0 v (own_name (is_named o.0 os) (are_apart os) apart).0) (passes_as i o.0 o.1 v) is
+  where
+    by : (b p q : Bool) → q ≡ false → p ≡ takes o.1 v → ((b && p) || q) ≡ true → takes o.1 v ≡ true
+    by true true q n e h = sym e
+    by true false q n e h = cc
+    by false p q n e h = cc
+own_value o v _ i apart (IsOneOf.later x os among) is =
+    let p = own_name (is_named x.0 os) (are_apart os) apart in
+    by (bytes_eq x.0 o.0) refl p.0 is (own_value o v os (index_after i (filled (listed_rule x))) p.1 among)
+  where
+    by : (b : Bool) → bytes_eq x.0 o.0 ≡ b → is_named x.0 os ≡ false
+        → ((b && value_passes (with_index i (filled (listed_rule x))) v) || accepted (built_from (index_after i (filled (listed_rule x))) os) o.0 v) ≡ true
+        → (accepted (built_from (index_after i (filled (listed_rule x))) os) o.0 v ≡ true → takes o.1 v ≡ true) → takes o.1 v ≡ true
+    by false eq other h rest = rest h
+    by true eq other h rest =
+        let same = (bytes_eq-Decides x.0 o.0).0 eq in
+        let here = subst (λ (n : Text). is_named n os ≡ false) same other in
+        let yes = named_so o os among in
+        let none : false ≡ true = sym here ∙ yes in
+        cc
+
+-- a needed option is there
+needed_there : (needed given : Bool) → needed ≡ true → (needed && not given) ≡ false → given ≡ true
+needed_there true true n e = refl
+needed_there true false n e = cc
+needed_there false given n e = cc
+
+-- the rows hold what the option takes
+choice_held : (c : List Rule) (id : Text) (o : Choice) (rows : List Row) → ((v : Text) → accepted c id v ≡ true → takes o v ≡ true) → rows_pass c rows ≡ true → (is_needed o && not (is_given id rows)) ≡ false
+    → HoldsChoice id o rows
+choice_held c id (choices.Letter letter) rows own ok there = is_flag c id rows own ok
+choice_held c id choices.Flag rows own ok there = is_flag c id rows own ok
+choice_held c id (choices.Number least most) rows own ok there = is_number c id least most rows own ok
+choice_held c id choices.File rows own ok there = tt
+choice_held c id choices.NeededFile rows own ok there = is_text c id rows ok (needed_there true (is_given id rows) refl there)
+choice_held c id (choices.BareNumber least most) rows own ok there = (is_number c id least most rows own ok, is_text c id rows ok (needed_there true (is_given id rows) refl there))
+choice_held c id choices.BareFile rows own ok there = is_text c id rows ok (needed_there true (is_given id rows) refl there)
+
+choices_held : (c : List Rule) (os : List (Text × Choice)) (i : ℕ) (rows : List Row) → ((o : Text × Choice) → IsOneOf o os → (v : Text) → accepted c o.0 v ≡ true → takes o.1 v ≡ true)
+    → rows_pass c rows ≡ true → lacks (built_from i os) rows ≡ false → HoldChoices os rows
+choices_held c [] i rows own ok there = tt
+choices_held c (o ∷ os) i rows own ok there =
+    let p = either (is_needed o.1 && not (is_given o.0 rows)) (lacks (built_from (index_after i (filled (listed_rule o))) os) rows) there in (
+      choice_held c o.0 o.1 rows (own o (IsOneOf.first os)) ok p.0,
+      choices_held c os (index_after i (filled (listed_rule o))) rows (λ x among. own x (IsOneOf.later o os among)) ok p.1,
+    )
+
+-- the options of a command hold what they take
+options_held : (os : List (Text × Choice)) (rows : List Row) → are_apart os ≡ true → rows_pass (built_from 1 os) rows ≡ true → lacks (built_from 1 os) rows ≡ false → HoldChoices os rows
+options_held os rows apart ok there = choices_held (built_from 1 os) os 1 rows (λ o among v. own_value o v os 1 apart among) ok there
+
+-- ---- entries
+
+-- what an entry promises: the numbers of its job are in their ranges
+KeepsRanges : Entry → Type 0
+KeepsRanges e = (rows : List Row) → HoldChoices e.options rows → HasNumbersInRange (e.job rows)
+
+AllKeepRanges : List Entry → Type 0
+AllKeepRanges [] = Unit {0}
+AllKeepRanges (e ∷ es) = KeepsRanges e × AllKeepRanges es
+
+-- the options of each have names of their own
+abbrev have_options_apart : List Entry → Bool
+have_options_apart es = list_all (λ (e : Entry). are_apart e.options) es
+
+-- no later entry has the name of an entry
+abbrev have_own_names : List Entry → Bool
+have_own_names [] = true
+have_own_names (e ∷ es) = not (list_any (λ (f : Entry). bytes_eq e.name f.name) es) && have_own_names es
+
+-- the command that is found is one of the entries
+entry_found : (es : List Entry) (p : Shape → Bool) (m : Text × List Row) (s : Shape) → have_options_apart es ≡ true → find p (map (λ e. as_built (shape e)) es) ≡ Some s → m.0 ≡ s.name
+    → rows_pass s.rules m.1 ≡ true → lacks s.rules m.1 ≡ false → NamesEntry es m
+entry_found [] p m s apart found name rows there = cc
+entry_found (e ∷ es) p m s apart found name rows there = by (p (as_built (shape e))) found (λ rest. entry_found es p m s each.1 rest name rows there)
+  where
+    each : (are_apart e.options ≡ true) × (have_options_apart es ≡ true)
+    each = both (are_apart e.options) (have_options_apart es) apart
+
     by : (b : Bool) → cond b (Some (as_built (shape e))) (find p (map (λ f. as_built (shape f)) es)) ≡ Some s → (find p (map (λ f. as_built (shape f)) es) ≡ Some s → NamesEntry es m) → NamesEntry (e ∷ es) m
     by true here later =
         let same : as_built (shape e) ≡ s = cc in
-        inl (name ∙ ap (λ (z : Shape). z.name) (sym same), sound.0.holds m.1 (subst (λ (z : Shape). rows_pass z.rules m.1 ≡ true) (sym same) rows) (subst (λ (z : Shape). lacks z.rules m.1 ≡ false) (sym same) there))
+        let passing = subst (λ (z : Shape). rows_pass z.rules m.1 ≡ true) (sym same) rows in
+        let given = subst (λ (z : Shape). lacks z.rules m.1 ≡ false) (sym same) there in
+        inl (name ∙ ap (λ (z : Shape). z.name) (sym same), options_held e.options m.1 each.0 passing given)
     by false here later = inr (later here)
 
 -- an entry of another name isn't the command
@@ -112,171 +247,123 @@ other_name (f ∷ es) name m d (inl h) e =
 other_name (f ∷ es) name m d (inr h) e = other_name es name m (either (bytes_eq name f.name) (list_any (λ (g : Entry). bytes_eq name g.name) es) d).1 h e
 
 -- the numbers of its job are in their ranges
-limits_of : (es : List Entry) (m : Text × List Row) (job : Job) → AreSound es → NamesEntry es m → job_in es m ≡ Some job → HasNumbersInRange job
-unfolding AreSound
-limits_of [] m job sound h is = absurd h
-limits_of (e ∷ es) m job sound h is = by (bytes_eq m.0 e.name) refl is (λ k later. limits_of es m job sound.2 k later)
+limits_of : (es : List Entry) (m : Text × List Row) (job : Job) → AllKeepRanges es → have_own_names es ≡ true → NamesEntry es m → job_in es m ≡ Some job → HasNumbersInRange job
+unfolding AllKeepRanges KeepsRanges
+limits_of [] m job sound own h is = absurd h
+limits_of (e ∷ es) m job sound own h is = by (bytes_eq m.0 e.name) refl is (λ k later. limits_of es m job sound.1 p.1 k later)
   where
+    p : (list_any (λ (f : Entry). bytes_eq e.name f.name) es ≡ false) × (have_own_names es ≡ true)
+    p = own_name (list_any (λ (f : Entry). bytes_eq e.name f.name) es) (have_own_names es) own
+
     by : (b : Bool) → bytes_eq m.0 e.name ≡ b → cond b (Some (e.job m.1)) (job_in es m) ≡ Some job → (NamesEntry es m → job_in es m ≡ Some job → HasNumbersInRange job) → HasNumbersInRange job
     by true eq same later =
         let here : e.job m.1 ≡ job = cc in
         elim h [
-          | inl k ↦ subst HasNumbersInRange here (sound.0.limits m.1 k.1)
-          | inr k ↦ absurd (other_name es e.name m sound.1 k ((bytes_eq-Decides m.0 e.name).0 eq))
+          | inl k ↦ subst HasNumbersInRange here (sound.0 m.1 k.1)
+          | inr k ↦ absurd (other_name es e.name m p.0 k ((bytes_eq-Decides m.0 e.name).0 eq))
         ]
     by false eq same later = elim h [
       | inl k ↦ absurd (let yes = (bytes_eq-Decides m.0 e.name).1 k.0 in let none : false ≡ true = sym eq ∙ yes in cc)
       | inr k ↦ later k same
     ]
 
-pairs_within : (rows : List Row) → HoldsNumber (codes "pairs") most_pairs rows → (1 ≤ number_of (codes "pairs") usual_pairs rows) × (number_of (codes "pairs") usual_pairs rows ≤ most_pairs)
-pairs_within rows is = number_within (codes "pairs") most_pairs usual_pairs rows is (omega arith) (omega arith)
-
-limit_within : (id : Text) (rows : List Row) → HoldsNumber id most_pairs rows → IfSome (number_where id rows) (λ n. (1 ≤ n) × (n ≤ most_pairs))
-limit_within id rows is = by (one_of id rows) refl
-  where
-    by : (o : Option Text) → one_of id rows ≡ o → IfSome (option_map (λ text. digits_value 10 (without_leading_plus text)) o) (λ n. (1 ≤ n) × (n ≤ 1000000000000))
-    by None e = tt
-    by (Some text) e = let p = is text e in (p.2, p.3)
+pairs_within : (rows : List Row) → LiesBetween (codes "pairs") 1 most_pairs rows → (1 ≤ number_of (codes "pairs") usual_pairs rows) × (number_of (codes "pairs") usual_pairs rows ≤ most_pairs)
+pairs_within rows is = number_within (codes "pairs") 1 most_pairs usual_pairs rows is (omega arith) (omega arith)
 
 -- ---- each command
 
-buchberger_sound : IsSound buchberger
-buchberger_sound = record {
-  holds = λ rows ok there. (
-    is_flag (as_built (shape buchberger)).rules (codes "w") rows (λ text. refl) ok,
-    (
-      is_flag (as_built (shape buchberger)).rules (codes "r") rows (λ text. refl) ok,
-      (is_number (as_built (shape buchberger)).rules (codes "pairs") most_pairs rows (λ text. refl) ok, tt),
-    ),
-  );
-  limits = λ rows h. pairs_within rows h.1.1.0;
-}
+none_keep : AllKeepRanges []
+unfolding AllKeepRanges
+none_keep = tt
 
-bases_sound : IsSound bases
-bases_sound = record {
-  holds = λ rows ok there. (
-    is_flag (as_built (shape bases)).rules (codes "g") rows (λ text. refl) ok,
-    (
-      is_number (as_built (shape bases)).rules (codes "limit") most_pairs rows (λ text. refl) ok,
-      (
-        is_number (as_built (shape bases)).rules (codes "pairs") most_pairs rows (λ text. refl) ok,
-        (
-          is_flag (as_built (shape bases)).rules (codes "certificates") rows (λ text. refl) ok,
-          (is_number (as_built (shape bases)).rules (codes "workers") most_workers rows (λ text. refl) ok, tt),
-        ),
-      ),
-    ),
-  );
-  limits = λ rows h.
-      let p = pairs_within rows h.1.1.0 in
-      let w = number_within (codes "workers") most_workers 1 rows h.1.1.1.1.0 (omega arith) (omega arith) in
-      (limit_within (codes "limit") rows h.1.0, p.0, p.1, w.0, w.1);
-}
+next : (e : Entry) (es : List Entry) → ((rows : List Row) → HoldChoices e.options rows → HasNumbersInRange (e.job rows)) → AllKeepRanges es → AllKeepRanges (e ∷ es)
+unfolding AllKeepRanges KeepsRanges
+next e es keeps rest = (keeps, rest)
 
-leading_terms_sound : IsSound leading_terms
-leading_terms_sound = record {
-  holds = λ rows ok there. (is_flag (as_built (shape leading_terms)).rules (codes "m") rows (λ text. refl) ok, tt);
-  limits = λ rows h. tt;
-}
+buchberger_keeps : (rows : List Row) → HoldChoices buchberger.options rows → HasNumbersInRange (buchberger.job rows)
+buchberger_keeps rows h = pairs_within rows h.1.1.0.1
 
-groebner_cone_sound : IsSound groebner_cone
-groebner_cone_sound = record {
-  holds = λ rows ok there. (
-    is_flag (as_built (shape groebner_cone)).rules (codes "vectorinput") rows (λ text. refl) ok,
-    (
-      is_flag (as_built (shape groebner_cone)).rules (codes "certificates") rows (λ text. refl) ok,
-      (
-        is_flag (as_built (shape groebner_cone)).rules (codes "restrict") rows (λ text. refl) ok,
-        (is_flag (as_built (shape groebner_cone)).rules (codes "asfan") rows (λ text. refl) ok, tt),
-      ),
-    ),
-  );
-  limits = λ rows h. tt;
-}
+bases_keeps : (rows : List Row) → HoldChoices bases.options rows → HasNumbersInRange (bases.job rows)
+bases_keeps rows h =
+    let p = pairs_within rows h.1.1.0.1 in
+    let w = number_within (codes "workers") 1 most_workers 1 rows h.1.1.1.1.0.1 (omega arith) (omega arith) in
+    (limit_within (codes "limit") 1 most_pairs rows h.1.0.1, p.0, p.1, w.0, w.1)
 
-weight_vector_sound : IsSound weight_vector
-weight_vector_sound = record {
-  holds = λ rows ok there. (
-    is_flag (as_built (shape weight_vector)).rules (codes "m") rows (λ text. refl) ok,
-    (is_flag (as_built (shape weight_vector)).rules (codes "e") rows (λ text. refl) ok, tt),
-  );
-  limits = λ rows h. tt;
-}
+options_keep : AllKeepRanges with_options
+options_keep =
+    next buchberger _ buchberger_keeps
+    (next bases _ bases_keeps
+    (next leading_terms _ (λ rows h. tt)
+    (next groebner_cone _ (λ rows h. tt)
+    (next weight_vector _ (λ rows h. tt)
+    (next to_polyhedral_fan _ (λ rows h. tt)
+    (next fan_common_refinement _ (λ rows h. tt)
+    none_keep))))))
 
-to_polyhedral_fan_sound : IsSound to_polyhedral_fan
-to_polyhedral_fan_sound = record {
-  holds = λ rows ok there. (is_flag (as_built (shape to_polyhedral_fan)).rules (codes "restrict") rows (λ text. refl) ok, tt);
-  limits = λ rows h. tt;
-}
+-- commands without options have no numbers
+plains_keep : (cs : List (Text × PlainCommand)) (es : List Entry) → AllKeepRanges es → AllKeepRanges (map plain cs ++ es)
+plains_keep [] es rest = rest
+plains_keep (c ∷ cs) es rest = next (plain c) _ (λ rows h. tt) (plains_keep cs es rest)
 
-fan_common_refinement_sound : IsSound fan_common_refinement
-fan_common_refinement_sound = record {
-  holds = λ rows ok there.
-      let p = both_there (is_given (codes "i1") rows) (is_given (codes "i2") rows) there in (
-        is_text (as_built (shape fan_common_refinement)).rules (codes "i1") rows ok p.0,
-        (is_text (as_built (shape fan_common_refinement)).rules (codes "i2") rows ok p.1, tt),
-      );
-  limits = λ rows h. tt;
-}
+all_keep : AllKeepRanges commands
+all_keep = plains_keep plain_commands with_options options_keep
 
--- a command without options and numbers
-plain_sound : (name : Text) (job : Job) → HasNumbersInRange job → IsSound (plain name job)
-plain_sound name job within = record { holds = λ rows ok there. tt; limits = λ rows h. within }
+own_names : have_own_names commands ≡ true
+own_names = refl
 
-none_sound : AreSound []
-unfolding AreSound
-none_sound = tt
-
-next : (e : Entry) (es : List Entry) → IsSound e → list_any (λ (f : Entry). bytes_eq e.name f.name) es ≡ false → AreSound es → AreSound (e ∷ es)
-unfolding AreSound
-next e es sound new rest = (sound, new, rest)
-
-without_sound : AreSound without_options
-without_sound =
-    next _ _ (plain_sound (codes "_ismarkedgroebnerbasis") jobs.IsMarkedGroebnerBasis tt) refl
-    (next _ _ (plain_sound (codes "_doesidealcontain") jobs.DoesIdealContain tt) refl
-    (next _ _ (plain_sound (codes "_markpolynomialset") jobs.MarkPolynomialSet tt) refl
-    (next _ _ (plain_sound (codes "_initialforms") jobs.InitialForms tt) refl
-    (next _ _ (plain_sound (codes "_homogenize") jobs.Homogenize tt) refl
-    (next _ _ (plain_sound (codes "_polynomialsetunion") jobs.PolynomialSetUnion tt) refl
-    (next _ _ (plain_sound (codes "_stats") jobs.Stats tt) refl
-    (next _ _ (plain_sound (codes "_homogeneityspace") jobs.HomogeneitySpace tt) refl
-    (next _ _ (plain_sound (codes "_tropicalhypersurface") jobs.TropicalHypersurface tt) refl
-    (next _ _ (plain_sound (codes "_tropicalintersection") jobs.TropicalIntersection tt) refl
-    (next _ _ (plain_sound (codes "_minkowskisum") jobs.MinkowskiSum tt) refl
-    none_sound))))))))))
-
-all_sound : AreSound commands
-all_sound =
-    next _ _ buchberger_sound refl
-    (next _ _ bases_sound refl
-    (next _ _ leading_terms_sound refl
-    (next _ _ groebner_cone_sound refl
-    (next _ _ weight_vector_sound refl
-    (next _ _ to_polyhedral_fan_sound refl
-    (next _ _ fan_common_refinement_sound refl
-    without_sound))))))
+options_apart : have_options_apart commands ≡ true
+options_apart = refl
 
 -- the options of a command that has an entry's name hold what the entry's take
-entry_holds : (es : List Entry) (e : Entry) (m : Text × List Row) → AreSound es → find (λ f. bytes_eq e.name f.name) es ≡ Some e → NamesEntry es m → m.0 ≡ e.name → HoldChoices e.options m.1
-unfolding AreSound
-entry_holds [] e m sound found h same = absurd h
-entry_holds (f ∷ es) e m sound found h same = by (bytes_eq e.name f.name) refl found h (λ is k. entry_holds es e m sound.2 is k same)
+entry_holds : (es : List Entry) (e : Entry) (m : Text × List Row) → have_own_names es ≡ true → find (λ f. bytes_eq e.name f.name) es ≡ Some e → NamesEntry es m → m.0 ≡ e.name → HoldChoices e.options m.1
+entry_holds [] e m own found h same = absurd h
+entry_holds (f ∷ es) e m own found h same = by (bytes_eq e.name f.name) refl found h (λ is k. entry_holds es e m p.1 is k same)
   where
+    p : (list_any (λ (g : Entry). bytes_eq f.name g.name) es ≡ false) × (have_own_names es ≡ true)
+    p = own_name (list_any (λ (g : Entry). bytes_eq f.name g.name) es) (have_own_names es) own
+
     by : (b : Bool) → bytes_eq e.name f.name ≡ b → cond b (Some f) (find (λ g. bytes_eq e.name g.name) es) ≡ Some e → NamesEntry (f ∷ es) m
         → (find (λ g. bytes_eq e.name g.name) es ≡ Some e → NamesEntry es m → HoldChoices e.options m.1) → HoldChoices e.options m.1
     by true eq is (inl k) later = let here : f ≡ e = cc in subst (λ (g : Entry). HoldChoices g.options m.1) here k.1
-    by true eq is (inr k) later = absurd (other_name es f.name m sound.1 k (same ∙ (bytes_eq-Decides e.name f.name).0 eq))
+    by true eq is (inr k) later = absurd (other_name es f.name m p.0 k (same ∙ (bytes_eq-Decides e.name f.name).0 eq))
     by false eq is (inl k) later = absurd (let yes = (bytes_eq-Decides e.name f.name).1 (sym same ∙ k.0) in let none : false ≡ true = sym eq ∙ yes in cc)
     by false eq is (inr k) later = later is k
 
 pub choices_hold : (e : Entry) (m : Text × List Row) → find (λ f. bytes_eq e.name f.name) commands ≡ Some e → IsCommand m → m.0 ≡ e.name → HoldChoices e.options m.1
-choices_hold e m found h same = entry_holds commands e m all_sound found h same
+choices_hold e m found h same = entry_holds commands e m own_names found h same
+
+-- ---- the job of a name
+
+-- a command without options has its job
+plain_job_in : (cs : List (Text × PlainCommand)) (es : List Entry) (m : Text × List Row) (k : PlainCommand) → plain_named m.0 cs ≡ Some k → job_in (map plain cs ++ es) m ≡ Some (jobs.Plain k)
+plain_job_in [] es m k named = cc
+plain_job_in (c ∷ cs) es m k named = by (bytes_eq m.0 c.0) named (plain_job_in cs es m k)
+  where
+    by : (b : Bool) → cond b (Some c.1) (plain_named m.0 cs) ≡ Some k → (plain_named m.0 cs ≡ Some k → job_in (map plain cs ++ es) m ≡ Some (jobs.Plain k))
+        → cond b (Some (jobs.Plain c.1)) (job_in (map plain cs ++ es) m) ≡ Some (jobs.Plain k)
+    by true here later = let same : c.1 ≡ k = cc in ap (λ x. Some (jobs.Plain x)) same
+    by false here later = later here
+
+pub plain_job : (m : Text × List Row) (k : PlainCommand) → plain_named m.0 plain_commands ≡ Some k → job_of m ≡ Some (jobs.Plain k)
+plain_job m k named = plain_job_in plain_commands with_options m k named
+
+-- any other command has options
+other_entry : (cs : List (Text × PlainCommand)) (es : List Entry) (m : Text × List Row) → plain_named m.0 cs ≡ None → NamesEntry (map plain cs ++ es) m → NamesEntry es m
+other_entry [] es m none h = h
+other_entry (c ∷ cs) es m none h = by (bytes_eq m.0 c.0) refl none h (other_entry cs es m)
+  where
+    by : (b : Bool) → bytes_eq m.0 c.0 ≡ b → cond b (Some c.1) (plain_named m.0 cs) ≡ None → NamesEntry (plain c ∷ (map plain cs ++ es)) m
+        → (plain_named m.0 cs ≡ None → NamesEntry (map plain cs ++ es) m → NamesEntry es m) → NamesEntry es m
+    by true is here k later = cc
+    by false is here (inl k) later = absurd (let yes = (bytes_eq-Decides m.0 c.0).1 k.0 in let none : false ≡ true = sym is ∙ yes in cc)
+    by false is here (inr k) later = later here k
+
+pub with_its_options : (m : Text × List Row) → plain_named m.0 plain_commands ≡ None → IsCommand m → NamesEntry with_options m
+with_its_options m none h = other_entry plain_commands with_options m none h
 
 -- the rows of each command hold what its options take
 command_of : (m : Text × List Row) → Enters program m → IsCommand m
-command_of m h = entry_found commands (λ s. answers_to h.word (label_of s)) m h.shape all_sound h.found h.name h.rows (none_lacks h.shape m.1 h.checked)
+command_of m h = entry_found commands (λ s. answers_to h.word (label_of s)) m h.shape options_apart h.found h.name h.rows (none_lacks h.shape m.1 h.checked)
 
 -- where the table has a match for the words, they name a command
 matched_command : (words : List Text) → HasMatch words → (m : Text × List Row) × (match_of words ≡ Some m) × IsCommand m
@@ -296,7 +383,7 @@ command_is words m e is =
 
 -- its numbers are in their ranges
 pub within_limits : (m : Text × List Row) (job : Job) → IsCommand m → job_of m ≡ Some job → HasNumbersInRange job
-within_limits m job h is = limits_of commands m job all_sound h is
+within_limits m job h is = limits_of commands m job all_keep own_names h is
 
 -- ---- what a parse gave
 

@@ -9,20 +9,22 @@ use Rattle.clap.specs.Simple.{new_shape}
 use Rattle.clap.specs.declared.builder.arg.Arg.{Arg}
 use Rattle.clap.specs.declared.builder.command.Command.{Command}
 use Rattle.clap.specs.declared.builder.command.Command.TheViews.{out-Command}
-use Rattle.gf_front.specs.Table.{Choice, rule, shape_with}
-use Rattle.gf_front.specs.Choices.{choice_of, choices_of, plain_shape}
-use Rattle.gf_front.specs.declared.table.Choice.{Choice as Listed}
+use Rattle.gf_front.specs.declared.choice.Choice.{Choice}
+use Rattle.gf_front.specs.Table.{rule, shape_with}
+use Rattle.gf_front.specs.Choices.{choice_of, choices_of, listed_shape, plain_shape}
+use Rattle.gf_front.specs.declared.plain.PlainCommand.{PlainCommand}
 
 -- one more option
-pub one_more : (c d : Command) (a : Arg) (name : Text) (options : List Choice) (o : Choice) → AddsArg c a d → a.global ≡ false → rule_of a ≡ rule o → shape_of c ≡ shape_with name options
+pub one_more : (c d : Command) (a : Arg) (name : Text) (options : List (Text × Choice)) (o : Text × Choice) → AddsArg c a d → a.global ≡ false → rule_of a ≡ rule o.0 o.1 → shape_of c ≡ shape_with name options
     → shape_of d ≡ shape_with name (options ++ o ∷ [])
 one_more c d a name options o adds local is so =
     ap (λ (p : App). p.top) (adds.shape local)
     ∙ ap (λ (s : Shape). record s { rules = s.rules ++ rule_of a ∷ [] }) so
-    ∙ ap (λ (r : Rule). record (new_shape name) { rules = map rule options ++ r ∷ [] }) is
-    ∙ ap (λ (rs : List Rule). record (new_shape name) { rules = rs }) (sym (map_push rule options o))
+    ∙ ap (λ (r : Rule). record (new_shape name) { rules = map (λ x. rule x.0 x.1) options ++ r ∷ [] }) is
+    ∙ ap (λ (rs : List Rule). record (new_shape name) { rules = rs }) (sym (map_push (λ x. rule x.0 x.1) options o))
 
-pub one_listed : (c d : Command) (a : Arg) (name : Text) (xs : List Listed) (i : ℕ) (x : Listed) → i < length xs → AddsArg c a d → a.global ≡ false → rule_of a ≡ rule (choice_of (get_or xs i x))
+pub one_listed : (c d : Command) (a : Arg) (name : Text) (xs : List (Bor Text × Choice)) (i : ℕ) (x : Bor Text × Choice) → i < length xs → AddsArg c a d → a.global ≡ false
+    → rule_of a ≡ rule (get_or xs i x).0.now (get_or xs i x).1
     → shape_of c ≡ shape_with name (choices_of (take i xs)) → shape_of d ≡ shape_with name (choices_of (take (i + 1) xs))
 one_listed c d a name xs i x l adds local is so =
     one_more c d a name (choices_of (take i xs)) (choice_of (get_or xs i x)) adds local is so ∙ ap (shape_with name) (sym (map_more choice_of xs i x l))
@@ -31,11 +33,19 @@ one_listed c d a name xs i x l adds local is so =
 pub still_local : (c d : Command) (a : Arg) → AddsArg c a d → a.global ≡ false → (out-Command c).has_globals ≡ false → (out-Command d).has_globals ≡ false
 still_local c d a adds local none = adds.globals ∙ ap (λ b. b || a.global) none ∙ local
 
--- one more command without options
-pub one_named : (a p q : App) (names : List (Bor Text)) (i : ℕ) (d : Bor Text) → i < length names → p ≡ fold with_subcommand a (map plain_shape (take i names))
-    → q ≡ with_subcommand p (plain_shape (get_or names i d)) → q ≡ fold with_subcommand a (map plain_shape (take (i + 1) names))
-one_named a p q names i d l so is =
+-- one more command
+one_command : {C : Type 0} (shape_of_listed : C → Shape) (a p q : App) (cs : List C) (i : ℕ) (d : C) → i < length cs → p ≡ fold with_subcommand a (map shape_of_listed (take i cs))
+    → q ≡ with_subcommand p (shape_of_listed (get_or cs i d)) → q ≡ fold with_subcommand a (map shape_of_listed (take (i + 1) cs))
+one_command s a p q cs i d l so is =
     is
-    ∙ ap (λ (b : App). with_subcommand b (plain_shape (get_or names i d))) so
-    ∙ sym (fold-append with_subcommand a (map plain_shape (take i names)) (plain_shape (get_or names i d) ∷ []))
-    ∙ ap (fold with_subcommand a) (sym (map_more plain_shape names i d l))
+    ∙ ap (λ (b : App). with_subcommand b (s (get_or cs i d))) so
+    ∙ sym (fold-append with_subcommand a (map s (take i cs)) (s (get_or cs i d) ∷ []))
+    ∙ ap (fold with_subcommand a) (sym (map_more s cs i d l))
+
+pub one_plain : (a p q : App) (cs : List (Bor Text × PlainCommand)) (i : ℕ) (d : Bor Text × PlainCommand) → i < length cs → p ≡ fold with_subcommand a (map plain_shape (take i cs))
+    → q ≡ with_subcommand p (plain_shape (get_or cs i d)) → q ≡ fold with_subcommand a (map plain_shape (take (i + 1) cs))
+one_plain a p q cs i d l so is = one_command plain_shape a p q cs i d l so is
+
+pub one_with_options : (a p q : App) (cs : List (Bor Text × Bor (List (Bor Text × Choice)))) (i : ℕ) (d : Bor Text × Bor (List (Bor Text × Choice))) → i < length cs
+    → p ≡ fold with_subcommand a (map listed_shape (take i cs)) → q ≡ with_subcommand p (listed_shape (get_or cs i d)) → q ≡ fold with_subcommand a (map listed_shape (take (i + 1) cs))
+one_with_options a p q cs i d l so is = one_command listed_shape a p q cs i d l so is

@@ -1,21 +1,25 @@
--- The options of a command as the code lists them.
+-- Commands and their options as the code lists them.
 use Rattle.std.specs.Prelude.{List, [], map}
 use Rattle.std.specs.Borrow.{Bor}
 use Rattle.clap.specs.Words.{Shape, Text}
-use Rattle.gf_front.specs.declared.table.Choice.{Choice as Listed}
-use Rattle.gf_front.specs.declared.table.Choice.TheVariants as listed
-use Rattle.gf_front.specs.Table.{Choice, a_flag, a_named_flag, a_number, a_file, most_pairs, most_workers, shape_with}
+use Rattle.gf_front.specs.declared.choice.Choice.{Choice}
+use Rattle.gf_front.specs.declared.plain.PlainCommand.{PlainCommand}
+use Rattle.gf_front.specs.Table.{shape_with}
 
-abbrev pub choice_of : Listed → Choice
-choice_of (listed.Flag id letter) = a_flag id.now letter
-choice_of (listed.NamedFlag id) = a_named_flag id.now
-choice_of (listed.Amount id) = a_number id.now most_pairs
-choice_of (listed.Workers id) = a_number id.now most_workers
-choice_of (listed.File id) = a_file id.now
+-- options with their names
+abbrev pub choice_of : Bor Text × Choice → Text × Choice
+choice_of o = (o.0.now, o.1)
 
-abbrev pub choices_of : List Listed → List Choice
+abbrev pub choices_of : List (Bor Text × Choice) → List (Text × Choice)
 choices_of = map choice_of
 
--- a command of this name without options
-abbrev pub plain_shape : Bor Text → Shape
-plain_shape name = shape_with name.now []
+-- a command with its options
+abbrev pub listed_shape : Bor Text × Bor (List (Bor Text × Choice)) → Shape
+listed_shape c = shape_with c.0.now (choices_of c.1.now)
+
+-- one without options
+abbrev pub as_named : Bor Text × PlainCommand → Text × PlainCommand
+as_named c = (c.0.now, c.1)
+
+abbrev pub plain_shape : Bor Text × PlainCommand → Shape
+plain_shape c = shape_with c.0.now []

@@ -22,8 +22,9 @@ job_of m = job_in commands m
 
 -- each number of the job is in its range
 abbrev pub HasNumbersInRange : Job → Type 0
-HasNumbersInRange (jobs.Buchberger weighted revlex pairs) = (1 ≤ pairs) × (pairs ≤ most_pairs)
-HasNumbersInRange (jobs.Bases from_basis limit pairs certificates workers) = IfSome limit (λ n. (1 ≤ n) × (n ≤ most_pairs)) × (1 ≤ pairs) × (pairs ≤ most_pairs) × (1 ≤ workers) × (workers ≤ most_workers)
+HasNumbersInRange (jobs.Buchberger o) = (1 ≤ o.pairs) × (o.pairs ≤ most_pairs)
+HasNumbersInRange (jobs.Bases o) =
+    IfSome o.limit (λ n. (1 ≤ n) × (n ≤ most_pairs)) × (1 ≤ o.pairs) × (o.pairs ≤ most_pairs) × (1 ≤ o.workers) × (o.workers ≤ most_workers)
 HasNumbersInRange _ = Unit {0}
 
 -- ---- the match of words that are renamed

@@ -1,30 +1,42 @@
 -- What a match of the table holds for each option: a value that the option takes.
-use Rattle.std.specs.Prelude.{◌≡◌, ◌⊎◌, ℕ, List, [], ◌∷◌, codes, Some, is_some, true}
-use Rattle.clap.specs.Words.{Row, Text, one_of, first_of, IsUnsignedIn}
-use Rattle.gf_front.specs.Table.{Choice, a_flag, a_named_flag, a_number, a_file, Entry, commands}
+use Rattle.std.specs.Prelude.{◌≡◌, ◌⊎◌, ◌≤◌, ◌<◌, ◌^◌, ℕ, List, [], ◌∷◌, codes, Some, is_some, true}
+use Rattle.std.specs.Str.Parse.{IsNumeral, digits_value, without_leading_plus}
+use Rattle.clap.specs.Words.{Row, Text, one_of, first_of}
+use Rattle.gf_front.specs.declared.choice.Choice.{Choice}
+use Rattle.gf_front.specs.declared.choice.Choice.TheVariants as choices
+use Rattle.gf_front.specs.Table.{Entry, commands}
 
 -- the value of an option without a value says whether it is there
 abbrev pub HoldsFlag : Text → List Row → Type 0
 HoldsFlag id rows = (text : Text) → one_of id rows ≡ Some text → (text ≡ codes "true") ⊎ (text ≡ codes "false")
 
--- the value is a number from 1 to `most`
-abbrev pub HoldsNumber : Text → ℕ → List Row → Type 0
-HoldsNumber id most rows = (text : Text) → one_of id rows ≡ Some text → IsUnsignedIn 1 most text
+-- the value is a number of 64 bits, and it lies from `least` to `most`
+abbrev pub HoldsUnsigned : Text → List Row → Type 0
+HoldsUnsigned id rows = (text : Text) → one_of id rows ≡ Some text → IsNumeral 10 (without_leading_plus text) × (digits_value 10 (without_leading_plus text) < 2 ^ 64)
+
+abbrev pub LiesBetween : Text → ℕ → ℕ → List Row → Type 0
+LiesBetween id least most rows = (text : Text) → one_of id rows ≡ Some text → (least ≤ digits_value 10 (without_leading_plus text)) × (digits_value 10 (without_leading_plus text) ≤ most)
+
+abbrev pub HoldsNumber : Text → ℕ → ℕ → List Row → Type 0
+HoldsNumber id least most rows = HoldsUnsigned id rows × LiesBetween id least most rows
 
 -- there is a text
 abbrev pub HoldsText : Text → List Row → Type 0
 HoldsText id rows = is_some (first_of id rows) ≡ true
 
 -- the option's value is one that it takes
-abbrev pub HoldsChoice : Choice → List Row → Type 0
-HoldsChoice (a_flag id letter) rows = HoldsFlag id rows
-HoldsChoice (a_named_flag id) rows = HoldsFlag id rows
-HoldsChoice (a_number id most) rows = HoldsNumber id most rows
-HoldsChoice (a_file id) rows = HoldsText id rows
+abbrev pub HoldsChoice : Text → Choice → List Row → Type 0
+HoldsChoice id (choices.Letter letter) rows = HoldsFlag id rows
+HoldsChoice id choices.Flag rows = HoldsFlag id rows
+HoldsChoice id (choices.Number least most) rows = HoldsNumber id least most rows
+HoldsChoice id choices.File rows = Unit {0}
+HoldsChoice id choices.NeededFile rows = HoldsText id rows
+HoldsChoice id (choices.BareNumber least most) rows = HoldsNumber id least most rows × HoldsText id rows
+HoldsChoice id choices.BareFile rows = HoldsText id rows
 
-abbrev pub HoldChoices : List Choice → List Row → Type 0
+abbrev pub HoldChoices : List (Text × Choice) → List Row → Type 0
 HoldChoices [] rows = Unit {0}
-HoldChoices (o ∷ os) rows = HoldsChoice o rows × HoldChoices os rows
+HoldChoices (o ∷ os) rows = HoldsChoice o.0 o.1 rows × HoldChoices os rows
 
 -- ---- commands
 

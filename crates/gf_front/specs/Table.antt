@@ -1,7 +1,7 @@
 -- The table of commands and their options, as clap reads words by it.
 -- What clap makes of a table is said by its own definitions: `new_rule` is an option and `new_shape` a command to which
 -- nothing was added yet, `with_subcommand` adds a command.
-use Rattle.std.specs.Prelude.{ℕ, Bool, true, false, List, [], ◌∷◌, ◌++◌, map, Option, Some, codes, option_map, unwrap_or}
+use Rattle.std.specs.Prelude.{ℕ, min, Bool, true, false, List, [], ◌∷◌, ◌++◌, map, Option, Some, None, if◌then◌else◌, codes, option_map, unwrap_or}
 use Rattle.std.specs.Option.{option_map_or}
 use Rattle.std.specs.List.{fold}
 use Rattle.std.specs.Str.{bytes_eq}
@@ -9,40 +9,61 @@ use Rattle.std.specs.Str.Parse.{digits_value, without_leading_plus}
 use Rattle.clap.specs.Words.{App, Shape, Row, Rule, Text, one_of, first_of, new_rule, with_subcommand}
 use Rattle.gf_front.specs.declared.command_line.Job.{Job}
 use Rattle.gf_front.specs.declared.command_line.Job.TheVariants as jobs
+use Rattle.gf_front.specs.declared.choice.Choice.{Choice}
+use Rattle.gf_front.specs.declared.choice.Choice.TheVariants as choices
+use Rattle.gf_front.specs.declared.plain.PlainCommand.{PlainCommand}
+use Rattle.gf_front.specs.declared.plain.PlainCommand.TheVariants as plains
 use Rattle.clap.specs.Simple.{new_shape}
+use Rattle.clap.specs.declared.builder.action.ArgAction.{ArgAction}
 use Rattle.clap.specs.declared.builder.action.ArgAction.TheVariants.{Set, SetTrue}
+use Rattle.clap.specs.declared.builder.value_parser.ValueParser.{ValueParser}
 use Rattle.clap.specs.declared.builder.value_parser.ValueParser.TheVariants as parsers
 
 -- ---- options, each at most once
 
--- an option without a value: a hyphen and this letter (e is 101, g is 103, m is 109, r is 114, w is 119)
-abbrev pub flag : Text → ℕ → Rule
-flag id letter = record (new_rule id) { short = Some letter; action = Some SetTrue }
+-- the numbers from `least` to `most`, as far as clap's ranges go
+abbrev pub numbers : ℕ → ℕ → ValueParser
+numbers least most = parsers.Unsigned least (min most 9223372036854775807)
 
--- one of two hyphens and its name
-abbrev pub named_flag : Text → Rule
-named_flag id = record (new_rule id) { long = Some id; action = Some SetTrue }
+-- two hyphens and its name, or a hyphen and a letter; else what the option takes stands alone
+abbrev pub long_name : Text → Choice → Option Text
+long_name id choices.Flag = Some id
+long_name id (choices.Number least most) = Some id
+long_name id choices.File = Some id
+long_name id choices.NeededFile = Some id
+long_name id _ = None
 
--- an option with a number from 1 to `most`: two hyphens and its name
-abbrev pub number : Text → ℕ → Rule
-number id most = record (new_rule id) { long = Some id; action = Some Set; parser = Some (parsers.Unsigned 1 most) }
+abbrev pub short_name : Choice → Option ℕ
+short_name (choices.Letter letter) = Some letter
+short_name _ = None
 
--- an option with the name of a file, without which the command isn't taken: two hyphens and its name
-abbrev pub file : Text → Rule
-file id = record (new_rule id) { long = Some id; action = Some Set; required = true }
+-- it is there or not, or takes one value
+abbrev pub action : Choice → ArgAction
+action (choices.Letter letter) = SetTrue
+action choices.Flag = SetTrue
+action _ = Set
 
--- what an option may be
-pub data Choice : Type 0 where
-  a_flag : Text → ℕ → Choice
-  a_named_flag : Text → Choice
-  a_number : Text → ℕ → Choice
-  a_file : Text → Choice
+abbrev pub parser : Choice → Option ValueParser
+parser (choices.Number least most) = Some (numbers least most)
+parser (choices.BareNumber least most) = Some (numbers least most)
+parser _ = None
 
-abbrev pub rule : Choice → Rule
-rule (a_flag id letter) = flag id letter
-rule (a_named_flag id) = named_flag id
-rule (a_number id most) = number id most
-rule (a_file id) = file id
+-- without it the command isn't taken
+abbrev pub is_needed : Choice → Bool
+is_needed choices.NeededFile = true
+is_needed (choices.BareNumber least most) = true
+is_needed choices.BareFile = true
+is_needed _ = false
+
+-- the option as clap has it
+abbrev pub rule : Text → Choice → Rule
+rule id choice = record (new_rule id) {
+  long = long_name id choice;
+  short = short_name choice;
+  action = Some (action choice);
+  parser = parser choice;
+  required = is_needed choice;
+}
 
 -- the most pairs that a budget may have, which is the most bases that a limit may let through too; and the pairs that a budget
 -- has where the words don't say it
@@ -55,6 +76,9 @@ usual_pairs = 100000000
 -- the most workers that a list may have
 abbrev pub most_workers : ℕ
 most_workers = 64
+
+abbrev pub an_amount : Choice
+an_amount = choices.Number 1 most_pairs
 
 -- ---- what is read of a match
 
@@ -76,90 +100,136 @@ text_of id rows = unwrap_or (first_of id rows) []
 
 -- ---- commands
 
--- a command: its name, its options, and its job by what a match holds for the options
+-- a command: its name, its options with their names, and its job by what a match holds for the options; of the letters e is 101, g is 103,
+-- m is 109, r is 114, w is 119
 pub record Entry : Type 0 where
   pub name : Text
-  pub options : List Choice
+  pub options : List (Text × Choice)
   pub job : List Row → Job
 
 abbrev pub buchberger : Entry
 buchberger = record {
   name = codes "_buchberger";
-  options = a_flag (codes "w") 119 ∷ a_flag (codes "r") 114 ∷ a_number (codes "pairs") most_pairs ∷ [];
-  job = λ rows. jobs.Buchberger (flag_of (codes "w") rows) (flag_of (codes "r") rows) (number_of (codes "pairs") usual_pairs rows);
+  options =
+      (codes "w", choices.Letter 119)
+      ∷ (codes "r", choices.Letter 114)
+      ∷ (codes "pairs", an_amount)
+      ∷ [];
+  job = λ rows. jobs.Buchberger (record {
+    weighted = flag_of (codes "w") rows;
+    revlex = flag_of (codes "r") rows;
+    pairs = number_of (codes "pairs") usual_pairs rows;
+  });
 }
 
 abbrev pub bases : Entry
 bases = record {
   name = codes "_bases";
-  options = a_flag (codes "g") 103 ∷ a_number (codes "limit") most_pairs ∷ a_number (codes "pairs") most_pairs ∷ a_named_flag (codes "certificates") ∷ a_number (codes "workers") most_workers ∷ [];
-  job = λ rows. jobs.Bases (flag_of (codes "g") rows) (number_where (codes "limit") rows) (number_of (codes "pairs") usual_pairs rows) (flag_of (codes "certificates") rows) (number_of (codes "workers") 1 rows);
+  options =
+      (codes "g", choices.Letter 103)
+      ∷ (codes "limit", an_amount)
+      ∷ (codes "pairs", an_amount)
+      ∷ (codes "certificates", choices.Flag)
+      ∷ (codes "workers", choices.Number 1 most_workers)
+      ∷ [];
+  job = λ rows. jobs.Bases (record {
+    from_basis = flag_of (codes "g") rows;
+    limit = number_where (codes "limit") rows;
+    pairs = number_of (codes "pairs") usual_pairs rows;
+    certificates = flag_of (codes "certificates") rows;
+    workers = number_of (codes "workers") 1 rows;
+  });
 }
-
--- a command without options
-abbrev pub plain : Text → Job → Entry
-plain name job = record { name = name; options = []; job = λ rows. job }
 
 abbrev pub leading_terms : Entry
 leading_terms = record {
   name = codes "_leadingterms";
-  options = a_flag (codes "m") 109 ∷ [];
-  job = λ rows. jobs.LeadingTerms (flag_of (codes "m") rows);
+  options = (codes "m", choices.Letter 109) ∷ [];
+  job = λ rows. jobs.LeadingTerms (record { listed = flag_of (codes "m") rows });
 }
 
 abbrev pub groebner_cone : Entry
 groebner_cone = record {
   name = codes "_groebnercone";
-  options = a_named_flag (codes "vectorinput") ∷ a_named_flag (codes "certificates") ∷ a_named_flag (codes "restrict") ∷ a_named_flag (codes "asfan") ∷ [];
-  job = λ rows. jobs.GroebnerCone (flag_of (codes "vectorinput") rows) (flag_of (codes "certificates") rows) (flag_of (codes "restrict") rows) (flag_of (codes "asfan") rows);
+  options =
+      (codes "vectorinput", choices.Flag)
+      ∷ (codes "certificates", choices.Flag)
+      ∷ (codes "restrict", choices.Flag)
+      ∷ (codes "asfan", choices.Flag)
+      ∷ [];
+  job = λ rows. jobs.GroebnerCone (record {
+    vector_input = flag_of (codes "vectorinput") rows;
+    certificates = flag_of (codes "certificates") rows;
+    restricted = flag_of (codes "restrict") rows;
+    as_fan = flag_of (codes "asfan") rows;
+  });
 }
 
 abbrev pub weight_vector : Entry
 weight_vector = record {
   name = codes "_weightvector";
-  options = a_flag (codes "m") 109 ∷ a_flag (codes "e") 101 ∷ [];
-  job = λ rows. jobs.WeightVector (flag_of (codes "m") rows) (flag_of (codes "e") rows);
+  options =
+      (codes "m", choices.Letter 109)
+      ∷ (codes "e", choices.Letter 101)
+      ∷ [];
+  job = λ rows. jobs.WeightVector (record { listed = flag_of (codes "m") rows; echoed = flag_of (codes "e") rows });
 }
 
 abbrev pub to_polyhedral_fan : Entry
 to_polyhedral_fan = record {
   name = codes "_topolyhedralfan";
-  options = a_named_flag (codes "restrict") ∷ [];
-  job = λ rows. jobs.ToPolyhedralFan (flag_of (codes "restrict") rows);
+  options = (codes "restrict", choices.Flag) ∷ [];
+  job = λ rows. jobs.ToPolyhedralFan (record { restrict = flag_of (codes "restrict") rows });
 }
 
 abbrev pub fan_common_refinement : Entry
 fan_common_refinement = record {
   name = codes "_fancommonrefinement";
-  options = a_file (codes "i1") ∷ a_file (codes "i2") ∷ [];
-  job = λ rows. jobs.FanCommonRefinement (text_of (codes "i1") rows) (text_of (codes "i2") rows);
+  options =
+      (codes "i1", choices.NeededFile)
+      ∷ (codes "i2", choices.NeededFile)
+      ∷ [];
+  job = λ rows. jobs.FanCommonRefinement (record { first = text_of (codes "i1") rows; second = text_of (codes "i2") rows });
 }
 
--- those with options, and those without
+-- those with options
 abbrev pub with_options : List Entry
 with_options = buchberger ∷ bases ∷ leading_terms ∷ groebner_cone ∷ weight_vector ∷ to_polyhedral_fan ∷ fan_common_refinement ∷ []
 
-abbrev pub without_options : List Entry
-without_options =
-    plain (codes "_ismarkedgroebnerbasis") jobs.IsMarkedGroebnerBasis
-    ∷ plain (codes "_doesidealcontain") jobs.DoesIdealContain
-    ∷ plain (codes "_markpolynomialset") jobs.MarkPolynomialSet
-    ∷ plain (codes "_initialforms") jobs.InitialForms
-    ∷ plain (codes "_homogenize") jobs.Homogenize
-    ∷ plain (codes "_polynomialsetunion") jobs.PolynomialSetUnion
-    ∷ plain (codes "_stats") jobs.Stats
-    ∷ plain (codes "_homogeneityspace") jobs.HomogeneitySpace
-    ∷ plain (codes "_tropicalhypersurface") jobs.TropicalHypersurface
-    ∷ plain (codes "_tropicalintersection") jobs.TropicalIntersection
-    ∷ plain (codes "_minkowskisum") jobs.MinkowskiSum
+-- those without options, by their names
+abbrev pub plain_commands : List (Text × PlainCommand)
+plain_commands =
+    (codes "_ismarkedgroebnerbasis", plains.IsMarkedGroebnerBasis)
+    ∷ (codes "_doesidealcontain", plains.DoesIdealContain)
+    ∷ (codes "_markpolynomialset", plains.MarkPolynomialSet)
+    ∷ (codes "_initialforms", plains.InitialForms)
+    ∷ (codes "_homogenize", plains.Homogenize)
+    ∷ (codes "_polynomialsetunion", plains.PolynomialSetUnion)
+    ∷ (codes "_stats", plains.Stats)
+    ∷ (codes "_homogeneityspace", plains.HomogeneitySpace)
+    ∷ (codes "_tropicalhypersurface", plains.TropicalHypersurface)
+    ∷ (codes "_tropicalintersection", plains.TropicalIntersection)
+    ∷ (codes "_minkowskisum", plains.MinkowskiSum)
     ∷ []
 
+-- the first of these that has the name
+abbrev pub plain_named : Text → List (Text × PlainCommand) → Option PlainCommand
+plain_named name [] = None
+plain_named name (c ∷ cs) = if bytes_eq name c.0 then Some c.1 else plain_named name cs
+
+-- such a command as an entry
+abbrev pub plain : Text × PlainCommand → Entry
+plain c = record { name = c.0; options = []; job = λ rows. jobs.Plain c.1 }
+
+abbrev pub without_options : List Entry
+without_options = map plain plain_commands
+
 abbrev pub commands : List Entry
-commands = with_options ++ without_options
+commands = without_options ++ with_options
 
 -- a command as clap has it
-abbrev pub shape_with : Text → List Choice → Shape
-shape_with name options = record (new_shape name) { rules = map rule options }
+abbrev pub shape_with : Text → List (Text × Choice) → Shape
+shape_with name options = record (new_shape name) { rules = map (λ o. rule o.0 o.1) options }
 
 abbrev pub shape : Entry → Shape
 shape e = shape_with e.name e.options

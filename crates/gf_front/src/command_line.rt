@@ -3,11 +3,16 @@
 //! clap reads the words by the table; what it would say of a fault is never printed.
 ghost use Rattle.std.specs.Prelude.{◌≡◌, [], IfOk, IsErrOf, map, string_bytes, codes, Some};
 ghost use Rattle.clap.specs.Words.{found_of, rows_of, one_of, kind_of};
-ghost use Rattle.gf_front.specs.Table.{most_pairs, most_workers, flag_of, number_of, number_where, text_of, buchberger, bases, leading_terms, groebner_cone, weight_vector, to_polyhedral_fan, fan_common_refinement};
+ghost use Rattle.gf_front.specs.Table.{most_workers, flag_of, number_of, number_where, text_of, buchberger, bases, leading_terms, groebner_cone, weight_vector, to_polyhedral_fan, fan_common_refinement};
 ghost use Rattle.gf_front.specs.Jobs.{renamed, HasMatch, IsJobOfMatch, IsMatched, IsJobOf, HasNumbersInRange, job_of};
-ghost use Rattle.gf_front.specs.Options.{HoldsFlag, HoldsNumber, HoldsText, HoldChoices, IsCommand};
+ghost use Rattle.gf_front.specs.Options.{HoldsFlag, HoldsUnsigned, HoldsNumber, HoldsText, HoldChoices, IsCommand};
 
 use crate::name::Name;
+use crate::options::{
+    BasesOptions, BuchbergerOptions, FanCommonRefinementOptions, GroebnerConeOptions,
+    LeadingTermsOptions, ToPolyhedralFanOptions, WeightVectorOptions,
+};
+use crate::plain::{PlainCommand, plain_command};
 use crate::table::table;
 use clap::ArgMatches;
 use clap::error::ErrorKind;
@@ -19,85 +24,22 @@ const PAIRS: u64 = 100_000_000;
 /// What the words ask for: a command with its options.
 #[derive(Debug, Drop, PartialEq, Eq)]
 pub enum Job {
+    /// A command without options.
+    Plain(PlainCommand),
     /// The reduced Gröbner basis of a set.
-    Buchberger {
-        /// `-w`: a weight is read behind the set.
-        weighted: bool,
-        /// `-r`: the order is revlex, or ties of the weight are broken by revlex.
-        revlex: bool,
-        /// `--pairs N`: the budget of pairs of each run of Buchberger's algorithm.
-        pairs: u64,
-    },
+    Buchberger(BuchbergerOptions),
     /// All marked reduced Gröbner bases of a set's ideal.
-    Bases {
-        /// `-g`: the set is a marked Gröbner basis.
-        from_basis: bool,
-        /// `--limit N`: so many bases are written at most; without it all are.
-        limit: Option<u64>,
-        /// `--pairs N`: the budget of pairs of each run of Buchberger's algorithm.
-        pairs: u64,
-        /// `--certificates`: each basis with a weight, and with a witness of each facet that may be crossed.
-        certificates: bool,
-        /// `--workers N`: how many workers list them.
-        workers: u32,
-    },
-    /// Whether a marked set is a Gröbner basis for its marking.
-    IsMarkedGroebnerBasis,
-    /// Whether the ideal of a marked basis contains each polynomial of a set.
-    DoesIdealContain,
+    Bases(BasesOptions),
     /// The leading terms of a marked set, or of each of a list.
-    LeadingTerms {
-        /// `-m`: a list of marked sets is read.
-        listed: bool,
-    },
-    /// A set with each polynomial marked at its greatest term by a vector.
-    MarkPolynomialSet,
-    /// The initial forms of a set by a vector.
-    InitialForms,
-    /// A set made homogeneous by a new variable.
-    Homogenize,
-    /// The union of a list of sets.
-    PolynomialSetUnion,
-    /// Numbers of a list of marked sets: how many, and how great they are.
-    Stats,
+    LeadingTerms(LeadingTermsOptions),
     /// The facets of a cone and the equations that hold on it.
-    GroebnerCone {
-        /// `--vectorinput`: the cone is given by inequalities and equations, not by a marked reduced basis.
-        vector_input: bool,
-        /// `--certificates`: what shows that these are all, too.
-        certificates: bool,
-        /// `--restrict`: the cone is cut with the non-negative orthant.
-        restricted: bool,
-        /// `--asfan`: the fan of all faces of the cone in place of this.
-        as_fan: bool,
-    },
+    GroebnerCone(GroebnerConeOptions),
     /// A weight of a marked reduced basis, or of each of a list.
-    WeightVector {
-        /// `-m`: a list of marked sets is read.
-        listed: bool,
-        /// `-e`: each weight behind its set.
-        echoed: bool,
-    },
+    WeightVector(WeightVectorOptions),
     /// The fan of the cones of marked reduced bases.
-    ToPolyhedralFan {
-        /// `--restrict`: each cone is cut with the non-negative orthant.
-        restrict: bool,
-    },
-    /// The space of the vectors by which each polynomial of a set is homogeneous, as a fan.
-    HomogeneitySpace,
+    ToPolyhedralFan(ToPolyhedralFanOptions),
     /// The fan of the meets of the cones of two fans.
-    FanCommonRefinement {
-        /// `--i1 FILE`: the file of the first fan.
-        first: Name,
-        /// `--i2 FILE`: the file of the second fan.
-        second: Name,
-    },
-    /// The tropical hypersurface of a polynomial, as a fan.
-    TropicalHypersurface,
-    /// The meet of the tropical hypersurfaces of a set of polynomials, as a fan.
-    TropicalIntersection,
-    /// The fan of the Minkowski sum of the Newton polytopes of a set of polynomials.
-    MinkowskiSum,
+    FanCommonRefinement(FanCommonRefinementOptions),
 }
 
 /// Why there is no job.
@@ -128,7 +70,7 @@ fn flag(found: &ArgMatches, id: &str) -> bool
 
 /// The number of an option, and where it isn't there `otherwise`.
 fn number(found: &ArgMatches, id: &str, otherwise: u64) -> u64
-    requires { HoldsNumber id.now most_pairs (rows_of (found_of found.now)) }
+    requires { HoldsUnsigned id.now (rows_of (found_of found.now)) }
     ensures { result ≡ number_of id.now otherwise (rows_of (found_of found.now)) }
 {
     found.get_one::<u64>(id).unwrap_or(otherwise)
@@ -136,7 +78,7 @@ fn number(found: &ArgMatches, id: &str, otherwise: u64) -> u64
 
 /// The number of an option, where it is there.
 fn number_where(found: &ArgMatches, id: &str) -> Option<u64>
-    requires { HoldsNumber id.now most_pairs (rows_of (found_of found.now)) }
+    requires { HoldsUnsigned id.now (rows_of (found_of found.now)) }
     ensures { result ≡ number_where id.now (rows_of (found_of found.now)) }
 {
     found.get_one::<u64>(id)
@@ -144,7 +86,7 @@ fn number_where(found: &ArgMatches, id: &str) -> Option<u64>
 
 /// The number of workers, and one where it isn't there.
 fn workers(found: &ArgMatches) -> u32
-    requires { HoldsNumber (codes "workers") most_workers (rows_of (found_of found.now)) }
+    requires { HoldsNumber (codes "workers") 1 most_workers (rows_of (found_of found.now)) }
     ensures { result ≡ number_of (codes "workers") 1 (rows_of (found_of found.now)) }
 {
     let number = number(found, "workers", 1);
@@ -164,11 +106,11 @@ fn buchberger(found: &ArgMatches) -> Job
     requires { HoldChoices buchberger.options (rows_of (found_of found.now)) }
     ensures { buchberger.job (rows_of (found_of found.now)) ≡ result }
 {
-    Job::Buchberger {
+    Job::Buchberger(BuchbergerOptions {
         weighted: flag(found, "w"),
         revlex: flag(found, "r"),
         pairs: number(found, "pairs", PAIRS),
-    }
+    })
 }
 
 /// The job of `_bases`.
@@ -176,13 +118,13 @@ fn bases(found: &ArgMatches) -> Job
     requires { HoldChoices bases.options (rows_of (found_of found.now)) }
     ensures { bases.job (rows_of (found_of found.now)) ≡ result }
 {
-    Job::Bases {
+    Job::Bases(BasesOptions {
         from_basis: flag(found, "g"),
         limit: number_where(found, "limit"),
         pairs: number(found, "pairs", PAIRS),
         certificates: flag(found, "certificates"),
         workers: workers(found),
-    }
+    })
 }
 
 /// The job of `_leadingterms`.
@@ -190,9 +132,9 @@ fn leading_terms(found: &ArgMatches) -> Job
     requires { HoldChoices leading_terms.options (rows_of (found_of found.now)) }
     ensures { leading_terms.job (rows_of (found_of found.now)) ≡ result }
 {
-    Job::LeadingTerms {
+    Job::LeadingTerms(LeadingTermsOptions {
         listed: flag(found, "m"),
-    }
+    })
 }
 
 /// The job of `_groebnercone`.
@@ -200,12 +142,12 @@ fn groebner_cone(found: &ArgMatches) -> Job
     requires { HoldChoices groebner_cone.options (rows_of (found_of found.now)) }
     ensures { groebner_cone.job (rows_of (found_of found.now)) ≡ result }
 {
-    Job::GroebnerCone {
+    Job::GroebnerCone(GroebnerConeOptions {
         vector_input: flag(found, "vectorinput"),
         certificates: flag(found, "certificates"),
         restricted: flag(found, "restrict"),
         as_fan: flag(found, "asfan"),
-    }
+    })
 }
 
 /// The job of `_weightvector`.
@@ -213,10 +155,10 @@ fn weight_vector(found: &ArgMatches) -> Job
     requires { HoldChoices weight_vector.options (rows_of (found_of found.now)) }
     ensures { weight_vector.job (rows_of (found_of found.now)) ≡ result }
 {
-    Job::WeightVector {
+    Job::WeightVector(WeightVectorOptions {
         listed: flag(found, "m"),
         echoed: flag(found, "e"),
-    }
+    })
 }
 
 /// The job of `_topolyhedralfan`.
@@ -224,9 +166,9 @@ fn to_polyhedral_fan(found: &ArgMatches) -> Job
     requires { HoldChoices to_polyhedral_fan.options (rows_of (found_of found.now)) }
     ensures { to_polyhedral_fan.job (rows_of (found_of found.now)) ≡ result }
 {
-    Job::ToPolyhedralFan {
+    Job::ToPolyhedralFan(ToPolyhedralFanOptions {
         restrict: flag(found, "restrict"),
-    }
+    })
 }
 
 /// The job of `_fancommonrefinement`.
@@ -234,10 +176,10 @@ fn fan_common_refinement(alloc: Global, found: &ArgMatches) -> Result<Job, Alloc
     requires { HoldChoices fan_common_refinement.options (rows_of (found_of found.now)) }
     ensures { IfOk result (λ job. fan_common_refinement.job (rows_of (found_of found.now)) ≡ job) }
 {
-    Ok(Job::FanCommonRefinement {
+    Ok(Job::FanCommonRefinement(FanCommonRefinementOptions {
         first: Name::new(alloc, text(found, "i1"))?,
         second: Name::new(alloc, text(found, "i2"))?,
-    })
+    }))
 }
 
 /// The job of a command with its options.
@@ -245,25 +187,17 @@ fn job_of(alloc: Global, name: &str, found: &ArgMatches) -> Result<Job, AllocErr
     requires { IsCommand (name.now, rows_of (found_of found.now)) }
     ensures { IfOk result (λ job. job_of (name.now, rows_of (found_of found.now)) ≡ Some job) }
 {
+    if let Some(command) = plain_command(name) {
+        return Ok(Job::Plain(command));
+    }
     Ok(match name {
         "_buchberger" => buchberger(found),
         "_bases" => bases(found),
-        "_ismarkedgroebnerbasis" => Job::IsMarkedGroebnerBasis,
-        "_doesidealcontain" => Job::DoesIdealContain,
         "_leadingterms" => leading_terms(found),
-        "_markpolynomialset" => Job::MarkPolynomialSet,
-        "_initialforms" => Job::InitialForms,
-        "_homogenize" => Job::Homogenize,
-        "_polynomialsetunion" => Job::PolynomialSetUnion,
-        "_stats" => Job::Stats,
         "_groebnercone" => groebner_cone(found),
         "_weightvector" => weight_vector(found),
         "_topolyhedralfan" => to_polyhedral_fan(found),
-        "_homogeneityspace" => Job::HomogeneitySpace,
         "_fancommonrefinement" => fan_common_refinement(alloc, found)?,
-        "_tropicalhypersurface" => Job::TropicalHypersurface,
-        "_tropicalintersection" => Job::TropicalIntersection,
-        "_minkowskisum" => Job::MinkowskiSum,
         _ => unreachable!(),
     })
 }

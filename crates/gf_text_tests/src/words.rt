@@ -22,11 +22,11 @@ fn answered(alloc: Global, line: &str) -> Result<Result<Job, WordsError>, Fail> 
 }
 
 fn buchberger(weighted: bool, revlex: bool, pairs: u64) -> Job {
-    Job::Buchberger {
+    Job::Buchberger(BuchbergerOptions {
         weighted,
         revlex,
         pairs,
-    }
+    })
 }
 
 #[test]
@@ -81,13 +81,13 @@ fn a_list_has_a_limit_and_workers(rt: HostRuntime) -> Result<(), Fail> {
     ];
     for (line, from_basis, limit, pairs, workers) in rows {
         let job = answered(rt.alloc(), line)?;
-        let bases = Job::Bases {
+        let bases = Job::Bases(BasesOptions {
             from_basis,
             limit,
             pairs,
             certificates: false,
             workers,
-        };
+        });
         assert!(rt; job == Ok(bases), "{line}");
     }
     Ok(())
@@ -95,13 +95,13 @@ fn a_list_has_a_limit_and_workers(rt: HostRuntime) -> Result<(), Fail> {
 
 #[test]
 fn a_list_has_certificates(rt: HostRuntime) -> Result<(), Fail> {
-    let certified = Job::Bases {
+    let certified = Job::Bases(BasesOptions {
         from_basis: true,
         limit: None,
         pairs: 7,
         certificates: true,
         workers: 1,
-    };
+    });
     let job = answered(rt.alloc(), "_bases --certificates --pairs 7 -g")?;
     assert!(rt; job == Ok(certified));
     Ok(())
@@ -135,12 +135,12 @@ fn a_cone_has_four_options(rt: HostRuntime) -> Result<(), Fail> {
         ),
     ] {
         let job = answered(rt.alloc(), line)?;
-        let cone = Job::GroebnerCone {
+        let cone = Job::GroebnerCone(GroebnerConeOptions {
             vector_input,
             certificates,
             restricted,
             as_fan,
-        };
+        });
         assert!(rt; job == Ok(cone), "{line}");
     }
     Ok(())
@@ -149,40 +149,46 @@ fn a_cone_has_four_options(rt: HostRuntime) -> Result<(), Fail> {
 #[test]
 fn other_commands_have_their_jobs(rt: HostRuntime) -> Result<(), Fail> {
     for (line, wanted) in [
-        ("_ismarkedgroebnerbasis", "Ok(IsMarkedGroebnerBasis)"),
-        ("_doesidealcontain", "Ok(DoesIdealContain)"),
-        ("_leadingterms", "Ok(LeadingTerms { listed: false })"),
-        ("_leadingterms -m", "Ok(LeadingTerms { listed: true })"),
-        ("_markpolynomialset", "Ok(MarkPolynomialSet)"),
-        ("_initialforms", "Ok(InitialForms)"),
-        ("_homogenize", "Ok(Homogenize)"),
-        ("_polynomialsetunion", "Ok(PolynomialSetUnion)"),
-        ("_polynomialsetunion --", "Ok(PolynomialSetUnion)"),
-        ("_stats", "Ok(Stats)"),
+        ("_ismarkedgroebnerbasis", "Ok(Plain(IsMarkedGroebnerBasis))"),
+        ("_doesidealcontain", "Ok(Plain(DoesIdealContain))"),
+        (
+            "_leadingterms",
+            "Ok(LeadingTerms(LeadingTermsOptions { listed: false }))",
+        ),
+        (
+            "_leadingterms -m",
+            "Ok(LeadingTerms(LeadingTermsOptions { listed: true }))",
+        ),
+        ("_markpolynomialset", "Ok(Plain(MarkPolynomialSet))"),
+        ("_initialforms", "Ok(Plain(InitialForms))"),
+        ("_homogenize", "Ok(Plain(Homogenize))"),
+        ("_polynomialsetunion", "Ok(Plain(PolynomialSetUnion))"),
+        ("_polynomialsetunion --", "Ok(Plain(PolynomialSetUnion))"),
+        ("_stats", "Ok(Plain(Stats))"),
         (
             "_weightvector",
-            "Ok(WeightVector { listed: false, echoed: false })",
+            "Ok(WeightVector(WeightVectorOptions { listed: false, echoed: false }))",
         ),
         (
             "_weightvector -e",
-            "Ok(WeightVector { listed: false, echoed: true })",
+            "Ok(WeightVector(WeightVectorOptions { listed: false, echoed: true }))",
         ),
         (
             "_weightvector -me",
-            "Ok(WeightVector { listed: true, echoed: true })",
+            "Ok(WeightVector(WeightVectorOptions { listed: true, echoed: true }))",
         ),
         (
             "_topolyhedralfan",
-            "Ok(ToPolyhedralFan { restrict: false })",
+            "Ok(ToPolyhedralFan(ToPolyhedralFanOptions { restrict: false }))",
         ),
         (
             "_topolyhedralfan --restrict",
-            "Ok(ToPolyhedralFan { restrict: true })",
+            "Ok(ToPolyhedralFan(ToPolyhedralFanOptions { restrict: true }))",
         ),
-        ("_homogeneityspace", "Ok(HomogeneitySpace)"),
-        ("_tropicalhypersurface", "Ok(TropicalHypersurface)"),
-        ("_tropicalintersection", "Ok(TropicalIntersection)"),
-        ("_minkowskisum --", "Ok(MinkowskiSum)"),
+        ("_homogeneityspace", "Ok(Plain(HomogeneitySpace))"),
+        ("_tropicalhypersurface", "Ok(Plain(TropicalHypersurface))"),
+        ("_tropicalintersection", "Ok(Plain(TropicalIntersection))"),
+        ("_minkowskisum --", "Ok(Plain(MinkowskiSum))"),
     ] {
         let job = answered(rt.alloc(), line)?;
         let shown = format!(in rt.alloc(); "{job:?}")?;
@@ -194,7 +200,7 @@ fn other_commands_have_their_jobs(rt: HostRuntime) -> Result<(), Fail> {
 /// The names of the two files of a common refinement.
 fn files(job: &Result<Job, WordsError>) -> Option<(&str, &str)> {
     match job {
-        Ok(Job::FanCommonRefinement { first, second }) => Some((first.as_str(), second.as_str())),
+        Ok(Job::FanCommonRefinement(files)) => Some((files.first.as_str(), files.second.as_str())),
         _ => None,
     }
 }

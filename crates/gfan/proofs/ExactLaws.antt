@@ -16,6 +16,8 @@ use Rattle.gf_tree.specs.Refusals.{IsTreeWithinLimits}
 use Rattle.gf_tree.proofs.RefusalLaws.{within_memory}
 use Rattle.gf_front.specs.declared.command_line.Job.{Job}
 use Rattle.gf_front.specs.declared.command_line.Job.TheVariants as jobs
+use Rattle.gf_front.specs.declared.plain.PlainCommand.{PlainCommand}
+use Rattle.gf_front.specs.declared.plain.PlainCommand.TheVariants as plains
 use Rattle.gf_front.specs.declared.refusal.Refusal.{Refusal}
 use Rattle.gf_front.specs.declared.refusal.Refusal.TheVariants as refusals
 use Rattle.gf_items.specs.Items.{from}
@@ -46,7 +48,7 @@ use Rattle.gfan.specs.ToPolyhedralFan.{to_polyhedral_fan_command}
 use Rattle.gfan.specs.HomogeneitySpace.{nonzero_of, homogeneity_space_command}
 use Rattle.gfan.specs.declared.tropical.TropicalFan.TheVariants as fans
 use Rattle.gfan.specs.Tropical.{tropical_command}
-use Rattle.gfan.specs.Commands.{options, list_options, cone_options, JobWork, work_of, IsOnInput, IsAnswerTo, IsWholeTextOf, IsRefusalOf, IsWithinReach, WritesAtEnd}
+use Rattle.gfan.specs.Commands.{options, list_options, cone_options, plain_command, list_work, JobWork, work_of, IsOnInput, IsAnswerTo, IsWholeTextOf, IsRefusalOf, IsWithinReach, WritesAtEnd}
 use Rattle.gf_subtree.proofs.BasisRowLaws.{early_refused}
 use Rattle.gfan.proofs.BasesListLaws.{among_right}
 use Rattle.gfan.proofs.FormLaws.{form_once}
@@ -164,26 +166,32 @@ abbrev OfCommand : JobWork → (Command → Type 0) → Type 0
 OfCommand (JobWork.on_input c) P = P c
 OfCommand JobWork.on_files P = Unit {0}
 
+plain_exact : (k : PlainCommand) → IsExactCommand (plain_command k)
+plain_exact plains.IsMarkedGroebnerBasis = marked_exact
+plain_exact plains.DoesIdealContain = containment_exact
+plain_exact plains.MarkPolynomialSet = mark_polynomial_set_exact
+plain_exact plains.InitialForms = initial_forms_exact
+plain_exact plains.Homogenize = homogenize_exact
+plain_exact plains.PolynomialSetUnion = polynomial_set_union_exact
+plain_exact plains.Stats = stats_exact
+plain_exact plains.HomogeneitySpace = homogeneity_space_exact
+plain_exact plains.TropicalHypersurface = tropical_exact fans.Hypersurface
+plain_exact plains.TropicalIntersection = tropical_exact fans.Intersection
+plain_exact plains.MinkowskiSum = tropical_exact fans.MinkowskiSum
+
+list_exact : (from_basis : Bool) (o : ListOptions) → OfCommand (list_work from_basis o) IsExactCommand
+list_exact false o = bases_exact o
+list_exact true o = given_exact o
+
 laws : (job : Job) → OfCommand (work_of job) IsExactCommand
-laws (jobs.Buchberger weighted revlex pairs) = buchberger_exact (options weighted revlex pairs)
-laws (jobs.Bases false limit pairs certificates workers) = bases_exact (list_options limit pairs certificates)
-laws (jobs.Bases true limit pairs certificates workers) = given_exact (list_options limit pairs certificates)
-laws jobs.IsMarkedGroebnerBasis = marked_exact
-laws jobs.DoesIdealContain = containment_exact
-laws (jobs.LeadingTerms listed) = leading_exact listed
-laws jobs.MarkPolynomialSet = mark_polynomial_set_exact
-laws jobs.InitialForms = initial_forms_exact
-laws jobs.Homogenize = homogenize_exact
-laws jobs.PolynomialSetUnion = polynomial_set_union_exact
-laws jobs.Stats = stats_exact
-laws (jobs.WeightVector listed echoed) = weight_vector_exact listed echoed
-laws (jobs.GroebnerCone vector_input certificates restricted as_fan) = cone_exact vector_input (cone_options certificates restricted as_fan)
-laws (jobs.ToPolyhedralFan restrict) = to_polyhedral_fan_exact restrict
-laws jobs.HomogeneitySpace = homogeneity_space_exact
-laws jobs.TropicalHypersurface = tropical_exact fans.Hypersurface
-laws jobs.TropicalIntersection = tropical_exact fans.Intersection
-laws jobs.MinkowskiSum = tropical_exact fans.MinkowskiSum
-laws (jobs.FanCommonRefinement first second) = tt
+laws (jobs.Plain k) = plain_exact k
+laws (jobs.Buchberger o) = buchberger_exact (options o)
+laws (jobs.Bases o) = list_exact o.from_basis (list_options o)
+laws (jobs.LeadingTerms o) = leading_exact o.listed
+laws (jobs.WeightVector o) = weight_vector_exact o.listed o.echoed
+laws (jobs.GroebnerCone o) = cone_exact o.vector_input (cone_options o)
+laws (jobs.ToPolyhedralFan o) = to_polyhedral_fan_exact o.restrict
+laws (jobs.FanCommonRefinement o) = tt
 
 work_exact : (w : JobWork) → OfCommand w IsExactCommand → (source : List ℕ) (r d : Refusal) → IsExactRefusal r → IsOnInput w (λ c. IsCommandRefused c source r) → IsOnInput w (λ c. IsCommandRefused c source d) → (d ≡ r) ⊎ (d ≡ refusals.Memory)
 work_exact (JobWork.on_input c) l source r d t h k = exact c l source r d t h k
@@ -251,27 +259,36 @@ command_not_listed c exact_c never source most (IsCommandRefused.behind_text a h
 command_not_listed c exact_c never source most (IsCommandRefused.behind_text a h (IsUnanswered.no_memory m)) = cc
 command_not_listed c exact_c never source most (IsCommandRefused.no_memory m) = cc
 
+plain_not_listed : (k : PlainCommand) (a : (plain_command k).Value) (most : ℕ) → (plain_command k).IsCause a (refusals.ListLimit most) → ⊥
+plain_not_listed plains.IsMarkedGroebnerBasis a m c = check_not_listed c.0 m c.1
+plain_not_listed plains.DoesIdealContain a m c = check_not_listed c.0 m c.1
+plain_not_listed plains.MarkPolynomialSet a m c = cc
+plain_not_listed plains.InitialForms a m c = cc
+plain_not_listed plains.Homogenize a m c = homogenize_not_listed a.1.0 m c
+plain_not_listed plains.PolynomialSetUnion a m c = cc
+plain_not_listed plains.Stats a m c = gordan_not_listed c.0 m c.1
+plain_not_listed plains.HomogeneitySpace a m c = no_space_not_listed (length a.0) (nonzero_of a.1.0) m c
+plain_not_listed plains.TropicalHypersurface a m c = gordan_not_listed c.0 m c.1
+plain_not_listed plains.TropicalIntersection a m c = gordan_not_listed c.0 m c.1
+plain_not_listed plains.MinkowskiSum a m c = gordan_not_listed c.0 m c.1
+
+leading_not_listed : (listed : Bool) (source : List ℕ) (most : ℕ) → IsCommandRefused (leading_terms_command listed) source (refusals.ListLimit most) → ⊥
+leading_not_listed false source most h = command_not_listed (leading_terms_command false) (leading_exact false) (λ a m c. cc) source most h
+leading_not_listed true source most h = command_not_listed (leading_terms_command true) (leading_exact true) (λ a m c. cc) source most h
+
+weight_not_listed : (listed echoed : Bool) (source : List ℕ) (most : ℕ) → IsCommandRefused (weight_vector_command listed echoed) source (refusals.ListLimit most) → ⊥
+weight_not_listed false echoed source most h = command_not_listed (weight_vector_command false echoed) (weight_vector_exact false echoed) (λ a m c. unweighed_not_listed (a.1 ∷ []) m c) source most h
+weight_not_listed true echoed source most h = command_not_listed (weight_vector_command true echoed) (weight_vector_exact true echoed) (λ a m c. unweighed_not_listed a.1 m c) source most h
+
 pub not_listed : (job : Job) (source : List ℕ) (most : ℕ) → WritesAtEnd job → IsRefusalOf job source (refusals.ListLimit most) → ⊥
-not_listed (jobs.Buchberger weighted revlex pairs) source most w h = command_not_listed (buchberger_command (options weighted revlex pairs)) (buchberger_exact (options weighted revlex pairs)) (λ a m c. basis_not_listed c.0 m c.1) source most h
-not_listed (jobs.Bases from_basis limit pairs certificates workers) source most w h = w
-not_listed (jobs.FanCommonRefinement first second) source most w h = w
-not_listed jobs.IsMarkedGroebnerBasis source most w h = command_not_listed marked_command marked_exact (λ a m c. check_not_listed c.0 m c.1) source most h
-not_listed jobs.DoesIdealContain source most w h = command_not_listed containment_command containment_exact (λ a m c. check_not_listed c.0 m c.1) source most h
-not_listed (jobs.LeadingTerms false) source most w h = command_not_listed (leading_terms_command false) (leading_exact false) (λ a m c. cc) source most h
-not_listed (jobs.LeadingTerms true) source most w h = command_not_listed (leading_terms_command true) (leading_exact true) (λ a m c. cc) source most h
-not_listed jobs.MarkPolynomialSet source most w h = command_not_listed mark_polynomial_set_command mark_polynomial_set_exact (λ a m c. cc) source most h
-not_listed jobs.InitialForms source most w h = command_not_listed initial_forms_command initial_forms_exact (λ a m c. cc) source most h
-not_listed jobs.Homogenize source most w h = command_not_listed homogenize_command homogenize_exact (λ a m c. homogenize_not_listed a.1.0 m c) source most h
-not_listed jobs.PolynomialSetUnion source most w h = command_not_listed polynomial_set_union_command polynomial_set_union_exact (λ a m c. cc) source most h
-not_listed jobs.Stats source most w h = command_not_listed stats_command stats_exact (λ a m c. gordan_not_listed c.0 m c.1) source most h
-not_listed (jobs.WeightVector false echoed) source most w h = command_not_listed (weight_vector_command false echoed) (weight_vector_exact false echoed) (λ a m c. unweighed_not_listed (a.1 ∷ []) m c) source most h
-not_listed (jobs.WeightVector true echoed) source most w h = command_not_listed (weight_vector_command true echoed) (weight_vector_exact true echoed) (λ a m c. unweighed_not_listed a.1 m c) source most h
-not_listed (jobs.GroebnerCone vector_input certificates restricted as_fan) source most w h = command_not_listed (groebner_cone_command vector_input (cone_options certificates restricted as_fan)) (cone_exact vector_input (cone_options certificates restricted as_fan)) (λ a m c. cone_not_listed vector_input (cone_options certificates restricted as_fan) a m c) source most h
-not_listed (jobs.ToPolyhedralFan restrict) source most w h = command_not_listed (to_polyhedral_fan_command restrict) (to_polyhedral_fan_exact restrict) (λ a m c. no_fan_not_listed restrict (length a.0) a.1 m c) source most h
-not_listed jobs.HomogeneitySpace source most w h = command_not_listed homogeneity_space_command homogeneity_space_exact (λ a m c. no_space_not_listed (length a.0) (nonzero_of a.1.0) m c) source most h
-not_listed jobs.TropicalHypersurface source most w h = command_not_listed (tropical_command fans.Hypersurface) (tropical_exact fans.Hypersurface) (λ a m c. gordan_not_listed c.0 m c.1) source most h
-not_listed jobs.TropicalIntersection source most w h = command_not_listed (tropical_command fans.Intersection) (tropical_exact fans.Intersection) (λ a m c. gordan_not_listed c.0 m c.1) source most h
-not_listed jobs.MinkowskiSum source most w h = command_not_listed (tropical_command fans.MinkowskiSum) (tropical_exact fans.MinkowskiSum) (λ a m c. gordan_not_listed c.0 m c.1) source most h
+not_listed (jobs.Plain k) source most w h = command_not_listed (plain_command k) (plain_exact k) (plain_not_listed k) source most h
+not_listed (jobs.Buchberger o) source most w h = command_not_listed (buchberger_command (options o)) (buchberger_exact (options o)) (λ a m c. basis_not_listed c.0 m c.1) source most h
+not_listed (jobs.Bases o) source most w h = w
+not_listed (jobs.LeadingTerms o) source most w h = leading_not_listed o.listed source most h
+not_listed (jobs.WeightVector o) source most w h = weight_not_listed o.listed o.echoed source most h
+not_listed (jobs.GroebnerCone o) source most w h = command_not_listed (groebner_cone_command o.vector_input (cone_options o)) (cone_exact o.vector_input (cone_options o)) (λ a m c. cone_not_listed o.vector_input (cone_options o) a m c) source most h
+not_listed (jobs.ToPolyhedralFan o) source most w h = command_not_listed (to_polyhedral_fan_command o.restrict) (to_polyhedral_fan_exact o.restrict) (λ a m c. no_fan_not_listed o.restrict (length a.0) a.1 m c) source most h
+not_listed (jobs.FanCommonRefinement o) source most w h = w
 
 pub refused_as_job : (job : Job) (source : List ℕ) (r : Refusal) → IsRefusalOf job source r → IsOfJob r
 refused_as_job job source r h = work_of_job (work_of job) (laws job) source r h
@@ -307,27 +324,36 @@ given_tested o = record {
   wholes = λ source v r text read t h a. given_refuses o source v r read t h a.basis;
 }
 
+plain_tested : (k : PlainCommand) → IsTestedCommand (plain_command k)
+plain_tested plains.IsMarkedGroebnerBasis = untested marked_command (λ v r t h. test_cause_untested v.1 r t h)
+plain_tested plains.DoesIdealContain = containment_tested
+plain_tested plains.MarkPolynomialSet = untested mark_polynomial_set_command (λ v r t h. memory_untested r t h)
+plain_tested plains.InitialForms = untested initial_forms_command (λ v r t h. memory_untested r t h)
+plain_tested plains.Homogenize = untested homogenize_command (λ v r t h. homogenize_untested v.1.0 r t h)
+plain_tested plains.PolynomialSetUnion = untested polynomial_set_union_command (λ v r t h. memory_untested r t h)
+plain_tested plains.Stats = untested stats_command (λ v r t h. gordan_untested h.0 (subst IsOfTest h.1 t))
+plain_tested plains.HomogeneitySpace = homogeneity_space_tested
+plain_tested plains.TropicalHypersurface = tropical_tested fans.Hypersurface
+plain_tested plains.TropicalIntersection = tropical_tested fans.Intersection
+plain_tested plains.MinkowskiSum = tropical_tested fans.MinkowskiSum
+
+leading_tested : (listed : Bool) → IsTestedCommand (leading_terms_command listed)
+leading_tested false = untested (leading_terms_command false) (λ v r t h. memory_untested r t h)
+leading_tested true = untested (leading_terms_command true) (λ v r t h. memory_untested r t h)
+
+list_tested : (from_basis : Bool) (o : ListOptions) → OfCommand (list_work from_basis o) IsTestedCommand
+list_tested false o = untested (bases_command o) (λ v r t h. list_untested o (length v.0) (generators_of v.1.0) r t h)
+list_tested true o = given_tested o
+
 tests_of : (job : Job) → OfCommand (work_of job) IsTestedCommand
-tests_of (jobs.Buchberger weighted revlex pairs) = untested (buchberger_command (options weighted revlex pairs)) (λ v r t h. basis_untested h.0 (subst IsOfTest h.1 t))
-tests_of (jobs.Bases false limit pairs certificates workers) = untested (bases_command (list_options limit pairs certificates)) (λ v r t h. list_untested (list_options limit pairs certificates) (length v.0) (generators_of v.1.0) r t h)
-tests_of (jobs.Bases true limit pairs certificates workers) = given_tested (list_options limit pairs certificates)
-tests_of jobs.IsMarkedGroebnerBasis = untested marked_command (λ v r t h. test_cause_untested v.1 r t h)
-tests_of jobs.DoesIdealContain = containment_tested
-tests_of (jobs.LeadingTerms false) = untested (leading_terms_command false) (λ v r t h. memory_untested r t h)
-tests_of (jobs.LeadingTerms true) = untested (leading_terms_command true) (λ v r t h. memory_untested r t h)
-tests_of jobs.MarkPolynomialSet = untested mark_polynomial_set_command (λ v r t h. memory_untested r t h)
-tests_of jobs.InitialForms = untested initial_forms_command (λ v r t h. memory_untested r t h)
-tests_of jobs.Homogenize = untested homogenize_command (λ v r t h. homogenize_untested v.1.0 r t h)
-tests_of jobs.PolynomialSetUnion = untested polynomial_set_union_command (λ v r t h. memory_untested r t h)
-tests_of jobs.Stats = untested stats_command (λ v r t h. gordan_untested h.0 (subst IsOfTest h.1 t))
-tests_of (jobs.WeightVector listed echoed) = weight_vector_tested listed echoed
-tests_of (jobs.GroebnerCone vector_input certificates restricted as_fan) = cone_tested vector_input (cone_options certificates restricted as_fan)
-tests_of (jobs.ToPolyhedralFan restrict) = to_polyhedral_fan_tested restrict
-tests_of jobs.HomogeneitySpace = homogeneity_space_tested
-tests_of jobs.TropicalHypersurface = tropical_tested fans.Hypersurface
-tests_of jobs.TropicalIntersection = tropical_tested fans.Intersection
-tests_of jobs.MinkowskiSum = tropical_tested fans.MinkowskiSum
-tests_of (jobs.FanCommonRefinement first second) = tt
+tests_of (jobs.Plain k) = plain_tested k
+tests_of (jobs.Buchberger o) = untested (buchberger_command (options o)) (λ v r t h. basis_untested h.0 (subst IsOfTest h.1 t))
+tests_of (jobs.Bases o) = list_tested o.from_basis (list_options o)
+tests_of (jobs.LeadingTerms o) = leading_tested o.listed
+tests_of (jobs.WeightVector o) = weight_vector_tested o.listed o.echoed
+tests_of (jobs.GroebnerCone o) = cone_tested o.vector_input (cone_options o)
+tests_of (jobs.ToPolyhedralFan o) = to_polyhedral_fan_tested o.restrict
+tests_of (jobs.FanCommonRefinement o) = tt
 
 work_tested : (w : JobWork) → OfCommand w IsExactCommand → OfCommand w IsTestedCommand → (source : List ℕ) (r d : Refusal) → IsOfTest r → IsOnInput w (λ c. IsCommandRefused c source r) → IsOnInput w (λ c. IsCommandRefused c source d) → TellsSame r d ⊎ IsOfNumbers d
 work_tested (JobWork.on_input c) l m source r d t h k = tested c l m source r d t h k

@@ -8,6 +8,7 @@ use Rattle.std.proofs.Common.{arith, refl, sym, ap, ◌∙◌, subst, inl, inr}
 use Rattle.gf_outside.specs.Faults.{Rose}
 use Rattle.gf_front.specs.declared.command_line.Job.{Job}
 use Rattle.gf_front.specs.declared.command_line.Job.TheVariants as jobs
+use Rattle.gf_front.specs.declared.options.FanCommonRefinementOptions.{FanCommonRefinementOptions}
 use Rattle.gf_front.specs.declared.command_line.WordsError.{WordsError}
 use Rattle.gf_front.specs.declared.command_line.WordsError.TheVariants as words_errors
 use Rattle.gf_front.specs.declared.refusal.Refusal.{Refusal}
@@ -22,7 +23,7 @@ use Rattle.gf_refine.specs.declared.error.RefineError.TheVariants as refine_erro
 use Rattle.gfan.specs.declared.refused.Refused.{Refused}
 use Rattle.gfan.specs.Refused.{IsNamedBy}
 use Rattle.gfan.specs.BasesWriting.{IsUnnamed}
-use Rattle.gfan.specs.Commands.{ReadsInput, IsAnswerTo, IsRefusalOf, IsWithinReach, IsPastReach, IsOverflow, IsExponentOverflow, IsPairBudget}
+use Rattle.gfan.specs.Commands.{refinement_job, ReadsInput, IsAnswerTo, IsRefusalOf, IsWithinReach, IsPastReach, IsOverflow, IsExponentOverflow, IsPairBudget}
 use Rattle.gfan.specs.CommonRefinement.{of_fan_file, of_refine, IsLoaded, AreLoaded, IsWithinFile, AreWithinFiles, IsFileTooLong, IsRefinementText, IsRefinementRefused, IsRefined, IsLoadingCause, IsFilesCause}
 use Rattle.gfan.specs.Run.{AsksForInput, AsksForNoFiles, AsksForFiles, Refined, RefinedInPart, FilesRefused, LongFile, IsOfOutside, IsReadingCause, IsCause, IsRunFilesCause, IsRingOfInput, IsOfInput, IsRefusedWith}
 use Rattle.gfan.proofs.OutcomeLaws.{same_job, taken_known}
@@ -35,34 +36,39 @@ words_other words words_errors.Memory h = inr refl
 
 -- a job that reads the input isn't one on files
 pub input_job : (words : List (List ℕ)) (job : Job) → IsJobOf words job → ReadsInput job → AsksForNoFiles words
-input_job words job j r first second k = subst ReadsInput (same_job words (jobs.FanCommonRefinement first second) job k j) r
+input_job words job j r first second k = subst ReadsInput (same_job words (refinement_job first second) job k j) r
 
 -- a job that isn't one on files reads the input
-pub other_reads : (job : Job) → ((first second : List ℕ) → job ≡ jobs.FanCommonRefinement first second → ⊥) → ReadsInput job
-other_reads (jobs.FanCommonRefinement first second) n = n first second refl
+pub other_reads : (job : Job) → ((o : FanCommonRefinementOptions) → job ≡ jobs.FanCommonRefinement o → ⊥) → ReadsInput job
+other_reads (jobs.FanCommonRefinement o) n = n o refl
 other_reads _ n = tt
 
 -- a job that is answered by the input isn't one on files
 pub answer_job : (words : List (List ℕ)) (job : Job) (source text : List ℕ) → IsJobOf words job → IsAnswerTo job source text → AsksForNoFiles words
-answer_job words job source text j a first second k = subst (λ i. IsAnswerTo i source text) (same_job words (jobs.FanCommonRefinement first second) job k j) a
+answer_job words job source text j a first second k = subst (λ i. IsAnswerTo i source text) (same_job words (refinement_job first second) job k j) a
 
 pub refusal_job : (words : List (List ℕ)) (job : Job) (source : List ℕ) (r : Refusal) → IsJobOf words job → IsRefusalOf job source r → AsksForNoFiles words
-refusal_job words job source r j a first second k = subst (λ i. IsRefusalOf i source r) (same_job words (jobs.FanCommonRefinement first second) job k j) a
+refusal_job words job source r j a first second k = subst (λ i. IsRefusalOf i source r) (same_job words (refinement_job first second) job k j) a
 
 pub reach_job : (words : List (List ℕ)) (job : Job) (source : List ℕ) → IsJobOf words job → IsWithinReach job source → AsksForNoFiles words
-reach_job words job source j a first second k = subst (λ i. IsWithinReach i source) (same_job words (jobs.FanCommonRefinement first second) job k j) a
+reach_job words job source j a first second k = subst (λ i. IsWithinReach i source) (same_job words (refinement_job first second) job k j) a
 
 pub past_job : (words : List (List ℕ)) (job : Job) (source : List ℕ) (most : ℕ) → IsJobOf words job → IsPastReach job source most → AsksForNoFiles words
-past_job words job source most j a first second k = subst (λ i. IsPastReach i source most) (same_job words (jobs.FanCommonRefinement first second) job k j) a
+past_job words job source most j a first second k = subst (λ i. IsPastReach i source most) (same_job words (refinement_job first second) job k j) a
 
 pub input_no_files : (words : List (List ℕ)) → AsksForInput words → AsksForNoFiles words
 input_no_files words a = input_job words a.job a.asked a.reads
 
-same_first : (words : List (List ℕ)) (f s g t : List ℕ) → IsJobOf words (jobs.FanCommonRefinement f s) → IsJobOf words (jobs.FanCommonRefinement g t) → g ≡ f
-same_first words f s g t a b = (let e = same_job words (jobs.FanCommonRefinement f s) (jobs.FanCommonRefinement g t) a b in cc)
+-- the files of the job, and no names where it is none on files
+abbrev files_in : Job → FanCommonRefinementOptions
+files_in (jobs.FanCommonRefinement o) = o
+files_in _ = record { first = []; second = [] }
 
-same_second : (words : List (List ℕ)) (f s g t : List ℕ) → IsJobOf words (jobs.FanCommonRefinement f s) → IsJobOf words (jobs.FanCommonRefinement g t) → t ≡ s
-same_second words f s g t a b = (let e = same_job words (jobs.FanCommonRefinement f s) (jobs.FanCommonRefinement g t) a b in cc)
+same_first : (words : List (List ℕ)) (f s g t : List ℕ) → IsJobOf words (refinement_job f s) → IsJobOf words (refinement_job g t) → g ≡ f
+same_first words f s g t a b = ap (λ j. (files_in j).first) (same_job words (refinement_job f s) (refinement_job g t) a b)
+
+same_second : (words : List (List ℕ)) (f s g t : List ℕ) → IsJobOf words (refinement_job f s) → IsJobOf words (refinement_job g t) → t ≡ s
+same_second words f s g t a b = ap (λ j. (files_in j).second) (same_job words (refinement_job f s) (refinement_job g t) a b)
 
 -- the words ask for a job
 pub job_matched : {A : Type 0} (words : List (List ℕ)) (job : Job) → IsJobOf words job → (IsMatched words → ⊥) → A
@@ -189,10 +195,10 @@ module _ (words : List (List ℕ)) (bytes : List ℕ → Option (List ℕ)) (lea
   abbrev RunCause : Refusal → Type 0
   RunCause r = IsRunFilesCause words bytes leaves given gives unopened unopens read reads held holds written writes r
 
-  pub files_done : (first second : List ℕ) → IsJobOf words (jobs.FanCommonRefinement first second) → IsRefined bytes first second leaves given gives held holds → Refined words bytes leaves given gives held holds
+  pub files_done : (first second : List ℕ) → IsJobOf words (refinement_job first second) → IsRefined bytes first second leaves given gives held holds → Refined words bytes leaves given gives held holds
   files_done first second j d = record { first = first; second = second; asked = j; a = d.a; b = d.b; loaded = d.loaded; text = d.text; is_text = d.is_text; gained = d.gained }
 
-  pub files_cause : (first second : List ℕ) (r : Refusal) → IsJobOf words (jobs.FanCommonRefinement first second) → Cause first second r → RunCause r
+  pub files_cause : (first second : List ℕ) (r : Refusal) → IsJobOf words (refinement_job first second) → Cause first second r → RunCause r
   files_cause first second r j c = record { first = first; second = second; asked = j; cause = c }
 
   -- ---- which refusal
@@ -243,7 +249,7 @@ module _ (words : List (List ℕ)) (bytes : List ℕ → Option (List ℕ)) (lea
   files_listed most c = listed_at c.first c.second most c.cause
 
   -- a refusal that isn't of the outside is of the texts
-  outside_at : (first second : List ℕ) (r : Refusal) → IsJobOf words (jobs.FanCommonRefinement first second) → (IsOfOutside r → ⊥) → Cause first second r → FilesRefused words bytes leaves given gives r
+  outside_at : (first second : List ℕ) (r : Refusal) → IsJobOf words (refinement_job first second) → (IsOfOutside r → ⊥) → Cause first second r → FilesRefused words bytes leaves given gives r
   outside_at first second r j n (IsFilesCause.at_first c k) = absurd (n (loading_outside (bytes first) leaves given gives unopened unopens read reads r c))
   outside_at first second r j n (IsFilesCause.at_second a between l m c k) = absurd (n (loading_outside (bytes second) leaves between gives unopened unopens read reads r c))
   outside_at first second r j n (IsFilesCause.at_work a b l h k) = record { first = first; second = second; asked = j; a = a; b = b; loaded = l; refused = h }
@@ -263,7 +269,7 @@ module _ (words : List (List ℕ)) (bytes : List ℕ → Option (List ℕ)) (lea
 
   -- ---- the output
 
-  write_at : (first second : List ℕ) → IsJobOf words (jobs.FanCommonRefinement first second) → Cause first second refusals.WriteFault → Rose written writes × RefinedInPart words bytes leaves given gives held holds
+  write_at : (first second : List ℕ) → IsJobOf words (refinement_job first second) → Cause first second refusals.WriteFault → Rose written writes × RefinedInPart words bytes leaves given gives held holds
   write_at first second j (IsFilesCause.at_first c k) = absurd c
   write_at first second j (IsFilesCause.at_second a between l n c k) = absurd c
   write_at first second j (IsFilesCause.at_work a b l h k) = absurd (work_kind a b refusals.WriteFault h)
@@ -289,21 +295,21 @@ module _ (words : List (List ℕ)) (bytes : List ℕ → Option (List ℕ)) (lea
   within_at first second r n (IsFilesCause.at_work a b l h k) = loaded_within first second a b l
   within_at first second r n (IsFilesCause.at_write a b text l t q rose part) = loaded_within first second a b l
 
-  along : (f s g t : List ℕ) → IsJobOf words (jobs.FanCommonRefinement f s) → IsJobOf words (jobs.FanCommonRefinement g t) → (P : List ℕ → List ℕ → Type 0) → P g t → P f s
+  along : (f s g t : List ℕ) → IsJobOf words (refinement_job f s) → IsJobOf words (refinement_job g t) → (P : List ℕ → List ℕ → Type 0) → P g t → P f s
   along f s g t a b P p = subst (λ x. P x s) (same_first words f s g t a b) (subst (λ y. P g y) (same_second words f s g t a b) p)
 
-  pub files_within : (r : Refusal) (first second : List ℕ) → (statuses.Refused r ≡ statuses.Refused refusals.InputTooLong → ⊥) → IsJobOf words (jobs.FanCommonRefinement first second) → RunCause r → AreWithinFiles bytes first second leaves given gives
+  pub files_within : (r : Refusal) (first second : List ℕ) → (statuses.Refused r ≡ statuses.Refused refusals.InputTooLong → ⊥) → IsJobOf words (refinement_job first second) → RunCause r → AreWithinFiles bytes first second leaves given gives
   files_within r first second n j c =
       along first second c.first c.second j c.asked (λ f s. AreWithinFiles bytes f s leaves given gives) (within_at c.first c.second r (λ e. n (ap (λ x. statuses.Refused x) e)) c.cause)
 
-  pub refined_within : (first second : List ℕ) → IsJobOf words (jobs.FanCommonRefinement first second) → Refined words bytes leaves given gives held holds → AreWithinFiles bytes first second leaves given gives
+  pub refined_within : (first second : List ℕ) → IsJobOf words (refinement_job first second) → Refined words bytes leaves given gives held holds → AreWithinFiles bytes first second leaves given gives
   refined_within first second j c =
       along first second c.first c.second j c.asked (λ f s. AreWithinFiles bytes f s leaves given gives) (loaded_within c.first c.second c.a c.b c.loaded)
 
   -- ---- files whose bytes are known
 
   module _ (first second a b : List ℕ) (g : AsksForFiles words bytes unopened unopens read reads first second a b) where
-    texts_known : (f s x y : List ℕ) → IsJobOf words (jobs.FanCommonRefinement f s) → AreLoaded bytes f s leaves given gives x y → (x ≡ a) × (y ≡ b)
+    texts_known : (f s x y : List ℕ) → IsJobOf words (refinement_job f s) → AreLoaded bytes f s leaves given gives x y → (x ≡ a) × (y ≡ b)
     texts_known f s x y j l = (
       loaded_known bytes first a x g.is_first (subst (λ n. IsLoaded bytes n x) (same_first words first second f s g.asked j) l.is_first),
       loaded_known bytes second b y g.is_second (subst (λ n. IsLoaded bytes n y) (same_second words first second f s g.asked j) l.is_second),
@@ -316,7 +322,7 @@ module _ (words : List (List ℕ)) (bytes : List ℕ → Option (List ℕ)) (lea
     pub refined_text : (c : Refined words bytes leaves given gives held holds) → IsRefinementText a b c.text
     refined_text c = text_along (λ x y. IsRefinementText x y c.text) c.a c.b (texts_known c.first c.second c.a c.b c.asked c.loaded) c.is_text
 
-    refused_at : (f s : List ℕ) (r : Refusal) → length a ≤ 67108864 → length b ≤ 67108864 → IsJobOf words (jobs.FanCommonRefinement f s) → Cause f s r → IsRefusedOnTexts written writes a b r
+    refused_at : (f s : List ℕ) (r : Refusal) → length a ≤ 67108864 → length b ≤ 67108864 → IsJobOf words (refinement_job f s) → Cause f s r → IsRefusedOnTexts written writes a b r
     refused_at f s r p q j (IsFilesCause.at_first c k) =
         let known : bytes f ≡ Some a = ap bytes (same_first words first second f s g.asked j) ∙ g.is_first in
         IsRefusedOnTexts.at_memory (loading_short (bytes f) leaves given gives unopened unopens read reads a known g.opened g.calm r p c)
@@ -340,7 +346,7 @@ module _ (words : List (List ℕ)) (bytes : List ℕ → Option (List ℕ)) (lea
     as_long r (inl e) = inl (ap (λ x. statuses.Refused x) e)
     as_long r (inr e) = inr (ap (λ x. statuses.Refused x) e)
 
-    long_at : (f s : List ℕ) (r : Refusal) → (67108864 < length a) ⊎ (67108864 < length b) → IsJobOf words (jobs.FanCommonRefinement f s) → Cause f s r → IsRefusedWith (statuses.Refused r) refusals.InputTooLong
+    long_at : (f s : List ℕ) (r : Refusal) → (67108864 < length a) ⊎ (67108864 < length b) → IsJobOf words (refinement_job f s) → Cause f s r → IsRefusedWith (statuses.Refused r) refusals.InputTooLong
     long_at f s r l j (IsFilesCause.at_first c k) =
         let known : bytes f ≡ Some a = ap bytes (same_first words first second f s g.asked j) ∙ g.is_first in
         as_long r (loading_long (bytes f) leaves given gives unopened unopens read reads a known g.opened g.calm r c)

@@ -40,7 +40,6 @@ use Rattle.gf_tree.specs.Ideals.{ideal_by}
 use Rattle.gf_tree.specs.Parents.{ideal_of, IsRootFor}
 use Rattle.gf_tree.specs.Refusals.{IsTreeRefusal, IsTreeWithinLimits}
 use Rattle.gf_tree.proofs.RefusalLaws.{refusal_moved, within_memory}
-use Rattle.gf_front.specs.declared.command_line.Job.TheVariants as jobs
 use Rattle.gf_front.specs.declared.refusal.Refusal.{Refusal}
 use Rattle.gf_front.specs.declared.refusal.Refusal.TheVariants as refusals
 use Rattle.gf_items.specs.Items.{IsTextOf, from}
@@ -52,7 +51,7 @@ use Rattle.gfan.specs.BasesWriting.{StartsAt, IsListWritten, IsListBegun, IsList
 use Rattle.gfan.specs.CheckedSets.{of_check}
 use Rattle.gfan.specs.GivenBasis.{IsGivenRootRefusal, IsGivenListCause, IsGivenListWithin, IsGivenListPast}
 use Rattle.gfan.specs.Refused.{IsNamedBy}
-use Rattle.gfan.specs.Commands.{IsRefusalOf}
+use Rattle.gfan.specs.Commands.{list_job, IsRefusalOf}
 use Rattle.gfan.specs.Performed.{IsPerformed, LeavesBegun, IsStopped}
 use Rattle.gfan.proofs.ReadSetLaws.{marked_kept}
 use Rattle.gfan.proofs.CheckedSetLaws.{named_check, named_numbers, check_work, poly_numbers, poly_untested, paired_once, paired_refutes}
@@ -132,21 +131,21 @@ named_root source ring s pairs r read (IsGivenRootRefusal.at_tails t d g a h q) 
 named_root source ring s pairs r read (IsGivenRootRefusal.on_the_way e g h q) = subst (IsNamedBy (Some ring)) (sym q) (named_tree ring e)
 
 module _ (o : ListOptions) (workers : ℕ) (source : List ℕ) (ring : List (List ℕ)) (s : MarkedPolynomials) (read : IsTextOf ring_marked_set source (ring, s)) where
-  pub given_performed : (held holds : Option (List ℕ)) → IsMarkedGroebnerBasis s.variables s.items → IsListWritten o ring (polys s.items) held holds → IsPerformed (jobs.Bases true o.limit o.pairs o.certified workers) source held holds
+  pub given_performed : (held holds : Option (List ℕ)) → IsMarkedGroebnerBasis s.variables s.items → IsListWritten o ring (polys s.items) held holds → IsPerformed (list_job true o workers) source held holds
   given_performed held holds g p = record {
     text = p.0;
     is_answer = record { value = (ring, s); read = read; answer = record { formed = tt; is_answer = record { basis = g; list = p.1 } } };
     gained = p.2;
   }
 
-  refused_here : (r : Refusal) → IsGivenListCause o (length ring) s r → IsRefusalOf (jobs.Bases true o.limit o.pairs o.certified workers) source r
+  refused_here : (r : Refusal) → IsGivenListCause o (length ring) s r → IsRefusalOf (list_job true o workers) source r
   refused_here r c = IsCommandRefused.behind_text (ring, s) read (IsUnanswered.in_work tt c)
 
   -- the root is refused before anything is written
-  pub given_stopped_root : (held : Option (List ℕ)) (n : ℕ) (r : Refusal) → IsGivenRootRefusal s o.pairs r → IsStopped (jobs.Bases true o.limit o.pairs o.certified workers) source held held n n r
+  pub given_stopped_root : (held : Option (List ℕ)) (n : ℕ) (r : Refusal) → IsGivenRootRefusal s o.pairs r → IsStopped (list_job true o workers) source held held n n r
   given_stopped_root held n r h = by_root h
     where
-      stop_check : (e : CheckError) → IsGivenListCause o (length ring) s (of_check e) → IsStopped (jobs.Bases true o.limit o.pairs o.certified workers) source held held n n (of_check e)
+      stop_check : (e : CheckError) → IsGivenListCause o (length ring) s (of_check e) → IsStopped (list_job true o workers) source held held n n (of_check e)
       stop_check (check_errors.Overflow x) c = (refused_here _ c, LeavesBegun.nothing (Keeps-refl held))
       stop_check (check_errors.Exponent x) c = (refused_here _ c, LeavesBegun.nothing (Keeps-refl held))
       stop_check (check_errors.NotReduced set i x) c = (refused_here _ c, LeavesBegun.nothing (Keeps-refl held))
@@ -155,7 +154,7 @@ module _ (o : ListOptions) (workers : ℕ) (source : List ℕ) (ring : List (Lis
       stop_check (check_errors.Cone x) c = (refused_here _ c, LeavesBegun.nothing (Keeps-refl held))
       stop_check check_errors.Memory c = (refused_here _ c, LeavesBegun.nothing (Keeps-refl held))
 
-      stop_tree : (e : TreeError) → IsGivenListCause o (length ring) s (of_tree e) → IsStopped (jobs.Bases true o.limit o.pairs o.certified workers) source held held n n (of_tree e)
+      stop_tree : (e : TreeError) → IsGivenListCause o (length ring) s (of_tree e) → IsStopped (list_job true o workers) source held held n n (of_tree e)
       stop_tree (tree_errors.Overflow x) c = (refused_here _ c, LeavesBegun.nothing (Keeps-refl held))
       stop_tree (tree_errors.Exponent x) c = (refused_here _ c, LeavesBegun.nothing (Keeps-refl held))
       stop_tree (tree_errors.PairBudget basis unsettled) c = (refused_here _ c, LeavesBegun.nothing (Keeps-refl held))
@@ -165,21 +164,21 @@ module _ (o : ListOptions) (workers : ℕ) (source : List ℕ) (ring : List (Lis
       cause_as : (z : Refusal) → r ≡ z → IsGivenListCause o (length ring) s z
       cause_as z q = subst (IsGivenListCause o (length ring) s) q (IsGivenListCause.at_root h)
 
-      by_root : IsGivenRootRefusal s o.pairs r → IsStopped (jobs.Bases true o.limit o.pairs o.certified workers) source held held n n r
-      by_root (IsGivenRootRefusal.at_check e k q) = subst (λ z. IsStopped (jobs.Bases true o.limit o.pairs o.certified workers) source held held n n z) (sym q) (stop_check e (cause_as (of_check e) q))
-      by_root (IsGivenRootRefusal.at_tails t d g a k q) = subst (λ z. IsStopped (jobs.Bases true o.limit o.pairs o.certified workers) source held held n n z) (sym q) (stop_check (of_poly d) (cause_as (of_check (of_poly d)) q))
-      by_root (IsGivenRootRefusal.on_the_way e g k q) = subst (λ z. IsStopped (jobs.Bases true o.limit o.pairs o.certified workers) source held held n n z) (sym q) (stop_tree e (cause_as (of_tree e) q))
+      by_root : IsGivenRootRefusal s o.pairs r → IsStopped (list_job true o workers) source held held n n r
+      by_root (IsGivenRootRefusal.at_check e k q) = subst (λ z. IsStopped (list_job true o workers) source held held n n z) (sym q) (stop_check e (cause_as (of_check e) q))
+      by_root (IsGivenRootRefusal.at_tails t d g a k q) = subst (λ z. IsStopped (list_job true o workers) source held held n n z) (sym q) (stop_check (of_poly d) (cause_as (of_check (of_poly d)) q))
+      by_root (IsGivenRootRefusal.on_the_way e g k q) = subst (λ z. IsStopped (list_job true o workers) source held held n n z) (sym q) (stop_tree e (cause_as (of_tree e) q))
 
-  refused_going : (r : Refusal) → IsMarkedGroebnerBasis s.variables s.items → IsGoingCause o (length ring) (polys s.items) r ⊎ (r ≡ refusals.Memory) → IsRefusalOf (jobs.Bases true o.limit o.pairs o.certified workers) source r
+  refused_going : (r : Refusal) → IsMarkedGroebnerBasis s.variables s.items → IsGoingCause o (length ring) (polys s.items) r ⊎ (r ≡ refusals.Memory) → IsRefusalOf (list_job true o workers) source r
   refused_going r g (inl c) = refused_here r (IsGivenListCause.going g c)
   refused_going r g (inr m) = IsCommandRefused.no_memory m
 
-  leaves_going : (held holds : Option (List ℕ)) (r : Refusal) → IsMarkedGroebnerBasis s.variables s.items → Keeps held holds ⊎ IsListBegun o ring (polys s.items) held holds r → LeavesBegun (jobs.Bases true o.limit o.pairs o.certified workers) source held holds r
+  leaves_going : (held holds : Option (List ℕ)) (r : Refusal) → IsMarkedGroebnerBasis s.variables s.items → Keeps held holds ⊎ IsListBegun o ring (polys s.items) held holds r → LeavesBegun (list_job true o workers) source held holds r
   leaves_going held holds r g (inl k) = LeavesBegun.nothing k
   leaves_going held holds r g (inr b) = LeavesBegun.beginning (record { text = b.0; begun = record { value = (ring, s); read = read; begun = record { basis = g; begun = b.1 } }; gained = b.2 })
 
   -- the list is refused from the root on
-  pub given_stopped_list : (held holds : Option (List ℕ)) (n m : ℕ) (r : Refusal) → IsMarkedGroebnerBasis s.variables s.items → IsListStopped o ring (polys s.items) held holds n m r → IsStopped (jobs.Bases true o.limit o.pairs o.certified workers) source held holds n m r
+  pub given_stopped_list : (held holds : Option (List ℕ)) (n m : ℕ) (r : Refusal) → IsMarkedGroebnerBasis s.variables s.items → IsListStopped o ring (polys s.items) held holds n m r → IsStopped (list_job true o workers) source held holds n m r
   given_stopped_list held holds n m refusals.WriteFault g h = (h.0, record { text = h.1.0; is_whole = record { value = (ring, s); read = read; formed = tt; is_whole = record { basis = g; list = h.1.1 } }; gained = h.1.2 })
   given_stopped_list held holds n m (refusals.ListLimit most) g h = (
     refused_here (refusals.ListLimit most) (IsGivenListCause.going g h.0),

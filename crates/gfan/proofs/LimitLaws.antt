@@ -1,6 +1,6 @@
 -- Where the list of `_bases` goes on past its limit, and nothing that the job may do leaves its limits, the limit is told.
 -- To cite: past_refused, past_unanswered. The rest are steps.
-use Rattle.std.specs.Prelude.{◌≡◌, ◌⊎◌, ℕ, ◌<◌, ◌≤◌, true, false, List, [], ◌∷◌, ◌++◌, length, Err, Option, None, Some}
+use Rattle.std.specs.Prelude.{◌≡◌, ◌⊎◌, ℕ, ◌<◌, ◌≤◌, Bool, true, false, List, [], ◌∷◌, ◌++◌, length, Err, Option, None, Some}
 use Rattle.std.proofs.Common.{arith, refl, ap, ◌∙◌, subst, inl, inr, length-append}
 use Rattle.gf_exponents.specs.SixOrders.{MonomialOrder}
 use Rattle.gf_poly.specs.Polynomial.{Terms}
@@ -17,7 +17,7 @@ use Rattle.gf_front.specs.declared.command_line.Job.TheVariants as jobs
 use Rattle.gf_front.specs.declared.refusal.Refusal.{Refusal}
 use Rattle.gf_front.specs.declared.refusal.Refusal.TheVariants as refusals
 use Rattle.gf_items.specs.Items.{Item, IsTextOf, IsTextRefused}
-use Rattle.gf_items.specs.Commands.{Command, of_text, IsUnanswered, IsCommandRefused}
+use Rattle.gf_items.specs.Commands.{Command, of_text, IsUnanswered, IsAnswered, IsCommandRefused}
 use Rattle.gf_items.specs.Kinds.{a_set, a_marked_set, vector_where}
 use Rattle.gf_items.specs.ReadOnce.{IsReadOnce}
 use Rattle.gf_items.proofs.KindLaws.{ring_and_once}
@@ -28,7 +28,7 @@ use Rattle.gfan.specs.Bases.{IsWithinLimit, of_tree, IsPastLimit, IsGoingCause, 
 use Rattle.gfan.specs.GivenBasis.{IsGivenListCause, IsGivenListPast, given_bases_command}
 use Rattle.gfan.specs.BasesList.{AreAllBases}
 use Rattle.gfan.specs.Buchberger.{generators_of, of_basis}
-use Rattle.gfan.specs.Commands.{list_options, IsAnswerTo, IsRefusalOf, IsPastReach}
+use Rattle.gfan.specs.Commands.{list_options, list_work, IsOnInput, IsAnswerTo, IsRefusalOf, IsSourcePast, IsPastReach}
 use Rattle.gfan.proofs.BasesListLaws.{among_right}
 use Rattle.gfan.proofs.GivenBasisLaws.{root_past}
 use Rattle.gfan.proofs.OneListLaws.{one_list}
@@ -96,9 +96,12 @@ basis_past o source v most d read p (IsCommandRefused.behind_text a k (IsUnanswe
 basis_past o source v most d read p (IsCommandRefused.behind_text a k (IsUnanswered.no_memory m)) = inr m
 basis_past o source v most d read p (IsCommandRefused.no_memory m) = inr m
 
+source_refused : (from_basis : Bool) (o : ListOptions) (source : List ℕ) (most : ℕ) (d : Refusal) → IsSourcePast from_basis o source most → IsOnInput (list_work from_basis o) (λ c. IsCommandRefused c source d) → IsAtLimitOrMemory most d
+source_refused false o source most d p h = generators_past o source p.0 most d p.1 p.2 h
+source_refused true o source most d p h = basis_past o source p.0 most d p.1 p.2 h
+
 pub past_refused : (job : Job) (source : List ℕ) (most : ℕ) (d : Refusal) → IsPastReach job source most → IsRefusalOf job source d → (d ≡ refusals.ListLimit most) ⊎ (d ≡ refusals.Memory)
-past_refused (jobs.Bases false limit pairs certificates workers) source most d p h = generators_past (list_options limit pairs certificates) source p.0 most d p.1 p.2 h
-past_refused (jobs.Bases true limit pairs certificates workers) source most d p h = basis_past (list_options limit pairs certificates) source p.0 most d p.1 p.2 h
+past_refused (jobs.Bases o) source most d p h = source_refused o.from_basis (list_options o) source most d p h
 past_refused _ source most d p h = absurd p
 
 -- ---- and it isn't answered
@@ -110,15 +113,16 @@ too_long (Some n) most list e l w = let same : n ≡ most = cc in omega arith
 no_text : (n : ℕ) (fs : List Terms) (limit : Option ℕ) (most : ℕ) (list : List MarkedPolynomials) → AreInVariables n fs → IsPastLimit limit n fs most → AreAllBases n fs list → IsWithinLimit limit list → ⊥
 no_text n fs limit most list v p all few = too_long limit most p.list p.is_limit p.longer (subst (IsWithinLimit limit) (one_list n fs list p.list v all p.are_all) few)
 
-pub past_unanswered : (job : Job) (source : List ℕ) (most : ℕ) (text : List ℕ) → IsPastReach job source most → IsAnswerTo job source text → ⊥
-past_unanswered (jobs.Bases false limit pairs certificates workers) source most text p a =
-    let o = list_options limit pairs certificates in
+source_unanswered : (from_basis : Bool) (o : ListOptions) (source : List ℕ) (most : ℕ) (text : List ℕ) → IsSourcePast from_basis o source most → IsOnInput (list_work from_basis o) (λ c. IsAnswered c source text) → ⊥
+source_unanswered false o source most text p a =
     let same = (source_once (bases_command o).items (ring_and_once a_set (vector_where false ∷ [])) source).once a.value p.0 a.read p.1 in
-    no_text (length a.value.0) (generators_of a.value.1.0) limit most a.answer.is_answer.list (read_variables source a.value a.read)
-    (subst (λ (x : (bases_command o).Value). IsPastLimit limit (length x.0) (generators_of x.1.0) most) same p.2.past) a.answer.is_answer.are_all a.answer.is_answer.few
-past_unanswered (jobs.Bases true limit pairs certificates workers) source most text p a =
-    let o = list_options limit pairs certificates in
+    no_text (length a.value.0) (generators_of a.value.1.0) o.limit most a.answer.is_answer.list (read_variables source a.value a.read)
+    (subst (λ (x : (bases_command o).Value). IsPastLimit o.limit (length x.0) (generators_of x.1.0) most) same p.2.past) a.answer.is_answer.are_all a.answer.is_answer.few
+source_unanswered true o source most text p a =
     let same = (source_once (given_bases_command o).items (ring_and_once a_marked_set []) source).once a.value p.0 a.read p.1 in
-    no_text (length a.value.0) (polys a.value.1.items) limit most a.answer.is_answer.list.list (given_variables source a.value a.read)
-    (subst (λ (x : (given_bases_command o).Value). IsPastLimit limit (length x.0) (polys x.1.items) most) same p.2.past) a.answer.is_answer.list.are_all a.answer.is_answer.list.few
+    no_text (length a.value.0) (polys a.value.1.items) o.limit most a.answer.is_answer.list.list (given_variables source a.value a.read)
+    (subst (λ (x : (given_bases_command o).Value). IsPastLimit o.limit (length x.0) (polys x.1.items) most) same p.2.past) a.answer.is_answer.list.are_all a.answer.is_answer.list.few
+
+pub past_unanswered : (job : Job) (source : List ℕ) (most : ℕ) (text : List ℕ) → IsPastReach job source most → IsAnswerTo job source text → ⊥
+past_unanswered (jobs.Bases o) source most text p a = source_unanswered o.from_basis (list_options o) source most text p a
 past_unanswered _ source most text p a = absurd p

@@ -8,13 +8,12 @@ use Rattle.std.proofs.Common.{refl, sym, ap, subst, inl, inr}
 use Rattle.gf_outside.specs.Faults.{Rose}
 use Rattle.gf_outside.specs.Moved.{TookExactly, TookAtMost}
 use Rattle.gf_front.specs.declared.command_line.Job.{Job}
-use Rattle.gf_front.specs.declared.command_line.Job.TheVariants as jobs
 use Rattle.gf_front.specs.declared.refusal.Refusal.{Refusal}
 use Rattle.gf_front.specs.declared.refusal.Refusal.TheVariants as refusals
 use Rattle.gf_front.specs.declared.refusal.Status.TheVariants as statuses
 use Rattle.gf_front.specs.Jobs.{IsMatched, IsJobOf}
 use Rattle.gf_items.specs.Commands.{IsOfText, IsOfForm, IsOfNumbers, IsOfTest}
-use Rattle.gfan.specs.Commands.{IsRefusalOf, IsWithinReach, IsPastReach, IsOverflow, IsExponentOverflow, IsConeOverflow, IsPairBudget}
+use Rattle.gfan.specs.Commands.{refinement_job, IsRefusalOf, IsWithinReach, IsPastReach, IsOverflow, IsExponentOverflow, IsConeOverflow, IsPairBudget}
 use Rattle.gfan.specs.CommonRefinement.{AreWithinFiles, IsRefinementRefused, IsRefusedInWords, IsRefinementWithin}
 use Rattle.gfan.specs.Run.{IsKnown, AsksForJob, AsksForInput, AsksForFiles, AsksForFans, Answered, AnsweredInPart, Refined, RefinedInPart, InputRefused, FilesRefused, LongFile, StandsBegun, IsOfOutside, IsRefusedWith, IsTestedWith, IsDoneUnlessMemory, IsRunInputCause, IsRunFilesCause}
 use Rattle.gfan.proofs.OutcomeLaws.{within_done, within_refused, refused_in_reach, limit_refused, limit_not_done, text_not_done, text_refused, form_not_done, form_refused, test_not_done, test_refused, long_not_done, long_refused, input_refused}
@@ -76,7 +75,7 @@ module _ (words : List (List ℕ)) (left leaves : Option (List ℕ)) (given give
   as_told r e c = subst Cause (sym (same_refused e)) c
 
   -- where the words ask for a job on files, a run without them is refused for want of memory
-  no_memory : {s : Refusal} (first second : List ℕ) → IsJobOf words (jobs.FanCommonRefinement first second) → IsRunInputCause words left leaves given gives held holds read reads written writes s → s ≡ refusals.Memory
+  no_memory : {s : Refusal} (first second : List ℕ) → IsJobOf words (refinement_job first second) → IsRunInputCause words left leaves given gives held holds read reads written writes s → s ≡ refusals.Memory
   no_memory first second j i = elim i.other [ inl n ↦ absurd (n first second j) | inr m ↦ m ]
 
   usage_is : Cause refusals.Usage → IsMatched words → ⊥
@@ -109,7 +108,7 @@ module _ (words : List (List ℕ)) (left leaves : Option (List ℕ)) (given give
   pub run_too_long : {s : Refusal} → statuses.Refused s ≡ statuses.Refused refusals.InputTooLong → Cause s → TookExactly left leaves given gives 67108865 ⊎ LongFile words bytes rest told tells
   run_too_long e c = too_long_is (as_told refusals.InputTooLong e c)
 
-  pub run_short : (s : Refusal) → (s ≡ refusals.Usage → TookAtMost left leaves given gives 67108864) → ((first second : List ℕ) → IsJobOf words (jobs.FanCommonRefinement first second) → TookAtMost left leaves given gives 67108864) →
+  pub run_short : (s : Refusal) → (s ≡ refusals.Usage → TookAtMost left leaves given gives 67108864) → ((first second : List ℕ) → IsJobOf words (refinement_job first second) → TookAtMost left leaves given gives 67108864) →
       (statuses.Refused s ≡ statuses.Refused refusals.InputTooLong → ⊥) → Cause s → TookAtMost left leaves given gives 67108864
   run_short s u f n (inl i) = within_refused words left leaves given gives held holds read reads written writes s u n i.1.cause
   run_short s u f n (inr c) = f c.first c.second c.asked
@@ -118,7 +117,7 @@ module _ (words : List (List ℕ)) (left leaves : Option (List ℕ)) (given give
   run_long s source k a l (inl i) = long_refused words left leaves given gives held holds read reads written writes source s k a.asked.matched l i.1.cause
   run_long s source k a l (inr f) = absurd (input_no_files words a f.first f.second f.asked)
 
-  pub run_files_short : (s : Refusal) → (X → tells ≡ told) → (statuses.Refused s ≡ statuses.Refused refusals.InputTooLong → ⊥) → (first second : List ℕ) → IsJobOf words (jobs.FanCommonRefinement first second) → Cause s → AreWithinFiles bytes first second rest told tells
+  pub run_files_short : (s : Refusal) → (X → tells ≡ told) → (statuses.Refused s ≡ statuses.Refused refusals.InputTooLong → ⊥) → (first second : List ℕ) → IsJobOf words (refinement_job first second) → Cause s → AreWithinFiles bytes first second rest told tells
   run_files_short s u n first second j (inl i) = AreWithinFiles.of_first (inl (u i.0))
   run_files_short s u n first second j (inr f) = files_within words bytes rest told tells unopened unopens taken takes held holds written writes s first second n j f
 
@@ -245,10 +244,10 @@ module _ (words : List (List ℕ)) (left leaves : Option (List ℕ)) (given give
   abbrev Done : Type 0
   Done = Answered words left leaves given gives held holds ⊎ Refined words bytes rest told tells held holds
 
-  no_input : (first second : List ℕ) → IsJobOf words (jobs.FanCommonRefinement first second) → Answered words left leaves given gives held holds → ⊥
+  no_input : (first second : List ℕ) → IsJobOf words (refinement_job first second) → Answered words left leaves given gives held holds → ⊥
   no_input first second j a = answer_job words a.answer.job a.answer.source a.text a.answer.asked a.answer.is_answer first second j
 
-  pub done_short : ((first second : List ℕ) → IsJobOf words (jobs.FanCommonRefinement first second) → TookAtMost left leaves given gives 67108864) → Done → TookAtMost left leaves given gives 67108864
+  pub done_short : ((first second : List ℕ) → IsJobOf words (refinement_job first second) → TookAtMost left leaves given gives 67108864) → Done → TookAtMost left leaves given gives 67108864
   done_short f (inl a) = within_done words left leaves given gives held holds 0 0 0 0 a
   done_short f (inr d) = f d.first d.second d.asked
 
@@ -256,7 +255,7 @@ module _ (words : List (List ℕ)) (left leaves : Option (List ℕ)) (given give
   done_long read reads source k i l (inl a) = long_not_done words left leaves given gives held holds read reads 0 0 source k l a
   done_long read reads source k i l (inr d) = input_no_files words i d.first d.second d.asked
 
-  pub done_files_short : (first second : List ℕ) → IsJobOf words (jobs.FanCommonRefinement first second) → Done → AreWithinFiles bytes first second rest told tells
+  pub done_files_short : (first second : List ℕ) → IsJobOf words (refinement_job first second) → Done → AreWithinFiles bytes first second rest told tells
   done_files_short first second j (inl a) = absurd (no_input first second j a)
   done_files_short first second j (inr d) = refined_within words bytes rest told tells 0 0 0 0 held holds 0 0 first second j d
 

@@ -1,9 +1,11 @@
 -- What the answer of `_bases` for a source has: its list serves each weight and each term order, and its certificates hold.
 -- To cite: lists_serve, certificates_hold.
-use Rattle.std.specs.Prelude.{ℕ, true, List}
+use Rattle.std.specs.Prelude.{ℕ, List}
+use Rattle.std.proofs.Common.{subst}
 use Rattle.gf_poly.specs.Polynomial.{Terms}
 use Rattle.gf_poly.specs.Marking.{MarkedPolynomials}
 use Rattle.gf_ideal.specs.Membership.{AreInVariables}
+use Rattle.gfan.specs.Bases.{IsTextOfBases}
 use Rattle.gfan.specs.BasesList.{AreAllBases}
 use Rattle.gfan.specs.CertifiedBases.{CertificatesHold}
 use Rattle.gfan.specs.Served.{ServesWeights, WrittenListsServe}
@@ -20,8 +22,8 @@ list_serves n fs list v all = record {
 }
 
 pub lists_serve : WrittenListsServe
-lists_serve from_basis certificates limit pairs workers source text a =
-    let s = list_of_source from_basis certificates limit pairs workers source text a in
+lists_serve from_basis o workers source text a =
+    let s = list_of_source from_basis o workers source text a in
     record {
       ring = s.ring;
       ideal = s.ideal;
@@ -37,7 +39,7 @@ lists_serve from_basis certificates limit pairs workers source text a =
 pub certificates_hold : CertificatesHold
 certificates_hold = record {
   of_lists = certified_list;
-  of_answers = λ from_basis limit pairs workers source text a.
-      let s = list_of_source from_basis true limit pairs workers source text a in
-      (s.ring, s.ideal, s.read, certified_list limit s.ring s.ideal text s.inside s.is_list);
+  of_answers = λ from_basis o workers source text certified a.
+      let s = list_of_source from_basis o workers source text a in
+      (s.ring, s.ideal, s.read, certified_list o.limit s.ring s.ideal text s.inside (subst (λ c. IsTextOfBases c o.limit s.ring s.ideal text) certified s.is_list));
 }

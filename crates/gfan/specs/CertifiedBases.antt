@@ -11,13 +11,13 @@ use Rattle.gf_ideal.specs.Bases.{IsReducedBasis}
 use Rattle.gf_facets.specs.Regions.{IsInRegion, all_positive}
 use Rattle.gf_facets.specs.Normals.{Ascends}
 use Rattle.gf_facets.specs.Facets.{IsInsideFacet, IsFlippable}
-use Rattle.gf_front.specs.declared.command_line.Job.TheVariants as jobs
+use Rattle.gfan.specs.declared.bases.ListOptions.{ListOptions}
 use Rattle.gf_weights.specs.declared.certificates.FacetWitness.{FacetWitness}
 use Rattle.gf_weights.specs.Weights.{normals_of}
 use Rattle.gfan.specs.BasesList.{AreAllBases}
 use Rattle.gfan.specs.Certificates.{certificates_text}
 use Rattle.gfan.specs.Bases.{list_text, IsTextOfBases}
-use Rattle.gfan.specs.Commands.{IsAnswerTo}
+use Rattle.gfan.specs.Commands.{list_job, IsAnswerTo}
 use Rattle.gfan.specs.ListSources.{HasPolynomials}
 
 -- what is printed behind a basis of the ideal of fs: a positive weight, for which it is the ideal's reduced basis; and exactly the facets
@@ -41,5 +41,5 @@ IsCertifiedList ring fs text = (list : List MarkedPolynomials) × AreAllBases (l
 -- `_bases --certificates` for a source
 pub record CertificatesHold : Type 0 where
   pub of_lists : (limit : Option ℕ) (ring : List (List ℕ)) (fs : List Terms) (text : List ℕ) → AreInVariables (length ring) fs → IsTextOfBases true limit ring fs text → IsCertifiedList ring fs text
-  pub of_answers : (from_basis : Bool) (limit : Option ℕ) (pairs workers : ℕ) (source text : List ℕ) → IsAnswerTo (jobs.Bases from_basis limit pairs true workers) source text →
+  pub of_answers : (from_basis : Bool) (o : ListOptions) (workers : ℕ) (source text : List ℕ) → o.certified ≡ true → IsAnswerTo (list_job from_basis o workers) source text →
       (ring : List (List ℕ)) × (fs : List Terms) × HasPolynomials from_basis source ring fs × IsCertifiedList ring fs text

@@ -4,6 +4,11 @@ use Rattle.gf_poly.specs.Marking.{MarkedPolynomials}
 use Rattle.gf_text.specs.declared.written.Written.{Written}
 use Rattle.gf_front.specs.declared.command_line.Job.{Job}
 use Rattle.gf_front.specs.declared.command_line.Job.TheVariants as jobs
+use Rattle.gf_front.specs.declared.plain.PlainCommand.{PlainCommand}
+use Rattle.gf_front.specs.declared.plain.PlainCommand.TheVariants as plains
+use Rattle.gf_front.specs.declared.options.BuchbergerOptions.{BuchbergerOptions}
+use Rattle.gf_front.specs.declared.options.BasesOptions.{BasesOptions}
+use Rattle.gf_front.specs.declared.options.GroebnerConeOptions.{GroebnerConeOptions}
 use Rattle.gf_front.specs.declared.refusal.Refusal.{Refusal}
 use Rattle.gf_front.specs.declared.refusal.Refusal.TheVariants as refusals
 use Rattle.gf_items.specs.Items.{IsTextOf}
@@ -30,44 +35,66 @@ use Rattle.gfan.specs.HomogeneitySpace.{homogeneity_space_command}
 use Rattle.gfan.specs.declared.tropical.TropicalFan.TheVariants as fans
 use Rattle.gfan.specs.Tropical.{tropical_command}
 
--- the options of `_buchberger`
-abbrev pub options : Bool → Bool → ℕ → Options
-options weighted revlex pairs = record { weighted = weighted; revlex = revlex; pairs = pairs }
+-- what `_buchberger` is asked
+abbrev pub options : BuchbergerOptions → Options
+options o = record { weighted = o.weighted; revlex = o.revlex; pairs = o.pairs }
 
--- the options of `_bases`
-abbrev pub list_options : Option ℕ → ℕ → Bool → ListOptions
-list_options limit pairs certificates = record { limit = limit; pairs = pairs; certified = certificates }
+-- what `_bases` is asked, besides what it reads and how many workers there are
+abbrev pub list_options : BasesOptions → ListOptions
+list_options o = record { limit = o.limit; pairs = o.pairs; certified = o.certificates }
 
--- the options of `_groebnercone` that say what is told of the cone
-abbrev pub cone_options : Bool → Bool → Bool → ConeOptions
-cone_options certificates restricted as_fan = record { certificates = certificates; restricted = restricted; as_fan = as_fan }
+-- what `_groebnercone` is asked to tell of the cone
+abbrev pub cone_options : GroebnerConeOptions → ConeOptions
+cone_options o = record { certificates = o.certificates; restricted = o.restricted; as_fan = o.as_fan }
+
+-- the job of `_bases` that asks this, from a basis or from generators
+abbrev pub list_job : Bool → ListOptions → ℕ → Job
+list_job from_basis o workers = jobs.Bases (record {
+  from_basis = from_basis;
+  limit = o.limit;
+  pairs = o.pairs;
+  certificates = o.certified;
+  workers = workers;
+})
+
+-- the job of `_fancommonrefinement` on the files of these names
+abbrev pub refinement_job : List ℕ → List ℕ → Job
+refinement_job first second = jobs.FanCommonRefinement (record { first = first; second = second })
 
 -- how a job works: by a command on the input; or on files, and it doesn't read the input
 pub data JobWork : Type 1 where
   on_input : Command → JobWork
   on_files : JobWork
 
+-- the command without options
+abbrev pub plain_command : PlainCommand → Command
+plain_command plains.IsMarkedGroebnerBasis = marked_command
+plain_command plains.DoesIdealContain = containment_command
+plain_command plains.MarkPolynomialSet = mark_polynomial_set_command
+plain_command plains.InitialForms = initial_forms_command
+plain_command plains.Homogenize = homogenize_command
+plain_command plains.PolynomialSetUnion = polynomial_set_union_command
+plain_command plains.Stats = stats_command
+plain_command plains.HomogeneitySpace = homogeneity_space_command
+plain_command plains.TropicalHypersurface = tropical_command fans.Hypersurface
+plain_command plains.TropicalIntersection = tropical_command fans.Intersection
+plain_command plains.MinkowskiSum = tropical_command fans.MinkowskiSum
+
+-- the list of all bases, from a basis or from generators
+abbrev pub list_work : Bool → ListOptions → JobWork
+list_work false o = JobWork.on_input (bases_command o)
+list_work true o = JobWork.on_input (given_bases_command o)
+
 -- that of each job; that of `_bases` is the same for every number of workers
 abbrev pub work_of : Job → JobWork
-work_of (jobs.Buchberger weighted revlex pairs) = JobWork.on_input (buchberger_command (options weighted revlex pairs))
-work_of (jobs.Bases false limit pairs certificates workers) = JobWork.on_input (bases_command (list_options limit pairs certificates))
-work_of (jobs.Bases true limit pairs certificates workers) = JobWork.on_input (given_bases_command (list_options limit pairs certificates))
-work_of jobs.IsMarkedGroebnerBasis = JobWork.on_input marked_command
-work_of jobs.DoesIdealContain = JobWork.on_input containment_command
-work_of (jobs.LeadingTerms listed) = JobWork.on_input (leading_terms_command listed)
-work_of jobs.MarkPolynomialSet = JobWork.on_input mark_polynomial_set_command
-work_of jobs.InitialForms = JobWork.on_input initial_forms_command
-work_of jobs.Homogenize = JobWork.on_input homogenize_command
-work_of jobs.PolynomialSetUnion = JobWork.on_input polynomial_set_union_command
-work_of jobs.Stats = JobWork.on_input stats_command
-work_of (jobs.WeightVector listed echoed) = JobWork.on_input (weight_vector_command listed echoed)
-work_of (jobs.GroebnerCone vector_input certificates restricted as_fan) = JobWork.on_input (groebner_cone_command vector_input (cone_options certificates restricted as_fan))
-work_of (jobs.ToPolyhedralFan restrict) = JobWork.on_input (to_polyhedral_fan_command restrict)
-work_of jobs.HomogeneitySpace = JobWork.on_input homogeneity_space_command
-work_of jobs.TropicalHypersurface = JobWork.on_input (tropical_command fans.Hypersurface)
-work_of jobs.TropicalIntersection = JobWork.on_input (tropical_command fans.Intersection)
-work_of jobs.MinkowskiSum = JobWork.on_input (tropical_command fans.MinkowskiSum)
-work_of (jobs.FanCommonRefinement first second) = JobWork.on_files
+work_of (jobs.Plain c) = JobWork.on_input (plain_command c)
+work_of (jobs.Buchberger o) = JobWork.on_input (buchberger_command (options o))
+work_of (jobs.Bases o) = list_work o.from_basis (list_options o)
+work_of (jobs.LeadingTerms o) = JobWork.on_input (leading_terms_command o.listed)
+work_of (jobs.WeightVector o) = JobWork.on_input (weight_vector_command o.listed o.echoed)
+work_of (jobs.GroebnerCone o) = JobWork.on_input (groebner_cone_command o.vector_input (cone_options o))
+work_of (jobs.ToPolyhedralFan o) = JobWork.on_input (to_polyhedral_fan_command o.restrict)
+work_of (jobs.FanCommonRefinement o) = JobWork.on_files
 
 -- the job works on the input by a command of which this holds
 abbrev pub IsOnInput : JobWork → (Command → Type 0) → Type 0
@@ -94,23 +121,27 @@ IsBegunBy job source text refusal = IsOnInput (work_of job) (λ c. IsBegunFor c 
 abbrev pub IsWithinReach : Job → List ℕ → Type 0
 IsWithinReach job source = IsOnInput (work_of job) (λ c. IsInReach c source)
 
+-- the source is what the list is of, and nothing that may be done with it leaves its limits, but the list goes on past this limit
+abbrev pub IsSourcePast : Bool → ListOptions → List ℕ → ℕ → Type 0
+IsSourcePast false o source most =
+    (v : List (List ℕ) × (List Written × Option (List ℤ))) × IsTextOf (ring_set_vector false) source v × IsListPast o (length v.0) (generators_of v.1.0) most
+IsSourcePast true o source most =
+    (v : List (List ℕ) × MarkedPolynomials) × IsTextOf ring_marked_set source v × IsGivenListPast o (length v.0) v.1 most
+
 -- the job is `_bases`, the source is what it reads, and nothing that it may do with it leaves its limits, but the list goes on past this limit
 abbrev pub IsPastReach : Job → List ℕ → ℕ → Type 0
-IsPastReach (jobs.Bases false limit pairs certificates workers) source most =
-    (v : List (List ℕ) × (List Written × Option (List ℤ))) × IsTextOf (ring_set_vector false) source v × IsListPast (list_options limit pairs certificates) (length v.0) (generators_of v.1.0) most
-IsPastReach (jobs.Bases true limit pairs certificates workers) source most =
-    (v : List (List ℕ) × MarkedPolynomials) × IsTextOf ring_marked_set source v × IsGivenListPast (list_options limit pairs certificates) (length v.0) v.1 most
+IsPastReach (jobs.Bases o) source most = IsSourcePast o.from_basis (list_options o) source most
 IsPastReach _ source most = ⊥
 
 -- the job reads the input; `_fancommonrefinement` alone doesn't
 abbrev pub ReadsInput : Job → Type 0
-ReadsInput (jobs.FanCommonRefinement first second) = ⊥
+ReadsInput (jobs.FanCommonRefinement o) = ⊥
 ReadsInput _ = Unit {0}
 
 -- the job reads the input and writes one piece at its end; `_bases` writes as it goes
 abbrev pub WritesAtEnd : Job → Type 0
-WritesAtEnd (jobs.Bases from_basis limit pairs certificates workers) = ⊥
-WritesAtEnd (jobs.FanCommonRefinement first second) = ⊥
+WritesAtEnd (jobs.Bases o) = ⊥
+WritesAtEnd (jobs.FanCommonRefinement o) = ⊥
 WritesAtEnd _ = Unit {0}
 
 -- ---- kinds of refusals

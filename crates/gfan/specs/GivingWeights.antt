@@ -23,4 +23,4 @@ pub record HasGivingWeights (listed echoed : Bool) (source text : List ℕ) : Ty
   pub give : AllZip GivesBasis sets weights
 
 abbrev pub WrittenWeightsGiveBases : Type 0
-WrittenWeightsGiveBases = (listed echoed : Bool) (source text : List ℕ) → IsAnswerTo (jobs.WeightVector listed echoed) source text → HasGivingWeights listed echoed source text
+WrittenWeightsGiveBases = (listed echoed : Bool) (source text : List ℕ) → IsAnswerTo (jobs.WeightVector (record { listed = listed; echoed = echoed })) source text → HasGivingWeights listed echoed source text

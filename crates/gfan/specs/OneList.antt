@@ -1,12 +1,12 @@
 -- An ideal has one list of all bases, and `_bases` writes one text for a source.
 -- Laws: proofs/OneListLaws.antt, proofs/OneTextLaws.antt.
-use Rattle.std.specs.Prelude.{◌≡◌, ℕ, Bool, List, Option}
+use Rattle.std.specs.Prelude.{◌≡◌, ℕ, Bool, List}
 use Rattle.gf_poly.specs.Polynomial.{Terms}
 use Rattle.gf_poly.specs.Marking.{MarkedPolynomials}
 use Rattle.gf_ideal.specs.Membership.{AreInVariables}
-use Rattle.gf_front.specs.declared.command_line.Job.TheVariants as jobs
+use Rattle.gfan.specs.declared.bases.ListOptions.{ListOptions}
 use Rattle.gfan.specs.BasesList.{AreAllBases}
-use Rattle.gfan.specs.Commands.{IsAnswerTo}
+use Rattle.gfan.specs.Commands.{list_job, IsAnswerTo}
 
 -- each ideal has a list of all its bases
 abbrev pub ListsExist : Type 0
@@ -19,5 +19,5 @@ ListsAreOne = (n : ℕ) (fs : List Terms) (list other : List MarkedPolynomials) 
 -- two runs of `_bases`, both with certificates or both without, that come to the end of the list of one source have written the same
 -- text, whatever the numbers of their workers were, and their limits and budgets
 abbrev pub TextsAreOne : Type 0
-TextsAreOne = (from_basis certificates : Bool) (limit other : Option ℕ) (pairs budget workers others : ℕ) (source text same : List ℕ) → IsAnswerTo (jobs.Bases from_basis limit pairs certificates workers) source text →
-    IsAnswerTo (jobs.Bases from_basis other budget certificates others) source same → text ≡ same
+TextsAreOne = (from_basis : Bool) (o u : ListOptions) (workers others : ℕ) (source text same : List ℕ) → u.certified ≡ o.certified → IsAnswerTo (list_job from_basis o workers) source text →
+    IsAnswerTo (list_job from_basis u others) source same → text ≡ same

@@ -7,7 +7,6 @@ use Rattle.std.specs.Io.KnownBytes.{Appends, IsAtEnd, Keeps}
 use Rattle.gf_outside.specs.Faults.{Rose}
 use Rattle.gf_outside.specs.Moved.{Took, TookExactly, TookAtMost, AppendsPrefix}
 use Rattle.gf_front.specs.declared.command_line.Job.{Job}
-use Rattle.gf_front.specs.declared.command_line.Job.TheVariants as jobs
 use Rattle.gf_front.specs.declared.refusal.Refusal.{Refusal}
 use Rattle.gf_front.specs.declared.refusal.Refusal.TheVariants as refusals
 use Rattle.gf_front.specs.declared.refusal.Status.{Status}
@@ -17,7 +16,7 @@ use Rattle.gf_items.specs.Commands.{IsOfNumbers, TellsSame}
 use Rattle.gfan.specs.declared.refused.Refused.{Refused}
 use Rattle.gfan.specs.Refused.{names_of, IsNamedBy, IsRingOf, WrittenAsFar}
 use Rattle.gf_front.specs.Jobs.{IsMatched, IsJobOf}
-use Rattle.gfan.specs.Commands.{IsAnswerTo, IsWholeTextOf, IsRefusalOf, IsBegunBy, ReadsInput}
+use Rattle.gfan.specs.Commands.{refinement_job, IsAnswerTo, IsWholeTextOf, IsRefusalOf, IsBegunBy, ReadsInput}
 use Rattle.gfan.specs.CommonRefinement.{AreLoaded, IsFileTooLong, IsRefinementText, IsRefinementRefused, IsFilesCause}
 
 -- ---- what is given
@@ -35,7 +34,7 @@ pub record AsksForJob (words : List (List ℕ)) (left : Option (List ℕ)) (befo
 
 -- the words ask for no job on files
 abbrev pub AsksForNoFiles : List (List ℕ) → Type 0
-AsksForNoFiles words = (first second : List ℕ) → IsJobOf words (jobs.FanCommonRefinement first second) → ⊥
+AsksForNoFiles words = (first second : List ℕ) → IsJobOf words (refinement_job first second) → ⊥
 
 -- the words ask for a job that reads the input
 pub record AsksForInput (words : List (List ℕ)) : Type 0 where
@@ -46,7 +45,7 @@ pub record AsksForInput (words : List (List ℕ)) : Type 0 where
 -- the words ask for the common refinement of the fans of these files, whose bytes are known, and no fault of files is counted from
 -- before to now
 pub record AsksForFiles (words : List (List ℕ)) (bytes : List ℕ → Option (List ℕ)) (unopened unopens read reads : ℕ) (first second a b : List ℕ) : Type 0 where
-  pub asked : IsJobOf words (jobs.FanCommonRefinement first second)
+  pub asked : IsJobOf words (refinement_job first second)
   pub is_first : bytes first ≡ Some a
   pub is_second : bytes second ≡ Some b
   pub opened : Rose unopened unopens → ⊥
@@ -98,7 +97,7 @@ pub record AnsweredInPart (words : List (List ℕ)) (left leaves : Option (List 
 pub record Refined (words : List (List ℕ)) (bytes : List ℕ → Option (List ℕ)) (leaves : Option (List ℕ)) (given gives : ℕ) (held holds : Option (List ℕ)) : Type 0 where
   pub first : List ℕ
   pub second : List ℕ
-  pub asked : IsJobOf words (jobs.FanCommonRefinement first second)
+  pub asked : IsJobOf words (refinement_job first second)
   pub a : List ℕ
   pub b : List ℕ
   pub loaded : AreLoaded bytes first second leaves given gives a b
@@ -110,7 +109,7 @@ pub record Refined (words : List (List ℕ)) (bytes : List ℕ → Option (List 
 pub record RefinedInPart (words : List (List ℕ)) (bytes : List ℕ → Option (List ℕ)) (leaves : Option (List ℕ)) (given gives : ℕ) (held holds : Option (List ℕ)) : Type 0 where
   pub first : List ℕ
   pub second : List ℕ
-  pub asked : IsJobOf words (jobs.FanCommonRefinement first second)
+  pub asked : IsJobOf words (refinement_job first second)
   pub a : List ℕ
   pub b : List ℕ
   pub loaded : AreLoaded bytes first second leaves given gives a b
@@ -132,7 +131,7 @@ pub record InputRefused (words : List (List ℕ)) (left leaves : Option (List �
 pub record FilesRefused (words : List (List ℕ)) (bytes : List ℕ → Option (List ℕ)) (leaves : Option (List ℕ)) (given gives : ℕ) (refusal : Refusal) : Type 0 where
   pub first : List ℕ
   pub second : List ℕ
-  pub asked : IsJobOf words (jobs.FanCommonRefinement first second)
+  pub asked : IsJobOf words (refinement_job first second)
   pub a : List ℕ
   pub b : List ℕ
   pub loaded : AreLoaded bytes first second leaves given gives a b
@@ -142,7 +141,7 @@ pub record FilesRefused (words : List (List ℕ)) (bytes : List ℕ → Option (
 pub record LongFile (words : List (List ℕ)) (bytes : List ℕ → Option (List ℕ)) (leaves : Option (List ℕ)) (given gives : ℕ) : Type 0 where
   pub first : List ℕ
   pub second : List ℕ
-  pub asked : IsJobOf words (jobs.FanCommonRefinement first second)
+  pub asked : IsJobOf words (refinement_job first second)
   pub long : IsFileTooLong bytes first second leaves given gives
 
 -- the words ask for a job, all of the input was read, and the job may have written this before it is refused so
@@ -215,7 +214,7 @@ pub record IsRunInputCause (words : List (List ℕ)) (left leaves : Option (List
 pub record IsRunFilesCause (words : List (List ℕ)) (bytes : List ℕ → Option (List ℕ)) (leaves : Option (List ℕ)) (given gives unopened unopens read reads : ℕ) (held holds : Option (List ℕ)) (written writes : ℕ) (refusal : Refusal) : Type 0 where
   pub first : List ℕ
   pub second : List ℕ
-  pub asked : IsJobOf words (jobs.FanCommonRefinement first second)
+  pub asked : IsJobOf words (refinement_job first second)
   pub cause : IsFilesCause bytes first second leaves given gives unopened unopens read reads held holds written writes refusal
 
 -- ---- the line of a refusal

@@ -1,6 +1,6 @@
 -- What the list that `_bases` writes for a source has for each weight and each term order. Laws: proofs/ServedLaws.antt.
 -- Source: Fukuda, Jensen, Thomas, Computing Gröbner fans, 2.
-use Rattle.std.specs.Prelude.{◌≡◌, ◌↔◌, ℕ, Bool, List, length, All, ℤ, pos, ◌<ℤ◌, Option}
+use Rattle.std.specs.Prelude.{◌≡◌, ◌↔◌, ℕ, Bool, List, length, All, ℤ, pos, ◌<ℤ◌}
 use Rattle.gf_exponents.specs.Exponents.{Exponents}
 use Rattle.gf_exponents.specs.Orders.{gains, IsTermOrder}
 use Rattle.gf_poly.specs.Polynomial.{Terms}
@@ -10,10 +10,10 @@ use Rattle.gf_walk.specs.Listing.{Among}
 use Rattle.gf_facets.specs.Facets.{IsInClosedCone}
 use Rattle.gf_facets.specs.InitialIdeals.{IsMonomialAt}
 use Rattle.gf_reverse.specs.TermOrders.{below_by}
-use Rattle.gf_front.specs.declared.command_line.Job.TheVariants as jobs
+use Rattle.gfan.specs.declared.bases.ListOptions.{ListOptions}
 use Rattle.gfan.specs.BasesList.{IsGivenByWeight, AreAllBases}
 use Rattle.gfan.specs.Bases.{AreItemTexts, list_text}
-use Rattle.gfan.specs.Commands.{IsAnswerTo}
+use Rattle.gfan.specs.Commands.{list_job, IsAnswerTo}
 use Rattle.gfan.specs.ListSources.{HasPolynomials}
 
 -- a basis is listed exactly where some positive weight gives it; for each positive weight for which monomials generate the initial ideal, and
@@ -43,5 +43,5 @@ pub record HasServingList (from_basis certificates : Bool) (source text : List �
 
 -- so it is with the answer of `_bases` for a source
 abbrev pub WrittenListsServe : Type 0
-WrittenListsServe = (from_basis certificates : Bool) (limit : Option ℕ) (pairs workers : ℕ) (source text : List ℕ) →
-    IsAnswerTo (jobs.Bases from_basis limit pairs certificates workers) source text → HasServingList from_basis certificates source text
+WrittenListsServe = (from_basis : Bool) (o : ListOptions) (workers : ℕ) (source text : List ℕ) →
+    IsAnswerTo (list_job from_basis o workers) source text → HasServingList from_basis o.certified source text

@@ -9,6 +9,7 @@ ghost use Rattle.gfan.specs.Buchberger.{generators_of};
 ghost use Rattle.gfan.specs.Certificates.{IsItemRefusal};
 ghost use Rattle.gfan.specs.Bases.{bases_command};
 ghost use Rattle.gfan.specs.BasesWriting.{basis_piece, IsPieceOf, IsBasisWritten, IsUnwritten, IsBasisUnwritten, HasRoomFor, IsOneLess, IsFull, IsFirstBasis, IsRootRefusal, StartsAt, IsListWritten, IsListStopped, IsUnnamed};
+ghost use Rattle.gfan.specs.Commands.{list_job};
 ghost use Rattle.gfan.specs.Performed.{IsPerformed, IsStopped, IsPerformedFor, IsStoppedFor};
 ghost use Rattle.gfan.specs.Refused.{IsOfSource};
 
@@ -277,9 +278,9 @@ pub(crate) fn perform<R: Threads + Sync, K: Sink, G: Gate>(
 ) -> Result<(), Refused>
     requires some { 1 ≤ workers }
     requires most { workers ≤ 64 }
-    ensures done { OnOk result (IsPerformed (Job.Bases false options.limit options.pairs options.certified workers) source.now
+    ensures done { OnOk result (IsPerformed (list_job false options workers) source.now
         (K.held output.old) (K.held output.new)) }
-    ensures stopped { IfErr result (λ e. IsStopped (Job.Bases false options.limit options.pairs options.certified workers) source.now
+    ensures stopped { IfErr result (λ e. IsStopped (list_job false options workers) source.now
         (K.held output.old) (K.held output.new) (K.faults output.old) (K.faults output.new) e.refusal) }
     ensures told { IfErr result (IsOfSource source.now) }
     ensures calm { MatchResult result (λ _. K.faults output.new ≡ K.faults output.old)

@@ -15,11 +15,43 @@ use crate::{
     initial_forms, leading_terms, mark_polynomial_set, marked, polynomial_set_union, stats,
     to_polyhedral_fan, tropical, weight_vector,
 };
-use gf_front::{Job, Refusal};
+use gf_front::{Job, PlainCommand, Refusal};
 use gf_outside::{Sink, WriteFault, write_all};
 use gf_waves::Gate;
 use std::alloc::Global;
 use std::thread::Threads;
+
+/// What a command without options writes for the source.
+fn plain_answer<R: Threads + Sync>(
+    rt: &R,
+    alloc: Global,
+    command: PlainCommand,
+    source: &[u8],
+) -> Result<Vec<u8>, Refused>
+    ensures ok { IfOk result (λ text. IsAnswerTo (Job.Plain command) source.now text.items) }
+    ensures err { IfErr result (λ e. IsRefusalOf (Job.Plain command) source.now e.refusal) }
+    ensures told { IfErr result (IsOfSource source.now) }
+{
+    match command {
+        PlainCommand::IsMarkedGroebnerBasis => marked::answer(alloc, source),
+        PlainCommand::DoesIdealContain => containment::answer(alloc, source),
+        PlainCommand::MarkPolynomialSet => mark_polynomial_set::answer(alloc, source),
+        PlainCommand::InitialForms => initial_forms::answer(alloc, source),
+        PlainCommand::Homogenize => homogenize::answer(alloc, source),
+        PlainCommand::PolynomialSetUnion => polynomial_set_union::answer(alloc, source),
+        PlainCommand::Stats => stats::answer(alloc, source),
+        PlainCommand::HomogeneitySpace => homogeneity_space::answer(alloc, source),
+        PlainCommand::TropicalHypersurface => {
+            tropical::answer(rt, alloc, source, TropicalFan::Hypersurface)
+        }
+        PlainCommand::TropicalIntersection => {
+            tropical::answer(rt, alloc, source, TropicalFan::Intersection)
+        }
+        PlainCommand::MinkowskiSum => {
+            tropical::answer(rt, alloc, source, TropicalFan::MinkowskiSum)
+        }
+    }
+}
 
 /// What a job that writes one piece at its end writes for the source.
 fn answered<R: Threads + Sync>(
@@ -34,52 +66,29 @@ fn answered<R: Threads + Sync>(
     ensures told { IfErr result (IsOfSource source.now) }
 {
     match job {
-        Job::Buchberger {
-            weighted,
-            revlex,
-            pairs,
-        } => {
+        Job::Plain(command) => plain_answer(rt, alloc, *command, source),
+        Job::Buchberger(given) => {
             let options = Options {
-                weighted: *weighted,
-                revlex: *revlex,
-                pairs: *pairs,
+                weighted: given.weighted,
+                revlex: given.revlex,
+                pairs: given.pairs,
             };
             buchberger::answer(alloc, source, options)
         }
-        Job::Bases { .. } | Job::FanCommonRefinement { .. } => unreachable!(),
-        Job::IsMarkedGroebnerBasis => marked::answer(alloc, source),
-        Job::DoesIdealContain => containment::answer(alloc, source),
-        Job::LeadingTerms { listed } => leading_terms::answer(alloc, source, *listed),
-        Job::MarkPolynomialSet => mark_polynomial_set::answer(alloc, source),
-        Job::InitialForms => initial_forms::answer(alloc, source),
-        Job::Homogenize => homogenize::answer(alloc, source),
-        Job::PolynomialSetUnion => polynomial_set_union::answer(alloc, source),
-        Job::Stats => stats::answer(alloc, source),
-        Job::GroebnerCone {
-            vector_input,
-            certificates,
-            restricted,
-            as_fan,
-        } => {
+        Job::Bases(_) | Job::FanCommonRefinement(_) => unreachable!(),
+        Job::LeadingTerms(given) => leading_terms::answer(alloc, source, given.listed),
+        Job::GroebnerCone(given) => {
             let options = ConeOptions {
-                certificates: *certificates,
-                restricted: *restricted,
-                as_fan: *as_fan,
+                certificates: given.certificates,
+                restricted: given.restricted,
+                as_fan: given.as_fan,
             };
-            groebner_cone::answer(alloc, source, *vector_input, options)
+            groebner_cone::answer(alloc, source, given.vector_input, options)
         }
-        Job::WeightVector { listed, echoed } => {
-            weight_vector::answer(alloc, source, *listed, *echoed)
+        Job::WeightVector(given) => {
+            weight_vector::answer(alloc, source, given.listed, given.echoed)
         }
-        Job::ToPolyhedralFan { restrict } => to_polyhedral_fan::answer(alloc, source, *restrict),
-        Job::HomogeneitySpace => homogeneity_space::answer(alloc, source),
-        Job::TropicalHypersurface => {
-            tropical::answer(rt, alloc, source, TropicalFan::Hypersurface)
-        }
-        Job::TropicalIntersection => {
-            tropical::answer(rt, alloc, source, TropicalFan::Intersection)
-        }
-        Job::MinkowskiSum => tropical::answer(rt, alloc, source, TropicalFan::MinkowskiSum),
+        Job::ToPolyhedralFan(given) => to_polyhedral_fan::answer(alloc, source, given.restrict),
     }
 }
 
@@ -125,22 +134,16 @@ pub(crate) fn perform<R: Threads + Sync, K: Sink, G: Gate>(
         (λ e. (e.refusal ≡ Refusal.WriteFault → ⊥) → K.faults output.new ≡ K.faults output.old) }
 {
     match job {
-        Job::Bases {
-            from_basis,
-            limit,
-            pairs,
-            certificates,
-            workers,
-        } => {
+        Job::Bases(given) => {
             let options = ListOptions {
-                limit: *limit,
-                pairs: *pairs,
-                certified: *certificates,
+                limit: given.limit,
+                pairs: given.pairs,
+                certified: given.certificates,
             };
-            if *from_basis {
-                given_basis::perform(rt, alloc, source, options, *workers, output, gate)
+            if given.from_basis {
+                given_basis::perform(rt, alloc, source, options, given.workers, output, gate)
             } else {
-                bases::perform(rt, alloc, source, options, *workers, output, gate)
+                bases::perform(rt, alloc, source, options, given.workers, output, gate)
             }
         }
         other => write_answer(rt, alloc, other, source, output),

@@ -4,6 +4,7 @@ ghost use Rattle.gf_poly.specs.Marking.{polys};
 ghost use Rattle.gf_reduced.specs.Markings.{IsMarkedGroebnerBasis};
 ghost use Rattle.gfan.specs.BasesWriting.{StartsAt};
 ghost use Rattle.gfan.specs.GivenBasis.{IsGivenRootRefusal};
+ghost use Rattle.gfan.specs.Commands.{list_job};
 ghost use Rattle.gfan.specs.Performed.{IsPerformed, IsStopped};
 ghost use Rattle.gfan.specs.Refused.{IsOfSource};
 
@@ -69,9 +70,9 @@ pub(crate) fn perform<R: Threads + Sync, K: Sink, G: Gate>(
 ) -> Result<(), Refused>
     requires some { 1 ≤ workers }
     requires most { workers ≤ 64 }
-    ensures done { OnOk result (IsPerformed (Job.Bases true options.limit options.pairs options.certified workers) source.now
+    ensures done { OnOk result (IsPerformed (list_job true options workers) source.now
         (K.held output.old) (K.held output.new)) }
-    ensures stopped { IfErr result (λ e. IsStopped (Job.Bases true options.limit options.pairs options.certified workers) source.now
+    ensures stopped { IfErr result (λ e. IsStopped (list_job true options workers) source.now
         (K.held output.old) (K.held output.new) (K.faults output.old) (K.faults output.new) e.refusal) }
     ensures told { IfErr result (IsOfSource source.now) }
     ensures calm { MatchResult result (λ _. K.faults output.new ≡ K.faults output.old)

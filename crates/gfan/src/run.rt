@@ -7,7 +7,7 @@ ghost use Rattle.gf_outside.specs.Moved.{TookExactly, TookAtMost};
 ghost use Rattle.gf_front.specs.Jobs.{IsMatched, IsJobOf};
 ghost use Rattle.gf_front.specs.declared.command_line.Job.{Job};
 ghost use Rattle.gf_items.specs.Commands.{IsOfText, IsOfForm, IsOfNumbers, IsOfTest};
-ghost use Rattle.gfan.specs.Commands.{ReadsInput, IsRefusalOf, IsWithinReach, IsPastReach, IsOverflow, IsExponentOverflow, IsConeOverflow, IsPairBudget};
+ghost use Rattle.gfan.specs.Commands.{refinement_job, ReadsInput, IsRefusalOf, IsWithinReach, IsPastReach, IsOverflow, IsExponentOverflow, IsConeOverflow, IsPairBudget};
 ghost use Rattle.gfan.specs.CommonRefinement.{AreWithinFiles, IsRefinementRefused, IsRefusedInWords, IsRefinementWithin};
 ghost use Rattle.gfan.specs.Run.{ReadWhole, IsReadingCause, Answered, AnsweredInPart, InputRefused, Refined, RefinedInPart, FilesRefused, LongFile, IsKnown, AsksForJob, AsksForInput, AsksForNoFiles, AsksForFiles, AsksForFans, IsRunInputCause, IsRunFilesCause, IsOfInput, IsOfOutside, IsTold, IsRefusedWith, IsTestedWith, IsDoneUnlessMemory, StandsBegun, LeavesWritten};
 
@@ -63,7 +63,7 @@ fn outcome<R: Threads + Sync, S: Source, K: Sink, F: Files, G: Gate>(
     ensures usage_always { (IsMatched (map string_bytes words.now) → ⊥) → MatchResult result (λ _. ⊥)
         (λ e. (e.refusal ≡ Refusal.Usage) ⊎ (e.refusal ≡ Refusal.Memory)) }
     ensures unread { IfErr result (λ e. e.refusal ≡ Refusal.Usage → input.new ≡ input.old) }
-    ensures input_untouched { (first second : List ℕ) → IsJobOf (map string_bytes words.now) (Job.FanCommonRefinement first second)
+    ensures input_untouched { (first second : List ℕ) → IsJobOf (map string_bytes words.now) (refinement_job first second)
         → input.new ≡ input.old }
     ensures files_untouched { AsksForNoFiles (map string_bytes words.now) → files.new ≡ files.old }
     ensures files_kept { F.bytes files.new ≡ F.bytes files.old }
@@ -80,8 +80,8 @@ fn outcome<R: Threads + Sync, S: Source, K: Sink, F: Files, G: Gate>(
         (λ e. (e.refusal ≡ Refusal.WriteFault → ⊥) → K.faults output.new ≡ K.faults output.old) }
 {
     let job = gf_front::words(alloc, words)?;
-    if let Job::FanCommonRefinement { first, second } = &job {
-        return common_refinement::perform(rt, alloc, first, second, output, files);
+    if let Job::FanCommonRefinement(fans) = &job {
+        return common_refinement::perform(rt, alloc, &fans.first, &fans.second, output, files);
     }
     let source = read(alloc, input)?;
     perform(rt, alloc, &job, &source, output, gate)
@@ -148,7 +148,7 @@ pub fn run<R: Threads + Sync, S: Source, K: Sink, E: Sink, F: Files, G: Gate>(
     ensures unread { result ≡ Status.Refused Refusal.Usage → input.new ≡ input.old }
 
     // A job on files doesn't read the input, and no other job reads files. What files hold stays.
-    ensures input_untouched { (first second : List ℕ) → IsJobOf (map string_bytes words.now) (Job.FanCommonRefinement first second)
+    ensures input_untouched { (first second : List ℕ) → IsJobOf (map string_bytes words.now) (refinement_job first second)
         → input.new ≡ input.old }
     ensures files_untouched { AsksForNoFiles (map string_bytes words.now) → files.new ≡ files.old }
     ensures files_kept { F.bytes files.new ≡ F.bytes files.old }
@@ -167,7 +167,7 @@ pub fn run<R: Threads + Sync, S: Source, K: Sink, E: Sink, F: Files, G: Gate>(
         → AsksForInput (map string_bytes words.now) → 67_108_864 < length source
         → IsRefusedWith result Refusal.InputTooLong }
     ensures files_short { (result ≡ Status.Refused Refusal.InputTooLong → ⊥) → (first second : List ℕ)
-        → IsJobOf (map string_bytes words.now) (Job.FanCommonRefinement first second)
+        → IsJobOf (map string_bytes words.now) (refinement_job first second)
         → AreWithinFiles (F.bytes files.old) first second (F.left files.new) (F.given files.old) (F.given files.new) }
     ensures files_long { (first second a b : List ℕ) → AsksForFiles (map string_bytes words.now) (F.bytes files.old) (F.unopened files.old)
         (F.unopened files.new) (F.faults files.old) (F.faults files.new) first second a b

@@ -11,16 +11,16 @@ pub bases-requires : goal.bases-requires
 bases-requires c = choices_hold bases (c.args.name.now, rows_of (found_of c.args.found.now)) refl c.requires c.in-text-2.is
 
 pub leading_terms-requires : goal.leading_terms-requires
-leading_terms-requires c = choices_hold leading_terms (c.args.name.now, rows_of (found_of c.args.found.now)) refl c.requires c.in-text-5.is
+leading_terms-requires c = choices_hold leading_terms (c.args.name.now, rows_of (found_of c.args.found.now)) refl c.requires c.in-text-3.is
 
 pub groebner_cone-requires : goal.groebner_cone-requires
-groebner_cone-requires c = choices_hold groebner_cone (c.args.name.now, rows_of (found_of c.args.found.now)) refl c.requires c.in-text-11.is
+groebner_cone-requires c = choices_hold groebner_cone (c.args.name.now, rows_of (found_of c.args.found.now)) refl c.requires c.in-text-4.is
 
 pub weight_vector-requires : goal.weight_vector-requires
-weight_vector-requires c = choices_hold weight_vector (c.args.name.now, rows_of (found_of c.args.found.now)) refl c.requires c.in-text-12.is
+weight_vector-requires c = choices_hold weight_vector (c.args.name.now, rows_of (found_of c.args.found.now)) refl c.requires c.in-text-5.is
 
 pub to_polyhedral_fan-requires : goal.to_polyhedral_fan-requires
-to_polyhedral_fan-requires c = choices_hold to_polyhedral_fan (c.args.name.now, rows_of (found_of c.args.found.now)) refl c.requires c.in-text-13.is
+to_polyhedral_fan-requires c = choices_hold to_polyhedral_fan (c.args.name.now, rows_of (found_of c.args.found.now)) refl c.requires c.in-text-6.is
 
 pub fan_common_refinement-requires : goal.fan_common_refinement-requires
-fan_common_refinement-requires c = choices_hold fan_common_refinement (c.args.name.now, rows_of (found_of c.args.found.now)) refl c.requires c.in-text-15.is
+fan_common_refinement-requires c = choices_hold fan_common_refinement (c.args.name.now, rows_of (found_of c.args.found.now)) refl c.requires c.in-text-7.is

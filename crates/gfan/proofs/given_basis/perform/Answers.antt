@@ -1,9 +1,9 @@
 use Rattle.std.proofs.Common.{true, refl, subst}
 use Rattle.std.proofs.lemmas.Result.{err_from_is_err_and}
 use Rattle.gf_poly.specs.Marking.{polys}
-use Rattle.gf_front.specs.declared.command_line.Job.TheVariants as jobs
 use Rattle.gf_items.specs.Commands.{IsCommandRefused}
 use Rattle.gfan.specs.BasesWriting.{StartsAt}
+use Rattle.gfan.specs.Commands.{list_job}
 use Rattle.gfan.proofs.BasesListLaws.{own_start}
 use Rattle.gfan.proofs.GivenBasisLaws.{given_performed, given_stopped_root, given_stopped_list, named_root}
 use Rattle.gfan.proofs.PerformedLaws.{stopped_text, on_err, on_ok}
@@ -12,7 +12,7 @@ use Rattle.gfan.proofs.given_basis.perform.Goals as goal
 pub returns-in_err-ring-clause-stopped : goal.returns-in_err-ring-clause-stopped
 returns-in_err-ring-clause-stopped g c =
     let p = err_from_is_err_and c.from_residual.result c.from_residual.ensures.1 in
-    rw (p.1, p.2) (stopped_text (jobs.Bases true c.args.options.limit c.args.options.pairs c.args.options.certified c.args.workers) c.args.source.now (g.K.Sink.held c.args.output.now) (g.K.Sink.faults c.args.output.now) c.in_err-ring.field-0.0 (IsCommandRefused.in_text c.in_err-ring.field-0.0 c.in_err-ring.ensures.err refl))
+    rw (p.1, p.2) (stopped_text (list_job true c.args.options c.args.workers) c.args.source.now (g.K.Sink.held c.args.output.now) (g.K.Sink.faults c.args.output.now) c.in_err-ring.field-0.0 (IsCommandRefused.in_text c.in_err-ring.field-0.0 c.in_err-ring.ensures.err refl))
 
 pub returns-in-Err-clause-stopped : goal.returns-in-Err-clause-stopped
 returns-in-Err-clause-stopped g c =

@@ -34,14 +34,14 @@ returns-in_err-job-clause-usage_always g c = λ none.
 
 pub returns-in-FanCommonRefinement-clause-done : goal.returns-in-FanCommonRefinement-clause-done
 returns-in-FanCommonRefinement-clause-done g c =
-    on_ok c.perform.result _ _ (λ d. inr (files_done (map string_bytes c.args.words.now) (g.F.Files.bytes c.args.files.now) (g.F.Files.left c.perform.new.files) (g.F.Files.given c.args.files.now) (g.F.Files.given c.perform.new.files) (g.F.Files.unopened c.args.files.now) (g.F.Files.unopened c.perform.new.files) (g.F.Files.faults c.args.files.now) (g.F.Files.faults c.perform.new.files) (g.K.Sink.held c.args.output.now) (g.K.Sink.held c.perform.new.output) (g.K.Sink.faults c.args.output.now) (g.K.Sink.faults c.perform.new.output) c.in-FanCommonRefinement.first c.in-FanCommonRefinement.second (subst (IsJobOf (map string_bytes c.args.words.now)) c.in-FanCommonRefinement.is c.in_ok-job.ensures.job) d)) c.perform.ensures.done
+    on_ok c.perform.result _ _ (λ d. inr (files_done (map string_bytes c.args.words.now) (g.F.Files.bytes c.args.files.now) (g.F.Files.left c.perform.new.files) (g.F.Files.given c.args.files.now) (g.F.Files.given c.perform.new.files) (g.F.Files.unopened c.args.files.now) (g.F.Files.unopened c.perform.new.files) (g.F.Files.faults c.args.files.now) (g.F.Files.faults c.perform.new.files) (g.K.Sink.held c.args.output.now) (g.K.Sink.held c.perform.new.output) (g.K.Sink.faults c.args.output.now) (g.K.Sink.faults c.perform.new.output) c.in-FanCommonRefinement.fans.first c.in-FanCommonRefinement.fans.second (subst (IsJobOf (map string_bytes c.args.words.now)) c.in-FanCommonRefinement.is c.in_ok-job.ensures.job) d)) c.perform.ensures.done
 
 pub returns-in-FanCommonRefinement-clause-cause : goal.returns-in-FanCommonRefinement-clause-cause
 returns-in-FanCommonRefinement-clause-cause g c =
-    on_err c.perform.result _ _ (λ e h. inr (files_cause (map string_bytes c.args.words.now) (g.F.Files.bytes c.args.files.now) (g.F.Files.left c.perform.new.files) (g.F.Files.given c.args.files.now) (g.F.Files.given c.perform.new.files) (g.F.Files.unopened c.args.files.now) (g.F.Files.unopened c.perform.new.files) (g.F.Files.faults c.args.files.now) (g.F.Files.faults c.perform.new.files) (g.K.Sink.held c.args.output.now) (g.K.Sink.held c.perform.new.output) (g.K.Sink.faults c.args.output.now) (g.K.Sink.faults c.perform.new.output) c.in-FanCommonRefinement.first c.in-FanCommonRefinement.second e.refusal (subst (IsJobOf (map string_bytes c.args.words.now)) c.in-FanCommonRefinement.is c.in_ok-job.ensures.job) h)) c.perform.ensures.cause
+    on_err c.perform.result _ _ (λ e h. inr (files_cause (map string_bytes c.args.words.now) (g.F.Files.bytes c.args.files.now) (g.F.Files.left c.perform.new.files) (g.F.Files.given c.args.files.now) (g.F.Files.given c.perform.new.files) (g.F.Files.unopened c.args.files.now) (g.F.Files.unopened c.perform.new.files) (g.F.Files.faults c.args.files.now) (g.F.Files.faults c.perform.new.files) (g.K.Sink.held c.args.output.now) (g.K.Sink.held c.perform.new.output) (g.K.Sink.faults c.args.output.now) (g.K.Sink.faults c.perform.new.output) c.in-FanCommonRefinement.fans.first c.in-FanCommonRefinement.fans.second e.refusal (subst (IsJobOf (map string_bytes c.args.words.now)) c.in-FanCommonRefinement.is c.in_ok-job.ensures.job) h)) c.perform.ensures.cause
 
 pub returns-in-FanCommonRefinement-clause-files_untouched : goal.returns-in-FanCommonRefinement-clause-files_untouched
-returns-in-FanCommonRefinement-clause-files_untouched g c = λ none. absurd (none c.in-FanCommonRefinement.first c.in-FanCommonRefinement.second (subst (IsJobOf (map string_bytes c.args.words.now)) c.in-FanCommonRefinement.is c.in_ok-job.ensures.job))
+returns-in-FanCommonRefinement-clause-files_untouched g c = λ none. absurd (none c.in-FanCommonRefinement.fans.first c.in-FanCommonRefinement.fans.second (subst (IsJobOf (map string_bytes c.args.words.now)) c.in-FanCommonRefinement.is c.in_ok-job.ensures.job))
 
 -- an input that isn't read whole
 
