@@ -130,16 +130,16 @@ none_takes (o ∷ os) i id v none = by (bytes_eq o.0 id) none (none_takes os (in
 
 -- the option is one of these
 data IsOneOf (o : Text × Choice) : List (Text × Choice) → Type 0 where
-  first : (os : List (Text × Choice)) → IsOneOf o (o ∷ os)
-  later : (x : Text × Choice) (os : List (Text × Choice)) → IsOneOf o os → IsOneOf o (x ∷ os)
+  at_head : (os : List (Text × Choice)) → IsOneOf o (o ∷ os)
+  behind : (x : Text × Choice) (os : List (Text × Choice)) → IsOneOf o os → IsOneOf o (x ∷ os)
 
 named_so : (o : Text × Choice) (os : List (Text × Choice)) → IsOneOf o os → is_named o.0 os ≡ true
-named_so o _ (IsOneOf.first os) = by (bytes_eq o.0 o.0) ((bytes_eq-Decides o.0 o.0).1 refl)
+named_so o _ (IsOneOf.at_head os) = by (bytes_eq o.0 o.0) ((bytes_eq-Decides o.0 o.0).1 refl)
   where
     by : (b : Bool) → b ≡ true → (b || is_named o.0 os) ≡ true
     by true e = refl
     by false e = cc
-named_so o _ (IsOneOf.later x os is) = by (bytes_eq x.0 o.0) (named_so o os is)
+named_so o _ (IsOneOf.behind x os is) = by (bytes_eq x.0 o.0) (named_so o os is)
   where
     by : (b : Bool) → is_named o.0 os ≡ true → (b || is_named o.0 os) ≡ true
     by true e = refl
@@ -147,7 +147,7 @@ named_so o _ (IsOneOf.later x os is) = by (bytes_eq x.0 o.0) (named_so o os is)
 
 -- a value that is accepted for it is one of its own
 own_value : (o : Text × Choice) (v : Text) (os : List (Text × Choice)) (i : ℕ) → are_apart os ≡ true → IsOneOf o os → accepted (built_from i os) o.0 v ≡ true → takes o.1 v ≡ true
-own_value o v _ i apart (IsOneOf.first os) is =
+own_value o v _ i apart (IsOneOf.at_head os) is =
     by (bytes_eq o.0 o.0) (value_passes (with_index i (filled (listed_rule o))) v) (accepted (built_from (index_after i (filled (listed_rule o))) os) o.0 v)
     (none_takes os (index_after i (filled (listed_rule o))) o.0 v (own_name (is_named o.0 os) (are_apart os) apart).0) (passes_as i o.0 o.1 v) is
   where
@@ -155,7 +155,7 @@ own_value o v _ i apart (IsOneOf.first os) is =
     by true true q n e h = sym e
     by true false q n e h = cc
     by false p q n e h = cc
-own_value o v _ i apart (IsOneOf.later x os among) is =
+own_value o v _ i apart (IsOneOf.behind x os among) is =
     let p = own_name (is_named x.0 os) (are_apart os) apart in
     by (bytes_eq x.0 o.0) refl p.0 is (own_value o v os (index_after i (filled (listed_rule x))) p.1 among)
   where
@@ -192,8 +192,8 @@ choices_held : (c : List Rule) (os : List (Text × Choice)) (i : ℕ) (rows : Li
 choices_held c [] i rows own ok there = tt
 choices_held c (o ∷ os) i rows own ok there =
     let p = either (is_needed o.1 && not (is_given o.0 rows)) (lacks (built_from (index_after i (filled (listed_rule o))) os) rows) there in (
-      choice_held c o.0 o.1 rows (own o (IsOneOf.first os)) ok p.0,
-      choices_held c os (index_after i (filled (listed_rule o))) rows (λ x among. own x (IsOneOf.later o os among)) ok p.1,
+      choice_held c o.0 o.1 rows (own o (IsOneOf.at_head os)) ok p.0,
+      choices_held c os (index_after i (filled (listed_rule o))) rows (λ x among. own x (IsOneOf.behind o os among)) ok p.1,
     )
 
 -- the options of a command hold what they take

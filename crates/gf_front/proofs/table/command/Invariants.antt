@@ -6,5 +6,5 @@ use Rattle.gf_front.specs.Choices.{choices_of}
 use Rattle.gf_front.proofs.table.command.Given as goal
 
 -- the command has the options so far
-abbrev pub invariant-loop-choice : goal.invariant-loop-choice
-invariant-loop-choice l = (shape_of l.command ≡ shape_with l.name (choices_of (take l.choice-index l.options))) × ((fields_of l.command).has_globals ≡ false)
+abbrev pub invariant-loop-id : goal.invariant-loop-id
+invariant-loop-id l = (shape_of l.command ≡ shape_with l.name (choices_of (take l.id-index l.options))) × ((fields_of l.command).has_globals ≡ false)
