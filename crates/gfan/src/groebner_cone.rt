@@ -1,7 +1,7 @@
 // What `_groebnercone` writes for an input.
-ghost use Rattle.std.specs.Prelude.{◌≡◌, ◌≤◌, true, false, IfOk, IfErr};
+ghost use Rattle.std.specs.Prelude.{◌≡◌, ◌≤◌, true, false, IfOk, IfErr, [], ◌∷◌};
 ghost use Rattle.gf_gordan.specs.Alternative.{AreRows};
-ghost use Rattle.gf_items.specs.Commands.{IsAnswered, IsCommandRefused, IsAnswerFor, IsUnanswered};
+ghost use Rattle.gf_frame.specs.Commands.{IsAnswered, IsRefusedOn, IsAnswerFor, IsUnanswered};
 ghost use Rattle.gfan.specs.GroebnerCone.{IsBasisConeText, IsBasisConeCause, groebner_cone_command};
 ghost use Rattle.gfan.specs.Refused.{IsNamedBy, IsOfSource};
 ghost use Rattle.gfan.specs.ToldCones.{cut_of};
@@ -71,8 +71,8 @@ fn vector_cone(
 
 // What is written for a source with a marked set.
 fn of_basis(alloc: Global, source: &[u8], options: ConeOptions) -> Result<Vec<u8>, Refused>
-    ensures ok { IfOk result (λ text. IsAnswered (groebner_cone_command false options) source.now text.items) }
-    ensures err { IfErr result (λ e. IsCommandRefused (groebner_cone_command false options) source.now e.refusal) }
+    ensures ok { IfOk result (λ text. IsAnswered (groebner_cone_command false options) (source.now ∷ []) text.items) }
+    ensures err { IfErr result (λ e. IsRefusedOn (groebner_cone_command false options) (source.now ∷ []) e.refusal) }
     ensures told { IfErr result (IsOfSource source.now) }
 {
     let RingAndMarked { ring, set } = ring_and_marked(alloc, source)?;
@@ -87,8 +87,8 @@ fn of_basis(alloc: Global, source: &[u8], options: ConeOptions) -> Result<Vec<u8
 
 // What is written for a source with inequalities and equations.
 fn of_vectors(alloc: Global, source: &[u8], options: ConeOptions) -> Result<Vec<u8>, Refused>
-    ensures ok { IfOk result (λ text. IsAnswered (groebner_cone_command true options) source.now text.items) }
-    ensures err { IfErr result (λ e. IsCommandRefused (groebner_cone_command true options) source.now e.refusal) }
+    ensures ok { IfOk result (λ text. IsAnswered (groebner_cone_command true options) (source.now ∷ []) text.items) }
+    ensures err { IfErr result (λ e. IsRefusedOn (groebner_cone_command true options) (source.now ∷ []) e.refusal) }
     ensures told { IfErr result (IsOfSource source.now) }
 {
     let read = dimension_and_lists(alloc, source)?;
@@ -128,8 +128,8 @@ pub(crate) fn answer(
     vector_input: bool,
     options: ConeOptions,
 ) -> Result<Vec<u8>, Refused>
-    ensures ok { IfOk result (λ text. IsAnswered (groebner_cone_command vector_input options) source.now text.items) }
-    ensures err { IfErr result (λ e. IsCommandRefused (groebner_cone_command vector_input options) source.now e.refusal) }
+    ensures ok { IfOk result (λ text. IsAnswered (groebner_cone_command vector_input options) (source.now ∷ []) text.items) }
+    ensures err { IfErr result (λ e. IsRefusedOn (groebner_cone_command vector_input options) (source.now ∷ []) e.refusal) }
     ensures told { IfErr result (IsOfSource source.now) }
 {
     if vector_input {

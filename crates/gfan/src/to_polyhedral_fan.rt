@@ -1,8 +1,8 @@
 // What `_topolyhedralfan` writes for an input.
-ghost use Rattle.std.specs.Prelude.{◌≡◌, ◌≤◌, [], All, IfOk, IfErr};
+ghost use Rattle.std.specs.Prelude.{◌≡◌, ◌≤◌, [], All, IfOk, IfErr, ◌∷◌};
 ghost use Rattle.std.specs.List.{AllZip};
 ghost use Rattle.gf_gordan.specs.Steps.{Failed};
-ghost use Rattle.gf_items.specs.Commands.{IsAnswered, IsCommandRefused};
+ghost use Rattle.gf_frame.specs.Commands.{IsAnswered, IsRefusedOn};
 ghost use Rattle.gfan.specs.Refused.{IsOfSource};
 ghost use Rattle.gfan.specs.ToPolyhedralFan.{IsConeOfSet, IsConeStepOfSet, IsConeStepOfSets, IsFanOfSetsText, IsNoFanOfSets, to_polyhedral_fan_command};
 
@@ -80,8 +80,8 @@ fn fan_of_sets(alloc: Global, n: u32, sets: &[MarkedSet], cut: bool) -> Result<V
 ///   the elimination of a marking's system, or where all sets are taken at an operation of finding the rays of a cone, of the meet of two
 ///   or of a face of one.
 pub(crate) fn answer(alloc: Global, source: &[u8], cut: bool) -> Result<Vec<u8>, Refused>
-    ensures ok { IfOk result (λ text. IsAnswered (to_polyhedral_fan_command cut) source.now text.items) }
-    ensures err { IfErr result (λ e. IsCommandRefused (to_polyhedral_fan_command cut) source.now e.refusal) }
+    ensures ok { IfOk result (λ text. IsAnswered (to_polyhedral_fan_command cut) (source.now ∷ []) text.items) }
+    ensures err { IfErr result (λ e. IsRefusedOn (to_polyhedral_fan_command cut) (source.now ∷ []) e.refusal) }
     ensures told { IfErr result (IsOfSource source.now) }
 {
     let RingAndMarkedSets { ring, sets } = ring_and_marked_sets(alloc, source)?;
