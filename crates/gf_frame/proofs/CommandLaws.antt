@@ -9,14 +9,14 @@ use Rattle.gf_front.specs.declared.refusal.Refusal.{Refusal}
 use Rattle.gf_front.specs.declared.refusal.Refusal.TheVariants as refusals
 use Rattle.gf_front.specs.Kinds.{RefusalKind, kind_of_refusal}
 use Rattle.gf_items.specs.Checks.{AllHold, FirstFails}
-use Rattle.gf_items.specs.Commands.{of_text, IsExactRefusal, IsOfNumbers, IsOfTest, TellsSame}
+use Rattle.gf_items.specs.Refusals.{of_text, IsExactRefusal, IsOfNumbers, IsOfTest, TellsSame}
 use Rattle.gf_items.proofs.ReadingLaws.{said, exact_said}
 use Rattle.gf_items.proofs.CheckLaws.{AreCheckedOnce, first_once, first_apart, first_kind}
 use Rattle.gf_frame.specs.Seen.{InputSeen, OutputSeen}
 use Rattle.gf_frame.specs.Loading.{HaveInput, HaveInputOnce}
 use Rattle.gf_frame.specs.Runs.{TakesTurns}
 use Rattle.gf_frame.specs.Readings.{AreReadOnce}
-use Rattle.gf_frame.specs.Commands.{Turns, Writing, Command, IsWholeBy, IsOfWriting, IsAnswered, IsWholeFor, IsRefusedAtOnce, IsRefusedOn, IsInReach, IsFixed}
+use Rattle.gf_frame.specs.Commands.{Turns, Writing, Command, IsWholeBy, IsOfWriting, IsUnanswered, IsAnswered, IsWholeFor, IsRefusedAtOnce, IsRefusedOn, IsInReach, IsFixed}
 
 -- ---- what a command owes
 
@@ -131,15 +131,15 @@ module _ (c : Command) (laws : IsLawful c) (texts : List (List ℕ)) where
     | inl m ↦ inr (q ∙ ap of_text m)
     | inr n ↦ absurd (laws.reading.apart texts a e read h n)
   ]
-  told_form a r d read f (IsRefusedOn.in_form b k g) = inl (first_once (c.checks a) (laws.checks texts a read) r d f (subst (λ z. FirstFails (c.checks z) d) (laws.reading.once texts a b read k) g))
-  told_form a r d read f (IsRefusedOn.in_work b k g w) = absurd (first_apart (c.checks a) (laws.checks texts a read) r (subst (λ z. AllHold (c.checks z)) (laws.reading.once texts a b read k) g) f)
+  told_form a r d read f (IsRefusedOn.behind_text b k (IsUnanswered.in_form g)) = inl (first_once (c.checks a) (laws.checks texts a read) r d f (subst (λ z. FirstFails (c.checks z) d) (laws.reading.once texts a b read k) g))
+  told_form a r d read f (IsRefusedOn.behind_text b k (IsUnanswered.in_work g w)) = absurd (first_apart (c.checks a) (laws.checks texts a read) r (subst (λ z. AllHold (c.checks z)) (laws.reading.once texts a b read k) g) f)
+  told_form a r d read f (IsRefusedOn.behind_text b k (IsUnanswered.no_memory m)) = inr m
   told_form a r d read f (IsRefusedOn.no_memory m) = inr m
 
   pub exact : (r d : Refusal) → IsRefusedAtOnce c texts r → IsRefusedOn c texts d → (d ≡ r) ⊎ (d ≡ refusals.Memory)
   exact r d (IsRefusedAtOnce.in_form a read f) k = told_form a r d read f k
   exact r d (IsRefusedAtOnce.in_text e h q x) (IsRefusedOn.in_text y k p) = told_text e y r d x h q k p
-  exact r d (IsRefusedAtOnce.in_text e h q x) (IsRefusedOn.in_form b k g) = no_read b e r x h q k
-  exact r d (IsRefusedAtOnce.in_text e h q x) (IsRefusedOn.in_work b k g w) = no_read b e r x h q k
+  exact r d (IsRefusedAtOnce.in_text e h q x) (IsRefusedOn.behind_text b k u) = no_read b e r x h q k
   exact r d (IsRefusedAtOnce.in_text e h q x) (IsRefusedOn.no_memory m) = inr m
 
   -- nothing is read that is of its form
@@ -148,7 +148,7 @@ module _ (c : Command) (laws : IsLawful c) (texts : List (List ℕ)) where
   not_formed r a (IsRefusedAtOnce.in_form b k f) read g = first_apart (c.checks a) (laws.checks texts a read) r g (subst (λ z. FirstFails (c.checks z) r) (laws.reading.once texts a b read k) f)
 
   pub no_answer : (r : Refusal) (text : List ℕ) → IsRefusedAtOnce c texts r → IsAnswered c texts text → ⊥
-  no_answer r text h a = not_formed r a.value h a.read a.formed
+  no_answer r text h a = not_formed r a.value h a.read a.answer.formed
 
   pub no_whole : (r : Refusal) (text : List ℕ) → IsRefusedAtOnce c texts r → IsWholeFor c texts text → ⊥
   no_whole r text h a = not_formed r a.value h a.read a.formed
@@ -165,8 +165,9 @@ module _ (c : Command) (laws : IsLawful c) (texts : List (List ℕ)) where
   fixed : (r : Refusal) → IsFixed r → IsRefusedOn c texts r → IsRefusedAtOnce c texts r ⊎ OfWork r
   fixed r (inl x) (IsRefusedOn.in_text e h q) = inl (IsRefusedAtOnce.in_text e h q x)
   fixed r (inr t) (IsRefusedOn.in_text e h q) = absurd (text_no_test e (subst IsOfTest q t))
-  fixed r f (IsRefusedOn.in_form a read g) = inl (IsRefusedAtOnce.in_form a read g)
-  fixed r f (IsRefusedOn.in_work a read g w) = inr (record { value = a; read = read; formed = g; cause = w })
+  fixed r f (IsRefusedOn.behind_text a read (IsUnanswered.in_form g)) = inl (IsRefusedAtOnce.in_form a read g)
+  fixed r f (IsRefusedOn.behind_text a read (IsUnanswered.in_work g w)) = inr (record { value = a; read = read; formed = g; cause = w })
+  fixed r f (IsRefusedOn.behind_text a read (IsUnanswered.no_memory m)) = absurd (no_fixed_memory r m f)
   fixed r f (IsRefusedOn.no_memory m) = absurd (no_fixed_memory r m f)
 
   told_work : (r d : Refusal) → IsFixed r → OfWork r → IsRefusedOn c texts d → TellsSame r d ⊎ IsOfNumbers d
@@ -174,8 +175,9 @@ module _ (c : Command) (laws : IsLawful c) (texts : List (List ℕ)) where
     | inl m ↦ inr (subst IsOfNumbers (sym (q ∙ ap of_text m)) tt)
     | inr n ↦ absurd (laws.reading.apart texts w.value e w.read h n)
   ]
-  told_work r d x w (IsRefusedOn.in_form b k g) = absurd (first_apart (c.checks w.value) (laws.checks texts w.value w.read) d w.formed (subst (λ z. FirstFails (c.checks z) d) (laws.reading.once texts w.value b w.read k) g))
-  told_work r d x w (IsRefusedOn.in_work b k g v) = laws.tests texts w.value r d w.read x w.cause (subst (λ z. c.IsCause z d) (laws.reading.once texts w.value b w.read k) v)
+  told_work r d x w (IsRefusedOn.behind_text b k (IsUnanswered.in_form g)) = absurd (first_apart (c.checks w.value) (laws.checks texts w.value w.read) d w.formed (subst (λ z. FirstFails (c.checks z) d) (laws.reading.once texts w.value b w.read k) g))
+  told_work r d x w (IsRefusedOn.behind_text b k (IsUnanswered.in_work g v)) = laws.tests texts w.value r d w.read x w.cause (subst (λ z. c.IsCause z d) (laws.reading.once texts w.value b w.read k) v)
+  told_work r d x w (IsRefusedOn.behind_text b k (IsUnanswered.no_memory m)) = inr (subst IsOfNumbers (sym m) tt)
   told_work r d x w (IsRefusedOn.no_memory m) = inr (subst IsOfNumbers (sym m) tt)
 
   pub tested : (r d : Refusal) → IsFixed r → IsRefusedOn c texts r → IsRefusedOn c texts d → TellsSame r d ⊎ IsOfNumbers d
@@ -184,7 +186,7 @@ module _ (c : Command) (laws : IsLawful c) (texts : List (List ℕ)) where
   pub no_tested_answer : (r : Refusal) (text : List ℕ) → IsFixed r → IsRefusedOn c texts r → IsAnswered c texts text → ⊥
   no_tested_answer r text x h a = elim (fixed r x h) [
     | inl y ↦ no_answer r text y a
-    | inr w ↦ laws.answers texts w.value r text w.read x w.cause (subst (λ z. c.IsAnswer z text) (laws.reading.once texts w.value a.value w.read a.read) a.is_answer)
+    | inr w ↦ laws.answers texts w.value r text w.read x w.cause (subst (λ z. c.IsAnswer z text) (laws.reading.once texts w.value a.value w.read a.read) a.answer.is_answer)
   ]
 
   pub no_tested_whole : (r : Refusal) (text : List ℕ) → IsFixed r → IsRefusedOn c texts r → IsWholeFor c texts text → ⊥
@@ -207,8 +209,9 @@ module _ (c : Command) (laws : IsLawful c) (texts : List (List ℕ)) where
     | inl m ↦ q ∙ ap of_text m
     | inr n ↦ absurd (laws.reading.apart texts a e read h n)
   ]
-  reached a d read g w (IsRefusedOn.in_form b k f) = absurd (first_apart (c.checks a) (laws.checks texts a read) d g (subst (λ z. FirstFails (c.checks z) d) (laws.reading.once texts a b read k) f))
-  reached a d read g w (IsRefusedOn.in_work b k f v) = laws.within texts a d read w (subst (λ z. c.IsCause z d) (laws.reading.once texts a b read k) v)
+  reached a d read g w (IsRefusedOn.behind_text b k (IsUnanswered.in_form f)) = absurd (first_apart (c.checks a) (laws.checks texts a read) d g (subst (λ z. FirstFails (c.checks z) d) (laws.reading.once texts a b read k) f))
+  reached a d read g w (IsRefusedOn.behind_text b k (IsUnanswered.in_work f v)) = laws.within texts a d read w (subst (λ z. c.IsCause z d) (laws.reading.once texts a b read k) v)
+  reached a d read g w (IsRefusedOn.behind_text b k (IsUnanswered.no_memory m)) = m
   reached a d read g w (IsRefusedOn.no_memory m) = m
 
   pub in_reach : (d : Refusal) → IsInReach c texts → IsRefusedOn c texts d → d ≡ refusals.Memory
@@ -221,6 +224,7 @@ module _ (c : Command) (laws : IsLawful c) (texts : List (List ℕ)) where
 
   pub refused_kind : (r : Refusal) → IsRefusedOn c texts r → IsOfWriting c.writing r
   refused_kind r (IsRefusedOn.in_text e h q) = subst (IsOfWriting c.writing) (sym q) (text_kind c.writing e)
-  refused_kind r (IsRefusedOn.in_form a read f) = exact_kind c.writing r (first_kind (c.checks a) (laws.checks texts a read) r f)
-  refused_kind r (IsRefusedOn.in_work a read g w) = laws.work texts a r read w
+  refused_kind r (IsRefusedOn.behind_text a read (IsUnanswered.in_form f)) = exact_kind c.writing r (first_kind (c.checks a) (laws.checks texts a read) r f)
+  refused_kind r (IsRefusedOn.behind_text a read (IsUnanswered.in_work g w)) = laws.work texts a r read w
+  refused_kind r (IsRefusedOn.behind_text a read (IsUnanswered.no_memory m)) = subst (IsOfWriting c.writing) (sym m) tt
   refused_kind r (IsRefusedOn.no_memory m) = subst (IsOfWriting c.writing) (sym m) tt

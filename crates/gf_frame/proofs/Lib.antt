@@ -5,4 +5,4 @@ pub mod CommandLaws  -- texts are answered in one way
 pub mod RunLaws  -- how a run of a command ends
 pub mod WorkLaws  -- what is done with texts that are loaded
 pub mod ProgramLaws  -- how a run of a program ends
-pub mod InputLaws  -- commands on the input alone are lawful
+pub mod SoundLaws  -- what is refused as work is, and tested once, is lawful

@@ -1,5 +1,5 @@
 -- How a run of a program ends that has a lawful command for each job, and what follows of that for its reader.
--- To cite: same_job, same_refusal, words_refused, loading_refused, texts_done, texts_refused, usage_not_on, usage_not_loading, run_clauses. The rest are steps.
+-- To cite: same_job, same_refusal, words_refused, loading_refused, texts_done, texts_refused, usage_not_on, usage_not_loading, done_as, stopped_as, run_clauses. The rest are steps.
 use Rattle.std.specs.Prelude.{◌≡◌, ◌⊎◌, ℕ, List, Some}
 use Rattle.std.specs.Io.KnownBytes.{Keeps}
 use Rattle.std.proofs.Common.{refl, sym, ap, ◌∙◌, subst, inl, inr}
@@ -13,7 +13,7 @@ use Rattle.gf_front.specs.declared.refusal.Status.{Status}
 use Rattle.gf_front.specs.declared.refusal.Status.TheVariants as statuses
 use Rattle.gf_front.specs.Jobs.{IsMatched, IsJobOf}
 use Rattle.gf_front.specs.Lines.{of_words}
-use Rattle.gf_items.specs.Commands.{IsOfNumbers}
+use Rattle.gf_items.specs.Refusals.{IsOfNumbers}
 use Rattle.gf_frame.specs.Seen.{Seen, OutputSeen}
 use Rattle.gf_frame.specs.Loading.{AreLoaded, AreUnloaded, AreReadWithin}
 use Rattle.gf_frame.specs.Commands.{Command, IsOfWriting, IsOfOutside}
@@ -67,11 +67,11 @@ module _ (command_of : Job → Command) (lawful : (job : Job) → IsLawful (comm
 
   module _ (words : List (List ℕ)) (p q : Seen) (o s : OutputSeen) where
     -- the job that is done is the one that is asked for
-    done_as : (job : Job) → IsJobOf words job → IsRunDone command_of words p q o s → IsDoneBy (command_of job) p q o s
+    pub done_as : (job : Job) → IsJobOf words job → IsRunDone command_of words p q o s → IsDoneBy (command_of job) p q o s
     done_as job j d = subst (λ k. IsDoneBy (command_of k) p q o s) (same_job words job d.job j d.asked) d.done
 
     -- where the words ask for a job, its command is stopped, or there is no memory and nothing moved
-    stopped_as : (job : Job) (r : Refusal) → IsJobOf words job → IsRunRefused command_of words p q o s r → IsStoppedBy (command_of job) p q o s r ⊎ ((r ≡ refusals.Memory) × (q ≡ p))
+    pub stopped_as : (job : Job) (r : Refusal) → IsJobOf words job → IsRunRefused command_of words p q o s r → IsStoppedBy (command_of job) p q o s r ⊎ ((r ≡ refusals.Memory) × (q ≡ p))
     stopped_as job r j (IsRunRefused.no_job n e same out) = absurd (n j.matched)
     stopped_as job r j (IsRunRefused.no_memory e same out) = inr (e, same)
     stopped_as job r j (IsRunRefused.of_job k asked h) = inl (subst (λ i. IsStoppedBy (command_of i) p q o s r) (same_job words job k j asked) h)

@@ -9,7 +9,7 @@ use Rattle.gf_outside.specs.Faults.{Rose}
 use Rattle.gf_front.specs.declared.refusal.Refusal.{Refusal}
 use Rattle.gf_front.specs.declared.refusal.Refusal.TheVariants as refusals
 use Rattle.gf_items.specs.Checks.{AllHold}
-use Rattle.gf_items.specs.Commands.{IsOfNumbers, TellsSame}
+use Rattle.gf_items.specs.Refusals.{IsOfNumbers, TellsSame}
 use Rattle.gf_frame.specs.Seen.{InputSeen, FilesSeen, Seen, OutputSeen}
 use Rattle.gf_frame.specs.Loading.{AreLoaded, AreKnown, IsSomeLong, HaveInput, HaveFile, AreReadWithin, IsOneTooLong}
 use Rattle.gf_frame.specs.Commands.{Writing, Command, IsOfWriting, IsWholeFor, IsBegunFor, IsRefusedAtOnce, IsRefusedOn, IsInReach, IsFixed, IsOfOutside}
@@ -70,8 +70,8 @@ module _ (c : Command) (laws : IsLawful c) (p q : Seen) (o s : OutputSeen) where
       absurd (not_formed c laws texts r v.0 h (subst (λ z. c.reading.IsRead z v.0) (same_texts texts us m g l) v.1) v.2)
 
   gone_value : (writing : Writing c.Value) (texts : List (List ℕ)) (m : Seen) → IsCarriedOut c writing texts m q o s → (a : c.Value) × c.reading.IsRead texts a × AllHold (c.checks a)
-  gone_value Writing.at_end texts m k = (k.1.1.value, k.1.1.read, k.1.1.formed)
-  gone_value (Writing.as_it_goes whole begun) texts m k = (k.1.1.value, k.1.1.read, k.1.1.formed)
+  gone_value Writing.at_end texts m k = (k.1.1.value, k.1.1.read, k.1.1.answer.formed)
+  gone_value (Writing.as_it_goes whole begun) texts m k = (k.1.1.value, k.1.1.read, k.1.1.answer.formed)
   gone_value (Writing.in_turns turns) texts m k = (k.1.0, k.1.1, k.1.2)
 
   pub exact_done : (texts : List (List ℕ)) (r : Refusal) → AreGivenTexts c p q texts → IsRefusedAtOnce c texts r → IsDoneBy c p q o s → ⊥

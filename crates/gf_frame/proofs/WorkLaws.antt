@@ -1,14 +1,16 @@
 -- What is done with texts that are loaded is what the run of the command does.
--- To cite: done_by, stopped_by, nothing_left, nothing_but_limit, text_stopped, answer_whole, once_along, once_alone, loaded_length. The rest are steps.
+-- To cite: done_by, stopped_by, nothing_left, nothing_but_limit, text_stopped, answer_whole, once_along, once_alone, loaded_length, once_done, once_cut, once_refused. The rest are steps.
 use Rattle.std.specs.Prelude.{◌≡◌, ℕ, List, [], ◌∷◌, length}
 use Rattle.std.specs.Io.KnownBytes.{Appends}
 use Rattle.std.proofs.Common.{arith, refl, inl}
 use Rattle.std.proofs.KnownBytes.{Keeps-refl}
 use Rattle.gf_text.specs.declared.error.TextError.{TextError}
 use Rattle.gf_text.specs.declared.error.TextError.TheVariants as errors
+use Rattle.gf_outside.specs.Faults.{Rose}
+use Rattle.gf_outside.specs.Moved.{AppendsPrefix}
 use Rattle.gf_front.specs.declared.refusal.Refusal.{Refusal}
 use Rattle.gf_front.specs.declared.refusal.Refusal.TheVariants as refusals
-use Rattle.gf_items.specs.Commands.{of_text}
+use Rattle.gf_items.specs.Refusals.{of_text}
 use Rattle.gf_frame.specs.Seen.{Seen, OutputSeen}
 use Rattle.gf_frame.specs.Loading.{Origin, AreLoaded}
 use Rattle.gf_frame.specs.Commands.{Writing, Command, WritesOnce, GoesAlong, IsWholeBy, IsOfWriting, IsAnswered, IsWholeFor, IsRefusedOn}
@@ -57,10 +59,10 @@ text_stopped c texts o e h = IsStoppedOn.in_work (IsRefusedOn.in_text e h refl) 
 
 -- the answer of a command that writes once is its whole text
 pub answer_whole : (c : Command) (texts : List (List ℕ)) (text : List ℕ) → WritesOnce c.writing → IsAnswered c texts text → IsWholeFor c texts text
-answer_whole c texts text e a = record { value = a.value; read = a.read; formed = a.formed; is_whole = whole c.writing e }
+answer_whole c texts text e a = record { value = a.value; read = a.read; formed = a.answer.formed; is_whole = whole c.writing e }
   where
     whole : (writing : Writing c.Value) → WritesOnce writing → IsWholeBy writing c.IsAnswer a.value text
-    whole Writing.at_end e = a.is_answer
+    whole Writing.at_end e = a.answer.is_answer
     whole (Writing.as_it_goes w b) e = absurd e
     whole (Writing.in_turns t) e = absurd e
 
@@ -81,3 +83,18 @@ loaded_length [] p q [] l = refl
 loaded_length [] p q (t ∷ ts) l = absurd l
 loaded_length (o ∷ os) p q [] l = absurd l
 loaded_length (o ∷ os) p q (t ∷ ts) l = let e = loaded_length os l.0 q ts l.2 in omega (arith, e)
+
+-- ---- a command that writes once
+
+module _ (c : Command) (once : WritesOnce c.writing) (texts : List (List ℕ)) (o s : OutputSeen) where
+  -- its answer is written
+  pub once_done : (text : List ℕ) → IsAnswered c texts text → Appends o.held s.held text → s.faults ≡ o.faults → IsDoneOn c texts o s
+  once_done text a g e = record { text = text; answered = a; gained = g; calm = e; alone = once_alone c.writing once }
+
+  -- a write of it fails
+  pub once_cut : (r : Refusal) (text : List ℕ) → IsAnswered c texts text → r ≡ refusals.WriteFault → Rose o.faults s.faults → AppendsPrefix o.held s.held text → IsStoppedOn c texts o s r
+  once_cut r text a e rose part = IsStoppedOn.in_writing text (answer_whole c texts text once a) e rose part
+
+-- it is refused before anything is written
+pub once_refused : (c : Command) → IsLawful c → WritesOnce c.writing → (texts : List (List ℕ)) (o : OutputSeen) (r : Refusal) → IsRefusedOn c texts r → IsStoppedOn c texts o o r
+once_refused c laws once texts o r h = IsStoppedOn.in_work h (nothing_left c laws (once_along c.writing once) texts o r h) refl

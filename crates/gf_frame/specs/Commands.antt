@@ -6,7 +6,7 @@ use Rattle.gf_front.specs.declared.refusal.Refusal.{Refusal}
 use Rattle.gf_front.specs.declared.refusal.Refusal.TheVariants as refusals
 use Rattle.gf_front.specs.Kinds.{RefusalKind, kind_of_refusal, IsOutsideKind}
 use Rattle.gf_items.specs.Checks.{Check, AllHold, FirstFails}
-use Rattle.gf_items.specs.Commands.{of_text, IsExactRefusal, IsOfTest}
+use Rattle.gf_items.specs.Refusals.{of_text, IsExactRefusal, IsOfTest}
 use Rattle.gf_frame.specs.Seen.{InputSeen, OutputSeen}
 use Rattle.gf_frame.specs.Loading.{Origin}
 use Rattle.gf_frame.specs.Readings.{Reading}
@@ -17,8 +17,9 @@ pub record Turns (A : Type 0) : Type 1 where
   pub IsEnded : A → InputSeen → InputSeen → OutputSeen → OutputSeen → Type 0
   pub IsCut : A → InputSeen → InputSeen → OutputSeen → OutputSeen → Refusal → Type 0
 
--- How it goes on once its sources are loaded: it writes its answer in one piece at its end; or it writes as it goes, where this is the
--- whole text, of which a prefix stands where a write fails, and this may be written before the work is refused so; or it goes on in turns.
+-- How it goes on once its sources are loaded: it writes its answer in one piece at its end; or it writes as it goes; or it goes on in turns.
+-- As it goes: the whole text is all that is written where nothing stops it, of which a prefix stands where a write fails; of a list that goes
+-- on past its limit it ends at the limit, with just as many items as the limit lets through. And this may be written before the work is refused so.
 pub data Writing (A : Type 0) : Type 1 where
   at_end : Writing A
   as_it_goes : (A → List ℕ → Type 0) → (A → List ℕ → Refusal → Type 0) → Writing A
@@ -64,14 +65,26 @@ GoesAlong Writing.at_end = ⊥
 GoesAlong (Writing.as_it_goes whole begun) = Unit {0}
 GoesAlong (Writing.in_turns turns) = ⊥
 
+-- ---- for what is read
+
+-- it is of its form, and this is written for it
+pub record IsAnswerFor (c : Command) (a : c.Value) (text : List ℕ) : Type 0 where
+  pub formed : AllHold (c.checks a)
+  pub is_answer : c.IsAnswer a text
+
+-- nothing is written for it: it isn't of its form; or it is, and the work on it is refused; or there is no memory
+pub data IsUnanswered (c : Command) (a : c.Value) (r : Refusal) : Type 0 where
+  in_form : FirstFails (c.checks a) r → IsUnanswered c a r
+  in_work : AllHold (c.checks a) → c.IsCause a r → IsUnanswered c a r
+  no_memory : r ≡ refusals.Memory → IsUnanswered c a r
+
 -- ---- from the texts on
 
 -- what is written for the texts
 pub record IsAnswered (c : Command) (texts : List (List ℕ)) (text : List ℕ) : Type 0 where
   pub value : c.Value
   pub read : c.reading.IsRead texts value
-  pub formed : AllHold (c.checks value)
-  pub is_answer : c.IsAnswer value text
+  pub answer : IsAnswerFor c value text
 
 -- the whole text for them
 pub record IsWholeFor (c : Command) (texts : List (List ℕ)) (text : List ℕ) : Type 0 where
@@ -92,11 +105,10 @@ pub data IsRefusedAtOnce (c : Command) (texts : List (List ℕ)) (r : Refusal) :
   in_text : (e : TextError) → c.reading.IsRefused texts e → r ≡ of_text e → IsExactRefusal r → IsRefusedAtOnce c texts r
   in_form : (a : c.Value) → c.reading.IsRead texts a → FirstFails (c.checks a) r → IsRefusedAtOnce c texts r
 
--- nothing is written for the texts
+-- nothing is written for the texts: one of them is refused; or they are read, and nothing is written for what is read
 pub data IsRefusedOn (c : Command) (texts : List (List ℕ)) (r : Refusal) : Type 0 where
   in_text : (e : TextError) → c.reading.IsRefused texts e → r ≡ of_text e → IsRefusedOn c texts r
-  in_form : (a : c.Value) → c.reading.IsRead texts a → FirstFails (c.checks a) r → IsRefusedOn c texts r
-  in_work : (a : c.Value) → c.reading.IsRead texts a → AllHold (c.checks a) → c.IsCause a r → IsRefusedOn c texts r
+  behind_text : (a : c.Value) → c.reading.IsRead texts a → IsUnanswered c a r → IsRefusedOn c texts r
   no_memory : r ≡ refusals.Memory → IsRefusedOn c texts r
 
 -- they are read, of their form, and the work on them stays within its limits

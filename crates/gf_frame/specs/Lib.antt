@@ -5,4 +5,3 @@ pub mod Readings  -- what the texts of some sources say
 pub mod Commands  -- a command as one record
 pub mod Runs  -- what a run of a command does
 pub mod Programs  -- what a run of a program does that has a command for each job
-pub mod Inputs  -- commands on the input alone

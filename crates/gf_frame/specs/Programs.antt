@@ -9,9 +9,9 @@ use Rattle.gf_front.specs.declared.refusal.Refusal.TheVariants as refusals
 use Rattle.gf_front.specs.declared.refusal.Status.{Status}
 use Rattle.gf_front.specs.declared.refusal.Status.TheVariants as statuses
 use Rattle.gf_front.specs.Jobs.{IsMatched, IsJobOf}
-use Rattle.gf_items.specs.Commands.{IsOfNumbers, TellsSame}
+use Rattle.gf_items.specs.Refusals.{IsOfNumbers, TellsSame}
 use Rattle.gf_frame.specs.Seen.{Seen, OutputSeen}
-use Rattle.gf_frame.specs.Loading.{AreLoaded, AreKnown, IsSomeLong, AreReadWithin, IsOneTooLong}
+use Rattle.gf_frame.specs.Loading.{AreLoaded, AreKnown, IsSomeLong, HaveInput, HaveFile, AreReadWithin, IsOneTooLong}
 use Rattle.gf_frame.specs.Commands.{Command, IsBegunFor, IsRefusedAtOnce, IsRefusedOn, IsInReach, IsFixed, IsOfOutside}
 use Rattle.gf_frame.specs.Runs.{TakesTurns, IsDoneBy, IsStoppedBy, AreCut, AreGivenTexts, IsHeard, IsJobRefused, LeavesInOutput}
 
@@ -51,6 +51,13 @@ IsDoneUnlessMemory status = (status ≡ statuses.Done) ⊎ (status ≡ statuses.
 -- the words ask for a job, of whose command this holds
 abbrev pub OfJobAsked : List (List ℕ) → (Job → Type 0) → Type 0
 OfJobAsked words holds = (job : Job) × IsJobOf words job × holds job
+
+-- no job that the words ask for reads the input; none reads a file
+abbrev pub AskForNoInput : (Job → Command) → List (List ℕ) → Type 0
+AskForNoInput command_of words = (job : Job) → IsJobOf words job → HaveInput (command_of job).reads → ⊥
+
+abbrev pub AskForNoFile : (Job → Command) → List (List ℕ) → Type 0
+AskForNoFile command_of words = (job : Job) → IsJobOf words job → HaveFile (command_of job).reads → ⊥
 
 -- the sources of the job were loaded, and it is refused at its limit; just the beginning of its text stands
 pub record StandsAtLimit (command_of : Job → Command) (job : Job) (p q : Seen) (o s : OutputSeen) (most : ℕ) : Type 0 where

@@ -3,7 +3,7 @@
 use Rattle.std.specs.Prelude.{◌≡◌, List, [], ◌∷◌}
 use Rattle.std.proofs.Common.{inl, inr}
 use Rattle.gf_front.specs.declared.refusal.Refusal.{Refusal}
-use Rattle.gf_items.specs.Commands.{IsExactRefusal}
+use Rattle.gf_items.specs.Refusals.{IsExactRefusal}
 use Rattle.gf_items.specs.Checks.{Check, AllHold, FirstFails}
 
 -- a check fails in one way, exactly, and not where it holds

@@ -2,5 +2,5 @@ pub mod Items  -- items of a text, one behind another
 pub mod Kinds  -- items by their kinds
 pub mod Sources  -- what the commands read
 pub mod Checks  -- checks of form, one after another
-pub mod Commands  -- what a command does with a source
+pub mod Refusals  -- kinds of refusals
 pub mod ReadOnce  -- items are read in one way, and have one first fault

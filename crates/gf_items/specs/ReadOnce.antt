@@ -5,7 +5,7 @@ use Rattle.gf_text.specs.declared.error.TextError.TheVariants as errors
 use Rattle.gf_text.specs.Tokens.{Position}
 use Rattle.gf_items.specs.Items.{Item, IsTextOf, IsTextRefused}
 use Rattle.gf_items.specs.Kinds.{ItemKind, items_of, items_from}
-use Rattle.gf_items.specs.Commands.{of_text, IsExactRefusal}
+use Rattle.gf_items.specs.Refusals.{of_text, IsExactRefusal}
 
 -- ---- refusals of a text
 

@@ -38,7 +38,7 @@ use Rattle.gfan.specs.declared.buchberger.Options.{Options}
 use Rattle.gf_items.specs.Items.{IsTextOf}
 use Rattle.gf_items.specs.Sources.{ring_set_vector}
 use Rattle.gf_items.specs.Checks.{AllHold, FirstFails}
-use Rattle.gf_items.specs.Commands.{IsUnanswered}
+use Rattle.gf_frame.specs.Commands.{IsUnanswered}
 use Rattle.gfan.specs.Buchberger.{polynomial_of, generators_of, asked_order, FitsVariables, IsFirstNotTaken, form, of_basis, buchberger_command}
 use Rattle.gfan.specs.Questions.{IsCountable}
 use Rattle.gfan.specs.Refused.{IsNamedBy, IsRingOf, IsOfSource}

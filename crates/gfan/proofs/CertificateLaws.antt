@@ -22,7 +22,7 @@ use Rattle.gf_weights.proofs.UniqueLaws.{one_weight, one_facets, normal_there}
 use Rattle.gf_weights.proofs.WeightLaws.{weight_basis, witness_inside}
 use Rattle.gf_weights.proofs.WitnessesExist.{weight_exists, facets_exist}
 use Rattle.gf_walk.specs.Listing.{Among}
-use Rattle.gf_items.specs.Commands.{IsOfWork, IsOfTest}
+use Rattle.gf_items.specs.Refusals.{IsOfWork, IsOfTest}
 use Rattle.gfan.specs.BasesList.{IsGivenByWeight}
 use Rattle.gfan.specs.Certificates.{certificates_text, IsCertificatesText, IsItemText, of_weight_error}
 use Rattle.gfan.specs.Bases.{AreItemTexts, IsTextOfBases}

@@ -1,13 +1,16 @@
 -- What `_fancommonrefinement` answers, why it doesn't, and that two texts are answered in one way.
--- To cite: refined_told, words_once, words_no_text, once_no_text, within_answered; file_unnamed, refine_unnamed, memory_unnamed, write_unnamed, loading_unnamed;
--- loaded_all, second_along. The rest are steps.
-use Rattle.std.specs.Prelude.{◌≡◌, ◌⊎◌, ℕ, List, Option, None}
+-- To cite: refined_told, words_once, words_no_text, once_no_text, within_answered; refinement_refused, refinement_answered, refinement_lawful;
+-- file_unnamed, refine_unnamed, memory_unnamed, write_unnamed. The rest are steps.
+use Rattle.std.specs.Prelude.{◌≡◌, ◌⊎◌, ℕ, List, [], ◌∷◌, None}
 use Rattle.std.proofs.Common.{refl, sym, ap, ◌∙◌, subst, inl, inr}
-use Rattle.gf_outside.specs.Moved.{Took}
 use Rattle.gf_fan.specs.FanLists.{FanLists}
 use Rattle.gf_front.specs.declared.refusal.Refusal.{Refusal}
 use Rattle.gf_front.specs.declared.refusal.Refusal.TheVariants as refusals
-use Rattle.gf_items.specs.Commands.{IsOfNumbers, TellsSame}
+use Rattle.gf_items.specs.Refusals.{IsExactRefusal, IsOfNumbers, TellsSame}
+use Rattle.gf_items.proofs.CheckLaws.{IsCheckedOnce}
+use Rattle.gf_frame.specs.Commands.{Writing, IsOfWriting, IsFixed, IsUnanswered, IsAnswered, IsRefusedOn}
+use Rattle.gf_frame.proofs.ReadingLaws.{two_once}
+use Rattle.gf_frame.proofs.CommandLaws.{IsLawful}
 use Rattle.gf_fanfile.specs.declared.error.FanFileError.{FanFileError}
 use Rattle.gf_fanfile.specs.declared.error.FanFileError.TheVariants as file_errors
 use Rattle.gf_fanfile.specs.declared.file.FanFile.{FanFile}
@@ -19,7 +22,7 @@ use Rattle.gf_refine.specs.declared.error.RefineError.TheVariants as refine_erro
 use Rattle.gf_refine.specs.Refusals.{IsRefineRefusal}
 use Rattle.gfan.specs.Refused.{IsNamedBy, without_names}
 use Rattle.gfan.specs.BasesWriting.{IsUnnamed}
-use Rattle.gfan.specs.CommonRefinement.{of_fan_file, of_refine, IsLoaded, AreLoaded, IsRefinementText, IsRefinementRefused, IsRefusedInWords, IsRefinementWithin, IsLoadingCause}
+use Rattle.gfan.specs.CommonRefinement.{of_fan_file, of_refine, IsRefinementText, IsRefinementRefused, IsOfWords, IsRefusedInWords, IsRefinementWithin, in_words, refinement_command}
 use Rattle.gf_fanfile.proofs.FanOnceLaws.{refusals_once, refusal_refutes}
 use Rattle.gfan.proofs.FanFileLaws.{told_words, words_refused_once, within_memory, ambient_once}
 
@@ -128,6 +131,114 @@ within_answered a b r w (IsRefinementRefused.in_work f g (refine_errors.Dimensio
     absurd (h.2 (h.0 ∙ text_ambient a w.first.file f w.first.is_file i ∙ sym w.same ∙ sym (text_ambient b w.second.file g w.second.is_file j) ∙ sym h.1))
 within_answered a b r w (IsRefinementRefused.no_memory q) = q
 
+-- ---- the command
+
+words_kind : (e : FanFileError) → IsOfWords e → IsExactRefusal (of_fan_file e)
+words_kind (file_errors.Syntax s) w = inl tt
+words_kind (file_errors.TooWide at) w = inl tt
+words_kind (file_errors.TooManyVariables count) w = inl tt
+words_kind (file_errors.Missing section) w = inr tt
+words_kind (file_errors.Dimensions left right) w = inr tt
+words_kind _ w = absurd w
+
+in_words_kind : (a : List ℕ) (r : Refusal) → IsRefusedInWords a r → IsExactRefusal r
+in_words_kind a r w = subst IsExactRefusal (sym w.is) (words_kind w.error w.of_words)
+
+no_memory : (r : Refusal) → IsExactRefusal r → r ≡ refusals.Memory → ⊥
+no_memory r e m = elim (subst IsExactRefusal m e) [ inl x ↦ x | inr x ↦ x ]
+
+in_words_once : (a : List ℕ) → IsCheckedOnce (in_words a)
+in_words_once a = record {
+  once = λ r d w v. elim (words_once a a r d w (IsRefinementRefused.in_first v.error v.refused v.is)) [ inl e ↦ e | inr m ↦ absurd (no_memory d (in_words_kind a d v) m) ];
+  apart = λ r h w. h r w;
+  kind = in_words_kind a;
+}
+
+-- what isn't exact, nor want of memory, isn't found in words
+not_in_words : (a b : List ℕ) (r d : Refusal) → (IsExactRefusal r → ⊥) → (r ≡ refusals.Memory → ⊥) → IsRefinementRefused a b r → IsRefusedInWords a d → ⊥
+not_in_words a b r d n m h w = elim (words_once a b d r w h) [ inl e ↦ n (subst IsExactRefusal (sym e) (in_words_kind a d w)) | inr k ↦ m k ]
+
+-- what a text that says a fan isn't refused for
+fan_in_words : (a : List ℕ) (f : FanLists) (d : Refusal) → IsFanOfText a f → IsRefusedInWords a d → ⊥
+fan_in_words a f d i w = fan_unrefused a f w.error (told_words w.error w.of_words) i w.refused
+
+not_exact : (r q : Refusal) → r ≡ q → (IsExactRefusal q → ⊥) → IsExactRefusal r → ⊥
+not_exact r q e n x = n (subst IsExactRefusal e x)
+
+module _ (first second a b : List ℕ) where
+  in_form : (r : Refusal) (e : FanFileError) → IsOfWords e → IsFanFileRefusal a e → r ≡ of_fan_file e → IsRefusedOn (refinement_command first second) (a ∷ (b ∷ [])) r
+  in_form r e w h q = IsRefusedOn.behind_text (a, b) refl (IsUnanswered.in_form (inl (record { error = e; of_words = w; refused = h; is = q })))
+
+  in_work : (r : Refusal) → ((d : Refusal) → IsRefusedInWords a d → ⊥) → IsRefinementRefused a b r → IsRefusedOn (refinement_command first second) (a ∷ (b ∷ [])) r
+  in_work r n h = IsRefusedOn.behind_text (a, b) refl (IsUnanswered.in_work (n, tt) h)
+
+  -- a refusal of two texts is one of the command
+  pub refinement_refused : (r : Refusal) → IsRefinementRefused a b r → IsRefusedOn (refinement_command first second) (a ∷ (b ∷ [])) r
+  refinement_refused r (IsRefinementRefused.in_first (file_errors.Syntax s) h q) = in_form r (file_errors.Syntax s) tt h q
+  refinement_refused r (IsRefinementRefused.in_first (file_errors.TooWide at) h q) = in_form r (file_errors.TooWide at) tt h q
+  refinement_refused r (IsRefinementRefused.in_first (file_errors.TooManyVariables count) h q) = in_form r (file_errors.TooManyVariables count) tt h q
+  refinement_refused r (IsRefinementRefused.in_first (file_errors.Missing section) h q) = in_form r (file_errors.Missing section) tt h q
+  refinement_refused r (IsRefinementRefused.in_first (file_errors.Dimensions left right) h q) = in_form r (file_errors.Dimensions left right) tt h q
+  refinement_refused r (IsRefinementRefused.in_first (file_errors.Cone o) h q) =
+      in_work r (λ d. not_in_words a b r d (not_exact r (of_fan_file (file_errors.Cone o)) q (λ x. elim x [ inl y ↦ y | inr y ↦ y ])) (λ m. cc) (IsRefinementRefused.in_first (file_errors.Cone o) h q)) (IsRefinementRefused.in_first (file_errors.Cone o) h q)
+  refinement_refused r (IsRefinementRefused.in_first (file_errors.NotAFan left right) h q) =
+      in_work r (λ d. not_in_words a b r d (not_exact r (of_fan_file (file_errors.NotAFan left right)) q (λ x. elim x [ inl y ↦ y | inr y ↦ y ])) (λ m. cc) (IsRefinementRefused.in_first (file_errors.NotAFan left right) h q)) (IsRefinementRefused.in_first (file_errors.NotAFan left right) h q)
+  refinement_refused r (IsRefinementRefused.in_first (file_errors.BadRay number) h q) =
+      in_work r (λ d. not_in_words a b r d (not_exact r (of_fan_file (file_errors.BadRay number)) q (λ x. elim x [ inl y ↦ y | inr y ↦ y ])) (λ m. cc) (IsRefinementRefused.in_first (file_errors.BadRay number) h q)) (IsRefinementRefused.in_first (file_errors.BadRay number) h q)
+  refinement_refused r (IsRefinementRefused.in_first file_errors.Memory h q) = IsRefusedOn.no_memory q
+  refinement_refused r (IsRefinementRefused.in_second f e i h q) = in_work r (λ d w. fan_in_words a f d i w) (IsRefinementRefused.in_second f e i h q)
+  refinement_refused r (IsRefinementRefused.in_work f g e i j h q) = in_work r (λ d w. fan_in_words a f d i w) (IsRefinementRefused.in_work f g e i j h q)
+  refinement_refused r (IsRefinementRefused.no_memory q) = IsRefusedOn.no_memory q
+
+  pub refinement_answered : (text : List ℕ) → IsRefinementText a b text → IsAnswered (refinement_command first second) (a ∷ (b ∷ [])) text
+  refinement_answered text t = record { value = (a, b); read = refl; answer = record { formed = (λ r w. words_no_text a b text r w t, tt); is_answer = t } }
+
+file_writing : (e : FanFileError) → IsOfWriting {A = List ℕ × List ℕ} Writing.at_end (of_fan_file e)
+file_writing (file_errors.Syntax s) = tt
+file_writing (file_errors.TooWide at) = tt
+file_writing (file_errors.TooManyVariables count) = tt
+file_writing (file_errors.Cone o) = tt
+file_writing (file_errors.NotAFan first second) = tt
+file_writing (file_errors.Missing section) = tt
+file_writing (file_errors.BadRay number) = tt
+file_writing (file_errors.Dimensions left right) = tt
+file_writing file_errors.Memory = tt
+
+refine_writing : (e : RefineError) → IsOfWriting {A = List ℕ × List ℕ} Writing.at_end (of_refine e)
+refine_writing (refine_errors.Cone o) = tt
+refine_writing (refine_errors.Dimensions left right) = tt
+refine_writing refine_errors.Memory = tt
+
+refinement_writing : (a b : List ℕ) (r : Refusal) → IsRefinementRefused a b r → IsOfWriting {A = List ℕ × List ℕ} Writing.at_end r
+refinement_writing a b r (IsRefinementRefused.in_first e h q) = subst (IsOfWriting {A = List ℕ × List ℕ} Writing.at_end) (sym q) (file_writing e)
+refinement_writing a b r (IsRefinementRefused.in_second f e i h q) = subst (IsOfWriting {A = List ℕ × List ℕ} Writing.at_end) (sym q) (file_writing e)
+refinement_writing a b r (IsRefinementRefused.in_work f g e i j h q) = subst (IsOfWriting {A = List ℕ × List ℕ} Writing.at_end) (sym q) (refine_writing e)
+refinement_writing a b r (IsRefinementRefused.no_memory q) = subst (IsOfWriting {A = List ℕ × List ℕ} Writing.at_end) (sym q) tt
+
+-- a refusal that is fixed isn't one of numbers
+fixed_not_numbers : (r : Refusal) → IsFixed r → IsOfNumbers r → ⊥
+fixed_not_numbers (refusals.WideVector w) f n = elim f [ inl x ↦ elim x [ inl y ↦ y | inr y ↦ y ] | inr x ↦ x ]
+fixed_not_numbers (refusals.Overflow o) f n = elim f [ inl x ↦ elim x [ inl y ↦ y | inr y ↦ y ] | inr x ↦ x ]
+fixed_not_numbers (refusals.ExponentOverflow o) f n = elim f [ inl x ↦ elim x [ inl y ↦ y | inr y ↦ y ] | inr x ↦ x ]
+fixed_not_numbers (refusals.ConeOverflow row op left right) f n = elim f [ inl x ↦ elim x [ inl y ↦ y | inr y ↦ y ] | inr x ↦ x ]
+fixed_not_numbers (refusals.PairBudget basis unsettled) f n = elim f [ inl x ↦ elim x [ inl y ↦ y | inr y ↦ y ] | inr x ↦ x ]
+fixed_not_numbers refusals.Memory f n = elim f [ inl x ↦ elim x [ inl y ↦ y | inr y ↦ y ] | inr x ↦ x ]
+fixed_not_numbers _ f n = n
+
+pub refinement_lawful : (first second : List ℕ) → IsLawful (refinement_command first second)
+refinement_lawful first second = record {
+  input = tt;
+  reading = two_once;
+  checks = λ texts v read. (in_words_once v.0, tt);
+  work = λ texts v r read h. refinement_writing v.0 v.1 r h;
+  within = λ texts v r read w h. within_answered v.0 v.1 r w h;
+  tests = λ texts v r d read f h k. refined_told v.0 v.1 r d (fixed_not_numbers r f) h k;
+  answers = λ texts v r text read f h a. once_no_text v.0 v.1 text r (fixed_not_numbers r f) h a;
+  wholes = λ texts v r text read f h a. once_no_text v.0 v.1 text r (fixed_not_numbers r f) h a;
+  turns = tt;
+  apart = λ t. absurd t;
+}
+
 -- ---- lines without a ring
 
 file_named : (e : FanFileError) → IsNamedBy None (of_fan_file e)
@@ -157,34 +268,3 @@ memory_unnamed = record { ring = refl; named = λ lent is. tt }
 
 pub write_unnamed : IsUnnamed (without_names refusals.WriteFault)
 write_unnamed = record { ring = refl; named = λ lent is. tt }
-
-module _ (bytes leaves : Option (List ℕ)) (given gives unopened unopens read reads : ℕ) where
-  loading_named : (r : Refusal) → IsLoadingCause bytes leaves given gives unopened unopens read reads r → IsNamedBy None r
-  loading_named refusals.OpenFault c = λ lent is. tt
-  loading_named refusals.ReadFault c = λ lent is. tt
-  loading_named refusals.InputTooLong c = λ lent is. tt
-  loading_named refusals.Memory c = λ lent is. tt
-  loading_named _ c = absurd c
-
-  pub loading_unnamed : (r : Refusal) → IsLoadingCause bytes leaves given gives unopened unopens read reads r → IsUnnamed (without_names r)
-  loading_unnamed r c = record { ring = refl; named = loading_named r c }
-
--- ---- the files
-
-module _ (bytes : List ℕ → Option (List ℕ)) (first second : List ℕ) (given gives : ℕ) (a : List ℕ) (between : ℕ) (mid : Option (List ℕ)) (is_first : IsLoaded bytes first a) (took : Took (bytes first) mid given between a) where
-  -- both are loaded
-  pub loaded_all : (later : List ℕ → Option (List ℕ)) (leaves : Option (List ℕ)) (b : List ℕ) → later ≡ bytes → IsLoaded later second b → Took (later second) leaves between gives b → AreLoaded bytes first second leaves given gives a b
-  loaded_all later leaves b e l t = record {
-    is_first = is_first;
-    is_second = subst (λ f. IsLoaded f second b) e l;
-    between = between;
-    counted = took.count;
-    took = subst (λ (f : List ℕ → Option (List ℕ)). Took (f second) leaves between gives b) e t;
-  }
-
--- the second file isn't loaded: from the files as they were before the first
-pub second_along : (bytes later : List ℕ → Option (List ℕ)) (name : List ℕ) (leaves : Option (List ℕ)) (between gives u unopened unopens p read reads : ℕ) (r : Refusal) → later ≡ bytes → u ≡ unopened → p ≡ read →
-    IsLoadingCause (later name) leaves between gives u unopens p reads r → IsLoadingCause (bytes name) leaves between gives unopened unopens read reads r
-second_along bytes later name leaves between gives u unopened unopens p read reads r e f g c =
-    subst (λ (x : List ℕ → Option (List ℕ)). IsLoadingCause (x name) leaves between gives unopened unopens read reads r) e
-    (subst (λ x. IsLoadingCause (later name) leaves between gives x unopens read reads r) f (subst (λ x. IsLoadingCause (later name) leaves between gives u unopens x reads r) g c))

@@ -25,7 +25,8 @@ use Rattle.gf_front.specs.declared.refusal.Refusal.{Refusal}
 use Rattle.gf_front.specs.declared.refusal.Refusal.TheVariants as refusals
 use Rattle.gf_items.specs.Items.{IsTextOf, from}
 use Rattle.gf_items.specs.Sources.{ring_marked_set_and_set}
-use Rattle.gf_items.specs.Commands.{IsOfTest, IsOfNumbers, TellsSame, IsOfWork, IsAnswered, IsUnanswered, IsCommandRefused}
+use Rattle.gf_items.specs.Refusals.{IsOfTest, IsOfNumbers, TellsSame, IsOfWork}
+use Rattle.gf_frame.specs.Commands.{IsAnswered, IsUnanswered, IsRefusedOn}
 use Rattle.gfan.specs.Buchberger.{polynomial_of, generators_of}
 use Rattle.gfan.specs.Printing.{verdict_text}
 use Rattle.gfan.specs.CheckedSets.{of_check}
@@ -92,15 +93,15 @@ members_moved s t fs b q h told =
 
 -- ---- the command
 
-pub containment_refused : (source : List ℕ) (ring : List (List ℕ)) (s : MarkedPolynomials) (ws : List Written) (e : CheckError) (r : Refusal) → IsTextOf ring_marked_set_and_set source (ring, (s, ws)) → IsContainmentRefusal s (generators_of ws) e → r ≡ of_check e → IsCommandRefused containment_command source r
-containment_refused source ring s ws e r read h q = IsCommandRefused.behind_text (ring, (s, ws)) read (IsUnanswered.in_work tt (e, q, h))
+pub containment_refused : (source : List ℕ) (ring : List (List ℕ)) (s : MarkedPolynomials) (ws : List Written) (e : CheckError) (r : Refusal) → IsTextOf ring_marked_set_and_set source (ring, (s, ws)) → IsContainmentRefusal s (generators_of ws) e → r ≡ of_check e → IsRefusedOn containment_command (source ∷ []) r
+containment_refused source ring s ws e r read h q = IsRefusedOn.behind_text (ring, (s, ws)) read (IsUnanswered.in_work tt (e, q, h))
 
 pub named_containment : (source : List ℕ) (ring : List (List ℕ)) (s : MarkedPolynomials) (ws : List Written) (e : CheckError) → IsTextOf ring_marked_set_and_set source (ring, (s, ws)) → IsContainmentRefusal s (generators_of ws) e → IsNamedBy (Some ring) (of_check e)
 named_containment source ring s ws e read (IsContainmentRefusal.at_basis h) =
     let m = read.read.two.one in named_check (Unit {0}) 0 ring s e m.variables (marked_kept ring (from source read.read.behind) read.read.two.behind s m) h
 named_containment source ring s ws e read (IsContainmentRefusal.at_member t d g a h q) = subst (λ z. IsNamedBy (Some ring) (of_check z)) (sym q) (named_numbers ring d)
 
-pub containment_answered : (source text : List ℕ) (ring : List (List ℕ)) (s : MarkedPolynomials) (ws : List Written) (b : Bool) → IsTextOf ring_marked_set_and_set source (ring, (s, ws)) → IsMarkedGroebnerBasis s.variables s.items → IsTrue b ↔ AllAreMembers s.variables (polys s.items) (generators_of ws) → text ≡ verdict_text b → IsAnswered containment_command source text
+pub containment_answered : (source text : List ℕ) (ring : List (List ℕ)) (s : MarkedPolynomials) (ws : List Written) (b : Bool) → IsTextOf ring_marked_set_and_set source (ring, (s, ws)) → IsMarkedGroebnerBasis s.variables s.items → IsTrue b ↔ AllAreMembers s.variables (polys s.items) (generators_of ws) → text ≡ verdict_text b → IsAnswered containment_command (source ∷ []) text
 containment_answered source text ring s ws b read g h e = record {
   value = (ring, (s, ws));
   read = read;

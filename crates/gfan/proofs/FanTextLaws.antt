@@ -8,7 +8,7 @@ use Rattle.gf_fan.specs.declared.error.FanError.TheVariants as fan_errors
 use Rattle.gf_fan.specs.Pairs.{AreMeeting, IsFirstPair}
 use Rattle.gf_fan.specs.Refusals.{IsFanRefusal, IsFanWithinLimits}
 use Rattle.gf_front.specs.declared.refusal.Refusal.TheVariants as refusals
-use Rattle.gf_items.specs.Commands.{IsOfWork}
+use Rattle.gf_items.specs.Refusals.{IsOfWork}
 use Rattle.gfan.specs.FanTexts.{of_fan}
 use Rattle.gfan.specs.Refused.{IsNamedBy}
 

@@ -16,7 +16,7 @@ use Rattle.gf_buchberger.specs.Homogeneity.{IsOfOneDegree, IsFirstOther, IsFirst
 use Rattle.gf_buchberger.specs.Jobs.{HaveOneDegree}
 use Rattle.gf_front.specs.declared.refusal.Refusal.{Refusal}
 use Rattle.gf_front.specs.declared.refusal.Refusal.TheVariants as refusals
-use Rattle.gf_items.specs.Commands.{IsExactRefusal}
+use Rattle.gf_items.specs.Refusals.{IsExactRefusal}
 use Rattle.gf_items.proofs.CheckLaws.{IsCheckedOnce, AreCheckedOnce}
 use Rattle.gfan.specs.Buchberger.{FitsVariables, least_entry, IsTermWeight, AreTaken, HasOtherLength, IsFirstSmall, IsFirstNotTaken, IsLengthRefusal, IsDegreeRefusal, IsWeightRefusal, form}
 

@@ -4,7 +4,6 @@
 use Rattle.std.specs.Prelude.{◌≡◌, ◌⊎◌, ℕ, List, [], ◌∷◌, length, map, Contains, Option, Some, Err}
 use Rattle.std.specs.Io.KnownBytes.{Keeps}
 use Rattle.std.proofs.Common.{true, refl, sym, ap, ◌∙◌, subst, inl, inr}
-use Rattle.std.proofs.KnownBytes.{Keeps-refl}
 use Rattle.std.proofs.lemmas.List.Sorted.{Contains-permutation, IsPermutation-sym}
 use Rattle.gf_frac.specs.Fraction.{◌*ℚ◌}
 use Rattle.gf_frac.proofs.FractionLaws.{one-*ℚ}
@@ -44,17 +43,20 @@ use Rattle.gf_front.specs.declared.refusal.Refusal.{Refusal}
 use Rattle.gf_front.specs.declared.refusal.Refusal.TheVariants as refusals
 use Rattle.gf_items.specs.Items.{IsTextOf, from}
 use Rattle.gf_items.specs.Sources.{ring_marked_set}
-use Rattle.gf_items.specs.Commands.{IsOfTest, IsOfNumbers, TellsSame, IsOfWork, IsUnanswered, IsCommandRefused}
+use Rattle.gf_items.specs.Refusals.{IsOfTest, IsOfNumbers, TellsSame, IsOfWork}
+use Rattle.gf_frame.specs.Seen.{output_seen}
+use Rattle.gf_frame.specs.Commands.{IsUnanswered, IsRefusedOn}
+use Rattle.gf_frame.specs.Runs.{IsStoppedOn}
+use Rattle.gf_frame.proofs.WorkLaws.{nothing_but_limit}
 use Rattle.gfan.specs.declared.bases.ListOptions.{ListOptions}
 use Rattle.gfan.specs.Bases.{of_tree, IsGoingCause}
 use Rattle.gfan.specs.BasesWriting.{StartsAt, IsListWritten, IsListBegun, IsListStopped}
 use Rattle.gfan.specs.CheckedSets.{of_check}
-use Rattle.gfan.specs.GivenBasis.{IsGivenRootRefusal, IsGivenListCause, IsGivenListWithin, IsGivenListPast}
+use Rattle.gfan.specs.GivenBasis.{IsGivenRootRefusal, IsGivenListCause, IsGivenListWithin, IsGivenListPast, given_bases_command}
 use Rattle.gfan.specs.Refused.{IsNamedBy}
-use Rattle.gfan.specs.Commands.{list_job, IsRefusalOf}
-use Rattle.gfan.specs.Performed.{IsPerformed, LeavesBegun, IsStopped}
+use Rattle.gfan.specs.Performed.{IsPerformedFor, IsBegunAs, IsStoppedFor}
 use Rattle.gfan.proofs.ReadSetLaws.{marked_kept}
-use Rattle.gfan.proofs.CheckedSetLaws.{named_check, named_numbers, check_work, poly_numbers, poly_untested, paired_once, paired_refutes}
+use Rattle.gfan.proofs.CheckedSetLaws.{check_not_listed, named_check, named_numbers, check_work, poly_numbers, poly_untested, paired_once, paired_refutes}
 use Rattle.gfan.proofs.BasesListLaws.{given_node, start_of_root}
 use Rattle.gfan.proofs.CertificateLaws.{weight_work, weight_untested}
 
@@ -130,61 +132,49 @@ named_root source ring s pairs r read (IsGivenRootRefusal.at_check e h q) = subs
 named_root source ring s pairs r read (IsGivenRootRefusal.at_tails t d g a h q) = subst (IsNamedBy (Some ring)) (sym q) (named_numbers ring d)
 named_root source ring s pairs r read (IsGivenRootRefusal.on_the_way e g h q) = subst (IsNamedBy (Some ring)) (sym q) (named_tree ring e)
 
-module _ (o : ListOptions) (workers : ℕ) (source : List ℕ) (ring : List (List ℕ)) (s : MarkedPolynomials) (read : IsTextOf ring_marked_set source (ring, s)) where
-  pub given_performed : (held holds : Option (List ℕ)) → IsMarkedGroebnerBasis s.variables s.items → IsListWritten o ring (polys s.items) held holds → IsPerformed (list_job true o workers) source held holds
-  given_performed held holds g p = record {
-    text = p.0;
-    is_answer = record { value = (ring, s); read = read; answer = record { formed = tt; is_answer = record { basis = g; list = p.1 } } };
-    gained = p.2;
-  }
+check_no_limit : (e : CheckError) (most : ℕ) → of_check e ≡ refusals.ListLimit most → ⊥
+check_no_limit e most q = check_not_listed e most (sym q)
 
-  refused_here : (r : Refusal) → IsGivenListCause o (length ring) s r → IsRefusalOf (list_job true o workers) source r
-  refused_here r c = IsCommandRefused.behind_text (ring, s) read (IsUnanswered.in_work tt c)
+tree_no_limit : (e : TreeError) (most : ℕ) → of_tree e ≡ refusals.ListLimit most → ⊥
+tree_no_limit (tree_errors.Overflow x) most q = cc
+tree_no_limit (tree_errors.Exponent x) most q = cc
+tree_no_limit (tree_errors.PairBudget basis unsettled) most q = cc
+tree_no_limit (tree_errors.Cone x) most q = cc
+tree_no_limit tree_errors.Memory most q = cc
 
+-- the root isn't refused at the limit
+root_no_limit : (s : MarkedPolynomials) (pairs : ℕ) (r : Refusal) → IsGivenRootRefusal s pairs r → (most : ℕ) → r ≡ refusals.ListLimit most → ⊥
+root_no_limit s pairs r (IsGivenRootRefusal.at_check e k q) most l = check_no_limit e most (sym q ∙ l)
+root_no_limit s pairs r (IsGivenRootRefusal.at_tails t d g a k q) most l = check_no_limit (of_poly d) most (sym q ∙ l)
+root_no_limit s pairs r (IsGivenRootRefusal.on_the_way e g k q) most l = tree_no_limit e most (sym q ∙ l)
+
+module _ (o : ListOptions) (ring : List (List ℕ)) (s : MarkedPolynomials) where
   -- the root is refused before anything is written
-  pub given_stopped_root : (held : Option (List ℕ)) (n : ℕ) (r : Refusal) → IsGivenRootRefusal s o.pairs r → IsStopped (list_job true o workers) source held held n n r
-  given_stopped_root held n r h = by_root h
-    where
-      stop_check : (e : CheckError) → IsGivenListCause o (length ring) s (of_check e) → IsStopped (list_job true o workers) source held held n n (of_check e)
-      stop_check (check_errors.Overflow x) c = (refused_here _ c, LeavesBegun.nothing (Keeps-refl held))
-      stop_check (check_errors.Exponent x) c = (refused_here _ c, LeavesBegun.nothing (Keeps-refl held))
-      stop_check (check_errors.NotReduced set i x) c = (refused_here _ c, LeavesBegun.nothing (Keeps-refl held))
-      stop_check (check_errors.NotBasis set i j x) c = (refused_here _ c, LeavesBegun.nothing (Keeps-refl held))
-      stop_check (check_errors.Inconsistent set ms) c = (refused_here _ c, LeavesBegun.nothing (Keeps-refl held))
-      stop_check (check_errors.Cone x) c = (refused_here _ c, LeavesBegun.nothing (Keeps-refl held))
-      stop_check check_errors.Memory c = (refused_here _ c, LeavesBegun.nothing (Keeps-refl held))
+  pub given_stopped_root : (source : List ℕ) → IsTextOf ring_marked_set source (ring, s) → (held : Option (List ℕ)) (n : ℕ) (r : Refusal) → IsGivenRootRefusal s o.pairs r
+      → IsStoppedOn (given_bases_command o) (source ∷ []) (output_seen held n) (output_seen held n) r
+  given_stopped_root source read held n r h =
+      IsStoppedOn.in_work (IsRefusedOn.behind_text (ring, s) read (IsUnanswered.in_work tt (IsGivenListCause.at_root h)))
+      (nothing_but_limit (given_bases_command o) (source ∷ []) (output_seen held n) r (root_no_limit s o.pairs r h)) refl
 
-      stop_tree : (e : TreeError) → IsGivenListCause o (length ring) s (of_tree e) → IsStopped (list_job true o workers) source held held n n (of_tree e)
-      stop_tree (tree_errors.Overflow x) c = (refused_here _ c, LeavesBegun.nothing (Keeps-refl held))
-      stop_tree (tree_errors.Exponent x) c = (refused_here _ c, LeavesBegun.nothing (Keeps-refl held))
-      stop_tree (tree_errors.PairBudget basis unsettled) c = (refused_here _ c, LeavesBegun.nothing (Keeps-refl held))
-      stop_tree (tree_errors.Cone x) c = (refused_here _ c, LeavesBegun.nothing (Keeps-refl held))
-      stop_tree tree_errors.Memory c = (refused_here _ c, LeavesBegun.nothing (Keeps-refl held))
+  pub given_performed : (held holds : Option (List ℕ)) → IsMarkedGroebnerBasis s.variables s.items → IsListWritten o ring (polys s.items) held holds → IsPerformedFor (given_bases_command o) (ring, s) held holds
+  given_performed held holds g p = (p.0, record { basis = g; list = p.1 }, p.2)
 
-      cause_as : (z : Refusal) → r ≡ z → IsGivenListCause o (length ring) s z
-      cause_as z q = subst (IsGivenListCause o (length ring) s) q (IsGivenListCause.at_root h)
+  begun_from : (held holds : Option (List ℕ)) (r : Refusal) → IsMarkedGroebnerBasis s.variables s.items → IsListBegun o ring (polys s.items) held holds r → IsBegunAs (given_bases_command o) (ring, s) held holds r
+  begun_from held holds r g b = (b.0, record { basis = g; begun = b.1 }, b.2)
 
-      by_root : IsGivenRootRefusal s o.pairs r → IsStopped (list_job true o workers) source held held n n r
-      by_root (IsGivenRootRefusal.at_check e k q) = subst (λ z. IsStopped (list_job true o workers) source held held n n z) (sym q) (stop_check e (cause_as (of_check e) q))
-      by_root (IsGivenRootRefusal.at_tails t d g a k q) = subst (λ z. IsStopped (list_job true o workers) source held held n n z) (sym q) (stop_check (of_poly d) (cause_as (of_check (of_poly d)) q))
-      by_root (IsGivenRootRefusal.on_the_way e g k q) = subst (λ z. IsStopped (list_job true o workers) source held held n n z) (sym q) (stop_tree e (cause_as (of_tree e) q))
+  left_going : (held holds : Option (List ℕ)) (r : Refusal) → IsMarkedGroebnerBasis s.variables s.items → Keeps held holds ⊎ IsListBegun o ring (polys s.items) held holds r → Keeps held holds ⊎ IsBegunAs (given_bases_command o) (ring, s) held holds r
+  left_going held holds r g (inl k) = inl k
+  left_going held holds r g (inr b) = inr (begun_from held holds r g b)
 
-  refused_going : (r : Refusal) → IsMarkedGroebnerBasis s.variables s.items → IsGoingCause o (length ring) (polys s.items) r ⊎ (r ≡ refusals.Memory) → IsRefusalOf (list_job true o workers) source r
-  refused_going r g (inl c) = refused_here r (IsGivenListCause.going g c)
-  refused_going r g (inr m) = IsCommandRefused.no_memory m
-
-  leaves_going : (held holds : Option (List ℕ)) (r : Refusal) → IsMarkedGroebnerBasis s.variables s.items → Keeps held holds ⊎ IsListBegun o ring (polys s.items) held holds r → LeavesBegun (list_job true o workers) source held holds r
-  leaves_going held holds r g (inl k) = LeavesBegun.nothing k
-  leaves_going held holds r g (inr b) = LeavesBegun.beginning (record { text = b.0; begun = record { value = (ring, s); read = read; begun = record { basis = g; begun = b.1 } }; gained = b.2 })
+  refused_going : (r : Refusal) → IsMarkedGroebnerBasis s.variables s.items → IsGoingCause o (length ring) (polys s.items) r ⊎ (r ≡ refusals.Memory) → IsGivenListCause o (length ring) s r ⊎ (r ≡ refusals.Memory)
+  refused_going r g (inl c) = inl (IsGivenListCause.going g c)
+  refused_going r g (inr m) = inr m
 
   -- the list is refused from the root on
-  pub given_stopped_list : (held holds : Option (List ℕ)) (n m : ℕ) (r : Refusal) → IsMarkedGroebnerBasis s.variables s.items → IsListStopped o ring (polys s.items) held holds n m r → IsStopped (list_job true o workers) source held holds n m r
-  given_stopped_list held holds n m refusals.WriteFault g h = (h.0, record { text = h.1.0; is_whole = record { value = (ring, s); read = read; formed = tt; is_whole = record { basis = g; list = h.1.1 } }; gained = h.1.2 })
-  given_stopped_list held holds n m (refusals.ListLimit most) g h = (
-    refused_here (refusals.ListLimit most) (IsGivenListCause.going g h.0),
-    record { text = h.1.0; begun = record { value = (ring, s); read = read; begun = record { basis = g; begun = h.1.1 } }; gained = h.1.2 },
-  )
-  given_stopped_list held holds n m r g h = (refused_going r g h.0, leaves_going held holds r g h.1)
+  pub given_stopped_list : (held holds : Option (List ℕ)) (n m : ℕ) (r : Refusal) → IsMarkedGroebnerBasis s.variables s.items → IsListStopped o ring (polys s.items) held holds n m r → IsStoppedFor (given_bases_command o) (ring, s) held holds n m r
+  given_stopped_list held holds n m refusals.WriteFault g h = (h.0, (h.1.0, record { basis = g; list = h.1.1 }, h.1.2))
+  given_stopped_list held holds n m (refusals.ListLimit most) g h = (IsGivenListCause.going g h.0, begun_from held holds (refusals.ListLimit most) g h.1)
+  given_stopped_list held holds n m r g h = (refused_going r g h.0, left_going held holds r g h.1)
 
 -- ---- its laws
 

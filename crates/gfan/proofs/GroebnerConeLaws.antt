@@ -20,9 +20,11 @@ use Rattle.gf_items.specs.Items.{IsTextOf, from}
 use Rattle.gf_items.specs.Kinds.{a_marked_set, dimension, vector_list}
 use Rattle.gf_items.specs.Sources.{ring_marked_set, dimension_two_lists}
 use Rattle.gf_items.specs.Checks.{FirstFails}
-use Rattle.gf_items.specs.Commands.{IsOfTest, IsOfNumbers, TellsSame, IsOfWork, IsAnswerFor, IsAnswered, IsUnanswered, IsCommandRefused}
+use Rattle.gf_items.specs.Refusals.{IsOfTest, IsOfNumbers, TellsSame, IsOfWork}
+use Rattle.gf_frame.specs.Commands.{IsAnswerFor, IsAnswered, IsUnanswered, IsRefusedOn}
 use Rattle.gf_items.proofs.KindLaws.{items_once, ring_and_once}
-use Rattle.gf_items.proofs.CommandLaws.{IsExactCommand, IsTestedCommand, untested}
+use Rattle.gf_frame.proofs.ReadingLaws.{one_once, of_one_text}
+use Rattle.gf_frame.proofs.SoundLaws.{IsExactCommand, IsTestedCommand, untested}
 use Rattle.gfan.specs.declared.told_cone.ConeOptions.{ConeOptions}
 use Rattle.gfan.specs.CheckedSets.{of_check}
 use Rattle.gfan.specs.ToolForms.{IsSpaceRefusal, for_each}
@@ -66,11 +68,11 @@ untold_normals o s c n hs r b a k p q h =
     IsBasisConeCause.at_cone c.normals b a k.normals (subst (λ m. IsUntoldAs o.as_fan o.certificates m (inequalities_of o.restricted m c.normals) [] r) (sym p) (subst (λ (rs : List (List ℤ)). IsUntoldAs o.as_fan o.certificates n rs [] r) rows h))
 
 module _ (o : ConeOptions) (source : List ℕ) (ring : List (List ℕ)) (s : MarkedPolynomials) (read : IsTextOf ring_marked_set source (ring, s)) where
-  pub cone_told : (text : List ℕ) → IsBasisConeText o s text → IsAnswered (groebner_cone_command false o) source text
+  pub cone_told : (text : List ℕ) → IsBasisConeText o s text → IsAnswered (groebner_cone_command false o) (source ∷ []) text
   cone_told text h = record { value = (ring, s); read = read; answer = record { formed = tt; is_answer = h } }
 
-  pub cone_refused : (r : Refusal) → IsBasisConeCause o s r → IsCommandRefused (groebner_cone_command false o) source r
-  cone_refused r h = IsCommandRefused.behind_text (ring, s) read (IsUnanswered.in_work tt h)
+  pub cone_refused : (r : Refusal) → IsBasisConeCause o s r → IsRefusedOn (groebner_cone_command false o) (source ∷ []) r
+  cone_refused r h = IsRefusedOn.behind_text (ring, s) read (IsUnanswered.in_work tt h)
 
   pub named_cone : (r : Refusal) → IsBasisConeCause o s r → IsNamedBy (Some ring) r
   named_cone r (IsBasisConeCause.at_check e h q) =
@@ -133,12 +135,12 @@ restricted_width true n hs rows e w = subst (AreRows n) (sym e) (All-append (λ 
 
 -- by what is read
 pub vectors_refused : (o : ConeOptions) (source : List ℕ) (n : ℕ) (hs es given others : List (List ℤ)) (r : Refusal) → IsTextOf dimension_two_lists source (n, (hs, es)) → given ≡ hs → others ≡ es → IsUnanswered (groebner_cone_command true o) (n, (given, others)) r
-    → IsCommandRefused (groebner_cone_command true o) source r
+    → IsRefusedOn (groebner_cone_command true o) (source ∷ []) r
 vectors_refused o source n hs es given others r read p q h =
-    IsCommandRefused.behind_text (n, (hs, es)) read (subst (λ (xs : List (List ℤ)). IsUnanswered (groebner_cone_command true o) (n, (xs, es)) r) p (subst (λ (ys : List (List ℤ)). IsUnanswered (groebner_cone_command true o) (n, (given, ys)) r) q h))
+    IsRefusedOn.behind_text (n, (hs, es)) read (subst (λ (xs : List (List ℤ)). IsUnanswered (groebner_cone_command true o) (n, (xs, es)) r) p (subst (λ (ys : List (List ℤ)). IsUnanswered (groebner_cone_command true o) (n, (given, ys)) r) q h))
 
 pub vectors_told : (o : ConeOptions) (source : List ℕ) (n : ℕ) (hs es given others : List (List ℤ)) (text : List ℕ) → IsTextOf dimension_two_lists source (n, (hs, es)) → given ≡ hs → others ≡ es → IsAnswerFor (groebner_cone_command true o) (n, (given, others)) text
-    → IsAnswered (groebner_cone_command true o) source text
+    → IsAnswered (groebner_cone_command true o) (source ∷ []) text
 vectors_told o source n hs es given others text read p q h = record {
   value = (n, (hs, es));
   read = read;
@@ -149,23 +151,23 @@ vectors_told o source n hs es given others text read p q h = record {
 
 pub cone_exact : (vector_input : Bool) (o : ConeOptions) → IsExactCommand (groebner_cone_command vector_input o)
 cone_exact false o = record {
-  items = ring_and_once a_marked_set [];
-  checks = λ source v r. tt;
+  reading = one_once _ (ring_and_once a_marked_set []);
+  checks = λ texts v h. tt;
   work = λ v r h. basis_work o v.1 r h;
   within = λ v r w h. basis_within o v.1 r w h;
 }
 cone_exact true o = record {
-  items = items_once dimension (vector_list ∷ vector_list ∷ []) [];
-  checks = λ source v r. (space_check v.0, each_check v.0 (v.1.0 ++ v.1.1));
+  reading = one_once _ (items_once dimension (vector_list ∷ vector_list ∷ []) []);
+  checks = λ texts v h. (space_check v.0, each_check v.0 (v.1.0 ++ v.1.1));
   work = λ v r h. numbers_work r (untold_of_numbers o v.0 v.1.0 v.1.1 r h);
   within = λ v r w h. untold_within o.as_fan o.certificates v.0 (inequalities_of o.restricted v.0 v.1.0) v.1.1 r w h;
 }
 
 pub cone_tested : (vector_input : Bool) (o : ConeOptions) → IsTestedCommand (groebner_cone_command vector_input o)
 cone_tested false o = record {
-  tests = λ source v r d read t h k. basis_once o v.1 r d (read_variables source v read) t h k;
-  answers = λ source v r text read t h a. basis_refutes o v.1 r text (read_variables source v read) t h a;
-  wholes = λ source v r text read t h a. basis_refutes o v.1 r text (read_variables source v read) t h a;
+  tests = λ texts v r d read t h k. of_one_text ring_marked_set _ texts v read (λ source x. basis_once o v.1 r d (read_variables source v x) t h k);
+  answers = λ texts v r text read t h a. of_one_text ring_marked_set _ texts v read (λ source x. basis_refutes o v.1 r text (read_variables source v x) t h a);
+  wholes = λ texts v r text read t h a. of_one_text ring_marked_set _ texts v read (λ source x. basis_refutes o v.1 r text (read_variables source v x) t h a);
 }
 cone_tested true o = untested (groebner_cone_command true o) (λ v r t h. numbers_untested r (untold_of_numbers o v.0 v.1.0 v.1.1 r h) t)
 

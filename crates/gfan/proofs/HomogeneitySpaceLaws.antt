@@ -22,9 +22,11 @@ use Rattle.gf_front.specs.declared.refusal.Refusal.TheVariants as refusals
 use Rattle.gf_items.specs.Items.{IsTextOf}
 use Rattle.gf_items.specs.Sources.{ring_set_vector}
 use Rattle.gf_items.specs.Kinds.{a_set, vector_where}
-use Rattle.gf_items.specs.Commands.{IsOfTest, IsOfWork, IsAnswered, IsUnanswered, IsCommandRefused}
+use Rattle.gf_items.specs.Refusals.{IsOfTest, IsOfWork}
+use Rattle.gf_frame.specs.Commands.{IsAnswered, IsUnanswered, IsRefusedOn}
 use Rattle.gf_items.proofs.KindLaws.{ring_and_once}
-use Rattle.gf_items.proofs.CommandLaws.{IsExactCommand, IsTestedCommand, untested}
+use Rattle.gf_frame.proofs.ReadingLaws.{one_once, of_one_text}
+use Rattle.gf_frame.proofs.SoundLaws.{IsExactCommand, IsTestedCommand, untested}
 use Rattle.gfan.specs.Stats.{of_gordan}
 use Rattle.gfan.specs.FanTexts.{of_fan}
 use Rattle.gfan.specs.HomogeneitySpace.{marked_of, nonzero_of, IsSpaceCone, IsSpaceText, IsNoSpace, IsSpaceWithin, homogeneity_space_command}
@@ -55,7 +57,7 @@ fan_refused n bs c cones e r h p f q = IsNoSpace.at_fan c e h (subst (λ (cs : L
 -- ---- from a source on
 
 pub space_answered : (source text : List ℕ) (ring : List (List ℕ)) (set given : List Written) (vector : Option (List ℤ)) (n : ℕ) → IsTextOf (ring_set_vector false) source (ring, (set, vector)) → n ≡ length ring → given ≡ set → IsSpaceText n (nonzero_of given) text
-    → IsAnswered homogeneity_space_command source text
+    → IsAnswered homogeneity_space_command (source ∷ []) text
 space_answered source text ring set given vector n read e p h = record {
   value = (ring, (set, vector));
   read = read;
@@ -63,9 +65,9 @@ space_answered source text ring set given vector n read e p h = record {
 }
 
 pub space_unanswered : (source : List ℕ) (r : Refusal) (ring : List (List ℕ)) (set given : List Written) (vector : Option (List ℤ)) (n : ℕ) → IsTextOf (ring_set_vector false) source (ring, (set, vector)) → n ≡ length ring → given ≡ set → IsNoSpace n (nonzero_of given) r
-    → IsCommandRefused homogeneity_space_command source r
+    → IsRefusedOn homogeneity_space_command (source ∷ []) r
 space_unanswered source r ring set given vector n read e p h =
-    IsCommandRefused.behind_text (ring, (set, vector)) read (IsUnanswered.in_work tt (subst (λ k. IsNoSpace k (nonzero_of set) r) e (subst (λ (ws : List Written). IsNoSpace n (nonzero_of ws) r) p h)))
+    IsRefusedOn.behind_text (ring, (set, vector)) read (IsUnanswered.in_work tt (subst (λ k. IsNoSpace k (nonzero_of set) r) e (subst (λ (ws : List Written). IsNoSpace n (nonzero_of ws) r) p h)))
 
 -- it names no monomials
 pub no_space_named : (n : ℕ) (bs : List MarkedPolynomial) (r : Refusal) → IsNoSpace n bs r → IsNamedBy None r
@@ -110,8 +112,8 @@ no_space_not_listed n bs most (IsNoSpace.no_memory m) = cc
 
 pub homogeneity_space_exact : IsExactCommand homogeneity_space_command
 homogeneity_space_exact = record {
-  items = ring_and_once a_set (vector_where false ∷ []);
-  checks = λ source v r. tt;
+  reading = one_once _ (ring_and_once a_set (vector_where false ∷ []));
+  checks = λ texts v h. tt;
   work = λ v r h. no_space_work (length v.0) (nonzero_of v.1.0) r h;
   within = λ v r w h. no_space_within (length v.0) (nonzero_of v.1.0) r w h;
 }

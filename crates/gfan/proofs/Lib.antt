@@ -24,12 +24,11 @@ pub mod WeightVectorLaws  -- the weights of sets
 pub mod BasesTextLaws  -- pieces that follow one another are the text of the list
 pub mod BasesLaws  -- how the list is written
 pub mod GivenBasisLaws  -- the list from a basis that is given
-pub mod ExactLaws  -- a source is answered in one way
+pub mod ExactLaws  -- refusals of each command are told in one way
+pub mod CommandLaws  -- the command of each job is lawful
 pub mod GivingWeightsLaws  -- the weights that `_weightvector` writes give the bases that it read
 pub mod OneTextLaws  -- what `_bases` writes for a source is one text
 pub mod LimitLaws  -- where the list goes on past its limit
 pub mod ServedLaws  -- what the answer of `_bases` has
-pub mod PerformedLaws  -- what a job does to the output
-pub mod OutcomeLaws  -- how a run ends
-pub mod FilesRunLaws  -- how a run on files ends
-pub mod RunLaws  -- how a run ends, on the input or on files
+pub mod PerformedLaws  -- what a command does with its texts
+pub mod RunLaws  -- the ring in whose names a refusal of a run is told, and the limit of a list

@@ -1,6 +1,6 @@
 -- Where the list of `_bases` goes on past its limit, and nothing that the job may do leaves its limits, the limit is told.
 -- To cite: past_refused, past_unanswered. The rest are steps.
-use Rattle.std.specs.Prelude.{◌≡◌, ◌⊎◌, ℕ, ◌<◌, ◌≤◌, Bool, true, false, List, [], ◌∷◌, ◌++◌, length, Err, Option, None, Some}
+use Rattle.std.specs.Prelude.{◌≡◌, ◌⊎◌, ℕ, ◌<◌, ◌≤◌, Bool, true, false, List, [], ◌∷◌, ◌++◌, length, Err, Option, None, Some, ℤ}
 use Rattle.std.proofs.Common.{arith, refl, ap, ◌∙◌, subst, inl, inr, length-append}
 use Rattle.gf_exponents.specs.SixOrders.{MonomialOrder}
 use Rattle.gf_poly.specs.Polynomial.{Terms}
@@ -8,6 +8,7 @@ use Rattle.gf_poly.specs.Marking.{MarkedPolynomials, polys}
 use Rattle.gf_ideal.specs.Membership.{AreInVariables}
 use Rattle.gf_text.specs.declared.error.TextError.{TextError}
 use Rattle.gf_text.specs.declared.error.TextError.TheVariants as text_errors
+use Rattle.gf_text.specs.declared.written.Written.{Written}
 use Rattle.gf_buchberger.proofs.BasesOfRuns.{if_within}
 use Rattle.gf_tree.specs.Ideals.{ideal_by}
 use Rattle.gf_tree.proofs.RefusalLaws.{within_memory}
@@ -17,7 +18,9 @@ use Rattle.gf_front.specs.declared.command_line.Job.TheVariants as jobs
 use Rattle.gf_front.specs.declared.refusal.Refusal.{Refusal}
 use Rattle.gf_front.specs.declared.refusal.Refusal.TheVariants as refusals
 use Rattle.gf_items.specs.Items.{Item, IsTextOf, IsTextRefused}
-use Rattle.gf_items.specs.Commands.{Command, of_text, IsUnanswered, IsAnswered, IsCommandRefused}
+use Rattle.gf_items.specs.Refusals.{of_text}
+use Rattle.gf_frame.specs.Commands.{IsUnanswered, IsAnswered, IsRefusedOn}
+use Rattle.gf_items.specs.Sources.{ring_set_vector, ring_marked_set}
 use Rattle.gf_items.specs.Kinds.{a_set, a_marked_set, vector_where}
 use Rattle.gf_items.specs.ReadOnce.{IsReadOnce}
 use Rattle.gf_items.proofs.KindLaws.{ring_and_once}
@@ -28,7 +31,7 @@ use Rattle.gfan.specs.Bases.{IsWithinLimit, of_tree, IsPastLimit, IsGoingCause, 
 use Rattle.gfan.specs.GivenBasis.{IsGivenListCause, IsGivenListPast, given_bases_command}
 use Rattle.gfan.specs.BasesList.{AreAllBases}
 use Rattle.gfan.specs.Buchberger.{generators_of, of_basis}
-use Rattle.gfan.specs.Commands.{list_options, list_work, IsOnInput, IsAnswerTo, IsRefusalOf, IsSourcePast, IsPastReach}
+use Rattle.gfan.specs.Commands.{list_options, list_command, command_of, AreTextsPast, IsPastReach}
 use Rattle.gfan.proofs.BasesListLaws.{among_right}
 use Rattle.gfan.proofs.GivenBasisLaws.{root_past}
 use Rattle.gfan.proofs.OneListLaws.{one_list}
@@ -76,33 +79,37 @@ text_memory item source a laws read (text_errors.TooManyVariables count) h = abs
 text_memory item source a laws read (text_errors.ZeroPolynomial set index) h = absurd ((source_once item laws source).apart a (text_errors.ZeroPolynomial set index) read h (λ q. cc))
 text_memory item source a laws read text_errors.Memory h = refl
 
-generators_past : (o : ListOptions) (source : List ℕ) (v : (bases_command o).Value) (most : ℕ) (d : Refusal) → IsTextOf (bases_command o).items source v → IsListPast o (length v.0) (generators_of v.1.0) most →
-    IsCommandRefused (bases_command o) source d → IsAtLimitOrMemory most d
-generators_past o source v most d read p (IsCommandRefused.in_text e h q) = inr (q ∙ text_memory (bases_command o).items source v (ring_and_once a_set (vector_where false ∷ [])) read e h)
-generators_past o source v most d read p (IsCommandRefused.behind_text a k (IsUnanswered.in_form f)) = absurd f
-generators_past o source v most d read p (IsCommandRefused.behind_text a k (IsUnanswered.in_work g w)) =
-    let same = (source_once (bases_command o).items (ring_and_once a_set (vector_where false ∷ [])) source).once v a read k in
-    list_past o (length v.0) (generators_of v.1.0) most d (read_variables source v read) p (subst (λ (x : (bases_command o).Value). IsListCause o (length x.0) (generators_of x.1.0) d) same w)
-generators_past o source v most d read p (IsCommandRefused.behind_text a k (IsUnanswered.no_memory m)) = inr m
-generators_past o source v most d read p (IsCommandRefused.no_memory m) = inr m
+generators_past : (o : ListOptions) (source : List ℕ) (v : List (List ℕ) × (List Written × Option (List ℤ))) (most : ℕ) (d : Refusal) → IsTextOf (ring_set_vector false) source v → IsListPast o (length v.0) (generators_of v.1.0) most →
+    IsRefusedOn (bases_command o) (source ∷ []) d → IsAtLimitOrMemory most d
+generators_past o source v most d read p (IsRefusedOn.in_text e h q) = inr (q ∙ text_memory (ring_set_vector false) source v (ring_and_once a_set (vector_where false ∷ [])) read e h)
+generators_past o source v most d read p (IsRefusedOn.behind_text a k (IsUnanswered.in_form f)) = absurd f
+generators_past o source v most d read p (IsRefusedOn.behind_text a k (IsUnanswered.in_work g w)) =
+    let same = (source_once (ring_set_vector false) (ring_and_once a_set (vector_where false ∷ [])) source).once v a read k in
+    list_past o (length v.0) (generators_of v.1.0) most d (read_variables source v read) p (subst (λ (x : List (List ℕ) × (List Written × Option (List ℤ))). IsListCause o (length x.0) (generators_of x.1.0) d) same w)
+generators_past o source v most d read p (IsRefusedOn.behind_text a k (IsUnanswered.no_memory m)) = inr m
+generators_past o source v most d read p (IsRefusedOn.no_memory m) = inr m
 
-basis_past : (o : ListOptions) (source : List ℕ) (v : (given_bases_command o).Value) (most : ℕ) (d : Refusal) → IsTextOf (given_bases_command o).items source v → IsGivenListPast o (length v.0) v.1 most →
-    IsCommandRefused (given_bases_command o) source d → IsAtLimitOrMemory most d
-basis_past o source v most d read p (IsCommandRefused.in_text e h q) = inr (q ∙ text_memory (given_bases_command o).items source v (ring_and_once a_marked_set []) read e h)
-basis_past o source v most d read p (IsCommandRefused.behind_text a k (IsUnanswered.in_form f)) = absurd f
-basis_past o source v most d read p (IsCommandRefused.behind_text a k (IsUnanswered.in_work g w)) =
-    let same = (source_once (given_bases_command o).items (ring_and_once a_marked_set []) source).once v a read k in
-    given_past o (length v.0) v.1 most d p (subst (λ (x : (given_bases_command o).Value). IsGivenListCause o (length x.0) x.1 d) same w)
-basis_past o source v most d read p (IsCommandRefused.behind_text a k (IsUnanswered.no_memory m)) = inr m
-basis_past o source v most d read p (IsCommandRefused.no_memory m) = inr m
+basis_past : (o : ListOptions) (source : List ℕ) (v : List (List ℕ) × MarkedPolynomials) (most : ℕ) (d : Refusal) → IsTextOf ring_marked_set source v → IsGivenListPast o (length v.0) v.1 most →
+    IsRefusedOn (given_bases_command o) (source ∷ []) d → IsAtLimitOrMemory most d
+basis_past o source v most d read p (IsRefusedOn.in_text e h q) = inr (q ∙ text_memory ring_marked_set source v (ring_and_once a_marked_set []) read e h)
+basis_past o source v most d read p (IsRefusedOn.behind_text a k (IsUnanswered.in_form f)) = absurd f
+basis_past o source v most d read p (IsRefusedOn.behind_text a k (IsUnanswered.in_work g w)) =
+    let same = (source_once ring_marked_set (ring_and_once a_marked_set []) source).once v a read k in
+    given_past o (length v.0) v.1 most d p (subst (λ (x : List (List ℕ) × MarkedPolynomials). IsGivenListCause o (length x.0) x.1 d) same w)
+basis_past o source v most d read p (IsRefusedOn.behind_text a k (IsUnanswered.no_memory m)) = inr m
+basis_past o source v most d read p (IsRefusedOn.no_memory m) = inr m
 
-source_refused : (from_basis : Bool) (o : ListOptions) (source : List ℕ) (most : ℕ) (d : Refusal) → IsSourcePast from_basis o source most → IsOnInput (list_work from_basis o) (λ c. IsCommandRefused c source d) → IsAtLimitOrMemory most d
-source_refused false o source most d p h = generators_past o source p.0 most d p.1 p.2 h
-source_refused true o source most d p h = basis_past o source p.0 most d p.1 p.2 h
+list_refused : (from_basis : Bool) (o : ListOptions) (texts : List (List ℕ)) (most : ℕ) (d : Refusal) → AreTextsPast from_basis o texts most → IsRefusedOn (list_command from_basis o) texts d → IsAtLimitOrMemory most d
+list_refused false o [] most d p h = absurd p.1
+list_refused true o [] most d p h = absurd p.1
+list_refused false o (source ∷ []) most d p h = generators_past o source p.0 most d p.1 p.2 h
+list_refused true o (source ∷ []) most d p h = basis_past o source p.0 most d p.1 p.2 h
+list_refused false o (source ∷ (other ∷ others)) most d p h = absurd p.1
+list_refused true o (source ∷ (other ∷ others)) most d p h = absurd p.1
 
-pub past_refused : (job : Job) (source : List ℕ) (most : ℕ) (d : Refusal) → IsPastReach job source most → IsRefusalOf job source d → (d ≡ refusals.ListLimit most) ⊎ (d ≡ refusals.Memory)
-past_refused (jobs.Bases o) source most d p h = source_refused o.from_basis (list_options o) source most d p h
-past_refused _ source most d p h = absurd p
+pub past_refused : (job : Job) (texts : List (List ℕ)) (most : ℕ) (d : Refusal) → IsPastReach job texts most → IsRefusedOn (command_of job) texts d → (d ≡ refusals.ListLimit most) ⊎ (d ≡ refusals.Memory)
+past_refused (jobs.Bases o) texts most d p h = list_refused o.from_basis (list_options o) texts most d p h
+past_refused _ texts most d p h = absurd p
 
 -- ---- and it isn't answered
 
@@ -113,16 +120,20 @@ too_long (Some n) most list e l w = let same : n ≡ most = cc in omega arith
 no_text : (n : ℕ) (fs : List Terms) (limit : Option ℕ) (most : ℕ) (list : List MarkedPolynomials) → AreInVariables n fs → IsPastLimit limit n fs most → AreAllBases n fs list → IsWithinLimit limit list → ⊥
 no_text n fs limit most list v p all few = too_long limit most p.list p.is_limit p.longer (subst (IsWithinLimit limit) (one_list n fs list p.list v all p.are_all) few)
 
-source_unanswered : (from_basis : Bool) (o : ListOptions) (source : List ℕ) (most : ℕ) (text : List ℕ) → IsSourcePast from_basis o source most → IsOnInput (list_work from_basis o) (λ c. IsAnswered c source text) → ⊥
-source_unanswered false o source most text p a =
-    let same = (source_once (bases_command o).items (ring_and_once a_set (vector_where false ∷ [])) source).once a.value p.0 a.read p.1 in
+list_unanswered : (from_basis : Bool) (o : ListOptions) (texts : List (List ℕ)) (most : ℕ) (text : List ℕ) → AreTextsPast from_basis o texts most → IsAnswered (list_command from_basis o) texts text → ⊥
+list_unanswered false o [] most text p a = p.1
+list_unanswered true o [] most text p a = p.1
+list_unanswered false o (source ∷ []) most text p a =
+    let same = (source_once (ring_set_vector false) (ring_and_once a_set (vector_where false ∷ [])) source).once a.value p.0 a.read p.1 in
     no_text (length a.value.0) (generators_of a.value.1.0) o.limit most a.answer.is_answer.list (read_variables source a.value a.read)
-    (subst (λ (x : (bases_command o).Value). IsPastLimit o.limit (length x.0) (generators_of x.1.0) most) same p.2.past) a.answer.is_answer.are_all a.answer.is_answer.few
-source_unanswered true o source most text p a =
-    let same = (source_once (given_bases_command o).items (ring_and_once a_marked_set []) source).once a.value p.0 a.read p.1 in
+    (subst (λ (x : List (List ℕ) × (List Written × Option (List ℤ))). IsPastLimit o.limit (length x.0) (generators_of x.1.0) most) same p.2.past) a.answer.is_answer.are_all a.answer.is_answer.few
+list_unanswered true o (source ∷ []) most text p a =
+    let same = (source_once ring_marked_set (ring_and_once a_marked_set []) source).once a.value p.0 a.read p.1 in
     no_text (length a.value.0) (polys a.value.1.items) o.limit most a.answer.is_answer.list.list (given_variables source a.value a.read)
-    (subst (λ (x : (given_bases_command o).Value). IsPastLimit o.limit (length x.0) (polys x.1.items) most) same p.2.past) a.answer.is_answer.list.are_all a.answer.is_answer.list.few
+    (subst (λ (x : List (List ℕ) × MarkedPolynomials). IsPastLimit o.limit (length x.0) (polys x.1.items) most) same p.2.past) a.answer.is_answer.list.are_all a.answer.is_answer.list.few
+list_unanswered false o (source ∷ (other ∷ others)) most text p a = p.1
+list_unanswered true o (source ∷ (other ∷ others)) most text p a = p.1
 
-pub past_unanswered : (job : Job) (source : List ℕ) (most : ℕ) (text : List ℕ) → IsPastReach job source most → IsAnswerTo job source text → ⊥
-past_unanswered (jobs.Bases o) source most text p a = source_unanswered o.from_basis (list_options o) source most text p a
-past_unanswered _ source most text p a = absurd p
+pub past_unanswered : (job : Job) (texts : List (List ℕ)) (most : ℕ) (text : List ℕ) → IsPastReach job texts most → IsAnswered (command_of job) texts text → ⊥
+past_unanswered (jobs.Bases o) texts most text p a = list_unanswered o.from_basis (list_options o) texts most text p a
+past_unanswered _ texts most text p a = p

@@ -11,7 +11,7 @@ use Rattle.gf_reduced.specs.Refusals.{IsReducedRefusal}
 use Rattle.gf_reduced.proofs.RefusalLaws.{reduced_memory}
 use Rattle.gf_items.specs.Items.{IsTextOf, from}
 use Rattle.gf_items.specs.Sources.{ring_marked_sets}
-use Rattle.gf_items.specs.Commands.{IsOfTest, IsOfNumbers, TellsSame}
+use Rattle.gf_items.specs.Refusals.{IsOfTest, IsOfNumbers, TellsSame}
 use Rattle.gfan.specs.CheckedSets.{of_check}
 use Rattle.gfan.specs.ReducedSets.{IsReducedAsRead, AreReducedAsRead, IsRefusedFrom, IsCheckedWithin}
 use Rattle.gfan.specs.Refused.{IsNamedBy}

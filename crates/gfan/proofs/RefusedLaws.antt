@@ -12,7 +12,7 @@ use Rattle.gf_front.specs.declared.command_line.WordsError.{WordsError}
 use Rattle.gf_front.specs.declared.command_line.WordsError.TheVariants as words_errors
 use Rattle.gf_front.specs.declared.refusal.Refusal.{Refusal}
 use Rattle.gf_front.specs.Lines.{names_in, of_words, line}
-use Rattle.gf_items.specs.Commands.{of_text}
+use Rattle.gf_items.specs.Refusals.{of_text}
 use Rattle.gfan.specs.Refused.{without_names, names_of, IsNamedBy, IsOfSource, WrittenAsFar}
 use Rattle.gfan.specs.Run.{IsOfInput}
 

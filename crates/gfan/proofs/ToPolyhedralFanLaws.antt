@@ -27,9 +27,11 @@ use Rattle.gf_front.specs.declared.refusal.Refusal.TheVariants as refusals
 use Rattle.gf_items.specs.Items.{IsTextOf}
 use Rattle.gf_items.specs.Sources.{ring_marked_sets}
 use Rattle.gf_items.specs.Kinds.{marked_set_list}
-use Rattle.gf_items.specs.Commands.{IsOfTest, IsOfNumbers, TellsSame, IsOfWork, IsAnswered, IsUnanswered, IsCommandRefused}
+use Rattle.gf_items.specs.Refusals.{IsOfTest, IsOfNumbers, TellsSame, IsOfWork}
+use Rattle.gf_frame.specs.Commands.{IsAnswered, IsUnanswered, IsRefusedOn}
 use Rattle.gf_items.proofs.KindLaws.{ring_and_once}
-use Rattle.gf_items.proofs.CommandLaws.{IsExactCommand, IsTestedCommand}
+use Rattle.gf_frame.proofs.ReadingLaws.{one_once, of_one_text}
+use Rattle.gf_frame.proofs.SoundLaws.{IsExactCommand, IsTestedCommand}
 use Rattle.gfan.specs.CheckedSets.{of_check}
 use Rattle.gfan.specs.Stats.{of_gordan}
 use Rattle.gfan.specs.ReducedSets.{IsReducedAsRead, IsRefusedFrom}
@@ -73,7 +75,7 @@ fan_told cut n sets bases cones text a z h = record { reduced = all_reduced sets
 
 -- ---- from a source on
 
-pub fan_answered : (cut : Bool) (source text : List ℕ) (ring : List (List ℕ)) (sets given : List MarkedPolynomials) (n : ℕ) → IsTextOf ring_marked_sets source (ring, sets) → n ≡ length ring → given ≡ sets → IsFanOfSetsText cut n given text → IsAnswered (to_polyhedral_fan_command cut) source text
+pub fan_answered : (cut : Bool) (source text : List ℕ) (ring : List (List ℕ)) (sets given : List MarkedPolynomials) (n : ℕ) → IsTextOf ring_marked_sets source (ring, sets) → n ≡ length ring → given ≡ sets → IsFanOfSetsText cut n given text → IsAnswered (to_polyhedral_fan_command cut) (source ∷ []) text
 fan_answered cut source text ring sets given n read e p h = record {
   value = (ring, sets);
   read = read;
@@ -83,8 +85,8 @@ fan_answered cut source text ring sets given n read e p h = record {
 along_ring : (cut : Bool) (r : Refusal) (ring : List (List ℕ)) (sets given : List MarkedPolynomials) (n : ℕ) → n ≡ length ring → given ≡ sets → IsNoFanOfSets cut n given r → IsNoFanOfSets cut (length ring) sets r
 along_ring cut r ring sets given n e p h = subst (λ k. IsNoFanOfSets cut k sets r) e (subst (λ (ss : List MarkedPolynomials). IsNoFanOfSets cut n ss r) p h)
 
-pub no_fan_refused : (cut : Bool) (source : List ℕ) (r : Refusal) (ring : List (List ℕ)) (sets given : List MarkedPolynomials) (n : ℕ) → IsTextOf ring_marked_sets source (ring, sets) → n ≡ length ring → given ≡ sets → IsNoFanOfSets cut n given r → IsCommandRefused (to_polyhedral_fan_command cut) source r
-no_fan_refused cut source r ring sets given n read e p h = IsCommandRefused.behind_text (ring, sets) read (IsUnanswered.in_work tt (along_ring cut r ring sets given n e p h))
+pub no_fan_refused : (cut : Bool) (source : List ℕ) (r : Refusal) (ring : List (List ℕ)) (sets given : List MarkedPolynomials) (n : ℕ) → IsTextOf ring_marked_sets source (ring, sets) → n ≡ length ring → given ≡ sets → IsNoFanOfSets cut n given r → IsRefusedOn (to_polyhedral_fan_command cut) (source ∷ []) r
+no_fan_refused cut source r ring sets given n read e p h = IsRefusedOn.behind_text (ring, sets) read (IsUnanswered.in_work tt (along_ring cut r ring sets given n e p h))
 
 -- it is told with the names of the ring
 named_no_fan : (cut : Bool) (n : ℕ) (ring : List (List ℕ)) (sets : List MarkedPolynomials) (r : Refusal) → Each (IsSetKept (length ring)) sets → IsNoFanOfSets cut n sets r → IsNamedBy (Some ring) r
@@ -112,8 +114,8 @@ no_fan_within cut n sets r w (IsNoFanOfSets.no_memory m) = m
 
 pub to_polyhedral_fan_exact : (cut : Bool) → IsExactCommand (to_polyhedral_fan_command cut)
 to_polyhedral_fan_exact cut = record {
-  items = ring_and_once marked_set_list [];
-  checks = λ source v r. tt;
+  reading = one_once _ (ring_and_once marked_set_list []);
+  checks = λ texts v h. tt;
   work = λ v r h. no_fan_work cut (length v.0) v.1 r h;
   within = λ v r w h. no_fan_within cut (length v.0) v.1 r w h;
 }
@@ -228,7 +230,7 @@ no_fan_refutes cut m n sets r text v t (IsNoFanOfSets.no_memory p) a = subst IsO
 
 pub to_polyhedral_fan_tested : (cut : Bool) → IsTestedCommand (to_polyhedral_fan_command cut)
 to_polyhedral_fan_tested cut = record {
-  tests = λ source v r d read t h k. no_fan_once cut (length v.0) (length v.0) v.1 r d (list_read source v read) t h k;
-  answers = λ source v r text read t h a. no_fan_refutes cut (length v.0) (length v.0) v.1 r text (list_read source v read) t h a;
-  wholes = λ source v r text read t h a. no_fan_refutes cut (length v.0) (length v.0) v.1 r text (list_read source v read) t h a;
+  tests = λ texts v r d read t h k. of_one_text ring_marked_sets _ texts v read (λ source x. no_fan_once cut (length v.0) (length v.0) v.1 r d (list_read source v x) t h k);
+  answers = λ texts v r text read t h a. of_one_text ring_marked_sets _ texts v read (λ source x. no_fan_refutes cut (length v.0) (length v.0) v.1 r text (list_read source v x) t h a);
+  wholes = λ texts v r text read t h a. of_one_text ring_marked_sets _ texts v read (λ source x. no_fan_refutes cut (length v.0) (length v.0) v.1 r text (list_read source v x) t h a);
 }

@@ -15,7 +15,7 @@ use Rattle.gf_fan.specs.declared.error.FanError.TheVariants as fan_errors
 use Rattle.gf_fan.specs.Refusals.{IsFanRefusal}
 use Rattle.gf_front.specs.declared.refusal.Refusal.{Refusal}
 use Rattle.gf_front.specs.declared.refusal.Refusal.TheVariants as refusals
-use Rattle.gf_items.specs.Commands.{IsOfNumbers, IsOfTest, IsOfWork}
+use Rattle.gf_items.specs.Refusals.{IsOfNumbers, IsOfTest, IsOfWork}
 use Rattle.gfan.specs.Refused.{IsNamedBy}
 use Rattle.gfan.specs.Stats.{of_gordan}
 use Rattle.gfan.specs.FanTexts.{of_fan}

@@ -9,7 +9,7 @@ use Rattle.gf_text.specs.declared.written.Written.{Written}
 use Rattle.gf_text.specs.Sets.{IsFirstZero}
 use Rattle.gf_front.specs.declared.refusal.Refusal.{Refusal}
 use Rattle.gf_front.specs.declared.refusal.Refusal.TheVariants as refusals
-use Rattle.gf_items.specs.Commands.{IsExactRefusal}
+use Rattle.gf_items.specs.Refusals.{IsExactRefusal}
 use Rattle.gf_items.specs.Checks.{AllHold, FirstFails}
 use Rattle.gf_items.proofs.CheckLaws.{IsCheckedOnce, AreCheckedOnce}
 use Rattle.gf_items.proofs.ItemLaws.{no_zero, first_zero}

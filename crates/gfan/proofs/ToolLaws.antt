@@ -25,10 +25,12 @@ use Rattle.gf_small.specs.declared.counts.Stats.{Stats}
 use Rattle.gf_small.specs.Statistics.{AreStatistics, IsStatisticsCause}
 use Rattle.gf_front.specs.declared.refusal.Refusal.{Refusal}
 use Rattle.gf_front.specs.declared.refusal.Refusal.TheVariants as refusals
-use Rattle.gf_items.specs.Commands.{IsOfTest, IsOfWork, IsAnswerFor, IsUnanswered}
+use Rattle.gf_items.specs.Refusals.{IsOfTest, IsOfWork}
+use Rattle.gf_frame.specs.Commands.{IsAnswerFor, IsUnanswered}
 use Rattle.gf_items.specs.Kinds.{a_set, set_list, marked_set_list, vector, new_name}
 use Rattle.gf_items.proofs.KindLaws.{ring_and_once}
-use Rattle.gf_items.proofs.CommandLaws.{IsExactCommand}
+use Rattle.gf_frame.proofs.ReadingLaws.{one_once, of_one_text}
+use Rattle.gf_frame.proofs.SoundLaws.{IsExactCommand}
 use Rattle.gfan.specs.Buchberger.{IsLengthRefusal}
 use Rattle.gfan.specs.Printing.{IsPrinted, IsPrintedSet}
 use Rattle.gfan.specs.ToolForms.{IsZeroRefusal}
@@ -62,24 +64,24 @@ marked_answered n ring ws w s t fs text e l a q h p = record {
 
 pub mark_polynomial_set_exact : IsExactCommand mark_polynomial_set_command
 mark_polynomial_set_exact = record {
-  items = ring_and_once a_set (vector ∷ []);
-  checks = λ source v r. (variables_check (length v.0) v.1.1, (zero_check v.1.0, tt));
+  reading = one_once _ (ring_and_once a_set (vector ∷ []));
+  checks = λ texts v h. (variables_check (length v.0) v.1.1, (zero_check v.1.0, tt));
   work = λ v r h. subst IsOfWork (sym h) tt;
   within = λ v r w h. h;
 }
 
 pub initial_forms_exact : IsExactCommand initial_forms_command
 initial_forms_exact = record {
-  items = ring_and_once a_set (vector ∷ []);
-  checks = λ source v r. (variables_check (length v.0) v.1.1, tt);
+  reading = one_once _ (ring_and_once a_set (vector ∷ []));
+  checks = λ texts v h. (variables_check (length v.0) v.1.1, tt);
   work = λ v r h. subst IsOfWork (sym h) tt;
   within = λ v r w h. h;
 }
 
 pub polynomial_set_union_exact : IsExactCommand polynomial_set_union_command
 polynomial_set_union_exact = record {
-  items = ring_and_once set_list [];
-  checks = λ source v r. tt;
+  reading = one_once _ (ring_and_once set_list []);
+  checks = λ texts v h. tt;
   work = λ v r h. subst IsOfWork (sym h) tt;
   within = λ v r w h. h;
 }
@@ -123,8 +125,8 @@ homogenize_within ws _ w h = absurd h
 
 pub homogenize_exact : IsExactCommand homogenize_command
 homogenize_exact = record {
-  items = ring_and_once a_set (new_name ∷ []);
-  checks = λ source v r. (room_check (length v.0), tt);
+  reading = one_once _ (ring_and_once a_set (new_name ∷ []));
+  checks = λ texts v h. (room_check (length v.0), tt);
   work = λ v r h. homogenize_work v.1.0 r h;
   within = λ v r w h. homogenize_within v.1.0 r w h;
 }
@@ -160,8 +162,8 @@ gordan_work gordan_errors.Memory = tt
 
 pub stats_exact : IsExactCommand stats_command
 stats_exact = record {
-  items = ring_and_once marked_set_list [];
-  checks = λ source v r. tt;
+  reading = one_once _ (ring_and_once marked_set_list []);
+  checks = λ texts v h. tt;
   work = λ v r h. subst IsOfWork (sym h.1) (gordan_work h.0);
   within = λ v r w h. h.1 ∙ ap of_gordan (w h.0 h.2);
 }

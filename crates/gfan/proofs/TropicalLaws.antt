@@ -18,10 +18,12 @@ use Rattle.gf_front.specs.declared.refusal.Refusal.{Refusal}
 use Rattle.gf_front.specs.declared.refusal.Refusal.TheVariants as refusals
 use Rattle.gf_items.specs.Kinds.{a_set, vector_where}
 use Rattle.gf_items.specs.Checks.{AllHold}
-use Rattle.gf_items.specs.Commands.{IsExactRefusal, IsOfTest, IsOfWork, IsUnanswered}
+use Rattle.gf_items.specs.Refusals.{IsExactRefusal, IsOfTest, IsOfWork}
+use Rattle.gf_frame.specs.Commands.{IsUnanswered}
 use Rattle.gf_items.proofs.CheckLaws.{IsCheckedOnce}
 use Rattle.gf_items.proofs.KindLaws.{ring_and_once}
-use Rattle.gf_items.proofs.CommandLaws.{IsExactCommand, IsTestedCommand, untested}
+use Rattle.gf_frame.proofs.ReadingLaws.{one_once, of_one_text}
+use Rattle.gf_frame.proofs.SoundLaws.{IsExactCommand, IsTestedCommand, untested}
 use Rattle.gfan.specs.declared.tropical.TropicalFan.{TropicalFan}
 use Rattle.gfan.specs.declared.tropical.TropicalFan.TheVariants as fans
 use Rattle.gfan.specs.Buchberger.{generators_of}
@@ -86,8 +88,8 @@ step_memory which n fs gordan_errors.Memory w h = refl
 
 pub tropical_exact : (which : TropicalFan) → IsExactCommand (tropical_command which)
 tropical_exact which = record {
-  items = ring_and_once a_set (vector_where false ∷ []);
-  checks = λ source v r. (number_check which (length v.1.0), (zero_check v.1.0, tt));
+  reading = one_once _ (ring_and_once a_set (vector_where false ∷ []));
+  checks = λ texts v h. (number_check which (length v.1.0), (zero_check v.1.0, tt));
   work = λ v r h. subst IsOfWork (sym h.1) (gordan_work h.0);
   within = λ v r w h. h.1 ∙ ap of_gordan (step_memory which (length v.0) (generators_of v.1.0) h.0 w h.2);
 }

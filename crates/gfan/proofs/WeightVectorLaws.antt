@@ -20,9 +20,11 @@ use Rattle.gf_front.specs.declared.refusal.Refusal.TheVariants as refusals
 use Rattle.gf_items.specs.Items.{IsTextOf, from}
 use Rattle.gf_items.specs.Sources.{ring_marked_set, ring_marked_sets}
 use Rattle.gf_items.specs.Kinds.{a_marked_set, marked_set_list}
-use Rattle.gf_items.specs.Commands.{IsOfTest, IsOfNumbers, TellsSame, IsOfWork, IsUnanswered, IsCommandRefused}
+use Rattle.gf_items.specs.Refusals.{IsOfTest, IsOfNumbers, TellsSame, IsOfWork}
+use Rattle.gf_frame.specs.Commands.{IsUnanswered, IsRefusedOn}
 use Rattle.gf_items.proofs.KindLaws.{ring_and_once}
-use Rattle.gf_items.proofs.CommandLaws.{IsExactCommand, IsTestedCommand}
+use Rattle.gf_frame.proofs.ReadingLaws.{one_once, of_one_text}
+use Rattle.gf_frame.proofs.SoundLaws.{IsExactCommand, IsTestedCommand}
 use Rattle.gfan.specs.CheckedSets.{of_check}
 use Rattle.gfan.specs.Certificates.{of_weight_error}
 use Rattle.gfan.specs.WeightVector.{IsWeightOfSet, IsUnweighed, IsWeighedWithin, weight_item, later_weight_item, weight_vector_command}
@@ -101,11 +103,11 @@ named_list source ring sets r read h = unweighed_named ring sets r (list_read so
 
 -- ---- from a source on
 
-pub one_unweighed : (echoed : Bool) (source : List ℕ) (ring : List (List ℕ)) (s : MarkedPolynomials) (r : Refusal) → IsTextOf ring_marked_set source (ring, s) → IsUnweighed (s ∷ []) r → IsCommandRefused (weight_vector_command false echoed) source r
-one_unweighed echoed source ring s r read h = IsCommandRefused.behind_text (ring, s) read (IsUnanswered.in_work tt h)
+pub one_unweighed : (echoed : Bool) (source : List ℕ) (ring : List (List ℕ)) (s : MarkedPolynomials) (r : Refusal) → IsTextOf ring_marked_set source (ring, s) → IsUnweighed (s ∷ []) r → IsRefusedOn (weight_vector_command false echoed) (source ∷ []) r
+one_unweighed echoed source ring s r read h = IsRefusedOn.behind_text (ring, s) read (IsUnanswered.in_work tt h)
 
-pub list_unweighed : (echoed : Bool) (source : List ℕ) (ring : List (List ℕ)) (sets : List MarkedPolynomials) (r : Refusal) → IsTextOf ring_marked_sets source (ring, sets) → IsUnweighed sets r → IsCommandRefused (weight_vector_command true echoed) source r
-list_unweighed echoed source ring sets r read h = IsCommandRefused.behind_text (ring, sets) read (IsUnanswered.in_work tt h)
+pub list_unweighed : (echoed : Bool) (source : List ℕ) (ring : List (List ℕ)) (sets : List MarkedPolynomials) (r : Refusal) → IsTextOf ring_marked_sets source (ring, sets) → IsUnweighed sets r → IsRefusedOn (weight_vector_command true echoed) (source ∷ []) r
+list_unweighed echoed source ring sets r read h = IsRefusedOn.behind_text (ring, sets) read (IsUnanswered.in_work tt h)
 
 -- ---- within limits
 
@@ -125,14 +127,14 @@ only s w r c = contained_each IsWeighedWithin (s ∷ []) (w, tt) r c
 
 pub weight_vector_exact : (listed echoed : Bool) → IsExactCommand (weight_vector_command listed echoed)
 weight_vector_exact false echoed = record {
-  items = ring_and_once a_marked_set [];
-  checks = λ source v r. tt;
+  reading = one_once _ (ring_and_once a_marked_set []);
+  checks = λ texts v h. tt;
   work = λ v r h. unweighed_work (v.1 ∷ []) r h;
   within = λ v r w h. unweighed_within (v.1 ∷ []) r (only v.1 w) h;
 }
 weight_vector_exact true echoed = record {
-  items = ring_and_once marked_set_list [];
-  checks = λ source v r. tt;
+  reading = one_once _ (ring_and_once marked_set_list []);
+  checks = λ texts v h. tt;
   work = λ v r h. unweighed_work v.1 r h;
   within = λ v r w h. unweighed_within v.1 r w h;
 }
@@ -172,12 +174,12 @@ unweighed_refutes n sets weights r v t (IsUnweighed.no_memory m) a = subst IsOfT
 
 pub weight_vector_tested : (listed echoed : Bool) → IsTestedCommand (weight_vector_command listed echoed)
 weight_vector_tested false echoed = record {
-  tests = λ source v r d read t h k. unweighed_once (length v.0) (v.1 ∷ []) r d (one_read source v read) t h k;
-  answers = λ source v r text read t h a. unweighed_refutes (length v.0) (v.1 ∷ []) a.weights r (one_read source v read) t h a.are_weights;
-  wholes = λ source v r text read t h a. unweighed_refutes (length v.0) (v.1 ∷ []) a.weights r (one_read source v read) t h a.are_weights;
+  tests = λ texts v r d read t h k. of_one_text ring_marked_set _ texts v read (λ source x. unweighed_once (length v.0) (v.1 ∷ []) r d (one_read source v x) t h k);
+  answers = λ texts v r text read t h a. of_one_text ring_marked_set _ texts v read (λ source x. unweighed_refutes (length v.0) (v.1 ∷ []) a.weights r (one_read source v x) t h a.are_weights);
+  wholes = λ texts v r text read t h a. of_one_text ring_marked_set _ texts v read (λ source x. unweighed_refutes (length v.0) (v.1 ∷ []) a.weights r (one_read source v x) t h a.are_weights);
 }
 weight_vector_tested true echoed = record {
-  tests = λ source v r d read t h k. unweighed_once (length v.0) v.1 r d (list_read source v read) t h k;
-  answers = λ source v r text read t h a. unweighed_refutes (length v.0) v.1 a.weights r (list_read source v read) t h a.are_weights;
-  wholes = λ source v r text read t h a. unweighed_refutes (length v.0) v.1 a.weights r (list_read source v read) t h a.are_weights;
+  tests = λ texts v r d read t h k. of_one_text ring_marked_sets _ texts v read (λ source x. unweighed_once (length v.0) v.1 r d (list_read source v x) t h k);
+  answers = λ texts v r text read t h a. of_one_text ring_marked_sets _ texts v read (λ source x. unweighed_refutes (length v.0) v.1 a.weights r (list_read source v x) t h a.are_weights);
+  wholes = λ texts v r text read t h a. of_one_text ring_marked_sets _ texts v read (λ source x. unweighed_refutes (length v.0) v.1 a.weights r (list_read source v x) t h a.are_weights);
 }

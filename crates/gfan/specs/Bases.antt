@@ -17,7 +17,10 @@ use Rattle.gf_weights.specs.Refusals.{AreCertificatesWithinLimits}
 use Rattle.gf_front.specs.declared.refusal.Refusal.{Refusal}
 use Rattle.gf_front.specs.declared.refusal.Refusal.TheVariants as refusals
 use Rattle.gf_items.specs.Sources.{ring_set_vector}
-use Rattle.gf_items.specs.Commands.{Command, IsOfNumbers}
+use Rattle.gf_items.specs.Refusals.{IsOfNumbers}
+use Rattle.gf_frame.specs.Loading.{Origin}
+use Rattle.gf_frame.specs.Readings.{of_one}
+use Rattle.gf_frame.specs.Commands.{Writing, Command}
 use Rattle.gfan.specs.declared.bases.ListOptions.{ListOptions}
 use Rattle.gfan.specs.Buchberger.{generators_of, of_basis}
 use Rattle.gfan.specs.BasesList.{IsGivenByWeight, AreAllBases}
@@ -169,11 +172,11 @@ pub record IsListPast (o : ListOptions) (n : ℕ) (fs : List Terms) (most : ℕ)
 abbrev pub bases_command : ListOptions → Command
 bases_command o = record {
   Value = List (List ℕ) × (List Written × Option (List ℤ));
-  items = ring_set_vector false;
+  reads = Origin.the_input ∷ [];
+  reading = of_one (ring_set_vector false);
   checks = λ v. [];
   IsAnswer = λ v text. IsTextOfBases o.certified o.limit v.0 (generators_of v.1.0) text;
-  IsWhole = λ v text. IsFullText o v.0 (generators_of v.1.0) text;
   IsCause = λ v r. IsListCause o (length v.0) (generators_of v.1.0) r;
-  IsBegun = λ v text r. IsBegunWhere o v.0 (generators_of v.1.0) text r;
   IsWithin = λ v. IsListWithin o (length v.0) (generators_of v.1.0);
+  writing = Writing.as_it_goes (λ v text. IsFullText o v.0 (generators_of v.1.0) text) (λ v text r. IsBegunWhere o v.0 (generators_of v.1.0) text r);
 }

@@ -18,7 +18,9 @@ use Rattle.gf_front.specs.declared.refusal.Refusal.{Refusal}
 use Rattle.gf_front.specs.declared.refusal.Refusal.TheVariants as refusals
 use Rattle.gf_items.specs.Sources.{ring_set_vector}
 use Rattle.gf_items.specs.Checks.{Check}
-use Rattle.gf_items.specs.Commands.{Command}
+use Rattle.gf_frame.specs.Loading.{Origin}
+use Rattle.gf_frame.specs.Readings.{of_one}
+use Rattle.gf_frame.specs.Commands.{Writing, Command}
 use Rattle.gfan.specs.declared.buchberger.Options.{Options}
 use Rattle.gfan.specs.Printing.{IsPrinted}
 
@@ -120,11 +122,11 @@ of_basis basis_errors.Memory = refusals.Memory
 abbrev pub buchberger_command : Options → Command
 buchberger_command o = record {
   Value = List (List ℕ) × (List Written × Option (List ℤ));
-  items = ring_set_vector o.weighted;
+  reads = Origin.the_input ∷ [];
+  reading = of_one (ring_set_vector o.weighted);
   checks = λ v. form o.revlex (length v.0) v.1.1 (generators_of v.1.0);
   IsAnswer = λ v text. IsBasisText (asked_order o.revlex v.1.1) v.0 (generators_of v.1.0) text;
-  IsWhole = λ v text. IsBasisText (asked_order o.revlex v.1.1) v.0 (generators_of v.1.0) text;
   IsCause = λ v r. (e : BasisError) × (r ≡ of_basis e) × IsBasisRefusal (asked_order o.revlex v.1.1) (length v.0) (generators_of v.1.0) o.pairs e;
-  IsBegun = λ v text r. ⊥;
   IsWithin = λ v. AreRunsWithinLimits (asked_order o.revlex v.1.1) (generators_of v.1.0) o.pairs;
+  writing = Writing.at_end;
 }

@@ -1,10 +1,5 @@
--- `_fancommonrefinement`: what it reads of its two files, what it writes, and why it doesn't.
--- What files hold by their names, what is left of the file that is read, how many bytes they gave before and after, their counts of
--- failed openings before and after, and of failed reads before and after stand in this order.
-use Rattle.std.specs.Prelude.{◌≡◌, ◌⊎◌, ℕ, ◌≤◌, List, length, Option, Some}
-use Rattle.std.specs.Io.KnownBytes.{Appends, Keeps}
-use Rattle.gf_outside.specs.Faults.{Rose}
-use Rattle.gf_outside.specs.Moved.{Counts, Took, TookExactly, TookAtMost, AppendsPrefix}
+-- `_fancommonrefinement`: what it writes for the texts of its two files, and why it doesn't.
+use Rattle.std.specs.Prelude.{◌≡◌, ℕ, List, [], ◌∷◌}
 use Rattle.gf_fan.specs.FanLists.{FanLists}
 use Rattle.gf_fanfile.specs.declared.error.FanFileError.{FanFileError}
 use Rattle.gf_fanfile.specs.declared.error.FanFileError.TheVariants as file_errors
@@ -19,6 +14,10 @@ use Rattle.gf_refine.specs.FansRefined.{IsRefinementOf}
 use Rattle.gf_refine.specs.Refusals.{IsRefineRefusal, IsRefinedWithinLimits}
 use Rattle.gf_front.specs.declared.refusal.Refusal.{Refusal}
 use Rattle.gf_front.specs.declared.refusal.Refusal.TheVariants as refusals
+use Rattle.gf_items.specs.Checks.{Check}
+use Rattle.gf_frame.specs.Loading.{Origin}
+use Rattle.gf_frame.specs.Readings.{of_two}
+use Rattle.gf_frame.specs.Commands.{Writing, Command}
 
 -- ---- refusals as ones of the run
 
@@ -37,39 +36,6 @@ abbrev pub of_refine : RefineError → Refusal
 of_refine (refine_errors.Cone o) = refusals.ConeOverflow o.row o.op o.left o.right
 of_refine (refine_errors.Dimensions left right) = refusals.Dimensions left right
 of_refine refine_errors.Memory = refusals.Memory
-
--- ---- what is read
-
--- these are all bytes of the file of this name, where the files tell them, and no more than a file may have
-pub record IsLoaded (bytes : List ℕ → Option (List ℕ)) (name all : List ℕ) : Type 0 where
-  pub is : Keeps (bytes name) (Some all)
-  pub short : length all ≤ 67108864
-
--- so it is with two files, the first and then the second, and the count of bytes went up by that of all of them
-pub record AreLoaded (bytes : List ℕ → Option (List ℕ)) (first second : List ℕ) (leaves : Option (List ℕ)) (given gives : ℕ) (a b : List ℕ) : Type 0 where
-  pub is_first : IsLoaded bytes first a
-  pub is_second : IsLoaded bytes second b
-  pub between : ℕ
-  pub counted : Counts given between (length a)
-  pub took : Took (bytes second) leaves between gives b
-
--- ---- how much is read
-
--- from here on no byte is given, or no more of a file than a file may have
-abbrev pub IsWithinFile : Option (List ℕ) → Option (List ℕ) → ℕ → ℕ → Type 0
-IsWithinFile bytes leaves given gives = (gives ≡ given) ⊎ TookAtMost bytes leaves given gives 67108864
-
--- no more of the first file; or the first was loaded, and no more of the second
-pub data AreWithinFiles (bytes : List ℕ → Option (List ℕ)) (first second : List ℕ) (leaves : Option (List ℕ)) (given gives : ℕ) : Type 0 where
-  of_first : IsWithinFile (bytes first) leaves given gives → AreWithinFiles bytes first second leaves given gives
-  of_second : (a : List ℕ) (between : ℕ) → IsLoaded bytes first a → Counts given between (length a) → IsWithinFile (bytes second) leaves between gives →
-      AreWithinFiles bytes first second leaves given gives
-
--- one byte more than a file may have was taken of the first file; or the first was loaded, and so many were taken of the second
-pub data IsFileTooLong (bytes : List ℕ → Option (List ℕ)) (first second : List ℕ) (leaves : Option (List ℕ)) (given gives : ℕ) : Type 0 where
-  of_first : TookExactly (bytes first) leaves given gives 67108865 → IsFileTooLong bytes first second leaves given gives
-  of_second : (a : List ℕ) (between : ℕ) → IsLoaded bytes first a → Counts given between (length a) → TookExactly (bytes second) leaves between gives 67108865 →
-      IsFileTooLong bytes first second leaves given gives
 
 -- ---- what is written
 
@@ -125,35 +91,20 @@ pub record IsRefinementWithin (a b : List ℕ) : Type 0 where
   pub same : second.file.ambient ≡ first.file.ambient
   pub work : (f g : FanLists) → IsFanOfText a f → IsFanOfText b g → IsRefinedWithinLimits f g
 
--- ---- what the job does
+-- ---- the command
 
--- both files were loaded, and the output gained the text of their fans' common refinement
-pub record IsRefined (bytes : List ℕ → Option (List ℕ)) (first second : List ℕ) (leaves : Option (List ℕ)) (given gives : ℕ) (held holds : Option (List ℕ)) : Type 0 where
-  pub a : List ℕ
-  pub b : List ℕ
-  pub loaded : AreLoaded bytes first second leaves given gives a b
-  pub text : List ℕ
-  pub is_text : IsRefinementText a b text
-  pub gained : Appends held holds text
+-- the first text says a file with rows of one length
+abbrev pub in_words : List ℕ → Check
+in_words a = record { Holds = (r : Refusal) → IsRefusedInWords a r → ⊥; Fails = λ r. IsRefusedInWords a r }
 
--- ---- why it doesn't
-
--- why a file isn't loaded, and what was taken of it
-abbrev pub IsLoadingCause : Option (List ℕ) → Option (List ℕ) → ℕ → ℕ → ℕ → ℕ → ℕ → ℕ → Refusal → Type 0
-IsLoadingCause bytes leaves given gives unopened unopens read reads refusals.OpenFault = Rose unopened unopens × (gives ≡ given)
-IsLoadingCause bytes leaves given gives unopened unopens read reads refusals.ReadFault = Rose read reads × TookAtMost bytes leaves given gives 67108864
-IsLoadingCause bytes leaves given gives unopened unopens read reads refusals.InputTooLong = TookExactly bytes leaves given gives 67108865
-IsLoadingCause bytes leaves given gives unopened unopens read reads refusals.Memory = IsWithinFile bytes leaves given gives
-IsLoadingCause bytes leaves given gives unopened unopens read reads _ = ⊥
-
--- The first file isn't loaded; or it is, and the second isn't; or both are, and nothing is written for them, or the write fails.
--- What the output holds before and after, and its counts of faults before and after stand last.
-pub data IsFilesCause (bytes : List ℕ → Option (List ℕ)) (first second : List ℕ) (leaves : Option (List ℕ)) (given gives unopened unopens read reads : ℕ) (held holds : Option (List ℕ)) (written writes : ℕ) (r : Refusal) : Type 0 where
-  at_first : IsLoadingCause (bytes first) leaves given gives unopened unopens read reads r → Keeps held holds →
-      IsFilesCause bytes first second leaves given gives unopened unopens read reads held holds written writes r
-  at_second : (a : List ℕ) (between : ℕ) → IsLoaded bytes first a → Counts given between (length a) → IsLoadingCause (bytes second) leaves between gives unopened unopens read reads r → Keeps held holds →
-      IsFilesCause bytes first second leaves given gives unopened unopens read reads held holds written writes r
-  at_work : (a b : List ℕ) → AreLoaded bytes first second leaves given gives a b → IsRefinementRefused a b r → Keeps held holds →
-      IsFilesCause bytes first second leaves given gives unopened unopens read reads held holds written writes r
-  at_write : (a b text : List ℕ) → AreLoaded bytes first second leaves given gives a b → IsRefinementText a b text → r ≡ refusals.WriteFault → Rose written writes → AppendsPrefix held holds text →
-      IsFilesCause bytes first second leaves given gives unopened unopens read reads held holds written writes r
+abbrev pub refinement_command : List ℕ → List ℕ → Command
+refinement_command first second = record {
+  Value = List ℕ × List ℕ;
+  reads = Origin.a_file first ∷ (Origin.a_file second ∷ []);
+  reading = of_two;
+  checks = λ v. in_words v.0 ∷ [];
+  IsAnswer = λ v text. IsRefinementText v.0 v.1 text;
+  IsCause = λ v r. IsRefinementRefused v.0 v.1 r;
+  IsWithin = λ v. IsRefinementWithin v.0 v.1;
+  writing = Writing.at_end;
+}

@@ -1,5 +1,5 @@
 -- `_doesidealcontain`: what it reads and writes, and why it doesn't.
-use Rattle.std.specs.Prelude.{◌≡◌, ℕ, List, [], Contains}
+use Rattle.std.specs.Prelude.{◌≡◌, ℕ, List, [], Contains, ◌∷◌}
 use Rattle.gf_poly.specs.declared.error.PolyError.{PolyError}
 use Rattle.gf_poly.specs.declared.error.PolyError.TheVariants as errors
 use Rattle.gf_poly.specs.Polynomial.{Terms}
@@ -12,7 +12,9 @@ use Rattle.gf_reduced.specs.Markings.{IsMarkedGroebnerBasis}
 use Rattle.gf_reduced.specs.Refusals.{of_poly, IsReducedBasisRefusal, AreChecksWithinLimits, IsReductionWithinLimits}
 use Rattle.gf_text.specs.declared.written.Written.{Written}
 use Rattle.gf_items.specs.Sources.{ring_marked_set_and_set}
-use Rattle.gf_items.specs.Commands.{Command}
+use Rattle.gf_frame.specs.Loading.{Origin}
+use Rattle.gf_frame.specs.Readings.{of_one}
+use Rattle.gf_frame.specs.Commands.{Writing, Command}
 use Rattle.gfan.specs.Buchberger.{generators_of}
 use Rattle.gfan.specs.Printing.{IsVerdict}
 use Rattle.gfan.specs.CheckedSets.{of_check}
@@ -60,11 +62,11 @@ pub record IsContainmentWithin (s : MarkedPolynomials) (fs : List Terms) : Type 
 abbrev pub containment_command : Command
 containment_command = record {
   Value = List (List ℕ) × (MarkedPolynomials × List Written);
-  items = ring_marked_set_and_set;
+  reads = Origin.the_input ∷ [];
+  reading = of_one ring_marked_set_and_set;
   checks = λ v. [];
   IsAnswer = λ v text. IsContainmentText v.1.0 (generators_of v.1.1) text;
-  IsWhole = λ v text. IsContainmentText v.1.0 (generators_of v.1.1) text;
   IsCause = λ v r. (e : CheckError) × (r ≡ of_check e) × IsContainmentRefusal v.1.0 (generators_of v.1.1) e;
-  IsBegun = λ v text r. ⊥;
   IsWithin = λ v. IsContainmentWithin v.1.0 (generators_of v.1.1);
+  writing = Writing.at_end;
 }

@@ -1,5 +1,5 @@
 -- `_bases -g`: a marked Gröbner basis is read in place of generators. What is written, and why it isn't.
-use Rattle.std.specs.Prelude.{◌≡◌, ℕ, List, [], length}
+use Rattle.std.specs.Prelude.{◌≡◌, ℕ, List, [], length, ◌∷◌}
 use Rattle.gf_poly.specs.declared.error.PolyError.{PolyError}
 use Rattle.gf_poly.specs.declared.error.PolyError.TheVariants as errors
 use Rattle.gf_poly.specs.Marking.{MarkedPolynomials, HaveVariables, polys, IsArranged}
@@ -13,7 +13,9 @@ use Rattle.gf_tree.specs.Ideals.{ideal_by}
 use Rattle.gf_tree.specs.Refusals.{IsTreeRefusal, IsTreeWithinLimits}
 use Rattle.gf_front.specs.declared.refusal.Refusal.{Refusal}
 use Rattle.gf_items.specs.Sources.{ring_marked_set}
-use Rattle.gf_items.specs.Commands.{Command}
+use Rattle.gf_frame.specs.Loading.{Origin}
+use Rattle.gf_frame.specs.Readings.{of_one}
+use Rattle.gf_frame.specs.Commands.{Writing, Command}
 use Rattle.gfan.specs.declared.bases.ListOptions.{ListOptions}
 use Rattle.gfan.specs.BasesList.{AreAllBases}
 use Rattle.gfan.specs.Bases.{IsWithinLimit, IsTextOfBases, IsFullText, IsBegunWhere, of_tree, IsPastLimit, IsGoingCause, AreCertifiedWithin}
@@ -81,11 +83,11 @@ pub record IsGivenListPast (o : ListOptions) (n : ℕ) (s : MarkedPolynomials) (
 abbrev pub given_bases_command : ListOptions → Command
 given_bases_command o = record {
   Value = List (List ℕ) × MarkedPolynomials;
-  items = ring_marked_set;
+  reads = Origin.the_input ∷ [];
+  reading = of_one ring_marked_set;
   checks = λ v. [];
   IsAnswer = λ v text. IsTextFromBasis o v.0 v.1 text;
-  IsWhole = λ v text. IsFullFromBasis o v.0 v.1 text;
   IsCause = λ v r. IsGivenListCause o (length v.0) v.1 r;
-  IsBegun = λ v text r. IsBegunFromBasis o v.0 v.1 text r;
   IsWithin = λ v. IsGivenListWithin o (length v.0) v.1;
+  writing = Writing.as_it_goes (λ v text. IsFullFromBasis o v.0 v.1 text) (λ v text r. IsBegunFromBasis o v.0 v.1 text r);
 }

@@ -8,7 +8,9 @@ use Rattle.gf_reduced.specs.Terms.{AreReduced}
 use Rattle.gf_reduced.specs.Refusals.{IsReducedRefusal, AreChecksWithinLimits}
 use Rattle.gf_front.specs.declared.refusal.Refusal.{Refusal}
 use Rattle.gf_items.specs.Sources.{ring_marked_set, dimension_two_lists}
-use Rattle.gf_items.specs.Commands.{Command}
+use Rattle.gf_frame.specs.Loading.{Origin}
+use Rattle.gf_frame.specs.Readings.{of_one}
+use Rattle.gf_frame.specs.Commands.{Writing, Command}
 use Rattle.gfan.specs.declared.told_cone.ConeOptions.{ConeOptions}
 use Rattle.gfan.specs.CheckedSets.{of_check}
 use Rattle.gfan.specs.ToolForms.{for_space, for_each}
@@ -46,21 +48,21 @@ pub record IsBasisConeWithin (o : ConeOptions) (s : MarkedPolynomials) : Type 0 
 abbrev pub groebner_cone_command : Bool → ConeOptions → Command
 groebner_cone_command false o = record {
   Value = List (List ℕ) × MarkedPolynomials;
-  items = ring_marked_set;
+  reads = Origin.the_input ∷ [];
+  reading = of_one ring_marked_set;
   checks = λ v. [];
   IsAnswer = λ v text. IsBasisConeText o v.1 text;
-  IsWhole = λ v text. IsBasisConeText o v.1 text;
   IsCause = λ v r. IsBasisConeCause o v.1 r;
-  IsBegun = λ v text r. ⊥;
   IsWithin = λ v. IsBasisConeWithin o v.1;
+  writing = Writing.at_end;
 }
 groebner_cone_command true o = record {
   Value = ℕ × (List (List ℤ) × List (List ℤ));
-  items = dimension_two_lists;
+  reads = Origin.the_input ∷ [];
+  reading = of_one dimension_two_lists;
   checks = λ v. for_space v.0 ∷ for_each v.0 (v.1.0 ++ v.1.1);
   IsAnswer = λ v text. IsConeTold o v.0 v.1.0 v.1.1 text;
-  IsWhole = λ v text. IsConeTold o v.0 v.1.0 v.1.1 text;
   IsCause = λ v r. IsUntold o v.0 v.1.0 v.1.1 r;
-  IsBegun = λ v text r. ⊥;
   IsWithin = λ v. IsTellingWithin o v.0 v.1.0 v.1.1;
+  writing = Writing.at_end;
 }

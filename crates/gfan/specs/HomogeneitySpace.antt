@@ -13,7 +13,9 @@ use Rattle.gf_fan.specs.Refusals.{IsFanRefusal, IsFanWithinLimits}
 use Rattle.gf_front.specs.declared.refusal.Refusal.{Refusal}
 use Rattle.gf_front.specs.declared.refusal.Refusal.TheVariants as refusals
 use Rattle.gf_items.specs.Sources.{ring_set_vector}
-use Rattle.gf_items.specs.Commands.{Command}
+use Rattle.gf_frame.specs.Loading.{Origin}
+use Rattle.gf_frame.specs.Readings.{of_one}
+use Rattle.gf_frame.specs.Commands.{Writing, Command}
 use Rattle.gfan.specs.Stats.{of_gordan}
 use Rattle.gf_fanfile.specs.FanTexts.{IsFanText}
 use Rattle.gfan.specs.FanTexts.{of_fan}
@@ -66,11 +68,11 @@ pub record IsSpaceWithin (n : ℕ) (bs : List MarkedPolynomial) : Type 0 where
 abbrev pub homogeneity_space_command : Command
 homogeneity_space_command = record {
   Value = List (List ℕ) × (List Written × Option (List ℤ));
-  items = ring_set_vector false;
+  reads = Origin.the_input ∷ [];
+  reading = of_one (ring_set_vector false);
   checks = λ v. [];
   IsAnswer = λ v text. IsSpaceText (length v.0) (nonzero_of v.1.0) text;
-  IsWhole = λ v text. IsSpaceText (length v.0) (nonzero_of v.1.0) text;
   IsCause = λ v r. IsNoSpace (length v.0) (nonzero_of v.1.0) r;
-  IsBegun = λ v text r. ⊥;
   IsWithin = λ v. IsSpaceWithin (length v.0) (nonzero_of v.1.0);
+  writing = Writing.at_end;
 }

@@ -5,7 +5,9 @@ use Rattle.gf_small.specs.Homogenization.{AreHomogenizations, IsFirstExponentPas
 use Rattle.gf_front.specs.declared.refusal.Refusal.{Refusal}
 use Rattle.gf_front.specs.declared.refusal.Refusal.TheVariants as refusals
 use Rattle.gf_items.specs.Sources.{ring_set_and_name}
-use Rattle.gf_items.specs.Commands.{Command}
+use Rattle.gf_frame.specs.Loading.{Origin}
+use Rattle.gf_frame.specs.Readings.{of_one}
+use Rattle.gf_frame.specs.Commands.{Writing, Command}
 use Rattle.gfan.specs.Printing.{IsPrintedSet}
 use Rattle.gfan.specs.ToolForms.{for_one_more}
 
@@ -24,11 +26,11 @@ IsHomogenizeRefusal ws _ = ⊥
 abbrev pub homogenize_command : Command
 homogenize_command = record {
   Value = List (List ℕ) × (List Written × List ℕ);
-  items = ring_set_and_name;
+  reads = Origin.the_input ∷ [];
+  reading = of_one ring_set_and_name;
   checks = λ v. for_one_more (length v.0) ∷ [];
   IsAnswer = λ v text. IsHomogenizedText v.0 v.1.0 v.1.1 text;
-  IsWhole = λ v text. IsHomogenizedText v.0 v.1.0 v.1.1 text;
   IsCause = λ v r. IsHomogenizeRefusal v.1.0 r;
-  IsBegun = λ v text r. ⊥;
   IsWithin = λ v. All IsHomogenizedWithinLimit v.1.0;
+  writing = Writing.at_end;
 }

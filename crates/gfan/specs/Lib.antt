@@ -27,10 +27,10 @@ pub mod GivenBasis  -- what `_bases -g` reads and writes
 pub mod Refused  -- a refusal with the ring in whose names it is told
 pub mod BasesWriting  -- how `_bases` writes its list
 pub mod CommonRefinement  -- what `_fancommonrefinement` reads and writes
-pub mod Commands  -- what the program does for each job
+pub mod Commands  -- the command of each job
 pub mod ListSources  -- the ring and the polynomials that a source of `_bases` says
 pub mod CertifiedBases  -- what certificates show
 pub mod Served  -- what the list of `_bases` has for each weight and each term order
 pub mod GivingWeights  -- the weights that `_weightvector` writes give the bases that it read
-pub mod Performed  -- what a job does to the output
-pub mod Run  -- the top call
+pub mod Performed  -- what a command does to the output for what it reads
+pub mod Run  -- the line that tells a refusal of a run

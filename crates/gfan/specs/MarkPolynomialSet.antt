@@ -6,7 +6,9 @@ use Rattle.gf_text.specs.Sets.{AreNonzero}
 use Rattle.gf_small.specs.MarksByWeight.{AreMarkedByWeight}
 use Rattle.gf_front.specs.declared.refusal.Refusal.TheVariants as refusals
 use Rattle.gf_items.specs.Sources.{ring_set_and_vector}
-use Rattle.gf_items.specs.Commands.{Command}
+use Rattle.gf_frame.specs.Loading.{Origin}
+use Rattle.gf_frame.specs.Readings.{of_one}
+use Rattle.gf_frame.specs.Commands.{Writing, Command}
 use Rattle.gfan.specs.Printing.{IsPrinted}
 use Rattle.gfan.specs.ToolForms.{for_variables, without_zero}
 
@@ -21,11 +23,11 @@ pub record IsMarkedByText (ring : List (List ℕ)) (ws : List Written) (vector :
 abbrev pub mark_polynomial_set_command : Command
 mark_polynomial_set_command = record {
   Value = List (List ℕ) × (List Written × List ℤ);
-  items = ring_set_and_vector;
+  reads = Origin.the_input ∷ [];
+  reading = of_one ring_set_and_vector;
   checks = λ v. for_variables (length v.0) v.1.1 ∷ without_zero v.1.0 ∷ [];
   IsAnswer = λ v text. IsMarkedByText v.0 v.1.0 v.1.1 text;
-  IsWhole = λ v text. IsMarkedByText v.0 v.1.0 v.1.1 text;
   IsCause = λ v r. r ≡ refusals.Memory;
-  IsBegun = λ v text r. ⊥;
   IsWithin = λ v. Unit {0};
+  writing = Writing.at_end;
 }

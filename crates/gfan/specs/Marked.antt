@@ -1,12 +1,14 @@
 -- `_ismarkedgroebnerbasis`: what it writes, and why it doesn't.
-use Rattle.std.specs.Prelude.{◌≡◌, ℕ, List, []}
+use Rattle.std.specs.Prelude.{◌≡◌, ℕ, List, [], ◌∷◌}
 use Rattle.gf_poly.specs.Marking.{MarkedPolynomials}
 use Rattle.gf_reduced.specs.declared.error.CheckError.{CheckError}
 use Rattle.gf_reduced.specs.declared.error.CheckError.TheVariants as check_errors
 use Rattle.gf_reduced.specs.Markings.{IsMarkedGroebnerBasis}
 use Rattle.gf_reduced.specs.Refusals.{IsTestRefusal}
 use Rattle.gf_items.specs.Sources.{ring_marked_set}
-use Rattle.gf_items.specs.Commands.{Command}
+use Rattle.gf_frame.specs.Loading.{Origin}
+use Rattle.gf_frame.specs.Readings.{of_one}
+use Rattle.gf_frame.specs.Commands.{Writing, Command}
 use Rattle.gfan.specs.Printing.{IsVerdict}
 use Rattle.gfan.specs.CheckedSets.{of_check}
 
@@ -14,11 +16,11 @@ use Rattle.gfan.specs.CheckedSets.{of_check}
 abbrev pub marked_command : Command
 marked_command = record {
   Value = List (List ℕ) × MarkedPolynomials;
-  items = ring_marked_set;
+  reads = Origin.the_input ∷ [];
+  reading = of_one ring_marked_set;
   checks = λ v. [];
   IsAnswer = λ v text. IsVerdict (IsMarkedGroebnerBasis v.1.variables v.1.items) text;
-  IsWhole = λ v text. IsVerdict (IsMarkedGroebnerBasis v.1.variables v.1.items) text;
   IsCause = λ v r. (e : CheckError) × (r ≡ of_check e) × IsTestRefusal v.1 e;
-  IsBegun = λ v text r. ⊥;
   IsWithin = λ v. (e : CheckError) → IsTestRefusal v.1 e → e ≡ check_errors.Memory;
+  writing = Writing.at_end;
 }

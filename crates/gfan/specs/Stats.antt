@@ -9,7 +9,9 @@ use Rattle.gf_small.specs.Statistics.{AreStatistics, IsStatisticsCause}
 use Rattle.gf_front.specs.declared.refusal.Refusal.{Refusal}
 use Rattle.gf_front.specs.declared.refusal.Refusal.TheVariants as refusals
 use Rattle.gf_items.specs.Sources.{ring_marked_sets}
-use Rattle.gf_items.specs.Commands.{Command}
+use Rattle.gf_frame.specs.Loading.{Origin}
+use Rattle.gf_frame.specs.Readings.{of_one}
+use Rattle.gf_frame.specs.Commands.{Writing, Command}
 
 -- ---- what is written
 
@@ -45,11 +47,11 @@ of_gordan gordan_errors.Memory = refusals.Memory
 abbrev pub stats_command : Command
 stats_command = record {
   Value = List (List ℕ) × List MarkedPolynomials;
-  items = ring_marked_sets;
+  reads = Origin.the_input ∷ [];
+  reading = of_one ring_marked_sets;
   checks = λ v. [];
   IsAnswer = λ v text. IsStatsText (length v.0) v.1 text;
-  IsWhole = λ v text. IsStatsText (length v.0) v.1 text;
   IsCause = λ v r. (e : GordanError) × (r ≡ of_gordan e) × IsStatisticsCause (length v.0) v.1 e;
-  IsBegun = λ v text r. ⊥;
   IsWithin = λ v. (e : GordanError) → IsStatisticsCause (length v.0) v.1 e → e ≡ gordan_errors.Memory;
+  writing = Writing.at_end;
 }

@@ -1,5 +1,5 @@
 -- `_topolyhedralfan`: what it reads and writes, and why it doesn't.
-use Rattle.std.specs.Prelude.{◌≡◌, ℕ, Bool, true, false, List, [], ◌++◌, length, Contains, ℤ}
+use Rattle.std.specs.Prelude.{◌≡◌, ℕ, Bool, true, false, List, [], ◌++◌, length, Contains, ℤ, ◌∷◌}
 use Rattle.std.specs.List.{AllZip}
 use Rattle.gf_poly.specs.Marking.{MarkedPolynomials}
 use Rattle.gf_gordan.specs.declared.error.ConeOverflow.{ConeOverflow}
@@ -15,7 +15,9 @@ use Rattle.gf_fan.specs.Refusals.{IsFanRefusal, IsFanWithinLimits}
 use Rattle.gf_front.specs.declared.refusal.Refusal.{Refusal}
 use Rattle.gf_front.specs.declared.refusal.Refusal.TheVariants as refusals
 use Rattle.gf_items.specs.Sources.{ring_marked_sets}
-use Rattle.gf_items.specs.Commands.{Command}
+use Rattle.gf_frame.specs.Loading.{Origin}
+use Rattle.gf_frame.specs.Readings.{of_one}
+use Rattle.gf_frame.specs.Commands.{Writing, Command}
 use Rattle.gfan.specs.CheckedSets.{of_check}
 use Rattle.gfan.specs.ReducedSets.{AreReducedAsRead, IsRefusedFrom, IsCheckedWithin}
 use Rattle.gf_fanfile.specs.FanTexts.{IsFanText}
@@ -89,11 +91,11 @@ pub record AreSetsWithin (cut : Bool) (n : ℕ) (sets : List MarkedPolynomials) 
 abbrev pub to_polyhedral_fan_command : Bool → Command
 to_polyhedral_fan_command cut = record {
   Value = List (List ℕ) × List MarkedPolynomials;
-  items = ring_marked_sets;
+  reads = Origin.the_input ∷ [];
+  reading = of_one ring_marked_sets;
   checks = λ v. [];
   IsAnswer = λ v text. IsFanOfSetsText cut (length v.0) v.1 text;
-  IsWhole = λ v text. IsFanOfSetsText cut (length v.0) v.1 text;
   IsCause = λ v r. IsNoFanOfSets cut (length v.0) v.1 r;
-  IsBegun = λ v text r. ⊥;
   IsWithin = λ v. AreSetsWithin cut (length v.0) v.1;
+  writing = Writing.at_end;
 }

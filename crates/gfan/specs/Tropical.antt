@@ -19,7 +19,9 @@ use Rattle.gf_front.specs.declared.refusal.Refusal.{Refusal}
 use Rattle.gf_front.specs.declared.refusal.Refusal.TheVariants as refusals
 use Rattle.gf_items.specs.Sources.{ring_set_vector}
 use Rattle.gf_items.specs.Checks.{Check}
-use Rattle.gf_items.specs.Commands.{Command}
+use Rattle.gf_frame.specs.Loading.{Origin}
+use Rattle.gf_frame.specs.Readings.{of_one}
+use Rattle.gf_frame.specs.Commands.{Writing, Command}
 use Rattle.gfan.specs.declared.tropical.TropicalFan.{TropicalFan}
 use Rattle.gfan.specs.declared.tropical.TropicalFan.TheVariants as fans
 use Rattle.gfan.specs.Buchberger.{generators_of}
@@ -86,11 +88,11 @@ of_tropical tropical_errors.Memory = refusals.Memory
 abbrev pub tropical_command : TropicalFan → Command
 tropical_command which = record {
   Value = List (List ℕ) × (List Written × Option (List ℤ));
-  items = ring_set_vector false;
+  reads = Origin.the_input ∷ [];
+  reading = of_one (ring_set_vector false);
   checks = λ v. for_number which (length v.1.0) ∷ without_zero v.1.0 ∷ [];
   IsAnswer = λ v text. IsTropicalText which (length v.0) (generators_of v.1.0) text;
-  IsWhole = λ v text. IsTropicalText which (length v.0) (generators_of v.1.0) text;
   IsCause = λ v r. (e : GordanError) × (r ≡ of_gordan e) × Failed (IsTropicalStep which (length v.0) (generators_of v.1.0)) e;
-  IsBegun = λ v text r. ⊥;
   IsWithin = λ v. (o : ConeOverflow) → IsTropicalStep which (length v.0) (generators_of v.1.0) o → ⊥;
+  writing = Writing.at_end;
 }

@@ -18,7 +18,9 @@ use Rattle.gf_text.specs.VectorText.{vector_text}
 use Rattle.gf_front.specs.declared.refusal.Refusal.{Refusal}
 use Rattle.gf_front.specs.declared.refusal.Refusal.TheVariants as refusals
 use Rattle.gf_items.specs.Sources.{ring_marked_set, ring_marked_sets}
-use Rattle.gf_items.specs.Commands.{Command}
+use Rattle.gf_frame.specs.Loading.{Origin}
+use Rattle.gf_frame.specs.Readings.{of_one}
+use Rattle.gf_frame.specs.Commands.{Writing, Command}
 use Rattle.gfan.specs.CheckedSets.{of_check}
 use Rattle.gfan.specs.Certificates.{of_weight_error}
 use Rattle.gfan.specs.ReducedSets.{IsReducedAsRead, AreReducedAsRead, IsRefusedFrom}
@@ -104,21 +106,21 @@ pub record IsWeighedWithin (s : MarkedPolynomials) : Type 0 where
 abbrev pub weight_vector_command : Bool → Bool → Command
 weight_vector_command false echoed = record {
   Value = List (List ℕ) × MarkedPolynomials;
-  items = ring_marked_set;
+  reads = Origin.the_input ∷ [];
+  reading = of_one ring_marked_set;
   checks = λ v. [];
   IsAnswer = λ v text. IsWeightsText false echoed v.0 (v.1 ∷ []) text;
-  IsWhole = λ v text. IsWeightsText false echoed v.0 (v.1 ∷ []) text;
   IsCause = λ v r. IsUnweighed (v.1 ∷ []) r;
-  IsBegun = λ v text r. ⊥;
   IsWithin = λ v. IsWeighedWithin v.1;
+  writing = Writing.at_end;
 }
 weight_vector_command true echoed = record {
   Value = List (List ℕ) × List MarkedPolynomials;
-  items = ring_marked_sets;
+  reads = Origin.the_input ∷ [];
+  reading = of_one ring_marked_sets;
   checks = λ v. [];
   IsAnswer = λ v text. IsWeightsText true echoed v.0 v.1 text;
-  IsWhole = λ v text. IsWeightsText true echoed v.0 v.1 text;
   IsCause = λ v r. IsUnweighed v.1 r;
-  IsBegun = λ v text r. ⊥;
   IsWithin = λ v. (s : MarkedPolynomials) → Contains v.1 s → IsWeighedWithin s;
+  writing = Writing.at_end;
 }

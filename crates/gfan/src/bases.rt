@@ -1,5 +1,5 @@
 // What `_bases` writes for an input, basis by basis.
-ghost use Rattle.std.specs.Prelude.{◌≡◌, ◌≤◌, false, [], length, List, None, IfOk, IfErr, OnOk, MatchResult};
+ghost use Rattle.std.specs.Prelude.{◌≡◌, ◌≤◌, [], ◌∷◌, length, List, None, IfOk, IfErr, OnOk, MatchResult};
 ghost use Rattle.std.specs.Io.KnownBytes.{Appends};
 ghost use Rattle.gf_poly.specs.Polynomial.{Terms};
 ghost use Rattle.gf_poly.specs.Marking.{polys};
@@ -9,15 +9,16 @@ ghost use Rattle.gfan.specs.Buchberger.{generators_of};
 ghost use Rattle.gfan.specs.Certificates.{IsItemRefusal};
 ghost use Rattle.gfan.specs.Bases.{bases_command};
 ghost use Rattle.gfan.specs.BasesWriting.{basis_piece, IsPieceOf, IsBasisWritten, IsUnwritten, IsBasisUnwritten, HasRoomFor, IsOneLess, IsFull, IsFirstBasis, IsRootRefusal, StartsAt, IsListWritten, IsListStopped, IsUnnamed};
-ghost use Rattle.gfan.specs.Commands.{list_job};
-ghost use Rattle.gfan.specs.Performed.{IsPerformed, IsStopped, IsPerformedFor, IsStoppedFor};
+ghost use Rattle.gf_frame.specs.Seen.{output_seen};
+ghost use Rattle.gf_frame.specs.Runs.{IsDoneOn, IsStoppedOn};
+ghost use Rattle.gfan.specs.Performed.{IsPerformedFor, IsStoppedFor};
 ghost use Rattle.gfan.specs.Refused.{IsOfSource};
 
 use crate::buchberger::polynomials;
 use crate::certificates::push_certified;
 use crate::refused::Refused;
 use gf_buchberger::basis;
-use gf_front::{Job, Refusal};
+use gf_front::Refusal;
 use gf_items::{RingAndSet, ring_and_set};
 use gf_order::Order;
 use gf_outside::{Sink, WriteFault, write_all};
@@ -278,13 +279,11 @@ pub(crate) fn perform<R: Threads + Sync, K: Sink, G: Gate>(
 ) -> Result<(), Refused>
     requires some { 1 ≤ workers }
     requires most { workers ≤ 64 }
-    ensures done { OnOk result (IsPerformed (list_job false options workers) source.now
-        (K.held output.old) (K.held output.new)) }
-    ensures stopped { IfErr result (λ e. IsStopped (list_job false options workers) source.now
-        (K.held output.old) (K.held output.new) (K.faults output.old) (K.faults output.new) e.refusal) }
+    ensures done { OnOk result (IsDoneOn (bases_command options) (source.now ∷ []) (output_seen (K.held output.old) (K.faults output.old))
+        (output_seen (K.held output.new) (K.faults output.new))) }
+    ensures stopped { IfErr result (λ e. IsStoppedOn (bases_command options) (source.now ∷ []) (output_seen (K.held output.old) (K.faults output.old))
+        (output_seen (K.held output.new) (K.faults output.new)) e.refusal) }
     ensures told { IfErr result (IsOfSource source.now) }
-    ensures calm { MatchResult result (λ _. K.faults output.new ≡ K.faults output.old)
-        (λ e. (e.refusal ≡ Refusal.WriteFault → ⊥) → K.faults output.new ≡ K.faults output.old) }
 {
     let RingAndSet { ring, set, .. } = ring_and_set(alloc, source, false)?;
     write_list(rt, alloc, &ring, &set, options, workers, output, gate)

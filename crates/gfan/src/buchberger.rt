@@ -5,7 +5,7 @@ ghost use Rattle.gf_text.specs.Sets.{AreIn};
 ghost use Rattle.gf_text.specs.Vectors.{AreEntriesWithin};
 ghost use Rattle.gf_buchberger.specs.Jobs.{HaveRingVariables, HaveOneDegree};
 ghost use Rattle.gf_items.specs.Checks.{FirstFails};
-ghost use Rattle.gf_items.specs.Commands.{IsAnswerFor, IsUnanswered, IsAnswered, IsCommandRefused};
+ghost use Rattle.gf_frame.specs.Commands.{IsAnswerFor, IsUnanswered, IsAnswered, IsRefusedOn};
 ghost use Rattle.gfan.specs.Buchberger.{generators_of, polynomial_of, asked_order, FitsVariables, IsTermWeight, AreTaken, IsFirstSmall, IsLengthRefusal, IsDegreeRefusal, form, of_basis, buchberger_command};
 ghost use Rattle.gfan.specs.Questions.{IsCountable, IsQuestion};
 ghost use Rattle.gfan.specs.Refused.{IsOfSource};
@@ -194,8 +194,8 @@ fn job(
 ///   set by this order may have, and whose operands don't fit.
 /// - `PairBudget` only where a run on the set by this order would have to settle more than `pairs` pairs.
 pub fn answer(alloc: Global, source: &[u8], options: Options) -> Result<Vec<u8>, Refused>
-    ensures ok { IfOk result (λ text. IsAnswered (buchberger_command options) source.now text.items) }
-    ensures err { IfErr result (λ e. IsCommandRefused (buchberger_command options) source.now e.refusal) }
+    ensures ok { IfOk result (λ text. IsAnswered (buchberger_command options) (source.now ∷ []) text.items) }
+    ensures err { IfErr result (λ e. IsRefusedOn (buchberger_command options) (source.now ∷ []) e.refusal) }
     ensures told { IfErr result (IsOfSource source.now) }
 {
     let RingAndSet { ring, set, vector } = ring_and_set(alloc, source, options.weighted)?;

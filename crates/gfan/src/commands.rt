@@ -1,9 +1,16 @@
-// What the program does for each job that reads the input.
-ghost use Rattle.std.specs.Prelude.{◌≡◌, IfOk, IfErr, OnOk, MatchResult};
+// What the program does for each job.
+ghost use Rattle.std.specs.Prelude.{◌≡◌, [], ◌∷◌, length, IfOk, IfErr, OnOk};
 ghost use Rattle.gf_front.specs.Jobs.{HasNumbersInRange};
+ghost use Rattle.gf_front.specs.declared.command_line.Job.{Job};
+ghost use Rattle.gf_front.specs.declared.options.FanCommonRefinementOptions.{FanCommonRefinementOptions};
+ghost use Rattle.gf_frame.specs.Seen.{seen, output_seen};
+ghost use Rattle.gf_frame.specs.Loading.{Origin, AreLoaded, AreUnloaded, HaveInput, HaveFile};
+ghost use Rattle.gf_frame.specs.Origins.{texts_of};
+ghost use Rattle.gf_frame.specs.Commands.{WritesOnce, IsAnswered, IsRefusedOn};
+ghost use Rattle.gf_frame.specs.Runs.{IsDoneOn, IsStoppedOn};
 ghost use Rattle.gfan.specs.Refused.{IsOfSource};
-ghost use Rattle.gfan.specs.Commands.{IsAnswerTo, IsRefusalOf, ReadsInput, WritesAtEnd};
-ghost use Rattle.gfan.specs.Performed.{IsPerformed, IsStopped};
+ghost use Rattle.gfan.specs.Commands.{plain_command, command_of};
+ghost use Rattle.gfan.specs.Run.{IsOfLoaded};
 
 use crate::bases::ListOptions;
 use crate::buchberger::Options;
@@ -11,15 +18,55 @@ use crate::refused::Refused;
 use crate::told_cone::ConeOptions;
 use crate::tropical::TropicalFan;
 use crate::{
-    bases, buchberger, containment, given_basis, groebner_cone, homogeneity_space, homogenize,
-    initial_forms, leading_terms, mark_polynomial_set, marked, polynomial_set_union, stats,
-    to_polyhedral_fan, tropical, weight_vector,
+    bases, buchberger, common_refinement, containment, given_basis, groebner_cone,
+    homogeneity_space, homogenize, initial_forms, leading_terms, mark_polynomial_set, marked,
+    polynomial_set_union, stats, to_polyhedral_fan, tropical, weight_vector,
 };
+use gf_frame::{LoadFrom, load_all};
 use gf_front::{Job, PlainCommand, Refusal};
-use gf_outside::{Sink, WriteFault, write_all};
+use gf_outside::{Files, Sink, Source, WriteFault, write_all};
 use gf_waves::Gate;
 use std::alloc::Global;
 use std::thread::Threads;
+
+/// The texts of what the job reads, each loaded whole before the next: of its two files, or of the input.
+///
+/// # Errors
+///
+/// As `load_all` of `gf_frame` has them.
+pub(crate) fn texts_for<S: Source, F: Files>(
+    alloc: Global,
+    job: &Job,
+    input: &mut S,
+    files: &mut F,
+) -> Result<Vec<Vec<u8>>, Refusal>
+    ensures loaded { IfOk result (λ texts. AreLoaded (command_of job.now).reads
+        (seen (S.left input.old) (S.given input.old) (S.faults input.old) (F.bytes files.old) (F.left files.old)
+        (F.given files.old) (F.unopened files.old) (F.faults files.old))
+        (seen (S.left input.new) (S.given input.new) (S.faults input.new) (F.bytes files.new) (F.left files.new)
+        (F.given files.new) (F.unopened files.new) (F.faults files.new))
+        (texts_of texts.items)) }
+    ensures unloaded { IfErr result (AreUnloaded (command_of job.now).reads
+        (seen (S.left input.old) (S.given input.old) (S.faults input.old) (F.bytes files.old) (F.left files.old)
+        (F.given files.old) (F.unopened files.old) (F.faults files.old))
+        (seen (S.left input.new) (S.given input.new) (S.faults input.new) (F.bytes files.new) (F.left files.new)
+        (F.given files.new) (F.unopened files.new) (F.faults files.new))) }
+
+    // What the job doesn't read is as before.
+    ensures input_kept { (HaveInput (command_of job.now).reads → ⊥) → input.new ≡ input.old }
+    ensures files_kept { (HaveFile (command_of job.now).reads → ⊥) → files.new ≡ files.old }
+{
+    match job {
+        Job::FanCommonRefinement(given) => {
+            let two = [
+                LoadFrom::File(given.first.as_str()),
+                LoadFrom::File(given.second.as_str()),
+            ];
+            load_all(alloc, &two, input, files)
+        }
+        _ => load_all(alloc, &[LoadFrom::Input], input, files),
+    }
+}
 
 /// What a command without options writes for the source.
 fn plain_answer<R: Threads + Sync>(
@@ -28,8 +75,8 @@ fn plain_answer<R: Threads + Sync>(
     command: PlainCommand,
     source: &[u8],
 ) -> Result<Vec<u8>, Refused>
-    ensures ok { IfOk result (λ text. IsAnswerTo (Job.Plain command) source.now text.items) }
-    ensures err { IfErr result (λ e. IsRefusalOf (Job.Plain command) source.now e.refusal) }
+    ensures ok { IfOk result (λ text. IsAnswered (plain_command command) (source.now ∷ []) text.items) }
+    ensures err { IfErr result (λ e. IsRefusedOn (plain_command command) (source.now ∷ []) e.refusal) }
     ensures told { IfErr result (IsOfSource source.now) }
 {
     match command {
@@ -53,16 +100,17 @@ fn plain_answer<R: Threads + Sync>(
     }
 }
 
-/// What a job that writes one piece at its end writes for the source.
-fn answered<R: Threads + Sync>(
+/// What a job on the input that writes once writes for the source.
+fn input_answer<R: Threads + Sync>(
     rt: &R,
     alloc: Global,
     job: &Job,
     source: &[u8],
 ) -> Result<Vec<u8>, Refused>
-    requires { WritesAtEnd job.now }
-    ensures ok { IfOk result (λ text. IsAnswerTo job.now source.now text.items) }
-    ensures err { IfErr result (λ e. IsRefusalOf job.now source.now e.refusal) }
+    requires once { WritesOnce (command_of job.now).writing }
+    requires input { (o : FanCommonRefinementOptions) → job.now ≡ Job.FanCommonRefinement o → ⊥ }
+    ensures ok { IfOk result (λ text. IsAnswered (command_of job.now) (source.now ∷ []) text.items) }
+    ensures err { IfErr result (λ e. IsRefusedOn (command_of job.now) (source.now ∷ []) e.refusal) }
     ensures told { IfErr result (IsOfSource source.now) }
 {
     match job {
@@ -92,46 +140,66 @@ fn answered<R: Threads + Sync>(
     }
 }
 
+/// What a job that writes once writes for the texts of what it reads.
+fn answered<R: Threads + Sync>(
+    rt: &R,
+    alloc: Global,
+    job: &Job,
+    texts: &[Vec<u8>],
+) -> Result<Vec<u8>, Refused>
+    requires once { WritesOnce (command_of job.now).writing }
+    requires all { length texts.now ≡ length (command_of job.now).reads }
+    ensures ok { IfOk result (λ text. IsAnswered (command_of job.now) (texts_of texts.now) text.items) }
+    ensures err { IfErr result (λ e. IsRefusedOn (command_of job.now) (texts_of texts.now) e.refusal) }
+    ensures told { IfErr result (IsOfLoaded (command_of job.now).reads (texts_of texts.now)) }
+{
+    match job {
+        Job::FanCommonRefinement(_) => {
+            common_refinement::answer(rt, alloc, &texts[0], &texts[1])
+        }
+        other => input_answer(rt, alloc, other, &texts[0]),
+    }
+}
+
 /// Writes the answer of such a job.
 fn write_answer<R: Threads + Sync, K: Sink>(
     rt: &R,
     alloc: Global,
     job: &Job,
-    source: &[u8],
+    texts: &[Vec<u8>],
     output: &mut K,
 ) -> Result<(), Refused>
-    requires { WritesAtEnd job.now }
-    ensures done { OnOk result (IsPerformed job.now source.now (K.held output.old) (K.held output.new)) }
-    ensures stopped { IfErr result (λ e. IsStopped job.now source.now (K.held output.old)
-        (K.held output.new) (K.faults output.old) (K.faults output.new) e.refusal) }
-    ensures told { IfErr result (IsOfSource source.now) }
-    ensures calm { MatchResult result (λ _. K.faults output.new ≡ K.faults output.old)
-        (λ e. (e.refusal ≡ Refusal.WriteFault → ⊥) → K.faults output.new ≡ K.faults output.old) }
+    requires once { WritesOnce (command_of job.now).writing }
+    requires all { length texts.now ≡ length (command_of job.now).reads }
+    ensures done { OnOk result (IsDoneOn (command_of job.now) (texts_of texts.now) (output_seen (K.held output.old) (K.faults output.old))
+        (output_seen (K.held output.new) (K.faults output.new))) }
+    ensures stopped { IfErr result (λ e. IsStoppedOn (command_of job.now) (texts_of texts.now) (output_seen (K.held output.old) (K.faults output.old))
+        (output_seen (K.held output.new) (K.faults output.new)) e.refusal) }
+    ensures told { IfErr result (IsOfLoaded (command_of job.now).reads (texts_of texts.now)) }
 {
-    let text = answered(rt, alloc, job, source)?;
+    let text = answered(rt, alloc, job, texts)?;
     match write_all(output, &text) {
         Ok(()) => Ok(()),
         Err(WriteFault) => Err(Refused::from(Refusal::WriteFault)),
     }
 }
 
-/// Writes to the output what the job writes for the source: in one piece at its end, or piece by piece as it goes.
+/// Writes to the output what the job writes for the texts of what it reads: in one piece at its end, or piece by piece as it goes.
 pub(crate) fn perform<R: Threads + Sync, K: Sink, G: Gate>(
     rt: &R,
     alloc: Global,
     job: &Job,
-    source: &[u8],
+    texts: &[Vec<u8>],
     output: &mut K,
     gate: &G,
 ) -> Result<(), Refused>
     requires limits { HasNumbersInRange job.now }
-    requires input { ReadsInput job.now }
-    ensures done { OnOk result (IsPerformed job.now source.now (K.held output.old) (K.held output.new)) }
-    ensures stopped { IfErr result (λ e. IsStopped job.now source.now (K.held output.old)
-        (K.held output.new) (K.faults output.old) (K.faults output.new) e.refusal) }
-    ensures told { IfErr result (IsOfSource source.now) }
-    ensures calm { MatchResult result (λ _. K.faults output.new ≡ K.faults output.old)
-        (λ e. (e.refusal ≡ Refusal.WriteFault → ⊥) → K.faults output.new ≡ K.faults output.old) }
+    requires all { length texts.now ≡ length (command_of job.now).reads }
+    ensures done { OnOk result (IsDoneOn (command_of job.now) (texts_of texts.now) (output_seen (K.held output.old) (K.faults output.old))
+        (output_seen (K.held output.new) (K.faults output.new))) }
+    ensures stopped { IfErr result (λ e. IsStoppedOn (command_of job.now) (texts_of texts.now) (output_seen (K.held output.old) (K.faults output.old))
+        (output_seen (K.held output.new) (K.faults output.new)) e.refusal) }
+    ensures told { IfErr result (IsOfLoaded (command_of job.now).reads (texts_of texts.now)) }
 {
     match job {
         Job::Bases(given) => {
@@ -141,11 +209,11 @@ pub(crate) fn perform<R: Threads + Sync, K: Sink, G: Gate>(
                 certified: given.certificates,
             };
             if given.from_basis {
-                given_basis::perform(rt, alloc, source, options, given.workers, output, gate)
+                given_basis::perform(rt, alloc, &texts[0], options, given.workers, output, gate)
             } else {
-                bases::perform(rt, alloc, source, options, given.workers, output, gate)
+                bases::perform(rt, alloc, &texts[0], options, given.workers, output, gate)
             }
         }
-        other => write_answer(rt, alloc, other, source, output),
+        other => write_answer(rt, alloc, other, texts, output),
     }
 }

@@ -1,12 +1,12 @@
 // What `_doesidealcontain` writes for an input.
-ghost use Rattle.std.specs.Prelude.{◌↔◌, IfOk, IfErr, IsTrue};
+ghost use Rattle.std.specs.Prelude.{◌↔◌, IfOk, IfErr, IsTrue, [], ◌∷◌};
 ghost use Rattle.gf_poly.specs.Marking.{polys};
 ghost use Rattle.gf_ideal.specs.Membership.{IsMember};
 ghost use Rattle.gf_ideal.specs.Bases.{IsBasis};
 ghost use Rattle.gf_division.specs.Steps.{IsReductionRefusal};
 ghost use Rattle.gf_reduced.specs.Markings.{IsMarkedGroebnerBasis};
 ghost use Rattle.gf_text.specs.Sets.{IsIn, AreIn};
-ghost use Rattle.gf_items.specs.Commands.{IsAnswered, IsCommandRefused};
+ghost use Rattle.gf_frame.specs.Commands.{IsAnswered, IsRefusedOn};
 ghost use Rattle.gfan.specs.Buchberger.{polynomial_of, generators_of};
 ghost use Rattle.gfan.specs.Containment.{AllAreMembers, IsSomeReductionRefusal, IsContainmentRefusal, containment_command};
 ghost use Rattle.gfan.specs.Refused.{IsOfSource};
@@ -80,8 +80,8 @@ fn decided(alloc: Global, marked: &MarkedSet, set: &[Written]) -> Result<bool, C
 ///   whose operands don't fit.
 /// - `ConeOverflow` only at a step of the elimination of the marking's system.
 pub(crate) fn answer(alloc: Global, source: &[u8]) -> Result<Vec<u8>, Refused>
-    ensures ok { IfOk result (λ text. IsAnswered containment_command source.now text.items) }
-    ensures err { IfErr result (λ e. IsCommandRefused containment_command source.now e.refusal) }
+    ensures ok { IfOk result (λ text. IsAnswered containment_command (source.now ∷ []) text.items) }
+    ensures err { IfErr result (λ e. IsRefusedOn containment_command (source.now ∷ []) e.refusal) }
     ensures told { IfErr result (IsOfSource source.now) }
 {
     let read = ring_marked_and_set(alloc, source)?;

@@ -1,17 +1,17 @@
 // What `_bases -g` writes for an input, basis by basis.
-ghost use Rattle.std.specs.Prelude.{◌≡◌, ◌≤◌, true, IfOk, IfErr, OnOk, MatchResult};
+ghost use Rattle.std.specs.Prelude.{◌≤◌, [], ◌∷◌, IfOk, IfErr, OnOk};
 ghost use Rattle.gf_poly.specs.Marking.{polys};
 ghost use Rattle.gf_reduced.specs.Markings.{IsMarkedGroebnerBasis};
 ghost use Rattle.gfan.specs.BasesWriting.{StartsAt};
-ghost use Rattle.gfan.specs.GivenBasis.{IsGivenRootRefusal};
-ghost use Rattle.gfan.specs.Commands.{list_job};
-ghost use Rattle.gfan.specs.Performed.{IsPerformed, IsStopped};
+ghost use Rattle.gf_frame.specs.Seen.{output_seen};
+ghost use Rattle.gf_frame.specs.Runs.{IsDoneOn, IsStoppedOn};
+ghost use Rattle.gfan.specs.GivenBasis.{IsGivenRootRefusal, given_bases_command};
 ghost use Rattle.gfan.specs.Refused.{IsOfSource};
 
 use crate::bases::{ListOptions, write_from};
 use crate::refused::{Refused, of_check};
 use gf_division::autoreduce;
-use gf_front::{Job, Refusal};
+use gf_front::Refusal;
 use gf_items::{RingAndMarked, ring_and_marked};
 use gf_outside::Sink;
 use gf_poly::MarkedSet;
@@ -70,13 +70,11 @@ pub(crate) fn perform<R: Threads + Sync, K: Sink, G: Gate>(
 ) -> Result<(), Refused>
     requires some { 1 ≤ workers }
     requires most { workers ≤ 64 }
-    ensures done { OnOk result (IsPerformed (list_job true options workers) source.now
-        (K.held output.old) (K.held output.new)) }
-    ensures stopped { IfErr result (λ e. IsStopped (list_job true options workers) source.now
-        (K.held output.old) (K.held output.new) (K.faults output.old) (K.faults output.new) e.refusal) }
+    ensures done { OnOk result (IsDoneOn (given_bases_command options) (source.now ∷ []) (output_seen (K.held output.old) (K.faults output.old))
+        (output_seen (K.held output.new) (K.faults output.new))) }
+    ensures stopped { IfErr result (λ e. IsStoppedOn (given_bases_command options) (source.now ∷ []) (output_seen (K.held output.old) (K.faults output.old))
+        (output_seen (K.held output.new) (K.faults output.new)) e.refusal) }
     ensures told { IfErr result (IsOfSource source.now) }
-    ensures calm { MatchResult result (λ _. K.faults output.new ≡ K.faults output.old)
-        (λ e. (e.refusal ≡ Refusal.WriteFault → ⊥) → K.faults output.new ≡ K.faults output.old) }
 {
     let RingAndMarked { ring, set } = ring_and_marked(alloc, source)?;
     let root = match root_of(alloc, &set, options.pairs) {

@@ -3,7 +3,7 @@ ghost use Rattle.std.specs.Prelude.{◌≡◌, ◌≤◌, ◌∷◌, ◌++◌, [
 ghost use Rattle.gf_text.specs.declared.TheConstants.{MOST_VARIABLES};
 ghost use Rattle.gf_text.specs.Sets.{AreIn};
 ghost use Rattle.gf_small.specs.HomogeneitySpace.{IsSpaceCause};
-ghost use Rattle.gf_items.specs.Commands.{IsAnswered, IsCommandRefused};
+ghost use Rattle.gf_frame.specs.Commands.{IsAnswered, IsRefusedOn};
 ghost use Rattle.gfan.specs.Refused.{IsOfSource};
 ghost use Rattle.gfan.specs.HomogeneitySpace.{marked_of, nonzero_of, IsSpaceCone, IsSpaceText, IsNoSpace, homogeneity_space_command};
 
@@ -91,8 +91,8 @@ fn space_text(alloc: Global, n: u32, set: &[Written]) -> Result<Vec<u8>, Refusal
 /// - `Overflow` and `ExponentOverflow` only at a sum of the text; `ConeOverflow` only at an operation of finding the space, or its one
 ///   face.
 pub(crate) fn answer(alloc: Global, source: &[u8]) -> Result<Vec<u8>, Refused>
-    ensures ok { IfOk result (λ text. IsAnswered homogeneity_space_command source.now text.items) }
-    ensures err { IfErr result (λ e. IsCommandRefused homogeneity_space_command source.now e.refusal) }
+    ensures ok { IfOk result (λ text. IsAnswered homogeneity_space_command (source.now ∷ []) text.items) }
+    ensures err { IfErr result (λ e. IsRefusedOn homogeneity_space_command (source.now ∷ []) e.refusal) }
     ensures told { IfErr result (IsOfSource source.now) }
 {
     let read = ring_and_set(alloc, source, false)?;

@@ -1,8 +1,8 @@
 // What `_homogenize` writes for an input.
-ghost use Rattle.std.specs.Prelude.{◌≡◌, true, false, length, None, IfOk, IfErr};
+ghost use Rattle.std.specs.Prelude.{◌≡◌, true, false, length, None, IfOk, IfErr, [], ◌∷◌};
 ghost use Rattle.gf_text.specs.RingText.{is_name, has};
 ghost use Rattle.gf_text.specs.Sets.{AreIn};
-ghost use Rattle.gf_items.specs.Commands.{IsAnswerFor, IsUnanswered, IsAnswered, IsCommandRefused};
+ghost use Rattle.gf_frame.specs.Commands.{IsAnswerFor, IsUnanswered, IsAnswered, IsRefusedOn};
 ghost use Rattle.gfan.specs.Refused.{IsNamedBy, IsOfSource};
 ghost use Rattle.gfan.specs.Homogenize.{homogenize_command};
 
@@ -46,8 +46,8 @@ fn text_of(alloc: Global, ring: &Ring, set: &[Written], name: &[u8]) -> Result<V
 /// - `Overflow` only at a sum of the text. `ExponentOverflow` only at such a sum, or at the first power of the new variable that passes
 ///   `2^31 - 1`, with that limit and what the power is more.
 pub(crate) fn answer(alloc: Global, source: &[u8]) -> Result<Vec<u8>, Refused>
-    ensures ok { IfOk result (λ text. IsAnswered homogenize_command source.now text.items) }
-    ensures err { IfErr result (λ e. IsCommandRefused homogenize_command source.now e.refusal) }
+    ensures ok { IfOk result (λ text. IsAnswered homogenize_command (source.now ∷ []) text.items) }
+    ensures err { IfErr result (λ e. IsRefusedOn homogenize_command (source.now ∷ []) e.refusal) }
     ensures told { IfErr result (IsOfSource source.now) }
 {
     let RingSetAndName { ring, set, name } = ring_set_and_name(alloc, source)?;

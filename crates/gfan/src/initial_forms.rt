@@ -1,8 +1,8 @@
 // What `_initialforms` writes for an input.
-ghost use Rattle.std.specs.Prelude.{◌≡◌, length, None, IfOk, IfErr};
+ghost use Rattle.std.specs.Prelude.{◌≡◌, length, None, IfOk, IfErr, [], ◌∷◌};
 ghost use Rattle.gf_text.specs.Sets.{AreIn};
 ghost use Rattle.gf_text.specs.Vectors.{AreEntriesWithin};
-ghost use Rattle.gf_items.specs.Commands.{IsAnswerFor, IsUnanswered, IsAnswered, IsCommandRefused};
+ghost use Rattle.gf_frame.specs.Commands.{IsAnswerFor, IsUnanswered, IsAnswered, IsRefusedOn};
 ghost use Rattle.gfan.specs.Refused.{IsNamedBy, IsOfSource};
 ghost use Rattle.gfan.specs.InitialForms.{initial_forms_command};
 
@@ -40,8 +40,8 @@ fn text_of(alloc: Global, ring: &Ring, set: &[Written], vector: &IntVec) -> Resu
 /// - `Dimensions` exactly where the vector has another number of entries than the ring has variables.
 /// - `Overflow` and `ExponentOverflow` only at a sum of the text.
 pub(crate) fn answer(alloc: Global, source: &[u8]) -> Result<Vec<u8>, Refused>
-    ensures ok { IfOk result (λ text. IsAnswered initial_forms_command source.now text.items) }
-    ensures err { IfErr result (λ e. IsCommandRefused initial_forms_command source.now e.refusal) }
+    ensures ok { IfOk result (λ text. IsAnswered initial_forms_command (source.now ∷ []) text.items) }
+    ensures err { IfErr result (λ e. IsRefusedOn initial_forms_command (source.now ∷ []) e.refusal) }
     ensures told { IfErr result (IsOfSource source.now) }
 {
     let RingSetAndVector { ring, set, vector } = ring_set_and_vector(alloc, source)?;

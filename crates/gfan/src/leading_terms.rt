@@ -1,7 +1,7 @@
 // What `_leadingterms` writes for an input.
-ghost use Rattle.std.specs.Prelude.{◌≡◌, true, false, map, IfOk, IfErr};
+ghost use Rattle.std.specs.Prelude.{◌≡◌, true, false, map, IfOk, IfErr, [], ◌∷◌};
 ghost use Rattle.gf_small.specs.LeadingTerms.{leading_set};
-ghost use Rattle.gf_items.specs.Commands.{IsAnswered, IsCommandRefused};
+ghost use Rattle.gf_frame.specs.Commands.{IsAnswered, IsRefusedOn};
 ghost use Rattle.gfan.specs.LeadingTerms.{leading_terms_command};
 ghost use Rattle.gfan.specs.Refused.{IsOfSource};
 
@@ -25,8 +25,8 @@ fn leading_sets(alloc: Global, sets: &[MarkedSet]) -> Result<Vec<MarkedSet>, All
 
 // What is written for a source with one set.
 fn of_set(alloc: Global, source: &[u8]) -> Result<Vec<u8>, Refused>
-    ensures ok { IfOk result (λ text. IsAnswered (leading_terms_command false) source.now text.items) }
-    ensures err { IfErr result (λ e. IsCommandRefused (leading_terms_command false) source.now e.refusal) }
+    ensures ok { IfOk result (λ text. IsAnswered (leading_terms_command false) (source.now ∷ []) text.items) }
+    ensures err { IfErr result (λ e. IsRefusedOn (leading_terms_command false) (source.now ∷ []) e.refusal) }
     ensures told { IfErr result (IsOfSource source.now) }
 {
     let read = ring_and_marked(alloc, source)?;
@@ -37,8 +37,8 @@ fn of_set(alloc: Global, source: &[u8]) -> Result<Vec<u8>, Refused>
 
 // What is written for a source with a list of sets.
 fn of_list(alloc: Global, source: &[u8]) -> Result<Vec<u8>, Refused>
-    ensures ok { IfOk result (λ text. IsAnswered (leading_terms_command true) source.now text.items) }
-    ensures err { IfErr result (λ e. IsCommandRefused (leading_terms_command true) source.now e.refusal) }
+    ensures ok { IfOk result (λ text. IsAnswered (leading_terms_command true) (source.now ∷ []) text.items) }
+    ensures err { IfErr result (λ e. IsRefusedOn (leading_terms_command true) (source.now ∷ []) e.refusal) }
     ensures told { IfErr result (IsOfSource source.now) }
 {
     let read = ring_and_marked_sets(alloc, source)?;
@@ -58,8 +58,8 @@ fn of_list(alloc: Global, source: &[u8]) -> Result<Vec<u8>, Refused>
 ///   first one in it.
 /// - `Overflow` and `ExponentOverflow` only at a sum of the text.
 pub(crate) fn answer(alloc: Global, source: &[u8], listed: bool) -> Result<Vec<u8>, Refused>
-    ensures ok { IfOk result (λ text. IsAnswered (leading_terms_command listed) source.now text.items) }
-    ensures err { IfErr result (λ e. IsCommandRefused (leading_terms_command listed) source.now e.refusal) }
+    ensures ok { IfOk result (λ text. IsAnswered (leading_terms_command listed) (source.now ∷ []) text.items) }
+    ensures err { IfErr result (λ e. IsRefusedOn (leading_terms_command listed) (source.now ∷ []) e.refusal) }
     ensures told { IfErr result (IsOfSource source.now) }
 {
     if listed {

@@ -1,10 +1,10 @@
 // What `_markpolynomialset` writes for an input.
-ghost use Rattle.std.specs.Prelude.{◌≡◌, ◌≢◌, [], All, length, None, IfOk, IfErr};
+ghost use Rattle.std.specs.Prelude.{◌≡◌, ◌≢◌, [], All, length, None, IfOk, IfErr, ◌∷◌};
 ghost use Rattle.gf_poly.specs.Polynomial.{HasVariables};
 ghost use Rattle.gf_poly.specs.Marking.{polys};
 ghost use Rattle.gf_text.specs.Sets.{AreIn};
 ghost use Rattle.gf_text.specs.Vectors.{AreEntriesWithin};
-ghost use Rattle.gf_items.specs.Commands.{IsAnswerFor, IsUnanswered, IsAnswered, IsCommandRefused};
+ghost use Rattle.gf_frame.specs.Commands.{IsAnswerFor, IsUnanswered, IsAnswered, IsRefusedOn};
 ghost use Rattle.gfan.specs.Refused.{IsNamedBy, IsOfSource};
 ghost use Rattle.gfan.specs.MarkPolynomialSet.{mark_polynomial_set_command};
 
@@ -68,8 +68,8 @@ fn text_of(
 /// - `ZeroPolynomial` exactly where the vector has its length and nothing remains of a polynomial, with the index of the first one.
 /// - `Overflow` and `ExponentOverflow` only at a sum of the text.
 pub(crate) fn answer(alloc: Global, source: &[u8]) -> Result<Vec<u8>, Refused>
-    ensures ok { IfOk result (λ text. IsAnswered mark_polynomial_set_command source.now text.items) }
-    ensures err { IfErr result (λ e. IsCommandRefused mark_polynomial_set_command source.now e.refusal) }
+    ensures ok { IfOk result (λ text. IsAnswered mark_polynomial_set_command (source.now ∷ []) text.items) }
+    ensures err { IfErr result (λ e. IsRefusedOn mark_polynomial_set_command (source.now ∷ []) e.refusal) }
     ensures told { IfErr result (IsOfSource source.now) }
 {
     let RingSetAndVector { ring, set, vector } = ring_set_and_vector(alloc, source)?;

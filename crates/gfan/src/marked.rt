@@ -1,6 +1,6 @@
 // What `_ismarkedgroebnerbasis` writes for an input.
-ghost use Rattle.std.specs.Prelude.{IfOk, IfErr};
-ghost use Rattle.gf_items.specs.Commands.{IsAnswered, IsCommandRefused};
+ghost use Rattle.std.specs.Prelude.{IfOk, IfErr, [], ◌∷◌};
+ghost use Rattle.gf_frame.specs.Commands.{IsAnswered, IsRefusedOn};
 ghost use Rattle.gfan.specs.Refused.{IsOfSource};
 ghost use Rattle.gfan.specs.Marked.{marked_command};
 
@@ -21,8 +21,8 @@ use std::alloc::Global;
 /// - `Overflow` and `ExponentOverflow` only at a sum of the text, or at an operation of the test whose operands don't fit.
 /// - `ConeOverflow` only at a step of the elimination of the marking's system.
 pub(crate) fn answer(alloc: Global, source: &[u8]) -> Result<Vec<u8>, Refused>
-    ensures ok { IfOk result (λ text. IsAnswered marked_command source.now text.items) }
-    ensures err { IfErr result (λ e. IsCommandRefused marked_command source.now e.refusal) }
+    ensures ok { IfOk result (λ text. IsAnswered marked_command (source.now ∷ []) text.items) }
+    ensures err { IfErr result (λ e. IsRefusedOn marked_command (source.now ∷ []) e.refusal) }
     ensures told { IfErr result (IsOfSource source.now) }
 {
     let read = ring_and_marked(alloc, source)?;

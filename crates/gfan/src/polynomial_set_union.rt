@@ -1,6 +1,6 @@
 // What `_polynomialsetunion` writes for an input.
-ghost use Rattle.std.specs.Prelude.{◌≡◌, IfOk, IfErr};
-ghost use Rattle.gf_items.specs.Commands.{IsAnswered, IsCommandRefused};
+ghost use Rattle.std.specs.Prelude.{◌≡◌, IfOk, IfErr, [], ◌∷◌};
+ghost use Rattle.gf_frame.specs.Commands.{IsAnswered, IsRefusedOn};
 ghost use Rattle.gfan.specs.Refused.{IsOfSource};
 ghost use Rattle.gfan.specs.PolynomialSetUnion.{polynomial_set_union_command};
 
@@ -18,8 +18,8 @@ use std::alloc::Global;
 ///   it, at the first token after which no such text goes on.
 /// - `Overflow` and `ExponentOverflow` only at a sum of the text.
 pub(crate) fn answer(alloc: Global, source: &[u8]) -> Result<Vec<u8>, Refused>
-    ensures ok { IfOk result (λ text. IsAnswered polynomial_set_union_command source.now text.items) }
-    ensures err { IfErr result (λ e. IsCommandRefused polynomial_set_union_command source.now e.refusal) }
+    ensures ok { IfOk result (λ text. IsAnswered polynomial_set_union_command (source.now ∷ []) text.items) }
+    ensures err { IfErr result (λ e. IsRefusedOn polynomial_set_union_command (source.now ∷ []) e.refusal) }
     ensures told { IfErr result (IsOfSource source.now) }
 {
     let read = ring_and_sets(alloc, source)?;

@@ -201,7 +201,7 @@ impl From<Syntax> for Refused {
 }
 
 impl From<TextError> for Refused {
-    ghost use Rattle.gf_items.specs.Commands.{of_text};
+    ghost use Rattle.gf_items.specs.Refusals.{of_text};
     ghost use Rattle.gfan.specs.Refused.{without_names};
 
     ghost from_gives = { λ t e. e ≡ without_names (of_text t) };

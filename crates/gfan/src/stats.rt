@@ -1,6 +1,6 @@
 // What `_stats` writes for an input.
-ghost use Rattle.std.specs.Prelude.{◌≡◌, ◌++◌, IfOk, IfErr, OnOk};
-ghost use Rattle.gf_items.specs.Commands.{IsAnswered, IsCommandRefused};
+ghost use Rattle.std.specs.Prelude.{◌≡◌, ◌++◌, IfOk, IfErr, OnOk, [], ◌∷◌};
+ghost use Rattle.gf_frame.specs.Commands.{IsAnswered, IsRefusedOn};
 ghost use Rattle.gfan.specs.Refused.{IsOfSource};
 ghost use Rattle.gfan.specs.Stats.{count_line, stats_text, stats_command};
 
@@ -75,8 +75,8 @@ fn printed_stats(alloc: Global, stats: &Stats) -> Result<Vec<u8>, AllocError>
 /// - `Overflow` and `ExponentOverflow` only at a sum of the text.
 /// - `ConeOverflow` only at a step of the elimination that gives the dimension of the homogeneity space.
 pub(crate) fn answer(alloc: Global, source: &[u8]) -> Result<Vec<u8>, Refused>
-    ensures ok { IfOk result (λ text. IsAnswered stats_command source.now text.items) }
-    ensures err { IfErr result (λ e. IsCommandRefused stats_command source.now e.refusal) }
+    ensures ok { IfOk result (λ text. IsAnswered stats_command (source.now ∷ []) text.items) }
+    ensures err { IfErr result (λ e. IsRefusedOn stats_command (source.now ∷ []) e.refusal) }
     ensures told { IfErr result (IsOfSource source.now) }
 {
     let read = ring_and_marked_sets(alloc, source)?;

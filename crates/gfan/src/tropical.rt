@@ -1,10 +1,10 @@
 // What `_tropicalhypersurface`, `_tropicalintersection` and `_minkowskisum` write for an input.
-ghost use Rattle.std.specs.Prelude.{◌≡◌, ◌≢◌, ◌⊎◌, ◌<◌, ◌≤◌, ◌^◌, [], All, length, None, IfOk, IfErr, OnOk};
+ghost use Rattle.std.specs.Prelude.{◌≡◌, ◌≢◌, ◌⊎◌, ◌<◌, ◌≤◌, ◌^◌, [], All, length, None, IfOk, IfErr, OnOk, ◌∷◌};
 ghost use Rattle.gf_poly.specs.Polynomial.{HasVariables};
 ghost use Rattle.gf_tropical.specs.Refusals.{IsTropicalRefusal};
 ghost use Rattle.gf_text.specs.declared.TheConstants.{MOST_VARIABLES};
 ghost use Rattle.gf_text.specs.Sets.{AreIn};
-ghost use Rattle.gf_items.specs.Commands.{IsAnswerFor, IsUnanswered, IsAnswered, IsCommandRefused};
+ghost use Rattle.gf_frame.specs.Commands.{IsAnswerFor, IsUnanswered, IsAnswered, IsRefusedOn};
 ghost use Rattle.gfan.specs.Buchberger.{generators_of};
 ghost use Rattle.gfan.specs.Refused.{IsNamedBy, IsOfSource};
 ghost use Rattle.gfan.specs.ToolForms.{HasNoZero, IsZeroRefusal};
@@ -138,8 +138,8 @@ pub(crate) fn answer<R: Threads + Sync>(
     source: &[u8],
     which: TropicalFan,
 ) -> Result<Vec<u8>, Refused>
-    ensures ok { IfOk result (λ text. IsAnswered (tropical_command which) source.now text.items) }
-    ensures err { IfErr result (λ e. IsCommandRefused (tropical_command which) source.now e.refusal) }
+    ensures ok { IfOk result (λ text. IsAnswered (tropical_command which) (source.now ∷ []) text.items) }
+    ensures err { IfErr result (λ e. IsRefusedOn (tropical_command which) (source.now ∷ []) e.refusal) }
     ensures told { IfErr result (IsOfSource source.now) }
 {
     let RingAndSet { ring, set, .. } = ring_and_set(alloc, source, false)?;

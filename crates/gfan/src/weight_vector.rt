@@ -1,10 +1,10 @@
 // What `_weightvector` writes for an input.
-ghost use Rattle.std.specs.Prelude.{◌≡◌, ◌⊎◌, ◌++◌, All, Contains, length, flat_map, zip, true, false, IfOk, IfErr, OnOk};
+ghost use Rattle.std.specs.Prelude.{◌≡◌, ◌⊎◌, ◌++◌, All, Contains, length, flat_map, zip, true, false, IfOk, IfErr, OnOk, [], ◌∷◌};
 ghost use Rattle.std.specs.List.{AllZip};
 ghost use Rattle.gf_poly.specs.Marking.{MarkedPolynomials};
 ghost use Rattle.gf_weights.specs.Weights.{IsPrintedWeight};
 ghost use Rattle.gf_weights.specs.Refusals.{IsWeightCause};
-ghost use Rattle.gf_items.specs.Commands.{IsAnswered, IsCommandRefused};
+ghost use Rattle.gf_frame.specs.Commands.{IsAnswered, IsRefusedOn};
 ghost use Rattle.gfan.specs.Refused.{IsOfSource};
 ghost use Rattle.gfan.specs.WeightVector.{IsWeightOfSet, IsUnweighed, IsWeightsText, weight_item, later_weight_item, weight_items, echoed_ring, enclosed, weight_vector_command};
 
@@ -167,8 +167,8 @@ fn text_of(
 
 // What is written for a source with one set.
 fn of_set(alloc: Global, source: &[u8], echoed: bool) -> Result<Vec<u8>, Refused>
-    ensures ok { IfOk result (λ text. IsAnswered (weight_vector_command false echoed) source.now text.items) }
-    ensures err { IfErr result (λ e. IsCommandRefused (weight_vector_command false echoed) source.now e.refusal) }
+    ensures ok { IfOk result (λ text. IsAnswered (weight_vector_command false echoed) (source.now ∷ []) text.items) }
+    ensures err { IfErr result (λ e. IsRefusedOn (weight_vector_command false echoed) (source.now ∷ []) e.refusal) }
     ensures told { IfErr result (IsOfSource source.now) }
 {
     let read = ring_and_marked(alloc, source)?;
@@ -183,8 +183,8 @@ fn of_set(alloc: Global, source: &[u8], echoed: bool) -> Result<Vec<u8>, Refused
 
 // What is written for a source with a list of sets.
 fn of_list(alloc: Global, source: &[u8], echoed: bool) -> Result<Vec<u8>, Refused>
-    ensures ok { IfOk result (λ text. IsAnswered (weight_vector_command true echoed) source.now text.items) }
-    ensures err { IfErr result (λ e. IsCommandRefused (weight_vector_command true echoed) source.now e.refusal) }
+    ensures ok { IfOk result (λ text. IsAnswered (weight_vector_command true echoed) (source.now ∷ []) text.items) }
+    ensures err { IfErr result (λ e. IsRefusedOn (weight_vector_command true echoed) (source.now ∷ []) e.refusal) }
     ensures told { IfErr result (IsOfSource source.now) }
 {
     let read = ring_and_marked_sets(alloc, source)?;
@@ -220,8 +220,8 @@ pub(crate) fn answer(
     listed: bool,
     echoed: bool,
 ) -> Result<Vec<u8>, Refused>
-    ensures ok { IfOk result (λ text. IsAnswered (weight_vector_command listed echoed) source.now text.items) }
-    ensures err { IfErr result (λ e. IsCommandRefused (weight_vector_command listed echoed) source.now e.refusal) }
+    ensures ok { IfOk result (λ text. IsAnswered (weight_vector_command listed echoed) (source.now ∷ []) text.items) }
+    ensures err { IfErr result (λ e. IsRefusedOn (weight_vector_command listed echoed) (source.now ∷ []) e.refusal) }
     ensures told { IfErr result (IsOfSource source.now) }
 {
     if listed {

@@ -1,7 +1,7 @@
 use Rattle.std.proofs.Common.{ℕ, List, length, refl, subst}
 use Rattle.std.proofs.lemmas.Result.{err_from_is_err_and}
 use Rattle.gf_text.specs.declared.written.Written.{Written}
-use Rattle.gf_items.specs.Commands.{IsUnanswered, IsCommandRefused}
+use Rattle.gf_frame.specs.Commands.{IsUnanswered, IsRefusedOn}
 use Rattle.gfan.specs.Buchberger.{generators_of, buchberger_command}
 use Rattle.gfan.proofs.BuchbergerLaws.{in_ring, named_job, of_ring}
 use Rattle.gfan.proofs.RefusedLaws.{of_source, named_text}
@@ -10,7 +10,7 @@ use Rattle.gfan.proofs.buchberger.answer.Goals as goal
 pub returns-in_err-ring-clause-err : goal.returns-in_err-ring-clause-err
 returns-in_err-ring-clause-err c =
     let p = err_from_is_err_and c.from_residual.result c.from_residual.ensures.1 in
-    rw (p.1, p.2) (IsCommandRefused.in_text c.in_err-ring.field-0.0 c.in_err-ring.ensures.err refl)
+    rw (p.1, p.2) (IsRefusedOn.in_text c.in_err-ring.field-0.0 c.in_err-ring.ensures.err refl)
 
 pub returns-in_err-ring-clause-told : goal.returns-in_err-ring-clause-told
 returns-in_err-ring-clause-told c =
@@ -19,7 +19,7 @@ returns-in_err-ring-clause-told c =
 
 pub returns-in-Err-clause-err : goal.returns-in-Err-clause-err
 returns-in-Err-clause-err c =
-    IsCommandRefused.behind_text (c.in_ok-ring.field-0.ring, (c.in_ok-ring.field-0.set.items, c.in_ok-ring.field-0.vector)) c.in_ok-ring.ensures.ok
+    IsRefusedOn.behind_text (c.in_ok-ring.field-0.ring, (c.in_ok-ring.field-0.set.items, c.in_ok-ring.field-0.vector)) c.in_ok-ring.ensures.ok
     (subst (λ (ws : List Written). IsUnanswered (buchberger_command c.args.options) (c.in_ok-ring.field-0.ring, (ws, c.in_ok-ring.field-0.vector)) c.in-Err.refusal) c.deref.ensures.value c.in-Err.ensures.err)
 
 pub returns-in-Err-clause-told : goal.returns-in-Err-clause-told

@@ -1,7 +1,7 @@
 use Rattle.std.proofs.Common.{ℕ, List, length, sym, subst, ◌∙◌}
 use Rattle.gf_buchberger.specs.Jobs.{HaveRingVariables}
 use Rattle.gf_front.specs.declared.refusal.Refusal.{Refusal}
-use Rattle.gf_items.specs.Commands.{IsUnanswered}
+use Rattle.gf_frame.specs.Commands.{IsUnanswered}
 use Rattle.gfan.specs.Buchberger.{generators_of, buchberger_command}
 use Rattle.gfan.proofs.BuchbergerLaws.{in_ring, entries_by, suited_by, basis_refused}
 use Rattle.gfan.proofs.buchberger.job.Goals as goal

@@ -5,7 +5,7 @@ use Rattle.gf_front.specs.declared.refusal.Refusal.TheVariants as refusals
 use Rattle.gf_items.specs.Kinds.{a_marked_set, a_set}
 use Rattle.gf_items.specs.Items.{IsTextOf}
 use Rattle.gf_items.specs.Sources.{ring_marked_set_and_set}
-use Rattle.gf_items.specs.Commands.{IsCommandRefused}
+use Rattle.gf_frame.specs.Commands.{IsRefusedOn}
 use Rattle.gfan.specs.CheckedSets.{of_check}
 use Rattle.gfan.proofs.CheckedSetLaws.{of_this_ring}
 use Rattle.gfan.proofs.ContainmentLaws.{containment_refused, named_containment, containment_answered}
@@ -15,7 +15,7 @@ use Rattle.gfan.proofs.containment.answer.Goals as goal
 pub returns-in_err-read-clause-err : goal.returns-in_err-read-clause-err
 returns-in_err-read-clause-err c =
     let p = err_from_is_err_and c.from_residual.result c.from_residual.ensures.1 in
-    rw (p.1, p.2) (IsCommandRefused.in_text c.in_err-read.field-0.0 c.in_err-read.ensures.err refl)
+    rw (p.1, p.2) (IsRefusedOn.in_text c.in_err-read.field-0.0 c.in_err-read.ensures.err refl)
 
 pub returns-in_err-read-clause-told : goal.returns-in_err-read-clause-told
 returns-in_err-read-clause-told c =

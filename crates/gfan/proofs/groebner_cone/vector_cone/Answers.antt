@@ -2,7 +2,7 @@ use Rattle.std.proofs.Common.{refl, sym, subst, List, ℤ, ◌∙◌}
 use Rattle.std.proofs.lemmas.Result.{err_from_is_err_and, IfOk-weaker, IfErr-weaker}
 use Rattle.gf_gordan.specs.Alternative.{AreRows}
 use Rattle.gf_items.specs.Checks.{FirstFails}
-use Rattle.gf_items.specs.Commands.{IsUnanswered}
+use Rattle.gf_frame.specs.Commands.{IsUnanswered}
 use Rattle.gfan.specs.ToolForms.{for_each}
 use Rattle.gfan.proofs.GroebnerConeLaws.{space_unanswered, inequality_unanswered, equation_unanswered, vectors_unanswered, vectors_answered, restricted_width}
 use Rattle.gfan.proofs.groebner_cone.vector_cone.Goals as goal

@@ -2,7 +2,7 @@ use Rattle.std.proofs.Common.{List, ℕ, length, refl, sym, subst}
 use Rattle.std.proofs.lemmas.Result.{err_from_is_err_and}
 use Rattle.gf_text.specs.declared.written.Written.{Written}
 use Rattle.gf_text.specs.Sets.{AreIn}
-use Rattle.gf_items.specs.Commands.{IsCommandRefused}
+use Rattle.gf_frame.specs.Commands.{IsRefusedOn}
 use Rattle.gfan.specs.HomogeneitySpace.{nonzero_of}
 use Rattle.gfan.proofs.RefusedLaws.{of_source, named_text}
 use Rattle.gfan.proofs.HomogeneitySpaceLaws.{space_answered, space_unanswered, no_space_named}
@@ -11,7 +11,7 @@ use Rattle.gfan.proofs.homogeneity_space.answer.Goals as goal
 pub returns-in_err-read-clause-err : goal.returns-in_err-read-clause-err
 returns-in_err-read-clause-err c =
     let p = err_from_is_err_and c.from_residual.result c.from_residual.ensures.1 in
-    rw (p.1, p.2) (IsCommandRefused.in_text c.in_err-read.field-0.0 c.in_err-read.ensures.err refl)
+    rw (p.1, p.2) (IsRefusedOn.in_text c.in_err-read.field-0.0 c.in_err-read.ensures.err refl)
 
 pub returns-in_err-read-clause-told : goal.returns-in_err-read-clause-told
 returns-in_err-read-clause-told c =

@@ -3,7 +3,7 @@ use Rattle.std.proofs.lemmas.List.Elements.{All-map}
 use Rattle.std.proofs.lemmas.Result.{err_from_is_err_and}
 use Rattle.gf_poly.specs.Marking.{MarkedPolynomials}
 use Rattle.gf_small.specs.LeadingTerms.{leading_set}
-use Rattle.gf_items.specs.Commands.{IsCommandRefused}
+use Rattle.gf_frame.specs.Commands.{IsRefusedOn}
 use Rattle.gfan.proofs.leading_terms.of_list.Goals as goal
 
 pub printed_list-requires : goal.printed_list-requires
@@ -15,4 +15,4 @@ printed_list-requires c =
 pub returns-in_err-read-clause-err : goal.returns-in_err-read-clause-err
 returns-in_err-read-clause-err c =
     let p = err_from_is_err_and c.from_residual.result c.from_residual.ensures.1 in
-    rw (p.1, p.2) (IsCommandRefused.in_text c.in_err-read.field-0.0 c.in_err-read.ensures.err refl)
+    rw (p.1, p.2) (IsRefusedOn.in_text c.in_err-read.field-0.0 c.in_err-read.ensures.err refl)

@@ -2,7 +2,7 @@ use Rattle.std.proofs.Common.{[], refl}
 use Rattle.std.proofs.lemmas.Result.{err_from_is_err_and}
 use Rattle.gf_front.specs.declared.refusal.Refusal.TheVariants as refusals
 use Rattle.gf_items.specs.Kinds.{a_marked_set}
-use Rattle.gf_items.specs.Commands.{IsCommandRefused}
+use Rattle.gf_frame.specs.Commands.{IsRefusedOn}
 use Rattle.gfan.specs.CheckedSets.{of_check}
 use Rattle.gfan.proofs.CheckedSetLaws.{of_this_ring, named_test, check_refused, marked_answered}
 use Rattle.gfan.proofs.RefusedLaws.{of_source, named_text}
@@ -11,7 +11,7 @@ use Rattle.gfan.proofs.marked.answer.Goals as goal
 pub returns-in_err-read-clause-err : goal.returns-in_err-read-clause-err
 returns-in_err-read-clause-err c =
     let p = err_from_is_err_and c.from_residual.result c.from_residual.ensures.1 in
-    rw (p.1, p.2) (IsCommandRefused.in_text c.in_err-read.field-0.0 c.in_err-read.ensures.err refl)
+    rw (p.1, p.2) (IsRefusedOn.in_text c.in_err-read.field-0.0 c.in_err-read.ensures.err refl)
 
 pub returns-in_err-read-clause-told : goal.returns-in_err-read-clause-told
 returns-in_err-read-clause-told c =

@@ -2,7 +2,7 @@ use Rattle.std.proofs.Common.{ℕ, List, length, refl, sym, subst}
 use Rattle.std.proofs.lemmas.Result.{err_from_is_err_and}
 use Rattle.gf_poly.specs.Marking.{MarkedPolynomials}
 use Rattle.gf_small.specs.Statistics.{AreSetsIn, AreStatistics, IsStatisticsCause}
-use Rattle.gf_items.specs.Commands.{IsCommandRefused}
+use Rattle.gf_frame.specs.Commands.{IsRefusedOn}
 use Rattle.gfan.proofs.RefusedLaws.{of_source, named_text}
 use Rattle.gfan.proofs.ToolLaws.{stats_unanswered, stats_answered, named_gordan}
 use Rattle.gfan.proofs.stats.answer.Goals as goal
@@ -10,7 +10,7 @@ use Rattle.gfan.proofs.stats.answer.Goals as goal
 pub returns-in_err-read-clause-err : goal.returns-in_err-read-clause-err
 returns-in_err-read-clause-err c =
     let p = err_from_is_err_and c.from_residual.result c.from_residual.ensures.1 in
-    rw (p.1, p.2) (IsCommandRefused.in_text c.in_err-read.field-0.0 c.in_err-read.ensures.err refl)
+    rw (p.1, p.2) (IsRefusedOn.in_text c.in_err-read.field-0.0 c.in_err-read.ensures.err refl)
 
 pub returns-in_err-read-clause-told : goal.returns-in_err-read-clause-told
 returns-in_err-read-clause-told c =
@@ -24,7 +24,7 @@ stats-requires c =
 pub returns-in_err-stats-clause-err : goal.returns-in_err-stats-clause-err
 returns-in_err-stats-clause-err c =
     let p = err_from_is_err_and c.from_residual-in_err-stats.result c.from_residual-in_err-stats.ensures.1 in
-    rw (p.1, p.2) (IsCommandRefused.behind_text (c.in_ok-read.read.ring, c.in_ok-read.read.sets.items) c.in_ok-read.ensures.ok
+    rw (p.1, p.2) (IsRefusedOn.behind_text (c.in_ok-read.read.ring, c.in_ok-read.read.sets.items) c.in_ok-read.ensures.ok
     (stats_unanswered c.len.result c.in_ok-read.read.ring c.in_ok-read.read.sets.items c.in_err-stats.field-0.0 c.len.ensures.value
     (subst (λ (ss : List MarkedPolynomials). IsStatisticsCause c.len.result ss c.in_err-stats.field-0.0) c.deref.ensures.value c.in_err-stats.ensures.err)))
 

@@ -2,7 +2,7 @@ use Rattle.std.proofs.Common.{[], List, ℕ, All, length, ◌≡◌, refl, sym, 
 use Rattle.std.proofs.lemmas.Result.{err_from_is_err_and}
 use Rattle.gf_poly.specs.Marking.{MarkedPolynomials}
 use Rattle.gf_items.specs.Kinds.{marked_set_list}
-use Rattle.gf_items.specs.Commands.{IsCommandRefused}
+use Rattle.gf_frame.specs.Commands.{IsRefusedOn}
 use Rattle.gfan.proofs.RefusedLaws.{of_source, named_text}
 use Rattle.gfan.proofs.CheckedSetLaws.{of_this_ring}
 use Rattle.gfan.proofs.ToPolyhedralFanLaws.{fan_answered, no_fan_refused, no_fan_named}
@@ -11,7 +11,7 @@ use Rattle.gfan.proofs.to_polyhedral_fan.answer.Goals as goal
 pub returns-in_err-ring-clause-err : goal.returns-in_err-ring-clause-err
 returns-in_err-ring-clause-err c =
     let p = err_from_is_err_and c.from_residual.result c.from_residual.ensures.1 in
-    rw (p.1, p.2) (IsCommandRefused.in_text c.in_err-ring.field-0.0 c.in_err-ring.ensures.err refl)
+    rw (p.1, p.2) (IsRefusedOn.in_text c.in_err-ring.field-0.0 c.in_err-ring.ensures.err refl)
 
 pub returns-in_err-ring-clause-told : goal.returns-in_err-ring-clause-told
 returns-in_err-ring-clause-told c =

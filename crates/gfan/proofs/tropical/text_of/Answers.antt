@@ -1,5 +1,5 @@
 use Rattle.std.proofs.Common.{None, arith, sym, subst}
-use Rattle.gf_items.specs.Commands.{IsUnanswered}
+use Rattle.gf_frame.specs.Commands.{IsUnanswered}
 use Rattle.gfan.specs.Tropical.{tropical_command}
 use Rattle.gfan.proofs.TropicalLaws.{fan_unanswered}
 use Rattle.gfan.proofs.tropical.text_of.Goals as goal

@@ -2,7 +2,7 @@ use Rattle.std.proofs.Common.{[], List, refl, subst}
 use Rattle.std.proofs.lemmas.Result.{err_from_is_err_and}
 use Rattle.gf_poly.specs.Marking.{MarkedPolynomials}
 use Rattle.gf_items.specs.Kinds.{a_marked_set}
-use Rattle.gf_items.specs.Commands.{IsCommandRefused}
+use Rattle.gf_frame.specs.Commands.{IsRefusedOn}
 use Rattle.gfan.specs.WeightVector.{IsUnweighed}
 use Rattle.gfan.proofs.CheckedSetLaws.{of_this_ring}
 use Rattle.gfan.proofs.WeightVectorLaws.{one_unweighed, named_one}
@@ -11,7 +11,7 @@ use Rattle.gfan.proofs.weight_vector.of_set.Goals as goal
 pub returns-in_err-read-clause-err : goal.returns-in_err-read-clause-err
 returns-in_err-read-clause-err c =
     let p = err_from_is_err_and c.from_residual.result c.from_residual.ensures.1 in
-    rw (p.1, p.2) (IsCommandRefused.in_text c.in_err-read.field-0.0 c.in_err-read.ensures.err refl)
+    rw (p.1, p.2) (IsRefusedOn.in_text c.in_err-read.field-0.0 c.in_err-read.ensures.err refl)
 
 pub returns-in-Err-clause-err : goal.returns-in-Err-clause-err
 returns-in-Err-clause-err c =

@@ -1,7 +1,7 @@
 use Rattle.std.proofs.Common.{refl}
 use Rattle.std.proofs.lemmas.Result.{err_from_is_err_and}
 use Rattle.gfan.specs.CommonRefinement.{IsRefinementRefused}
-use Rattle.gfan.proofs.common_refinement.refinement_text.Goals as goal
+use Rattle.gfan.proofs.common_refinement.answer.Goals as goal
 
 pub returns-in_err-first-clause-err : goal.returns-in_err-first-clause-err
 returns-in_err-first-clause-err g c =

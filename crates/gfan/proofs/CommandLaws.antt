@@ -1,0 +1,126 @@
+-- The command of each job is lawful.
+-- To cite: lawful, one_source.
+use Rattle.std.specs.Prelude.{◌≡◌, ◌⊎◌, ℕ, Bool, true, false, List, [], ◌∷◌, length}
+use Rattle.std.proofs.Common.{refl, subst}
+use Rattle.gf_front.specs.declared.command_line.Job.{Job}
+use Rattle.gf_front.specs.declared.command_line.Job.TheVariants as jobs
+use Rattle.gf_front.specs.declared.plain.PlainCommand.{PlainCommand}
+use Rattle.gf_front.specs.declared.plain.PlainCommand.TheVariants as plains
+use Rattle.gf_front.specs.declared.options.FanCommonRefinementOptions.{FanCommonRefinementOptions}
+use Rattle.gf_items.specs.Refusals.{IsOfTest}
+use Rattle.gf_frame.specs.Loading.{Origin}
+use Rattle.gf_frame.specs.Commands.{Command}
+use Rattle.gf_frame.proofs.CommandLaws.{IsLawful}
+use Rattle.gf_frame.proofs.SoundLaws.{untested, sound_lawful}
+use Rattle.gfan.specs.Buchberger.{generators_of, buchberger_command}
+use Rattle.gfan.specs.Bases.{bases_command}
+use Rattle.gfan.specs.GivenBasis.{given_bases_command}
+use Rattle.gfan.specs.Marked.{marked_command}
+use Rattle.gfan.specs.Containment.{containment_command}
+use Rattle.gfan.specs.LeadingTerms.{leading_terms_command}
+use Rattle.gfan.specs.MarkPolynomialSet.{mark_polynomial_set_command}
+use Rattle.gfan.specs.InitialForms.{initial_forms_command}
+use Rattle.gfan.specs.Homogenize.{homogenize_command}
+use Rattle.gfan.specs.PolynomialSetUnion.{polynomial_set_union_command}
+use Rattle.gfan.specs.Stats.{stats_command}
+use Rattle.gfan.specs.WeightVector.{weight_vector_command}
+use Rattle.gfan.specs.GroebnerCone.{groebner_cone_command}
+use Rattle.gfan.specs.ToPolyhedralFan.{to_polyhedral_fan_command}
+use Rattle.gfan.specs.HomogeneitySpace.{nonzero_of, homogeneity_space_command}
+use Rattle.gfan.specs.declared.tropical.TropicalFan.{TropicalFan}
+use Rattle.gfan.specs.declared.tropical.TropicalFan.TheVariants as fans
+use Rattle.gfan.specs.Tropical.{tropical_command}
+use Rattle.gfan.specs.CommonRefinement.{refinement_command}
+use Rattle.gfan.specs.declared.bases.ListOptions.{ListOptions}
+use Rattle.gfan.specs.declared.told_cone.ConeOptions.{ConeOptions}
+use Rattle.gfan.specs.Commands.{options, list_options, cone_options, plain_command, list_command, command_of}
+use Rattle.gfan.proofs.CheckedSetLaws.{check_not_listed, test_cause_untested}
+use Rattle.gfan.proofs.WeightVectorLaws.{weight_vector_exact, weight_vector_tested, unweighed_not_listed}
+use Rattle.gfan.proofs.GroebnerConeLaws.{cone_exact, cone_tested, cone_not_listed}
+use Rattle.gfan.proofs.ToPolyhedralFanLaws.{to_polyhedral_fan_exact, to_polyhedral_fan_tested, no_fan_not_listed}
+use Rattle.gfan.proofs.HomogeneitySpaceLaws.{homogeneity_space_exact, homogeneity_space_tested, no_space_not_listed}
+use Rattle.gfan.proofs.TropicalLaws.{tropical_exact, tropical_tested}
+use Rattle.gfan.proofs.ToolLaws.{mark_polynomial_set_exact, initial_forms_exact, homogenize_exact, polynomial_set_union_exact, stats_exact, homogenize_not_listed, gordan_not_listed, homogenize_untested, gordan_untested}
+use Rattle.gfan.proofs.ExactLaws.{buchberger_exact, marked_exact, containment_exact, leading_exact, bases_exact, given_exact, basis_not_listed, basis_untested, list_untested, memory_untested, containment_tested, given_tested}
+use Rattle.gfan.proofs.CommonRefinementLaws.{refinement_lawful}
+
+tropical_lawful : (which : TropicalFan) → IsLawful (tropical_command which)
+tropical_lawful which = sound_lawful (tropical_command which) (tropical_exact which) (tropical_tested which) (λ h. h) (λ t. t) (λ a m w. gordan_not_listed w.0 m w.1)
+
+plain_lawful : (k : PlainCommand) → IsLawful (plain_command k)
+plain_lawful plains.IsMarkedGroebnerBasis = sound_lawful marked_command marked_exact (untested marked_command (λ v r t h. test_cause_untested v.1 r t h)) (λ h. h) (λ t. t) (λ a m w. check_not_listed w.0 m w.1)
+plain_lawful plains.DoesIdealContain = sound_lawful containment_command containment_exact containment_tested (λ h. h) (λ t. t) (λ a m w. check_not_listed w.0 m w.1)
+plain_lawful plains.MarkPolynomialSet =
+    sound_lawful mark_polynomial_set_command mark_polynomial_set_exact (untested mark_polynomial_set_command (λ v r t h. memory_untested r t h)) (λ h. h) (λ t. t) (λ a m w. cc)
+plain_lawful plains.InitialForms = sound_lawful initial_forms_command initial_forms_exact (untested initial_forms_command (λ v r t h. memory_untested r t h)) (λ h. h) (λ t. t) (λ a m w. cc)
+plain_lawful plains.Homogenize =
+    sound_lawful homogenize_command homogenize_exact (untested homogenize_command (λ v r t h. homogenize_untested v.1.0 r t h)) (λ h. h) (λ t. t) (λ a m w. homogenize_not_listed a.1.0 m w)
+plain_lawful plains.PolynomialSetUnion =
+    sound_lawful polynomial_set_union_command polynomial_set_union_exact (untested polynomial_set_union_command (λ v r t h. memory_untested r t h)) (λ h. h) (λ t. t) (λ a m w. cc)
+plain_lawful plains.Stats = sound_lawful stats_command stats_exact (untested stats_command (λ v r t h. gordan_untested h.0 (subst IsOfTest h.1 t))) (λ h. h) (λ t. t) (λ a m w. gordan_not_listed w.0 m w.1)
+plain_lawful plains.HomogeneitySpace =
+    sound_lawful homogeneity_space_command homogeneity_space_exact homogeneity_space_tested (λ h. h) (λ t. t) (λ a m w. no_space_not_listed (length a.0) (nonzero_of a.1.0) m w)
+plain_lawful plains.TropicalHypersurface = tropical_lawful fans.Hypersurface
+plain_lawful plains.TropicalIntersection = tropical_lawful fans.Intersection
+plain_lawful plains.MinkowskiSum = tropical_lawful fans.MinkowskiSum
+
+list_lawful : (from_basis : Bool) (o : ListOptions) → IsLawful (list_command from_basis o)
+list_lawful false o = sound_lawful (bases_command o) (bases_exact o) (untested (bases_command o) (λ v r t h. list_untested o (length v.0) (generators_of v.1.0) r t h)) (λ h. h) (λ t. t) (λ a m w. tt)
+list_lawful true o = sound_lawful (given_bases_command o) (given_exact o) (given_tested o) (λ h. h) (λ t. t) (λ a m w. tt)
+
+leading_lawful : (listed : Bool) → IsLawful (leading_terms_command listed)
+leading_lawful false = sound_lawful (leading_terms_command false) (leading_exact false) (untested (leading_terms_command false) (λ v r t h. memory_untested r t h)) (λ h. h) (λ t. t) (λ a m w. cc)
+leading_lawful true = sound_lawful (leading_terms_command true) (leading_exact true) (untested (leading_terms_command true) (λ v r t h. memory_untested r t h)) (λ h. h) (λ t. t) (λ a m w. cc)
+
+weight_lawful : (listed echoed : Bool) → IsLawful (weight_vector_command listed echoed)
+weight_lawful false echoed = sound_lawful (weight_vector_command false echoed) (weight_vector_exact false echoed) (weight_vector_tested false echoed) (λ h. h) (λ t. t) (λ a m w. unweighed_not_listed (a.1 ∷ []) m w)
+weight_lawful true echoed = sound_lawful (weight_vector_command true echoed) (weight_vector_exact true echoed) (weight_vector_tested true echoed) (λ h. h) (λ t. t) (λ a m w. unweighed_not_listed a.1 m w)
+
+cone_lawful : (vector_input : Bool) (o : ConeOptions) → IsLawful (groebner_cone_command vector_input o)
+cone_lawful false o = sound_lawful (groebner_cone_command false o) (cone_exact false o) (cone_tested false o) (λ h. h) (λ t. t) (λ a m w. cone_not_listed false o a m w)
+cone_lawful true o = sound_lawful (groebner_cone_command true o) (cone_exact true o) (cone_tested true o) (λ h. h) (λ t. t) (λ a m w. cone_not_listed true o a m w)
+
+pub lawful : (job : Job) → IsLawful (command_of job)
+lawful (jobs.Plain k) = plain_lawful k
+lawful (jobs.Buchberger o) =
+    let c = buchberger_command (options o) in
+    sound_lawful c (buchberger_exact (options o)) (untested c (λ v r t h. basis_untested h.0 (subst IsOfTest h.1 t))) (λ h. h) (λ t. t) (λ a m w. basis_not_listed w.0 m w.1)
+lawful (jobs.Bases o) = list_lawful o.from_basis (list_options o)
+lawful (jobs.LeadingTerms o) = leading_lawful o.listed
+lawful (jobs.WeightVector o) = weight_lawful o.listed o.echoed
+lawful (jobs.GroebnerCone o) = cone_lawful o.vector_input (cone_options o)
+lawful (jobs.ToPolyhedralFan o) =
+    sound_lawful (to_polyhedral_fan_command o.restrict) (to_polyhedral_fan_exact o.restrict) (to_polyhedral_fan_tested o.restrict) (λ h. h) (λ t. t) (λ a m w. no_fan_not_listed o.restrict (length a.0) a.1 m w)
+lawful (jobs.FanCommonRefinement o) = refinement_lawful o.first o.second
+
+-- ---- what a job reads
+
+plain_source : (k : PlainCommand) → (plain_command k).reads ≡ Origin.the_input ∷ []
+plain_source plains.Stats = refl
+plain_source _ = refl
+
+list_source : (from_basis : Bool) (o : ListOptions) → (list_command from_basis o).reads ≡ Origin.the_input ∷ []
+list_source false o = refl
+list_source true o = refl
+
+leading_source : (listed : Bool) → (leading_terms_command listed).reads ≡ Origin.the_input ∷ []
+leading_source false = refl
+leading_source true = refl
+
+weight_source : (listed echoed : Bool) → (weight_vector_command listed echoed).reads ≡ Origin.the_input ∷ []
+weight_source false echoed = refl
+weight_source true echoed = refl
+
+cone_source : (vector_input : Bool) (o : ConeOptions) → (groebner_cone_command vector_input o).reads ≡ Origin.the_input ∷ []
+cone_source false o = refl
+cone_source true o = refl
+
+-- a job that isn't one on files reads the input alone
+pub one_source : (job : Job) → ((o : FanCommonRefinementOptions) → job ≡ jobs.FanCommonRefinement o → ⊥) → (command_of job).reads ≡ Origin.the_input ∷ []
+one_source (jobs.FanCommonRefinement o) n = absurd (n o refl)
+one_source (jobs.Plain k) n = plain_source k
+one_source (jobs.Bases o) n = list_source o.from_basis (list_options o)
+one_source (jobs.LeadingTerms o) n = leading_source o.listed
+one_source (jobs.WeightVector o) n = weight_source o.listed o.echoed
+one_source (jobs.GroebnerCone o) n = cone_source o.vector_input (cone_options o)
+one_source _ n = refl
