@@ -31,4 +31,5 @@ pub mod OneTextLaws  -- what `_bases` writes for a source is one text
 pub mod LimitLaws  -- where the list goes on past its limit
 pub mod ServedLaws  -- what the answer of `_bases` has
 pub mod PerformedLaws  -- what a command does with its texts
+pub mod SourceLaws  -- what a job is handed, from the texts of its sources
 pub mod RunLaws  -- the ring in whose names a refusal of a run is told, and the limit of a list

@@ -1,5 +1,5 @@
-use Rattle.std.specs.Prelude.{map, string_bytes}
-use Rattle.std.proofs.Common.{ap, Err, sym, subst, refl}
+use Rattle.std.specs.Prelude.{map, string_bytes, length}
+use Rattle.std.proofs.Common.{ap, Err, sym, subst, refl, ◌∙◌}
 use Rattle.std.proofs.lemmas.Result.{err_from_is_err_and}
 use Rattle.gf_frame.specs.Seen.{seen, output_seen}
 use Rattle.gf_frame.specs.Loading.{AreLoaded}
@@ -10,6 +10,7 @@ use Rattle.gfan.specs.Commands.{command_of}
 use Rattle.gfan.proofs.CommandLaws.{lawful}
 use Rattle.gfan.proofs.RefusedLaws.{named_words, of_no_source}
 use Rattle.gfan.proofs.PerformedLaws.{on_ok, on_err}
+use Rattle.gfan.proofs.SourceLaws.{texts_length}
 use Rattle.gfan.proofs.RunLaws.{unloaded_named, told_loaded}
 use Rattle.gfan.proofs.run.outcome.Goals as goal
 
@@ -46,7 +47,9 @@ returns-in_err-texts-clause-files_untouched g c = λ none. c.texts_for.ensures.f
 -- it is
 
 pub perform-requires-clause-all : goal.perform-requires-clause-all
-perform-requires-clause-all g c = loaded_length (command_of c.in_ok-job.job).reads (seen (g.S.Source.left c.args.input.now) (g.S.Source.given c.args.input.now) (g.S.Source.faults c.args.input.now) (g.F.Files.bytes c.args.files.now) (g.F.Files.left c.args.files.now) (g.F.Files.given c.args.files.now) (g.F.Files.unopened c.args.files.now) (g.F.Files.faults c.args.files.now)) (seen (g.S.Source.left c.texts_for.new.input) (g.S.Source.given c.texts_for.new.input) (g.S.Source.faults c.texts_for.new.input) (g.F.Files.bytes c.texts_for.new.files) (g.F.Files.left c.texts_for.new.files) (g.F.Files.given c.texts_for.new.files) (g.F.Files.unopened c.texts_for.new.files) (g.F.Files.faults c.texts_for.new.files)) (texts_of c.in_ok-texts.texts.items) c.in_ok-texts.ensures.loaded
+perform-requires-clause-all g c κs within =
+    let l = loaded_length (command_of c.in_ok-job.job).reads (seen (g.S.Source.left c.args.input.now) (g.S.Source.given c.args.input.now) (g.S.Source.faults c.args.input.now) (g.F.Files.bytes c.args.files.now) (g.F.Files.left c.args.files.now) (g.F.Files.given c.args.files.now) (g.F.Files.unopened c.args.files.now) (g.F.Files.faults c.args.files.now)) (seen (g.S.Source.left c.texts_for.new.input) (g.S.Source.given c.texts_for.new.input) (g.S.Source.faults c.texts_for.new.input) (g.F.Files.bytes c.texts_for.new.files) (g.F.Files.left c.texts_for.new.files) (g.F.Files.given c.texts_for.new.files) (g.F.Files.unopened c.texts_for.new.files) (g.F.Files.faults c.texts_for.new.files)) (texts_of c.in_ok-texts.texts.items) c.in_ok-texts.ensures.loaded in
+    ap length c.deref.ensures.value ∙ sym (texts_length c.in_ok-texts.texts.items) ∙ l
 
 pub returns-clause-done : goal.returns-clause-done
 returns-clause-done g c =

@@ -1,0 +1,118 @@
+-- What a job is handed, from the texts of its sources as the code lists them.
+-- To cite: one_alone, two_alone, texts_length, list_as, two_as, one_as, writes_once, not_asked. The rest are steps.
+use Rattle.std.specs.Prelude.{◌≡◌, ◌⊎◌, ℕ, Bool, true, false, List, [], ◌∷◌, length, get_or, Vec}
+use Rattle.std.specs.Global.{Global}
+use Rattle.std.proofs.Common.{arith, refl, sym, ap, ◌∙◌, subst, inl, inr}
+use Rattle.gf_front.specs.declared.command_line.Job.{Job}
+use Rattle.gf_front.specs.declared.command_line.Job.TheVariants as jobs
+use Rattle.gf_front.specs.declared.plain.PlainCommand.{PlainCommand}
+use Rattle.gf_front.specs.declared.plain.PlainCommand.TheVariants as plains
+use Rattle.gf_front.specs.declared.options.BasesOptions.{BasesOptions}
+use Rattle.gf_front.specs.declared.options.FanCommonRefinementOptions.{FanCommonRefinementOptions}
+use Rattle.gf_frame.specs.Loading.{Origin}
+use Rattle.gf_frame.specs.Origins.{texts_of}
+use Rattle.gf_frame.specs.Commands.{Command, WritesOnce}
+use Rattle.gfan.specs.declared.bases.ListOptions.{ListOptions}
+use Rattle.gfan.specs.declared.told_cone.ConeOptions.{ConeOptions}
+use Rattle.gfan.specs.LeadingTerms.{leading_terms_command}
+use Rattle.gfan.specs.WeightVector.{weight_vector_command}
+use Rattle.gfan.specs.GroebnerCone.{groebner_cone_command}
+use Rattle.gfan.specs.CommonRefinement.{refinement_command}
+use Rattle.gfan.specs.Commands.{list_options, cone_options, plain_command, list_command, command_of}
+use Rattle.gfan.proofs.CommandLaws.{one_source}
+
+-- ---- texts as the code lists them
+
+pub one_alone : (ts : List (Vec ℕ Global)) (x : Vec ℕ Global) (a : List ℕ) → length ts ≡ 1 → x ≡ get_or ts 0 x → a ≡ x.items → a ∷ [] ≡ texts_of ts
+one_alone [] x a e i p = absurd (omega (arith, e))
+one_alone (t ∷ []) x a e i p = ap (λ (z : List ℕ). z ∷ []) (p ∙ ap (λ (v : Vec ℕ Global). v.items) i)
+one_alone (t ∷ (u ∷ us)) x a e i p = absurd (omega (arith, e))
+
+pub texts_length : (ts : List (Vec ℕ Global)) → length (texts_of ts) ≡ length ts
+texts_length [] = refl
+texts_length (t ∷ ts) = let e = texts_length ts in omega (arith, e)
+
+pub two_alone : (ts : List (Vec ℕ Global)) (x y : Vec ℕ Global) (a b : List ℕ) → length ts ≡ 2 → x ≡ get_or ts 0 x → y ≡ get_or ts 1 y → a ≡ x.items → b ≡ y.items → a ∷ (b ∷ []) ≡ texts_of ts
+two_alone [] x y a b e i j p q = absurd (omega (arith, e))
+two_alone (t ∷ []) x y a b e i j p q = absurd (omega (arith, e))
+two_alone (t ∷ (u ∷ [])) x y a b e i j p q =
+    ap (λ (z : List ℕ). z ∷ (b ∷ [])) (p ∙ ap (λ (v : Vec ℕ Global). v.items) i)
+    ∙ ap (λ (z : List ℕ). t.items ∷ (z ∷ [])) (q ∙ ap (λ (v : Vec ℕ Global). v.items) j)
+two_alone (t ∷ (u ∷ (v ∷ vs))) x y a b e i j p q = absurd (omega (arith, e))
+
+-- ---- the texts of a job
+
+-- a job on the input alone has one
+pub one_as : (P : List (List ℕ) → Type 0) (job : Job) (ts : List (Vec ℕ Global)) (x : Vec ℕ Global) (a : List ℕ)
+    → ((o : FanCommonRefinementOptions) → job ≡ jobs.FanCommonRefinement o → ⊥) → length ts ≡ length (command_of job).reads → x ≡ get_or ts 0 x → a ≡ x.items
+    → P (a ∷ []) → P (texts_of ts)
+one_as P job ts x a n l i p h = subst P (one_alone ts x a (l ∙ ap length (one_source job n)) i p) h
+
+-- the list has one
+list_not_files : (job : Job) (o : BasesOptions) (r : FanCommonRefinementOptions) → job ≡ jobs.Bases o → job ≡ jobs.FanCommonRefinement r → ⊥
+list_not_files job o r e k = (let s : jobs.Bases o ≡ jobs.FanCommonRefinement r = sym e ∙ k in cc)
+
+pub list_as : (P : Command → List (List ℕ) → Type 0) (job : Job) (o : BasesOptions) (from_basis : Bool) (ts : List (Vec ℕ Global)) (x : Vec ℕ Global) (a : List ℕ)
+    → job ≡ jobs.Bases o → o.from_basis ≡ from_basis → length ts ≡ length (command_of job).reads → x ≡ get_or ts 0 x → a ≡ x.items
+    → P (list_command from_basis (list_options o)) (a ∷ []) → P (command_of job) (texts_of ts)
+list_as P job o from_basis ts x a e f l i p h =
+    one_as (P (command_of job)) job ts x a (λ r k. list_not_files job o r e k) l i p
+    (subst (λ j. P (command_of j) (a ∷ [])) (sym e) (subst (λ b. P (list_command b (list_options o)) (a ∷ [])) (sym f) h))
+
+-- a job on two files has two
+pub two_as : (P : Command → List (List ℕ) → Type 0) (job : Job) (o : FanCommonRefinementOptions) (ts : List (Vec ℕ Global)) (x y : Vec ℕ Global) (a b : List ℕ)
+    → job ≡ jobs.FanCommonRefinement o → length ts ≡ length (command_of job).reads → x ≡ get_or ts 0 x → y ≡ get_or ts 1 y → a ≡ x.items → b ≡ y.items
+    → P (refinement_command o.first o.second) (a ∷ (b ∷ [])) → P (command_of job) (texts_of ts)
+two_as P job o ts x y a b e l i j p q h =
+    subst (P (command_of job)) (two_alone ts x y a b (subst (λ k. length ts ≡ length (command_of k).reads) e l) i j p q)
+    (subst (λ k. P (command_of k) (a ∷ (b ∷ []))) (sym e) h)
+
+-- ---- which jobs write once
+
+plain_once : (k : PlainCommand) → WritesOnce (plain_command k).writing
+plain_once plains.IsMarkedGroebnerBasis = tt
+plain_once plains.DoesIdealContain = tt
+plain_once plains.MarkPolynomialSet = tt
+plain_once plains.InitialForms = tt
+plain_once plains.Homogenize = tt
+plain_once plains.PolynomialSetUnion = tt
+plain_once plains.Stats = tt
+plain_once plains.HomogeneitySpace = tt
+plain_once plains.TropicalHypersurface = tt
+plain_once plains.TropicalIntersection = tt
+plain_once plains.MinkowskiSum = tt
+
+leading_once : (listed : Bool) → WritesOnce (leading_terms_command listed).writing
+leading_once false = tt
+leading_once true = tt
+
+weight_once : (listed echoed : Bool) → WritesOnce (weight_vector_command listed echoed).writing
+weight_once false echoed = tt
+weight_once true echoed = tt
+
+cone_once : (vector_input : Bool) (o : ConeOptions) → WritesOnce (groebner_cone_command vector_input o).writing
+cone_once false o = tt
+cone_once true o = tt
+
+-- all but the list do
+pub writes_once : (job : Job) → ((o : BasesOptions) → job ≡ jobs.Bases o → ⊥) → WritesOnce (command_of job).writing
+writes_once (jobs.Plain k) n = plain_once k
+writes_once (jobs.Buchberger o) n = tt
+writes_once (jobs.Bases o) n = absurd (n o refl)
+writes_once (jobs.LeadingTerms o) n = leading_once o.listed
+writes_once (jobs.WeightVector o) n = weight_once o.listed o.echoed
+writes_once (jobs.GroebnerCone o) n = cone_once o.vector_input (cone_options o)
+writes_once (jobs.ToPolyhedralFan o) n = tt
+writes_once (jobs.FanCommonRefinement o) n = tt
+
+list_not_once : (from_basis : Bool) (o : ListOptions) → WritesOnce (list_command from_basis o).writing → ⊥
+list_not_once false o w = w
+list_not_once true o w = w
+
+-- a job on the input that writes once isn't the list, nor one on files
+pub not_asked : (job : Job) → WritesOnce (command_of job).writing → ((o : FanCommonRefinementOptions) → job ≡ jobs.FanCommonRefinement o → ⊥)
+    → ((o : BasesOptions) × (job ≡ jobs.Bases o)) ⊎ ((o : FanCommonRefinementOptions) × (job ≡ jobs.FanCommonRefinement o)) → ⊥
+not_asked job once n h = elim h [
+  | inl k ↦ list_not_once k.0.from_basis (list_options k.0) (subst (λ j. WritesOnce (command_of j).writing) k.1 once)
+  | inr k ↦ n k.0 k.1
+]

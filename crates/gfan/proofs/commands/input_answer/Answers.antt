@@ -1,0 +1,17 @@
+use Rattle.std.proofs.Common.{[], ◌∷◌, IfErr, sym, subst}
+use Rattle.gf_front.specs.declared.command_line.Job.{Job}
+use Rattle.gf_frame.specs.Commands.{IsRefusedOn}
+use Rattle.gfan.specs.Commands.{command_of}
+use Rattle.gfan.proofs.SourceLaws.{not_asked}
+use Rattle.gfan.proofs.commands.input_answer.Goals as goal
+
+pub unreachable-requires : goal.unreachable-requires
+unreachable-requires g c = absurd (not_asked c.args.job.now c.requires.once c.requires.input c.in-Bases.is)
+
+pub returns-in-Buchberger-clause-err : goal.returns-in-Buchberger-clause-err
+returns-in-Buchberger-clause-err g c =
+    subst (λ (j : Job). IfErr c.answer.result (λ e. IsRefusedOn (command_of j) (c.args.source.now ∷ []) e.refusal)) (sym c.in-Buchberger.is) c.answer.ensures.err
+
+pub returns-in-ToPolyhedralFan-clause-err : goal.returns-in-ToPolyhedralFan-clause-err
+returns-in-ToPolyhedralFan-clause-err g c =
+    subst (λ (j : Job). IfErr c.answer-in-ToPolyhedralFan.result (λ e. IsRefusedOn (command_of j) (c.args.source.now ∷ []) e.refusal)) (sym c.in-ToPolyhedralFan.is) c.answer-in-ToPolyhedralFan.ensures.err
