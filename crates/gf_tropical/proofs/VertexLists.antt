@@ -1,6 +1,7 @@
 -- Lists of the cones of vertices, one step further.
 use Rattle.std.proofs.Common.{◌≡◌, ℕ, ◌+◌, ◌<◌, ◌≤◌, List, [], ◌∷◌, ◌++◌, length, ℤ, Bool, true, false, arith, refl, sym, ap, ◌∙◌, subst, Contains, inl, inr, get_or, ◌≢◌, AllPairs, IsTrue, length-append}
 use Rattle.std.proofs.lemmas.List.{get_or_append_left}
+use Rattle.std.proofs.lemmas.List.Elements.{Contains-push}
 use Rattle.std.proofs.lemmas.Bool.{true≢false}
 use Rattle.gf_gordan.specs.Alternative.{AreRows, IsFarkas, GordansAlternative}
 use Rattle.gf_gordan.specs.Answers.{IsAlternative}
@@ -12,7 +13,7 @@ use Rattle.gf_patterns.specs.Laws.{VerticesSuffice}
 use Rattle.gf_patterns.proofs.PatternFanLaws.{single_wide}
 use Rattle.gf_patterns.proofs.PointLaws.{points_wide, length-points}
 use Rattle.gf_duality.specs.Faces.{Rows}
-use Rattle.gf_duality.proofs.ListLaws.{all_by, none_in, last_in, first_in, snoc_cases, place, less, at, more}
+use Rattle.gf_duality.proofs.ListLaws.{all_by, none_in, first_in, snoc_cases, place, less, at, more}
 use Rattle.gf_patterns.specs.PatternRows.{point_at, single_rows, pair_rows}
 use Rattle.gf_patterns.specs.Vertices.{IsVertex, AreVertexCones, AreVertexPairCones}
 use Rattle.gf_tropical.specs.VertexLists.{AreVertexFlags, HaveVertexFlags, VerticesSoFar, VertexPairsSoFar}
@@ -25,7 +26,7 @@ vertices_more n A i cones c l e s = record {
   each = λ d k. elim (snoc_cases cones c d k) [ inl x ↦ s.each d x | inr q ↦ (i, (l, q ∙ e)) ];
   every = λ k h v. elim (place i k) [
     | less g ↦ first_in cones c (single_rows A k) (s.every k g v)
-    | at g ↦ subst (λ z. Contains (cones ++ c ∷ []) (single_rows A z)) g (subst (Contains (cones ++ c ∷ [])) e (last_in cones c))
+    | at g ↦ subst (λ z. Contains (cones ++ c ∷ []) (single_rows A z)) g (subst (Contains (cones ++ c ∷ [])) e (Contains-push cones c))
     | more g ↦ absurd (omega (arith, g, h))
   ];
 }
@@ -56,7 +57,7 @@ vertex_pairs_more n A i j cones c l m e s = record {
     | inl h ↦ first_in cones c (pair_rows A a b) (s.every a b la mb (inl h) v u)
     | inr h ↦ elim (place j b) [
       | less g ↦ first_in cones c (pair_rows A a b) (s.every a b la mb (inr (h.0, g)) v u)
-      | at g ↦ subst (λ z. Contains (cones ++ c ∷ []) (pair_rows A a z)) g (subst (λ z. Contains (cones ++ c ∷ []) (pair_rows A z j)) (sym h.0) (subst (Contains (cones ++ c ∷ [])) e (last_in cones c)))
+      | at g ↦ subst (λ z. Contains (cones ++ c ∷ []) (pair_rows A a z)) g (subst (λ z. Contains (cones ++ c ∷ []) (pair_rows A z j)) (sym h.0) (subst (Contains (cones ++ c ∷ [])) e (Contains-push cones c)))
       | more g ↦ let k = h.1 in absurd (omega (arith, g, k))
     ]
   ];
