@@ -1,6 +1,5 @@
 -- `_buchberger`: the form of what it reads, what it writes, and why it doesn't.
-use Rattle.std.specs.Prelude.{◌≡◌, ◌≢◌, ℕ, Bool, true, false, List, [], ◌∷◌, ◌++◌, length, map, All, Option, None, Some, ℤ, pos, ◌≤ℤ◌}
-use Rattle.gf_exponents.specs.Exponents.{Exponents}
+use Rattle.std.specs.Prelude.{◌≡◌, ◌≢◌, ℕ, Bool, true, false, List, [], ◌∷◌, length, map, All, Option, None, Some, ℤ, pos, ◌≤ℤ◌}
 use Rattle.gf_exponents.specs.Orders.{gains}
 use Rattle.gf_exponents.specs.SixOrders.{MonomialOrder}
 use Rattle.gf_order.specs.Weights.{IsFirstBelow}
