@@ -5,7 +5,7 @@
 use Rattle.std.specs.Prelude.{◌≡◌, ◌⊎◌, ℕ, zero, suc, ◌≤◌, true, false, List, [], ◌∷◌, ◌++◌, length, Contains}
 use Rattle.std.proofs.Common.{arith, refl, sym, ap, ◌∙◌, subst, inl, inr}
 use Rattle.std.proofs.lemmas.Bool.{cases_lt}
-use Rattle.gf_frac.specs.Fraction.{◌+ℚ◌, ◌*ℚ◌, neg_ℚ, zero_ℚ, one_ℚ}
+use Rattle.gf_frac.specs.Fraction.{◌+ℚ◌, ◌*ℚ◌, neg_ℚ, one_ℚ}
 use Rattle.gf_frac.proofs.FractionLaws.{+ℚ_assoc, +ℚ-zero, zero-+ℚ, zero-*ℚ, zero_or_not}
 use Rattle.gf_exponents.specs.Exponents.{Exponents, same, plus, weight, NoMultiple}
 use Rattle.gf_exponents.specs.Orders.{lighter}
@@ -15,7 +15,7 @@ use Rattle.gf_poly.specs.Marking.{MarkedPolynomial, Each}
 use Rattle.gf_poly.proofs.PolynomialLaws.{coefficient-++, coefficient-factor, times-plain}
 use Rattle.gf_poly.proofs.MergeLaws.{swap_first}
 use Rattle.gf_ideal.specs.Marks.{AreMarked, Piece, level, value}
-use Rattle.gf_ideal.specs.Reduction.{IsDivisible, IsIrreducible, IsStep}
+use Rattle.gf_ideal.specs.Reduction.{IsIrreducible, IsStep}
 use Rattle.gf_ideal.specs.NormalForms.{IsRuleReached}
 use Rattle.gf_ideal.specs.Settled.{IsAt}
 use Rattle.gf_ideal.proofs.Identities.{joined, crossed_over, neg_one}

@@ -25,7 +25,7 @@ use Rattle.gf_ideal.specs.Settled.{IsAt}
 use Rattle.gf_ideal.proofs.ListLaws.{Contains-cases, Each-weaker, collect, contained_each}
 use Rattle.gf_ideal.proofs.ListedTerms.{listed, by_terms}
 use Rattle.gf_ideal.proofs.RingLaws.{ring-along, ring-left, ring-plus}
-use Rattle.gf_ideal.proofs.LeadingLaws.{IsTop, top_greatest}
+use Rattle.gf_ideal.proofs.LeadingLaws.{top_greatest}
 use Rattle.gf_ideal.proofs.DivisionLaws.{NoMark, divisible_or_not, undivided}
 use Rattle.gf_ideal.proofs.MeasureLaws.{work_left-at}
 use Rattle.gf_ideal.proofs.StepLaws.{IsClosed, IsWithin, taken, reached-one}

@@ -12,7 +12,7 @@ use Rattle.gf_poly.specs.declared.error.PolyError.TheVariants as errors
 use Rattle.gf_poly.specs.Polynomial.{Terms, coefficient, times, HasVariables}
 use Rattle.gf_poly.specs.Products.{HasProducts}
 use Rattle.gf_poly.specs.Marking.{MarkedPolynomial, Each, HaveVariables, HasMarkedTerm, IsMonicOf, IsMonicCause}
-use Rattle.gf_poly.proofs.CoefficientLaws.{descending_unique}
+use Rattle.gf_poly.proofs.CoefficientLaws.{descending_unique, term_coefficient, term_nonzero}
 use Rattle.gf_poly.proofs.PolynomialLaws.{coefficient-times}
 use Rattle.gf_poly.proofs.ProductLaws.{IsDescending-scaled, KeepsVariables-scaled, IsScaled-products}
 use Rattle.gf_exponents.specs.Orders.{lighter}
@@ -25,7 +25,6 @@ use Rattle.gf_ideal.proofs.GeneratorLaws.{monic-from}
 use Rattle.gf_ideal.proofs.ListLaws.{Contains-cases, Contains-here, Contains-there}
 use Rattle.gf_ideal.proofs.MarkWeights.{monic_realised}
 use Rattle.gf_division.specs.MonicForms.{HasSomeVariables}
-use Rattle.gf_division.proofs.StepLaws.{term_coefficient, term_nonzero}
 use Rattle.gf_division.proofs.ReducerLaws.{member_at, member_contained, member_variables}
 use Rattle.gf_reduced.specs.Forms.{monic_of, IsFormRefusal}
 

@@ -6,8 +6,8 @@ use Rattle.std.proofs.lemmas.List.{take_all}
 use Rattle.gf_frac.specs.Fraction.{Fraction}
 use Rattle.gf_poly.specs.Polynomial.{HasVariables}
 use Rattle.gf_poly.specs.Marking.{MarkedPolynomial, Each, HaveVariables, HasMarkedTerm, HasMark}
+use Rattle.gf_poly.proofs.CoefficientLaws.{term_coefficient, term_length}
 use Rattle.gf_division.specs.MonicForms.{HasSomeVariables}
-use Rattle.gf_division.proofs.StepLaws.{term_coefficient, term_length}
 use Rattle.gf_small.specs.LeadingTerms.{leading_of}
 
 -- the marked term with the coefficient that the mark has

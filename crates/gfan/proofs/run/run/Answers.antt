@@ -1,5 +1,4 @@
-use Rattle.std.specs.Prelude.{map, string_bytes}
-use Rattle.std.proofs.Common.{sym, subst}
+use Rattle.std.proofs.Common.{subst}
 use Rattle.gf_front.specs.declared.refusal.Status.TheVariants as statuses
 use Rattle.gf_frame.specs.Programs.{IsRunRefused}
 use Rattle.gf_frame.proofs.ProgramLaws.{same_refusal, run_clauses}
