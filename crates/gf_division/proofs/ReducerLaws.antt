@@ -22,6 +22,7 @@ use Rattle.gf_ideal.specs.Settled.{IsAt}
 use Rattle.gf_ideal.proofs.ListLaws.{Each-++, contained_each}
 use Rattle.gf_division.specs.Dividends.{Split, joined_terms, IsTermInFront, PassesOne}
 use Rattle.gf_division.specs.Reducers.{IsDivisorAt, IsBeside, IsSpareIn, AreIrreducible, ShareVariables}
+use Rattle.gf_division.specs.MonicForms.{HasSomeVariables}
 use Rattle.gf_division.proofs.DividendLaws.{terms_down, first_length}
 use Rattle.gf_division.proofs.StepLaws.{head_length}
 
@@ -43,6 +44,10 @@ member_contained bs j b h = (j, h.within, h.is)
 
 pub member_variables : (n : ℕ) (bs : List MarkedPolynomial) (b : MarkedPolynomial) → HaveVariables n bs → Contains bs b → HasVariables n b.poly
 member_variables n bs b v c = contained_each (λ (b : MarkedPolynomial). HasVariables n b.poly) bs v b c
+
+-- it has some, as one of a list that is read
+pub some_variables : (n : ℕ) (bs items : List MarkedPolynomial) (i : ℕ) (b : MarkedPolynomial) → items ≡ bs → HaveVariables n bs → i < length items → b ≡ get_or items i b → HasSomeVariables b
+some_variables n bs items i b e v l q = record { n = n; each = member_variables n items b (subst (HaveVariables n) (sym e) v) (member_contained items i b (record { within = l; is = sym q })) }
 
 pub member_length : (n j : ℕ) (bs : List MarkedPolynomial) (b : MarkedPolynomial) → HaveVariables n bs → IsAt bs j b → HasMarkedTerm b → length b.head ≡ n
 member_length n j bs b v h m = head_length n b (member_variables n bs b v (member_contained bs j b h)) m

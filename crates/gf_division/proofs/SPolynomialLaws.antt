@@ -24,7 +24,7 @@ use Rattle.gf_poly.proofs.CoefficientLaws.{term_coefficient}
 use Rattle.gf_ideal.specs.Reduction.{IsSPolynomial}
 use Rattle.gf_ideal.specs.Operands.{IsShiftOperation, IsSPolynomialExponents}
 use Rattle.gf_ideal.proofs.KeptForms.{term_there}
-use Rattle.gf_division.specs.SPolynomials.{ArePairOf, SharePairVariables, KeepsPairVariables, IsMonicPairRefusal, AreLcmCofactors, IsRaised, IsRaisingRefusal}
+use Rattle.gf_division.specs.SPolynomials.{ArePairOf, SharePairVariables, KeepsPairVariables, IsMonicPairRefusal, AreLcmCofactors, IsRaised, IsRaisingRefusal, IsSPolynomialOf}
 use Rattle.gf_division.specs.Dividends.{Split, joined_terms, IsSound, AreOverProducts, Subtracts, IsSubtractionRefusal}
 use Rattle.gf_division.proofs.StepLaws.{head_length}
 
@@ -181,3 +181,7 @@ variables_of_monic f g b c (Err e) kb kc h = tt
 
 pub pair_along : (f g b c : MarkedPolynomial) → KeepsVariables f.poly b.poly → KeepsVariables g.poly c.poly → SharePairVariables f g → SharePairVariables b c
 pair_along f g b c kb kc p = record { n = p.n; are = record { left = kb.at p.n p.are.left; right = kc.at p.n p.are.right } }
+
+-- of monic polynomials it is their S-polynomial as they are
+pub s_polynomial_of_monic : (b c : MarkedPolynomial) (s : Terms) → coefficient b.poly b.head ≡ one_ℚ → coefficient c.poly c.head ≡ one_ℚ → IsSPolynomialOf b c s → IsSPolynomial b c s
+s_polynomial_of_monic b c s p q h = subst (λ (d : MarkedPolynomial). IsSPolynomial d c s) (h.monic.left.kept p) (subst (λ (d : MarkedPolynomial). IsSPolynomial h.left d s) (h.monic.right.kept q) h.value)

@@ -7,7 +7,7 @@ use Rattle.std.specs.declared.cmp.Ordering.TheVariants.{Less, Equal, Greater}
 use Rattle.std.proofs.Common.{refl, sym, ap, ◌∙◌, subst, inl, inr, get_or, take, drop, append_assoc}
 use Rattle.std.proofs.lemmas.List.{reverse-append, take_more, drop_more, map_push, take-append-drop}
 use Rattle.gf_frac.specs.Fraction.{Fraction, ◌+ℚ◌, ◌-ℚ◌, ◌*ℚ◌, neg_ℚ, zero_ℚ}
-use Rattle.gf_frac.proofs.FractionLaws.{+ℚ_assoc, +ℚ_comm, +ℚ-zero, zero-+ℚ, *ℚ-zero, neg_ℚ-*ℚ, zero_of_*ℚ, +ℚ-neg_ℚ}
+use Rattle.gf_frac.proofs.FractionLaws.{+ℚ_assoc, +ℚ_comm, +ℚ-zero, zero-+ℚ, *ℚ-zero, neg_ℚ-*ℚ, +ℚ-neg_ℚ}
 use Rattle.gf_exponents.specs.Exponents.{Exponents, plus, same}
 use Rattle.gf_exponents.specs.Orders.{deglex}
 use Rattle.gf_poly.specs.declared.Term.{Term}
@@ -22,7 +22,7 @@ use Rattle.gf_poly.proofs.DescendingLaws.{less_greater, equal_same, greater_tran
 use Rattle.gf_poly.proofs.CoefficientLaws.{apart_above}
 use Rattle.gf_poly.proofs.MonomialLaws.{length-plus}
 use Rattle.gf_poly.proofs.PolynomialLaws.{coefficient-++, coefficient-times}
-use Rattle.gf_poly.proofs.ProductLaws.{deglex-plus}
+use Rattle.gf_poly.proofs.ProductLaws.{deglex-plus, nonzero_product}
 use Rattle.gf_poly.proofs.CollectLaws.{chosen_sum}
 use Rattle.gf_ideal.proofs.ListLaws.{Each-++, Each-weaker}
 use Rattle.gf_division.specs.Dividends.{Split, joined_terms, IsSound, AreOver, AreFrom, AreOverProducts, FirstIs, Descends, TakesFromFirst, IsFirstRefusal, TakesAway, IsDifferenceRefusal, IsScalingOverflow, IsSubtractionRefusal}
@@ -243,9 +243,6 @@ from-later u t (s ∷ g) f l v a w = (Each-weaker (λ (r : Term). (r.mono ≡ pl
     over : (r : Term) → (r.mono ≡ plus u t.mono) ⊎ (deglex r.mono (plus u t.mono) ≡ Greater) → deglex r.mono (plus u s.mono) ≡ Greater
     over r (inl e) = ap (λ (z : Exponents). deglex z (plus u s.mono)) e ∙ down
     over r (inr o) = greater_trans r.mono (plus u t.mono) (plus u s.mono) o down
-
-nonzero_product : (c d : Fraction) → c ≢ zero_ℚ → d ≢ zero_ℚ → c *ℚ d ≢ zero_ℚ
-nonzero_product c d h k z = elim (zero_of_*ℚ c d z) [ inl e ↦ h e | inr e ↦ k e ]
 
 -- the term of the multiple
 pub product_nonzero : (c p : Fraction) (g : Terms) (i : ℕ) (t : Term) → i < length g → t ≡ get_or g i t → IsDescending g → c ≢ zero_ℚ → p ≡ c *ℚ t.coef → p ≢ zero_ℚ

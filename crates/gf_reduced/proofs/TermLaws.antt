@@ -3,13 +3,14 @@
 -- head_variables, term_variables, term_lengths, NoneBefore.
 use Rattle.std.specs.Prelude.{◌≡◌, ◌≢◌, ◌⊎◌, ℕ, ◌+◌, ◌<◌, ◌≤◌, Bool, true, false, if◌then◌else◌, List, [], ◌∷◌, ◌++◌, length, take, drop}
 use Rattle.std.proofs.Common.{refl, sym, ap, ◌∙◌, subst, inl, inr, get_or}
-use Rattle.std.proofs.lemmas.List.{take_more, take_all, take-append-drop, drop_more}
+use Rattle.std.proofs.lemmas.List.{take_all, take-append-drop, drop_more}
 use Rattle.gf_exponents.specs.Exponents.{Exponents, same, Divides}
 use Rattle.gf_exponents.proofs.ExponentsLaws.{same-refl}
 use Rattle.gf_poly.specs.declared.Term.{Term}
 use Rattle.gf_poly.specs.Polynomial.{Terms, HasVariables}
 use Rattle.gf_poly.specs.Marking.{MarkedPolynomial, HaveVariables, HasMarkedTerm}
 use Rattle.gf_poly.proofs.CoefficientLaws.{term_length}
+use Rattle.gf_poly.proofs.InitialFormLaws.{take-next}
 use Rattle.gf_ideal.specs.Settled.{IsAt}
 use Rattle.gf_ideal.proofs.ListLaws.{Each-++}
 use Rattle.gf_division.proofs.ReducerLaws.{members_equal, member_contained, member_variables, member_length}
@@ -81,20 +82,17 @@ searched_none bs i b x f e n = record { head = λ o. n (head_divided bs i b x e 
     none [] = tt
     none (t ∷ f) = tt
 
-next_term : (f : Terms) (k : ℕ) (t : Term) → k < length f → t ≡ get_or f k t → take (k + 1) f ≡ take k f ++ t ∷ []
-next_term f k t l e = take_more f k t l ∙ ap (λ z. take k f ++ z ∷ []) (sym e)
-
 searched_more : (bs : List MarkedPolynomial) (i : ℕ) (b : MarkedPolynomial) (f : Terms) (k : ℕ) (t : Term) → k < length f → t ≡ get_or f k t → same t.mono b.head ≡ false → (IsDividedAt bs i t.mono false → ⊥) → Searched bs i b f k → Searched bs i b f (k + 1)
 searched_more bs i b f k t l e s n h = record {
   head = h.head;
-  terms = subst (NoneOffends bs i b) (sym (ap (all_but b.head) (next_term f k t l e) ∙ all_but-++ b.head (take k f) (t ∷ []) ∙ ap (λ z. all_but b.head (take k f) ++ z) (other_term b.head t [] s)))
+  terms = subst (NoneOffends bs i b) (sym (ap (all_but b.head) (take-next f k t l e) ∙ all_but-++ b.head (take k f) (t ∷ []) ∙ ap (λ z. all_but b.head (take k f) ++ z) (other_term b.head t [] s)))
       (Each-++ (λ (x : Exponents). IsOffending bs i b x → ⊥) (all_but b.head (take k f)) (t.mono ∷ []) h.terms (λ o. n (term_divided bs i b t.mono o), tt));
 }
 
 searched_skipped : (bs : List MarkedPolynomial) (i : ℕ) (b : MarkedPolynomial) (f : Terms) (k : ℕ) (t : Term) → k < length f → t ≡ get_or f k t → same t.mono b.head ≡ true → Searched bs i b f k → Searched bs i b f (k + 1)
 searched_skipped bs i b f k t l e s h = record {
   head = h.head;
-  terms = subst (NoneOffends bs i b) (sym (ap (all_but b.head) (next_term f k t l e) ∙ all_but-++ b.head (take k f) (t ∷ []) ∙ ap (λ z. all_but b.head (take k f) ++ z) (marked_term b.head t [] s) ∙ append_nil (all_but b.head (take k f)))) h.terms;
+  terms = subst (NoneOffends bs i b) (sym (ap (all_but b.head) (take-next f k t l e) ∙ all_but-++ b.head (take k f) (t ∷ []) ∙ ap (λ z. all_but b.head (take k f) ++ z) (marked_term b.head t [] s) ∙ append_nil (all_but b.head (take k f)))) h.terms;
 }
   where
     append_nil : (xs : List Exponents) → xs ++ [] ≡ xs

@@ -24,8 +24,8 @@ fn system(alloc: Global, marked: &MarkedSet) -> Result<Vec<IntVec>, AllocError>
     with_units(alloc, all, marked.variables() as usize)
 }
 
-// A positive weight that gives the marking, or multipliers which show that there is none.
-//
+/// A positive weight that gives the marking, or multipliers which show that there is none.
+///
 /// `Cone` only at a step of the elimination of the marking's system: its rows, then the unit vectors.
 fn weight_or_none(alloc: Global, marked: &MarkedSet) -> Result<Answer, GordanError>
     ensures ok { IfOk result (IsWeightAnswer marked.now.variables marked.now.items) }

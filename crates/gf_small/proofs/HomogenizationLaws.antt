@@ -30,6 +30,7 @@ use Rattle.gf_small.specs.Homogenization.{new_exponent, filled, filled_term, Exp
 use Rattle.gf_small.specs.declared.homogenization.SmallError.{SmallError}
 use Rattle.gf_small.specs.declared.homogenization.SmallError.TheVariants as errors
 use Rattle.gf_poly.proofs.MarkingLaws.{mark_at}
+use Rattle.gf_poly.proofs.InitialFormLaws.{take-next}
 use Rattle.gf_small.proofs.WrittenLaws.{AreIn-push}
 
 -- ---- degrees
@@ -68,13 +69,10 @@ pub record FilledSoFar (d : ℕ) (f out : Terms) (i : ℕ) : Type 0 where
   pub items : out ≡ map (filled_term d) (take i f)
   pub fits : ExponentsFit d (take i f)
 
-next_at : (f : Terms) (i : ℕ) (t : Term) → i < length f → t ≡ get_or f i t → take (i + 1) f ≡ take i f ++ t ∷ []
-next_at f i t l e = take_more f i t l ∙ ap (λ (z : Term). take i f ++ z ∷ []) (sym e)
-
 pub filled-more : (d : ℕ) (f out next : Terms) (i : ℕ) (t s : Term) → i < length f → t ≡ get_or f i t → s ≡ filled_term d t → new_exponent d t.mono < 2 ^ 31 → next ≡ out ++ s ∷ [] → FilledSoFar d f out i → FilledSoFar d f next (i + 1)
 filled-more d f out next i t s l e q h n k = record {
-  items = n ∙ ap (λ (z : Term). out ++ z ∷ []) q ∙ ap (λ (z : Terms). z ++ filled_term d t ∷ []) k.items ∙ sym (map-append (filled_term d) (take i f) (t ∷ [])) ∙ ap (map (filled_term d)) (sym (next_at f i t l e));
-  fits = subst (ExponentsFit d) (sym (next_at f i t l e)) (All-push (λ (z : Term). new_exponent d z.mono < 2 ^ 31) (take i f) t k.fits h);
+  items = n ∙ ap (λ (z : Term). out ++ z ∷ []) q ∙ ap (λ (z : Terms). z ++ filled_term d t ∷ []) k.items ∙ sym (map-append (filled_term d) (take i f) (t ∷ [])) ∙ ap (map (filled_term d)) (sym (take-next f i t l e));
+  fits = subst (ExponentsFit d) (sym (take-next f i t l e)) (All-push (λ (z : Term). new_exponent d z.mono < 2 ^ 31) (take i f) t k.fits h);
 }
 
 split_terms : (f : Terms) (i : ℕ) (t : Term) → i < length f → t ≡ get_or f i t → f ≡ take i f ++ t ∷ drop (i + 1) f
