@@ -1,12 +1,14 @@
 -- What is above a basis, and the root of the tree.
--- To cite: moved_node, same_width, top_exactly, told_root, roots_told, root_for.
-use Rattle.std.proofs.Common.{◌≡◌, ◌↔◌, ℕ, List, ℤ, pos, Result, Ok, Err, IfOk, refl, sym, ◌∙◌, subst}
+-- To cite: moved_node, same_width, top_exactly, told_root, roots_told, parent_across, top_here, root_for.
+use Rattle.std.proofs.Common.{◌≡◌, ◌↔◌, ℕ, List, ℤ, pos, Result, Ok, Err, IfOk, Some, None, refl, sym, ◌∙◌, subst}
 use Rattle.std.proofs.lemmas.List.{length-replicate}
 use Rattle.gf_poly.specs.Marking.{MarkedPolynomials, polys}
 use Rattle.gf_walk.specs.Path.{IsRoot}
 use Rattle.gf_walk.specs.Whole.{IsRootOf}
+use Rattle.gf_facets.specs.Rows.{negated}
 use Rattle.gf_facets.specs.Regions.{Region, all_positive}
-use Rattle.gf_reverse.specs.Upward.{IsNode, IsNodeIn, IsParent, LeadsUp}
+use Rattle.gf_reverse.specs.Upward.{IsNode, IsNodeIn, IsParent, LeadsUp, IsWayUp}
+use Rattle.gf_reverse.specs.Answers.{IsAcross, IsWayAnswer}
 use Rattle.gf_reverse.proofs.LawsHold.{root_has_no_way_up, bases_make_a_tree}
 use Rattle.gf_reverse.proofs.ListLaws.{root_above, root_own}
 use Rattle.gf_tree.specs.declared.above.Parent.{Parent}
@@ -39,7 +41,15 @@ pub roots_told : (v : MarkedPolynomials) (r : Result Parent TreeError) → IsNod
 roots_told v (Ok p) h a = told_root v p h a
 roots_told v (Err e) h a = a
 
+-- the neighbour across the way up is the parent
+pub parent_across : (k : Region) (v u : MarkedPolynomials) (a : List ℤ) → IsNode k v → IsWayUp v.variables k v.items a → IsAcross k v a (Some u) → IsParent k v (negated a) u
+parent_across k v u a h w x = record { fan = h.fan; child = refl; parent = x.0; normal = a; way = w; adjacent = x.1; label = refl }
+
 -- ---- the root
+
+-- where nothing leads up there is no parent
+pub top_here : (k : Region) (u : MarkedPolynomials) → IsWayAnswer k u None → IsRoot (IsParent k) u
+top_here k u none c w p = none p.normal p.way.leads
 
 pub root_for : (m : ℕ) (v u : MarkedPolynomials) → m ≡ v.variables → IsNodeIn (ideal_of v) v → IsRootOf (IsParent (all_positive m)) v u → IsRootFor v u
 root_for m v u e h r = at (subst (λ (j : ℕ). IsRootOf (IsParent (all_positive j)) v u) e r)

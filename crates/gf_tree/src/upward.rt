@@ -1,13 +1,14 @@
 //! The way up from a basis, and the root above it.
 ghost use Rattle.std.specs.Prelude.{◌≡◌, ◌↔◌, IfOk, IfErr};
+ghost use Rattle.gf_facets.specs.Regions.{all_positive};
 ghost use Rattle.gf_reverse.specs.Upward.{IsNodeIn};
 ghost use Rattle.gf_tree.specs.Parents.{ideal_of, IsParentTold, IsRootFor, IsDegreeBasis};
-ghost use Rattle.gf_tree.specs.Refusals.{IsTreeRefusal, IsTreeWithinLimits};
+ghost use Rattle.gf_tree.specs.Refusals.{IsTreeRefusal, IsWayRefused, IsTreeWithinLimits};
 ghost use Rattle.gf_tree.specs.declared.error.TreeError.TheVariants.{Memory};
 ghost use Rattle.gf_tree.specs.declared.above.Parent.TheVariants.{Root};
 
 use crate::node::cone_of;
-use crate::steps::{crossed, way_in};
+use crate::steps::{arrived, crossed, way_in, way_up};
 use crate::{BasisTree, Node, Parent, TreeError};
 use gf_poly::MarkedSet;
 use std::alloc::Global;
@@ -36,11 +37,13 @@ fn ascended(tree: &BasisTree, set: MarkedSet) -> Result<MarkedSet, TreeError>
     requires same { tree.now.variables ≡ set.variables }
     requires basis { IsNodeIn (ideal_of set) set }
     ensures value { IfOk result (IsRootFor set) }
-    ensures cause { IfErr result (IsTreeRefusal (ideal_of set) tree.now.pairs) }
+    ensures way { IfErr result (IsWayRefused (all_positive set.variables) tree.now.pairs set) }
 {
-    let node = Node::of(tree.alloc, set);
-    let root = gf_walk::to_root(tree.alloc, tree, node)?;
-    Ok(root.into_basis())
+    let mut node = Node::of(tree.alloc, set);
+    'up: while let Some(facet) = way_up(tree, &node)? {
+        node = arrived(tree, &node, &facet)?;
+    }
+    Ok(node.into_basis())
 }
 
 /// What is above a basis in the tree of all marked reduced Gröbner bases of its ideal.
@@ -76,11 +79,12 @@ pub fn parent(alloc: Global, set: &MarkedSet, pairs: u64) -> Result<Parent, Tree
 ///
 /// # Errors
 ///
-/// As for `parent`.
-#[tactic(auto, using(crate::proofs::RefusalLaws::only_memory))]
+/// As for `parent`, of a call at the set or at a basis above it alone.
+#[tactic(auto, using(crate::proofs::RefusalLaws::only_memory, crate::proofs::RefusalLaws::way_only))]
 pub fn to_root(alloc: Global, set: MarkedSet, pairs: u64) -> Result<MarkedSet, TreeError>
     requires { IsNodeIn (ideal_of set) set }
     ensures value { IfOk result (IsRootFor set) }
+    ensures way { IfErr result (IsWayRefused (all_positive set.variables) pairs set) }
     ensures cause { IfErr result (IsTreeRefusal (ideal_of set) pairs) }
     ensures complete { IsTreeWithinLimits (ideal_of set) pairs → IfErr result (λ e. e ≡ Memory) }
 {
