@@ -20,6 +20,7 @@ pub struct Guide {
     weight: Vec<i64>,
     by_revlex: bool,
     is_known: bool,
+    patience: u64,
 }
 
 impl Guide {
@@ -29,6 +30,7 @@ impl Guide {
             weight,
             by_revlex,
             is_known: true,
+            patience: PATIENCE,
         }
     }
 
@@ -38,16 +40,28 @@ impl Guide {
             weight: Vec::new(alloc),
             by_revlex: false,
             is_known: false,
+            patience: PATIENCE,
+        }
+    }
+
+    /// The same, but from the first step on.
+    pub fn at_once(alloc: Global) -> Guide {
+        Guide {
+            weight: Vec::new(alloc),
+            by_revlex: false,
+            is_known: false,
+            patience: 0,
         }
     }
 
     // Whether this is the order by which the rule goes.
     fn is_by_degree(&self) -> bool {
-        if self.weight.is_empty() || self.by_revlex {
+        if self.weight.is_empty() || self.by_revlex || self.weight[0] < 1 {
             return false;
         }
+        let first = self.weight[0];
         'entries: for w in &self.weight {
-            if *w != 1 {
+            if *w != first {
                 return false;
             }
         }
@@ -59,7 +73,7 @@ impl Guide {
         if self.is_by_degree() {
             return u64::MAX;
         }
-        PATIENCE
+        self.patience
     }
 
     /// Looks for a weight of these marks, unless an order is known.
