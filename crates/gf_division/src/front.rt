@@ -12,6 +12,9 @@ use std::collections::BinaryHeap;
 /// How many steps by the rule come first where the order of the marks is another one: short reductions need no other.
 const PATIENCE: u64 = 64;
 
+/// How many rounds a weight of the marks is looked for at most.
+const ROUNDS: u64 = 20_000;
+
 /// An order in which marks are greatest: a weight, and of one weight lex or revlex.
 ///
 /// A weight of no entries, or of fewer than there are variables, counts zeros for the rest.
@@ -44,12 +47,12 @@ impl Guide {
         }
     }
 
-    /// The same, but from the first step on.
-    pub fn at_once(alloc: Global) -> Guide {
+    /// The order by this weight and then lex, from the first step on.
+    pub fn at_once(weight: Vec<i64>) -> Guide {
         Guide {
-            weight: Vec::new(alloc),
+            weight,
             by_revlex: false,
-            is_known: false,
+            is_known: true,
             patience: 0,
         }
     }
@@ -82,7 +85,7 @@ impl Guide {
             return;
         }
         self.is_known = true;
-        if let Some(weight) = weight_of(alloc, by) {
+        if let Some((weight, _)) = weight_of(alloc, by, ROUNDS) {
             self.weight = weight;
         }
     }

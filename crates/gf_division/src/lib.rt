@@ -22,3 +22,4 @@ pub use reducers::divisor_of;
 pub use remainders::remainder;
 pub use s_polynomials::s_poly;
 pub use steps::reduce_step;
+pub use weights::weight_of;

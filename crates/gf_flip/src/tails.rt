@@ -14,6 +14,7 @@ ghost use Rattle.gf_division.specs.Reducers.{IsDivisorAt, AreIrreducible};
 ghost use Rattle.gf_flip.specs.LiftTails.{AreUndivided, HasUndividedTailAt, IsReducedLiftAt, IsNextInTurn, AreTailsInTurn};
 
 use crate::tops::Lifts;
+use crate::weights::weight_for;
 use gf_division::{Guide, divisor_of, reduced_tail};
 use gf_poly::{Marked, Mono, Term};
 use std::alloc::Global;
@@ -121,53 +122,66 @@ pub fn is_reduced(terms: &[Term], lifts: &[Marked], head: &Mono) -> bool
     true
 }
 
-/// The lift at a place with its tail reduced by all of them, if all numbers fit.
-fn reduced_lift(alloc: Global, lifts: &[Marked], at: usize, guide: &mut Guide) -> Option<Marked>
+/// The lift at a place with its tail reduced by all of them, the heaviest term first, if all numbers fit.
+fn reduced_lift(
+    alloc: Global,
+    lifts: &[Marked],
+    at: usize,
+    weight: &Vec<i64>,
+) -> Option<Marked>
     requires inside { at < length lifts.now }
     requires marked { HasSomeWeight lifts.now }
     requires variables { ShareSomeVariables lifts.now }
     ensures { IfSome result (IsReducedLiftAt lifts.now at) }
 {
-    match reduced_tail(alloc, &lifts[at], lifts, guide) {
+    let mut guide = match weight.clone() {
+        Ok(same) => Guide::at_once(same),
+        Err(_) => return None,
+    };
+    match reduced_tail(alloc, &lifts[at], lifts, &mut guide) {
         Ok(member) => Some(member),
         Err(_) => None,
     }
 }
 
-/// Reduces the tail of the lift at a place, unless it stays. The guide finds a weight where one is needed first.
+/// Reduces the tail of the lift at a place, unless it stays. A weight is found where one is needed first.
 fn settle(
     alloc: Global,
+    n: u32,
     all: &mut Vec<Marked>,
     copied: &[bool],
     at: usize,
-    guide: &mut Guide,
+    weight: &mut Vec<i64>,
 ) -> Option<()>
     requires inside { at < length all.old.items }
     requires marked { HasSomeWeight all.old.items }
     requires flags { length copied.now ≡ length all.old.items }
-    requires variables { ShareSomeVariables all.old.items }
+    requires variables { HaveVariables n all.old.items }
     ensures { IfSome result (λ _. IsNextInTurn all.old.items copied.now at all.new.items) }
 {
     if stays(all, copied, at) {
         return Some(());
     }
-    let member = reduced_lift(alloc, all, at, guide)?;
+    if weight.is_empty() {
+        *weight = weight_for(alloc, n, all)?;
+    }
+    let member = reduced_lift(alloc, all, at, weight)?;
     all[at] = member;
     Some(())
 }
 
 /// The lifts with their tails reduced, one after another by the lifts as they are then, in their order, if all numbers fit.
-pub fn reduced_tails(alloc: Global, lifts: Lifts) -> Option<Vec<Marked>>
+pub fn reduced_tails(alloc: Global, n: u32, lifts: Lifts) -> Option<Vec<Marked>>
     requires marked { HasSomeWeight lifts.members.items }
     requires flags { length lifts.copied.items ≡ length lifts.members.items }
-    requires variables { ShareSomeVariables lifts.members.items }
+    requires variables { HaveVariables n lifts.members.items }
     ensures { IfSome result (λ cs. AreTailsInTurn lifts.members.items lifts.copied.items (length lifts.members.items) cs.items) }
 {
     let Lifts { members, copied } = lifts;
     let mut all = members;
-    let mut guide = Guide::at_once(alloc);
+    let mut weight = Vec::new(alloc);
     'lifts: for at in 0..all.len() {
-        settle(alloc, &mut all, &copied, at, &mut guide)?;
+        settle(alloc, n, &mut all, &copied, at, &mut weight)?;
     }
     Some(all)
 }
