@@ -123,12 +123,7 @@ pub fn is_reduced(terms: &[Term], lifts: &[Marked], head: &Mono) -> bool
 }
 
 /// The lift at a place with its tail reduced by all of them, the heaviest term first, if all numbers fit.
-fn reduced_lift(
-    alloc: Global,
-    lifts: &[Marked],
-    at: usize,
-    weight: &Vec<i64>,
-) -> Option<Marked>
+fn reduced_lift(alloc: Global, lifts: &[Marked], at: usize, weight: &Vec<i64>) -> Option<Marked>
     requires inside { at < length lifts.now }
     requires marked { HasSomeWeight lifts.now }
     requires variables { ShareSomeVariables lifts.now }
