@@ -1,6 +1,6 @@
 -- One tail, reduced: the steps at unmarked monomials, and what they end with.
--- To cite: AreElsewhere, elsewhere_none, elsewhere_end, head_at_place, TailStart, tail_start, tail_refused, TailFacts,
--- tail_facts, tail_variables, tail_there, reduced_tail_at, kept_form_at.
+-- To cite: AreElsewhere, elsewhere_none, elsewhere_end, head_at_place, tail_reached, TailStart, tail_start, tail_refused,
+-- irreducible_beside, TailFacts, tail_facts, tail_variables, tail_there, reduced_tail_at, tail_reached_at, kept_form_at.
 use Rattle.std.specs.Prelude.{◌≡◌, ℕ, zero, suc, ◌<◌, ◌≤◌, Bool, true, false, List, [], ◌∷◌, length, Contains, Some, take}
 use Rattle.std.specs.declared.option.Option.{Option}
 use Rattle.std.specs.Ordering.{MatchOrdering}
@@ -27,7 +27,7 @@ use Rattle.gf_ideal.proofs.InterreductionLaws.{tail-marked}
 use Rattle.gf_division.specs.NormalForms.{HasSomeWeight}
 use Rattle.gf_division.specs.Dividends.{Split, joined_terms}
 use Rattle.gf_division.specs.Reducers.{IsBeside, IsSpareIn, AreIrreducible, ShareVariables}
-use Rattle.gf_division.specs.Remainders.{ReachedBeside, IsWorkedOn, IsWorkRefusal}
+use Rattle.gf_division.specs.Remainders.{ReachedBeside, HasTailReached, IsWorkedOn, IsWorkRefusal}
 use Rattle.gf_division.specs.Autoreduction.{IsTailRefusal, ShareSomeVariables, IsKeptForm}
 use Rattle.gf_division.proofs.StepLaws.{head_length}
 use Rattle.gf_division.proofs.ReducerLaws.{member_variables}
@@ -72,7 +72,7 @@ head_at_place x f i t l e q = head_at f i t l e ∙ equal_same t.mono x q
 -- ---- the steps
 
 -- a polynomial that steps at other monomials than the mark of b lead to from b
-tail_reached : (ks : List MarkedPolynomial) (b : MarkedPolynomial) (g : Terms) → Contains ks b → ReachedBeside ks (Some b.head) b.poly g → IsTail ks (record { poly = g; head = b.head })
+pub tail_reached : (ks : List MarkedPolynomial) (b : MarkedPolynomial) (g : Terms) → Contains ks b → ReachedBeside ks (Some b.head) b.poly g → IsTail ks (record { poly = g; head = b.head })
 tail_reached ks b _ c ReachedBeside.here = IsTail.member b c
 tail_reached ks b _ c (ReachedBeside.next g h r s n d) = IsTail.step (record { poly = g; head = b.head }) (record { poly = h; head = b.head }) (tail_reached ks b g c r) (same-refl b.head) s n
 
@@ -101,8 +101,11 @@ tail_start ks b spared f s es ef d v c m e = subst (TailStart ks b spared) (sym 
     w : HasVariables v.n b.poly
     w = member_variables v.n ks b v.each c
 
+from_tail : (ks : List MarkedPolynomial) (b : MarkedPolynomial) (spared : Option Exponents) (s : Split) (g : Terms) → TailStart ks b spared s → ReachedBeside ks spared (joined_terms s) g → ReachedBeside ks (Some b.head) b.poly g
+from_tail ks b spared s g t r = subst (λ (f : Terms). ReachedBeside ks (Some b.head) f g) t.same (subst (λ (z : Option Exponents). ReachedBeside ks z (joined_terms s) g) t.spare r)
+
 tail_from : (ks : List MarkedPolynomial) (b : MarkedPolynomial) (spared : Option Exponents) (s : Split) (g : Terms) → TailStart ks b spared s → ReachedBeside ks spared (joined_terms s) g → IsTail ks (record { poly = g; head = b.head })
-tail_from ks b spared s g t r = tail_reached ks b g t.contained (subst (λ (f : Terms). ReachedBeside ks (Some b.head) f g) t.same (subst (λ (z : Option Exponents). ReachedBeside ks z (joined_terms s) g) t.spare r))
+tail_from ks b spared s g t r = tail_reached ks b g t.contained (from_tail ks b spared s g t r)
 
 -- a refusal of a step
 pub tail_refused : (ks : List MarkedPolynomial) (b : MarkedPolynomial) (spared : Option Exponents) (s : Split) (e : PolyError) → TailStart ks b spared s → IsWorkRefusal ks spared (joined_terms s) e → IsTailRefusal ks e
@@ -136,13 +139,14 @@ tail_refused ks b spared s e t r = at e r
 -- g is the polynomial of b with its tail reduced by ks
 pub record TailFacts (ks : List MarkedPolynomial) (b : MarkedPolynomial) (g : Terms) : Type 0 where
   pub tail : IsTail ks (record { poly = g; head = b.head })
+  pub reached : ReachedBeside ks (Some b.head) b.poly g
   pub irreducible : (x : Exponents) → HasMonomial g x → IsDivisible (Contains ks) x → same x b.head ≡ true
   pub kept : KeepsVariables b.poly g
   pub descending : IsDescending g
   pub variables : HasVariables (length b.head) g
   pub marked : HasMarkedTerm b
 
-irreducible_beside : (ks : List MarkedPolynomial) (x : Exponents) (f : Terms) → AreIrreducible ks (Some x) f → (y : Exponents) → HasMonomial f y → IsDivisible (Contains ks) y → same y x ≡ true
+pub irreducible_beside : (ks : List MarkedPolynomial) (x : Exponents) (f : Terms) → AreIrreducible ks (Some x) f → (y : Exponents) → HasMonomial f y → IsDivisible (Contains ks) y → same y x ≡ true
 irreducible_beside ks x f a y m d = at (same y x) refl
   where
     there : (same y x ≡ false) → (t : Term) × (IsBeside (Some x) t.mono → IsDivisible (Contains ks) t.mono → ⊥) × (same y t.mono ≡ true) → ⊥
@@ -155,6 +159,7 @@ irreducible_beside ks x f a y m d = at (same y x) refl
 pub tail_facts : (ks : List MarkedPolynomial) (b : MarkedPolynomial) (spared : Option Exponents) (old s : Split) (g : Terms) → HasMarkedTerm b → TailStart ks b spared old → g ≡ joined_terms s → AreIrreducible ks spared (joined_terms s) → IsWorkedOn ks spared old s → TailFacts ks b g
 tail_facts ks b spared old s g m t q a h = record {
   tail = tail_from ks b spared old g t (subst (ReachedBeside ks spared (joined_terms old)) (sym q) h.reached);
+  reached = from_tail ks b spared old g t (subst (ReachedBeside ks spared (joined_terms old)) (sym q) h.reached);
   irreducible = irreducible_beside ks b.head g (subst (AreIrreducible ks (Some b.head)) (sym q) (subst (λ (z : Option Exponents). AreIrreducible ks z (joined_terms s)) t.spare a));
   kept = record { at = λ n v. subst (HasVariables n) (sym q) (h.kept.at n (subst (HasVariables n) (sym t.same) v)) };
   descending = subst IsDescending (sym q) h.variables.sound.descending;
@@ -171,6 +176,9 @@ tail_there ks b g w t = mark-there (lighter w.0) (record { poly = g; head = b.he
 
 pub reduced_tail_at : (ks : List MarkedPolynomial) (b : MarkedPolynomial) (g : Terms) (x : Exponents) (c : MarkedPolynomial) → ◌≡◌ {A = MarkedPolynomial} c (record { poly = g; head = x }) → x ≡ b.head → TailFacts ks b g → IsReducedTail ks b c
 reduced_tail_at ks b g x c q e t = subst (IsReducedTail ks b) (sym q) (subst (λ (y : Exponents). IsReducedTail ks b (record { poly = g; head = y })) (sym e) (record { tail = t.tail; head = same-refl b.head; irreducible = t.irreducible }))
+
+pub tail_reached_at : (ks : List MarkedPolynomial) (b : MarkedPolynomial) (g : Terms) (x : Exponents) (c : MarkedPolynomial) → ◌≡◌ {A = MarkedPolynomial} c (record { poly = g; head = x }) → x ≡ b.head → TailFacts ks b g → HasTailReached ks b c
+tail_reached_at ks b g x c q e t = subst (HasTailReached ks b) (sym q) (record { head = e; reached = t.reached })
 
 pub kept_form_at : (ks : List MarkedPolynomial) (b : MarkedPolynomial) (g : Terms) (x : Exponents) (c : MarkedPolynomial) → ◌≡◌ {A = MarkedPolynomial} c (record { poly = g; head = x }) → x ≡ b.head → TailFacts ks b g → IsKeptForm b c
 kept_form_at ks b g x c q e t = subst (IsKeptForm b) (sym q) (record { at = λ n v. record { variables = t.kept.at n v; descending = t.descending; head = ap length e ∙ head_length n b v t.marked } })

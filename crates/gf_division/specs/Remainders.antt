@@ -1,7 +1,7 @@
 -- Remainders: what steps lead to, at whichever terms they are taken, and of which no mark divides a monomial.
 -- One monomial may be spared: of a tail the marked one.
 -- Laws: proofs/RemainderLaws.antt. Source: Cox, Little, O'Shea, Ideals, Varieties, and Algorithms, 2.3 and 2.6.
-use Rattle.std.specs.Prelude.{ℕ, List, Contains, Some, None}
+use Rattle.std.specs.Prelude.{◌≡◌, ℕ, List, Contains, Some, None}
 use Rattle.std.specs.declared.option.Option.{Option}
 use Rattle.gf_exponents.specs.Exponents.{Exponents}
 use Rattle.gf_poly.specs.declared.error.PolyError.{PolyError}
@@ -25,6 +25,11 @@ pub data ReachedBeside (bs : List MarkedPolynomial) (spared : Option Exponents) 
   here : ReachedBeside bs spared f f
   next : (g h : Terms) → ReachedBeside bs spared f g → (s : IsStep (Contains bs) g h) → IsBeside spared s.at →
       IsFirstFor bs s.at s.member → ReachedBeside bs spared f h
+
+-- c has the mark of b, and steps by bs at unmarked terms lead from b to it
+pub record HasTailReached (bs : List MarkedPolynomial) (b c : MarkedPolynomial) : Type 0 where
+  pub head : c.head ≡ b.head
+  pub reached : ReachedBeside bs (Some b.head) b.poly c.poly
 
 -- old became new by such steps
 pub record IsWorkedOn (bs : List MarkedPolynomial) (spared : Option Exponents) (old new : Split) : Type 0 where

@@ -9,6 +9,7 @@ ghost use Rattle.gf_ideal.specs.Bases.{AreArranged};
 ghost use Rattle.gf_ideal.specs.WorkLists.{IsReducedTail, AreReducedTails};
 ghost use Rattle.gf_division.specs.NormalForms.{HasSomeWeight};
 ghost use Rattle.gf_division.specs.Autoreduction.{AreNeededForms, IsAutoreduced, IsReducedOf, IsTailRefusal, IsNeededRefusal, IsAutoreductionRefusal, ShareSomeVariables, MakesNeedless, IsNeededAt, KeepVariables, IsKeptForm, AreKeptForms};
+ghost use Rattle.gf_division.specs.Remainders.{HasTailReached};
 
 use crate::dividend::Dividend;
 use crate::front::Guide;
@@ -95,6 +96,7 @@ pub fn reduced_tail(
     requires marked { HasSomeWeight by.now }
     requires variables { ShareSomeVariables by.now }
     ensures tail { IfOk result (IsReducedTail by.now member.now) }
+    ensures reached { IfOk result (HasTailReached by.now member.now) }
     ensures form { IfOk result (IsKeptForm member.now) }
     ensures cause { IfErr result (IsTailRefusal by.now) }
 {

@@ -250,7 +250,7 @@ impl Dividend {
     }
 
     /// Moves the place to the first term that isn't greater than `x`, and answers how that one compares with it.
-    pub(crate) fn go_to(&mut self, x: &Mono) -> Result<Ordering, AllocError>
+    pub fn go_to(&mut self, x: &Mono) -> Result<Ordering, AllocError>
         requires { IsDescending (joined_terms (split_of self.old)) }
         ensures { OnOk result (joined_terms (split_of self.new) ≡ joined_terms (split_of self.old)) }
     {
@@ -259,7 +259,7 @@ impl Dividend {
     }
 
     /// Moves the place above all terms.
-    pub(crate) fn rewind(&mut self) -> Result<(), AllocError>
+    pub fn rewind(&mut self) -> Result<(), AllocError>
         ensures above { OnOk result ((split_of self.new).above ≡ []) }
         ensures same { OnOk result (joined_terms (split_of self.new) ≡ joined_terms (split_of self.old)) }
     {

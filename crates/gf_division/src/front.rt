@@ -12,6 +12,9 @@ use std::collections::BinaryHeap;
 /// How many steps by the rule come first where the order of the marks is another one: short reductions need no other.
 const PATIENCE: u64 = 64;
 
+/// How many rounds a weight of the marks is looked for at most.
+const ROUNDS: u64 = 20_000;
+
 /// An order in which marks are greatest: a weight, and of one weight lex or revlex.
 ///
 /// A weight of no entries, or of fewer than there are variables, counts zeros for the rest.
@@ -20,6 +23,7 @@ pub struct Guide {
     weight: Vec<i64>,
     by_revlex: bool,
     is_known: bool,
+    patience: u64,
 }
 
 impl Guide {
@@ -29,6 +33,7 @@ impl Guide {
             weight,
             by_revlex,
             is_known: true,
+            patience: PATIENCE,
         }
     }
 
@@ -38,16 +43,28 @@ impl Guide {
             weight: Vec::new(alloc),
             by_revlex: false,
             is_known: false,
+            patience: PATIENCE,
+        }
+    }
+
+    /// The order by this weight and then lex, from the first step on.
+    pub fn at_once(weight: Vec<i64>) -> Guide {
+        Guide {
+            weight,
+            by_revlex: false,
+            is_known: true,
+            patience: 0,
         }
     }
 
     /// Whether this is the order by which the rule goes.
     fn is_by_degree(&self) -> bool {
-        if self.weight.is_empty() || self.by_revlex {
+        if self.weight.is_empty() || self.by_revlex || self.weight[0] < 1 {
             return false;
         }
+        let first = self.weight[0];
         'entries: for w in &self.weight {
-            if *w != 1 {
+            if *w != first {
                 return false;
             }
         }
@@ -59,7 +76,7 @@ impl Guide {
         if self.is_by_degree() {
             return u64::MAX;
         }
-        PATIENCE
+        self.patience
     }
 
     /// Looks for a weight of these marks, unless an order is known.
@@ -68,7 +85,7 @@ impl Guide {
             return;
         }
         self.is_known = true;
-        if let Some(weight) = weight_of(alloc, by) {
+        if let Some((weight, _)) = weight_of(alloc, by, ROUNDS) {
             self.weight = weight;
         }
     }

@@ -6,8 +6,8 @@ ghost use Rattle.std.specs.Prelude.{◌<◌};
 use gf_poly::Marked;
 use std::alloc::Global;
 
-/// How many times all differences are gone through at most.
-const ROUNDS: u32 = 20_000;
+/// How many entries of differences are gone through at most, after a first round.
+const MOST_ENTRIES: u64 = 1 << 20;
 
 /// Each entry at first: many, so that small steps turn the weight.
 const START: i64 = 1_024;
@@ -118,15 +118,24 @@ fn fits_all(weight: &mut [i64], rows: &[i64], n: usize) -> bool
     is_positive(weight) && fits
 }
 
-/// A weight by which each mark is heavier than the other terms, from equal entries on (Agmon, Motzkin, Schoenberg), or what is reached after many rounds.
-pub fn weight_of(alloc: Global, lifts: &[Marked]) -> Option<Vec<i64>> {
+// How many rounds there are at most, each of which goes through so many entries.
+fn rounds_of(most: u64, entries: usize) -> u64 {
+    if entries == 0 {
+        return most;
+    }
+    most.min(MOST_ENTRIES / entries as u64 + 1)
+}
+
+/// A weight by which each mark is heavier than the other terms, from equal entries on (Agmon, Motzkin, Schoenberg), and that it is so; or
+/// what is reached after so many rounds, or fewer where there are many terms, and that it may not be so.
+pub fn weight_of(alloc: Global, lifts: &[Marked], most: u64) -> Option<(Vec<i64>, bool)> {
     let mut weight = Vec::new(alloc);
     if lifts.is_empty() {
-        return Some(weight);
+        return Some((weight, true));
     }
     let n = lifts[0].head().exponents().len();
     if n == 0 {
-        return Some(weight);
+        return Some((weight, true));
     }
     'entries: for _ in 0..n {
         match weight.push(START) {
@@ -135,10 +144,10 @@ pub fn weight_of(alloc: Global, lifts: &[Marked]) -> Option<Vec<i64>> {
         }
     }
     let rows = differences(alloc, lifts)?;
-    'rounds: for _ in 0..ROUNDS {
+    'rounds: for _ in 0..rounds_of(most, rows.len()) {
         if fits_all(&mut weight, &rows, n) {
-            return Some(weight);
+            return Some((weight, true));
         }
     }
-    Some(weight)
+    Some((weight, false))
 }

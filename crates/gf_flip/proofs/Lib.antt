@@ -8,7 +8,7 @@ pub mod TopLaws  -- lifts that end early, one after another
 pub mod LiftTailLaws  -- tails of lifts that stay
 pub mod TailsInTurn  -- tails of lifts, one after another
 pub mod LiftedTails  -- lifts with reduced tails are lifts
-pub mod TailSteps  -- the tail of one lift, step by step
+pub mod TailSteps  -- the tail of one lift
 pub mod SettlingLaws  -- members of a run that need no work, one after another
 pub mod TurnLaws  -- a run that takes the pairs in turn
 pub mod FlipSteps  -- the steps of a flip

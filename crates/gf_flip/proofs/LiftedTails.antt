@@ -1,6 +1,6 @@
 -- A lift whose tail is reduced by lifts is a lift: what is taken away is lighter.
 -- To cite: lifted_tail, ever_turned.
-use Rattle.std.proofs.Common.{◌≡◌, ◌⊎◌, ℕ, zero, suc, Bool, true, false, List, [], ◌∷◌, set, Contains, ℤ, pos, ◌<ℤ◌, ◌≤ℤ◌, arith, refl, sym, ap, ◌∙◌, subst, inl, inr}
+use Rattle.std.proofs.Common.{◌≡◌, ◌⊎◌, ℕ, zero, suc, Bool, true, false, Some, List, [], ◌∷◌, set, Contains, ℤ, pos, ◌<ℤ◌, ◌≤ℤ◌, arith, refl, sym, ap, ◌∙◌, subst, inl, inr}
 use Rattle.std.proofs.lemmas.Bool.{false≢true}
 use Rattle.std.proofs.lemmas.Int.{ints}
 use Rattle.gf_frac.specs.Fraction.{◌+ℚ◌, neg_ℚ, zero_ℚ}
@@ -18,6 +18,7 @@ use Rattle.gf_ideal.specs.Settled.{IsAt}
 use Rattle.gf_ideal.specs.Bases.{HasReducedTails}
 use Rattle.gf_ideal.proofs.Identities.{one_not_zero}
 use Rattle.gf_ideal.proofs.StepLaws.{IsClosed, IsWithin, closed_downward, multiple_within, member-reached, reached-one}
+use Rattle.gf_division.specs.Remainders.{ReachedBeside}
 use Rattle.gf_facets.specs.Beyond.{IsFurther, IsBeyond}
 use Rattle.gf_facets.proofs.VectorLaws.{three, IsNonzero}
 use Rattle.gf_facets.proofs.WholeLaws.{beyond-strict, further-weight}
@@ -26,7 +27,7 @@ use Rattle.gf_initial.specs.Lifts.{IsLifted, AreLifted}
 use Rattle.gf_initial.proofs.MatchingLaws.{matched-from}
 use Rattle.gf_initial.proofs.LiftedLaws.{lifted_marked, lifted_marks}
 use Rattle.gf_flip.specs.Along.{IsBasisOfParts}
-use Rattle.gf_flip.specs.LiftTails.{IsTailReached, IsReducedLift, IsNextInTurn, AreTailsInTurn}
+use Rattle.gf_flip.specs.LiftTails.{IsReducedLift, IsNextInTurn, AreTailsInTurn}
 use Rattle.gf_flip.proofs.CrossingMath.{parts_of, AreEverLifted}
 
 -- what one step at an unmarked monomial leads to
@@ -114,10 +115,10 @@ lifted_step n fs v a hs ks h x f g vars o nz further tails lifts c s u t = recor
 
 -- what steps at unmarked monomials lead to
 pub lifted_tail : (n : ℕ) (fs : List Terms) (v a : List ℤ) (hs ks : List MarkedPolynomial) (h l : MarkedPolynomial) (g : Terms) → AreInVariables n fs →
-    dot a v ≡ pos 0 → IsNonzero a → AreMarked (IsFurther a) hs → HasReducedTails hs → AreLifted n fs v hs ks → Contains hs h → IsTailReached ks l.head l.poly g →
+    dot a v ≡ pos 0 → IsNonzero a → AreMarked (IsFurther a) hs → HasReducedTails hs → AreLifted n fs v hs ks → Contains hs h → ReachedBeside ks (Some l.head) l.poly g →
     IsLifted n fs v h l → IsLifted n fs v h (record { poly = g; head = l.head })
-lifted_tail n fs v a hs ks h l g vars o nz further tails lifts c IsTailReached.here t = t
-lifted_tail n fs v a hs ks h l g vars o nz further tails lifts c (IsTailReached.next f k r s u) t =
+lifted_tail n fs v a hs ks h l g vars o nz further tails lifts c ReachedBeside.here t = t
+lifted_tail n fs v a hs ks h l g vars o nz further tails lifts c (ReachedBeside.next f k r s u d) t =
     lifted_step n fs v a hs ks h l.head f g vars o nz further tails lifts c s u (lifted_tail n fs v a hs ks h l f vars o nz further tails lifts c r t)
 
 -- ---- lists

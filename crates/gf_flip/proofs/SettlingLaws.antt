@@ -23,11 +23,11 @@ use Rattle.gf_division.specs.Reducers.{AreIrreducible, IsBeside}
 use Rattle.gf_division.proofs.ReducerLaws.{member_at, members_equal, member_contained, member_variables}
 use Rattle.gf_division.proofs.StepLaws.{head_length}
 use Rattle.gf_division.proofs.RuleLaws.{irreducible_whole}
+use Rattle.gf_division.proofs.TailLaws.{irreducible_beside}
 use Rattle.gf_division.proofs.MonicLaws.{monic_already}
 use Rattle.gf_division.proofs.NeededLaws.{Forming, forming-none, forming-more, forming-skipped, forming_end, forming_variables}
 use Rattle.gf_division.proofs.AutoreductionLaws.{Autoreducing, autoreducing, autoreduced_value, autoreduced_arranged, autoreduced_marked, autoreduced_reduced}
 use Rattle.gf_flip.specs.Settling.{IsSettled, IsSettledAt, IsPick, ArePicked, IsKeptWhere, IsPickedFrom, IsReducedForm}
-use Rattle.gf_flip.proofs.TailSteps.{irreducible_beside}
 use Rattle.gf_flip.proofs.TailsInTurn.{by_place}
 
 -- ---- one polynomial

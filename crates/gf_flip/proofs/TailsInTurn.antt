@@ -1,5 +1,5 @@
 -- Tails of lifts reduced in place, one lift after another: what the list is, and that each tail is reduced in the end.
--- To cite: tail_reached, set_cases, turned-length, turned_weight, turned_variables, turned_tails, turned_canonical.
+-- To cite: set_cases, turned-length, turned_weight, turned_variables, turned_tails, turned_canonical.
 use Rattle.std.proofs.Common.{◌≡◌, ◌⊎◌, ℕ, zero, suc, ◌+◌, ◌<◌, ◌≤◌, Bool, true, false, List, [], ◌∷◌, length, get_or, set, Contains, arith, refl, sym, ap, ◌∙◌, subst, inl, inr}
 use Rattle.std.proofs.lemmas.Bool.{cases_lt, cases_eq}
 use Rattle.std.proofs.lemmas.List.{get_or_default, get_or-set_same, get_or-set_other, length-set}
@@ -20,17 +20,11 @@ use Rattle.gf_ideal.proofs.InterreductionLaws.{tail-marked}
 use Rattle.gf_division.specs.Autoreduction.{IsKeptForm}
 use Rattle.gf_division.specs.NormalForms.{HasSomeWeight}
 use Rattle.gf_division.proofs.ReducerLaws.{members_equal, member_contained, member_variables}
-use Rattle.gf_flip.specs.LiftTails.{AreCopies, HasUndividedTail, IsTailReached, HasReducedTail, IsReducedLift, IsNextInTurn, AreTailsInTurn}
+use Rattle.gf_division.proofs.TailLaws.{tail_reached}
+use Rattle.gf_flip.specs.LiftTails.{AreCopies, HasUndividedTail, HasReducedTail, IsReducedLift, IsNextInTurn, AreTailsInTurn}
 use Rattle.gf_flip.proofs.LiftTailLaws.{IsPassed, undivided_along, stay_reduced}
 
 -- ---- one tail
-
--- what steps at unmarked monomials lead to is a tail
-pub tail_reached : (bs : List MarkedPolynomial) (b : MarkedPolynomial) (g : Terms) → Contains bs b → IsTailReached bs b.head b.poly g →
-    IsTail bs (record { poly = g; head = b.head })
-tail_reached bs b g c IsTailReached.here = IsTail.member b c
-tail_reached bs b g c (IsTailReached.next f k r s n) =
-    IsTail.step (record { poly = f; head = b.head }) (record { poly = g; head = b.head }) (tail_reached bs b f c r) (same-refl b.head) s n
 
 -- it is marked as the members are
 reduced_marked : (w : List ℕ) (bs : List MarkedPolynomial) (b c : MarkedPolynomial) → AreMarked (lighter w) bs → Contains bs b →

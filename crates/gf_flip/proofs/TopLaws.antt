@@ -1,7 +1,8 @@
 -- Lifts that end once nothing is left along the normal, as the code works them out.
--- To cite: SeekingLine, seeking_more, Topping, topping-none, topping_more, topping_less, top_step, shares_at,
+-- To cite: sound_same, reducible_there, SeekingLine, seeking_more, Topping, topping-none, topping_more, topping_less, top_step, shares_at,
 -- divides_at, off_more, off_end, top_remainder_at, top_there, top_lift_at, AreTopping, topping_all.
-use Rattle.std.proofs.Common.{◌≡◌, ℕ, ◌+◌, ◌<◌, ◌≤◌, ◌^◌, true, None, List, [], ◌∷◌, ◌++◌, length, take, get_or, Contains, ℤ, pos, ◌+ℤ◌, ◌*ℤ◌, arith, refl, sym, ap, ◌∙◌, subst, inl, inr}
+use Rattle.std.specs.declared.option.Option.{Option}
+use Rattle.std.proofs.Common.{◌≡◌, ℕ, ◌+◌, ◌<◌, ◌≤◌, ◌^◌, true, Some, None, IfSome, List, [], ◌∷◌, ◌++◌, length, take, get_or, Contains, ℤ, pos, ◌+ℤ◌, ◌*ℤ◌, arith, refl, sym, ap, ◌∙◌, subst, inl, inr}
 use Rattle.std.proofs.lemmas.List.{take_more, take_all}
 use Rattle.gf_int.proofs.RingLaws.{dv, dn, ◌⊕◌, ◌⊗◌, same as same_number}
 use Rattle.gf_frac.specs.Fraction.{Fraction, ◌+ℚ◌, neg_ℚ, zero_ℚ, one_ℚ}
@@ -42,7 +43,7 @@ use Rattle.gf_flip.proofs.AlongLaws.{matched-push}
 
 -- ---- the search
 
-sound_same : (n : ℕ) (s t : Split) → joined_terms t ≡ joined_terms s → IsSound n s → IsSound n t
+pub sound_same : (n : ℕ) (s t : Split) → joined_terms t ≡ joined_terms s → IsSound n s → IsSound n t
 sound_same n s t e h = record { descending = subst IsDescending (sym e) h.descending; variables = subst (HasVariables n) (sym e) h.variables }
 
 -- the terms are the same after some moves, and sound
@@ -55,6 +56,11 @@ seeking_more n old now new w k = let e = terms_down now new w in record { same =
 
 pub first_width : (n : ℕ) (old s : Split) (t : Term) → IsTermInFront s.below t → SeekingLine n old s → length t.mono ≡ n
 first_width n old s t f k = first_length n s t k.sound f
+
+-- the member that reduces the first term, if there is one
+pub reducible_there : (bs : List MarkedPolynomial) (s : Split) (t : Term) (o : Option ℕ) → IsTermInFront s.below t → IsMonomial t.mono → IfSome o (IsDivisorAt bs t.mono) → IfSome o (IsReducibleFirst bs None s)
+reducible_there bs s t (Some j) f m d = record { term = t; is = f; divisor = d; beside = tt; monomial = m }
+reducible_there bs s t None f m d = tt
 
 -- ---- the steps
 

@@ -1,16 +1,14 @@
 -- Tails of lifts, as the code reduces them in place, one lift after another: which stay as they are, and what the others
 -- become. Laws: proofs/LiftTailLaws.antt, proofs/TailsInTurn.antt, proofs/LiftedTails.antt.
-use Rattle.std.specs.Prelude.{◌≡◌, ◌⊎◌, ℕ, ◌+◌, ◌<◌, Bool, true, false, List, length, set, Contains, slice_index_or}
+use Rattle.std.specs.Prelude.{◌≡◌, ◌⊎◌, ℕ, ◌+◌, ◌<◌, Bool, true, false, Some, List, length, set, Contains, slice_index_or}
 use Rattle.gf_exponents.specs.Exponents.{Exponents, same, Divides}
 use Rattle.gf_poly.specs.declared.Term.{Term}
-use Rattle.gf_poly.specs.Monomial.{IsMonomial}
-use Rattle.gf_poly.specs.Polynomial.{Terms}
 use Rattle.gf_poly.specs.Marking.{MarkedPolynomial, Each}
 use Rattle.gf_ideal.specs.Membership.{HasMonomial}
-use Rattle.gf_ideal.specs.Reduction.{IsDivisible, IsStep}
+use Rattle.gf_ideal.specs.Reduction.{IsDivisible}
 use Rattle.gf_ideal.specs.Settled.{IsAt}
 use Rattle.gf_division.specs.Autoreduction.{IsKeptForm}
-use Rattle.gf_division.specs.Reducers.{IsDivisorAt}
+use Rattle.gf_division.specs.Remainders.{ReachedBeside}
 use Rattle.gf_initial.specs.Parts.{Matching}
 
 -- a lift with a flag is one of bs
@@ -37,19 +35,6 @@ pub record HasUndividedTailAt (ls : List MarkedPolynomial) (flags : List Bool) (
 
 -- ---- one tail
 
--- f has a term at x, which isn't the mark h; the member at the place j is the first one whose mark divides it
-pub record IsTailTerm (bs : List MarkedPolynomial) (h : Exponents) (f : Terms) (x : Exponents) (j : ℕ) : Type 0 where
-  pub there : HasMonomial f x
-  pub divisor : IsDivisorAt bs x j
-  pub beside : same x h ≡ false
-  pub monomial : IsMonomial x
-  pub width : length x ≡ length h
-
--- steps by bs at monomials other than h lead from f to g
-pub data IsTailReached (bs : List MarkedPolynomial) (h : Exponents) (f : Terms) : Terms → Type 0 where
-  here : IsTailReached bs h f f
-  next : (g k : Terms) → IsTailReached bs h f g → (s : IsStep (Contains bs) g k) → same s.at h ≡ false → IsTailReached bs h f k
-
 -- no mark of bs divides an unmarked monomial of b
 abbrev pub HasReducedTail : List MarkedPolynomial → MarkedPolynomial → Type 0
 HasReducedTail bs b = (x : Exponents) → HasMonomial b.poly x → IsDivisible (Contains bs) x → same x b.head ≡ true
@@ -57,7 +42,7 @@ HasReducedTail bs b = (x : Exponents) → HasMonomial b.poly x → IsDivisible (
 -- c is b with its tail reduced by bs, and kept in as many variables
 pub record IsReducedLift (bs : List MarkedPolynomial) (b c : MarkedPolynomial) : Type 0 where
   pub head : c.head ≡ b.head
-  pub reached : IsTailReached bs b.head b.poly c.poly
+  pub reached : ReachedBeside bs (Some b.head) b.poly c.poly
   pub irreducible : HasReducedTail bs c
   pub kept : IsKeptForm b c
 

@@ -90,9 +90,10 @@ fn early(alloc: Global, set: &MarkedSet, below: &[Marked], normal: &IntVec) -> O
     ensures value { IfSome result (λ t. IsNeighbour set.now.variables set.now.items normal.now t.items) }
     ensures variables { IfSome result (λ t. t.variables ≡ set.now.variables) }
 {
+    let n = set.variables();
     let lifted = top_lifts(alloc, below, set.items(), normal.as_slice())?;
-    let members = reduced_tails(alloc, lifted)?;
-    let all = MarkedSet::new(set.variables(), members);
+    let members = reduced_tails(alloc, n, lifted)?;
+    let all = MarkedSet::new(n, members);
     match all.arrange() {
         Ok(across) => Some(across),
         Err(_) => None,

@@ -11,5 +11,6 @@ mod reduction;
 mod tails;
 mod tops;
 mod turns;
+mod weights;
 
 pub use flips::{FlipError, flip};

@@ -1,22 +1,22 @@
 //! Tails of lifts, reduced in place, one lift after another. A lift whose tail no mark divides stays as it is, and nothing of
 //! it is copied; where it was copied from the set that is flipped, only the marks of lifts that weren't are tried. Of the
-//! others each time the heaviest term is reduced that a mark divides, which keeps the numbers small.
+//! others each time the heaviest term is reduced that a mark divides, by a weight for which the marks are heaviest, which keeps
+//! the numbers small.
 
-ghost use Rattle.std.specs.Prelude.{◌≡◌, ◌<◌, false, true, Some, length, Contains, IfNone, IfOk, IfSome, IsTrue};
+ghost use Rattle.std.specs.Prelude.{◌≡◌, ◌<◌, false, true, Some, length, Contains, IfNone, IfSome, IsTrue};
 ghost use Rattle.gf_exponents.specs.Exponents.{Divides, same};
 ghost use Rattle.gf_poly.specs.Marking.{HaveVariables};
 ghost use Rattle.gf_poly.specs.Polynomial.{HasVariables};
-ghost use Rattle.gf_ideal.specs.Membership.{HasMonomial};
 ghost use Rattle.gf_ideal.specs.Reduction.{IsDivisible};
 ghost use Rattle.gf_division.specs.NormalForms.{HasSomeWeight};
 ghost use Rattle.gf_division.specs.Autoreduction.{ShareSomeVariables};
 ghost use Rattle.gf_division.specs.Reducers.{IsDivisorAt, AreIrreducible};
-ghost use Rattle.gf_division.specs.Steps.{StepsTo};
-ghost use Rattle.gf_flip.specs.LiftTails.{AreUndivided, HasUndividedTailAt, IsTailTerm, IsReducedLiftAt, IsNextInTurn, AreTailsInTurn};
+ghost use Rattle.gf_flip.specs.LiftTails.{AreUndivided, HasUndividedTailAt, IsReducedLiftAt, IsNextInTurn, AreTailsInTurn};
 
 use crate::tops::Lifts;
-use gf_division::{Dividend, divisor_of, place_of, weight_of};
-use gf_poly::{Marked, Mono, Poly, PolyError, Term};
+use crate::weights::weight_for;
+use gf_division::{Guide, divisor_of, reduced_tail};
+use gf_poly::{Marked, Mono, Term};
 use std::alloc::Global;
 
 /// Whether the mark of a lift divides `x`; it isn't tried where both are of copied lifts.
@@ -107,78 +107,6 @@ fn divisor_beside(y: &Mono, lifts: &[Marked], head: &Mono) -> Option<usize>
     }
 }
 
-/// How heavy a monomial is, as far as the numbers fit. Nothing is asked of it: reductions end by any order of terms.
-fn heft_of(weight: &[i64], x: &[u32]) -> i64 {
-    let mut sum = 0i64;
-    'entries: for (w, e) in weight.iter().zip(x) {
-        sum = sum.wrapping_add(w.wrapping_mul(i64::from(*e)));
-    }
-    sum
-}
-
-/// The heaviest unmarked term, of those that aren't heavier than the bar, that a lift reduces; and the first such lift.
-fn heaviest(
-    f: &Poly,
-    lifts: &[Marked],
-    head: &Mono,
-    weight: &[i64],
-    bar: i64,
-) -> Option<(Mono, usize)>
-    requires members { HaveVariables (length head.now) lifts.now }
-    requires poly { HasVariables (length head.now) f.now }
-    ensures { IfSome result (λ p. IsTailTerm lifts.now head.now f.now p.0 p.1) }
-{
-    let terms = f.terms();
-    let mut most = i64::MIN;
-    let mut best = None;
-    'terms: for k in 0..terms.len() {
-        let t = &terms[k];
-        let heft = heft_of(weight, t.mono.exponents());
-        if most < heft
-            && heft <= bar
-            && let Some(j) = divisor_beside(&t.mono, lifts, head)
-        {
-            most = heft;
-            best = Some((t.mono.copy(), j));
-        }
-    }
-    best
-}
-
-/// The heaviest such term that isn't heavier than the bar; where there is none, since the weight may be a wrong one, the
-/// heaviest of all.
-fn next_term(
-    f: &Poly,
-    lifts: &[Marked],
-    head: &Mono,
-    weight: &[i64],
-    bar: i64,
-) -> Option<(Mono, usize)>
-    requires members { HaveVariables (length head.now) lifts.now }
-    requires poly { HasVariables (length head.now) f.now }
-    ensures { IfSome result (λ p. IsTailTerm lifts.now head.now f.now p.0 p.1) }
-{
-    if let Some(found) = heaviest(f, lifts, head, weight, bar) {
-        return Some(found);
-    }
-    heaviest(f, lifts, head, weight, i64::MAX)
-}
-
-/// The polynomial after the step at its monomial `at` by a lift, whose mark divides it.
-fn stepped(alloc: Global, f: Poly, at: &Mono, by: &Marked) -> Result<Poly, PolyError>
-    requires variables { HasVariables (length at.now) f }
-    requires member { HasVariables (length at.now) by.now.poly }
-    requires there { HasMonomial f at.now }
-    requires divides { Divides by.now.head at.now }
-    ensures step { IfOk result (StepsTo f by.now at.now) }
-    ensures variables { IfOk result (HasVariables (length at.now)) }
-{
-    let mut rest = Dividend::new(alloc, f);
-    let _ = rest.descend(at)?;
-    let _ = rest.step(by)?;
-    Ok(rest.into_poly()?)
-}
-
 /// Whether no mark divides an unmarked term.
 pub fn is_reduced(terms: &[Term], lifts: &[Marked], head: &Mono) -> bool
     requires members { HaveVariables (length head.now) lifts.now }
@@ -195,36 +123,26 @@ pub fn is_reduced(terms: &[Term], lifts: &[Marked], head: &Mono) -> bool
 }
 
 /// The lift at a place with its tail reduced by all of them, the heaviest term first, if all numbers fit.
-fn reduced_lift(alloc: Global, lifts: &[Marked], at: usize, weight: &[i64]) -> Option<Marked>
+fn reduced_lift(alloc: Global, lifts: &[Marked], at: usize, weight: &Vec<i64>) -> Option<Marked>
     requires inside { at < length lifts.now }
     requires marked { HasSomeWeight lifts.now }
     requires variables { ShareSomeVariables lifts.now }
     ensures { IfSome result (IsReducedLiftAt lifts.now at) }
 {
-    let lift = &lifts[at];
-    let head = lift.head();
-    let mut rest = match lift.poly().copy() {
-        Ok(copy) => copy,
+    let mut guide = match weight.clone() {
+        Ok(same) => Guide::at_once(same),
         Err(_) => return None,
     };
-    let mut bar = i64::MAX;
-    'steps: while let Some((x, j)) = next_term(&rest, lifts, head, weight, bar) {
-        bar = heft_of(weight, x.exponents());
-        rest = match stepped(alloc, rest, &x, &lifts[j]) {
-            Ok(next) => next,
-            Err(_) => return None,
-        };
+    match reduced_tail(alloc, &lifts[at], lifts, &mut guide) {
+        Ok(member) => Some(member),
+        Err(_) => None,
     }
-    if !is_reduced(rest.terms(), lifts, head) {
-        return None;
-    }
-    let place = place_of(rest.terms(), lift.head());
-    Some(Marked::mark(rest, place))
 }
 
 /// Reduces the tail of the lift at a place, unless it stays. A weight is found where one is needed first.
 fn settle(
     alloc: Global,
+    n: u32,
     all: &mut Vec<Marked>,
     copied: &[bool],
     at: usize,
@@ -233,14 +151,14 @@ fn settle(
     requires inside { at < length all.old.items }
     requires marked { HasSomeWeight all.old.items }
     requires flags { length copied.now ≡ length all.old.items }
-    requires variables { ShareSomeVariables all.old.items }
+    requires variables { HaveVariables n all.old.items }
     ensures { IfSome result (λ _. IsNextInTurn all.old.items copied.now at all.new.items) }
 {
     if stays(all, copied, at) {
         return Some(());
     }
     if weight.is_empty() {
-        *weight = weight_of(alloc, all)?;
+        *weight = weight_for(alloc, n, all)?;
     }
     let member = reduced_lift(alloc, all, at, weight)?;
     all[at] = member;
@@ -248,17 +166,17 @@ fn settle(
 }
 
 /// The lifts with their tails reduced, one after another by the lifts as they are then, in their order, if all numbers fit.
-pub fn reduced_tails(alloc: Global, lifts: Lifts) -> Option<Vec<Marked>>
+pub fn reduced_tails(alloc: Global, n: u32, lifts: Lifts) -> Option<Vec<Marked>>
     requires marked { HasSomeWeight lifts.members.items }
     requires flags { length lifts.copied.items ≡ length lifts.members.items }
-    requires variables { ShareSomeVariables lifts.members.items }
+    requires variables { HaveVariables n lifts.members.items }
     ensures { IfSome result (λ cs. AreTailsInTurn lifts.members.items lifts.copied.items (length lifts.members.items) cs.items) }
 {
     let Lifts { members, copied } = lifts;
     let mut all = members;
     let mut weight = Vec::new(alloc);
     'lifts: for at in 0..all.len() {
-        settle(alloc, &mut all, &copied, at, &mut weight)?;
+        settle(alloc, n, &mut all, &copied, at, &mut weight)?;
     }
     Some(all)
 }

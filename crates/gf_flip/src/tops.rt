@@ -6,7 +6,7 @@ ghost use Rattle.gf_poly.specs.Marking.{HaveVariables};
 ghost use Rattle.gf_poly.specs.Polynomial.{coefficient, HasVariables};
 ghost use Rattle.gf_division.specs.NormalForms.{HasSomeWeight};
 ghost use Rattle.gf_division.specs.Dividends.{split_of, joined_terms, IsSound};
-ghost use Rattle.gf_division.specs.Reducers.{IsDivisorAt, IsSought};
+ghost use Rattle.gf_division.specs.Reducers.{IsDivisorAt, IsReducibleFirst, IsSought};
 ghost use Rattle.gf_initial.specs.Lifts.{IsTopLift, AreTopLifts};
 ghost use Rattle.gf_order.specs.Weights.{AreBounded};
 ghost use Rattle.gf_flip.specs.Along.{HasNonzero};
@@ -20,6 +20,9 @@ use gf_division::{Dividend, divisor_of, place_of};
 use gf_poly::{Marked, Mono, Poly, Term};
 use std::alloc::Global;
 use std::cmp::Ordering;
+
+/// How many steps take the greatest term first whatever the normal: short reductions need no other.
+const PATIENCE: u32 = 16;
 
 /// Lifts, and of each whether it is copied from the set.
 #[derive(Drop)]
@@ -82,6 +85,115 @@ fn seek_line(
     Some(None)
 }
 
+/// Moves the place to `y`, which is a multiple of the normal apart from `x`; the place of the member that reduces the term there.
+fn reducer_at(
+    rest: &mut Dividend,
+    y: &Mono,
+    by: &[Marked],
+    x: &Mono,
+    normal: &[i128],
+    pivot: usize,
+) -> Option<usize>
+    requires sound { IsSound (length normal.now) (split_of rest.old) }
+    requires members { HaveVariables (length normal.now) by.now }
+    requires variables { length x.now ≡ length normal.now }
+    requires bounded { AreBounded normal.now }
+    requires inside { pivot < length normal.now }
+    requires nonzero { get_or normal.now pivot (pos 0) ≢ pos 0 }
+    ensures same { IfSome result (λ _. joined_terms (split_of rest.new) ≡ joined_terms (split_of rest.old)) }
+    ensures found { IfSome result (IsReducibleFirst by.now None (split_of rest.new)) }
+{
+    match rest.go_to(y) {
+        Ok(Ordering::Equal) => {}
+        _ => return None,
+    }
+    let t = rest.next()?;
+    // Its exponents are within the limit: the accessor says so.
+    let _ = t.mono.exponents();
+    reducer_on_line(&t.mono, by, x, normal, pivot)
+}
+
+/// Moves the place to the last term that is a multiple of the normal apart from `x` and that a member reduces; the place of that
+/// member, if there is such a term.
+fn seek_last(
+    rest: &mut Dividend,
+    by: &[Marked],
+    x: &Mono,
+    normal: &[i128],
+    pivot: usize,
+) -> Option<Option<usize>>
+    requires sound { IsSound (length normal.now) (split_of rest.old) }
+    requires members { HaveVariables (length normal.now) by.now }
+    requires variables { length x.now ≡ length normal.now }
+    requires bounded { AreBounded normal.now }
+    requires inside { pivot < length normal.now }
+    requires nonzero { get_or normal.now pivot (pos 0) ≢ pos 0 }
+    ensures same { IfSome result (λ _. joined_terms (split_of rest.new) ≡ joined_terms (split_of rest.old)) }
+    ensures found { IfSome result (IsSought by.now None (split_of rest.new)) }
+{
+    match rest.rewind() {
+        Ok(()) => {}
+        Err(_) => return None,
+    }
+    let mut last = None;
+    'terms: while let Some(t) = rest.next() {
+        if let Some(_) = reducer_on_line(&t.mono, by, x, normal, pivot) {
+            last = Some(t.mono.copy());
+        }
+        match rest.advance() {
+            Ok(()) => {}
+            Err(_) => return None,
+        }
+    }
+    let y = match last {
+        Some(y) => y,
+        None => return Some(None),
+    };
+    let j = reducer_at(rest, &y, by, x, normal, pivot)?;
+    Some(Some(j))
+}
+
+/// Moves the place to a term that is a multiple of the normal apart from `x` and that a member reduces, the first or the last one;
+/// the place of that member, if there is such a term.
+fn seek(
+    rest: &mut Dividend,
+    by: &[Marked],
+    x: &Mono,
+    normal: &[i128],
+    pivot: usize,
+    from_below: bool,
+) -> Option<Option<usize>>
+    requires sound { IsSound (length normal.now) (split_of rest.old) }
+    requires members { HaveVariables (length normal.now) by.now }
+    requires variables { length x.now ≡ length normal.now }
+    requires bounded { AreBounded normal.now }
+    requires inside { pivot < length normal.now }
+    requires nonzero { get_or normal.now pivot (pos 0) ≢ pos 0 }
+    ensures same { IfSome result (λ _. joined_terms (split_of rest.new) ≡ joined_terms (split_of rest.old)) }
+    ensures found { IfSome result (IsSought by.now None (split_of rest.new)) }
+{
+    if from_below {
+        return seek_last(rest, by, x, normal, pivot);
+    }
+    seek_line(rest, by, x, normal, pivot)
+}
+
+/// Whether what steps along the normal lead to is greater by degree and then lex.
+fn leads_up(normal: &[i128]) -> bool {
+    let mut degree = 0i128;
+    let mut first = 0i128;
+    'entries: for a in normal {
+        degree = degree.wrapping_add(*a);
+        if first == 0 {
+            first = *a;
+        }
+    }
+    if degree == 0 {
+        return first < 0;
+    }
+    degree < 0
+}
+
 /// Whether no term is a multiple of the normal apart from `x`.
 fn is_off(terms: &[Term], x: &Mono, normal: &[i128], pivot: usize) -> bool
     requires terms { HasVariables (length normal.now) terms.now }
@@ -101,7 +213,8 @@ fn is_off(terms: &[Term], x: &Mono, normal: &[i128], pivot: usize) -> bool
 }
 
 /// What steps by the members lead to, each at a term that is a multiple of the normal apart from `x`, once no member reduces
-/// such a term; if none is left.
+/// such a term; if none is left. Where steps lead up, the last such term is taken once there were many: by it equal terms meet before
+/// they are reduced.
 fn top_remainder(
     alloc: Global,
     f: Poly,
@@ -119,8 +232,11 @@ fn top_remainder(
     requires nonzero { get_or normal.now pivot (pos 0) ≢ pos 0 }
     ensures { IfSome result (IsTopRemainder by.now normal.now x.now f) }
 {
+    let up = leads_up(normal);
+    let mut patience = PATIENCE;
     let mut rest = Dividend::new(alloc, f);
-    'steps: while let Some(j) = seek_line(&mut rest, by, x, normal, pivot)? {
+    'steps: while let Some(j) = seek(&mut rest, by, x, normal, pivot, up && patience == 0)? {
+        patience = patience.saturating_sub(1);
         let member = &by[j];
         match rest.step(member) {
             Ok(_) => {}

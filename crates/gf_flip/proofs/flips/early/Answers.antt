@@ -27,16 +27,16 @@ pub reduced_tails-requires-clause-flags : goal.reduced_tails-requires-clause-fla
 reduced_tails-requires-clause-flags c = copies-length c.items.result.now c.in_ok-lifted.lifted.members.items c.in_ok-lifted.lifted.copied.items c.in_ok-lifted.ensures.copied
 
 pub reduced_tails-requires-clause-variables : goal.reduced_tails-requires-clause-variables
-reduced_tails-requires-clause-variables c = record { n = length c.as_slice.result.now; each = c.in_ok-lifted.ensures.variables }
+reduced_tails-requires-clause-variables c = have_at (length c.as_slice.result.now) c.variables-n.result c.in_ok-lifted.lifted.members.items c.in_ok-lifted.lifted.members.items c.in_ok-lifted.ensures.variables refl (c.variables-n.ensures ∙ sym (ap length c.as_slice.ensures.value ∙ crossing_width c.args.set.now.variables c.args.set.now.items c.args.normal.now c.requires.crossing))
 
 pub new-all-requires : goal.new-all-requires
-new-all-requires c = ended_variables c.args.set.now.variables c.variables.result c.args.set.now.items c.args.normal.now c.args.below.now c.in_ok-members.members.items c.variables.ensures
+new-all-requires c = ended_variables c.args.set.now.variables c.variables-n.result c.args.set.now.items c.args.normal.now c.args.below.now c.in_ok-members.members.items c.variables-n.ensures
     (ending_at c.args.set.now.variables c.args.set.now.items c.items.result.now c.args.normal.now c.as_slice.result.now c.args.below.now c.in_ok-lifted.lifted.members.items c.in_ok-lifted.lifted.copied.items c.in_ok-members.members.items c.requires.crossing c.requires.parts c.items.ensures.value c.as_slice.ensures.value c.in_ok-lifted.ensures.value c.in_ok-lifted.ensures.variables c.in_ok-lifted.ensures.copied c.in_ok-members.ensures)
 
 pub returns-in-Ok-clause-value : goal.returns-in-Ok-clause-value
-returns-in-Ok-clause-value c = ended_neighbour c.args.set.now.variables c.variables.result c.args.set.now.items c.args.normal.now c.args.below.now c.in_ok-members.members.items c.new-all.result c.in-Ok.across c.requires.crossing c.requires.parts c.variables.ensures
+returns-in-Ok-clause-value c = ended_neighbour c.args.set.now.variables c.variables-n.result c.args.set.now.items c.args.normal.now c.args.below.now c.in_ok-members.members.items c.new-all.result c.in-Ok.across c.requires.crossing c.requires.parts c.variables-n.ensures
     (ending_at c.args.set.now.variables c.args.set.now.items c.items.result.now c.args.normal.now c.as_slice.result.now c.args.below.now c.in_ok-lifted.lifted.members.items c.in_ok-lifted.lifted.copied.items c.in_ok-members.members.items c.requires.crossing c.requires.parts c.items.ensures.value c.as_slice.ensures.value c.in_ok-lifted.ensures.value c.in_ok-lifted.ensures.variables c.in_ok-lifted.ensures.copied c.in_ok-members.ensures)
     c.new-all.ensures c.in-Ok.ensures
 
 pub returns-in-Ok-clause-variables : goal.returns-in-Ok-clause-variables
-returns-in-Ok-clause-variables c = c.in-Ok.ensures.variables ∙ ap (λ z. z.variables) c.new-all.ensures ∙ c.variables.ensures
+returns-in-Ok-clause-variables c = c.in-Ok.ensures.variables ∙ ap (λ z. z.variables) c.new-all.ensures ∙ c.variables-n.ensures

@@ -16,7 +16,7 @@ pub settle-requires-clause-flags : goal.settle-requires-clause-flags
 settle-requires-clause-flags c = ap (λ (z : List Bool). length z) c.deref.ensures.value ∙ c.requires.flags ∙ sym (turned-length c.args.lifts.members.items c.args.lifts.copied.items c.lifts.at c.lifts.all.items c.lifts.invariant)
 
 pub settle-requires-clause-variables : goal.settle-requires-clause-variables
-settle-requires-clause-variables c = record { n = c.requires.variables.n; each = turned_variables c.requires.variables.n c.args.lifts.members.items c.args.lifts.copied.items c.lifts.at c.lifts.all.items c.lifts.invariant c.requires.variables.each }
+settle-requires-clause-variables c = turned_variables c.args.n c.args.lifts.members.items c.args.lifts.copied.items c.lifts.at c.lifts.all.items c.lifts.invariant c.requires.variables
 
 pub lifts-preserved : goal.lifts-preserved
 lifts-preserved c = AreTailsInTurn.more c.lifts.at c.lifts.all.items c.settle.new.all.items c.lifts.invariant

@@ -1,8 +1,14 @@
 use Rattle.std.proofs.Common.{List, refl, sym, subst, inl, inr}
-use Rattle.gf_poly.specs.Marking.{MarkedPolynomial}
+use Rattle.gf_poly.specs.Marking.{MarkedPolynomial, HaveVariables}
 use Rattle.gf_division.specs.NormalForms.{HasSomeWeight}
 use Rattle.gf_flip.specs.LiftTails.{HasUndividedTailAt, IsReducedLiftAt}
 use Rattle.gf_flip.proofs.tails.settle.Goals as goal
+
+pub stays-requires-clause-variables : goal.stays-requires-clause-variables
+stays-requires-clause-variables c = record { n = c.args.n; each = subst (HaveVariables c.args.n) (sym c.deref.ensures.value) c.requires.variables }
+
+pub reduced_lift-requires-clause-variables : goal.reduced_lift-requires-clause-variables
+reduced_lift-requires-clause-variables c = record { n = c.args.n; each = subst (HaveVariables c.args.n) (sym c.deref-2.ensures.value) c.requires.variables }
 
 pub reduced_lift-requires-clause-marked : goal.reduced_lift-requires-clause-marked
 reduced_lift-requires-clause-marked c = subst HasSomeWeight (sym c.deref-2.ensures.value) c.requires.marked
