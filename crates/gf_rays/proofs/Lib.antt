@@ -22,4 +22,8 @@ pub mod FacetLaws  -- facet rows by flags
 pub mod PartLaws  -- the rays on which an inequality is zero
 pub mod FacePartLaws  -- whether a cone is a face of another one, by flags
 pub mod FlagFaceLaws  -- faces by flags, one inequality further
+mod HeightLaws  -- the part next below another one
 pub mod FaceNumbers  -- faces by the numbers of their rays, from flags
+mod PickedLaws  -- rays picked by their numbers, one further
+mod KeptLaws  -- rays with one flag more, where an inequality is negative on none of them
+mod TurnLaws  -- rows that are zero in the column already

@@ -19,6 +19,7 @@ mod level;
 mod numbers;
 mod part;
 mod parts;
+mod pick;
 mod prune;
 mod ray;
 mod rays;
