@@ -18,14 +18,14 @@ use std::alloc::Global;
 use std::cmp::Ordering;
 use std::test::Fail;
 
-// the greatest coefficient, and the greatest exponent
+/// the greatest coefficient, and the greatest exponent
 const M: i128 = i128::MAX;
 
 const E: u32 = 2_147_483_647;
 
 // ---- weights
 
-// An entry of the weight times an exponent.
+/// An entry of the weight times an exponent.
 fn share(w: u8, exponent: u32) -> u64
     ensures value { result ≡ w * exponent }
     ensures bound { result ≤ 2 ^ 40 }
@@ -33,7 +33,7 @@ fn share(w: u8, exponent: u32) -> u64
     u64::from(w) * u64::from(exponent)
 }
 
-// The weight of a monomial.
+/// The weight of a monomial.
 fn weight_of(weight: &[u8], mono: &Mono) -> u64
     requires short { length weight.now ≤ ROOM }
     requires same_variables { length mono.now ≡ length weight.now }
@@ -47,7 +47,7 @@ fn weight_of(weight: &[u8], mono: &Mono) -> u64
     sum
 }
 
-// Whether a monomial is the marked one or lighter.
+/// Whether a monomial is the marked one or lighter.
 fn is_within(weight: &[u8], mono: &Mono, head: &Mono) -> bool
     requires short { length weight.now ≤ ROOM }
     requires same_variables { length mono.now ≡ length weight.now }
@@ -60,7 +60,7 @@ fn is_within(weight: &[u8], mono: &Mono, head: &Mono) -> bool
     }
 }
 
-// Whether the weight sets the marked monomial above the other ones.
+/// Whether the weight sets the marked monomial above the other ones.
 fn sets_above(weight: &[u8], b: &Marked) -> bool
     requires short { length weight.now ≤ ROOM }
     requires variables { HasVariables (length weight.now) b.now.poly }
@@ -77,7 +77,7 @@ fn sets_above(weight: &[u8], b: &Marked) -> bool
     true
 }
 
-// Whether that weight does so for each member.
+/// Whether that weight does so for each member.
 fn realises(weight: &[u8], set: &MarkedSet) -> bool
     requires short { length weight.now ≤ ROOM }
     requires variables { set.now.variables ≡ length weight.now }
@@ -94,14 +94,14 @@ fn realises(weight: &[u8], set: &MarkedSet) -> bool
     true
 }
 
-// The fraction 1.
+/// The fraction 1.
 fn one() -> Frac
     ensures { result ≡ one_ℚ }
 {
     Frac::ONE
 }
 
-// Whether the marked coefficient is 1.
+/// Whether the marked coefficient is 1.
 fn is_one(b: &Marked) -> bool
     requires { HasSomeVariables b.now }
     ensures { IsTrue result → (coefficient b.now.poly b.now.head ≡ one_ℚ) }
@@ -111,7 +111,7 @@ fn is_one(b: &Marked) -> bool
     b.coefficient() == one()
 }
 
-// Whether the marked coefficient is 1, and the weight sets the marked monomial above the other ones.
+/// Whether the marked coefficient is 1, and the weight sets the marked monomial above the other ones.
 fn marks(weight: &[u8], b: &Marked) -> bool
     requires short { length weight.now ≤ ROOM }
     requires variables { HasVariables (length weight.now) b.now.poly }
@@ -120,7 +120,7 @@ fn marks(weight: &[u8], b: &Marked) -> bool
     is_one(b) && sets_above(weight, b)
 }
 
-// Whether that holds of each member.
+/// Whether that holds of each member.
 fn marks_all(weight: &[u8], set: &MarkedSet) -> bool
     requires short { length weight.now ≤ ROOM }
     requires variables { set.now.variables ≡ length weight.now }
@@ -139,7 +139,7 @@ fn marks_all(weight: &[u8], set: &MarkedSet) -> bool
 
 // ---- worked values of the documentation
 
-// The step at a monomial, unless it isn't one that may be taken.
+/// The step at a monomial, unless it isn't one that may be taken.
 fn stepped(alloc: Global, f: &Poly, at: &Mono, by: &Marked) -> Result<Option<Poly>, PolyError>
     requires variables { HasVariables (length at.now) f.now }
     requires member { HasVariables (length at.now) by.now.poly }
@@ -151,7 +151,7 @@ fn stepped(alloc: Global, f: &Poly, at: &Mono, by: &Marked) -> Result<Option<Pol
     Ok(Some(g))
 }
 
-// The S-polynomial of two in three variables.
+/// The S-polynomial of two in three variables.
 fn s_polynomial(alloc: Global, f: &Marked, g: &Marked) -> Result<Poly, PolyError>
     requires left { HasVariables 3 f.now.poly }
     requires right { HasVariables 3 g.now.poly }
@@ -159,7 +159,7 @@ fn s_polynomial(alloc: Global, f: &Marked, g: &Marked) -> Result<Poly, PolyError
     s_poly(alloc, f, g)
 }
 
-// The normal form, unless the weight (1, 2, 3) doesn't set the marks above.
+/// The normal form, unless the weight (1, 2, 3) doesn't set the marks above.
 fn normal_form_by(alloc: Global, f: &Poly, set: &MarkedSet) -> Result<Option<Poly>, PolyError>
     requires variables { HasVariables 3 f.now }
     requires same_variables { set.now.variables ≡ 3 }
@@ -180,7 +180,7 @@ fn division_of(alloc: Global, f: &Poly, by: &MarkedSet) -> Result<Division, Poly
     divide(alloc, f, by)
 }
 
-// The division, likewise.
+/// The division, likewise.
 fn divided_by(alloc: Global, f: &Poly, set: &MarkedSet) -> Result<Option<Division>, PolyError>
     requires variables { HasVariables 3 f.now }
     requires same_variables { set.now.variables ≡ 3 }
@@ -192,7 +192,7 @@ fn divided_by(alloc: Global, f: &Poly, set: &MarkedSet) -> Result<Option<Divisio
     Ok(Some(division))
 }
 
-// The set autoreduced, likewise.
+/// The set autoreduced, likewise.
 fn autoreduced(alloc: Global, set: &MarkedSet) -> Result<Option<MarkedSet>, PolyError>
     requires { set.now.variables ≡ 3 }
 {
@@ -203,7 +203,7 @@ fn autoreduced(alloc: Global, set: &MarkedSet) -> Result<Option<MarkedSet>, Poly
     Ok(Some(reduced))
 }
 
-// a^2 - 1 and 3ab - 3 have the S-polynomial a - b
+/// a^2 - 1 and 3ab - 3 have the S-polynomial a - b
 #[test]
 fn s_polynomials(rt: HostRuntime) -> Result<(), Fail> {
     let alloc = rt.alloc();
@@ -214,7 +214,7 @@ fn s_polynomials(rt: HostRuntime) -> Result<(), Fail> {
     Ok(())
 }
 
-// by c - b, marked at c: c^2 becomes bc by one step, and its normal form is b^2
+/// by c - b, marked at c: c^2 becomes bc by one step, and its normal form is b^2
 #[test]
 fn steps(rt: HostRuntime) -> Result<(), Fail> {
     let alloc = rt.alloc();
@@ -229,8 +229,8 @@ fn steps(rt: HostRuntime) -> Result<(), Fail> {
     Ok(())
 }
 
-// by a^2 and c + a^2, marked at c, which isn't its greatest monomial by deglex: 2a^2 + c gives the first member 2, the second 1,
-// and then the first -1 more
+/// by a^2 and c + a^2, marked at c, which isn't its greatest monomial by deglex: 2a^2 + c gives the first member 2, the second 1,
+/// and then the first -1 more
 #[test]
 fn mark_of_less_degree(rt: HostRuntime) -> Result<(), Fail> {
     let alloc = rt.alloc();
@@ -249,7 +249,7 @@ fn mark_of_less_degree(rt: HostRuntime) -> Result<(), Fail> {
     Ok(())
 }
 
-// c + b and b, marked at c and b, become b and c; of 2c - 2b and c - a, both marked at c, the first stays
+/// c + b and b, marked at c and b, become b and c; of 2c - 2b and c - a, both marked at c, the first stays
 #[test]
 fn autoreductions(rt: HostRuntime) -> Result<(), Fail> {
     let alloc = rt.alloc();
@@ -280,7 +280,7 @@ fn autoreductions(rt: HostRuntime) -> Result<(), Fail> {
 
 // ---- refusals
 
-// Whether an operation on these whole numbers, or their negatives, is refused.
+/// Whether an operation on these whole numbers, or their negatives, is refused.
 fn overflows<T>(found: &Result<T, PolyError>, op: Op, left: i128, right: i128) -> bool {
     match found {
         Err(PolyError::Overflow(o)) => {
@@ -292,7 +292,7 @@ fn overflows<T>(found: &Result<T, PolyError>, op: Op, left: i128, right: i128) -
     }
 }
 
-// Whether the sum of these exponents is refused.
+/// Whether the sum of these exponents is refused.
 fn passes_limit<T>(found: &Result<T, PolyError>, left: u32, right: u32) -> bool {
     match found {
         Err(PolyError::Exponent(o)) => o.left == u64::from(left) && o.right == u64::from(right),
@@ -300,7 +300,7 @@ fn passes_limit<T>(found: &Result<T, PolyError>, left: u32, right: u32) -> bool 
     }
 }
 
-// of S-polynomials M less -M, and the exponents 1 and E of b; of steps 2 times M, and the same exponents
+/// of S-polynomials M less -M, and the exponents 1 and E of b; of steps 2 times M, and the same exponents
 #[test]
 fn refused_steps(rt: HostRuntime) -> Result<(), Fail> {
     let alloc = rt.alloc();
@@ -317,7 +317,7 @@ fn refused_steps(rt: HostRuntime) -> Result<(), Fail> {
     Ok(())
 }
 
-// by c - Ma and b - a: 2c takes 2 times M, and a^E b takes a^E times a; by a^2 and c + a^2, as above, Ma^2 - c takes M and 1 more
+/// by c - Ma and b - a: 2c takes 2 times M, and a^E b takes a^E times a; by a^2 and c + a^2, as above, Ma^2 - c takes M and 1 more
 #[test]
 fn refused_reductions(rt: HostRuntime) -> Result<(), Fail> {
     let alloc = rt.alloc();
@@ -344,7 +344,7 @@ fn refused_reductions(rt: HostRuntime) -> Result<(), Fail> {
     Ok(())
 }
 
-// the tail of c - Mb by b - 2, and that of a^E c - a^E b by b - a
+/// the tail of c - Mb by b - 2, and that of a^E c - a^E b by b - a
 #[test]
 fn refused_autoreductions(rt: HostRuntime) -> Result<(), Fail> {
     let alloc = rt.alloc();
@@ -371,13 +371,13 @@ fn refused_autoreductions(rt: HostRuntime) -> Result<(), Fail> {
 
 // ---- divisions multiplied out
 
-// The next number of a linear congruential generator.
+/// The next number of a linear congruential generator.
 fn next(seed: u64) -> u64 {
     seed.wrapping_mul(6364136223846793005)
         .wrapping_add(1442695040888963407)
 }
 
-// A coefficient from -3 to 3, and exponents up to 2.
+/// A coefficient from -3 to 3, and exponents up to 2.
 fn random_row(seed: u64) -> (i128, [u32; 3]) {
     let first = next(seed);
     let second = next(first);
@@ -392,7 +392,7 @@ fn random_row(seed: u64) -> (i128, [u32; 3]) {
     )
 }
 
-// The sum of four such terms.
+/// The sum of four such terms.
 fn random_poly(alloc: Global, seed: u64) -> Result<Poly, PolyError>
     ensures { IfOk result (HasVariables 3) }
 {
@@ -406,7 +406,7 @@ fn random_poly(alloc: Global, seed: u64) -> Result<Poly, PolyError>
     poly(alloc, &rows)
 }
 
-// The polynomial made monic, its deglex greatest term marked.
+/// The polynomial made monic, its deglex greatest term marked.
 fn member(p: Poly) -> Result<Marked, PolyError>
     requires { HasVariables 3 p }
     ensures { IfOk result (λ b. HasVariables 3 b.poly) }
@@ -419,7 +419,7 @@ fn member(p: Poly) -> Result<Marked, PolyError>
     Ok(c)
 }
 
-// The set of two.
+/// The set of two.
 fn set_of(first: Marked, second: Marked, alloc: Global) -> Result<MarkedSet, PolyError>
     requires left { HasVariables 3 first.poly }
     requires right { HasVariables 3 second.poly }
@@ -429,7 +429,7 @@ fn set_of(first: Marked, second: Marked, alloc: Global) -> Result<MarkedSet, Pol
     Ok(MarkedSet::new(3, items))
 }
 
-// Adds the products of the terms.
+/// Adds the products of the terms.
 fn push_products(all: &mut Vec<Term>, h: &Poly, g: &Poly) -> Result<(), PolyError> {
     for i in 0..h.terms().len() {
         for j in 0..g.terms().len() {
@@ -446,7 +446,7 @@ fn push_products(all: &mut Vec<Term>, h: &Poly, g: &Poly) -> Result<(), PolyErro
     Ok(())
 }
 
-// The remainder plus the cofactors times the members, worked out.
+/// The remainder plus the cofactors times the members, worked out.
 fn multiplied_out(alloc: Global, division: &Division, by: &MarkedSet) -> Result<Poly, PolyError> {
     let unit = poly(alloc, &[(1, [0, 0, 0])])?;
     let mut all = Vec::new(alloc);
@@ -462,7 +462,7 @@ fn multiplied_out(alloc: Global, division: &Division, by: &MarkedSet) -> Result<
     Poly::from_terms(all)
 }
 
-// Whether the terms are the same.
+/// Whether the terms are the same.
 fn are_equal(f: &Poly, g: &Poly) -> bool {
     let first = f.terms();
     let second = g.terms();
@@ -479,7 +479,7 @@ fn are_equal(f: &Poly, g: &Poly) -> bool {
     true
 }
 
-// Whether a division by two members multiplies out; none where it takes no step, or the marks aren't set above.
+/// Whether a division by two members multiplies out; none where it takes no step, or the marks aren't set above.
 fn is_right(alloc: Global, f: Poly, first: Poly, second: Poly) -> Result<Option<bool>, PolyError>
     requires dividend { HasVariables 3 f }
     requires left { HasVariables 3 first }
@@ -500,7 +500,7 @@ fn is_right(alloc: Global, f: Poly, first: Poly, second: Poly) -> Result<Option<
     Ok(Some(are_equal(&f, &back)))
 }
 
-// 100 divisions in which steps are taken
+/// 100 divisions in which steps are taken
 #[test]
 fn random_divisions(rt: HostRuntime) -> Result<(), Fail> {
     let alloc = rt.alloc();

@@ -2,10 +2,10 @@ use gf_frac::*;
 use std::cmp::Ordering;
 use std::test::Fail;
 
-// 2^127 - 1, the greatest number in range
+/// 2^127 - 1, the greatest number in range
 const MOST: i128 = i128::MAX;
 
-// by hand
+/// by hand
 #[test]
 fn sums(rt: HostRuntime) -> Result<(), Fail> {
     assert!(rt; Frac::new(1, 2).add(&Frac::new(1, 3))? == Frac::new(5, 6));
@@ -17,7 +17,7 @@ fn sums(rt: HostRuntime) -> Result<(), Fail> {
     Ok(())
 }
 
-// by hand
+/// by hand
 #[test]
 fn products(rt: HostRuntime) -> Result<(), Fail> {
     assert!(rt; Frac::new(2, 3).mul(&Frac::new(3, 4))? == Frac::new(1, 2));
@@ -28,7 +28,7 @@ fn products(rt: HostRuntime) -> Result<(), Fail> {
     Ok(())
 }
 
-// by hand: an operation is refused with its operands as they were given
+/// by hand: an operation is refused with its operands as they were given
 #[test]
 fn refusals(rt: HostRuntime) -> Result<(), Fail> {
     let most = Frac::new(MOST, 1);
@@ -45,7 +45,7 @@ fn refusals(rt: HostRuntime) -> Result<(), Fail> {
     Ok(())
 }
 
-// the quotient by a nonzero fraction
+/// the quotient by a nonzero fraction
 fn divided(left: &Frac, right: &Frac) -> Result<Frac, Overflow> {
     if right.is_zero() {
         return Ok(Frac::ZERO);
@@ -61,7 +61,7 @@ fn refused(op: Op, left: &Frac, right: &Frac) -> Overflow {
     }
 }
 
-// by hand
+/// by hand
 #[test]
 fn parts(rt: HostRuntime) -> Result<(), Fail> {
     let third = Frac::new(-2, 6);

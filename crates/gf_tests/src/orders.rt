@@ -78,7 +78,7 @@ fn tables(rt: HostRuntime) -> Result<(), Fail> {
     Ok(())
 }
 
-// the first entry that is too small; zeros are taken by a weighted order alone
+/// the first entry that is too small; zeros are taken by a weighted order alone
 #[test]
 fn refusals(rt: HostRuntime) -> Result<(), Fail> {
     let weight = IntVec::from_slice(rt.alloc(), &[-1, 1])?;
@@ -92,7 +92,7 @@ fn refusals(rt: HostRuntime) -> Result<(), Fail> {
     Ok(())
 }
 
-// 64 entries of the greatest absolute value
+/// 64 entries of the greatest absolute value
 #[test]
 fn widest_weights(rt: HostRuntime) -> Result<(), Fail> {
     let most = [u32::MAX; 64];

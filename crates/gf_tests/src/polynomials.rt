@@ -8,10 +8,10 @@ use gf_vec::IntVec;
 use std::alloc::Global;
 use std::test::Fail;
 
-// the greatest exponent
+/// the greatest exponent
 const MOST: u32 = 2_147_483_647;
 
-// c * a^x * b^y * c^z
+/// c * a^x * b^y * c^z
 fn term(alloc: Global, coef: i64, x: u8, y: u8, z: u8) -> Term
     ensures { result.mono ≡ x ∷ y ∷ z ∷ [] }
 {
@@ -22,7 +22,7 @@ fn term(alloc: Global, coef: i64, x: u8, y: u8, z: u8) -> Term
     }
 }
 
-// The sum of two terms.
+/// The sum of two terms.
 fn two(first: Term, second: Term, alloc: Global) -> Result<Poly, PolyError>
     requires left { HasVariables 3 (first ∷ []) }
     requires right { HasVariables 3 (second ∷ []) }
@@ -32,7 +32,7 @@ fn two(first: Term, second: Term, alloc: Global) -> Result<Poly, PolyError>
     Poly::from_terms(terms)
 }
 
-// The sum of three terms.
+/// The sum of three terms.
 fn three(first: Term, second: Term, third: Term, alloc: Global) -> Result<Poly, PolyError>
     requires { HasVariables 3 (first ∷ second ∷ third ∷ []) }
     ensures { IfOk result (HasVariables 3) }
@@ -41,7 +41,7 @@ fn three(first: Term, second: Term, third: Term, alloc: Global) -> Result<Poly, 
     Poly::from_terms(terms)
 }
 
-// Whether these are the terms of the polynomial.
+/// Whether these are the terms of the polynomial.
 fn lists(p: &Poly, expected: &[(i128, i128, [u32; 3])]) -> bool {
     let terms = p.terms();
     if terms.len() != expected.len() {
@@ -60,7 +60,7 @@ fn lists(p: &Poly, expected: &[(i128, i128, [u32; 3])]) -> bool {
     true
 }
 
-// Whether this is the refusal of an operation on these two fractions; a product's may come in either order.
+/// Whether this is the refusal of an operation on these two fractions; a product's may come in either order.
 fn names(refusal: Option<PolyError>, op: Op, left: Frac, right: Frac) -> bool {
     match refusal {
         Some(PolyError::Overflow(o)) => {
@@ -72,7 +72,7 @@ fn names(refusal: Option<PolyError>, op: Op, left: Frac, right: Frac) -> bool {
     }
 }
 
-// a worked value of the documentation: a - b and b - c make a - c
+/// a worked value of the documentation: a - b and b - c make a - c
 #[test]
 fn sum_of_differences(rt: HostRuntime) -> Result<(), Fail> {
     let alloc = rt.alloc();
@@ -91,7 +91,7 @@ fn sum_of_differences(rt: HostRuntime) -> Result<(), Fail> {
     Ok(())
 }
 
-// a worked value of the documentation: 2a times a - b
+/// a worked value of the documentation: 2a times a - b
 #[test]
 fn product_with_term(rt: HostRuntime) -> Result<(), Fail> {
     let alloc = rt.alloc();
@@ -110,7 +110,7 @@ fn product_with_term(rt: HostRuntime) -> Result<(), Fail> {
     Ok(())
 }
 
-// The polynomial with a mark at this place.
+/// The polynomial with a mark at this place.
 fn marked(p: Poly, index: usize) -> Result<Marked, PolyError>
     requires { HasVariables 3 p }
     ensures { IfOk result (λ b. HasVariables 3 b.poly) }
@@ -121,7 +121,7 @@ fn marked(p: Poly, index: usize) -> Result<Marked, PolyError>
     Ok(Marked::mark(p, index))
 }
 
-// The list of two marked polynomials.
+/// The list of two marked polynomials.
 fn set_of(first: Marked, second: Marked, alloc: Global) -> Result<MarkedSet, PolyError>
     requires left { HaveVariables 3 (first ∷ []) }
     requires right { HaveVariables 3 (second ∷ []) }
@@ -130,7 +130,7 @@ fn set_of(first: Marked, second: Marked, alloc: Global) -> Result<MarkedSet, Pol
     Ok(MarkedSet::new(3, items))
 }
 
-// Whether the list has two members with these marks.
+/// Whether the list has two members with these marks.
 fn has_heads(set: &MarkedSet, first: [u32; 3], second: [u32; 3]) -> bool {
     let items = set.items();
     items.len() == 2
@@ -138,7 +138,7 @@ fn has_heads(set: &MarkedSet, first: [u32; 3], second: [u32; 3]) -> bool {
         && items[1].head().exponents() == second.as_slice()
 }
 
-// a worked value of the documentation: 2a + b, marked at 2a, is made monic
+/// a worked value of the documentation: 2a + b, marked at 2a, is made monic
 #[test]
 fn monic_polynomial(rt: HostRuntime) -> Result<(), Fail> {
     let alloc = rt.alloc();
@@ -151,7 +151,7 @@ fn monic_polynomial(rt: HostRuntime) -> Result<(), Fail> {
     Ok(())
 }
 
-// a worked value of the documentation: a*b + c and b^2 + c, marked at a*b and b^2, change places
+/// a worked value of the documentation: a*b + c and b^2 + c, marked at a*b and b^2, change places
 #[test]
 fn arranged_list(rt: HostRuntime) -> Result<(), Fail> {
     let alloc = rt.alloc();
@@ -166,7 +166,7 @@ fn arranged_list(rt: HostRuntime) -> Result<(), Fail> {
     Ok(())
 }
 
-// powers of one variable, up to the limit and past it; what was refused changed nothing
+/// powers of one variable, up to the limit and past it; what was refused changed nothing
 #[test]
 fn powers_of_a_variable(rt: HostRuntime) -> Result<(), Fail> {
     let mut mono = Mono::one(rt.alloc(), 3);
@@ -186,7 +186,7 @@ fn powers_of_a_variable(rt: HostRuntime) -> Result<(), Fail> {
     Ok(())
 }
 
-// by hand
+/// by hand
 #[test]
 fn plain_lists(rt: HostRuntime) -> Result<(), Fail> {
     let alloc = rt.alloc();
@@ -197,7 +197,7 @@ fn plain_lists(rt: HostRuntime) -> Result<(), Fail> {
     Ok(())
 }
 
-// by hand: like terms are added, zeros are left out, the degree decides before the first exponent
+/// by hand: like terms are added, zeros are left out, the degree decides before the first exponent
 #[test]
 fn collected_terms(rt: HostRuntime) -> Result<(), Fail> {
     let alloc = rt.alloc();
@@ -223,7 +223,7 @@ fn collected_terms(rt: HostRuntime) -> Result<(), Fail> {
     Ok(())
 }
 
-// by hand: terms that descend, that rise, that are alike, a zero; terms in any order, no two alike
+/// by hand: terms that descend, that rise, that are alike, a zero; terms in any order, no two alike
 #[test]
 fn descending_terms(rt: HostRuntime) -> Result<(), Fail> {
     let alloc = rt.alloc();
@@ -247,7 +247,7 @@ fn descending_terms(rt: HostRuntime) -> Result<(), Fail> {
     Ok(())
 }
 
-// by hand: the first sum from the left that passes 2^127 - 1
+/// by hand: the first sum from the left that passes 2^127 - 1
 #[test]
 fn wide_coefficients(rt: HostRuntime) -> Result<(), Fail> {
     let alloc = rt.alloc();
@@ -270,7 +270,7 @@ fn wide_coefficients(rt: HostRuntime) -> Result<(), Fail> {
     Ok(())
 }
 
-// by hand: with M = 2^127 - 1, M*a - b less -a, half of which as divisor, twice it, and it times a^(2^31 - 1)
+/// by hand: with M = 2^127 - 1, M*a - b less -a, half of which as divisor, twice it, and it times a^(2^31 - 1)
 #[test]
 fn refused_operations(rt: HostRuntime) -> Result<(), Fail> {
     let alloc = rt.alloc();
@@ -295,7 +295,7 @@ fn refused_operations(rt: HostRuntime) -> Result<(), Fail> {
     Ok(())
 }
 
-// by hand: the exponents of the first variable whose sum passes 2^31 - 1
+/// by hand: the exponents of the first variable whose sum passes 2^31 - 1
 #[test]
 fn wide_exponents(rt: HostRuntime) -> Result<(), Fail> {
     let alloc = rt.alloc();
@@ -309,7 +309,7 @@ fn wide_exponents(rt: HostRuntime) -> Result<(), Fail> {
     Ok(())
 }
 
-// by hand
+/// by hand
 #[test]
 fn monomials(rt: HostRuntime) -> Result<(), Fail> {
     let alloc = rt.alloc();
@@ -325,7 +325,7 @@ fn monomials(rt: HostRuntime) -> Result<(), Fail> {
     Ok(())
 }
 
-// a worked value of the documentation, a + b for the weight (1,1) of a + b + 1; a negative weight; the widest one
+/// a worked value of the documentation, a + b for the weight (1,1) of a + b + 1; a negative weight; the widest one
 #[test]
 fn initial_forms(rt: HostRuntime) -> Result<(), Fail> {
     let alloc = rt.alloc();

@@ -6,10 +6,10 @@ use gf_vec::{IntVec, VecOp};
 use std::alloc::Global;
 use std::test::Fail;
 
-// By hand, a cone a line: the columns; the inequalities and then the equations, each behind a bar; the lineality basis, the
-// rays, the least inequality of each facet, the sum of the rays, and the dimension.
-// In turn: a half plane; the quadrant; a line; the plane; the part of the octant where the third coordinate is least; the cone
-// over a square; the cone over a segment in a plane; two inequalities of one facet; a zero inequality; a wedge; the origin.
+/// By hand, a cone a line: the columns; the inequalities and then the equations, each behind a bar; the lineality basis, the
+/// rays, the least inequality of each facet, the sum of the rays, and the dimension.
+/// In turn: a half plane; the quadrant; a line; the plane; the part of the octant where the third coordinate is least; the cone
+/// over a square; the cone over a segment in a plane; two inequalities of one facet; a zero inequality; a wedge; the origin.
 const BY_HAND: &str = "2 & | 1 -1 & & | 1 1 & | 1 -1 & | 1 -1 & | 1 -1 & 2
 2 & | 1 0 | 0 1 & & & | 0 1 | 1 0 & | 0 1 | 1 0 & | 1 1 & 2
 2 & | 1 0 | -1 0 & & | 0 1 & & & | 0 0 & 1
@@ -22,12 +22,12 @@ const BY_HAND: &str = "2 & | 1 -1 & & | 1 1 & | 1 -1 & | 1 -1 & | 1 -1 & 2
 3 & | 1 0 0 | 0 1 0 & & | 0 0 1 & | 0 1 0 | 1 0 0 & | 0 1 0 | 1 0 0 & | 1 1 0 & 3
 2 & | 1 0 | -1 0 | 0 1 | 0 -1 & & & & & | 0 0 & 0";
 
-// Whether the vectors are these, in this order.
+/// Whether the vectors are these, in this order.
 fn are(found: &[IntVec], wanted: &[IntVec]) -> bool {
     found == wanted
 }
 
-// Whether the cone has what the line says of it.
+/// Whether the cone has what the line says of it.
 fn is_told(alloc: Global, n: u32, cone: &Rays, parts: &[&str]) -> Result<bool, Fail> {
     let [lineality, rays, facets, sum, dim] = parts else {
         return Err("five parts".into());
@@ -60,7 +60,7 @@ fn cones_by_hand(rt: HostRuntime) -> Result<(), Fail> {
     Ok(())
 }
 
-// what the third inequality gives on the ray that the second one turns (1, 0) into, (1, -(2^127 - 1))
+/// what the third inequality gives on the ray that the second one turns (1, 0) into, (1, -(2^127 - 1))
 #[test]
 fn value_past_the_range(rt: HostRuntime) -> Result<(), Fail> {
     let alloc = rt.alloc();
@@ -79,7 +79,7 @@ fn value_past_the_range(rt: HostRuntime) -> Result<(), Fail> {
     Ok(())
 }
 
-// By hand: the half plane of (1, -1) is a face of itself, and its border, the line of (1, 1), the only other one.
+/// By hand: the half plane of (1, -1) is a face of itself, and its border, the line of (1, 1), the only other one.
 #[test]
 fn faces_by_hand(rt: HostRuntime) -> Result<(), Fail> {
     let alloc = rt.alloc();

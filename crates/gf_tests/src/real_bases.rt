@@ -9,10 +9,10 @@ use gf_vec::IntVec;
 use std::alloc::Global;
 use std::test::Fail;
 
-// Each basis, in so many variables with letters from `a`, consists of binomials, `aebd` for `ae - bd` with `ae` marked: the
-// 2-minors of a matrix of indeterminates, with the diagonal marked; those of a Hankel matrix, which vanish on the rational
-// normal curve; and four quadrics in variables of their own. All are marked reduced Groebner bases (Sturmfels, Groebner bases
-// and convex polytopes); a script checked the first two kinds by the S-polynomials of these lists.
+/// Each basis, in so many variables with letters from `a`, consists of binomials, `aebd` for `ae - bd` with `ae` marked: the
+/// 2-minors of a matrix of indeterminates, with the diagonal marked; those of a Hankel matrix, which vanish on the rational
+/// normal curve; and four quadrics in variables of their own. All are marked reduced Groebner bases (Sturmfels, Groebner bases
+/// and convex polytopes); a script checked the first two kinds by the S-polynomials of these lists.
 const BASES: [(u8, &str); 7] = [
     (6, "aebd afcd bfce"),
     (9, "aebd afcd bfce ahbg aicg bich dheg difg eifh"),
@@ -29,7 +29,7 @@ const BASES: [(u8, &str); 7] = [
     ),
 ];
 
-// How often the letter of this place stands in the first half of a binomial, less how often in the second.
+/// How often the letter of this place stands in the first half of a binomial, less how often in the second.
 fn entry_of(term: &[u8], place: u8) -> i128
     ensures { InRange result }
 {
@@ -42,7 +42,7 @@ fn entry_of(term: &[u8], place: u8) -> i128
     i128::from(entry)
 }
 
-// The exponents of the marked monomial less those of the other one.
+/// The exponents of the marked monomial less those of the other one.
 fn normal_of(alloc: Global, n: u8, term: &[u8]) -> Result<IntVec, GordanError>
     ensures { IfOk result (λ v. length v ≡ n) }
 {
@@ -53,7 +53,7 @@ fn normal_of(alloc: Global, n: u8, term: &[u8]) -> Result<IntVec, GordanError>
     Ok(IntVec::from_vec(entries))
 }
 
-// The normals but for one, and the unit vectors.
+/// The normals but for one, and the unit vectors.
 fn rows_of(alloc: Global, n: u8, terms: &str, but: usize) -> Result<Vec<IntVec>, GordanError>
     ensures { IfOk result (λ rows. AreRows n rows.items) }
 {
@@ -69,7 +69,7 @@ fn rows_of(alloc: Global, n: u8, terms: &str, but: usize) -> Result<Vec<IntVec>,
     Ok(rows)
 }
 
-// That one, where there is one of this number.
+/// That one, where there is one of this number.
 fn equations_of(alloc: Global, n: u8, terms: &str, but: usize) -> Result<Vec<IntVec>, GordanError>
     ensures { IfOk result (λ rows. AreRows n rows.items) }
 {
@@ -80,7 +80,7 @@ fn equations_of(alloc: Global, n: u8, terms: &str, but: usize) -> Result<Vec<Int
     Ok(equations)
 }
 
-// Whether both ways answer with a point, or both with multipliers, and the answer of `strict` is right.
+/// Whether both ways answer with a point, or both with multipliers, and the answer of `strict` is right.
 fn agree(alloc: Global, n: u8, rows: &[IntVec], equations: &[IntVec]) -> Result<bool, Fail>
     requires rows { AreRows n rows.now }
     requires equations { AreRows n equations.now }
@@ -91,7 +91,7 @@ fn agree(alloc: Global, n: u8, rows: &[IntVec], equations: &[IntVec]) -> Result<
     Ok(right && is_point(&fast) == is_point(&plain))
 }
 
-// 35 systems: is a normal a facet of the cone cut with the orthant; of the least basis also for a point inside
+/// 35 systems: is a normal a facet of the cone cut with the orthant; of the least basis also for a point inside
 #[test]
 fn kinds_agree(rt: HostRuntime) -> Result<(), Fail> {
     let alloc = rt.alloc();

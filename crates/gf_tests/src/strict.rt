@@ -8,7 +8,7 @@ use gf_vec::{IntVec, WideVector, dot_slices, product, total};
 use std::alloc::{AllocError, Global};
 use std::test::Fail;
 
-// Whether every row is positive and every equation zero on the vector.
+/// Whether every row is positive and every equation zero on the vector.
 fn solves(rows: &[IntVec], equations: &[IntVec], v: &[i128]) -> Result<bool, WideVector> {
     for row in rows {
         if row.as_slice().len() != v.len() || dot_slices(row.as_slice(), v)? <= 0 {
@@ -23,7 +23,7 @@ fn solves(rows: &[IntVec], equations: &[IntVec], v: &[i128]) -> Result<bool, Wid
     Ok(true)
 }
 
-// What a column of the vectors comes to, each taken as often as its multiplier says.
+/// What a column of the vectors comes to, each taken as often as its multiplier says.
 fn column_sum(c: usize, vectors: &[IntVec], multipliers: &[i128]) -> Result<i128, WideVector> {
     let mut sum = 0;
     for (i, vector) in vectors.iter().enumerate() {
@@ -34,7 +34,7 @@ fn column_sum(c: usize, vectors: &[IntVec], multipliers: &[i128]) -> Result<i128
     Ok(sum)
 }
 
-// Whether the multipliers refute the system, and have no common divisor.
+/// Whether the multipliers refute the system, and have no common divisor.
 fn refutes(
     n: usize,
     rows: &[IntVec],
@@ -92,7 +92,7 @@ fn next(seed: u64) -> u64 {
         .wrapping_add(1442695040888963407)
 }
 
-// A row of entries from -3 to 3.
+/// A row of entries from -3 to 3.
 fn random_row(alloc: Global, n: usize, start: u64) -> Result<IntVec, GordanError>
     ensures { IfOk result (λ v. length v ≡ n) }
 {
@@ -115,7 +115,7 @@ fn random_rows(alloc: Global, n: usize, count: u64, start: u64) -> Result<Vec<In
     Ok(rows)
 }
 
-// The vector whose entries stand in the text, apart.
+/// The vector whose entries stand in the text, apart.
 fn vector_in(alloc: Global, n: usize, text: &str) -> Result<IntVec, Fail>
     ensures { IfOk result (λ v. length v ≡ n) }
 {
@@ -133,7 +133,7 @@ fn vector_in(alloc: Global, n: usize, text: &str) -> Result<IntVec, Fail>
     Ok(IntVec::from_vec(entries))
 }
 
-// The vectors that stand in the text, each behind a bar.
+/// The vectors that stand in the text, each behind a bar.
 pub(crate) fn vectors_in(alloc: Global, n: u32, text: &str) -> Result<Vec<IntVec>, Fail>
     ensures { IfOk result (λ rows. AreRows n rows.items) }
 {
@@ -144,7 +144,7 @@ pub(crate) fn vectors_in(alloc: Global, n: u32, text: &str) -> Result<Vec<IntVec
     Ok(rows)
 }
 
-// `point`, or the multipliers, or the refusal.
+/// `point`, or the multipliers, or the refusal.
 fn told(alloc: Global, answer: &Result<Answer, GordanError>) -> Result<String, AllocError> {
     match answer {
         Ok(Answer::Point(_v)) => String::from_str(alloc, "point"),
@@ -152,13 +152,13 @@ fn told(alloc: Global, answer: &Result<Answer, GordanError>) -> Result<String, A
     }
 }
 
-// By hand, a system a line: the columns; the rows and then the equations, each behind a bar; what elimination answers.
-// In turn: x > 0 and -x > 0; both coordinates positive; a row that is an equation too; wide rows, of which the point of the
-// first row is positive on the others, so that nothing is eliminated by one; no columns, no rows, a zero row, a zero equation.
-// Then refusals: of a test, where the first row is tested on zero, the second on (1, 1); of a reduction of the first row by the
-// second, a product and a difference; of a point, where what the first row gives on the second is too wide for the factor of
-// a push, and three times 2^126 for a lift by the equation, whose number is that of the rows; and at no row: the contents are
-// 2^64 and 2^64 - 1.
+/// By hand, a system a line: the columns; the rows and then the equations, each behind a bar; what elimination answers.
+/// In turn: x > 0 and -x > 0; both coordinates positive; a row that is an equation too; wide rows, of which the point of the
+/// first row is positive on the others, so that nothing is eliminated by one; no columns, no rows, a zero row, a zero equation.
+/// Then refusals: of a test, where the first row is tested on zero, the second on (1, 1); of a reduction of the first row by the
+/// second, a product and a difference; of a point, where what the first row gives on the second is too wide for the factor of
+/// a push, and three times 2^126 for a lift by the equation, whose number is that of the rows; and at no row: the contents are
+/// 2^64 and 2^64 - 1.
 const BY_HAND: &str =
     "1 & | 1 | -1 & & Ok(Farkas { rows: IntVec { entries: [1, 1] }, equations: IntVec { entries: [] } })
 2 & | 1 0 | 0 1 & & point
@@ -176,7 +176,7 @@ const BY_HAND: &str =
 3 & | 0 1 0 | 0 -1 1 & | 85070591730234615865843651857942052864 0 0 & Err(Cone(ConeOverflow { row: 2, op: Mul, left: 85070591730234615865843651857942052864, right: 3 }))
 3 & | 1 0 1 | 1 18446744073709551616 0 | 1 -18446744073709551615 0 | -1 0 0 & & Err(Cone(ConeOverflow { row: 4, op: Mul, left: 18446744073709551616, right: 18446744073709551615 }))";
 
-// Whether elimination answers so, and `strict` as well or, where elimination refuses, rightly.
+/// Whether elimination answers so, and `strict` as well or, where elimination refuses, rightly.
 fn is_answered(
     alloc: Global,
     n: u32,
@@ -217,7 +217,7 @@ fn systems_by_hand(rt: HostRuntime) -> Result<(), Fail> {
     Ok(())
 }
 
-// each answer by its definition: 200 systems of up to 4 columns, 7 rows and 2 equations
+/// each answer by its definition: 200 systems of up to 4 columns, 7 rows and 2 equations
 #[test]
 fn random_systems(rt: HostRuntime) -> Result<(), Fail> {
     let alloc = rt.alloc();
@@ -231,7 +231,7 @@ fn random_systems(rt: HostRuntime) -> Result<(), Fail> {
     Ok(())
 }
 
-// elimination refuses some of these ten systems, and pivots answer each
+/// elimination refuses some of these ten systems, and pivots answer each
 #[test]
 fn pivots_reach_further(rt: HostRuntime) -> Result<(), Fail> {
     let alloc = rt.alloc();
@@ -246,7 +246,7 @@ fn pivots_reach_further(rt: HostRuntime) -> Result<(), Fail> {
     Ok(())
 }
 
-// What the rows (1, 0) and (0, 1) are answered with where this is guessed.
+/// What the rows (1, 0) and (0, 1) are answered with where this is guessed.
 fn guessed(alloc: Global, guess: Found) -> Result<String, Fail> {
     let rows = vectors_in(alloc, 2, "| 1 0 | 0 1")?;
     let answer = strict_guessed(alloc, 2, &rows, &[], Some(guess))?;
@@ -254,7 +254,7 @@ fn guessed(alloc: Global, guess: Found) -> Result<String, Fail> {
     Ok(format!(in alloc; "{right} {answer:?}")?)
 }
 
-// by hand: a guess is taken, divided by its content, where it is right; else, as where it is zero on a row, the system is solved
+/// by hand: a guess is taken, divided by its content, where it is right; else, as where it is zero on a row, the system is solved
 #[test]
 fn guesses(rt: HostRuntime) -> Result<(), Fail> {
     let alloc = rt.alloc();

@@ -5,7 +5,7 @@ use std::test::Fail;
 
 const LARGEST: i128 = i128::MAX;
 
-// by hand
+/// by hand
 #[test]
 fn small_vectors(rt: HostRuntime) -> Result<(), Fail> {
     let first = IntVec::from_slice(rt.alloc(), &[1, 2])?;
@@ -22,7 +22,7 @@ fn small_vectors(rt: HostRuntime) -> Result<(), Fail> {
     Ok(())
 }
 
-// by hand; zero vectors stay
+/// by hand; zero vectors stay
 #[test]
 fn primitive_vectors(rt: HostRuntime) -> Result<(), Fail> {
     let mut vector = IntVec::from_slice(rt.alloc(), &[4, -6])?;
@@ -37,7 +37,7 @@ fn primitive_vectors(rt: HostRuntime) -> Result<(), Fail> {
     Ok(())
 }
 
-// by hand: the first operation from the left is the one that is named
+/// by hand: the first operation from the left is the one that is named
 #[test]
 fn wide_operations(rt: HostRuntime) -> Result<(), Fail> {
     let first = IntVec::from_slice(rt.alloc(), &[1, LARGEST, 2])?;
@@ -78,7 +78,7 @@ fn wide_operations(rt: HostRuntime) -> Result<(), Fail> {
     Ok(())
 }
 
-// by hand
+/// by hand
 #[test]
 fn root_signs(rt: HostRuntime) -> Result<(), Fail> {
     assert!(rt; IntVec::from_slice(rt.alloc(), &[-1, 0, 1])?.root_sign() == Ordering::Less);
@@ -95,7 +95,7 @@ fn hash_of<T: Hash>(value: &T) -> u64 {
     state.finish()
 }
 
-// equal vectors hash alike
+/// equal vectors hash alike
 #[test]
 fn hashes(rt: HostRuntime) -> Result<(), Fail> {
     let first = IntVec::from_slice(rt.alloc(), &[5, -7])?;

@@ -5,8 +5,8 @@ use Rattle.gf_frac.specs.Equality.{fraction_eq}
 use Rattle.gf_frac.proofs.FractionLaws.{Decides-fraction_eq}
 use Rattle.gf_poly.specs.Polynomial.{coefficient}
 use Rattle.gf_poly.specs.Marking.{MarkedPolynomial, HasMark, HasMarkedTerm}
+use Rattle.gf_poly.proofs.CoefficientLaws.{term_coefficient}
 use Rattle.gf_division.specs.MonicForms.{HasSomeVariables}
-use Rattle.gf_division.proofs.StepLaws.{term_coefficient}
 use Rattle.gf_tests.proofs.division.is_one.Goals as goal
 
 one_by_test : (b : MarkedPolynomial) (k l : Fraction) (r : Bool) → HasSomeVariables b → HasMarkedTerm b → HasMark b k → l ≡ one_ℚ → r ≡ fraction_eq k l → r ≡ true → coefficient b.poly b.head ≡ one_ℚ
