@@ -41,9 +41,11 @@ pub data ConePlace : Type 0 where
 abbrev pub ConeState : Type 0
 ConeState = List (List ℕ) × ConePlace
 
+-- a move of the machine of cones
 abbrev pub ConeMove : Type 0
 ConeMove = Move ConeState (List (List ℕ))
 
+-- the machine of cones at a token: an opening brace, numbers, the closing brace, the end of the line, and so on to the end of the section
 abbrev pub cone_step : ConeState → List ℕ → ConeMove
 cone_step (cs, before) t = if bytes_eq t section_end then done cs else if bytes_eq t brace then go (cs, inside []) else halt cause.Unexpected
 cone_step (cs, inside ns) t = if bytes_eq t brace_end then go (cs, closed ns)
@@ -51,5 +53,6 @@ cone_step (cs, inside ns) t = if bytes_eq t brace_end then go (cs, closed ns)
     else halt cause.Unexpected
 cone_step (cs, closed ns) t = if bytes_eq t line_end then go (cs ++ ns ∷ [], before) else halt cause.Unexpected
 
+-- nothing is read yet
 abbrev pub cone_start : ConeState
 cone_start = ([], before)

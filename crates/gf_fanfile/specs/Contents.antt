@@ -4,6 +4,7 @@ use Rattle.gf_fanfile.specs.declared.error.FanFileError.{FanFileError}
 use Rattle.gf_fanfile.specs.declared.sections.Contents.{Contents}
 use Rattle.gf_fanfile.specs.FanText.{Content, the_number, the_rows, the_cones, passed, Named, fan_table, text_read, found, ambient_dim, rays_name, lineality_space, maximal_cones}
 
+-- nothing is known of the file yet
 abbrev pub no_contents : Contents
 no_contents = record { ambient = None; rays = None; lineality = None; cones = None }
 
@@ -20,10 +21,12 @@ abbrev pub number_kept : Option ℕ → Option Content
 number_kept None = None
 number_kept (Some n) = Some (the_number n)
 
+-- rows that were read, as a content
 abbrev pub rows_kept : Option (List (List ℤ)) → Option Content
 rows_kept None = None
 rows_kept (Some rs) = Some (the_rows rs)
 
+-- cones that were read, as a content
 abbrev pub cones_kept : Option (List (List ℕ)) → Option Content
 cones_kept None = None
 cones_kept (Some cs) = Some (the_cones cs)

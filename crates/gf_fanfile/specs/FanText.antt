@@ -50,6 +50,7 @@ abbrev pub is_above : ℕ → List Lexeme → Bool
 is_above limit [] = false
 is_above limit (x ∷ xs) = is_number x.text && (nat_le (decimal_value x.text) most_number && nat_le (limit + 1) (decimal_value x.text))
 
+-- the number that the first token is; 0 where there is none
 abbrev pub first_value : List Lexeme → ℕ
 first_value [] = 0
 first_value (x ∷ xs) = decimal_value x.text
@@ -73,15 +74,19 @@ abbrev pub kind_in : Table → List ℕ → ContentKind
 kind_in [] name = any
 kind_in (e ∷ es) name = if bytes_eq e.0 name then e.1 else kind_in es name
 
+-- AMBIENT_DIM
 abbrev pub ambient_dim : List ℕ
 ambient_dim = 65 ∷ 77 ∷ 66 ∷ 73 ∷ 69 ∷ 78 ∷ 84 ∷ 95 ∷ 68 ∷ 73 ∷ 77 ∷ []
 
+-- RAYS
 abbrev pub rays_name : List ℕ
 rays_name = 82 ∷ 65 ∷ 89 ∷ 83 ∷ []
 
+-- LINEALITY_SPACE
 abbrev pub lineality_space : List ℕ
 lineality_space = 76 ∷ 73 ∷ 78 ∷ 69 ∷ 65 ∷ 76 ∷ 73 ∷ 84 ∷ 89 ∷ 95 ∷ 83 ∷ 80 ∷ 65 ∷ 67 ∷ 69 ∷ []
 
+-- MAXIMAL_CONES
 abbrev pub maximal_cones : List ℕ
 maximal_cones = 77 ∷ 65 ∷ 88 ∷ 73 ∷ 77 ∷ 65 ∷ 76 ∷ 95 ∷ 67 ∷ 79 ∷ 78 ∷ 69 ∷ 83 ∷ []
 
@@ -99,6 +104,7 @@ wanted = ambient_dim ∷ rays_name ∷ lineality_space ∷ maximal_cones ∷ []
 abbrev pub Named : Type 0
 Named = List (List ℕ × Content)
 
+-- a content of this name in front of those behind it; the first refusal counts
 abbrev pub then_content : Result Content FanFileError → List ℕ → Result Named FanFileError → Result Named FanFileError
 then_content (Err e) name later = Err e
 then_content (Ok c) name (Err e) = Err e

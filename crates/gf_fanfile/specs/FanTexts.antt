@@ -13,6 +13,7 @@ use Rattle.gf_fanfile.specs.FanWords.{FanWords, fan_text}
 abbrev pub listed_cone : FanCone → ListedCone
 listed_cone k = record { dim = k.dim; rays = k.numbers }
 
+-- so with each of them
 abbrev pub listed_cones : List FanCone → List ListedCone
 listed_cones cones = map listed_cone cones
 

@@ -79,10 +79,12 @@ abbrev pub cone_line : Option ℕ → ListedCone → List ℕ
 cone_line None c = told_cone c
 cone_line (Some d) c = if d == c.dim then cone_text c.rays else told_cone c
 
+-- the lines of cones one behind another, where the dimension told before is this one
 abbrev pub cone_lines : Option ℕ → List ListedCone → List (List ℕ)
 cone_lines before [] = []
 cone_lines before (c ∷ cs) = cone_line before c ∷ cone_lines (Some c.dim) cs
 
+-- 1 for true, 0 for false
 abbrev pub truth_line : Bool → List ℕ
 truth_line true = 49 ∷ []
 truth_line false = 48 ∷ []
@@ -99,12 +101,15 @@ pub record TextSection : Type 0 where
   pub name : List ℕ
   pub lines : List (List ℕ)
 
+-- the section of this name with these lines
 abbrev pub section : List ℕ → List (List ℕ) → TextSection
 section name lines = record { name = name; lines = lines }
 
+-- the lines, each with its end
 abbrev pub lines_text : List (List ℕ) → List ℕ
 lines_text ls = flat_map (λ l. l ++ 10 ∷ []) ls
 
+-- the name in a line, the lines, and an empty line
 abbrev pub section_text : TextSection → List ℕ
 section_text s = s.name ++ (10 ∷ (lines_text s.lines ++ 10 ∷ []))
 
@@ -128,6 +133,7 @@ back_sections f = section (codes "F_VECTOR") (number_lines (f_vector (length f.l
     ∷ section maximal_cones (cone_lines None f.maximal)
     ∷ []
 
+-- sections one behind another
 abbrev pub sections_text : List TextSection → List ℕ
 sections_text ss = flat_map section_text ss
 

@@ -41,6 +41,7 @@ lexeme_of source (tokens.Blank at) = record { text = blank; at = at }
 lexeme_of source (tokens.LineEnd at) = record { text = line_end; at = at }
 lexeme_of source (tokens.SectionEnd at) = record { text = section_end; at = at }
 
+-- a word lies within the source
 abbrev pub IsTokenWithin : List ℕ → Token → Type 0
 IsTokenWithin source (tokens.Word start end) = (start ≤ end) × (end ≤ length source)
 IsTokenWithin source (tokens.Blank at) = Unit {0}
@@ -53,6 +54,7 @@ tokens_left source (places.Within at end next minus) = all_parted minus at (lexe
 tokens_left source (places.End at) = record { text = section_end; at = at } ∷ []
 tokens_left source places.Behind = []
 
+-- a place in a line lies within the source, and so does what follows the line
 abbrev pub IsPlaceWithin : List ℕ → Place → Type 0
 IsPlaceWithin source (places.Within at end next minus) = (at ≤ end) × (end ≤ length source) × (next ≤ length source)
 IsPlaceWithin source (places.End at) = Unit {0}

@@ -23,6 +23,7 @@ lines at (b ∷ bs) = if b == 10 then record { text = []; at = at } ∷ lines (a
 abbrev pub goes_on_line : ℕ → Bool
 goes_on_line b = not (b == 10)
 
+-- whether the byte doesn't begin a comment
 abbrev pub is_no_comment : ℕ → Bool
 is_no_comment b = not (b == 35)
 
@@ -56,6 +57,7 @@ tokens_between source at end = all_parted false at (lexemes word_more (take end 
 
 -- ---- sections
 
+-- whether the byte is a letter from A to Z
 abbrev pub is_capital : ℕ → Bool
 is_capital b = nat_le 65 b && nat_le b 90
 
@@ -79,6 +81,7 @@ pub record Sections : Type 0 where
   pub front : List (List Lexeme)
   pub all : List Section
 
+-- a source without lines
 abbrev pub no_sections : Sections
 no_sections = record { front = []; all = [] }
 
@@ -115,6 +118,7 @@ sections source = (sections_from source 0).all
 abbrev pub line_end : List ℕ
 line_end = 10 ∷ []
 
+-- the mark at the end of a section
 abbrev pub section_end : List ℕ
 section_end = []
 

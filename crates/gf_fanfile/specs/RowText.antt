@@ -44,9 +44,11 @@ pub record RowState : Type 0 where
   pub entries : List ℤ
   pub negative : Bool
 
+-- a move of the machine of rows
 abbrev pub RowMove : Type 0
 RowMove = Move RowState (List (List ℤ))
 
+-- the state with these rows, these entries of the next row, and this sign
 abbrev pub row_state : List (List ℤ) → List ℤ → Bool → RowState
 row_state rs zs m = record { rows = rs; entries = zs; negative = m }
 
@@ -65,8 +67,10 @@ row_step_at rs zs true t = row_size_step rs zs true t
 row_step_at rs [] false t = if bytes_eq t section_end then done rs else row_entry_step rs [] t
 row_step_at rs (z ∷ zs) false t = if bytes_eq t line_end then go (row_state (rs ++ (z ∷ zs) ∷ []) [] false) else row_entry_step rs (z ∷ zs) t
 
+-- the machine of rows at a token
 abbrev pub row_step : RowState → List ℕ → RowMove
 row_step s t = row_step_at s.rows s.entries s.negative t
 
+-- nothing is read yet
 abbrev pub row_start : RowState
 row_start = row_state [] [] false

@@ -10,6 +10,7 @@ use Rattle.gf_front.specs.Table.{shape_with}
 abbrev pub choice_of : Bor Text × Choice → Text × Choice
 choice_of o = (o.0.now, o.1)
 
+-- so with each of them
 abbrev pub choices_of : List (Bor Text × Choice) → List (Text × Choice)
 choices_of = map choice_of
 
@@ -21,5 +22,6 @@ listed_shape c = shape_with c.0.now (choices_of c.1.now)
 abbrev pub as_named : Bor Text × PlainCommand → Text × PlainCommand
 as_named c = (c.0.now, c.1)
 
+-- a command without options, as clap has it
 abbrev pub plain_shape : Bor Text × PlainCommand → Shape
 plain_shape c = shape_with c.0.now []

@@ -17,6 +17,7 @@ abbrev pub job_in : List Entry → Text × List Row → Option Job
 job_in [] m = None
 job_in (e ∷ es) m = if bytes_eq m.0 e.name then Some (e.job m.1) else job_in es m
 
+-- the job of what clap matched: that of its entry in the table
 abbrev pub job_of : Text × List Row → Option Job
 job_of m = job_in commands m
 

@@ -14,9 +14,11 @@ HoldsFlag id rows = (text : Text) → one_of id rows ≡ Some text → (text ≡
 abbrev pub HoldsUnsigned : Text → List Row → Type 0
 HoldsUnsigned id rows = (text : Text) → one_of id rows ≡ Some text → IsNumeral 10 (without_leading_plus text) × (digits_value 10 (without_leading_plus text) < 2 ^ 64)
 
+-- the value lies from `least` to `most`
 abbrev pub LiesBetween : Text → ℕ → ℕ → List Row → Type 0
 LiesBetween id least most rows = (text : Text) → one_of id rows ≡ Some text → (least ≤ digits_value 10 (without_leading_plus text)) × (digits_value 10 (without_leading_plus text) ≤ most)
 
+-- so it is with a number that has these limits
 abbrev pub HoldsNumber : Text → ℕ → ℕ → List Row → Type 0
 HoldsNumber id least most rows = HoldsUnsigned id rows × LiesBetween id least most rows
 
@@ -34,6 +36,7 @@ HoldsChoice id choices.NeededFile rows = HoldsText id rows
 HoldsChoice id (choices.BareNumber least most) rows = HoldsNumber id least most rows × HoldsText id rows
 HoldsChoice id choices.BareFile rows = HoldsText id rows
 
+-- each of these options holds what it may
 abbrev pub HoldChoices : List (Text × Choice) → List Row → Type 0
 HoldChoices [] rows = Unit {0}
 HoldChoices (o ∷ os) rows = HoldsChoice o.0 o.1 rows × HoldChoices os rows
@@ -45,5 +48,6 @@ abbrev pub NamesEntry : List Entry → Text × List Row → Type 0
 NamesEntry [] m = ⊥
 NamesEntry (e ∷ es) m = ((m.0 ≡ e.name) × HoldChoices e.options m.1) ⊎ NamesEntry es m
 
+-- a command of the table was matched, and its options hold what they may
 abbrev pub IsCommand : Text × List Row → Type 0
 IsCommand m = NamesEntry commands m

@@ -33,6 +33,7 @@ long_name id choices.File = Some id
 long_name id choices.NeededFile = Some id
 long_name id _ = None
 
+-- the letter of an option that has one
 abbrev pub short_name : Choice → Option ℕ
 short_name (choices.Letter letter) = Some letter
 short_name _ = None
@@ -43,6 +44,7 @@ action (choices.Letter letter) = SetTrue
 action choices.Flag = SetTrue
 action _ = Set
 
+-- how clap reads the value of an option: a number within limits, or any text
 abbrev pub parser : Choice → Option ValueParser
 parser (choices.Number least most) = Some (numbers least most)
 parser (choices.BareNumber least most) = Some (numbers least most)
@@ -70,6 +72,7 @@ rule id choice = record (new_rule id) {
 abbrev pub most_pairs : ℕ
 most_pairs = 1000000000000
 
+-- the budget of pairs where the words don't say it
 abbrev pub usual_pairs : ℕ
 usual_pairs = 100000000
 
@@ -77,6 +80,7 @@ usual_pairs = 100000000
 abbrev pub most_workers : ℕ
 most_workers = 64
 
+-- a number from 1 to the most pairs
 abbrev pub an_amount : Choice
 an_amount = choices.Number 1 most_pairs
 
@@ -107,6 +111,7 @@ pub record Entry : Type 0 where
   pub options : List (Text × Choice)
   pub job : List Row → Job
 
+-- `_buchberger` with its options
 abbrev pub buchberger : Entry
 buchberger = record {
   name = codes "_buchberger";
@@ -122,6 +127,7 @@ buchberger = record {
   });
 }
 
+-- `_bases` with its options
 abbrev pub bases : Entry
 bases = record {
   name = codes "_bases";
@@ -141,6 +147,7 @@ bases = record {
   });
 }
 
+-- `_leadingterms` with its option
 abbrev pub leading_terms : Entry
 leading_terms = record {
   name = codes "_leadingterms";
@@ -148,6 +155,7 @@ leading_terms = record {
   job = λ rows. jobs.LeadingTerms (record { listed = flag_of (codes "m") rows });
 }
 
+-- `_groebnercone` with its options
 abbrev pub groebner_cone : Entry
 groebner_cone = record {
   name = codes "_groebnercone";
@@ -165,6 +173,7 @@ groebner_cone = record {
   });
 }
 
+-- `_weightvector` with its options
 abbrev pub weight_vector : Entry
 weight_vector = record {
   name = codes "_weightvector";
@@ -175,6 +184,7 @@ weight_vector = record {
   job = λ rows. jobs.WeightVector (record { listed = flag_of (codes "m") rows; echoed = flag_of (codes "e") rows });
 }
 
+-- `_topolyhedralfan` with its option
 abbrev pub to_polyhedral_fan : Entry
 to_polyhedral_fan = record {
   name = codes "_topolyhedralfan";
@@ -182,6 +192,7 @@ to_polyhedral_fan = record {
   job = λ rows. jobs.ToPolyhedralFan (record { restrict = flag_of (codes "restrict") rows });
 }
 
+-- `_fancommonrefinement` with its options
 abbrev pub fan_common_refinement : Entry
 fan_common_refinement = record {
   name = codes "_fancommonrefinement";
@@ -221,9 +232,11 @@ plain_named name (c ∷ cs) = if bytes_eq name c.0 then Some c.1 else plain_name
 abbrev pub plain : Text × PlainCommand → Entry
 plain c = record { name = c.0; options = []; job = λ rows. jobs.Plain c.1 }
 
+-- the entries of all commands without options
 abbrev pub without_options : List Entry
 without_options = map plain plain_commands
 
+-- all commands
 abbrev pub commands : List Entry
 commands = without_options ++ with_options
 
@@ -231,6 +244,7 @@ commands = without_options ++ with_options
 abbrev pub shape_with : Text → List (Text × Choice) → Shape
 shape_with name options = record (new_shape name) { rules = map (λ o. rule o.0 o.1) options }
 
+-- an entry of the table, as clap has it
 abbrev pub shape : Entry → Shape
 shape e = shape_with e.name e.options
 
@@ -253,5 +267,6 @@ program = record {
 abbrev pub with_commands : App → List Entry → App
 with_commands a es = fold with_subcommand a (map shape es)
 
+-- the whole table, as clap has it
 abbrev pub table : App
 table = with_commands program commands

@@ -1,4 +1,4 @@
-// What `_bases` writes for an input, basis by basis.
+//! What `_bases` writes for an input, basis by basis.
 ghost use Rattle.std.specs.Prelude.{◌≡◌, ◌≤◌, [], ◌∷◌, length, List, None, IfOk, IfErr, OnOk, MatchResult};
 ghost use Rattle.std.specs.Io.KnownBytes.{Appends};
 ghost use Rattle.gf_poly.specs.Polynomial.{Terms};
@@ -42,7 +42,7 @@ pub struct ListOptions {
 
 // ---- how many may be written
 
-// How many bases may still be written.
+/// How many bases may still be written.
 #[derive(Clone, Copy, Debug)]
 enum Room {
     Endless,
@@ -59,7 +59,7 @@ impl Room {
         }
     }
 
-    // The room once one more is written; where there is none for it the list comes to its limit.
+    /// The room once one more is written; where there is none for it the list comes to its limit.
     fn with_one_more(self) -> Result<Room, Refusal>
         ensures ok { IfOk result (IsOneLess self) }
         ensures err { IfErr result (IsFull self) }
@@ -81,7 +81,7 @@ impl Room {
 
 // ---- pieces of the output
 
-// Offers a piece to the output.
+/// Offers a piece to the output.
 fn offer<K: Sink>(output: &mut K, piece: &[u8]) -> Result<(), Refusal>
     ensures all { OnOk result (Appends (K.held output.old) (K.held output.new) piece.now) }
     ensures err { IfErr result (IsUnwritten (K.held output.old) (K.held output.new) (K.faults output.old)
@@ -94,7 +94,7 @@ fn offer<K: Sink>(output: &mut K, piece: &[u8]) -> Result<(), Refusal>
     }
 }
 
-// The piece of a basis alone: with the first one the line of the ring and a brace, with each other one what parts them.
+/// The piece of a basis alone: with the first one the line of the ring and a brace, with each other one what parts them.
 fn piece(
     alloc: Global,
     ring: &Ring,
@@ -115,7 +115,7 @@ fn piece(
     Ok(text)
 }
 
-// The piece of a basis, with its certificates where they are asked for.
+/// The piece of a basis, with its certificates where they are asked for.
 fn item_piece(
     alloc: Global,
     ring: &Ring,
@@ -134,7 +134,7 @@ fn item_piece(
     Ok(text)
 }
 
-// Writes the piece of a basis.
+/// Writes the piece of a basis.
 fn write_basis<K: Sink>(
     alloc: Global,
     ring: &Ring,
@@ -156,7 +156,7 @@ fn write_basis<K: Sink>(
 
 // ---- the job
 
-// The basis of the set's ideal by degree and then lex, at which the list begins.
+/// The basis of the set's ideal by degree and then lex, at which the list begins.
 fn first_basis(
     alloc: Global,
     ring: &Ring,
@@ -217,7 +217,7 @@ pub(crate) fn write_from<R: Threads + Sync, K: Sink, G: Gate>(
     Ok(())
 }
 
-// Writes the list of all bases of the set's ideal.
+/// Writes the list of all bases of the set's ideal.
 fn write_list<R: Threads + Sync, K: Sink, G: Gate>(
     rt: &R,
     alloc: Global,

@@ -1,4 +1,4 @@
-// What `_buchberger` writes for an input.
+//! What `_buchberger` writes for an input.
 ghost use Rattle.std.specs.Prelude.{◌≡◌, ◌⊎◌, ◌∷◌, [], length, IfOk, IfErr, OnOk};
 ghost use Rattle.std.specs.Option.{ForSome};
 ghost use Rattle.gf_text.specs.Sets.{AreIn};
@@ -42,7 +42,7 @@ struct Question {
 
 // ---- the form
 
-// The polynomial; of one of which nothing remains, zero.
+/// The polynomial; of one of which nothing remains, zero.
 fn polynomial(alloc: Global, read: &Written) -> Result<Poly, AllocError>
     ensures { IfOk result (λ f. f ≡ polynomial_of read.now) }
 {
@@ -52,7 +52,7 @@ fn polynomial(alloc: Global, read: &Written) -> Result<Poly, AllocError>
     }
 }
 
-// The polynomials of a set.
+/// The polynomials of a set.
 pub(crate) fn polynomials(alloc: Global, set: &[Written]) -> Result<Vec<Poly>, AllocError>
     ensures { IfOk result (λ fs. fs.items ≡ generators_of set.now) }
 {
@@ -64,7 +64,7 @@ pub(crate) fn polynomials(alloc: Global, set: &[Written]) -> Result<Vec<Poly>, A
     Ok(found)
 }
 
-// Whether the weight has an entry for each of `n` variables.
+/// Whether the weight has an entry for each of `n` variables.
 fn check_length(n: u32, weight: &Option<IntVec>) -> Result<(), Refusal>
     ensures ok { OnOk result (FitsVariables n weight.now) }
     ensures err { IfErr result (IsLengthRefusal n weight.now) }
@@ -75,7 +75,7 @@ fn check_length(n: u32, weight: &Option<IntVec>) -> Result<(), Refusal>
     check_entries(n, weight)
 }
 
-// Whether the polynomials are homogeneous, where the order asks for it. They are counted in 32 bits.
+/// Whether the polynomials are homogeneous, where the order asks for it. They are counted in 32 bits.
 fn check_degrees(revlex: bool, weight: &Option<IntVec>, set: &[Poly]) -> Result<(), Refusal>
     ensures ok { OnOk result (AreTaken revlex weight.now set.now) }
     ensures err { IfErr result (λ r. IsDegreeRefusal revlex weight.now set.now r ⊎ (r ≡ Refusal.Memory)) }
@@ -96,7 +96,7 @@ fn check_degrees(revlex: bool, weight: &Option<IntVec>, set: &[Poly]) -> Result<
     }
 }
 
-// Lex or revlex, or first the weight.
+/// Lex or revlex, or first the weight.
 fn chosen(revlex: bool, weight: Option<IntVec>) -> Result<Order, NotTermOrder>
     requires { ForSome weight IsCountable }
     ensures order { IfOk result (λ order. order ≡ asked_order revlex weight) }
@@ -111,7 +111,7 @@ fn chosen(revlex: bool, weight: Option<IntVec>) -> Result<Order, NotTermOrder>
     }
 }
 
-// The polynomials, and the order that takes them.
+/// The polynomials, and the order that takes them.
 fn checked(
     alloc: Global,
     n: u32,
@@ -134,7 +134,7 @@ fn checked(
 
 // ---- the job
 
-// The refusal of a basis as one of the run.
+/// The refusal of a basis as one of the run.
 fn refused(error: BasisError) -> Refusal
     ensures { result ≡ of_basis error }
 {
@@ -146,7 +146,7 @@ fn refused(error: BasisError) -> Refusal
     }
 }
 
-// The answer to what is read.
+/// The answer to what is read.
 fn job(
     alloc: Global,
     ring: &Ring,

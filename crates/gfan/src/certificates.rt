@@ -1,5 +1,5 @@
-// The certificates of a basis in the list of `_bases`: its printed weight, and the facets that a flip may cross, each with its printed
-// witness.
+//! The certificates of a basis in the list of `_bases`: its printed weight, and the facets that a flip may cross, each with its printed
+//! witness.
 ghost use Rattle.std.specs.Prelude.{◌≡◌, ◌++◌, flat_map, ℕ, List, IfErr, OnOk};
 ghost use Rattle.gfan.specs.Certificates.{facet_text, later_facet_text, facets_text, certificates_text, IsCertificatesText, IsUncertified};
 
@@ -10,7 +10,7 @@ use gf_text::Printer;
 use gf_weights::{Certificates, FacetWitness, certify};
 use std::alloc::{AllocError, Global};
 
-// Adds a facet.
+/// Adds a facet.
 fn push_facet(text: &mut Vec<u8>, facet: &FacetWitness) -> Result<(), AllocError>
     ensures { OnOk result (text.new.items ≡ text.old.items ++ facet_text facet.now) }
 {
@@ -22,7 +22,7 @@ fn push_facet(text: &mut Vec<u8>, facet: &FacetWitness) -> Result<(), AllocError
     Ok(())
 }
 
-// Adds facets, each behind a comma and a line end.
+/// Adds facets, each behind a comma and a line end.
 fn push_later_facets(text: &mut Vec<u8>, facets: &[FacetWitness]) -> Result<(), AllocError>
     ensures { OnOk result (text.new.items ≡ text.old.items ++ flat_map later_facet_text facets.now) }
 {
@@ -33,7 +33,7 @@ fn push_later_facets(text: &mut Vec<u8>, facets: &[FacetWitness]) -> Result<(), 
     Ok(())
 }
 
-// Adds facets with a comma and a line end between them.
+/// Adds facets with a comma and a line end between them.
 fn push_facets(text: &mut Vec<u8>, facets: &[FacetWitness]) -> Result<(), AllocError>
     ensures { OnOk result (text.new.items ≡ text.old.items ++ facets_text facets.now) }
 {
@@ -44,7 +44,7 @@ fn push_facets(text: &mut Vec<u8>, facets: &[FacetWitness]) -> Result<(), AllocE
     Ok(())
 }
 
-// Adds a line end, the weight, a line end, and the facets in braces.
+/// Adds a line end, the weight, a line end, and the facets in braces.
 fn push_certificates(text: &mut Vec<u8>, told: &Certificates) -> Result<(), AllocError>
     ensures { OnOk result (text.new.items ≡ text.old.items ++ certificates_text told.now.weight told.now.facets.items) }
 {

@@ -1,4 +1,4 @@
-// Checks of the form of what is read.
+//! Checks of the form of what is read.
 ghost use Rattle.std.specs.Prelude.{◌≡◌, ◌≤◌, ◌⊎◌, ◌-◌, ◌^◌, Some, None, min, length, IfOk, IfErr, OnOk};
 ghost use Rattle.gf_gordan.specs.Alternative.{AreRows};
 ghost use Rattle.gf_text.specs.Sets.{AreIn, AreNonzero};

@@ -1,4 +1,4 @@
-// What the program does for each job.
+//! What the program does for each job.
 ghost use Rattle.std.specs.Prelude.{◌≡◌, [], ◌∷◌, length, IfOk, IfErr, OnOk};
 ghost use Rattle.gf_front.specs.Jobs.{HasNumbersInRange};
 ghost use Rattle.gf_front.specs.declared.command_line.Job.{Job};

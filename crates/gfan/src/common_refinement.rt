@@ -1,4 +1,4 @@
-// What `_fancommonrefinement` writes for the texts of its two files.
+//! What `_fancommonrefinement` writes for the texts of its two files.
 ghost use Rattle.std.specs.Prelude.{IfOk, IfErr};
 ghost use Rattle.gfan.specs.BasesWriting.{IsUnnamed};
 ghost use Rattle.gfan.specs.CommonRefinement.{IsRefinementText, IsRefinementRefused};

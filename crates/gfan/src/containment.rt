@@ -1,4 +1,4 @@
-// What `_doesidealcontain` writes for an input.
+//! What `_doesidealcontain` writes for an input.
 ghost use Rattle.std.specs.Prelude.{◌↔◌, IfOk, IfErr, IsTrue, [], ◌∷◌};
 ghost use Rattle.gf_poly.specs.Marking.{polys};
 ghost use Rattle.gf_ideal.specs.Membership.{IsMember};
@@ -19,7 +19,7 @@ use gf_reduced::{CheckError, contains, require_basis};
 use gf_text::Written;
 use std::alloc::Global;
 
-// Whether the ideal of the basis, whose marked coefficients are 1, contains the polynomial.
+/// Whether the ideal of the basis, whose marked coefficients are 1, contains the polynomial.
 fn contains_one(alloc: Global, basis: &MarkedSet, read: &Written) -> Result<bool, PolyError>
     requires basis { IsBasis basis.now.variables (polys basis.now.items) basis.now.items }
     requires variables { IsIn basis.now.variables read.now }
@@ -32,7 +32,7 @@ fn contains_one(alloc: Global, basis: &MarkedSet, read: &Written) -> Result<bool
     }
 }
 
-// Whether it contains each of them.
+/// Whether it contains each of them.
 fn contains_all(alloc: Global, basis: &MarkedSet, set: &[Written]) -> Result<bool, PolyError>
     requires basis { IsBasis basis.now.variables (polys basis.now.items) basis.now.items }
     requires variables { AreIn basis.now.variables set.now }
@@ -48,8 +48,8 @@ fn contains_all(alloc: Global, basis: &MarkedSet, set: &[Written]) -> Result<boo
     Ok(true)
 }
 
-// Whether the ideal of a marked set contains each of the polynomials, where the set is a Gröbner basis for its marking. Its members
-// are counted in 32 bits.
+/// Whether the ideal of a marked set contains each of the polynomials, where the set is a Gröbner basis for its marking. Its members
+/// are counted in 32 bits.
 fn decided(alloc: Global, marked: &MarkedSet, set: &[Written]) -> Result<bool, CheckError>
     requires { AreIn marked.now.variables set.now }
     ensures basis { IfOk result (λ _. IsMarkedGroebnerBasis marked.now.variables marked.now.items) }

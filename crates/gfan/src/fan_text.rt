@@ -1,4 +1,4 @@
-// The text of the fan of cones.
+//! The text of the fan of cones.
 ghost use Rattle.std.specs.Prelude.{◌≡◌, ◌≤◌, IfOk, IfErr};
 ghost use Rattle.gf_text.specs.declared.TheConstants.{MOST_VARIABLES};
 ghost use Rattle.gf_fan.specs.Pairs.{AreOfAmbient};

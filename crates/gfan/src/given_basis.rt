@@ -1,4 +1,4 @@
-// What `_bases -g` writes for an input, basis by basis.
+//! What `_bases -g` writes for an input, basis by basis.
 ghost use Rattle.std.specs.Prelude.{◌≤◌, [], ◌∷◌, IfOk, IfErr, OnOk};
 ghost use Rattle.gf_poly.specs.Marking.{polys};
 ghost use Rattle.gf_reduced.specs.Markings.{IsMarkedGroebnerBasis};
@@ -21,8 +21,8 @@ use gf_waves::Gate;
 use std::alloc::Global;
 use std::thread::Threads;
 
-// The basis, by degree and then lex, of the ideal of a marked Gröbner basis: the set is checked, reduced, and taken up to the root.
-// Its members are counted in 32 bits.
+/// The basis, by degree and then lex, of the ideal of a marked Gröbner basis: the set is checked, reduced, and taken up to the root.
+/// Its members are counted in 32 bits.
 fn root_of(alloc: Global, marked: &MarkedSet, pairs: u64) -> Result<MarkedSet, Refusal>
     ensures basis { IfOk result (λ _. IsMarkedGroebnerBasis marked.now.variables marked.now.items) }
     ensures root { IfOk result (λ root. StartsAt marked.now.variables (polys marked.now.items) root) }

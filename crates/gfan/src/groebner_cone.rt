@@ -1,4 +1,4 @@
-// What `_groebnercone` writes for an input.
+//! What `_groebnercone` writes for an input.
 ghost use Rattle.std.specs.Prelude.{◌≡◌, ◌≤◌, true, false, IfOk, IfErr, [], ◌∷◌};
 ghost use Rattle.gf_gordan.specs.Alternative.{AreRows};
 ghost use Rattle.gf_text.specs.declared.TheConstants.{MOST_VARIABLES};
@@ -18,7 +18,7 @@ use gf_reduced::require_reduced;
 use gf_vec::IntVec;
 use std::alloc::Global;
 
-// The rows of a cone that are told: its normals, and the unit vectors behind them where it is cut with the non-negative orthant.
+/// The rows of a cone that are told: its normals, and the unit vectors behind them where it is cut with the non-negative orthant.
 fn rows_told(cone: &Cone, cut: bool) -> &[IntVec]
     ensures rows { result.now ≡ cut_of cut cone.now }
     ensures widths { AreRows cone.now.variables result.now }
@@ -26,7 +26,7 @@ fn rows_told(cone: &Cone, cut: bool) -> &[IntVec]
     if cut { cone.vectors() } else { cone.normals() }
 }
 
-// The text of the cone of a marked set, where it is the reduced Gröbner basis for its marking. Its members are counted in 32 bits.
+/// The text of the cone of a marked set, where it is the reduced Gröbner basis for its marking. Its members are counted in 32 bits.
 fn basis_cone(
     alloc: Global,
     n: u32,
@@ -50,7 +50,7 @@ fn basis_cone(
     told(alloc, n, rows_told(&cone, options.restricted), &[], options)
 }
 
-// The text of the cone of inequalities and equations in `n` variables, each with an entry for each variable.
+/// The text of the cone of inequalities and equations in `n` variables, each with an entry for each variable.
 fn vector_cone(
     alloc: Global,
     n: u32,
@@ -70,7 +70,7 @@ fn vector_cone(
     told(alloc, n, rows.as_slice(), equations, options)
 }
 
-// What is written for a source with a marked set.
+/// What is written for a source with a marked set.
 fn of_basis(alloc: Global, source: &[u8], options: ConeOptions) -> Result<Vec<u8>, Refused>
     ensures ok { IfOk result (λ text. IsAnswered (groebner_cone_command false options) (source.now ∷ []) text.items) }
     ensures err { IfErr result (λ e. IsRefusedOn (groebner_cone_command false options) (source.now ∷ []) e.refusal) }
@@ -86,7 +86,7 @@ fn of_basis(alloc: Global, source: &[u8], options: ConeOptions) -> Result<Vec<u8
     }
 }
 
-// What is written for a source with inequalities and equations.
+/// What is written for a source with inequalities and equations.
 fn of_vectors(alloc: Global, source: &[u8], options: ConeOptions) -> Result<Vec<u8>, Refused>
     ensures ok { IfOk result (λ text. IsAnswered (groebner_cone_command true options) (source.now ∷ []) text.items) }
     ensures err { IfErr result (λ e. IsRefusedOn (groebner_cone_command true options) (source.now ∷ []) e.refusal) }

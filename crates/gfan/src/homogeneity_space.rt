@@ -1,4 +1,4 @@
-// What `_homogeneityspace` writes for an input.
+//! What `_homogeneityspace` writes for an input.
 ghost use Rattle.std.specs.Prelude.{◌≡◌, ◌≤◌, ◌∷◌, ◌++◌, [], IfOk, IfErr, OnOk};
 ghost use Rattle.gf_text.specs.declared.TheConstants.{MOST_VARIABLES};
 ghost use Rattle.gf_text.specs.Sets.{AreIn};
@@ -18,7 +18,7 @@ use gf_small::homogeneity;
 use gf_text::Written;
 use std::alloc::{AllocError, Global};
 
-// Adds a polynomial, where something of it remains.
+/// Adds a polynomial, where something of it remains.
 fn push_nonzero(found: &mut Vec<Marked>, read: &Written) -> Result<(), AllocError>
     ensures { OnOk result (found.new.items ≡ found.old.items ++ marked_of read.now) }
 {
@@ -29,7 +29,7 @@ fn push_nonzero(found: &mut Vec<Marked>, read: &Written) -> Result<(), AllocErro
     Ok(())
 }
 
-// The polynomials of a set of which something remains.
+/// The polynomials of a set of which something remains.
 fn nonzero(alloc: Global, set: &[Written]) -> Result<Vec<Marked>, AllocError>
     ensures { IfOk result (λ found. found.items ≡ nonzero_of set.now) }
 {
@@ -40,7 +40,7 @@ fn nonzero(alloc: Global, set: &[Written]) -> Result<Vec<Marked>, AllocError>
     Ok(found)
 }
 
-// The homogeneity space of a set in `n` variables, as a cone.
+/// The homogeneity space of a set in `n` variables, as a cone.
 fn space_of(alloc: Global, n: u32, set: &[Written]) -> Result<Rays, GordanError>
     requires { AreIn n set.now }
     ensures ok { IfOk result (IsSpaceCone n (nonzero_of set.now)) }
@@ -63,7 +63,7 @@ pub(crate) fn alone(alloc: Global, cone: Rays) -> Result<Vec<Rays>, AllocError>
     Ok(cones)
 }
 
-// The text of the fan of the homogeneity space of a set in `n` variables.
+/// The text of the fan of the homogeneity space of a set in `n` variables.
 fn space_text(alloc: Global, n: u32, set: &[Written]) -> Result<Vec<u8>, Refusal>
     requires few { n ≤ MOST_VARIABLES }
     requires variables { AreIn n set.now }

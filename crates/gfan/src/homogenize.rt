@@ -1,4 +1,4 @@
-// What `_homogenize` writes for an input.
+//! What `_homogenize` writes for an input.
 ghost use Rattle.std.specs.Prelude.{◌≡◌, true, false, length, None, IfOk, IfErr, [], ◌∷◌};
 ghost use Rattle.gf_text.specs.RingText.{is_name, has};
 ghost use Rattle.gf_text.specs.Sets.{AreIn};
@@ -14,7 +14,7 @@ use gf_small::SmallError;
 use gf_text::{Ring, Written};
 use std::alloc::Global;
 
-// What is written for what is read.
+/// What is written for what is read.
 fn text_of(alloc: Global, ring: &Ring, set: &[Written], name: &[u8]) -> Result<Vec<u8>, Refusal>
     requires variables { AreIn (length ring.now) set.now }
     requires named { is_name name.now ≡ true }

@@ -1,4 +1,4 @@
-// What `_initialforms` writes for an input.
+//! What `_initialforms` writes for an input.
 ghost use Rattle.std.specs.Prelude.{length, None, IfOk, IfErr, [], ◌∷◌};
 ghost use Rattle.gf_text.specs.Sets.{AreIn};
 ghost use Rattle.gf_text.specs.Vectors.{AreEntriesWithin};
@@ -15,7 +15,7 @@ use gf_text::{Ring, Written};
 use gf_vec::IntVec;
 use std::alloc::Global;
 
-// What is written for what is read.
+/// What is written for what is read.
 fn text_of(alloc: Global, ring: &Ring, set: &[Written], vector: &IntVec) -> Result<Vec<u8>, Refusal>
     requires variables { AreIn (length ring.now) set.now }
     requires within { AreEntriesWithin vector.now }

@@ -1,4 +1,4 @@
-// What the list of `_bases` and the weights of `_weightvector` have: laws, each the contract of a function that computes nothing.
+//! What the list of `_bases` and the weights of `_weightvector` have: laws, each the contract of a function that computes nothing.
 ghost use Rattle.gfan.specs.BasesList.{WeightsAreServed};
 ghost use Rattle.gfan.specs.OneList.{ListsExist, ListsAreOne, TextsAreOne};
 ghost use Rattle.gfan.specs.Served.{WrittenListsServe};

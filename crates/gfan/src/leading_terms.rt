@@ -1,4 +1,4 @@
-// What `_leadingterms` writes for an input.
+//! What `_leadingterms` writes for an input.
 ghost use Rattle.std.specs.Prelude.{◌≡◌, true, false, map, IfOk, IfErr, [], ◌∷◌};
 ghost use Rattle.gf_small.specs.LeadingTerms.{leading_set};
 ghost use Rattle.gf_frame.specs.Commands.{IsAnswered, IsRefusedOn};
@@ -11,7 +11,7 @@ use gf_items::{ring_and_marked, ring_and_marked_sets};
 use gf_poly::MarkedSet;
 use std::alloc::{AllocError, Global};
 
-// The marked terms of each set.
+/// The marked terms of each set.
 fn leading_sets(alloc: Global, sets: &[MarkedSet]) -> Result<Vec<MarkedSet>, AllocError>
     ensures { IfOk result (λ found. found.items ≡ map leading_set sets.now) }
 {
@@ -23,7 +23,7 @@ fn leading_sets(alloc: Global, sets: &[MarkedSet]) -> Result<Vec<MarkedSet>, All
     Ok(found)
 }
 
-// What is written for a source with one set.
+/// What is written for a source with one set.
 fn of_set(alloc: Global, source: &[u8]) -> Result<Vec<u8>, Refused>
     ensures ok { IfOk result (λ text. IsAnswered (leading_terms_command false) (source.now ∷ []) text.items) }
     ensures err { IfErr result (λ e. IsRefusedOn (leading_terms_command false) (source.now ∷ []) e.refusal) }
@@ -35,7 +35,7 @@ fn of_set(alloc: Global, source: &[u8]) -> Result<Vec<u8>, Refused>
     Ok(text)
 }
 
-// What is written for a source with a list of sets.
+/// What is written for a source with a list of sets.
 fn of_list(alloc: Global, source: &[u8]) -> Result<Vec<u8>, Refused>
     ensures ok { IfOk result (λ text. IsAnswered (leading_terms_command true) (source.now ∷ []) text.items) }
     ensures err { IfErr result (λ e. IsRefusedOn (leading_terms_command true) (source.now ∷ []) e.refusal) }

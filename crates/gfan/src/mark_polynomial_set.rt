@@ -1,4 +1,4 @@
-// What `_markpolynomialset` writes for an input.
+//! What `_markpolynomialset` writes for an input.
 ghost use Rattle.std.specs.Prelude.{◌≡◌, ◌≢◌, [], All, length, None, IfOk, IfErr, ◌∷◌};
 ghost use Rattle.gf_poly.specs.Polynomial.{HasVariables};
 ghost use Rattle.gf_poly.specs.Marking.{polys};
@@ -35,7 +35,7 @@ pub(crate) fn polynomials(alloc: Global, set: &MarkedSet) -> Result<Vec<Poly>, A
     Ok(found)
 }
 
-// What is written for what is read.
+/// What is written for what is read.
 fn text_of(
     alloc: Global,
     ring: &Ring,

@@ -1,4 +1,4 @@
-// What `_polynomialsetunion` writes for an input.
+//! What `_polynomialsetunion` writes for an input.
 ghost use Rattle.std.specs.Prelude.{IfOk, IfErr, [], ◌∷◌};
 ghost use Rattle.gf_frame.specs.Commands.{IsAnswered, IsRefusedOn};
 ghost use Rattle.gfan.specs.Refused.{IsOfSource};

@@ -1,4 +1,4 @@
-// What the commands print alike.
+//! What the commands print alike.
 ghost use Rattle.std.specs.Prelude.{◌≡◌, ◌++◌, ◌∷◌, [], All, flat_map, length, IfOk, OnOk};
 ghost use Rattle.gf_text.specs.PrintedSets.{polynomial_text};
 ghost use Rattle.gf_text.specs.Sets.{AreIn};

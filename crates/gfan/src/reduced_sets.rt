@@ -1,4 +1,4 @@
-// Marked sets that are read as reduced bases.
+//! Marked sets that are read as reduced bases.
 ghost use Rattle.std.specs.Prelude.{◌≡◌, ◌⊎◌, IfOk, IfErr};
 ghost use Rattle.std.specs.List.{AllZip};
 ghost use Rattle.gf_reduced.specs.Refusals.{IsReducedRefusal};
@@ -8,7 +8,7 @@ use gf_poly::MarkedSet;
 use gf_reduced::{CheckError, require_reduced};
 use std::alloc::Global;
 
-// The set at a place as the reduced basis that it is. Sets and members are counted in 32 bits.
+/// The set at a place as the reduced basis that it is. Sets and members are counted in 32 bits.
 fn reduced_basis(alloc: Global, set: &MarkedSet, place: usize) -> Result<MarkedSet, CheckError>
     ensures ok { IfOk result (IsReducedAsRead set.now) }
     ensures err { IfErr result (IsReducedRefusal place set.now) }

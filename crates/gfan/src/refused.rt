@@ -1,4 +1,4 @@
-// A refusal on its way to the end of a run.
+//! A refusal on its way to the end of a run.
 ghost use Rattle.std.specs.Prelude.{◌≡◌, Some};
 ghost use Rattle.gf_front.specs.Lines.{line};
 ghost use Rattle.gfan.specs.Certificates.{of_weight_error};

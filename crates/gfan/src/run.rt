@@ -1,6 +1,6 @@
-// The top call.
-//
-// It gives the outside the answer or nothing; what it read and wrote is told by the source and the sinks.
+//! The top call.
+//!
+//! It gives the outside the answer or nothing; what it read and wrote is told by the source and the sinks.
 ghost use Rattle.std.specs.Prelude.{◌≡◌, ℕ, List, map, string_bytes, IfErr, OnOk};
 ghost use Rattle.gf_frac.specs.declared.refusal.Overflow.{Overflow};
 ghost use Rattle.gf_outside.specs.Faults.{Rose};

@@ -1,4 +1,4 @@
-// What `_stats` writes for an input.
+//! What `_stats` writes for an input.
 ghost use Rattle.std.specs.Prelude.{◌≡◌, ◌++◌, IfOk, IfErr, OnOk, [], ◌∷◌};
 ghost use Rattle.gf_frame.specs.Commands.{IsAnswered, IsRefusedOn};
 ghost use Rattle.gfan.specs.Refused.{IsOfSource};
@@ -10,7 +10,7 @@ use gf_small::Stats;
 use itoa::Buffer;
 use std::alloc::{AllocError, Global};
 
-// Adds a line: what is counted, and the number.
+/// Adds a line: what is counted, and the number.
 fn push_line(text: &mut Vec<u8>, label: &str, n: u128) -> Result<(), AllocError>
     ensures { OnOk result (text.new.items ≡ text.old.items ++ count_line label.now n) }
 {
@@ -21,7 +21,7 @@ fn push_line(text: &mut Vec<u8>, label: &str, n: u128) -> Result<(), AllocError>
     Ok(())
 }
 
-// The seven lines.
+/// The seven lines.
 fn printed_stats(alloc: Global, stats: &Stats) -> Result<Vec<u8>, AllocError>
     ensures { IfOk result (λ text. text.items ≡ stats_text stats.now) }
 {

@@ -1,4 +1,4 @@
-// What `_topolyhedralfan` writes for an input.
+//! What `_topolyhedralfan` writes for an input.
 ghost use Rattle.std.specs.Prelude.{◌≡◌, ◌≤◌, [], All, IfOk, IfErr, ◌∷◌};
 ghost use Rattle.std.specs.List.{AllZip};
 ghost use Rattle.gf_gordan.specs.Steps.{Failed};
@@ -18,7 +18,7 @@ use gf_poly::MarkedSet;
 use gf_rays::Rays;
 use std::alloc::Global;
 
-// The closed cone of a marked set.
+/// The closed cone of a marked set.
 fn cone_of(alloc: Global, set: &MarkedSet, cut: bool) -> Result<Rays, GordanError>
     ensures ok { IfOk result (IsConeOfSet cut set.now) }
     ensures err { IfErr result (Failed (IsConeStepOfSet cut set.now)) }
@@ -28,7 +28,7 @@ fn cone_of(alloc: Global, set: &MarkedSet, cut: bool) -> Result<Rays, GordanErro
     Rays::of(alloc, cone.variables(), inequalities, &[])
 }
 
-// The closed cones of marked sets.
+/// The closed cones of marked sets.
 fn cones_of(alloc: Global, sets: &[MarkedSet], cut: bool) -> Result<Vec<Rays>, GordanError>
     ensures ok { IfOk result (λ cones. AllZip (IsConeOfSet cut) sets.now cones.items) }
     ensures err { IfErr result (Failed (IsConeStepOfSets cut sets.now)) }
@@ -41,7 +41,7 @@ fn cones_of(alloc: Global, sets: &[MarkedSet], cut: bool) -> Result<Vec<Rays>, G
     Ok(cones)
 }
 
-// The text of the fan of the cones of marked sets in `n` variables, where each is a reduced basis: first all are checked.
+/// The text of the fan of the cones of marked sets in `n` variables, where each is a reduced basis: first all are checked.
 fn fan_of_sets(alloc: Global, n: u32, sets: &[MarkedSet], cut: bool) -> Result<Vec<u8>, Refusal>
     requires few { n ≤ MOST_VARIABLES }
     requires variables { All (λ s. s.variables ≡ n) sets.now }

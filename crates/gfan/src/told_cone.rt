@@ -1,4 +1,4 @@
-// What `_groebnercone` tells of a cone.
+//! What `_groebnercone` tells of a cone.
 ghost use Rattle.std.specs.Prelude.{◌≡◌, ◌≤◌, IfOk, IfErr};
 ghost use Rattle.gf_gordan.specs.Alternative.{AreRows};
 ghost use Rattle.gf_text.specs.declared.TheConstants.{MOST_VARIABLES};
@@ -40,7 +40,7 @@ pub(crate) fn restricted(
     }
 }
 
-// The fan of all faces of the cone of inequalities and equations in `n` variables.
+/// The fan of all faces of the cone of inequalities and equations in `n` variables.
 fn cone_fan(
     alloc: Global,
     n: u32,

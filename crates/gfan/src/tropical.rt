@@ -1,4 +1,4 @@
-// What `_tropicalhypersurface`, `_tropicalintersection` and `_minkowskisum` write for an input.
+//! What `_tropicalhypersurface`, `_tropicalintersection` and `_minkowskisum` write for an input.
 ghost use Rattle.std.specs.Prelude.{◌≡◌, ◌≢◌, ◌⊎◌, ◌<◌, ◌≤◌, ◌^◌, [], All, length, None, IfOk, IfErr, OnOk, ◌∷◌};
 ghost use Rattle.gf_poly.specs.Polynomial.{HasVariables};
 ghost use Rattle.gf_tropical.specs.Refusals.{IsTropicalRefusal};
@@ -34,7 +34,7 @@ pub enum TropicalFan {
     MinkowskiSum,
 }
 
-// Whether there are as many polynomials as the fan is of.
+/// Whether there are as many polynomials as the fan is of.
 fn check_number(which: TropicalFan, count: usize) -> Result<(), Refusal>
     ensures ok { OnOk result (HasNumber which count) }
     ensures err { IfErr result (IsNumberRefusal which count) }
@@ -54,7 +54,7 @@ fn check_number(which: TropicalFan, count: usize) -> Result<(), Refusal>
     }
 }
 
-// The polynomials of a set in `n` variables, of which none is zero. They are counted in 32 bits.
+/// The polynomials of a set in `n` variables, of which none is zero. They are counted in 32 bits.
 fn nonzero_polynomials(alloc: Global, n: u32, set: Vec<Written>) -> Result<Vec<Poly>, Refusal>
     requires { AreIn n set.items }
     ensures value { IfOk result (λ fs. fs.items ≡ generators_of set.items) }
@@ -73,7 +73,7 @@ fn nonzero_polynomials(alloc: Global, n: u32, set: Vec<Written>) -> Result<Vec<P
     Ok(list)
 }
 
-// The fan of polynomials in `n` variables.
+/// The fan of polynomials in `n` variables.
 fn fan_of<R: Threads + Sync>(
     rt: &R,
     alloc: Global,
@@ -95,7 +95,7 @@ fn fan_of<R: Threads + Sync>(
     }
 }
 
-// What is written for what is read.
+/// What is written for what is read.
 fn text_of<R: Threads + Sync>(
     rt: &R,
     alloc: Global,

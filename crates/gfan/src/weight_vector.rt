@@ -1,4 +1,4 @@
-// What `_weightvector` writes for an input.
+//! What `_weightvector` writes for an input.
 ghost use Rattle.std.specs.Prelude.{◌≡◌, ◌⊎◌, ◌++◌, All, Contains, length, flat_map, zip, true, false, IfOk, IfErr, OnOk, [], ◌∷◌};
 ghost use Rattle.std.specs.List.{AllZip};
 ghost use Rattle.gf_poly.specs.Marking.{MarkedPolynomials};
@@ -21,7 +21,7 @@ use std::slice::from_ref;
 
 // ---- the weights
 
-// The weights of the bases.
+/// The weights of the bases.
 fn weights_of(alloc: Global, bases: &[MarkedSet]) -> Result<Vec<IntVec>, WeightError>
     ensures ok { IfOk result (λ weights. AllZip (λ t v. IsPrintedWeight t.variables t.items v) bases.now weights.items) }
     ensures err { IfErr result (λ e. ((t : MarkedPolynomials) × Contains bases.now t × IsWeightCause t.variables t.items e)
@@ -35,7 +35,7 @@ fn weights_of(alloc: Global, bases: &[MarkedSet]) -> Result<Vec<IntVec>, WeightE
     Ok(weights)
 }
 
-// The weights of the sets: first each is checked, then each is weighed.
+/// The weights of the sets: first each is checked, then each is weighed.
 fn weighed(alloc: Global, sets: &[MarkedSet]) -> Result<Vec<IntVec>, Refusal>
     ensures ok { IfOk result (λ weights. AllZip IsWeightOfSet sets.now weights.items) }
     ensures err { IfErr result (IsUnweighed sets.now) }
@@ -52,7 +52,7 @@ fn weighed(alloc: Global, sets: &[MarkedSet]) -> Result<Vec<IntVec>, Refusal>
 
 // ---- the text
 
-// Adds the line of the ring where sets are echoed.
+/// Adds the line of the ring where sets are echoed.
 fn push_ring(text: &mut Vec<u8>, ring: &Ring, echoed: bool) -> Result<(), AllocError>
     ensures { OnOk result (text.new.items ≡ text.old.items ++ echoed_ring echoed ring.now) }
 {
@@ -62,7 +62,7 @@ fn push_ring(text: &mut Vec<u8>, ring: &Ring, echoed: bool) -> Result<(), AllocE
     Ok(())
 }
 
-// Adds a weight, behind its set where that is echoed.
+/// Adds a weight, behind its set where that is echoed.
 fn push_item(
     text: &mut Vec<u8>,
     ring: &Ring,
@@ -81,7 +81,7 @@ fn push_item(
     Ok(())
 }
 
-// Adds them, each behind a comma on a line of its own.
+/// Adds them, each behind a comma on a line of its own.
 fn push_later_items(
     text: &mut Vec<u8>,
     ring: &Ring,
@@ -100,7 +100,7 @@ fn push_later_items(
     Ok(())
 }
 
-// Adds them, with a comma on a line of its own between them.
+/// Adds them, with a comma on a line of its own between them.
 fn push_items(
     text: &mut Vec<u8>,
     ring: &Ring,
@@ -119,7 +119,7 @@ fn push_items(
     Ok(())
 }
 
-// Adds them and a line end, and of a list braces round them.
+/// Adds them and a line end, and of a list braces round them.
 fn push_enclosed(
     text: &mut Vec<u8>,
     ring: &Ring,
@@ -143,7 +143,7 @@ fn push_enclosed(
     Ok(())
 }
 
-// What is written of the sets.
+/// What is written of the sets.
 fn text_of(
     alloc: Global,
     ring: &Ring,
@@ -165,7 +165,7 @@ fn text_of(
     Ok(text)
 }
 
-// What is written for a source with one set.
+/// What is written for a source with one set.
 fn of_set(alloc: Global, source: &[u8], echoed: bool) -> Result<Vec<u8>, Refused>
     ensures ok { IfOk result (λ text. IsAnswered (weight_vector_command false echoed) (source.now ∷ []) text.items) }
     ensures err { IfErr result (λ e. IsRefusedOn (weight_vector_command false echoed) (source.now ∷ []) e.refusal) }
@@ -181,7 +181,7 @@ fn of_set(alloc: Global, source: &[u8], echoed: bool) -> Result<Vec<u8>, Refused
     }
 }
 
-// What is written for a source with a list of sets.
+/// What is written for a source with a list of sets.
 fn of_list(alloc: Global, source: &[u8], echoed: bool) -> Result<Vec<u8>, Refused>
     ensures ok { IfOk result (λ text. IsAnswered (weight_vector_command true echoed) (source.now ∷ []) text.items) }
     ensures err { IfErr result (λ e. IsRefusedOn (weight_vector_command true echoed) (source.now ∷ []) e.refusal) }

@@ -1,4 +1,4 @@
-// gfan: the program. It makes the real objects for `gfan::run::run`, which does what the words ask for, and ends with the code of its status.
+//! gfan: the program. It makes the real objects for `gfan::run::run`, which does what the words ask for, and ends with the code of its status.
 #![tactic(auto)]
 
 ghost use Rattle.std.specs.Prelude.{◌≡◌};

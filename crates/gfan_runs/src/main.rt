@@ -1,5 +1,5 @@
-// Whole runs of gfan over memory, a row of the standard input each: the words, the input, the exit status, what is written and what is told. A row
-// that comes out otherwise is printed, and last how many rows there were.
+//! Whole runs of gfan over memory, a row of the standard input each: the words, the input, the exit status, what is written and what is told. A row
+//! that comes out otherwise is printed, and last how many rows there were.
 #![tactic(auto)]
 
 use gf_outside::{MemSink, MemSource, SureFiles};

@@ -1,4 +1,4 @@
-// `_fancommonrefinement` over files in memory: the status, what is written, and what is told.
+//! `_fancommonrefinement` over files in memory: the status, what is written, and what is told.
 use gf_outside::{MemFile, MemFiles, MemSink, MemSource};
 use gf_waves::FreeGate;
 use gfan::run::run;

@@ -1,4 +1,4 @@
-// Whole runs over memory whose reads, writes or lines fail, or of which no row of `gfan_runs` can say the line.
+//! Whole runs over memory whose reads, writes or lines fail, or of which no row of `gfan_runs` can say the line.
 use gf_front::Refusal;
 use gf_outside::{MAX_INPUT, MemSink, MemSource, SureFiles};
 use gf_waves::FreeGate;

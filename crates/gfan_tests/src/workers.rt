@@ -1,4 +1,4 @@
-// `_bases` by several workers, over memory: the same bytes, the same refusals, and jobs side by side.
+//! `_bases` by several workers, over memory: the same bytes, the same refusals, and jobs side by side.
 use gf_outside::{MemSink, SureFiles, SureSource};
 use gf_waves::{FreeGate, Gate};
 use gfan::run::run;
