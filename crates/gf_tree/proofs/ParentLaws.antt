@@ -1,11 +1,14 @@
 -- What is above a basis, and the root of the tree.
--- To cite: root_width, some_cone_told, top_exactly, told_root, roots_told, root_for.
-use Rattle.std.proofs.Common.{◌≡◌, ◌↔◌, List, ℤ, length, Option, Some, IfSome, Result, Ok, Err, IfOk, refl, subst}
+-- To cite: root_width, some_cone_told, top_exactly, told_root, roots_told, parent_across, top_here, root_for.
+use Rattle.std.proofs.Common.{◌≡◌, ◌↔◌, List, ℤ, length, Option, Some, None, IfSome, Result, Ok, Err, IfOk, refl, subst}
 use Rattle.gf_cone.specs.Cones.{ConeRows, IsConeOf, HasRowsOf}
 use Rattle.gf_poly.specs.Marking.{MarkedPolynomials, polys}
+use Rattle.gf_walk.specs.Path.{IsRoot}
 use Rattle.gf_walk.specs.Whole.{IsRootOf}
+use Rattle.gf_facets.specs.Rows.{negated}
 use Rattle.gf_facets.specs.Regions.{Region}
-use Rattle.gf_reverse.specs.Upward.{IsNode, IsNodeIn, IsParent, LeadsUp, fan_of}
+use Rattle.gf_reverse.specs.Upward.{IsNode, IsNodeIn, IsParent, LeadsUp, IsWayUp, fan_of}
+use Rattle.gf_reverse.specs.Answers.{IsAcross, IsWayAnswer}
 use Rattle.gf_reverse.proofs.LawsHold.{root_has_no_way_up, bases_make_a_tree}
 use Rattle.gf_reverse.proofs.ListLaws.{root_above, root_own}
 use Rattle.gf_tree.specs.declared.above.Parent.{Parent}
@@ -38,7 +41,15 @@ pub roots_told : (k : Region) (v : MarkedPolynomials) (r : Result Parent TreeErr
 roots_told k v (Ok p) h a = told_root k v p h a
 roots_told k v (Err e) h a = a
 
+-- the neighbour across the way up is the parent
+pub parent_across : (k : Region) (v u : MarkedPolynomials) (a : List ℤ) → IsNode k v → IsWayUp v.variables k v.items a → IsAcross k v a (Some u) → IsParent k v (negated a) u
+parent_across k v u a h w x = record { fan = h.fan; child = refl; parent = x.0; normal = a; way = w; adjacent = x.1; label = refl }
+
 -- ---- the root
+
+-- where nothing leads up there is no parent
+pub top_here : (k : Region) (u : MarkedPolynomials) → IsWayAnswer k u None → IsRoot (IsParent k) u
+top_here k u none c w p = none p.normal p.way.leads
 
 pub root_for : (k : Region) (v u : MarkedPolynomials) → IsNode k v → IsRootOf (IsParent k) v u → IsRootFor k v u
 root_for k v u h s =

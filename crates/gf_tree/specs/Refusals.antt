@@ -10,8 +10,9 @@ use Rattle.gf_facets.specs.Facets.{IsFlippable}
 use Rattle.gf_cone.specs.Cones.{ConeRows, normal_at, other_rows, IsConeOf}
 use Rattle.gf_cone.specs.Answers.{IsNormalStep}
 use Rattle.gf_flip.specs.Operations.{IsFlipRefusal, IsFlipWithinLimits}
+use Rattle.gf_walk.specs.Walk.{IsRefusedAbove}
 use Rattle.gf_facets.specs.Regions.{Region}
-use Rattle.gf_reverse.specs.Upward.{Fan, IsNodeIn, fan_of}
+use Rattle.gf_reverse.specs.Upward.{Fan, IsNodeIn, IsParent, fan_of}
 use Rattle.gf_reverse.specs.Answers.{IsAcross}
 use Rattle.gf_tree.specs.declared.error.TreeError.{TreeError}
 use Rattle.gf_tree.specs.declared.error.TreeError.TheVariants.{Overflow, Exponent, PairBudget, Cone, Memory}
@@ -54,6 +55,10 @@ pub data IsRefusedAtBasis (k : Region) (pairs : ℕ) (v : MarkedPolynomials) (e 
   flip : (a : List ℤ) (r : BasisError) → IsFlippable v.variables k v.items a → IsFlipRefusal v.variables v.items a pairs r → e ≡ of_flip_error r → IsRefusedAtBasis k pairs v e
   system : (s : ConeOverflow) → IsConeStep (fan_of k v) v s → e ≡ Cone s → IsRefusedAtBasis k pairs v e
   memory : e ≡ Memory → IsRefusedAtBasis k pairs v e
+
+-- why the way up from v to the root is refused: a call is refused so at a basis on it alone, at v or at one above
+abbrev pub IsWayRefused : Region → ℕ → MarkedPolynomials → TreeError → Type 0
+IsWayRefused k pairs v e = IsRefusedAbove (IsParent k) (λ w r. IsRefusedAtBasis k pairs w r) v e
 
 -- why a call of the tree at the basis v is refused: so at v, or at a basis on the other side of a facet of v; or there is no memory
 pub data IsCallRefusal (k : Region) (pairs : ℕ) (v : MarkedPolynomials) (e : TreeError) : Type 0 where

@@ -2,12 +2,12 @@
 ghost use Rattle.std.specs.Prelude.{◌≡◌, ◌↔◌, IfOk, IfErr};
 ghost use Rattle.gf_reverse.specs.Upward.{IsNode, fan_of};
 ghost use Rattle.gf_tree.specs.Parents.{IsParentTold, IsRootFor, IsRootBasis};
-ghost use Rattle.gf_tree.specs.Refusals.{IsTreeRefusal, IsTreeWithinLimits};
+ghost use Rattle.gf_tree.specs.Refusals.{IsTreeRefusal, IsWayRefused, IsTreeWithinLimits};
 ghost use Rattle.gf_tree.specs.declared.error.TreeError.TheVariants.{Memory};
 ghost use Rattle.gf_tree.specs.declared.above.Parent.TheVariants.{Root};
 
 use crate::node::cone_of;
-use crate::steps::{crossed, way_in};
+use crate::steps::{arrived, crossed, way_in, way_up};
 use crate::{BasisTree, Node, Parent, TreeError};
 use gf_cone::Region;
 use gf_poly::MarkedSet;
@@ -35,11 +35,13 @@ fn above(tree: &BasisTree, set: &MarkedSet) -> Result<Parent, TreeError>
 fn ascended(tree: &BasisTree, set: MarkedSet) -> Result<MarkedSet, TreeError>
     requires { IsNode tree.now.region set }
     ensures value { IfOk result (IsRootFor tree.now.region set) }
-    ensures cause { IfErr result (IsTreeRefusal (fan_of tree.now.region set) tree.now.pairs) }
+    ensures way { IfErr result (IsWayRefused tree.now.region tree.now.pairs set) }
 {
-    let node = Node::of(tree.alloc, set, &tree.region);
-    let root = gf_walk::to_root(tree.alloc, tree, node)?;
-    Ok(root.into_basis())
+    let mut node = Node::of(tree.alloc, set, &tree.region);
+    'up: while let Some(facet) = way_up(tree, &node)? {
+        node = arrived(tree, &node, &facet)?;
+    }
+    Ok(node.into_basis())
 }
 
 /// What is above a basis in the tree of the marked reduced Gröbner bases of its ideal in a region.
@@ -80,8 +82,8 @@ pub fn parent(
 ///
 /// # Errors
 ///
-/// As for `parent`.
-#[tactic(auto, using(crate::proofs::RefusalLaws::only_memory))]
+/// As for `parent`, of a call at the set or at a basis above it alone.
+#[tactic(auto, using(crate::proofs::RefusalLaws::only_memory, crate::proofs::RefusalLaws::way_only))]
 pub fn to_root(
     alloc: Global,
     set: MarkedSet,
@@ -90,6 +92,7 @@ pub fn to_root(
 ) -> Result<MarkedSet, TreeError>
     requires { IsNode region.now set }
     ensures value { IfOk result (IsRootFor region.now set) }
+    ensures way { IfErr result (IsWayRefused region.now pairs set) }
     ensures cause { IfErr result (IsTreeRefusal (fan_of region.now set) pairs) }
     ensures complete { IsTreeWithinLimits (fan_of region.now set) pairs → IfErr result (λ e. e ≡ Memory) }
 {

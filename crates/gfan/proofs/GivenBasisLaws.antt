@@ -1,5 +1,5 @@
 -- The list of `_bases -g`: a marked Gröbner basis is reduced and taken up to the root; and why it isn't written.
--- To cite: few_members, reducible, reduced_is_node, reduced_own, root_starts, way_refused; given_performed, given_stopped_root, given_stopped_list, named_root;
+-- To cite: few_members, reducible, reduced_from, reduced_own, root_starts, way_from; given_performed, given_stopped_root, given_stopped_list, named_root;
 -- tree_work, tree_untested; given_work, root_within, root_past, given_once, given_refuses. The rest are steps.
 use Rattle.std.specs.Prelude.{◌≡◌, ◌⊎◌, ℕ, List, [], ◌∷◌, length, map, Contains, Option, Some, Err}
 use Rattle.std.specs.Io.KnownBytes.{Keeps}
@@ -31,14 +31,14 @@ use Rattle.gf_reduced.proofs.GroebnerLaws.{polys_variables}
 use Rattle.gf_reduced.proofs.RefusalLaws.{basis_only_memory}
 use Rattle.gf_facets.specs.Regions.{all_positive}
 use Rattle.gf_reverse.specs.Upward.{IsNode, IsNodeIn, fan_of}
-use Rattle.gf_reverse.proofs.TreeLaws.{SameFan, own_fan, back_fan}
+use Rattle.gf_reverse.proofs.TreeLaws.{own_fan, back_fan}
 use Rattle.gf_reverse.proofs.ListLaws.{own}
 use Rattle.gf_tree.specs.declared.error.TreeError.{TreeError}
 use Rattle.gf_tree.specs.declared.error.TreeError.TheVariants as tree_errors
 use Rattle.gf_tree.specs.Ideals.{ideal_by}
 use Rattle.gf_tree.specs.Parents.{ideal_of, IsRootFor}
-use Rattle.gf_tree.specs.Refusals.{IsTreeRefusal, IsTreeWithinLimits}
-use Rattle.gf_tree.proofs.RefusalLaws.{refusal_moved, within_memory}
+use Rattle.gf_tree.specs.Refusals.{IsTreeRefusal, IsWayRefused}
+use Rattle.gf_tree.proofs.RefusalLaws.{refusal_moved, way_refused, within_memory}
 use Rattle.gf_front.specs.declared.refusal.Refusal.{Refusal}
 use Rattle.gf_front.specs.declared.refusal.Refusal.TheVariants as refusals
 use Rattle.gf_items.specs.Items.{IsTextOf, from}
@@ -52,7 +52,7 @@ use Rattle.gfan.specs.declared.bases.ListOptions.{ListOptions}
 use Rattle.gfan.specs.Bases.{of_tree, IsGoingCause}
 use Rattle.gfan.specs.BasesWriting.{StartsAt, IsListWritten, IsListBegun, IsListStopped}
 use Rattle.gfan.specs.CheckedSets.{of_check}
-use Rattle.gfan.specs.GivenBasis.{IsGivenRootRefusal, IsGivenListCause, IsGivenListWithin, IsGivenListPast, given_bases_command}
+use Rattle.gfan.specs.GivenBasis.{IsReducedFrom, IsGivenRootRefusal, IsGivenListCause, IsGivenListWithin, IsGivenListPast, given_bases_command}
 use Rattle.gfan.specs.Refused.{IsNamedBy}
 use Rattle.gfan.specs.Performed.{IsPerformedFor, IsBegunAs, IsStoppedFor}
 use Rattle.gfan.proofs.ReadSetLaws.{marked_kept}
@@ -89,14 +89,20 @@ module _ (s t : MarkedPolynomials) (v : HaveVariables s.variables s.items) (a : 
   moved = basis_along s.variables (polys t.items) (polys s.items) t.items (record { inside = h.ideal.back; back = h.ideal.inside }) (subst (λ n. IsBasis n (polys t.items) t.items) a.variables h.basis)
 
   module _ (u : MarkedPolynomials) (r : IsAutoreduced t u) (arranged : AreArranged t.variables u.items) (reduced : IsReducedOf t.variables t.items u.items) where
-    pub reduced_is_node : IsNodeIn (ideal_by s.variables (polys s.items)) u
-    reduced_is_node = given_node s.variables (polys s.items) u inside (record {
-      variables = r.arranged.variables ∙ a.variables;
-      arranged = subst (λ n. AreArranged n u.items) a.variables arranged;
-      weight = h.marked.weight;
-      reduced = (subst (λ n. IsReducedOf n t.items u.items) a.variables reduced).at (polys s.items) h.marked.weight inside
-          (record { forms = t.items; monic = monic_themselves h.marked.weight t.items marked; basis = moved }) h.marked.positive realised;
-    })
+    pub reduced_from : IsReducedFrom s u
+    reduced_from = record {
+      given = record {
+        variables = r.arranged.variables ∙ a.variables;
+        arranged = subst (λ n. AreArranged n u.items) a.variables arranged;
+        weight = h.marked.weight;
+        reduced = (subst (λ n. IsReducedOf n t.items u.items) a.variables reduced).at (polys s.items) h.marked.weight inside
+            (record { forms = t.items; monic = monic_themselves h.marked.weight t.items marked; basis = moved }) h.marked.positive realised;
+      };
+      marks = h.marked.marks;
+    }
+
+    reduced_is_node : IsNodeIn (ideal_by s.variables (polys s.items)) u
+    reduced_is_node = given_node s.variables (polys s.items) u inside reduced_from.given
 
     -- it is a basis of the ideal that it generates
     pub reduced_own : IsNodeIn (ideal_of u) u
@@ -106,13 +112,9 @@ module _ (s t : MarkedPolynomials) (v : HaveVariables s.variables s.items) (a : 
     pub root_starts : (root : MarkedPolynomials) → IsRootFor (all_positive u.variables) u root → StartsAt s.variables (polys s.items) root
     root_starts root q = start_of_root s.variables (polys s.items) u root reduced_is_node q
 
-    -- a step of the way is refused at a basis of the ideal
-    pub way_refused : (pairs : ℕ) (e : TreeError) → IsTreeRefusal (ideal_of u) pairs e → IsTreeRefusal (ideal_by s.variables (polys s.items)) pairs e
-    way_refused pairs e q = refusal_moved (ideal_of u) (ideal_by s.variables (polys s.items)) pairs e same q
-      where
-        same : SameFan (ideal_of u) (ideal_by s.variables (polys s.items))
-        same = subst (λ n. SameFan (fan_of (all_positive n) u) (ideal_by s.variables (polys s.items))) (sym reduced_is_node.variables)
-            (back_fan (ideal_by s.variables (polys s.items)) (fan_of (all_positive s.variables) u) (own_fan (ideal_by s.variables (polys s.items)) u reduced_is_node))
+    -- why the way up is refused, in the variables of the set
+    pub way_from : (pairs : ℕ) (e : TreeError) → IsWayRefused (all_positive u.variables) pairs u e → IsWayRefused (all_positive s.variables) pairs u e
+    way_from pairs e q = subst (λ n. IsWayRefused (all_positive n) pairs u e) reduced_is_node.variables q
 
 -- ---- the command
 
@@ -130,7 +132,7 @@ read_variables source v read = marked_kept v.0 (from source read.read.behind) re
 pub named_root : (source : List ℕ) (ring : List (List ℕ)) (s : MarkedPolynomials) (pairs : ℕ) (r : Refusal) → IsTextOf ring_marked_set source (ring, s) → IsGivenRootRefusal s pairs r → IsNamedBy (Some ring) r
 named_root source ring s pairs r read (IsGivenRootRefusal.at_check e h q) = subst (IsNamedBy (Some ring)) (sym q) (named_check (Unit {0}) 0 ring s e read.read.two.variables (read_variables source (ring, s) read) h)
 named_root source ring s pairs r read (IsGivenRootRefusal.at_tails t d g a h q) = subst (IsNamedBy (Some ring)) (sym q) (named_numbers ring d)
-named_root source ring s pairs r read (IsGivenRootRefusal.on_the_way e g h q) = subst (IsNamedBy (Some ring)) (sym q) (named_tree ring e)
+named_root source ring s pairs r read (IsGivenRootRefusal.on_the_way u e g f h q) = subst (IsNamedBy (Some ring)) (sym q) (named_tree ring e)
 
 check_no_limit : (e : CheckError) (most : ℕ) → of_check e ≡ refusals.ListLimit most → ⊥
 check_no_limit e most q = check_not_listed e most (sym q)
@@ -146,7 +148,7 @@ tree_no_limit tree_errors.Memory most q = cc
 root_no_limit : (s : MarkedPolynomials) (pairs : ℕ) (r : Refusal) → IsGivenRootRefusal s pairs r → (most : ℕ) → r ≡ refusals.ListLimit most → ⊥
 root_no_limit s pairs r (IsGivenRootRefusal.at_check e k q) most l = check_no_limit e most (sym q ∙ l)
 root_no_limit s pairs r (IsGivenRootRefusal.at_tails t d g a k q) most l = check_no_limit (of_poly d) most (sym q ∙ l)
-root_no_limit s pairs r (IsGivenRootRefusal.on_the_way e g k q) most l = tree_no_limit e most (sym q ∙ l)
+root_no_limit s pairs r (IsGivenRootRefusal.on_the_way u e g f k q) most l = tree_no_limit e most (sym q ∙ l)
 
 module _ (o : ListOptions) (ring : List (List ℕ)) (s : MarkedPolynomials) where
   -- the root is refused before anything is written
@@ -202,7 +204,7 @@ tree_untested tree_errors.Memory t = t
 root_work : (s : MarkedPolynomials) (pairs : ℕ) (r : Refusal) → IsGivenRootRefusal s pairs r → IsOfWork r
 root_work s pairs r (IsGivenRootRefusal.at_check e h q) = subst IsOfWork (sym q) (check_work e)
 root_work s pairs r (IsGivenRootRefusal.at_tails t d g a h q) = subst IsOfWork (sym q) (check_work (of_poly d))
-root_work s pairs r (IsGivenRootRefusal.on_the_way e g h q) = subst IsOfWork (sym q) (tree_work e)
+root_work s pairs r (IsGivenRootRefusal.on_the_way u e g f h q) = subst IsOfWork (sym q) (tree_work e)
 
 pub given_work : (o : ListOptions) (n : ℕ) (s : MarkedPolynomials) (r : Refusal) → IsGivenListCause o n s r → IsOfWork r
 given_work o n s r (IsGivenListCause.at_root h) = root_work s o.pairs r h
@@ -210,23 +212,34 @@ given_work o n s r (IsGivenListCause.going g (IsGoingCause.in_tree e h q)) = sub
 given_work o n s r (IsGivenListCause.going g (IsGoingCause.at_limit most h q)) = subst IsOfWork (sym q) tt
 given_work o n s r (IsGivenListCause.going g (IsGoingCause.at_certificates c)) = subst IsOfWork (sym c.uncertified.2) (weight_work c.uncertified.0)
 
-root_only : (pairs n : ℕ) (s : MarkedPolynomials) (r : Refusal) → HaveVariables s.variables s.items → s.variables ≡ n → IsMarkedGroebnerBasis s.variables s.items → AreChecksWithinLimits s →
-    ((t : MarkedPolynomials) (d : PolyError) → IsArranged (monic_set s) t → IsAutoreductionRefusal t.items d → d ≡ errors.Memory) → IsTreeWithinLimits (ideal_by n (polys s.items)) pairs → IsGivenRootRefusal s pairs r → r ≡ refusals.Memory
-root_only pairs n s r v same basis checks tails tree (IsGivenRootRefusal.at_check e h q) = q ∙ ap of_check (basis_only_memory {A = Unit {0}} 0 s (Err e) v h checks basis)
-root_only pairs n s r v same basis checks tails tree (IsGivenRootRefusal.at_tails t d g a h q) = q ∙ ap (λ x. of_check (of_poly x)) (tails t d a h)
-root_only pairs n s r v same basis checks tails tree (IsGivenRootRefusal.on_the_way e g h q) = q ∙ ap of_tree (within_memory (ideal_by n (polys s.items)) pairs e tree (subst (λ k. IsTreeRefusal (ideal_by k (polys s.items)) pairs e) same h))
+-- a refusal on the way up is one of a search over the bases of the ideal
+way_in_tree : (s u : MarkedPolynomials) (pairs : ℕ) (e : TreeError) → HaveVariables s.variables s.items → IsReducedFrom s u → IsWayRefused (all_positive s.variables) pairs u e →
+    IsTreeRefusal (ideal_by s.variables (polys s.items)) pairs e
+way_in_tree s u pairs e v f q =
+    let k = all_positive s.variables in
+    let F = ideal_by s.variables (polys s.items) in
+    let node : IsNodeIn F u = given_node s.variables (polys s.items) u (polys_variables s.variables s.items v) f.given in
+    refusal_moved (fan_of k u) F pairs e (back_fan F (fan_of k u) (own_fan F u node)) (way_refused k pairs u e (own k F u refl node) q)
+
+root_only : (pairs : ℕ) (s : MarkedPolynomials) (r : Refusal) → HaveVariables s.variables s.items → IsMarkedGroebnerBasis s.variables s.items → AreChecksWithinLimits s →
+    ((t : MarkedPolynomials) (d : PolyError) → IsArranged (monic_set s) t → IsAutoreductionRefusal t.items d → d ≡ errors.Memory) →
+    ((u : MarkedPolynomials) (e : TreeError) → IsReducedFrom s u → IsWayRefused (all_positive s.variables) pairs u e → e ≡ tree_errors.Memory) → IsGivenRootRefusal s pairs r → r ≡ refusals.Memory
+root_only pairs s r v basis checks tails way (IsGivenRootRefusal.at_check e h q) = q ∙ ap of_check (basis_only_memory {A = Unit {0}} 0 s (Err e) v h checks basis)
+root_only pairs s r v basis checks tails way (IsGivenRootRefusal.at_tails t d g a h q) = q ∙ ap (λ x. of_check (of_poly x)) (tails t d a h)
+root_only pairs s r v basis checks tails way (IsGivenRootRefusal.on_the_way u e g f h q) = q ∙ ap of_tree (way u e f h)
 
 pub root_within : (o : ListOptions) (n : ℕ) (s : MarkedPolynomials) (r : Refusal) → IsGivenListWithin o n s → IsGivenRootRefusal s o.pairs r → r ≡ refusals.Memory
-root_within o n s r w h = root_only o.pairs n s r w.variables w.same w.basis w.checks w.tails w.tree h
+root_within o n s r w h = root_only o.pairs s r w.variables w.basis w.checks w.tails
+    (λ u e f q. within_memory (ideal_by n (polys s.items)) o.pairs e w.tree (subst (λ k. IsTreeRefusal (ideal_by k (polys s.items)) o.pairs e) w.same (way_in_tree s u o.pairs e w.variables f q))) h
 
-pub root_past : (o : ListOptions) (n : ℕ) (s : MarkedPolynomials) (most : ℕ) (r : Refusal) → IsGivenListPast o n s most → IsGivenRootRefusal s o.pairs r → r ≡ refusals.Memory
-root_past o n s most r w h = root_only o.pairs n s r w.variables w.same w.basis w.checks w.tails w.tree h
+pub root_past : (o : ListOptions) (n : ℕ) (s : MarkedPolynomials) (most : ℕ) (r : Refusal) → HaveVariables s.variables s.items → IsGivenListPast o n s most → IsGivenRootRefusal s o.pairs r → r ≡ refusals.Memory
+root_past o n s most r v w h = root_only o.pairs s r v w.basis w.checks w.tails w.way h
 
 -- a test of the set isn't told where the set is a basis, nor by the rest of the work
 root_tested : (s : MarkedPolynomials) (pairs : ℕ) (r : Refusal) → HaveVariables s.variables s.items → IsOfTest r → IsGivenRootRefusal s pairs r → IsMarkedGroebnerBasis s.variables s.items → ⊥
 root_tested s pairs r v t (IsGivenRootRefusal.at_check e h q) g = paired_refutes (Unit {0}) 0 s e v (subst IsOfTest q t) h g
 root_tested s pairs r v t (IsGivenRootRefusal.at_tails u d b a h q) g = poly_untested d (subst IsOfTest q t)
-root_tested s pairs r v t (IsGivenRootRefusal.on_the_way e b h q) g = tree_untested e (subst IsOfTest q t)
+root_tested s pairs r v t (IsGivenRootRefusal.on_the_way u e b f h q) g = tree_untested e (subst IsOfTest q t)
 
 going_untested : (o : ListOptions) (n : ℕ) (s : MarkedPolynomials) (r : Refusal) → IsOfTest r → IsGoingCause o n (polys s.items) r → ⊥
 going_untested o n s r t (IsGoingCause.in_tree e h q) = tree_untested e (subst IsOfTest q t)
@@ -242,9 +255,9 @@ root_once s pairs r d v t (IsGivenRootRefusal.at_check e h q) (IsGivenRootRefusa
     let once = paired_once (Unit {0}) (Unit {0}) 0 s e f v (subst IsOfTest q t) h k in
     subst (λ x. TellsSame r x ⊎ IsOfNumbers x) (sym p) (subst (λ x. TellsSame x (of_check f) ⊎ IsOfNumbers (of_check f)) (sym q) once)
 root_once s pairs r d v t h (IsGivenRootRefusal.at_tails u f g a k p) = inr (subst IsOfNumbers (sym p) (poly_numbers f))
-root_once s pairs r d v t h (IsGivenRootRefusal.on_the_way f g k p) = inr (subst IsOfNumbers (sym p) (tree_numbers f))
+root_once s pairs r d v t h (IsGivenRootRefusal.on_the_way u f g m k p) = inr (subst IsOfNumbers (sym p) (tree_numbers f))
 root_once s pairs r d v t (IsGivenRootRefusal.at_tails u f g a h q) k = absurd (poly_untested f (subst IsOfTest q t))
-root_once s pairs r d v t (IsGivenRootRefusal.on_the_way e g h q) k = absurd (tree_untested e (subst IsOfTest q t))
+root_once s pairs r d v t (IsGivenRootRefusal.on_the_way u e g f h q) k = absurd (tree_untested e (subst IsOfTest q t))
 
 given_same : (o : ListOptions) (n : ℕ) (s : MarkedPolynomials) (r d : Refusal) → HaveVariables s.variables s.items → IsOfTest r → IsGivenListCause o n s r → IsGivenListCause o n s d → TellsSame r d ⊎ IsOfNumbers d
 given_same o n s r d v t (IsGivenListCause.at_root h) (IsGivenListCause.at_root k) = root_once s o.pairs r d v t h k

@@ -4,20 +4,17 @@ use Rattle.std.specs.Prelude.{◌≡◌, ◌⊎◌, ℕ, ◌<◌, ◌≤◌, Boo
 use Rattle.std.proofs.Common.{arith, refl, ap, ◌∙◌, subst, inl, inr, length-append}
 use Rattle.gf_exponents.specs.SixOrders.{MonomialOrder}
 use Rattle.gf_poly.specs.Polynomial.{Terms}
-use Rattle.gf_poly.specs.Marking.{MarkedPolynomials, polys}
+use Rattle.gf_poly.specs.Marking.{MarkedPolynomials, HaveVariables, polys}
 use Rattle.gf_ideal.specs.Membership.{AreInVariables}
 use Rattle.gf_text.specs.declared.error.TextError.{TextError}
 use Rattle.gf_text.specs.declared.error.TextError.TheVariants as text_errors
 use Rattle.gf_text.specs.declared.written.Written.{Written}
 use Rattle.gf_buchberger.proofs.BasesOfRuns.{if_within}
-use Rattle.gf_tree.specs.Ideals.{ideal_by}
-use Rattle.gf_tree.proofs.RefusalLaws.{within_memory}
-use Rattle.gf_subtree.proofs.BasisRowLaws.{early_refused}
 use Rattle.gf_front.specs.declared.command_line.Job.{Job}
 use Rattle.gf_front.specs.declared.command_line.Job.TheVariants as jobs
 use Rattle.gf_front.specs.declared.refusal.Refusal.{Refusal}
 use Rattle.gf_front.specs.declared.refusal.Refusal.TheVariants as refusals
-use Rattle.gf_items.specs.Items.{Item, IsTextOf, IsTextRefused}
+use Rattle.gf_items.specs.Items.{Item, IsTextOf, IsTextRefused, from}
 use Rattle.gf_items.specs.Refusals.{of_text}
 use Rattle.gf_frame.specs.Commands.{IsUnanswered, IsAnswered, IsRefusedOn}
 use Rattle.gf_items.specs.Sources.{ring_set_vector, ring_marked_set}
@@ -27,13 +24,13 @@ use Rattle.gf_items.proofs.KindLaws.{ring_and_once}
 use Rattle.gf_items.proofs.ReadingLaws.{source_once}
 use Rattle.gfan.specs.declared.bases.ListOptions.{ListOptions}
 use Rattle.gfan.specs.Certificates.{of_weight_error}
-use Rattle.gfan.specs.Bases.{IsWithinLimit, of_tree, IsPastLimit, IsGoingCause, IsListCause, IsListPast, bases_command}
+use Rattle.gfan.specs.Bases.{IsWithinLimit, of_tree, IsPastLimit, IsGoingCause, IsGoingPast, IsListCause, IsListPast, bases_command}
 use Rattle.gfan.specs.GivenBasis.{IsGivenListCause, IsGivenListPast, given_bases_command}
 use Rattle.gfan.specs.BasesList.{AreAllBases}
 use Rattle.gfan.specs.Buchberger.{generators_of, of_basis}
 use Rattle.gfan.specs.Commands.{list_options, list_command, command_of, AreTextsPast, IsPastReach}
-use Rattle.gfan.proofs.BasesListLaws.{among_right}
 use Rattle.gfan.proofs.GivenBasisLaws.{root_past}
+use Rattle.gfan.proofs.ReadSetLaws.{marked_kept}
 use Rattle.gfan.proofs.OneListLaws.{one_list}
 use Rattle.gfan.proofs.OneTextLaws.{read_variables, given_variables}
 
@@ -49,22 +46,23 @@ within_most : (limit : Option ℕ) (most : ℕ) (list : List MarkedPolynomials) 
 within_most None most list e w = cc
 within_most (Some n) most list e w = let same : n ≡ most = cc in omega arith
 
-list_past : (o : ListOptions) (n : ℕ) (fs : List Terms) (most : ℕ) (r : Refusal) → AreInVariables n fs → IsListPast o n fs most → IsListCause o n fs r → IsAtLimitOrMemory most r
-list_past o n fs most r v w (IsListCause.at_root e h q) = inr (q ∙ ap of_basis (if_within {A = Unit {0}} MonomialOrder.deglex n o.pairs fs (Err e) w.root h))
-list_past o n fs most r v w (IsListCause.going (IsGoingCause.in_tree e h q)) =
+-- from the first basis on
+going_past : (o : ListOptions) (n : ℕ) (fs : List Terms) (most : ℕ) (r : Refusal) → AreInVariables n fs → IsGoingPast o n fs most → IsGoingCause o n fs r → IsAtLimitOrMemory most r
+going_past o n fs most r v w (IsGoingCause.in_tree e h q) =
     inr (q ∙ ap of_tree (w.calls h.written h.rest e (one_list n fs w.past.list (h.written ++ h.rest) v w.past.are_all h.are_all) (within_most o.limit most h.written w.past.is_limit h.few) h.early))
-list_past o n fs most r v w (IsListCause.going (IsGoingCause.at_limit m h q)) = inl (q ∙ ap (λ k. refusals.ListLimit k) (one_limit o.limit m most h.is_limit w.past.is_limit))
-list_past o n fs most r v w (IsListCause.going (IsGoingCause.at_certificates c)) =
+going_past o n fs most r v w (IsGoingCause.at_limit m h q) = inl (q ∙ ap (λ k. refusals.ListLimit k) (one_limit o.limit m most h.is_limit w.past.is_limit))
+going_past o n fs most r v w (IsGoingCause.at_certificates c) =
     let few : length (c.written ++ c.basis ∷ []) ≤ most = within_most o.limit most (c.written ++ c.basis ∷ []) w.past.is_limit c.few in
     let short : length c.written < most = omega (arith, few, length-append c.written (c.basis ∷ [])) in
     inr (c.uncertified.2 ∙ ap of_weight_error (w.certificates c.written c.rest c.basis (one_list n fs w.past.list (c.written ++ c.basis ∷ c.rest) v w.past.are_all c.are_all) short c.certified c.uncertified.0 c.uncertified.1))
 
-given_past : (o : ListOptions) (n : ℕ) (s : MarkedPolynomials) (most : ℕ) (r : Refusal) → IsGivenListPast o n s most → IsGivenListCause o n s r → IsAtLimitOrMemory most r
-given_past o n s most r w (IsGivenListCause.at_root h) = inr (root_past o n s most r w h)
-given_past o n s most r w (IsGivenListCause.going g (IsGoingCause.in_tree e h q)) = inr (q ∙ ap of_tree (within_memory (ideal_by n (polys s.items)) o.pairs e w.tree (early_refused (ideal_by n (polys s.items)) o.pairs h.rest e h.early)))
-given_past o n s most r w (IsGivenListCause.going g (IsGoingCause.at_limit m h q)) = inl (q ∙ ap (λ k. refusals.ListLimit k) (one_limit o.limit m most h.is_limit w.past.is_limit))
-given_past o n s most r w (IsGivenListCause.going g (IsGoingCause.at_certificates c)) =
-    inr (c.uncertified.2 ∙ ap of_weight_error (w.certificates c.certified c.basis (c.are_all.only c.basis (among_right c.written (c.basis ∷ c.rest) c.basis (inl refl))) c.uncertified.0 c.uncertified.1))
+list_past : (o : ListOptions) (n : ℕ) (fs : List Terms) (most : ℕ) (r : Refusal) → AreInVariables n fs → IsListPast o n fs most → IsListCause o n fs r → IsAtLimitOrMemory most r
+list_past o n fs most r v w (IsListCause.at_root e h q) = inr (q ∙ ap of_basis (if_within {A = Unit {0}} MonomialOrder.deglex n o.pairs fs (Err e) w.root h))
+list_past o n fs most r v w (IsListCause.going h) = going_past o n fs most r v w.going h
+
+given_past : (o : ListOptions) (n : ℕ) (s : MarkedPolynomials) (most : ℕ) (r : Refusal) → HaveVariables s.variables s.items → AreInVariables n (polys s.items) → IsGivenListPast o n s most → IsGivenListCause o n s r → IsAtLimitOrMemory most r
+given_past o n s most r own v w (IsGivenListCause.at_root h) = inr (root_past o n s most r own w h)
+given_past o n s most r own v w (IsGivenListCause.going g h) = going_past o n (polys s.items) most r v w.going h
 
 -- ---- so is the job
 
@@ -95,7 +93,7 @@ basis_past o source v most d read p (IsRefusedOn.in_text e h q) = inr (q ∙ tex
 basis_past o source v most d read p (IsRefusedOn.behind_text a k (IsUnanswered.in_form f)) = absurd f
 basis_past o source v most d read p (IsRefusedOn.behind_text a k (IsUnanswered.in_work g w)) =
     let same = (source_once ring_marked_set (ring_and_once a_marked_set []) source).once v a read k in
-    given_past o (length v.0) v.1 most d p (subst (λ (x : List (List ℕ) × MarkedPolynomials). IsGivenListCause o (length x.0) x.1 d) same w)
+    given_past o (length v.0) v.1 most d (marked_kept v.0 (from source read.read.behind) read.end v.1 read.read.two) (given_variables source v read) p (subst (λ (x : List (List ℕ) × MarkedPolynomials). IsGivenListCause o (length x.0) x.1 d) same w)
 basis_past o source v most d read p (IsRefusedOn.behind_text a k (IsUnanswered.no_memory m)) = inr m
 basis_past o source v most d read p (IsRefusedOn.no_memory m) = inr m
 
@@ -126,11 +124,11 @@ list_unanswered true o [] most text p a = p.1
 list_unanswered false o (source ∷ []) most text p a =
     let same = (source_once (ring_set_vector false) (ring_and_once a_set (vector_where false ∷ [])) source).once a.value p.0 a.read p.1 in
     no_text (length a.value.0) (generators_of a.value.1.0) o.limit most a.answer.is_answer.list (read_variables source a.value a.read)
-    (subst (λ (x : List (List ℕ) × (List Written × Option (List ℤ))). IsPastLimit o.limit (length x.0) (generators_of x.1.0) most) same p.2.past) a.answer.is_answer.are_all a.answer.is_answer.few
+    (subst (λ (x : List (List ℕ) × (List Written × Option (List ℤ))). IsPastLimit o.limit (length x.0) (generators_of x.1.0) most) same p.2.going.past) a.answer.is_answer.are_all a.answer.is_answer.few
 list_unanswered true o (source ∷ []) most text p a =
     let same = (source_once ring_marked_set (ring_and_once a_marked_set []) source).once a.value p.0 a.read p.1 in
     no_text (length a.value.0) (polys a.value.1.items) o.limit most a.answer.is_answer.list.list (given_variables source a.value a.read)
-    (subst (λ (x : List (List ℕ) × MarkedPolynomials). IsPastLimit o.limit (length x.0) (polys x.1.items) most) same p.2.past) a.answer.is_answer.list.are_all a.answer.is_answer.list.few
+    (subst (λ (x : List (List ℕ) × MarkedPolynomials). IsPastLimit o.limit (length x.0) (polys x.1.items) most) same p.2.going.past) a.answer.is_answer.list.are_all a.answer.is_answer.list.few
 list_unanswered false o (source ∷ (other ∷ others)) most text p a = p.1
 list_unanswered true o (source ∷ (other ∷ others)) most text p a = p.1
 

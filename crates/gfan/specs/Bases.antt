@@ -157,15 +157,19 @@ pub record IsListWithin (o : ListOptions) (n : ℕ) (fs : List Terms) : Type 0 w
   pub few : (list : List MarkedPolynomials) → AreAllBases n fs list → IsWithinLimit o.limit list
   pub certificates : AreCertifiedWithin o n fs
 
--- the list goes on past its limit, and before that no operation leaves its limits: none on the way to the first basis, none of a call at a
--- basis that the limit lets through, or at the next one, and none of the certificates of one that it lets through, where they are asked for
-pub record IsListPast (o : ListOptions) (n : ℕ) (fs : List Terms) (most : ℕ) : Type 0 where
-  pub root : AreRunsWithinLimits MonomialOrder.deglex fs o.pairs
+-- the list goes on past its limit, and from its first basis on no operation before that leaves its limits: none of a call at a basis that the
+-- limit lets through, or at the next one, and none of the certificates of one that it lets through, where they are asked for
+pub record IsGoingPast (o : ListOptions) (n : ℕ) (fs : List Terms) (most : ℕ) : Type 0 where
   pub past : IsPastLimit o.limit n fs most
   pub calls : (written rest : List MarkedPolynomials) (e : TreeError) → past.list ≡ written ++ rest → length written ≤ most →
       IsRefusedEarly (ideal_by n fs) o.pairs rest e → e ≡ tree_errors.Memory
   pub certificates : (written rest : List MarkedPolynomials) (b : MarkedPolynomials) → past.list ≡ written ++ b ∷ rest → length written < most →
       o.certified ≡ true → AreCertificatesWithinLimits b.variables b.items
+
+-- so it is, and no operation on the way to the first basis leaves its limits
+pub record IsListPast (o : ListOptions) (n : ℕ) (fs : List Terms) (most : ℕ) : Type 0 where
+  pub root : AreRunsWithinLimits MonomialOrder.deglex fs o.pairs
+  pub going : IsGoingPast o n fs most
 
 -- ---- the command
 

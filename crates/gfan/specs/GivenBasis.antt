@@ -1,24 +1,27 @@
 -- `_bases -g`: a marked Gröbner basis is read in place of generators. What is written, and why it isn't.
-use Rattle.std.specs.Prelude.{◌≡◌, ℕ, List, [], length, ◌∷◌}
+use Rattle.std.specs.Prelude.{◌≡◌, ℕ, List, [], length, ◌∷◌, Contains}
 use Rattle.gf_poly.specs.declared.error.PolyError.{PolyError}
 use Rattle.gf_poly.specs.declared.error.PolyError.TheVariants as errors
-use Rattle.gf_poly.specs.Marking.{MarkedPolynomials, HaveVariables, polys, IsArranged}
+use Rattle.gf_poly.specs.Marking.{MarkedPolynomial, MarkedPolynomials, HaveVariables, polys, IsArranged}
+use Rattle.gf_ideal.specs.Marks.{IsRealisedBy}
 use Rattle.gf_division.specs.Autoreduction.{IsAutoreductionRefusal}
 use Rattle.gf_reduced.specs.declared.error.CheckError.{CheckError}
 use Rattle.gf_reduced.specs.Forms.{monic_set}
 use Rattle.gf_reduced.specs.Markings.{IsMarkedGroebnerBasis}
 use Rattle.gf_reduced.specs.Refusals.{of_poly, IsReducedBasisRefusal, AreChecksWithinLimits}
+use Rattle.gf_facets.specs.Regions.{all_positive}
 use Rattle.gf_tree.specs.declared.error.TreeError.{TreeError}
+use Rattle.gf_tree.specs.declared.error.TreeError.TheVariants as tree_errors
 use Rattle.gf_tree.specs.Ideals.{ideal_by}
-use Rattle.gf_tree.specs.Refusals.{IsTreeRefusal, IsTreeWithinLimits}
+use Rattle.gf_tree.specs.Refusals.{IsWayRefused, IsTreeWithinLimits}
 use Rattle.gf_front.specs.declared.refusal.Refusal.{Refusal}
 use Rattle.gf_items.specs.Sources.{ring_marked_set}
 use Rattle.gf_frame.specs.Loading.{Origin}
 use Rattle.gf_frame.specs.Readings.{of_one}
 use Rattle.gf_frame.specs.Commands.{Writing, Command}
 use Rattle.gfan.specs.declared.bases.ListOptions.{ListOptions}
-use Rattle.gfan.specs.BasesList.{AreAllBases}
-use Rattle.gfan.specs.Bases.{IsWithinLimit, IsTextOfBases, IsFullText, IsBegunWhere, of_tree, IsPastLimit, IsGoingCause, AreCertifiedWithin}
+use Rattle.gfan.specs.BasesList.{IsGivenByWeight, AreAllBases}
+use Rattle.gfan.specs.Bases.{IsWithinLimit, IsTextOfBases, IsFullText, IsBegunWhere, of_tree, IsGoingCause, IsGoingPast, AreCertifiedWithin}
 use Rattle.gfan.specs.CheckedSets.{of_check}
 
 -- ---- what is written
@@ -41,14 +44,19 @@ pub record IsBegunFromBasis (o : ListOptions) (ring : List (List ℕ)) (s : Mark
 
 -- ---- why it isn't written
 
--- the set isn't taken as a basis; or it is one, and its members made monic and arranged aren't reduced, or a step of the way up from the
--- reduced basis to the root is refused, at a basis of the ideal
+-- u is the reduced basis of the ideal that s generates, for some positive weight that gives the marking of s
+pub record IsReducedFrom (s u : MarkedPolynomials) : Type 0 where
+  pub given : IsGivenByWeight s.variables (polys s.items) u
+  pub marks : (b : MarkedPolynomial) → Contains s.items b → IsRealisedBy given.weight b
+
+-- the set isn't taken as a basis; or it is one, and its members made monic and arranged aren't reduced, or the way up from the reduced
+-- basis to the root is refused, at a basis on it
 pub data IsGivenRootRefusal (s : MarkedPolynomials) (pairs : ℕ) (r : Refusal) : Type 0 where
   at_check : (e : CheckError) → IsReducedBasisRefusal 0 s e → r ≡ of_check e → IsGivenRootRefusal s pairs r
   at_tails : (t : MarkedPolynomials) (d : PolyError) → IsMarkedGroebnerBasis s.variables s.items → IsArranged (monic_set s) t →
       IsAutoreductionRefusal t.items d → r ≡ of_check (of_poly d) → IsGivenRootRefusal s pairs r
-  on_the_way : (e : TreeError) → IsMarkedGroebnerBasis s.variables s.items → IsTreeRefusal (ideal_by s.variables (polys s.items)) pairs e →
-      r ≡ of_tree e → IsGivenRootRefusal s pairs r
+  on_the_way : (u : MarkedPolynomials) (e : TreeError) → IsMarkedGroebnerBasis s.variables s.items → IsReducedFrom s u →
+      IsWayRefused (all_positive s.variables) pairs u e → r ≡ of_tree e → IsGivenRootRefusal s pairs r
 
 -- so is the root; or the set is a basis, and the list is refused from the root on
 pub data IsGivenListCause (o : ListOptions) (n : ℕ) (s : MarkedPolynomials) (r : Refusal) : Type 0 where
@@ -67,16 +75,14 @@ pub record IsGivenListWithin (o : ListOptions) (n : ℕ) (s : MarkedPolynomials)
   pub few : (list : List MarkedPolynomials) → AreAllBases n (polys s.items) list → IsWithinLimit o.limit list
   pub certificates : AreCertifiedWithin o n (polys s.items)
 
--- the same, but the list goes on past its limit
+-- the set is a basis, and the list goes on past its limit; before that no operation leaves its limits: none of the checks of the set, of
+-- reducing it, or of a call at a basis on the way up from the reduced basis to the root; nor one of the list from there on
 pub record IsGivenListPast (o : ListOptions) (n : ℕ) (s : MarkedPolynomials) (most : ℕ) : Type 0 where
-  pub variables : HaveVariables s.variables s.items
-  pub same : s.variables ≡ n
   pub basis : IsMarkedGroebnerBasis s.variables s.items
   pub checks : AreChecksWithinLimits s
   pub tails : (t : MarkedPolynomials) (d : PolyError) → IsArranged (monic_set s) t → IsAutoreductionRefusal t.items d → d ≡ errors.Memory
-  pub tree : IsTreeWithinLimits (ideal_by n (polys s.items)) o.pairs
-  pub certificates : AreCertifiedWithin o n (polys s.items)
-  pub past : IsPastLimit o.limit n (polys s.items) most
+  pub way : (u : MarkedPolynomials) (e : TreeError) → IsReducedFrom s u → IsWayRefused (all_positive s.variables) o.pairs u e → e ≡ tree_errors.Memory
+  pub going : IsGoingPast o n (polys s.items) most
 
 -- ---- the command
 

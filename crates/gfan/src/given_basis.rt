@@ -5,7 +5,7 @@ ghost use Rattle.gf_reduced.specs.Markings.{IsMarkedGroebnerBasis};
 ghost use Rattle.gf_facets.specs.Regions.{all_positive};
 ghost use Rattle.gf_reverse.specs.Upward.{IsNodeIn};
 ghost use Rattle.gf_tree.specs.Parents.{ideal_of, IsRootFor};
-ghost use Rattle.gf_tree.specs.Refusals.{IsTreeRefusal};
+ghost use Rattle.gf_tree.specs.Refusals.{IsWayRefused};
 ghost use Rattle.gfan.specs.BasesWriting.{StartsAt};
 ghost use Rattle.gf_frame.specs.Seen.{output_seen};
 ghost use Rattle.gf_frame.specs.Runs.{IsDoneOn, IsStoppedOn};
@@ -30,7 +30,7 @@ use std::thread::Threads;
 fn root_above(alloc: Global, reduced: MarkedSet, pairs: u64) -> Result<MarkedSet, TreeError>
     requires { IsNodeIn (ideal_of reduced) reduced }
     ensures value { IfOk result (IsRootFor (all_positive reduced.variables) reduced) }
-    ensures cause { IfErr result (IsTreeRefusal (ideal_of reduced) pairs) }
+    ensures way { IfErr result (IsWayRefused (all_positive reduced.variables) pairs reduced) }
 {
     let region = Region::positive(alloc, reduced.variables())?;
     to_root(alloc, reduced, &region, pairs)

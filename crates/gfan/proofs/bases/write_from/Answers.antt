@@ -11,7 +11,7 @@ use Rattle.gfan.proofs.BasesLaws.{starts, step_variables, goes_on, ends, stopped
 use Rattle.gfan.proofs.bases.write_from.Goals as goal
 
 pub waves_of-requires-clause-basis : goal.waves_of-requires-clause-basis
-waves_of-requires-clause-basis g c =
+waves_of-requires-clause-basis g c κs within =
     let n = length c.args.ring.now in
     let s = c.requires.first in
     subst (λ k. IsNode (all_positive k) c.args.root) (sym s.first.variables)

@@ -2,7 +2,7 @@ use Rattle.std.proofs.Common.{refl, ap, ◌∙◌}
 use Rattle.gf_reduced.specs.declared.error.CheckError.TheVariants as check_errors
 use Rattle.gfan.specs.CheckedSets.{of_check}
 use Rattle.gfan.specs.GivenBasis.{IsGivenRootRefusal}
-use Rattle.gfan.proofs.GivenBasisLaws.{reducible, reduced_own, root_starts, way_refused}
+use Rattle.gfan.proofs.GivenBasisLaws.{reducible, reduced_from, reduced_own, root_starts, way_from}
 use Rattle.gfan.proofs.given_basis.root_of.Goals as goal
 
 pub returns-then-items-clause-err : goal.returns-then-items-clause-err
@@ -28,6 +28,7 @@ returns-in-Ok-root_above-clause-root c =
 
 pub returns-clause-err : goal.returns-clause-err
 returns-clause-err c =
-    IsGivenRootRefusal.on_the_way c.in-Err-root_above.error c.in-Ok.ensures.basis.marked
-    (way_refused c.args.marked.now c.in-Ok.basis c.items.ensures.variables c.in-Ok.ensures.value c.in-Ok.ensures.basis c.in-Ok-autoreduce.reduced c.in-Ok-autoreduce.ensures.value c.in-Ok-autoreduce.ensures.arranged c.in-Ok-autoreduce.ensures.reduced c.args.pairs c.in-Err-root_above.error c.in-Err-root_above.ensures.cause)
+    IsGivenRootRefusal.on_the_way c.in-Ok-autoreduce.reduced c.in-Err-root_above.error c.in-Ok.ensures.basis.marked
+    (reduced_from c.args.marked.now c.in-Ok.basis c.items.ensures.variables c.in-Ok.ensures.value c.in-Ok.ensures.basis c.in-Ok-autoreduce.reduced c.in-Ok-autoreduce.ensures.value c.in-Ok-autoreduce.ensures.arranged c.in-Ok-autoreduce.ensures.reduced)
+    (way_from c.args.marked.now c.in-Ok.basis c.items.ensures.variables c.in-Ok.ensures.value c.in-Ok.ensures.basis c.in-Ok-autoreduce.reduced c.in-Ok-autoreduce.ensures.value c.in-Ok-autoreduce.ensures.arranged c.in-Ok-autoreduce.ensures.reduced c.args.pairs c.in-Err-root_above.error c.in-Err-root_above.ensures.way)
     (ap (λ r. r.refusal) c.from-in-Err-root_above.ensures)
