@@ -1,5 +1,5 @@
 -- Tests of a marked set of pure difference binomials, as it is read: no operation on coefficients is refused.
--- To cite: polys_binomial, autoreduction_fits, paired_fits, test_fits, monic_forms_fit.
+-- To cite: head_there, member_fits, forms_binomial, pairs_fit, polys_binomial, autoreduction_fits, paired_fits, test_fits, monic_forms_fit.
 use Rattle.std.proofs.Common.{◌≡◌, ℕ, List, Contains, map, arith, subst, inl, inr}
 use Rattle.std.proofs.lemmas.List.Sorted.{Contains-permutation, IsPermutation-sym}
 use Rattle.gf_frac.specs.Fits.{Fits}
@@ -30,11 +30,11 @@ use Rattle.gf_binomial_calls.proofs.FlipLaws.{forms_binomials}
 member_variables : (s : MarkedPolynomials) → IsBinomialSet s → (b : MarkedPolynomial) → Contains s.items b → HasVariables s.variables b.poly
 member_variables s p b c = contained_each (λ (d : MarkedPolynomial). HasVariables s.variables d.poly) s.items p.variables b c
 
-head_there : (s : MarkedPolynomials) → IsBinomialSet s → (b : MarkedPolynomial) → Contains s.items b → HasMonomial b.poly b.head
+pub head_there : (s : MarkedPolynomials) → IsBinomialSet s → (b : MarkedPolynomial) → Contains s.items b → HasMonomial b.poly b.head
 head_there s p b c = marked_there s.variables b (member_variables s p b c) (p.marked b c)
 
 -- it is made monic
-member_fits : (s : MarkedPolynomials) → IsBinomialSet s → (b : MarkedPolynomial) (o : Overflow) → Contains s.items b → IsMonicCause b (errors.Overflow o) → ⊥
+pub member_fits : (s : MarkedPolynomials) → IsBinomialSet s → (b : MarkedPolynomial) (o : Overflow) → Contains s.items b → IsMonicCause b (errors.Overflow o) → ⊥
 member_fits s p b o c k =
     let d = (p.marked b c).descending in
     let v = member_variables s p b c in
@@ -53,7 +53,7 @@ polys_binomial s p f c = at (Contains-marked s.items f c)
 
 -- ---- the monic forms
 
-forms_binomial : (s : MarkedPolynomials) → IsBinomialSet s → AreMarkedBinomials (Contains (map monic_of s.items))
+pub forms_binomial : (s : MarkedPolynomials) → IsBinomialSet s → AreMarkedBinomials (Contains (map monic_of s.items))
 forms_binomial s p d c = at (form_of s.items d c)
   where
     at : ((b : MarkedPolynomial) × Contains s.items b × (monic_of b ≡ d)) → IsMarkedBinomial d
@@ -68,7 +68,7 @@ pair_fits b c o hb hc k = elim k [
   ]
 ]
 
-pairs_fit : (bs : List MarkedPolynomial) (o : Overflow) → AreMarkedBinomials (Contains bs) → IsPairCause bs (errors.Overflow o) → ⊥
+pub pairs_fit : (bs : List MarkedPolynomial) (o : Overflow) → AreMarkedBinomials (Contains bs) → IsPairCause bs (errors.Overflow o) → ⊥
 pairs_fit bs o two (IsPairCause.s_polynomial b c hb hc r) = r.1 (pair_fits b c o (two b hb) (two c hc) r.0)
 pairs_fit bs o two (IsPairCause.reduction b c s hb hc q r) = r.1 (reduction_fits (Contains bs) s o.op o.left o.right two (binomial-s_polynomial b c s (two b hb) (two c hc) q) r.0)
 

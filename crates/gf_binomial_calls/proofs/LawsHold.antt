@@ -22,6 +22,7 @@ use Rattle.gf_binomial_calls.proofs.CheckLaws.{polys_binomial, autoreduction_fit
 use Rattle.gf_binomial_calls.specs.Limits.{LimitsAreMet}
 use Rattle.gf_binomial_calls.proofs.LimitLaws.{plain_difference, runs_within, flip_within, search_within}
 use Rattle.gf_binomial_calls.proofs.SystemLimits.{small_search}
+use Rattle.gf_binomial_calls.proofs.CheckLimits.{checks_within, tails_within}
 use Rattle.gf_binomial_calls.proofs.TermLimits.{monomials_within}
 use Rattle.gf_binomial_calls.proofs.SetLaws.{set_binomials, set_sums}
 
@@ -52,4 +53,4 @@ pub plain_sets_are_binomials : PlainSetsAreBinomials
 plain_sets_are_binomials = record { meaning = λ n qs ws h r f c. contained_each IsBinomial (written_polynomials ws) (set_binomials n qs ws h r) f c; sums = set_sums }
 
 pub limits_are_met : LimitsAreMet
-limits_are_met = record { generators = plain_difference; runs = runs_within; flips = flip_within; search = search_within; small_search = small_search; monomials = monomials_within }
+limits_are_met = record { generators = plain_difference; runs = runs_within; flips = flip_within; search = search_within; small_search = small_search; checks = checks_within; tails = λ n b t e p g a r. tails_within n b p g t a e r; monomials = monomials_within }

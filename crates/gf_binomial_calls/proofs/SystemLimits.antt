@@ -1,31 +1,33 @@
--- The systems of the normals of an ideal with one generator stay in range, where there are at most three variables and the
--- exponents and the rows of the region are up to 500.
--- To cite: systems_within, small_search.
+-- The systems of the normals of an ideal with one generator, and of the marking of a set, stay in range, where there are at most three
+-- variables and the exponents and the rows of the region are up to 500.
+-- To cite: systems_within, small_search, marking_within.
 use Rattle.std.proofs.Common.{◌≡◌, ℕ, zero, suc, ◌+◌, ◌≤◌, List, [], ◌∷◌, ◌++◌, length, All, Contains, Err, ℤ, pos, ◌-ℤ◌, unsigned_abs, arith, refl, sym, ◌∙◌, subst, inl, inr}
 use Rattle.std.proofs.lemmas.Int.{ints}
 use Rattle.std.proofs.lemmas.List.{get_or_default}
-use Rattle.std.proofs.lemmas.List.Elements.{All-contains, Contains-get_or, Contains-append_cases}
+use Rattle.std.proofs.lemmas.List.Elements.{All-nil, All-contains, Contains-get_or, Contains-append_cases}
 use Rattle.gf_exponents.specs.Exponents.{Exponents, entry}
-use Rattle.gf_poly.specs.Polynomial.{Terms}
-use Rattle.gf_poly.specs.Marking.{MarkedPolynomial, MarkedPolynomials}
+use Rattle.gf_poly.specs.Marking.{MarkedPolynomial, MarkedPolynomials, HaveVariables, HasMarkedTerm, Each}
+use Rattle.gf_poly.specs.Polynomial.{Terms, HasVariables}
 use Rattle.gf_ideal.specs.Membership.{AreInVariables}
 use Rattle.gf_ideal.specs.Reduction.{IsMonicForm}
-use Rattle.gf_ideal.proofs.KeptForms.{term_there}
+use Rattle.gf_ideal.proofs.ListLaws.{contained_each}
+use Rattle.gf_ideal.proofs.KeptForms.{term_there, marked_there}
 use Rattle.gf_gordan.specs.Alternative.{AreRows}
 use Rattle.gf_gordan.specs.Sizes.{HaveEntriesUpTo}
 use Rattle.gf_gordan.specs.declared.error.ConeOverflow.{ConeOverflow}
 use Rattle.gf_gordan.specs.declared.error.GordanError.TheVariants.{Cone, Memory}
 use Rattle.gf_gordan.proofs.SizeLaws.{UpTo, up_none, up_cons, up_zeros, up_divided}
 use Rattle.gf_gordan.proofs.ThreeColumns.{not_refused}
-use Rattle.gf_facets.specs.Rows.{differences, IsNormal}
-use Rattle.gf_facets.specs.Systems.{unit, units}
+use Rattle.gf_facets.specs.Rows.{differences, rows_of_polynomials, IsNormal}
+use Rattle.gf_facets.specs.Systems.{unit, units, system_of}
 use Rattle.gf_facets.specs.Normals.{others_of}
 use Rattle.gf_facets.specs.MarkedBases.{AreCanonical, IsBasisInRegion}
 use Rattle.gf_facets.proofs.RowLaws.{IsTermRow, row-from}
 use Rattle.gf_facets.proofs.NormalLaws.{normal-length}
 use Rattle.gf_facets.proofs.NormalListLaws.{others_only}
-use Rattle.gf_facets.proofs.SystemLaws.{contained_all, region_rows_wide}
+use Rattle.gf_facets.proofs.SystemLaws.{contained_all, region_rows_wide, canonical_all, marked_system_wide}
 use Rattle.gf_facets.proofs.UnitLaws.{unit_of}
+use Rattle.gf_reduced.specs.Refusals.{IsSystemWithinLimits}
 use Rattle.gf_cone.specs.Cones.{ConeRows, normal_at, other_rows}
 use Rattle.gf_reverse.specs.Upward.{Fan, IsNodeIn}
 use Rattle.gf_tree.specs.Refusals.{IsConeStep, IsTreeWithinLimits}
@@ -132,3 +134,30 @@ systems_within F f e few low short v s node step =
 -- so a search over the bases of such an ideal stays within its limits
 pub small_search : (F : Fan) (f : Terms) (pairs : ℕ) → F.ideal ≡ f ∷ [] → IsPlainGenerator f → F.variables ≤ 3 → HaveEntriesUpTo 500 F.region.rows → HasExponentsUpTo 500 f → IsTreeWithinLimits F pairs
 small_search F f pairs e g few low short = search_within F f pairs e g (systems_within F f e few low short)
+
+-- ---- the marking of a set
+
+pub marking_within : (n : ℕ) (bs : List MarkedPolynomial) → HaveVariables n bs → Each HasMarkedTerm bs → n ≤ 3 → ((b : MarkedPolynomial) → Contains bs b → HasExponentsUpTo 500 b.poly) →
+    IsSystemWithinLimits (record { variables = n; items = bs })
+marking_within n bs v m few low o step =
+    let q : Cone o ≡ Memory = not_refused (Err (Cone o)) (length (system_of n bs)) n (system_of n bs) [] (marked_system_wide n bs v m) (All-nil (λ (t : List ℤ). length t ≡ n)) step few rows_low (All-nil (All (λ (x : ℤ). unsigned_abs x ≤ 500))) in
+    absurd (cc)
+  where
+    canonical : AreCanonical n bs
+    canonical = canonical_all n bs v m
+
+    row_up : (r : List ℤ) → Contains (rows_of_polynomials bs) r → UpTo 500 r
+    row_up r k = at (row-from bs r k)
+      where
+        at : ((d : MarkedPolynomial) × Contains bs d × IsTermRow d.head d.poly r) → UpTo 500 r
+        at d =
+            let t = d.2.term in
+            let w = canonical d.0 d.1 in
+            let head = marked_there n d.0 (contained_each (λ (b : MarkedPolynomial). HasVariables n b.poly) bs v d.0 d.1) (contained_each HasMarkedTerm bs m d.0 d.1) in
+            subst (UpTo 500) (sym d.2.row) (differences_up 500 d.0.head t.mono (low d.0 d.1 d.0.head head) (low d.0 d.1 t.mono (term_there n d.0.poly t w.variables w.descending d.2.inside)))
+
+    rows_low : HaveEntriesUpTo 500 (system_of n bs)
+    rows_low = contained_all (All (λ x. unsigned_abs x ≤ 500)) (system_of n bs) (λ t k. elim (Contains-append_cases (rows_of_polynomials bs) (units n n) t k) [
+      | inl r ↦ all_up 500 t (row_up t r)
+      | inr u ↦ let p = unit_of n n t u in all_up 500 t (subst (UpTo 500) (sym p.2) (unit_up n p.0))
+    ])

@@ -1,13 +1,18 @@
 -- Ideals whose bases, flips and searches stay within their limits: that of one pure difference binomial, and those of monomials.
--- Laws: proofs/LimitLaws.antt, proofs/SystemLimits.antt, proofs/TermLimits.antt.
+-- Laws: proofs/LimitLaws.antt, proofs/SystemLimits.antt, proofs/CheckLimits.antt, proofs/TermLimits.antt.
 use Rattle.std.specs.Prelude.{◌≡◌, ℕ, ◌<◌, ◌≤◌, ◌^◌, List, [], ◌∷◌, Some, ℤ}
 use Rattle.gf_exponents.specs.Exponents.{Exponents, entry, Divides}
 use Rattle.gf_exponents.specs.SixOrders.{MonomialOrder}
 use Rattle.gf_poly.specs.Polynomial.{Terms}
-use Rattle.gf_poly.specs.Marking.{MarkedPolynomial, MarkedPolynomials}
+use Rattle.gf_poly.specs.declared.error.PolyError.{PolyError}
+use Rattle.gf_poly.specs.declared.error.PolyError.TheVariants as errors
+use Rattle.gf_poly.specs.Marking.{MarkedPolynomial, MarkedPolynomials, IsArranged}
 use Rattle.gf_ideal.specs.Membership.{HasMonomial, IsInVariables}
 use Rattle.gf_gordan.specs.Sizes.{HaveEntriesUpTo}
 use Rattle.gf_gordan.specs.declared.error.ConeOverflow.{ConeOverflow}
+use Rattle.gf_division.specs.Autoreduction.{IsAutoreductionRefusal}
+use Rattle.gf_reduced.specs.Forms.{monic_set}
+use Rattle.gf_reduced.specs.Refusals.{AreChecksWithinLimits}
 use Rattle.gf_buchberger.specs.Bases.{AreRunsWithinLimits}
 use Rattle.gf_facets.specs.Regions.{Region}
 use Rattle.gf_facets.specs.Facets.{IsFlippable}
@@ -18,6 +23,7 @@ use Rattle.gf_tree.specs.Refusals.{IsConeStep, IsTreeWithinLimits}
 use Rattle.gf_binomials.specs.Antichains.{IsAntichain, HasShortExponents}
 use Rattle.gf_binomials.specs.Binomials.{IsBinomialOf, IsBinomial}
 use Rattle.gf_binomial_bases.specs.Laws.{HaveOneMonomial}
+use Rattle.gf_binomial_calls.specs.Sets.{IsBinomialSet}
 
 -- a pure difference binomial of which neither monomial divides the other, with exponents below 2^31
 pub record IsPlainGenerator (f : Terms) : Type 0 where
@@ -31,8 +37,9 @@ HasExponentsUpTo b f = (x : Exponents) → HasMonomial f x → (i : ℕ) → ent
 
 -- x^p - x^q is such a generator where neither of p and q divides the other. Of its ideal, in each region: the runs by any order and the
 -- flips stay within their limits, whatever the budget is; so does the search over its bases unless a step of the system of a
--- normal leaves its range, which none does with three variables at most and exponents and rows of the region up to 500. Of
--- monomials the search always does: there is nothing to flip, and no normal
+-- normal leaves its range, which none does with three variables at most and exponents and rows of the region up to 500. So do the checks
+-- of it as a marked set, with either of its terms marked, and the reduction of that set. Of monomials the search always does: there is nothing to
+-- flip, and no normal
 pub record LimitsAreMet : Type 0 where
   pub generators : (p q : Exponents) (f : Terms) → IsBinomialOf (Some p) (Some q) f → (Divides p q → ⊥) → (Divides q p → ⊥) →
       ((i : ℕ) → entry p i < 2 ^ 31) → ((i : ℕ) → entry q i < 2 ^ 31) → IsPlainGenerator f
@@ -43,4 +50,8 @@ pub record LimitsAreMet : Type 0 where
       ((v : MarkedPolynomials) (s : ConeOverflow) → IsNodeIn F v → IsConeStep F v s → ⊥) → IsTreeWithinLimits F pairs
   pub small_search : (F : Fan) (f : Terms) (pairs : ℕ) → F.ideal ≡ f ∷ [] → IsPlainGenerator f → F.variables ≤ 3 →
       HaveEntriesUpTo 500 F.region.rows → HasExponentsUpTo 500 f → IsTreeWithinLimits F pairs
+  pub checks : (n : ℕ) (b : MarkedPolynomial) → IsBinomialSet (record { variables = n; items = b ∷ [] }) → IsPlainGenerator b.poly → n ≤ 3 →
+      HasExponentsUpTo 500 b.poly → AreChecksWithinLimits (record { variables = n; items = b ∷ [] })
+  pub tails : (n : ℕ) (b : MarkedPolynomial) (t : MarkedPolynomials) (e : PolyError) → IsBinomialSet (record { variables = n; items = b ∷ [] }) →
+      IsPlainGenerator b.poly → IsArranged (monic_set (record { variables = n; items = b ∷ [] })) t → IsAutoreductionRefusal t.items e → e ≡ errors.Memory
   pub monomials : (F : Fan) (pairs : ℕ) → HaveOneMonomial F.ideal → IsTreeWithinLimits F pairs

@@ -25,8 +25,8 @@ pub fn plain_sets_are_binomials()
     ensures { PlainSetsAreBinomials }
 {}
 
-/// What a completeness clause asks for is met: by the runs and the flips of an ideal that one pure difference binomial generates,
-/// and by the search over the bases of an ideal that monomials generate.
+/// What a completeness clause asks for is met: by the runs, the flips and the checks of a marked set of an ideal that one pure difference
+/// binomial generates, and by the search over the bases of an ideal that monomials generate.
 pub fn limits_are_met()
     ensures { LimitsAreMet }
 {}

@@ -3,7 +3,6 @@
 use Rattle.std.specs.Prelude.{◌≡◌, ◌≢◌, ◌⊎◌, ℕ, zero, suc, ◌<◌, ◌≤◌, true, false, List, [], ◌∷◌, ◌++◌, length, Contains, IsPermutation}
 use Rattle.std.proofs.Common.{arith, refl, sym, ap, ◌∙◌, subst, inl, inr}
 use Rattle.std.proofs.lemmas.Bool.{cases_lt}
-use Rattle.std.proofs.lemmas.List.{get_or_default}
 use Rattle.std.proofs.lemmas.List.Sorted.{Contains-permutation, IsPermutation-sym}
 use Rattle.gf_exponents.specs.Exponents.{join, minus, plus}
 use Rattle.gf_exponents.proofs.ExponentsLaws.{same_of}
@@ -23,6 +22,7 @@ use Rattle.gf_ideal.proofs.ListedTerms.{variables_by_terms}
 use Rattle.gf_ideal.proofs.PieceLaws.{Contains-marked}
 use Rattle.gf_ideal.proofs.StepLaws.{reached-more}
 use Rattle.gf_ideal.proofs.WorkLaws.{work-marked}
+use Rattle.gf_division.proofs.ReducerLaws.{members_equal}
 use Rattle.gf_buchberger.specs.declared.queue.Waiting.{Waiting}
 use Rattle.gf_buchberger.specs.Pairs.{PairMarks, is_settled, with_settled, with_member}
 use Rattle.gf_buchberger.specs.Runs.{MembersHaveVariables, State, with_pair, IsWaiting, IsState, IsRun, PairsPushed, IsAppended, CountsAsSettled, IsExcused, IsReducedPair}
@@ -36,10 +36,6 @@ state_eq s t em et eq =
     ap (λ (m : List MarkedPolynomial). let r : State = record { members = m; table = s.table; queue = s.queue } in r) em
     ∙ ap (λ (m : PairMarks). let r : State = record { members = t.members; table = m; queue = s.queue } in r) et
     ∙ ap (λ (q : List Waiting). let r : State = record { members = t.members; table = t.table; queue = q } in r) eq
-
--- two readings of one place
-same_member : (bs : List MarkedPolynomial) (i : ℕ) (b c : MarkedPolynomial) → IsAt bs i b → IsAt bs i c → b ≡ c
-same_member bs i b c p q = sym p.is ∙ get_or_default bs i b c p.within ∙ q.is
 
 pub in_variables : (n : ℕ) (bs : List MarkedPolynomial) → MembersHaveVariables n bs → AreInVariables n (polys bs)
 in_variables n bs v f c = let m = Contains-marked bs f c in subst (IsInVariables n) m.2 (variables_by_terms n m.0.poly (v.polys m.0 m.1))
@@ -230,16 +226,16 @@ reduced_pair order n fs w old new run h = at h.left
 
     gone : h.r ≡ [] → (b c : MarkedPolynomial) → IsAt old.members w.first b → IsAt old.members w.second c → IsSettledPair n old.members (below_of order) b c
     gone z b c x y =
-        subst (λ (u : MarkedPolynomial). IsSettledPair n old.members (below_of order) u c) (same_member old.members w.first h.b b h.at_i x)
-        (subst (λ (u : MarkedPolynomial). IsSettledPair n old.members (below_of order) h.b u) (same_member old.members w.second h.c c h.at_j y)
+        subst (λ (u : MarkedPolynomial). IsSettledPair n old.members (below_of order) u c) (members_equal old.members w.first h.b b h.at_i x)
+        (subst (λ (u : MarkedPolynomial). IsSettledPair n old.members (below_of order) h.b u) (members_equal old.members w.second h.c c h.at_j y)
         (pair_by_steps n old.members (below_of order) h.b h.c h.s h.r (in_variables n old.members run.variables) (order-is order).strict (run-marked order n fs (with_pair w old) run) in_b in_c h.is_s steps (inl (λ x. ap (λ (f : Terms). coefficient f x) z))))
 
     longer : (a : IsAppended order h.r old new) → IsRun order n fs (with_pair w new) → (b c : MarkedPolynomial) → IsAt new.members w.first b → IsAt new.members w.second c → IsSettledPair n new.members (below_of order) b c
     longer a r b c x y =
         let old_b : IsAt old.members w.first b = at_old old.members a.member b w.first h.at_i.within (subst (λ (m : List MarkedPolynomial). IsAt m w.first b) a.members x) in
         let old_c : IsAt old.members w.second c = at_old old.members a.member c w.second h.at_j.within (subst (λ (m : List MarkedPolynomial). IsAt m w.second c) a.members y) in
-        subst (λ (u : MarkedPolynomial). IsSettledPair n new.members (below_of order) u c) (same_member old.members w.first h.b b h.at_i old_b)
-        (subst (λ (u : MarkedPolynomial). IsSettledPair n new.members (below_of order) h.b u) (same_member old.members w.second h.c c h.at_j old_c)
+        subst (λ (u : MarkedPolynomial). IsSettledPair n new.members (below_of order) u c) (members_equal old.members w.first h.b b h.at_i old_b)
+        (subst (λ (u : MarkedPolynomial). IsSettledPair n new.members (below_of order) h.b u) (members_equal old.members w.second h.c c h.at_j old_c)
         (pair_by_steps n new.members (below_of order) h.b h.c h.s h.r (in_variables n new.members r.variables) (order-is order).strict (run-marked order n fs (with_pair w new) r) (keep a h.b in_b) (keep a h.c in_c) h.is_s (reached-more (Contains old.members) (Contains new.members) h.s h.r (λ d k. keep a d k) steps) (inr (a.member, subst (λ (m : List MarkedPolynomial). Contains m a.member) (sym a.members) (contained_last old.members a.member), a.monic))))
       where
         keep : IsAppended order h.r old new → (d : MarkedPolynomial) → Contains old.members d → Contains new.members d

@@ -20,9 +20,6 @@ use Rattle.gf_buchberger.proofs.RunSteps.{state_eq, excused_pair, reduced_pair, 
 
 -- ---- the run so far
 
-pub settling-none : (order : MonomialOrder) (s : State) → IsSettling order s s 0
-settling-none order s = record { run = λ n fs r. r; kept = λ b c. c; members = omega arith; count = omega arith }
-
 -- a pair taken out of the queue
 pub settling-popped : (order : MonomialOrder) (old : State) (members : List MarkedPolynomial) (table : PairMarks) (queue rest : List Waiting) (w : Waiting) (done : ℕ) → IsPermutation queue (w ∷ rest) → IsSettling order old (record { members = members; table = table; queue = queue }) done → IsSettling order old (with_pair w (record { members = members; table = table; queue = rest })) done
 settling-popped order old members table queue rest w done p s = record {
@@ -123,14 +120,6 @@ middle_table order old mid i j v (inl (x, e)) = subst (λ (s : State). IsPairTab
 middle_table order old mid i j v (inr h) = elim h.left [
   | inl z ↦ subst (λ (s : State). IsPairTable s.table) (sym z.1) v
   | inr z ↦ subst IsPairTable (sym z.1.table) (IsPairTable-member old.table v)
-]
-
--- the pair of places inside stays so while it is worked off
-pub still_inside : (order : MonomialOrder) (old mid : State) (i j : ℕ) → j < old.table.members → IsPairWorkedOff order old mid i j → j < mid.table.members
-still_inside order old mid i j l (inl (x, e)) = subst (λ (s : State). j < s.table.members) (sym e) l
-still_inside order old mid i j l (inr h) = elim h.left [
-  | inl z ↦ subst (λ (s : State). j < s.table.members) (sym z.1) l
-  | inr z ↦ omega (arith, ap (λ (t : PairMarks). t.members) z.1.table)
 ]
 
 pub settling-more : (order : MonomialOrder) (start old new : State) (w : Waiting) (done : ℕ) → IsNext order old w → is_settled old.table w.first w.second ≡ false → IsSettling order start (with_pair w old) done → IsSettledBy order old new w.first w.second → IsSettling order start new (done + 1)

@@ -1,11 +1,10 @@
 -- A member whose polynomial is one term has one monomial.
-use Rattle.std.specs.Prelude.{◌≡◌, ◌⊎◌, true, List, [], ◌∷◌, length, Contains}
+use Rattle.std.specs.Prelude.{◌≡◌, ◌⊎◌, true, [], ◌∷◌, length, Contains}
 use Rattle.std.proofs.Common.{arith, ap, subst, inl, inr}
 use Rattle.gf_exponents.specs.Exponents.{Exponents, same}
 use Rattle.gf_poly.specs.declared.Term.{Term}
 use Rattle.gf_poly.specs.Polynomial.{Terms}
 use Rattle.gf_poly.specs.Marking.{MarkedPolynomial, Each, HasMarkedTerm}
-use Rattle.gf_ideal.specs.Membership.{HasMonomial}
 use Rattle.gf_ideal.specs.Reduction.{HasOneMonomial}
 use Rattle.gf_ideal.proofs.ListLaws.{Contains-cases}
 use Rattle.gf_ideal.proofs.ListedTerms.{listed}

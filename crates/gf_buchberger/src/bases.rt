@@ -38,7 +38,7 @@ pub struct Job<'a> {
     pub pairs: u64,
 }
 
-// The same refusal, of a basis.
+/// The same refusal, of a basis.
 fn refused(refusal: PolyError) -> BasisError
     ensures { result ≡ of_poly_error refusal }
 {
@@ -49,7 +49,7 @@ fn refused(refusal: PolyError) -> BasisError
     }
 }
 
-// The answer of a run whose budget is spent.
+/// The answer of a run whose budget is spent.
 fn spent(alloc: Global, n: u32, run: Run) -> BasisError
     requires { MembersHaveVariables n run.members.items }
     ensures { IsSpentAnswer n run result }
@@ -63,7 +63,7 @@ fn spent(alloc: Global, n: u32, run: Run) -> BasisError
     }
 }
 
-// The answer of a run that was stopped.
+/// The answer of a run that was stopped.
 fn stopped(alloc: Global, n: u32, stop: Stop) -> BasisError
     requires { HasStopVariables n stop }
     ensures { IsStopAnswer n stop result }

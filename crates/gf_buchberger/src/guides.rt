@@ -7,7 +7,7 @@ use gf_order::Order;
 use gf_poly::ROOM;
 use std::alloc::{AllocError, Global};
 
-// How heavy each variable is by the order: 0 by lex and revlex.
+/// How heavy each variable is by the order: 0 by lex and revlex.
 fn weights(alloc: Global, n: usize, order: &Order) -> Result<Vec<i64>, AllocError>
     requires { HasEntries n order.now }
 {

@@ -40,8 +40,8 @@ pub struct Waiting {
     pub first: u32,
 }
 
-// The exponents arranged so that lists compare as monomials do by lex or by revlex: by revlex the last exponent decides,
-// and the smaller one is greater.
+/// The exponents arranged so that lists compare as monomials do by lex or by revlex: by revlex the last exponent decides,
+/// and the smaller one is greater.
 fn arranged(x: &[u32], by_revlex: bool) -> [u32; ROOM]
     requires { length x.now ≤ ROOM }
     ensures { AreKeyExponents by_revlex x.now result }

@@ -1,11 +1,10 @@
 //! A run of Buchberger's algorithm: its members, and the pairs that it settles.
 
-ghost use Rattle.std.specs.Prelude.{◌≡◌, ◌≢◌, ◌+◌, ◌<◌, ◌≤◌, ◌^◌, ℕ, [], length, IfOk, IfErr, OnOk, OnErr, IsTrue};
+ghost use Rattle.std.specs.Prelude.{◌≡◌, ◌≢◌, ◌<◌, ◌^◌, [], length, IfOk, IfErr, OnOk, IsTrue};
 ghost use Rattle.gf_exponents.specs.Exponents.{AreCoprime};
 ghost use Rattle.gf_order.specs.Comparisons.{HasEntries};
-ghost use Rattle.gf_poly.specs.Polynomial.{IsDescending};
 ghost use Rattle.gf_ideal.specs.Reduction.{HasOneMonomial};
-ghost use Rattle.gf_buchberger.specs.Runs.{MembersHaveVariables, AreReducers, IsMultipleAt, IsReducedPair, IsPairWorkedOff, IsSettlingRefusal, MembersHaveSomeVariables, state_of, State, IsState, PairsPushed, IsAppended, IsAppendable, IsAppendRefusal, CountsAsSettled, IsChain, IsExcused, IsSettledBy, IsSomeRun, IsWorkedThrough, IsStop};
+ghost use Rattle.gf_buchberger.specs.Runs.{MembersHaveVariables, AreReducers, IsMultipleAt, IsReducedPair, IsPairWorkedOff, IsSettlingRefusal, MembersHaveSomeVariables, state_of, IsState, PairsPushed, IsAppended, IsAppendable, IsAppendRefusal, CountsAsSettled, IsChain, IsExcused, IsSettledBy, IsSomeRun, IsWorkedThrough, IsStop};
 
 use crate::leading::leading;
 use crate::pairs::PairTable;
@@ -57,14 +56,14 @@ pub fn is_single(member: &Marked) -> bool
     member.poly().terms().len() == 1
 }
 
-// Whether both have one monomial alone.
+/// Whether both have one monomial alone.
 fn are_single(b: &Marked, c: &Marked) -> bool
     ensures { IsTrue result → HasOneMonomial b.now × HasOneMonomial c.now }
 {
     is_single(b) && is_single(c)
 }
 
-// Adds the pairs of these members with a new one, whose mark is `head`.
+/// Adds the pairs of these members with a new one, whose mark is `head`.
 fn push_pairs(
     queue: &mut Queue,
     strategy: Strategy,
@@ -135,7 +134,7 @@ impl Run {
         Ok(())
     }
 
-    // Whether the pair of the members at p and q counts as settled.
+    /// Whether the pair of the members at p and q counts as settled.
     fn counts(&self, p: u32, q: u32) -> bool
         requires state { IsState (state_of self.now) }
         requires first { p < length self.now.members.items }
@@ -152,8 +151,8 @@ impl Run {
             )
     }
 
-    // Whether the mark of the member at k divides the least common multiple of the marks at i and j, and its pairs with
-    // both count as settled.
+    /// Whether the mark of the member at k divides the least common multiple of the marks at i and j, and its pairs with
+    /// both count as settled.
     fn is_chain(&self, multiple: &Mono, i: u32, j: u32, k: u32) -> bool
         requires state { IsState (state_of self.now) }
         requires first { i < length self.now.members.items }
@@ -172,7 +171,7 @@ impl Run {
         self.counts(i, k) && self.counts(k, j)
     }
 
-    // Whether the pair of i and j needs no reduction.
+    /// Whether the pair of i and j needs no reduction.
     fn is_excused(&self, i: u32, j: u32) -> bool
         requires state { IsState (state_of self.now) }
         requires first { i < length self.now.members.items }
@@ -199,7 +198,7 @@ impl Run {
         false
     }
 
-    // Reduces the S-polynomial of the members at i and j; what is left is a new member.
+    /// Reduces the S-polynomial of the members at i and j; what is left is a new member.
     fn reduce_pair(&mut self, alloc: Global, order: &Order, i: u32, j: u32) -> Result<(), PolyError>
         requires state { IsState (state_of self.old) }
         requires first { i < length self.old.members.items }
@@ -216,7 +215,7 @@ impl Run {
         self.append(order, r)
     }
 
-    // Reduces the pair of i and j, unless it needs no reduction.
+    /// Reduces the pair of i and j, unless it needs no reduction.
     fn work_off(&mut self, alloc: Global, order: &Order, i: u32, j: u32) -> Result<(), PolyError>
         requires state { IsState (state_of self.old) }
         requires first { i < length self.old.members.items }
@@ -231,7 +230,7 @@ impl Run {
         self.reduce_pair(alloc, order, i, j)
     }
 
-    // Works the pair of i and j off, and marks it as settled.
+    /// Works the pair of i and j off, and marks it as settled.
     fn settle(&mut self, alloc: Global, order: &Order, i: u32, j: u32) -> Result<(), PolyError>
         requires state { IsState (state_of self.old) }
         requires pair { i < j }

@@ -20,8 +20,8 @@ impl BasisError {
     }
 }
 
-// Which of two refusals is told, where numbers of the first run don't fit: that of the second run, by the same polynomials and
-// order, where its budget was spent, since a greater one may help.
+/// Which of two refusals is told, where numbers of the first run don't fit: that of the second run, by the same polynomials and
+/// order, where its budget was spent, since a greater one may help.
 fn more_telling(first: BasisError, second: BasisError) -> BasisError
     ensures { result ≡ refusal_told first second }
 {
@@ -31,7 +31,7 @@ fn more_telling(first: BasisError, second: BasisError) -> BasisError
     }
 }
 
-// The basis by the second run, or the refusal that is told.
+/// The basis by the second run, or the refusal that is told.
 fn by_second_run(alloc: Global, job: &Job, first: BasisError) -> Result<MarkedSet, BasisError>
     requires good { IsBasisJob job.now.order.now job.now.n job.now.set.now }
     requires first { IsBasisRefusal job.now.order.now job.now.n job.now.set.now job.now.pairs first }

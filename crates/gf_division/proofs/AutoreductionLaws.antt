@@ -1,10 +1,9 @@
 -- Autoreduction: all tails, and what the arranged list then is.
--- To cite: AreTails, tails_none, tails_more, tails_end, given_variables, forms_some_variables, forms_weight, tails_variables,
--- Autoreducing, autoreducing, autoreduced_value, autoreduced_arranged, autoreduced_marked, autoreduced_reduced,
--- members_refused, tails_refused.
-use Rattle.std.specs.Prelude.{◌≡◌, ◌⊎◌, ℕ, ◌+◌, ◌<◌, ◌≤◌, true, List, [], ◌∷◌, ◌++◌, length, Contains, take}
+-- To cite: AreTails, tails_more, given_variables, forms_some_variables, forms_weight, tails_variables, Autoreducing,
+-- autoreducing, autoreduced_value, autoreduced_arranged, autoreduced_marked, autoreduced_reduced.
+use Rattle.std.specs.Prelude.{◌≡◌, ◌⊎◌, ℕ, ◌+◌, ◌<◌, true, List, [], ◌∷◌, ◌++◌, length, Contains, take}
 use Rattle.std.proofs.Common.{arith, sym, ap, ◌∙◌, subst, inl, inr, get_or}
-use Rattle.std.proofs.lemmas.List.{take_more, take_all}
+use Rattle.std.proofs.lemmas.List.{take_more}
 use Rattle.std.proofs.lemmas.List.Elements.{Contains-push_cases}
 use Rattle.std.proofs.lemmas.List.Sorted.{Contains-permutation, IsPermutation-sym}
 use Rattle.gf_frac.specs.Fraction.{◌*ℚ◌}
@@ -13,7 +12,6 @@ use Rattle.gf_exponents.specs.Exponents.{same}
 use Rattle.gf_exponents.specs.Orders.{lighter}
 use Rattle.gf_exponents.proofs.ExponentsLaws.{same-refl, same_flip, same_of, same_trans}
 use Rattle.gf_exponents.proofs.OrderLaws.{lighter-strict}
-use Rattle.gf_poly.specs.declared.error.PolyError.{PolyError}
 use Rattle.gf_poly.specs.Polynomial.{Terms, coefficient, SamePolynomial, HasVariables}
 use Rattle.gf_poly.specs.Marking.{MarkedPolynomial, MarkedPolynomials, HaveVariables, IsArranged}
 use Rattle.gf_poly.proofs.PolynomialLaws.{coefficient-same}
@@ -31,7 +29,7 @@ use Rattle.gf_ideal.proofs.ArrangementLaws.{reduced-arranged}
 use Rattle.gf_ideal.proofs.KeptForms.{arranged_list}
 use Rattle.gf_division.specs.MonicForms.{IsMadeMonic}
 use Rattle.gf_division.specs.NormalForms.{HasSomeWeight}
-use Rattle.gf_division.specs.Autoreduction.{IsNeededForm, AreNeededForms, IsAutoreduced, IsBasisOnceMonic, IsReducedOf, IsTailRefusal, IsNeededRefusal, IsAutoreductionRefusal, ShareSomeVariables, KeepVariables, IsKeptForm, AreKeptForms}
+use Rattle.gf_division.specs.Autoreduction.{IsNeededForm, AreNeededForms, IsAutoreduced, IsBasisOnceMonic, IsReducedOf, ShareSomeVariables, KeepVariables, IsKeptForm, AreKeptForms}
 use Rattle.gf_division.proofs.ReducerLaws.{member_contained, member_variables}
 use Rattle.gf_division.proofs.NeededLaws.{needed_divisible}
 
@@ -48,9 +46,6 @@ tails-push bs [] (d ∷ cs) k c h t = elim h [ ]
 tails-push bs (j ∷ ks) [] k c h t = elim h [ ]
 tails-push bs (j ∷ ks) (d ∷ cs) k c h t = (h.0, tails-push bs ks cs k c h.1 t)
 
-pub tails_none : (bs cs : List MarkedPolynomial) → cs ≡ [] → AreTails bs [] cs
-tails_none bs cs e = subst (AreTails bs []) (sym e) (record { tails = tt; forms = record { at = λ n v c l. absurd (omega (arith, l.1)) } })
-
 pub tails_more : (bs cs ds : List MarkedPolynomial) (k c : MarkedPolynomial) (i : ℕ) → i < length bs → k ≡ get_or bs i k → ds ≡ cs ++ c ∷ [] → IsReducedTail bs k c → IsKeptForm k c → AreTails bs (take i bs) cs → AreTails bs (take (i + 1) bs) ds
 tails_more bs cs ds k c i l e q t f h = record {
   tails = subst (λ (z : List MarkedPolynomial). AreReducedTails bs (take (i + 1) bs) z) (sym q) (subst (λ (z : List MarkedPolynomial). AreReducedTails bs z (cs ++ c ∷ [])) (sym (take_more bs i k l ∙ ap (λ (z : MarkedPolynomial). take i bs ++ z ∷ []) (sym e))) (tails-push bs (take i bs) cs k c h.tails t));
@@ -61,13 +56,7 @@ tails_more bs cs ds k c i l e q t f h = record {
     at n v d (inl m) = h.forms.at n v d m
     at n v d (inr g) = subst (IsCanonical n) g (f.at n (member_variables n bs k v (member_contained bs i k (record { within = l; is = sym e }))))
 
-pub tails_end : (bs cs : List MarkedPolynomial) (i : ℕ) → length bs ≤ i → AreTails bs (take i bs) cs → AreTails bs bs cs
-tails_end bs cs i l h = subst (λ (z : List MarkedPolynomial). AreTails bs z cs) (take_all i bs l) h
-
 -- ---- the forms of the needed members
-
-forms_variables : (n : ℕ) (bs ks : List MarkedPolynomial) → HaveVariables n bs → KeepVariables bs ks → HaveVariables n ks
-forms_variables n bs ks v k = k.at n v
 
 pub forms_some_variables : (n : ℕ) (bs cs ks ls : List MarkedPolynomial) → cs ≡ bs → HaveVariables n bs → KeepVariables cs ks → ls ≡ ks → ShareSomeVariables ls
 forms_some_variables n bs cs ks ls e v k q = record { n = n; each = subst (HaveVariables n) (sym q) (k.at n (subst (HaveVariables n) (sym e) v)) }
@@ -180,11 +169,3 @@ autoreduced_reduced n bs ks cs t a = record { at = λ fs w v b p r. record { pos
         reduced_by_weight n fs cs w v
         (interreduced n fs ks ks cs v (forms_basis n fs w bs ks p r a.needed b) (λ k q. q) (itself ks) a.tails.tails)
         p (tails_marked n w bs ks cs t r a) (reduced-tails ks cs a.tails.tails) (apart n bs ks cs t a)
-
--- ---- refusals
-
-pub members_refused : (bs cs : List MarkedPolynomial) (e : PolyError) → cs ≡ bs → IsNeededRefusal cs e → IsAutoreductionRefusal bs e
-members_refused bs cs e q h = inl (subst (λ (z : List MarkedPolynomial). IsNeededRefusal z e) q h)
-
-pub tails_refused : (bs gs ks ls : List MarkedPolynomial) (e : PolyError) → gs ≡ bs → ls ≡ ks → AreNeededForms gs ks → IsTailRefusal ls e → IsAutoreductionRefusal bs e
-tails_refused bs gs ks ls e p q h r = inr (ks, subst (λ (z : List MarkedPolynomial). AreNeededForms z ks) p h, subst (λ (z : List MarkedPolynomial). IsTailRefusal z e) q r)

@@ -2,13 +2,12 @@
 -- To cite: descending-front, descending-back, descending-across, descending-join, over-across, over-join, variables-front,
 -- variables-back, variables-join, coefficient-at_term, term_there.
 use Rattle.std.specs.Prelude.{◌≡◌, ℕ, suc, List, [], ◌∷◌, ◌++◌, Contains}
-use Rattle.std.specs.declared.cmp.Ordering.TheVariants.{Greater}
 use Rattle.std.proofs.Common.{arith, refl, ap, ◌∙◌, inr}
 use Rattle.gf_exponents.specs.Exponents.{Exponents}
 use Rattle.gf_exponents.specs.Orders.{deglex}
 use Rattle.gf_poly.specs.declared.Term.{Term}
 use Rattle.gf_poly.specs.Polynomial.{Terms, coefficient, IsAbove, IsDescending, HasVariables}
-use Rattle.gf_poly.proofs.DescendingLaws.{AllAbove, greater_trans}
+use Rattle.gf_poly.proofs.DescendingLaws.{AllAbove}
 use Rattle.gf_poly.proofs.CoefficientLaws.{coefficient-contains}
 use Rattle.gf_division.specs.Dividends.{AreOver, AreFrom}
 
@@ -71,15 +70,6 @@ pub coefficient-midst : (n : ℕ) (f : Terms) (t : Term) (g : Terms) → HasVari
 coefficient-midst n f t g v d = coefficient-contains n (f ++ t ∷ g) t v d (contains-midst f t g) (variables-back n f (t ∷ g) v).0
 
 -- ---- over a monomial
-
--- what is over x is over all that x is above
-pub over-above : (x : Exponents) (f g : Terms) → AreOver x f → IsAbove x g → AllAbove f g
-over-above x [] g o a = tt
-over-above x (t ∷ f) g o a = (above-from t.mono x g o.0 a, over-above x f g o.1 a)
-  where
-    above-from : (y x : Exponents) (g : Terms) → deglex y x ≡ Greater → IsAbove x g → IsAbove y g
-    above-from y x [] h a = tt
-    above-from y x (s ∷ g) h a = (greater_trans y x s.mono h a.0, above-from y x g h a.1)
 
 -- it is over a term at x
 pub over-one : (x : Exponents) (f : Terms) (t : Term) → t.mono ≡ x → AreOver x f → AllAbove f (t ∷ [])

@@ -1,10 +1,8 @@
 -- Moves of the place in a polynomial under reduction.
--- To cite: moved, not_empty, over_last, none_passed, one_passed, descends_at, first_there, shorter, none_up, one_up, terms_up,
--- first_coefficient, first_nonzero, first_length.
+-- To cite: moved, over_last, shorter, terms_up, first_coefficient, first_nonzero, first_length.
 use Rattle.std.specs.Prelude.{◌≡◌, ◌≢◌, ℕ, zero, suc, ◌-◌, ◌<◌, [], ◌∷◌, ◌++◌, length, reverse}
-use Rattle.std.specs.declared.cmp.Ordering.{Ordering}
-use Rattle.std.specs.declared.cmp.Ordering.TheVariants.{Less, Greater}
-use Rattle.std.proofs.Common.{arith, refl, sym, ap, ◌∙◌, subst, get_or, append_assoc, append-nil}
+use Rattle.std.specs.declared.cmp.Ordering.TheVariants.{Greater}
+use Rattle.std.proofs.Common.{arith, refl, sym, ap, ◌∙◌, subst, get_or, append_assoc}
 use Rattle.std.proofs.lemmas.List.{reverse-append, length-reverse}
 use Rattle.gf_exponents.specs.Exponents.{Exponents}
 use Rattle.gf_exponents.specs.Orders.{deglex}
@@ -13,19 +11,13 @@ use Rattle.gf_frac.specs.Fraction.{zero_ℚ}
 use Rattle.gf_poly.specs.Polynomial.{Terms, coefficient, IsDescending, HasVariables}
 use Rattle.gf_poly.specs.Marking.{head_of}
 use Rattle.gf_poly.proofs.DescendingLaws.{greater_trans}
-use Rattle.gf_ideal.proofs.ListLaws.{Each-++}
 use Rattle.gf_division.proofs.DescendingParts.{descending-back, variables-back, coefficient-midst}
-use Rattle.gf_division.specs.Dividends.{Split, joined_terms, IsSound, IsTermInFront, AreOver, PassesOne, FirstIs, Descends, MovesUp}
+use Rattle.gf_division.specs.Dividends.{Split, joined_terms, IsSound, IsTermInFront, AreOver, PassesOne, MovesUp}
 
 -- ---- one term over the place
 
 pub moved : (a b c d : Terms) (t : Term) → b ≡ d ++ t ∷ [] → c ≡ a ++ t ∷ [] → PassesOne (record { above = a; below = reverse b }) (record { above = c; below = reverse d })
 moved a b c d t e k = record { term = t; below = ap reverse e ∙ reverse-append d (t ∷ []); above = k }
-
--- a list that isn't empty below the place
-pub not_empty : (b : Terms) → reverse b ≢ [] → 0 < length b
-not_empty [] n = absurd (n refl)
-not_empty (t ∷ b) n = omega arith
 
 -- ---- the last term above the place
 
@@ -53,39 +45,10 @@ pub record Descending (x : Exponents) (old new : Split) : Type 0 where
   pub below : old.below ≡ passed ++ new.below
   pub over : AreOver x passed
 
-pub none_passed : (x : Exponents) (s : Split) → Descending x s s
-none_passed x s = record { passed = []; above = sym (append-nil s.above); below = refl; over = tt }
-
-pub one_passed : (x : Exponents) (old s new : Split) → FirstIs s.below x Greater → Descending x old s → PassesOne s new → Descending x old new
-one_passed x old s new f d a = record {
-  passed = d.passed ++ a.term ∷ [];
-  above = a.above ∙ ap (λ (z : Terms). z ++ a.term ∷ []) d.above ∙ append_assoc old.above d.passed (a.term ∷ []);
-  below = d.below ∙ ap (λ (z : Terms). d.passed ++ z) a.below ∙ sym (append_assoc d.passed (a.term ∷ []) new.below);
-  over = Each-++ (λ (t : Term). deglex t.mono x ≡ Greater) d.passed (a.term ∷ []) d.over (sym (subst (λ (z : Terms). FirstIs z x Greater) a.below f), tt);
-}
-
-pub descends_at : (x : Exponents) (old new : Split) (o : Ordering) → o ≢ Greater → FirstIs new.below x o → Descending x old new → Descends x old new o
-descends_at x old new o n f d = record { passed = d.passed; above = d.above; below = d.below; over = d.over; first = f; ends = n }
-
--- the first term is there
-pub first_there : (f : Terms) (x : Exponents) → FirstIs f x Greater → f ≢ []
-first_there [] x h = let q : Greater ≡ Less = h in absurd (cc)
-first_there (t ∷ f) x h = λ e. cc
-
 pub shorter : (old new : Split) (b d : Terms) → old.below ≡ reverse b → new.below ≡ reverse d → PassesOne old new → length d < length b
 shorter old new b d e k a = omega (arith, ap length a.below, ap length e, ap length k, length-reverse b, length-reverse d)
 
 -- ---- many terms up
-
-pub none_up : (s : Split) → MovesUp s s
-none_up s = record { passed = []; above = sym (append-nil s.above); below = refl }
-
-pub one_up : (old s new : Split) → MovesUp old s → PassesOne new s → MovesUp old new
-one_up old s new m a = record {
-  passed = a.term ∷ m.passed;
-  above = m.above ∙ ap (λ (z : Terms). z ++ m.passed) a.above ∙ append_assoc new.above (a.term ∷ []) m.passed;
-  below = a.below ∙ ap (λ (z : Terms). a.term ∷ z) m.below;
-}
 
 -- moves keep the terms
 pub terms_up : (old new : Split) → MovesUp old new → joined_terms new ≡ joined_terms old

@@ -1,8 +1,8 @@
 -- The loop of a division: the quotients of the steps, and what their sums are.
--- To cite: Dividing, dividing-none, dividing-more, division_refused, sum_at, places_at, variables_at, forms_at, sums_refused.
+-- To cite: Dividing, dividing-none, dividing-more, sum_at, places_at, variables_at, forms_at, sums_refused.
 use Rattle.std.specs.Prelude.{◌≡◌, ℕ, zero, suc, List, [], ◌∷◌, ◌++◌, length, replicate, Contains, None}
-use Rattle.std.proofs.Common.{arith, refl, sym, ap, ◌∙◌, subst, inl, inr}
-use Rattle.gf_frac.specs.Fraction.{Fraction, ◌+ℚ◌, zero_ℚ}
+use Rattle.std.proofs.Common.{arith, refl, sym, ap, ◌∙◌, subst, inr}
+use Rattle.gf_frac.specs.Fraction.{◌+ℚ◌, zero_ℚ}
 use Rattle.gf_frac.specs.Fits.{Fits}
 use Rattle.gf_frac.specs.declared.refusal.Op.{Op}
 use Rattle.gf_frac.proofs.FractionLaws.{+ℚ_assoc, +ℚ_comm, +ℚ-zero, zero-+ℚ}
@@ -13,16 +13,17 @@ use Rattle.gf_poly.specs.declared.error.PolyError.TheVariants as errors
 use Rattle.gf_poly.specs.Polynomial.{Terms, coefficient, times, SamePolynomial, IsDescending, HasVariables, KeepsVariables}
 use Rattle.gf_poly.specs.Marking.{MarkedPolynomial, Each}
 use Rattle.gf_poly.proofs.PolynomialLaws.{coefficient-++}
+use Rattle.gf_poly.proofs.DescendingLaws.{HasVariables-push}
 use Rattle.gf_ideal.specs.Settled.{IsAt}
 use Rattle.gf_ideal.proofs.StepLaws.{step-back}
 use Rattle.gf_ideal.proofs.ProductLaws.{poly_product, poly_product-turned, poly_product-equal}
-use Rattle.gf_division.specs.Steps.{IsReductionRefusal}
 use Rattle.gf_division.specs.NormalForms.{HaveSameVariables}
 use Rattle.gf_division.specs.Divisions.{product_of, cofactor_sum, no_quotients, with_quotient, IsDivisionByRule, AreForms, AreSums, KeepForms, HaveVariablesOf, IsSumRefusal, IsDivisionRefusal}
 use Rattle.gf_division.specs.Dividends.{Split, joined_terms, TakesStep}
 use Rattle.gf_division.proofs.DividendLaws.{first_head, first_length}
 use Rattle.gf_division.proofs.RuleLaws.{RuleFacts, rule_step}
 use Rattle.gf_division.proofs.NormalFormLaws.{NormalForming, normal_forming-none, normal_forming-more}
+use Rattle.gf_division.proofs.SubtractionLaws.{swap_last}
 
 -- ---- lists of quotients
 
@@ -43,13 +44,9 @@ none-variables : (n : ℕ) (bs : List MarkedPolynomial) → Each (HasVariables n
 none-variables n [] = tt
 none-variables n (b ∷ bs) = (tt, none-variables n bs)
 
-push-variables : (n : ℕ) (f : Terms) (t : Term) → HasVariables n f → length t.mono ≡ n → HasVariables n (f ++ t ∷ [])
-push-variables n [] t h e = (e, tt)
-push-variables n (s ∷ f) t h e = (h.0, push-variables n f t h.1 e)
-
 with-variables : (n : ℕ) (qs : List Terms) (k : ℕ) (t : Term) → Each (HasVariables n) qs → length t.mono ≡ n → Each (HasVariables n) (with_quotient qs k t)
 with-variables n [] k t h e = tt
-with-variables n (q ∷ qs) zero t h e = (push-variables n q t h.0 e, h.1)
+with-variables n (q ∷ qs) zero t h e = (HasVariables-push n q t h.0 e, h.1)
 with-variables n (q ∷ qs) (suc k) t h e = (h.0, with-variables n qs k t h.1 e)
 
 -- ---- the loop
@@ -99,9 +96,6 @@ product-push (s ∷ q) t g y =
     coefficient-++ (times s.coef s.mono g) (product_of (q ++ t ∷ []) g) y
     ∙ ap (λ z. coefficient (times s.coef s.mono g) y +ℚ z) (product-push q t g y) ∙ sym (+ℚ_assoc _ _ _)
     ∙ ap (λ z. z +ℚ coefficient (times t.coef t.mono g) y) (sym (coefficient-++ (times s.coef s.mono g) (product_of q g) y))
-
-swap_last : (a b c : Fraction) → (a +ℚ b) +ℚ c ≡ (a +ℚ c) +ℚ b
-swap_last a b c = +ℚ_assoc a b c ∙ ap (λ z. a +ℚ z) (+ℚ_comm b c) ∙ sym (+ℚ_assoc a c b)
 
 -- one quotient more of the member at k
 sum-more : (qs : List Terms) (bs : List MarkedPolynomial) (k : ℕ) (b : MarkedPolynomial) (t : Term) (y : Exponents) → length qs ≡ length bs → IsAt bs k b → coefficient (cofactor_sum (with_quotient qs k t) bs) y ≡ coefficient (cofactor_sum qs bs) y +ℚ coefficient (times t.coef t.mono b.poly) y
@@ -163,11 +157,6 @@ sums-length (q ∷ qs) [] a = elim a [ ]
 sums-length (q ∷ qs) (h ∷ hs) a = ap suc (sums-length qs hs a.1)
 
 -- ---- refusals
-
-pub division_refused : (bs : List MarkedPolynomial) (f : Terms) (e : PolyError) → IsReductionRefusal bs f e → IsDivisionRefusal bs f e
-division_refused bs f (errors.Overflow o) h = (inl h.0, h.1)
-division_refused bs f (errors.Exponent o) h = h
-division_refused bs f errors.Memory h = tt
 
 sum_division_refused : (bs : List MarkedPolynomial) (f r : Terms) (qs : List Terms) (e : PolyError) → IsDivisionByRule bs f qs r → IsSumRefusal qs e → IsDivisionRefusal bs f e
 sum_division_refused bs f r qs (errors.Overflow o) d h =

@@ -1,21 +1,21 @@
 -- Steps by the first member whose mark divides the monomial: whichever monomials they take, they lead to one remainder.
 -- What two such chains take away are sums of multiples of which each is told by the monomial that its mark comes to. Their
 -- difference has no monomial that a mark divides; but the heaviest of these monomials is one, and nothing lighter cancels it.
--- To cite: IsFirstStep, IsFirstReached, not_divided, first_along, first_of_rule, first_unique.
-use Rattle.std.specs.Prelude.{◌≡◌, ◌⊎◌, ℕ, zero, suc, ◌≤◌, true, false, List, [], ◌∷◌, ◌++◌, length, Contains}
+-- To cite: IsFirstStep, IsFirstReached, first_along, first_of_rule, first_unique.
+use Rattle.std.specs.Prelude.{◌≡◌, ◌⊎◌, ℕ, zero, suc, ◌≤◌, true, List, [], ◌∷◌, ◌++◌, length, Contains}
 use Rattle.std.proofs.Common.{arith, refl, sym, ap, ◌∙◌, subst, inl, inr}
 use Rattle.std.proofs.lemmas.Bool.{cases_lt}
-use Rattle.gf_frac.specs.Fraction.{◌+ℚ◌, ◌*ℚ◌, neg_ℚ, zero_ℚ, one_ℚ}
+use Rattle.gf_frac.specs.Fraction.{◌+ℚ◌, ◌*ℚ◌, neg_ℚ, one_ℚ}
 use Rattle.gf_frac.proofs.FractionLaws.{+ℚ_assoc, +ℚ-zero, zero-+ℚ, zero-*ℚ, zero_or_not}
-use Rattle.gf_exponents.specs.Exponents.{Exponents, same, plus, weight, NoMultiple}
+use Rattle.gf_exponents.specs.Exponents.{Exponents, same, plus, weight}
 use Rattle.gf_exponents.specs.Orders.{lighter}
-use Rattle.gf_exponents.proofs.ExponentsLaws.{plus_comm, same-refl, same_flip, same_along, cancel}
+use Rattle.gf_exponents.proofs.ExponentsLaws.{same-refl, same_flip, same_along, cancel}
 use Rattle.gf_poly.specs.Polynomial.{Terms, coefficient, SamePolynomial, times}
 use Rattle.gf_poly.specs.Marking.{MarkedPolynomial, Each}
 use Rattle.gf_poly.proofs.PolynomialLaws.{coefficient-++, coefficient-factor, times-plain}
 use Rattle.gf_poly.proofs.MergeLaws.{swap_first}
 use Rattle.gf_ideal.specs.Marks.{AreMarked, Piece, level, value}
-use Rattle.gf_ideal.specs.Reduction.{IsDivisible, IsIrreducible, IsStep}
+use Rattle.gf_ideal.specs.Reduction.{IsIrreducible, IsStep}
 use Rattle.gf_ideal.specs.NormalForms.{IsRuleReached}
 use Rattle.gf_ideal.specs.Settled.{IsAt}
 use Rattle.gf_ideal.proofs.Identities.{joined, crossed_over, neg_one}
@@ -24,6 +24,7 @@ use Rattle.gf_ideal.proofs.SettledLaws.{times_along}
 use Rattle.gf_ideal.proofs.StepLaws.{coefficient-mark, step-back}
 use Rattle.gf_ideal.proofs.PieceLaws.{coefficient-value-++, scale, value-scale, Each-scale, Found, NoneAt, find}
 use Rattle.gf_ideal.proofs.CriterionLaws.{IsPieceWithin, nothing_at}
+use Rattle.gf_ideal.proofs.NormalFormLaws.{no_divisor}
 use Rattle.gf_division.specs.Reducers.{IsFirstFor}
 use Rattle.gf_division.proofs.ReducerLaws.{members_equal}
 
@@ -47,9 +48,6 @@ first_of_rule bs f g (IsRuleReached.next k l r s) = IsFirstReached.next k l (fir
 
 -- ---- the first member
 
-pub not_divided : (x h u : Exponents) → NoMultiple h x → same x (plus u h) ≡ true → ⊥
-not_divided x h u n d = let f : same x (plus h u) ≡ false = n u in let t : same x (plus h u) ≡ true = ap (same x) (plus_comm h u) ∙ d in absurd (cc)
-
 pub first_along : (bs : List MarkedPolynomial) (x y : Exponents) (b : MarkedPolynomial) → same x y ≡ true → IsFirstFor bs x b → IsFirstFor bs y b
 first_along bs x y b s k = record { place = k.place; at = k.at; before = λ i c l a u. sym (same_along x y (plus c.head u) s) ∙ k.before i c l a u }
 
@@ -71,9 +69,9 @@ same_multiple bs p q e k l s =
   where
     place : k.place ≡ l.place
     place = elim (cases_lt k.place l.place) [
-      | inl m ↦ absurd (not_divided (level q) p.of.head p.shift (l.before k.place p.of m k.at) (same_flip (level p) (level q) s))
+      | inl m ↦ absurd (no_divisor (level q) p.of.head p.shift (l.before k.place p.of m k.at) (same_flip (level p) (level q) s))
       | inr m ↦ elim (cases_lt l.place k.place) [
-        | inl o ↦ absurd (not_divided (level p) q.of.head q.shift (k.before l.place q.of o l.at) s)
+        | inl o ↦ absurd (no_divisor (level p) q.of.head q.shift (k.before l.place q.of o l.at) s)
         | inr o ↦ omega arith
       ]
     ]

@@ -10,13 +10,13 @@ use Rattle.gf_frac.proofs.FractionLaws.{one-*ℚ, Decides-fraction_eq}
 use Rattle.gf_poly.specs.declared.error.PolyError.{PolyError}
 use Rattle.gf_poly.specs.declared.error.PolyError.TheVariants as errors
 use Rattle.gf_poly.specs.declared.products.Scaling.TheVariants.{Over}
-use Rattle.gf_poly.specs.Polynomial.{coefficient, HasVariables, KeepsVariables}
+use Rattle.gf_poly.specs.Polynomial.{coefficient}
 use Rattle.gf_poly.specs.Products.{IsScaleOverflow}
 use Rattle.gf_poly.specs.Marking.{MarkedPolynomial, HasMark, HasMarkedTerm, IsMonicOf, IsMonicCause}
+use Rattle.gf_poly.proofs.CoefficientLaws.{term_coefficient}
 use Rattle.gf_ideal.specs.Membership.{HasMonomial}
-use Rattle.gf_ideal.proofs.KeptForms.{monic_form}
+use Rattle.gf_ideal.proofs.KeptForms.{monic_form, term_there}
 use Rattle.gf_division.specs.MonicForms.{IsMadeMonic, IsDivisionByMark, IsMonicRefusal, HasSomeVariables}
-use Rattle.gf_division.proofs.StepLaws.{term_coefficient, term_there}
 
 pub mark_one : (b : MarkedPolynomial) (k l : Fraction) (r : Bool) → HasMark b k → l ≡ one_ℚ → r ≡ fraction_eq k l → r ≡ true → HasMark b one_ℚ
 mark_one b k l r h o e t = subst (HasMark b) ((Decides-fraction_eq k l).0 (sym e ∙ t) ∙ o) h
@@ -71,16 +71,9 @@ pub if_monic_made : (f : MarkedPolynomial) (r : Result MarkedPolynomial PolyErro
 if_monic_made f (Ok g) v m n h = monic_made f g v m n h
 if_monic_made f (Err e) v m n h = tt
 
-pub if_monic_keeps : (f : MarkedPolynomial) (r : Result MarkedPolynomial PolyError) → IfOk r (IsMonicOf f) → IfOk r (λ g. KeepsVariables f.poly g.poly)
-if_monic_keeps f (Ok g) h = h.variables
-if_monic_keeps f (Err e) h = tt
-
 pub if_monic_refused : (f : MarkedPolynomial) (r : Result MarkedPolynomial PolyError) → HasSomeVariables f → HasMarkedTerm f → coefficient f.poly f.head ≢ one_ℚ → IfErr r (IsMonicCause f) → IfErr r (IsMonicRefusal f)
 if_monic_refused f (Ok g) v m n h = tt
 if_monic_refused f (Err e) v m n h = refused f e v m n h
 
 pub copy_made : (b c : MarkedPolynomial) → c ≡ b → IsMadeMonic b b → IsMadeMonic b c
 copy_made b c e h = subst (IsMadeMonic b) (sym e) h
-
-pub copy_keeps : (b c : MarkedPolynomial) → c ≡ b → KeepsVariables b.poly c.poly
-copy_keeps b c e = record { at = λ n h. subst (λ (d : MarkedPolynomial). HasVariables n d.poly) (sym e) h }

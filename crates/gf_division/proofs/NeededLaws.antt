@@ -1,8 +1,8 @@
 -- Which members of a marked list are needed: the marks of those divide each mark, and none divides another.
--- To cite: NeededSoFar, needed_none, needed_by_test, needed_end, needless_by_test, Forming, forming-none, forming-more,
--- forming-skipped, forming_end, forming_variables, needed_divisible, member_refused.
+-- To cite: NeededSoFar, needed_none, needed_by_test, needed_end, Forming, forming-none, forming-more, forming-skipped,
+-- forming_end, forming_variables, needed_divisible, member_refused.
 use Rattle.std.specs.Prelude.{◌≡◌, ◌⊎◌, ℕ, zero, suc, ◌+◌, ◌<◌, ◌≤◌, Bool, true, false, List, [], ◌∷◌, ◌++◌, length, Contains, nat_lt}
-use Rattle.std.proofs.Common.{arith, refl, sym, ap, ◌∙◌, subst, inl, inr, get_or}
+use Rattle.std.proofs.Common.{arith, refl, sym, ◌∙◌, subst, inl, inr, get_or}
 use Rattle.std.proofs.lemmas.Bool.{cases_lt}
 use Rattle.std.proofs.lemmas.Bool.Decides.{nat_tests}
 use Rattle.std.proofs.lemmas.List.{get_or_default}
@@ -21,6 +21,7 @@ use Rattle.gf_ideal.proofs.ListLaws.{each_contained, contained_each, Contains-he
 use Rattle.gf_division.specs.MonicForms.{IsMadeMonic, IsMonicRefusal}
 use Rattle.gf_division.specs.Autoreduction.{IsNeeded, IsNeededForm, AreNeededForms, MakesNeedless, IsNeededAt, KeepVariables, IsNeededRefusal}
 use Rattle.gf_division.proofs.ReducerLaws.{members_equal, member_contained, member_variables}
+use Rattle.gf_division.proofs.RuleLaws.{no_multiple}
 
 -- ---- divisors
 
@@ -47,13 +48,6 @@ divides_or_not x y = elim (multiple_or_not x y) [
         let f : same y (plus x d.rest) ≡ false = n d.rest in
         let t : same y (plus x d.rest) ≡ true = same_trans y (plus d.rest x) (plus x d.rest) d.product (same_of (plus d.rest x) (plus x d.rest) (plus_comm d.rest x)) in
         cc
-
-not_divides : (x y : Exponents) → (Divides x y → ⊥) → NoMultiple x y
-not_divides x y n rest = at (same y (plus x rest)) refl
-  where
-    at : (b : Bool) → same y (plus x rest) ≡ b → b ≡ false
-    at false e = refl
-    at true e = absurd (n (record { rest = rest; product = ap (same y) (plus_comm rest x) ∙ e }))
 
 zero_degree : (x : Exponents) → degree x ≡ 0 → same x [] ≡ true
 zero_degree [] e = refl
@@ -111,29 +105,12 @@ needed_more bs i j x c r a y n h = record { least = λ k d l m v. at k d (cases_
 pub needed_end : (bs : List MarkedPolynomial) (i j : ℕ) (b : MarkedPolynomial) → IsAt bs i b → length bs ≤ j → NeededSoFar bs i j b.head → IsNeeded bs i b
 needed_end bs i j b a l h = record { at = a; least = λ k c m d. h.least k c (omega (arith, m.within)) m d }
 
--- what one member makes needless isn't needed
-needless : (bs : List MarkedPolynomial) (i j : ℕ) (b c : MarkedPolynomial) (r : Bool) → IsAt bs i b → IsAt bs j c → (r ≡ true → j < i) → MakesNeedless c.head b.head r → IsNeededAt bs i → ⊥
-needless bs i j b c r a m y h n = at r y h
-  where
-    k : IsNeeded bs i b
-    k = subst (IsNeeded bs i) (members_equal bs i n.0 b n.1.at a) n.1
-
-    at : (r : Bool) → (r ≡ true → j < i) → MakesNeedless c.head b.head r → ⊥
-    at true y d = let l = y refl in absurd (omega (arith, (k.least j c m d).1))
-    at false y d = d.1 (divides_same b.head c.head (same_flip c.head b.head (k.least j c m d.0).0))
-
 -- the tests of the code
 before_test : (j i : ℕ) → j < i → nat_lt j i ≡ true
 before_test j i l = grind (arith, nat_tests)
 
-test_before : (j i : ℕ) → nat_lt j i ≡ true → j < i
-test_before j i e = grind (arith, nat_tests)
-
 pub needed_by_test : (bs : List MarkedPolynomial) (i j : ℕ) (b c : MarkedPolynomial) (x y : Exponents) → IsAt bs j c → x ≡ c.head → y ≡ b.head → (MakesNeedless x y (nat_lt j i) → ⊥) → NeededSoFar bs i j b.head → NeededSoFar bs i (j + 1) b.head
 needed_by_test bs i j b c x y a ex ey n h = needed_more bs i j b.head c (nat_lt j i) a (before_test j i) (λ m. n (subst (λ (z : Exponents). MakesNeedless z y (nat_lt j i)) (sym ex) (subst (λ (z : Exponents). MakesNeedless c.head z (nat_lt j i)) (sym ey) m))) h
-
-pub needless_by_test : (bs : List MarkedPolynomial) (i j : ℕ) (b c : MarkedPolynomial) (x y : Exponents) → IsAt bs i b → IsAt bs j c → x ≡ c.head → y ≡ b.head → MakesNeedless x y (nat_lt j i) → IsNeededAt bs i → ⊥
-needless_by_test bs i j b c x y a m ex ey h = needless bs i j b c (nat_lt j i) a m (test_before j i) (subst (λ (z : Exponents). MakesNeedless z b.head (nat_lt j i)) ex (subst (λ (z : Exponents). MakesNeedless x z (nat_lt j i)) ey h))
 
 -- ---- the marks of needed members divide each mark
 
@@ -272,8 +249,8 @@ apart-push (a ∷ ks) b h n = (
 -- the marks of needed members at two places are apart
 needed_apart : (bs : List MarkedPolynomial) (i j : ℕ) (b c : MarkedPolynomial) → IsNeeded bs i b → IsNeeded bs j c → j < i → NoMultiple c.head b.head × NoMultiple b.head c.head
 needed_apart bs i j b c m n l = (
-  not_divides c.head b.head (λ d. absurd (omega (arith, (m.least j c n.at d).1))),
-  not_divides b.head c.head (λ d. absurd (omega (arith, (m.least j c n.at (divides_same c.head b.head (same_flip b.head c.head (n.least i b m.at d).0))).1))),
+  no_multiple c.head b.head (λ d. absurd (omega (arith, (m.least j c n.at d).1))),
+  no_multiple b.head c.head (λ d. absurd (omega (arith, (m.least j c n.at (divides_same c.head b.head (same_flip b.head c.head (n.least i b m.at d).0))).1))),
 )
 
 -- the member at the place i, where that is needed

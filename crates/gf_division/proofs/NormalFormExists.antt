@@ -25,13 +25,14 @@ use Rattle.gf_ideal.specs.Settled.{IsAt}
 use Rattle.gf_ideal.proofs.ListLaws.{Contains-cases, Each-weaker, collect, contained_each}
 use Rattle.gf_ideal.proofs.ListedTerms.{listed, by_terms}
 use Rattle.gf_ideal.proofs.RingLaws.{ring-along, ring-left, ring-plus}
-use Rattle.gf_ideal.proofs.LeadingLaws.{IsTop, top_greatest}
+use Rattle.gf_ideal.proofs.LeadingLaws.{top_greatest}
 use Rattle.gf_ideal.proofs.DivisionLaws.{NoMark, divisible_or_not, undivided}
 use Rattle.gf_ideal.proofs.MeasureLaws.{work_left-at}
 use Rattle.gf_ideal.proofs.StepLaws.{IsClosed, IsWithin, taken, reached-one}
+use Rattle.gf_ideal.proofs.NormalFormLaws.{step-of_rule, no_divisor}
 use Rattle.gf_division.specs.Reducers.{IsFirstFor}
 use Rattle.gf_division.proofs.RuleLaws.{divisible_along}
-use Rattle.gf_division.proofs.FirstStepLaws.{IsFirstReached, not_divided, first_of_rule, first_unique}
+use Rattle.gf_division.proofs.FirstStepLaws.{IsFirstReached, first_of_rule, first_unique}
 
 -- ---- the first member whose mark divides
 
@@ -61,7 +62,7 @@ first_divisor (b ∷ bs) x d = at (multiple_or_not b.head x) (first_divisor bs x
     at (inr n) r = later (Contains-cases b d.member bs d.contained)
       where
         later : (b ≡ d.member) ⊎ Contains bs d.member → FirstDivisor (b ∷ bs) x
-        later (inl e) = absurd (not_divided x b.head d.rest n (subst (λ (c : MarkedPolynomial). same x (plus d.rest c.head) ≡ true) (sym e) d.divides))
+        later (inl e) = absurd (no_divisor x b.head d.rest n (subst (λ (c : MarkedPolynomial). same x (plus d.rest c.head) ≡ true) (sym e) d.divides))
         later (inr k) =
             let f = r (record { member = d.member; contained = k; rest = d.rest; divides = d.divides }) in
             record {
@@ -240,9 +241,6 @@ smaller a b n h k = omega arith
 below_next : (a : ℕ) → a < suc a
 below_next a = omega arith
 
-step_of : (bs : List MarkedPolynomial) (f g : Terms) → IsRuleStep bs f g → IsStep (Contains bs) f g
-step_of bs f g s = record { at = s.at; member = s.member; rest = s.rest; contained = (s.place, s.contained.within, s.contained.is); there = s.there; divides = s.divides; equal = s.equal }
-
 ends : (bs : List MarkedPolynomial) (w : List ℕ) (limit k : ℕ) (f : Terms) → AreMarked (lighter w) bs →
     IsClosed (Contains bs) (IsLimited limit k w) → (n : ℕ) (g : Terms) → work_left (suc limit) k bs g < n →
     IsWithin (IsLimited limit k w) g → IsRuleReached bs f g → (r : Terms) × IsNormalForm bs f r
@@ -254,7 +252,7 @@ ends bs w limit k f m c (suc n) g l i r = at (step_or_end bs g) (ends bs w limit
         (r : Terms) × IsNormalForm bs f r
     at (inl d) rec = (g, record { reached = r; irreducible = d })
     at (inr s) rec =
-        let q : IsStep (Contains bs) g s.0 = step_of bs g s.0 s.1 in
+        let q : IsStep (Contains bs) g s.0 = step-of_rule bs g s.0 s.1 in
         let less : work_left (suc limit) k bs s.0 < work_left (suc limit) k bs g = work_left-at (suc limit) k w bs g s.0 m q (in_box limit k w q.at (i q.at q.there)) in
         rec s.0 (smaller (work_left (suc limit) k bs s.0) (work_left (suc limit) k bs g) n less l) (taken (Contains bs) (IsLimited limit k w) g s.0 c i (reached-one (Contains bs) g s.0 q)).within (IsRuleReached.next g s.0 r s.1)
 

@@ -1,5 +1,5 @@
 -- The loop of a normal form.
--- To cite: NormalForming, normal_forming-none, normal_forming-more, rule_refused, normal_form_at, form_variables.
+-- To cite: NormalForming, normal_forming-none, normal_forming-more, rule_refused, normal_form_at.
 use Rattle.std.specs.Prelude.{◌≡◌, ℕ, List, [], ◌<◌, ◌^◌, Some, None}
 use Rattle.std.specs.declared.option.Option.{Option}
 use Rattle.std.proofs.Common.{refl, sym, subst, get_or, ◌∙◌}
@@ -62,12 +62,6 @@ normal_form_at bs f r old s e b q a h = record {
   reached = subst (IsRuleReached bs f) (sym (q ∙ e)) h.reached;
   irreducible = irreducible_whole bs r (subst (AreIrreducible bs None) (sym (q ∙ all_above s b)) a);
 }
-
-pub form_descends : (bs : List MarkedPolynomial) (f : Terms) (old s : Split) → joined_terms s ≡ joined_terms old → NormalForming bs f old → IsDescending (joined_terms s)
-form_descends bs f old s e h = subst IsDescending (sym e) h.variables.sound.descending
-
-pub form_variables : (bs : List MarkedPolynomial) (f r : Terms) (old s : Split) → joined_terms s ≡ joined_terms old → r ≡ joined_terms s → NormalForming bs f old → KeepsVariables f r
-form_variables bs f r old s e q h = keeps_along f (joined_terms old) r (q ∙ e) h.kept
 
 -- ---- the members of a set
 

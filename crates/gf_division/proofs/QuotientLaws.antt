@@ -1,9 +1,9 @@
 -- Quotients as they are kept, and their sums.
--- To cite: none_more, quotient_added, sums-none, sums-more, sum_refused.
-use Rattle.std.specs.Prelude.{◌≡◌, ℕ, zero, suc, ◌+◌, ◌<◌, List, [], ◌∷◌, ◌++◌, length, replicate, Contains, slice_set}
+-- To cite: quotient_added, sums-none, sums-more, sum_refused.
+use Rattle.std.specs.Prelude.{◌≡◌, ℕ, zero, suc, ◌<◌, List, [], ◌∷◌, ◌++◌, length, Contains, slice_set}
 use Rattle.std.specs.Global.{Vec}
 use Rattle.std.proofs.Common.{arith, sym, ap, ◌∙◌, subst, get_or, append_assoc}
-use Rattle.std.proofs.lemmas.List.{map_push, map-append, replicate_more}
+use Rattle.std.proofs.lemmas.List.{map_push, map-append}
 use Rattle.gf_poly.specs.declared.Term.{Term}
 use Rattle.gf_poly.specs.declared.error.PolyError.{PolyError}
 use Rattle.gf_poly.specs.declared.error.PolyError.TheVariants as errors
@@ -13,12 +13,6 @@ use Rattle.gf_poly.specs.Marking.{Each}
 use Rattle.gf_ideal.proofs.ListLaws.{Each-++}
 use Rattle.gf_division.proofs.DescendingParts.{contains-midst}
 use Rattle.gf_division.specs.Divisions.{with_quotient, lists_of, AreForms, AreSums, KeepForms, IsSumRefusal}
-
--- one list more without a quotient
-pub none_more : (vs ws : List (Vec Term)) (v : Vec Term) (n : ℕ) → v.items ≡ [] → ws ≡ vs ++ v ∷ [] → lists_of vs ≡ replicate n [] → lists_of ws ≡ replicate (n + 1) []
-none_more vs ws v n e q h =
-    ap lists_of q ∙ map_push (λ (v : Vec Term). v.items) vs v ∙ ap (λ (z : Terms). lists_of vs ++ z ∷ []) e
-    ∙ ap (λ (z : List Terms). z ++ [] ∷ []) h ∙ replicate_more n []
 
 pub quotient_added : (vs : List (Vec Term)) (k : ℕ) (v w : Vec Term) (t : Term) → k < length vs → v ≡ get_or vs k v → w.items ≡ v.items ++ t ∷ [] → lists_of (slice_set vs k w) ≡ with_quotient (lists_of vs) k t
 quotient_added [] k v w t l e q = absurd (omega arith)
@@ -31,9 +25,6 @@ quotient_added (u ∷ vs) (suc k) v w t l e q = ap (λ (z : List Terms). u.items
 pub record Summing (qs hs : List Terms) : Type 0 where
   pub sums : AreSums qs hs
   pub forms : KeepForms qs hs
-
-pub summing-none : Summing [] []
-summing-none = record { sums = tt; forms = record { at = λ n h. tt } }
 
 sums-push : (qs hs : List Terms) (q h : Terms) → AreSums qs hs → SamePolynomial h q → AreSums (qs ++ q ∷ []) (hs ++ h ∷ [])
 sums-push [] [] q h a s = (s, tt)

@@ -1,10 +1,9 @@
 -- The search for the first member whose mark divides a monomial, and for a term that a member reduces.
--- To cite: NoneDivides, divisor_at, none_more, none_divides, divides-degree, beside_by_test, not_beside_by_test, Seeking, seeking-none,
--- seeking-more, first_variables, sought_at.
-use Rattle.std.specs.Prelude.{◌≡◌, ◌⊎◌, ℕ, ◌+◌, ◌<◌, ◌≤◌, Bool, true, false, List, [], ◌∷◌, length, Contains, Some, IsTrue, not}
+-- To cite: NoneDivides, divisor_at, divides-degree, beside_by_test, not_beside_by_test, Seeking, seeking-more,
+-- first_variables, sought_at.
+use Rattle.std.specs.Prelude.{◌≡◌, ℕ, ◌<◌, ◌≤◌, Bool, true, false, List, [], ◌∷◌, length, Contains, Some, IsTrue, not}
 use Rattle.std.specs.declared.option.Option.{Option}
-use Rattle.std.proofs.Common.{arith, refl, sym, ap, ◌∙◌, subst, inl, inr, get_or}
-use Rattle.std.proofs.lemmas.Bool.{cases_lt}
+use Rattle.std.proofs.Common.{arith, refl, sym, ap, ◌∙◌, subst, get_or}
 use Rattle.std.proofs.lemmas.List.{get_or_default}
 use Rattle.std.proofs.lemmas.Slice.Eq.{slice_eq-Decides}
 use Rattle.std.proofs.lemmas.Bool.Decides.{Decides-eqb}
@@ -23,6 +22,7 @@ use Rattle.gf_ideal.specs.Settled.{IsAt}
 use Rattle.gf_ideal.proofs.ListLaws.{Each-++, contained_each}
 use Rattle.gf_division.specs.Dividends.{Split, joined_terms, IsTermInFront, PassesOne}
 use Rattle.gf_division.specs.Reducers.{IsDivisorAt, IsBeside, IsSpareIn, AreIrreducible, ShareVariables}
+use Rattle.gf_division.specs.MonicForms.{HasSomeVariables}
 use Rattle.gf_division.proofs.DividendLaws.{terms_down, first_length}
 use Rattle.gf_division.proofs.StepLaws.{head_length}
 
@@ -45,20 +45,12 @@ member_contained bs j b h = (j, h.within, h.is)
 pub member_variables : (n : ℕ) (bs : List MarkedPolynomial) (b : MarkedPolynomial) → HaveVariables n bs → Contains bs b → HasVariables n b.poly
 member_variables n bs b v c = contained_each (λ (b : MarkedPolynomial). HasVariables n b.poly) bs v b c
 
+-- it has some, as one of a list that is read
+pub some_variables : (n : ℕ) (bs items : List MarkedPolynomial) (i : ℕ) (b : MarkedPolynomial) → items ≡ bs → HaveVariables n bs → i < length items → b ≡ get_or items i b → HasSomeVariables b
+some_variables n bs items i b e v l q = record { n = n; each = member_variables n items b (subst (HaveVariables n) (sym e) v) (member_contained items i b (record { within = l; is = sym q })) }
+
 pub member_length : (n j : ℕ) (bs : List MarkedPolynomial) (b : MarkedPolynomial) → HaveVariables n bs → IsAt bs j b → HasMarkedTerm b → length b.head ≡ n
 member_length n j bs b v h m = head_length n b (member_variables n bs b v (member_contained bs j b h)) m
-
-pub none_more : (bs : List MarkedPolynomial) (j : ℕ) (x : Exponents) (b : MarkedPolynomial) → IsAt bs j b → (Divides b.head x → ⊥) → NoneDivides bs j x → NoneDivides bs (j + 1) x
-none_more bs j x b h n k = record { none = λ i c l m d. at i c (cases_lt i j) l m d }
-  where
-    at : (i : ℕ) (c : MarkedPolynomial) → (i < j) ⊎ (j ≤ i) → i < j + 1 → IsAt bs i c → Divides c.head x → ⊥
-    at i c (inl q) l m d = k.none i c q m d
-    at i c (inr q) l m d =
-        let e : i ≡ j = omega arith in
-        n (subst (λ (a : MarkedPolynomial). Divides a.head x) (members_equal bs j c b (subst (λ (i : ℕ). IsAt bs i c) e m) h) d)
-
-pub none_divides : (bs : List MarkedPolynomial) (j : ℕ) (x : Exponents) → length bs ≤ j → NoneDivides bs j x → IsDivisible (Contains bs) x → ⊥
-none_divides bs j x l k d = k.none d.contained.0 d.member (omega (arith, d.contained.1)) (record { within = d.contained.1; is = d.contained.2 }) (record { rest = d.rest; product = d.divides })
 
 pub divisor_at : (bs : List MarkedPolynomial) (x h : Exponents) (j : ℕ) (b : MarkedPolynomial) → HaveVariables (length x) bs → IsAt bs j b → HasMarkedTerm b → h ≡ b.head → Divides h x → NoneDivides bs j x → IsDivisorAt bs x j
 divisor_at bs x h j b v a m e d k = record {
@@ -101,9 +93,6 @@ pub record Seeking (bs : List MarkedPolynomial) (spared : Option Exponents) (old
   pub same : joined_terms new ≡ joined_terms old
   pub variables : ShareVariables new bs spared
   pub above : AreIrreducible bs spared new.above
-
-pub seeking-none : (bs : List MarkedPolynomial) (spared : Option Exponents) (s : Split) → ShareVariables s bs spared → AreIrreducible bs spared s.above → Seeking bs spared s s
-seeking-none bs spared s v a = record { same = refl; variables = v; above = a }
 
 pub seeking-more : (bs : List MarkedPolynomial) (spared : Option Exponents) (old now new : Split) (t : Term) → IsTermInFront now.below t → (IsBeside spared t.mono → IsDivisible (Contains bs) t.mono → ⊥) → PassesOne now new → Seeking bs spared old now → Seeking bs spared old new
 seeking-more bs spared old now new t f n a k =

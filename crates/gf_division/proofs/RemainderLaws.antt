@@ -1,9 +1,9 @@
 -- Steps at whichever terms: what they lead to, and what is left when no term can be divided any more.
 -- To cite: reducible_first, worked-none, worked-more, worked-same, worked_along, less_found, work_refused, work_follows, refusal_follows, Working,
 -- working-none, working-more, working_end, share_start, remainder_at, normal_form_of, remainder_refused.
-use Rattle.std.specs.Prelude.{◌≡◌, ℕ, ◌<◌, ◌^◌, List, [], ◌++◌, Contains, None, Some, IfSome, Result, Ok, Err, OnOk, IfErr}
+use Rattle.std.specs.Prelude.{◌≡◌, ℕ, ◌<◌, ◌^◌, List, [], Contains, None, Some, IfSome, Result, Ok, Err, OnOk, IfErr}
 use Rattle.std.specs.declared.option.Option.{Option}
-use Rattle.std.proofs.Common.{refl, sym, ap, ◌∙◌, subst}
+use Rattle.std.proofs.Common.{refl, sym, ap, subst}
 use Rattle.gf_exponents.specs.Exponents.{Exponents}
 use Rattle.gf_exponents.specs.Orders.{lighter}
 use Rattle.gf_poly.specs.declared.Term.{Term}

@@ -1,8 +1,8 @@
 -- S-polynomials as code forms them: one polynomial is raised, and a multiple of the other is taken from it.
--- To cite: raised-more, raised_at_end, raised_refused, multiple_length, divides_left, divides_right,
--- join_length, cofactors_of, PairFacts, pair_facts, left_variables, right_variables, left_sound, over_start, s_value,
--- s_descends, s_variables, left_refused, s_refused, value_of_monic, variables_of_monic, refusal_of_monic, monic_refused.
-use Rattle.std.specs.Prelude.{◌≡◌, ◌⊎◌, ℕ, ◌+◌, ◌<◌, ◌≤◌, [], ◌∷◌, ◌++◌, length, Contains, Result, Ok, Err, IfOk, IfErr}
+-- To cite: raised-more, raised_at_end, raised_refused, multiple_length, divides_left, divides_right, join_length,
+-- cofactors_of, PairFacts, pair_facts, left_variables, right_variables, left_sound, over_start, s_value, s_variables,
+-- left_refused, s_refused, variables_of_monic, monic_refused.
+use Rattle.std.specs.Prelude.{◌≡◌, ◌⊎◌, ℕ, ◌+◌, ◌<◌, ◌≤◌, [], ◌∷◌, ◌++◌, length, Contains, Result, Ok, Err, IfOk}
 use Rattle.std.proofs.Common.{arith, refl, sym, ap, ◌∙◌, subst, inl, inr, get_or, take}
 use Rattle.std.proofs.lemmas.List.{take_more, take_all, map_push}
 use Rattle.gf_frac.specs.Fraction.{◌*ℚ◌, neg_ℚ, one_ℚ}
@@ -20,12 +20,13 @@ use Rattle.gf_poly.specs.Marking.{MarkedPolynomial, HasMarkedTerm}
 use Rattle.gf_poly.proofs.MonomialLaws.{length-join, length-minus}
 use Rattle.gf_poly.proofs.PolynomialLaws.{coefficient-times}
 use Rattle.gf_poly.proofs.ProductLaws.{IsDescending-products, HasVariables-products}
+use Rattle.gf_poly.proofs.CoefficientLaws.{term_coefficient}
 use Rattle.gf_ideal.specs.Reduction.{IsSPolynomial}
 use Rattle.gf_ideal.specs.Operands.{IsShiftOperation, IsSPolynomialExponents}
-use Rattle.gf_division.specs.MonicForms.{IsMonicRefusal}
-use Rattle.gf_division.specs.SPolynomials.{ArePairOf, SharePairVariables, KeepsPairVariables, AreMadeMonic, IsSPolynomialOf, IsMonicPairRefusal, IsPairRefusal, AreLcmCofactors, IsRaised, IsRaisingRefusal}
+use Rattle.gf_ideal.proofs.KeptForms.{term_there}
+use Rattle.gf_division.specs.SPolynomials.{ArePairOf, SharePairVariables, KeepsPairVariables, IsMonicPairRefusal, AreLcmCofactors, IsRaised, IsRaisingRefusal, IsSPolynomialOf}
 use Rattle.gf_division.specs.Dividends.{Split, joined_terms, IsSound, AreOverProducts, Subtracts, IsSubtractionRefusal}
-use Rattle.gf_division.proofs.StepLaws.{term_coefficient, term_there, head_length}
+use Rattle.gf_division.proofs.StepLaws.{head_length}
 
 -- ---- a polynomial times a monomial
 
@@ -121,9 +122,6 @@ s_value b c u v f g h r s t ef eg k w q d e = record {
       ∙ ap (λ (z : Terms). coefficient (times one_ℚ u b.poly ++ times (neg_ℚ one_ℚ) v z) y) eg;
 }
 
-pub s_descends : (v : Exponents) (g r : Terms) (s t : Split) → Subtracts one_ℚ v g s t → IsDescending (joined_terms t)
-s_descends v g r s t d = d.sound.descending
-
 pub s_variables : (b c : MarkedPolynomial) (u v : Exponents) (g r : Terms) (s t : Split) → PairFacts b c u v → HasMarkedTerm b → Subtracts one_ℚ v g s t → r ≡ joined_terms t → KeepsPairVariables b c r
 s_variables b c u v g r s t k m d e = record {
   at = λ n a. subst (HasVariables n) (sym e) (subst (λ (i : ℕ). HasVariables i (joined_terms t)) (k.right ∙ sym (head_length k.n b k.are.left m) ∙ head_length n b a.left m) d.sound.variables);
@@ -177,10 +175,6 @@ s_refused b c u v f g h s errors.Memory ef eg d k w q r = tt
 
 -- ---- of any marked polynomials
 
-pub value_of_monic : (f g b c : MarkedPolynomial) (r : Result Terms PolyError) → AreMadeMonic f g b c → IfOk r (IsSPolynomial b c) → IfOk r (IsSPolynomialOf f g)
-value_of_monic f g b c (Ok s) m h = record { left = b; right = c; monic = m; value = h }
-value_of_monic f g b c (Err e) m h = tt
-
 pub variables_of_monic : (f g b c : MarkedPolynomial) (r : Result Terms PolyError) → KeepsVariables f.poly b.poly → KeepsVariables g.poly c.poly → IfOk r (KeepsPairVariables b c) → IfOk r (KeepsPairVariables f g)
 variables_of_monic f g b c (Ok s) kb kc h = record { at = λ n a. h.at n (record { left = kb.at n a.left; right = kc.at n a.right }) }
 variables_of_monic f g b c (Err e) kb kc h = tt
@@ -188,22 +182,6 @@ variables_of_monic f g b c (Err e) kb kc h = tt
 pub pair_along : (f g b c : MarkedPolynomial) → KeepsVariables f.poly b.poly → KeepsVariables g.poly c.poly → SharePairVariables f g → SharePairVariables b c
 pair_along f g b c kb kc p = record { n = p.n; are = record { left = kb.at p.n p.are.left; right = kc.at p.n p.are.right } }
 
-pair_refused : (f g b c : MarkedPolynomial) (e : PolyError) → AreMadeMonic f g b c → IsMonicPairRefusal b c e → IsPairRefusal f g e
-pair_refused f g b c (errors.Overflow o) m h = (inr (inr (b, c, m, h.0)), h.1)
-pair_refused f g b c (errors.Exponent o) m h = ((b, c, m, h.0), h.1)
-pair_refused f g b c errors.Memory m h = tt
-
-pub refusal_of_monic : (f g b c : MarkedPolynomial) (r : Result Terms PolyError) → AreMadeMonic f g b c → IfErr r (IsMonicPairRefusal b c) → IfErr r (IsPairRefusal f g)
-refusal_of_monic f g b c (Ok s) m h = tt
-refusal_of_monic f g b c (Err e) m h = pair_refused f g b c e m h
-
--- in making one of them monic
-pub left_monic_refused : (f g : MarkedPolynomial) (e : PolyError) → IsMonicRefusal f e → IsPairRefusal f g e
-left_monic_refused f g (errors.Overflow o) h = (inl h.0, h.1)
-left_monic_refused f g (errors.Exponent o) h = absurd h.0
-left_monic_refused f g errors.Memory h = tt
-
-pub right_monic_refused : (f g : MarkedPolynomial) (e : PolyError) → IsMonicRefusal g e → IsPairRefusal f g e
-right_monic_refused f g (errors.Overflow o) h = (inr (inl h.0), h.1)
-right_monic_refused f g (errors.Exponent o) h = absurd h.0
-right_monic_refused f g errors.Memory h = tt
+-- of monic polynomials it is their S-polynomial as they are
+pub s_polynomial_of_monic : (b c : MarkedPolynomial) (s : Terms) → coefficient b.poly b.head ≡ one_ℚ → coefficient c.poly c.head ≡ one_ℚ → IsSPolynomialOf b c s → IsSPolynomial b c s
+s_polynomial_of_monic b c s p q h = subst (λ (d : MarkedPolynomial). IsSPolynomial d c s) (h.monic.left.kept p) (subst (λ (d : MarkedPolynomial). IsSPolynomial h.left d s) (h.monic.right.kept q) h.value)

@@ -19,31 +19,17 @@ use Rattle.gf_poly.specs.Monomial.{IsFirstOverflow}
 use Rattle.gf_poly.specs.Polynomial.{Terms, coefficient, times, IsAbove, IsDescending, HasVariables}
 use Rattle.gf_poly.specs.Marking.{MarkedPolynomial, head_of, HasMarkedTerm}
 use Rattle.gf_poly.proofs.DescendingLaws.{greater_trans}
-use Rattle.gf_poly.proofs.CoefficientLaws.{coefficient-contains}
+pub use Rattle.gf_poly.proofs.CoefficientLaws.{term_length, term_coefficient}
 use Rattle.gf_poly.proofs.ProductLaws.{deglex-plus, HasVariables-at}
-use Rattle.gf_ideal.specs.Membership.{HasMonomial}
 use Rattle.gf_ideal.specs.Operands.{IsPlace, IsStepOperation}
-use Rattle.gf_ideal.proofs.ListLaws.{Each-weaker, Contains-cases}
+use Rattle.gf_ideal.proofs.ListLaws.{Each-weaker}
+pub use Rattle.gf_ideal.proofs.KeptForms.{term_there}
 use Rattle.gf_division.specs.Steps.{IsStepRefusal}
 use Rattle.gf_division.specs.Dividends.{Split, joined_terms, IsSound, DividesFirst, AreOver, AreOverProducts, MovesUp, IsScalingOverflow, IsDifferenceOverflow, Subtracts, IsSubtractionRefusal, SharesVariables, TakesStep}
 use Rattle.gf_division.proofs.DescendingParts.{descending-front}
 use Rattle.gf_division.proofs.DividendLaws.{terms_up, first_length}
 
--- ---- terms of a list
-
-pub term_length : (n : ℕ) (f : Terms) (t : Term) → HasVariables n f → Contains f t → length t.mono ≡ n
-term_length n [] t h c = absurd (omega (arith, c.1))
-term_length n (s ∷ f) t h c = elim (Contains-cases s t f c) [ inl e ↦ subst (λ (u : Term). length u.mono ≡ n) e h.0 | inr k ↦ term_length n f t h.1 k ]
-
-pub term_nonzero : (f : Terms) (t : Term) → IsDescending f → Contains f t → t.coef ≢ zero_ℚ
-term_nonzero [] t h c = absurd (omega (arith, c.1))
-term_nonzero (s ∷ f) t h c = elim (Contains-cases s t f c) [ inl e ↦ subst (λ (u : Term). u.coef ≢ zero_ℚ) e h.0 | inr k ↦ term_nonzero f t h.2 k ]
-
-pub term_coefficient : (n : ℕ) (f : Terms) (t : Term) → HasVariables n f → IsDescending f → Contains f t → coefficient f t.mono ≡ t.coef
-term_coefficient n f t v d c = coefficient-contains n f t v d c (term_length n f t v c)
-
-pub term_there : (n : ℕ) (f : Terms) (t : Term) → HasVariables n f → IsDescending f → Contains f t → HasMonomial f t.mono
-term_there n f t v d c z = term_nonzero f t d c (sym (term_coefficient n f t v d c) ∙ z)
+-- ---- marked polynomials
 
 -- a marked polynomial has terms
 pub some_terms : (b : MarkedPolynomial) (f : Terms) → f ≡ b.poly → HasMarkedTerm b → 0 < length f

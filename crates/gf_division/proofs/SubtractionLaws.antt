@@ -1,13 +1,13 @@
 -- A subtraction from the place down: one term, and all terms of a multiple.
--- To cite: nothing_pushed, taken_from_first, taken_at, taken_beside, refused_at, Subtracting, subtracting-none, subtracting-more,
--- subtracting-end, factor_refused, exponent_refused, difference_refused.
-use Rattle.std.specs.Prelude.{◌≡◌, ◌≢◌, ◌⊎◌, ℕ, ◌+◌, ◌<◌, ◌≤◌, Bool, true, false, if◌then◌else◌, [], ◌∷◌, ◌++◌, length, reverse, Contains, Result, Ok, Err, OnOk, IfErr}
+-- To cite: nothing_pushed, taken_from_first, taken_at, taken_beside, refused_at, Subtracting, subtracting-more,
+-- factor_refused, exponent_refused, difference_refused.
+use Rattle.std.specs.Prelude.{◌≡◌, ◌≢◌, ◌⊎◌, ℕ, ◌+◌, ◌<◌, Bool, true, false, if◌then◌else◌, [], ◌∷◌, ◌++◌, length, reverse, Contains, Result, Ok, Err, OnOk, IfErr}
 use Rattle.std.specs.declared.cmp.Ordering.{Ordering}
 use Rattle.std.specs.declared.cmp.Ordering.TheVariants.{Less, Equal, Greater}
-use Rattle.std.proofs.Common.{refl, sym, ap, ◌∙◌, subst, inl, inr, get_or, take, drop, append_assoc, append-nil}
-use Rattle.std.proofs.lemmas.List.{reverse-append, take_more, drop_more, take_all, map_push, take-append-drop}
+use Rattle.std.proofs.Common.{refl, sym, ap, ◌∙◌, subst, inl, inr, get_or, take, drop, append_assoc}
+use Rattle.std.proofs.lemmas.List.{reverse-append, take_more, drop_more, map_push, take-append-drop}
 use Rattle.gf_frac.specs.Fraction.{Fraction, ◌+ℚ◌, ◌-ℚ◌, ◌*ℚ◌, neg_ℚ, zero_ℚ}
-use Rattle.gf_frac.proofs.FractionLaws.{+ℚ_assoc, +ℚ_comm, +ℚ-zero, zero-+ℚ, *ℚ-zero, neg_ℚ-*ℚ, zero_of_*ℚ, +ℚ-neg_ℚ}
+use Rattle.gf_frac.proofs.FractionLaws.{+ℚ_assoc, +ℚ_comm, +ℚ-zero, zero-+ℚ, *ℚ-zero, neg_ℚ-*ℚ, +ℚ-neg_ℚ}
 use Rattle.gf_exponents.specs.Exponents.{Exponents, plus, same}
 use Rattle.gf_exponents.specs.Orders.{deglex}
 use Rattle.gf_poly.specs.declared.Term.{Term}
@@ -22,9 +22,10 @@ use Rattle.gf_poly.proofs.DescendingLaws.{less_greater, equal_same, greater_tran
 use Rattle.gf_poly.proofs.CoefficientLaws.{apart_above}
 use Rattle.gf_poly.proofs.MonomialLaws.{length-plus}
 use Rattle.gf_poly.proofs.PolynomialLaws.{coefficient-++, coefficient-times}
-use Rattle.gf_poly.proofs.ProductLaws.{deglex-plus}
+use Rattle.gf_poly.proofs.ProductLaws.{deglex-plus, nonzero_product}
+use Rattle.gf_poly.proofs.CollectLaws.{chosen_sum}
 use Rattle.gf_ideal.proofs.ListLaws.{Each-++, Each-weaker}
-use Rattle.gf_division.specs.Dividends.{Split, joined_terms, IsSound, AreOver, AreFrom, AreOverProducts, FirstIs, Descends, TakesFromFirst, IsFirstRefusal, TakesAway, IsDifferenceRefusal, IsScalingOverflow, Subtracts, IsSubtractionRefusal}
+use Rattle.gf_division.specs.Dividends.{Split, joined_terms, IsSound, AreOver, AreFrom, AreOverProducts, FirstIs, Descends, TakesFromFirst, IsFirstRefusal, TakesAway, IsDifferenceRefusal, IsScalingOverflow, IsSubtractionRefusal}
 use Rattle.gf_division.proofs.DescendingParts.{descending-front, descending-back, descending-across, descending-join, all-above-join, variables-front, variables-back, variables-join, coefficient-midst, over-one, from-over}
 
 -- ---- from the first term
@@ -60,15 +61,11 @@ one_more f g u y = coefficient-++ (f ++ u ∷ []) g y ∙ ap (λ z. z +ℚ coeff
 
 -- ---- a term at x: the difference of the coefficients
 
-swap_last : (f p r : Fraction) → (f +ℚ p) +ℚ r ≡ (f +ℚ r) +ℚ p
+pub swap_last : (f p r : Fraction) → (f +ℚ p) +ℚ r ≡ (f +ℚ r) +ℚ p
 swap_last f p r = +ℚ_assoc f p r ∙ ap (λ z. f +ℚ z) (+ℚ_comm p r) ∙ sym (+ℚ_assoc f r p)
 
 both : (f s q r : Fraction) → (f +ℚ (s +ℚ q)) +ℚ r ≡ (f +ℚ (s +ℚ r)) +ℚ q
 both f s q r = ap (λ z. z +ℚ r) (sym (+ℚ_assoc f s q)) ∙ swap_last (f +ℚ s) q r ∙ ap (λ z. z +ℚ q) (+ℚ_assoc f s r)
-
-chosen_sum : (b : Bool) (x y : Fraction) → (if b then x +ℚ y else zero_ℚ) ≡ (if b then x else zero_ℚ) +ℚ (if b then y else zero_ℚ)
-chosen_sum true x y = refl
-chosen_sum false x y = sym (+ℚ-zero zero_ℚ)
 
 chosen_zero : (b : Bool) → (if b then zero_ℚ else zero_ℚ) ≡ zero_ℚ
 chosen_zero true = refl
@@ -141,11 +138,6 @@ taken c x old mid new o q h v d w =
 pub taken_at : {E : Type 0} (c : Fraction) (x : Exponents) (old mid new : Split) (o : Ordering) (r : Result Unit E) → o ≡ Equal → IsSound (length x) old → AreOver x old.above → Descends x old mid o → OnOk r (TakesFromFirst c mid new) → OnOk r (TakesAway c x old new)
 taken_at c x old mid new o (Ok u) q h v d w = taken c x old mid new o q h v d w
 taken_at c x old mid new o (Err e) q h v d w = tt
-
--- it is there
-pub first_equal : (f : Terms) (x : Exponents) (o : Ordering) → o ≡ Equal → FirstIs f x o → f ≢ []
-first_equal [] x o q h = let z : Equal ≡ Less = sym q ∙ h in absurd (cc)
-first_equal (t ∷ f) x o q h = λ e. cc
 
 -- why it is refused
 refusal_at : (c : Fraction) (x : Exponents) (old mid : Split) (o : Ordering) (e : PolyError) → o ≡ Equal → IsSound (length x) old → AreOver x old.above → Descends x old mid o → IsFirstRefusal mid.below c e → IsDifferenceRefusal (coefficient (joined_terms old) x) c e
@@ -225,9 +217,6 @@ pub record Subtracting (c : Fraction) (u : Exponents) (g : Terms) (old now : Spl
   pub above : now.above ≡ old.above ++ passed
   pub over : AreOverProducts u (drop i g) now.above
 
-pub subtracting-none : (c : Fraction) (u : Exponents) (g : Terms) (s : Split) → IsSound (length u) s → AreOverProducts u g s.above → Subtracting c u g s s 0
-subtracting-none c u g s h o = record { same = λ y. ap (λ (z : Terms). coefficient z y) (sym (append-nil (joined_terms s))); sound = h; passed = []; above = sym (append-nil s.above); over = o }
-
 -- the list at the term at i
 record IsAtTerm (g : Terms) (i : ℕ) (t : Term) : Type 0 where
   whole : g ≡ take i g ++ t ∷ drop (i + 1) g
@@ -254,9 +243,6 @@ from-later u t (s ∷ g) f l v a w = (Each-weaker (λ (r : Term). (r.mono ≡ pl
     over : (r : Term) → (r.mono ≡ plus u t.mono) ⊎ (deglex r.mono (plus u t.mono) ≡ Greater) → deglex r.mono (plus u s.mono) ≡ Greater
     over r (inl e) = ap (λ (z : Exponents). deglex z (plus u s.mono)) e ∙ down
     over r (inr o) = greater_trans r.mono (plus u t.mono) (plus u s.mono) o down
-
-nonzero_product : (c d : Fraction) → c ≢ zero_ℚ → d ≢ zero_ℚ → c *ℚ d ≢ zero_ℚ
-nonzero_product c d h k z = elim (zero_of_*ℚ c d z) [ inl e ↦ h e | inr e ↦ k e ]
 
 -- the term of the multiple
 pub product_nonzero : (c p : Fraction) (g : Terms) (i : ℕ) (t : Term) → i < length g → t ≡ get_or g i t → IsDescending g → c ≢ zero_ℚ → p ≡ c *ℚ t.coef → p ≢ zero_ℚ
@@ -292,14 +278,6 @@ subtracting-more c u g old now new i t p m l e v d ep em k w = record {
 
     multiple : times (neg_ℚ c) u (take (i + 1) g) ≡ times (neg_ℚ c) u (take i g) ++ record { coef = neg_ℚ p; mono = m } ∷ []
     multiple = ap (times (neg_ℚ c) u) a.more ∙ map_push (times_term (neg_ℚ c) u) (take i g) t ∙ ap (λ (z : Term). times (neg_ℚ c) u (take i g) ++ z ∷ []) one
-
-pub subtracting-end : (c : Fraction) (u : Exponents) (g : Terms) (old new : Split) (i : ℕ) → length g ≤ i → Subtracting c u g old new i → Subtracts c u g old new
-subtracting-end c u g old new i l k = record {
-  same = λ y. k.same y ∙ ap (λ (z : Terms). coefficient (joined_terms old ++ times (neg_ℚ c) u z) y) (take_all i g l);
-  sound = k.sound;
-  passed = k.passed;
-  above = k.above;
-}
 
 -- ---- why it is refused
 

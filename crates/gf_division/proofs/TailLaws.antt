@@ -1,13 +1,13 @@
 -- One tail, reduced: the steps at unmarked monomials, and what they end with.
--- To cite: AreElsewhere, elsewhere_none, elsewhere_more, elsewhere_end, head_at_place, TailStart, tail_start,
--- tail_refused, TailFacts, tail_facts, tail_variables, tail_there, reduced_tail_at, kept_form_at.
-use Rattle.std.specs.Prelude.{◌≡◌, ℕ, zero, suc, ◌+◌, ◌<◌, ◌≤◌, Bool, true, false, List, [], ◌∷◌, ◌++◌, length, Contains, Some, take}
+-- To cite: AreElsewhere, elsewhere_none, elsewhere_end, head_at_place, TailStart, tail_start, tail_refused, TailFacts,
+-- tail_facts, tail_variables, tail_there, reduced_tail_at, kept_form_at.
+use Rattle.std.specs.Prelude.{◌≡◌, ℕ, zero, suc, ◌<◌, ◌≤◌, Bool, true, false, List, [], ◌∷◌, length, Contains, Some, take}
 use Rattle.std.specs.declared.option.Option.{Option}
 use Rattle.std.specs.Ordering.{MatchOrdering}
 use Rattle.std.specs.declared.cmp.Ordering.{Ordering}
 use Rattle.std.specs.declared.cmp.Ordering.TheVariants.{Less, Equal, Greater}
 use Rattle.std.proofs.Common.{arith, refl, sym, ap, ◌∙◌, subst, get_or}
-use Rattle.std.proofs.lemmas.List.{take_more, take_all}
+use Rattle.std.proofs.lemmas.List.{take_all}
 use Rattle.gf_exponents.specs.Exponents.{Exponents, same}
 use Rattle.gf_exponents.specs.Orders.{deglex, lighter, IsDeglexBelow}
 use Rattle.gf_exponents.proofs.ExponentsLaws.{same-refl, same_flip, same_along}
@@ -21,7 +21,6 @@ use Rattle.gf_poly.proofs.DescendingLaws.{equal_same}
 use Rattle.gf_ideal.specs.Membership.{HasMonomial}
 use Rattle.gf_ideal.specs.Reduction.{IsDivisible}
 use Rattle.gf_ideal.specs.WorkLists.{IsTail, IsReducedTail}
-use Rattle.gf_ideal.proofs.ListLaws.{Each-++}
 use Rattle.gf_ideal.proofs.ListedTerms.{listed}
 use Rattle.gf_ideal.proofs.MarkWeights.{mark-there}
 use Rattle.gf_ideal.proofs.InterreductionLaws.{tail-marked}
@@ -39,9 +38,6 @@ use Rattle.gf_division.proofs.RuleLaws.{operation_more, exponents_more, only, di
 -- none of the terms before the place i is at x
 abbrev pub AreElsewhere : Exponents → ℕ → Terms → Type 0
 AreElsewhere x i f = Each (λ (t : Term). deglex t.mono x ≡ Equal → ⊥) (take i f)
-
-pub elsewhere_more : (x : Exponents) (i : ℕ) (f : Terms) (t : Term) → i < length f → t ≡ get_or f i t → (deglex t.mono x ≡ Equal → ⊥) → AreElsewhere x i f → AreElsewhere x (i + 1) f
-elsewhere_more x i f t l e n h = subst (Each (λ (t : Term). deglex t.mono x ≡ Equal → ⊥)) (sym (take_more f i t l ∙ ap (λ (z : Term). take i f ++ z ∷ []) (sym e))) (Each-++ (λ (t : Term). deglex t.mono x ≡ Equal → ⊥) (take i f) (t ∷ []) h (n, tt))
 
 -- the same monomials of one length compare as equal
 compares_equal : (x y : Exponents) → length x ≡ length y → same x y ≡ true → deglex x y ≡ Equal
@@ -65,7 +61,7 @@ elsewhere_end x i f v m l h = at (listed (λ (t : Term). (deglex t.mono x ≡ Eq
     at : (t : Term) × ((deglex t.mono x ≡ Equal → ⊥) × (length t.mono ≡ length x)) × (same x t.mono ≡ true) → ⊥
     at r = r.1.0 (compares_equal r.0.mono x r.1.1 (same_flip x r.0.mono r.2))
 
-head_at : (f : Terms) (i : ℕ) (t : Term) → i < length f → t ≡ get_or f i t → head_of f i ≡ t.mono
+pub head_at : (f : Terms) (i : ℕ) (t : Term) → i < length f → t ≡ get_or f i t → head_of f i ≡ t.mono
 head_at [] i t l e = absurd (omega arith)
 head_at (s ∷ f) zero t l e = ap (λ (u : Term). u.mono) (sym e)
 head_at (s ∷ f) (suc i) t l e = head_at f i t (omega arith) e

@@ -1,7 +1,7 @@
 -- Division with cofactors: a polynomial is its remainder and the sum of the cofactors times the members.
 -- Each step of the rule gives the member that it takes one quotient more; a cofactor is the sum of its quotients.
 -- Laws: proofs/DivisionLaws.antt. Source: Cox, Little, O'Shea, Ideals, Varieties, and Algorithms, 2.3, theorem 3.
-use Rattle.std.specs.Prelude.{◌≡◌, ◌⊎◌, ℕ, zero, suc, ◌+◌, ◌<◌, List, [], ◌∷◌, ◌++◌, length, map, Contains}
+use Rattle.std.specs.Prelude.{◌≡◌, ◌⊎◌, ℕ, zero, suc, ◌<◌, List, [], ◌∷◌, ◌++◌, length, map, Contains}
 use Rattle.std.specs.Global.{Vec}
 use Rattle.gf_frac.specs.Fraction.{Fraction}
 use Rattle.gf_frac.specs.declared.refusal.Op.{Op}

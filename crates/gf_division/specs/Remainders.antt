@@ -48,5 +48,6 @@ pub record IsWorkFault (bs : List MarkedPolynomial) (spared : Option Exponents) 
   pub contained : Contains bs member
   pub refused : IsStepRefusal from member at e
 
+-- such a step is refused, or there is no memory
 abbrev pub IsWorkRefusal : List MarkedPolynomial → Option Exponents → Terms → PolyError → Type 0
 IsWorkRefusal bs spared f = UnlessMemory (IsWorkFault bs spared f)

@@ -17,6 +17,7 @@ pub record ArePairOf (n : ℕ) (b c : MarkedPolynomial) : Type 0 where
   pub left : HasVariables n b.poly
   pub right : HasVariables n c.poly
 
+-- b and c have the same variables, so many of them
 pub record SharePairVariables (b c : MarkedPolynomial) : Type 0 where
   pub n : ℕ
   pub are : ArePairOf n b c

@@ -1,7 +1,7 @@
 //! Autoreduction: what makes a Gröbner basis the reduced one.
 
 ghost use Rattle.std.specs.Prelude.{◌≡◌, ◌<◌, false, length, Contains, IfOk, IfErr, IsTrue};
-ghost use Rattle.gf_poly.specs.Marking.{head_of, HaveVariables};
+ghost use Rattle.gf_poly.specs.Marking.{head_of};
 ghost use Rattle.gf_poly.specs.Polynomial.{HasVariables};
 ghost use Rattle.gf_ideal.specs.Membership.{HasMonomial};
 ghost use Rattle.gf_ideal.specs.Marks.{HasPositiveWeight, IsRealisable};
@@ -18,7 +18,7 @@ use gf_poly::{Marked, MarkedSet, Mono, PolyError, Term};
 use std::alloc::Global;
 use std::cmp::Ordering;
 
-// Whether a member with the mark `x` makes one with the mark `y` needless, which it stands before or doesn't.
+/// Whether a member with the mark `x` makes one with the mark `y` needless, which it stands before or doesn't.
 fn makes_needless(x: &Mono, y: &Mono, is_before: bool) -> bool
     requires { length x.now ≡ length y.now }
     ensures yes { IsTrue result → MakesNeedless x.now y.now is_before }
@@ -44,7 +44,7 @@ pub fn is_needed(items: &[Marked], i: usize) -> bool
     true
 }
 
-// The monic forms of the needed members.
+/// The monic forms of the needed members.
 fn needed_forms(alloc: Global, items: &[Marked]) -> Result<Vec<Marked>, PolyError>
     requires { ShareSomeVariables items.now }
     ensures value { IfOk result (λ ks. AreNeededForms items.now ks.items) }
@@ -106,7 +106,7 @@ pub fn reduced_tail(
     Ok(Marked::mark(tail, place))
 }
 
-// The members with their tails reduced by one another.
+/// The members with their tails reduced by one another.
 fn tails(alloc: Global, members: &[Marked], guide: &mut Guide) -> Result<Vec<Marked>, PolyError>
     requires marked { HasSomeWeight members.now }
     requires variables { ShareSomeVariables members.now }

@@ -26,7 +26,7 @@ pub struct Dividend {
     front: Option<Front>,
 }
 
-// The product; by 1, from either side, it is the other number.
+/// The product; by 1, from either side, it is the other number.
 fn product(a: &Frac, b: &Frac) -> Result<Frac, Overflow>
     ensures value { IfOk result (λ x. x ≡ a.now *ℚ b.now) }
     ensures overflow { IfErr result (IsScalingOverflow a.now b.now) }
@@ -40,7 +40,7 @@ fn product(a: &Frac, b: &Frac) -> Result<Frac, Overflow>
     a.mul(b)
 }
 
-// Adds what is left of the term once `coef` is taken away, unless nothing is left; of equal numbers nothing is.
+/// Adds what is left of the term once `coef` is taken away, unless nothing is left; of equal numbers nothing is.
 fn push_difference(above: &mut Vec<Term>, t: Term, coef: &Frac) -> Result<(), PolyError>
     ensures ok { OnOk result (PushesNonzero above.old.items above.new.items (record { coef = t.coef -ℚ coef.now; mono = t.mono })) }
     ensures cause { IfErr result (IsDifferenceRefusal t.coef coef.now) }
@@ -59,7 +59,7 @@ fn push_difference(above: &mut Vec<Term>, t: Term, coef: &Frac) -> Result<(), Po
     Ok(())
 }
 
-// The terms above the place and those below it, in one list.
+/// The terms above the place and those below it, in one list.
 fn joined(above: Vec<Term>, below: Vec<Term>) -> Result<Vec<Term>, AllocError>
     ensures { IfOk result (λ h. h.items ≡ above.items ++ reverse below.items) }
 {
@@ -122,7 +122,7 @@ impl Dividend {
         Ok(())
     }
 
-    // Carries the last term above the place back.
+    /// Carries the last term above the place back.
     fn retreat(&mut self) -> Result<(), AllocError>
         requires { self.old.above.items ≢ [] }
         ensures { OnOk result (PassesOne (split_of self.new) (split_of self.old)) }
@@ -133,7 +133,7 @@ impl Dividend {
         Ok(())
     }
 
-    // How the first term below the place compares with `x`; where there is none it counts as less.
+    /// How the first term below the place compares with `x`; where there is none it counts as less.
     fn compare_next(&self, x: &Mono) -> Ordering
         ensures { FirstIs (split_of self.now).below x.now result }
     {
@@ -143,7 +143,7 @@ impl Dividend {
         }
     }
 
-    // Whether the last term above the place isn't greater than `x`.
+    /// Whether the last term above the place isn't greater than `x`.
     fn has_passed(&self, x: &Mono) -> bool
         ensures yes { IsTrue result → self.now.above.items ≢ [] }
         ensures no { result ≡ false → IsDescending self.now.above.items → AreOver x.now self.now.above.items }
@@ -170,7 +170,7 @@ impl Dividend {
         }
     }
 
-    // Moves the place up until all terms above it are greater than `x`.
+    /// Moves the place up until all terms above it are greater than `x`.
     fn ascend(&mut self, x: &Mono) -> Result<(), AllocError>
         requires { IsDescending self.old.above.items }
         ensures moves { OnOk result (MovesUp (split_of self.old) (split_of self.new)) }
@@ -182,7 +182,7 @@ impl Dividend {
         Ok(())
     }
 
-    // Moves the place up until `n` terms are above it.
+    /// Moves the place up until `n` terms are above it.
     fn rise(&mut self, n: usize) -> Result<(), AllocError>
         requires { n ≤ length self.old.above.items }
         ensures moves { OnOk result (MovesUp (split_of self.old) (split_of self.new)) }
@@ -194,7 +194,7 @@ impl Dividend {
         Ok(())
     }
 
-    // Takes `coef` from the coefficient of the first term below the place; what is left of the term goes above it.
+    /// Takes `coef` from the coefficient of the first term below the place; what is left of the term goes above it.
     fn take_from_next(&mut self, coef: &Frac) -> Result<(), PolyError>
         requires { (split_of self.old).below ≢ [] }
         ensures ok { OnOk result (TakesFromFirst coef.now (split_of self.old) (split_of self.new)) }
@@ -206,7 +206,7 @@ impl Dividend {
         }
     }
 
-    // A new monomial waits, where some do.
+    /// A new monomial waits, where some do.
     fn wait(&mut self, x: &Mono) -> Result<(), AllocError>
         ensures { OnOk result (split_of self.new ≡ split_of self.old) }
     {
@@ -266,7 +266,7 @@ impl Dividend {
         self.rise(0)
     }
 
-    // Takes `coef` times `mono` away, which is below the terms above the place; the place is below it then.
+    /// Takes `coef` times `mono` away, which is below the terms above the place; the place is below it then.
     fn take_away(&mut self, coef: &Frac, mono: Mono) -> Result<(), PolyError>
         requires sound { IsSound (length mono) (split_of self.old) }
         requires over { AreOver mono self.old.above.items }
@@ -311,7 +311,7 @@ impl Dividend {
         Ok(())
     }
 
-    // The quotient of the first term below the place by `by`, which divides it.
+    /// The quotient of the first term below the place by `by`, which divides it.
     fn quotient(&self, by: &Mono) -> Term
         requires sound { IsSound (length by.now) (split_of self.now) }
         requires divides { DividesFirst by.now (split_of self.now).below }

@@ -22,7 +22,7 @@ pub struct Division {
     pub cofactors: Polys,
 }
 
-// No quotients yet, for as many members.
+/// No quotients yet, for as many members.
 fn no_quotient(alloc: Global, members: usize) -> Result<Vec<Vec<Term>>, AllocError>
     ensures { IfOk result (λ qs. lists_of qs.items ≡ replicate members []) }
 {
@@ -33,7 +33,7 @@ fn no_quotient(alloc: Global, members: usize) -> Result<Vec<Vec<Term>>, AllocErr
     Ok(lists)
 }
 
-// Adds a quotient of the member at the place k.
+/// Adds a quotient of the member at the place k.
 fn add_quotient(lists: &mut Vec<Vec<Term>>, k: usize, quotient: Term) -> Result<(), AllocError>
     requires { k < length lists.old.items }
     ensures { OnOk result (lists_of lists.new.items ≡ with_quotient (lists_of lists.old.items) k quotient) }
@@ -43,7 +43,7 @@ fn add_quotient(lists: &mut Vec<Vec<Term>>, k: usize, quotient: Term) -> Result<
     Ok(())
 }
 
-// The sums of the quotients.
+/// The sums of the quotients.
 fn sums(alloc: Global, lists: Vec<Vec<Term>>) -> Result<Vec<Poly>, PolyError>
     ensures value { IfOk result (λ hs. AreSums (lists_of lists.items) hs.items) }
     ensures forms { IfOk result (λ hs. KeepForms (lists_of lists.items) hs.items) }
@@ -57,7 +57,7 @@ fn sums(alloc: Global, lists: Vec<Vec<Term>>) -> Result<Vec<Poly>, PolyError>
     Ok(cofactors)
 }
 
-// What is left of `f`, and the quotients of the steps that the rule takes.
+/// What is left of `f`, and the quotients of the steps that the rule takes.
 fn divided(alloc: Global, f: Poly, by: &[Marked]) -> Result<(Poly, Vec<Vec<Term>>), PolyError>
     requires marked { HasSomeWeight by.now }
     requires variables { HaveSameVariables f by.now }

@@ -41,7 +41,7 @@ impl Guide {
         }
     }
 
-    // Whether this is the order by which the rule goes.
+    /// Whether this is the order by which the rule goes.
     fn is_by_degree(&self) -> bool {
         if self.weight.is_empty() || self.by_revlex {
             return false;
@@ -81,7 +81,7 @@ struct Waiting {
     exponents: [u32; ROOM],
 }
 
-// The exponents arranged so that lists compare as monomials do by lex or by revlex; twice gives them back.
+/// The exponents arranged so that lists compare as monomials do by lex or by revlex; twice gives them back.
 fn arranged(x: &[u32], by_revlex: bool) -> [u32; ROOM]
     requires { length x.now ≤ ROOM }
 {
@@ -97,7 +97,7 @@ fn arranged(x: &[u32], by_revlex: bool) -> [u32; ROOM]
     all
 }
 
-// The monomial with these exponents, if they are within the limit.
+/// The monomial with these exponents, if they are within the limit.
 fn monomial(alloc: Global, exponents: &[u32]) -> Option<Mono> {
     if exponents.len() > ROOM {
         return None;

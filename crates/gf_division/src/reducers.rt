@@ -11,7 +11,7 @@ use crate::dividend::Dividend;
 use gf_poly::{Marked, Mono};
 use std::alloc::AllocError;
 
-// Whether the mark divides `x`, whose degree is given: a mark of greater degree doesn't.
+/// Whether the mark divides `x`, whose degree is given: a mark of greater degree doesn't.
 fn is_divided(x: &Mono, degree: u64, mark: &Mono) -> bool
     requires variables { length mark.now ≡ length x.now }
     requires degree { degree ≡ total_degree x.now }
@@ -39,7 +39,7 @@ pub fn divisor_of(x: &Mono, by: &[Marked]) -> Option<usize>
     None
 }
 
-// Whether `x` is another monomial than the spared one.
+/// Whether `x` is another monomial than the spared one.
 fn is_beside(spared: &Option<Mono>, x: &Mono) -> bool
     requires { IsSpareIn (length x.now) spared.now }
     ensures yes { IsTrue result → IsBeside spared.now x.now }
@@ -51,7 +51,7 @@ fn is_beside(spared: &Option<Mono>, x: &Mono) -> bool
     }
 }
 
-// The place of the first member that reduces a term at `x`, if there is one and `x` isn't spared.
+/// The place of the first member that reduces a term at `x`, if there is one and `x` isn't spared.
 pub(crate) fn reducer_of(x: &Mono, by: &[Marked], spared: &Option<Mono>) -> Option<usize>
     requires members { HaveVariables (length x.now) by.now }
     requires spare { IsSpareIn (length x.now) spared.now }

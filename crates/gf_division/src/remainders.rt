@@ -18,7 +18,7 @@ use gf_poly::{Marked, Mono, Poly, PolyError};
 use std::alloc::{AllocError, Global};
 use std::cmp::Ordering;
 
-// Whether a mark divides `x`; a mark in other variables doesn't.
+/// Whether a mark divides `x`; a mark in other variables doesn't.
 fn is_open(x: &Mono, by: &[Marked]) -> bool {
     let degree = x.degree();
     'members: for j in 0..by.len() {
@@ -33,7 +33,7 @@ fn is_open(x: &Mono, by: &[Marked]) -> bool {
     false
 }
 
-// The first member that reduces the term at `x`, where the polynomial has one; the place is at that term then.
+/// The first member that reduces the term at `x`, where the polynomial has one; the place is at that term then.
 fn reducer_at(
     rest: &mut Dividend,
     x: &Mono,
@@ -59,8 +59,8 @@ fn reducer_at(
     }
 }
 
-// The place goes to the foremost term that waits and that a member reduces, and else to the first term that one reduces; answers
-// the place of the first such member.
+/// The place goes to the foremost term that waits and that a member reduces, and else to the first term that one reduces; answers
+/// the place of the first such member.
 fn next(
     alloc: Global,
     rest: &mut Dividend,
@@ -87,7 +87,7 @@ fn next(
     seek(rest, by, spared)
 }
 
-// Steps by the rule, so many at most; whether no member reduces a term any more.
+/// Steps by the rule, so many at most; whether no member reduces a term any more.
 fn by_rule(
     rest: &mut Dividend,
     by: &[Marked],
@@ -112,7 +112,7 @@ fn by_rule(
     Ok(false)
 }
 
-// Steps by the guide, until no member reduces a term.
+/// Steps by the guide, until no member reduces a term.
 fn by_guide(
     alloc: Global,
     rest: &mut Dividend,

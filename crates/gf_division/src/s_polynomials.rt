@@ -10,7 +10,7 @@ use crate::monic::{is_monic, made_monic, one};
 use gf_poly::{Marked, Mono, Poly, PolyError, Term};
 use std::alloc::Global;
 
-// The polynomial times a monomial.
+/// The polynomial times a monomial.
 fn raised(alloc: Global, f: &Poly, by: &Mono) -> Result<Poly, PolyError>
     requires { HasVariables (length by.now) f.now }
     ensures value { IfOk result (IsRaised by.now f.now) }
@@ -26,7 +26,7 @@ fn raised(alloc: Global, f: &Poly, by: &Mono) -> Result<Poly, PolyError>
     Ok(Poly::from_descending(out))
 }
 
-// What two monomials have to be raised by, to their least common multiple.
+/// What two monomials have to be raised by, to their least common multiple.
 fn cofactors(x: &Mono, y: &Mono) -> (Mono, Mono)
     requires { length x.now ≡ length y.now }
     ensures { AreLcmCofactors x.now y.now result.0 result.1 }
@@ -35,7 +35,7 @@ fn cofactors(x: &Mono, y: &Mono) -> (Mono, Mono)
     (multiple.quotient(x), multiple.quotient(y))
 }
 
-// The S-polynomial of monic ones.
+/// The S-polynomial of monic ones.
 fn monic_s_poly(alloc: Global, b: &Marked, c: &Marked) -> Result<Poly, PolyError>
     requires variables { SharePairVariables b.now c.now }
     ensures value { IfOk result (IsSPolynomial b.now c.now) }

@@ -21,7 +21,7 @@ pub fn heft_of(weight: &[i64], x: &[u32]) -> i128 {
     sum
 }
 
-// Whether some entry of `x` is greater than that of `y`.
+/// Whether some entry of `x` is greater than that of `y`.
 fn exceeds(x: &[u32], y: &[u32]) -> bool {
     'entries: for (a, b) in x.iter().zip(y) {
         if a > b {
@@ -31,7 +31,7 @@ fn exceeds(x: &[u32], y: &[u32]) -> bool {
     false
 }
 
-// Adds the entries of `x` less those of `y`.
+/// Adds the entries of `x` less those of `y`.
 fn add_difference(rows: &mut Vec<i64>, x: &[u32], y: &[u32]) -> Option<()> {
     'entries: for (a, b) in x.iter().zip(y) {
         match rows.push(i64::from(*a) - i64::from(*b)) {
@@ -42,7 +42,7 @@ fn add_difference(rows: &mut Vec<i64>, x: &[u32], y: &[u32]) -> Option<()> {
     Some(())
 }
 
-// Adds the differences of the mark and the other terms, but those that are positive by each positive weight.
+/// Adds the differences of the mark and the other terms, but those that are positive by each positive weight.
 fn add_lift(rows: &mut Vec<i64>, lift: &Marked) -> Option<()> {
     let head = lift.head().exponents();
     let terms = lift.poly().terms();
@@ -55,7 +55,7 @@ fn add_lift(rows: &mut Vec<i64>, lift: &Marked) -> Option<()> {
     Some(())
 }
 
-// The differences of marks and other terms, one after another.
+/// The differences of marks and other terms, one after another.
 fn differences(alloc: Global, lifts: &[Marked]) -> Option<Vec<i64>> {
     let mut rows = Vec::new(alloc);
     'lifts: for i in 0..lifts.len() {
@@ -64,7 +64,7 @@ fn differences(alloc: Global, lifts: &[Marked]) -> Option<Vec<i64>> {
     Some(rows)
 }
 
-// How heavy a difference is.
+/// How heavy a difference is.
 fn gain_of(weight: &[i64], row: &[i64]) -> i64 {
     let mut sum = 0i64;
     'entries: for (w, d) in weight.iter().zip(row) {
@@ -73,7 +73,7 @@ fn gain_of(weight: &[i64], row: &[i64]) -> i64 {
     sum
 }
 
-// How often a difference is added that is so heavy, which isn't positive: half as often again as makes it weigh nothing.
+/// How often a difference is added that is so heavy, which isn't positive: half as often again as makes it weigh nothing.
 fn times_of(gain: i64, row: &[i64]) -> i64 {
     let size = gain_of(row, row);
     if size < 1 {
@@ -82,7 +82,7 @@ fn times_of(gain: i64, row: &[i64]) -> i64 {
     (gain.wrapping_mul(-3) / size / 2).wrapping_add(1)
 }
 
-// Adds the difference so often.
+/// Adds the difference so often.
 fn lean(weight: &mut [i64], row: &[i64], times: i64) {
     'entries: for i in 0..weight.len() {
         if i < row.len() {
@@ -91,7 +91,7 @@ fn lean(weight: &mut [i64], row: &[i64], times: i64) {
     }
 }
 
-// Sets each entry to 1 that isn't positive; whether there was none.
+/// Sets each entry to 1 that isn't positive; whether there was none.
 fn is_positive(weight: &mut [i64]) -> bool {
     let mut fits = true;
     'entries: for i in 0..weight.len() {
@@ -103,7 +103,7 @@ fn is_positive(weight: &mut [i64]) -> bool {
     fits
 }
 
-// Adds each difference that isn't positive, some times; whether nothing was added.
+/// Adds each difference that isn't positive, some times; whether nothing was added.
 fn fits_all(weight: &mut [i64], rows: &[i64], n: usize) -> bool
     requires { 0 < n }
 {

@@ -76,9 +76,6 @@ pub as_told : (r d : Refusal) → (d ≡ r) ⊎ (d ≡ refusals.Memory) → Tell
 as_told r d (inl e) = inl (subst (TellsSame r) (sym e) (tells_itself r))
 as_told r d (inr m) = inr (subst IsOfNumbers (sym m) tt)
 
-no_exact_memory : (r : Refusal) → r ≡ refusals.Memory → IsExactRefusal r → ⊥
-no_exact_memory r m e = elim (subst IsExactRefusal m e) [ inl x ↦ x | inr x ↦ x ]
-
 pub no_fixed_memory : (r : Refusal) → r ≡ refusals.Memory → IsFixed r → ⊥
 no_fixed_memory r m f = elim (subst IsFixed m f) [ inl x ↦ elim x [ inl y ↦ y | inr y ↦ y ] | inr x ↦ x ]
 
@@ -216,9 +213,6 @@ module _ (c : Command) (laws : IsLawful c) (texts : List (List ℕ)) where
 
   pub in_reach : (d : Refusal) → IsInReach c texts → IsRefusedOn c texts d → d ≡ refusals.Memory
   in_reach d w h = reached w.value d w.read w.formed w.within h
-
-  pub reach_value : (w : IsInReach c texts) (a : c.Value) → c.reading.IsRead texts a → c.IsWithin a
-  reach_value w a read = subst (λ z. c.IsWithin z) (laws.reading.once texts a w.value read w.read) w.within
 
   -- ---- kinds
 

@@ -1,5 +1,6 @@
 -- How a run of a program ends that has a lawful command for each job, and what follows of that for its reader.
--- To cite: same_job, same_refusal, words_refused, loading_refused, texts_done, texts_refused, usage_not_on, usage_not_loading, done_as, stopped_as, run_clauses. The rest are steps.
+-- To cite: same_job, same_refusal, words_refused, loading_refused, texts_done, texts_refused, done_as, stopped_as,
+-- run_clauses. The rest are steps.
 use Rattle.std.specs.Prelude.{◌≡◌, ◌⊎◌, ℕ, List, Some}
 use Rattle.std.specs.Io.KnownBytes.{Keeps}
 use Rattle.std.proofs.Common.{refl, sym, ap, ◌∙◌, subst, inl, inr}
@@ -16,10 +17,10 @@ use Rattle.gf_front.specs.Lines.{of_words}
 use Rattle.gf_items.specs.Refusals.{IsOfNumbers}
 use Rattle.gf_frame.specs.Seen.{Seen, OutputSeen}
 use Rattle.gf_frame.specs.Loading.{AreLoaded, AreUnloaded, AreReadWithin}
-use Rattle.gf_frame.specs.Commands.{Command, IsOfWriting, IsOfOutside}
+use Rattle.gf_frame.specs.Commands.{Command, IsOfOutside}
 use Rattle.gf_frame.specs.Runs.{IsDoneOn, IsStoppedOn, IsDoneBy, IsStoppedBy, IsJobRefused, LeavesInOutput}
-use Rattle.gf_frame.proofs.LoadingLaws.{nothing_read, unloaded_not_usage}
-use Rattle.gf_frame.proofs.CommandLaws.{IsLawful, refused_kind}
+use Rattle.gf_frame.proofs.LoadingLaws.{nothing_read}
+use Rattle.gf_frame.proofs.CommandLaws.{IsLawful}
 use Rattle.gf_frame.proofs.WorkLaws.{done_by, stopped_by}
 use Rattle.gf_frame.proofs.RunLaws.{exact_stopped, exact_done, fixed_stopped, fixed_done, reach_stopped, long_stopped, long_done, job_stopped, stopped_not_usage, quiet_stopped, limit_stopped, too_long_stopped, short_stopped, short_done, read_stopped, open_stopped, write_stopped, calm_done, input_calm_stopped, files_calm_stopped, open_calm_stopped, output_calm_stopped, kept_done, kept_stopped}
 use Rattle.gf_frame.specs.Programs.{IsRunDone, IsRunRefused, IsRunEnded, IsRefusedWith, OfJobAsked, StandsAtLimit, IsTooMuchTaken, RunClauses}
@@ -54,14 +55,6 @@ module _ (command_of : Job → Command) (lawful : (job : Job) → IsLawful (comm
 
   pub texts_refused : (words : List (List ℕ)) (p q : Seen) (o s : OutputSeen) (job : Job) (texts : List (List ℕ)) (r : Refusal) → IsJobOf words job → AreLoaded (command_of job).reads p q texts → IsStoppedOn (command_of job) texts o s r → IsRunRefused command_of words p q o s r
   texts_refused words p q o s job texts r j l h = IsRunRefused.of_job job j (stopped_by (command_of job) p q texts o s l r h)
-
-  -- Usage is told of no texts
-  pub usage_not_on : (job : Job) (texts : List (List ℕ)) (o s : OutputSeen) (r : Refusal) → r ≡ refusals.Usage → IsStoppedOn (command_of job) texts o s r → ⊥
-  usage_not_on job texts o s r u (IsStoppedOn.in_work h left e) = subst (IsOfWriting (command_of job).writing) u (refused_kind (command_of job) (lawful job) texts r h)
-  usage_not_on job texts o s r u (IsStoppedOn.in_writing text w e rose part) = (let k : refusals.Usage ≡ refusals.WriteFault = sym u ∙ e in cc)
-
-  pub usage_not_loading : (job : Job) (p q : Seen) (r : Refusal) → r ≡ refusals.Usage → AreUnloaded (command_of job).reads p q r → ⊥
-  usage_not_loading job p q r u h = unloaded_not_usage (command_of job).reads p q (subst (AreUnloaded (command_of job).reads p q) u h)
 
   -- ---- what follows
 

@@ -134,5 +134,6 @@ IsKindOfWriting writing RefusalKind.outside = ⊥
 IsKindOfWriting writing RefusalKind.limit = GoesAlong writing
 IsKindOfWriting writing _ = Unit {0}
 
+-- the kind of the refusal is such
 abbrev pub IsOfWriting : {A : Type 0} → Writing A → Refusal → Type 0
 IsOfWriting writing r = IsKindOfWriting writing (kind_of_refusal r)

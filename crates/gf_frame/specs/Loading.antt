@@ -32,6 +32,7 @@ pub record IsFileLoaded (name : List ℕ) (p q : Seen) (text : List ℕ) : Type 
   pub calm : q.files.faults ≡ p.files.faults
   pub input : q.input ≡ p.input
 
+-- this is the whole text of the source, be it the input or a file
 abbrev pub IsLoaded : Origin → Seen → Seen → List ℕ → Type 0
 IsLoaded Origin.the_input p q text = IsInputLoaded p q text
 IsLoaded (Origin.a_file name) p q text = IsFileLoaded name p q text
@@ -57,11 +58,14 @@ IsFileCause name f g refusals.InputTooLong = TookExactly (f.bytes name) g.left f
 IsFileCause name f g refusals.Memory = IsWithinFile name f g
 IsFileCause name f g _ = ⊥
 
+-- the input isn't loaded, for this cause; a fault of it is counted only where that is the cause, and the files are as before
 pub record IsInputUnloaded (p q : Seen) (r : Refusal) : Type 0 where
   pub cause : IsInputCause p.input q.input r
   pub calm : (r ≡ refusals.ReadFault → ⊥) → q.input.faults ≡ p.input.faults
   pub files : q.files ≡ p.files
 
+-- the file of this name isn't loaded, for this cause; a fault is counted only where that is the cause, what files hold stays, and the input
+-- is as before
 pub record IsFileUnloaded (name : List ℕ) (p q : Seen) (r : Refusal) : Type 0 where
   pub cause : IsFileCause name p.files q.files r
   pub kept : q.files.bytes ≡ p.files.bytes
@@ -69,6 +73,7 @@ pub record IsFileUnloaded (name : List ℕ) (p q : Seen) (r : Refusal) : Type 0 
   pub calm : (r ≡ refusals.ReadFault → ⊥) → q.files.faults ≡ p.files.faults
   pub input : q.input ≡ p.input
 
+-- the source isn't loaded, be it the input or a file
 abbrev pub IsUnloaded : Origin → Seen → Seen → Refusal → Type 0
 IsUnloaded Origin.the_input p q r = IsInputUnloaded p q r
 IsUnloaded (Origin.a_file name) p q r = IsFileUnloaded name p q r
@@ -94,6 +99,7 @@ abbrev pub IsKnown : Origin → Seen → Seen → List ℕ → Type 0
 IsKnown Origin.the_input p q text = (p.input.left ≡ Some text) × (Rose p.input.faults q.input.faults → ⊥)
 IsKnown (Origin.a_file name) p q text = (p.files.bytes name ≡ Some text) × (Rose p.files.unopened q.files.unopened → ⊥) × (Rose p.files.faults q.files.faults → ⊥)
 
+-- so it is with each of these sources, and these are their texts
 abbrev pub AreKnown : List Origin → Seen → Seen → List (List ℕ) → Type 0
 AreKnown [] p q [] = Unit {0}
 AreKnown [] p q (t ∷ ts) = ⊥
@@ -105,17 +111,20 @@ abbrev pub AreShort : List (List ℕ) → Type 0
 AreShort [] = Unit {0}
 AreShort (t ∷ ts) = (length t ≤ 67108864) × AreShort ts
 
+-- one of the texts has more bytes than a source may have
 abbrev pub IsSomeLong : List (List ℕ) → Type 0
 IsSomeLong [] = ⊥
 IsSomeLong (t ∷ ts) = (67108864 < length t) ⊎ IsSomeLong ts
 
 -- ---- which sources there are
 
+-- the input is one of the sources
 abbrev pub HaveInput : List Origin → Type 0
 HaveInput [] = ⊥
 HaveInput (Origin.the_input ∷ os) = Unit {0}
 HaveInput (Origin.a_file name ∷ os) = HaveInput os
 
+-- a file is one of the sources
 abbrev pub HaveFile : List Origin → Type 0
 HaveFile [] = ⊥
 HaveFile (Origin.the_input ∷ os) = HaveFile os
@@ -132,6 +141,7 @@ abbrev pub IsReadWithin : Origin → Seen → Seen → Type 0
 IsReadWithin Origin.the_input p q = TookAtMost p.input.left q.input.left p.input.given q.input.given 67108864
 IsReadWithin (Origin.a_file name) p q = IsWithinFile name p.files q.files
 
+-- some are loaded, of the next one no more is read than it may have, and of those behind it nothing; or all are loaded
 abbrev pub AreReadWithin : List Origin → Seen → Seen → Type 0
 AreReadWithin [] p q = q ≡ p
 AreReadWithin (o ∷ os) p q = IsReadWithin o p q ⊎ ((t : List ℕ) × (m : Seen) × IsLoaded o p m t × AreReadWithin os m q)
@@ -141,6 +151,7 @@ abbrev pub IsTooLong : Origin → Seen → Seen → Type 0
 IsTooLong Origin.the_input p q = TookExactly p.input.left q.input.left p.input.given q.input.given 67108865
 IsTooLong (Origin.a_file name) p q = TookExactly (p.files.bytes name) q.files.left p.files.given q.files.given 67108865
 
+-- the sources before one are loaded, and of that one a byte more than it may have was taken
 abbrev pub IsOneTooLong : List Origin → Seen → Seen → Type 0
 IsOneTooLong [] p q = ⊥
 IsOneTooLong (o ∷ os) p q = IsTooLong o p q ⊎ ((t : List ℕ) × (m : Seen) × IsLoaded o p m t × IsOneTooLong os m q)

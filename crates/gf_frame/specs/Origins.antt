@@ -5,10 +5,12 @@ use Rattle.gf_frame.specs.declared.loading.LoadFrom.{LoadFrom}
 use Rattle.gf_frame.specs.declared.loading.LoadFrom.TheVariants as origins
 use Rattle.gf_frame.specs.Loading.{Origin}
 
+-- where the code loads from, as a source
 abbrev pub origin_of : LoadFrom → Origin
 origin_of origins.Input = Origin.the_input
 origin_of (origins.File name) = Origin.a_file name.now
 
+-- the sources of such a list, in its order
 abbrev pub origins_of : List LoadFrom → List Origin
 origins_of = map origin_of
 

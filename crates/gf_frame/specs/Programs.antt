@@ -56,6 +56,7 @@ OfJobAsked words holds = (job : Job) × IsJobOf words job × holds job
 abbrev pub AskForNoInput : (Job → Command) → List (List ℕ) → Type 0
 AskForNoInput command_of words = (job : Job) → IsJobOf words job → HaveInput (command_of job).reads → ⊥
 
+-- no job that the words ask for reads a file
 abbrev pub AskForNoFile : (Job → Command) → List (List ℕ) → Type 0
 AskForNoFile command_of words = (job : Job) → IsJobOf words job → HaveFile (command_of job).reads → ⊥
 

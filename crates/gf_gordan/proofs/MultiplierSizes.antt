@@ -5,7 +5,7 @@ use Rattle.std.specs.List.{AllByRecursion}
 use Rattle.std.proofs.Math.Nat.{mul-le-mul_right}
 use Rattle.gf_int.specs.Content.{scaled}
 use Rattle.gf_vec.specs.Vector.{dot, zeros, entry_at}
-use Rattle.gf_gordan.specs.Elimination.{IsPivot, size_at, IsSystemBy, column, taken, IsCarried}
+use Rattle.gf_gordan.specs.Elimination.{IsPivot, size_at, IsSystemBy, column, times_taken, IsCarried}
 use Rattle.gf_gordan.specs.Elimination as elimination
 use Rattle.gf_gordan.specs.Recursion.{IsMultipliers, zero_row, prefix, carried}
 use Rattle.gf_gordan.specs.Equations.{IsMultipliersOn}
@@ -23,11 +23,11 @@ use Rattle.gf_gordan.proofs.ScaleSizes.{power, counted_one, used, used-append, u
 -- one more than below
 used_carried : (r : List ℤ) (j : ℕ) (col cs ms out : List ℤ) (n : ℕ) → used ms ≤ n → IsCarried r j col cs ms out → used out ≤ suc n
 used_carried r j col cs ms out n h d =
-    let x = neg_ℤ (int_signum (entry_at r j)) *ℤ dot (taken cs ms) col in
+    let x = neg_ℤ (int_signum (entry_at r j)) *ℤ dot (times_taken cs ms) col in
     let a = used-kept d.0 out d.1.positive in
     let b = ap used d.1.multiple in
-    let c = used-append (scaled (size_at r j) (taken cs ms)) (x ∷ []) in
-    let e = used-times (size_at r j) (taken cs ms) in
+    let c = used-append (scaled (size_at r j) (times_taken cs ms)) (x ∷ []) in
+    let e = used-times (size_at r j) (times_taken cs ms) in
     let f = used-taken (elimination.scale_of cs ms) cs ms in
     let g = counted_one x in
     omega (arith, a, b, c, e, f, g, h)
@@ -70,17 +70,17 @@ pub record Carries (n b l : ℕ) (r : List ℤ) (j : ℕ) (col cs ms : List ℤ)
   pub few : used ms ≤ suc n
   pub multipliers : UpTo l ms
 
-pub takings_up : (n b l : ℕ) (r : List ℤ) (j : ℕ) (col cs ms : List ℤ) → Carries n b l r j col cs ms → UpTo (taken_bound n b l) (taken cs ms)
+pub takings_up : (n b l : ℕ) (r : List ℤ) (j : ℕ) (col cs ms : List ℤ) → Carries n b l r j col cs ms → UpTo (taken_bound n b l) (times_taken cs ms)
 takings_up n b l r j col cs ms k = taken_up (twice b) n l cs ms (one_twice b k.one) k.contents k.as_many k.few k.multipliers
 
 few_takings : (u v p k : ℕ) → u ≤ v → v ≤ k → u * p ≤ k * p
 few_takings u v p k h g = mul-le-mul_right p (omega arith)
 
 -- what is added up for the multiplier of r
-pub own_up : (n b l : ℕ) (r : List ℤ) (j : ℕ) (col cs ms : List ℤ) → Carries n b l r j col cs ms → unsigned_abs (dot (taken cs ms) col) ≤ suc n * (taken_bound n b l * b)
+pub own_up : (n b l : ℕ) (r : List ℤ) (j : ℕ) (col cs ms : List ℤ) → Carries n b l r j col cs ms → unsigned_abs (dot (times_taken cs ms) col) ≤ suc n * (taken_bound n b l * b)
 own_up n b l r j col cs ms k =
-    let d = dot_used (taken_bound n b l) b (taken cs ms) col (takings_up n b l r j col cs ms k) k.column in
-    let w = few_takings (used (taken cs ms)) (used ms) (taken_bound n b l * b) (suc n) (used-taken (elimination.scale_of cs ms) cs ms) k.few in
+    let d = dot_used (taken_bound n b l) b (times_taken cs ms) col (takings_up n b l r j col cs ms k) k.column in
+    let w = few_takings (used (times_taken cs ms)) (used ms) (taken_bound n b l * b) (suc n) (used-taken (elimination.scale_of cs ms) cs ms) k.few in
     omega (arith, d, w)
 
 swapped : (n p b : ℕ) → b * p ≤ 1 + suc n * (p * b)
@@ -88,11 +88,11 @@ swapped n p b = omega arith
 
 carried_up : (n b l : ℕ) (r : List ℤ) (j : ℕ) (col cs ms out : List ℤ) → Carries n b l r j col cs ms → IsCarried r j col cs ms out → UpTo (1 + suc n * (taken_bound n b l * b)) out
 carried_up n b l r j col cs ms out k d =
-    let x = neg_ℤ (int_signum (entry_at r j)) *ℤ dot (taken cs ms) col in
-    let o = product_up (neg_ℤ (int_signum (entry_at r j))) (dot (taken cs ms) col) 1 (suc n * (taken_bound n b l * b)) (neg_up (int_signum (entry_at r j)) 1 (signum_up (entry_at r j))) (own_up n b l r j col cs ms k) in
-    let f = up_times (size_at r j) b (taken_bound n b l) (taken cs ms) (size_up b r j k.row) (takings_up n b l r j col cs ms k) in
+    let x = neg_ℤ (int_signum (entry_at r j)) *ℤ dot (times_taken cs ms) col in
+    let o = product_up (neg_ℤ (int_signum (entry_at r j))) (dot (times_taken cs ms) col) 1 (suc n * (taken_bound n b l * b)) (neg_up (int_signum (entry_at r j)) 1 (signum_up (entry_at r j))) (own_up n b l r j col cs ms k) in
+    let f = up_times (size_at r j) b (taken_bound n b l) (times_taken cs ms) (size_up b r j k.row) (takings_up n b l r j col cs ms k) in
     up_divided _ _ out d.0 d.1
-    (up_append (1 + suc n * (taken_bound n b l * b)) (scaled (size_at r j) (taken cs ms)) (x ∷ []) (up_weaker (b * taken_bound n b l) _ _ (swapped n (taken_bound n b l) b) f) (up_cons _ x [] (omega (arith, o)) (up_none _)))
+    (up_append (1 + suc n * (taken_bound n b l * b)) (scaled (size_at r j) (times_taken cs ms)) (x ∷ []) (up_weaker (b * taken_bound n b l) _ _ (swapped n (taken_bound n b l) b) f) (up_cons _ x [] (omega (arith, o)) (up_none _)))
 
 -- the system by the last row, and its multipliers
 pub Carries-rows : (n b : ℕ) (rows : List (List ℤ)) (r : List ℤ) (j : ℕ) (cs : List ℤ) (below : List (List ℤ)) (ms : List ℤ) → 1 ≤ b → Sized (n + 1) b (rows ++ r ∷ []) → IsPivot r j → IsSystemBy r j rows cs below → IsMultipliers n below ms →

@@ -9,7 +9,7 @@ use Rattle.gf_int.specs.Content.{scaled, DividesAll, AllZero, IsContent, IsPrimi
 use Rattle.gf_vec.specs.Vector.{entry_at}
 use Rattle.gf_vec.specs.Primitive.{IsDivided}
 use Rattle.gf_vec.proofs.PrimitiveLaws.{primitive_of}
-use Rattle.gf_gordan.specs.Elimination.{IsPivot, size_at, signed_at, reduced, IsSystemBy, column}
+use Rattle.gf_gordan.specs.Elimination.{IsPivot, size_at, signed_at, reduced_by, IsSystemBy, column}
 use Rattle.gf_gordan.proofs.PointLaws.{HaveWidth, HaveWidth-below}
 use Rattle.gf_gordan.proofs.SizeLaws.{UpTo, up_none, up_cons, up_times, up_sum, up_remove, up_divided, neg_up, product_up, signum_up}
 use Rattle.gf_int.proofs.SignLaws.{abs_positive}
@@ -38,7 +38,7 @@ size_up b r j u = let k = u.at j in omega (arith, k)
 pub signed_up : (b : ℕ) (r : List ℤ) (j : ℕ) (t : List ℤ) → UpTo b t → unsigned_abs (signed_at r j t) ≤ b
 signed_up b r j t u = let k = product_up (int_signum (entry_at r j)) (entry_at t j) 1 b (signum_up (entry_at r j)) (u.at j) in omega (arith, k)
 
-pub reduced_up : (b : ℕ) (r : List ℤ) (j : ℕ) (t : List ℤ) → UpTo b r → UpTo b t → UpTo (twice b) (reduced r j t)
+pub reduced_up : (b : ℕ) (r : List ℤ) (j : ℕ) (t : List ℤ) → UpTo b r → UpTo b t → UpTo (twice b) (reduced_by r j t)
 reduced_up b r j t u v =
     up_sum (b * b) (b * b) (scaled (size_at r j) (remove t j)) (scaled (neg_ℤ (signed_at r j t)) (remove r j))
     (up_times (size_at r j) b b (remove t j) (size_up b r j u) (up_remove b t j v))
@@ -111,7 +111,7 @@ entries_below n b r j [] (c ∷ cs) below u k w s = absurd s
 entries_below n b r j (t ∷ ts) [] below u k w s = absurd s
 entries_below n b r j (t ∷ ts) (c ∷ cs) [] u k w s = absurd s
 entries_below n b r j (t ∷ ts) (c ∷ cs) (d ∷ bs) u k w s =
-    (below_up n b (reduced r j t) d c w.0 s.0 (reduced_up b r j t u k.0), entries_below n b r j ts cs bs u k.1 w.1 s.1)
+    (below_up n b (reduced_by r j t) d c w.0 s.0 (reduced_up b r j t u k.0), entries_below n b r j ts cs bs u k.1 w.1 s.1)
 
 -- the system by r
 pub Sized-below : (n b : ℕ) (r : List ℤ) (j : ℕ) (rows : List (List ℤ)) (cs : List ℤ) (below : List (List ℤ)) → IsPivot r j → length r ≡ n + 1 → UpTo b r → Sized (n + 1) b rows → IsSystemBy r j rows cs below → Sized n (below_bound n b) below
@@ -133,7 +133,7 @@ contents_up b r j [] (c ∷ cs) below h u k s = absurd s
 contents_up b r j (t ∷ ts) [] below h u k s = absurd s
 contents_up b r j (t ∷ ts) (c ∷ cs) [] h u k s = absurd s
 contents_up b r j (t ∷ ts) (c ∷ cs) (d ∷ bs) h u k s =
-    ((s.0.positive, content_up (twice b) (reduced r j t) (unsigned_abs c) (one_twice b h) s.0.content (reduced_up b r j t u k.0)), contents_up b r j ts cs bs h u k.1 s.1)
+    ((s.0.positive, content_up (twice b) (reduced_by r j t) (unsigned_abs c) (one_twice b h) s.0.content (reduced_up b r j t u k.0)), contents_up b r j ts cs bs h u k.1 s.1)
 
 pub column_up : (b : ℕ) (j : ℕ) (rows : List (List ℤ)) → AllByRecursion (UpTo b) rows → UpTo b (column j rows)
 column_up b j [] k = up_none b

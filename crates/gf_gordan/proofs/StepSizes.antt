@@ -8,7 +8,7 @@ use Rattle.gf_vec.specs.declared.error.VecOp.TheVariants.{Add, Sub, Mul}
 use Rattle.gf_vec.specs.Vector.{dot, entry_at}
 use Rattle.gf_vec.specs.Steps.{value_of}
 use Rattle.gf_gordan.specs.declared.error.ConeOverflow.{ConeOverflow}
-use Rattle.gf_gordan.specs.Elimination.{IsPivot, row_at, size_at, signed_at, lifted, greatest_value, push_factor, scale_part, scale_from, scale_of, taken, column}
+use Rattle.gf_gordan.specs.Elimination.{IsPivot, row_at, size_at, signed_at, lifted, greatest_value, push_factor, scale_part, scale_from, scale_of, times_taken, column}
 use Rattle.gf_gordan.specs.Steps.{IsWideStep, IsDotStep, IsCrossStep, IsReducing, IsEliminating, IsLifting, IsFactorStep, IsAddingStep, IsPushing, IsScaling, IsTakingOne, IsTaking, IsSumming, IsCarrying}
 use Rattle.gf_gordan.specs.Recursion.{IsRowsStep, earlier, testing, eliminating, below, pushing, carrying}
 use Rattle.gf_gordan.specs.Equations.{IsStepOn}
@@ -146,12 +146,12 @@ no_summing n b l row r j col cs ms s k room w =
     let i = w.0 in
     let t = taken_bound n b l in
     let u = takings_up n b l r j col cs ms k in
-    let a = dot_used t b (take i (taken cs ms)) (take i col) (up_take t i (taken cs ms) u) (up_take b i col k.column) in
-    let d = counted_product (entry_at (taken cs ms) i) (entry_at col i) t b (u.at i) (k.column.at i) in
-    let f : used (taken cs ms) ≤ suc n = (let e = used-taken (scale_of cs ms) cs ms in omega (arith, e, k.few)) in
-    let g = few_sums (used (take i (taken cs ms))) (counted (entry_at (taken cs ms) i)) (used (taken cs ms)) (t * b) n (used-take i (taken cs ms)) f in
-    let v = sum_up (dot (take i (taken cs ms)) (take i col)) (entry_at (taken cs ms) i *ℤ entry_at col i) (used (take i (taken cs ms)) * (t * b)) (counted (entry_at (taken cs ms) i) * (t * b)) a d in
-    no_wide row Add (dot (take i (taken cs ms)) (take i col)) (entry_at (taken cs ms) i *ℤ entry_at col i) s (suc n * (t * b)) (omega (arith, v, g)) room w.2
+    let a = dot_used t b (take i (times_taken cs ms)) (take i col) (up_take t i (times_taken cs ms) u) (up_take b i col k.column) in
+    let d = counted_product (entry_at (times_taken cs ms) i) (entry_at col i) t b (u.at i) (k.column.at i) in
+    let f : used (times_taken cs ms) ≤ suc n = (let e = used-taken (scale_of cs ms) cs ms in omega (arith, e, k.few)) in
+    let g = few_sums (used (take i (times_taken cs ms))) (counted (entry_at (times_taken cs ms) i)) (used (times_taken cs ms)) (t * b) n (used-take i (times_taken cs ms)) f in
+    let v = sum_up (dot (take i (times_taken cs ms)) (take i col)) (entry_at (times_taken cs ms) i *ℤ entry_at col i) (used (take i (times_taken cs ms)) * (t * b)) (counted (entry_at (times_taken cs ms) i) * (t * b)) a d in
+    no_wide row Add (dot (take i (times_taken cs ms)) (take i col)) (entry_at (times_taken cs ms) i *ℤ entry_at col i) s (suc n * (t * b)) (omega (arith, v, g)) room w.2
 
 no_carrying : (n b l all row : ℕ) (r : List ℤ) (j : ℕ) (col cs ms : List ℤ) (s : ConeOverflow) → Carries n b l r j col cs ms → power (twice b) (suc n) < 2 ^ 127 → suc n * (taken_bound n b l * b) < 2 ^ 127 → taken_bound n b l < 2 ^ 127 →
     IsCarrying all row r j col cs ms s → ⊥

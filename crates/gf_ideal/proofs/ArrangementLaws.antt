@@ -96,7 +96,7 @@ pub apart-arranged : (bs cs : List MarkedPolynomial) → IsPermutation bs cs →
 apart-arranged bs cs p h = subst AreApart (sym p.is) (apart-moved bs p.moves p.below h)
 
 -- the members of the one are those of the other
-members_from : (bs cs : List MarkedPolynomial) → IsPermutation bs cs → (c : MarkedPolynomial) → Contains cs c →
+pub members_from : (bs cs : List MarkedPolynomial) → IsPermutation bs cs → (c : MarkedPolynomial) → Contains cs c →
     Contains bs c
 members_from bs cs p c k = Contains-permutation cs bs c (IsPermutation-sym bs cs p) k
 

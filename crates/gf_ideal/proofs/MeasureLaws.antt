@@ -15,7 +15,7 @@ use Rattle.gf_poly.proofs.PolynomialLaws.{coefficient-++, coefficient-same}
 use Rattle.gf_ideal.specs.Membership.{HasMonomial}
 use Rattle.gf_ideal.specs.Marks.{IsMarked, AreMarked, HasPositiveWeight}
 use Rattle.gf_ideal.specs.Reduction.{IsStep}
-use Rattle.gf_ideal.specs.Measure.{within, except, raised, total, is_zero_number, lists, support_in, support, IsInBox, FitsBox, front, fronts, box, brought, all_brought, inside, height, work_in, work_left}
+use Rattle.gf_ideal.specs.Measure.{within, except, all_raised, total, is_zero_number, lists, support_in, support, IsInBox, FitsBox, front, fronts, box, brought, all_brought, inside_list, height, work_in, work_left}
 use Rattle.gf_ideal.proofs.ListLaws.{Contains-cases}
 use Rattle.gf_ideal.proofs.TermLaws.{found}
 use Rattle.gf_ideal.proofs.StepLaws.{step-gone}
@@ -101,11 +101,11 @@ except-shorter x (y ∷ ys) h = at (same x y) refl (except-le x ys) (except-shor
     at false q l r h = omega (arith, r h)
 
 within-raised : (u y e : Exponents) (ys : List Exponents) → within ys y ≡ true → same e (plus u y) ≡ true →
-    within (raised u ys) e ≡ true
+    within (all_raised u ys) e ≡ true
 within-raised u y e [] h s = clash (sym h)
 within-raised u y e (z ∷ ys) h s = elim (cases_Bool (same y z)) [
-  | inl p ↦ ap (λ b. b || within (raised u ys) e) (same_trans e (plus u y) (plus u z) s (same_shift u y z p))
-  | inr m ↦ or_right (same e (plus u z)) (within (raised u ys) e) (within-raised u y e ys (sym (ap (λ b. b || within ys y) m) ∙ h) s)
+  | inl p ↦ ap (λ b. b || within (all_raised u ys) e) (same_trans e (plus u y) (plus u z) s (same_shift u y z p))
+  | inr m ↦ or_right (same e (plus u z)) (within (all_raised u ys) e) (within-raised u y e ys (sym (ap (λ b. b || within ys y) m) ∙ h) s)
 ]
 
 -- ---- sums over lists
@@ -161,7 +161,7 @@ total-each f g [] h = refl
 total-each f g (y ∷ ys) h = omega (arith, h.0, total-each f g ys h.1)
 
 total-raised : (f : Exponents → ℕ) (u v : Exponents) (ys : List Exponents) → IsAlike f → same u v ≡ true →
-    total f (raised u ys) ≡ total f (raised v ys)
+    total f (all_raised u ys) ≡ total f (all_raised v ys)
 total-raised f u v [] a s = refl
 total-raised f u v (y ∷ ys) a s = omega (arith, a (plus u y) (plus v y) (same_shift_right y u v s), total-raised f u v ys a s)
 
@@ -248,7 +248,7 @@ support-all f x n = at (cases_Bool (lists f x))
 
 -- ---- the same monomial has the same height
 
-inside-alike : (xs : List Exponents) (f : Exponents → ℕ) → IsAlike f → IsAlike (inside xs f)
+inside-alike : (xs : List Exponents) (f : Exponents → ℕ) → IsAlike f → IsAlike (inside_list xs f)
 inside-alike xs f a d e h = ap (λ b. if b then f d else 0) (within-along xs d e h) ∙ ap (λ n. if within xs e then n else 0) (a d e h)
 
 minus-along : (d e h : Exponents) → same d e ≡ true → same (minus d h) (minus e h) ≡ true
@@ -262,14 +262,14 @@ divides-along d e h s p = same_by_entries e (plus (minus e h) h) (λ i. omega (a
 brought-alike : (f : Exponents → ℕ) (b : MarkedPolynomial) (d e : Exponents) → IsAlike f → same d e ≡ true →
     total f (brought b d) ≡ total f (brought b e)
 brought-alike f b d e a s =
-    ap (λ t. total f (if t then raised (minus d b.head) rest else [])) (one_test (same d (plus (minus d b.head) b.head)) (same e (plus (minus e b.head) b.head)) (divides-along d e b.head s) (divides-along e d b.head (same_flip d e s)))
+    ap (λ t. total f (if t then all_raised (minus d b.head) rest else [])) (one_test (same d (plus (minus d b.head) b.head)) (same e (plus (minus e b.head) b.head)) (divides-along d e b.head s) (divides-along e d b.head (same_flip d e s)))
     ∙ at (same e (plus (minus e b.head) b.head))
   where
     rest : List Exponents
     rest = except b.head (support b.poly)
 
     at : (t : Bool) →
-        total f (if t then raised (minus d b.head) rest else []) ≡ total f (if t then raised (minus e b.head) rest else [])
+        total f (if t then all_raised (minus d b.head) rest else []) ≡ total f (if t then all_raised (minus e b.head) rest else [])
     at true = total-raised f (minus d b.head) (minus e b.head) rest a (minus-along d e b.head s)
     at false = refl
 
@@ -280,12 +280,12 @@ all_brought-alike f (b ∷ bs) d e a s = omega (arith, total-++ f (brought b d) 
 
 height-alike : (xs : List Exponents) (bs : List MarkedPolynomial) (k : ℕ) → IsAlike (height xs bs k)
 height-alike xs bs zero d e s = refl
-height-alike xs bs (suc k) d e s = ap suc (all_brought-alike (inside xs (height xs bs k)) bs d e (inside-alike xs (height xs bs k) (height-alike xs bs k)) s)
+height-alike xs bs (suc k) d e s = ap suc (all_brought-alike (inside_list xs (height xs bs k)) bs d e (inside-alike xs (height xs bs k) (height-alike xs bs k)) s)
 
 -- ---- what a step brings is lighter
 
 each-raised : (w : List ℕ) (x u h : Exponents) (ys : List Exponents) → same x (plus u h) ≡ true →
-    Each (λ y. lighter w y h) ys → Each (λ y. lighter w y x) (raised u ys)
+    Each (λ y. lighter w y h) ys → Each (λ y. lighter w y x) (all_raised u ys)
 each-raised w x u h [] s k = tt
 each-raised w x u h (y ∷ ys) s k = (omega (arith, k.0, weight-plus w u y, weight-plus w u h, weight-same w x (plus u h) s), each-raised w x u h ys s k.1)
 
@@ -302,7 +302,7 @@ brought-lighter : (w : List ℕ) (b : MarkedPolynomial) (x : Exponents) → IsMa
 brought-lighter w b x m = at (same x (plus (minus x b.head) b.head)) refl
   where
     at : (t : Bool) → same x (plus (minus x b.head) b.head) ≡ t →
-        Each (λ y. lighter w y x) (if t then raised (minus x b.head) (except b.head (support b.poly)) else [])
+        Each (λ y. lighter w y x) (if t then all_raised (minus x b.head) (except b.head (support b.poly)) else [])
     at true s = each-raised w x (minus x b.head) b.head (except b.head (support b.poly)) s (tail-lighter w b m)
     at false s = tt
 
@@ -313,7 +313,7 @@ abbrev Agree : List Exponents → List ℕ → Exponents → (Exponents → ℕ)
 Agree xs w x f g = (e : Exponents) → lighter w e x → within xs e ≡ true → f e ≡ g e
 
 inside-agree : (xs : List Exponents) (w : List ℕ) (x : Exponents) (f g : Exponents → ℕ) (e : Exponents) →
-    Agree xs w x f g → lighter w e x → inside xs f e ≡ inside xs g e
+    Agree xs w x f g → lighter w e x → inside_list xs f e ≡ inside_list xs g e
 inside-agree xs w x f g e a h = at (within xs e) refl
   where
     at : (b : Bool) → within xs e ≡ b → (if b then f e else 0) ≡ (if b then g e else 0)
@@ -321,27 +321,27 @@ inside-agree xs w x f g e a h = at (within xs e) refl
     at false q = refl
 
 Each-inside : (xs : List Exponents) (w : List ℕ) (x : Exponents) (f g : Exponents → ℕ) (ys : List Exponents) →
-    Agree xs w x f g → Each (λ y. lighter w y x) ys → Each (λ y. inside xs f y ≡ inside xs g y) ys
+    Agree xs w x f g → Each (λ y. lighter w y x) ys → Each (λ y. inside_list xs f y ≡ inside_list xs g y) ys
 Each-inside xs w x f g [] a h = tt
 Each-inside xs w x f g (y ∷ ys) a h = (inside-agree xs w x f g y a h.0, Each-inside xs w x f g ys a h.1)
 
 all_brought-agree : (xs : List Exponents) (w : List ℕ) (f g : Exponents → ℕ) (bs : List MarkedPolynomial) (x : Exponents) →
     Agree xs w x f g → Each (IsMarked (lighter w)) bs →
-    total (inside xs f) (all_brought bs x) ≡ total (inside xs g) (all_brought bs x)
+    total (inside_list xs f) (all_brought bs x) ≡ total (inside_list xs g) (all_brought bs x)
 all_brought-agree xs w f g [] x a m = refl
 all_brought-agree xs w f g (b ∷ bs) x a m =
     omega (
       arith,
-      total-++ (inside xs f) (brought b x) (all_brought bs x),
-      total-++ (inside xs g) (brought b x) (all_brought bs x),
-      total-each (inside xs f) (inside xs g) (brought b x) (Each-inside xs w x f g (brought b x) a (brought-lighter w b x m.0)),
+      total-++ (inside_list xs f) (brought b x) (all_brought bs x),
+      total-++ (inside_list xs g) (brought b x) (all_brought bs x),
+      total-each (inside_list xs f) (inside_list xs g) (brought b x) (Each-inside xs w x f g (brought b x) a (brought-lighter w b x m.0)),
       all_brought-agree xs w f g bs x a m.1,
     )
 
 abbrev nothing_in : Bool → ℕ
 nothing_in b = if b then 0 else 0
 
-total-nothing : (xs ys : List Exponents) → total (inside xs (λ _. 0)) ys ≡ 0
+total-nothing : (xs ys : List Exponents) → total (inside_list xs (λ _. 0)) ys ≡ 0
 total-nothing xs [] = refl
 total-nothing xs (y ∷ ys) = omega (arith, at (within xs y), total-nothing xs ys)
   where
@@ -377,7 +377,7 @@ brought-le f (d ∷ bs) b x c = at (Contains-cases d b bs c) (λ k. brought-le f
 multiple-brought : (b : MarkedPolynomial) (c : Fraction) (u x e : Exponents) → same x (plus u b.head) ≡ true →
     same x e ≡ false → HasMonomial (times c u b.poly) e → within (brought b x) e ≡ true
 multiple-brought b c u x e s n m = let r = found c u b.poly e m in
-    ap (λ t. within (if t then raised (minus x b.head) (except b.head (support b.poly)) else []) e) divides
+    ap (λ t. within (if t then all_raised (minus x b.head) (except b.head (support b.poly)) else []) e) divides
     ∙ within-raised (minus x b.head) r.0 e (except b.head (support b.poly)) (within-except b.head r.0 (support b.poly) (other r.0 r.2 (cases_Bool (same b.head r.0))) (support-all b.poly r.0 r.1)) (same_trans e (plus u r.0) (plus (minus x b.head) r.0) r.2 (same_shift_right r.0 u (minus x b.head) shift))
   where
     shift : same u (minus x b.head) ≡ true
@@ -396,7 +396,7 @@ work_in-step : (xs : List Exponents) (w : List ℕ) (bs : List MarkedPolynomial)
     work_in xs bs g < work_in xs bs f
 work_in-step xs w bs f g s m each here =
     let k = length xs in
-    let v = inside xs (height xs bs k) in
+    let v = inside_list xs (height xs bs k) in
     let alike : IsAlike v = inside-alike xs (height xs bs k) (height-alike xs bs k) in
     let there : within (support f) s.at ≡ true = support-all f s.at s.there in
     let cover : total v (support g) ≤ total v (except s.at (support f) ++ brought s.member s.at) =

@@ -17,7 +17,7 @@ use Rattle.gf_ideal.proofs.SettledLaws.{times_along, default}
 
 -- ---- the rule's steps are steps
 
-step-of_rule : (bs : List MarkedPolynomial) (f g : Terms) → IsRuleStep bs f g → IsStep (Contains bs) f g
+pub step-of_rule : (bs : List MarkedPolynomial) (f g : Terms) → IsRuleStep bs f g → IsStep (Contains bs) f g
 step-of_rule bs f g s = record { at = s.at; member = s.member; rest = s.rest; contained = (s.place, s.contained.within, s.contained.is); there = s.there; divides = s.divides; equal = s.equal }
 
 -- what the rule reaches is reached
@@ -27,7 +27,7 @@ normal_form-reached bs f g (IsRuleReached.next k l r s) = Reached.next k l (norm
 
 -- ---- one step at most
 
-no_divisor : (x h u : Exponents) → NoMultiple h x → same x (plus u h) ≡ true → ⊥
+pub no_divisor : (x h u : Exponents) → NoMultiple h x → same x (plus u h) ≡ true → ⊥
 no_divisor x h u n d = let f : same x (plus h u) ≡ false = n u in let t : same x (plus h u) ≡ true = ap (same x) (plus_comm h u) ∙ d in absurd (cc)
 
 divisible : (bs : List MarkedPolynomial) (f g : Terms) (s : IsRuleStep bs f g) → IsDivisible (Contains bs) s.at

@@ -21,9 +21,9 @@ except x [] = []
 except x (y ∷ ys) = if same x y then except x ys else (y ∷ except x ys)
 
 -- each monomial of the list times u
-abbrev pub raised : Exponents → List Exponents → List Exponents
-raised u [] = []
-raised u (y ∷ ys) = plus u y ∷ raised u ys
+abbrev pub all_raised : Exponents → List Exponents → List Exponents
+all_raised u [] = []
+all_raised u (y ∷ ys) = plus u y ∷ all_raised u ys
 
 -- the sum of a function over the list
 abbrev pub total : (Exponents → ℕ) → List Exponents → ℕ
@@ -82,7 +82,7 @@ box limit (suc n) = fronts limit (box limit n)
 
 -- what a step at x by b brings: the monomials of b but the marked one, raised to x
 abbrev pub brought : MarkedPolynomial → Exponents → List Exponents
-brought b x = if same x (plus (minus x b.head) b.head) then raised (minus x b.head) (except b.head (support b.poly)) else []
+brought b x = if same x (plus (minus x b.head) b.head) then all_raised (minus x b.head) (except b.head (support b.poly)) else []
 
 -- what a step at x by some member brings
 abbrev pub all_brought : List MarkedPolynomial → Exponents → List Exponents
@@ -90,17 +90,17 @@ all_brought [] x = []
 all_brought (b ∷ bs) x = brought b x ++ all_brought bs x
 
 -- f inside the list, 0 elsewhere
-abbrev pub inside : List Exponents → (Exponents → ℕ) → Exponents → ℕ
-inside xs f x = if within xs x then f x else 0
+abbrev pub inside_list : List Exponents → (Exponents → ℕ) → Exponents → ℕ
+inside_list xs f x = if within xs x then f x else 0
 
 -- 1, and the heights of all that a step at x may bring, at most k steps deep
 abbrev pub height : List Exponents → List MarkedPolynomial → ℕ → Exponents → ℕ
 height xs bs zero x = 1
-height xs bs (suc k) x = suc (total (inside xs (height xs bs k)) (all_brought bs x))
+height xs bs (suc k) x = suc (total (inside_list xs (height xs bs k)) (all_brought bs x))
 
 -- the heights of the monomials of f, as deep as the list is long
 abbrev pub work_in : List Exponents → List MarkedPolynomial → Terms → ℕ
-work_in xs bs f = total (inside xs (height xs bs (length xs))) (support f)
+work_in xs bs f = total (inside_list xs (height xs bs (length xs))) (support f)
 
 -- how much work the reduction of f may still have, in n variables with exponents below the limit
 abbrev pub work_left : ℕ → ℕ → List MarkedPolynomial → Terms → ℕ

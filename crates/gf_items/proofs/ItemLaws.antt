@@ -1,6 +1,6 @@
 -- Rings, sets, marked sets and vectors are read in one way.
 -- To cite: ring_once, set_once, nonzero_once, no_zero, first_zero, marked_set_once, vector_once. The rest are steps.
-use Rattle.std.specs.Prelude.{◌≡◌, ℕ, suc, List, [], ◌∷◌, ◌++◌, length, map, min, ◌-◌, ◌^◌, Result, ℤ}
+use Rattle.std.specs.Prelude.{◌≡◌, ℕ, suc, List, [], ◌∷◌, ◌++◌, length, map, min, ◌-◌, ◌^◌, ℤ}
 use Rattle.std.proofs.Common.{arith, refl, sym, ap, ◌∙◌, inl, inr}
 use Rattle.gf_poly.specs.Marking.{MarkedPolynomial, MarkedPolynomials}
 use Rattle.gf_text.specs.declared.error.TextError.{TextError}

@@ -1,6 +1,6 @@
 -- Lists of sets, of marked sets and of vectors, dimensions and names of new variables are read in one way.
 -- To cite: sets_once, marked_sets_once, marked_sets_variables, list_of_vectors_once, a_dimension_once, a_new_name_once. The rest are steps.
-use Rattle.std.specs.Prelude.{◌≡◌, ◌<◌, ℕ, suc, List, [], ◌∷◌, ◌++◌, length, All, min, ◌-◌, ◌^◌, Result, Ok, Err, ℤ}
+use Rattle.std.specs.Prelude.{◌≡◌, ℕ, suc, List, [], ◌∷◌, ◌++◌, length, All, min, ◌-◌, ◌^◌, Ok, Err, ℤ}
 use Rattle.std.specs.List.{AllByRecursion}
 use Rattle.std.proofs.Common.{arith, refl, sym, ap, ◌∙◌, subst, inl, inr}
 use Rattle.std.proofs.lemmas.List.Elements.{All-from_recursion}

@@ -61,6 +61,7 @@ abbrev pub ItemValues : ItemKind → List ItemKind → Type 0
 ItemValues k [] = ItemValue k
 ItemValues k (l ∷ ls) = ItemValue k × ItemValues l ls
 
+-- items of these kinds one behind another, each in the variables of the ring that was read last, first in these
 abbrev pub items_of : (k : ItemKind) (ks : List ItemKind) → List (List ℕ) → Item (ItemValues k ks)
 items_of k [] names = item_of k names
 items_of k (l ∷ ls) names = both (item_of k names) (λ v. items_of l ls (names_behind k v names))

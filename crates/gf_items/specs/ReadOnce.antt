@@ -37,5 +37,6 @@ pub record IsSourceReadOnce {A : Type 0} (item : Item A) (source : List ℕ) : T
   pub apart : (a : A) (e : TextError) → IsTextOf item source a → IsTextRefused item source e → IsSaid e → ⊥
   pub same : (e d : TextError) → IsTextRefused item source e → IsExact e → IsTextRefused item source d → IsSaid d → d ≡ e
 
+-- so it is with all sources of items of any kinds
 abbrev pub SourcesAreReadOnce : Type 0
 SourcesAreReadOnce = (k : ItemKind) (ks : List ItemKind) (source : List ℕ) → IsSourceReadOnce (items_from k ks) source

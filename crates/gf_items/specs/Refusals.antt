@@ -79,7 +79,3 @@ IsOfWork (refusals.BadRay number) = Unit {0}
 IsOfWork (refusals.ListLimit written) = Unit {0}
 IsOfWork refusals.Memory = Unit {0}
 IsOfWork _ = ⊥
-
--- a job may be refused so
-abbrev pub IsOfJob : Refusal → Type 0
-IsOfJob r = IsExactRefusal r ⊎ IsOfWork r

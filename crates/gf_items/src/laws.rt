@@ -1,4 +1,4 @@
-// Laws of what is read: each function ensures one, and does nothing.
+//! Laws of what is read: each function ensures one, and does nothing.
 ghost use Rattle.gf_items.specs.ReadOnce.{ItemsAreReadOnce, SourcesAreReadOnce};
 
 /// Items of any kinds, one behind another, are read from a place in one way at most, aren't refused where they are read but for want

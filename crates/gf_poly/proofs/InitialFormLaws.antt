@@ -166,12 +166,12 @@ pub record Heaviest (w : List ℤ) (f out : Terms) (m : ℤ) : Type 0 where
   pub above : AreAtMost w m f
   pub reached : ((f ≡ []) × (m <ℤ negsuc (2 ^ 101))) ⊎ IsReached w m f
 
-pushed : (f : Terms) (i : ℕ) (t : Term) → i < length f → t ≡ get_or f i t → take (i + 1) f ≡ take i f ++ t ∷ []
-pushed f i t h is = take_more f i t h ∙ ap (λ (s : Term). take i f ++ s ∷ []) (sym is)
+pub take-next : (f : Terms) (i : ℕ) (t : Term) → i < length f → t ≡ get_or f i t → take (i + 1) f ≡ take i f ++ t ∷ []
+take-next f i t h is = take_more f i t h ∙ ap (λ (s : Term). take i f ++ s ∷ []) (sym is)
 
 pub heavier_at : (w : List ℤ) (f out next : Terms) (i : ℕ) (t c : Term) (m k : ℤ) → i < length f → t ≡ get_or f i t → c ≡ t → k ≡ whole_weight w t.mono → m <ℤ k → next ≡ [] ++ c ∷ [] →
     Heaviest w (take i f) out m → Heaviest w (take (i + 1) f) next k
-heavier_at w f out next i t c m k h is ec e l en s = subst (λ (g : Terms). Heaviest w g next k) (sym (pushed f i t h is)) (record {
+heavier_at w f out next i t c m k h is ec e l en s = subst (λ (g : Terms). Heaviest w g next k) (sym (take-next f i t h is)) (record {
   items = en ∙ ap (λ (z : Term). z ∷ []) ec ∙ sym (of_weight-push w k (take i f) t ∙ ap (λ z. z ++ of_weight w k (t ∷ [])) (none_above w m k (take i f) s.above l) ∙ alone w k t (sym e));
   above = AreAtMost-push w m k (take i f) t s.above (omega (arith, ints)) (omega (arith, ints, e));
   reached = inr (IsReached-last w k (take i f) t (sym e));
@@ -182,7 +182,7 @@ pub as_heavy_at : (w : List ℤ) (f out next : Terms) (i : ℕ) (t c : Term) (m 
 as_heavy_at w f out next i t c m k l h is ec e em el en s =
     let er : whole_weight w t.mono ≡ l = sym e ∙ em ∙ sym el in
     let r : Heaviest w (take i f) out l = subst (Heaviest w (take i f) out) (sym el) s in
-    subst (λ (g : Terms). Heaviest w g next l) (sym (pushed f i t h is)) (record {
+    subst (λ (g : Terms). Heaviest w g next l) (sym (take-next f i t h is)) (record {
       items = en ∙ ap (λ (z : Term). out ++ z ∷ []) ec ∙ ap (λ z. z ++ t ∷ []) r.items ∙ sym (of_weight-push w l (take i f) t ∙ ap (λ z. of_weight w l (take i f) ++ z) (alone w l t er));
       above = AreAtMost-push w l l (take i f) t r.above (omega (arith, ints)) (omega (arith, ints, er));
       reached = inr (IsReached-last w l (take i f) t er);
@@ -192,7 +192,7 @@ pub lighter_at : (w : List ℤ) (f out next : Terms) (i : ℕ) (t : Term) (m k l
     Heaviest w (take i f) out m → Heaviest w (take (i + 1) f) next l
 lighter_at w f out next i t m k l h is e b lt el en s =
     let r : Heaviest w (take i f) out l = subst (Heaviest w (take i f) out) (sym el) s in
-    subst (λ (g : Terms). Heaviest w g next l) (sym (pushed f i t h is)) (record {
+    subst (λ (g : Terms). Heaviest w g next l) (sym (take-next f i t h is)) (record {
       items = en ∙ r.items ∙ sym (of_weight-push w l (take i f) t ∙ ap (λ z. of_weight w l (take i f) ++ z) (none w l t (λ q. absurd (omega (arith, ints, q, e, el)))) ∙ append-nil (of_weight w l (take i f)));
       above = AreAtMost-push w l l (take i f) t r.above (omega (arith, ints)) (omega (arith, ints, e, el));
       reached = elim r.reached [

@@ -39,7 +39,7 @@ nonzero_at (s ∷ f) zero t h is d = λ z. d.0 (ap (λ (w : Term). w.coef) (sym 
 nonzero_at (s ∷ f) (suc i) t h is d = nonzero_at f i t (omega arith) is d.2
 
 -- ---- monic
-nonzero_reciprocal : (k : Fraction) → k ≢ zero_ℚ → reciprocal_ℚ k ≢ zero_ℚ
+pub nonzero_reciprocal : (k : Fraction) → k ≢ zero_ℚ → reciprocal_ℚ k ≢ zero_ℚ
 nonzero_reciprocal k n z = zero-not-one (sym (zero-*ℚ k) ∙ ap (λ x. x *ℚ k) (sym z) ∙ reciprocal_ℚ-*ℚ k n)
 
 head_of-times : (c : Fraction) (f : Terms) (i : ℕ) → head_of (times c [] f) i ≡ head_of f i

@@ -109,7 +109,7 @@ IsAbove-times : (c : Fraction) (u x : Exponents) (f : Terms) → length x ≡ le
 IsAbove-times c u x [] l h a = tt
 IsAbove-times c u x (t ∷ f) l h a = (deglex-plus u x t.mono (sym l) (l ∙ sym h.0) ∙ a.0, IsAbove-times c u x f l h.1 a.1)
 
-nonzero_product : (c d : Fraction) → c ≢ zero_ℚ → d ≢ zero_ℚ → c *ℚ d ≢ zero_ℚ
+pub nonzero_product : (c d : Fraction) → c ≢ zero_ℚ → d ≢ zero_ℚ → c *ℚ d ≢ zero_ℚ
 nonzero_product c d h k z = elim (zero_of_*ℚ c d z) [ inl e ↦ h e | inr e ↦ k e ]
 
 IsDescending-times : (c : Fraction) (u : Exponents) (f : Terms) → c ≢ zero_ℚ → HasVariables (length u) f → IsDescending f → IsDescending (times c u f)
@@ -153,7 +153,7 @@ IsDescending-scaled c f h d p = elim (zero_or_not c) [
   | inr n ↦ subst IsDescending (sym (p.nonzero n)) (IsDescending-scale c f n d)
 ]
 
-HasVariables-scale : (n : ℕ) (c : Fraction) (f : Terms) → HasVariables n f → HasVariables n (times c [] f)
+pub HasVariables-scale : (n : ℕ) (c : Fraction) (f : Terms) → HasVariables n f → HasVariables n (times c [] f)
 HasVariables-scale n c [] h = tt
 HasVariables-scale n c (t ∷ f) h = (h.0, HasVariables-scale n c f h.1)
 

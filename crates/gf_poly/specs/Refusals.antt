@@ -25,6 +25,7 @@ IsRefusedBy operations sums errors.Memory = Unit {0}
 abbrev pub NoOperation : Op → Fraction → Fraction → Type 0
 NoOperation op left right = ⊥
 
+-- no sum of exponents
 abbrev pub NoSum : ℕ → ℕ → Type 0
 NoSum left right = ⊥
 

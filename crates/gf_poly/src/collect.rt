@@ -1,7 +1,6 @@
 //! From a list of terms to a descending one: a stable sort, then sums of like terms.
 
-ghost use Rattle.std.specs.Prelude.{◌≡◌, IfOk, IfErr};
-ghost use Rattle.gf_exponents.specs.Orders.{deglex};
+ghost use Rattle.std.specs.Prelude.{IfOk, IfErr};
 ghost use Rattle.gf_poly.specs.Polynomial.{SamePolynomial, IsDescending, KeepsVariables};
 ghost use Rattle.gf_poly.specs.Collecting.{HasLikeTerms, IsOrdered, LikeSumsFit, IsLikeSumCause};
 

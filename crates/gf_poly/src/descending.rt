@@ -9,7 +9,7 @@ ghost use Rattle.gf_poly.specs.Polynomial.{IsDescending};
 use super::Term;
 use std::cmp::Ordering;
 
-// Whether a term isn't zero and stands below the one before it.
+/// Whether a term isn't zero and stands below the one before it.
 fn follows(before: &Term, next: &Term) -> bool
     ensures { IsTrue result ↔ ((next.now.coef ≢ zero_ℚ) × (deglex before.now.mono next.now.mono ≡ Greater)) }
 {

@@ -24,7 +24,7 @@ impl Model for MarkedSet {
     ghost invariant = { λ s. HaveVariables s.variables s.items.items };
 }
 
-// Equal marked polynomials.
+/// Equal marked polynomials.
 fn copied(alloc: Global, items: &[Marked]) -> Result<Vec<Marked>, AllocError>
     ensures { IfOk result (λ h. h.items ≡ items.now) }
 {

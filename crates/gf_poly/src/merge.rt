@@ -1,6 +1,6 @@
 //! Sums and differences of descending lists of terms, in one pass.
 
-ghost use Rattle.std.specs.Prelude.{◌≡◌, ◌↔◌, ℕ, IfOk, IfErr, IsOk, OnOk};
+ghost use Rattle.std.specs.Prelude.{◌≡◌, ◌↔◌, IfOk, IfErr, IsOk, OnOk};
 ghost use Rattle.gf_frac.specs.Fraction.{◌+ℚ◌};
 ghost use Rattle.gf_frac.specs.Fits.{Fits};
 ghost use Rattle.gf_poly.specs.Polynomial.{IsDescending, KeepsBothVariables};
@@ -21,7 +21,7 @@ pub enum Sign {
     Minus,
 }
 
-// The coefficient with the sign.
+/// The coefficient with the sign.
 fn signed_coefficient(sign: Sign, c: &Frac) -> Frac
     ensures { result ≡ signed sign c.now }
 {
@@ -31,7 +31,7 @@ fn signed_coefficient(sign: Sign, c: &Frac) -> Frac
     }
 }
 
-// The term with the sign.
+/// The term with the sign.
 fn signed_term(sign: Sign, t: &Term) -> Term
     ensures { result ≡ record { coef = signed sign t.now.coef; mono = t.now.mono } }
 {
@@ -41,7 +41,7 @@ fn signed_term(sign: Sign, t: &Term) -> Term
     }
 }
 
-// The sum, or the difference, of two coefficients.
+/// The sum, or the difference, of two coefficients.
 fn combined(sign: Sign, a: &Frac, b: &Frac) -> Result<Frac, Overflow>
     ensures value { IfOk result (λ x. x ≡ a.now +ℚ signed sign b.now) }
     ensures fits { IsOk result ↔ Fits (operation sign) a.now b.now }

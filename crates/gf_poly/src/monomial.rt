@@ -11,7 +11,7 @@ use std::alloc::Global;
 use std::cmp::Ordering;
 use std::marker::Model;
 
-// The greatest exponent.
+/// The greatest exponent.
 const MOST: u32 = (1 << 31) - 1;
 
 /// A monomial, as the list of its exponents, the first variable first.
@@ -40,7 +40,7 @@ pub struct ExponentOverflow {
     pub right: u64,
 }
 
-// The sum of the exponents.
+/// The sum of the exponents.
 fn total_of(exponents: &[u32]) -> u64
     requires room { length exponents.now ≤ ROOM }
     requires limit { All (λ x. x < 2 ^ 31) exponents.now }
@@ -53,7 +53,7 @@ fn total_of(exponents: &[u32]) -> u64
     total
 }
 
-// The word of the variables that occur, the first variable's bit the highest of `ROOM`: set where the exponent is another than 0.
+/// The word of the variables that occur, the first variable's bit the highest of `ROOM`: set where the exponent is another than 0.
 fn word_of(exponents: &[u32]) -> u32
     requires { length exponents.now ≤ ROOM }
     ensures { IsWordOf exponents.now result }
@@ -67,7 +67,7 @@ fn word_of(exponents: &[u32]) -> u32
     word
 }
 
-// The exponents of the product, or the first two whose sum is above the limit.
+/// The exponents of the product, or the first two whose sum is above the limit.
 fn sums(x: &[u32], y: &[u32]) -> Result<[u32; ROOM], ExponentOverflow>
     requires same_variables { length x.now ≡ length y.now }
     requires left { IsMonomial x.now }
@@ -90,22 +90,22 @@ fn sums(x: &[u32], y: &[u32]) -> Result<[u32; ROOM], ExponentOverflow>
     Ok(all)
 }
 
-// Whether each variable of the word `x` is one of the word `y`.
+/// Whether each variable of the word `x` is one of the word `y`.
 fn is_within(x: u32, y: u32) -> bool
     ensures { IsTrue result ↔ (bit_and x y ≡ x) }
 {
     x & y == x
 }
 
-// Whether a variable is in one of the two words alone, and none before the first such one is in both. Monomials with these
-// words then compare by lex as the words do.
+/// Whether a variable is in one of the two words alone, and none before the first such one is in both. Monomials with these
+/// words then compare by lex as the words do.
 fn words_decide(x: u32, y: u32) -> bool
     ensures { IsTrue result ↔ (bit_and x y < bit_xor x y) }
 {
     x & y < x ^ y
 }
 
-// Whether each exponent of `x` is at most that of `y`.
+/// Whether each exponent of `x` is at most that of `y`.
 fn is_below(x: &[u32], y: &[u32]) -> bool
     requires { length x.now ≡ length y.now }
     ensures { IsTrue result ↔ Divides x.now y.now }
@@ -118,7 +118,7 @@ fn is_below(x: &[u32], y: &[u32]) -> bool
     true
 }
 
-// The exponents of `x` less those of `y`.
+/// The exponents of `x` less those of `y`.
 fn differences(x: &[u32], y: &[u32]) -> [u32; ROOM]
     requires same_variables { length x.now ≡ length y.now }
     requires room { length x.now ≤ ROOM }
@@ -132,7 +132,7 @@ fn differences(x: &[u32], y: &[u32]) -> [u32; ROOM]
     all
 }
 
-// The greater exponent of each variable.
+/// The greater exponent of each variable.
 fn maxima(x: &[u32], y: &[u32]) -> [u32; ROOM]
     requires same_variables { length x.now ≡ length y.now }
     requires room { length x.now ≤ ROOM }
@@ -145,7 +145,7 @@ fn maxima(x: &[u32], y: &[u32]) -> [u32; ROOM]
     all
 }
 
-// The exponents, and zeros behind them.
+/// The exponents, and zeros behind them.
 fn padded(exponents: &[u32]) -> [u32; ROOM]
     requires { length exponents.now ≤ ROOM }
     ensures { take (length exponents.now) result ≡ exponents.now }
@@ -184,7 +184,7 @@ impl Mono {
         }
     }
 
-    // The monomial with the first `n` of these exponents, whose sum and word are known.
+    /// The monomial with the first `n` of these exponents, whose sum and word are known.
     fn known(alloc: Global, all: [u32; ROOM], n: usize, total: u64, word: u32) -> Mono
         requires room { n ≤ ROOM }
         requires exponents { IsMonomial (take n all) }
@@ -228,7 +228,7 @@ impl Mono {
         self.total
     }
 
-    // The word of the variables that occur.
+    /// The word of the variables that occur.
     fn word(&self) -> u32
         ensures { IsWordOf self.now result }
     {
@@ -333,7 +333,7 @@ impl Mono {
         )
     }
 
-    // The comparison by lex: the first exponent that differs decides. Where the words do, no exponent is looked at.
+    /// The comparison by lex: the first exponent that differs decides. Where the words do, no exponent is looked at.
     fn compare_by_lex(&self, other: &Mono) -> Ordering
         ensures { result ≡ lex self.now other.now }
     {

@@ -1,6 +1,6 @@
 //! Polynomials: descending lists of terms.
 
-ghost use Rattle.std.specs.Prelude.{◌≡◌, ◌≢◌, ◌↔◌, ℕ, [], length, IfOk, IfErr, IsTrue};
+ghost use Rattle.std.specs.Prelude.{◌≡◌, ◌≢◌, ◌↔◌, [], length, IfOk, IfErr, IsTrue};
 ghost use Rattle.gf_frac.specs.Fraction.{reciprocal_ℚ, zero_ℚ};
 ghost use Rattle.gf_frac.specs.declared.refusal.Op.TheVariants.{Add, Sub};
 ghost use Rattle.gf_poly.specs.declared.products.Scaling.TheVariants.{Times, Over};
@@ -39,14 +39,14 @@ impl Model for Poly {
     ghost invariant = { λ p. IsDescending p.terms.items };
 }
 
-// The coefficient 0.
+/// The coefficient 0.
 fn zero_coefficient() -> Frac
     ensures { result ≡ zero_ℚ }
 {
     Frac::ZERO
 }
 
-// The coefficient at a monomial, in a descending list.
+/// The coefficient at a monomial, in a descending list.
 fn found(terms: &[Term], at: &Mono) -> Frac
     requires descending { IsDescending terms.now }
     requires same_variables { HasVariables (length at.now) terms.now }
@@ -64,7 +64,7 @@ fn found(terms: &[Term], at: &Mono) -> Frac
     zero_coefficient()
 }
 
-// Equal terms.
+/// Equal terms.
 fn copied(alloc: Global, terms: &[Term]) -> Result<Vec<Term>, AllocError>
     ensures { IfOk result (λ h. h.items ≡ terms.now) }
 {

@@ -19,7 +19,7 @@ pub enum Scaling {
     Over,
 }
 
-// The product of `by` and the coefficient, or the quotient by it.
+/// The product of `by` and the coefficient, or the quotient by it.
 fn scaled_coefficient(kind: Scaling, by: &Frac, c: &Frac) -> Result<Frac, Overflow>
     requires { MayScale kind by.now }
     ensures value { IfOk result (λ x. x ≡ factor kind by.now *ℚ c.now) }

@@ -1,8 +1,7 @@
 -- The checks one after another, as the calls make them: `by` are the monic forms of s, as their set lends them.
--- To cite: forms_by, weight_by, shared_by, few_by, taken, taken_reduced, tested, membership_told.
-use Rattle.std.specs.Prelude.{◌≡◌, ◌↔◌, ℕ, ◌<◌, Bool, true, false, List, [], length, map, IsTrue}
+-- To cite: forms_by, weight_by, shared_by, taken, taken_reduced, tested, membership_told.
+use Rattle.std.specs.Prelude.{◌≡◌, ◌↔◌, ℕ, Bool, true, false, List, [], map, IsTrue}
 use Rattle.std.proofs.Common.{refl, sym, ap, ◌∙◌, subst}
-use Rattle.std.proofs.lemmas.List.{length-map}
 use Rattle.gf_poly.specs.Polynomial.{Terms, coefficient, IsDescending, HasVariables}
 use Rattle.gf_poly.proofs.CoefficientLaws.{descending_unique}
 use Rattle.gf_poly.specs.Marking.{MarkedPolynomial, MarkedPolynomials, Each, HaveVariables, HasMarkedTerm, IsArranged, polys}
@@ -31,9 +30,6 @@ weight_by s by q r = subst HasSomeWeight (sym q) (some_weight s.variables s.item
 
 pub shared_by : (n : ℕ) (by bs : List MarkedPolynomial) → by ≡ bs → HaveVariables n bs → MembersShareVariables by
 shared_by n by bs q v = record { n = n; each = subst (HaveVariables n) (sym q) v }
-
-pub few_by : (s : MarkedPolynomials) (by : List MarkedPolynomial) (most : ℕ) → by ≡ map monic_of s.items → length s.items < most → length by < most
-few_by s by most q l = subst (λ (k : ℕ). k < most) (sym (ap (λ (z : List MarkedPolynomial). length z) q ∙ length-map s.items monic_of)) l
 
 -- ---- a set is taken
 

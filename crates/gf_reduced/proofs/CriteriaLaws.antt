@@ -1,17 +1,16 @@
 -- Pairs that a criterion settles, or whose S-polynomial reduces to zero, are settled, so that they make a Gröbner basis.
--- To cite: coprime_by_test, excused_coprime, excused_divided, divided_before, failing_by, marks_long, multiple_variables,
--- PassedBefore, passed_next, AllPassedBefore, all_passed_next, vanish_passed, passed_groebner. The rest are steps.
-use Rattle.std.specs.Prelude.{◌≡◌, ◌≢◌, ◌⊎◌, ℕ, zero, suc, ◌+◌, ◌<◌, ◌≤◌, Bool, true, false, List, [], length, max, IsTrue, Contains, map}
+-- To cite: coprime_by_test, excused_coprime, excused_divided, divided_before, marks_long, multiple_variables, PassedBefore,
+-- AllPassedBefore, all_passed_next, vanish_passed, passed_groebner. The rest are steps.
+use Rattle.std.specs.Prelude.{◌≡◌, ◌⊎◌, ℕ, zero, suc, ◌+◌, ◌<◌, ◌≤◌, Bool, List, [], length, max, IsTrue, Contains, map}
 use Rattle.std.proofs.Common.{arith, refl, sym, ap, ◌∙◌, subst, inl, inr, eqb}
 use Rattle.std.proofs.lemmas.Bool.{cases_lt}
 use Rattle.std.proofs.lemmas.Slice.Eq.{slice_eq-Decides}
 use Rattle.std.proofs.lemmas.Bool.Decides.{Decides-eqb}
 use lib.Pointwise.{pointwise}
-use Rattle.gf_exponents.specs.Exponents.{Exponents, entry, plus, join, same, Divides, AreCoprime}
+use Rattle.gf_exponents.specs.Exponents.{Exponents, entry, plus, join, Divides, AreCoprime}
 use Rattle.gf_exponents.specs.Orders.{lighter}
 use Rattle.gf_exponents.proofs.ExponentsLaws.{entry-plus, entry-join}
 use Rattle.gf_exponents.proofs.OrderLaws.{lighter-strict}
-use Rattle.gf_poly.specs.Polynomial.{Terms}
 use Rattle.gf_poly.specs.Marking.{MarkedPolynomial, HaveVariables, HasMarkedTerm, polys}
 use Rattle.gf_ideal.specs.Membership.{AreInVariables}
 use Rattle.gf_ideal.specs.Marks.{AreMarked, IsRealisable}
@@ -23,8 +22,8 @@ use Rattle.gf_division.proofs.ReducerLaws.{members_equal, member_contained, memb
 use Rattle.gf_division.proofs.SPolynomialLaws.{join_length}
 use Rattle.gf_reduced.specs.Forms.{monic_of}
 use Rattle.gf_reduced.specs.Markings.{IsMarkedGroebnerBasis}
-use Rattle.gf_reduced.specs.Pairs.{IsRemainderAt, Vanishes, DoAllVanish}
-use Rattle.gf_reduced.specs.Criteria.{IsDividedBefore, IsPairExcused, IsPassed, ArePassedFrom, AreAllPassed, HasFailing}
+use Rattle.gf_reduced.specs.Pairs.{Vanishes, DoAllVanish}
+use Rattle.gf_reduced.specs.Criteria.{IsDividedBefore, IsPairExcused, IsPassed, ArePassedFrom, AreAllPassed}
 use Rattle.gf_reduced.proofs.FormLaws.{forms-variables, forms_marked_by}
 use Rattle.gf_reduced.proofs.GroebnerLaws.{polys_variables, s_at, groebner_of_forms}
 
@@ -55,9 +54,6 @@ excused_divided bs i j b c x y m p q e f g d = record { first = b; second = c; a
 pub divided_before : (bs : List MarkedPolynomial) (i k : ℕ) (b : MarkedPolynomial) (h x : Exponents) → IsAt bs k b → k < i → h ≡ b.head → Divides h x → IsDividedBefore bs i x
 divided_before bs i k b h x p l e d = record { place = k; before = l; member = b; at = p; divides = subst (λ (z : Exponents). Divides z x) e d }
 
-pub failing_by : (bs : List MarkedPolynomial) (i j : ℕ) (r : Terms) → IsRemainderAt bs i j r → r ≢ [] → HasFailing bs
-failing_by bs i j r p n = record { first = i; second = j; rest = r; remainder = p; nonzero = n }
-
 -- ---- variables
 
 pub marks_long : (n : ℕ) (bs : List MarkedPolynomial) (i : ℕ) (b : MarkedPolynomial) (x : Exponents) → HaveVariables n bs → IsAt bs i b → HasMarkedTerm b → x ≡ b.head → length x ≡ n
@@ -70,14 +66,6 @@ multiple_variables n bs x y m v p q e = subst (λ (k : ℕ). HaveVariables k bs)
 
 abbrev pub PassedBefore : List MarkedPolynomial → ℕ → ℕ → Type 0
 PassedBefore bs i j = (k : ℕ) → i < k → k < j → IsPassed bs i k
-
--- one pair more
-pub passed_next : (bs : List MarkedPolynomial) (i j : ℕ) → IsPassed bs i j → PassedBefore bs i j → PassedBefore bs i (j + 1)
-passed_next bs i j p h k l m = at (cases_lt k j)
-  where
-    at : (k < j) ⊎ (j ≤ k) → IsPassed bs i k
-    at (inl q) = h k l q
-    at (inr q) = let e : j ≡ k = omega arith in subst (IsPassed bs i) e p
 
 abbrev pub AllPassedBefore : List MarkedPolynomial → ℕ → Type 0
 AllPassedBefore bs i = (k : ℕ) → k < i → ArePassedFrom bs k

@@ -1,20 +1,21 @@
 -- Monic forms as code makes them: they are the polynomials times the reciprocals of the marked coefficients.
--- To cite: monic_exact, Forming, item_refused, some_variables, forms_kept, forms_marked, forms-variables, AreThere, realised_there, is_form, are_forms, form_canonical,
--- form_of, form_there, forms_marked_by.
+-- To cite: monic_exact, Forming, item_refused, forms_kept, forms_marked, forms-variables, AreThere, realised_there, is_form,
+-- are_forms, form_canonical, form_of, form_there, forms_marked_by.
 use Rattle.std.specs.Prelude.{◌≡◌, ◌≢◌, ◌⊎◌, ℕ, ◌<◌, ◌≤◌, List, [], ◌∷◌, length, map, Contains}
 use Rattle.std.proofs.Common.{arith, refl, sym, ap, ◌∙◌, subst, get_or, take, inl, inr}
 use Rattle.std.proofs.lemmas.List.{take_all}
 use Rattle.gf_frac.specs.Fraction.{Fraction, ◌*ℚ◌, reciprocal_ℚ, zero_ℚ}
-use Rattle.gf_frac.proofs.FractionLaws.{*ℚ_assoc, *ℚ-reciprocal_ℚ, reciprocal_ℚ-*ℚ, one-*ℚ, zero-*ℚ, zero-not-one}
+use Rattle.gf_frac.proofs.FractionLaws.{*ℚ_assoc, *ℚ-reciprocal_ℚ, one-*ℚ}
 use Rattle.gf_exponents.proofs.ExponentsLaws.{same-refl}
 use Rattle.gf_poly.specs.declared.error.PolyError.{PolyError}
 use Rattle.gf_poly.specs.declared.error.PolyError.TheVariants as errors
 use Rattle.gf_poly.specs.Polynomial.{Terms, coefficient, times, HasVariables}
 use Rattle.gf_poly.specs.Products.{HasProducts}
 use Rattle.gf_poly.specs.Marking.{MarkedPolynomial, Each, HaveVariables, HasMarkedTerm, IsMonicOf, IsMonicCause}
-use Rattle.gf_poly.proofs.CoefficientLaws.{descending_unique}
+use Rattle.gf_poly.proofs.CoefficientLaws.{descending_unique, term_coefficient, term_nonzero}
 use Rattle.gf_poly.proofs.PolynomialLaws.{coefficient-times}
-use Rattle.gf_poly.proofs.ProductLaws.{IsDescending-scaled, KeepsVariables-scaled, IsScaled-products}
+use Rattle.gf_poly.proofs.ProductLaws.{IsDescending-scaled, KeepsVariables-scaled, IsScaled-products, HasVariables-scale}
+use Rattle.gf_poly.proofs.MarkingLaws.{nonzero_reciprocal}
 use Rattle.gf_exponents.specs.Orders.{lighter}
 use Rattle.gf_ideal.specs.Membership.{HasMonomial}
 use Rattle.gf_ideal.specs.Marks.{AreMarked, IsRealisedBy, IsRealisable}
@@ -24,15 +25,10 @@ use Rattle.gf_ideal.proofs.KeptForms.{marked_there, canonical_marked}
 use Rattle.gf_ideal.proofs.GeneratorLaws.{monic-from}
 use Rattle.gf_ideal.proofs.ListLaws.{Contains-cases, Contains-here, Contains-there}
 use Rattle.gf_ideal.proofs.MarkWeights.{monic_realised}
-use Rattle.gf_division.specs.MonicForms.{HasSomeVariables}
-use Rattle.gf_division.proofs.StepLaws.{term_coefficient, term_nonzero}
-use Rattle.gf_division.proofs.ReducerLaws.{member_at, member_contained, member_variables}
+use Rattle.gf_division.proofs.ReducerLaws.{member_at, member_contained}
 use Rattle.gf_reduced.specs.Forms.{monic_of, IsFormRefusal}
 
 -- ---- one of them
-
-nonzero_reciprocal : (k : Fraction) → k ≢ zero_ℚ → reciprocal_ℚ k ≢ zero_ℚ
-nonzero_reciprocal k n z = zero-not-one (sym (zero-*ℚ k) ∙ ap (λ x. x *ℚ k) (sym z) ∙ reciprocal_ℚ-*ℚ k n)
 
 scaled : (k : Fraction) (f : Terms) → k ≢ zero_ℚ → HasProducts (reciprocal_ℚ k) [] f (times (reciprocal_ℚ k) [] f)
 scaled k f n = record { nonzero = λ _. refl; zero = λ z. absurd (nonzero_reciprocal k n z) }
@@ -55,13 +51,9 @@ monic_exact n f g v m d q = λ i. record { poly = terms i; head = q.head i }
 
 -- ---- all of them
 
-times-variables : (n : ℕ) (k : Fraction) (f : Terms) → HasVariables n f → HasVariables n (times k [] f)
-times-variables n k [] h = tt
-times-variables n k (t ∷ f) h = (h.0, times-variables n k f h.1)
-
 pub forms-variables : (n : ℕ) (bs : List MarkedPolynomial) → HaveVariables n bs → HaveVariables n (map monic_of bs)
 forms-variables n [] h = tt
-forms-variables n (b ∷ bs) h = (times-variables n (reciprocal_ℚ (coefficient b.poly b.head)) b.poly h.0, forms-variables n bs h.1)
+forms-variables n (b ∷ bs) h = (HasVariables-scale n (reciprocal_ℚ (coefficient b.poly b.head)) b.poly h.0, forms-variables n bs h.1)
 
 -- the monic forms of the first i members, which are marked
 pub record Forming (bs forms : List MarkedPolynomial) (i : ℕ) : Type 0 where
@@ -95,7 +87,7 @@ are_forms (b ∷ bs) h = (is_form b (h b (Contains-here b bs)), same-refl b.head
 -- and are kept as the members are
 pub form_canonical : (n : ℕ) (b : MarkedPolynomial) → HasVariables n b.poly → HasMarkedTerm b → IsCanonical n (monic_of b)
 form_canonical n b v m = record {
-  variables = times-variables n (reciprocal_ℚ k) b.poly v;
+  variables = HasVariables-scale n (reciprocal_ℚ k) b.poly v;
   descending = IsDescending-scaled (reciprocal_ℚ k) b.poly (times (reciprocal_ℚ k) [] b.poly) m.descending (scaled k b.poly (marked_there n b v m));
   head = (canonical_marked n b v m).head;
 }
@@ -135,9 +127,6 @@ form_refused bs i b errors.Memory l q h = tt
 
 pub item_refused : (bs items : List MarkedPolynomial) (i : ℕ) (b : MarkedPolynomial) (e : PolyError) → items ≡ bs → i < length items → b ≡ get_or items i b → IsMonicCause b e → IsFormRefusal bs e
 item_refused bs items i b e q l k h = subst (λ (cs : List MarkedPolynomial). IsFormRefusal cs e) q (form_refused items i b e l k h)
-
-pub some_variables : (n : ℕ) (bs items : List MarkedPolynomial) (i : ℕ) (b : MarkedPolynomial) → items ≡ bs → HaveVariables n bs → i < length items → b ≡ get_or items i b → HasSomeVariables b
-some_variables n bs items i b e v l q = record { n = n; each = member_variables n items b (subst (HaveVariables n) (sym e) v) (member_contained items i b (member_at items i b l q)) }
 
 pub forms_kept : (n k : ℕ) (bs items forms : List MarkedPolynomial) (i : ℕ) → k ≡ n → items ≡ bs → HaveVariables n bs → length items ≤ i → Forming items forms i → HaveVariables k forms
 forms_kept n k bs items forms i q e v l h = subst (λ (j : ℕ). HaveVariables j forms) (sym q) (subst (HaveVariables n) (sym ((Forming-end items forms i l h).0 ∙ ap (map monic_of) e)) (forms-variables n bs v))

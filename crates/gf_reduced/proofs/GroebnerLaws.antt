@@ -2,7 +2,7 @@
 -- To cite: polys_variables, some_weight, s_at, groebner_of_forms, failing_refutes, basis_of.
 use Rattle.std.specs.Prelude.{◌≡◌, ◌≢◌, ℕ, true, List, [], map, Contains, IsPermutation}
 use Rattle.std.proofs.Common.{sym, subst}
-use Rattle.std.proofs.lemmas.List.Sorted.{Contains-permutation, IsPermutation-sym}
+use Rattle.std.proofs.lemmas.List.Sorted.{Contains-permutation}
 use Rattle.gf_exponents.specs.Exponents.{Exponents, same, plus}
 use Rattle.gf_exponents.specs.Orders.{lighter}
 use Rattle.gf_poly.specs.Polynomial.{Terms, HasVariables}
@@ -22,7 +22,7 @@ use Rattle.gf_ideal.proofs.NormalFormLaws.{normal_form-reached}
 use Rattle.gf_ideal.proofs.GeneratorLaws.{monic_list}
 use Rattle.gf_ideal.proofs.MarkWeights.{mark-there}
 use Rattle.gf_ideal.proofs.BasisLaws.{remainder_zero, basis_of_groebner, basis_along}
-use Rattle.gf_ideal.proofs.ArrangementLaws.{basis-arranged}
+use Rattle.gf_ideal.proofs.ArrangementLaws.{basis-arranged, members_from}
 use Rattle.gf_division.specs.NormalForms.{HasSomeWeight}
 use Rattle.gf_division.proofs.ReducerLaws.{members_equal, member_contained}
 use Rattle.gf_reduced.specs.Forms.{monic_of, monic_set}
@@ -119,9 +119,6 @@ failing_refutes n bs i j r v p z g =
 
 -- ---- arranged
 
-members_back : (bs cs : List MarkedPolynomial) → IsPermutation bs cs → (c : MarkedPolynomial) → Contains cs c → Contains bs c
-members_back bs cs p c k = Contains-permutation cs bs c (IsPermutation-sym bs cs p) k
-
 -- in any order the members generate the same ideal
 permuted_ideal : (n : ℕ) (bs cs : List MarkedPolynomial) → HaveVariables n bs → IsPermutation bs cs → AreSameIdeal n (polys bs) (polys cs)
 permuted_ideal n bs cs v p = same_ideal n (polys bs) (polys cs) (polys_variables n bs v) (λ f k. polys_variables n bs v f (back f k)) (λ f k. member-generator n (polys cs) f (there f k)) (λ f k. member-generator n (polys bs) f (back f k))
@@ -130,7 +127,7 @@ permuted_ideal n bs cs v p = same_ideal n (polys bs) (polys cs) (polys_variables
     there f k = let b = Contains-marked bs f k in subst (λ (g : Terms). Contains (polys cs) g) b.2 (Contains-polys cs b.0 (Contains-permutation bs cs b.0 p b.1))
 
     back : (f : Terms) → Contains (polys cs) f → Contains (polys bs) f
-    back f k = let c = Contains-marked cs f k in subst (λ (g : Terms). Contains (polys bs) g) c.2 (Contains-polys bs c.0 (members_back bs cs p c.0 c.1))
+    back f k = let c = Contains-marked cs f k in subst (λ (g : Terms). Contains (polys bs) g) c.2 (Contains-polys bs c.0 (members_from bs cs p c.0 c.1))
 
 both_ideals : (n : ℕ) (fs gs hs : List Terms) → AreSameIdeal n fs gs → AreSameIdeal n gs hs → AreSameIdeal n fs hs
 both_ideals n fs gs hs s t = record { inside = λ f m. t.inside f (s.inside f m); back = λ f m. s.back f (t.back f m) }

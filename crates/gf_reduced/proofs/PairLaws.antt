@@ -1,51 +1,22 @@
 -- Pairs of members, and the normal forms of their S-polynomials.
 -- To cite: pair_at, pair_variables, remainder_of, s_refused, reduction_refused, VanishBefore, vanish_next, AllVanishBefore.
-use Rattle.std.specs.Prelude.{◌≡◌, ◌⊎◌, ℕ, ◌+◌, ◌<◌, ◌≤◌, true, List, [], length}
-use Rattle.std.proofs.Common.{arith, sym, ap, ◌∙◌, subst, get_or, inl, inr}
+use Rattle.std.specs.Prelude.{◌≡◌, ◌⊎◌, ℕ, ◌+◌, ◌<◌, ◌≤◌, List, [], length}
+use Rattle.std.proofs.Common.{arith, subst, get_or, inl, inr}
 use Rattle.std.proofs.lemmas.Bool.{cases_lt}
-use Rattle.gf_frac.specs.Fraction.{◌+ℚ◌, ◌*ℚ◌, neg_ℚ, one_ℚ}
-use Rattle.gf_frac.proofs.FractionLaws.{one-*ℚ}
-use Rattle.gf_exponents.specs.Exponents.{Exponents, same, plus, join}
+use Rattle.gf_frac.specs.Fraction.{one_ℚ}
 use Rattle.gf_poly.specs.declared.error.PolyError.{PolyError}
 use Rattle.gf_poly.specs.declared.error.PolyError.TheVariants as errors
-use Rattle.gf_poly.specs.Polynomial.{Terms, coefficient, times, SamePolynomial, IsDescending, KeepsVariables}
+use Rattle.gf_poly.specs.Polynomial.{Terms, coefficient, IsDescending, KeepsVariables}
 use Rattle.gf_poly.specs.Marking.{MarkedPolynomial, HaveVariables}
-use Rattle.gf_poly.proofs.PolynomialLaws.{coefficient-++, SamePolynomial-times}
-use Rattle.gf_ideal.specs.Reduction.{IsSPolynomial}
 use Rattle.gf_ideal.specs.NormalForms.{IsNormalForm}
 use Rattle.gf_ideal.specs.Settled.{IsAt}
-use Rattle.gf_division.specs.MonicForms.{IsMadeMonic}
 use Rattle.gf_division.specs.NormalForms.{HasSomeWeight, HaveSameVariables}
 use Rattle.gf_division.specs.SPolynomials.{ArePairOf, KeepsPairVariables, IsSPolynomialOf, IsPairRefusal}
 use Rattle.gf_division.specs.Steps.{IsReductionRefusal}
 use Rattle.gf_division.proofs.ReducerLaws.{member_at, member_contained, member_variables}
+use Rattle.gf_division.proofs.SPolynomialLaws.{s_polynomial_of_monic}
 use Rattle.gf_reduced.specs.Pairs.{MembersShareVariables, IsRemainderAt, Vanishes, VanishFrom}
 use Rattle.gf_reduced.specs.Refusals.{IsPairCause, IsPairsRefusal}
-
--- ---- S-polynomials of monic ones
-
--- a monic polynomial made monic is the same one
-monic-same : (b l : MarkedPolynomial) → coefficient b.poly b.head ≡ one_ℚ → IsMadeMonic b l → SamePolynomial l.poly b.poly
-monic-same b l o m x = sym (one-*ℚ (coefficient l.poly x)) ∙ ap (λ z. z *ℚ coefficient l.poly x) (sym o ∙ ap (coefficient b.poly) (sym m.head)) ∙ m.form.equation x
-
-s_of_monic : (b c : MarkedPolynomial) (s : Terms) → coefficient b.poly b.head ≡ one_ℚ → coefficient c.poly c.head ≡ one_ℚ → IsSPolynomialOf b c s → IsSPolynomial b c s
-s_of_monic b c s ob oc h = record {
-  left = h.value.left;
-  right = h.value.right;
-  of_left = subst (λ (x : Exponents). same (plus h.value.left x) (join x c.head) ≡ true) hb (subst (λ (y : Exponents). same (plus h.value.left h.left.head) (join h.left.head y) ≡ true) hc h.value.of_left);
-  of_right = subst (λ (y : Exponents). same (plus h.value.right y) (join b.head y) ≡ true) hc (subst (λ (x : Exponents). same (plus h.value.right h.right.head) (join x h.right.head) ≡ true) hb h.value.of_right);
-  equal = λ x.
-      h.value.equal x ∙ coefficient-++ (times one_ℚ h.value.left h.left.poly) (times (neg_ℚ one_ℚ) h.value.right h.right.poly) x
-      ∙ ap (λ z. z +ℚ coefficient (times (neg_ℚ one_ℚ) h.value.right h.right.poly) x) (SamePolynomial-times one_ℚ h.value.left h.left.poly b.poly (monic-same b h.left ob h.monic.left) x)
-      ∙ ap (λ z. coefficient (times one_ℚ h.value.left b.poly) x +ℚ z) (SamePolynomial-times (neg_ℚ one_ℚ) h.value.right h.right.poly c.poly (monic-same c h.right oc h.monic.right) x)
-      ∙ sym (coefficient-++ (times one_ℚ h.value.left b.poly) (times (neg_ℚ one_ℚ) h.value.right c.poly) x);
-}
-  where
-    hb : h.left.head ≡ b.head
-    hb = h.monic.left.head
-
-    hc : h.right.head ≡ c.head
-    hc = h.monic.right.head
 
 -- ---- one pair
 
@@ -83,7 +54,7 @@ remainder_of bs i j b c f r p s k h d v = record {
   at_first = p.first;
   at_second = p.second;
   s = f;
-  is_s = s_of_monic b c f p.first_monic p.second_monic s;
+  is_s = s_polynomial_of_monic b c f p.first_monic p.second_monic s;
   normal_form = h;
   descending = d;
   variables = λ n u. v.at n (k.at n (p.are n u));
@@ -97,8 +68,8 @@ s_refused bs i j b c (errors.Exponent o) p h = IsPairCause.s_polynomial b c (mem
 s_refused bs i j b c errors.Memory p h = tt
 
 pub reduction_refused : (bs : List MarkedPolynomial) (i j : ℕ) (b c : MarkedPolynomial) (f : Terms) (e : PolyError) → IsPairAt bs i j b c → IsSPolynomialOf b c f → IsReductionRefusal bs f e → IsPairsRefusal bs e
-reduction_refused bs i j b c f (errors.Overflow o) p s h = IsPairCause.reduction b c f (member_contained bs i b p.first) (member_contained bs j c p.second) (s_of_monic b c f p.first_monic p.second_monic s) h
-reduction_refused bs i j b c f (errors.Exponent o) p s h = IsPairCause.reduction b c f (member_contained bs i b p.first) (member_contained bs j c p.second) (s_of_monic b c f p.first_monic p.second_monic s) h
+reduction_refused bs i j b c f (errors.Overflow o) p s h = IsPairCause.reduction b c f (member_contained bs i b p.first) (member_contained bs j c p.second) (s_polynomial_of_monic b c f p.first_monic p.second_monic s) h
+reduction_refused bs i j b c f (errors.Exponent o) p s h = IsPairCause.reduction b c f (member_contained bs i b p.first) (member_contained bs j c p.second) (s_polynomial_of_monic b c f p.first_monic p.second_monic s) h
 reduction_refused bs i j b c f errors.Memory p s h = tt
 
 -- ---- the loops

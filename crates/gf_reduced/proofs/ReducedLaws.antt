@@ -1,10 +1,10 @@
 -- A Gröbner basis for its marking without terms that offend is the reduced one.
 -- To cite: reduced_of.
-use Rattle.std.specs.Prelude.{◌≡◌, ◌≢◌, ◌⊎◌, ℕ, suc, Bool, true, false, if◌then◌else◌, List, [], ◌∷◌, map, Contains}
+use Rattle.std.specs.Prelude.{◌≡◌, ◌≢◌, ℕ, suc, Bool, true, false, if◌then◌else◌, List, [], ◌∷◌, map, Contains}
 use Rattle.std.proofs.Common.{arith, refl, sym, subst, inl, inr}
 use Rattle.std.proofs.lemmas.List.Sorted.{Contains-permutation, IsPermutation-sym}
-use Rattle.gf_exponents.specs.Exponents.{Exponents, same, plus, Divides, NoMultiple}
-use Rattle.gf_exponents.proofs.ExponentsLaws.{multiple_or_not, plus_comm, same_of, same_trans, same_flip}
+use Rattle.gf_exponents.specs.Exponents.{Exponents, same, plus, NoMultiple}
+use Rattle.gf_exponents.proofs.ExponentsLaws.{same_trans, same_flip}
 use Rattle.gf_poly.specs.declared.Term.{Term}
 use Rattle.gf_poly.specs.Polynomial.{Terms, HasVariables}
 use Rattle.gf_poly.specs.Marking.{MarkedPolynomial, MarkedPolynomials, Each, HaveVariables, HasMarkedTerm, IsArranged}
@@ -17,6 +17,7 @@ use Rattle.gf_ideal.proofs.ListedTerms.{by_terms}
 use Rattle.gf_ideal.proofs.KeptForms.{arranged_list}
 use Rattle.gf_ideal.proofs.StepLaws.{monic-monomials}
 use Rattle.gf_ideal.proofs.ArrangementLaws.{apart-arranged}
+use Rattle.gf_division.proofs.RuleLaws.{no_multiple}
 use Rattle.gf_reduced.specs.Forms.{monic_of, monic_set}
 use Rattle.gf_reduced.specs.Markings.{IsMarkedGroebnerBasis, IsBasisOf, IsReducedBasisOf}
 use Rattle.gf_reduced.specs.Terms.{all_but, IsOffending, NoneOffends, AreReduced}
@@ -24,13 +25,6 @@ use Rattle.gf_reduced.proofs.FormLaws.{AreThere, form_of, is_form, form_canonica
 use Rattle.gf_reduced.proofs.GroebnerLaws.{divisible_back, basis_of}
 
 -- ---- marks are apart
-
-no_multiple : (x y : Exponents) → (Divides x y → ⊥) → NoMultiple x y
-no_multiple x y n = at (multiple_or_not x y)
-  where
-    at : ((z : Exponents) × (same y (plus x z) ≡ true)) ⊎ NoMultiple x y → NoMultiple x y
-    at (inl m) = absurd (n (record { rest = m.0; product = same_trans y (plus x m.0) (plus m.0 x) m.1 (same_of (plus x m.0) (plus m.0 x) (plus_comm x m.0)) }))
-    at (inr h) = h
 
 at_first : (b : MarkedPolynomial) (bs : List MarkedPolynomial) → IsAt (b ∷ bs) 0 b
 at_first b bs = record { within = omega arith; is = refl }

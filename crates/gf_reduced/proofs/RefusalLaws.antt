@@ -1,7 +1,6 @@
 -- Refusals of the calls, made of those of their parts, and where only memory may be wanting.
--- To cite: step_tested, form_tested, pairs_tested, pairs_fault, form_required, weight_required, pairs_required,
--- reduced_of_paired, terms_required, weight_only_memory, test_only_memory, basis_only_memory, not_excluded, no_first, reduced_memory,
--- reduced_only_memory, reduction_only_memory.
+-- To cite: step_tested, form_tested, pairs_tested, pairs_required, reduced_of_paired, terms_required, weight_only_memory,
+-- test_only_memory, basis_only_memory, not_excluded, no_first, reduced_memory, reduced_only_memory, reduction_only_memory.
 use Rattle.std.specs.Prelude.{◌≡◌, ℕ, List, [], ◌∷◌, ◌++◌, map, Result, Ok, Err, IfErr}
 use Rattle.std.proofs.Common.{refl, subst}
 use Rattle.gf_poly.specs.declared.error.PolyError.{PolyError}
@@ -38,28 +37,7 @@ pairs_tested s forms (errors.Overflow o) q r h = IsTestCause.pairs r (subst (λ 
 pairs_tested s forms (errors.Exponent o) q r h = IsTestCause.pairs r (subst (λ (fs : List MarkedPolynomial). IsPairsRefusal fs (errors.Exponent o)) q h)
 pairs_tested s forms errors.Memory q r h = tt
 
--- ---- a pair, or why it isn't tested
-
-pub pairs_fault : (k : ℕ) (bs : List MarkedPolynomial) (e : PolyError) → IsPairsRefusal bs e → IsPairsFault k bs (of_poly e)
-pairs_fault k bs (errors.Overflow o) h = h
-pairs_fault k bs (errors.Exponent o) h = h
-pairs_fault k bs errors.Memory h = tt
-
 -- ---- the calls that take a set or refuse it
-
-pub form_required : (P : Type 0) (k : ℕ) (s : MarkedPolynomials) (e : PolyError) → IsFormRefusal s.items e → IsPairedRefusal P k s (of_poly e)
-form_required P k s (errors.Overflow o) h = IsRequireCause.monic h
-form_required P k s (errors.Exponent o) h = IsRequireCause.monic h
-form_required P k s errors.Memory h = tt
-
-pub weight_required : (P : Type 0) (k : ℕ) (s : MarkedPolynomials) (e : CheckError) → IsSetWeightRefusal k s e → IsPairedRefusal P k s e
-weight_required P k s (check_errors.Overflow o) h = elim h [ ]
-weight_required P k s (check_errors.Exponent o) h = elim h [ ]
-weight_required P k s (check_errors.NotReduced set i x) h = elim h [ ]
-weight_required P k s (check_errors.NotBasis set i j r) h = elim h [ ]
-weight_required P k s (check_errors.Inconsistent set ms) h = h
-weight_required P k s (check_errors.Cone o) h = h
-weight_required P k s check_errors.Memory h = tt
 
 pub pairs_required : (P : Type 0) (k : ℕ) (s : MarkedPolynomials) (forms : List MarkedPolynomial) (e : CheckError) → forms ≡ map monic_of s.items → IsRealisable s.variables s.items → P → IsPairsFault k forms e → IsPairedRefusal P k s e
 pairs_required P k s forms e q r p h = at e (subst (λ (fs : List MarkedPolynomial). IsPairsFault k fs e) q h)

@@ -1,20 +1,20 @@
 -- Terms that offend, as code finds them: member by member, the marked monomial first.
--- To cite: not_false, NoneDivided, divided_none, divided_more, not_divided, not_counted, divided_found, divided_end, Searched, searched_none,
--- searched_next, found_at_head, found_in_terms, no_offence_in, head_variables, term_variables, term_lengths, NoneBefore, none_more, none_at_all.
+-- To cite: not_false, NoneDivided, Searched, searched_none, searched_next, found_at_head, found_in_terms, no_offence_in,
+-- head_variables, term_variables, term_lengths, NoneBefore.
 use Rattle.std.specs.Prelude.{◌≡◌, ◌≢◌, ◌⊎◌, ℕ, ◌+◌, ◌<◌, ◌≤◌, Bool, true, false, if◌then◌else◌, List, [], ◌∷◌, ◌++◌, length, take, drop}
-use Rattle.std.proofs.Common.{arith, refl, sym, ap, ◌∙◌, subst, inl, inr, get_or}
-use Rattle.std.proofs.lemmas.Bool.{cases_lt}
-use Rattle.std.proofs.lemmas.List.{take_more, take_all, take-append-drop, drop_more}
+use Rattle.std.proofs.Common.{refl, sym, ap, ◌∙◌, subst, inl, inr, get_or}
+use Rattle.std.proofs.lemmas.List.{take_all, take-append-drop, drop_more}
 use Rattle.gf_exponents.specs.Exponents.{Exponents, same, Divides}
 use Rattle.gf_exponents.proofs.ExponentsLaws.{same-refl}
 use Rattle.gf_poly.specs.declared.Term.{Term}
 use Rattle.gf_poly.specs.Polynomial.{Terms, HasVariables}
 use Rattle.gf_poly.specs.Marking.{MarkedPolynomial, HaveVariables, HasMarkedTerm}
 use Rattle.gf_poly.proofs.CoefficientLaws.{term_length}
+use Rattle.gf_poly.proofs.InitialFormLaws.{take-next}
 use Rattle.gf_ideal.specs.Settled.{IsAt}
 use Rattle.gf_ideal.proofs.ListLaws.{Each-++}
 use Rattle.gf_division.proofs.ReducerLaws.{members_equal, member_contained, member_variables, member_length}
-use Rattle.gf_reduced.specs.Terms.{all_but, printed_monomials, IsOffending, NoneOffends, IsFirstOffendingOf, HasNoOffence, AreReduced, IsDividedAt, IsNotDividedBy}
+use Rattle.gf_reduced.specs.Terms.{all_but, printed_monomials, IsOffending, NoneOffends, IsFirstOffendingOf, HasNoOffence, IsDividedAt}
 
 -- ---- different monomials
 
@@ -27,33 +27,6 @@ not_false false n = absurd (n refl)
 -- no mark before the place j that counts divides x
 pub record NoneDivided (bs : List MarkedPolynomial) (i : ℕ) (x : Exponents) (m : Bool) (j : ℕ) : Type 0 where
   pub none : (k : ℕ) (c : MarkedPolynomial) → k < j → IsAt bs k c → Divides c.head x → (k ≢ i) ⊎ (m ≡ false) → ⊥
-
-pub divided_none : (bs : List MarkedPolynomial) (i : ℕ) (x : Exponents) (m : Bool) → NoneDivided bs i x m 0
-divided_none bs i x m = record { none = λ k c l p d o. absurd (omega arith) }
-
-pub divided_more : (bs : List MarkedPolynomial) (i : ℕ) (x : Exponents) (m : Bool) (j : ℕ) → IsNotDividedBy bs i j x m → NoneDivided bs i x m j → NoneDivided bs i x m (j + 1)
-divided_more bs i x m j n h = record { none = λ k c l p d o. at k c p d o l (cases_lt k j) }
-  where
-    at : (k : ℕ) (c : MarkedPolynomial) → IsAt bs k c → Divides c.head x → (k ≢ i) ⊎ (m ≡ false) → k < j + 1 → (k < j) ⊎ (j ≤ k) → ⊥
-    at k c p d o l (inl q) = h.none k c q p d o
-    at k c p d o l (inr q) =
-        let e : k ≡ j = omega arith in
-        n c (subst (λ (z : ℕ). IsAt bs z c) e p) d (subst (λ (z : ℕ). (z ≢ i) ⊎ (m ≡ false)) e o)
-
--- the mark of the member at j doesn't divide x
-pub not_divided : (bs : List MarkedPolynomial) (i : ℕ) (x h : Exponents) (m : Bool) (j : ℕ) (b : MarkedPolynomial) → IsAt bs j b → h ≡ b.head → (Divides h x → ⊥) → IsNotDividedBy bs i j x m
-not_divided bs i x h m j b p q n c r d o = n (subst (λ (z : Exponents). Divides z x) (ap (λ (a : MarkedPolynomial). a.head) (members_equal bs j c b r p) ∙ sym q) d)
-
--- or it doesn't count
-pub not_counted : (bs : List MarkedPolynomial) (i : ℕ) (x : Exponents) (m : Bool) (j : ℕ) → (j ≡ i) × (m ≡ true) → IsNotDividedBy bs i j x m
-not_counted bs i x m j e c r d (inl n) = n e.0
-not_counted bs i x m j e c r d (inr f) = let t : m ≡ true = e.1 in cc
-
-pub divided_found : (bs : List MarkedPolynomial) (i : ℕ) (x h : Exponents) (m : Bool) (j : ℕ) (b : MarkedPolynomial) → IsAt bs j b → h ≡ b.head → Divides h x → (j ≢ i) ⊎ (m ≡ false) → IsDividedAt bs i x m
-divided_found bs i x h m j b p q d o = record { place = j; member = b; at = p; divides = subst (λ (z : Exponents). Divides z x) q d; other = o }
-
-pub divided_end : (bs : List MarkedPolynomial) (i : ℕ) (x : Exponents) (m : Bool) (j : ℕ) → length bs ≤ j → NoneDivided bs i x m j → IsDividedAt bs i x m → ⊥
-divided_end bs i x m j l h d = h.none d.place d.member (omega (arith, l, d.at.within)) d.at d.divides d.other
 
 -- ---- the monomials of one member
 
@@ -109,20 +82,17 @@ searched_none bs i b x f e n = record { head = λ o. n (head_divided bs i b x e 
     none [] = tt
     none (t ∷ f) = tt
 
-next_term : (f : Terms) (k : ℕ) (t : Term) → k < length f → t ≡ get_or f k t → take (k + 1) f ≡ take k f ++ t ∷ []
-next_term f k t l e = take_more f k t l ∙ ap (λ z. take k f ++ z ∷ []) (sym e)
-
 searched_more : (bs : List MarkedPolynomial) (i : ℕ) (b : MarkedPolynomial) (f : Terms) (k : ℕ) (t : Term) → k < length f → t ≡ get_or f k t → same t.mono b.head ≡ false → (IsDividedAt bs i t.mono false → ⊥) → Searched bs i b f k → Searched bs i b f (k + 1)
 searched_more bs i b f k t l e s n h = record {
   head = h.head;
-  terms = subst (NoneOffends bs i b) (sym (ap (all_but b.head) (next_term f k t l e) ∙ all_but-++ b.head (take k f) (t ∷ []) ∙ ap (λ z. all_but b.head (take k f) ++ z) (other_term b.head t [] s)))
+  terms = subst (NoneOffends bs i b) (sym (ap (all_but b.head) (take-next f k t l e) ∙ all_but-++ b.head (take k f) (t ∷ []) ∙ ap (λ z. all_but b.head (take k f) ++ z) (other_term b.head t [] s)))
       (Each-++ (λ (x : Exponents). IsOffending bs i b x → ⊥) (all_but b.head (take k f)) (t.mono ∷ []) h.terms (λ o. n (term_divided bs i b t.mono o), tt));
 }
 
 searched_skipped : (bs : List MarkedPolynomial) (i : ℕ) (b : MarkedPolynomial) (f : Terms) (k : ℕ) (t : Term) → k < length f → t ≡ get_or f k t → same t.mono b.head ≡ true → Searched bs i b f k → Searched bs i b f (k + 1)
 searched_skipped bs i b f k t l e s h = record {
   head = h.head;
-  terms = subst (NoneOffends bs i b) (sym (ap (all_but b.head) (next_term f k t l e) ∙ all_but-++ b.head (take k f) (t ∷ []) ∙ ap (λ z. all_but b.head (take k f) ++ z) (marked_term b.head t [] s) ∙ append_nil (all_but b.head (take k f)))) h.terms;
+  terms = subst (NoneOffends bs i b) (sym (ap (all_but b.head) (take-next f k t l e) ∙ all_but-++ b.head (take k f) (t ∷ []) ∙ ap (λ z. all_but b.head (take k f) ++ z) (marked_term b.head t [] s) ∙ append_nil (all_but b.head (take k f)))) h.terms;
 }
   where
     append_nil : (xs : List Exponents) → xs ++ [] ≡ xs
@@ -186,13 +156,3 @@ term_lengths n bs i b x f k t v p m e ef l g = term_width n bs i b f k t v p ef 
 -- the members before i have no monomial that offends
 abbrev pub NoneBefore : List MarkedPolynomial → ℕ → Type 0
 NoneBefore bs i = (k : ℕ) → k < i → HasNoOffence bs k
-
-pub none_more : (bs : List MarkedPolynomial) (i : ℕ) → HasNoOffence bs i → NoneBefore bs i → NoneBefore bs (i + 1)
-none_more bs i n h k l = at (cases_lt k i)
-  where
-    at : (k < i) ⊎ (i ≤ k) → HasNoOffence bs k
-    at (inl q) = h k q
-    at (inr q) = let e : i ≡ k = omega arith in subst (HasNoOffence bs) e n
-
-pub none_at_all : (bs : List MarkedPolynomial) (i : ℕ) → length bs ≤ i → NoneBefore bs i → AreReduced bs
-none_at_all bs i l h k b p = h k (omega (arith, l, p.within)) b p

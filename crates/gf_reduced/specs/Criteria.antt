@@ -1,7 +1,7 @@
 -- Pairs that need no reduction: by coprime marks, or by a third member that stands before both.
 -- Laws: proofs/CriteriaLaws.antt. Source: Cox, Little, O'Shea, Ideals, Varieties, and Algorithms, 2.9; Becker, Weispfenning,
 -- Gröbner Bases, 5.5 (Buchberger's criteria).
-use Rattle.std.specs.Prelude.{◌≡◌, ◌≢◌, ◌⊎◌, ℕ, ◌<◌, List, [], length}
+use Rattle.std.specs.Prelude.{◌≢◌, ◌⊎◌, ℕ, ◌<◌, List, [], length}
 use Rattle.gf_exponents.specs.Exponents.{Exponents, Divides, AreCoprime, join}
 use Rattle.gf_poly.specs.Polynomial.{Terms}
 use Rattle.gf_poly.specs.Marking.{MarkedPolynomial}

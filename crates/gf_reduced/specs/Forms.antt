@@ -22,6 +22,7 @@ pub record IsSomeMonicRefusal (bs : List MarkedPolynomial) (e : PolyError) : Typ
   pub contained : Contains bs member
   pub cause : IsMonicCause member e
 
+-- some member isn't made monic, at an operation on its coefficients, or there is no memory
 abbrev pub IsFormRefusal : List MarkedPolynomial → PolyError → Type 0
 IsFormRefusal bs (errors.Overflow o) = IsSomeMonicRefusal bs (errors.Overflow o)
 IsFormRefusal bs (errors.Exponent o) = ⊥

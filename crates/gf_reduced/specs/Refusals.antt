@@ -20,10 +20,12 @@ use Rattle.gf_reduced.specs.Pairs.{IsFirstFailing}
 
 -- ---- refusals of other crates
 
+-- a refusal of strict feasibility, as one of a test
 abbrev pub check_of_gordan : GordanError → CheckError
 check_of_gordan (gordan_errors.Cone o) = check_errors.Cone o
 check_of_gordan gordan_errors.Memory = check_errors.Memory
 
+-- a refusal of a polynomial, as one of a test
 abbrev pub of_poly : PolyError → CheckError
 of_poly (errors.Overflow o) = check_errors.Overflow o
 of_poly (errors.Exponent o) = check_errors.Exponent o
@@ -36,6 +38,7 @@ pub data IsPairCause (bs : List MarkedPolynomial) (e : PolyError) : Type 0 where
   s_polynomial : (b c : MarkedPolynomial) → Contains bs b → Contains bs c → IsPairRefusal b c e → IsPairCause bs e
   reduction : (b c : MarkedPolynomial) (s : Terms) → Contains bs b → Contains bs c → IsSPolynomial b c s → IsReductionRefusal bs s e → IsPairCause bs e
 
+-- some pair isn't tested for such a cause, or there is no memory
 abbrev pub IsPairsRefusal : List MarkedPolynomial → PolyError → Type 0
 IsPairsRefusal bs (errors.Overflow o) = IsPairCause bs (errors.Overflow o)
 IsPairsRefusal bs (errors.Exponent o) = IsPairCause bs (errors.Exponent o)
@@ -71,6 +74,7 @@ pub data IsTestCause (s : MarkedPolynomials) (e : PolyError) : Type 0 where
   monic : IsRealisable s.variables s.items → IsFormRefusal s.items e → IsTestCause s e
   pairs : IsRealisable s.variables s.items → IsPairsRefusal (map monic_of s.items) e → IsTestCause s e
 
+-- whether the set is a basis isn't told: for such a cause, for a step of the elimination, or there is no memory
 abbrev pub IsTestRefusal : MarkedPolynomials → CheckError → Type 0
 IsTestRefusal s (check_errors.Overflow o) = IsTestCause s (errors.Overflow o)
 IsTestRefusal s (check_errors.Exponent o) = IsTestCause s (errors.Exponent o)

@@ -48,8 +48,8 @@ pub fn is_marked_basis(alloc: Global, marked: &MarkedSet) -> Result<bool, CheckE
     Ok(are)
 }
 
-// Refuses a set with a pair whose S-polynomial has another normal form than zero. A basis is told by the pairs that no criterion
-// settles, and only a set that isn't one is gone through pair by pair.
+/// Refuses a set with a pair whose S-polynomial has another normal form than zero. A basis is told by the pairs that no criterion
+/// settles, and only a set that isn't one is gone through pair by pair.
 fn require_pairs(alloc: Global, by: &[Marked], set: u32) -> Result<(), CheckError>
     requires few { length by.now < 2 ^ 32 }
     requires marked { HasSomeWeight by.now }
@@ -71,7 +71,7 @@ fn require_pairs(alloc: Global, by: &[Marked], set: u32) -> Result<(), CheckErro
     }
 }
 
-// Refuses a set with a term that a mark divides.
+/// Refuses a set with a term that a mark divides.
 fn require_terms(by: &[Marked], set: u32) -> Result<(), CheckError>
     requires few { length by.now < 2 ^ 32 }
     requires variables { MembersShareVariables by.now }

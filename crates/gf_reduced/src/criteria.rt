@@ -12,7 +12,7 @@ use gf_division::Guide;
 use gf_poly::{Marked, Mono, PolyError};
 use std::alloc::Global;
 
-// Whether no variable occurs in both: then the least common multiple is their product.
+/// Whether no variable occurs in both: then the least common multiple is their product.
 fn are_coprime(x: &Mono, y: &Mono) -> bool
     requires { length x.now ≡ length y.now }
     ensures { IsTrue result → AreCoprime x.now y.now }
@@ -22,7 +22,7 @@ fn are_coprime(x: &Mono, y: &Mono) -> bool
     rest.exponents() == y.exponents()
 }
 
-// Whether the mark of a member before that at `i` divides `x`.
+/// Whether the mark of a member before that at `i` divides `x`.
 fn is_divided_before(by: &[Marked], i: usize, x: &Mono) -> bool
     requires within { i ≤ length by.now }
     requires variables { HaveVariables (length x.now) by.now }
@@ -37,8 +37,8 @@ fn is_divided_before(by: &[Marked], i: usize, x: &Mono) -> bool
     false
 }
 
-// Whether a criterion settles the pair of the members at `i` and `j`: their marks are coprime, or the mark of a member before both
-// divides the least common multiple of theirs.
+/// Whether a criterion settles the pair of the members at `i` and `j`: their marks are coprime, or the mark of a member before both
+/// divides the least common multiple of theirs.
 fn is_excused(by: &[Marked], i: usize, j: usize) -> bool
     requires variables { MembersShareVariables by.now }
     requires first { i < length by.now }
@@ -54,7 +54,7 @@ fn is_excused(by: &[Marked], i: usize, j: usize) -> bool
     is_divided_before(by, i, &multiple)
 }
 
-// Whether a criterion settles the pair, or its S-polynomial has the normal form zero.
+/// Whether a criterion settles the pair, or its S-polynomial has the normal form zero.
 fn is_passed(
     alloc: Global,
     by: &[Marked],
@@ -77,7 +77,7 @@ fn is_passed(
     Ok(rest.is_zero())
 }
 
-// Whether so it is for the member at `i` and each later one.
+/// Whether so it is for the member at `i` and each later one.
 fn are_passed_from(
     alloc: Global,
     by: &[Marked],

@@ -7,7 +7,7 @@ ghost use Rattle.gf_reduced.specs.Forms.{monic_of, monic_set, IsFormRefusal};
 use gf_poly::{Marked, MarkedSet, PolyError};
 use std::alloc::Global;
 
-// The polynomial divided by its marked coefficient.
+/// The polynomial divided by its marked coefficient.
 fn monic_form(b: &Marked) -> Result<Marked, PolyError>
     requires { HasSomeVariables b.now }
     ensures value { IfOk result (λ c. c ≡ monic_of b.now) }

@@ -1,5 +1,5 @@
 //! The S-polynomials of the pairs of a monic set, and their normal forms.
-ghost use Rattle.std.specs.Prelude.{◌≡◌, ◌<◌, ◌^◌, length, IfOk, IfErr, IfSome, IfNone};
+ghost use Rattle.std.specs.Prelude.{◌≡◌, ◌<◌, length, IfOk, IfErr, IfSome, IfNone};
 ghost use Rattle.gf_division.specs.NormalForms.{HasSomeWeight};
 ghost use Rattle.gf_reduced.specs.Pairs.{MembersShareVariables, IsRemainderAt, IsFirstFailingWith, IsFirstFailing, VanishFrom, DoAllVanish};
 ghost use Rattle.gf_reduced.specs.Refusals.{IsPairsRefusal};
@@ -40,7 +40,7 @@ pub(crate) fn remainder_at(
     Ok(rest)
 }
 
-// The first later member whose pair with that at `i` fails.
+/// The first later member whose pair with that at `i` fails.
 fn failing_with(
     alloc: Global,
     by: &[Marked],

@@ -14,7 +14,7 @@ pub(crate) struct OffendingTerm {
     pub term: Mono,
 }
 
-// Whether the two are different monomials.
+/// Whether the two are different monomials.
 fn are_different(x: &Mono, y: &Mono) -> bool
     requires { length x.now ≡ length y.now }
     ensures yes { IsTrue result → same x.now y.now ≡ false }
@@ -23,7 +23,7 @@ fn are_different(x: &Mono, y: &Mono) -> bool
     y.exponents() != x.exponents()
 }
 
-// Whether the mark of the member at `j` counts against a monomial of the one at `i`: its own doesn't against its marked one.
+/// Whether the mark of the member at `j` counts against a monomial of the one at `i`: its own doesn't against its marked one.
 fn counts(i: usize, j: usize, is_marked: bool) -> bool
     ensures yes { IsTrue result → (j ≢ i) ⊎ (is_marked ≡ false) }
     ensures no { result ≡ false → (j ≡ i) × (is_marked ≡ true) }
@@ -31,7 +31,7 @@ fn counts(i: usize, j: usize, is_marked: bool) -> bool
     !is_marked || j != i
 }
 
-// Whether the mark of the member at `j` counts, and divides the monomial `x` of the one at `i`.
+/// Whether the mark of the member at `j` counts, and divides the monomial `x` of the one at `i`.
 fn is_divided_by(items: &[Marked], i: usize, j: usize, x: &Mono, is_marked: bool) -> bool
     requires within { j < length items.now }
     requires variables { HaveVariables (length x.now) items.now }
@@ -45,7 +45,7 @@ fn is_divided_by(items: &[Marked], i: usize, j: usize, x: &Mono, is_marked: bool
     member.head().divides(x)
 }
 
-// Whether a mark divides the monomial `x` of the member at `i`, the marked one or another.
+/// Whether a mark divides the monomial `x` of the member at `i`, the marked one or another.
 fn is_divided(items: &[Marked], i: usize, x: &Mono, is_marked: bool) -> bool
     requires { HaveVariables (length x.now) items.now }
     ensures yes { IsTrue result → IsDividedAt items.now i x.now is_marked }
@@ -59,7 +59,7 @@ fn is_divided(items: &[Marked], i: usize, x: &Mono, is_marked: bool) -> bool
     false
 }
 
-// Whether `x` is another monomial than the marked one of the member at `i`, and a mark divides it.
+/// Whether `x` is another monomial than the marked one of the member at `i`, and a mark divides it.
 fn offends_in_tail(items: &[Marked], i: usize, head: &Mono, x: &Mono) -> bool
     requires lengths { length x.now ≡ length head.now }
     requires variables { HaveVariables (length x.now) items.now }
@@ -73,7 +73,7 @@ fn offends_in_tail(items: &[Marked], i: usize, head: &Mono, x: &Mono) -> bool
     is_divided(items, i, x, false)
 }
 
-// The first monomial of the member at `i`, the marked one first, that offends.
+/// The first monomial of the member at `i`, the marked one first, that offends.
 fn offending_of(items: &[Marked], i: usize) -> Option<Mono>
     requires within { i < length items.now }
     requires variables { MembersShareVariables items.now }

@@ -15,7 +15,7 @@ use gf_poly::MarkedSet;
 use gf_vec::IntVec;
 use std::alloc::{AllocError, Global};
 
-// The rows of the marking, polynomial by polynomial, and within one in the order of its terms; then the unit vectors.
+/// The rows of the marking, polynomial by polynomial, and within one in the order of its terms; then the unit vectors.
 fn system(alloc: Global, marked: &MarkedSet) -> Result<Vec<IntVec>, AllocError>
     ensures rows { IfOk result (λ rows. rows.items ≡ system_of marked.now.variables marked.now.items) }
     ensures marked { IfOk result (λ _. Each HasMarkedTerm marked.now.items) }
@@ -24,9 +24,9 @@ fn system(alloc: Global, marked: &MarkedSet) -> Result<Vec<IntVec>, AllocError>
     with_units(alloc, all, marked.variables() as usize)
 }
 
-// A positive weight that gives the marking, or multipliers which show that there is none.
-//
-// `Cone` only at a step of the elimination of the marking's system: its rows, then the unit vectors.
+/// A positive weight that gives the marking, or multipliers which show that there is none.
+///
+/// `Cone` only at a step of the elimination of the marking's system: its rows, then the unit vectors.
 fn weight_or_none(alloc: Global, marked: &MarkedSet) -> Result<Answer, GordanError>
     ensures ok { IfOk result (IsWeightAnswer marked.now.variables marked.now.items) }
     ensures err { IfErr result (Failed (IsMarkingStep marked.now.variables marked.now.items)) }

@@ -9,9 +9,6 @@ use Rattle.gf_gordan.specs.declared.error.GordanError.TheVariants.{Cone, Memory}
 use Rattle.gf_gordan.specs.Alternative.{AreRows}
 use Rattle.gf_gordan.specs.Equations.{IsStepOn}
 use Rattle.gf_gordan.specs.Steps.{Failed}
-use Rattle.gf_vec.specs.declared.error.VecError.{VecError}
-use Rattle.gf_vec.specs.declared.error.VecError.TheVariants as vector_errors
-use Rattle.gf_vec.specs.Steps.{IfWide}
 use Rattle.gf_duality.specs.Generators.{unit_vectors}
 use Rattle.gf_duality.specs.Rays.{IsRays, IsImplied, IsZeroOn}
 use Rattle.gf_duality.specs.Faces.{IsFacetRow, AreFacetRows, cone_of}
@@ -19,9 +16,9 @@ use Rattle.gf_rays.specs.Reached.{IsRaysStep}
 use Rattle.gf_duality.proofs.ListLaws.{all_by}
 use Rattle.gf_sections.specs.ConeRows.{AreAscending}
 use Rattle.gf_sections.specs.Flagged.{AreFlagsOf, flagged}
-use Rattle.gf_sections.specs.Errors.{of_system, of_sum}
+use Rattle.gf_sections.specs.Errors.{of_system}
 use Rattle.gf_sections.specs.Certificates.{AreRowsTold, AreRowsWith, IsRedundant, AreVanishing, IsCombinationOf, IsZeroCombination, value_columns}
-use Rattle.gf_sections.specs.ConeText.{AreCertificates, IsCertificateCause, IsCombiningStep, IsWitnessStep, combining, vanishing, IsSectionsCause, finding, certifying, AreSections, certificate_sections}
+use Rattle.gf_sections.specs.ConeText.{AreCertificates, IsCertificateCause, IsCombiningStep, combining, vanishing, IsSectionsCause, finding, certifying, AreSections, certificate_sections}
 use Rattle.gf_sections.specs.SectionText.{cone_sections}
 use Rattle.gf_sections.specs.declared.certificates.Certificates.{Certificates}
 use Rattle.gf_sections.specs.declared.error.SectionsError.{SectionsError}
@@ -91,10 +88,6 @@ IsVanishingStep n zero_rows s = IsStepOn (length (unit_vectors (length zero_rows
 pub vanishing_cause : (n m : ℕ) (rows rays facets implied zero_rows given : List (List ℤ)) (e : GordanError) → m ≡ n → given ≡ zero_rows → AreRowsWith (IsZeroOn n rows []) rows zero_rows → Failed (IsVanishingStep m given) e → IsCertificateCause n rows rays facets implied (of_system e)
 vanishing_cause n m rows rays facets implied zero_rows given (Cone s) em eg r f = vanishing zero_rows r (subst (λ (k : ℕ). IsVanishingStep k zero_rows s) em (subst (λ (l : List (List ℤ)). IsVanishingStep m l s) eg f))
 vanishing_cause n m rows rays facets implied zero_rows given Memory em eg r f = tt
-
-pub witness_cause : (n : ℕ) (rows rays facets implied : List (List ℤ)) (e : VecError) → IfWide (IsWitnessStep n rays facets) e → IsCertificateCause n rows rays facets implied (of_sum e)
-witness_cause n rows rays facets implied (vector_errors.Wide w) f = f
-witness_cause n rows rays facets implied vector_errors.Memory f = tt
 
 pub rays_cause : (n : ℕ) (certified : Bool) (rows : List (List ℤ)) (e : GordanError) → Failed (IsRaysStep n rows []) e → IsSectionsCause n certified rows (of_system e)
 rays_cause n certified rows (Cone s) f = finding s f refl

@@ -85,6 +85,7 @@ pub data IsCertificateStep (n : ℕ) (rows facets implied : List (List ℤ)) (s 
   vanishing : (zero_rows : List (List ℤ)) → AreRowsWith (IsZeroOn n rows []) rows zero_rows →
       IsStepOn (length (unit_vectors (length zero_rows)) + length (value_columns n zero_rows)) (length zero_rows) (unit_vectors (length zero_rows)) (value_columns n zero_rows) s → IsCertificateStep n rows facets implied s
 
+-- why certificates aren't found: an operation on such a system, one of a witness of a facet, or there is no memory
 abbrev pub IsCertificateCause : ℕ → List (List ℤ) → List (List ℤ) → List (List ℤ) → List (List ℤ) → SectionsError → Type 0
 IsCertificateCause n rows rays facets implied (errors.Cone s) = IsCertificateStep n rows facets implied s
 IsCertificateCause n rows rays facets implied (errors.Wide e) = IsWitnessStep n rays facets e

@@ -1,12 +1,12 @@
 -- Counts of sets, one after another.
 -- To cite: greatest-more, terms-more, CountsSoFar and its steps.
 use Rattle.std.specs.Prelude.{◌≡◌, ℕ, zero, suc, ◌+◌, ◌-◌, ◌*◌, ◌^◌, ◌<◌, ◌≤◌, List, [], ◌∷◌, ◌++◌, length, take, get_or, map, max, min, Bool, true, false, ◌==◌, if◌then◌else◌}
-use Rattle.std.specs.Ordering.{nat_cmp, ord_max, ord_min, is_lt, MatchOrdering}
+use Rattle.std.specs.Ordering.{nat_cmp, ord_max, is_lt, MatchOrdering}
 use Rattle.std.specs.declared.cmp.Ordering.{Ordering}
 use Rattle.std.specs.declared.cmp.Ordering.TheVariants.{Less, Equal, Greater}
 use Rattle.std.specs.Prelude.{cond}
 use Rattle.std.proofs.lemmas.Cmp.{ranked}
-use Rattle.std.proofs.Common.{arith, refl, sym, ap, subst, ◌∙◌}
+use Rattle.std.proofs.Common.{arith, refl, sym, ap, ◌∙◌}
 use Rattle.std.proofs.lemmas.List.{take_more, take_all, map-append}
 use Rattle.gf_exponents.proofs.ExponentsLaws.{eq_by}
 use Rattle.gf_poly.specs.Marking.{MarkedPolynomial, MarkedPolynomials}
@@ -56,9 +56,6 @@ pub record TermsSoFar (bs : List MarkedPolynomial) (sum i : ℕ) : Type 0 where
   pub terms : sum ≡ terms_in (take i bs)
   pub bound : sum ≤ i * (2 ^ 64 - 1)
 
-pub terms-none : (bs : List MarkedPolynomial) → TermsSoFar bs 0 0
-terms-none bs = record { terms = refl; bound = omega arith }
-
 pub terms-more : (bs : List MarkedPolynomial) (sum next i : ℕ) (b : MarkedPolynomial) → i < length bs → b ≡ get_or bs i b → length b.poly < 2 ^ 64 → next ≡ sum + length b.poly → TermsSoFar bs sum i → TermsSoFar bs next (i + 1)
 terms-more bs sum next i b l e few q h = record {
   terms = q ∙ ap (λ z. z + length b.poly) h.terms ∙ sym (terms_in-push (take i bs) b) ∙ ap terms_in (sym (take_more bs i b l ∙ ap (λ (z : MarkedPolynomial). take i bs ++ z ∷ []) (sym e)));
@@ -70,9 +67,6 @@ terms-more bs sum next i b l e few q h = record {
 -- those of the first i sets
 abbrev pub CountsSoFar : List MarkedPolynomials → Counts → ℕ → Type 0
 CountsSoFar sets c i = AreSetCounts (take i sets) c
-
-pub counts-none : (sets : List MarkedPolynomials) (c : Counts) → c ≡ record { max_degree = 0; min_degree = 0; max_polynomials = 0; max_terms = 0 } → CountsSoFar sets c 0
-counts-none sets c e = subst (λ (d : Counts). CountsSoFar sets d 0) (sym e) (record { max_degree = refl; min_degree = refl; max_polynomials = refl; max_terms = refl })
 
 pub counts-more : (sets : List MarkedPolynomials) (c d : Counts) (i : ℕ) (s : MarkedPolynomials) (first : Bool) → i < length sets → s ≡ get_or sets i s → first ≡ (i == 0) → d.max_degree ≡ max c.max_degree (degree_of_set s) →
     d.min_degree ≡ (if first then degree_of_set s else min c.min_degree (degree_of_set s)) → d.max_polynomials ≡ max c.max_polynomials (length s.items) → d.max_terms ≡ max c.max_terms (terms_in s.items) → CountsSoFar sets c i → CountsSoFar sets d (i + 1)
@@ -87,22 +81,11 @@ counts-more sets c d i s first l e f g m p t h = record {
     by true q r = least-first degree_of_set sets i s d.min_degree (eq_by i 0 (sym q)) l e r
     by false q r = least-more degree_of_set sets i s c.min_degree d.min_degree (nonempty_by_test i q) l e r h.min_degree
 
-pub counts-all : (sets : List MarkedPolynomials) (c : Counts) (i : ℕ) → length sets ≤ i → CountsSoFar sets c i → AreSetCounts sets c
-counts-all sets c i l h = subst (λ (z : List MarkedPolynomials). AreSetCounts z c) (take_all i sets l) h
-
 -- the greater of two numbers, as `max` answers it, and the smaller
 pub ord_max-is : (a b : ℕ) → ord_max nat_cmp a b ≡ max a b
 ord_max-is a b = at (nat_cmp b a) (ranked b a _ refl)
   where
     at : (o : Ordering) → MatchOrdering o (b < a) (b ≡ a) (a < b) → cond (is_lt o) a b ≡ max a b
-    at Less h = omega (arith, h)
-    at Equal h = omega (arith, h)
-    at Greater h = omega (arith, h)
-
-pub ord_min-is : (a b : ℕ) → ord_min nat_cmp a b ≡ min a b
-ord_min-is a b = at (nat_cmp b a) (ranked b a _ refl)
-  where
-    at : (o : Ordering) → MatchOrdering o (b < a) (b ≡ a) (a < b) → cond (is_lt o) b a ≡ min a b
     at Less h = omega (arith, h)
     at Equal h = omega (arith, h)
     at Greater h = omega (arith, h)

@@ -37,9 +37,6 @@ pub record RowsSoFar (n : ℕ) (sets : List MarkedPolynomials) (rows : List (Lis
   pub marked : Each HasMarkedTerm (members_of (take i sets))
   pub variables : HaveVariables n (members_of (take i sets))
 
-pub rows-none : (n : ℕ) (sets : List MarkedPolynomials) → RowsSoFar n sets [] 0
-rows-none n sets = record { items = refl; marked = tt; variables = tt }
-
 next_members : (sets : List MarkedPolynomials) (i : ℕ) (s : MarkedPolynomials) → i < length sets → s ≡ get_or sets i s → members_of (take (i + 1) sets) ≡ members_of (take i sets) ++ s.items
 next_members sets i s l e = ap members_of (take_more sets i s l ∙ ap (λ (z : MarkedPolynomials). take i sets ++ z ∷ []) (sym e)) ∙ members_of-push (take i sets) s
 

@@ -1,6 +1,6 @@
 -- Homogenisation, term by term and polynomial by polynomial.
--- To cite: degree_first, degree_at, filled-monomial, copied_more, FilledSoFar and its steps, filled-short, filled-variables, filled-monomial_there,
--- never_alike, AllDone and its steps. The rest are steps.
+-- To cite: degree_first, degree_at, filled-monomial, copied_more, FilledSoFar and its steps, filled-short, filled-variables,
+-- filled-monomial_there, AllDone and its steps. The rest are steps.
 use Rattle.std.specs.Prelude.{◌≡◌, ◌≢◌, ℕ, zero, suc, ◌+◌, ◌^◌, ◌<◌, ◌≤◌, ◌==◌, ◌&&◌, Bool, true, false, cond, if◌then◌else◌, List, [], ◌∷◌, ◌++◌, length, take, drop, get_or, map, All, Contains}
 use Rattle.std.specs.Ordering.{nat_cmp, ordering_then, is_eq, MatchOrdering}
 use Rattle.std.specs.declared.cmp.Ordering.{Ordering}
@@ -10,7 +10,6 @@ use Rattle.std.proofs.lemmas.Cmp.{ranked}
 use Rattle.std.proofs.lemmas.List.{take_more, take_all, take_more_set, drop_more, map-append, same_from_push}
 use Rattle.std.proofs.lemmas.List.Elements.{All-push, All-contains, Contains-append_right, all_zip_more}
 use Rattle.gf_frac.specs.Fraction.{◌+ℚ◌, zero_ℚ}
-use Rattle.gf_frac.specs.declared.refusal.Overflow.{Overflow}
 use Rattle.gf_exponents.specs.Exponents.{Exponents, same, degree}
 use Rattle.gf_exponents.specs.Orders.{deglex, lex}
 use Rattle.gf_exponents.proofs.ExponentsLaws.{entries_same, same_lists}
@@ -19,19 +18,19 @@ use Rattle.gf_poly.specs.declared.Term.{Term}
 use Rattle.gf_poly.specs.declared.monomial.ExponentOverflow.{ExponentOverflow}
 use Rattle.gf_poly.specs.Monomial.{IsMonomial}
 use Rattle.gf_poly.specs.Polynomial.{Terms, coefficient, SamePolynomial, IsAbove, IsDescending, HasVariables, KeepsVariables}
-use Rattle.gf_poly.specs.Collecting.{like, IsLikeSumOverflow}
+use Rattle.gf_poly.specs.Collecting.{like}
 use Rattle.gf_poly.specs.Marking.{MarkedPolynomial, HasMarkedTerm, head_of}
 use Rattle.gf_poly.proofs.CoefficientLaws.{term_length, term_nonzero, term_coefficient}
 use Rattle.gf_poly.proofs.DescendingLaws.{equal_same, never_greater}
-use Rattle.gf_text.specs.declared.TheConstants.{MOST_VARIABLES}
 use Rattle.gf_text.specs.declared.written.Written.{Written}
 use Rattle.gf_text.specs.declared.written.Written.TheVariants as written
 use Rattle.gf_text.specs.Sets.{IsIn, AreIn}
 use Rattle.gf_small.specs.Degrees.{total_degree}
-use Rattle.gf_small.specs.Homogenization.{new_exponent, filled, filled_term, ExponentsFit, IsExponentPastLimit, IsFirstPastLimit, IsHomogenizedWithinLimit, IsPastLimitIn, IsFirstExponentPastLimit, IsMarkedHomogenization, IsWrittenHomogenization, AreHomogenizations, HasExponent, IsHomogenizeCause}
+use Rattle.gf_small.specs.Homogenization.{new_exponent, filled, filled_term, ExponentsFit, IsExponentPastLimit, IsFirstPastLimit, IsHomogenizedWithinLimit, IsPastLimitIn, IsFirstExponentPastLimit, IsMarkedHomogenization, IsWrittenHomogenization, AreHomogenizations, HasExponent}
 use Rattle.gf_small.specs.declared.homogenization.SmallError.{SmallError}
 use Rattle.gf_small.specs.declared.homogenization.SmallError.TheVariants as errors
 use Rattle.gf_poly.proofs.MarkingLaws.{mark_at}
+use Rattle.gf_poly.proofs.InitialFormLaws.{take-next}
 use Rattle.gf_small.proofs.WrittenLaws.{AreIn-push}
 
 -- ---- degrees
@@ -53,10 +52,6 @@ pub degree_first : (f : Terms) (t : Term) → IsDescending f → 0 < length f �
 degree_first [] t d l e = absurd (omega arith)
 degree_first (s ∷ f) t d l e = ap (λ (z : Term). degree z.mono) e ∙ omega (arith, degree_above s.mono f d.1)
 
-pub degree_none : (f : Terms) → length f ≡ 0 → 0 ≡ total_degree f
-degree_none [] l = refl
-degree_none (t ∷ f) l = absurd (omega arith)
-
 -- no term has a greater one
 pub degree_at : (f : Terms) (i : ℕ) (t : Term) → i < length f → t ≡ get_or f i t → degree t.mono ≤ total_degree f
 degree_at [] i t l e = absurd (omega arith)
@@ -74,23 +69,11 @@ pub record FilledSoFar (d : ℕ) (f out : Terms) (i : ℕ) : Type 0 where
   pub items : out ≡ map (filled_term d) (take i f)
   pub fits : ExponentsFit d (take i f)
 
-pub filled-none : (d : ℕ) (f : Terms) → FilledSoFar d f [] 0
-filled-none d f = record { items = refl; fits = λ k e l. absurd (omega arith) }
-
-next_at : (f : Terms) (i : ℕ) (t : Term) → i < length f → t ≡ get_or f i t → take (i + 1) f ≡ take i f ++ t ∷ []
-next_at f i t l e = take_more f i t l ∙ ap (λ (z : Term). take i f ++ z ∷ []) (sym e)
-
 pub filled-more : (d : ℕ) (f out next : Terms) (i : ℕ) (t s : Term) → i < length f → t ≡ get_or f i t → s ≡ filled_term d t → new_exponent d t.mono < 2 ^ 31 → next ≡ out ++ s ∷ [] → FilledSoFar d f out i → FilledSoFar d f next (i + 1)
 filled-more d f out next i t s l e q h n k = record {
-  items = n ∙ ap (λ (z : Term). out ++ z ∷ []) q ∙ ap (λ (z : Terms). z ++ filled_term d t ∷ []) k.items ∙ sym (map-append (filled_term d) (take i f) (t ∷ [])) ∙ ap (map (filled_term d)) (sym (next_at f i t l e));
-  fits = subst (ExponentsFit d) (sym (next_at f i t l e)) (All-push (λ (z : Term). new_exponent d z.mono < 2 ^ 31) (take i f) t k.fits h);
+  items = n ∙ ap (λ (z : Term). out ++ z ∷ []) q ∙ ap (λ (z : Terms). z ++ filled_term d t ∷ []) k.items ∙ sym (map-append (filled_term d) (take i f) (t ∷ [])) ∙ ap (map (filled_term d)) (sym (take-next f i t l e));
+  fits = subst (ExponentsFit d) (sym (take-next f i t l e)) (All-push (λ (z : Term). new_exponent d z.mono < 2 ^ 31) (take i f) t k.fits h);
 }
-
-pub filled-items : (d : ℕ) (f out : Terms) (i : ℕ) → length f ≤ i → FilledSoFar d f out i → out ≡ map (filled_term d) f
-filled-items d f out i l k = k.items ∙ ap (map (filled_term d)) (take_all i f l)
-
-pub filled-fits : (d : ℕ) (f out : Terms) (i : ℕ) → length f ≤ i → FilledSoFar d f out i → ExponentsFit d f
-filled-fits d f out i l k = subst (ExponentsFit d) (take_all i f l) k.fits
 
 split_terms : (f : Terms) (i : ℕ) (t : Term) → i < length f → t ≡ get_or f i t → f ≡ take i f ++ t ∷ drop (i + 1) f
 split_terms f i t l e = sym (take-append-drop i f) ∙ ap (λ (z : Terms). take i f ++ z) (drop_more f i t l ∙ ap (λ (z : Term). z ∷ drop (i + 1) f) (sym e))
@@ -120,10 +103,6 @@ filled-short d (t ∷ f) x h = by (filled-short d f x h.2) (deglex x (filled d t
     by later Less e = later
     by later Greater e = later
     by later Equal e = let none : like x (map (filled_term d) f) ≡ [] = subst (λ (y : Exponents). like y (map (filled_term d) f) ≡ []) (sym (equal_same x (filled d t.mono) e)) (none_alike d t.mono f h.1) in omega (arith, ap length none)
-
--- so no sum of like terms leaves the range
-pub never_alike : (f : Terms) (o : Overflow) → ((x : Exponents) → length (like x f) ≤ 1) → IsLikeSumOverflow f o → ⊥
-never_alike f o h v = absurd (omega (arith, h v.at, ap length v.split, length-append v.earlier (v.last ∷ v.later), v.some))
 
 -- ---- variables and marks
 
@@ -192,9 +171,6 @@ pub record DoneSoFar (n : ℕ) (fs gs : List Written) (i : ℕ) : Type 0 where
   pub variables : AreIn (n + 1) gs
   pub fits : All IsHomogenizedWithinLimit (take i fs)
 
-pub done-none : (n : ℕ) (fs : List Written) → DoneSoFar n fs [] 0
-done-none n fs = record { items = tt; variables = tt; fits = λ k e l. absurd (omega arith) }
-
 next_of : (fs : List Written) (i : ℕ) (f : Written) → i < length fs → f ≡ get_or fs i f → take (i + 1) fs ≡ take i fs ++ f ∷ []
 next_of fs i f l e = take_more fs i f l ∙ ap (λ (z : Written). take i fs ++ z ∷ []) (sym e)
 
@@ -210,12 +186,6 @@ done-more n fs gs next i f g l e v h w q k = record {
   variables = subst (AreIn (n + 1)) (sym q) (AreIn-push (n + 1) gs g k.variables (homogenized_in n f g h v));
   fits = subst (All IsHomogenizedWithinLimit) (sym (next_of fs i f l e)) (All-push IsHomogenizedWithinLimit (take i fs) f k.fits w);
 }
-
-pub done-items : (n : ℕ) (fs gs : List Written) (i : ℕ) → length fs ≤ i → DoneSoFar n fs gs i → AreHomogenizations fs gs
-done-items n fs gs i l k = subst (λ (z : List Written). AreHomogenizations z gs) (take_all i fs l) k.items
-
-pub done-fits : (n : ℕ) (fs gs : List Written) (i : ℕ) → length fs ≤ i → DoneSoFar n fs gs i → All IsHomogenizedWithinLimit fs
-done-fits n fs gs i l k = subst (All IsHomogenizedWithinLimit) (take_all i fs l) k.fits
 
 pub done-past : (n : ℕ) (fs gs : List Written) (i : ℕ) (f : Written) (o : ExponentOverflow) → i < length fs → f ≡ get_or fs i f → IsPastLimitIn f o → DoneSoFar n fs gs i → IsFirstExponentPastLimit fs o
 done-past n fs gs i f o l e p k = record {
@@ -312,11 +282,6 @@ pub exponent_along : {P Q : ExponentOverflow → Type 0} (e : SmallError) → ((
 exponent_along (errors.TooManyVariables count) f h = h
 exponent_along (errors.Exponent o) f h = f o h
 exponent_along errors.Memory f h = tt
-
-pub homogenize_cause : (n : ℕ) (fs : List Written) (e : SmallError) → n < MOST_VARIABLES → HasExponent (IsFirstExponentPastLimit fs) e → IsHomogenizeCause n fs e
-homogenize_cause n fs (errors.TooManyVariables count) l h = absurd h
-homogenize_cause n fs (errors.Exponent o) l h = (l, h)
-homogenize_cause n fs errors.Memory l h = tt
 
 -- where each exponent is within the limit none passes it
 pub never_past : (fs : List Written) (o : ExponentOverflow) → All IsHomogenizedWithinLimit fs → IsFirstExponentPastLimit fs o → ⊥

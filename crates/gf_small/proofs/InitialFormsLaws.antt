@@ -1,6 +1,6 @@
 -- Initial forms of polynomials that aren't zero, and their marks.
 -- To cite: form_nonempty, here_not_zero, marked_some. The rest are steps.
-use Rattle.std.specs.Prelude.{◌≡◌, ◌⊎◌, ℕ, zero, suc, ◌+◌, ◌<◌, ◌≤◌, true, List, [], ◌∷◌, ◌++◌, length, take, get_or, Contains, ℤ, ◌<ℤ◌, ◌≤ℤ◌}
+use Rattle.std.specs.Prelude.{◌≡◌, ℕ, suc, ◌+◌, ◌<◌, true, List, [], ◌∷◌, ◌++◌, length, take, get_or, Contains, ℤ, ◌<ℤ◌, ◌≤ℤ◌}
 use Rattle.std.specs.Ordering.{int_cmp, MatchOrdering}
 use Rattle.std.specs.declared.cmp.Ordering.{Ordering}
 use Rattle.std.specs.declared.cmp.Ordering.TheVariants.{Less, Equal, Greater}
@@ -15,10 +15,9 @@ use Rattle.gf_poly.specs.declared.Term.{Term}
 use Rattle.gf_poly.specs.Polynomial.{Terms, coefficient, IsDescending, HasVariables}
 use Rattle.gf_poly.specs.InitialForms.{IsOfGreatestWeight, IsInitialForm}
 use Rattle.gf_poly.specs.Marking.{MarkedPolynomial, HasMarkedTerm}
-use Rattle.gf_poly.proofs.DescendingLaws.{equal_same}
+use Rattle.gf_poly.proofs.DescendingLaws.{equal_same, Contains-cons}
 use Rattle.gf_poly.proofs.InitialFormLaws.{occurs}
 use Rattle.gf_poly.proofs.CoefficientLaws.{term_nonzero, term_coefficient}
-use Rattle.std.proofs.lemmas.List.{take_all}
 use Rattle.std.proofs.lemmas.List.Elements.{all_zip_more}
 use Rattle.gf_text.specs.declared.written.Written.{Written}
 use Rattle.gf_text.specs.Sets.{IsIn, AreIn}
@@ -33,15 +32,11 @@ record Top (w : List ℤ) (f : Terms) : Type 0 where
   there : Contains f term
   above : (s : Term) → Contains f s → whole_weight w s.mono ≤ℤ whole_weight w term.mono
 
-first_or_later : (f : Terms) (s t : Term) → Contains (t ∷ f) s → (s ≡ t) ⊎ Contains f s
-first_or_later f s t (zero, l, e) = inl (sym e)
-first_or_later f s t (suc k, l, e) = inr (k, omega arith, e)
-
 top : (w : List ℤ) (t : Term) (f : Terms) → Top w (t ∷ f)
 top w t [] = record {
   term = t;
   there = (0, omega arith, refl);
-  above = λ s c. elim (first_or_later [] s t c) [
+  above = λ s c. elim (Contains-cons [] s t c) [
     | inl e ↦ subst (λ (z : Term). whole_weight w s.mono ≤ℤ whole_weight w z.mono) e (omega (arith, ints))
     | inr n ↦ absurd (omega (arith, n.1))
   ];
@@ -52,7 +47,7 @@ top w t (r ∷ f) = by (top w r f) (int_cmp (whole_weight w t.mono) (whole_weigh
     keep p l = record {
       term = p.term;
       there = (suc p.there.0, omega (arith, p.there.1), p.there.2);
-      above = λ s c. elim (first_or_later (r ∷ f) s t c) [
+      above = λ s c. elim (Contains-cons (r ∷ f) s t c) [
         | inl e ↦ subst (λ (z : Term). whole_weight w z.mono ≤ℤ whole_weight w p.term.mono) (sym e) l
         | inr d ↦ p.above s d
       ];
@@ -64,7 +59,7 @@ top w t (r ∷ f) = by (top w r f) (int_cmp (whole_weight w t.mono) (whole_weigh
     by p Greater h = record {
       term = t;
       there = (0, omega arith, refl);
-      above = λ s c. elim (first_or_later (r ∷ f) s t c) [
+      above = λ s c. elim (Contains-cons (r ∷ f) s t c) [
         | inl e ↦ subst (λ (z : Term). whole_weight w s.mono ≤ℤ whole_weight w z.mono) e (omega (arith, ints))
         | inr d ↦ omega (arith, ints, p.above s d, h)
       ];
@@ -104,14 +99,8 @@ pub record FormsSoFar (w : List ℤ) (fs gs : List Written) (i : ℕ) : Type 0 w
   pub forms : AreInitialForms w (take i fs) gs
   pub variables : AreIn (length w) gs
 
-pub forms-none : (w : List ℤ) (fs : List Written) → FormsSoFar w fs [] 0
-forms-none w fs = record { forms = tt; variables = tt }
-
 pub forms-more : (w : List ℤ) (fs gs next : List Written) (i : ℕ) (f g : Written) → i < length fs → f ≡ get_or fs i f → IsWrittenInitialForm w f g → IsIn (length w) g → next ≡ gs ++ g ∷ [] → FormsSoFar w fs gs i → FormsSoFar w fs next (i + 1)
 forms-more w fs gs next i f g l e h v q k = record {
   forms = subst (AreInitialForms w (take (i + 1) fs)) (sym q) (all_zip_more (IsWrittenInitialForm w) fs gs i f g l e k.forms h);
   variables = subst (AreIn (length w)) (sym q) (AreIn-push (length w) gs g k.variables v);
 }
-
-pub forms-all : (w : List ℤ) (fs gs : List Written) (i : ℕ) → length fs ≤ i → FormsSoFar w fs gs i → AreInitialForms w fs gs
-forms-all w fs gs i l k = subst (λ (z : List Written). AreInitialForms w z gs) (take_all i fs l) k.forms

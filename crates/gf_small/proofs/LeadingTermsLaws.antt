@@ -1,28 +1,18 @@
 -- Marked terms as code finds them.
--- To cite: leading_exact, member_has_some, Leading, leading_kept. The rest are steps.
-use Rattle.std.specs.Prelude.{◌≡◌, ℕ, zero, suc, ◌<◌, ◌≤◌, List, [], ◌∷◌, length, map, take}
-use Rattle.std.proofs.Common.{arith, sym, ap, ◌∙◌, subst, get_or}
+-- To cite: leading_exact, Leading, leading_kept. The rest are steps.
+use Rattle.std.specs.Prelude.{◌≡◌, ℕ, ◌≤◌, List, [], ◌∷◌, length, map, take}
+use Rattle.std.proofs.Common.{sym, ap, ◌∙◌, subst}
 use Rattle.std.proofs.lemmas.List.{take_all}
 use Rattle.gf_frac.specs.Fraction.{Fraction}
-use Rattle.gf_poly.specs.Polynomial.{HasVariables}
 use Rattle.gf_poly.specs.Marking.{MarkedPolynomial, Each, HaveVariables, HasMarkedTerm, HasMark}
+use Rattle.gf_poly.proofs.CoefficientLaws.{term_coefficient, term_length}
 use Rattle.gf_division.specs.MonicForms.{HasSomeVariables}
-use Rattle.gf_division.proofs.StepLaws.{term_coefficient, term_length}
 use Rattle.gf_small.specs.LeadingTerms.{leading_of}
 
 -- the marked term with the coefficient that the mark has
 pub leading_exact : (b c : MarkedPolynomial) (k : Fraction) → HasSomeVariables b → HasMarkedTerm b → HasMark b k → c ≡ record { poly = record { coef = k; mono = b.head } ∷ []; head = b.head } → c ≡ leading_of b
 leading_exact b c k v m h e =
     e ∙ ap (λ (z : Fraction). record { poly = record { coef = z; mono = b.head } ∷ []; head = b.head }) (sym (term_coefficient v.n b.poly (record { coef = k; mono = b.head }) v.each m.descending h))
-
--- a member of a set has the variables of the set
-member_has : (n : ℕ) (bs : List MarkedPolynomial) (i : ℕ) (b : MarkedPolynomial) → HaveVariables n bs → i < length bs → b ≡ get_or bs i b → HasVariables n b.poly
-member_has n [] i b v l q = absurd (omega arith)
-member_has n (c ∷ bs) zero b v l q = subst (λ (m : MarkedPolynomial). HasVariables n m.poly) (sym q) v.0
-member_has n (c ∷ bs) (suc i) b v l q = member_has n bs i b v.1 (omega arith) q
-
-pub member_has_some : (n : ℕ) (bs items : List MarkedPolynomial) (i : ℕ) (b : MarkedPolynomial) → items ≡ bs → HaveVariables n bs → i < length items → b ≡ get_or items i b → HasSomeVariables b
-member_has_some n bs items i b e v l q = record { n = n; each = member_has n items i b (subst (HaveVariables n) (sym e) v) l q }
 
 -- the marked terms of the first i members, which are marked
 pub record Leading (bs found : List MarkedPolynomial) (i : ℕ) : Type 0 where

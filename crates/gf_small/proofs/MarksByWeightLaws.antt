@@ -14,11 +14,12 @@ use Rattle.gf_exponents.specs.Orders.{IsLexBelow, lex}
 use Rattle.gf_exponents.proofs.OrderLaws.{lex-compares, lex-strict}
 use Rattle.gf_poly.specs.declared.Term.{Term}
 use Rattle.gf_poly.specs.Polynomial.{Terms, IsDescending, HasVariables}
-use Rattle.gf_poly.specs.Marking.{MarkedPolynomial, MarkedPolynomials, Each, HaveVariables, head_of, polys}
+use Rattle.gf_poly.specs.Marking.{MarkedPolynomial, Each, HaveVariables, head_of, polys}
 use Rattle.gf_poly.proofs.MarkingLaws.{mark_at}
 use Rattle.gf_poly.proofs.CoefficientLaws.{term_length}
 use Rattle.gf_ideal.proofs.ListLaws.{Each-++}
-use Rattle.gf_small.specs.MarksByWeight.{IsBelowBy, IsMarkedByWeight, AreMarkedByWeight}
+use Rattle.gf_division.proofs.TailLaws.{head_at}
+use Rattle.gf_small.specs.MarksByWeight.{IsBelowBy, IsMarkedByWeight}
 
 -- ---- comparisons
 
@@ -40,11 +41,6 @@ IsBelowBy-trans w x y z (inr a) (inl b) = inl (omega (arith, ints, a.0, b))
 IsBelowBy-trans w x y z (inr a) (inr b) = inr (a.0 ∙ b.0, lex-strict.transitive x y z a.1 b.1)
 
 -- ---- the term at a place
-
-pub head_at : (f : Terms) (i : ℕ) (t : Term) → i < length f → t ≡ get_or f i t → head_of f i ≡ t.mono
-head_at [] i t h is = absurd (omega arith)
-head_at (s ∷ f) zero t h is = ap (λ (z : Term). z.mono) (sym is)
-head_at (s ∷ f) (suc i) t h is = head_at f i t (omega arith) is
 
 -- each of the first i terms is at the place or below the term there, which has the weight m
 pub record Greatest (w : List ℤ) (f : Terms) (place : ℕ) (m : ℤ) (i : ℕ) : Type 0 where
@@ -149,9 +145,6 @@ pub record MarkedSoFar (w : List ℤ) (set : List Terms) (found : List MarkedPol
   pub polynomials : polys found ≡ take i set
   pub marks : Each (IsMarkedByWeight w) found
 
-pub marked-none : (w : List ℤ) (set : List Terms) → MarkedSoFar w set [] 0
-marked-none w set = record { polynomials = refl; marks = tt }
-
 pub marked-more : (w : List ℤ) (set : List Terms) (found next : List MarkedPolynomial) (i : ℕ) (f : Terms) (c : MarkedPolynomial) → i < length set → f ≡ get_or set i f → c.poly ≡ f → IsMarkedByWeight w c → next ≡ found ++ c ∷ [] → MarkedSoFar w set found i → MarkedSoFar w set next (i + 1)
 marked-more w set found next i f c l e p m q h = record {
   polynomials = ap polys q ∙ map-append poly_of found (c ∷ []) ∙ ap (λ z. polys found ++ z ∷ []) p ∙ ap (λ z. z ++ f ∷ []) h.polynomials ∙ sym (take_more set i f l ∙ ap (λ (z : Terms). take i set ++ z ∷ []) (sym e));
@@ -174,6 +167,3 @@ variables_by n (f ∷ set) (c ∷ cs) e v = (subst (HasVariables n) (sym (first 
 
 pub marked-variables : (n k : ℕ) (w : List ℤ) (set : List Terms) (found : List MarkedPolynomial) (i : ℕ) → k ≡ n → All (HasVariables n) set → length set ≤ i → MarkedSoFar w set found i → HaveVariables k found
 marked-variables n k w set found i q v l h = subst (λ (m : ℕ). HaveVariables m found) (sym q) (variables_by n set found (h.polynomials ∙ take_all i set l) v)
-
-pub marked-all : (w : List ℤ) (set : List Terms) (t : MarkedPolynomials) (found : List MarkedPolynomial) (k i : ℕ) → k ≡ length w → t ≡ record { variables = k; items = found } → length set ≤ i → MarkedSoFar w set found i → AreMarkedByWeight w set t
-marked-all w set t found k i q r l h = subst (AreMarkedByWeight w set) (sym r) (record { variables = q; polynomials = h.polynomials ∙ take_all i set l; marks = h.marks })

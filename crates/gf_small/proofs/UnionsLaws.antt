@@ -1,6 +1,6 @@
 -- The union of sets, polynomial by polynomial.
--- To cite: same_terms, other_terms, same_so_far, other_here, other_length, terms_exact, nothing_exact, equal_at, none_equal, passed,
--- SeenSoFar and its steps, UnitedSoFar and its steps.
+-- To cite: same_terms, other_terms, other_length, terms_exact, nothing_exact, equal_at, none_equal, passed, SeenSoFar and
+-- its steps, UnitedSoFar and its steps.
 use Rattle.std.specs.Prelude.{◌≡◌, ◌↔◌, ℕ, zero, suc, ◌+◌, ◌<◌, ◌≤◌, Bool, true, IsTrue, List, [], ◌∷◌, ◌++◌, length, take, get_or, flat_map}
 use Rattle.std.proofs.Common.{arith, refl, sym, ap, subst, ◌∙◌, append_assoc, append-nil}
 use Rattle.std.specs.Prelude.{Vec}
@@ -22,26 +22,13 @@ use Rattle.gf_poly.proofs.CoefficientLaws.{descending_unique}
 use Rattle.gf_text.specs.declared.written.Written.{Written}
 use Rattle.gf_text.specs.Sets.{AreIn}
 use Rattle.gf_text.specs.SetLists.{AreAllIn, sets_in}
-use Rattle.gf_small.specs.Unions.{AreEqual, IsAmong, IsNew, AreFirstSeen, IsUnion}
+use Rattle.gf_small.specs.Unions.{IsAmong, IsNew, AreFirstSeen, IsUnion}
 use Rattle.gf_small.proofs.WrittenLaws.{AreIn-push, in_read}
 
 -- ---- lists of terms
 
--- one place further
-pub same_so_far : (f g : Terms) (i : ℕ) (s t : Term) → i < length f → i < length g → s ≡ get_or f i s → t ≡ get_or g i t → s ≡ t → take i f ≡ take i g → take (i + 1) f ≡ take (i + 1) g
-same_so_far f g i s t l k es et e h = take_more f i s l ∙ ap (λ (z : Term). take i f ++ z ∷ []) (sym es ∙ e ∙ et) ∙ ap (λ (z : Terms). z ++ get_or g i t ∷ []) h ∙ sym (take_more g i t k)
-
 pub same_to_end : (f g : Terms) (i : ℕ) → length f ≡ length g → length f ≤ i → take i f ≡ take i g → f ≡ g
 same_to_end f g i e l h = sym (take_all i f l) ∙ h ∙ take_all i g (omega arith)
-
--- another term at the same place
-pub other_here : (f g : Terms) (i : ℕ) (s t : Term) → i < length f → s ≡ get_or f i s → t ≡ get_or g i t → (s ≡ t → ⊥) → f ≡ g → ⊥
-other_here f g i s t l es et n e = n (es ∙ default f i s t l ∙ ap (λ (z : Terms). get_or z i t) e ∙ sym et)
-  where
-    default : (h : Terms) (k : ℕ) (a b : Term) → k < length h → get_or h k a ≡ get_or h k b
-    default [] k a b l = absurd (omega arith)
-    default (r ∷ h) zero a b l = refl
-    default (r ∷ h) (suc k) a b l = default h k a b (omega arith)
 
 -- ---- polynomials
 
@@ -53,23 +40,12 @@ terms_exact n f g b v w d e h = (λ t x. ap (λ (z : Terms). coefficient z x) (h
 pub empty_exact : (n : ℕ) (f : Terms) (b : Bool) → HasVariables n f → IsDescending f → IsTrue b ↔ (f ≡ []) → IsTrue b ↔ SamePolynomial f []
 empty_exact n f b v d h = terms_exact n f [] b v tt d tt h
 
--- ---- one of these, or none
-
-pub among_at : (w v : Written) (vs : List Written) (k : ℕ) → k < length vs → v ≡ get_or vs k v → AreEqual v w → IsAmong w vs
-among_at w v vs k l e q = (k, v, l, sym e, q)
-
 -- ---- the polynomials of a set
 
 -- what is kept after the first i polynomials of a set
 pub record SeenSoFar (old set kept : List Written) (i : ℕ) : Type 0 where
   pub seen : (fs : List Written) → AreFirstSeen fs old → AreFirstSeen (fs ++ take i set) kept
   pub variables : (n : ℕ) → AreIn n old → AreIn n set → AreIn n kept
-
-pub seen-none : (old set : List Written) → SeenSoFar old set old 0
-seen-none old set = record {
-  seen = λ fs h. subst (λ (z : List Written). AreFirstSeen z old) (sym (append-nil fs)) h;
-  variables = λ n h k. h;
-}
 
 one_more : (fs set : List Written) (i : ℕ) (w : Written) → i < length set → w ≡ get_or set i w → fs ++ take (i + 1) set ≡ (fs ++ take i set) ++ w ∷ []
 one_more fs set i w l e = ap (λ (z : List Written). fs ++ z) (take_more set i w l ∙ ap (λ (z : Written). take i set ++ z ∷ []) (sym e)) ∙ sym (append_assoc fs (take i set) (w ∷ []))
@@ -85,9 +61,6 @@ seen-dropped old set kept i w l e among h = record {
   seen = λ fs s. AreFirstSeen.dropped (fs ++ take i set) kept (fs ++ take (i + 1) set) w (one_more fs set i w l e) among (h.seen fs s);
   variables = h.variables;
 }
-
-pub seen-all : (old set kept : List Written) (i : ℕ) → length set ≤ i → SeenSoFar old set kept i → (fs : List Written) → AreFirstSeen fs old → AreFirstSeen (fs ++ set) kept
-seen-all old set kept i l h fs s = subst (λ (z : List Written). AreFirstSeen (fs ++ z) kept) (take_all i set l) (h.seen fs s)
 
 -- ---- the sets
 
@@ -114,9 +87,6 @@ united-more sets kept next s i l e add in_n h = record {
   union = subst (λ (z : List Written). AreFirstSeen z next) (sym (ap (flat_map (λ (t : List Written). t)) (take_more sets i s l ∙ ap (λ (z : List Written). take i sets ++ z ∷ []) (sym e)) ∙ all_and_one (take i sets) s)) (add _ h.union);
   variables = λ n a. in_n n (h.variables n a) (subst (AreIn n) (sym e) (set_in n sets i s a l));
 }
-
-pub united-all : (sets : List (List Written)) (kept : List Written) (i : ℕ) → length sets ≤ i → UnitedSoFar sets kept i → IsUnion sets kept
-united-all sets kept i l h = subst (λ (z : List (List Written)). IsUnion z kept) (take_all i sets l) h.union
 
 -- ---- tests
 
@@ -145,9 +115,6 @@ set_at (u ∷ vs) (suc i) v l e = set_at vs i v (omega arith) e
 
 pub set_inside : (vs : List (Vec Written Global)) (i : ℕ) → i < length vs → i < length (sets_in vs)
 set_inside vs i l = omega (arith, length-map vs (λ (v : Vec Written Global). v.items))
-
-pub sets_done : (vs : List (Vec Written Global)) (i : ℕ) → length vs ≤ i → length (sets_in vs) ≤ i
-sets_done vs i l = omega (arith, length-map vs (λ (v : Vec Written Global). v.items))
 
 pub in_set : (n : ℕ) (sets : List (List Written)) (i : ℕ) (s : List Written) → i < length sets → s ≡ get_or sets i s → AreAllIn n sets → AreIn n s
 in_set n sets i s l e h = subst (AreIn n) (sym e) (set_in n sets i s h l)

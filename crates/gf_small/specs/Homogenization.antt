@@ -24,6 +24,7 @@ new_exponent d x = d - degree x
 abbrev pub filled : ℕ → Exponents → Exponents
 filled d x = x ++ new_exponent d x ∷ []
 
+-- the term, with that power
 abbrev pub filled_term : ℕ → Term → Term
 filled_term d t = record { coef = t.coef; mono = filled d t.mono }
 
@@ -55,6 +56,7 @@ AreHomogenizations fs gs = AllZip IsWrittenHomogenization fs gs
 abbrev pub ExponentsFit : ℕ → Terms → Type 0
 ExponentsFit d f = All (λ t. new_exponent d t.mono < 2 ^ 31) f
 
+-- so it is with a polynomial that may be zero: the homogenisation of zero has no exponents
 abbrev pub IsHomogenizedWithinLimit : Written → Type 0
 IsHomogenizedWithinLimit written.Zero = Unit {0}
 IsHomogenizedWithinLimit (written.Nonzero b) = ExponentsFit (total_degree b.poly) b.poly
@@ -74,6 +76,7 @@ pub record IsFirstPastLimit (d : ℕ) (f : Terms) (o : ExponentOverflow) : Type 
   pub before : ExponentsFit d earlier
   pub past : IsExponentPastLimit (new_exponent d term.mono) o
 
+-- the polynomial has such a term, and o is told of it
 abbrev pub IsPastLimitIn : Written → ExponentOverflow → Type 0
 IsPastLimitIn written.Zero o = ⊥
 IsPastLimitIn (written.Nonzero b) o = IsFirstPastLimit (total_degree b.poly) b.poly o

@@ -1,5 +1,5 @@
 //! The leading terms of a marked set.
-ghost use Rattle.std.specs.Prelude.{◌≡◌, length, IfOk};
+ghost use Rattle.std.specs.Prelude.{◌≡◌, IfOk};
 ghost use Rattle.gf_poly.specs.Marking.{HasMarkedTerm};
 ghost use Rattle.gf_division.specs.MonicForms.{HasSomeVariables};
 ghost use Rattle.gf_small.specs.LeadingTerms.{leading_of, leading_set};

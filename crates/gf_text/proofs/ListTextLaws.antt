@@ -8,7 +8,7 @@ use Rattle.gf_text.specs.Marks.{comma, brace, brace_end}
 use Rattle.gf_text.specs.Tokens.{is_number}
 use Rattle.gf_text.specs.SetText.{variable, is_word}
 use Rattle.gf_text.specs.ListText.{AreMoreItems, IsListText, ListPlace, opening, first_item, inside, behind_item, ListState, in_item, list_step}
-use Rattle.gf_text.proofs.MachineLaws.{after-go, after-done, first, not_yet, IsMachineOf}
+use Rattle.gf_text.proofs.MachineLaws.{after-go, after-done, first, not_yet, IsMachineOf, Then, From, move, chosen, halted, ended}
 use Rattle.gf_text.proofs.KindsLaws.{refused_by, NoNumbers, Numbers, NoWords, Words, Reason, IsGate, IsNumberCause, one}
 use Rattle.gf_text.proofs.SetTokensLaws.{is_mark, number_no_mark, word_no_mark}
 
@@ -19,9 +19,6 @@ module _ {S A : Type 0} (step : S → List ℕ → Move S A) (start : S) where
   abbrev At : Type 0
   At = ListState S A
 
-  abbrev step_list : At → List ℕ → Move At (List A)
-  step_list s t = list_step step start s t
-
   abbrev goes : At → Move At (List A)
   goes s = go s
 
@@ -30,29 +27,6 @@ module _ {S A : Type 0} (step : S → List ℕ → Move S A) (start : S) where
 
   abbrev stops : Cause → Move At (List A)
   stops cause = halt cause
-
-  -- behind this move these tokens are read, and these items
-  abbrev Then : Move At (List A) → Texts → List A → Type 0
-  Then m ts all = followed m ts (λ u. after step_list u ts) ≡ done all
-
-  -- what is read from a state on
-  abbrev From : At → Texts → List A → Type 0
-  From s ts all = after step_list s ts ≡ done all
-
-  move : (s : At) (t : List ℕ) (ts : Texts) (all : List A) → From s (t ∷ ts) all → Then (step_list s t) ts all
-  unfolding after
-  move s t ts all e = e
-
-  chosen : (b : Bool) (x y : Move At (List A)) (ts : Texts) (all : List A) → Then (if b then x else y) ts all → ((b ≡ true) × Then x ts all) ⊎ ((b ≡ false) × Then y ts all)
-  chosen true x y ts all e = inl (refl, e)
-  chosen false x y ts all e = inr (refl, e)
-
-  halted : {X : Type 0} (cause : Cause) (ts : Texts) (all : List A) → Then (stops cause) ts all → X
-  halted cause ts all e = cc
-
-  ended : (xs : List A) (ts : Texts) (all : List A) → Then (ends xs) ts all → (ts ≡ []) × (all ≡ xs)
-  ended xs [] all e = (refl, cc)
-  ended xs (t ∷ ts) all e = cc
 
 module _ {S A : Type 0} {step : S → List ℕ → Move S A} {start : S} {item : Texts → A → Type 0} (is : IsMachineOf step start item) where
   -- ---- what is read from each place on
@@ -86,7 +60,7 @@ module _ {S A : Type 0} {step : S → List ℕ → Move S A} {start : S} {item :
 
   -- what follows a token
   Later : Texts → Type 0
-  Later ts = (place : ListPlace S) (before all : List A) → From step start (place, before) ts all → Said place before ts all
+  Later ts = (place : ListPlace S) (before all : List A) → From (list_step step start) (place, before) ts all → Said place before ts all
 
   one_more : (before : List A) (t : List ℕ) (ts : Texts) (all : List A) → t ≡ comma → Within start before ts all → More before (t ∷ ts) all
   one_more before t ts all mark n = record {
@@ -109,7 +83,7 @@ module _ {S A : Type 0} {step : S → List ℕ → Move S A} {start : S} {item :
   -- ---- what is read, token by token
 
   module _ (t : List ℕ) (ts : Texts) (later : Later ts) where
-    item_by : (s : S) (m : Move S A) → step s t ≡ m → (before all : List A) → Then step start (in_item before m) ts all → Within s before (t ∷ ts) all
+    item_by : (s : S) (m : Move S A) → step s t ≡ m → (before all : List A) → Then (list_step step start) (in_item before m) ts all → Within s before (t ∷ ts) all
     unfolding Said Later
     item_by s (go u) on before all e =
         let w = later (inside u) before all e in
@@ -131,29 +105,29 @@ module _ {S A : Type 0} {step : S → List ℕ → Move S A} {start : S} {item :
     }
     item_by s (halt cause) on before all e = cc
 
-    on_token : (place : ListPlace S) (before all : List A) → Then step start (list_step step start (place, before) t) ts all → Said place before (t ∷ ts) all
+    on_token : (place : ListPlace S) (before all : List A) → Then (list_step step start) (list_step step start (place, before) t) ts all → Said place before (t ∷ ts) all
     unfolding Said Later
-    on_token opening before all e = elim (chosen step start (bytes_eq t brace) (go (first_item, before)) (halt Unexpected) ts all e) [
+    on_token opening before all e = elim (chosen (list_step step start) (bytes_eq t brace) (go (first_item, before)) (halt Unexpected) ts all e) [
       | inl h ↦ (ts, ap (λ y. y ∷ ts) (is_mark t brace h.0), later first_item before all h.1)
-      | inr h ↦ halted step start Unexpected ts all h.1
+      | inr h ↦ halted (list_step step start) Unexpected ts all h.1
     ]
-    on_token first_item before all e = elim (chosen step start (bytes_eq t brace_end) (done before) (in_item before (step start t)) ts all e) [
-      | inl h ↦ (let end = ended step start before ts all h.1 in inl (ap (λ y. y ∷ ts) (is_mark t brace_end h.0) ∙ ap (λ l. brace_end ∷ l) end.0, end.1))
+    on_token first_item before all e = elim (chosen (list_step step start) (bytes_eq t brace_end) (done before) (in_item before (step start t)) ts all e) [
+      | inl h ↦ (let end = ended (list_step step start) before ts all h.1 in inl (ap (λ y. y ∷ ts) (is_mark t brace_end h.0) ∙ ap (λ l. brace_end ∷ l) end.0, end.1))
       | inr h ↦ inr (item_by start (step start t) refl before all h.1)
     ]
     on_token (inside s) before all e = item_by s (step s t) refl before all e
-    on_token behind_item before all e = elim (chosen step start (bytes_eq t comma) (go (inside start, before)) (if bytes_eq t brace_end then done before else halt Unexpected) ts all e) [
+    on_token behind_item before all e = elim (chosen (list_step step start) (bytes_eq t comma) (go (inside start, before)) (if bytes_eq t brace_end then done before else halt Unexpected) ts all e) [
       | inl h ↦ one_more before t ts all (is_mark t comma h.0) (later (inside start) before all h.1)
-      | inr h ↦ elim (chosen step start (bytes_eq t brace_end) (done before) (halt Unexpected) ts all h.1) [
-        | inl k ↦ (let end = ended step start before ts all k.1 in at_end before t ts all (is_mark t brace_end k.0) end.0 end.1)
-        | inr k ↦ halted step start Unexpected ts all k.1
+      | inr h ↦ elim (chosen (list_step step start) (bytes_eq t brace_end) (done before) (halt Unexpected) ts all h.1) [
+        | inl k ↦ (let end = ended (list_step step start) before ts all k.1 in at_end before t ts all (is_mark t brace_end k.0) end.0 end.1)
+        | inr k ↦ halted (list_step step start) Unexpected ts all k.1
       ]
     ]
 
   said : (ts : Texts) → Later ts
   unfolding Later
   said [] place before all e = absurd (not_yet (list_step step start) (place, before) all e)
-  said (t ∷ ts) place before all e = on_token t ts (λ q b a f. said ts q b a f) place before all (move step start (place, before) t ts all e)
+  said (t ∷ ts) place before all e = on_token t ts (λ q b a f. said ts q b a f) place before all (move (list_step step start) (place, before) t ts all e)
 
   list_by : (ts rest : Texts) (all : List A) → ts ≡ brace ∷ rest → First [] rest all → IsListText item ts all
   list_by ts rest all mark (inl h) = subst (λ (xs : List A). IsListText item ts xs) (sym h.1) (mark ∙ ap (λ l. brace ∷ l) h.0)
@@ -165,7 +139,7 @@ module _ {S A : Type 0} {step : S → List ℕ → Move S A} {start : S} {item :
     n.more.are_items,
   )
 
-  list_said : (ts : Texts) (all : List A) → From step start (opening, []) ts all → IsListText item ts all
+  list_said : (ts : Texts) (all : List A) → From (list_step step start) (opening, []) ts all → IsListText item ts all
   unfolding Said Later
   list_said ts all e = let s = said ts opening [] all e in list_by ts s.0 all s.1 s.2
 
@@ -203,7 +177,7 @@ module _ {S A : Type 0} {step : S → List ℕ → Move S A} {start : S} {item :
         let same : list_step step start (first_item, before) t ≡ list_step step start (inside start, before) t = rw other refl in
         same_after (first_item, before) (inside start, before) t (front ++ rest) same ∙ in_read start (t ∷ front) x e before rest
 
-    more_given : (xs : List A) (ts : Texts) → AreMoreItems item ts xs → (before : List A) → From step start (behind_item, before) (ts ++ brace_end ∷ []) (before ++ xs)
+    more_given : (xs : List A) (ts : Texts) → AreMoreItems item ts xs → (before : List A) → From (list_step step start) (behind_item, before) (ts ++ brace_end ∷ []) (before ++ xs)
     more_given [] ts none before =
         ap (λ l. after (list_step step start) (behind_item, before) (l ++ brace_end ∷ [])) none
         ∙ after-done (list_step step start) (behind_item, before) before brace_end refl
@@ -217,7 +191,7 @@ module _ {S A : Type 0} {step : S → List ℕ → Move S A} {start : S} {item :
         ∙ more_given xs rest more (before ++ x ∷ [])
         ∙ ap (ends step start) (append_assoc before (x ∷ []) xs)
 
-    list_given : (ts : Texts) (xs : List A) → IsListText item ts xs → From step start (opening, []) ts xs
+    list_given : (ts : Texts) (xs : List A) → IsListText item ts xs → From (list_step step start) (opening, []) ts xs
     list_given ts [] shape =
         ap (after (list_step step start) (opening, [])) shape
         ∙ after-go (list_step step start) (opening, []) (first_item, []) brace (brace_end ∷ []) refl
@@ -232,9 +206,9 @@ module _ {S A : Type 0} {step : S → List ℕ → Move S A} {start : S} {item :
     -- ---- from each state some tokens lead to a list
 
     abbrev Live : ListState S A → Type 0
-    Live s = (ts : Texts) × (xs : List A) × From step start s ts xs
+    Live s = (ts : Texts) × (xs : List A) × From (list_step step start) s ts xs
 
-    behind_live : (xs : List A) → From step start (behind_item, xs) (brace_end ∷ []) xs
+    behind_live : (xs : List A) → From (list_step step start) (behind_item, xs) (brace_end ∷ []) xs
     behind_live xs = after-done (list_step step start) (behind_item, xs) xs brace_end refl
 
     is_live : (s : ListState S A) → Live s

@@ -1,8 +1,8 @@
 -- What machines read: turn by turn, and against what they do at the texts of tokens.
 -- To cite: run_go, run_done, run_halt, run_ended for a loop; reads, is_read for grammars; failed, IsMachineOf with fault, no_text, caused for refusals,
 -- IsTaken, taken_follows, never for their kinds;
--- after-go, after-done, after-++, first, not_yet. The rest are steps.
-use Rattle.std.proofs.Common.{◌≡◌, ℕ, Result, Ok, Err, List, [], ◌∷◌, ◌++◌, refl, sym, ap, ◌∙◌, subst, ◌⊎◌, inl, inr, append_assoc, append-nil}
+-- after-go, after-done, after-++, first, not_yet; Then, From, move, chosen, halted, ended for what follows a move. The rest are steps.
+use Rattle.std.proofs.Common.{◌≡◌, ℕ, Bool, true, false, if◌then◌else◌, Result, Ok, Err, List, [], ◌∷◌, ◌++◌, refl, sym, ap, ◌∙◌, subst, ◌⊎◌, inl, inr, append_assoc, append-nil}
 use Rattle.gf_text.specs.declared.error.Cause.{Cause}
 use Rattle.gf_text.specs.declared.error.Cause.TheVariants.{Ended, Unexpected, RepeatedName, ZeroDenominator, TooWide, UnknownName}
 use Rattle.gf_text.specs.declared.error.TextError.{TextError}
@@ -78,6 +78,31 @@ module _ {S A : Type 0} (step : S → List ℕ → Move S A) where
   pub not_yet : (s : S) (a : A) → after step s [] ≡ done a → ⊥
   unfolding after
   not_yet s a e = cc
+
+  -- ---- a move, and what follows it
+
+  -- behind this move these tokens are read, and this
+  abbrev pub Then : Move S A → List (List ℕ) → A → Type 0
+  Then m ts all = followed m ts (λ u. after step u ts) ≡ done all
+
+  -- what is read from a state on
+  abbrev pub From : S → List (List ℕ) → A → Type 0
+  From s ts all = after step s ts ≡ done all
+
+  pub move : (s : S) (t : List ℕ) (ts : List (List ℕ)) (all : A) → From s (t ∷ ts) all → Then (step s t) ts all
+  unfolding after
+  move s t ts all e = e
+
+  pub chosen : (b : Bool) (x y : Move S A) (ts : List (List ℕ)) (all : A) → Then (if b then x else y) ts all → ((b ≡ true) × Then x ts all) ⊎ ((b ≡ false) × Then y ts all)
+  chosen true x y ts all e = inl (refl, e)
+  chosen false x y ts all e = inr (refl, e)
+
+  pub halted : {X : Type 0} (cause : Cause) (ts : List (List ℕ)) (all : A) → Then (halt cause) ts all → X
+  halted cause ts all e = cc
+
+  pub ended : (a : A) (ts : List (List ℕ)) (all : A) → Then (done a) ts all → (ts ≡ []) × (all ≡ a)
+  ended a [] all e = (refl, cc)
+  ended a (t ∷ ts) all e = cc
 
   -- ---- the machine reads exactly what it is done with
 

@@ -4,7 +4,6 @@
 -- To cite: Leads, Like, Takes; behind_like, number_like; like_sign, like_comma, like_end; Behind, then_factors, behind_at, factors_read, monomial_read. The rest are steps.
 use Rattle.std.proofs.Common.{◌≡◌, ℕ, Bool, true, false, List, [], ◌∷◌, ◌++◌, Some, refl, sym, ap, ◌∙◌, inl, inr, append_assoc, append-nil, bytes_eq}
 use Rattle.gf_text.specs.declared.tree.Factor.{Factor}
-use Rattle.gf_text.specs.declared.tree.WrittenTerm.{WrittenTerm}
 use Rattle.gf_text.specs.declared.set_reader.SetPlace.TheVariants as at
 use Rattle.gf_text.specs.declared.set_reader.Part.{Part}
 use Rattle.gf_text.specs.Machine.{go, done, after}
@@ -17,9 +16,6 @@ use Rattle.gf_text.proofs.SetTokensLaws.{named_word, no_name, word_no_mark, numb
 
 abbrev Texts : Type 0
 Texts = List (List ℕ)
-
-abbrev Sets : Type 0
-Sets = List (List WrittenTerm)
 
 module _ (ring : List (List ℕ)) where
   -- from a state, some tokens lead to another

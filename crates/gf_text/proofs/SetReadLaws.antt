@@ -1,17 +1,16 @@
 -- The machine of sets reads no more than the grammar of sets says.
 -- To cite: set_said. The rest are steps: a move and what follows it, what is read at each place, token by token.
-use Rattle.std.proofs.Common.{◌≡◌, ℕ, ◌==◌, nat_le, Bool, true, false, ◌&&◌, List, [], ◌∷◌, Option, Some, None, refl, sym, ap, subst, ◌∙◌, ◌⊎◌, inl, inr, bytes_eq, if◌then◌else◌}
-use Rattle.gf_text.specs.declared.error.Cause.{Cause}
+use Rattle.std.proofs.Common.{◌≡◌, ℕ, ◌==◌, nat_le, true, false, ◌&&◌, List, [], ◌∷◌, Option, Some, None, refl, sym, ap, subst, ◌∙◌, ◌⊎◌, inl, inr, bytes_eq, if◌then◌else◌}
 use Rattle.gf_text.specs.declared.error.Cause.TheVariants.{Unexpected, UnknownName, TooWide, ZeroDenominator}
 use Rattle.gf_text.specs.declared.tree.WrittenTerm.{WrittenTerm}
 use Rattle.gf_text.specs.declared.set_reader.SetPlace.{SetPlace}
 use Rattle.gf_text.specs.declared.set_reader.SetPlace.TheVariants as at
 use Rattle.gf_text.specs.declared.set_reader.Part.{Part}
-use Rattle.gf_text.specs.Machine.{go, done, halt, after, followed}
+use Rattle.gf_text.specs.Machine.{go, done, halt, after}
 use Rattle.gf_text.specs.Tokens.{is_number, decimal_value}
-use Rattle.gf_text.specs.SetText.{variable, most, most_exponent, IsNumberText, IsSetText, SetState, SetMove, with_variable, with_factor, with_sign, with_numer, with_denom, next_term, all_of, next_polynomial, is_word, name_or_by, number_or, term_or, front_step, end_step, behind_step, token_step, set_step, empty}
+use Rattle.gf_text.specs.SetText.{variable, most, most_exponent, IsNumberText, IsSetText, SetMove, with_variable, with_factor, with_sign, with_numer, with_denom, next_term, all_of, next_polynomial, is_word, name_or_by, number_or, term_or, front_step, end_step, behind_step, token_step, set_step, empty}
 use Rattle.gf_text.specs.Marks.{plus_mark, minus_mark, comma, star, slash, caret, brace, brace_end}
-use Rattle.gf_text.proofs.MachineLaws.{not_yet}
+use Rattle.gf_text.proofs.MachineLaws.{not_yet, Then, From, move, chosen, halted, ended}
 use Rattle.gf_text.proofs.SetPartsLaws.{Behind, Factored, Named, Powered, Numbered, Divided, FreshTerm, Term, Fresh, Polynomial, First, one_factor, more_factors, more_terms, more_polynomials, at_end, factor_term, number_term, signed, bare}
 use Rattle.gf_text.proofs.SetTokensLaws.{is_mark, le_from, positive}
 
@@ -22,47 +21,22 @@ abbrev Sets : Type 0
 Sets = List (List WrittenTerm)
 
 module _ (ring : List (List ℕ)) where
-  -- ---- a move, and what follows it
-
-  -- behind this move these tokens are read, and this set
-  abbrev Then : SetMove → Texts → Sets → Type 0
-  Then m ts ps = followed m ts (λ u. after (set_step ring) u ts) ≡ done ps
-
-  -- what is read from a state on
-  abbrev From : SetState → Texts → Sets → Type 0
-  From s ts ps = after (set_step ring) s ts ≡ done ps
-
-  move : (s : SetState) (t : List ℕ) (ts : Texts) (ps : Sets) → From s (t ∷ ts) ps → Then (set_step ring s t) ts ps
-  unfolding after
-  move s t ts ps e = e
-
-  chosen : (b : Bool) (x y : SetMove) (ts : Texts) (ps : Sets) → Then (if b then x else y) ts ps → ((b ≡ true) × Then x ts ps) ⊎ ((b ≡ false) × Then y ts ps)
-  chosen true x y ts ps e = inl (refl, e)
-  chosen false x y ts ps e = inr (refl, e)
-
-  halted : {X : Type 0} (cause : Cause) (ts : Texts) (ps : Sets) → Then (halt cause) ts ps → X
-  halted cause ts ps e = cc
-
-  ended : (a : Sets) (ts : Texts) (ps : Sets) → Then (done a) ts ps → (ts ≡ []) × (ps ≡ a)
-  ended a [] ps e = (refl, cc)
-  ended a (t ∷ ts) ps e = cc
-
   -- a name, or what another token does
-  named_by : (o : Option ℕ) (p : Part) (t : List ℕ) (other : SetMove) (ts : Texts) (ps : Sets) → Then (name_or_by o p t other) ts ps
-      → ((v : ℕ) × (o ≡ Some v) × From (at.Name, with_variable p v) ts ps) ⊎ Then other ts ps
+  named_by : (o : Option ℕ) (p : Part) (t : List ℕ) (other : SetMove) (ts : Texts) (ps : Sets) → Then (set_step ring) (name_or_by o p t other) ts ps
+      → ((v : ℕ) × (o ≡ Some v) × From (set_step ring) (at.Name, with_variable p v) ts ps) ⊎ Then (set_step ring) other ts ps
   named_by (Some v) p t other ts ps e = inl (v, refl, e)
-  named_by None p t other ts ps e = elim (chosen (is_word t) (halt UnknownName) other ts ps e) [
-    | inl h ↦ halted UnknownName ts ps h.1
+  named_by None p t other ts ps e = elim (chosen (set_step ring) (is_word t) (halt UnknownName) other ts ps e) [
+    | inl h ↦ halted (set_step ring) UnknownName ts ps h.1
     | inr h ↦ inr h.1
   ]
 
   -- a number, or what another token does
-  numbered : (t : List ℕ) (limit : ℕ) (taken other : SetMove) (ts : Texts) (ps : Sets) → Then (number_or t limit taken other) ts ps
-      → (IsNumberText t (decimal_value t) limit × Then taken ts ps) ⊎ Then other ts ps
-  numbered t limit taken other ts ps e = elim (chosen (is_number t) (if nat_le (decimal_value t) limit then taken else halt TooWide) other ts ps e) [
+  numbered : (t : List ℕ) (limit : ℕ) (taken other : SetMove) (ts : Texts) (ps : Sets) → Then (set_step ring) (number_or t limit taken other) ts ps
+      → (IsNumberText t (decimal_value t) limit × Then (set_step ring) taken ts ps) ⊎ Then (set_step ring) other ts ps
+  numbered t limit taken other ts ps e = elim (chosen (set_step ring) (is_number t) (if nat_le (decimal_value t) limit then taken else halt TooWide) other ts ps e) [
     | inr h ↦ inr h.1
-    | inl h ↦ elim (chosen (nat_le (decimal_value t) limit) taken (halt TooWide) ts ps h.1) [
-      | inr k ↦ halted TooWide ts ps k.1
+    | inl h ↦ elim (chosen (set_step ring) (nat_le (decimal_value t) limit) taken (halt TooWide) ts ps h.1) [
+      | inr k ↦ halted (set_step ring) TooWide ts ps k.1
       | inl k ↦ inl ((h.0, refl, le_from (decimal_value t) limit k.0), k.1)
     ]
   ]
@@ -83,36 +57,36 @@ module _ (ring : List (List ℕ)) where
 
   -- what follows a token
   Later : Texts → Type 0
-  Later ts = (place : SetPlace) (p : Part) (ps : Sets) → From (place, p) ts ps → Said place p ts ps
+  Later ts = (place : SetPlace) (p : Part) (ps : Sets) → From (set_step ring) (place, p) ts ps → Said place p ts ps
 
   -- ---- what is read, token by token
 
   module _ (t : List ℕ) (ts : Texts) (later : Later ts) where
-    name_on : (p : Part) (ps : Sets) (v : ℕ) → variable ring t ≡ Some v → From (at.Name, with_variable p v) ts ps → Factored ring p (t ∷ ts) ps
+    name_on : (p : Part) (ps : Sets) (v : ℕ) → variable ring t ≡ Some v → From (set_step ring) (at.Name, with_variable p v) ts ps → Factored ring p (t ∷ ts) ps
     unfolding Said Later
     name_on p ps v named e = one_factor ring p t v ts ps named (later at.Name (with_variable p v) ps e)
 
     -- behind a whole term
-    end_on : (p : Part) (ps : Sets) → Then (end_step p t) ts ps → Behind ring p (t ∷ ts) ps
+    end_on : (p : Part) (ps : Sets) → Then (set_step ring) (end_step p t) ts ps → Behind ring p (t ∷ ts) ps
     unfolding Said Later
-    end_on p ps e = elim (chosen (bytes_eq t plus_mark) (go (at.Term, next_term p false)) _ ts ps e) [
+    end_on p ps e = elim (chosen (set_step ring) (bytes_eq t plus_mark) (go (at.Term, next_term p false)) _ ts ps e) [
       | inl h ↦ more_terms ring p false t ts ps (is_mark t plus_mark h.0) (later at.Term (next_term p false) ps h.1 (record { numer = refl; denom = refl; factors = refl }))
-      | inr h ↦ elim (chosen (bytes_eq t minus_mark) (go (at.Term, next_term p true)) _ ts ps h.1) [
+      | inr h ↦ elim (chosen (set_step ring) (bytes_eq t minus_mark) (go (at.Term, next_term p true)) _ ts ps h.1) [
         | inl k ↦ more_terms ring p true t ts ps (is_mark t minus_mark k.0) (later at.Term (next_term p true) ps k.1 (record { numer = refl; denom = refl; factors = refl }))
-        | inr k ↦ elim (chosen (bytes_eq t comma) (go (at.Polynomial, next_polynomial p)) _ ts ps k.1) [
+        | inr k ↦ elim (chosen (set_step ring) (bytes_eq t comma) (go (at.Polynomial, next_polynomial p)) _ ts ps k.1) [
           | inl l ↦ more_polynomials ring p t ts ps (is_mark t comma l.0) (later at.Polynomial (next_polynomial p) ps l.1 (record { terms = refl; plus_sign = refl; term = record { numer = refl; denom = refl; factors = refl } }))
-          | inr l ↦ elim (chosen (bytes_eq t brace_end) (done (all_of p)) (halt Unexpected) ts ps l.1) [
-            | inl d ↦ let end = ended (all_of p) ts ps d.1 in at_end ring p t ts ps (is_mark t brace_end d.0) end.0 end.1
-            | inr d ↦ halted Unexpected ts ps d.1
+          | inr l ↦ elim (chosen (set_step ring) (bytes_eq t brace_end) (done (all_of p)) (halt Unexpected) ts ps l.1) [
+            | inl d ↦ let end = ended (set_step ring) (all_of p) ts ps d.1 in at_end ring p t ts ps (is_mark t brace_end d.0) end.0 end.1
+            | inr d ↦ halted (set_step ring) Unexpected ts ps d.1
           ]
         ]
       ]
     ]
 
     -- behind a factor
-    behind_on : (p : Part) (ps : Sets) → Then (behind_step ring p t) ts ps → Behind ring p (t ∷ ts) ps
+    behind_on : (p : Part) (ps : Sets) → Then (set_step ring) (behind_step ring p t) ts ps → Behind ring p (t ∷ ts) ps
     unfolding Said Later
-    behind_on p ps e = elim (chosen (bytes_eq t star) (go (at.Star, p)) _ ts ps e) [
+    behind_on p ps e = elim (chosen (set_step ring) (bytes_eq t star) (go (at.Star, p)) _ ts ps e) [
       | inl h ↦ more_factors ring p (t ∷ []) ts ps (inr (ap (λ x. x ∷ []) (is_mark t star h.0))) (later at.Star p ps h.1)
       | inr h ↦ elim (named_by (variable ring t) p t (end_step p t) ts ps h.1) [
         | inl n ↦ more_factors ring p [] (t ∷ ts) ps (inl refl) (name_on p ps n.0 n.1 n.2)
@@ -121,40 +95,40 @@ module _ (ring : List (List ℕ)) where
     ]
 
     -- where a term is expected
-    term_on : (p : Part) (ps : Sets) → Then (term_or ring p t (halt Unexpected)) ts ps → FreshTerm p → Term ring p (t ∷ ts) ps
+    term_on : (p : Part) (ps : Sets) → Then (set_step ring) (term_or ring p t (halt Unexpected)) ts ps → FreshTerm p → Term ring p (t ∷ ts) ps
     unfolding Said Later
     term_on p ps e fresh = elim (numbered t most (go (at.Number, with_numer p (decimal_value t))) _ ts ps e) [
       | inl h ↦ number_term ring p t ts ps h.0 (later at.Number (with_numer p (decimal_value t)) ps h.1) fresh
       | inr h ↦ elim (named_by (variable ring t) p t (halt Unexpected) ts ps h) [
         | inl n ↦ factor_term ring p (t ∷ ts) ps (name_on p ps n.0 n.1 n.2) fresh
-        | inr k ↦ halted Unexpected ts ps k
+        | inr k ↦ halted (set_step ring) Unexpected ts ps k
       ]
     ]
 
     -- where a polynomial is expected
-    front_on : (p : Part) (ps : Sets) → Then (front_step ring p t) ts ps → Fresh p → Polynomial ring p (t ∷ ts) ps
+    front_on : (p : Part) (ps : Sets) → Then (set_step ring) (front_step ring p t) ts ps → Fresh p → Polynomial ring p (t ∷ ts) ps
     unfolding Said Later
-    front_on p ps e fresh = elim (chosen (bytes_eq t plus_mark) (go (at.Term, with_sign p false)) _ ts ps e) [
+    front_on p ps e fresh = elim (chosen (set_step ring) (bytes_eq t plus_mark) (go (at.Term, with_sign p false)) _ ts ps e) [
       | inl h ↦ signed ring p false t ts ps (is_mark t plus_mark h.0) (later at.Term (with_sign p false) ps h.1 (record { numer = fresh.term.numer; denom = fresh.term.denom; factors = fresh.term.factors })) fresh
-      | inr h ↦ elim (chosen (bytes_eq t minus_mark) (go (at.Term, with_sign p true)) _ ts ps h.1) [
+      | inr h ↦ elim (chosen (set_step ring) (bytes_eq t minus_mark) (go (at.Term, with_sign p true)) _ ts ps h.1) [
         | inl k ↦ signed ring p true t ts ps (is_mark t minus_mark k.0) (later at.Term (with_sign p true) ps k.1 (record { numer = fresh.term.numer; denom = fresh.term.denom; factors = fresh.term.factors })) fresh
         | inr k ↦ bare ring p (t ∷ ts) ps (term_on p ps k.1 fresh.term) fresh
       ]
     ]
 
-    on_token : (place : SetPlace) (p : Part) (ps : Sets) → Then (token_step ring place p t) ts ps → Said place p (t ∷ ts) ps
+    on_token : (place : SetPlace) (p : Part) (ps : Sets) → Then (set_step ring) (token_step ring place p t) ts ps → Said place p (t ∷ ts) ps
     unfolding Said Later
-    on_token at.Brace p ps e = elim (chosen (bytes_eq t brace) (go (at.First, p)) (halt Unexpected) ts ps e) [
+    on_token at.Brace p ps e = elim (chosen (set_step ring) (bytes_eq t brace) (go (at.First, p)) (halt Unexpected) ts ps e) [
       | inl h ↦ (ts, ap (λ x. x ∷ ts) (is_mark t brace h.0), later at.First p ps h.1)
-      | inr h ↦ halted Unexpected ts ps h.1
+      | inr h ↦ halted (set_step ring) Unexpected ts ps h.1
     ]
-    on_token at.First p ps e = elim (chosen (bytes_eq t brace_end) (done p.polynomials) (front_step ring p t) ts ps e) [
-      | inl h ↦ let end = ended p.polynomials ts ps h.1 in inl (ap (λ x. x ∷ ts) (is_mark t brace_end h.0) ∙ ap (λ l. brace_end ∷ l) end.0, end.1)
+    on_token at.First p ps e = elim (chosen (set_step ring) (bytes_eq t brace_end) (done p.polynomials) (front_step ring p t) ts ps e) [
+      | inl h ↦ let end = ended (set_step ring) p.polynomials ts ps h.1 in inl (ap (λ x. x ∷ ts) (is_mark t brace_end h.0) ∙ ap (λ l. brace_end ∷ l) end.0, end.1)
       | inr h ↦ inr (front_on p ps h.1)
     ]
     on_token at.Polynomial p ps e = front_on p ps e
     on_token at.Term p ps e = term_on p ps e
-    on_token at.Number p ps e = elim (chosen (bytes_eq t slash) (go (at.Denominator, p)) (behind_step ring p t) ts ps e) [
+    on_token at.Number p ps e = elim (chosen (set_step ring) (bytes_eq t slash) (go (at.Denominator, p)) (behind_step ring p t) ts ps e) [
       | inl h ↦ let n = later at.Denominator p ps h.1 in record {
         over = slash ∷ n.t ∷ [];
         d = decimal_value n.t;
@@ -165,18 +139,18 @@ module _ (ring : List (List ℕ)) where
       }
       | inr h ↦ record { over = []; d = p.denom; rest = t ∷ ts; tokens = refl; which = inl (refl, refl); behind = behind_on p ps h.1 }
     ]
-    on_token at.Denominator p ps e = elim (chosen (is_number t && decimal_value t == 0) (halt ZeroDenominator) _ ts ps e) [
-      | inl h ↦ halted ZeroDenominator ts ps h.1
+    on_token at.Denominator p ps e = elim (chosen (set_step ring) (is_number t && decimal_value t == 0) (halt ZeroDenominator) _ ts ps e) [
+      | inl h ↦ halted (set_step ring) ZeroDenominator ts ps h.1
       | inr h ↦ elim (numbered t most (go (at.Behind, with_denom p (decimal_value t))) (halt Unexpected) ts ps h.1) [
         | inl k ↦ record { t = t; rest = ts; tokens = refl; number = k.0; nonzero = positive t (k.0.0) h.0; behind = later at.Behind (with_denom p (decimal_value t)) ps k.1 }
-        | inr k ↦ halted Unexpected ts ps k
+        | inr k ↦ halted (set_step ring) Unexpected ts ps k
       ]
     ]
     on_token at.Star p ps e = elim (named_by (variable ring t) p t (halt Unexpected) ts ps e) [
       | inl n ↦ name_on p ps n.0 n.1 n.2
-      | inr k ↦ halted Unexpected ts ps k
+      | inr k ↦ halted (set_step ring) Unexpected ts ps k
     ]
-    on_token at.Name p ps e = elim (chosen (bytes_eq t caret) (go (at.Exponent, p)) (behind_step ring (with_factor p 1) t) ts ps e) [
+    on_token at.Name p ps e = elim (chosen (set_step ring) (bytes_eq t caret) (go (at.Exponent, p)) (behind_step ring (with_factor p 1) t) ts ps e) [
       | inl h ↦ let n = later at.Exponent p ps h.1 in record {
         power = caret ∷ n.t ∷ [];
         k = decimal_value n.t;
@@ -189,14 +163,14 @@ module _ (ring : List (List ℕ)) where
     ]
     on_token at.Exponent p ps e = elim (numbered t most_exponent (go (at.Behind, with_factor p (decimal_value t))) (halt Unexpected) ts ps e) [
       | inl h ↦ record { t = t; rest = ts; tokens = refl; number = h.0; behind = later at.Behind (with_factor p (decimal_value t)) ps h.1 }
-      | inr h ↦ halted Unexpected ts ps h
+      | inr h ↦ halted (set_step ring) Unexpected ts ps h
     ]
     on_token at.Behind p ps e = behind_on p ps e
 
   said : (ts : Texts) → Later ts
   unfolding Later
   said [] place p ps e = absurd (not_yet (set_step ring) (place, p) ps e)
-  said (t ∷ ts) place p ps e = on_token t ts (λ q r qs f. said ts q r qs f) place p ps (move (place, p) t ts ps e)
+  said (t ∷ ts) place p ps e = on_token t ts (λ q r qs f. said ts q r qs f) place p ps (move (set_step ring) (place, p) t ts ps e)
 
   set_by : (ts rest : Texts) (ps : Sets) → ts ≡ brace ∷ rest → First ring empty rest ps → IsSetText ring ts ps
   set_by ts rest ps is (inl h) =

@@ -8,13 +8,13 @@ use Rattle.gf_text.specs.declared.error.Cause.{Cause}
 use Rattle.gf_text.specs.declared.error.Cause.TheVariants.{Ended, Unexpected, RepeatedName, ZeroDenominator, TooWide, UnknownName}
 use Rattle.gf_text.specs.declared.vector_reader.VectorPlace.{VectorPlace}
 use Rattle.gf_text.specs.declared.vector_reader.VectorPlace.TheVariants as at
-use Rattle.gf_text.specs.Machine.{go, done, halt, after, followed, HasOneMeaning}
+use Rattle.gf_text.specs.Machine.{go, done, halt, after, HasOneMeaning}
 use Rattle.gf_text.specs.Tokens.{is_number, decimal_value, lexemes, word_more}
 use Rattle.gf_text.specs.SetText.{is_word}
 use Rattle.gf_text.specs.VectorText.{most_entry, signed_entry, IsSizeText, IsEntryText, AreMoreEntries, IsVectorText, IsEntryWithin, VectorState, VectorMove, size_step, entry_step, vector_step, vector_at}
 use Rattle.gf_text.specs.Marks.{parenthesis, parenthesis_end, comma, minus_mark}
 use Rattle.gf_text.specs.Vectors.{IsVectorRead, AreEntriesWithin}
-use Rattle.gf_text.proofs.MachineLaws.{after-go, after-done, not_yet, reads, one_meaning, IsMachineOf}
+use Rattle.gf_text.proofs.MachineLaws.{after-go, after-done, not_yet, reads, one_meaning, IsMachineOf, Then, From, move, chosen, halted, ended}
 use Rattle.gf_text.proofs.KindsLaws.{one}
 use Rattle.gf_text.proofs.SetTokensLaws.{word_no_mark, word_no_number, number_no_mark, number_within, is_mark, le_from, not_le, le_false}
 
@@ -32,31 +32,6 @@ stops cause = halt cause
 
 abbrev ends : Entries → VectorMove
 ends zs = done zs
-
--- ---- a move, and what follows it
-
--- behind this move these tokens are read, and these entries
-abbrev Then : VectorMove → Texts → Entries → Type 0
-Then m ts all = followed m ts (λ u. after vector_step u ts) ≡ done all
-
--- what is read from a state on
-abbrev From : VectorState → Texts → Entries → Type 0
-From s ts all = after vector_step s ts ≡ done all
-
-move : (s : VectorState) (t : List ℕ) (ts : Texts) (all : Entries) → From s (t ∷ ts) all → Then (vector_step s t) ts all
-unfolding after
-move s t ts all e = e
-
-chosen : (b : Bool) (x y : VectorMove) (ts : Texts) (all : Entries) → Then (if b then x else y) ts all → ((b ≡ true) × Then x ts all) ⊎ ((b ≡ false) × Then y ts all)
-chosen true x y ts all e = inl (refl, e)
-chosen false x y ts all e = inr (refl, e)
-
-halted : {X : Type 0} (cause : Cause) (ts : Texts) (all : Entries) → Then (halt cause) ts all → X
-halted cause ts all e = cc
-
-ended : (zs : Entries) (ts : Texts) (all : Entries) → Then (done zs) ts all → (ts ≡ []) × (all ≡ zs)
-ended zs [] all e = (refl, cc)
-ended zs (t ∷ ts) all e = cc
 
 -- ---- what is read from each place on
 
@@ -139,15 +114,15 @@ Said at.Behind before ts all = More before ts all
 
 -- what follows a token
 Later : Texts → Type 0
-Later ts = (place : VectorPlace) (before all : Entries) → From (place, before) ts all → Said place before ts all
+Later ts = (place : VectorPlace) (before all : Entries) → From vector_step (place, before) ts all → Said place before ts all
 
 module _ (t : List ℕ) (ts : Texts) (later : Later ts) where
-  size_on : (m : Bool) (before all : Entries) → Then (size_step m before t) ts all → Sized m before (t ∷ ts) all
+  size_on : (m : Bool) (before all : Entries) → Then vector_step (size_step m before t) ts all → Sized m before (t ∷ ts) all
   unfolding Said Later
-  size_on m before all e = elim (chosen (is_number t) (if nat_le (decimal_value t) most_entry then goes (at.Behind, before ++ signed_entry m (decimal_value t) ∷ []) else stops TooWide) (stops Unexpected) ts all e) [
-    | inr h ↦ halted Unexpected ts all h.1
-    | inl h ↦ elim (chosen (nat_le (decimal_value t) most_entry) (goes (at.Behind, before ++ signed_entry m (decimal_value t) ∷ [])) (stops TooWide) ts all h.1) [
-      | inr k ↦ halted TooWide ts all k.1
+  size_on m before all e = elim (chosen vector_step (is_number t) (if nat_le (decimal_value t) most_entry then goes (at.Behind, before ++ signed_entry m (decimal_value t) ∷ []) else stops TooWide) (stops Unexpected) ts all e) [
+    | inr h ↦ halted vector_step Unexpected ts all h.1
+    | inl h ↦ elim (chosen vector_step (nat_le (decimal_value t) most_entry) (goes (at.Behind, before ++ signed_entry m (decimal_value t) ∷ [])) (stops TooWide) ts all h.1) [
+      | inr k ↦ halted vector_step TooWide ts all k.1
       | inl k ↦ record {
         t = t;
         rest = ts;
@@ -158,37 +133,37 @@ module _ (t : List ℕ) (ts : Texts) (later : Later ts) where
     ]
   ]
 
-  entry_on : (before all : Entries) → Then (entry_step before t) ts all → Entered before (t ∷ ts) all
+  entry_on : (before all : Entries) → Then vector_step (entry_step before t) ts all → Entered before (t ∷ ts) all
   unfolding Said Later
-  entry_on before all e = elim (chosen (bytes_eq t minus_mark) (goes (at.Negative, before)) (size_step false before t) ts all e) [
+  entry_on before all e = elim (chosen vector_step (bytes_eq t minus_mark) (goes (at.Negative, before)) (size_step false before t) ts all e) [
     | inl h ↦ negative before t ts all (is_mark t minus_mark h.0) (later at.Negative before all h.1)
     | inr h ↦ bare before (t ∷ ts) all (size_on false before all h.1)
   ]
 
-  on_token : (place : VectorPlace) (before all : Entries) → Then (vector_step (place, before) t) ts all → Said place before (t ∷ ts) all
+  on_token : (place : VectorPlace) (before all : Entries) → Then vector_step (vector_step (place, before) t) ts all → Said place before (t ∷ ts) all
   unfolding Said Later
-  on_token at.Parenthesis before all e = elim (chosen (bytes_eq t parenthesis) (goes (at.First, before)) (stops Unexpected) ts all e) [
+  on_token at.Parenthesis before all e = elim (chosen vector_step (bytes_eq t parenthesis) (goes (at.First, before)) (stops Unexpected) ts all e) [
     | inl h ↦ (ts, ap (λ x. x ∷ ts) (is_mark t parenthesis h.0), later at.First before all h.1)
-    | inr h ↦ halted Unexpected ts all h.1
+    | inr h ↦ halted vector_step Unexpected ts all h.1
   ]
-  on_token at.First before all e = elim (chosen (bytes_eq t parenthesis_end) (ends before) (entry_step before t) ts all e) [
-    | inl h ↦ (let end = ended before ts all h.1 in inl (ap (λ x. x ∷ ts) (is_mark t parenthesis_end h.0) ∙ ap (λ l. parenthesis_end ∷ l) end.0, end.1))
+  on_token at.First before all e = elim (chosen vector_step (bytes_eq t parenthesis_end) (ends before) (entry_step before t) ts all e) [
+    | inl h ↦ (let end = ended vector_step before ts all h.1 in inl (ap (λ x. x ∷ ts) (is_mark t parenthesis_end h.0) ∙ ap (λ l. parenthesis_end ∷ l) end.0, end.1))
     | inr h ↦ inr (entry_on before all h.1)
   ]
   on_token at.Entry before all e = entry_on before all e
   on_token at.Negative before all e = size_on true before all e
-  on_token at.Behind before all e = elim (chosen (bytes_eq t comma) (goes (at.Entry, before)) (if bytes_eq t parenthesis_end then ends before else stops Unexpected) ts all e) [
+  on_token at.Behind before all e = elim (chosen vector_step (bytes_eq t comma) (goes (at.Entry, before)) (if bytes_eq t parenthesis_end then ends before else stops Unexpected) ts all e) [
     | inl h ↦ one_more before t ts all (is_mark t comma h.0) (later at.Entry before all h.1)
-    | inr h ↦ elim (chosen (bytes_eq t parenthesis_end) (ends before) (stops Unexpected) ts all h.1) [
-      | inl k ↦ (let end = ended before ts all k.1 in at_end before t ts all (is_mark t parenthesis_end k.0) end.0 end.1)
-      | inr k ↦ halted Unexpected ts all k.1
+    | inr h ↦ elim (chosen vector_step (bytes_eq t parenthesis_end) (ends before) (stops Unexpected) ts all h.1) [
+      | inl k ↦ (let end = ended vector_step before ts all k.1 in at_end before t ts all (is_mark t parenthesis_end k.0) end.0 end.1)
+      | inr k ↦ halted vector_step Unexpected ts all k.1
     ]
   ]
 
 said : (ts : Texts) → Later ts
 unfolding Later
 said [] place before all e = absurd (not_yet vector_step (place, before) all e)
-said (t ∷ ts) place before all e = on_token t ts (λ q b a f. said ts q b a f) place before all (move (place, before) t ts all e)
+said (t ∷ ts) place before all e = on_token t ts (λ q b a f. said ts q b a f) place before all (move vector_step (place, before) t ts all e)
 
 vector_by : (ts rest : Texts) (all : Entries) → ts ≡ parenthesis ∷ rest → First [] rest all → IsVectorText ts all
 vector_by ts rest all is (inl h) = subst (λ (zs : Entries). IsVectorText ts zs) (sym h.1) (is ∙ ap (λ l. parenthesis ∷ l) h.0)
@@ -200,7 +175,7 @@ vector_by ts rest all is (inr n) = subst (λ (zs : Entries). IsVectorText ts zs)
   n.more.are_entries,
 )
 
-vector_said : (ts : Texts) (all : Entries) → From (at.Parenthesis, []) ts all → IsVectorText ts all
+vector_said : (ts : Texts) (all : Entries) → From vector_step (at.Parenthesis, []) ts all → IsVectorText ts all
 unfolding Said Later
 vector_said ts all e = let s = said ts at.Parenthesis [] all e in vector_by ts s.0 all s.1 s.2
 
@@ -236,7 +211,7 @@ entry_read z first (t, n, size, inr (is, e)) s before begins rest =
     ∙ after-go vector_step (at.Negative, before) (at.Behind, before ++ signed_entry true n ∷ []) t rest (size_goes true before t n size)
     ∙ ap (λ k. after vector_step (at.Behind, before ++ k ∷ []) rest) (sym e)
 
-more_given : (zs : Entries) (ts : Texts) → AreMoreEntries ts zs → (before : Entries) → From (at.Behind, before) (ts ++ parenthesis_end ∷ []) (before ++ zs)
+more_given : (zs : Entries) (ts : Texts) → AreMoreEntries ts zs → (before : Entries) → From vector_step (at.Behind, before) (ts ++ parenthesis_end ∷ []) (before ++ zs)
 more_given [] ts is before =
     ap (λ l. after vector_step (at.Behind, before) (l ++ parenthesis_end ∷ [])) is
     ∙ after-done vector_step (at.Behind, before) before parenthesis_end refl
@@ -250,7 +225,7 @@ more_given (z ∷ zs) ts (first, rest, is, entry, more) before =
     ∙ more_given zs rest more (before ++ z ∷ [])
     ∙ ap ends (append_assoc before (z ∷ []) zs)
 
-vector_given : (ts : Texts) (zs : Entries) → IsVectorText ts zs → From (at.Parenthesis, []) ts zs
+vector_given : (ts : Texts) (zs : Entries) → IsVectorText ts zs → From vector_step (at.Parenthesis, []) ts zs
 vector_given ts [] is =
     ap (after vector_step (at.Parenthesis, [])) is
     ∙ after-go vector_step (at.Parenthesis, []) (at.First, []) parenthesis (parenthesis_end ∷ []) refl
@@ -265,7 +240,7 @@ vector_given ts (z ∷ zs) (first, rest, is, entry, more) =
 -- ---- from each state some tokens lead to a vector
 
 abbrev Live : VectorState → Type 0
-Live s = (ts : Texts) × (zs : Entries) × From s ts zs
+Live s = (ts : Texts) × (zs : Entries) × From vector_step s ts zs
 
 by_token : (s u : VectorState) (t : List ℕ) → vector_step s t ≡ goes u → Live u → Live s
 by_token s u t on l = (t ∷ l.0, l.1, after-go vector_step s u t l.0 on ∙ l.2)

@@ -1,5 +1,5 @@
 //! The reading of marked sets: no polynomial of one is zero.
-ghost use Rattle.std.specs.Prelude.{◌≡◌, ◌≤◌, ◌-◌, ◌^◌, min, map, IfOk, IfErr, length};
+ghost use Rattle.std.specs.Prelude.{◌≡◌, ◌≤◌, ◌-◌, ◌^◌, min, IfOk, IfErr, length};
 ghost use Rattle.gf_text.specs.SetLists.{sets_in, AreAllIn, AreMarkedSets, IsZeroCauseOf, AreMarkedSetsRead, IsMarkedSetsCause};
 ghost use Rattle.gf_text.specs.Sets.{IsMarkedRead, IsMarkedCause, AreIn, AreNonzero, IsZeroCause};
 

@@ -1,5 +1,5 @@
 //! The writing of rings, polynomials and vectors.
-ghost use Rattle.std.specs.Prelude.{◌≡◌, ℕ, ◌++◌, ◌∷◌, [], OnOk, OnErr, flat_map, length};
+ghost use Rattle.std.specs.Prelude.{◌≡◌, ℕ, ◌++◌, ◌∷◌, OnOk, OnErr, flat_map, length};
 ghost use Rattle.gf_poly.specs.Polynomial.{HasVariables};
 ghost use Rattle.gf_text.specs.RingText.{ring_text, names_text, IsRingText};
 ghost use Rattle.gf_text.specs.Rings.{RingsAreReadAgain};

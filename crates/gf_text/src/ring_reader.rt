@@ -2,8 +2,8 @@
 ghost use Rattle.std.specs.Prelude.{◌≡◌, ◌≤◌, ◌∷◌, IfOk, IfErr, length, bytes_eq, [], if◌then◌else◌};
 ghost use Rattle.std.specs.List.{list_all};
 ghost use Rattle.gf_text.specs.Tokens.{is_name_byte};
-ghost use Rattle.gf_text.specs.RingText.{is_name, ring_step, ring_at, letter_q};
-ghost use Rattle.gf_text.specs.Marks.{bracket, comma, bracket_end};
+ghost use Rattle.gf_text.specs.RingText.{is_name, ring_step, ring_at};
+ghost use Rattle.gf_text.specs.Marks.{comma, bracket_end};
 ghost use Rattle.gf_text.specs.Given.{ReturnsRead, ring_move};
 ghost use Rattle.gf_text.specs.Rings.{IsRingRead, IsRingCause};
 

@@ -1,5 +1,5 @@
 //! The reading of items of a single token: a dimension, and the name of a new variable.
-ghost use Rattle.std.specs.Prelude.{◌≡◌, ◌≤◌, IfOk, IfErr, length};
+ghost use Rattle.std.specs.Prelude.{◌≤◌, IfOk, IfErr, length};
 ghost use Rattle.gf_text.specs.Singles.{IsDimensionRead, IsDimensionCause, IsNameRead, IsNameCause};
 
 use crate::MOST_VARIABLES;

@@ -1,7 +1,7 @@
 -- Where the initial ideal has no polynomial of one term, the vector is on the prevariety: else the initial form of a generator has one
 -- term.
 -- To cite: top_term, free_inside.
-use Rattle.std.proofs.Common.{◌≡◌, ◌≢◌, ◌⊎◌, ℕ, suc, Bool, true, false, if◌then◌else◌, List, [], ◌∷◌, map, length, drop, ℤ, pos, ◌<ℤ◌, ◌≤ℤ◌, Contains, arith, refl, sym, ap, ◌∙◌, subst, inl, inr}
+use Rattle.std.proofs.Common.{◌≡◌, ◌≢◌, ◌⊎◌, ℕ, Bool, true, false, if◌then◌else◌, List, [], ◌∷◌, map, ℤ, pos, ◌<ℤ◌, ◌≤ℤ◌, Contains, arith, refl, sym, ap, ◌∙◌, subst, inl, inr}
 use Rattle.std.proofs.lemmas.Int.{ints}
 use Rattle.gf_frac.specs.Fraction.{◌+ℚ◌, zero_ℚ}
 use Rattle.gf_frac.proofs.FractionLaws.{+ℚ-zero, zero_or_not}
@@ -21,6 +21,7 @@ use Rattle.gf_ideal.proofs.MembershipLaws.{member-generator}
 use Rattle.gf_facets.proofs.VectorLaws.{three}
 use Rattle.gf_patterns.specs.Patterns.{points, IsOnHypersurface, IsOnPrevariety}
 use Rattle.gf_patterns.proofs.FormLaws.{highest_greatest}
+use Rattle.gf_patterns.proofs.PointLaws.{from_pos, of_sets}
 use Rattle.gf_saturation.specs.Saturations.{IsOfOneTerm}
 use Rattle.gf_tropical_bases.specs.Tests.{IsMonomialFree, AreKeptNonzero}
 
@@ -124,30 +125,8 @@ one_term t n = record { there = λ z. n (sym (at_alone t t.mono (same-refl t.mon
 
 -- ---- on the prevariety
 
-abbrev head_or : List ℤ → ℤ
-head_or [] = pos 0
-head_or (z ∷ zs) = z
-
-same_head : (a b : ℕ) (x y : Exponents) → map pos (a ∷ x) ≡ map pos (b ∷ y) → a ≡ b
-same_head a b x y e = let q : pos a ≡ pos b = ap head_or e in omega (arith, ints, q)
-
--- no two monomials have the same point
-same_points : (x y : Exponents) → map pos x ≡ map pos y → x ≡ y
-same_points [] [] e = refl
-same_points [] (b ∷ y) e = absurd (let q : 0 ≡ suc (length (map pos y)) = ap length e in omega (arith, q))
-same_points (a ∷ x) [] e = absurd (let q : suc (length (map pos x)) ≡ 0 = ap length e in omega (arith, q))
-same_points (a ∷ x) (b ∷ y) e = ap (λ z. z ∷ x) (same_head a b x y e) ∙ ap (λ z. b ∷ z) (same_points x y (ap (drop 1) e))
-
--- a list of points is that of a polynomial
-from_sets : (set : List Terms) (A : List (List ℤ)) → Contains (map points set) A → (f : Terms) × (Contains set f × (A ≡ points f))
-from_sets [] A c = absurd (omega (arith, c.1))
-from_sets (f ∷ set) A c = elim (Contains-cases (points f) A (map points set) c) [
-  | inl e ↦ (f, (Contains-here f set, sym e))
-  | inr k ↦ let r = from_sets set A k in (r.0, (Contains-there f r.0 set r.1.0, r.1.1))
-]
-
 pub free_inside : (n : ℕ) (fs : List Terms) (w : List ℤ) → AreKeptNonzero n fs → IsMonomialFree n fs w → IsOnPrevariety (map points fs) w
-free_inside n fs w kept free A c = at (from_sets fs A c)
+free_inside n fs w kept free A c = at (of_sets fs A c)
   where
     on : (f : Terms) → Contains fs f → HasVariables n f → IsDescending f → f ≢ [] → IsOnHypersurface (points f) w
     on [] k v d z = absurd (z refl)
@@ -166,7 +145,7 @@ free_inside n fs w kept free A c = at (from_sets fs A c)
             found (inl h) = record {
               one = map pos t.0.mono;
               two = map pos h.term.mono;
-              other = λ e. let s : same h.term.mono t.0.mono ≡ true = ap (λ x. same x t.0.mono) (sym (same_points t.0.mono h.term.mono e)) ∙ same-refl t.0.mono in let o : same h.term.mono t.0.mono ≡ false = h.other in absurd (cc);
+              other = λ e. let s : same h.term.mono t.0.mono ≡ true = ap (λ x. same x t.0.mono) (sym (from_pos t.0.mono h.term.mono e)) ∙ same-refl t.0.mono in let o : same h.term.mono t.0.mono ≡ false = h.other in absurd (cc);
               first = (highest_greatest n w f t.0 v d t.1).1 highest;
               second = (highest_greatest n w f h.term v d h.inside).1 (λ y m. let q = highest y m in let e = h.weight in omega (arith, ints, q, e));
             }

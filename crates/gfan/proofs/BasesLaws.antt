@@ -1,7 +1,8 @@
 -- How the list of `_bases` begins, goes on, ends and is refused.
--- To cite: starts, goes_on, ends, stopped_early, stopped_tree, stopped_limit, stopped_piece, stopped_end; stopped_list, stopped_root; unnamed_basis, unnamed_tree,
--- unnamed_full, unnamed_write, unnamed_piece, unwritten_calm, piece_calm, generators_in. The rest are steps.
-use Rattle.std.specs.Prelude.{◌≡◌, ◌⊎◌, ℕ, zero, suc, ◌+◌, ◌<◌, Bool, true, false, List, [], ◌∷◌, ◌++◌, length, Option, None, Some}
+-- To cite: starts, goes_on, ends, stopped_early, stopped_tree, stopped_limit, stopped_piece, stopped_end; stopped_list,
+-- stopped_root; unnamed_basis, unnamed_tree, unnamed_write, unnamed_piece, unwritten_calm, piece_calm, generators_in. The
+-- rest are steps.
+use Rattle.std.specs.Prelude.{◌≡◌, ℕ, zero, suc, ◌+◌, ◌<◌, Bool, true, false, List, [], ◌∷◌, ◌++◌, length, Option, None, Some}
 use Rattle.std.specs.Io.KnownBytes.{Appends}
 use Rattle.std.specs.Global.{Global}
 use Rattle.std.proofs.Common.{arith, refl, sym, ap, ◌∙◌, subst, inl, inr, append_assoc, append-nil, length-append}
@@ -38,7 +39,7 @@ use Rattle.gfan.specs.declared.bases.Room.TheVariants.{Endless, Limited}
 use Rattle.gfan.specs.Buchberger.{generators_of, of_basis}
 use Rattle.gfan.specs.BasesList.{AreAllBases}
 use Rattle.gfan.specs.Certificates.{IsItemText, IsItemRefusal, of_weight_error}
-use Rattle.gfan.specs.Bases.{AreItemTexts, IsWithinLimit, IsTextOfBases, IsBegunList, IsBegunText, IsFullText, list_text, begun_text, of_tree, IsSearchRefused, IsGoingCause, IsListCause, bases_command}
+use Rattle.gfan.specs.Bases.{AreItemTexts, IsWithinLimit, IsBegunList, IsBegunText, IsFullText, list_text, begun_text, of_tree, IsSearchRefused, IsGoingCause, IsListCause, bases_command}
 use Rattle.gfan.specs.BasesWriting.{basis_piece, IsBasisWritten, IsUnwritten, IsBasisUnwritten, HasRoomFor, IsOneLess, IsFull, IsFirstBasis, IsRootRefusal, IsListWritten, IsListStopped, IsUnnamed, is_none_of, IsUnderWay}
 use Rattle.gfan.specs.Refused.{without_names}
 use Rattle.gfan.specs.Performed.{IsStoppedFor}
@@ -391,22 +392,12 @@ stopped_root o ring set held n m r (e, h, q) = subst (λ z. IsStoppedFor (bases_
 
 -- ---- lines without a ring, and faults
 
-pub unnamed_basis : (e : BasisError) → IsUnnamed (without_names (of_basis e))
-unnamed_basis (basis_errors.Overflow x) = record { ring = refl; named = λ lent is. tt }
-unnamed_basis (basis_errors.Exponent x) = record { ring = refl; named = λ lent is. tt }
-unnamed_basis (basis_errors.PairBudget basis unsettled) = record { ring = refl; named = λ lent is. tt }
-unnamed_basis basis_errors.Memory = record { ring = refl; named = λ lent is. tt }
-
 pub unnamed_tree : (e : TreeError) → IsUnnamed (without_names (of_tree e))
 unnamed_tree (tree_errors.Overflow x) = record { ring = refl; named = λ lent is. tt }
 unnamed_tree (tree_errors.Exponent x) = record { ring = refl; named = λ lent is. tt }
 unnamed_tree (tree_errors.PairBudget basis unsettled) = record { ring = refl; named = λ lent is. tt }
 unnamed_tree (tree_errors.Cone x) = record { ring = refl; named = λ lent is. tt }
 unnamed_tree tree_errors.Memory = record { ring = refl; named = λ lent is. tt }
-
-pub unnamed_full : (room : Room) (r : Refusal) → IsFull room r → IsUnnamed (without_names r)
-unnamed_full Endless r f = absurd f
-unnamed_full (Limited limit left) r f = subst (λ z. IsUnnamed (without_names z)) (sym f.1) (record { ring = refl; named = λ lent is. tt })
 
 pub unnamed_write : (held holds : Option (List ℕ)) (n m : ℕ) (piece : List ℕ) (r : Refusal) → IsUnwritten held holds n m piece r → IsUnnamed (without_names r)
 unnamed_write held holds n m piece refusals.WriteFault u = record { ring = refl; named = λ lent is. tt }

@@ -1,9 +1,9 @@
 -- From what the reader, the checks, the algorithm and the printer promise to what is answered.
 -- To cite: polynomials_next, IsBehindRing, behind_ring, at_source, set_fails for sets; IsBehindSet, behind_set, is_read, and the refusals ring_refused,
 -- set_refused, weight_refused, end_refused, basis_refused, job_refused; countable, in_ring, suited_by, entries_by; named_job, of_ring.
-use Rattle.std.specs.Prelude.{◌≡◌, ◌≢◌, ◌⊎◌, ℕ, zero, suc, ◌+◌, ◌<◌, ◌^◌, Bool, true, false, List, [], ◌∷◌, ◌++◌, length, map, take, slice_index_or, Contains, Option, None, Some, ℤ}
+use Rattle.std.specs.Prelude.{◌≡◌, ℕ, zero, suc, ◌+◌, ◌<◌, Bool, true, false, List, [], ◌∷◌, ◌++◌, length, take, slice_index_or, Option, None, Some, ℤ}
 use Rattle.std.specs.Borrow.{Bor}
-use Rattle.std.specs.Option.{ForSome, option_copied}
+use Rattle.std.specs.Option.{option_copied}
 use Rattle.std.proofs.Common.{arith, refl, sym, ap, ◌∙◌, subst, inl, inr}
 use Rattle.gf_exponents.specs.Exponents.{Exponents}
 use Rattle.gf_exponents.specs.Orders.{gains}
@@ -13,15 +13,10 @@ use Rattle.gf_order.specs.Weights.{AreBounded}
 use Rattle.gf_order.specs.Comparisons.{HasEntries}
 use Rattle.gf_poly.specs.Polynomial.{Terms, HasVariables}
 use Rattle.gf_poly.specs.Marking.{Each}
-use Rattle.gf_text.specs.declared.error.Syntax.{Syntax}
-use Rattle.gf_text.specs.declared.error.TextError.{TextError}
-use Rattle.gf_text.specs.declared.error.TextError.TheVariants as text_errors
 use Rattle.gf_text.specs.declared.written.Written.{Written}
 use Rattle.gf_text.specs.declared.written.Written.TheVariants as written
-use Rattle.gf_text.specs.Tokens.{Position, rest, IsBlank, HasMoreText}
-use Rattle.gf_text.specs.Rings.{IsRingRead, IsRingCause, HasNoRing, HasTooMany}
-use Rattle.gf_text.specs.Sets.{IsSetRead, IsSetCause, AreIn, HasNoSet, HasSumOverflow, HasExponentOverflow}
-use Rattle.gf_text.specs.Vectors.{IsVectorCause, HasNoVector, AreEntriesWithin}
+use Rattle.gf_text.specs.Sets.{AreIn}
+use Rattle.gf_text.specs.Vectors.{AreEntriesWithin}
 use Rattle.gf_ideal.proofs.ListLaws.{contained_each}
 use Rattle.gf_division.proofs.StepLaws.{term_length}
 use Rattle.gf_buchberger.specs.declared.bases.BasisError.{BasisError}
@@ -33,15 +28,14 @@ use Rattle.gf_buchberger.specs.Jobs.{HaveRingVariables, IsSuited}
 use Rattle.gf_buchberger.proofs.JobLaws.{orders_that_suit}
 use Rattle.gf_front.specs.declared.refusal.Refusal.{Refusal}
 use Rattle.gf_front.specs.declared.refusal.Refusal.TheVariants as refusals
-use Rattle.gf_front.specs.Lines.{IsNamed, HasNames}
+use Rattle.gf_front.specs.Lines.{IsNamed}
 use Rattle.gfan.specs.declared.buchberger.Options.{Options}
 use Rattle.gf_items.specs.Items.{IsTextOf}
 use Rattle.gf_items.specs.Sources.{ring_set_vector}
 use Rattle.gf_items.specs.Checks.{AllHold, FirstFails}
 use Rattle.gf_frame.specs.Commands.{IsUnanswered}
 use Rattle.gfan.specs.Buchberger.{polynomial_of, generators_of, asked_order, FitsVariables, IsFirstNotTaken, form, of_basis, buchberger_command}
-use Rattle.gfan.specs.Questions.{IsCountable}
-use Rattle.gfan.specs.Refused.{IsNamedBy, IsRingOf, IsOfSource}
+use Rattle.gfan.specs.Refused.{IsNamedBy, IsOfSource}
 
 -- ---- polynomials
 
@@ -67,9 +61,6 @@ in_ring n ws fs h e = subst (HaveRingVariables n) (sym e) (record { each = λ f 
 
 pub within_bounded : (w : List ℤ) → AreEntriesWithin w → AreBounded w
 within_bounded w h = λ k d l. omega (arith, h k d l)
-
-pub countable : (n : ℕ) (weight : Option (List ℤ)) → n < 2 ^ 32 → FitsVariables n weight → ForSome weight AreEntriesWithin → ForSome weight IsCountable
-countable n weight l e h = λ w is. record { bounded = within_bounded w (h w is); countable = (let same : length w ≡ n = subst (FitsVariables n) is e in omega arith) }
 
 pub order_entries : (n : ℕ) (revlex : Bool) (weight : Option (List ℤ)) → FitsVariables n weight → HasEntries n (asked_order revlex weight)
 order_entries n false None h = tt
@@ -98,10 +89,6 @@ pub basis_refused : (o : Options) (n k : ℕ) (ring : List (List ℕ)) (weight :
 basis_refused o n k ring weight ws fs order e p q f d g h =
     IsUnanswered.in_work (subst (λ z. AllHold (form o.revlex z weight (generators_of ws))) p g)
     (e, refl, subst (λ z. IsBasisRefusal z (length ring) (generators_of ws) o.pairs e) d (subst (λ z. IsBasisRefusal order z (generators_of ws) o.pairs e) q (subst (λ z. IsBasisRefusal order k z o.pairs e) f h)))
-
-pub form_refused : (o : Options) (n : ℕ) (ring : List (List ℕ)) (ws : List Written) (weight : Option (List ℤ)) (r : Refusal) → n ≡ length ring → FirstFails (form o.revlex n weight (generators_of ws)) r ⊎ (r ≡ refusals.Memory) → IsUnanswered (buchberger_command o) (ring, (ws, weight)) r
-form_refused o n ring ws weight r p (inl h) = IsUnanswered.in_form (subst (λ z. FirstFails (form o.revlex z weight (generators_of ws)) r) p h)
-form_refused o n ring ws weight r p (inr m) = IsUnanswered.no_memory m
 
 pub of_ring : (o : Options) (source : List ℕ) (ring : List (List ℕ)) (set : List Written) (w : Option (List ℤ)) → IsTextOf (ring_set_vector o.weighted) source (ring, (set, w)) → (e : Refusal) → IsNamedBy (Some ring) e → IsOfSource source (record { refusal = e; ring = Some ring })
 of_ring o source ring set w r e h = record { named = h; ring = (r.read.behind, r.read.one) }

@@ -1,6 +1,6 @@
 -- The command of each job is lawful.
 -- To cite: lawful, one_source.
-use Rattle.std.specs.Prelude.{◌≡◌, ◌⊎◌, ℕ, Bool, true, false, List, [], ◌∷◌, length}
+use Rattle.std.specs.Prelude.{◌≡◌, Bool, true, false, [], ◌∷◌, length}
 use Rattle.std.proofs.Common.{refl, subst}
 use Rattle.gf_front.specs.declared.command_line.Job.{Job}
 use Rattle.gf_front.specs.declared.command_line.Job.TheVariants as jobs
@@ -9,7 +9,6 @@ use Rattle.gf_front.specs.declared.plain.PlainCommand.TheVariants as plains
 use Rattle.gf_front.specs.declared.options.FanCommonRefinementOptions.{FanCommonRefinementOptions}
 use Rattle.gf_items.specs.Refusals.{IsOfTest}
 use Rattle.gf_frame.specs.Loading.{Origin}
-use Rattle.gf_frame.specs.Commands.{Command}
 use Rattle.gf_frame.proofs.CommandLaws.{IsLawful}
 use Rattle.gf_frame.proofs.SoundLaws.{untested, sound_lawful}
 use Rattle.gfan.specs.Buchberger.{generators_of, buchberger_command}
@@ -30,7 +29,6 @@ use Rattle.gfan.specs.HomogeneitySpace.{nonzero_of, homogeneity_space_command}
 use Rattle.gfan.specs.declared.tropical.TropicalFan.{TropicalFan}
 use Rattle.gfan.specs.declared.tropical.TropicalFan.TheVariants as fans
 use Rattle.gfan.specs.Tropical.{tropical_command}
-use Rattle.gfan.specs.CommonRefinement.{refinement_command}
 use Rattle.gfan.specs.declared.bases.ListOptions.{ListOptions}
 use Rattle.gfan.specs.declared.told_cone.ConeOptions.{ConeOptions}
 use Rattle.gfan.specs.Commands.{options, list_options, cone_options, plain_command, list_command, command_of}

@@ -1,7 +1,7 @@
 -- What `_fancommonrefinement` answers, why it doesn't, and that two texts are answered in one way.
--- To cite: refined_told, words_once, words_no_text, once_no_text, within_answered; refinement_refused, refinement_answered, refinement_lawful;
--- file_unnamed, refine_unnamed, memory_unnamed, write_unnamed. The rest are steps.
-use Rattle.std.specs.Prelude.{◌≡◌, ◌⊎◌, ℕ, List, [], ◌∷◌, None}
+-- To cite: refined_told, words_once, words_no_text, once_no_text, within_answered; refinement_refused, refinement_answered,
+-- refinement_lawful; file_unnamed, write_unnamed. The rest are steps.
+use Rattle.std.specs.Prelude.{◌≡◌, ◌⊎◌, ℕ, List, [], ◌∷◌}
 use Rattle.std.proofs.Common.{refl, sym, ap, ◌∙◌, subst, inl, inr}
 use Rattle.gf_fan.specs.FanLists.{FanLists}
 use Rattle.gf_front.specs.declared.refusal.Refusal.{Refusal}
@@ -20,7 +20,7 @@ use Rattle.gf_fanfile.proofs.FilesLaws.{file_once}
 use Rattle.gf_refine.specs.declared.error.RefineError.{RefineError}
 use Rattle.gf_refine.specs.declared.error.RefineError.TheVariants as refine_errors
 use Rattle.gf_refine.specs.Refusals.{IsRefineRefusal}
-use Rattle.gfan.specs.Refused.{IsNamedBy, without_names}
+use Rattle.gfan.specs.Refused.{without_names}
 use Rattle.gfan.specs.BasesWriting.{IsUnnamed}
 use Rattle.gfan.specs.CommonRefinement.{of_fan_file, of_refine, IsRefinementText, IsRefinementRefused, IsOfWords, IsRefusedInWords, IsRefinementWithin, in_words, refinement_command}
 use Rattle.gf_fanfile.proofs.FanOnceLaws.{refusals_once, refusal_refutes}
@@ -240,31 +240,6 @@ refinement_lawful first second = record {
 }
 
 -- ---- lines without a ring
-
-file_named : (e : FanFileError) → IsNamedBy None (of_fan_file e)
-file_named (file_errors.Syntax s) = λ lent is. tt
-file_named (file_errors.TooWide at) = λ lent is. tt
-file_named (file_errors.TooManyVariables count) = λ lent is. tt
-file_named (file_errors.Cone o) = λ lent is. tt
-file_named (file_errors.NotAFan first second) = λ lent is. tt
-file_named (file_errors.Missing section) = λ lent is. tt
-file_named (file_errors.BadRay number) = λ lent is. tt
-file_named (file_errors.Dimensions left right) = λ lent is. tt
-file_named file_errors.Memory = λ lent is. tt
-
-pub file_unnamed : (e : FanFileError) → IsUnnamed (without_names (of_fan_file e))
-file_unnamed e = record { ring = refl; named = file_named e }
-
-refine_named : (e : RefineError) → IsNamedBy None (of_refine e)
-refine_named (refine_errors.Cone o) = λ lent is. tt
-refine_named (refine_errors.Dimensions left right) = λ lent is. tt
-refine_named refine_errors.Memory = λ lent is. tt
-
-pub refine_unnamed : (e : RefineError) → IsUnnamed (without_names (of_refine e))
-refine_unnamed e = record { ring = refl; named = refine_named e }
-
-pub memory_unnamed : IsUnnamed (without_names refusals.Memory)
-memory_unnamed = record { ring = refl; named = λ lent is. tt }
 
 pub write_unnamed : IsUnnamed (without_names refusals.WriteFault)
 write_unnamed = record { ring = refl; named = λ lent is. tt }

@@ -1,6 +1,7 @@
 -- Whether an ideal contains polynomials: what is told one by one holds of all, and why it isn't told.
--- To cite: zero_member, members_none, members_next, not_member, all_members, in_next, some_refused, basis_refused, no_room, member_refused, in_basis, members_moved; containment_refused,
--- named_containment, containment_answered; containment_work, containment_within, containment_once, containment_refuses. The rest are steps.
+-- To cite: zero_member, members_next, not_member, all_members, in_next, some_refused, member_refused, members_moved;
+-- containment_refused, named_containment, containment_answered; containment_work, containment_within, containment_once,
+-- containment_refuses. The rest are steps.
 use Rattle.std.specs.Prelude.{◌≡◌, ◌↔◌, ◌⊎◌, ℕ, zero, suc, ◌+◌, ◌<◌, ◌≤◌, Bool, true, false, List, [], ◌∷◌, length, take, slice_index_or, Contains, IsTrue, Some, Err}
 use Rattle.std.proofs.Common.{arith, refl, sym, ap, ◌∙◌, subst, inl, inr}
 use Rattle.std.proofs.lemmas.List.{take_all}
@@ -16,7 +17,7 @@ use Rattle.gf_reduced.specs.declared.error.CheckError.{CheckError}
 use Rattle.gf_reduced.specs.declared.error.CheckError.TheVariants as check_errors
 use Rattle.gf_reduced.specs.Forms.{monic_set}
 use Rattle.gf_reduced.specs.Markings.{IsMarkedGroebnerBasis, IsBasisOf}
-use Rattle.gf_reduced.specs.Refusals.{of_poly, IsReducedBasisRefusal}
+use Rattle.gf_reduced.specs.Refusals.{of_poly}
 use Rattle.gf_reduced.proofs.RefusalLaws.{basis_only_memory}
 use Rattle.gf_text.specs.declared.written.Written.{Written}
 use Rattle.gf_text.specs.declared.written.Written.TheVariants as written
@@ -41,9 +42,6 @@ use Rattle.gfan.proofs.CheckedSetLaws.{named_check, named_numbers, check_work, p
 -- zero is a member
 pub zero_member : (n : ℕ) (gs : List Terms) (w : Written) → w ≡ written.Zero → IsTrue true ↔ IsMember n gs (polynomial_of w)
 zero_member n gs w e = (λ t. subst (λ (z : Written). IsMember n gs (polynomial_of z)) (sym e) (member-zero n gs), λ m. refl)
-
-pub members_none : (n : ℕ) (gs : List Terms) → AllAreMembers n gs []
-members_none n gs f c = absurd (omega (arith, c.1))
 
 pub members_next : (n : ℕ) (gs : List Terms) (ws : List Written) (i : ℕ) (w : Written) → i < length ws → w ≡ slice_index_or ws i w → AllAreMembers n gs (generators_of (take i ws)) → IsMember n gs (polynomial_of w) → AllAreMembers n gs (generators_of (take (i + 1) ws))
 members_next n gs ws i w l e h m =
@@ -74,17 +72,8 @@ some_refused bs ws i w errors.Memory l p h = tt
 
 -- ---- by the basis, and by the set that was read
 
-pub basis_refused : (s : MarkedPolynomials) (fs : List Terms) (e : CheckError) → IsReducedBasisRefusal 0 s e → IsContainmentRefusal s fs e
-basis_refused s fs e h = IsContainmentRefusal.at_basis h
-
-pub no_room : (s : MarkedPolynomials) (fs : List Terms) → IsContainmentRefusal s fs check_errors.Memory
-no_room s fs = IsContainmentRefusal.at_basis tt
-
 pub member_refused : (s t : MarkedPolynomials) (fs : List Terms) (d : PolyError) → IsBasisOf s t → IsArranged (monic_set s) t → IsSomeReductionRefusal t.items fs d → IsContainmentRefusal s fs (of_poly d)
 member_refused s t fs d b a h = IsContainmentRefusal.at_member t d b.marked a h refl
-
-pub in_basis : (s t : MarkedPolynomials) (ws : List Written) → IsArranged (monic_set s) t → AreIn s.variables ws → AreIn t.variables ws
-in_basis s t ws a h = subst (λ n. AreIn n ws) (sym a.variables) h
 
 pub members_moved : (s t : MarkedPolynomials) (fs : List Terms) (b : Bool) → t.variables ≡ s.variables → IsBasisOf s t → IsTrue b ↔ AllAreMembers t.variables (polys t.items) fs → IsTrue b ↔ AllAreMembers s.variables (polys s.items) fs
 members_moved s t fs b q h told =

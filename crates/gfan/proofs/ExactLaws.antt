@@ -17,7 +17,6 @@ use Rattle.gf_front.specs.declared.refusal.Refusal.TheVariants as refusals
 use Rattle.gf_items.specs.Items.{from}
 use Rattle.gf_items.specs.Sources.{ring_set_vector, ring_marked_set, ring_marked_set_and_set}
 use Rattle.gf_items.specs.Refusals.{IsOfTest, IsOfWork}
-use Rattle.gf_frame.specs.Commands.{Command}
 use Rattle.gf_items.specs.Kinds.{a_set, a_marked_set, marked_set_list, vector_where}
 use Rattle.gf_items.proofs.KindLaws.{ring_and_once}
 use Rattle.gf_frame.proofs.ReadingLaws.{one_once, of_one_text}

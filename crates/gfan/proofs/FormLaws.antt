@@ -1,11 +1,11 @@
 -- The form of what is read fails in one way at most, and not where it holds.
 -- To cite: AreKept, form_once, length_check. The rest are steps.
-use Rattle.std.specs.Prelude.{◌≡◌, ◌≢◌, ◌⊎◌, ℕ, ◌<◌, ◌≤◌, Bool, true, false, List, length, Contains, get_or, slice_index_or, All, Option, None, Some, Result, Err, ℤ, pos, ◌<ℤ◌, ◌≤ℤ◌}
-use Rattle.std.proofs.Common.{arith, refl, sym, ap, ◌∙◌, subst, inl, inr}
+use Rattle.std.specs.Prelude.{◌≡◌, ◌⊎◌, ℕ, ◌<◌, ◌≤◌, Bool, true, false, List, length, Contains, slice_index_or, All, Option, None, Some, ℤ, pos, ◌≤ℤ◌}
+use Rattle.std.proofs.Common.{arith, sym, ap, ◌∙◌, subst, inl, inr}
 use Rattle.std.proofs.lemmas.Int.{ints}
 use Rattle.std.proofs.lemmas.Bool.{cases_lt}
 use Rattle.std.proofs.lemmas.List.{get_or_default}
-use Rattle.gf_exponents.specs.Exponents.{Exponents, degree}
+use Rattle.gf_exponents.specs.Exponents.{Exponents}
 use Rattle.gf_order.specs.Weights.{IsFirstBelow}
 use Rattle.gf_poly.specs.declared.Term.{Term}
 use Rattle.gf_poly.specs.Polynomial.{Terms, HasVariables, IsDescending}
@@ -13,7 +13,6 @@ use Rattle.gf_ideal.specs.Membership.{HasMonomial}
 use Rattle.gf_division.proofs.StepLaws.{term_there}
 use Rattle.gf_buchberger.specs.declared.homogeneity.NotHomogeneous.{NotHomogeneous}
 use Rattle.gf_buchberger.specs.Homogeneity.{IsOfOneDegree, IsFirstOther, IsFirstInhomogeneous}
-use Rattle.gf_buchberger.specs.Jobs.{HaveOneDegree}
 use Rattle.gf_front.specs.declared.refusal.Refusal.{Refusal}
 use Rattle.gf_front.specs.declared.refusal.Refusal.TheVariants as refusals
 use Rattle.gf_items.specs.Refusals.{IsExactRefusal}

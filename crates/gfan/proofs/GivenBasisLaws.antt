@@ -3,7 +3,7 @@
 -- tree_work, tree_untested; given_work, root_within, root_past, given_once, given_refuses. The rest are steps.
 use Rattle.std.specs.Prelude.{◌≡◌, ◌⊎◌, ℕ, List, [], ◌∷◌, length, map, Contains, Option, Some, Err}
 use Rattle.std.specs.Io.KnownBytes.{Keeps}
-use Rattle.std.proofs.Common.{true, refl, sym, ap, ◌∙◌, subst, inl, inr}
+use Rattle.std.proofs.Common.{refl, sym, ap, ◌∙◌, subst, inl, inr}
 use Rattle.std.proofs.lemmas.List.Sorted.{Contains-permutation, IsPermutation-sym}
 use Rattle.gf_frac.specs.Fraction.{◌*ℚ◌}
 use Rattle.gf_frac.proofs.FractionLaws.{one-*ℚ}
@@ -22,7 +22,6 @@ use Rattle.gf_poly.specs.declared.error.PolyError.{PolyError}
 use Rattle.gf_poly.specs.declared.error.PolyError.TheVariants as errors
 use Rattle.gf_division.specs.Autoreduction.{IsAutoreduced, IsReducedOf, IsAutoreductionRefusal}
 use Rattle.gf_reduced.specs.declared.error.CheckError.{CheckError}
-use Rattle.gf_reduced.specs.declared.error.CheckError.TheVariants as check_errors
 use Rattle.gf_reduced.specs.Forms.{monic_of, monic_set}
 use Rattle.gf_reduced.specs.Markings.{IsMarkedGroebnerBasis, IsBasisOf}
 use Rattle.gf_reduced.specs.Refusals.{of_poly, AreChecksWithinLimits}

@@ -25,7 +25,7 @@ use Rattle.gf_items.specs.Kinds.{a_set, vector_where}
 use Rattle.gf_items.specs.Refusals.{IsOfTest, IsOfWork}
 use Rattle.gf_frame.specs.Commands.{IsAnswered, IsUnanswered, IsRefusedOn}
 use Rattle.gf_items.proofs.KindLaws.{ring_and_once}
-use Rattle.gf_frame.proofs.ReadingLaws.{one_once, of_one_text}
+use Rattle.gf_frame.proofs.ReadingLaws.{one_once}
 use Rattle.gf_frame.proofs.SoundLaws.{IsExactCommand, IsTestedCommand, untested}
 use Rattle.gfan.specs.Stats.{of_gordan}
 use Rattle.gfan.specs.FanTexts.{of_fan}

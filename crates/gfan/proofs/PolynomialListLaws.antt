@@ -1,6 +1,6 @@
 -- The polynomials of a marked set, one after another.
 use Rattle.std.specs.Prelude.{◌≡◌, ◌≢◌, ℕ, zero, suc, ◌+◌, ◌<◌, All, List, [], ◌∷◌, ◌++◌, length, take, get_or}
-use Rattle.std.proofs.Common.{arith, refl, sym, ap, ◌∙◌, subst}
+use Rattle.std.proofs.Common.{arith, sym, ap, ◌∙◌, subst}
 use Rattle.std.proofs.lemmas.List.{take_more, map-append}
 use Rattle.std.proofs.lemmas.List.Elements.{All-push}
 use Rattle.gf_poly.specs.Polynomial.{Terms, HasVariables}
@@ -11,9 +11,6 @@ pub record PolynomialsSoFar (n : ℕ) (bs : List MarkedPolynomial) (found : List
   pub value : found ≡ polys (take i bs)
   pub some : All (λ f. f ≢ []) found
   pub variables : All (HasVariables n) found
-
-pub polynomials-none : (n : ℕ) (bs : List MarkedPolynomial) → PolynomialsSoFar n bs [] 0
-polynomials-none n bs = record { value = refl; some = λ k d l. absurd (omega (arith, l)); variables = λ k d l. absurd (omega (arith, l)) }
 
 -- what holds of each holds of the one at a place
 each_at : {A : Type 0} (P : A → Type 0) (xs : List A) (i : ℕ) (x : A) → Each P xs → i < length xs → x ≡ get_or xs i x → P x

@@ -1,9 +1,8 @@
 -- How a run ends: with which names its refusal is told, and that a list comes to its limit where it goes on past it.
--- To cite: words_named, unloaded_named, unnamed_loaded, told_loaded, one_text, two_texts, one_told; limit_not_done, limit_told. The rest are steps.
-use Rattle.std.specs.Prelude.{◌≡◌, ◌⊎◌, ℕ, Bool, true, false, List, [], ◌∷◌, length, get_or, Option, None, Some, IfSome, Vec}
-use Rattle.std.specs.Global.{Global}
-use Rattle.std.specs.Io.KnownBytes.{Appends}
-use Rattle.std.proofs.Common.{arith, refl, sym, ap, ◌∙◌, subst, inl, inr}
+-- To cite: words_named, unloaded_named, unnamed_loaded, told_loaded, one_told; limit_not_done, limit_told. The rest are
+-- steps.
+use Rattle.std.specs.Prelude.{◌≡◌, ◌⊎◌, ℕ, Bool, true, false, List, [], ◌∷◌, Option, None, Some, IfSome}
+use Rattle.std.proofs.Common.{sym, ap, subst, inl, inr}
 use Rattle.gf_outside.specs.Faults.{Rose}
 use Rattle.gf_front.specs.declared.command_line.Job.{Job}
 use Rattle.gf_front.specs.declared.command_line.Job.TheVariants as jobs
@@ -13,7 +12,6 @@ use Rattle.gf_front.specs.declared.refusal.Status.TheVariants as statuses
 use Rattle.gf_front.specs.Jobs.{IsJobOf}
 use Rattle.gf_frame.specs.Seen.{Seen, OutputSeen}
 use Rattle.gf_frame.specs.Loading.{Origin, IsInputLoaded, AreLoaded, AreUnloaded}
-use Rattle.gf_frame.specs.Origins.{texts_of}
 use Rattle.gf_frame.specs.Commands.{Writing, Command, IsOfOutside, IsAnswered, IsRefusedOn}
 use Rattle.gf_frame.specs.Runs.{TakesTurns, IsCarriedOut, IsDoneBy, AreCut, IsStoppedBy, AreGivenTexts}
 use Rattle.gf_frame.specs.Programs.{IsRunDone, IsRunRefused, IsRefusedWith}
@@ -21,7 +19,7 @@ use Rattle.gf_frame.proofs.LoadingLaws.{loaded_known, unloaded_known, unloaded_o
 use Rattle.gf_frame.proofs.ProgramLaws.{done_as, stopped_as}
 use Rattle.gfan.specs.declared.refused.Refused.{Refused}
 use Rattle.gfan.specs.BasesWriting.{IsUnnamed}
-use Rattle.gfan.specs.Refused.{without_names, IsNamedBy, IsRingOf, IsOfSource}
+use Rattle.gfan.specs.Refused.{IsNamedBy, IsRingOf, IsOfSource}
 use Rattle.gfan.specs.declared.bases.ListOptions.{ListOptions}
 use Rattle.gfan.specs.Commands.{list_options, list_command, command_of, IsPastReach}
 use Rattle.gfan.specs.Run.{ReadWhole, IsRingOfInput, IsOfInput, IsOfLoaded}
@@ -74,19 +72,6 @@ told_loaded (Origin.the_input ∷ (o ∷ os)) p q texts e l h = unnamed_input p.
 told_loaded (Origin.the_input ∷ []) p q [] e l h = absurd l
 told_loaded (Origin.the_input ∷ []) p q (source ∷ []) e l h = of_input p l.0 q source e l.1 l.2 h
 told_loaded (Origin.the_input ∷ []) p q (source ∷ (other ∷ others)) e l h = absurd l.2
-
--- ---- texts as the code lists them
-
-pub one_text : (ts : List (Vec ℕ Global)) (d : Vec ℕ Global) → length ts ≡ 1 → texts_of ts ≡ (get_or ts 0 d).items ∷ []
-one_text [] d e = absurd (omega (arith, e))
-one_text (t ∷ []) d e = refl
-one_text (t ∷ (u ∷ us)) d e = absurd (omega (arith, e))
-
-pub two_texts : (ts : List (Vec ℕ Global)) (d : Vec ℕ Global) → length ts ≡ 2 → texts_of ts ≡ (get_or ts 0 d).items ∷ ((get_or ts 1 d).items ∷ [])
-two_texts [] d e = absurd (omega (arith, e))
-two_texts (t ∷ []) d e = absurd (omega (arith, e))
-two_texts (t ∷ (u ∷ [])) d e = refl
-two_texts (t ∷ (u ∷ (v ∷ vs))) d e = absurd (omega (arith, e))
 
 -- ---- past the limit of a list
 

@@ -9,7 +9,6 @@ use Rattle.gf_front.specs.declared.plain.PlainCommand.{PlainCommand}
 use Rattle.gf_front.specs.declared.plain.PlainCommand.TheVariants as plains
 use Rattle.gf_front.specs.declared.options.BasesOptions.{BasesOptions}
 use Rattle.gf_front.specs.declared.options.FanCommonRefinementOptions.{FanCommonRefinementOptions}
-use Rattle.gf_frame.specs.Loading.{Origin}
 use Rattle.gf_frame.specs.Origins.{texts_of}
 use Rattle.gf_frame.specs.Commands.{Command, WritesOnce}
 use Rattle.gfan.specs.declared.bases.ListOptions.{ListOptions}

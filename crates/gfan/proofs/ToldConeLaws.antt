@@ -1,7 +1,8 @@
 -- What is told of a cone, and that only numbers keep it from being told.
--- To cite: untold_numbers, untold_within, untold_memory, rays_untold, fan_untold, numbers_work, numbers_untested, numbers_named. The rest are steps.
+-- To cite: untold_numbers, untold_within, rays_untold, fan_untold, numbers_work, numbers_untested, numbers_named. The rest
+-- are steps.
 use Rattle.std.specs.Prelude.{◌≡◌, ℕ, Bool, true, false, List, [], ◌∷◌, Option, ℤ}
-use Rattle.std.proofs.Common.{refl, sym, ap, ◌∙◌, subst}
+use Rattle.std.proofs.Common.{sym, ap, ◌∙◌, subst}
 use Rattle.gf_gordan.specs.declared.error.GordanError.{GordanError}
 use Rattle.gf_gordan.specs.declared.error.GordanError.TheVariants as gordan_errors
 use Rattle.gf_gordan.specs.Steps.{Failed}
@@ -9,7 +10,6 @@ use Rattle.gf_rays.specs.Cones.{RowsAndRays}
 use Rattle.gf_sections.specs.declared.error.SectionsError.{SectionsError}
 use Rattle.gf_sections.specs.declared.error.SectionsError.TheVariants as sections_errors
 use Rattle.gf_sections.specs.ConeByRows.{IsConeByRows, IsByRowsStep}
-use Rattle.gf_sections.specs.ConeText.{IsConeCause}
 use Rattle.gf_fan.specs.declared.error.FanError.{FanError}
 use Rattle.gf_fan.specs.declared.error.FanError.TheVariants as fan_errors
 use Rattle.gf_fan.specs.Refusals.{IsFanRefusal}
@@ -82,11 +82,6 @@ cone_fan_memory n hs es r w (IsConeFanCause.no_memory m) = m
 pub untold_within : (as_fan certified : Bool) (n : ℕ) (hs es : List (List ℤ)) (r : Refusal) → IsToldWithin as_fan certified n hs es → IsUntoldAs as_fan certified n hs es r → r ≡ refusals.Memory
 untold_within false certified n hs es r w h = h.1 ∙ ap of_sections (w h.0 h.2)
 untold_within true certified n hs es r w h = cone_fan_memory n hs es r w h
-
--- it isn't for want of memory
-pub untold_memory : (as_fan certified : Bool) (n : ℕ) (hs es : List (List ℤ)) → IsUntoldAs as_fan certified n hs es refusals.Memory
-untold_memory false certified n hs es = (sections_errors.Memory, refl, IsConeCause.no_memory refl)
-untold_memory true certified n hs es = IsConeFanCause.no_memory refl
 
 -- by the answers of the calls
 pub rays_untold : (n : ℕ) (hs es : List (List ℤ)) (e : GordanError) (r : Refusal) → Failed (IsByRowsStep n hs es) e → r ≡ of_gordan e → IsConeFanCause n hs es r

@@ -1,7 +1,8 @@
 -- Each of the small tools answers a source in one way: its record has the laws of an exact command, and names no limit of a list.
--- To cite: mark_polynomial_set_exact, initial_forms_exact, homogenize_exact, polynomial_set_union_exact, stats_exact; homogenize_not_listed,
--- homogenize_untested, gordan_not_listed, gordan_untested; length_unanswered, zero_unanswered, marked_answered; entries_unanswered, forms_answered; room_unanswered, exponent_unanswered,
--- homogenized_answered; stats_unanswered, stats_answered, gordan_work, named_gordan, seven_pieces. The rest are steps.
+-- To cite: mark_polynomial_set_exact, initial_forms_exact, homogenize_exact, polynomial_set_union_exact, stats_exact;
+-- homogenize_not_listed, homogenize_untested, gordan_not_listed, gordan_untested; length_unanswered, zero_unanswered,
+-- marked_answered; entries_unanswered, forms_answered; room_unanswered, homogenized_answered; stats_unanswered,
+-- stats_answered, gordan_work, named_gordan, seven_pieces. The rest are steps.
 use Rattle.std.specs.Prelude.{◌≡◌, ◌⊎◌, ℕ, ◌^◌, ◌<◌, All, List, [], ◌∷◌, ◌++◌, length, None, Some, ℤ}
 use Rattle.std.specs.List.{concat}
 use Rattle.std.proofs.Common.{arith, refl, sym, ap, ◌∙◌, subst, inl, inr, append_assoc, append-nil}
@@ -10,7 +11,6 @@ use Rattle.gf_poly.specs.declared.Term.{Term}
 use Rattle.gf_poly.specs.declared.monomial.ExponentOverflow.{ExponentOverflow}
 use Rattle.gf_poly.specs.Polynomial.{Terms}
 use Rattle.gf_poly.specs.Marking.{MarkedPolynomials, polys}
-use Rattle.gf_text.specs.declared.TheConstants.{MOST_VARIABLES}
 use Rattle.gf_text.specs.declared.written.Written.{Written}
 use Rattle.gf_text.specs.declared.written.Written.TheVariants as written
 use Rattle.gf_text.specs.Sets.{AreNonzero}
@@ -19,8 +19,7 @@ use Rattle.gf_gordan.specs.declared.error.GordanError.TheVariants as gordan_erro
 use Rattle.gf_small.specs.MarksByWeight.{AreMarkedByWeight}
 use Rattle.gf_small.specs.Degrees.{total_degree}
 use Rattle.gf_small.specs.InitialForms.{AreInitialForms}
-use Rattle.gf_small.specs.declared.homogenization.SmallError.TheVariants as homogenize_errors
-use Rattle.gf_small.specs.Homogenization.{new_exponent, ExponentsFit, IsHomogenizedWithinLimit, IsPastLimitIn, IsFirstExponentPastLimit, AreHomogenizations, IsHomogenizeCause}
+use Rattle.gf_small.specs.Homogenization.{new_exponent, ExponentsFit, IsHomogenizedWithinLimit, IsPastLimitIn, IsFirstExponentPastLimit}
 use Rattle.gf_small.specs.declared.counts.Stats.{Stats}
 use Rattle.gf_small.specs.Statistics.{AreStatistics, IsStatisticsCause}
 use Rattle.gf_front.specs.declared.refusal.Refusal.{Refusal}
@@ -29,7 +28,7 @@ use Rattle.gf_items.specs.Refusals.{IsOfTest, IsOfWork}
 use Rattle.gf_frame.specs.Commands.{IsAnswerFor, IsUnanswered}
 use Rattle.gf_items.specs.Kinds.{a_set, set_list, marked_set_list, vector, new_name}
 use Rattle.gf_items.proofs.KindLaws.{ring_and_once}
-use Rattle.gf_frame.proofs.ReadingLaws.{one_once, of_one_text}
+use Rattle.gf_frame.proofs.ReadingLaws.{one_once}
 use Rattle.gf_frame.proofs.SoundLaws.{IsExactCommand}
 use Rattle.gfan.specs.Buchberger.{IsLengthRefusal}
 use Rattle.gfan.specs.Printing.{IsPrinted, IsPrintedSet}
@@ -129,21 +128,6 @@ homogenize_exact = record {
   checks = λ texts v h. (room_check (length v.0), tt);
   work = λ v r h. homogenize_work v.1.0 r h;
   within = λ v r w h. homogenize_within v.1.0 r w h;
-}
-
--- there is no room for one more variable
-pub room_unanswered : (ring : List (List ℕ)) (ws : List Written) (name : List ℕ) (count : ℕ) → IsHomogenizeCause (length ring) ws (homogenize_errors.TooManyVariables count) → IsUnanswered homogenize_command (ring, (ws, name)) (refusals.TooManyVariables count)
-room_unanswered ring ws name count h = IsUnanswered.in_form (inl (h.1, omega (arith, h.0)))
-
--- an exponent passes the limit
-pub exponent_unanswered : (ring : List (List ℕ)) (ws : List Written) (name : List ℕ) (o : ExponentOverflow) → IsHomogenizeCause (length ring) ws (homogenize_errors.Exponent o) → IsUnanswered homogenize_command (ring, (ws, name)) (refusals.ExponentOverflow o)
-exponent_unanswered ring ws name o h = IsUnanswered.in_work (h.0, tt) h.1
-
-pub homogenized_answered : (ring extended : List (List ℕ)) (ws : List Written) (name : List ℕ) (fs : List Written) (text : List ℕ) → length ring < MOST_VARIABLES → extended ≡ ring ++ name ∷ [] → AreHomogenizations ws fs
-    → IsPrintedSet extended fs text → IsAnswerFor homogenize_command (ring, (ws, name)) text
-homogenized_answered ring extended ws name fs text l e h p = record {
-  formed = (l, tt);
-  is_answer = record { set = fs; are_homogenized = h; is_text = subst (λ names. IsPrintedSet names fs text) e p };
 }
 
 pub homogenize_untested : (ws : List Written) (r : Refusal) → IsOfTest r → IsHomogenizeRefusal ws r → ⊥

@@ -22,7 +22,7 @@ use Rattle.gf_items.specs.Refusals.{IsExactRefusal, IsOfTest, IsOfWork}
 use Rattle.gf_frame.specs.Commands.{IsUnanswered}
 use Rattle.gf_items.proofs.CheckLaws.{IsCheckedOnce}
 use Rattle.gf_items.proofs.KindLaws.{ring_and_once}
-use Rattle.gf_frame.proofs.ReadingLaws.{one_once, of_one_text}
+use Rattle.gf_frame.proofs.ReadingLaws.{one_once}
 use Rattle.gf_frame.proofs.SoundLaws.{IsExactCommand, IsTestedCommand, untested}
 use Rattle.gfan.specs.declared.tropical.TropicalFan.{TropicalFan}
 use Rattle.gfan.specs.declared.tropical.TropicalFan.TheVariants as fans

@@ -1,13 +1,13 @@
 -- The weights of sets: how they are found, why they aren't, and that a source is answered in one way.
 -- To cite: weights_joined, set_unweighed, weight_unweighed, items_more, items_all, one_read, named_one, named_list, one_unweighed, list_unweighed;
 -- weight_vector_exact, weight_vector_tested, unweighed_not_listed. The rest are steps.
-use Rattle.std.specs.Prelude.{◌≡◌, ◌⊎◌, ℕ, zero, suc, ◌+◌, ◌<◌, ◌≤◌, Bool, true, false, List, [], ◌∷◌, ◌++◌, length, take, zip, flat_map, Contains, Some, ℤ}
+use Rattle.std.specs.Prelude.{◌≡◌, ◌⊎◌, ℕ, ◌+◌, ◌<◌, ◌≤◌, Bool, true, false, List, [], ◌∷◌, ◌++◌, length, take, zip, flat_map, Contains, Some, ℤ}
 use Rattle.std.specs.List.{AllZip}
 use Rattle.std.proofs.Common.{arith, sym, ap, ◌∙◌, subst, inl, inr, get_or, append_assoc, append-nil}
 use Rattle.std.proofs.lemmas.List.{take_more, take_all}
 use Rattle.std.proofs.lemmas.List.Concat.{flat_map-append}
 use Rattle.std.proofs.lemmas.Slice.Zip.{length-zip, get_or-zip}
-use Rattle.gf_poly.specs.Marking.{MarkedPolynomials, Each, HaveVariables}
+use Rattle.gf_poly.specs.Marking.{MarkedPolynomials, Each}
 use Rattle.gf_ideal.proofs.ListLaws.{contained_each}
 use Rattle.gf_reduced.specs.declared.error.CheckError.{CheckError}
 use Rattle.gf_reduced.specs.declared.error.CheckError.TheVariants as check_errors

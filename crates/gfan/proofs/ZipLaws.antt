@@ -1,9 +1,9 @@
 -- Two lists, element by element.
--- To cite: zip_more, zip_all, zip_there, zip_back.
-use Rattle.std.specs.Prelude.{◌≡◌, ◌⊎◌, ℕ, ◌+◌, ◌<◌, ◌≤◌, List, [], ◌∷◌, ◌++◌, length, take, Contains}
+-- To cite: zip_more, zip_there, zip_back.
+use Rattle.std.specs.Prelude.{◌≡◌, ◌⊎◌, ℕ, ◌+◌, ◌<◌, List, [], ◌∷◌, ◌++◌, length, take, Contains}
 use Rattle.std.specs.List.{AllZip}
 use Rattle.std.proofs.Common.{arith, sym, ap, ◌∙◌, subst, get_or, inl, inr}
-use Rattle.std.proofs.lemmas.List.{take_more, take_all}
+use Rattle.std.proofs.lemmas.List.{take_more}
 use Rattle.std.proofs.lemmas.Slice.Zip.{all_zipped_more}
 use Rattle.gf_ideal.proofs.ListLaws.{Contains-cases, Contains-here, Contains-there}
 
@@ -12,10 +12,6 @@ pub zip_more : {A B : Type 0} (R : A → B → Type 0) (xs : List A) (ys next : 
 zip_more {A} {B} R xs ys next i x y l e r q a =
     let more : take (i + 1) xs ≡ take i xs ++ x ∷ [] = take_more xs i x l ∙ ap (λ (z : A). take i xs ++ z ∷ []) (sym e) in
     subst (λ (zs : List A). AllZip R zs next) (sym more) (subst (AllZip R (take i xs ++ x ∷ [])) (sym q) (all_zipped_more R (take i xs) ys x y a r))
-
--- all of them
-pub zip_all : {A B : Type 0} (R : A → B → Type 0) (xs : List A) (ys : List B) (i : ℕ) → length xs ≤ i → AllZip R (take i xs) ys → AllZip R xs ys
-zip_all {A} R xs ys i l a = subst (λ (zs : List A). AllZip R zs ys) (take_all i xs l) a
 
 -- one of the first has its partner
 pub zip_there : {A B : Type 0} (R : A → B → Type 0) (xs : List A) (ys : List B) (x : A) → AllZip R xs ys → Contains xs x → (y : B) × Contains ys y × R x y

@@ -173,6 +173,7 @@ pub record IsListPast (o : ListOptions) (n : ℕ) (fs : List Terms) (most : ℕ)
 
 -- ---- the command
 
+-- the command `_bases`, whose list begins at the basis by degree of what is read
 abbrev pub bases_command : ListOptions → Command
 bases_command o = record {
   Value = List (List ℕ) × (List Written × Option (List ℤ));

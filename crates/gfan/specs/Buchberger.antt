@@ -1,6 +1,5 @@
 -- `_buchberger`: the form of what it reads, what it writes, and why it doesn't.
-use Rattle.std.specs.Prelude.{◌≡◌, ◌≢◌, ℕ, Bool, true, false, List, [], ◌∷◌, ◌++◌, length, map, All, Option, None, Some, ℤ, pos, ◌≤ℤ◌}
-use Rattle.gf_exponents.specs.Exponents.{Exponents}
+use Rattle.std.specs.Prelude.{◌≡◌, ◌≢◌, ℕ, Bool, true, false, List, [], ◌∷◌, length, map, All, Option, None, Some, ℤ, pos, ◌≤ℤ◌}
 use Rattle.gf_exponents.specs.Orders.{gains}
 use Rattle.gf_exponents.specs.SixOrders.{MonomialOrder}
 use Rattle.gf_order.specs.Weights.{IsFirstBelow}
@@ -31,6 +30,7 @@ abbrev pub polynomial_of : Written → Terms
 polynomial_of written.Zero = []
 polynomial_of (written.Nonzero m) = m.poly
 
+-- those of all of them, in order
 abbrev pub generators_of : List Written → List Terms
 generators_of ws = map polynomial_of ws
 
@@ -85,11 +85,13 @@ abbrev pub IsLengthRefusal : ℕ → Option (List ℤ) → Refusal → Type 0
 IsLengthRefusal n weight (refusals.Dimensions left right) = HasOtherLength n weight left right
 IsLengthRefusal n weight _ = ⊥
 
+-- a polynomial that isn't homogeneous, where the order asks for that: the first one, with its first two degrees
 abbrev pub IsDegreeRefusal : Bool → Option (List ℤ) → List Terms → Refusal → Type 0
 IsDegreeRefusal revlex weight fs (refusals.NotHomogeneous polynomial first second) =
     let e : NotHomogeneous = record { polynomial = polynomial; first = first; second = second } in IsFirstNotTaken revlex weight fs e
 IsDegreeRefusal revlex weight fs _ = ⊥
 
+-- an entry of the weight that gives no term order: the first one
 abbrev pub IsWeightRefusal : Bool → Option (List ℤ) → Refusal → Type 0
 IsWeightRefusal revlex weight (refusals.NotTermOrder index) = IsFirstSmall revlex weight index
 IsWeightRefusal revlex weight _ = ⊥
@@ -119,6 +121,7 @@ of_basis basis_errors.Memory = refusals.Memory
 
 -- ---- the command
 
+-- the command `_buchberger`
 abbrev pub buchberger_command : Options → Command
 buchberger_command o = record {
   Value = List (List ℕ) × (List Written × Option (List ℤ));

@@ -21,6 +21,7 @@ use Rattle.gf_frame.specs.Commands.{Writing, Command}
 
 -- ---- refusals as ones of the run
 
+-- why a file has no fan
 abbrev pub of_fan_file : FanFileError → Refusal
 of_fan_file (file_errors.Syntax s) = refusals.Syntax s
 of_fan_file (file_errors.TooWide at) = refusals.TooWide at
@@ -32,6 +33,7 @@ of_fan_file (file_errors.BadRay number) = refusals.BadRay number
 of_fan_file (file_errors.Dimensions left right) = refusals.Dimensions left right
 of_fan_file file_errors.Memory = refusals.Memory
 
+-- why two fans have no refinement
 abbrev pub of_refine : RefineError → Refusal
 of_refine (refine_errors.Cone o) = refusals.ConeOverflow o.row o.op o.left o.right
 of_refine (refine_errors.Dimensions left right) = refusals.Dimensions left right
@@ -97,6 +99,7 @@ pub record IsRefinementWithin (a b : List ℕ) : Type 0 where
 abbrev pub in_words : List ℕ → Check
 in_words a = record { Holds = (r : Refusal) → IsRefusedInWords a r → ⊥; Fails = λ r. IsRefusedInWords a r }
 
+-- the command `_fancommonrefinement` on files of these names
 abbrev pub refinement_command : List ℕ → List ℕ → Command
 refinement_command first second = record {
   Value = List ℕ × List ℕ;

@@ -38,6 +38,7 @@ pub record IsSomeReductionCause (bs : List MarkedPolynomial) (fs : List Terms) (
   pub contained : Contains fs polynomial
   pub cause : IsReductionRefusal bs polynomial e
 
+-- some polynomial isn't reduced for such a cause, or there is no memory
 abbrev pub IsSomeReductionRefusal : List MarkedPolynomial → List Terms → PolyError → Type 0
 IsSomeReductionRefusal bs fs (errors.Overflow o) = IsSomeReductionCause bs fs (errors.Overflow o)
 IsSomeReductionRefusal bs fs (errors.Exponent o) = IsSomeReductionCause bs fs (errors.Exponent o)
@@ -59,6 +60,7 @@ pub record IsContainmentWithin (s : MarkedPolynomials) (fs : List Terms) : Type 
 
 -- ---- the command
 
+-- the command `_doesidealcontain`
 abbrev pub containment_command : Command
 containment_command = record {
   Value = List (List ℕ) × (MarkedPolynomials × List Written);

@@ -86,6 +86,7 @@ pub record IsGivenListPast (o : ListOptions) (n : ℕ) (s : MarkedPolynomials) (
 
 -- ---- the command
 
+-- the command `_bases -g`, whose list is that of the ideal of a marked Gröbner basis
 abbrev pub given_bases_command : ListOptions → Command
 given_bases_command o = record {
   Value = List (List ℕ) × MarkedPolynomials;

@@ -22,5 +22,6 @@ pub record HasGivingWeights (listed echoed : Bool) (source text : List ℕ) : Ty
   pub is_text : text ≡ weights_text listed echoed ring (zip sets weights)
   pub give : AllZip GivesBasis sets weights
 
+-- so it is with all that `_weightvector` writes
 abbrev pub WrittenWeightsGiveBases : Type 0
 WrittenWeightsGiveBases = (listed echoed : Bool) (source text : List ℕ) → IsAnswerTo (jobs.WeightVector (record { listed = listed; echoed = echoed })) source text → HasGivingWeights listed echoed source text

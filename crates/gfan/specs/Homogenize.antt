@@ -23,6 +23,7 @@ IsHomogenizeRefusal ws (refusals.ExponentOverflow o) = IsFirstExponentPastLimit 
 IsHomogenizeRefusal ws refusals.Memory = Unit {0}
 IsHomogenizeRefusal ws _ = ⊥
 
+-- the command `_homogenize`
 abbrev pub homogenize_command : Command
 homogenize_command = record {
   Value = List (List ℕ) × (List Written × List ℕ);

@@ -16,6 +16,7 @@ pub record IsFormsText (ring : List (List ℕ)) (ws : List Written) (vector : Li
   pub are_forms : AreInitialForms vector ws forms
   pub is_text : IsPrintedSet ring forms text
 
+-- the command `_initialforms`
 abbrev pub initial_forms_command : Command
 initial_forms_command = record {
   Value = List (List ℕ) × (List Written × List ℤ);

@@ -20,6 +20,7 @@ pub record IsMarkedByText (ring : List (List ℕ)) (ws : List Written) (vector :
   pub is_marked : AreMarkedByWeight vector (polys items) set
   pub is_text : IsPrinted ring set text
 
+-- the command `_markpolynomialset`
 abbrev pub mark_polynomial_set_command : Command
 mark_polynomial_set_command = record {
   Value = List (List ℕ) × (List Written × List ℤ);

@@ -15,6 +15,7 @@ pub record IsUnionText (ring : List (List ℕ)) (sets : List (List Written)) (te
   pub is_union : IsUnion sets union
   pub is_text : IsPrintedSet ring union text
 
+-- the command `_polynomialsetunion`
 abbrev pub polynomial_set_union_command : Command
 polynomial_set_union_command = record {
   Value = List (List ℕ) × List (List Written);

@@ -44,6 +44,7 @@ of_gordan gordan_errors.Memory = refusals.Memory
 
 -- ---- the command
 
+-- the command `_stats`
 abbrev pub stats_command : Command
 stats_command = record {
   Value = List (List ℕ) × List MarkedPolynomials;

@@ -53,10 +53,12 @@ abbrev pub IsToldAs : Bool → Bool → ℕ → List (List ℤ) → List (List �
 IsToldAs false certified n inequalities equations text = IsConeText n certified inequalities equations text
 IsToldAs true certified n inequalities equations text = IsConeFanText n inequalities equations text
 
+-- why the cone isn't told so
 abbrev pub IsUntoldAs : Bool → Bool → ℕ → List (List ℤ) → List (List ℤ) → Refusal → Type 0
 IsUntoldAs false certified n inequalities equations r = (e : SectionsError) × (r ≡ of_sections e) × IsConeCause n certified inequalities equations e
 IsUntoldAs true certified n inequalities equations r = IsConeFanCause n inequalities equations r
 
+-- no operation that it may take leaves the range
 abbrev pub IsToldWithin : Bool → Bool → ℕ → List (List ℤ) → List (List ℤ) → Type 0
 IsToldWithin false certified n inequalities equations = IsConeWithinLimits n certified inequalities equations
 IsToldWithin true certified n inequalities equations = IsConeFanWithin n inequalities equations

@@ -23,6 +23,7 @@ abbrev pub IsSpaceRefusal : ℕ → Refusal → Type 0
 IsSpaceRefusal n (refusals.Dimensions left right) = (left ≡ 0) × (right ≡ 1) × (n ≡ 0)
 IsSpaceRefusal n _ = ⊥
 
+-- the check that there is a variable
 abbrev pub for_space : ℕ → Check
 for_space n = record { Holds = 1 ≤ n; Fails = IsSpaceRefusal n }
 
@@ -30,10 +31,12 @@ for_space n = record { Holds = 1 ≤ n; Fails = IsSpaceRefusal n }
 abbrev pub HasNoZero : List Written → Type 0
 HasNoZero ws = (ms : List MarkedPolynomial) × AreNonzero ws ms
 
+-- how the first zero polynomial is told: it is in the set 0, the only one
 abbrev pub IsZeroRefusal : List Written → Refusal → Type 0
 IsZeroRefusal ws (refusals.ZeroPolynomial set index) = (set ≡ 0) × IsFirstZero ws index
 IsZeroRefusal ws _ = ⊥
 
+-- the check that no polynomial is zero
 abbrev pub without_zero : List Written → Check
 without_zero ws = record { Holds = HasNoZero ws; Fails = IsZeroRefusal ws }
 
@@ -42,5 +45,6 @@ abbrev pub IsRoomRefusal : ℕ → Refusal → Type 0
 IsRoomRefusal n (refusals.TooManyVariables count) = (count ≡ n + 1) × (MOST_VARIABLES ≤ n)
 IsRoomRefusal n _ = ⊥
 
+-- the check that there may be one more variable
 abbrev pub for_one_more : ℕ → Check
 for_one_more n = record { Holds = n < MOST_VARIABLES; Fails = IsRoomRefusal n }

@@ -43,6 +43,7 @@ IsNumberRefusal fans.Hypersurface count _ = ⊥
 IsNumberRefusal fans.Intersection count r = ⊥
 IsNumberRefusal fans.MinkowskiSum count r = ⊥
 
+-- the check that there are as many polynomials as the fan is of
 abbrev pub for_number : TropicalFan → ℕ → Check
 for_number which count = record { Holds = HasNumber which count; Fails = IsNumberRefusal which count }
 

@@ -1,5 +1,5 @@
 -- `_weightvector`: what it reads and writes, and why it doesn't.
-use Rattle.std.specs.Prelude.{◌≡◌, ℕ, ◌+◌, Bool, true, false, List, [], ◌∷◌, ◌++◌, length, flat_map, zip, All, Contains, ℤ, pos, ◌<ℤ◌}
+use Rattle.std.specs.Prelude.{◌≡◌, ℕ, Bool, true, false, List, [], ◌∷◌, ◌++◌, length, flat_map, zip, All, Contains, ℤ, pos, ◌<ℤ◌}
 use Rattle.std.specs.List.{AllZip}
 use Rattle.gf_exponents.specs.Orders.{gains}
 use Rattle.gf_poly.specs.Marking.{MarkedPolynomials, HaveVariables, polys, IsArranged}
@@ -52,6 +52,7 @@ weight_item true ring w = basis_text ring w.0.items ++ 10 ∷ vector_text w.1
 abbrev pub later_weight_item : Bool → List (List ℕ) → MarkedPolynomials × List ℤ → List ℕ
 later_weight_item echoed ring w = 10 ∷ 44 ∷ 10 ∷ weight_item echoed ring w
 
+-- the items of all of them
 abbrev pub weight_items : Bool → List (List ℕ) → List (MarkedPolynomials × List ℤ) → List ℕ
 weight_items echoed ring [] = []
 weight_items echoed ring (w ∷ ws) = weight_item echoed ring w ++ flat_map (later_weight_item echoed ring) ws
@@ -66,6 +67,7 @@ abbrev pub enclosed : Bool → List ℕ → List ℕ
 enclosed false items = items ++ 10 ∷ []
 enclosed true items = 123 ∷ (items ++ 125 ∷ 10 ∷ [])
 
+-- what is written: the line of the ring where sets are echoed, and the items
 abbrev pub weights_text : Bool → Bool → List (List ℕ) → List (MarkedPolynomials × List ℤ) → List ℕ
 weights_text listed echoed ring ws = echoed_ring echoed ring ++ enclosed listed (weight_items echoed ring ws)
 

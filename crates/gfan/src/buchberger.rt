@@ -1,9 +1,8 @@
 // What `_buchberger` writes for an input.
-ghost use Rattle.std.specs.Prelude.{◌≡◌, ◌⊎◌, ◌++◌, ◌∷◌, [], length, IfOk, IfErr, IfSome, OnOk};
+ghost use Rattle.std.specs.Prelude.{◌≡◌, ◌⊎◌, ◌∷◌, [], length, IfOk, IfErr, OnOk};
 ghost use Rattle.std.specs.Option.{ForSome};
 ghost use Rattle.gf_text.specs.Sets.{AreIn};
 ghost use Rattle.gf_text.specs.Vectors.{AreEntriesWithin};
-ghost use Rattle.gf_buchberger.specs.Jobs.{HaveRingVariables, HaveOneDegree};
 ghost use Rattle.gf_items.specs.Checks.{FirstFails};
 ghost use Rattle.gf_frame.specs.Commands.{IsAnswerFor, IsUnanswered, IsAnswered, IsRefusedOn};
 ghost use Rattle.gfan.specs.Buchberger.{generators_of, polynomial_of, asked_order, FitsVariables, IsTermWeight, AreTaken, IsFirstSmall, IsLengthRefusal, IsDegreeRefusal, form, of_basis, buchberger_command};

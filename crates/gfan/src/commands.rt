@@ -4,7 +4,7 @@ ghost use Rattle.gf_front.specs.Jobs.{HasNumbersInRange};
 ghost use Rattle.gf_front.specs.declared.command_line.Job.{Job};
 ghost use Rattle.gf_front.specs.declared.options.FanCommonRefinementOptions.{FanCommonRefinementOptions};
 ghost use Rattle.gf_frame.specs.Seen.{seen, output_seen};
-ghost use Rattle.gf_frame.specs.Loading.{Origin, AreLoaded, AreUnloaded, HaveInput, HaveFile};
+ghost use Rattle.gf_frame.specs.Loading.{AreLoaded, AreUnloaded, HaveInput, HaveFile};
 ghost use Rattle.gf_frame.specs.Origins.{texts_of};
 ghost use Rattle.gf_frame.specs.Commands.{WritesOnce, IsAnswered, IsRefusedOn};
 ghost use Rattle.gf_frame.specs.Runs.{IsDoneOn, IsStoppedOn};

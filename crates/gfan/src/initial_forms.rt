@@ -1,5 +1,5 @@
 // What `_initialforms` writes for an input.
-ghost use Rattle.std.specs.Prelude.{◌≡◌, length, None, IfOk, IfErr, [], ◌∷◌};
+ghost use Rattle.std.specs.Prelude.{length, None, IfOk, IfErr, [], ◌∷◌};
 ghost use Rattle.gf_text.specs.Sets.{AreIn};
 ghost use Rattle.gf_text.specs.Vectors.{AreEntriesWithin};
 ghost use Rattle.gf_frame.specs.Commands.{IsAnswerFor, IsUnanswered, IsAnswered, IsRefusedOn};

@@ -1,5 +1,5 @@
 // What `_polynomialsetunion` writes for an input.
-ghost use Rattle.std.specs.Prelude.{◌≡◌, IfOk, IfErr, [], ◌∷◌};
+ghost use Rattle.std.specs.Prelude.{IfOk, IfErr, [], ◌∷◌};
 ghost use Rattle.gf_frame.specs.Commands.{IsAnswered, IsRefusedOn};
 ghost use Rattle.gfan.specs.Refused.{IsOfSource};
 ghost use Rattle.gfan.specs.PolynomialSetUnion.{polynomial_set_union_command};

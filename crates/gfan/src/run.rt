@@ -2,6 +2,7 @@
 //
 // It gives the outside the answer or nothing; what it read and wrote is told by the source and the sinks.
 ghost use Rattle.std.specs.Prelude.{◌≡◌, ℕ, List, map, string_bytes, IfErr, OnOk};
+ghost use Rattle.gf_frac.specs.declared.refusal.Overflow.{Overflow};
 ghost use Rattle.gf_outside.specs.Faults.{Rose};
 ghost use Rattle.gf_front.specs.Jobs.{IsJobOf};
 ghost use Rattle.gf_front.specs.declared.command_line.Job.{Job};
@@ -9,6 +10,7 @@ ghost use Rattle.gf_frame.specs.Seen.{seen, output_seen};
 ghost use Rattle.gf_frame.specs.Runs.{AreGivenTexts};
 ghost use Rattle.gf_frame.specs.Programs.{IsRunDone, IsRunRefused, RunClauses, IsRefusedWith, AskForNoInput, AskForNoFile};
 ghost use Rattle.gfan.specs.Commands.{command_of, IsPastReach};
+ghost use Rattle.gfan.specs.PlainInputs.{IsOnBinomials};
 ghost use Rattle.gfan.specs.Run.{IsOfInput, IsTold};
 
 use crate::commands::{perform, texts_for};
@@ -75,7 +77,8 @@ fn outcome<R: Threads + Sync, S: Source, K: Sink, F: Files, G: Gate>(
 ///   multipliers that show it; or a mark divides a term that it shouldn't, the first one; or the first pair whose S-polynomial
 ///   leaves a remainder, with that remainder. `NotAFan` exactly where the cones of such sets, or of a fan file, have no fan, at the first
 ///   pair whose meet isn't a face of both, unless numbers of the work don't fit.
-/// - `Overflow`, `ExponentOverflow`, `ConeOverflow` and `WideVector` only for operands that the job may have, and that don't fit;
+/// - `Overflow`, `ExponentOverflow`, `ConeOverflow` and `WideVector` only for operands that the job may have, and that don't fit; `Overflow`
+///   never of `_buchberger` and `_bases` where each polynomial is a monomial or a difference of two, without numbers;
 ///   `PairBudget` only where the budget of the words is spent.
 /// - `ListLimit` only where the limit of the words is reached, and the list goes on; and always there, unless numbers of the work don't fit.
 /// - `WriteFault` only where a write of this call failed, or took nothing; a prefix of the answer may be
@@ -126,6 +129,16 @@ pub fn run<R: Threads + Sync, S: Source, K: Sink, E: Sink, F: Files, G: Gate>(
         (F.given files.new) (F.unopened files.new) (F.faults files.new))
         texts → IsPastReach job texts most → (Rose (K.faults output.old) (K.faults output.new) → ⊥)
         → IsRefusedWith result (Refusal.ListLimit most) }
+
+    // Where each polynomial is written as a monomial or as the difference of two, without numbers, no coefficient of `_buchberger` and `_bases`
+    // leaves its range.
+    ensures binomials { (job : Job) (texts : List (List ℕ)) (o : Overflow) → IsJobOf (map string_bytes words.now) job
+        → AreGivenTexts (command_of job)
+        (seen (S.left input.old) (S.given input.old) (S.faults input.old) (F.bytes files.old) (F.left files.old)
+        (F.given files.old) (F.unopened files.old) (F.faults files.old))
+        (seen (S.left input.new) (S.given input.new) (S.faults input.new) (F.bytes files.new) (F.left files.new)
+        (F.given files.new) (F.unopened files.new) (F.faults files.new))
+        texts → IsOnBinomials job texts → result ≡ Status.Refused (Refusal.Overflow o) → ⊥ }
 
     // What no job that the words ask for reads is as before.
     ensures input_untouched { AskForNoInput command_of (map string_bytes words.now) → input.new ≡ input.old }

@@ -1,5 +1,5 @@
 // What `_groebnercone` tells of a cone.
-ghost use Rattle.std.specs.Prelude.{◌≡◌, ◌≤◌, ◌∷◌, [], IfOk, IfErr};
+ghost use Rattle.std.specs.Prelude.{◌≡◌, ◌≤◌, IfOk, IfErr};
 ghost use Rattle.gf_gordan.specs.Alternative.{AreRows};
 ghost use Rattle.gf_text.specs.declared.TheConstants.{MOST_VARIABLES};
 ghost use Rattle.gfan.specs.ToPolyhedralFan.{inequalities_of};

@@ -1,6 +1,6 @@
 //! Initial forms: the terms of greatest weight.
 
-ghost use Rattle.std.specs.Prelude.{◌≡◌, ◌≤◌, ◌<◌, ◌^◌, pos, ◌*ℤ◌, All, IfOk, unsigned_abs, length};
+ghost use Rattle.std.specs.Prelude.{◌≡◌, ◌≤◌, ◌^◌, All, IfOk, unsigned_abs, length};
 ghost use Rattle.gf_exponents.specs.Exponents.{whole_weight};
 ghost use Rattle.gf_poly.specs.Polynomial.{IsDescending, HasVariables, KeepsVariables};
 ghost use Rattle.gf_poly.specs.InitialForms.{IsInitialForm};
@@ -12,7 +12,7 @@ use gf_vec::IntVec;
 use std::alloc::{AllocError, Global};
 use std::cmp::Ordering;
 
-// The weight of a monomial.
+/// The weight of a monomial.
 fn weight_of(weight: &[i128], mono: &Mono) -> i128
     requires bounded { All (λ w. unsigned_abs w ≤ 2 ^ 63) weight.now }
     requires same_variables { length mono.now ≡ length weight.now }
@@ -22,7 +22,7 @@ fn weight_of(weight: &[i128], mono: &Mono) -> i128
     gf_vec::weight_of(weight, mono.exponents())
 }
 
-// The terms of greatest weight, in their order.
+/// The terms of greatest weight, in their order.
 fn heaviest(alloc: Global, terms: &[Term], weight: &[i128]) -> Result<Vec<Term>, AllocError>
     requires bounded { All (λ w. unsigned_abs w ≤ 2 ^ 63) weight.now }
     requires same_variables { HasVariables (length weight.now) terms.now }

@@ -4,7 +4,7 @@ use Rattle.std.specs.Prelude.{Some}
 use Rattle.gf_poly.specs.Polynomial.{Terms}
 use Rattle.gf_poly.specs.Marking.{head_of}
 use Rattle.gf_division.specs.Dividends.{split_of}
-use Rattle.gf_division.proofs.TailLaws.{TailStart, tail_start, tail_refused, TailFacts, tail_facts, tail_there, reduced_tail_at, kept_form_at}
+use Rattle.gf_division.proofs.TailLaws.{tail_start, tail_refused, TailFacts, tail_facts, tail_there, reduced_tail_at, kept_form_at}
 use Rattle.gf_division.proofs.autoreduction.reduced_tail.Goals as goal
 
 pub work_off-requires-clause-variables : goal.work_off-requires-clause-variables

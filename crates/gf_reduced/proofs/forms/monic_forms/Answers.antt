@@ -1,5 +1,6 @@
 use Rattle.std.proofs.lemmas.Result.{err_from_is_err_and}
-use Rattle.gf_reduced.proofs.FormLaws.{item_refused, some_variables, forms_kept, forms_marked}
+use Rattle.gf_division.proofs.ReducerLaws.{some_variables}
+use Rattle.gf_reduced.proofs.FormLaws.{item_refused, forms_kept, forms_marked}
 use Rattle.gf_reduced.proofs.forms.monic_forms.Goals as goal
 
 pub monic_form-requires : goal.monic_form-requires

@@ -2,7 +2,8 @@ use Rattle.std.proofs.Common.{◌≡◌, ◌+◌, ◌∙◌, ℕ, arith, length,
 use Rattle.std.specs.Int.{w128}
 use Rattle.std.proofs.lemmas.Int.{to_z-of_z}
 use Rattle.gf_exponents.specs.Exponents.{Exponents, whole_weight}
-use Rattle.gf_small.proofs.MarksByWeightLaws.{head_at, exponents_at, width_at, Greatest, Greatest-start, Greatest-new, Greatest-kept, greatest_of}
+use Rattle.gf_division.proofs.TailLaws.{head_at}
+use Rattle.gf_small.proofs.MarksByWeightLaws.{exponents_at, width_at, Greatest, Greatest-start, Greatest-new, Greatest-kept, greatest_of}
 use Rattle.gf_small.proofs.marks.greatest_place.Goals as goal
 use Rattle.gf_small.proofs.marks.greatest_place.Goals.{then-is_above, else-is_above}
 

@@ -1,5 +1,4 @@
-use Rattle.std.proofs.Common.{length, refl, sym, subst, ◌∙◌}
-use Rattle.gf_exponents.specs.SixOrders.{MonomialOrder}
+use Rattle.std.proofs.Common.{length, sym, subst, ◌∙◌}
 use Rattle.gf_buchberger.specs.Jobs.{HaveRingVariables, IsSuited}
 use Rattle.gf_buchberger.proofs.JobLaws.{orders_that_suit}
 use Rattle.gfan.proofs.BuchbergerLaws.{in_ring}

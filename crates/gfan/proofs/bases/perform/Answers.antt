@@ -1,4 +1,4 @@
-use Rattle.std.proofs.Common.{List, None, refl, sym, subst}
+use Rattle.std.proofs.Common.{List, None, sym, subst}
 use Rattle.std.proofs.lemmas.Result.{err_from_is_err_and}
 use Rattle.std.specs.Prelude.{false, [], ◌∷◌}
 use Rattle.gf_text.specs.declared.written.Written.{Written}

@@ -1,4 +1,4 @@
-use Rattle.std.proofs.Common.{ℕ, List, length, refl, subst}
+use Rattle.std.proofs.Common.{List, length, refl, subst}
 use Rattle.std.proofs.lemmas.Result.{err_from_is_err_and}
 use Rattle.gf_text.specs.declared.written.Written.{Written}
 use Rattle.gf_frame.specs.Commands.{IsUnanswered, IsRefusedOn}

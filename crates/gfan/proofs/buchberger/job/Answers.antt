@@ -1,8 +1,8 @@
-use Rattle.std.proofs.Common.{ℕ, List, length, sym, subst, ◌∙◌}
+use Rattle.std.proofs.Common.{ℕ, length, sym, subst, ◌∙◌}
 use Rattle.gf_buchberger.specs.Jobs.{HaveRingVariables}
 use Rattle.gf_front.specs.declared.refusal.Refusal.{Refusal}
 use Rattle.gf_frame.specs.Commands.{IsUnanswered}
-use Rattle.gfan.specs.Buchberger.{generators_of, buchberger_command}
+use Rattle.gfan.specs.Buchberger.{buchberger_command}
 use Rattle.gfan.proofs.BuchbergerLaws.{in_ring, entries_by, suited_by, basis_refused}
 use Rattle.gfan.proofs.buchberger.job.Goals as goal
 

@@ -1,6 +1,5 @@
 use Rattle.std.proofs.Common.{◌≡◌, ◌∙◌, arith, length, sym, ap, subst}
 use Rattle.std.proofs.lemmas.List.{take_all}
-use Rattle.gf_poly.specs.Polynomial.{Terms}
 use Rattle.gf_poly.specs.Marking.{HaveVariables, polys}
 use Rattle.gfan.proofs.PolynomialListLaws.{polynomials-more}
 use Rattle.gfan.proofs.mark_polynomial_set.polynomials.Goals as goal

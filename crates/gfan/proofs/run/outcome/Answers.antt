@@ -1,5 +1,5 @@
 use Rattle.std.specs.Prelude.{map, string_bytes, length}
-use Rattle.std.proofs.Common.{ap, Err, sym, subst, refl, ◌∙◌}
+use Rattle.std.proofs.Common.{ap, Err, sym, subst, ◌∙◌}
 use Rattle.std.proofs.lemmas.Result.{err_from_is_err_and}
 use Rattle.gf_frame.specs.Seen.{seen, output_seen}
 use Rattle.gf_frame.specs.Loading.{AreLoaded}
