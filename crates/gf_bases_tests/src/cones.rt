@@ -117,11 +117,12 @@ fn is_at(vectors: &[IntVec], place: usize, entries: &[i128]) -> bool {
 #[test]
 fn two_flippable(rt: HostRuntime) -> Result<(), Fail> {
     let cone = cone_of_two(rt.alloc())?;
+    let region = Region::positive(rt.alloc(), 3)?;
     assert!(rt; is_inside(&cone, &IntVec::from_slice(rt.alloc(), &[2, 2, 1])?));
     assert!(rt; is_at(cone.normals(), 0, &[0, 1, -1]) && is_at(cone.normals(), 1, &[1, 0, -1]));
     assert!(rt; cone.normals().len() == 2);
-    assert!(rt; matches!(cone.flippable(0)?, FlipAnswer::Yes { witness: _ }));
-    assert!(rt; matches!(cone.flippable(1)?, FlipAnswer::Yes { witness: _ }));
+    assert!(rt; matches!(cone.flippable(0, &region)?, FlipAnswer::Yes { witness: _ }));
+    assert!(rt; matches!(cone.flippable(1, &region)?, FlipAnswer::Yes { witness: _ }));
     Ok(())
 }
 
@@ -156,14 +157,15 @@ fn remembered(rt: HostRuntime) -> Result<(), Fail> {
     let cone = cone_of_three(rt.alloc())?;
     let inner = IntVec::from_slice(rt.alloc(), &[2, 2, 1])?;
     let mut known = KnownCone::new(rt.alloc(), cone, Some(inner))?;
+    let region = Region::positive(rt.alloc(), 3)?;
     assert!(rt; known.normals().len() == 3);
     assert!(rt; matches!(known.crossing(2)?, None));
     assert!(rt; matches!(known.crossing(1)?, Some(_)));
-    assert!(rt; matches!(known.way()?, None));
+    assert!(rt; matches!(known.way(&region)?, None));
     assert!(rt; !known.is_flippable(2)?);
     assert!(rt; known.is_flippable(1)?);
     assert!(rt; matches!(known.witness(1), Some(_)));
-    assert!(rt; matches!(known.way_up()?, None));
+    assert!(rt; matches!(known.way_up(&region)?, None));
     Ok(())
 }
 
@@ -174,7 +176,8 @@ fn unit_vector_of_one(rt: HostRuntime) -> Result<(), Fail> {
     assert!(rt; is_inside(&cone, &IntVec::from_slice(rt.alloc(), &[1])?));
     assert!(rt; cone.normals().len() == 1);
     assert!(rt; matches!(facet_of(&cone, 0)?, FacetAnswer::Facet { witness: _ }));
-    match cone.flippable(0)? {
+    let region = Region::positive(rt.alloc(), 1)?;
+    match cone.flippable(0, &region)? {
         FlipAnswer::No { times, multipliers } => {
             assert!(rt; times == 1 && multipliers.as_slice() == [1].as_slice());
         }

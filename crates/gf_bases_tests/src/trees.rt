@@ -2,10 +2,11 @@
 
 ghost use Rattle.std.specs.Prelude.{◌≡◌, IfOk, IfSome};
 ghost use Rattle.gf_buchberger.specs.Jobs.{HaveRingVariables};
-ghost use Rattle.gf_reverse.specs.Upward.{IsNodeIn};
-ghost use Rattle.gf_tree.specs.Parents.{ideal_of};
+ghost use Rattle.gf_facets.specs.Regions.{all_positive};
+ghost use Rattle.gf_reverse.specs.Upward.{IsNode};
 
 use gf_buchberger::basis;
+use gf_cone::Region;
 use gf_order::Order;
 use gf_poly::{MarkedSet, Poly, PolyError};
 use gf_samples::{lists_members, polys};
@@ -16,7 +17,7 @@ use std::test::Fail;
 /// The basis by degree, then lex.
 fn start(alloc: Global, n: u32, list: &[Poly]) -> Result<MarkedSet, PolyError>
     requires { HaveRingVariables n list.now }
-    ensures { IfOk result (λ s. IsNodeIn (ideal_of s) s) }
+    ensures { IfOk result (IsNode (all_positive n)) }
 {
     let order = Order::deglex();
     match basis(alloc, n, list, &order, 1000) {
@@ -27,7 +28,7 @@ fn start(alloc: Global, n: u32, list: &[Poly]) -> Result<MarkedSet, PolyError>
 
 /// The basis of {a - b, b - c} by degree, then lex: its root.
 fn linear(alloc: Global) -> Result<MarkedSet, PolyError>
-    ensures { IfOk result (λ s. IsNodeIn (ideal_of s) s) }
+    ensures { IfOk result (IsNode (all_positive 3)) }
 {
     let list = polys(
         alloc,
@@ -69,9 +70,10 @@ fn is_listed(set: &MarkedSet, place: usize) -> bool {
 
 /// Takes a walker's bases one by one; whether each is that of the linear forms at its place.
 fn stream(alloc: Global, root: MarkedSet, places: &mut Vec<bool>) -> Result<(), TreeError>
-    requires { IsNodeIn (ideal_of root) root }
+    requires { IsNode (all_positive 3) root }
 {
-    let mut walker = Walker::at(alloc, root, 100);
+    let region = Region::positive(alloc, 3)?;
+    let mut walker = Walker::at(alloc, root, &region, 100)?;
     while let Some(basis) = walker.advance()? {
         let place = places.len();
         places.push(is_listed(&basis, place))?;
@@ -100,7 +102,8 @@ fn end_of(walker: Walker, first: usize) -> Option<usize> {
 fn number(alloc: Global, rows: &[&[(i128, [u32; 2])]]) -> Result<usize, PolyError> {
     let list = polys(alloc, rows)?;
     let root = start(alloc, 2, &list)?;
-    match list_bases(alloc, root, 100) {
+    let region = Region::positive(alloc, 2)?;
+    match list_bases(alloc, root, &region, 100) {
         Ok(all) => Ok(all.len()),
         Err(_) => Err(PolyError::Memory),
     }
@@ -108,10 +111,11 @@ fn number(alloc: Global, rows: &[&[(i128, [u32; 2])]]) -> Result<usize, PolyErro
 
 /// The last basis of the linear forms.
 fn last(alloc: Global) -> Result<Option<MarkedSet>, PolyError>
-    ensures { IfOk result (λ o. IfSome o (λ s. IsNodeIn (ideal_of s) s)) }
+    ensures { IfOk result (λ o. IfSome o (IsNode (all_positive 3))) }
 {
     let root = linear(alloc)?;
-    let mut walker = Walker::at(alloc, root, 100);
+    let region = Region::positive(alloc, 3)?;
+    let mut walker = Walker::at(alloc, root, &region, 100)?;
     'steps: for _ in 0..2 {
         if walker.advance().is_err() {
             return Ok(None);
@@ -142,7 +146,8 @@ fn linear_forms_are_listed(rt: HostRuntime) -> Result<(), Fail> {
 fn parts_of_a_walker_list_what_it_had(rt: HostRuntime) -> Result<(), Fail> {
     let alloc = rt.alloc();
     let root = linear(alloc)?;
-    let mut walker = Walker::at(alloc, root, 100);
+    let region = Region::positive(alloc, 3)?;
+    let mut walker = Walker::at(alloc, root, &region, 100)?;
     if walker.advance().is_err() {
         return Err("refused".into());
     }
@@ -160,7 +165,8 @@ fn parts_of_a_walker_list_what_it_had(rt: HostRuntime) -> Result<(), Fail> {
 fn the_last_basis_is_below_the_root(rt: HostRuntime) -> Result<(), Fail> {
     let alloc = rt.alloc();
     let set = last(alloc)?.ok_or("no third basis")?;
-    match parent(alloc, &set, 100) {
+    let region = Region::positive(alloc, 3)?;
+    match parent(alloc, &set, &region, 100) {
         Ok(Parent::Up { normal, basis }) => {
             assert!(rt; normal.as_slice() == [-1, 0, 1].as_slice());
             assert!(rt; is_listed(&basis, 0));
@@ -168,8 +174,13 @@ fn the_last_basis_is_below_the_root(rt: HostRuntime) -> Result<(), Fail> {
         _ => return Err("no parent".into()),
     }
     let root = linear(alloc)?;
-    assert!(rt; matches!(parent(alloc, &root, 100), Ok(Parent::Root)));
-    assert!(rt; matches!(parent(alloc, &set, 0), Err(TreeError::PairBudget { .. })));
+    assert!(rt; matches!(parent(alloc, &root, &region, 100), Ok(Parent::Root)));
+    assert!(rt;
+        matches!(
+            parent(alloc, &set, &region, 0),
+            Err(TreeError::PairBudget { .. })
+        )
+    );
     Ok(())
 }
 
@@ -183,7 +194,8 @@ fn sent<T: Send>(value: T) -> T
 #[test]
 fn nodes_may_be_sent(rt: HostRuntime) -> Result<(), Fail> {
     let alloc = rt.alloc();
-    let node = sent(Node::of(alloc, linear(alloc)?));
+    let region = Region::positive(alloc, 3)?;
+    let node = sent(Node::of(alloc, linear(alloc)?, &region));
     assert!(rt; is_listed(&node.into_basis(), 0));
     Ok(())
 }

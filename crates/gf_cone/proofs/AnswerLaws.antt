@@ -13,7 +13,7 @@ use Rattle.gf_facets.specs.Rows.{IsNormal}
 use Rattle.gf_facets.specs.Systems.{units}
 use Rattle.gf_facets.specs.Normals.{AreNormals, others_of, flip_rows}
 use Rattle.gf_facets.specs.Combinations.{IsCombination}
-use Rattle.gf_facets.specs.Regions.{Region, IsInRegion, all_positive}
+use Rattle.gf_facets.specs.Regions.{Region, IsInRegion}
 use Rattle.gf_facets.specs.Facets.{IsInOpenCone, IsInsideFacet, IsFlippable}
 use Rattle.gf_facets.proofs.ConeLaws.{normals_open}
 use Rattle.gf_gordan.specs.Sizes.{HaveEntriesUpTo}
@@ -24,7 +24,6 @@ use Rattle.gf_facets.proofs.SystemLaws.{contained_all}
 use Rattle.gf_facets.proofs.FacetSystems.{IsFacetSystem, facet_system, flip_system, point_of_solution, solution_of_point, not_redundant}
 use Rattle.gf_cone.specs.Small.{IsSmall}
 use Rattle.gf_cone.specs.Keeping.{AreVectorsKept}
-use Rattle.gf_cone.proofs.SmallLaws.{units_small}
 use Rattle.gf_cone.specs.Cones.{ConeRows, all_rows, normal_at, other_rows, IsConeOf, HasInterior}
 use Rattle.gf_cone.specs.Crossing.{IsCrossable}
 use Rattle.gf_cone.specs.Answers.{AnswersSystem, AnswersFlip, AnswersFacet, TellsFlip, TellsFacet, IsFlipTold, IsFacetAnswered}
@@ -153,35 +152,41 @@ facet_told c i l wide h answer s n k bs is = facet_tells n k bs c i l is wide h 
 -- ---- as a program asks
 
 -- the cone that is made of a marked list
-pub cone_of : (n m p : ℕ) (bs : List MarkedPolynomial) (ns vs : List (List ℤ)) → m ≡ n → p ≡ length ns → vs ≡ ns ++ units m m → AreCanonical n bs → AreNormals bs ns →
-    IsConeOf n (all_positive n) bs (record { variables = m; normals = take p vs; beside = drop p vs })
-cone_of n m p bs ns vs e f g k a = record {
+pub cone_of : (n m p : ℕ) (k : Region) (bs : List MarkedPolynomial) (ns more vs : List (List ℤ)) → m ≡ n → p ≡ length ns → more ≡ ns ++ k.rows → vs ≡ more ++ units m m → AreCanonical n bs → AreNormals bs ns →
+    IsConeOf n k bs (record { variables = m; normals = take p vs; beside = drop p vs })
+cone_of n m p k bs ns more vs e f q g c a = record {
   variables = e;
-  canonical = k;
+  canonical = c;
   normals = subst (AreNormals bs) (sym front) a;
-  beside = back ∙ ap (λ (j : ℕ). units j j) e;
+  beside = back ∙ ap (λ (j : ℕ). k.rows ++ units j j) e;
 }
   where
+    parts : vs ≡ ns ++ (k.rows ++ units m m)
+    parts = g ∙ ap (λ (z : List (List ℤ)). z ++ units m m) q ∙ append_assoc ns k.rows (units m m)
+
     front : take p vs ≡ ns
-    front = ap (λ (j : ℕ). take j vs) f ∙ ap (take (length ns)) g ∙ take-append_seam ns (units m m)
+    front = ap (λ (j : ℕ). take j vs) f ∙ ap (take (length ns)) parts ∙ take-append_seam ns (k.rows ++ units m m)
 
-    back : drop p vs ≡ units m m
-    back = ap (λ (j : ℕ). drop j vs) f ∙ ap (drop (length ns)) g ∙ drop-append_seam ns (units m m)
+    back : drop p vs ≡ k.rows ++ units m m
+    back = ap (λ (j : ℕ). drop j vs) f ∙ ap (drop (length ns)) parts ∙ drop-append_seam ns (k.rows ++ units m m)
 
-pub kept_of : (n m p : ℕ) (bs : List MarkedPolynomial) (ns vs : List (List ℤ)) → m ≡ n → p ≡ length ns → vs ≡ ns ++ units m m → AreCanonical n bs → AreNormals bs ns → All IsSmall ns →
-    AreVectorsKept m vs p
-kept_of n m p bs ns vs e f g k a s = record {
-  inside = subst (λ (z : List (List ℤ)). p ≤ length z) (sym g) (omega (arith, f, length-append ns (units m m)));
-  widths = subst (AreRows m) (sym g) (contained_all (λ t. length t ≡ m) (ns ++ units m m) (λ t c. elim (Contains-append_cases ns (units m m) t c) [
+pub kept_of : (n m p : ℕ) (rows : List (List ℤ)) (bs : List MarkedPolynomial) (ns more vs : List (List ℤ)) → m ≡ n → p ≡ length ns → more ≡ ns ++ rows → vs ≡ more ++ units m m → AreCanonical n bs → AreNormals bs ns → All IsSmall ns →
+    AreRows n rows → AreVectorsKept m vs p
+kept_of n m p rows bs ns more vs e f q g k a s wide = record {
+  inside = subst (λ (z : List (List ℤ)). p ≤ length z) (sym parts) (omega (arith, f, length-append ns (rows ++ units m m)));
+  widths = subst (AreRows m) (sym parts) (contained_all (λ t. length t ≡ m) (ns ++ (rows ++ units m m)) (λ t c. elim (Contains-append_cases ns (rows ++ units m m) t c) [
     | inl h ↦ normal-length n bs t k (a.only t h) ∙ sym e
-    | inr h ↦ units_wide m m t h
+    | inr h ↦ elim (Contains-append_cases rows (units m m) t h) [
+      | inl d ↦ All-contains (λ z. length z ≡ n) rows t wide d ∙ sym e
+      | inr d ↦ units_wide m m t d
+    ]
   ]));
-  small = subst (All IsSmall) (sym g) (contained_all IsSmall (ns ++ units m m) (λ t c. elim (Contains-append_cases ns (units m m) t c) [
-    | inl h ↦ All-contains IsSmall ns t s h
-    | inr h ↦ All-contains IsSmall (units m m) t (units_small m m) h
-  ]));
-  units = λ t c. subst (λ (z : List (List ℤ)). Contains z t) (sym (ap (λ (j : ℕ). drop j vs) f ∙ ap (drop (length ns)) g ∙ drop-append_seam ns (units m m))) c;
+  small = subst (All IsSmall) (sym (ap (λ (j : ℕ). take j vs) f ∙ ap (take (length ns)) parts ∙ take-append_seam ns (rows ++ units m m))) s;
+  units = λ t c. subst (λ (z : List (List ℤ)). Contains z t) (sym (ap (λ (j : ℕ). drop j vs) f ∙ ap (drop (length ns)) parts ∙ drop-append_seam ns (rows ++ units m m))) (Contains-append_right rows (units m m) t c);
 }
+  where
+    parts : vs ≡ ns ++ (rows ++ units m m)
+    parts = g ∙ ap (λ (z : List (List ℤ)). z ++ units m m) q ∙ append_assoc ns rows (units m m)
 
 -- with the unit vectors beside
 pub kept_units : (c : ConeRows) (m p : ℕ) (vs : List (List ℤ)) → c ≡ record { variables = m; normals = take p vs; beside = drop p vs } → AreVectorsKept m vs p →

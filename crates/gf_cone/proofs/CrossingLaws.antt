@@ -6,10 +6,7 @@ use Rattle.std.specs.Prelude.{◌↔◌, Bool, IsTrue, Option, Some, None, Resul
 use Rattle.std.specs.declared.cmp.Ordering.{Ordering}
 use Rattle.std.specs.declared.cmp.Ordering.TheVariants.{Less}
 use Rattle.std.proofs.lemmas.Bool.{eq-eqb, ne_eqb, false≢true}
-use Rattle.gf_vec.specs.RootSign.{root_sign}
 use Rattle.gf_facets.specs.LexPositive.{IsNegative}
-use Rattle.gf_facets.specs.Regions.{all_positive}
-use Rattle.gf_facets.proofs.RootSignLaws.{negative_sign, sign_negative}
 use Rattle.std.proofs.lemmas.List.{get_or_default}
 use Rattle.std.proofs.Math.ListN.{get_or-append}
 use Rattle.std.proofs.lemmas.List.Elements.{All-cons, All-nil, All-contains, Contains-append_right}
@@ -179,20 +176,22 @@ decided_crossing c i l (Ok None) shown refuted = λ n k bs is f. refuted refl ((
 decided_crossing c i l (Err e) shown refuted = tt
 
 -- the sign of the normal at a place
-pub negative_told : (c : ConeRows) (given : List (List ℤ)) (i : ℕ) (a : List ℤ) (o : Ordering) → given ≡ c.normals → AreRows c.variables given → i < length c.normals → a ≡ get_or given i a → o ≡ root_sign a → o ≡ Less →
-    IsTrue true ↔ IsNegative (all_positive c.variables).root (normal_at c i)
-negative_told c given i a o e w l ra ro q =
+pub negative_told : (r : List ℤ) (c : ConeRows) (given : List (List ℤ)) (i : ℕ) (a : List ℤ) (o : Ordering) → given ≡ c.normals → i < length c.normals → a ≡ get_or given i a → (o ≡ Less) ↔ IsNegative r a → o ≡ Less →
+    IsTrue true ↔ IsNegative r (normal_at c i)
+negative_told r c given i a o e l ra t q =
     let qa : a ≡ normal_at c i = ra ∙ ap (λ (z : List (List ℤ)). get_or z i a) e ∙ get_or_default c.normals i a [] l in
-    let wide : length (normal_at c i) ≡ c.variables = subst (AreRows c.variables) e w i [] l in
-    (λ t. sign_negative c.variables (normal_at c i) wide (ap root_sign (sym qa) ∙ sym ro ∙ q), λ h. refl)
+    (λ _. subst (IsNegative r) qa (t.0 q), λ h. refl)
 
-pub not_negative_told : (c : ConeRows) (given : List (List ℤ)) (i : ℕ) (a : List ℤ) (o : Ordering) → given ≡ c.normals → AreRows c.variables given → i < length c.normals → a ≡ get_or given i a → o ≡ root_sign a → (o ≡ Less → ⊥) →
-    IsTrue false ↔ IsNegative (all_positive c.variables).root (normal_at c i)
-not_negative_told c given i a o e w l ra ro q =
+pub not_negative_told : (r : List ℤ) (c : ConeRows) (given : List (List ℤ)) (i : ℕ) (a : List ℤ) (o : Ordering) → given ≡ c.normals → i < length c.normals → a ≡ get_or given i a → (o ≡ Less) ↔ IsNegative r a → (o ≡ Less → ⊥) →
+    IsTrue false ↔ IsNegative r (normal_at c i)
+not_negative_told r c given i a o e l ra t q =
     let qa : a ≡ normal_at c i = ra ∙ ap (λ (z : List (List ℤ)). get_or z i a) e ∙ get_or_default c.normals i a [] l in
-    let wide : length (normal_at c i) ≡ c.variables = subst (AreRows c.variables) e w i [] l in
-    (λ t. absurd (false≢true t), λ h. absurd (q (ro ∙ ap root_sign qa ∙ negative_sign c.variables (normal_at c i) wide h)))
+    (λ u. absurd (false≢true u), λ h. absurd (q (t.1 (subst (IsNegative r) (sym qa) h))))
 
 -- the normal at a place is small
 pub small_read : (c : ConeRows) (given : List (List ℤ)) (i : ℕ) (a : List ℤ) → given ≡ c.normals → All IsSmall given → i < length c.normals → a ≡ get_or given i a → IsSmall a
 small_read c given i a e s l r = subst IsSmall (sym r) (s i a (subst (λ (z : List (List ℤ)). i < length z) (sym e) l))
+
+-- and has the width of the cone
+pub width_read : (c : ConeRows) (given : List (List ℤ)) (i : ℕ) (a : List ℤ) (n : ℕ) → given ≡ c.normals → AreRows c.variables given → i < length c.normals → a ≡ get_or given i a → n ≡ c.variables → length a ≡ n
+width_read c given i a n e w l r q = subst (λ (z : List ℤ). length z ≡ n) (sym r) (w i a (subst (λ (z : List (List ℤ)). i < length z) (sym e) l) ∙ sym q)

@@ -4,3 +4,4 @@ mod NarrowLaws  -- a dot product, one entry further
 pub mod SmallLaws  -- vectors with small entries
 pub mod AnswerLaws  -- what an answer about a normal tells
 pub mod CrossingLaws  -- normals that a flip may cross, shown or refuted without their systems
+pub mod RegionLaws  -- regions of weights, the sign at a root, cones in a region

@@ -14,6 +14,7 @@ use Rattle.gf_facets.proofs.PrimitiveLaws.{divided-entry}
 use Rattle.gf_facets.proofs.SystemLaws.{contained_all}
 use Rattle.gf_facets.proofs.UnitLaws.{unit_of}
 use Rattle.gf_cone.specs.Small.{IsSmall}
+use Rattle.gf_cone.specs.Weights.{IsForSign}
 
 factor_size : (k : ℕ) (x : ℤ) → 0 < k → unsigned_abs x ≤ unsigned_abs (pos k *ℤ x)
 factor_size k x l = subst (λ (m : ℕ). unsigned_abs x ≤ m) (sym (unsigned_abs-mul (pos k) x)) (grown k (unsigned_abs x) l)
@@ -56,6 +57,6 @@ units_small n k = contained_all IsSmall (units n k) (λ t c. (let u = unit_of n 
     one (suc n) (suc i) zero d l = omega arith
     one (suc n) (suc i) (suc j) d l = one n i j d (omega arith)
 
--- the root sign of a small vector may be asked for
-pub small_for_sign : (a : List ℤ) → IsSmall a → All (λ x. unsigned_abs x ≤ 2 ^ 64) a
+-- the sign of a small vector at a root may be asked for
+pub small_for_sign : (a : List ℤ) → IsSmall a → IsForSign a
 small_for_sign a s i d l = omega (arith, s.entries i d l)

@@ -48,6 +48,10 @@ TellsFacet n bs a (Redundant times ms) = IsFacet n bs a → ⊥
 abbrev pub IsFlipTold : ConeRows → ℕ → FlipAnswer → Type 0
 IsFlipTold c i answer = (n : ℕ) (k : Region) (bs : List MarkedPolynomial) → IsConeOf n k bs c → TellsFlip n k bs (normal_at c i) answer
 
+-- so it is in the region k, with each marked list of which c is the cone in some region
+abbrev pub IsFlipToldIn : Region → ConeRows → ℕ → FlipAnswer → Type 0
+IsFlipToldIn k c i answer = (n : ℕ) (j : Region) (bs : List MarkedPolynomial) → IsConeOf n j bs c → TellsFlip n k bs (normal_at c i) answer
+
 -- the same of a facet
 abbrev pub IsFacetAnswered : ConeRows → ℕ → FacetAnswer → Type 0
 IsFacetAnswered c i answer = (n : ℕ) (k : Region) (bs : List MarkedPolynomial) → IsConeOf n k bs c → TellsFacet n bs (normal_at c i) answer

@@ -5,7 +5,7 @@ use Rattle.std.specs.Prelude.{◌≡◌, ℕ, ◌<◌, List, [], ◌∷◌, leng
 use Rattle.gf_vec.specs.Vector.{dot}
 use Rattle.gf_gordan.specs.Alternative.{IsSolution, IsSolvable}
 use Rattle.gf_facets.specs.LexPositive.{IsNegative}
-use Rattle.gf_facets.specs.Regions.{Region, all_positive}
+use Rattle.gf_facets.specs.Regions.{Region}
 use Rattle.gf_facets.specs.Facets.{IsFlippable}
 use Rattle.gf_poly.specs.Marking.{MarkedPolynomial}
 use Rattle.gf_cone.specs.Cones.{ConeRows, normal_at, other_rows, IsConeOf}
@@ -35,30 +35,30 @@ IsCrossingDecided c i None = (n : ℕ) (k : Region) (bs : List MarkedPolynomial)
 
 -- ---- the way up
 
--- a flip may cross the facet of the normal at a place, and the normal is negative at the root (1, .., 1)
-pub record LeadsUpAt (c : ConeRows) (i : ℕ) : Type 0 where
+-- a flip may cross the facet of the normal at a place, and the normal is negative at the root r
+pub record LeadsUpAt (r : List ℤ) (c : ConeRows) (i : ℕ) : Type 0 where
   pub inside : i < length c.normals
-  pub negative : IsNegative (all_positive c.variables).root (normal_at c i)
+  pub negative : IsNegative r (normal_at c i)
   pub crossable : IsCrossable c i
 
 -- that at a place is the least such normal; normals ascend
-pub record IsLeastUp (c : ConeRows) (i : ℕ) : Type 0 where
-  pub leads : LeadsUpAt c i
-  pub least : (j : ℕ) → j < i → LeadsUpAt c j → ⊥
+pub record IsLeastUp (r : List ℤ) (c : ConeRows) (i : ℕ) : Type 0 where
+  pub leads : LeadsUpAt r c i
+  pub least : (j : ℕ) → j < i → LeadsUpAt r c j → ⊥
 
 -- the place of the least one, if there is one
-abbrev pub IsWayFrom : ConeRows → Option ℕ → Type 0
-IsWayFrom c (Some i) = IsLeastUp c i
-IsWayFrom c None = (j : ℕ) → LeadsUpAt c j → ⊥
+abbrev pub IsWayFrom : List ℤ → ConeRows → Option ℕ → Type 0
+IsWayFrom r c (Some i) = IsLeastUp r c i
+IsWayFrom r c None = (j : ℕ) → LeadsUpAt r c j → ⊥
 
 -- the same, with a vector that shows that a flip may cross its facet
-abbrev pub IsWayShown : ConeRows → Option Way → Type 0
-IsWayShown c (Some w) = IsLeastUp c w.place × IsSolution c.variables (other_rows c w.place) (normal_at c w.place ∷ []) w.witness
-IsWayShown c None = IsWayFrom c None
+abbrev pub IsWayShown : List ℤ → ConeRows → Option Way → Type 0
+IsWayShown r c (Some w) = IsLeastUp r c w.place × IsSolution c.variables (other_rows c w.place) (normal_at c w.place ∷ []) w.witness
+IsWayShown r c None = IsWayFrom r c None
 
 -- some such normal is before a place
-abbrev pub SomeUpBefore : ConeRows → ℕ → Type 0
-SomeUpBefore c i = (j : ℕ) × (j < i) × LeadsUpAt c j
+abbrev pub SomeUpBefore : List ℤ → ConeRows → ℕ → Type 0
+SomeUpBefore r c i = (j : ℕ) × (j < i) × LeadsUpAt r c j
 
 -- a step of the system of one of the normals before a place
 abbrev pub IsStepBefore : ConeRows → ℕ → ConeOverflow → Type 0

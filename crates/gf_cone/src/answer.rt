@@ -12,11 +12,11 @@ pub enum FacetAnswer {
     Redundant { times: i128, multipliers: IntVec },
 }
 
-/// A positive vector that is zero on a normal and positive on all others; or the normal, so many times, as a combination of
-/// the others and the unit vectors.
+/// A vector of a region that is zero on a normal and positive on all others; or the normal, so many times, as a combination of
+/// the others, the rows of the region and the unit vectors.
 ///
-/// There is a multiplier of each other normal and then of each unit vector, in their order; none is negative, and `times` is
-/// at least 1.
+/// There is a multiplier of each other normal, then of each row of the region, then of each unit vector, in their order; none is
+/// negative, and `times` is at least 1.
 #[derive(Drop)]
 pub enum FlipAnswer {
     Yes { witness: IntVec },

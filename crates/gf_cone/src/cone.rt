@@ -1,27 +1,30 @@
 //! The cone of a marked set.
-ghost use Rattle.std.specs.Prelude.{◌≡◌, ◌<◌, ◌≤◌, ◌∷◌, [], length, All, IfOk, IfErr, IfSome, IsNone};
+ghost use Rattle.std.specs.Prelude.{◌≡◌, ◌<◌, ◌≤◌, ◌∷◌, ◌++◌, [], List, ℤ, length, All, IfOk, IfErr, IfSome, IsNone, IsTrue};
 ghost use Rattle.gf_gordan.specs.Alternative.{AreRows, IsSolution};
 ghost use Rattle.gf_cone.specs.Crossing.{IsCrossable};
 ghost use Rattle.gf_gordan.specs.Steps.{Failed};
 ghost use Rattle.gf_gordan.specs.Sizes.{HaveEntriesUpTo};
 ghost use Rattle.gf_gordan.specs.declared.error.GordanError.TheVariants.{Memory};
 ghost use Rattle.gf_facets.specs.Regions.{all_positive};
+ghost use Rattle.gf_facets.specs.Systems.{units};
 ghost use Rattle.gf_facets.specs.Normals.{others_of};
 ghost use Rattle.gf_cone.specs.Small.{IsSmall};
-ghost use Rattle.gf_cone.specs.Cones.{all_rows, normal_at, other_rows, IsConeOf, HasInterior, HasUnits};
-ghost use Rattle.gf_cone.specs.Answers.{AnswersFacet, AnswersFlip, IsFacetAnswered, IsFlipTold, IsNormalStep};
+ghost use Rattle.gf_cone.specs.Cones.{all_rows, normal_at, other_rows, IsConeOf, in_region, HasRowsOf, HasInterior, HasUnits};
+ghost use Rattle.gf_cone.specs.Answers.{AnswersFacet, AnswersFlip, IsFacetAnswered, IsFlipToldIn, IsNormalStep};
 
 use crate::answer::{FacetAnswer, FlipAnswer};
 use crate::listing::normals;
 use crate::marking::with_units;
-use crate::systems::{others, solution_at, solved};
+use crate::region::Region;
+use crate::systems::{others, solution_at, solved, with_copies};
 use gf_gordan::GordanError;
 use gf_poly::MarkedSet;
 use gf_vec::IntVec;
 use std::alloc::{AllocError, Global};
+use std::cmp::Ordering;
 use std::marker::Model;
 
-/// The normals of a marked set, and the unit vectors behind them.
+/// The normals of a marked set; behind them the rows of a region, and the unit vectors.
 #[derive(Drop)]
 pub struct Cone {
     variables: u32,
@@ -41,23 +44,46 @@ impl Model for Cone {
     ghost invariant = { λ c. AreVectorsKept c.variables c.vectors.items c.count };
 }
 
+/// The cone of a marked set, with rows behind its normals and then the unit vectors.
+///
+/// # Errors
+/// Want of memory.
+fn made(alloc: Global, set: &MarkedSet, rows: &[IntVec]) -> Result<Cone, AllocError>
+    requires { AreRows set.now.variables rows.now }
+    ensures { IfOk result (IsConeOf set.now.variables (record { rows = rows.now; root = [] }) set.now.items) }
+{
+    let normals = normals(alloc, set)?;
+    let variables = set.variables();
+    let count = normals.len();
+    let more = with_copies(normals, rows)?;
+    let vectors = with_units(alloc, more, variables as usize)?;
+    Ok(Cone {
+        variables,
+        vectors,
+        count,
+    })
+}
+
 impl Cone {
-    /// The cone of a marked set.
+    /// The cone of a marked set, in the region of all positive vectors.
     ///
     /// # Errors
     /// Want of memory.
     pub fn of(alloc: Global, set: &MarkedSet) -> Result<Cone, AllocError>
         ensures { IfOk result (IsConeOf set.now.variables (all_positive set.now.variables) set.now.items) }
     {
-        let normals = normals(alloc, set)?;
-        let variables = set.variables();
-        let count = normals.len();
-        let vectors = with_units(alloc, normals, variables as usize)?;
-        Ok(Cone {
-            variables,
-            vectors,
-            count,
-        })
+        made(alloc, set, &[])
+    }
+
+    /// The cone of a marked set, in a region.
+    ///
+    /// # Errors
+    /// Want of memory.
+    pub fn within(alloc: Global, set: &MarkedSet, region: &Region) -> Result<Cone, AllocError>
+        requires { length region.now.root ≡ set.now.variables }
+        ensures { IfOk result (IsConeOf set.now.variables region.now set.now.items) }
+    {
+        made(alloc, set, region.rows())
     }
 
     /// The number of variables.
@@ -77,14 +103,31 @@ impl Cone {
         &self.vectors.as_slice()[..self.count]
     }
 
-    /// The normals, and then the rows beside them: the unit vectors.
+    /// The normals, and then the rows beside them: those of the region, and the unit vectors.
     pub fn vectors(&self) -> &[IntVec]
         ensures value { result.now ≡ all_rows self.now }
         ensures widths { AreRows self.now.variables result.now }
-        ensures small { All IsSmall result.now }
         ensures units { HasUnits self.now }
     {
         self.vectors.as_slice()
+    }
+
+    /// Whether the region that the cone was made in has the same rows as another one.
+    pub fn is_within(&self, region: &Region) -> bool
+        ensures { IsTrue result → HasRowsOf region.now self.now }
+    {
+        let (_, beside) = self.vectors().split_at(self.count);
+        let rows = region.rows();
+        if beside.len() < rows.len() || beside.len() - rows.len() != self.variables as usize {
+            return false;
+        }
+        'rows: for i in 0..rows.len() {
+            match beside[i].lex_cmp(&rows[i]) {
+                Ordering::Equal => {}
+                _ => return false,
+            }
+        }
+        true
     }
 
     /// Whether the normal at a place, counted from 0, is one of a facet.
@@ -115,27 +158,31 @@ impl Cone {
         }
     }
 
-    /// Whether a flip may cross the facet of the normal at a place, counted from 0.
+    /// Whether a flip may cross the facet of the normal at a place, counted from 0, inside a region.
     ///
-    /// The answer holds a positive vector that is zero on it and positive on all other normals, or so many times the normal
-    /// as a combination of the other normals and the unit vectors.
+    /// The answer holds a vector of the region that is zero on it and positive on all other normals, or so many times the normal
+    /// as a combination of the other normals, the rows of the region and the unit vectors. On some vector of the region all
+    /// normals are positive.
     ///
     /// # Errors
-    /// `Cone` names a step of the system of the other normals and the unit vectors, with this normal as the equation, that
-    /// leaves the range; `Memory` may come at any time.
-    pub fn flippable(&self, place: usize) -> Result<FlipAnswer, GordanError>
+    /// `Cone` names a step of the system of the other normals, the rows of the region and the unit vectors, with this normal as
+    /// the equation, that leaves the range; `Memory` may come at any time.
+    pub fn flippable(&self, place: usize, region: &Region) -> Result<FlipAnswer, GordanError>
         requires place { place < length self.now.normals }
-        requires interior { HasInterior self.now }
-        ensures ok { IfOk result (AnswersFlip self.now place) }
-        ensures told { IfOk result (IsFlipTold self.now place) }
-        ensures err { IfErr result (Failed (IsNormalStep self.now.variables (other_rows self.now place) (normal_at self.now place))) }
+        requires width { length region.now.root ≡ self.now.variables }
+        requires interior { HasInterior (in_region region.now self.now) }
+        ensures ok { IfOk result (AnswersFlip (in_region region.now self.now) place) }
+        ensures told { IfOk result (IsFlipToldIn region.now self.now place) }
+        ensures err { IfErr result (Failed (IsNormalStep self.now.variables (other_rows (in_region region.now self.now) place) (normal_at self.now place))) }
         // no step leaves the range with three variables and entries up to 500
-        ensures three_columns { self.now.variables ≤ 3 → HaveEntriesUpTo 500 (all_rows self.now) → IfErr result (λ e. e ≡ Memory) }
+        ensures three_columns { self.now.variables ≤ 3 → HaveEntriesUpTo 500 (all_rows (in_region region.now self.now)) → IfErr result (λ e. e ≡ Memory) }
     {
-        let vectors = self.vectors();
+        let normals = self.normals();
         let alloc = *self.vectors.allocator();
-        let rows = others(alloc, vectors, place)?;
-        solved(alloc, self.variables, rows.as_slice(), &vectors[place])
+        let list = others(alloc, normals, place)?;
+        let more = with_copies(list, region.rows())?;
+        let rows = with_units(alloc, more, self.variables as usize)?;
+        solved(alloc, self.variables, rows.as_slice(), &normals[place])
     }
 
     /// A positive vector that is zero on the normal at a place and positive on all other normals, or none where there is none.

@@ -5,15 +5,15 @@ ghost use Rattle.gf_gordan.specs.Steps.{Failed};
 ghost use Rattle.gf_gordan.specs.Sizes.{HaveEntriesUpTo};
 ghost use Rattle.gf_gordan.specs.declared.error.GordanError.TheVariants.{Memory};
 ghost use Rattle.gf_facets.specs.LexPositive.{IsNegative};
-ghost use Rattle.gf_facets.specs.Regions.{all_positive};
 ghost use Rattle.gf_cone.specs.Small.{IsSmall};
-ghost use Rattle.gf_cone.specs.Cones.{all_rows, normal_at, other_rows, HasUnits};
+ghost use Rattle.gf_cone.specs.Cones.{all_rows, normal_at, other_rows, HasRowsOf, HasUnits};
 ghost use Rattle.gf_cone.specs.Answers.{IsNormalStep};
 ghost use Rattle.gf_cone.specs.Crossing.{IsCrossable, IsRemembered, LeadsUpAt, IsFlipDecided, IsCrossingDecided, IsLeastUp, IsWayFrom, IsWayShown, SomeUpBefore, IsStepBefore};
 
 use crate::answer::Way;
 use crate::checks::{is_sum, none_negative, shows, some_positive};
 use crate::cone::Cone;
+use crate::region::Region;
 use crate::shots::{shot, values_on};
 use crate::sums::{Keyed, keys_of, two_places};
 use gf_gordan::GordanError;
@@ -116,6 +116,13 @@ impl KnownCone {
         ensures { result.now ≡ self.now }
     {
         &self.cone
+    }
+
+    /// Whether the region that the cone was made in has the same rows as another one.
+    pub fn is_within(&self, region: &Region) -> bool
+        ensures { IsTrue result → HasRowsOf region.now self.now }
+    {
+        self.cone.is_within(region)
     }
 
     /// The normals: primitive vectors, each once, ascending by the first entry that differs. Their entries are below 2^31
@@ -342,27 +349,29 @@ impl KnownCone {
         self.decided(place)
     }
 
-    /// Whether the normal at a place is negative at the root (1, .., 1).
-    fn is_negative(&self, place: usize) -> bool
-        requires { place < length self.now.normals }
-        ensures { IsTrue result ↔ IsNegative (all_positive self.now.variables).root (normal_at self.now place) }
+    /// Whether the normal at a place is negative at the root of a region.
+    fn is_negative(&self, place: usize, region: &Region) -> bool
+        requires place { place < length self.now.normals }
+        requires width { length region.now.root ≡ self.now.variables }
+        ensures { IsTrue result ↔ IsNegative region.now.root (normal_at self.now place) }
     {
-        matches!(self.normals()[place].root_sign(), Ordering::Less)
+        matches!(region.sign(&self.normals()[place]), Ordering::Less)
     }
 
     /// Whether the normal at a place is negative at the root, and a flip may cross its facet.
     ///
     /// # Errors
     /// What `is_flippable` refuses at this place.
-    fn leads_up(&mut self, place: usize) -> Result<bool, GordanError>
-        requires { place < length self.old.normals }
+    fn leads_up(&mut self, place: usize, region: &Region) -> Result<bool, GordanError>
+        requires place { place < length self.old.normals }
+        requires width { length region.now.root ≡ self.old.variables }
         ensures same { self.new ≡ self.old }
-        ensures ok { IfOk result (λ r. IsTrue r ↔ LeadsUpAt self.old place) }
+        ensures ok { IfOk result (λ r. IsTrue r ↔ LeadsUpAt region.now.root self.old place) }
         ensures err { IfErr result (Failed (IsNormalStep self.old.variables (other_rows self.old place) (normal_at self.old place))) }
         // no step leaves the range with three variables and entries up to 500
         ensures three_columns { self.old.variables ≤ 3 → HaveEntriesUpTo 500 (all_rows self.old) → IfErr result (λ e. e ≡ Memory) }
     {
-        if self.is_negative(place) {
+        if self.is_negative(place, region) {
             self.decided(place)
         } else {
             Ok(false)
@@ -370,39 +379,42 @@ impl KnownCone {
     }
 
     /// Whether the normal at a place is known to lead up.
-    fn is_known_to_lead_up(&self, place: usize) -> bool
-        requires { place < length self.now.normals }
-        ensures { IsTrue result → LeadsUpAt self.now place }
+    fn is_known_to_lead_up(&self, place: usize, region: &Region) -> bool
+        requires place { place < length self.now.normals }
+        requires width { length region.now.root ≡ self.now.variables }
+        ensures { IsTrue result → LeadsUpAt region.now.root self.now place }
     {
         if let Some(true) = self.told(place) {
-            self.is_negative(place)
+            self.is_negative(place, region)
         } else {
             false
         }
     }
 
     /// Whether nothing is known of the normal at a place, and it is negative at the root.
-    fn is_candidate(&self, place: usize) -> bool
-        requires { place < length self.now.normals }
+    fn is_candidate(&self, place: usize, region: &Region) -> bool
+        requires place { place < length self.now.normals }
+        requires width { length region.now.root ≡ self.now.variables }
     {
         if let None = self.told(place) {
-            self.is_negative(place)
+            self.is_negative(place, region)
         } else {
             false
         }
     }
 
     /// Looks for a normal before a place that leads up by what is known, and by sums of two for all of them.
-    fn sum_before(&mut self, end: usize) -> bool
-        requires { end ≤ length self.old.normals }
+    fn sum_before(&mut self, end: usize, region: &Region) -> bool
+        requires end { end ≤ length self.old.normals }
+        requires width { length region.now.root ≡ self.old.variables }
         ensures same { self.new ≡ self.old }
-        ensures found { IsTrue result → SomeUpBefore self.old end }
+        ensures found { IsTrue result → SomeUpBefore region.now.root self.old end }
     {
         for place in 0..end {
-            if self.is_known_to_lead_up(place) {
+            if self.is_known_to_lead_up(place, region) {
                 return true;
             }
-            if self.is_candidate(place) {
+            if self.is_candidate(place, region) {
                 self.look_for_sum(place);
             }
         }
@@ -410,16 +422,17 @@ impl KnownCone {
     }
 
     /// Looks for a normal before a place that leads up by shots against those of which nothing is known.
-    fn shots_before(&mut self, end: usize) -> bool
-        requires { end ≤ length self.old.normals }
+    fn shots_before(&mut self, end: usize, region: &Region) -> bool
+        requires end { end ≤ length self.old.normals }
+        requires width { length region.now.root ≡ self.old.variables }
         ensures same { self.new ≡ self.old }
-        ensures found { IsTrue result → SomeUpBefore self.old end }
+        ensures found { IsTrue result → SomeUpBefore region.now.root self.old end }
     {
         for place in 0..end {
-            if self.is_candidate(place) {
+            if self.is_candidate(place, region) {
                 match self.shoot(place) {
                     Some(hit) => {
-                        if hit < end && self.is_known_to_lead_up(hit) {
+                        if hit < end && self.is_known_to_lead_up(hit, region) {
                             return true;
                         }
                     }
@@ -430,48 +443,50 @@ impl KnownCone {
         false
     }
 
-    /// Whether some normal before a place leads up: a flip may cross its facet, and it is negative at the root (1, .., 1).
+    /// Whether some normal before a place leads up: a flip may cross its facet, and it is negative at the root of the region.
     ///
     /// It ends at the first such normal that is found: by what is known, by sums of two and shots for all of them, and only
     /// then by their systems.
     ///
     /// # Errors
     /// `Cone` names a step of the system of one of these normals that leaves the range; `Memory` may come at any time.
-    pub fn some_leads_up_before(&mut self, end: usize) -> Result<bool, GordanError>
-        requires { end ≤ length self.old.normals }
+    pub fn some_leads_up_before(&mut self, end: usize, region: &Region) -> Result<bool, GordanError>
+        requires end { end ≤ length self.old.normals }
+        requires width { length region.now.root ≡ self.old.variables }
         ensures same { self.new ≡ self.old }
-        ensures ok { IfOk result (λ r. IsTrue r ↔ SomeUpBefore self.old end) }
+        ensures ok { IfOk result (λ r. IsTrue r ↔ SomeUpBefore region.now.root self.old end) }
         ensures err { IfErr result (Failed (IsStepBefore self.old end)) }
         // no step leaves the range with three variables and entries up to 500
         ensures three_columns { self.old.variables ≤ 3 → HaveEntriesUpTo 500 (all_rows self.old) → IfErr result (λ e. e ≡ Memory) }
     {
-        if self.sum_before(end) {
+        if self.sum_before(end, region) {
             return Ok(true);
         }
-        if self.shots_before(end) {
+        if self.shots_before(end, region) {
             return Ok(true);
         }
         for place in 0..end {
-            if self.leads_up(place)? {
+            if self.leads_up(place, region)? {
                 return Ok(true);
             }
         }
         Ok(false)
     }
 
-    /// The place of the least normal that leads up: a flip may cross its facet, and it is negative at the root (1, .., 1).
+    /// The place of the least normal that leads up: a flip may cross its facet, and it is negative at the root of the region.
     ///
     /// # Errors
     /// `Cone` names a step of the system of one of the normals that leaves the range; `Memory` may come at any time.
-    pub fn way_up(&mut self) -> Result<Option<usize>, GordanError>
+    pub fn way_up(&mut self, region: &Region) -> Result<Option<usize>, GordanError>
+        requires { length region.now.root ≡ self.old.variables }
         ensures same { self.new ≡ self.old }
-        ensures ok { IfOk result (IsWayFrom self.old) }
+        ensures ok { IfOk result (IsWayFrom region.now.root self.old) }
         ensures err { IfErr result (Failed (IsStepBefore self.old (length self.old.normals))) }
         // no step leaves the range with three variables and entries up to 500
         ensures three_columns { self.old.variables ≤ 3 → HaveEntriesUpTo 500 (all_rows self.old) → IfErr result (λ e. e ≡ Memory) }
     {
         for place in 0..self.normals().len() {
-            if self.leads_up(place)? {
+            if self.leads_up(place, region)? {
                 return Ok(Some(place));
             }
         }
@@ -483,18 +498,19 @@ impl KnownCone {
     /// # Errors
     /// `Cone` names a step of the system of this normal or of one before it that leaves the range; `Memory` may come at any
     /// time.
-    pub fn is_way_up(&mut self, place: usize) -> Result<bool, GordanError>
-        requires { place < length self.old.normals }
+    pub fn is_way_up(&mut self, place: usize, region: &Region) -> Result<bool, GordanError>
+        requires place { place < length self.old.normals }
+        requires width { length region.now.root ≡ self.old.variables }
         ensures same { self.new ≡ self.old }
-        ensures ok { IfOk result (λ r. IsTrue r ↔ IsLeastUp self.old place) }
+        ensures ok { IfOk result (λ r. IsTrue r ↔ IsLeastUp region.now.root self.old place) }
         ensures err { IfErr result (Failed (IsStepBefore self.old (place + 1))) }
         // no step leaves the range with three variables and entries up to 500
         ensures three_columns { self.old.variables ≤ 3 → HaveEntriesUpTo 500 (all_rows self.old) → IfErr result (λ e. e ≡ Memory) }
     {
-        if !self.leads_up(place)? {
+        if !self.leads_up(place, region)? {
             return Ok(false);
         }
-        if self.some_leads_up_before(place)? {
+        if self.some_leads_up_before(place, region)? {
             return Ok(false);
         }
         Ok(true)
@@ -578,16 +594,17 @@ impl KnownCone {
     ///
     /// # Errors
     /// What `is_flippable` refuses at this place.
-    fn upward(&self, place: usize) -> Result<Option<IntVec>, GordanError>
-        requires { place < length self.now.normals }
-        ensures leads { IfOk result (λ o. IfSome o (λ _. LeadsUpAt self.now place)) }
+    fn upward(&self, place: usize, region: &Region) -> Result<Option<IntVec>, GordanError>
+        requires place { place < length self.now.normals }
+        requires width { length region.now.root ≡ self.now.variables }
+        ensures leads { IfOk result (λ o. IfSome o (λ _. LeadsUpAt region.now.root self.now place)) }
         ensures yes { IfOk result (λ o. IfSome o (IsSolution self.now.variables (other_rows self.now place) (normal_at self.now place ∷ []))) }
-        ensures no { IfOk result (λ o. IsNone o → LeadsUpAt self.now place → ⊥) }
+        ensures no { IfOk result (λ o. IsNone o → LeadsUpAt region.now.root self.now place → ⊥) }
         ensures err { IfErr result (Failed (IsNormalStep self.now.variables (other_rows self.now place) (normal_at self.now place))) }
         // no step leaves the range with three variables and entries up to 500
         ensures three_columns { self.now.variables ≤ 3 → HaveEntriesUpTo 500 (all_rows self.now) → IfErr result (λ e. e ≡ Memory) }
     {
-        if self.is_negative(place) {
+        if self.is_negative(place, region) {
             self.found(place)
         } else {
             Ok(None)
@@ -599,14 +616,15 @@ impl KnownCone {
     ///
     /// # Errors
     /// What `way_up` refuses.
-    pub fn way(&self) -> Result<Option<Way>, GordanError>
-        ensures ok { IfOk result (IsWayShown self.now) }
+    pub fn way(&self, region: &Region) -> Result<Option<Way>, GordanError>
+        requires { length region.now.root ≡ self.now.variables }
+        ensures ok { IfOk result (IsWayShown region.now.root self.now) }
         ensures err { IfErr result (Failed (IsStepBefore self.now (length self.now.normals))) }
         // no step leaves the range with three variables and entries up to 500
         ensures three_columns { self.now.variables ≤ 3 → HaveEntriesUpTo 500 (all_rows self.now) → IfErr result (λ e. e ≡ Memory) }
     {
         for place in 0..self.normals().len() {
-            if let Some(witness) = self.upward(place)? {
+            if let Some(witness) = self.upward(place, region)? {
                 return Ok(Some(Way { place, witness }));
             }
         }

@@ -19,7 +19,7 @@ use std::slice::from_ref;
 ///
 /// # Errors
 /// Want of memory.
-fn with_copies(list: Vec<IntVec>, from: &[IntVec]) -> Result<Vec<IntVec>, AllocError>
+pub fn with_copies(list: Vec<IntVec>, from: &[IntVec]) -> Result<Vec<IntVec>, AllocError>
     ensures { IfOk result (λ more. more.items ≡ list.items ++ from.now) }
 {
     let mut more = list;

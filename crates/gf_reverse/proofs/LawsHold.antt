@@ -16,7 +16,7 @@ use Rattle.gf_facets.proofs.NormalLaws.{normal-nonzero}
 use Rattle.gf_facets.proofs.SystemLaws.{open_of_marks}
 use Rattle.gf_initial.proofs.CrossingLaws.{parts_of_neighbours}
 use Rattle.gf_reverse.specs.Upward.{IsParentIn, fan_of, IsNode, IsParent}
-use Rattle.gf_reverse.specs.Laws.{NegativeNormalsCanBeCrossed, RootHasNoWayUp, CrossingsFall, NoCycles, BasesMakeATree, TheTreeIsFinite, BasesHavePaths, WhatIsLeft}
+use Rattle.gf_reverse.specs.Laws.{NegativeNormalsCanBeCrossed, RootHasNoWayUp, CrossingsFall, NoCycles, BasesMakeATree, TheTreeIsFinite, BasesHavePaths, IdealsHaveOneList, WhatIsLeft}
 use Rattle.gf_reverse.proofs.StepsLaws.{below_by_negative}
 use Rattle.gf_reverse.proofs.CrossingLaws.{Enters, IsPulledOut, something_enters, what_enters_pulls}
 use Rattle.gf_reverse.proofs.RootwardLaws.{root_weight, weight_everywhere, negative_gives_flippable}
@@ -25,6 +25,7 @@ use Rattle.gf_reverse.proofs.FanLaws.{crossing_falls, walks_fall, no_cycle, pare
 use Rattle.gf_reverse.proofs.TreeLaws.{upward_tree, upward_nodes, finite_in}
 use Rattle.gf_reverse.proofs.ChildLaws.{child_across, child_flippable, child_negative, child_only}
 use Rattle.gf_reverse.proofs.ListLaws.{path_exists, path_one, same_root, list_of_bases}
+use Rattle.gf_reverse.proofs.OneListLaws.{one_list, list_exists}
 use Rattle.gf_reverse.proofs.LeftLaws.{advance_answers, advance_ends}
 
 pub negative_normals_can_be_crossed : NegativeNormalsCanBeCrossed
@@ -98,6 +99,9 @@ the_tree_is_finite F top h = subst (IsFinite IsBefore (IsParent F.region) top) (
 
 pub bases_have_paths : BasesHavePaths
 bases_have_paths = record { some = path_exists; one = path_one; all = list_of_bases }
+
+pub ideals_have_one_list : IdealsHaveOneList
+ideals_have_one_list = record { some = list_exists; one = one_list }
 
 pub what_is_left : WhatIsLeft
 what_is_left = record { answers = advance_answers; ends = advance_ends }

@@ -12,6 +12,7 @@ pub mod FanLaws  -- the fan of an ideal in a region is a finite tree
 pub mod TreeLaws  -- bases of the ideals that they generate, as one tree
 pub mod ChildLaws  -- which neighbours are children
 pub mod ListLaws  -- paths, and the list of all bases
+pub mod OneListLaws  -- an ideal has one list of its bases
 pub mod LeftLaws  -- what a walker has left, by whole paths
 pub mod StartLaws  -- a reduced basis for an order is a node
 pub mod TermOrderLaws  -- a term order as a weight, and its reduced basis

@@ -1,5 +1,5 @@
 -- The whole list below the root is the list of all bases, and each basis has one path.
--- To cite: own, path_exists, path_one, same_root, list_of_bases, root_above, root_own, path_below, below_top.
+-- To cite: own, path_exists, path_one, over_node, same_root, list_of_bases, root_above, root_own, path_below, below_top.
 use Rattle.std.proofs.Common.{◌≡◌, ℕ, zero, suc, ◌≤◌, List, [], ◌∷◌, ◌++◌, length, ℤ, arith, refl, sym, subst, inl, inr}
 use Rattle.gf_poly.specs.Marking.{MarkedPolynomials}
 use Rattle.gf_walk.specs.Path.{IsRoot, Leads}
@@ -41,7 +41,7 @@ below_node F s [] x h l = subst (IsNodeIn F) l h
 below_node F s (c ∷ q) x h l = below_node F l.0 q x (down_node F l.0 c s l.1 h) l.2
 
 -- and so is what is above
-over_node : (F : Fan) (s : MarkedPolynomials) (q : List (List ℤ)) (x : MarkedPolynomials) → IsNodeIn F x → Leads (IsParent F.region) s q x → IsNodeIn F s
+pub over_node : (F : Fan) (s : MarkedPolynomials) (q : List (List ℤ)) (x : MarkedPolynomials) → IsNodeIn F x → Leads (IsParent F.region) s q x → IsNodeIn F s
 over_node F s [] x h l = subst (IsNodeIn F) (sym l) h
 over_node F s (c ∷ q) x h l = above_node F l.0 c s l.1 (over_node F l.0 q x h l.2)
 

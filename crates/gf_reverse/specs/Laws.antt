@@ -20,10 +20,10 @@ use Rattle.gf_facets.specs.Facets.{IsFlippable, IsInClosedCone}
 use Rattle.gf_facets.specs.MarkedBases.{IsBasisInRegion, IsMarkedReducedBasis}
 use Rattle.gf_facets.specs.Neighbours.{AreAdjacent}
 use Rattle.gf_reverse.specs.AllBases.{number_of_bases, all_bases}
-use Rattle.gf_reverse.specs.Upward.{IsRootWeight, LeadsTowards, IsWayUp, Fan, IsNodeIn, IsParentIn, fan_of, IsNode, IsParent}
+use Rattle.gf_reverse.specs.Upward.{IsRootWeight, LeadsTowards, IsWayUp, Fan, IsFanOfIdeal, IsNodeIn, IsParentIn, fan_of, IsNode, IsParent}
 use Rattle.gf_reverse.specs.Heights.{above_members}
 use Rattle.gf_reverse.specs.LeadingNumber.{leading_number}
-use Rattle.gf_reverse.specs.Lists.{IsPathOf, IsListOfBases, IsLeftBasis, AnswersBasis}
+use Rattle.gf_reverse.specs.Lists.{IsPathOf, IsListFor, IsListOfBases, IsLeftBasis, AnswersBasis}
 use Rattle.gf_ideal.specs.Marks.{AreMarked}
 use Rattle.gf_facets.specs.InitialIdeals.{IsMonomialAt}
 
@@ -122,6 +122,11 @@ pub record BasesHavePaths : Type 0 where
   pub one : (k : Region) (v : MarkedPolynomials) (p q : List (List ℤ)) → IsNode k v → IsPathOf k v p → IsPathOf k v q → p ≡ q
   pub all : (k : Region) (root v : MarkedPolynomials) (nodes : List MarkedPolynomials) → IsNode k v → IsNodeIn (fan_of k v) root →
       IsRoot (IsParent k) root → IsWholeList IsBefore (IsParent k) root nodes → IsListOfBases k v nodes
+
+-- an ideal has exactly one list of its bases in a region
+pub record IdealsHaveOneList : Type 0 where
+  pub some : (F : Fan) → IsFanOfIdeal F → (nodes : List MarkedPolynomials) × IsListFor F nodes
+  pub one : (F : Fan) (a b : List MarkedPolynomials) → IsListFor F a → IsListFor F b → a ≡ b
 
 -- a walker's step in the words of whole paths: it answers the first basis that was left, and the others are left; where it
 -- answers none, none was left

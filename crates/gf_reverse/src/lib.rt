@@ -5,7 +5,7 @@
 #![tactic(auto)]
 
 ghost use Rattle.gf_reverse.specs.TermOrders.{TermOrdersHaveBases};
-ghost use Rattle.gf_reverse.specs.Laws.{BasesAreListed, WeightsAreListed, NegativeNormalsCanBeCrossed, RootHasNoWayUp, CrossingsFall, NoCycles, BasesMakeATree, TheTreeIsFinite, BasesHavePaths, WhatIsLeft};
+ghost use Rattle.gf_reverse.specs.Laws.{BasesAreListed, WeightsAreListed, NegativeNormalsCanBeCrossed, RootHasNoWayUp, CrossingsFall, NoCycles, BasesMakeATree, TheTreeIsFinite, BasesHavePaths, IdealsHaveOneList, WhatIsLeft};
 
 /// The list of all bases holds exactly the marked reduced Gröbner bases of the ideal in the region (Mora, Robbiano 1988).
 pub fn bases_are_listed()
@@ -53,6 +53,11 @@ pub fn the_tree_is_finite()
 /// Each basis has one path from the root, and the whole list below the root holds exactly the bases of the ideal.
 pub fn bases_have_paths()
     ensures { BasesHavePaths }
+{}
+
+/// In each region an ideal has exactly one list of its bases: each of them once, in the order of their paths.
+pub fn ideals_have_one_list()
+    ensures { IdealsHaveOneList }
 {}
 
 /// A walker's step answers the first of the bases that were left and leaves the others.

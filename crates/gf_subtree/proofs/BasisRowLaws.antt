@@ -19,7 +19,7 @@ use Rattle.gf_walk.proofs.ListLaws.{gives, precedes_itself, precedes_trans}
 use Rattle.gf_waves.specs.Frontier.{Frontier, AreRefusals, IsFrontRefused}
 use Rattle.gf_waves.specs.Wave.{IsCall}
 use Rattle.gf_facets.specs.LexPositive.{IsBefore}
-use Rattle.gf_facets.specs.Regions.{Region, all_positive}
+use Rattle.gf_facets.specs.Regions.{Region}
 use Rattle.gf_facets.proofs.VectorOrder.{before_strict}
 use Rattle.gf_reverse.specs.Upward.{Fan, IsNode, IsNodeIn, IsParent, fan_of}
 use Rattle.gf_reverse.specs.Lists.{IsPathOf}
@@ -28,10 +28,8 @@ use Rattle.gf_reverse.proofs.ListLaws.{own, path_exists, path_one, path_below, r
 use Rattle.gf_tree.specs.declared.tree.BasisTree.{BasisTree}
 use Rattle.gf_tree.specs.declared.error.TreeError.{TreeError}
 use Rattle.gf_tree.specs.declared.error.TreeError.TheVariants.{Memory}
-use Rattle.gf_tree.specs.Parents.{ideal_of}
 use Rattle.gf_tree.specs.Refusals.{IsTreeRefusal, IsCallRefusal}
 use Rattle.gf_tree.specs.Walks.{Walk, AreLeft, HasListLeft, walk_at}
-use Rattle.gf_tree.proofs.ParentLaws.{same_width}
 use Rattle.gf_tree.proofs.RefusalLaws.{refusal_moved, call_refused}
 use Rattle.gf_subtree.specs.Rows.{Row, up_in, RefusesWalker, HavePaths, LeaveInOrder, IsNotBehind, AreLeftIn, IsOfIdeal, AreAmong, HasRowLeft, first_row}
 use Rattle.gf_subtree.specs.Answers.{IsSameList, IsNextRow, IsRowEnd, IsRowKept, IsNotLater, IsRefusedEarly, IsResumedAs}
@@ -146,14 +144,13 @@ left_early k m here d nodes h l x j = record { path = top.0 ++ l.path; other = t
 
 -- ---- a row by its parts
 
-abbrev pub row_of : Frontier BasisTree MarkedPolynomials (List ℤ) TreeError → ℕ → MarkedPolynomials → ℕ → Row
-row_of f pairs s n = record { frontier = f; pairs = pairs; start = s; given = n }
+abbrev pub row_of : Frontier BasisTree MarkedPolynomials (List ℤ) TreeError → ℕ → Region → MarkedPolynomials → ℕ → Row
+row_of f pairs k s n = record { frontier = f; pairs = pairs; region = k; start = s; given = n }
 
 -- ---- the beginning
 
-pub start_leaves : (alloc : Global) (root : MarkedPolynomials) (workers pairs : ℕ) → IsNodeIn (ideal_of root) root → (nodes : List MarkedPolynomials) → AreLeft (walk_at root pairs) nodes → AreLeftIn (first_row alloc root workers pairs) nodes
-start_leaves alloc root workers pairs h nodes l =
-    let k = all_positive root.variables in
+pub start_leaves : (alloc : Global) (root : MarkedPolynomials) (k : Region) (workers pairs : ℕ) → IsNode k root → (nodes : List MarkedPolynomials) → AreLeft (walk_at root k pairs) nodes → AreLeftIn (first_row alloc root k workers pairs) nodes
+start_leaves alloc root k workers pairs h nodes l =
     let g = gives IsBefore (IsParent k) before_strict (upward_tree k) Before root 0 Listed root 0 (Some root) (λ top r at. listed_here IsBefore (IsParent k) top r root root 0 refl at) nodes l in
     let p = rising_paths k Before root 0 nodes h l in
     let sorted : AreSorted (IsNotBehind k) (root ∷ g.0) = subst (AreSorted (IsNotBehind k)) g.1 (paths_sorted k p.paths nodes p.lead p.rises) in
@@ -165,40 +162,31 @@ start_leaves alloc root workers pairs h nodes l =
       order = (g.0, g.1, (g.0, [], sym (append-nil g.0), g.2, (λ x j. sorted.1 x (subst (λ z. Among z x) (append-nil g.0) j)), refl));
     }
 
-pub left_at_start : (alloc : Global) (root : MarkedPolynomials) (workers pairs : ℕ) → IsNodeIn (ideal_of root) root → HasRowLeft (first_row alloc root workers pairs)
-left_at_start alloc root workers pairs h =
-    let f = upward_finite (all_positive root.variables) root h in
+pub left_at_start : (alloc : Global) (root : MarkedPolynomials) (k : Region) (workers pairs : ℕ) → IsNode k root → HasRowLeft (first_row alloc root k workers pairs)
+left_at_start alloc root k workers pairs h =
+    let f = upward_finite k root h in
     record {
       own = h;
       bound = omega arith;
       refusals = tt;
       among = (h, (record { region = refl; pairs = refl; basis = h }, tt));
       rest = f.nodes;
-      left = start_leaves alloc root workers pairs h f.nodes f.leaves;
-      few = (let w : length f.nodes ≤ count (all_positive root.variables) root = f.few in let g : length f.nodes + 0 ≤ count (all_positive root.variables) root = omega (arith, w) in g);
+      left = start_leaves alloc root k workers pairs h f.nodes f.leaves;
+      few = (let w : length f.nodes ≤ count k root = f.few in let g : length f.nodes + 0 ≤ count k root = omega (arith, w) in g);
     }
 
 -- ---- going on where a walker stands
 
-module _ (walk : Walk) (p : Place BasisTree MarkedPolynomials (List ℤ)) (workers : ℕ) (here : p.here ≡ walk.here) (mark : p.mark ≡ walk.mark) (depth : p.depth ≡ walk.depth) (pairs : p.tree.pairs ≡ walk.pairs) (variables : p.tree.variables ≡ walk.variables) (had : HasListLeft walk) where
-  width : walk.variables ≡ walk.here.variables
-  width = same_width walk.variables walk.here had.basis
-
-  node : IsNode (all_positive walk.here.variables) walk.here
-  node = subst (λ (j : ℕ). IsNode (all_positive j) walk.here) width had.basis
-
-  moved : (nodes : List MarkedPolynomials) → AreLeft walk nodes → Leaves IsBefore (IsParent (all_positive walk.here.variables)) walk.mark walk.here walk.depth nodes
-  moved nodes l = subst (λ (j : ℕ). Leaves IsBefore (IsParent (all_positive j)) walk.mark walk.here walk.depth nodes) width l
-
+module _ (walk : Walk) (p : Place BasisTree MarkedPolynomials (List ℤ)) (workers : ℕ) (here : p.here ≡ walk.here) (mark : p.mark ≡ walk.mark) (depth : p.depth ≡ walk.depth) (pairs : p.tree.pairs ≡ walk.pairs) (region : p.tree.region ≡ walk.region) (had : HasListLeft walk) where
   at_place : (nodes : List MarkedPolynomials) → AreLeft walk nodes → IsLeftAt IsBefore up_in p nodes
   at_place nodes l =
-      subst (λ (j : ℕ). Leaves IsBefore (IsParent (all_positive p.tree.variables)) p.mark p.here j nodes) (sym depth)
-      (subst (λ (v : MarkedPolynomials). Leaves IsBefore (IsParent (all_positive p.tree.variables)) p.mark v walk.depth nodes) (sym here)
-      (subst (λ (m : Mark (List ℤ)). Leaves IsBefore (IsParent (all_positive p.tree.variables)) m walk.here walk.depth nodes) (sym mark)
-      (subst (λ (j : ℕ). Leaves IsBefore (IsParent (all_positive j)) walk.mark walk.here walk.depth nodes) (sym variables) l)))
+      subst (λ (j : ℕ). Leaves IsBefore (IsParent p.tree.region) p.mark p.here j nodes) (sym depth)
+      (subst (λ (v : MarkedPolynomials). Leaves IsBefore (IsParent p.tree.region) p.mark v walk.depth nodes) (sym here)
+      (subst (λ (m : Mark (List ℤ)). Leaves IsBefore (IsParent p.tree.region) m walk.here walk.depth nodes) (sym mark)
+      (subst (λ (k : Region). Leaves IsBefore (IsParent k) walk.mark walk.here walk.depth nodes) (sym region) l)))
 
-  leaves : (nodes : List MarkedPolynomials) → AreLeft walk nodes → AreLeftIn (row_of (record { workers = workers; jobs = 0; pieces = Under p ∷ [] }) walk.pairs walk.here 0) nodes
-  leaves nodes l = (let r = rising_paths (all_positive walk.here.variables) walk.mark walk.here walk.depth nodes node (moved nodes l) in
+  leaves : (nodes : List MarkedPolynomials) → AreLeft walk nodes → AreLeftIn (row_of (record { workers = workers; jobs = 0; pieces = Under p ∷ [] }) walk.pairs walk.region walk.here 0) nodes
+  leaves nodes l = (let r = rising_paths walk.region walk.mark walk.here walk.depth nodes had.basis l in
       record {
         pieces = (nodes, [], sym (append-nil nodes), at_place nodes l, refl);
         paths = r.paths;
@@ -209,64 +197,62 @@ module _ (walk : Walk) (p : Place BasisTree MarkedPolynomials (List ℤ)) (worke
           [],
           sym (append-nil nodes),
           at_place nodes l,
-          (λ x j. subst (λ (v : MarkedPolynomials). IsNotBehind (all_positive walk.here.variables) v x) (sym here) (left_early (all_positive walk.here.variables) walk.mark walk.here walk.depth nodes node (moved nodes l) x (subst (λ z. Among z x) (append-nil nodes) j))),
+          (λ x j. subst (λ (v : MarkedPolynomials). IsNotBehind walk.region v x) (sym here) (left_early walk.region walk.mark walk.here walk.depth nodes had.basis l x (subst (λ z. Among z x) (append-nil nodes) j))),
           refl,
         );
       })
 
-  pub left_as_resumed : HasRowLeft (row_of (record { workers = workers; jobs = 0; pieces = Under p ∷ [] }) walk.pairs walk.here 0)
+  pub left_as_resumed : HasRowLeft (row_of (record { workers = workers; jobs = 0; pieces = Under p ∷ [] }) walk.pairs walk.region walk.here 0)
   left_as_resumed = record {
-    own = node;
+    own = had.basis;
     bound = omega arith;
     refusals = tt;
-    among = (record { region = ap all_positive (variables ∙ width); pairs = pairs; basis = subst (IsNodeIn (ideal_of walk.here)) (sym here) node }, tt);
+    among = (record { region = region; pairs = pairs; basis = subst (IsNodeIn (fan_of walk.region walk.here)) (sym here) had.basis }, tt);
     rest = had.rest;
     left = leaves had.rest had.left;
-    few = (let w : length had.rest + walk.given ≤ count (all_positive walk.variables) walk.here = had.few in
-        let c : count (all_positive walk.variables) walk.here ≡ count (all_positive walk.here.variables) walk.here = ap (λ (j : ℕ). count (all_positive j) walk.here) width in
-        let g : length had.rest + 0 ≤ count (all_positive walk.here.variables) walk.here = omega (arith, w, c) in g);
+    few = (let w : length had.rest + walk.given ≤ count walk.region walk.here = had.few in let g : length had.rest + 0 ≤ count walk.region walk.here = omega (arith, w) in g);
   }
 
-  pub resumed_as : IsResumedAs walk workers (row_of (record { workers = workers; jobs = 0; pieces = Under p ∷ [] }) walk.pairs walk.here 0)
-  resumed_as = record { workers = refl; jobs = refl; place = p; piece = refl; here = here; mark = mark; depth = depth; pairs = refl; start = refl; given = refl; list = leaves }
+  pub resumed_as : IsResumedAs walk workers (row_of (record { workers = workers; jobs = 0; pieces = Under p ∷ [] }) walk.pairs walk.region walk.here 0)
+  resumed_as = record { workers = refl; jobs = refl; place = p; piece = refl; here = here; mark = mark; depth = depth; pairs = refl; region = refl; start = refl; given = refl; list = leaves }
 
 -- ---- a call
 
-module _ (f g : Frontier BasisTree MarkedPolynomials (List ℤ) TreeError) (pairs : ℕ) (s : MarkedPolynomials) (n m : ℕ) (workers : g.workers ≡ f.workers) (bound : length g.pieces ≤ (g.workers + 1) * 32) (refusals : AreRefusals RefusesWalker g.pieces) (had : HasRowLeft (row_of f pairs s n)) where
-  same_list : IsSameList (row_of f pairs s n) (row_of g pairs s m)
-  same_list = record { workers = workers; pairs = refl; start = refl }
+module _ (f g : Frontier BasisTree MarkedPolynomials (List ℤ) TreeError) (pairs : ℕ) (k : Region) (s : MarkedPolynomials) (n m : ℕ) (workers : g.workers ≡ f.workers) (bound : length g.pieces ≤ (g.workers + 1) * 32) (refusals : AreRefusals RefusesWalker g.pieces) (had : HasRowLeft (row_of f pairs k s n)) where
+  same_list : IsSameList (row_of f pairs k s n) (row_of g pairs k s m)
+  same_list = record { workers = workers; pairs = refl; region = refl; start = refl }
 
-  among_after : (answer : Result (Option MarkedPolynomials) TreeError) → IsCall IsBefore up_in RefusesWalker (λ e. e ≡ Memory) f answer g → AreAmongAfter (IsOfIdeal (ideal_of s) pairs) (IsNodeIn (ideal_of s)) answer g.pieces
+  among_after : (answer : Result (Option MarkedPolynomials) TreeError) → IsCall IsBefore up_in RefusesWalker (λ e. e ≡ Memory) f answer g → AreAmongAfter (IsOfIdeal (fan_of k s) pairs) (IsNodeIn (fan_of k s)) answer g.pieces
   among_after answer call =
-      call_among IsBefore up_in RefusesWalker (IsOfIdeal (ideal_of s) pairs) (IsNodeIn (ideal_of s)) (λ t v i. i.basis) (of_ideal_down (ideal_of s) pairs) (of_ideal_rise (ideal_of s) pairs) before_strict (λ t. upward_tree (all_positive t.variables))
+      call_among IsBefore up_in RefusesWalker (IsOfIdeal (fan_of k s) pairs) (IsNodeIn (fan_of k s)) (λ t v i. i.basis) (of_ideal_down (fan_of k s) pairs) (of_ideal_rise (fan_of k s) pairs) before_strict (λ t. upward_tree t.region)
       (λ e. e ≡ Memory) f answer g call had.rest had.left.pieces had.among
 
-  order_after : (answer : Result (Option MarkedPolynomials) TreeError) → IsCall IsBefore up_in RefusesWalker (λ e. e ≡ Memory) f answer g → (nodes : List MarkedPolynomials) → AreLeftIn (row_of f pairs s n) nodes →
-      IsInOrderAfter IsBefore up_in before_strict (λ t. upward_tree (all_positive t.variables)) RefusesWalker (IsNotBehind (all_positive s.variables)) (IsOfIdeal (ideal_of s) pairs) (IsNodeIn (ideal_of s)) (λ t v i. i.basis) (of_ideal_down (ideal_of s) pairs) (of_ideal_rise (ideal_of s) pairs) (higher (ideal_of s) pairs)
+  order_after : (answer : Result (Option MarkedPolynomials) TreeError) → IsCall IsBefore up_in RefusesWalker (λ e. e ≡ Memory) f answer g → (nodes : List MarkedPolynomials) → AreLeftIn (row_of f pairs k s n) nodes →
+      IsInOrderAfter IsBefore up_in before_strict (λ t. upward_tree t.region) RefusesWalker (IsNotBehind k) (IsOfIdeal (fan_of k s) pairs) (IsNodeIn (fan_of k s)) (λ t v i. i.basis) (of_ideal_down (fan_of k s) pairs) (of_ideal_rise (fan_of k s) pairs) (higher (fan_of k s) pairs)
       answer nodes g.pieces
   order_after answer call nodes l =
-      call_order IsBefore up_in before_strict (λ t. upward_tree (all_positive t.variables)) RefusesWalker (IsNotBehind (all_positive s.variables)) (IsOfIdeal (ideal_of s) pairs) (IsNodeIn (ideal_of s)) (λ t v i. i.basis) (of_ideal_down (ideal_of s) pairs) (of_ideal_rise (ideal_of s) pairs) (higher (ideal_of s) pairs)
-      (λ e. e ≡ Memory) f answer g call nodes had.among (paths_sorted (all_positive s.variables) l.paths nodes l.lead l.rises) l.order
+      call_order IsBefore up_in before_strict (λ t. upward_tree t.region) RefusesWalker (IsNotBehind k) (IsOfIdeal (fan_of k s) pairs) (IsNodeIn (fan_of k s)) (λ t v i. i.basis) (of_ideal_down (fan_of k s) pairs) (of_ideal_rise (fan_of k s) pairs) (higher (fan_of k s) pairs)
+      (λ e. e ≡ Memory) f answer g call nodes had.among (paths_sorted k l.paths nodes l.lead l.rises) l.order
 
   -- a basis is given
   module _ (v : MarkedPolynomials) (call : IsCall IsBefore up_in RefusesWalker (λ e. e ≡ Memory) f (Ok (Some v)) g)
       (list : (nodes : List MarkedPolynomials) → PiecesLeave (IsLeftAt IsBefore up_in) f.pieces nodes → IsFirstOf (PiecesLeave (IsLeftAt IsBefore up_in) g.pieces) nodes (Some v)) (more : m ≡ n + 1) where
-    basis : IsNodeIn (ideal_of s) v
+    basis : IsNodeIn (fan_of k s) v
     basis = (among_after (Ok (Some v)) call).0
 
-    first : (nodes : List MarkedPolynomials) → AreLeftIn (row_of f pairs s n) nodes → (rest : List MarkedPolynomials) × (nodes ≡ v ∷ rest) × AreLeftIn (row_of g pairs s m) rest
+    first : (nodes : List MarkedPolynomials) → AreLeftIn (row_of f pairs k s n) nodes → (rest : List MarkedPolynomials) × (nodes ≡ v ∷ rest) × AreLeftIn (row_of g pairs k s m) rest
     first nodes l =
         let a = list nodes l.pieces in
         let o = order_after (Ok (Some v)) call nodes l in
         let same : o.0 ≡ a.0 = cc in
-        (a.0, a.1, at a.0 a.2 (subst (LeaveInOrder (IsLeftAt IsBefore up_in) (IsNotBehind (all_positive s.variables)) [] g.pieces) same o.2) l.paths (subst (HavePaths (all_positive s.variables) l.paths) a.1 l.lead) l.rises)
+        (a.0, a.1, at a.0 a.2 (subst (LeaveInOrder (IsLeftAt IsBefore up_in) (IsNotBehind k) [] g.pieces) same o.2) l.paths (subst (HavePaths k l.paths) a.1 l.lead) l.rises)
       where
-        at : (rest : List MarkedPolynomials) → PiecesLeave (IsLeftAt IsBefore up_in) g.pieces rest → LeaveInOrder (IsLeftAt IsBefore up_in) (IsNotBehind (all_positive s.variables)) [] g.pieces rest →
-            (paths : List (List (List ℤ))) → HavePaths (all_positive s.variables) paths (v ∷ rest) → Rises IsBefore paths → AreLeftIn (row_of g pairs s m) rest
-        at rest k o [] h r = absurd h
-        at rest k o (p ∷ ps) h r = record { pieces = k; paths = ps; lead = h.1; rises = r.1; order = o }
+        at : (rest : List MarkedPolynomials) → PiecesLeave (IsLeftAt IsBefore up_in) g.pieces rest → LeaveInOrder (IsLeftAt IsBefore up_in) (IsNotBehind k) [] g.pieces rest →
+            (paths : List (List (List ℤ))) → HavePaths k paths (v ∷ rest) → Rises IsBefore paths → AreLeftIn (row_of g pairs k s m) rest
+        at rest a o [] h r = absurd h
+        at rest a o (p ∷ ps) h r = record { pieces = a; paths = ps; lead = h.1; rises = r.1; order = o }
 
-    pub left_after : HasRowLeft (row_of g pairs s m)
+    pub left_after : HasRowLeft (row_of g pairs k s m)
     left_after =
         let a = first had.rest had.left in
         let long : length had.rest ≡ suc (length a.0) = ap length a.1 in
@@ -277,10 +263,10 @@ module _ (f g : Frontier BasisTree MarkedPolynomials (List ℤ) TreeError) (pair
           among = (among_after (Ok (Some v)) call).1;
           rest = a.0;
           left = a.2;
-          few = (let w : length had.rest + n ≤ count (all_positive s.variables) s = had.few in let k : length a.0 + m ≤ count (all_positive s.variables) s = omega (arith, w, long, more) in k);
+          few = (let w : length had.rest + n ≤ count k s = had.few in let w0 : length a.0 + m ≤ count k s = omega (arith, w, long, more) in w0);
         }
 
-    pub row_step : IsNextRow (row_of f pairs s n) (row_of g pairs s m) v
+    pub row_step : IsNextRow (row_of f pairs k s n) (row_of g pairs k s m) v
     row_step =
         let a = first had.rest had.left in
         let long : length had.rest ≡ suc (length a.0) = ap length a.1 in
@@ -288,18 +274,18 @@ module _ (f g : Frontier BasisTree MarkedPolynomials (List ℤ) TreeError) (pair
           same = same_list;
           given = more;
           basis = basis;
-          own = subst (λ (j : ℕ). IsNode (all_positive j) v) (sym basis.variables) (own (all_positive s.variables) (ideal_of s) v refl basis);
-          fewer = (let w : length had.rest + n ≤ count (all_positive s.variables) s = had.few in let k : suc (count (all_positive s.variables) s - m) ≤ count (all_positive s.variables) s - n = omega (arith, w, long, more) in k);
+          own = own k (fan_of k s) v refl basis;
+          fewer = (let w : length had.rest + n ≤ count k s = had.few in let w0 : suc (count k s - m) ≤ count k s - n = omega (arith, w, long, more) in w0);
           first = first;
         }
 
   -- nothing is left
   module _ (call : IsCall IsBefore up_in RefusesWalker (λ e. e ≡ Memory) f (Ok None) g)
       (list : (nodes : List MarkedPolynomials) → PiecesLeave (IsLeftAt IsBefore up_in) f.pieces nodes → IsFirstOf (PiecesLeave (IsLeftAt IsBefore up_in) g.pieces) nodes None) (same : m ≡ n) where
-    over : AreLeftIn (row_of g pairs s m) []
+    over : AreLeftIn (row_of g pairs k s m) []
     over = record { pieces = (list had.rest had.left.pieces).1; paths = []; lead = tt; rises = tt; order = order_after (Ok None) call had.rest had.left }
 
-    pub left_at_end : HasRowLeft (row_of g pairs s m)
+    pub left_at_end : HasRowLeft (row_of g pairs k s m)
     left_at_end = record {
       own = had.own;
       bound = bound;
@@ -307,25 +293,25 @@ module _ (f g : Frontier BasisTree MarkedPolynomials (List ℤ) TreeError) (pair
       among = (among_after (Ok None) call).1;
       rest = [];
       left = over;
-      few = (let w : length had.rest + n ≤ count (all_positive s.variables) s = had.few in let k : 0 + m ≤ count (all_positive s.variables) s = omega (arith, w, same) in k);
+      few = (let w : length had.rest + n ≤ count k s = had.few in let w0 : 0 + m ≤ count k s = omega (arith, w, same) in w0);
     }
 
-    pub row_end : IsRowEnd (row_of f pairs s n) (row_of g pairs s m)
+    pub row_end : IsRowEnd (row_of f pairs k s n) (row_of g pairs k s m)
     row_end = record {
       same = same_list;
       given = same;
       none = λ nodes l. (list nodes l.pieces).0;
-      nothing = subst (AreLeftIn (row_of f pairs s n)) (list had.rest had.left.pieces).0 had.left;
+      nothing = subst (AreLeftIn (row_of f pairs k s n)) (list had.rest had.left.pieces).0 had.left;
       over = over;
     }
 
   -- a refusal
   module _ (e : TreeError) (call : IsCall IsBefore up_in RefusesWalker (λ e. e ≡ Memory) f (Err e) g)
       (list : (nodes : List MarkedPolynomials) → PiecesLeave (IsLeftAt IsBefore up_in) f.pieces nodes → PiecesLeave (IsLeftAt IsBefore up_in) g.pieces nodes) (same : m ≡ n) where
-    stays : (nodes : List MarkedPolynomials) → AreLeftIn (row_of f pairs s n) nodes → AreLeftIn (row_of g pairs s m) nodes
+    stays : (nodes : List MarkedPolynomials) → AreLeftIn (row_of f pairs k s n) nodes → AreLeftIn (row_of g pairs k s m) nodes
     stays nodes l = record { pieces = list nodes l.pieces; paths = l.paths; lead = l.lead; rises = l.rises; order = order_after (Err e) call nodes l }
 
-    pub left_kept : HasRowLeft (row_of g pairs s m)
+    pub left_kept : HasRowLeft (row_of g pairs k s m)
     left_kept = record {
       own = had.own;
       bound = bound;
@@ -333,16 +319,16 @@ module _ (f g : Frontier BasisTree MarkedPolynomials (List ℤ) TreeError) (pair
       among = (among_after (Err e) call).1;
       rest = had.rest;
       left = stays had.rest had.left;
-      few = (let w : length had.rest + n ≤ count (all_positive s.variables) s = had.few in let k : length had.rest + m ≤ count (all_positive s.variables) s = omega (arith, w, same) in k);
+      few = (let w : length had.rest + n ≤ count k s = had.few in let w0 : length had.rest + m ≤ count k s = omega (arith, w, same) in w0);
     }
 
-    pub row_kept : IsRowKept (row_of f pairs s n) (row_of g pairs s m)
+    pub row_kept : IsRowKept (row_of f pairs k s n) (row_of g pairs k s m)
     row_kept = record { same = same_list; given = same; left = stays }
 
 -- ---- refusals
 
 -- the same by the region and the budget of the ideal
-at_budget : (F : Fan) (pairs : ℕ) (t : BasisTree) (v : MarkedPolynomials) (e : TreeError) → IsOfIdeal F pairs t v → IsCallRefusal (all_positive t.variables) t.pairs v e → IsCallRefusal F.region pairs v e
+at_budget : (F : Fan) (pairs : ℕ) (t : BasisTree) (v : MarkedPolynomials) (e : TreeError) → IsOfIdeal F pairs t v → IsCallRefusal t.region t.pairs v e → IsCallRefusal F.region pairs v e
 at_budget F pairs t v e i r = subst (λ (p : ℕ). IsCallRefusal F.region p v e) i.pairs (subst (λ (k : Region). IsCallRefusal k t.pairs v e) i.region r)
 
 one_refused : (F : Fan) (pairs : ℕ) (w : Place BasisTree MarkedPolynomials (List ℤ)) (e : TreeError) → RefusesWalker w e → IsOfIdeal F pairs w.tree w.here → IsTreeRefusal F pairs e
@@ -436,11 +422,11 @@ front_early F pairs (Refused w f ∷ ps) e paths nodes r a h rise l o = one_earl
 -- ---- a refusal, of a call
 
 -- it is early
-pub row_early : (f g : Frontier BasisTree MarkedPolynomials (List ℤ) TreeError) (pairs : ℕ) (s : MarkedPolynomials) (n m : ℕ) (kept : IsRowKept (row_of f pairs s n) (row_of g pairs s m)) (e : TreeError) → AreAmong (IsOfIdeal (ideal_of s) pairs) (IsNodeIn (ideal_of s)) g.pieces →
-    IsFrontRefused RefusesWalker g.pieces e → (nodes : List MarkedPolynomials) → AreLeftIn (row_of f pairs s n) nodes → IsRefusedEarly (ideal_of s) pairs nodes e
-row_early f g pairs s n m kept e a r nodes l =
-    let k = kept.left nodes l in
-    front_early (ideal_of s) pairs g.pieces e k.paths nodes r a k.lead k.rises k.pieces k.order
+pub row_early : (f g : Frontier BasisTree MarkedPolynomials (List ℤ) TreeError) (pairs : ℕ) (k : Region) (s : MarkedPolynomials) (n m : ℕ) (kept : IsRowKept (row_of f pairs k s n) (row_of g pairs k s m)) (e : TreeError) → AreAmong (IsOfIdeal (fan_of k s) pairs) (IsNodeIn (fan_of k s)) g.pieces →
+    IsFrontRefused RefusesWalker g.pieces e → (nodes : List MarkedPolynomials) → AreLeftIn (row_of f pairs k s n) nodes → IsRefusedEarly (fan_of k s) pairs nodes e
+row_early f g pairs k s n m kept e a r nodes l =
+    let l0 = kept.left nodes l in
+    front_early (fan_of k s) pairs g.pieces e l0.paths nodes r a l0.lead l0.rises l0.pieces l0.order
 
 -- ---- early refusals
 

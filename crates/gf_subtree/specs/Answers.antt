@@ -9,21 +9,21 @@ use Rattle.gf_walk.specs.declared.expand.Piece.TheVariants.{Under}
 use Rattle.gf_waves.specs.Frontier.{IsFrontRefused}
 use Rattle.gf_waves.specs.Wave.{IsCall}
 use Rattle.gf_facets.specs.LexPositive.{IsBefore}
-use Rattle.gf_reverse.specs.Upward.{Fan, IsNodeIn}
+use Rattle.gf_reverse.specs.Upward.{Fan, IsNodeIn, IsNode}
 use Rattle.gf_tree.specs.declared.tree.BasisTree.{BasisTree}
 use Rattle.gf_tree.specs.declared.error.TreeError.{TreeError}
 use Rattle.gf_tree.specs.declared.error.TreeError.TheVariants.{Memory}
-use Rattle.gf_tree.specs.Parents.{ideal_of}
 use Rattle.gf_tree.specs.Refusals.{IsCallRefusal}
 use Rattle.gf_tree.specs.Walks.{Walk, AreLeft}
 use Rattle.gf_subtree.specs.Rows.{Row, up_in, RefusesWalker, ideal_in, row_left_at_most, AreLeftIn}
 
 -- ---- the next basis
 
--- the workers, the budget and the ideal stay
+-- the workers, the budget, the region and the ideal stay
 pub record IsSameList (old new : Row) : Type 0 where
   pub workers : new.frontier.workers ≡ old.frontier.workers
   pub pairs : new.pairs ≡ old.pairs
+  pub region : new.region ≡ old.region
   pub start : new.start ≡ old.start
 
 -- v is given: a basis of the ideal, the first of those that were left; the others are left, and they are fewer
@@ -31,7 +31,7 @@ pub record IsNextRow (old new : Row) (v : MarkedPolynomials) : Type 0 where
   pub same : IsSameList old new
   pub given : new.given ≡ old.given + 1
   pub basis : IsNodeIn (ideal_in old) v
-  pub own : IsNodeIn (ideal_of v) v
+  pub own : IsNode old.region v
   pub fewer : suc (row_left_at_most new) ≤ row_left_at_most old
   pub first : (nodes : List MarkedPolynomials) → AreLeftIn old nodes → (rest : List MarkedPolynomials) × (nodes ≡ v ∷ rest) × AreLeftIn new rest
 
@@ -88,6 +88,7 @@ pub record IsResumedAs (walk : Walk) (number : ℕ) (row : Row) : Type 0 where
   pub mark : place.mark ≡ walk.mark
   pub depth : place.depth ≡ walk.depth
   pub pairs : row.pairs ≡ walk.pairs
+  pub region : row.region ≡ walk.region
   pub start : row.start ≡ walk.here
   pub given : row.given ≡ 0
   pub list : (nodes : List MarkedPolynomials) → AreLeft walk nodes → AreLeftIn row nodes

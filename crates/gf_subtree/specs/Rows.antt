@@ -13,46 +13,42 @@ use Rattle.gf_walk.specs.declared.expand.Piece.{Piece}
 use Rattle.gf_walk.specs.declared.expand.Piece.TheVariants.{Ready, Under, Refused}
 use Rattle.gf_waves.specs.Frontier.{Frontier, AreRefusals}
 use Rattle.gf_facets.specs.LexPositive.{IsBefore}
-use Rattle.gf_facets.specs.Regions.{Region, all_positive}
-use Rattle.gf_reverse.specs.Upward.{Fan, IsNodeIn, IsParent}
+use Rattle.gf_facets.specs.Regions.{Region}
+use Rattle.gf_reverse.specs.Upward.{Fan, IsNodeIn, IsParent, fan_of}
 use Rattle.gf_reverse.specs.Lists.{IsPathOf}
 use Rattle.gf_reverse.proofs.TreeLaws.{count}
 use Rattle.gf_tree.specs.declared.tree.BasisTree.{BasisTree}
 use Rattle.gf_tree.specs.declared.error.TreeError.{TreeError}
-use Rattle.gf_tree.specs.Parents.{ideal_of}
 use Rattle.gf_tree.specs.Refusals.{IsCallRefusal}
 
 -- ---- the tree of bases
 
 -- its parents
 abbrev pub up_in : BasisTree → MarkedPolynomials → List ℤ → MarkedPolynomials → Type 0
-up_in t = IsParent (all_positive t.variables)
+up_in t = IsParent t.region
 
 -- why a walker over it is refused: a call of the tree at its basis, or above, is
 abbrev pub RefusesWalker : Place BasisTree MarkedPolynomials (List ℤ) → TreeError → Type 0
-RefusesWalker = RefusesAt up_in (λ t v e. IsCallRefusal (all_positive t.variables) t.pairs v e)
+RefusesWalker = RefusesAt up_in (λ t v e. IsCallRefusal t.region t.pairs v e)
 
 -- ---- rows
 
--- the row of pieces with the number of workers and that of the next job; how many pairs each flip may settle; the basis of the ideal with
--- which it began; and how many bases were given so far
+-- the row of pieces with the number of workers and that of the next job; how many pairs each flip may settle; the region; the basis of the
+-- ideal with which it began; and how many bases were given so far
 pub record Row : Type 0 where
   pub frontier : Frontier BasisTree MarkedPolynomials (List ℤ) TreeError
   pub pairs : ℕ
+  pub region : Region
   pub start : MarkedPolynomials
   pub given : ℕ
 
--- all positive weights
-abbrev pub region_in : Row → Region
-region_in r = all_positive r.start.variables
-
 -- the ideal whose bases are listed
 abbrev pub ideal_in : Row → Fan
-ideal_in r = ideal_of r.start
+ideal_in r = fan_of r.region r.start
 
 -- no more bases are given than this
 abbrev pub row_left_at_most : Row → ℕ
-row_left_at_most r = count (region_in r) r.start - r.given
+row_left_at_most r = count r.region r.start - r.given
 
 -- ---- what is left
 
@@ -86,13 +82,13 @@ pub record IsNotBehind (k : Region) (v x : MarkedPolynomials) : Type 0 where
 pub record AreLeftIn (r : Row) (nodes : List MarkedPolynomials) : Type 0 where
   pub pieces : PiecesLeave (IsLeftAt IsBefore up_in) r.frontier.pieces nodes
   pub paths : List (List (List ℤ))
-  pub lead : HavePaths (region_in r) paths nodes
+  pub lead : HavePaths r.region paths nodes
   pub rises : Rises IsBefore paths
-  pub order : LeaveInOrder (IsLeftAt IsBefore up_in) (IsNotBehind (region_in r)) [] r.frontier.pieces nodes
+  pub order : LeaveInOrder (IsLeftAt IsBefore up_in) (IsNotBehind r.region) [] r.frontier.pieces nodes
 
--- the tree has these variables and this budget, and v is a basis of the ideal
+-- the tree has this region and this budget, and v is a basis of the ideal
 pub record IsOfIdeal (F : Fan) (budget : ℕ) (t : BasisTree) (v : MarkedPolynomials) : Type 0 where
-  pub region : all_positive t.variables ≡ F.region
+  pub region : t.region ≡ F.region
   pub pairs : t.pairs ≡ budget
   pub basis : IsNodeIn F v
 
@@ -112,19 +108,20 @@ pub record HasRowLeft (r : Row) : Type 0 where
   pub among : AreAmong (IsOfIdeal (ideal_in r) r.pairs) (IsNodeIn (ideal_in r)) r.frontier.pieces
   pub rest : List MarkedPolynomials
   pub left : AreLeftIn r rest
-  pub few : length rest + r.given ≤ count (region_in r) r.start
+  pub few : length rest + r.given ≤ count r.region r.start
 
 -- ---- how a row begins
 
 -- a basis that is ready without a job, and a walker at it for what is below
-abbrev pub first_row : Global → MarkedPolynomials → ℕ → ℕ → Row
-first_row alloc root workers pairs = record {
+abbrev pub first_row : Global → MarkedPolynomials → Region → ℕ → ℕ → Row
+first_row alloc root k workers pairs = record {
   frontier = record {
     workers = workers;
     jobs = 0;
-    pieces = Ready root ∷ Under (record { tree = record { alloc = alloc; variables = root.variables; pairs = pairs }; here = root; mark = Listed; depth = 0 }) ∷ [];
+    pieces = Ready root ∷ Under (record { tree = record { alloc = alloc; region = k; pairs = pairs }; here = root; mark = Listed; depth = 0 }) ∷ [];
   };
   pairs = pairs;
+  region = k;
   start = root;
   given = 0;
 }

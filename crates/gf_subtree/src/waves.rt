@@ -1,15 +1,15 @@
 //! The list of all bases of an ideal, worked off in waves.
 ghost use Rattle.std.specs.Prelude.{◌≡◌, ◌+◌, ◌*◌, ◌≤◌, length, List, IfOk, IfErr, OnErr, count_by};
 ghost use Rattle.gf_poly.specs.Marking.{MarkedPolynomials};
-ghost use Rattle.gf_reverse.specs.Upward.{IsNodeIn};
+ghost use Rattle.gf_reverse.specs.Upward.{IsNode};
 ghost use Rattle.gf_waves.specs.Frontier.{AreRefusals, is_ready, is_refused};
-ghost use Rattle.gf_tree.specs.Parents.{ideal_of};
 ghost use Rattle.gf_tree.specs.Refusals.{IsTreeRefusal, IsTreeWithinLimits};
 ghost use Rattle.gf_tree.specs.Walks.{AreLeft, walk_at};
 ghost use Rattle.gf_tree.specs.declared.error.TreeError.TheVariants.{Memory};
 ghost use Rattle.gf_subtree.specs.Rows.{AreLeftIn, HasRowLeft, RefusesWalker, ideal_in, first_row};
 ghost use Rattle.gf_subtree.specs.Answers.{IsResumedAs, IsRowAnswer, IsRowCall, IsRowKept, IsRefusedEarly, IsToldInFront};
 
+use gf_cone::Region;
 use gf_poly::MarkedSet;
 use gf_tree::{BasisTree, Node, TreeError, Walker};
 use gf_walk::Depth;
@@ -24,6 +24,7 @@ use std::thread::Threads;
 pub struct Waves<'g, G: Gate> {
     inner: gf_waves::Waves<'g, BasisTree, G>,
     pairs: u64,
+    region: Snapshot<Region>,
     start: Snapshot<MarkedSet>,
     given: Depth,
 }
@@ -33,16 +34,16 @@ impl<'g, G: Gate> Model for Waves<'g, G> {
 
     ghost Value = { Row };
 
-    ghost view = { λ w. record { frontier = w.inner; pairs = w.pairs; start = w.start.value; given = w.given } };
+    ghost view = { λ w. record { frontier = w.inner; pairs = w.pairs; region = w.region.value; start = w.start.value; given = w.given } };
 
-    ghost invariant = { λ w. HasRowLeft (record { frontier = w.inner; pairs = w.pairs; start = w.start.value; given = w.given }) };
+    ghost invariant = { λ w. HasRowLeft (record { frontier = w.inner; pairs = w.pairs; region = w.region.value; start = w.start.value; given = w.given }) };
 }
 
 impl<'g, G: Gate> Waves<'g, G> {
     /// The list of a basis and of all below it, by so many workers: the basis is ready without a job. Each flip may settle `pairs` pairs.
     ///
-    /// The set is a marked reduced basis, for some positive weight, of the ideal that it generates. Where it is the basis by total
-    /// degree and then lex, the list is that of all bases of its ideal. Before each job the gate is called.
+    /// The set is a marked reduced basis, for some weight of the region, of the ideal that it generates. Where it is the basis by the
+    /// root of the region and then lex, the list is that of all bases of its ideal in the region. Before each job the gate is called.
     ///
     /// # Errors
     ///
@@ -50,27 +51,30 @@ impl<'g, G: Gate> Waves<'g, G> {
     pub fn new(
         alloc: Global,
         root: MarkedSet,
+        region: &Region,
         workers: u32,
         pairs: u64,
         gate: &'g G,
     ) -> Result<Self, AllocError>
-        requires basis { IsNodeIn (ideal_of root) root }
+        requires basis { IsNode region.now root }
         requires some { 1 ≤ workers }
         requires most { workers ≤ 64 }
-        ensures start { IfOk result (λ w. w ≡ first_row alloc root workers pairs) }
-        ensures list { IfOk result (λ w. (nodes : List MarkedPolynomials) → AreLeft (walk_at root pairs) nodes → AreLeftIn w nodes) }
+        ensures start { IfOk result (λ w. w ≡ first_row alloc root region.now workers pairs) }
+        ensures list { IfOk result (λ w. (nodes : List MarkedPolynomials) → AreLeft (walk_at root region.now pairs) nodes → AreLeftIn w nodes) }
     {
         let start = Snapshot::of(&root);
+        let kept = Snapshot::of(region);
         let tree = BasisTree {
             alloc,
-            variables: root.variables(),
+            region: region.copy()?,
             pairs,
         };
-        let node = Node::of(alloc, root);
+        let node = Node::of(alloc, root, region);
         match gf_waves::Waves::new(alloc, tree, node, workers, gate) {
             Ok(inner) => Ok(Waves {
                 inner,
                 pairs,
+                region: kept,
                 start,
                 given: Depth::zero(alloc),
             }),
@@ -98,10 +102,12 @@ impl<'g, G: Gate> Waves<'g, G> {
     {
         let start = Snapshot::of(walker.position().here);
         let walker = walker.into_inner();
+        let region = Snapshot::of(&walker.tree().region);
         match gf_waves::Waves::resume(alloc, walker, workers, gate) {
             Ok(inner) => Ok(Waves {
                 inner,
                 pairs,
+                region,
                 start,
                 given: Depth::zero(alloc),
             }),

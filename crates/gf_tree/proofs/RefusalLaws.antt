@@ -1,15 +1,15 @@
 -- Refusals of a search: of its steps, seen from another basis of the same ideal, and where it stays within its limits.
 -- To cite: flip_refused, cone_refused, flip_at, cone_at, place_at, refusal_moved, limits_moved, refusal_beside, call_refused, refusal_above, refusal_over, refused_on_way,
--- way_refused, way_only, within_memory, only_memory,
+-- no_memory_on_way, way_refused, way_only, within_memory, only_memory,
 -- only_memory_back.
-use Rattle.std.proofs.Common.{◌≡◌, ℕ, ◌<◌, ◌≤◌, List, ℤ, length, Result, Ok, Err, IfErr, arith, sym, ap, ◌∙◌, subst}
+use Rattle.std.proofs.Common.{◌≡◌, ℕ, ◌<◌, ◌≤◌, List, [], ℤ, length, Result, Ok, Err, IfErr, arith, refl, sym, ap, ◌∙◌, subst}
 use Rattle.gf_poly.specs.Marking.{MarkedPolynomials}
 use Rattle.gf_gordan.specs.declared.error.GordanError.{GordanError}
 use Rattle.gf_gordan.specs.declared.error.GordanError.TheVariants as cones
 use Rattle.gf_gordan.specs.Steps.{Failed}
 use Rattle.gf_buchberger.specs.declared.bases.BasisError.{BasisError}
 use Rattle.gf_buchberger.specs.declared.bases.BasisError.TheVariants as flips
-use Rattle.gf_facets.specs.Regions.{Region, all_positive}
+use Rattle.gf_facets.specs.Regions.{Region}
 use Rattle.gf_facets.specs.Facets.{IsFlippable}
 use Rattle.gf_cone.specs.Cones.{ConeRows, normal_at, other_rows, IsConeOf}
 use Rattle.gf_cone.specs.Answers.{IsNormalStep}
@@ -24,7 +24,6 @@ use Rattle.gf_reverse.proofs.ListLaws.{root_above, root_own}
 use Rattle.gf_tree.proofs.LabelLaws.{across_in}
 use Rattle.gf_tree.specs.declared.error.TreeError.{TreeError}
 use Rattle.gf_tree.specs.declared.error.TreeError.TheVariants.{Memory, Cone}
-use Rattle.gf_tree.specs.Parents.{ideal_of}
 use Rattle.gf_tree.specs.Refusals.{of_flip_error, of_cone_error, IsTreeRefusal, IsRefusedAtBasis, IsWayRefused, IsCallRefusal, IsTreeWithinLimits}
 
 -- ---- steps
@@ -101,9 +100,12 @@ pub refusal_over : (k : Region) (pairs : ℕ) (v : MarkedPolynomials) (e : TreeE
 refusal_over k pairs v e h r = refusal_above k pairs v r.0 e h r.1
 
 -- a refusal at a basis to which the way up from v leads
-pub refused_on_way : (m pairs : ℕ) (v u : MarkedPolynomials) (p : List (List ℤ)) (e : TreeError) → m ≡ v.variables → Leads (IsParent (all_positive m)) u p v → IsRefusedAtBasis (all_positive m) pairs u e →
-    IsWayRefused (all_positive v.variables) pairs v e
-refused_on_way m pairs v u p e s l r = subst (λ (j : ℕ). IsWayRefused (all_positive j) pairs v e) s (length p, record { node = u; path = p; leads = l; near = omega arith; refused = r })
+pub refused_on_way : (k : Region) (pairs : ℕ) (v u : MarkedPolynomials) (p : List (List ℤ)) (e : TreeError) → Leads (IsParent k) u p v → IsRefusedAtBasis k pairs u e → IsWayRefused k pairs v e
+refused_on_way k pairs v u p e l r = (length p, record { node = u; path = p; leads = l; near = omega arith; refused = r })
+
+-- want of memory is one at v itself
+pub no_memory_on_way : (k : Region) (pairs : ℕ) (v : MarkedPolynomials) (e : TreeError) → e ≡ Memory → IsWayRefused k pairs v e
+no_memory_on_way k pairs v e q = refused_on_way k pairs v v [] e refl (IsRefusedAtBasis.memory q)
 
 -- one on the way up is one of a search
 pub way_refused : (k : Region) (pairs : ℕ) (v : MarkedPolynomials) (e : TreeError) → IsNode k v → IsWayRefused k pairs v e → IsTreeRefusal (fan_of k v) pairs e
@@ -111,9 +113,9 @@ way_refused k pairs v e h r =
     let m = root_above k v r.1.node r.1.path h r.1.leads in
     refusal_beside k pairs v r.1.node e m (at_refused k pairs r.1.node e (root_own k v r.1.node h m) r.1.refused)
 
-pub way_only : {A : Type 0} (pairs : ℕ) (v : MarkedPolynomials) (r : Result A TreeError) → IsNodeIn (ideal_of v) v → IfErr r (IsWayRefused (all_positive v.variables) pairs v) → IfErr r (IsTreeRefusal (ideal_of v) pairs)
-way_only pairs v (Ok a) h w = w
-way_only pairs v (Err e) h w = way_refused (all_positive v.variables) pairs v e h w
+pub way_only : {A : Type 0} (k : Region) (pairs : ℕ) (v : MarkedPolynomials) (r : Result A TreeError) → IsNode k v → IfErr r (IsWayRefused k pairs v) → IfErr r (IsTreeRefusal (fan_of k v) pairs)
+way_only k pairs v (Ok a) h w = w
+way_only k pairs v (Err e) h w = way_refused k pairs v e h w
 
 -- ---- where nothing leaves its limits, only memory may be wanting
 

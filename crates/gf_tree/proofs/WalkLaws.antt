@@ -11,25 +11,23 @@ use Rattle.gf_walk.specs.Walk.{Steps, Advances}
 use Rattle.gf_walk.specs.Split.{AreSplitParts, AreCutAt}
 use Rattle.gf_walk.specs.Whole.{IsRootOf, StandsAfter}
 use Rattle.gf_facets.specs.LexPositive.{IsBefore}
-use Rattle.gf_facets.specs.Regions.{Region, all_positive}
+use Rattle.gf_facets.specs.Regions.{Region}
 use Rattle.gf_reverse.specs.Upward.{IsNode, IsNodeIn, IsParent, fan_of}
 use Rattle.gf_reverse.specs.Lists.{AnswersByPaths}
 use Rattle.gf_reverse.proofs.TreeLaws.{count, upward_level, upward_finite}
 use Rattle.gf_reverse.proofs.LeftLaws.{advance_answers, top_seen_below}
 use Rattle.gf_reverse.proofs.ListLaws.{own, root_above, below_node, same_root}
 use Rattle.gf_tree.specs.declared.tree.BasisTree.{BasisTree}
-use Rattle.gf_tree.proofs.ParentLaws.{same_width}
-use Rattle.gf_tree.specs.Parents.{ideal_of}
 use Rattle.gf_tree.specs.Walks.{Walk, AreLeft, HasListLeft}
 use Rattle.gf_tree.specs.Steps.{IsStepTo, IsEnd, IsAdvance, AreWalkParts, IsResumed}
 
 -- where a walker over the tree stands, and how many bases it gave
 abbrev pub walk_of : Place BasisTree MarkedPolynomials (List ℤ) → ℕ → Walk
-walk_of p n = record { here = p.here; mark = p.mark; depth = p.depth; pairs = p.tree.pairs; given = n; variables = p.tree.variables }
+walk_of p n = record { here = p.here; mark = p.mark; depth = p.depth; pairs = p.tree.pairs; given = n; region = p.tree.region }
 
 -- the parents of the tree
 abbrev pub up_in : BasisTree → MarkedPolynomials → List ℤ → MarkedPolynomials → Type 0
-up_in t = IsParent (all_positive t.variables)
+up_in t = IsParent t.region
 
 -- the number of bases stays along a path
 pub count_along : (k : Region) (s : MarkedPolynomials) (q : List (List ℤ)) (x : MarkedPolynomials) → Leads (IsParent k) s q x → count k x ≡ count k s
@@ -46,12 +44,11 @@ count_beside k top here v p q l m = count_along k top q v m ∙ sym (count_along
 
 -- ---- before the first step
 
-pub left_at_top : (m n pairs : ℕ) (v : MarkedPolynomials) → m ≡ v.variables → n ≡ 0 → IsNodeIn (ideal_of v) v →
-    HasListLeft (record { here = v; mark = Before; depth = 0; pairs = pairs; given = n; variables = m })
-left_at_top m n pairs v e z h =
-    let node : IsNode (all_positive m) v = subst (λ (j : ℕ). IsNode (all_positive j) v) (sym e) h in
-    let f = upward_finite (all_positive m) v node in
-    record { basis = node; rest = f.nodes; left = f.leaves; few = (let w : length f.nodes ≤ count (all_positive m) v = f.few in let g : length f.nodes + n ≤ count (all_positive m) v = omega (arith, w, z) in g) }
+pub left_at_top : (k : Region) (n pairs : ℕ) (v : MarkedPolynomials) → n ≡ 0 → IsNode k v →
+    HasListLeft (record { here = v; mark = Before; depth = 0; pairs = pairs; given = n; region = k })
+left_at_top k n pairs v z node =
+    let f = upward_finite k v node in
+    record { basis = node; rest = f.nodes; left = f.leaves; few = (let w : length f.nodes ≤ count k v = f.few in let g : length f.nodes + n ≤ count k v = omega (arith, w, z) in g) }
 
 -- ---- a step
 
@@ -64,28 +61,28 @@ answers_by_paths k old new here0 here1 d0 d1 v s = λ top p r at h a.
 
 module _ (p q : Place BasisTree MarkedPolynomials (List ℤ)) (n m : ℕ) (v : MarkedPolynomials) (e : q.tree ≡ p.tree) (steps : Advances IsBefore up_in p q (Some v))
     (list : (nodes : List MarkedPolynomials) → IsLeftAt IsBefore up_in p nodes → IsFirstOf (IsLeftAt IsBefore up_in q) nodes (Some v)) (more : m ≡ n + 1) (had : HasListLeft (walk_of p n)) where
-  leads_q : Leads (IsParent (all_positive p.tree.variables)) had.left.top (steps had.left.top had.left.path had.left.at).path q.here
+  leads_q : Leads (IsParent p.tree.region) had.left.top (steps had.left.top had.left.path had.left.at).path q.here
   leads_q = (steps had.left.top had.left.path had.left.at).at.leads
 
   here_is : q.here ≡ v
   here_is = sym (steps had.left.top had.left.path had.left.at).node
 
-  basis_q : IsNodeIn (fan_of (all_positive p.tree.variables) p.here) q.here
-  basis_q = beside (all_positive p.tree.variables) had.left.top p.here q.here had.left.path (steps had.left.top had.left.path had.left.at).path had.basis had.left.at.leads leads_q
+  basis_q : IsNodeIn (fan_of p.tree.region p.here) q.here
+  basis_q = beside p.tree.region had.left.top p.here q.here had.left.path (steps had.left.top had.left.path had.left.at).path had.basis had.left.at.leads leads_q
 
-  own_q : IsNode (all_positive q.tree.variables) q.here
-  own_q = subst (λ (t : BasisTree). IsNode (all_positive t.variables) q.here) (sym e) (own (all_positive p.tree.variables) (fan_of (all_positive p.tree.variables) p.here) q.here refl basis_q)
+  own_q : IsNode q.tree.region q.here
+  own_q = subst (λ (t : BasisTree). IsNode t.region q.here) (sym e) (own p.tree.region (fan_of p.tree.region p.here) q.here refl basis_q)
 
-  same_count : count (all_positive q.tree.variables) q.here ≡ count (all_positive p.tree.variables) p.here
-  same_count = subst (λ (t : BasisTree). count (all_positive t.variables) q.here ≡ count (all_positive p.tree.variables) p.here) (sym e)
-      (count_beside (all_positive p.tree.variables) had.left.top p.here q.here had.left.path (steps had.left.top had.left.path had.left.at).path had.left.at.leads leads_q)
+  same_count : count q.tree.region q.here ≡ count p.tree.region p.here
+  same_count = subst (λ (t : BasisTree). count t.region q.here ≡ count p.tree.region p.here) (sym e)
+      (count_beside p.tree.region had.left.top p.here q.here had.left.path (steps had.left.top had.left.path had.left.at).path had.left.at.leads leads_q)
 
   -- what is left after it
   pub left_after : HasListLeft (walk_of q m)
   left_after =
       let f = list had.rest had.left in
       let long : length had.rest ≡ suc (length f.0) = ap length f.1 in
-      record { basis = own_q; rest = f.0; left = f.2; few = (let w : length had.rest + n ≤ count (all_positive p.tree.variables) p.here = had.few in let g : length f.0 + m ≤ count (all_positive q.tree.variables) q.here = (let c = same_count in omega (arith, long, w, c, more)) in g) }
+      record { basis = own_q; rest = f.0; left = f.2; few = (let w : length had.rest + n ≤ count p.tree.region p.here = had.few in let g : length f.0 + m ≤ count q.tree.region q.here = (let c = same_count in omega (arith, long, w, c, more)) in g) }
 
   -- a step of the tree's walker
   pub step_to : IsStepTo (walk_of p n) (walk_of q m) v
@@ -96,17 +93,17 @@ module _ (p q : Place BasisTree MarkedPolynomials (List ℤ)) (n m : ℕ) (v : M
         here = here_is;
         listed = (steps had.left.top had.left.path had.left.at).listed;
         pairs = ap (λ (t : BasisTree). t.pairs) e;
-        variables = ap (λ (t : BasisTree). t.variables) e;
+        region = ap (λ (t : BasisTree). t.region) e;
         given = more;
-        basis = subst (IsNodeIn (fan_of (all_positive p.tree.variables) p.here)) here_is basis_q;
-        own = subst (λ (w : MarkedPolynomials). IsNodeIn (ideal_of w) w) here_is (subst (λ (j : ℕ). IsNode (all_positive j) q.here) (same_width q.tree.variables q.here own_q) own_q);
-        fewer = (let w : length had.rest + n ≤ count (all_positive p.tree.variables) p.here = had.few in let g : suc (count (all_positive q.tree.variables) q.here - m) ≤ count (all_positive p.tree.variables) p.here - n = (let c = same_count in omega (arith, long, w, c, more)) in g);
+        basis = subst (IsNodeIn (fan_of p.tree.region p.here)) here_is basis_q;
+        own = subst (IsNode p.tree.region) here_is (subst (λ (t : BasisTree). IsNode t.region q.here) e own_q);
+        fewer = (let w : length had.rest + n ≤ count p.tree.region p.here = had.few in let g : suc (count q.tree.region q.here - m) ≤ count p.tree.region p.here - n = (let c = same_count in omega (arith, long, w, c, more)) in g);
         first = list;
-        paths = answers_by_paths (all_positive p.tree.variables) p.mark q.mark p.here q.here p.depth q.depth v steps;
+        paths = answers_by_paths p.tree.region p.mark q.mark p.here q.here p.depth q.depth v steps;
       }
 
 -- what is answered is a basis of the ideal that it generates
-pub advance_own : (old new : Walk) (o : Option MarkedPolynomials) → IsAdvance old new o → IfSome o (λ v. IsNodeIn (ideal_of v) v)
+pub advance_own : (old new : Walk) (o : Option MarkedPolynomials) → IsAdvance old new o → IfSome o (IsNode old.region)
 advance_own old new (Some v) s = s.own
 advance_own old new None e = tt
 
@@ -119,7 +116,7 @@ module _ (p q : Place BasisTree MarkedPolynomials (List ℤ)) (n m : ℕ) (list 
     none = λ nodes l. (list nodes l).0;
     nothing = subst (AreLeft (walk_of p n)) (list had.rest had.left).0 had.left;
     over = (list had.rest had.left).1;
-    stays = ap (λ (r : Place BasisTree MarkedPolynomials (List ℤ)). walk_of r m) stays ∙ ap (λ (j : ℕ). record { here = p.here; mark = Finished; depth = p.depth; pairs = p.tree.pairs; given = j; variables = p.tree.variables }) same;
+    stays = ap (λ (r : Place BasisTree MarkedPolynomials (List ℤ)). walk_of r m) stays ∙ ap (λ (j : ℕ). record { here = p.here; mark = Finished; depth = p.depth; pairs = p.tree.pairs; given = j; region = p.tree.region }) same;
   }
 
 -- ---- two parts
@@ -129,14 +126,14 @@ module _ (p f r : Place BasisTree MarkedPolynomials (List ℤ)) (n a b : ℕ) (c
   at_is : r.here ≡ f.here
   at_is = sym (cut.next had.left.top had.left.path had.left.at).node
 
-  basis_r : IsNodeIn (fan_of (all_positive p.tree.variables) p.here) r.here
-  basis_r = beside (all_positive p.tree.variables) had.left.top p.here r.here had.left.path (cut.next had.left.top had.left.path had.left.at).path had.basis had.left.at.leads (cut.next had.left.top had.left.path had.left.at).at.leads
+  basis_r : IsNodeIn (fan_of p.tree.region p.here) r.here
+  basis_r = beside p.tree.region had.left.top p.here r.here had.left.path (cut.next had.left.top had.left.path had.left.at).path had.basis had.left.at.leads (cut.next had.left.top had.left.path had.left.at).at.leads
 
-  count_r : count (all_positive p.tree.variables) r.here ≡ count (all_positive p.tree.variables) p.here
-  count_r = count_beside (all_positive p.tree.variables) had.left.top p.here r.here had.left.path (cut.next had.left.top had.left.path had.left.at).path had.left.at.leads (cut.next had.left.top had.left.path had.left.at).at.leads
+  count_r : count p.tree.region r.here ≡ count p.tree.region p.here
+  count_r = count_beside p.tree.region had.left.top p.here r.here had.left.path (cut.next had.left.top had.left.path had.left.at).path had.left.at.leads (cut.next had.left.top had.left.path had.left.at).at.leads
 
-  own_r : IsNode (all_positive p.tree.variables) r.here
-  own_r = own (all_positive p.tree.variables) (fan_of (all_positive p.tree.variables) p.here) r.here refl basis_r
+  own_r : IsNode p.tree.region r.here
+  own_r = own p.tree.region (fan_of p.tree.region p.here) r.here refl basis_r
 
   -- the first lists the next basis and what is below it, and the other what follows
   pub parts_of : AreWalkParts (walk_of p n) (walk_of f a) (walk_of r b)
@@ -146,78 +143,73 @@ module _ (p f r : Place BasisTree MarkedPolynomials (List ℤ)) (n a b : ℕ) (c
     past = cut.past;
     at = at_is;
     pairs = (ap (λ (t : BasisTree). t.pairs) ef, ap (λ (t : BasisTree). t.pairs) er);
-    variables = (ap (λ (t : BasisTree). t.variables) ef, ap (λ (t : BasisTree). t.variables) er);
-    basis = subst (IsNodeIn (fan_of (all_positive p.tree.variables) p.here)) at_is basis_r;
+    region = (ap (λ (t : BasisTree). t.region) ef, ap (λ (t : BasisTree). t.region) er);
+    basis = subst (IsNodeIn (fan_of p.tree.region p.here)) at_is basis_r;
     joined = λ nodes l. (let s = list nodes l in (f.here ∷ s.front, s.back, s.whole, s.under, s.past));
   }
 
   -- how long the parts are
-  few_parts : (s : AreSplitParts IsBefore up_in had.rest f r) → suc (length s.front + length s.back) ≤ count (all_positive p.tree.variables) p.here
-  few_parts s = (let e : length had.rest ≡ suc (length (s.front ++ s.back)) = ap length s.whole in let g : length (s.front ++ s.back) ≡ length s.front + length s.back = length-append s.front s.back in let w : length had.rest + n ≤ count (all_positive p.tree.variables) p.here = had.few in omega (arith, e, g, w))
+  few_parts : (s : AreSplitParts IsBefore up_in had.rest f r) → suc (length s.front + length s.back) ≤ count p.tree.region p.here
+  few_parts s = (let e : length had.rest ≡ suc (length (s.front ++ s.back)) = ap length s.whole in let g : length (s.front ++ s.back) ≡ length s.front + length s.back = length-append s.front s.back in let w : length had.rest + n ≤ count p.tree.region p.here = had.few in omega (arith, e, g, w))
 
   pub left_first : HasListLeft (walk_of f a)
   left_first =
       let s = list had.rest had.left in
-      let c : count (all_positive f.tree.variables) f.here ≡ count (all_positive p.tree.variables) p.here = subst (λ (t : BasisTree). count (all_positive t.variables) f.here ≡ count (all_positive p.tree.variables) p.here) (sym ef) (ap (count (all_positive p.tree.variables)) (sym at_is) ∙ count_r) in
+      let c : count f.tree.region f.here ≡ count p.tree.region p.here = subst (λ (t : BasisTree). count t.region f.here ≡ count p.tree.region p.here) (sym ef) (ap (count p.tree.region) (sym at_is) ∙ count_r) in
       record {
-        basis = subst (λ (t : BasisTree). IsNode (all_positive t.variables) f.here) (sym ef) (subst (IsNode (all_positive p.tree.variables)) at_is own_r);
+        basis = subst (λ (t : BasisTree). IsNode t.region f.here) (sym ef) (subst (IsNode p.tree.region) at_is own_r);
         rest = f.here ∷ s.front;
         left = s.under;
-        few = (let w = few_parts s in let g : suc (length s.front) + a ≤ count (all_positive f.tree.variables) f.here = omega (arith, w, c, za) in g);
+        few = (let w = few_parts s in let g : suc (length s.front) + a ≤ count f.tree.region f.here = omega (arith, w, c, za) in g);
       }
 
   pub left_rest : HasListLeft (walk_of r b)
   left_rest =
       let s = list had.rest had.left in
-      let c : count (all_positive r.tree.variables) r.here ≡ count (all_positive p.tree.variables) p.here = subst (λ (t : BasisTree). count (all_positive t.variables) r.here ≡ count (all_positive p.tree.variables) p.here) (sym er) count_r in
+      let c : count r.tree.region r.here ≡ count p.tree.region p.here = subst (λ (t : BasisTree). count t.region r.here ≡ count p.tree.region p.here) (sym er) count_r in
       record {
-        basis = subst (λ (t : BasisTree). IsNode (all_positive t.variables) r.here) (sym er) own_r;
+        basis = subst (λ (t : BasisTree). IsNode t.region r.here) (sym er) own_r;
         rest = s.back;
         left = s.past;
-        few = (let w = few_parts s in let g : length s.back + b ≤ count (all_positive r.tree.variables) r.here = omega (arith, w, c, zb) in g);
+        few = (let w = few_parts s in let g : length s.back + b ≤ count r.tree.region r.here = omega (arith, w, c, zb) in g);
       }
 
 -- ---- going on after a basis
 
-module _ (t : BasisTree) (v : MarkedPolynomials) (p : Place BasisTree MarkedPolynomials (List ℤ)) (n : ℕ) (same : t.variables ≡ v.variables) (h : IsNodeIn (ideal_of v) v)
+module _ (t : BasisTree) (v : MarkedPolynomials) (p : Place BasisTree MarkedPolynomials (List ℤ)) (n : ℕ) (node : IsNode t.region v)
     (place : (p.tree ≡ t) × (p.here ≡ v) × (p.mark ≡ Listed)) (found : (root : MarkedPolynomials) × IsRootOf (up_in t) v root)
     (list : (root : MarkedPolynomials) → IsRootOf (up_in t) v root → StandsAfter IsBefore up_in v root p) (zero : n ≡ 0) where
-  node : IsNode (all_positive t.variables) v
-  node = subst (λ (j : ℕ). IsNode (all_positive j) v) (sym same) h
+  below : IsNodeIn (fan_of t.region v) found.0
+  below = root_above t.region v found.0 found.1.path node found.1.leads
 
-  below : IsNodeIn (fan_of (all_positive t.variables) v) found.0
-  below = root_above (all_positive t.variables) v found.0 found.1.path node found.1.leads
-
-  owns : IsNode (all_positive t.variables) found.0
-  owns = own (all_positive t.variables) (fan_of (all_positive t.variables) v) found.0 refl below
+  owns : IsNode t.region found.0
+  owns = own t.region (fan_of t.region v) found.0 refl below
 
   pub left_resumed : HasListLeft (walk_of p n)
   left_resumed =
-      let f = upward_finite (all_positive t.variables) found.0 owns in
+      let f = upward_finite t.region found.0 owns in
       let s = list found.0 found.1 in
       let g = s.goes_on f.nodes (subst (λ (u : BasisTree). Leaves IsBefore (up_in u) Before found.0 0 f.nodes) (sym place.0) f.leaves) in
       let long : length f.nodes ≡ length g.front + suc (length g.rest) = ap length g.whole ∙ length-append g.front (v ∷ g.rest) in
-      let c : count (all_positive p.tree.variables) p.here ≡ count (all_positive t.variables) found.0 = subst (λ (u : BasisTree). count (all_positive u.variables) p.here ≡ count (all_positive t.variables) found.0) (sym place.0) (ap (count (all_positive t.variables)) place.1 ∙ count_along (all_positive t.variables) found.0 found.1.path v found.1.leads) in
+      let c : count p.tree.region p.here ≡ count t.region found.0 = subst (λ (u : BasisTree). count u.region p.here ≡ count t.region found.0) (sym place.0) (ap (count t.region) place.1 ∙ count_along t.region found.0 found.1.path v found.1.leads) in
       record {
-        basis = subst (λ (u : BasisTree). IsNode (all_positive u.variables) p.here) (sym place.0) (subst (IsNode (all_positive t.variables)) (sym place.1) node);
+        basis = subst (λ (u : BasisTree). IsNode u.region p.here) (sym place.0) (subst (IsNode t.region) (sym place.1) node);
         rest = g.rest;
         left = g.left;
-        few = (let w : length f.nodes ≤ count (all_positive t.variables) found.0 = f.few in let g0 : length g.rest + n ≤ count (all_positive p.tree.variables) p.here = omega (arith, w, long, c, zero) in g0);
+        few = (let w : length f.nodes ≤ count t.region found.0 = f.few in let g0 : length g.rest + n ≤ count p.tree.region p.here = omega (arith, w, long, c, zero) in g0);
       }
 
-  pub resumed : IsResumed v t.pairs (walk_of p n)
+  pub resumed : IsResumed t.region v t.pairs (walk_of p n)
   resumed = record {
     here = place.1;
     mark = place.2;
     pairs = ap (λ (u : BasisTree). u.pairs) place.0;
-    variables = ap (λ (u : BasisTree). u.variables) place.0 ∙ same;
+    region = ap (λ (u : BasisTree). u.region) place.0;
     goes_on = λ root r nodes l.
-        let e : root ≡ found.0 = same_root (fan_of (all_positive t.variables) v) root found.0 (subst (λ (j : ℕ). IsNodeIn (fan_of (all_positive j) v) root) (sym same) r.basis)
-        (subst (λ (j : ℕ). IsRoot (IsParent (all_positive j)) root) (r.basis.variables ∙ sym same) r.is_root) below found.1.is_root in
+        let e : root ≡ found.0 = same_root (fan_of t.region v) root found.0 r.basis r.is_root below found.1.is_root in
         let s = list found.0 found.1 in
-        let a : Leaves IsBefore (IsParent (all_positive root.variables)) Before root 0 nodes = l in
-        let b : Leaves IsBefore (IsParent (all_positive t.variables)) Before root 0 nodes = subst (λ (j : ℕ). Leaves IsBefore (IsParent (all_positive j)) Before root 0 nodes) (r.basis.variables ∙ sym same) a in
-        let g = s.goes_on nodes (subst (λ (u : BasisTree). Leaves IsBefore (up_in u) Before found.0 0 nodes) (sym place.0) (subst (λ (w : MarkedPolynomials). Leaves IsBefore (IsParent (all_positive t.variables)) Before w 0 nodes) e b)) in
+        let a : Leaves IsBefore (IsParent t.region) Before root 0 nodes = l in
+        let g = s.goes_on nodes (subst (λ (u : BasisTree). Leaves IsBefore (up_in u) Before found.0 0 nodes) (sym place.0) (subst (λ (w : MarkedPolynomials). Leaves IsBefore (IsParent t.region) Before w 0 nodes) e a)) in
         (g.front, g.rest, g.whole, g.left);
   }
 

@@ -8,20 +8,20 @@ use Rattle.gf_walk.specs.Path.{IsRoot}
 use Rattle.gf_walk.specs.Tree.{IsChildOf}
 use Rattle.gf_facets.specs.Regions.{Region, all_positive}
 use Rattle.gf_facets.specs.Neighbours.{AreAdjacent}
-use Rattle.gf_reverse.specs.Upward.{Fan, IsNodeIn, IsWayUp, IsParent, LeadsUp, fan_of}
+use Rattle.gf_reverse.specs.Upward.{Fan, IsNodeIn, IsNode, IsWayUp, IsParent, LeadsUp, fan_of}
+use Rattle.gf_cone.specs.Cones.{ConeRows, IsConeOf}
 use Rattle.gf_reverse.specs.Answers.{IsAcross}
 use Rattle.gf_tree.specs.declared.above.Parent.{Parent}
 use Rattle.gf_tree.specs.declared.above.Parent.TheVariants.{Root, Up}
 
--- the ideal of v, among all positive weights
+-- the ideal of a basis, and all positive weights
 abbrev pub ideal_of : MarkedPolynomials → Fan
 ideal_of v = fan_of (all_positive v.variables) v
 
 -- no flippable normal is negative at the root, or the least one and the basis on its other side
-abbrev pub IsParentTold : MarkedPolynomials → Parent → Type 0
-IsParentTold v Root = (a : List ℤ) → LeadsUp v.variables (all_positive v.variables) v.items a → ⊥
-IsParentTold v (Up a u) = IsWayUp v.variables (all_positive v.variables) v.items a × IsNodeIn (ideal_of v) u ×
-    AreAdjacent v.variables (polys v.items) (all_positive v.variables) v.items a u.items
+abbrev pub IsParentTold : Region → MarkedPolynomials → Parent → Type 0
+IsParentTold k v Root = (a : List ℤ) → LeadsUp v.variables k v.items a → ⊥
+IsParentTold k v (Up a u) = IsWayUp v.variables k v.items a × IsNodeIn (fan_of k v) u × AreAdjacent v.variables (polys v.items) k v.items a u.items
 
 -- the neighbour across a, or that no basis is below u under a
 abbrev pub IsBelowTold : Region → MarkedPolynomials → List ℤ → Option MarkedPolynomials → Type 0
@@ -33,13 +33,17 @@ abbrev pub IsLedBack : Region → MarkedPolynomials → List ℤ → Option Mark
 IsLedBack k w a (Some v) = (v ≡ w) × IsWayUp w.variables k w.items a
 IsLedBack k w a None = IsWayUp w.variables k w.items a → ⊥
 
--- v is the reduced basis of its ideal by total degree, and then lex
-abbrev pub IsDegreeBasis : MarkedPolynomials → Type 0
-IsDegreeBasis v = IsReducedBasisFor v.variables (polys v.items) (IsWeightedBelow (gains (all_positive v.variables).root)) v.items
+-- v is the reduced basis of its ideal by the root of the region, and then lex
+abbrev pub IsRootBasis : Region → MarkedPolynomials → Type 0
+IsRootBasis k v = IsReducedBasisFor v.variables (polys v.items) (IsWeightedBelow (gains k.root)) v.items
 
--- u is the root of the tree of the bases of the ideal of v
-pub record IsRootFor (v u : MarkedPolynomials) : Type 0 where
-  pub basis : IsNodeIn (ideal_of v) u
-  pub own : IsNodeIn (ideal_of u) u
-  pub is_root : IsRoot (IsParent (all_positive u.variables)) u
-  pub by_degree : IsDegreeBasis u
+-- u is the root of the tree of the bases of the ideal of v in the region
+pub record IsRootFor (k : Region) (v u : MarkedPolynomials) : Type 0 where
+  pub basis : IsNodeIn (fan_of k v) u
+  pub own : IsNode k u
+  pub is_root : IsRoot (IsParent k) u
+  pub by_root : IsRootBasis k u
+
+-- c is the cone of v in some region
+abbrev pub IsSomeCone : MarkedPolynomials → ConeRows → Type 0
+IsSomeCone v c = (k : Region) × IsConeOf v.variables k v.items c

@@ -1,24 +1,28 @@
 //! The list of all bases.
 ghost use Rattle.std.specs.Prelude.{◌≡◌, IfOk, IfErr};
-ghost use Rattle.gf_facets.specs.Regions.{all_positive};
-ghost use Rattle.gf_reverse.specs.Upward.{IsNodeIn};
+ghost use Rattle.gf_reverse.specs.Upward.{IsNode, fan_of};
 ghost use Rattle.gf_reverse.specs.Lists.{IsListOfBases};
-ghost use Rattle.gf_tree.specs.Parents.{ideal_of};
 ghost use Rattle.gf_tree.specs.Refusals.{IsTreeRefusal, IsTreeWithinLimits};
 ghost use Rattle.gf_tree.specs.Walks.{AreLeft, walk_at};
 ghost use Rattle.gf_tree.specs.declared.error.TreeError.TheVariants.{Memory};
 
 use crate::{TreeError, Walker, to_root};
+use gf_cone::Region;
 use gf_poly::MarkedSet;
 use std::alloc::Global;
 
 /// A basis and all below it, each once, in the order of their paths.
-fn listed_below(alloc: Global, top: MarkedSet, pairs: u64) -> Result<Vec<MarkedSet>, TreeError>
-    requires { IsNodeIn (ideal_of top) top }
-    ensures value { IfOk result (λ v. AreLeft (walk_at top pairs) v.items) }
-    ensures cause { IfErr result (IsTreeRefusal (ideal_of top) pairs) }
+fn listed_below(
+    alloc: Global,
+    top: MarkedSet,
+    region: &Region,
+    pairs: u64,
+) -> Result<Vec<MarkedSet>, TreeError>
+    requires { IsNode region.now top }
+    ensures value { IfOk result (λ v. AreLeft (walk_at top region.now pairs) v.items) }
+    ensures cause { IfErr result (IsTreeRefusal (fan_of region.now top) pairs) }
 {
-    let mut walker = Walker::at(alloc, top, pairs);
+    let mut walker = Walker::at(alloc, top, region, pairs)?;
     let mut all = Vec::new(alloc);
     while let Some(basis) = walker.advance()? {
         all.push(basis)?;
@@ -27,16 +31,21 @@ fn listed_below(alloc: Global, top: MarkedSet, pairs: u64) -> Result<Vec<MarkedS
 }
 
 /// What `list_bases` answers.
-fn listed(alloc: Global, set: MarkedSet, pairs: u64) -> Result<Vec<MarkedSet>, TreeError>
-    requires { IsNodeIn (ideal_of set) set }
-    ensures value { IfOk result (λ v. IsListOfBases (all_positive set.variables) set v.items) }
-    ensures cause { IfErr result (IsTreeRefusal (ideal_of set) pairs) }
+fn listed(
+    alloc: Global,
+    set: MarkedSet,
+    region: &Region,
+    pairs: u64,
+) -> Result<Vec<MarkedSet>, TreeError>
+    requires { IsNode region.now set }
+    ensures value { IfOk result (λ v. IsListOfBases region.now set v.items) }
+    ensures cause { IfErr result (IsTreeRefusal (fan_of region.now set) pairs) }
 {
-    let root = to_root(alloc, set, pairs)?;
-    listed_below(alloc, root, pairs)
+    let root = to_root(alloc, set, region, pairs)?;
+    listed_below(alloc, root, region, pairs)
 }
 
-/// All marked reduced Gröbner bases of the ideal of a basis, each once, in the order of their paths.
+/// The marked reduced Gröbner bases, in a region, of the ideal of a basis, each once, in the order of their paths.
 ///
 /// The set is as for `parent`. Each flip may settle `pairs` pairs.
 ///
@@ -44,11 +53,16 @@ fn listed(alloc: Global, set: MarkedSet, pairs: u64) -> Result<Vec<MarkedSet>, T
 ///
 /// As for `parent`, at bases of this ideal; `Memory` also where the list has no room.
 #[tactic(auto, using(crate::proofs::RefusalLaws::only_memory))]
-pub fn list_bases(alloc: Global, set: MarkedSet, pairs: u64) -> Result<Vec<MarkedSet>, TreeError>
-    requires { IsNodeIn (ideal_of set) set }
-    ensures value { IfOk result (λ v. IsListOfBases (all_positive set.variables) set v.items) }
-    ensures cause { IfErr result (IsTreeRefusal (ideal_of set) pairs) }
-    ensures complete { IsTreeWithinLimits (ideal_of set) pairs → IfErr result (λ e. e ≡ Memory) }
+pub fn list_bases(
+    alloc: Global,
+    set: MarkedSet,
+    region: &Region,
+    pairs: u64,
+) -> Result<Vec<MarkedSet>, TreeError>
+    requires { IsNode region.now set }
+    ensures value { IfOk result (λ v. IsListOfBases region.now set v.items) }
+    ensures cause { IfErr result (IsTreeRefusal (fan_of region.now set) pairs) }
+    ensures complete { IsTreeWithinLimits (fan_of region.now set) pairs → IfErr result (λ e. e ≡ Memory) }
 {
-    listed(alloc, set, pairs)
+    listed(alloc, set, region, pairs)
 }

@@ -1,9 +1,9 @@
 //! A node of the tree: a basis with its cone.
-ghost use Rattle.std.specs.Prelude.{◌≡◌, IfOk};
-ghost use Rattle.gf_facets.specs.Regions.{all_positive};
+ghost use Rattle.std.specs.Prelude.{◌≡◌, length, IfOk};
 ghost use Rattle.gf_cone.specs.Cones.{IsConeOf};
 
-use gf_cone::{Cone, KnownCone, interior_near};
+use crate::BasisTree;
+use gf_cone::{Cone, KnownCone, Region, interior_near};
 use gf_poly::MarkedSet;
 use gf_vec::IntVec;
 use std::alloc::{AllocError, Global};
@@ -20,22 +20,22 @@ pub struct Node {
 impl Model for Node {
     ghost use Rattle.std.specs.Prelude.{IfSome};
     ghost use Rattle.gf_poly.specs.Marking.{MarkedPolynomials};
-    ghost use Rattle.gf_facets.specs.Regions.{all_positive};
-    ghost use Rattle.gf_cone.specs.Cones.{IsConeOf};
+    ghost use Rattle.gf_tree.specs.Parents.{IsSomeCone};
 
     ghost Value = { MarkedPolynomials };
 
     ghost view = { λ n. n.basis };
 
-    ghost invariant = { λ n. IfSome n.cone (IsConeOf n.basis.variables (all_positive n.basis.variables) n.basis.items) };
+    ghost invariant = { λ n. IfSome n.cone (IsSomeCone n.basis) };
 }
 
 impl Node {
     /// A basis with its cone, or without it where there is no memory for it.
-    pub fn of(alloc: Global, basis: MarkedSet) -> Node
+    pub fn of(alloc: Global, basis: MarkedSet, region: &Region) -> Node
+        requires { length region.now.root ≡ basis.variables }
         ensures { result ≡ basis }
     {
-        match cone_of(alloc, &basis) {
+        match cone_of(alloc, &basis, region) {
             Ok(cone) => Node {
                 basis,
                 cone: Some(cone),
@@ -60,26 +60,32 @@ impl Node {
 }
 
 /// The cone of a basis, of which nothing is known yet.
-pub(crate) fn cone_of(alloc: Global, set: &MarkedSet) -> Result<KnownCone, AllocError>
-    ensures { IfOk result (IsConeOf set.now.variables (all_positive set.now.variables) set.now.items) }
+pub(crate) fn cone_of(
+    alloc: Global,
+    set: &MarkedSet,
+    region: &Region,
+) -> Result<KnownCone, AllocError>
+    requires { length region.now.root ≡ set.now.variables }
+    ensures { IfOk result (IsConeOf set.now.variables region.now set.now.items) }
 {
-    let cone = Cone::of(alloc, set)?;
+    let cone = Cone::within(alloc, set, region)?;
     KnownCone::new(alloc, cone, None)
 }
 
 /// The cone of a basis, with a vector of its inside. That is looked for near a vector inside the facet that the cone shares with a
 /// neighbour, whose normal there is `normal`.
 pub(crate) fn cone_near(
-    alloc: Global,
+    tree: &BasisTree,
     set: &MarkedSet,
     witness: &IntVec,
     normal: &IntVec,
 ) -> Result<KnownCone, AllocError>
-    ensures { IfOk result (IsConeOf set.now.variables (all_positive set.now.variables) set.now.items) }
+    requires { length tree.now.region.root ≡ set.now.variables }
+    ensures { IfOk result (IsConeOf set.now.variables tree.now.region set.now.items) }
 {
-    let cone = Cone::of(alloc, set)?;
-    let inner = interior_near(alloc, &cone, witness, normal);
-    KnownCone::new(alloc, cone, inner)
+    let cone = Cone::within(tree.alloc, set, &tree.region)?;
+    let inner = interior_near(tree.alloc, &cone, witness, normal);
+    KnownCone::new(tree.alloc, cone, inner)
 }
 
 /// A normal, and a vector inside its facet.

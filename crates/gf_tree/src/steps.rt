@@ -1,8 +1,7 @@
 //! The steps of the search: the way up from a basis, and what is across a facet.
-ghost use Rattle.std.specs.Prelude.{◌≡◌, IfOk, IfErr, Some};
+ghost use Rattle.std.specs.Prelude.{◌≡◌, IfOk, IfErr, IfSome, Some};
 ghost use Rattle.gf_facets.specs.Facets.{IsFlippable};
 ghost use Rattle.gf_facets.specs.Normals.{AreNormals};
-ghost use Rattle.gf_facets.specs.Regions.{all_positive};
 ghost use Rattle.gf_cone.specs.Cones.{IsConeOf};
 ghost use Rattle.gf_reverse.specs.Upward.{IsNode, fan_of};
 ghost use Rattle.gf_reverse.specs.Answers.{IsAcross, IsWayAnswer};
@@ -32,17 +31,33 @@ fn place_of(list: &[IntVec], v: &IntVec) -> Option<usize>
     None
 }
 
+/// The cone of a basis that a node has, where it was made in the region of the tree.
+fn cone_in<'a>(tree: &BasisTree, node: &'a Node) -> Option<&'a KnownCone>
+    ensures { IfSome result (λ c. IsConeOf node.now.variables tree.now.region node.now.items c.now) }
+{
+    match &node.cone {
+        Some(cone) => {
+            if cone.is_within(&tree.region) {
+                Some(cone)
+            } else {
+                None
+            }
+        }
+        None => None,
+    }
+}
+
 /// The neighbour across a flippable normal.
 pub(crate) fn crossed(
     tree: &BasisTree,
     set: &MarkedSet,
     normal: &IntVec,
 ) -> Result<MarkedSet, TreeError>
-    requires node { IsNode (all_positive tree.now.variables) set.now }
-    requires flippable { IsFlippable set.now.variables (all_positive tree.now.variables) set.now.items normal.now }
-    ensures ok { IfOk result (λ w. IsAcross (all_positive tree.now.variables) set.now normal.now (Some w)) }
-    ensures cause { IfErr result (IsTreeRefusal (fan_of (all_positive tree.now.variables) set.now) tree.now.pairs) }
-    ensures at { IfErr result (IsRefusedAtBasis (all_positive tree.now.variables) tree.now.pairs set.now) }
+    requires node { IsNode tree.now.region set.now }
+    requires flippable { IsFlippable set.now.variables tree.now.region set.now.items normal.now }
+    ensures ok { IfOk result (λ w. IsAcross tree.now.region set.now normal.now (Some w)) }
+    ensures cause { IfErr result (IsTreeRefusal (fan_of tree.now.region set.now) tree.now.pairs) }
+    ensures at { IfErr result (IsRefusedAtBasis tree.now.region tree.now.pairs set.now) }
 {
     let across = flip(tree.alloc, set, normal, tree.pairs)?;
     Ok(across)
@@ -50,13 +65,13 @@ pub(crate) fn crossed(
 
 /// The neighbour across a flippable normal, with its cone.
 pub(crate) fn arrived(tree: &BasisTree, node: &Node, facet: &Facet) -> Result<Node, TreeError>
-    requires node { IsNode (all_positive tree.now.variables) node.now }
-    requires flippable { IsFlippable node.now.variables (all_positive tree.now.variables) node.now.items facet.now }
-    ensures ok { IfOk result (λ w. IsAcross (all_positive tree.now.variables) node.now facet.now (Some w)) }
-    ensures cause { IfErr result (IsRefusedAtBasis (all_positive tree.now.variables) tree.now.pairs node.now) }
+    requires node { IsNode tree.now.region node.now }
+    requires flippable { IsFlippable node.now.variables tree.now.region node.now.items facet.now }
+    ensures ok { IfOk result (λ w. IsAcross tree.now.region node.now facet.now (Some w)) }
+    ensures cause { IfErr result (IsRefusedAtBasis tree.now.region tree.now.pairs node.now) }
 {
     let basis = crossed(tree, &node.basis, &facet.normal)?;
-    let cone = cone_near(tree.alloc, &basis, &facet.witness, &facet.normal)?;
+    let cone = cone_near(tree, &basis, &facet.witness, &facet.normal)?;
     Ok(Node {
         basis,
         cone: Some(cone),
@@ -70,17 +85,17 @@ fn below_in(
     cone: &KnownCone,
     normal: &IntVec,
 ) -> Result<Option<Neighbour>, TreeError>
-    requires node { IsNode (all_positive tree.now.variables) set.now }
-    requires cone { IsConeOf set.now.variables (all_positive set.now.variables) set.now.items cone.now }
-    ensures ok { IfOk result (IsBelowTold (all_positive tree.now.variables) set.now normal.now) }
-    ensures cause { IfErr result (IsRefusedAtBasis (all_positive tree.now.variables) tree.now.pairs set.now) }
+    requires node { IsNode tree.now.region set.now }
+    requires cone { IsConeOf set.now.variables tree.now.region set.now.items cone.now }
+    ensures ok { IfOk result (IsBelowTold tree.now.region set.now normal.now) }
+    ensures cause { IfErr result (IsRefusedAtBasis tree.now.region tree.now.pairs set.now) }
 {
     let list = cone.normals();
     let place = match place_of(list, normal) {
         Some(place) => place,
         None => return Ok(None),
     };
-    match list[place].root_sign() {
+    match tree.region.sign(&list[place]) {
         Ordering::Less => return Ok(None),
         _ => {}
     }
@@ -100,14 +115,14 @@ pub(crate) fn below(
     node: &Node,
     normal: &IntVec,
 ) -> Result<Option<Neighbour>, TreeError>
-    requires { IsNode (all_positive tree.now.variables) node.now }
-    ensures ok { IfOk result (IsBelowTold (all_positive tree.now.variables) node.now normal.now) }
-    ensures cause { IfErr result (IsRefusedAtBasis (all_positive tree.now.variables) tree.now.pairs node.now) }
+    requires { IsNode tree.now.region node.now }
+    ensures ok { IfOk result (IsBelowTold tree.now.region node.now normal.now) }
+    ensures cause { IfErr result (IsRefusedAtBasis tree.now.region tree.now.pairs node.now) }
 {
-    match &node.cone {
+    match cone_in(tree, node) {
         Some(cone) => below_in(tree, &node.basis, cone, normal),
         None => {
-            let cone = cone_of(tree.alloc, &node.basis)?;
+            let cone = cone_of(tree.alloc, &node.basis, &tree.region)?;
             below_in(tree, &node.basis, &cone, normal)
         }
     }
@@ -119,13 +134,13 @@ pub(crate) fn way_in(
     set: &MarkedSet,
     cone: &KnownCone,
 ) -> Result<Option<Facet>, TreeError>
-    requires node { IsNode (all_positive tree.now.variables) set.now }
-    requires cone { IsConeOf set.now.variables (all_positive set.now.variables) set.now.items cone.now }
-    ensures ok { IfOk result (IsWayAnswer (all_positive tree.now.variables) set.now) }
-    ensures cause { IfErr result (IsTreeRefusal (fan_of (all_positive tree.now.variables) set.now) tree.now.pairs) }
-    ensures at { IfErr result (IsRefusedAtBasis (all_positive tree.now.variables) tree.now.pairs set.now) }
+    requires node { IsNode tree.now.region set.now }
+    requires cone { IsConeOf set.now.variables tree.now.region set.now.items cone.now }
+    ensures ok { IfOk result (IsWayAnswer tree.now.region set.now) }
+    ensures cause { IfErr result (IsTreeRefusal (fan_of tree.now.region set.now) tree.now.pairs) }
+    ensures at { IfErr result (IsRefusedAtBasis tree.now.region tree.now.pairs set.now) }
 {
-    let way = match cone.way()? {
+    let way = match cone.way(&tree.region)? {
         Some(way) => way,
         None => return Ok(None),
     };
@@ -138,14 +153,14 @@ pub(crate) fn way_in(
 
 /// The way up.
 pub(crate) fn way_up(tree: &BasisTree, node: &Node) -> Result<Option<Facet>, TreeError>
-    requires { IsNode (all_positive tree.now.variables) node.now }
-    ensures ok { IfOk result (IsWayAnswer (all_positive tree.now.variables) node.now) }
-    ensures cause { IfErr result (IsRefusedAtBasis (all_positive tree.now.variables) tree.now.pairs node.now) }
+    requires { IsNode tree.now.region node.now }
+    ensures ok { IfOk result (IsWayAnswer tree.now.region node.now) }
+    ensures cause { IfErr result (IsRefusedAtBasis tree.now.region tree.now.pairs node.now) }
 {
-    match &node.cone {
+    match cone_in(tree, node) {
         Some(cone) => way_in(tree, &node.basis, cone),
         None => {
-            let cone = cone_of(tree.alloc, &node.basis)?;
+            let cone = cone_of(tree.alloc, &node.basis, &tree.region)?;
             way_in(tree, &node.basis, &cone)
         }
     }
@@ -159,18 +174,18 @@ pub(crate) fn led_back(
     normal: &IntVec,
     back: &IntVec,
 ) -> Result<Option<Node>, TreeError>
-    requires { IsNode (all_positive tree.now.variables) neighbour }
-    ensures ok { IfOk result (IsLedBack (all_positive tree.now.variables) neighbour back.now) }
-    ensures cause { IfErr result (IsRefusedAtBasis (all_positive tree.now.variables) tree.now.pairs neighbour) }
+    requires { IsNode tree.now.region neighbour }
+    ensures ok { IfOk result (IsLedBack tree.now.region neighbour back.now) }
+    ensures cause { IfErr result (IsRefusedAtBasis tree.now.region tree.now.pairs neighbour) }
 {
     let Neighbour { basis, witness } = neighbour;
-    let mut cone = cone_near(tree.alloc, &basis, &witness, normal)?;
+    let mut cone = cone_near(tree, &basis, &witness, normal)?;
     let place = match place_of(cone.normals(), back) {
         Some(place) => place,
         None => return Ok(None),
     };
     cone.learn(place, witness);
-    match cone.is_way_up(place)? {
+    match cone.is_way_up(place, &tree.region)? {
         true => Ok(Some(Node {
             basis,
             cone: Some(cone),
@@ -193,12 +208,13 @@ fn copied(alloc: Global, list: &[IntVec]) -> Result<Vec<IntVec>, AllocError>
 
 /// The normals of a basis, each once, ascending.
 pub(crate) fn normals(tree: &BasisTree, node: &Node) -> Result<Vec<IntVec>, AllocError>
+    requires { IsNode tree.now.region node.now }
     ensures { IfOk result (λ ns. AreNormals node.now.items ns.items) }
 {
-    match &node.cone {
+    match cone_in(tree, node) {
         Some(cone) => copied(tree.alloc, cone.normals()),
         None => {
-            let cone = cone_of(tree.alloc, &node.basis)?;
+            let cone = cone_of(tree.alloc, &node.basis, &tree.region)?;
             copied(tree.alloc, cone.normals())
         }
     }

@@ -1,7 +1,6 @@
 //! The tree of the bases of an ideal.
 ghost use Rattle.std.specs.Prelude.{◌≡◌};
 ghost use Rattle.gf_facets.specs.LexPositive.{IsBefore};
-ghost use Rattle.gf_facets.specs.Regions.{all_positive};
 ghost use Rattle.gf_reverse.specs.Upward.{IsNode, IsParent};
 ghost use Rattle.gf_tree.specs.FanTree.{before_strict, rank, count, upward_tree, upward_nodes, upward_falls, upward_level, upward_finite};
 ghost use Rattle.gf_tree.specs.Refusals.{IsCallRefusal};
@@ -9,18 +8,19 @@ ghost use Rattle.gf_tree.specs.declared.error.TreeError.TheVariants.{Memory};
 
 use crate::steps::{arrived, below, led_back, normals, way_up};
 use crate::{Node, TreeError};
+use gf_cone::Region;
 use gf_vec::IntVec;
 use gf_walk::{FiniteTree, Tree};
 use std::alloc::Global;
 use std::cmp::Ordering;
 
-/// The marked reduced Gröbner bases in so many variables, each below the neighbour across its way up. A label is the normal
+/// The marked reduced Gröbner bases in a region, each below the neighbour across its way up. A label is the normal
 /// that is crossed from above.
 #[derive(Drop)]
 pub struct BasisTree {
     pub alloc: Global,
-    /// The number of variables.
-    pub variables: u32,
+    /// The region of weights.
+    pub region: Region,
     /// How many pairs each flip may settle.
     pub pairs: u64,
 }
@@ -34,13 +34,13 @@ impl Tree for BasisTree {
 
     ghost before = { IsBefore };
 
-    ghost is_node = { λ t v. IsNode (all_positive t.variables) v };
+    ghost is_node = { λ t v. IsNode t.region v };
 
-    ghost up = { λ t. IsParent (all_positive t.variables) };
+    ghost up = { λ t. IsParent t.region };
 
     ghost is_memory = { λ e. e ≡ Memory };
 
-    ghost refuses = { λ t v e. IsCallRefusal (all_positive t.variables) t.pairs v e };
+    ghost refuses = { λ t v e. IsCallRefusal t.region t.pairs v e };
 
     ghost from_memory = { λ a e h. h };
 
@@ -48,9 +48,9 @@ impl Tree for BasisTree {
 
     ghost strict = { before_strict };
 
-    ghost tree = { λ t. upward_tree (all_positive t.variables) };
+    ghost tree = { λ t. upward_tree t.region };
 
-    ghost nodes = { λ t. upward_nodes (all_positive t.variables) };
+    ghost nodes = { λ t. upward_nodes t.region };
 
     fn labels(&self, node: &Node) -> Result<Vec<IntVec>, TreeError> {
         let labels = normals(self, node)?;
@@ -91,20 +91,20 @@ impl Tree for BasisTree {
     fn again(&self) -> Result<Self, TreeError> {
         Ok(BasisTree {
             alloc: self.alloc,
-            variables: self.variables,
+            region: self.region.copy()?,
             pairs: self.pairs,
         })
     }
 }
 
 impl FiniteTree for BasisTree {
-    ghost rank = { λ t. rank (all_positive t.variables) };
+    ghost rank = { λ t. rank t.region };
 
-    ghost count = { λ t. count (all_positive t.variables) };
+    ghost count = { λ t. count t.region };
 
-    ghost falls = { λ t. upward_falls (all_positive t.variables) };
+    ghost falls = { λ t. upward_falls t.region };
 
-    ghost level = { λ t. upward_level (all_positive t.variables) };
+    ghost level = { λ t. upward_level t.region };
 
-    ghost finite = { λ t. upward_finite (all_positive t.variables) };
+    ghost finite = { λ t. upward_finite t.region };
 }

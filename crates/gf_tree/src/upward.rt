@@ -1,8 +1,7 @@
 //! The way up from a basis, and the root above it.
 ghost use Rattle.std.specs.Prelude.{◌≡◌, ◌↔◌, IfOk, IfErr};
-ghost use Rattle.gf_facets.specs.Regions.{all_positive};
-ghost use Rattle.gf_reverse.specs.Upward.{IsNodeIn};
-ghost use Rattle.gf_tree.specs.Parents.{ideal_of, IsParentTold, IsRootFor, IsDegreeBasis};
+ghost use Rattle.gf_reverse.specs.Upward.{IsNode, fan_of};
+ghost use Rattle.gf_tree.specs.Parents.{IsParentTold, IsRootFor, IsRootBasis};
 ghost use Rattle.gf_tree.specs.Refusals.{IsTreeRefusal, IsWayRefused, IsTreeWithinLimits};
 ghost use Rattle.gf_tree.specs.declared.error.TreeError.TheVariants.{Memory};
 ghost use Rattle.gf_tree.specs.declared.above.Parent.TheVariants.{Root};
@@ -10,17 +9,17 @@ ghost use Rattle.gf_tree.specs.declared.above.Parent.TheVariants.{Root};
 use crate::node::cone_of;
 use crate::steps::{arrived, crossed, way_in, way_up};
 use crate::{BasisTree, Node, Parent, TreeError};
+use gf_cone::Region;
 use gf_poly::MarkedSet;
 use std::alloc::Global;
 
 /// What is above a basis.
 fn above(tree: &BasisTree, set: &MarkedSet) -> Result<Parent, TreeError>
-    requires same { tree.now.variables ≡ set.now.variables }
-    requires basis { IsNodeIn (ideal_of set.now) set.now }
-    ensures value { IfOk result (IsParentTold set.now) }
-    ensures cause { IfErr result (IsTreeRefusal (ideal_of set.now) tree.now.pairs) }
+    requires { IsNode tree.now.region set.now }
+    ensures value { IfOk result (IsParentTold tree.now.region set.now) }
+    ensures cause { IfErr result (IsTreeRefusal (fan_of tree.now.region set.now) tree.now.pairs) }
 {
-    let cone = cone_of(tree.alloc, set)?;
+    let cone = cone_of(tree.alloc, set, &tree.region)?;
     let facet = match way_in(tree, set, &cone)? {
         Some(facet) => facet,
         None => return Ok(Parent::Root),
@@ -34,46 +33,50 @@ fn above(tree: &BasisTree, set: &MarkedSet) -> Result<Parent, TreeError>
 
 /// The root above a basis.
 fn ascended(tree: &BasisTree, set: MarkedSet) -> Result<MarkedSet, TreeError>
-    requires same { tree.now.variables ≡ set.variables }
-    requires basis { IsNodeIn (ideal_of set) set }
-    ensures value { IfOk result (IsRootFor set) }
-    ensures way { IfErr result (IsWayRefused (all_positive set.variables) tree.now.pairs set) }
+    requires { IsNode tree.now.region set }
+    ensures value { IfOk result (IsRootFor tree.now.region set) }
+    ensures way { IfErr result (IsWayRefused tree.now.region tree.now.pairs set) }
 {
-    let mut node = Node::of(tree.alloc, set);
+    let mut node = Node::of(tree.alloc, set, &tree.region);
     'up: while let Some(facet) = way_up(tree, &node)? {
         node = arrived(tree, &node, &facet)?;
     }
     Ok(node.into_basis())
 }
 
-/// What is above a basis in the tree of all marked reduced Gröbner bases of its ideal.
+/// What is above a basis in the tree of the marked reduced Gröbner bases of its ideal in a region.
 ///
-/// The set is the marked reduced basis, for some positive weight, of the ideal that it generates. The way up crosses the least
-/// flippable normal that is negative at the root (1, .., 1): the one whose first entry that differs is smallest. There is none
-/// exactly at the basis by total degree and then lex, the root (Fukuda, Jensen, Thomas, *Computing Gröbner fans*, 3). The
-/// flip may settle `pairs` pairs.
+/// The set is the marked reduced basis, for some weight of the region, of the ideal that it generates. The way up crosses the least
+/// normal that a flip may cross inside the region and that is negative at its root: the one whose first entry that differs is
+/// smallest. There is none exactly at the basis by the root of the region and then lex, the root of the tree (Fukuda, Jensen,
+/// Thomas, *Computing Gröbner fans*, 3). The flip may settle `pairs` pairs.
 ///
 /// # Errors
 ///
 /// `Overflow`, `Exponent` and `PairBudget` as `flip` of `gf_flip` tells them of a flip across a flippable normal; `Cone` names a
 /// step of the system of a normal; `Memory` may come at any time. Each at a basis of this ideal.
 #[tactic(auto, using(crate::proofs::RefusalLaws::only_memory, crate::proofs::ParentLaws::roots_told))]
-pub fn parent(alloc: Global, set: &MarkedSet, pairs: u64) -> Result<Parent, TreeError>
-    requires { IsNodeIn (ideal_of set.now) set.now }
-    ensures value { IfOk result (IsParentTold set.now) }
-    ensures root { IfOk result (λ p. p ≡ Root ↔ IsDegreeBasis set.now) }
-    ensures cause { IfErr result (IsTreeRefusal (ideal_of set.now) pairs) }
-    ensures complete { IsTreeWithinLimits (ideal_of set.now) pairs → IfErr result (λ e. e ≡ Memory) }
+pub fn parent(
+    alloc: Global,
+    set: &MarkedSet,
+    region: &Region,
+    pairs: u64,
+) -> Result<Parent, TreeError>
+    requires { IsNode region.now set.now }
+    ensures value { IfOk result (IsParentTold region.now set.now) }
+    ensures root { IfOk result (λ p. p ≡ Root ↔ IsRootBasis region.now set.now) }
+    ensures cause { IfErr result (IsTreeRefusal (fan_of region.now set.now) pairs) }
+    ensures complete { IsTreeWithinLimits (fan_of region.now set.now) pairs → IfErr result (λ e. e ≡ Memory) }
 {
     let tree = BasisTree {
         alloc,
-        variables: set.variables(),
+        region: region.copy()?,
         pairs,
     };
     above(&tree, set)
 }
 
-/// The root above a basis: the basis of its ideal by total degree and then lex.
+/// The root above a basis: the basis of its ideal by the root of the region and then lex.
 ///
 /// The set is as for `parent`. Each step of the way up is a flip, which may settle `pairs` pairs.
 ///
@@ -81,16 +84,21 @@ pub fn parent(alloc: Global, set: &MarkedSet, pairs: u64) -> Result<Parent, Tree
 ///
 /// As for `parent`, of a call at the set or at a basis above it alone.
 #[tactic(auto, using(crate::proofs::RefusalLaws::only_memory, crate::proofs::RefusalLaws::way_only))]
-pub fn to_root(alloc: Global, set: MarkedSet, pairs: u64) -> Result<MarkedSet, TreeError>
-    requires { IsNodeIn (ideal_of set) set }
-    ensures value { IfOk result (IsRootFor set) }
-    ensures way { IfErr result (IsWayRefused (all_positive set.variables) pairs set) }
-    ensures cause { IfErr result (IsTreeRefusal (ideal_of set) pairs) }
-    ensures complete { IsTreeWithinLimits (ideal_of set) pairs → IfErr result (λ e. e ≡ Memory) }
+pub fn to_root(
+    alloc: Global,
+    set: MarkedSet,
+    region: &Region,
+    pairs: u64,
+) -> Result<MarkedSet, TreeError>
+    requires { IsNode region.now set }
+    ensures value { IfOk result (IsRootFor region.now set) }
+    ensures way { IfErr result (IsWayRefused region.now pairs set) }
+    ensures cause { IfErr result (IsTreeRefusal (fan_of region.now set) pairs) }
+    ensures complete { IsTreeWithinLimits (fan_of region.now set) pairs → IfErr result (λ e. e ≡ Memory) }
 {
     let tree = BasisTree {
         alloc,
-        variables: set.variables(),
+        region: region.copy()?,
         pairs,
     };
     ascended(&tree, set)

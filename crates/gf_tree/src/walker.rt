@@ -1,17 +1,17 @@
 //! A walker, which lists the bases of an ideal with one basis at hand.
 ghost use Rattle.std.specs.Prelude.{◌≡◌, IfOk, IfErr, OnErr};
-ghost use Rattle.gf_reverse.specs.Upward.{IsNodeIn};
-ghost use Rattle.gf_tree.specs.Parents.{ideal_of};
+ghost use Rattle.gf_reverse.specs.Upward.{IsNode, fan_of};
 ghost use Rattle.gf_tree.specs.Refusals.{IsTreeRefusal, IsTreeWithinLimits};
 ghost use Rattle.gf_tree.specs.Steps.{IsAdvance, IsResumed};
 ghost use Rattle.gf_tree.specs.Walks.{ideal_at, walk_at, HasListLeft};
 ghost use Rattle.gf_tree.specs.declared.error.TreeError.TheVariants.{Memory};
 
 use crate::{BasisTree, Node, TreeError};
+use gf_cone::Region;
 use gf_poly::MarkedSet;
 use gf_vec::IntVec;
 use gf_walk::Depth;
-use std::alloc::Global;
+use std::alloc::{AllocError, Global};
 use std::marker::Model;
 
 /// How far a walker is at a basis: before it; after it and the subtrees under the normals up to one; after it; after its whole subtree.
@@ -33,28 +33,33 @@ impl Model for Walker {
 
     ghost Value = { Walk };
 
-    ghost view = { λ w. record { here = w.inner.here; mark = w.inner.mark; depth = w.inner.depth; pairs = w.inner.tree.pairs; given = w.given; variables = w.inner.tree.variables } };
+    ghost view = { λ w. record { here = w.inner.here; mark = w.inner.mark; depth = w.inner.depth; pairs = w.inner.tree.pairs; given = w.given; region = w.inner.tree.region } };
 
-    ghost invariant = { λ w. HasListLeft (record { here = w.inner.here; mark = w.inner.mark; depth = w.inner.depth; pairs = w.inner.tree.pairs; given = w.given; variables = w.inner.tree.variables }) };
+    ghost invariant = { λ w. HasListLeft (record { here = w.inner.here; mark = w.inner.mark; depth = w.inner.depth; pairs = w.inner.tree.pairs; given = w.given; region = w.inner.tree.region }) };
 }
 
 impl Walker {
     /// A walker before a basis, which lists the basis and what is below it. The set is as for `parent`; each flip may settle
     /// `pairs` pairs.
-    pub fn at(alloc: Global, basis: MarkedSet, pairs: u64) -> Walker
-        requires { IsNodeIn (ideal_of basis) basis }
-        ensures { result ≡ walk_at basis pairs }
+    ///
+    /// # Errors
+    ///
+    /// Want of memory alone.
+    pub fn at(
+        alloc: Global,
+        basis: MarkedSet,
+        region: &Region,
+        pairs: u64,
+    ) -> Result<Walker, AllocError>
+        requires { IsNode region.now basis }
+        ensures { IfOk result (λ w. w ≡ walk_at basis region.now pairs) }
     {
         let tree = BasisTree {
             alloc,
-            variables: basis.variables(),
+            region: region.copy()?,
             pairs,
         };
-        let node = Node::of(alloc, basis);
-        Walker {
-            inner: gf_walk::Walker::at(alloc, tree, node),
-            given: Depth::zero(alloc),
-        }
+        Ok(started(tree, basis))
     }
 
     /// The walker's own basis and mark.
@@ -76,7 +81,7 @@ impl Walker {
         ensures mark { result.mark ≡ self.mark }
         ensures depth { result.depth ≡ self.depth }
         ensures pairs { result.tree.pairs ≡ self.pairs }
-        ensures variables { result.tree.variables ≡ self.variables }
+        ensures region { result.tree.region ≡ self.region }
         ensures list { HasListLeft self }
     {
         self.inner
@@ -123,30 +128,47 @@ impl Walker {
     ///
     /// As for `parent`, at bases of this ideal.
     #[tactic(auto, using(crate::proofs::RefusalLaws::only_memory))]
-    pub fn after(alloc: Global, basis: MarkedSet, pairs: u64) -> Result<Walker, TreeError>
-        requires { IsNodeIn (ideal_of basis) basis }
-        ensures ok { IfOk result (IsResumed basis pairs) }
-        ensures cause { IfErr result (IsTreeRefusal (ideal_of basis) pairs) }
-        ensures complete { IsTreeWithinLimits (ideal_of basis) pairs → IfErr result (λ e. e ≡ Memory) }
+    pub fn after(
+        alloc: Global,
+        basis: MarkedSet,
+        region: &Region,
+        pairs: u64,
+    ) -> Result<Walker, TreeError>
+        requires { IsNode region.now basis }
+        ensures ok { IfOk result (IsResumed region.now basis pairs) }
+        ensures cause { IfErr result (IsTreeRefusal (fan_of region.now basis) pairs) }
+        ensures complete { IsTreeWithinLimits (fan_of region.now basis) pairs → IfErr result (λ e. e ≡ Memory) }
     {
         let tree = BasisTree {
             alloc,
-            variables: basis.variables(),
+            region: region.copy()?,
             pairs,
         };
         resume(tree, basis)
     }
 }
 
-/// What `after` answers.
-fn resume(tree: BasisTree, basis: MarkedSet) -> Result<Walker, TreeError>
-    requires same { tree.variables ≡ basis.variables }
-    requires basis { IsNodeIn (ideal_of basis) basis }
-    ensures ok { IfOk result (IsResumed basis tree.pairs) }
-    ensures cause { IfErr result (IsTreeRefusal (ideal_of basis) tree.pairs) }
+/// What `at` answers.
+fn started(tree: BasisTree, basis: MarkedSet) -> Walker
+    requires { IsNode tree.region basis }
+    ensures { result ≡ walk_at basis tree.region tree.pairs }
 {
     let alloc = tree.alloc;
-    let node = Node::of(alloc, basis);
+    let node = Node::of(alloc, basis, &tree.region);
+    Walker {
+        inner: gf_walk::Walker::at(alloc, tree, node),
+        given: Depth::zero(alloc),
+    }
+}
+
+/// What `after` answers.
+fn resume(tree: BasisTree, basis: MarkedSet) -> Result<Walker, TreeError>
+    requires { IsNode tree.region basis }
+    ensures ok { IfOk result (IsResumed tree.region basis tree.pairs) }
+    ensures cause { IfErr result (IsTreeRefusal (fan_of tree.region basis) tree.pairs) }
+{
+    let alloc = tree.alloc;
+    let node = Node::of(alloc, basis, &tree.region);
     let inner = gf_walk::Walker::after(alloc, tree, node)?;
     Ok(Walker {
         inner,

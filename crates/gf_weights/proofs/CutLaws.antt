@@ -1,5 +1,5 @@
--- The cone of a marked list, cut with the non-negative orthant: its rows, and that it has no lineality space.
-use Rattle.std.proofs.Common.{◌≡◌, ℕ, ◌<◌, List, [], ◌∷◌, ◌++◌, length, ℤ, pos, ◌<ℤ◌, arith, refl, ap, ◌∙◌, subst, get_or}
+-- The cone of a marked list, cut with a closed region: its rows, and that it has no lineality space.
+use Rattle.std.proofs.Common.{◌≡◌, ℕ, ◌<◌, List, [], ◌∷◌, ◌++◌, length, ℤ, pos, ◌<ℤ◌, arith, refl, ap, ◌∙◌, subst, sym, append_assoc, get_or}
 use Rattle.std.proofs.lemmas.Int.{ints}
 use Rattle.std.proofs.Math.ListN.{get_or-append}
 use Rattle.std.proofs.lemmas.List.Elements.{Contains-append_right}
@@ -12,10 +12,10 @@ use Rattle.gf_duality.proofs.Determined.{described_of}
 use Rattle.gf_rays.specs.Cones.{RowsAndRays}
 use Rattle.gf_rays.specs.Parts.{zeros_of}
 use Rattle.gf_facets.specs.Systems.{unit, units}
-use Rattle.gf_facets.specs.Regions.{all_positive}
+use Rattle.gf_facets.specs.Regions.{Region}
 use Rattle.gf_facets.proofs.UnitLaws.{dot-unit, unit_there}
 use Rattle.gf_cone.specs.Cones.{ConeRows, all_rows, normal_at, IsConeOf}
-use Rattle.gf_weights.specs.Weights.{AreCutRows, AreCutRays, IsPrintedWeight, IsPrintedWitness}
+use Rattle.gf_weights.specs.Weights.{AreCutRows, AreCutRays, IsWeightIn, IsWitnessIn}
 use Rattle.gf_weights.specs.Cuts.{HasRaysOf, IsCutOf}
 
 -- where the unit vectors are rows, only zero is lineal
@@ -33,27 +33,27 @@ pointed n ns (l ∷ lin) rays r =
     absurd (omega (arith, ints, flat, same, up))
 
 -- the rows of the cone are those of the cut cone
-pub cut_rows : (n : ℕ) (bs : List MarkedPolynomial) (c : ConeRows) → IsConeOf n (all_positive n) bs c → AreCutRows n bs (all_rows c)
-cut_rows n bs c k = record { normals = c.normals; are_normals = k.normals; all = ap (λ (z : List (List ℤ)). c.normals ++ z) k.beside }
+pub cut_rows : (n : ℕ) (j : Region) (bs : List MarkedPolynomial) (c : ConeRows) → IsConeOf n j bs c → AreCutRows n j bs (all_rows c)
+cut_rows n j bs c k = record { normals = c.normals; are_normals = k.normals; all = ap (λ (z : List (List ℤ)). c.normals ++ z) k.beside }
 
 -- and its rays those
-pub cut_rays : (n : ℕ) (bs : List MarkedPolynomial) (c : ConeRows) (r : RowsAndRays) → IsCutOf n bs c r → AreCutRays n bs r.rays
+pub cut_rays : (n : ℕ) (j : Region) (bs : List MarkedPolynomial) (c : ConeRows) (r : RowsAndRays) → IsCutOf n j bs c r → AreCutRays n j bs r.rays
 unfolding cut_rows
-cut_rays n bs c r k =
-    let rows = cut_rows n bs c k.cone in
+cut_rays n j bs c r k =
+    let rows = cut_rows n j bs c k.cone in
     let are : IsRays n (all_rows c) [] r.lineality r.rays = subst (λ (m : ℕ). IsRays m (all_rows c) [] r.lineality r.rays) k.cone.variables k.rays.rays in
-    let none : r.lineality ≡ [] = pointed n c.normals r.lineality r.rays (subst (λ (z : List (List ℤ)). IsRays n z [] r.lineality r.rays) rows.all are) in
+    let none : r.lineality ≡ [] = pointed n (c.normals ++ j.rows) r.lineality r.rays (subst (λ (z : List (List ℤ)). IsRays n z [] r.lineality r.rays) (rows.all ∙ sym (append_assoc c.normals j.rows (units n n))) are) in
     record { rows = all_rows c; are_rows = rows; are_rays = subst (λ (z : List (List ℤ)). IsRays n (all_rows c) [] z r.rays) none are }
 
-pub ambient_is : (n : ℕ) (bs : List MarkedPolynomial) (c : ConeRows) (r : RowsAndRays) → IsCutOf n bs c r → r.ambient ≡ n
-ambient_is n bs c r k = k.rays.ambient ∙ k.cone.variables
+pub ambient_is : (n : ℕ) (j : Region) (bs : List MarkedPolynomial) (c : ConeRows) (r : RowsAndRays) → IsCutOf n j bs c r → r.ambient ≡ n
+ambient_is n j bs c r k = k.rays.ambient ∙ k.cone.variables
 
 -- so the sums of its rays are printed
-pub weight_is : (n : ℕ) (bs : List MarkedPolynomial) (c : ConeRows) (r : RowsAndRays) (v : List ℤ) → IsCutOf n bs c r → v ≡ sum_of r.ambient r.rays → IsPrintedWeight n bs v
-weight_is n bs c r v k e = record { rays = r.rays; cut = cut_rays n bs c r k; sum = e ∙ ap (λ (m : ℕ). sum_of m r.rays) (ambient_is n bs c r k) }
+pub weight_is : (n : ℕ) (j : Region) (bs : List MarkedPolynomial) (c : ConeRows) (r : RowsAndRays) (v : List ℤ) → IsCutOf n j bs c r → v ≡ sum_of r.ambient r.rays → IsWeightIn n j bs v
+weight_is n j bs c r v k e = record { rays = r.rays; cut = cut_rays n j bs c r k; sum = e ∙ ap (λ (m : ℕ). sum_of m r.rays) (ambient_is n j bs c r k) }
 
-pub witness_is : (n : ℕ) (bs : List MarkedPolynomial) (c : ConeRows) (r : RowsAndRays) (a v : List ℤ) → IsCutOf n bs c r → v ≡ sum_of r.ambient (zeros_of a r.rays) → IsPrintedWitness n bs a v
-witness_is n bs c r a v k e = record { rays = r.rays; cut = cut_rays n bs c r k; sum = e ∙ ap (λ (m : ℕ). sum_of m (zeros_of a r.rays)) (ambient_is n bs c r k) }
+pub witness_is : (n : ℕ) (j : Region) (bs : List MarkedPolynomial) (c : ConeRows) (r : RowsAndRays) (a v : List ℤ) → IsCutOf n j bs c r → v ≡ sum_of r.ambient (zeros_of a r.rays) → IsWitnessIn n j bs a v
+witness_is n j bs c r a v k e = record { rays = r.rays; cut = cut_rays n j bs c r k; sum = e ∙ ap (λ (m : ℕ). sum_of m (zeros_of a r.rays)) (ambient_is n j bs c r k) }
 
 -- the row of the cone at the place of a normal is this normal
 pub normal_row : (c : ConeRows) (r : RowsAndRays) (i : ℕ) → HasRaysOf c r → i < length c.normals → get_or r.inequalities i [] ≡ normal_at c i

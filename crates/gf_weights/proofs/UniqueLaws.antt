@@ -9,13 +9,13 @@ use Rattle.gf_rays.specs.Parts.{zeros_of}
 use Rattle.gf_facets.specs.Systems.{units}
 use Rattle.gf_facets.specs.LexPositive.{IsBefore}
 use Rattle.gf_facets.specs.Normals.{Ascends}
-use Rattle.gf_facets.specs.Regions.{all_positive}
+use Rattle.gf_facets.specs.Regions.{Region}
 use Rattle.gf_facets.specs.Facets.{IsFlippable}
 use Rattle.gf_facets.proofs.VectorOrder.{before_strict}
 use Rattle.gf_duality.proofs.ListLaws.{none_in, in_head, in_tail, in_cons}
 use Rattle.gf_weights.specs.declared.certificates.FacetWitness.{FacetWitness}
 use Rattle.gf_weights.specs.declared.certificates.Certificates.{Certificates}
-use Rattle.gf_weights.specs.Weights.{AreCutRows, AreCutRays, IsPrintedWeight, IsPrintedWitness, AreWitnessed, AreBasisCertificates, normals_of}
+use Rattle.gf_weights.specs.Weights.{AreCutRows, AreCutRays, IsWeightIn, IsWitnessIn, AreWitnessedIn, AreCertificatesIn, normals_of}
 
 -- ascending lists with the same members are one
 pub same_ascending : (xs ys : List (List ℤ)) → Ascends xs → Ascends ys → ((x : List ℤ) → Contains xs x → Contains ys x) → ((x : List ℤ) → Contains ys x → Contains xs x) → xs ≡ ys
@@ -35,34 +35,34 @@ same_ascending (x ∷ xs) (y ∷ ys) p q f g =
     (λ z c. elim (in_cons x xs z (g z (in_tail y ys z c))) [ inr d ↦ d | inl i ↦ absurd (before_strict.irreflexive y (subst (IsBefore y) (i ∙ e) (q.0 z c))) ]) in
     ap₂ (λ (u : List ℤ) (us : List (List ℤ)). u ∷ us) e rest
 
-one_rows : (n : ℕ) (bs : List MarkedPolynomial) (rows others : List (List ℤ)) → AreCutRows n bs rows → AreCutRows n bs others → rows ≡ others
-one_rows n bs rows others k l =
+one_rows : (n : ℕ) (j : Region) (bs : List MarkedPolynomial) (rows others : List (List ℤ)) → AreCutRows n j bs rows → AreCutRows n j bs others → rows ≡ others
+one_rows n j bs rows others k l =
     let e : k.normals ≡ l.normals = same_ascending k.normals l.normals k.are_normals.rises l.are_normals.rises (λ x c. l.are_normals.all x (k.are_normals.only x c)) (λ x c. k.are_normals.all x (l.are_normals.only x c)) in
-    k.all ∙ ap (λ (z : List (List ℤ)). z ++ units n n) e ∙ sym l.all
+    k.all ∙ ap (λ (z : List (List ℤ)). z ++ (j.rows ++ units n n)) e ∙ sym l.all
 
-one_rays : (n : ℕ) (bs : List MarkedPolynomial) (rays others : List (List ℤ)) → AreCutRays n bs rays → AreCutRays n bs others → rays ≡ others
-one_rays n bs rays others k l =
-    let e : k.rows ≡ l.rows = one_rows n bs k.rows l.rows k.are_rows l.are_rows in
+one_rays : (n : ℕ) (j : Region) (bs : List MarkedPolynomial) (rays others : List (List ℤ)) → AreCutRays n j bs rays → AreCutRays n j bs others → rays ≡ others
+one_rays n j bs rays others k l =
+    let e : k.rows ≡ l.rows = one_rows n j bs k.rows l.rows k.are_rows l.are_rows in
     (rays_determined n (record { inequalities = l.rows; equations = [] }) (record { inequalities = l.rows; equations = [] }) [] rays [] others (λ v w. (λ i. i, λ i. i)) (subst (λ (z : List (List ℤ)). IsRays n z [] [] rays) e k.are_rays) l.are_rays).1
 
-pub one_weight : (n : ℕ) (bs : List MarkedPolynomial) (v w : List ℤ) → IsPrintedWeight n bs v → IsPrintedWeight n bs w → v ≡ w
-one_weight n bs v w p q = p.sum ∙ ap (sum_of n) (one_rays n bs p.rays q.rays p.cut q.cut) ∙ sym q.sum
+pub one_weight : (n : ℕ) (j : Region) (bs : List MarkedPolynomial) (v w : List ℤ) → IsWeightIn n j bs v → IsWeightIn n j bs w → v ≡ w
+one_weight n j bs v w p q = p.sum ∙ ap (sum_of n) (one_rays n j bs p.rays q.rays p.cut q.cut) ∙ sym q.sum
 
-pub one_witness : (n : ℕ) (bs : List MarkedPolynomial) (a v w : List ℤ) → IsPrintedWitness n bs a v → IsPrintedWitness n bs a w → v ≡ w
-one_witness n bs a v w p q = p.sum ∙ ap (λ (z : List (List ℤ)). sum_of n (zeros_of a z)) (one_rays n bs p.rays q.rays p.cut q.cut) ∙ sym q.sum
+pub one_witness : (n : ℕ) (j : Region) (bs : List MarkedPolynomial) (a v w : List ℤ) → IsWitnessIn n j bs a v → IsWitnessIn n j bs a w → v ≡ w
+one_witness n j bs a v w p q = p.sum ∙ ap (λ (z : List (List ℤ)). sum_of n (zeros_of a z)) (one_rays n j bs p.rays q.rays p.cut q.cut) ∙ sym q.sum
 
 -- ---- lists of facets
 
 -- facets with the same normals have the same witnesses
-same_facets : (n : ℕ) (bs : List MarkedPolynomial) (fs gs : List FacetWitness) → ((f : FacetWitness) → Contains fs f → IsPrintedWitness n bs f.normal f.witness) →
-    ((f : FacetWitness) → Contains gs f → IsPrintedWitness n bs f.normal f.witness) → normals_of fs ≡ normals_of gs → fs ≡ gs
-same_facets n bs [] [] p q e = refl
-same_facets n bs [] (g ∷ gs) p q e = absurd (omega (arith, ap length e))
-same_facets n bs (f ∷ fs) [] p q e = absurd (omega (arith, ap length e))
-same_facets n bs (f ∷ fs) (g ∷ gs) p q e =
+same_facets : (n : ℕ) (j : Region) (bs : List MarkedPolynomial) (fs gs : List FacetWitness) → ((f : FacetWitness) → Contains fs f → IsWitnessIn n j bs f.normal f.witness) →
+    ((f : FacetWitness) → Contains gs f → IsWitnessIn n j bs f.normal f.witness) → normals_of fs ≡ normals_of gs → fs ≡ gs
+same_facets n j bs [] [] p q e = refl
+same_facets n j bs [] (g ∷ gs) p q e = absurd (omega (arith, ap length e))
+same_facets n j bs (f ∷ fs) [] p q e = absurd (omega (arith, ap length e))
+same_facets n j bs (f ∷ fs) (g ∷ gs) p q e =
     let a : f.normal ≡ g.normal = ap (λ (z : List (List ℤ)). get_or z 0 []) e in
-    let w : f.witness ≡ g.witness = one_witness n bs g.normal f.witness g.witness (subst (λ (z : List ℤ). IsPrintedWitness n bs z f.witness) a (p f (in_head f fs))) (q g (in_head g gs)) in
-    let rest : fs ≡ gs = same_facets n bs fs gs (λ h c. p h (in_tail f fs h c)) (λ h c. q h (in_tail g gs h c)) (ap (λ (z : List (List ℤ)). drop 1 z) e) in
+    let w : f.witness ≡ g.witness = one_witness n j bs g.normal f.witness g.witness (subst (λ (z : List ℤ). IsWitnessIn n j bs z f.witness) a (p f (in_head f fs))) (q g (in_head g gs)) in
+    let rest : fs ≡ gs = same_facets n j bs fs gs (λ h c. p h (in_tail f fs h c)) (λ h c. q h (in_tail g gs h c)) (ap (λ (z : List (List ℤ)). drop 1 z) e) in
     ap₂ (λ (x : FacetWitness) (xs : List FacetWitness). x ∷ xs) (ap₂ (λ (x y : List ℤ). record { normal = x; witness = y }) a w) rest
 
 -- each normal is that of a facet
@@ -73,11 +73,11 @@ normal_there (f ∷ fs) a c = elim (in_cons f.normal (normals_of fs) a c) [
   | inr k ↦ let r = normal_there fs a k in (r.0, (in_tail f fs r.0 r.1.0, r.1.1))
 ]
 
-pub one_facets : (n : ℕ) (bs : List MarkedPolynomial) (fs gs : List FacetWitness) → AreWitnessed n bs fs → AreWitnessed n bs gs → fs ≡ gs
-one_facets n bs fs gs p q =
-    same_facets n bs fs gs p.witnessed q.witnessed (same_ascending (normals_of fs) (normals_of gs) p.rises q.rises
-    (λ a c. let r = normal_there fs a c in q.all a (subst (IsFlippable n (all_positive n) bs) r.1.1 (p.flippable r.0 r.1.0)))
-    (λ a c. let r = normal_there gs a c in p.all a (subst (IsFlippable n (all_positive n) bs) r.1.1 (q.flippable r.0 r.1.0))))
+pub one_facets : (n : ℕ) (j : Region) (bs : List MarkedPolynomial) (fs gs : List FacetWitness) → AreWitnessedIn n j bs fs → AreWitnessedIn n j bs gs → fs ≡ gs
+one_facets n j bs fs gs p q =
+    same_facets n j bs fs gs p.witnessed q.witnessed (same_ascending (normals_of fs) (normals_of gs) p.rises q.rises
+    (λ a c. let r = normal_there fs a c in q.all a (subst (IsFlippable n j bs) r.1.1 (p.flippable r.0 r.1.0)))
+    (λ a c. let r = normal_there gs a c in p.all a (subst (IsFlippable n j bs) r.1.1 (q.flippable r.0 r.1.0))))
 
-pub one_certificates : (n : ℕ) (bs : List MarkedPolynomial) (c d : Certificates) → AreBasisCertificates n bs c → AreBasisCertificates n bs d → (c.weight ≡ d.weight) × (c.facets.items ≡ d.facets.items)
-one_certificates n bs c d p q = (one_weight n bs c.weight d.weight p.weight q.weight, one_facets n bs c.facets.items d.facets.items p.facets q.facets)
+pub one_certificates : (n : ℕ) (j : Region) (bs : List MarkedPolynomial) (c d : Certificates) → AreCertificatesIn n j bs c → AreCertificatesIn n j bs d → (c.weight ≡ d.weight) × (c.facets.items ≡ d.facets.items)
+one_certificates n j bs c d p q = (one_weight n j bs c.weight d.weight p.weight q.weight, one_facets n j bs c.facets.items d.facets.items p.facets q.facets)

@@ -1,6 +1,6 @@
 -- A marked list has its printed weight, and the facets that a flip may cross, each with its printed witness.
 -- To cite: weight_exists, facets_exist. The rest are steps.
-use Rattle.std.proofs.Common.{◌≡◌, ◌⊎◌, ℕ, zero, suc, ◌+◌, ◌<◌, ◌≤◌, List, [], ◌∷◌, ◌++◌, length, ℤ, arith, refl, sym, ◌∙◌, subst, inl, inr, get_or}
+use Rattle.std.proofs.Common.{◌≡◌, ◌⊎◌, ℕ, zero, suc, ◌+◌, ◌<◌, ◌≤◌, List, [], ◌∷◌, ◌++◌, length, ℤ, arith, refl, sym, ◌∙◌, subst, inl, inr, append_assoc, get_or}
 use Rattle.std.proofs.lemmas.Bool.{cases_eq, cases_lt}
 use Rattle.gf_vec.specs.Vector.{dot}
 use Rattle.gf_poly.specs.Marking.{MarkedPolynomial}
@@ -9,14 +9,14 @@ use Rattle.gf_duality.specs.Rays.{IsRays}
 use Rattle.gf_rays.specs.Cones.{RowsAndRays}
 use Rattle.gf_rays.specs.Parts.{zeros_of}
 use Rattle.gf_facets.specs.Systems.{units}
-use Rattle.gf_facets.specs.Regions.{all_positive}
+use Rattle.gf_facets.specs.Regions.{Region}
 use Rattle.gf_facets.specs.Normals.{AreNormals}
 use Rattle.gf_facets.specs.Facets.{IsFlippable}
 use Rattle.gf_facets.specs.MarkedBases.{AreCanonical}
 use Rattle.gf_cone.specs.Cones.{ConeRows, normal_at}
 use Rattle.gf_cone.proofs.AnswerLaws.{crossable_flippable}
 use Rattle.gf_weights.specs.declared.certificates.FacetWitness.{FacetWitness}
-use Rattle.gf_weights.specs.Weights.{IsPrintedWeight, AreWitnessed}
+use Rattle.gf_weights.specs.Weights.{IsWeightIn, AreWitnessedIn}
 use Rattle.gf_weights.specs.Cuts.{IsCutOf, IsZeroAt, HasRayOff, AreWitnessedBefore}
 use Rattle.gf_weights.proofs.CutLaws.{weight_is, witness_is}
 use Rattle.gf_weights.proofs.CrossLaws.{crossing_of_rays, not_crossing}
@@ -67,38 +67,38 @@ others_or_one r i (suc m) = elim (others_or_one r i m) [
 
 -- ---- the cut cone of a marked list
 
-module _ (n : ℕ) (bs : List MarkedPolynomial) (can : AreCanonical n bs) where
+module _ (n : ℕ) (region : Region) (bs : List MarkedPolynomial) (can : AreCanonical n bs) where
   abbrev normals : (ns : List (List ℤ)) × AreNormals bs ns
   normals = normals_exist bs
 
-  abbrev rays : (rs : List (List ℤ)) × IsRays n (normals.0 ++ units n n) [] [] rs
-  rays = rays_exist n normals.0
+  abbrev rays : (rs : List (List ℤ)) × IsRays n (normals.0 ++ (region.rows ++ units n n)) [] [] rs
+  rays = let r = rays_exist n (normals.0 ++ region.rows) in (r.0, subst (λ (z : List (List ℤ)). IsRays n z [] [] r.0) (append_assoc normals.0 region.rows (units n n)) r.1)
 
   abbrev cone : ConeRows
-  cone = record { variables = n; normals = normals.0; beside = units n n }
+  cone = record { variables = n; normals = normals.0; beside = region.rows ++ units n n }
 
   abbrev cut : RowsAndRays
-  cut = record { ambient = n; inequalities = normals.0 ++ units n n; equations = []; lineality = []; rays = rays.0; implied = [] }
+  cut = record { ambient = n; inequalities = normals.0 ++ (region.rows ++ units n n); equations = []; lineality = []; rays = rays.0; implied = [] }
 
-  is_cut : IsCutOf n bs cone cut
+  is_cut : IsCutOf n region bs cone cut
   is_cut = record {
     cone = record { variables = refl; canonical = can; normals = normals.1; beside = refl };
     rays = record { ambient = refl; rows = refl; rays = rays.1 };
   }
 
-  pub weight_exists : (v : List ℤ) × IsPrintedWeight n bs v
-  weight_exists = (sum_of n rays.0, weight_is n bs cone cut (sum_of n rays.0) is_cut refl)
+  pub weight_exists : (v : List ℤ) × IsWeightIn n region bs v
+  weight_exists = (sum_of n rays.0, weight_is n region bs cone cut (sum_of n rays.0) is_cut refl)
 
-  flippable_or_not : (i : ℕ) → i < length cone.normals → IsFlippable n (all_positive n) bs (normal_at cone i) ⊎ (IsFlippable n (all_positive n) bs (normal_at cone i) → ⊥)
+  flippable_or_not : (i : ℕ) → i < length cone.normals → IsFlippable n region bs (normal_at cone i) ⊎ (IsFlippable n region bs (normal_at cone i) → ⊥)
   flippable_or_not i l =
-      let told = crossable_flippable n (all_positive n) bs cone i l is_cut.cone in
+      let told = crossable_flippable n region bs cone i l is_cut.cone in
       elim (others_or_one cut i (length cut.inequalities)) [
         | inl off ↦ inl (told.0 (crossing_of_rays cone cut i is_cut.rays l off))
         | inr t ↦ inr (λ f. not_crossing cone cut i t.0 is_cut.rays l t.1 t.2 t.3 (told.1 f))
       ]
 
-  facets_to : (i : ℕ) → i ≤ length cone.normals → (fs : List FacetWitness) × AreWitnessedBefore n bs cone i fs
-  facets_to zero l = ([], facets_none n bs cone [] refl)
+  facets_to : (i : ℕ) → i ≤ length cone.normals → (fs : List FacetWitness) × AreWitnessedBefore n region bs cone i fs
+  facets_to zero l = ([], facets_none n region bs cone [] refl)
   facets_to (suc i) l =
       let h = facets_to i (omega (arith, l)) in
       let one : i + 1 ≡ suc i = omega arith in
@@ -107,11 +107,11 @@ module _ (n : ℕ) (bs : List MarkedPolynomial) (can : AreCanonical n bs) where
             let a : List ℤ = normal_at cone i in
             let f : FacetWitness = record { normal = a; witness = sum_of n (zeros_of a rays.0) } in (
               h.0 ++ f ∷ [],
-              subst (λ m. AreWitnessedBefore n bs cone m (h.0 ++ f ∷ [])) one
-                  (facets_next n bs cone i h.0 (h.0 ++ f ∷ []) f is_cut.cone (omega (arith, l)) refl flip (witness_is n bs cone cut a (sum_of n (zeros_of a rays.0)) is_cut refl) refl h.1),
+              subst (λ m. AreWitnessedBefore n region bs cone m (h.0 ++ f ∷ [])) one
+                  (facets_next n region bs cone i h.0 (h.0 ++ f ∷ []) f is_cut.cone (omega (arith, l)) refl flip (witness_is n region bs cone cut a (sum_of n (zeros_of a rays.0)) is_cut refl) refl h.1),
             )
-        | inr not ↦ (h.0, subst (λ m. AreWitnessedBefore n bs cone m h.0) one (facets_passed n bs cone i h.0 not h.1))
+        | inr not ↦ (h.0, subst (λ m. AreWitnessedBefore n region bs cone m h.0) one (facets_passed n region bs cone i h.0 not h.1))
       ]
 
-  pub facets_exist : (fs : List FacetWitness) × AreWitnessed n bs fs
-  facets_exist = let h = facets_to (length cone.normals) (omega arith) in (h.0, facets_all n bs cone (length cone.normals) h.0 is_cut.cone (omega arith) h.1)
+  pub facets_exist : (fs : List FacetWitness) × AreWitnessedIn n region bs fs
+  facets_exist = let h = facets_to (length cone.normals) (omega arith) in (h.0, facets_all n region bs cone (length cone.normals) h.0 is_cut.cone (omega arith) h.1)

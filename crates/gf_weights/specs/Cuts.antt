@@ -1,16 +1,16 @@
--- A cone that is cut with the non-negative orthant, as a program keeps it: its rows, and its rays.
+-- A cone that is cut with a region, as a program keeps it: its rows, and its rays.
 -- Laws: proofs/CutLaws.antt.
 use Rattle.std.specs.Prelude.{◌≡◌, ℕ, ◌<◌, List, [], length, slice_index_or, ℤ, pos, Contains}
 use Rattle.gf_poly.specs.Marking.{MarkedPolynomial}
 use Rattle.gf_vec.specs.Vector.{dot}
 use Rattle.gf_duality.specs.Rays.{IsRays}
 use Rattle.gf_rays.specs.Cones.{RowsAndRays}
-use Rattle.gf_facets.specs.Regions.{all_positive}
+use Rattle.gf_facets.specs.Regions.{Region}
 use Rattle.gf_facets.specs.Normals.{Ascends}
 use Rattle.gf_facets.specs.Facets.{IsFlippable}
 use Rattle.gf_cone.specs.Cones.{ConeRows, all_rows, normal_at, IsConeOf}
 use Rattle.gf_weights.specs.declared.certificates.FacetWitness.{FacetWitness}
-use Rattle.gf_weights.specs.Weights.{IsPrintedWitness, normals_of}
+use Rattle.gf_weights.specs.Weights.{IsWitnessIn, normals_of}
 
 -- r has the rays of the rows of c
 pub record HasRaysOf (c : ConeRows) (r : RowsAndRays) : Type 0 where
@@ -18,9 +18,9 @@ pub record HasRaysOf (c : ConeRows) (r : RowsAndRays) : Type 0 where
   pub rows : r.inequalities ≡ all_rows c
   pub rays : IsRays c.variables (all_rows c) [] r.lineality r.rays
 
--- c is the cone of bs in n variables, and r has its rays, cut with the orthant
-pub record IsCutOf (n : ℕ) (bs : List MarkedPolynomial) (c : ConeRows) (r : RowsAndRays) : Type 0 where
-  pub cone : IsConeOf n (all_positive n) bs c
+-- c is the cone of bs in n variables and in the region k, and r has its rays
+pub record IsCutOf (n : ℕ) (k : Region) (bs : List MarkedPolynomial) (c : ConeRows) (r : RowsAndRays) : Type 0 where
+  pub cone : IsConeOf n k bs c
   pub rays : HasRaysOf c r
 
 -- the inequality at i is zero on the ray at j
@@ -36,9 +36,9 @@ abbrev pub HasRayOffOthers : RowsAndRays → ℕ → Type 0
 HasRayOffOthers r i = (k : ℕ) → k < length r.inequalities → (k ≡ i → ⊥) → HasRayOff r i k
 
 -- the facets that a flip may cross among those of the first normals of c
-pub record AreWitnessedBefore (n : ℕ) (bs : List MarkedPolynomial) (c : ConeRows) (i : ℕ) (fs : List FacetWitness) : Type 0 where
+pub record AreWitnessedBefore (n : ℕ) (k : Region) (bs : List MarkedPolynomial) (c : ConeRows) (i : ℕ) (fs : List FacetWitness) : Type 0 where
   pub rises : Ascends (normals_of fs)
   pub before : (a : List ℤ) → Contains (normals_of fs) a → (j : ℕ) × (j < i) × (a ≡ normal_at c j)
-  pub flippable : (f : FacetWitness) → Contains fs f → IsFlippable n (all_positive n) bs f.normal
-  pub witnessed : (f : FacetWitness) → Contains fs f → IsPrintedWitness n bs f.normal f.witness
-  pub all : (j : ℕ) → j < i → IsFlippable n (all_positive n) bs (normal_at c j) → Contains (normals_of fs) (normal_at c j)
+  pub flippable : (f : FacetWitness) → Contains fs f → IsFlippable n k bs f.normal
+  pub witnessed : (f : FacetWitness) → Contains fs f → IsWitnessIn n k bs f.normal f.witness
+  pub all : (j : ℕ) → j < i → IsFlippable n k bs (normal_at c j) → Contains (normals_of fs) (normal_at c j)

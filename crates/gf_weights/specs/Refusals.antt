@@ -12,7 +12,7 @@ use Rattle.gf_gordan.specs.declared.error.GordanError.TheVariants as gordan_erro
 use Rattle.gf_rays.specs.Reached.{IsRaysStep}
 use Rattle.gf_rays.specs.Sums.{adding_steps}
 use Rattle.gf_rays.specs.Parts.{zeros_of}
-use Rattle.gf_facets.specs.Regions.{all_positive}
+use Rattle.gf_facets.specs.Regions.{Region, all_positive}
 use Rattle.gf_facets.specs.Facets.{IsFlippable}
 use Rattle.gf_weights.specs.declared.error.WeightError.{WeightError}
 use Rattle.gf_weights.specs.declared.error.WeightError.TheVariants.{Cone, Wide, Memory}
@@ -30,34 +30,44 @@ abbrev pub of_vector : VecError → WeightError
 of_vector (vec_errors.Wide w) = Wide w
 of_vector vec_errors.Memory = Memory
 
--- ---- causes
+-- ---- causes, in a region k
 
 -- an operation of finding the rays of the cut cone leaves the range
-abbrev pub IsCutStep : ℕ → List MarkedPolynomial → ConeOverflow → Type 0
-IsCutStep n bs s = (rows : List (List ℤ)) × AreCutRows n bs rows × IsRaysStep n rows [] s
+abbrev pub IsCutStep : ℕ → Region → List MarkedPolynomial → ConeOverflow → Type 0
+IsCutStep n k bs s = (rows : List (List ℤ)) × AreCutRows n k bs rows × IsRaysStep n rows [] s
 
 -- the first sum, from the left, of an entry of a partial sum of its rays and one of the next ray, that leaves the range
-abbrev pub IsWideWeight : ℕ → List MarkedPolynomial → WideVector → Type 0
-IsWideWeight n bs e = (rays : List (List ℤ)) × AreCutRays n bs rays × IsFirstWide e (adding_steps (zeros n) rays)
+abbrev pub IsWideWeight : ℕ → Region → List MarkedPolynomial → WideVector → Type 0
+IsWideWeight n k bs e = (rays : List (List ℤ)) × AreCutRays n k bs rays × IsFirstWide e (adding_steps (zeros n) rays)
 
 -- the same of those on which the normal of a facet is zero that a flip may cross
-abbrev pub IsWideWitness : ℕ → List MarkedPolynomial → WideVector → Type 0
-IsWideWitness n bs e = (a : List ℤ) × IsFlippable n (all_positive n) bs a ×
-    ((rays : List (List ℤ)) × AreCutRays n bs rays × IsFirstWide e (adding_steps (zeros n) (zeros_of a rays)))
+abbrev pub IsWideWitness : ℕ → Region → List MarkedPolynomial → WideVector → Type 0
+IsWideWitness n k bs e = (a : List ℤ) × IsFlippable n k bs a ×
+    ((rays : List (List ℤ)) × AreCutRays n k bs rays × IsFirstWide e (adding_steps (zeros n) (zeros_of a rays)))
 
 -- why the weight isn't told
-abbrev pub IsWeightCause : ℕ → List MarkedPolynomial → WeightError → Type 0
-IsWeightCause n bs (Cone s) = IsCutStep n bs s
-IsWeightCause n bs (Wide e) = IsWideWeight n bs e
-IsWeightCause n bs Memory = Unit {0}
+abbrev pub IsWeightCauseIn : ℕ → Region → List MarkedPolynomial → WeightError → Type 0
+IsWeightCauseIn n k bs (Cone s) = IsCutStep n k bs s
+IsWeightCauseIn n k bs (Wide e) = IsWideWeight n k bs e
+IsWeightCauseIn n k bs Memory = Unit {0}
 
 -- why the weight and the witnesses aren't
-abbrev pub IsBasisCertificateCause : ℕ → List MarkedPolynomial → WeightError → Type 0
-IsBasisCertificateCause n bs (Cone s) = IsCutStep n bs s
-IsBasisCertificateCause n bs (Wide e) = IsWideWeight n bs e ⊎ IsWideWitness n bs e
-IsBasisCertificateCause n bs Memory = Unit {0}
+abbrev pub IsCertificateCauseIn : ℕ → Region → List MarkedPolynomial → WeightError → Type 0
+IsCertificateCauseIn n k bs (Cone s) = IsCutStep n k bs s
+IsCertificateCauseIn n k bs (Wide e) = IsWideWeight n k bs e ⊎ IsWideWitness n k bs e
+IsCertificateCauseIn n k bs Memory = Unit {0}
 
--- ---- within limits
+-- nothing that is added up or worked out for the weight and the witnesses leaves the range
+abbrev pub AreCertificatesFittingIn : ℕ → Region → List MarkedPolynomial → Type 0
+AreCertificatesFittingIn n k bs = (e : WeightError) → IsCertificateCauseIn n k bs e → e ≡ Memory
+
+-- ---- where all positive weights are meant
+
+abbrev pub IsWeightCause : ℕ → List MarkedPolynomial → WeightError → Type 0
+IsWeightCause n bs e = IsWeightCauseIn n (all_positive n) bs e
+
+abbrev pub IsBasisCertificateCause : ℕ → List MarkedPolynomial → WeightError → Type 0
+IsBasisCertificateCause n bs e = IsCertificateCauseIn n (all_positive n) bs e
 
 -- nothing that is added up or worked out for the weight leaves the range
 abbrev pub IsWeightWithinLimits : ℕ → List MarkedPolynomial → Type 0

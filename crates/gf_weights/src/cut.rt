@@ -1,31 +1,32 @@
-//! The cone of a marked set, cut with the non-negative orthant, by its rays.
-ghost use Rattle.std.specs.Prelude.{◌<◌, ◌↔◌, ℕ, length, IsTrue, IfOk, IfErr};
+//! The cone of a marked set, cut with a region, by its rays.
+ghost use Rattle.std.specs.Prelude.{◌≡◌, ◌<◌, ◌↔◌, ℕ, length, IsTrue, IfOk, IfErr};
 ghost use Rattle.gf_cone.specs.Crossing.{IsCrossable};
 ghost use Rattle.gf_weights.specs.Cuts.{HasRaysOf, IsCutOf, IsZeroAt, HasRayOff};
-ghost use Rattle.gf_weights.specs.Refusals.{IsWeightCause};
+ghost use Rattle.gf_weights.specs.Refusals.{IsWeightCauseIn};
 
 use crate::error::WeightError;
-use gf_cone::Cone;
+use gf_cone::{Cone, Region};
 use gf_poly::MarkedSet;
 use gf_rays::Rays;
 use std::alloc::Global;
 
-/// The normals of a marked set and the unit vectors, and the rays of their cone.
+/// The normals of a marked set, the rows of a region and the unit vectors, and the rays of their cone.
 #[derive(Drop)]
 pub(crate) struct Cut {
     pub(crate) cone: Cone,
     pub(crate) rays: Rays,
 }
 
-/// The cone of a marked set, cut with the orthant.
+/// The cone of a marked set, cut with the closure of a region.
 ///
 /// # Errors
 /// `Cone` only at an operation of finding its rays; want of memory.
-pub(crate) fn cut_cone(alloc: Global, set: &MarkedSet) -> Result<Cut, WeightError>
-    ensures ok { IfOk result (λ c. IsCutOf set.now.variables set.now.items c.cone c.rays) }
-    ensures err { IfErr result (IsWeightCause set.now.variables set.now.items) }
+pub(crate) fn cut_cone(alloc: Global, set: &MarkedSet, region: &Region) -> Result<Cut, WeightError>
+    requires { length region.now.root ≡ set.now.variables }
+    ensures ok { IfOk result (λ c. IsCutOf set.now.variables region.now set.now.items c.cone c.rays) }
+    ensures err { IfErr result (IsWeightCauseIn set.now.variables region.now set.now.items) }
 {
-    let cone = Cone::of(alloc, set)?;
+    let cone = Cone::within(alloc, set, region)?;
     let none = Vec::new(alloc);
     let rays = Rays::of(alloc, cone.variables(), cone.vectors(), none.as_slice())?;
     Ok(Cut { cone, rays })

@@ -1,13 +1,13 @@
 //! What the printed weights and witnesses have.
 ghost use Rattle.gf_weights.specs.Laws.{WeightsGiveBases, WitnessesAreInside, CertificatesAreUnique, CertificatesExist};
 
-/// The printed weight gives the marks, and a marked reduced basis is the reduced one for its printed weight (Fukuda, Jensen,
-/// Thomas, *Computing Gröbner fans*, 2).
+/// The printed weight is in the region and gives the marks, and a marked reduced basis is the reduced one for its printed weight
+/// (Fukuda, Jensen, Thomas, *Computing Gröbner fans*, 2).
 pub fn weights_give_bases()
     ensures { WeightsGiveBases }
 {}
 
-/// The printed witness of a facet that a flip may cross is positive, zero on the facet's normal, and positive on all other
+/// The printed witness of a facet that a flip may cross is in the region, zero on the facet's normal, and positive on all other
 /// normals.
 pub fn witnesses_are_inside()
     ensures { WitnessesAreInside }

@@ -1,5 +1,5 @@
 //! The weight that is printed of a marked reduced Gröbner basis, and a vector inside each of its flippable facets: sums of the
-//! primitive vectors along the extreme rays of its cone, cut with the non-negative orthant.
+//! primitive vectors along the extreme rays of its cone, cut with a closed region: the non-negative orthant, where none is named.
 //!
 //! Start at `specs/Weights.antt`; `specs/Laws.antt` has the theorems.
 #![tactic(auto)]
@@ -9,7 +9,7 @@ mod cut;
 mod error;
 mod laws;
 
-pub use certificates::{Certificates, FacetWitness, certify, weight};
+pub use certificates::{Certificates, FacetWitness, certify, certify_in, weight};
 pub use error::WeightError;
 pub use laws::{
     certificates_are_unique, certificates_exist, weights_give_bases, witnesses_are_inside,

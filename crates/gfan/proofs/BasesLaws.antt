@@ -17,10 +17,9 @@ use Rattle.gf_ideal.specs.Membership.{AreInVariables}
 use Rattle.gf_buchberger.specs.declared.bases.BasisError.{BasisError}
 use Rattle.gf_buchberger.specs.declared.bases.BasisError.TheVariants as basis_errors
 use Rattle.gf_buchberger.proofs.JobLaws.{ring_variables}
-use Rattle.gf_walk.specs.declared.mark.Mark.TheVariants.{Before}
-use Rattle.gf_walk.specs.Listing.{Among, Leaves}
+use Rattle.gf_walk.specs.Listing.{Among}
 use Rattle.gf_walk.specs.Whole.{IsFinite}
-use Rattle.gf_facets.specs.Regions.{all_positive}
+use Rattle.gf_facets.specs.Regions.{Region, all_positive}
 use Rattle.gf_facets.specs.LexPositive.{IsBefore}
 use Rattle.gf_reverse.specs.Upward.{IsNode, IsNodeIn, IsParent, fan_of}
 use Rattle.gf_reverse.proofs.TreeLaws.{SameFan, count, upward_finite, node_moved, own_fan, back_fan}
@@ -98,16 +97,17 @@ cut_behind (x ∷ xs) (suc k) l =
 module _ (o : ListOptions) (ring : List (List ℕ)) (fs : List Terms) where
   -- before the first basis
   pub starts : (alloc : Global) (workers : ℕ) (root : MarkedPolynomials) (room : Room) (held : Option (List ℕ)) → AreInVariables (length ring) fs → IsFirstBasis (length ring) fs root → HasRoomFor o.limit room [] →
-      IsUnderWay o ring fs (first_row alloc root workers o.pairs) room true held held
+      IsUnderWay o ring fs (first_row alloc root (all_positive (length ring)) workers o.pairs) room true held held
   starts alloc workers root room held v first h = record {
     written = [];
     items = [];
     are_items = tt;
     rest = finite.nodes;
     are_all = all_bases_from (length ring) fs root finite.nodes v first.variables first.reduced first.arranged finite.leaves;
-    left = start_leaves alloc root workers o.pairs mine finite.nodes (subst (λ n. Leaves IsBefore (IsParent (all_positive n)) Before root 0 finite.nodes) (sym first.variables) finite.leaves);
+    left = start_leaves alloc root (all_positive (length ring)) workers o.pairs mine finite.nodes finite.leaves;
     basis = node;
     pairs = refl;
+    region = refl;
     fits = h;
     first = refl;
     gained = Appends-nil held;
@@ -116,16 +116,16 @@ module _ (o : ListOptions) (ring : List (List ℕ)) (fs : List Terms) where
       node : IsNodeIn (ideal_by (length ring) fs) root
       node = first_node (length ring) fs root v first.variables first.reduced first.arranged
 
-      mine : IsNode (all_positive root.variables) root
-      mine = subst (λ k. IsNode (all_positive k) root) (sym first.variables) (first_own (length ring) fs root node)
+      mine : IsNode (all_positive (length ring)) root
+      mine = first_own (length ring) fs root node
 
       finite : IsFinite IsBefore (IsParent (all_positive (length ring))) root (count (all_positive (length ring)) root)
-      finite = upward_finite (all_positive (length ring)) root (first_own (length ring) fs root node)
+      finite = upward_finite (all_positive (length ring)) root mine
 
   module _ (row : Row) (room : Room) (is_first : Bool) (held holds : Option (List ℕ)) (way : IsUnderWay o ring fs row room is_first held holds) where
     -- the ideal of the row is the one that is read
     same_fan : SameFan (ideal_in row) (ideal_by (length ring) fs)
-    same_fan = subst (λ n. SameFan (fan_of (all_positive n) row.start) (ideal_by (length ring) fs)) (sym way.basis.variables) (back_fan (ideal_by (length ring) fs) (fan_of (all_positive (length ring)) row.start) (own_fan (ideal_by (length ring) fs) row.start way.basis))
+    same_fan = subst (λ (k : Region). SameFan (fan_of k row.start) (ideal_by (length ring) fs)) (sym way.region) (back_fan (ideal_by (length ring) fs) (fan_of (all_positive (length ring)) row.start) (own_fan (ideal_by (length ring) fs) row.start way.basis))
 
     from_row : (x : MarkedPolynomials) → IsNodeIn (ideal_in row) x → IsNodeIn (ideal_by (length ring) fs) x
     from_row x h = node_moved (ideal_in row) (ideal_by (length ring) fs) x same_fan h
@@ -180,6 +180,7 @@ module _ (o : ListOptions) (ring : List (List ℕ)) (fs : List Terms) where
         left = next.2;
         basis = subst (IsNodeIn (ideal_by (length ring) fs)) (sym step.same.start) way.basis;
         pairs = step.same.pairs ∙ way.pairs;
+        region = step.same.region ∙ way.region;
         fits = room_next o.limit room after way.written b way.fits less;
         items = way.items ++ p.item ∷ [];
         are_items = more_items p.item [] [] p.is_item tt;

@@ -173,7 +173,7 @@ weight_marks n bs ring heads m b c = record { monic = (m b c).monic; tail = tail
         by (inr (inr l)) = inr (inr (sym ex ∙ l.0 ∙ eh, l.1))
 
 -- the root above a basis of an ideal is its first basis
-pub start_of_root : (n : ℕ) (fs : List Terms) (v root : MarkedPolynomials) → IsNodeIn (ideal_by n fs) v → IsRootFor v root → StartsAt n fs root
+pub start_of_root : (n : ℕ) (fs : List Terms) (v root : MarkedPolynomials) → IsNodeIn (ideal_by n fs) v → IsRootFor (all_positive v.variables) v root → StartsAt n fs root
 start_of_root n fs v root h r = record {
   inside = node.fan.ideal;
   first = record {
@@ -194,7 +194,7 @@ start_of_root n fs v root h r = record {
 
     marks : AreMarked IsDeglexBelow root.items
     marks = weight_marks n root.items (λ b c x k. variables_of_member n fs b.poly node.fan.ideal (node.basis.reduced.basis.members b c) x k) (λ b c. short_head n b.head (node.basis.arranged.canonical b c).head)
-        (subst (λ m. AreMarked (IsWeightedBelow (gains (replicate m (pos 1)))) root.items) node.variables r.by_degree.basis.marked)
+        (subst (λ m. AreMarked (IsWeightedBelow (gains (replicate m (pos 1)))) root.items) h.variables r.by_root.basis.marked)
 
 -- ---- the list
 

@@ -42,8 +42,8 @@ item_exists : (certified : Bool) (n : ℕ) (ring : List (List ℕ)) (fs : List T
 item_exists false n ring fs b g = (basis_text ring b.items, refl)
 item_exists true n ring fs b g =
     let canonical = subst (λ k. AreCanonical k b.items) (sym g.variables) g.arranged.canonical in
-    let w = weight_exists b.variables b.items canonical in
-    let f = facets_exist b.variables b.items canonical in
+    let w = weight_exists b.variables (all_positive b.variables) b.items canonical in
+    let f = facets_exist b.variables (all_positive b.variables) b.items canonical in
     let told : List ℕ = certificates_text w.0 f.0 in
     (basis_text ring b.items ++ told, (told, record { weight = w.0; facets = f.0; is_weight = w.1; are_witnessed = f.1; is_text = refl }, refl))
 
@@ -57,8 +57,8 @@ items_exist certified n ring fs (b ∷ bs) g =
 
 certificates_one : (b : MarkedPolynomials) (t u : List ℕ) → IsCertificatesText b t → IsCertificatesText b u → t ≡ u
 certificates_one b t u p q =
-    let weights = one_weight b.variables b.items p.weight q.weight p.is_weight q.is_weight in
-    let facets = one_facets b.variables b.items p.facets q.facets p.are_witnessed q.are_witnessed in
+    let weights = one_weight b.variables (all_positive b.variables) b.items p.weight q.weight p.is_weight q.is_weight in
+    let facets = one_facets b.variables (all_positive b.variables) b.items p.facets q.facets p.are_witnessed q.are_witnessed in
     p.is_text ∙ ap₂ (λ (w : List ℤ) (fs : List FacetWitness). certificates_text w fs) weights facets ∙ sym q.is_text
 
 item_one : (certified : Bool) (ring : List (List ℕ)) (b : MarkedPolynomials) (t u : List ℕ) → IsItemText certified ring b t → IsItemText certified ring b u → t ≡ u
@@ -87,7 +87,7 @@ item_shows ring fs b text v g item = record {
   reduced = shown.2;
   rises = witnessed.rises;
   exactly = λ a. (λ c. flippable a c, witnessed.all a);
-  inside = λ f c. witness_inside n b.items f.normal f.witness node.basis.arranged.canonical (witnessed.flippable f c) (witnessed.witnessed f c);
+  inside = λ f c. witness_inside n (all_positive n) b.items f.normal f.witness node.basis.arranged.canonical (witnessed.flippable f c) (witnessed.witnessed f c);
 }
   where
     n : ℕ

@@ -108,7 +108,7 @@ module _ (s t : MarkedPolynomials) (v : HaveVariables s.variables s.items) (a : 
     reduced_own = subst (λ n. IsNode (all_positive n) u) (sym reduced_is_node.variables) (own (all_positive s.variables) (ideal_by s.variables (polys s.items)) u refl reduced_is_node)
 
     -- the root above it is the first basis of the list
-    pub root_starts : (root : MarkedPolynomials) → IsRootFor u root → StartsAt s.variables (polys s.items) root
+    pub root_starts : (root : MarkedPolynomials) → IsRootFor (all_positive u.variables) u root → StartsAt s.variables (polys s.items) root
     root_starts root q = start_of_root s.variables (polys s.items) u root reduced_is_node q
 
     -- why the way up is refused, in the variables of the set

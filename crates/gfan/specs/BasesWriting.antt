@@ -11,6 +11,7 @@ use Rattle.gf_ideal.specs.Membership.{AreInVariables}
 use Rattle.gf_buchberger.specs.declared.bases.BasisError.{BasisError}
 use Rattle.gf_buchberger.specs.Bases.{IsArrangedBasis, IsBasisRefusal}
 use Rattle.gf_reverse.specs.Upward.{IsNodeIn}
+use Rattle.gf_facets.specs.Regions.{all_positive}
 use Rattle.gf_tree.specs.Ideals.{ideal_by}
 use Rattle.gf_subtree.specs.Rows.{Row, AreLeftIn}
 use Rattle.gf_front.specs.declared.refusal.Refusal.{Refusal}
@@ -121,6 +122,7 @@ pub record IsUnderWay (o : ListOptions) (ring : List (List ℕ)) (fs : List Term
   pub left : AreLeftIn row rest
   pub basis : IsNodeIn (ideal_by (length ring) fs) row.start
   pub pairs : row.pairs ≡ o.pairs
+  pub region : row.region ≡ all_positive (length ring)
   pub fits : HasRoomFor o.limit room written
   pub items : List (List ℕ)
   pub are_items : AreItemTexts o.certified ring written items

@@ -3,6 +3,10 @@ ghost use Rattle.std.specs.Prelude.{◌≡◌, ◌≤◌, [], ◌∷◌, length,
 ghost use Rattle.std.specs.Io.KnownBytes.{Appends};
 ghost use Rattle.gf_poly.specs.Polynomial.{Terms};
 ghost use Rattle.gf_poly.specs.Marking.{polys};
+ghost use Rattle.gf_facets.specs.Regions.{all_positive};
+ghost use Rattle.gf_reverse.specs.Upward.{IsNodeIn};
+ghost use Rattle.gf_tree.specs.Parents.{ideal_of};
+ghost use Rattle.gf_subtree.specs.Rows.{first_row};
 ghost use Rattle.gf_text.specs.PrintedSets.{basis_text};
 ghost use Rattle.gf_text.specs.Sets.{AreIn};
 ghost use Rattle.gfan.specs.Buchberger.{generators_of};
@@ -18,6 +22,7 @@ use crate::buchberger::polynomials;
 use crate::certificates::push_certified;
 use crate::refused::Refused;
 use gf_buchberger::basis;
+use gf_cone::Region;
 use gf_front::Refusal;
 use gf_items::{RingAndSet, ring_and_set};
 use gf_order::Order;
@@ -175,6 +180,23 @@ fn first_basis(
     }
 }
 
+// The list of a basis and of all below it, for all positive weights, by so many workers.
+fn waves_of<'g, G: Gate>(
+    alloc: Global,
+    root: MarkedSet,
+    workers: u32,
+    pairs: u64,
+    gate: &'g G,
+) -> Result<Waves<'g, G>, AllocError>
+    requires basis { IsNodeIn (ideal_of root) root }
+    requires some { 1 ≤ workers }
+    requires most { workers ≤ 64 }
+    ensures { IfOk result (λ w. w ≡ first_row alloc root (all_positive root.variables) workers pairs) }
+{
+    let region = Region::positive(alloc, root.variables())?;
+    Waves::new(alloc, root, &region, workers, pairs, gate)
+}
+
 /// Writes the list of all bases of an ideal from its first basis on, by so many workers: the first with the ring, each other one
 /// behind a line end, a comma and a line end, and last the brace that ends the list.
 ///
@@ -205,7 +227,7 @@ pub(crate) fn write_from<R: Threads + Sync, K: Sink, G: Gate>(
     ensures calm { MatchResult result (λ _. K.faults output.new ≡ K.faults output.old)
         (λ e. (e.refusal ≡ Refusal.WriteFault → ⊥) → K.faults output.new ≡ K.faults output.old) }
 {
-    let mut waves = Waves::new(alloc, root, workers, options.pairs, gate)?;
+    let mut waves = waves_of(alloc, root, workers, options.pairs, gate)?;
     let mut room = Room::of(options.limit);
     let mut is_first = true;
     'list: while let Some(basis) = waves.next_written(rt)? {

@@ -2,6 +2,10 @@
 ghost use Rattle.std.specs.Prelude.{◌≤◌, [], ◌∷◌, IfOk, IfErr, OnOk};
 ghost use Rattle.gf_poly.specs.Marking.{polys};
 ghost use Rattle.gf_reduced.specs.Markings.{IsMarkedGroebnerBasis};
+ghost use Rattle.gf_facets.specs.Regions.{all_positive};
+ghost use Rattle.gf_reverse.specs.Upward.{IsNodeIn};
+ghost use Rattle.gf_tree.specs.Parents.{ideal_of, IsRootFor};
+ghost use Rattle.gf_tree.specs.Refusals.{IsWayRefused};
 ghost use Rattle.gfan.specs.BasesWriting.{StartsAt};
 ghost use Rattle.gf_frame.specs.Seen.{output_seen};
 ghost use Rattle.gf_frame.specs.Runs.{IsDoneOn, IsStoppedOn};
@@ -10,16 +14,27 @@ ghost use Rattle.gfan.specs.Refused.{IsOfSource};
 
 use crate::bases::{ListOptions, write_from};
 use crate::refused::{Refused, of_check};
+use gf_cone::Region;
 use gf_division::autoreduce;
 use gf_front::Refusal;
 use gf_items::{RingAndMarked, ring_and_marked};
 use gf_outside::Sink;
 use gf_poly::MarkedSet;
 use gf_reduced::{CheckError, require_basis};
-use gf_tree::to_root;
+use gf_tree::{TreeError, to_root};
 use gf_waves::Gate;
 use std::alloc::Global;
 use std::thread::Threads;
+
+/// The root above a reduced basis, among the bases for all positive weights.
+fn root_above(alloc: Global, reduced: MarkedSet, pairs: u64) -> Result<MarkedSet, TreeError>
+    requires { IsNodeIn (ideal_of reduced) reduced }
+    ensures value { IfOk result (IsRootFor (all_positive reduced.variables) reduced) }
+    ensures way { IfErr result (IsWayRefused (all_positive reduced.variables) pairs reduced) }
+{
+    let region = Region::positive(alloc, reduced.variables())?;
+    to_root(alloc, reduced, &region, pairs)
+}
 
 /// The basis, by degree and then lex, of the ideal of a marked Gröbner basis: the set is checked, reduced, and taken up to the root.
 /// Its members are counted in 32 bits.
@@ -39,7 +54,7 @@ fn root_of(alloc: Global, marked: &MarkedSet, pairs: u64) -> Result<MarkedSet, R
         Ok(reduced) => reduced,
         Err(error) => return Err(of_check(CheckError::from(error))),
     };
-    match to_root(alloc, reduced, pairs) {
+    match root_above(alloc, reduced, pairs) {
         Ok(root) => Ok(root),
         Err(error) => Err(Refused::from(error).refusal),
     }

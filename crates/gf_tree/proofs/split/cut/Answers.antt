@@ -1,7 +1,6 @@
 use Rattle.std.proofs.Common.{subst}
 use Rattle.gf_walk.specs.Split.{IsCutAt, Splits, HaveTree}
 use Rattle.gf_facets.specs.LexPositive.{IsBefore}
-use Rattle.gf_facets.specs.Regions.{all_positive}
 use Rattle.gf_tree.specs.Refusals.{IsTreeRefusal}
 use Rattle.gf_tree.specs.Walks.{Walk, ideal_at}
 use Rattle.gf_tree.proofs.RefusalLaws.{refusal_above}
@@ -42,4 +41,4 @@ pub returns-clause-cause : goal.returns-clause-cause
 returns-clause-cause c =
     let p = c.walker.inside.inner in
     subst (λ (w : Walk). IsTreeRefusal (ideal_at w) w.pairs c.in-Err.refusal) c.walker.view_is
-    (refusal_above (all_positive p.tree.variables) p.tree.pairs p.here p.depth c.in-Err.refusal c.walker.invariant.basis c.in-Err.ensures.refused)
+    (refusal_above p.tree.region p.tree.pairs p.here p.depth c.in-Err.refusal c.walker.invariant.basis c.in-Err.ensures.refused)

@@ -1,66 +1,60 @@
 use Rattle.std.proofs.Common.{◌≡◌, ◌<◌, length, arith, sym, subst}
 use Rattle.std.proofs.lemmas.Result.{err_from_is_err_and}
 use Rattle.gf_poly.specs.Marking.{MarkedPolynomials}
-use Rattle.gf_facets.specs.Regions.{all_positive}
 use Rattle.gf_cone.specs.Cones.{ConeRows, normal_at, IsConeOf}
 use Rattle.gf_reverse.specs.Upward.{IsWayUp}
 use Rattle.gf_tree.specs.Places.{IsVectorPlace}
-use Rattle.gf_tree.proofs.ParentLaws.{same_width}
 use Rattle.gf_tree.proofs.RefusalLaws.{cone_at}
-use Rattle.gf_tree.proofs.WayLaws.{cone_moved, no_way, place_read, missing_read, told_way, not_told}
+use Rattle.gf_tree.proofs.WayLaws.{no_way, place_read, missing_read, told_way, not_told}
 use Rattle.gf_tree.proofs.steps.led_back.Goals as goal
 
 pub returns-in-None-clause-ok : goal.returns-in-None-clause-ok
 returns-in-None-clause-ok c =
-    let m = c.args.tree.now.variables in
+    let k = c.args.tree.now.region in
     let v = c.args.neighbour in
-    let e = same_width m v c.requires in
     let cone = c.in_ok-cone.cone in
-    let shown = subst (λ (w : MarkedPolynomials). IsConeOf w.variables (all_positive w.variables) w.items cone) c.neighbour.view_is c.in_ok-cone.ensures in
-    let is = cone_moved m v cone e shown in
-    no_way v.variables m e v.items cone is c.args.back.now
-    (missing_read v.variables m e v.items cone is c.normals.result.now c.args.back.now c.normals.ensures.value (subst (IsVectorPlace c.normals.result.now c.args.back.now) c.in-None.is c.place_of.ensures))
+    let shown = subst (λ (w : MarkedPolynomials). IsConeOf w.variables k w.items cone) c.neighbour.view_is c.in_ok-cone.ensures in
+    let is = shown in
+    no_way v.variables k v.items cone is c.args.back.now
+    (missing_read v.variables k v.items cone is c.normals.result.now c.args.back.now c.normals.ensures.value (subst (IsVectorPlace c.normals.result.now c.args.back.now) c.in-None.is c.place_of.ensures))
 
 pub returns-in_err-is_way_up-clause-cause : goal.returns-in_err-is_way_up-clause-cause
 returns-in_err-is_way_up-clause-cause c =
-    let m = c.args.tree.now.variables in
+    let k = c.args.tree.now.region in
     let v = c.args.neighbour in
-    let e = same_width m v c.requires in
     let cone = c.in_ok-cone.cone in
-    let shown = subst (λ (w : MarkedPolynomials). IsConeOf w.variables (all_positive w.variables) w.items cone) c.neighbour.view_is c.in_ok-cone.ensures in
-    let is = cone_moved m v cone e shown in
-    let at = place_read v.variables m e v.items cone is c.normals.result.now c.args.back.now c.in-Some.place c.normals.ensures.value (subst (IsVectorPlace c.normals.result.now c.args.back.now) c.in-Some.is c.place_of.ensures) in
+    let shown = subst (λ (w : MarkedPolynomials). IsConeOf w.variables k w.items cone) c.neighbour.view_is c.in_ok-cone.ensures in
+    let is = shown in
+    let at = place_read v.variables k v.items cone is c.normals.result.now c.args.back.now c.in-Some.place c.normals.ensures.value (subst (IsVectorPlace c.normals.result.now c.args.back.now) c.in-Some.is c.place_of.ensures) in
     let learned = c.learn.new.self in
-    let is_still = subst (λ (z : ConeRows). IsConeOf v.variables (all_positive m) v.items z) (sym c.learn.ensures) is in
+    let is_still = subst (λ (z : ConeRows). IsConeOf v.variables k v.items z) (sym c.learn.ensures) is in
     let still = subst (λ (z : ConeRows). (c.in-Some.place < length z.normals) × (normal_at z c.in-Some.place ≡ c.args.back.now)) (sym c.learn.ensures) at in
     let p = err_from_is_err_and c.from_residual-in_err-is_way_up.result c.from_residual-in_err-is_way_up.ensures.1 in
-    rw p.1 (cone_at (all_positive m) c.args.tree.now.pairs v learned _ c.in_err-is_way_up.field-0.0 p.0 is_still (let l = still.0 in omega (arith, l)) c.in_err-is_way_up.ensures.err p.2)
+    rw p.1 (cone_at k c.args.tree.now.pairs v learned _ c.in_err-is_way_up.field-0.0 p.0 is_still (let l = still.0 in omega (arith, l)) c.in_err-is_way_up.ensures.err p.2)
 
 pub returns-in-true-clause-ok : goal.returns-in-true-clause-ok
 returns-in-true-clause-ok c =
-    let m = c.args.tree.now.variables in
+    let k = c.args.tree.now.region in
     let v = c.args.neighbour in
-    let e = same_width m v c.requires in
     let cone = c.in_ok-cone.cone in
-    let shown = subst (λ (w : MarkedPolynomials). IsConeOf w.variables (all_positive w.variables) w.items cone) c.neighbour.view_is c.in_ok-cone.ensures in
-    let is = cone_moved m v cone e shown in
-    let at = place_read v.variables m e v.items cone is c.normals.result.now c.args.back.now c.in-Some.place c.normals.ensures.value (subst (IsVectorPlace c.normals.result.now c.args.back.now) c.in-Some.is c.place_of.ensures) in
+    let shown = subst (λ (w : MarkedPolynomials). IsConeOf w.variables k w.items cone) c.neighbour.view_is c.in_ok-cone.ensures in
+    let is = shown in
+    let at = place_read v.variables k v.items cone is c.normals.result.now c.args.back.now c.in-Some.place c.normals.ensures.value (subst (IsVectorPlace c.normals.result.now c.args.back.now) c.in-Some.is c.place_of.ensures) in
     let learned = c.learn.new.self in
-    let is_still = subst (λ (z : ConeRows). IsConeOf v.variables (all_positive m) v.items z) (sym c.learn.ensures) is in
+    let is_still = subst (λ (z : ConeRows). IsConeOf v.variables k v.items z) (sym c.learn.ensures) is in
     let still = subst (λ (z : ConeRows). (c.in-Some.place < length z.normals) × (normal_at z c.in-Some.place ≡ c.args.back.now)) (sym c.learn.ensures) at in
-    (c.neighbour.view_is, (told_way v.variables m e v.items learned is_still c.args.back.now c.in-Some.place c.in_ok-is_way_up.field-0 still c.in_ok-is_way_up.ensures.ok).0 c.in-true.is)
+    (c.neighbour.view_is, (told_way v.variables k v.items learned is_still c.args.back.now c.in-Some.place c.in_ok-is_way_up.field-0 still c.in_ok-is_way_up.ensures.ok).0 c.in-true.is)
 
 pub returns-in-false-clause-ok : goal.returns-in-false-clause-ok
 returns-in-false-clause-ok c =
-    let m = c.args.tree.now.variables in
+    let k = c.args.tree.now.region in
     let v = c.args.neighbour in
-    let e = same_width m v c.requires in
     let cone = c.in_ok-cone.cone in
-    let shown = subst (λ (w : MarkedPolynomials). IsConeOf w.variables (all_positive w.variables) w.items cone) c.neighbour.view_is c.in_ok-cone.ensures in
-    let is = cone_moved m v cone e shown in
-    let at = place_read v.variables m e v.items cone is c.normals.result.now c.args.back.now c.in-Some.place c.normals.ensures.value (subst (IsVectorPlace c.normals.result.now c.args.back.now) c.in-Some.is c.place_of.ensures) in
+    let shown = subst (λ (w : MarkedPolynomials). IsConeOf w.variables k w.items cone) c.neighbour.view_is c.in_ok-cone.ensures in
+    let is = shown in
+    let at = place_read v.variables k v.items cone is c.normals.result.now c.args.back.now c.in-Some.place c.normals.ensures.value (subst (IsVectorPlace c.normals.result.now c.args.back.now) c.in-Some.is c.place_of.ensures) in
     let learned = c.learn.new.self in
-    let is_still = subst (λ (z : ConeRows). IsConeOf v.variables (all_positive m) v.items z) (sym c.learn.ensures) is in
+    let is_still = subst (λ (z : ConeRows). IsConeOf v.variables k v.items z) (sym c.learn.ensures) is in
     let still = subst (λ (z : ConeRows). (c.in-Some.place < length z.normals) × (normal_at z c.in-Some.place ≡ c.args.back.now)) (sym c.learn.ensures) at in
-    not_told c.in_ok-is_way_up.field-0 (IsWayUp v.variables (all_positive m) v.items c.args.back.now)
-    (told_way v.variables m e v.items learned is_still c.args.back.now c.in-Some.place c.in_ok-is_way_up.field-0 still c.in_ok-is_way_up.ensures.ok) c.in-false.is
+    not_told c.in_ok-is_way_up.field-0 (IsWayUp v.variables k v.items c.args.back.now)
+    (told_way v.variables k v.items learned is_still c.args.back.now c.in-Some.place c.in_ok-is_way_up.field-0 still c.in_ok-is_way_up.ensures.ok) c.in-false.is

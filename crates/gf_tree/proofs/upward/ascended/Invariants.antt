@@ -1,6 +1,5 @@
 use Rattle.std.proofs.Common.{List, ℤ}
 use Rattle.gf_walk.specs.Path.{Leads}
-use Rattle.gf_facets.specs.Regions.{all_positive}
 use Rattle.gf_reverse.specs.Upward.{IsNode, IsParent}
 use Rattle.gf_reverse.proofs.TreeLaws.{rank}
 use Rattle.gf_tree.proofs.upward.ascended.Given as goal
@@ -8,9 +7,9 @@ use Rattle.gf_tree.proofs.upward.ascended.Given as goal
 -- the way up from the first basis leads to the one at hand
 abbrev pub invariant-up : goal.invariant-up
 invariant-up l = record {
-  is_node : IsNode (all_positive l.tree.variables) l.node;
-  path : (q : List (List ℤ)) × Leads (IsParent (all_positive l.tree.variables)) l.node q l.fn.set;
+  is_node : IsNode l.tree.region l.node;
+  path : (q : List (List ℤ)) × Leads (IsParent l.tree.region) l.node q l.fn.set;
 }
 
 abbrev pub decreases-up : goal.decreases-up
-decreases-up l = rank (all_positive l.tree.variables) l.node
+decreases-up l = rank l.tree.region l.node

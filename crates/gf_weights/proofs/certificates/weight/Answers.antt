@@ -1,27 +1,20 @@
-use Rattle.std.proofs.lemmas.Result.{err_from_is_err_and}
-use Rattle.gf_weights.proofs.CutLaws.{weight_is}
-use Rattle.gf_weights.proofs.RefusalLaws.{weight_refused}
+use Rattle.std.specs.Prelude.{IfOk, IfErr}
+use Rattle.std.proofs.Common.{subst}
+use Rattle.gf_facets.specs.Regions.{Region}
+use Rattle.gf_weights.specs.Weights.{IsWeightIn}
+use Rattle.gf_weights.specs.Refusals.{IsWeightCauseIn}
+use Rattle.gf_weights.proofs.RefusalLaws.{only_memory}
+use Rattle.gf_cone.proofs.RegionLaws.{positive_is, positive_wide}
 use Rattle.gf_weights.proofs.certificates.weight.Goals as goal
 
-pub returns-in_err-cut-clause-err : goal.returns-in_err-cut-clause-err
-returns-in_err-cut-clause-err c =
-    let p = err_from_is_err_and c.from_residual.result c.from_residual.ensures.1 in
-    rw (p.1, p.2) c.in_err-cut.ensures.err
-
-pub returns-in_err-cut-clause-complete : goal.returns-in_err-cut-clause-complete
-returns-in_err-cut-clause-complete c = λ within.
-    let p = err_from_is_err_and c.from_residual.result c.from_residual.ensures.1 in
-    rw (p.1, p.2) (within _ c.in_err-cut.ensures.err)
-
-pub returns-in_err-weight-clause-err : goal.returns-in_err-weight-clause-err
-returns-in_err-weight-clause-err c =
-    let p = err_from_is_err_and c.from_residual-in_err-weight.result c.from_residual-in_err-weight.ensures.1 in
-    rw (p.1, p.2) (weight_refused c.args.set.now.variables c.args.set.now.items c.in_ok-cut.cut.cone c.in_ok-cut.cut.rays _ c.in_ok-cut.ensures.ok c.in_err-weight.ensures.wide)
-
-pub returns-in_err-weight-clause-complete : goal.returns-in_err-weight-clause-complete
-returns-in_err-weight-clause-complete c = λ within.
-    let p = err_from_is_err_and c.from_residual-in_err-weight.result c.from_residual-in_err-weight.ensures.1 in
-    rw (p.1, p.2) (within _ (weight_refused c.args.set.now.variables c.args.set.now.items c.in_ok-cut.cut.cone c.in_ok-cut.cut.rays _ c.in_ok-cut.ensures.ok c.in_err-weight.ensures.wide))
+pub weight_in-requires : goal.weight_in-requires
+weight_in-requires c = positive_wide c.args.set.now.variables c.variables.result c.in_ok-region.region c.variables.ensures c.in_ok-region.ensures
 
 pub returns-clause-value : goal.returns-clause-value
-returns-clause-value c = weight_is c.args.set.now.variables c.args.set.now.items c.in_ok-cut.cut.cone c.in_ok-cut.cut.rays c.in_ok-weight.weight c.in_ok-cut.ensures.ok c.in_ok-weight.ensures.value
+returns-clause-value c = subst (λ (k : Region). IfOk c.weight_in.result (IsWeightIn c.args.set.now.variables k c.args.set.now.items)) (positive_is c.args.set.now.variables c.variables.result c.in_ok-region.region c.variables.ensures c.in_ok-region.ensures) c.weight_in.ensures.value
+
+pub returns-clause-err : goal.returns-clause-err
+returns-clause-err c = subst (λ (k : Region). IfErr c.weight_in.result (IsWeightCauseIn c.args.set.now.variables k c.args.set.now.items)) (positive_is c.args.set.now.variables c.variables.result c.in_ok-region.region c.variables.ensures c.in_ok-region.ensures) c.weight_in.ensures.err
+
+pub returns-clause-complete : goal.returns-clause-complete
+returns-clause-complete c = λ within. only_memory _ c.weight_in.result (subst (λ (k : Region). IfErr c.weight_in.result (IsWeightCauseIn c.args.set.now.variables k c.args.set.now.items)) (positive_is c.args.set.now.variables c.variables.result c.in_ok-region.region c.variables.ensures c.in_ok-region.ensures) c.weight_in.ensures.err) within

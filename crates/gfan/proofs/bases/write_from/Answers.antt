@@ -1,16 +1,17 @@
-use Rattle.std.proofs.Common.{length, refl, sym, ap, subst, true, ◌∙◌}
+use Rattle.std.proofs.Common.{ℕ, length, refl, sym, ap, subst, true, ◌∙◌}
 use Rattle.std.proofs.lemmas.Result.{err_from_is_err_and}
 use Rattle.gf_poly.specs.Marking.{polys}
 use Rattle.gf_facets.specs.Regions.{all_positive}
 use Rattle.gf_reverse.specs.Upward.{IsNode}
+use Rattle.gf_subtree.specs.Rows.{first_row}
 use Rattle.gf_subtree.specs.Answers.{IsNextRow, IsRowEnd, IsRowAnswer}
 use Rattle.gfan.specs.BasesWriting.{IsUnderWay, IsListStopped}
 use Rattle.gfan.proofs.BasesListLaws.{first_node, first_own}
 use Rattle.gfan.proofs.BasesLaws.{starts, step_variables, goes_on, ends, stopped_early, stopped_tree, stopped_limit, stopped_piece, stopped_end, unnamed_tree, unnamed_piece, piece_calm}
 use Rattle.gfan.proofs.bases.write_from.Goals as goal
 
-pub new-requires-clause-basis : goal.new-requires-clause-basis
-new-requires-clause-basis g c κs within =
+pub waves_of-requires-clause-basis : goal.waves_of-requires-clause-basis
+waves_of-requires-clause-basis g c κs within =
     let n = length c.args.ring.now in
     let s = c.requires.first in
     subst (λ k. IsNode (all_positive k) c.args.root) (sym s.first.variables)
@@ -23,7 +24,7 @@ returns-in_err-waves-clause-stopped g c =
 
 pub list-init : goal.list-init
 list-init g c = record {
-  under_way = λ fs s. subst (λ w. IsUnderWay c.args.options c.args.ring.now fs w c.of-room.result true (g.K.Sink.held c.args.output.now) (g.K.Sink.held c.args.output.now)) (sym c.in_ok-waves.ensures.start)
+  under_way = λ fs s. subst (λ w. IsUnderWay c.args.options c.args.ring.now fs w c.of-room.result true (g.K.Sink.held c.args.output.now) (g.K.Sink.held c.args.output.now)) (sym (c.in_ok-waves.ensures ∙ ap (λ (n : ℕ). first_row c.args.alloc c.args.root (all_positive n) c.args.workers c.args.options.pairs) s.first.variables))
       (starts c.args.options c.args.ring.now fs c.args.alloc c.args.workers c.args.root c.of-room.result (g.K.Sink.held c.args.output.now) s.inside s.first c.of-room.ensures);
   calm = refl;
 }

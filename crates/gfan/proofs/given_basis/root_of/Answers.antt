@@ -18,17 +18,17 @@ pub returns-in-Err-autoreduce-clause-err : goal.returns-in-Err-autoreduce-clause
 returns-in-Err-autoreduce-clause-err c =
     IsGivenRootRefusal.at_tails c.in-Ok.basis c.in-Err-autoreduce.error c.in-Ok.ensures.basis.marked c.in-Ok.ensures.value c.in-Err-autoreduce.ensures.cause (c.of_check-in-Err-autoreduce.ensures ∙ ap of_check c.from.ensures)
 
-pub to_root-requires : goal.to_root-requires
-to_root-requires c =
+pub root_above-requires : goal.root_above-requires
+root_above-requires c =
     reduced_own c.args.marked.now c.in-Ok.basis c.items.ensures.variables c.in-Ok.ensures.value c.in-Ok.ensures.basis c.in-Ok-autoreduce.reduced c.in-Ok-autoreduce.ensures.value c.in-Ok-autoreduce.ensures.arranged c.in-Ok-autoreduce.ensures.reduced
 
-pub returns-in-Ok-to_root-clause-root : goal.returns-in-Ok-to_root-clause-root
-returns-in-Ok-to_root-clause-root c =
-    root_starts c.args.marked.now c.in-Ok.basis c.items.ensures.variables c.in-Ok.ensures.value c.in-Ok.ensures.basis c.in-Ok-autoreduce.reduced c.in-Ok-autoreduce.ensures.value c.in-Ok-autoreduce.ensures.arranged c.in-Ok-autoreduce.ensures.reduced c.in-Ok-to_root.root c.in-Ok-to_root.ensures.value
+pub returns-in-Ok-root_above-clause-root : goal.returns-in-Ok-root_above-clause-root
+returns-in-Ok-root_above-clause-root c =
+    root_starts c.args.marked.now c.in-Ok.basis c.items.ensures.variables c.in-Ok.ensures.value c.in-Ok.ensures.basis c.in-Ok-autoreduce.reduced c.in-Ok-autoreduce.ensures.value c.in-Ok-autoreduce.ensures.arranged c.in-Ok-autoreduce.ensures.reduced c.in-Ok-root_above.root c.in-Ok-root_above.ensures.value
 
 pub returns-clause-err : goal.returns-clause-err
 returns-clause-err c =
-    IsGivenRootRefusal.on_the_way c.in-Ok-autoreduce.reduced c.in-Err-to_root.error c.in-Ok.ensures.basis.marked
+    IsGivenRootRefusal.on_the_way c.in-Ok-autoreduce.reduced c.in-Err-root_above.error c.in-Ok.ensures.basis.marked
     (reduced_from c.args.marked.now c.in-Ok.basis c.items.ensures.variables c.in-Ok.ensures.value c.in-Ok.ensures.basis c.in-Ok-autoreduce.reduced c.in-Ok-autoreduce.ensures.value c.in-Ok-autoreduce.ensures.arranged c.in-Ok-autoreduce.ensures.reduced)
-    (way_from c.args.marked.now c.in-Ok.basis c.items.ensures.variables c.in-Ok.ensures.value c.in-Ok.ensures.basis c.in-Ok-autoreduce.reduced c.in-Ok-autoreduce.ensures.value c.in-Ok-autoreduce.ensures.arranged c.in-Ok-autoreduce.ensures.reduced c.args.pairs c.in-Err-to_root.error c.in-Err-to_root.ensures.way)
-    (ap (λ r. r.refusal) c.from-in-Err-to_root.ensures)
+    (way_from c.args.marked.now c.in-Ok.basis c.items.ensures.variables c.in-Ok.ensures.value c.in-Ok.ensures.basis c.in-Ok-autoreduce.reduced c.in-Ok-autoreduce.ensures.value c.in-Ok-autoreduce.ensures.arranged c.in-Ok-autoreduce.ensures.reduced c.args.pairs c.in-Err-root_above.error c.in-Err-root_above.ensures.way)
+    (ap (λ r. r.refusal) c.from-in-Err-root_above.ensures)

@@ -1,44 +1,64 @@
-use Rattle.std.proofs.Common.{IfErr, ◌≤◌, ◌≡◌, ◌∙◌, sym, ap, subst, ℕ, length}
+use Rattle.std.proofs.Common.{IfErr, ◌≤◌, sym, ap, subst, ℕ, length}
 use Rattle.gf_gordan.specs.Alternative.{AreRows}
-use Rattle.gf_facets.specs.Normals.{others_of}
-use Rattle.gf_cone.specs.Cones.{ConeRows, all_rows, other_rows, normal_at}
-use Rattle.gf_gordan.specs.Steps.{Failed}
-use Rattle.gf_cone.specs.Answers.{AnswersSystem, IsFlipTold, IsNormalStep}
-use Rattle.gf_cone.proofs.AnswerLaws.{flip_told, kept_wide, positive_for, answer_for, interior_of_others, others-append, others_all_of, given_rows_are, row_read, system_for, IfOk-weaker, small_others, small_at}
-use Rattle.gf_cone.proofs.CrossingLaws.{in_all}
 use Rattle.gf_gordan.specs.Sizes.{HaveEntriesUpTo}
+use Rattle.gf_gordan.specs.Steps.{Failed}
+use Rattle.gf_cone.specs.Cones.{ConeRows, other_rows, normal_at, in_region}
+use Rattle.gf_cone.specs.Answers.{AnswersSystem, IsFlipToldIn, IsNormalStep}
+use Rattle.gf_cone.proofs.AnswerLaws.{positive_for, answer_for, interior_of_others, normal_read, system_for, IfOk-weaker}
+use Rattle.gf_cone.proofs.RegionLaws.{flip_told_in, region_wide, system_rows, others_of_region, small_system, small_normal}
 use Rattle.gf_cone.proofs.cone.Cone.flippable.Goals as goal
 
 pub solved-requires-clause-widths : goal.solved-requires-clause-widths
 solved-requires-clause-widths c =
-    subst (AreRows c.self.inside.variables) (sym (c.as_slice.ensures.value ∙ c.in_ok-rows.ensures))
-    (others_all_of (λ t. length t ≡ c.self.inside.variables) c.vectors-vectors.result.now c.args.place
-    (subst (λ (m : ℕ). AreRows m c.vectors-vectors.result.now) (sym (ap (λ (z : ConeRows). z.variables) c.self.view_is)) c.vectors-vectors.ensures.widths))
+    let k = c.args.region.now in
+    let d = c.args.self.now in
+    let vars = ap (λ (z : ConeRows). z.variables) c.self.view_is in
+    let e = system_rows k d c.args.place c.self.inside.variables c.as_slice.result.now c.in_ok-rows.rows.items c.in_ok-more.more.items c.in_ok-list.list.items c.normals-normals.result.now c.rows.result.now
+    c.as_slice.ensures.value c.in_ok-rows.ensures c.in_ok-more.ensures c.in_ok-list.ensures c.normals-normals.ensures.value vars c.rows.ensures.value in
+    let w = region_wide k d (subst (AreRows d.variables) c.normals-normals.ensures.value c.normals-normals.ensures.widths) (subst (λ (m : ℕ). AreRows m k.rows) c.requires.width (subst (AreRows (length k.root)) c.rows.ensures.value c.rows.ensures.widths)) in
+    subst (λ (m : ℕ). AreRows m c.as_slice.result.now) (sym vars) (subst (AreRows d.variables) (sym e) (others_of_region k d c.args.place c.requires.place w))
 
 pub solved-requires-clause-positive : goal.solved-requires-clause-positive
-solved-requires-clause-positive c = positive_for (other_rows c.args.self.now c.args.place) c.as_slice.result.now (normal_at c.args.self.now c.args.place) c.index-vectors-place.result
-    (given_rows_are c.args.self.now c.args.place c.vectors-vectors.result.now c.as_slice.result.now c.in_ok-rows.rows.items c.as_slice.ensures.value c.in_ok-rows.ensures c.vectors-vectors.ensures.value (others-append c.args.place c.args.self.now.normals c.args.self.now.beside c.requires.place))
-    (row_read c.args.self.now c.vectors-vectors.result.now c.args.place c.index-vectors-place.result c.requires.place c.vectors-vectors.ensures.value c.index-vectors-place.is)
-    (interior_of_others c.args.self.now c.args.place c.requires.place c.requires.interior)
+solved-requires-clause-positive c =
+    let k = c.args.region.now in
+    let d = c.args.self.now in
+    let vars = ap (λ (z : ConeRows). z.variables) c.self.view_is in
+    let e = system_rows k d c.args.place c.self.inside.variables c.as_slice.result.now c.in_ok-rows.rows.items c.in_ok-more.more.items c.in_ok-list.list.items c.normals-normals.result.now c.rows.result.now
+    c.as_slice.ensures.value c.in_ok-rows.ensures c.in_ok-more.ensures c.in_ok-list.ensures c.normals-normals.ensures.value vars c.rows.ensures.value in
+    positive_for (other_rows (in_region k d) c.args.place) c.as_slice.result.now (normal_at d c.args.place) c.index-normals-place.result e
+    (normal_read d.normals c.normals-normals.result.now c.args.place c.index-normals-place.result c.requires.place c.normals-normals.ensures.value c.index-normals-place.is)
+    (interior_of_others (in_region k d) c.args.place c.requires.place c.requires.interior)
 
 pub returns-clause-told : goal.returns-clause-told
-returns-clause-told c = IfOk-weaker (AnswersSystem c.self.inside.variables c.as_slice.result.now c.index-vectors-place.result) (IsFlipTold c.args.self.now c.args.place) c.solved.result
-    (λ answer h. flip_told c.args.self.now c.args.place c.requires.place (kept_wide c.args.self.now c.self.inside.variables c.self.inside.count c.self.inside.vectors.items (sym c.self.view_is) c.self.invariant) c.requires.interior answer
-    (answer_for c.args.self.now.variables c.self.inside.variables (other_rows c.args.self.now c.args.place) c.as_slice.result.now (normal_at c.args.self.now c.args.place) c.index-vectors-place.result answer
-    (ap (λ (z : ConeRows). z.variables) c.self.view_is)
-    (given_rows_are c.args.self.now c.args.place c.vectors-vectors.result.now c.as_slice.result.now c.in_ok-rows.rows.items c.as_slice.ensures.value c.in_ok-rows.ensures c.vectors-vectors.ensures.value (others-append c.args.place c.args.self.now.normals c.args.self.now.beside c.requires.place))
-    (row_read c.args.self.now c.vectors-vectors.result.now c.args.place c.index-vectors-place.result c.requires.place c.vectors-vectors.ensures.value c.index-vectors-place.is)
-    h))
+returns-clause-told c =
+    let k = c.args.region.now in
+    let d = c.args.self.now in
+    let vars = ap (λ (z : ConeRows). z.variables) c.self.view_is in
+    let e = system_rows k d c.args.place c.self.inside.variables c.as_slice.result.now c.in_ok-rows.rows.items c.in_ok-more.more.items c.in_ok-list.list.items c.normals-normals.result.now c.rows.result.now
+    c.as_slice.ensures.value c.in_ok-rows.ensures c.in_ok-more.ensures c.in_ok-list.ensures c.normals-normals.ensures.value vars c.rows.ensures.value in
+    let w = region_wide k d (subst (AreRows d.variables) c.normals-normals.ensures.value c.normals-normals.ensures.widths) (subst (λ (m : ℕ). AreRows m k.rows) c.requires.width (subst (AreRows (length k.root)) c.rows.ensures.value c.rows.ensures.widths)) in
+    let n = normal_read d.normals c.normals-normals.result.now c.args.place c.index-normals-place.result c.requires.place c.normals-normals.ensures.value c.index-normals-place.is in
+    IfOk-weaker (AnswersSystem c.self.inside.variables c.as_slice.result.now c.index-normals-place.result) (IsFlipToldIn k d c.args.place) c.solved.result
+    (λ answer h. flip_told_in k d c.args.place c.requires.place w c.requires.interior answer
+    (answer_for d.variables c.self.inside.variables (other_rows (in_region k d) c.args.place) c.as_slice.result.now (normal_at d c.args.place) c.index-normals-place.result answer vars e n h))
     c.solved.ensures.ok
 
 pub returns-clause-three_columns : goal.returns-clause-three_columns
-returns-clause-three_columns c = λ v h. c.solved.ensures.three_columns
-    (subst (λ (m : ℕ). m ≤ 3) (sym (ap (λ (z : ConeRows). z.variables) c.self.view_is)) v)
-    (subst (HaveEntriesUpTo 500) (sym (c.as_slice.ensures.value ∙ c.in_ok-rows.ensures ∙ ap (others_of c.args.place) c.vectors-vectors.ensures.value)) (small_others 500 c.args.place (all_rows c.args.self.now) h))
-    (small_at 500 (all_rows c.args.self.now) c.vectors-vectors.result.now c.args.place c.index-vectors-place.result c.vectors-vectors.ensures.value (in_all c.args.self.now c.args.place c.requires.place) c.index-vectors-place.is h)
+returns-clause-three_columns c = λ v h.
+    let k = c.args.region.now in
+    let d = c.args.self.now in
+    let vars = ap (λ (z : ConeRows). z.variables) c.self.view_is in
+    let e = system_rows k d c.args.place c.self.inside.variables c.as_slice.result.now c.in_ok-rows.rows.items c.in_ok-more.more.items c.in_ok-list.list.items c.normals-normals.result.now c.rows.result.now
+    c.as_slice.ensures.value c.in_ok-rows.ensures c.in_ok-more.ensures c.in_ok-list.ensures c.normals-normals.ensures.value vars c.rows.ensures.value in
+    let n = normal_read d.normals c.normals-normals.result.now c.args.place c.index-normals-place.result c.requires.place c.normals-normals.ensures.value c.index-normals-place.is in
+    c.solved.ensures.three_columns (subst (λ (m : ℕ). m ≤ 3) (sym vars) v) (subst (HaveEntriesUpTo 500) (sym e) (small_system 500 k d c.args.place c.requires.place h)) (small_normal 500 k d c.args.place c.index-normals-place.result c.requires.place n h)
 
 pub returns-clause-err : goal.returns-clause-err
-returns-clause-err c = system_for (λ n rows a. IfErr c.solved.result (Failed (IsNormalStep n rows a))) _ _ _ _ _ _ (ap (λ (z : ConeRows). z.variables) c.self.view_is)
-    (given_rows_are c.args.self.now c.args.place c.vectors-vectors.result.now c.as_slice.result.now c.in_ok-rows.rows.items c.as_slice.ensures.value c.in_ok-rows.ensures c.vectors-vectors.ensures.value (others-append c.args.place c.args.self.now.normals c.args.self.now.beside c.requires.place))
-    (row_read c.args.self.now c.vectors-vectors.result.now c.args.place c.index-vectors-place.result c.requires.place c.vectors-vectors.ensures.value c.index-vectors-place.is)
-    c.solved.ensures.err
+returns-clause-err c =
+    let k = c.args.region.now in
+    let d = c.args.self.now in
+    let vars = ap (λ (z : ConeRows). z.variables) c.self.view_is in
+    let e = system_rows k d c.args.place c.self.inside.variables c.as_slice.result.now c.in_ok-rows.rows.items c.in_ok-more.more.items c.in_ok-list.list.items c.normals-normals.result.now c.rows.result.now
+    c.as_slice.ensures.value c.in_ok-rows.ensures c.in_ok-more.ensures c.in_ok-list.ensures c.normals-normals.ensures.value vars c.rows.ensures.value in
+    let n = normal_read d.normals c.normals-normals.result.now c.args.place c.index-normals-place.result c.requires.place c.normals-normals.ensures.value c.index-normals-place.is in
+    system_for (λ n rows a. IfErr c.solved.result (Failed (IsNormalStep n rows a))) _ _ _ _ _ _ vars e n c.solved.ensures.err
