@@ -6,12 +6,14 @@
 #![tactic(auto)]
 
 mod again;
+mod certificates;
 mod cones;
 mod duals;
 mod error;
 mod fan;
 mod fan_writer;
 mod file;
+mod limits;
 mod lines;
 mod numbers;
 mod parts;

@@ -1,4 +1,5 @@
 use Rattle.std.proofs.lemmas.Result.{err_from_is_err_and}
+use Rattle.std.proofs.Common.{inl}
 use Rattle.gf_fanfile.proofs.FilesFansLaws.{cones_of_ambient, cones_refused, fan_refused}
 use Rattle.gf_fanfile.proofs.fan.fan_of.Goals as goal
 
