@@ -1,6 +1,6 @@
 -- Which vectors lie inside a cone, and what a loop over rows and cones has tested.
--- To cite: proper_cones, inside_by, all_inside, inside_at, outside_at, wide_at, more_inside. The rest are steps.
-use Rattle.std.proofs.Common.{◌≡◌, ◌⊎◌, ℕ, ◌+◌, ◌<◌, ◌≤◌, List, [], length, get_or, ℤ, pos, ◌<ℤ◌, ◌≤ℤ◌, All, Any, Contains, refl, sym, ap, ◌∙◌, subst, inl, inr, arith}
+-- To cite: proper_cones, row_refutes, rows_decide, wide_inequality, wide_equation, inside_at, outside_at, wide_at, more_inside. The rest are steps.
+use Rattle.std.proofs.Common.{◌≡◌, ◌⊎◌, ◌↔◌, ℕ, ◌+◌, ◌<◌, ◌≤◌, Bool, true, false, IsTrue, List, [], length, get_or, ℤ, pos, ◌<ℤ◌, ◌≤ℤ◌, All, Any, Contains, refl, sym, ap, ◌∙◌, subst, inl, inr, arith}
 use Rattle.std.specs.List.{AllZip}
 use Rattle.std.proofs.lemmas.Bool.{cases_lt}
 use Rattle.std.proofs.lemmas.Int.{ints}
@@ -49,15 +49,30 @@ proper_cones f cones s a = all_by IsProper cones (λ c k.
 
 -- ---- inside a cone
 
-pub inside_by : (c : RowsAndRays) (v : List ℤ) → c.ambient ≡ length v → All (λ h. pos 0 <ℤ dot h v) c.inequalities → All (λ e. dot e v ≡ pos 0) c.equations → IsInterior c.ambient (rows_of c) v
+inside_by : (c : RowsAndRays) (v : List ℤ) → c.ambient ≡ length v → All (λ h. pos 0 <ℤ dot h v) c.inequalities → All (λ e. dot e v ≡ pos 0) c.equations → IsInterior c.ambient (rows_of c) v
 inside_by c v w p z = record {
   width = sym w;
   inside = record { not_negative = λ k d l. let up : pos 0 <ℤ dot (get_or c.inequalities k d) v = p k d l in omega (arith, ints, up); zero = z };
   positive = λ k d l. inl (p k d l);
 }
 
-pub all_inside : (c : RowsAndRays) (v : List ℤ) → IsProper c → IsInterior c.ambient (rows_of c) v → All (λ h. pos 0 <ℤ dot h v) c.inequalities
+all_inside : (c : RowsAndRays) (v : List ℤ) → IsProper c → IsInterior c.ambient (rows_of c) v → All (λ h. pos 0 <ℤ dot h v) c.inequalities
 all_inside c v proper i = all_by (λ h. pos 0 <ℤ dot h v) c.inequalities (λ h k. elim (All-contains (λ h. (pos 0 <ℤ dot h v) ⊎ IsZeroOn c.ambient c.inequalities c.equations h) c.inequalities h i.positive k) [ inl p ↦ p | inr z ↦ absurd (proper h k z) ])
+
+-- an inequality that isn't positive there shows that it isn't
+pub row_refutes : (c : RowsAndRays) (v : List ℤ) (all : Bool) → IsProper c → IsTrue all ↔ All (λ h. pos 0 <ℤ dot h v) c.inequalities → all ≡ false → IsTrue false ↔ IsInterior c.ambient (rows_of c) v
+row_refutes c v all proper positive no = (λ t. absurd (let e : IsTrue false = t in cc), λ i. sym no ∙ positive.1 (all_inside c v proper i))
+
+-- where all are positive there, the equations decide
+pub rows_decide : (c : RowsAndRays) (v : List ℤ) (yes : Bool) → c.ambient ≡ length v → All (λ h. pos 0 <ℤ dot h v) c.inequalities → IsTrue yes ↔ All (λ e. dot e v ≡ pos 0) c.equations → IsTrue yes ↔ IsInterior c.ambient (rows_of c) v
+rows_decide c v yes w p zero = (λ t. inside_by c v w p (zero.0 t), λ i. zero.1 i.inside.zero)
+
+-- an operation with one of its rows
+pub wide_inequality : (c : RowsAndRays) (v : List ℤ) (rows : List (List ℤ)) (w : WideVector) → rows ≡ c.inequalities → Any (λ h. IsFirstWide w (dot_steps (pos 0) h v)) rows → IsInsideStep c v w
+wide_inequality c v rows w is (i, row, l, at, h) = (row, (inl (subst (λ (rs : List (List ℤ)). Contains rs row) is (i, l, at)), h))
+
+pub wide_equation : (c : RowsAndRays) (v : List ℤ) (rows : List (List ℤ)) (w : WideVector) → rows ≡ c.equations → Any (λ h. IsFirstWide w (dot_steps (pos 0) h v)) rows → IsInsideStep c v w
+wide_equation c v rows w is (i, row, l, at, h) = (row, (inr (subst (λ (rs : List (List ℤ)). Contains rs row) is (i, l, at)), h))
 
 -- ---- rows and cones at a place
 

@@ -1,6 +1,6 @@
 -- A fan file is refused in one way, but for limits: its cones have one list of rows, so there is one first row that isn't inside its cone,
 -- and one first pair that doesn't meet in faces.
--- To cite: refusals_once, refusal_refutes, always_refused. The rest are steps.
+-- To cite: rows_same, refusals_once, refusal_refutes, always_refused. The rest are steps.
 use Rattle.std.proofs.Common.{◌≡◌, ◌⊎◌, ℕ, zero, suc, ◌<◌, ◌≤◌, Option, None, Some, ℤ, List, [], ◌∷◌, length, get_or, Result, Ok, Err, IfOk, IfErr, MatchResult, sym, ap₂, ◌∙◌, subst, inl, inr, arith, ap, min}
 use Rattle.std.specs.List.{AllZip}
 use Rattle.std.proofs.lemmas.Bool.{cases_lt}
@@ -27,7 +27,7 @@ use Rattle.gf_fanfile.proofs.OnceLaws.{refused_once, refused_unsound}
 -- ---- the cones of a file have one list of rows
 
 module _ (f : FanFile) where
-  rows_same : (ns : List ℕ) (c d : RowsAndRays) → IsConeOfFile f ns c → IsConeOfFile f ns d → rows_of c ≡ rows_of d
+  pub rows_same : (ns : List ℕ) (c d : RowsAndRays) → IsConeOfFile f ns c → IsConeOfFile f ns d → rows_of c ≡ rows_of d
   rows_same ns c d h k =
       let dual : Rows = record { inequalities = numbered f.rays ns; equations = f.lineality } in
       let one = rays_determined f.ambient dual dual c.equations c.inequalities d.equations d.inequalities (λ v l. (λ i. i, λ i. i)) h.rows k.rows in

@@ -24,3 +24,4 @@ pub mod WrittenFansLaws  -- what is written of a fan is a file whose cones can b
 pub mod CertificateLaws  -- which vectors lie inside a cone of a file
 pub mod FanOnceLaws  -- a fan file is refused in one way, but for limits
 pub mod ReadAgainLaws  -- what is written of a fan is read as that fan
+pub mod MigrationLaws  -- what a fan file is migrated to

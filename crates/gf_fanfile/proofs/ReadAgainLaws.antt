@@ -1,5 +1,5 @@
 -- What is written of a fan is read as that fan.
--- To cite: written_fans_are_read, again_read, again_text, again_refused, never_written. The rest are steps.
+-- To cite: written_refused, written_read, one_text, written_fans_are_read, of_text, again_read, again_text, again_refused, never_written. The rest are steps.
 use Rattle.std.proofs.Common.{◌≡◌, ℕ, zero, suc, ◌<◌, ℤ, length, List, [], ◌∷◌, ◌++◌, map, flat_map, get_or, slice_get, Option, None, Some, Result, Ok, Err, IfOk, IfErr, Contains, refl, sym, ap, ap₂, ◌∙◌, subst, inl, inr, arith}
 use Rattle.std.specs.Prelude.{option_map, option_to_list}
 use Rattle.std.specs.List.{AllZip}
@@ -158,13 +158,13 @@ pub limits_alone : (source : List ℕ) (f : FanFile) (e : FanFileError) → IsFi
 limits_alone source f e is s k m (before_cones r) = elim (sound_refused source f e is s r) [ inl q ↦ inl q | inr t ↦ inr (inl (t.0, (testing t.1.0, t.1.1))) ]
 limits_alone source f e is s k m (behind_form g so p r) = fault_limit f e k m (subst (λ q. IsFanFault q e) (file_once source f g is so) r)
 
-written_refused : (f : FanLists) (e : FanFileError) → IsFan f → IsWritable (parts_of_fan f) → IsFanFileRefusal (fan_text (parts_of_fan f)) e → IsFileLimit (file_of (parts_of_fan f)) e
+pub written_refused : (f : FanLists) (e : FanFileError) → IsFan f → IsWritable (parts_of_fan f) → IsFanFileRefusal (fan_text (parts_of_fan f)) e → IsFileLimit (file_of (parts_of_fan f)) e
 written_refused f e s w r =
     limits_alone (fan_text (parts_of_fan f)) (file_of (parts_of_fan f)) e (fans_again (parts_of_fan f) w) (written_fans_are_sound f.ambient s.0 f w.positive s.1) (written_certified f s) (written_meet f s) r
 
 -- ---- what is read
 
-written_read : (f h : FanLists) → IsFan f → IsWritable (parts_of_fan f) → IsFanOfText (fan_text (parts_of_fan f)) h → HaveSameCones f h
+pub written_read : (f h : FanLists) → IsFan f → IsWritable (parts_of_fan f) → IsFanOfText (fan_text (parts_of_fan f)) h → HaveSameCones f h
 written_read f h s w t =
     let x : IsFanOfFile (file_of (parts_of_fan f)) h = subst (λ z. IsFanOfFile z h) (file_once (fan_text (parts_of_fan f)) (file_of (parts_of_fan f)) t.file (fans_again (parts_of_fan f) w) t.is_file) t.of_file in
     file_cones f s.0 x.cones s.1 x.of_file h x.is_fan
@@ -200,7 +200,7 @@ same_parts f h l =
     let interiors : interiors_of h.ambient h.rays (listed_at h.cones h.maximal) ≡ interiors_of f.ambient f.rays (listed_at f.cones f.maximal) = λ i. interiors_of (l.ambient i) (l.rays i) (maximal i) in
     parts_same f h.ambient h.rays h.lineality h.orthogonal (listed_cones h.cones) (listed_at h.cones h.maximal) (interiors_of h.ambient h.rays (listed_at h.cones h.maximal)) l.ambient l.rays l.lineality l.orthogonal cones maximal interiors
 
-one_text : (f h : FanLists) → IsFan f → IsFan h → HaveSameCones f h → fan_text (parts_of_fan h) ≡ fan_text (parts_of_fan f)
+pub one_text : (f h : FanLists) → IsFan f → IsFan h → HaveSameCones f h → fan_text (parts_of_fan h) ≡ fan_text (parts_of_fan f)
 one_text f h s t w = ap fan_text (same_parts f h (fans_are_their_cones f h s t w))
 
 pub written_fans_are_read : WrittenFansAreRead
@@ -208,7 +208,7 @@ written_fans_are_read = record { meeting = written_meet; certified = written_cer
 
 -- ---- reading what was written
 
-of_text : (source : List ℕ) (h : FanLists) → IsFanOfText source h → IsFan h
+pub of_text : (source : List ℕ) (h : FanLists) → IsFanOfText source h → IsFan h
 of_text source h t = (t.of_file.cones, subst (λ z. IsFanOf z t.of_file.cones h) (sym t.of_file.is_fan.ambient) t.of_file.is_fan)
 
 pub again_read : (f : FanLists) (source : List ℕ) (r : Result FanLists FanFileError) → WrittenFansAreRead → IsFan f → IsWritable (parts_of_fan f) → source ≡ fan_text (parts_of_fan f) → IfOk r (IsFanOfText source) → IfOk r (HaveSameCones f)

@@ -1,6 +1,8 @@
 -- Sections are read one after another, and what is kept of them.
--- To cite: kind_ambient, kind_rays, kind_lineality, kind_cones, kind_version, kind_interiors, kind_any; IsReadUpTo, begun, one_more, repeated, faulty, finished. The rest are steps.
-use Rattle.std.proofs.Common.{◌≡◌, ◌⊎◌, ℕ, Bool, true, false, ◌||◌, List, [], ◌∷◌, ◌++◌, length, map, bytes_eq, Option, Some, None, Result, Ok, Err, refl, sym, ap, subst, inl, inr, ◌∙◌, append_assoc, append-nil, if◌then◌else◌}
+-- To cite: told_here, told_elsewhere, kind_ambient, kind_rays, kind_lineality, kind_cones, version_read, version_passed, version_section, interiors_section, other_section; IsReadUpTo, begun,
+-- one_more, repeated, faulty, finished. The rest are steps.
+use Rattle.std.proofs.Common.{◌≡◌, ◌⊎◌, ℕ, Bool, true, false, ◌||◌, List, [], ◌∷◌, ◌++◌, length, map, bytes_eq, Option, Some, None, Result, Ok, Err, ℤ, refl, sym, ap, subst, inl, inr, ◌∙◌, append_assoc, append-nil, if◌then◌else◌}
+use Rattle.std.specs.Prelude.{MatchBool, MatchResult}
 use Rattle.gf_text.specs.declared.TheConstants.{MOST_VARIABLES}
 use Rattle.gf_text.specs.Machine.{Lexeme}
 use Rattle.gf_text.specs.RingText.{has}
@@ -8,9 +10,11 @@ use Rattle.gf_text.specs.declared.error.Cause.TheVariants.{RepeatedName}
 use Rattle.gf_text.proofs.SetTokensLaws.{is_mark}
 use Rattle.gf_fanfile.specs.declared.error.FanFileError.{FanFileError}
 use Rattle.gf_fanfile.specs.declared.sections.Contents.{Contents}
-use Rattle.gf_fanfile.specs.Lines.{with_name, sections_from, content_from}
+use Rattle.gf_fanfile.specs.Lines.{with_name, sections, sections_from, content_from}
 use Rattle.gf_fanfile.specs.Refused.{refused_at}
-use Rattle.gf_fanfile.specs.FanText.{Content, number_to, rows, cones, any, the_number, the_rows, the_cones, Named, is_second, told_version, version_kind, interiors_kind, fan_table, table_of, kind_in, content_read, then_content, sections_read, text_read, found, file_version, ambient_dim, rays_name, lineality_space, maximal_cones, maximal_interiors}
+use Rattle.gf_fanfile.specs.ConeText.{most_number}
+use Rattle.gf_fanfile.specs.FanText.{ContentKind, Content, number_to, rows, cones, any, the_number, the_rows, the_cones, passed, Named, is_second, version_number, version_in, told_version, version_kind, interiors_kind, fan_table, table_of, kind_in, content_read, then_content, sections_read, text_read, found, file_version, ambient_dim, rays_name, lineality_space, maximal_cones, maximal_interiors}
+use Rattle.gf_fanfile.specs.Found.{IsRefusedSo}
 use Rattle.gf_fanfile.specs.Contents.{no_contents, IsSectionKept, at_ambient, at_rays, at_lineality, at_cones, at_interiors, at_other, number_kept, rows_kept, cones_kept, AreInteriorsKept, AreSectionsKept, Says}
 
 abbrev pub names_of : Named → List (List ℕ)
@@ -177,6 +181,69 @@ module _ (v : Option ℕ) (name : List ℕ) (no_ambient : bytes_eq ambient_dim n
 
   pub kind_any : bytes_eq file_version name ≡ false → bytes_eq maximal_interiors name ≡ false → kind_in (fan_table v) name ≡ any
   kind_any no_version no_interiors = rw (no_ambient, no_rays, no_lineality, no_cones, no_version, no_interiors) refl
+
+-- ---- the sections whose contents wait on the version
+
+-- FILE_VERSION isn't looked at where it doesn't tell the version
+pub version_passed : (length : ℕ) (v : Option ℕ) (content : List Lexeme) → v ≡ None → content_read length (version_kind v) content ≡ Ok passed
+version_passed length v content is = ap (λ (w : Option ℕ). content_read length (version_kind w) content) is
+
+-- else it is a number
+pub version_read : (length : ℕ) (v : Option ℕ) (number : ℕ) (content : List Lexeme) → v ≡ Some number → content_read length (version_kind v) content ≡ content_read length (number_to most_number) content
+version_read length v number content is = ap (λ (w : Option ℕ). content_read length (version_kind w) content) is
+
+module _ (length : ℕ) (name : List ℕ) (content : List Lexeme) (b : Contents) (no_ambient : bytes_eq ambient_dim name ≡ false) (no_rays : bytes_eq rays_name name ≡ false) (no_lineality : bytes_eq lineality_space name ≡ false) (no_cones : bytes_eq maximal_cones name ≡ false) where
+  -- what is read of it by its name, and as a content of this kind
+  abbrev ByName : Result Content FanFileError
+  ByName = content_read length (kind_in (fan_table b.version) name) content
+
+  abbrev ByKind : ContentKind → Result Content FanFileError
+  ByKind k = content_read length k content
+
+  pub version_section : bytes_eq file_version name ≡ true → (r : Result Contents FanFileError) →
+      MatchResult r (λ k. (k ≡ b) × ((c : Content) × (ByKind (version_kind b.version) ≡ Ok c))) (λ e. IsRefusedSo e (ByKind (version_kind b.version))) → MatchResult r (λ k. IsSectionKept name b k ByName) (λ e. IsRefusedSo e ByName)
+  version_section is r h = by r h
+    where
+      same : ByName ≡ ByKind (version_kind b.version)
+      same = ap ByKind (kind_version b.version name no_ambient no_rays no_lineality no_cones is)
+
+      other : bytes_eq maximal_interiors name ≡ false
+      other = ap (bytes_eq maximal_interiors) (sym (is_mark file_version name is))
+
+      by : (r : Result Contents FanFileError) → MatchResult r (λ k. (k ≡ b) × ((c : Content) × (ByKind (version_kind b.version) ≡ Ok c))) (λ e. IsRefusedSo e (ByKind (version_kind b.version))) → MatchResult r (λ k. IsSectionKept name b k ByName) (λ e. IsRefusedSo e ByName)
+      by (Ok k) h = at_other h.1.0 no_ambient no_rays no_lineality no_cones (inl other) (same ∙ h.1.1) h.0
+      by (Err e) h = subst (IsRefusedSo e) (sym same) h
+
+  -- the rows are kept in the version 2, and in others nothing is
+  abbrev pub AreRowsKept : Bool → Contents → Type 0
+  AreRowsKept second k = MatchBool second ((rs : List (List ℤ)) × (ByKind (interiors_kind second) ≡ Ok (the_rows rs)) × (k ≡ record b { interiors = Some rs })) ((ByKind (interiors_kind second) ≡ Ok passed) × (k ≡ b))
+
+  pub interiors_section : bytes_eq file_version name ≡ false → bytes_eq maximal_interiors name ≡ true → (r : Result Contents FanFileError) →
+      MatchResult r (AreRowsKept (is_second b.version)) (λ e. IsRefusedSo e (ByKind (interiors_kind (is_second b.version)))) → MatchResult r (λ k. IsSectionKept name b k ByName) (λ e. IsRefusedSo e ByName)
+  interiors_section no is r h = by r h
+    where
+      same : ByName ≡ ByKind (interiors_kind (is_second b.version))
+      same = ap ByKind (kind_interiors b.version name no_ambient no_rays no_lineality no_cones no is)
+
+      kept : (k : Contents) (second : Bool) → is_second b.version ≡ second → ByName ≡ ByKind (interiors_kind second) → AreRowsKept second k → IsSectionKept name b k ByName
+      kept k true told here g = at_interiors g.0 is told (here ∙ g.1) g.2
+      kept k false told here g = at_other passed no_ambient no_rays no_lineality no_cones (inr told) (here ∙ g.0) g.1
+
+      by : (r : Result Contents FanFileError) → MatchResult r (AreRowsKept (is_second b.version)) (λ e. IsRefusedSo e (ByKind (interiors_kind (is_second b.version)))) → MatchResult r (λ k. IsSectionKept name b k ByName) (λ e. IsRefusedSo e ByName)
+      by (Ok k) h = kept k (is_second b.version) refl same h
+      by (Err e) h = subst (IsRefusedSo e) (sym same) h
+
+  pub other_section : bytes_eq file_version name ≡ false → bytes_eq maximal_interiors name ≡ false → IsSectionKept name b b ByName
+  other_section no none = at_other passed no_ambient no_rays no_lineality no_cones (inl none) (ap ByKind (kind_any b.version name no_ambient no_rays no_lineality no_cones no none)) refl
+
+-- ---- the version that is told
+
+module _ (source : List ℕ) (x : Lexeme) (next : ℕ) (first : sections source ≡ (with_name x (sections_from source next)).all) where
+  pub told_here : bytes_eq file_version x.text ≡ true → told_version source ≡ Some (version_number (content_from source next))
+  told_here is = ap (version_in (length source)) first ∙ ap (λ b. if b then Some (version_number (content_from source next)) else None) is
+
+  pub told_elsewhere : bytes_eq file_version x.text ≡ false → told_version source ≡ None
+  told_elsewhere no = ap (version_in (length source)) first ∙ ap (λ b. if b then Some (version_number (content_from source next)) else None) no
 
 -- ---- from left to right
 

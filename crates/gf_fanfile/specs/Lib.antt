@@ -15,3 +15,4 @@ pub mod Duals  -- what is generated, by the dual cone
 pub mod Certificates  -- the rows of MAXIMAL_INTERIORS lie inside their cones
 pub mod FilesFans  -- the fan that a fan file says, and why there is none
 pub mod WrittenFans  -- the text of a fan says a file whose cones can be built
+pub mod Migration  -- what a fan file is migrated to, and why it isn't
