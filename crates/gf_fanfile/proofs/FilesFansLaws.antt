@@ -1,5 +1,5 @@
 -- The cones of a file, and why they have no fan.
--- To cite: numbered_rows, rays_along, cone_generated, dual_step, cone_step, step_of_cones, zip_further, cones_of_ambient, cones_refused, fan_refused, fan_said, fan_narrow,
+-- To cite: numbered_rows, rays_along, cone_generated, dual_step, cone_step, step_of_cones, zip_further, cones_of_ambient, cones_refused, fan_refused, only_memory, fan_said, fan_narrow,
 -- fan_refusal, fan_complete. The rest are steps.
 use Rattle.std.specs.Prelude.{◌≡◌, ◌⊎◌, ℕ, ◌+◌, ◌<◌, ◌≤◌, List, [], ◌∷◌, ◌++◌, length, take, get_or, ℤ, Option, Some, Contains, Result, Ok, Err, IfOk, IfErr, MatchResult}
 use Rattle.std.specs.List.{AllZip}
@@ -115,7 +115,7 @@ certificate_within f cones rows e w k a is h = by h
     by (at_row place g q) = g.here (inside.each place g.within)
     by (too_wide x g q) = w.certificates x (record { cones = cones; rows = rows; of_file = a; has = is; step = g })
 
-only_memory : (f : FanFile) (e : FanFileError) → IsFileWithinLimits f → IsCertifiedFile f → AreFileConesMeeting f → IsFanFault f e ⊎ (e ≡ errors.Memory) → e ≡ errors.Memory
+pub only_memory : (f : FanFile) (e : FanFileError) → IsFileWithinLimits f → IsCertifiedFile f → AreFileConesMeeting f → IsFanFault f e ⊎ (e ≡ errors.Memory) → e ≡ errors.Memory
 only_memory f e w k m (inl (in_cone s h q)) = absurd (w.cones s h)
 only_memory f e w k m (inl (in_certificate cones rows a is h)) = absurd (certificate_within f cones rows e w k a is h)
 only_memory f e w k m (inl (in_fan cones d a c h q)) = q ∙ fan_within f.ambient cones d (w.fan cones a) (m cones a) h
