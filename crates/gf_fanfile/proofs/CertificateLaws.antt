@@ -1,5 +1,5 @@
 -- Which vectors lie inside a cone, and what a loop over rows and cones has tested.
--- To cite: proper_cones, row_refutes, rows_decide, wide_inequality, wide_equation, inside_at, outside_at, wide_at, more_inside. The rest are steps.
+-- To cite: proper_cones, row_refutes, rows_decide, wide_inequality, wide_equation, inside_at, outside_at, wide_at, width_at, proper_at, ambient_at, more_inside. The rest are steps.
 use Rattle.std.proofs.Common.{◌≡◌, ◌⊎◌, ◌↔◌, ℕ, ◌+◌, ◌<◌, ◌≤◌, Bool, true, false, IsTrue, List, [], length, get_or, ℤ, pos, ◌<ℤ◌, ◌≤ℤ◌, All, Any, Contains, refl, sym, ap, ◌∙◌, subst, inl, inr, arith}
 use Rattle.std.specs.List.{AllZip}
 use Rattle.std.proofs.lemmas.Bool.{cases_lt}
@@ -92,6 +92,15 @@ module _ (n : ℕ) (cones : List RowsAndRays) (rows : List (List ℤ)) (place : 
 
   pub wide_at : (w : WideVector) → IsInsideStep c r w → (d : RowsAndRays) (s : List ℤ) → IsInsideStep (get_or cones place d) (get_or rows place s) w
   wide_at w h d s = subst (λ (x : RowsAndRays). IsInsideStep x (get_or rows place s) w) (sym (cone_at cones place c d at_cones of_cones)) (subst (λ (x : List ℤ). IsInsideStep c x w) (sym (row_at rows place r s at_rows of_rows)) h)
+
+  pub width_at : All (λ (x : RowsAndRays). x.ambient ≡ n) cones → AreRows n rows → c.ambient ≡ length r
+  width_at a w = ap (λ (x : RowsAndRays). x.ambient) at_cones ∙ a place c of_cones ∙ sym (ap length at_rows ∙ w place r of_rows)
+
+  pub proper_at : All IsProper cones → IsProper c
+  proper_at p = subst IsProper (sym at_cones) (p place c of_cones)
+
+  pub ambient_at : All (λ (x : RowsAndRays). x.ambient ≡ n) cones → c.ambient ≡ n
+  ambient_at a = ap (λ (x : RowsAndRays). x.ambient) at_cones ∙ a place c of_cones
 
   -- one row further
   pub more_inside : ((k : ℕ) → k < place → IsInsideAt n cones rows k) → IsInsideAt n cones rows place → (k : ℕ) → k < place + 1 → IsInsideAt n cones rows k
