@@ -61,11 +61,11 @@ all_inside c v proper i = all_by (λ h. pos 0 <ℤ dot h v) c.inequalities (λ h
 
 -- an inequality that isn't positive there shows that it isn't
 pub row_refutes : (c : RowsAndRays) (v : List ℤ) (all : Bool) → IsProper c → IsTrue all ↔ All (λ h. pos 0 <ℤ dot h v) c.inequalities → all ≡ false → IsTrue false ↔ IsInterior c.ambient (rows_of c) v
-row_refutes c v all proper positive no = (λ t. absurd (let e : IsTrue false = t in cc), λ i. sym no ∙ positive.1 (all_inside c v proper i))
+row_refutes c v all proper positive fails = (λ t. absurd (cc), λ i. sym fails ∙ positive.1 (all_inside c v proper i))
 
 -- where all are positive there, the equations decide
-pub rows_decide : (c : RowsAndRays) (v : List ℤ) (yes : Bool) → c.ambient ≡ length v → All (λ h. pos 0 <ℤ dot h v) c.inequalities → IsTrue yes ↔ All (λ e. dot e v ≡ pos 0) c.equations → IsTrue yes ↔ IsInterior c.ambient (rows_of c) v
-rows_decide c v yes w p zero = (λ t. inside_by c v w p (zero.0 t), λ i. zero.1 i.inside.zero)
+pub rows_decide : (c : RowsAndRays) (v : List ℤ) (all : Bool) → c.ambient ≡ length v → All (λ h. pos 0 <ℤ dot h v) c.inequalities → IsTrue all ↔ All (λ e. dot e v ≡ pos 0) c.equations → IsTrue all ↔ IsInterior c.ambient (rows_of c) v
+rows_decide c v all w p zero = (λ t. inside_by c v w p (zero.0 t), λ i. zero.1 i.inside.zero)
 
 -- an operation with one of its rows
 pub wide_inequality : (c : RowsAndRays) (v : List ℤ) (rows : List (List ℤ)) (w : WideVector) → rows ≡ c.inequalities → Any (λ h. IsFirstWide w (dot_steps (pos 0) h v)) rows → IsInsideStep c v w
@@ -88,7 +88,7 @@ module _ (n : ℕ) (cones : List RowsAndRays) (rows : List (List ℤ)) (place : 
       (subst (λ (x : List ℤ). IsInterior n (rows_of c) x) (sym (row_at rows place r s at_rows of_rows)) (subst (λ m. IsInterior m (rows_of c) r) e i))
 
   pub outside_at : c.ambient ≡ n → (IsInterior c.ambient (rows_of c) r → ⊥) → IsInsideAt n cones rows place → ⊥
-  outside_at e no i = no (subst (λ m. IsInterior m (rows_of c) r) (sym e) (subst (λ (x : List ℤ). IsInterior n (rows_of c) x) (sym at_rows) (subst (λ (x : RowsAndRays). IsInterior n (rows_of x) (get_or rows place r)) (sym at_cones) (i c r))))
+  outside_at e fails i = fails (subst (λ m. IsInterior m (rows_of c) r) (sym e) (subst (λ (x : List ℤ). IsInterior n (rows_of c) x) (sym at_rows) (subst (λ (x : RowsAndRays). IsInterior n (rows_of x) (get_or rows place r)) (sym at_cones) (i c r))))
 
   pub wide_at : (w : WideVector) → IsInsideStep c r w → (d : RowsAndRays) (s : List ℤ) → IsInsideStep (get_or cones place d) (get_or rows place s) w
   wide_at w h d s = subst (λ (x : RowsAndRays). IsInsideStep x (get_or rows place s) w) (sym (cone_at cones place c d at_cones of_cones)) (subst (λ (x : List ℤ). IsInsideStep c x w) (sym (row_at rows place r s at_rows of_rows)) h)

@@ -143,7 +143,7 @@ module _ (done : Named) (name : List ℕ) (b a : Contents) (kept : AreSectionsKe
       lineality = found_other name c done lineality_space (not_same lineality_space no_lineality) ∙ kept.lineality ∙ ap (λ (k : Contents). rows_kept k.lineality) (sym same);
       cones = found_other name c done maximal_cones (not_same maximal_cones no_cones) ∙ kept.cones ∙ ap (λ (k : Contents). cones_kept k.cones) (sym same);
       interiors = elim last [
-        | inl no ↦ interiors_along c (found_other name c done maximal_interiors (not_same maximal_interiors no)) (ap (λ (k : Contents). k.version) same) (ap (λ (k : Contents). k.interiors) same)
+        | inl other ↦ interiors_along c (found_other name c done maximal_interiors (not_same maximal_interiors other)) (ap (λ (k : Contents). k.version) same) (ap (λ (k : Contents). k.interiors) same)
         | inr old ↦ interiors_none (found maximal_interiors (done ++ (name, c) ∷ [])) old (ap (λ (k : Contents). k.version) same) (ap (λ (k : Contents). k.interiors) same)
       ];
     },
@@ -220,10 +220,10 @@ module _ (length : ℕ) (name : List ℕ) (content : List Lexeme) (b : Contents)
 
   pub interiors_section : bytes_eq file_version name ≡ false → bytes_eq maximal_interiors name ≡ true → (r : Result Contents FanFileError) →
       MatchResult r (AreRowsKept (is_second b.version)) (λ e. IsRefusedSo e (ByKind (interiors_kind (is_second b.version)))) → MatchResult r (λ k. IsSectionKept name b k ByName) (λ e. IsRefusedSo e ByName)
-  interiors_section no is r h = by r h
+  interiors_section other is r h = by r h
     where
       same : ByName ≡ ByKind (interiors_kind (is_second b.version))
-      same = ap ByKind (kind_interiors b.version name no_ambient no_rays no_lineality no_cones no is)
+      same = ap ByKind (kind_interiors b.version name no_ambient no_rays no_lineality no_cones other is)
 
       kept : (k : Contents) (second : Bool) → is_second b.version ≡ second → ByName ≡ ByKind (interiors_kind second) → AreRowsKept second k → IsSectionKept name b k ByName
       kept k true told here g = at_interiors g.0 is told (here ∙ g.1) g.2
@@ -234,7 +234,7 @@ module _ (length : ℕ) (name : List ℕ) (content : List Lexeme) (b : Contents)
       by (Err e) h = subst (IsRefusedSo e) (sym same) h
 
   pub other_section : bytes_eq file_version name ≡ false → bytes_eq maximal_interiors name ≡ false → IsSectionKept name b b ByName
-  other_section no none = at_other passed no_ambient no_rays no_lineality no_cones (inl none) (ap ByKind (kind_any b.version name no_ambient no_rays no_lineality no_cones no none)) refl
+  other_section other none = at_other passed no_ambient no_rays no_lineality no_cones (inl none) (ap ByKind (kind_any b.version name no_ambient no_rays no_lineality no_cones other none)) refl
 
 -- ---- the version that is told
 
@@ -243,7 +243,7 @@ module _ (source : List ℕ) (x : Lexeme) (next : ℕ) (first : sections source 
   told_here is = ap (version_in (length source)) first ∙ ap (λ b. if b then Some (version_number (content_from source next)) else None) is
 
   pub told_elsewhere : bytes_eq file_version x.text ≡ false → told_version source ≡ None
-  told_elsewhere no = ap (version_in (length source)) first ∙ ap (λ b. if b then Some (version_number (content_from source next)) else None) no
+  told_elsewhere other = ap (version_in (length source)) first ∙ ap (λ b. if b then Some (version_number (content_from source next)) else None) other
 
 -- ---- from left to right
 

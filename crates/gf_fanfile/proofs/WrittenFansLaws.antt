@@ -1,5 +1,5 @@
 -- What is written of a fan is a file whose cones can be built, and is within the limits of fan files.
--- To cite: ray_outside, of_places, sum_inside, sum_inside_read, fan_sums, written_fans_are_sound, written_cones_are_read, cones_writable, fan_ray_rows, fan_lineality, fan_orthogonal, writable_along, fan_writable. The rest are steps.
+-- To cite: ray_outside, of_places, sum_inside, sum_inside_read, fan_interiors, fan_sums, written_fans_are_sound, written_cones_are_read, cones_writable, fan_ray_rows, fan_lineality, fan_orthogonal, writable_along, fan_writable. The rest are steps.
 use Rattle.std.proofs.Common.{◌≡◌, ℕ, zero, suc, ◌<◌, ◌≤◌, List, [], ◌∷◌, ◌++◌, length, map, get_or, slice_get, remove, Option, None, Some, All, Contains, ℤ, refl, sym, ap, ◌∙◌, subst, inl, inr, arith}
 use Rattle.std.specs.List.{AllZip}
 use Rattle.std.proofs.lemmas.List.{get_or_default, length-map}
@@ -97,6 +97,9 @@ module _ (n : ℕ) (given : List RowsAndRays) (f : FanLists) (s : IsFanOf n give
       let k = of_places f.cones f.maximal m.0 m.1.0 in
       let same : k.0.numbers ≡ m.0.rays = ap (λ (x : ListedCone). x.rays) k.1.1 in
       ap length (sym m.1.1) ∙ subst (λ (ns : List ℕ). length (sum_of n (numbered f.rays ns)) ≡ n) same (sum_inside k.0 k.1.0).width)
+
+pub fan_interiors : (f : FanLists) (n : ℕ) (rows : List (List ℤ)) → IsFan f → n ≡ f.ambient → rows ≡ interiors_of f.ambient f.rays (listed_at f.cones f.maximal) → AreRows n rows
+fan_interiors f n rows h e q = subst (λ m. AreRows m rows) (sym e) (subst (AreRows f.ambient) (sym q) (sum_rows f.ambient h.0 f h.1))
 
 pub fan_sums : (f : FanLists) → IsFan f → AreSumsWithin f → AreWritable f.ambient (parts_of_fan f).interiors
 fan_sums f h w = record { width = sum_rows f.ambient h.0 f h.1; entries = w }

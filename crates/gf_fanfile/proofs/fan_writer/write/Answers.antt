@@ -1,9 +1,8 @@
-use Rattle.std.proofs.Common.{◌≡◌, ◌∙◌, ap, ap₂, sym, subst}
-use Rattle.std.proofs.lemmas.Result.{err_from_is_err_and}
-use Rattle.gf_gordan.specs.Alternative.{AreRows}
+use Rattle.std.proofs.Common.{◌∙◌, ap, ap₂}
 use Rattle.gf_fanfile.specs.FanWords.{fan_text}
-use Rattle.gf_fanfile.specs.FanTexts.{listed_cones, listed_at, parts_of_fan}
+use Rattle.gf_fanfile.specs.FanTexts.{listed_cones, listed_at}
 use Rattle.gf_fanfile.proofs.FanPartsLaws.{maximal_inside, parts_same}
+use Rattle.gf_fanfile.proofs.WrittenFansLaws.{fan_interiors}
 use Rattle.gf_fanfile.proofs.fan_writer.write.Goals as goal
 
 pub listed_at-requires : goal.listed_at-requires
@@ -17,3 +16,6 @@ returns-clause-ok c =
     (c.deref-2.ensures.value ∙ c.in_ok-cones.ensures ∙ ap listed_cones c.cones.ensures.value)
     (c.deref-3.ensures.value ∙ c.in_ok-maximal.ensures ∙ ap₂ listed_at c.cones-2.ensures.value c.maximal.ensures)
     (c.deref-4.ensures.value ∙ c.in_ok-interiors.ensures.ok))
+
+pub rows_are_writable-requires : goal.rows_are_writable-requires
+rows_are_writable-requires c = fan_interiors c.args.fan.now c.ambient.result c.deref.result.now c.cones.ensures.fan c.ambient.ensures (c.deref.ensures.value ∙ c.in_ok-interiors.ensures.ok)
