@@ -1,6 +1,9 @@
 //! The text of a fan.
 ghost use Rattle.std.specs.Prelude.{◌≡◌, ◌<◌, length, All, IfOk, IfErr};
-ghost use Rattle.gf_vec.specs.Steps.{IfWide};
+ghost use Rattle.gf_vec.specs.Vector.{zeros};
+ghost use Rattle.gf_vec.specs.Steps.{IsFirstWide, IfWide};
+ghost use Rattle.gf_duality.specs.Faces.{sum_of};
+ghost use Rattle.gf_rays.specs.Sums.{adding_steps};
 ghost use Rattle.gf_fanfile.specs.FanWords.{fan_text};
 ghost use Rattle.gf_fanfile.specs.FanTexts.{listed_cone, listed_cones, listed_at, interiors_of, parts_of_fan, IsWritingStep, AreSumsWithin};
 
@@ -63,6 +66,14 @@ fn listed_at(
     Ok(out)
 }
 
+/// The sum of the rays of a cone.
+fn interior_of(cone: &FanCone) -> Result<IntVec, VecError>
+    ensures ok { IfOk result (λ v. v ≡ sum_of cone.now.cone.ambient cone.now.cone.rays) }
+    ensures wide { IfErr result (IfWide (λ w. IsFirstWide w (adding_steps (zeros cone.now.cone.ambient) cone.now.cone.rays))) }
+{
+    cone.cone.interior()
+}
+
 /// The sums of the rays of the maximal cones.
 ///
 /// # Errors
@@ -75,7 +86,7 @@ fn interiors(alloc: Global, fan: &Fan) -> Result<Vec<IntVec>, VecError>
     let places = fan.maximal();
     let mut out = Vec::with_capacity(alloc, places.len())?;
     'places: for place in places {
-        let sum = cones[*place as usize].cone.interior()?;
+        let sum = interior_of(&cones[*place as usize])?;
         out.push(sum)?;
     }
     Ok(out)

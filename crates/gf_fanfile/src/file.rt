@@ -1,12 +1,12 @@
 //! What a fan file says: its sections, and what is asked of them before its cones are built.
-ghost use Rattle.std.specs.Prelude.{◌≡◌, ◌⊎◌, ◌<◌, ◌≤◌, ℕ, List, [], length, Some, All, IfOk, IfSome, IfErr, MatchBool, MatchOption, MatchResult};
+ghost use Rattle.std.specs.Prelude.{◌≡◌, ◌⊎◌, ◌<◌, ◌≤◌, ◌&&◌, is_none, ℕ, List, [], length, Some, All, IfOk, IfSome, IfErr, MatchBool, MatchOption, MatchResult};
 ghost use Rattle.gf_gordan.specs.Alternative.{AreRows};
 ghost use Rattle.gf_gordan.specs.Steps.{Failed};
 ghost use Rattle.gf_duality.specs.Rays.{Generated};
 ghost use Rattle.gf_text.specs.declared.TheConstants.{MOST_VARIABLES};
 ghost use Rattle.gf_fanfile.specs.declared.error.FanFileError.TheVariants.{Memory};
 ghost use Rattle.gf_fanfile.specs.Contents.{Says};
-ghost use Rattle.gf_fanfile.specs.FanText.{IsKnownVersion};
+ghost use Rattle.gf_fanfile.specs.FanText.{is_second, IsKnownVersion};
 ghost use Rattle.gf_fanfile.specs.Files.{IsFileOf, IsOutside, AreBelow, interior_rows, IsSoundFile, IsRayTestStep, AreTestsWithin, IsBehind, IsLengthFault, IsRayFault, IsNumberFault, IsFormFault, IsFileRefused, IsOfLimits};
 
 use crate::cones::{ConeList, RayNumbers};
@@ -45,6 +45,13 @@ fn unknown(version: Option<u64>) -> Option<u64>
     }
 }
 
+/// Whether rows for the maximal cones are wanting.
+fn lacks_interiors(version: Option<u64>, interiors: &Option<Vectors>) -> bool
+    ensures { result ≡ (is_second version && is_none interiors.now) }
+{
+    is_second(version) && interiors.is_none()
+}
+
 /// The file that these contents of a text make, where its version is known and all of its sections are there.
 fn whole(contents: Contents) -> Result<FanFile, FanFileError>
     requires { IfSome contents.ambient (λ n. n ≤ MOST_VARIABLES) }
@@ -74,7 +81,7 @@ fn whole(contents: Contents) -> Result<FanFile, FanFileError>
     let Some(cones) = cones else {
         return Err(missing(Section::MaximalCones));
     };
-    if is_second(version) && interiors.is_none() {
+    if lacks_interiors(version, &interiors) {
         return Err(missing(Section::MaximalInteriors));
     }
     Ok(FanFile {

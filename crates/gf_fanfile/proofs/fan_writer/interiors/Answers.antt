@@ -24,4 +24,4 @@ places-preserved c =
     let k = c.index-cones-place.result in
     let inside = maximal_inside f places cones fan c.maximal-places.ensures c.cones-cones.ensures.value c.places.place-index 0 c.places-test.true in
     interiors_more f.ambient f.rays cones places c.places.place-index k c.in_ok-sum.sum c.places.out.items c.push.new.self.items c.places-test.true inside c.index-cones-place.is
-    (interior_value f cones _ k c.in_ok-sum.sum fan c.cones-cones.ensures.value inside c.index-cones-place.is c.in_ok-sum.ensures.value) c.in_ok-push.ensures.items c.places.invariant
+    (interior_value f cones _ k c.in_ok-sum.sum fan c.cones-cones.ensures.value inside c.index-cones-place.is c.in_ok-sum.ensures.ok) c.in_ok-push.ensures.items c.places.invariant
