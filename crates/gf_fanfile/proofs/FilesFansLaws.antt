@@ -1,5 +1,5 @@
 -- The cones of a file, and why they have no fan.
--- To cite: numbered_rows, rays_along, cone_generated, dual_step, cone_step, step_of_cones, zip_further, cones_of_ambient, cones_refused, fan_refused, only_memory, fan_said, fan_narrow,
+-- To cite: numbered_rows, rays_along, cone_generated, dual_step, cone_step, step_of_cones, zip_further, cones_of_ambient, cones_refused, fan_refused, certificate_fault, only_memory, fan_said, fan_narrow,
 -- fan_refusal, fan_complete. The rest are steps.
 use Rattle.std.specs.Prelude.{◌≡◌, ◌⊎◌, ℕ, ◌+◌, ◌<◌, ◌≤◌, List, [], ◌∷◌, ◌++◌, length, take, get_or, ℤ, Option, Some, Contains, Result, Ok, Err, IfOk, IfErr, MatchResult}
 use Rattle.std.specs.List.{AllZip}
@@ -89,6 +89,11 @@ cones_refused f gordan_errors.Memory e h q = inr q
 
 pub fan_refused : (f : FanFile) (cones : List RowsAndRays) (d : FanError) (e : FanFileError) → AreConesOfFile f cones → AreCertified f.ambient cones f.interiors → IsFanRefusal f.ambient cones d → e ≡ refusal_of_fan d → IsFanFault f e ⊎ (e ≡ errors.Memory)
 fan_refused f cones d e a k h q = inl (in_fan cones d a k h q)
+
+-- what its rows are refused for
+pub certificate_fault : {X : Type 0} (f : FanFile) (cones : List RowsAndRays) (rows given : List (List ℤ)) (r : Result X FanFileError) → AreConesOfFile f cones → f.interiors ≡ Some rows → given ≡ rows → MatchResult r (λ _. AreInside f.ambient cones given) (IsCertificateFault f.ambient cones given) → IfErr r (IsFanFault f)
+certificate_fault f cones rows given (Ok x) a is q h = tt
+certificate_fault f cones rows given (Err e) a is q h = in_certificate cones rows a is (subst (λ (rs : List (List ℤ)). IsCertificateFault f.ambient cones rs e) q h)
 
 narrow : (source : List ℕ) (f : FanFile) (h : FanLists) → IsFileOf source f → IsFanOfFile f h → h.ambient ≤ MOST_VARIABLES
 narrow source f h is k = subst (λ n. n ≤ MOST_VARIABLES) (sym k.is_fan.ambient) (file_within source f is)
