@@ -107,10 +107,10 @@ file_words source e d w m (not_there all section held known missing is) (in_form
 file_words source e d w m (in_form f said h) (in_form g read k) l = form_words f e d w m h (subst (λ q. IsFormFault q d) (file_once source f g said read) k) l
 
 -- nor is a file whose rows don't lie inside its cones
-certificate_words : (f : FanFile) (e : FanFileError) (cs : List RowsAndRays) (rows : List (List ℤ)) → IsOfWords e → IsCertificateFault f.ambient cs rows e → ⊥
-certificate_words f e cs rows w (other_count other q) = subst IsOfWords q w
-certificate_words f e cs rows w (at_row place h q) = subst IsOfWords q w
-certificate_words f e cs rows w (too_wide x h q) = subst IsOfWords q w
+certificate_words : (f : FanFile) (e : FanFileError) (cs : List RowsAndRays) (given : List (List ℤ)) → IsOfWords e → IsCertificateFault f.ambient cs given e → ⊥
+certificate_words f e cs given w (other_count other q) = subst IsOfWords q w
+certificate_words f e cs given w (at_row place h q) = subst IsOfWords q w
+certificate_words f e cs given w (too_wide x h q) = subst IsOfWords q w
 
 -- where a text is refused so, it is refused so exactly
 pub words_refused_once : (source : List ℕ) (e d : FanFileError) → IsOfWords e → IsFanFileRefusal source e → IsFanFileRefusal source d → (d ≡ e) ⊎ (d ≡ errors.Memory)
@@ -124,7 +124,7 @@ words_refused_once source e d w (before_cones h) (before_cones k) = by d k (refu
     by _ k (inr l) = absurd l
 words_refused_once source e d w (before_cones h) (behind_form f is s k) = absurd (refused_unsound source f e (told_words e w) is s h)
 words_refused_once source e d w (behind_form f is s (in_cone o h q)) k = absurd (subst IsOfWords q w)
-words_refused_once source e d w (behind_form f is s (in_certificate cs rows a has h)) k = absurd (certificate_words f e cs rows w h)
+words_refused_once source e d w (behind_form f is s (in_certificate cs given a has h)) k = absurd (certificate_words f e cs given w h)
 words_refused_once source e d w (behind_form f is s (in_fan cs x a c h q)) k = absurd (fan_words x (subst IsOfWords q w))
   where
     fan_words : (x : FanError) → IsOfWords (refusal_of_fan x) → ⊥
