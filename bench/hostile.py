@@ -222,6 +222,8 @@ SMALL = [
         ("_homogeneityspace", b"Q[a,b] {a-b}"),
         (REFINEMENT, PLANE, QUADRANT),
         (REFINEMENT, SPACE, SPACE),
+        ("_migratefan", SPACE),
+        ("_migratefan", b"FILE_VERSION\n2\n" + QUADRANT + b"MAXIMAL_INTERIORS\n2 1\n"),
         ("_tropicalhypersurface", b"Q[a,b] {a+b+1}"),
         ("_tropicalintersection", b"Q[a,b] {a+b+1,a-b}"),
         ("_minkowskisum", b"Q[a,b] {a+1,b+1}"),

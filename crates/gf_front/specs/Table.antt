@@ -221,6 +221,7 @@ plain_commands =
     ∷ (codes "_tropicalhypersurface", plains.TropicalHypersurface)
     ∷ (codes "_tropicalintersection", plains.TropicalIntersection)
     ∷ (codes "_minkowskisum", plains.MinkowskiSum)
+    ∷ (codes "_migratefan", plains.MigrateFan)
     ∷ []
 
 -- the first of these that has the name

@@ -186,6 +186,7 @@ fn other_commands_have_their_jobs(rt: HostRuntime) -> Result<(), Fail> {
             "Ok(ToPolyhedralFan(ToPolyhedralFanOptions { restrict: true }))",
         ),
         ("_homogeneityspace", "Ok(Plain(HomogeneitySpace))"),
+        ("_migratefan", "Ok(Plain(MigrateFan))"),
         ("_tropicalhypersurface", "Ok(Plain(TropicalHypersurface))"),
         ("_tropicalintersection", "Ok(Plain(TropicalIntersection))"),
         ("_minkowskisum --", "Ok(Plain(MinkowskiSum))"),

@@ -29,6 +29,7 @@ use Rattle.gfan.specs.HomogeneitySpace.{nonzero_of, homogeneity_space_command}
 use Rattle.gfan.specs.declared.tropical.TropicalFan.{TropicalFan}
 use Rattle.gfan.specs.declared.tropical.TropicalFan.TheVariants as fans
 use Rattle.gfan.specs.Tropical.{tropical_command}
+use Rattle.gfan.specs.MigrateFan.{migrate_fan_command}
 use Rattle.gfan.specs.declared.bases.ListOptions.{ListOptions}
 use Rattle.gfan.specs.declared.told_cone.ConeOptions.{ConeOptions}
 use Rattle.gfan.specs.Commands.{options, list_options, cone_options, plain_command, list_command, command_of}
@@ -37,13 +38,14 @@ use Rattle.gfan.proofs.WeightVectorLaws.{weight_vector_exact, weight_vector_test
 use Rattle.gfan.proofs.GroebnerConeLaws.{cone_exact, cone_tested, cone_not_listed}
 use Rattle.gfan.proofs.ToPolyhedralFanLaws.{to_polyhedral_fan_exact, to_polyhedral_fan_tested, no_fan_not_listed}
 use Rattle.gfan.proofs.HomogeneitySpaceLaws.{homogeneity_space_exact, homogeneity_space_tested, no_space_not_listed}
-use Rattle.gfan.proofs.TropicalLaws.{tropical_exact, tropical_tested}
+use Rattle.gfan.proofs.TropicalLaws.{tropical_exact, tropical_tested, tropical_not_listed}
 use Rattle.gfan.proofs.ToolLaws.{mark_polynomial_set_exact, initial_forms_exact, homogenize_exact, polynomial_set_union_exact, stats_exact, homogenize_not_listed, gordan_not_listed, homogenize_untested, gordan_untested}
 use Rattle.gfan.proofs.ExactLaws.{buchberger_exact, marked_exact, containment_exact, leading_exact, bases_exact, given_exact, basis_not_listed, basis_untested, list_untested, memory_untested, containment_tested, given_tested}
 use Rattle.gfan.proofs.CommonRefinementLaws.{refinement_lawful}
+use Rattle.gfan.proofs.MigrateFanLaws.{migrate_fan_exact, migrate_fan_tested, migration_not_listed}
 
 tropical_lawful : (which : TropicalFan) → IsLawful (tropical_command which)
-tropical_lawful which = sound_lawful (tropical_command which) (tropical_exact which) (tropical_tested which) (λ h. h) (λ t. t) (λ a m w. gordan_not_listed w.0 m w.1)
+tropical_lawful which = sound_lawful (tropical_command which) (tropical_exact which) (tropical_tested which) (λ h. h) (λ t. t) (λ a m w. tropical_not_listed which (length a.0) (generators_of a.1.0) m w)
 
 plain_lawful : (k : PlainCommand) → IsLawful (plain_command k)
 plain_lawful plains.IsMarkedGroebnerBasis = sound_lawful marked_command marked_exact (untested marked_command (λ v r t h. test_cause_untested v.1 r t h)) (λ h. h) (λ t. t) (λ a m w. check_not_listed w.0 m w.1)
@@ -61,6 +63,7 @@ plain_lawful plains.HomogeneitySpace =
 plain_lawful plains.TropicalHypersurface = tropical_lawful fans.Hypersurface
 plain_lawful plains.TropicalIntersection = tropical_lawful fans.Intersection
 plain_lawful plains.MinkowskiSum = tropical_lawful fans.MinkowskiSum
+plain_lawful plains.MigrateFan = sound_lawful migrate_fan_command migrate_fan_exact migrate_fan_tested (λ h. h) (λ t. t) (λ source m w. migration_not_listed source m w)
 
 list_lawful : (from_basis : Bool) (o : ListOptions) → IsLawful (list_command from_basis o)
 list_lawful false o = sound_lawful (bases_command o) (bases_exact o) (untested (bases_command o) (λ v r t h. list_untested o (length v.0) (generators_of v.1.0) r t h)) (λ h. h) (λ t. t) (λ a m w. tt)

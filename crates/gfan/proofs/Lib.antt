@@ -16,6 +16,7 @@ pub mod HomogeneitySpaceLaws  -- the homogeneity space of a set
 pub mod TropicalLaws  -- the fans of polynomials
 pub mod FanFileLaws  -- what a fan file says within limits, and what is refused of it exactly
 pub mod CommonRefinementLaws  -- the common refinement of the fans of two texts
+pub mod MigrateFanLaws  -- the fan of a text, in the version 2
 pub mod RefusedLaws  -- which refusals are told without a ring
 pub mod BasesListLaws  -- the list of all bases, and what it has
 pub mod OneListLaws  -- an ideal has one list of all bases

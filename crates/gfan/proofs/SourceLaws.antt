@@ -80,6 +80,7 @@ plain_once plains.HomogeneitySpace = tt
 plain_once plains.TropicalHypersurface = tt
 plain_once plains.TropicalIntersection = tt
 plain_once plains.MinkowskiSum = tt
+plain_once plains.MigrateFan = tt
 
 leading_once : (listed : Bool) → WritesOnce (leading_terms_command listed).writing
 leading_once false = tt

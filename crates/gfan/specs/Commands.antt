@@ -33,6 +33,7 @@ use Rattle.gfan.specs.HomogeneitySpace.{homogeneity_space_command}
 use Rattle.gfan.specs.declared.tropical.TropicalFan.TheVariants as fans
 use Rattle.gfan.specs.Tropical.{tropical_command}
 use Rattle.gfan.specs.CommonRefinement.{refinement_command}
+use Rattle.gfan.specs.MigrateFan.{migrate_fan_command}
 
 -- what `_buchberger` is asked
 abbrev pub options : BuchbergerOptions → Options
@@ -69,6 +70,7 @@ plain_command plains.HomogeneitySpace = homogeneity_space_command
 plain_command plains.TropicalHypersurface = tropical_command fans.Hypersurface
 plain_command plains.TropicalIntersection = tropical_command fans.Intersection
 plain_command plains.MinkowskiSum = tropical_command fans.MinkowskiSum
+plain_command plains.MigrateFan = migrate_fan_command
 
 -- the list of all bases, from a basis or from generators
 abbrev pub list_command : Bool → ListOptions → Command

@@ -20,7 +20,7 @@ use crate::tropical::TropicalFan;
 use crate::{
     bases, buchberger, common_refinement, containment, given_basis, groebner_cone,
     homogeneity_space, homogenize, initial_forms, leading_terms, mark_polynomial_set, marked,
-    polynomial_set_union, stats, to_polyhedral_fan, tropical, weight_vector,
+    migrate_fan, polynomial_set_union, stats, to_polyhedral_fan, tropical, weight_vector,
 };
 use gf_frame::{LoadFrom, load_all};
 use gf_front::{Job, PlainCommand, Refusal};
@@ -97,6 +97,7 @@ fn plain_answer<R: Threads + Sync>(
         PlainCommand::MinkowskiSum => {
             tropical::answer(rt, alloc, source, TropicalFan::MinkowskiSum)
         }
+        PlainCommand::MigrateFan => migrate_fan::answer(alloc, source),
     }
 }
 

@@ -29,6 +29,7 @@ pub mod laws;
 mod leading_terms;
 mod mark_polynomial_set;
 mod marked;
+mod migrate_fan;
 mod polynomial_set_union;
 mod printing;
 mod reduced_sets;
