@@ -15,3 +15,6 @@ returns-in-Buchberger-clause-err g c =
 pub returns-in-ToPolyhedralFan-clause-err : goal.returns-in-ToPolyhedralFan-clause-err
 returns-in-ToPolyhedralFan-clause-err g c =
     subst (λ (j : Job). IfErr c.answer-in-ToPolyhedralFan.result (λ e. IsRefusedOn (command_of j) (c.args.source.now ∷ []) e.refusal)) (sym c.in-ToPolyhedralFan.is) c.answer-in-ToPolyhedralFan.ensures.err
+
+pub unreachable-in-Generated-requires : goal.unreachable-in-Generated-requires
+unreachable-in-Generated-requires g c = absurd (c.requires.some _ c.in-Generated.is)
