@@ -7,6 +7,7 @@ use Rattle.gf_front.specs.declared.command_line.Job.TheVariants as jobs
 use Rattle.gf_front.specs.declared.plain.PlainCommand.{PlainCommand}
 use Rattle.gf_front.specs.declared.plain.PlainCommand.TheVariants as plains
 use Rattle.gf_front.specs.declared.options.FanCommonRefinementOptions.{FanCommonRefinementOptions}
+use Rattle.gf_front.specs.declared.options.GeneratedOptions.{GeneratedOptions}
 use Rattle.gf_items.specs.Refusals.{IsOfTest}
 use Rattle.gf_frame.specs.Loading.{Origin}
 use Rattle.gf_frame.proofs.CommandLaws.{IsLawful}
@@ -43,6 +44,7 @@ use Rattle.gfan.proofs.ToolLaws.{mark_polynomial_set_exact, initial_forms_exact,
 use Rattle.gfan.proofs.ExactLaws.{buchberger_exact, marked_exact, containment_exact, leading_exact, bases_exact, given_exact, basis_not_listed, basis_untested, list_untested, memory_untested, containment_tested, given_tested}
 use Rattle.gfan.proofs.CommonRefinementLaws.{refinement_lawful}
 use Rattle.gfan.proofs.MigrateFanLaws.{migrate_fan_exact, migrate_fan_tested, migration_not_listed}
+use Rattle.gfan.proofs.SummaryLaws.{generated_lawful}
 
 tropical_lawful : (which : TropicalFan) → IsLawful (tropical_command which)
 tropical_lawful which = sound_lawful (tropical_command which) (tropical_exact which) (tropical_tested which) (λ h. h) (λ t. t) (λ a m w. tropical_not_listed which (length a.0) (generators_of a.1.0) m w)
@@ -93,6 +95,7 @@ lawful (jobs.GroebnerCone o) = cone_lawful o.vector_input (cone_options o)
 lawful (jobs.ToPolyhedralFan o) =
     sound_lawful (to_polyhedral_fan_command o.restrict) (to_polyhedral_fan_exact o.restrict) (to_polyhedral_fan_tested o.restrict) (λ h. h) (λ t. t) (λ a m w. no_fan_not_listed o.restrict (length a.0) a.1 m w)
 lawful (jobs.FanCommonRefinement o) = refinement_lawful o.first o.second
+lawful (jobs.Generated o) = generated_lawful o.number o.limit o.pairs
 
 -- ---- what a job reads
 
@@ -116,12 +119,13 @@ cone_source : (vector_input : Bool) (o : ConeOptions) → (groebner_cone_command
 cone_source false o = refl
 cone_source true o = refl
 
--- a job that isn't one on files reads the input alone
-pub one_source : (job : Job) → ((o : FanCommonRefinementOptions) → job ≡ jobs.FanCommonRefinement o → ⊥) → (command_of job).reads ≡ Origin.the_input ∷ []
-one_source (jobs.FanCommonRefinement o) n = absurd (n o refl)
-one_source (jobs.Plain k) n = plain_source k
-one_source (jobs.Bases o) n = list_source o.from_basis (list_options o)
-one_source (jobs.LeadingTerms o) n = leading_source o.listed
-one_source (jobs.WeightVector o) n = weight_source o.listed o.echoed
-one_source (jobs.GroebnerCone o) n = cone_source o.vector_input (cone_options o)
-one_source _ n = refl
+-- a job that isn't one on files, or that reads nothing, reads the input alone
+pub one_source : (job : Job) → ((o : FanCommonRefinementOptions) → job ≡ jobs.FanCommonRefinement o → ⊥) → ((o : GeneratedOptions) → job ≡ jobs.Generated o → ⊥) → (command_of job).reads ≡ Origin.the_input ∷ []
+one_source (jobs.FanCommonRefinement o) n m = absurd (n o refl)
+one_source (jobs.Generated o) n m = absurd (m o refl)
+one_source (jobs.Plain k) n m = plain_source k
+one_source (jobs.Bases o) n m = list_source o.from_basis (list_options o)
+one_source (jobs.LeadingTerms o) n m = leading_source o.listed
+one_source (jobs.WeightVector o) n m = weight_source o.listed o.echoed
+one_source (jobs.GroebnerCone o) n m = cone_source o.vector_input (cone_options o)
+one_source _ n m = refl

@@ -34,6 +34,7 @@ use Rattle.gfan.specs.declared.tropical.TropicalFan.TheVariants as fans
 use Rattle.gfan.specs.Tropical.{tropical_command}
 use Rattle.gfan.specs.CommonRefinement.{refinement_command}
 use Rattle.gfan.specs.MigrateFan.{migrate_fan_command}
+use Rattle.gfan.specs.Generated.{generated_command}
 
 -- what `_buchberger` is asked
 abbrev pub options : BuchbergerOptions → Options
@@ -77,7 +78,7 @@ abbrev pub list_command : Bool → ListOptions → Command
 list_command false o = bases_command o
 list_command true o = given_bases_command o
 
--- the command of each job; that of `_bases` is the same for every number of workers
+-- the command of each job; those of `_bases` and `_generated` are the same for every number of workers
 abbrev pub command_of : Job → Command
 command_of (jobs.Plain c) = plain_command c
 command_of (jobs.Buchberger o) = buchberger_command (options o)
@@ -87,6 +88,7 @@ command_of (jobs.WeightVector o) = weight_vector_command o.listed o.echoed
 command_of (jobs.GroebnerCone o) = groebner_cone_command o.vector_input (cone_options o)
 command_of (jobs.ToPolyhedralFan o) = to_polyhedral_fan_command o.restrict
 command_of (jobs.FanCommonRefinement o) = refinement_command o.first o.second
+command_of (jobs.Generated o) = generated_command o.number o.limit o.pairs
 
 -- the text is what the job writes for this source, the only one
 abbrev pub IsAnswerTo : Job → List ℕ → List ℕ → Type 0

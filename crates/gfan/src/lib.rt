@@ -8,7 +8,7 @@
 //! `_weightvector` writes weights that give marked bases, `_topolyhedralfan` the fan of the cones of such bases, `_homogeneityspace` the
 //! vectors by which polynomials are homogeneous, `_tropicalhypersurface` the tropical hypersurface of a polynomial, `_tropicalintersection`
 //! the meet of those of a set, `_minkowskisum` the normal fan of the sum of Newton polytopes; `_fancommonrefinement` reads two files and
-//! writes the fan of the meets of the cones of their fans. What a run does is told at `run`, what each command writes in
+//! writes the fan of the meets of the cones of their fans; `_generated` reads nothing, and sums up the bases of an ideal. What a run does is told at `run`, what each command writes in
 //! `specs/Commands.antt` and `specs/CommonRefinement.antt`.
 #![tactic(auto)]
 
@@ -20,6 +20,7 @@ mod commands;
 mod common_refinement;
 mod containment;
 mod fan_text;
+mod generated;
 mod given_basis;
 mod groebner_cone;
 mod homogeneity_space;
