@@ -43,6 +43,7 @@ use Rattle.gfan.proofs.TropicalLaws.{tropical_exact, tropical_tested}
 use Rattle.gfan.proofs.ToolLaws.{mark_polynomial_set_exact, initial_forms_exact, homogenize_exact, polynomial_set_union_exact, stats_exact, homogenize_not_listed, gordan_not_listed, homogenize_untested, gordan_untested}
 use Rattle.gfan.proofs.ExactLaws.{buchberger_exact, marked_exact, containment_exact, leading_exact, bases_exact, given_exact, basis_not_listed, basis_untested, list_untested, memory_untested, containment_tested, given_tested}
 use Rattle.gfan.proofs.CommonRefinementLaws.{refinement_lawful}
+use Rattle.gfan.proofs.SaturationLaws.{saturation_lawful}
 
 tropical_lawful : (which : TropicalFan) → IsLawful (tropical_command which)
 tropical_lawful which = sound_lawful (tropical_command which) (tropical_exact which) (tropical_tested which) (λ h. h) (λ t. t) (λ a m w. gordan_not_listed w.0 m w.1)
@@ -92,6 +93,7 @@ lawful (jobs.GroebnerCone o) = cone_lawful o.vector_input (cone_options o)
 lawful (jobs.ToPolyhedralFan o) =
     sound_lawful (to_polyhedral_fan_command o.restrict) (to_polyhedral_fan_exact o.restrict) (to_polyhedral_fan_tested o.restrict) (λ h. h) (λ t. t) (λ a m w. no_fan_not_listed o.restrict (length a.0) a.1 m w)
 lawful (jobs.FanCommonRefinement o) = refinement_lawful o.first o.second
+lawful (jobs.Saturation o) = saturation_lawful o.pairs
 
 -- ---- what a job reads
 

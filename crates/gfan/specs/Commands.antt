@@ -33,6 +33,7 @@ use Rattle.gfan.specs.HomogeneitySpace.{homogeneity_space_command}
 use Rattle.gfan.specs.declared.tropical.TropicalFan.TheVariants as fans
 use Rattle.gfan.specs.Tropical.{tropical_command}
 use Rattle.gfan.specs.CommonRefinement.{refinement_command}
+use Rattle.gfan.specs.Saturation.{saturation_command}
 
 -- what `_buchberger` is asked
 abbrev pub options : BuchbergerOptions → Options
@@ -85,6 +86,7 @@ command_of (jobs.WeightVector o) = weight_vector_command o.listed o.echoed
 command_of (jobs.GroebnerCone o) = groebner_cone_command o.vector_input (cone_options o)
 command_of (jobs.ToPolyhedralFan o) = to_polyhedral_fan_command o.restrict
 command_of (jobs.FanCommonRefinement o) = refinement_command o.first o.second
+command_of (jobs.Saturation o) = saturation_command o.pairs
 
 -- the text is what the job writes for this source, the only one
 abbrev pub IsAnswerTo : Job → List ℕ → List ℕ → Type 0

@@ -20,7 +20,7 @@ use crate::tropical::TropicalFan;
 use crate::{
     bases, buchberger, common_refinement, containment, given_basis, groebner_cone,
     homogeneity_space, homogenize, initial_forms, leading_terms, mark_polynomial_set, marked,
-    polynomial_set_union, stats, to_polyhedral_fan, tropical, weight_vector,
+    polynomial_set_union, saturation, stats, to_polyhedral_fan, tropical, weight_vector,
 };
 use gf_frame::{LoadFrom, load_all};
 use gf_front::{Job, PlainCommand, Refusal};
@@ -137,6 +137,7 @@ fn input_answer<R: Threads + Sync>(
             weight_vector::answer(alloc, source, given.listed, given.echoed)
         }
         Job::ToPolyhedralFan(given) => to_polyhedral_fan::answer(alloc, source, given.restrict),
+        Job::Saturation(given) => saturation::answer(alloc, source, given.pairs),
     }
 }
 

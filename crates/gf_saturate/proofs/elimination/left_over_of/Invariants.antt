@@ -1,0 +1,6 @@
+use Rattle.std.proofs.Common.{◌≡◌, map, take}
+use Rattle.gf_saturate.specs.Widening.{left_over}
+use Rattle.gf_saturate.proofs.elimination.left_over_of.Given as goal
+
+abbrev pub invariant-members : goal.invariant-members
+invariant-members l = l.all.items ≡ left_over l.n (take l.i l.items)

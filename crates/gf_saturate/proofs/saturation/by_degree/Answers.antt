@@ -1,0 +1,29 @@
+use Rattle.std.proofs.Common.{◌≡◌, ◌∙◌, sym, subst, List}
+use Rattle.gf_exponents.specs.SixOrders.{MonomialOrder}
+use Rattle.gf_order.specs.Comparisons.{HasEntries}
+use Rattle.gf_poly.specs.Polynomial.{Terms}
+use Rattle.gf_buchberger.specs.Jobs.{HaveRingVariables, IsSuited}
+use Rattle.gf_buchberger.proofs.JobLaws.{orders_that_suit}
+use Rattle.gf_saturate.specs.Saturating.{IsSaturation, IsSaturateRefusal}
+use Rattle.gf_saturate.proofs.StepLaws.{arranged-as, refusal-as, if_ok, if_err}
+use Rattle.gf_saturate.proofs.StageLaws.{way_ring, saturation_of}
+use Rattle.gf_saturate.proofs.saturation.by_degree.Goals as goal
+
+pub basis-requires-clause-variables : goal.basis-requires-clause-variables
+basis-requires-clause-variables c = subst (HaveRingVariables c.args.n) (sym c.deref.ensures.value) (way_ring c.args.n c.args.set.now c.in-Ok.last.polys.items c.requires.variables c.in-Ok.ensures.way)
+
+pub basis-requires-clause-entries : goal.basis-requires-clause-entries
+basis-requires-clause-entries c = subst (HasEntries c.args.n) (sym c.deglex.ensures) tt
+
+pub basis-requires-clause-suited : goal.basis-requires-clause-suited
+basis-requires-clause-suited c =
+    let v : HaveRingVariables c.args.n c.deref.result.now = subst (HaveRingVariables c.args.n) (sym c.deref.ensures.value) (way_ring c.args.n c.args.set.now c.in-Ok.last.polys.items c.requires.variables c.in-Ok.ensures.way) in
+    subst (λ (o : MonomialOrder). IsSuited o c.args.n c.deref.result.now) (sym c.deglex.ensures) (orders_that_suit.deglex c.args.n c.deref.result.now v)
+
+pub returns-clause-ok : goal.returns-clause-ok
+returns-clause-ok c = if_ok _ (IsSaturation c.args.n c.args.set.now) c.basis.result c.basis.ensures.ok
+    (λ s b. saturation_of c.args.n c.args.set.now c.in-Ok.last.polys.items s c.requires.variables c.in-Ok.ensures.way (arranged-as _ _ c.args.n _ _ s c.deglex.ensures c.deref.ensures.value b))
+
+pub returns-clause-err : goal.returns-clause-err
+returns-clause-err c = if_err _ (IsSaturateRefusal c.args.n c.args.set.now c.args.pairs) c.basis.result c.basis.ensures.err
+    (λ e r. IsSaturateRefusal.at_end c.in-Ok.last.polys.items c.in-Ok.ensures.way (refusal-as _ _ c.args.n c.args.pairs _ _ e c.deglex.ensures c.deref.ensures.value r))

@@ -1,0 +1,6 @@
+use Rattle.std.proofs.Common.{◌≡◌, length, take}
+use Rattle.gf_saturate.proofs.widening.filled.Given as goal
+
+-- the exponents so far
+abbrev pub invariant-entries : goal.invariant-entries
+invariant-entries l = (length l.all ≡ ROOM) × (take l.i l.all ≡ take l.i l.old)

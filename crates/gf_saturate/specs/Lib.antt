@@ -1,0 +1,3 @@
+pub mod Widening  -- polynomials in one more variable, and in one less
+pub mod Marks  -- which variables occur in the marks of a basis
+pub mod Saturating  -- what a saturation is answered with, the sets on the way, refusals

@@ -1,0 +1,72 @@
+//! Saturations by the product of the variables.
+ghost use Rattle.std.specs.Prelude.{◌≡◌, ◌<◌, ◌≤◌, ℕ, IfOk, IfErr};
+ghost use Rattle.gf_buchberger.specs.Bases.{IsWantOfMemory};
+ghost use Rattle.gf_buchberger.specs.Jobs.{HaveRingVariables};
+ghost use Rattle.gf_saturate.specs.Saturating.{IsOnTheWay, IsStage, IsSaturation, IsSaturateRefusal, AreStepsWithinLimits};
+
+use crate::stages::{Stage, first_stage, step};
+use gf_buchberger::{BasisError, basis};
+use gf_order::Order;
+use gf_poly::{MarkedSet, Poly, ROOM};
+use std::alloc::Global;
+
+/// What generates the saturation by the variables one after another, those left out by which nothing is added.
+fn last_stage(alloc: Global, n: u32, set: &[Poly], pairs: u64) -> Result<Stage, BasisError>
+    requires room { n < ROOM }
+    requires variables { HaveRingVariables n set.now }
+    ensures way { IfOk result (λ s. IsOnTheWay n set.now n s.polys.items) }
+    ensures err { IfErr result (IsSaturateRefusal n set.now pairs) }
+{
+    let Ok(first) = first_stage(alloc, n, set, pairs) else {
+        return Err(BasisError::Memory);
+    };
+    let mut stage = first;
+    'variables: for k in 0..n {
+        if stage.marks.exponents()[k as usize] == 0 {
+            continue;
+        }
+        match step(alloc, n, k, &stage.polys, pairs) {
+            Ok(next) => stage = next,
+            Err(refusal) => return Err(refusal),
+        }
+    }
+    Ok(stage)
+}
+
+/// The basis by degree of what generates the saturation.
+fn by_degree(alloc: Global, n: u32, set: &[Poly], pairs: u64) -> Result<MarkedSet, BasisError>
+    requires room { n < ROOM }
+    requires variables { HaveRingVariables n set.now }
+    ensures ok { IfOk result (IsSaturation n set.now) }
+    ensures err { IfErr result (IsSaturateRefusal n set.now pairs) }
+{
+    let last = match last_stage(alloc, n, set, pairs) {
+        Ok(last) => last,
+        Err(refusal) => return Err(refusal),
+    };
+    basis(alloc, n, &last.polys, &Order::deglex(), pairs)
+}
+
+/// The reduced Gröbner basis by deglex of the saturation, by the product of all `n` variables, of the ideal of these
+/// polynomials: of the ideal of the f of which some multiple by a power of that product is in theirs. `n` is at most 24, so that
+/// a monomial has room for one variable more.
+///
+/// One variable x after another is taken out: with a new last variable t and `t*x - 1` among the generators a basis by the weight
+/// of t, then lex, is made, and its members without t generate the saturation by x. At the end the basis by deglex is made. A variable that
+/// occurs in no mark of the basis before, that of the polynomials by deglex at first, is left out: nothing is added by it. So is all
+/// the rest where 1 is reached. Each of these runs settles at most `pairs` pairs.
+///
+/// # Errors
+///
+/// As those of `basis` of `gf_buchberger`, each of one of these runs: `Overflow` and `Exponent` only at an operation that a run
+/// of Buchberger's algorithm on one of these sets may have, and whose operands don't fit; `PairBudget` only where a run on one
+/// of them would have to settle more pairs. A first basis by deglex that is refused is left out, and not told.
+pub fn saturate(alloc: Global, n: u32, set: &[Poly], pairs: u64) -> Result<MarkedSet, BasisError>
+    requires room { n < ROOM }
+    requires variables { HaveRingVariables n set.now }
+    ensures ok { IfOk result (IsSaturation n set.now) }
+    ensures err { IfErr result (IsSaturateRefusal n set.now pairs) }
+    ensures complete { AreStepsWithinLimits n set.now pairs → IfErr result IsWantOfMemory }
+{
+    by_degree(alloc, n, set, pairs)
+}
