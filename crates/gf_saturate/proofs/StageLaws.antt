@@ -189,8 +189,8 @@ way_ring n fs hs v w = (stands_for n fs n hs (omega arith) v w).ring
 -- ---- within limits
 
 memory_alone : (n budget : ℕ) (fs : List Terms) (e : BasisError) → AreStepsWithinLimits n fs budget → IsSaturateRefusal n fs budget e → IsWantOfMemory e
-memory_alone n budget fs e w (IsSaturateRefusal.at_step k hs l h r) = if_within {MarkedPolynomials} (step_order n) (n + 1) budget (step_list n k hs) (Err e) (w.steps k hs l h) r
-memory_alone n budget fs e w (IsSaturateRefusal.at_end hs h r) = if_within {MarkedPolynomials} MonomialOrder.deglex n budget hs (Err e) (w.last hs h) r
+memory_alone n budget fs e w (IsSaturateRefusal.at_step k hs l h r) = if_within {A = MarkedPolynomials} (step_order n) (n + 1) budget (step_list n k hs) (Err e) (w.steps k hs l h) r
+memory_alone n budget fs e w (IsSaturateRefusal.at_end hs h r) = if_within {A = MarkedPolynomials} MonomialOrder.deglex n budget hs (Err e) (w.last hs h) r
 memory_alone n budget fs e w (IsSaturateRefusal.no_memory m) = m
 
 pub if_memory : {A : Type 0} (n budget : ℕ) (fs : List Terms) (r : Result A BasisError) → AreStepsWithinLimits n fs budget → IfErr r (IsSaturateRefusal n fs budget) → IfErr r IsWantOfMemory

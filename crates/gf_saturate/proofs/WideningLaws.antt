@@ -166,7 +166,7 @@ variable-take (suc n) (suc k) (suc m) l h = ap (λ (z : Exponents). 0 ∷ z) (va
 
 pub length-variable : (n k : ℕ) → k < n → length (variable n k) ≡ n
 length-variable zero k l = absurd (omega arith)
-length-variable (suc n) zero l = omega (arith, length-replicate n 0)
+length-variable (suc n) zero l = omega (arith, length-replicate {A = ℕ} n 0)
 length-variable (suc n) (suc k) l = omega (arith, length-variable n k (omega arith))
 
 pub entry-zeros : (n i : ℕ) → entry (replicate n 0) i ≡ 0

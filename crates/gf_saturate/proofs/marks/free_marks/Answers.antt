@@ -11,8 +11,8 @@ use Rattle.gf_saturate.proofs.marks.free_marks.Goals.{then-is_free, else-is_free
 pub is_free-requires : goal.is_free-requires
 is_free-requires c = c.requires.heads c.index-items-i.result (contains_at c.args.items.now c.members.i c.index-items-i.result c.members-test.true c.index-items-i.is)
 
-pub lcm-requires : goal.lcm-requires
-lcm-requires c =
+pub lcm-all-requires : goal.lcm-all-requires
+lcm-all-requires c =
     let b : MarkedPolynomial = c.index-items-i.result in
     c.members.invariant.0 ∙ sym (ap length c.head.ensures.value ∙ c.requires.heads b (contains_at c.args.items.now c.members.i b c.members-test.true c.index-items-i.is))
 
@@ -22,7 +22,7 @@ members-preserved c =
     let long : length b.head ≡ c.args.n + 1 = c.requires.heads b (contains_at c.args.items.now c.members.i b c.members-test.true c.index-items-i.is) in
     elim c.if-is_free.branch [
       | then-is_free w ↦ (
-        let is : c.if-is_free.all ≡ join c.members.all b.head = w.all-is ∙ w.lcm.ensures ∙ ap (join c.members.all) w.head.ensures.value in
+        let is : c.if-is_free.all ≡ join c.members.all b.head = w.all-is ∙ w.lcm-all.ensures ∙ ap (join c.members.all) w.head.ensures.value in
         (
           ap length is ∙ length-join c.members.all b.head (c.members.invariant.0 ∙ sym long) ∙ c.members.invariant.0,
           subst (CoverFreeHeads c.args.n (take (c.members.i + 1) c.args.items.now)) (sym is) (free_more c.args.n c.args.items.now c.members.i b c.members.all c.members-test.true c.index-items-i.is c.members.invariant.1),

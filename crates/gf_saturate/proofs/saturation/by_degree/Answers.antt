@@ -21,9 +21,9 @@ basis-requires-clause-suited c =
     subst (λ (o : MonomialOrder). IsSuited o c.args.n c.deref.result.now) (sym c.deglex.ensures) (orders_that_suit.deglex c.args.n c.deref.result.now v)
 
 pub returns-clause-ok : goal.returns-clause-ok
-returns-clause-ok c = if_ok _ (IsSaturation c.args.n c.args.set.now) c.basis.result c.basis.ensures.ok
+returns-clause-ok c = if_ok _ (IsSaturation c.args.n c.args.set.now) c.basis-2.result c.basis-2.ensures.ok
     (λ s b. saturation_of c.args.n c.args.set.now c.in-Ok.last.polys.items s c.requires.variables c.in-Ok.ensures.way (arranged-as _ _ c.args.n _ _ s c.deglex.ensures c.deref.ensures.value b))
 
 pub returns-clause-err : goal.returns-clause-err
-returns-clause-err c = if_err _ (IsSaturateRefusal c.args.n c.args.set.now c.args.pairs) c.basis.result c.basis.ensures.err
+returns-clause-err c = if_err _ (IsSaturateRefusal c.args.n c.args.set.now c.args.pairs) c.basis-2.result c.basis-2.ensures.err
     (λ e r. IsSaturateRefusal.at_end c.in-Ok.last.polys.items c.in-Ok.ensures.way (refusal-as _ _ c.args.n c.args.pairs _ _ e c.deglex.ensures c.deref.ensures.value r))

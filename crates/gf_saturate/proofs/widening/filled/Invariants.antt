@@ -1,4 +1,5 @@
 use Rattle.std.proofs.Common.{◌≡◌, length, take}
+use Rattle.gf_poly.specs.declared.TheConstants.{ROOM}
 use Rattle.gf_saturate.proofs.widening.filled.Given as goal
 
 -- the exponents so far
