@@ -1,10 +1,10 @@
 -- What a least common multiple of marks says of them.
 -- To cite: covers_more, covers_all, free_more, free_skip, free_all, free_narrowed.
-use Rattle.std.proofs.Common.{◌≡◌, ◌⊎◌, ℕ, zero, suc, ◌+◌, ◌<◌, ◌≤◌, ◌==◌, true, false, List, [], ◌∷◌, ◌++◌, Contains, length, take, get_or, max, arith, refl, sym, ap, ◌∙◌, subst, inl, inr}
+use Rattle.std.proofs.Common.{◌≡◌, ◌⊎◌, ℕ, zero, suc, ◌+◌, ◌<◌, ◌≤◌, ◌==◌, false, List, [], ◌∷◌, ◌++◌, Contains, length, take, get_or, arith, refl, sym, ap, ◌∙◌, subst, inl, inr}
 use Rattle.std.proofs.lemmas.Bool.Decides.{nat_tests}
 use Rattle.std.proofs.lemmas.List.{take_more, take_all}
 use Rattle.gf_exponents.specs.Exponents.{Exponents, entry, join}
-use Rattle.gf_exponents.proofs.ExponentsLaws.{entry-join, eq_by}
+use Rattle.gf_exponents.proofs.ExponentsLaws.{entry-join}
 use Rattle.gf_poly.specs.Marking.{MarkedPolynomial}
 use Rattle.gf_ideal.proofs.ListLaws.{Contains-last}
 use Rattle.gf_saturate.specs.Marks.{CoverHeads, CoverFreeHeads}

@@ -1,7 +1,7 @@
 -- A variable that divides no mark of a Gröbner basis: saturating by it adds nothing.
 -- To cite: adds_nothing, left_over_spared. The rest are steps.
 -- A remainder times a power of the variable is irreducible too; where it is in the ideal it is zero, and so is the remainder.
-use Rattle.std.proofs.Common.{◌≡◌, ◌⊎◌, ◌≢◌, ℕ, zero, suc, ◌<◌, ◌≤◌, true, List, [], ◌∷◌, ◌++◌, Contains, arith, refl, sym, ap, ◌∙◌, inl, inr}
+use Rattle.std.proofs.Common.{◌≡◌, ◌⊎◌, ◌≢◌, ℕ, zero, suc, ◌<◌, ◌≤◌, true, List, [], ◌++◌, Contains, arith, refl, sym, ap, ◌∙◌, inl, inr}
 use Rattle.std.proofs.lemmas.Bool.{cases_lt}
 use Rattle.gf_frac.specs.Fraction.{◌+ℚ◌, ◌*ℚ◌, neg_ℚ, zero_ℚ, one_ℚ}
 use Rattle.gf_frac.proofs.FractionLaws.{zero-+ℚ, one-*ℚ}
@@ -12,7 +12,7 @@ use Rattle.gf_exponents.proofs.OrderLaws.{weighted-order}
 use Rattle.gf_poly.specs.Polynomial.{Terms, coefficient, SamePolynomial, times}
 use Rattle.gf_poly.specs.Marking.{MarkedPolynomial}
 use Rattle.gf_poly.proofs.PolynomialLaws.{coefficient-++, coefficient-times, coefficient-factor, SamePolynomial-times, times-++, times-plain}
-use Rattle.gf_ideal.specs.Membership.{HasMonomial, IsInVariables, AreInVariables, IsMember, Spans}
+use Rattle.gf_ideal.specs.Membership.{IsInVariables, AreInVariables, IsMember, Spans}
 use Rattle.gf_ideal.specs.Marks.{Piece, value}
 use Rattle.gf_ideal.specs.Reduction.{IsDivisible, IsIrreducible}
 use Rattle.gf_ideal.specs.Bases.{IsBasis, IsReducedBasisFor}
@@ -28,7 +28,7 @@ use Rattle.gf_ideal.proofs.StepLaws.{IsClosed, IsPieceIn, IsWithin, closed-ring}
 use Rattle.gf_ideal.proofs.DivisionLaws.{Divided, divided, irreducible_terms}
 use Rattle.gf_ideal.proofs.BasisLaws.{basis_of_groebner_for}
 use Rattle.gf_ideal.proofs.LawsHold.{marks_have_weights}
-use Rattle.gf_saturation.specs.Saturations.{powered, next_variable, IsSaturatedBy, last_weight, AreLeftOver}
+use Rattle.gf_saturation.specs.Saturations.{powered, next_variable, last_weight, AreLeftOver}
 use Rattle.gf_saturation.proofs.SubstitutionLaws.{next-below, ring-next, ring-powered}
 use Rattle.gf_saturation.proofs.SaturationLaws.{variables_of_saturated}
 use Rattle.gf_saturation.proofs.EliminationLaws.{free_by_head, left_over_variables, member_of_left_over, left_over_of_member}

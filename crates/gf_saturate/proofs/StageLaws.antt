@@ -1,7 +1,7 @@
 -- The sets on the way, and what stands at the end.
 -- To cite: given_stage, reduced_stage, left_stage, way_next, saturation_of, if_memory. The rest are steps.
 use Rattle.std.specs.Prelude.{IfErr}
-use Rattle.std.proofs.Common.{◌≡◌, ◌⊎◌, ◌↔◌, ℕ, zero, suc, ◌+◌, ◌<◌, ◌≤◌, true, List, [], ◌∷◌, Contains, length, replicate, arith, refl, sym, ap, ◌∙◌, subst, inl, inr, Result, Ok, Err}
+use Rattle.std.proofs.Common.{◌≡◌, ◌⊎◌, ◌↔◌, ℕ, zero, suc, ◌+◌, ◌<◌, ◌≤◌, true, List, [], Contains, length, arith, refl, sym, ap, subst, inl, inr, Result, Ok, Err}
 use Rattle.gf_exponents.specs.Exponents.{Exponents, entry, same}
 use Rattle.gf_exponents.specs.SixOrders.{MonomialOrder}
 use Rattle.gf_exponents.proofs.ExponentsLaws.{same_by_entries, same_flip}
@@ -15,12 +15,12 @@ use Rattle.gf_ideal.proofs.MembershipLaws.{member-equal}
 use Rattle.gf_ideal.proofs.PieceLaws.{Contains-marked}
 use Rattle.gf_buchberger.specs.Jobs.{HaveRingVariables}
 use Rattle.gf_buchberger.specs.declared.bases.BasisError.{BasisError}
-use Rattle.gf_buchberger.specs.Bases.{IsArrangedBasis, IsBasisRefusal, AreRunsWithinLimits, IsWantOfMemory}
+use Rattle.gf_buchberger.specs.Bases.{IsArrangedBasis, IsWantOfMemory}
 use Rattle.gf_buchberger.proofs.BasesOfRuns.{if_within}
 use Rattle.gf_saturation.specs.Saturations.{product_power, next_variable, IsSaturatedBy, AreLeftOver}
 use Rattle.gf_saturation.proofs.SaturationLaws.{extended_variables, saturated_same, saturated_product}
 use Rattle.gf_saturation.proofs.OneByOneLaws.{saturated_none, saturated_next}
-use Rattle.gf_saturation.proofs.EliminationLaws.{deglex_basis, member_of_basis, basis_of_member, basis_variables}
+use Rattle.gf_saturation.proofs.EliminationLaws.{deglex_basis, member_of_basis, basis_of_member}
 use Rattle.gf_saturation.proofs.LawsHold.{saturations_are_worked_out}
 use Rattle.gf_saturate.specs.declared.stages.Stage.{Stage}
 use Rattle.gf_saturate.specs.Widening.{extended_list, left_over, variable}

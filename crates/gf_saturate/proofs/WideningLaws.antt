@@ -1,5 +1,5 @@
 -- Polynomials in one more variable: what stays as it is.
-use Rattle.std.specs.Prelude.{◌≡◌, ◌≢◌, ℕ, zero, suc, ◌+◌, ◌-◌, ◌^◌, ◌<◌, ◌≤◌, true, List, [], ◌∷◌, ◌++◌, length, take, map, All, replicate, if◌then◌else◌}
+use Rattle.std.specs.Prelude.{◌≡◌, ℕ, zero, suc, ◌+◌, ◌^◌, ◌<◌, ◌≤◌, [], ◌∷◌, ◌++◌, length, take, map, replicate, if◌then◌else◌}
 use Rattle.std.specs.Ordering.{nat_cmp, ordering_then}
 use Rattle.std.specs.Cmp.Lexicographic.{slice_cmp}
 use Rattle.std.specs.Ordering.{MatchOrdering}
@@ -16,7 +16,7 @@ use Rattle.gf_poly.specs.Polynomial.{Terms, coefficient, SamePolynomial, IsAbove
 use Rattle.gf_exponents.proofs.ExponentsLaws.{same-sym, same_along, same_by_entries}
 use Rattle.gf_frac.specs.Fraction.{Fraction, ◌+ℚ◌, zero_ℚ, one_ℚ, neg_ℚ}
 use Rattle.gf_poly.specs.Marking.{Each}
-use Rattle.gf_frac.proofs.FractionLaws.{+ℚ-neg_ℚ, +ℚ-zero, zero-+ℚ}
+use Rattle.gf_frac.proofs.FractionLaws.{+ℚ-neg_ℚ, +ℚ-zero}
 use Rattle.gf_ideal.proofs.Identities.{one_not_zero}
 use Rattle.gf_poly.specs.Monomial.{IsMonomial}
 use Rattle.gf_poly.proofs.MonomialLaws.{limit_by_entries}

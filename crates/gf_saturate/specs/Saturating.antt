@@ -1,7 +1,7 @@
 -- What a saturation is answered with: the reduced basis by deglex, or why there is none.
 -- Laws: proofs/StageLaws.antt. Source: Cox, Little, O'Shea, Ideals, Varieties, and Algorithms, 3.1 and 4.4.
-use Rattle.std.specs.Prelude.{◌≡◌, ◌⊎◌, ◌↔◌, ℕ, zero, suc, ◌+◌, ◌<◌, List, [], ◌∷◌, Contains, length}
-use Rattle.gf_exponents.specs.Exponents.{Exponents, entry}
+use Rattle.std.specs.Prelude.{◌≡◌, ◌⊎◌, ◌↔◌, ℕ, zero, suc, ◌+◌, ◌<◌, List, Contains, length}
+use Rattle.gf_exponents.specs.Exponents.{entry}
 use Rattle.gf_exponents.specs.Orders.{IsDeglexBelow, IsWeightedBelow}
 use Rattle.gf_exponents.specs.SixOrders.{MonomialOrder}
 use Rattle.gf_poly.specs.Polynomial.{Terms, HasVariables, IsDescending}

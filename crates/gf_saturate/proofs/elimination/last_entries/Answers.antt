@@ -1,4 +1,4 @@
-use Rattle.std.proofs.Common.{◌≡◌, ◌+◌, ◌≤◌, ◌^◌, arith, length, unsigned_abs, ℤ, List}
+use Rattle.std.proofs.Common.{◌≡◌, ◌+◌, arith, length, ℤ, List}
 use Rattle.gf_int.specs.Range.{InRange}
 use Rattle.gf_exponents.specs.Orders.{gains}
 use Rattle.gf_order.specs.Weights.{AreBounded}

@@ -1,4 +1,4 @@
-use Rattle.std.proofs.Common.{◌≡◌, map, take}
+use Rattle.std.proofs.Common.{◌≡◌, take}
 use Rattle.gf_saturate.specs.Widening.{left_over}
 use Rattle.gf_saturate.proofs.elimination.left_over_of.Given as goal
 

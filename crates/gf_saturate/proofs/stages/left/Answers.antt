@@ -1,4 +1,4 @@
-use Rattle.std.proofs.Common.{sym, subst, List, Contains}
+use Rattle.std.proofs.Common.{subst, List, Contains}
 use Rattle.gf_poly.specs.Marking.{MarkedPolynomial}
 use Rattle.gf_saturate.specs.Marks.{CoverFreeHeads}
 use Rattle.gf_saturate.specs.Saturating.{step_list}

@@ -1,4 +1,4 @@
-use Rattle.std.proofs.Common.{inr, sym, subst, List, Contains}
+use Rattle.std.proofs.Common.{inr, subst, List, Contains}
 use Rattle.gf_poly.specs.Marking.{MarkedPolynomial}
 use Rattle.gf_saturate.specs.Marks.{CoverHeads}
 use Rattle.gf_saturate.proofs.StageLaws.{reduced_stage}
