@@ -1,8 +1,9 @@
 -- The sets on the way, and what stands at the end.
 -- To cite: given_stage, reduced_stage, left_stage, way_next, saturation_of, if_memory. The rest are steps.
-use Rattle.std.specs.Prelude.{IfErr}
+use Rattle.std.specs.Prelude.{IfErr, IfSome, Option, None, Some}
 use Rattle.std.proofs.Common.{◌≡◌, ◌⊎◌, ◌↔◌, ℕ, zero, suc, ◌+◌, ◌<◌, ◌≤◌, true, List, [], Contains, length, arith, refl, sym, ap, subst, inl, inr, Result, Ok, Err}
 use Rattle.gf_exponents.specs.Exponents.{Exponents, entry, same}
+use Rattle.gf_exponents.specs.Orders.{IsDeglexBelow}
 use Rattle.gf_exponents.specs.SixOrders.{MonomialOrder}
 use Rattle.gf_exponents.proofs.ExponentsLaws.{same_by_entries, same_flip}
 use Rattle.gf_frac.specs.Fraction.{one_ℚ}
@@ -10,9 +11,9 @@ use Rattle.gf_poly.specs.Polynomial.{Terms, HasVariables, coefficient, times}
 use Rattle.gf_poly.proofs.PolynomialLaws.{times-plain}
 use Rattle.gf_poly.specs.Marking.{MarkedPolynomial, MarkedPolynomials, polys}
 use Rattle.gf_ideal.specs.Membership.{IsMember}
-use Rattle.gf_ideal.specs.Bases.{IsBasis}
-use Rattle.gf_ideal.proofs.MembershipLaws.{member-equal}
-use Rattle.gf_ideal.proofs.PieceLaws.{Contains-marked}
+use Rattle.gf_ideal.specs.Bases.{IsBasis, IsReducedBasisFor}
+use Rattle.gf_ideal.proofs.MembershipLaws.{member-equal, member-generator}
+use Rattle.gf_ideal.proofs.PieceLaws.{Contains-marked, Contains-polys}
 use Rattle.gf_buchberger.specs.Jobs.{HaveRingVariables}
 use Rattle.gf_buchberger.specs.declared.bases.BasisError.{BasisError}
 use Rattle.gf_buchberger.specs.Bases.{IsArrangedBasis, IsWantOfMemory}
@@ -94,6 +95,28 @@ degree_own n fs s v b = record {
     basis : IsBasis n fs s.items
     basis = deglex_basis n fs s.items b.reduced
 
+degree_reduced : (n : ℕ) (fs : List Terms) (s : MarkedPolynomials) → HaveRingVariables n fs → IsArrangedBasis MonomialOrder.deglex n fs s → IsReducedBasisFor n (polys s.items) IsDeglexBelow s.items
+degree_reduced n fs s v b = record {
+  basis = record {
+    members = λ c k. (degree_members n fs s v b c.poly).1 (b.reduced.basis.members c k);
+    marked = b.reduced.basis.marked;
+    initial = λ f m x t. b.reduced.basis.initial f ((degree_members n fs s v b f).0 m) x t;
+  };
+  tails = b.reduced.tails;
+  heads = b.reduced.heads;
+}
+
+-- and the reduced one
+degree_arranged : (n : ℕ) (fs : List Terms) (s : MarkedPolynomials) → HaveRingVariables n fs → IsArrangedBasis MonomialOrder.deglex n fs s → IsArrangedBasis MonomialOrder.deglex n (polys s.items) s
+degree_arranged n fs s v b = record {
+  variables = b.variables;
+  reduced = degree_reduced n fs s v b;
+  arranged = b.arranged;
+  marked = b.marked;
+  inside = λ c k. member-generator n (polys s.items) c.poly (Contains-polys s.items c k);
+  back = λ f c. member-generator n (polys s.items) f c;
+}
+
 -- ---- what a set on the way stands for
 
 record StandsFor (n : ℕ) (fs : List Terms) (k : ℕ) (hs : List Terms) : Type 0 where
@@ -135,23 +158,29 @@ stands_for n fs (suc k) hs l v w = at_next n k fs w.0 hs (omega arith) v (stands
 
 -- ---- stages
 
-pub given_stage : (n : ℕ) (fs : List Terms) (s : Stage) → HaveRingVariables n fs → s.polys.items ≡ fs → length s.marks ≡ n → ((k : ℕ) → k < n → entry s.marks k ≡ 1) → IsStage n s
-given_stage n fs s v e l one = record { ring = subst (HaveRingVariables n) (sym e) v; long = l; spared = λ k m z. absurd (omega (arith, one k m, z)) }
+none_known : (n : ℕ) (s : Stage) → s.basis ≡ None → IfSome s.basis (IsArrangedBasis MonomialOrder.deglex n s.polys.items)
+none_known n s u = subst (λ (b : Option MarkedPolynomials). IfSome b (IsArrangedBasis MonomialOrder.deglex n s.polys.items)) (sym u) tt
+
+pub given_stage : (n : ℕ) (fs : List Terms) (s : Stage) → HaveRingVariables n fs → s.polys.items ≡ fs → length s.marks ≡ n → ((k : ℕ) → k < n → entry s.marks k ≡ 1) → s.basis ≡ None → IsStage n s
+given_stage n fs s v e l one u = record { ring = subst (HaveRingVariables n) (sym e) v; long = l; spared = λ k m z. absurd (omega (arith, one k m, z)); known = none_known n s u }
 
 pub reduced_stage : (n : ℕ) (fs : List Terms) (b : MarkedPolynomials) (s : Stage) → HaveRingVariables n fs → IsArrangedBasis MonomialOrder.deglex n fs b →
-    s.polys.items ≡ polys b.items → length s.marks ≡ n → CoverHeads b.items s.marks → IsStage n s
-reduced_stage n fs b s v h e l covers = record {
+    s.polys.items ≡ polys b.items → length s.marks ≡ n → CoverHeads b.items s.marks → s.basis ≡ Some b → IsStage n s
+reduced_stage n fs b s v h e l covers u = record {
   ring = subst (HaveRingVariables n) (sym e) (degree_ring n fs b h);
   long = l;
   spared = λ k m z. subst (AddsNothing n k) (sym e) (adds_nothing n k (polys b.items) b.items m (ring_of n (polys b.items) (degree_ring n fs b h)) (degree_own n fs b v h) (λ c i. covers k z c i));
+  known = subst (λ (o : Option MarkedPolynomials). IfSome o (IsArrangedBasis MonomialOrder.deglex n s.polys.items)) (sym u)
+      (subst (λ (gs : List Terms). IsArrangedBasis MonomialOrder.deglex n gs b) (sym e) (degree_arranged n fs b v h));
 }
 
 pub left_stage : (n k : ℕ) (fs : List Terms) (b : MarkedPolynomials) (s : Stage) → k < n → HaveRingVariables n fs → IsArrangedBasis (step_order n) (n + 1) (step_list n k fs) b →
-    s.polys.items ≡ left_over n b.items → length s.marks ≡ n → CoverFreeHeads n b.items s.marks → IsStage n s
-left_stage n k fs b s i v h e l covers = record {
+    s.polys.items ≡ left_over n b.items → length s.marks ≡ n → CoverFreeHeads n b.items s.marks → s.basis ≡ None → IsStage n s
+left_stage n k fs b s i v h e l covers u = record {
   ring = subst (HaveRingVariables n) (sym e) (step_ring n k fs b h);
   long = l;
   spared = λ j m z. subst (AddsNothing n j) (sym e) (step_spared n k j fs b i m v h (λ c t q. covers j m z c t q));
+  known = none_known n s u;
 }
 
 -- by one variable more
@@ -167,15 +196,7 @@ saturation_of n fs hs s v w b = record {
     λ m. (saturated_product n fs f).1 ((stands.members f).0 ((degree_members n hs s stands.ring b f).0 m)),
     λ m. (degree_members n hs s stands.ring b f).1 ((stands.members f).1 ((saturated_product n fs f).0 m)),
   );
-  reduced = record {
-    basis = record {
-      members = λ c k. (degree_members n hs s stands.ring b c.poly).1 (b.reduced.basis.members c k);
-      marked = b.reduced.basis.marked;
-      initial = λ f m x t. b.reduced.basis.initial f ((degree_members n hs s stands.ring b f).0 m) x t;
-    };
-    tails = b.reduced.tails;
-    heads = b.reduced.heads;
-  };
+  reduced = degree_reduced n hs s stands.ring b;
   arranged = b.arranged;
 }
   where

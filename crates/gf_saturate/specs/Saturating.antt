@@ -1,6 +1,6 @@
 -- What a saturation is answered with: the reduced basis by deglex, or why there is none.
 -- Laws: proofs/StageLaws.antt. Source: Cox, Little, O'Shea, Ideals, Varieties, and Algorithms, 3.1 and 4.4.
-use Rattle.std.specs.Prelude.{◌≡◌, ◌⊎◌, ◌↔◌, ℕ, zero, suc, ◌+◌, ◌<◌, List, Contains, length}
+use Rattle.std.specs.Prelude.{◌≡◌, ◌⊎◌, ◌↔◌, ℕ, zero, suc, ◌+◌, ◌<◌, List, Contains, length, IfSome}
 use Rattle.gf_exponents.specs.Exponents.{entry}
 use Rattle.gf_exponents.specs.Orders.{IsDeglexBelow, IsWeightedBelow}
 use Rattle.gf_exponents.specs.SixOrders.{MonomialOrder}
@@ -51,11 +51,13 @@ abbrev pub IsOnTheWay : ℕ → List Terms → ℕ → List Terms → Type 0
 IsOnTheWay n fs zero hs = (hs ≡ fs) ⊎ ((s : MarkedPolynomials) × IsArrangedBasis MonomialOrder.deglex n fs s × (hs ≡ polys s.items))
 IsOnTheWay n fs (suc k) hs = (gs : List Terms) × IsOnTheWay n fs k gs × (IsStep n k gs hs ⊎ (AddsNothing n k gs × (hs ≡ gs)))
 
--- the polynomials are in n variables, and those variables add nothing that don't occur in the monomial beside them
+-- the polynomials are in n variables, those variables add nothing that don't occur in the monomial beside them, and a basis
+-- that is there is the reduced one by deglex
 pub record IsStage (n : ℕ) (s : Stage) : Type 0 where
   pub ring : HaveRingVariables n s.polys.items
   pub long : length s.marks ≡ n
   pub spared : (k : ℕ) → k < n → entry s.marks k ≡ 0 → AddsNothing n k s.polys.items
+  pub known : IfSome s.basis (IsArrangedBasis MonomialOrder.deglex n s.polys.items)
 
 -- ---- refusals
 

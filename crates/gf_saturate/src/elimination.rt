@@ -48,7 +48,11 @@ pub(crate) fn is_free(n: u32, b: &Marked) -> bool
 }
 
 /// The members without the last variable, in the first `n` variables.
-pub(crate) fn left_over_of(alloc: Global, n: u32, basis: &MarkedSet) -> Result<Vec<Poly>, AllocError>
+pub(crate) fn left_over_of(
+    alloc: Global,
+    n: u32,
+    basis: &MarkedSet,
+) -> Result<Vec<Poly>, AllocError>
     requires { IsToEliminate n basis.now.items }
     ensures { IfOk result (λ all. all.items ≡ left_over n basis.now.items) }
 {

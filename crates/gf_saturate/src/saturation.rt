@@ -15,6 +15,7 @@ fn last_stage(alloc: Global, n: u32, set: &[Poly], pairs: u64) -> Result<Stage, 
     requires room { n < ROOM }
     requires variables { HaveRingVariables n set.now }
     ensures way { IfOk result (λ s. IsOnTheWay n set.now n s.polys.items) }
+    ensures stage { IfOk result (IsStage n) }
     ensures err { IfErr result (IsSaturateRefusal n set.now pairs) }
 {
     let Ok(first) = first_stage(alloc, n, set, pairs) else {
@@ -44,7 +45,15 @@ fn by_degree(alloc: Global, n: u32, set: &[Poly], pairs: u64) -> Result<MarkedSe
         Ok(last) => last,
         Err(refusal) => return Err(refusal),
     };
-    basis(alloc, n, &last.polys, &Order::deglex(), pairs)
+    let Stage {
+        polys,
+        basis: known,
+        ..
+    } = last;
+    match known {
+        Some(known) => Ok(known),
+        None => basis(alloc, n, &polys, &Order::deglex(), pairs),
+    }
 }
 
 /// The reduced Gröbner basis by deglex of the saturation, by the product of all `n` variables, of the ideal of these

@@ -17,11 +17,13 @@ use gf_order::Order;
 use gf_poly::{MarkedSet, Mono, Poly, ROOM};
 use std::alloc::{AllocError, Global};
 
-/// Polynomials, and a monomial: saturating by a variable that doesn't occur in it adds nothing to their ideal.
+/// Polynomials, and a monomial: saturating by a variable that doesn't occur in it adds nothing to their ideal. With them goes their
+/// reduced basis by deglex, where it is known.
 #[derive(Drop)]
 pub struct Stage {
     pub polys: Vec<Poly>,
     pub marks: Mono,
+    pub basis: Option<MarkedSet>,
 }
 
 /// Equal polynomials.
@@ -70,21 +72,24 @@ fn given(alloc: Global, n: u32, set: &[Poly]) -> Result<Stage, AllocError>
     Ok(Stage {
         polys,
         marks: product(alloc, n),
+        basis: None,
     })
 }
 
 /// The basis by degree, and its marks.
-fn reduced(alloc: Global, n: u32, set: &[Poly], first: &MarkedSet) -> Result<Stage, AllocError>
+fn reduced(alloc: Global, n: u32, set: &[Poly], first: MarkedSet) -> Result<Stage, AllocError>
     requires room { n < ROOM }
     requires variables { HaveRingVariables n set.now }
-    requires basis { IsArrangedBasis MonomialOrder.deglex n set.now first.now }
+    requires basis { IsArrangedBasis MonomialOrder.deglex n set.now first }
     ensures way { IfOk result (λ s. IsOnTheWay n set.now 0 s.polys.items) }
     ensures stage { IfOk result (IsStage n) }
 {
-    let polys = polys_of(alloc, first)?;
+    let polys = polys_of(alloc, &first)?;
+    let marks = marks_of(alloc, n, first.items());
     Ok(Stage {
         polys,
-        marks: marks_of(alloc, n, first.items()),
+        marks,
+        basis: Some(first),
     })
 }
 
@@ -101,7 +106,7 @@ pub(crate) fn first_stage(
     ensures stage { IfOk result (IsStage n) }
 {
     match basis(alloc, n, set, &Order::deglex(), pairs) {
-        Ok(first) => reduced(alloc, n, set, &first),
+        Ok(first) => reduced(alloc, n, set, first),
         Err(_) => given(alloc, n, set),
     }
 }
@@ -143,6 +148,7 @@ fn left(alloc: Global, n: u32, k: u32, set: &[Poly], found: &MarkedSet) -> Resul
     Ok(Stage {
         polys,
         marks: marks_left_over(alloc, n, found.items()),
+        basis: None,
     })
 }
 

@@ -15,12 +15,7 @@ use gf_text::{Ring, Written};
 use std::alloc::Global;
 
 // What is written for what is read.
-fn text_of(
-    alloc: Global,
-    ring: &Ring,
-    set: &[Written],
-    pairs: u64,
-) -> Result<Vec<u8>, Refusal>
+fn text_of(alloc: Global, ring: &Ring, set: &[Written], pairs: u64) -> Result<Vec<u8>, Refusal>
     requires { AreIn (length ring.now) set.now }
     ensures ok { IfOk result (λ text. IsAnswerFor (saturation_command pairs) (ring.now, (set.now, None)) text.items) }
     ensures err { IfErr result (IsUnanswered (saturation_command pairs) (ring.now, (set.now, None))) }

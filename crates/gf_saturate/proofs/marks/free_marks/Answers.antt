@@ -22,17 +22,15 @@ members-preserved c =
     let long : length b.head ≡ c.args.n + 1 = c.requires.heads b (contains_at c.args.items.now c.members.i b c.members-test.true c.index-items-i.is) in
     elim c.if-is_free.branch [
       | then-is_free w ↦ (
-        let is : c.if-is_free.all ≡ join c.members.all b.head = w.all-is ∙ w.lcm-all.ensures ∙ ap (join c.members.all) w.head.ensures.value in
-        (
-          ap length is ∙ length-join c.members.all b.head (c.members.invariant.0 ∙ sym long) ∙ c.members.invariant.0,
-          subst (CoverFreeHeads c.args.n (take (c.members.i + 1) c.args.items.now)) (sym is) (free_more c.args.n c.args.items.now c.members.i b c.members.all c.members-test.true c.index-items-i.is c.members.invariant.1),
-        ))
+          let is : c.if-is_free.all ≡ join c.members.all b.head = w.all-is ∙ w.lcm-all.ensures ∙ ap (join c.members.all) w.head.ensures.value in (
+            ap length is ∙ length-join c.members.all b.head (c.members.invariant.0 ∙ sym long) ∙ c.members.invariant.0,
+            subst (CoverFreeHeads c.args.n (take (c.members.i + 1) c.args.items.now)) (sym is) (free_more c.args.n c.args.items.now c.members.i b c.members.all c.members-test.true c.index-items-i.is c.members.invariant.1),
+          ))
       | else-is_free w ↦ (
-        let e : (entry b.head c.args.n == 0) ≡ false = search rules in
-        (
-          ap length w.all-is ∙ c.members.invariant.0,
-          subst (CoverFreeHeads c.args.n (take (c.members.i + 1) c.args.items.now)) (sym w.all-is) (free_skip c.args.n c.args.items.now c.members.i b c.members.all c.members-test.true c.index-items-i.is e c.members.invariant.1),
-        ))
+          let e : (entry b.head c.args.n == 0) ≡ false = search rules in (
+            ap length w.all-is ∙ c.members.invariant.0,
+            subst (CoverFreeHeads c.args.n (take (c.members.i + 1) c.args.items.now)) (sym w.all-is) (free_skip c.args.n c.args.items.now c.members.i b c.members.all c.members-test.true c.index-items-i.is e c.members.invariant.1),
+          ))
     ]
 
 pub returns-clause-covers : goal.returns-clause-covers

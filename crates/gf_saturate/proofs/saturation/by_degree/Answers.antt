@@ -2,6 +2,9 @@ use Rattle.std.proofs.Common.{sym, subst}
 use Rattle.gf_exponents.specs.SixOrders.{MonomialOrder}
 use Rattle.gf_order.specs.Comparisons.{HasEntries}
 use Rattle.gf_buchberger.specs.Jobs.{HaveRingVariables, IsSuited}
+use Rattle.gf_buchberger.specs.Bases.{IsArrangedBasis}
+use Rattle.gf_poly.specs.Marking.{MarkedPolynomials}
+use Rattle.std.specs.Prelude.{IfSome, Option}
 use Rattle.gf_buchberger.proofs.JobLaws.{orders_that_suit}
 use Rattle.gf_saturate.specs.Saturating.{IsSaturation, IsSaturateRefusal}
 use Rattle.gf_saturate.proofs.StepLaws.{arranged-as, refusal-as, if_ok, if_err}
@@ -20,9 +23,15 @@ basis-requires-clause-suited c =
     subst (λ (o : MonomialOrder). IsSuited o c.args.n c.deref.result.now) (sym c.deglex.ensures) (orders_that_suit.deglex c.args.n c.deref.result.now v)
 
 pub returns-clause-ok : goal.returns-clause-ok
-returns-clause-ok c = if_ok _ (IsSaturation c.args.n c.args.set.now) c.basis-2.result c.basis-2.ensures.ok
+returns-clause-ok c = if_ok _ (IsSaturation c.args.n c.args.set.now) c.basis-in-None.result c.basis-in-None.ensures.ok
     (λ s b. saturation_of c.args.n c.args.set.now c.in-Ok.last.polys.items s c.requires.variables c.in-Ok.ensures.way (arranged-as _ _ c.args.n _ _ s c.deglex.ensures c.deref.ensures.value b))
 
 pub returns-clause-err : goal.returns-clause-err
-returns-clause-err c = if_err _ (IsSaturateRefusal c.args.n c.args.set.now c.args.pairs) c.basis-2.result c.basis-2.ensures.err
+returns-clause-err c = if_err _ (IsSaturateRefusal c.args.n c.args.set.now c.args.pairs) c.basis-in-None.result c.basis-in-None.ensures.err
     (λ e r. IsSaturateRefusal.at_end c.in-Ok.last.polys.items c.in-Ok.ensures.way (refusal-as _ _ c.args.n c.args.pairs _ _ e c.deglex.ensures c.deref.ensures.value r))
+
+pub returns-in-Some-clause-ok : goal.returns-in-Some-clause-ok
+returns-in-Some-clause-ok c =
+    let known : IsArrangedBasis MonomialOrder.deglex c.args.n c.in-Ok.last.polys.items c.in-Some.known =
+    subst (λ (o : Option MarkedPolynomials). IfSome o (IsArrangedBasis MonomialOrder.deglex c.args.n c.in-Ok.last.polys.items)) c.in-Some.is c.in-Ok.ensures.stage.known in
+    saturation_of c.args.n c.args.set.now c.in-Ok.last.polys.items c.in-Some.known c.requires.variables c.in-Ok.ensures.way known

@@ -1,4 +1,4 @@
-use Rattle.std.proofs.Common.{subst, List, Contains}
+use Rattle.std.proofs.Common.{refl, subst, List, Contains}
 use Rattle.gf_poly.specs.Marking.{MarkedPolynomial}
 use Rattle.gf_saturate.specs.Marks.{CoverFreeHeads}
 use Rattle.gf_saturate.specs.Saturating.{step_list}
@@ -16,4 +16,4 @@ pub returns-clause-step : goal.returns-clause-step
 returns-clause-step c = record { basis = c.args.found.now; is_basis = c.requires.basis; is = c.in_ok-polys.ensures }
 
 pub returns-clause-stage : goal.returns-clause-stage
-returns-clause-stage c = left_stage c.args.n c.args.k c.args.set.now c.args.found.now _ c.requires.inside c.requires.variables c.requires.basis c.in_ok-polys.ensures c.marks_left_over.ensures.long (subst (λ (bs : List MarkedPolynomial). CoverFreeHeads c.args.n bs c.marks_left_over.result) c.items.ensures.value c.marks_left_over.ensures.covers)
+returns-clause-stage c = left_stage c.args.n c.args.k c.args.set.now c.args.found.now _ c.requires.inside c.requires.variables c.requires.basis c.in_ok-polys.ensures c.marks_left_over.ensures.long (subst (λ (bs : List MarkedPolynomial). CoverFreeHeads c.args.n bs c.marks_left_over.result) c.items.ensures.value c.marks_left_over.ensures.covers) refl
