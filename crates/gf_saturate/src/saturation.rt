@@ -69,7 +69,8 @@ fn by_degree(alloc: Global, n: u32, set: &[Poly], pairs: u64) -> Result<MarkedSe
 ///
 /// As those of `basis` of `gf_buchberger`, each of one of these runs: `Overflow` and `Exponent` only at an operation that a run
 /// of Buchberger's algorithm on one of these sets may have, and whose operands don't fit; `PairBudget` only where a run on one
-/// of them would have to settle more pairs. A first basis by deglex that is refused is left out, and not told.
+/// of them would have to settle more pairs. The first basis by deglex, which has at most
+/// 1000 pairs, is left out where it is refused.
 pub fn saturate(alloc: Global, n: u32, set: &[Poly], pairs: u64) -> Result<MarkedSet, BasisError>
     requires room { n < ROOM }
     requires variables { HaveRingVariables n set.now }

@@ -17,6 +17,9 @@ use gf_order::Order;
 use gf_poly::{MarkedSet, Mono, Poly, ROOM};
 use std::alloc::{AllocError, Global};
 
+/// The most pairs that the first basis by degree may settle: where it takes more, more is lost by it than its marks can save.
+const FEW: u64 = 1000;
+
 /// Polynomials, and a monomial: saturating by a variable that doesn't occur in it adds nothing to their ideal. With them goes their
 /// reduced basis by deglex, where it is known.
 #[derive(Drop)]
@@ -93,7 +96,7 @@ fn reduced(alloc: Global, n: u32, set: &[Poly], first: MarkedSet) -> Result<Stag
     })
 }
 
-/// Where the saturation begins: at the basis by degree, or where there is none at the polynomials as they are given.
+/// Where the saturation begins: at the basis by degree, or where that isn't found soon at the polynomials as they are given.
 pub(crate) fn first_stage(
     alloc: Global,
     n: u32,
@@ -105,7 +108,8 @@ pub(crate) fn first_stage(
     ensures way { IfOk result (λ s. IsOnTheWay n set.now 0 s.polys.items) }
     ensures stage { IfOk result (IsStage n) }
 {
-    match basis(alloc, n, set, &Order::deglex(), pairs) {
+    let few = if pairs < FEW { pairs } else { FEW };
+    match basis(alloc, n, set, &Order::deglex(), few) {
         Ok(first) => reduced(alloc, n, set, first),
         Err(_) => given(alloc, n, set),
     }
