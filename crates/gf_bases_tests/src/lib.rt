@@ -1,5 +1,5 @@
-//! Tests of bases, cones, flips, the tree of bases and regions of weights: `gf_buchberger`, `gf_conversion`, `gf_cone`, `gf_flip`, `gf_tree`,
-//! `gf_weights`. They stand in a crate of their own since a crate with tests is proved twice, with them and without.
+//! Tests of bases, saturations, cones, flips, the tree of bases and regions of weights: `gf_buchberger`, `gf_saturate`, `gf_conversion`, `gf_cone`,
+//! `gf_flip`, `gf_tree`, `gf_weights`. They stand in a crate of their own since a crate with tests is proved twice, with them and without.
 #![tactic(auto)]
 
 #[cfg(test)]
@@ -12,5 +12,7 @@ mod conversions;
 mod flips;
 #[cfg(test)]
 mod regions;
+#[cfg(test)]
+mod saturations;
 #[cfg(test)]
 mod trees;

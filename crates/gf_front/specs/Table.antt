@@ -225,9 +225,17 @@ generated = record {
   });
 }
 
+-- `_saturation` with its option
+abbrev pub saturation : Entry
+saturation = record {
+  name = codes "_saturation";
+  options = (codes "pairs", an_amount) ∷ [];
+  job = λ rows. jobs.Saturation (record { pairs = number_of (codes "pairs") usual_pairs rows });
+}
+
 -- those with options
 abbrev pub with_options : List Entry
-with_options = buchberger ∷ bases ∷ leading_terms ∷ groebner_cone ∷ weight_vector ∷ to_polyhedral_fan ∷ fan_common_refinement ∷ generated ∷ []
+with_options = buchberger ∷ bases ∷ leading_terms ∷ groebner_cone ∷ weight_vector ∷ to_polyhedral_fan ∷ fan_common_refinement ∷ generated ∷ saturation ∷ []
 
 -- those without options, by their names
 abbrev pub plain_commands : List (Text × PlainCommand)

@@ -84,3 +84,10 @@ pub struct FanCommonRefinementOptions {
     /// `--i2 FILE`: the file of the second fan.
     pub second: Name,
 }
+
+/// The option of `_saturation`.
+#[derive(Clone, Copy, Debug, PartialEq, Eq)]
+pub struct SaturationOptions {
+    /// `--pairs N`: the budget of pairs of each run of Buchberger's algorithm.
+    pub pairs: u64,
+}

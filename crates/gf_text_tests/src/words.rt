@@ -190,6 +190,14 @@ fn other_commands_have_their_jobs(rt: HostRuntime) -> Result<(), Fail> {
         ("_tropicalhypersurface", "Ok(Plain(TropicalHypersurface))"),
         ("_tropicalintersection", "Ok(Plain(TropicalIntersection))"),
         ("_minkowskisum --", "Ok(Plain(MinkowskiSum))"),
+        (
+            "_saturation",
+            "Ok(Saturation(SaturationOptions { pairs: 100000000 }))",
+        ),
+        (
+            "_saturation --pairs 7",
+            "Ok(Saturation(SaturationOptions { pairs: 7 }))",
+        ),
     ] {
         let job = answered(rt.alloc(), line)?;
         let shown = format!(in rt.alloc(); "{job:?}")?;
@@ -299,7 +307,8 @@ fn other_words_are_usage(rt: HostRuntime) -> Result<(), Fail> {
         "_groebnercone --certificates --certificates",
         "_groebnercone -m",
         "_tropicalintersection --basistest",
-        "_saturation",
+        "_saturation -w",
+        "_saturation --pairs 0",
         "_buchberger --limit 3",
         // A file is missing, or there is one too many.
         "_fancommonrefinement",

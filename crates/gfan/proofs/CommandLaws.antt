@@ -45,6 +45,7 @@ use Rattle.gfan.proofs.ExactLaws.{buchberger_exact, marked_exact, containment_ex
 use Rattle.gfan.proofs.CommonRefinementLaws.{refinement_lawful}
 use Rattle.gfan.proofs.MigrateFanLaws.{migrate_fan_exact, migrate_fan_tested, migration_not_listed}
 use Rattle.gfan.proofs.SummaryLaws.{generated_lawful}
+use Rattle.gfan.proofs.SaturationLaws.{saturation_lawful}
 
 tropical_lawful : (which : TropicalFan) → IsLawful (tropical_command which)
 tropical_lawful which = sound_lawful (tropical_command which) (tropical_exact which) (tropical_tested which) (λ h. h) (λ t. t) (λ a m w. tropical_not_listed which (length a.0) (generators_of a.1.0) m w)
@@ -96,6 +97,7 @@ lawful (jobs.ToPolyhedralFan o) =
     sound_lawful (to_polyhedral_fan_command o.restrict) (to_polyhedral_fan_exact o.restrict) (to_polyhedral_fan_tested o.restrict) (λ h. h) (λ t. t) (λ a m w. no_fan_not_listed o.restrict (length a.0) a.1 m w)
 lawful (jobs.FanCommonRefinement o) = refinement_lawful o.first o.second
 lawful (jobs.Generated o) = generated_lawful o.number o.limit o.pairs
+lawful (jobs.Saturation o) = saturation_lawful o.pairs
 
 -- ---- what a job reads
 

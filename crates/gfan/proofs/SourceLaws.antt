@@ -111,6 +111,7 @@ writes_once (jobs.GroebnerCone o) n = cone_once o.vector_input (cone_options o)
 writes_once (jobs.ToPolyhedralFan o) n = tt
 writes_once (jobs.FanCommonRefinement o) n = tt
 writes_once (jobs.Generated o) n = tt
+writes_once (jobs.Saturation o) n = tt
 
 list_not_once : (from_basis : Bool) (o : ListOptions) → WritesOnce (list_command from_basis o).writing → ⊥
 list_not_once false o w = w

@@ -35,6 +35,7 @@ use Rattle.gfan.specs.Tropical.{tropical_command}
 use Rattle.gfan.specs.CommonRefinement.{refinement_command}
 use Rattle.gfan.specs.MigrateFan.{migrate_fan_command}
 use Rattle.gfan.specs.Generated.{generated_command}
+use Rattle.gfan.specs.Saturation.{saturation_command}
 
 -- what `_buchberger` is asked
 abbrev pub options : BuchbergerOptions → Options
@@ -89,6 +90,7 @@ command_of (jobs.GroebnerCone o) = groebner_cone_command o.vector_input (cone_op
 command_of (jobs.ToPolyhedralFan o) = to_polyhedral_fan_command o.restrict
 command_of (jobs.FanCommonRefinement o) = refinement_command o.first o.second
 command_of (jobs.Generated o) = generated_command o.number o.limit o.pairs
+command_of (jobs.Saturation o) = saturation_command o.pairs
 
 -- the text is what the job writes for this source, the only one
 abbrev pub IsAnswerTo : Job → List ℕ → List ℕ → Type 0

@@ -26,6 +26,7 @@ pub mod Bases  -- what `_bases` reads and writes
 pub mod GivenBasis  -- what `_bases -g` reads and writes
 pub mod Refused  -- a refusal with the ring in whose names it is told
 pub mod BasesWriting  -- how `_bases` writes its list
+pub mod Saturation  -- what `_saturation` reads and writes
 pub mod CommonRefinement  -- what `_fancommonrefinement` reads and writes
 pub mod MigrateFan  -- what `_migratefan` reads and writes
 pub mod Generated  -- what `_generated` writes

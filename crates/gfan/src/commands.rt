@@ -21,7 +21,8 @@ use crate::tropical::TropicalFan;
 use crate::{
     bases, buchberger, common_refinement, containment, generated, given_basis, groebner_cone,
     homogeneity_space, homogenize, initial_forms, leading_terms, mark_polynomial_set, marked,
-    migrate_fan, polynomial_set_union, stats, to_polyhedral_fan, tropical, weight_vector,
+    migrate_fan, polynomial_set_union, saturation, stats, to_polyhedral_fan, tropical,
+    weight_vector,
 };
 use gf_frame::{LoadFrom, load_all};
 use gf_front::{Job, PlainCommand, Refusal};
@@ -142,6 +143,7 @@ fn input_answer<R: Threads + Sync>(
             weight_vector::answer(alloc, source, given.listed, given.echoed)
         }
         Job::ToPolyhedralFan(given) => to_polyhedral_fan::answer(alloc, source, given.restrict),
+        Job::Saturation(given) => saturation::answer(alloc, source, given.pairs),
     }
 }
 
