@@ -33,7 +33,7 @@ pub enum PlainCommand {
 }
 
 /// Each command without options, with its name.
-pub(crate) const PLAIN_COMMANDS: [(&str, PlainCommand); 12] = [
+pub(crate) const PLAIN_COMMANDS: &[(&str, PlainCommand)] = &[
     (
         "_ismarkedgroebnerbasis",
         PlainCommand::IsMarkedGroebnerBasis,
@@ -67,5 +67,5 @@ fn named(commands: &[(&str, PlainCommand)], name: &str) -> Option<PlainCommand>
 pub(crate) fn plain_command(name: &str) -> Option<PlainCommand>
     ensures { result ≡ plain_named name.now plain_commands }
 {
-    named(&PLAIN_COMMANDS, name)
+    named(PLAIN_COMMANDS, name)
 }

@@ -1,5 +1,5 @@
 -- The command of each job is lawful.
--- To cite: lawful, one_source.
+-- To cite: lawful, list_source, one_source.
 use Rattle.std.specs.Prelude.{◌≡◌, Bool, true, false, [], ◌∷◌, length}
 use Rattle.std.proofs.Common.{refl, subst}
 use Rattle.gf_front.specs.declared.command_line.Job.{Job}
@@ -33,7 +33,7 @@ use Rattle.gfan.specs.Tropical.{tropical_command}
 use Rattle.gfan.specs.MigrateFan.{migrate_fan_command}
 use Rattle.gfan.specs.declared.bases.ListOptions.{ListOptions}
 use Rattle.gfan.specs.declared.told_cone.ConeOptions.{ConeOptions}
-use Rattle.gfan.specs.Commands.{options, list_options, cone_options, plain_command, list_command, command_of}
+use Rattle.gfan.specs.Commands.{options, list_options, cone_options, plain_command, list_command, command_of, ReadsInputAlone}
 use Rattle.gfan.proofs.CheckedSetLaws.{check_not_listed, test_cause_untested}
 use Rattle.gfan.proofs.WeightVectorLaws.{weight_vector_exact, weight_vector_tested, unweighed_not_listed}
 use Rattle.gfan.proofs.GroebnerConeLaws.{cone_exact, cone_tested, cone_not_listed}
@@ -105,7 +105,7 @@ plain_source : (k : PlainCommand) → (plain_command k).reads ≡ Origin.the_inp
 plain_source plains.Stats = refl
 plain_source _ = refl
 
-list_source : (from_basis : Bool) (o : ListOptions) → (list_command from_basis o).reads ≡ Origin.the_input ∷ []
+pub list_source : (from_basis : Bool) (o : ListOptions) → (list_command from_basis o).reads ≡ Origin.the_input ∷ []
 list_source false o = refl
 list_source true o = refl
 
@@ -122,7 +122,7 @@ cone_source false o = refl
 cone_source true o = refl
 
 -- a job that isn't one on files, or that reads nothing, reads the input alone
-pub one_source : (job : Job) → ((o : FanCommonRefinementOptions) → job ≡ jobs.FanCommonRefinement o → ⊥) → ((o : GeneratedOptions) → job ≡ jobs.Generated o → ⊥) → (command_of job).reads ≡ Origin.the_input ∷ []
+pub one_source : (job : Job) → ((o : FanCommonRefinementOptions) → job ≡ jobs.FanCommonRefinement o → ⊥) → ((o : GeneratedOptions) → job ≡ jobs.Generated o → ⊥) → ReadsInputAlone job
 one_source (jobs.FanCommonRefinement o) n m = absurd (n o refl)
 one_source (jobs.Generated o) n m = absurd (m o refl)
 one_source (jobs.Plain k) n m = plain_source k

@@ -1,5 +1,6 @@
 -- What a job is handed, from the texts of its sources as the code lists them.
--- To cite: one_alone, two_alone, texts_length, list_as, two_as, one_as, none_as, writes_once, not_asked. The rest are steps.
+-- To cite: one_alone, two_alone, texts_length, list_as, two_as, one_as, none_as, writes_once, not_asked, not_handed. The rest are
+-- steps.
 use Rattle.std.specs.Prelude.{◌≡◌, ◌⊎◌, ℕ, Bool, true, false, List, [], ◌∷◌, length, get_or, Vec}
 use Rattle.std.specs.Global.{Global}
 use Rattle.std.proofs.Common.{arith, refl, sym, ap, ◌∙◌, subst, inl, inr}
@@ -10,6 +11,7 @@ use Rattle.gf_front.specs.declared.plain.PlainCommand.TheVariants as plains
 use Rattle.gf_front.specs.declared.options.BasesOptions.{BasesOptions}
 use Rattle.gf_front.specs.declared.options.FanCommonRefinementOptions.{FanCommonRefinementOptions}
 use Rattle.gf_front.specs.declared.options.GeneratedOptions.{GeneratedOptions}
+use Rattle.gf_frame.specs.Loading.{Origin}
 use Rattle.gf_frame.specs.Origins.{texts_of}
 use Rattle.gf_frame.specs.Commands.{Command, WritesOnce}
 use Rattle.gfan.specs.declared.bases.ListOptions.{ListOptions}
@@ -19,8 +21,8 @@ use Rattle.gfan.specs.WeightVector.{weight_vector_command}
 use Rattle.gfan.specs.GroebnerCone.{groebner_cone_command}
 use Rattle.gfan.specs.CommonRefinement.{refinement_command}
 use Rattle.gfan.specs.Generated.{generated_command}
-use Rattle.gfan.specs.Commands.{list_options, cone_options, plain_command, list_command, command_of}
-use Rattle.gfan.proofs.CommandLaws.{one_source}
+use Rattle.gfan.specs.Commands.{list_options, cone_options, plain_command, list_command, command_of, ReadsInputAlone}
+use Rattle.gfan.proofs.CommandLaws.{list_source}
 
 -- ---- texts as the code lists them
 
@@ -45,22 +47,16 @@ two_alone (t ∷ (u ∷ (v ∷ vs))) x y a b e i j p q = absurd (omega (arith, e
 
 -- a job on the input alone has one
 pub one_as : (P : List (List ℕ) → Type 0) (job : Job) (ts : List (Vec ℕ Global)) (x : Vec ℕ Global) (a : List ℕ)
-    → ((o : FanCommonRefinementOptions) → job ≡ jobs.FanCommonRefinement o → ⊥) → ((o : GeneratedOptions) → job ≡ jobs.Generated o → ⊥) → length ts ≡ length (command_of job).reads → x ≡ get_or ts 0 x → a ≡ x.items
+    → ReadsInputAlone job → length ts ≡ length (command_of job).reads → x ≡ get_or ts 0 x → a ≡ x.items
     → P (a ∷ []) → P (texts_of ts)
-one_as P job ts x a n m l i p h = subst P (one_alone ts x a (l ∙ ap length (one_source job n m)) i p) h
+one_as P job ts x a r l i p h = subst P (one_alone ts x a (l ∙ ap length r) i p) h
 
 -- the list has one
-list_not_files : (job : Job) (o : BasesOptions) (r : FanCommonRefinementOptions) → job ≡ jobs.Bases o → job ≡ jobs.FanCommonRefinement r → ⊥
-list_not_files job o r e k = (let s : jobs.Bases o ≡ jobs.FanCommonRefinement r = sym e ∙ k in cc)
-
-list_not_generated : (job : Job) (o : BasesOptions) (r : GeneratedOptions) → job ≡ jobs.Bases o → job ≡ jobs.Generated r → ⊥
-list_not_generated job o r e k = (let s : jobs.Bases o ≡ jobs.Generated r = sym e ∙ k in cc)
-
 pub list_as : (P : Command → List (List ℕ) → Type 0) (job : Job) (o : BasesOptions) (from_basis : Bool) (ts : List (Vec ℕ Global)) (x : Vec ℕ Global) (a : List ℕ)
     → job ≡ jobs.Bases o → o.from_basis ≡ from_basis → length ts ≡ length (command_of job).reads → x ≡ get_or ts 0 x → a ≡ x.items
     → P (list_command from_basis (list_options o)) (a ∷ []) → P (command_of job) (texts_of ts)
 list_as P job o from_basis ts x a e f l i p h =
-    one_as (P (command_of job)) job ts x a (λ r k. list_not_files job o r e k) (λ r k. list_not_generated job o r e k) l i p
+    one_as (P (command_of job)) job ts x a (subst ReadsInputAlone (sym e) (list_source o.from_basis (list_options o))) l i p
     (subst (λ j. P (command_of j) (a ∷ [])) (sym e) (subst (λ b. P (list_command b (list_options o)) (a ∷ [])) (sym f) h))
 
 -- a job on two files has two
@@ -117,10 +113,20 @@ list_not_once : (from_basis : Bool) (o : ListOptions) → WritesOnce (list_comma
 list_not_once false o w = w
 list_not_once true o w = w
 
+file_not_input : (name : List ℕ) (os ps : List Origin) → Origin.a_file name ∷ os ≡ Origin.the_input ∷ ps → ⊥
+file_not_input name os ps e = cc
+
+none_not_input : (ps : List Origin) → [] ≡ Origin.the_input ∷ ps → ⊥
+none_not_input ps e = cc
+
 -- a job on the input that writes once isn't the list, nor one on files
-pub not_asked : (job : Job) → WritesOnce (command_of job).writing → ((o : FanCommonRefinementOptions) → job ≡ jobs.FanCommonRefinement o → ⊥)
+pub not_asked : (job : Job) → WritesOnce (command_of job).writing → ReadsInputAlone job
     → ((o : BasesOptions) × (job ≡ jobs.Bases o)) ⊎ ((o : FanCommonRefinementOptions) × (job ≡ jobs.FanCommonRefinement o)) → ⊥
-not_asked job once n h = elim h [
+not_asked job once reads h = elim h [
   | inl k ↦ list_not_once k.0.from_basis (list_options k.0) (subst (λ j. WritesOnce (command_of j).writing) k.1 once)
-  | inr k ↦ n k.0 k.1
+  | inr k ↦ file_not_input k.0.first (Origin.a_file k.0.second ∷ []) [] (subst ReadsInputAlone k.1 reads)
 ]
+
+-- nor one that reads nothing
+pub not_handed : (job : Job) (o : GeneratedOptions) → ReadsInputAlone job → job ≡ jobs.Generated o → ⊥
+not_handed job o reads e = none_not_input [] (subst ReadsInputAlone e reads)

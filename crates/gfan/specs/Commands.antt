@@ -1,5 +1,5 @@
 -- The command of each job.
-use Rattle.std.specs.Prelude.{ℕ, Bool, true, false, List, [], ◌∷◌, length, Option, ℤ}
+use Rattle.std.specs.Prelude.{◌≡◌, ℕ, Bool, true, false, List, [], ◌∷◌, length, Option, ℤ}
 use Rattle.gf_poly.specs.Marking.{MarkedPolynomials}
 use Rattle.gf_text.specs.declared.written.Written.{Written}
 use Rattle.gf_front.specs.declared.command_line.Job.{Job}
@@ -10,6 +10,7 @@ use Rattle.gf_front.specs.declared.options.BuchbergerOptions.{BuchbergerOptions}
 use Rattle.gf_front.specs.declared.options.BasesOptions.{BasesOptions}
 use Rattle.gf_front.specs.declared.options.GroebnerConeOptions.{GroebnerConeOptions}
 use Rattle.gf_items.specs.Sources.{ring_set_vector, ring_marked_set}
+use Rattle.gf_frame.specs.Loading.{Origin}
 use Rattle.gf_frame.specs.Readings.{IsReadOfOne}
 use Rattle.gf_frame.specs.Commands.{Command, IsAnswered}
 use Rattle.gfan.specs.declared.buchberger.Options.{Options}
@@ -91,6 +92,10 @@ command_of (jobs.ToPolyhedralFan o) = to_polyhedral_fan_command o.restrict
 command_of (jobs.FanCommonRefinement o) = refinement_command o.first o.second
 command_of (jobs.Generated o) = generated_command o.number o.limit o.pairs
 command_of (jobs.Saturation o) = saturation_command o.pairs
+
+-- the job reads the input alone
+abbrev pub ReadsInputAlone : Job → Type 0
+ReadsInputAlone job = (command_of job).reads ≡ Origin.the_input ∷ []
 
 -- the text is what the job writes for this source, the only one
 abbrev pub IsAnswerTo : Job → List ℕ → List ℕ → Type 0

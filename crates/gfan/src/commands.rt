@@ -1,16 +1,13 @@
 //! What the program does for each job.
 ghost use Rattle.std.specs.Prelude.{◌≡◌, [], ◌∷◌, length, IfOk, IfErr, OnOk};
 ghost use Rattle.gf_front.specs.Jobs.{HasNumbersInRange};
-ghost use Rattle.gf_front.specs.declared.command_line.Job.{Job};
-ghost use Rattle.gf_front.specs.declared.options.FanCommonRefinementOptions.{FanCommonRefinementOptions};
-ghost use Rattle.gf_front.specs.declared.options.GeneratedOptions.{GeneratedOptions};
 ghost use Rattle.gf_frame.specs.Seen.{seen, output_seen};
 ghost use Rattle.gf_frame.specs.Loading.{AreLoaded, AreUnloaded, HaveInput, HaveFile};
 ghost use Rattle.gf_frame.specs.Origins.{texts_of};
 ghost use Rattle.gf_frame.specs.Commands.{WritesOnce, IsAnswered, IsRefusedOn};
 ghost use Rattle.gf_frame.specs.Runs.{IsDoneOn, IsStoppedOn};
 ghost use Rattle.gfan.specs.Refused.{IsOfSource};
-ghost use Rattle.gfan.specs.Commands.{plain_command, command_of};
+ghost use Rattle.gfan.specs.Commands.{plain_command, command_of, ReadsInputAlone};
 ghost use Rattle.gfan.specs.Run.{IsOfLoaded};
 
 use crate::bases::ListOptions;
@@ -112,8 +109,7 @@ fn input_answer<R: Threads + Sync>(
     source: &[u8],
 ) -> Result<Vec<u8>, Refused>
     requires once { WritesOnce (command_of job.now).writing }
-    requires input { (o : FanCommonRefinementOptions) → job.now ≡ Job.FanCommonRefinement o → ⊥ }
-    requires some { (o : GeneratedOptions) → job.now ≡ Job.Generated o → ⊥ }
+    requires input { ReadsInputAlone job.now }
     ensures ok { IfOk result (λ text. IsAnswered (command_of job.now) (source.now ∷ []) text.items) }
     ensures err { IfErr result (λ e. IsRefusedOn (command_of job.now) (source.now ∷ []) e.refusal) }
     ensures told { IfErr result (IsOfSource source.now) }

@@ -1,6 +1,7 @@
 use Rattle.std.proofs.lemmas.Result.{IfOk-weaker}
 use Rattle.gf_frame.specs.Commands.{IsAnswered, IsRefusedOn}
 use Rattle.gfan.proofs.CommonRefinementLaws.{refinement_answered, refinement_refused}
+use Rattle.gfan.proofs.CommandLaws.{one_source}
 use Rattle.gfan.proofs.PerformedLaws.{on_err}
 use Rattle.gfan.proofs.SourceLaws.{two_as, none_as}
 use Rattle.gfan.proofs.commands.answered.Goals as goal
@@ -26,3 +27,6 @@ returns-in-Generated-clause-ok g c =
 pub returns-in-Generated-clause-err : goal.returns-in-Generated-clause-err
 returns-in-Generated-clause-err g c =
     on_err c.answer-in-Generated.result _ _ (λ e h. none_as (λ k us. IsRefusedOn k us e.refusal) c.args.job.now _ c.args.texts.now c.in-Generated.is c.requires.all h) c.answer-in-Generated.ensures.err
+
+pub input_answer-requires-clause-input : goal.input_answer-requires-clause-input
+input_answer-requires-clause-input g c κs within = one_source c.args.job.now c.in_default.not-FanCommonRefinement c.in_default.not-Generated

@@ -2,7 +2,7 @@ use Rattle.std.proofs.Common.{[], ◌∷◌, IfErr, sym, subst}
 use Rattle.gf_front.specs.declared.command_line.Job.{Job}
 use Rattle.gf_frame.specs.Commands.{IsRefusedOn}
 use Rattle.gfan.specs.Commands.{command_of}
-use Rattle.gfan.proofs.SourceLaws.{not_asked}
+use Rattle.gfan.proofs.SourceLaws.{not_asked, not_handed}
 use Rattle.gfan.proofs.commands.input_answer.Goals as goal
 
 pub unreachable-requires-in-Bases : goal.unreachable-requires-in-Bases
@@ -17,4 +17,4 @@ returns-in-ToPolyhedralFan-clause-err g c =
     subst (λ (j : Job). IfErr c.answer-in-ToPolyhedralFan.result (λ e. IsRefusedOn (command_of j) (c.args.source.now ∷ []) e.refusal)) (sym c.in-ToPolyhedralFan.is) c.answer-in-ToPolyhedralFan.ensures.err
 
 pub unreachable-requires : goal.unreachable-requires
-unreachable-requires g c = absurd (c.requires.some _ c.in-Generated.is)
+unreachable-requires g c = absurd (not_handed c.args.job.now _ c.requires.input c.in-Generated.is)
