@@ -198,6 +198,14 @@ fn other_commands_have_their_jobs(rt: HostRuntime) -> Result<(), Fail> {
             "_saturation --pairs 7",
             "Ok(Saturation(SaturationOptions { pairs: 7 }))",
         ),
+        (
+            "_generated 0",
+            "Ok(Generated(GeneratedOptions { number: 0, limit: 1000, pairs: 100000000, workers: 1 }))",
+        ),
+        (
+            "_generated --workers 4 --limit 7 2147483646",
+            "Ok(Generated(GeneratedOptions { number: 2147483646, limit: 7, pairs: 100000000, workers: 4 }))",
+        ),
     ] {
         let job = answered(rt.alloc(), line)?;
         let shown = format!(in rt.alloc(); "{job:?}")?;
@@ -309,6 +317,10 @@ fn other_words_are_usage(rt: HostRuntime) -> Result<(), Fail> {
         "_tropicalintersection --basistest",
         "_saturation -w",
         "_saturation --pairs 0",
+        "_generated",
+        "_generated 2147483647",
+        "_generated -1",
+        "_generated 1 2",
         "_buchberger --limit 3",
         // A file is missing, or there is one too many.
         "_fancommonrefinement",
