@@ -214,6 +214,7 @@ SMALL = [
         ("_initialforms", b"Q[a,b] {a+b+1} (1,1)"),
         ("_homogenize", b"Q[x,y] {y-1,x^3-xy+2,0} z"),
         ("_polynomialsetunion", b"Q[a,b] {{a,b},{b,1}}"),
+        ("_saturation", b"Q[a,b] {a^2b-ab}"),
         ("_stats", THREE_BASES),
         ("_topolyhedralfan", THREE_BASES),
         ("_topolyhedralfan --restrict", b"Q[a,b] {{a^2-b},{b-a^2}}"),
