@@ -48,7 +48,12 @@ fn powers(rt: HostRuntime) -> Result<(), Fail> {
     let found = saturated(alloc, &[&cubic], 1000)?
         .ok()
         .ok_or("a saturation")?;
-    assert!(rt; lists_members(&found, &[(0, &[(1, 1, [1, 0, 0, 0]), (-1, 1, [0, 0, 0, 0])])]));
+    assert!(rt;
+        lists_members(
+            &found,
+            &[(0, &[(1, 1, [1, 0, 0, 0]), (-1, 1, [0, 0, 0, 0])])]
+        )
+    );
     let first = [(1, [2, 0, 0, 0]), (-1, [1, 1, 0, 0])];
     let second = [(1, [1, 1, 0, 0]), (-1, [0, 1, 0, 0])];
     let found = saturated(alloc, &[&first, &second], 1000)?
