@@ -2,6 +2,7 @@
 ghost use Rattle.std.specs.Prelude.{◌≡◌, ◌<◌, ◌∷◌, [], length, IfOk};
 ghost use Rattle.gf_cone.specs.Answers.{AnswersFacet, IsFacetAnswered};
 ghost use Rattle.gf_cone.specs.Cones.{HasInterior};
+ghost use Rattle.gf_facets.specs.Systems.{units};
 ghost use Rattle.gf_poly.specs.Polynomial.{HasVariables};
 
 use gf_cone::*;
@@ -74,14 +75,18 @@ fn third_of(alloc: Global) -> Result<Marked, PolyError>
 }
 
 /// The cone of the first two.
-fn cone_of_two(alloc: Global) -> Result<Cone, Fail> {
+fn cone_of_two(alloc: Global) -> Result<Cone, Fail>
+    ensures { IfOk result (λ c. c.beside ≡ units c.variables c.variables) }
+{
     let items = vec![in alloc; first_of(alloc)?, second_of(alloc)?]?;
     let set = MarkedSet::new(3, items);
     Ok(Cone::of(alloc, &set)?)
 }
 
 /// The cone of all three.
-fn cone_of_three(alloc: Global) -> Result<Cone, Fail> {
+fn cone_of_three(alloc: Global) -> Result<Cone, Fail>
+    ensures { IfOk result (λ c. c.beside ≡ units c.variables c.variables) }
+{
     let items = vec![in alloc; first_of(alloc)?, second_of(alloc)?, third_of(alloc)?]?;
     let set = MarkedSet::new(3, items);
     Ok(Cone::of(alloc, &set)?)
@@ -98,7 +103,9 @@ fn short_term(alloc: Global, coef: i64, x: u8) -> Term
 }
 
 /// The cone of a - 1 in one variable.
-fn cone_of_one(alloc: Global) -> Result<Cone, Fail> {
+fn cone_of_one(alloc: Global) -> Result<Cone, Fail>
+    ensures { IfOk result (λ c. c.beside ≡ units c.variables c.variables) }
+{
     let poly = two(1, short_term(alloc, 1, 1), short_term(alloc, -1, 0), alloc)?;
     let items = vec![in alloc; marked(1, poly)?]?;
     let set = MarkedSet::new(1, items);
@@ -117,12 +124,21 @@ fn is_at(vectors: &[IntVec], place: usize, entries: &[i128]) -> bool {
 #[test]
 fn two_flippable(rt: HostRuntime) -> Result<(), Fail> {
     let cone = cone_of_two(rt.alloc())?;
-    let region = Region::positive(rt.alloc(), 3)?;
     assert!(rt; is_inside(&cone, &IntVec::from_slice(rt.alloc(), &[2, 2, 1])?));
     assert!(rt; is_at(cone.normals(), 0, &[0, 1, -1]) && is_at(cone.normals(), 1, &[1, 0, -1]));
     assert!(rt; cone.normals().len() == 2);
-    assert!(rt; matches!(cone.flippable(0, &region)?, FlipAnswer::Yes { witness: _ }));
-    assert!(rt; matches!(cone.flippable(1, &region)?, FlipAnswer::Yes { witness: _ }));
+    assert!(rt;
+        matches!(
+            flip_of(rt.alloc(), &cone, 0)?,
+            FlipAnswer::Yes { witness: _ }
+        )
+    );
+    assert!(rt;
+        matches!(
+            flip_of(rt.alloc(), &cone, 1)?,
+            FlipAnswer::Yes { witness: _ }
+        )
+    );
     Ok(())
 }
 
@@ -134,6 +150,28 @@ fn facet_of(cone: &Cone, place: usize) -> Result<FacetAnswer, GordanError>
     ensures told { IfOk result (IsFacetAnswered cone.now place) }
 {
     cone.facet(place)
+}
+
+/// `Cone::flippable` among all positive vectors.
+fn flip_of(alloc: Global, cone: &Cone, place: usize) -> Result<FlipAnswer, GordanError>
+    requires place { place < length cone.now.normals }
+    requires beside { cone.now.beside ≡ units cone.now.variables cone.now.variables }
+    requires interior { HasInterior cone.now }
+{
+    let region = Region::positive(alloc, cone.variables())?;
+    cone.flippable(place, &region)
+}
+
+/// `KnownCone::way` among all positive vectors.
+fn way_of(alloc: Global, known: &KnownCone) -> Result<Option<Way>, GordanError> {
+    let region = Region::positive(alloc, known.cone().variables())?;
+    known.way(&region)
+}
+
+/// `KnownCone::way_up` among all positive vectors.
+fn way_up_of(alloc: Global, known: &mut KnownCone) -> Result<Option<usize>, GordanError> {
+    let region = Region::positive(alloc, known.cone().variables())?;
+    known.way_up(&region)
 }
 
 /// 1 times (1, 1, -2) is 1 times (0, 1, -1) and 1 times (1, 0, -1)
@@ -157,15 +195,14 @@ fn remembered(rt: HostRuntime) -> Result<(), Fail> {
     let cone = cone_of_three(rt.alloc())?;
     let inner = IntVec::from_slice(rt.alloc(), &[2, 2, 1])?;
     let mut known = KnownCone::new(rt.alloc(), cone, Some(inner))?;
-    let region = Region::positive(rt.alloc(), 3)?;
     assert!(rt; known.normals().len() == 3);
     assert!(rt; matches!(known.crossing(2)?, None));
     assert!(rt; matches!(known.crossing(1)?, Some(_)));
-    assert!(rt; matches!(known.way(&region)?, None));
+    assert!(rt; matches!(way_of(rt.alloc(), &known)?, None));
     assert!(rt; !known.is_flippable(2)?);
     assert!(rt; known.is_flippable(1)?);
     assert!(rt; matches!(known.witness(1), Some(_)));
-    assert!(rt; matches!(known.way_up(&region)?, None));
+    assert!(rt; matches!(way_up_of(rt.alloc(), &mut known)?, None));
     Ok(())
 }
 
@@ -176,8 +213,7 @@ fn unit_vector_of_one(rt: HostRuntime) -> Result<(), Fail> {
     assert!(rt; is_inside(&cone, &IntVec::from_slice(rt.alloc(), &[1])?));
     assert!(rt; cone.normals().len() == 1);
     assert!(rt; matches!(facet_of(&cone, 0)?, FacetAnswer::Facet { witness: _ }));
-    let region = Region::positive(rt.alloc(), 1)?;
-    match cone.flippable(0, &region)? {
+    match flip_of(rt.alloc(), &cone, 0)? {
         FlipAnswer::No { times, multipliers } => {
             assert!(rt; times == 1 && multipliers.as_slice() == [1].as_slice());
         }

@@ -1,5 +1,5 @@
 -- The list of `_bases -g`: a marked Gröbner basis is reduced and taken up to the root; and why it isn't written.
--- To cite: few_members, reducible, reduced_from, reduced_own, root_starts, way_from; given_performed, given_stopped_root, given_stopped_list, named_root;
+-- To cite: few_members, reducible, reduced_from, reduced_own, root_starts, way_from; given_performed, given_stopped_root, given_stopped_list, named_root, way_in_tree;
 -- tree_work, tree_untested; given_work, root_within, root_past, given_once, given_refuses. The rest are steps.
 use Rattle.std.specs.Prelude.{◌≡◌, ◌⊎◌, ℕ, List, [], ◌∷◌, length, map, Contains, Option, Some, Err}
 use Rattle.std.specs.Io.KnownBytes.{Keeps}
@@ -212,7 +212,7 @@ given_work o n s r (IsGivenListCause.going g (IsGoingCause.at_limit most h q)) =
 given_work o n s r (IsGivenListCause.going g (IsGoingCause.at_certificates c)) = subst IsOfWork (sym c.uncertified.2) (weight_work c.uncertified.0)
 
 -- a refusal on the way up is one of a search over the bases of the ideal
-way_in_tree : (s u : MarkedPolynomials) (pairs : ℕ) (e : TreeError) → HaveVariables s.variables s.items → IsReducedFrom s u → IsWayRefused (all_positive s.variables) pairs u e →
+pub way_in_tree : (s u : MarkedPolynomials) (pairs : ℕ) (e : TreeError) → HaveVariables s.variables s.items → IsReducedFrom s u → IsWayRefused (all_positive s.variables) pairs u e →
     IsTreeRefusal (ideal_by s.variables (polys s.items)) pairs e
 way_in_tree s u pairs e v f q =
     let k = all_positive s.variables in

@@ -74,6 +74,7 @@ use Rattle.gfan.specs.Generated.{list_to, IsSummaryCause, generated_command}
 use Rattle.gfan.specs.Commands.{options, list_options, list_command, command_of}
 use Rattle.gfan.specs.PlainInputs.{BeginsPlainly, IsOnBinomials}
 use Rattle.gfan.proofs.ReadSetLaws.{IsKeptMember, marked_kept, one_kept}
+use Rattle.gfan.proofs.GivenBasisLaws.{way_in_tree}
 use Rattle.gfan.proofs.CommandLaws.{lawful}
 
 -- ---- what a refusal tells
@@ -141,8 +142,8 @@ given_never o n s x b (IsGivenListCause.at_root (IsGivenRootRefusal.at_check e h
     check_never s e x (λ y i. refusals_tell_no_overflow.marked_basis 0 s y b (subst (λ d. IsReducedBasisRefusal 0 s d) i h)) q
 given_never o n s x b (IsGivenListCause.at_root (IsGivenRootRefusal.at_tails t d m a h q)) =
     poly_never d x (λ y i. refusals_tell_no_overflow.monic_forms s t y b a (subst (λ c. IsAutoreductionRefusal t.items c) i h)) q
-given_never o n s x b (IsGivenListCause.at_root (IsGivenRootRefusal.on_the_way e m h q)) =
-    tree_never s.variables (polys s.items) o.pairs e x (λ y k. refusals_tell_no_overflow.given_search s.variables o.pairs s y b k) h q
+given_never o n s x b (IsGivenListCause.at_root (IsGivenRootRefusal.on_the_way u e m f h q)) =
+    tree_never s.variables (polys s.items) o.pairs e x (λ y k. refusals_tell_no_overflow.given_search s.variables o.pairs s y b k) (way_in_tree s u o.pairs e b.variables f h) q
 given_never o n s x b (IsGivenListCause.going m h) = going_never o n (polys s.items) x (λ y pairs k. refusals_tell_no_overflow.given_search n pairs s y b k) h
 
 summary_never : (limit pairs : ℕ) (fs : List Terms) (x : Overflow) → AreBinomials fs → IsSummaryCause limit pairs fs (refusals.Overflow x) → ⊥
