@@ -1,0 +1,5 @@
+pub mod FormLaws  -- initial forms, one member further
+pub mod SumLaws  -- sums of rays by their numbers, one further
+pub mod OutcomeLaws  -- a list that is gone through until something fails
+pub mod FaceLaws  -- one face tried; what is refused there
+pub mod CutLaws  -- what a cone and rows share

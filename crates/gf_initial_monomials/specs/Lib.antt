@@ -1,0 +1,2 @@
+pub mod Outcomes  -- vectors that fail, and the first of them
+pub mod Refusals  -- why it isn't known

@@ -1,0 +1,82 @@
+-- At which vectors of a closed cone the initial ideal has a polynomial of one term: one for each face, and the first of them.
+-- Laws: proofs/FormLaws.antt, proofs/OutcomeLaws.antt.
+-- Source: Maclagan, Sturmfels, Introduction to Tropical Geometry, 2.6.
+use Rattle.std.specs.Prelude.{◌≡◌, ℕ, ◌++◌, ◌<◌, Bool, true, false, List, ℤ, Option, Some, None, Contains, length, take, slice_index_or}
+use Rattle.gf_poly.specs.Polynomial.{Terms}
+use Rattle.gf_poly.specs.Marking.{MarkedPolynomial, polys}
+use Rattle.gf_duality.specs.Rays.{IsRays}
+use Rattle.gf_duality.specs.Faces.{Rows, sum_of}
+use Rattle.gf_fans.specs.FaceLists.{numbered}
+use Rattle.gf_rays.specs.Cones.{RowsAndRays}
+use Rattle.gf_rays.specs.Faces.{AreFaces}
+use Rattle.gf_rays.specs.declared.faces.Face.{Face}
+use Rattle.gf_initial.specs.Parts.{AreInitialParts}
+use Rattle.gf_saturation.specs.Saturations.{HasOneTermMember}
+
+-- ---- at a vector
+
+-- fs are the initial forms at v of the members of bs
+pub record AreFormsAt (v : List ℤ) (bs : List MarkedPolynomial) (fs : List Terms) : Type 0 where
+  pub parts : List MarkedPolynomial
+  pub are_parts : AreInitialParts v bs parts
+  pub polys_are : polys parts ≡ fs
+
+-- their ideal has a polynomial of one term
+pub record HasMonomialAt (n : ℕ) (bs : List MarkedPolynomial) (v : List ℤ) : Type 0 where
+  pub forms : List Terms
+  pub are_forms : AreFormsAt v bs forms
+  pub member : HasOneTermMember n forms
+
+-- it has none
+pub record HasNoMonomialAt (n : ℕ) (bs : List MarkedPolynomial) (v : List ℤ) : Type 0 where
+  pub forms : List Terms
+  pub are_forms : AreFormsAt v bs forms
+  pub none : HasOneTermMember n forms → ⊥
+
+-- yes or no says which
+abbrev pub IsTold : ℕ → List MarkedPolynomial → List ℤ → Bool → Type 0
+IsTold n bs v true = HasMonomialAt n bs v
+IsTold n bs v false = HasNoMonomialAt n bs v
+
+-- ---- one after another
+
+-- x is in the list, and all before it pass
+pub record IsReached {A : Type 0} (Passes : A → Type 0) (xs : List A) (x : A) : Type 0 where
+  pub place : ℕ
+  pub inside : place < length xs
+  pub here : slice_index_or xs place x ≡ x
+  pub earlier : (y : A) → Contains (take place xs) y → Passes y
+
+-- where v is told, the first in the list that doesn't pass fails at v; where none is told, all pass
+abbrev pub IsOutcome : {A : Type 0} → (A → Type 0) → (List ℤ → A → Type 0) → List A → Option (List ℤ) → Type 0
+IsOutcome {A} Passes Fails xs None = (x : A) → Contains xs x → Passes x
+IsOutcome {A} Passes Fails xs (Some v) = (x : A) × IsReached Passes xs x × Fails v x
+
+-- ---- the faces of a cone
+
+-- the vector that is tried for a face: the sum of its rays
+abbrev pub vector_of : RowsAndRays → Face → List ℤ
+vector_of c f = sum_of c.ambient (numbered c.rays f.rays)
+
+abbrev pub PassesAt : List MarkedPolynomial → RowsAndRays → Face → Type 0
+PassesAt bs c f = HasNoMonomialAt c.ambient bs (vector_of c f)
+
+abbrev pub FailsAt : List MarkedPolynomial → RowsAndRays → List ℤ → Face → Type 0
+FailsAt bs c v f = (v ≡ vector_of c f) × HasMonomialAt c.ambient bs v
+
+-- ---- what a cone shares with the closed cone of a basis
+
+-- d is the part of the cone c on which these rows aren't negative, with its rays
+pub record IsCutBy (c : Rows) (n : ℕ) (rows : List (List ℤ)) (d : RowsAndRays) : Type 0 where
+  pub ambient : d.ambient ≡ n
+  pub inequalities : d.inequalities ≡ c.inequalities ++ rows
+  pub equations : d.equations ≡ c.equations
+  pub are_rays : IsRays n d.inequalities d.equations d.lineality d.rays
+
+-- its faces, by dimension and then by the numbers of their rays, have this outcome
+pub record HasOutcome (n : ℕ) (bs : List MarkedPolynomial) (rows : List (List ℤ)) (c : Rows) (v : Option (List ℤ)) : Type 0 where
+  pub cut : RowsAndRays
+  pub is_cut : IsCutBy c n rows cut
+  pub faces : List Face
+  pub are_faces : AreFaces cut faces
+  pub outcome : IsOutcome (PassesAt bs cut) (FailsAt bs cut) faces v

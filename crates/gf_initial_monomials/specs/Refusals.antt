@@ -1,0 +1,67 @@
+-- Why it isn't known whether an initial ideal has a polynomial of one term.
+use Rattle.std.specs.Prelude.{◌≡◌, ℕ, ◌++◌, ◌<◌, ◌≤◌, ◌^◌, List, ℤ, pos, length, get_or, unsigned_abs}
+use Rattle.gf_poly.specs.Polynomial.{Terms}
+use Rattle.gf_poly.specs.Marking.{MarkedPolynomial}
+use Rattle.gf_vec.specs.Vector.{zeros}
+use Rattle.gf_vec.specs.Steps.{IsFirstWide}
+use Rattle.gf_vec.specs.declared.error.VecError.{VecError}
+use Rattle.gf_vec.specs.declared.error.VecError.TheVariants as vectors
+use Rattle.gf_gordan.specs.declared.error.ConeOverflow.{ConeOverflow}
+use Rattle.gf_gordan.specs.declared.error.GordanError.{GordanError}
+use Rattle.gf_gordan.specs.declared.error.GordanError.TheVariants as cones
+use Rattle.gf_saturate.specs.Saturating.{IsSaturateRefusal}
+use Rattle.gf_duality.specs.Faces.{Rows}
+use Rattle.gf_fans.specs.FaceLists.{numbered}
+use Rattle.gf_rays.specs.Cones.{RowsAndRays}
+use Rattle.gf_rays.specs.Faces.{AreFaces}
+use Rattle.gf_rays.specs.Reached.{IsRaysStep}
+use Rattle.gf_rays.specs.Sums.{adding_steps}
+use Rattle.gf_rays.specs.declared.faces.Face.{Face}
+use Rattle.gf_initial_monomials.specs.declared.error.InitialError.{InitialError}
+use Rattle.gf_initial_monomials.specs.declared.error.InitialError.TheVariants.{Cone, Wide, Entry, Saturation, Memory}
+use Rattle.gf_initial_monomials.specs.Outcomes.{AreFormsAt, IsReached, IsCutBy, PassesAt, vector_of}
+
+-- ---- the same refusal, here
+
+abbrev pub of_gordan : GordanError → InitialError
+of_gordan (cones.Cone s) = Cone s
+of_gordan cones.Memory = Memory
+
+abbrev pub of_vector : VecError → InitialError
+of_vector (vectors.Wide w) = Wide w
+of_vector vectors.Memory = Memory
+
+-- ---- causes
+
+-- the entry at i is past 2^63 in absolute value, and none before it
+pub record IsFirstPast (v : List ℤ) (i : ℕ) : Type 0 where
+  pub inside : i < length v
+  pub past : 2 ^ 63 < unsigned_abs (get_or v i (pos 0))
+  pub earlier : (j : ℕ) → j < i → unsigned_abs (get_or v j (pos 0)) ≤ 2 ^ 63
+
+-- at the vector v: its first entry that is past, or a refusal of the saturation of the ideal of the initial forms there
+abbrev pub IsVectorRefusal : ℕ → List MarkedPolynomial → List ℤ → ℕ → InitialError → Type 0
+IsVectorRefusal n bs v pairs (Cone s) = ⊥
+IsVectorRefusal n bs v pairs (Wide w) = ⊥
+IsVectorRefusal n bs v pairs (Entry i x) = IsFirstPast v i × (x ≡ get_or v i (pos 0))
+IsVectorRefusal n bs v pairs (Saturation r) = (forms : List Terms) × AreFormsAt v bs forms × IsSaturateRefusal n forms pairs r
+IsVectorRefusal n bs v pairs Memory = Unit {0}
+
+-- at a face of the cone c: the first partial sum of its rays that leaves the range, or a refusal at the sum
+abbrev pub IsRefusedAt : List MarkedPolynomial → RowsAndRays → ℕ → InitialError → Face → Type 0
+IsRefusedAt bs c pairs (Wide w) f = IsFirstWide w (adding_steps (zeros c.ambient) (numbered c.rays f.rays))
+IsRefusedAt bs c pairs (Cone s) f = ⊥
+IsRefusedAt bs c pairs (Entry i x) f = IsVectorRefusal c.ambient bs (vector_of c f) pairs (Entry i x)
+IsRefusedAt bs c pairs (Saturation r) f = IsVectorRefusal c.ambient bs (vector_of c f) pairs (Saturation r)
+IsRefusedAt bs c pairs Memory f = Unit {0}
+
+-- at one of these faces, all before which pass; or there is no memory
+pub data IsFaceRefusal (bs : List MarkedPolynomial) (c : RowsAndRays) (faces : List Face) (pairs : ℕ) (e : InitialError) : Type 0 where
+  at_face : (f : Face) → IsReached (PassesAt bs c) faces f → IsRefusedAt bs c pairs e f → IsFaceRefusal bs c faces pairs e
+  no_memory : e ≡ Memory → IsFaceRefusal bs c faces pairs e
+
+-- at finding the rays of what the cone c and these rows share, or at one of its faces
+pub data IsConeRefusal (n : ℕ) (bs : List MarkedPolynomial) (rows : List (List ℤ)) (c : Rows) (pairs : ℕ) (e : InitialError) : Type 0 where
+  at_rays : (s : ConeOverflow) → IsRaysStep n (c.inequalities ++ rows) c.equations s → e ≡ Cone s → IsConeRefusal n bs rows c pairs e
+  at_faces : (cut : RowsAndRays) (faces : List Face) → IsCutBy c n rows cut → AreFaces cut faces → IsFaceRefusal bs cut faces pairs e → IsConeRefusal n bs rows c pairs e
+  no_memory : e ≡ Memory → IsConeRefusal n bs rows c pairs e

@@ -1,0 +1,40 @@
+//! The faces of a cone, one after another.
+ghost use Rattle.std.specs.Prelude.{◌≡◌, ◌<◌, IfOk, IfErr};
+ghost use Rattle.gf_rays.specs.Faces.{AreFaces};
+ghost use Rattle.gf_initial_monomials.specs.Outcomes.{IsOutcome, PassesAt, FailsAt};
+ghost use Rattle.gf_initial_monomials.specs.Refusals.{IsFaceRefusal};
+
+use crate::error::InitialError;
+use crate::sums::sum_at;
+use crate::vectors::told_at;
+use gf_poly::{MarkedSet, ROOM};
+use gf_rays::{Face, Rays};
+use gf_vec::IntVec;
+use std::alloc::Global;
+
+/// The vector of the first of these faces of a cone that fails; none where each passes.
+///
+/// # Errors
+/// The first partial sum of rays that leaves the range; what is refused at a vector; want of memory.
+pub(crate) fn at_faces(
+    alloc: Global,
+    basis: &MarkedSet,
+    cone: &Rays,
+    faces: &[Face],
+    pairs: u64,
+) -> Result<Option<IntVec>, InitialError>
+    requires room { basis.now.variables < ROOM }
+    requires ambient { cone.now.ambient ≡ basis.now.variables }
+    requires faces { AreFaces cone.now faces.now }
+    ensures ok { IfOk result (IsOutcome (PassesAt basis.now.items cone.now) (FailsAt basis.now.items cone.now) faces.now) }
+    ensures err { IfErr result (IsFaceRefusal basis.now.items cone.now faces.now pairs) }
+{
+    'faces: for i in 0..faces.len() {
+        let v = sum_at(alloc, cone, faces[i].rays.as_slice())?;
+        let fails = told_at(alloc, basis, &v, pairs)?;
+        if fails {
+            return Ok(Some(v));
+        }
+    }
+    Ok(None)
+}

@@ -1,0 +1,47 @@
+//! Whether the initial ideal at one vector has a polynomial of one term.
+ghost use Rattle.std.specs.Prelude.{◌≡◌, ◌<◌, IfOk, IfErr, MatchOption, length};
+ghost use Rattle.gf_order.specs.Weights.{AreBounded};
+ghost use Rattle.gf_initial_monomials.specs.Outcomes.{IsTold};
+ghost use Rattle.gf_initial_monomials.specs.Refusals.{IsFirstPast, IsVectorRefusal};
+
+use crate::error::InitialError;
+use crate::forms::forms_at;
+use gf_one_term::has_monomial;
+use gf_poly::{MarkedSet, ROOM};
+use gf_vec::IntVec;
+use std::alloc::Global;
+
+/// The place of the first entry past `2^63` in absolute value, where there is one.
+fn first_past(v: &IntVec) -> Option<usize>
+    ensures { MatchOption result (AreBounded v.now) (IsFirstPast v.now) }
+{
+    v.as_slice().iter().position(|x| x.unsigned_abs() > 1 << 63)
+}
+
+/// Whether the initial forms at a vector of the closed cone of a basis have a polynomial of one term in their ideal.
+///
+/// # Errors
+/// The first entry past `2^63`; a refusal of the saturation of their ideal; want of memory.
+pub(crate) fn told_at(
+    alloc: Global,
+    basis: &MarkedSet,
+    v: &IntVec,
+    pairs: u64,
+) -> Result<bool, InitialError>
+    requires room { basis.now.variables < ROOM }
+    requires long { length v.now ≡ basis.now.variables }
+    ensures ok { IfOk result (IsTold basis.now.variables basis.now.items v.now) }
+    ensures err { IfErr result (IsVectorRefusal basis.now.variables basis.now.items v.now pairs) }
+{
+    if let Some(index) = first_past(v) {
+        return Err(InitialError::Entry {
+            index,
+            value: v.as_slice()[index],
+        });
+    }
+    let forms = forms_at(alloc, basis, v)?;
+    match has_monomial(alloc, basis.variables(), &forms, pairs) {
+        Ok(yes) => Ok(yes),
+        Err(refusal) => Err(InitialError::Saturation(refusal)),
+    }
+}

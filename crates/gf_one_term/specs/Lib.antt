@@ -1,0 +1,1 @@
+pub mod OneTerm  -- polynomials of one term as they are kept, and marks that are 1
