@@ -1,5 +1,5 @@
-//! Tests of bases, cones, flips and the tree of bases: `gf_buchberger`, `gf_conversion`, `gf_cone`, `gf_flip`, `gf_tree`. They stand in a crate of
-//! their own since a crate with tests is proved twice, with them and without.
+//! Tests of bases, saturations, cones, flips and the tree of bases: `gf_buchberger`, `gf_saturate`, `gf_conversion`, `gf_cone`, `gf_flip`, `gf_tree`.
+//! They stand in a crate of their own since a crate with tests is proved twice, with them and without.
 #![tactic(auto)]
 
 #[cfg(test)]
@@ -10,5 +10,7 @@ mod cones;
 mod conversions;
 #[cfg(test)]
 mod flips;
+#[cfg(test)]
+mod saturations;
 #[cfg(test)]
 mod trees;

@@ -1,19 +1,21 @@
 -- What is written of a fan is read again.
 -- To cite: fans_again. The rest are steps.
-use Rattle.std.proofs.Common.{◌≡◌, ◌≤◌, ◌<◌, ℕ, ℤ, ◌+◌, ◌-◌, ◌==◌, Bool, true, false, List, [], ◌∷◌, ◌++◌, length, map, fold, max, take, codes, decimal, Option, None, Some, refl, subst, append-nil, get_or, arith, All, if◌then◌else◌}
+use Rattle.std.proofs.Common.{◌≡◌, ◌≤◌, ◌<◌, ℕ, ℤ, ◌+◌, ◌-◌, ◌==◌, Bool, true, false, List, [], ◌∷◌, ◌++◌, length, map, fold, max, take, codes, decimal, Option, None, Some, refl, sym, ap, ◌∙◌, inr, subst, bytes_eq, nat_le, append-nil, get_or, arith, All, if◌then◌else◌}
 use Rattle.std.specs.List.{AllByRecursion, range_with_len}
 use Rattle.std.proofs.lemmas.List.Elements.{recursion_from_All}
 use Rattle.std.proofs.lemmas.List.Sums.{count_by-le-length}
 use Rattle.gf_text.specs.declared.TheConstants.{MOST_VARIABLES}
-use Rattle.gf_text.specs.Machine.{texts}
+use Rattle.gf_text.specs.Machine.{Lexeme, texts}
+use Rattle.gf_text.specs.Tokens.{is_number, decimal_value}
 use Rattle.gf_text.specs.RingText.{has, is_name}
 use Rattle.gf_fanfile.specs.declared.parts.ListedCone.{ListedCone}
-use Rattle.gf_fanfile.specs.Lines.{before_comment, is_section_name, content_tokens}
+use Rattle.gf_fanfile.specs.Lines.{Section, sections, before_comment, is_section_name, content_tokens, end_before}
+use Rattle.gf_fanfile.specs.NumberText.{IsOneNumberText}
 use Rattle.gf_fanfile.specs.ConeText.{most_number}
-use Rattle.gf_fanfile.specs.FanText.{number_to, rows, cones, any, Content, the_number, the_rows, the_cones, passed, Named, kind_in, fan_table, ambient_dim, rays_name, lineality_space, maximal_cones, IsContentText}
+use Rattle.gf_fanfile.specs.FanText.{number_to, rows, cones, any, Content, the_number, the_rows, the_cones, passed, Table, Named, kind_in, is_second, version_number, version_in, told_version, IsKnownVersion, fan_table, AreHeld, found, file_version, ambient_dim, rays_name, lineality_space, maximal_cones, maximal_interiors, IsContentText}
 use Rattle.gf_fanfile.specs.FanWords.{FanWords, section, greatest_dim, count_of, f_vector, is_simplicial, is_pure, spaced_entries, comment, ray_lines, number_lines, cone_text, told_cone, cone_line, cone_lines, truth_line, dim_line, front_sections, back_sections, fan_text}
 use Rattle.gf_fanfile.specs.FansAgain.{AreWritable, IsWritableCone, IsWritable, file_of, FansAreReadAgain}
-use Rattle.gf_fanfile.specs.Files.{IsFileOf}
+use Rattle.gf_fanfile.specs.Files.{AreInteriorsOf, IsFileOf}
 use Rattle.gf_fanfile.proofs.ConeTextLaws.{le_test}
 use Rattle.gf_fanfile.proofs.WrittenLaws.{no_byte, IsContentLine, AreContentLines, ArePlain, contents, IsSaid, AreSaid, written_again}
 use Rattle.gf_fanfile.proofs.PrintedRowsLaws.{no_tail, comment_tail, IsSmall, AreSmall, IsRowLine, AreRowLines, row_as_line, rows_hold, rows_content, rows_plain, first_digit}
@@ -84,6 +86,10 @@ lines_of before (c ∷ cs) h = (one_line before c h.0, lines_of (Some c.dim) cs 
 abbrev Lines : List (List ℕ) → Type 0
 Lines ls = AreContentLines ls × ArePlain ls
 
+-- the table of the version 2
+abbrev second_table : Table
+second_table = fan_table (Some 2)
+
 -- a name of a section that wasn't there before
 record IsNew (seen : List (List ℕ)) (n : List ℕ) : Type 0 where
   new : has seen n ≡ false
@@ -92,8 +98,8 @@ record IsNew (seen : List (List ℕ)) (n : List ℕ) : Type 0 where
   bare : before_comment n ≡ n
   one_line : no_byte 10 n ≡ true
 
-is_said : (seen : List (List ℕ)) (n : List ℕ) (ls : List (List ℕ)) (c : Content) → IsNew seen n → Lines ls → ((end at : ℕ) → IsContentText (kind_in fan_table n) (texts (content_tokens end (contents at ls))) c)
-    → IsSaid fan_table seen (section n ls) c
+is_said : (seen : List (List ℕ)) (n : List ℕ) (ls : List (List ℕ)) (c : Content) → IsNew seen n → Lines ls → ((end at : ℕ) → IsContentText (kind_in second_table n) (texts (content_tokens end (contents at ls))) c)
+    → IsSaid second_table seen (section n ls) c
 is_said seen n ls c is lines holds = record { new = is.new; name = is.name; word = is.word; bare = is.bare; one_line = is.one_line; lines = lines.0; plain = lines.1; holds = holds }
 
 decimal_lines : (n : ℕ) → IsNumber n → Lines (decimal n ∷ [])
@@ -118,17 +124,17 @@ lines_of_cones : (ls cs : List (List ℕ)) → AreConeLines ls cs → Lines ls
 lines_of_cones ls cs h = (cones_content ls cs h, cones_plain ls cs h)
 
 -- a section that isn't looked at
-is_passed : (seen : List (List ℕ)) (n : List ℕ) (ls : List (List ℕ)) → IsNew seen n → kind_in fan_table n ≡ any → Lines ls → IsSaid fan_table seen (section n ls) passed
+is_passed : (seen : List (List ℕ)) (n : List ℕ) (ls : List (List ℕ)) → IsNew seen n → kind_in second_table n ≡ any → Lines ls → IsSaid second_table seen (section n ls) passed
 is_passed seen n ls is kind lines = is_said seen n ls passed is lines (λ end at. kind)
 
 -- rows, lists, a number
-are_rows : (seen : List (List ℕ)) (n : List ℕ) (ls : List (List ℕ)) (rs : List (List ℤ)) → IsNew seen n → kind_in fan_table n ≡ rows → AreRowLines ls rs → IsSaid fan_table seen (section n ls) (the_rows rs)
+are_rows : (seen : List (List ℕ)) (n : List ℕ) (ls : List (List ℕ)) (rs : List (List ℤ)) → IsNew seen n → kind_in second_table n ≡ rows → AreRowLines ls rs → IsSaid second_table seen (section n ls) (the_rows rs)
 are_rows seen n ls rs is kind lines = is_said seen n ls (the_rows rs) is (lines_of_rows ls rs lines) (λ end at. (kind, rows_hold ls rs lines end at))
 
-are_cones : (seen : List (List ℕ)) (n : List ℕ) (ls cs : List (List ℕ)) → IsNew seen n → kind_in fan_table n ≡ cones → AreConeLines ls cs → IsSaid fan_table seen (section n ls) (the_cones cs)
+are_cones : (seen : List (List ℕ)) (n : List ℕ) (ls cs : List (List ℕ)) → IsNew seen n → kind_in second_table n ≡ cones → AreConeLines ls cs → IsSaid second_table seen (section n ls) (the_cones cs)
 are_cones seen n ls cs is kind lines = is_said seen n ls (the_cones cs) is (lines_of_cones ls cs lines) (λ end at. (kind, cones_hold ls cs lines end at))
 
-is_number_to : (seen : List (List ℕ)) (n : List ℕ) (limit k : ℕ) → IsNew seen n → kind_in fan_table n ≡ number_to limit → IsNumber k → k ≤ limit → IsSaid fan_table seen (section n (decimal k ∷ [])) (the_number k)
+is_number_to : (seen : List (List ℕ)) (n : List ℕ) (limit k : ℕ) → IsNew seen n → kind_in second_table n ≡ number_to limit → IsNumber k → k ≤ limit → IsSaid second_table seen (section n (decimal k ∷ [])) (the_number k)
 is_number_to seen n limit k is kind small below = is_said seen n (decimal k ∷ []) (the_number k) is (decimal_lines k small) (λ end at. (limit, kind, number_holds k small end at, le_test k limit below))
 
 -- ---- the sections of a fan
@@ -138,12 +144,31 @@ new_name seen n new name word bare one_line = record { new = new; name = name; w
 
 -- the names of its sections, of which the first so many stand before another
 abbrev names : ℕ → List (List ℕ)
-names k = take k (ambient_dim ∷ codes "DIM" ∷ codes "LINEALITY_DIM" ∷ rays_name ∷ codes "N_RAYS" ∷ lineality_space ∷ codes "ORTH_LINEALITY_SPACE" ∷ codes "F_VECTOR" ∷ codes "SIMPLICIAL" ∷ codes "PURE" ∷ codes "CONES" ∷ maximal_cones ∷ [])
+names k = take k (file_version ∷ ambient_dim ∷ codes "DIM" ∷ codes "LINEALITY_DIM" ∷ rays_name ∷ codes "N_RAYS" ∷ lineality_space ∷ codes "ORTH_LINEALITY_SPACE" ∷ codes "F_VECTOR" ∷ codes "SIMPLICIAL" ∷ codes "PURE" ∷ codes "CONES" ∷ maximal_cones ∷ maximal_interiors ∷ [])
+
+-- ---- the version that is told
+
+number_held : (xs : List Lexeme) (n : ℕ) → IsOneNumberText (texts xs) n → version_number xs ≡ n
+number_held [] n (t, is, number) = cc
+number_held (x ∷ xs) n (t, is, (digits, same, small)) =
+    let first : x.text ≡ t = cc in
+    let size : decimal_value x.text ≡ n = ap decimal_value first ∙ same in
+    let number : is_number x.text ≡ true = ap is_number first ∙ digits in
+    let within : nat_le (decimal_value x.text) most_number ≡ true = le_test (decimal_value x.text) most_number (omega arith) in
+    rw (number, within) size
+
+-- sections of which the first is the version 2
+second_held : (end : ℕ) (ss : List Section) (rest : Named) → AreHeld second_table end [] ss ((file_version, the_number 2) ∷ rest) → version_in end ss ≡ Some 2
+second_held end [] rest h = cc
+second_held end (s ∷ ss) rest (new, name, content, later) =
+    let named : bytes_eq file_version s.name ≡ true = ap (bytes_eq file_version) (sym name) in
+    rw named (ap (λ n. Some n) (number_held (content_tokens (end_before end ss) s.content) 2 content.2))
 
 module _ (f : FanWords) (h : IsWritable f) where
   -- what they say
   abbrev said_of : Named
-  said_of = (ambient_dim, the_number f.ambient)
+  said_of = (file_version, the_number 2)
+      ∷ (ambient_dim, the_number f.ambient)
       ∷ (codes "DIM", passed)
       ∷ (codes "LINEALITY_DIM", passed)
       ∷ (rays_name, the_rows f.rays)
@@ -155,53 +180,63 @@ module _ (f : FanWords) (h : IsWritable f) where
       ∷ (codes "PURE", passed)
       ∷ (codes "CONES", passed)
       ∷ (maximal_cones, the_cones (map (λ (c : ListedCone). c.rays) f.maximal))
+      ∷ (maximal_interiors, the_rows f.interiors)
       ∷ []
 
-  all_said : AreSaid fan_table [] (front_sections f ++ back_sections f) said_of
+  all_said : AreSaid second_table [] (front_sections f ++ back_sections f) said_of
   all_said =
       let low = length f.lineality in
       let rays = good_rows f.ambient f.rays h.positive h.rays in
       let lineality = row_lines f.lineality (good_rows f.ambient f.lineality h.positive h.lineality) in
       let orthogonal = row_lines f.orthogonal (good_rows f.ambient f.orthogonal h.positive h.orthogonal) in
+      let interiors = row_lines f.interiors (good_rows f.ambient f.interiors h.positive h.interiors) in
       let every = good_cones f.cones h.cones in
       let count : length f.rays ≤ most_number = h.rays_count in
       let small : f.ambient ≤ MOST_VARIABLES = h.ambient in (
         refl,
-        is_number_to [] ambient_dim MOST_VARIABLES f.ambient (new_name [] ambient_dim refl refl refl refl refl) refl (omega (arith, small)) small,
+        is_number_to [] file_version most_number 2 (new_name [] file_version refl refl refl refl refl) refl (omega arith) (omega arith),
         (
           refl,
-          is_passed (names 1) (codes "DIM") (dim_line f.cones ∷ []) (new_name (names 1) (codes "DIM") refl refl refl refl refl) refl (dim_lines f.cones every),
+          is_number_to (names 1) ambient_dim MOST_VARIABLES f.ambient (new_name (names 1) ambient_dim refl refl refl refl refl) refl (omega (arith, small)) small,
           (
             refl,
-            is_passed (names 2) (codes "LINEALITY_DIM") (decimal low ∷ []) (new_name (names 2) (codes "LINEALITY_DIM") refl refl refl refl refl) refl (decimal_lines low h.lineality_count),
+            is_passed (names 2) (codes "DIM") (dim_line f.cones ∷ []) (new_name (names 2) (codes "DIM") refl refl refl refl refl) refl (dim_lines f.cones every),
             (
               refl,
-              are_rows (names 3) rays_name (ray_lines 0 f.rays) f.rays (new_name (names 3) rays_name refl refl refl refl refl) refl (rays_lines 0 f.rays (omega (arith, count)) rays),
+              is_passed (names 3) (codes "LINEALITY_DIM") (decimal low ∷ []) (new_name (names 3) (codes "LINEALITY_DIM") refl refl refl refl refl) refl (decimal_lines low h.lineality_count),
               (
                 refl,
-                is_passed (names 4) (codes "N_RAYS") (decimal (length f.rays) ∷ []) (new_name (names 4) (codes "N_RAYS") refl refl refl refl refl) refl (decimal_lines (length f.rays) count),
+                are_rows (names 4) rays_name (ray_lines 0 f.rays) f.rays (new_name (names 4) rays_name refl refl refl refl refl) refl (rays_lines 0 f.rays (omega (arith, count)) rays),
                 (
                   refl,
-                  are_rows (names 5) lineality_space (map (λ r. spaced_entries r) f.lineality) f.lineality (new_name (names 5) lineality_space refl refl refl refl refl) refl lineality,
+                  is_passed (names 5) (codes "N_RAYS") (decimal (length f.rays) ∷ []) (new_name (names 5) (codes "N_RAYS") refl refl refl refl refl) refl (decimal_lines (length f.rays) count),
                   (
                     refl,
-                    is_passed (names 6) (codes "ORTH_LINEALITY_SPACE") (map (λ r. spaced_entries r) f.orthogonal) (new_name (names 6) (codes "ORTH_LINEALITY_SPACE") refl refl refl refl refl) refl (lines_of_rows (map (λ r. spaced_entries r) f.orthogonal) f.orthogonal orthogonal),
+                    are_rows (names 6) lineality_space (map (λ r. spaced_entries r) f.lineality) f.lineality (new_name (names 6) lineality_space refl refl refl refl refl) refl lineality,
                     (
                       refl,
-                      is_passed (names 7) (codes "F_VECTOR") (number_lines (f_vector low f.cones)) (new_name (names 7) (codes "F_VECTOR") refl refl refl refl refl) refl (numbers_lines (f_vector low f.cones) (vector_within low f.cones h.cones_count)),
+                      is_passed (names 7) (codes "ORTH_LINEALITY_SPACE") (map (λ r. spaced_entries r) f.orthogonal) (new_name (names 7) (codes "ORTH_LINEALITY_SPACE") refl refl refl refl refl) refl (lines_of_rows (map (λ r. spaced_entries r) f.orthogonal) f.orthogonal orthogonal),
                       (
                         refl,
-                        is_passed (names 8) (codes "SIMPLICIAL") (truth_line (is_simplicial low f.maximal) ∷ []) (new_name (names 8) (codes "SIMPLICIAL") refl refl refl refl refl) refl (truth_lines (is_simplicial low f.maximal)),
+                        is_passed (names 8) (codes "F_VECTOR") (number_lines (f_vector low f.cones)) (new_name (names 8) (codes "F_VECTOR") refl refl refl refl refl) refl (numbers_lines (f_vector low f.cones) (vector_within low f.cones h.cones_count)),
                         (
                           refl,
-                          is_passed (names 9) (codes "PURE") (truth_line (is_pure f.maximal) ∷ []) (new_name (names 9) (codes "PURE") refl refl refl refl refl) refl (truth_lines (is_pure f.maximal)),
+                          is_passed (names 9) (codes "SIMPLICIAL") (truth_line (is_simplicial low f.maximal) ∷ []) (new_name (names 9) (codes "SIMPLICIAL") refl refl refl refl refl) refl (truth_lines (is_simplicial low f.maximal)),
                           (
                             refl,
-                            is_passed (names 10) (codes "CONES") (cone_lines None f.cones) (new_name (names 10) (codes "CONES") refl refl refl refl refl) refl (lines_of_cones (cone_lines None f.cones) (map (λ (c : ListedCone). c.rays) f.cones) (lines_of None f.cones every)),
+                            is_passed (names 10) (codes "PURE") (truth_line (is_pure f.maximal) ∷ []) (new_name (names 10) (codes "PURE") refl refl refl refl refl) refl (truth_lines (is_pure f.maximal)),
                             (
                               refl,
-                              are_cones (names 11) maximal_cones (cone_lines None f.maximal) (map (λ (c : ListedCone). c.rays) f.maximal) (new_name (names 11) maximal_cones refl refl refl refl refl) refl (lines_of None f.maximal (good_cones f.maximal h.maximal)),
-                              refl,
+                              is_passed (names 11) (codes "CONES") (cone_lines None f.cones) (new_name (names 11) (codes "CONES") refl refl refl refl refl) refl (lines_of_cones (cone_lines None f.cones) (map (λ (c : ListedCone). c.rays) f.cones) (lines_of None f.cones every)),
+                              (
+                                refl,
+                                are_cones (names 12) maximal_cones (cone_lines None f.maximal) (map (λ (c : ListedCone). c.rays) f.maximal) (new_name (names 12) maximal_cones refl refl refl refl refl) refl (lines_of None f.maximal (good_cones f.maximal h.maximal)),
+                                (
+                                  refl,
+                                  are_rows (names 13) maximal_interiors (map (λ r. spaced_entries r) f.interiors) f.interiors (new_name (names 13) maximal_interiors refl refl refl refl refl) refl interiors,
+                                  refl,
+                                ),
+                              ),
                             ),
                           ),
                         ),
@@ -215,14 +250,22 @@ module _ (f : FanWords) (h : IsWritable f) where
         ),
       )
 
+  held : AreHeld second_table (length (fan_text f)) [] (sections (fan_text f)) said_of
+  held = written_again second_table (front_sections f ++ back_sections f) said_of all_said
+
+  told : told_version (fan_text f) ≡ Some 2
+  told = second_held (length (fan_text f)) (sections (fan_text f)) _ held
+
   fan_again : IsFileOf (fan_text f) (file_of f)
   fan_again = record {
     all = said_of;
-    held = written_again fan_table (front_sections f ++ back_sections f) said_of all_said;
+    held = subst (λ (v : Option ℕ). AreHeld (fan_table v) (length (fan_text f)) [] (sections (fan_text f)) said_of) (sym told) held;
+    known = subst IsKnownVersion (sym told) (inr refl);
     ambient = refl;
     rays = refl;
     lineality = refl;
     cones = refl;
+    interiors = subst (λ (v : Option ℕ). AreInteriorsOf (is_second v) (found maximal_interiors said_of) (Some f.interiors)) (sym told) (f.interiors, (refl, refl));
   }
 
 pub fans_again : FansAreReadAgain

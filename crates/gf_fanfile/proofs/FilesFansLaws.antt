@@ -1,7 +1,7 @@
 -- The cones of a file, and why they have no fan.
--- To cite: numbered_rows, rays_along, cone_generated, dual_step, cone_step, step_of_cones, zip_further, cones_of_ambient, cones_refused, fan_refused, fan_said, fan_narrow,
+-- To cite: numbered_rows, rays_along, cone_generated, dual_step, cone_step, step_of_cones, zip_further, cones_of_ambient, cones_refused, fan_refused, certificate_fault, only_memory, fan_said, fan_narrow,
 -- fan_refusal, fan_complete. The rest are steps.
-use Rattle.std.specs.Prelude.{◌≡◌, ◌⊎◌, ℕ, ◌+◌, ◌<◌, ◌≤◌, List, [], ◌∷◌, ◌++◌, length, take, get_or, ℤ, Contains, Result, Ok, Err, IfOk, IfErr, MatchResult}
+use Rattle.std.specs.Prelude.{◌≡◌, ◌⊎◌, ℕ, ◌+◌, ◌<◌, ◌≤◌, List, [], ◌∷◌, ◌++◌, length, take, get_or, ℤ, Option, Some, Contains, Result, Ok, Err, IfOk, IfErr, MatchResult}
 use Rattle.std.specs.List.{AllZip}
 use Rattle.std.proofs.Common.{refl, sym, ap, ◌∙◌, subst, inl, inr}
 use Rattle.std.proofs.lemmas.List.{take_more}
@@ -28,7 +28,8 @@ use Rattle.gf_fanfile.specs.declared.error.FanFileError.TheVariants as errors
 use Rattle.gf_fanfile.specs.declared.file.FanFile.{FanFile}
 use Rattle.gf_fanfile.specs.Duals.{DualsOfDuals}
 use Rattle.gf_fanfile.specs.Files.{IsFileOf, AreBelow, IsSoundFile, no_memory}
-use Rattle.gf_fanfile.specs.FilesFans.{IsGeneratedCone, IsConeOfFile, AreConesOfFile, IsFanOfFile, IsFanOfText, IsGeneratingStep, of_dual, of_cone, IsConesStep, IsFileWithinLimits, AreFileConesMeeting, refusal_of_gordan, refusal_of_fan, IsFanFault, in_cone, in_fan, IsFanFileRefusal, before_cones, behind_form}
+use Rattle.gf_fanfile.specs.Certificates.{AreInside, AreCertified, IsCertificateFault, other_count, at_row, too_wide}
+use Rattle.gf_fanfile.specs.FilesFans.{IsGeneratedCone, IsConeOfFile, AreConesOfFile, IsFanOfFile, IsFanOfText, IsGeneratingStep, of_dual, of_cone, IsConesStep, IsFileWithinLimits, IsCertifiedFile, AreFileConesMeeting, refusal_of_gordan, refusal_of_fan, IsFanFault, in_cone, in_certificate, in_fan, IsFanFileRefusal, before_cones, behind_form}
 use Rattle.gf_fanfile.proofs.FilesLaws.{file_once, file_within}
 
 -- ---- the rays of a cone
@@ -86,8 +87,13 @@ pub cones_refused : (f : FanFile) (d : GordanError) (e : FanFileError) → Faile
 cones_refused f (gordan_errors.Cone s) e h q = inl (in_cone s h q)
 cones_refused f gordan_errors.Memory e h q = inr q
 
-pub fan_refused : (f : FanFile) (cones : List RowsAndRays) (d : FanError) (e : FanFileError) → AreConesOfFile f cones → IsFanRefusal f.ambient cones d → e ≡ refusal_of_fan d → IsFanFault f e ⊎ (e ≡ errors.Memory)
-fan_refused f cones d e a h q = inl (in_fan cones d a h q)
+pub fan_refused : (f : FanFile) (cones : List RowsAndRays) (d : FanError) (e : FanFileError) → AreConesOfFile f cones → AreCertified f.ambient cones f.interiors → IsFanRefusal f.ambient cones d → e ≡ refusal_of_fan d → IsFanFault f e ⊎ (e ≡ errors.Memory)
+fan_refused f cones d e a k h q = inl (in_fan cones d a k h q)
+
+-- what its rows are refused for
+pub certificate_fault : {X : Type 0} (f : FanFile) (cones : List RowsAndRays) (rows given : List (List ℤ)) (r : Result X FanFileError) → AreConesOfFile f cones → f.interiors ≡ Some rows → given ≡ rows → MatchResult r (λ _. AreInside f.ambient cones given) (IsCertificateFault f.ambient cones given) → IfErr r (IsFanFault f)
+certificate_fault f cones rows given (Ok x) a is q h = tt
+certificate_fault f cones rows given (Err e) a is q h = in_certificate cones rows a is (subst (λ (rs : List (List ℤ)). IsCertificateFault f.ambient cones rs e) q h)
 
 narrow : (source : List ℕ) (f : FanFile) (h : FanLists) → IsFileOf source f → IsFanOfFile f h → h.ambient ≤ MOST_VARIABLES
 narrow source f h is k = subst (λ n. n ≤ MOST_VARIABLES) (sym k.is_fan.ambient) (file_within source f is)
@@ -103,10 +109,22 @@ fan_within n cones (fan_errors.Cone s) w m h = absurd (w s h)
 fan_within n cones (fan_errors.NotAFan i j) w m h = absurd (h.after.clash (λ d. m i j d h.after.ordered h.after.inside))
 fan_within n cones fan_errors.Memory w m h = refl
 
-only_memory : (f : FanFile) (e : FanFileError) → IsFileWithinLimits f → AreFileConesMeeting f → IsFanFault f e ⊎ (e ≡ errors.Memory) → e ≡ errors.Memory
-only_memory f e w m (inl (in_cone s h q)) = absurd (w.cones s h)
-only_memory f e w m (inl (in_fan cones d a h q)) = q ∙ fan_within f.ambient cones d (w.fan cones a) (m cones a) h
-only_memory f e w m (inr q) = q
+certificate_within : (f : FanFile) (cones : List RowsAndRays) (rows : List (List ℤ)) (e : FanFileError) → IsFileWithinLimits f → IsCertifiedFile f → AreConesOfFile f cones → f.interiors ≡ Some rows → IsCertificateFault f.ambient cones rows e → ⊥
+certificate_within f cones rows e w k a is h = by h
+  where
+    inside : AreInside f.ambient cones rows
+    inside = subst (λ (i : Option (List (List ℤ))). AreCertified f.ambient cones i) is (k cones a)
+
+    by : IsCertificateFault f.ambient cones rows e → ⊥
+    by (other_count other q) = other inside.count
+    by (at_row place g q) = g.here (inside.each place g.within)
+    by (too_wide x g q) = w.certificates x (record { cones = cones; rows = rows; of_file = a; has = is; step = g })
+
+pub only_memory : (f : FanFile) (e : FanFileError) → IsFileWithinLimits f → IsCertifiedFile f → AreFileConesMeeting f → IsFanFault f e ⊎ (e ≡ errors.Memory) → e ≡ errors.Memory
+only_memory f e w k m (inl (in_cone s h q)) = absurd (w.cones s h)
+only_memory f e w k m (inl (in_certificate cones rows a is h)) = absurd (certificate_within f cones rows e w k a is h)
+only_memory f e w k m (inl (in_fan cones d a c h q)) = q ∙ fan_within f.ambient cones d (w.fan cones a) (m cones a) h
+only_memory f e w k m (inr q) = q
 
 -- ---- what is answered
 
@@ -122,6 +140,6 @@ pub fan_refusal : (source : List ℕ) (f : FanFile) (r : Result FanLists FanFile
 fan_refusal source f (Ok h) is s k = tt
 fan_refusal source f (Err e) is s k = fault_refused source f e is s k
 
-pub fan_complete : (source : List ℕ) (f g : FanFile) (r : Result FanLists FanFileError) → IsFileOf source f → IsFileOf source g → IsFileWithinLimits f → AreFileConesMeeting f → IfOk r (IsFanOfFile g) → IfErr r (λ e. IsFanFault g e ⊎ (e ≡ errors.Memory)) → MatchResult r (IsFanOfFile f) (λ e. e ≡ errors.Memory)
-fan_complete source f g (Ok h) is so w m k n = subst (λ q. IsFanOfFile q h) (file_once source f g is so) k
-fan_complete source f g (Err e) is so w m k n = only_memory f e w m (subst (λ q. IsFanFault q e ⊎ (e ≡ errors.Memory)) (file_once source f g is so) n)
+pub fan_complete : (source : List ℕ) (f g : FanFile) (r : Result FanLists FanFileError) → IsFileOf source f → IsFileOf source g → IsFileWithinLimits f → IsCertifiedFile f → AreFileConesMeeting f → IfOk r (IsFanOfFile g) → IfErr r (λ e. IsFanFault g e ⊎ (e ≡ errors.Memory)) → MatchResult r (IsFanOfFile f) (λ e. e ≡ errors.Memory)
+fan_complete source f g (Ok h) is so w c m k n = subst (λ q. IsFanOfFile q h) (file_once source f g is so) k
+fan_complete source f g (Err e) is so w c m k n = only_memory f e w c m (subst (λ q. IsFanFault q e ⊎ (e ≡ errors.Memory)) (file_once source f g is so) n)

@@ -21,5 +21,7 @@ pub mod FanPartsLaws  -- what is written of a fan is read off it
 pub mod GeneratedLaws  -- Farkas' lemma; the dual cone of the dual cone
 pub mod FilesFansLaws  -- the cones of a file, and why they have no fan
 pub mod WrittenFansLaws  -- what is written of a fan is a file whose cones can be built
+pub mod CertificateLaws  -- which vectors lie inside a cone of a file
 pub mod FanOnceLaws  -- a fan file is refused in one way, but for limits
 pub mod ReadAgainLaws  -- what is written of a fan is read as that fan
+pub mod MigrationLaws  -- what a fan file is migrated to

@@ -1,6 +1,6 @@
 -- A text is refused in one way, but for limits.
 -- To cite: refused_once, refused_unsound. The rest are steps.
-use Rattle.std.proofs.Common.{◌≡◌, ◌⊎◌, ℕ, ◌<◌, ◌≤◌, List, [], ◌∷◌, ◌++◌, length, get_or, refl, sym, ap, ◌∙◌, subst, inl, inr, arith, All, ℤ}
+use Rattle.std.proofs.Common.{◌≡◌, ◌⊎◌, ℕ, ◌<◌, ◌≤◌, Some, List, [], ◌∷◌, ◌++◌, length, get_or, refl, sym, ap, ◌∙◌, subst, inl, inr, arith, All, ℤ}
 use Rattle.std.proofs.lemmas.Bool.{cases_lt}
 use Rattle.gf_text.specs.Machine.{Lexeme}
 use Rattle.gf_text.specs.Kinds.{IsNumberKind}
@@ -15,10 +15,10 @@ use Rattle.gf_fanfile.specs.Lines.{Section as TextSection, sections, content_tok
 use Rattle.gf_fanfile.specs.RowText.{AreRowTexts}
 use Rattle.gf_fanfile.specs.ConeText.{AreConeTexts}
 use Rattle.gf_fanfile.specs.NumberText.{IsOneNumberText}
-use Rattle.gf_fanfile.specs.FanText.{ContentKind, number_to, rows, cones, any, kind_in, Table, fan_table, IsFaultOf, IsContentFault, IsFirstFault, wanted, first_missing}
-use Rattle.gf_fanfile.specs.Files.{IsFileOf, section_name, IsOutside, AreBelow, IsSoundFile, IsBehind, IsLengthFault, IsRayFault, IsNumberFault, IsFormFault, zero_dimension, at_rays, at_lineality, at_ray, at_number, IsFileRefused, in_text, not_there, in_form, no_memory, IsOfLimits}
+use Rattle.gf_fanfile.specs.FanText.{ContentKind, number_to, rows, cones, any, kind_in, Table, Named, told_version, IsKnownVersion, table_of, IsFaultOf, IsContentFault, IsFirstFault, wanted, first_missing}
+use Rattle.gf_fanfile.specs.Files.{AreSectionsOf, IsFileOf, section_name, interior_rows, IsOutside, AreBelow, IsSoundFile, IsBehind, IsLengthFault, IsRayFault, IsNumberFault, IsFormFault, zero_dimension, at_rays, at_lineality, at_interiors, at_ray, at_number, IsFileRefused, in_text, bad_version, not_there, in_form, no_memory, IsOfLimits}
 use Rattle.gf_fanfile.proofs.FanTextLaws.{content_sound, text_sound}
-use Rattle.gf_fanfile.proofs.FilesLaws.{sections_once, file_once, behind_holds, length_sound, none_missing, sound_refused}
+use Rattle.gf_fanfile.proofs.FilesLaws.{sections_once, file_once, behind_holds, length_sound, none_missing, version_known, sound_refused}
 
 -- ---- the first fault of the text
 
@@ -101,29 +101,40 @@ number_once count cs e d h g =
 form_once : (f : FanFile) (e d : FanFileError) → (IsOfLimits e → ⊥) → IsFormFault f e → IsFormFault f d → (d ≡ e) ⊎ IsOfLimits d
 form_once f e d told (zero_dimension z is) (zero_dimension y so) = inl (so ∙ sym is)
 form_once f e d told (zero_dimension z is) (at_rays q g) = absurd (omega (arith, z, q))
-form_once f e d told (zero_dimension z is) (at_lineality q r g) = absurd (omega (arith, z, q))
-form_once f e d told (zero_dimension z is) (at_ray q r l g) = absurd (omega (arith, z, q))
-form_once f e d told (zero_dimension z is) (at_number q r l o g) = absurd (omega (arith, z, q))
+form_once f e d told (zero_dimension z is) (at_lineality q s g) = absurd (omega (arith, z, q))
+form_once f e d told (zero_dimension z is) (at_interiors q s m g) = absurd (omega (arith, z, q))
+form_once f e d told (zero_dimension z is) (at_ray q s m j g) = absurd (omega (arith, z, q))
+form_once f e d told (zero_dimension z is) (at_number q s m j u g) = absurd (omega (arith, z, q))
 form_once f e d told (at_rays p h) (zero_dimension y so) = absurd (omega (arith, p, y))
 form_once f e d told (at_rays p h) (at_rays q g) = inl (length_once f.ambient f.rays e d h g)
-form_once f e d told (at_rays p h) (at_lineality q r g) = absurd (length_sound f.ambient f.rays e r h)
-form_once f e d told (at_rays p h) (at_ray q r l g) = absurd (length_sound f.ambient f.rays e r h)
-form_once f e d told (at_rays p h) (at_number q r l o g) = absurd (length_sound f.ambient f.rays e r h)
-form_once f e d told (at_lineality p s h) (zero_dimension y so) = absurd (omega (arith, p, y))
-form_once f e d told (at_lineality p s h) (at_rays q g) = absurd (length_sound f.ambient f.rays d s g)
-form_once f e d told (at_lineality p s h) (at_lineality q r g) = inl (length_once f.ambient f.lineality e d h g)
-form_once f e d told (at_lineality p s h) (at_ray q r l g) = absurd (length_sound f.ambient f.lineality e l h)
-form_once f e d told (at_lineality p s h) (at_number q r l o g) = absurd (length_sound f.ambient f.lineality e l h)
-form_once f e d told (at_ray p s m h) (zero_dimension y so) = absurd (omega (arith, p, y))
-form_once f e d told (at_ray p s m h) (at_rays q g) = absurd (length_sound f.ambient f.rays d s g)
-form_once f e d told (at_ray p s m h) (at_lineality q r g) = absurd (length_sound f.ambient f.lineality d m g)
-form_once f e d told (at_ray p s m h) (at_ray q r l g) = ray_once f.ambient f.lineality f.rays e d told h g
-form_once f e d told (at_ray p s m h) (at_number q r l o g) = absurd (told (ray_refutes f.ambient f.lineality f.rays e o h))
-form_once f e d told (at_number p s m u h) (zero_dimension y so) = absurd (omega (arith, p, y))
-form_once f e d told (at_number p s m u h) (at_rays q g) = absurd (length_sound f.ambient f.rays d s g)
-form_once f e d told (at_number p s m u h) (at_lineality q r g) = absurd (length_sound f.ambient f.lineality d m g)
-form_once f e d told (at_number p s m u h) (at_ray q r l g) = inr (ray_refutes f.ambient f.lineality f.rays d u g)
-form_once f e d told (at_number p s m u h) (at_number q r l o g) = inl (number_once (length f.rays) f.cones e d h g)
+form_once f e d told (at_rays p h) (at_lineality q s g) = absurd (length_sound f.ambient f.rays e s h)
+form_once f e d told (at_rays p h) (at_interiors q s m g) = absurd (length_sound f.ambient f.rays e s h)
+form_once f e d told (at_rays p h) (at_ray q s m j g) = absurd (length_sound f.ambient f.rays e s h)
+form_once f e d told (at_rays p h) (at_number q s m j u g) = absurd (length_sound f.ambient f.rays e s h)
+form_once f e d told (at_lineality p r h) (zero_dimension y so) = absurd (omega (arith, p, y))
+form_once f e d told (at_lineality p r h) (at_rays q g) = absurd (length_sound f.ambient f.rays d r g)
+form_once f e d told (at_lineality p r h) (at_lineality q s g) = inl (length_once f.ambient f.lineality e d h g)
+form_once f e d told (at_lineality p r h) (at_interiors q s m g) = absurd (length_sound f.ambient f.lineality e m h)
+form_once f e d told (at_lineality p r h) (at_ray q s m j g) = absurd (length_sound f.ambient f.lineality e m h)
+form_once f e d told (at_lineality p r h) (at_number q s m j u g) = absurd (length_sound f.ambient f.lineality e m h)
+form_once f e d told (at_interiors p r l h) (zero_dimension y so) = absurd (omega (arith, p, y))
+form_once f e d told (at_interiors p r l h) (at_rays q g) = absurd (length_sound f.ambient f.rays d r g)
+form_once f e d told (at_interiors p r l h) (at_lineality q s g) = absurd (length_sound f.ambient f.lineality d l g)
+form_once f e d told (at_interiors p r l h) (at_interiors q s m g) = inl (length_once f.ambient (interior_rows f.interiors) e d h g)
+form_once f e d told (at_interiors p r l h) (at_ray q s m j g) = absurd (length_sound f.ambient (interior_rows f.interiors) e j h)
+form_once f e d told (at_interiors p r l h) (at_number q s m j u g) = absurd (length_sound f.ambient (interior_rows f.interiors) e j h)
+form_once f e d told (at_ray p r l i h) (zero_dimension y so) = absurd (omega (arith, p, y))
+form_once f e d told (at_ray p r l i h) (at_rays q g) = absurd (length_sound f.ambient f.rays d r g)
+form_once f e d told (at_ray p r l i h) (at_lineality q s g) = absurd (length_sound f.ambient f.lineality d l g)
+form_once f e d told (at_ray p r l i h) (at_interiors q s m g) = absurd (length_sound f.ambient (interior_rows f.interiors) d i g)
+form_once f e d told (at_ray p r l i h) (at_ray q s m j g) = ray_once f.ambient f.lineality f.rays e d told h g
+form_once f e d told (at_ray p r l i h) (at_number q s m j u g) = absurd (told (ray_refutes f.ambient f.lineality f.rays e u h))
+form_once f e d told (at_number p r l i o h) (zero_dimension y so) = absurd (omega (arith, p, y))
+form_once f e d told (at_number p r l i o h) (at_rays q g) = absurd (length_sound f.ambient f.rays d r g)
+form_once f e d told (at_number p r l i o h) (at_lineality q s g) = absurd (length_sound f.ambient f.lineality d l g)
+form_once f e d told (at_number p r l i o h) (at_interiors q s m g) = absurd (length_sound f.ambient (interior_rows f.interiors) d i g)
+form_once f e d told (at_number p r l i o h) (at_ray q s m j g) = inr (ray_refutes f.ambient f.lineality f.rays d o g)
+form_once f e d told (at_number p r l i o h) (at_number q s m j u g) = inl (number_once (length f.rays) f.cones e d h g)
 
 -- ---- texts
 
@@ -133,37 +144,63 @@ named_once names.AmbientDim names.AmbientDim e = refl
 named_once names.AmbientDim names.Rays e = cc
 named_once names.AmbientDim names.LinealitySpace e = cc
 named_once names.AmbientDim names.MaximalCones e = cc
+named_once names.AmbientDim names.MaximalInteriors e = cc
 named_once names.Rays names.AmbientDim e = cc
 named_once names.Rays names.Rays e = refl
 named_once names.Rays names.LinealitySpace e = cc
 named_once names.Rays names.MaximalCones e = cc
+named_once names.Rays names.MaximalInteriors e = cc
 named_once names.LinealitySpace names.AmbientDim e = cc
 named_once names.LinealitySpace names.Rays e = cc
 named_once names.LinealitySpace names.LinealitySpace e = refl
 named_once names.LinealitySpace names.MaximalCones e = cc
+named_once names.LinealitySpace names.MaximalInteriors e = cc
 named_once names.MaximalCones names.AmbientDim e = cc
 named_once names.MaximalCones names.Rays e = cc
 named_once names.MaximalCones names.LinealitySpace e = cc
 named_once names.MaximalCones names.MaximalCones e = refl
+named_once names.MaximalCones names.MaximalInteriors e = cc
+named_once names.MaximalInteriors names.AmbientDim e = cc
+named_once names.MaximalInteriors names.Rays e = cc
+named_once names.MaximalInteriors names.LinealitySpace e = cc
+named_once names.MaximalInteriors names.MaximalCones e = cc
+named_once names.MaximalInteriors names.MaximalInteriors e = refl
+
+-- a version that isn't known has one number
+version_once : (source : List ℕ) (number other : ℕ) → told_version source ≡ Some number → told_version source ≡ Some other → other ≡ number
+version_once source number other h g = cc
+
+version_unknown : (source : List ℕ) (number : ℕ) → told_version source ≡ Some number → (number ≡ 1 → ⊥) → (number ≡ 2 → ⊥) → IsKnownVersion (told_version source) → ⊥
+version_unknown source number is no_first no_second k = elim (subst IsKnownVersion is k) [ inl e ↦ no_first e | inr e ↦ no_second e ]
+
+missing_same : (source : List ℕ) (all other : Named) → AreSectionsOf source all → AreSectionsOf source other → first_missing (wanted (told_version source)) all ≡ first_missing (wanted (told_version source)) other
+missing_same source all other h g = ap (first_missing (wanted (told_version source))) (sections_once source all other h g)
 
 pub refused_once : (source : List ℕ) (e d : FanFileError) → (IsOfLimits e → ⊥) → IsFileRefused source e → IsFileRefused source d → (d ≡ e) ⊎ IsOfLimits d
 refused_once source e d told (no_memory is) g = absurd (told (subst IsOfLimits (sym is) tt))
 refused_once source e d told h (no_memory is) = inr (subst IsOfLimits (sym is) tt)
-refused_once source e d told (in_text h) (in_text g) = inl (first_once fan_table (length source) [] (sections source) e d h g)
-refused_once source e d told (in_text h) (not_there all section held missing is) = absurd (text_sound fan_table source all e held h)
-refused_once source e d told (in_text h) (in_form f is g) = absurd (text_sound fan_table source is.all e is.held h)
-refused_once source e d told (not_there all section held missing is) (in_text g) = absurd (text_sound fan_table source all d held g)
-refused_once source e d told (not_there all section held missing is) (not_there other name there none so) =
-    let same : first_missing wanted other ≡ first_missing wanted all = ap (first_missing wanted) (sections_once source other all there held) in
+refused_once source e d told (in_text h) (in_text g) = inl (first_once (table_of source) (length source) [] (sections source) e d h g)
+refused_once source e d told (in_text h) (bad_version all number held v a b is) = absurd (text_sound (table_of source) source all e held h)
+refused_once source e d told (in_text h) (not_there all section held known missing is) = absurd (text_sound (table_of source) source all e held h)
+refused_once source e d told (in_text h) (in_form f is g) = absurd (text_sound (table_of source) source is.all e is.held h)
+refused_once source e d told (bad_version all number held v a b is) (in_text g) = absurd (text_sound (table_of source) source all d held g)
+refused_once source e d told (bad_version all number held v a b is) (bad_version some other holds w p q so) = inl (so ∙ ap (λ n. errors.BadVersion n) (version_once source number other v w) ∙ sym is)
+refused_once source e d told (bad_version all number held v a b is) (not_there some section holds known missing so) = absurd (version_unknown source number v a b known)
+refused_once source e d told (bad_version all number held v a b is) (in_form f said g) = absurd (version_known source f number said v a b)
+refused_once source e d told (not_there all section held known missing is) (in_text g) = absurd (text_sound (table_of source) source all d held g)
+refused_once source e d told (not_there all section held known missing is) (bad_version some other holds w p q so) = absurd (version_unknown source other w p q known)
+refused_once source e d told (not_there all section held known missing is) (not_there other name there also none so) =
+    let same = missing_same source other all there held in
     let first : section_name section ≡ section_name name = cc in
     inl (so ∙ ap (λ n. errors.Missing n) (named_once section name first) ∙ sym is)
-refused_once source e d told (not_there all section held missing is) (in_form f said g) =
-    let same : first_missing wanted all ≡ first_missing wanted said.all = ap (first_missing wanted) (sections_once source all said.all held said.held) in
+refused_once source e d told (not_there all section held known missing is) (in_form f said g) =
+    let same = missing_same source all said.all held said.held in
     let none = none_missing source f said in
     absurd (cc)
-refused_once source e d told (in_form f said h) (in_text g) = absurd (text_sound fan_table source said.all d said.held g)
-refused_once source e d told (in_form f said h) (not_there all section held missing is) =
-    let same : first_missing wanted all ≡ first_missing wanted said.all = ap (first_missing wanted) (sections_once source all said.all held said.held) in
+refused_once source e d told (in_form f said h) (in_text g) = absurd (text_sound (table_of source) source said.all d said.held g)
+refused_once source e d told (in_form f said h) (bad_version all number held v a b is) = absurd (version_known source f number said v a b)
+refused_once source e d told (in_form f said h) (not_there all section held known missing is) =
+    let same = missing_same source all said.all held said.held in
     let none = none_missing source f said in
     absurd (cc)
 refused_once source e d told (in_form f said h) (in_form g read k) = form_once f e d told h (subst (λ q. IsFormFault q d) (file_once source f g said read) k)

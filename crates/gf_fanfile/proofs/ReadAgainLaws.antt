@@ -1,12 +1,17 @@
 -- What is written of a fan is read as that fan.
--- To cite: written_fans_are_read, again_read, again_refused. The rest are steps.
-use Rattle.std.proofs.Common.{◌≡◌, ℕ, List, [], ◌∷◌, ◌++◌, map, flat_map, get_or, slice_get, Option, None, Some, Result, Ok, Err, IfOk, IfErr, Contains, refl, sym, ap, ap₂, ◌∙◌, subst, inl, inr, arith}
+-- To cite: written_refused, written_read, one_text, written_fans_are_read, of_text, again_read, again_text, again_refused, never_written. The rest are steps.
+use Rattle.std.proofs.Common.{◌≡◌, ℕ, zero, suc, ◌<◌, ℤ, length, List, [], ◌∷◌, ◌++◌, map, flat_map, get_or, slice_get, Option, None, Some, Result, Ok, Err, IfOk, IfErr, Contains, refl, sym, ap, ap₂, ◌∙◌, subst, inl, inr, arith}
 use Rattle.std.specs.Prelude.{option_map, option_to_list}
 use Rattle.std.specs.List.{AllZip}
+use Rattle.std.proofs.lemmas.List.{length-map}
+use Rattle.std.proofs.lemmas.Slice.Zip.{AllZip-long}
+use Rattle.gf_vec.specs.declared.error.VecError.{VecError}
+use Rattle.gf_vec.specs.declared.error.VecError.TheVariants as vec_errors
+use Rattle.gf_vec.specs.Steps.{IfWide}
 use Rattle.std.proofs.lemmas.List.Elements.{Contains-get_or}
 use Rattle.std.proofs.lemmas.Option.{slice_get_within, get_or_from_slice_get, slice_get-map}
-use Rattle.gf_duality.specs.Faces.{SameCone, IsFaceOf}
-use Rattle.gf_duality.proofs.ListLaws.{zip_to, zip_from}
+use Rattle.gf_duality.specs.Faces.{SameCone, IsFaceOf, IsInterior, sum_of}
+use Rattle.gf_duality.proofs.ListLaws.{zip_to, zip_from, in_head, in_tail}
 use Rattle.gf_fans.specs.FaceLists.{numbered}
 use Rattle.gf_fans.specs.Laws.{HasRays}
 use Rattle.gf_fans.proofs.FanLaws.{same_turned}
@@ -26,19 +31,19 @@ use Rattle.gf_fan.proofs.FanConeLaws.{own_rays, own_face, cones_meet}
 use Rattle.gf_fan.proofs.UnderMaximal.{maximal_some, under_maximal, inside_face, given_face, own_faces}
 use Rattle.gf_fan.proofs.SameFans.{fans_are_their_cones}
 use Rattle.gf_fanfile.specs.declared.error.FanFileError.{FanFileError}
-use Rattle.gf_fanfile.specs.declared.error.FanFileError.TheVariants as errors
 use Rattle.gf_fanfile.specs.declared.file.FanFile.{FanFile}
 use Rattle.gf_fanfile.specs.declared.parts.ListedCone.{ListedCone}
 use Rattle.gf_fanfile.specs.Files.{IsFileOf, IsSoundFile}
 use Rattle.gf_fanfile.specs.FanWords.{fan_text}
 use Rattle.gf_fanfile.specs.FansAgain.{IsWritable, file_of}
-use Rattle.gf_fanfile.specs.FanTexts.{listed_cone, listed_cones, one_listed, listed_at, parts_of_fan}
-use Rattle.gf_fanfile.specs.FilesFans.{IsConeOfFile, AreConesOfFile, IsFanOfFile, IsFanOfText, AreFileConesMeeting, testing, finding, making, IsFileLimit, refusal_of_fan, IsFanFault, in_cone, in_fan, IsFanFileRefusal, before_cones, behind_form}
-use Rattle.gf_fanfile.specs.WrittenFans.{IsConeAt, WrittenFansAreRead}
+use Rattle.gf_fanfile.specs.FanTexts.{listed_cone, listed_cones, one_listed, listed_at, interiors_of, parts_of_fan, IsWritingStep}
+use Rattle.gf_fanfile.specs.Certificates.{AreCertified, AreInside, IsCertificateFault, other_count, at_row, too_wide}
+use Rattle.gf_fanfile.specs.FilesFans.{IsConeOfFile, AreConesOfFile, IsFanOfFile, IsFanOfText, IsCertifiedFile, AreFileConesMeeting, testing, finding, making, IsFileLimit, refusal_of_vectors, refusal_of_fan, IsFanFault, in_cone, in_certificate, in_fan, IsFanFileRefusal, before_cones, behind_form}
+use Rattle.gf_fanfile.specs.WrittenFans.{IsConeAt, IsAgainLimit, WrittenFansAreRead}
 use Rattle.gf_fanfile.proofs.AgainLaws.{fans_again}
 use Rattle.gf_fanfile.proofs.FanPartsLaws.{parts_same}
 use Rattle.gf_fanfile.proofs.FilesLaws.{file_once, sound_refused}
-use Rattle.gf_fanfile.proofs.WrittenFansLaws.{written_fans_are_sound, written_cones_are_read}
+use Rattle.gf_fanfile.proofs.WrittenFansLaws.{of_places, sum_inside_read, written_fans_are_sound, written_cones_are_read}
 
 -- ---- the cones of the file are the maximal cones of the fan
 
@@ -99,27 +104,66 @@ module _ (f : FanLists) (given cones : List RowsAndRays) (s : IsFanOf f.ambient 
 written_meet : (f : FanLists) → IsFan f → AreFileConesMeeting (file_of (parts_of_fan f))
 written_meet f s cones a = file_meets f s.0 cones s.1 a
 
--- ---- a sound file whose cones meet in faces is refused for limits alone
+-- ---- the rows that were written lie inside the cones
 
-fault_limit : (f : FanFile) (e : FanFileError) → AreFileConesMeeting f → IsFanFault f e → IsFileLimit f e
-fault_limit f e m (in_cone s h q) = inr (s, (finding h, q))
-fault_limit f e m (in_fan cones d a h q) = by d h q
+module _ (n : ℕ) (value : ListedCone → List ℤ) (R : List ℕ → RowsAndRays → Type 0) where
+  -- what is read at a place, and what was written there
+  inside_zip : (listed : List ListedCone) (cones : List RowsAndRays) → ((k : ListedCone) (c : RowsAndRays) → Contains listed k → R k.rays c → IsInterior n (rows_of c) (value k)) → AllZip R (map (λ (k : ListedCone). k.rays) listed) cones
+      → (place : ℕ) → place < length (map value listed) → (c : RowsAndRays) (r : List ℤ) → IsInterior n (rows_of (get_or cones place c)) (get_or (map value listed) place r)
+  inside_zip [] cones h a place l c r = absurd (omega (arith, l))
+  inside_zip (k ∷ listed) [] h a place l c r = absurd a
+  inside_zip (k ∷ listed) (x ∷ cones) h a zero l c r = h k x (in_head k listed) a.0
+  inside_zip (k ∷ listed) (x ∷ cones) h a (suc place) l c r = inside_zip listed cones (λ m d i t. h m d (in_tail k listed m i) t) a.1 place (omega (arith, l)) c r
+
+written_certified : (f : FanLists) → IsFan f → IsCertifiedFile (file_of (parts_of_fan f))
+written_certified f s cones a =
+    let n = f.ambient in
+    let listed = listed_at f.cones f.maximal in
+    let value : ListedCone → List ℤ = λ k. sum_of n (numbered f.rays k.rays) in
+    let file = file_of (parts_of_fan f) in
+    record {
+      count = length-map listed value ∙ sym (length-map listed (λ (k : ListedCone). k.rays)) ∙ sym (AllZip-long (IsConeOfFile file) file.cones cones a);
+      each = inside_zip n value (IsConeOfFile file) listed cones (λ k c i g.
+          let m = of_places f.cones f.maximal k i in
+          let same : m.0.numbers ≡ k.rays = ap (λ (x : ListedCone). x.rays) m.1.1 in
+          let here : IsConeOfFile file m.0.numbers c = subst (λ (ns : List ℕ). IsConeOfFile file ns c) (sym same) g in
+          subst (λ (ns : List ℕ). IsInterior n (rows_of c) (sum_of n (numbered f.rays ns))) same (sum_inside_read n s.0 f m.0 c s.1 m.1.0 here)) a;
+    }
+
+-- ---- a sound file whose rows lie inside its cones, which meet in faces, is refused for limits alone
+
+certificate_limit : (f : FanFile) (e : FanFileError) (cones : List RowsAndRays) (rows : List (List ℤ)) → IsCertifiedFile f → AreConesOfFile f cones → f.interiors ≡ Some rows → IsCertificateFault f.ambient cones rows e → IsFileLimit f e
+certificate_limit f e cones rows k a is h = by h
+  where
+    inside : AreInside f.ambient cones rows
+    inside = subst (λ (i : Option (List (List ℤ))). AreCertified f.ambient cones i) is (k cones a)
+
+    by : IsCertificateFault f.ambient cones rows e → IsFileLimit f e
+    by (other_count other q) = absurd (other inside.count)
+    by (at_row place g q) = absurd (g.here (inside.each place g.within))
+    by (too_wide w g q) = inr (inr (w, (record { cones = cones; rows = rows; of_file = a; has = is; step = g }, q)))
+
+fault_limit : (f : FanFile) (e : FanFileError) → IsCertifiedFile f → AreFileConesMeeting f → IsFanFault f e → IsFileLimit f e
+fault_limit f e k m (in_cone s h q) = inr (inl (s, (finding h, q)))
+fault_limit f e k m (in_certificate cones rows a is h) = certificate_limit f e cones rows k a is h
+fault_limit f e k m (in_fan cones d a c h q) = by d h q
   where
     by : (d : FanError) → IsFanRefusal f.ambient cones d → e ≡ refusal_of_fan d → IsFileLimit f e
-    by (fan_errors.Cone s) h q = inr (s, (making cones a h, q))
+    by (fan_errors.Cone s) h q = inr (inl (s, (making cones a h, q)))
     by (fan_errors.NotAFan i j) h q = absurd (h.after.clash (λ d. m cones a i j d h.after.ordered h.after.inside))
     by fan_errors.Memory h q = inl q
 
-pub limits_alone : (source : List ℕ) (f : FanFile) (e : FanFileError) → IsFileOf source f → IsSoundFile f → AreFileConesMeeting f → IsFanFileRefusal source e → IsFileLimit f e
-limits_alone source f e is s m (before_cones r) = elim (sound_refused source f e is s r) [ inl q ↦ inl q | inr t ↦ inr (t.0, (testing t.1.0, t.1.1)) ]
-limits_alone source f e is s m (behind_form g so p r) = fault_limit f e m (subst (λ q. IsFanFault q e) (file_once source f g is so) r)
+pub limits_alone : (source : List ℕ) (f : FanFile) (e : FanFileError) → IsFileOf source f → IsSoundFile f → IsCertifiedFile f → AreFileConesMeeting f → IsFanFileRefusal source e → IsFileLimit f e
+limits_alone source f e is s k m (before_cones r) = elim (sound_refused source f e is s r) [ inl q ↦ inl q | inr t ↦ inr (inl (t.0, (testing t.1.0, t.1.1))) ]
+limits_alone source f e is s k m (behind_form g so p r) = fault_limit f e k m (subst (λ q. IsFanFault q e) (file_once source f g is so) r)
 
-written_refused : (f : FanLists) (e : FanFileError) → IsFan f → IsWritable (parts_of_fan f) → IsFanFileRefusal (fan_text (parts_of_fan f)) e → IsFileLimit (file_of (parts_of_fan f)) e
-written_refused f e s w r = limits_alone (fan_text (parts_of_fan f)) (file_of (parts_of_fan f)) e (fans_again (parts_of_fan f) w) (written_fans_are_sound f.ambient s.0 f w.positive s.1) (written_meet f s) r
+pub written_refused : (f : FanLists) (e : FanFileError) → IsFan f → IsWritable (parts_of_fan f) → IsFanFileRefusal (fan_text (parts_of_fan f)) e → IsFileLimit (file_of (parts_of_fan f)) e
+written_refused f e s w r =
+    limits_alone (fan_text (parts_of_fan f)) (file_of (parts_of_fan f)) e (fans_again (parts_of_fan f) w) (written_fans_are_sound f.ambient s.0 f w.positive s.1) (written_certified f s) (written_meet f s) r
 
 -- ---- what is read
 
-written_read : (f h : FanLists) → IsFan f → IsWritable (parts_of_fan f) → IsFanOfText (fan_text (parts_of_fan f)) h → HaveSameCones f h
+pub written_read : (f h : FanLists) → IsFan f → IsWritable (parts_of_fan f) → IsFanOfText (fan_text (parts_of_fan f)) h → HaveSameCones f h
 written_read f h s w t =
     let x : IsFanOfFile (file_of (parts_of_fan f)) h = subst (λ z. IsFanOfFile z h) (file_once (fan_text (parts_of_fan f)) (file_of (parts_of_fan f)) t.file (fans_again (parts_of_fan f) w) t.is_file) t.of_file in
     file_cones f s.0 x.cones s.1 x.of_file h x.is_fan
@@ -152,17 +196,18 @@ same_parts : (f h : FanLists) → HaveSameLists f h → parts_of_fan h ≡ parts
 same_parts f h l =
     let cones : listed_cones h.cones ≡ listed_cones f.cones = listed_by_ranks h.cones ∙ ap (map of_rank) l.cones ∙ sym (listed_by_ranks f.cones) in
     let maximal : listed_at h.cones h.maximal ≡ listed_at f.cones f.maximal = listed_by_places h.cones h.maximal ∙ ap₂ at_places_of cones l.maximal ∙ sym (listed_by_places f.cones f.maximal) in
-    parts_same f h.ambient h.rays h.lineality h.orthogonal (listed_cones h.cones) (listed_at h.cones h.maximal) l.ambient l.rays l.lineality l.orthogonal cones maximal
+    let interiors : interiors_of h.ambient h.rays (listed_at h.cones h.maximal) ≡ interiors_of f.ambient f.rays (listed_at f.cones f.maximal) = λ i. interiors_of (l.ambient i) (l.rays i) (maximal i) in
+    parts_same f h.ambient h.rays h.lineality h.orthogonal (listed_cones h.cones) (listed_at h.cones h.maximal) (interiors_of h.ambient h.rays (listed_at h.cones h.maximal)) l.ambient l.rays l.lineality l.orthogonal cones maximal interiors
 
-one_text : (f h : FanLists) → IsFan f → IsFan h → HaveSameCones f h → fan_text (parts_of_fan h) ≡ fan_text (parts_of_fan f)
+pub one_text : (f h : FanLists) → IsFan f → IsFan h → HaveSameCones f h → fan_text (parts_of_fan h) ≡ fan_text (parts_of_fan f)
 one_text f h s t w = ap fan_text (same_parts f h (fans_are_their_cones f h s t w))
 
 pub written_fans_are_read : WrittenFansAreRead
-written_fans_are_read = record { meeting = written_meet; refused = written_refused; cones = written_read; text = one_text }
+written_fans_are_read = record { meeting = written_meet; certified = written_certified; refused = written_refused; cones = written_read; text = one_text }
 
 -- ---- reading what was written
 
-of_text : (source : List ℕ) (h : FanLists) → IsFanOfText source h → IsFan h
+pub of_text : (source : List ℕ) (h : FanLists) → IsFanOfText source h → IsFan h
 of_text source h t = (t.of_file.cones, subst (λ z. IsFanOf z t.of_file.cones h) (sym t.of_file.is_fan.ambient) t.of_file.is_fan)
 
 pub again_read : (f : FanLists) (source : List ℕ) (r : Result FanLists FanFileError) → WrittenFansAreRead → IsFan f → IsWritable (parts_of_fan f) → source ≡ fan_text (parts_of_fan f) → IfOk r (IsFanOfText source) → IfOk r (HaveSameCones f)
@@ -173,6 +218,11 @@ pub again_text : (f : FanLists) (source : List ℕ) (r : Result FanLists FanFile
 again_text f source (Ok h) law s t k = law.text f h s (of_text source h t) k
 again_text f source (Err x) law s t k = tt
 
-pub again_refused : (f : FanLists) (source : List ℕ) (r : Result FanLists FanFileError) → WrittenFansAreRead → IsFan f → IsWritable (parts_of_fan f) → source ≡ fan_text (parts_of_fan f) → IfErr r (IsFanFileRefusal source) → IfErr r (IsFileLimit (file_of (parts_of_fan f)))
+pub again_refused : (f : FanLists) (source : List ℕ) (r : Result FanLists FanFileError) → WrittenFansAreRead → IsFan f → IsWritable (parts_of_fan f) → source ≡ fan_text (parts_of_fan f) → IfErr r (IsFanFileRefusal source) → IfErr r (IsAgainLimit f)
 again_refused f source (Ok h) law s w e t = tt
-again_refused f source (Err x) law s w e t = law.refused f x s w (subst (λ z. IsFanFileRefusal z x) e t)
+again_refused f source (Err x) law s w e t = inl (law.refused f x s w (subst (λ z. IsFanFileRefusal z x) e t))
+
+-- it isn't written, since a sum of rays leaves the range
+pub never_written : (f : FanLists) (v : VecError) (e : FanFileError) → IfWide (IsWritingStep f) v → e ≡ refusal_of_vectors v → IsAgainLimit f e
+never_written f (vec_errors.Wide w) e h q = inr (w, (h, q))
+never_written f vec_errors.Memory e h q = inl (inl q)

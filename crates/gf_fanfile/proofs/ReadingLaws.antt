@@ -25,6 +25,9 @@ is_refused (errors.NotAFan i j) read e = e
 is_refused (errors.Missing section) read e = e
 is_refused (errors.BadRay number) read e = e
 is_refused (errors.Dimensions left right) read e = e
+is_refused (errors.BadVersion number) read e = e
+is_refused (errors.BadCertificate cone) read e = e
+is_refused (errors.Wide w) read e = e
 is_refused errors.Memory read e = tt
 
 -- where what is refused there is refused here too
@@ -37,6 +40,9 @@ refused_on (errors.NotAFan i j) there read on h = on (errors.NotAFan i j) h
 refused_on (errors.Missing section) there read on h = on (errors.Missing section) h
 refused_on (errors.BadRay number) there read on h = on (errors.BadRay number) h
 refused_on (errors.Dimensions left right) there read on h = on (errors.Dimensions left right) h
+refused_on (errors.BadVersion number) there read on h = on (errors.BadVersion number) h
+refused_on (errors.BadCertificate cone) there read on h = on (errors.BadCertificate cone) h
+refused_on (errors.Wide w) there read on h = on (errors.Wide w) h
 refused_on errors.Memory there read on h = tt
 
 -- behind the last token the text has ended, whatever is wrong there

@@ -1,5 +1,5 @@
 -- What is written of a fan is a file whose cones can be built, and is within the limits of fan files.
--- To cite: written_fans_are_sound, written_cones_are_read, cones_writable, fan_ray_rows, fan_lineality, fan_orthogonal, writable_along, fan_writable. The rest are steps.
+-- To cite: ray_outside, of_places, sum_inside, sum_inside_read, fan_interiors, fan_sums, written_fans_are_sound, written_cones_are_read, cones_writable, fan_ray_rows, fan_lineality, fan_orthogonal, writable_along, fan_writable. The rest are steps.
 use Rattle.std.proofs.Common.{◌≡◌, ℕ, zero, suc, ◌<◌, ◌≤◌, List, [], ◌∷◌, ◌++◌, length, map, get_or, slice_get, remove, Option, None, Some, All, Contains, ℤ, refl, sym, ap, ◌∙◌, subst, inl, inr, arith}
 use Rattle.std.specs.List.{AllZip}
 use Rattle.std.proofs.lemmas.List.{get_or_default, length-map}
@@ -11,7 +11,9 @@ use Rattle.gf_duality.proofs.ListLaws.{all_by, in_head, in_tail, in_cons, none_i
 use Rattle.gf_duality.proofs.Made.{span-made}
 use Rattle.gf_duality.proofs.Generated.{made-generated, generated-made}
 use Rattle.gf_duality.proofs.EchelonUnique.{no_widths}
-use Rattle.gf_duality.specs.Faces.{SameCone}
+use Rattle.gf_duality.specs.Faces.{SameCone, IsInterior, sum_of}
+use Rattle.gf_duality.proofs.Interior.{interior}
+use Rattle.gf_duality.proofs.Determined.{rays_determined}
 use Rattle.gf_fans.specs.FaceLists.{numbered}
 use Rattle.gf_fans.proofs.PartNumbers.{in_map, of_map}
 use Rattle.gf_rays.specs.Cones.{RowsAndRays, rows_of}
@@ -19,12 +21,13 @@ use Rattle.gf_fan.specs.declared.cones.FanCone.{FanCone}
 use Rattle.gf_fan.specs.FanLists.{FanLists}
 use Rattle.gf_fan.specs.Parts.{HaveTheirRays}
 use Rattle.gf_fan.specs.FansOfCones.{IsFanOf, IsFan, IsCommonLineality}
+use Rattle.gf_fan.proofs.FanConeLaws.{own_rays}
 use Rattle.gf_text.specs.declared.TheConstants.{MOST_VARIABLES}
 use Rattle.gf_fanfile.specs.declared.parts.ListedCone.{ListedCone}
 use Rattle.gf_fanfile.specs.ConeText.{most_number}
 use Rattle.gf_fanfile.specs.Files.{IsOutside, AreBelow}
 use Rattle.gf_fanfile.specs.FansAgain.{AreWritable, IsWritableCone, IsWritable, file_of}
-use Rattle.gf_fanfile.specs.FanTexts.{listed_cone, listed_cones, one_listed, listed_at, parts_of_fan}
+use Rattle.gf_fanfile.specs.FanTexts.{listed_cone, listed_cones, one_listed, listed_at, interiors_of, parts_of_fan, AreSumsWithin}
 use Rattle.gf_fanfile.specs.FilesFans.{IsGeneratedCone}
 use Rattle.gf_fanfile.specs.WrittenFans.{WrittenFansAreSound, IsConeAt, WrittenConesAreRead}
 
@@ -34,7 +37,7 @@ rest_rows : (n : ℕ) (rays : List (List ℤ)) (i : ℕ) → i < length rays →
 rest_rows n rays i l w = all_by (λ (t : List ℤ). length t ≡ n) (remove rays i) (λ x c. All-contains (λ (t : List ℤ). length t ≡ n) rays x w (of_rest rays i x l c))
 
 -- a ray is not in the lineality space
-ray_outside : (n : ℕ) (hs es lin rays : List (List ℤ)) (r : List ℤ) → IsRays n hs es lin rays → Contains rays r → IsOutside n lin r
+pub ray_outside : (n : ℕ) (hs es lin rays : List (List ℤ)) (r : List ℤ) → IsRays n hs es lin rays → Contains rays r → IsOutside n lin r
 ray_outside n hs es lin rays r s c g =
     let rest = rest_rows n rays c.0 c.1 s.rays_width in
     let made = span-made n (remove rays c.0) lin r (generated-made n [] lin r (no_widths n) s.lin_width g) in
@@ -81,6 +84,26 @@ numbers_below n given f s = all_by (AreBelow (length f.rays)) (file_of (parts_of
     let same : k.0.numbers ≡ ns = ap (λ (x : ListedCone). x.rays) k.1.1 ∙ m.1.1 in
     subst (AreBelow (length f.rays)) same (s.cones.each k.0 k.1.0).face.listed.inside)
 
+-- ---- the sums of the rays of the maximal cones
+
+module _ (n : ℕ) (given : List RowsAndRays) (f : FanLists) (s : IsFanOf n given f) where
+  -- each lies inside its cone
+  pub sum_inside : (k : FanCone) → Contains f.cones k → IsInterior n (rows_of k.cone) (sum_of n (numbered f.rays k.numbers))
+  sum_inside k i = interior n (rows_of k.cone) f.lineality (numbered f.rays k.numbers) (own_rays n given f.lineality f.rays k (s.cones.each k i))
+
+  sum_rows : AreRows n (interiors_of n f.rays (listed_at f.cones f.maximal))
+  sum_rows = all_by (λ (t : List ℤ). length t ≡ n) (interiors_of n f.rays (listed_at f.cones f.maximal)) (λ t c.
+      let m = of_map (λ (x : ListedCone). sum_of n (numbered f.rays x.rays)) (listed_at f.cones f.maximal) t c in
+      let k = of_places f.cones f.maximal m.0 m.1.0 in
+      let same : k.0.numbers ≡ m.0.rays = ap (λ (x : ListedCone). x.rays) k.1.1 in
+      ap length (sym m.1.1) ∙ subst (λ (ns : List ℕ). length (sum_of n (numbered f.rays ns)) ≡ n) same (sum_inside k.0 k.1.0).width)
+
+pub fan_interiors : (f : FanLists) (n : ℕ) (rows : List (List ℤ)) → IsFan f → n ≡ f.ambient → rows ≡ interiors_of f.ambient f.rays (listed_at f.cones f.maximal) → AreRows n rows
+fan_interiors f n rows h e q = subst (λ m. AreRows m rows) (sym e) (subst (AreRows f.ambient) (sym q) (sum_rows f.ambient h.0 f h.1))
+
+pub fan_sums : (f : FanLists) → IsFan f → AreSumsWithin f → AreWritable f.ambient (parts_of_fan f).interiors
+fan_sums f h w = record { width = sum_rows f.ambient h.0 f h.1; entries = w }
+
 pub written_fans_are_sound : WrittenFansAreSound
 written_fans_are_sound = λ n given f p s.
     let m = sym s.ambient in
@@ -88,6 +111,7 @@ written_fans_are_sound = λ n given f p s.
       positive = subst (λ k. 0 < k) m p;
       rays = subst (λ k. AreRows k f.rays) m (fan_rays n given f s);
       lineality = subst (λ k. AreRows k f.lineality) m (lineality_rows n given f.lineality s.own s.lineality);
+      interiors = subst (λ k. AreRows k (interiors_of k f.rays (listed_at f.cones f.maximal))) m (sum_rows n given f s);
       outside = subst (λ k. All (IsOutside k f.lineality) f.rays) m (fan_outside n given f s);
       below = numbers_below n given f s;
     }
@@ -101,6 +125,13 @@ cone_same n given f k c s i g =
     let own : IsRays n k.cone.inequalities k.cone.equations f.lineality (numbered f.rays k.numbers) =
     subst (λ z. IsRays n z k.cone.equations f.lineality (numbered f.rays k.numbers)) (sym a.inequalities) (subst (λ z. IsRays n a.origin.inequalities z f.lineality (numbered f.rays k.numbers)) (sym a.equations) a.face.are_rays) in
     λ v l. (λ x. (own.generates v l).1 ((g.generated v l).0 x), λ y. (g.generated v l).1 ((own.generates v l).0 y))
+
+-- the sum of its rays lies inside the cone that they and the lineality space generate
+pub sum_inside_read : (n : ℕ) (given : List RowsAndRays) (f : FanLists) (k : FanCone) (c : RowsAndRays) → IsFanOf n given f → Contains f.cones k → IsGeneratedCone n (numbered f.rays k.numbers) f.lineality c → IsInterior n (rows_of c) (sum_of n (numbered f.rays k.numbers))
+sum_inside_read n given f k c s i g =
+    let same = cone_same n given f k c s i g in
+    let rays = rays_determined n (rows_of c) (rows_of k.cone) c.lineality c.rays f.lineality (numbered f.rays k.numbers) same g.are_rays (own_rays n given f.lineality f.rays k (s.cones.each k i)) in
+    subst (λ (xs : List (List ℤ)). IsInterior n (rows_of c) (sum_of n xs)) rays.1 (interior n (rows_of c) c.lineality c.rays g.are_rays)
 
 none_past : {X : Type 0} (xs : List X) (i : ℕ) → slice_get xs i ≡ None → length xs ≤ i
 none_past [] i e = omega arith
@@ -154,9 +185,9 @@ fan_orthogonal f n rows h e q = subst (λ m. AreRows m rows) (sym e) (subst (Are
 pub writable_along : (n m : ℕ) (rows others : List (List ℤ)) → n ≡ m → rows ≡ others → AreWritable n rows → AreWritable m others
 writable_along n m rows others e q w = subst (λ k. AreWritable k others) e (subst (AreWritable n) q w)
 
-pub fan_writable : (f : FanLists) (cones : List FanCone) (rays lineality : List (List ℤ)) → 0 < f.ambient → f.ambient ≤ MOST_VARIABLES → AreWritable f.ambient f.rays → AreWritable f.ambient f.lineality → AreWritable f.ambient f.orthogonal →
+pub fan_writable : (f : FanLists) (cones : List FanCone) (rays lineality : List (List ℤ)) → 0 < f.ambient → f.ambient ≤ MOST_VARIABLES → AreWritable f.ambient f.rays → AreWritable f.ambient f.lineality → AreWritable f.ambient f.orthogonal → AreWritable f.ambient (parts_of_fan f).interiors →
     cones ≡ f.cones → All IsWritableCone (listed_cones cones) → length cones ≤ most_number → rays ≡ f.rays → length rays ≤ most_number → lineality ≡ f.lineality → length lineality ≤ most_number → IsWritable (parts_of_fan f)
-fan_writable f cones rays lineality p a r l o e each k q m s t =
+fan_writable f cones rays lineality p a r l o w e each k q m s t =
     let all : All IsWritableCone (listed_cones f.cones) = subst (λ (ks : List FanCone). All IsWritableCone (listed_cones ks)) e each in
     record {
       positive = p;
@@ -164,6 +195,7 @@ fan_writable f cones rays lineality p a r l o e each k q m s t =
       rays = r;
       lineality = l;
       orthogonal = o;
+      interiors = w;
       cones = all;
       maximal = listed_writable f.cones f.maximal all;
       rays_count = subst (λ xs. length xs ≤ most_number) q m;

@@ -1,7 +1,7 @@
 -- What a fan file says: the sections that are looked at, read from left to right.
--- Which sections these are is a table.
+-- Which sections these are, and what they hold, is a table, by the version of the file.
 -- Laws: proofs/FanTextLaws.antt.
-use Rattle.std.specs.Prelude.{◌≡◌, ◌⊎◌, ℕ, ◌+◌, ◌&&◌, nat_le, Bool, true, false, List, [], ◌∷◌, ◌++◌, length, bytes_eq, is_some, if◌then◌else◌, Result, Ok, Err, Option, Some, None, ℤ}
+use Rattle.std.specs.Prelude.{◌≡◌, ◌⊎◌, ℕ, ◌+◌, ◌&&◌, nat_le, nat_eq, Bool, true, false, List, [], ◌∷◌, ◌++◌, length, bytes_eq, is_some, if◌then◌else◌, Result, Ok, Err, Option, Some, None, ℤ}
 use Rattle.gf_text.specs.declared.TheConstants.{MOST_VARIABLES}
 use Rattle.gf_text.specs.Machine.{Lexeme, texts, Fault, IsFault, run}
 use Rattle.gf_text.specs.Kinds.{IsNumberKind}
@@ -86,17 +86,71 @@ rays_name = 82 ∷ 65 ∷ 89 ∷ 83 ∷ []
 abbrev pub lineality_space : List ℕ
 lineality_space = 76 ∷ 73 ∷ 78 ∷ 69 ∷ 65 ∷ 76 ∷ 73 ∷ 84 ∷ 89 ∷ 95 ∷ 83 ∷ 80 ∷ 65 ∷ 67 ∷ 69 ∷ []
 
+-- FILE_VERSION
+abbrev pub file_version : List ℕ
+file_version = 70 ∷ 73 ∷ 76 ∷ 69 ∷ 95 ∷ 86 ∷ 69 ∷ 82 ∷ 83 ∷ 73 ∷ 79 ∷ 78 ∷ []
+
+-- MAXIMAL_INTERIORS
+abbrev pub maximal_interiors : List ℕ
+maximal_interiors = 77 ∷ 65 ∷ 88 ∷ 73 ∷ 77 ∷ 65 ∷ 76 ∷ 95 ∷ 73 ∷ 78 ∷ 84 ∷ 69 ∷ 82 ∷ 73 ∷ 79 ∷ 82 ∷ 83 ∷ []
+
 -- MAXIMAL_CONES
 abbrev pub maximal_cones : List ℕ
 maximal_cones = 77 ∷ 65 ∷ 88 ∷ 73 ∷ 77 ∷ 65 ∷ 76 ∷ 95 ∷ 67 ∷ 79 ∷ 78 ∷ 69 ∷ 83 ∷ []
 
--- the four sections of a fan file: AMBIENT_DIM, RAYS, LINEALITY_SPACE, MAXIMAL_CONES
-abbrev pub fan_table : Table
-fan_table = (ambient_dim, number_to MOST_VARIABLES) ∷ (rays_name, rows) ∷ (lineality_space, rows) ∷ (maximal_cones, cones) ∷ []
+-- ---- versions
+
+-- the version 2
+abbrev pub is_second : Option ℕ → Bool
+is_second None = false
+is_second (Some v) = nat_eq v 2
+
+-- the number that a version's text begins with, 0 where it begins with none
+abbrev pub version_number : List Lexeme → ℕ
+version_number [] = 0
+version_number (x ∷ xs) = if is_number x.text && nat_le (decimal_value x.text) most_number then decimal_value x.text else 0
+
+-- the version that these sections, in a text of this length, tell: by FILE_VERSION where it is the first, else none
+abbrev pub version_in : ℕ → List Section → Option ℕ
+version_in length [] = None
+version_in length (s ∷ ss) = if bytes_eq file_version s.name then Some (version_number (content_tokens (end_before length ss) s.content)) else None
+
+-- the version that a text tells
+abbrev pub told_version : List ℕ → Option ℕ
+told_version source = version_in (length source) (sections source)
+
+-- a version that is known: none, 1, 2
+abbrev pub IsKnownVersion : Option ℕ → Type 0
+IsKnownVersion None = Unit {0}
+IsKnownVersion (Some v) = (v ≡ 1) ⊎ (v ≡ 2)
+
+-- what FILE_VERSION holds, where a version is told; elsewhere it isn't looked at
+abbrev pub version_kind : Option ℕ → ContentKind
+version_kind None = any
+version_kind (Some v) = number_to most_number
+
+-- what MAXIMAL_INTERIORS holds in the version 2; elsewhere it isn't looked at
+abbrev pub interiors_kind : Bool → ContentKind
+interiors_kind true = rows
+interiors_kind false = any
+
+-- the sections of a fan file of this version that are looked at: AMBIENT_DIM, RAYS, LINEALITY_SPACE, MAXIMAL_CONES; FILE_VERSION where it tells
+-- the version; and in the version 2 MAXIMAL_INTERIORS
+abbrev pub fan_table : Option ℕ → Table
+fan_table v = (ambient_dim, number_to MOST_VARIABLES) ∷ (rays_name, rows) ∷ (lineality_space, rows) ∷ (maximal_cones, cones) ∷ (file_version, version_kind v) ∷ (maximal_interiors, interiors_kind (is_second v)) ∷ []
+
+-- the table of the version that the text tells
+abbrev pub table_of : List ℕ → Table
+table_of source = fan_table (told_version source)
+
+-- the name that is looked for in the version 2 alone
+abbrev pub wanted_last : Bool → List (List ℕ)
+wanted_last true = maximal_interiors ∷ []
+wanted_last false = []
 
 -- the names of sections that are looked for, in order
-abbrev pub wanted : List (List ℕ)
-wanted = ambient_dim ∷ rays_name ∷ lineality_space ∷ maximal_cones ∷ []
+abbrev pub wanted : Option ℕ → List (List ℕ)
+wanted v = ambient_dim ∷ rays_name ∷ lineality_space ∷ maximal_cones ∷ wanted_last (is_second v)
 
 -- ---- the sections, from left to right
 

@@ -4,10 +4,10 @@ use Rattle.std.specs.Prelude.{ℕ, ◌+◌, ◌-◌, ◌==◌, Bool, true, false
 use Rattle.std.specs.List.{list_all, range_with_len}
 use Rattle.gf_text.specs.VectorText.{entry_text}
 use Rattle.gf_fanfile.specs.declared.parts.ListedCone.{ListedCone}
-use Rattle.gf_fanfile.specs.FanText.{ambient_dim, rays_name, lineality_space, maximal_cones}
+use Rattle.gf_fanfile.specs.FanText.{file_version, ambient_dim, rays_name, lineality_space, maximal_cones, maximal_interiors}
 
 -- What is written of a fan: the ambient dimension, the rays, a basis of the lineality space and one of its orthogonal
--- complement, all cones, and the maximal ones.
+-- complement, all cones, the maximal ones, and a vector for each of these.
 pub record FanWords : Type 0 where
   pub ambient : ℕ
   pub rays : List (List ℤ)
@@ -15,6 +15,7 @@ pub record FanWords : Type 0 where
   pub orthogonal : List (List ℤ)
   pub cones : List ListedCone
   pub maximal : List ListedCone
+  pub interiors : List (List ℤ)
 
 -- ---- numbers
 
@@ -113,9 +114,10 @@ lines_text ls = flat_map (λ l. l ++ 10 ∷ []) ls
 abbrev pub section_text : TextSection → List ℕ
 section_text s = s.name ++ (10 ∷ (lines_text s.lines ++ 10 ∷ []))
 
--- the first seven sections: the dimensions, the rays and the spaces
+-- the first eight sections: the version, the dimensions, the rays and the spaces
 abbrev pub front_sections : FanWords → List TextSection
-front_sections f = section ambient_dim (decimal f.ambient ∷ [])
+front_sections f = section file_version (decimal 2 ∷ [])
+    ∷ section ambient_dim (decimal f.ambient ∷ [])
     ∷ section (codes "DIM") (dim_line f.cones ∷ [])
     ∷ section (codes "LINEALITY_DIM") (decimal (length f.lineality) ∷ [])
     ∷ section rays_name (ray_lines 0 f.rays)
@@ -124,13 +126,14 @@ front_sections f = section ambient_dim (decimal f.ambient ∷ [])
     ∷ section (codes "ORTH_LINEALITY_SPACE") (map (λ r. spaced_entries r) f.orthogonal)
     ∷ []
 
--- the last five: what is told of the cones, and the cones
+-- the last six: what is told of the cones, the cones, and the vectors for the maximal ones
 abbrev pub back_sections : FanWords → List TextSection
 back_sections f = section (codes "F_VECTOR") (number_lines (f_vector (length f.lineality) f.cones))
     ∷ section (codes "SIMPLICIAL") (truth_line (is_simplicial (length f.lineality) f.maximal) ∷ [])
     ∷ section (codes "PURE") (truth_line (is_pure f.maximal) ∷ [])
     ∷ section (codes "CONES") (cone_lines None f.cones)
     ∷ section maximal_cones (cone_lines None f.maximal)
+    ∷ section maximal_interiors (map (λ r. spaced_entries r) f.interiors)
     ∷ []
 
 -- sections one behind another

@@ -1,6 +1,6 @@
 -- What is written of a fan is read again.
 -- Laws: proofs/AgainLaws.antt.
-use Rattle.std.specs.Prelude.{ℕ, ◌<◌, ◌≤◌, ℤ, List, length, map, unsigned_abs, All}
+use Rattle.std.specs.Prelude.{ℕ, ◌<◌, ◌≤◌, ℤ, List, Some, length, map, unsigned_abs, All}
 use Rattle.gf_gordan.specs.Alternative.{AreRows}
 use Rattle.gf_text.specs.declared.TheConstants.{MOST_VARIABLES}
 use Rattle.gf_fanfile.specs.declared.file.FanFile.{FanFile}
@@ -32,15 +32,16 @@ pub record IsWritable (f : FanWords) : Type 0 where
   pub rays : AreWritable f.ambient f.rays
   pub lineality : AreWritable f.ambient f.lineality
   pub orthogonal : AreWritable f.ambient f.orthogonal
+  pub interiors : AreWritable f.ambient f.interiors
   pub cones : All IsWritableCone f.cones
   pub maximal : All IsWritableCone f.maximal
   pub rays_count : length f.rays ≤ most_number
   pub lineality_count : length f.lineality ≤ most_number
   pub cones_count : length f.cones ≤ most_number
 
--- what is read of it: the ambient dimension, the rays, the basis of the lineality space, the maximal cones
+-- what is read of it: the ambient dimension, the rays, the basis of the lineality space, the maximal cones, the vectors for these
 abbrev pub file_of : FanWords → FanFile
-file_of f = record { ambient = f.ambient; rays = f.rays; lineality = f.lineality; cones = map (λ (c : ListedCone). c.rays) f.maximal }
+file_of f = record { ambient = f.ambient; rays = f.rays; lineality = f.lineality; cones = map (λ (c : ListedCone). c.rays) f.maximal; interiors = Some f.interiors }
 
 -- the text of a fan says what was written of it
 abbrev pub FansAreReadAgain : Type 0

@@ -2,11 +2,14 @@
 -- A cone of a file is what the rays with its numbers and the lineality space generate. Its rows are the rays and the lineality
 -- basis of the dual cone, whose rows are these rays and the vectors of the lineality space.
 -- Laws: proofs/GeneratedLaws.antt, proofs/FilesFansLaws.antt.
-use Rattle.std.specs.Prelude.{◌≡◌, ◌↔◌, ◌⊎◌, ℕ, List, ℤ, length, Contains}
+use Rattle.std.specs.Prelude.{◌≡◌, ◌↔◌, ◌⊎◌, ℕ, List, ℤ, length, Some, Contains}
 use Rattle.std.specs.List.{AllZip}
 use Rattle.gf_gordan.specs.declared.error.ConeOverflow.{ConeOverflow}
 use Rattle.gf_gordan.specs.declared.error.GordanError.{GordanError}
 use Rattle.gf_gordan.specs.declared.error.GordanError.TheVariants as gordan_errors
+use Rattle.gf_vec.specs.declared.error.WideVector.{WideVector}
+use Rattle.gf_vec.specs.declared.error.VecError.{VecError}
+use Rattle.gf_vec.specs.declared.error.VecError.TheVariants as vec_errors
 use Rattle.gf_duality.specs.Rays.{Generated, IsRays}
 use Rattle.gf_duality.specs.Faces.{IsInCone}
 use Rattle.gf_rays.specs.Reached.{IsRaysStep}
@@ -22,6 +25,7 @@ use Rattle.gf_fanfile.specs.declared.error.FanFileError.{FanFileError}
 use Rattle.gf_fanfile.specs.declared.error.FanFileError.TheVariants as errors
 use Rattle.gf_fanfile.specs.declared.file.FanFile.{FanFile}
 use Rattle.gf_fanfile.specs.Files.{IsFileOf, IsSoundFile, IsTestStep, AreTestsWithin, IsFileRefused}
+use Rattle.gf_fanfile.specs.Certificates.{AreCertified, IsCertificateStep, IsCertificateFault}
 
 -- ---- the fan
 
@@ -40,10 +44,11 @@ IsConeOfFile f numbers c = IsGeneratedCone f.ambient (numbered f.rays numbers) f
 abbrev pub AreConesOfFile : FanFile → List RowsAndRays → Type 0
 AreConesOfFile f cones = AllZip (IsConeOfFile f) f.cones cones
 
--- the fan of the cones of a file
+-- the fan of the cones of a file, whose rows lie inside them
 pub record IsFanOfFile (f : FanFile) (h : FanLists) : Type 0 where
   pub cones : List RowsAndRays
   pub of_file : AreConesOfFile f cones
+  pub certified : AreCertified f.ambient cones f.interiors
   pub is_fan : IsFanOf f.ambient cones h
 
 -- the text says a file whose cones can be built, and this is their fan
@@ -72,15 +77,28 @@ pub data IsFileStep (f : FanFile) (s : ConeOverflow) : Type 0 where
   finding : IsConesStep f s → IsFileStep f s
   making : (cones : List RowsAndRays) → AreConesOfFile f cones → IsFanStep f.ambient cones s → IsFileStep f s
 
--- No operation on this file leaves the range: of the tests of its rays, of finding its cones, of making their fan.
+-- an operation of testing whether its rows lie inside their cones
+pub record IsFileCertificateStep (f : FanFile) (w : WideVector) : Type 0 where
+  pub cones : List RowsAndRays
+  pub rows : List (List ℤ)
+  pub of_file : AreConesOfFile f cones
+  pub has : f.interiors ≡ Some rows
+  pub step : IsCertificateStep f.ambient cones rows w
+
+-- No operation on this file leaves the range: of the tests of its rays, of finding its cones, of testing its rows, of making their fan.
 pub record IsFileWithinLimits (f : FanFile) : Type 0 where
   pub tests : AreTestsWithin f
   pub cones : (s : ConeOverflow) → IsConesStep f s → ⊥
+  pub certificates : (w : WideVector) → IsFileCertificateStep f w → ⊥
   pub fan : (cones : List RowsAndRays) → AreConesOfFile f cones → IsFanWithinLimits f.ambient cones
 
 -- the meet of any two of its cones is a face of both
 abbrev pub AreFileConesMeeting : FanFile → Type 0
 AreFileConesMeeting f = (cones : List RowsAndRays) → AreConesOfFile f cones → AreMeeting f.ambient cones
+
+-- its rows lie inside its cones, where it has such
+abbrev pub IsCertifiedFile : FanFile → Type 0
+IsCertifiedFile f = (cones : List RowsAndRays) → AreConesOfFile f cones → AreCertified f.ambient cones f.interiors
 
 -- ---- refusals
 
@@ -95,15 +113,21 @@ refusal_of_fan (fan_errors.Cone s) = errors.Cone s
 refusal_of_fan (fan_errors.NotAFan first second) = errors.NotAFan first second
 refusal_of_fan fan_errors.Memory = errors.Memory
 
+-- a refusal of sums of vectors as one of a fan file
+abbrev pub refusal_of_vectors : VecError → FanFileError
+refusal_of_vectors (vec_errors.Wide w) = errors.Wide w
+refusal_of_vectors vec_errors.Memory = errors.Memory
+
 -- it says that memory is wanting, or that such an operation on the file leaves the range
 abbrev pub IsFileLimit : FanFile → FanFileError → Type 0
-IsFileLimit f e = (e ≡ errors.Memory) ⊎ ((s : ConeOverflow) × (IsFileStep f s × (e ≡ errors.Cone s)))
+IsFileLimit f e = (e ≡ errors.Memory) ⊎ ((s : ConeOverflow) × (IsFileStep f s × (e ≡ errors.Cone s))) ⊎ ((w : WideVector) × (IsFileCertificateStep f w × (e ≡ errors.Wide w)))
 
--- the fan of the cones of this file is refused so: an operation of finding its cones leaves the range, or they are found and this is
--- why they have no fan
+-- the fan of the cones of this file is refused so: an operation of finding its cones leaves the range; or they are found, and its rows are
+-- refused so; or these lie inside the cones, and this is why the cones have no fan
 pub data IsFanFault (f : FanFile) (e : FanFileError) : Type 0 where
   in_cone : (s : ConeOverflow) → IsConesStep f s → e ≡ errors.Cone s → IsFanFault f e
-  in_fan : (cones : List RowsAndRays) (d : FanError) → AreConesOfFile f cones → IsFanRefusal f.ambient cones d → e ≡ refusal_of_fan d → IsFanFault f e
+  in_certificate : (cones : List RowsAndRays) (rows : List (List ℤ)) → AreConesOfFile f cones → f.interiors ≡ Some rows → IsCertificateFault f.ambient cones rows e → IsFanFault f e
+  in_fan : (cones : List RowsAndRays) (d : FanError) → AreConesOfFile f cones → AreCertified f.ambient cones f.interiors → IsFanRefusal f.ambient cones d → e ≡ refusal_of_fan d → IsFanFault f e
 
 -- the text is refused so: it says no file whose cones can be built, or they have no fan; or there is no memory
 pub data IsFanFileRefusal (source : List ℕ) (e : FanFileError) : Type 0 where

@@ -72,6 +72,9 @@ IsRefusedSo (errors.NotAFan i j) read = read ≡ Err (errors.NotAFan i j)
 IsRefusedSo (errors.Missing section) read = read ≡ Err (errors.Missing section)
 IsRefusedSo (errors.BadRay number) read = read ≡ Err (errors.BadRay number)
 IsRefusedSo (errors.Dimensions left right) read = read ≡ Err (errors.Dimensions left right)
+IsRefusedSo (errors.BadVersion number) read = read ≡ Err (errors.BadVersion number)
+IsRefusedSo (errors.BadCertificate cone) read = read ≡ Err (errors.BadCertificate cone)
+IsRefusedSo (errors.Wide w) read = read ≡ Err (errors.Wide w)
 IsRefusedSo errors.Memory read = Unit {0}
 
 -- A result, seen by view, is what is read, unless memory ran out.

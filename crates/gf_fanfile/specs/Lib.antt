@@ -12,5 +12,7 @@ pub mod Given  -- what readers did, against their machines
 pub mod Contents  -- what is kept of the sections
 pub mod FanTexts  -- the text of the fan of cones
 pub mod Duals  -- what is generated, by the dual cone
+pub mod Certificates  -- the rows of MAXIMAL_INTERIORS lie inside their cones
 pub mod FilesFans  -- the fan that a fan file says, and why there is none
 pub mod WrittenFans  -- the text of a fan says a file whose cones can be built
+pub mod Migration  -- what a fan file is migrated to, and why it isn't

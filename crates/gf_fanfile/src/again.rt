@@ -1,20 +1,19 @@
 //! What is written of a fan is read again. But for the last one, the functions here do nothing; their contracts are laws.
-ghost use Rattle.std.specs.Prelude.{◌≡◌, ◌<◌, ◌≤◌, All, IfOk, IfErr, length, unsigned_abs};
+ghost use Rattle.std.specs.Prelude.{◌≡◌, ◌<◌, ◌≤◌, All, IfOk, IfErr, length};
 ghost use Rattle.gf_gordan.specs.Alternative.{AreRows};
 ghost use Rattle.gf_fan.specs.SameCones.{HaveSameCones};
 ghost use Rattle.gf_text.specs.declared.TheConstants.{MOST_VARIABLES};
 ghost use Rattle.gf_fanfile.specs.ConeText.{most_number};
-ghost use Rattle.gf_fanfile.specs.RowText.{most_row_entry};
 ghost use Rattle.gf_fanfile.specs.Files.{IsFileOf};
 ghost use Rattle.gf_fanfile.specs.FanWords.{fan_text};
-ghost use Rattle.gf_fanfile.specs.FansAgain.{AreWritable, IsWritableCone, AreNumbersBelow, IsWritable, file_of, FansAreReadAgain};
-ghost use Rattle.gf_fanfile.specs.FanTexts.{listed_cone, listed_cones, parts_of_fan};
-ghost use Rattle.gf_fanfile.specs.FilesFans.{IsFileLimit};
-ghost use Rattle.gf_fanfile.specs.WrittenFans.{WrittenFansAreSound, WrittenConesAreRead, WrittenFansAreRead};
+ghost use Rattle.gf_fanfile.specs.FansAgain.{IsWritableCone, AreNumbersBelow, IsWritable, file_of, FansAreReadAgain};
+ghost use Rattle.gf_fanfile.specs.FanTexts.{listed_cone, listed_cones, parts_of_fan, AreSumsWithin};
+ghost use Rattle.gf_fanfile.specs.WrittenFans.{IsAgainLimit, WrittenFansAreSound, WrittenConesAreRead, WrittenFansAreRead};
 
 use crate::error::FanFileError;
 use crate::fan::read;
 use crate::fan_writer::write;
+use crate::limits::rows_are_writable;
 use crate::parts::{FanParts, ListedCone};
 use gf_fan::{Fan, FanCone};
 use gf_vec::IntVec;
@@ -35,23 +34,6 @@ fn vectors_are_few(vectors: &[IntVec])
 fn cones_are_few(cones: &[ListedCone])
     ensures { length cones.now ≤ most_number }
 {}
-
-/// The entries of a vector are within the limit of rows.
-fn entries_are_within(row: &IntVec)
-    ensures { All (λ z. unsigned_abs z ≤ most_row_entry) row.now }
-{
-    let _entries = row.as_slice();
-}
-
-/// Rows of this length can be written.
-fn rows_are_writable(n: u32, rows: &[IntVec])
-    requires { AreRows n rows.now }
-    ensures { AreWritable n rows.now }
-{
-    'rows: for row in rows {
-        entries_are_within(row);
-    }
-}
 
 /// A cone whose numbers are within their limit can be written.
 fn cone_is_writable(cone: &ListedCone)
@@ -80,6 +62,7 @@ pub fn parts_are_writable(parts: &FanParts)
     requires rays { AreRows parts.now.ambient parts.now.rays }
     requires lineality { AreRows parts.now.ambient parts.now.lineality }
     requires orthogonal { AreRows parts.now.ambient parts.now.orthogonal }
+    requires interiors { AreRows parts.now.ambient parts.now.interiors }
     requires cones { AreNumbersBelow (length parts.now.rays) parts.now.cones }
     requires maximal { AreNumbersBelow (length parts.now.rays) parts.now.maximal }
     ensures { IsWritable parts.now }
@@ -87,6 +70,7 @@ pub fn parts_are_writable(parts: &FanParts)
     rows_are_writable(parts.ambient, parts.rays);
     rows_are_writable(parts.ambient, parts.lineality);
     rows_are_writable(parts.ambient, parts.orthogonal);
+    rows_are_writable(parts.ambient, parts.interiors);
     cones_are_writable(parts.rays, parts.cones);
     cones_are_writable(parts.rays, parts.maximal);
     vectors_are_few(parts.rays);
@@ -137,11 +121,12 @@ fn fan_cones_are_writable(cones: &[FanCone])
     }
 }
 
-/// What is written of a fan is within the limits of fan files, where its ambient dimension is from 1 to `MOST_VARIABLES`; and its text says what
-/// was written of it.
+/// What is written of a fan is within the limits of fan files, where its ambient dimension is from 1 to `MOST_VARIABLES` and the sums of rays
+/// are; and its text says what was written of it.
 pub fn fan_is_read_again(fan: &Fan)
     requires positive { 0 < fan.now.ambient }
     requires dimension { fan.now.ambient ≤ MOST_VARIABLES }
+    requires sums { AreSumsWithin fan.now }
     ensures writable { IsWritable (parts_of_fan fan.now) }
     ensures file { IsFileOf (fan_text (parts_of_fan fan.now)) (file_of (parts_of_fan fan.now)) }
 {
@@ -160,6 +145,7 @@ pub fn fan_is_read_again(fan: &Fan)
 /// # Errors
 /// - `Cone`: an operation that leaves the range, of the test of one of the rays that were written, of finding one of the cones, or of
 ///   making their fan, as `read` has it;
+/// - `Wide`: a sum of entries that leaves the range, as `write` has it, or a product or sum of the test of a row, as `read` has it;
 /// - `Memory`.
 ///
 /// There is no other refusal.
@@ -168,11 +154,11 @@ pub fn read_again(alloc: Global, fan: &Fan) -> Result<Fan, FanFileError>
     requires dimension { fan.now.ambient ≤ MOST_VARIABLES }
     ensures cones { IfOk result (HaveSameCones fan.now) }
     ensures text { IfOk result (λ h. fan_text (parts_of_fan h) ≡ fan_text (parts_of_fan fan.now)) }
-    ensures err { IfErr result (IsFileLimit (file_of (parts_of_fan fan.now))) }
+    ensures err { IfErr result (IsAgainLimit fan.now) }
 {
     written_fans_are_read();
-    fan_is_read_again(fan);
     fan.cones();
     let text = write(alloc, fan)?;
+    fan_is_read_again(fan);
     read(alloc, text.as_slice())
 }

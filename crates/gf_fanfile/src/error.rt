@@ -6,6 +6,7 @@ ghost use Rattle.gf_fanfile.specs.Refused.{refused_before, cause_of};
 use gf_fan::FanError;
 use gf_gordan::{ConeOverflow, GordanError};
 use gf_text::{Kind, Section, Syntax};
+use gf_vec::{VecError, WideVector};
 use std::alloc::{AllocError, AllocFailed};
 
 /// Why a fan file isn't read.
@@ -27,6 +28,12 @@ pub enum FanFileError {
     BadRay { number: u64 },
     /// A length, where another is needed.
     Dimensions { left: u64, right: u64 },
+    /// The version is neither 1 nor 2.
+    BadVersion { number: u64 },
+    /// The row of this listed cone isn't inside it, or there is no such row or cone.
+    BadCertificate { cone: u32 },
+    /// A product or a sum of the test whether a row is inside its cone leaves the range.
+    Wide(WideVector),
     Memory,
 }
 
@@ -84,6 +91,19 @@ impl From<GordanError> for FanFileError {
         match error {
             GordanError::Cone(step) => FanFileError::Cone(step),
             GordanError::Memory => FanFileError::Memory,
+        }
+    }
+}
+
+impl From<VecError> for FanFileError {
+    ghost use Rattle.gf_fanfile.specs.FilesFans.{refusal_of_vectors};
+
+    ghost from_gives = { λ error e. e ≡ refusal_of_vectors error };
+
+    fn from(error: VecError) -> FanFileError {
+        match error {
+            VecError::Wide(wide) => FanFileError::Wide(wide),
+            VecError::Memory => FanFileError::Memory,
         }
     }
 }

@@ -1,13 +1,15 @@
 //! The fan that a fan file says.
-ghost use Rattle.std.specs.Prelude.{◌≡◌, ◌⊎◌, ◌≤◌, length, IfOk, IfErr, MatchResult};
+ghost use Rattle.std.specs.Prelude.{◌≡◌, ◌⊎◌, ◌≤◌, ◌<◌, ◌^◌, length, IfOk, IfErr, OnOk, MatchResult};
 ghost use Rattle.gf_gordan.specs.Alternative.{AreRows};
 ghost use Rattle.gf_gordan.specs.Steps.{Failed};
 ghost use Rattle.gf_fans.specs.FaceLists.{numbered};
 ghost use Rattle.gf_text.specs.declared.TheConstants.{MOST_VARIABLES};
 ghost use Rattle.gf_fanfile.specs.declared.error.FanFileError.TheVariants.{Memory};
 ghost use Rattle.gf_fanfile.specs.Files.{IsFileOf, AreBelow, IsSoundFile, IsOfLimits};
-ghost use Rattle.gf_fanfile.specs.FilesFans.{IsGeneratedCone, IsConeOfFile, AreConesOfFile, IsFanOfFile, IsFanOfText, IsGeneratingStep, IsConesStep, IsFileWithinLimits, AreFileConesMeeting, IsFanFault, IsFanFileRefusal};
+ghost use Rattle.gf_fanfile.specs.Certificates.{AreCertified};
+ghost use Rattle.gf_fanfile.specs.FilesFans.{IsGeneratedCone, IsConeOfFile, AreConesOfFile, IsFanOfFile, IsFanOfText, IsGeneratingStep, IsConesStep, IsFileWithinLimits, IsCertifiedFile, AreFileConesMeeting, IsFanFault, IsFanFileRefusal};
 
+use crate::certificates::check_certificates;
 use crate::cones::RayNumbers;
 use crate::duals::duals_of_duals;
 use crate::error::FanFileError;
@@ -77,6 +79,20 @@ fn cones_of(alloc: Global, file: &FanFile) -> Result<Vec<Rays>, GordanError>
     Ok(cones)
 }
 
+/// Whether the rows of a file lie inside its cones, where it has such. Cones are counted in 32 bits.
+fn check_interiors(file: &FanFile, cones: &[Rays]) -> Result<(), FanFileError>
+    requires sound { IsSoundFile file.now }
+    requires cones { AreConesOfFile file.now cones.now }
+    requires count { length cones.now < 2 ^ 32 }
+    ensures ok { OnOk result (AreCertified file.now.ambient cones.now file.now.interiors) }
+    ensures err { IfErr result (IsFanFault file.now) }
+{
+    match &file.interiors {
+        None => Ok(()),
+        Some(rows) => check_certificates(file.ambient, cones, rows.as_slice()),
+    }
+}
+
 /// The fan of the cones of a file. Cones are counted in 32 bits.
 fn fan_of(alloc: Global, file: &FanFile) -> Result<Fan, FanFileError>
     requires sound { IsSoundFile file.now }
@@ -88,6 +104,7 @@ fn fan_of(alloc: Global, file: &FanFile) -> Result<Fan, FanFileError>
     if cones.len() > u32::MAX as usize {
         return Err(FanFileError::Memory);
     }
+    check_interiors(file, &cones)?;
     let fan = Fan::from_cones(alloc, file.ambient, cones)?;
     Ok(fan)
 }
@@ -100,7 +117,10 @@ fn fan_of(alloc: Global, file: &FanFile) -> Result<Fan, FanFileError>
 /// Those of `read_file`; then
 /// - `Cone`: an operation that leaves the range, of finding the rays of the dual cone of one of the cones, whose inequalities are
 ///   its rays and whose equations are the vectors of the lineality space, or of finding those of the cone itself by the rays and the
-///   lineality basis of the dual cone; or, where all cones are found, one of making their fan, as `Fan::from_cones` has it;
+///   lineality basis of the dual cone; or, behind `BadCertificate`, one of making their fan, as `Fan::from_cones` has it;
+/// - `BadCertificate`, in the version 2: the smaller number, where there aren't as many rows of `MAXIMAL_INTERIORS` as cones; else the first
+///   row that isn't inside its cone. `Wide` names the first product or sum of the test of a row, with a row of its cone, that leaves the
+///   range, where the rows before it are inside their cones;
 /// - `NotAFan`: the first pair of cones, by the first place and then by the second, whose meet isn't a face of both.
 ///
 /// `Memory` may come at any time; there is none for `2^32` cones or more.
@@ -108,7 +128,7 @@ pub fn read(alloc: Global, source: &[u8]) -> Result<Fan, FanFileError>
     ensures fan { IfOk result (IsFanOfText source.now) }
     ensures ambient { IfOk result (λ h. h.ambient ≤ MOST_VARIABLES) }
     ensures err { IfErr result (IsFanFileRefusal source.now) }
-    ensures complete { (f : FanFile) → IsFileOf source.now f → IsSoundFile f → IsFileWithinLimits f → AreFileConesMeeting f → MatchResult result (IsFanOfFile f) (λ e. e ≡ Memory) }
+    ensures complete { (f : FanFile) → IsFileOf source.now f → IsSoundFile f → IsFileWithinLimits f → IsCertifiedFile f → AreFileConesMeeting f → MatchResult result (IsFanOfFile f) (λ e. e ≡ Memory) }
     ensures always { (e : FanFileError) → IsFanFileRefusal source.now e → (IsOfLimits e → ⊥) → MatchResult result (λ _. ⊥) (λ d. (d ≡ e) ⊎ IsOfLimits d) }
 {
     let file = read_file(alloc, source)?;

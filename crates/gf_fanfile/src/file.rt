@@ -1,17 +1,18 @@
-//! What a fan file says: its four sections, and what is asked of them before its cones are built.
-ghost use Rattle.std.specs.Prelude.{◌≡◌, ◌⊎◌, ◌<◌, ◌≤◌, ℕ, List, [], length, All, IfOk, IfSome, IfErr, MatchBool, MatchOption, MatchResult};
+//! What a fan file says: its sections, and what is asked of them before its cones are built.
+ghost use Rattle.std.specs.Prelude.{◌≡◌, ◌⊎◌, ◌<◌, ◌≤◌, ◌&&◌, is_none, ℕ, List, [], length, Some, All, IfOk, IfSome, IfErr, MatchBool, MatchOption, MatchResult};
 ghost use Rattle.gf_gordan.specs.Alternative.{AreRows};
 ghost use Rattle.gf_gordan.specs.Steps.{Failed};
 ghost use Rattle.gf_duality.specs.Rays.{Generated};
 ghost use Rattle.gf_text.specs.declared.TheConstants.{MOST_VARIABLES};
 ghost use Rattle.gf_fanfile.specs.declared.error.FanFileError.TheVariants.{Memory};
 ghost use Rattle.gf_fanfile.specs.Contents.{Says};
-ghost use Rattle.gf_fanfile.specs.Files.{IsFileOf, IsOutside, AreBelow, IsSoundFile, IsRayTestStep, AreTestsWithin, IsBehind, IsLengthFault, IsRayFault, IsNumberFault, IsFormFault, IsFileRefused, IsOfLimits};
+ghost use Rattle.gf_fanfile.specs.FanText.{is_second, IsKnownVersion};
+ghost use Rattle.gf_fanfile.specs.Files.{IsFileOf, IsOutside, AreBelow, interior_rows, IsSoundFile, IsRayTestStep, AreTestsWithin, IsBehind, IsLengthFault, IsRayFault, IsNumberFault, IsFormFault, IsFileRefused, IsOfLimits};
 
 use crate::cones::{ConeList, RayNumbers};
 use crate::error::FanFileError;
 use crate::rows::Vectors;
-use crate::sections::{Contents, contents_of};
+use crate::sections::{Contents, contents_of, is_second};
 use gf_gordan::{Answer, GordanError, strict};
 use gf_text::Section;
 use gf_vec::IntVec;
@@ -28,20 +29,46 @@ pub struct FanFile {
     pub lineality: Vectors,
     /// Cones as lists of numbers of rays.
     pub cones: ConeList,
+    /// In a file of version 2 a row for each of these cones, and none in others.
+    pub interiors: Option<Vectors>,
 }
 
-/// The file that these contents of a text make, where all four are there.
+/// The number of a version that is neither 1 nor 2.
+fn unknown(version: Option<u64>) -> Option<u64>
+    ensures { MatchOption result (IsKnownVersion version) (λ n. (version ≡ Some n) × ((n ≡ 1 → ⊥) × (n ≡ 2 → ⊥))) }
+{
+    match version {
+        None => None,
+        Some(1) => None,
+        Some(2) => None,
+        Some(number) => Some(number),
+    }
+}
+
+/// Whether rows for the maximal cones are wanting.
+fn lacks_interiors(version: Option<u64>, interiors: &Option<Vectors>) -> bool
+    ensures { result ≡ (is_second version && is_none interiors.now) }
+{
+    is_second(version) && interiors.is_none()
+}
+
+/// The file that these contents of a text make, where its version is known and all of its sections are there.
 fn whole(contents: Contents) -> Result<FanFile, FanFileError>
     requires { IfSome contents.ambient (λ n. n ≤ MOST_VARIABLES) }
     ensures file { IfOk result (λ f. (source : List ℕ) → Says source contents → IsFileOf source f) }
     ensures missing { IfErr result (λ e. (source : List ℕ) → Says source contents → IsFileRefused source e) }
 {
     let Contents {
+        version,
         ambient,
         rays,
         lineality,
         cones,
+        interiors,
     } = contents;
+    if let Some(number) = unknown(version) {
+        return Err(FanFileError::BadVersion { number });
+    }
     let Some(ambient) = ambient else {
         return Err(missing(Section::AmbientDim));
     };
@@ -54,11 +81,15 @@ fn whole(contents: Contents) -> Result<FanFile, FanFileError>
     let Some(cones) = cones else {
         return Err(missing(Section::MaximalCones));
     };
+    if lacks_interiors(version, &interiors) {
+        return Err(missing(Section::MaximalInteriors));
+    }
     Ok(FanFile {
         ambient: ambient as u32,
         rays,
         lineality,
         cones,
+        interiors,
     })
 }
 
@@ -160,6 +191,19 @@ fn check_numbers(count: usize, cones: &[RayNumbers]) -> Result<(), FanFileError>
     Ok(())
 }
 
+/// Whether each row for the maximal cones has `n` entries.
+///
+/// # Errors
+/// The length of the first row that hasn't.
+fn check_interiors(n: u32, interiors: &Option<Vectors>) -> Result<(), FanFileError>
+    ensures { MatchResult result (λ _. AreRows n (interior_rows interiors.now)) (IsLengthFault n (interior_rows interiors.now)) }
+{
+    match interiors {
+        None => Ok(()),
+        Some(rows) => check_lengths(n, rows.as_slice()),
+    }
+}
+
 /// Whether the cones of a file can be built.
 ///
 /// # Errors
@@ -175,6 +219,7 @@ fn check(alloc: Global, file: &FanFile) -> Result<(), FanFileError>
     let lineality = file.lineality.as_slice();
     check_lengths(n, rays)?;
     check_lengths(n, lineality)?;
+    check_interiors(n, &file.interiors)?;
     check_rays(alloc, n, rays, lineality)?;
     check_numbers(rays.len(), file.cones.as_slice())
 }
@@ -183,16 +228,18 @@ fn check(alloc: Global, file: &FanFile) -> Result<(), FanFileError>
 ///
 /// A `#` begins a comment to the end of its line. A line with the name of a section alone, a capital letter and then capital
 /// letters, digits and `_`, begins it. `AMBIENT_DIM` holds a number, `RAYS` and `LINEALITY_SPACE` a row on each line,
-/// `MAXIMAL_CONES` a list of numbers between braces on each line; what other sections hold isn't looked at, nor what stands
-/// before the first one.
+/// `MAXIMAL_CONES` a list of numbers between braces on each line. Where the first section is `FILE_VERSION`, it holds the version, a number: 1
+/// says nothing, and in the version 2 `MAXIMAL_INTERIORS` holds a row on each line. What other sections hold isn't looked at, nor what
+/// stands before the first one.
 ///
 /// # Errors
 /// In this order, and the first that holds:
 /// - `Syntax`, `TooWide` and `TooManyVariables` at the first place of the text where nothing that is read goes on to a
 ///   file's section, where a section's name comes a second time, or where the ambient dimension passes `MOST_VARIABLES`;
-/// - `Missing`: the first of the four sections that isn't there;
-/// - `Dimensions`: the ambient dimension is 0; the first row of the rays, and then of the lineality space, that hasn't as many
-///   entries;
+/// - `BadVersion`: the version is neither 1 nor 2;
+/// - `Missing`: the first of the four sections that isn't there, and then `MAXIMAL_INTERIORS` in the version 2;
+/// - `Dimensions`: the ambient dimension is 0; the first row of the rays, then of the lineality space, and then of `MAXIMAL_INTERIORS`, that
+///   hasn't as many entries;
 /// - `BadRay`: the first ray that lies in the lineality space; `Cone` names an operation of the test of a ray that leaves the
 ///   range, where the rays before it lie outside;
 /// - `BadRay`: the first number in a cone that isn't below the number of rays.

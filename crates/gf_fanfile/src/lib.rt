@@ -6,13 +6,16 @@
 #![tactic(auto)]
 
 mod again;
+mod certificates;
 mod cones;
 mod duals;
 mod error;
 mod fan;
 mod fan_writer;
 mod file;
+mod limits;
 mod lines;
+mod migration;
 mod numbers;
 mod parts;
 mod places;
@@ -30,6 +33,7 @@ pub use error::FanFileError;
 pub use fan::read;
 pub use fan_writer::write;
 pub use file::{FanFile, read_file};
+pub use migration::{migrate, migrated_files_are_whole};
 pub use parts::{FanParts, ListedCone};
 pub use rows::Vectors;
 pub use writer::write_parts;

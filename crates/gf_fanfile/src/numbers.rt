@@ -1,15 +1,15 @@
-//! The reading of a number on a line of its own.
+//! The reading of a number on a line of its own, and of the version of a file.
 ghost use Rattle.std.specs.Prelude.{◌≡◌, ◌≤◌, length, true, false, MatchOption};
 ghost use Rattle.gf_fanfile.specs.Lines.{content_from};
 ghost use Rattle.gf_fanfile.specs.NumberText.{number_step};
-ghost use Rattle.gf_fanfile.specs.FanText.{the_number, number_to, content_read, is_above, first_value};
+ghost use Rattle.gf_fanfile.specs.FanText.{the_number, number_to, content_read, is_above, first_value, version_number};
 ghost use Rattle.gf_fanfile.specs.Found.{IsReadSo, IsPlaceWithin, tokens_left};
 ghost use Rattle.gf_fanfile.specs.Given.{number_move};
 
 use crate::cones::MOST_NUMBER;
 use crate::error::{FanFileError, Reason, refused};
 use crate::places::{Place, content_at, place_of, text_of, token_at};
-use gf_text::{MOST_VARIABLES, Number, number_of};
+use gf_text::{Number, number_of};
 
 /// Before the number, behind it, or behind its line.
 #[derive(Clone, Copy)]
@@ -26,9 +26,6 @@ pub(crate) enum NumberStep {
     Done(u64),
     Halt(Reason),
 }
-
-/// The greatest ambient dimension.
-const MOST_DIMENSION: u64 = MOST_VARIABLES as u64;
 
 /// What a token does.
 fn step(state: NumberState, t: &[u8]) -> NumberStep
@@ -55,27 +52,27 @@ fn step(state: NumberState, t: &[u8]) -> NumberStep
     }
 }
 
-/// The first number, where it is above `MOST_VARIABLES` but not too wide.
-fn above(source: &[u8], place: Place) -> Option<u64>
+/// The first number, where it is above the limit but not too wide.
+fn above(source: &[u8], place: Place, limit: u64) -> Option<u64>
     requires { IsPlaceWithin source.now place }
-    ensures { MatchOption result (is_above MOST_VARIABLES (tokens_left source.now place) ≡ false) (λ n. (is_above MOST_VARIABLES (tokens_left source.now place) ≡ true) × (n ≡ first_value (tokens_left source.now place))) }
+    ensures { MatchOption result (is_above limit (tokens_left source.now place) ≡ false) (λ n. (is_above limit (tokens_left source.now place) ≡ true) × (n ≡ first_value (tokens_left source.now place))) }
 {
     let Some((token, _)) = token_at(source, place) else {
         return None;
     };
     match number_of(text_of(source, token), MOST_NUMBER) {
-        Number::Within(n) if n as u64 > MOST_DIMENSION => Some(n as u64),
+        Number::Within(n) if n as u64 > limit => Some(n as u64),
         _ => None,
     }
 }
 
-/// The ambient dimension in the content that begins at this place of the source.
-pub(crate) fn dimension_from(source: &[u8], from: usize) -> Result<u64, FanFileError>
+/// The number up to this limit in the content that begins at this place of the source.
+pub(crate) fn number_from(source: &[u8], from: usize, limit: u64) -> Result<u64, FanFileError>
     requires { from ≤ length source.now }
-    ensures { IsReadSo (λ n. the_number n) result (content_read (length source.now) (number_to MOST_VARIABLES) (content_from source.now from)) }
+    ensures { IsReadSo (λ n. the_number n) result (content_read (length source.now) (number_to limit) (content_from source.now from)) }
 {
     let (mut place, _) = content_at(source, from);
-    if let Some(count) = above(source, place) {
+    if let Some(count) = above(source, place, limit) {
         return Err(FanFileError::TooManyVariables { count });
     }
     let mut state = NumberState::Unread;
@@ -92,5 +89,20 @@ pub(crate) fn dimension_from(source: &[u8], from: usize) -> Result<u64, FanFileE
             }
         }
         place = rest;
+    }
+}
+
+/// The number that the content which begins at this place of the source begins with, and 0 where it begins with none.
+pub(crate) fn version_number(source: &[u8], from: usize) -> u64
+    requires { from ≤ length source.now }
+    ensures { result ≡ version_number (content_from source.now from) }
+{
+    let (place, _) = content_at(source, from);
+    let Some((token, _)) = token_at(source, place) else {
+        return 0;
+    };
+    match number_of(text_of(source, token), MOST_NUMBER) {
+        Number::Within(n) => n as u64,
+        _ => 0,
     }
 }

@@ -32,6 +32,8 @@ pub struct FanParts<'a> {
     pub cones: &'a [ListedCone],
     /// The maximal cones.
     pub maximal: &'a [ListedCone],
+    /// A vector for each of them, inside it.
+    pub interiors: &'a [IntVec],
 }
 
 impl<'a> Model for FanParts<'a> {
@@ -39,7 +41,7 @@ impl<'a> Model for FanParts<'a> {
 
     ghost Value = { FanWords };
 
-    ghost view = { λ p. record { ambient = p.ambient; rays = p.rays.now; lineality = p.lineality.now; orthogonal = p.orthogonal.now; cones = p.cones.now; maximal = p.maximal.now } };
+    ghost view = { λ p. record { ambient = p.ambient; rays = p.rays.now; lineality = p.lineality.now; orthogonal = p.orthogonal.now; cones = p.cones.now; maximal = p.maximal.now; interiors = p.interiors.now } };
 }
 
 /// The greatest dimension of these cones, and 0 where there is none.

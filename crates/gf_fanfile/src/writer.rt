@@ -237,10 +237,11 @@ fn push_cones_section(out: &mut Vec<u8>, name: &str, cones: &[ListedCone]) -> Re
     Ok(())
 }
 
-/// Adds the sections of the dimensions, the rays and the spaces.
+/// Adds the sections of the version, the dimensions, the rays and the spaces.
 fn push_front(out: &mut Vec<u8>, parts: &FanParts) -> Result<(), AllocError>
     ensures { OnOk result (out.new.items ≡ out.old.items ++ sections_text (front_sections parts.now)) }
 {
+    push_number_section(out, "FILE_VERSION", 2)?;
     push_number_section(out, "AMBIENT_DIM", parts.ambient as usize)?;
     push_dim_section(out, parts.cones)?;
     push_number_section(out, "LINEALITY_DIM", parts.lineality.len())?;
@@ -251,7 +252,7 @@ fn push_front(out: &mut Vec<u8>, parts: &FanParts) -> Result<(), AllocError>
     Ok(())
 }
 
-/// Adds the sections of the cones.
+/// Adds the sections of the cones, and that of the vectors for the maximal ones.
 fn push_back(alloc: Global, out: &mut Vec<u8>, parts: &FanParts) -> Result<(), AllocError>
     ensures { OnOk result (out.new.items ≡ out.old.items ++ sections_text (back_sections parts.now)) }
 {
@@ -262,17 +263,18 @@ fn push_back(alloc: Global, out: &mut Vec<u8>, parts: &FanParts) -> Result<(), A
     push_truth_section(out, "PURE", is_pure(parts.maximal))?;
     push_cones_section(out, "CONES", parts.cones)?;
     push_cones_section(out, "MAXIMAL_CONES", parts.maximal)?;
+    push_rows_section(out, "MAXIMAL_INTERIORS", parts.interiors)?;
     Ok(())
 }
 
 /// The text of a fan.
 ///
-/// Each section is its name in a line, its lines, and an empty line. `AMBIENT_DIM`, `DIM` (-1 where there is no cone) and
+/// Each section is its name in a line, its lines, and an empty line. `FILE_VERSION` has 2; `AMBIENT_DIM`, `DIM` (-1 where there is no cone) and
 /// `LINEALITY_DIM` have a number; `RAYS` a row for each ray, with its number behind it; `N_RAYS` their number;
 /// `LINEALITY_SPACE` and `ORTH_LINEALITY_SPACE` a row for each vector; `F_VECTOR` the numbers of cones of each dimension from
 /// that of the lineality space on; `SIMPLICIAL` whether each maximal cone has as many rays as its dimension is above that of
 /// the lineality space; `PURE` whether the maximal cones have one dimension; `CONES` and `MAXIMAL_CONES` the numbers of the
-/// rays of each cone, where the first of each dimension has it behind it.
+/// rays of each cone, where the first of each dimension has it behind it; `MAXIMAL_INTERIORS` a row for each maximal cone.
 ///
 /// # Errors
 /// Want of memory.

@@ -22,7 +22,7 @@ use Rattle.gf_front.specs.declared.command_line.Job.TheVariants as jobs
 use Rattle.gf_front.specs.declared.choice.Choice.{Choice}
 use Rattle.gf_front.specs.declared.choice.Choice.TheVariants as choices
 use Rattle.gf_front.specs.declared.plain.PlainCommand.{PlainCommand}
-use Rattle.gf_front.specs.Table.{Entry, table, commands, with_options, plain_commands, plain_named, rule, is_needed, shape, most_pairs, most_workers, usual_pairs, number_of, buchberger, bases, plain, leading_terms, groebner_cone, weight_vector, to_polyhedral_fan, fan_common_refinement}
+use Rattle.gf_front.specs.Table.{Entry, table, commands, with_options, plain_commands, plain_named, rule, is_needed, shape, most_pairs, most_workers, most_number, usual_pairs, number_of, buchberger, bases, plain, leading_terms, groebner_cone, weight_vector, to_polyhedral_fan, fan_common_refinement, generated, saturation}
 use Rattle.gf_front.specs.Jobs.{HasMatch, HasNumbersInRange, IsJobOfMatch, match_of, job_in, job_of}
 use Rattle.gf_front.specs.Options.{HoldsChoice, HoldChoices, LiesBetween, NamesEntry, IsCommand}
 use Rattle.gf_front.proofs.MatchLaws.{Enters, accepted, both, entered_rows, level_rows, rows_pass}
@@ -289,6 +289,17 @@ bases_keeps rows h =
     let w = number_within (codes "workers") 1 most_workers 1 rows h.1.1.1.1.0.1 (omega arith) (omega arith) in
     (limit_within (codes "limit") 1 most_pairs rows h.1.0.1, p.0, p.1, w.0, w.1)
 
+generated_keeps : (rows : List Row) → HoldChoices generated.options rows → HasNumbersInRange (generated.job rows)
+generated_keeps rows h =
+    let k = number_within (codes "number") 0 most_number 0 rows h.0.0.1 (omega arith) (omega arith) in
+    let l = number_within (codes "limit") 1 most_pairs 1000 rows h.1.0.1 (omega arith) (omega arith) in
+    let p = pairs_within rows h.1.1.0.1 in
+    let w = number_within (codes "workers") 1 most_workers 1 rows h.1.1.1.0.1 (omega arith) (omega arith) in
+    (k.1, l.0, l.1, p.0, p.1, w.0, w.1)
+
+saturation_keeps : (rows : List Row) → HoldChoices saturation.options rows → HasNumbersInRange (saturation.job rows)
+saturation_keeps rows h = pairs_within rows h.0.1
+
 options_keep : AllKeepRanges with_options
 options_keep =
     next buchberger _ buchberger_keeps
@@ -298,7 +309,9 @@ options_keep =
     (next weight_vector _ (λ rows h. tt)
     (next to_polyhedral_fan _ (λ rows h. tt)
     (next fan_common_refinement _ (λ rows h. tt)
-    none_keep))))))
+    (next generated _ generated_keeps
+    (next saturation _ saturation_keeps
+    none_keep))))))))
 
 -- commands without options have no numbers
 plains_keep : (cs : List (Text × PlainCommand)) (es : List Entry) → AllKeepRanges es → AllKeepRanges (map plain cs ++ es)

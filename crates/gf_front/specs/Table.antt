@@ -203,9 +203,39 @@ fan_common_refinement = record {
   job = λ rows. jobs.FanCommonRefinement (record { first = text_of (codes "i1") rows; second = text_of (codes "i2") rows });
 }
 
+-- the greatest number that stands for an ideal
+abbrev pub most_number : ℕ
+most_number = 2147483646
+
+-- `_generated` with its options
+abbrev pub generated : Entry
+generated = record {
+  name = codes "_generated";
+  options =
+      (codes "number", choices.BareNumber 0 most_number)
+      ∷ (codes "limit", an_amount)
+      ∷ (codes "pairs", an_amount)
+      ∷ (codes "workers", choices.Number 1 most_workers)
+      ∷ [];
+  job = λ rows. jobs.Generated (record {
+    number = number_of (codes "number") 0 rows;
+    limit = number_of (codes "limit") 1000 rows;
+    pairs = number_of (codes "pairs") usual_pairs rows;
+    workers = number_of (codes "workers") 1 rows;
+  });
+}
+
+-- `_saturation` with its option
+abbrev pub saturation : Entry
+saturation = record {
+  name = codes "_saturation";
+  options = (codes "pairs", an_amount) ∷ [];
+  job = λ rows. jobs.Saturation (record { pairs = number_of (codes "pairs") usual_pairs rows });
+}
+
 -- those with options
 abbrev pub with_options : List Entry
-with_options = buchberger ∷ bases ∷ leading_terms ∷ groebner_cone ∷ weight_vector ∷ to_polyhedral_fan ∷ fan_common_refinement ∷ []
+with_options = buchberger ∷ bases ∷ leading_terms ∷ groebner_cone ∷ weight_vector ∷ to_polyhedral_fan ∷ fan_common_refinement ∷ generated ∷ saturation ∷ []
 
 -- those without options, by their names
 abbrev pub plain_commands : List (Text × PlainCommand)
@@ -221,6 +251,7 @@ plain_commands =
     ∷ (codes "_tropicalhypersurface", plains.TropicalHypersurface)
     ∷ (codes "_tropicalintersection", plains.TropicalIntersection)
     ∷ (codes "_minkowskisum", plains.MinkowskiSum)
+    ∷ (codes "_migratefan", plains.MigrateFan)
     ∷ []
 
 -- the first of these that has the name

@@ -3,14 +3,15 @@
 //! clap reads the words by the table; what it would say of a fault is never printed.
 ghost use Rattle.std.specs.Prelude.{◌≡◌, [], IfOk, IsErrOf, map, string_bytes, codes, Some};
 ghost use Rattle.clap.specs.Words.{found_of, rows_of, one_of, kind_of};
-ghost use Rattle.gf_front.specs.Table.{most_workers, flag_of, number_of, number_where, text_of, buchberger, bases, leading_terms, groebner_cone, weight_vector, to_polyhedral_fan, fan_common_refinement};
+ghost use Rattle.gf_front.specs.Table.{most_workers, flag_of, number_of, number_where, text_of, buchberger, bases, leading_terms, groebner_cone, weight_vector, to_polyhedral_fan, fan_common_refinement, generated, saturation};
 ghost use Rattle.gf_front.specs.Jobs.{renamed, HasMatch, IsJobOfMatch, IsMatched, IsJobOf, HasNumbersInRange, job_of};
 ghost use Rattle.gf_front.specs.Options.{HoldsFlag, HoldsUnsigned, HoldsNumber, HoldsText, HoldChoices, IsCommand};
 
 use crate::name::Name;
 use crate::options::{
-    BasesOptions, BuchbergerOptions, FanCommonRefinementOptions, GroebnerConeOptions,
-    LeadingTermsOptions, ToPolyhedralFanOptions, WeightVectorOptions,
+    BasesOptions, BuchbergerOptions, FanCommonRefinementOptions, GeneratedOptions,
+    GroebnerConeOptions, LeadingTermsOptions, SaturationOptions, ToPolyhedralFanOptions,
+    WeightVectorOptions,
 };
 use crate::plain::{PlainCommand, plain_command};
 use crate::table::table;
@@ -40,6 +41,10 @@ pub enum Job {
     ToPolyhedralFan(ToPolyhedralFanOptions),
     /// The fan of the meets of the cones of two fans.
     FanCommonRefinement(FanCommonRefinementOptions),
+    /// A summary of the bases of the ideal that a number stands for.
+    Generated(GeneratedOptions),
+    /// The saturation of a set's ideal by the product of the variables.
+    Saturation(SaturationOptions),
 }
 
 /// Why there is no job.
@@ -182,6 +187,29 @@ fn fan_common_refinement(alloc: Global, found: &ArgMatches) -> Result<Job, Alloc
     }))
 }
 
+/// The job of `_generated`.
+fn generated(found: &ArgMatches) -> Job
+    requires { HoldChoices generated.options (rows_of (found_of found.now)) }
+    ensures { generated.job (rows_of (found_of found.now)) ≡ result }
+{
+    Job::Generated(GeneratedOptions {
+        number: number(found, "number", 0),
+        limit: number(found, "limit", 1000),
+        pairs: number(found, "pairs", PAIRS),
+        workers: workers(found),
+    })
+}
+
+/// The job of `_saturation`.
+fn saturation(found: &ArgMatches) -> Job
+    requires { HoldChoices saturation.options (rows_of (found_of found.now)) }
+    ensures { saturation.job (rows_of (found_of found.now)) ≡ result }
+{
+    Job::Saturation(SaturationOptions {
+        pairs: number(found, "pairs", PAIRS),
+    })
+}
+
 /// The job of a command with its options.
 fn job_of(alloc: Global, name: &str, found: &ArgMatches) -> Result<Job, AllocError>
     requires { IsCommand (name.now, rows_of (found_of found.now)) }
@@ -198,6 +226,8 @@ fn job_of(alloc: Global, name: &str, found: &ArgMatches) -> Result<Job, AllocErr
         "_weightvector" => weight_vector(found),
         "_topolyhedralfan" => to_polyhedral_fan(found),
         "_fancommonrefinement" => fan_common_refinement(alloc, found)?,
+        "_generated" => generated(found),
+        "_saturation" => saturation(found),
         _ => unreachable!(),
     })
 }

@@ -254,6 +254,26 @@ pub(crate) fn bad_ray<E: Sink>(faults: &mut E, number: u64) -> Result<(), WriteF
     write_numbered(faults, "E20 bad ray ", number)
 }
 
+pub(crate) fn bad_version<E: Sink>(faults: &mut E, number: u64) -> Result<(), WriteFault>
+    ensures { Told (E.held faults.old) (E.held faults.new) (E.faults faults.old) (E.faults faults.new)
+        (message [] (Refusal.BadVersion number)) result }
+{
+    write_numbered(faults, "E29 bad file version ", number)
+}
+
+pub(crate) fn bad_certificate<E: Sink>(faults: &mut E, cone: u32) -> Result<(), WriteFault>
+    ensures { Told (E.held faults.old) (E.held faults.new) (E.faults faults.old) (E.faults faults.new)
+        (message [] (Refusal.BadCertificate cone)) result }
+{
+    write_pieces(
+        faults,
+        &[
+            Piece::Text("E28 bad certificate: cone "),
+            Piece::Index(cone),
+        ],
+    )
+}
+
 pub(crate) fn dimensions<E: Sink>(faults: &mut E, left: u64, right: u64) -> Result<(), WriteFault>
     ensures { Told (E.held faults.old) (E.held faults.new) (E.faults faults.old) (E.faults faults.new)
         (message [] (Refusal.Dimensions left right)) result }

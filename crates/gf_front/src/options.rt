@@ -63,6 +63,19 @@ pub struct ToPolyhedralFanOptions {
     pub restrict: bool,
 }
 
+/// What `_generated` is asked.
+#[derive(Clone, Copy, Debug, PartialEq, Eq)]
+pub struct GeneratedOptions {
+    /// The number that stands for an ideal, from 0 to 2147483646.
+    pub number: u64,
+    /// `--limit N`: so many bases are summed up at most; 1000 without it.
+    pub limit: u64,
+    /// `--pairs N`: the budget of pairs of each run of Buchberger's algorithm.
+    pub pairs: u64,
+    /// `--workers N`: how many workers list them.
+    pub workers: u32,
+}
+
 /// The options of `_fancommonrefinement`.
 #[derive(Debug, Drop, PartialEq, Eq)]
 pub struct FanCommonRefinementOptions {
@@ -70,4 +83,11 @@ pub struct FanCommonRefinementOptions {
     pub first: Name,
     /// `--i2 FILE`: the file of the second fan.
     pub second: Name,
+}
+
+/// The option of `_saturation`.
+#[derive(Clone, Copy, Debug, PartialEq, Eq)]
+pub struct SaturationOptions {
+    /// `--pairs N`: the budget of pairs of each run of Buchberger's algorithm.
+    pub pairs: u64,
 }

@@ -28,10 +28,12 @@ pub enum PlainCommand {
     TropicalIntersection,
     /// The fan of the Minkowski sum of the Newton polytopes of a set of polynomials.
     MinkowskiSum,
+    /// The fan of a fan file, as a fan file of the latest version.
+    MigrateFan,
 }
 
 /// Each command without options, with its name.
-pub(crate) const PLAIN_COMMANDS: [(&str, PlainCommand); 11] = [
+pub(crate) const PLAIN_COMMANDS: &[(&str, PlainCommand)] = &[
     (
         "_ismarkedgroebnerbasis",
         PlainCommand::IsMarkedGroebnerBasis,
@@ -46,6 +48,7 @@ pub(crate) const PLAIN_COMMANDS: [(&str, PlainCommand); 11] = [
     ("_tropicalhypersurface", PlainCommand::TropicalHypersurface),
     ("_tropicalintersection", PlainCommand::TropicalIntersection),
     ("_minkowskisum", PlainCommand::MinkowskiSum),
+    ("_migratefan", PlainCommand::MigrateFan),
 ];
 
 /// The first of these commands that has the name.
@@ -64,5 +67,5 @@ fn named(commands: &[(&str, PlainCommand)], name: &str) -> Option<PlainCommand>
 pub(crate) fn plain_command(name: &str) -> Option<PlainCommand>
     ensures { result ≡ plain_named name.now plain_commands }
 {
-    named(&PLAIN_COMMANDS, name)
+    named(PLAIN_COMMANDS, name)
 }

@@ -30,6 +30,7 @@ IsOfText _ = ⊥
 abbrev pub IsOfForm : Refusal → Type 0
 IsOfForm (refusals.NotTermOrder index) = Unit {0}
 IsOfForm (refusals.Missing section) = Unit {0}
+IsOfForm (refusals.BadVersion number) = Unit {0}
 IsOfForm (refusals.Dimensions left right) = Unit {0}
 IsOfForm (refusals.ZeroPolynomial set index) = Unit {0}
 IsOfForm (refusals.NotHomogeneous polynomial first second) = Unit {0}
@@ -57,6 +58,7 @@ IsOfTest (refusals.NotBasis set first second remainder) = Unit {0}
 IsOfTest (refusals.Inconsistent set multipliers) = Unit {0}
 IsOfTest (refusals.NotAFan first second) = Unit {0}
 IsOfTest (refusals.BadRay number) = Unit {0}
+IsOfTest (refusals.BadCertificate cone) = Unit {0}
 IsOfTest _ = ⊥
 
 -- the second is the first; or both say that no positive weight gives the marking of a set, which different multipliers may show
@@ -76,6 +78,7 @@ IsOfWork (refusals.NotBasis set first second remainder) = Unit {0}
 IsOfWork (refusals.Inconsistent set multipliers) = Unit {0}
 IsOfWork (refusals.NotAFan first second) = Unit {0}
 IsOfWork (refusals.BadRay number) = Unit {0}
+IsOfWork (refusals.BadCertificate cone) = Unit {0}
 IsOfWork (refusals.ListLimit written) = Unit {0}
 IsOfWork refusals.Memory = Unit {0}
 IsOfWork _ = ⊥

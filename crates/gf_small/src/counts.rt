@@ -34,8 +34,8 @@ pub(crate) struct Counts {
     pub(crate) max_terms: u128,
 }
 
-/// The total degree of a set.
-fn degree_of_set(items: &[Marked]) -> u64
+/// The total degree of a set: that of its polynomial of greatest degree; 0 where it has none.
+pub fn degree_of_set(items: &[Marked]) -> u64
     ensures { result ≡ greatest (map (λ b. degree_of b.poly) items.now) }
 {
     let mut most = 0;

@@ -12,7 +12,7 @@ mod space;
 mod statistics;
 mod unions;
 
-pub use counts::Stats;
+pub use counts::{Stats, degree_of_set};
 pub use homogenization::{SmallError, homogenize};
 pub use initial::initial_forms;
 pub use leading::leading_terms;

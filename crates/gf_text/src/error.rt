@@ -20,13 +20,14 @@ pub enum Kind {
     ZeroDenominator,
 }
 
-/// The sections that a fan file has to have.
+/// The sections that a fan file has to have, the last of them in its version 2 alone.
 #[derive(Clone, Copy, Debug, PartialEq, Eq)]
 pub enum Section {
     AmbientDim,
     Rays,
     LinealitySpace,
     MaximalCones,
+    MaximalInteriors,
 }
 
 /// Why a machine can't take a token, or the end of the text.

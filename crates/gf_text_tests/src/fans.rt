@@ -8,7 +8,10 @@ use std::process::Abort;
 use std::test::Fail;
 
 /// The rays of the plane whose sum is zero.
-const LINE_TEXT: &[u8] = b"AMBIENT_DIM
+const LINE_TEXT: &[u8] = b"FILE_VERSION
+2
+
+AMBIENT_DIM
 2
 
 DIM
@@ -51,7 +54,16 @@ MAXIMAL_CONES
 {1}
 {2}
 
+MAXIMAL_INTERIORS
+-1 0
+0 -1
+1 1
+
 ";
+
+/// The same fan as an old file.
+const OLD_TEXT: &[u8] =
+    b"AMBIENT_DIM\n2\nRAYS\n-1 0\n0 -1\n1 1\nLINEALITY_SPACE\nMAXIMAL_CONES\n{0}\n{1}\n{2}\n";
 
 /// No cones are built of this text, and this is why.
 fn check_refusal(rt: &impl Abort, alloc: Global, source: &[u8], wanted: FanFileError) {
@@ -103,6 +115,32 @@ fn refused_files(rt: HostRuntime) {
             }),
         ),
         (
+            b"FILE_VERSION\n3\nAMBIENT_DIM\n1\nMAXIMAL_INTERIORS\nx\n",
+            FanFileError::BadVersion { number: 3 },
+        ),
+        (b"FILE_VERSION\n0\n", FanFileError::BadVersion { number: 0 }),
+        (
+            b"FILE_VERSION\n2\nAMBIENT_DIM\n1\nRAYS\n1\nLINEALITY_SPACE\nMAXIMAL_CONES\n{0}\n",
+            FanFileError::Missing {
+                section: Section::MaximalInteriors,
+            },
+        ),
+        (
+            b"FILE_VERSION\n2\nAMBIENT_DIM\n1\nRAYS\n0\nLINEALITY_SPACE\nMAXIMAL_CONES\n{0}\nMAXIMAL_INTERIORS\n1 2\n",
+            FanFileError::Dimensions { left: 2, right: 1 },
+        ),
+        (
+            b"FILE_VERSION\n9223372036854775808\n",
+            FanFileError::TooWide { at: 13 },
+        ),
+        (
+            b"FILE_VERSION\nAMBIENT_DIM\n25\n",
+            FanFileError::Syntax(Syntax {
+                at: 13,
+                kind: Kind::Unexpected,
+            }),
+        ),
+        (
             b"A\nA # again\n",
             FanFileError::Syntax(Syntax {
                 at: 2,
@@ -136,6 +174,64 @@ MAXIMAL_CONES
     check_refusal(&rt, alloc, text, FanFileError::Cone(wanted));
 }
 
+/// The fan of a text isn't read, and this is why.
+fn check_fan_refusal(rt: &impl Abort, alloc: Global, source: &[u8], wanted: FanFileError) {
+    match read(alloc, source) {
+        Ok(_) => assert!(rt; false, "a refusal"),
+        Err(error) => assert!(rt; error == wanted),
+    }
+}
+
+#[test]
+fn rows_that_are_outside(rt: HostRuntime) {
+    let alloc = rt.alloc();
+    let texts = [
+        (
+            b"FILE_VERSION\n2\nAMBIENT_DIM\n1\nRAYS\n1\nLINEALITY_SPACE\nMAXIMAL_CONES\n{0}\nMAXIMAL_INTERIORS\n-1\n".as_slice(),
+            0,
+        ),
+        (
+            b"FILE_VERSION\n2\nAMBIENT_DIM\n1\nRAYS\n1\nLINEALITY_SPACE\nMAXIMAL_CONES\n{0}\nMAXIMAL_INTERIORS\n0\n",
+            0,
+        ),
+        (
+            b"FILE_VERSION\n2\nAMBIENT_DIM\n1\nRAYS\n1\nLINEALITY_SPACE\nMAXIMAL_CONES\n{0}\nMAXIMAL_INTERIORS\n",
+            0,
+        ),
+        // On a face.
+        (
+            b"FILE_VERSION\n2\nAMBIENT_DIM\n2\nRAYS\n1 0\n0 1\nLINEALITY_SPACE\nMAXIMAL_CONES\n{0 1}\nMAXIMAL_INTERIORS\n1 0\n",
+            0,
+        ),
+        // In another order.
+        (
+            b"FILE_VERSION\n2\nAMBIENT_DIM\n1\nRAYS\n1\n-1\nLINEALITY_SPACE\nMAXIMAL_CONES\n{0}\n{1}\nMAXIMAL_INTERIORS\n3\n2\n",
+            1,
+        ),
+    ];
+    for (source, cone) in texts {
+        check_fan_refusal(&rt, alloc, source, FanFileError::BadCertificate { cone });
+    }
+}
+
+#[test]
+fn versions(rt: HostRuntime) -> Result<(), Fail> {
+    let alloc = rt.alloc();
+    // A version that isn't told first says nothing.
+    let texts = [
+        b"FILE_VERSION\n1\nAMBIENT_DIM\n1\nRAYS\n1\nLINEALITY_SPACE\nMAXIMAL_CONES\n{0}\nMAXIMAL_INTERIORS\nx\n".as_slice(),
+        b"AMBIENT_DIM\n1\nFILE_VERSION\n3 x\nRAYS\n1\nLINEALITY_SPACE\nMAXIMAL_CONES\n{0}\n",
+        b"FILE_VERSION\n2\nAMBIENT_DIM\n1\nRAYS\n1\nLINEALITY_SPACE\nMAXIMAL_CONES\n{0}\nMAXIMAL_INTERIORS\n7\n",
+    ];
+    for text in texts {
+        let fan = read(alloc, text).ok().ok_or("a fan")?;
+        assert!(rt; fan.ambient() == 1);
+    }
+    let text = written_again(alloc, OLD_TEXT)?;
+    assert!(rt; text.as_slice() == LINE_TEXT);
+    Ok(())
+}
+
 #[test]
 fn cones_that_are_no_fan(rt: HostRuntime) {
     let alloc = rt.alloc();
@@ -158,7 +254,7 @@ fn cones_that_are_no_fan(rt: HostRuntime) {
 /// The text of the fan of a text.
 fn written_again(alloc: Global, source: &[u8]) -> Result<Vec<u8>, Fail> {
     let fan = read(alloc, source).ok().ok_or("a fan")?;
-    Ok(write(alloc, &fan)?)
+    Ok(write(alloc, &fan).ok().ok_or("a text")?)
 }
 
 #[test]
@@ -187,6 +283,11 @@ fn the_text_of_a_fan(rt: HostRuntime) -> Result<(), Fail> {
         IntVec::from_slice(alloc, &[1, 0])?,
         IntVec::from_slice(alloc, &[0, 1])?,
     ];
+    let interiors = [
+        IntVec::from_slice(alloc, &[-1, 0])?,
+        IntVec::from_slice(alloc, &[0, -1])?,
+        IntVec::from_slice(alloc, &[1, 1])?,
+    ];
     let maximal = [
         cone(alloc, 1, &[0])?,
         cone(alloc, 1, &[1])?,
@@ -205,6 +306,7 @@ fn the_text_of_a_fan(rt: HostRuntime) -> Result<(), Fail> {
         orthogonal: orthogonal.as_slice(),
         cones: cones.as_slice(),
         maximal: maximal.as_slice(),
+        interiors: interiors.as_slice(),
     };
     let text = write_parts(alloc, &parts)?;
     assert!(rt; text.as_slice() == LINE_TEXT);

@@ -186,9 +186,26 @@ fn other_commands_have_their_jobs(rt: HostRuntime) -> Result<(), Fail> {
             "Ok(ToPolyhedralFan(ToPolyhedralFanOptions { restrict: true }))",
         ),
         ("_homogeneityspace", "Ok(Plain(HomogeneitySpace))"),
+        ("_migratefan", "Ok(Plain(MigrateFan))"),
         ("_tropicalhypersurface", "Ok(Plain(TropicalHypersurface))"),
         ("_tropicalintersection", "Ok(Plain(TropicalIntersection))"),
         ("_minkowskisum --", "Ok(Plain(MinkowskiSum))"),
+        (
+            "_saturation",
+            "Ok(Saturation(SaturationOptions { pairs: 100000000 }))",
+        ),
+        (
+            "_saturation --pairs 7",
+            "Ok(Saturation(SaturationOptions { pairs: 7 }))",
+        ),
+        (
+            "_generated 0",
+            "Ok(Generated(GeneratedOptions { number: 0, limit: 1000, pairs: 100000000, workers: 1 }))",
+        ),
+        (
+            "_generated --workers 4 --limit 7 2147483646",
+            "Ok(Generated(GeneratedOptions { number: 2147483646, limit: 7, pairs: 100000000, workers: 4 }))",
+        ),
     ] {
         let job = answered(rt.alloc(), line)?;
         let shown = format!(in rt.alloc(); "{job:?}")?;
@@ -298,7 +315,12 @@ fn other_words_are_usage(rt: HostRuntime) -> Result<(), Fail> {
         "_groebnercone --certificates --certificates",
         "_groebnercone -m",
         "_tropicalintersection --basistest",
-        "_saturation",
+        "_saturation -w",
+        "_saturation --pairs 0",
+        "_generated",
+        "_generated 2147483647",
+        "_generated -1",
+        "_generated 1 2",
         "_buchberger --limit 3",
         // A file is missing, or there is one too many.
         "_fancommonrefinement",

@@ -392,6 +392,12 @@ stopped_root o ring set held n m r (e, h, q) = subst (λ z. IsStoppedFor (bases_
 
 -- ---- lines without a ring, and faults
 
+pub unnamed_basis : (e : BasisError) → IsUnnamed (without_names (of_basis e))
+unnamed_basis (basis_errors.Overflow x) = record { ring = refl; named = λ lent is. tt }
+unnamed_basis (basis_errors.Exponent x) = record { ring = refl; named = λ lent is. tt }
+unnamed_basis (basis_errors.PairBudget basis unsettled) = record { ring = refl; named = λ lent is. tt }
+unnamed_basis basis_errors.Memory = record { ring = refl; named = λ lent is. tt }
+
 pub unnamed_tree : (e : TreeError) → IsUnnamed (without_names (of_tree e))
 unnamed_tree (tree_errors.Overflow x) = record { ring = refl; named = λ lent is. tt }
 unnamed_tree (tree_errors.Exponent x) = record { ring = refl; named = λ lent is. tt }

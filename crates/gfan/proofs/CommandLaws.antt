@@ -1,5 +1,5 @@
 -- The command of each job is lawful.
--- To cite: lawful, one_source.
+-- To cite: lawful, list_source, one_source.
 use Rattle.std.specs.Prelude.{◌≡◌, Bool, true, false, [], ◌∷◌, length}
 use Rattle.std.proofs.Common.{refl, subst}
 use Rattle.gf_front.specs.declared.command_line.Job.{Job}
@@ -7,6 +7,7 @@ use Rattle.gf_front.specs.declared.command_line.Job.TheVariants as jobs
 use Rattle.gf_front.specs.declared.plain.PlainCommand.{PlainCommand}
 use Rattle.gf_front.specs.declared.plain.PlainCommand.TheVariants as plains
 use Rattle.gf_front.specs.declared.options.FanCommonRefinementOptions.{FanCommonRefinementOptions}
+use Rattle.gf_front.specs.declared.options.GeneratedOptions.{GeneratedOptions}
 use Rattle.gf_items.specs.Refusals.{IsOfTest}
 use Rattle.gf_frame.specs.Loading.{Origin}
 use Rattle.gf_frame.proofs.CommandLaws.{IsLawful}
@@ -29,21 +30,25 @@ use Rattle.gfan.specs.HomogeneitySpace.{nonzero_of, homogeneity_space_command}
 use Rattle.gfan.specs.declared.tropical.TropicalFan.{TropicalFan}
 use Rattle.gfan.specs.declared.tropical.TropicalFan.TheVariants as fans
 use Rattle.gfan.specs.Tropical.{tropical_command}
+use Rattle.gfan.specs.MigrateFan.{migrate_fan_command}
 use Rattle.gfan.specs.declared.bases.ListOptions.{ListOptions}
 use Rattle.gfan.specs.declared.told_cone.ConeOptions.{ConeOptions}
-use Rattle.gfan.specs.Commands.{options, list_options, cone_options, plain_command, list_command, command_of}
+use Rattle.gfan.specs.Commands.{options, list_options, cone_options, plain_command, list_command, command_of, ReadsInputAlone}
 use Rattle.gfan.proofs.CheckedSetLaws.{check_not_listed, test_cause_untested}
 use Rattle.gfan.proofs.WeightVectorLaws.{weight_vector_exact, weight_vector_tested, unweighed_not_listed}
 use Rattle.gfan.proofs.GroebnerConeLaws.{cone_exact, cone_tested, cone_not_listed}
 use Rattle.gfan.proofs.ToPolyhedralFanLaws.{to_polyhedral_fan_exact, to_polyhedral_fan_tested, no_fan_not_listed}
 use Rattle.gfan.proofs.HomogeneitySpaceLaws.{homogeneity_space_exact, homogeneity_space_tested, no_space_not_listed}
-use Rattle.gfan.proofs.TropicalLaws.{tropical_exact, tropical_tested}
+use Rattle.gfan.proofs.TropicalLaws.{tropical_exact, tropical_tested, tropical_not_listed}
 use Rattle.gfan.proofs.ToolLaws.{mark_polynomial_set_exact, initial_forms_exact, homogenize_exact, polynomial_set_union_exact, stats_exact, homogenize_not_listed, gordan_not_listed, homogenize_untested, gordan_untested}
 use Rattle.gfan.proofs.ExactLaws.{buchberger_exact, marked_exact, containment_exact, leading_exact, bases_exact, given_exact, basis_not_listed, basis_untested, list_untested, memory_untested, containment_tested, given_tested}
 use Rattle.gfan.proofs.CommonRefinementLaws.{refinement_lawful}
+use Rattle.gfan.proofs.MigrateFanLaws.{migrate_fan_exact, migrate_fan_tested, migration_not_listed}
+use Rattle.gfan.proofs.SummaryLaws.{generated_lawful}
+use Rattle.gfan.proofs.SaturationLaws.{saturation_lawful}
 
 tropical_lawful : (which : TropicalFan) → IsLawful (tropical_command which)
-tropical_lawful which = sound_lawful (tropical_command which) (tropical_exact which) (tropical_tested which) (λ h. h) (λ t. t) (λ a m w. gordan_not_listed w.0 m w.1)
+tropical_lawful which = sound_lawful (tropical_command which) (tropical_exact which) (tropical_tested which) (λ h. h) (λ t. t) (λ a m w. tropical_not_listed which (length a.0) (generators_of a.1.0) m w)
 
 plain_lawful : (k : PlainCommand) → IsLawful (plain_command k)
 plain_lawful plains.IsMarkedGroebnerBasis = sound_lawful marked_command marked_exact (untested marked_command (λ v r t h. test_cause_untested v.1 r t h)) (λ h. h) (λ t. t) (λ a m w. check_not_listed w.0 m w.1)
@@ -61,6 +66,7 @@ plain_lawful plains.HomogeneitySpace =
 plain_lawful plains.TropicalHypersurface = tropical_lawful fans.Hypersurface
 plain_lawful plains.TropicalIntersection = tropical_lawful fans.Intersection
 plain_lawful plains.MinkowskiSum = tropical_lawful fans.MinkowskiSum
+plain_lawful plains.MigrateFan = sound_lawful migrate_fan_command migrate_fan_exact migrate_fan_tested (λ h. h) (λ t. t) (λ source m w. migration_not_listed source m w)
 
 list_lawful : (from_basis : Bool) (o : ListOptions) → IsLawful (list_command from_basis o)
 list_lawful false o = sound_lawful (bases_command o) (bases_exact o) (untested (bases_command o) (λ v r t h. list_untested o (length v.0) (generators_of v.1.0) r t h)) (λ h. h) (λ t. t) (λ a m w. tt)
@@ -90,6 +96,8 @@ lawful (jobs.GroebnerCone o) = cone_lawful o.vector_input (cone_options o)
 lawful (jobs.ToPolyhedralFan o) =
     sound_lawful (to_polyhedral_fan_command o.restrict) (to_polyhedral_fan_exact o.restrict) (to_polyhedral_fan_tested o.restrict) (λ h. h) (λ t. t) (λ a m w. no_fan_not_listed o.restrict (length a.0) a.1 m w)
 lawful (jobs.FanCommonRefinement o) = refinement_lawful o.first o.second
+lawful (jobs.Generated o) = generated_lawful o.number o.limit o.pairs
+lawful (jobs.Saturation o) = saturation_lawful o.pairs
 
 -- ---- what a job reads
 
@@ -97,7 +105,7 @@ plain_source : (k : PlainCommand) → (plain_command k).reads ≡ Origin.the_inp
 plain_source plains.Stats = refl
 plain_source _ = refl
 
-list_source : (from_basis : Bool) (o : ListOptions) → (list_command from_basis o).reads ≡ Origin.the_input ∷ []
+pub list_source : (from_basis : Bool) (o : ListOptions) → (list_command from_basis o).reads ≡ Origin.the_input ∷ []
 list_source false o = refl
 list_source true o = refl
 
@@ -113,12 +121,13 @@ cone_source : (vector_input : Bool) (o : ConeOptions) → (groebner_cone_command
 cone_source false o = refl
 cone_source true o = refl
 
--- a job that isn't one on files reads the input alone
-pub one_source : (job : Job) → ((o : FanCommonRefinementOptions) → job ≡ jobs.FanCommonRefinement o → ⊥) → (command_of job).reads ≡ Origin.the_input ∷ []
-one_source (jobs.FanCommonRefinement o) n = absurd (n o refl)
-one_source (jobs.Plain k) n = plain_source k
-one_source (jobs.Bases o) n = list_source o.from_basis (list_options o)
-one_source (jobs.LeadingTerms o) n = leading_source o.listed
-one_source (jobs.WeightVector o) n = weight_source o.listed o.echoed
-one_source (jobs.GroebnerCone o) n = cone_source o.vector_input (cone_options o)
-one_source _ n = refl
+-- a job that isn't one on files, or that reads nothing, reads the input alone
+pub one_source : (job : Job) → ((o : FanCommonRefinementOptions) → job ≡ jobs.FanCommonRefinement o → ⊥) → ((o : GeneratedOptions) → job ≡ jobs.Generated o → ⊥) → ReadsInputAlone job
+one_source (jobs.FanCommonRefinement o) n m = absurd (n o refl)
+one_source (jobs.Generated o) n m = absurd (m o refl)
+one_source (jobs.Plain k) n m = plain_source k
+one_source (jobs.Bases o) n m = list_source o.from_basis (list_options o)
+one_source (jobs.LeadingTerms o) n m = leading_source o.listed
+one_source (jobs.WeightVector o) n m = weight_source o.listed o.echoed
+one_source (jobs.GroebnerCone o) n m = cone_source o.vector_input (cone_options o)
+one_source _ n m = refl

@@ -1,7 +1,8 @@
 -- What `_fancommonrefinement` answers, why it doesn't, and that two texts are answered in one way.
--- To cite: refined_told, words_once, words_no_text, once_no_text, within_answered; refinement_refused, refinement_answered,
--- refinement_lawful; file_unnamed, write_unnamed. The rest are steps.
-use Rattle.std.specs.Prelude.{◌≡◌, ◌⊎◌, ℕ, List, [], ◌∷◌}
+-- To cite: fan_unrefused, told_file, of_numbers, file_refused_once, tells_itself, in_words_once, fan_in_words; refined_told, words_once,
+-- words_no_text, once_no_text, within_answered; refinement_refused, refinement_answered, refinement_lawful; file_unnamed, writing_unnamed,
+-- refinement_unwritten, write_unnamed. The rest are steps.
+use Rattle.std.specs.Prelude.{◌≡◌, ◌⊎◌, ℕ, List, [], ◌∷◌, None}
 use Rattle.std.proofs.Common.{refl, sym, ap, ◌∙◌, subst, inl, inr}
 use Rattle.gf_fan.specs.FanLists.{FanLists}
 use Rattle.gf_front.specs.declared.refusal.Refusal.{Refusal}
@@ -20,7 +21,13 @@ use Rattle.gf_fanfile.proofs.FilesLaws.{file_once}
 use Rattle.gf_refine.specs.declared.error.RefineError.{RefineError}
 use Rattle.gf_refine.specs.declared.error.RefineError.TheVariants as refine_errors
 use Rattle.gf_refine.specs.Refusals.{IsRefineRefusal}
-use Rattle.gfan.specs.Refused.{without_names}
+use Rattle.gf_refine.specs.FansRefined.{IsRefinementOf}
+use Rattle.gf_vec.specs.declared.error.VecError.{VecError}
+use Rattle.gf_vec.specs.declared.error.VecError.TheVariants as vec_errors
+use Rattle.gf_vec.specs.Steps.{IfWide}
+use Rattle.gf_fanfile.specs.FanTexts.{IsWritingStep}
+use Rattle.gfan.specs.FanTexts.{of_writing}
+use Rattle.gfan.specs.Refused.{IsNamedBy, without_names}
 use Rattle.gfan.specs.BasesWriting.{IsUnnamed}
 use Rattle.gfan.specs.CommonRefinement.{of_fan_file, of_refine, IsRefinementText, IsRefinementRefused, IsOfWords, IsRefusedInWords, IsRefinementWithin, in_words, refinement_command}
 use Rattle.gf_fanfile.proofs.FanOnceLaws.{refusals_once, refusal_refutes}
@@ -28,23 +35,25 @@ use Rattle.gfan.proofs.FanFileLaws.{told_words, words_refused_once, within_memor
 
 -- ---- kinds of refusals
 
-fan_unrefused : (source : List ℕ) (f : FanLists) (e : FanFileError) → (IsOfLimits e → ⊥) → IsFanOfText source f → IsFanFileRefusal source e → ⊥
+pub fan_unrefused : (source : List ℕ) (f : FanLists) (e : FanFileError) → (IsOfLimits e → ⊥) → IsFanOfText source f → IsFanFileRefusal source e → ⊥
 fan_unrefused source f e told t h = refusal_refutes source f e told h t
 
 limits_numbers : (e : FanFileError) → IsOfLimits e → IsOfNumbers (of_fan_file e)
 limits_numbers (file_errors.Cone o) l = tt
+limits_numbers (file_errors.Wide w) l = tt
 limits_numbers file_errors.Memory l = tt
 limits_numbers _ l = absurd l
 
-told_file : (r : Refusal) (e : FanFileError) → (IsOfNumbers r → ⊥) → r ≡ of_fan_file e → IsOfLimits e → ⊥
+pub told_file : (r : Refusal) (e : FanFileError) → (IsOfNumbers r → ⊥) → r ≡ of_fan_file e → IsOfLimits e → ⊥
 told_file r e n q l = n (subst IsOfNumbers (sym q) (limits_numbers e l))
 
 -- what isn't told of a text that says a fan is of its numbers
-of_numbers : (source : List ℕ) (f : FanLists) (d : Refusal) (e : FanFileError) → IsFanOfText source f → IsFanFileRefusal source e → d ≡ of_fan_file e → IsOfNumbers d
+pub of_numbers : (source : List ℕ) (f : FanLists) (d : Refusal) (e : FanFileError) → IsFanOfText source f → IsFanFileRefusal source e → d ≡ of_fan_file e → IsOfNumbers d
 of_numbers source f d e i h q = subst IsOfNumbers (sym q) (by e h)
   where
     by : (x : FanFileError) → IsFanFileRefusal source x → IsOfNumbers (of_fan_file x)
     by (file_errors.Cone o) h = tt
+    by (file_errors.Wide w) h = tt
     by file_errors.Memory h = tt
     by (file_errors.Syntax s) h = absurd (fan_unrefused source f (file_errors.Syntax s) (λ l. l) i h)
     by (file_errors.TooWide at) h = absurd (fan_unrefused source f (file_errors.TooWide at) (λ l. l) i h)
@@ -53,10 +62,12 @@ of_numbers source f d e i h q = subst IsOfNumbers (sym q) (by e h)
     by (file_errors.Missing section) h = absurd (fan_unrefused source f (file_errors.Missing section) (λ l. l) i h)
     by (file_errors.BadRay number) h = absurd (fan_unrefused source f (file_errors.BadRay number) (λ l. l) i h)
     by (file_errors.Dimensions left right) h = absurd (fan_unrefused source f (file_errors.Dimensions left right) (λ l. l) i h)
+    by (file_errors.BadVersion number) h = absurd (fan_unrefused source f (file_errors.BadVersion number) (λ l. l) i h)
+    by (file_errors.BadCertificate cone) h = absurd (fan_unrefused source f (file_errors.BadCertificate cone) (λ l. l) i h)
 
 -- ---- two texts
 
-file_refused_once : (source : List ℕ) (r d : Refusal) (e x : FanFileError) → (IsOfNumbers r → ⊥) → IsFanFileRefusal source e → r ≡ of_fan_file e → IsFanFileRefusal source x → d ≡ of_fan_file x → (d ≡ r) ⊎ IsOfNumbers d
+pub file_refused_once : (source : List ℕ) (r d : Refusal) (e x : FanFileError) → (IsOfNumbers r → ⊥) → IsFanFileRefusal source e → r ≡ of_fan_file e → IsFanFileRefusal source x → d ≡ of_fan_file x → (d ≡ r) ⊎ IsOfNumbers d
 file_refused_once source r d e x n h q k p = elim (refusals_once source e x (told_file r e n q) h k) [
   | inl s ↦ inl (p ∙ ap of_fan_file s ∙ sym q)
   | inr l ↦ inr (subst IsOfNumbers (sym p) (limits_numbers x l))
@@ -75,7 +86,9 @@ work_refused_once a b r d f g h k (refine_errors.Dimensions l m) (refine_errors.
 -- they are refused in one way, unless numbers don't fit
 refined_once : (a b : List ℕ) (r d : Refusal) → (IsOfNumbers r → ⊥) → IsRefinementRefused a b r → IsRefinementRefused a b d → (d ≡ r) ⊎ IsOfNumbers d
 refined_once a b r d n (IsRefinementRefused.no_memory q) k = absurd (n (subst IsOfNumbers (sym q) tt))
+refined_once a b r d n (IsRefinementRefused.in_writing f g x w i j t s q) k = absurd (n (subst IsOfNumbers (sym q) tt))
 refined_once a b r d n h (IsRefinementRefused.no_memory p) = inr (subst IsOfNumbers (sym p) tt)
+refined_once a b r d n h (IsRefinementRefused.in_writing f g x w i j t s p) = inr (subst IsOfNumbers (sym p) tt)
 refined_once a b r d n (IsRefinementRefused.in_first e h q) (IsRefinementRefused.in_first x k p) = file_refused_once a r d e x n h q k p
 refined_once a b r d n (IsRefinementRefused.in_first e h q) (IsRefinementRefused.in_second f x i k p) = absurd (fan_unrefused a f e (told_file r e n q) i h)
 refined_once a b r d n (IsRefinementRefused.in_first e h q) (IsRefinementRefused.in_work f g x i j k p) = absurd (fan_unrefused a f e (told_file r e n q) i h)
@@ -86,7 +99,7 @@ refined_once a b r d n (IsRefinementRefused.in_work f g e i j h q) (IsRefinement
 refined_once a b r d n (IsRefinementRefused.in_work f g e i j h q) (IsRefinementRefused.in_second s x t k p) = inr (of_numbers b g d x j k p)
 refined_once a b r d n (IsRefinementRefused.in_work f g e i j h q) (IsRefinementRefused.in_work s t x u v k p) = work_refused_once a b r d f g s t e x n i j u v h q k p
 
-tells_itself : (r : Refusal) → TellsSame r r
+pub tells_itself : (r : Refusal) → TellsSame r r
 tells_itself (refusals.Inconsistent set multipliers) = refl
 tells_itself _ = refl
 
@@ -104,6 +117,7 @@ words_once a b r d w (IsRefinementRefused.in_first x k p) = elim (words_refused_
 ]
 words_once a b r d w (IsRefinementRefused.in_second f x i k p) = absurd (fan_unrefused a f w.error (told_words w.error w.of_words) i w.refused)
 words_once a b r d w (IsRefinementRefused.in_work f g x i j k p) = absurd (fan_unrefused a f w.error (told_words w.error w.of_words) i w.refused)
+words_once a b r d w (IsRefinementRefused.in_writing f g h x i j t s p) = absurd (fan_unrefused a f w.error (told_words w.error w.of_words) i w.refused)
 words_once a b r d w (IsRefinementRefused.no_memory p) = inr p
 
 pub words_no_text : (a b text : List ℕ) (r : Refusal) → IsRefusedInWords a r → IsRefinementText a b text → ⊥
@@ -116,6 +130,7 @@ once_no_text a b text r n (IsRefinementRefused.in_second f e i h q) t = fan_unre
 once_no_text a b text r n (IsRefinementRefused.in_work f g (refine_errors.Cone o) i j h q) t = n (subst IsOfNumbers (sym q) tt)
 once_no_text a b text r n (IsRefinementRefused.in_work f g refine_errors.Memory i j h q) t = n (subst IsOfNumbers (sym q) tt)
 once_no_text a b text r n (IsRefinementRefused.in_work f g (refine_errors.Dimensions l m) i j h q) t = h.2 (h.0 ∙ ambient_once a t.first f t.is_first i ∙ sym t.same ∙ sym (ambient_once b t.second g t.is_second j) ∙ sym h.1)
+once_no_text a b text r n (IsRefinementRefused.in_writing f g h w i j x s q) t = n (subst IsOfNumbers (sym q) tt)
 once_no_text a b text r n (IsRefinementRefused.no_memory q) t = n (subst IsOfNumbers (sym q) tt)
 
 text_ambient : (source : List ℕ) (f : FanFile) (h : FanLists) → IsFileOf source f → IsFanOfText source h → h.ambient ≡ f.ambient
@@ -129,6 +144,7 @@ within_answered a b r w (IsRefinementRefused.in_work f g (refine_errors.Cone o) 
 within_answered a b r w (IsRefinementRefused.in_work f g refine_errors.Memory i j h q) = q
 within_answered a b r w (IsRefinementRefused.in_work f g (refine_errors.Dimensions l m) i j h q) =
     absurd (h.2 (h.0 ∙ text_ambient a w.first.file f w.first.is_file i ∙ sym w.same ∙ sym (text_ambient b w.second.file g w.second.is_file j) ∙ sym h.1))
+within_answered a b r w (IsRefinementRefused.in_writing f g h x i j t s q) = absurd (w.writing f g h i j t x s)
 within_answered a b r w (IsRefinementRefused.no_memory q) = q
 
 -- ---- the command
@@ -137,6 +153,7 @@ words_kind : (e : FanFileError) → IsOfWords e → IsExactRefusal (of_fan_file 
 words_kind (file_errors.Syntax s) w = inl tt
 words_kind (file_errors.TooWide at) w = inl tt
 words_kind (file_errors.TooManyVariables count) w = inl tt
+words_kind (file_errors.BadVersion number) w = inr tt
 words_kind (file_errors.Missing section) w = inr tt
 words_kind (file_errors.Dimensions left right) w = inr tt
 words_kind _ w = absurd w
@@ -147,7 +164,7 @@ in_words_kind a r w = subst IsExactRefusal (sym w.is) (words_kind w.error w.of_w
 no_memory : (r : Refusal) → IsExactRefusal r → r ≡ refusals.Memory → ⊥
 no_memory r e m = elim (subst IsExactRefusal m e) [ inl x ↦ x | inr x ↦ x ]
 
-in_words_once : (a : List ℕ) → IsCheckedOnce (in_words a)
+pub in_words_once : (a : List ℕ) → IsCheckedOnce (in_words a)
 in_words_once a = record {
   once = λ r d w v. elim (words_once a a r d w (IsRefinementRefused.in_first v.error v.refused v.is)) [ inl e ↦ e | inr m ↦ absurd (no_memory d (in_words_kind a d v) m) ];
   apart = λ r h w. h r w;
@@ -159,7 +176,7 @@ not_in_words : (a b : List ℕ) (r d : Refusal) → (IsExactRefusal r → ⊥) �
 not_in_words a b r d n m h w = elim (words_once a b d r w h) [ inl e ↦ n (subst IsExactRefusal (sym e) (in_words_kind a d w)) | inr k ↦ m k ]
 
 -- what a text that says a fan isn't refused for
-fan_in_words : (a : List ℕ) (f : FanLists) (d : Refusal) → IsFanOfText a f → IsRefusedInWords a d → ⊥
+pub fan_in_words : (a : List ℕ) (f : FanLists) (d : Refusal) → IsFanOfText a f → IsRefusedInWords a d → ⊥
 fan_in_words a f d i w = fan_unrefused a f w.error (told_words w.error w.of_words) i w.refused
 
 not_exact : (r q : Refusal) → r ≡ q → (IsExactRefusal q → ⊥) → IsExactRefusal r → ⊥
@@ -177,6 +194,7 @@ module _ (first second a b : List ℕ) where
   refinement_refused r (IsRefinementRefused.in_first (file_errors.Syntax s) h q) = in_form r (file_errors.Syntax s) tt h q
   refinement_refused r (IsRefinementRefused.in_first (file_errors.TooWide at) h q) = in_form r (file_errors.TooWide at) tt h q
   refinement_refused r (IsRefinementRefused.in_first (file_errors.TooManyVariables count) h q) = in_form r (file_errors.TooManyVariables count) tt h q
+  refinement_refused r (IsRefinementRefused.in_first (file_errors.BadVersion number) h q) = in_form r (file_errors.BadVersion number) tt h q
   refinement_refused r (IsRefinementRefused.in_first (file_errors.Missing section) h q) = in_form r (file_errors.Missing section) tt h q
   refinement_refused r (IsRefinementRefused.in_first (file_errors.Dimensions left right) h q) = in_form r (file_errors.Dimensions left right) tt h q
   refinement_refused r (IsRefinementRefused.in_first (file_errors.Cone o) h q) =
@@ -185,9 +203,14 @@ module _ (first second a b : List ℕ) where
       in_work r (λ d. not_in_words a b r d (not_exact r (of_fan_file (file_errors.NotAFan left right)) q (λ x. elim x [ inl y ↦ y | inr y ↦ y ])) (λ m. cc) (IsRefinementRefused.in_first (file_errors.NotAFan left right) h q)) (IsRefinementRefused.in_first (file_errors.NotAFan left right) h q)
   refinement_refused r (IsRefinementRefused.in_first (file_errors.BadRay number) h q) =
       in_work r (λ d. not_in_words a b r d (not_exact r (of_fan_file (file_errors.BadRay number)) q (λ x. elim x [ inl y ↦ y | inr y ↦ y ])) (λ m. cc) (IsRefinementRefused.in_first (file_errors.BadRay number) h q)) (IsRefinementRefused.in_first (file_errors.BadRay number) h q)
+  refinement_refused r (IsRefinementRefused.in_first (file_errors.BadCertificate cone) h q) =
+      in_work r (λ d. not_in_words a b r d (not_exact r (of_fan_file (file_errors.BadCertificate cone)) q (λ x. elim x [ inl y ↦ y | inr y ↦ y ])) (λ m. cc) (IsRefinementRefused.in_first (file_errors.BadCertificate cone) h q)) (IsRefinementRefused.in_first (file_errors.BadCertificate cone) h q)
+  refinement_refused r (IsRefinementRefused.in_first (file_errors.Wide w) h q) =
+      in_work r (λ d. not_in_words a b r d (not_exact r (of_fan_file (file_errors.Wide w)) q (λ x. elim x [ inl y ↦ y | inr y ↦ y ])) (λ m. cc) (IsRefinementRefused.in_first (file_errors.Wide w) h q)) (IsRefinementRefused.in_first (file_errors.Wide w) h q)
   refinement_refused r (IsRefinementRefused.in_first file_errors.Memory h q) = IsRefusedOn.no_memory q
   refinement_refused r (IsRefinementRefused.in_second f e i h q) = in_work r (λ d w. fan_in_words a f d i w) (IsRefinementRefused.in_second f e i h q)
   refinement_refused r (IsRefinementRefused.in_work f g e i j h q) = in_work r (λ d w. fan_in_words a f d i w) (IsRefinementRefused.in_work f g e i j h q)
+  refinement_refused r (IsRefinementRefused.in_writing f g h w i j t s q) = in_work r (λ d x. fan_in_words a f d i x) (IsRefinementRefused.in_writing f g h w i j t s q)
   refinement_refused r (IsRefinementRefused.no_memory q) = IsRefusedOn.no_memory q
 
   pub refinement_answered : (text : List ℕ) → IsRefinementText a b text → IsAnswered (refinement_command first second) (a ∷ (b ∷ [])) text
@@ -202,6 +225,9 @@ file_writing (file_errors.NotAFan first second) = tt
 file_writing (file_errors.Missing section) = tt
 file_writing (file_errors.BadRay number) = tt
 file_writing (file_errors.Dimensions left right) = tt
+file_writing (file_errors.BadVersion number) = tt
+file_writing (file_errors.BadCertificate cone) = tt
+file_writing (file_errors.Wide w) = tt
 file_writing file_errors.Memory = tt
 
 refine_writing : (e : RefineError) → IsOfWriting {A = List ℕ × List ℕ} Writing.at_end (of_refine e)
@@ -213,6 +239,7 @@ refinement_writing : (a b : List ℕ) (r : Refusal) → IsRefinementRefused a b 
 refinement_writing a b r (IsRefinementRefused.in_first e h q) = subst (IsOfWriting {A = List ℕ × List ℕ} Writing.at_end) (sym q) (file_writing e)
 refinement_writing a b r (IsRefinementRefused.in_second f e i h q) = subst (IsOfWriting {A = List ℕ × List ℕ} Writing.at_end) (sym q) (file_writing e)
 refinement_writing a b r (IsRefinementRefused.in_work f g e i j h q) = subst (IsOfWriting {A = List ℕ × List ℕ} Writing.at_end) (sym q) (refine_writing e)
+refinement_writing a b r (IsRefinementRefused.in_writing f g h w i j t s q) = subst (IsOfWriting {A = List ℕ × List ℕ} Writing.at_end) (sym q) tt
 refinement_writing a b r (IsRefinementRefused.no_memory q) = subst (IsOfWriting {A = List ℕ × List ℕ} Writing.at_end) (sym q) tt
 
 -- a refusal that is fixed isn't one of numbers
@@ -240,6 +267,35 @@ refinement_lawful first second = record {
 }
 
 -- ---- lines without a ring
+
+file_named : (e : FanFileError) → IsNamedBy None (of_fan_file e)
+file_named (file_errors.Syntax s) = λ lent is. tt
+file_named (file_errors.TooWide at) = λ lent is. tt
+file_named (file_errors.TooManyVariables count) = λ lent is. tt
+file_named (file_errors.Cone o) = λ lent is. tt
+file_named (file_errors.NotAFan first second) = λ lent is. tt
+file_named (file_errors.Missing section) = λ lent is. tt
+file_named (file_errors.BadRay number) = λ lent is. tt
+file_named (file_errors.Dimensions left right) = λ lent is. tt
+file_named (file_errors.BadVersion number) = λ lent is. tt
+file_named (file_errors.BadCertificate cone) = λ lent is. tt
+file_named (file_errors.Wide w) = λ lent is. tt
+file_named file_errors.Memory = λ lent is. tt
+
+pub file_unnamed : (e : FanFileError) → IsUnnamed (without_names (of_fan_file e))
+file_unnamed e = record { ring = refl; named = file_named e }
+
+writing_named : (v : VecError) → IsNamedBy None (of_writing v)
+writing_named (vec_errors.Wide w) = λ lent is. tt
+writing_named vec_errors.Memory = λ lent is. tt
+
+pub writing_unnamed : (v : VecError) → IsUnnamed (without_names (of_writing v))
+writing_unnamed v = record { ring = refl; named = writing_named v }
+
+-- what is found isn't written
+pub refinement_unwritten : (a b : List ℕ) (f g h : FanLists) (v : VecError) → IsFanOfText a f → IsFanOfText b g → IsRefinementOf f g h → IfWide (IsWritingStep h) v → IsRefinementRefused a b (of_writing v)
+refinement_unwritten a b f g h (vec_errors.Wide w) i j t s = IsRefinementRefused.in_writing f g h w i j t s refl
+refinement_unwritten a b f g h vec_errors.Memory i j t s = IsRefinementRefused.no_memory refl
 
 pub write_unnamed : IsUnnamed (without_names refusals.WriteFault)
 write_unnamed = record { ring = refl; named = λ lent is. tt }

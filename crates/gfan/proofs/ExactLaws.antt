@@ -1,6 +1,6 @@
 -- Commands whose refusals are each told in one way.
 -- To cite: buchberger_exact, marked_exact, containment_exact, leading_exact, bases_exact, given_exact, containment_tested, given_tested;
--- basis_not_listed, basis_untested, list_untested, memory_untested. The rest are steps.
+-- basis_work, basis_not_listed, basis_untested, list_untested, memory_untested. The rest are steps.
 use Rattle.std.specs.Prelude.{◌≡◌, ℕ, ◌<◌, Bool, true, false, List, [], ◌∷◌, length, Err, Option, None, Some}
 use Rattle.std.proofs.Common.{arith, refl, sym, ap, ◌∙◌, subst, inl}
 use Rattle.gf_exponents.specs.SixOrders.{MonomialOrder}
@@ -43,7 +43,7 @@ use Rattle.gfan.proofs.ContainmentLaws.{containment_work, containment_within, co
 
 -- ---- `_buchberger`
 
-basis_work : (e : BasisError) → IsOfWork (of_basis e)
+pub basis_work : (e : BasisError) → IsOfWork (of_basis e)
 basis_work (basis_errors.Overflow o) = tt
 basis_work (basis_errors.Exponent o) = tt
 basis_work (basis_errors.PairBudget b u) = tt

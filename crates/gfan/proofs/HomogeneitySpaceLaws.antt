@@ -28,11 +28,11 @@ use Rattle.gf_items.proofs.KindLaws.{ring_and_once}
 use Rattle.gf_frame.proofs.ReadingLaws.{one_once}
 use Rattle.gf_frame.proofs.SoundLaws.{IsExactCommand, IsTestedCommand, untested}
 use Rattle.gfan.specs.Stats.{of_gordan}
-use Rattle.gfan.specs.FanTexts.{of_fan}
+use Rattle.gfan.specs.FanTexts.{of_fan, IsNoFanText}
 use Rattle.gfan.specs.HomogeneitySpace.{marked_of, nonzero_of, IsSpaceCone, IsSpaceText, IsNoSpace, IsSpaceWithin, homogeneity_space_command}
 use Rattle.gfan.specs.Refused.{IsNamedBy}
 use Rattle.gfan.proofs.ToolLaws.{gordan_work, gordan_not_listed, gordan_untested, named_gordan}
-use Rattle.gfan.proofs.FanTextLaws.{meeting_refutes, fan_within, fan_work, fan_not_listed, fan_named}
+use Rattle.gfan.proofs.FanTextLaws.{meeting_refutes, text_within, text_work, text_not_listed, text_named}
 
 -- ---- the polynomials
 
@@ -51,8 +51,8 @@ nonzero_in n (written.Zero ∷ ws) h = nonzero_in n ws h.1
 nonzero_in n (written.Nonzero m ∷ ws) h = (h.0, nonzero_in n ws h.1)
 
 -- its fan isn't found
-pub fan_refused : (n : ℕ) (bs : List MarkedPolynomial) (c : RowsAndRays) (cones : List RowsAndRays) (e : FanError) (r : Refusal) → IsSpaceCone n bs c → cones ≡ c ∷ [] → IsFanRefusal n cones e → r ≡ of_fan e → IsNoSpace n bs r
-fan_refused n bs c cones e r h p f q = IsNoSpace.at_fan c e h (subst (λ (cs : List RowsAndRays). IsFanRefusal n cs e) p f) q
+pub fan_refused : (n : ℕ) (bs : List MarkedPolynomial) (c : RowsAndRays) (cones : List RowsAndRays) (r : Refusal) → IsSpaceCone n bs c → cones ≡ c ∷ [] → IsNoFanText n cones r → IsNoSpace n bs r
+fan_refused n bs c cones r h p f = IsNoSpace.at_fan c h (subst (λ (cs : List RowsAndRays). IsNoFanText n cs r) p f)
 
 -- ---- from a source on
 
@@ -72,7 +72,7 @@ space_unanswered source r ring set given vector n read e p h =
 -- it names no monomials
 pub no_space_named : (n : ℕ) (bs : List MarkedPolynomial) (r : Refusal) → IsNoSpace n bs r → IsNamedBy None r
 no_space_named n bs r (IsNoSpace.at_space e h q) = subst (IsNamedBy None) (sym q) (named_gordan e)
-no_space_named n bs r (IsNoSpace.at_fan c e k h q) = subst (IsNamedBy None) (sym q) (fan_named None e)
+no_space_named n bs r (IsNoSpace.at_fan c k h) = text_named None n (c ∷ []) r h
 no_space_named n bs r (IsNoSpace.no_memory m) = subst (IsNamedBy None) (sym m) (λ lent is. tt)
 
 -- ---- a source is answered in one way
@@ -83,7 +83,7 @@ one_meets n c = λ i j d l m. absurd (omega (arith, l, m))
 
 no_space_work : (n : ℕ) (bs : List MarkedPolynomial) (r : Refusal) → IsNoSpace n bs r → IsOfWork r
 no_space_work n bs r (IsNoSpace.at_space e h q) = subst IsOfWork (sym q) (gordan_work e)
-no_space_work n bs r (IsNoSpace.at_fan c e k h q) = subst IsOfWork (sym q) (fan_work e)
+no_space_work n bs r (IsNoSpace.at_fan c k h) = text_work n (c ∷ []) r h
 no_space_work n bs r (IsNoSpace.no_memory m) = subst IsOfWork (sym m) tt
 
 space_memory : (n : ℕ) (bs : List MarkedPolynomial) (e : GordanError) → IsSpaceWithin n bs → IsSpaceCause n bs e → e ≡ gordan_errors.Memory
@@ -92,7 +92,7 @@ space_memory n bs gordan_errors.Memory w h = refl
 
 no_space_within : (n : ℕ) (bs : List MarkedPolynomial) (r : Refusal) → IsSpaceWithin n bs → IsNoSpace n bs r → r ≡ refusals.Memory
 no_space_within n bs r w (IsNoSpace.at_space e h q) = q ∙ ap of_gordan (space_memory n bs e w h)
-no_space_within n bs r w (IsNoSpace.at_fan c e k h q) = q ∙ ap of_fan (fan_within n (c ∷ []) e (w.fan c k) (one_meets n c) h)
+no_space_within n bs r w (IsNoSpace.at_fan c k h) = text_within n (c ∷ []) r (w.fan c k) (one_meets n c) h
 no_space_within n bs r w (IsNoSpace.no_memory m) = m
 
 fan_untested : (n : ℕ) (c : RowsAndRays) (e : FanError) → IsOfTest (of_fan e) → IsFanRefusal n (c ∷ []) e → ⊥
@@ -100,14 +100,19 @@ fan_untested n c (fan_errors.Cone o) t h = t
 fan_untested n c (fan_errors.NotAFan i j) t h = meeting_refutes n (c ∷ []) i j (one_meets n c) h
 fan_untested n c fan_errors.Memory t h = t
 
+text_untested : (n : ℕ) (c : RowsAndRays) (r : Refusal) → IsOfTest r → IsNoFanText n (c ∷ []) r → ⊥
+text_untested n c r t (IsNoFanText.no_fan e h q) = fan_untested n c e (subst IsOfTest q t) h
+text_untested n c r t (IsNoFanText.too_wide f w i h q) = subst IsOfTest q t
+text_untested n c r t (IsNoFanText.no_memory q) = subst IsOfTest q t
+
 no_space_untested : (n : ℕ) (bs : List MarkedPolynomial) (r : Refusal) → IsOfTest r → IsNoSpace n bs r → ⊥
 no_space_untested n bs r t (IsNoSpace.at_space e h q) = gordan_untested e (subst IsOfTest q t)
-no_space_untested n bs r t (IsNoSpace.at_fan c e k h q) = fan_untested n c e (subst IsOfTest q t) h
+no_space_untested n bs r t (IsNoSpace.at_fan c k h) = text_untested n c r t h
 no_space_untested n bs r t (IsNoSpace.no_memory m) = subst IsOfTest m t
 
 pub no_space_not_listed : (n : ℕ) (bs : List MarkedPolynomial) (most : ℕ) → IsNoSpace n bs (refusals.ListLimit most) → ⊥
 no_space_not_listed n bs most (IsNoSpace.at_space e h q) = gordan_not_listed e most q
-no_space_not_listed n bs most (IsNoSpace.at_fan c e k h q) = fan_not_listed e most q
+no_space_not_listed n bs most (IsNoSpace.at_fan c k h) = text_not_listed n (c ∷ []) most h
 no_space_not_listed n bs most (IsNoSpace.no_memory m) = cc
 
 pub homogeneity_space_exact : IsExactCommand homogeneity_space_command

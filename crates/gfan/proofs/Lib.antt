@@ -16,6 +16,7 @@ pub mod HomogeneitySpaceLaws  -- the homogeneity space of a set
 pub mod TropicalLaws  -- the fans of polynomials
 pub mod FanFileLaws  -- what a fan file says within limits, and what is refused of it exactly
 pub mod CommonRefinementLaws  -- the common refinement of the fans of two texts
+pub mod MigrateFanLaws  -- the fan of a text, in the version 2
 pub mod RefusedLaws  -- which refusals are told without a ring
 pub mod BasesListLaws  -- the list of all bases, and what it has
 pub mod OneListLaws  -- an ideal has one list of all bases
@@ -25,6 +26,8 @@ pub mod BasesTextLaws  -- pieces that follow one another are the text of the lis
 pub mod BasesLaws  -- how the list is written
 pub mod GivenBasisLaws  -- the list from a basis that is given
 pub mod ExactLaws  -- refusals of each command are told in one way
+pub mod SummaryLaws  -- how a list is summed up
+pub mod SaturationLaws  -- what `_saturation` answers, and why it doesn't
 pub mod CommandLaws  -- the command of each job is lawful
 pub mod GivingWeightsLaws  -- the weights that `_weightvector` writes give the bases that it read
 pub mod OneTextLaws  -- what `_bases` writes for a source is one text

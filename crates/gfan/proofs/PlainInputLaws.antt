@@ -1,5 +1,5 @@
 -- Where each polynomial is written as a monomial or as the difference of two, without numbers, `_buchberger` and `_bases` are never refused for
--- a coefficient.
+-- a coefficient; nor is `_generated`.
 -- To cite: never_overflows; one_input. The rest are steps.
 use Rattle.std.specs.Prelude.{◌≡◌, ℕ, Bool, true, false, List, [], ◌∷◌, length, map, Contains, Option, ℤ}
 use Rattle.std.proofs.Common.{arith, refl, sym, ap, ◌∙◌, subst, inl, inr}
@@ -44,6 +44,8 @@ use Rattle.gf_binomials.specs.Binomials.{IsBinomial, AreBinomials}
 use Rattle.gf_binomial_calls.specs.Sets.{IsBinomialSet}
 use Rattle.gf_binomial_calls.specs.Written.{ArePlainlyWritten, written_polynomials}
 use Rattle.gf_binomial_calls.proofs.LawsHold.{refusals_tell_no_overflow, plain_sets_are_binomials}
+use Rattle.gf_generated.specs.Generated.{generated}
+use Rattle.gf_generated.proofs.GeneratedLaws.{generators_are_binomials}
 use Rattle.gf_front.specs.declared.command_line.Job.{Job}
 use Rattle.gf_front.specs.declared.command_line.Job.TheVariants as jobs
 use Rattle.gf_front.specs.declared.refusal.Refusal.{Refusal}
@@ -68,6 +70,7 @@ use Rattle.gfan.specs.CheckedSets.{of_check}
 use Rattle.gfan.specs.Certificates.{of_weight_error}
 use Rattle.gfan.specs.Bases.{of_tree, IsSearchRefused, IsGoingCause, IsListCause, bases_command}
 use Rattle.gfan.specs.GivenBasis.{IsGivenRootRefusal, IsGivenListCause, given_bases_command}
+use Rattle.gfan.specs.Generated.{list_to, IsSummaryCause, generated_command}
 use Rattle.gfan.specs.Commands.{options, list_options, list_command, command_of}
 use Rattle.gfan.specs.PlainInputs.{BeginsPlainly, IsOnBinomials}
 use Rattle.gfan.proofs.ReadSetLaws.{IsKeptMember, marked_kept, one_kept}
@@ -142,6 +145,12 @@ given_never o n s x b (IsGivenListCause.at_root (IsGivenRootRefusal.at_tails t d
 given_never o n s x b (IsGivenListCause.at_root (IsGivenRootRefusal.on_the_way u e m f h q)) =
     tree_never s.variables (polys s.items) o.pairs e x (λ y k. refusals_tell_no_overflow.given_search s.variables o.pairs s y b k) (way_in_tree s u o.pairs e b.variables f h) q
 given_never o n s x b (IsGivenListCause.going m h) = going_never o n (polys s.items) x (λ y pairs k. refusals_tell_no_overflow.given_search n pairs s y b k) h
+
+summary_never : (limit pairs : ℕ) (fs : List Terms) (x : Overflow) → AreBinomials fs → IsSummaryCause limit pairs fs (refusals.Overflow x) → ⊥
+summary_never limit pairs fs x b (IsSummaryCause.at_root e h q) = basis_never MonomialOrder.deglex 4 fs pairs e x b h q
+summary_never limit pairs fs x b (IsSummaryCause.in_tree e h q) = search_never (list_to limit pairs) 4 fs e x (λ y pairs k. refusals_tell_no_overflow.search (ideal_by 4 fs) pairs y b k) h q
+summary_never limit pairs fs x b (IsSummaryCause.at_weight e h q) = no_weight e x q
+summary_never limit pairs fs x b (IsSummaryCause.at_sum e h q) = cc
 
 -- ---- what is read
 
@@ -245,6 +254,13 @@ module _ (source : List ℕ) (b : BeginsPlainly source) where
   listed_never false o x h = bases_never o x h
   listed_never true o x h = given_bases_never o x h
 
+generated_never : (number limit pairs : ℕ) (texts : List (List ℕ)) (x : Overflow) → IsRefusedOn (generated_command number limit pairs) texts (refusals.Overflow x) → ⊥
+generated_never number limit pairs texts x (IsRefusedOn.in_text e h q) = h
+generated_never number limit pairs texts x (IsRefusedOn.behind_text v r (IsUnanswered.in_form f)) = f
+generated_never number limit pairs texts x (IsRefusedOn.behind_text v r (IsUnanswered.in_work f w)) = summary_never limit pairs (generated number) x (generators_are_binomials.binomials number) w
+generated_never number limit pairs texts x (IsRefusedOn.behind_text v r (IsUnanswered.no_memory m)) = cc
+generated_never number limit pairs texts x (IsRefusedOn.no_memory m) = cc
+
 -- no job on such a source is refused so
 job_never : (job : Job) (texts : List (List ℕ)) (x : Overflow) → IsOnBinomials job texts → IsRefusedOn (command_of job) texts (refusals.Overflow x) → ⊥
 job_never (jobs.Buchberger o) [] x b h = b
@@ -253,6 +269,7 @@ job_never (jobs.Buchberger o) (source ∷ (other ∷ others)) x b h = b
 job_never (jobs.Bases o) [] x b h = b
 job_never (jobs.Bases o) (source ∷ []) x b h = listed_never source b o.from_basis (list_options o) x h
 job_never (jobs.Bases o) (source ∷ (other ∷ others)) x b h = b
+job_never (jobs.Generated o) texts x b h = generated_never o.number o.limit o.pairs texts x h
 job_never _ texts x b h = absurd b
 
 -- ---- the run
@@ -264,6 +281,7 @@ list_alone true o t = t
 takes_no_turns : (job : Job) (texts : List (List ℕ)) → IsOnBinomials job texts → TakesTurns (command_of job).writing → ⊥
 takes_no_turns (jobs.Buchberger o) texts b t = t
 takes_no_turns (jobs.Bases o) texts b t = list_alone o.from_basis (list_options o) t
+takes_no_turns (jobs.Generated o) texts b t = t
 takes_no_turns _ texts b t = b
 
 not_cut : (c : Command) (writing : Writing c.Value) (texts : List (List ℕ)) (m q : Seen) (o s : OutputSeen) (r : Refusal) → (TakesTurns writing → ⊥) → AreCut c writing texts m q o s r → ⊥

@@ -1,5 +1,6 @@
 -- What a job is handed, from the texts of its sources as the code lists them.
--- To cite: one_alone, two_alone, texts_length, list_as, two_as, one_as, writes_once, not_asked. The rest are steps.
+-- To cite: one_alone, two_alone, texts_length, list_as, two_as, one_as, none_as, writes_once, not_asked, not_handed. The rest are
+-- steps.
 use Rattle.std.specs.Prelude.{◌≡◌, ◌⊎◌, ℕ, Bool, true, false, List, [], ◌∷◌, length, get_or, Vec}
 use Rattle.std.specs.Global.{Global}
 use Rattle.std.proofs.Common.{arith, refl, sym, ap, ◌∙◌, subst, inl, inr}
@@ -9,6 +10,8 @@ use Rattle.gf_front.specs.declared.plain.PlainCommand.{PlainCommand}
 use Rattle.gf_front.specs.declared.plain.PlainCommand.TheVariants as plains
 use Rattle.gf_front.specs.declared.options.BasesOptions.{BasesOptions}
 use Rattle.gf_front.specs.declared.options.FanCommonRefinementOptions.{FanCommonRefinementOptions}
+use Rattle.gf_front.specs.declared.options.GeneratedOptions.{GeneratedOptions}
+use Rattle.gf_frame.specs.Loading.{Origin}
 use Rattle.gf_frame.specs.Origins.{texts_of}
 use Rattle.gf_frame.specs.Commands.{Command, WritesOnce}
 use Rattle.gfan.specs.declared.bases.ListOptions.{ListOptions}
@@ -17,8 +20,9 @@ use Rattle.gfan.specs.LeadingTerms.{leading_terms_command}
 use Rattle.gfan.specs.WeightVector.{weight_vector_command}
 use Rattle.gfan.specs.GroebnerCone.{groebner_cone_command}
 use Rattle.gfan.specs.CommonRefinement.{refinement_command}
-use Rattle.gfan.specs.Commands.{list_options, cone_options, plain_command, list_command, command_of}
-use Rattle.gfan.proofs.CommandLaws.{one_source}
+use Rattle.gfan.specs.Generated.{generated_command}
+use Rattle.gfan.specs.Commands.{list_options, cone_options, plain_command, list_command, command_of, ReadsInputAlone}
+use Rattle.gfan.proofs.CommandLaws.{list_source}
 
 -- ---- texts as the code lists them
 
@@ -43,19 +47,16 @@ two_alone (t ∷ (u ∷ (v ∷ vs))) x y a b e i j p q = absurd (omega (arith, e
 
 -- a job on the input alone has one
 pub one_as : (P : List (List ℕ) → Type 0) (job : Job) (ts : List (Vec ℕ Global)) (x : Vec ℕ Global) (a : List ℕ)
-    → ((o : FanCommonRefinementOptions) → job ≡ jobs.FanCommonRefinement o → ⊥) → length ts ≡ length (command_of job).reads → x ≡ get_or ts 0 x → a ≡ x.items
+    → ReadsInputAlone job → length ts ≡ length (command_of job).reads → x ≡ get_or ts 0 x → a ≡ x.items
     → P (a ∷ []) → P (texts_of ts)
-one_as P job ts x a n l i p h = subst P (one_alone ts x a (l ∙ ap length (one_source job n)) i p) h
+one_as P job ts x a r l i p h = subst P (one_alone ts x a (l ∙ ap length r) i p) h
 
 -- the list has one
-list_not_files : (job : Job) (o : BasesOptions) (r : FanCommonRefinementOptions) → job ≡ jobs.Bases o → job ≡ jobs.FanCommonRefinement r → ⊥
-list_not_files job o r e k = (let s : jobs.Bases o ≡ jobs.FanCommonRefinement r = sym e ∙ k in cc)
-
 pub list_as : (P : Command → List (List ℕ) → Type 0) (job : Job) (o : BasesOptions) (from_basis : Bool) (ts : List (Vec ℕ Global)) (x : Vec ℕ Global) (a : List ℕ)
     → job ≡ jobs.Bases o → o.from_basis ≡ from_basis → length ts ≡ length (command_of job).reads → x ≡ get_or ts 0 x → a ≡ x.items
     → P (list_command from_basis (list_options o)) (a ∷ []) → P (command_of job) (texts_of ts)
 list_as P job o from_basis ts x a e f l i p h =
-    one_as (P (command_of job)) job ts x a (λ r k. list_not_files job o r e k) l i p
+    one_as (P (command_of job)) job ts x a (subst ReadsInputAlone (sym e) (list_source o.from_basis (list_options o))) l i p
     (subst (λ j. P (command_of j) (a ∷ [])) (sym e) (subst (λ b. P (list_command b (list_options o)) (a ∷ [])) (sym f) h))
 
 -- a job on two files has two
@@ -66,20 +67,22 @@ two_as P job o ts x y a b e l i j p q h =
     subst (P (command_of job)) (two_alone ts x y a b (subst (λ k. length ts ≡ length (command_of k).reads) e l) i j p q)
     (subst (λ k. P (command_of k) (a ∷ (b ∷ []))) (sym e) h)
 
+-- a job that reads nothing has none
+none_alone : (ts : List (Vec ℕ Global)) → length ts ≡ 0 → [] ≡ texts_of ts
+none_alone [] e = refl
+none_alone (t ∷ ts) e = absurd (omega (arith, e))
+
+pub none_as : (P : Command → List (List ℕ) → Type 0) (job : Job) (o : GeneratedOptions) (ts : List (Vec ℕ Global)) → job ≡ jobs.Generated o → length ts ≡ length (command_of job).reads
+    → P (generated_command o.number o.limit o.pairs) [] → P (command_of job) (texts_of ts)
+none_as P job o ts e l h =
+    subst (P (command_of job)) (none_alone ts (subst (λ k. length ts ≡ length (command_of k).reads) e l))
+    (subst (λ k. P (command_of k) []) (sym e) h)
+
 -- ---- which jobs write once
 
 plain_once : (k : PlainCommand) → WritesOnce (plain_command k).writing
-plain_once plains.IsMarkedGroebnerBasis = tt
-plain_once plains.DoesIdealContain = tt
-plain_once plains.MarkPolynomialSet = tt
-plain_once plains.InitialForms = tt
-plain_once plains.Homogenize = tt
-plain_once plains.PolynomialSetUnion = tt
 plain_once plains.Stats = tt
-plain_once plains.HomogeneitySpace = tt
-plain_once plains.TropicalHypersurface = tt
-plain_once plains.TropicalIntersection = tt
-plain_once plains.MinkowskiSum = tt
+plain_once _ = tt
 
 leading_once : (listed : Bool) → WritesOnce (leading_terms_command listed).writing
 leading_once false = tt
@@ -103,15 +106,27 @@ writes_once (jobs.WeightVector o) n = weight_once o.listed o.echoed
 writes_once (jobs.GroebnerCone o) n = cone_once o.vector_input (cone_options o)
 writes_once (jobs.ToPolyhedralFan o) n = tt
 writes_once (jobs.FanCommonRefinement o) n = tt
+writes_once (jobs.Generated o) n = tt
+writes_once (jobs.Saturation o) n = tt
 
 list_not_once : (from_basis : Bool) (o : ListOptions) → WritesOnce (list_command from_basis o).writing → ⊥
 list_not_once false o w = w
 list_not_once true o w = w
 
+file_not_input : (name : List ℕ) (os ps : List Origin) → Origin.a_file name ∷ os ≡ Origin.the_input ∷ ps → ⊥
+file_not_input name os ps e = cc
+
+none_not_input : (ps : List Origin) → [] ≡ Origin.the_input ∷ ps → ⊥
+none_not_input ps e = cc
+
 -- a job on the input that writes once isn't the list, nor one on files
-pub not_asked : (job : Job) → WritesOnce (command_of job).writing → ((o : FanCommonRefinementOptions) → job ≡ jobs.FanCommonRefinement o → ⊥)
+pub not_asked : (job : Job) → WritesOnce (command_of job).writing → ReadsInputAlone job
     → ((o : BasesOptions) × (job ≡ jobs.Bases o)) ⊎ ((o : FanCommonRefinementOptions) × (job ≡ jobs.FanCommonRefinement o)) → ⊥
-not_asked job once n h = elim h [
+not_asked job once reads h = elim h [
   | inl k ↦ list_not_once k.0.from_basis (list_options k.0) (subst (λ j. WritesOnce (command_of j).writing) k.1 once)
-  | inr k ↦ n k.0 k.1
+  | inr k ↦ file_not_input k.0.first (Origin.a_file k.0.second ∷ []) [] (subst ReadsInputAlone k.1 reads)
 ]
+
+-- nor one that reads nothing
+pub not_handed : (job : Job) (o : GeneratedOptions) → ReadsInputAlone job → job ≡ jobs.Generated o → ⊥
+not_handed job o reads e = none_not_input [] (subst ReadsInputAlone e reads)

@@ -36,14 +36,14 @@ use Rattle.gfan.specs.CheckedSets.{of_check}
 use Rattle.gfan.specs.Stats.{of_gordan}
 use Rattle.gfan.specs.ReducedSets.{IsReducedAsRead, IsRefusedFrom}
 use Rattle.gf_fanfile.specs.FanTexts.{IsFanText}
-use Rattle.gfan.specs.FanTexts.{of_fan}
+use Rattle.gfan.specs.FanTexts.{of_fan, IsNoFanText}
 use Rattle.gfan.specs.ToPolyhedralFan.{inequalities_of, IsConeOfSet, IsFanOfSetsText, IsConeStepOfSet, IsConeStepOfSets, IsNoFanOfSets, AreSetsWithin, to_polyhedral_fan_command}
 use Rattle.gfan.specs.Refused.{IsNamedBy}
 use Rattle.gfan.proofs.ReadSetLaws.{IsSetKept}
 use Rattle.gfan.proofs.CheckedSetLaws.{check_work, check_not_listed}
 use Rattle.gfan.proofs.ZipLaws.{zip_back}
 use Rattle.gfan.proofs.ReducedListLaws.{all_reduced, refused_named, refused_within, check_kind, refused_once, refused_refutes, list_read}
-use Rattle.gfan.proofs.FanTextLaws.{meeting_refutes, fan_within, fan_work, fan_not_listed, fan_named}
+use Rattle.gfan.proofs.FanTextLaws.{meeting_refutes, text_within, text_work, text_not_listed, text_named}
 
 -- ---- how it is found
 
@@ -67,8 +67,8 @@ pub cone_no_fan : (cut : Bool) (n : ℕ) (sets bases : List MarkedPolynomials) (
 cone_no_fan cut n sets bases (gordan_errors.Cone o) r a h q = IsNoFanOfSets.at_cone o (all_reduced sets bases a) h q
 cone_no_fan cut n sets bases gordan_errors.Memory r a h q = IsNoFanOfSets.no_memory q
 
-pub fan_no_fan : (cut : Bool) (n : ℕ) (sets bases : List MarkedPolynomials) (cones : List RowsAndRays) (e : FanError) (r : Refusal) → AllZip IsReducedAsRead sets bases → AllZip (IsConeOfSet cut) sets cones → IsFanRefusal n cones e → r ≡ of_fan e → IsNoFanOfSets cut n sets r
-fan_no_fan cut n sets bases cones e r a z h q = IsNoFanOfSets.at_fan cones e (all_reduced sets bases a) z h q
+pub fan_no_fan : (cut : Bool) (n : ℕ) (sets bases : List MarkedPolynomials) (cones : List RowsAndRays) (r : Refusal) → AllZip IsReducedAsRead sets bases → AllZip (IsConeOfSet cut) sets cones → IsNoFanText n cones r → IsNoFanOfSets cut n sets r
+fan_no_fan cut n sets bases cones r a z h = IsNoFanOfSets.at_fan cones (all_reduced sets bases a) z h
 
 pub fan_told : (cut : Bool) (n : ℕ) (sets bases : List MarkedPolynomials) (cones : List RowsAndRays) (text : List ℕ) → AllZip IsReducedAsRead sets bases → AllZip (IsConeOfSet cut) sets cones → IsFanText n cones text → IsFanOfSetsText cut n sets text
 fan_told cut n sets bases cones text a z h = record { reduced = all_reduced sets bases a; cones = cones; are_cones = z; fan = h }
@@ -92,7 +92,7 @@ no_fan_refused cut source r ring sets given n read e p h = IsRefusedOn.behind_te
 named_no_fan : (cut : Bool) (n : ℕ) (ring : List (List ℕ)) (sets : List MarkedPolynomials) (r : Refusal) → Each (IsSetKept (length ring)) sets → IsNoFanOfSets cut n sets r → IsNamedBy (Some ring) r
 named_no_fan cut n ring sets r v (IsNoFanOfSets.at_set e h q) = subst (IsNamedBy (Some ring)) (sym q) (refused_named 0 ring sets e v h)
 named_no_fan cut n ring sets r v (IsNoFanOfSets.at_cone o a h q) = subst (IsNamedBy (Some ring)) (sym q) (λ lent is. tt)
-named_no_fan cut n ring sets r v (IsNoFanOfSets.at_fan cones e a z h q) = subst (IsNamedBy (Some ring)) (sym q) (fan_named (Some ring) e)
+named_no_fan cut n ring sets r v (IsNoFanOfSets.at_fan cones a z h) = text_named (Some ring) n cones r h
 named_no_fan cut n ring sets r v (IsNoFanOfSets.no_memory m) = subst (IsNamedBy (Some ring)) (sym m) (λ lent is. tt)
 
 pub no_fan_named : (cut : Bool) (source : List ℕ) (r : Refusal) (ring : List (List ℕ)) (sets given : List MarkedPolynomials) (n : ℕ) → IsTextOf ring_marked_sets source (ring, sets) → n ≡ length ring → given ≡ sets → IsNoFanOfSets cut n given r → IsNamedBy (Some ring) r
@@ -103,13 +103,13 @@ no_fan_named cut source r ring sets given n read e p h = named_no_fan cut (lengt
 no_fan_work : (cut : Bool) (n : ℕ) (sets : List MarkedPolynomials) (r : Refusal) → IsNoFanOfSets cut n sets r → IsOfWork r
 no_fan_work cut n sets r (IsNoFanOfSets.at_set e h q) = subst IsOfWork (sym q) (check_work e)
 no_fan_work cut n sets r (IsNoFanOfSets.at_cone o a h q) = subst IsOfWork (sym q) tt
-no_fan_work cut n sets r (IsNoFanOfSets.at_fan cones e a z h q) = subst IsOfWork (sym q) (fan_work e)
+no_fan_work cut n sets r (IsNoFanOfSets.at_fan cones a z h) = text_work n cones r h
 no_fan_work cut n sets r (IsNoFanOfSets.no_memory m) = subst IsOfWork (sym m) tt
 
 no_fan_within : (cut : Bool) (n : ℕ) (sets : List MarkedPolynomials) (r : Refusal) → AreSetsWithin cut n sets → IsNoFanOfSets cut n sets r → r ≡ refusals.Memory
 no_fan_within cut n sets r w (IsNoFanOfSets.at_set e h q) = q ∙ ap of_check (refused_within 0 sets e (λ s c. (w.each s c).checked) h)
 no_fan_within cut n sets r w (IsNoFanOfSets.at_cone o a h q) = absurd ((w.each h.set h.contained).cone o h.step)
-no_fan_within cut n sets r w (IsNoFanOfSets.at_fan cones e a z h q) = q ∙ ap of_fan (fan_within n cones e (w.fan cones z) (w.meeting cones z) h)
+no_fan_within cut n sets r w (IsNoFanOfSets.at_fan cones a z h) = text_within n cones r (w.fan cones z) (w.meeting cones z) h
 no_fan_within cut n sets r w (IsNoFanOfSets.no_memory m) = m
 
 pub to_polyhedral_fan_exact : (cut : Bool) → IsExactCommand (to_polyhedral_fan_command cut)
@@ -123,7 +123,7 @@ to_polyhedral_fan_exact cut = record {
 pub no_fan_not_listed : (cut : Bool) (n : ℕ) (sets : List MarkedPolynomials) (most : ℕ) → IsNoFanOfSets cut n sets (refusals.ListLimit most) → ⊥
 no_fan_not_listed cut n sets most (IsNoFanOfSets.at_set e h q) = check_not_listed e most q
 no_fan_not_listed cut n sets most (IsNoFanOfSets.at_cone o a h q) = cc
-no_fan_not_listed cut n sets most (IsNoFanOfSets.at_fan cones e a z h q) = fan_not_listed e most q
+no_fan_not_listed cut n sets most (IsNoFanOfSets.at_fan cones a z h) = text_not_listed n cones most h
 no_fan_not_listed cut n sets most (IsNoFanOfSets.no_memory m) = cc
 
 -- ---- the cones of the sets have one list of rows
@@ -200,21 +200,28 @@ fan_once cut n sets cs ds (fan_errors.NotAFan i j) (fan_errors.NotAFan k l) t a 
 fan_once cut n sets cs ds (fan_errors.NotAFan i j) fan_errors.Memory t a b h g = inr tt
 fan_once cut n sets cs ds fan_errors.Memory f t a b h g = absurd t
 
+text_once : (cut : Bool) (n : ℕ) (sets : List MarkedPolynomials) (cs ds : List RowsAndRays) (r d : Refusal) → IsOfTest r → AllZip (IsConeOfSet cut) sets cs → AllZip (IsConeOfSet cut) sets ds → IsNoFanText n cs r → IsNoFanText n ds d → TellsSame r d ⊎ IsOfNumbers d
+text_once cut n sets cs ds r d t a b (IsNoFanText.no_fan e h q) (IsNoFanText.no_fan f k p) =
+    subst (λ x. TellsSame r x ⊎ IsOfNumbers x) (sym p) (subst (λ x. TellsSame x (of_fan f) ⊎ IsOfNumbers (of_fan f)) (sym q) (fan_once cut n sets cs ds e f (subst IsOfTest q t) a b h k))
+text_once cut n sets cs ds r d t a b h (IsNoFanText.too_wide f w i k p) = inr (subst IsOfNumbers (sym p) tt)
+text_once cut n sets cs ds r d t a b h (IsNoFanText.no_memory p) = inr (subst IsOfNumbers (sym p) tt)
+text_once cut n sets cs ds r d t a b (IsNoFanText.too_wide f w i h q) k = absurd (subst IsOfTest q t)
+text_once cut n sets cs ds r d t a b (IsNoFanText.no_memory q) k = absurd (subst IsOfTest q t)
+
 no_fan_once : (cut : Bool) (m n : ℕ) (sets : List MarkedPolynomials) (r d : Refusal) → Each (IsSetKept m) sets → IsOfTest r → IsNoFanOfSets cut n sets r → IsNoFanOfSets cut n sets d → TellsSame r d ⊎ IsOfNumbers d
 no_fan_once cut m n sets r d v t (IsNoFanOfSets.at_set e h q) (IsNoFanOfSets.at_set f k p) =
     subst (λ x. TellsSame r x ⊎ IsOfNumbers x) (sym p) (subst (λ x. TellsSame x (of_check f) ⊎ IsOfNumbers (of_check f)) (sym q) (refused_once m 0 sets e f v (subst IsOfTest q t) h k))
 no_fan_once cut m n sets r d v t (IsNoFanOfSets.at_set e h q) (IsNoFanOfSets.at_cone o a k p) = inr (subst IsOfNumbers (sym p) tt)
-no_fan_once cut m n sets r d v t (IsNoFanOfSets.at_set e h q) (IsNoFanOfSets.at_fan cones f a z k p) = absurd (refused_refutes m 0 sets e v (subst IsOfTest q t) h a)
+no_fan_once cut m n sets r d v t (IsNoFanOfSets.at_set e h q) (IsNoFanOfSets.at_fan cones a z k) = absurd (refused_refutes m 0 sets e v (subst IsOfTest q t) h a)
 no_fan_once cut m n sets r d v t (IsNoFanOfSets.at_set e h q) (IsNoFanOfSets.no_memory p) = inr (subst IsOfNumbers (sym p) tt)
 no_fan_once cut m n sets r d v t (IsNoFanOfSets.at_cone o a h q) k = absurd (subst IsOfTest q t)
-no_fan_once cut m n sets r d v t (IsNoFanOfSets.at_fan cones e a z h q) (IsNoFanOfSets.at_set f k p) = elim (check_kind f) [
+no_fan_once cut m n sets r d v t (IsNoFanOfSets.at_fan cones a z h) (IsNoFanOfSets.at_set f k p) = elim (check_kind f) [
   | inl o ↦ absurd (refused_refutes m 0 sets f v o k a)
   | inr o ↦ inr (subst IsOfNumbers (sym p) o)
 ]
-no_fan_once cut m n sets r d v t (IsNoFanOfSets.at_fan cones e a z h q) (IsNoFanOfSets.at_cone o b k p) = inr (subst IsOfNumbers (sym p) tt)
-no_fan_once cut m n sets r d v t (IsNoFanOfSets.at_fan cones e a z h q) (IsNoFanOfSets.at_fan others f b y k p) =
-    subst (λ x. TellsSame r x ⊎ IsOfNumbers x) (sym p) (subst (λ x. TellsSame x (of_fan f) ⊎ IsOfNumbers (of_fan f)) (sym q) (fan_once cut n sets cones others e f (subst IsOfTest q t) z y h k))
-no_fan_once cut m n sets r d v t (IsNoFanOfSets.at_fan cones e a z h q) (IsNoFanOfSets.no_memory p) = inr (subst IsOfNumbers (sym p) tt)
+no_fan_once cut m n sets r d v t (IsNoFanOfSets.at_fan cones a z h) (IsNoFanOfSets.at_cone o b k p) = inr (subst IsOfNumbers (sym p) tt)
+no_fan_once cut m n sets r d v t (IsNoFanOfSets.at_fan cones a z h) (IsNoFanOfSets.at_fan others b y k) = text_once cut n sets cones others r d t z y h k
+no_fan_once cut m n sets r d v t (IsNoFanOfSets.at_fan cones a z h) (IsNoFanOfSets.no_memory p) = inr (subst IsOfNumbers (sym p) tt)
 no_fan_once cut m n sets r d v t (IsNoFanOfSets.no_memory p) k = absurd (subst IsOfTest p t)
 
 fan_refutes : (cut : Bool) (n : ℕ) (sets : List MarkedPolynomials) (cones : List RowsAndRays) (e : FanError) (text : List ℕ) → IsOfTest (of_fan e) → AllZip (IsConeOfSet cut) sets cones → IsFanRefusal n cones e → IsFanOfSetsText cut n sets text → ⊥
@@ -222,10 +229,15 @@ fan_refutes cut n sets cones (fan_errors.Cone o) text t z h a = t
 fan_refutes cut n sets cones (fan_errors.NotAFan i j) text t z h a = meeting_refutes n a.cones i j a.fan.is_fan.meeting (pair_along cut n sets cones a.cones z a.are_cones i j h)
 fan_refutes cut n sets cones fan_errors.Memory text t z h a = t
 
+text_refutes : (cut : Bool) (n : ℕ) (sets : List MarkedPolynomials) (cones : List RowsAndRays) (r : Refusal) (text : List ℕ) → IsOfTest r → AllZip (IsConeOfSet cut) sets cones → IsNoFanText n cones r → IsFanOfSetsText cut n sets text → ⊥
+text_refutes cut n sets cones r text t z (IsNoFanText.no_fan e h q) a = fan_refutes cut n sets cones e text (subst IsOfTest q t) z h a
+text_refutes cut n sets cones r text t z (IsNoFanText.too_wide f w i h q) a = subst IsOfTest q t
+text_refutes cut n sets cones r text t z (IsNoFanText.no_memory q) a = subst IsOfTest q t
+
 no_fan_refutes : (cut : Bool) (m n : ℕ) (sets : List MarkedPolynomials) (r : Refusal) (text : List ℕ) → Each (IsSetKept m) sets → IsOfTest r → IsNoFanOfSets cut n sets r → IsFanOfSetsText cut n sets text → ⊥
 no_fan_refutes cut m n sets r text v t (IsNoFanOfSets.at_set e h q) a = refused_refutes m 0 sets e v (subst IsOfTest q t) h a.reduced
 no_fan_refutes cut m n sets r text v t (IsNoFanOfSets.at_cone o b h q) a = subst IsOfTest q t
-no_fan_refutes cut m n sets r text v t (IsNoFanOfSets.at_fan cones e b z h q) a = fan_refutes cut n sets cones e text (subst IsOfTest q t) z h a
+no_fan_refutes cut m n sets r text v t (IsNoFanOfSets.at_fan cones b z h) a = text_refutes cut n sets cones r text t z h a
 no_fan_refutes cut m n sets r text v t (IsNoFanOfSets.no_memory p) a = subst IsOfTest p t
 
 pub to_polyhedral_fan_tested : (cut : Bool) → IsTestedCommand (to_polyhedral_fan_command cut)

@@ -18,9 +18,9 @@ use Rattle.gf_front.specs.declared.refusal.Refusal.TheVariants as refusals
 use Rattle.gf_items.specs.Refusals.{IsOfNumbers, IsOfTest, IsOfWork}
 use Rattle.gfan.specs.Refused.{IsNamedBy}
 use Rattle.gfan.specs.Stats.{of_gordan}
-use Rattle.gfan.specs.FanTexts.{of_fan}
+use Rattle.gfan.specs.FanTexts.{of_fan, IsNoFanText}
 use Rattle.gfan.specs.ToldCones.{of_sections, IsConeFanCause, IsConeFanWithin, IsUntoldAs, IsToldWithin}
-use Rattle.gfan.proofs.FanTextLaws.{meeting_refutes, fan_within}
+use Rattle.gfan.proofs.FanTextLaws.{meeting_refutes, text_within}
 use Rattle.gfan.proofs.HomogeneitySpaceLaws.{one_meets}
 
 -- ---- refusals of numbers
@@ -65,9 +65,14 @@ fan_numbers n c (fan_errors.Cone o) h = tt
 fan_numbers n c (fan_errors.NotAFan i j) h = absurd (meeting_refutes n (c ∷ []) i j (one_meets n c) h)
 fan_numbers n c fan_errors.Memory h = tt
 
+text_numbers : (n : ℕ) (c : RowsAndRays) (r : Refusal) → IsNoFanText n (c ∷ []) r → IsOfNumbers r
+text_numbers n c r (IsNoFanText.no_fan e h q) = subst IsOfNumbers (sym q) (fan_numbers n c e h)
+text_numbers n c r (IsNoFanText.too_wide f w i h q) = subst IsOfNumbers (sym q) tt
+text_numbers n c r (IsNoFanText.no_memory q) = subst IsOfNumbers (sym q) tt
+
 cone_fan_numbers : (n : ℕ) (hs es : List (List ℤ)) (r : Refusal) → IsConeFanCause n hs es r → IsOfNumbers r
 cone_fan_numbers n hs es r (IsConeFanCause.at_rays o h q) = subst IsOfNumbers (sym q) tt
-cone_fan_numbers n hs es r (IsConeFanCause.at_fan c e k h q) = subst IsOfNumbers (sym q) (fan_numbers n c e h)
+cone_fan_numbers n hs es r (IsConeFanCause.at_fan c k h) = text_numbers n c r h
 cone_fan_numbers n hs es r (IsConeFanCause.no_memory m) = subst IsOfNumbers (sym m) tt
 
 pub untold_numbers : (as_fan certified : Bool) (n : ℕ) (hs es : List (List ℤ)) (r : Refusal) → IsUntoldAs as_fan certified n hs es r → IsOfNumbers r
@@ -76,7 +81,7 @@ untold_numbers true certified n hs es r h = cone_fan_numbers n hs es r h
 
 cone_fan_memory : (n : ℕ) (hs es : List (List ℤ)) (r : Refusal) → IsConeFanWithin n hs es → IsConeFanCause n hs es r → r ≡ refusals.Memory
 cone_fan_memory n hs es r w (IsConeFanCause.at_rays o h q) = absurd (w.rays o h)
-cone_fan_memory n hs es r w (IsConeFanCause.at_fan c e k h q) = q ∙ ap of_fan (fan_within n (c ∷ []) e (w.fan c k) (one_meets n c) h)
+cone_fan_memory n hs es r w (IsConeFanCause.at_fan c k h) = text_within n (c ∷ []) r (w.fan c k) (one_meets n c) h
 cone_fan_memory n hs es r w (IsConeFanCause.no_memory m) = m
 
 pub untold_within : (as_fan certified : Bool) (n : ℕ) (hs es : List (List ℤ)) (r : Refusal) → IsToldWithin as_fan certified n hs es → IsUntoldAs as_fan certified n hs es r → r ≡ refusals.Memory
@@ -88,5 +93,5 @@ pub rays_untold : (n : ℕ) (hs es : List (List ℤ)) (e : GordanError) (r : Ref
 rays_untold n hs es (gordan_errors.Cone o) r h q = IsConeFanCause.at_rays o h q
 rays_untold n hs es gordan_errors.Memory r h q = IsConeFanCause.no_memory q
 
-pub fan_untold : (n : ℕ) (hs es : List (List ℤ)) (c : RowsAndRays) (cones : List RowsAndRays) (e : FanError) (r : Refusal) → IsConeByRows n hs es c → cones ≡ c ∷ [] → IsFanRefusal n cones e → r ≡ of_fan e → IsConeFanCause n hs es r
-fan_untold n hs es c cones e r h p f q = IsConeFanCause.at_fan c e h (subst (λ (cs : List RowsAndRays). IsFanRefusal n cs e) p f) q
+pub fan_untold : (n : ℕ) (hs es : List (List ℤ)) (c : RowsAndRays) (cones : List RowsAndRays) (r : Refusal) → IsConeByRows n hs es c → cones ≡ c ∷ [] → IsNoFanText n cones r → IsConeFanCause n hs es r
+fan_untold n hs es c cones r h p f = IsConeFanCause.at_fan c h (subst (λ (cs : List RowsAndRays). IsNoFanText n cs r) p f)

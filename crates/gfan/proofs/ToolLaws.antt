@@ -2,7 +2,7 @@
 -- To cite: mark_polynomial_set_exact, initial_forms_exact, homogenize_exact, polynomial_set_union_exact, stats_exact;
 -- homogenize_not_listed, homogenize_untested, gordan_not_listed, gordan_untested; length_unanswered, zero_unanswered,
 -- marked_answered; entries_unanswered, forms_answered; room_unanswered, homogenized_answered; stats_unanswered,
--- stats_answered, gordan_work, named_gordan, seven_pieces. The rest are steps.
+-- stats_answered, gordan_work, named_gordan, four_pieces, seven_pieces. The rest are steps.
 use Rattle.std.specs.Prelude.{◌≡◌, ◌⊎◌, ℕ, ◌^◌, ◌<◌, All, List, [], ◌∷◌, ◌++◌, length, None, Some, ℤ}
 use Rattle.std.specs.List.{concat}
 use Rattle.std.proofs.Common.{arith, refl, sym, ap, ◌∙◌, subst, inl, inr, append_assoc, append-nil}
@@ -171,6 +171,14 @@ named_gordan (gordan_errors.Cone o) = λ lent is. tt
 named_gordan gordan_errors.Memory = λ lent is. tt
 
 -- ---- lines
+
+-- four pieces, one behind another
+pub four_pieces : (a b c d t u v w : List ℕ) → t ≡ a → u ≡ t ++ b → v ≡ u ++ c → w ≡ v ++ d → w ≡ concat (a ∷ b ∷ c ∷ d ∷ [])
+four_pieces a b c d t u v w p q r i =
+    let two : u ≡ a ++ b = q ∙ ap (λ n. n ++ b) p in
+    let three : v ≡ (a ++ b) ++ c = r ∙ ap (λ n. n ++ c) two in
+    let four : w ≡ ((a ++ b) ++ c) ++ d = i ∙ ap (λ n. n ++ d) three in
+    four ∙ simp (append_assoc, append-nil)
 
 -- seven pieces, one behind another
 pub seven_pieces : (a b c d e f g t u v w x y z : List ℕ) → t ≡ a → u ≡ t ++ b → v ≡ u ++ c → w ≡ v ++ d → x ≡ w ++ e → y ≡ x ++ f → z ≡ y ++ g → z ≡ concat (a ∷ b ∷ c ∷ d ∷ e ∷ f ∷ g ∷ [])

@@ -1,11 +1,12 @@
 -- The fans of polynomials that are read, and that a source is answered in one way.
--- To cite: generators_read, fan_unanswered; tropical_exact, tropical_tested. The rest are steps.
+-- To cite: generators_read, fan_unanswered, text_unanswered; tropical_exact, tropical_tested, tropical_not_listed. The rest are steps.
 use Rattle.std.specs.Prelude.{◌≡◌, ◌≢◌, ℕ, false, All, List, [], ◌∷◌, length, map, None}
 use Rattle.std.proofs.Common.{refl, sym, ap, ◌∙◌, subst, inr}
-use Rattle.gf_gordan.specs.declared.error.GordanError.{GordanError}
-use Rattle.gf_gordan.specs.declared.error.GordanError.TheVariants as gordan_errors
-use Rattle.gf_gordan.specs.declared.error.ConeOverflow.{ConeOverflow}
-use Rattle.gf_gordan.specs.Steps.{Failed}
+use Rattle.gf_vec.specs.declared.error.VecError.{VecError}
+use Rattle.gf_vec.specs.declared.error.VecError.TheVariants as vec_errors
+use Rattle.gf_vec.specs.Steps.{IfWide}
+use Rattle.gf_fan.specs.FanLists.{FanLists}
+use Rattle.gf_fanfile.specs.FanTexts.{IsWritingStep}
 use Rattle.gf_poly.specs.Polynomial.{Terms}
 use Rattle.gf_poly.specs.Marking.{MarkedPolynomial, polys}
 use Rattle.gf_tropical.specs.declared.error.TropicalError.{TropicalError}
@@ -27,11 +28,10 @@ use Rattle.gf_frame.proofs.SoundLaws.{IsExactCommand, IsTestedCommand, untested}
 use Rattle.gfan.specs.declared.tropical.TropicalFan.{TropicalFan}
 use Rattle.gfan.specs.declared.tropical.TropicalFan.TheVariants as fans
 use Rattle.gfan.specs.Buchberger.{generators_of}
-use Rattle.gfan.specs.Stats.{of_gordan}
+use Rattle.gfan.specs.FanTexts.{of_writing}
 use Rattle.gfan.specs.ToolForms.{HasNoZero}
-use Rattle.gfan.specs.Tropical.{HasNumber, IsNumberRefusal, for_number, systems_of, IsTropicalStep, of_tropical, tropical_command}
+use Rattle.gfan.specs.Tropical.{HasNumber, IsNumberRefusal, for_number, systems_of, IsTropicalStep, IsFanOfPolynomials, IsNoTropicalText, IsTropicalWithin, of_tropical, tropical_command}
 use Rattle.gfan.proofs.ToolFormLaws.{zero_check}
-use Rattle.gfan.proofs.ToolLaws.{gordan_work, gordan_untested}
 
 -- ---- the form
 
@@ -76,23 +76,47 @@ pub fan_unanswered : (which : TropicalFan) (ring : List (List ℕ)) (ws : List W
     → n ≡ length ring → gs ≡ fs → fs ≡ generators_of ws → All (λ f. f ≢ []) fs → IsTropicalRefusal (systems_of which) n gs e → IsUnanswered (tropical_command which) (ring, (ws, None)) (of_tropical e)
 fan_unanswered which ring ws count n fs gs (tropical_errors.Cone o) e l z m p q some h =
     IsUnanswered.in_work (formed which ring ws count e l z)
-    (gordan_errors.Cone o, refl, subst (λ k. IsTropicalStep which k (generators_of ws) o) m (subst (λ (x : List Terms). IsTropicalStep which n x o) (p ∙ q) h.1))
+    (IsNoTropicalText.in_system o (subst (λ k. IsTropicalStep which k (generators_of ws) o) m (subst (λ (x : List Terms). IsTropicalStep which n x o) (p ∙ q) h.1)) refl)
 fan_unanswered which ring ws count n fs gs (tropical_errors.ZeroPolynomial set index) e l z m p q some h = absurd (no_first_zero gs index (subst (All (λ (f : Terms). f ≢ [])) (sym p) some) h.1)
 fan_unanswered which ring ws count n fs gs tropical_errors.Memory e l z m p q some h = IsUnanswered.no_memory refl
 
+-- the fan is found, and isn't written
+pub text_unanswered : (which : TropicalFan) (ring : List (List ℕ)) (ws : List Written) (count n : ℕ) (fs gs : List Terms) (h : FanLists) (v : VecError) → count ≡ length ws → HasNumber which count → HasNoZero ws
+    → n ≡ length ring → gs ≡ fs → fs ≡ generators_of ws → IsFanOfPolynomials which n gs h → IfWide (IsWritingStep h) v → IsUnanswered (tropical_command which) (ring, (ws, None)) (of_writing v)
+text_unanswered which ring ws count n fs gs h (vec_errors.Wide w) e l z m p q i step =
+    IsUnanswered.in_work (formed which ring ws count e l z)
+    (IsNoTropicalText.too_wide h w (subst (λ k. IsFanOfPolynomials which k (generators_of ws) h) m (subst (λ (x : List Terms). IsFanOfPolynomials which n x h) (p ∙ q) i)) step refl)
+text_unanswered which ring ws count n fs gs h vec_errors.Memory e l z m p q i step = IsUnanswered.no_memory refl
+
 -- ---- a source is answered in one way
 
-step_memory : (which : TropicalFan) (n : ℕ) (fs : List Terms) (e : GordanError) → ((o : ConeOverflow) → IsTropicalStep which n fs o → ⊥) → Failed (IsTropicalStep which n fs) e → e ≡ gordan_errors.Memory
-step_memory which n fs (gordan_errors.Cone o) w h = absurd (w o h)
-step_memory which n fs gordan_errors.Memory w h = refl
+tropical_work : (which : TropicalFan) (n : ℕ) (fs : List Terms) (r : Refusal) → IsNoTropicalText which n fs r → IsOfWork r
+tropical_work which n fs r (IsNoTropicalText.in_system o h q) = subst IsOfWork (sym q) tt
+tropical_work which n fs r (IsNoTropicalText.too_wide f w i h q) = subst IsOfWork (sym q) tt
+tropical_work which n fs r (IsNoTropicalText.no_memory q) = subst IsOfWork (sym q) tt
+
+tropical_within : (which : TropicalFan) (n : ℕ) (fs : List Terms) (r : Refusal) → IsTropicalWithin which n fs → IsNoTropicalText which n fs r → r ≡ refusals.Memory
+tropical_within which n fs r w (IsNoTropicalText.in_system o h q) = absurd (w.systems o h)
+tropical_within which n fs r w (IsNoTropicalText.too_wide f x i h q) = absurd (w.writing f i x h)
+tropical_within which n fs r w (IsNoTropicalText.no_memory q) = q
+
+tropical_untested : (which : TropicalFan) (n : ℕ) (fs : List Terms) (r : Refusal) → IsOfTest r → IsNoTropicalText which n fs r → ⊥
+tropical_untested which n fs r t (IsNoTropicalText.in_system o h q) = subst IsOfTest q t
+tropical_untested which n fs r t (IsNoTropicalText.too_wide f w i h q) = subst IsOfTest q t
+tropical_untested which n fs r t (IsNoTropicalText.no_memory q) = subst IsOfTest q t
+
+pub tropical_not_listed : (which : TropicalFan) (n : ℕ) (fs : List Terms) (most : ℕ) → IsNoTropicalText which n fs (refusals.ListLimit most) → ⊥
+tropical_not_listed which n fs most (IsNoTropicalText.in_system o h q) = cc
+tropical_not_listed which n fs most (IsNoTropicalText.too_wide f w i h q) = cc
+tropical_not_listed which n fs most (IsNoTropicalText.no_memory q) = cc
 
 pub tropical_exact : (which : TropicalFan) → IsExactCommand (tropical_command which)
 tropical_exact which = record {
   reading = one_once _ (ring_and_once a_set (vector_where false ∷ []));
   checks = λ texts v h. (number_check which (length v.1.0), (zero_check v.1.0, tt));
-  work = λ v r h. subst IsOfWork (sym h.1) (gordan_work h.0);
-  within = λ v r w h. h.1 ∙ ap of_gordan (step_memory which (length v.0) (generators_of v.1.0) h.0 w h.2);
+  work = λ v r h. tropical_work which (length v.0) (generators_of v.1.0) r h;
+  within = λ v r w h. tropical_within which (length v.0) (generators_of v.1.0) r w h;
 }
 
 pub tropical_tested : (which : TropicalFan) → IsTestedCommand (tropical_command which)
-tropical_tested which = untested (tropical_command which) (λ v r t h. gordan_untested h.0 (subst IsOfTest h.1 t))
+tropical_tested which = untested (tropical_command which) (λ v r t h. tropical_untested which (length v.0) (generators_of v.1.0) r t h)

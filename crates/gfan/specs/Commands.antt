@@ -1,5 +1,5 @@
 -- The command of each job.
-use Rattle.std.specs.Prelude.{ℕ, Bool, true, false, List, [], ◌∷◌, length, Option, ℤ}
+use Rattle.std.specs.Prelude.{◌≡◌, ℕ, Bool, true, false, List, [], ◌∷◌, length, Option, ℤ}
 use Rattle.gf_poly.specs.Marking.{MarkedPolynomials}
 use Rattle.gf_text.specs.declared.written.Written.{Written}
 use Rattle.gf_front.specs.declared.command_line.Job.{Job}
@@ -10,6 +10,7 @@ use Rattle.gf_front.specs.declared.options.BuchbergerOptions.{BuchbergerOptions}
 use Rattle.gf_front.specs.declared.options.BasesOptions.{BasesOptions}
 use Rattle.gf_front.specs.declared.options.GroebnerConeOptions.{GroebnerConeOptions}
 use Rattle.gf_items.specs.Sources.{ring_set_vector, ring_marked_set}
+use Rattle.gf_frame.specs.Loading.{Origin}
 use Rattle.gf_frame.specs.Readings.{IsReadOfOne}
 use Rattle.gf_frame.specs.Commands.{Command, IsAnswered}
 use Rattle.gfan.specs.declared.buchberger.Options.{Options}
@@ -33,6 +34,9 @@ use Rattle.gfan.specs.HomogeneitySpace.{homogeneity_space_command}
 use Rattle.gfan.specs.declared.tropical.TropicalFan.TheVariants as fans
 use Rattle.gfan.specs.Tropical.{tropical_command}
 use Rattle.gfan.specs.CommonRefinement.{refinement_command}
+use Rattle.gfan.specs.MigrateFan.{migrate_fan_command}
+use Rattle.gfan.specs.Generated.{generated_command}
+use Rattle.gfan.specs.Saturation.{saturation_command}
 
 -- what `_buchberger` is asked
 abbrev pub options : BuchbergerOptions → Options
@@ -69,13 +73,14 @@ plain_command plains.HomogeneitySpace = homogeneity_space_command
 plain_command plains.TropicalHypersurface = tropical_command fans.Hypersurface
 plain_command plains.TropicalIntersection = tropical_command fans.Intersection
 plain_command plains.MinkowskiSum = tropical_command fans.MinkowskiSum
+plain_command plains.MigrateFan = migrate_fan_command
 
 -- the list of all bases, from a basis or from generators
 abbrev pub list_command : Bool → ListOptions → Command
 list_command false o = bases_command o
 list_command true o = given_bases_command o
 
--- the command of each job; that of `_bases` is the same for every number of workers
+-- the command of each job; those of `_bases` and `_generated` are the same for every number of workers
 abbrev pub command_of : Job → Command
 command_of (jobs.Plain c) = plain_command c
 command_of (jobs.Buchberger o) = buchberger_command (options o)
@@ -85,6 +90,12 @@ command_of (jobs.WeightVector o) = weight_vector_command o.listed o.echoed
 command_of (jobs.GroebnerCone o) = groebner_cone_command o.vector_input (cone_options o)
 command_of (jobs.ToPolyhedralFan o) = to_polyhedral_fan_command o.restrict
 command_of (jobs.FanCommonRefinement o) = refinement_command o.first o.second
+command_of (jobs.Generated o) = generated_command o.number o.limit o.pairs
+command_of (jobs.Saturation o) = saturation_command o.pairs
+
+-- the job reads the input alone
+abbrev pub ReadsInputAlone : Job → Type 0
+ReadsInputAlone job = (command_of job).reads ≡ Origin.the_input ∷ []
 
 -- the text is what the job writes for this source, the only one
 abbrev pub IsAnswerTo : Job → List ℕ → List ℕ → Type 0

@@ -8,8 +8,6 @@ use Rattle.gf_rays.specs.Cones.{RowsAndRays, AreRaysWithinLimits}
 use Rattle.gf_small.specs.HomogeneitySpace.{IsBasisOfSpace, IsSpaceCause}
 use Rattle.gf_text.specs.declared.written.Written.{Written}
 use Rattle.gf_text.specs.declared.written.Written.TheVariants as written
-use Rattle.gf_fan.specs.declared.error.FanError.{FanError}
-use Rattle.gf_fan.specs.Refusals.{IsFanRefusal, IsFanWithinLimits}
 use Rattle.gf_front.specs.declared.refusal.Refusal.{Refusal}
 use Rattle.gf_front.specs.declared.refusal.Refusal.TheVariants as refusals
 use Rattle.gf_items.specs.Sources.{ring_set_vector}
@@ -18,7 +16,7 @@ use Rattle.gf_frame.specs.Readings.{of_one}
 use Rattle.gf_frame.specs.Commands.{Writing, Command}
 use Rattle.gfan.specs.Stats.{of_gordan}
 use Rattle.gf_fanfile.specs.FanTexts.{IsFanText}
-use Rattle.gfan.specs.FanTexts.{of_fan}
+use Rattle.gfan.specs.FanTexts.{IsNoFanText, IsFanOfConesWithin}
 
 -- ---- the space
 
@@ -51,16 +49,16 @@ pub record IsSpaceText (n : ℕ) (bs : List MarkedPolynomial) (text : List ℕ) 
 
 -- ---- why it isn't written
 
--- the space isn't found; or it is, and its fan isn't; or there is no memory
+-- the space isn't found; or it is, and its fan isn't, or isn't written; or there is no memory
 pub data IsNoSpace (n : ℕ) (bs : List MarkedPolynomial) (r : Refusal) : Type 0 where
   at_space : (e : GordanError) → IsSpaceCause n bs e → r ≡ of_gordan e → IsNoSpace n bs r
-  at_fan : (c : RowsAndRays) (e : FanError) → IsSpaceCone n bs c → IsFanRefusal n (c ∷ []) e → r ≡ of_fan e → IsNoSpace n bs r
+  at_fan : (c : RowsAndRays) → IsSpaceCone n bs c → IsNoFanText n (c ∷ []) r → IsNoSpace n bs r
   no_memory : r ≡ refusals.Memory → IsNoSpace n bs r
 
--- no operation of finding the space leaves its range, nor one of finding its fan
+-- no operation of finding the space leaves its range, nor one of finding its fan or of writing it
 pub record IsSpaceWithin (n : ℕ) (bs : List MarkedPolynomial) : Type 0 where
   pub space : AreRaysWithinLimits n [] (rows_of_polynomials bs)
-  pub fan : (c : RowsAndRays) → IsSpaceCone n bs c → IsFanWithinLimits n (c ∷ [])
+  pub fan : (c : RowsAndRays) → IsSpaceCone n bs c → IsFanOfConesWithin n (c ∷ [])
 
 -- ---- the command
 

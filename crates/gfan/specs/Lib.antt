@@ -26,7 +26,12 @@ pub mod Bases  -- what `_bases` reads and writes
 pub mod GivenBasis  -- what `_bases -g` reads and writes
 pub mod Refused  -- a refusal with the ring in whose names it is told
 pub mod BasesWriting  -- how `_bases` writes its list
+pub mod Saturation  -- what `_saturation` reads and writes
 pub mod CommonRefinement  -- what `_fancommonrefinement` reads and writes
+pub mod MigrateFan  -- what `_migratefan` reads and writes
+pub mod Generated  -- what `_generated` writes
+pub mod Summaries  -- how `_generated` sums up a list
+pub mod OneSummary  -- `_generated` writes one text for a number and a limit
 pub mod Commands  -- the command of each job
 pub mod PlainInputs  -- inputs that are written as monomials and differences of two
 pub mod ListSources  -- the ring and the polynomials that a source of `_bases` says

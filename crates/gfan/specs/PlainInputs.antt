@@ -27,8 +27,9 @@ IsPlainSource [] = ⊥
 IsPlainSource (source ∷ []) = BeginsPlainly source
 IsPlainSource (source ∷ (other ∷ others)) = ⊥
 
--- the job is `_buchberger` or `_bases`, from generators or from a basis, on such a source
+-- the job is `_buchberger` or `_bases`, from generators or from a basis, on such a source; or `_generated`, whose generators are such
 abbrev pub IsOnBinomials : Job → List (List ℕ) → Type 0
 IsOnBinomials (jobs.Buchberger o) texts = IsPlainSource texts
 IsOnBinomials (jobs.Bases o) texts = IsPlainSource texts
+IsOnBinomials (jobs.Generated o) texts = Unit {0}
 IsOnBinomials _ texts = ⊥

@@ -9,9 +9,7 @@ use Rattle.gf_facets.specs.Normals.{AreNormals}
 use Rattle.gf_facets.specs.Systems.{units}
 use Rattle.gf_rays.specs.Cones.{RowsAndRays}
 use Rattle.gf_reduced.specs.declared.error.CheckError.{CheckError}
-use Rattle.gf_fan.specs.declared.error.FanError.{FanError}
 use Rattle.gf_fan.specs.Pairs.{AreMeeting}
-use Rattle.gf_fan.specs.Refusals.{IsFanRefusal, IsFanWithinLimits}
 use Rattle.gf_front.specs.declared.refusal.Refusal.{Refusal}
 use Rattle.gf_front.specs.declared.refusal.Refusal.TheVariants as refusals
 use Rattle.gf_items.specs.Sources.{ring_marked_sets}
@@ -21,7 +19,7 @@ use Rattle.gf_frame.specs.Commands.{Writing, Command}
 use Rattle.gfan.specs.CheckedSets.{of_check}
 use Rattle.gfan.specs.ReducedSets.{AreReducedAsRead, IsRefusedFrom, IsCheckedWithin}
 use Rattle.gf_fanfile.specs.FanTexts.{IsFanText}
-use Rattle.gfan.specs.FanTexts.{of_fan}
+use Rattle.gfan.specs.FanTexts.{IsNoFanText, IsFanOfConesWithin}
 
 -- ---- the cones
 
@@ -65,13 +63,12 @@ pub record IsConeStepOfSets (cut : Bool) (sets : List MarkedPolynomials) (o : Co
   pub step : IsConeStepOfSet cut set o
 
 -- a set isn't taken as a reduced basis; or all are, and the rays of the cone of one aren't found; or they are, and there is no fan of
--- these cones, or it isn't found; or there is no memory
+-- these cones, or it isn't found, or isn't written; or there is no memory
 pub data IsNoFanOfSets (cut : Bool) (n : ℕ) (sets : List MarkedPolynomials) (r : Refusal) : Type 0 where
   at_set : (e : CheckError) → IsRefusedFrom 0 sets e → r ≡ of_check e → IsNoFanOfSets cut n sets r
   at_cone : (o : ConeOverflow) → AreReducedAsRead sets → IsConeStepOfSets cut sets o → r ≡ refusals.ConeOverflow o.row o.op o.left o.right →
       IsNoFanOfSets cut n sets r
-  at_fan : (cones : List RowsAndRays) (e : FanError) → AreReducedAsRead sets → AllZip (IsConeOfSet cut) sets cones → IsFanRefusal n cones e →
-      r ≡ of_fan e → IsNoFanOfSets cut n sets r
+  at_fan : (cones : List RowsAndRays) → AreReducedAsRead sets → AllZip (IsConeOfSet cut) sets cones → IsNoFanText n cones r → IsNoFanOfSets cut n sets r
   no_memory : r ≡ refusals.Memory → IsNoFanOfSets cut n sets r
 
 -- the set is a reduced basis, and no operation of its checks or of finding the rays of its cone leaves its limits
@@ -79,11 +76,12 @@ pub record IsSetWithin (cut : Bool) (s : MarkedPolynomials) : Type 0 where
   pub checked : IsCheckedWithin s
   pub cone : (o : ConeOverflow) → IsConeStepOfSet cut s o → ⊥
 
--- so it is with all sets; the meet of the cones of any two is a face of both, and no operation of finding the fan leaves its range
+-- so it is with all sets; the meet of the cones of any two is a face of both, and no operation of finding the fan or of writing it leaves its
+-- range
 pub record AreSetsWithin (cut : Bool) (n : ℕ) (sets : List MarkedPolynomials) : Type 0 where
   pub each : (s : MarkedPolynomials) → Contains sets s → IsSetWithin cut s
   pub meeting : (cones : List RowsAndRays) → AllZip (IsConeOfSet cut) sets cones → AreMeeting n cones
-  pub fan : (cones : List RowsAndRays) → AllZip (IsConeOfSet cut) sets cones → IsFanWithinLimits n cones
+  pub fan : (cones : List RowsAndRays) → AllZip (IsConeOfSet cut) sets cones → IsFanOfConesWithin n cones
 
 -- ---- the command
 

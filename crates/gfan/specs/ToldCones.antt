@@ -7,13 +7,11 @@ use Rattle.gf_sections.specs.declared.error.SectionsError.{SectionsError}
 use Rattle.gf_sections.specs.declared.error.SectionsError.TheVariants as sections_errors
 use Rattle.gf_sections.specs.ConeByRows.{IsConeByRows, IsByRowsStep}
 use Rattle.gf_sections.specs.ConeText.{IsConeText, IsConeCause, IsConeWithinLimits}
-use Rattle.gf_fan.specs.declared.error.FanError.{FanError}
-use Rattle.gf_fan.specs.Refusals.{IsFanRefusal, IsFanWithinLimits}
 use Rattle.gf_front.specs.declared.refusal.Refusal.{Refusal}
 use Rattle.gf_front.specs.declared.refusal.Refusal.TheVariants as refusals
 use Rattle.gfan.specs.declared.told_cone.ConeOptions.{ConeOptions}
 use Rattle.gf_fanfile.specs.FanTexts.{IsFanText}
-use Rattle.gfan.specs.FanTexts.{of_fan}
+use Rattle.gfan.specs.FanTexts.{IsNoFanText, IsFanOfConesWithin}
 use Rattle.gfan.specs.ToPolyhedralFan.{inequalities_of}
 
 -- a refusal of the sections as one of the run
@@ -35,16 +33,16 @@ pub record IsConeFanText (n : ℕ) (inequalities equations : List (List ℤ)) (t
   pub is_cone : IsConeByRows n inequalities equations cone
   pub fan : IsFanText n (cone ∷ []) text
 
--- the cone isn't found by its rays; or it is, and its fan isn't; or there is no memory
+-- the cone isn't found by its rays; or it is, and its fan isn't, or isn't written; or there is no memory
 pub data IsConeFanCause (n : ℕ) (inequalities equations : List (List ℤ)) (r : Refusal) : Type 0 where
   at_rays : (o : ConeOverflow) → IsByRowsStep n inequalities equations o → r ≡ refusals.ConeOverflow o.row o.op o.left o.right → IsConeFanCause n inequalities equations r
-  at_fan : (c : RowsAndRays) (e : FanError) → IsConeByRows n inequalities equations c → IsFanRefusal n (c ∷ []) e → r ≡ of_fan e → IsConeFanCause n inequalities equations r
+  at_fan : (c : RowsAndRays) → IsConeByRows n inequalities equations c → IsNoFanText n (c ∷ []) r → IsConeFanCause n inequalities equations r
   no_memory : r ≡ refusals.Memory → IsConeFanCause n inequalities equations r
 
--- no operation of finding it leaves its range, nor one of finding its fan
+-- no operation of finding it leaves its range, nor one of finding its fan or of writing it
 pub record IsConeFanWithin (n : ℕ) (inequalities equations : List (List ℤ)) : Type 0 where
   pub rays : (o : ConeOverflow) → IsByRowsStep n inequalities equations o → ⊥
-  pub fan : (c : RowsAndRays) → IsConeByRows n inequalities equations c → IsFanWithinLimits n (c ∷ [])
+  pub fan : (c : RowsAndRays) → IsConeByRows n inequalities equations c → IsFanOfConesWithin n (c ∷ [])
 
 -- ---- what is told
 

@@ -1,14 +1,13 @@
 -- `_tropicalhypersurface`, `_tropicalintersection` and `_minkowskisum`: what they read and write, and why they don't.
 use Rattle.std.specs.Prelude.{◌≡◌, ◌≢◌, ℕ, false, List, [], ◌∷◌, map, length, Option, ℤ}
+use Rattle.gf_vec.specs.declared.error.WideVector.{WideVector}
 use Rattle.gf_gordan.specs.declared.error.ConeOverflow.{ConeOverflow}
-use Rattle.gf_gordan.specs.declared.error.GordanError.{GordanError}
-use Rattle.gf_gordan.specs.Steps.{Failed}
 use Rattle.gf_duality.specs.Faces.{Rows}
 use Rattle.gf_poly.specs.Polynomial.{Terms}
 use Rattle.gf_patterns.specs.Patterns.{points}
 use Rattle.gf_fan.specs.FanLists.{FanLists}
 use Rattle.gf_fanfile.specs.FanWords.{fan_text}
-use Rattle.gf_fanfile.specs.FanTexts.{parts_of_fan}
+use Rattle.gf_fanfile.specs.FanTexts.{parts_of_fan, IsWritingStep}
 use Rattle.gf_tropical.specs.declared.error.TropicalError.{TropicalError}
 use Rattle.gf_tropical.specs.declared.error.TropicalError.TheVariants as tropical_errors
 use Rattle.gf_tropical.specs.TropicalFans.{IsPrevarietyFan, IsMinkowskiFanOf}
@@ -25,7 +24,7 @@ use Rattle.gf_frame.specs.Commands.{Writing, Command}
 use Rattle.gfan.specs.declared.tropical.TropicalFan.{TropicalFan}
 use Rattle.gfan.specs.declared.tropical.TropicalFan.TheVariants as fans
 use Rattle.gfan.specs.Buchberger.{generators_of}
-use Rattle.gfan.specs.Stats.{of_gordan}
+use Rattle.gfan.specs.FanTexts.{IsWritingWithin}
 use Rattle.gfan.specs.ToolForms.{without_zero}
 
 -- ---- the form
@@ -77,6 +76,18 @@ systems_of fans.MinkowskiSum = IsSingleSystem
 abbrev pub IsTropicalStep : TropicalFan → ℕ → List Terms → ConeOverflow → Type 0
 IsTropicalStep which n fs s = IsSystemStep (systems_of which n (points_of_each fs)) n s
 
+-- an operation of finding the rays of one of these systems leaves its range; or the fan is found, and a sum leaves the range where the rays
+-- of one of its maximal cones are added up; or there is no memory
+pub data IsNoTropicalText (which : TropicalFan) (n : ℕ) (fs : List Terms) (r : Refusal) : Type 0 where
+  in_system : (o : ConeOverflow) → IsTropicalStep which n fs o → r ≡ refusals.ConeOverflow o.row o.op o.left o.right → IsNoTropicalText which n fs r
+  too_wide : (h : FanLists) (w : WideVector) → IsFanOfPolynomials which n fs h → IsWritingStep h w → r ≡ refusals.WideVector w → IsNoTropicalText which n fs r
+  no_memory : r ≡ refusals.Memory → IsNoTropicalText which n fs r
+
+-- none of these operations leaves its range
+pub record IsTropicalWithin (which : TropicalFan) (n : ℕ) (fs : List Terms) : Type 0 where
+  pub systems : (o : ConeOverflow) → IsTropicalStep which n fs o → ⊥
+  pub writing : (h : FanLists) → IsFanOfPolynomials which n fs h → IsWritingWithin h
+
 -- a refusal of such a fan as one of the run
 abbrev pub of_tropical : TropicalError → Refusal
 of_tropical (tropical_errors.Cone o) = refusals.ConeOverflow o.row o.op o.left o.right
@@ -93,7 +104,7 @@ tropical_command which = record {
   reading = of_one (ring_set_vector false);
   checks = λ v. for_number which (length v.1.0) ∷ without_zero v.1.0 ∷ [];
   IsAnswer = λ v text. IsTropicalText which (length v.0) (generators_of v.1.0) text;
-  IsCause = λ v r. (e : GordanError) × (r ≡ of_gordan e) × Failed (IsTropicalStep which (length v.0) (generators_of v.1.0)) e;
-  IsWithin = λ v. (o : ConeOverflow) → IsTropicalStep which (length v.0) (generators_of v.1.0) o → ⊥;
+  IsCause = λ v r. IsNoTropicalText which (length v.0) (generators_of v.1.0) r;
+  IsWithin = λ v. IsTropicalWithin which (length v.0) (generators_of v.1.0);
   writing = Writing.at_end;
 }

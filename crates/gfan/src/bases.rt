@@ -180,8 +180,12 @@ fn first_basis(
     }
 }
 
-// The list of a basis and of all below it, for all positive weights, by so many workers.
-fn waves_of<'g, G: Gate>(
+/// The list of a basis and of all below it, for all positive weights, by so many workers.
+///
+/// # Errors
+///
+/// Want of memory.
+pub(crate) fn waves_of<'g, G: Gate>(
     alloc: Global,
     root: MarkedSet,
     workers: u32,

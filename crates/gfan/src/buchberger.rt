@@ -135,7 +135,7 @@ fn checked(
 // ---- the job
 
 /// The refusal of a basis as one of the run.
-fn refused(error: BasisError) -> Refusal
+pub(crate) fn refused(error: BasisError) -> Refusal
     ensures { result ≡ of_basis error }
 {
     match error {

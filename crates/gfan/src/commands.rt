@@ -1,15 +1,13 @@
 //! What the program does for each job.
 ghost use Rattle.std.specs.Prelude.{◌≡◌, [], ◌∷◌, length, IfOk, IfErr, OnOk};
 ghost use Rattle.gf_front.specs.Jobs.{HasNumbersInRange};
-ghost use Rattle.gf_front.specs.declared.command_line.Job.{Job};
-ghost use Rattle.gf_front.specs.declared.options.FanCommonRefinementOptions.{FanCommonRefinementOptions};
 ghost use Rattle.gf_frame.specs.Seen.{seen, output_seen};
 ghost use Rattle.gf_frame.specs.Loading.{AreLoaded, AreUnloaded, HaveInput, HaveFile};
 ghost use Rattle.gf_frame.specs.Origins.{texts_of};
 ghost use Rattle.gf_frame.specs.Commands.{WritesOnce, IsAnswered, IsRefusedOn};
 ghost use Rattle.gf_frame.specs.Runs.{IsDoneOn, IsStoppedOn};
 ghost use Rattle.gfan.specs.Refused.{IsOfSource};
-ghost use Rattle.gfan.specs.Commands.{plain_command, command_of};
+ghost use Rattle.gfan.specs.Commands.{plain_command, command_of, ReadsInputAlone};
 ghost use Rattle.gfan.specs.Run.{IsOfLoaded};
 
 use crate::bases::ListOptions;
@@ -18,9 +16,10 @@ use crate::refused::Refused;
 use crate::told_cone::ConeOptions;
 use crate::tropical::TropicalFan;
 use crate::{
-    bases, buchberger, common_refinement, containment, given_basis, groebner_cone,
+    bases, buchberger, common_refinement, containment, generated, given_basis, groebner_cone,
     homogeneity_space, homogenize, initial_forms, leading_terms, mark_polynomial_set, marked,
-    polynomial_set_union, stats, to_polyhedral_fan, tropical, weight_vector,
+    migrate_fan, polynomial_set_union, saturation, stats, to_polyhedral_fan, tropical,
+    weight_vector,
 };
 use gf_frame::{LoadFrom, load_all};
 use gf_front::{Job, PlainCommand, Refusal};
@@ -64,6 +63,7 @@ pub(crate) fn texts_for<S: Source, F: Files>(
             ];
             load_all(alloc, &two, input, files)
         }
+        Job::Generated(_) => load_all(alloc, &[], input, files),
         _ => load_all(alloc, &[LoadFrom::Input], input, files),
     }
 }
@@ -97,6 +97,7 @@ fn plain_answer<R: Threads + Sync>(
         PlainCommand::MinkowskiSum => {
             tropical::answer(rt, alloc, source, TropicalFan::MinkowskiSum)
         }
+        PlainCommand::MigrateFan => migrate_fan::answer(alloc, source),
     }
 }
 
@@ -108,7 +109,7 @@ fn input_answer<R: Threads + Sync>(
     source: &[u8],
 ) -> Result<Vec<u8>, Refused>
     requires once { WritesOnce (command_of job.now).writing }
-    requires input { (o : FanCommonRefinementOptions) → job.now ≡ Job.FanCommonRefinement o → ⊥ }
+    requires input { ReadsInputAlone job.now }
     ensures ok { IfOk result (λ text. IsAnswered (command_of job.now) (source.now ∷ []) text.items) }
     ensures err { IfErr result (λ e. IsRefusedOn (command_of job.now) (source.now ∷ []) e.refusal) }
     ensures told { IfErr result (IsOfSource source.now) }
@@ -124,6 +125,7 @@ fn input_answer<R: Threads + Sync>(
             buchberger::answer(alloc, source, options)
         }
         Job::Bases(_) | Job::FanCommonRefinement(_) => unreachable!(),
+        Job::Generated(_) => unreachable!(),
         Job::LeadingTerms(given) => leading_terms::answer(alloc, source, given.listed),
         Job::GroebnerCone(given) => {
             let options = ConeOptions {
@@ -137,6 +139,7 @@ fn input_answer<R: Threads + Sync>(
             weight_vector::answer(alloc, source, given.listed, given.echoed)
         }
         Job::ToPolyhedralFan(given) => to_polyhedral_fan::answer(alloc, source, given.restrict),
+        Job::Saturation(given) => saturation::answer(alloc, source, given.pairs),
     }
 }
 
@@ -147,6 +150,7 @@ fn answered<R: Threads + Sync>(
     job: &Job,
     texts: &[Vec<u8>],
 ) -> Result<Vec<u8>, Refused>
+    requires limits { HasNumbersInRange job.now }
     requires once { WritesOnce (command_of job.now).writing }
     requires all { length texts.now ≡ length (command_of job.now).reads }
     ensures ok { IfOk result (λ text. IsAnswered (command_of job.now) (texts_of texts.now) text.items) }
@@ -157,6 +161,7 @@ fn answered<R: Threads + Sync>(
         Job::FanCommonRefinement(_) => {
             common_refinement::answer(rt, alloc, &texts[0], &texts[1])
         }
+        Job::Generated(given) => generated::answer(rt, alloc, given),
         other => input_answer(rt, alloc, other, &texts[0]),
     }
 }
@@ -169,6 +174,7 @@ fn write_answer<R: Threads + Sync, K: Sink>(
     texts: &[Vec<u8>],
     output: &mut K,
 ) -> Result<(), Refused>
+    requires limits { HasNumbersInRange job.now }
     requires once { WritesOnce (command_of job.now).writing }
     requires all { length texts.now ≡ length (command_of job.now).reads }
     ensures done { OnOk result (IsDoneOn (command_of job.now) (texts_of texts.now) (output_seen (K.held output.old) (K.faults output.old))

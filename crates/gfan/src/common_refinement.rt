@@ -13,7 +13,7 @@ use std::thread::Threads;
 ///
 /// - Those of the first text, then of the second, as `read` of `gf_fanfile` has them.
 /// - `Dimensions` exactly where both say fans, of vectors of different lengths; `ConeOverflow` only at an operation of finding the fan of
-///   the meets.
+///   the meets, `WideVector` only at a sum of the rays of one of its maximal cones.
 pub(crate) fn answer<R: Threads + Sync>(
     rt: &R,
     alloc: Global,
@@ -27,5 +27,6 @@ pub(crate) fn answer<R: Threads + Sync>(
     let first = gf_fanfile::read(alloc, a)?;
     let second = gf_fanfile::read(alloc, b)?;
     let fan = gf_refine::common(rt, alloc, &first, &second)?;
-    Ok(gf_fanfile::write(alloc, &fan)?)
+    let text = gf_fanfile::write(alloc, &fan)?;
+    Ok(text)
 }

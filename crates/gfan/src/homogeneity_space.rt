@@ -7,7 +7,7 @@ ghost use Rattle.gf_frame.specs.Commands.{IsAnswered, IsRefusedOn};
 ghost use Rattle.gfan.specs.Refused.{IsOfSource};
 ghost use Rattle.gfan.specs.HomogeneitySpace.{marked_of, nonzero_of, IsSpaceCone, IsSpaceText, IsNoSpace, homogeneity_space_command};
 
-use crate::fan_text::{fan_text, of_fan};
+use crate::fan_text::fan_text;
 use crate::refused::{Refused, of_gordan};
 use gf_front::Refusal;
 use gf_gordan::GordanError;
@@ -75,10 +75,8 @@ fn space_text(alloc: Global, n: u32, set: &[Written]) -> Result<Vec<u8>, Refusal
         Err(error) => return Err(of_gordan(error)),
     };
     let cones = alone(alloc, space)?;
-    match fan_text(alloc, n, cones) {
-        Ok(text) => Ok(text),
-        Err(error) => Err(of_fan(error)),
-    }
+    let text = fan_text(alloc, n, cones)?;
+    Ok(text)
 }
 
 /// The homogeneity space of the set of the source, the vectors by which each of its polynomials is homogeneous, as a fan file of one cone.
@@ -89,7 +87,7 @@ fn space_text(alloc: Global, n: u32, set: &[Written]) -> Result<Vec<u8>, Refusal
 /// - `Syntax`, `TooWide`, `UnknownName` and `TooManyVariables` exactly where the source isn't the text of a ring and of a set in it, at
 ///   the first token after which no such text goes on.
 /// - `Overflow` and `ExponentOverflow` only at a sum of the text; `ConeOverflow` only at an operation of finding the space, or its one
-///   face.
+///   face; `WideVector` only at a sum of the rays of that.
 pub(crate) fn answer(alloc: Global, source: &[u8]) -> Result<Vec<u8>, Refused>
     ensures ok { IfOk result (λ text. IsAnswered homogeneity_space_command (source.now ∷ []) text.items) }
     ensures err { IfErr result (λ e. IsRefusedOn homogeneity_space_command (source.now ∷ []) e.refusal) }

@@ -1,9 +1,10 @@
-//! What the list of `_bases` and the weights of `_weightvector` have: laws, each the contract of a function that computes nothing.
+//! What the list of `_bases`, the weights of `_weightvector` and the lines of `_generated` have: laws, each the contract of a function that computes nothing.
 ghost use Rattle.gfan.specs.BasesList.{WeightsAreServed};
 ghost use Rattle.gfan.specs.OneList.{ListsExist, ListsAreOne, TextsAreOne};
 ghost use Rattle.gfan.specs.Served.{WrittenListsServe};
 ghost use Rattle.gfan.specs.CertifiedBases.{CertificatesHold};
 ghost use Rattle.gfan.specs.GivingWeights.{WrittenWeightsGiveBases};
+ghost use Rattle.gfan.specs.OneSummary.{SummariesAreOne};
 
 /// A basis is in the list that `_bases` writes exactly where some positive weight gives it. For each positive weight for which monomials
 /// generate the initial ideal its reduced basis is there, once; so is that for each term order; and each positive weight lies in the
@@ -44,4 +45,9 @@ pub fn certificates_hold()
 /// positive, and the set, made monic and arranged, is the reduced Gröbner basis for it of the ideal that the set generates.
 pub fn written_weights_give_bases()
     ensures { WrittenWeightsGiveBases }
+{}
+
+/// Two runs of `_generated` that end well for one number and one limit have written the same bytes, whatever their numbers of workers are.
+pub fn summaries_are_one()
+    ensures { SummariesAreOne }
 {}

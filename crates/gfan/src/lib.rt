@@ -8,7 +8,9 @@
 //! `_weightvector` writes weights that give marked bases, `_topolyhedralfan` the fan of the cones of such bases, `_homogeneityspace` the
 //! vectors by which polynomials are homogeneous, `_tropicalhypersurface` the tropical hypersurface of a polynomial, `_tropicalintersection`
 //! the meet of those of a set, `_minkowskisum` the normal fan of the sum of Newton polytopes; `_fancommonrefinement` reads two files and
-//! writes the fan of the meets of the cones of their fans. What a run does is told at `run`, what each command writes in
+//! writes the fan of the meets of the cones of their fans, `_migratefan` reads one and writes its fan anew; `_generated` reads nothing, and sums up
+//! the bases of an ideal; `_saturation` reads a ring and a set, and writes the reduced basis by degree of the saturation of its ideal by the
+//! product of the variables. What a run does is told at `run`, what each command writes in
 //! `specs/Commands.antt` and `specs/CommonRefinement.antt`.
 #![tactic(auto)]
 
@@ -20,6 +22,7 @@ mod commands;
 mod common_refinement;
 mod containment;
 mod fan_text;
+mod generated;
 mod given_basis;
 mod groebner_cone;
 mod homogeneity_space;
@@ -29,11 +32,13 @@ pub mod laws;
 mod leading_terms;
 mod mark_polynomial_set;
 mod marked;
+mod migrate_fan;
 mod polynomial_set_union;
 mod printing;
 mod reduced_sets;
 pub mod refused;
 pub mod run;
+mod saturation;
 mod stats;
 mod to_polyhedral_fan;
 mod told_cone;

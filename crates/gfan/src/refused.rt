@@ -8,6 +8,7 @@ ghost use Rattle.gfan.specs.Refused.{names_of, IsNamedBy, WrittenAsFar};
 ghost use Rattle.gfan.specs.Stats.{of_gordan};
 ghost use Rattle.gfan.specs.Tropical.{of_tropical};
 
+use crate::fan_text::of_writing;
 use gf_buchberger::BasisError;
 use gf_fanfile::FanFileError;
 use gf_front::{Refusal, WordsError};
@@ -19,6 +20,7 @@ use gf_sections::SectionsError;
 use gf_text::{Ring, Syntax, TextError};
 use gf_tree::TreeError;
 use gf_tropical::TropicalError;
+use gf_vec::VecError;
 use gf_weights::WeightError;
 use std::alloc::AllocError;
 
@@ -290,8 +292,22 @@ impl From<FanFileError> for Refused {
             FanFileError::Missing { section } => Refusal::Missing { section },
             FanFileError::BadRay { number } => Refusal::BadRay { number },
             FanFileError::Dimensions { left, right } => Refusal::Dimensions { left, right },
+            FanFileError::BadVersion { number } => Refusal::BadVersion { number },
+            FanFileError::BadCertificate { cone } => Refusal::BadCertificate { cone },
+            FanFileError::Wide(wide) => Refusal::WideVector(wide),
             FanFileError::Memory => Refusal::Memory,
         })
+    }
+}
+
+impl From<VecError> for Refused {
+    ghost use Rattle.gfan.specs.FanTexts.{of_writing};
+    ghost use Rattle.gfan.specs.Refused.{without_names};
+
+    ghost from_gives = { λ v e. e ≡ without_names (of_writing v) };
+
+    fn from(error: VecError) -> Refused {
+        Refused::from(of_writing(error))
     }
 }
 

@@ -56,10 +56,10 @@ fn outcome<R: Threads + Sync, S: Source, K: Sink, F: Files, G: Gate>(
 /// Does what the words ask for, and tells a refusal in one line.
 ///
 /// The words are those after the program's name. The job is that of `gf_front::words`; what it reads and writes is told
-/// at its own function. `_fancommonrefinement` loads two of `files`, the first one whole before the second, and doesn't read the input; every
-/// other job reads the input to its end, and no file. The answer is one piece of the output, or of `_bases` one piece for each basis, and
+/// at its own function. `_fancommonrefinement` loads two of `files`, the first one whole before the second, and doesn't read the input;
+/// `_generated` reads nothing; every other job reads the input to its end, and no file. The answer is one piece of the output, or of `_bases` one piece for each basis, and
 /// nothing else is written there. Of `_bases` several workers may do the jobs of the list, on threads of `rt`: before each of them the gate is
-/// called, on the thread that will do it, and no answer depends on it. `_fancommonrefinement`, `_tropicalintersection` and `_minkowskisum` meet
+/// called, on the thread that will do it, and no answer depends on it; of `_generated` they may too, without the gate. `_fancommonrefinement`, `_tropicalintersection` and `_minkowskisum` meet
 /// cones on threads of `rt` too. On Done nothing is written to `faults`. Whether `faults` takes the line changes neither the status nor the output.
 ///
 /// # Errors
@@ -78,7 +78,7 @@ fn outcome<R: Threads + Sync, S: Source, K: Sink, F: Files, G: Gate>(
 ///   leaves a remainder, with that remainder. `NotAFan` exactly where the cones of such sets, or of a fan file, have no fan, at the first
 ///   pair whose meet isn't a face of both, unless numbers of the work don't fit.
 /// - `Overflow`, `ExponentOverflow`, `ConeOverflow` and `WideVector` only for operands that the job may have, and that don't fit; `Overflow`
-///   never of `_buchberger` and `_bases` where each polynomial is a monomial or a difference of two, without numbers;
+///   never of `_generated`, nor of `_buchberger` and `_bases` where each polynomial is a monomial or a difference of two, without numbers;
 ///   `PairBudget` only where the budget of the words is spent.
 /// - `ListLimit` only where the limit of the words is reached, and the list goes on; and always there, unless numbers of the work don't fit.
 /// - `WriteFault` only where a write of this call failed, or took nothing; a prefix of the answer may be
@@ -131,7 +131,7 @@ pub fn run<R: Threads + Sync, S: Source, K: Sink, E: Sink, F: Files, G: Gate>(
         → IsRefusedWith result (Refusal.ListLimit most) }
 
     // Where each polynomial is written as a monomial or as the difference of two, without numbers, no coefficient of `_buchberger` and `_bases`
-    // leaves its range.
+    // leaves its range; nor does one of `_generated`.
     ensures binomials { (job : Job) (texts : List (List ℕ)) (o : Overflow) → IsJobOf (map string_bytes words.now) job
         → AreGivenTexts (command_of job)
         (seen (S.left input.old) (S.given input.old) (S.faults input.old) (F.bytes files.old) (F.left files.old)

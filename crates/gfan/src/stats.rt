@@ -11,7 +11,7 @@ use itoa::Buffer;
 use std::alloc::{AllocError, Global};
 
 /// Adds a line: what is counted, and the number.
-fn push_line(text: &mut Vec<u8>, label: &str, n: u128) -> Result<(), AllocError>
+pub(crate) fn push_line(text: &mut Vec<u8>, label: &str, n: u128) -> Result<(), AllocError>
     ensures { OnOk result (text.new.items ≡ text.old.items ++ count_line label.now n) }
 {
     text.extend_from_slice(label.as_bytes())?;

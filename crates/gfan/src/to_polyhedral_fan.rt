@@ -7,7 +7,7 @@ ghost use Rattle.gf_frame.specs.Commands.{IsAnswered, IsRefusedOn};
 ghost use Rattle.gfan.specs.Refused.{IsOfSource};
 ghost use Rattle.gfan.specs.ToPolyhedralFan.{IsConeOfSet, IsConeStepOfSet, IsConeStepOfSets, IsFanOfSetsText, IsNoFanOfSets, to_polyhedral_fan_command};
 
-use crate::fan_text::{fan_text, of_fan};
+use crate::fan_text::fan_text;
 use crate::reduced_sets::reduced_bases;
 use crate::refused::{Refused, of_check, of_gordan};
 use gf_cone::Cone;
@@ -57,10 +57,8 @@ fn fan_of_sets(alloc: Global, n: u32, sets: &[MarkedSet], cut: bool) -> Result<V
         Ok(cones) => cones,
         Err(error) => return Err(of_gordan(error)),
     };
-    match fan_text(alloc, n, cones) {
-        Ok(text) => Ok(text),
-        Err(error) => Err(of_fan(error)),
-    }
+    let text = fan_text(alloc, n, cones)?;
+    Ok(text)
 }
 
 /// The fan of all faces of the closed cones of the marked sets of the source, as a fan file. Each set is a reduced Gröbner basis for its
@@ -79,7 +77,7 @@ fn fan_of_sets(alloc: Global, n: u32, sets: &[MarkedSet], cut: bool) -> Result<V
 /// - `NotAFan` exactly where all sets are taken, and the meet of two of their cones isn't a face of both: the first such pair.
 /// - `Overflow` and `ExponentOverflow` only at a sum of the text or an operation of the checks; `ConeOverflow` only at a step of
 ///   the elimination of a marking's system, or where all sets are taken at an operation of finding the rays of a cone, of the meet of two
-///   or of a face of one.
+///   or of a face of one; `WideVector` only at a sum of the rays of a maximal cone.
 pub(crate) fn answer(alloc: Global, source: &[u8], cut: bool) -> Result<Vec<u8>, Refused>
     ensures ok { IfOk result (λ text. IsAnswered (to_polyhedral_fan_command cut) (source.now ∷ []) text.items) }
     ensures err { IfErr result (λ e. IsRefusedOn (to_polyhedral_fan_command cut) (source.now ∷ []) e.refusal) }

@@ -5,7 +5,7 @@ ghost use Rattle.gf_text.specs.declared.TheConstants.{MOST_VARIABLES};
 ghost use Rattle.gfan.specs.ToPolyhedralFan.{inequalities_of};
 ghost use Rattle.gfan.specs.ToldCones.{IsConeFanText, IsConeFanCause, IsToldAs, IsUntoldAs};
 
-use crate::fan_text::{fan_text, of_fan};
+use crate::fan_text::fan_text;
 use crate::homogeneity_space::alone;
 use crate::refused::{of_gordan, of_sections};
 use gf_front::Refusal;
@@ -58,10 +58,8 @@ fn cone_fan(
         Err(error) => return Err(of_gordan(error)),
     };
     let cones = alone(alloc, cone)?;
-    match fan_text(alloc, n, cones) {
-        Ok(text) => Ok(text),
-        Err(error) => Err(of_fan(error)),
-    }
+    let text = fan_text(alloc, n, cones)?;
+    Ok(text)
 }
 
 /// What is told of the cone of inequalities and equations in `n` variables.

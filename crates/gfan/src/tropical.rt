@@ -11,6 +11,7 @@ ghost use Rattle.gfan.specs.ToolForms.{HasNoZero, IsZeroRefusal};
 ghost use Rattle.gfan.specs.Tropical.{HasNumber, IsNumberRefusal, IsFanOfPolynomials, systems_of, tropical_command};
 
 use crate::checks::nonzero;
+use crate::fan_text::of_writing;
 use crate::mark_polynomial_set::polynomials;
 use crate::refused::{Refused, of_tropical};
 use gf_fan::Fan;
@@ -111,12 +112,13 @@ fn text_of<R: Threads + Sync>(
     let n = ring.len();
     check_number(which, set.len())?;
     let list = nonzero_polynomials(alloc, n, set)?;
-    match fan_of(rt, alloc, n, &list, which) {
-        Ok(fan) => {
-            let text = write(alloc, &fan)?;
-            Ok(text)
-        }
-        Err(error) => Err(of_tropical(error)),
+    let fan = match fan_of(rt, alloc, n, &list, which) {
+        Ok(fan) => fan,
+        Err(error) => return Err(of_tropical(error)),
+    };
+    match write(alloc, &fan) {
+        Ok(text) => Ok(text),
+        Err(error) => Err(of_writing(error)),
     }
 }
 
@@ -131,7 +133,8 @@ fn text_of<R: Threads + Sync>(
 /// - `ZeroPolynomial` exactly where there are as many polynomials as are asked for and nothing remains of one, with the index of the
 ///   first one.
 /// - `Overflow` and `ExponentOverflow` only at a sum of the text; `ConeOverflow` only at an operation of finding the rays of a cone that
-///   the fan is made from: the cone of one or two exponents of a polynomial, the whole space, a face of a cone, or the meet of two.
+///   the fan is made from: the cone of one or two exponents of a polynomial, the whole space, a face of a cone, or the meet of two;
+///   `WideVector` only at a sum of the rays of a maximal cone.
 pub(crate) fn answer<R: Threads + Sync>(
     rt: &R,
     alloc: Global,

@@ -11,11 +11,11 @@ const LINE: &str = "_fancommonrefinement -i1 one.fan --i2 two.fan";
 
 /// A tropical line: three rays.
 const THREE_RAYS: &str =
-    "AMBIENT_DIM\n2\n\nDIM\n1\n\nLINEALITY_DIM\n0\n\nRAYS\n-1 0\t# 0\n0 -1\t# 1\n1 1\t# 2\n\nN_RAYS\n3\n\nLINEALITY_SPACE\n\nORTH_LINEALITY_SPACE\n1 0\n0 1\n\nF_VECTOR\n1 3\n\nSIMPLICIAL\n1\n\nPURE\n1\n\nCONES\n{}\t# Dimension 0\n{0}\t# Dimension 1\n{1}\n{2}\n\nMAXIMAL_CONES\n{0}\t# Dimension 1\n{1}\n{2}\n\n";
+    "FILE_VERSION\n2\n\nAMBIENT_DIM\n2\n\nDIM\n1\n\nLINEALITY_DIM\n0\n\nRAYS\n-1 0\t# 0\n0 -1\t# 1\n1 1\t# 2\n\nN_RAYS\n3\n\nLINEALITY_SPACE\n\nORTH_LINEALITY_SPACE\n1 0\n0 1\n\nF_VECTOR\n1 3\n\nSIMPLICIAL\n1\n\nPURE\n1\n\nCONES\n{}\t# Dimension 0\n{0}\t# Dimension 1\n{1}\n{2}\n\nMAXIMAL_CONES\n{0}\t# Dimension 1\n{1}\n{2}\n\nMAXIMAL_INTERIORS\n-1 0\n0 -1\n1 1\n\n";
 
 /// Two half planes, and the line between them.
 const HALF_PLANES: &str =
-    "AMBIENT_DIM\n2\n\nDIM\n2\n\nLINEALITY_DIM\n1\n\nRAYS\n-1 1\t# 0\n1 -1\t# 1\n\nN_RAYS\n2\n\nLINEALITY_SPACE\n1 1\n\nORTH_LINEALITY_SPACE\n1 -1\n\nF_VECTOR\n1 2\n\nSIMPLICIAL\n1\n\nPURE\n1\n\nCONES\n{}\t# Dimension 1\n{0}\t# Dimension 2\n{1}\n\nMAXIMAL_CONES\n{0}\t# Dimension 2\n{1}\n\n";
+    "FILE_VERSION\n2\n\nAMBIENT_DIM\n2\n\nDIM\n2\n\nLINEALITY_DIM\n1\n\nRAYS\n-1 1\t# 0\n1 -1\t# 1\n\nN_RAYS\n2\n\nLINEALITY_SPACE\n1 1\n\nORTH_LINEALITY_SPACE\n1 -1\n\nF_VECTOR\n1 2\n\nSIMPLICIAL\n1\n\nPURE\n1\n\nCONES\n{}\t# Dimension 1\n{0}\t# Dimension 2\n{1}\n\nMAXIMAL_CONES\n{0}\t# Dimension 2\n{1}\n\nMAXIMAL_INTERIORS\n-1 1\n1 -1\n\n";
 
 /// The two half planes of an axis, and the axis.
 const AXIS: &str =
@@ -23,7 +23,7 @@ const AXIS: &str =
 
 /// What these half planes and the others have in common: four cones of dimension two.
 const FOUR_CONES: &str =
-    "AMBIENT_DIM\n2\n\nDIM\n2\n\nLINEALITY_DIM\n0\n\nRAYS\n-1 -1\t# 0\n0 -1\t# 1\n0 1\t# 2\n1 1\t# 3\n\nN_RAYS\n4\n\nLINEALITY_SPACE\n\nORTH_LINEALITY_SPACE\n1 0\n0 1\n\nF_VECTOR\n1 4 4\n\nSIMPLICIAL\n1\n\nPURE\n1\n\nCONES\n{}\t# Dimension 0\n{0}\t# Dimension 1\n{1}\n{2}\n{3}\n{0 1}\t# Dimension 2\n{0 2}\n{1 3}\n{2 3}\n\nMAXIMAL_CONES\n{0 1}\t# Dimension 2\n{0 2}\n{1 3}\n{2 3}\n\n";
+    "FILE_VERSION\n2\n\nAMBIENT_DIM\n2\n\nDIM\n2\n\nLINEALITY_DIM\n0\n\nRAYS\n-1 -1\t# 0\n0 -1\t# 1\n0 1\t# 2\n1 1\t# 3\n\nN_RAYS\n4\n\nLINEALITY_SPACE\n\nORTH_LINEALITY_SPACE\n1 0\n0 1\n\nF_VECTOR\n1 4 4\n\nSIMPLICIAL\n1\n\nPURE\n1\n\nCONES\n{}\t# Dimension 0\n{0}\t# Dimension 1\n{1}\n{2}\n{3}\n{0 1}\t# Dimension 2\n{0 2}\n{1 3}\n{2 3}\n\nMAXIMAL_CONES\n{0 1}\t# Dimension 2\n{0 2}\n{1 3}\n{2 3}\n\nMAXIMAL_INTERIORS\n-1 -2\n-1 0\n1 0\n1 2\n\n";
 
 /// A ray of a line.
 const RAY: &str = "AMBIENT_DIM\n1\n\nRAYS\n1\n\nLINEALITY_SPACE\n\nMAXIMAL_CONES\n{0}\n";

@@ -11,7 +11,7 @@ returns-in_err-file-clause-err c =
     rw (p.1, p.2) (before_cones c.in_err-file.ensures.err)
 
 pub returns-in_err-file-clause-complete : goal.returns-in_err-file-clause-complete
-returns-in_err-file-clause-complete c = λ f is sound within meeting.
+returns-in_err-file-clause-complete c = λ f is sound within certified meeting.
     let p = err_from_is_err_and c.from_residual.result c.from_residual.ensures.1 in
     rw (p.1, p.2) (c.in_err-file.ensures.complete f is sound within.tests)
 
@@ -30,8 +30,8 @@ pub returns-clause-err : goal.returns-clause-err
 returns-clause-err c = fan_refusal c.args.source.now c.in_ok-file.file c.fan_of.result c.in_ok-file.ensures.file c.in_ok-file.ensures.sound c.fan_of.ensures.err
 
 pub returns-clause-complete : goal.returns-clause-complete
-returns-clause-complete c = λ f is sound within meeting.
-    fan_complete c.args.source.now f c.in_ok-file.file c.fan_of.result is c.in_ok-file.ensures.file within meeting c.fan_of.ensures.ok c.fan_of.ensures.err
+returns-clause-complete c = λ f is sound within certified meeting.
+    fan_complete c.args.source.now f c.in_ok-file.file c.fan_of.result is c.in_ok-file.ensures.file within certified meeting c.fan_of.ensures.ok c.fan_of.ensures.err
 
 pub returns-clause-always : goal.returns-clause-always
 returns-clause-always c = λ e refused told.

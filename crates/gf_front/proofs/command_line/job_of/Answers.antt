@@ -1,6 +1,6 @@
 use Rattle.std.proofs.Common.{refl}
 use Rattle.clap.specs.Words.{found_of, rows_of}
-use Rattle.gf_front.specs.Table.{buchberger, bases, leading_terms, groebner_cone, weight_vector, to_polyhedral_fan, fan_common_refinement}
+use Rattle.gf_front.specs.Table.{buchberger, bases, leading_terms, groebner_cone, weight_vector, to_polyhedral_fan, fan_common_refinement, generated, saturation}
 use Rattle.gf_front.proofs.JobLaws.{choices_hold}
 use Rattle.gf_front.proofs.command_line.job_of.Goals as goal
 
@@ -24,3 +24,9 @@ to_polyhedral_fan-requires c = choices_hold to_polyhedral_fan (c.args.name.now, 
 
 pub fan_common_refinement-requires : goal.fan_common_refinement-requires
 fan_common_refinement-requires c = choices_hold fan_common_refinement (c.args.name.now, rows_of (found_of c.args.found.now)) refl c.requires c.in-text-7.is
+
+pub generated-requires : goal.generated-requires
+generated-requires c = choices_hold generated (c.args.name.now, rows_of (found_of c.args.found.now)) refl c.requires c.in-text-8.is
+
+pub saturation-requires : goal.saturation-requires
+saturation-requires c = choices_hold saturation (c.args.name.now, rows_of (found_of c.args.found.now)) refl c.requires c.in-text-9.is

@@ -1,8 +1,9 @@
 use Rattle.std.proofs.lemmas.Result.{IfOk-weaker}
 use Rattle.gf_frame.specs.Commands.{IsAnswered, IsRefusedOn}
 use Rattle.gfan.proofs.CommonRefinementLaws.{refinement_answered, refinement_refused}
+use Rattle.gfan.proofs.CommandLaws.{one_source}
 use Rattle.gfan.proofs.PerformedLaws.{on_err}
-use Rattle.gfan.proofs.SourceLaws.{two_as}
+use Rattle.gfan.proofs.SourceLaws.{two_as, none_as}
 use Rattle.gfan.proofs.commands.answered.Goals as goal
 
 pub returns-in-FanCommonRefinement-clause-ok : goal.returns-in-FanCommonRefinement-clause-ok
@@ -18,3 +19,14 @@ returns-in-FanCommonRefinement-clause-err g c =
     let a = c.deref.result.now in
     let b = c.deref-in-FanCommonRefinement.result.now in
     on_err c.answer.result _ _ (λ e h. two_as (λ k us. IsRefusedOn k us e.refusal) c.args.job.now o c.args.texts.now c.index-texts-0.result c.index-texts-1.result a b c.in-FanCommonRefinement.is c.requires.all c.index-texts-0.is c.index-texts-1.is c.deref.ensures.value c.deref-in-FanCommonRefinement.ensures.value (refinement_refused o.first o.second a b e.refusal h)) c.answer.ensures.err
+
+pub returns-in-Generated-clause-ok : goal.returns-in-Generated-clause-ok
+returns-in-Generated-clause-ok g c =
+    IfOk-weaker c.answer-in-Generated.result _ _ (λ text t. none_as (λ k us. IsAnswered k us text.items) c.args.job.now _ c.args.texts.now c.in-Generated.is c.requires.all t) c.answer-in-Generated.ensures.ok
+
+pub returns-in-Generated-clause-err : goal.returns-in-Generated-clause-err
+returns-in-Generated-clause-err g c =
+    on_err c.answer-in-Generated.result _ _ (λ e h. none_as (λ k us. IsRefusedOn k us e.refusal) c.args.job.now _ c.args.texts.now c.in-Generated.is c.requires.all h) c.answer-in-Generated.ensures.err
+
+pub input_answer-requires-clause-input : goal.input_answer-requires-clause-input
+input_answer-requires-clause-input g c κs within = one_source c.args.job.now c.in_default.not-FanCommonRefinement c.in_default.not-Generated

@@ -2,11 +2,11 @@ use Rattle.std.proofs.Common.{[], ◌∷◌, IfErr, sym, subst}
 use Rattle.gf_front.specs.declared.command_line.Job.{Job}
 use Rattle.gf_frame.specs.Commands.{IsRefusedOn}
 use Rattle.gfan.specs.Commands.{command_of}
-use Rattle.gfan.proofs.SourceLaws.{not_asked}
+use Rattle.gfan.proofs.SourceLaws.{not_asked, not_handed}
 use Rattle.gfan.proofs.commands.input_answer.Goals as goal
 
-pub unreachable-requires : goal.unreachable-requires
-unreachable-requires g c = absurd (not_asked c.args.job.now c.requires.once c.requires.input c.in-Bases.is)
+pub unreachable-requires-in-Bases : goal.unreachable-requires-in-Bases
+unreachable-requires-in-Bases g c = absurd (not_asked c.args.job.now c.requires.once c.requires.input c.in-Bases.is)
 
 pub returns-in-Buchberger-clause-err : goal.returns-in-Buchberger-clause-err
 returns-in-Buchberger-clause-err g c =
@@ -15,3 +15,6 @@ returns-in-Buchberger-clause-err g c =
 pub returns-in-ToPolyhedralFan-clause-err : goal.returns-in-ToPolyhedralFan-clause-err
 returns-in-ToPolyhedralFan-clause-err g c =
     subst (λ (j : Job). IfErr c.answer-in-ToPolyhedralFan.result (λ e. IsRefusedOn (command_of j) (c.args.source.now ∷ []) e.refusal)) (sym c.in-ToPolyhedralFan.is) c.answer-in-ToPolyhedralFan.ensures.err
+
+pub unreachable-requires : goal.unreachable-requires
+unreachable-requires g c = absurd (not_handed c.args.job.now _ c.requires.input c.in-Generated.is)

@@ -1,3 +1,4 @@
+use Rattle.std.proofs.lemmas.Result.{err_from_is_err_and}
 use Rattle.gfan.proofs.ToPolyhedralFanLaws.{cones_ambient, set_no_fan, cone_no_fan, fan_no_fan, fan_told}
 use Rattle.gfan.proofs.to_polyhedral_fan.fan_of_sets.Goals as goal
 
@@ -10,10 +11,10 @@ returns-in-Err-cones_of-clause-err c = cone_no_fan c.args.cut c.args.n c.args.se
 pub fan_text-requires-clause-cones : goal.fan_text-requires-clause-cones
 fan_text-requires-clause-cones c = cones_ambient c.args.cut c.args.n c.args.sets.now c.in-Ok-cones_of.cones.items c.in-Ok-cones_of.ensures.ok c.requires.variables
 
-pub returns-in-Ok-fan_text-clause-ok : goal.returns-in-Ok-fan_text-clause-ok
-returns-in-Ok-fan_text-clause-ok c =
-    fan_told c.args.cut c.args.n c.args.sets.now c.in-Ok.bases.items c.in-Ok-cones_of.cones.items c.in-Ok-fan_text.text.items c.in-Ok.ensures.ok c.in-Ok-cones_of.ensures.ok c.in-Ok-fan_text.ensures.ok
+pub returns-clause-ok : goal.returns-clause-ok
+returns-clause-ok c = fan_told c.args.cut c.args.n c.args.sets.now c.in-Ok.bases.items c.in-Ok-cones_of.cones.items c.in_ok-text.text.items c.in-Ok.ensures.ok c.in-Ok-cones_of.ensures.ok c.in_ok-text.ensures.ok
 
-pub returns-clause-err : goal.returns-clause-err
-returns-clause-err c =
-    fan_no_fan c.args.cut c.args.n c.args.sets.now c.in-Ok.bases.items c.in-Ok-cones_of.cones.items c.in-Err-fan_text.error c.of_fan.result c.in-Ok.ensures.ok c.in-Ok-cones_of.ensures.ok c.in-Err-fan_text.ensures.err c.of_fan.ensures
+pub returns-in_err-text-clause-err : goal.returns-in_err-text-clause-err
+returns-in_err-text-clause-err c =
+    let p = err_from_is_err_and c.from_residual.result c.from_residual.ensures.1 in
+    rw (p.1, p.2) (fan_no_fan c.args.cut c.args.n c.args.sets.now c.in-Ok.bases.items c.in-Ok-cones_of.cones.items c.in_err-text.field-0.0 c.in-Ok.ensures.ok c.in-Ok-cones_of.ensures.ok c.in_err-text.ensures.err)

@@ -1,17 +1,16 @@
 use Rattle.std.proofs.Common.{◌≡◌, false, length}
-use Rattle.gf_text.specs.declared.TheConstants.{MOST_VARIABLES}
 use Rattle.gf_text.specs.Machine.{run}
 use Rattle.gf_fanfile.specs.Lines.{content_from}
 use Rattle.gf_fanfile.specs.NumberText.{number_step}
 use Rattle.gf_fanfile.specs.declared.numbers.NumberState.TheVariants.{Unread}
 use Rattle.gf_fanfile.specs.FanText.{is_above}
 use Rattle.gf_fanfile.specs.Found.{IsPlaceWithin, tokens_left}
-use Rattle.gf_fanfile.proofs.numbers.dimension_from.Given as goal
+use Rattle.gf_fanfile.proofs.numbers.number_from.Given as goal
 
 abbrev pub invariant-loop-token : goal.invariant-loop-token
 invariant-loop-token l = record {
   within : IsPlaceWithin l.source l.place;
-  below : is_above MOST_VARIABLES (content_from l.source l.from) ≡ false;
+  below : is_above l.limit (content_from l.source l.from) ≡ false;
   same : run number_step l.state (length l.source) (tokens_left l.source l.place) ≡ run number_step Unread (length l.source) (content_from l.source l.from);
 }
 
