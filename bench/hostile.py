@@ -42,13 +42,15 @@ LINES = {
     16: (1, rb"inconsistent marking: set [0-9]+ multipliers \(" + WHOLE + rb"(?:," + WHOLE + rb")*\)"),
     17: (3, rb"cone overflow: row [0-9]+: " + WHOLE + rb" [-+*] " + WHOLE),
     18: (1, rb"no fan: cones [0-9]+ and [0-9]+"),
-    19: (1, rb"missing section (?:AMBIENT_DIM|RAYS|LINEALITY_SPACE|MAXIMAL_CONES)"),
+    19: (1, rb"missing section (?:AMBIENT_DIM|RAYS|LINEALITY_SPACE|MAXIMAL_CONES|MAXIMAL_INTERIORS)"),
     20: (1, rb"bad ray [0-9]+"),
     21: (1, rb"dimension [0-9]+ where [0-9]+ is needed"),
     22: (1, rb"zero polynomial: set [0-9]+ polynomial [0-9]+"),
     23: (2, rb"usage: gfan _COMMAND \[OPTIONS\]"),
     24: (4, rb"list limit: [0-9]+ written"),
     25: (1, rb"not homogeneous: polynomial [0-9]+: " + MONOMIAL + rb" and " + MONOMIAL),
+    28: (1, rb"bad certificate: cone [0-9]+"),
+    29: (1, rb"bad file version [0-9]+"),
 }
 
 # what _bases has written when it stops: the ring, and pieces that end behind a basis and its certificates
