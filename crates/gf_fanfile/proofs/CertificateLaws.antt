@@ -1,6 +1,6 @@
 -- Which vectors lie inside a cone, and what a loop over rows and cones has tested.
 -- To cite: proper_cones, row_refutes, rows_decide, wide_inequality, wide_equation, inside_at, outside_at, wide_at, width_at, proper_at, ambient_at, more_inside. The rest are steps.
-use Rattle.std.proofs.Common.{◌≡◌, ◌⊎◌, ◌↔◌, ℕ, ◌+◌, ◌<◌, Bool, false, IsTrue, List, [], length, get_or, ℤ, pos, ◌<ℤ◌, All, Any, Contains, sym, ap, ◌∙◌, subst, inl, inr, arith}
+use Rattle.std.proofs.Common.{◌≡◌, ◌⊎◌, ◌↔◌, ℕ, ◌+◌, ◌<◌, Bool, false, IsTrue, List, length, get_or, ℤ, pos, ◌<ℤ◌, All, Any, Contains, sym, ap, ◌∙◌, subst, inl, inr, arith}
 use Rattle.std.proofs.lemmas.Bool.{cases_lt}
 use Rattle.std.proofs.lemmas.Int.{ints}
 use Rattle.std.proofs.lemmas.List.{get_or_default}

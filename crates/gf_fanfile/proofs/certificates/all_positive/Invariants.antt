@@ -1,4 +1,4 @@
-use Rattle.std.proofs.Common.{◌≡◌, ℕ, ◌<◌, List, ℤ, get_or, pos, ◌<ℤ◌}
+use Rattle.std.proofs.Common.{ℕ, ◌<◌, List, ℤ, get_or, pos, ◌<ℤ◌}
 use Rattle.gf_vec.specs.Vector.{dot}
 use Rattle.gf_fanfile.proofs.certificates.all_positive.Given as goal
 

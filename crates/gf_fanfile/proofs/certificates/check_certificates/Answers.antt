@@ -1,4 +1,4 @@
-use Rattle.std.proofs.Common.{◌<◌, ◌≡◌, length, refl, arith}
+use Rattle.std.proofs.Common.{◌<◌, length, refl, arith}
 use Rattle.gf_fanfile.specs.Certificates.{at_row, too_wide}
 use Rattle.gf_fanfile.proofs.CertificateLaws.{inside_at, outside_at, wide_at, ambient_at, more_inside}
 use Rattle.gf_fanfile.proofs.certificates.check_certificates.Goals as goal

@@ -18,3 +18,7 @@ returns-in-ToPolyhedralFan-clause-err g c =
 
 pub unreachable-requires : goal.unreachable-requires
 unreachable-requires g c = absurd (not_handed c.args.job.now _ c.requires.input c.in-Generated.is)
+
+pub returns-in-Saturation-clause-err : goal.returns-in-Saturation-clause-err
+returns-in-Saturation-clause-err g c =
+    subst (λ (j : Job). IfErr c.answer-in-Saturation.result (λ e. IsRefusedOn (command_of j) (c.args.source.now ∷ []) e.refusal)) (sym c.in-Saturation.is) c.answer-in-Saturation.ensures.err
