@@ -1,5 +1,5 @@
 -- What is known of rows at rays, one further; rows that are told to keep two cones apart.
-use Rattle.std.proofs.Common.{◌≡◌, ◌≢◌, ℕ, ◌+◌, ◌<◌, ◌≤◌, ◌-◌, List, [], ◌∷◌, ◌++◌, length, map, get_or, ℤ, pos, ◌≤ℤ◌, false, Any, All, Contains, arith, refl, sym, ap, ◌∙◌, subst, ◌⊎◌, inl, inr}
+use Rattle.std.proofs.Common.{◌≡◌, ℕ, ◌+◌, ◌<◌, ◌≤◌, ◌-◌, List, [], ◌∷◌, ◌++◌, length, map, get_or, ℤ, pos, ◌≤ℤ◌, false, All, Contains, arith, sym, ap, ◌∙◌, subst, ◌⊎◌, inl, inr}
 use Rattle.std.proofs.lemmas.List.{get_or_default, get_or_append_left, get_or-append_right, length-append}
 use Rattle.std.proofs.lemmas.List.Elements.{All-push, All-contains, Contains-get_or}
 use Rattle.gf_vec.specs.Vector.{dot}
@@ -14,15 +14,12 @@ use Rattle.gf_fan.specs.declared.signs.ConeSigns.{ConeSigns}
 use Rattle.gf_fan.specs.Pairs.{AreOfAmbient}
 use Rattle.gf_fan.specs.Parts.{HasItsRays}
 use Rattle.gf_fan.specs.FansOfCones.{AreCommonRays}
-use Rattle.gf_fan.specs.Signs.{IsSign, AreEach, AreSigns, AreSignsOfRows, AreSignsOfCone, AreSignsOfFirst, AreSignsOfTwo, IsLowAt, AreLowRows, IsCutAt, AreSettledAt, AreToldApart}
+use Rattle.gf_fan.specs.Signs.{IsSign, AreEach, AreSignsOfCone, AreSignsOfFirst, AreSignsOfTwo, IsLowAt, AreLowRows, IsCutAt, AreSettledAt, AreToldApart}
 use Rattle.gf_fan.proofs.SettledLaws.{HasSeparated}
 
 -- ---- one further
 
-pub each_none : {X : Type 0} (R : ℕ → X → Type 0) → AreEach R 0 []
-each_none {X} R = record { long = refl; each = λ k d h. absurd (omega (arith, h)) }
-
-each_more : {X : Type 0} (R : ℕ → X → Type 0) (i : ℕ) (x : X) (out new : List X) → new ≡ out ++ x ∷ [] → R i x → AreEach R i out → AreEach R (i + 1) new
+pub each_more : {X : Type 0} (R : ℕ → X → Type 0) (i : ℕ) (x : X) (out new : List X) → new ≡ out ++ x ∷ [] → R i x → AreEach R i out → AreEach R (i + 1) new
 each_more {X} R i x out new e r s =
     let l = s.long in
     subst (AreEach R (i + 1)) (sym e) (record {
@@ -70,19 +67,8 @@ common_width n cones rays ambient own common = all_by (λ v. length v ≡ n) ray
 pub cone_width : (n : ℕ) (cones : List RowsAndRays) (rays : List (List ℤ)) (i : ℕ) (c : RowsAndRays) → AreOfAmbient n cones → i < length cones → c ≡ get_or cones i c → AreRows n rays → AreRows c.ambient rays
 cone_width n cones rays i c ambient h e w = subst (λ m. AreRows m rays) (sym (All-contains (λ (c : RowsAndRays). c.ambient ≡ n) cones c ambient (i, h, sym e))) w
 
--- ---- as many signs as rays
-
-pub row_long : (rays : List (List ℤ)) (c : RowsAndRays) (s : ConeSigns) (k : ℕ) (d : List Sign) → AreSignsOfCone rays c s → k < length s.rows.items → length (get_or s.rows.items k d) ≡ length rays
-row_long rays c s k d a h = (a.rows.each k d (let e = a.rows.long in omega (arith, h, e))).long
-
-pub all_inside : (rays : List (List ℤ)) (c : RowsAndRays) (s : ConeSigns) (numbers : List ℕ) → AreSignsOfCone rays c s → All (λ i. i < length rays) numbers → (k : ℕ) (d : List Sign) → k < length s.rows.items → All (λ i. i < length (get_or s.rows.items k d)) numbers
-all_inside rays c s numbers a h k d l = subst (λ m. All (λ i. i < m) numbers) (sym (row_long rays c s k d a l)) h
-
 abbrev IsLowRow : List (List Sign) → List ℕ → ℕ → Type 0
 IsLowRow rows numbers k = (k < length rows) × ((d : List Sign) → IsLowAt (get_or rows k d) numbers)
-
-pub places_inside : (rows : List (List Sign)) (numbers places : List ℕ) → AreLowRows rows numbers places → All (λ k. k < length rows) places
-places_inside rows numbers places a = all_by (λ k. k < length rows) places (λ k c. (All-contains (IsLowRow rows numbers) places k a c).0)
 
 -- ---- rows that are told to keep two cones apart do so
 

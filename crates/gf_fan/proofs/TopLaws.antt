@@ -1,5 +1,5 @@
 -- A cone is maximal unless one of those that the fan is of has all its rays and more.
-use Rattle.std.proofs.Common.{◌≡◌, ℕ, ◌+◌, ◌<◌, ◌≤◌, List, [], ◌∷◌, ◌++◌, length, take, get_or, ℤ, All, AllPairs, Contains, refl, sym, ap, ◌∙◌, subst, inl, inr, arith, slice_get, Some}
+use Rattle.std.proofs.Common.{◌≡◌, ℕ, ◌+◌, ◌<◌, List, [], ◌∷◌, ◌++◌, length, take, get_or, ℤ, All, AllPairs, Contains, refl, sym, ap, ◌∙◌, subst, inl, inr, arith, slice_get, Some}
 use Rattle.std.specs.Ordering.{int_cmp, nat_cmp}
 use Rattle.std.specs.Cmp.Lexicographic.{slice_cmp}
 use Rattle.std.specs.declared.cmp.Ordering.TheVariants.{Less}
@@ -67,9 +67,6 @@ none_further own tops k t h e n f s c = elim (snoc_cases (take k tops) t s (subs
 
 -- ---- the numbers of the rays of cones
 
-pub tops_none : (cones : List RowsAndRays) (rays : List (List ℤ)) → AreTopsBefore cones rays 0 []
-tops_none cones rays = record { each = λ t c. absurd (none_in t c); every = λ j c h e. absurd (omega (arith, h)) }
-
 pub tops_more : (cones : List RowsAndRays) (rays : List (List ℤ)) (i : ℕ) (c : RowsAndRays) (t : List ℕ) (out new : List (List ℕ)) → i < length cones → c ≡ get_or cones i c → new ≡ out ++ t ∷ [] → IsTop rays c t → AreTopsBefore cones rays i out → AreTopsBefore cones rays (i + 1) new
 tops_more cones rays i c t out new h e en top s = subst (AreTopsBefore cones rays (i + 1)) (sym en) (record {
   each = λ x k. elim (snoc_cases out t x k) [ inl d ↦ s.each x d | inr q ↦ (c, ((i, h, sym e), subst (IsTop rays c) (sym q) top)) ];
@@ -80,9 +77,6 @@ tops_more cones rays i c t out new h e en top s = subst (AreTopsBefore cones ray
         (t, (Contains-push out t, subst (λ (z : RowsAndRays). IsTop rays z t) (sym (same_Some d c same)) top))
   ];
 })
-
-pub tops_all : (cones : List RowsAndRays) (rays : List (List ℤ)) (i : ℕ) (tops : List (List ℕ)) → length cones ≤ i → AreTopsBefore cones rays i tops → AreTopsBefore cones rays (length cones) tops
-tops_all cones rays i tops h s = record { each = s.each; every = λ j c l e. s.every j c (omega (arith, l, h)) e }
 
 -- ---- of a fan
 

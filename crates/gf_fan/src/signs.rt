@@ -6,7 +6,6 @@ ghost use Rattle.gf_fan.specs.Parts.{HasItsRays};
 ghost use Rattle.gf_fan.specs.FansOfCones.{AreCommonRays};
 ghost use Rattle.gf_fan.specs.Signs.{IsSign, AreSigns, AreSignsOfRows, AreSignsOfCone, AreSignsOfFirst};
 
-use crate::known::have_their_rays;
 use crate::numbering::Numbering;
 use gf_rays::{Numbers, Rays};
 use gf_vec::IntVec;
@@ -55,7 +54,7 @@ pub(crate) struct ConeSigns {
 }
 
 /// What is known of a row at a vector.
-fn sign_at(h: &IntVec, v: &IntVec) -> Sign
+pub(crate) fn sign_at(h: &IntVec, v: &IntVec) -> Sign
     requires { length h.now ≡ length v.now }
     ensures { IsSign h.now v.now result }
 {
@@ -114,7 +113,7 @@ fn signs_of_cone(alloc: Global, numbering: &Numbering, c: &Rays) -> Result<ConeS
 }
 
 /// What is known of the first of these cones at the rays of all, up to `MOST_SIGNS` signs.
-fn signs_by(
+pub(crate) fn signs_by(
     alloc: Global,
     n: u32,
     numbering: &Numbering,
@@ -139,18 +138,4 @@ fn signs_by(
         out.push(signs_of_cone(alloc, numbering, c)?)?;
     }
     Ok(out)
-}
-
-/// What is known of the first of these cones at the rays of all.
-pub(crate) fn signs_of_first(
-    alloc: Global,
-    n: u32,
-    cones: &[Rays],
-) -> Result<Vec<ConeSigns>, AllocError>
-    requires { AreOfAmbient n cones.now }
-    ensures { IfOk result (λ out. AreSignsOfFirst cones.now out.items) }
-{
-    have_their_rays(cones);
-    let numbering = Numbering::of(alloc, cones)?;
-    signs_by(alloc, n, &numbering, cones)
 }

@@ -1,7 +1,7 @@
-use Rattle.std.proofs.Common.{List, [], ◌≤◌, length, arith, get_or}
+use Rattle.std.proofs.Common.{List, [], length, arith, get_or}
 use Rattle.gf_fan.specs.declared.signs.Sign.{Sign}
 use Rattle.gf_fan.specs.Signs.{AreSigns}
-use Rattle.gf_fan.proofs.SignLaws.{each_none, read_more, each_done}
+use Rattle.gf_fan.proofs.SignLaws.{read_more, each_done}
 use Rattle.gf_fan.proofs.signs.signs_of_rows.Goals as goal
 
 pub loop-h-preserved : goal.loop-h-preserved
