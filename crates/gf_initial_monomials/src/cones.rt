@@ -6,6 +6,7 @@ ghost use Rattle.gf_rays.specs.Cones.{rows_of};
 ghost use Rattle.gf_rays.specs.Reached.{IsRaysStep};
 ghost use Rattle.gf_initial_monomials.specs.Outcomes.{IsCutBy, HasOutcome};
 ghost use Rattle.gf_initial_monomials.specs.Refusals.{IsConeRefusal};
+ghost use Rattle.gf_initial_monomials.specs.Limits.{AreFacesWithinLimits, IsMemoryWanted};
 
 use crate::error::InitialError;
 use crate::faces::at_faces;
@@ -28,6 +29,28 @@ fn cut_by(alloc: Global, cone: &Rays, rows: &[IntVec]) -> Result<Rays, GordanErr
     Rays::of(alloc, cone.ambient(), &inequalities, cone.equations())
 }
 
+/// The first vector that fails of what the cone and these rows share.
+///
+/// # Errors
+/// What is refused at finding its rays, or at a face all before which pass; want of memory.
+fn first_failing(
+    alloc: Global,
+    basis: &MarkedSet,
+    normals: &[IntVec],
+    cone: &Rays,
+    pairs: u64,
+) -> Result<Option<IntVec>, InitialError>
+    requires room { basis.now.variables < ROOM }
+    requires ambient { cone.now.ambient ≡ basis.now.variables }
+    requires normals { AreRows basis.now.variables normals.now }
+    ensures ok { IfOk result (HasOutcome basis.now.variables basis.now.items normals.now (rows_of cone.now)) }
+    ensures err { IfErr result (IsConeRefusal basis.now.variables basis.now.items normals.now (rows_of cone.now) pairs) }
+{
+    let cut = cut_by(alloc, cone, normals)?;
+    let faces = cut.faces()?;
+    at_faces(alloc, basis, &cut, &faces, pairs)
+}
+
 /// The first vector that fails of a cone and a Gröbner basis, the normals of whose closed cone are given; none where each passes. For each
 /// face of what the two cones share, by dimension and then by the numbers of its rays, the sum of its rays is tried: it fails where
 /// the ideal of the initial forms of the basis there has a polynomial of one term.
@@ -48,8 +71,7 @@ pub fn at_cone(
     requires normals { AreRows basis.now.variables normals.now }
     ensures ok { IfOk result (HasOutcome basis.now.variables basis.now.items normals.now (rows_of cone.now)) }
     ensures err { IfErr result (IsConeRefusal basis.now.variables basis.now.items normals.now (rows_of cone.now) pairs) }
+    ensures complete { AreFacesWithinLimits basis.now.variables basis.now.items normals.now (rows_of cone.now) pairs → IfErr result IsMemoryWanted }
 {
-    let cut = cut_by(alloc, cone, normals)?;
-    let faces = cut.faces()?;
-    at_faces(alloc, basis, &cut, &faces, pairs)
+    first_failing(alloc, basis, normals, cone, pairs)
 }

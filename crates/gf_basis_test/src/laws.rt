@@ -1,0 +1,13 @@
+//! A theorem on the test. The function computes nothing: its contract is the theorem.
+ghost use Rattle.gf_basis_test.specs.Laws.{TestsOfMonomialsStayWithinLimits};
+
+use gf_binomial_calls::limits_are_met;
+use gf_tropical::small_polynomials_stay_within_limits;
+
+/// The test of one monomial stays within its limits: what `complete` of `tropical_basis` wants can be met.
+pub fn tests_of_monomials_stay_within_limits()
+    ensures { TestsOfMonomialsStayWithinLimits }
+{
+    small_polynomials_stay_within_limits();
+    limits_are_met();
+}

@@ -1,0 +1,16 @@
+//! Whether polynomials are a tropical basis: whether at each vector of their prevariety the initial ideal has no polynomial of one term.
+//!
+//! Start at `tropical_basis`. What a verdict says stands in `specs/Verdicts.antt`, why it decides in `gf_tropical_bases`.
+#![tactic(auto)]
+
+mod bases;
+mod basis;
+mod error;
+mod laws;
+mod test;
+mod verdict;
+
+pub use error::BasisTestError;
+pub use laws::tests_of_monomials_stay_within_limits;
+pub use test::tropical_basis;
+pub use verdict::Verdict;
