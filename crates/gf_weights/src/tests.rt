@@ -1,7 +1,9 @@
 //! Weights and witnesses that are worked out by hand.
 use super::*;
+use gf_cone::Region;
 use gf_samples::marked_set;
 use gf_vec::IntVec;
+use std::alloc::Global;
 use std::test::Fail;
 
 /// Whether the entries are these.
@@ -55,5 +57,37 @@ fn three_rays(rt: HostRuntime) -> Result<(), Fail> {
         if is(&first.normal, &[0, 1, -1]) && is(&first.witness, &[2, 1, 1])
             && is(&second.normal, &[1, 0, -1]) && is(&second.witness, &[1, 2, 1]))
     );
+    Ok(())
+}
+
+/// The region of two variables that the row (a, b) cuts out.
+fn cut_by(alloc: Global, a: i64, b: i64) -> Result<Region, RegionError> {
+    let row = IntVec::from_slice(alloc, &[i128::from(a), i128::from(b)])?;
+    region_of(alloc, 2, &[row])
+}
+
+#[test]
+fn roots_by_hand(rt: HostRuntime) -> Result<(), Fail> {
+    // The rays are (1, 0) and (1, 1); (0, 1) and (2, 3); (1, 0) and (2^63 - 2, 1).
+    let plain = cut_by(rt.alloc(), 1, -1);
+    assert!(rt; matches!(&plain, Ok(region) if is(region.root(), &[2, 1])));
+    let steep = cut_by(rt.alloc(), -3, 2);
+    assert!(rt; matches!(&steep, Ok(region) if is(region.root(), &[2, 4])));
+    let wide = cut_by(rt.alloc(), 1, -9223372036854775806);
+    assert!(rt; matches!(&wide, Ok(region) if is(region.root(), &[9223372036854775807, 1])));
+    let all = region_of(rt.alloc(), 2, &[]);
+    assert!(rt; matches!(&all, Ok(region) if is(region.root(), &[1, 1])));
+    Ok(())
+}
+
+#[test]
+fn no_region(rt: HostRuntime) -> Result<(), Fail> {
+    let empty = cut_by(rt.alloc(), -1, 0);
+    assert!(rt;
+        matches!(&empty, Err(RegionError::Empty { multipliers }) if is(multipliers, &[1, 1, 0]))
+    );
+    let wide = cut_by(rt.alloc(), 1, -9223372036854775807);
+    let past = 9_223_372_036_854_775_808;
+    assert!(rt; matches!(&wide, Err(RegionError::WideRoot { index: 0, value }) if *value == past));
     Ok(())
 }
