@@ -25,5 +25,6 @@ pub mod FlagFaceLaws  -- faces by flags, one inequality further
 mod HeightLaws  -- the part next below another one
 pub mod FaceNumbers  -- faces by the numbers of their rays, from flags
 mod PickedLaws  -- rays picked by their numbers, one further
+mod FurtherLaws  -- a double description taken further from the rays of a cone
 mod KeptLaws  -- rays with one flag more, where an inequality is negative on none of them
 mod TurnLaws  -- rows that are zero in the column already

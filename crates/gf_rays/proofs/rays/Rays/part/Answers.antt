@@ -13,5 +13,5 @@ assembled-requires-clause-finished c =
     let s : RowsAndRays = c.args.self.now in
     let a = subst (λ (z : RowsAndRays). IsComplete z c.self.inside.marked.items) c.self.view_is c.self.invariant in
     let es : c.in_ok-equations.equations.items ≡ s.equations ++ c.args.zero.now = c.in_ok-equations.ensures ∙ ap (λ (z : List (List ℤ)). z ++ c.args.zero.now) (c.in_ok-copied.ensures ∙ c.as_slice.ensures.value ∙ ap (λ (z : RowsAndRays). z.equations) c.self.view_is) in
-    part_finished s c.self.inside.marked.items c.as_slice-2.result.now c.in_ok-marked.marked.items _ _ _ _ c.args.zero.now c.args.numbers.now (ap (λ (z : RowsAndRays). z.ambient) c.self.view_is) (c.as_slice-3.ensures.value ∙ ap (λ (z : RowsAndRays). z.inequalities) c.self.view_is) es
-    (c.as_slice-4.ensures.value ∙ ap (λ (z : RowsAndRays). z.lineality) c.self.view_is) a c.as_slice-2.ensures.value c.in_ok-marked.ensures.ok c.requires.part
+    part_finished s c.self.inside.marked.items c.as_slice-2.result.now c.in_ok-marked.marked.items _ _ _ _ c.args.zero.now c.args.numbers.now (ap (λ (z : RowsAndRays). z.ambient) c.self.view_is) (c.in_ok-again.ensures.ok ∙ ap (λ (z : RowsAndRays). z.inequalities) c.self.view_is) es
+    (c.in_ok-again-2.ensures.ok ∙ ap (λ (z : RowsAndRays). z.lineality) c.self.view_is) a c.as_slice-2.ensures.value c.in_ok-marked.ensures.ok c.requires.part
