@@ -22,7 +22,7 @@ use Rattle.gf_front.specs.declared.command_line.Job.TheVariants as jobs
 use Rattle.gf_front.specs.declared.choice.Choice.{Choice}
 use Rattle.gf_front.specs.declared.choice.Choice.TheVariants as choices
 use Rattle.gf_front.specs.declared.plain.PlainCommand.{PlainCommand}
-use Rattle.gf_front.specs.Table.{Entry, table, commands, with_options, plain_commands, plain_named, rule, is_needed, shape, most_pairs, most_workers, most_number, usual_pairs, number_of, buchberger, bases, plain, leading_terms, groebner_cone, weight_vector, to_polyhedral_fan, fan_common_refinement, generated, saturation}
+use Rattle.gf_front.specs.Table.{Entry, table, commands, with_options, plain_commands, plain_named, rule, is_needed, shape, most_pairs, most_workers, most_number, usual_pairs, number_of, buchberger, bases, plain, leading_terms, groebner_cone, weight_vector, to_polyhedral_fan, tropical_intersection, fan_common_refinement, generated, saturation}
 use Rattle.gf_front.specs.Jobs.{HasMatch, HasNumbersInRange, IsJobOfMatch, match_of, job_in, job_of}
 use Rattle.gf_front.specs.Options.{HoldsChoice, HoldChoices, LiesBetween, NamesEntry, IsCommand}
 use Rattle.gf_front.proofs.MatchLaws.{Enters, accepted, both, entered_rows, level_rows, rows_pass}
@@ -308,10 +308,11 @@ options_keep =
     (next groebner_cone _ (λ rows h. tt)
     (next weight_vector _ (λ rows h. tt)
     (next to_polyhedral_fan _ (λ rows h. tt)
+    (next tropical_intersection _ (λ rows h. tt)
     (next fan_common_refinement _ (λ rows h. tt)
     (next generated _ generated_keeps
     (next saturation _ saturation_keeps
-    none_keep))))))))
+    none_keep)))))))))
 
 -- commands without options have no numbers
 plains_keep : (cs : List (Text × PlainCommand)) (es : List Entry) → AllKeepRanges es → AllKeepRanges (map plain cs ++ es)

@@ -43,6 +43,7 @@ kind_of_refusal (refusals.Overflow o) = RefusalKind.numbers
 kind_of_refusal (refusals.ExponentOverflow o) = RefusalKind.numbers
 kind_of_refusal (refusals.ConeOverflow row op left right) = RefusalKind.numbers
 kind_of_refusal (refusals.PairBudget basis unsettled) = RefusalKind.numbers
+kind_of_refusal (refusals.WideRoot index value) = RefusalKind.numbers
 kind_of_refusal (refusals.ListLimit written) = RefusalKind.limit
 kind_of_refusal refusals.Memory = RefusalKind.memory
 

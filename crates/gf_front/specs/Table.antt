@@ -192,6 +192,14 @@ to_polyhedral_fan = record {
   job = λ rows. jobs.ToPolyhedralFan (record { restrict = flag_of (codes "restrict") rows });
 }
 
+-- `_tropicalintersection` with its option
+abbrev pub tropical_intersection : Entry
+tropical_intersection = record {
+  name = codes "_tropicalintersection";
+  options = (codes "basistest", choices.Flag) ∷ [];
+  job = λ rows. jobs.TropicalIntersection (record { basis_test = flag_of (codes "basistest") rows });
+}
+
 -- `_fancommonrefinement` with its options
 abbrev pub fan_common_refinement : Entry
 fan_common_refinement = record {
@@ -235,7 +243,7 @@ saturation = record {
 
 -- those with options
 abbrev pub with_options : List Entry
-with_options = buchberger ∷ bases ∷ leading_terms ∷ groebner_cone ∷ weight_vector ∷ to_polyhedral_fan ∷ fan_common_refinement ∷ generated ∷ saturation ∷ []
+with_options = buchberger ∷ bases ∷ leading_terms ∷ groebner_cone ∷ weight_vector ∷ to_polyhedral_fan ∷ tropical_intersection ∷ fan_common_refinement ∷ generated ∷ saturation ∷ []
 
 -- those without options, by their names
 abbrev pub plain_commands : List (Text × PlainCommand)
@@ -249,7 +257,6 @@ plain_commands =
     ∷ (codes "_stats", plains.Stats)
     ∷ (codes "_homogeneityspace", plains.HomogeneitySpace)
     ∷ (codes "_tropicalhypersurface", plains.TropicalHypersurface)
-    ∷ (codes "_tropicalintersection", plains.TropicalIntersection)
     ∷ (codes "_minkowskisum", plains.MinkowskiSum)
     ∷ (codes "_migratefan", plains.MigrateFan)
     ∷ []

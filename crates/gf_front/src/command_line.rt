@@ -3,7 +3,7 @@
 //! clap reads the words by the table; what it would say of a fault is never printed.
 ghost use Rattle.std.specs.Prelude.{◌≡◌, [], IfOk, IsErrOf, map, string_bytes, codes, Some};
 ghost use Rattle.clap.specs.Words.{found_of, rows_of, one_of, kind_of};
-ghost use Rattle.gf_front.specs.Table.{most_workers, flag_of, number_of, number_where, text_of, buchberger, bases, leading_terms, groebner_cone, weight_vector, to_polyhedral_fan, fan_common_refinement, generated, saturation};
+ghost use Rattle.gf_front.specs.Table.{most_workers, flag_of, number_of, number_where, text_of, buchberger, bases, leading_terms, groebner_cone, weight_vector, to_polyhedral_fan, tropical_intersection, fan_common_refinement, generated, saturation};
 ghost use Rattle.gf_front.specs.Jobs.{renamed, HasMatch, IsJobOfMatch, IsMatched, IsJobOf, HasNumbersInRange, job_of};
 ghost use Rattle.gf_front.specs.Options.{HoldsFlag, HoldsUnsigned, HoldsNumber, HoldsText, HoldChoices, IsCommand};
 
@@ -11,7 +11,7 @@ use crate::name::Name;
 use crate::options::{
     BasesOptions, BuchbergerOptions, FanCommonRefinementOptions, GeneratedOptions,
     GroebnerConeOptions, LeadingTermsOptions, SaturationOptions, ToPolyhedralFanOptions,
-    WeightVectorOptions,
+    TropicalIntersectionOptions, WeightVectorOptions,
 };
 use crate::plain::{PlainCommand, plain_command};
 use crate::table::table;
@@ -39,6 +39,8 @@ pub enum Job {
     WeightVector(WeightVectorOptions),
     /// The fan of the cones of marked reduced bases.
     ToPolyhedralFan(ToPolyhedralFanOptions),
+    /// The meet of the tropical hypersurfaces of a set, as a fan, or whether the set is a tropical basis.
+    TropicalIntersection(TropicalIntersectionOptions),
     /// The fan of the meets of the cones of two fans.
     FanCommonRefinement(FanCommonRefinementOptions),
     /// A summary of the bases of the ideal that a number stands for.
@@ -176,6 +178,16 @@ fn to_polyhedral_fan(found: &ArgMatches) -> Job
     })
 }
 
+/// The job of `_tropicalintersection`.
+fn tropical_intersection(found: &ArgMatches) -> Job
+    requires { HoldChoices tropical_intersection.options (rows_of (found_of found.now)) }
+    ensures { tropical_intersection.job (rows_of (found_of found.now)) ≡ result }
+{
+    Job::TropicalIntersection(TropicalIntersectionOptions {
+        basis_test: flag(found, "basistest"),
+    })
+}
+
 /// The job of `_fancommonrefinement`.
 fn fan_common_refinement(alloc: Global, found: &ArgMatches) -> Result<Job, AllocError>
     requires { HoldChoices fan_common_refinement.options (rows_of (found_of found.now)) }
@@ -225,6 +237,7 @@ fn job_of(alloc: Global, name: &str, found: &ArgMatches) -> Result<Job, AllocErr
         "_groebnercone" => groebner_cone(found),
         "_weightvector" => weight_vector(found),
         "_topolyhedralfan" => to_polyhedral_fan(found),
+        "_tropicalintersection" => tropical_intersection(found),
         "_fancommonrefinement" => fan_common_refinement(alloc, found)?,
         "_generated" => generated(found),
         "_saturation" => saturation(found),

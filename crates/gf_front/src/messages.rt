@@ -274,6 +274,21 @@ pub(crate) fn bad_certificate<E: Sink>(faults: &mut E, cone: u32) -> Result<(), 
     )
 }
 
+pub(crate) fn wide_root<E: Sink>(faults: &mut E, index: u64, value: i128) -> Result<(), WriteFault>
+    ensures { Told (E.held faults.old) (E.held faults.new) (E.faults faults.old) (E.faults faults.new)
+        (message [] (Refusal.WideRoot index value)) result }
+{
+    write_pieces(
+        faults,
+        &[
+            Piece::Text("E27 root weight too wide: entry "),
+            Piece::Number(index),
+            Piece::Text(" is "),
+            Piece::Whole(value),
+        ],
+    )
+}
+
 pub(crate) fn dimensions<E: Sink>(faults: &mut E, left: u64, right: u64) -> Result<(), WriteFault>
     ensures { Told (E.held faults.old) (E.held faults.new) (E.faults faults.old) (E.faults faults.new)
         (message [] (Refusal.Dimensions left right)) result }

@@ -63,6 +63,13 @@ pub struct ToPolyhedralFanOptions {
     pub restrict: bool,
 }
 
+/// The option of `_tropicalintersection`.
+#[derive(Clone, Copy, Debug, PartialEq, Eq)]
+pub struct TropicalIntersectionOptions {
+    /// `--basistest`: whether the polynomials are a tropical basis of their ideal, in place of the fan.
+    pub basis_test: bool,
+}
+
 /// What `_generated` is asked.
 #[derive(Clone, Copy, Debug, PartialEq, Eq)]
 pub struct GeneratedOptions {

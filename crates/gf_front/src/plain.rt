@@ -24,8 +24,6 @@ pub enum PlainCommand {
     HomogeneitySpace,
     /// The tropical hypersurface of a polynomial, as a fan.
     TropicalHypersurface,
-    /// The meet of the tropical hypersurfaces of a set of polynomials, as a fan.
-    TropicalIntersection,
     /// The fan of the Minkowski sum of the Newton polytopes of a set of polynomials.
     MinkowskiSum,
     /// The fan of a fan file, as a fan file of the latest version.
@@ -46,7 +44,6 @@ pub(crate) const PLAIN_COMMANDS: &[(&str, PlainCommand)] = &[
     ("_stats", PlainCommand::Stats),
     ("_homogeneityspace", PlainCommand::HomogeneitySpace),
     ("_tropicalhypersurface", PlainCommand::TropicalHypersurface),
-    ("_tropicalintersection", PlainCommand::TropicalIntersection),
     ("_minkowskisum", PlainCommand::MinkowskiSum),
     ("_migratefan", PlainCommand::MigrateFan),
 ];

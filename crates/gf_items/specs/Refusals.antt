@@ -47,6 +47,7 @@ IsOfNumbers (refusals.Overflow o) = Unit {0}
 IsOfNumbers (refusals.ExponentOverflow o) = Unit {0}
 IsOfNumbers (refusals.ConeOverflow row op left right) = Unit {0}
 IsOfNumbers (refusals.PairBudget basis unsettled) = Unit {0}
+IsOfNumbers (refusals.WideRoot index value) = Unit {0}
 IsOfNumbers refusals.Memory = Unit {0}
 IsOfNumbers _ = ⊥
 
@@ -73,6 +74,7 @@ IsOfWork (refusals.Overflow o) = Unit {0}
 IsOfWork (refusals.ExponentOverflow o) = Unit {0}
 IsOfWork (refusals.ConeOverflow row op left right) = Unit {0}
 IsOfWork (refusals.PairBudget basis unsettled) = Unit {0}
+IsOfWork (refusals.WideRoot index value) = Unit {0}
 IsOfWork (refusals.NotReduced set polynomial term) = Unit {0}
 IsOfWork (refusals.NotBasis set first second remainder) = Unit {0}
 IsOfWork (refusals.Inconsistent set multipliers) = Unit {0}

@@ -188,7 +188,14 @@ fn other_commands_have_their_jobs(rt: HostRuntime) -> Result<(), Fail> {
         ("_homogeneityspace", "Ok(Plain(HomogeneitySpace))"),
         ("_migratefan", "Ok(Plain(MigrateFan))"),
         ("_tropicalhypersurface", "Ok(Plain(TropicalHypersurface))"),
-        ("_tropicalintersection", "Ok(Plain(TropicalIntersection))"),
+        (
+            "_tropicalintersection",
+            "Ok(TropicalIntersection(TropicalIntersectionOptions { basis_test: false }))",
+        ),
+        (
+            "_tropicalintersection --basistest",
+            "Ok(TropicalIntersection(TropicalIntersectionOptions { basis_test: true }))",
+        ),
         ("_minkowskisum --", "Ok(Plain(MinkowskiSum))"),
         (
             "_saturation",
@@ -314,7 +321,8 @@ fn other_words_are_usage(rt: HostRuntime) -> Result<(), Fail> {
         "_bases --within FILE",
         "_groebnercone --certificates --certificates",
         "_groebnercone -m",
-        "_tropicalintersection --basistest",
+        "_tropicalintersection --basistest --basistest",
+        "_tropicalintersection --pairs 7",
         "_saturation -w",
         "_saturation --pairs 0",
         "_generated",

@@ -1,6 +1,6 @@
 -- From what the reader, the checks, the algorithm and the printer promise to what is answered.
 -- To cite: polynomials_next, IsBehindRing, behind_ring, at_source, set_fails for sets; IsBehindSet, behind_set, is_read, and the refusals ring_refused,
--- set_refused, weight_refused, end_refused, basis_refused, job_refused; countable, in_ring, suited_by, entries_by; named_job, of_ring.
+-- set_refused, weight_refused, end_refused, basis_refused, job_refused; countable, in_ring, suited_by, entries_by; named_job, of_ring, lent_names, first_variables.
 use Rattle.std.specs.Prelude.{◌≡◌, ℕ, zero, suc, ◌+◌, ◌<◌, Bool, true, false, List, [], ◌∷◌, ◌++◌, length, take, slice_index_or, Option, None, Some, ℤ}
 use Rattle.std.specs.Borrow.{Bor}
 use Rattle.std.specs.Option.{option_copied}
@@ -95,11 +95,11 @@ of_ring o source ring set w r e h = record { named = h; ring = (r.read.behind, r
 
 -- ---- the names of monomials
 
-lent_names : (ring : List (List ℕ)) (x : Exponents) (lent : Option (Bor (List (List ℕ)))) → option_copied lent ≡ Some ring → length x ≡ length ring → IsNamed lent x
+pub lent_names : (ring : List (List ℕ)) (x : Exponents) (lent : Option (Bor (List (List ℕ)))) → option_copied lent ≡ Some ring → length x ≡ length ring → IsNamed lent x
 lent_names ring x None e h = let p : None ≡ Some ring = e in cc
 lent_names ring x (Some b) e h = let p : Some b.now ≡ Some ring = e in let q : b.now ≡ ring = cc in h ∙ ap length (sym q)
 
-first_variables : (n : ℕ) (fs : List Terms) (e : NotHomogeneous) → HaveRingVariables n fs → IsFirstInhomogeneous fs e → (length e.first ≡ n) × (length e.second ≡ n)
+pub first_variables : (n : ℕ) (fs : List Terms) (e : NotHomogeneous) → HaveRingVariables n fs → IsFirstInhomogeneous fs e → (length e.first ≡ n) × (length e.second ≡ n)
 first_variables n fs e v h =
     let variables = v.each h.poly (e.polynomial, h.inside, h.is) in
     let o = h.other in

@@ -40,6 +40,7 @@ use Rattle.gfan.proofs.GroebnerConeLaws.{cone_exact, cone_tested, cone_not_liste
 use Rattle.gfan.proofs.ToPolyhedralFanLaws.{to_polyhedral_fan_exact, to_polyhedral_fan_tested, no_fan_not_listed}
 use Rattle.gfan.proofs.HomogeneitySpaceLaws.{homogeneity_space_exact, homogeneity_space_tested, no_space_not_listed}
 use Rattle.gfan.proofs.TropicalLaws.{tropical_exact, tropical_tested, tropical_not_listed}
+use Rattle.gfan.proofs.BasisTestLaws.{intersection_lawful, intersection_source}
 use Rattle.gfan.proofs.ToolLaws.{mark_polynomial_set_exact, initial_forms_exact, homogenize_exact, polynomial_set_union_exact, stats_exact, homogenize_not_listed, gordan_not_listed, homogenize_untested, gordan_untested}
 use Rattle.gfan.proofs.ExactLaws.{buchberger_exact, marked_exact, containment_exact, leading_exact, bases_exact, given_exact, basis_not_listed, basis_untested, list_untested, memory_untested, containment_tested, given_tested}
 use Rattle.gfan.proofs.CommonRefinementLaws.{refinement_lawful}
@@ -64,7 +65,6 @@ plain_lawful plains.Stats = sound_lawful stats_command stats_exact (untested sta
 plain_lawful plains.HomogeneitySpace =
     sound_lawful homogeneity_space_command homogeneity_space_exact homogeneity_space_tested (λ h. h) (λ t. t) (λ a m w. no_space_not_listed (length a.0) (nonzero_of a.1.0) m w)
 plain_lawful plains.TropicalHypersurface = tropical_lawful fans.Hypersurface
-plain_lawful plains.TropicalIntersection = tropical_lawful fans.Intersection
 plain_lawful plains.MinkowskiSum = tropical_lawful fans.MinkowskiSum
 plain_lawful plains.MigrateFan = sound_lawful migrate_fan_command migrate_fan_exact migrate_fan_tested (λ h. h) (λ t. t) (λ source m w. migration_not_listed source m w)
 
@@ -95,6 +95,7 @@ lawful (jobs.WeightVector o) = weight_lawful o.listed o.echoed
 lawful (jobs.GroebnerCone o) = cone_lawful o.vector_input (cone_options o)
 lawful (jobs.ToPolyhedralFan o) =
     sound_lawful (to_polyhedral_fan_command o.restrict) (to_polyhedral_fan_exact o.restrict) (to_polyhedral_fan_tested o.restrict) (λ h. h) (λ t. t) (λ a m w. no_fan_not_listed o.restrict (length a.0) a.1 m w)
+lawful (jobs.TropicalIntersection o) = intersection_lawful o.basis_test
 lawful (jobs.FanCommonRefinement o) = refinement_lawful o.first o.second
 lawful (jobs.Generated o) = generated_lawful o.number o.limit o.pairs
 lawful (jobs.Saturation o) = saturation_lawful o.pairs
@@ -129,5 +130,6 @@ one_source (jobs.Plain k) n m = plain_source k
 one_source (jobs.Bases o) n m = list_source o.from_basis (list_options o)
 one_source (jobs.LeadingTerms o) n m = leading_source o.listed
 one_source (jobs.WeightVector o) n m = weight_source o.listed o.echoed
+one_source (jobs.TropicalIntersection o) n m = intersection_source o.basis_test
 one_source (jobs.GroebnerCone o) n m = cone_source o.vector_input (cone_options o)
 one_source _ n m = refl

@@ -249,6 +249,7 @@ fixed_not_numbers (refusals.Overflow o) f n = elim f [ inl x ↦ elim x [ inl y 
 fixed_not_numbers (refusals.ExponentOverflow o) f n = elim f [ inl x ↦ elim x [ inl y ↦ y | inr y ↦ y ] | inr x ↦ x ]
 fixed_not_numbers (refusals.ConeOverflow row op left right) f n = elim f [ inl x ↦ elim x [ inl y ↦ y | inr y ↦ y ] | inr x ↦ x ]
 fixed_not_numbers (refusals.PairBudget basis unsettled) f n = elim f [ inl x ↦ elim x [ inl y ↦ y | inr y ↦ y ] | inr x ↦ x ]
+fixed_not_numbers (refusals.WideRoot index value) f n = elim f [ inl x ↦ elim x [ inl y ↦ y | inr y ↦ y ] | inr x ↦ x ]
 fixed_not_numbers refusals.Memory f n = elim f [ inl x ↦ elim x [ inl y ↦ y | inr y ↦ y ] | inr x ↦ x ]
 fixed_not_numbers _ f n = n
 

@@ -1,5 +1,5 @@
 -- The form of what is read fails in one way at most, and not where it holds.
--- To cite: AreKept, form_once, length_check. The rest are steps.
+-- To cite: AreKept, form_once, length_check, degree_check. The rest are steps.
 use Rattle.std.specs.Prelude.{◌≡◌, ◌⊎◌, ℕ, ◌<◌, ◌≤◌, Bool, true, false, List, length, Contains, slice_index_or, All, Option, None, Some, ℤ, pos, ◌≤ℤ◌}
 use Rattle.std.proofs.Common.{arith, sym, ap, ◌∙◌, subst, inl, inr}
 use Rattle.std.proofs.lemmas.Int.{ints}
@@ -142,7 +142,7 @@ length_check n weight = record { once = once; apart = apart; kind = kind }
     kind (refusals.Dimensions left right) h = inr tt
     kind _ h = absurd h
 
-degree_check : (n : ℕ) (revlex : Bool) (weight : Option (List ℤ)) (fs : List Terms) → AreKept n fs → IsCheckedOnce (record { Holds = AreTaken revlex weight fs; Fails = IsDegreeRefusal revlex weight fs })
+pub degree_check : (n : ℕ) (revlex : Bool) (weight : Option (List ℤ)) (fs : List Terms) → AreKept n fs → IsCheckedOnce (record { Holds = AreTaken revlex weight fs; Fails = IsDegreeRefusal revlex weight fs })
 degree_check n revlex weight fs kept = record { once = once; apart = apart; kind = kind }
   where
     once : (r d : Refusal) → IsDegreeRefusal revlex weight fs r → IsDegreeRefusal revlex weight fs d → d ≡ r

@@ -28,6 +28,7 @@ pub mod GivenBasisLaws  -- the list from a basis that is given
 pub mod ExactLaws  -- refusals of each command are told in one way
 pub mod SummaryLaws  -- how a list is summed up
 pub mod SaturationLaws  -- what `_saturation` answers, and why it doesn't
+pub mod BasisTestLaws  -- whether polynomials are a tropical basis, and why that is not told
 pub mod CommandLaws  -- the command of each job is lawful
 pub mod GivingWeightsLaws  -- the weights that `_weightvector` writes give the bases that it read
 pub mod OneTextLaws  -- what `_bases` writes for a source is one text

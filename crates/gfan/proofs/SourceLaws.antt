@@ -23,6 +23,7 @@ use Rattle.gfan.specs.CommonRefinement.{refinement_command}
 use Rattle.gfan.specs.Generated.{generated_command}
 use Rattle.gfan.specs.Commands.{list_options, cone_options, plain_command, list_command, command_of, ReadsInputAlone}
 use Rattle.gfan.proofs.CommandLaws.{list_source}
+use Rattle.gfan.proofs.BasisTestLaws.{intersection_once}
 
 -- ---- texts as the code lists them
 
@@ -105,6 +106,7 @@ writes_once (jobs.LeadingTerms o) n = leading_once o.listed
 writes_once (jobs.WeightVector o) n = weight_once o.listed o.echoed
 writes_once (jobs.GroebnerCone o) n = cone_once o.vector_input (cone_options o)
 writes_once (jobs.ToPolyhedralFan o) n = tt
+writes_once (jobs.TropicalIntersection o) n = intersection_once o.basis_test
 writes_once (jobs.FanCommonRefinement o) n = tt
 writes_once (jobs.Generated o) n = tt
 writes_once (jobs.Saturation o) n = tt

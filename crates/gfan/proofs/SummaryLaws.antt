@@ -1,6 +1,6 @@
 -- How `_generated` sums up a list: how that begins, goes on, ends and is refused.
 -- To cite: weight_long; IsSummingUp, starts, step_variables, below_limit, goes_on, past_limit, ends, refused_in_tree, refused_at_basis;
--- unnamed_unsummed, summary_answers, summary_refuses, root_refuses; generated_lawful, generated_ring, generated_begins, generated_start,
+-- unnamed_unsummed, summary_answers, summary_refuses, root_refuses; tree_not_listed, generated_lawful, generated_ring, generated_begins, generated_start,
 -- one_summary. The rest are steps.
 use Rattle.std.specs.Prelude.{◌≡◌, ◌≢◌, ◌⊎◌, ℕ, ◌+◌, ◌<◌, ◌≤◌, nat_le, max, min, true, false, List, [], ◌∷◌, ◌++◌, length, take, map, ℤ}
 use Rattle.std.specs.Global.{Global}
@@ -349,7 +349,7 @@ summary_untested limit pairs fs r t (IsSummaryCause.in_tree e h q) = tree_untest
 summary_untested limit pairs fs r t (IsSummaryCause.at_weight e h q) = weight_untested e (subst IsOfTest q t)
 summary_untested limit pairs fs r t (IsSummaryCause.at_sum e h q) = subst IsOfTest q t
 
-tree_not_listed : (e : TreeError) (most : ℕ) → refusals.ListLimit most ≡ of_tree e → ⊥
+pub tree_not_listed : (e : TreeError) (most : ℕ) → refusals.ListLimit most ≡ of_tree e → ⊥
 tree_not_listed (tree_errors.Overflow o) most q = cc
 tree_not_listed (tree_errors.Exponent o) most q = cc
 tree_not_listed (tree_errors.PairBudget b u) most q = cc

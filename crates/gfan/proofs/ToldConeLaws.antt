@@ -31,6 +31,7 @@ numbers_work (refusals.Overflow o) h = tt
 numbers_work (refusals.ExponentOverflow o) h = tt
 numbers_work (refusals.ConeOverflow row op left right) h = tt
 numbers_work (refusals.PairBudget basis unsettled) h = tt
+numbers_work (refusals.WideRoot index value) h = tt
 numbers_work refusals.Memory h = tt
 numbers_work _ h = absurd h
 
@@ -40,6 +41,7 @@ numbers_untested (refusals.Overflow o) h t = t
 numbers_untested (refusals.ExponentOverflow o) h t = t
 numbers_untested (refusals.ConeOverflow row op left right) h t = t
 numbers_untested (refusals.PairBudget basis unsettled) h t = t
+numbers_untested (refusals.WideRoot index value) h t = t
 numbers_untested refusals.Memory h t = t
 numbers_untested _ h t = h
 
@@ -50,6 +52,7 @@ numbers_named ring (refusals.Overflow o) h = λ lent is. tt
 numbers_named ring (refusals.ExponentOverflow o) h = λ lent is. tt
 numbers_named ring (refusals.ConeOverflow row op left right) h = λ lent is. tt
 numbers_named ring (refusals.PairBudget basis unsettled) h = λ lent is. tt
+numbers_named ring (refusals.WideRoot index value) h = λ lent is. tt
 numbers_named ring refusals.Memory h = λ lent is. tt
 numbers_named ring _ h = absurd h
 

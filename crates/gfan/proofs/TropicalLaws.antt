@@ -1,5 +1,5 @@
 -- The fans of polynomials that are read, and that a source is answered in one way.
--- To cite: generators_read, fan_unanswered, text_unanswered; tropical_exact, tropical_tested, tropical_not_listed. The rest are steps.
+-- To cite: generators_read, no_first_zero, fan_unanswered, text_unanswered; tropical_exact, tropical_tested, tropical_not_listed. The rest are steps.
 use Rattle.std.specs.Prelude.{◌≡◌, ◌≢◌, ℕ, false, All, List, [], ◌∷◌, length, map, None}
 use Rattle.std.proofs.Common.{refl, sym, ap, ◌∙◌, subst, inr}
 use Rattle.gf_vec.specs.declared.error.VecError.{VecError}
@@ -69,7 +69,7 @@ formed : (which : TropicalFan) (ring : List (List ℕ)) (ws : List Written) (cou
 formed which ring ws count e l z = (subst (HasNumber which) e l, (z, tt))
 
 -- where none is zero, none is the first that is
-no_first_zero : (fs : List Terms) (index : ℕ) → All (λ f. f ≢ []) fs → IsFirstZeroPolynomial fs index → ⊥
+pub no_first_zero : (fs : List Terms) (index : ℕ) → All (λ f. f ≢ []) fs → IsFirstZeroPolynomial fs index → ⊥
 no_first_zero fs index some h = some index _ h.inside h.zero
 
 pub fan_unanswered : (which : TropicalFan) (ring : List (List ℕ)) (ws : List Written) (count n : ℕ) (fs gs : List Terms) (e : TropicalError) → count ≡ length ws → HasNumber which count → HasNoZero ws

@@ -33,6 +33,7 @@ use Rattle.gfan.specs.ToPolyhedralFan.{to_polyhedral_fan_command}
 use Rattle.gfan.specs.HomogeneitySpace.{homogeneity_space_command}
 use Rattle.gfan.specs.declared.tropical.TropicalFan.TheVariants as fans
 use Rattle.gfan.specs.Tropical.{tropical_command}
+use Rattle.gfan.specs.BasisTest.{intersection_command}
 use Rattle.gfan.specs.CommonRefinement.{refinement_command}
 use Rattle.gfan.specs.MigrateFan.{migrate_fan_command}
 use Rattle.gfan.specs.Generated.{generated_command}
@@ -71,7 +72,6 @@ plain_command plains.PolynomialSetUnion = polynomial_set_union_command
 plain_command plains.Stats = stats_command
 plain_command plains.HomogeneitySpace = homogeneity_space_command
 plain_command plains.TropicalHypersurface = tropical_command fans.Hypersurface
-plain_command plains.TropicalIntersection = tropical_command fans.Intersection
 plain_command plains.MinkowskiSum = tropical_command fans.MinkowskiSum
 plain_command plains.MigrateFan = migrate_fan_command
 
@@ -89,6 +89,7 @@ command_of (jobs.LeadingTerms o) = leading_terms_command o.listed
 command_of (jobs.WeightVector o) = weight_vector_command o.listed o.echoed
 command_of (jobs.GroebnerCone o) = groebner_cone_command o.vector_input (cone_options o)
 command_of (jobs.ToPolyhedralFan o) = to_polyhedral_fan_command o.restrict
+command_of (jobs.TropicalIntersection o) = intersection_command o.basis_test
 command_of (jobs.FanCommonRefinement o) = refinement_command o.first o.second
 command_of (jobs.Generated o) = generated_command o.number o.limit o.pairs
 command_of (jobs.Saturation o) = saturation_command o.pairs

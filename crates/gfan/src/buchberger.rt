@@ -76,7 +76,11 @@ fn check_length(n: u32, weight: &Option<IntVec>) -> Result<(), Refusal>
 }
 
 /// Whether the polynomials are homogeneous, where the order asks for it. They are counted in 32 bits.
-fn check_degrees(revlex: bool, weight: &Option<IntVec>, set: &[Poly]) -> Result<(), Refusal>
+pub(crate) fn check_degrees(
+    revlex: bool,
+    weight: &Option<IntVec>,
+    set: &[Poly],
+) -> Result<(), Refusal>
     ensures ok { OnOk result (AreTaken revlex weight.now set.now) }
     ensures err { IfErr result (λ r. IsDegreeRefusal revlex weight.now set.now r ⊎ (r ≡ Refusal.Memory)) }
 {

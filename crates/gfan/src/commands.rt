@@ -7,6 +7,7 @@ ghost use Rattle.gf_frame.specs.Origins.{texts_of};
 ghost use Rattle.gf_frame.specs.Commands.{WritesOnce, IsAnswered, IsRefusedOn};
 ghost use Rattle.gf_frame.specs.Runs.{IsDoneOn, IsStoppedOn};
 ghost use Rattle.gfan.specs.Refused.{IsOfSource};
+ghost use Rattle.gfan.specs.BasisTest.{intersection_command};
 ghost use Rattle.gfan.specs.Commands.{plain_command, command_of, ReadsInputAlone};
 ghost use Rattle.gfan.specs.Run.{IsOfLoaded};
 
@@ -16,10 +17,10 @@ use crate::refused::Refused;
 use crate::told_cone::ConeOptions;
 use crate::tropical::TropicalFan;
 use crate::{
-    bases, buchberger, common_refinement, containment, generated, given_basis, groebner_cone,
-    homogeneity_space, homogenize, initial_forms, leading_terms, mark_polynomial_set, marked,
-    migrate_fan, polynomial_set_union, saturation, stats, to_polyhedral_fan, tropical,
-    weight_vector,
+    bases, basis_test, buchberger, common_refinement, containment, generated, given_basis,
+    groebner_cone, homogeneity_space, homogenize, initial_forms, leading_terms,
+    mark_polynomial_set, marked, migrate_fan, polynomial_set_union, saturation, stats,
+    to_polyhedral_fan, tropical, weight_vector,
 };
 use gf_frame::{LoadFrom, load_all};
 use gf_front::{Job, PlainCommand, Refusal};
@@ -91,13 +92,28 @@ fn plain_answer<R: Threads + Sync>(
         PlainCommand::TropicalHypersurface => {
             tropical::answer(rt, alloc, source, TropicalFan::Hypersurface)
         }
-        PlainCommand::TropicalIntersection => {
-            tropical::answer(rt, alloc, source, TropicalFan::Intersection)
-        }
         PlainCommand::MinkowskiSum => {
             tropical::answer(rt, alloc, source, TropicalFan::MinkowskiSum)
         }
         PlainCommand::MigrateFan => migrate_fan::answer(alloc, source),
+    }
+}
+
+/// What `_tropicalintersection` writes for the source: the fan, or with `--basistest` the verdict.
+fn intersection_answer<R: Threads + Sync>(
+    rt: &R,
+    alloc: Global,
+    source: &[u8],
+    basis_test: bool,
+) -> Result<Vec<u8>, Refused>
+    ensures ok { IfOk result (λ text. IsAnswered (intersection_command basis_test) (source.now ∷ []) text.items) }
+    ensures err { IfErr result (λ e. IsRefusedOn (intersection_command basis_test) (source.now ∷ []) e.refusal) }
+    ensures told { IfErr result (IsOfSource source.now) }
+{
+    if basis_test {
+        basis_test::answer(rt, alloc, source)
+    } else {
+        tropical::answer(rt, alloc, source, TropicalFan::Intersection)
     }
 }
 
@@ -139,6 +155,9 @@ fn input_answer<R: Threads + Sync>(
             weight_vector::answer(alloc, source, given.listed, given.echoed)
         }
         Job::ToPolyhedralFan(given) => to_polyhedral_fan::answer(alloc, source, given.restrict),
+        Job::TropicalIntersection(given) => {
+            intersection_answer(rt, alloc, source, given.basis_test)
+        }
         Job::Saturation(given) => saturation::answer(alloc, source, given.pairs),
     }
 }

@@ -15,6 +15,7 @@
 #![tactic(auto)]
 
 mod bases;
+mod basis_test;
 pub mod buchberger;
 mod certificates;
 mod checks;

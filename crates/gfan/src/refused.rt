@@ -1,6 +1,7 @@
 //! A refusal on its way to the end of a run.
 ghost use Rattle.std.specs.Prelude.{◌≡◌, Some};
 ghost use Rattle.gf_front.specs.Lines.{line};
+ghost use Rattle.gfan.specs.Bases.{of_tree};
 ghost use Rattle.gfan.specs.Certificates.{of_weight_error};
 ghost use Rattle.gfan.specs.CheckedSets.{of_check};
 ghost use Rattle.gfan.specs.ToldCones.{of_sections};
@@ -134,6 +135,24 @@ pub(crate) fn of_tropical(error: TropicalError) -> Refusal
     }
 }
 
+/// Why a search over bases is refused, as a refusal of the run.
+pub(crate) fn of_tree(error: TreeError) -> Refusal
+    ensures { result ≡ of_tree error }
+{
+    match error {
+        TreeError::Overflow(o) => Refusal::Overflow(o),
+        TreeError::Exponent(o) => Refusal::ExponentOverflow(o),
+        TreeError::PairBudget { basis, unsettled } => Refusal::PairBudget { basis, unsettled },
+        TreeError::Cone(o) => Refusal::ConeOverflow {
+            row: o.row,
+            op: o.op,
+            left: o.left,
+            right: o.right,
+        },
+        TreeError::Memory => Refusal::Memory,
+    }
+}
+
 impl Refused {
     /// Why a marked set of this ring isn't taken.
     pub fn of_check(error: CheckError, ring: Ring) -> Refused
@@ -250,24 +269,12 @@ impl From<BasisError> for Refused {
 }
 
 impl From<TreeError> for Refused {
-    ghost use Rattle.gfan.specs.Bases.{of_tree};
     ghost use Rattle.gfan.specs.Refused.{without_names};
 
     ghost from_gives = { λ t e. e ≡ without_names (of_tree t) };
 
     fn from(error: TreeError) -> Refused {
-        Refused::from(match error {
-            TreeError::Overflow(o) => Refusal::Overflow(o),
-            TreeError::Exponent(o) => Refusal::ExponentOverflow(o),
-            TreeError::PairBudget { basis, unsettled } => Refusal::PairBudget { basis, unsettled },
-            TreeError::Cone(o) => Refusal::ConeOverflow {
-                row: o.row,
-                op: o.op,
-                left: o.left,
-                right: o.right,
-            },
-            TreeError::Memory => Refusal::Memory,
-        })
+        Refused::from(of_tree(error))
     }
 }
 

@@ -56,7 +56,11 @@ fn check_number(which: TropicalFan, count: usize) -> Result<(), Refusal>
 }
 
 /// The polynomials of a set in `n` variables, of which none is zero. They are counted in 32 bits.
-fn nonzero_polynomials(alloc: Global, n: u32, set: Vec<Written>) -> Result<Vec<Poly>, Refusal>
+pub(crate) fn nonzero_polynomials(
+    alloc: Global,
+    n: u32,
+    set: Vec<Written>,
+) -> Result<Vec<Poly>, Refusal>
     requires { AreIn n set.items }
     ensures value { IfOk result (λ fs. fs.items ≡ generators_of set.items) }
     ensures variables { IfOk result (λ fs. All (HasVariables n) fs.items) }

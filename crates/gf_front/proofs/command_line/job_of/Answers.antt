@@ -1,6 +1,6 @@
 use Rattle.std.proofs.Common.{refl}
 use Rattle.clap.specs.Words.{found_of, rows_of}
-use Rattle.gf_front.specs.Table.{buchberger, bases, leading_terms, groebner_cone, weight_vector, to_polyhedral_fan, fan_common_refinement, generated, saturation}
+use Rattle.gf_front.specs.Table.{buchberger, bases, leading_terms, groebner_cone, weight_vector, to_polyhedral_fan, tropical_intersection, fan_common_refinement, generated, saturation}
 use Rattle.gf_front.proofs.JobLaws.{choices_hold}
 use Rattle.gf_front.proofs.command_line.job_of.Goals as goal
 
@@ -22,11 +22,14 @@ weight_vector-requires c = choices_hold weight_vector (c.args.name.now, rows_of 
 pub to_polyhedral_fan-requires : goal.to_polyhedral_fan-requires
 to_polyhedral_fan-requires c = choices_hold to_polyhedral_fan (c.args.name.now, rows_of (found_of c.args.found.now)) refl c.requires c.in-text-6.is
 
+pub tropical_intersection-requires : goal.tropical_intersection-requires
+tropical_intersection-requires c = choices_hold tropical_intersection (c.args.name.now, rows_of (found_of c.args.found.now)) refl c.requires c.in-text-7.is
+
 pub fan_common_refinement-requires : goal.fan_common_refinement-requires
-fan_common_refinement-requires c = choices_hold fan_common_refinement (c.args.name.now, rows_of (found_of c.args.found.now)) refl c.requires c.in-text-7.is
+fan_common_refinement-requires c = choices_hold fan_common_refinement (c.args.name.now, rows_of (found_of c.args.found.now)) refl c.requires c.in-text-8.is
 
 pub generated-requires : goal.generated-requires
-generated-requires c = choices_hold generated (c.args.name.now, rows_of (found_of c.args.found.now)) refl c.requires c.in-text-8.is
+generated-requires c = choices_hold generated (c.args.name.now, rows_of (found_of c.args.found.now)) refl c.requires c.in-text-9.is
 
 pub saturation-requires : goal.saturation-requires
-saturation-requires c = choices_hold saturation (c.args.name.now, rows_of (found_of c.args.found.now)) refl c.requires c.in-text-9.is
+saturation-requires c = choices_hold saturation (c.args.name.now, rows_of (found_of c.args.found.now)) refl c.requires c.in-text-10.is

@@ -16,6 +16,10 @@ pub returns-in-ToPolyhedralFan-clause-err : goal.returns-in-ToPolyhedralFan-clau
 returns-in-ToPolyhedralFan-clause-err g c =
     subst (λ (j : Job). IfErr c.answer-in-ToPolyhedralFan.result (λ e. IsRefusedOn (command_of j) (c.args.source.now ∷ []) e.refusal)) (sym c.in-ToPolyhedralFan.is) c.answer-in-ToPolyhedralFan.ensures.err
 
+pub returns-in-TropicalIntersection-clause-err : goal.returns-in-TropicalIntersection-clause-err
+returns-in-TropicalIntersection-clause-err g c =
+    subst (λ (j : Job). IfErr c.intersection_answer.result (λ e. IsRefusedOn (command_of j) (c.args.source.now ∷ []) e.refusal)) (sym c.in-TropicalIntersection.is) c.intersection_answer.ensures.err
+
 pub unreachable-requires : goal.unreachable-requires
 unreachable-requires g c = absurd (not_handed c.args.job.now _ c.requires.input c.in-Generated.is)
 
