@@ -8,7 +8,7 @@ ghost use Rattle.gf_basis_test.specs.Refusals.{IsRefusedAtBasis};
 
 use gf_cone::Cone;
 use gf_fan::Fan;
-use gf_initial_monomials::{InitialError, at_cone};
+use gf_initial_monomials::{InitialError, Seen, at_cone};
 use gf_poly::{MarkedSet, ROOM};
 use gf_rays::Rays;
 use gf_vec::IntVec;
@@ -24,7 +24,8 @@ fn maximal_cone(fan: &Fan, i: usize) -> &Rays
     &fan.cones()[place].cone
 }
 
-/// The first vector that fails of the maximal cones of a fan and the closed cone of a basis, which is given; none where each passes.
+/// The first vector that fails of the maximal cones of a fan and the closed cone of a basis, which is given; none where each passes. Initial forms that
+/// passed at one cone are not tried again at another.
 ///
 /// # Errors
 /// What is refused at a cone, all before which pass.
@@ -41,10 +42,11 @@ fn at_cones(
     ensures ok { IfOk result (HasBasisOutcome basis.now.variables (maximal_rows fan.now) basis.now.items) }
     ensures err { IfErr result (IsRefusedAtBasis basis.now.variables (maximal_rows fan.now) basis.now.items pairs) }
 {
+    let mut seen = Seen::new(alloc, basis.variables());
     let places = fan.maximal();
     'places: for i in 0..places.len() {
         let maximal = maximal_cone(fan, i);
-        let found = at_cone(alloc, basis, cone.normals(), maximal, pairs)?;
+        let found = at_cone(alloc, basis, cone.normals(), maximal, pairs, &mut seen)?;
         if let Some(v) = found {
             return Ok(Some(v));
         }

@@ -10,6 +10,7 @@ ghost use Rattle.gf_initial_monomials.specs.Limits.{AreFacesWithinLimits, IsMemo
 
 use crate::error::InitialError;
 use crate::faces::at_faces;
+use crate::seen::Seen;
 use gf_gordan::GordanError;
 use gf_poly::{MarkedSet, ROOM};
 use gf_rays::Rays;
@@ -39,21 +40,25 @@ fn first_failing(
     normals: &[IntVec],
     cone: &Rays,
     pairs: u64,
+    seen: &mut Seen,
 ) -> Result<Option<IntVec>, InitialError>
     requires room { basis.now.variables < ROOM }
     requires ambient { cone.now.ambient ≡ basis.now.variables }
     requires normals { AreRows basis.now.variables normals.now }
+    requires seen { seen.old ≡ basis.now.variables }
+    ensures seen { seen.new ≡ seen.old }
     ensures ok { IfOk result (HasOutcome basis.now.variables basis.now.items normals.now (rows_of cone.now)) }
     ensures err { IfErr result (IsConeRefusal basis.now.variables basis.now.items normals.now (rows_of cone.now) pairs) }
 {
     let cut = cut_by(alloc, cone, normals)?;
     let faces = cut.faces()?;
-    at_faces(alloc, basis, &cut, &faces, pairs)
+    at_faces(alloc, basis, &cut, &faces, pairs, seen)
 }
 
 /// The first vector that fails of a cone and a Gröbner basis, the normals of whose closed cone are given; none where each passes. For each
 /// face of what the two cones share, by dimension and then by the numbers of its rays, the sum of its rays is tried: it fails where
-/// the ideal of the initial forms of the basis there has a polynomial of one term.
+/// the ideal of the initial forms of the basis there has a polynomial of one term. Initial forms that were seen at this basis to have none
+/// are not tried again; those of this cone are kept in `seen`.
 ///
 /// # Errors
 /// `Cone`: an operation of finding the rays of what the cones share leaves the range. `Wide`: a partial sum of the rays of a face does, the
@@ -65,13 +70,16 @@ pub fn at_cone(
     normals: &[IntVec],
     cone: &Rays,
     pairs: u64,
+    seen: &mut Seen,
 ) -> Result<Option<IntVec>, InitialError>
     requires room { basis.now.variables < ROOM }
     requires ambient { cone.now.ambient ≡ basis.now.variables }
     requires normals { AreRows basis.now.variables normals.now }
+    requires seen { seen.old ≡ basis.now.variables }
+    ensures seen { seen.new ≡ seen.old }
     ensures ok { IfOk result (HasOutcome basis.now.variables basis.now.items normals.now (rows_of cone.now)) }
     ensures err { IfErr result (IsConeRefusal basis.now.variables basis.now.items normals.now (rows_of cone.now) pairs) }
     ensures complete { AreFacesWithinLimits basis.now.variables basis.now.items normals.now (rows_of cone.now) pairs → IfErr result IsMemoryWanted }
 {
-    first_failing(alloc, basis, normals, cone, pairs)
+    first_failing(alloc, basis, normals, cone, pairs, seen)
 }

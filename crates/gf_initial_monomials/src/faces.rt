@@ -5,6 +5,7 @@ ghost use Rattle.gf_initial_monomials.specs.Outcomes.{IsOutcome, PassesAt, Fails
 ghost use Rattle.gf_initial_monomials.specs.Refusals.{IsFaceRefusal};
 
 use crate::error::InitialError;
+use crate::seen::Seen;
 use crate::sums::sum_at;
 use crate::vectors::told_at;
 use gf_poly::{MarkedSet, ROOM};
@@ -22,16 +23,19 @@ pub(crate) fn at_faces(
     cone: &Rays,
     faces: &[Face],
     pairs: u64,
+    seen: &mut Seen,
 ) -> Result<Option<IntVec>, InitialError>
     requires room { basis.now.variables < ROOM }
     requires ambient { cone.now.ambient ≡ basis.now.variables }
+    requires seen { seen.old ≡ basis.now.variables }
     requires faces { AreFaces cone.now faces.now }
+    ensures seen { seen.new ≡ seen.old }
     ensures ok { IfOk result (IsOutcome (PassesAt basis.now.items cone.now) (FailsAt basis.now.items cone.now) faces.now) }
     ensures err { IfErr result (IsFaceRefusal basis.now.items cone.now faces.now pairs) }
 {
     'faces: for i in 0..faces.len() {
         let v = sum_at(alloc, cone, faces[i].rays.as_slice())?;
-        let fails = told_at(alloc, basis, &v, pairs)?;
+        let fails = told_at(alloc, basis, &v, pairs, seen)?;
         if fails {
             return Ok(Some(v));
         }

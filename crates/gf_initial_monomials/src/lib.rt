@@ -8,8 +8,10 @@ mod cones;
 mod error;
 mod faces;
 mod forms;
+mod seen;
 mod sums;
 mod vectors;
 
 pub use cones::at_cone;
 pub use error::InitialError;
+pub use seen::Seen;

@@ -6,6 +6,7 @@ ghost use Rattle.gf_initial_monomials.specs.Refusals.{IsFirstPast, IsVectorRefus
 
 use crate::error::InitialError;
 use crate::forms::forms_at;
+use crate::seen::Seen;
 use gf_one_term::has_monomial;
 use gf_poly::{MarkedSet, ROOM};
 use gf_vec::IntVec;
@@ -18,7 +19,8 @@ fn first_past(v: &IntVec) -> Option<usize>
     v.as_slice().iter().position(|x| x.unsigned_abs() > 1 << 63)
 }
 
-/// Whether the initial forms at a vector of the closed cone of a basis have a polynomial of one term in their ideal.
+/// Whether the initial forms at a vector of the closed cone of a basis have a polynomial of one term in their ideal. Where they are among those that were
+/// seen to have none, nothing is worked out.
 ///
 /// # Errors
 /// The first entry past `2^63`; a refusal of the saturation of their ideal; want of memory.
@@ -27,9 +29,12 @@ pub(crate) fn told_at(
     basis: &MarkedSet,
     v: &IntVec,
     pairs: u64,
+    seen: &mut Seen,
 ) -> Result<bool, InitialError>
     requires room { basis.now.variables < ROOM }
     requires long { length v.now ≡ basis.now.variables }
+    requires seen { seen.old ≡ basis.now.variables }
+    ensures seen { seen.new ≡ seen.old }
     ensures ok { IfOk result (IsTold basis.now.variables basis.now.items v.now) }
     ensures err { IfErr result (IsVectorRefusal basis.now.variables basis.now.items v.now pairs) }
 {
@@ -40,8 +45,15 @@ pub(crate) fn told_at(
         });
     }
     let forms = forms_at(alloc, basis, v)?;
+    if seen.has(&forms) {
+        return Ok(false);
+    }
     match has_monomial(alloc, basis.variables(), &forms, pairs) {
-        Ok(yes) => Ok(yes),
+        Ok(true) => Ok(true),
+        Ok(false) => {
+            seen.keep(forms)?;
+            Ok(false)
+        }
         Err(refusal) => Err(InitialError::Saturation(refusal)),
     }
 }
