@@ -1,5 +1,5 @@
 -- What holds of the states that are reached, and their operations.
-use Rattle.std.proofs.Common.{◌≡◌, ℕ, suc, ◌+◌, ◌<◌, ◌≤◌, List, [], ◌∷◌, ◌++◌, length, ℤ, arith, sym, ap, ◌∙◌, subst, inl, inr, take, drop, get_or, Contains}
+use Rattle.std.proofs.Common.{◌≡◌, ℕ, suc, ◌+◌, ◌<◌, ◌≤◌, List, [], ◌∷◌, ◌++◌, length, ℤ, arith, sym, ap, ◌∙◌, subst, refl, inl, inr, take, drop, get_or, Contains}
 use Rattle.std.proofs.lemmas.List.{take_more, take_all}
 use Rattle.gf_gordan.specs.Alternative.{AreRows}
 use Rattle.gf_gordan.specs.declared.error.ConeOverflow.{ConeOverflow}
@@ -9,7 +9,8 @@ use Rattle.gf_duality.proofs.ListLaws.{none_in, snoc_cases, first_in}
 use Rattle.gf_rays.specs.declared.ray.Ray.{Ray}
 use Rattle.gf_rays.specs.FlatRows.{AreFlatRows, AreFlatFirst, none as first_none, taken as first_taken, left as first_left}
 use Rattle.gf_rays.specs.Leveling.{IsRowStep}
-use Rattle.gf_rays.specs.Reached.{IsReachedState, begun, split, lined, AreChosen, none, taken, left, IsRaysStep, taking, implied}
+use Rattle.gf_rays.specs.Reached.{IsReachedState, begun, split, lined, AreChosen, none, taken, left, IsRaysStep, taking, lineality, straight, echelon, implied}
+use Rattle.gf_rays.specs.Further.{IsTaken, by_split, by_line, IsImplying, IsEndStep, lineality as end_lineality, straight as end_straight, echelon as end_echelon, implied as end_implied}
 use Rattle.gf_rays.specs.States.{IsConeState, AreFinished}
 use Rattle.gf_rays.proofs.LinedLaws.{lined_state}
 use Rattle.gf_rays.proofs.StateLaws.{state_start, flat_after}
@@ -39,9 +40,27 @@ chosen_zero n hs es lin rays k flat a h (first_taken j m out all e f g c) =
 chosen_zero n hs es lin rays k flat a h (first_left j m out e f c) =
     left (take j hs) flat (get_or hs j []) (take k hs) (ap (λ i. take i hs) e ∙ take_more hs j [] (omega (arith, h, e))) (λ z. f (zero_flat n hs es lin rays j a (omega (arith, h, e)) z)) (chosen_zero n hs es lin rays j flat a (omega (arith, h, e)) c)
 
-pub reached_implied_step : (n : ℕ) (hs es lin flat : List (List ℤ)) (rays : List Ray) (s : ConeOverflow) → AreFinished n hs es lin rays → AreFlatRows hs rays flat → IsEliminationStep (length hs + length es) n (flat ++ es) n s → IsRaysStep n hs es s
-reached_implied_step n hs es lin flat rays s a f k =
-    implied flat (subst (λ (t : List (List ℤ)). AreChosen (IsZeroOn n hs es) t flat) (take_all (length hs) hs (omega arith)) (chosen_zero n hs es lin rays (length hs) flat a (omega arith) f.chosen)) k
+pub implying : (n : ℕ) (hs es lin flat : List (List ℤ)) (rays : List Ray) (s : ConeOverflow) → AreFinished n hs es lin rays → AreFlatRows hs rays flat → IsEliminationStep (length hs + length es) n (flat ++ es) n s → IsImplying n hs es s
+implying n hs es lin flat rays s a f k = record {
+  flat = flat;
+  chosen = subst (λ (t : List (List ℤ)). AreChosen (IsZeroOn n hs es) t flat) (take_all (length hs) hs (omega arith)) (chosen_zero n hs es lin rays (length hs) flat a (omega arith) f.chosen);
+  step = k;
+}
+
+pub implied_step : (n : ℕ) (hs es : List (List ℤ)) (s : ConeOverflow) → IsImplying n hs es s → IsRaysStep n hs es s
+implied_step n hs es s k = implied k.flat k.chosen k.step
+
+-- one inequality more
+pub reached_taken : (n : ℕ) (es hs lin lines : List (List ℤ)) (rays next : List Ray) (h : List ℤ) → IsTaken h (length hs) lin rays lines next → IsReachedState n es hs lin rays → IsReachedState n es (hs ++ h ∷ []) lines next
+reached_taken n es hs lin lines rays next h (by_split middle out f b p g) r = split hs lin rays middle out h _ refl f b p g r
+reached_taken n es hs lin lines rays next h (by_line i l after out k b) r = lined hs lin after rays out h l i _ refl k b r
+
+-- an operation at the end of a reached state
+pub reached_end : (n : ℕ) (hs es lin : List (List ℤ)) (rays : List Ray) (s : ConeOverflow) → IsReachedState n es hs lin rays → IsEndStep n hs es lin rays s → IsRaysStep n hs es s
+reached_end n hs es lin rays s r (end_lineality k) = lineality lin rays r k
+reached_end n hs es lin rays s r (end_straight ortho x o c k) = straight lin ortho rays x r o c k
+reached_end n hs es lin rays s r (end_echelon k) = echelon lin rays r k
+reached_end n hs es lin rays s r (end_implied k) = implied_step n hs es s k
 
 pub chosen_in : (P : List ℤ → Type 0) (rows out : List (List ℤ)) (t : List ℤ) → AreChosen P rows out → Contains out t → Contains rows t
 chosen_in P rows out t none c = absurd (none_in t c)

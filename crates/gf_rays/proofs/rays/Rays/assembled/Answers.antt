@@ -2,13 +2,13 @@ use Rattle.std.proofs.Common.{◌≡◌, ◌∙◌, ap, subst, List, ℤ, ℕ, l
 use Rattle.std.proofs.lemmas.Result.{err_from_is_err_and}
 use Rattle.gf_duality.specs.Elimination.{IsEchelonBasis, IsEliminationStep}
 use Rattle.gf_duality.specs.Rays.{IsImplied}
-use Rattle.gf_rays.specs.Reached.{IsRaysStep}
+use Rattle.gf_rays.specs.Further.{IsImplying}
 use Rattle.gf_rays.specs.declared.ray.Ray.{Ray}
 use Rattle.gf_rays.specs.MarkedRays.{vectors_of}
 use Rattle.gf_rays.specs.FlatRows.{AreFlatRows}
 use Rattle.gf_gordan.proofs.SystemLaws.{Failed-weaker}
 use Rattle.gf_rays.proofs.ImpliedLaws.{implied_of}
-use Rattle.gf_rays.proofs.ReachedLaws.{reached_implied_step}
+use Rattle.gf_rays.proofs.ReachedLaws.{implying}
 use Rattle.gf_rays.proofs.PickedLaws.{completed_by}
 use Rattle.gf_rays.proofs.rays.Rays.assembled.Goals as goal
 
@@ -19,8 +19,8 @@ returns-in_err-implied-clause-err c =
     let all : ℕ = length rows + c.len.result in
     let q : c.len.result ≡ length es = omega (arith, c.len.ensures) in
     let p = err_from_is_err_and c.from_residual.result c.from_residual.ensures.1 in
-    rw (p.1, p.2) (Failed-weaker (λ s. (flat : List (List ℤ)) × (AreFlatRows rows c.as_slice-2.result.now flat × IsEliminationStep all c.args.n (flat ++ c.as_slice.result.now) c.args.n s)) (IsRaysStep c.args.n hs es)
-    (λ s k. reached_implied_step c.args.n hs es c.args.lineality k.0 c.args.marked.items s c.requires.finished
+    rw (p.1, p.2) (Failed-weaker (λ s. (flat : List (List ℤ)) × (AreFlatRows rows c.as_slice-2.result.now flat × IsEliminationStep all c.args.n (flat ++ c.as_slice.result.now) c.args.n s)) (IsImplying c.args.n hs es)
+    (λ s k. implying c.args.n hs es c.args.lineality k.0 c.args.marked.items s c.requires.finished
     (subst (λ (l : List (List ℤ)). AreFlatRows l c.args.marked.items k.0) c.as_slice-rows.ensures (subst (λ (l : List Ray). AreFlatRows rows l k.0) c.as_slice-2.ensures.value k.1.0))
     (subst (λ (l : List (List ℤ)). IsEliminationStep (length l + length es) c.args.n (k.0 ++ es) c.args.n s) c.as_slice-rows.ensures
     (subst (λ z. IsEliminationStep (length rows + z) c.args.n (k.0 ++ es) c.args.n s) q (subst (λ z. IsEliminationStep all c.args.n (k.0 ++ z) c.args.n s) c.as_slice.ensures.value k.1.1)))) _ c.in_err-implied.ensures.err)
