@@ -6,12 +6,14 @@ use Rattle.gf_int.specs.Content.{IsPrimitive}
 use Rattle.gf_gordan.specs.Alternative.{AreRows}
 use Rattle.gf_gordan.specs.declared.error.ConeOverflow.{ConeOverflow}
 use Rattle.gf_duality.specs.Generators.{IsDescribed}
+use Rattle.gf_duality.specs.Rays.{IsRays}
 use Rattle.gf_duality.proofs.Determined.{described_of}
 use Rattle.gf_rays.specs.declared.ray.Ray.{Ray}
 use Rattle.gf_rays.specs.Cones.{RowsAndRays, IsComplete}
 use Rattle.gf_rays.specs.Further.{IsTaken, IsFurtherState, begun, taken, IsFurtherRowStep, IsEndStep, AreMarkedRays, IsFurtherStep, taking, ending}
 use Rattle.gf_rays.specs.Leveling.{IsRowStep}
 use Rattle.gf_rays.specs.States.{IsConeState}
+use Rattle.gf_rays.proofs.ReachedLaws.{taken_state}
 use Rattle.gf_rays.proofs.StraightLaws.{parts_at}
 
 -- what holds of rows holds of the same rows
@@ -19,21 +21,25 @@ pub moved : (P : ℕ → List (List ℤ) → List (List ℤ) → Type 0) {n m : 
 moved P {n} {m} {hs} {hs2} {es} {es2} en eh ee p = subst (λ z. P m hs2 z) ee (subst (λ z. P m z es) eh (subst (λ z. P z hs es) en p))
 
 -- what is kept of a cone is a state
-state_of : (c : RowsAndRays) (marked_rays : List Ray) → IsComplete c marked_rays → IsConeState c.ambient c.inequalities c.equations c.lineality marked_rays
-state_of c marked_rays h = record {
-  described = subst (IsDescribed c.ambient c.inequalities c.equations c.lineality) h.vectors (described_of c.ambient c.inequalities c.equations c.lineality c.rays h.are_rays);
+pub state_of : (c : RowsAndRays) (marked_rays : List Ray) → IsRays c.ambient c.inequalities c.equations c.lineality c.rays → AreMarkedRays c marked_rays → IsConeState c.ambient c.inequalities c.equations c.lineality marked_rays
+state_of c marked_rays r h = record {
+  described = subst (IsDescribed c.ambient c.inequalities c.equations c.lineality) h.vectors (described_of c.ambient c.inequalities c.equations c.lineality c.rays r);
   marked = h.marked;
   primitive = λ x k. elim k [
-    | inl i ↦ All-contains IsPrimitive c.lineality x h.are_rays.echelon.primitive i
-    | inr i ↦ All-contains IsPrimitive c.rays x h.are_rays.primitive (subst (λ (l : List (List ℤ)). Contains l x) (sym h.vectors) i)
+    | inl i ↦ All-contains IsPrimitive c.lineality x r.echelon.primitive i
+    | inr i ↦ All-contains IsPrimitive c.rays x r.primitive (subst (λ (l : List (List ℤ)). Contains l x) (sym h.vectors) i)
   ];
 }
+
+-- what is kept of a cone, as that with which a double description begins
+marked_of : (c : RowsAndRays) (marked_rays : List Ray) → IsComplete c marked_rays → AreMarkedRays c marked_rays
+marked_of c marked_rays h = record { vectors = h.vectors; marked = h.marked }
 
 -- that of the first rows of a list
 pub start_of : (c : RowsAndRays) (marked_rays rays : List Ray) (more rows lin : List (List ℤ)) (m : ℕ) → IsComplete c marked_rays → rows ≡ c.inequalities ++ more → lin ≡ c.lineality → rays ≡ marked_rays → m ≡ length c.inequalities → IsConeState c.ambient (take m rows) c.equations lin rays
 start_of c marked_rays rays more rows lin m h er el ey em =
     let e : take m rows ≡ c.inequalities = ap (take m) er ∙ take_at c.inequalities more m (sym em) in
-    subst (λ z. IsConeState c.ambient z c.equations lin rays) (sym e) (subst (λ z. IsConeState c.ambient c.inequalities c.equations z rays) (sym el) (subst (λ (z : List Ray). IsConeState c.ambient c.inequalities c.equations c.lineality z) (sym ey) (state_of c marked_rays h)))
+    subst (λ z. IsConeState c.ambient z c.equations lin rays) (sym e) (subst (λ z. IsConeState c.ambient c.inequalities c.equations z rays) (sym el) (subst (λ (z : List Ray). IsConeState c.ambient c.inequalities c.equations c.lineality z) (sym ey) (state_of c marked_rays h.are_rays (marked_of c marked_rays h))))
 
 pub wide_with : (c : RowsAndRays) (marked_rays : List Ray) (more rows : List (List ℤ)) → IsComplete c marked_rays → AreRows c.ambient more → rows ≡ c.inequalities ++ more → AreRows c.ambient rows
 wide_with c marked_rays more rows h w e = subst (AreRows c.ambient) (sym e) (All-append (λ t. length t ≡ c.ambient) c.inequalities more h.inequalities_width w)
@@ -89,10 +95,6 @@ further_row_step count k rows basis lin start rays h s hc hk e f d = record {
   step = subst (λ m. IsRowStep m h lin rays s) (sym (further_place count k rows f.more hc hk f.parts)) d;
 }
 
--- what is kept of a cone, as that with which a double description begins
-marked_of : (c : RowsAndRays) (marked_rays : List Ray) → IsComplete c marked_rays → AreMarkedRays c marked_rays
-marked_of c marked_rays h = record { vectors = h.vectors; marked = h.marked }
-
 -- an operation of taking in one of the inequalities behind those of a cone
 pub taking_step : (c : RowsAndRays) (marked_rays rays : List Ray) (more rows lin : List (List ℤ)) (m : ℕ) (s : ConeOverflow) → IsComplete c marked_rays → rows ≡ c.inequalities ++ more → lin ≡ c.lineality → rays ≡ marked_rays → m ≡ length c.inequalities →
     IsFurtherRowStep m lin rays (drop m rows) s → IsFurtherStep c more s
@@ -108,3 +110,11 @@ ending_step c marked_rays rays more rows lin lines next m n hs es s h er el ey e
     let e : drop m rows ≡ more = ap (drop m) er ∙ drop_at c.inequalities more m (sym em) in
     let a : IsFurtherState m c.lineality marked_rays more lines next = subst (λ z. IsFurtherState m c.lineality marked_rays z lines next) e (subst (λ z. IsFurtherState m c.lineality z (drop m rows) lines next) ey (subst (λ z. IsFurtherState m z rays (drop m rows) lines next) el f)) in
     ending marked_rays next lines (marked_of c marked_rays h) (subst (λ z. IsFurtherState z c.lineality marked_rays more lines next) em a) (moved (λ z xs ys. IsEndStep z xs ys lines next s) en eh ee k)
+
+-- the states that are reached are states of the part
+pub further_state : (n count : ℕ) (hs es basis : List (List ℤ)) (start : List Ray) (more lin : List (List ℤ)) (rays : List Ray) → count ≡ length hs → IsConeState n hs es basis start → IsFurtherState count basis start more lin rays → IsConeState n (hs ++ more) es lin rays
+further_state n count hs es basis start more lin rays e s begun = subst (λ z. IsConeState n z es basis start) (sym (append-nil hs)) s
+further_state n count hs es basis start more lin rays e s (taken before old lines others next h whole ew t r) =
+    let q = further_state n count hs es basis start before old others e s r in
+    let l : count + length before ≡ length (hs ++ before) = omega (arith, e, length-append hs before) in
+    subst (λ z. IsConeState n z es lines next) (append_assoc hs before (h ∷ []) ∙ ap (λ (z : List (List ℤ)). hs ++ z) (sym ew)) (taken_state n (hs ++ before) es old lines others next h (subst (λ m. IsTaken h m old others lines next) l t) q)

@@ -23,6 +23,7 @@ pub mod PartLaws  -- the rays on which an inequality is zero
 pub mod FacePartLaws  -- whether a cone is a face of another one, by flags
 pub mod FlagFaceLaws  -- faces by flags, one inequality further
 mod HeightLaws  -- the part next below another one
+mod MemberLaws  -- flags at numbers, and parts inside one another by them
 pub mod FaceNumbers  -- faces by the numbers of their rays, from flags
 mod PickedLaws  -- rays picked by their numbers, one further
 mod FurtherLaws  -- a double description taken further from the rays of a cone

@@ -28,6 +28,11 @@ reached_state n es hs lin rays w (split before l old middle out h whole e f b p 
 reached_state n es hs lin rays w (lined before whole lines old next h l i all e k b r) =
     subst (λ (t : List (List ℤ)). IsConeState n t es lin rays) (sym e) (lined_state n before es whole old i h l lin rays (reached_state n es before whole old w r) k.inside k.signed k.up b)
 
+-- one inequality more
+pub taken_state : (n : ℕ) (hs es lin lines : List (List ℤ)) (rays next : List Ray) (h : List ℤ) → IsTaken h (length hs) lin rays lines next → IsConeState n hs es lin rays → IsConeState n (hs ++ h ∷ []) es lines next
+taken_state n hs es lin lines rays next h (by_split middle out f b p g) s = state_pruned n _ es lin middle next (flat_after n hs es lin rays middle h s f b) p
+taken_state n hs es lin lines rays next h (by_line i l after out k b) s = lined_state n hs es lin rays i h l lines next s k.inside k.signed k.up b
+
 -- an operation of taking in the row at k
 pub reached_row_step : (n k : ℕ) (hs es lin : List (List ℤ)) (rays : List Ray) (h : List ℤ) (s : ConeOverflow) → k < length hs → h ≡ get_or hs k h → IsReachedState n es (take k hs) lin rays → IsRowStep k h lin rays s → IsRaysStep n hs es s
 reached_row_step n k hs es lin rays h s hk e r d = taking (take k hs) (drop (suc k) hs) lin rays h (parts_at hs k h hk e) r (subst (λ m. IsRowStep m h lin rays s) (sym (length-take-within k hs hk)) d)
@@ -50,7 +55,6 @@ implying n hs es lin flat rays s a f k = record {
 pub implied_step : (n : ℕ) (hs es : List (List ℤ)) (s : ConeOverflow) → IsImplying n hs es s → IsRaysStep n hs es s
 implied_step n hs es s k = implied k.flat k.chosen k.step
 
--- one inequality more
 pub reached_taken : (n : ℕ) (es hs lin lines : List (List ℤ)) (rays next : List Ray) (h : List ℤ) → IsTaken h (length hs) lin rays lines next → IsReachedState n es hs lin rays → IsReachedState n es (hs ++ h ∷ []) lines next
 reached_taken n es hs lin lines rays next h (by_split middle out f b p g) r = split hs lin rays middle out h _ refl f b p g r
 reached_taken n es hs lin lines rays next h (by_line i l after out k b) r = lined hs lin after rays out h l i _ refl k b r

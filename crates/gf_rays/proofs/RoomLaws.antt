@@ -14,18 +14,21 @@ use Rattle.gf_gordan.specs.declared.error.ConeOverflow.{ConeOverflow}
 use Rattle.gf_gordan.proofs.SizeLaws.{UpTo, neg_up, up_weaker, up_times, up_sum, up_divided, up_append, up_cons, up_none, up_drop, less_of, dot_up}
 use Rattle.gf_duality.specs.Combining.{pair}
 use Rattle.gf_duality.specs.Generators.{unit_vectors}
-use Rattle.gf_duality.specs.Rays.{IsZeroOn}
+use Rattle.gf_duality.specs.Rays.{IsRays, IsZeroOn}
 use Rattle.gf_duality.specs.Elimination.{IsEliminated, IsNormalised, IsNullSpace, IsNullStep, eliminating, reducing, with_values, columns}
 use Rattle.gf_duality.specs.Straightening.{IsLeveled, IsStraightened, done as straight_done, next as straight_next, IsOrthogonalized, start, added, gone, IsStraightening, IsOrthogonalizing}
 use Rattle.gf_duality.proofs.ListLaws.{none_in, snoc_cases, first_in, zip_from, all_by, place, less, at, more}
 use Rattle.gf_duality.proofs.Orthogonal.{basis as orthogonal_basis, straightened, head_in}
 use Rattle.gf_fans.proofs.PartNumbers.{of_map}
 use Rattle.gf_rays.specs.declared.ray.Ray.{Ray}
-use Rattle.gf_rays.specs.Limits.{turned_bound, next_bound, along_bound, straight_bound, orthogonal_bound, fits, rows_fit, starts_fit, has_room, SystemsWithRoomStayWithinLimits, SmallSystemsHaveRoom}
+use Rattle.gf_rays.specs.Further.{IsTaken, by_split, by_line, IsFurtherState, begun as begun_further, taken, IsEndStep, lineality as end_lineality, straight as end_straight, echelon as end_echelon, implied as end_implied, AreMarkedRays, IsFurtherStep, taking as taking_further, ending}
+use Rattle.gf_rays.specs.Leveling.{IsLine, IsLinedBy}
+use Rattle.gf_rays.specs.Limits.{turned_bound, next_bound, along_bound, straight_bound, orthogonal_bound, fits, rows_fit, starts_fit, has_room, SystemsWithRoomStayWithinLimits, SmallSystemsHaveRoom, FurtherRowsStayWithinLimits, ConesHaveRoom}
 use Rattle.gf_rays.specs.MarkedRays.{IsPruned, vectors_of}
 use Rattle.gf_rays.specs.Reached.{IsReachedState, begun, split, lined, IsRaysStep, null_space, taking, lineality, straight, echelon, implied}
 use Rattle.gf_rays.specs.Splitting.{IsSplit}
 use Rattle.gf_rays.proofs.EliminateLaws.{units_long, dot_unit}
+use Rattle.gf_rays.proofs.FurtherLaws.{state_of, further_state}
 use Rattle.gf_rays.proofs.PruneLaws.{of_pruned}
 use Rattle.gf_rays.proofs.ReachedLaws.{reached_state, chosen_in}
 use Rattle.gf_rays.proofs.SplitLaws.{vector_in, of_vector}
@@ -313,7 +316,7 @@ next_room n b k j some c m e h =
 before_last : (count : ℕ) (before : List (List ℤ)) (h : List ℤ) (whole : List (List ℤ)) → whole ≡ before ++ h ∷ [] → length whole ≤ count → count - length before ≡ suc (count - length whole)
 before_last count before h whole e l = let s = snoc_long before h whole e in omega (arith, s, l)
 
-module _ (n b count : ℕ) (es : List (List ℤ)) (hn : 1 ≤ n) (hb : 1 ≤ b) (we : AreWide n b es) (starts : starts_fit n b count n ≡ true) where
+module _ (n b count : ℕ) (hn : 1 ≤ n) (hb : 1 ≤ b) where
   split_room : (some : Bool) (m : ℕ) (before whole lin : List (List ℤ)) (h : List ℤ) (old middle out : List Ray) → 1 ≤ m → length h ≡ n → UpTo b h → IsSplit h old middle → IsPruned middle out → BothUpTo m lin (vectors_of old) →
       (some ≡ false → (r : Ray) → Contains old r → ⊥) → HasNextRoom n b (count - length whole) some (length lin) m → HasRoom n b count whole lin out
   split_room true m before whole lin h old middle out one l u k p q empty f = record {
@@ -335,6 +338,21 @@ module _ (n b count : ℕ) (es : List (List ℤ)) (hn : 1 ≤ n) (hb : 1 ≤ b) 
         room = f.stays;
       }
 
+  lined_room : (before whole lines : List (List ℤ)) (h l : List ℤ) (lin : List (List ℤ)) (i m : ℕ) (old next : List Ray) (q : HasRoom n b count before lin old) → length h ≡ n → UpTo b h → IsLine h lin i l → IsLinedBy h l (remove lin i) old m lines next →
+      HasNextRoom n b (count - length whole) q.some (length lin) q.bound → HasRoom n b count whole lines next
+  lined_room before whole lines h l lin i m old next q w u k z f =
+      let one = q.one in
+      let long : length lin - 1 ≡ length lines = let x = length-remove lin i k.inside in let y = AllZip-long (IsLeveled h l) (remove lin i) lines z.leveled in omega (arith, x, y) in
+      record {
+        bound = next_bound n b q.bound;
+        one = let t = next_step n b q.bound hn hb one in omega (arith, t, one);
+        up = lined_up n b q.bound h l lin lines i m old next hn hb one w u k z q.up;
+        some = true;
+        empty = λ x. absurd (cc);
+        room = subst (λ d. rows_fit n b (count - length whole) true d (next_bound n b q.bound) ≡ true) long f.goes;
+      }
+
+module _ (n b count : ℕ) (es : List (List ℤ)) (hn : 1 ≤ n) (hb : 1 ≤ b) (we : AreWide n b es) (starts : starts_fit n b count n ≡ true) where
   reached_room : (hs lin : List (List ℤ)) (rays : List Ray) → AreWide n b hs → length hs ≤ count → IsReachedState n es hs lin rays → HasRoom n b count hs lin rays
   reached_room hs lin rays w l (begun basis k) = started n b count es basis hb we starts k
   reached_room hs lin rays w l (split before lines old middle out h whole e z k p g r) =
@@ -342,22 +360,13 @@ module _ (n b count : ℕ) (es : List (List ℤ)) (hn : 1 ≤ n) (hb : 1 ≤ b) 
       let s = snoc_long before h hs e in
       let q = reached_room before lin old (wide_front n b before h hs e w) (omega (arith, s, l)) r in
       let f = next_room n b (count - length hs) (count - length before) q.some (length lin) q.bound (before_last count before h hs e l) q.room in
-      split_room q.some q.bound before hs lin h old middle rays q.one (w.long h c) (w.small.each h c) k p q.up q.empty f
+      split_room n b count hn hb q.some q.bound before hs lin h old middle rays q.one (w.long h c) (w.small.each h c) k p q.up q.empty f
   reached_room hs lin rays w l (lined before whole lines old next h a i all e k z r) =
       let c = sized_last before h hs e in
       let s = snoc_long before h hs e in
       let q = reached_room before whole old (wide_front n b before h hs e w) (omega (arith, s, l)) r in
       let f = next_room n b (count - length hs) (count - length before) q.some (length whole) q.bound (before_last count before h hs e l) q.room in
-      let one = q.one in
-      let long : length whole - 1 ≡ length lin = let x = length-remove whole i k.inside in let y = AllZip-long (IsLeveled h a) (remove whole i) lin z.leveled in omega (arith, x, y) in
-      record {
-        bound = next_bound n b q.bound;
-        one = let t = next_step n b q.bound hn hb one in omega (arith, t, one);
-        up = lined_up n b q.bound h a whole lin i (length before) old rays hn hb one (w.long h c) (w.small.each h c) k z q.up;
-        some = true;
-        empty = λ x. absurd (cc);
-        room = subst (λ d. rows_fit n b (count - length hs) true d (next_bound n b q.bound) ≡ true) long f.goes;
-      }
+      lined_room n b count hn hb before hs lin h a whole i (length before) old next q (w.long h c) (w.small.each h c) k z f
 
 -- what the end asks
 record EndsFit (n : ℕ) (some : Bool) (c m : ℕ) : Type 0 where
@@ -379,6 +388,20 @@ ends_room n b j some c m e h =
 wide_rows : (n b : ℕ) (rows : List (List ℤ)) → AreWide n b rows → AreRows n rows
 wide_rows n b rows w = all_by (λ t. length t ≡ n) rows w.long
 
+-- an operation at the end
+no_end_step : (n b m : ℕ) (hs es lin : List (List ℤ)) (rays : List Ray) (some : Bool) (s : ConeOverflow) → 1 ≤ n → 1 ≤ m → AreWide n b hs → AreWide n b es → AreWide n m lin → AreUpTo m (vectors_of rays) → (some ≡ false → (r : Ray) → Contains rays r → ⊥) → EndsFit n some (length lin) m → turned_bound b n < 2 ^ 127 →
+    IsEndStep n hs es lin rays s → ⊥
+no_end_step n b m hs es lin rays some s hn hm wh we wl ur empty q turns (end_lineality d) = no_orthogonalizing (length hs + length es) n m lin s hn hm wl q.own d
+no_end_step n b m hs es lin rays some s hn hm wh we wl ur empty q turns (end_straight ortho y o c d) =
+    let w = orthogonal_bound n m (length lin) in
+    let t = orthogonal_up n m lin ortho hn wl o in
+    let fits_along = q.along (true_from_ne_false some (λ e. empty e y c)) in
+    let short : straight_bound n w (length ortho) m ≤ straight_bound n w (length lin) m = straight_mono n w m (length ortho) (length lin) hn (orthogonal_one n m (length lin)) t.fewer in
+    no_straightening (length hs + length es) n w m ortho y.vector s hn (orthogonal_one n m (length lin)) hm (orthogonal_wide n m lin ortho wl o t.small) (ur.each y.vector (vector_in rays y c)) (omega (arith, short, fits_along)) d
+no_end_step n b m hs es lin rays some s hn hm wh we wl ur empty q turns (end_echelon d) = no_elimination (length hs + length es) n m lin n (length lin) s wl.small (inr (omega arith)) q.turned d
+no_end_step n b m hs es lin rays some s hn hm wh we wl ur empty q turns (end_implied d) =
+    no_elimination (length hs + length es) n b (d.flat ++ es) n n s (record { each = λ x i. elim (Contains-append_cases d.flat es x i) [ inl a ↦ wh.small.each x (chosen_in (IsZeroOn n hs es) hs d.flat x d.chosen a) | inr a ↦ we.small.each x a ] }) (inl (omega arith)) turns d.step
+
 no_step : (n b : ℕ) (hs es : List (List ℤ)) (s : ConeOverflow) → 1 ≤ n → 1 ≤ b → AreWide n b hs → AreWide n b es → has_room n b (length hs) ≡ true → IsRaysStep n hs es s → ⊥
 no_step n b hs es s hn hb wh we room k = by_step k
   where
@@ -397,8 +420,10 @@ no_step n b hs es s hn hb wh we room k = by_step k
     last : (lin : List (List ℤ)) (rays : List Ray) → IsReachedState n es hs lin rays → (q : HasRoom n b (length hs) hs lin rays) × EndsFit n q.some (length lin) q.bound
     last lin rays r = let q = state hs lin rays wh (omega arith) r in (q, ends_room n b (length hs - length hs) q.some (length lin) q.bound (omega arith) q.room)
 
-    wide_lin : (lin : List (List ℤ)) (rays : List Ray) (r : IsReachedState n es hs lin rays) → AreWide n (last lin rays r).0.bound lin
-    wide_lin lin rays r = record { long = width hs lin rays r; small = (last lin rays r).0.up.first }
+    at_end : (lin : List (List ℤ)) (rays : List Ray) → IsReachedState n es hs lin rays → IsEndStep n hs es lin rays s → ⊥
+    at_end lin rays r k =
+        let q = last lin rays r in
+        no_end_step n b q.0.bound hs es lin rays q.0.some s hn q.0.one wh we (record { long = width hs lin rays r; small = q.0.up.first }) q.0.up.second q.0.empty q.1 turns k
 
     by_step : IsRaysStep n hs es s → ⊥
     by_step (null_space d) = no_null_step (length hs + length es) n b es s hb we turns d
@@ -412,17 +437,9 @@ no_step n b hs es s hn hb wh we room k = by_step k
         let q = state before lin rays front (omega (arith, fewer)) r in
         let f = next_room n b (length hs - suc (length before)) (length hs - length before) q.some (length lin) q.bound (omega (arith, fewer)) q.room in
         no_row_step n b q.bound (length before) h lin rays s (wh.long h ch) (wh.small.each h ch) q.up.first q.up.second (room_below n b q.bound q.one f.next) f.next d
-    by_step (lineality lin rays r d) = let q = last lin rays r in no_orthogonalizing (length hs + length es) n q.0.bound lin s hn q.0.one (wide_lin lin rays r) q.1.own d
-    by_step (straight lin ortho rays y r o c d) =
-        let q = last lin rays r in
-        let m = q.0.bound in
-        let w = orthogonal_bound n m (length lin) in
-        let t = orthogonal_up n m lin ortho hn (wide_lin lin rays r) o in
-        let some : q.0.some ≡ true = true_from_ne_false q.0.some (λ e. q.0.empty e y c) in
-        let fits_along = q.1.along some in
-        let short : straight_bound n w (length ortho) m ≤ straight_bound n w (length lin) m = straight_mono n w m (length ortho) (length lin) hn (orthogonal_one n m (length lin)) t.fewer in
-        no_straightening (length hs + length es) n w m ortho y.vector s hn (orthogonal_one n m (length lin)) q.0.one (orthogonal_wide n m lin ortho (wide_lin lin rays r) o t.small) (q.0.up.second.each y.vector (vector_in rays y c)) (omega (arith, short, fits_along)) d
-    by_step (echelon lin rays r d) = let q = last lin rays r in no_elimination (length hs + length es) n q.0.bound lin n (length lin) s q.0.up.first (inr (omega arith)) q.1.turned d
+    by_step (lineality lin rays r d) = at_end lin rays r (end_lineality d)
+    by_step (straight lin ortho rays y r o c d) = at_end lin rays r (end_straight ortho y o c d)
+    by_step (echelon lin rays r d) = at_end lin rays r (end_echelon d)
     by_step (implied flat c d) =
         no_elimination (length hs + length es) n b (flat ++ es) n n s (record { each = λ x i. elim (Contains-append_cases flat es x i) [ inl a ↦ wh.small.each x (chosen_in (IsZeroOn n hs es) hs flat x c a) | inr a ↦ we.small.each x a ] }) (inl (omega arith)) turns d
 
@@ -437,3 +454,79 @@ systems_with_room_stay_within_limits n b c hn hb w room s k = no_step n b c.ineq
 
 pub small_systems_have_room : SmallSystemsHaveRoom
 small_systems_have_room = (refl, refl, refl, refl)
+
+-- ---- behind the rays of a cone
+
+-- one row more
+taken_room : (n b count k : ℕ) (before whole lin lines : List (List ℤ)) (h : List ℤ) (old next : List Ray) → 1 ≤ n → 1 ≤ b → whole ≡ before ++ h ∷ [] → length whole ≤ count → length h ≡ n → UpTo b h → HasRoom n b count before lin old → IsTaken h k lin old lines next → HasRoom n b count whole lines next
+taken_room n b count k before whole lin lines h old next hn hb e l w u q (by_split middle out f z p g) =
+    split_room n b count hn hb q.some q.bound before whole lin h old middle next q.one w u z p q.up q.empty (next_room n b (count - length whole) (count - length before) q.some (length lin) q.bound (before_last count before h whole e l) q.room)
+taken_room n b count k before whole lin lines h old next hn hb e l w u q (by_line i a after out r z) =
+    lined_room n b count hn hb before whole lines h a lin i k old next q w u r z (next_room n b (count - length whole) (count - length before) q.some (length lin) q.bound (before_last count before h whole e l) q.room)
+
+further_room : (n b count k : ℕ) (basis : List (List ℤ)) (first_rays : List Ray) (others lin : List (List ℤ)) (rays : List Ray) → 1 ≤ n → 1 ≤ b → AreWide n b others → length others ≤ count → HasRoom n b count [] basis first_rays → IsFurtherState k basis first_rays others lin rays → HasRoom n b count others lin rays
+further_room n b count k basis first_rays others lin rays hn hb w l q begun_further = q
+further_room n b count k basis first_rays others lin rays hn hb w l q (taken before old lines middle next h whole e t r) =
+    let c = sized_last before h others e in
+    let s = snoc_long before h others e in
+    taken_room n b count (k + length before) before others old lines h middle next hn hb e l (w.long h c) (w.small.each h c)
+    (further_room n b count k basis first_rays before old middle hn hb (wide_front n b before h others e w) (omega (arith, s, l)) q r) t
+
+wide_append : (n b : ℕ) (xs ys : List (List ℤ)) → AreWide n b xs → AreWide n b ys → AreWide n b (xs ++ ys)
+wide_append n b xs ys wx wy = record {
+  long = λ t c. elim (Contains-append_cases xs ys t c) [ inl a ↦ wx.long t a | inr a ↦ wy.long t a ];
+  small = record { each = λ t c. elim (Contains-append_cases xs ys t c) [ inl a ↦ wx.small.each t a | inr a ↦ wy.small.each t a ] };
+}
+
+pub further_rows_stay_within_limits : FurtherRowsStayWithinLimits
+further_rows_stay_within_limits n b m c others hn hb hm small w u turns room s k = by_step k
+  where
+    wh : AreWide n b c.inequalities
+    wh = wide_of n b c.inequalities small.rows.inequalities_width small.rows.inequalities
+
+    we : AreWide n b c.equations
+    we = wide_of n b c.equations small.rows.equations_width small.rows.equations
+
+    wm : AreWide n b others
+    wm = wide_of n b others w u
+
+    count : ℕ
+    count = length c.inequalities
+
+    up_to : (rows : List (List ℤ)) → HaveEntriesUpTo m rows → AreUpTo m rows
+    up_to rows h = record { each = λ x i. entry_up m x (All-contains (All (λ x. unsigned_abs x ≤ m)) rows x h i) }
+
+    first : (first_rays : List Ray) → AreMarkedRays c first_rays → HasRoom n b (length others) [] c.lineality first_rays
+    first first_rays a = record {
+      bound = m;
+      one = hm;
+      up = record { first = up_to c.lineality small.lineality; second = subst (AreUpTo m) a.vectors (up_to c.rays small.rays) };
+      some = true;
+      empty = λ e. absurd (cc);
+      room = subst (λ i. rows_fit n b i true (length c.lineality) m ≡ true) (let e : length others ≡ length others - 0 = omega arith in e) room;
+    }
+
+    room_at : (first_rays : List Ray) (rows lin : List (List ℤ)) (rays : List Ray) → AreMarkedRays c first_rays → AreWide n b rows → length rows ≤ length others → IsFurtherState count c.lineality first_rays rows lin rays → HasRoom n b (length others) rows lin rays
+    room_at first_rays rows lin rays a wr l r = further_room n b (length others) count c.lineality first_rays rows lin rays hn hb wr l (first first_rays a) r
+
+    by_step : IsFurtherStep c others s → ⊥
+    by_step (taking_further first_rays a d) =
+        let front : AreWide n b d.before = record {
+          long = λ x i. wm.long x (subst (λ (l : List (List ℤ)). Contains l x) (sym d.parts) (front_in d.before d.after d.h x i));
+          small = record { each = λ x i. wm.small.each x (subst (λ (l : List (List ℤ)). Contains l x) (sym d.parts) (front_in d.before d.after d.h x i)) };
+        } in
+        let fewer : suc (length d.before) ≤ length others = omega (arith, ap length d.parts, length-append d.before (d.h ∷ d.after)) in
+        let ch : Contains others d.h = subst (λ (l : List (List ℤ)). Contains l d.h) (sym d.parts) (middle_in d.before d.after d.h) in
+        let q = room_at first_rays d.before d.lineality d.rays a front (omega (arith, fewer)) d.reached in
+        let f = next_room n b (length others - suc (length d.before)) (length others - length d.before) q.some (length d.lineality) q.bound (omega (arith, fewer)) q.room in
+        no_row_step n b q.bound (count + length d.before) d.h d.lineality d.rays s (wm.long d.h ch) (wm.small.each d.h ch) q.up.first q.up.second (room_below n b q.bound q.one f.next) f.next d.step
+    by_step (ending first_rays rays lin a r d) =
+        let q = room_at first_rays others lin rays a wm (omega arith) r in
+        let e = ends_room n b (length others - length others) q.some (length lin) q.bound (omega arith) q.room in
+        let st = further_state c.ambient count c.inequalities c.equations c.lineality first_rays others lin rays refl (state_of c first_rays (subst (λ i. IsRays i c.inequalities c.equations c.lineality c.rays) (sym small.ambient) small.are_rays) a) r in
+        let wl : AreWide n q.bound lin = record { long = λ x i. st.described.lin_width x i ∙ small.ambient; small = q.up.first } in
+        no_end_step n b q.bound (c.inequalities ++ others) c.equations lin rays q.some s hn q.one (wide_append n b c.inequalities others wh wm) we wl q.up.second q.empty e (below_fits (turned_bound b n) turns)
+        (subst (λ i. IsEndStep i (c.inequalities ++ others) c.equations lin rays s) small.ambient d)
+
+pub cones_have_room : ConesHaveRoom
+cones_have_room = (refl, refl, refl, refl)

@@ -5,7 +5,9 @@ use Rattle.gf_gordan.specs.Alternative.{AreRows}
 use Rattle.gf_gordan.specs.Sizes.{HaveEntriesUpTo}
 use Rattle.gf_duality.specs.Generators.{unit_vectors}
 use Rattle.gf_duality.specs.Faces.{Rows}
-use Rattle.gf_rays.specs.Cones.{AreRaysWithinLimits}
+use Rattle.gf_duality.specs.Rays.{IsRays}
+use Rattle.gf_rays.specs.Cones.{RowsAndRays, rows_of, AreRaysWithinLimits}
+use Rattle.gf_rays.specs.Further.{AreFurtherWithinLimits}
 
 -- how large entries up to b are after so many pivots of an elimination
 abbrev pub turned_bound : ℕ → ℕ → ℕ
@@ -70,6 +72,14 @@ pub record IsSmallSystem (n b : ℕ) (c : Rows) : Type 0 where
   pub inequalities : HaveEntriesUpTo b c.inequalities
   pub equations : HaveEntriesUpTo b c.equations
 
+-- a cone with rows of n entries up to b, and its lineality basis and rays with entries up to m
+pub record IsSmallCone (n b m : ℕ) (c : RowsAndRays) : Type 0 where
+  pub ambient : c.ambient ≡ n
+  pub rows : IsSmallSystem n b (rows_of c)
+  pub are_rays : IsRays n c.inequalities c.equations c.lineality c.rays
+  pub lineality : HaveEntriesUpTo m c.lineality
+  pub rays : HaveEntriesUpTo m c.rays
+
 -- where there is room by these bounds, no operation of finding the rays leaves the range
 abbrev pub SystemsWithRoomStayWithinLimits : Type 0
 SystemsWithRoomStayWithinLimits = (n b : ℕ) (c : Rows) → 1 ≤ n → 1 ≤ b → IsSmallSystem n b c → has_room n b (length c.inequalities) ≡ true → AreRaysWithinLimits n c.inequalities c.equations
@@ -105,3 +115,12 @@ PartsOfOrthantsStayWithinLimits = (n b : ℕ) (more : List (List ℤ)) → 1 ≤
 -- and so for three variables and two more rows with entries up to 30000
 abbrev pub TwoRowsOfThreeVariables : Type 0
 TwoRowsOfThreeVariables = (g h : List ℤ) → AreRows 3 (g ∷ h ∷ []) → HaveEntriesUpTo 30000 (g ∷ h ∷ []) → AreRaysWithinLimits 3 (unit_vectors 3 ++ g ∷ h ∷ []) []
+
+-- where there is room behind the rays of a cone, no operation of taking in more inequalities after them leaves the range
+abbrev pub FurtherRowsStayWithinLimits : Type 0
+FurtherRowsStayWithinLimits = (n b m : ℕ) (c : RowsAndRays) (more : List (List ℤ)) → 1 ≤ n → 1 ≤ b → 1 ≤ m → IsSmallCone n b m c → AreRows n more → HaveEntriesUpTo b more →
+    fits (turned_bound b n) ≡ true → rows_fit n b (length more) true (length c.lineality) m ≡ true → AreFurtherWithinLimits c more
+
+-- in three variables, behind vectors with entries up to 1, there is room for two rows up to 30000 where no lineality vector is, and up to 1000 where one is
+abbrev pub ConesHaveRoom : Type 0
+ConesHaveRoom = (rows_fit 3 30000 2 true 0 1 ≡ true) × (fits (turned_bound 30000 3) ≡ true) × (rows_fit 3 1000 2 true 1 1 ≡ true) × (fits (turned_bound 1000 3) ≡ true)

@@ -33,6 +33,9 @@ mod zeros;
 
 pub use faces::{Face, is_within};
 pub use facets::listed;
-pub use laws::{small_systems_stay_within_limits, systems_with_room_stay_within_limits};
+pub use laws::{
+    further_rows_stay_within_limits, small_systems_stay_within_limits,
+    systems_with_room_stay_within_limits,
+};
 pub use numbers::Numbers;
 pub use rays::Rays;
