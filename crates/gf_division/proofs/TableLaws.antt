@@ -22,6 +22,7 @@ use Rattle.gf_poly.proofs.DescendingLaws.{deglex-total, equal_same, less_greater
 use Rattle.gf_poly.proofs.MonomialLaws.{length-minus}
 use Rattle.gf_ideal.specs.Marks.{AreMarked}
 use Rattle.gf_ideal.specs.Measure.{work_left}
+use Rattle.gf_ideal.specs.Settled.{IsAt}
 use Rattle.gf_division.specs.declared.table.Key.{Key}
 use Rattle.gf_division.specs.declared.table.Table.{Table}
 use Rattle.gf_division.specs.Steps.{IsStepRefusal}
@@ -33,13 +34,14 @@ use Rattle.gf_division.proofs.DescendingParts.{descending-back}
 use Rattle.gf_division.proofs.SubtractionLaws.{Subtracting, neg-nonzero, taken_at, taken_beside, refused_at}
 use Rattle.gf_division.proofs.DividendLaws.{first_head, first_coefficient, first_nonzero, first_length}
 use Rattle.gf_division.proofs.StepLaws.{sound_along, step_facts, step_refused}
-use Rattle.gf_division.proofs.RuleLaws.{Found, share_along, found_at, found_shares}
+use Rattle.gf_division.proofs.ReducerLaws.{members_equal, member_contained, member_variables}
+use Rattle.gf_division.proofs.RuleLaws.{Found, share_along, found_at}
 use Rattle.gf_division.proofs.RemainderLaws.{worked-none, worked-more, worked-same, worked_along, less_found, work_refused}
 
 -- ---- one entry
 
 -- the term of an entry
-term_of : Key → Fraction → Term
+abbrev pub term_of : Key → Fraction → Term
 term_of k c = record { coef = c; mono = k.mono }
 
 -- an entry stands at the key
@@ -67,7 +69,7 @@ above_midst x (s ∷ f) g t a = above_midst x f g t a.1
 
 present : (k : Key) (es : List (Key × Fraction)) (c : Fraction) → IsDescending (terms_in es) → coefficient_in k es ≡ Some c → Present k es c
 present k [] c d h = absurd (cc)
-present k (e ∷ es) c d h = at (key_order k e.0) refl
+present k (e ∷ es) c d h = at (λ q. present k es c d.2 q) (key_order k e.0) refl
   where
     look : (o : Ordering) → key_order k e.0 ≡ o → cond (is_eq o) (Some e.1) (coefficient_in k es) ≡ Some c
     look o q = ap (λ (p : Ordering). cond (is_eq p) (Some e.1) (coefficient_in k es)) (sym q) ∙ h
@@ -81,12 +83,12 @@ present k (e ∷ es) c d h = at (key_order k e.0) refl
     t : Term
     t = term_of e.0 e.1
 
-    at : (o : Ordering) → key_order k e.0 ≡ o → Present k (e ∷ es) c
-    at Less q =
-        let r = present k es c d.2 (look Less q) in
+    at : (coefficient_in k es ≡ Some c → Present k es c) → (o : Ordering) → key_order k e.0 ≡ o → Present k (e ∷ es) c
+    at later Less q =
+        let r = later (look Less q) in
         let z : Less ≡ Greater = sym q ∙ above_midst e.0.mono r.before r.after (term_of k c) (subst (IsAbove e.0.mono) r.is d.1) in
         absurd (cc)
-    at Equal q =
+    at later Equal q =
         let s : e.0.mono ≡ k.mono = equal_same e.0.mono k.mono q in
         let v : e.1 ≡ c = some_same (look Equal q) in
         record {
@@ -100,8 +102,8 @@ present k (e ∷ es) c d h = at (key_order k e.0) refl
       where
         some_same : {a b : Fraction} → Some a ≡ Some b → a ≡ b
         some_same u = cc
-    at Greater q =
-        let r = present k es c d.2 (look Greater q) in
+    at later Greater q =
+        let r = later (look Greater q) in
         record {
           before = t ∷ r.before;
           after = r.after;
@@ -113,7 +115,7 @@ present k (e ∷ es) c d h = at (key_order k e.0) refl
 
 absent : (k : Key) (es : List (Key × Fraction)) → coefficient_in k es ≡ None → Absent k es
 absent k [] h = record { before = []; after = []; is = refl; over = tt; first = refl; put = λ v. refl }
-absent k (e ∷ es) h = at (key_order k e.0) refl
+absent k (e ∷ es) h = at (λ q. absent k es q) (key_order k e.0) refl
   where
     look : (o : Ordering) → key_order k e.0 ≡ o → cond (is_eq o) (Some e.1) (coefficient_in k es) ≡ None
     look o q = ap (λ (p : Ordering). cond (is_eq p) (Some e.1) (coefficient_in k es)) (sym q) ∙ h
@@ -124,11 +126,11 @@ absent k (e ∷ es) h = at (key_order k e.0) refl
     t : Term
     t = term_of e.0 e.1
 
-    at : (o : Ordering) → key_order k e.0 ≡ o → Absent k (e ∷ es)
-    at Less q = record { before = []; after = t ∷ terms_in es; is = refl; over = tt; first = sym q; put = λ v. into v Less q }
-    at Equal q = let z : Some e.1 ≡ None = look Equal q in absurd (cc)
-    at Greater q =
-        let r = absent k es (look Greater q) in
+    at : (coefficient_in k es ≡ None → Absent k es) → (o : Ordering) → key_order k e.0 ≡ o → Absent k (e ∷ es)
+    at later Less q = record { before = []; after = t ∷ terms_in es; is = refl; over = tt; first = sym q; put = λ v. into v Less q }
+    at later Equal q = let z : Some e.1 ≡ None = look Equal q in absurd (cc)
+    at later Greater q =
+        let r = later (look Greater q) in
         record {
           before = t ∷ r.before;
           after = r.after;
@@ -164,7 +166,7 @@ popped_all f g (e ∷ es) n h = absurd (n (omega arith))
 -- ---- a new coefficient
 
 -- the whole below the place
-whole : Terms → Split
+abbrev pub whole : Terms → Split
 whole f = record { above = []; below = f }
 
 relay : (c : Fraction) (x : Exponents) (f g : Terms) (w : Split) → g ≡ joined_terms w → TakesAway c x (whole f) w → TakesAway c x (whole f) (whole g)
@@ -236,6 +238,15 @@ cut_at k es a d h =
     let r = present k es a d h in
     record { cut = record { above = r.before; below = record { coef = a; mono = k.mono } ∷ r.after }; same = sym r.is; first = record { rest = r.after; is = refl } }
 
+cut_sound : (n : ℕ) (f : Terms) (t : Term) → IsSound n (whole f) → (c : IsCutAt f t) → IsSound n c.cut
+cut_sound n f t v c = record { descending = subst IsDescending (sym c.same) v.descending; variables = subst (HasVariables n) (sym c.same) v.variables }
+
+pub cut_length : (n : ℕ) (f : Terms) (t : Term) → IsSound n (whole f) → IsCutAt f t → length t.mono ≡ n
+cut_length n f t v c = first_length n c.cut t (cut_sound n f t v c) c.first
+
+pub cut_nonzero : (n : ℕ) (f : Terms) (t : Term) → IsSound n (whole f) → IsCutAt f t → t.coef ≢ zero_ℚ
+cut_nonzero n f t v c = first_nonzero n c.cut t (cut_sound n f t v c) c.first
+
 -- ---- a multiple
 
 over_none : (u : Exponents) (g : Terms) → AreOverProducts u g []
@@ -247,8 +258,8 @@ subtracting-none c u g f s = record { same = λ y. ap (λ (z : Terms). coefficie
 
 -- ---- a step
 
-pub table_step : (b : MarkedPolynomial) (f g : Terms) (t : Term) (shift : Exponents) (new : Split) → g ≡ b.poly → IsSound (length b.head) (whole f) → Divides b.head t.mono → length t.mono ≡ length b.head → plus shift b.head ≡ t.mono → length shift ≡ length b.head → Subtracts t.coef shift g (whole f) new → StepsFrom b f t new
-table_step b f g t shift new eg v d l p e sub = record { step = at }
+pub table_step : (b : MarkedPolynomial) (f g : Terms) (t : Term) (shift : Exponents) (new : Split) → new.above ≡ [] → g ≡ b.poly → IsSound (length b.head) (whole f) → Divides b.head t.mono → length t.mono ≡ length b.head → plus shift b.head ≡ t.mono → length shift ≡ length b.head → Subtracts t.coef shift g (whole f) new → StepsFrom b f t new
+table_step b f g t shift new none eg v d l p e sub = record { step = at }
   where
     at : (s : Split) → joined_terms s ≡ f → IsTermInFront s.below t → (q : Term) × TakesStep b s q new
     at s q i =
@@ -262,7 +273,7 @@ table_step b f g t shift new eg v d l p e sub = record { step = at }
             same = λ y. sub.same y ∙ ap (λ (z : Terms). coefficient z y) (ap (λ (z : Terms). z ++ times (neg_ℚ t.coef) shift g) (sym q) ∙ ap (λ (z : Terms). joined_terms s ++ times (neg_ℚ t.coef) shift z) eg);
             sound = λ m k. sound_along (length shift) m new (e ∙ sym l ∙ first_length m s t k i) sub.sound;
             passed = s.above;
-            above = refl;
+            above = ap (λ (z : Terms). z ++ s.above) (sym none);
           },
         )
 
@@ -276,17 +287,21 @@ table_refused b f g t shift e eg d w v c p r =
 
 -- ---- the search
 
-reducible_first_in : (bs : List MarkedPolynomial) (spared : Option Exponents) (f : Terms) (t : Term) (j : ℕ) (r : IsReducibleAt bs spared f t j) → IsReducibleFirst bs spared r.there.cut j
+abbrev pub reducible_first_in : (bs : List MarkedPolynomial) (spared : Option Exponents) (f : Terms) (t : Term) (j : ℕ) (r : IsReducibleAt bs spared f t j) → IsReducibleFirst bs spared r.there.cut j
 reducible_first_in bs spared f t j r = record { term = t; is = r.there.first; divisor = r.divisor; beside = r.beside; monomial = r.monomial }
 
-found_there : (bs : List MarkedPolynomial) (spared : Option Exponents) (now : Split) (t : Term) (j : ℕ) (b : MarkedPolynomial) → b ≡ get_or bs j b → ShareVariables now bs spared → (r : IsReducibleAt bs spared (joined_terms now) t j) → Found bs spared r.there.cut j b
+abbrev pub found_there : (bs : List MarkedPolynomial) (spared : Option Exponents) (now : Split) (t : Term) (j : ℕ) (b : MarkedPolynomial) → b ≡ get_or bs j b → ShareVariables now bs spared → (r : IsReducibleAt bs spared (joined_terms now) t j) → Found bs spared r.there.cut j b
 found_there bs spared now t j b e v r = found_at bs spared r.there.cut j b e (share_along now r.there.cut bs spared r.there.same v) (reducible_first_in bs spared (joined_terms now) t j r)
 
-pub shares_there : (bs : List MarkedPolynomial) (spared : Option Exponents) (now : Split) (t : Term) (j : ℕ) (b : MarkedPolynomial) → b ≡ get_or bs j b → ShareVariables now bs spared → IsReducibleAt bs spared (joined_terms now) t j → SharesVariables b now
-shares_there bs spared now t j b e v r = record { n = v.n; sound = v.sound; poly = (found_shares bs spared r.there.cut j b (found_there bs spared now t j b e v r)).poly }
+-- the member as it is read
+member_there : (bs : List MarkedPolynomial) (spared : Option Exponents) (f : Terms) (t : Term) (j : ℕ) (b : MarkedPolynomial) → b ≡ get_or bs j b → IsReducibleAt bs spared f t j → IsAt bs j b
+member_there bs spared f t j b e r = record { within = r.divisor.at.within; is = sym e }
 
-pub divides_there : (bs : List MarkedPolynomial) (spared : Option Exponents) (now : Split) (t : Term) (j : ℕ) (b : MarkedPolynomial) → b ≡ get_or bs j b → ShareVariables now bs spared → IsReducibleAt bs spared (joined_terms now) t j → Divides b.head t.mono
-divides_there bs spared now t j b e v r = (found_there bs spared now t j b e v r).divides
+pub shares_there : (bs : List MarkedPolynomial) (spared : Option Exponents) (now : Split) (t : Term) (j : ℕ) (b : MarkedPolynomial) → b ≡ get_or bs j b → ShareVariables now bs spared → IsReducibleAt bs spared (joined_terms now) t j → SharesVariables b now
+shares_there bs spared now t j b e v r = record { n = v.n; sound = v.sound; poly = member_variables v.n bs b v.members (member_contained bs j b (member_there bs spared (joined_terms now) t j b e r)) }
+
+pub divides_there : (bs : List MarkedPolynomial) (spared : Option Exponents) (f : Terms) (t : Term) (j : ℕ) (b : MarkedPolynomial) → b ≡ get_or bs j b → IsReducibleAt bs spared f t j → Divides b.head t.mono
+divides_there bs spared f t j b e r = subst (λ (d : MarkedPolynomial). Divides d.head t.mono) (members_equal bs j r.divisor.member b r.divisor.at (member_there bs spared f t j b e r)) r.divisor.divides
 
 pub stepped : (bs : List MarkedPolynomial) (spared : Option Exponents) (old now new : Split) (t : Term) (j : ℕ) (b : MarkedPolynomial) → b ≡ get_or bs j b → IsReducibleAt bs spared (joined_terms now) t j → StepsFrom b (joined_terms now) t new → IsWorkedOn bs spared old now → IsWorkedOn bs spared old new
 stepped bs spared old now new t j b e r h k =
