@@ -35,8 +35,7 @@ impl PartialEq for Key {
     ghost laws = { Prim.search (comparing, rules) };
 
     fn eq(&self, other: &Key) -> bool {
-        self.mono.degree() == other.mono.degree()
-            && self.mono.exponents() == other.mono.exponents()
+        self.mono.degree() == other.mono.degree() && self.mono.exponents() == other.mono.exponents()
     }
 }
 
