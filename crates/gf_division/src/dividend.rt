@@ -14,6 +14,7 @@ use gf_frac::{Frac, Overflow};
 use gf_poly::{Marked, Mono, Poly, PolyError, Term};
 use std::alloc::{AllocError, Global};
 use std::cmp::Ordering;
+use std::mem;
 
 /// The terms above the place, the greatest first, and the terms below it, the greatest last.
 ///
@@ -27,7 +28,7 @@ pub struct Dividend {
 }
 
 /// The product; by 1, from either side, it is the other number.
-fn product(a: &Frac, b: &Frac) -> Result<Frac, Overflow>
+pub(crate) fn product(a: &Frac, b: &Frac) -> Result<Frac, Overflow>
     ensures value { IfOk result (λ x. x ≡ a.now *ℚ b.now) }
     ensures overflow { IfErr result (IsScalingOverflow a.now b.now) }
 {
@@ -216,11 +217,17 @@ impl Dividend {
         }
     }
 
-    /// From now on monomials wait to be reduced, the greatest by the guide first: those that are there, and those that steps add.
-    pub(crate) fn watch(&mut self, alloc: Global, guide: &Guide) -> Result<(), AllocError>
+    /// From now on monomials that a mark divides wait to be reduced, the greatest by the guide first: those that are there, and those
+    /// that steps add.
+    pub(crate) fn watch(
+        &mut self,
+        alloc: Global,
+        guide: &Guide,
+        by: &[Marked],
+    ) -> Result<(), AllocError>
         ensures { OnOk result (split_of self.new ≡ split_of self.old) }
     {
-        let mut front = Front::new(alloc, guide)?;
+        let mut front = Front::new(alloc, guide, by)?;
         'above: for i in 0..self.above.len() {
             front.push(&self.above[i].mono)?;
         }
@@ -229,6 +236,20 @@ impl Dividend {
         }
         self.front = Some(front);
         Ok(())
+    }
+
+    /// Takes the polynomial out; zero stays.
+    pub(crate) fn take(&mut self, alloc: Global) -> Result<Poly, AllocError>
+        requires { IsDescending (joined_terms (split_of self.old)) }
+        ensures { IfOk result (λ f. f ≡ joined_terms (split_of self.old)) }
+    {
+        let all = mem::replace(self, Dividend::new(alloc, Poly::zero(alloc)));
+        all.into_poly()
+    }
+
+    /// Whether there are more terms than so many, on one side of the place.
+    pub(crate) fn is_longer_than(&self, n: usize) -> bool {
+        self.above.len() > n || self.below.len() > n
     }
 
     /// How many monomials wait.

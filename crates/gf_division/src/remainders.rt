@@ -10,27 +10,29 @@ ghost use Rattle.gf_division.specs.NormalForms.{HasSomeWeight, HaveSameVariables
 ghost use Rattle.gf_division.specs.Dividends.{split_of, joined_terms};
 ghost use Rattle.gf_division.specs.Reducers.{AreIrreducible, ShareVariables, IsReducibleFirst};
 ghost use Rattle.gf_division.specs.Remainders.{IsRemainder, IsWorkedOn, IsNextStep, IsWorkRefusal};
+ghost use Rattle.gf_division.specs.Tables.{table_of, IsReducibleAt};
 
 use crate::dividend::Dividend;
 use crate::front::Guide;
 use crate::reducers::{reducer_of, seek};
-use gf_poly::{Marked, Mono, Poly, PolyError};
+use crate::table::Table;
+use gf_poly::{Marked, Mono, Poly, PolyError, Term};
 use std::alloc::{AllocError, Global};
 use std::cmp::Ordering;
 
-/// Whether a mark divides `x`; a mark in other variables doesn't.
-fn is_open(x: &Mono, by: &[Marked]) -> bool {
-    let degree = x.degree();
+/// How many times as many terms as a member has, in the mean, make a polynomial long.
+const LONG: usize = 16;
+
+/// Whether the polynomial has many more terms than the members: then a table is faster than lists.
+fn is_long(rest: &Dividend, by: &[Marked]) -> bool {
+    let mut terms = 0usize;
     'members: for j in 0..by.len() {
-        let mark = by[j].head();
-        if mark.degree() <= degree
-            && mark.exponents().len() == x.exponents().len()
-            && mark.divides(x)
-        {
-            return true;
-        }
+        terms = terms.saturating_add(by[j].poly().terms().len());
     }
-    false
+    match terms.checked_div(by.len()) {
+        Some(mean) => rest.is_longer_than(mean.saturating_mul(LONG)),
+        None => false,
+    }
 }
 
 /// The first member that reduces the term at `x`, where the polynomial has one; the place is at that term then.
@@ -76,11 +78,9 @@ fn next(
             Some(x) => x,
             None => continue,
         };
-        if is_open(&x, by) {
-            let found = reducer_at(rest, &x, by, spared)?;
-            if let Some(j) = found {
-                return Ok(Some(j));
-            }
+        let found = reducer_at(rest, &x, by, spared)?;
+        if let Some(j) = found {
+            return Ok(Some(j));
         }
     }
     rest.rewind()?;
@@ -132,6 +132,93 @@ fn by_guide(
     Ok(())
 }
 
+/// The foremost term that waits and that a member reduces, and the place of the first such member.
+fn next_in(
+    alloc: Global,
+    table: &mut Table,
+    by: &[Marked],
+    spared: &Option<Mono>,
+) -> Option<(Term, usize)>
+    requires variables { ShareVariables (table_of table.old) by.now spared.now }
+    ensures same { table_of table.new ≡ table_of table.old }
+    ensures found { IfSome result (λ r. IsReducibleAt by.now spared.now (joined_terms (table_of table.old)) r.0 r.1) }
+{
+    'waiting: for _ in 0..table.waiting() {
+        let x = match table.foremost(alloc) {
+            Some(x) => x,
+            None => continue,
+        };
+        if let Some(t) = table.term_at(x) {
+            // As in `reducer_at`.
+            let _ = t.mono.exponents();
+            if let Some(j) = reducer_of(&t.mono, by, spared) {
+                return Some((t, j));
+            }
+        }
+    }
+    None
+}
+
+/// Steps in a table by the guide, while a member reduces a term that waits.
+fn through(
+    alloc: Global,
+    table: &mut Table,
+    by: &[Marked],
+    spared: &Option<Mono>,
+) -> Result<(), PolyError>
+    requires marked { HasSomeWeight by.now }
+    requires variables { ShareVariables (table_of table.old) by.now spared.now }
+    ensures worked { OnOk result (IsWorkedOn by.now spared.now (table_of table.old) (table_of table.new)) }
+    ensures cause { IfErr result (IsWorkRefusal by.now spared.now (joined_terms (table_of table.old))) }
+{
+    'steps: while let Some((t, j)) = next_in(alloc, table, by, spared) {
+        let member = &by[j];
+        table.step(&t, member)?;
+    }
+    Ok(())
+}
+
+/// Steps by the guide, with the polynomial in a table.
+fn by_table(
+    alloc: Global,
+    rest: &mut Dividend,
+    by: &[Marked],
+    spared: &Option<Mono>,
+    guide: &Guide,
+) -> Result<(), PolyError>
+    requires marked { HasSomeWeight by.now }
+    requires variables { ShareVariables (split_of rest.old) by.now spared.now }
+    ensures worked { OnOk result (IsWorkedOn by.now spared.now (split_of rest.old) (split_of rest.new)) }
+    ensures cause { IfErr result (IsWorkRefusal by.now spared.now (joined_terms (split_of rest.old))) }
+{
+    let f = rest.take(alloc)?;
+    let mut table = Table::new(alloc, f, guide, by)?;
+    through(alloc, &mut table, by, spared)?;
+    let left = table.into_poly(alloc)?;
+    *rest = Dividend::new(alloc, left);
+    Ok(())
+}
+
+/// A long polynomial is worked off in a table; of another the monomials wait.
+fn shortened(
+    alloc: Global,
+    rest: &mut Dividend,
+    by: &[Marked],
+    spared: &Option<Mono>,
+    guide: &Guide,
+) -> Result<(), PolyError>
+    requires marked { HasSomeWeight by.now }
+    requires variables { ShareVariables (split_of rest.old) by.now spared.now }
+    ensures worked { OnOk result (IsWorkedOn by.now spared.now (split_of rest.old) (split_of rest.new)) }
+    ensures cause { IfErr result (IsWorkRefusal by.now spared.now (joined_terms (split_of rest.old))) }
+{
+    if is_long(rest, by) {
+        return by_table(alloc, rest, by, spared, guide);
+    }
+    rest.watch(alloc, guide, by)?;
+    Ok(())
+}
+
 /// Steps until no member reduces a term that isn't spared.
 pub(crate) fn work_off(
     alloc: Global,
@@ -151,7 +238,7 @@ pub(crate) fn work_off(
         return Ok(());
     }
     guide.find(alloc, by);
-    rest.watch(alloc, guide)?;
+    shortened(alloc, rest, by, spared, guide)?;
     by_guide(alloc, rest, by, spared)
 }
 
