@@ -19,13 +19,21 @@ use std::mem;
 /// The terms above the place, the greatest first, and the terms below it, the greatest last.
 ///
 /// A step of reduction works at the place: it copies no term, and moves none that it doesn't pass. Where monomials wait to be
-/// reduced, one that a step adds waits too.
+/// reduced, one that a step adds waits too. Since then it is counted how many terms were passed, and how many were taken away.
 #[derive(Drop)]
 pub struct Dividend {
     above: Vec<Term>,
     below: Vec<Term>,
     front: Option<Front>,
+    passed: u64,
+    taken: u64,
 }
+
+/// How many terms that are passed take as long as one that is taken away in a table.
+const FAR: u64 = 32;
+
+/// How many terms are taken away at least before a table is worth its making.
+const FEW: u64 = 64;
 
 /// The product; by 1, from either side, it is the other number.
 pub(crate) fn product(a: &Frac, b: &Frac) -> Result<Frac, Overflow>
@@ -84,6 +92,8 @@ impl Dividend {
             above: Vec::new(alloc),
             below,
             front: None,
+            passed: 0,
+            taken: 0,
         }
     }
 
@@ -92,11 +102,7 @@ impl Dividend {
         requires { IsDescending (joined_terms (split_of self)) }
         ensures { IfOk result (λ f. f ≡ joined_terms (split_of self)) }
     {
-        let Dividend {
-            above,
-            below,
-            front: _,
-        } = self;
+        let Dividend { above, below, .. } = self;
         let terms = joined(above, below)?;
         Ok(Poly::from_descending(terms))
     }
@@ -119,6 +125,7 @@ impl Dividend {
     {
         if let Some(t) = self.below.pop() {
             self.above.push(t)?;
+            self.passed = self.passed.wrapping_add(1);
         }
         Ok(())
     }
@@ -130,6 +137,7 @@ impl Dividend {
     {
         if let Some(t) = self.above.pop() {
             self.below.push(t)?;
+            self.passed = self.passed.wrapping_add(1);
         }
         Ok(())
     }
@@ -235,6 +243,8 @@ impl Dividend {
             front.push(&self.below[i].mono)?;
         }
         self.front = Some(front);
+        self.passed = 0;
+        self.taken = 0;
         Ok(())
     }
 
@@ -247,9 +257,9 @@ impl Dividend {
         all.into_poly()
     }
 
-    /// Whether there are more terms than so many, on one side of the place.
-    pub(crate) fn is_longer_than(&self, n: usize) -> bool {
-        self.above.len() > n || self.below.len() > n
+    /// Whether the place passes so many terms for those that are taken away that a table is faster.
+    pub(crate) fn is_far(&self) -> bool {
+        self.passed / FAR > self.taken.saturating_add(FEW)
     }
 
     /// How many monomials wait.
@@ -328,6 +338,7 @@ impl Dividend {
             let difference = product(coef, &t.coef)?;
             let mono = shift.mul(&t.mono)?;
             self.take_away(&difference, mono)?;
+            self.taken = self.taken.wrapping_add(1);
         }
         Ok(())
     }

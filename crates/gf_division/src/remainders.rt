@@ -20,21 +20,6 @@ use gf_poly::{Marked, Mono, Poly, PolyError, Term};
 use std::alloc::{AllocError, Global};
 use std::cmp::Ordering;
 
-/// How many times as many terms as a member has, in the mean, make a polynomial long.
-const LONG: usize = 16;
-
-/// Whether the polynomial has many more terms than the members: then a table is faster than lists.
-fn is_long(rest: &Dividend, by: &[Marked]) -> bool {
-    let mut terms = 0usize;
-    'members: for j in 0..by.len() {
-        terms = terms.saturating_add(by[j].poly().terms().len());
-    }
-    match terms.checked_div(by.len()) {
-        Some(mean) => rest.is_longer_than(mean.saturating_mul(LONG)),
-        None => false,
-    }
-}
-
 /// The first member that reduces the term at `x`, where the polynomial has one; the place is at that term then.
 fn reducer_at(
     rest: &mut Dividend,
@@ -61,6 +46,30 @@ fn reducer_at(
     }
 }
 
+/// The place goes to the foremost term that waits and that a member reduces; answers the place of the first such member.
+fn next_waiting(
+    alloc: Global,
+    rest: &mut Dividend,
+    by: &[Marked],
+    spared: &Option<Mono>,
+) -> Result<Option<usize>, AllocError>
+    requires variables { ShareVariables (split_of rest.old) by.now spared.now }
+    ensures same { OnOk result (joined_terms (split_of rest.new) ≡ joined_terms (split_of rest.old)) }
+    ensures found { IfOk result (λ o. IfSome o (IsReducibleFirst by.now spared.now (split_of rest.new))) }
+{
+    'waiting: for _ in 0..rest.waiting() {
+        let x = match rest.foremost(alloc) {
+            Some(x) => x,
+            None => continue,
+        };
+        let found = reducer_at(rest, &x, by, spared)?;
+        if let Some(j) = found {
+            return Ok(Some(j));
+        }
+    }
+    Ok(None)
+}
+
 /// The place goes to the foremost term that waits and that a member reduces, and else to the first term that one reduces; answers
 /// the place of the first such member.
 fn next(
@@ -73,15 +82,8 @@ fn next(
     ensures same { OnOk result (joined_terms (split_of rest.new) ≡ joined_terms (split_of rest.old)) }
     ensures found { IfOk result (IsNextStep by.now spared.now (split_of rest.new)) }
 {
-    'waiting: for _ in 0..rest.waiting() {
-        let x = match rest.foremost(alloc) {
-            Some(x) => x,
-            None => continue,
-        };
-        let found = reducer_at(rest, &x, by, spared)?;
-        if let Some(j) = found {
-            return Ok(Some(j));
-        }
+    if let Some(j) = next_waiting(alloc, rest, by, spared)? {
+        return Ok(Some(j));
     }
     rest.rewind()?;
     seek(rest, by, spared)
@@ -130,6 +132,28 @@ fn by_guide(
         let _ = rest.step(member)?;
     }
     Ok(())
+}
+
+/// Steps by the guide at terms that wait, until none does or the place has passed many terms; whether it has.
+fn while_near(
+    alloc: Global,
+    rest: &mut Dividend,
+    by: &[Marked],
+    spared: &Option<Mono>,
+) -> Result<bool, PolyError>
+    requires marked { HasSomeWeight by.now }
+    requires variables { ShareVariables (split_of rest.old) by.now spared.now }
+    ensures worked { OnOk result (IsWorkedOn by.now spared.now (split_of rest.old) (split_of rest.new)) }
+    ensures cause { IfErr result (IsWorkRefusal by.now spared.now (joined_terms (split_of rest.old))) }
+{
+    'steps: while let Some(j) = next_waiting(alloc, rest, by, spared)? {
+        let member = &by[j];
+        let _ = rest.step(member)?;
+        if rest.is_far() {
+            return Ok(true);
+        }
+    }
+    Ok(false)
 }
 
 /// The foremost term that waits and that a member reduces, and the place of the first such member.
@@ -199,7 +223,7 @@ fn by_table(
     Ok(())
 }
 
-/// A long polynomial is worked off in a table; of another the monomials wait.
+/// Steps by the guide at terms that wait; where the place passes many terms, the rest of them in a table.
 fn shortened(
     alloc: Global,
     rest: &mut Dividend,
@@ -212,10 +236,10 @@ fn shortened(
     ensures worked { OnOk result (IsWorkedOn by.now spared.now (split_of rest.old) (split_of rest.new)) }
     ensures cause { IfErr result (IsWorkRefusal by.now spared.now (joined_terms (split_of rest.old))) }
 {
-    if is_long(rest, by) {
+    rest.watch(alloc, guide, by)?;
+    if while_near(alloc, rest, by, spared)? {
         return by_table(alloc, rest, by, spared, guide);
     }
-    rest.watch(alloc, guide, by)?;
     Ok(())
 }
 
