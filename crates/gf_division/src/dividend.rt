@@ -36,6 +36,7 @@ const FAR: u64 = 32;
 const FEW: u64 = 64;
 
 /// The product; by 1, from either side, it is the other number.
+#[inline(always)]
 pub(crate) fn product(a: &Frac, b: &Frac) -> Result<Frac, Overflow>
     ensures value { IfOk result (λ x. x ≡ a.now *ℚ b.now) }
     ensures overflow { IfErr result (IsScalingOverflow a.now b.now) }
