@@ -1,13 +1,13 @@
 -- A table of coefficients: where a key stands, what a new coefficient there makes of the terms, and the steps.
 -- To cite: new_more, popped_more, popped_all, taken_there, taken_new, refused_there, cut_at, subtracting-none, table_step, table_refused, shares_there,
 -- divides_there, stepped, less_stepped, refused_step, started, ended.
-use Rattle.std.specs.Prelude.{◌≡◌, ◌≢◌, ◌⊎◌, ◌<◌, ◌^◌, ℕ, zero, List, [], ◌∷◌, ◌++◌, length, cond, Contains, Some, None, IfSome, Ok, Err}
+use Rattle.std.specs.Prelude.{◌≡◌, ◌≢◌, ◌<◌, ◌^◌, ℕ, List, [], ◌∷◌, ◌++◌, length, cond, Some, None, Ok, Err}
 use Rattle.std.specs.declared.option.Option.{Option}
 use Rattle.std.specs.Ordering.{match_ordering, is_eq, ordering_reverse}
 use Rattle.std.specs.declared.cmp.Ordering.{Ordering}
 use Rattle.std.specs.declared.cmp.Ordering.TheVariants.{Less, Equal, Greater}
 use Rattle.std.specs.BTreeMap.{insert_entry, is_at}
-use Rattle.std.specs.Map.{lookup, remove_entry}
+use Rattle.std.specs.Map.{remove_entry}
 use Rattle.std.proofs.Common.{refl, sym, ap, ◌∙◌, subst, inl, inr, get_or, drop, append_assoc, append-nil, arith}
 use Rattle.std.proofs.lemmas.Cmp.{tied_itself}
 use Rattle.gf_frac.specs.Fraction.{Fraction, ◌-ℚ◌, neg_ℚ, zero_ℚ}
@@ -17,14 +17,12 @@ use Rattle.gf_poly.specs.declared.Term.{Term}
 use Rattle.gf_poly.specs.declared.TheConstants.{ROOM}
 use Rattle.gf_poly.specs.declared.error.PolyError.{PolyError}
 use Rattle.gf_poly.specs.Polynomial.{Terms, coefficient, times, IsAbove, IsDescending, HasVariables}
-use Rattle.gf_poly.specs.Marking.{MarkedPolynomial, head_of}
-use Rattle.gf_poly.proofs.DescendingLaws.{deglex-total, equal_same, less_greater}
-use Rattle.gf_poly.proofs.MonomialLaws.{length-minus}
+use Rattle.gf_poly.specs.Marking.{MarkedPolynomial}
+use Rattle.gf_poly.proofs.DescendingLaws.{deglex-total, equal_same}
 use Rattle.gf_ideal.specs.Marks.{AreMarked}
 use Rattle.gf_ideal.specs.Measure.{work_left}
 use Rattle.gf_ideal.specs.Settled.{IsAt}
 use Rattle.gf_division.specs.declared.table.Key.{Key}
-use Rattle.gf_division.specs.declared.table.Table.{Table}
 use Rattle.gf_division.specs.Steps.{IsStepRefusal}
 use Rattle.gf_division.specs.Dividends.{Split, joined_terms, IsSound, IsTermInFront, AreOver, AreOverProducts, FirstIs, Descends, TakesFromFirst, TakesAway, IsDifferenceRefusal, Subtracts, IsSubtractionRefusal, SharesVariables, TakesStep}
 use Rattle.gf_division.specs.Reducers.{IsReducibleFirst, ShareVariables}
