@@ -8,6 +8,7 @@ pub mod NormalFormLaws  -- the loop of a normal form
 pub mod FirstStepLaws  -- steps by first divisors lead to one remainder
 pub mod NormalFormExists  -- and that is the normal form
 pub mod RemainderLaws  -- steps at whichever terms
+pub mod TableLaws  -- a table of coefficients
 pub mod PlaceLaws  -- the step at a monomial
 pub mod SPolynomialLaws  -- S-polynomials as code forms them
 pub mod MonicLaws  -- marked polynomials made monic

@@ -167,7 +167,7 @@ below_cut x (t ∷ f) Less n m h d = let g = less_greater t.mono x (sym h) in (g
 below_cut x (t ∷ f) Equal n m h d = absurd (n refl)
 below_cut x (t ∷ f) Greater n m h d = absurd (m refl)
 
-neg-nonzero : (c : Fraction) → c ≢ zero_ℚ → neg_ℚ c ≢ zero_ℚ
+pub neg-nonzero : (c : Fraction) → c ≢ zero_ℚ → neg_ℚ c ≢ zero_ℚ
 neg-nonzero c n z = n (sym (+ℚ-zero c) ∙ ap (λ y. c +ℚ y) (sym z) ∙ +ℚ-neg_ℚ c)
 
 pub taken_beside : (c : Fraction) (x : Exponents) (old mid new : Split) (o : Ordering) (u : Term) → o ≢ Equal → c ≢ zero_ℚ → u ≡ record { coef = neg_ℚ c; mono = x } → IsSound (length x) old → AreOver x old.above → Descends x old mid o → new.above ≡ mid.above ++ u ∷ [] → new.below ≡ mid.below → TakesAway c x old new

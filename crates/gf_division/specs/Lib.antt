@@ -7,3 +7,4 @@ pub mod Autoreduction  -- the reduced basis from any basis
 pub mod Dividends  -- a polynomial under reduction, with a place in it
 pub mod Reducers  -- which member reduces a term
 pub mod Remainders  -- remainders by any steps
+pub mod Tables  -- a polynomial under reduction as a table

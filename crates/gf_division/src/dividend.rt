@@ -14,20 +14,30 @@ use gf_frac::{Frac, Overflow};
 use gf_poly::{Marked, Mono, Poly, PolyError, Term};
 use std::alloc::{AllocError, Global};
 use std::cmp::Ordering;
+use std::mem;
 
 /// The terms above the place, the greatest first, and the terms below it, the greatest last.
 ///
 /// A step of reduction works at the place: it copies no term, and moves none that it doesn't pass. Where monomials wait to be
-/// reduced, one that a step adds waits too.
+/// reduced, one that a step adds waits too. Since then it is counted how many terms were passed, and how many were taken away.
 #[derive(Drop)]
 pub struct Dividend {
     above: Vec<Term>,
     below: Vec<Term>,
     front: Option<Front>,
+    passed: u64,
+    taken: u64,
 }
 
+/// How many terms that are passed take as long as one that is taken away in a table.
+const FAR: u64 = 32;
+
+/// How many terms are taken away at least before a table is worth its making.
+const FEW: u64 = 64;
+
 /// The product; by 1, from either side, it is the other number.
-fn product(a: &Frac, b: &Frac) -> Result<Frac, Overflow>
+#[inline(always)]
+pub(crate) fn product(a: &Frac, b: &Frac) -> Result<Frac, Overflow>
     ensures value { IfOk result (λ x. x ≡ a.now *ℚ b.now) }
     ensures overflow { IfErr result (IsScalingOverflow a.now b.now) }
 {
@@ -83,6 +93,8 @@ impl Dividend {
             above: Vec::new(alloc),
             below,
             front: None,
+            passed: 0,
+            taken: 0,
         }
     }
 
@@ -91,11 +103,7 @@ impl Dividend {
         requires { IsDescending (joined_terms (split_of self)) }
         ensures { IfOk result (λ f. f ≡ joined_terms (split_of self)) }
     {
-        let Dividend {
-            above,
-            below,
-            front: _,
-        } = self;
+        let Dividend { above, below, .. } = self;
         let terms = joined(above, below)?;
         Ok(Poly::from_descending(terms))
     }
@@ -118,6 +126,7 @@ impl Dividend {
     {
         if let Some(t) = self.below.pop() {
             self.above.push(t)?;
+            self.passed = self.passed.wrapping_add(1);
         }
         Ok(())
     }
@@ -129,6 +138,7 @@ impl Dividend {
     {
         if let Some(t) = self.above.pop() {
             self.below.push(t)?;
+            self.passed = self.passed.wrapping_add(1);
         }
         Ok(())
     }
@@ -216,11 +226,17 @@ impl Dividend {
         }
     }
 
-    /// From now on monomials wait to be reduced, the greatest by the guide first: those that are there, and those that steps add.
-    pub(crate) fn watch(&mut self, alloc: Global, guide: &Guide) -> Result<(), AllocError>
+    /// From now on monomials that a mark divides wait to be reduced, the greatest by the guide first: those that are there, and those
+    /// that steps add.
+    pub(crate) fn watch(
+        &mut self,
+        alloc: Global,
+        guide: &Guide,
+        by: &[Marked],
+    ) -> Result<(), AllocError>
         ensures { OnOk result (split_of self.new ≡ split_of self.old) }
     {
-        let mut front = Front::new(alloc, guide)?;
+        let mut front = Front::new(alloc, guide, by)?;
         'above: for i in 0..self.above.len() {
             front.push(&self.above[i].mono)?;
         }
@@ -228,7 +244,23 @@ impl Dividend {
             front.push(&self.below[i].mono)?;
         }
         self.front = Some(front);
+        self.passed = 0;
+        self.taken = 0;
         Ok(())
+    }
+
+    /// Takes the polynomial out; zero stays.
+    pub(crate) fn take(&mut self, alloc: Global) -> Result<Poly, AllocError>
+        requires { IsDescending (joined_terms (split_of self.old)) }
+        ensures { IfOk result (λ f. f ≡ joined_terms (split_of self.old)) }
+    {
+        let all = mem::replace(self, Dividend::new(alloc, Poly::zero(alloc)));
+        all.into_poly()
+    }
+
+    /// Whether the place passes so many terms for those that are taken away that a table is faster.
+    pub(crate) fn is_far(&self) -> bool {
+        self.passed / FAR > self.taken.saturating_add(FEW)
     }
 
     /// How many monomials wait.
@@ -307,6 +339,7 @@ impl Dividend {
             let difference = product(coef, &t.coef)?;
             let mono = shift.mul(&t.mono)?;
             self.take_away(&difference, mono)?;
+            self.taken = self.taken.wrapping_add(1);
         }
         Ok(())
     }

@@ -127,9 +127,34 @@ fn monomial(alloc: Global, exponents: &[u32]) -> Option<Mono> {
     Some(Mono::new(alloc, exponents))
 }
 
-/// Monomials that wait to be reduced.
+/// Whether a mark divides `x`; a mark in other variables doesn't.
+fn is_open(x: &Mono, marks: &[Mono]) -> bool {
+    let degree = x.degree();
+    'marks: for j in 0..marks.len() {
+        let mark = &marks[j];
+        if mark.degree() <= degree
+            && mark.exponents().len() == x.exponents().len()
+            && mark.divides(x)
+        {
+            return true;
+        }
+    }
+    false
+}
+
+/// The marked monomials.
+fn marks_of(alloc: Global, by: &[Marked]) -> Result<Vec<Mono>, AllocError> {
+    let mut marks = Vec::with_capacity(alloc, by.len())?;
+    'members: for j in 0..by.len() {
+        marks.push(by[j].head().copy())?;
+    }
+    Ok(marks)
+}
+
+/// Monomials that wait to be reduced: those that a mark divides.
 #[derive(Drop)]
 pub struct Front {
+    marks: Vec<Mono>,
     weight: Vec<i64>,
     by_revlex: bool,
     n: usize,
@@ -138,8 +163,9 @@ pub struct Front {
 
 impl Front {
     /// No monomials yet.
-    pub fn new(alloc: Global, guide: &Guide) -> Result<Front, AllocError> {
+    pub fn new(alloc: Global, guide: &Guide, by: &[Marked]) -> Result<Front, AllocError> {
         Ok(Front {
+            marks: marks_of(alloc, by)?,
             weight: guide.weight.clone()?,
             by_revlex: guide.by_revlex,
             n: 0,
@@ -152,8 +178,11 @@ impl Front {
         self.heap.len()
     }
 
-    /// Adds a monomial; all have equally many variables.
+    /// Adds a monomial, if a mark divides it; all have equally many variables.
     pub fn push(&mut self, x: &Mono) -> Result<(), AllocError> {
+        if !is_open(x, &self.marks) {
+            return Ok(());
+        }
         let exponents = x.exponents();
         self.n = exponents.len();
         self.heap.push(Waiting {

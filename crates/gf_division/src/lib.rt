@@ -11,6 +11,7 @@ mod reducers;
 mod remainders;
 mod s_polynomials;
 mod steps;
+mod table;
 mod weights;
 
 pub use autoreduction::{autoreduce, autoreduce_by, is_needed, place_of, reduced_tail};

@@ -10,28 +10,15 @@ ghost use Rattle.gf_division.specs.NormalForms.{HasSomeWeight, HaveSameVariables
 ghost use Rattle.gf_division.specs.Dividends.{split_of, joined_terms};
 ghost use Rattle.gf_division.specs.Reducers.{AreIrreducible, ShareVariables, IsReducibleFirst};
 ghost use Rattle.gf_division.specs.Remainders.{IsRemainder, IsWorkedOn, IsNextStep, IsWorkRefusal};
+ghost use Rattle.gf_division.specs.Tables.{table_of, IsReducibleAt};
 
 use crate::dividend::Dividend;
 use crate::front::Guide;
 use crate::reducers::{reducer_of, seek};
-use gf_poly::{Marked, Mono, Poly, PolyError};
+use crate::table::Table;
+use gf_poly::{Marked, Mono, Poly, PolyError, Term};
 use std::alloc::{AllocError, Global};
 use std::cmp::Ordering;
-
-/// Whether a mark divides `x`; a mark in other variables doesn't.
-fn is_open(x: &Mono, by: &[Marked]) -> bool {
-    let degree = x.degree();
-    'members: for j in 0..by.len() {
-        let mark = by[j].head();
-        if mark.degree() <= degree
-            && mark.exponents().len() == x.exponents().len()
-            && mark.divides(x)
-        {
-            return true;
-        }
-    }
-    false
-}
 
 /// The first member that reduces the term at `x`, where the polynomial has one; the place is at that term then.
 fn reducer_at(
@@ -59,6 +46,30 @@ fn reducer_at(
     }
 }
 
+/// The place goes to the foremost term that waits and that a member reduces; answers the place of the first such member.
+fn next_waiting(
+    alloc: Global,
+    rest: &mut Dividend,
+    by: &[Marked],
+    spared: &Option<Mono>,
+) -> Result<Option<usize>, AllocError>
+    requires variables { ShareVariables (split_of rest.old) by.now spared.now }
+    ensures same { OnOk result (joined_terms (split_of rest.new) ≡ joined_terms (split_of rest.old)) }
+    ensures found { IfOk result (λ o. IfSome o (IsReducibleFirst by.now spared.now (split_of rest.new))) }
+{
+    'waiting: for _ in 0..rest.waiting() {
+        let x = match rest.foremost(alloc) {
+            Some(x) => x,
+            None => continue,
+        };
+        let found = reducer_at(rest, &x, by, spared)?;
+        if let Some(j) = found {
+            return Ok(Some(j));
+        }
+    }
+    Ok(None)
+}
+
 /// The place goes to the foremost term that waits and that a member reduces, and else to the first term that one reduces; answers
 /// the place of the first such member.
 fn next(
@@ -71,17 +82,8 @@ fn next(
     ensures same { OnOk result (joined_terms (split_of rest.new) ≡ joined_terms (split_of rest.old)) }
     ensures found { IfOk result (IsNextStep by.now spared.now (split_of rest.new)) }
 {
-    'waiting: for _ in 0..rest.waiting() {
-        let x = match rest.foremost(alloc) {
-            Some(x) => x,
-            None => continue,
-        };
-        if is_open(&x, by) {
-            let found = reducer_at(rest, &x, by, spared)?;
-            if let Some(j) = found {
-                return Ok(Some(j));
-            }
-        }
+    if let Some(j) = next_waiting(alloc, rest, by, spared)? {
+        return Ok(Some(j));
     }
     rest.rewind()?;
     seek(rest, by, spared)
@@ -132,6 +134,115 @@ fn by_guide(
     Ok(())
 }
 
+/// Steps by the guide at terms that wait, until none does or the place has passed many terms; whether it has.
+fn while_near(
+    alloc: Global,
+    rest: &mut Dividend,
+    by: &[Marked],
+    spared: &Option<Mono>,
+) -> Result<bool, PolyError>
+    requires marked { HasSomeWeight by.now }
+    requires variables { ShareVariables (split_of rest.old) by.now spared.now }
+    ensures worked { OnOk result (IsWorkedOn by.now spared.now (split_of rest.old) (split_of rest.new)) }
+    ensures cause { IfErr result (IsWorkRefusal by.now spared.now (joined_terms (split_of rest.old))) }
+{
+    'steps: while let Some(j) = next_waiting(alloc, rest, by, spared)? {
+        let member = &by[j];
+        let _ = rest.step(member)?;
+        if rest.is_far() {
+            return Ok(true);
+        }
+    }
+    Ok(false)
+}
+
+/// The foremost term that waits and that a member reduces, and the place of the first such member.
+fn next_in(
+    alloc: Global,
+    table: &mut Table,
+    by: &[Marked],
+    spared: &Option<Mono>,
+) -> Option<(Term, usize)>
+    requires variables { ShareVariables (table_of table.old) by.now spared.now }
+    ensures same { table_of table.new ≡ table_of table.old }
+    ensures found { IfSome result (λ r. IsReducibleAt by.now spared.now (joined_terms (table_of table.old)) r.0 r.1) }
+{
+    'waiting: for _ in 0..table.waiting() {
+        let x = match table.foremost(alloc) {
+            Some(x) => x,
+            None => continue,
+        };
+        if let Some(t) = table.term_at(x) {
+            // As in `reducer_at`.
+            let _ = t.mono.exponents();
+            if let Some(j) = reducer_of(&t.mono, by, spared) {
+                return Some((t, j));
+            }
+        }
+    }
+    None
+}
+
+/// Steps in a table by the guide, while a member reduces a term that waits.
+fn through(
+    alloc: Global,
+    table: &mut Table,
+    by: &[Marked],
+    spared: &Option<Mono>,
+) -> Result<(), PolyError>
+    requires marked { HasSomeWeight by.now }
+    requires variables { ShareVariables (table_of table.old) by.now spared.now }
+    ensures worked { OnOk result (IsWorkedOn by.now spared.now (table_of table.old) (table_of table.new)) }
+    ensures cause { IfErr result (IsWorkRefusal by.now spared.now (joined_terms (table_of table.old))) }
+{
+    'steps: while let Some((t, j)) = next_in(alloc, table, by, spared) {
+        let member = &by[j];
+        table.step(&t, member)?;
+    }
+    Ok(())
+}
+
+/// Steps by the guide, with the polynomial in a table.
+fn by_table(
+    alloc: Global,
+    rest: &mut Dividend,
+    by: &[Marked],
+    spared: &Option<Mono>,
+    guide: &Guide,
+) -> Result<(), PolyError>
+    requires marked { HasSomeWeight by.now }
+    requires variables { ShareVariables (split_of rest.old) by.now spared.now }
+    ensures worked { OnOk result (IsWorkedOn by.now spared.now (split_of rest.old) (split_of rest.new)) }
+    ensures cause { IfErr result (IsWorkRefusal by.now spared.now (joined_terms (split_of rest.old))) }
+{
+    let f = rest.take(alloc)?;
+    let mut table = Table::new(alloc, f, guide, by)?;
+    through(alloc, &mut table, by, spared)?;
+    let left = table.into_poly(alloc)?;
+    *rest = Dividend::new(alloc, left);
+    Ok(())
+}
+
+/// Steps by the guide at terms that wait; where the place passes many terms, the rest of them in a table.
+fn shortened(
+    alloc: Global,
+    rest: &mut Dividend,
+    by: &[Marked],
+    spared: &Option<Mono>,
+    guide: &Guide,
+) -> Result<(), PolyError>
+    requires marked { HasSomeWeight by.now }
+    requires variables { ShareVariables (split_of rest.old) by.now spared.now }
+    ensures worked { OnOk result (IsWorkedOn by.now spared.now (split_of rest.old) (split_of rest.new)) }
+    ensures cause { IfErr result (IsWorkRefusal by.now spared.now (joined_terms (split_of rest.old))) }
+{
+    rest.watch(alloc, guide, by)?;
+    if while_near(alloc, rest, by, spared)? {
+        return by_table(alloc, rest, by, spared, guide);
+    }
+    Ok(())
+}
+
 /// Steps until no member reduces a term that isn't spared.
 pub(crate) fn work_off(
     alloc: Global,
@@ -151,7 +262,7 @@ pub(crate) fn work_off(
         return Ok(());
     }
     guide.find(alloc, by);
-    rest.watch(alloc, guide)?;
+    shortened(alloc, rest, by, spared, guide)?;
     by_guide(alloc, rest, by, spared)
 }
 

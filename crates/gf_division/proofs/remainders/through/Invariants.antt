@@ -1,0 +1,13 @@
+use Rattle.std.proofs.Common.{◌^◌}
+use Rattle.gf_poly.specs.declared.TheConstants.{ROOM}
+use Rattle.gf_ideal.specs.Measure.{work_left}
+use Rattle.gf_division.specs.Dividends.{joined_terms}
+use Rattle.gf_division.specs.Remainders.{IsWorkedOn}
+use Rattle.gf_division.specs.Tables.{table_of}
+use Rattle.gf_division.proofs.remainders.through.Given as goal
+
+abbrev pub invariant-steps : goal.invariant-steps
+invariant-steps l = IsWorkedOn l.by l.spared (table_of l.initial.table) (table_of l.table)
+
+abbrev pub decreases-steps : goal.decreases-steps
+decreases-steps l = work_left (2 ^ 31) ROOM l.by (joined_terms (table_of l.table))
