@@ -274,6 +274,37 @@ pub(crate) fn bad_certificate<E: Sink>(faults: &mut E, cone: u32) -> Result<(), 
     )
 }
 
+pub(crate) fn empty_region<E: Sink>(
+    faults: &mut E,
+    multipliers: &IntVec,
+) -> Result<(), WriteFault>
+    ensures { Told (E.held faults.old) (E.held faults.new) (E.faults faults.old) (E.faults faults.new)
+        (message [] (Refusal.EmptyRegion multipliers.now)) result }
+{
+    write_pieces(
+        faults,
+        &[
+            Piece::Text("E26 no region: multipliers "),
+            Piece::Vector(multipliers),
+        ],
+    )
+}
+
+pub(crate) fn wide_root<E: Sink>(faults: &mut E, index: u32, value: i128) -> Result<(), WriteFault>
+    ensures { Told (E.held faults.old) (E.held faults.new) (E.faults faults.old) (E.faults faults.new)
+        (message [] (Refusal.WideRoot index value)) result }
+{
+    write_pieces(
+        faults,
+        &[
+            Piece::Text("E27 root weight too wide: entry "),
+            Piece::Index(index),
+            Piece::Text(" is "),
+            Piece::Whole(value),
+        ],
+    )
+}
+
 pub(crate) fn dimensions<E: Sink>(faults: &mut E, left: u64, right: u64) -> Result<(), WriteFault>
     ensures { Told (E.held faults.old) (E.held faults.new) (E.faults faults.old) (E.faults faults.new)
         (message [] (Refusal.Dimensions left right)) result }

@@ -87,6 +87,7 @@ fn a_list_has_a_limit_and_workers(rt: HostRuntime) -> Result<(), Fail> {
             pairs,
             certificates: false,
             workers,
+            within: None,
         });
         assert!(rt; job == Ok(bases), "{line}");
     }
@@ -101,6 +102,7 @@ fn a_list_has_certificates(rt: HostRuntime) -> Result<(), Fail> {
         pairs: 7,
         certificates: true,
         workers: 1,
+        within: None,
     });
     let job = answered(rt.alloc(), "_bases --certificates --pairs 7 -g")?;
     assert!(rt; job == Ok(certified));

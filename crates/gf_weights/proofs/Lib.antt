@@ -7,3 +7,4 @@ mod FacetLoop  -- the loop over normals, one place further
 pub mod RaysExist  -- a cone that is cut has its rays, and a marked list its normals
 pub mod WitnessesExist  -- and its weight and witnesses
 mod LawsHold  -- what functions of this crate name
+pub mod RootLaws

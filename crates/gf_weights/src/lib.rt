@@ -8,9 +8,11 @@ mod certificates;
 mod cut;
 mod error;
 mod laws;
+mod region;
 
 pub use certificates::{Certificates, FacetWitness, certify, certify_in, weight};
 pub use error::WeightError;
+pub use region::{RegionError, region_of};
 pub use laws::{
     certificates_are_unique, certificates_exist, weights_give_bases, witnesses_are_inside,
 };

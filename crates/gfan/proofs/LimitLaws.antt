@@ -24,14 +24,16 @@ use Rattle.gf_items.proofs.KindLaws.{ring_and_once}
 use Rattle.gf_items.proofs.ReadingLaws.{source_once}
 use Rattle.gfan.specs.declared.bases.ListOptions.{ListOptions}
 use Rattle.gfan.specs.Certificates.{of_weight_error}
-use Rattle.gfan.specs.Bases.{IsWithinLimit, of_tree, IsPastLimit, IsGoingCause, IsGoingPast, IsListCause, IsListPast, bases_command}
+use Rattle.gf_facets.specs.Regions.{Region, IsRegion, all_positive}
+use Rattle.gf_facets.proofs.SystemLaws.{all_positive-region}
+use Rattle.gfan.specs.Bases.{IsWithinLimit, of_tree, IsPastLimit, IsPastLimitIn, IsGoingCause, IsGoingCauseIn, IsGoingPast, IsGoingPastIn, IsListCause, IsListPast, bases_command}
 use Rattle.gfan.specs.GivenBasis.{IsGivenListCause, IsGivenListPast, given_bases_command}
 use Rattle.gfan.specs.BasesList.{AreAllBases}
 use Rattle.gfan.specs.Buchberger.{generators_of, of_basis}
 use Rattle.gfan.specs.Commands.{list_options, list_command, command_of, AreTextsPast, IsPastReach}
 use Rattle.gfan.proofs.GivenBasisLaws.{root_past}
 use Rattle.gfan.proofs.ReadSetLaws.{marked_kept}
-use Rattle.gfan.proofs.OneListLaws.{one_list}
+use Rattle.gfan.proofs.OneListLaws.{one_list, one_list_in}
 use Rattle.gfan.proofs.OneTextLaws.{read_variables, given_variables}
 
 -- ---- the work is refused at the limit, or for want of memory
@@ -47,14 +49,17 @@ within_most None most list e w = cc
 within_most (Some n) most list e w = let same : n ≡ most = cc in omega arith
 
 -- from the first basis on
-going_past : (o : ListOptions) (n : ℕ) (fs : List Terms) (most : ℕ) (r : Refusal) → AreInVariables n fs → IsGoingPast o n fs most → IsGoingCause o n fs r → IsAtLimitOrMemory most r
-going_past o n fs most r v w (IsGoingCause.in_tree e h q) =
-    inr (q ∙ ap of_tree (w.calls h.written h.rest e (one_list n fs w.past.list (h.written ++ h.rest) v w.past.are_all h.are_all) (within_most o.limit most h.written w.past.is_limit h.few) h.early))
-going_past o n fs most r v w (IsGoingCause.at_limit m h q) = inl (q ∙ ap (λ k. refusals.ListLimit k) (one_limit o.limit m most h.is_limit w.past.is_limit))
-going_past o n fs most r v w (IsGoingCause.at_certificates c) =
+pub going_past_in : (o : ListOptions) (n : ℕ) (k : Region) (fs : List Terms) (most : ℕ) (r : Refusal) → AreInVariables n fs → IsRegion n k → IsGoingPastIn o n k fs most → IsGoingCauseIn o n k fs r → IsAtLimitOrMemory most r
+going_past_in o n k fs most r v g w (IsGoingCauseIn.in_tree e h q) =
+    inr (q ∙ ap of_tree (w.calls h.written h.rest e (one_list_in n k fs w.past.list (h.written ++ h.rest) v g w.past.are_all h.are_all) (within_most o.limit most h.written w.past.is_limit h.few) h.early))
+going_past_in o n k fs most r v g w (IsGoingCauseIn.at_limit m h q) = inl (q ∙ ap (λ z. refusals.ListLimit z) (one_limit o.limit m most h.is_limit w.past.is_limit))
+going_past_in o n k fs most r v g w (IsGoingCauseIn.at_certificates c) =
     let few : length (c.written ++ c.basis ∷ []) ≤ most = within_most o.limit most (c.written ++ c.basis ∷ []) w.past.is_limit c.few in
     let short : length c.written < most = omega (arith, few, length-append c.written (c.basis ∷ [])) in
-    inr (c.uncertified.2 ∙ ap of_weight_error (w.certificates c.written c.rest c.basis (one_list n fs w.past.list (c.written ++ c.basis ∷ c.rest) v w.past.are_all c.are_all) short c.certified c.uncertified.0 c.uncertified.1))
+    inr (c.uncertified.2 ∙ ap of_weight_error (w.certificates c.written c.rest c.basis (one_list_in n k fs w.past.list (c.written ++ c.basis ∷ c.rest) v g w.past.are_all c.are_all) short c.certified c.uncertified.0 c.uncertified.1))
+
+going_past : (o : ListOptions) (n : ℕ) (fs : List Terms) (most : ℕ) (r : Refusal) → AreInVariables n fs → IsGoingPast o n fs most → IsGoingCause o n fs r → IsAtLimitOrMemory most r
+going_past o n fs most r v w h = going_past_in o n (all_positive n) fs most r v (all_positive-region n) w h
 
 list_past : (o : ListOptions) (n : ℕ) (fs : List Terms) (most : ℕ) (r : Refusal) → AreInVariables n fs → IsListPast o n fs most → IsListCause o n fs r → IsAtLimitOrMemory most r
 list_past o n fs most r v w (IsListCause.at_root e h q) = inr (q ∙ ap of_basis (if_within {A = Unit {0}} MonomialOrder.deglex n o.pairs fs (Err e) w.root h))

@@ -35,7 +35,9 @@ use Rattle.gf_division.specs.Autoreduction.{IsAutoreductionRefusal}
 use Rattle.gf_reduced.specs.Refusals.{of_poly, IsReducedBasisRefusal}
 use Rattle.gf_tree.specs.declared.error.TreeError.{TreeError}
 use Rattle.gf_tree.specs.declared.error.TreeError.TheVariants as tree_errors
-use Rattle.gf_tree.specs.Ideals.{ideal_by}
+use Rattle.gf_facets.specs.Regions.{Region, all_positive}
+use Rattle.gf_reverse.specs.Upward.{Fan}
+use Rattle.gf_tree.specs.Ideals.{ideal_by, ideal_within}
 use Rattle.gf_tree.specs.Refusals.{IsTreeRefusal}
 use Rattle.gf_subtree.proofs.BasisRowLaws.{early_refused}
 use Rattle.gf_weights.specs.declared.error.WeightError.{WeightError}
@@ -68,7 +70,7 @@ use Rattle.gfan.specs.declared.bases.ListOptions.{ListOptions}
 use Rattle.gfan.specs.Buchberger.{generators_of, of_basis, form, buchberger_command}
 use Rattle.gfan.specs.CheckedSets.{of_check}
 use Rattle.gfan.specs.Certificates.{of_weight_error}
-use Rattle.gfan.specs.Bases.{of_tree, IsSearchRefused, IsGoingCause, IsListCause, bases_command}
+use Rattle.gfan.specs.Bases.{of_tree, IsSearchRefusedIn, IsGoingCauseIn, IsListCause, bases_command}
 use Rattle.gfan.specs.GivenBasis.{IsGivenRootRefusal, IsGivenListCause, given_bases_command}
 use Rattle.gfan.specs.Generated.{list_to, IsSummaryCause, generated_command}
 use Rattle.gfan.specs.Commands.{options, list_options, list_command, command_of}
@@ -102,26 +104,25 @@ basis_never order n fs pairs (basis_errors.Exponent o) x b h q = cc
 basis_never order n fs pairs (basis_errors.PairBudget s u) x b h q = cc
 basis_never order n fs pairs basis_errors.Memory x b h q = cc
 
-tree_never : (n : ℕ) (fs : List Terms) (pairs : ℕ) (e : TreeError) (x : Overflow) → ((o : Overflow) → IsTreeRefusal (ideal_by n fs) pairs (tree_errors.Overflow o) → ⊥) → IsTreeRefusal (ideal_by n fs) pairs e →
-    refusals.Overflow x ≡ of_tree e → ⊥
-tree_never n fs pairs (tree_errors.Overflow o) x never h q = never o h
-tree_never n fs pairs (tree_errors.Exponent o) x never h q = cc
-tree_never n fs pairs (tree_errors.PairBudget s u) x never h q = cc
-tree_never n fs pairs (tree_errors.Cone o) x never h q = cc
-tree_never n fs pairs tree_errors.Memory x never h q = cc
+tree_never : (F : Fan) (pairs : ℕ) (e : TreeError) (x : Overflow) → ((o : Overflow) → IsTreeRefusal F pairs (tree_errors.Overflow o) → ⊥) → IsTreeRefusal F pairs e → refusals.Overflow x ≡ of_tree e → ⊥
+tree_never F pairs (tree_errors.Overflow o) x never h q = never o h
+tree_never F pairs (tree_errors.Exponent o) x never h q = cc
+tree_never F pairs (tree_errors.PairBudget s u) x never h q = cc
+tree_never F pairs (tree_errors.Cone o) x never h q = cc
+tree_never F pairs tree_errors.Memory x never h q = cc
 
-search_never : (o : ListOptions) (n : ℕ) (fs : List Terms) (e : TreeError) (x : Overflow) → ((o : Overflow) (pairs : ℕ) → IsTreeRefusal (ideal_by n fs) pairs (tree_errors.Overflow o) → ⊥) → IsSearchRefused o n fs e →
+search_never : (o : ListOptions) (n : ℕ) (k : Region) (fs : List Terms) (e : TreeError) (x : Overflow) → ((o : Overflow) (pairs : ℕ) → IsTreeRefusal (ideal_within n fs k) pairs (tree_errors.Overflow o) → ⊥) → IsSearchRefusedIn o n k fs e →
     refusals.Overflow x ≡ of_tree e → ⊥
-search_never o n fs e x never h q = tree_never n fs o.pairs e x (λ y. never y o.pairs) (early_refused (ideal_by n fs) o.pairs h.rest e h.early) q
+search_never o n k fs e x never h q = tree_never (ideal_within n fs k) o.pairs e x (λ y. never y o.pairs) (early_refused (ideal_within n fs k) o.pairs h.rest e h.early) q
 
-going_never : (o : ListOptions) (n : ℕ) (fs : List Terms) (x : Overflow) → ((o : Overflow) (pairs : ℕ) → IsTreeRefusal (ideal_by n fs) pairs (tree_errors.Overflow o) → ⊥) → IsGoingCause o n fs (refusals.Overflow x) → ⊥
-going_never o n fs x never (IsGoingCause.in_tree e h q) = search_never o n fs e x never h q
-going_never o n fs x never (IsGoingCause.at_limit most h q) = cc
-going_never o n fs x never (IsGoingCause.at_certificates c) = no_weight c.uncertified.0 x c.uncertified.2
+going_never : (o : ListOptions) (n : ℕ) (k : Region) (fs : List Terms) (x : Overflow) → ((o : Overflow) (pairs : ℕ) → IsTreeRefusal (ideal_within n fs k) pairs (tree_errors.Overflow o) → ⊥) → IsGoingCauseIn o n k fs (refusals.Overflow x) → ⊥
+going_never o n k fs x never (IsGoingCauseIn.in_tree e h q) = search_never o n k fs e x never h q
+going_never o n k fs x never (IsGoingCauseIn.at_limit most h q) = cc
+going_never o n k fs x never (IsGoingCauseIn.at_certificates c) = no_weight c.uncertified.0 x c.uncertified.2
 
 list_never : (o : ListOptions) (n : ℕ) (fs : List Terms) (x : Overflow) → AreBinomials fs → IsListCause o n fs (refusals.Overflow x) → ⊥
 list_never o n fs x b (IsListCause.at_root e h q) = basis_never MonomialOrder.deglex n fs o.pairs e x b h q
-list_never o n fs x b (IsListCause.going h) = going_never o n fs x (λ y pairs k. refusals_tell_no_overflow.search (ideal_by n fs) pairs y b k) h
+list_never o n fs x b (IsListCause.going h) = going_never o n (all_positive n) fs x (λ y pairs k. refusals_tell_no_overflow.search (ideal_by n fs) pairs y b k) h
 
 check_never : (s : MarkedPolynomials) (e : CheckError) (x : Overflow) → ((o : Overflow) → e ≡ check_errors.Overflow o → ⊥) → refusals.Overflow x ≡ of_check e → ⊥
 check_never s (check_errors.Overflow o) x never q = never o refl
@@ -143,12 +144,12 @@ given_never o n s x b (IsGivenListCause.at_root (IsGivenRootRefusal.at_check e h
 given_never o n s x b (IsGivenListCause.at_root (IsGivenRootRefusal.at_tails t d m a h q)) =
     poly_never d x (λ y i. refusals_tell_no_overflow.monic_forms s t y b a (subst (λ c. IsAutoreductionRefusal t.items c) i h)) q
 given_never o n s x b (IsGivenListCause.at_root (IsGivenRootRefusal.on_the_way u e m f h q)) =
-    tree_never s.variables (polys s.items) o.pairs e x (λ y k. refusals_tell_no_overflow.given_search s.variables o.pairs s y b k) (way_in_tree s u o.pairs e b.variables f h) q
-given_never o n s x b (IsGivenListCause.going m h) = going_never o n (polys s.items) x (λ y pairs k. refusals_tell_no_overflow.given_search n pairs s y b k) h
+    tree_never (ideal_by s.variables (polys s.items)) o.pairs e x (λ y k. refusals_tell_no_overflow.given_search s.variables o.pairs s y b k) (way_in_tree s u o.pairs e b.variables f h) q
+given_never o n s x b (IsGivenListCause.going m h) = going_never o n (all_positive n) (polys s.items) x (λ y pairs k. refusals_tell_no_overflow.given_search n pairs s y b k) h
 
 summary_never : (limit pairs : ℕ) (fs : List Terms) (x : Overflow) → AreBinomials fs → IsSummaryCause limit pairs fs (refusals.Overflow x) → ⊥
 summary_never limit pairs fs x b (IsSummaryCause.at_root e h q) = basis_never MonomialOrder.deglex 4 fs pairs e x b h q
-summary_never limit pairs fs x b (IsSummaryCause.in_tree e h q) = search_never (list_to limit pairs) 4 fs e x (λ y pairs k. refusals_tell_no_overflow.search (ideal_by 4 fs) pairs y b k) h q
+summary_never limit pairs fs x b (IsSummaryCause.in_tree e h q) = search_never (list_to limit pairs) 4 (all_positive 4) fs e x (λ y pairs k. refusals_tell_no_overflow.search (ideal_by 4 fs) pairs y b k) h q
 summary_never limit pairs fs x b (IsSummaryCause.at_weight e h q) = no_weight e x q
 summary_never limit pairs fs x b (IsSummaryCause.at_sum e h q) = cc
 

@@ -1,0 +1,74 @@
+-- The region of weights that rows cut out, its root, and why there is none. Laws: proofs/RootLaws.antt.
+-- Source: Gordan, Ueber die Aufloesung linearer Gleichungen mit reellen Coefficienten (1873); Ziegler, Lectures on Polytopes, 1 and 2.
+use Rattle.std.specs.Prelude.{◌≡◌, ◌⊎◌, ℕ, ◌+◌, ◌<◌, ◌^◌, List, [], ◌++◌, length, slice_index_or, ℤ, pos, ◌<ℤ◌, ◌≤ℤ◌, All}
+use Rattle.gf_vec.specs.Vector.{zeros}
+use Rattle.gf_vec.specs.Steps.{IsFirstWide}
+use Rattle.gf_gordan.specs.Alternative.{IsSolvable, IsFarkas}
+use Rattle.gf_gordan.specs.Equations.{IsStepOn}
+use Rattle.gf_duality.specs.Rays.{IsRays}
+use Rattle.gf_duality.specs.Faces.{sum_of}
+use Rattle.gf_rays.specs.Reached.{IsRaysStep}
+use Rattle.gf_rays.specs.Sums.{adding_steps}
+use Rattle.gf_facets.specs.Systems.{units}
+use Rattle.gf_facets.specs.Regions.{Region, IsRegion}
+use Rattle.gf_weights.specs.declared.error.WeightError.{WeightError}
+use Rattle.gf_weights.specs.declared.error.WeightError.TheVariants as weight_errors
+use Rattle.gf_weights.specs.declared.region.RegionError.{RegionError}
+use Rattle.gf_weights.specs.declared.region.RegionError.TheVariants as region_errors
+
+-- ---- the root
+
+-- r is the sum of the primitive vectors along the extreme rays of the cone of these rows, which has no lineality space
+pub record IsSumOfRays (n : ℕ) (all : List (List ℤ)) (r : List ℤ) : Type 0 where
+  pub rays : List (List ℤ)
+  pub are_rays : IsRays n all [] [] rays
+  pub sum : r ≡ sum_of n rays
+
+-- k has these rows, and its root, which is in it, is the sum of the rays of its closure; no entry of it is too great
+pub record IsRegionOf (n : ℕ) (rows : List (List ℤ)) (k : Region) : Type 0 where
+  pub same : k.rows ≡ rows
+  pub region : IsRegion n k
+  pub root : IsSumOfRays n (rows ++ units n n) k.root
+  pub small : All (λ x. x <ℤ pos (2 ^ 63)) k.root
+
+-- the first entry that is greater than 2 ^ 63 - 1 is that at the place i
+pub record IsFirstPast (r : List ℤ) (i : ℕ) : Type 0 where
+  pub inside : i < length r
+  pub past : pos (2 ^ 63) ≤ℤ slice_index_or r i (pos 0)
+  pub before : (j : ℕ) → j < i → slice_index_or r j (pos 0) <ℤ pos (2 ^ 63)
+
+-- ---- why there is none
+
+-- a step of the system of these rows leaves the range
+abbrev pub IsSystemRefusal : ℕ → List (List ℤ) → WeightError → Type 0
+IsSystemRefusal n all (weight_errors.Cone s) = IsStepOn (length all + 0) n all [] s
+IsSystemRefusal n all (weight_errors.Wide w) = ⊥
+IsSystemRefusal n all weight_errors.Memory = Unit {0}
+
+-- an operation of finding the rays of these rows leaves the range; or the first sum, from the left, of an entry of a partial sum of the
+-- rays and one of the next ray does
+abbrev pub IsSumRefusal : ℕ → List (List ℤ) → WeightError → Type 0
+IsSumRefusal n all (weight_errors.Cone s) = IsRaysStep n all [] s
+IsSumRefusal n all (weight_errors.Wide w) = (rays : List (List ℤ)) × IsRays n all [] [] rays × IsFirstWide w (adding_steps (zeros n) rays)
+IsSumRefusal n all weight_errors.Memory = Unit {0}
+
+-- these, as refusals of a region
+abbrev pub region_of_weight : WeightError → RegionError
+region_of_weight (weight_errors.Cone o) = region_errors.Cone o
+region_of_weight (weight_errors.Wide w) = region_errors.Wide w
+region_of_weight weight_errors.Memory = region_errors.Memory
+
+-- multipliers of the rows and the unit vectors show that the region is empty; or a step of their system is refused; or the region isn't
+-- empty, and the sum of its rays isn't told, or has an entry that is too great
+abbrev pub IsRegionRefusal : ℕ → List (List ℤ) → RegionError → Type 0
+IsRegionRefusal n rows (region_errors.Empty ms) = IsFarkas n (rows ++ units n n) [] ms []
+IsRegionRefusal n rows (region_errors.WideRoot i x) = IsSolvable n (rows ++ units n n) [] ×
+    ((r : List ℤ) × IsSumOfRays n (rows ++ units n n) r × IsFirstPast r i × (x ≡ slice_index_or r i (pos 0)))
+IsRegionRefusal n rows (region_errors.Cone s) = IsSystemRefusal n (rows ++ units n n) (weight_errors.Cone s) ⊎
+    (IsSolvable n (rows ++ units n n) [] × IsSumRefusal n (rows ++ units n n) (weight_errors.Cone s))
+IsRegionRefusal n rows (region_errors.Wide w) = IsSolvable n (rows ++ units n n) [] × IsSumRefusal n (rows ++ units n n) (weight_errors.Wide w)
+IsRegionRefusal n rows region_errors.Memory = Unit {0}
+
+-- the region isn't empty, nothing that is worked out for its root leaves the range, and no entry of the root is too great
+abbrev pub IsRegionWithinLimits : ℕ → List (List ℤ) → Type 0
+IsRegionWithinLimits n rows = (e : RegionError) → IsRegionRefusal n rows e → e ≡ region_errors.Memory
