@@ -274,10 +274,7 @@ pub(crate) fn bad_certificate<E: Sink>(faults: &mut E, cone: u32) -> Result<(), 
     )
 }
 
-pub(crate) fn empty_region<E: Sink>(
-    faults: &mut E,
-    multipliers: &IntVec,
-) -> Result<(), WriteFault>
+pub(crate) fn empty_region<E: Sink>(faults: &mut E, multipliers: &IntVec) -> Result<(), WriteFault>
     ensures { Told (E.held faults.old) (E.held faults.new) (E.faults faults.old) (E.faults faults.new)
         (message [] (Refusal.EmptyRegion multipliers.now)) result }
 {

@@ -7,4 +7,6 @@ mod FacetLoop  -- the loop over normals, one place further
 pub mod RaysExist  -- a cone that is cut has its rays, and a marked list its normals
 pub mod WitnessesExist  -- and its weight and witnesses
 mod LawsHold  -- what functions of this crate name
-pub mod RootLaws
+pub mod RootLaws  -- the region that rows cut out: its root is in it; why there is none
+pub mod RegionLaws  -- there is one at most
+mod RegionWithin  -- one that stays within all limits

@@ -1,7 +1,7 @@
 -- The region of weights that rows cut out: its root is in it; why there is none.
--- To cite: closed_wide, system_refused, solved_by, refuted_by, sum_is, rays_refused, sum_refused, root_inside, root_small, refused_system,
--- refused_sum, region_is, root_past, only_memory_left. The rest are steps.
-use Rattle.std.proofs.Common.{◌≡◌, ℕ, ◌+◌, ◌<◌, ◌^◌, List, [], ◌++◌, length, get_or, ℤ, pos, ◌<ℤ◌, arith, refl, sym, ap, ◌∙◌, subst, unsigned_abs, Contains, All, Result, Ok, Err, IfErr, inl, inr}
+-- To cite: closed_wide, system_refused, solved_by, refuted_by, sum_is, rays_refused, sum_refused, root_long, root_inside, root_small, refused_sum,
+-- region_is, only_memory_left. The rest are steps.
+use Rattle.std.proofs.Common.{◌≡◌, ℕ, ◌+◌, ◌<◌, ◌^◌, List, [], ◌∷◌, ◌++◌, length, get_or, ℤ, pos, ◌<ℤ◌, arith, refl, sym, ap, ◌∙◌, subst, unsigned_abs, Contains, All, Result, Ok, Err, IfErr, inl, inr}
 use Rattle.std.proofs.lemmas.Int.{ints}
 use Rattle.std.proofs.lemmas.List.{get_or_default}
 use Rattle.std.proofs.lemmas.List.Elements.{All-contains, Contains-append_left, Contains-append_right, Contains-append_cases}
@@ -88,6 +88,9 @@ sum_refused n all none c vec_errors.Memory p z a h f = tt
 
 -- ---- the root
 
+pub root_long : (n : ℕ) (all : List (List ℤ)) (r : List ℤ) → IsSumOfRays n all r → length r ≡ n
+root_long n all r p = ap length p.sum ∙ sum_long n p.rays (described_of n all [] [] p.rays p.are_rays).rays_width
+
 -- it is in the region
 pub root_inside : (n : ℕ) (rows all : List (List ℤ)) (r : List ℤ) → all ≡ rows ++ units n n → AreRows n rows → IsSolvable n all [] → IsSumOfRays n all r → IsRegion n (record { rows = rows; root = r })
 root_inside n rows all r e w s p =
@@ -118,29 +121,12 @@ region_is n rows all r k e w s p l q = subst (IsRegionOf n rows) (sym q) (record
 
 -- ---- refusals of a region
 
-pub refused_system : (n : ℕ) (rows all : List (List ℤ)) (e : WeightError) → all ≡ rows ++ units n n → IsSystemRefusal n all e → IsRegionRefusal n rows (region_of_weight e)
-refused_system n rows all (weight_errors.Cone s) q h = inl (subst (λ (z : List (List ℤ)). IsSystemRefusal n z (weight_errors.Cone s)) q h)
-refused_system n rows all (weight_errors.Wide w) q h = absurd h
-refused_system n rows all weight_errors.Memory q h = tt
-
 pub refused_sum : (n : ℕ) (rows all : List (List ℤ)) (e : WeightError) → all ≡ rows ++ units n n → IsSolvable n all [] → IsSumRefusal n all e → IsRegionRefusal n rows (region_of_weight e)
 refused_sum n rows all (weight_errors.Cone s) q v h =
     inr (subst (λ (z : List (List ℤ)). IsSolvable n z []) q v, subst (λ (z : List (List ℤ)). IsSumRefusal n z (weight_errors.Cone s)) q h)
 refused_sum n rows all (weight_errors.Wide w) q v h =
     (subst (λ (z : List (List ℤ)). IsSolvable n z []) q v, subst (λ (z : List (List ℤ)). IsSumRefusal n z (weight_errors.Wide w)) q h)
 refused_sum n rows all weight_errors.Memory q v h = tt
-
-pub refused_empty : (n : ℕ) (rows all : List (List ℤ)) (ms : List ℤ) → all ≡ rows ++ units n n → IsFarkas n all [] ms [] → IsRegionRefusal n rows (region_errors.Empty ms)
-refused_empty n rows all ms q h = subst (λ (z : List (List ℤ)). IsFarkas n z [] ms []) q h
-
-pub refused_root : (n : ℕ) (rows all : List (List ℤ)) (r given : List ℤ) (i : ℕ) (x : ℤ) → all ≡ rows ++ units n n → IsSolvable n all [] → IsSumOfRays n all r → given ≡ r → IsFirstPast given i → x ≡ get_or given i x →
-    IsRegionRefusal n rows (region_errors.WideRoot i x)
-refused_root n rows all r given i x q v p g f e =
-    let first : IsFirstPast r i = subst (λ (z : List ℤ). IsFirstPast z i) g f in
-    (
-      subst (λ (z : List (List ℤ)). IsSolvable n z []) q v,
-      (r, subst (λ (z : List (List ℤ)). IsSumOfRays n z r) q p, first, subst (λ (z : List ℤ). x ≡ get_or z i x) g e ∙ get_or_default r i x (pos 0) first.inside),
-    )
 
 -- where nothing leaves its limits, only memory may be wanting
 pub only_memory_left : (n : ℕ) (rows : List (List ℤ)) (r : Result Region RegionError) → IfErr r (IsRegionRefusal n rows) → ((e : RegionError) → IsRegionRefusal n rows e → e ≡ region_errors.Memory) → IfErr r (λ e. e ≡ region_errors.Memory)

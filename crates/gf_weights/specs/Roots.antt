@@ -3,14 +3,14 @@
 use Rattle.std.specs.Prelude.{◌≡◌, ◌⊎◌, ℕ, ◌+◌, ◌<◌, ◌^◌, List, [], ◌++◌, length, slice_index_or, ℤ, pos, ◌<ℤ◌, ◌≤ℤ◌, All}
 use Rattle.gf_vec.specs.Vector.{zeros}
 use Rattle.gf_vec.specs.Steps.{IsFirstWide}
-use Rattle.gf_gordan.specs.Alternative.{IsSolvable, IsFarkas}
+use Rattle.gf_gordan.specs.Alternative.{AreRows, IsSolvable, IsFarkas}
 use Rattle.gf_gordan.specs.Equations.{IsStepOn}
 use Rattle.gf_duality.specs.Rays.{IsRays}
 use Rattle.gf_duality.specs.Faces.{sum_of}
 use Rattle.gf_rays.specs.Reached.{IsRaysStep}
 use Rattle.gf_rays.specs.Sums.{adding_steps}
 use Rattle.gf_facets.specs.Systems.{units}
-use Rattle.gf_facets.specs.Regions.{Region, IsRegion}
+use Rattle.gf_facets.specs.Regions.{Region, IsInRegion, IsRegion}
 use Rattle.gf_weights.specs.declared.error.WeightError.{WeightError}
 use Rattle.gf_weights.specs.declared.error.WeightError.TheVariants as weight_errors
 use Rattle.gf_weights.specs.declared.region.RegionError.{RegionError}
@@ -72,3 +72,18 @@ IsRegionRefusal n rows region_errors.Memory = Unit {0}
 -- the region isn't empty, nothing that is worked out for its root leaves the range, and no entry of the root is too great
 abbrev pub IsRegionWithinLimits : ℕ → List (List ℤ) → Type 0
 IsRegionWithinLimits n rows = (e : RegionError) → IsRegionRefusal n rows e → e ≡ region_errors.Memory
+
+-- ---- laws
+
+-- rows cut out one region at most, and then it isn't empty, and no entry of its root is too great; where multipliers show that it is empty no
+-- positive vector is positive on each row, and no entry of a root is too great; and one entry is the first that is
+pub record RegionsAreOne : Type 0 where
+  pub one : (n : ℕ) (rows : List (List ℤ)) (k j : Region) → IsRegionOf n rows k → IsRegionOf n rows j → k ≡ j
+  pub empty : (n : ℕ) (rows : List (List ℤ)) (ms r v : List ℤ) → AreRows n rows → IsRegionRefusal n rows (region_errors.Empty ms) →
+      IsInRegion n (record { rows = rows; root = r }) v → ⊥
+  pub not_empty : (n : ℕ) (rows : List (List ℤ)) (k : Region) (ms : List ℤ) → IsRegionOf n rows k → IsRegionRefusal n rows (region_errors.Empty ms) → ⊥
+  pub not_wide : (n : ℕ) (rows : List (List ℤ)) (k : Region) (i : ℕ) (x : ℤ) → IsRegionOf n rows k → IsRegionRefusal n rows (region_errors.WideRoot i x) → ⊥
+  pub apart : (n : ℕ) (rows : List (List ℤ)) (ms : List ℤ) (i : ℕ) (x : ℤ) → AreRows n rows → IsRegionRefusal n rows (region_errors.Empty ms) →
+      IsRegionRefusal n rows (region_errors.WideRoot i x) → ⊥
+  pub same : (n : ℕ) (rows : List (List ℤ)) (i j : ℕ) (x y : ℤ) → IsRegionRefusal n rows (region_errors.WideRoot i x) →
+      IsRegionRefusal n rows (region_errors.WideRoot j y) → (i ≡ j) × (x ≡ y)

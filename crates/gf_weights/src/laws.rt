@@ -1,4 +1,6 @@
 //! What the printed weights and witnesses have.
+ghost use Rattle.std.specs.Prelude.{[]};
+ghost use Rattle.gf_weights.specs.Roots.{RegionsAreOne, IsRegionWithinLimits};
 ghost use Rattle.gf_weights.specs.Laws.{WeightsGiveBases, WitnessesAreInside, CertificatesAreUnique, CertificatesExist};
 
 /// The printed weight is in the region and gives the marks, and a marked reduced basis is the reduced one for its printed weight
@@ -22,4 +24,15 @@ pub fn certificates_are_unique()
 /// their entries.
 pub fn certificates_exist()
     ensures { CertificatesExist }
+{}
+
+/// Rows cut out one region at most, and then multipliers don't show that it is empty, and no entry of its root is too great. Where
+/// multipliers do, no positive vector is positive on each row.
+pub fn regions_are_one()
+    ensures { RegionsAreOne }
+{}
+
+/// All positive weights of one variable are a region, and nothing that is worked out for its root leaves its limits.
+pub fn a_region_is_within_limits()
+    ensures { IsRegionWithinLimits 1 [] }
 {}

@@ -12,10 +12,11 @@ mod region;
 
 pub use certificates::{Certificates, FacetWitness, certify, certify_in, weight};
 pub use error::WeightError;
-pub use region::{RegionError, region_of};
 pub use laws::{
-    certificates_are_unique, certificates_exist, weights_give_bases, witnesses_are_inside,
+    a_region_is_within_limits, certificates_are_unique, certificates_exist, regions_are_one,
+    weights_give_bases, witnesses_are_inside,
 };
+pub use region::{RegionError, region_of};
 
 #[cfg(test)]
 mod tests;

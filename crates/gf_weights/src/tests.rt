@@ -2,6 +2,7 @@
 use super::*;
 use gf_samples::marked_set;
 use gf_vec::IntVec;
+use std::alloc::Global;
 use std::test::Fail;
 
 /// Whether the entries are these.
@@ -54,6 +55,60 @@ fn three_rays(rt: HostRuntime) -> Result<(), Fail> {
         matches!(told.facets.as_slice(), [first, second]
         if is(&first.normal, &[0, 1, -1]) && is(&first.witness, &[2, 1, 1])
             && is(&second.normal, &[1, 0, -1]) && is(&second.witness, &[1, 2, 1]))
+    );
+    Ok(())
+}
+
+/// Whether the region of two variables that one row cuts out has this root.
+fn has_root(alloc: Global, row: [i128; 2], root: &[i128]) -> Result<bool, Fail> {
+    let rows = [IntVec::from_slice(alloc, &row)?];
+    match region_of(alloc, 2, &rows) {
+        Ok(region) => Ok(is(region.root(), root)),
+        Err(_) => Ok(false),
+    }
+}
+
+/// Why one row cuts out no region of two variables.
+fn refused(alloc: Global, row: [i128; 2]) -> Result<RegionError, Fail> {
+    let rows = [IntVec::from_slice(alloc, &row)?];
+    match region_of(alloc, 2, &rows) {
+        Ok(_) => Err("refused".into()),
+        Err(error) => Ok(error),
+    }
+}
+
+#[test]
+fn roots_by_hand(rt: HostRuntime) -> Result<(), Fail> {
+    // The rays are (1, 0) and (1, 1); (0, 1) and (2, 3); (1, 0) and (2^63 - 2, 1).
+    assert!(rt; has_root(rt.alloc(), [1, -1], &[2, 1])?);
+    assert!(rt; has_root(rt.alloc(), [-3, 2], &[2, 4])?);
+    assert!(rt;
+        has_root(
+            rt.alloc(),
+            [1, -9223372036854775806],
+            &[9223372036854775807, 1]
+        )?
+    );
+    let all = region_of(rt.alloc(), 2, &[]);
+    assert!(rt; matches!(all, Ok(region) if is(region.root(), &[1, 1])));
+    Ok(())
+}
+
+#[test]
+fn no_region(rt: HostRuntime) -> Result<(), Fail> {
+    let empty = refused(rt.alloc(), [-1, 0])?;
+    assert!(rt;
+        matches!(empty, RegionError::Empty { multipliers } if is(&multipliers, &[1, 1, 0]))
+    );
+    let wide = refused(rt.alloc(), [1, -9223372036854775807])?;
+    assert!(rt;
+        matches!(
+            wide,
+            RegionError::WideRoot {
+                index: 0,
+                value: 9_223_372_036_854_775_808
+            }
+        )
     );
     Ok(())
 }

@@ -1,6 +1,7 @@
 -- The list of `_bases -g`: a marked Gröbner basis is reduced and taken up to the root; and why it isn't written.
--- To cite: few_members, reducible, reduced_from, reduced_own, root_starts, way_from; given_performed, given_stopped_root, given_stopped_list, named_root, way_in_tree;
--- tree_work, tree_untested; given_work, root_within, root_past, given_once, given_refuses. The rest are steps.
+-- To cite: few_members, reducible, reduced_from, reduced_own, root_starts, way_from, not_reduced, root_starts_at, way_of_set; given_performed, given_stopped_root,
+-- given_stopped_memory, given_stopped_list, named_root, way_in_tree; tree_work, tree_untested; given_work, root_work, reducing_only, root_within, root_past, root_tested,
+-- root_once, given_once, given_refuses. The rest are steps.
 use Rattle.std.specs.Prelude.{◌≡◌, ◌⊎◌, ℕ, List, [], ◌∷◌, length, map, Contains, Option, Some, Err}
 use Rattle.std.specs.Io.KnownBytes.{Keeps}
 use Rattle.std.proofs.KnownBytes.{Keeps-refl}
@@ -225,7 +226,7 @@ tree_untested (tree_errors.PairBudget b u) t = t
 tree_untested (tree_errors.Cone s) t = t
 tree_untested tree_errors.Memory t = t
 
-root_work : (s : MarkedPolynomials) (pairs : ℕ) (r : Refusal) → IsGivenRootRefusal s pairs r → IsOfWork r
+pub root_work : (s : MarkedPolynomials) (pairs : ℕ) (r : Refusal) → IsGivenRootRefusal s pairs r → IsOfWork r
 root_work s pairs r (IsGivenRootRefusal.at_check e h q) = subst IsOfWork (sym q) (check_work e)
 root_work s pairs r (IsGivenRootRefusal.at_tails t d g a h q) = subst IsOfWork (sym q) (check_work (of_poly d))
 root_work s pairs r (IsGivenRootRefusal.on_the_way u e g f h q) = subst IsOfWork (sym q) (tree_work e)
@@ -252,6 +253,12 @@ root_only pairs s r v basis checks tails way (IsGivenRootRefusal.at_check e h q)
 root_only pairs s r v basis checks tails way (IsGivenRootRefusal.at_tails t d g a h q) = q ∙ ap (λ x. of_check (of_poly x)) (tails t d a h)
 root_only pairs s r v basis checks tails way (IsGivenRootRefusal.on_the_way u e g f h q) = q ∙ ap of_tree (way u e f h)
 
+-- of the set alone
+pub reducing_only : (s : MarkedPolynomials) (r : Refusal) → HaveVariables s.variables s.items → IsMarkedGroebnerBasis s.variables s.items → AreChecksWithinLimits s →
+    ((t : MarkedPolynomials) (d : PolyError) → IsArranged (monic_set s) t → IsAutoreductionRefusal t.items d → d ≡ errors.Memory) → IsReducingRefusal s r → r ≡ refusals.Memory
+reducing_only s r v basis checks tails (IsReducingRefusal.at_check e h q) = q ∙ ap of_check (basis_only_memory {A = Unit {0}} 0 s (Err e) v h checks basis)
+reducing_only s r v basis checks tails (IsReducingRefusal.at_tails t d g a h q) = q ∙ ap (λ x. of_check (of_poly x)) (tails t d a h)
+
 pub root_within : (o : ListOptions) (n : ℕ) (s : MarkedPolynomials) (r : Refusal) → IsGivenListWithin o n s → IsGivenRootRefusal s o.pairs r → r ≡ refusals.Memory
 root_within o n s r w h = root_only o.pairs s r w.variables w.basis w.checks w.tails
     (λ u e f q. within_memory (ideal_by n (polys s.items)) o.pairs e w.tree (subst (λ k. IsTreeRefusal (ideal_by k (polys s.items)) o.pairs e) w.same (way_in_tree s u o.pairs e w.variables f q))) h
@@ -260,7 +267,7 @@ pub root_past : (o : ListOptions) (n : ℕ) (s : MarkedPolynomials) (most : ℕ)
 root_past o n s most r v w h = root_only o.pairs s r v w.basis w.checks w.tails w.way h
 
 -- a test of the set isn't told where the set is a basis, nor by the rest of the work
-root_tested : (s : MarkedPolynomials) (pairs : ℕ) (r : Refusal) → HaveVariables s.variables s.items → IsOfTest r → IsGivenRootRefusal s pairs r → IsMarkedGroebnerBasis s.variables s.items → ⊥
+pub root_tested : (s : MarkedPolynomials) (pairs : ℕ) (r : Refusal) → HaveVariables s.variables s.items → IsOfTest r → IsGivenRootRefusal s pairs r → IsMarkedGroebnerBasis s.variables s.items → ⊥
 root_tested s pairs r v t (IsGivenRootRefusal.at_check e h q) g = paired_refutes (Unit {0}) 0 s e v (subst IsOfTest q t) h g
 root_tested s pairs r v t (IsGivenRootRefusal.at_tails u d b a h q) g = poly_untested d (subst IsOfTest q t)
 root_tested s pairs r v t (IsGivenRootRefusal.on_the_way u e b f h q) g = tree_untested e (subst IsOfTest q t)
@@ -274,7 +281,7 @@ given_refutes : (o : ListOptions) (n : ℕ) (s : MarkedPolynomials) (r : Refusal
 given_refutes o n s r v t (IsGivenListCause.at_root h) g = root_tested s o.pairs r v t h g
 given_refutes o n s r v t (IsGivenListCause.going b h) g = going_untested o n s r t h
 
-root_once : (s : MarkedPolynomials) (pairs : ℕ) (r d : Refusal) → HaveVariables s.variables s.items → IsOfTest r → IsGivenRootRefusal s pairs r → IsGivenRootRefusal s pairs d → TellsSame r d ⊎ IsOfNumbers d
+pub root_once : (s : MarkedPolynomials) (pairs : ℕ) (r d : Refusal) → HaveVariables s.variables s.items → IsOfTest r → IsGivenRootRefusal s pairs r → IsGivenRootRefusal s pairs d → TellsSame r d ⊎ IsOfNumbers d
 root_once s pairs r d v t (IsGivenRootRefusal.at_check e h q) (IsGivenRootRefusal.at_check f k p) =
     let once = paired_once (Unit {0}) (Unit {0}) 0 s e f v (subst IsOfTest q t) h k in
     subst (λ x. TellsSame r x ⊎ IsOfNumbers x) (sym p) (subst (λ x. TellsSame x (of_check f) ⊎ IsOfNumbers (of_check f)) (sym q) once)

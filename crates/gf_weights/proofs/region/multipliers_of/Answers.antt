@@ -10,5 +10,5 @@ returns-in_err-answer-clause-err c =
 pub returns-in-Point-clause-none : goal.returns-in-Point-clause-none
 returns-in-Point-clause-none c = λ t. solved_by c.args.n c.args.all.now c.in_ok-answer.answer _ c.in-Point.is c.in_ok-answer.ensures.ok
 
-pub returns-in-Farkas-clause-some : goal.returns-in-Farkas-clause-some
-returns-in-Farkas-clause-some c = refuted_by c.args.n c.args.all.now c.in_ok-answer.answer _ _ c.in-Farkas.is c.in_ok-answer.ensures.ok
+pub returns-clause-some : goal.returns-clause-some
+returns-clause-some c = refuted_by c.args.n c.args.all.now c.in_ok-answer.answer _ _ c.in-Farkas.is c.in_ok-answer.ensures.ok
