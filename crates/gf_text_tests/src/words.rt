@@ -109,6 +109,27 @@ fn a_list_has_certificates(rt: HostRuntime) -> Result<(), Fail> {
     Ok(())
 }
 
+/// The name of the file of a list's region.
+fn region_file(job: &Result<Job, WordsError>) -> Option<&str> {
+    match job {
+        Ok(Job::Bases(asked)) => asked.within.as_ref().map(|name| name.as_str()),
+        _ => None,
+    }
+}
+
+#[test]
+fn a_list_has_a_region(rt: HostRuntime) -> Result<(), Fail> {
+    for (line, file) in [
+        ("_bases --within A", Some("A")),
+        ("_bases --within=a/b -g", Some("a/b")),
+        ("_bases -g", None),
+    ] {
+        let job = answered(rt.alloc(), line)?;
+        assert!(rt; region_file(&job) == file, "{line}");
+    }
+    Ok(())
+}
+
 #[test]
 fn a_cone_has_four_options(rt: HostRuntime) -> Result<(), Fail> {
     for (line, vector_input, certificates, restricted, as_fan) in [

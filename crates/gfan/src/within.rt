@@ -19,18 +19,19 @@ use crate::bases::{ListOptions, write_from};
 use crate::buchberger::polynomials;
 use crate::checks::check_each;
 use crate::given_basis::reduced_of;
+use crate::mark_polynomial_set;
 use crate::refused::Refused;
 use gf_cone::Region;
 use gf_front::Refusal;
 use gf_items::{RingAndMarked, RingAndSet, ring_and_marked, ring_and_set, vectors};
 use gf_outside::Sink;
-use gf_poly::{MarkedSet, Poly};
+use gf_poly::MarkedSet;
 use gf_text::{Ring, Written};
 use gf_tree::root_in;
 use gf_vec::IntVec;
 use gf_waves::Gate;
 use gf_weights::{RegionError, region_of};
-use std::alloc::{AllocError, Global};
+use std::alloc::Global;
 use std::thread::Threads;
 
 // ---- the region
@@ -98,18 +99,6 @@ fn root_of(
     }
 }
 
-/// The polynomials of a marked set.
-fn polynomials_of(alloc: Global, set: &MarkedSet) -> Result<Vec<Poly>, AllocError>
-    ensures { IfOk result (λ fs. fs.items ≡ polys set.now.items) }
-{
-    let items = set.items();
-    let mut found = Vec::with_capacity(alloc, items.len())?;
-    'items: for i in 0..items.len() {
-        found.push(items[i].poly().copy()?)?;
-    }
-    Ok(found)
-}
-
 /// The basis of the ideal of a marked Gröbner basis by the root of the region and then lex: the set is checked and reduced, and that basis
 /// is worked out of the reduced one, which needn't be in the region. Its members are counted in 32 bits.
 fn given_root_of(
@@ -124,7 +113,7 @@ fn given_root_of(
     ensures err { IfErr result (IsGivenRegionRootRefusal region.now marked.now pairs) }
 {
     let reduced = reduced_of(alloc, marked)?;
-    let generators = polynomials_of(alloc, &reduced)?;
+    let generators = mark_polynomial_set::polynomials(alloc, &reduced)?;
     match root_in(alloc, reduced.variables(), &generators, region, pairs) {
         Ok(root) => Ok(root),
         Err(error) => Err(Refused::from(error).refusal),
