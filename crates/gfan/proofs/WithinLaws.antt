@@ -1,6 +1,6 @@
 -- `_bases --within`: its region, its first basis, its list; and each refusal of it is told in one way.
 -- To cite: within_exact, within_tested, given_within_exact, given_within_tested; within_performed, within_stopped, given_within_performed, given_within_stopped,
--- stopped_in_form, stopped_in_work, region_unlisted, root_unlisted; root_in_starts, given_region_starts. The rest are steps.
+-- stopped_in_form, stopped_in_work, form_unlisted, region_unlisted, root_unlisted; root_in_starts, given_region_starts. The rest are steps.
 use Rattle.std.specs.Prelude.{◌≡◌, ◌⊎◌, ℕ, false, List, [], ◌∷◌, length, Option, Some, None, Err, ℤ}
 use Rattle.std.proofs.Common.{refl, sym, ap, ◌∙◌, subst, inl, inr}
 use Rattle.gf_exponents.specs.Orders.{gains}
@@ -48,6 +48,7 @@ use Rattle.gfan.specs.Performed.{IsPerformedFor, IsBegunAs, IsStoppedFor}
 use Rattle.gfan.specs.Within.{of_region, IsNoRegion, IsRegionRootRefusal, IsCauseWithin, IsWithinRegion, IsGivenRegionRootRefusal, IsGivenStartRefusal, IsGivenCauseWithin, IsGivenWithinRegion, bases_within_command, given_within_command}
 use Rattle.gfan.proofs.BasesListLaws.{given_node, start_moved}
 use Rattle.gfan.proofs.GivenBasisLaws.{not_reduced, root_work, reducing_only, root_once, root_tested}
+use Rattle.gfan.specs.ToolForms.{for_each}
 use Rattle.gfan.proofs.ToolFormLaws.{each_check}
 use Rattle.gfan.proofs.ReadSetLaws.{marked_kept}
 use Rattle.gfan.proofs.ExactLaws.{basis_work, basis_not_listed, basis_untested, going_work, going_within_in, going_untested_in}
@@ -256,6 +257,14 @@ module _ (c : Command) (texts : List (List ℕ)) (a : c.Value) (read : c.reading
 
   pub stopped_in_work : AllHold (c.checks a) → c.IsCause a r → IsStoppedOn c texts (output_seen held n) (output_seen held n) r
   stopped_in_work g w = IsStoppedOn.in_work (IsRefusedOn.behind_text a read (IsUnanswered.in_work g w)) (nothing_but_limit c texts (output_seen held n) r unlisted) refl
+
+pub form_unlisted : (n : ℕ) (rows : List (List ℤ)) (r : Refusal) → FirstFails (for_each n rows) r → (most : ℕ) → r ≡ refusals.ListLimit most → ⊥
+form_unlisted n rows r f most l = none rows (subst (FirstFails (for_each n rows)) l f)
+  where
+    none : (ws : List (List ℤ)) → FirstFails (for_each n ws) (refusals.ListLimit most) → ⊥
+    none [] h = h
+    none (w ∷ ws) (inl h) = h
+    none (w ∷ ws) (inr (k, h)) = none ws h
 
 pub region_unlisted : (n : ℕ) (rows : List (List ℤ)) (r : Refusal) → IsNoRegion n rows r → (most : ℕ) → r ≡ refusals.ListLimit most → ⊥
 region_unlisted n rows r (w, (e, h, q)) most l = region_not_listed e most (sym q ∙ l)
