@@ -8,7 +8,7 @@ use Rattle.gf_poly.specs.Marking.{MarkedPolynomials}
 use Rattle.gf_text.specs.PrintedSets.{basis_text}
 use Rattle.gf_ideal.specs.Membership.{AreInVariables}
 use Rattle.gf_ideal.specs.Bases.{IsReducedBasis}
-use Rattle.gf_facets.specs.Regions.{Region, IsInRegion, all_positive}
+use Rattle.gf_facets.specs.Regions.{Region, IsRegion, IsInRegion, all_positive}
 use Rattle.gf_facets.specs.Normals.{Ascends}
 use Rattle.gf_facets.specs.Facets.{IsInsideFacet, IsFlippable}
 use Rattle.gfan.specs.declared.bases.ListOptions.{ListOptions}
@@ -16,7 +16,7 @@ use Rattle.gf_weights.specs.declared.certificates.FacetWitness.{FacetWitness}
 use Rattle.gf_weights.specs.Weights.{normals_of}
 use Rattle.gfan.specs.BasesList.{AreAllBasesIn, AreAllBases}
 use Rattle.gfan.specs.Certificates.{certificates_text}
-use Rattle.gfan.specs.Bases.{list_text, IsTextOfBases}
+use Rattle.gfan.specs.Bases.{list_text, IsTextOfBasesIn, IsTextOfBases}
 use Rattle.gfan.specs.Commands.{list_job, IsAnswerTo}
 use Rattle.gfan.specs.ListSources.{HasPolynomials}
 
@@ -59,3 +59,8 @@ pub record CertificatesHold : Type 0 where
   pub of_lists : (limit : Option ℕ) (ring : List (List ℕ)) (fs : List Terms) (text : List ℕ) → AreInVariables (length ring) fs → IsTextOfBases true limit ring fs text → IsCertifiedList ring fs text
   pub of_answers : (from_basis : Bool) (o : ListOptions) (workers : ℕ) (source text : List ℕ) → o.certified ≡ true → IsAnswerTo (list_job from_basis o workers) source text →
       (ring : List (List ℕ)) × (fs : List Terms) × HasPolynomials from_basis source ring fs × IsCertifiedList ring fs text
+
+-- so it is with a list in a region, of polynomials in the variables of the ring
+abbrev pub RegionCertificatesHold : Type 0
+RegionCertificatesHold = (limit : Option ℕ) (ring : List (List ℕ)) (k : Region) (fs : List Terms) (text : List ℕ) → AreInVariables (length ring) fs → IsRegion (length ring) k →
+    IsTextOfBasesIn true limit ring k fs text → IsCertifiedListIn ring k fs text
