@@ -15,7 +15,6 @@ use Rattle.gf_buchberger.specs.Bases.{AreRunsWithinLimits}
 use Rattle.gf_buchberger.proofs.BasesOfRuns.{if_within}
 use Rattle.gf_weights.specs.Roots.{IsRegionOf}
 use Rattle.gf_weights.proofs.RegionLaws.{regions_are_one}
-use Rattle.std.proofs.lemmas.List.Elements.{All-nil}
 use Rattle.gf_front.specs.declared.command_line.Job.{Job}
 use Rattle.gf_front.specs.declared.command_line.Job.TheVariants as jobs
 use Rattle.gf_front.specs.declared.refusal.Refusal.{Refusal}
@@ -41,7 +40,8 @@ use Rattle.gfan.specs.Buchberger.{generators_of, of_basis}
 use Rattle.gfan.specs.ToolForms.{for_each}
 use Rattle.gfan.specs.Within.{of_region, IsTextWithin, IsCauseWithin, IsPastWithin, IsGivenRegionRootRefusal, IsGivenStartRefusal, IsGivenCauseWithin, IsGivenPastWithin, bases_within_command, given_within_command}
 use Rattle.gfan.specs.Commands.{list_options, list_command, within_command, bases_of, command_of, AreTextsPast, AreTextsPastWithin, AreTextsPastIn, IsPastReach}
-use Rattle.gfan.proofs.ToolFormLaws.{each_check, each_joined}
+use Rattle.gfan.proofs.ToolFormLaws.{each_check}
+use Rattle.gfan.proofs.WithinLaws.{rows_hold}
 use Rattle.gfan.proofs.GivenBasisLaws.{reducing_only, root_past}
 use Rattle.gfan.proofs.ReadSetLaws.{marked_kept}
 use Rattle.gfan.proofs.OneListLaws.{one_list, one_list_in}
@@ -143,10 +143,6 @@ given_region_past o n rows s most r own v p (IsGivenCauseWithin.going k i g h) =
     let same : k ≡ p.region = regions_are_one.one n rows k p.region i p.is_region in
     going_past_in o n p.region (polys s.items) most r v p.is_region.region p.going (subst (λ (j : Region). IsGoingCauseIn o n j (polys s.items) r) same h)
 
--- the rows of a region pass their check
-rows_hold : (n : ℕ) (rows : List (List ℤ)) (k : Region) → IsRegionOf n rows k → AllHold (for_each n rows)
-rows_hold n rows k i = each_joined n [] rows (All-nil _) (subst (AreRows n) i.same i.region.widths)
-
 within_past : (name : List ℕ) (o : ListOptions) (file source : List ℕ) (rows : List (List ℤ)) (v : List (List ℕ) × (List Written × Option (List ℤ))) (most : ℕ) (d : Refusal) → IsTextOf vectors_alone file rows → IsTextOf (ring_set_vector false) source v →
     IsPastWithin o (length v.0) rows (generators_of v.1.0) most → IsRefusedOn (bases_within_command name o) (file ∷ (source ∷ [])) d → IsAtLimitOrMemory most d
 within_past name o file source rows v most d rf rs p (IsRefusedOn.in_text e (inl h) q) = inr (q ∙ text_memory vectors_alone file rows (items_once vector_list [] []) rf e h)
@@ -154,7 +150,7 @@ within_past name o file source rows v most d rf rs p (IsRefusedOn.in_text e (inr
 within_past name o file source rows v most d rf rs p (IsRefusedOn.behind_text a k (IsUnanswered.in_form f)) =
     let one = (source_once vectors_alone (items_once vector_list [] []) file).once rows a.0 rf k.0 in
     let two = (source_once (ring_set_vector false) (ring_and_once a_set (vector_where false ∷ [])) source).once v a.1 rs k.1 in
-    absurd (first_apart (for_each (length v.0) rows) (each_check (length v.0) rows) d (rows_hold (length v.0) rows p.region p.is_region)
+    absurd (first_apart (for_each (length v.0) rows) (each_check (length v.0) rows) d (rows_hold (length v.0) rows (subst (AreRows (length v.0)) p.is_region.same p.is_region.region.widths))
     (subst (λ (x : List (List ℕ) × (List Written × Option (List ℤ))). FirstFails (for_each (length x.0) rows) d) two (subst (λ (z : List (List ℤ)). FirstFails (for_each (length a.1.0) z) d) one f)))
 within_past name o file source rows v most d rf rs p (IsRefusedOn.behind_text a k (IsUnanswered.in_work g w)) =
     let one = (source_once vectors_alone (items_once vector_list [] []) file).once rows a.0 rf k.0 in
@@ -171,7 +167,7 @@ given_within_past name o file source rows v most d rf rs p (IsRefusedOn.in_text 
 given_within_past name o file source rows v most d rf rs p (IsRefusedOn.behind_text a k (IsUnanswered.in_form f)) =
     let one = (source_once vectors_alone (items_once vector_list [] []) file).once rows a.0 rf k.0 in
     let two = (source_once ring_marked_set (ring_and_once a_marked_set []) source).once v a.1 rs k.1 in
-    absurd (first_apart (for_each (length v.0) rows) (each_check (length v.0) rows) d (rows_hold (length v.0) rows p.region p.is_region)
+    absurd (first_apart (for_each (length v.0) rows) (each_check (length v.0) rows) d (rows_hold (length v.0) rows (subst (AreRows (length v.0)) p.is_region.same p.is_region.region.widths))
     (subst (λ (x : List (List ℕ) × MarkedPolynomials). FirstFails (for_each (length x.0) rows) d) two (subst (λ (z : List (List ℤ)). FirstFails (for_each (length a.1.0) z) d) one f)))
 given_within_past name o file source rows v most d rf rs p (IsRefusedOn.behind_text a k (IsUnanswered.in_work g w)) =
     let one = (source_once vectors_alone (items_once vector_list [] []) file).once rows a.0 rf k.0 in

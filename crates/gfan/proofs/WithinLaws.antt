@@ -1,6 +1,7 @@
 -- `_bases --within`: its region, its first basis, its list; and each refusal of it is told in one way.
 -- To cite: within_exact, within_tested, given_within_exact, given_within_tested; within_performed, within_stopped, given_within_performed, given_within_stopped,
--- stopped_in_form, stopped_in_work, form_unlisted, region_unlisted, root_unlisted; root_in_starts, given_region_starts. The rest are steps.
+-- stopped_in_form, stopped_in_work, form_unlisted, region_unlisted, root_unlisted; root_in_starts, given_region_starts; rows_hold, no_region_stopped, no_root_stopped, within_done,
+-- within_cut, no_start_stopped, given_within_done, given_within_cut. The rest are steps.
 use Rattle.std.specs.Prelude.{◌≡◌, ◌⊎◌, ℕ, false, List, [], ◌∷◌, length, Option, Some, None, Err, ℤ}
 use Rattle.std.proofs.Common.{refl, sym, ap, ◌∙◌, subst, inl, inr}
 use Rattle.gf_exponents.specs.Orders.{gains}
@@ -26,7 +27,7 @@ use Rattle.gf_weights.proofs.RegionLaws.{regions_are_one}
 use Rattle.gf_text.specs.declared.written.Written.{Written}
 use Rattle.gf_front.specs.declared.refusal.Refusal.{Refusal}
 use Rattle.gf_front.specs.declared.refusal.Refusal.TheVariants as refusals
-use Rattle.gf_items.specs.Items.{from}
+use Rattle.gf_items.specs.Items.{IsTextOf, from}
 use Rattle.gf_items.specs.Sources.{vectors_alone, ring_set_vector, ring_marked_set}
 use Rattle.gf_items.specs.Kinds.{a_set, a_marked_set, vector_where, vector_list}
 use Rattle.gf_items.specs.Refusals.{IsOfTest, IsOfNumbers, TellsSame, IsOfWork}
@@ -35,7 +36,7 @@ use Rattle.gf_items.specs.Checks.{AllHold, FirstFails}
 use Rattle.gf_frame.specs.Seen.{output_seen}
 use Rattle.gf_frame.specs.Readings.{of_one, of_more}
 use Rattle.gf_frame.specs.Commands.{Command, IsUnanswered, IsRefusedOn}
-use Rattle.gf_frame.specs.Runs.{IsStoppedOn}
+use Rattle.gf_frame.specs.Runs.{IsDoneOn, IsStoppedOn}
 use Rattle.gf_frame.proofs.WorkLaws.{nothing_but_limit}
 use Rattle.gf_frame.proofs.ReadingLaws.{one_once, more_once, of_one_text}
 use Rattle.gf_frame.proofs.SoundLaws.{IsExactCommand, IsTestedCommand}
@@ -49,7 +50,9 @@ use Rattle.gfan.specs.Within.{of_region, IsNoRegion, IsRegionRootRefusal, IsCaus
 use Rattle.gfan.proofs.BasesListLaws.{given_node, start_moved}
 use Rattle.gfan.proofs.GivenBasisLaws.{not_reduced, root_work, reducing_only, root_once, root_tested}
 use Rattle.gfan.specs.ToolForms.{for_each}
-use Rattle.gfan.proofs.ToolFormLaws.{each_check}
+use Rattle.std.proofs.lemmas.List.Elements.{All-nil}
+use Rattle.gfan.proofs.PerformedLaws.{performed_on, stopped_on}
+use Rattle.gfan.proofs.ToolFormLaws.{each_check, each_joined}
 use Rattle.gfan.proofs.ReadSetLaws.{marked_kept}
 use Rattle.gfan.proofs.ExactLaws.{basis_work, basis_not_listed, basis_untested, going_work, going_within_in, going_untested_in}
 
@@ -286,3 +289,59 @@ given_region_starts k s u root v f h =
     let node : IsNodeIn (ideal_by n (polys s.items)) u = given_node n (polys s.items) u inside f.given in
     let g = only_ideals_count.generated n (polys s.items) u.items inside (record { reduced = node.basis.reduced; arranged = node.basis.arranged }) in
     start_moved n k (polys u.items) (polys s.items) root inside (record { inside = g.1.back; back = g.1.inside }) h
+
+-- ---- the job on its two texts
+
+-- the rows of a region pass their check
+pub rows_hold : (n : ℕ) (rows : List (List ℤ)) → AreRows n rows → AllHold (for_each n rows)
+rows_hold n rows w = each_joined n [] rows (All-nil _) w
+
+module _ (name : List ℕ) (o : ListOptions) (file source : List ℕ) (rows : List (List ℤ)) (ring : List (List ℕ)) (set : List Written) (rf : IsTextOf vectors_alone file rows) (rs : IsTextOf (ring_set_vector false) source (ring, (set, None))) where
+  -- there is no region
+  pub no_region_stopped : (held : Option (List ℕ)) (n : ℕ) (r : Refusal) → FirstFails (for_each (length ring) rows) r ⊎ IsNoRegion (length ring) rows r →
+      IsStoppedOn (bases_within_command name o) (file ∷ (source ∷ [])) (output_seen held n) (output_seen held n) r
+  no_region_stopped held n r (inl f) = stopped_in_form (bases_within_command name o) (file ∷ (source ∷ [])) (rows, (ring, (set, None))) (rf, rs) held n r (form_unlisted (length ring) rows r f) f
+  no_region_stopped held n r (inr h) =
+      stopped_in_work (bases_within_command name o) (file ∷ (source ∷ [])) (rows, (ring, (set, None))) (rf, rs) held n r (region_unlisted (length ring) rows r h) (rows_hold (length ring) rows h.0) (IsCauseWithin.at_region h)
+
+  module _ (k : Region) (i : IsRegionOf (length ring) rows k) where
+    held_rows : AllHold (for_each (length ring) rows)
+    held_rows = rows_hold (length ring) rows (subst (AreRows (length ring)) i.same i.region.widths)
+
+    -- its first basis is refused
+    pub no_root_stopped : (held : Option (List ℕ)) (n : ℕ) (r : Refusal) → IsRegionRootRefusal (length ring) k (generators_of set) o.pairs r →
+        IsStoppedOn (bases_within_command name o) (file ∷ (source ∷ [])) (output_seen held n) (output_seen held n) r
+    no_root_stopped held n r h =
+        stopped_in_work (bases_within_command name o) (file ∷ (source ∷ [])) (rows, (ring, (set, None))) (rf, rs) held n r (root_unlisted (length ring) k (generators_of set) o.pairs r h) held_rows (IsCauseWithin.at_root k i h)
+
+    -- the list is written, or stopped
+    pub within_done : (held holds : Option (List ℕ)) (n m : ℕ) → IsListWrittenIn o ring k (generators_of set) held holds → m ≡ n → IsDoneOn (bases_within_command name o) (file ∷ (source ∷ [])) (output_seen held n) (output_seen holds m)
+    within_done held holds n m h calm =
+        performed_on (bases_within_command name o) (file ∷ (source ∷ [])) (rows, (ring, (set, None))) (rf, rs) held_rows held holds n m (λ t. t) (within_performed name o rows ring set k i held holds h) calm
+
+    pub within_cut : (held holds : Option (List ℕ)) (n m : ℕ) (r : Refusal) → IsListStoppedIn o ring k (generators_of set) held holds n m r → ((r ≡ refusals.WriteFault → ⊥) → m ≡ n) →
+        IsStoppedOn (bases_within_command name o) (file ∷ (source ∷ [])) (output_seen held n) (output_seen holds m) r
+    within_cut held holds n m r h calm =
+        stopped_on (bases_within_command name o) (file ∷ (source ∷ [])) (rows, (ring, (set, None))) (rf, rs) held_rows held holds n m r (within_stopped name o rows ring set k i held holds n m r h) calm
+
+module _ (name : List ℕ) (o : ListOptions) (file source : List ℕ) (rows : List (List ℤ)) (ring : List (List ℕ)) (s : MarkedPolynomials) (rf : IsTextOf vectors_alone file rows) (rs : IsTextOf ring_marked_set source (ring, s)) where
+  -- the region or the root in it is refused
+  pub no_start_stopped : (held : Option (List ℕ)) (n : ℕ) (r : Refusal) → ((most : ℕ) → r ≡ refusals.ListLimit most → ⊥) →
+      FirstFails (for_each (length ring) rows) r ⊎ (AreRows (length ring) rows × IsGivenStartRefusal (length ring) rows s o.pairs r) →
+      IsStoppedOn (given_within_command name o) (file ∷ (source ∷ [])) (output_seen held n) (output_seen held n) r
+  no_start_stopped held n r unlisted (inl f) = stopped_in_form (given_within_command name o) (file ∷ (source ∷ [])) (rows, (ring, s)) (rf, rs) held n r unlisted f
+  no_start_stopped held n r unlisted (inr h) =
+      stopped_in_work (given_within_command name o) (file ∷ (source ∷ [])) (rows, (ring, s)) (rf, rs) held n r unlisted (rows_hold (length ring) rows h.0) (IsGivenCauseWithin.at_start h.1)
+
+  module _ (k : Region) (i : IsRegionOf (length ring) rows k) (g : IsMarkedGroebnerBasis s.variables s.items) where
+    rows_held : AllHold (for_each (length ring) rows)
+    rows_held = rows_hold (length ring) rows (subst (AreRows (length ring)) i.same i.region.widths)
+
+    pub given_within_done : (held holds : Option (List ℕ)) (n m : ℕ) → IsListWrittenIn o ring k (polys s.items) held holds → m ≡ n → IsDoneOn (given_within_command name o) (file ∷ (source ∷ [])) (output_seen held n) (output_seen holds m)
+    given_within_done held holds n m h calm =
+        performed_on (given_within_command name o) (file ∷ (source ∷ [])) (rows, (ring, s)) (rf, rs) rows_held held holds n m (λ t. t) (given_within_performed name o rows ring s k i g held holds h) calm
+
+    pub given_within_cut : (held holds : Option (List ℕ)) (n m : ℕ) (r : Refusal) → IsListStoppedIn o ring k (polys s.items) held holds n m r → ((r ≡ refusals.WriteFault → ⊥) → m ≡ n) →
+        IsStoppedOn (given_within_command name o) (file ∷ (source ∷ [])) (output_seen held n) (output_seen holds m) r
+    given_within_cut held holds n m r h calm =
+        stopped_on (given_within_command name o) (file ∷ (source ∷ [])) (rows, (ring, s)) (rf, rs) rows_held held holds n m r (given_within_stopped name o rows ring s k i g held holds n m r h) calm

@@ -1,18 +1,10 @@
-use Rattle.std.proofs.Common.{List, ℤ, None, length, refl, sym, ap, ◌∙◌, subst, inl, inr}
+use Rattle.std.proofs.Common.{None, length, refl, sym, ap, ◌∙◌, subst, inl, inr}
 use Rattle.std.proofs.lemmas.Result.{err_from_is_err_and}
 use Rattle.std.specs.Prelude.{false, [], ◌∷◌}
-use Rattle.gf_text.specs.declared.written.Written.{Written}
-use Rattle.gf_items.specs.Items.{IsTextOf}
-use Rattle.gf_items.specs.Sources.{vectors_alone, ring_set_vector}
 use Rattle.gf_frame.specs.Seen.{output_seen}
 use Rattle.gf_frame.proofs.WorkLaws.{text_stopped}
-use Rattle.gfan.specs.Buchberger.{generators_of}
-use Rattle.gfan.specs.Within.{bases_within_command, IsCauseWithin}
-use Rattle.gfan.proofs.BasesLaws.{generators_in}
-use Rattle.gfan.proofs.BasesListLaws.{own_start_in}
-use Rattle.gfan.proofs.LimitLaws.{rows_hold}
-use Rattle.gfan.proofs.PerformedLaws.{without_vector, performed_on, stopped_on, ok_with, err_with}
-use Rattle.gfan.proofs.WithinLaws.{stopped_in_form, stopped_in_work, region_unlisted, root_unlisted, form_unlisted, within_performed, within_stopped}
+use Rattle.gfan.specs.Within.{bases_within_command}
+use Rattle.gfan.proofs.PerformedLaws.{without_vector}
 use Rattle.gfan.proofs.within.perform.Goals as goal
 
 pub returns-in_err-rows-clause-stopped : goal.returns-in_err-rows-clause-stopped
