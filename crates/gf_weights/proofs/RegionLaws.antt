@@ -1,9 +1,8 @@
 -- Rows cut out one region at most, with one root.
 -- To cite: regions_are_one, solved, unrefuted. The rest are steps.
-use Rattle.std.proofs.Common.{◌≡◌, ℕ, ◌<◌, ◌^◌, List, [], ◌∷◌, ◌++◌, length, get_or, ℤ, pos, ◌<ℤ◌, ◌≤ℤ◌, arith, refl, sym, ap, ap₂, ◌∙◌, subst, inl, inr, All}
+use Rattle.std.proofs.Common.{◌≡◌, ℕ, ◌<◌, ◌^◌, List, [], ◌++◌, length, get_or, ℤ, pos, ◌<ℤ◌, arith, sym, ap, ap₂, ◌∙◌, subst, inl, inr, All}
 use Rattle.std.proofs.lemmas.Int.{ints}
 use Rattle.std.proofs.lemmas.Bool.{cases_lt}
-use Rattle.std.proofs.lemmas.List.{get_or_default}
 use Rattle.std.proofs.lemmas.List.Elements.{All-nil}
 use Rattle.gf_gordan.specs.Alternative.{AreRows, IsSolvable, IsFarkas}
 use Rattle.gf_gordan.proofs.ExistenceLaws.{alternative}

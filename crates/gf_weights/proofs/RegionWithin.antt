@@ -1,6 +1,6 @@
 -- All positive weights of one variable: the region without rows, which stays within all limits.
 -- To cite: one_variable. The rest are steps.
-use Rattle.std.proofs.Common.{◌≡◌, ℕ, ◌+◌, ◌<◌, ◌≤◌, ◌^◌, List, [], ◌∷◌, ◌++◌, length, get_or, ℤ, pos, ◌+ℤ◌, ◌*ℤ◌, ◌<ℤ◌, ◌≤ℤ◌, unsigned_abs, arith, refl, sym, ap, ◌∙◌, subst, inl, inr, All, Contains, Err}
+use Rattle.std.proofs.Common.{◌≡◌, ℕ, ◌+◌, ◌<◌, ◌≤◌, ◌^◌, List, [], ◌∷◌, length, get_or, ℤ, pos, ◌+ℤ◌, ◌*ℤ◌, ◌<ℤ◌, ◌≤ℤ◌, unsigned_abs, arith, refl, sym, ap, ◌∙◌, subst, inl, inr, All, Contains, Err}
 use Rattle.std.specs.Ordering.{int_cmp}
 use Rattle.std.specs.Cmp.Lexicographic.{slice_cmp}
 use Rattle.std.specs.declared.cmp.Ordering.TheVariants.{Less}
@@ -21,9 +21,7 @@ use Rattle.gf_duality.proofs.ListLaws.{in_head, in_tail, in_cons, none_in}
 use Rattle.gf_duality.proofs.Determined.{described_of}
 use Rattle.gf_rays.specs.Sums.{adding_steps}
 use Rattle.gf_rays.proofs.RoomLaws.{systems_with_room_stay_within_limits}
-use Rattle.gf_facets.specs.Regions.{all_positive}
 use Rattle.gf_facets.proofs.SystemLaws.{all_positive-region}
-use Rattle.gf_weights.specs.declared.region.RegionError.{RegionError}
 use Rattle.gf_weights.specs.declared.region.RegionError.TheVariants as region_errors
 use Rattle.gf_weights.specs.Roots.{IsRegionRefusal, IsRegionWithinLimits}
 use Rattle.gf_weights.proofs.RegionLaws.{solved, unrefuted}

@@ -1,15 +1,14 @@
 -- The region of weights that rows cut out: its root is in it; why there is none.
 -- To cite: closed_wide, system_refused, solved_by, refuted_by, sum_is, rays_refused, sum_refused, root_long, root_inside, root_small, refused_sum,
 -- region_is, only_memory_left. The rest are steps.
-use Rattle.std.proofs.Common.{◌≡◌, ℕ, ◌+◌, ◌<◌, ◌^◌, List, [], ◌∷◌, ◌++◌, length, get_or, ℤ, pos, ◌<ℤ◌, arith, refl, sym, ap, ◌∙◌, subst, unsigned_abs, Contains, All, Result, Ok, Err, IfErr, inl, inr}
+use Rattle.std.proofs.Common.{◌≡◌, ℕ, ◌+◌, ◌<◌, ◌^◌, List, [], ◌∷◌, ◌++◌, length, ℤ, pos, ◌<ℤ◌, arith, refl, sym, ap, ◌∙◌, subst, unsigned_abs, Contains, All, Result, Ok, Err, IfErr, inl, inr}
 use Rattle.std.proofs.lemmas.Int.{ints}
-use Rattle.std.proofs.lemmas.List.{get_or_default}
 use Rattle.std.proofs.lemmas.List.Elements.{All-contains, Contains-append_left, Contains-append_right, Contains-append_cases}
 use Rattle.gf_vec.specs.Vector.{dot, zeros}
 use Rattle.gf_vec.specs.Steps.{IsFirstWide, IfWide}
 use Rattle.gf_vec.specs.declared.error.VecError.{VecError}
 use Rattle.gf_vec.specs.declared.error.VecError.TheVariants as vec_errors
-use Rattle.gf_gordan.specs.Alternative.{AreRows, IsSolution, IsSolvable, IsFarkas}
+use Rattle.gf_gordan.specs.Alternative.{AreRows, IsSolvable, IsFarkas}
 use Rattle.gf_gordan.specs.Answers.{IsAlternative}
 use Rattle.gf_gordan.specs.Equations.{IsStepOn}
 use Rattle.gf_gordan.specs.Steps.{Failed}
@@ -34,7 +33,7 @@ use Rattle.gf_weights.specs.declared.error.WeightError.TheVariants as weight_err
 use Rattle.gf_weights.specs.declared.region.RegionError.{RegionError}
 use Rattle.gf_weights.specs.declared.region.RegionError.TheVariants as region_errors
 use Rattle.gf_weights.specs.Refusals.{weight_of_gordan, of_vector}
-use Rattle.gf_weights.specs.Roots.{IsSumOfRays, IsRegionOf, IsFirstPast, IsSystemRefusal, IsSumRefusal, region_of_weight, IsRegionRefusal}
+use Rattle.gf_weights.specs.Roots.{IsSumOfRays, IsRegionOf, IsSystemRefusal, IsSumRefusal, region_of_weight, IsRegionRefusal}
 use Rattle.gf_weights.proofs.CutLaws.{pointed}
 
 -- the rows of the closed region have n entries

@@ -1,5 +1,6 @@
 //! Weights and witnesses that are worked out by hand.
 use super::*;
+use gf_cone::Region;
 use gf_samples::marked_set;
 use gf_vec::IntVec;
 use std::alloc::Global;
@@ -59,56 +60,34 @@ fn three_rays(rt: HostRuntime) -> Result<(), Fail> {
     Ok(())
 }
 
-/// Whether the region of two variables that one row cuts out has this root.
-fn has_root(alloc: Global, row: [i128; 2], root: &[i128]) -> Result<bool, Fail> {
-    let rows = [IntVec::from_slice(alloc, &row)?];
-    match region_of(alloc, 2, &rows) {
-        Ok(region) => Ok(is(region.root(), root)),
-        Err(_) => Ok(false),
-    }
-}
-
-/// Why one row cuts out no region of two variables.
-fn refused(alloc: Global, row: [i128; 2]) -> Result<RegionError, Fail> {
-    let rows = [IntVec::from_slice(alloc, &row)?];
-    match region_of(alloc, 2, &rows) {
-        Ok(_) => Err("refused".into()),
-        Err(error) => Ok(error),
-    }
+/// The region of two variables that the row (a, b) cuts out.
+fn cut_by(alloc: Global, a: i64, b: i64) -> Result<Region, RegionError> {
+    let row = IntVec::from_slice(alloc, &[i128::from(a), i128::from(b)])?;
+    region_of(alloc, 2, &[row])
 }
 
 #[test]
 fn roots_by_hand(rt: HostRuntime) -> Result<(), Fail> {
     // The rays are (1, 0) and (1, 1); (0, 1) and (2, 3); (1, 0) and (2^63 - 2, 1).
-    assert!(rt; has_root(rt.alloc(), [1, -1], &[2, 1])?);
-    assert!(rt; has_root(rt.alloc(), [-3, 2], &[2, 4])?);
-    assert!(rt;
-        has_root(
-            rt.alloc(),
-            [1, -9223372036854775806],
-            &[9223372036854775807, 1]
-        )?
-    );
+    let plain = cut_by(rt.alloc(), 1, -1);
+    assert!(rt; matches!(&plain, Ok(region) if is(region.root(), &[2, 1])));
+    let steep = cut_by(rt.alloc(), -3, 2);
+    assert!(rt; matches!(&steep, Ok(region) if is(region.root(), &[2, 4])));
+    let wide = cut_by(rt.alloc(), 1, -9223372036854775806);
+    assert!(rt; matches!(&wide, Ok(region) if is(region.root(), &[9223372036854775807, 1])));
     let all = region_of(rt.alloc(), 2, &[]);
-    assert!(rt; matches!(all, Ok(region) if is(region.root(), &[1, 1])));
+    assert!(rt; matches!(&all, Ok(region) if is(region.root(), &[1, 1])));
     Ok(())
 }
 
 #[test]
 fn no_region(rt: HostRuntime) -> Result<(), Fail> {
-    let empty = refused(rt.alloc(), [-1, 0])?;
+    let empty = cut_by(rt.alloc(), -1, 0);
     assert!(rt;
-        matches!(empty, RegionError::Empty { multipliers } if is(&multipliers, &[1, 1, 0]))
+        matches!(&empty, Err(RegionError::Empty { multipliers }) if is(multipliers, &[1, 1, 0]))
     );
-    let wide = refused(rt.alloc(), [1, -9223372036854775807])?;
-    assert!(rt;
-        matches!(
-            wide,
-            RegionError::WideRoot {
-                index: 0,
-                value: 9_223_372_036_854_775_808
-            }
-        )
-    );
+    let wide = cut_by(rt.alloc(), 1, -9223372036854775807);
+    let past = 9_223_372_036_854_775_808;
+    assert!(rt; matches!(&wide, Err(RegionError::WideRoot { index: 0, value }) if *value == past));
     Ok(())
 }

@@ -1,5 +1,5 @@
 use Rattle.std.specs.Prelude.{IsNone}
-use Rattle.std.proofs.Common.{◌≡◌, ◌<◌, ◌^◌, ◌<ℤ◌, ◌∙◌, refl, [], List, ℤ, pos, All, length, arith, ap, sym, subst}
+use Rattle.std.proofs.Common.{◌^◌, ◌<ℤ◌, ◌∙◌, refl, [], List, ℤ, pos, All, length, arith, ap, sym, subst}
 use Rattle.std.proofs.lemmas.Result.{err_from_is_err_and}
 use Rattle.gf_gordan.specs.Alternative.{IsSolvable}
 use Rattle.gf_weights.proofs.RootLaws.{closed_wide, root_long, root_inside, root_small, region_is, refused_sum}
