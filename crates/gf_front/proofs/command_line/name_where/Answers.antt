@@ -7,5 +7,5 @@ use Rattle.gf_front.proofs.command_line.name_where.Goals as goal
 pub returns-in-None : goal.returns-in-None
 returns-in-None c = no_text _ c.get_str.result (c.get_str.ensures ∙ first_value-rows (found_of c.args.found.now) c.args.id.now) c.in-None.is
 
-pub returns : goal.returns
-returns c = some_text _ c.get_str.result c.in-Some.text c.in_ok-name.name (c.get_str.ensures ∙ first_value-rows (found_of c.args.found.now) c.args.id.now) c.in-Some.is c.in_ok-name.ensures
+pub returns-in_ok-name-in-Some : goal.returns-in_ok-name-in-Some
+returns-in_ok-name-in-Some c = some_text _ c.get_str.result c.in-Some.text c.in_ok-name.name (c.get_str.ensures ∙ first_value-rows (found_of c.args.found.now) c.args.id.now) c.in-Some.is c.in_ok-name.ensures
