@@ -29,4 +29,4 @@ returns-in-Generated-clause-err g c =
     on_err c.answer-in-Generated.result _ _ (λ e h. none_as (λ k us. IsRefusedOn k us e.refusal) c.args.job.now _ c.args.texts.now c.in-Generated.is c.requires.all h) c.answer-in-Generated.ensures.err
 
 pub input_answer-requires-clause-input : goal.input_answer-requires-clause-input
-input_answer-requires-clause-input g c κs within = one_source c.args.job.now c.in_default.not-FanCommonRefinement c.in_default.not-Generated
+input_answer-requires-clause-input g c κs within = one_source c.args.job.now c.requires.once c.in_default.not-FanCommonRefinement c.in_default.not-Generated
