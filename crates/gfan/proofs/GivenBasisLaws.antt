@@ -1,6 +1,6 @@
 -- The list of `_bases -g`: a marked Gröbner basis is reduced and taken up to the root; and why it isn't written.
 -- To cite: few_members, reducible, reduced_from, reduced_own, root_starts, way_from, not_reduced, root_starts_at, way_of_set; given_performed, given_stopped_root,
--- given_stopped_memory, given_stopped_list, named_root, way_in_tree; tree_work, tree_untested; given_work, root_work, reducing_only, root_within, root_past, root_tested,
+-- given_stopped_memory, given_stopped_list, named_root, root_no_limit, way_in_tree; tree_work, tree_untested; given_work, root_work, reducing_only, root_within, root_past, root_tested,
 -- root_once, given_once, given_refuses. The rest are steps.
 use Rattle.std.specs.Prelude.{◌≡◌, ◌⊎◌, ℕ, List, [], ◌∷◌, length, map, Contains, Option, Some, Err}
 use Rattle.std.specs.Io.KnownBytes.{Keeps}
@@ -166,7 +166,7 @@ tree_no_limit (tree_errors.Cone x) most q = cc
 tree_no_limit tree_errors.Memory most q = cc
 
 -- the root isn't refused at the limit
-root_no_limit : (s : MarkedPolynomials) (pairs : ℕ) (r : Refusal) → IsGivenRootRefusal s pairs r → (most : ℕ) → r ≡ refusals.ListLimit most → ⊥
+pub root_no_limit : (s : MarkedPolynomials) (pairs : ℕ) (r : Refusal) → IsGivenRootRefusal s pairs r → (most : ℕ) → r ≡ refusals.ListLimit most → ⊥
 root_no_limit s pairs r (IsGivenRootRefusal.at_check e k q) most l = check_no_limit e most (sym q ∙ l)
 root_no_limit s pairs r (IsGivenRootRefusal.at_tails t d g a k q) most l = check_no_limit (of_poly d) most (sym q ∙ l)
 root_no_limit s pairs r (IsGivenRootRefusal.on_the_way u e g f k q) most l = tree_no_limit e most (sym q ∙ l)

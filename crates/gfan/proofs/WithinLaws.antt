@@ -1,6 +1,6 @@
 -- `_bases --within`: its region, its first basis, its list; and each refusal of it is told in one way.
 -- To cite: within_exact, within_tested, given_within_exact, given_within_tested; within_performed, within_stopped, given_within_performed, given_within_stopped,
--- stopped_in_form, stopped_in_work, form_unlisted, region_unlisted, root_unlisted; root_in_starts, given_region_starts; rows_hold, no_region_stopped, no_root_stopped, within_done,
+-- stopped_in_form, stopped_in_work, form_unlisted, region_unlisted, root_unlisted, start_unlisted; no_region_named, region_told, named_start; root_in_starts, given_region_starts; rows_hold, no_region_stopped, no_root_stopped, within_done,
 -- within_cut, no_start_stopped, given_within_done, given_within_cut. The rest are steps.
 use Rattle.std.specs.Prelude.{◌≡◌, ◌⊎◌, ℕ, false, List, [], ◌∷◌, length, Option, Some, None, Err, ℤ}
 use Rattle.std.proofs.Common.{refl, sym, ap, ◌∙◌, subst, inl, inr}
@@ -41,16 +41,19 @@ use Rattle.gf_frame.proofs.WorkLaws.{nothing_but_limit}
 use Rattle.gf_frame.proofs.ReadingLaws.{one_once, more_once, of_one_text}
 use Rattle.gf_frame.proofs.SoundLaws.{IsExactCommand, IsTestedCommand}
 use Rattle.gfan.specs.declared.bases.ListOptions.{ListOptions}
-use Rattle.gfan.specs.Buchberger.{generators_of, of_basis}
+use Rattle.gfan.specs.Buchberger.{generators_of, of_basis, IsLengthRefusal}
 use Rattle.gfan.specs.Bases.{IsGoingCauseIn}
 use Rattle.gfan.specs.BasesWriting.{StartsIn, IsListWrittenIn, IsListBegunIn, IsListStoppedIn}
 use Rattle.gfan.specs.GivenBasis.{IsReducedFrom}
+use Rattle.gfan.specs.Refused.{without_names, IsNamedBy, IsOfSource}
 use Rattle.gfan.specs.Performed.{IsPerformedFor, IsBegunAs, IsStoppedFor}
 use Rattle.gfan.specs.Within.{of_region, IsNoRegion, IsRegionRootRefusal, IsCauseWithin, IsWithinRegion, IsGivenRegionRootRefusal, IsGivenStartRefusal, IsGivenCauseWithin, IsGivenWithinRegion, bases_within_command, given_within_command}
 use Rattle.gfan.proofs.BasesListLaws.{given_node, start_moved}
-use Rattle.gfan.proofs.GivenBasisLaws.{not_reduced, root_work, reducing_only, root_once, root_tested}
+use Rattle.gfan.proofs.GivenBasisLaws.{not_reduced, root_work, reducing_only, root_once, root_tested, root_no_limit, named_root}
 use Rattle.gfan.specs.ToolForms.{for_each}
 use Rattle.std.proofs.lemmas.List.Elements.{All-nil}
+use Rattle.gfan.proofs.BasisTestLaws.{basis_named_by}
+use Rattle.gfan.proofs.RefusedLaws.{of_source}
 use Rattle.gfan.proofs.PerformedLaws.{performed_on, stopped_on}
 use Rattle.gfan.proofs.ToolFormLaws.{each_check, each_joined}
 use Rattle.gfan.proofs.ReadSetLaws.{marked_kept}
@@ -271,6 +274,46 @@ region_unlisted n rows r (w, (e, h, q)) most l = region_not_listed e most (sym q
 
 pub root_unlisted : (n : ℕ) (k : Region) (fs : List Terms) (pairs : ℕ) (r : Refusal) → IsRegionRootRefusal n k fs pairs r → (most : ℕ) → r ≡ refusals.ListLimit most → ⊥
 root_unlisted n k fs pairs r (e, h, q) most l = basis_not_listed e most (sym l ∙ q)
+
+pub start_unlisted : (n : ℕ) (rows : List (List ℤ)) (s : MarkedPolynomials) (pairs : ℕ) (r : Refusal) → FirstFails (for_each n rows) r ⊎ (AreRows n rows × IsGivenStartRefusal n rows s pairs r) → (most : ℕ) → r ≡ refusals.ListLimit most → ⊥
+start_unlisted n rows s pairs r (inl f) most l = form_unlisted n rows r f most l
+start_unlisted n rows s pairs r (inr (w, IsGivenStartRefusal.at_region h)) most l = region_unlisted n rows r h most l
+start_unlisted n rows s pairs r (inr (w, IsGivenStartRefusal.at_root k i (IsGivenRegionRootRefusal.at_basis h))) most l = root_no_limit s pairs r (not_reduced s pairs r h) most l
+start_unlisted n rows s pairs r (inr (w, IsGivenStartRefusal.at_root k i (IsGivenRegionRootRefusal.at_root u g f h))) most l = root_unlisted s.variables k (polys u.items) pairs r h most l
+
+-- ---- the line of a refusal
+
+region_named_by : (names : Option (List (List ℕ))) (e : RegionError) → IsNamedBy names (of_region e)
+region_named_by names (region_errors.Empty ms) = λ lent is. tt
+region_named_by names (region_errors.WideRoot i x) = λ lent is. tt
+region_named_by names (region_errors.Cone s) = λ lent is. tt
+region_named_by names (region_errors.Wide w) = λ lent is. tt
+region_named_by names region_errors.Memory = λ lent is. tt
+
+pub no_region_named : (names : Option (List (List ℕ))) (n : ℕ) (rows : List (List ℤ)) (r : Refusal) → IsNoRegion n rows r → IsNamedBy names r
+no_region_named names n rows r (w, (e, h, q)) = subst (IsNamedBy names) (sym q) (region_named_by names e)
+
+length_named : (names : Option (List (List ℕ))) (n : ℕ) (w : List ℤ) (r : Refusal) → IsLengthRefusal n (Some w) r → IsNamedBy names r
+length_named names n w (refusals.Dimensions left right) h = λ lent is. tt
+length_named names n w _ h = absurd h
+
+rows_named : (names : Option (List (List ℕ))) (n : ℕ) (rows : List (List ℤ)) (r : Refusal) → FirstFails (for_each n rows) r → IsNamedBy names r
+rows_named names n [] r h = absurd h
+rows_named names n (w ∷ ws) r (inl h) = length_named names n w r h
+rows_named names n (w ∷ ws) r (inr (k, h)) = rows_named names n ws r h
+
+-- it is told without a ring
+pub region_told : (source : List ℕ) (n : ℕ) (rows : List (List ℤ)) (r : Refusal) → FirstFails (for_each n rows) r ⊎ IsNoRegion n rows r → IsOfSource source (without_names r)
+region_told source n rows r (inl f) = of_source source r (rows_named None n rows r f)
+region_told source n rows r (inr h) = of_source source r (no_region_named None n rows r h)
+
+-- and with the ring of the source
+pub named_start : (source : List ℕ) (ring : List (List ℕ)) (rows : List (List ℤ)) (s : MarkedPolynomials) (pairs : ℕ) (r : Refusal) → IsTextOf ring_marked_set source (ring, s) →
+    FirstFails (for_each (length ring) rows) r ⊎ (AreRows (length ring) rows × IsGivenStartRefusal (length ring) rows s pairs r) → IsNamedBy (Some ring) r
+named_start source ring rows s pairs r read (inl f) = rows_named (Some ring) (length ring) rows r f
+named_start source ring rows s pairs r read (inr (w, IsGivenStartRefusal.at_region h)) = no_region_named (Some ring) (length ring) rows r h
+named_start source ring rows s pairs r read (inr (w, IsGivenStartRefusal.at_root k i (IsGivenRegionRootRefusal.at_basis h))) = named_root source ring s pairs r read (not_reduced s pairs r h)
+named_start source ring rows s pairs r read (inr (w, IsGivenStartRefusal.at_root k i (IsGivenRegionRootRefusal.at_root u g f (e, h, q)))) = subst (IsNamedBy (Some ring)) (sym q) (basis_named_by (Some ring) e)
 
 -- ---- the first basis
 

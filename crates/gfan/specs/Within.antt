@@ -1,5 +1,5 @@
 -- `_bases --within`: the vectors of a file cut a region out of the positive weights. What is written, and why it isn't.
-use Rattle.std.specs.Prelude.{◌≡◌, ℕ, false, List, [], ◌∷◌, length, Option, ℤ}
+use Rattle.std.specs.Prelude.{◌≡◌, ◌⊎◌, ℕ, false, List, [], ◌∷◌, length, Option, ℤ}
 use Rattle.gf_exponents.specs.Orders.{gains}
 use Rattle.gf_exponents.specs.SixOrders.{MonomialOrder}
 use Rattle.gf_poly.specs.declared.error.PolyError.{PolyError}
@@ -23,7 +23,7 @@ use Rattle.gf_front.specs.declared.refusal.Refusal.TheVariants as refusals
 use Rattle.gf_items.specs.Sources.{vectors_alone, ring_set_vector, ring_marked_set}
 use Rattle.gf_frame.specs.Loading.{Origin}
 use Rattle.gf_frame.specs.Readings.{of_one, of_more}
-use Rattle.gf_frame.specs.Commands.{Writing, Command}
+use Rattle.gf_frame.specs.Commands.{Writing, Command, IsAnswerFor, IsUnanswered}
 use Rattle.gfan.specs.declared.bases.ListOptions.{ListOptions}
 use Rattle.gfan.specs.Buchberger.{generators_of, of_basis}
 use Rattle.gfan.specs.Bases.{IsTextOfBasesIn, IsFullTextIn, IsBegunWhereIn, IsGoingCauseIn, IsGoingWithin, IsGoingPastIn}
@@ -174,3 +174,28 @@ given_within_command name o = record {
   IsWithin = λ v. IsGivenWithinRegion o (length v.1.0) v.0 v.1.1;
   writing = Writing.as_it_goes (λ v text. IsFullFromBasisWithin o v.0 v.1.0 v.1.1 text) (λ v text r. IsBegunFromBasisWithin o v.0 v.1.0 v.1.1 text r);
 }
+
+-- ---- an entry of the root that is too great
+
+-- an operation of finding the region and its root leaves its limits, or memory is wanting
+abbrev pub IsUnfinished : RegionError → Type 0
+IsUnfinished (region_errors.Cone o) = Unit {0}
+IsUnfinished (region_errors.Wide w) = Unit {0}
+IsUnfinished region_errors.Memory = Unit {0}
+IsUnfinished _ = ⊥
+
+-- it is told; or finding the region doesn't come so far
+abbrev pub IsToldUnlessUnfinished : ℕ → List (List ℤ) → Refusal → Refusal → Type 0
+IsToldUnlessUnfinished n rows wide r = (r ≡ wide) ⊎ (((e : RegionError) × IsRegionRefusal n rows e × IsUnfinished e × (r ≡ of_region e)) ⊎ (r ≡ refusals.Memory))
+
+-- where vectors, each with an entry for each variable, cut out a region and an entry of its root is too great, nothing is answered, and the
+-- first such entry is told
+pub record WideRootsAreTold : Type 0 where
+  pub generators : (name : List ℕ) (o : ListOptions) (v : List (List ℤ) × (List (List ℕ) × (List Written × Option (List ℤ)))) (index : ℕ) (value : ℤ) → AreRows (length v.1.0) v.0 →
+      IsRegionRefusal (length v.1.0) v.0 (region_errors.WideRoot index value) →
+      ((text : List ℕ) → IsAnswerFor (bases_within_command name o) v text → ⊥)
+      × ((r : Refusal) → IsUnanswered (bases_within_command name o) v r → IsToldUnlessUnfinished (length v.1.0) v.0 (refusals.WideRoot index value) r)
+  pub basis : (name : List ℕ) (o : ListOptions) (v : List (List ℤ) × (List (List ℕ) × MarkedPolynomials)) (index : ℕ) (value : ℤ) → AreRows (length v.1.0) v.0 →
+      IsRegionRefusal (length v.1.0) v.0 (region_errors.WideRoot index value) →
+      ((text : List ℕ) → IsAnswerFor (given_within_command name o) v text → ⊥)
+      × ((r : Refusal) → IsUnanswered (given_within_command name o) v r → IsToldUnlessUnfinished (length v.1.0) v.0 (refusals.WideRoot index value) r)

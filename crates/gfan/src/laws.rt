@@ -5,6 +5,7 @@ ghost use Rattle.gfan.specs.Served.{WrittenListsServe};
 ghost use Rattle.gfan.specs.CertifiedBases.{CertificatesHold, RegionCertificatesHold};
 ghost use Rattle.gfan.specs.GivingWeights.{WrittenWeightsGiveBases};
 ghost use Rattle.gfan.specs.OneSummary.{SummariesAreOne};
+ghost use Rattle.gfan.specs.Within.{WideRootsAreTold};
 
 /// A basis is in the list that `_bases` writes exactly where some positive weight gives it. For each positive weight for which monomials
 /// generate the initial ideal its reduced basis is there, once; so is that for each term order; and each positive weight lies in the
@@ -59,6 +60,12 @@ pub fn regions_have_one_text()
 /// facets that a flip may cross there stand there, each with a vector of the region inside it.
 pub fn region_certificates_hold()
     ensures { RegionCertificatesHold }
+{}
+
+/// Where the vectors of the file of `_bases --within` cut out a region and an entry of its root is greater than 2^63 - 1, nothing is answered, and
+/// the first such entry is told, unless an operation of finding the root leaves its limits or memory is wanting.
+pub fn wide_roots_are_told()
+    ensures { WideRootsAreTold }
 {}
 
 /// What `_weightvector` writes are the sets that it read with their weights, or the weights alone, and each weight gives its basis: it is

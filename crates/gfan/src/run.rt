@@ -77,8 +77,10 @@ fn outcome<R: Threads + Sync, S: Source, K: Sink, F: Files, G: Gate>(
 ///   multipliers that show it; or a mark divides a term that it shouldn't, the first one; or the first pair whose S-polynomial
 ///   leaves a remainder, with that remainder. `NotAFan` exactly where the cones of such sets, or of a fan file, have no fan, at the first
 ///   pair whose meet isn't a face of both, unless numbers of the work don't fit.
-/// - `EmptyRegion` and `WideRoot` exactly where the vectors of the file of `_bases --within` cut out no region of positive weights, with multipliers
-///   that show it, or one with an entry of its root above `2^63 - 1`, the first one, unless numbers of the work before don't fit.
+/// - `EmptyRegion` exactly where the vectors of the file of `_bases --within` cut out no region of positive weights, with multipliers
+///   that show it, unless numbers of the work before don't fit.
+/// - `WideRoot` only where they cut out one with an entry of its root above `2^63 - 1`, at the first one; or at an entry past `2^63` in
+///   absolute value of a vector that `_tropicalintersection --basistest` comes to.
 /// - `Overflow`, `ExponentOverflow`, `ConeOverflow` and `WideVector` only for operands that the job may have, and that don't fit; `Overflow`
 ///   never of `_generated`, nor of `_buchberger` and `_bases` where each polynomial is a monomial or a difference of two, without numbers;
 ///   `PairBudget` only where the budget of the words is spent.
@@ -133,7 +135,7 @@ pub fn run<R: Threads + Sync, S: Source, K: Sink, E: Sink, F: Files, G: Gate>(
         → IsRefusedWith result (Refusal.ListLimit most) }
 
     // Where each polynomial is written as a monomial or as the difference of two, without numbers, no coefficient of `_buchberger` and `_bases`
-    // leaves its range, but maybe of `_bases -g` in a region; nor does one of `_generated`.
+    // leaves its range; nor does one of `_generated`.
     ensures binomials { (job : Job) (texts : List (List ℕ)) (o : Overflow) → IsJobOf (map string_bytes words.now) job
         → AreGivenTexts (command_of job)
         (seen (S.left input.old) (S.given input.old) (S.faults input.old) (F.bytes files.old) (F.left files.old)
