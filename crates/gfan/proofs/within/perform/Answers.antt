@@ -1,10 +1,20 @@
-use Rattle.std.proofs.Common.{None, length, refl, sym, ap, ◌∙◌, subst, inl, inr}
+use Rattle.std.proofs.Common.{List, None, length, refl, sym, ap, ◌∙◌, subst, inl, inr}
 use Rattle.std.proofs.lemmas.Result.{err_from_is_err_and}
-use Rattle.std.specs.Prelude.{false, [], ◌∷◌}
+use Rattle.std.specs.Prelude.{ℤ, false, [], ◌∷◌, ◌⊎◌}
+use Rattle.gf_facets.specs.Regions.{Region}
+use Rattle.gf_poly.specs.Marking.{polys}
+use Rattle.gf_text.specs.declared.written.Written.{Written}
+use Rattle.gf_weights.specs.Roots.{IsRegionOf}
+use Rattle.gf_items.specs.Checks.{FirstFails}
 use Rattle.gf_frame.specs.Seen.{output_seen}
 use Rattle.gf_frame.proofs.WorkLaws.{text_stopped}
-use Rattle.gfan.specs.Within.{bases_within_command}
-use Rattle.gfan.proofs.PerformedLaws.{without_vector}
+use Rattle.gfan.specs.Buchberger.{generators_of}
+use Rattle.gfan.specs.BasesWriting.{StartsIn}
+use Rattle.gfan.specs.ToolForms.{for_each}
+use Rattle.gfan.specs.Within.{IsNoRegion, IsRegionRootRefusal, bases_within_command}
+use Rattle.gfan.proofs.BasesListLaws.{own_start_in}
+use Rattle.gfan.proofs.PerformedLaws.{without_vector, of_unnamed, ok_with, err_with}
+use Rattle.gfan.proofs.WithinLaws.{no_region_stopped, no_root_stopped, within_done, within_cut, region_told}
 use Rattle.gfan.proofs.within.perform.Goals as goal
 
 pub returns-in_err-rows-clause-stopped : goal.returns-in_err-rows-clause-stopped
@@ -16,3 +26,18 @@ pub returns-in_err-ring-clause-stopped : goal.returns-in_err-ring-clause-stopped
 returns-in_err-ring-clause-stopped g c =
     let p = err_from_is_err_and c.from_residual-in_err-ring.result c.from_residual-in_err-ring.ensures.1 in
     rw (p.1, p.2) (λ name. text_stopped (bases_within_command name c.args.options) (c.args.file.now ∷ (c.args.source.now ∷ [])) (output_seen (g.K.Sink.held c.args.output.now) (g.K.Sink.faults c.args.output.now)) c.in_err-ring.field-0.0 (inr (c.in_ok-rows.rows.items, c.in_ok-rows.ensures.ok, c.in_err-ring.ensures.err)))
+
+pub returns-in_err-region-clause-stopped : goal.returns-in_err-region-clause-stopped
+returns-in_err-region-clause-stopped g c =
+    let r = c.in_ok-ring.field-0 in
+    let p = err_from_is_err_and c.from_residual-in_err-region.result c.from_residual-in_err-region.ensures.1 in
+    let rs = without_vector c.args.source.now r.ring r.set.items r.vector c.in_ok-ring.ensures.ok in
+    let e = c.in_err-region.field-0.0 in
+    let why = subst (λ rows. FirstFails (for_each (length r.ring) rows) e ⊎ IsNoRegion (length r.ring) rows e) c.deref.ensures.value
+    (subst (λ n. FirstFails (for_each n c.deref.result.now) e ⊎ IsNoRegion n c.deref.result.now e) c.len.ensures.value c.in_err-region.ensures.err) in
+    rw (p.1, p.2) (λ name. no_region_stopped name c.args.options c.args.file.now c.args.source.now c.in_ok-rows.rows.items r.ring r.set.items c.in_ok-rows.ensures.ok rs (g.K.Sink.held c.args.output.now) (g.K.Sink.faults c.args.output.now) e why)
+
+pub returns-in_err-region-clause-told : goal.returns-in_err-region-clause-told
+returns-in_err-region-clause-told g c =
+    let p = err_from_is_err_and c.from_residual-in_err-region.result c.from_residual-in_err-region.ensures.1 in
+    rw (p.1, p.2) (region_told c.args.source.now c.len.result c.deref.result.now c.in_err-region.field-0.0 c.in_err-region.ensures.err)
