@@ -22,7 +22,7 @@ use Rattle.gf_front.specs.declared.refusal.Refusal.TheVariants as refusals
 use Rattle.gf_items.specs.Items.{Item, IsTextOf, IsTextRefused, from}
 use Rattle.gf_items.specs.Refusals.{of_text}
 use Rattle.gf_frame.specs.Commands.{IsUnanswered, IsAnswered, IsRefusedOn}
-use Rattle.gf_items.specs.Checks.{AllHold, FirstFails}
+use Rattle.gf_items.specs.Checks.{FirstFails}
 use Rattle.gf_items.proofs.CheckLaws.{first_apart}
 use Rattle.gf_items.specs.Sources.{vectors_alone, ring_set_vector, ring_marked_set}
 use Rattle.gf_items.specs.Kinds.{a_set, a_marked_set, vector_where, vector_list}

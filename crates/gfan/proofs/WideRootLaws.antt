@@ -1,6 +1,6 @@
 -- Where an entry of the root of a region is too great, `_bases --within` tells the first such.
 -- To cite: wide_roots. The rest are steps.
-use Rattle.std.specs.Prelude.{◌≡◌, ◌⊎◌, ℕ, List, length, Option, ℤ}
+use Rattle.std.specs.Prelude.{ℕ, List, length, Option, ℤ}
 use Rattle.std.proofs.Common.{refl, sym, ap, ◌∙◌, subst, inl, inr}
 use Rattle.gf_poly.specs.Polynomial.{Terms}
 use Rattle.gf_poly.specs.Marking.{MarkedPolynomials}

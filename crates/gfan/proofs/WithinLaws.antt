@@ -42,7 +42,6 @@ use Rattle.gf_frame.proofs.ReadingLaws.{one_once, more_once, of_one_text}
 use Rattle.gf_frame.proofs.SoundLaws.{IsExactCommand, IsTestedCommand}
 use Rattle.gfan.specs.declared.bases.ListOptions.{ListOptions}
 use Rattle.gfan.specs.Buchberger.{generators_of, of_basis, IsLengthRefusal}
-use Rattle.gfan.specs.Bases.{IsGoingCauseIn}
 use Rattle.gfan.specs.BasesWriting.{StartsIn, IsListWrittenIn, IsListBegunIn, IsListStoppedIn}
 use Rattle.gfan.specs.GivenBasis.{IsReducedFrom}
 use Rattle.gfan.specs.Refused.{without_names, IsNamedBy, IsOfSource}

@@ -1,4 +1,4 @@
-use Rattle.std.proofs.Common.{ℕ, length, refl, sym, ap, subst, true, ◌∙◌}
+use Rattle.std.proofs.Common.{length, refl, sym, ap, subst, true, ◌∙◌}
 use Rattle.std.proofs.lemmas.Result.{err_from_is_err_and}
 use Rattle.gf_poly.specs.Marking.{polys}
 use Rattle.gf_reverse.proofs.ListLaws.{own}

@@ -1,4 +1,4 @@
-use Rattle.std.proofs.Common.{ap, subst}
+use Rattle.std.proofs.Common.{ap}
 use Rattle.std.proofs.lemmas.Result.{err_from_is_err_and}
 use Rattle.gfan.specs.GivenBasis.{IsGivenRootRefusal}
 use Rattle.gfan.proofs.GivenBasisLaws.{not_reduced, root_starts_at, way_of_set}

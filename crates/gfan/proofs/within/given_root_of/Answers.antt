@@ -1,4 +1,4 @@
-use Rattle.std.proofs.Common.{List, refl, ap, sym, ◌∙◌, subst}
+use Rattle.std.proofs.Common.{List, ap, ◌∙◌, subst}
 use Rattle.std.proofs.lemmas.Result.{err_from_is_err_and}
 use Rattle.gf_exponents.specs.Orders.{gains}
 use Rattle.gf_exponents.specs.SixOrders.{MonomialOrder}
@@ -9,7 +9,6 @@ use Rattle.gf_reduced.specs.declared.error.CheckError.TheVariants as check_error
 use Rattle.gfan.specs.BasesWriting.{StartsIn}
 use Rattle.gfan.specs.GivenBasis.{IsReducingRefusal}
 use Rattle.gfan.specs.Within.{IsGivenRegionRootRefusal}
-use Rattle.gfan.proofs.BasisTestLaws.{ring_of_all}
 use Rattle.gfan.proofs.WithinLaws.{root_in_starts, given_region_starts}
 use Rattle.gfan.proofs.within.given_root_of.Goals as goal
 

@@ -1,4 +1,4 @@
-use Rattle.std.proofs.Common.{length, subst, inr}
+use Rattle.std.proofs.Common.{subst, inr}
 use Rattle.std.proofs.lemmas.Result.{err_from_is_err_and}
 use Rattle.gf_gordan.specs.Alternative.{AreRows}
 use Rattle.gf_weights.specs.Roots.{IsRegionOf}

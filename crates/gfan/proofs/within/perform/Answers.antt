@@ -1,8 +1,6 @@
-use Rattle.std.proofs.Common.{List, None, length, refl, sym, ap, ◌∙◌, subst, inl, inr}
+use Rattle.std.proofs.Common.{List, length, subst, inl, inr}
 use Rattle.std.proofs.lemmas.Result.{err_from_is_err_and}
-use Rattle.std.specs.Prelude.{ℤ, false, [], ◌∷◌, ◌⊎◌}
-use Rattle.gf_facets.specs.Regions.{Region}
-use Rattle.gf_poly.specs.Marking.{polys}
+use Rattle.std.specs.Prelude.{[], ◌∷◌, ◌⊎◌}
 use Rattle.gf_text.specs.declared.written.Written.{Written}
 use Rattle.gf_weights.specs.Roots.{IsRegionOf}
 use Rattle.gf_items.specs.Checks.{FirstFails}

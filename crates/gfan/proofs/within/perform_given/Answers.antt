@@ -1,4 +1,4 @@
-use Rattle.std.proofs.Common.{List, length, sym, ap, ◌∙◌, subst, inl, inr}
+use Rattle.std.proofs.Common.{List, length, subst, inl, inr}
 use Rattle.std.proofs.lemmas.Result.{err_from_is_err_and}
 use Rattle.std.specs.Prelude.{ℤ, [], ◌∷◌, ◌⊎◌}
 use Rattle.gf_poly.specs.Marking.{polys}

@@ -1,4 +1,4 @@
-use Rattle.std.proofs.Common.{length, sym, ap, ◌∙◌, subst}
+use Rattle.std.proofs.Common.{length, sym, ◌∙◌, subst}
 use Rattle.gf_buchberger.specs.Jobs.{HaveRingVariables}
 use Rattle.gfan.specs.Buchberger.{generators_of}
 use Rattle.gfan.specs.BasesWriting.{StartsIn}
