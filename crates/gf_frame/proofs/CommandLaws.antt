@@ -70,6 +70,7 @@ pub record IsLawful (c : Command) : Type 0 where
 
 tells_itself : (r : Refusal) → TellsSame r r
 tells_itself (refusals.Inconsistent set multipliers) = refl
+tells_itself (refusals.EmptyRegion multipliers) = tt
 tells_itself _ = refl
 
 pub as_told : (r d : Refusal) → (d ≡ r) ⊎ (d ≡ refusals.Memory) → TellsSame r d ⊎ IsOfNumbers d

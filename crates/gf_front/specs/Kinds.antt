@@ -38,6 +38,7 @@ kind_of_refusal (refusals.Inconsistent set multipliers) = RefusalKind.test
 kind_of_refusal (refusals.NotAFan first second) = RefusalKind.test
 kind_of_refusal (refusals.BadRay number) = RefusalKind.test
 kind_of_refusal (refusals.BadCertificate cone) = RefusalKind.test
+kind_of_refusal (refusals.EmptyRegion multipliers) = RefusalKind.test
 kind_of_refusal (refusals.WideVector w) = RefusalKind.numbers
 kind_of_refusal (refusals.Overflow o) = RefusalKind.numbers
 kind_of_refusal (refusals.ExponentOverflow o) = RefusalKind.numbers

@@ -137,6 +137,7 @@ bases = record {
       ∷ (codes "pairs", an_amount)
       ∷ (codes "certificates", choices.Flag)
       ∷ (codes "workers", choices.Number 1 most_workers)
+      ∷ (codes "within", choices.File)
       ∷ [];
   job = λ rows. jobs.Bases (record {
     from_basis = flag_of (codes "g") rows;
@@ -144,6 +145,7 @@ bases = record {
     pairs = number_of (codes "pairs") usual_pairs rows;
     certificates = flag_of (codes "certificates") rows;
     workers = number_of (codes "workers") 1 rows;
+    within = first_of (codes "within") rows;
   });
 }
 

@@ -2,7 +2,7 @@
 //!
 //! clap reads the words by the table; what it would say of a fault is never printed.
 ghost use Rattle.std.specs.Prelude.{◌≡◌, [], IfOk, IsErrOf, map, string_bytes, codes, Some};
-ghost use Rattle.clap.specs.Words.{found_of, rows_of, one_of, kind_of};
+ghost use Rattle.clap.specs.Words.{found_of, rows_of, one_of, first_of, kind_of};
 ghost use Rattle.gf_front.specs.Table.{most_workers, flag_of, number_of, number_where, text_of, buchberger, bases, leading_terms, groebner_cone, weight_vector, to_polyhedral_fan, tropical_intersection, fan_common_refinement, generated, saturation};
 ghost use Rattle.gf_front.specs.Jobs.{renamed, HasMatch, IsJobOfMatch, IsMatched, IsJobOf, HasNumbersInRange, job_of};
 ghost use Rattle.gf_front.specs.Options.{HoldsFlag, HoldsUnsigned, HoldsNumber, HoldsText, HoldChoices, IsCommand};
@@ -108,6 +108,19 @@ fn text<'f>(found: &'f ArgMatches, id: &str) -> &'f str
     found.get_str(id).unwrap()
 }
 
+/// The name that an option has, where it is there.
+fn name_where(alloc: Global, found: &ArgMatches, id: &str) -> Result<Option<Name>, AllocError>
+    ensures { IfOk result (λ name. name ≡ first_of id.now (rows_of (found_of found.now))) }
+{
+    match found.get_str(id) {
+        None => Ok(None),
+        Some(text) => {
+            let name = Name::new(alloc, text)?;
+            Ok(Some(name))
+        }
+    }
+}
+
 /// The job of `_buchberger`.
 fn buchberger(found: &ArgMatches) -> Job
     requires { HoldChoices buchberger.options (rows_of (found_of found.now)) }
@@ -121,17 +134,18 @@ fn buchberger(found: &ArgMatches) -> Job
 }
 
 /// The job of `_bases`.
-fn bases(found: &ArgMatches) -> Job
+fn bases(alloc: Global, found: &ArgMatches) -> Result<Job, AllocError>
     requires { HoldChoices bases.options (rows_of (found_of found.now)) }
-    ensures { bases.job (rows_of (found_of found.now)) ≡ result }
+    ensures { IfOk result (λ job. bases.job (rows_of (found_of found.now)) ≡ job) }
 {
-    Job::Bases(BasesOptions {
+    Ok(Job::Bases(BasesOptions {
         from_basis: flag(found, "g"),
         limit: number_where(found, "limit"),
         pairs: number(found, "pairs", PAIRS),
         certificates: flag(found, "certificates"),
         workers: workers(found),
-    })
+        within: name_where(alloc, found, "within")?,
+    }))
 }
 
 /// The job of `_leadingterms`.
@@ -232,7 +246,7 @@ fn job_of(alloc: Global, name: &str, found: &ArgMatches) -> Result<Job, AllocErr
     }
     Ok(match name {
         "_buchberger" => buchberger(found),
-        "_bases" => bases(found),
+        "_bases" => bases(alloc, found)?,
         "_leadingterms" => leading_terms(found),
         "_groebnercone" => groebner_cone(found),
         "_weightvector" => weight_vector(found),

@@ -274,6 +274,19 @@ pub(crate) fn bad_certificate<E: Sink>(faults: &mut E, cone: u32) -> Result<(), 
     )
 }
 
+pub(crate) fn empty_region<E: Sink>(faults: &mut E, multipliers: &IntVec) -> Result<(), WriteFault>
+    ensures { Told (E.held faults.old) (E.held faults.new) (E.faults faults.old) (E.faults faults.new)
+        (message [] (Refusal.EmptyRegion multipliers.now)) result }
+{
+    write_pieces(
+        faults,
+        &[
+            Piece::Text("E26 no region: multipliers "),
+            Piece::Vector(multipliers),
+        ],
+    )
+}
+
 pub(crate) fn wide_root<E: Sink>(faults: &mut E, index: u64, value: i128) -> Result<(), WriteFault>
     ensures { Told (E.held faults.old) (E.held faults.new) (E.faults faults.old) (E.faults faults.new)
         (message [] (Refusal.WideRoot index value)) result }

@@ -13,7 +13,7 @@ pub struct BuchbergerOptions {
 }
 
 /// The options of `_bases`.
-#[derive(Clone, Copy, Debug, PartialEq, Eq)]
+#[derive(Debug, Drop, PartialEq, Eq)]
 pub struct BasesOptions {
     /// `-g`: the set is a marked Gröbner basis.
     pub from_basis: bool,
@@ -25,6 +25,9 @@ pub struct BasesOptions {
     pub certificates: bool,
     /// `--workers N`: how many workers list them.
     pub workers: u32,
+    /// `--within FILE`: the file of the vectors that are positive on each weight of the region; without it the region is that of all
+    /// positive weights.
+    pub within: Option<Name>,
 }
 
 /// The option of `_leadingterms`.

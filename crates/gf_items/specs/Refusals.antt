@@ -60,11 +60,14 @@ IsOfTest (refusals.Inconsistent set multipliers) = Unit {0}
 IsOfTest (refusals.NotAFan first second) = Unit {0}
 IsOfTest (refusals.BadRay number) = Unit {0}
 IsOfTest (refusals.BadCertificate cone) = Unit {0}
+IsOfTest (refusals.EmptyRegion multipliers) = Unit {0}
 IsOfTest _ = ⊥
 
--- the second is the first; or both say that no positive weight gives the marking of a set, which different multipliers may show
+-- the second is the first; or both say that no positive weight gives the marking of a set, or that a region is empty, which different
+-- multipliers may show
 abbrev pub TellsSame : Refusal → Refusal → Type 0
 TellsSame (refusals.Inconsistent set multipliers) (refusals.Inconsistent same others) = same ≡ set
+TellsSame (refusals.EmptyRegion multipliers) (refusals.EmptyRegion others) = Unit {0}
 TellsSame r d = d ≡ r
 
 -- it comes of the work on what is read
@@ -81,6 +84,7 @@ IsOfWork (refusals.Inconsistent set multipliers) = Unit {0}
 IsOfWork (refusals.NotAFan first second) = Unit {0}
 IsOfWork (refusals.BadRay number) = Unit {0}
 IsOfWork (refusals.BadCertificate cone) = Unit {0}
+IsOfWork (refusals.EmptyRegion multipliers) = Unit {0}
 IsOfWork (refusals.ListLimit written) = Unit {0}
 IsOfWork refusals.Memory = Unit {0}
 IsOfWork _ = ⊥

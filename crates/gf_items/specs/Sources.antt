@@ -33,6 +33,10 @@ ring_marked_set = ring_and a_marked_set []
 abbrev pub ring_marked_sets : Item (List (List ℕ) × List MarkedPolynomials)
 ring_marked_sets = ring_and marked_set_list []
 
+-- a list of vectors
+abbrev pub vectors_alone : Item (List (List ℤ))
+vectors_alone = items_from vector_list []
+
 -- a dimension, and two lists of vectors
 abbrev pub dimension_two_lists : Item (ℕ × (List (List ℤ) × List (List ℤ)))
 dimension_two_lists = items_from dimension (vector_list ∷ vector_list ∷ [])

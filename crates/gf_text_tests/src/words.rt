@@ -87,6 +87,7 @@ fn a_list_has_a_limit_and_workers(rt: HostRuntime) -> Result<(), Fail> {
             pairs,
             certificates: false,
             workers,
+            within: None,
         });
         assert!(rt; job == Ok(bases), "{line}");
     }
@@ -101,9 +102,31 @@ fn a_list_has_certificates(rt: HostRuntime) -> Result<(), Fail> {
         pairs: 7,
         certificates: true,
         workers: 1,
+        within: None,
     });
     let job = answered(rt.alloc(), "_bases --certificates --pairs 7 -g")?;
     assert!(rt; job == Ok(certified));
+    Ok(())
+}
+
+/// The name of the file of a list's region.
+fn region_file(job: &Result<Job, WordsError>) -> Option<&str> {
+    match job {
+        Ok(Job::Bases(asked)) => asked.within.as_ref().map(|name| name.as_str()),
+        _ => None,
+    }
+}
+
+#[test]
+fn a_list_has_a_region(rt: HostRuntime) -> Result<(), Fail> {
+    for (line, file) in [
+        ("_bases --within A", Some("A")),
+        ("_bases --within=a/b -g", Some("a/b")),
+        ("_bases -g", None),
+    ] {
+        let job = answered(rt.alloc(), line)?;
+        assert!(rt; region_file(&job) == file, "{line}");
+    }
     Ok(())
 }
 
@@ -318,7 +341,6 @@ fn other_words_are_usage(rt: HostRuntime) -> Result<(), Fail> {
         "_buchberger help",
         // Commands and options that are to come.
         "_bases -g -g",
-        "_bases --within FILE",
         "_groebnercone --certificates --certificates",
         "_groebnercone -m",
         "_tropicalintersection --basistest --basistest",
@@ -331,6 +353,8 @@ fn other_words_are_usage(rt: HostRuntime) -> Result<(), Fail> {
         "_generated 1 2",
         "_buchberger --limit 3",
         // A file is missing, or there is one too many.
+        "_bases --within",
+        "_bases --within A --within B",
         "_fancommonrefinement",
         "_fancommonrefinement -i1 A",
         "_fancommonrefinement --i2 B",

@@ -23,9 +23,10 @@ use Rattle.gf_facets.specs.Regions.{Region, all_positive}
 use Rattle.gf_facets.specs.LexPositive.{IsBefore}
 use Rattle.gf_reverse.specs.Upward.{IsNode, IsNodeIn, IsParent, fan_of}
 use Rattle.gf_reverse.proofs.TreeLaws.{SameFan, count, upward_finite, node_moved, own_fan, back_fan}
+use Rattle.gf_reverse.proofs.ListLaws.{own}
 use Rattle.gf_tree.specs.declared.error.TreeError.{TreeError}
 use Rattle.gf_tree.specs.declared.error.TreeError.TheVariants as tree_errors
-use Rattle.gf_tree.specs.Ideals.{ideal_by}
+use Rattle.gf_tree.specs.Ideals.{ideal_within}
 use Rattle.gf_subtree.specs.Rows.{Row, ideal_in, AreLeftIn, first_row}
 use Rattle.gf_subtree.specs.Answers.{IsNextRow, IsRowEnd, IsRefusedEarly}
 use Rattle.gf_subtree.proofs.BasisRowLaws.{start_leaves, early_moved}
@@ -37,14 +38,14 @@ use Rattle.gfan.specs.declared.bases.ListOptions.{ListOptions}
 use Rattle.gfan.specs.declared.bases.Room.{Room}
 use Rattle.gfan.specs.declared.bases.Room.TheVariants.{Endless, Limited}
 use Rattle.gfan.specs.Buchberger.{generators_of, of_basis}
-use Rattle.gfan.specs.BasesList.{AreAllBases}
-use Rattle.gfan.specs.Certificates.{IsItemText, IsItemRefusal, of_weight_error}
-use Rattle.gfan.specs.Bases.{AreItemTexts, IsWithinLimit, IsBegunList, IsBegunText, IsFullText, list_text, begun_text, of_tree, IsSearchRefused, IsGoingCause, IsListCause, bases_command}
-use Rattle.gfan.specs.BasesWriting.{basis_piece, IsBasisWritten, IsUnwritten, IsBasisUnwritten, HasRoomFor, IsOneLess, IsFull, IsFirstBasis, IsRootRefusal, IsListWritten, IsListStopped, IsUnnamed, is_none_of, IsUnderWay}
+use Rattle.gfan.specs.BasesList.{AreAllBasesIn}
+use Rattle.gfan.specs.Certificates.{IsItemTextIn, IsItemRefusalIn, of_weight_error}
+use Rattle.gfan.specs.Bases.{AreItemTextsIn, IsWithinLimit, IsBegunListIn, IsBegunTextIn, IsFullTextIn, list_text, begun_text, of_tree, IsSearchRefusedIn, IsGoingCauseIn, IsListCause, bases_command}
+use Rattle.gfan.specs.BasesWriting.{basis_piece, IsBasisWritten, IsUnwritten, IsBasisUnwritten, HasRoomFor, IsOneLess, IsFull, IsRootRefusal, StartsIn, IsListWrittenIn, IsListStoppedIn, IsUnnamed, is_none_of, IsUnderWay}
 use Rattle.gfan.specs.Refused.{without_names}
 use Rattle.gfan.specs.Performed.{IsStoppedFor}
 use Rattle.gfan.proofs.BuchbergerLaws.{in_ring}
-use Rattle.gfan.proofs.BasesListLaws.{among_left, among_right, first_node, first_own, all_bases_from}
+use Rattle.gfan.proofs.BasesListLaws.{among_left, among_right, all_bases_in}
 use Rattle.gfan.proofs.CertificateLaws.{AllZip-append, items_exist}
 use Rattle.gfan.proofs.BasesTextLaws.{begun_next, whole_begun, prefix_on, prefix_piece, prefix_begun}
 
@@ -94,18 +95,18 @@ cut_behind (x ∷ xs) (suc k) l =
     let c = cut_behind xs k (omega arith) in
     record { front = x ∷ c.front; next = c.next; rest = c.rest; whole = ap (λ l. x ∷ l) c.whole; just = ap suc c.just }
 
-module _ (o : ListOptions) (ring : List (List ℕ)) (fs : List Terms) where
+module _ (o : ListOptions) (ring : List (List ℕ)) (j : Region) (fs : List Terms) where
   -- before the first basis
-  pub starts : (alloc : Global) (workers : ℕ) (root : MarkedPolynomials) (room : Room) (held : Option (List ℕ)) → AreInVariables (length ring) fs → IsFirstBasis (length ring) fs root → HasRoomFor o.limit room [] →
-      IsUnderWay o ring fs (first_row alloc root (all_positive (length ring)) workers o.pairs) room true held held
-  starts alloc workers root room held v first h = record {
+  pub starts : (alloc : Global) (workers : ℕ) (root : MarkedPolynomials) (room : Room) (held : Option (List ℕ)) → StartsIn (length ring) j fs root → HasRoomFor o.limit room [] →
+      IsUnderWay o ring j fs (first_row alloc root j workers o.pairs) room true held held
+  starts alloc workers root room held first h = record {
     written = [];
     items = [];
     are_items = tt;
     rest = finite.nodes;
-    are_all = all_bases_from (length ring) fs root finite.nodes v first.variables first.reduced first.arranged finite.leaves;
-    left = start_leaves alloc root (all_positive (length ring)) workers o.pairs mine finite.nodes finite.leaves;
-    basis = node;
+    are_all = all_bases_in (length ring) j fs root finite.nodes first finite.leaves;
+    left = start_leaves alloc root j workers o.pairs mine finite.nodes finite.leaves;
+    basis = first.node;
     pairs = refl;
     region = refl;
     fits = h;
@@ -113,72 +114,69 @@ module _ (o : ListOptions) (ring : List (List ℕ)) (fs : List Terms) where
     gained = Appends-nil held;
   }
     where
-      node : IsNodeIn (ideal_by (length ring) fs) root
-      node = first_node (length ring) fs root v first.variables first.reduced first.arranged
+      mine : IsNode j root
+      mine = own j (ideal_within (length ring) fs j) root refl first.node
 
-      mine : IsNode (all_positive (length ring)) root
-      mine = first_own (length ring) fs root node
+      finite : IsFinite IsBefore (IsParent j) root (count j root)
+      finite = upward_finite j root mine
 
-      finite : IsFinite IsBefore (IsParent (all_positive (length ring))) root (count (all_positive (length ring)) root)
-      finite = upward_finite (all_positive (length ring)) root mine
-
-  module _ (row : Row) (room : Room) (is_first : Bool) (held holds : Option (List ℕ)) (way : IsUnderWay o ring fs row room is_first held holds) where
+  module _ (row : Row) (room : Room) (is_first : Bool) (held holds : Option (List ℕ)) (way : IsUnderWay o ring j fs row room is_first held holds) where
     -- the ideal of the row is the one that is read
-    same_fan : SameFan (ideal_in row) (ideal_by (length ring) fs)
-    same_fan = subst (λ (k : Region). SameFan (fan_of k row.start) (ideal_by (length ring) fs)) (sym way.region) (back_fan (ideal_by (length ring) fs) (fan_of (all_positive (length ring)) row.start) (own_fan (ideal_by (length ring) fs) row.start way.basis))
+    same_fan : SameFan (ideal_in row) (ideal_within (length ring) fs j)
+    same_fan = subst (λ (k : Region). SameFan (fan_of k row.start) (ideal_within (length ring) fs j)) (sym way.region) (back_fan (ideal_within (length ring) fs j) (fan_of j row.start) (own_fan (ideal_within (length ring) fs j) row.start way.basis))
 
-    from_row : (x : MarkedPolynomials) → IsNodeIn (ideal_in row) x → IsNodeIn (ideal_by (length ring) fs) x
-    from_row x h = node_moved (ideal_in row) (ideal_by (length ring) fs) x same_fan h
+    from_row : (x : MarkedPolynomials) → IsNodeIn (ideal_in row) x → IsNodeIn (ideal_within (length ring) fs j) x
+    from_row x h = node_moved (ideal_in row) (ideal_within (length ring) fs j) x same_fan h
 
     -- a refusal of the waves comes of a call at a basis of that ideal, one that is written or the next one
-    tree_cause : (e : TreeError) → ((nodes : List MarkedPolynomials) → AreLeftIn row nodes → IsRefusedEarly (ideal_in row) row.pairs nodes e) → IsSearchRefused o (length ring) fs e
+    tree_cause : (e : TreeError) → ((nodes : List MarkedPolynomials) → AreLeftIn row nodes → IsRefusedEarly (ideal_in row) row.pairs nodes e) → IsSearchRefusedIn o (length ring) j fs e
     tree_cause e h = record {
       written = way.written;
       rest = way.rest;
       are_all = way.are_all;
       few = room_within o.limit room way.written way.fits;
-      early = subst (λ p. IsRefusedEarly (ideal_by (length ring) fs) p way.rest e) way.pairs (early_moved (ideal_in row) (ideal_by (length ring) fs) row.pairs way.rest e same_fan (h way.rest way.left));
+      early = subst (λ p. IsRefusedEarly (ideal_within (length ring) fs j) p way.rest e) way.pairs (early_moved (ideal_in row) (ideal_within (length ring) fs j) row.pairs way.rest e same_fan (h way.rest way.left));
     }
 
     -- what is written until now
-    begun_here : (rest : List MarkedPolynomials) → way.rest ≡ rest → IsBegunList o.certified ring fs way.written rest (begun_text ring way.items)
+    begun_here : (rest : List MarkedPolynomials) → way.rest ≡ rest → IsBegunListIn o.certified ring j fs way.written rest (begun_text ring way.items)
     begun_here rest e = record {
-      are_all = subst (λ l. AreAllBases (length ring) fs (way.written ++ l)) e way.are_all;
+      are_all = subst (λ l. AreAllBasesIn (length ring) j fs (way.written ++ l)) e way.are_all;
       items = way.items;
       are_items = way.are_items;
       is_text = refl;
     }
 
-    begun_now : IsBegunText o ring fs (begun_text ring way.items)
+    begun_now : IsBegunTextIn o ring j fs (begun_text ring way.items)
     begun_now = (way.written, way.rest, begun_here way.rest refl, room_within o.limit room way.written way.fits)
 
     module _ (new : Row) (b : MarkedPolynomials) (step : IsNextRow row new b) where
       next : (rest : List MarkedPolynomials) × (way.rest ≡ b ∷ rest) × AreLeftIn new rest
       next = step.first way.rest way.left
 
-      all_next : AreAllBases (length ring) fs (way.written ++ b ∷ next.0)
-      all_next = subst (λ l. AreAllBases (length ring) fs (way.written ++ l)) next.1 way.are_all
+      all_next : AreAllBasesIn (length ring) j fs (way.written ++ b ∷ next.0)
+      all_next = subst (λ l. AreAllBasesIn (length ring) j fs (way.written ++ l)) next.1 way.are_all
 
       -- a basis is of the variables of the ring
       pub step_variables : b.variables ≡ length ring
       step_variables = (from_row b step.basis).variables
 
       -- what stands for it follows the others
-      more_items : (t : List ℕ) (rest : List MarkedPolynomials) (ts : List (List ℕ)) → IsItemText o.certified ring b t → AreItemTexts o.certified ring rest ts →
-          AreItemTexts o.certified ring (way.written ++ b ∷ rest) (way.items ++ t ∷ ts)
-      more_items t rest ts i r = AllZip-append (IsItemText o.certified ring) way.written (b ∷ rest) way.items (t ∷ ts) way.are_items (i, r)
+      more_items : (t : List ℕ) (rest : List MarkedPolynomials) (ts : List (List ℕ)) → IsItemTextIn o.certified ring j b t → AreItemTextsIn o.certified ring j rest ts →
+          AreItemTextsIn o.certified ring j (way.written ++ b ∷ rest) (way.items ++ t ∷ ts)
+      more_items t rest ts i r = AllZip-append (IsItemTextIn o.certified ring j) way.written (b ∷ rest) way.items (t ∷ ts) way.are_items (i, r)
 
-      all_with : AreAllBases (length ring) fs ((way.written ++ b ∷ []) ++ next.0)
-      all_with = subst (AreAllBases (length ring) fs) (sym (append_assoc way.written (b ∷ []) next.0)) all_next
+      all_with : AreAllBasesIn (length ring) j fs ((way.written ++ b ∷ []) ++ next.0)
+      all_with = subst (AreAllBasesIn (length ring) j fs) (sym (append_assoc way.written (b ∷ []) next.0)) all_next
 
       -- one more basis is written
-      pub goes_on : (after : Room) (then : Option (List ℕ)) → IsOneLess room after → IsBasisWritten o.certified ring is_first b holds then → IsUnderWay o ring fs new after false held then
+      pub goes_on : (after : Room) (then : Option (List ℕ)) → IsOneLess room after → IsBasisWritten o.certified ring j is_first b holds then → IsUnderWay o ring j fs new after false held then
       goes_on after then less (piece, p, gained) = record {
         written = way.written ++ b ∷ [];
         rest = next.0;
         are_all = all_with;
         left = next.2;
-        basis = subst (IsNodeIn (ideal_by (length ring) fs)) (sym step.same.start) way.basis;
+        basis = subst (IsNodeIn (ideal_within (length ring) fs j)) (sym step.same.start) way.basis;
         pairs = step.same.pairs ∙ way.pairs;
         region = step.same.region ∙ way.region;
         fits = room_next o.limit room after way.written b way.fits less;
@@ -194,12 +192,12 @@ module _ (o : ListOptions) (ring : List (List ℕ)) (fs : List Terms) where
           none (t ∷ ts) = refl
 
       -- there is no room for it
-      pub stopped_limit : (n m : ℕ) (r : Refusal) → IsFull room r → IsListStopped o ring fs held holds n m r
+      pub stopped_limit : (n m : ℕ) (r : Refusal) → IsFull room r → IsListStoppedIn o ring j fs held holds n m r
       stopped_limit n m r f = at (room_full o.limit room way.written r way.fits f)
         where
-          at : IsAtLimit o.limit way.written r → IsListStopped o ring fs held holds n m r
-          at l = subst (λ z. IsListStopped o ring fs held holds n m z) (sym l.told) (
-            IsGoingCause.at_limit l.most (record {
+          at : IsAtLimit o.limit way.written r → IsListStoppedIn o ring j fs held holds n m r
+          at l = subst (λ z. IsListStoppedIn o ring j fs held holds n m z) (sym l.told) (
+            IsGoingCauseIn.at_limit l.most (record {
               is_limit = l.is_limit;
               list = way.written ++ b ∷ next.0;
               are_all = all_next;
@@ -220,17 +218,17 @@ module _ (o : ListOptions) (ring : List (List ℕ)) (fs : List Terms) where
           )
 
       -- its piece isn't made: there is no memory, or its certificates are refused
-      stopped_unmade : (after : Room) (n m : ℕ) (r : Refusal) → IsOneLess room after → IsItemRefusal o.certified b r → IsListStopped o ring fs held holds n m r
+      stopped_unmade : (after : Room) (n m : ℕ) (r : Refusal) → IsOneLess room after → IsItemRefusalIn o.certified j b r → IsListStoppedIn o ring j fs held holds n m r
       stopped_unmade after n m r less h = at o.certified r refl h
         where
-          told : (e : WeightError) → IsGoingCause o (length ring) fs (of_weight_error e) → IsListStopped o ring fs held holds n m (of_weight_error e)
+          told : (e : WeightError) → IsGoingCauseIn o (length ring) j fs (of_weight_error e) → IsListStoppedIn o ring j fs held holds n m (of_weight_error e)
           told (weight_errors.Cone x) c = (inl c, inr (begun_text ring way.items, (tt, inl c, begun_now), way.gained))
           told (weight_errors.Wide x) c = (inl c, inr (begun_text ring way.items, (tt, inl c, begun_now), way.gained))
           told weight_errors.Memory c = (inl c, inr (begun_text ring way.items, (tt, inl c, begun_now), way.gained))
 
-          at : (k : Bool) (r : Refusal) → o.certified ≡ k → IsItemRefusal k b r → IsListStopped o ring fs held holds n m r
-          at false r e q = subst (IsListStopped o ring fs held holds n m) (sym q) (inr refl, inr (begun_text ring way.items, (tt, inr refl, begun_now), way.gained))
-          at true r e (w, u, q) = subst (IsListStopped o ring fs held holds n m) (sym q) (told w (IsGoingCause.at_certificates (record {
+          at : (k : Bool) (r : Refusal) → o.certified ≡ k → IsItemRefusalIn k j b r → IsListStoppedIn o ring j fs held holds n m r
+          at false r e q = subst (IsListStoppedIn o ring j fs held holds n m) (sym q) (inr refl, inr (begun_text ring way.items, (tt, inr refl, begun_now), way.gained))
+          at true r e (w, u, q) = subst (IsListStoppedIn o ring j fs held holds n m) (sym q) (told w (IsGoingCauseIn.at_certificates (record {
             certified = e;
             written = way.written;
             basis = b;
@@ -241,15 +239,15 @@ module _ (o : ListOptions) (ring : List (List ℕ)) (fs : List Terms) where
           })))
 
       -- what stands for the bases behind it
-      later : (ts : List (List ℕ)) × AreItemTexts o.certified ring next.0 ts
-      later = items_exist o.certified (length ring) ring fs next.0 (λ x j. all_next.only x (among_right way.written (b ∷ next.0) x (inr j)))
+      later : (ts : List (List ℕ)) × AreItemTextsIn o.certified ring j next.0 ts
+      later = items_exist o.certified (length ring) ring j fs next.0 (λ x k. all_next.only x (among_right way.written (b ∷ next.0) x (inr k)))
 
       -- a prefix of it is written: of the text of the whole list, where that isn't longer than the limit
-      cut_whole : (then : Option (List ℕ)) (t : List ℕ) → IsItemText o.certified ring b t → AppendsPrefix holds then (basis_piece ring (is_none_of way.items) t) →
-          IsWithinLimit o.limit (way.written ++ b ∷ next.0) → (text : List ℕ) × IsFullText o ring fs text × AppendsPrefix held then text
+      cut_whole : (then : Option (List ℕ)) (t : List ℕ) → IsItemTextIn o.certified ring j b t → AppendsPrefix holds then (basis_piece ring (is_none_of way.items) t) →
+          IsWithinLimit o.limit (way.written ++ b ∷ next.0) → (text : List ℕ) × IsFullTextIn o ring j fs text × AppendsPrefix held then text
       cut_whole then t i p few = (
         list_text ring (way.items ++ t ∷ later.0),
-        IsFullText.to_its_end (record {
+        IsFullTextIn.to_its_end (record {
           list = way.written ++ b ∷ next.0;
           are_all = all_next;
           few = few;
@@ -261,17 +259,17 @@ module _ (o : ListOptions) (ring : List (List ℕ)) (fs : List Terms) where
       )
 
       -- or of its beginning with as many bases as the limit lets through
-      cut_limited : (then : Option (List ℕ)) (t : List ℕ) (most k : ℕ) → IsItemText o.certified ring b t → AppendsPrefix holds then (basis_piece ring (is_none_of way.items) t) →
-          o.limit ≡ Some most → length way.written + suc k ≡ most → IsCutBehind next.0 k → (text : List ℕ) × IsFullText o ring fs text × AppendsPrefix held then text
+      cut_limited : (then : Option (List ℕ)) (t : List ℕ) (most k : ℕ) → IsItemTextIn o.certified ring j b t → AppendsPrefix holds then (basis_piece ring (is_none_of way.items) t) →
+          o.limit ≡ Some most → length way.written + suc k ≡ most → IsCutBehind next.0 k → (text : List ℕ) × IsFullTextIn o ring j fs text × AppendsPrefix held then text
       cut_limited then t most k i p is_limit room c = (
         begun_text ring (way.items ++ t ∷ behind.0),
-        IsFullText.to_the_limit most (record {
+        IsFullTextIn.to_the_limit most (record {
           is_limit = is_limit;
           written = way.written ++ b ∷ c.front;
           next = c.next;
           rest = c.rest;
           begun = record {
-            are_all = subst (AreAllBases (length ring) fs) (ap (λ l. way.written ++ b ∷ l) c.whole ∙ sym (append_assoc way.written (b ∷ c.front) (c.next ∷ c.rest))) all_next;
+            are_all = subst (AreAllBasesIn (length ring) j fs) (ap (λ l. way.written ++ b ∷ l) c.whole ∙ sym (append_assoc way.written (b ∷ c.front) (c.next ∷ c.rest))) all_next;
             items = way.items ++ t ∷ behind.0;
             are_items = more_items t c.front behind.0 i behind.1;
             is_text = refl;
@@ -281,15 +279,15 @@ module _ (o : ListOptions) (ring : List (List ℕ)) (fs : List Terms) where
         prefix_begun ring way.items behind.0 t held holds then way.gained p,
       )
         where
-          behind : (ts : List (List ℕ)) × AreItemTexts o.certified ring c.front ts
-          behind = items_exist o.certified (length ring) ring fs c.front
-              (λ x j. all_next.only x (among_right way.written (b ∷ next.0) x (inr (subst (λ l. Among l x) (sym c.whole) (among_left c.front (c.next ∷ c.rest) x j)))))
+          behind : (ts : List (List ℕ)) × AreItemTextsIn o.certified ring j c.front ts
+          behind = items_exist o.certified (length ring) ring j fs c.front
+              (λ x k. all_next.only x (among_right way.written (b ∷ next.0) x (inr (subst (λ l. Among l x) (sym c.whole) (among_left c.front (c.next ∷ c.rest) x k)))))
 
-      cut_prefix : (after : Room) (then : Option (List ℕ)) (t : List ℕ) → IsOneLess room after → IsItemText o.certified ring b t → AppendsPrefix holds then (basis_piece ring (is_none_of way.items) t) →
-          (text : List ℕ) × IsFullText o ring fs text × AppendsPrefix held then text
+      cut_prefix : (after : Room) (then : Option (List ℕ)) (t : List ℕ) → IsOneLess room after → IsItemTextIn o.certified ring j b t → AppendsPrefix holds then (basis_piece ring (is_none_of way.items) t) →
+          (text : List ℕ) × IsFullTextIn o ring j fs text × AppendsPrefix held then text
       cut_prefix after then t less i p = at o.limit refl room after way.fits less
         where
-          at : (limit : Option ℕ) → o.limit ≡ limit → (room after : Room) → HasRoomFor limit room way.written → IsOneLess room after → (text : List ℕ) × IsFullText o ring fs text × AppendsPrefix held then text
+          at : (limit : Option ℕ) → o.limit ≡ limit → (room after : Room) → HasRoomFor limit room way.written → IsOneLess room after → (text : List ℕ) × IsFullTextIn o ring j fs text × AppendsPrefix held then text
           at None e room after h l = cut_whole then t i p (subst (λ x. IsWithinLimit x (way.written ++ b ∷ next.0)) (sym e) tt)
           at (Some most) e Endless after h l = absurd h
           at (Some most) e (Limited limit left) Endless h l = absurd l
@@ -299,20 +297,20 @@ module _ (o : ListOptions) (ring : List (List ℕ)) (fs : List Terms) where
           ]
 
       -- its piece isn't made, or isn't written whole
-      pub stopped_piece : (after : Room) (then : Option (List ℕ)) (n m : ℕ) (r : Refusal) → IsOneLess room after → IsBasisUnwritten o.certified ring is_first b holds then n m r → IsListStopped o ring fs held then n m r
-      stopped_piece after then n m r less (IsBasisUnwritten.unmade same calm h) = subst (λ z. IsListStopped o ring fs held z n m r) (sym same) (stopped_unmade after n m r less h)
+      pub stopped_piece : (after : Room) (then : Option (List ℕ)) (n m : ℕ) (r : Refusal) → IsOneLess room after → IsBasisUnwritten o.certified ring j is_first b holds then n m r → IsListStoppedIn o ring j fs held then n m r
+      stopped_piece after then n m r less (IsBasisUnwritten.unmade same calm h) = subst (λ z. IsListStoppedIn o ring j fs held z n m r) (sym same) (stopped_unmade after n m r less h)
       stopped_piece after then n m r less (IsBasisUnwritten.cut piece p u) = at r u
         where
-          at : (r : Refusal) → IsUnwritten holds then n m piece r → IsListStopped o ring fs held then n m r
+          at : (r : Refusal) → IsUnwritten holds then n m piece r → IsListStoppedIn o ring j fs held then n m r
           at refusals.WriteFault u = (u.0, cut_prefix after then p.item less p.is_item (subst (λ f. AppendsPrefix holds then (basis_piece ring f p.item)) way.first (subst (AppendsPrefix holds then) p.is_piece u.1)))
           at refusals.Memory u = (inr refl, inr (begun_text ring way.items, (tt, inr refl, begun_now), Appends-kept held holds then (begun_text ring way.items) way.gained u.0))
           at _ u = absurd u
 
     -- the next basis is refused
-    pub stopped_tree : (n m : ℕ) (e : TreeError) → ((nodes : List MarkedPolynomials) → AreLeftIn row nodes → IsRefusedEarly (ideal_in row) row.pairs nodes e) → IsListStopped o ring fs held holds n m (of_tree e)
-    stopped_tree n m e h = at e (IsGoingCause.in_tree e (tree_cause e h) refl)
+    pub stopped_tree : (n m : ℕ) (e : TreeError) → ((nodes : List MarkedPolynomials) → AreLeftIn row nodes → IsRefusedEarly (ideal_in row) row.pairs nodes e) → IsListStoppedIn o ring j fs held holds n m (of_tree e)
+    stopped_tree n m e h = at e (IsGoingCauseIn.in_tree e (tree_cause e h) refl)
       where
-        at : (e : TreeError) → IsGoingCause o (length ring) fs (of_tree e) → IsListStopped o ring fs held holds n m (of_tree e)
+        at : (e : TreeError) → IsGoingCauseIn o (length ring) j fs (of_tree e) → IsListStoppedIn o ring j fs held holds n m (of_tree e)
         at (tree_errors.Overflow x) c = (inl c, inr (begun_text ring way.items, (tt, inl c, begun_now), way.gained))
         at (tree_errors.Exponent x) c = (inl c, inr (begun_text ring way.items, (tt, inl c, begun_now), way.gained))
         at (tree_errors.PairBudget basis unsettled) c = (inl c, inr (begun_text ring way.items, (tt, inl c, begun_now), way.gained))
@@ -321,18 +319,18 @@ module _ (o : ListOptions) (ring : List (List ℕ)) (fs : List Terms) where
 
     -- nothing is left: all bases are written
     module _ (new : Row) (end : IsRowEnd row new) where
-      all_written : AreAllBases (length ring) fs way.written
-      all_written = subst (AreAllBases (length ring) fs) (ap (λ l. way.written ++ l) (end.none way.rest way.left) ∙ append-nil way.written) way.are_all
+      all_written : AreAllBasesIn (length ring) j fs way.written
+      all_written = subst (AreAllBasesIn (length ring) j fs) (ap (λ l. way.written ++ l) (end.none way.rest way.left) ∙ append-nil way.written) way.are_all
 
       whole : list_text ring way.items ≡ begun_text ring way.items ++ 125 ∷ 10 ∷ []
       whole = at way.written way.items all_written way.are_items
         where
-          at : (ws : List MarkedPolynomials) (ts : List (List ℕ)) → AreAllBases (length ring) fs ws → AreItemTexts o.certified ring ws ts → list_text ring ts ≡ begun_text ring ts ++ 125 ∷ 10 ∷ []
+          at : (ws : List MarkedPolynomials) (ts : List (List ℕ)) → AreAllBasesIn (length ring) j fs ws → AreItemTextsIn o.certified ring j ws ts → list_text ring ts ≡ begun_text ring ts ++ 125 ∷ 10 ∷ []
           at [] ts all z = absurd all.listed
           at (w ∷ ws) [] all z = absurd z
           at (w ∷ ws) (t ∷ ts) all z = ap (λ l. list_text ring (t ∷ l)) (sym (append-nil ts)) ∙ whole_begun ring t ts []
 
-      pub ends : (then : Option (List ℕ)) → Appends holds then (125 ∷ 10 ∷ []) → IsListWritten o ring fs held then
+      pub ends : (then : Option (List ℕ)) → Appends holds then (125 ∷ 10 ∷ []) → IsListWrittenIn o ring j fs held then
       ends then closing = (
         list_text ring way.items,
         record {
@@ -347,12 +345,12 @@ module _ (o : ListOptions) (ring : List (List ℕ)) (fs : List Terms) where
       )
 
       -- its end isn't written whole
-      pub stopped_end : (then : Option (List ℕ)) (n m : ℕ) (r : Refusal) → IsUnwritten holds then n m (125 ∷ 10 ∷ []) r → IsListStopped o ring fs held then n m r
+      pub stopped_end : (then : Option (List ℕ)) (n m : ℕ) (r : Refusal) → IsUnwritten holds then n m (125 ∷ 10 ∷ []) r → IsListStoppedIn o ring j fs held then n m r
       stopped_end then n m refusals.WriteFault u = (
         u.0,
         (
           list_text ring way.items,
-          IsFullText.to_its_end (record {
+          IsFullTextIn.to_its_end (record {
             list = way.written;
             are_all = all_written;
             few = room_within o.limit room way.written way.fits;
@@ -367,13 +365,13 @@ module _ (o : ListOptions) (ring : List (List ℕ)) (fs : List Terms) where
       stopped_end then n m _ u = absurd u
 
   -- there is no memory before anything is written
-  pub stopped_early : (held : Option (List ℕ)) (n m : ℕ) (r : Refusal) → r ≡ refusals.Memory → IsListStopped o ring fs held held n m r
-  stopped_early held n m r e = subst (λ z. IsListStopped o ring fs held held n m z) (sym e) (inr refl, inl (Keeps-refl held))
+  pub stopped_early : (held : Option (List ℕ)) (n m : ℕ) (r : Refusal) → r ≡ refusals.Memory → IsListStoppedIn o ring j fs held held n m r
+  stopped_early held n m r e = subst (λ z. IsListStoppedIn o ring j fs held held n m z) (sym e) (inr refl, inl (Keeps-refl held))
 
 -- ---- a set of generators
 
 -- the list of its ideal
-pub stopped_list : (o : ListOptions) (ring : List (List ℕ)) (set : List Written) (held holds : Option (List ℕ)) (n m : ℕ) (r : Refusal) → IsListStopped o ring (generators_of set) held holds n m r →
+pub stopped_list : (o : ListOptions) (ring : List (List ℕ)) (set : List Written) (held holds : Option (List ℕ)) (n m : ℕ) (r : Refusal) → IsListStoppedIn o ring (all_positive (length ring)) (generators_of set) held holds n m r →
     IsStoppedFor (bases_command o) (ring, (set, None)) held holds n m r
 stopped_list o ring set held holds n m refusals.WriteFault s = s
 stopped_list o ring set held holds n m (refusals.ListLimit most) s = (IsListCause.going s.0, s.1)
@@ -389,6 +387,10 @@ stopped_root o ring set held n m r (e, h, q) = subst (λ z. IsStoppedFor (bases_
     at (basis_errors.Exponent x) c = (inl c, inl (Keeps-refl held))
     at (basis_errors.PairBudget basis unsettled) c = (inl c, inl (Keeps-refl held))
     at basis_errors.Memory c = (inl c, inl (Keeps-refl held))
+
+-- there is no memory before anything is written
+pub stopped_memory : (o : ListOptions) (ring : List (List ℕ)) (set : List Written) (held : Option (List ℕ)) (n m : ℕ) (r : Refusal) → r ≡ refusals.Memory → IsStoppedFor (bases_command o) (ring, (set, None)) held held n m r
+stopped_memory o ring set held n m r e = subst (λ z. IsStoppedFor (bases_command o) (ring, (set, None)) held held n m z) (sym e) (inr refl, inl (Keeps-refl held))
 
 -- ---- lines without a ring, and faults
 
@@ -415,13 +417,13 @@ unnamed_certificate (weight_errors.Cone x) = record { ring = refl; named = λ le
 unnamed_certificate (weight_errors.Wide x) = record { ring = refl; named = λ lent is. tt }
 unnamed_certificate weight_errors.Memory = record { ring = refl; named = λ lent is. tt }
 
-unnamed_item : (certified : Bool) (b : MarkedPolynomials) (r : Refusal) → IsItemRefusal certified b r → IsUnnamed (without_names r)
-unnamed_item false b r e = subst (λ z. IsUnnamed (without_names z)) (sym e) (record { ring = refl; named = λ lent is. tt })
-unnamed_item true b r (e, h, q) = subst (λ z. IsUnnamed (without_names z)) (sym q) (unnamed_certificate e)
+unnamed_item : (certified : Bool) (j : Region) (b : MarkedPolynomials) (r : Refusal) → IsItemRefusalIn certified j b r → IsUnnamed (without_names r)
+unnamed_item false j b r e = subst (λ z. IsUnnamed (without_names z)) (sym e) (record { ring = refl; named = λ lent is. tt })
+unnamed_item true j b r (e, h, q) = subst (λ z. IsUnnamed (without_names z)) (sym q) (unnamed_certificate e)
 
-pub unnamed_piece : (certified : Bool) (ring : List (List ℕ)) (is_first : Bool) (b : MarkedPolynomials) (held holds : Option (List ℕ)) (n m : ℕ) (r : Refusal) → IsBasisUnwritten certified ring is_first b held holds n m r → IsUnnamed (without_names r)
-unnamed_piece certified ring is_first b held holds n m r (IsBasisUnwritten.unmade same calm h) = unnamed_item certified b r h
-unnamed_piece certified ring is_first b held holds n m r (IsBasisUnwritten.cut piece p u) = unnamed_write held holds n m piece r u
+pub unnamed_piece : (certified : Bool) (ring : List (List ℕ)) (j : Region) (is_first : Bool) (b : MarkedPolynomials) (held holds : Option (List ℕ)) (n m : ℕ) (r : Refusal) → IsBasisUnwritten certified ring j is_first b held holds n m r → IsUnnamed (without_names r)
+unnamed_piece certified ring j is_first b held holds n m r (IsBasisUnwritten.unmade same calm h) = unnamed_item certified j b r h
+unnamed_piece certified ring j is_first b held holds n m r (IsBasisUnwritten.cut piece p u) = unnamed_write held holds n m piece r u
 
 -- no fault is counted but that of a write
 pub unwritten_calm : (held holds : Option (List ℕ)) (n m k : ℕ) (piece : List ℕ) (r : Refusal) → IsUnwritten held holds n m piece r → n ≡ k → (r ≡ refusals.WriteFault → ⊥) → m ≡ k
@@ -429,10 +431,10 @@ unwritten_calm held holds n m k piece refusals.WriteFault u e never = absurd (ne
 unwritten_calm held holds n m k piece refusals.Memory u e never = u.1 ∙ e
 unwritten_calm held holds n m k piece _ u e never = absurd u
 
-pub piece_calm : (certified : Bool) (ring : List (List ℕ)) (is_first : Bool) (b : MarkedPolynomials) (held holds : Option (List ℕ)) (n m k : ℕ) (r : Refusal) → IsBasisUnwritten certified ring is_first b held holds n m r →
+pub piece_calm : (certified : Bool) (ring : List (List ℕ)) (j : Region) (is_first : Bool) (b : MarkedPolynomials) (held holds : Option (List ℕ)) (n m k : ℕ) (r : Refusal) → IsBasisUnwritten certified ring j is_first b held holds n m r →
     n ≡ k → (r ≡ refusals.WriteFault → ⊥) → m ≡ k
-piece_calm certified ring is_first b held holds n m k r (IsBasisUnwritten.unmade same calm h) e never = calm ∙ e
-piece_calm certified ring is_first b held holds n m k r (IsBasisUnwritten.cut piece p u) e never = unwritten_calm held holds n m k piece r u e never
+piece_calm certified ring j is_first b held holds n m k r (IsBasisUnwritten.unmade same calm h) e never = calm ∙ e
+piece_calm certified ring j is_first b held holds n m k r (IsBasisUnwritten.cut piece p u) e never = unwritten_calm held holds n m k piece r u e never
 
 -- ---- generators
 

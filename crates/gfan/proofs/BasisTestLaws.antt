@@ -1,5 +1,5 @@
 -- What `_tropicalintersection --basistest` answers and why it doesn't; its source is answered in one way.
--- To cite: ring_of_all, verdict_answered, test_unanswered, degree_unanswered, named_unanswered, of_test_ring; intersection_lawful, intersection_source, intersection_once.
+-- To cite: ring_of_all, basis_named_by, verdict_answered, test_unanswered, degree_unanswered, named_unanswered, of_test_ring; intersection_lawful, intersection_source, intersection_once.
 -- The rest are steps.
 use Rattle.std.specs.Prelude.{◌≡◌, ◌⊎◌, ℕ, Bool, true, false, List, [], ◌∷◌, All, length, Option, None, Some, ℤ}
 use Rattle.std.proofs.Common.{refl, sym, ap, ◌∙◌, subst, inl, inr}
@@ -165,7 +165,7 @@ test_not_listed test_errors.Memory most q = cc
 
 -- ---- the names of the ring
 
-basis_named_by : (names : Option (List (List ℕ))) (e : BasisError) → IsNamedBy names (of_basis e)
+pub basis_named_by : (names : Option (List (List ℕ))) (e : BasisError) → IsNamedBy names (of_basis e)
 basis_named_by names (basis_errors.Overflow o) = λ lent is. tt
 basis_named_by names (basis_errors.Exponent o) = λ lent is. tt
 basis_named_by names (basis_errors.PairBudget b u) = λ lent is. tt

@@ -1,6 +1,6 @@
 -- The command of each job is lawful.
--- To cite: lawful, list_source, one_source.
-use Rattle.std.specs.Prelude.{◌≡◌, Bool, true, false, [], ◌∷◌, length}
+-- To cite: lawful, list_source, bases_not_once, one_source.
+use Rattle.std.specs.Prelude.{◌≡◌, ℕ, Bool, true, false, List, [], ◌∷◌, length, Option, None, Some}
 use Rattle.std.proofs.Common.{refl, subst}
 use Rattle.gf_front.specs.declared.command_line.Job.{Job}
 use Rattle.gf_front.specs.declared.command_line.Job.TheVariants as jobs
@@ -10,6 +10,7 @@ use Rattle.gf_front.specs.declared.options.FanCommonRefinementOptions.{FanCommon
 use Rattle.gf_front.specs.declared.options.GeneratedOptions.{GeneratedOptions}
 use Rattle.gf_items.specs.Refusals.{IsOfTest}
 use Rattle.gf_frame.specs.Loading.{Origin}
+use Rattle.gf_frame.specs.Commands.{WritesOnce}
 use Rattle.gf_frame.proofs.CommandLaws.{IsLawful}
 use Rattle.gf_frame.proofs.SoundLaws.{untested, sound_lawful}
 use Rattle.gfan.specs.Buchberger.{generators_of, buchberger_command}
@@ -33,7 +34,8 @@ use Rattle.gfan.specs.Tropical.{tropical_command}
 use Rattle.gfan.specs.MigrateFan.{migrate_fan_command}
 use Rattle.gfan.specs.declared.bases.ListOptions.{ListOptions}
 use Rattle.gfan.specs.declared.told_cone.ConeOptions.{ConeOptions}
-use Rattle.gfan.specs.Commands.{options, list_options, cone_options, plain_command, list_command, command_of, ReadsInputAlone}
+use Rattle.gfan.specs.Within.{bases_within_command, given_within_command}
+use Rattle.gfan.specs.Commands.{options, list_options, cone_options, plain_command, list_command, within_command, bases_of, command_of, ReadsInputAlone}
 use Rattle.gfan.proofs.CheckedSetLaws.{check_not_listed, test_cause_untested}
 use Rattle.gfan.proofs.WeightVectorLaws.{weight_vector_exact, weight_vector_tested, unweighed_not_listed}
 use Rattle.gfan.proofs.GroebnerConeLaws.{cone_exact, cone_tested, cone_not_listed}
@@ -43,6 +45,7 @@ use Rattle.gfan.proofs.TropicalLaws.{tropical_exact, tropical_tested, tropical_n
 use Rattle.gfan.proofs.BasisTestLaws.{intersection_lawful, intersection_source}
 use Rattle.gfan.proofs.ToolLaws.{mark_polynomial_set_exact, initial_forms_exact, homogenize_exact, polynomial_set_union_exact, stats_exact, homogenize_not_listed, gordan_not_listed, homogenize_untested, gordan_untested}
 use Rattle.gfan.proofs.ExactLaws.{buchberger_exact, marked_exact, containment_exact, leading_exact, bases_exact, given_exact, basis_not_listed, basis_untested, list_untested, memory_untested, containment_tested, given_tested}
+use Rattle.gfan.proofs.WithinLaws.{within_exact, within_tested, given_within_exact, given_within_tested}
 use Rattle.gfan.proofs.CommonRefinementLaws.{refinement_lawful}
 use Rattle.gfan.proofs.MigrateFanLaws.{migrate_fan_exact, migrate_fan_tested, migration_not_listed}
 use Rattle.gfan.proofs.SummaryLaws.{generated_lawful}
@@ -84,12 +87,21 @@ cone_lawful : (vector_input : Bool) (o : ConeOptions) → IsLawful (groebner_con
 cone_lawful false o = sound_lawful (groebner_cone_command false o) (cone_exact false o) (cone_tested false o) (λ h. h) (λ t. t) (λ a m w. cone_not_listed false o a m w)
 cone_lawful true o = sound_lawful (groebner_cone_command true o) (cone_exact true o) (cone_tested true o) (λ h. h) (λ t. t) (λ a m w. cone_not_listed true o a m w)
 
+-- in a region, too
+within_lawful : (name : List ℕ) (from_basis : Bool) (o : ListOptions) → IsLawful (within_command name from_basis o)
+within_lawful name false o = sound_lawful (bases_within_command name o) (within_exact name o) (within_tested name o) (λ h. h) (λ t. t) (λ a m w. tt)
+within_lawful name true o = sound_lawful (given_within_command name o) (given_within_exact name o) (given_within_tested name o) (λ h. h) (λ t. t) (λ a m w. tt)
+
+bases_lawful : (within : Option (List ℕ)) (from_basis : Bool) (o : ListOptions) → IsLawful (bases_of within from_basis o)
+bases_lawful None from_basis o = list_lawful from_basis o
+bases_lawful (Some name) from_basis o = within_lawful name from_basis o
+
 pub lawful : (job : Job) → IsLawful (command_of job)
 lawful (jobs.Plain k) = plain_lawful k
 lawful (jobs.Buchberger o) =
     let c = buchberger_command (options o) in
     sound_lawful c (buchberger_exact (options o)) (untested c (λ v r t h. basis_untested h.0 (subst IsOfTest h.1 t))) (λ h. h) (λ t. t) (λ a m w. basis_not_listed w.0 m w.1)
-lawful (jobs.Bases o) = list_lawful o.from_basis (list_options o)
+lawful (jobs.Bases o) = bases_lawful o.within o.from_basis (list_options o)
 lawful (jobs.LeadingTerms o) = leading_lawful o.listed
 lawful (jobs.WeightVector o) = weight_lawful o.listed o.echoed
 lawful (jobs.GroebnerCone o) = cone_lawful o.vector_input (cone_options o)
@@ -122,14 +134,21 @@ cone_source : (vector_input : Bool) (o : ConeOptions) → (groebner_cone_command
 cone_source false o = refl
 cone_source true o = refl
 
--- a job that isn't one on files, or that reads nothing, reads the input alone
-pub one_source : (job : Job) → ((o : FanCommonRefinementOptions) → job ≡ jobs.FanCommonRefinement o → ⊥) → ((o : GeneratedOptions) → job ≡ jobs.Generated o → ⊥) → ReadsInputAlone job
-one_source (jobs.FanCommonRefinement o) n m = absurd (n o refl)
-one_source (jobs.Generated o) n m = absurd (m o refl)
-one_source (jobs.Plain k) n m = plain_source k
-one_source (jobs.Bases o) n m = list_source o.from_basis (list_options o)
-one_source (jobs.LeadingTerms o) n m = leading_source o.listed
-one_source (jobs.WeightVector o) n m = weight_source o.listed o.echoed
-one_source (jobs.TropicalIntersection o) n m = intersection_source o.basis_test
-one_source (jobs.GroebnerCone o) n m = cone_source o.vector_input (cone_options o)
-one_source _ n m = refl
+-- a list is written as it goes
+pub bases_not_once : (within : Option (List ℕ)) (from_basis : Bool) (o : ListOptions) → WritesOnce (bases_of within from_basis o).writing → ⊥
+bases_not_once None false o w = w
+bases_not_once None true o w = w
+bases_not_once (Some name) false o w = w
+bases_not_once (Some name) true o w = w
+
+-- a job that writes once and isn't one on files, or that reads nothing, reads the input alone
+pub one_source : (job : Job) → WritesOnce (command_of job).writing → ((o : FanCommonRefinementOptions) → job ≡ jobs.FanCommonRefinement o → ⊥) → ((o : GeneratedOptions) → job ≡ jobs.Generated o → ⊥) → ReadsInputAlone job
+one_source (jobs.FanCommonRefinement o) w n m = absurd (n o refl)
+one_source (jobs.Generated o) w n m = absurd (m o refl)
+one_source (jobs.Plain k) w n m = plain_source k
+one_source (jobs.Bases o) w n m = absurd (bases_not_once o.within o.from_basis (list_options o) w)
+one_source (jobs.LeadingTerms o) w n m = leading_source o.listed
+one_source (jobs.WeightVector o) w n m = weight_source o.listed o.echoed
+one_source (jobs.TropicalIntersection o) w n m = intersection_source o.basis_test
+one_source (jobs.GroebnerCone o) w n m = cone_source o.vector_input (cone_options o)
+one_source _ w n m = refl

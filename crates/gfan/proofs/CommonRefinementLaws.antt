@@ -101,6 +101,7 @@ refined_once a b r d n (IsRefinementRefused.in_work f g e i j h q) (IsRefinement
 
 pub tells_itself : (r : Refusal) → TellsSame r r
 tells_itself (refusals.Inconsistent set multipliers) = refl
+tells_itself (refusals.EmptyRegion multipliers) = tt
 tells_itself _ = refl
 
 pub refined_told : (a b : List ℕ) (r d : Refusal) → (IsOfNumbers r → ⊥) → IsRefinementRefused a b r → IsRefinementRefused a b d → TellsSame r d ⊎ IsOfNumbers d

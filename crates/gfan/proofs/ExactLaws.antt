@@ -1,6 +1,6 @@
 -- Commands whose refusals are each told in one way.
 -- To cite: buchberger_exact, marked_exact, containment_exact, leading_exact, bases_exact, given_exact, containment_tested, given_tested;
--- basis_work, basis_not_listed, basis_untested, list_untested, memory_untested. The rest are steps.
+-- basis_work, going_work, going_within_in, basis_not_listed, basis_untested, going_untested_in, list_untested, memory_untested. The rest are steps.
 use Rattle.std.specs.Prelude.{◌≡◌, ℕ, ◌<◌, Bool, true, false, List, [], ◌∷◌, length, Err, Option, None, Some}
 use Rattle.std.proofs.Common.{arith, refl, sym, ap, ◌∙◌, subst, inl}
 use Rattle.gf_exponents.specs.SixOrders.{MonomialOrder}
@@ -9,7 +9,8 @@ use Rattle.gf_poly.specs.Marking.{MarkedPolynomials, polys}
 use Rattle.gf_buchberger.specs.declared.bases.BasisError.{BasisError}
 use Rattle.gf_buchberger.specs.declared.bases.BasisError.TheVariants as basis_errors
 use Rattle.gf_buchberger.proofs.BasesOfRuns.{if_within}
-use Rattle.gf_tree.specs.Ideals.{ideal_by}
+use Rattle.gf_facets.specs.Regions.{Region, all_positive}
+use Rattle.gf_tree.specs.Ideals.{ideal_by, ideal_within}
 use Rattle.gf_tree.specs.Refusals.{IsTreeWithinLimits}
 use Rattle.gf_tree.proofs.RefusalLaws.{within_memory}
 use Rattle.gf_front.specs.declared.refusal.Refusal.{Refusal}
@@ -24,7 +25,7 @@ use Rattle.gf_frame.proofs.SoundLaws.{IsExactCommand, IsTestedCommand}
 use Rattle.gfan.specs.declared.buchberger.Options.{Options}
 use Rattle.gfan.specs.declared.bases.ListOptions.{ListOptions}
 use Rattle.gfan.specs.Certificates.{of_weight_error}
-use Rattle.gfan.specs.Bases.{IsWithinLimit, of_tree, IsGoingCause, IsListCause, AreCertifiedWithin, IsListWithin, bases_command}
+use Rattle.gfan.specs.Bases.{IsWithinLimit, of_tree, IsGoingCause, IsGoingCauseIn, IsGoingWithin, IsListCause, AreCertifiedWithin, IsListWithin, bases_command}
 use Rattle.gfan.specs.GivenBasis.{IsGivenListCause, IsGivenListWithin, given_bases_command}
 use Rattle.gfan.specs.BasesList.{AreAllBases}
 use Rattle.gfan.specs.Buchberger.{generators_of, asked_order, of_basis, buchberger_command}
@@ -95,22 +96,28 @@ leading_exact true = record {
 
 -- ---- `_bases`
 
+pub going_work : (o : ListOptions) (n : ℕ) (k : Region) (fs : List Terms) (r : Refusal) → IsGoingCauseIn o n k fs r → IsOfWork r
+going_work o n k fs r (IsGoingCauseIn.in_tree e h q) = subst IsOfWork (sym q) (tree_work e)
+going_work o n k fs r (IsGoingCauseIn.at_limit most h q) = subst IsOfWork (sym q) tt
+going_work o n k fs r (IsGoingCauseIn.at_certificates c) = subst IsOfWork (sym c.uncertified.2) (weight_work c.uncertified.0)
+
 list_work : (o : ListOptions) (n : ℕ) (fs : List Terms) (r : Refusal) → IsListCause o n fs r → IsOfWork r
 list_work o n fs r (IsListCause.at_root e h q) = subst IsOfWork (sym q) (basis_work e)
-list_work o n fs r (IsListCause.going (IsGoingCause.in_tree e h q)) = subst IsOfWork (sym q) (tree_work e)
-list_work o n fs r (IsListCause.going (IsGoingCause.at_limit most h q)) = subst IsOfWork (sym q) tt
-list_work o n fs r (IsListCause.going (IsGoingCause.at_certificates c)) = subst IsOfWork (sym c.uncertified.2) (weight_work c.uncertified.0)
+list_work o n fs r (IsListCause.going h) = going_work o n (all_positive n) fs r h
 
 past_limit : (limit : Option ℕ) (most : ℕ) (list : List MarkedPolynomials) → limit ≡ Some most → most < length list → IsWithinLimit limit list → ⊥
 past_limit None most list e l w = cc
 past_limit (Some n) most list e l w = let same : n ≡ most = cc in omega arith
 
+pub going_within_in : (o : ListOptions) (n : ℕ) (k : Region) (fs : List Terms) (r : Refusal) → IsGoingWithin o n k fs → IsGoingCauseIn o n k fs r → r ≡ refusals.Memory
+going_within_in o n k fs r w (IsGoingCauseIn.in_tree e h q) = q ∙ ap of_tree (within_memory (ideal_within n fs k) o.pairs e w.tree (early_refused (ideal_within n fs k) o.pairs h.rest e h.early))
+going_within_in o n k fs r w (IsGoingCauseIn.at_limit most h q) = absurd (past_limit o.limit most h.list h.is_limit h.longer (w.few h.list h.are_all))
+going_within_in o n k fs r w (IsGoingCauseIn.at_certificates c) =
+    c.uncertified.2 ∙ ap of_weight_error (w.certificates c.certified c.basis (c.are_all.only c.basis (among_right c.written (c.basis ∷ c.rest) c.basis (inl refl))) c.uncertified.0 c.uncertified.1)
+
 going_within : (o : ListOptions) (n : ℕ) (fs : List Terms) (r : Refusal) → IsTreeWithinLimits (ideal_by n fs) o.pairs → ((list : List MarkedPolynomials) → AreAllBases n fs list → IsWithinLimit o.limit list) →
     AreCertifiedWithin o n fs → IsGoingCause o n fs r → r ≡ refusals.Memory
-going_within o n fs r w few all (IsGoingCause.in_tree e h q) = q ∙ ap of_tree (within_memory (ideal_by n fs) o.pairs e w (early_refused (ideal_by n fs) o.pairs h.rest e h.early))
-going_within o n fs r w few all (IsGoingCause.at_limit most h q) = absurd (past_limit o.limit most h.list h.is_limit h.longer (few h.list h.are_all))
-going_within o n fs r w few all (IsGoingCause.at_certificates c) =
-    c.uncertified.2 ∙ ap of_weight_error (all c.certified c.basis (c.are_all.only c.basis (among_right c.written (c.basis ∷ c.rest) c.basis (inl refl))) c.uncertified.0 c.uncertified.1)
+going_within o n fs r w few all h = going_within_in o n (all_positive n) fs r (record { tree = w; few = few; certificates = all }) h
 
 list_within : (o : ListOptions) (n : ℕ) (fs : List Terms) (r : Refusal) → IsListWithin o n fs → IsListCause o n fs r → r ≡ refusals.Memory
 list_within o n fs r w (IsListCause.at_root e h q) = q ∙ ap of_basis (if_within {A = Unit {0}} MonomialOrder.deglex n o.pairs fs (Err e) w.root h)
@@ -152,11 +159,14 @@ basis_untested (basis_errors.Exponent o) t = t
 basis_untested (basis_errors.PairBudget b u) t = t
 basis_untested basis_errors.Memory t = t
 
+pub going_untested_in : (o : ListOptions) (n : ℕ) (k : Region) (fs : List Terms) (r : Refusal) → IsOfTest r → IsGoingCauseIn o n k fs r → ⊥
+going_untested_in o n k fs r t (IsGoingCauseIn.in_tree e h q) = tree_untested e (subst IsOfTest q t)
+going_untested_in o n k fs r t (IsGoingCauseIn.at_limit most h q) = subst IsOfTest q t
+going_untested_in o n k fs r t (IsGoingCauseIn.at_certificates c) = weight_untested c.uncertified.0 (subst IsOfTest c.uncertified.2 t)
+
 pub list_untested : (o : ListOptions) (n : ℕ) (fs : List Terms) (r : Refusal) → IsOfTest r → IsListCause o n fs r → ⊥
 list_untested o n fs r t (IsListCause.at_root e h q) = basis_untested e (subst IsOfTest q t)
-list_untested o n fs r t (IsListCause.going (IsGoingCause.in_tree e h q)) = tree_untested e (subst IsOfTest q t)
-list_untested o n fs r t (IsListCause.going (IsGoingCause.at_limit most h q)) = subst IsOfTest q t
-list_untested o n fs r t (IsListCause.going (IsGoingCause.at_certificates c)) = weight_untested c.uncertified.0 (subst IsOfTest c.uncertified.2 t)
+list_untested o n fs r t (IsListCause.going h) = going_untested_in o n (all_positive n) fs r t h
 
 pub memory_untested : (r : Refusal) → IsOfTest r → r ≡ refusals.Memory → ⊥
 memory_untested r t m = subst IsOfTest m t

@@ -1,8 +1,10 @@
 -- The list of `_bases -g`: a marked Gröbner basis is reduced and taken up to the root; and why it isn't written.
--- To cite: few_members, reducible, reduced_from, reduced_own, root_starts, way_from; given_performed, given_stopped_root, given_stopped_list, named_root, way_in_tree;
--- tree_work, tree_untested; given_work, root_within, root_past, given_once, given_refuses. The rest are steps.
+-- To cite: few_members, reducible, reduced_from, reduced_own, root_starts, way_from, not_reduced, root_starts_at, way_of_set; given_performed, given_stopped_root,
+-- given_stopped_memory, given_stopped_list, named_root, root_no_limit, way_in_tree; tree_work, tree_untested; given_work, root_work, reducing_only, root_within, root_past, root_tested,
+-- root_once, given_once, given_refuses. The rest are steps.
 use Rattle.std.specs.Prelude.{◌≡◌, ◌⊎◌, ℕ, List, [], ◌∷◌, length, map, Contains, Option, Some, Err}
 use Rattle.std.specs.Io.KnownBytes.{Keeps}
+use Rattle.std.proofs.KnownBytes.{Keeps-refl}
 use Rattle.std.proofs.Common.{refl, sym, ap, ◌∙◌, subst, inl, inr}
 use Rattle.std.proofs.lemmas.List.Sorted.{Contains-permutation, IsPermutation-sym}
 use Rattle.gf_frac.specs.Fraction.{◌*ℚ◌}
@@ -14,7 +16,7 @@ use Rattle.gf_poly.specs.Marking.{MarkedPolynomial, MarkedPolynomials, HaveVaria
 use Rattle.gf_ideal.specs.Membership.{AreInVariables}
 use Rattle.gf_ideal.specs.Marks.{AreMarked, IsRealisedBy, IsRealisable}
 use Rattle.gf_ideal.specs.Reduction.{AreMonicForms}
-use Rattle.gf_ideal.specs.Bases.{IsBasis, AreArranged}
+use Rattle.gf_ideal.specs.Bases.{IsBasis, IsReducedBasis, AreArranged}
 use Rattle.gf_ideal.proofs.ListLaws.{Contains-here, Contains-there}
 use Rattle.gf_ideal.proofs.MarkWeights.{mark-there}
 use Rattle.gf_ideal.proofs.BasisLaws.{basis_along}
@@ -29,6 +31,9 @@ use Rattle.gf_reduced.proofs.FormLaws.{forms_marked_by}
 use Rattle.gf_reduced.proofs.GroebnerLaws.{polys_variables}
 use Rattle.gf_reduced.proofs.RefusalLaws.{basis_only_memory}
 use Rattle.gf_facets.specs.Regions.{all_positive}
+use Rattle.gf_facets.proofs.SystemLaws.{all_positive-region}
+use Rattle.gf_bases.proofs.FiniteLaws.{basis_everywhere}
+use Rattle.gf_bases.proofs.LawsHold.{of_reduced}
 use Rattle.gf_reverse.specs.Upward.{IsNode, IsNodeIn, fan_of}
 use Rattle.gf_reverse.proofs.TreeLaws.{own_fan, back_fan}
 use Rattle.gf_reverse.proofs.ListLaws.{own}
@@ -48,15 +53,15 @@ use Rattle.gf_frame.specs.Commands.{IsUnanswered, IsRefusedOn}
 use Rattle.gf_frame.specs.Runs.{IsStoppedOn}
 use Rattle.gf_frame.proofs.WorkLaws.{nothing_but_limit}
 use Rattle.gfan.specs.declared.bases.ListOptions.{ListOptions}
-use Rattle.gfan.specs.Bases.{of_tree, IsGoingCause}
-use Rattle.gfan.specs.BasesWriting.{StartsAt, IsListWritten, IsListBegun, IsListStopped}
+use Rattle.gfan.specs.Bases.{of_tree, IsGoingCause, IsGoingCauseIn}
+use Rattle.gfan.specs.BasesWriting.{StartsAt, IsListWrittenIn, IsListBegunIn, IsListStoppedIn}
 use Rattle.gfan.specs.CheckedSets.{of_check}
-use Rattle.gfan.specs.GivenBasis.{IsReducedFrom, IsGivenRootRefusal, IsGivenListCause, IsGivenListWithin, IsGivenListPast, given_bases_command}
+use Rattle.gfan.specs.GivenBasis.{IsReducedFrom, IsReducingRefusal, IsGivenRootRefusal, IsGivenListCause, IsGivenListWithin, IsGivenListPast, given_bases_command}
 use Rattle.gfan.specs.Refused.{IsNamedBy}
 use Rattle.gfan.specs.Performed.{IsPerformedFor, IsBegunAs, IsStoppedFor}
 use Rattle.gfan.proofs.ReadSetLaws.{marked_kept}
 use Rattle.gfan.proofs.CheckedSetLaws.{check_not_listed, named_check, named_numbers, check_work, poly_numbers, poly_untested, paired_once, paired_refutes}
-use Rattle.gfan.proofs.BasesListLaws.{given_node, start_of_root}
+use Rattle.gfan.proofs.BasesListLaws.{given_node, node_given, start_of_root}
 use Rattle.gfan.proofs.CertificateLaws.{weight_work, weight_untested}
 
 -- ---- the basis reduced
@@ -88,20 +93,19 @@ module _ (s t : MarkedPolynomials) (v : HaveVariables s.variables s.items) (a : 
   moved = basis_along s.variables (polys t.items) (polys s.items) t.items (record { inside = h.ideal.back; back = h.ideal.inside }) (subst (λ n. IsBasis n (polys t.items) t.items) a.variables h.basis)
 
   module _ (u : MarkedPolynomials) (r : IsAutoreduced t u) (arranged : AreArranged t.variables u.items) (reduced : IsReducedOf t.variables t.items u.items) where
-    pub reduced_from : IsReducedFrom s u
-    reduced_from = record {
-      given = record {
-        variables = r.arranged.variables ∙ a.variables;
-        arranged = subst (λ n. AreArranged n u.items) a.variables arranged;
-        weight = h.marked.weight;
-        reduced = (subst (λ n. IsReducedOf n t.items u.items) a.variables reduced).at (polys s.items) h.marked.weight inside
-            (record { forms = t.items; monic = monic_themselves h.marked.weight t.items marked; basis = moved }) h.marked.positive realised;
-      };
-      marks = h.marked.marks;
-    }
+    by_weight : IsReducedBasis s.variables (polys s.items) h.marked.weight u.items
+    by_weight = (subst (λ n. IsReducedOf n t.items u.items) a.variables reduced).at (polys s.items) h.marked.weight inside
+        (record { forms = t.items; monic = monic_themselves h.marked.weight t.items marked; basis = moved }) h.marked.positive realised
 
     reduced_is_node : IsNodeIn (ideal_by s.variables (polys s.items)) u
-    reduced_is_node = given_node s.variables (polys s.items) u inside reduced_from.given
+    reduced_is_node = record {
+      fan = record { ideal = inside; region = all_positive-region s.variables };
+      variables = r.arranged.variables ∙ a.variables;
+      basis = basis_everywhere s.variables (polys s.items) u.items (of_reduced s.variables (polys s.items) h.marked.weight u.items by_weight (subst (λ n. AreArranged n u.items) a.variables arranged));
+    }
+
+    pub reduced_from : IsReducedFrom s u
+    reduced_from = record { given = node_given s.variables (polys s.items) u reduced_is_node; weight = h.marked.weight; reduced = by_weight; marks = h.marked.marks }
 
     -- it is a basis of the ideal that it generates
     pub reduced_own : IsNodeIn (ideal_of u) u
@@ -114,6 +118,24 @@ module _ (s t : MarkedPolynomials) (v : HaveVariables s.variables s.items) (a : 
     -- why the way up is refused, in the variables of the set
     pub way_from : (pairs : ℕ) (e : TreeError) → IsWayRefused (all_positive u.variables) pairs u e → IsWayRefused (all_positive s.variables) pairs u e
     way_from pairs e q = subst (λ n. IsWayRefused (all_positive n) pairs u e) reduced_is_node.variables q
+
+-- ---- the root
+
+-- where the set isn't taken, or not reduced, there is no root
+pub not_reduced : (s : MarkedPolynomials) (pairs : ℕ) (r : Refusal) → IsReducingRefusal s r → IsGivenRootRefusal s pairs r
+not_reduced s pairs r (IsReducingRefusal.at_check e h q) = IsGivenRootRefusal.at_check e h q
+not_reduced s pairs r (IsReducingRefusal.at_tails t d g a h q) = IsGivenRootRefusal.at_tails t d g a h q
+
+-- the root above the reduced basis is the first basis of the list, and why the way up is refused, in the variables of the set
+module _ (s u : MarkedPolynomials) (v : HaveVariables s.variables s.items) (f : IsReducedFrom s u) where
+  from_node : IsNodeIn (ideal_by s.variables (polys s.items)) u
+  from_node = given_node s.variables (polys s.items) u (polys_variables s.variables s.items v) f.given
+
+  pub root_starts_at : (root : MarkedPolynomials) → IsRootFor (all_positive u.variables) u root → StartsAt s.variables (polys s.items) root
+  root_starts_at root q = start_of_root s.variables (polys s.items) u root from_node q
+
+  pub way_of_set : (pairs : ℕ) (e : TreeError) → IsWayRefused (all_positive u.variables) pairs u e → IsWayRefused (all_positive s.variables) pairs u e
+  way_of_set pairs e q = subst (λ n. IsWayRefused (all_positive n) pairs u e) from_node.variables q
 
 -- ---- the command
 
@@ -144,7 +166,7 @@ tree_no_limit (tree_errors.Cone x) most q = cc
 tree_no_limit tree_errors.Memory most q = cc
 
 -- the root isn't refused at the limit
-root_no_limit : (s : MarkedPolynomials) (pairs : ℕ) (r : Refusal) → IsGivenRootRefusal s pairs r → (most : ℕ) → r ≡ refusals.ListLimit most → ⊥
+pub root_no_limit : (s : MarkedPolynomials) (pairs : ℕ) (r : Refusal) → IsGivenRootRefusal s pairs r → (most : ℕ) → r ≡ refusals.ListLimit most → ⊥
 root_no_limit s pairs r (IsGivenRootRefusal.at_check e k q) most l = check_no_limit e most (sym q ∙ l)
 root_no_limit s pairs r (IsGivenRootRefusal.at_tails t d g a k q) most l = check_no_limit (of_poly d) most (sym q ∙ l)
 root_no_limit s pairs r (IsGivenRootRefusal.on_the_way u e g f k q) most l = tree_no_limit e most (sym q ∙ l)
@@ -157,13 +179,13 @@ module _ (o : ListOptions) (ring : List (List ℕ)) (s : MarkedPolynomials) wher
       IsStoppedOn.in_work (IsRefusedOn.behind_text (ring, s) read (IsUnanswered.in_work tt (IsGivenListCause.at_root h)))
       (nothing_but_limit (given_bases_command o) (source ∷ []) (output_seen held n) r (root_no_limit s o.pairs r h)) refl
 
-  pub given_performed : (held holds : Option (List ℕ)) → IsMarkedGroebnerBasis s.variables s.items → IsListWritten o ring (polys s.items) held holds → IsPerformedFor (given_bases_command o) (ring, s) held holds
+  pub given_performed : (held holds : Option (List ℕ)) → IsMarkedGroebnerBasis s.variables s.items → IsListWrittenIn o ring (all_positive (length ring)) (polys s.items) held holds → IsPerformedFor (given_bases_command o) (ring, s) held holds
   given_performed held holds g p = (p.0, record { basis = g; list = p.1 }, p.2)
 
-  begun_from : (held holds : Option (List ℕ)) (r : Refusal) → IsMarkedGroebnerBasis s.variables s.items → IsListBegun o ring (polys s.items) held holds r → IsBegunAs (given_bases_command o) (ring, s) held holds r
+  begun_from : (held holds : Option (List ℕ)) (r : Refusal) → IsMarkedGroebnerBasis s.variables s.items → IsListBegunIn o ring (all_positive (length ring)) (polys s.items) held holds r → IsBegunAs (given_bases_command o) (ring, s) held holds r
   begun_from held holds r g b = (b.0, record { basis = g; begun = b.1 }, b.2)
 
-  left_going : (held holds : Option (List ℕ)) (r : Refusal) → IsMarkedGroebnerBasis s.variables s.items → Keeps held holds ⊎ IsListBegun o ring (polys s.items) held holds r → Keeps held holds ⊎ IsBegunAs (given_bases_command o) (ring, s) held holds r
+  left_going : (held holds : Option (List ℕ)) (r : Refusal) → IsMarkedGroebnerBasis s.variables s.items → Keeps held holds ⊎ IsListBegunIn o ring (all_positive (length ring)) (polys s.items) held holds r → Keeps held holds ⊎ IsBegunAs (given_bases_command o) (ring, s) held holds r
   left_going held holds r g (inl k) = inl k
   left_going held holds r g (inr b) = inr (begun_from held holds r g b)
 
@@ -171,8 +193,12 @@ module _ (o : ListOptions) (ring : List (List ℕ)) (s : MarkedPolynomials) wher
   refused_going r g (inl c) = inl (IsGivenListCause.going g c)
   refused_going r g (inr m) = inr m
 
+  -- there is no memory before anything is written
+  pub given_stopped_memory : (held : Option (List ℕ)) (n m : ℕ) (r : Refusal) → r ≡ refusals.Memory → IsStoppedFor (given_bases_command o) (ring, s) held held n m r
+  given_stopped_memory held n m r e = subst (λ z. IsStoppedFor (given_bases_command o) (ring, s) held held n m z) (sym e) (inr refl, inl (Keeps-refl held))
+
   -- the list is refused from the root on
-  pub given_stopped_list : (held holds : Option (List ℕ)) (n m : ℕ) (r : Refusal) → IsMarkedGroebnerBasis s.variables s.items → IsListStopped o ring (polys s.items) held holds n m r → IsStoppedFor (given_bases_command o) (ring, s) held holds n m r
+  pub given_stopped_list : (held holds : Option (List ℕ)) (n m : ℕ) (r : Refusal) → IsMarkedGroebnerBasis s.variables s.items → IsListStoppedIn o ring (all_positive (length ring)) (polys s.items) held holds n m r → IsStoppedFor (given_bases_command o) (ring, s) held holds n m r
   given_stopped_list held holds n m refusals.WriteFault g h = (h.0, (h.1.0, record { basis = g; list = h.1.1 }, h.1.2))
   given_stopped_list held holds n m (refusals.ListLimit most) g h = (IsGivenListCause.going g h.0, begun_from held holds (refusals.ListLimit most) g h.1)
   given_stopped_list held holds n m r g h = (refused_going r g h.0, left_going held holds r g h.1)
@@ -200,16 +226,16 @@ tree_untested (tree_errors.PairBudget b u) t = t
 tree_untested (tree_errors.Cone s) t = t
 tree_untested tree_errors.Memory t = t
 
-root_work : (s : MarkedPolynomials) (pairs : ℕ) (r : Refusal) → IsGivenRootRefusal s pairs r → IsOfWork r
+pub root_work : (s : MarkedPolynomials) (pairs : ℕ) (r : Refusal) → IsGivenRootRefusal s pairs r → IsOfWork r
 root_work s pairs r (IsGivenRootRefusal.at_check e h q) = subst IsOfWork (sym q) (check_work e)
 root_work s pairs r (IsGivenRootRefusal.at_tails t d g a h q) = subst IsOfWork (sym q) (check_work (of_poly d))
 root_work s pairs r (IsGivenRootRefusal.on_the_way u e g f h q) = subst IsOfWork (sym q) (tree_work e)
 
 pub given_work : (o : ListOptions) (n : ℕ) (s : MarkedPolynomials) (r : Refusal) → IsGivenListCause o n s r → IsOfWork r
 given_work o n s r (IsGivenListCause.at_root h) = root_work s o.pairs r h
-given_work o n s r (IsGivenListCause.going g (IsGoingCause.in_tree e h q)) = subst IsOfWork (sym q) (tree_work e)
-given_work o n s r (IsGivenListCause.going g (IsGoingCause.at_limit most h q)) = subst IsOfWork (sym q) tt
-given_work o n s r (IsGivenListCause.going g (IsGoingCause.at_certificates c)) = subst IsOfWork (sym c.uncertified.2) (weight_work c.uncertified.0)
+given_work o n s r (IsGivenListCause.going g (IsGoingCauseIn.in_tree e h q)) = subst IsOfWork (sym q) (tree_work e)
+given_work o n s r (IsGivenListCause.going g (IsGoingCauseIn.at_limit most h q)) = subst IsOfWork (sym q) tt
+given_work o n s r (IsGivenListCause.going g (IsGoingCauseIn.at_certificates c)) = subst IsOfWork (sym c.uncertified.2) (weight_work c.uncertified.0)
 
 -- a refusal on the way up is one of a search over the bases of the ideal
 pub way_in_tree : (s u : MarkedPolynomials) (pairs : ℕ) (e : TreeError) → HaveVariables s.variables s.items → IsReducedFrom s u → IsWayRefused (all_positive s.variables) pairs u e →
@@ -227,6 +253,12 @@ root_only pairs s r v basis checks tails way (IsGivenRootRefusal.at_check e h q)
 root_only pairs s r v basis checks tails way (IsGivenRootRefusal.at_tails t d g a h q) = q ∙ ap (λ x. of_check (of_poly x)) (tails t d a h)
 root_only pairs s r v basis checks tails way (IsGivenRootRefusal.on_the_way u e g f h q) = q ∙ ap of_tree (way u e f h)
 
+-- of the set alone
+pub reducing_only : (s : MarkedPolynomials) (r : Refusal) → HaveVariables s.variables s.items → IsMarkedGroebnerBasis s.variables s.items → AreChecksWithinLimits s →
+    ((t : MarkedPolynomials) (d : PolyError) → IsArranged (monic_set s) t → IsAutoreductionRefusal t.items d → d ≡ errors.Memory) → IsReducingRefusal s r → r ≡ refusals.Memory
+reducing_only s r v basis checks tails (IsReducingRefusal.at_check e h q) = q ∙ ap of_check (basis_only_memory {A = Unit {0}} 0 s (Err e) v h checks basis)
+reducing_only s r v basis checks tails (IsReducingRefusal.at_tails t d g a h q) = q ∙ ap (λ x. of_check (of_poly x)) (tails t d a h)
+
 pub root_within : (o : ListOptions) (n : ℕ) (s : MarkedPolynomials) (r : Refusal) → IsGivenListWithin o n s → IsGivenRootRefusal s o.pairs r → r ≡ refusals.Memory
 root_within o n s r w h = root_only o.pairs s r w.variables w.basis w.checks w.tails
     (λ u e f q. within_memory (ideal_by n (polys s.items)) o.pairs e w.tree (subst (λ k. IsTreeRefusal (ideal_by k (polys s.items)) o.pairs e) w.same (way_in_tree s u o.pairs e w.variables f q))) h
@@ -235,21 +267,21 @@ pub root_past : (o : ListOptions) (n : ℕ) (s : MarkedPolynomials) (most : ℕ)
 root_past o n s most r v w h = root_only o.pairs s r v w.basis w.checks w.tails w.way h
 
 -- a test of the set isn't told where the set is a basis, nor by the rest of the work
-root_tested : (s : MarkedPolynomials) (pairs : ℕ) (r : Refusal) → HaveVariables s.variables s.items → IsOfTest r → IsGivenRootRefusal s pairs r → IsMarkedGroebnerBasis s.variables s.items → ⊥
+pub root_tested : (s : MarkedPolynomials) (pairs : ℕ) (r : Refusal) → HaveVariables s.variables s.items → IsOfTest r → IsGivenRootRefusal s pairs r → IsMarkedGroebnerBasis s.variables s.items → ⊥
 root_tested s pairs r v t (IsGivenRootRefusal.at_check e h q) g = paired_refutes (Unit {0}) 0 s e v (subst IsOfTest q t) h g
 root_tested s pairs r v t (IsGivenRootRefusal.at_tails u d b a h q) g = poly_untested d (subst IsOfTest q t)
 root_tested s pairs r v t (IsGivenRootRefusal.on_the_way u e b f h q) g = tree_untested e (subst IsOfTest q t)
 
 going_untested : (o : ListOptions) (n : ℕ) (s : MarkedPolynomials) (r : Refusal) → IsOfTest r → IsGoingCause o n (polys s.items) r → ⊥
-going_untested o n s r t (IsGoingCause.in_tree e h q) = tree_untested e (subst IsOfTest q t)
-going_untested o n s r t (IsGoingCause.at_limit most h q) = subst IsOfTest q t
-going_untested o n s r t (IsGoingCause.at_certificates c) = weight_untested c.uncertified.0 (subst IsOfTest c.uncertified.2 t)
+going_untested o n s r t (IsGoingCauseIn.in_tree e h q) = tree_untested e (subst IsOfTest q t)
+going_untested o n s r t (IsGoingCauseIn.at_limit most h q) = subst IsOfTest q t
+going_untested o n s r t (IsGoingCauseIn.at_certificates c) = weight_untested c.uncertified.0 (subst IsOfTest c.uncertified.2 t)
 
 given_refutes : (o : ListOptions) (n : ℕ) (s : MarkedPolynomials) (r : Refusal) → HaveVariables s.variables s.items → IsOfTest r → IsGivenListCause o n s r → IsMarkedGroebnerBasis s.variables s.items → ⊥
 given_refutes o n s r v t (IsGivenListCause.at_root h) g = root_tested s o.pairs r v t h g
 given_refutes o n s r v t (IsGivenListCause.going b h) g = going_untested o n s r t h
 
-root_once : (s : MarkedPolynomials) (pairs : ℕ) (r d : Refusal) → HaveVariables s.variables s.items → IsOfTest r → IsGivenRootRefusal s pairs r → IsGivenRootRefusal s pairs d → TellsSame r d ⊎ IsOfNumbers d
+pub root_once : (s : MarkedPolynomials) (pairs : ℕ) (r d : Refusal) → HaveVariables s.variables s.items → IsOfTest r → IsGivenRootRefusal s pairs r → IsGivenRootRefusal s pairs d → TellsSame r d ⊎ IsOfNumbers d
 root_once s pairs r d v t (IsGivenRootRefusal.at_check e h q) (IsGivenRootRefusal.at_check f k p) =
     let once = paired_once (Unit {0}) (Unit {0}) 0 s e f v (subst IsOfTest q t) h k in
     subst (λ x. TellsSame r x ⊎ IsOfNumbers x) (sym p) (subst (λ x. TellsSame x (of_check f) ⊎ IsOfNumbers (of_check f)) (sym q) once)

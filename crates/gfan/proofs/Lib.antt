@@ -25,6 +25,8 @@ pub mod WeightVectorLaws  -- the weights of sets
 pub mod BasesTextLaws  -- pieces that follow one another are the text of the list
 pub mod BasesLaws  -- how the list is written
 pub mod GivenBasisLaws  -- the list from a basis that is given
+pub mod WithinLaws  -- `_bases --within`
+pub mod WideRootLaws  -- an entry of the root of a region that is too great
 pub mod ExactLaws  -- refusals of each command are told in one way
 pub mod SummaryLaws  -- how a list is summed up
 pub mod SaturationLaws  -- what `_saturation` answers, and why it doesn't

@@ -1,7 +1,7 @@
 -- Where each polynomial is written as a monomial or as the difference of two, without numbers, `_buchberger` and `_bases` are never refused for
 -- a coefficient; nor is `_generated`.
 -- To cite: never_overflows; one_input. The rest are steps.
-use Rattle.std.specs.Prelude.{◌≡◌, ℕ, Bool, true, false, List, [], ◌∷◌, length, map, Contains, Option, ℤ}
+use Rattle.std.specs.Prelude.{◌≡◌, ℕ, Bool, true, false, List, [], ◌∷◌, length, map, Contains, Option, None, Some, ℤ}
 use Rattle.std.proofs.Common.{arith, refl, sym, ap, ◌∙◌, subst, inl, inr}
 use Rattle.gf_frac.specs.declared.refusal.Overflow.{Overflow}
 use Rattle.gf_exponents.specs.SixOrders.{MonomialOrder}
@@ -12,7 +12,9 @@ use Rattle.gf_poly.specs.Polynomial.{Terms, HasVariables}
 use Rattle.gf_poly.specs.Marking.{MarkedPolynomial, MarkedPolynomials, Each, HasMarkedTerm, polys}
 use Rattle.gf_poly.proofs.CoefficientLaws.{term_length}
 use Rattle.gf_poly.proofs.InitialFormLaws.{occurs}
+use Rattle.gf_ideal.specs.Membership.{AreInVariables}
 use Rattle.gf_ideal.proofs.ListLaws.{each_contained, contained_each}
+use Rattle.gf_ideal.proofs.PieceLaws.{Contains-marked}
 use Rattle.gf_text.specs.declared.error.TextError.{TextError}
 use Rattle.gf_text.specs.declared.error.TextError.TheVariants as text_errors
 use Rattle.gf_text.specs.declared.tree.WrittenTerm.{WrittenTerm}
@@ -33,16 +35,21 @@ use Rattle.gf_reduced.specs.declared.error.CheckError.{CheckError}
 use Rattle.gf_reduced.specs.declared.error.CheckError.TheVariants as check_errors
 use Rattle.gf_division.specs.Autoreduction.{IsAutoreductionRefusal}
 use Rattle.gf_reduced.specs.Refusals.{of_poly, IsReducedBasisRefusal}
+use Rattle.gf_reduced.proofs.GroebnerLaws.{polys_variables}
 use Rattle.gf_tree.specs.declared.error.TreeError.{TreeError}
 use Rattle.gf_tree.specs.declared.error.TreeError.TheVariants as tree_errors
-use Rattle.gf_tree.specs.Ideals.{ideal_by}
+use Rattle.gf_facets.specs.Regions.{Region, all_positive}
+use Rattle.gf_reverse.specs.Upward.{Fan}
+use Rattle.gf_tree.specs.Ideals.{ideal_by, ideal_within}
 use Rattle.gf_tree.specs.Refusals.{IsTreeRefusal}
 use Rattle.gf_subtree.proofs.BasisRowLaws.{early_refused}
 use Rattle.gf_weights.specs.declared.error.WeightError.{WeightError}
 use Rattle.gf_weights.specs.declared.error.WeightError.TheVariants as weight_errors
-use Rattle.gf_binomials.specs.Binomials.{IsBinomial, AreBinomials}
+use Rattle.gf_binomials.specs.Binomials.{IsBinomial, AreBinomials, AreMarkedBinomials}
+use Rattle.gf_binomial_bases.proofs.LawsHold.{bases_of_binomials}
 use Rattle.gf_binomial_calls.specs.Sets.{IsBinomialSet}
 use Rattle.gf_binomial_calls.specs.Written.{ArePlainlyWritten, written_polynomials}
+use Rattle.gf_binomial_calls.proofs.CheckLaws.{polys_binomial}
 use Rattle.gf_binomial_calls.proofs.LawsHold.{refusals_tell_no_overflow, plain_sets_are_binomials}
 use Rattle.gf_generated.specs.Generated.{generated}
 use Rattle.gf_generated.proofs.GeneratedLaws.{generators_are_binomials}
@@ -52,7 +59,7 @@ use Rattle.gf_front.specs.declared.refusal.Refusal.{Refusal}
 use Rattle.gf_front.specs.declared.refusal.Refusal.TheVariants as refusals
 use Rattle.gf_front.specs.Jobs.{IsJobOf}
 use Rattle.gf_items.specs.Items.{from, a_vector, IsOneRefused, IsRefusedWhere, IsTextRefused}
-use Rattle.gf_items.specs.Sources.{ring_set_vector, ring_marked_set}
+use Rattle.gf_items.specs.Sources.{vectors_alone, ring_set_vector, ring_marked_set}
 use Rattle.gf_items.specs.Checks.{FirstFails}
 use Rattle.gf_items.specs.Refusals.{of_text}
 use Rattle.gf_items.proofs.ItemLaws.{ring_once}
@@ -68,12 +75,18 @@ use Rattle.gfan.specs.declared.bases.ListOptions.{ListOptions}
 use Rattle.gfan.specs.Buchberger.{generators_of, of_basis, form, buchberger_command}
 use Rattle.gfan.specs.CheckedSets.{of_check}
 use Rattle.gfan.specs.Certificates.{of_weight_error}
-use Rattle.gfan.specs.Bases.{of_tree, IsSearchRefused, IsGoingCause, IsListCause, bases_command}
-use Rattle.gfan.specs.GivenBasis.{IsGivenRootRefusal, IsGivenListCause, given_bases_command}
+use Rattle.gfan.specs.Bases.{of_tree, IsSearchRefusedIn, IsGoingCauseIn, IsListCause, bases_command}
+use Rattle.gfan.specs.GivenBasis.{IsReducedFrom, IsReducingRefusal, IsGivenRootRefusal, IsGivenListCause, given_bases_command}
 use Rattle.gfan.specs.Generated.{list_to, IsSummaryCause, generated_command}
-use Rattle.gfan.specs.Commands.{options, list_options, list_command, command_of}
-use Rattle.gfan.specs.PlainInputs.{BeginsPlainly, IsOnBinomials}
+use Rattle.gf_exponents.specs.Orders.{gains}
+use Rattle.gf_weights.specs.declared.region.RegionError.{RegionError}
+use Rattle.gf_weights.specs.declared.region.RegionError.TheVariants as region_errors
+use Rattle.gfan.specs.ToolForms.{for_each}
+use Rattle.gfan.specs.Within.{of_region, IsCauseWithin, IsGivenRegionRootRefusal, IsGivenStartRefusal, IsGivenCauseWithin, bases_within_command, given_within_command}
+use Rattle.gfan.specs.Commands.{options, list_options, list_command, bases_of, command_of}
+use Rattle.gfan.specs.PlainInputs.{IsPlainList, BeginsPlainly, IsOnBinomials}
 use Rattle.gfan.proofs.ReadSetLaws.{IsKeptMember, marked_kept, one_kept}
+use Rattle.gfan.proofs.BasesListLaws.{given_node}
 use Rattle.gfan.proofs.GivenBasisLaws.{way_in_tree}
 use Rattle.gfan.proofs.CommandLaws.{lawful}
 
@@ -102,26 +115,25 @@ basis_never order n fs pairs (basis_errors.Exponent o) x b h q = cc
 basis_never order n fs pairs (basis_errors.PairBudget s u) x b h q = cc
 basis_never order n fs pairs basis_errors.Memory x b h q = cc
 
-tree_never : (n : ℕ) (fs : List Terms) (pairs : ℕ) (e : TreeError) (x : Overflow) → ((o : Overflow) → IsTreeRefusal (ideal_by n fs) pairs (tree_errors.Overflow o) → ⊥) → IsTreeRefusal (ideal_by n fs) pairs e →
-    refusals.Overflow x ≡ of_tree e → ⊥
-tree_never n fs pairs (tree_errors.Overflow o) x never h q = never o h
-tree_never n fs pairs (tree_errors.Exponent o) x never h q = cc
-tree_never n fs pairs (tree_errors.PairBudget s u) x never h q = cc
-tree_never n fs pairs (tree_errors.Cone o) x never h q = cc
-tree_never n fs pairs tree_errors.Memory x never h q = cc
+tree_never : (F : Fan) (pairs : ℕ) (e : TreeError) (x : Overflow) → ((o : Overflow) → IsTreeRefusal F pairs (tree_errors.Overflow o) → ⊥) → IsTreeRefusal F pairs e → refusals.Overflow x ≡ of_tree e → ⊥
+tree_never F pairs (tree_errors.Overflow o) x never h q = never o h
+tree_never F pairs (tree_errors.Exponent o) x never h q = cc
+tree_never F pairs (tree_errors.PairBudget s u) x never h q = cc
+tree_never F pairs (tree_errors.Cone o) x never h q = cc
+tree_never F pairs tree_errors.Memory x never h q = cc
 
-search_never : (o : ListOptions) (n : ℕ) (fs : List Terms) (e : TreeError) (x : Overflow) → ((o : Overflow) (pairs : ℕ) → IsTreeRefusal (ideal_by n fs) pairs (tree_errors.Overflow o) → ⊥) → IsSearchRefused o n fs e →
+search_never : (o : ListOptions) (n : ℕ) (k : Region) (fs : List Terms) (e : TreeError) (x : Overflow) → ((o : Overflow) (pairs : ℕ) → IsTreeRefusal (ideal_within n fs k) pairs (tree_errors.Overflow o) → ⊥) → IsSearchRefusedIn o n k fs e →
     refusals.Overflow x ≡ of_tree e → ⊥
-search_never o n fs e x never h q = tree_never n fs o.pairs e x (λ y. never y o.pairs) (early_refused (ideal_by n fs) o.pairs h.rest e h.early) q
+search_never o n k fs e x never h q = tree_never (ideal_within n fs k) o.pairs e x (λ y. never y o.pairs) (early_refused (ideal_within n fs k) o.pairs h.rest e h.early) q
 
-going_never : (o : ListOptions) (n : ℕ) (fs : List Terms) (x : Overflow) → ((o : Overflow) (pairs : ℕ) → IsTreeRefusal (ideal_by n fs) pairs (tree_errors.Overflow o) → ⊥) → IsGoingCause o n fs (refusals.Overflow x) → ⊥
-going_never o n fs x never (IsGoingCause.in_tree e h q) = search_never o n fs e x never h q
-going_never o n fs x never (IsGoingCause.at_limit most h q) = cc
-going_never o n fs x never (IsGoingCause.at_certificates c) = no_weight c.uncertified.0 x c.uncertified.2
+going_never : (o : ListOptions) (n : ℕ) (k : Region) (fs : List Terms) (x : Overflow) → ((o : Overflow) (pairs : ℕ) → IsTreeRefusal (ideal_within n fs k) pairs (tree_errors.Overflow o) → ⊥) → IsGoingCauseIn o n k fs (refusals.Overflow x) → ⊥
+going_never o n k fs x never (IsGoingCauseIn.in_tree e h q) = search_never o n k fs e x never h q
+going_never o n k fs x never (IsGoingCauseIn.at_limit most h q) = cc
+going_never o n k fs x never (IsGoingCauseIn.at_certificates c) = no_weight c.uncertified.0 x c.uncertified.2
 
 list_never : (o : ListOptions) (n : ℕ) (fs : List Terms) (x : Overflow) → AreBinomials fs → IsListCause o n fs (refusals.Overflow x) → ⊥
 list_never o n fs x b (IsListCause.at_root e h q) = basis_never MonomialOrder.deglex n fs o.pairs e x b h q
-list_never o n fs x b (IsListCause.going h) = going_never o n fs x (λ y pairs k. refusals_tell_no_overflow.search (ideal_by n fs) pairs y b k) h
+list_never o n fs x b (IsListCause.going h) = going_never o n (all_positive n) fs x (λ y pairs k. refusals_tell_no_overflow.search (ideal_by n fs) pairs y b k) h
 
 check_never : (s : MarkedPolynomials) (e : CheckError) (x : Overflow) → ((o : Overflow) → e ≡ check_errors.Overflow o → ⊥) → refusals.Overflow x ≡ of_check e → ⊥
 check_never s (check_errors.Overflow o) x never q = never o refl
@@ -143,12 +155,25 @@ given_never o n s x b (IsGivenListCause.at_root (IsGivenRootRefusal.at_check e h
 given_never o n s x b (IsGivenListCause.at_root (IsGivenRootRefusal.at_tails t d m a h q)) =
     poly_never d x (λ y i. refusals_tell_no_overflow.monic_forms s t y b a (subst (λ c. IsAutoreductionRefusal t.items c) i h)) q
 given_never o n s x b (IsGivenListCause.at_root (IsGivenRootRefusal.on_the_way u e m f h q)) =
-    tree_never s.variables (polys s.items) o.pairs e x (λ y k. refusals_tell_no_overflow.given_search s.variables o.pairs s y b k) (way_in_tree s u o.pairs e b.variables f h) q
-given_never o n s x b (IsGivenListCause.going m h) = going_never o n (polys s.items) x (λ y pairs k. refusals_tell_no_overflow.given_search n pairs s y b k) h
+    tree_never (ideal_by s.variables (polys s.items)) o.pairs e x (λ y k. refusals_tell_no_overflow.given_search s.variables o.pairs s y b k) (way_in_tree s u o.pairs e b.variables f h) q
+given_never o n s x b (IsGivenListCause.going m h) = going_never o n (all_positive n) (polys s.items) x (λ y pairs k. refusals_tell_no_overflow.given_search n pairs s y b k) h
+
+-- the polynomials of the reduced basis are such differences
+reduced_binomials : (s u : MarkedPolynomials) → IsBinomialSet s → IsReducedFrom s u → AreBinomials (polys u.items)
+reduced_binomials s u b f g c = at (Contains-marked u.items g c)
+  where
+    inside : AreInVariables s.variables (polys s.items)
+    inside = polys_variables s.variables s.items b.variables
+
+    two : AreMarkedBinomials (Contains u.items)
+    two = bases_of_binomials s.variables (polys s.items) u.items inside (polys_binomial s b) (given_node s.variables (polys s.items) u inside f.given).basis.reduced
+
+    at : ((p : MarkedPolynomial) × Contains u.items p × (p.poly ≡ g)) → IsBinomial g
+    at p = subst IsBinomial p.2 (record { first = Some p.0.head; second = (two p.0 p.1).tail; binomial = (two p.0 p.1).binomial })
 
 summary_never : (limit pairs : ℕ) (fs : List Terms) (x : Overflow) → AreBinomials fs → IsSummaryCause limit pairs fs (refusals.Overflow x) → ⊥
 summary_never limit pairs fs x b (IsSummaryCause.at_root e h q) = basis_never MonomialOrder.deglex 4 fs pairs e x b h q
-summary_never limit pairs fs x b (IsSummaryCause.in_tree e h q) = search_never (list_to limit pairs) 4 fs e x (λ y pairs k. refusals_tell_no_overflow.search (ideal_by 4 fs) pairs y b k) h q
+summary_never limit pairs fs x b (IsSummaryCause.in_tree e h q) = search_never (list_to limit pairs) 4 (all_positive 4) fs e x (λ y pairs k. refusals_tell_no_overflow.search (ideal_by 4 fs) pairs y b k) h q
 summary_never limit pairs fs x b (IsSummaryCause.at_weight e h q) = no_weight e x q
 summary_never limit pairs fs x b (IsSummaryCause.at_sum e h q) = cc
 
@@ -254,6 +279,56 @@ module _ (source : List ℕ) (b : BeginsPlainly source) where
   listed_never false o x h = bases_never o x h
   listed_never true o x h = given_bases_never o x h
 
+  -- in a region
+  no_region_never : (e : RegionError) (x : Overflow) → refusals.Overflow x ≡ of_region e → ⊥
+  no_region_never (region_errors.Empty ms) x q = cc
+  no_region_never (region_errors.WideRoot i y) x q = cc
+  no_region_never (region_errors.Cone s) x q = cc
+  no_region_never (region_errors.Wide w) x q = cc
+  no_region_never region_errors.Memory x q = cc
+
+  cause_never : (o : ListOptions) (n : ℕ) (rows : List (List ℤ)) (fs : List Terms) (x : Overflow) → AreBinomials fs → IsCauseWithin o n rows fs (refusals.Overflow x) → ⊥
+  cause_never o n rows fs x k (IsCauseWithin.at_region (w, (e, h, q))) = no_region_never e x q
+  cause_never o n rows fs x k (IsCauseWithin.at_root j i (e, h, q)) = basis_never (MonomialOrder.weighted (gains j.root)) n fs o.pairs e x k h q
+  cause_never o n rows fs x k (IsCauseWithin.going j i h) = going_never o n j fs x (λ y pairs l. refusals_tell_no_overflow.search (ideal_within n fs j) pairs y k l) h
+
+  rows_never : (n : ℕ) (rows : List (List ℤ)) (x : Overflow) → FirstFails (for_each n rows) (refusals.Overflow x) → ⊥
+  rows_never n [] x h = h
+  rows_never n (w ∷ ws) x (inl h) = h
+  rows_never n (w ∷ ws) x (inr (k, h)) = rows_never n ws x h
+
+  vectors_text_never : (file : List ℕ) (o : Overflow) → IsTextRefused vectors_alone file (text_errors.Overflow o) → ⊥
+  vectors_text_never file o (IsTextRefused.in_items h) = h
+  vectors_text_never file o (IsTextRefused.behind_items end a s r m q) = cc
+
+  given_cause_never : (o : ListOptions) (n : ℕ) (rows : List (List ℤ)) (s : MarkedPolynomials) (x : Overflow) → IsBinomialSet s → IsGivenCauseWithin o n rows s (refusals.Overflow x) → ⊥
+  given_cause_never o n rows s x k (IsGivenCauseWithin.at_start (IsGivenStartRefusal.at_region (w, (e, h, q)))) = no_region_never e x q
+  given_cause_never o n rows s x k (IsGivenCauseWithin.at_start (IsGivenStartRefusal.at_root j i (IsGivenRegionRootRefusal.at_basis (IsReducingRefusal.at_check e h q)))) =
+      check_never s e x (λ y l. refusals_tell_no_overflow.marked_basis 0 s y k (subst (λ d. IsReducedBasisRefusal 0 s d) l h)) q
+  given_cause_never o n rows s x k (IsGivenCauseWithin.at_start (IsGivenStartRefusal.at_root j i (IsGivenRegionRootRefusal.at_basis (IsReducingRefusal.at_tails t d m a h q)))) =
+      poly_never d x (λ y l. refusals_tell_no_overflow.monic_forms s t y k a (subst (λ c. IsAutoreductionRefusal t.items c) l h)) q
+  given_cause_never o n rows s x k (IsGivenCauseWithin.at_start (IsGivenStartRefusal.at_root j i (IsGivenRegionRootRefusal.at_root u m f (e, h, q)))) =
+      basis_never (MonomialOrder.weighted (gains j.root)) s.variables (polys u.items) o.pairs e x (reduced_binomials s u k f) h q
+  given_cause_never o n rows s x k (IsGivenCauseWithin.going j i m h) = going_never o n j (polys s.items) x (λ y pairs l. refusals_tell_no_overflow.search (ideal_within n (polys s.items) j) pairs y (polys_binomial s k) l) h
+
+  within_never : (name : List ℕ) (o : ListOptions) (file : List ℕ) (x : Overflow) → IsRefusedOn (bases_within_command name o) (file ∷ (source ∷ [])) (refusals.Overflow x) → ⊥
+  within_never name o file x (IsRefusedOn.in_text e (inl h) q) = vectors_text_never file x (subst (λ d. IsTextRefused vectors_alone file d) (tells_text e x q) h)
+  within_never name o file x (IsRefusedOn.in_text e (inr h) q) = set_text_never false x (subst (λ d. IsTextRefused (ring_set_vector false) source d) (tells_text e x q) h.2)
+  within_never name o file x (IsRefusedOn.behind_text v r (IsUnanswered.in_form f)) = rows_never (length v.1.0) v.0 x f
+  within_never name o file x (IsRefusedOn.behind_text v r (IsUnanswered.in_work f w)) =
+      cause_never o (length v.1.0) v.0 (generators_of v.1.1.0) x (set_binomials r.1.read.behind v.1.0 r.1.read.two.behind v.1.1.0 r.1.read.one r.1.read.two.one) w
+  within_never name o file x (IsRefusedOn.behind_text v r (IsUnanswered.no_memory m)) = cc
+  within_never name o file x (IsRefusedOn.no_memory m) = cc
+
+  given_within_never : (name : List ℕ) (o : ListOptions) (file : List ℕ) (x : Overflow) → IsRefusedOn (given_within_command name o) (file ∷ (source ∷ [])) (refusals.Overflow x) → ⊥
+  given_within_never name o file x (IsRefusedOn.in_text e (inl h) q) = vectors_text_never file x (subst (λ d. IsTextRefused vectors_alone file d) (tells_text e x q) h)
+  given_within_never name o file x (IsRefusedOn.in_text e (inr h) q) = marked_text_never x (subst (λ d. IsTextRefused ring_marked_set source d) (tells_text e x q) h.2)
+  given_within_never name o file x (IsRefusedOn.behind_text v r (IsUnanswered.in_form f)) = rows_never (length v.1.0) v.0 x f
+  given_within_never name o file x (IsRefusedOn.behind_text v r (IsUnanswered.in_work f w)) =
+      given_cause_never o (length v.1.0) v.0 v.1.1 x (marked_binomials r.1.read.behind v.1.0 r.1.end v.1.1 r.1.read.one r.1.read.two) w
+  given_within_never name o file x (IsRefusedOn.behind_text v r (IsUnanswered.no_memory m)) = cc
+  given_within_never name o file x (IsRefusedOn.no_memory m) = cc
+
 generated_never : (number limit pairs : ℕ) (texts : List (List ℕ)) (x : Overflow) → IsRefusedOn (generated_command number limit pairs) texts (refusals.Overflow x) → ⊥
 generated_never number limit pairs texts x (IsRefusedOn.in_text e h q) = h
 generated_never number limit pairs texts x (IsRefusedOn.behind_text v r (IsUnanswered.in_form f)) = f
@@ -261,26 +336,37 @@ generated_never number limit pairs texts x (IsRefusedOn.behind_text v r (IsUnans
 generated_never number limit pairs texts x (IsRefusedOn.behind_text v r (IsUnanswered.no_memory m)) = cc
 generated_never number limit pairs texts x (IsRefusedOn.no_memory m) = cc
 
+-- the list, for all positive weights or in a region
+bases_of_never : (within : Option (List ℕ)) (from_basis : Bool) (o : ListOptions) (texts : List (List ℕ)) (x : Overflow) → IsPlainList within texts → IsRefusedOn (bases_of within from_basis o) texts (refusals.Overflow x) → ⊥
+bases_of_never None from_basis o [] x b h = b
+bases_of_never None from_basis o (source ∷ []) x b h = listed_never source b from_basis o x h
+bases_of_never None from_basis o (source ∷ (other ∷ others)) x b h = b
+bases_of_never (Some name) from_basis o [] x b h = b
+bases_of_never (Some name) from_basis o (file ∷ []) x b h = b
+bases_of_never (Some name) false o (file ∷ (source ∷ [])) x b h = within_never source b name o file x h
+bases_of_never (Some name) true o (file ∷ (source ∷ [])) x b h = given_within_never source b name o file x h
+bases_of_never (Some name) from_basis o (file ∷ (source ∷ (other ∷ others))) x b h = b
+
 -- no job on such a source is refused so
 job_never : (job : Job) (texts : List (List ℕ)) (x : Overflow) → IsOnBinomials job texts → IsRefusedOn (command_of job) texts (refusals.Overflow x) → ⊥
 job_never (jobs.Buchberger o) [] x b h = b
 job_never (jobs.Buchberger o) (source ∷ []) x b h = buchberger_never source b (options o) x h
 job_never (jobs.Buchberger o) (source ∷ (other ∷ others)) x b h = b
-job_never (jobs.Bases o) [] x b h = b
-job_never (jobs.Bases o) (source ∷ []) x b h = listed_never source b o.from_basis (list_options o) x h
-job_never (jobs.Bases o) (source ∷ (other ∷ others)) x b h = b
+job_never (jobs.Bases o) texts x b h = bases_of_never o.within o.from_basis (list_options o) texts x b h
 job_never (jobs.Generated o) texts x b h = generated_never o.number o.limit o.pairs texts x h
 job_never _ texts x b h = absurd b
 
 -- ---- the run
 
-list_alone : (from_basis : Bool) (o : ListOptions) → TakesTurns (list_command from_basis o).writing → ⊥
-list_alone false o t = t
-list_alone true o t = t
+list_alone : (within : Option (List ℕ)) (from_basis : Bool) (o : ListOptions) → TakesTurns (bases_of within from_basis o).writing → ⊥
+list_alone None false o t = t
+list_alone None true o t = t
+list_alone (Some name) false o t = t
+list_alone (Some name) true o t = t
 
 takes_no_turns : (job : Job) (texts : List (List ℕ)) → IsOnBinomials job texts → TakesTurns (command_of job).writing → ⊥
 takes_no_turns (jobs.Buchberger o) texts b t = t
-takes_no_turns (jobs.Bases o) texts b t = list_alone o.from_basis (list_options o) t
+takes_no_turns (jobs.Bases o) texts b t = list_alone o.within o.from_basis (list_options o) t
 takes_no_turns (jobs.Generated o) texts b t = t
 takes_no_turns _ texts b t = b
 

@@ -10,7 +10,7 @@ use Rattle.gf_front.specs.declared.refusal.Refusal.{Refusal}
 use Rattle.gf_front.specs.declared.refusal.Refusal.TheVariants as refusals
 use Rattle.gf_front.specs.declared.refusal.Status.TheVariants as statuses
 use Rattle.gf_front.specs.Jobs.{IsJobOf}
-use Rattle.gf_frame.specs.Seen.{Seen, OutputSeen}
+use Rattle.gf_frame.specs.Seen.{InputSeen, Seen, OutputSeen}
 use Rattle.gf_frame.specs.Loading.{Origin, IsInputLoaded, AreLoaded, AreUnloaded}
 use Rattle.gf_frame.specs.Commands.{Writing, Command, IsOfOutside, IsAnswered, IsRefusedOn}
 use Rattle.gf_frame.specs.Runs.{TakesTurns, IsCarriedOut, IsDoneBy, AreCut, IsStoppedBy, AreGivenTexts}
@@ -21,7 +21,7 @@ use Rattle.gfan.specs.declared.refused.Refused.{Refused}
 use Rattle.gfan.specs.BasesWriting.{IsUnnamed}
 use Rattle.gfan.specs.Refused.{IsNamedBy, IsRingOf, IsOfSource}
 use Rattle.gfan.specs.declared.bases.ListOptions.{ListOptions}
-use Rattle.gfan.specs.Commands.{list_options, list_command, command_of, IsPastReach}
+use Rattle.gfan.specs.Commands.{list_options, bases_of, command_of, IsPastReach}
 use Rattle.gfan.specs.Run.{ReadWhole, IsRingOfInput, IsOfInput, IsOfLoaded}
 use Rattle.gfan.proofs.PerformedLaws.{of_unnamed}
 use Rattle.gfan.proofs.LimitLaws.{past_refused, past_unanswered}
@@ -48,7 +48,13 @@ unnamed_input left leaves given gives e u = record {
 -- what is told without a ring is told so of any sources
 pub unnamed_loaded : (os : List Origin) (texts : List (List ℕ)) (e : Refused) → IsUnnamed e → IsOfLoaded os texts e
 unnamed_loaded [] texts e u = u
-unnamed_loaded (Origin.a_file name ∷ os) texts e u = u
+unnamed_loaded (Origin.a_file name ∷ []) texts e u = u
+unnamed_loaded (Origin.a_file name ∷ (Origin.a_file other ∷ os)) texts e u = u
+unnamed_loaded (Origin.a_file name ∷ (Origin.the_input ∷ (o ∷ os))) texts e u = u
+unnamed_loaded (Origin.a_file name ∷ (Origin.the_input ∷ [])) [] e u = u
+unnamed_loaded (Origin.a_file name ∷ (Origin.the_input ∷ [])) (file ∷ []) e u = u
+unnamed_loaded (Origin.a_file name ∷ (Origin.the_input ∷ [])) (file ∷ (source ∷ [])) e u = of_unnamed source e u
+unnamed_loaded (Origin.a_file name ∷ (Origin.the_input ∷ [])) (file ∷ (source ∷ (other ∷ others))) e u = u
 unnamed_loaded (Origin.the_input ∷ (o ∷ os)) texts e u = u
 unnamed_loaded (Origin.the_input ∷ []) [] e u = u
 unnamed_loaded (Origin.the_input ∷ []) (source ∷ []) e u = of_unnamed source e u
@@ -67,7 +73,14 @@ of_input p m q source e l same h = record { named = h.named; ring = at e.ring h.
 
 pub told_loaded : (os : List Origin) (p q : Seen) (texts : List (List ℕ)) (e : Refused) → AreLoaded os p q texts → IsOfLoaded os texts e → IsOfInput p.input.left q.input.left p.input.given q.input.given e
 told_loaded [] p q texts e l h = unnamed_input p.input.left q.input.left p.input.given q.input.given e h
-told_loaded (Origin.a_file name ∷ os) p q texts e l h = unnamed_input p.input.left q.input.left p.input.given q.input.given e h
+told_loaded (Origin.a_file name ∷ []) p q texts e l h = unnamed_input p.input.left q.input.left p.input.given q.input.given e h
+told_loaded (Origin.a_file name ∷ (Origin.a_file other ∷ os)) p q texts e l h = unnamed_input p.input.left q.input.left p.input.given q.input.given e h
+told_loaded (Origin.a_file name ∷ (Origin.the_input ∷ (o ∷ os))) p q texts e l h = unnamed_input p.input.left q.input.left p.input.given q.input.given e h
+told_loaded (Origin.a_file name ∷ (Origin.the_input ∷ [])) p q [] e l h = absurd l
+told_loaded (Origin.a_file name ∷ (Origin.the_input ∷ [])) p q (file ∷ []) e l h = absurd l.2
+told_loaded (Origin.a_file name ∷ (Origin.the_input ∷ [])) p q (file ∷ (source ∷ [])) e l h =
+    subst (λ (i : InputSeen). IsOfInput i.left q.input.left i.given q.input.given e) l.1.input (of_input l.0 l.2.0 q source e l.2.1 l.2.2 h)
+told_loaded (Origin.a_file name ∷ (Origin.the_input ∷ [])) p q (file ∷ (source ∷ (other ∷ others))) e l h = absurd l.2.2
 told_loaded (Origin.the_input ∷ (o ∷ os)) p q texts e l h = unnamed_input p.input.left q.input.left p.input.given q.input.given e h
 told_loaded (Origin.the_input ∷ []) p q [] e l h = absurd l
 told_loaded (Origin.the_input ∷ []) p q (source ∷ []) e l h = of_input p l.0 q source e l.1 l.2 h
@@ -75,12 +88,14 @@ told_loaded (Origin.the_input ∷ []) p q (source ∷ (other ∷ others)) e l h 
 
 -- ---- past the limit of a list
 
-list_alone : (from_basis : Bool) (o : ListOptions) → TakesTurns (list_command from_basis o).writing → ⊥
-list_alone false o t = t
-list_alone true o t = t
+list_alone : (within : Option (List ℕ)) (from_basis : Bool) (o : ListOptions) → TakesTurns (bases_of within from_basis o).writing → ⊥
+list_alone None false o t = t
+list_alone None true o t = t
+list_alone (Some name) false o t = t
+list_alone (Some name) true o t = t
 
 past_alone : (job : Job) (texts : List (List ℕ)) (most : ℕ) → IsPastReach job texts most → TakesTurns (command_of job).writing → ⊥
-past_alone (jobs.Bases o) texts most p t = list_alone o.from_basis (list_options o) t
+past_alone (jobs.Bases o) texts most p t = list_alone o.within o.from_basis (list_options o) t
 past_alone _ texts most p t = p
 
 answered_done : (c : Command) (writing : Writing c.Value) (texts : List (List ℕ)) (m q : Seen) (o s : OutputSeen) → (TakesTurns writing → ⊥) → IsCarriedOut c writing texts m q o s → (text : List ℕ) × IsAnswered c texts text

@@ -1,7 +1,7 @@
 -- What a job is handed, from the texts of its sources as the code lists them.
--- To cite: one_alone, two_alone, texts_length, list_as, two_as, one_as, none_as, writes_once, not_asked, not_handed. The rest are
+-- To cite: one_alone, two_alone, texts_length, list_as, within_as, list_reads, two_as, one_as, none_as, writes_once, not_asked, not_handed. The rest are
 -- steps.
-use Rattle.std.specs.Prelude.{◌≡◌, ◌⊎◌, ℕ, Bool, true, false, List, [], ◌∷◌, length, get_or, Vec}
+use Rattle.std.specs.Prelude.{◌≡◌, ◌⊎◌, ℕ, Bool, true, false, List, [], ◌∷◌, length, get_or, Vec, Option, None, Some}
 use Rattle.std.specs.Global.{Global}
 use Rattle.std.proofs.Common.{arith, refl, sym, ap, ◌∙◌, subst, inl, inr}
 use Rattle.gf_front.specs.declared.command_line.Job.{Job}
@@ -21,8 +21,8 @@ use Rattle.gfan.specs.WeightVector.{weight_vector_command}
 use Rattle.gfan.specs.GroebnerCone.{groebner_cone_command}
 use Rattle.gfan.specs.CommonRefinement.{refinement_command}
 use Rattle.gfan.specs.Generated.{generated_command}
-use Rattle.gfan.specs.Commands.{list_options, cone_options, plain_command, list_command, command_of, ReadsInputAlone}
-use Rattle.gfan.proofs.CommandLaws.{list_source}
+use Rattle.gfan.specs.Commands.{list_options, cone_options, plain_command, list_sources, list_command, within_command, bases_of, command_of, ReadsInputAlone}
+use Rattle.gfan.proofs.CommandLaws.{list_source, bases_not_once}
 use Rattle.gfan.proofs.BasisTestLaws.{intersection_once}
 
 -- ---- texts as the code lists them
@@ -52,13 +52,34 @@ pub one_as : (P : List (List ℕ) → Type 0) (job : Job) (ts : List (Vec ℕ Gl
     → P (a ∷ []) → P (texts_of ts)
 one_as P job ts x a r l i p h = subst P (one_alone ts x a (l ∙ ap length r) i p) h
 
--- the list has one
-pub list_as : (P : Command → List (List ℕ) → Type 0) (job : Job) (o : BasesOptions) (from_basis : Bool) (ts : List (Vec ℕ Global)) (x : Vec ℕ Global) (a : List ℕ)
-    → job ≡ jobs.Bases o → o.from_basis ≡ from_basis → length ts ≡ length (command_of job).reads → x ≡ get_or ts 0 x → a ≡ x.items
-    → P (list_command from_basis (list_options o)) (a ∷ []) → P (command_of job) (texts_of ts)
-list_as P job o from_basis ts x a e f l i p h =
-    one_as (P (command_of job)) job ts x a (subst ReadsInputAlone (sym e) (list_source o.from_basis (list_options o))) l i p
-    (subst (λ j. P (command_of j) (a ∷ [])) (sym e) (subst (λ b. P (list_command b (list_options o)) (a ∷ [])) (sym f) h))
+-- the list for all positive weights has one
+pub list_as : (P : Command → List (List ℕ) → Type 0) (o : BasesOptions) (from_basis : Bool) (ts : List (Vec ℕ Global)) (x : Vec ℕ Global) (a : List ℕ)
+    → o.within ≡ None → o.from_basis ≡ from_basis → length ts ≡ length (command_of (jobs.Bases o)).reads → x ≡ get_or ts 0 x → a ≡ x.items
+    → P (list_command from_basis (list_options o)) (a ∷ []) → P (command_of (jobs.Bases o)) (texts_of ts)
+list_as P o from_basis ts x a e f l i p h =
+    let there : P (bases_of o.within o.from_basis (list_options o)) (a ∷ []) =
+    subst (λ w. P (bases_of w o.from_basis (list_options o)) (a ∷ [])) (sym e) (subst (λ b. P (list_command b (list_options o)) (a ∷ [])) (sym f) h) in
+    let long : length ts ≡ 1 = subst (λ w. length ts ≡ length (bases_of w o.from_basis (list_options o)).reads) e l ∙ ap length (list_source o.from_basis (list_options o)) in
+    subst (P (bases_of o.within o.from_basis (list_options o))) (one_alone ts x a long i p) there
+
+within_sources : (name : List ℕ) (from_basis : Bool) (o : ListOptions) → (within_command name from_basis o).reads ≡ Origin.a_file name ∷ (Origin.the_input ∷ [])
+within_sources name false o = refl
+within_sources name true o = refl
+
+-- that in a region has two
+pub within_as : (P : Command → List (List ℕ) → Type 0) (o : BasesOptions) (name : List ℕ) (from_basis : Bool) (ts : List (Vec ℕ Global)) (x y : Vec ℕ Global) (a b : List ℕ)
+    → o.within ≡ Some name → o.from_basis ≡ from_basis → length ts ≡ length (command_of (jobs.Bases o)).reads → x ≡ get_or ts 0 x → y ≡ get_or ts 1 y → a ≡ x.items → b ≡ y.items
+    → P (within_command name from_basis (list_options o)) (a ∷ (b ∷ [])) → P (command_of (jobs.Bases o)) (texts_of ts)
+within_as P o name from_basis ts x y a b e f l i j p q h =
+    let there : P (bases_of o.within o.from_basis (list_options o)) (a ∷ (b ∷ [])) =
+    subst (λ w. P (bases_of w o.from_basis (list_options o)) (a ∷ (b ∷ []))) (sym e) (subst (λ z. P (within_command name z (list_options o)) (a ∷ (b ∷ []))) (sym f) h) in
+    let long : length ts ≡ 2 = subst (λ w. length ts ≡ length (bases_of w o.from_basis (list_options o)).reads) e l ∙ ap length (within_sources name o.from_basis (list_options o)) in
+    subst (P (bases_of o.within o.from_basis (list_options o))) (two_alone ts x y a b long i j p q) there
+
+-- the sources of the list
+pub list_reads : (within : Option (List ℕ)) (from_basis : Bool) (o : ListOptions) → (bases_of within from_basis o).reads ≡ list_sources within
+list_reads None from_basis o = list_source from_basis o
+list_reads (Some name) from_basis o = within_sources name from_basis o
 
 -- a job on two files has two
 pub two_as : (P : Command → List (List ℕ) → Type 0) (job : Job) (o : FanCommonRefinementOptions) (ts : List (Vec ℕ Global)) (x y : Vec ℕ Global) (a b : List ℕ)
@@ -111,10 +132,6 @@ writes_once (jobs.FanCommonRefinement o) n = tt
 writes_once (jobs.Generated o) n = tt
 writes_once (jobs.Saturation o) n = tt
 
-list_not_once : (from_basis : Bool) (o : ListOptions) → WritesOnce (list_command from_basis o).writing → ⊥
-list_not_once false o w = w
-list_not_once true o w = w
-
 file_not_input : (name : List ℕ) (os ps : List Origin) → Origin.a_file name ∷ os ≡ Origin.the_input ∷ ps → ⊥
 file_not_input name os ps e = cc
 
@@ -125,7 +142,7 @@ none_not_input ps e = cc
 pub not_asked : (job : Job) → WritesOnce (command_of job).writing → ReadsInputAlone job
     → ((o : BasesOptions) × (job ≡ jobs.Bases o)) ⊎ ((o : FanCommonRefinementOptions) × (job ≡ jobs.FanCommonRefinement o)) → ⊥
 not_asked job once reads h = elim h [
-  | inl k ↦ list_not_once k.0.from_basis (list_options k.0) (subst (λ j. WritesOnce (command_of j).writing) k.1 once)
+  | inl k ↦ bases_not_once k.0.within k.0.from_basis (list_options k.0) (subst (λ j. WritesOnce (command_of j).writing) k.1 once)
   | inr k ↦ file_not_input k.0.first (Origin.a_file k.0.second ∷ []) [] (subst ReadsInputAlone k.1 reads)
 ]
 

@@ -2,7 +2,7 @@
 -- To cite: weight_long; IsSummingUp, starts, step_variables, below_limit, goes_on, past_limit, ends, refused_in_tree, refused_at_basis;
 -- unnamed_unsummed, summary_answers, summary_refuses, root_refuses; tree_not_listed, generated_lawful, generated_ring, generated_begins, generated_start,
 -- one_summary. The rest are steps.
-use Rattle.std.specs.Prelude.{◌≡◌, ◌≢◌, ◌⊎◌, ℕ, ◌+◌, ◌<◌, ◌≤◌, nat_le, max, min, true, false, List, [], ◌∷◌, ◌++◌, length, take, map, ℤ}
+use Rattle.std.specs.Prelude.{◌≡◌, ◌≢◌, ◌⊎◌, ℕ, ◌<◌, ◌≤◌, nat_le, max, min, true, false, List, [], ◌∷◌, ◌++◌, length, take, map, ℤ}
 use Rattle.std.specs.Global.{Global}
 use Rattle.std.proofs.Common.{arith, refl, sym, ap, ap₂, ◌∙◌, subst, inl, inr, append_assoc, append-nil, length-append}
 use Rattle.std.proofs.lemmas.Bool.{cases_lt}

@@ -10,10 +10,11 @@ use Rattle.gf_buchberger.specs.declared.bases.BasisError.{BasisError}
 use Rattle.gf_buchberger.specs.Bases.{IsBasisRefusal, AreRunsWithinLimits}
 use Rattle.gf_tree.specs.declared.error.TreeError.{TreeError}
 use Rattle.gf_tree.specs.declared.error.TreeError.TheVariants as tree_errors
-use Rattle.gf_tree.specs.Ideals.{ideal_by}
+use Rattle.gf_facets.specs.Regions.{Region, all_positive}
+use Rattle.gf_tree.specs.Ideals.{ideal_by, ideal_within}
 use Rattle.gf_tree.specs.Refusals.{IsTreeWithinLimits}
 use Rattle.gf_subtree.specs.Answers.{IsRefusedEarly}
-use Rattle.gf_weights.specs.Refusals.{AreCertificatesWithinLimits}
+use Rattle.gf_weights.specs.Refusals.{AreCertificatesFittingIn}
 use Rattle.gf_front.specs.declared.refusal.Refusal.{Refusal}
 use Rattle.gf_front.specs.declared.refusal.Refusal.TheVariants as refusals
 use Rattle.gf_items.specs.Sources.{ring_set_vector}
@@ -23,8 +24,8 @@ use Rattle.gf_frame.specs.Readings.{of_one}
 use Rattle.gf_frame.specs.Commands.{Writing, Command}
 use Rattle.gfan.specs.declared.bases.ListOptions.{ListOptions}
 use Rattle.gfan.specs.Buchberger.{generators_of, of_basis}
-use Rattle.gfan.specs.BasesList.{IsGivenByWeight, AreAllBases}
-use Rattle.gfan.specs.Certificates.{IsItemText, IsUncertified}
+use Rattle.gfan.specs.BasesList.{IsGivenIn, AreAllBasesIn, AreAllBases}
+use Rattle.gfan.specs.Certificates.{IsItemTextIn, IsUncertifiedIn}
 
 -- ---- what is written
 
@@ -46,51 +47,51 @@ abbrev pub begun_text : List (List ℕ) → List (List ℕ) → List ℕ
 begun_text ring [] = []
 begun_text ring (t ∷ ts) = ring_text ring ++ 123 ∷ items_text (t ∷ ts)
 
--- what stands for each of these bases
-abbrev pub AreItemTexts : Bool → List (List ℕ) → List MarkedPolynomials → List (List ℕ) → Type 0
-AreItemTexts certified ring bs ts = AllZip (IsItemText certified ring) bs ts
+-- what stands for each of these bases in a region
+abbrev pub AreItemTextsIn : Bool → List (List ℕ) → Region → List MarkedPolynomials → List (List ℕ) → Type 0
+AreItemTextsIn certified ring k bs ts = AllZip (IsItemTextIn certified ring k) bs ts
 
 -- the list isn't longer than the limit, where one is given
 abbrev pub IsWithinLimit : Option ℕ → List MarkedPolynomials → Type 0
 IsWithinLimit None list = Unit {0}
 IsWithinLimit (Some most) list = length list ≤ most
 
--- the ring in a line, and all bases of the ideal of fs, which are no more than the limit, with certificates or without
-pub record IsTextOfBases (certified : Bool) (limit : Option ℕ) (ring : List (List ℕ)) (fs : List Terms) (text : List ℕ) : Type 0 where
+-- the ring in a line, and all bases of the ideal of fs in a region, which are no more than the limit, with certificates or without
+pub record IsTextOfBasesIn (certified : Bool) (limit : Option ℕ) (ring : List (List ℕ)) (k : Region) (fs : List Terms) (text : List ℕ) : Type 0 where
   pub list : List MarkedPolynomials
-  pub are_all : AreAllBases (length ring) fs list
+  pub are_all : AreAllBasesIn (length ring) k fs list
   pub few : IsWithinLimit limit list
   pub items : List (List ℕ)
-  pub are_items : AreItemTexts certified ring list items
+  pub are_items : AreItemTextsIn certified ring k list items
   pub is_text : text ≡ list_text ring items
 
 -- ---- what is written before the list is refused
 
 -- the beginning of that text, up to the last of the bases that are written, behind which the rest of the list comes
-pub record IsBegunList (certified : Bool) (ring : List (List ℕ)) (fs : List Terms) (written rest : List MarkedPolynomials) (text : List ℕ) : Type 0 where
-  pub are_all : AreAllBases (length ring) fs (written ++ rest)
+pub record IsBegunListIn (certified : Bool) (ring : List (List ℕ)) (k : Region) (fs : List Terms) (written rest : List MarkedPolynomials) (text : List ℕ) : Type 0 where
+  pub are_all : AreAllBasesIn (length ring) k fs (written ++ rest)
   pub items : List (List ℕ)
-  pub are_items : AreItemTexts certified ring written items
+  pub are_items : AreItemTextsIn certified ring k written items
   pub is_text : text ≡ begun_text ring items
 
 -- some of the bases, from the first on, or none; no more than the limit lets through
-abbrev pub IsBegunText : ListOptions → List (List ℕ) → List Terms → List ℕ → Type 0
-IsBegunText o ring fs text = (written : List MarkedPolynomials) × (rest : List MarkedPolynomials) × IsBegunList o.certified ring fs written rest text × IsWithinLimit o.limit written
+abbrev pub IsBegunTextIn : ListOptions → List (List ℕ) → Region → List Terms → List ℕ → Type 0
+IsBegunTextIn o ring k fs text = (written : List MarkedPolynomials) × (rest : List MarkedPolynomials) × IsBegunListIn o.certified ring k fs written rest text × IsWithinLimit o.limit written
 
 -- just as many as the limit lets through, and a further one in the list
-pub record IsBegunToLimit (o : ListOptions) (ring : List (List ℕ)) (fs : List Terms) (most : ℕ) (text : List ℕ) : Type 0 where
+pub record IsBegunToLimitIn (o : ListOptions) (ring : List (List ℕ)) (k : Region) (fs : List Terms) (most : ℕ) (text : List ℕ) : Type 0 where
   pub is_limit : o.limit ≡ Some most
   pub written : List MarkedPolynomials
   pub next : MarkedPolynomials
   pub rest : List MarkedPolynomials
-  pub begun : IsBegunList o.certified ring fs written (next ∷ rest) text
+  pub begun : IsBegunListIn o.certified ring k fs written (next ∷ rest) text
   pub just : length written ≡ most
 
 -- all that is written where nothing stops it: the text of the list; or, where that goes on past the limit, its beginning, with just as many
 -- bases as the limit lets through
-pub data IsFullText (o : ListOptions) (ring : List (List ℕ)) (fs : List Terms) (text : List ℕ) : Type 0 where
-  to_its_end : IsTextOfBases o.certified o.limit ring fs text → IsFullText o ring fs text
-  to_the_limit : (most : ℕ) → IsBegunToLimit o ring fs most text → IsFullText o ring fs text
+pub data IsFullTextIn (o : ListOptions) (ring : List (List ℕ)) (k : Region) (fs : List Terms) (text : List ℕ) : Type 0 where
+  to_its_end : IsTextOfBasesIn o.certified o.limit ring k fs text → IsFullTextIn o ring k fs text
+  to_the_limit : (most : ℕ) → IsBegunToLimitIn o ring k fs most text → IsFullTextIn o ring k fs text
 
 -- ---- why it isn't written
 
@@ -103,51 +104,86 @@ of_tree (tree_errors.Cone x) = refusals.ConeOverflow x.row x.op x.left x.right
 of_tree tree_errors.Memory = refusals.Memory
 
 -- there are more bases than the limit lets through
-pub record IsPastLimit (limit : Option ℕ) (n : ℕ) (fs : List Terms) (most : ℕ) : Type 0 where
+pub record IsPastLimitIn (limit : Option ℕ) (n : ℕ) (k : Region) (fs : List Terms) (most : ℕ) : Type 0 where
   pub is_limit : limit ≡ Some most
   pub list : List MarkedPolynomials
-  pub are_all : AreAllBases n fs list
+  pub are_all : AreAllBasesIn n k fs list
   pub longer : most < length list
 
 -- behind some of the bases, which the limit lets through, a call of the search is refused at a basis that is one of these, or is the next one
-pub record IsSearchRefused (o : ListOptions) (n : ℕ) (fs : List Terms) (e : TreeError) : Type 0 where
+pub record IsSearchRefusedIn (o : ListOptions) (n : ℕ) (k : Region) (fs : List Terms) (e : TreeError) : Type 0 where
   pub written : List MarkedPolynomials
   pub rest : List MarkedPolynomials
-  pub are_all : AreAllBases n fs (written ++ rest)
+  pub are_all : AreAllBasesIn n k fs (written ++ rest)
   pub few : IsWithinLimit o.limit written
-  pub early : IsRefusedEarly (ideal_by n fs) o.pairs rest e
+  pub early : IsRefusedEarly (ideal_within n fs k) o.pairs rest e
 
 -- certificates are asked for, and behind some of the bases those of the next one, which the limit lets through, are refused
-pub record AreCertificatesRefused (o : ListOptions) (n : ℕ) (fs : List Terms) (r : Refusal) : Type 0 where
+pub record AreCertificatesRefusedIn (o : ListOptions) (n : ℕ) (k : Region) (fs : List Terms) (r : Refusal) : Type 0 where
   pub certified : o.certified ≡ true
   pub written : List MarkedPolynomials
   pub basis : MarkedPolynomials
   pub rest : List MarkedPolynomials
-  pub are_all : AreAllBases n fs (written ++ basis ∷ rest)
+  pub are_all : AreAllBasesIn n k fs (written ++ basis ∷ rest)
   pub few : IsWithinLimit o.limit (written ++ basis ∷ [])
-  pub uncertified : IsUncertified basis r
+  pub uncertified : IsUncertifiedIn k basis r
 
 -- a step of the search is refused, at a basis that isn't behind the limit; or the list is past its limit; or, where certificates are asked
 -- for, those of a basis that the limit lets through are refused
-pub data IsGoingCause (o : ListOptions) (n : ℕ) (fs : List Terms) (r : Refusal) : Type 0 where
-  in_tree : (e : TreeError) → IsSearchRefused o n fs e → r ≡ of_tree e → IsGoingCause o n fs r
-  at_limit : (most : ℕ) → IsPastLimit o.limit n fs most → r ≡ refusals.ListLimit most → IsGoingCause o n fs r
-  at_certificates : AreCertificatesRefused o n fs r → IsGoingCause o n fs r
+pub data IsGoingCauseIn (o : ListOptions) (n : ℕ) (k : Region) (fs : List Terms) (r : Refusal) : Type 0 where
+  in_tree : (e : TreeError) → IsSearchRefusedIn o n k fs e → r ≡ of_tree e → IsGoingCauseIn o n k fs r
+  at_limit : (most : ℕ) → IsPastLimitIn o.limit n k fs most → r ≡ refusals.ListLimit most → IsGoingCauseIn o n k fs r
+  at_certificates : AreCertificatesRefusedIn o n k fs r → IsGoingCauseIn o n k fs r
 
 -- what stands where the list is refused so: at the limit just as many bases; at numbers, where the list from its first basis on is refused,
 -- or without memory, some of them, from the first on, or none; and nothing stands at a refusal that isn't one of these
+abbrev pub IsBegunWhereIn : ListOptions → List (List ℕ) → Region → List Terms → List ℕ → Refusal → Type 0
+IsBegunWhereIn o ring k fs text (refusals.ListLimit most) = IsBegunToLimitIn o ring k fs most text
+IsBegunWhereIn o ring k fs text r = IsOfNumbers r × (IsGoingCauseIn o (length ring) k fs r ⊎ (r ≡ refusals.Memory)) × IsBegunTextIn o ring k fs text
+
+-- ---- where all positive weights are meant
+
+abbrev pub AreItemTexts : Bool → List (List ℕ) → List MarkedPolynomials → List (List ℕ) → Type 0
+AreItemTexts certified ring bs ts = AreItemTextsIn certified ring (all_positive (length ring)) bs ts
+
+abbrev pub IsTextOfBases : Bool → Option ℕ → List (List ℕ) → List Terms → List ℕ → Type 0
+IsTextOfBases certified limit ring fs text = IsTextOfBasesIn certified limit ring (all_positive (length ring)) fs text
+
+abbrev pub IsFullText : ListOptions → List (List ℕ) → List Terms → List ℕ → Type 0
+IsFullText o ring fs text = IsFullTextIn o ring (all_positive (length ring)) fs text
+
+abbrev pub IsPastLimit : Option ℕ → ℕ → List Terms → ℕ → Type 0
+IsPastLimit limit n fs most = IsPastLimitIn limit n (all_positive n) fs most
+
+abbrev pub IsSearchRefused : ListOptions → ℕ → List Terms → TreeError → Type 0
+IsSearchRefused o n fs e = IsSearchRefusedIn o n (all_positive n) fs e
+
+abbrev pub IsGoingCause : ListOptions → ℕ → List Terms → Refusal → Type 0
+IsGoingCause o n fs r = IsGoingCauseIn o n (all_positive n) fs r
+
 abbrev pub IsBegunWhere : ListOptions → List (List ℕ) → List Terms → List ℕ → Refusal → Type 0
-IsBegunWhere o ring fs text (refusals.ListLimit most) = IsBegunToLimit o ring fs most text
-IsBegunWhere o ring fs text r = IsOfNumbers r × (IsGoingCause o (length ring) fs r ⊎ (r ≡ refusals.Memory)) × IsBegunText o ring fs text
+IsBegunWhere o ring fs text r = IsBegunWhereIn o ring (all_positive (length ring)) fs text r
+
+-- ---- from the first basis on
 
 -- the first basis, by degree and then lex, is refused; or the list from it on
 pub data IsListCause (o : ListOptions) (n : ℕ) (fs : List Terms) (r : Refusal) : Type 0 where
   at_root : (e : BasisError) → IsBasisRefusal MonomialOrder.deglex n fs o.pairs e → r ≡ of_basis e → IsListCause o n fs r
   going : IsGoingCause o n fs r → IsListCause o n fs r
 
--- where certificates are asked for, no operation of those of a basis of the ideal leaves its limits
+-- where certificates are asked for, no operation of those of a basis of the ideal in a region leaves its limits
+abbrev pub AreCertifiedWithinIn : ListOptions → ℕ → Region → List Terms → Type 0
+AreCertifiedWithinIn o n k fs = o.certified ≡ true → (b : MarkedPolynomials) → IsGivenIn n k fs b → AreCertificatesFittingIn b.variables k b.items
+
+-- no operation of the search at a basis of the ideal in a region leaves its limits, nor one of its certificates where they are asked for, and
+-- the list isn't longer than its limit
+pub record IsGoingWithin (o : ListOptions) (n : ℕ) (k : Region) (fs : List Terms) : Type 0 where
+  pub tree : IsTreeWithinLimits (ideal_within n fs k) o.pairs
+  pub few : (list : List MarkedPolynomials) → AreAllBasesIn n k fs list → IsWithinLimit o.limit list
+  pub certificates : AreCertifiedWithinIn o n k fs
+
 abbrev pub AreCertifiedWithin : ListOptions → ℕ → List Terms → Type 0
-AreCertifiedWithin o n fs = o.certified ≡ true → (b : MarkedPolynomials) → IsGivenByWeight n fs b → AreCertificatesWithinLimits b.variables b.items
+AreCertifiedWithin o n fs = AreCertifiedWithinIn o n (all_positive n) fs
 
 -- no operation on the way to the first basis leaves its limits, nor one of the search at a basis of the ideal, nor one of its certificates
 -- where they are asked for, and the list isn't longer than its limit
@@ -159,12 +195,15 @@ pub record IsListWithin (o : ListOptions) (n : ℕ) (fs : List Terms) : Type 0 w
 
 -- the list goes on past its limit, and from its first basis on no operation before that leaves its limits: none of a call at a basis that the
 -- limit lets through, or at the next one, and none of the certificates of one that it lets through, where they are asked for
-pub record IsGoingPast (o : ListOptions) (n : ℕ) (fs : List Terms) (most : ℕ) : Type 0 where
-  pub past : IsPastLimit o.limit n fs most
+pub record IsGoingPastIn (o : ListOptions) (n : ℕ) (k : Region) (fs : List Terms) (most : ℕ) : Type 0 where
+  pub past : IsPastLimitIn o.limit n k fs most
   pub calls : (written rest : List MarkedPolynomials) (e : TreeError) → past.list ≡ written ++ rest → length written ≤ most →
-      IsRefusedEarly (ideal_by n fs) o.pairs rest e → e ≡ tree_errors.Memory
+      IsRefusedEarly (ideal_within n fs k) o.pairs rest e → e ≡ tree_errors.Memory
   pub certificates : (written rest : List MarkedPolynomials) (b : MarkedPolynomials) → past.list ≡ written ++ b ∷ rest → length written < most →
-      o.certified ≡ true → AreCertificatesWithinLimits b.variables b.items
+      o.certified ≡ true → AreCertificatesFittingIn b.variables k b.items
+
+abbrev pub IsGoingPast : ListOptions → ℕ → List Terms → ℕ → Type 0
+IsGoingPast o n fs most = IsGoingPastIn o n (all_positive n) fs most
 
 -- so it is, and no operation on the way to the first basis leaves its limits
 pub record IsListPast (o : ListOptions) (n : ℕ) (fs : List Terms) (most : ℕ) : Type 0 where

@@ -1,9 +1,9 @@
--- The list of all marked reduced Gröbner bases of an ideal, in the order of their paths.
+-- The list of all marked reduced Gröbner bases of an ideal in a region of weights, in the order of their paths.
 -- Laws: proofs/BasesListLaws.antt. Source: Fukuda, Jensen, Thomas, Computing Gröbner fans, 2 and 3; Avis and Fukuda, Reverse Search
 -- for Enumeration.
 use Rattle.std.specs.Prelude.{◌≡◌, ◌↔◌, ℕ, Bool, List, length, All, ℤ, pos, ◌<ℤ◌}
 use Rattle.gf_exponents.specs.Exponents.{Exponents}
-use Rattle.gf_exponents.specs.Orders.{gains, IsDeglexBelow, IsTermOrder}
+use Rattle.gf_exponents.specs.Orders.{gains, IsWeightedBelow, IsTermOrder}
 use Rattle.gf_poly.specs.Polynomial.{Terms}
 use Rattle.gf_poly.specs.Marking.{MarkedPolynomials}
 use Rattle.gf_ideal.specs.Membership.{AreInVariables}
@@ -11,34 +11,42 @@ use Rattle.gf_ideal.specs.Bases.{IsReducedBasis, IsReducedBasisFor, AreArranged}
 use Rattle.gf_walk.specs.Path.{IsRoot}
 use Rattle.gf_walk.specs.Listing.{Among, Rises, LeadTo}
 use Rattle.gf_walk.specs.Whole.{EachOnce}
-use Rattle.gf_facets.specs.Regions.{all_positive}
+use Rattle.gf_facets.specs.Regions.{Region, IsRegion, IsInRegion, all_positive}
 use Rattle.gf_facets.specs.LexPositive.{IsBefore}
 use Rattle.gf_facets.specs.Facets.{IsInClosedCone}
 use Rattle.gf_facets.specs.InitialIdeals.{IsMonomialAt}
 use Rattle.gf_reverse.specs.Upward.{IsParent}
 use Rattle.gf_reverse.specs.TermOrders.{below_by}
 
--- some positive weight gives the basis: it is the reduced one of the ideal of fs in n variables for this weight, arranged
-pub record IsGivenByWeight (n : ℕ) (fs : List Terms) (x : MarkedPolynomials) : Type 0 where
+-- some weight of the region gives the basis: it is the reduced one of the ideal of fs in n variables for this weight, arranged
+pub record IsGivenIn (n : ℕ) (k : Region) (fs : List Terms) (x : MarkedPolynomials) : Type 0 where
   pub variables : x.variables ≡ n
   pub arranged : AreArranged n x.items
-  pub weight : List ℕ
-  pub reduced : IsReducedBasis n fs weight x.items
+  pub weight : List ℤ
+  pub inside : IsInRegion n k weight
+  pub reduced : IsReducedBasis n fs (gains weight) x.items
 
--- exactly the bases that some positive weight gives, each once; their paths from the basis by degree and then lex rise. A path has the
--- normals that are crossed on the way down, each a normal of the upper basis; the way up from a basis is across the least of its
--- flippable normals that are negative at (1, .., 1)
-pub record AreAllBases (n : ℕ) (fs : List Terms) (list : List MarkedPolynomials) : Type 0 where
-  pub only : (x : MarkedPolynomials) → Among list x → IsGivenByWeight n fs x
-  pub all : (x : MarkedPolynomials) → IsGivenByWeight n fs x → Among list x
+-- exactly the bases that some weight of the region gives, each once; their paths from the basis by the root of the region and then lex
+-- rise. A path has the normals that are crossed on the way down, each a normal of the upper basis; the way up from a basis is across the
+-- least of the normals that a flip may cross in the region and that are negative at its root
+pub record AreAllBasesIn (n : ℕ) (k : Region) (fs : List Terms) (list : List MarkedPolynomials) : Type 0 where
+  pub only : (x : MarkedPolynomials) → Among list x → IsGivenIn n k fs x
+  pub all : (x : MarkedPolynomials) → IsGivenIn n k fs x → Among list x
   pub once : EachOnce list
   pub root : MarkedPolynomials
   pub listed : Among list root
-  pub by_degree : IsReducedBasisFor n fs IsDeglexBelow root.items
-  pub is_root : IsRoot (IsParent (all_positive n)) root
+  pub by_root : IsReducedBasisFor n fs (IsWeightedBelow (gains k.root)) root.items
+  pub is_root : IsRoot (IsParent k) root
   pub paths : List (List (List ℤ))
-  pub lead : LeadTo (IsParent (all_positive n)) root paths list
+  pub lead : LeadTo (IsParent k) root paths list
   pub rises : Rises IsBefore paths
+
+-- the same for all positive weights, from the basis by degree and then lex, which is that by (1, .., 1) and then lex
+abbrev pub IsGivenByWeight : ℕ → List Terms → MarkedPolynomials → Type 0
+IsGivenByWeight n fs x = IsGivenIn n (all_positive n) fs x
+
+abbrev pub AreAllBases : ℕ → List Terms → List MarkedPolynomials → Type 0
+AreAllBases n fs list = AreAllBasesIn n (all_positive n) fs list
 
 -- ---- what such a list has
 
@@ -58,3 +66,16 @@ pub record WeightsAreServed : Type 0 where
       IsTermOrder n (below_by less) →
       (x : MarkedPolynomials) × Among list x × IsReducedBasisFor n fs (below_by less) x.items
       × ((y : MarkedPolynomials) → Among list y → IsReducedBasisFor n fs (below_by less) y.items → x ≡ y)
+
+-- so it is in every region: a basis is listed exactly where some weight of the region gives it; for each weight of the region for which
+-- monomials generate the initial ideal the reduced basis is listed, and no other listed basis is one for it; each weight of the region lies in
+-- the closed cone of a listed basis
+pub record RegionsAreServed : Type 0 where
+  pub exactly : (n : ℕ) (k : Region) (fs : List Terms) (list : List MarkedPolynomials) (x : MarkedPolynomials) → AreAllBasesIn n k fs list →
+      Among list x ↔ IsGivenIn n k fs x
+  pub monomial : (n : ℕ) (k : Region) (fs : List Terms) (list : List MarkedPolynomials) (w : List ℤ) → AreInVariables n fs → IsRegion n k → AreAllBasesIn n k fs list →
+      IsInRegion n k w → IsMonomialAt n fs w →
+      (x : MarkedPolynomials) × Among list x × IsReducedBasis n fs (gains w) x.items
+      × ((y : MarkedPolynomials) → Among list y → IsReducedBasis n fs (gains w) y.items → x ≡ y)
+  pub cones : (n : ℕ) (k : Region) (fs : List Terms) (list : List MarkedPolynomials) (w : List ℤ) → AreInVariables n fs → IsRegion n k → AreAllBasesIn n k fs list →
+      IsInRegion n k w → (x : MarkedPolynomials) × Among list x × IsInClosedCone w x.items

@@ -10,9 +10,11 @@ use Rattle.gf_text.specs.RingText.{ring_text}
 use Rattle.gf_ideal.specs.Membership.{AreInVariables}
 use Rattle.gf_buchberger.specs.declared.bases.BasisError.{BasisError}
 use Rattle.gf_buchberger.specs.Bases.{IsArrangedBasis, IsBasisRefusal}
+use Rattle.gf_exponents.specs.Orders.{gains, IsWeightedBelow}
+use Rattle.gf_ideal.specs.Bases.{IsReducedBasisFor}
 use Rattle.gf_reverse.specs.Upward.{IsNodeIn}
-use Rattle.gf_facets.specs.Regions.{all_positive}
-use Rattle.gf_tree.specs.Ideals.{ideal_by}
+use Rattle.gf_facets.specs.Regions.{Region}
+use Rattle.gf_tree.specs.Ideals.{ideal_within}
 use Rattle.gf_subtree.specs.Rows.{Row, AreLeftIn}
 use Rattle.gf_front.specs.declared.refusal.Refusal.{Refusal}
 use Rattle.gf_front.specs.declared.refusal.Refusal.TheVariants as refusals
@@ -22,9 +24,9 @@ use Rattle.gfan.specs.declared.bases.Room.{Room}
 use Rattle.gfan.specs.declared.bases.Room.TheVariants.{Endless, Limited}
 use Rattle.gfan.specs.Buchberger.{of_basis}
 use Rattle.gfan.specs.Refused.{IsNamedBy}
-use Rattle.gfan.specs.BasesList.{AreAllBases}
-use Rattle.gfan.specs.Certificates.{IsItemText, IsItemRefusal}
-use Rattle.gfan.specs.Bases.{later_item_text, AreItemTexts, IsTextOfBases, IsFullText, IsBegunWhere, IsGoingCause, begun_text}
+use Rattle.gfan.specs.BasesList.{AreAllBasesIn}
+use Rattle.gfan.specs.Certificates.{IsItemTextIn, IsItemRefusalIn}
+use Rattle.gfan.specs.Bases.{later_item_text, AreItemTextsIn, IsTextOfBasesIn, IsFullTextIn, IsBegunWhereIn, IsGoingCauseIn, begun_text}
 
 -- ---- pieces
 
@@ -33,15 +35,15 @@ abbrev pub basis_piece : List (List ℕ) → Bool → List ℕ → List ℕ
 basis_piece ring true t = ring_text ring ++ 123 ∷ t
 basis_piece ring false t = later_item_text t
 
--- the piece of this basis
-pub record IsPieceOf (certified : Bool) (ring : List (List ℕ)) (is_first : Bool) (b : MarkedPolynomials) (piece : List ℕ) : Type 0 where
+-- the piece of this basis, in a region
+pub record IsPieceOf (certified : Bool) (ring : List (List ℕ)) (k : Region) (is_first : Bool) (b : MarkedPolynomials) (piece : List ℕ) : Type 0 where
   pub item : List ℕ
-  pub is_item : IsItemText certified ring b item
+  pub is_item : IsItemTextIn certified ring k b item
   pub is_piece : piece ≡ basis_piece ring is_first item
 
 -- it is written
-abbrev pub IsBasisWritten : Bool → List (List ℕ) → Bool → MarkedPolynomials → Option (List ℕ) → Option (List ℕ) → Type 0
-IsBasisWritten certified ring is_first b held holds = (piece : List ℕ) × IsPieceOf certified ring is_first b piece × Appends held holds piece
+abbrev pub IsBasisWritten : Bool → List (List ℕ) → Region → Bool → MarkedPolynomials → Option (List ℕ) → Option (List ℕ) → Type 0
+IsBasisWritten certified ring k is_first b held holds = (piece : List ℕ) × IsPieceOf certified ring k is_first b piece × Appends held holds piece
 
 -- why a piece isn't written whole: there is no memory, and nothing is; or a write failed, and a prefix is
 abbrev pub IsUnwritten : Option (List ℕ) → Option (List ℕ) → ℕ → ℕ → List ℕ → Refusal → Type 0
@@ -50,9 +52,9 @@ IsUnwritten held holds written writes piece refusals.Memory = Keeps held holds �
 IsUnwritten held holds written writes piece _ = ⊥
 
 -- why a basis isn't written: its piece isn't made, and nothing is written; or it is made, and isn't written whole
-pub data IsBasisUnwritten (certified : Bool) (ring : List (List ℕ)) (is_first : Bool) (b : MarkedPolynomials) (held holds : Option (List ℕ)) (written writes : ℕ) (r : Refusal) : Type 0 where
-  unmade : holds ≡ held → writes ≡ written → IsItemRefusal certified b r → IsBasisUnwritten certified ring is_first b held holds written writes r
-  cut : (piece : List ℕ) → IsPieceOf certified ring is_first b piece → IsUnwritten held holds written writes piece r → IsBasisUnwritten certified ring is_first b held holds written writes r
+pub data IsBasisUnwritten (certified : Bool) (ring : List (List ℕ)) (k : Region) (is_first : Bool) (b : MarkedPolynomials) (held holds : Option (List ℕ)) (written writes : ℕ) (r : Refusal) : Type 0 where
+  unmade : holds ≡ held → writes ≡ written → IsItemRefusalIn certified k b r → IsBasisUnwritten certified ring k is_first b held holds written writes r
+  cut : (piece : List ℕ) → IsPieceOf certified ring k is_first b piece → IsUnwritten held holds written writes piece r → IsBasisUnwritten certified ring k is_first b held holds written writes r
 
 -- ---- room
 
@@ -90,19 +92,24 @@ pub record StartsAt (n : ℕ) (fs : List Terms) (root : MarkedPolynomials) : Typ
   pub inside : AreInVariables n fs
   pub first : IsFirstBasis n fs root
 
--- the output gained all bases of the ideal of fs
-abbrev pub IsListWritten : ListOptions → List (List ℕ) → List Terms → Option (List ℕ) → Option (List ℕ) → Type 0
-IsListWritten o ring fs held holds = (text : List ℕ) × IsTextOfBases o.certified o.limit ring fs text × Appends held holds text
+-- the list of the ideal of fs in n variables and in a region begins at the root: the basis by the root of the region and then lex
+pub record StartsIn (n : ℕ) (k : Region) (fs : List Terms) (root : MarkedPolynomials) : Type 0 where
+  pub node : IsNodeIn (ideal_within n fs k) root
+  pub by_root : IsReducedBasisFor n fs (IsWeightedBelow (gains k.root)) root.items
+
+-- the output gained all bases of the ideal of fs in a region
+abbrev pub IsListWrittenIn : ListOptions → List (List ℕ) → Region → List Terms → Option (List ℕ) → Option (List ℕ) → Type 0
+IsListWrittenIn o ring k fs held holds = (text : List ℕ) × IsTextOfBasesIn o.certified o.limit ring k fs text × Appends held holds text
 
 -- it gained the beginning of that text that may stand where the list is refused so
-abbrev pub IsListBegun : ListOptions → List (List ℕ) → List Terms → Option (List ℕ) → Option (List ℕ) → Refusal → Type 0
-IsListBegun o ring fs held holds r = (text : List ℕ) × IsBegunWhere o ring fs text r × Appends held holds text
+abbrev pub IsListBegunIn : ListOptions → List (List ℕ) → Region → List Terms → Option (List ℕ) → Option (List ℕ) → Refusal → Type 0
+IsListBegunIn o ring k fs held holds r = (text : List ℕ) × IsBegunWhereIn o ring k fs text r × Appends held holds text
 
 -- why the list isn't written from its first basis on, and what stands of it
-abbrev pub IsListStopped : ListOptions → List (List ℕ) → List Terms → Option (List ℕ) → Option (List ℕ) → ℕ → ℕ → Refusal → Type 0
-IsListStopped o ring fs held holds written writes refusals.WriteFault = Rose written writes × ((text : List ℕ) × IsFullText o ring fs text × AppendsPrefix held holds text)
-IsListStopped o ring fs held holds written writes (refusals.ListLimit most) = IsGoingCause o (length ring) fs (refusals.ListLimit most) × IsListBegun o ring fs held holds (refusals.ListLimit most)
-IsListStopped o ring fs held holds written writes r = (IsGoingCause o (length ring) fs r ⊎ (r ≡ refusals.Memory)) × (Keeps held holds ⊎ IsListBegun o ring fs held holds r)
+abbrev pub IsListStoppedIn : ListOptions → List (List ℕ) → Region → List Terms → Option (List ℕ) → Option (List ℕ) → ℕ → ℕ → Refusal → Type 0
+IsListStoppedIn o ring k fs held holds written writes refusals.WriteFault = Rose written writes × ((text : List ℕ) × IsFullTextIn o ring k fs text × AppendsPrefix held holds text)
+IsListStoppedIn o ring k fs held holds written writes (refusals.ListLimit most) = IsGoingCauseIn o (length ring) k fs (refusals.ListLimit most) × IsListBegunIn o ring k fs held holds (refusals.ListLimit most)
+IsListStoppedIn o ring k fs held holds written writes r = (IsGoingCauseIn o (length ring) k fs r ⊎ (r ≡ refusals.Memory)) × (Keeps held holds ⊎ IsListBegunIn o ring k fs held holds r)
 
 -- it names no monomials, and is told without a ring
 pub record IsUnnamed (e : Refused) : Type 0 where
@@ -115,16 +122,16 @@ is_none_of [] = true
 is_none_of (t ∷ ts) = false
 
 -- the list is under way: some of its bases are written, and the rest is left in the row
-pub record IsUnderWay (o : ListOptions) (ring : List (List ℕ)) (fs : List Terms) (row : Row) (room : Room) (is_first : Bool) (held holds : Option (List ℕ)) : Type 0 where
+pub record IsUnderWay (o : ListOptions) (ring : List (List ℕ)) (k : Region) (fs : List Terms) (row : Row) (room : Room) (is_first : Bool) (held holds : Option (List ℕ)) : Type 0 where
   pub written : List MarkedPolynomials
   pub rest : List MarkedPolynomials
-  pub are_all : AreAllBases (length ring) fs (written ++ rest)
+  pub are_all : AreAllBasesIn (length ring) k fs (written ++ rest)
   pub left : AreLeftIn row rest
-  pub basis : IsNodeIn (ideal_by (length ring) fs) row.start
+  pub basis : IsNodeIn (ideal_within (length ring) fs k) row.start
   pub pairs : row.pairs ≡ o.pairs
-  pub region : row.region ≡ all_positive (length ring)
+  pub region : row.region ≡ k
   pub fits : HasRoomFor o.limit room written
   pub items : List (List ℕ)
-  pub are_items : AreItemTexts o.certified ring written items
+  pub are_items : AreItemTextsIn o.certified ring k written items
   pub first : is_first ≡ is_none_of items
   pub gained : Appends held holds (begun_text ring items)

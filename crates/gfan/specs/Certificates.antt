@@ -7,8 +7,9 @@ use Rattle.gf_text.specs.VectorText.{vector_text}
 use Rattle.gf_weights.specs.declared.certificates.FacetWitness.{FacetWitness}
 use Rattle.gf_weights.specs.declared.error.WeightError.{WeightError}
 use Rattle.gf_weights.specs.declared.error.WeightError.TheVariants as weight_errors
-use Rattle.gf_weights.specs.Weights.{IsPrintedWeight, AreWitnessed}
-use Rattle.gf_weights.specs.Refusals.{IsBasisCertificateCause}
+use Rattle.gf_facets.specs.Regions.{Region}
+use Rattle.gf_weights.specs.Weights.{IsWeightIn, AreWitnessedIn}
+use Rattle.gf_weights.specs.Refusals.{IsCertificateCauseIn}
 use Rattle.gf_front.specs.declared.refusal.Refusal.{Refusal}
 use Rattle.gf_front.specs.declared.refusal.Refusal.TheVariants as refusals
 
@@ -31,19 +32,19 @@ facets_text (f ∷ fs) = facet_text f ++ flat_map later_facet_text fs
 abbrev pub certificates_text : List ℤ → List FacetWitness → List ℕ
 certificates_text weight facets = 10 ∷ (vector_text weight ++ 10 ∷ 123 ∷ (facets_text facets ++ 125 ∷ []))
 
--- the certificates of a basis: its printed weight, and exactly the facets that a flip may cross, their normals ascending, each with its
--- printed witness
-pub record IsCertificatesText (b : MarkedPolynomials) (text : List ℕ) : Type 0 where
+-- the certificates of a basis in a region: its printed weight, and exactly the facets that a flip may cross there, their normals
+-- ascending, each with its printed witness
+pub record IsCertificatesTextIn (k : Region) (b : MarkedPolynomials) (text : List ℕ) : Type 0 where
   pub weight : List ℤ
   pub facets : List FacetWitness
-  pub is_weight : IsPrintedWeight b.variables b.items weight
-  pub are_witnessed : AreWitnessed b.variables b.items facets
+  pub is_weight : IsWeightIn b.variables k b.items weight
+  pub are_witnessed : AreWitnessedIn b.variables k b.items facets
   pub is_text : text ≡ certificates_text weight facets
 
--- what stands for a basis in the list: its text, with certificates followed by those
-abbrev pub IsItemText : Bool → List (List ℕ) → MarkedPolynomials → List ℕ → Type 0
-IsItemText false ring b text = text ≡ basis_text ring b.items
-IsItemText true ring b text = (told : List ℕ) × IsCertificatesText b told × (text ≡ basis_text ring b.items ++ told)
+-- what stands for a basis in the list of a region: its text, with certificates followed by those
+abbrev pub IsItemTextIn : Bool → List (List ℕ) → Region → MarkedPolynomials → List ℕ → Type 0
+IsItemTextIn false ring k b text = text ≡ basis_text ring b.items
+IsItemTextIn true ring k b text = (told : List ℕ) × IsCertificatesTextIn k b told × (text ≡ basis_text ring b.items ++ told)
 
 -- ---- refusals
 
@@ -53,11 +54,11 @@ of_weight_error (weight_errors.Cone o) = refusals.ConeOverflow o.row o.op o.left
 of_weight_error (weight_errors.Wide w) = refusals.WideVector w
 of_weight_error weight_errors.Memory = refusals.Memory
 
--- an operation of finding the rays of the basis's cone, cut with the orthant, or of adding up those that are printed, is refused
-abbrev pub IsUncertified : MarkedPolynomials → Refusal → Type 0
-IsUncertified b r = (e : WeightError) × IsBasisCertificateCause b.variables b.items e × (r ≡ of_weight_error e)
+-- an operation of finding the rays of the basis's cone, cut with the closed region, or of adding up those that are printed, is refused
+abbrev pub IsUncertifiedIn : Region → MarkedPolynomials → Refusal → Type 0
+IsUncertifiedIn k b r = (e : WeightError) × IsCertificateCauseIn b.variables k b.items e × (r ≡ of_weight_error e)
 
 -- why the text isn't made
-abbrev pub IsItemRefusal : Bool → MarkedPolynomials → Refusal → Type 0
-IsItemRefusal false b r = r ≡ refusals.Memory
-IsItemRefusal true b r = IsUncertified b r
+abbrev pub IsItemRefusalIn : Bool → Region → MarkedPolynomials → Refusal → Type 0
+IsItemRefusalIn false k b r = r ≡ refusals.Memory
+IsItemRefusalIn true k b r = IsUncertifiedIn k b r

@@ -8,15 +8,15 @@ use Rattle.gf_poly.specs.Marking.{MarkedPolynomials}
 use Rattle.gf_text.specs.PrintedSets.{basis_text}
 use Rattle.gf_ideal.specs.Membership.{AreInVariables}
 use Rattle.gf_ideal.specs.Bases.{IsReducedBasis}
-use Rattle.gf_facets.specs.Regions.{IsInRegion, all_positive}
+use Rattle.gf_facets.specs.Regions.{Region, IsRegion, IsInRegion, all_positive}
 use Rattle.gf_facets.specs.Normals.{Ascends}
 use Rattle.gf_facets.specs.Facets.{IsInsideFacet, IsFlippable}
 use Rattle.gfan.specs.declared.bases.ListOptions.{ListOptions}
 use Rattle.gf_weights.specs.declared.certificates.FacetWitness.{FacetWitness}
 use Rattle.gf_weights.specs.Weights.{normals_of}
-use Rattle.gfan.specs.BasesList.{AreAllBases}
+use Rattle.gfan.specs.BasesList.{AreAllBasesIn, AreAllBases}
 use Rattle.gfan.specs.Certificates.{certificates_text}
-use Rattle.gfan.specs.Bases.{list_text, IsTextOfBases}
+use Rattle.gfan.specs.Bases.{list_text, IsTextOfBasesIn, IsTextOfBases}
 use Rattle.gfan.specs.Commands.{list_job, IsAnswerTo}
 use Rattle.gfan.specs.ListSources.{HasPolynomials}
 
@@ -33,7 +33,23 @@ pub record HasCertificates (ring : List (List ℕ)) (fs : List Terms) (b : Marke
   pub exactly : (a : List ℤ) → Contains (normals_of facets) a ↔ IsFlippable (length ring) (all_positive (length ring)) b.items a
   pub inside : (f : FacetWitness) → Contains facets f → IsInRegion (length ring) (all_positive (length ring)) f.witness × IsInsideFacet b.items f.normal f.witness
 
--- the text is that of all bases of the ideal of fs, and so it is with what is printed behind each of them
+-- so it is in a region: the weight is in it, and exactly the facets are printed that a flip may cross there, each with a witness in the
+-- region
+pub record HasCertificatesIn (ring : List (List ℕ)) (k : Region) (fs : List Terms) (b : MarkedPolynomials) (text : List ℕ) : Type 0 where
+  pub weight : List ℤ
+  pub facets : List FacetWitness
+  pub is_text : text ≡ basis_text ring b.items ++ certificates_text weight facets
+  pub region : IsInRegion (length ring) k weight
+  pub reduced : IsReducedBasis (length ring) fs (gains weight) b.items
+  pub rises : Ascends (normals_of facets)
+  pub exactly : (a : List ℤ) → Contains (normals_of facets) a ↔ IsFlippable (length ring) k b.items a
+  pub inside : (f : FacetWitness) → Contains facets f → IsInRegion (length ring) k f.witness × IsInsideFacet b.items f.normal f.witness
+
+-- the text is that of all bases of the ideal of fs in a region, and so it is with what is printed behind each of them
+abbrev pub IsCertifiedListIn : List (List ℕ) → Region → List Terms → List ℕ → Type 0
+IsCertifiedListIn ring k fs text = (list : List MarkedPolynomials) × AreAllBasesIn (length ring) k fs list × ((items : List (List ℕ)) × AllZip (HasCertificatesIn ring k fs) list items × (text ≡ list_text ring items))
+
+-- the same for all positive weights
 abbrev pub IsCertifiedList : List (List ℕ) → List Terms → List ℕ → Type 0
 IsCertifiedList ring fs text = (list : List MarkedPolynomials) × AreAllBases (length ring) fs list × ((items : List (List ℕ)) × AllZip (HasCertificates ring fs) list items × (text ≡ list_text ring items))
 
@@ -43,3 +59,8 @@ pub record CertificatesHold : Type 0 where
   pub of_lists : (limit : Option ℕ) (ring : List (List ℕ)) (fs : List Terms) (text : List ℕ) → AreInVariables (length ring) fs → IsTextOfBases true limit ring fs text → IsCertifiedList ring fs text
   pub of_answers : (from_basis : Bool) (o : ListOptions) (workers : ℕ) (source text : List ℕ) → o.certified ≡ true → IsAnswerTo (list_job from_basis o workers) source text →
       (ring : List (List ℕ)) × (fs : List Terms) × HasPolynomials from_basis source ring fs × IsCertifiedList ring fs text
+
+-- so it is with a list in a region, of polynomials in the variables of the ring
+abbrev pub RegionCertificatesHold : Type 0
+RegionCertificatesHold = (limit : Option ℕ) (ring : List (List ℕ)) (k : Region) (fs : List Terms) (text : List ℕ) → AreInVariables (length ring) fs → IsRegion (length ring) k →
+    IsTextOfBasesIn true limit ring k fs text → IsCertifiedListIn ring k fs text

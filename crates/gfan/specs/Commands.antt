@@ -1,5 +1,5 @@
 -- The command of each job.
-use Rattle.std.specs.Prelude.{◌≡◌, ℕ, Bool, true, false, List, [], ◌∷◌, length, Option, ℤ}
+use Rattle.std.specs.Prelude.{◌≡◌, ℕ, Bool, true, false, List, [], ◌∷◌, length, Option, None, Some, ℤ}
 use Rattle.gf_poly.specs.Marking.{MarkedPolynomials}
 use Rattle.gf_text.specs.declared.written.Written.{Written}
 use Rattle.gf_front.specs.declared.command_line.Job.{Job}
@@ -9,7 +9,8 @@ use Rattle.gf_front.specs.declared.plain.PlainCommand.TheVariants as plains
 use Rattle.gf_front.specs.declared.options.BuchbergerOptions.{BuchbergerOptions}
 use Rattle.gf_front.specs.declared.options.BasesOptions.{BasesOptions}
 use Rattle.gf_front.specs.declared.options.GroebnerConeOptions.{GroebnerConeOptions}
-use Rattle.gf_items.specs.Sources.{ring_set_vector, ring_marked_set}
+use Rattle.gf_items.specs.Items.{IsTextOf}
+use Rattle.gf_items.specs.Sources.{vectors_alone, ring_set_vector, ring_marked_set}
 use Rattle.gf_frame.specs.Loading.{Origin}
 use Rattle.gf_frame.specs.Readings.{IsReadOfOne}
 use Rattle.gf_frame.specs.Commands.{Command, IsAnswered}
@@ -19,6 +20,7 @@ use Rattle.gfan.specs.declared.told_cone.ConeOptions.{ConeOptions}
 use Rattle.gfan.specs.Buchberger.{generators_of, buchberger_command}
 use Rattle.gfan.specs.Bases.{IsListPast, bases_command}
 use Rattle.gfan.specs.GivenBasis.{IsGivenListPast, given_bases_command}
+use Rattle.gfan.specs.Within.{IsPastWithin, IsGivenPastWithin, bases_within_command, given_within_command}
 use Rattle.gfan.specs.Marked.{marked_command}
 use Rattle.gfan.specs.Containment.{containment_command}
 use Rattle.gfan.specs.LeadingTerms.{leading_terms_command}
@@ -51,7 +53,7 @@ list_options o = record { limit = o.limit; pairs = o.pairs; certified = o.certif
 abbrev pub cone_options : GroebnerConeOptions → ConeOptions
 cone_options o = record { certificates = o.certificates; restricted = o.restricted; as_fan = o.as_fan }
 
--- the job of `_bases` that asks this, from a basis or from generators
+-- the job of `_bases` that asks this for all positive weights, from a basis or from generators
 abbrev pub list_job : Bool → ListOptions → ℕ → Job
 list_job from_basis o workers = jobs.Bases (record {
   from_basis = from_basis;
@@ -59,6 +61,7 @@ list_job from_basis o workers = jobs.Bases (record {
   pairs = o.pairs;
   certificates = o.certified;
   workers = workers;
+  within = None;
 })
 
 -- the command without options
@@ -75,16 +78,31 @@ plain_command plains.TropicalHypersurface = tropical_command fans.Hypersurface
 plain_command plains.MinkowskiSum = tropical_command fans.MinkowskiSum
 plain_command plains.MigrateFan = migrate_fan_command
 
+-- what a list is of: the input, behind the file of its region where one is named
+abbrev pub list_sources : Option (List ℕ) → List Origin
+list_sources None = Origin.the_input ∷ []
+list_sources (Some name) = Origin.a_file name ∷ (Origin.the_input ∷ [])
+
 -- the list of all bases, from a basis or from generators
 abbrev pub list_command : Bool → ListOptions → Command
 list_command false o = bases_command o
 list_command true o = given_bases_command o
 
+-- the list of those in the region of the file of this name
+abbrev pub within_command : List ℕ → Bool → ListOptions → Command
+within_command name false o = bases_within_command name o
+within_command name true o = given_within_command name o
+
+-- the list, in a region where one is named
+abbrev pub bases_of : Option (List ℕ) → Bool → ListOptions → Command
+bases_of None from_basis o = list_command from_basis o
+bases_of (Some name) from_basis o = within_command name from_basis o
+
 -- the command of each job; those of `_bases` and `_generated` are the same for every number of workers
 abbrev pub command_of : Job → Command
 command_of (jobs.Plain c) = plain_command c
 command_of (jobs.Buchberger o) = buchberger_command (options o)
-command_of (jobs.Bases o) = list_command o.from_basis (list_options o)
+command_of (jobs.Bases o) = bases_of o.within o.from_basis (list_options o)
 command_of (jobs.LeadingTerms o) = leading_terms_command o.listed
 command_of (jobs.WeightVector o) = weight_vector_command o.listed o.echoed
 command_of (jobs.GroebnerCone o) = groebner_cone_command o.vector_input (cone_options o)
@@ -109,7 +127,22 @@ AreTextsPast false o texts most =
 AreTextsPast true o texts most =
     (v : List (List ℕ) × MarkedPolynomials) × IsReadOfOne ring_marked_set texts v × IsGivenListPast o (length v.0) v.1 most
 
+-- so it is in the region of the first text
+abbrev pub AreTextsPastWithin : Bool → ListOptions → List (List ℕ) → ℕ → Type 0
+AreTextsPastWithin from_basis o [] most = ⊥
+AreTextsPastWithin false o (file ∷ texts) most =
+    (rows : List (List ℤ)) × (v : List (List ℕ) × (List Written × Option (List ℤ))) × IsTextOf vectors_alone file rows × IsReadOfOne (ring_set_vector false) texts v
+    × IsPastWithin o (length v.0) rows (generators_of v.1.0) most
+AreTextsPastWithin true o (file ∷ texts) most =
+    (rows : List (List ℤ)) × (v : List (List ℕ) × MarkedPolynomials) × IsTextOf vectors_alone file rows × IsReadOfOne ring_marked_set texts v
+    × IsGivenPastWithin o (length v.0) rows v.1 most
+
+-- in a region where one is named
+abbrev pub AreTextsPastIn : Option (List ℕ) → Bool → ListOptions → List (List ℕ) → ℕ → Type 0
+AreTextsPastIn None from_basis o texts most = AreTextsPast from_basis o texts most
+AreTextsPastIn (Some name) from_basis o texts most = AreTextsPastWithin from_basis o texts most
+
 -- the job is `_bases`, and so it is with its list
 abbrev pub IsPastReach : Job → List (List ℕ) → ℕ → Type 0
-IsPastReach (jobs.Bases o) texts most = AreTextsPast o.from_basis (list_options o) texts most
+IsPastReach (jobs.Bases o) texts most = AreTextsPastIn o.within o.from_basis (list_options o) texts most
 IsPastReach _ texts most = ⊥

@@ -4,6 +4,7 @@ use Rattle.gf_poly.specs.declared.error.PolyError.{PolyError}
 use Rattle.gf_poly.specs.declared.error.PolyError.TheVariants as errors
 use Rattle.gf_poly.specs.Marking.{MarkedPolynomial, MarkedPolynomials, HaveVariables, polys, IsArranged}
 use Rattle.gf_ideal.specs.Marks.{IsRealisedBy}
+use Rattle.gf_ideal.specs.Bases.{IsReducedBasis}
 use Rattle.gf_division.specs.Autoreduction.{IsAutoreductionRefusal}
 use Rattle.gf_reduced.specs.declared.error.CheckError.{CheckError}
 use Rattle.gf_reduced.specs.Forms.{monic_set}
@@ -47,10 +48,17 @@ pub record IsBegunFromBasis (o : ListOptions) (ring : List (List ℕ)) (s : Mark
 -- u is the reduced basis of the ideal that s generates, for some positive weight that gives the marking of s
 pub record IsReducedFrom (s u : MarkedPolynomials) : Type 0 where
   pub given : IsGivenByWeight s.variables (polys s.items) u
-  pub marks : (b : MarkedPolynomial) → Contains s.items b → IsRealisedBy given.weight b
+  pub weight : List ℕ
+  pub reduced : IsReducedBasis s.variables (polys s.items) weight u.items
+  pub marks : (b : MarkedPolynomial) → Contains s.items b → IsRealisedBy weight b
 
--- the set isn't taken as a basis; or it is one, and its members made monic and arranged aren't reduced, or the way up from the reduced
--- basis to the root is refused, at a basis on it
+-- the set isn't taken as a basis; or it is one, and its members made monic and arranged aren't reduced
+pub data IsReducingRefusal (s : MarkedPolynomials) (r : Refusal) : Type 0 where
+  at_check : (e : CheckError) → IsReducedBasisRefusal 0 s e → r ≡ of_check e → IsReducingRefusal s r
+  at_tails : (t : MarkedPolynomials) (d : PolyError) → IsMarkedGroebnerBasis s.variables s.items → IsArranged (monic_set s) t →
+      IsAutoreductionRefusal t.items d → r ≡ of_check (of_poly d) → IsReducingRefusal s r
+
+-- the same, or the way up from the reduced basis to the root is refused, at a basis on it
 pub data IsGivenRootRefusal (s : MarkedPolynomials) (pairs : ℕ) (r : Refusal) : Type 0 where
   at_check : (e : CheckError) → IsReducedBasisRefusal 0 s e → r ≡ of_check e → IsGivenRootRefusal s pairs r
   at_tails : (t : MarkedPolynomials) (d : PolyError) → IsMarkedGroebnerBasis s.variables s.items → IsArranged (monic_set s) t →

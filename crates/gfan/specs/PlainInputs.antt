@@ -1,6 +1,6 @@
 -- What `_buchberger` and `_bases` read, where each polynomial is written as a monomial or as the difference of two, without numbers.
 -- Laws: proofs/PlainInputLaws.antt.
-use Rattle.std.specs.Prelude.{ℕ, List, [], ◌∷◌}
+use Rattle.std.specs.Prelude.{ℕ, List, [], ◌∷◌, Option, None, Some}
 use Rattle.gf_text.specs.declared.tree.WrittenTerm.{WrittenTerm}
 use Rattle.gf_text.specs.Machine.{Reads}
 use Rattle.gf_text.specs.Tokens.{lexemes, ring_more}
@@ -27,9 +27,15 @@ IsPlainSource [] = ⊥
 IsPlainSource (source ∷ []) = BeginsPlainly source
 IsPlainSource (source ∷ (other ∷ others)) = ⊥
 
+-- the texts of a list are so: the only one, or that behind the file of a region
+abbrev pub IsPlainList : Option (List ℕ) → List (List ℕ) → Type 0
+IsPlainList None texts = IsPlainSource texts
+IsPlainList (Some name) [] = ⊥
+IsPlainList (Some name) (file ∷ texts) = IsPlainSource texts
+
 -- the job is `_buchberger` or `_bases`, from generators or from a basis, on such a source; or `_generated`, whose generators are such
 abbrev pub IsOnBinomials : Job → List (List ℕ) → Type 0
 IsOnBinomials (jobs.Buchberger o) texts = IsPlainSource texts
-IsOnBinomials (jobs.Bases o) texts = IsPlainSource texts
+IsOnBinomials (jobs.Bases o) texts = IsPlainList o.within texts
 IsOnBinomials (jobs.Generated o) texts = Unit {0}
 IsOnBinomials _ texts = ⊥

@@ -27,9 +27,11 @@ pub record IsOfInput (left leaves : Option (List ℕ)) (given gives : ℕ) (refu
   pub named : IsNamedBy refused.ring refused.refusal
   pub ring : IfSome refused.ring (IsRingOfInput left leaves given gives)
 
--- the refusal can be told; of the input alone, whose text this is, with the ring of the text, and of any other sources without a ring
+-- the refusal can be told; of the input alone, or behind a file, whose text this is, with the ring of the text, and of any other sources
+-- without a ring
 abbrev pub IsOfLoaded : List Origin → List (List ℕ) → Refused → Type 0
 IsOfLoaded (Origin.the_input ∷ []) (source ∷ []) refused = IsOfSource source refused
+IsOfLoaded (Origin.a_file name ∷ (Origin.the_input ∷ [])) (file ∷ (source ∷ [])) refused = IsOfSource source refused
 IsOfLoaded origins texts refused = IsUnnamed refused
 
 -- The sink of faults gained a prefix of the line of the refusal, and the whole line unless its count of faults rose.

@@ -10,9 +10,9 @@ ghost use Rattle.gf_subtree.specs.Rows.{first_row};
 ghost use Rattle.gf_text.specs.PrintedSets.{basis_text};
 ghost use Rattle.gf_text.specs.Sets.{AreIn};
 ghost use Rattle.gfan.specs.Buchberger.{generators_of};
-ghost use Rattle.gfan.specs.Certificates.{IsItemRefusal};
+ghost use Rattle.gfan.specs.Certificates.{IsItemRefusalIn};
 ghost use Rattle.gfan.specs.Bases.{bases_command};
-ghost use Rattle.gfan.specs.BasesWriting.{basis_piece, IsPieceOf, IsBasisWritten, IsUnwritten, IsBasisUnwritten, HasRoomFor, IsOneLess, IsFull, IsFirstBasis, IsRootRefusal, StartsAt, IsListWritten, IsListStopped, IsUnnamed};
+ghost use Rattle.gfan.specs.BasesWriting.{basis_piece, IsPieceOf, IsBasisWritten, IsUnwritten, IsBasisUnwritten, HasRoomFor, IsOneLess, IsFull, IsFirstBasis, IsRootRefusal, StartsIn, IsListWrittenIn, IsListStoppedIn, IsUnnamed};
 ghost use Rattle.gf_frame.specs.Seen.{output_seen};
 ghost use Rattle.gf_frame.specs.Runs.{IsDoneOn, IsStoppedOn};
 ghost use Rattle.gfan.specs.Performed.{IsPerformedFor, IsStoppedFor};
@@ -120,21 +120,23 @@ fn piece(
     Ok(text)
 }
 
-/// The piece of a basis, with its certificates where they are asked for.
+/// The piece of a basis, with its certificates in the region where they are asked for.
 fn item_piece(
     alloc: Global,
     ring: &Ring,
     basis: &MarkedSet,
+    region: &Region,
     is_first: bool,
     certified: bool,
 ) -> Result<Vec<u8>, Refusal>
-    requires { basis.now.variables ≡ length ring.now }
-    ensures ok { IfOk result (λ text. IsPieceOf certified ring.now is_first basis.now text.items) }
-    ensures err { IfErr result (IsItemRefusal certified basis.now) }
+    requires variables { basis.now.variables ≡ length ring.now }
+    requires region { length region.now.root ≡ basis.now.variables }
+    ensures ok { IfOk result (λ text. IsPieceOf certified ring.now region.now is_first basis.now text.items) }
+    ensures err { IfErr result (IsItemRefusalIn certified region.now basis.now) }
 {
     let mut text = piece(alloc, ring, basis, is_first)?;
     if certified {
-        push_certified(&mut text, alloc, basis)?;
+        push_certified(&mut text, alloc, basis, region)?;
     }
     Ok(text)
 }
@@ -144,18 +146,20 @@ fn write_basis<K: Sink>(
     alloc: Global,
     ring: &Ring,
     basis: &MarkedSet,
+    region: &Region,
     is_first: bool,
     certified: bool,
     output: &mut K,
 ) -> Result<(), Refusal>
-    requires { basis.now.variables ≡ length ring.now }
-    ensures all { OnOk result (IsBasisWritten certified ring.now is_first basis.now (K.held output.old)
+    requires variables { basis.now.variables ≡ length ring.now }
+    requires region { length region.now.root ≡ basis.now.variables }
+    ensures all { OnOk result (IsBasisWritten certified ring.now region.now is_first basis.now (K.held output.old)
         (K.held output.new)) }
-    ensures err { IfErr result (IsBasisUnwritten certified ring.now is_first basis.now (K.held output.old)
+    ensures err { IfErr result (IsBasisUnwritten certified ring.now region.now is_first basis.now (K.held output.old)
         (K.held output.new) (K.faults output.old) (K.faults output.new)) }
     ensures calm { OnOk result (K.faults output.new ≡ K.faults output.old) }
 {
-    let text = item_piece(alloc, ring, basis, is_first, certified)?;
+    let text = item_piece(alloc, ring, basis, region, is_first, certified)?;
     offer(output, &text)
 }
 
@@ -201,10 +205,10 @@ pub(crate) fn waves_of<'g, G: Gate>(
     Waves::new(alloc, root, &region, workers, pairs, gate)
 }
 
-/// Writes the list of all bases of an ideal from its first basis on, by so many workers: the first with the ring, each other one
-/// behind a line end, a comma and a line end, and last the brace that ends the list.
+/// Writes the list of all bases of an ideal in a region from its first basis on, by so many workers: the first with the ring, each
+/// other one behind a line end, a comma and a line end, and last the brace that ends the list.
 ///
-/// The root is the basis, by degree and then lex, of the ideal that it generates.
+/// The root is the basis, by the root of the region and then lex, of the ideal that it generates.
 ///
 /// # Errors
 ///
@@ -214,29 +218,38 @@ pub(crate) fn write_from<R: Threads + Sync, K: Sink, G: Gate>(
     alloc: Global,
     ring: &Ring,
     root: MarkedSet,
+    region: &Region,
     options: ListOptions,
     workers: u32,
     output: &mut K,
     gate: &G,
 ) -> Result<(), Refused>
-    requires first { StartsAt (length ring.now) (polys root.items) root }
+    requires first { StartsIn (length ring.now) region.now (polys root.items) root }
     requires some { 1 ≤ workers }
     requires most { workers ≤ 64 }
-    ensures done { OnOk result ((fs : List Terms) → StartsAt (length ring.now) fs root
-        → IsListWritten options ring.now fs (K.held output.old) (K.held output.new)) }
-    ensures stopped { IfErr result (λ e. (fs : List Terms) → StartsAt (length ring.now) fs root
-        → IsListStopped options ring.now fs (K.held output.old) (K.held output.new) (K.faults output.old)
+    ensures done { OnOk result ((fs : List Terms) → StartsIn (length ring.now) region.now fs root
+        → IsListWrittenIn options ring.now region.now fs (K.held output.old) (K.held output.new)) }
+    ensures stopped { IfErr result (λ e. (fs : List Terms) → StartsIn (length ring.now) region.now fs root
+        → IsListStoppedIn options ring.now region.now fs (K.held output.old) (K.held output.new) (K.faults output.old)
         (K.faults output.new) e.refusal) }
     ensures told { IfErr result IsUnnamed }
     ensures calm { MatchResult result (λ _. K.faults output.new ≡ K.faults output.old)
         (λ e. (e.refusal ≡ Refusal.WriteFault → ⊥) → K.faults output.new ≡ K.faults output.old) }
 {
-    let mut waves = waves_of(alloc, root, workers, options.pairs, gate)?;
+    let mut waves = Waves::new(alloc, root, region, workers, options.pairs, gate)?;
     let mut room = Room::of(options.limit);
     let mut is_first = true;
     'list: while let Some(basis) = waves.next_written(rt)? {
         room = room.with_one_more()?;
-        write_basis(alloc, ring, &basis, is_first, options.certified, output)?;
+        write_basis(
+            alloc,
+            ring,
+            &basis,
+            region,
+            is_first,
+            options.certified,
+            output,
+        )?;
         is_first = false;
     }
     offer(output, b"}\n")?;
@@ -266,7 +279,10 @@ fn write_list<R: Threads + Sync, K: Sink, G: Gate>(
         (λ e. (e.refusal ≡ Refusal.WriteFault → ⊥) → K.faults output.new ≡ K.faults output.old) }
 {
     let root = first_basis(alloc, ring, set, options.pairs)?;
-    write_from(rt, alloc, ring, root, options, workers, output, gate)
+    let region = Region::positive(alloc, ring.len())?;
+    write_from(
+        rt, alloc, ring, root, &region, options, workers, output, gate,
+    )
 }
 
 /// Writes the ring of the source in a line, and then all marked reduced Gröbner bases of the ideal of its set, each as soon as it is

@@ -1,13 +1,14 @@
 //! The certificates of a basis in the list of `_bases`: its printed weight, and the facets that a flip may cross, each with its printed
 //! witness.
-ghost use Rattle.std.specs.Prelude.{◌≡◌, ◌++◌, flat_map, ℕ, List, IfErr, OnOk};
-ghost use Rattle.gfan.specs.Certificates.{facet_text, later_facet_text, facets_text, certificates_text, IsCertificatesText, IsUncertified};
+ghost use Rattle.std.specs.Prelude.{◌≡◌, ◌++◌, flat_map, length, ℕ, List, IfErr, OnOk};
+ghost use Rattle.gfan.specs.Certificates.{facet_text, later_facet_text, facets_text, certificates_text, IsCertificatesTextIn, IsUncertifiedIn};
 
 use crate::refused::of_weight_error;
+use gf_cone::Region;
 use gf_front::Refusal;
 use gf_poly::MarkedSet;
 use gf_text::Printer;
-use gf_weights::{Certificates, FacetWitness, certify};
+use gf_weights::{Certificates, FacetWitness, certify_in};
 use std::alloc::{AllocError, Global};
 
 /// Adds a facet.
@@ -56,16 +57,18 @@ fn push_certificates(text: &mut Vec<u8>, told: &Certificates) -> Result<(), Allo
     Ok(())
 }
 
-/// Adds the certificates of a basis.
+/// Adds the certificates of a basis in a region.
 pub(crate) fn push_certified(
     text: &mut Vec<u8>,
     alloc: Global,
     basis: &MarkedSet,
+    region: &Region,
 ) -> Result<(), Refusal>
-    ensures ok { OnOk result ((told : List ℕ) × IsCertificatesText basis.now told × (text.new.items ≡ text.old.items ++ told)) }
-    ensures err { IfErr result (IsUncertified basis.now) }
+    requires { length region.now.root ≡ basis.now.variables }
+    ensures ok { OnOk result ((told : List ℕ) × IsCertificatesTextIn region.now basis.now told × (text.new.items ≡ text.old.items ++ told)) }
+    ensures err { IfErr result (IsUncertifiedIn region.now basis.now) }
 {
-    let told = match certify(alloc, basis) {
+    let told = match certify_in(alloc, basis, region) {
         Ok(told) => told,
         Err(error) => return Err(of_weight_error(error)),
     };

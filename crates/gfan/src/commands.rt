@@ -1,6 +1,8 @@
 //! What the program does for each job.
 ghost use Rattle.std.specs.Prelude.{◌≡◌, [], ◌∷◌, length, IfOk, IfErr, OnOk};
+ghost use Rattle.std.specs.Option.{option_copied};
 ghost use Rattle.gf_front.specs.Jobs.{HasNumbersInRange};
+ghost use Rattle.gf_front.specs.declared.command_line.Job.{Job};
 ghost use Rattle.gf_frame.specs.Seen.{seen, output_seen};
 ghost use Rattle.gf_frame.specs.Loading.{AreLoaded, AreUnloaded, HaveInput, HaveFile};
 ghost use Rattle.gf_frame.specs.Origins.{texts_of};
@@ -8,7 +10,7 @@ ghost use Rattle.gf_frame.specs.Commands.{WritesOnce, IsAnswered, IsRefusedOn};
 ghost use Rattle.gf_frame.specs.Runs.{IsDoneOn, IsStoppedOn};
 ghost use Rattle.gfan.specs.Refused.{IsOfSource};
 ghost use Rattle.gfan.specs.BasisTest.{intersection_command};
-ghost use Rattle.gfan.specs.Commands.{plain_command, command_of, ReadsInputAlone};
+ghost use Rattle.gfan.specs.Commands.{plain_command, list_sources, command_of, ReadsInputAlone};
 ghost use Rattle.gfan.specs.Run.{IsOfLoaded};
 
 use crate::bases::ListOptions;
@@ -20,16 +22,46 @@ use crate::{
     bases, basis_test, buchberger, common_refinement, containment, generated, given_basis,
     groebner_cone, homogeneity_space, homogenize, initial_forms, leading_terms,
     mark_polynomial_set, marked, migrate_fan, polynomial_set_union, saturation, stats,
-    to_polyhedral_fan, tropical, weight_vector,
+    to_polyhedral_fan, tropical, weight_vector, within,
 };
 use gf_frame::{LoadFrom, load_all};
-use gf_front::{Job, PlainCommand, Refusal};
+use gf_front::{BasesOptions, Job, Name, PlainCommand, Refusal};
 use gf_outside::{Files, Sink, Source, WriteFault, write_all};
 use gf_waves::Gate;
 use std::alloc::Global;
 use std::thread::Threads;
 
-/// The texts of what the job reads, each loaded whole before the next: of its two files, or of the input.
+/// The texts of what a list is of: of the file of its region, where one is named, and then of the input.
+fn list_texts<S: Source, F: Files>(
+    alloc: Global,
+    within: Option<&Name>,
+    input: &mut S,
+    files: &mut F,
+) -> Result<Vec<Vec<u8>>, Refusal>
+    ensures loaded { IfOk result (λ texts. AreLoaded (list_sources (option_copied within.entry))
+        (seen (S.left input.old) (S.given input.old) (S.faults input.old) (F.bytes files.old) (F.left files.old)
+        (F.given files.old) (F.unopened files.old) (F.faults files.old))
+        (seen (S.left input.new) (S.given input.new) (S.faults input.new) (F.bytes files.new) (F.left files.new)
+        (F.given files.new) (F.unopened files.new) (F.faults files.new))
+        (texts_of texts.items)) }
+    ensures unloaded { IfErr result (AreUnloaded (list_sources (option_copied within.entry))
+        (seen (S.left input.old) (S.given input.old) (S.faults input.old) (F.bytes files.old) (F.left files.old)
+        (F.given files.old) (F.unopened files.old) (F.faults files.old))
+        (seen (S.left input.new) (S.given input.new) (S.faults input.new) (F.bytes files.new) (F.left files.new)
+        (F.given files.new) (F.unopened files.new) (F.faults files.new))) }
+    ensures input_kept { (HaveInput (list_sources (option_copied within.entry)) → ⊥) → input.new ≡ input.old }
+    ensures files_kept { (HaveFile (list_sources (option_copied within.entry)) → ⊥) → files.new ≡ files.old }
+{
+    match within {
+        Some(name) => {
+            let two = [LoadFrom::File(name.as_str()), LoadFrom::Input];
+            load_all(alloc, &two, input, files)
+        }
+        None => load_all(alloc, &[LoadFrom::Input], input, files),
+    }
+}
+
+/// The texts of what the job reads, each loaded whole before the next: of its files, or of the input, or of a file and then of the input.
 ///
 /// # Errors
 ///
@@ -64,6 +96,7 @@ pub(crate) fn texts_for<S: Source, F: Files>(
             ];
             load_all(alloc, &two, input, files)
         }
+        Job::Bases(given) => list_texts(alloc, given.within.as_ref(), input, files),
         Job::Generated(_) => load_all(alloc, &[], input, files),
         _ => load_all(alloc, &[LoadFrom::Input], input, files),
     }
@@ -209,6 +242,48 @@ fn write_answer<R: Threads + Sync, K: Sink>(
     }
 }
 
+/// Writes the list of bases that is asked for, piece by piece: of the ideal of the input, in the region of the file where one is named.
+fn perform_list<R: Threads + Sync, K: Sink, G: Gate>(
+    rt: &R,
+    alloc: Global,
+    given: &BasesOptions,
+    texts: &[Vec<u8>],
+    output: &mut K,
+    gate: &G,
+) -> Result<(), Refused>
+    requires limits { HasNumbersInRange (Job.Bases given.now) }
+    requires all { length texts.now ≡ length (command_of (Job.Bases given.now)).reads }
+    ensures done { OnOk result (IsDoneOn (command_of (Job.Bases given.now)) (texts_of texts.now) (output_seen (K.held output.old) (K.faults output.old))
+        (output_seen (K.held output.new) (K.faults output.new))) }
+    ensures stopped { IfErr result (λ e. IsStoppedOn (command_of (Job.Bases given.now)) (texts_of texts.now) (output_seen (K.held output.old) (K.faults output.old))
+        (output_seen (K.held output.new) (K.faults output.new)) e.refusal) }
+    ensures told { IfErr result (IsOfLoaded (command_of (Job.Bases given.now)).reads (texts_of texts.now)) }
+{
+    let options = ListOptions {
+        limit: given.limit,
+        pairs: given.pairs,
+        certified: given.certificates,
+    };
+    let workers = given.workers;
+    match &given.within {
+        None => {
+            if given.from_basis {
+                given_basis::perform(rt, alloc, &texts[0], options, workers, output, gate)
+            } else {
+                bases::perform(rt, alloc, &texts[0], options, workers, output, gate)
+            }
+        }
+        Some(_) => {
+            let (file, source) = (&texts[0], &texts[1]);
+            if given.from_basis {
+                within::perform_given(rt, alloc, file, source, options, workers, output, gate)
+            } else {
+                within::perform(rt, alloc, file, source, options, workers, output, gate)
+            }
+        }
+    }
+}
+
 /// Writes to the output what the job writes for the texts of what it reads: in one piece at its end, or piece by piece as it goes.
 pub(crate) fn perform<R: Threads + Sync, K: Sink, G: Gate>(
     rt: &R,
@@ -227,18 +302,7 @@ pub(crate) fn perform<R: Threads + Sync, K: Sink, G: Gate>(
     ensures told { IfErr result (IsOfLoaded (command_of job.now).reads (texts_of texts.now)) }
 {
     match job {
-        Job::Bases(given) => {
-            let options = ListOptions {
-                limit: given.limit,
-                pairs: given.pairs,
-                certified: given.certificates,
-            };
-            if given.from_basis {
-                given_basis::perform(rt, alloc, &texts[0], options, given.workers, output, gate)
-            } else {
-                bases::perform(rt, alloc, &texts[0], options, given.workers, output, gate)
-            }
-        }
+        Job::Bases(given) => perform_list(rt, alloc, given, texts, output, gate),
         other => write_answer(rt, alloc, other, texts, output),
     }
 }

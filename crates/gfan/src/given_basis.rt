@@ -1,6 +1,6 @@
 //! What `_bases -g` writes for an input, basis by basis.
 ghost use Rattle.std.specs.Prelude.{◌≤◌, [], ◌∷◌, IfOk, IfErr, OnOk};
-ghost use Rattle.gf_poly.specs.Marking.{polys};
+ghost use Rattle.gf_poly.specs.Marking.{HaveVariables, polys};
 ghost use Rattle.gf_reduced.specs.Markings.{IsMarkedGroebnerBasis};
 ghost use Rattle.gf_facets.specs.Regions.{all_positive};
 ghost use Rattle.gf_reverse.specs.Upward.{IsNodeIn};
@@ -9,7 +9,7 @@ ghost use Rattle.gf_tree.specs.Refusals.{IsWayRefused};
 ghost use Rattle.gfan.specs.BasesWriting.{StartsAt};
 ghost use Rattle.gf_frame.specs.Seen.{output_seen};
 ghost use Rattle.gf_frame.specs.Runs.{IsDoneOn, IsStoppedOn};
-ghost use Rattle.gfan.specs.GivenBasis.{IsGivenRootRefusal, given_bases_command};
+ghost use Rattle.gfan.specs.GivenBasis.{IsReducedFrom, IsReducingRefusal, IsGivenRootRefusal, given_bases_command};
 ghost use Rattle.gfan.specs.Refused.{IsOfSource};
 
 use crate::bases::{ListOptions, write_from};
@@ -36,12 +36,14 @@ fn root_above(alloc: Global, reduced: MarkedSet, pairs: u64) -> Result<MarkedSet
     to_root(alloc, reduced, &region, pairs)
 }
 
-/// The basis, by degree and then lex, of the ideal of a marked Gröbner basis: the set is checked, reduced, and taken up to the root.
-/// Its members are counted in 32 bits.
-fn root_of(alloc: Global, marked: &MarkedSet, pairs: u64) -> Result<MarkedSet, Refusal>
+/// The reduced basis of the ideal of a marked Gröbner basis, with its marks: the set is checked, and reduced. Its members are counted in
+/// 32 bits.
+pub(crate) fn reduced_of(alloc: Global, marked: &MarkedSet) -> Result<MarkedSet, Refusal>
+    ensures variables { IfOk result (λ _. HaveVariables marked.now.variables marked.now.items) }
     ensures basis { IfOk result (λ _. IsMarkedGroebnerBasis marked.now.variables marked.now.items) }
-    ensures root { IfOk result (λ root. StartsAt marked.now.variables (polys marked.now.items) root) }
-    ensures err { IfErr result (IsGivenRootRefusal marked.now pairs) }
+    ensures reduced { IfOk result (IsReducedFrom marked.now) }
+    ensures own { IfOk result (λ u. IsNodeIn (ideal_of u) u) }
+    ensures err { IfErr result (IsReducingRefusal marked.now) }
 {
     if marked.items().len() > u32::MAX as usize {
         return Err(Refusal::Memory);
@@ -50,10 +52,19 @@ fn root_of(alloc: Global, marked: &MarkedSet, pairs: u64) -> Result<MarkedSet, R
         Ok(basis) => basis,
         Err(error) => return Err(of_check(error)),
     };
-    let reduced = match autoreduce(alloc, &basis) {
-        Ok(reduced) => reduced,
-        Err(error) => return Err(of_check(CheckError::from(error))),
-    };
+    match autoreduce(alloc, &basis) {
+        Ok(reduced) => Ok(reduced),
+        Err(error) => Err(of_check(CheckError::from(error))),
+    }
+}
+
+/// The basis, by degree and then lex, of the ideal of a marked Gröbner basis: the set is checked, reduced, and taken up to the root.
+fn root_of(alloc: Global, marked: &MarkedSet, pairs: u64) -> Result<MarkedSet, Refusal>
+    ensures basis { IfOk result (λ _. IsMarkedGroebnerBasis marked.now.variables marked.now.items) }
+    ensures root { IfOk result (λ root. StartsAt marked.now.variables (polys marked.now.items) root) }
+    ensures err { IfErr result (IsGivenRootRefusal marked.now pairs) }
+{
+    let reduced = reduced_of(alloc, marked)?;
     match root_above(alloc, reduced, pairs) {
         Ok(root) => Ok(root),
         Err(error) => Err(Refused::from(error).refusal),
@@ -101,5 +112,8 @@ pub(crate) fn perform<R: Threads + Sync, K: Sink, G: Gate>(
             });
         }
     };
-    write_from(rt, alloc, &ring, root, options, workers, output, gate)
+    let region = Region::positive(alloc, ring.len())?;
+    write_from(
+        rt, alloc, &ring, root, &region, options, workers, output, gate,
+    )
 }

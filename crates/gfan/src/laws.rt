@@ -1,10 +1,11 @@
 //! What the list of `_bases`, the weights of `_weightvector` and the lines of `_generated` have: laws, each the contract of a function that computes nothing.
-ghost use Rattle.gfan.specs.BasesList.{WeightsAreServed};
-ghost use Rattle.gfan.specs.OneList.{ListsExist, ListsAreOne, TextsAreOne};
+ghost use Rattle.gfan.specs.BasesList.{WeightsAreServed, RegionsAreServed};
+ghost use Rattle.gfan.specs.OneList.{ListsExist, ListsAreOne, TextsAreOne, RegionListsAreOne, RegionTextsAreOne};
 ghost use Rattle.gfan.specs.Served.{WrittenListsServe};
-ghost use Rattle.gfan.specs.CertifiedBases.{CertificatesHold};
+ghost use Rattle.gfan.specs.CertifiedBases.{CertificatesHold, RegionCertificatesHold};
 ghost use Rattle.gfan.specs.GivingWeights.{WrittenWeightsGiveBases};
 ghost use Rattle.gfan.specs.OneSummary.{SummariesAreOne};
+ghost use Rattle.gfan.specs.Within.{WideRootsAreTold};
 
 /// A basis is in the list that `_bases` writes exactly where some positive weight gives it. For each positive weight for which monomials
 /// generate the initial ideal its reduced basis is there, once; so is that for each term order; and each positive weight lies in the
@@ -39,6 +40,32 @@ pub fn texts_are_one()
 /// on all other normals (Fukuda, Jensen, Thomas, *Computing Gröbner fans*, 2 and 4).
 pub fn certificates_hold()
     ensures { CertificatesHold }
+{}
+
+/// A basis is in the list of a region exactly where some weight of the region gives it. For each weight of the region for which monomials
+/// generate the initial ideal its reduced basis is there, once; and each weight of the region lies in the closed cone of a basis that is
+/// there (Fukuda, Jensen, Thomas, *Computing Gröbner fans*, 2).
+pub fn regions_are_served()
+    ensures { RegionsAreServed }
+{}
+
+/// The ideal of a set has one list of its bases in a region, in the order of their paths; and two runs of `_bases --within` that write the whole
+/// list for one file and one source have written the same bytes, whatever their numbers of workers are.
+pub fn regions_have_one_text()
+    ensures lists { RegionListsAreOne }
+    ensures texts { RegionTextsAreOne }
+{}
+
+/// In a list of a region with certificates each basis is the reduced one for the weight behind it, which is in the region; and exactly the
+/// facets that a flip may cross there stand there, each with a vector of the region inside it.
+pub fn region_certificates_hold()
+    ensures { RegionCertificatesHold }
+{}
+
+/// Where the vectors of the file of `_bases --within` cut out a region and an entry of its root is greater than 2^63 - 1, nothing is answered, and
+/// the first such entry is told, unless an operation of finding the root leaves its limits or memory is wanting.
+pub fn wide_roots_are_told()
+    ensures { WideRootsAreTold }
 {}
 
 /// What `_weightvector` writes are the sets that it read with their weights, or the weights alone, and each weight gives its basis: it is

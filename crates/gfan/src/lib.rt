@@ -45,3 +45,4 @@ mod to_polyhedral_fan;
 mod told_cone;
 mod tropical;
 mod weight_vector;
+mod within;

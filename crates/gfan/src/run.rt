@@ -57,7 +57,7 @@ fn outcome<R: Threads + Sync, S: Source, K: Sink, F: Files, G: Gate>(
 ///
 /// The words are those after the program's name. The job is that of `gf_front::words`; what it reads and writes is told
 /// at its own function. `_fancommonrefinement` loads two of `files`, the first one whole before the second, and doesn't read the input;
-/// `_generated` reads nothing; every other job reads the input to its end, and no file. The answer is one piece of the output, or of `_bases` one piece for each basis, and
+/// `_generated` reads nothing; `_bases --within` loads one of `files`, and then the input; every other job reads the input to its end, and no file. The answer is one piece of the output, or of `_bases` one piece for each basis, and
 /// nothing else is written there. Of `_bases` several workers may do the jobs of the list, on threads of `rt`: before each of them the gate is
 /// called, on the thread that will do it, and no answer depends on it; of `_generated` they may too, without the gate. `_fancommonrefinement`, `_tropicalintersection` and `_minkowskisum` meet
 /// cones on threads of `rt` too. On Done nothing is written to `faults`. Whether `faults` takes the line changes neither the status nor the output.
@@ -77,6 +77,10 @@ fn outcome<R: Threads + Sync, S: Source, K: Sink, F: Files, G: Gate>(
 ///   multipliers that show it; or a mark divides a term that it shouldn't, the first one; or the first pair whose S-polynomial
 ///   leaves a remainder, with that remainder. `NotAFan` exactly where the cones of such sets, or of a fan file, have no fan, at the first
 ///   pair whose meet isn't a face of both, unless numbers of the work don't fit.
+/// - `EmptyRegion` exactly where the vectors of the file of `_bases --within` cut out no region of positive weights, with multipliers
+///   that show it, unless numbers of the work before don't fit.
+/// - `WideRoot` only where they cut out one with an entry of its root above `2^63 - 1`, at the first one; or at an entry past `2^63` in
+///   absolute value of a vector that `_tropicalintersection --basistest` comes to.
 /// - `Overflow`, `ExponentOverflow`, `ConeOverflow` and `WideVector` only for operands that the job may have, and that don't fit; `Overflow`
 ///   never of `_generated`, nor of `_buchberger` and `_bases` where each polynomial is a monomial or a difference of two, without numbers;
 ///   `PairBudget` only where the budget of the words is spent.

@@ -1,4 +1,4 @@
-use Rattle.std.proofs.Common.{◌∙◌, ap, sym, subst}
+use Rattle.std.proofs.Common.{sym, subst}
 use Rattle.gf_facets.specs.Regions.{Region}
 use Rattle.gf_reverse.specs.Upward.{IsNode}
 use Rattle.gf_cone.proofs.RegionLaws.{positive_is}

@@ -1,13 +1,13 @@
 use Rattle.std.proofs.Common.{◌≡◌, List, length}
 use Rattle.gf_poly.specs.Polynomial.{Terms}
 use Rattle.gf_subtree.specs.Rows.{row_left_at_most}
-use Rattle.gfan.specs.BasesWriting.{StartsAt, IsUnderWay}
+use Rattle.gfan.specs.BasesWriting.{StartsIn, IsUnderWay}
 use Rattle.gfan.proofs.bases.write_from.Given as goal
 
 -- some bases are written, and the others are left
 abbrev pub invariant-list : goal.invariant-list
 invariant-list g l = record {
-  under_way : (fs : List Terms) → StartsAt (length l.ring) fs l.fn.root → IsUnderWay l.fn.options l.ring fs l.waves l.room l.is_first (g.K.Sink.held l.initial.output) (g.K.Sink.held l.output);
+  under_way : (fs : List Terms) → StartsIn (length l.ring) l.region fs l.fn.root → IsUnderWay l.fn.options l.ring l.region fs l.waves l.room l.is_first (g.K.Sink.held l.initial.output) (g.K.Sink.held l.output);
   calm : g.K.Sink.faults l.output ≡ g.K.Sink.faults l.initial.output;
 }
 

@@ -1,0 +1,5 @@
+use Rattle.gfan.proofs.CertificateLaws.{certified_list_in}
+use Rattle.gfan.proofs.laws.region_certificates_hold.Goals as goal
+
+pub returns : goal.returns
+returns c = certified_list_in
