@@ -8,7 +8,7 @@ use Rattle.gf_ideal.proofs.ListLaws.{Contains-here, Contains-there, Contains-cas
 use Rattle.gf_gordan.specs.Alternative.{GordansAlternative}
 use Rattle.gf_walk.specs.Listing.{Among}
 use Rattle.gf_buchberger.specs.Jobs.{HaveRingVariables, HaveOneDegree, IsSuited}
-use Rattle.gf_buchberger.proofs.JobLaws.{orders_that_suit}
+use Rattle.gf_buchberger.proofs.JobLaws.{orders_that_suit, ring_variables}
 use Rattle.gf_fan.specs.FanLists.{FanLists}
 use Rattle.gf_refine.specs.Laws.{FansAreConeLists}
 use Rattle.gf_patterns.specs.Patterns.{points}
@@ -18,7 +18,6 @@ use Rattle.gf_facets.proofs.SystemLaws.{all_positive-region}
 use Rattle.gf_bases.proofs.FiniteLaws.{basis_everywhere}
 use Rattle.gf_reverse.specs.Upward.{IsNodeIn}
 use Rattle.gf_tree.specs.Ideals.{ideal_by}
-use Rattle.gf_saturate.proofs.StepLaws.{ring_of}
 use Rattle.gf_tropical_bases.specs.Tests.{IsFailedAt}
 use Rattle.gf_tropical_bases.specs.Laws.{IsBasisTest}
 use Rattle.gf_tropical_bases.proofs.TestLaws.{tropical_bases_are_tested}
@@ -50,7 +49,7 @@ suited n fs v one = orders_that_suit.revlex n fs v one
 is_test : (n : ℕ) (fs : List Terms) (h : FanLists) (v : HaveRingVariables n fs) (one : HaveOneDegree fs) → GordansAlternative → FansAreConeLists → IsPrevarietyFan n (map points fs) h →
     IsBasisTest n (suited n fs v one).grade fs (maximal_rows h)
 is_test n fs h v one gordan law p = record {
-  variables = ring_of n fs v;
+  variables = ring_variables n fs v;
   positive = (suited n fs v one).admissible;
   homogeneous = (suited n fs v one).homogeneous;
   cones_are = maximal_patterns n (map points fs) h gordan law p;
@@ -58,7 +57,7 @@ is_test n fs h v one gordan law p = record {
 
 -- a marked reduced basis is one of the list
 listed : (n : ℕ) (fs : List Terms) (bs : List MarkedPolynomial) → HaveRingVariables n fs → IsMarkedReducedBasis n fs bs → IsNodeIn (ideal_by n fs) (record { variables = n; items = bs })
-listed n fs bs v b = record { fan = record { ideal = ring_of n fs v; region = all_positive-region n }; variables = refl; basis = basis_everywhere n fs bs b }
+listed n fs bs v b = record { fan = record { ideal = ring_variables n fs v; region = all_positive-region n }; variables = refl; basis = basis_everywhere n fs bs b }
 
 of_listed : (n : ℕ) (fs : List Terms) (b : MarkedPolynomials) → IsNodeIn (ideal_by n fs) b → IsMarkedReducedBasis n fs b.items
 of_listed n fs b k = record { reduced = k.basis.reduced; arranged = k.basis.arranged }

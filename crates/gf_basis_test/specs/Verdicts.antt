@@ -42,6 +42,7 @@ pub record HaveBasesOutcome (n : ℕ) (fs : List Terms) (cones : List Rows) (v :
   pub are_bases : IsListFor (ideal_by n fs) bases
   pub outcome : IsOutcome (λ (b : MarkedPolynomials). HasBasisOutcome n cones b.items None) (λ (u : List ℤ) (b : MarkedPolynomials). HasBasisOutcome n cones b.items (Some u)) bases v
 
+-- the vector that a verdict of no tells
 abbrev pub outcome_of : Verdict → Option (List ℤ)
 outcome_of Yes = None
 outcome_of (No v) = Some v

@@ -58,9 +58,11 @@ IsOutcome {A} Passes Fails xs (Some v) = (x : A) × IsReached Passes xs x × Fai
 abbrev pub vector_of : RowsAndRays → Face → List ℤ
 vector_of c f = sum_of c.ambient (numbered c.rays f.rays)
 
+-- at the vector of a face there is no monomial
 abbrev pub PassesAt : List MarkedPolynomial → RowsAndRays → Face → Type 0
 PassesAt bs c f = HasNoMonomialAt c.ambient bs (vector_of c f)
 
+-- at v, the vector of a face, there is one
 abbrev pub FailsAt : List MarkedPolynomial → RowsAndRays → List ℤ → Face → Type 0
 FailsAt bs c v f = (v ≡ vector_of c f) × HasMonomialAt c.ambient bs v
 

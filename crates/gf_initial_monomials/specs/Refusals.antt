@@ -23,10 +23,12 @@ use Rattle.gf_initial_monomials.specs.Outcomes.{AreFormsAt, IsReached, IsCutBy, 
 
 -- ---- the same refusal, here
 
+-- a refusal of cones: the step that leaves the range, or want of memory
 abbrev pub of_gordan : GordanError → InitialError
 of_gordan (cones.Cone s) = Cone s
 of_gordan cones.Memory = Memory
 
+-- a refusal of vectors: the operation that leaves the range, or want of memory
 abbrev pub of_vector : VecError → InitialError
 of_vector (vectors.Wide w) = Wide w
 of_vector vectors.Memory = Memory

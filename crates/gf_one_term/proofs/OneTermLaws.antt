@@ -14,10 +14,10 @@ use Rattle.gf_ideal.proofs.ListedTerms.{by_terms, variables_by_terms}
 use Rattle.gf_ideal.proofs.MembershipLaws.{member-generator}
 use Rattle.gf_ideal.proofs.PieceLaws.{Contains-marked}
 use Rattle.gf_buchberger.specs.Jobs.{HaveRingVariables}
+use Rattle.gf_buchberger.proofs.JobLaws.{ring_variables}
 use Rattle.gf_saturation.specs.Saturations.{IsOfOneTerm, HasOneTermMember, one_polynomial}
 use Rattle.gf_saturation.proofs.LawsHold.{monomials_are_told}
 use Rattle.gf_saturate.specs.Saturating.{IsSaturation}
-use Rattle.gf_saturate.proofs.StepLaws.{ring_of}
 use Rattle.gf_one_term.specs.OneTerm.{HasUnitMark}
 
 -- ---- a polynomial of one term
@@ -55,7 +55,7 @@ unit_mark x z = same_by_entries x [] (λ i. omega (arith, entry_degree x i, z))
 told_by_marks : (n : ℕ) (fs : List Terms) (s : MarkedPolynomials) → HaveRingVariables n fs → IsSaturation n fs s → HasUnitMark s.items ↔ HasOneTermMember n fs
 told_by_marks n fs s v h =
     let t = monomials_are_told.told n (polys s.items) s.items variables h.reduced in
-    let o = monomials_are_told.one n fs (ring_of n fs v) in
+    let o = monomials_are_told.one n fs (ring_variables n fs v) in
     (λ c. o.1 ((h.members one_polynomial).0 (t.1 c)), λ m. t.0 ((h.members one_polynomial).1 (o.0 m)))
   where
     variables : AreInVariables n (polys s.items)

@@ -9,6 +9,7 @@ use Rattle.gf_exponents.proofs.ExponentsLaws.{same_by_entries, same_flip}
 use Rattle.gf_frac.specs.Fraction.{one_ℚ}
 use Rattle.gf_poly.specs.Polynomial.{Terms, HasVariables, coefficient, times}
 use Rattle.gf_poly.proofs.PolynomialLaws.{times-plain}
+use Rattle.gf_poly.proofs.MonomialLaws.{entry-ones}
 use Rattle.gf_poly.specs.Marking.{MarkedPolynomial, MarkedPolynomials, polys}
 use Rattle.gf_ideal.specs.Membership.{IsMember}
 use Rattle.gf_ideal.specs.Bases.{IsBasis, IsReducedBasisFor}
@@ -18,6 +19,7 @@ use Rattle.gf_buchberger.specs.Jobs.{HaveRingVariables}
 use Rattle.gf_buchberger.specs.declared.bases.BasisError.{BasisError}
 use Rattle.gf_buchberger.specs.Bases.{IsArrangedBasis, IsWantOfMemory}
 use Rattle.gf_buchberger.proofs.BasesOfRuns.{if_within}
+use Rattle.gf_buchberger.proofs.JobLaws.{ring_variables}
 use Rattle.gf_saturation.specs.Saturations.{product_power, next_variable, IsSaturatedBy, AreLeftOver}
 use Rattle.gf_saturation.proofs.SaturationLaws.{extended_variables, saturated_same, saturated_product}
 use Rattle.gf_saturation.proofs.OneByOneLaws.{saturated_none, saturated_next}
@@ -27,8 +29,8 @@ use Rattle.gf_saturate.specs.declared.stages.Stage.{Stage}
 use Rattle.gf_saturate.specs.Widening.{extended_list, left_over, variable}
 use Rattle.gf_saturate.specs.Marks.{CoverHeads, CoverFreeHeads}
 use Rattle.gf_saturate.specs.Saturating.{AddsNothing, IsStep, IsOnTheWay, IsStage, IsSaturation, IsSaturateRefusal, AreStepsWithinLimits, step_order, step_list}
-use Rattle.gf_saturate.proofs.WideningLaws.{length-variable, entry-zeros}
-use Rattle.gf_saturate.proofs.StepLaws.{extended, left_over-are, left_over-ring, to_eliminate, in_ring_of, ring_of, reduced_of}
+use Rattle.gf_saturate.proofs.WideningLaws.{length-variable}
+use Rattle.gf_saturate.proofs.StepLaws.{extended, left_over-are, left_over-ring, to_eliminate, in_ring_of, reduced_of}
 use Rattle.gf_saturate.proofs.SparedLaws.{adds_nothing, left_over_spared}
 
 -- ---- the variable as it is kept
@@ -39,7 +41,7 @@ variable-same n k l = same_by_entries (variable n k) (next_variable k) (λ i. at
     at : (n k i : ℕ) → k < n → entry (variable n k) i ≡ entry (next_variable k) i
     at zero k i l = absurd (omega arith)
     at (suc n) zero zero l = refl
-    at (suc n) zero (suc i) l = entry-zeros n i
+    at (suc n) zero (suc i) l = entry-ones n i
     at (suc n) (suc k) zero l = refl
     at (suc n) (suc k) (suc i) l = at n k i (omega arith)
 
@@ -59,7 +61,7 @@ step_generates n k fs s l v b f = (
     u = variable n k
 
     one : IsMember n (left_over n s.items) f ↔ IsSaturatedBy n fs u f
-    one = saturations_are_worked_out.left_over n u fs (extended_list u fs) (left_over n s.items) s.items f (in_ring_of n u (length-variable n k l)) (ring_of n fs v)
+    one = saturations_are_worked_out.left_over n u fs (extended_list u fs) (left_over n s.items) s.items f (in_ring_of n u (length-variable n k l)) (ring_variables n fs v)
         (extended n u fs (length-variable n k l)) (reduced_of n (extended_list u fs) s b) (step_left n k fs s b)
 
 step_ring : (n k : ℕ) (fs : List Terms) (s : MarkedPolynomials) → IsArrangedBasis (step_order n) (n + 1) (step_list n k fs) s → HaveRingVariables n (left_over n s.items)
@@ -70,13 +72,13 @@ step_spared : (n k j : ℕ) (fs : List Terms) (s : MarkedPolynomials) → k < n 
 step_spared n k j fs s l m v b none =
     let u : Exponents = variable n k in
     left_over_spared n j (step_list n k fs) (left_over n s.items) s.items m
-    (extended_variables n u fs (step_list n k fs) (in_ring_of n u (length-variable n k l)) (ring_of n fs v) (extended n u fs (length-variable n k l)))
+    (extended_variables n u fs (step_list n k fs) (in_ring_of n u (length-variable n k l)) (ring_variables n fs v) (extended n u fs (length-variable n k l)))
     (reduced_of n (step_list n k fs) s b) (step_left n k fs s b) none
 
 -- ---- the basis by degree
 
 degree_members : (n : ℕ) (fs : List Terms) (s : MarkedPolynomials) → HaveRingVariables n fs → IsArrangedBasis MonomialOrder.deglex n fs s → (f : Terms) → IsMember n (polys s.items) f ↔ IsMember n fs f
-degree_members n fs s v b f = (λ m. member_of_basis n fs s.items f (ring_of n fs v) basis m, λ m. basis_of_member n fs s.items f (ring_of n fs v) basis m)
+degree_members n fs s v b f = (λ m. member_of_basis n fs s.items f (ring_variables n fs v) basis m, λ m. basis_of_member n fs s.items f (ring_variables n fs v) basis m)
   where
     basis : IsBasis n fs s.items
     basis = deglex_basis n fs s.items b.reduced
@@ -169,7 +171,7 @@ pub reduced_stage : (n : ℕ) (fs : List Terms) (b : MarkedPolynomials) (s : Sta
 reduced_stage n fs b s v h e l covers u = record {
   ring = subst (HaveRingVariables n) (sym e) (degree_ring n fs b h);
   long = l;
-  spared = λ k m z. subst (AddsNothing n k) (sym e) (adds_nothing n k (polys b.items) b.items m (ring_of n (polys b.items) (degree_ring n fs b h)) (degree_own n fs b v h) (λ c i. covers k z c i));
+  spared = λ k m z. subst (AddsNothing n k) (sym e) (adds_nothing n k (polys b.items) b.items m (ring_variables n (polys b.items) (degree_ring n fs b h)) (degree_own n fs b v h) (λ c i. covers k z c i));
   known = subst (λ (o : Option MarkedPolynomials). IfSome o (IsArrangedBasis MonomialOrder.deglex n s.polys.items)) (sym u)
       (subst (λ (gs : List Terms). IsArrangedBasis MonomialOrder.deglex n gs b) (sym e) (degree_arranged n fs b v h));
 }

@@ -1,6 +1,6 @@
 -- The lists that the code makes are those of the laws.
--- To cite: extended, extended-ring, left_over-are, left_over-ring, member-back, length-last, to_eliminate, reduced_of, in_ring_of, ring_of,
--- if_ok, if_err, contains_at. The rest are steps.
+-- To cite: extended, extended-ring, left_over-are, left_over-ring, member-back, length-last, to_eliminate, reduced_of,
+-- in_ring_of, if_ok, if_err, contains_at. The rest are steps.
 use Rattle.std.specs.Prelude.{◌≡◌, ◌⊎◌, ℕ, zero, suc, ◌+◌, ◌<◌, ◌≤◌, ◌==◌, Bool, true, false, if◌then◌else◌, List, [], ◌∷◌, ◌++◌, map, take, length, replicate, Contains, ℤ, pos, All, IfOk, IfErr, unsigned_abs, ◌^◌}
 use Rattle.std.proofs.Common.{arith, refl, sym, ap, ◌∙◌, subst, inl, inr, append_assoc, length-append, set, get_or, Result, Ok, Err}
 use Rattle.std.proofs.lemmas.Bool.Decides.{nat_tests}
@@ -14,7 +14,8 @@ use Rattle.gf_exponents.proofs.ExponentsLaws.{same-sym, same_along, same_by_entr
 use Rattle.gf_poly.specs.declared.Term.{Term}
 use Rattle.gf_poly.specs.Polynomial.{Terms, coefficient, SamePolynomial, HasVariables}
 use Rattle.gf_poly.specs.Marking.{MarkedPolynomial, MarkedPolynomials, Each}
-use Rattle.gf_ideal.specs.Membership.{IsInVariables, AreInVariables}
+use Rattle.gf_poly.proofs.MonomialLaws.{entry-ones}
+use Rattle.gf_ideal.specs.Membership.{IsInVariables}
 use Rattle.gf_ideal.specs.Bases.{IsReducedBasisFor}
 use Rattle.gf_ideal.proofs.ListLaws.{Contains-here, Contains-there, Contains-cases, Contains-last, each_contained}
 use Rattle.gf_ideal.proofs.ListedTerms.{variables_by_terms}
@@ -27,7 +28,7 @@ use Rattle.gf_saturation.specs.Saturations.{next_variable, rabinowitsch, AreExte
 use Rattle.gf_saturation.proofs.EliminationLaws.{free_by_head, bound_by_head}
 use Rattle.gf_saturate.specs.Saturating.{IsToEliminate, step_order}
 use Rattle.gf_saturate.specs.Widening.{widened_term, narrowed_term, rabinowitsch_terms, extended_list, left_over}
-use Rattle.gf_saturate.proofs.WideningLaws.{entry-zeros, same-widened, variables-widened, variables-narrowed, narrowed-back}
+use Rattle.gf_saturate.proofs.WideningLaws.{same-widened, variables-widened, variables-narrowed, narrowed-back}
 
 -- ---- the extended list
 
@@ -63,7 +64,7 @@ last (x ∷ xs) f = Contains-there x f (xs ++ f ∷ []) (last xs f)
 relation-same : (n : ℕ) (u : Exponents) → length u ≡ n → SamePolynomial (rabinowitsch n u) (rabinowitsch_terms u)
 relation-same n u l e =
     ap (λ b. (if b then one_ℚ else zero_ℚ) +ℚ ((if same e [] then neg_ℚ one_ℚ else zero_ℚ) +ℚ zero_ℚ)) (along e (plus u (next_variable n)) (u ++ 1 ∷ []) (same_by_entries (plus u (next_variable n)) (u ++ 1 ∷ []) (λ i. entry-plus u (next_variable n) i ∙ tail u n i l)))
-    ∙ ap (λ b. (if same e (u ++ 1 ∷ []) then one_ℚ else zero_ℚ) +ℚ ((if b then neg_ℚ one_ℚ else zero_ℚ) +ℚ zero_ℚ)) (along e [] (replicate (length u + 1) 0) (same_by_entries [] (replicate (length u + 1) 0) (λ i. sym (entry-zeros (length u + 1) i))))
+    ∙ ap (λ b. (if same e (u ++ 1 ∷ []) then one_ℚ else zero_ℚ) +ℚ ((if b then neg_ℚ one_ℚ else zero_ℚ) +ℚ zero_ℚ)) (along e [] (replicate (length u + 1) 0) (same_by_entries [] (replicate (length u + 1) 0) (λ i. sym (entry-ones (length u + 1) i))))
   where
     along : (e x y : Exponents) → same x y ≡ true → same e x ≡ same e y
     along e x y h = same-sym e x ∙ same_along x y e h ∙ same-sym y e
@@ -256,9 +257,6 @@ to_eliminate n gs s b = record {
 
 pub in_ring_of : (n : ℕ) (u : Exponents) → length u ≡ n → IsInRing n u
 in_ring_of n u l i h = entry-past u i (omega arith)
-
-pub ring_of : (n : ℕ) (fs : List Terms) → HaveRingVariables n fs → AreInVariables n fs
-ring_of n fs v f c = variables_by_terms n f (v.each f c)
 
 pub reduced_of : (n : ℕ) (gs : List Terms) (s : MarkedPolynomials) → IsArrangedBasis (step_order n) (n + 1) gs s →
     IsReducedBasisFor (suc n) gs (IsWeightedBelow (last_weight n)) s.items

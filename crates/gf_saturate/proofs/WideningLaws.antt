@@ -7,7 +7,7 @@ use Rattle.std.specs.declared.cmp.Ordering.{Ordering}
 use Rattle.std.specs.declared.cmp.Ordering.TheVariants.{Less, Equal, Greater}
 use Rattle.std.proofs.lemmas.Cmp.{ranked}
 use Rattle.std.proofs.Common.{arith, refl, sym, ap, ◌∙◌, subst, set, get_or, length-append}
-use Rattle.std.proofs.lemmas.List.{take_more, take_all, take_more_set, map-append, take-replicate, length-replicate}
+use Rattle.std.proofs.lemmas.List.{take_more, take_all, take_more_set, take-replicate, length-replicate}
 use Rattle.std.proofs.lemmas.List.Elements.{All-push}
 use Rattle.gf_exponents.specs.Exponents.{Exponents, entry, same, degree}
 use Rattle.gf_exponents.specs.Orders.{deglex, lex}
@@ -19,7 +19,7 @@ use Rattle.gf_poly.specs.Marking.{Each}
 use Rattle.gf_frac.proofs.FractionLaws.{+ℚ-neg_ℚ, +ℚ-zero}
 use Rattle.gf_ideal.proofs.Identities.{one_not_zero}
 use Rattle.gf_poly.specs.Monomial.{IsMonomial}
-use Rattle.gf_poly.proofs.MonomialLaws.{limit_by_entries}
+use Rattle.gf_poly.proofs.MonomialLaws.{limit_by_entries, entry-ones, degree-ones}
 use Rattle.gf_poly.specs.declared.TheConstants.{ROOM}
 use Rattle.gf_saturate.specs.Widening.{widened_term, narrowed_term, rabinowitsch_terms, variable}
 
@@ -69,28 +69,14 @@ filled-array all old i e l k r h =
     let at : i ≡ length old = omega arith in
     take_more_set all (length old) e r ∙ ap (λ (z : Exponents). z ++ e ∷ []) (subst (λ (j : ℕ). take j all ≡ take j old) at h ∙ take_all (length old) old (omega arith))
 
--- the terms so far, each exchanged
-pub mapped-more : (change : Term → Term) (f out next : Terms) (i : ℕ) (t s : Term) → i < length f → t ≡ get_or f i t → s ≡ change t → next ≡ out ++ s ∷ [] → out ≡ map change (take i f) → next ≡ map change (take (i + 1) f)
-mapped-more change f out next i t s l e q n k =
-    n ∙ ap (λ (z : Term). out ++ z ∷ []) q ∙ ap (λ (z : Terms). z ++ change t ∷ []) k
-    ∙ sym (map-append change (take i f) (t ∷ []))
-    ∙ ap (map change) (sym (take_more f i t l ∙ ap (λ (z : Term). take i f ++ z ∷ []) (sym e)))
-
-pub mapped-all : (change : Term → Term) (f out : Terms) (i : ℕ) → length f ≤ i → out ≡ map change (take i f) → out ≡ map change f
-mapped-all change f out i l k = k ∙ ap (map change) (take_all i f l)
-
 -- ---- the relation
 
 degree-last : (u : Exponents) (e : ℕ) → degree (u ++ e ∷ []) ≡ degree u + e
 degree-last [] e = omega arith
 degree-last (a ∷ u) e = omega (arith, degree-last u e)
 
-degree-zeros : (n : ℕ) → degree (replicate n 0) ≡ 0
-degree-zeros zero = refl
-degree-zeros (suc n) = omega (arith, degree-zeros n)
-
 pub product-above : (u : Exponents) → deglex (u ++ 1 ∷ []) (replicate (length u + 1) 0) ≡ Greater
-product-above u = at (degree (u ++ 1 ∷ [])) (degree (replicate (length u + 1) 0)) (degree-last u 1) (degree-zeros (length u + 1))
+product-above u = at (degree (u ++ 1 ∷ [])) (degree (replicate (length u + 1) 0)) (degree-last u 1) (degree-ones (length u + 1))
   where
     at : (d e : ℕ) → d ≡ degree u + 1 → e ≡ 0 → ordering_then (nat_cmp d e) (lex (u ++ 1 ∷ []) (replicate (length u + 1) 0)) ≡ Greater
     at d e p q = ap (λ o. ordering_then o (lex (u ++ 1 ∷ []) (replicate (length u + 1) 0))) (above d e (omega arith))
@@ -169,18 +155,13 @@ length-variable zero k l = absurd (omega arith)
 length-variable (suc n) zero l = omega (arith, length-replicate {A = ℕ} n 0)
 length-variable (suc n) (suc k) l = omega (arith, length-variable n k (omega arith))
 
-pub entry-zeros : (n i : ℕ) → entry (replicate n 0) i ≡ 0
-entry-zeros zero i = refl
-entry-zeros (suc n) zero = refl
-entry-zeros (suc n) (suc i) = entry-zeros n i
-
 pub variable-monomial : (n k : ℕ) → n ≤ ROOM → k < n → IsMonomial (variable n k)
 variable-monomial n k h l = record { room = omega (arith, length-variable n k l); limit = limit_by_entries (variable n k) (λ i. small n k i) }
   where
     small : (n k i : ℕ) → entry (variable n k) i < 2 ^ 31
     small zero k i = omega arith
     small (suc n) zero zero = omega arith
-    small (suc n) zero (suc i) = omega (arith, entry-zeros n i)
+    small (suc n) zero (suc i) = omega (arith, entry-ones n i)
     small (suc n) (suc k) zero = omega arith
     small (suc n) (suc k) (suc i) = small n k i
 

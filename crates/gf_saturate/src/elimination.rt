@@ -1,5 +1,5 @@
 //! What the ideal of the extended generators has in the first variables.
-ghost use Rattle.std.specs.Prelude.{◌≡◌, ◌<◌, ◌+◌, ◌==◌, ℕ, IfOk, length};
+ghost use Rattle.std.specs.Prelude.{◌≡◌, ◌<◌, ◌+◌, ◌==◌, IfOk, length};
 ghost use Rattle.gf_exponents.specs.Exponents.{entry};
 ghost use Rattle.gf_exponents.specs.Orders.{gains};
 ghost use Rattle.gf_exponents.specs.SixOrders.{MonomialOrder};

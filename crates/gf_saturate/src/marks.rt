@@ -1,7 +1,5 @@
 //! The variables that occur in the marks of a basis, as a least common multiple.
-ghost use Rattle.std.specs.Prelude.{◌≡◌, ◌<◌, ◌≤◌, ◌+◌, ℕ, Contains, length};
-ghost use Rattle.gf_exponents.specs.Exponents.{entry};
-ghost use Rattle.gf_poly.specs.Marking.{MarkedPolynomial};
+ghost use Rattle.std.specs.Prelude.{◌≡◌, ◌<◌, ◌≤◌, ◌+◌, length};
 ghost use Rattle.gf_saturate.specs.Marks.{HaveLongHeads, CoverHeads, CoverFreeHeads};
 
 use crate::elimination::is_free;

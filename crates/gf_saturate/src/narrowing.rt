@@ -1,6 +1,6 @@
 //! Polynomials without their last variable, which doesn't occur.
-ghost use Rattle.std.specs.Prelude.{◌≡◌, ◌<◌, ◌≤◌, ◌+◌, ◌-◌, ◌∷◌, [], ℕ, IfOk, length, map, take};
-ghost use Rattle.gf_poly.specs.Polynomial.{HasVariables, Terms};
+ghost use Rattle.std.specs.Prelude.{◌≡◌, ◌≤◌, ◌+◌, IfOk, length, map, take};
+ghost use Rattle.gf_poly.specs.Polynomial.{HasVariables};
 ghost use Rattle.gf_saturate.specs.Widening.{narrowed_term, widened_term};
 
 use gf_poly::{Mono, Poly, Term};

@@ -1,5 +1,5 @@
 //! Where a saturation stands, and one step of it.
-ghost use Rattle.std.specs.Prelude.{◌≡◌, ◌<◌, ◌≤◌, ◌+◌, ℕ, IfOk, IfErr, length, map, take};
+ghost use Rattle.std.specs.Prelude.{◌≡◌, ◌<◌, ◌≤◌, ◌+◌, ℕ, IfOk, IfErr, length};
 ghost use Rattle.gf_poly.specs.Marking.{polys};
 ghost use Rattle.gf_exponents.specs.Exponents.{entry};
 ghost use Rattle.gf_exponents.specs.SixOrders.{MonomialOrder};

@@ -63,9 +63,11 @@ AreCertificatesFittingIn n k bs = (e : WeightError) → IsCertificateCauseIn n k
 
 -- ---- where all positive weights are meant
 
+-- why a weight is refused
 abbrev pub IsWeightCause : ℕ → List MarkedPolynomial → WeightError → Type 0
 IsWeightCause n bs e = IsWeightCauseIn n (all_positive n) bs e
 
+-- why a weight and the witnesses of the facets are refused
 abbrev pub IsBasisCertificateCause : ℕ → List MarkedPolynomial → WeightError → Type 0
 IsBasisCertificateCause n bs e = IsCertificateCauseIn n (all_positive n) bs e
 

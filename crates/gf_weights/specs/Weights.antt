@@ -58,14 +58,14 @@ pub record AreCertificatesIn (n : ℕ) (k : Region) (bs : List MarkedPolynomial)
 
 -- ---- where all positive weights are meant: cut with the non-negative orthant
 
+-- v is the weight that is printed of bs
 abbrev pub IsPrintedWeight : ℕ → List MarkedPolynomial → List ℤ → Type 0
 IsPrintedWeight n bs v = IsWeightIn n (all_positive n) bs v
 
-abbrev pub IsPrintedWitness : ℕ → List MarkedPolynomial → List ℤ → List ℤ → Type 0
-IsPrintedWitness n bs a v = IsWitnessIn n (all_positive n) bs a v
-
+-- exactly the normals of the facets that a flip may cross, each with its witness
 abbrev pub AreWitnessed : ℕ → List MarkedPolynomial → List FacetWitness → Type 0
 AreWitnessed n bs fs = AreWitnessedIn n (all_positive n) bs fs
 
+-- the weight, and these facets
 abbrev pub AreBasisCertificates : ℕ → List MarkedPolynomial → Certificates → Type 0
 AreBasisCertificates n bs c = AreCertificatesIn n (all_positive n) bs c
