@@ -1,16 +1,16 @@
 -- The numbers, one step further; the generators are differences of two monomials in four variables, and none of them is zero.
 -- To cite: number_none, number_more, next_below, small, in_order-descends, generators_are_binomials. The rest are steps.
-use Rattle.std.specs.Prelude.{◌≡◌, ◌≢◌, ℕ, zero, suc, ◌+◌, ◌<◌, ◌≤◌, ◌^◌, Bool, true, false, if◌then◌else◌, List, [], ◌∷◌, length, All, Contains, Some, None}
+use Rattle.std.specs.Prelude.{◌≡◌, ◌≢◌, ℕ, zero, suc, ◌+◌, ◌<◌, ◌≤◌, ◌^◌, Bool, true, false, if◌then◌else◌, [], ◌∷◌, length, Some, None}
 use Rattle.std.specs.declared.cmp.Ordering.{Ordering}
 use Rattle.std.specs.declared.cmp.Ordering.TheVariants.{Less, Equal, Greater}
-use Rattle.std.proofs.Common.{arith, refl, sym, ap, ◌∙◌, subst}
+use Rattle.std.proofs.Common.{arith, refl, sym, ap, ◌∙◌}
 use Rattle.gf_frac.specs.Fraction.{◌+ℚ◌, neg_ℚ, zero_ℚ, one_ℚ}
 use Rattle.gf_frac.proofs.FractionLaws.{+ℚ-zero, +ℚ-neg_ℚ, +ℚ_comm}
 use Rattle.gf_exponents.specs.Exponents.{Exponents, entry, same}
 use Rattle.gf_exponents.specs.Orders.{deglex}
 use Rattle.gf_poly.specs.declared.Term.{Term}
 use Rattle.gf_poly.specs.Monomial.{IsMonomial}
-use Rattle.gf_poly.specs.Polynomial.{Terms, coefficient, HasVariables, IsDescending}
+use Rattle.gf_poly.specs.Polynomial.{coefficient, HasVariables, IsDescending}
 use Rattle.gf_poly.specs.Marking.{Each}
 use Rattle.gf_poly.proofs.DescendingLaws.{less_greater, equal_same}
 use Rattle.gf_poly.proofs.MonomialLaws.{limit_by_entries}

@@ -1,5 +1,5 @@
 -- The theorems on these generators that functions of this crate name.
-use Rattle.std.specs.Prelude.{◌≡◌, ◌≢◌, ℕ, List, [], ◌∷◌, Contains}
+use Rattle.std.specs.Prelude.{◌≡◌, ◌≢◌, ℕ, [], ◌∷◌, Contains}
 use Rattle.gf_poly.specs.Polynomial.{Terms, HasVariables}
 use Rattle.gf_binomials.specs.Binomials.{AreBinomials}
 use Rattle.gf_generated.specs.Generated.{difference, generated}

@@ -1,5 +1,5 @@
 //! The generators that a number stands for.
-ghost use Rattle.std.specs.Prelude.{◌≡◌, ◌<◌, ◌≤◌, All, length, IfOk};
+ghost use Rattle.std.specs.Prelude.{◌≡◌, ◌<◌, ◌≤◌, All, IfOk};
 ghost use Rattle.gf_frac.specs.Fraction.{neg_ℚ, one_ℚ};
 ghost use Rattle.gf_generated.specs.Generated.{number, rest, in_order, difference, generated};
 

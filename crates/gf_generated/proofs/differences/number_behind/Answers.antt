@@ -1,4 +1,4 @@
-use Rattle.std.proofs.Common.{arith, refl}
+use Rattle.std.proofs.Common.{refl}
 use Rattle.gf_generated.proofs.GeneratedLaws.{number_none, number_more, next_below}
 use Rattle.gf_generated.proofs.differences.number_behind.Goals as goal
 
