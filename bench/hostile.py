@@ -1,12 +1,12 @@
-"""What bench/fuzz and bench/refused-growth share: a run with its time and memory, what a run may end with, and small inputs of each command.
+"""What bench/fuzz, bench/refused-growth and bench/outside share: the commands, a run with its time and memory, what a run may end with, and small inputs.
 
 A run that ends as the pages say it may is no finding. `faults_of` lists what else there is: a signal, a status or a line that no page has, a place
-behind the text, output that shouldn't stand, or one that ends inside a piece.
+behind the text, output that shouldn't stand, or one that ends inside a piece. A new command is a row of COMMANDS and one of SMALL, a new option a word in
+its command's row; `untabled` names what README has and COMMANDS hasn't.
 """
 import os
 import pathlib
 import re
-import resource
 import signal
 import subprocess
 import tempfile
@@ -21,6 +21,8 @@ WHOLE = rb"-?[0-9]+"
 FRACTION = WHOLE + rb"(?:/[0-9]+)?"
 POWER = rb"[A-Za-z][A-Za-z0-9_]*(?:\^[0-9]+)?"
 MONOMIAL = rb"(?:1|" + POWER + rb"(?:\*" + POWER + rb")*)"
+POLYNOMIAL = rb"[-+*/^A-Za-z0-9_]+"
+VECTOR = rb"\(" + WHOLE + rb"(?:," + WHOLE + rb")*\)"
 
 # of each refusal with a number: the status, and what its line says behind the number
 LINES = {
@@ -38,8 +40,8 @@ LINES = {
     12: (1, rb"input too long"),
     13: (4, rb"pair budget: [0-9]+ polynomials, [0-9]+ pairs unsettled"),
     14: (1, rb"not reduced: set [0-9]+ polynomial [0-9]+ term " + MONOMIAL),
-    15: (1, rb"no basis: set [0-9]+ polynomials [0-9]+ and [0-9]+ leave [-+*/^A-Za-z0-9_]+"),
-    16: (1, rb"inconsistent marking: set [0-9]+ multipliers \(" + WHOLE + rb"(?:," + WHOLE + rb")*\)"),
+    15: (1, rb"no basis: set [0-9]+ polynomials [0-9]+ and [0-9]+ leave " + POLYNOMIAL),
+    16: (1, rb"inconsistent marking: set [0-9]+ multipliers " + VECTOR),
     17: (3, rb"cone overflow: row [0-9]+: " + WHOLE + rb" [-+*] " + WHOLE),
     18: (1, rb"no fan: cones [0-9]+ and [0-9]+"),
     19: (1, rb"missing section (?:AMBIENT_DIM|RAYS|LINEALITY_SPACE|MAXIMAL_CONES|MAXIMAL_INTERIORS)"),
@@ -49,8 +51,12 @@ LINES = {
     23: (2, rb"usage: gfan _COMMAND \[OPTIONS\]"),
     24: (4, rb"list limit: [0-9]+ written"),
     25: (1, rb"not homogeneous: polynomial [0-9]+: " + MONOMIAL + rb" and " + MONOMIAL),
+    26: (1, rb"no region: multipliers " + VECTOR),
+    27: (3, rb"root weight too wide: entry [0-9]+ is " + WHOLE),
     28: (1, rb"bad certificate: cone [0-9]+"),
     29: (1, rb"bad file version [0-9]+"),
+    30: (1, rb"other ring: name [0-9]+"),
+    31: (1, rb"not listed: side [01] polynomial [0-9]+ leaves " + POLYNOMIAL),
 }
 
 # what _bases has written when it stops: the ring, and pieces that end behind a basis and its certificates
@@ -60,14 +66,82 @@ PIECES = re.compile(rb"Q\[[A-Za-z0-9_,]+\]\n\{\{\n[^{}]*\}" + CERTIFICATES + rb"
 
 
 @dataclass
+class Option:
+    """A word behind a command, with what follows it: nothing, N for a number, or the items of a file. The word K stands for a number by itself."""
+
+    word: str
+    value: str
+    is_needed: bool
+
+
+@dataclass
+class Command:
+    """A command with its options, and the items that it reads: of itself, and with an option."""
+
+    name: str
+    usage: str
+    reads: str
+    instead: dict = field(default_factory=dict)
+
+    def options(self):
+        """The options of a usage in which those stand in brackets that may be left out, and @ITEM+ITEM for a file of such items."""
+        for bracket, word, value in re.findall(r"(\[?)(-{1,2}[a-z0-9]+|K\b)(?: (N|@[a-z+]+))?\]?", self.usage):
+            yield Option(word, value, not bracket)
+
+    def items(self, words):
+        """The items that the command with these words reads."""
+        for option, reads in self.instead.items():
+            if option in words:
+                return reads.split()
+        return self.reads.split()
+
+
+COMMANDS = [
+    Command("_bases", "[-g] [--limit N] [--pairs N] [--certificates] [--workers N]", "ring set"),
+    Command("_buchberger", "[-w] [-r] [--pairs N]", "ring set", {"-w": "ring set weight"}),
+    Command("_doesidealcontain", "", "ring set set"),
+    Command("_fancommonrefinement", "--i1 @fan --i2 @fan", ""),
+    Command("_generated", "K [--limit N] [--pairs N] [--workers N]", ""),
+    Command("_groebnercone", "[--vectorinput] [--certificates] [--restrict] [--asfan]", "ring set", {"--vectorinput": "dimension vectors vectors"}),
+    Command("_homogeneityspace", "", "ring set"),
+    Command("_homogenize", "", "ring set name"),
+    Command("_initialforms", "", "ring set vector"),
+    Command("_ismarkedgroebnerbasis", "", "ring set"),
+    Command("_leadingterms", "[-m]", "ring set", {"-m": "ring sets"}),
+    Command("_markpolynomialset", "", "ring set vector"),
+    Command("_migratefan", "", "fan"),
+    Command("_minkowskisum", "", "ring set"),
+    Command("_polynomialsetunion", "", "ring sets"),
+    Command("_saturation", "[--pairs N]", "ring set"),
+    Command("_stats", "", "ring sets"),
+    Command("_topolyhedralfan", "[--restrict]", "ring sets"),
+    Command("_tropicalhypersurface", "", "ring one"),
+    Command("_tropicalintersection", "[--basistest]", "ring set"),
+    Command("_weightvector", "[-m] [-e]", "ring set", {"-m": "ring sets"}),
+]
+
+
+def untabled():
+    """The commands and options of README's table that COMMANDS hasn't."""
+    known = {(command.name, option.word) for command in COMMANDS for option in command.options()} | {(command.name, "") for command in COMMANDS}
+    for line in (TOP / "README.md").read_text().splitlines():
+        found = re.match(r"\| `(_[a-z]+)((?: K)?)`((?: `[^`]+`)*) \|", line)
+        if found:
+            for word in ["", *found.group(2).split(), *re.findall(r"`(-{1,2}[a-z0-9]+)", found.group(3))]:
+                if (found.group(1), word) not in known:
+                    yield f"{found.group(1)} {word}".strip()
+
+
+@dataclass
 class Case:
-    """Words in which @1 and @2 stand for files with the texts, or the first text is standard input."""
+    """Words, in which @0, @1 and so on stand for files with these texts, and what is given on standard input."""
 
     words: list
-    texts: list = field(default_factory=list)
+    input: bytes = b""
+    files: list = field(default_factory=list)
 
-    def on_files(self):
-        return any(word in ("@1", "@2") for word in self.words)
+    def texts(self):
+        return [*self.files, self.input]
 
 
 @dataclass
@@ -90,24 +164,30 @@ class Runner:
         self.folder = pathlib.Path(tempfile.mkdtemp(prefix="gfan-bench-"))
 
     def words_of(self, case):
-        """The words, with the files written that they name."""
+        """The words, with the files written that they name; one that the case hasn't isn't there."""
         words = []
         for word in case.words:
-            if word in ("@1", "@2"):
-                path = self.folder / f"file{word[1]}"
-                path.write_bytes(case.texts[0] if word == "@1" else case.texts[-1])
-                word = str(path)
+            named = re.fullmatch(r"((?:-{1,2}[a-z0-9]+=)?)@([0-9])", word)
+            if named:
+                number = int(named.group(2))
+                path = self.folder / f"file{number}"
+                if number < len(case.files):
+                    path.write_bytes(case.files[number])
+                else:
+                    path.unlink(missing_ok=True)
+                word = named.group(1) + str(path)
             words.append(word)
         return words
 
-    def run(self, case, env=None):
-        """One run of a case. The environment is empty but for env."""
-        text = b"" if case.on_files() or not case.texts else case.texts[0]
+    def run(self, case, env=None, prepare=None):
+        """One run of a case. The environment is empty but for env; prepare is called in the new process."""
         stdin, stdout, stderr = (self.folder / name for name in ("input", "output", "line"))
-        stdin.write_bytes(text)
+        stdin.write_bytes(case.input)
         begun = time.monotonic()
         with open(stdin, "rb") as given, open(stdout, "wb") as written, open(stderr, "wb") as told:
-            process = subprocess.Popen([self.program, *self.words_of(case)], stdin=given, stdout=written, stderr=told, env=env or {})
+            process = subprocess.Popen(
+                [self.program, *self.words_of(case)], stdin=given, stdout=written, stderr=told, env=env or {}, preexec_fn=prepare
+            )
         stopped = False
         try:
             status, usage = self.wait(process)
@@ -115,21 +195,30 @@ class Runner:
             process.kill()
             _, waited, usage = os.wait4(process.pid, 0)
             status, stopped = -signal.SIGKILL, True
+        process.returncode = status
         return Ended(None if stopped else status, stdout.read_bytes(), stderr.read_bytes(), time.monotonic() - begun, usage.ru_maxrss)
 
     def wait(self, process):
-        """The status of a process that ends in time, and what it took."""
-        deadline = time.monotonic() + self.limit
-        pause = 0.0005
+        """The status of a process that ends in time, and what it took. It has so many seconds of the processor, and twenty times as many by the clock."""
+        begun = time.monotonic()
+        looked, pause = begun + self.limit, 0.0005
         while True:
             pid, waited, usage = os.wait4(process.pid, os.WNOHANG)
             if pid:
-                process.returncode = 0
                 return os.waitstatus_to_exitcode(waited), usage
-            if time.monotonic() > deadline:
-                raise TimeoutError
+            if time.monotonic() > looked:
+                left = self.limit - processor_time(process.pid)
+                if left <= 0 or time.monotonic() > begun + 20 * self.limit:
+                    raise TimeoutError
+                looked = time.monotonic() + max(left, 0.1)
             time.sleep(pause)
             pause = min(2 * pause, 0.02)
+
+
+def processor_time(pid):
+    """The seconds of the processor that a process has taken."""
+    fields = pathlib.Path(f"/proc/{pid}/stat").read_text().rpartition(")")[2].split()
+    return (int(fields[11]) + int(fields[12])) / os.sysconf("SC_CLK_TCK")
 
 
 def number_of(line):
@@ -150,10 +239,11 @@ def faults_of_line(case, ended):
     if not re.fullmatch(rb"gfan: E%d " % number + form + rb"\n", ended.line):
         faults.append(f"the line of E{number} is not in its form")
     place = re.search(rb"at byte ([0-9]+)(: ended)?", ended.line)
-    if place and case.texts and not case.on_files():
-        at, length = int(place.group(1)), len(case.texts[0])
-        if (at != length) if place.group(2) else (at >= length):
-            faults.append(f"place {at} in a text of {length} bytes")
+    if place:
+        # (the line doesn't say in which of the texts)
+        at, lengths = int(place.group(1)), [len(text) for text in case.texts()]
+        if not any((at == length) if place.group(2) else (at < length) for length in lengths):
+            faults.append(f"place {at} in texts of {lengths} bytes")
     return faults
 
 
@@ -183,19 +273,22 @@ def faults_of(case, ended, line_may_be_cut=False):
 
 
 PLANE = b"AMBIENT_DIM\n2\nRAYS\n-1 0\n0 -1\n1 1\nLINEALITY_SPACE\nMAXIMAL_CONES\n{0}\n{1}\n{2}\n"
+HALVES = b"AMBIENT_DIM\n2\nRAYS\n-1 1\n1 -1\nLINEALITY_SPACE\n1 1\nMAXIMAL_CONES\n{0}\n{1}\n"
 QUADRANT = b"AMBIENT_DIM\n2\nRAYS\n1 0\n0 1\nLINEALITY_SPACE\nMAXIMAL_CONES\n{0 1}\n"
 SPACE = b"AMBIENT_DIM\n3\nRAYS\n1 0 0\n0 1 0\n0 0 1\n-1 -1 -1\nLINEALITY_SPACE\nMAXIMAL_CONES\n{0 1 2}\n{0 1 3}\n{0 2 3}\n{1 2 3}\n"
 THREE_BASES = b"Q[a,b,c]\n{{\nb-c,\na-c}\n,\n{\nc-b,\na-b}\n,\n{\nc-a,\nb-a}}\n"
-REFINEMENT = "_fancommonrefinement --i1 @1 --i2 @2"
+REFINEMENT = "_fancommonrefinement --i1 @0 --i2 @1"
 
-# small inputs, each command at least once
+# small inputs, each command at least once: words, the input, files
 SMALL = [
-    Case(words.split(), texts)
-    for words, *texts in [
+    Case(words.split(), text, files)
+    for words, text, *files in [
+        ("_bases", b"Q[a,b] {a^2-b}"),
         ("_bases", b"Q[a,b,c] {a-b,b-c}"),
-        ("_bases --certificates", b"Q[a,b] {a^2-b}"),
+        ("_bases --workers 4", b"Q[a,b,c] {a-b,b-c}"),
         ("_bases --workers 4", b"Q[a,b,c] {a^2-b,b^2-c}"),
         ("_bases --workers 4 --certificates", b"Q[a,b,c] {a-b,b-c}"),
+        ("_bases --certificates", b"Q[a,b] {a^2-b}"),
         ("_bases -g", b"Q[a,b,c] {c-b,a-b}"),
         ("_bases --limit 2", b"Q[a,b,c] {a-b,b-c}"),
         ("_bases --pairs 1", b"Q[a,b,c] {aab-c,bbc-a,cca-b}"),
@@ -207,6 +300,7 @@ SMALL = [
         ("_doesidealcontain", b"Q[a,b] {a-b} {a^2-b^2}"),
         ("_groebnercone", b"Q[a,b,c] {a^2-b*c,b^2-a*c}"),
         ("_groebnercone --certificates --restrict", b"Q[a,b] {a^2-b}"),
+        ("_groebnercone --vectorinput --certificates", b"2 {(1,0),(0,1),(1,1)} {}"),
         ("_groebnercone --vectorinput --certificates", b"2 {(1,0),(0,1),(1,1)} {(1,-1)}"),
         ("_groebnercone --asfan", b"Q[a,b] {a-b}"),
         ("_groebnercone", b"Q[a,b] {a^2-1,ab-1}"),
@@ -223,12 +317,16 @@ SMALL = [
         ("_weightvector", b"Q[a,b] {b-a^2}"),
         ("_weightvector -m -e", THREE_BASES),
         ("_homogeneityspace", b"Q[a,b] {a-b}"),
-        (REFINEMENT, PLANE, QUADRANT),
-        (REFINEMENT, SPACE, SPACE),
+        (REFINEMENT, b"", PLANE, HALVES),
+        (REFINEMENT, b"", PLANE, QUADRANT),
+        (REFINEMENT, b"", SPACE, SPACE),
         ("_migratefan", SPACE),
         ("_migratefan", b"FILE_VERSION\n2\n" + QUADRANT + b"MAXIMAL_INTERIORS\n2 1\n"),
         ("_tropicalhypersurface", b"Q[a,b] {a+b+1}"),
         ("_tropicalintersection", b"Q[a,b] {a+b+1,a-b}"),
+        ("_tropicalintersection --basistest", b"Q[a,b,c] {a+b+c,a-b}"),
         ("_minkowskisum", b"Q[a,b] {a+1,b+1}"),
+        ("_generated 0 --limit 2", b""),
+        ("_generated 0 --workers 4", b""),
     ]
 ]

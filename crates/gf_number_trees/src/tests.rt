@@ -121,6 +121,27 @@ fn a_split_after_the_first(rt: HostRuntime) -> Result<(), Fail> {
 }
 
 #[test]
+fn a_refused_split_hands_its_walker_back(rt: HostRuntime) -> Result<(), Fail> {
+    let tree = Numbers {
+        limit: 7,
+        chosen: (5, 0),
+        alloc: rt.alloc(),
+    };
+    let mut walker = Walker::at(rt.alloc(), tree, 1);
+    for number in [1, 2, 4, 5] {
+        assert!(rt; walker.advance()? == Some(number));
+    }
+    let Err((mut walker, refusal)) = walker.split() else {
+        return Err(Fail::new("a refusal"));
+    };
+    assert!(rt; refusal == NumberError::Chosen(5));
+    assert!(rt; *walker.position().here == 5);
+    assert!(rt; matches!(walker.position().mark, Mark::Listed));
+    assert!(rt; walker.advance() == Err(NumberError::Chosen(5)));
+    Ok(())
+}
+
+#[test]
 fn one_list_for_every_number_of_workers(rt: HostRuntime) -> Result<(), Fail> {
     let alloc = rt.alloc();
     let expected = list_all(alloc, numbers(alloc, 3000), 1)?;

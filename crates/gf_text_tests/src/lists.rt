@@ -29,6 +29,33 @@ fn lists_of_vectors(rt: HostRuntime) -> Result<(), Fail> {
     Ok(())
 }
 
+/// Where there is no memory the vector under a printer is as it was; that happens here only where an allocation is refused from outside
+/// (`rt try --test --fail-alloc N`).
+#[test]
+fn a_refused_printer_changes_nothing(rt: HostRuntime) -> Result<(), Fail> {
+    let alloc = rt.alloc();
+    let mut reader = Reader::new(b"Q[a,b]");
+    let ring = reader.read_ring(alloc).ok().ok_or("a ring")?;
+    let vector = IntVec::from_slice(alloc, &[1, -2])?;
+    let mut text = b"|".to_vec(alloc)?;
+    let is_printed = Printer::ring(&mut text, &ring).is_ok();
+    let wanted = if is_printed {
+        b"|Q[a,b]\n".as_slice()
+    } else {
+        b"|"
+    };
+    assert!(rt; text.as_slice() == wanted);
+    text.truncate(1);
+    let is_printed = Printer::vector(&mut text, &vector).is_ok();
+    let wanted = if is_printed {
+        b"|(1,-2)".as_slice()
+    } else {
+        b"|"
+    };
+    assert!(rt; text.as_slice() == wanted);
+    Ok(())
+}
+
 #[test]
 fn dimensions_and_names(rt: HostRuntime) -> Result<(), Fail> {
     let alloc = rt.alloc();
