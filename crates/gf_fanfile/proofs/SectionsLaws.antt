@@ -184,7 +184,7 @@ module _ (v : Option ℕ) (name : List ℕ) (no_ambient : bytes_eq ambient_dim n
 
 -- ---- the sections whose contents wait on the version
 
--- else it is a number
+-- FILE_VERSION is a number where it tells the version
 pub version_read : (length : ℕ) (v : Option ℕ) (number : ℕ) (content : List Lexeme) → v ≡ Some number → content_read length (version_kind v) content ≡ content_read length (number_to most_number) content
 version_read length v number content is = ap (λ (w : Option ℕ). content_read length (version_kind w) content) is
 
@@ -231,8 +231,6 @@ module _ (length : ℕ) (name : List ℕ) (content : List Lexeme) (b : Contents)
 
   pub other_section : bytes_eq file_version name ≡ false → bytes_eq maximal_interiors name ≡ false → IsSectionKept name b b ByName
   other_section other none = at_other passed no_ambient no_rays no_lineality no_cones (inl none) (ap ByKind (kind_any b.version name no_ambient no_rays no_lineality no_cones other none)) refl
-
--- ---- the version that is told
 
 -- ---- from left to right
 
