@@ -1,13 +1,12 @@
 -- A marked set of one pure difference binomial, neither of whose monomials divides the other, is checked and reduced within its limits.
 -- To cite: checks_within, tails_within. The rest are steps.
-use Rattle.std.proofs.Common.{◌≡◌, ◌⊎◌, ℕ, ◌+◌, ◌<◌, ◌≤◌, ◌^◌, true, List, [], ◌∷◌, map, max, Contains, arith, refl, sym, ap, ◌∙◌, subst, inl, inr}
+use Rattle.std.proofs.Common.{◌≡◌, ◌⊎◌, ℕ, ◌+◌, ◌<◌, ◌≤◌, ◌^◌, true, List, [], ◌∷◌, map, Contains, arith, refl, sym, ap, ◌∙◌, subst, inl, inr}
 use Rattle.std.proofs.lemmas.List.Sorted.{Contains-permutation, IsPermutation-sym}
 use Rattle.gf_frac.specs.Fraction.{neg_ℚ, one_ℚ}
 use Rattle.gf_exponents.specs.Exponents.{Exponents, same, plus, join}
 use Rattle.gf_exponents.proofs.ExponentsLaws.{same_flip, same_by_entries, entry-join}
 use Rattle.gf_poly.specs.declared.error.PolyError.{PolyError}
 use Rattle.gf_poly.specs.declared.error.PolyError.TheVariants as errors
-use Rattle.gf_poly.specs.declared.monomial.ExponentOverflow.{ExponentOverflow}
 use Rattle.gf_poly.specs.Polynomial.{Terms, times}
 use Rattle.gf_poly.specs.Marking.{MarkedPolynomial, MarkedPolynomials, IsArranged}
 use Rattle.gf_ideal.specs.Membership.{HasMonomial}

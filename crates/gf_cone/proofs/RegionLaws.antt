@@ -1,14 +1,13 @@
 -- Regions of weights: what a program keeps of one, the sign at its root, and cones in a region.
--- To cite: sign_told, plain_sign, plain_told, wide_sign, zero_sign, positive_kept, new_kept, copy_kept, positive_is, positive_wide,
--- region_moved, cone_in_region, flip_told_in, rows_same. The rest are steps.
+-- To cite: sign_told, plain_sign, plain_told, zero_sign, positive_is, positive_wide, region_moved, cone_in_region,
+-- flip_told_in, rows_same. The rest are steps.
 use Rattle.std.specs.Ordering.{int_cmp, MatchOrdering}
 use Rattle.std.specs.Cmp.Lexicographic.{slice_cmp}
 use Rattle.std.specs.declared.cmp.Ordering.{Ordering}
-use Rattle.std.specs.declared.cmp.Ordering.TheVariants.{Less, Equal, Greater}
-use Rattle.std.proofs.Common.{◌≡◌, ◌↔◌, ℕ, zero, suc, ◌+◌, ◌*◌, ◌<◌, ◌≤◌, ◌^◌, List, [], ◌∷◌, ◌++◌, length, get_or, take, drop, replicate, All, ℤ, pos, ◌+ℤ◌, ◌*ℤ◌, ◌<ℤ◌, unsigned_abs, Bool, true, arith, refl, sym, ap, ap₂, ◌∙◌, subst, inl, inr, append_assoc, length-append}
+use Rattle.std.specs.declared.cmp.Ordering.TheVariants.{Less, Equal}
+use Rattle.std.proofs.Common.{◌≡◌, ◌↔◌, ℕ, zero, suc, ◌+◌, ◌*◌, ◌<◌, ◌≤◌, ◌^◌, List, [], ◌∷◌, ◌++◌, length, get_or, take, drop, replicate, All, ℤ, pos, ◌+ℤ◌, ◌*ℤ◌, unsigned_abs, arith, refl, sym, ap, ap₂, ◌∙◌, subst, inl, inr, append_assoc, length-append}
 use Rattle.std.proofs.lemmas.Bool.{cases_lt}
 use Rattle.std.proofs.lemmas.Int.{ints, unsigned_abs-mul}
-use Rattle.std.proofs.lemmas.Cmp.{int_ranked}
 use Rattle.std.proofs.lemmas.List.{get_or_default, length-replicate, drop_more, take-append-drop}
 use Rattle.std.proofs.lemmas.List.Elements.{All-contains, Contains-append_left, Contains-append_cases}
 use Rattle.gf_gordan.specs.Sizes.{HaveEntriesUpTo}
@@ -16,15 +15,14 @@ use Rattle.gf_facets.specs.Normals.{others_of}
 use Rattle.gf_facets.proofs.UnitLaws.{units_wide}
 use Rattle.gf_facets.proofs.VectorOrder.{vectors_compare}
 use Rattle.gf_vec.specs.Vector.{dot}
-use Rattle.gf_vec.specs.RootSign.{total_of, sign_or, first_sign, root_sign}
+use Rattle.gf_vec.specs.RootSign.{sign_or, first_sign, root_sign}
 use Rattle.gf_gordan.specs.Alternative.{AreRows}
 use Rattle.gf_poly.specs.Marking.{MarkedPolynomial}
-use Rattle.gf_facets.specs.Rows.{negated}
 use Rattle.gf_facets.specs.Systems.{unit, units}
-use Rattle.gf_facets.specs.LexPositive.{IsLexPositive, rooted, IsNegative, IsBefore}
-use Rattle.gf_facets.specs.Regions.{Region, IsRegion, all_positive}
-use Rattle.gf_facets.proofs.SystemLaws.{contained_all, all_positive-region}
-use Rattle.gf_cone.specs.Weights.{IsRegionKept}
+use Rattle.gf_facets.specs.LexPositive.{rooted, IsNegative, IsBefore}
+use Rattle.gf_facets.specs.Regions.{Region, all_positive}
+use Rattle.gf_facets.proofs.SystemLaws.{contained_all}
+use Rattle.gf_facets.proofs.RootSignLaws.{dot-ones, first-less, less-first}
 use Rattle.gf_cone.specs.Cones.{ConeRows, normal_at, other_rows, all_rows, IsConeOf, in_region, HasRowsOf, HasInterior}
 use Rattle.gf_cone.specs.Answers.{AnswersFlip, IsFlipToldIn}
 use Rattle.gf_cone.specs.declared.answer.FlipAnswer.{FlipAnswer}
@@ -32,87 +30,21 @@ use Rattle.gf_cone.proofs.AnswerLaws.{flip_told, others-append, others_all_of, s
 
 -- ---- the sign
 
-dot_ones : (n : ℕ) (a : List ℤ) → length a ≡ n → dot a (replicate n (pos 1)) ≡ total_of a
-dot_ones zero [] e = refl
-dot_ones zero (x ∷ a) e = absurd (omega (arith, e))
-dot_ones (suc n) [] e = absurd (omega (arith, e))
-dot_ones (suc n) (x ∷ a) e = ap₂ ◌+ℤ◌ (omega (arith, ints)) (dot_ones n a (omega (arith, e)))
-
-first_less : (xs : List ℤ) → first_sign xs ≡ Less → IsLexPositive (negated xs)
-first_less [] h = absurd (cc)
-first_less (x ∷ xs) h = at (int_cmp x (pos 0)) (int_ranked x (pos 0) (int_cmp x (pos 0)) refl) h (first_less xs)
-  where
-    at : (o : Ordering) → MatchOrdering o (x <ℤ pos 0) (x ≡ pos 0) (pos 0 <ℤ x) → sign_or o (first_sign xs) ≡ Less → (first_sign xs ≡ Less → IsLexPositive (negated xs)) → IsLexPositive (negated (x ∷ xs))
-    at Less m h rec = inl (omega (arith, ints, m))
-    at Equal m h rec = inr (omega (arith, ints, m), rec h)
-    at Greater m h rec = absurd (cc)
-
-less_first : (xs : List ℤ) → IsLexPositive (negated xs) → first_sign xs ≡ Less
-less_first [] h = absurd h
-less_first (x ∷ xs) h = at (int_cmp x (pos 0)) (int_ranked x (pos 0) (int_cmp x (pos 0)) refl) h (less_first xs)
-  where
-    at : (o : Ordering) → MatchOrdering o (x <ℤ pos 0) (x ≡ pos 0) (pos 0 <ℤ x) → IsLexPositive (negated (x ∷ xs)) → (IsLexPositive (negated xs) → first_sign xs ≡ Less) → sign_or o (first_sign xs) ≡ Less
-    at Less m h rec = refl
-    at Equal m (inl h) rec = absurd (omega (arith, ints, m, h))
-    at Equal m (inr h) rec = rec h.1
-    at Greater m (inl h) rec = absurd (omega (arith, ints, m, h))
-    at Greater m (inr h) rec = absurd (let e = h.0 in omega (arith, ints, m, e))
-
 -- Less exactly for the negative vectors
 pub sign_told : (r a : List ℤ) (o : Ordering) → o ≡ first_sign (rooted r a) → (o ≡ Less) ↔ IsNegative r a
-sign_told r a o e = (λ l. first_less (rooted r a) (sym e ∙ l), λ h. e ∙ less_first (rooted r a) h)
+sign_told r a o e = (λ l. first-less (rooted r a) (sym e ∙ l), λ h. e ∙ less-first (rooted r a) h)
 
 -- at a plain root it is the sum of the entries that counts
 pub plain_sign : (r a : List ℤ) → r ≡ replicate (length r) (pos 1) → length a ≡ length r → root_sign a ≡ first_sign (rooted r a)
-plain_sign r a e l = sym (ap (λ z. first_sign (z ∷ a)) (ap (dot a) e ∙ dot_ones (length r) a l))
+plain_sign r a e l = sym (ap (λ z. first_sign (z ∷ a)) (ap (dot a) e ∙ dot-ones (length r) a l))
 
 pub plain_told : (j k : Region) (a : List ℤ) (o : Ordering) → j ≡ k → j.root ≡ replicate (length j.root) (pos 1) → length a ≡ length k.root → o ≡ root_sign a → o ≡ first_sign (rooted k.root a)
 plain_told j k a o q e l r = r ∙ plain_sign k.root a (subst (λ (z : Region). z.root ≡ replicate (length z.root) (pos 1)) q e) l
-
--- what the vector gives at the root, where that isn't zero, and else its entries
-pub wide_sign : (r a : List ℤ) (d : ℤ) (o : Ordering) → d ≡ dot a r → (d ≡ pos 0 → ⊥) → o ≡ int_cmp d (pos 0) → o ≡ first_sign (rooted r a)
-wide_sign r a d o e n q = q ∙ at (int_cmp d (pos 0)) (int_ranked d (pos 0) (int_cmp d (pos 0)) refl) ∙ ap (λ z. sign_or (int_cmp z (pos 0)) (first_sign a)) e
-  where
-    at : (p : Ordering) → MatchOrdering p (d <ℤ pos 0) (d ≡ pos 0) (pos 0 <ℤ d) → p ≡ sign_or p (first_sign a)
-    at Less m = refl
-    at Equal m = absurd (n m)
-    at Greater m = refl
 
 pub zero_sign : (r a : List ℤ) (d : ℤ) (o : Ordering) → d ≡ dot a r → d ≡ pos 0 → o ≡ first_sign a → o ≡ first_sign (rooted r a)
 zero_sign r a d o e z q = q ∙ ap (λ z. sign_or (int_cmp z (pos 0)) (first_sign a)) (sym z ∙ e)
 
 -- ---- what a program keeps
-
-pub positive_kept : (n : ℕ) (rows : List (List ℤ)) (root : List ℤ) → n < 2 ^ 32 → rows ≡ [] → root ≡ replicate n (pos 1) → IsRegionKept (record { rows = rows; root = root }) true
-positive_kept n rows root l e f = subst (λ (z : List (List ℤ)). IsRegionKept (record { rows = z; root = root }) true) (sym e) (subst (λ (z : List ℤ). IsRegionKept (record { rows = []; root = z }) true) (sym f) kept)
-  where
-    long : length (replicate n (pos 1)) ≡ n
-    long = length-replicate n (pos 1)
-
-    ones : (n : ℕ) → All (λ x. unsigned_abs x < 2 ^ 63) (replicate n (pos 1))
-    ones zero i d m = absurd (omega (arith, m))
-    ones (suc n) zero d m = omega arith
-    ones (suc n) (suc i) d m = ones n i d (omega (arith, m))
-
-    kept : IsRegionKept (all_positive n) true
-    kept = record {
-      region = subst (λ (j : ℕ). IsRegion j (all_positive n)) (sym long) (all_positive-region n);
-      few = omega (arith, l, long);
-      small = ones n;
-      plain = λ t. sym (ap (λ (j : ℕ). replicate j (pos 1)) long);
-    }
-
-pub new_kept : (n : ℕ) (given rows : List (List ℤ)) (root : List ℤ) (plain : Bool) → n < 2 ^ 32 → given ≡ rows → IsRegion n (record { rows = rows; root = root }) → All (λ x. unsigned_abs x < 2 ^ 63) root →
-    (plain ≡ true → root ≡ replicate (length root) (pos 1)) → IsRegionKept (record { rows = given; root = root }) plain
-new_kept n given rows root plain l e r s p = subst (λ (z : List (List ℤ)). IsRegionKept (record { rows = z; root = root }) plain) (sym e) (record {
-  region = subst (λ (j : ℕ). IsRegion j (record { rows = rows; root = root })) (sym r.root.width) r;
-  few = (let w : length root ≡ n = r.root.width in omega (arith, l, w));
-  small = s;
-  plain = p;
-})
-
-pub copy_kept : (given rows : List (List ℤ)) (copy root : List ℤ) (plain : Bool) → given ≡ rows → copy ≡ root → IsRegionKept (record { rows = rows; root = root }) plain → IsRegionKept (record { rows = given; root = copy }) plain
-copy_kept given rows copy root plain e f k = subst (λ (z : List (List ℤ)). IsRegionKept (record { rows = z; root = copy }) plain) (sym e) (subst (λ (z : List ℤ). IsRegionKept (record { rows = rows; root = z }) plain) (sym f) k)
 
 -- all positive vectors, as a program makes them for a number that it reads
 pub positive_is : (n m : ℕ) (k : Region) → m ≡ n → k ≡ all_positive m → k ≡ all_positive n
@@ -193,12 +125,6 @@ rows_same k c given rows e f l h n j bs is =
 -- the first entries are 1
 abbrev pub AreOnesTo : List ℤ → ℕ → Type 0
 AreOnesTo xs i = (j : ℕ) → j < i → get_or xs j (pos 0) ≡ pos 1
-
-pub one_more : (xs : List ℤ) (i : ℕ) → get_or xs i (pos 0) ≡ pos 1 → AreOnesTo xs i → AreOnesTo xs (i + 1)
-one_more xs i e h j l = elim (cases_lt j i) [
-  | inl s ↦ h j s
-  | inr g ↦ (let q : i ≡ j = omega (arith, l, g) in subst (λ (z : ℕ). get_or xs z (pos 0) ≡ pos 1) q e)
-]
 
 pub all_ones : (xs : List ℤ) (i : ℕ) → length xs ≤ i → AreOnesTo xs i → xs ≡ replicate (length xs) (pos 1)
 all_ones [] i l h = refl

@@ -1,18 +1,14 @@
 -- Small vectors: primitive parts of small rows, unit vectors, and that small entries fit what the code asks for.
--- To cite: primitive_small, normal_small, units_small, small_for_sign.
+-- To cite: primitive_small, normal_small, small_for_sign.
 use Rattle.std.proofs.Common.{◌≡◌, ℕ, zero, suc, ◌*◌, ◌<◌, ◌≤◌, ◌^◌, List, length, get_or, All, ℤ, pos, ◌*ℤ◌, unsigned_abs, arith, sym, ap, ◌∙◌, subst}
 use Rattle.std.proofs.lemmas.Int.{unsigned_abs-mul}
 use Rattle.std.proofs.lemmas.List.{get_or_default}
 use Rattle.std.proofs.lemmas.List.Elements.{All-contains}
-use Rattle.gf_vec.specs.Vector.{zeros}
 use Rattle.gf_vec.specs.Primitive.{IsPrimitivePart}
 use Rattle.gf_vec.proofs.VectorLaws.{length-times}
 use Rattle.gf_poly.specs.Marking.{MarkedPolynomial}
 use Rattle.gf_facets.specs.Rows.{rows_of_polynomials, IsNormal}
-use Rattle.gf_facets.specs.Systems.{unit, units}
 use Rattle.gf_facets.proofs.PrimitiveLaws.{divided-entry}
-use Rattle.gf_facets.proofs.SystemLaws.{contained_all}
-use Rattle.gf_facets.proofs.UnitLaws.{unit_of}
 use Rattle.gf_cone.specs.Small.{IsSmall}
 use Rattle.gf_cone.specs.Weights.{IsForSign}
 
@@ -40,22 +36,6 @@ primitive_small t a p s = record { entries = entries }
 -- so is each normal of a marked list with small rows
 pub normal_small : (bs : List MarkedPolynomial) (a : List ℤ) → All IsSmall (rows_of_polynomials bs) → IsNormal bs a → IsSmall a
 normal_small bs a s p = primitive_small p.0 a p.2 (All-contains IsSmall (rows_of_polynomials bs) p.0 s p.1)
-
--- so are the unit vectors
-pub units_small : (n k : ℕ) → All IsSmall (units n k)
-units_small n k = contained_all IsSmall (units n k) (λ t c. (let u = unit_of n k t c in subst IsSmall (sym u.2) (record { entries = one n u.0 })))
-  where
-    none : (n : ℕ) → All (λ x. unsigned_abs x < 2 ^ 31) (zeros n)
-    none zero i d l = absurd (omega arith)
-    none (suc n) zero d l = omega arith
-    none (suc n) (suc i) d l = none n i d (omega arith)
-
-    one : (n i : ℕ) → All (λ x. unsigned_abs x < 2 ^ 31) (unit n i)
-    one zero i j d l = absurd (omega arith)
-    one (suc n) zero zero d l = omega arith
-    one (suc n) zero (suc j) d l = none n j d (omega arith)
-    one (suc n) (suc i) zero d l = omega arith
-    one (suc n) (suc i) (suc j) d l = one n i j d (omega arith)
 
 -- the sign of a small vector at a root may be asked for
 pub small_for_sign : (a : List ℤ) → IsSmall a → IsForSign a

@@ -1,5 +1,5 @@
 //! The cone of a marked set.
-ghost use Rattle.std.specs.Prelude.{◌≡◌, ◌<◌, ◌≤◌, ◌∷◌, ◌++◌, [], List, ℤ, length, All, IfOk, IfErr, IfSome, IsNone, IsTrue};
+ghost use Rattle.std.specs.Prelude.{◌≡◌, ◌<◌, ◌≤◌, ◌∷◌, [], length, All, IfOk, IfErr, IfSome, IsNone, IsTrue};
 ghost use Rattle.gf_gordan.specs.Alternative.{AreRows, IsSolution};
 ghost use Rattle.gf_cone.specs.Crossing.{IsCrossable};
 ghost use Rattle.gf_gordan.specs.Steps.{Failed};

@@ -1,6 +1,5 @@
 //! A region of weights: the positive vectors on which each of some rows is positive, with one of them as the root.
 ghost use Rattle.std.specs.Prelude.{◌≡◌, ◌↔◌, ◌<◌, ◌≤◌, ◌^◌, ◌*◌, ◌*ℤ◌, pos, length, replicate, unsigned_abs, All, IsTrue, IfOk};
-ghost use Rattle.gf_int.specs.Range.{InRange};
 ghost use Rattle.gf_vec.specs.Vector.{dot};
 ghost use Rattle.gf_vec.specs.RootSign.{first_sign};
 ghost use Rattle.gf_gordan.specs.Alternative.{AreRows};

@@ -1,5 +1,5 @@
 -- The root sign that a program computes is negative exactly where a vector is, in the region of all positive vectors.
--- To cite: dot-ones, negative_sign, sign_negative.
+-- To cite: dot-ones, first-less, less-first, negative_sign, sign_negative.
 use Rattle.std.specs.Ordering.{int_cmp, MatchOrdering}
 use Rattle.std.specs.declared.cmp.Ordering.{Ordering}
 use Rattle.std.specs.declared.cmp.Ordering.TheVariants.{Less, Equal, Greater}
@@ -11,13 +11,13 @@ use Rattle.gf_vec.specs.RootSign.{total_of, sign_or, first_sign, root_sign}
 use Rattle.gf_facets.specs.Rows.{negated}
 use Rattle.gf_facets.specs.LexPositive.{IsLexPositive, rooted, IsNegative}
 
-dot-ones : (n : ℕ) (a : List ℤ) → length a ≡ n → dot a (replicate n (pos 1)) ≡ total_of a
+pub dot-ones : (n : ℕ) (a : List ℤ) → length a ≡ n → dot a (replicate n (pos 1)) ≡ total_of a
 dot-ones zero [] e = refl
 dot-ones zero (x ∷ a) e = absurd (omega arith)
 dot-ones (suc n) [] e = absurd (omega arith)
 dot-ones (suc n) (x ∷ a) e = ap₂ ◌+ℤ◌ (omega (arith, ints)) (dot-ones n a (omega arith))
 
-first-less : (xs : List ℤ) → first_sign xs ≡ Less → IsLexPositive (negated xs)
+pub first-less : (xs : List ℤ) → first_sign xs ≡ Less → IsLexPositive (negated xs)
 first-less [] h = absurd (cc)
 first-less (x ∷ xs) h = at (int_cmp x (pos 0)) (int_ranked x (pos 0) (int_cmp x (pos 0)) refl) h (first-less xs)
   where
@@ -26,7 +26,7 @@ first-less (x ∷ xs) h = at (int_cmp x (pos 0)) (int_ranked x (pos 0) (int_cmp 
     at Equal m h rec = inr (omega (arith, ints, m), rec h)
     at Greater m h rec = absurd (cc)
 
-less-first : (xs : List ℤ) → IsLexPositive (negated xs) → first_sign xs ≡ Less
+pub less-first : (xs : List ℤ) → IsLexPositive (negated xs) → first_sign xs ≡ Less
 less-first [] h = absurd h
 less-first (x ∷ xs) h = at (int_cmp x (pos 0)) (int_ranked x (pos 0) (int_cmp x (pos 0)) refl) h (less-first xs)
   where

@@ -1,12 +1,10 @@
 -- Which vectors lie inside a cone, and what a loop over rows and cones has tested.
--- To cite: proper_cones, row_refutes, rows_decide, wide_inequality, wide_equation, inside_at, outside_at, wide_at, width_at, proper_at, ambient_at, more_inside. The rest are steps.
-use Rattle.std.proofs.Common.{◌≡◌, ◌⊎◌, ◌↔◌, ℕ, ◌+◌, ◌<◌, Bool, false, IsTrue, List, length, get_or, ℤ, pos, ◌<ℤ◌, All, Any, Contains, sym, ap, ◌∙◌, subst, inl, inr, arith}
+-- To cite: proper_cones, row_refutes, inside_at, outside_at, wide_at, ambient_at, more_inside. The rest are steps.
+use Rattle.std.proofs.Common.{◌≡◌, ◌⊎◌, ◌↔◌, ℕ, ◌+◌, ◌<◌, Bool, false, IsTrue, List, length, get_or, ℤ, pos, ◌<ℤ◌, All, Contains, sym, ap, ◌∙◌, subst, inl, inr, arith}
 use Rattle.std.proofs.lemmas.Bool.{cases_lt}
-use Rattle.std.proofs.lemmas.Int.{ints}
 use Rattle.std.proofs.lemmas.List.{get_or_default}
 use Rattle.std.proofs.lemmas.List.Elements.{All-contains}
 use Rattle.gf_vec.specs.declared.error.WideVector.{WideVector}
-use Rattle.gf_vec.specs.Steps.{dot_steps, IsFirstWide}
 use Rattle.gf_vec.specs.Vector.{dot}
 use Rattle.gf_vec.proofs.VectorLaws.{dot_comm}
 use Rattle.gf_gordan.specs.Alternative.{AreRows}
@@ -48,30 +46,12 @@ proper_cones f cones s a = all_by IsProper cones (λ c k.
 
 -- ---- inside a cone
 
-inside_by : (c : RowsAndRays) (v : List ℤ) → c.ambient ≡ length v → All (λ h. pos 0 <ℤ dot h v) c.inequalities → All (λ e. dot e v ≡ pos 0) c.equations → IsInterior c.ambient (rows_of c) v
-inside_by c v w p z = record {
-  width = sym w;
-  inside = record { not_negative = λ k d l. let up : pos 0 <ℤ dot (get_or c.inequalities k d) v = p k d l in omega (arith, ints, up); zero = z };
-  positive = λ k d l. inl (p k d l);
-}
-
 all_inside : (c : RowsAndRays) (v : List ℤ) → IsProper c → IsInterior c.ambient (rows_of c) v → All (λ h. pos 0 <ℤ dot h v) c.inequalities
 all_inside c v proper i = all_by (λ h. pos 0 <ℤ dot h v) c.inequalities (λ h k. elim (All-contains (λ h. (pos 0 <ℤ dot h v) ⊎ IsZeroOn c.ambient c.inequalities c.equations h) c.inequalities h i.positive k) [ inl p ↦ p | inr z ↦ absurd (proper h k z) ])
 
 -- an inequality that isn't positive there shows that it isn't
 pub row_refutes : (c : RowsAndRays) (v : List ℤ) (all : Bool) → IsProper c → IsTrue all ↔ All (λ h. pos 0 <ℤ dot h v) c.inequalities → all ≡ false → IsTrue false ↔ IsInterior c.ambient (rows_of c) v
 row_refutes c v all proper positive fails = (λ t. absurd (cc), λ i. sym fails ∙ positive.1 (all_inside c v proper i))
-
--- where all are positive there, the equations decide
-pub rows_decide : (c : RowsAndRays) (v : List ℤ) (all : Bool) → c.ambient ≡ length v → All (λ h. pos 0 <ℤ dot h v) c.inequalities → IsTrue all ↔ All (λ e. dot e v ≡ pos 0) c.equations → IsTrue all ↔ IsInterior c.ambient (rows_of c) v
-rows_decide c v all w p zero = (λ t. inside_by c v w p (zero.0 t), λ i. zero.1 i.inside.zero)
-
--- an operation with one of its rows
-pub wide_inequality : (c : RowsAndRays) (v : List ℤ) (rows : List (List ℤ)) (w : WideVector) → rows ≡ c.inequalities → Any (λ h. IsFirstWide w (dot_steps (pos 0) h v)) rows → IsInsideStep c v w
-wide_inequality c v rows w is (i, row, l, at, h) = (row, (inl (subst (λ (rs : List (List ℤ)). Contains rs row) is (i, l, at)), h))
-
-pub wide_equation : (c : RowsAndRays) (v : List ℤ) (rows : List (List ℤ)) (w : WideVector) → rows ≡ c.equations → Any (λ h. IsFirstWide w (dot_steps (pos 0) h v)) rows → IsInsideStep c v w
-wide_equation c v rows w is (i, row, l, at, h) = (row, (inr (subst (λ (rs : List (List ℤ)). Contains rs row) is (i, l, at)), h))
 
 -- ---- rows and cones at a place
 
@@ -91,12 +71,6 @@ module _ (n : ℕ) (cones : List RowsAndRays) (rows : List (List ℤ)) (place : 
 
   pub wide_at : (w : WideVector) → IsInsideStep c r w → (d : RowsAndRays) (s : List ℤ) → IsInsideStep (get_or cones place d) (get_or rows place s) w
   wide_at w h d s = subst (λ (x : RowsAndRays). IsInsideStep x (get_or rows place s) w) (sym (cone_at cones place c d at_cones of_cones)) (subst (λ (x : List ℤ). IsInsideStep c x w) (sym (row_at rows place r s at_rows of_rows)) h)
-
-  pub width_at : All (λ (x : RowsAndRays). x.ambient ≡ n) cones → AreRows n rows → c.ambient ≡ length r
-  width_at a w = ap (λ (x : RowsAndRays). x.ambient) at_cones ∙ a place c of_cones ∙ sym (ap length at_rows ∙ w place r of_rows)
-
-  pub proper_at : All IsProper cones → IsProper c
-  proper_at p = subst IsProper (sym at_cones) (p place c of_cones)
 
   pub ambient_at : All (λ (x : RowsAndRays). x.ambient ≡ n) cones → c.ambient ≡ n
   ambient_at a = ap (λ (x : RowsAndRays). x.ambient) at_cones ∙ a place c of_cones

@@ -104,9 +104,6 @@ module _ (source : List ℕ) (c : Contents) (s : Says source c) (known : IsKnown
   here_known : IsKnownVersion (told_version source)
   here_known = subst IsKnownVersion s.version known
 
-  no_ambient : c.ambient ≡ None → found ambient_dim s.all ≡ None
-  no_ambient is = s.kept.ambient ∙ ap number_kept is
-
   the_ambient : (n : ℕ) → c.ambient ≡ Some n → found ambient_dim s.all ≡ Some (the_number n)
   the_ambient n is = s.kept.ambient ∙ ap number_kept is
 

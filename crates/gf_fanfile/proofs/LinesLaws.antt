@@ -1,6 +1,6 @@
 -- Lines are found from left to right, and what is read of them.
--- To cite: line_first, lines_ended, is_blank, first_token, is_name, is_other, is_longer, cut_lexeme, left_word; front_none, front_name, front_line, front_first. The rest are steps.
-use Rattle.std.proofs.Common.{◌≡◌, ◌<◌, ◌≤◌, ℕ, suc, ◌+◌, ◌-◌, Bool, true, false, cond, ◌&&◌, ◌==◌, not, min, List, [], ◌∷◌, ◌++◌, length, take, drop, take_while, refl, sym, ap, ◌∙◌, ◌⊎◌, inl, inr, bytes_eq, arith, if◌then◌else◌}
+-- To cite: line_first, lines_ended, first_token, is_name, cut_lexeme, left_word. The rest are steps.
+use Rattle.std.proofs.Common.{◌≡◌, ◌<◌, ◌≤◌, ℕ, suc, ◌+◌, ◌-◌, Bool, true, false, cond, ◌&&◌, ◌==◌, not, min, List, [], ◌∷◌, length, take, drop, take_while, refl, sym, ap, ◌∙◌, ◌⊎◌, inl, inr, bytes_eq, arith, if◌then◌else◌}
 use Rattle.std.proofs.lemmas.List.{drop-drop, drop-take, take-take, take_all, drop_all, length-drop}
 use Rattle.std.proofs.lemmas.Bool.{cases_lt}
 use Rattle.std.proofs.lemmas.List.Sums.{prefix_len-le-length}
@@ -11,7 +11,7 @@ use Rattle.gf_text.specs.Marks.{minus_mark}
 use Rattle.gf_text.specs.Tokens.{lex_tokens, lexemes, lexeme, word_more}
 use Rattle.gf_text.proofs.TokensLaws.{behind-lexeme}
 use Rattle.gf_fanfile.proofs.NumbersSame.{same_number}
-use Rattle.gf_fanfile.specs.Lines.{blank, parted, before_line, lines, goes_on_line, is_no_comment, before_comment, all_parted, line_tokens, tokens_between, Sections, no_sections, with_name, with_line, with_tokens, sections_of, sections_from, is_section_name, section_end, line_end, front_tokens, front_place}
+use Rattle.gf_fanfile.specs.Lines.{blank, parted, before_line, lines, goes_on_line, is_no_comment, before_comment, all_parted, line_tokens, tokens_between, Sections, no_sections, with_name, with_line, with_tokens, sections_of, sections_from, is_section_name}
 
 -- ---- the first line
 
@@ -102,10 +102,6 @@ module _ (source : List ℕ) (at whole text : ℕ) (within : at ≤ length sourc
 -- ---- what a line is
 
 module _ (source : List ℕ) (at end : ℕ) (s : Sections) where
-  -- without tokens it is passed over
-  pub is_blank : lexemes word_more (take end source) at ≡ [] → with_tokens (tokens_between source at end) s ≡ s
-  is_blank e = ap (λ xs. with_tokens (all_parted false at xs) s) e
-
   module _ (x : Lexeme) (xs : List Lexeme) (e : lexemes word_more (take end source) at ≡ x ∷ xs) where
     -- its first token
     pub first_token : tokens_between source at end ≡ x ∷ all_parted (bytes_eq x.text minus_mark) (behind x) xs
@@ -118,20 +114,6 @@ module _ (source : List ℕ) (at end : ℕ) (s : Sections) where
         ∙ ap (λ ys. with_tokens (x ∷ all_parted (bytes_eq x.text minus_mark) (behind x) ys) s) none
         ∙ ap (λ b. if b then with_name x s else with_line (x ∷ []) s) name
 
-    -- another token alone
-    pub is_other : xs ≡ [] → is_section_name x.text ≡ false → with_tokens (tokens_between source at end) s ≡ with_line (tokens_between source at end) s
-    is_other none name =
-        let here : tokens_between source at end ≡ x ∷ [] = first_token ∙ ap (λ ys. x ∷ all_parted (bytes_eq x.text minus_mark) (behind x) ys) none in
-        ap (λ l. with_tokens l s) here
-        ∙ ap (λ b. if b then with_name x s else with_line (x ∷ []) s) name
-        ∙ ap (λ l. with_line l s) (sym here)
-
-    -- more tokens
-    pub is_longer : (y : Lexeme) (ys : List Lexeme) → xs ≡ y ∷ ys → with_tokens (tokens_between source at end) s ≡ with_line (tokens_between source at end) s
-    is_longer y ys more =
-        let here : tokens_between source at end ≡ x ∷ all_parted (bytes_eq x.text minus_mark) (behind x) (y ∷ ys) = first_token ∙ ap (λ zs. x ∷ all_parted (bytes_eq x.text minus_mark) (behind x) zs) more in
-        ap (λ l. with_tokens l s) here ∙ ap (λ l. with_line l s) (sym here)
-
 -- a token of a line is that of the source
 pub cut_lexeme : (source : List ℕ) (end s b : ℕ) → s ≤ b → b ≤ end → lexeme (take end source) s b ≡ lexeme source s b
 cut_lexeme source end s b rises within =
@@ -140,21 +122,6 @@ cut_lexeme source end s b rises within =
     let cut : take (b - s) (drop s (take end source)) ≡ take (b - s) (drop s source) =
     ap (λ n. take (b - s) (drop s (take n source))) (sym whole) ∙ ap (take (b - s)) (drop-take s (end - s) source) ∙ take-take (b - s) (end - s) (drop s source) short in
     ap (λ t. record { text = t; at = s }) cut
-
--- ---- what stands in front of the sections that follow
-
-module _ (length : ℕ) (all : Sections) where
-  pub front_none : all ≡ no_sections → (front_tokens length all ≡ record { text = section_end; at = length } ∷ []) × (front_place length all ≡ length)
-  front_none e = (ap (front_tokens length) e, ap (front_place length) e)
-
-  pub front_name : (x : Lexeme) (s : Sections) → all ≡ with_name x s → (front_tokens length all ≡ record { text = section_end; at = x.at } ∷ []) × (front_place length all ≡ x.at)
-  front_name x s e = (ap (front_tokens length) e, ap (front_place length) e)
-
-  pub front_line : (l : List Lexeme) (s : Sections) → all ≡ with_line l s → front_tokens length all ≡ l ++ record { text = line_end; at = front_place length s } ∷ front_tokens length s
-  front_line l s e = ap (front_tokens length) e
-
-  pub front_first : (x : Lexeme) (xs : List Lexeme) (s : Sections) → all ≡ with_line (x ∷ xs) s → front_place length all ≡ x.at
-  front_first x xs s e = ap (front_place length) e
 
 -- ---- the next token of a line
 

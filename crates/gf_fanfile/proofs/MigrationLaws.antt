@@ -6,6 +6,7 @@ use Rattle.gf_vec.specs.declared.error.VecError.TheVariants as vec_errors
 use Rattle.gf_vec.specs.Steps.{IfWide}
 use Rattle.gf_duality.specs.Faces.{Rows, SameCone, IsFaceOf}
 use Rattle.gf_duality.proofs.ListLaws.{zip_to, zip_from}
+use Rattle.gf_fans.proofs.FanLaws.{same_turned}
 use Rattle.gf_rays.specs.Cones.{RowsAndRays, rows_of}
 use Rattle.gf_fan.specs.declared.cones.FanCone.{FanCone}
 use Rattle.gf_fan.specs.FanLists.{FanLists}
@@ -42,9 +43,6 @@ one_of k f g cs ds a b s t l i =
     let m = given_face n cs f y.0 face.0 s y.1.0 face.1.0 in
     (m.0, (m.1.0, λ v w. (λ h. (face.1.1 v w).1 ((m.1.1 v w).1 h), λ h. (m.1.1 v w).0 ((face.1.1 v w).0 h))))
 
-turned : (n : ℕ) (c d : Rows) → SameCone n c d → SameCone n d c
-turned n c d h = λ v l. ((h v l).1, (h v l).0)
-
 one_file : (source : List ℕ) (f g : FanLists) → IsFanOfText source f → IsFanOfText source g → HaveSameCones f g
 one_file source f g s t =
     let k : FanFile = s.file in
@@ -59,7 +57,7 @@ one_file source f g s t =
           (m.0, (m.1.0, subst (λ n. SameCone n (rows_of m.0.cone) (rows_of l.cone)) (sym ambient) m.1.1));
       every = λ l i.
           let m = one_of k g f t.of_file.cones s.of_file.cones there s.of_file.of_file fan s.of_file.is_fan l i in
-          (m.0, (m.1.0, subst (λ n. SameCone n (rows_of l.cone) (rows_of m.0.cone)) (sym ambient) (turned k.ambient (rows_of m.0.cone) (rows_of l.cone) m.1.1)));
+          (m.0, (m.1.0, subst (λ n. SameCone n (rows_of l.cone) (rows_of m.0.cone)) (sym ambient) (same_turned k.ambient (rows_of m.0.cone) (rows_of l.cone) m.1.1)));
     }
 
 -- what has the same cones as something that has the same cones

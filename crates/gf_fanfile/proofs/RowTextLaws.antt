@@ -1,6 +1,6 @@
 -- The machine of rows reads exactly what the grammar of rows says.
 -- To cite: row_machine, number_some, number_on. The rest are steps.
-use Rattle.std.proofs.Common.{◌≡◌, ◌≤◌, ℕ, Bool, true, false, nat_le, List, [], ◌∷◌, ◌++◌, refl, sym, ap, subst, ◌∙◌, ◌⊎◌, inl, inr, append_assoc, append-nil, bytes_eq, arith, if◌then◌else◌, ℤ}
+use Rattle.std.proofs.Common.{◌≡◌, ℕ, Bool, true, false, nat_le, List, [], ◌∷◌, ◌++◌, refl, sym, ap, subst, ◌∙◌, ◌⊎◌, inl, inr, append_assoc, append-nil, bytes_eq, arith, if◌then◌else◌, ℤ}
 use Rattle.gf_text.specs.declared.error.Cause.{Cause}
 use Rattle.gf_text.specs.declared.error.Cause.TheVariants.{Ended, Unexpected, TooWide}
 use Rattle.gf_text.specs.Machine.{go, done, halt, after, followed}
@@ -8,11 +8,11 @@ use Rattle.gf_text.specs.Tokens.{is_number, decimal_value}
 use Rattle.gf_text.specs.VectorText.{signed_entry}
 use Rattle.gf_text.proofs.MachineLaws.{after-go, after-done, not_yet, IsMachineOf}
 use Rattle.gf_text.proofs.SetTokensLaws.{number_no_mark, is_mark, le_from}
-use Rattle.std.proofs.lemmas.Bool.Decides.{leb_tells}
 use Rattle.gf_text.specs.Marks.{minus_mark}
 use Rattle.gf_text.specs.SetText.{IsNumberText}
 use Rattle.gf_fanfile.specs.Lines.{line_end, section_end}
 use Rattle.gf_fanfile.specs.RowText.{most_row_entry, IsRowEntryText, AreRowEntryTexts, IsRowText, AreRowTexts, RowState, RowMove, row_state, row_size_step, row_entry_step, row_step_at, row_step, row_start}
+use Rattle.gf_fanfile.proofs.ConeTextLaws.{le_test}
 
 abbrev Texts : Type 0
 Texts = List (List ℕ)
@@ -227,9 +227,6 @@ number_on rs (z ∷ zs) t digits = rw (number_no_mark t 10 digits refl, number_n
 minus_on : (rs : Rows) (zs : Entries) → row_step (row_state rs zs false) minus_mark ≡ goes (row_state rs zs true)
 minus_on rs [] = refl
 minus_on rs (z ∷ zs) = refl
-
-le_test : (a b : ℕ) → a ≤ b → nat_le a b ≡ true
-le_test a b h = elim (leb_tells a b) [ inl k ↦ k.0 | inr k ↦ absurd (omega arith) ]
 
 size_goes : (m : Bool) (rs : Rows) (zs : Entries) (t : List ℕ) (n : ℕ) → IsNumberText t n most_row_entry → row_size_step rs zs m t ≡ goes (row_state rs (zs ++ signed_entry m n ∷ []) false)
 size_goes m rs zs t n h =

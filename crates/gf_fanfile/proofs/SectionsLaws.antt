@@ -1,6 +1,6 @@
 -- Sections are read one after another, and what is kept of them.
--- To cite: told_here, told_elsewhere, kind_ambient, kind_rays, kind_lineality, kind_cones, version_read, version_passed, version_section, interiors_section, other_section; IsReadUpTo, begun,
--- one_more, repeated, faulty, finished. The rest are steps.
+-- To cite: kind_ambient, kind_rays, kind_lineality, kind_cones, version_read, version_section, interiors_section,
+-- other_section; IsReadUpTo, begun, one_more, repeated, faulty, finished. The rest are steps.
 use Rattle.std.proofs.Common.{◌≡◌, ℕ, Bool, true, false, ◌||◌, List, [], ◌∷◌, ◌++◌, length, map, bytes_eq, Option, Some, None, Result, Ok, Err, ℤ, refl, sym, ap, subst, inl, inr, ◌∙◌, append_assoc, append-nil, if◌then◌else◌}
 use Rattle.std.specs.Prelude.{MatchBool, MatchResult}
 use Rattle.gf_text.specs.declared.TheConstants.{MOST_VARIABLES}
@@ -10,10 +10,10 @@ use Rattle.gf_text.specs.declared.error.Cause.TheVariants.{RepeatedName}
 use Rattle.gf_text.proofs.SetTokensLaws.{is_mark}
 use Rattle.gf_fanfile.specs.declared.error.FanFileError.{FanFileError}
 use Rattle.gf_fanfile.specs.declared.sections.Contents.{Contents}
-use Rattle.gf_fanfile.specs.Lines.{with_name, sections, sections_from, content_from}
+use Rattle.gf_fanfile.specs.Lines.{with_name, sections_from, content_from}
 use Rattle.gf_fanfile.specs.Refused.{refused_at}
 use Rattle.gf_fanfile.specs.ConeText.{most_number}
-use Rattle.gf_fanfile.specs.FanText.{ContentKind, Content, number_to, rows, cones, any, the_number, the_rows, the_cones, passed, Named, is_second, version_number, version_in, told_version, version_kind, interiors_kind, fan_table, table_of, kind_in, content_read, then_content, sections_read, text_read, found, file_version, ambient_dim, rays_name, lineality_space, maximal_cones, maximal_interiors}
+use Rattle.gf_fanfile.specs.FanText.{ContentKind, Content, number_to, rows, cones, any, the_number, the_rows, the_cones, passed, Named, is_second, told_version, version_kind, interiors_kind, fan_table, table_of, kind_in, content_read, then_content, sections_read, text_read, found, file_version, ambient_dim, rays_name, lineality_space, maximal_cones, maximal_interiors}
 use Rattle.gf_fanfile.specs.Found.{IsRefusedSo}
 use Rattle.gf_fanfile.specs.Contents.{no_contents, IsSectionKept, at_ambient, at_rays, at_lineality, at_cones, at_interiors, at_other, number_kept, rows_kept, cones_kept, AreInteriorsKept, AreSectionsKept, Says}
 
@@ -184,11 +184,7 @@ module _ (v : Option ℕ) (name : List ℕ) (no_ambient : bytes_eq ambient_dim n
 
 -- ---- the sections whose contents wait on the version
 
--- FILE_VERSION isn't looked at where it doesn't tell the version
-pub version_passed : (length : ℕ) (v : Option ℕ) (content : List Lexeme) → v ≡ None → content_read length (version_kind v) content ≡ Ok passed
-version_passed length v content is = ap (λ (w : Option ℕ). content_read length (version_kind w) content) is
-
--- else it is a number
+-- FILE_VERSION is a number where it tells the version
 pub version_read : (length : ℕ) (v : Option ℕ) (number : ℕ) (content : List Lexeme) → v ≡ Some number → content_read length (version_kind v) content ≡ content_read length (number_to most_number) content
 version_read length v number content is = ap (λ (w : Option ℕ). content_read length (version_kind w) content) is
 
@@ -235,15 +231,6 @@ module _ (length : ℕ) (name : List ℕ) (content : List Lexeme) (b : Contents)
 
   pub other_section : bytes_eq file_version name ≡ false → bytes_eq maximal_interiors name ≡ false → IsSectionKept name b b ByName
   other_section other none = at_other passed no_ambient no_rays no_lineality no_cones (inl none) (ap ByKind (kind_any b.version name no_ambient no_rays no_lineality no_cones other none)) refl
-
--- ---- the version that is told
-
-module _ (source : List ℕ) (x : Lexeme) (next : ℕ) (first : sections source ≡ (with_name x (sections_from source next)).all) where
-  pub told_here : bytes_eq file_version x.text ≡ true → told_version source ≡ Some (version_number (content_from source next))
-  told_here is = ap (version_in (length source)) first ∙ ap (λ b. if b then Some (version_number (content_from source next)) else None) is
-
-  pub told_elsewhere : bytes_eq file_version x.text ≡ false → told_version source ≡ None
-  told_elsewhere other = ap (version_in (length source)) first ∙ ap (λ b. if b then Some (version_number (content_from source next)) else None) other
 
 -- ---- from left to right
 

@@ -1,5 +1,5 @@
 //! Whether the rows of `MAXIMAL_INTERIORS` lie inside their cones.
-ghost use Rattle.std.specs.Prelude.{◌≡◌, ◌⊎◌, ◌↔◌, ◌<◌, ◌^◌, ℤ, List, pos, ◌<ℤ◌, All, Any, Contains, IfOk, IfErr, IsTrue, length, MatchResult};
+ghost use Rattle.std.specs.Prelude.{◌≡◌, ◌↔◌, ◌<◌, ◌^◌, ℤ, List, pos, ◌<ℤ◌, All, Any, Contains, IfOk, IfErr, IsTrue, length, MatchResult};
 ghost use Rattle.gf_vec.specs.Vector.{dot};
 ghost use Rattle.gf_vec.specs.Steps.{dot_steps, IsFirstWide};
 ghost use Rattle.gf_gordan.specs.Alternative.{AreRows};

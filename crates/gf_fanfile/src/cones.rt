@@ -1,5 +1,5 @@
 //! The reading of lists of ray numbers.
-ghost use Rattle.std.specs.Prelude.{◌≡◌, ◌≤◌, IfOk, List, ℕ, length, map};
+ghost use Rattle.std.specs.Prelude.{◌≡◌, ◌≤◌, IfOk, List, ℕ, length};
 ghost use Rattle.gf_fanfile.specs.Lines.{content_from};
 ghost use Rattle.gf_fanfile.specs.ConeText.{cone_step};
 ghost use Rattle.gf_fanfile.specs.FanText.{the_cones, cones, content_read};

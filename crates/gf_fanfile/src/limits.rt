@@ -1,5 +1,5 @@
 //! Rows that are within the limits of fan files. The functions compute nothing.
-ghost use Rattle.std.specs.Prelude.{◌≤◌, All, length, unsigned_abs};
+ghost use Rattle.std.specs.Prelude.{◌≤◌, All, unsigned_abs};
 ghost use Rattle.gf_gordan.specs.Alternative.{AreRows};
 ghost use Rattle.gf_fanfile.specs.RowText.{most_row_entry};
 ghost use Rattle.gf_fanfile.specs.FansAgain.{AreWritable};

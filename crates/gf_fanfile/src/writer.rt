@@ -1,5 +1,5 @@
 //! The writing of fans.
-ghost use Rattle.std.specs.Prelude.{◌≡◌, ◌++◌, ◌∷◌, [], Bool, Option, OnOk, IfOk, codes, decimal, flat_map, length, map};
+ghost use Rattle.std.specs.Prelude.{◌≡◌, ◌++◌, ◌∷◌, [], Option, OnOk, IfOk, codes, decimal, flat_map, map};
 ghost use Rattle.gf_text.specs.PrintedText.{is_below_zero};
 ghost use Rattle.gf_text.specs.VectorText.{entry_text};
 ghost use Rattle.gf_fanfile.specs.FanText.{rays_name};

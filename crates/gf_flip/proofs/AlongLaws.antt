@@ -15,7 +15,7 @@ use Rattle.gf_initial.specs.Parts.{Matching, IsPartAlong}
 use Rattle.gf_initial.proofs.ClassLaws.{multiple-grading}
 use Rattle.gf_flip.specs.Along.{HasNonzero, IsSelected, IsAlong, AreAlong}
 use Rattle.gf_ideal.proofs.CriterionLaws.{not_same}
-use Rattle.gf_poly.proofs.InitialFormLaws.{elsewhere}
+use Rattle.gf_poly.proofs.InitialFormLaws.{elsewhere, take-next}
 
 -- ---- terms
 
@@ -111,15 +111,12 @@ width_at n f g t i v e l q = at f i (subst (HasVariables n) (sym e) v) l q
     at (s ∷ f) zero v l q = ap (λ (z : Term). length z.mono) q ∙ v.0
     at (s ∷ f) (suc i) v l q = at f i v.1 (omega arith) q
 
-one_further : (f : Terms) (i : ℕ) (t : Term) → i < length f → t ≡ get_or f i t → take (i + 1) f ≡ take i f ++ t ∷ []
-one_further f i t l q = take_more f i t l ∙ ap (λ (z : Term). take i f ++ z ∷ []) (sym q)
-
 -- a term that is kept
 pub more_kept : (a : List ℤ) (h x y : Exponents) (f old new : Terms) (t : Term) (i : ℕ) → i < length f → t ≡ get_or f i t →
     x ≡ t.mono → y ≡ h → AreMultipleApart a x y → new ≡ old ++ t ∷ [] → IsSelected (IsTermAlong a h) (take i f) old →
     IsSelected (IsTermAlong a h) (take (i + 1) f) new
 more_kept a h x y f old new t i l q ex ey m e s =
-    subst (λ (z : Terms). IsSelected (IsTermAlong a h) z new) (sym (one_further f i t l q))
+    subst (λ (z : Terms). IsSelected (IsTermAlong a h) z new) (sym (take-next f i t l q))
     (subst (λ (z : Terms). IsSelected (IsTermAlong a h) (take i f ++ t ∷ []) z) (sym e)
     (selected-kept (IsTermAlong a h) (take i f) old t s (subst (λ (z : Exponents). AreMultipleApart a z h) ex (subst (λ (z : Exponents). AreMultipleApart a x z) ey m))))
 
@@ -128,7 +125,7 @@ pub more_dropped : (a : List ℤ) (h x y : Exponents) (f old : Terms) (t : Term)
     x ≡ t.mono → y ≡ h → (AreMultipleApart a x y → ⊥) → IsSelected (IsTermAlong a h) (take i f) old →
     IsSelected (IsTermAlong a h) (take (i + 1) f) old
 more_dropped a h x y f old t i l q ex ey n s =
-    subst (λ (z : Terms). IsSelected (IsTermAlong a h) z old) (sym (one_further f i t l q))
+    subst (λ (z : Terms). IsSelected (IsTermAlong a h) z old) (sym (take-next f i t l q))
     (selected-dropped (IsTermAlong a h) (take i f) old t s (λ m. n (subst (λ (z : Exponents). AreMultipleApart a x z) (sym ey) (subst (λ (z : Exponents). AreMultipleApart a z h) (sym ex) m))))
 
 -- at the end

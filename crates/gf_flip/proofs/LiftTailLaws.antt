@@ -16,10 +16,9 @@ use Rattle.gf_ideal.proofs.ListedTerms.{listed}
 use Rattle.gf_division.specs.Autoreduction.{IsKeptForm}
 use Rattle.gf_division.proofs.ReducerLaws.{members_equal}
 use Rattle.gf_division.proofs.StepLaws.{head_length}
+use Rattle.gf_division.proofs.TailLaws.{head_at}
 use Rattle.gf_flip.specs.LiftTails.{IsCopy, AreCopies, AreUndivided, HasUndividedTail, HasUndividedTailAt, HasReducedTail}
 use Rattle.gf_flip.proofs.AlongLaws.{matched-push}
-
--- ---- marks that are tried
 
 -- ---- the terms of a lift
 
@@ -31,18 +30,13 @@ IsPassed ls flags copied x t = (same t.mono x ≡ true) ⊎ AreUndivided ls flag
 abbrev pub ArePassed : List MarkedPolynomial → List Bool → Bool → Exponents → ℕ → Terms → Type 0
 ArePassed ls flags copied x k f = Each (IsPassed ls flags copied x) (take k f)
 
-head_here : (f : Terms) (k : ℕ) (t : Term) → k < length f → t ≡ get_or f k t → head_of f k ≡ t.mono
-head_here [] k t l e = absurd (omega (arith, l))
-head_here (s ∷ f) zero t l e = ap (λ (u : Term). u.mono) (sym e)
-head_here (s ∷ f) (suc k) t l e = head_here f k t (omega (arith, l)) e
-
 pub passed_at : (ls : List MarkedPolynomial) (flags : List Bool) (copied : Bool) (b : MarkedPolynomial) (k m : ℕ) (f : Terms) (t : Term) → f ≡ b.poly →
     k < length f → t ≡ get_or f k t → head_of b.poly m ≡ b.head → (eqb k m ≡ false → AreUndivided ls flags copied t.mono (length ls)) →
     IsPassed ls flags copied b.head t
 passed_at ls flags copied b k m f t q l e h n = at (cases_eq k m)
   where
     at : (k ≡ m) ⊎ (k ≡ m → ⊥) → IsPassed ls flags copied b.head t
-    at (inl p) = inl (same_of t.mono b.head (sym (head_here f k t l e) ∙ ap (λ (z : Terms). head_of z k) q ∙ ap (head_of b.poly) p ∙ h))
+    at (inl p) = inl (same_of t.mono b.head (sym (head_at f k t l e) ∙ ap (λ (z : Terms). head_of z k) q ∙ ap (head_of b.poly) p ∙ h))
     at (inr p) = inr (n (ne_eqb k m p))
 
 pub passed_more : (ls : List MarkedPolynomial) (flags : List Bool) (copied : Bool) (x : Exponents) (k : ℕ) (f : Terms) (t : Term) → k < length f →

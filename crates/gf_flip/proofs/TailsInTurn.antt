@@ -8,7 +8,7 @@ use Rattle.gf_exponents.specs.Orders.{lighter}
 use Rattle.gf_exponents.proofs.ExponentsLaws.{same-refl}
 use Rattle.gf_exponents.proofs.OrderLaws.{lighter-strict}
 use Rattle.gf_poly.specs.declared.Term.{Term}
-use Rattle.gf_poly.specs.Polynomial.{Terms, HasVariables}
+use Rattle.gf_poly.specs.Polynomial.{HasVariables}
 use Rattle.gf_poly.specs.Marking.{MarkedPolynomial, HaveVariables}
 use Rattle.gf_ideal.specs.Marks.{IsMarked, AreMarked}
 use Rattle.gf_ideal.specs.Reduction.{IsDivisible}

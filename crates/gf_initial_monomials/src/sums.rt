@@ -1,7 +1,7 @@
 //! The vector that is tried for a face: the sum of its rays.
 ghost use Rattle.std.specs.Prelude.{◌≡◌, ◌<◌, All, IfOk, IfErr, length};
 ghost use Rattle.gf_vec.specs.Vector.{zeros};
-ghost use Rattle.gf_vec.specs.Steps.{NoneWide, IsFirstWide, IfWide};
+ghost use Rattle.gf_vec.specs.Steps.{IsFirstWide, IfWide};
 ghost use Rattle.gf_duality.specs.Faces.{sum_of};
 ghost use Rattle.gf_fans.specs.FaceLists.{numbered};
 ghost use Rattle.gf_rays.specs.Sums.{adding_steps};

@@ -2,7 +2,7 @@
 -- To cite: row_of, left_at_start, start_leaves, left_as_resumed, resumed_as, left_after, row_step, left_at_end, row_end, left_kept, row_kept,
 -- front_refused, row_early, early_moved, early_refused.
 use Rattle.std.specs.Global.{Global}
-use Rattle.std.proofs.Common.{◌≡◌, ◌⊎◌, ℕ, suc, ◌+◌, ◌-◌, ◌*◌, ◌≤◌, List, [], ◌∷◌, ◌++◌, ℤ, length, map, Option, Some, None, Result, Ok, Err, arith, refl, sym, ap, ◌∙◌, subst, inl, inr, append-nil}
+use Rattle.std.proofs.Common.{◌≡◌, ◌⊎◌, ℕ, suc, ◌+◌, ◌-◌, ◌*◌, ◌≤◌, List, [], ◌∷◌, ◌++◌, ℤ, length, map, Option, Some, None, Result, Ok, Err, arith, refl, sym, ap, subst, inl, inr, append-nil}
 use Rattle.gf_poly.specs.Marking.{MarkedPolynomials}
 use Rattle.gf_walk.specs.declared.mark.Mark.{Mark}
 use Rattle.gf_walk.specs.declared.mark.Mark.TheVariants.{Before, After, Listed, Finished}

@@ -1,5 +1,5 @@
 //! Texts of sets, by hand: what each says, or where and why it is refused.
-ghost use Rattle.std.specs.Prelude.{◌<◌, length, IfOk};
+ghost use Rattle.std.specs.Prelude.{length};
 ghost use Rattle.gf_text.specs.Sets.{AreIn};
 
 use gf_frac::{Frac, Op, Overflow};

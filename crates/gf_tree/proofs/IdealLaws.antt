@@ -1,6 +1,6 @@
 -- The bases of an ideal that is given by generators.
 -- To cite: start_of_ideal, start_in_region.
-use Rattle.std.proofs.Common.{◌≡◌, ℕ, List, [], Contains, refl, sym, ◌∙◌, subst}
+use Rattle.std.proofs.Common.{ℕ, List, [], refl, sym, ◌∙◌, subst}
 use Rattle.gf_exponents.specs.Orders.{gains, IsWeightedBelow}
 use Rattle.gf_exponents.specs.SixOrders.{MonomialOrder, below_of}
 use Rattle.gf_exponents.proofs.SixOrdersLaws.{order-is}

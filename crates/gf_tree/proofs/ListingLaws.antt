@@ -2,9 +2,6 @@
 -- To cite: given_none, given_more, given_all, refusal_given, limits_given, all_left, list_below, root_list, all_given, part_given, all_listed, part_listed.
 use Rattle.std.proofs.Common.{◌≡◌, ℕ, List, [], ◌∷◌, ◌++◌, refl, sym, ◌∙◌, subst}
 use Rattle.gf_poly.specs.Marking.{MarkedPolynomials}
-use Rattle.gf_walk.specs.declared.mark.Mark.TheVariants.{Before}
-use Rattle.gf_walk.specs.Path.{IsRoot}
-use Rattle.gf_walk.specs.Listing.{Leaves}
 use Rattle.gf_walk.specs.Whole.{IsWholeList}
 use Rattle.gf_walk.proofs.FinitenessLaws.{whole_below, no_loop-rank}
 use Rattle.gf_walk.proofs.GrowingLaws.{one_more, all_there}

@@ -1,6 +1,6 @@
 -- What is above a basis, and the root of the tree.
--- To cite: root_width, some_cone_told, top_exactly, told_root, roots_told, parent_across, top_here, root_for.
-use Rattle.std.proofs.Common.{◌≡◌, ◌↔◌, List, ℤ, length, Option, Some, None, IfSome, Result, Ok, Err, IfOk, refl, subst}
+-- To cite: some_cone_told, top_exactly, told_root, roots_told, parent_across, top_here, root_for.
+use Rattle.std.proofs.Common.{◌≡◌, ◌↔◌, List, ℤ, Option, Some, None, IfSome, Result, Ok, Err, IfOk, refl, subst}
 use Rattle.gf_cone.specs.Cones.{ConeRows, IsConeOf, HasRowsOf}
 use Rattle.gf_poly.specs.Marking.{MarkedPolynomials, polys}
 use Rattle.gf_walk.specs.Path.{IsRoot}
@@ -15,10 +15,6 @@ use Rattle.gf_tree.specs.declared.above.Parent.{Parent}
 use Rattle.gf_tree.specs.declared.error.TreeError.{TreeError}
 use Rattle.gf_tree.specs.declared.above.Parent.TheVariants.{Root, Up}
 use Rattle.gf_tree.specs.Parents.{IsParentTold, IsRootBasis, IsRootFor, IsSomeCone}
-
--- the root of the region has as many entries as there are variables
-pub root_width : (k : Region) (v : MarkedPolynomials) → IsNode k v → length k.root ≡ v.variables
-root_width k v h = h.fan.region.root.width
 
 -- a cone of a basis in some region, which has the rows of another one, is one in that
 pub some_cone_told : (k : Region) (v w : MarkedPolynomials) (o : Option ConeRows) (c : ConeRows) → v ≡ w → IfSome o (IsSomeCone v) → o ≡ Some c → HasRowsOf k c → IsConeOf w.variables k w.items c

@@ -1,10 +1,11 @@
 -- A walker's step, in the words of bases and paths.
--- To cite: walk_of, count_along, left_at_top, left_after, step_to, advance_own, step_end, parts_of, left_first, left_rest, resumed, left_resumed.
-use Rattle.std.proofs.Common.{◌≡◌, ℕ, suc, ◌+◌, ◌-◌, ◌≤◌, List, [], ◌∷◌, ◌++◌, ℤ, length, Option, Some, None, IfSome, arith, refl, sym, ap, ◌∙◌, subst, length-append}
+-- To cite: walk_of, count_along, left_at_top, left_after, step_to, step_end, parts_of, left_first, left_rest, resumed,
+-- left_resumed.
+use Rattle.std.proofs.Common.{◌≡◌, ℕ, suc, ◌+◌, ◌-◌, ◌≤◌, List, [], ◌∷◌, ◌++◌, ℤ, length, Some, None, arith, refl, sym, ap, ◌∙◌, subst, length-append}
 use Rattle.gf_poly.specs.Marking.{MarkedPolynomials}
 use Rattle.gf_walk.specs.declared.mark.Mark.{Mark}
 use Rattle.gf_walk.specs.declared.mark.Mark.TheVariants.{Before, Listed, Finished}
-use Rattle.gf_walk.specs.Path.{Leads, IsRoot}
+use Rattle.gf_walk.specs.Path.{Leads}
 use Rattle.gf_walk.specs.Place.{Place}
 use Rattle.gf_walk.specs.Listing.{Leaves, IsLeftAt, IsFirstOf}
 use Rattle.gf_walk.specs.Walk.{Steps, Advances}
@@ -19,7 +20,7 @@ use Rattle.gf_reverse.proofs.LeftLaws.{advance_answers, top_seen_below}
 use Rattle.gf_reverse.proofs.ListLaws.{own, root_above, below_node, same_root}
 use Rattle.gf_tree.specs.declared.tree.BasisTree.{BasisTree}
 use Rattle.gf_tree.specs.Walks.{Walk, AreLeft, HasListLeft}
-use Rattle.gf_tree.specs.Steps.{IsStepTo, IsEnd, IsAdvance, AreWalkParts, IsResumed}
+use Rattle.gf_tree.specs.Steps.{IsStepTo, IsEnd, AreWalkParts, IsResumed}
 
 -- where a walker over the tree stands, and how many bases it gave
 abbrev pub walk_of : Place BasisTree MarkedPolynomials (List ℤ) → ℕ → Walk
@@ -101,11 +102,6 @@ module _ (p q : Place BasisTree MarkedPolynomials (List ℤ)) (n m : ℕ) (v : M
         first = list;
         paths = answers_by_paths p.tree.region p.mark q.mark p.here q.here p.depth q.depth v steps;
       }
-
--- what is answered is a basis of the ideal that it generates
-pub advance_own : (old new : Walk) (o : Option MarkedPolynomials) → IsAdvance old new o → IfSome o (IsNode old.region)
-advance_own old new (Some v) s = s.own
-advance_own old new None e = tt
 
 -- ---- the end
 

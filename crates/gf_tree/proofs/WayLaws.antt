@@ -1,13 +1,13 @@
 -- The way up among the normals that a program keeps: ascending, each once.
 -- To cite: place_of_normal, way_found, way_none, least_of_way, no_crossing, no_way, way_read, place_read, missing_read, told_way,
 -- not_told, shown_crossing, refuted_crossing, negative_read, wide_at, small_at.
-use Rattle.std.proofs.Common.{◌≡◌, ◌⊎◌, ℕ, ◌<◌, ◌≤◌, List, [], length, get_or, Contains, All, ℤ, Option, Some, None, Bool, true, false, IsTrue, ◌↔◌, arith, refl, sym, ap, ◌∙◌, subst, inl, inr}
+use Rattle.std.proofs.Common.{◌≡◌, ◌⊎◌, ℕ, ◌<◌, List, [], length, get_or, Contains, All, ℤ, Option, Some, None, Bool, true, false, IsTrue, ◌↔◌, arith, refl, sym, ap, ◌∙◌, subst, inl, inr}
 use Rattle.std.proofs.lemmas.Bool.{cases_lt}
 use Rattle.std.proofs.lemmas.List.{get_or_default}
 use Rattle.std.specs.declared.cmp.Ordering.{Ordering}
 use Rattle.std.specs.declared.cmp.Ordering.TheVariants.{Less}
 use Rattle.gf_gordan.specs.Alternative.{AreRows}
-use Rattle.gf_poly.specs.Marking.{MarkedPolynomial, MarkedPolynomials}
+use Rattle.gf_poly.specs.Marking.{MarkedPolynomial}
 use Rattle.gf_facets.specs.Rows.{IsNormal}
 use Rattle.gf_facets.specs.Regions.{Region, IsRegion}
 use Rattle.gf_facets.specs.LexPositive.{IsNegative, IsBefore}

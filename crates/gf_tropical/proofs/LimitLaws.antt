@@ -1,5 +1,5 @@
 -- Where bounds on the exponents of polynomials have room, no operation of finding the rays of their systems leaves the range.
-use Rattle.std.proofs.Common.{◌≡◌, ◌≢◌, ℕ, zero, suc, ◌+◌, ◌-◌, ◌<◌, ◌≤◌, List, [], ◌∷◌, ◌++◌, map, length, length-append, get_or, ℤ, pos, ◌-ℤ◌, ◌≤ℤ◌, unsigned_abs, remove, All, Contains, ◌⊎◌, true, arith, refl, sym, ap, ◌∙◌, subst, inl, inr}
+use Rattle.std.proofs.Common.{◌≡◌, ◌≢◌, ℕ, zero, suc, ◌+◌, ◌-◌, ◌<◌, ◌≤◌, List, [], ◌∷◌, ◌++◌, map, length, length-append, ℤ, pos, ◌≤ℤ◌, unsigned_abs, remove, All, Contains, ◌⊎◌, true, arith, refl, sym, ap, ◌∙◌, subst, inl, inr}
 use Rattle.std.proofs.lemmas.Int.{ints}
 use Rattle.std.proofs.lemmas.List.{get_or_default, length-map}
 use Rattle.std.proofs.lemmas.List.Edits.{length-remove}
@@ -12,7 +12,6 @@ use Rattle.gf_duality.proofs.ListLaws.{none_in, in_head, in_cons, of_rest, all_b
 use Rattle.gf_fans.specs.Fans.{meet}
 use Rattle.gf_fans.proofs.PartNumbers.{of_map}
 use Rattle.gf_rays.specs.Limits.{IsSmallSystem, has_room}
-use Rattle.gf_fan.specs.FaceSystems.{IsFaceSystem}
 use Rattle.gf_fan.proofs.LimitLaws.{small_meet, small_face, face_long, no_system_step, no_rows}
 use Rattle.gf_poly.specs.declared.Term.{Term}
 use Rattle.gf_poly.specs.Polynomial.{Terms, HasVariables}
@@ -20,9 +19,9 @@ use Rattle.gf_poly.proofs.ProductLaws.{HasVariables-at}
 use Rattle.gf_patterns.specs.Patterns.{points, IsOnPrevariety, IsAnywhere}
 use Rattle.gf_patterns.specs.PatternRows.{vector_difference, point_at, single_rows, pair_rows}
 use Rattle.gf_patterns.specs.PatternFans.{whole_space}
-use Rattle.gf_patterns.proofs.RowLaws.{minus_long}
-use Rattle.gf_tropical.specs.Refusals.{NoneIsZero, IsSystemStep, IsTropicalWithinLimits}
-use Rattle.gf_tropical.specs.Systems.{IsConeOrFace, IsFanSystem, none, one, more, IsSystemOf, whole, own, both, IsPairCone, IsSingleCone, IsPairSystem, IsSingleSystem}
+use Rattle.gf_patterns.proofs.RowLaws.{minus_long, one_list}
+use Rattle.gf_tropical.specs.Refusals.{IsSystemStep}
+use Rattle.gf_tropical.specs.Systems.{IsConeOrFace, IsFanSystem, none, one, more, IsSystemOf, whole, own, both, IsPairCone, IsSingleCone}
 use Rattle.gf_tropical.specs.Limits.{HaveExponentsUpTo, terms_but, HasRoomUpTo, PolynomialsWithRoomStayWithinLimits, TrinomialsStayWithinLimits}
 
 -- ---- differences of exponents
@@ -149,23 +148,20 @@ points_small n b set v u A c x i =
       entries = subst (All (λ z. (pos 0 ≤ℤ z) × (z ≤ℤ pos b))) t.1.1 (exponents_up b t.0.mono small);
     }
 
-only_one : (A B : List (List ℤ)) → Contains (A ∷ []) B → B ≡ A
-only_one A B c = elim (in_cons A [] B c) [ inl e ↦ e | inr k ↦ absurd (none_in B k) ]
-
 pub polynomials_with_room_stay_within_limits : PolynomialsWithRoomStayWithinLimits
 polynomials_with_room_stay_within_limits = record {
   prevarieties = λ n b set hn hb nz v u room. record {
     not_zero = nz;
     within = λ s x. no_step IsPairCone IsOnPrevariety n b 2 (map points set)
-        (λ A c i q. subst (IsSized n b (length A - 2)) (sym (q.rows ∙ ap (λ (l : List (List ℤ)). pair_rows l q.i q.j) (only_one A q.of q.listed)))
-        (pair_sized n b A (points_small n b set v u A i) q.i q.j q.ordered (subst (λ (l : List (List ℤ)). q.j < length l) (only_one A q.of q.listed) q.inside)))
+        (λ A c i q. subst (IsSized n b (length A - 2)) (sym (q.rows ∙ ap (λ (l : List (List ℤ)). pair_rows l q.i q.j) (one_list A q.of q.listed)))
+        (pair_sized n b A (points_small n b set v u A i) q.i q.j q.ordered (subst (λ (l : List (List ℤ)). q.j < length l) (one_list A q.of q.listed) q.inside)))
         s hn hb (subst (HasRoomUpTo n b) (sym (terms_points 2 set)) room) x;
   };
   minkowski = λ n b set hn hb nz v u room. record {
     not_zero = nz;
     within = λ s x. no_step IsSingleCone IsAnywhere n b 1 (map points set)
-        (λ A c i q. subst (IsSized n b (length A - 1)) (sym (q.rows ∙ ap (λ (l : List (List ℤ)). single_rows l q.i) (only_one A q.of q.listed)))
-        (single_sized n b A (points_small n b set v u A i) q.i (subst (λ (l : List (List ℤ)). q.i < length l) (only_one A q.of q.listed) q.inside)))
+        (λ A c i q. subst (IsSized n b (length A - 1)) (sym (q.rows ∙ ap (λ (l : List (List ℤ)). single_rows l q.i) (one_list A q.of q.listed)))
+        (single_sized n b A (points_small n b set v u A i) q.i (subst (λ (l : List (List ℤ)). q.i < length l) (one_list A q.of q.listed) q.inside)))
         s hn hb (subst (HasRoomUpTo n b) (sym (terms_points 1 set)) room) x;
   };
 }

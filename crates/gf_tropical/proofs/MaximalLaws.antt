@@ -1,5 +1,5 @@
 -- The maximal cones of a fan: each is inside no other cone of it, and is all of what it was found as a face of.
-use Rattle.std.proofs.Common.{◌≡◌, ◌<◌, ℕ, List, [], length, get_or, ℤ, All, Contains, arith, sym, ap, ◌∙◌, subst, inl, inr}
+use Rattle.std.proofs.Common.{◌≡◌, ◌<◌, ℕ, List, [], length, get_or, ℤ, Contains, arith, sym, ap, ◌∙◌, subst, inl, inr}
 use Rattle.std.proofs.lemmas.Bool.{cases_eq}
 use Rattle.std.proofs.lemmas.List.{get_or_default}
 use Rattle.gf_duality.specs.Faces.{Rows, SameCone, IsInCone, part}
@@ -9,14 +9,14 @@ use Rattle.gf_fans.proofs.PartNumbers.{of_map}
 use Rattle.gf_rays.specs.Cones.{RowsAndRays, rows_of}
 use Rattle.gf_fan.specs.declared.cones.FanCone.{FanCone}
 use Rattle.gf_fan.specs.FaceSystems.{IsFaceSystem}
-use Rattle.gf_fan.specs.FanLists.{FanLists, numbers_of}
+use Rattle.gf_fan.specs.FanLists.{FanLists}
 use Rattle.gf_fan.specs.FansOfCones.{IsFanOf, vanishing_rows}
 use Rattle.gf_fan.specs.Laws.{IsInsideCone}
 use Rattle.gf_fan.specs.MaximalCones.{no_cone, maximal_of}
 use Rattle.gf_fan.proofs.FanConeLaws.{numbers_of_inside}
 use Rattle.gf_fan.proofs.MaximalLaws.{numbers_long, within_at}
 use Rattle.gf_fan.proofs.UnderMaximal.{maximal_some, given_face}
-use Rattle.gf_patterns.specs.Patterns.{IsClosedCone, IsClosedConeOf}
+use Rattle.gf_patterns.specs.Patterns.{IsClosedCone}
 use Rattle.gf_patterns.proofs.MeetLaws.{same_trans, same_refl}
 use Rattle.gf_tropical.specs.Systems.{IsWholeOf, IsMaximalIn}
 use Rattle.gf_tropical.specs.TropicalFans.{IsPatternFan}

@@ -28,7 +28,7 @@ use Rattle.gf_tropical.specs.declared.error.TropicalError.TheVariants.{Cone, Zer
 use Rattle.gf_tropical.specs.declared.kind.Kind.{Kind}
 use Rattle.gf_tropical.specs.declared.kind.Kind.TheVariants.{Prevariety, Minkowski}
 use Rattle.gf_tropical.specs.Kinds.{IsAdmittedBy, IsConeBy}
-use Rattle.gf_tropical.specs.Systems.{IsSystemOf, whole, own, both, IsFanSystem, one, more}
+use Rattle.gf_tropical.specs.Systems.{IsSystemOf, whole, own, both, one, more}
 use Rattle.gf_tropical.specs.Refusals.{tropical_of_gordan, IsTropicalRefusal, IsTropicalWithinLimits}
 use Rattle.gf_tropical.specs.Making.{IsFanOfRows, AreOfSystems, IsStepOf, IsOfCones, of_one, space, IsStepOfCones, IsWidthRefusal}
 use Rattle.gf_tropical.specs.TropicalFans.{IsPatternFan}

@@ -18,9 +18,6 @@ use Rattle.gf_patterns.specs.PatternRows.{point_at, single_rows, pair_rows}
 use Rattle.gf_patterns.specs.Vertices.{IsVertex, AreVertexCones, AreVertexPairCones}
 use Rattle.gf_tropical.specs.VertexLists.{AreVertexFlags, HaveVertexFlags, VerticesSoFar, VertexPairsSoFar}
 
-pub vertices_none : (n : ℕ) (A : List (List ℤ)) → VerticesSoFar n A 0 []
-vertices_none n A = record { each = λ c k. absurd (none_in c k); every = λ k l. absurd (omega (arith, l)) }
-
 pub vertices_more : (n : ℕ) (A : List (List ℤ)) (i : ℕ) (cones : List Rows) (c : Rows) → i < length A → c ≡ single_rows A i → VerticesSoFar n A i cones → VerticesSoFar n A (i + 1) (cones ++ c ∷ [])
 vertices_more n A i cones c l e s = record {
   each = λ d k. elim (snoc_cases cones c d k) [ inl x ↦ s.each d x | inr q ↦ (i, (l, q ∙ e)) ];
@@ -43,9 +40,6 @@ vertices_skip n A i cones none s = record {
 
 pub vertices_all : (n : ℕ) (A : List (List ℤ)) (i : ℕ) (cones : List Rows) → length A ≤ i → VerticesSoFar n A i cones → AreVertexCones n A cones
 vertices_all n A i cones l s = record { each = s.each; every = λ k h. s.every k (omega (arith, l, h)) }
-
-pub vertex_pairs_none : (n : ℕ) (A : List (List ℤ)) → VertexPairsSoFar n A 0 0 []
-vertex_pairs_none n A = record { each = λ c k. absurd (none_in c k); every = λ a b l m q. elim q [ inl h ↦ absurd (omega (arith, h)) | inr h ↦ let g = h.1 in absurd (omega (arith, g)) ] }
 
 pub vertex_pairs_start : (n : ℕ) (A : List (List ℤ)) (i : ℕ) (cones : List Rows) → VertexPairsSoFar n A i 0 cones → VertexPairsSoFar n A i (i + 1) cones
 vertex_pairs_start n A i cones s = record { each = s.each; every = λ a b l m q. s.every a b l m (elim q [ inl h ↦ inl h | inr h ↦ let e = h.0 in let g = h.1 in absurd (omega (arith, e, g, l)) ]) }
@@ -92,9 +86,6 @@ vertex_pairs_next n A i j cones l s = record {
 pub vertex_pairs_all : (n : ℕ) (A : List (List ℤ)) (i : ℕ) (cones : List Rows) → length A ≤ i → VertexPairsSoFar n A i 0 cones → AreVertexPairCones n A cones
 vertex_pairs_all n A i cones l s = record { each = s.each; every = λ a b la mb. s.every a b la mb (inl (omega (arith, l, la, mb))) }
 
-pub flags_none : (n : ℕ) (A : List (List ℤ)) → AreVertexFlags n A 0 []
-flags_none n A = record { long = refl; each = λ k l. absurd (omega (arith, l)) }
-
 told : (b : Bool) → IsTrue b → b ≡ true
 told b t = t
 
@@ -115,9 +106,6 @@ flags_more n A i flags new b v e f = subst (AreVertexFlags n A (i + 1)) (sym e) 
 pub flags_all : (n : ℕ) (A : List (List ℤ)) (i : ℕ) (flags : List Bool) → length A ≤ i → AreVertexFlags n A i flags → HaveVertexFlags n A flags
 flags_all n A i flags l f = (i, (l, f))
 
-pub flags_long : (n : ℕ) (f : Terms) (i : ℕ) (flags : List Bool) → i < length f → HaveVertexFlags n (points f) flags → i < length flags
-flags_long n f i flags l h = let e = length-points f in let g = h.1.0 in let k = h.1.1.long in omega (arith, l, e, g, k)
-
 pub no_vertex : (n : ℕ) (f : Terms) (i : ℕ) (flags : List Bool) → i < length f → HaveVertexFlags n (points f) flags → get_or flags i false ≡ false → IsVertex n (points f) (point_at (points f) i) → ⊥
 no_vertex n f i flags l h q v = let x = length-points f in let g = h.1.0 in true≢false (sym (h.1.1.each i (omega (arith, l, x, g)) v) ∙ q)
 
@@ -132,6 +120,3 @@ refuted n f i hs es a ms ns g s vars different l p q e alt v =
 
 pub rows_are_wide : (n : ℕ) (f : Terms) (i : ℕ) (hs : List (List ℤ)) → HasVariables n f → i < length f → hs ≡ (single_rows (points f) i).inequalities → AreRows n hs
 rows_are_wide n f i hs vars l e = let x = length-points f in subst (AreRows n) (sym e) (single_wide n (points f) i (points_wide n f vars) (omega (arith, l, x)))
-
-pub no_rows_wide : (n : ℕ) (es : List (List ℤ)) → es ≡ [] → AreRows n es
-no_rows_wide n es e = subst (AreRows n) (sym e) (all_by (λ t. length t ≡ n) [] (λ t y. absurd (none_in t y)))

@@ -1,5 +1,5 @@
 //! One wave: the first walkers of the row are worked on, side by side.
-ghost use Rattle.std.specs.Prelude.{◌≡◌, ◌<◌, ◌≤◌, ◌+◌, ◌*◌, length, OnOk, OnErr};
+ghost use Rattle.std.specs.Prelude.{◌≡◌, ◌≤◌, ◌+◌, ◌*◌, length, OnOk, OnErr};
 ghost use Rattle.gf_walk.specs.Pieces.{RefusesAt};
 ghost use Rattle.gf_waves.specs.Frontier.{AreRefusals, job_number, walkers_up_to};
 ghost use Rattle.gf_waves.specs.Wave.{IsWaved};
