@@ -1,0 +1,16 @@
+-- Walks over bases: where lines lead, and what is told on the way.
+use Rattle.std.specs.Prelude.{◌≡◌, ℕ, List}
+use Rattle.gf_poly.specs.Marking.{MarkedPolynomials}
+use Rattle.gf_session.specs.declared.choice.Choice.{Choice}
+use Rattle.gf_session.specs.declared.choice.Choice.TheVariants as choices
+use Rattle.gf_session.specs.Sessions.{Trail, AreTurns, IsTurn, IsCrossed}
+use Rattle.gf_session.specs.Transcripts.{AreFunctions}
+use Rattle.gf_basis_places.specs.BasisRules.{basis_rules}
+
+-- Of the bases in a ring of these names: each number leads to one basis or nowhere, and one text is told. So lines lead from a trail to one
+-- trail and have one transcript; and a choice followed by u gives the trail before it.
+pub record WalksAreDetermined (names : List (List ℕ)) : Type 0 where
+  pub functions : AreFunctions (basis_rules names)
+  pub one : (s t u : Trail MarkedPolynomials) (cs : List Choice) (x y : List ℕ) → AreTurns (basis_rules names) s cs t x → AreTurns (basis_rules names) s cs u y →
+      (t ≡ u) × (x ≡ y)
+  pub undone : (s t u : Trail MarkedPolynomials) (n : ℕ) (x y : List ℕ) → IsCrossed (basis_rules names) s n t x → IsTurn (basis_rules names) t choices.Undo u y → u ≡ s

@@ -1,0 +1,52 @@
+//! The normals of a basis that a flip may cross.
+ghost use Rattle.std.specs.Prelude.{◌≡◌, ◌<◌, ℕ, length, IfOk, IfErr};
+ghost use Rattle.gf_tree.specs.Refusals.{IsRefusedAtBasis};
+ghost use Rattle.gf_cone.specs.Cones.{IsConeOf};
+ghost use Rattle.gf_basis_places.specs.Crossable.{AreCrossable, IsWithPlace, IsRefusedAtPlace};
+
+use gf_cone::{Cone, KnownCone, Region};
+use gf_poly::MarkedSet;
+use gf_tree::TreeError;
+use gf_vec::IntVec;
+use std::alloc::Global;
+
+/// The list with the normal at a place, where a flip may cross its facet.
+fn with_place(list: Vec<IntVec>, cone: &KnownCone, place: usize) -> Result<Vec<IntVec>, TreeError>
+    requires { place < length cone.now.normals }
+    ensures ok { IfOk result (λ more. IsWithPlace cone.now place list.items more.items) }
+    ensures err { IfErr result (IsRefusedAtPlace cone.now place) }
+{
+    let mut more = list;
+    match cone.crossing(place)? {
+        Some(_witness) => {
+            let normal = cone.normals()[place].copy()?;
+            more.push(normal)?;
+            Ok(more)
+        }
+        None => Ok(more),
+    }
+}
+
+/// The normals of a basis that a flip may cross inside a region, each once, ascending by the first entry that differs.
+///
+/// # Errors
+///
+/// `Cone` only at a step of the system that tells whether a flip may cross the facet of a normal of the basis, that leaves its range; `Memory` may come at
+/// any time.
+pub fn crossable_normals(
+    alloc: Global,
+    basis: &MarkedSet,
+    region: &Region,
+) -> Result<Vec<IntVec>, TreeError>
+    requires { length region.now.root ≡ basis.now.variables }
+    ensures ok { IfOk result (λ ns. AreCrossable basis.now.variables region.now basis.now.items ns.items) }
+    ensures err { (pairs : ℕ) → IfErr result (IsRefusedAtBasis region.now pairs basis.now) }
+{
+    let cone = Cone::within(alloc, basis, region)?;
+    let known = KnownCone::new(alloc, cone, None)?;
+    let mut list = Vec::new(alloc);
+    'places: for place in 0..known.normals().len() {
+        list = with_place(list, &known, place)?;
+    }
+    Ok(list)
+}

@@ -1,0 +1,62 @@
+//! A basis as a place.
+ghost use Rattle.std.specs.Prelude.{◌≡◌, ℕ, IfOk, IfErr};
+ghost use Rattle.gf_facets.specs.Regions.{all_positive};
+ghost use Rattle.gf_tree.specs.Refusals.{IsRefusedAtBasis};
+ghost use Rattle.gf_basis_places.specs.Crossable.{AreCrossable};
+
+use crate::crossable::crossable_normals;
+use gf_cone::Region;
+use gf_poly::MarkedSet;
+use gf_tree::TreeError;
+use gf_vec::IntVec;
+use std::alloc::Global;
+use std::marker::Model;
+
+/// A marked set with the normals that a flip may cross, for positive weights. Places of one set are the same place.
+#[derive(Drop)]
+pub struct BasisPlace {
+    basis: MarkedSet,
+    crossable: Vec<IntVec>,
+}
+
+impl Model for BasisPlace {
+    ghost use Rattle.gf_poly.specs.Marking.{MarkedPolynomials};
+    ghost use Rattle.gf_facets.specs.Regions.{all_positive};
+    ghost use Rattle.gf_basis_places.specs.Crossable.{AreCrossable};
+
+    ghost Value = { MarkedPolynomials };
+
+    ghost view = { λ p. p.basis };
+
+    ghost invariant = { λ p. AreCrossable p.basis.variables (all_positive p.basis.variables) p.basis.items p.crossable.items };
+}
+
+impl BasisPlace {
+    /// The place of a set.
+    ///
+    /// # Errors
+    ///
+    /// Those of `crossable_normals`.
+    pub fn new(alloc: Global, basis: MarkedSet) -> Result<BasisPlace, TreeError>
+        ensures ok { IfOk result (λ p. p ≡ basis) }
+        ensures err { (pairs : ℕ) → IfErr result (IsRefusedAtBasis (all_positive basis.variables) pairs basis) }
+    {
+        let region = Region::positive(alloc, basis.variables())?;
+        let crossable = crossable_normals(alloc, &basis, &region)?;
+        Ok(BasisPlace { basis, crossable })
+    }
+
+    /// The set.
+    pub fn basis(&self) -> &MarkedSet
+        ensures { result.now ≡ self.now }
+    {
+        &self.basis
+    }
+
+    /// The normals that a flip may cross, each once, ascending.
+    pub fn crossable(&self) -> &[IntVec]
+        ensures { AreCrossable self.now.variables (all_positive self.now.variables) self.now.items result.now }
+    {
+        self.crossable.as_slice()
+    }
+}
