@@ -108,6 +108,7 @@ exact_kind writing (refusals.TooManyVariables count) e = tt
 exact_kind writing (refusals.NotTermOrder index) e = tt
 exact_kind writing (refusals.Missing section) e = tt
 exact_kind writing (refusals.BadVersion number) e = tt
+exact_kind writing (refusals.OtherRing index) e = tt
 exact_kind writing (refusals.Dimensions left right) e = tt
 exact_kind writing (refusals.ZeroPolynomial set index) e = tt
 exact_kind writing (refusals.NotHomogeneous polynomial first second) e = tt

@@ -1,5 +1,5 @@
 -- A command whose texts are read once, whose work is refused as work is, and whose tests fail once, is lawful.
--- To cite: IsExactCommand, IsTestedCommand, untested, sound_lawful. The rest are steps.
+-- To cite: IsExactCommand, IsTestedCommand, untested, work_apart, writing_kind, sound_lawful. The rest are steps.
 use Rattle.std.specs.Prelude.{◌≡◌, ◌⊎◌, ℕ, List}
 use Rattle.std.proofs.Common.{refl, subst, inl, inr}
 use Rattle.gf_front.specs.declared.refusal.Refusal.{Refusal}
@@ -35,7 +35,7 @@ untested c never = record {
 }
 
 -- a refusal is of one kind
-work_apart : (r : Refusal) → IsOfWork r → IsExactRefusal r → ⊥
+pub work_apart : (r : Refusal) → IsOfWork r → IsExactRefusal r → ⊥
 work_apart (refusals.WideVector o) w e = elim e [ inl x ↦ x | inr x ↦ x ]
 work_apart (refusals.Overflow o) w e = elim e [ inl x ↦ x | inr x ↦ x ]
 work_apart (refusals.ExponentOverflow o) w e = elim e [ inl x ↦ x | inr x ↦ x ]
@@ -48,13 +48,14 @@ work_apart (refusals.Inconsistent set multipliers) w e = elim e [ inl x ↦ x | 
 work_apart (refusals.NotAFan first second) w e = elim e [ inl x ↦ x | inr x ↦ x ]
 work_apart (refusals.BadRay number) w e = elim e [ inl x ↦ x | inr x ↦ x ]
 work_apart (refusals.BadCertificate cone) w e = elim e [ inl x ↦ x | inr x ↦ x ]
+work_apart (refusals.NotListed side index remainder) w e = elim e [ inl x ↦ x | inr x ↦ x ]
 work_apart (refusals.EmptyRegion multipliers) w e = elim e [ inl x ↦ x | inr x ↦ x ]
 work_apart (refusals.ListLimit written) w e = elim e [ inl x ↦ x | inr x ↦ x ]
 work_apart refusals.Memory w e = elim e [ inl x ↦ x | inr x ↦ x ]
 work_apart _ w e = absurd w
 
 -- a refusal of the work; of a list at its limit only where it is written as it goes
-writing_kind : {A : Type 0} (writing : Writing A) (r : Refusal) → IsOfWork r → ((most : ℕ) → r ≡ refusals.ListLimit most → GoesAlong writing) → IsOfWriting writing r
+pub writing_kind : {A : Type 0} (writing : Writing A) (r : Refusal) → IsOfWork r → ((most : ℕ) → r ≡ refusals.ListLimit most → GoesAlong writing) → IsOfWriting writing r
 writing_kind writing (refusals.WideVector o) w n = tt
 writing_kind writing (refusals.Overflow o) w n = tt
 writing_kind writing (refusals.ExponentOverflow o) w n = tt
@@ -67,6 +68,7 @@ writing_kind writing (refusals.Inconsistent set multipliers) w n = tt
 writing_kind writing (refusals.NotAFan first second) w n = tt
 writing_kind writing (refusals.BadRay number) w n = tt
 writing_kind writing (refusals.BadCertificate cone) w n = tt
+writing_kind writing (refusals.NotListed side index remainder) w n = tt
 writing_kind writing (refusals.EmptyRegion multipliers) w n = tt
 writing_kind writing (refusals.ListLimit written) w n = n written refl
 writing_kind writing refusals.Memory w n = tt

@@ -138,6 +138,7 @@ bases = record {
       ∷ (codes "certificates", choices.Flag)
       ∷ (codes "workers", choices.Number 1 most_workers)
       ∷ (codes "within", choices.File)
+      ∷ (codes "after", choices.File)
       ∷ [];
   job = λ rows. jobs.Bases (record {
     from_basis = flag_of (codes "g") rows;
@@ -146,6 +147,7 @@ bases = record {
     certificates = flag_of (codes "certificates") rows;
     workers = number_of (codes "workers") 1 rows;
     within = first_of (codes "within") rows;
+    after = first_of (codes "after") rows;
   });
 }
 

@@ -145,6 +145,7 @@ fn bases(alloc: Global, found: &ArgMatches) -> Result<Job, AllocError>
         certificates: flag(found, "certificates"),
         workers: workers(found),
         within: name_where(alloc, found, "within")?,
+        after: name_where(alloc, found, "after")?,
     }))
 }
 

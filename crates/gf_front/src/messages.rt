@@ -302,6 +302,40 @@ pub(crate) fn wide_root<E: Sink>(faults: &mut E, index: u64, value: i128) -> Res
     )
 }
 
+pub(crate) fn other_ring<E: Sink>(faults: &mut E, index: u32) -> Result<(), WriteFault>
+    ensures { Told (E.held faults.old) (E.held faults.new) (E.faults faults.old) (E.faults faults.new)
+        (message [] (Refusal.OtherRing index)) result }
+{
+    write_pieces(
+        faults,
+        &[Piece::Text("E30 other ring: name "), Piece::Index(index)],
+    )
+}
+
+pub(crate) fn not_listed<'x, E: Sink>(
+    faults: &mut E,
+    ring: &'x Ring,
+    side: u32,
+    index: u32,
+    remainder: &'x Poly,
+) -> Result<(), WriteFault>
+    requires { HasVariables (length ring.now) remainder.now }
+    ensures { Told (E.held faults.old) (E.held faults.new) (E.faults faults.old) (E.faults faults.new)
+        (message ring.now (Refusal.NotListed side index remainder.now)) result }
+{
+    write_pieces(
+        faults,
+        &[
+            Piece::Text("E31 not listed: side "),
+            Piece::Index(side),
+            Piece::Text(" polynomial "),
+            Piece::Index(index),
+            Piece::Text(" leaves "),
+            Piece::Polynomial(ring, remainder),
+        ],
+    )
+}
+
 pub(crate) fn dimensions<E: Sink>(faults: &mut E, left: u64, right: u64) -> Result<(), WriteFault>
     ensures { Told (E.held faults.old) (E.held faults.new) (E.faults faults.old) (E.faults faults.new)
         (message [] (Refusal.Dimensions left right)) result }

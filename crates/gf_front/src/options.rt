@@ -28,6 +28,8 @@ pub struct BasesOptions {
     /// `--within FILE`: the file of the vectors that are positive on each weight of the region; without it the region is that of all
     /// positive weights.
     pub within: Option<Name>,
+    /// `--after FILE`: the file of the basis behind which the list goes on; without it the list begins with its first basis.
+    pub after: Option<Name>,
 }
 
 /// The option of `_leadingterms`.

@@ -31,6 +31,7 @@ abbrev pub IsOfForm : Refusal → Type 0
 IsOfForm (refusals.NotTermOrder index) = Unit {0}
 IsOfForm (refusals.Missing section) = Unit {0}
 IsOfForm (refusals.BadVersion number) = Unit {0}
+IsOfForm (refusals.OtherRing index) = Unit {0}
 IsOfForm (refusals.Dimensions left right) = Unit {0}
 IsOfForm (refusals.ZeroPolynomial set index) = Unit {0}
 IsOfForm (refusals.NotHomogeneous polynomial first second) = Unit {0}
@@ -60,6 +61,7 @@ IsOfTest (refusals.Inconsistent set multipliers) = Unit {0}
 IsOfTest (refusals.NotAFan first second) = Unit {0}
 IsOfTest (refusals.BadRay number) = Unit {0}
 IsOfTest (refusals.BadCertificate cone) = Unit {0}
+IsOfTest (refusals.NotListed side index remainder) = Unit {0}
 IsOfTest (refusals.EmptyRegion multipliers) = Unit {0}
 IsOfTest _ = ⊥
 
@@ -84,6 +86,7 @@ IsOfWork (refusals.Inconsistent set multipliers) = Unit {0}
 IsOfWork (refusals.NotAFan first second) = Unit {0}
 IsOfWork (refusals.BadRay number) = Unit {0}
 IsOfWork (refusals.BadCertificate cone) = Unit {0}
+IsOfWork (refusals.NotListed side index remainder) = Unit {0}
 IsOfWork (refusals.EmptyRegion multipliers) = Unit {0}
 IsOfWork (refusals.ListLimit written) = Unit {0}
 IsOfWork refusals.Memory = Unit {0}

@@ -1,12 +1,13 @@
 -- Refusals of the calls, made of those of their parts, and where only memory may be wanting.
 -- To cite: step_tested, form_tested, pairs_tested, pairs_required, reduced_of_paired, terms_required, weight_only_memory,
--- test_only_memory, basis_only_memory, not_excluded, no_first, reduced_memory, reduced_only_memory, reduction_only_memory.
-use Rattle.std.specs.Prelude.{◌≡◌, ℕ, List, [], ◌∷◌, ◌++◌, map, Result, Ok, Err, IfErr}
-use Rattle.std.proofs.Common.{refl, subst}
+-- test_only_memory, basis_only_memory, not_excluded, no_first, reduced_memory, reduced_only_memory, reduction_only_memory; forms_alone, refused_alone,
+-- beside_only_memory.
+use Rattle.std.specs.Prelude.{◌≡◌, ℕ, List, [], ◌∷◌, ◌++◌, map, ℤ, Result, Ok, Err, IfErr}
+use Rattle.std.proofs.Common.{refl, sym, ap, ◌∙◌, subst}
 use Rattle.gf_poly.specs.declared.error.PolyError.{PolyError}
 use Rattle.gf_poly.specs.declared.error.PolyError.TheVariants as errors
 use Rattle.gf_poly.specs.Polynomial.{Terms}
-use Rattle.gf_poly.specs.Marking.{MarkedPolynomial, MarkedPolynomials, HaveVariables}
+use Rattle.gf_poly.specs.Marking.{MarkedPolynomial, MarkedPolynomials, Each, HaveVariables, HasMarkedTerm}
 use Rattle.gf_gordan.specs.declared.error.GordanError.{GordanError}
 use Rattle.gf_gordan.specs.declared.error.GordanError.TheVariants as gordan_errors
 use Rattle.gf_gordan.specs.Steps.{Failed}
@@ -15,11 +16,12 @@ use Rattle.gf_division.specs.Steps.{IsReductionRefusal}
 use Rattle.gf_reduced.specs.declared.error.CheckError.{CheckError}
 use Rattle.gf_reduced.specs.declared.error.CheckError.TheVariants as check_errors
 use Rattle.gf_reduced.specs.Forms.{monic_of, IsFormRefusal}
-use Rattle.gf_reduced.specs.Markings.{IsMarkingStep, IsMarkedGroebnerBasis}
+use Rattle.gf_reduced.specs.Markings.{IsMarkingStep, IsMarkedGroebnerBasis, IsRealisableBeside}
 use Rattle.gf_reduced.specs.Terms.{printed_monomials, IsOffending, NoneOffends, IsFirstOffending, AreReduced}
 use Rattle.gf_exponents.specs.Exponents.{Exponents}
-use Rattle.gf_reduced.specs.Refusals.{check_of_gordan, of_poly, IsPairsRefusal, IsPairsFault, IsTermsFault, IsSetWeightRefusal, IsTestCause, IsTestRefusal, IsRequireCause, IsPairedRefusal, IsReducedBasisRefusal, IsReducedRefusal, IsSystemWithinLimits, AreChecksWithinLimits, IsReductionWithinLimits}
+use Rattle.gf_reduced.specs.Refusals.{check_of_gordan, of_poly, IsPairsRefusal, IsPairsFault, IsTermsFault, IsSetWeightRefusal, IsTestCause, IsTestRefusal, IsRequireCause, IsPairedRefusal, IsReducedBasisRefusal, IsReducedRefusal, IsSystemWithinLimits, AreChecksWithinLimits, IsReductionWithinLimits, IsWeightRefusalBeside, IsReducedRefusalBeside, AreChecksWithinLimitsBeside}
 use Rattle.gf_reduced.proofs.GroebnerLaws.{failing_refutes}
+use Rattle.gf_reduced.proofs.WeightLaws.{realised_beside, weight_refused_alone}
 
 -- ---- the test
 
@@ -150,3 +152,67 @@ reduced_only_memory k s (Err e) v h w g q = reduced_memory k s e v w g q h
 pub reduction_only_memory : {A : Type 0} (bs : List MarkedPolynomial) (f : Terms) (t : Result A PolyError) → IfErr t (IsReductionRefusal bs f) → IsReductionWithinLimits bs f → IfErr t (λ e. e ≡ errors.Memory)
 reduction_only_memory bs f (Ok a) h w = h
 reduction_only_memory bs f (Err e) h w = w e h
+
+-- ---- with other rows beside
+
+pub forms_alone : (k : ℕ) (s : MarkedPolynomials) (d : PolyError) → IsFormRefusal s.items d → IsReducedRefusal k s (of_poly d)
+forms_alone k s (errors.Overflow o) h = IsRequireCause.monic h
+forms_alone k s (errors.Exponent o) h = absurd h
+forms_alone k s errors.Memory h = tt
+
+weight_alone : (k : ℕ) (s : MarkedPolynomials) (e : CheckError) → IsSetWeightRefusal k s e → IsReducedRefusal k s e
+weight_alone k s (check_errors.Overflow o) h = absurd h
+weight_alone k s (check_errors.Exponent o) h = absurd h
+weight_alone k s (check_errors.NotReduced set i x) h = absurd h
+weight_alone k s (check_errors.NotBasis set i j r) h = absurd h
+weight_alone k s (check_errors.Inconsistent set ms) h = h
+weight_alone k s (check_errors.Cone o) h = h
+weight_alone k s check_errors.Memory h = tt
+
+-- where no rows are beside
+pub refused_alone : (k : ℕ) (s : MarkedPolynomials) (e : CheckError) → HaveVariables s.variables s.items → Each HasMarkedTerm s.items → IsReducedRefusalBeside [] k s e → IsReducedRefusal k s e
+refused_alone k s e v m (IsReducedRefusalBeside.at_forms d h q) = subst (IsReducedRefusal k s) (sym q) (forms_alone k s d h)
+refused_alone k s e v m (IsReducedRefusalBeside.at_weight h) = weight_alone k s e (weight_refused_alone k s e v m h)
+refused_alone k s e v m (IsReducedRefusalBeside.at_terms r h) = terms_required k s s.items e refl (realised_beside s.variables [] s.items v m r) h
+refused_alone k s e v m (IsReducedRefusalBeside.at_pairs r u h) =
+    reduced_of_paired k s e (pairs_required (AreReduced s.items) k s (map monic_of s.items) e refl (realised_beside s.variables [] s.items v m r) u h)
+
+module _ (rows : List (List ℤ)) (k : ℕ) (s : MarkedPolynomials) (v : HaveVariables s.variables s.items) (w : AreChecksWithinLimitsBeside rows s) (r : IsRealisableBeside s.variables rows s.items)
+    (g : IsMarkedGroebnerBasis s.variables s.items) (a : AreReduced s.items) where
+  weight_beside_memory : (e : CheckError) → IsWeightRefusalBeside rows k s e → e ≡ check_errors.Memory
+  weight_beside_memory (check_errors.Overflow o) h = absurd h
+  weight_beside_memory (check_errors.Exponent o) h = absurd h
+  weight_beside_memory (check_errors.NotReduced set i x) h = absurd h
+  weight_beside_memory (check_errors.NotBasis set i j t) h = absurd h
+  weight_beside_memory (check_errors.Inconsistent set ms) h = absurd (h.1.none r)
+  weight_beside_memory (check_errors.Cone o) h = absurd (w.system o h)
+  weight_beside_memory check_errors.Memory h = refl
+
+  terms_beside_memory : (e : CheckError) → IsTermsFault k s.items e → e ≡ check_errors.Memory
+  terms_beside_memory (check_errors.Overflow o) h = absurd h
+  terms_beside_memory (check_errors.Exponent o) h = absurd h
+  terms_beside_memory (check_errors.NotReduced set i x) h = absurd (no_first s.items i x a h.1)
+  terms_beside_memory (check_errors.NotBasis set i j t) h = absurd h
+  terms_beside_memory (check_errors.Inconsistent set ms) h = absurd h
+  terms_beside_memory (check_errors.Cone o) h = absurd h
+  terms_beside_memory check_errors.Memory h = refl
+
+  pairs_beside_memory : (e : CheckError) → IsPairsFault k (map monic_of s.items) e → e ≡ check_errors.Memory
+  pairs_beside_memory (check_errors.Overflow o) h = let z = w.pairs (errors.Overflow o) h in absurd (cc)
+  pairs_beside_memory (check_errors.Exponent o) h = let z = w.pairs (errors.Exponent o) h in absurd (cc)
+  pairs_beside_memory (check_errors.NotReduced set i x) h = absurd h
+  pairs_beside_memory (check_errors.NotBasis set i j t) h = absurd (failing_refutes s.variables s.items i j t v h.1.first.remainder h.1.first.nonzero g)
+  pairs_beside_memory (check_errors.Inconsistent set ms) h = absurd h
+  pairs_beside_memory (check_errors.Cone o) h = absurd h
+  pairs_beside_memory check_errors.Memory h = refl
+
+  beside_memory : (e : CheckError) → IsReducedRefusalBeside rows k s e → e ≡ check_errors.Memory
+  beside_memory e (IsReducedRefusalBeside.at_forms d h q) = q ∙ ap of_poly (w.forms d h)
+  beside_memory e (IsReducedRefusalBeside.at_weight h) = weight_beside_memory e h
+  beside_memory e (IsReducedRefusalBeside.at_terms b h) = terms_beside_memory e h
+  beside_memory e (IsReducedRefusalBeside.at_pairs b u h) = pairs_beside_memory e h
+
+pub beside_only_memory : {A : Type 0} (rows : List (List ℤ)) (k : ℕ) (s : MarkedPolynomials) (t : Result A CheckError) → HaveVariables s.variables s.items → IfErr t (IsReducedRefusalBeside rows k s) → AreChecksWithinLimitsBeside rows s →
+    IsRealisableBeside s.variables rows s.items → IsMarkedGroebnerBasis s.variables s.items → AreReduced s.items → IfErr t (λ e. e ≡ check_errors.Memory)
+beside_only_memory rows k s (Ok a) v h w r g q = h
+beside_only_memory rows k s (Err e) v h w r g q = beside_memory rows k s v w r g q e h

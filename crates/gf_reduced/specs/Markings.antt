@@ -2,7 +2,7 @@
 -- its marking: by the ideal that it generates, whatever the marked coefficients are.
 -- Laws: proofs/WeightLaws.antt, proofs/GroebnerLaws.antt. Source: Fukuda, Jensen, Thomas, Computing Gröbner fans, 2; Sturmfels,
 -- Gröbner Bases and Convex Polytopes, 2 and 3.
-use Rattle.std.specs.Prelude.{◌≡◌, ℕ, List, [], ℤ, pos, ◌<ℤ◌, length, All, Contains}
+use Rattle.std.specs.Prelude.{◌≡◌, ℕ, List, [], ◌++◌, ℤ, pos, ◌<ℤ◌, length, All, Contains}
 use Rattle.gf_exponents.specs.Exponents.{Exponents}
 use Rattle.gf_poly.specs.Polynomial.{Terms}
 use Rattle.gf_poly.specs.Marking.{MarkedPolynomial, MarkedPolynomials, polys}
@@ -15,7 +15,9 @@ use Rattle.gf_ideal.specs.Membership.{IsMember, AreSameIdeal}
 use Rattle.gf_ideal.specs.Marks.{IsPositive, IsRealisedBy, IsRealisable}
 use Rattle.gf_ideal.specs.Reduction.{IsDivisible}
 use Rattle.gf_ideal.specs.Bases.{IsHeaviest, IsBasis}
-use Rattle.gf_facets.specs.Systems.{system_of}
+use Rattle.gf_facets.specs.Rows.{rows_of_polynomials}
+use Rattle.gf_facets.specs.Systems.{units, system_of}
+use Rattle.gf_facets.specs.Regions.{Region, IsInRegion}
 use Rattle.gf_facets.specs.Facets.{IsInOpenCone}
 use Rattle.gf_facets.specs.MarkedBases.{IsMarkedReducedBasis}
 
@@ -40,6 +42,36 @@ IsWeightAnswer n bs (Farkas ms es) = IsInconsistent n bs ms
 -- a step of the elimination of the marking's system
 abbrev pub IsMarkingStep : ℕ → List MarkedPolynomial → ConeOverflow → Type 0
 IsMarkingStep n bs o = IsStepOn (length (system_of n bs)) n (system_of n bs) [] o
+
+-- ---- weights on which other rows are positive, too
+
+-- the positive vectors on which each of these rows is positive, whatever the root is
+abbrev pub cut_by : List (List ℤ) → Region
+cut_by rows = record { rows = rows; root = [] }
+
+-- the rows of the marking, then these rows, then the unit vectors
+abbrev pub system_beside : ℕ → List (List ℤ) → List MarkedPolynomial → List (List ℤ)
+system_beside n rows bs = rows_of_polynomials bs ++ (rows ++ units n n)
+
+-- some positive vector, on which each of these rows is positive, gives the marks
+pub record IsRealisableBeside (n : ℕ) (rows : List (List ℤ)) (bs : List MarkedPolynomial) : Type 0 where
+  pub weight : List ℤ
+  pub inside : IsInRegion n (cut_by rows) weight
+  pub marks : IsInOpenCone weight bs
+
+-- there is none: these multipliers of the marking's rows, of these rows and of the unit vectors show it
+pub record IsInconsistentBeside (n : ℕ) (rows : List (List ℤ)) (bs : List MarkedPolynomial) (ms : List ℤ) : Type 0 where
+  pub multipliers : IsFarkas n (system_beside n rows bs) [] ms []
+  pub none : IsRealisableBeside n rows bs → ⊥
+
+-- such a vector, or such multipliers
+abbrev pub IsAnswerBeside : ℕ → List (List ℤ) → List MarkedPolynomial → Answer → Type 0
+IsAnswerBeside n rows bs (Point v) = IsInRegion n (cut_by rows) v × IsInOpenCone v bs
+IsAnswerBeside n rows bs (Farkas ms es) = IsInconsistentBeside n rows bs ms
+
+-- a step of the elimination of the marking's system with these rows
+abbrev pub IsStepBeside : ℕ → List (List ℤ) → List MarkedPolynomial → ConeOverflow → Type 0
+IsStepBeside n rows bs o = IsStepOn (length (system_beside n rows bs)) n (system_beside n rows bs) [] o
 
 -- ---- bases
 

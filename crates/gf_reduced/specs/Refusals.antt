@@ -1,5 +1,5 @@
 -- Why a marked set isn't taken, or isn't tested. Laws: proofs/RefusalLaws.antt.
-use Rattle.std.specs.Prelude.{◌≡◌, ℕ, List, map, Contains}
+use Rattle.std.specs.Prelude.{◌≡◌, ℕ, List, map, Contains, ℤ}
 use Rattle.gf_poly.specs.declared.error.PolyError.{PolyError}
 use Rattle.gf_poly.specs.declared.error.PolyError.TheVariants as errors
 use Rattle.gf_poly.specs.Polynomial.{Terms}
@@ -14,7 +14,7 @@ use Rattle.gf_division.specs.Steps.{IsReductionRefusal}
 use Rattle.gf_reduced.specs.declared.error.CheckError.{CheckError}
 use Rattle.gf_reduced.specs.declared.error.CheckError.TheVariants as check_errors
 use Rattle.gf_reduced.specs.Forms.{monic_of, IsFormRefusal}
-use Rattle.gf_reduced.specs.Markings.{IsInconsistent, IsMarkingStep}
+use Rattle.gf_reduced.specs.Markings.{IsInconsistent, IsMarkingStep, IsRealisableBeside, IsInconsistentBeside, IsStepBeside}
 use Rattle.gf_reduced.specs.Terms.{IsFirstOffending, AreReduced}
 use Rattle.gf_reduced.specs.Pairs.{IsFirstFailing}
 
@@ -108,6 +108,24 @@ abbrev pub IsReducedRefusal : ℕ → MarkedPolynomials → CheckError → Type 
 IsReducedRefusal k s (check_errors.NotReduced set i x) = (set ≡ k) × IsRealisable s.variables s.items × IsFirstOffending s.items i x
 IsReducedRefusal k s e = IsPairedRefusal (AreReduced s.items) k s e
 
+-- ---- with other rows beside
+
+-- no positive weight on which each of these rows is positive gives the marking, or a step of the elimination leaves its range
+abbrev pub IsWeightRefusalBeside : List (List ℤ) → ℕ → MarkedPolynomials → CheckError → Type 0
+IsWeightRefusalBeside rows k s (check_errors.Inconsistent set ms) = (set ≡ k) × IsInconsistentBeside s.variables rows s.items ms
+IsWeightRefusalBeside rows k s (check_errors.Cone o) = IsStepBeside s.variables rows s.items o
+IsWeightRefusalBeside rows k s check_errors.Memory = Unit {0}
+IsWeightRefusalBeside rows k s _ = ⊥
+
+-- why a set isn't taken as a reduced basis whose marking such a weight gives: the monic forms can't be had; or there is no such weight; or
+-- there is one, and a term offends, the first of these; or none does, and a pair of the monic forms has a normal form that isn't zero, the
+-- first of these; or an operation leaves its range
+pub data IsReducedRefusalBeside (rows : List (List ℤ)) (k : ℕ) (s : MarkedPolynomials) (e : CheckError) : Type 0 where
+  at_forms : (d : PolyError) → IsFormRefusal s.items d → e ≡ of_poly d → IsReducedRefusalBeside rows k s e
+  at_weight : IsWeightRefusalBeside rows k s e → IsReducedRefusalBeside rows k s e
+  at_terms : IsRealisableBeside s.variables rows s.items → IsTermsFault k s.items e → IsReducedRefusalBeside rows k s e
+  at_pairs : IsRealisableBeside s.variables rows s.items → AreReduced s.items → IsPairsFault k (map monic_of s.items) e → IsReducedRefusalBeside rows k s e
+
 -- ---- within limits
 
 -- no step of the elimination of the marking's system leaves its range
@@ -117,6 +135,12 @@ IsSystemWithinLimits s = (o : ConeOverflow) → IsMarkingStep s.variables s.item
 -- nor does an operation of making a member monic, or of the pairs of the monic ones and their reductions
 pub record AreChecksWithinLimits (s : MarkedPolynomials) : Type 0 where
   pub system : IsSystemWithinLimits s
+  pub forms : (e : PolyError) → IsFormRefusal s.items e → e ≡ errors.Memory
+  pub pairs : (e : PolyError) → IsPairsRefusal (map monic_of s.items) e → e ≡ errors.Memory
+
+-- the same where these rows are beside
+pub record AreChecksWithinLimitsBeside (rows : List (List ℤ)) (s : MarkedPolynomials) : Type 0 where
+  pub system : (o : ConeOverflow) → IsStepBeside s.variables rows s.items o → ⊥
   pub forms : (e : PolyError) → IsFormRefusal s.items e → e ≡ errors.Memory
   pub pairs : (e : PolyError) → IsPairsRefusal (map monic_of s.items) e → e ≡ errors.Memory
 

@@ -1,13 +1,14 @@
 //! Whether a marked set is a Gröbner basis for its marking, and whether it is the reduced one.
-ghost use Rattle.std.specs.Prelude.{◌≡◌, ◌↔◌, ◌<◌, ◌^◌, length, IfOk, IfErr, OnOk, IsTrue};
+ghost use Rattle.std.specs.Prelude.{◌≡◌, ◌↔◌, ◌<◌, ◌^◌, [], length, IfOk, IfErr, OnOk, IsTrue};
+ghost use Rattle.gf_gordan.specs.Alternative.{AreRows};
 ghost use Rattle.gf_poly.specs.Marking.{IsArranged};
 ghost use Rattle.gf_division.specs.NormalForms.{HasSomeWeight};
 ghost use Rattle.gf_reduced.specs.Forms.{monic_set};
-ghost use Rattle.gf_reduced.specs.Markings.{IsMarkedGroebnerBasis, IsBasisOf, IsReducedBasisOf};
+ghost use Rattle.gf_reduced.specs.Markings.{IsMarkedGroebnerBasis, IsBasisOf, IsReducedBasisOf, IsRealisableBeside};
 ghost use Rattle.gf_reduced.specs.Pairs.{MembersShareVariables};
 ghost use Rattle.gf_reduced.specs.Criteria.{AreAllPassed};
 ghost use Rattle.gf_reduced.specs.Terms.{AreReduced};
-ghost use Rattle.gf_reduced.specs.Refusals.{IsTestRefusal, IsReducedBasisRefusal, IsReducedRefusal, IsPairsFault, IsTermsFault, AreChecksWithinLimits};
+ghost use Rattle.gf_reduced.specs.Refusals.{IsTestRefusal, IsReducedBasisRefusal, IsReducedRefusal, IsReducedRefusalBeside, IsPairsFault, IsTermsFault, AreChecksWithinLimits, AreChecksWithinLimitsBeside};
 ghost use Rattle.gf_reduced.specs.declared.error.CheckError.TheVariants.{Memory};
 
 use crate::criteria::are_all_passed;
@@ -15,8 +16,9 @@ use crate::error::CheckError;
 use crate::forms::monic_forms;
 use crate::pairs::first_failing;
 use crate::terms::first_offending;
-use crate::weights::{has_weight, positive};
+use crate::weights::{has_weight, positive, positive_beside};
 use gf_poly::{Marked, MarkedSet};
+use gf_vec::IntVec;
 use std::alloc::Global;
 
 /// Whether the set is a Gröbner basis of the ideal that it generates, for its marking: some positive weight sets each marked
@@ -118,33 +120,68 @@ pub fn require_basis(alloc: Global, marked: &MarkedSet, set: u32) -> Result<Mark
     Ok(arranged)
 }
 
-/// The same set, monic and arranged, where it is the reduced Gröbner basis of its ideal for its marking.
-///
-/// There are fewer than `2^32` polynomials.
-///
-/// # Errors
-///
-/// Those of `require_basis`, and between `Inconsistent` and `NotBasis`:
-///
-/// - `NotReduced` exactly where a marked monomial divides a term of another polynomial, or an unmarked term of its own: the
-///   first polynomial with such a term, and of it the first such term, where the marked term comes first and the others
-///   follow in deglex.
-pub fn require_reduced(alloc: Global, marked: &MarkedSet, set: u32) -> Result<MarkedSet, CheckError>
-    requires { length marked.now.items < 2 ^ 32 }
+/// What `require_reduced` answers.
+fn reduced(
+    alloc: Global,
+    marked: &MarkedSet,
+    set: u32,
+    rows: &[IntVec],
+) -> Result<MarkedSet, CheckError>
+    requires few { length marked.now.items < 2 ^ 32 }
+    requires rows { AreRows marked.now.variables rows.now }
     ensures value { IfOk result (IsArranged (monic_set marked.now)) }
     ensures basis { IfOk result (IsReducedBasisOf marked.now) }
     ensures terms { IfOk result (λ _. AreReduced marked.now.items) }
-    ensures err { IfErr result (IsReducedRefusal set marked.now) }
-    ensures complete { AreChecksWithinLimits marked.now
+    ensures weight { IfOk result (λ _. IsRealisableBeside marked.now.variables rows.now marked.now.items) }
+    ensures err { IfErr result (IsReducedRefusalBeside rows.now set marked.now) }
+    ensures alone { rows.now ≡ [] → IfErr result (IsReducedRefusal set marked.now) }
+{
+    // The members have their variables.
+    let _ = marked.items();
+    let forms = monic_forms(alloc, marked)?;
+    let _ = positive_beside(alloc, marked, set, rows)?;
+    require_terms(marked.items(), set)?;
+    require_pairs(alloc, forms.items(), set)?;
+    let arranged = forms.arrange()?;
+    Ok(arranged)
+}
+
+/// The same set, monic and arranged, where it is the reduced Gröbner basis of its ideal for its marking, and some positive weight gives
+/// the marking on which each of these rows is positive.
+///
+/// There are fewer than `2^32` polynomials, and each row has an entry for each variable.
+///
+/// # Errors
+///
+/// In this order:
+///
+/// - `Overflow` where the quotient of a coefficient by the marked one leaves its range.
+/// - `Inconsistent` exactly where no such weight gives the marking, with multipliers that show it: of the marking's rows, of these rows, and
+///   then of the unit vectors. `Cone` only at a step of the elimination of the system of them all.
+/// - `NotReduced` exactly where a marked monomial divides a term of another polynomial, or an unmarked term of its own: the
+///   first polynomial with such a term, and of it the first such term, where the marked term comes first and the others
+///   follow in deglex.
+/// - `NotBasis`, `Overflow` and `Exponent` as `require_basis` has them.
+pub fn require_reduced(
+    alloc: Global,
+    marked: &MarkedSet,
+    set: u32,
+    rows: &[IntVec],
+) -> Result<MarkedSet, CheckError>
+    requires few { length marked.now.items < 2 ^ 32 }
+    requires rows { AreRows marked.now.variables rows.now }
+    ensures value { IfOk result (IsArranged (monic_set marked.now)) }
+    ensures basis { IfOk result (IsReducedBasisOf marked.now) }
+    ensures terms { IfOk result (λ _. AreReduced marked.now.items) }
+    ensures weight { IfOk result (λ _. IsRealisableBeside marked.now.variables rows.now marked.now.items) }
+    ensures err { IfErr result (IsReducedRefusalBeside rows.now set marked.now) }
+    ensures alone { rows.now ≡ [] → IfErr result (IsReducedRefusal set marked.now) }
+    ensures complete { AreChecksWithinLimitsBeside rows.now marked.now
+        → IsRealisableBeside marked.now.variables rows.now marked.now.items
         → IsMarkedGroebnerBasis marked.now.variables marked.now.items → AreReduced marked.now.items
         → IfErr result (λ e. e ≡ Memory) }
 {
     // The members have their variables.
     let _ = marked.items();
-    let forms = monic_forms(alloc, marked)?;
-    let _ = positive(alloc, marked, set)?;
-    require_terms(marked.items(), set)?;
-    require_pairs(alloc, forms.items(), set)?;
-    let arranged = forms.arrange()?;
-    Ok(arranged)
+    reduced(alloc, marked, set, rows)
 }

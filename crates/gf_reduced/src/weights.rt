@@ -1,27 +1,49 @@
 //! Whether a marking has a positive weight.
-ghost use Rattle.std.specs.Prelude.{◌≡◌, ◌↔◌, IfOk, IfErr, IsTrue};
+ghost use Rattle.std.specs.Prelude.{◌≡◌, ◌↔◌, [], IfOk, IfErr, IsTrue};
+ghost use Rattle.gf_gordan.specs.Alternative.{AreRows};
 ghost use Rattle.gf_gordan.specs.Steps.{Failed};
 ghost use Rattle.gf_poly.specs.Marking.{Each, HasMarkedTerm};
 ghost use Rattle.gf_ideal.specs.Marks.{IsRealisable};
-ghost use Rattle.gf_facets.specs.Systems.{system_of};
-ghost use Rattle.gf_reduced.specs.Markings.{GivesMarks, IsWeightAnswer, IsMarkingStep};
-ghost use Rattle.gf_reduced.specs.Refusals.{IsSetWeightRefusal, IsSystemWithinLimits};
+ghost use Rattle.gf_reduced.specs.Markings.{GivesMarks, IsWeightAnswer, IsMarkingStep, system_beside, IsRealisableBeside, IsAnswerBeside, IsStepBeside};
+ghost use Rattle.gf_reduced.specs.Refusals.{IsSetWeightRefusal, IsSystemWithinLimits, IsWeightRefusalBeside};
 ghost use Rattle.gf_reduced.specs.declared.error.CheckError.TheVariants.{Memory};
 
 use crate::error::CheckError;
-use gf_cone::{rows, with_units};
+use gf_cone::{rows, with_copies, with_units};
 use gf_gordan::{Answer, GordanError, gordans_alternative, strict};
 use gf_poly::MarkedSet;
 use gf_vec::IntVec;
 use std::alloc::{AllocError, Global};
 
-/// The rows of the marking, polynomial by polynomial, and within one in the order of its terms; then the unit vectors.
-fn system(alloc: Global, marked: &MarkedSet) -> Result<Vec<IntVec>, AllocError>
-    ensures rows { IfOk result (λ rows. rows.items ≡ system_of marked.now.variables marked.now.items) }
+/// The rows of the marking, polynomial by polynomial, and within one in the order of its terms; then these rows; then the unit vectors.
+fn system(alloc: Global, marked: &MarkedSet, beside: &[IntVec]) -> Result<Vec<IntVec>, AllocError>
+    ensures rows { IfOk result (λ all. all.items ≡ system_beside marked.now.variables beside.now marked.now.items) }
     ensures marked { IfOk result (λ _. Each HasMarkedTerm marked.now.items) }
 {
-    let all = rows(alloc, marked)?;
+    let all = with_copies(rows(alloc, marked)?, beside)?;
     with_units(alloc, all, marked.variables() as usize)
+}
+
+/// A positive weight that gives the marking and on which each of these rows is positive, or multipliers which show that there is none.
+///
+/// `Cone` only at a step of the elimination of the marking's system with these rows: its rows, these, then the unit vectors.
+fn weight_beside(
+    alloc: Global,
+    marked: &MarkedSet,
+    beside: &[IntVec],
+) -> Result<Answer, GordanError>
+    requires { AreRows marked.now.variables beside.now }
+    ensures ok { IfOk result (IsAnswerBeside marked.now.variables beside.now marked.now.items) }
+    ensures marked { IfOk result (λ _. Each HasMarkedTerm marked.now.items) }
+    ensures err { IfErr result (Failed (IsStepBeside marked.now.variables beside.now marked.now.items)) }
+{
+    // Exactly one of the two answers exists.
+    gordans_alternative();
+    // The members have their variables.
+    let _ = marked.items();
+    let all = system(alloc, marked, beside)?;
+    let answer = strict(alloc, marked.variables(), &all, &[])?;
+    Ok(answer)
 }
 
 /// A positive weight that gives the marking, or multipliers which show that there is none.
@@ -31,13 +53,9 @@ fn weight_or_none(alloc: Global, marked: &MarkedSet) -> Result<Answer, GordanErr
     ensures ok { IfOk result (IsWeightAnswer marked.now.variables marked.now.items) }
     ensures err { IfErr result (Failed (IsMarkingStep marked.now.variables marked.now.items)) }
 {
-    // Exactly one of the two answers exists.
-    gordans_alternative();
     // The members have their variables.
     let _ = marked.items();
-    let rows = system(alloc, marked)?;
-    let answer = strict(alloc, marked.variables(), &rows, &[])?;
-    Ok(answer)
+    weight_beside(alloc, marked, &[])
 }
 
 /// Whether some positive weight gives the marking.
@@ -73,6 +91,33 @@ pub fn positive(alloc: Global, marked: &MarkedSet, set: u32) -> Result<IntVec, C
         → IsSystemWithinLimits marked.now → IfErr result (λ e. e ≡ Memory) }
 {
     let answer = weight_or_none(alloc, marked)?;
+    match answer {
+        Answer::Point(vector) => Ok(vector),
+        Answer::Farkas {
+            rows: multipliers,
+            equations: _none,
+        } => Err(CheckError::Inconsistent { set, multipliers }),
+    }
+}
+
+/// A positive whole vector that gives the marking, and on which each of these rows, with an entry for each variable, is positive.
+///
+/// # Errors
+///
+/// - `Inconsistent` exactly where there is no such vector, with the number `set` and multipliers that show it, as `positive` tells them:
+///   of the marking's rows, of these rows, and then of the unit vectors.
+/// - `Cone` only at a step of the elimination of the system of them all.
+pub(crate) fn positive_beside(
+    alloc: Global,
+    marked: &MarkedSet,
+    set: u32,
+    beside: &[IntVec],
+) -> Result<IntVec, CheckError>
+    requires { AreRows marked.now.variables beside.now }
+    ensures ok { IfOk result (λ _. IsRealisableBeside marked.now.variables beside.now marked.now.items) }
+    ensures err { IfErr result (IsWeightRefusalBeside beside.now set marked.now) }
+{
+    let answer = weight_beside(alloc, marked, beside)?;
     match answer {
         Answer::Point(vector) => Ok(vector),
         Answer::Farkas {

@@ -1,5 +1,5 @@
 -- How the list of `_bases` begins, goes on, ends and is refused.
--- To cite: starts, goes_on, ends, stopped_early, stopped_tree, stopped_limit, stopped_piece, stopped_end; stopped_list,
+-- To cite: starts, goes_on, ends, stopped_early, stopped_tree, stopped_limit, stopped_piece, stopped_end, stopped_unended; first_goes_on, after_goes_on; stopped_list,
 -- stopped_root; unnamed_basis, unnamed_tree, unnamed_write, unnamed_piece, unwritten_calm, piece_calm, generators_in. The
 -- rest are steps.
 use Rattle.std.specs.Prelude.{◌≡◌, ℕ, zero, suc, ◌+◌, ◌<◌, Bool, true, false, List, [], ◌∷◌, ◌++◌, length, Option, None, Some}
@@ -27,8 +27,12 @@ use Rattle.gf_reverse.proofs.ListLaws.{own}
 use Rattle.gf_tree.specs.declared.error.TreeError.{TreeError}
 use Rattle.gf_tree.specs.declared.error.TreeError.TheVariants as tree_errors
 use Rattle.gf_tree.specs.Ideals.{ideal_within}
+use Rattle.gf_tree.specs.Parents.{IsRootFor}
+use Rattle.gf_tree.specs.Steps.{IsResumed}
+use Rattle.gf_tree.specs.Walks.{Walk, AreLeft}
+use Rattle.gf_reverse.proofs.LawsHold.{bases_make_a_tree}
 use Rattle.gf_subtree.specs.Rows.{Row, ideal_in, AreLeftIn, first_row}
-use Rattle.gf_subtree.specs.Answers.{IsNextRow, IsRowEnd, IsRefusedEarly}
+use Rattle.gf_subtree.specs.Answers.{IsNextRow, IsRowEnd, IsRefusedEarly, IsResumedAs}
 use Rattle.gf_subtree.proofs.BasisRowLaws.{start_leaves, early_moved}
 use Rattle.gf_weights.specs.declared.error.WeightError.{WeightError}
 use Rattle.gf_weights.specs.declared.error.WeightError.TheVariants as weight_errors
@@ -40,12 +44,12 @@ use Rattle.gfan.specs.declared.bases.Room.TheVariants.{Endless, Limited}
 use Rattle.gfan.specs.Buchberger.{generators_of, of_basis}
 use Rattle.gfan.specs.BasesList.{AreAllBasesIn}
 use Rattle.gfan.specs.Certificates.{IsItemTextIn, IsItemRefusalIn, of_weight_error}
-use Rattle.gfan.specs.Bases.{AreItemTextsIn, IsWithinLimit, IsBegunListIn, IsBegunTextIn, IsFullTextIn, list_text, begun_text, of_tree, IsSearchRefusedIn, IsGoingCauseIn, IsListCause, bases_command}
-use Rattle.gfan.specs.BasesWriting.{basis_piece, IsBasisWritten, IsUnwritten, IsBasisUnwritten, HasRoomFor, IsOneLess, IsFull, IsRootRefusal, StartsIn, IsListWrittenIn, IsListStoppedIn, IsUnnamed, is_none_of, IsUnderWay}
+use Rattle.gfan.specs.Bases.{AreItemTextsIn, IsWithinLimit, IsBegunListBehind, IsBegunTextBehind, list_text, begun_text, of_tree, IsSearchRefusedBehind, IsListCause, bases_command, IsGoingCauseBehind, IsFullTextBehind}
+use Rattle.gfan.specs.BasesWriting.{basis_piece, IsBasisWritten, IsUnwritten, IsBasisUnwritten, HasRoomFor, IsOneLess, IsFull, IsRootRefusal, StartsIn, GoesOnBehind, IsListWrittenBehind, IsListStoppedBehind, IsListStoppedIn, IsUnnamed, end_piece, is_none_of, IsUnderWay}
 use Rattle.gfan.specs.Refused.{without_names}
 use Rattle.gfan.specs.Performed.{IsStoppedFor}
 use Rattle.gfan.proofs.BuchbergerLaws.{in_ring}
-use Rattle.gfan.proofs.BasesListLaws.{among_left, among_right, all_bases_in}
+use Rattle.gfan.proofs.BasesListLaws.{among_left, among_right, root_marks, all_bases_in}
 use Rattle.gfan.proofs.CertificateLaws.{AllZip-append, items_exist}
 use Rattle.gfan.proofs.BasesTextLaws.{begun_next, whole_begun, prefix_on, prefix_piece, prefix_begun}
 
@@ -95,32 +99,25 @@ cut_behind (x ∷ xs) (suc k) l =
     let c = cut_behind xs k (omega arith) in
     record { front = x ∷ c.front; next = c.next; rest = c.rest; whole = ap (λ l. x ∷ l) c.whole; just = ap suc c.just }
 
-module _ (o : ListOptions) (ring : List (List ℕ)) (j : Region) (fs : List Terms) where
-  -- before the first basis
-  pub starts : (alloc : Global) (workers : ℕ) (root : MarkedPolynomials) (room : Room) (held : Option (List ℕ)) → StartsIn (length ring) j fs root → HasRoomFor o.limit room [] →
-      IsUnderWay o ring j fs (first_row alloc root j workers o.pairs) room true held held
-  starts alloc workers root room held first h = record {
+module _ (before : List MarkedPolynomials) (o : ListOptions) (ring : List (List ℕ)) (j : Region) (fs : List Terms) where
+  -- before the first of them
+  pub starts : (row : Row) (room : Room) (held : Option (List ℕ)) → GoesOnBehind before (length ring) j fs o.pairs row → HasRoomFor o.limit room [] → IsUnderWay before o ring j fs row room true held held
+  starts row room held h f = record {
     written = [];
+    rest = h.rest;
+    are_all = h.are_all;
+    left = h.left;
+    basis = h.basis;
+    pairs = h.pairs;
+    region = h.region;
+    fits = f;
     items = [];
     are_items = tt;
-    rest = finite.nodes;
-    are_all = all_bases_in (length ring) j fs root finite.nodes first finite.leaves;
-    left = start_leaves alloc root j workers o.pairs mine finite.nodes finite.leaves;
-    basis = first.node;
-    pairs = refl;
-    region = refl;
-    fits = h;
     first = refl;
     gained = Appends-nil held;
   }
-    where
-      mine : IsNode j root
-      mine = own j (ideal_within (length ring) fs j) root refl first.node
 
-      finite : IsFinite IsBefore (IsParent j) root (count j root)
-      finite = upward_finite j root mine
-
-  module _ (row : Row) (room : Room) (is_first : Bool) (held holds : Option (List ℕ)) (way : IsUnderWay o ring j fs row room is_first held holds) where
+  module _ (row : Row) (room : Room) (is_first : Bool) (held holds : Option (List ℕ)) (way : IsUnderWay before o ring j fs row room is_first held holds) where
     -- the ideal of the row is the one that is read
     same_fan : SameFan (ideal_in row) (ideal_within (length ring) fs j)
     same_fan = subst (λ (k : Region). SameFan (fan_of k row.start) (ideal_within (length ring) fs j)) (sym way.region) (back_fan (ideal_within (length ring) fs j) (fan_of j row.start) (own_fan (ideal_within (length ring) fs j) row.start way.basis))
@@ -129,7 +126,7 @@ module _ (o : ListOptions) (ring : List (List ℕ)) (j : Region) (fs : List Term
     from_row x h = node_moved (ideal_in row) (ideal_within (length ring) fs j) x same_fan h
 
     -- a refusal of the waves comes of a call at a basis of that ideal, one that is written or the next one
-    tree_cause : (e : TreeError) → ((nodes : List MarkedPolynomials) → AreLeftIn row nodes → IsRefusedEarly (ideal_in row) row.pairs nodes e) → IsSearchRefusedIn o (length ring) j fs e
+    tree_cause : (e : TreeError) → ((nodes : List MarkedPolynomials) → AreLeftIn row nodes → IsRefusedEarly (ideal_in row) row.pairs nodes e) → IsSearchRefusedBehind before o (length ring) j fs e
     tree_cause e h = record {
       written = way.written;
       rest = way.rest;
@@ -139,23 +136,23 @@ module _ (o : ListOptions) (ring : List (List ℕ)) (j : Region) (fs : List Term
     }
 
     -- what is written until now
-    begun_here : (rest : List MarkedPolynomials) → way.rest ≡ rest → IsBegunListIn o.certified ring j fs way.written rest (begun_text ring way.items)
+    begun_here : (rest : List MarkedPolynomials) → way.rest ≡ rest → IsBegunListBehind before o.certified ring j fs way.written rest (begun_text ring way.items)
     begun_here rest e = record {
-      are_all = subst (λ l. AreAllBasesIn (length ring) j fs (way.written ++ l)) e way.are_all;
+      are_all = subst (λ l. AreAllBasesIn (length ring) j fs (before ++ (way.written ++ l))) e way.are_all;
       items = way.items;
       are_items = way.are_items;
       is_text = refl;
     }
 
-    begun_now : IsBegunTextIn o ring j fs (begun_text ring way.items)
+    begun_now : IsBegunTextBehind before o ring j fs (begun_text ring way.items)
     begun_now = (way.written, way.rest, begun_here way.rest refl, room_within o.limit room way.written way.fits)
 
     module _ (new : Row) (b : MarkedPolynomials) (step : IsNextRow row new b) where
       next : (rest : List MarkedPolynomials) × (way.rest ≡ b ∷ rest) × AreLeftIn new rest
       next = step.first way.rest way.left
 
-      all_next : AreAllBasesIn (length ring) j fs (way.written ++ b ∷ next.0)
-      all_next = subst (λ l. AreAllBasesIn (length ring) j fs (way.written ++ l)) next.1 way.are_all
+      all_next : AreAllBasesIn (length ring) j fs (before ++ (way.written ++ b ∷ next.0))
+      all_next = subst (λ l. AreAllBasesIn (length ring) j fs (before ++ (way.written ++ l))) next.1 way.are_all
 
       -- a basis is of the variables of the ring
       pub step_variables : b.variables ≡ length ring
@@ -166,11 +163,11 @@ module _ (o : ListOptions) (ring : List (List ℕ)) (j : Region) (fs : List Term
           AreItemTextsIn o.certified ring j (way.written ++ b ∷ rest) (way.items ++ t ∷ ts)
       more_items t rest ts i r = AllZip-append (IsItemTextIn o.certified ring j) way.written (b ∷ rest) way.items (t ∷ ts) way.are_items (i, r)
 
-      all_with : AreAllBasesIn (length ring) j fs ((way.written ++ b ∷ []) ++ next.0)
-      all_with = subst (AreAllBasesIn (length ring) j fs) (sym (append_assoc way.written (b ∷ []) next.0)) all_next
+      all_with : AreAllBasesIn (length ring) j fs (before ++ ((way.written ++ b ∷ []) ++ next.0))
+      all_with = subst (λ l. AreAllBasesIn (length ring) j fs (before ++ l)) (sym (append_assoc way.written (b ∷ []) next.0)) all_next
 
       -- one more basis is written
-      pub goes_on : (after : Room) (then : Option (List ℕ)) → IsOneLess room after → IsBasisWritten o.certified ring j is_first b holds then → IsUnderWay o ring j fs new after false held then
+      pub goes_on : (after : Room) (then : Option (List ℕ)) → IsOneLess room after → IsBasisWritten o.certified ring j is_first b holds then → IsUnderWay before o ring j fs new after false held then
       goes_on after then less (piece, p, gained) = record {
         written = way.written ++ b ∷ [];
         rest = next.0;
@@ -192,12 +189,12 @@ module _ (o : ListOptions) (ring : List (List ℕ)) (j : Region) (fs : List Term
           none (t ∷ ts) = refl
 
       -- there is no room for it
-      pub stopped_limit : (n m : ℕ) (r : Refusal) → IsFull room r → IsListStoppedIn o ring j fs held holds n m r
+      pub stopped_limit : (n m : ℕ) (r : Refusal) → IsFull room r → IsListStoppedBehind before o ring j fs held holds n m r
       stopped_limit n m r f = at (room_full o.limit room way.written r way.fits f)
         where
-          at : IsAtLimit o.limit way.written r → IsListStoppedIn o ring j fs held holds n m r
-          at l = subst (λ z. IsListStoppedIn o ring j fs held holds n m z) (sym l.told) (
-            IsGoingCauseIn.at_limit l.most (record {
+          at : IsAtLimit o.limit way.written r → IsListStoppedBehind before o ring j fs held holds n m r
+          at l = subst (λ z. IsListStoppedBehind before o ring j fs held holds n m z) (sym l.told) (
+            IsGoingCauseBehind.at_limit l.most (record {
               is_limit = l.is_limit;
               list = way.written ++ b ∷ next.0;
               are_all = all_next;
@@ -218,17 +215,17 @@ module _ (o : ListOptions) (ring : List (List ℕ)) (j : Region) (fs : List Term
           )
 
       -- its piece isn't made: there is no memory, or its certificates are refused
-      stopped_unmade : (after : Room) (n m : ℕ) (r : Refusal) → IsOneLess room after → IsItemRefusalIn o.certified j b r → IsListStoppedIn o ring j fs held holds n m r
+      stopped_unmade : (after : Room) (n m : ℕ) (r : Refusal) → IsOneLess room after → IsItemRefusalIn o.certified j b r → IsListStoppedBehind before o ring j fs held holds n m r
       stopped_unmade after n m r less h = at o.certified r refl h
         where
-          told : (e : WeightError) → IsGoingCauseIn o (length ring) j fs (of_weight_error e) → IsListStoppedIn o ring j fs held holds n m (of_weight_error e)
+          told : (e : WeightError) → IsGoingCauseBehind before o (length ring) j fs (of_weight_error e) → IsListStoppedBehind before o ring j fs held holds n m (of_weight_error e)
           told (weight_errors.Cone x) c = (inl c, inr (begun_text ring way.items, (tt, inl c, begun_now), way.gained))
           told (weight_errors.Wide x) c = (inl c, inr (begun_text ring way.items, (tt, inl c, begun_now), way.gained))
           told weight_errors.Memory c = (inl c, inr (begun_text ring way.items, (tt, inl c, begun_now), way.gained))
 
-          at : (k : Bool) (r : Refusal) → o.certified ≡ k → IsItemRefusalIn k j b r → IsListStoppedIn o ring j fs held holds n m r
-          at false r e q = subst (IsListStoppedIn o ring j fs held holds n m) (sym q) (inr refl, inr (begun_text ring way.items, (tt, inr refl, begun_now), way.gained))
-          at true r e (w, u, q) = subst (IsListStoppedIn o ring j fs held holds n m) (sym q) (told w (IsGoingCauseIn.at_certificates (record {
+          at : (k : Bool) (r : Refusal) → o.certified ≡ k → IsItemRefusalIn k j b r → IsListStoppedBehind before o ring j fs held holds n m r
+          at false r e q = subst (IsListStoppedBehind before o ring j fs held holds n m) (sym q) (inr refl, inr (begun_text ring way.items, (tt, inr refl, begun_now), way.gained))
+          at true r e (w, u, q) = subst (IsListStoppedBehind before o ring j fs held holds n m) (sym q) (told w (IsGoingCauseBehind.at_certificates (record {
             certified = e;
             written = way.written;
             basis = b;
@@ -240,14 +237,14 @@ module _ (o : ListOptions) (ring : List (List ℕ)) (j : Region) (fs : List Term
 
       -- what stands for the bases behind it
       later : (ts : List (List ℕ)) × AreItemTextsIn o.certified ring j next.0 ts
-      later = items_exist o.certified (length ring) ring j fs next.0 (λ x k. all_next.only x (among_right way.written (b ∷ next.0) x (inr k)))
+      later = items_exist o.certified (length ring) ring j fs next.0 (λ x k. all_next.only x (among_right before (way.written ++ b ∷ next.0) x (among_right way.written (b ∷ next.0) x (inr k))))
 
       -- a prefix of it is written: of the text of the whole list, where that isn't longer than the limit
       cut_whole : (then : Option (List ℕ)) (t : List ℕ) → IsItemTextIn o.certified ring j b t → AppendsPrefix holds then (basis_piece ring (is_none_of way.items) t) →
-          IsWithinLimit o.limit (way.written ++ b ∷ next.0) → (text : List ℕ) × IsFullTextIn o ring j fs text × AppendsPrefix held then text
+          IsWithinLimit o.limit (way.written ++ b ∷ next.0) → (text : List ℕ) × IsFullTextBehind before o ring j fs text × AppendsPrefix held then text
       cut_whole then t i p few = (
         list_text ring (way.items ++ t ∷ later.0),
-        IsFullTextIn.to_its_end (record {
+        IsFullTextBehind.to_its_end (record {
           list = way.written ++ b ∷ next.0;
           are_all = all_next;
           few = few;
@@ -260,16 +257,16 @@ module _ (o : ListOptions) (ring : List (List ℕ)) (j : Region) (fs : List Term
 
       -- or of its beginning with as many bases as the limit lets through
       cut_limited : (then : Option (List ℕ)) (t : List ℕ) (most k : ℕ) → IsItemTextIn o.certified ring j b t → AppendsPrefix holds then (basis_piece ring (is_none_of way.items) t) →
-          o.limit ≡ Some most → length way.written + suc k ≡ most → IsCutBehind next.0 k → (text : List ℕ) × IsFullTextIn o ring j fs text × AppendsPrefix held then text
+          o.limit ≡ Some most → length way.written + suc k ≡ most → IsCutBehind next.0 k → (text : List ℕ) × IsFullTextBehind before o ring j fs text × AppendsPrefix held then text
       cut_limited then t most k i p is_limit room c = (
         begun_text ring (way.items ++ t ∷ behind.0),
-        IsFullTextIn.to_the_limit most (record {
+        IsFullTextBehind.to_the_limit most (record {
           is_limit = is_limit;
           written = way.written ++ b ∷ c.front;
           next = c.next;
           rest = c.rest;
           begun = record {
-            are_all = subst (AreAllBasesIn (length ring) j fs) (ap (λ l. way.written ++ b ∷ l) c.whole ∙ sym (append_assoc way.written (b ∷ c.front) (c.next ∷ c.rest))) all_next;
+            are_all = subst (λ l. AreAllBasesIn (length ring) j fs (before ++ l)) (ap (λ l. way.written ++ b ∷ l) c.whole ∙ sym (append_assoc way.written (b ∷ c.front) (c.next ∷ c.rest))) all_next;
             items = way.items ++ t ∷ behind.0;
             are_items = more_items t c.front behind.0 i behind.1;
             is_text = refl;
@@ -281,13 +278,13 @@ module _ (o : ListOptions) (ring : List (List ℕ)) (j : Region) (fs : List Term
         where
           behind : (ts : List (List ℕ)) × AreItemTextsIn o.certified ring j c.front ts
           behind = items_exist o.certified (length ring) ring j fs c.front
-              (λ x k. all_next.only x (among_right way.written (b ∷ next.0) x (inr (subst (λ l. Among l x) (sym c.whole) (among_left c.front (c.next ∷ c.rest) x k)))))
+              (λ x k. all_next.only x (among_right before (way.written ++ b ∷ next.0) x (among_right way.written (b ∷ next.0) x (inr (subst (λ l. Among l x) (sym c.whole) (among_left c.front (c.next ∷ c.rest) x k))))))
 
       cut_prefix : (after : Room) (then : Option (List ℕ)) (t : List ℕ) → IsOneLess room after → IsItemTextIn o.certified ring j b t → AppendsPrefix holds then (basis_piece ring (is_none_of way.items) t) →
-          (text : List ℕ) × IsFullTextIn o ring j fs text × AppendsPrefix held then text
+          (text : List ℕ) × IsFullTextBehind before o ring j fs text × AppendsPrefix held then text
       cut_prefix after then t less i p = at o.limit refl room after way.fits less
         where
-          at : (limit : Option ℕ) → o.limit ≡ limit → (room after : Room) → HasRoomFor limit room way.written → IsOneLess room after → (text : List ℕ) × IsFullTextIn o ring j fs text × AppendsPrefix held then text
+          at : (limit : Option ℕ) → o.limit ≡ limit → (room after : Room) → HasRoomFor limit room way.written → IsOneLess room after → (text : List ℕ) × IsFullTextBehind before o ring j fs text × AppendsPrefix held then text
           at None e room after h l = cut_whole then t i p (subst (λ x. IsWithinLimit x (way.written ++ b ∷ next.0)) (sym e) tt)
           at (Some most) e Endless after h l = absurd h
           at (Some most) e (Limited limit left) Endless h l = absurd l
@@ -297,20 +294,20 @@ module _ (o : ListOptions) (ring : List (List ℕ)) (j : Region) (fs : List Term
           ]
 
       -- its piece isn't made, or isn't written whole
-      pub stopped_piece : (after : Room) (then : Option (List ℕ)) (n m : ℕ) (r : Refusal) → IsOneLess room after → IsBasisUnwritten o.certified ring j is_first b holds then n m r → IsListStoppedIn o ring j fs held then n m r
-      stopped_piece after then n m r less (IsBasisUnwritten.unmade same calm h) = subst (λ z. IsListStoppedIn o ring j fs held z n m r) (sym same) (stopped_unmade after n m r less h)
+      pub stopped_piece : (after : Room) (then : Option (List ℕ)) (n m : ℕ) (r : Refusal) → IsOneLess room after → IsBasisUnwritten o.certified ring j is_first b holds then n m r → IsListStoppedBehind before o ring j fs held then n m r
+      stopped_piece after then n m r less (IsBasisUnwritten.unmade same calm h) = subst (λ z. IsListStoppedBehind before o ring j fs held z n m r) (sym same) (stopped_unmade after n m r less h)
       stopped_piece after then n m r less (IsBasisUnwritten.cut piece p u) = at r u
         where
-          at : (r : Refusal) → IsUnwritten holds then n m piece r → IsListStoppedIn o ring j fs held then n m r
+          at : (r : Refusal) → IsUnwritten holds then n m piece r → IsListStoppedBehind before o ring j fs held then n m r
           at refusals.WriteFault u = (u.0, cut_prefix after then p.item less p.is_item (subst (λ f. AppendsPrefix holds then (basis_piece ring f p.item)) way.first (subst (AppendsPrefix holds then) p.is_piece u.1)))
           at refusals.Memory u = (inr refl, inr (begun_text ring way.items, (tt, inr refl, begun_now), Appends-kept held holds then (begun_text ring way.items) way.gained u.0))
           at _ u = absurd u
 
     -- the next basis is refused
-    pub stopped_tree : (n m : ℕ) (e : TreeError) → ((nodes : List MarkedPolynomials) → AreLeftIn row nodes → IsRefusedEarly (ideal_in row) row.pairs nodes e) → IsListStoppedIn o ring j fs held holds n m (of_tree e)
-    stopped_tree n m e h = at e (IsGoingCauseIn.in_tree e (tree_cause e h) refl)
+    pub stopped_tree : (n m : ℕ) (e : TreeError) → ((nodes : List MarkedPolynomials) → AreLeftIn row nodes → IsRefusedEarly (ideal_in row) row.pairs nodes e) → IsListStoppedBehind before o ring j fs held holds n m (of_tree e)
+    stopped_tree n m e h = at e (IsGoingCauseBehind.in_tree e (tree_cause e h) refl)
       where
-        at : (e : TreeError) → IsGoingCauseIn o (length ring) j fs (of_tree e) → IsListStoppedIn o ring j fs held holds n m (of_tree e)
+        at : (e : TreeError) → IsGoingCauseBehind before o (length ring) j fs (of_tree e) → IsListStoppedBehind before o ring j fs held holds n m (of_tree e)
         at (tree_errors.Overflow x) c = (inl c, inr (begun_text ring way.items, (tt, inl c, begun_now), way.gained))
         at (tree_errors.Exponent x) c = (inl c, inr (begun_text ring way.items, (tt, inl c, begun_now), way.gained))
         at (tree_errors.PairBudget basis unsettled) c = (inl c, inr (begun_text ring way.items, (tt, inl c, begun_now), way.gained))
@@ -319,18 +316,17 @@ module _ (o : ListOptions) (ring : List (List ℕ)) (j : Region) (fs : List Term
 
     -- nothing is left: all bases are written
     module _ (new : Row) (end : IsRowEnd row new) where
-      all_written : AreAllBasesIn (length ring) j fs way.written
-      all_written = subst (AreAllBasesIn (length ring) j fs) (ap (λ l. way.written ++ l) (end.none way.rest way.left) ∙ append-nil way.written) way.are_all
+      all_written : AreAllBasesIn (length ring) j fs (before ++ way.written)
+      all_written = subst (λ l. AreAllBasesIn (length ring) j fs (before ++ l)) (ap (λ l. way.written ++ l) (end.none way.rest way.left) ∙ append-nil way.written) way.are_all
 
-      whole : list_text ring way.items ≡ begun_text ring way.items ++ 125 ∷ 10 ∷ []
-      whole = at way.written way.items all_written way.are_items
+      whole : list_text ring way.items ≡ begun_text ring way.items ++ end_piece ring is_first
+      whole = at way.items ∙ ap (λ f. begun_text ring way.items ++ end_piece ring f) (sym way.first)
         where
-          at : (ws : List MarkedPolynomials) (ts : List (List ℕ)) → AreAllBasesIn (length ring) j fs ws → AreItemTextsIn o.certified ring j ws ts → list_text ring ts ≡ begun_text ring ts ++ 125 ∷ 10 ∷ []
-          at [] ts all z = absurd all.listed
-          at (w ∷ ws) [] all z = absurd z
-          at (w ∷ ws) (t ∷ ts) all z = ap (λ l. list_text ring (t ∷ l)) (sym (append-nil ts)) ∙ whole_begun ring t ts []
+          at : (ts : List (List ℕ)) → list_text ring ts ≡ begun_text ring ts ++ end_piece ring (is_none_of ts)
+          at [] = refl
+          at (t ∷ ts) = ap (λ l. list_text ring (t ∷ l)) (sym (append-nil ts)) ∙ whole_begun ring t ts []
 
-      pub ends : (then : Option (List ℕ)) → Appends holds then (125 ∷ 10 ∷ []) → IsListWrittenIn o ring j fs held then
+      pub ends : (then : Option (List ℕ)) → Appends holds then (end_piece ring is_first) → IsListWrittenBehind before o ring j fs held then
       ends then closing = (
         list_text ring way.items,
         record {
@@ -341,16 +337,16 @@ module _ (o : ListOptions) (ring : List (List ℕ)) (j : Region) (fs : List Term
           are_items = way.are_items;
           is_text = refl;
         },
-        subst (Appends held then) (sym whole) (Appends-trans held holds then (begun_text ring way.items) (125 ∷ 10 ∷ []) way.gained closing),
+        subst (Appends held then) (sym whole) (Appends-trans held holds then (begun_text ring way.items) (end_piece ring is_first) way.gained closing),
       )
 
       -- its end isn't written whole
-      pub stopped_end : (then : Option (List ℕ)) (n m : ℕ) (r : Refusal) → IsUnwritten holds then n m (125 ∷ 10 ∷ []) r → IsListStoppedIn o ring j fs held then n m r
+      pub stopped_end : (then : Option (List ℕ)) (n m : ℕ) (r : Refusal) → IsUnwritten holds then n m (end_piece ring is_first) r → IsListStoppedBehind before o ring j fs held then n m r
       stopped_end then n m refusals.WriteFault u = (
         u.0,
         (
           list_text ring way.items,
-          IsFullTextIn.to_its_end (record {
+          IsFullTextBehind.to_its_end (record {
             list = way.written;
             are_all = all_written;
             few = room_within o.limit room way.written way.fits;
@@ -358,15 +354,70 @@ module _ (o : ListOptions) (ring : List (List ℕ)) (j : Region) (fs : List Term
             are_items = way.are_items;
             is_text = refl;
           }),
-          prefix_on held holds then (begun_text ring way.items) (125 ∷ 10 ∷ []) [] (list_text ring way.items) way.gained u.1 (whole ∙ sym (append-nil (begun_text ring way.items ++ 125 ∷ 10 ∷ []))),
+          prefix_on held holds then (begun_text ring way.items) (end_piece ring is_first) [] (list_text ring way.items) way.gained u.1 (whole ∙ sym (append-nil (begun_text ring way.items ++ end_piece ring is_first))),
         ),
       )
       stopped_end then n m refusals.Memory u = (inr refl, inr (begun_text ring way.items, (tt, inr refl, begun_now), Appends-kept held holds then (begun_text ring way.items) way.gained u.0))
       stopped_end then n m _ u = absurd u
 
+      -- the piece isn't made
+      pub stopped_unended : (n m : ℕ) (r : Refusal) → r ≡ refusals.Memory → IsListStoppedBehind before o ring j fs held holds n m r
+      stopped_unended n m r e = subst (λ z. IsListStoppedBehind before o ring j fs held holds n m z) (sym e) (inr refl, inr (begun_text ring way.items, (tt, inr refl, begun_now), way.gained))
+
   -- there is no memory before anything is written
-  pub stopped_early : (held : Option (List ℕ)) (n m : ℕ) (r : Refusal) → r ≡ refusals.Memory → IsListStoppedIn o ring j fs held held n m r
-  stopped_early held n m r e = subst (λ z. IsListStoppedIn o ring j fs held held n m z) (sym e) (inr refl, inl (Keeps-refl held))
+  pub stopped_early : (held : Option (List ℕ)) (n m : ℕ) (r : Refusal) → r ≡ refusals.Memory → IsListStoppedBehind before o ring j fs held held n m r
+  stopped_early held n m r e = subst (λ z. IsListStoppedBehind before o ring j fs held held n m z) (sym e) (inr refl, inl (Keeps-refl held))
+
+-- ---- where a row goes on
+
+-- below its root a list is behind none
+pub first_goes_on : (n : ℕ) (k : Region) (fs : List Terms) (budget : ℕ) (alloc : Global) (workers : ℕ) (root : MarkedPolynomials) → StartsIn n k fs root → GoesOnBehind [] n k fs budget (first_row alloc root k workers budget)
+first_goes_on n k fs budget alloc workers root first = record {
+  rest = finite.nodes;
+  are_all = all_bases_in n k fs root finite.nodes first finite.leaves;
+  left = start_leaves alloc root k workers budget mine finite.nodes finite.leaves;
+  basis = first.node;
+  pairs = refl;
+  region = refl;
+}
+  where
+    mine : IsNode k root
+    mine = own k (ideal_within n fs k) root refl first.node
+
+    finite : IsFinite IsBefore (IsParent k) root (count k root)
+    finite = upward_finite k root mine
+
+-- behind a basis it is behind those up to that
+pub after_goes_on : (n : ℕ) (k : Region) (fs : List Terms) (budget : ℕ) (b root : MarkedPolynomials) (walk : Walk) (number : ℕ) (row : Row) → StartsIn n k fs root → IsNodeIn (ideal_within n fs k) b →
+    IsResumed k b budget walk → IsResumedAs walk number row → (front : List MarkedPolynomials) × GoesOnBehind (front ++ b ∷ []) n k fs budget row
+after_goes_on n k fs budget b root walk number row first node resumed row_is = (
+  goes.0,
+  record {
+    rest = goes.1;
+    are_all = subst (AreAllBasesIn n k fs) (goes.2 ∙ sym (append_assoc goes.0 (b ∷ []) goes.1)) (all_bases_in n k fs root finite.nodes first finite.leaves);
+    left = row_is.list goes.1 goes.3;
+    basis = subst (IsNodeIn (ideal_within n fs k)) (sym (row_is.start ∙ resumed.here)) node;
+    pairs = row_is.pairs ∙ resumed.pairs;
+    region = row_is.region ∙ resumed.region;
+  },
+)
+  where
+    mine : IsNode k root
+    mine = own k (ideal_within n fs k) root refl first.node
+
+    finite : IsFinite IsBefore (IsParent k) root (count k root)
+    finite = upward_finite k root mine
+
+    is_root : IsRootFor k b root
+    is_root = record {
+      basis = node_moved (ideal_within n fs k) (fan_of k b) root (own_fan (ideal_within n fs k) b node) first.node;
+      own = mine;
+      is_root = (bases_make_a_tree.root k root mine).1 (root_marks n k fs root first mine);
+      by_root = root_marks n k fs root first mine;
+    }
+
+    goes : (front : List MarkedPolynomials) × (rest : List MarkedPolynomials) × (finite.nodes ≡ front ++ b ∷ rest) × AreLeft walk rest
+    goes = resumed.goes_on root is_root finite.nodes finite.leaves
 
 -- ---- a set of generators
 

@@ -1,5 +1,5 @@
 -- The list of all bases in a region, from the basis by its root and then lex on, or by degree and then lex; and what such a list has.
--- To cite: among_left, among_right, given_in_node, node_given_in, given_node, node_given, first_node, first_own, first_top, first_in, start_in, own_start_in, start_moved, own_start,
+-- To cite: among_left, among_right, given_in_node, node_given_in, given_node, node_given, first_node, first_own, first_top, first_in, start_in, root_marks, own_start_in, start_moved, own_start,
 -- start_of_root, all_bases_in, all_bases_from, weights_are_served, regions_are_served. The rest are steps.
 use Rattle.std.specs.Prelude.{◌≡◌, ◌⊎◌, ℕ, zero, suc, ◌≤◌, Bool, true, List, [], ◌∷◌, ◌++◌, length, replicate, Contains, All, ℤ, pos, ◌<ℤ◌}
 use Rattle.std.proofs.Common.{arith, refl, sym, ap, ◌∙◌, subst, inl, inr}
@@ -176,7 +176,7 @@ pub start_in : (n : ℕ) (fs : List Terms) (root : MarkedPolynomials) → Starts
 start_in n fs root s = first_in n fs root s.inside s.first.variables s.first.reduced s.first.arranged
 
 -- its marks are those of the root
-root_marks : (n : ℕ) (k : Region) (fs : List Terms) (root : MarkedPolynomials) → StartsIn n k fs root → IsNode k root → IsReducedBasisFor root.variables (polys root.items) (IsWeightedBelow (gains k.root)) root.items
+pub root_marks : (n : ℕ) (k : Region) (fs : List Terms) (root : MarkedPolynomials) → StartsIn n k fs root → IsNode k root → IsReducedBasisFor root.variables (polys root.items) (IsWeightedBelow (gains k.root)) root.items
 root_marks n k fs root s mine =
     (marked_bases_are_reduced.at_order (MonomialOrder.weighted (gains k.root)) root.variables (polys root.items) root.items mine.fan.ideal (record { reduced = mine.basis.reduced; arranged = mine.basis.arranged })).1 s.by_root.basis.marked
 

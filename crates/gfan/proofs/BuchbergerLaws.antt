@@ -129,6 +129,7 @@ not_taken o ring set weight p x y (IsUnanswered.no_memory m) = cc
 abbrev IsOfChecks : Refusal → Type 0
 IsOfChecks (refusals.NotReduced s p t) = Unit {0}
 IsOfChecks (refusals.NotBasis s i j r) = Unit {0}
+IsOfChecks (refusals.NotListed side index remainder) = Unit {0}
 IsOfChecks _ = ⊥
 
 no_check : (e : BasisError) → IsOfChecks (of_basis e) → ⊥
@@ -146,6 +147,10 @@ no_form revlex n weight fs (refusals.NotBasis s i j r) (inl h) k = h
 no_form revlex n weight fs (refusals.NotBasis s i j r) (inr (l, inl h)) k = h
 no_form revlex n weight fs (refusals.NotBasis s i j r) (inr (l, inr (d, inl h))) k = h
 no_form revlex n weight fs (refusals.NotBasis s i j r) (inr (l, inr (d, inr (w, h)))) k = h
+no_form revlex n weight fs (refusals.NotListed s i r) (inl h) k = h
+no_form revlex n weight fs (refusals.NotListed s i r) (inr (l, inl h)) k = h
+no_form revlex n weight fs (refusals.NotListed s i r) (inr (l, inr (d, inl h))) k = h
+no_form revlex n weight fs (refusals.NotListed s i r) (inr (l, inr (d, inr (w, h)))) k = h
 no_form revlex n weight fs _ h k = k
 
 not_of_checks : (o : Options) (ring : List (List ℕ)) (set : List Written) (weight : Option (List ℤ)) (r : Refusal) → IsUnanswered (buchberger_command o) (ring, (set, weight)) r → IsOfChecks r → ⊥
@@ -159,4 +164,5 @@ named_job o ring set weight (refusals.NotHomogeneous p x y) v h = λ lent is.
     (lent_names ring x lent is variables.0, lent_names ring y lent is variables.1)
 named_job o ring set weight (refusals.NotReduced s p t) v h = absurd (not_of_checks o ring set weight (refusals.NotReduced s p t) h tt)
 named_job o ring set weight (refusals.NotBasis s i j r) v h = absurd (not_of_checks o ring set weight (refusals.NotBasis s i j r) h tt)
+named_job o ring set weight (refusals.NotListed s i r) v h = absurd (not_of_checks o ring set weight (refusals.NotListed s i r) h tt)
 named_job o ring set weight _ v h = λ lent is. tt

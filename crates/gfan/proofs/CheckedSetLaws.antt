@@ -1,5 +1,5 @@
 -- What is answered for a marked set, and why a marked set isn't taken: each reason is told in one way, with the ring of the set.
--- To cite: verdict-of, of_this_ring, named_test, named_check, named_numbers, check_refused, marked_answered; check_work, check_not_listed, poly_numbers, poly_untested,
+-- To cite: lent_terms, lent_monomial, printed_length, failing_once, offending_once; verdict-of, of_this_ring, named_test, named_check, named_numbers, check_refused, marked_answered; check_work, check_not_listed, poly_numbers, poly_untested,
 -- test_cause_untested, paired_once, paired_refutes; reduced_refutes, reduced_once, named_reduced. The rest are steps.
 use Rattle.std.specs.Prelude.{◌≡◌, ◌≢◌, ◌↔◌, ◌⊎◌, ℕ, ◌<◌, ◌≤◌, Bool, true, false, if◌then◌else◌, List, [], ◌∷◌, ◌++◌, length, map, IsTrue, Option, None, Some}
 use Rattle.std.specs.Borrow.{Bor}
@@ -53,7 +53,7 @@ of_this_ring k ks source ring v e r read p q h =
     let told : IsOfSource source (record { refusal = r; ring = Some ring }) = record { named = h; ring = (read.read.behind, read.read.one) } in
     subst (IsOfSource source) (λ i. record { refusal = sym p i; ring = sym q i }) told
 
-lent_terms : (ring : List (List ℕ)) (f : Terms) (lent : Option (Bor (List (List ℕ)))) → option_copied lent ≡ Some ring → HasVariables (length ring) f → AreNamed lent f
+pub lent_terms : (ring : List (List ℕ)) (f : Terms) (lent : Option (Bor (List (List ℕ)))) → option_copied lent ≡ Some ring → HasVariables (length ring) f → AreNamed lent f
 lent_terms ring f None e h = let p : None ≡ Some ring = e in cc
 lent_terms ring f (Some b) e h = let p : Some b.now ≡ Some ring = e in let q : b.now ≡ ring = cc in subst (λ (names : List (List ℕ)). HasVariables (length names) f) (sym q) h
 
@@ -167,7 +167,7 @@ module _ (n : ℕ) (bs : List MarkedPolynomial) (v : HaveVariables n bs) where
       at (inr m) (inl o) = absurd (vanish_apart i l t q.remainder q.nonzero (p.before l q.later o))
       at (inr m) (inr o) = omega arith
 
-  failing_once : (i j k l : ℕ) (r t : Terms) → IsFirstFailing bs i j r → IsFirstFailing bs k l t → (k ≡ i) × (l ≡ j) × (t ≡ r)
+  pub failing_once : (i j k l : ℕ) (r t : Terms) → IsFirstFailing bs i j r → IsFirstFailing bs k l t → (k ≡ i) × (l ≡ j) × (t ≡ r)
   failing_once i j k l r t p q =
       let first = first_once i j k l r t p q in
       let other = subst (λ z. IsFirstFailingWith bs z l t) first q.first in
@@ -234,7 +234,7 @@ offending_first bs i k x y p q = at (cases_lt i k) (cases_lt k i)
     at (inr m) (inl o) = absurd (before k i y x q p o)
     at (inr m) (inr o) = omega arith
 
-offending_once : (bs : List MarkedPolynomial) (i k : ℕ) (x y : Exponents) → IsFirstOffending bs i x → IsFirstOffending bs k y → (k ≡ i) × (y ≡ x)
+pub offending_once : (bs : List MarkedPolynomial) (i k : ℕ) (x y : Exponents) → IsFirstOffending bs i x → IsFirstOffending bs k y → (k ≡ i) × (y ≡ x)
 offending_once bs i k x y p q = (e, along p.first other)
   where
     e : k ≡ i
@@ -300,10 +300,10 @@ other_lengths n h (t ∷ f) v = at (same t.mono h) (other_lengths n h f v.1)
     at true r = r
     at false r = (v.0, r)
 
-printed_length : (n : ℕ) (b : MarkedPolynomial) (earlier later : List Exponents) (x : Exponents) → IsKeptMember n b → printed_monomials b ≡ earlier ++ x ∷ later → length x ≡ n
+pub printed_length : (n : ℕ) (b : MarkedPolynomial) (earlier later : List Exponents) (x : Exponents) → IsKeptMember n b → printed_monomials b ≡ earlier ++ x ∷ later → length x ≡ n
 printed_length n b earlier later x v e = each_middle (λ (y : Exponents). length y ≡ n) earlier later x (subst (Each (λ (y : Exponents). length y ≡ n)) e (v.1, other_lengths n b.head b.poly v.0))
 
-lent_monomial : (ring : List (List ℕ)) (x : Exponents) (lent : Option (Bor (List (List ℕ)))) → option_copied lent ≡ Some ring → length x ≡ length ring → IsNamed lent x
+pub lent_monomial : (ring : List (List ℕ)) (x : Exponents) (lent : Option (Bor (List (List ℕ)))) → option_copied lent ≡ Some ring → length x ≡ length ring → IsNamed lent x
 lent_monomial ring x None e h = let p : None ≡ Some ring = e in cc
 lent_monomial ring x (Some b) e h = let p : Some b.now ≡ Some ring = e in let q : b.now ≡ ring = cc in subst (λ (names : List (List ℕ)). length x ≡ length names) (sym q) h
 

@@ -35,7 +35,7 @@ use Rattle.gfan.specs.MigrateFan.{migrate_fan_command}
 use Rattle.gfan.specs.declared.bases.ListOptions.{ListOptions}
 use Rattle.gfan.specs.declared.told_cone.ConeOptions.{ConeOptions}
 use Rattle.gfan.specs.Within.{bases_within_command, given_within_command}
-use Rattle.gfan.specs.Commands.{options, list_options, cone_options, plain_command, list_command, within_command, bases_of, command_of, ReadsInputAlone}
+use Rattle.gfan.specs.Commands.{options, list_options, cone_options, plain_command, list_command, within_command, bases_of, list_of, command_of, ReadsInputAlone}
 use Rattle.gfan.proofs.CheckedSetLaws.{check_not_listed, test_cause_untested}
 use Rattle.gfan.proofs.WeightVectorLaws.{weight_vector_exact, weight_vector_tested, unweighed_not_listed}
 use Rattle.gfan.proofs.GroebnerConeLaws.{cone_exact, cone_tested, cone_not_listed}
@@ -45,6 +45,7 @@ use Rattle.gfan.proofs.TropicalLaws.{tropical_exact, tropical_tested, tropical_n
 use Rattle.gfan.proofs.BasisTestLaws.{intersection_lawful, intersection_source}
 use Rattle.gfan.proofs.ToolLaws.{mark_polynomial_set_exact, initial_forms_exact, homogenize_exact, polynomial_set_union_exact, stats_exact, homogenize_not_listed, gordan_not_listed, homogenize_untested, gordan_untested}
 use Rattle.gfan.proofs.ExactLaws.{buchberger_exact, marked_exact, containment_exact, leading_exact, bases_exact, given_exact, basis_not_listed, basis_untested, list_untested, memory_untested, containment_tested, given_tested}
+use Rattle.gfan.proofs.AfterCommandLaws.{after_lawful}
 use Rattle.gfan.proofs.WithinLaws.{within_exact, within_tested, given_within_exact, given_within_tested}
 use Rattle.gfan.proofs.CommonRefinementLaws.{refinement_lawful}
 use Rattle.gfan.proofs.MigrateFanLaws.{migrate_fan_exact, migrate_fan_tested, migration_not_listed}
@@ -96,12 +97,17 @@ bases_lawful : (within : Option (List ℕ)) (from_basis : Bool) (o : ListOptions
 bases_lawful None from_basis o = list_lawful from_basis o
 bases_lawful (Some name) from_basis o = within_lawful name from_basis o
 
+-- behind a basis, too
+listed_lawful : (after within : Option (List ℕ)) (from_basis : Bool) (o : ListOptions) → IsLawful (list_of after within from_basis o)
+listed_lawful None within from_basis o = bases_lawful within from_basis o
+listed_lawful (Some after) within from_basis o = after_lawful from_basis within after o
+
 pub lawful : (job : Job) → IsLawful (command_of job)
 lawful (jobs.Plain k) = plain_lawful k
 lawful (jobs.Buchberger o) =
     let c = buchberger_command (options o) in
     sound_lawful c (buchberger_exact (options o)) (untested c (λ v r t h. basis_untested h.0 (subst IsOfTest h.1 t))) (λ h. h) (λ t. t) (λ a m w. basis_not_listed w.0 m w.1)
-lawful (jobs.Bases o) = bases_lawful o.within o.from_basis (list_options o)
+lawful (jobs.Bases o) = listed_lawful o.after o.within o.from_basis (list_options o)
 lawful (jobs.LeadingTerms o) = leading_lawful o.listed
 lawful (jobs.WeightVector o) = weight_lawful o.listed o.echoed
 lawful (jobs.GroebnerCone o) = cone_lawful o.vector_input (cone_options o)
@@ -141,12 +147,17 @@ bases_not_once None true o w = w
 bases_not_once (Some name) false o w = w
 bases_not_once (Some name) true o w = w
 
+-- behind a basis, too
+pub listed_not_once : (after within : Option (List ℕ)) (from_basis : Bool) (o : ListOptions) → WritesOnce (list_of after within from_basis o).writing → ⊥
+listed_not_once None within from_basis o w = bases_not_once within from_basis o w
+listed_not_once (Some after) within from_basis o w = w
+
 -- a job that writes once and isn't one on files, or that reads nothing, reads the input alone
 pub one_source : (job : Job) → WritesOnce (command_of job).writing → ((o : FanCommonRefinementOptions) → job ≡ jobs.FanCommonRefinement o → ⊥) → ((o : GeneratedOptions) → job ≡ jobs.Generated o → ⊥) → ReadsInputAlone job
 one_source (jobs.FanCommonRefinement o) w n m = absurd (n o refl)
 one_source (jobs.Generated o) w n m = absurd (m o refl)
 one_source (jobs.Plain k) w n m = plain_source k
-one_source (jobs.Bases o) w n m = absurd (bases_not_once o.within o.from_basis (list_options o) w)
+one_source (jobs.Bases o) w n m = absurd (listed_not_once o.after o.within o.from_basis (list_options o) w)
 one_source (jobs.LeadingTerms o) w n m = leading_source o.listed
 one_source (jobs.WeightVector o) w n m = weight_source o.listed o.echoed
 one_source (jobs.TropicalIntersection o) w n m = intersection_source o.basis_test

@@ -1,6 +1,6 @@
 -- Commands whose refusals are each told in one way.
 -- To cite: buchberger_exact, marked_exact, containment_exact, leading_exact, bases_exact, given_exact, containment_tested, given_tested;
--- basis_work, going_work, going_within_in, basis_not_listed, basis_untested, going_untested_in, list_untested, memory_untested. The rest are steps.
+-- basis_work, going_work, going_within_in, basis_not_listed, basis_untested, going_untested_in, list_untested, past_limit, memory_untested. The rest are steps.
 use Rattle.std.specs.Prelude.{◌≡◌, ℕ, ◌<◌, Bool, true, false, List, [], ◌∷◌, length, Err, Option, None, Some}
 use Rattle.std.proofs.Common.{arith, refl, sym, ap, ◌∙◌, subst, inl}
 use Rattle.gf_exponents.specs.SixOrders.{MonomialOrder}
@@ -25,7 +25,7 @@ use Rattle.gf_frame.proofs.SoundLaws.{IsExactCommand, IsTestedCommand}
 use Rattle.gfan.specs.declared.buchberger.Options.{Options}
 use Rattle.gfan.specs.declared.bases.ListOptions.{ListOptions}
 use Rattle.gfan.specs.Certificates.{of_weight_error}
-use Rattle.gfan.specs.Bases.{IsWithinLimit, of_tree, IsGoingCause, IsGoingCauseIn, IsGoingWithin, IsListCause, AreCertifiedWithin, IsListWithin, bases_command}
+use Rattle.gfan.specs.Bases.{IsWithinLimit, of_tree, IsGoingCause, IsGoingCauseIn, IsGoingWithin, IsListCause, AreCertifiedWithin, IsListWithin, bases_command, IsGoingCauseBehind}
 use Rattle.gfan.specs.GivenBasis.{IsGivenListCause, IsGivenListWithin, given_bases_command}
 use Rattle.gfan.specs.BasesList.{AreAllBases}
 use Rattle.gfan.specs.Buchberger.{generators_of, asked_order, of_basis, buchberger_command}
@@ -97,22 +97,22 @@ leading_exact true = record {
 -- ---- `_bases`
 
 pub going_work : (o : ListOptions) (n : ℕ) (k : Region) (fs : List Terms) (r : Refusal) → IsGoingCauseIn o n k fs r → IsOfWork r
-going_work o n k fs r (IsGoingCauseIn.in_tree e h q) = subst IsOfWork (sym q) (tree_work e)
-going_work o n k fs r (IsGoingCauseIn.at_limit most h q) = subst IsOfWork (sym q) tt
-going_work o n k fs r (IsGoingCauseIn.at_certificates c) = subst IsOfWork (sym c.uncertified.2) (weight_work c.uncertified.0)
+going_work o n k fs r (IsGoingCauseBehind.in_tree e h q) = subst IsOfWork (sym q) (tree_work e)
+going_work o n k fs r (IsGoingCauseBehind.at_limit most h q) = subst IsOfWork (sym q) tt
+going_work o n k fs r (IsGoingCauseBehind.at_certificates c) = subst IsOfWork (sym c.uncertified.2) (weight_work c.uncertified.0)
 
 list_work : (o : ListOptions) (n : ℕ) (fs : List Terms) (r : Refusal) → IsListCause o n fs r → IsOfWork r
 list_work o n fs r (IsListCause.at_root e h q) = subst IsOfWork (sym q) (basis_work e)
 list_work o n fs r (IsListCause.going h) = going_work o n (all_positive n) fs r h
 
-past_limit : (limit : Option ℕ) (most : ℕ) (list : List MarkedPolynomials) → limit ≡ Some most → most < length list → IsWithinLimit limit list → ⊥
+pub past_limit : (limit : Option ℕ) (most : ℕ) (list : List MarkedPolynomials) → limit ≡ Some most → most < length list → IsWithinLimit limit list → ⊥
 past_limit None most list e l w = cc
 past_limit (Some n) most list e l w = let same : n ≡ most = cc in omega arith
 
 pub going_within_in : (o : ListOptions) (n : ℕ) (k : Region) (fs : List Terms) (r : Refusal) → IsGoingWithin o n k fs → IsGoingCauseIn o n k fs r → r ≡ refusals.Memory
-going_within_in o n k fs r w (IsGoingCauseIn.in_tree e h q) = q ∙ ap of_tree (within_memory (ideal_within n fs k) o.pairs e w.tree (early_refused (ideal_within n fs k) o.pairs h.rest e h.early))
-going_within_in o n k fs r w (IsGoingCauseIn.at_limit most h q) = absurd (past_limit o.limit most h.list h.is_limit h.longer (w.few h.list h.are_all))
-going_within_in o n k fs r w (IsGoingCauseIn.at_certificates c) =
+going_within_in o n k fs r w (IsGoingCauseBehind.in_tree e h q) = q ∙ ap of_tree (within_memory (ideal_within n fs k) o.pairs e w.tree (early_refused (ideal_within n fs k) o.pairs h.rest e h.early))
+going_within_in o n k fs r w (IsGoingCauseBehind.at_limit most h q) = absurd (past_limit o.limit most h.list h.is_limit h.longer (w.few h.list h.are_all))
+going_within_in o n k fs r w (IsGoingCauseBehind.at_certificates c) =
     c.uncertified.2 ∙ ap of_weight_error (w.certificates c.certified c.basis (c.are_all.only c.basis (among_right c.written (c.basis ∷ c.rest) c.basis (inl refl))) c.uncertified.0 c.uncertified.1)
 
 going_within : (o : ListOptions) (n : ℕ) (fs : List Terms) (r : Refusal) → IsTreeWithinLimits (ideal_by n fs) o.pairs → ((list : List MarkedPolynomials) → AreAllBases n fs list → IsWithinLimit o.limit list) →
@@ -160,9 +160,9 @@ basis_untested (basis_errors.PairBudget b u) t = t
 basis_untested basis_errors.Memory t = t
 
 pub going_untested_in : (o : ListOptions) (n : ℕ) (k : Region) (fs : List Terms) (r : Refusal) → IsOfTest r → IsGoingCauseIn o n k fs r → ⊥
-going_untested_in o n k fs r t (IsGoingCauseIn.in_tree e h q) = tree_untested e (subst IsOfTest q t)
-going_untested_in o n k fs r t (IsGoingCauseIn.at_limit most h q) = subst IsOfTest q t
-going_untested_in o n k fs r t (IsGoingCauseIn.at_certificates c) = weight_untested c.uncertified.0 (subst IsOfTest c.uncertified.2 t)
+going_untested_in o n k fs r t (IsGoingCauseBehind.in_tree e h q) = tree_untested e (subst IsOfTest q t)
+going_untested_in o n k fs r t (IsGoingCauseBehind.at_limit most h q) = subst IsOfTest q t
+going_untested_in o n k fs r t (IsGoingCauseBehind.at_certificates c) = weight_untested c.uncertified.0 (subst IsOfTest c.uncertified.2 t)
 
 pub list_untested : (o : ListOptions) (n : ℕ) (fs : List Terms) (r : Refusal) → IsOfTest r → IsListCause o n fs r → ⊥
 list_untested o n fs r t (IsListCause.at_root e h q) = basis_untested e (subst IsOfTest q t)

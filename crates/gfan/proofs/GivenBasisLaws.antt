@@ -1,6 +1,6 @@
 -- The list of `_bases -g`: a marked Gröbner basis is reduced and taken up to the root; and why it isn't written.
 -- To cite: few_members, reducible, reduced_from, reduced_own, root_starts, way_from, not_reduced, root_starts_at, way_of_set; given_performed, given_stopped_root,
--- given_stopped_memory, given_stopped_list, named_root, root_no_limit, way_in_tree; tree_work, tree_untested; given_work, root_work, reducing_only, root_within, root_past, root_tested,
+-- given_stopped_memory, given_stopped_list, named_root, root_no_limit, way_in_tree; tree_work, tree_numbers, tree_untested, tree_no_limit, named_tree, read_variables; given_work, root_work, reducing_only, root_within, root_past, root_tested,
 -- root_once, given_once, given_refuses. The rest are steps.
 use Rattle.std.specs.Prelude.{◌≡◌, ◌⊎◌, ℕ, List, [], ◌∷◌, length, map, Contains, Option, Some, Err}
 use Rattle.std.specs.Io.KnownBytes.{Keeps}
@@ -53,7 +53,7 @@ use Rattle.gf_frame.specs.Commands.{IsUnanswered, IsRefusedOn}
 use Rattle.gf_frame.specs.Runs.{IsStoppedOn}
 use Rattle.gf_frame.proofs.WorkLaws.{nothing_but_limit}
 use Rattle.gfan.specs.declared.bases.ListOptions.{ListOptions}
-use Rattle.gfan.specs.Bases.{of_tree, IsGoingCause, IsGoingCauseIn}
+use Rattle.gfan.specs.Bases.{of_tree, IsGoingCause, IsGoingCauseBehind}
 use Rattle.gfan.specs.BasesWriting.{StartsAt, IsListWrittenIn, IsListBegunIn, IsListStoppedIn}
 use Rattle.gfan.specs.CheckedSets.{of_check}
 use Rattle.gfan.specs.GivenBasis.{IsReducedFrom, IsReducingRefusal, IsGivenRootRefusal, IsGivenListCause, IsGivenListWithin, IsGivenListPast, given_bases_command}
@@ -139,7 +139,7 @@ module _ (s u : MarkedPolynomials) (v : HaveVariables s.variables s.items) (f : 
 
 -- ---- the command
 
-named_tree : (ring : List (List ℕ)) (e : TreeError) → IsNamedBy (Some ring) (of_tree e)
+pub named_tree : (ring : List (List ℕ)) (e : TreeError) → IsNamedBy (Some ring) (of_tree e)
 named_tree ring (tree_errors.Overflow x) = λ lent is. tt
 named_tree ring (tree_errors.Exponent x) = λ lent is. tt
 named_tree ring (tree_errors.PairBudget basis unsettled) = λ lent is. tt
@@ -147,7 +147,7 @@ named_tree ring (tree_errors.Cone x) = λ lent is. tt
 named_tree ring tree_errors.Memory = λ lent is. tt
 
 -- the set of a source has its variables
-read_variables : (source : List ℕ) (v : List (List ℕ) × MarkedPolynomials) → IsTextOf ring_marked_set source v → HaveVariables v.1.variables v.1.items
+pub read_variables : (source : List ℕ) (v : List (List ℕ) × MarkedPolynomials) → IsTextOf ring_marked_set source v → HaveVariables v.1.variables v.1.items
 read_variables source v read = marked_kept v.0 (from source read.read.behind) read.end v.1 read.read.two
 
 pub named_root : (source : List ℕ) (ring : List (List ℕ)) (s : MarkedPolynomials) (pairs : ℕ) (r : Refusal) → IsTextOf ring_marked_set source (ring, s) → IsGivenRootRefusal s pairs r → IsNamedBy (Some ring) r
@@ -158,7 +158,7 @@ named_root source ring s pairs r read (IsGivenRootRefusal.on_the_way u e g f h q
 check_no_limit : (e : CheckError) (most : ℕ) → of_check e ≡ refusals.ListLimit most → ⊥
 check_no_limit e most q = check_not_listed e most (sym q)
 
-tree_no_limit : (e : TreeError) (most : ℕ) → of_tree e ≡ refusals.ListLimit most → ⊥
+pub tree_no_limit : (e : TreeError) (most : ℕ) → of_tree e ≡ refusals.ListLimit most → ⊥
 tree_no_limit (tree_errors.Overflow x) most q = cc
 tree_no_limit (tree_errors.Exponent x) most q = cc
 tree_no_limit (tree_errors.PairBudget basis unsettled) most q = cc
@@ -212,7 +212,7 @@ tree_work (tree_errors.PairBudget b u) = tt
 tree_work (tree_errors.Cone s) = tt
 tree_work tree_errors.Memory = tt
 
-tree_numbers : (e : TreeError) → IsOfNumbers (of_tree e)
+pub tree_numbers : (e : TreeError) → IsOfNumbers (of_tree e)
 tree_numbers (tree_errors.Overflow o) = tt
 tree_numbers (tree_errors.Exponent o) = tt
 tree_numbers (tree_errors.PairBudget b u) = tt
@@ -233,9 +233,9 @@ root_work s pairs r (IsGivenRootRefusal.on_the_way u e g f h q) = subst IsOfWork
 
 pub given_work : (o : ListOptions) (n : ℕ) (s : MarkedPolynomials) (r : Refusal) → IsGivenListCause o n s r → IsOfWork r
 given_work o n s r (IsGivenListCause.at_root h) = root_work s o.pairs r h
-given_work o n s r (IsGivenListCause.going g (IsGoingCauseIn.in_tree e h q)) = subst IsOfWork (sym q) (tree_work e)
-given_work o n s r (IsGivenListCause.going g (IsGoingCauseIn.at_limit most h q)) = subst IsOfWork (sym q) tt
-given_work o n s r (IsGivenListCause.going g (IsGoingCauseIn.at_certificates c)) = subst IsOfWork (sym c.uncertified.2) (weight_work c.uncertified.0)
+given_work o n s r (IsGivenListCause.going g (IsGoingCauseBehind.in_tree e h q)) = subst IsOfWork (sym q) (tree_work e)
+given_work o n s r (IsGivenListCause.going g (IsGoingCauseBehind.at_limit most h q)) = subst IsOfWork (sym q) tt
+given_work o n s r (IsGivenListCause.going g (IsGoingCauseBehind.at_certificates c)) = subst IsOfWork (sym c.uncertified.2) (weight_work c.uncertified.0)
 
 -- a refusal on the way up is one of a search over the bases of the ideal
 pub way_in_tree : (s u : MarkedPolynomials) (pairs : ℕ) (e : TreeError) → HaveVariables s.variables s.items → IsReducedFrom s u → IsWayRefused (all_positive s.variables) pairs u e →
@@ -273,9 +273,9 @@ root_tested s pairs r v t (IsGivenRootRefusal.at_tails u d b a h q) g = poly_unt
 root_tested s pairs r v t (IsGivenRootRefusal.on_the_way u e b f h q) g = tree_untested e (subst IsOfTest q t)
 
 going_untested : (o : ListOptions) (n : ℕ) (s : MarkedPolynomials) (r : Refusal) → IsOfTest r → IsGoingCause o n (polys s.items) r → ⊥
-going_untested o n s r t (IsGoingCauseIn.in_tree e h q) = tree_untested e (subst IsOfTest q t)
-going_untested o n s r t (IsGoingCauseIn.at_limit most h q) = subst IsOfTest q t
-going_untested o n s r t (IsGoingCauseIn.at_certificates c) = weight_untested c.uncertified.0 (subst IsOfTest c.uncertified.2 t)
+going_untested o n s r t (IsGoingCauseBehind.in_tree e h q) = tree_untested e (subst IsOfTest q t)
+going_untested o n s r t (IsGoingCauseBehind.at_limit most h q) = subst IsOfTest q t
+going_untested o n s r t (IsGoingCauseBehind.at_certificates c) = weight_untested c.uncertified.0 (subst IsOfTest c.uncertified.2 t)
 
 given_refutes : (o : ListOptions) (n : ℕ) (s : MarkedPolynomials) (r : Refusal) → HaveVariables s.variables s.items → IsOfTest r → IsGivenListCause o n s r → IsMarkedGroebnerBasis s.variables s.items → ⊥
 given_refutes o n s r v t (IsGivenListCause.at_root h) g = root_tested s o.pairs r v t h g

@@ -20,6 +20,7 @@ pub mod MigrateFanLaws  -- the fan of a text, in the version 2
 pub mod RefusedLaws  -- which refusals are told without a ring
 pub mod BasesListLaws  -- the list of all bases, and what it has
 pub mod OneListLaws  -- an ideal has one list of all bases
+pub mod PartsLaws  -- parts of a list make it up
 pub mod CertificateLaws  -- what stands for a basis is one text, and what its certificates show
 pub mod WeightVectorLaws  -- the weights of sets
 pub mod BasesTextLaws  -- pieces that follow one another are the text of the list
@@ -31,10 +32,15 @@ pub mod ExactLaws  -- refusals of each command are told in one way
 pub mod SummaryLaws  -- how a list is summed up
 pub mod SaturationLaws  -- what `_saturation` answers, and why it doesn't
 pub mod BasisTestLaws  -- whether polynomials are a tropical basis, and why that is not told
+pub mod AfterLaws  -- the basis that a list goes on behind is taken, and listed below the root, in one way
+pub mod AfterCommandLaws  -- `_bases --after` is lawful, and its refusals are told with the names of the ring
+pub mod AfterWritingLaws  -- what `_bases --after` does with its texts
 pub mod CommandLaws  -- the command of each job is lawful
 pub mod GivingWeightsLaws  -- the weights that `_weightvector` writes give the bases that it read
 pub mod OneTextLaws  -- what `_bases` writes for a source is one text
 pub mod LimitLaws  -- where the list goes on past its limit
+pub mod AfterLimitLaws  -- where the list behind a basis does
+pub mod PastLaws  -- a job whose list does
 pub mod ServedLaws  -- what the answer of `_bases` has
 pub mod PerformedLaws  -- what a command does with its texts
 pub mod SourceLaws  -- what a job is handed, from the texts of its sources

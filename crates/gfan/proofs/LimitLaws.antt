@@ -1,5 +1,5 @@
 -- Where the list of `_bases` goes on past its limit, and nothing that the job may do leaves its limits, the limit is told.
--- To cite: past_refused, past_unanswered. The rest are steps.
+-- To cite: IsAtLimitOrMemory, one_limit, within_most, bases_refused, bases_unanswered. The rest are steps.
 use Rattle.std.specs.Prelude.{◌≡◌, ◌⊎◌, ℕ, ◌<◌, ◌≤◌, Bool, true, false, List, [], ◌∷◌, ◌++◌, length, Err, Option, None, Some, ℤ}
 use Rattle.std.proofs.Common.{arith, refl, sym, ap, ◌∙◌, subst, inl, inr, length-append}
 use Rattle.gf_exponents.specs.Orders.{gains}
@@ -15,8 +15,6 @@ use Rattle.gf_buchberger.specs.Bases.{AreRunsWithinLimits}
 use Rattle.gf_buchberger.proofs.BasesOfRuns.{if_within}
 use Rattle.gf_weights.specs.Roots.{IsRegionOf}
 use Rattle.gf_weights.proofs.RegionLaws.{regions_are_one}
-use Rattle.gf_front.specs.declared.command_line.Job.{Job}
-use Rattle.gf_front.specs.declared.command_line.Job.TheVariants as jobs
 use Rattle.gf_front.specs.declared.refusal.Refusal.{Refusal}
 use Rattle.gf_front.specs.declared.refusal.Refusal.TheVariants as refusals
 use Rattle.gf_items.specs.Items.{Item, IsTextOf, IsTextRefused, from}
@@ -33,13 +31,13 @@ use Rattle.gfan.specs.declared.bases.ListOptions.{ListOptions}
 use Rattle.gfan.specs.Certificates.{of_weight_error}
 use Rattle.gf_facets.specs.Regions.{Region, IsRegion, all_positive}
 use Rattle.gf_facets.proofs.SystemLaws.{all_positive-region}
-use Rattle.gfan.specs.Bases.{IsWithinLimit, of_tree, IsPastLimit, IsPastLimitIn, IsGoingCause, IsGoingCauseIn, IsGoingPast, IsGoingPastIn, IsListCause, IsListPast, bases_command}
+use Rattle.gfan.specs.Bases.{IsWithinLimit, of_tree, IsPastLimit, IsPastLimitIn, IsGoingCause, IsGoingCauseIn, IsGoingPast, IsGoingPastIn, IsListCause, IsListPast, bases_command, IsGoingCauseBehind}
 use Rattle.gfan.specs.GivenBasis.{IsGivenListCause, IsGivenListPast, given_bases_command}
 use Rattle.gfan.specs.BasesList.{AreAllBasesIn, AreAllBases}
 use Rattle.gfan.specs.Buchberger.{generators_of, of_basis}
 use Rattle.gfan.specs.ToolForms.{for_each}
 use Rattle.gfan.specs.Within.{of_region, IsTextWithin, IsCauseWithin, IsPastWithin, IsGivenRegionRootRefusal, IsGivenStartRefusal, IsGivenCauseWithin, IsGivenPastWithin, bases_within_command, given_within_command}
-use Rattle.gfan.specs.Commands.{list_options, list_command, within_command, bases_of, command_of, AreTextsPast, AreTextsPastWithin, AreTextsPastIn, IsPastReach}
+use Rattle.gfan.specs.Commands.{list_command, within_command, bases_of, AreTextsPast, AreTextsPastWithin, AreTextsPastIn}
 use Rattle.gfan.proofs.ToolFormLaws.{each_check}
 use Rattle.gfan.proofs.WithinLaws.{rows_hold}
 use Rattle.gfan.proofs.GivenBasisLaws.{reducing_only, root_past}
@@ -49,22 +47,22 @@ use Rattle.gfan.proofs.OneTextLaws.{read_variables, given_variables}
 
 -- ---- the work is refused at the limit, or for want of memory
 
-abbrev IsAtLimitOrMemory : ℕ → Refusal → Type 0
+abbrev pub IsAtLimitOrMemory : ℕ → Refusal → Type 0
 IsAtLimitOrMemory most r = (r ≡ refusals.ListLimit most) ⊎ (r ≡ refusals.Memory)
 
-one_limit : (limit : Option ℕ) (a b : ℕ) → limit ≡ Some a → limit ≡ Some b → a ≡ b
+pub one_limit : (limit : Option ℕ) (a b : ℕ) → limit ≡ Some a → limit ≡ Some b → a ≡ b
 one_limit limit a b p q = cc
 
-within_most : (limit : Option ℕ) (most : ℕ) (list : List MarkedPolynomials) → limit ≡ Some most → IsWithinLimit limit list → length list ≤ most
+pub within_most : (limit : Option ℕ) (most : ℕ) (list : List MarkedPolynomials) → limit ≡ Some most → IsWithinLimit limit list → length list ≤ most
 within_most None most list e w = cc
 within_most (Some n) most list e w = let same : n ≡ most = cc in omega arith
 
 -- from the first basis on
 pub going_past_in : (o : ListOptions) (n : ℕ) (k : Region) (fs : List Terms) (most : ℕ) (r : Refusal) → AreInVariables n fs → IsRegion n k → IsGoingPastIn o n k fs most → IsGoingCauseIn o n k fs r → IsAtLimitOrMemory most r
-going_past_in o n k fs most r v g w (IsGoingCauseIn.in_tree e h q) =
+going_past_in o n k fs most r v g w (IsGoingCauseBehind.in_tree e h q) =
     inr (q ∙ ap of_tree (w.calls h.written h.rest e (one_list_in n k fs w.past.list (h.written ++ h.rest) v g w.past.are_all h.are_all) (within_most o.limit most h.written w.past.is_limit h.few) h.early))
-going_past_in o n k fs most r v g w (IsGoingCauseIn.at_limit m h q) = inl (q ∙ ap (λ z. refusals.ListLimit z) (one_limit o.limit m most h.is_limit w.past.is_limit))
-going_past_in o n k fs most r v g w (IsGoingCauseIn.at_certificates c) =
+going_past_in o n k fs most r v g w (IsGoingCauseBehind.at_limit m h q) = inl (q ∙ ap (λ z. refusals.ListLimit z) (one_limit o.limit m most h.is_limit w.past.is_limit))
+going_past_in o n k fs most r v g w (IsGoingCauseBehind.at_certificates c) =
     let few : length (c.written ++ c.basis ∷ []) ≤ most = within_most o.limit most (c.written ++ c.basis ∷ []) w.past.is_limit c.few in
     let short : length c.written < most = omega (arith, few, length-append c.written (c.basis ∷ [])) in
     inr (c.uncertified.2 ∙ ap of_weight_error (w.certificates c.written c.rest c.basis (one_list_in n k fs w.past.list (c.written ++ c.basis ∷ c.rest) v g w.past.are_all c.are_all) short c.certified c.uncertified.0 c.uncertified.1))
@@ -187,13 +185,9 @@ within_refused name true o (file ∷ (source ∷ [])) most d p h = given_within_
 within_refused name false o (file ∷ (source ∷ (other ∷ others))) most d p h = absurd p.3
 within_refused name true o (file ∷ (source ∷ (other ∷ others))) most d p h = absurd p.3
 
-bases_refused : (within : Option (List ℕ)) (from_basis : Bool) (o : ListOptions) (texts : List (List ℕ)) (most : ℕ) (d : Refusal) → AreTextsPastIn within from_basis o texts most → IsRefusedOn (bases_of within from_basis o) texts d → IsAtLimitOrMemory most d
+pub bases_refused : (within : Option (List ℕ)) (from_basis : Bool) (o : ListOptions) (texts : List (List ℕ)) (most : ℕ) (d : Refusal) → AreTextsPastIn within from_basis o texts most → IsRefusedOn (bases_of within from_basis o) texts d → IsAtLimitOrMemory most d
 bases_refused None from_basis o texts most d p h = list_refused from_basis o texts most d p h
 bases_refused (Some name) from_basis o texts most d p h = within_refused name from_basis o texts most d p h
-
-pub past_refused : (job : Job) (texts : List (List ℕ)) (most : ℕ) (d : Refusal) → IsPastReach job texts most → IsRefusedOn (command_of job) texts d → (d ≡ refusals.ListLimit most) ⊎ (d ≡ refusals.Memory)
-past_refused (jobs.Bases o) texts most d p h = bases_refused o.within o.from_basis (list_options o) texts most d p h
-past_refused _ texts most d p h = absurd p
 
 -- ---- and it isn't answered
 
@@ -245,10 +239,6 @@ within_unanswered name true o (file ∷ (source ∷ [])) most text p a =
 within_unanswered name false o (file ∷ (source ∷ (other ∷ others))) most text p a = p.3
 within_unanswered name true o (file ∷ (source ∷ (other ∷ others))) most text p a = p.3
 
-bases_unanswered : (within : Option (List ℕ)) (from_basis : Bool) (o : ListOptions) (texts : List (List ℕ)) (most : ℕ) (text : List ℕ) → AreTextsPastIn within from_basis o texts most → IsAnswered (bases_of within from_basis o) texts text → ⊥
+pub bases_unanswered : (within : Option (List ℕ)) (from_basis : Bool) (o : ListOptions) (texts : List (List ℕ)) (most : ℕ) (text : List ℕ) → AreTextsPastIn within from_basis o texts most → IsAnswered (bases_of within from_basis o) texts text → ⊥
 bases_unanswered None from_basis o texts most text p a = list_unanswered from_basis o texts most text p a
 bases_unanswered (Some name) from_basis o texts most text p a = within_unanswered name from_basis o texts most text p a
-
-pub past_unanswered : (job : Job) (texts : List (List ℕ)) (most : ℕ) (text : List ℕ) → IsPastReach job texts most → IsAnswered (command_of job) texts text → ⊥
-past_unanswered (jobs.Bases o) texts most text p a = bases_unanswered o.within o.from_basis (list_options o) texts most text p a
-past_unanswered _ texts most text p a = p

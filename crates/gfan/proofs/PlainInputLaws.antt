@@ -75,7 +75,7 @@ use Rattle.gfan.specs.declared.bases.ListOptions.{ListOptions}
 use Rattle.gfan.specs.Buchberger.{generators_of, of_basis, form, buchberger_command}
 use Rattle.gfan.specs.CheckedSets.{of_check}
 use Rattle.gfan.specs.Certificates.{of_weight_error}
-use Rattle.gfan.specs.Bases.{of_tree, IsSearchRefusedIn, IsGoingCauseIn, IsListCause, bases_command}
+use Rattle.gfan.specs.Bases.{of_tree, IsSearchRefusedIn, IsGoingCauseIn, IsGoingCauseBehind, IsListCause, bases_command}
 use Rattle.gfan.specs.GivenBasis.{IsReducedFrom, IsReducingRefusal, IsGivenRootRefusal, IsGivenListCause, given_bases_command}
 use Rattle.gfan.specs.Generated.{list_to, IsSummaryCause, generated_command}
 use Rattle.gf_exponents.specs.Orders.{gains}
@@ -83,8 +83,8 @@ use Rattle.gf_weights.specs.declared.region.RegionError.{RegionError}
 use Rattle.gf_weights.specs.declared.region.RegionError.TheVariants as region_errors
 use Rattle.gfan.specs.ToolForms.{for_each}
 use Rattle.gfan.specs.Within.{of_region, IsCauseWithin, IsGivenRegionRootRefusal, IsGivenStartRefusal, IsGivenCauseWithin, bases_within_command, given_within_command}
-use Rattle.gfan.specs.Commands.{options, list_options, list_command, bases_of, command_of}
-use Rattle.gfan.specs.PlainInputs.{IsPlainList, BeginsPlainly, IsOnBinomials}
+use Rattle.gfan.specs.Commands.{options, list_options, list_command, bases_of, list_of, command_of}
+use Rattle.gfan.specs.PlainInputs.{IsPlainList, BeginsPlainly, IsOnBinomials, IsPlainFrom}
 use Rattle.gfan.proofs.ReadSetLaws.{IsKeptMember, marked_kept, one_kept}
 use Rattle.gfan.proofs.BasesListLaws.{given_node}
 use Rattle.gfan.proofs.GivenBasisLaws.{way_in_tree}
@@ -127,9 +127,9 @@ search_never : (o : ListOptions) (n : ℕ) (k : Region) (fs : List Terms) (e : T
 search_never o n k fs e x never h q = tree_never (ideal_within n fs k) o.pairs e x (λ y. never y o.pairs) (early_refused (ideal_within n fs k) o.pairs h.rest e h.early) q
 
 going_never : (o : ListOptions) (n : ℕ) (k : Region) (fs : List Terms) (x : Overflow) → ((o : Overflow) (pairs : ℕ) → IsTreeRefusal (ideal_within n fs k) pairs (tree_errors.Overflow o) → ⊥) → IsGoingCauseIn o n k fs (refusals.Overflow x) → ⊥
-going_never o n k fs x never (IsGoingCauseIn.in_tree e h q) = search_never o n k fs e x never h q
-going_never o n k fs x never (IsGoingCauseIn.at_limit most h q) = cc
-going_never o n k fs x never (IsGoingCauseIn.at_certificates c) = no_weight c.uncertified.0 x c.uncertified.2
+going_never o n k fs x never (IsGoingCauseBehind.in_tree e h q) = search_never o n k fs e x never h q
+going_never o n k fs x never (IsGoingCauseBehind.at_limit most h q) = cc
+going_never o n k fs x never (IsGoingCauseBehind.at_certificates c) = no_weight c.uncertified.0 x c.uncertified.2
 
 list_never : (o : ListOptions) (n : ℕ) (fs : List Terms) (x : Overflow) → AreBinomials fs → IsListCause o n fs (refusals.Overflow x) → ⊥
 list_never o n fs x b (IsListCause.at_root e h q) = basis_never MonomialOrder.deglex n fs o.pairs e x b h q
@@ -347,12 +347,17 @@ bases_of_never (Some name) false o (file ∷ (source ∷ [])) x b h = within_nev
 bases_of_never (Some name) true o (file ∷ (source ∷ [])) x b h = given_within_never source b name o file x h
 bases_of_never (Some name) from_basis o (file ∷ (source ∷ (other ∷ others))) x b h = b
 
+-- a list from its first basis on
+list_of_never : (after within : Option (List ℕ)) (from_basis : Bool) (o : ListOptions) (texts : List (List ℕ)) (x : Overflow) → IsPlainFrom after within texts → IsRefusedOn (list_of after within from_basis o) texts (refusals.Overflow x) → ⊥
+list_of_never None within from_basis o texts x b h = bases_of_never within from_basis o texts x b h
+list_of_never (Some after) within from_basis o texts x b h = b
+
 -- no job on such a source is refused so
 job_never : (job : Job) (texts : List (List ℕ)) (x : Overflow) → IsOnBinomials job texts → IsRefusedOn (command_of job) texts (refusals.Overflow x) → ⊥
 job_never (jobs.Buchberger o) [] x b h = b
 job_never (jobs.Buchberger o) (source ∷ []) x b h = buchberger_never source b (options o) x h
 job_never (jobs.Buchberger o) (source ∷ (other ∷ others)) x b h = b
-job_never (jobs.Bases o) texts x b h = bases_of_never o.within o.from_basis (list_options o) texts x b h
+job_never (jobs.Bases o) texts x b h = list_of_never o.after o.within o.from_basis (list_options o) texts x b h
 job_never (jobs.Generated o) texts x b h = generated_never o.number o.limit o.pairs texts x h
 job_never _ texts x b h = absurd b
 
@@ -364,9 +369,13 @@ list_alone None true o t = t
 list_alone (Some name) false o t = t
 list_alone (Some name) true o t = t
 
+from_alone : (after within : Option (List ℕ)) (from_basis : Bool) (o : ListOptions) → TakesTurns (list_of after within from_basis o).writing → ⊥
+from_alone None within from_basis o t = list_alone within from_basis o t
+from_alone (Some after) within from_basis o t = t
+
 takes_no_turns : (job : Job) (texts : List (List ℕ)) → IsOnBinomials job texts → TakesTurns (command_of job).writing → ⊥
 takes_no_turns (jobs.Buchberger o) texts b t = t
-takes_no_turns (jobs.Bases o) texts b t = list_alone o.within o.from_basis (list_options o) t
+takes_no_turns (jobs.Bases o) texts b t = from_alone o.after o.within o.from_basis (list_options o) t
 takes_no_turns (jobs.Generated o) texts b t = t
 takes_no_turns _ texts b t = b
 

@@ -2,7 +2,7 @@
 -- To cite: words_named, unloaded_named, unnamed_loaded, told_loaded, one_told; limit_not_done, limit_told. The rest are
 -- steps.
 use Rattle.std.specs.Prelude.{◌≡◌, ◌⊎◌, ℕ, Bool, true, false, List, [], ◌∷◌, Option, None, Some, IfSome}
-use Rattle.std.proofs.Common.{sym, ap, subst, inl, inr}
+use Rattle.std.proofs.Common.{sym, ap, ◌∙◌, subst, inl, inr}
 use Rattle.gf_outside.specs.Faults.{Rose}
 use Rattle.gf_front.specs.declared.command_line.Job.{Job}
 use Rattle.gf_front.specs.declared.command_line.Job.TheVariants as jobs
@@ -21,10 +21,10 @@ use Rattle.gfan.specs.declared.refused.Refused.{Refused}
 use Rattle.gfan.specs.BasesWriting.{IsUnnamed}
 use Rattle.gfan.specs.Refused.{IsNamedBy, IsRingOf, IsOfSource}
 use Rattle.gfan.specs.declared.bases.ListOptions.{ListOptions}
-use Rattle.gfan.specs.Commands.{list_options, bases_of, command_of, IsPastReach}
+use Rattle.gfan.specs.Commands.{list_options, bases_of, list_of, command_of, IsPastReach}
 use Rattle.gfan.specs.Run.{ReadWhole, IsRingOfInput, IsOfInput, IsOfLoaded}
 use Rattle.gfan.proofs.PerformedLaws.{of_unnamed}
-use Rattle.gfan.proofs.LimitLaws.{past_refused, past_unanswered}
+use Rattle.gfan.proofs.PastLaws.{past_refused, past_unanswered}
 use Rattle.gfan.proofs.CommandLaws.{lawful}
 
 -- ---- the line of a refusal
@@ -34,6 +34,7 @@ outside_named : (r : Refusal) → IsOfOutside r → IsNamedBy None r
 outside_named (refusals.NotReduced set polynomial term) h = absurd h
 outside_named (refusals.NotBasis set first second remainder) h = absurd h
 outside_named (refusals.NotHomogeneous polynomial first second) h = absurd h
+outside_named (refusals.NotListed side index remainder) h = absurd h
 outside_named _ h = λ lent is. tt
 
 pub unloaded_named : (os : List Origin) (p q : Seen) (r : Refusal) → AreUnloaded os p q r → IsNamedBy None r
@@ -49,7 +50,14 @@ unnamed_input left leaves given gives e u = record {
 pub unnamed_loaded : (os : List Origin) (texts : List (List ℕ)) (e : Refused) → IsUnnamed e → IsOfLoaded os texts e
 unnamed_loaded [] texts e u = u
 unnamed_loaded (Origin.a_file name ∷ []) texts e u = u
-unnamed_loaded (Origin.a_file name ∷ (Origin.a_file other ∷ os)) texts e u = u
+unnamed_loaded (Origin.a_file name ∷ (Origin.a_file other ∷ [])) texts e u = u
+unnamed_loaded (Origin.a_file name ∷ (Origin.a_file other ∷ (Origin.a_file third ∷ os))) texts e u = u
+unnamed_loaded (Origin.a_file name ∷ (Origin.a_file other ∷ (Origin.the_input ∷ (o ∷ os)))) texts e u = u
+unnamed_loaded (Origin.a_file name ∷ (Origin.a_file other ∷ (Origin.the_input ∷ []))) [] e u = u
+unnamed_loaded (Origin.a_file name ∷ (Origin.a_file other ∷ (Origin.the_input ∷ []))) (file ∷ []) e u = u
+unnamed_loaded (Origin.a_file name ∷ (Origin.a_file other ∷ (Origin.the_input ∷ []))) (file ∷ (second ∷ [])) e u = u
+unnamed_loaded (Origin.a_file name ∷ (Origin.a_file other ∷ (Origin.the_input ∷ []))) (file ∷ (second ∷ (source ∷ []))) e u = of_unnamed source e u
+unnamed_loaded (Origin.a_file name ∷ (Origin.a_file other ∷ (Origin.the_input ∷ []))) (file ∷ (second ∷ (source ∷ (more ∷ others)))) e u = u
 unnamed_loaded (Origin.a_file name ∷ (Origin.the_input ∷ (o ∷ os))) texts e u = u
 unnamed_loaded (Origin.a_file name ∷ (Origin.the_input ∷ [])) [] e u = u
 unnamed_loaded (Origin.a_file name ∷ (Origin.the_input ∷ [])) (file ∷ []) e u = u
@@ -74,7 +82,15 @@ of_input p m q source e l same h = record { named = h.named; ring = at e.ring h.
 pub told_loaded : (os : List Origin) (p q : Seen) (texts : List (List ℕ)) (e : Refused) → AreLoaded os p q texts → IsOfLoaded os texts e → IsOfInput p.input.left q.input.left p.input.given q.input.given e
 told_loaded [] p q texts e l h = unnamed_input p.input.left q.input.left p.input.given q.input.given e h
 told_loaded (Origin.a_file name ∷ []) p q texts e l h = unnamed_input p.input.left q.input.left p.input.given q.input.given e h
-told_loaded (Origin.a_file name ∷ (Origin.a_file other ∷ os)) p q texts e l h = unnamed_input p.input.left q.input.left p.input.given q.input.given e h
+told_loaded (Origin.a_file name ∷ (Origin.a_file other ∷ [])) p q texts e l h = unnamed_input p.input.left q.input.left p.input.given q.input.given e h
+told_loaded (Origin.a_file name ∷ (Origin.a_file other ∷ (Origin.a_file third ∷ os))) p q texts e l h = unnamed_input p.input.left q.input.left p.input.given q.input.given e h
+told_loaded (Origin.a_file name ∷ (Origin.a_file other ∷ (Origin.the_input ∷ (o ∷ os)))) p q texts e l h = unnamed_input p.input.left q.input.left p.input.given q.input.given e h
+told_loaded (Origin.a_file name ∷ (Origin.a_file other ∷ (Origin.the_input ∷ []))) p q [] e l h = absurd l
+told_loaded (Origin.a_file name ∷ (Origin.a_file other ∷ (Origin.the_input ∷ []))) p q (file ∷ []) e l h = absurd l.2
+told_loaded (Origin.a_file name ∷ (Origin.a_file other ∷ (Origin.the_input ∷ []))) p q (file ∷ (second ∷ [])) e l h = absurd l.2.2
+told_loaded (Origin.a_file name ∷ (Origin.a_file other ∷ (Origin.the_input ∷ []))) p q (file ∷ (second ∷ (source ∷ []))) e l h =
+    subst (λ (i : InputSeen). IsOfInput i.left q.input.left i.given q.input.given e) (l.2.1.input ∙ l.1.input) (of_input l.2.0 l.2.2.0 q source e l.2.2.1 l.2.2.2 h)
+told_loaded (Origin.a_file name ∷ (Origin.a_file other ∷ (Origin.the_input ∷ []))) p q (file ∷ (second ∷ (source ∷ (more ∷ others)))) e l h = absurd l.2.2.2
 told_loaded (Origin.a_file name ∷ (Origin.the_input ∷ (o ∷ os))) p q texts e l h = unnamed_input p.input.left q.input.left p.input.given q.input.given e h
 told_loaded (Origin.a_file name ∷ (Origin.the_input ∷ [])) p q [] e l h = absurd l
 told_loaded (Origin.a_file name ∷ (Origin.the_input ∷ [])) p q (file ∷ []) e l h = absurd l.2
@@ -94,8 +110,12 @@ list_alone None true o t = t
 list_alone (Some name) false o t = t
 list_alone (Some name) true o t = t
 
+from_alone : (after within : Option (List ℕ)) (from_basis : Bool) (o : ListOptions) → TakesTurns (list_of after within from_basis o).writing → ⊥
+from_alone None within from_basis o t = list_alone within from_basis o t
+from_alone (Some after) within from_basis o t = t
+
 past_alone : (job : Job) (texts : List (List ℕ)) (most : ℕ) → IsPastReach job texts most → TakesTurns (command_of job).writing → ⊥
-past_alone (jobs.Bases o) texts most p t = list_alone o.within o.from_basis (list_options o) t
+past_alone (jobs.Bases o) texts most p t = from_alone o.after o.within o.from_basis (list_options o) t
 past_alone _ texts most p t = p
 
 answered_done : (c : Command) (writing : Writing c.Value) (texts : List (List ℕ)) (m q : Seen) (o s : OutputSeen) → (TakesTurns writing → ⊥) → IsCarriedOut c writing texts m q o s → (text : List ℕ) × IsAnswered c texts text

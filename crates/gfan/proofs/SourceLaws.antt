@@ -1,5 +1,5 @@
 -- What a job is handed, from the texts of its sources as the code lists them.
--- To cite: one_alone, two_alone, texts_length, list_as, within_as, list_reads, two_as, one_as, none_as, writes_once, not_asked, not_handed. The rest are
+-- To cite: one_alone, two_alone, texts_length, list_as, within_as, after_as, after_within_as, list_reads, two_as, one_as, none_as, writes_once, not_asked, not_handed. The rest are
 -- steps.
 use Rattle.std.specs.Prelude.{◌≡◌, ◌⊎◌, ℕ, Bool, true, false, List, [], ◌∷◌, length, get_or, Vec, Option, None, Some}
 use Rattle.std.specs.Global.{Global}
@@ -21,8 +21,9 @@ use Rattle.gfan.specs.WeightVector.{weight_vector_command}
 use Rattle.gfan.specs.GroebnerCone.{groebner_cone_command}
 use Rattle.gfan.specs.CommonRefinement.{refinement_command}
 use Rattle.gfan.specs.Generated.{generated_command}
-use Rattle.gfan.specs.Commands.{list_options, cone_options, plain_command, list_sources, list_command, within_command, bases_of, command_of, ReadsInputAlone}
-use Rattle.gfan.proofs.CommandLaws.{list_source, bases_not_once}
+use Rattle.gfan.specs.After.{after_command}
+use Rattle.gfan.specs.Commands.{list_options, cone_options, plain_command, list_sources, list_command, within_command, bases_of, after_sources, list_of, command_of, ReadsInputAlone}
+use Rattle.gfan.proofs.CommandLaws.{list_source, listed_not_once}
 use Rattle.gfan.proofs.BasisTestLaws.{intersection_once}
 
 -- ---- texts as the code lists them
@@ -44,6 +45,16 @@ two_alone (t ∷ (u ∷ [])) x y a b e i j p q =
     ∙ ap (λ (z : List ℕ). t.items ∷ (z ∷ [])) (q ∙ ap (λ (v : Vec ℕ Global). v.items) j)
 two_alone (t ∷ (u ∷ (v ∷ vs))) x y a b e i j p q = absurd (omega (arith, e))
 
+three_alone : (ts : List (Vec ℕ Global)) (x y z : Vec ℕ Global) (a b c : List ℕ) → length ts ≡ 3 → x ≡ get_or ts 0 x → y ≡ get_or ts 1 y → z ≡ get_or ts 2 z → a ≡ x.items → b ≡ y.items → c ≡ z.items → a ∷ (b ∷ (c ∷ [])) ≡ texts_of ts
+three_alone [] x y z a b c e i j k p q r = absurd (omega (arith, e))
+three_alone (t ∷ []) x y z a b c e i j k p q r = absurd (omega (arith, e))
+three_alone (t ∷ (u ∷ [])) x y z a b c e i j k p q r = absurd (omega (arith, e))
+three_alone (t ∷ (u ∷ (v ∷ []))) x y z a b c e i j k p q r =
+    ap (λ (w : List ℕ). w ∷ (b ∷ (c ∷ []))) (p ∙ ap (λ (s : Vec ℕ Global). s.items) i)
+    ∙ ap (λ (w : List ℕ). t.items ∷ (w ∷ (c ∷ []))) (q ∙ ap (λ (s : Vec ℕ Global). s.items) j)
+    ∙ ap (λ (w : List ℕ). t.items ∷ (u.items ∷ (w ∷ []))) (r ∙ ap (λ (s : Vec ℕ Global). s.items) k)
+three_alone (t ∷ (u ∷ (v ∷ (w ∷ ws)))) x y z a b c e i j k p q r = absurd (omega (arith, e))
+
 -- ---- the texts of a job
 
 -- a job on the input alone has one
@@ -52,15 +63,22 @@ pub one_as : (P : List (List ℕ) → Type 0) (job : Job) (ts : List (Vec ℕ Gl
     → P (a ∷ []) → P (texts_of ts)
 one_as P job ts x a r l i p h = subst P (one_alone ts x a (l ∙ ap length r) i p) h
 
+-- a list from its first basis on is that in its region
+whole_as : (P : Command → List (List ℕ) → Type 0) (o : BasesOptions) (texts : List (List ℕ)) → o.after ≡ None → P (bases_of o.within o.from_basis (list_options o)) texts → P (command_of (jobs.Bases o)) texts
+whole_as P o texts z h = subst (λ a. P (list_of a o.within o.from_basis (list_options o)) texts) (sym z) h
+
+whole_length : (o : BasesOptions) (ts : List (Vec ℕ Global)) → o.after ≡ None → length ts ≡ length (command_of (jobs.Bases o)).reads → length ts ≡ length (bases_of o.within o.from_basis (list_options o)).reads
+whole_length o ts z l = subst (λ a. length ts ≡ length (list_of a o.within o.from_basis (list_options o)).reads) z l
+
 -- the list for all positive weights has one
 pub list_as : (P : Command → List (List ℕ) → Type 0) (o : BasesOptions) (from_basis : Bool) (ts : List (Vec ℕ Global)) (x : Vec ℕ Global) (a : List ℕ)
-    → o.within ≡ None → o.from_basis ≡ from_basis → length ts ≡ length (command_of (jobs.Bases o)).reads → x ≡ get_or ts 0 x → a ≡ x.items
+    → o.after ≡ None → o.within ≡ None → o.from_basis ≡ from_basis → length ts ≡ length (command_of (jobs.Bases o)).reads → x ≡ get_or ts 0 x → a ≡ x.items
     → P (list_command from_basis (list_options o)) (a ∷ []) → P (command_of (jobs.Bases o)) (texts_of ts)
-list_as P o from_basis ts x a e f l i p h =
+list_as P o from_basis ts x a z e f l i p h =
     let there : P (bases_of o.within o.from_basis (list_options o)) (a ∷ []) =
     subst (λ w. P (bases_of w o.from_basis (list_options o)) (a ∷ [])) (sym e) (subst (λ b. P (list_command b (list_options o)) (a ∷ [])) (sym f) h) in
-    let long : length ts ≡ 1 = subst (λ w. length ts ≡ length (bases_of w o.from_basis (list_options o)).reads) e l ∙ ap length (list_source o.from_basis (list_options o)) in
-    subst (P (bases_of o.within o.from_basis (list_options o))) (one_alone ts x a long i p) there
+    let long : length ts ≡ 1 = subst (λ w. length ts ≡ length (bases_of w o.from_basis (list_options o)).reads) e (whole_length o ts z l) ∙ ap length (list_source o.from_basis (list_options o)) in
+    whole_as P o (texts_of ts) z (subst (P (bases_of o.within o.from_basis (list_options o))) (one_alone ts x a long i p) there)
 
 within_sources : (name : List ℕ) (from_basis : Bool) (o : ListOptions) → (within_command name from_basis o).reads ≡ Origin.a_file name ∷ (Origin.the_input ∷ [])
 within_sources name false o = refl
@@ -68,13 +86,39 @@ within_sources name true o = refl
 
 -- that in a region has two
 pub within_as : (P : Command → List (List ℕ) → Type 0) (o : BasesOptions) (name : List ℕ) (from_basis : Bool) (ts : List (Vec ℕ Global)) (x y : Vec ℕ Global) (a b : List ℕ)
-    → o.within ≡ Some name → o.from_basis ≡ from_basis → length ts ≡ length (command_of (jobs.Bases o)).reads → x ≡ get_or ts 0 x → y ≡ get_or ts 1 y → a ≡ x.items → b ≡ y.items
+    → o.after ≡ None → o.within ≡ Some name → o.from_basis ≡ from_basis → length ts ≡ length (command_of (jobs.Bases o)).reads → x ≡ get_or ts 0 x → y ≡ get_or ts 1 y → a ≡ x.items → b ≡ y.items
     → P (within_command name from_basis (list_options o)) (a ∷ (b ∷ [])) → P (command_of (jobs.Bases o)) (texts_of ts)
-within_as P o name from_basis ts x y a b e f l i j p q h =
+within_as P o name from_basis ts x y a b z e f l i j p q h =
     let there : P (bases_of o.within o.from_basis (list_options o)) (a ∷ (b ∷ [])) =
     subst (λ w. P (bases_of w o.from_basis (list_options o)) (a ∷ (b ∷ []))) (sym e) (subst (λ z. P (within_command name z (list_options o)) (a ∷ (b ∷ []))) (sym f) h) in
-    let long : length ts ≡ 2 = subst (λ w. length ts ≡ length (bases_of w o.from_basis (list_options o)).reads) e l ∙ ap length (within_sources name o.from_basis (list_options o)) in
-    subst (P (bases_of o.within o.from_basis (list_options o))) (two_alone ts x y a b long i j p q) there
+    let long : length ts ≡ 2 = subst (λ w. length ts ≡ length (bases_of w o.from_basis (list_options o)).reads) e (whole_length o ts z l) ∙ ap length (within_sources name o.from_basis (list_options o)) in
+    whole_as P o (texts_of ts) z (subst (P (bases_of o.within o.from_basis (list_options o))) (two_alone ts x y a b long i j p q) there)
+
+-- the list behind the basis of a file
+behind_as : (P : Command → List (List ℕ) → Type 0) (o : BasesOptions) (name : List ℕ) (within : Option (List ℕ)) (from_basis : Bool) (texts : List (List ℕ)) → o.after ≡ Some name → o.within ≡ within → o.from_basis ≡ from_basis →
+    P (list_of (Some name) within from_basis (list_options o)) texts → P (command_of (jobs.Bases o)) texts
+behind_as P o name within from_basis texts z e f h =
+    subst (λ a. P (list_of a o.within o.from_basis (list_options o)) texts) (sym z)
+    (subst (λ w. P (list_of (Some name) w o.from_basis (list_options o)) texts) (sym e) (subst (λ b. P (list_of (Some name) within b (list_options o)) texts) (sym f) h))
+
+behind_length : (o : BasesOptions) (name : List ℕ) (within : Option (List ℕ)) (ts : List (Vec ℕ Global)) → o.after ≡ Some name → o.within ≡ within → length ts ≡ length (command_of (jobs.Bases o)).reads → length ts ≡ length (after_sources within name)
+behind_length o name within ts z e l =
+    subst (λ w. length ts ≡ length (list_of (Some name) w o.from_basis (list_options o)).reads) e (subst (λ a. length ts ≡ length (list_of a o.within o.from_basis (list_options o)).reads) z l)
+
+-- has two, for all positive weights
+pub after_as : (P : Command → List (List ℕ) → Type 0) (o : BasesOptions) (name : List ℕ) (from_basis : Bool) (ts : List (Vec ℕ Global)) (x y : Vec ℕ Global) (a b : List ℕ)
+    → o.after ≡ Some name → o.within ≡ None → o.from_basis ≡ from_basis → length ts ≡ length (command_of (jobs.Bases o)).reads → x ≡ get_or ts 0 x → y ≡ get_or ts 1 y → a ≡ x.items → b ≡ y.items
+    → P (after_command from_basis false (after_sources None name) (list_options o)) (a ∷ (b ∷ [])) → P (command_of (jobs.Bases o)) (texts_of ts)
+after_as P o name from_basis ts x y a b z e f l i j p q h =
+    subst (P (command_of (jobs.Bases o))) (two_alone ts x y a b (behind_length o name None ts z e l) i j p q) (behind_as P o name None from_basis (a ∷ (b ∷ [])) z e f h)
+
+-- and three in a region
+pub after_within_as : (P : Command → List (List ℕ) → Type 0) (o : BasesOptions) (name within : List ℕ) (from_basis : Bool) (ts : List (Vec ℕ Global)) (x y w : Vec ℕ Global) (a b c : List ℕ)
+    → o.after ≡ Some name → o.within ≡ Some within → o.from_basis ≡ from_basis → length ts ≡ length (command_of (jobs.Bases o)).reads → x ≡ get_or ts 0 x → y ≡ get_or ts 1 y → w ≡ get_or ts 2 w
+    → a ≡ x.items → b ≡ y.items → c ≡ w.items
+    → P (after_command from_basis true (after_sources (Some within) name) (list_options o)) (a ∷ (b ∷ (c ∷ []))) → P (command_of (jobs.Bases o)) (texts_of ts)
+after_within_as P o name within from_basis ts x y w a b c z e f l i j k p q r h =
+    subst (P (command_of (jobs.Bases o))) (three_alone ts x y w a b c (behind_length o name (Some within) ts z e l) i j k p q r) (behind_as P o name (Some within) from_basis (a ∷ (b ∷ (c ∷ []))) z e f h)
 
 -- the sources of the list
 pub list_reads : (within : Option (List ℕ)) (from_basis : Bool) (o : ListOptions) → (bases_of within from_basis o).reads ≡ list_sources within
@@ -142,7 +186,7 @@ none_not_input ps e = cc
 pub not_asked : (job : Job) → WritesOnce (command_of job).writing → ReadsInputAlone job
     → ((o : BasesOptions) × (job ≡ jobs.Bases o)) ⊎ ((o : FanCommonRefinementOptions) × (job ≡ jobs.FanCommonRefinement o)) → ⊥
 not_asked job once reads h = elim h [
-  | inl k ↦ bases_not_once k.0.within k.0.from_basis (list_options k.0) (subst (λ j. WritesOnce (command_of j).writing) k.1 once)
+  | inl k ↦ listed_not_once k.0.after k.0.within k.0.from_basis (list_options k.0) (subst (λ j. WritesOnce (command_of j).writing) k.1 once)
   | inr k ↦ file_not_input k.0.first (Origin.a_file k.0.second ∷ []) [] (subst ReadsInputAlone k.1 reads)
 ]
 

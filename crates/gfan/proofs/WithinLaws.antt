@@ -1,5 +1,5 @@
 -- `_bases --within`: its region, its first basis, its list; and each refusal of it is told in one way.
--- To cite: within_exact, within_tested, given_within_exact, given_within_tested; within_performed, within_stopped, given_within_performed, given_within_stopped,
+-- To cite: region_work, region_numbers, no_region_same, no_region_there, basis_numbers, given_root_work, given_root_same, given_root_refutes; within_exact, within_tested, given_within_exact, given_within_tested; within_performed, within_stopped, given_within_performed, given_within_stopped,
 -- stopped_in_form, stopped_in_work, form_unlisted, region_unlisted, root_unlisted, start_unlisted; no_region_named, region_told, named_start; root_in_starts, given_region_starts; rows_hold, no_region_stopped, no_root_stopped, within_done,
 -- within_cut, no_start_stopped, given_within_done, given_within_cut. The rest are steps.
 use Rattle.std.specs.Prelude.{◌≡◌, ◌⊎◌, ℕ, false, List, [], ◌∷◌, length, Option, Some, None, Err, ℤ}
@@ -60,7 +60,7 @@ use Rattle.gfan.proofs.ExactLaws.{basis_work, basis_not_listed, basis_untested, 
 
 -- ---- the region
 
-region_work : (e : RegionError) → IsOfWork (of_region e)
+pub region_work : (e : RegionError) → IsOfWork (of_region e)
 region_work (region_errors.Empty ms) = tt
 region_work (region_errors.WideRoot i x) = tt
 region_work (region_errors.Cone s) = tt
@@ -88,12 +88,12 @@ region_there n rows k (region_errors.Cone s) t p h = t
 region_there n rows k (region_errors.Wide v) t p h = t
 region_there n rows k region_errors.Memory t p h = t
 
-no_region_same : (n : ℕ) (rows : List (List ℤ)) (r d : Refusal) → IsOfTest r → IsNoRegion n rows r → IsNoRegion n rows d → TellsSame r d ⊎ IsOfNumbers d
+pub no_region_same : (n : ℕ) (rows : List (List ℤ)) (r d : Refusal) → IsOfTest r → IsNoRegion n rows r → IsNoRegion n rows d → TellsSame r d ⊎ IsOfNumbers d
 no_region_same n rows r d t (w, (e, h, q)) (u, (f, k, p)) =
     let same = regions_same n rows e f w (subst IsOfTest q t) h k in
     subst (λ x. TellsSame r x ⊎ IsOfNumbers x) (sym p) (subst (λ x. TellsSame x (of_region f) ⊎ IsOfNumbers (of_region f)) (sym q) same)
 
-no_region_there : (n : ℕ) (rows : List (List ℤ)) (k : Region) (r : Refusal) → IsOfTest r → IsNoRegion n rows r → IsRegionOf n rows k → ⊥
+pub no_region_there : (n : ℕ) (rows : List (List ℤ)) (k : Region) (r : Refusal) → IsOfTest r → IsNoRegion n rows r → IsRegionOf n rows k → ⊥
 no_region_there n rows k r t (w, (e, h, q)) p = region_there n rows k e (subst IsOfTest q t) p h
 
 region_not_listed : (e : RegionError) (most : ℕ) → of_region e ≡ refusals.ListLimit most → ⊥
@@ -144,14 +144,14 @@ within_tested name o = record {
 
 -- ---- from a marked basis
 
-basis_numbers : (e : BasisError) → IsOfNumbers (of_basis e)
+pub basis_numbers : (e : BasisError) → IsOfNumbers (of_basis e)
 basis_numbers (basis_errors.Overflow x) = tt
 basis_numbers (basis_errors.Exponent x) = tt
 basis_numbers (basis_errors.PairBudget b u) = tt
 basis_numbers basis_errors.Memory = tt
 
 -- a refusal of a region that is there is of numbers
-region_numbers : (n : ℕ) (rows : List (List ℤ)) (k : Region) (e : RegionError) → IsRegionOf n rows k → IsRegionRefusal n rows e → IsOfNumbers (of_region e)
+pub region_numbers : (n : ℕ) (rows : List (List ℤ)) (k : Region) (e : RegionError) → IsRegionOf n rows k → IsRegionRefusal n rows e → IsOfNumbers (of_region e)
 region_numbers n rows k (region_errors.Empty ms) p h = absurd (regions_are_one.not_empty n rows k ms p h)
 region_numbers n rows k (region_errors.WideRoot i x) p h = absurd (regions_are_one.not_wide n rows k i x p h)
 region_numbers n rows k (region_errors.Cone s) p h = tt
@@ -159,7 +159,7 @@ region_numbers n rows k (region_errors.Wide w) p h = tt
 region_numbers n rows k region_errors.Memory p h = tt
 
 -- the refusals of a set that isn't taken, or not reduced, are those of any way to a root
-given_root_work : (k : Region) (s : MarkedPolynomials) (pairs : ℕ) (r : Refusal) → IsGivenRegionRootRefusal k s pairs r → IsOfWork r
+pub given_root_work : (k : Region) (s : MarkedPolynomials) (pairs : ℕ) (r : Refusal) → IsGivenRegionRootRefusal k s pairs r → IsOfWork r
 given_root_work k s pairs r (IsGivenRegionRootRefusal.at_basis h) = root_work s pairs r (not_reduced s pairs r h)
 given_root_work k s pairs r (IsGivenRegionRootRefusal.at_root u g f (e, h, q)) = subst IsOfWork (sym q) (basis_work e)
 
@@ -178,13 +178,13 @@ given_within_only o n rows s r w (IsGivenCauseWithin.at_start (IsGivenStartRefus
     q ∙ ap of_basis (if_within {A = Unit {0}} (MonomialOrder.weighted (gains k.root)) s.variables o.pairs (polys u.items) (Err e) (w.root k u i f) h)
 given_within_only o n rows s r w (IsGivenCauseWithin.going k i g h) = going_within_in o n k (polys s.items) r (w.going k i) h
 
-given_root_same : (k j : Region) (s : MarkedPolynomials) (pairs : ℕ) (r d : Refusal) → HaveVariables s.variables s.items → IsOfTest r → IsGivenRegionRootRefusal k s pairs r → IsGivenRegionRootRefusal j s pairs d →
+pub given_root_same : (k j : Region) (s : MarkedPolynomials) (pairs : ℕ) (r d : Refusal) → HaveVariables s.variables s.items → IsOfTest r → IsGivenRegionRootRefusal k s pairs r → IsGivenRegionRootRefusal j s pairs d →
     TellsSame r d ⊎ IsOfNumbers d
 given_root_same k j s pairs r d v t (IsGivenRegionRootRefusal.at_basis h) (IsGivenRegionRootRefusal.at_basis l) = root_once s pairs r d v t (not_reduced s pairs r h) (not_reduced s pairs d l)
 given_root_same k j s pairs r d v t h (IsGivenRegionRootRefusal.at_root u g f (e, l, q)) = inr (subst IsOfNumbers (sym q) (basis_numbers e))
 given_root_same k j s pairs r d v t (IsGivenRegionRootRefusal.at_root u g f (e, h, q)) l = absurd (basis_untested e (subst IsOfTest q t))
 
-given_root_refutes : (k : Region) (s : MarkedPolynomials) (pairs : ℕ) (r : Refusal) → HaveVariables s.variables s.items → IsOfTest r → IsGivenRegionRootRefusal k s pairs r → IsMarkedGroebnerBasis s.variables s.items → ⊥
+pub given_root_refutes : (k : Region) (s : MarkedPolynomials) (pairs : ℕ) (r : Refusal) → HaveVariables s.variables s.items → IsOfTest r → IsGivenRegionRootRefusal k s pairs r → IsMarkedGroebnerBasis s.variables s.items → ⊥
 given_root_refutes k s pairs r v t (IsGivenRegionRootRefusal.at_basis h) g = root_tested s pairs r v t (not_reduced s pairs r h) g
 given_root_refutes k s pairs r v t (IsGivenRegionRootRefusal.at_root u m f (e, h, q)) g = basis_untested e (subst IsOfTest q t)
 

@@ -56,10 +56,13 @@ abbrev pub IsWithinLimit : Option ℕ → List MarkedPolynomials → Type 0
 IsWithinLimit None list = Unit {0}
 IsWithinLimit (Some most) list = length list ≤ most
 
--- the ring in a line, and all bases of the ideal of fs in a region, which are no more than the limit, with certificates or without
-pub record IsTextOfBasesIn (certified : Bool) (limit : Option ℕ) (ring : List (List ℕ)) (k : Region) (fs : List Terms) (text : List ℕ) : Type 0 where
+-- A list of all bases of an ideal in a region, or what follows some of them in it: those before it, which aren't written, stand first.
+
+-- the ring in a line, and all bases of the ideal of fs in a region behind these, which are no more than the limit, with certificates or
+-- without
+pub record IsTextBehind (before : List MarkedPolynomials) (certified : Bool) (limit : Option ℕ) (ring : List (List ℕ)) (k : Region) (fs : List Terms) (text : List ℕ) : Type 0 where
   pub list : List MarkedPolynomials
-  pub are_all : AreAllBasesIn (length ring) k fs list
+  pub are_all : AreAllBasesIn (length ring) k fs (before ++ list)
   pub few : IsWithinLimit limit list
   pub items : List (List ℕ)
   pub are_items : AreItemTextsIn certified ring k list items
@@ -68,30 +71,30 @@ pub record IsTextOfBasesIn (certified : Bool) (limit : Option ℕ) (ring : List 
 -- ---- what is written before the list is refused
 
 -- the beginning of that text, up to the last of the bases that are written, behind which the rest of the list comes
-pub record IsBegunListIn (certified : Bool) (ring : List (List ℕ)) (k : Region) (fs : List Terms) (written rest : List MarkedPolynomials) (text : List ℕ) : Type 0 where
-  pub are_all : AreAllBasesIn (length ring) k fs (written ++ rest)
+pub record IsBegunListBehind (before : List MarkedPolynomials) (certified : Bool) (ring : List (List ℕ)) (k : Region) (fs : List Terms) (written rest : List MarkedPolynomials) (text : List ℕ) : Type 0 where
+  pub are_all : AreAllBasesIn (length ring) k fs (before ++ (written ++ rest))
   pub items : List (List ℕ)
   pub are_items : AreItemTextsIn certified ring k written items
   pub is_text : text ≡ begun_text ring items
 
 -- some of the bases, from the first on, or none; no more than the limit lets through
-abbrev pub IsBegunTextIn : ListOptions → List (List ℕ) → Region → List Terms → List ℕ → Type 0
-IsBegunTextIn o ring k fs text = (written : List MarkedPolynomials) × (rest : List MarkedPolynomials) × IsBegunListIn o.certified ring k fs written rest text × IsWithinLimit o.limit written
+abbrev pub IsBegunTextBehind : List MarkedPolynomials → ListOptions → List (List ℕ) → Region → List Terms → List ℕ → Type 0
+IsBegunTextBehind before o ring k fs text = (written : List MarkedPolynomials) × (rest : List MarkedPolynomials) × IsBegunListBehind before o.certified ring k fs written rest text × IsWithinLimit o.limit written
 
 -- just as many as the limit lets through, and a further one in the list
-pub record IsBegunToLimitIn (o : ListOptions) (ring : List (List ℕ)) (k : Region) (fs : List Terms) (most : ℕ) (text : List ℕ) : Type 0 where
+pub record IsBegunToLimitBehind (before : List MarkedPolynomials) (o : ListOptions) (ring : List (List ℕ)) (k : Region) (fs : List Terms) (most : ℕ) (text : List ℕ) : Type 0 where
   pub is_limit : o.limit ≡ Some most
   pub written : List MarkedPolynomials
   pub next : MarkedPolynomials
   pub rest : List MarkedPolynomials
-  pub begun : IsBegunListIn o.certified ring k fs written (next ∷ rest) text
+  pub begun : IsBegunListBehind before o.certified ring k fs written (next ∷ rest) text
   pub just : length written ≡ most
 
 -- all that is written where nothing stops it: the text of the list; or, where that goes on past the limit, its beginning, with just as many
 -- bases as the limit lets through
-pub data IsFullTextIn (o : ListOptions) (ring : List (List ℕ)) (k : Region) (fs : List Terms) (text : List ℕ) : Type 0 where
-  to_its_end : IsTextOfBasesIn o.certified o.limit ring k fs text → IsFullTextIn o ring k fs text
-  to_the_limit : (most : ℕ) → IsBegunToLimitIn o ring k fs most text → IsFullTextIn o ring k fs text
+pub data IsFullTextBehind (before : List MarkedPolynomials) (o : ListOptions) (ring : List (List ℕ)) (k : Region) (fs : List Terms) (text : List ℕ) : Type 0 where
+  to_its_end : IsTextBehind before o.certified o.limit ring k fs text → IsFullTextBehind before o ring k fs text
+  to_the_limit : (most : ℕ) → IsBegunToLimitBehind before o ring k fs most text → IsFullTextBehind before o ring k fs text
 
 -- ---- why it isn't written
 
@@ -103,43 +106,63 @@ of_tree (tree_errors.PairBudget basis unsettled) = refusals.PairBudget basis uns
 of_tree (tree_errors.Cone x) = refusals.ConeOverflow x.row x.op x.left x.right
 of_tree tree_errors.Memory = refusals.Memory
 
--- there are more bases than the limit lets through
-pub record IsPastLimitIn (limit : Option ℕ) (n : ℕ) (k : Region) (fs : List Terms) (most : ℕ) : Type 0 where
+-- there are more bases behind these than the limit lets through
+pub record IsPastLimitBehind (before : List MarkedPolynomials) (limit : Option ℕ) (n : ℕ) (k : Region) (fs : List Terms) (most : ℕ) : Type 0 where
   pub is_limit : limit ≡ Some most
   pub list : List MarkedPolynomials
-  pub are_all : AreAllBasesIn n k fs list
+  pub are_all : AreAllBasesIn n k fs (before ++ list)
   pub longer : most < length list
 
 -- behind some of the bases, which the limit lets through, a call of the search is refused at a basis that is one of these, or is the next one
-pub record IsSearchRefusedIn (o : ListOptions) (n : ℕ) (k : Region) (fs : List Terms) (e : TreeError) : Type 0 where
+pub record IsSearchRefusedBehind (before : List MarkedPolynomials) (o : ListOptions) (n : ℕ) (k : Region) (fs : List Terms) (e : TreeError) : Type 0 where
   pub written : List MarkedPolynomials
   pub rest : List MarkedPolynomials
-  pub are_all : AreAllBasesIn n k fs (written ++ rest)
+  pub are_all : AreAllBasesIn n k fs (before ++ (written ++ rest))
   pub few : IsWithinLimit o.limit written
   pub early : IsRefusedEarly (ideal_within n fs k) o.pairs rest e
 
 -- certificates are asked for, and behind some of the bases those of the next one, which the limit lets through, are refused
-pub record AreCertificatesRefusedIn (o : ListOptions) (n : ℕ) (k : Region) (fs : List Terms) (r : Refusal) : Type 0 where
+pub record AreCertificatesRefusedBehind (before : List MarkedPolynomials) (o : ListOptions) (n : ℕ) (k : Region) (fs : List Terms) (r : Refusal) : Type 0 where
   pub certified : o.certified ≡ true
   pub written : List MarkedPolynomials
   pub basis : MarkedPolynomials
   pub rest : List MarkedPolynomials
-  pub are_all : AreAllBasesIn n k fs (written ++ basis ∷ rest)
+  pub are_all : AreAllBasesIn n k fs (before ++ (written ++ basis ∷ rest))
   pub few : IsWithinLimit o.limit (written ++ basis ∷ [])
   pub uncertified : IsUncertifiedIn k basis r
 
 -- a step of the search is refused, at a basis that isn't behind the limit; or the list is past its limit; or, where certificates are asked
 -- for, those of a basis that the limit lets through are refused
-pub data IsGoingCauseIn (o : ListOptions) (n : ℕ) (k : Region) (fs : List Terms) (r : Refusal) : Type 0 where
-  in_tree : (e : TreeError) → IsSearchRefusedIn o n k fs e → r ≡ of_tree e → IsGoingCauseIn o n k fs r
-  at_limit : (most : ℕ) → IsPastLimitIn o.limit n k fs most → r ≡ refusals.ListLimit most → IsGoingCauseIn o n k fs r
-  at_certificates : AreCertificatesRefusedIn o n k fs r → IsGoingCauseIn o n k fs r
+pub data IsGoingCauseBehind (before : List MarkedPolynomials) (o : ListOptions) (n : ℕ) (k : Region) (fs : List Terms) (r : Refusal) : Type 0 where
+  in_tree : (e : TreeError) → IsSearchRefusedBehind before o n k fs e → r ≡ of_tree e → IsGoingCauseBehind before o n k fs r
+  at_limit : (most : ℕ) → IsPastLimitBehind before o.limit n k fs most → r ≡ refusals.ListLimit most → IsGoingCauseBehind before o n k fs r
+  at_certificates : AreCertificatesRefusedBehind before o n k fs r → IsGoingCauseBehind before o n k fs r
 
 -- what stands where the list is refused so: at the limit just as many bases; at numbers, where the list from its first basis on is refused,
 -- or without memory, some of them, from the first on, or none; and nothing stands at a refusal that isn't one of these
+abbrev pub IsBegunWhereBehind : List MarkedPolynomials → ListOptions → List (List ℕ) → Region → List Terms → List ℕ → Refusal → Type 0
+IsBegunWhereBehind before o ring k fs text (refusals.ListLimit most) = IsBegunToLimitBehind before o ring k fs most text
+IsBegunWhereBehind before o ring k fs text r = IsOfNumbers r × (IsGoingCauseBehind before o (length ring) k fs r ⊎ (r ≡ refusals.Memory)) × IsBegunTextBehind before o ring k fs text
+
+-- ---- behind none: the whole list
+
+abbrev pub IsTextOfBasesIn : Bool → Option ℕ → List (List ℕ) → Region → List Terms → List ℕ → Type 0
+IsTextOfBasesIn certified limit ring k fs text = IsTextBehind [] certified limit ring k fs text
+
+abbrev pub IsFullTextIn : ListOptions → List (List ℕ) → Region → List Terms → List ℕ → Type 0
+IsFullTextIn o ring k fs text = IsFullTextBehind [] o ring k fs text
+
+abbrev pub IsPastLimitIn : Option ℕ → ℕ → Region → List Terms → ℕ → Type 0
+IsPastLimitIn limit n k fs most = IsPastLimitBehind [] limit n k fs most
+
+abbrev pub IsSearchRefusedIn : ListOptions → ℕ → Region → List Terms → TreeError → Type 0
+IsSearchRefusedIn o n k fs e = IsSearchRefusedBehind [] o n k fs e
+
+abbrev pub IsGoingCauseIn : ListOptions → ℕ → Region → List Terms → Refusal → Type 0
+IsGoingCauseIn o n k fs r = IsGoingCauseBehind [] o n k fs r
+
 abbrev pub IsBegunWhereIn : ListOptions → List (List ℕ) → Region → List Terms → List ℕ → Refusal → Type 0
-IsBegunWhereIn o ring k fs text (refusals.ListLimit most) = IsBegunToLimitIn o ring k fs most text
-IsBegunWhereIn o ring k fs text r = IsOfNumbers r × (IsGoingCauseIn o (length ring) k fs r ⊎ (r ≡ refusals.Memory)) × IsBegunTextIn o ring k fs text
+IsBegunWhereIn o ring k fs text r = IsBegunWhereBehind [] o ring k fs text r
 
 -- ---- where all positive weights are meant
 

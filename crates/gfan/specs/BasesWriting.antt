@@ -26,7 +26,7 @@ use Rattle.gfan.specs.Buchberger.{of_basis}
 use Rattle.gfan.specs.Refused.{IsNamedBy}
 use Rattle.gfan.specs.BasesList.{AreAllBasesIn}
 use Rattle.gfan.specs.Certificates.{IsItemTextIn, IsItemRefusalIn}
-use Rattle.gfan.specs.Bases.{later_item_text, AreItemTextsIn, IsTextOfBasesIn, IsFullTextIn, IsBegunWhereIn, IsGoingCauseIn, begun_text}
+use Rattle.gfan.specs.Bases.{later_item_text, AreItemTextsIn, IsTextBehind, IsFullTextBehind, IsBegunWhereBehind, IsGoingCauseBehind, begun_text}
 
 -- ---- pieces
 
@@ -97,35 +97,61 @@ pub record StartsIn (n : ℕ) (k : Region) (fs : List Terms) (root : MarkedPolyn
   pub node : IsNodeIn (ideal_within n fs k) root
   pub by_root : IsReducedBasisFor n fs (IsWeightedBelow (gains k.root)) root.items
 
--- the output gained all bases of the ideal of fs in a region
-abbrev pub IsListWrittenIn : ListOptions → List (List ℕ) → Region → List Terms → Option (List ℕ) → Option (List ℕ) → Type 0
-IsListWrittenIn o ring k fs held holds = (text : List ℕ) × IsTextOfBasesIn o.certified o.limit ring k fs text × Appends held holds text
+-- a row goes on with the list of all bases of the ideal of fs in n variables and in a region, behind these
+pub record GoesOnBehind (before : List MarkedPolynomials) (n : ℕ) (k : Region) (fs : List Terms) (budget : ℕ) (row : Row) : Type 0 where
+  pub rest : List MarkedPolynomials
+  pub are_all : AreAllBasesIn n k fs (before ++ rest)
+  pub left : AreLeftIn row rest
+  pub basis : IsNodeIn (ideal_within n fs k) row.start
+  pub pairs : row.pairs ≡ budget
+  pub region : row.region ≡ k
+
+-- the output gained all bases of the ideal of fs in a region behind these
+abbrev pub IsListWrittenBehind : List MarkedPolynomials → ListOptions → List (List ℕ) → Region → List Terms → Option (List ℕ) → Option (List ℕ) → Type 0
+IsListWrittenBehind before o ring k fs held holds = (text : List ℕ) × IsTextBehind before o.certified o.limit ring k fs text × Appends held holds text
 
 -- it gained the beginning of that text that may stand where the list is refused so
-abbrev pub IsListBegunIn : ListOptions → List (List ℕ) → Region → List Terms → Option (List ℕ) → Option (List ℕ) → Refusal → Type 0
-IsListBegunIn o ring k fs held holds r = (text : List ℕ) × IsBegunWhereIn o ring k fs text r × Appends held holds text
+abbrev pub IsListBegunBehind : List MarkedPolynomials → ListOptions → List (List ℕ) → Region → List Terms → Option (List ℕ) → Option (List ℕ) → Refusal → Type 0
+IsListBegunBehind before o ring k fs held holds r = (text : List ℕ) × IsBegunWhereBehind before o ring k fs text r × Appends held holds text
 
--- why the list isn't written from its first basis on, and what stands of it
+-- why the list isn't written from there on, and what stands of it
+abbrev pub IsListStoppedBehind : List MarkedPolynomials → ListOptions → List (List ℕ) → Region → List Terms → Option (List ℕ) → Option (List ℕ) → ℕ → ℕ → Refusal → Type 0
+IsListStoppedBehind before o ring k fs held holds written writes refusals.WriteFault = Rose written writes × ((text : List ℕ) × IsFullTextBehind before o ring k fs text × AppendsPrefix held holds text)
+IsListStoppedBehind before o ring k fs held holds written writes (refusals.ListLimit most) =
+    IsGoingCauseBehind before o (length ring) k fs (refusals.ListLimit most) × IsListBegunBehind before o ring k fs held holds (refusals.ListLimit most)
+IsListStoppedBehind before o ring k fs held holds written writes r =
+    (IsGoingCauseBehind before o (length ring) k fs r ⊎ (r ≡ refusals.Memory)) × (Keeps held holds ⊎ IsListBegunBehind before o ring k fs held holds r)
+
+-- behind none, from the first basis on
+abbrev pub IsListWrittenIn : ListOptions → List (List ℕ) → Region → List Terms → Option (List ℕ) → Option (List ℕ) → Type 0
+IsListWrittenIn o ring k fs held holds = IsListWrittenBehind [] o ring k fs held holds
+
+abbrev pub IsListBegunIn : ListOptions → List (List ℕ) → Region → List Terms → Option (List ℕ) → Option (List ℕ) → Refusal → Type 0
+IsListBegunIn o ring k fs held holds r = IsListBegunBehind [] o ring k fs held holds r
+
 abbrev pub IsListStoppedIn : ListOptions → List (List ℕ) → Region → List Terms → Option (List ℕ) → Option (List ℕ) → ℕ → ℕ → Refusal → Type 0
-IsListStoppedIn o ring k fs held holds written writes refusals.WriteFault = Rose written writes × ((text : List ℕ) × IsFullTextIn o ring k fs text × AppendsPrefix held holds text)
-IsListStoppedIn o ring k fs held holds written writes (refusals.ListLimit most) = IsGoingCauseIn o (length ring) k fs (refusals.ListLimit most) × IsListBegunIn o ring k fs held holds (refusals.ListLimit most)
-IsListStoppedIn o ring k fs held holds written writes r = (IsGoingCauseIn o (length ring) k fs r ⊎ (r ≡ refusals.Memory)) × (Keeps held holds ⊎ IsListBegunIn o ring k fs held holds r)
+IsListStoppedIn o ring k fs held holds written writes r = IsListStoppedBehind [] o ring k fs held holds written writes r
 
 -- it names no monomials, and is told without a ring
 pub record IsUnnamed (e : Refused) : Type 0 where
   pub ring : e.ring ≡ None
   pub named : IsNamedBy None e.refusal
 
+-- the piece that ends the list: a closing brace, with the line of the ring and the opening one where no basis was written
+abbrev pub end_piece : List (List ℕ) → Bool → List ℕ
+end_piece ring true = ring_text ring ++ 123 ∷ 125 ∷ 10 ∷ []
+end_piece ring false = 125 ∷ 10 ∷ []
+
 -- whether nothing is written yet
 abbrev pub is_none_of : List (List ℕ) → Bool
 is_none_of [] = true
 is_none_of (t ∷ ts) = false
 
--- the list is under way: some of its bases are written, and the rest is left in the row
-pub record IsUnderWay (o : ListOptions) (ring : List (List ℕ)) (k : Region) (fs : List Terms) (row : Row) (room : Room) (is_first : Bool) (held holds : Option (List ℕ)) : Type 0 where
+-- the list behind these is under way: some of its bases are written, and the rest is left in the row
+pub record IsUnderWay (before : List MarkedPolynomials) (o : ListOptions) (ring : List (List ℕ)) (k : Region) (fs : List Terms) (row : Row) (room : Room) (is_first : Bool) (held holds : Option (List ℕ)) : Type 0 where
   pub written : List MarkedPolynomials
   pub rest : List MarkedPolynomials
-  pub are_all : AreAllBasesIn (length ring) k fs (written ++ rest)
+  pub are_all : AreAllBasesIn (length ring) k fs (before ++ (written ++ rest))
   pub left : AreLeftIn row rest
   pub basis : IsNodeIn (ideal_within (length ring) fs k) row.start
   pub pairs : row.pairs ≡ o.pairs

@@ -1,5 +1,5 @@
 -- The command of each job.
-use Rattle.std.specs.Prelude.{◌≡◌, ℕ, Bool, true, false, List, [], ◌∷◌, length, Option, None, Some, ℤ}
+use Rattle.std.specs.Prelude.{◌≡◌, ℕ, Bool, true, false, List, [], ◌∷◌, length, Option, None, Some, is_some, ℤ}
 use Rattle.gf_poly.specs.Marking.{MarkedPolynomials}
 use Rattle.gf_text.specs.declared.written.Written.{Written}
 use Rattle.gf_front.specs.declared.command_line.Job.{Job}
@@ -21,6 +21,7 @@ use Rattle.gfan.specs.Buchberger.{generators_of, buchberger_command}
 use Rattle.gfan.specs.Bases.{IsListPast, bases_command}
 use Rattle.gfan.specs.GivenBasis.{IsGivenListPast, given_bases_command}
 use Rattle.gfan.specs.Within.{IsPastWithin, IsGivenPastWithin, bases_within_command, given_within_command}
+use Rattle.gfan.specs.After.{AreTextsPastAfter, after_command}
 use Rattle.gfan.specs.Marked.{marked_command}
 use Rattle.gfan.specs.Containment.{containment_command}
 use Rattle.gfan.specs.LeadingTerms.{leading_terms_command}
@@ -62,6 +63,7 @@ list_job from_basis o workers = jobs.Bases (record {
   certificates = o.certified;
   workers = workers;
   within = None;
+  after = None;
 })
 
 -- the command without options
@@ -98,11 +100,21 @@ abbrev pub bases_of : Option (List ℕ) → Bool → ListOptions → Command
 bases_of None from_basis o = list_command from_basis o
 bases_of (Some name) from_basis o = within_command name from_basis o
 
+-- what the list of `_bases --after` is of: the input, behind the file of the basis, and that behind the file of its region where one is named
+abbrev pub after_sources : Option (List ℕ) → List ℕ → List Origin
+after_sources None after = Origin.a_file after ∷ (Origin.the_input ∷ [])
+after_sources (Some within) after = Origin.a_file within ∷ (Origin.a_file after ∷ (Origin.the_input ∷ []))
+
+-- the list behind the basis of a file where one is named
+abbrev pub list_of : Option (List ℕ) → Option (List ℕ) → Bool → ListOptions → Command
+list_of None within from_basis o = bases_of within from_basis o
+list_of (Some after) within from_basis o = after_command from_basis (is_some within) (after_sources within after) o
+
 -- the command of each job; those of `_bases` and `_generated` are the same for every number of workers
 abbrev pub command_of : Job → Command
 command_of (jobs.Plain c) = plain_command c
 command_of (jobs.Buchberger o) = buchberger_command (options o)
-command_of (jobs.Bases o) = bases_of o.within o.from_basis (list_options o)
+command_of (jobs.Bases o) = list_of o.after o.within o.from_basis (list_options o)
 command_of (jobs.LeadingTerms o) = leading_terms_command o.listed
 command_of (jobs.WeightVector o) = weight_vector_command o.listed o.echoed
 command_of (jobs.GroebnerCone o) = groebner_cone_command o.vector_input (cone_options o)
@@ -142,7 +154,12 @@ abbrev pub AreTextsPastIn : Option (List ℕ) → Bool → ListOptions → List 
 AreTextsPastIn None from_basis o texts most = AreTextsPast from_basis o texts most
 AreTextsPastIn (Some name) from_basis o texts most = AreTextsPastWithin from_basis o texts most
 
+-- of the whole list, or behind the basis of a file
+abbrev pub AreTextsPastOf : Option (List ℕ) → Option (List ℕ) → Bool → ListOptions → List (List ℕ) → ℕ → Type 0
+AreTextsPastOf None within from_basis o texts most = AreTextsPastIn within from_basis o texts most
+AreTextsPastOf (Some after) within from_basis o texts most = AreTextsPastAfter from_basis (is_some within) o texts most
+
 -- the job is `_bases`, and so it is with its list
 abbrev pub IsPastReach : Job → List (List ℕ) → ℕ → Type 0
-IsPastReach (jobs.Bases o) texts most = AreTextsPastIn o.within o.from_basis (list_options o) texts most
+IsPastReach (jobs.Bases o) texts most = AreTextsPastOf o.after o.within o.from_basis (list_options o) texts most
 IsPastReach _ texts most = ⊥

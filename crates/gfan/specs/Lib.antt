@@ -23,9 +23,11 @@ pub mod ToldCones  -- what `_groebnercone` tells of a cone
 pub mod GroebnerCone  -- what `_groebnercone` reads and writes
 pub mod BasesList  -- the list of all bases of an ideal
 pub mod OneList  -- an ideal has one such list
+pub mod Parts  -- a list that is written in parts
 pub mod Bases  -- what `_bases` reads and writes
 pub mod Within  -- `_bases --within`
 pub mod GivenBasis  -- what `_bases -g` reads and writes
+pub mod After  -- `_bases --after`
 pub mod Refused  -- a refusal with the ring in whose names it is told
 pub mod BasesWriting  -- how `_bases` writes its list
 pub mod Saturation  -- what `_saturation` reads and writes

@@ -33,9 +33,15 @@ IsPlainList None texts = IsPlainSource texts
 IsPlainList (Some name) [] = ⊥
 IsPlainList (Some name) (file ∷ texts) = IsPlainSource texts
 
--- the job is `_buchberger` or `_bases`, from generators or from a basis, on such a source; or `_generated`, whose generators are such
+-- the list begins with its first basis, and its texts are so
+abbrev pub IsPlainFrom : Option (List ℕ) → Option (List ℕ) → List (List ℕ) → Type 0
+IsPlainFrom None within texts = IsPlainList within texts
+IsPlainFrom (Some after) within texts = ⊥
+
+-- the job is `_buchberger`, or `_bases` from its first basis on, from generators or from a basis, on such a source; or `_generated`, whose
+-- generators are such
 abbrev pub IsOnBinomials : Job → List (List ℕ) → Type 0
 IsOnBinomials (jobs.Buchberger o) texts = IsPlainSource texts
-IsOnBinomials (jobs.Bases o) texts = IsPlainList o.within texts
+IsOnBinomials (jobs.Bases o) texts = IsPlainFrom o.after o.within texts
 IsOnBinomials (jobs.Generated o) texts = Unit {0}
 IsOnBinomials _ texts = ⊥

@@ -32,6 +32,7 @@ pub record IsOfInput (left leaves : Option (List ℕ)) (given gives : ℕ) (refu
 abbrev pub IsOfLoaded : List Origin → List (List ℕ) → Refused → Type 0
 IsOfLoaded (Origin.the_input ∷ []) (source ∷ []) refused = IsOfSource source refused
 IsOfLoaded (Origin.a_file name ∷ (Origin.the_input ∷ [])) (file ∷ (source ∷ [])) refused = IsOfSource source refused
+IsOfLoaded (Origin.a_file name ∷ (Origin.a_file other ∷ (Origin.the_input ∷ []))) (file ∷ (second ∷ (source ∷ []))) refused = IsOfSource source refused
 IsOfLoaded origins texts refused = IsUnnamed refused
 
 -- The sink of faults gained a prefix of the line of the refusal, and the whole line unless its count of faults rose.

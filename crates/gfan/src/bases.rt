@@ -2,7 +2,7 @@
 ghost use Rattle.std.specs.Prelude.{◌≡◌, ◌≤◌, [], ◌∷◌, length, List, None, IfOk, IfErr, OnOk, MatchResult};
 ghost use Rattle.std.specs.Io.KnownBytes.{Appends};
 ghost use Rattle.gf_poly.specs.Polynomial.{Terms};
-ghost use Rattle.gf_poly.specs.Marking.{polys};
+ghost use Rattle.gf_poly.specs.Marking.{MarkedPolynomials, polys};
 ghost use Rattle.gf_facets.specs.Regions.{all_positive};
 ghost use Rattle.gf_reverse.specs.Upward.{IsNodeIn};
 ghost use Rattle.gf_tree.specs.Parents.{ideal_of};
@@ -12,7 +12,7 @@ ghost use Rattle.gf_text.specs.Sets.{AreIn};
 ghost use Rattle.gfan.specs.Buchberger.{generators_of};
 ghost use Rattle.gfan.specs.Certificates.{IsItemRefusalIn};
 ghost use Rattle.gfan.specs.Bases.{bases_command};
-ghost use Rattle.gfan.specs.BasesWriting.{basis_piece, IsPieceOf, IsBasisWritten, IsUnwritten, IsBasisUnwritten, HasRoomFor, IsOneLess, IsFull, IsFirstBasis, IsRootRefusal, StartsIn, IsListWrittenIn, IsListStoppedIn, IsUnnamed};
+ghost use Rattle.gfan.specs.BasesWriting.{basis_piece, end_piece, GoesOnBehind, IsListWrittenBehind, IsListStoppedBehind, IsPieceOf, IsBasisWritten, IsUnwritten, IsBasisUnwritten, HasRoomFor, IsOneLess, IsFull, IsFirstBasis, IsRootRefusal, StartsIn, IsListWrittenIn, IsListStoppedIn, IsUnnamed};
 ghost use Rattle.gf_frame.specs.Seen.{output_seen};
 ghost use Rattle.gf_frame.specs.Runs.{IsDoneOn, IsStoppedOn};
 ghost use Rattle.gfan.specs.Performed.{IsPerformedFor, IsStoppedFor};
@@ -166,7 +166,7 @@ fn write_basis<K: Sink>(
 // ---- the job
 
 /// The basis of the set's ideal by degree and then lex, at which the list begins.
-fn first_basis(
+pub(crate) fn first_basis(
     alloc: Global,
     ring: &Ring,
     set: &[Written],
@@ -205,8 +205,65 @@ pub(crate) fn waves_of<'g, G: Gate>(
     Waves::new(alloc, root, &region, workers, pairs, gate)
 }
 
-/// Writes the list of all bases of an ideal in a region from its first basis on, by so many workers: the first with the ring, each
-/// other one behind a line end, a comma and a line end, and last the brace that ends the list.
+/// The piece that ends the list: a closing brace, with the line of the ring and the opening one where no basis was written.
+fn end_piece(alloc: Global, ring: &Ring, is_first: bool) -> Result<Vec<u8>, AllocError>
+    ensures { IfOk result (λ text. text.items ≡ end_piece ring.now is_first) }
+{
+    let mut text = Vec::new(alloc);
+    if is_first {
+        Printer::ring(&mut text, ring)?;
+        text.push(b'{')?;
+    }
+    text.extend_from_slice(b"}\n")?;
+    Ok(text)
+}
+
+/// Writes what is left of the list of all bases of an ideal in a region: the first of them with the ring, each other one behind a line end,
+/// a comma and a line end, and last the brace that ends the list. Where none is left, the ring and two braces.
+///
+/// # Errors
+///
+/// Those of the list from there on, as `perform` has them.
+pub(crate) fn write_waves<'g, R: Threads + Sync, K: Sink, G: Gate>(
+    rt: &R,
+    alloc: Global,
+    ring: &Ring,
+    mut waves: Waves<'g, G>,
+    region: &Region,
+    options: ListOptions,
+    output: &mut K,
+) -> Result<(), Refused>
+    requires row { (before : List MarkedPolynomials) × (fs : List Terms) × GoesOnBehind before (length ring.now) region.now fs options.pairs waves }
+    ensures done { OnOk result ((before : List MarkedPolynomials) (fs : List Terms) → GoesOnBehind before (length ring.now) region.now fs options.pairs waves.entry
+        → IsListWrittenBehind before options ring.now region.now fs (K.held output.old) (K.held output.new)) }
+    ensures stopped { IfErr result (λ e. (before : List MarkedPolynomials) (fs : List Terms) → GoesOnBehind before (length ring.now) region.now fs options.pairs waves.entry
+        → IsListStoppedBehind before options ring.now region.now fs (K.held output.old) (K.held output.new) (K.faults output.old)
+        (K.faults output.new) e.refusal) }
+    ensures told { IfErr result IsUnnamed }
+    ensures calm { MatchResult result (λ _. K.faults output.new ≡ K.faults output.old)
+        (λ e. (e.refusal ≡ Refusal.WriteFault → ⊥) → K.faults output.new ≡ K.faults output.old) }
+{
+    let mut room = Room::of(options.limit);
+    let mut is_first = true;
+    'list: while let Some(basis) = waves.next_written(rt)? {
+        room = room.with_one_more()?;
+        write_basis(
+            alloc,
+            ring,
+            &basis,
+            region,
+            is_first,
+            options.certified,
+            output,
+        )?;
+        is_first = false;
+    }
+    let end = end_piece(alloc, ring, is_first)?;
+    offer(output, &end)?;
+    Ok(())
+}
+
+/// Writes the list of all bases of an ideal in a region from its first basis on, by so many workers.
 ///
 /// The root is the basis, by the root of the region and then lex, of the ideal that it generates.
 ///
@@ -236,24 +293,8 @@ pub(crate) fn write_from<R: Threads + Sync, K: Sink, G: Gate>(
     ensures calm { MatchResult result (λ _. K.faults output.new ≡ K.faults output.old)
         (λ e. (e.refusal ≡ Refusal.WriteFault → ⊥) → K.faults output.new ≡ K.faults output.old) }
 {
-    let mut waves = Waves::new(alloc, root, region, workers, options.pairs, gate)?;
-    let mut room = Room::of(options.limit);
-    let mut is_first = true;
-    'list: while let Some(basis) = waves.next_written(rt)? {
-        room = room.with_one_more()?;
-        write_basis(
-            alloc,
-            ring,
-            &basis,
-            region,
-            is_first,
-            options.certified,
-            output,
-        )?;
-        is_first = false;
-    }
-    offer(output, b"}\n")?;
-    Ok(())
+    let waves = Waves::new(alloc, root, region, workers, options.pairs, gate)?;
+    write_waves(rt, alloc, ring, waves, region, options, output)
 }
 
 /// Writes the list of all bases of the set's ideal.

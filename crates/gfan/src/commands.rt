@@ -1,5 +1,5 @@
 //! What the program does for each job.
-ghost use Rattle.std.specs.Prelude.{◌≡◌, [], ◌∷◌, length, IfOk, IfErr, OnOk};
+ghost use Rattle.std.specs.Prelude.{◌≡◌, [], ◌∷◌, length, true, None, is_some, IfOk, IfErr, OnOk};
 ghost use Rattle.std.specs.Option.{option_copied};
 ghost use Rattle.gf_front.specs.Jobs.{HasNumbersInRange};
 ghost use Rattle.gf_front.specs.declared.command_line.Job.{Job};
@@ -10,7 +10,7 @@ ghost use Rattle.gf_frame.specs.Commands.{WritesOnce, IsAnswered, IsRefusedOn};
 ghost use Rattle.gf_frame.specs.Runs.{IsDoneOn, IsStoppedOn};
 ghost use Rattle.gfan.specs.Refused.{IsOfSource};
 ghost use Rattle.gfan.specs.BasisTest.{intersection_command};
-ghost use Rattle.gfan.specs.Commands.{plain_command, list_sources, command_of, ReadsInputAlone};
+ghost use Rattle.gfan.specs.Commands.{plain_command, list_sources, after_sources, command_of, ReadsInputAlone};
 ghost use Rattle.gfan.specs.Run.{IsOfLoaded};
 
 use crate::bases::ListOptions;
@@ -19,7 +19,7 @@ use crate::refused::Refused;
 use crate::told_cone::ConeOptions;
 use crate::tropical::TropicalFan;
 use crate::{
-    bases, basis_test, buchberger, common_refinement, containment, generated, given_basis,
+    after, bases, basis_test, buchberger, common_refinement, containment, generated, given_basis,
     groebner_cone, homogeneity_space, homogenize, initial_forms, leading_terms,
     mark_polynomial_set, marked, migrate_fan, polynomial_set_union, saturation, stats,
     to_polyhedral_fan, tropical, weight_vector, within,
@@ -61,7 +61,44 @@ fn list_texts<S: Source, F: Files>(
     }
 }
 
-/// The texts of what the job reads, each loaded whole before the next: of its files, or of the input, or of a file and then of the input.
+/// The texts of what the list behind the basis of a file is of: of the file of its region, where one is named, of that of the basis, and then
+/// of the input.
+fn after_texts<'n, S: Source, F: Files>(
+    alloc: Global,
+    within: Option<&'n Name>,
+    after: &'n Name,
+    input: &mut S,
+    files: &mut F,
+) -> Result<Vec<Vec<u8>>, Refusal>
+    ensures loaded { IfOk result (λ texts. AreLoaded (after_sources (option_copied within.entry) after.now)
+        (seen (S.left input.old) (S.given input.old) (S.faults input.old) (F.bytes files.old) (F.left files.old)
+        (F.given files.old) (F.unopened files.old) (F.faults files.old))
+        (seen (S.left input.new) (S.given input.new) (S.faults input.new) (F.bytes files.new) (F.left files.new)
+        (F.given files.new) (F.unopened files.new) (F.faults files.new))
+        (texts_of texts.items)) }
+    ensures unloaded { IfErr result (AreUnloaded (after_sources (option_copied within.entry) after.now)
+        (seen (S.left input.old) (S.given input.old) (S.faults input.old) (F.bytes files.old) (F.left files.old)
+        (F.given files.old) (F.unopened files.old) (F.faults files.old))
+        (seen (S.left input.new) (S.given input.new) (S.faults input.new) (F.bytes files.new) (F.left files.new)
+        (F.given files.new) (F.unopened files.new) (F.faults files.new))) }
+{
+    match within {
+        Some(name) => {
+            let three = [
+                LoadFrom::File(name.as_str()),
+                LoadFrom::File(after.as_str()),
+                LoadFrom::Input,
+            ];
+            load_all(alloc, &three, input, files)
+        }
+        None => {
+            let two = [LoadFrom::File(after.as_str()), LoadFrom::Input];
+            load_all(alloc, &two, input, files)
+        }
+    }
+}
+
+/// The texts of what the job reads, each loaded whole before the next: of its files, or of the input, or of one or two files and then of the input.
 ///
 /// # Errors
 ///
@@ -96,7 +133,10 @@ pub(crate) fn texts_for<S: Source, F: Files>(
             ];
             load_all(alloc, &two, input, files)
         }
-        Job::Bases(given) => list_texts(alloc, given.within.as_ref(), input, files),
+        Job::Bases(given) => match &given.after {
+            None => list_texts(alloc, given.within.as_ref(), input, files),
+            Some(after) => after_texts(alloc, given.within.as_ref(), after, input, files),
+        },
         Job::Generated(_) => load_all(alloc, &[], input, files),
         _ => load_all(alloc, &[LoadFrom::Input], input, files),
     }
@@ -242,7 +282,8 @@ fn write_answer<R: Threads + Sync, K: Sink>(
     }
 }
 
-/// Writes the list of bases that is asked for, piece by piece: of the ideal of the input, in the region of the file where one is named.
+/// Writes the list of bases that is asked for from its first one on, piece by piece: of the ideal of the input, in the region of the file where
+/// one is named.
 fn perform_list<R: Threads + Sync, K: Sink, G: Gate>(
     rt: &R,
     alloc: Global,
@@ -251,6 +292,7 @@ fn perform_list<R: Threads + Sync, K: Sink, G: Gate>(
     output: &mut K,
     gate: &G,
 ) -> Result<(), Refused>
+    requires whole { given.now.after ≡ None }
     requires limits { HasNumbersInRange (Job.Bases given.now) }
     requires all { length texts.now ≡ length (command_of (Job.Bases given.now)).reads }
     ensures done { OnOk result (IsDoneOn (command_of (Job.Bases given.now)) (texts_of texts.now) (output_seen (K.held output.old) (K.faults output.old))
@@ -284,6 +326,74 @@ fn perform_list<R: Threads + Sync, K: Sink, G: Gate>(
     }
 }
 
+/// Writes what follows the basis of a file in that list.
+fn perform_after<R: Threads + Sync, K: Sink, G: Gate>(
+    rt: &R,
+    alloc: Global,
+    given: &BasesOptions,
+    texts: &[Vec<u8>],
+    output: &mut K,
+    gate: &G,
+) -> Result<(), Refused>
+    requires after { is_some given.now.after ≡ true }
+    requires limits { HasNumbersInRange (Job.Bases given.now) }
+    requires all { length texts.now ≡ length (command_of (Job.Bases given.now)).reads }
+    ensures done { OnOk result (IsDoneOn (command_of (Job.Bases given.now)) (texts_of texts.now) (output_seen (K.held output.old) (K.faults output.old))
+        (output_seen (K.held output.new) (K.faults output.new))) }
+    ensures stopped { IfErr result (λ e. IsStoppedOn (command_of (Job.Bases given.now)) (texts_of texts.now) (output_seen (K.held output.old) (K.faults output.old))
+        (output_seen (K.held output.new) (K.faults output.new)) e.refusal) }
+    ensures told { IfErr result (IsOfLoaded (command_of (Job.Bases given.now)).reads (texts_of texts.now)) }
+{
+    let options = ListOptions {
+        limit: given.limit,
+        pairs: given.pairs,
+        certified: given.certificates,
+    };
+    let workers = given.workers;
+    match &given.within {
+        None => {
+            let (after, source) = (&texts[0], &texts[1]);
+            if given.from_basis {
+                after::perform_given(
+                    rt, alloc, None, after, source, options, workers, output, gate,
+                )
+            } else {
+                after::perform(
+                    rt, alloc, None, after, source, options, workers, output, gate,
+                )
+            }
+        }
+        Some(_) => {
+            let (file, after, source) = (texts[0].as_slice(), &texts[1], &texts[2]);
+            if given.from_basis {
+                after::perform_given(
+                    rt,
+                    alloc,
+                    Some(file),
+                    after,
+                    source,
+                    options,
+                    workers,
+                    output,
+                    gate,
+                )
+            } else {
+                after::perform(
+                    rt,
+                    alloc,
+                    Some(file),
+                    after,
+                    source,
+                    options,
+                    workers,
+                    output,
+                    gate,
+                )
+            }
+        }
+    }
+}
+
 /// Writes to the output what the job writes for the texts of what it reads: in one piece at its end, or piece by piece as it goes.
 pub(crate) fn perform<R: Threads + Sync, K: Sink, G: Gate>(
     rt: &R,
@@ -302,7 +412,10 @@ pub(crate) fn perform<R: Threads + Sync, K: Sink, G: Gate>(
     ensures told { IfErr result (IsOfLoaded (command_of job.now).reads (texts_of texts.now)) }
 {
     match job {
-        Job::Bases(given) => perform_list(rt, alloc, given, texts, output, gate),
+        Job::Bases(given) => match &given.after {
+            None => perform_list(rt, alloc, given, texts, output, gate),
+            Some(_) => perform_after(rt, alloc, given, texts, output, gate),
+        },
         other => write_answer(rt, alloc, other, texts, output),
     }
 }

@@ -59,7 +59,7 @@ pub(crate) fn reduced_of(alloc: Global, marked: &MarkedSet) -> Result<MarkedSet,
 }
 
 /// The basis, by degree and then lex, of the ideal of a marked Gröbner basis: the set is checked, reduced, and taken up to the root.
-fn root_of(alloc: Global, marked: &MarkedSet, pairs: u64) -> Result<MarkedSet, Refusal>
+pub(crate) fn root_of(alloc: Global, marked: &MarkedSet, pairs: u64) -> Result<MarkedSet, Refusal>
     ensures basis { IfOk result (λ _. IsMarkedGroebnerBasis marked.now.variables marked.now.items) }
     ensures root { IfOk result (λ root. StartsAt marked.now.variables (polys marked.now.items) root) }
     ensures err { IfErr result (IsGivenRootRefusal marked.now pairs) }

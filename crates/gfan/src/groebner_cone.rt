@@ -42,7 +42,7 @@ fn basis_cone(
         return Err(Refusal::Memory);
     }
     // Its normals are those of the set as it stands.
-    let _basis = match require_reduced(alloc, marked, 0) {
+    let _basis = match require_reduced(alloc, marked, 0, &[]) {
         Ok(basis) => basis,
         Err(error) => return Err(of_check(error)),
     };

@@ -1,6 +1,7 @@
 //! What the list of `_bases`, the weights of `_weightvector` and the lines of `_generated` have: laws, each the contract of a function that computes nothing.
 ghost use Rattle.gfan.specs.BasesList.{WeightsAreServed, RegionsAreServed};
 ghost use Rattle.gfan.specs.OneList.{ListsExist, ListsAreOne, TextsAreOne, RegionListsAreOne, RegionTextsAreOne};
+ghost use Rattle.gfan.specs.Parts.{PartsAreJoined};
 ghost use Rattle.gfan.specs.Served.{WrittenListsServe};
 ghost use Rattle.gfan.specs.CertifiedBases.{CertificatesHold, RegionCertificatesHold};
 ghost use Rattle.gfan.specs.GivingWeights.{WrittenWeightsGiveBases};
@@ -54,6 +55,12 @@ pub fn regions_are_served()
 pub fn regions_have_one_text()
     ensures lists { RegionListsAreOne }
     ensures texts { RegionTextsAreOne }
+{}
+
+/// Where one run of `_bases` wrote the bases up to one, and another by `--after` those behind it, the bases of both are the list, in its order, and the
+/// items of both texts make up its text. So it is with a part that was itself written behind a basis, and thus with any number of parts.
+pub fn parts_are_joined()
+    ensures { PartsAreJoined }
 {}
 
 /// In a list of a region with certificates each basis is the reduced one for the weight behind it, which is in the region; and exactly the

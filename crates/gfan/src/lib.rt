@@ -14,6 +14,7 @@
 //! `specs/Commands.antt` and `specs/CommonRefinement.antt`.
 #![tactic(auto)]
 
+mod after;
 mod bases;
 mod basis_test;
 pub mod buchberger;

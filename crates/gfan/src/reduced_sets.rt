@@ -16,7 +16,7 @@ fn reduced_basis(alloc: Global, set: &MarkedSet, place: usize) -> Result<MarkedS
     if place > u32::MAX as usize || set.items().len() > u32::MAX as usize {
         return Err(CheckError::Memory);
     }
-    require_reduced(alloc, set, place as u32)
+    require_reduced(alloc, set, place as u32, &[])
 }
 
 /// The sets, each as the reduced basis that it is.

@@ -70,7 +70,7 @@ fn region_for(alloc: Global, n: u32, rows: &[IntVec]) -> Result<Region, Refusal>
 }
 
 /// The same of vectors of any lengths.
-fn region_by(alloc: Global, n: u32, rows: &[IntVec]) -> Result<Region, Refusal>
+pub(crate) fn region_by(alloc: Global, n: u32, rows: &[IntVec]) -> Result<Region, Refusal>
     ensures form { IfOk result (λ _. AreRows n rows.now) }
     ensures ok { IfOk result (IsRegionOf n rows.now) }
     ensures err { IfErr result (λ r. FirstFails (for_each n rows.now) r ⊎ IsNoRegion n rows.now r) }
@@ -82,7 +82,7 @@ fn region_by(alloc: Global, n: u32, rows: &[IntVec]) -> Result<Region, Refusal>
 // ---- the first basis
 
 /// The basis of the set's ideal by the root of the region and then lex, at which the list begins.
-fn root_of(
+pub(crate) fn root_of(
     alloc: Global,
     ring: &Ring,
     set: &[Written],
@@ -104,7 +104,7 @@ fn root_of(
 
 /// The basis of the ideal of a marked Gröbner basis by the root of the region and then lex: the set is checked and reduced, and that basis
 /// is worked out of the reduced one, which needn't be in the region. Its members are counted in 32 bits.
-fn given_root_of(
+pub(crate) fn given_root_of(
     alloc: Global,
     marked: &MarkedSet,
     region: &Region,

@@ -1,15 +1,5 @@
-use Rattle.std.proofs.Common.{◌∙◌}
-use Rattle.std.proofs.lemmas.Result.{err_from_is_err_and}
-use Rattle.gf_reduced.proofs.WeightLaws.{rows_for, weight_answer, system_refused}
+use Rattle.gf_reduced.proofs.WeightLaws.{answers_alone}
 use Rattle.gf_reduced.proofs.weights.weight_or_none.Goals as goal
 
-pub strict-requires-clause-rows : goal.strict-requires-clause-rows
-strict-requires-clause-rows c = rows_for c.args.marked.now.variables c.variables.result c.args.marked.now.items c.deref.result.now c.variables.ensures c.items.ensures.variables c.in_ok-rows.ensures.marked (c.deref.ensures.value ∙ c.in_ok-rows.ensures.rows)
-
-pub returns-in_err-answer-clause-err : goal.returns-in_err-answer-clause-err
-returns-in_err-answer-clause-err c =
-    let p = err_from_is_err_and c.from_residual-in_err-answer.result c.from_residual-in_err-answer.ensures.1 in
-    rw (p.1, p.2) (system_refused c.args.marked.now.variables c.variables.result c.args.marked.now.items c.deref.result.now c.in_err-answer.field-0.0 (c.deref.ensures.value ∙ c.in_ok-rows.ensures.rows) c.variables.ensures c.in_err-answer.ensures.err)
-
 pub returns-clause-ok : goal.returns-clause-ok
-returns-clause-ok c = weight_answer c.args.marked.now.variables c.variables.result c.args.marked.now.items c.deref.result.now c.in_ok-answer.answer c.gordans_alternative.ensures c.items.ensures.variables c.in_ok-rows.ensures.marked (c.deref.ensures.value ∙ c.in_ok-rows.ensures.rows) c.variables.ensures c.in_ok-answer.ensures.ok
+returns-clause-ok c = answers_alone c.args.marked.now.variables c.args.marked.now.items c.weight_beside.result c.items.ensures.variables c.weight_beside.ensures.ok c.weight_beside.ensures.marked

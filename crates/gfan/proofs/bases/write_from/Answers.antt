@@ -1,11 +1,11 @@
-use Rattle.std.proofs.Common.{length, refl, sym, ap, subst, true, ◌∙◌}
+use Rattle.std.proofs.Common.{[], length, refl, sym, ap, subst}
 use Rattle.std.proofs.lemmas.Result.{err_from_is_err_and}
 use Rattle.gf_poly.specs.Marking.{polys}
 use Rattle.gf_reverse.proofs.ListLaws.{own}
 use Rattle.gf_tree.specs.Ideals.{ideal_within}
-use Rattle.gf_subtree.specs.Answers.{IsNextRow, IsRowEnd, IsRowAnswer}
-use Rattle.gfan.specs.BasesWriting.{IsUnderWay, IsListStoppedIn}
-use Rattle.gfan.proofs.BasesLaws.{starts, step_variables, goes_on, ends, stopped_early, stopped_tree, stopped_limit, stopped_piece, stopped_end, unnamed_tree, unnamed_piece, piece_calm}
+use Rattle.gfan.specs.BasesWriting.{GoesOnBehind}
+use Rattle.gfan.proofs.BasesLaws.{first_goes_on, stopped_early}
+use Rattle.gfan.proofs.PerformedLaws.{on_err, on_ok}
 use Rattle.gfan.proofs.bases.write_from.Goals as goal
 
 pub new-requires-clause-basis : goal.new-requires-clause-basis
@@ -16,74 +16,25 @@ new-requires-clause-basis g c κs within =
 pub returns-in_err-waves-clause-stopped : goal.returns-in_err-waves-clause-stopped
 returns-in_err-waves-clause-stopped g c =
     let p = err_from_is_err_and c.from_residual.result c.from_residual.ensures.1 in
-    rw p.1 (λ fs s. stopped_early c.args.options c.args.ring.now c.args.region.now fs (g.K.Sink.held c.args.output.now) (g.K.Sink.faults c.args.output.now) (g.K.Sink.faults c.args.output.now) p.0.refusal (ap (λ r. r.refusal) p.2))
+    rw p.1 (λ fs s. stopped_early [] c.args.options c.args.ring.now c.args.region.now fs (g.K.Sink.held c.args.output.now) (g.K.Sink.faults c.args.output.now) (g.K.Sink.faults c.args.output.now) p.0.refusal (ap (λ r. r.refusal) p.2))
 
-pub list-init : goal.list-init
-list-init g c = record {
-  under_way = λ fs s. subst (λ w. IsUnderWay c.args.options c.args.ring.now c.args.region.now fs w c.of-room.result true (g.K.Sink.held c.args.output.now) (g.K.Sink.held c.args.output.now)) (sym c.in_ok-waves.ensures.start)
-      (starts c.args.options c.args.ring.now c.args.region.now fs c.args.alloc c.args.workers c.args.root c.of-room.result (g.K.Sink.held c.args.output.now) s c.of-room.ensures);
-  calm = refl;
-}
-
-pub returns-in_err-basis-clause-stopped : goal.returns-in_err-basis-clause-stopped
-returns-in_err-basis-clause-stopped g c =
-    let p = err_from_is_err_and c.from_residual-in_err-basis.result c.from_residual-in_err-basis.ensures.1 in
-    rw (p.1, p.2) (λ fs s. stopped_tree c.args.options c.args.ring.now c.args.region.now fs c.list.waves c.list.room c.list.is_first (g.K.Sink.held c.args.output.now) (g.K.Sink.held c.list.output) (c.list.invariant.under_way fs s) (g.K.Sink.faults c.args.output.now) (g.K.Sink.faults c.list.output) c.in_err-basis.field-0.0 c.in_err-basis.ensures.early)
-
-pub returns-in_err-basis-clause-told : goal.returns-in_err-basis-clause-told
-returns-in_err-basis-clause-told g c =
-    let p = err_from_is_err_and c.from_residual-in_err-basis.result c.from_residual-in_err-basis.ensures.1 in
-    rw (p.1, p.2) (unnamed_tree c.in_err-basis.field-0.0)
-
-pub write_basis-requires-clause-variables : goal.write_basis-requires-clause-variables
-write_basis-requires-clause-variables g c =
-    let step : IsNextRow c.list.waves c.next_written.new.self c.in-Some.basis = subst (λ o. IsRowAnswer c.list.waves c.next_written.new.self o) c.in-Some.is c.in_ok-basis.ensures.ok in
-    step_variables c.args.options c.args.ring.now c.args.region.now (polys c.args.root.items) c.list.waves c.list.room c.list.is_first (g.K.Sink.held c.args.output.now) (g.K.Sink.held c.list.output) (c.list.invariant.under_way (polys c.args.root.items) c.requires.first) c.next_written.new.self c.in-Some.basis step
-
-pub write_basis-requires-clause-region : goal.write_basis-requires-clause-region
-write_basis-requires-clause-region g c =
-    let step : IsNextRow c.list.waves c.next_written.new.self c.in-Some.basis = subst (λ o. IsRowAnswer c.list.waves c.next_written.new.self o) c.in-Some.is c.in_ok-basis.ensures.ok in
-    c.requires.first.node.fan.region.root.width ∙ sym (step_variables c.args.options c.args.ring.now c.args.region.now (polys c.args.root.items) c.list.waves c.list.room c.list.is_first (g.K.Sink.held c.args.output.now) (g.K.Sink.held c.list.output) (c.list.invariant.under_way (polys c.args.root.items) c.requires.first) c.next_written.new.self c.in-Some.basis step)
-
-pub list-preserved : goal.list-preserved
-list-preserved g c =
-    let step : IsNextRow c.list.waves c.next_written.new.self c.in-Some.basis = subst (λ o. IsRowAnswer c.list.waves c.next_written.new.self o) c.in-Some.is c.in_ok-basis.ensures.ok in
-    record {
-      under_way = λ fs s. goes_on c.args.options c.args.ring.now c.args.region.now fs c.list.waves c.list.room c.list.is_first (g.K.Sink.held c.args.output.now) (g.K.Sink.held c.list.output) (c.list.invariant.under_way fs s) c.next_written.new.self c.in-Some.basis step c.in_ok-room.room (g.K.Sink.held c.write_basis.new.output) c.in_ok-room.ensures.ok c.in_ok-write_basis.ensures.all;
-      calm = c.in_ok-write_basis.ensures.calm ∙ c.list.invariant.calm;
-    }
-
-pub returns-in_err-room-clause-stopped : goal.returns-in_err-room-clause-stopped
-returns-in_err-room-clause-stopped g c =
-    let step : IsNextRow c.list.waves c.next_written.new.self c.in-Some.basis = subst (λ o. IsRowAnswer c.list.waves c.next_written.new.self o) c.in-Some.is c.in_ok-basis.ensures.ok in
-    let p = err_from_is_err_and c.from_residual-in_err-room.result c.from_residual-in_err-room.ensures.1 in
-    rw (p.1, p.2) (λ fs s. stopped_limit c.args.options c.args.ring.now c.args.region.now fs c.list.waves c.list.room c.list.is_first (g.K.Sink.held c.args.output.now) (g.K.Sink.held c.list.output) (c.list.invariant.under_way fs s) c.next_written.new.self c.in-Some.basis step (g.K.Sink.faults c.args.output.now) (g.K.Sink.faults c.list.output) c.in_err-room.field-0.0 c.in_err-room.ensures.err)
-
-pub returns-in_err-write_basis-clause-stopped : goal.returns-in_err-write_basis-clause-stopped
-returns-in_err-write_basis-clause-stopped g c =
-    let step : IsNextRow c.list.waves c.next_written.new.self c.in-Some.basis = subst (λ o. IsRowAnswer c.list.waves c.next_written.new.self o) c.in-Some.is c.in_ok-basis.ensures.ok in
-    let p = err_from_is_err_and c.from_residual-in_err-write_basis.result c.from_residual-in_err-write_basis.ensures.1 in
-    rw (p.1, p.2) (λ fs s. subst (λ k. IsListStoppedIn c.args.options c.args.ring.now c.args.region.now fs (g.K.Sink.held c.args.output.now) (g.K.Sink.held c.write_basis.new.output) k (g.K.Sink.faults c.write_basis.new.output) c.in_err-write_basis.field-0.0) c.list.invariant.calm
-    (stopped_piece c.args.options c.args.ring.now c.args.region.now fs c.list.waves c.list.room c.list.is_first (g.K.Sink.held c.args.output.now) (g.K.Sink.held c.list.output) (c.list.invariant.under_way fs s) c.next_written.new.self c.in-Some.basis step c.in_ok-room.room (g.K.Sink.held c.write_basis.new.output) (g.K.Sink.faults c.list.output) (g.K.Sink.faults c.write_basis.new.output) c.in_err-write_basis.field-0.0 c.in_ok-room.ensures.ok c.in_err-write_basis.ensures.err))
-
-pub returns-in_err-offer-clause-stopped : goal.returns-in_err-offer-clause-stopped
-returns-in_err-offer-clause-stopped g c =
-    let end : IsRowEnd c.list.waves c.next_written.new.self = subst (λ o. IsRowAnswer c.list.waves c.next_written.new.self o) c.in_default.is c.in_ok-basis.ensures.ok in
-    let p = err_from_is_err_and c.from_residual-in_err-offer.result c.from_residual-in_err-offer.ensures.1 in
-    rw (p.1, p.2) (λ fs s. subst (λ k. IsListStoppedIn c.args.options c.args.ring.now c.args.region.now fs (g.K.Sink.held c.args.output.now) (g.K.Sink.held c.offer.new.output) k (g.K.Sink.faults c.offer.new.output) c.in_err-offer.field-0.0) c.list.invariant.calm
-    (stopped_end c.args.options c.args.ring.now c.args.region.now fs c.list.waves c.list.room c.list.is_first (g.K.Sink.held c.args.output.now) (g.K.Sink.held c.list.output) (c.list.invariant.under_way fs s) c.next_written.new.self end (g.K.Sink.held c.offer.new.output) (g.K.Sink.faults c.list.output) (g.K.Sink.faults c.offer.new.output) c.in_err-offer.field-0.0 c.in_err-offer.ensures.err))
+pub write_waves-requires-clause-row : goal.write_waves-requires-clause-row
+write_waves-requires-clause-row g c κs within =
+    let n = length c.args.ring.now in (
+      [],
+      polys c.args.root.items,
+      subst (λ w. GoesOnBehind [] n c.args.region.now (polys c.args.root.items) c.args.options.pairs w) (sym c.in_ok-waves.ensures.start)
+          (first_goes_on n c.args.region.now (polys c.args.root.items) c.args.options.pairs c.args.alloc c.args.workers c.args.root c.requires.first),
+    )
 
 pub returns-clause-done : goal.returns-clause-done
 returns-clause-done g c =
-    let end : IsRowEnd c.list.waves c.next_written.new.self = subst (λ o. IsRowAnswer c.list.waves c.next_written.new.self o) c.in_default.is c.in_ok-basis.ensures.ok in
-    λ fs s. ends c.args.options c.args.ring.now c.args.region.now fs c.list.waves c.list.room c.list.is_first (g.K.Sink.held c.args.output.now) (g.K.Sink.held c.list.output) (c.list.invariant.under_way fs s) c.next_written.new.self end (g.K.Sink.held c.offer.new.output) c.in_ok-offer.ensures.all
+    let n = length c.args.ring.now in
+    on_ok c.write_waves.result _ _ (λ h fs s. h [] fs (subst (λ w. GoesOnBehind [] n c.args.region.now fs c.args.options.pairs w) (sym c.in_ok-waves.ensures.start)
+    (first_goes_on n c.args.region.now fs c.args.options.pairs c.args.alloc c.args.workers c.args.root s))) c.write_waves.ensures.done
 
-pub returns-in_err-write_basis-clause-told : goal.returns-in_err-write_basis-clause-told
-returns-in_err-write_basis-clause-told g c =
-    let p = err_from_is_err_and c.from_residual-in_err-write_basis.result c.from_residual-in_err-write_basis.ensures.1 in
-    rw (p.1, p.2) (unnamed_piece c.args.options.certified c.args.ring.now c.args.region.now c.list.is_first c.in-Some.basis (g.K.Sink.held c.list.output) (g.K.Sink.held c.write_basis.new.output) (g.K.Sink.faults c.list.output) (g.K.Sink.faults c.write_basis.new.output) c.in_err-write_basis.field-0.0 c.in_err-write_basis.ensures.err)
-
-pub returns-in_err-write_basis-clause-calm : goal.returns-in_err-write_basis-clause-calm
-returns-in_err-write_basis-clause-calm g c =
-    let p = err_from_is_err_and c.from_residual-in_err-write_basis.result c.from_residual-in_err-write_basis.ensures.1 in
-    rw (p.1, p.2) (λ never. piece_calm c.args.options.certified c.args.ring.now c.args.region.now c.list.is_first c.in-Some.basis (g.K.Sink.held c.list.output) (g.K.Sink.held c.write_basis.new.output) (g.K.Sink.faults c.list.output) (g.K.Sink.faults c.write_basis.new.output) (g.K.Sink.faults c.args.output.now) c.in_err-write_basis.field-0.0 c.in_err-write_basis.ensures.err c.list.invariant.calm never)
+pub returns-clause-stopped : goal.returns-clause-stopped
+returns-clause-stopped g c =
+    let n = length c.args.ring.now in
+    on_err c.write_waves.result _ _ (λ e h fs s. h [] fs (subst (λ w. GoesOnBehind [] n c.args.region.now fs c.args.options.pairs w) (sym c.in_ok-waves.ensures.start)
+    (first_goes_on n c.args.region.now fs c.args.options.pairs c.args.alloc c.args.workers c.args.root s))) c.write_waves.ensures.stopped

@@ -10,7 +10,7 @@ pub returns-then-items-clause-err : goal.returns-then-items-clause-err
 returns-then-items-clause-err c = IsBasisConeCause.at_check check_errors.Memory tt refl
 
 pub returns-in-Err-clause-err : goal.returns-in-Err-clause-err
-returns-in-Err-clause-err c = IsBasisConeCause.at_check c.in-Err.error c.in-Err.ensures.err c.of_check.ensures
+returns-in-Err-clause-err c = IsBasisConeCause.at_check c.in-Err.error (c.in-Err.ensures.alone refl) c.of_check.ensures
 
 pub returns-in_err-cone-clause-err : goal.returns-in_err-cone-clause-err
 returns-in_err-cone-clause-err c =

@@ -1,0 +1,5 @@
+use Rattle.gfan.proofs.PartsLaws.{parts_are_joined}
+use Rattle.gfan.proofs.laws.parts_are_joined.Goals as goal
+
+pub returns : goal.returns
+returns c = parts_are_joined
