@@ -3,6 +3,8 @@
 #![tactic(auto)]
 
 #[cfg(test)]
+mod interactive;
+#[cfg(test)]
 mod refinement;
 #[cfg(test)]
 mod regions;
