@@ -52,9 +52,13 @@ IsDoneUnlessMemory status = (status ≡ statuses.Done) ⊎ (status ≡ statuses.
 abbrev pub OfJobAsked : List (List ℕ) → (Job → Type 0) → Type 0
 OfJobAsked words holds = (job : Job) × IsJobOf words job × holds job
 
--- no job that the words ask for reads the input; none reads a file
+-- the command reads the input: as one of its sources, or in turns
+abbrev pub ReadsInput : Command → Type 0
+ReadsInput c = HaveInput c.reads ⊎ TakesTurns c.writing
+
+-- no job that the words ask for reads the input
 abbrev pub AskForNoInput : (Job → Command) → List (List ℕ) → Type 0
-AskForNoInput command_of words = (job : Job) → IsJobOf words job → HaveInput (command_of job).reads → ⊥
+AskForNoInput command_of words = (job : Job) → IsJobOf words job → ReadsInput (command_of job) → ⊥
 
 -- no job that the words ask for reads a file
 abbrev pub AskForNoFile : (Job → Command) → List (List ℕ) → Type 0

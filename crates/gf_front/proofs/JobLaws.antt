@@ -22,7 +22,7 @@ use Rattle.gf_front.specs.declared.command_line.Job.TheVariants as jobs
 use Rattle.gf_front.specs.declared.choice.Choice.{Choice}
 use Rattle.gf_front.specs.declared.choice.Choice.TheVariants as choices
 use Rattle.gf_front.specs.declared.plain.PlainCommand.{PlainCommand}
-use Rattle.gf_front.specs.Table.{Entry, table, commands, with_options, plain_commands, plain_named, rule, is_needed, shape, most_pairs, most_workers, most_number, usual_pairs, number_of, buchberger, bases, plain, leading_terms, groebner_cone, weight_vector, to_polyhedral_fan, tropical_intersection, fan_common_refinement, generated, saturation}
+use Rattle.gf_front.specs.Table.{Entry, table, commands, with_options, plain_commands, plain_named, rule, is_needed, shape, most_pairs, most_workers, most_number, usual_pairs, number_of, buchberger, bases, plain, leading_terms, groebner_cone, weight_vector, to_polyhedral_fan, tropical_intersection, fan_common_refinement, generated, saturation, interactive}
 use Rattle.gf_front.specs.Jobs.{HasMatch, HasNumbersInRange, IsJobOfMatch, match_of, job_in, job_of}
 use Rattle.gf_front.specs.Options.{HoldsChoice, HoldChoices, LiesBetween, NamesEntry, IsCommand}
 use Rattle.gf_front.proofs.MatchLaws.{Enters, accepted, both, entered_rows, level_rows, rows_pass}
@@ -300,6 +300,9 @@ generated_keeps rows h =
 saturation_keeps : (rows : List Row) → HoldChoices saturation.options rows → HasNumbersInRange (saturation.job rows)
 saturation_keeps rows h = pairs_within rows h.0.1
 
+interactive_keeps : (rows : List Row) → HoldChoices interactive.options rows → HasNumbersInRange (interactive.job rows)
+interactive_keeps rows h = pairs_within rows h.1.0.1
+
 options_keep : AllKeepRanges with_options
 options_keep =
     next buchberger _ buchberger_keeps
@@ -312,7 +315,8 @@ options_keep =
     (next fan_common_refinement _ (λ rows h. tt)
     (next generated _ generated_keeps
     (next saturation _ saturation_keeps
-    none_keep)))))))))
+    (next interactive _ interactive_keeps
+    none_keep))))))))))
 
 -- commands without options have no numbers
 plains_keep : (cs : List (Text × PlainCommand)) (es : List Entry) → AllKeepRanges es → AllKeepRanges (map plain cs ++ es)

@@ -29,6 +29,7 @@ HasNumbersInRange (jobs.Bases o) =
 HasNumbersInRange (jobs.Generated o) =
     (o.number ≤ most_number) × (1 ≤ o.limit) × (o.limit ≤ most_pairs) × (1 ≤ o.pairs) × (o.pairs ≤ most_pairs) × (1 ≤ o.workers) × (o.workers ≤ most_workers)
 HasNumbersInRange (jobs.Saturation o) = (1 ≤ o.pairs) × (o.pairs ≤ most_pairs)
+HasNumbersInRange (jobs.Interactive o) = (1 ≤ o.pairs) × (o.pairs ≤ most_pairs)
 HasNumbersInRange _ = Unit {0}
 
 -- ---- the match of words that are renamed

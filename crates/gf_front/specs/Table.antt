@@ -245,9 +245,20 @@ saturation = record {
   job = λ rows. jobs.Saturation (record { pairs = number_of (codes "pairs") usual_pairs rows });
 }
 
+-- `_interactive` with its file and its option
+abbrev pub interactive : Entry
+interactive = record {
+  name = codes "_interactive";
+  options =
+      (codes "file", choices.BareFile)
+      ∷ (codes "pairs", an_amount)
+      ∷ [];
+  job = λ rows. jobs.Interactive (record { file = text_of (codes "file") rows; pairs = number_of (codes "pairs") usual_pairs rows });
+}
+
 -- those with options
 abbrev pub with_options : List Entry
-with_options = buchberger ∷ bases ∷ leading_terms ∷ groebner_cone ∷ weight_vector ∷ to_polyhedral_fan ∷ tropical_intersection ∷ fan_common_refinement ∷ generated ∷ saturation ∷ []
+with_options = buchberger ∷ bases ∷ leading_terms ∷ groebner_cone ∷ weight_vector ∷ to_polyhedral_fan ∷ tropical_intersection ∷ fan_common_refinement ∷ generated ∷ saturation ∷ interactive ∷ []
 
 -- those without options, by their names
 abbrev pub plain_commands : List (Text × PlainCommand)

@@ -3,15 +3,15 @@
 //! clap reads the words by the table; what it would say of a fault is never printed.
 ghost use Rattle.std.specs.Prelude.{◌≡◌, [], IfOk, IsErrOf, map, string_bytes, codes, Some};
 ghost use Rattle.clap.specs.Words.{found_of, rows_of, one_of, first_of, kind_of};
-ghost use Rattle.gf_front.specs.Table.{most_workers, flag_of, number_of, number_where, text_of, buchberger, bases, leading_terms, groebner_cone, weight_vector, to_polyhedral_fan, tropical_intersection, fan_common_refinement, generated, saturation};
+ghost use Rattle.gf_front.specs.Table.{most_workers, flag_of, number_of, number_where, text_of, buchberger, bases, leading_terms, groebner_cone, weight_vector, to_polyhedral_fan, tropical_intersection, fan_common_refinement, generated, saturation, interactive};
 ghost use Rattle.gf_front.specs.Jobs.{renamed, HasMatch, IsJobOfMatch, IsMatched, IsJobOf, HasNumbersInRange, job_of};
 ghost use Rattle.gf_front.specs.Options.{HoldsFlag, HoldsUnsigned, HoldsNumber, HoldsText, HoldChoices, IsCommand};
 
 use crate::name::Name;
 use crate::options::{
     BasesOptions, BuchbergerOptions, FanCommonRefinementOptions, GeneratedOptions,
-    GroebnerConeOptions, LeadingTermsOptions, SaturationOptions, ToPolyhedralFanOptions,
-    TropicalIntersectionOptions, WeightVectorOptions,
+    GroebnerConeOptions, InteractiveOptions, LeadingTermsOptions, SaturationOptions,
+    ToPolyhedralFanOptions, TropicalIntersectionOptions, WeightVectorOptions,
 };
 use crate::plain::{PlainCommand, plain_command};
 use crate::table::table;
@@ -47,6 +47,8 @@ pub enum Job {
     Generated(GeneratedOptions),
     /// The saturation of a set's ideal by the product of the variables.
     Saturation(SaturationOptions),
+    /// A walk over the bases of an ideal, by lines that are answered in turn.
+    Interactive(InteractiveOptions),
 }
 
 /// Why there is no job.
@@ -237,6 +239,17 @@ fn saturation(found: &ArgMatches) -> Job
     })
 }
 
+/// The job of `_interactive`.
+fn interactive(alloc: Global, found: &ArgMatches) -> Result<Job, AllocError>
+    requires { HoldChoices interactive.options (rows_of (found_of found.now)) }
+    ensures { IfOk result (λ job. interactive.job (rows_of (found_of found.now)) ≡ job) }
+{
+    Ok(Job::Interactive(InteractiveOptions {
+        file: Name::new(alloc, text(found, "file"))?,
+        pairs: number(found, "pairs", PAIRS),
+    }))
+}
+
 /// The job of a command with its options.
 fn job_of(alloc: Global, name: &str, found: &ArgMatches) -> Result<Job, AllocError>
     requires { IsCommand (name.now, rows_of (found_of found.now)) }
@@ -256,6 +269,7 @@ fn job_of(alloc: Global, name: &str, found: &ArgMatches) -> Result<Job, AllocErr
         "_fancommonrefinement" => fan_common_refinement(alloc, found)?,
         "_generated" => generated(found),
         "_saturation" => saturation(found),
+        "_interactive" => interactive(alloc, found)?,
         _ => unreachable!(),
     })
 }

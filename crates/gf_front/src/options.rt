@@ -103,3 +103,12 @@ pub struct SaturationOptions {
     /// `--pairs N`: the budget of pairs of each run of Buchberger's algorithm.
     pub pairs: u64,
 }
+
+/// What `_interactive` is asked.
+#[derive(Debug, Drop, PartialEq, Eq)]
+pub struct InteractiveOptions {
+    /// The file of the marked reduced basis where the session begins.
+    pub file: Name,
+    /// `--pairs N`: the budget of pairs of each run of Buchberger's algorithm.
+    pub pairs: u64,
+}

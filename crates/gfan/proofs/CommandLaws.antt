@@ -51,6 +51,7 @@ use Rattle.gfan.proofs.CommonRefinementLaws.{refinement_lawful}
 use Rattle.gfan.proofs.MigrateFanLaws.{migrate_fan_exact, migrate_fan_tested, migration_not_listed}
 use Rattle.gfan.proofs.SummaryLaws.{generated_lawful}
 use Rattle.gfan.proofs.SaturationLaws.{saturation_lawful}
+use Rattle.gfan.proofs.InteractiveLaws.{interactive_lawful}
 
 tropical_lawful : (which : TropicalFan) → IsLawful (tropical_command which)
 tropical_lawful which = sound_lawful (tropical_command which) (tropical_exact which) (tropical_tested which) (λ h. h) (λ t. t) (λ a m w. tropical_not_listed which (length a.0) (generators_of a.1.0) m w)
@@ -117,6 +118,7 @@ lawful (jobs.TropicalIntersection o) = intersection_lawful o.basis_test
 lawful (jobs.FanCommonRefinement o) = refinement_lawful o.first o.second
 lawful (jobs.Generated o) = generated_lawful o.number o.limit o.pairs
 lawful (jobs.Saturation o) = saturation_lawful o.pairs
+lawful (jobs.Interactive o) = interactive_lawful o.file o.pairs
 
 -- ---- what a job reads
 
@@ -156,6 +158,7 @@ listed_not_once (Some after) within from_basis o w = w
 pub one_source : (job : Job) → WritesOnce (command_of job).writing → ((o : FanCommonRefinementOptions) → job ≡ jobs.FanCommonRefinement o → ⊥) → ((o : GeneratedOptions) → job ≡ jobs.Generated o → ⊥) → ReadsInputAlone job
 one_source (jobs.FanCommonRefinement o) w n m = absurd (n o refl)
 one_source (jobs.Generated o) w n m = absurd (m o refl)
+one_source (jobs.Interactive o) w n m = absurd w
 one_source (jobs.Plain k) w n m = plain_source k
 one_source (jobs.Bases o) w n m = absurd (listed_not_once o.after o.within o.from_basis (list_options o) w)
 one_source (jobs.LeadingTerms o) w n m = leading_source o.listed

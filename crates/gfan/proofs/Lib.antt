@@ -31,6 +31,7 @@ pub mod WideRootLaws  -- an entry of the root of a region that is too great
 pub mod ExactLaws  -- refusals of each command are told in one way
 pub mod SummaryLaws  -- how a list is summed up
 pub mod SaturationLaws  -- what `_saturation` answers, and why it doesn't
+pub mod InteractiveLaws  -- how the session of `_interactive` goes, and why it is cut off
 pub mod BasisTestLaws  -- whether polynomials are a tropical basis, and why that is not told
 pub mod AfterLaws  -- the basis that a list goes on behind is taken, and listed below the root, in one way
 pub mod AfterCommandLaws  -- `_bases --after` is lawful, and its refusals are told with the names of the ring

@@ -89,6 +89,7 @@ use Rattle.gfan.proofs.ReadSetLaws.{IsKeptMember, marked_kept, one_kept}
 use Rattle.gfan.proofs.BasesListLaws.{given_node}
 use Rattle.gfan.proofs.GivenBasisLaws.{way_in_tree}
 use Rattle.gfan.proofs.CommandLaws.{lawful}
+use Rattle.gfan.proofs.SourceLaws.{from_alone}
 
 -- ---- what a refusal tells
 
@@ -362,16 +363,6 @@ job_never (jobs.Generated o) texts x b h = generated_never o.number o.limit o.pa
 job_never _ texts x b h = absurd b
 
 -- ---- the run
-
-list_alone : (within : Option (List ℕ)) (from_basis : Bool) (o : ListOptions) → TakesTurns (bases_of within from_basis o).writing → ⊥
-list_alone None false o t = t
-list_alone None true o t = t
-list_alone (Some name) false o t = t
-list_alone (Some name) true o t = t
-
-from_alone : (after within : Option (List ℕ)) (from_basis : Bool) (o : ListOptions) → TakesTurns (list_of after within from_basis o).writing → ⊥
-from_alone None within from_basis o t = list_alone within from_basis o t
-from_alone (Some after) within from_basis o t = t
 
 takes_no_turns : (job : Job) (texts : List (List ℕ)) → IsOnBinomials job texts → TakesTurns (command_of job).writing → ⊥
 takes_no_turns (jobs.Buchberger o) texts b t = t

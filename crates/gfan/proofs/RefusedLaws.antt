@@ -14,7 +14,7 @@ use Rattle.gf_front.specs.declared.refusal.Refusal.{Refusal}
 use Rattle.gf_front.specs.Lines.{names_in, of_words, line}
 use Rattle.gf_items.specs.Refusals.{of_text}
 use Rattle.gfan.specs.Refused.{without_names, names_of, IsNamedBy, IsOfSource, WrittenAsFar}
-use Rattle.gfan.specs.Run.{IsOfInput}
+use Rattle.gfan.specs.Run.{IsOfSources}
 
 -- ---- refusals that name no monomials
 
@@ -35,8 +35,8 @@ named_words words_errors.Memory = λ lent is. tt
 pub of_source : (source : List ℕ) (r : Refusal) → IsNamedBy None r → IsOfSource source (without_names r)
 of_source source r h = record { named = h; ring = tt }
 
-pub of_no_source : (left leaves : Option (List ℕ)) (given gives : ℕ) (r : Refusal) → IsNamedBy None r → IsOfInput left leaves given gives (without_names r)
-of_no_source left leaves given gives r h = record { named = h; ring = tt }
+pub of_no_source : (words : List (List ℕ)) (bytes : List ℕ → Option (List ℕ)) (left leaves : Option (List ℕ)) (given gives : ℕ) (r : Refusal) → IsNamedBy None r → IsOfSources words bytes left leaves given gives (without_names r)
+of_no_source words bytes left leaves given gives r h = record { named = h; ring = tt }
 
 -- ---- names
 

@@ -1,11 +1,12 @@
 -- How a run ends: with which names its refusal is told, and that a list comes to its limit where it goes on past it.
--- To cite: words_named, unloaded_named, unnamed_loaded, told_loaded, one_told; limit_not_done, limit_told. The rest are
--- steps.
-use Rattle.std.specs.Prelude.{◌≡◌, ◌⊎◌, ℕ, Bool, true, false, List, [], ◌∷◌, Option, None, Some, IfSome}
+-- To cite: words_named, unloaded_named, unnamed_loaded, told_loaded, one_told, turns_done, turns_refused, turns_told, takes_turns; limit_not_done, limit_told.
+-- The rest are steps.
+use Rattle.std.specs.Prelude.{◌≡◌, ◌⊎◌, ℕ, List, [], ◌∷◌, Option, None, Some, IfSome}
 use Rattle.std.proofs.Common.{sym, ap, ◌∙◌, subst, inl, inr}
 use Rattle.gf_outside.specs.Faults.{Rose}
 use Rattle.gf_front.specs.declared.command_line.Job.{Job}
 use Rattle.gf_front.specs.declared.command_line.Job.TheVariants as jobs
+use Rattle.gf_front.specs.declared.options.InteractiveOptions.{InteractiveOptions}
 use Rattle.gf_front.specs.declared.refusal.Refusal.{Refusal}
 use Rattle.gf_front.specs.declared.refusal.Refusal.TheVariants as refusals
 use Rattle.gf_front.specs.declared.refusal.Status.TheVariants as statuses
@@ -14,18 +15,20 @@ use Rattle.gf_frame.specs.Seen.{InputSeen, Seen, OutputSeen}
 use Rattle.gf_frame.specs.Loading.{Origin, IsInputLoaded, AreLoaded, AreUnloaded}
 use Rattle.gf_frame.specs.Commands.{Writing, Command, IsOfOutside, IsAnswered, IsRefusedOn}
 use Rattle.gf_frame.specs.Runs.{TakesTurns, IsCarriedOut, IsDoneBy, AreCut, IsStoppedBy, AreGivenTexts}
-use Rattle.gf_frame.specs.Programs.{IsRunDone, IsRunRefused, IsRefusedWith}
+use Rattle.gf_frame.specs.Programs.{IsRunDone, IsRunRefused, IsRefusedWith, ReadsInput}
 use Rattle.gf_frame.proofs.LoadingLaws.{loaded_known, unloaded_known, unloaded_outside}
 use Rattle.gf_frame.proofs.ProgramLaws.{done_as, stopped_as}
 use Rattle.gfan.specs.declared.refused.Refused.{Refused}
 use Rattle.gfan.specs.BasesWriting.{IsUnnamed}
 use Rattle.gfan.specs.Refused.{IsNamedBy, IsRingOf, IsOfSource}
-use Rattle.gfan.specs.declared.bases.ListOptions.{ListOptions}
-use Rattle.gfan.specs.Commands.{list_options, bases_of, list_of, command_of, IsPastReach}
-use Rattle.gfan.specs.Run.{ReadWhole, IsRingOfInput, IsOfInput, IsOfLoaded}
+use Rattle.gfan.specs.Commands.{list_options, command_of, IsPastReach}
+use Rattle.gfan.specs.Run.{ReadWhole, IsRingOfInput, IsRingOfFile, IsOfSources, IsOfLoaded}
 use Rattle.gfan.proofs.PerformedLaws.{of_unnamed}
 use Rattle.gfan.proofs.PastLaws.{past_refused, past_unanswered}
 use Rattle.gfan.proofs.CommandLaws.{lawful}
+use Rattle.gfan.specs.Interactive.{IsConversed, IsNotConversed}
+use Rattle.gfan.proofs.SourceLaws.{from_alone}
+use Rattle.gfan.proofs.InteractiveLaws.{conversed_done, conversed_stopped}
 
 -- ---- the line of a refusal
 
@@ -40,10 +43,10 @@ outside_named _ h = λ lent is. tt
 pub unloaded_named : (os : List Origin) (p q : Seen) (r : Refusal) → AreUnloaded os p q r → IsNamedBy None r
 unloaded_named os p q r u = outside_named r (unloaded_outside os p q r u)
 
-unnamed_input : (left leaves : Option (List ℕ)) (given gives : ℕ) (e : Refused) → IsUnnamed e → IsOfInput left leaves given gives e
-unnamed_input left leaves given gives e u = record {
+unnamed_input : (words : List (List ℕ)) (bytes : List ℕ → Option (List ℕ)) (left leaves : Option (List ℕ)) (given gives : ℕ) (e : Refused) → IsUnnamed e → IsOfSources words bytes left leaves given gives e
+unnamed_input words bytes left leaves given gives e u = record {
   named = subst (λ ring. IsNamedBy ring e.refusal) (sym u.ring) u.named;
-  ring = subst (λ ring. IfSome ring (IsRingOfInput left leaves given gives)) (sym u.ring) tt;
+  ring = subst (λ ring. IfSome ring (λ names. IsRingOfInput left leaves given gives names ⊎ IsRingOfFile words bytes names)) (sym u.ring) tt;
 }
 
 -- what is told without a ring is told so of any sources
@@ -68,51 +71,76 @@ unnamed_loaded (Origin.the_input ∷ []) [] e u = u
 unnamed_loaded (Origin.the_input ∷ []) (source ∷ []) e u = of_unnamed source e u
 unnamed_loaded (Origin.the_input ∷ []) (source ∷ (other ∷ others)) e u = u
 
--- the ring of the text is that of the input
-of_input : (p m q : Seen) (source : List ℕ) (e : Refused) → IsInputLoaded p m source → q ≡ m → IsOfSource source e → IsOfInput p.input.left q.input.left p.input.given q.input.given e
-of_input p m q source e l same h = record { named = h.named; ring = at e.ring h.ring }
-  where
-    whole : ReadWhole p.input.left q.input.left p.input.given q.input.given source
-    whole = subst (λ (x : Seen). ReadWhole p.input.left x.input.left p.input.given x.input.given source) (sym same) (record { took = l.took; end = l.end; short = l.short })
+module _ (words : List (List ℕ)) where
+  -- the ring of the text is that of the input
+  of_input : (p m q : Seen) (source : List ℕ) (e : Refused) → IsInputLoaded p m source → q ≡ m → IsOfSource source e →
+      IsOfSources words p.files.bytes p.input.left q.input.left p.input.given q.input.given e
+  of_input p m q source e l same h = record { named = h.named; ring = at e.ring h.ring }
+    where
+      whole : ReadWhole p.input.left q.input.left p.input.given q.input.given source
+      whole = subst (λ (x : Seen). ReadWhole p.input.left x.input.left p.input.given x.input.given source) (sym same) (record { took = l.took; end = l.end; short = l.short })
 
-    at : (ring : Option (List (List ℕ))) → IfSome ring (IsRingOf source) → IfSome ring (IsRingOfInput p.input.left q.input.left p.input.given q.input.given)
-    at None x = tt
-    at (Some names) x = record { source = source; read = whole; ring = x }
+      at : (ring : Option (List (List ℕ))) → IfSome ring (IsRingOf source) → IfSome ring (λ names. IsRingOfInput p.input.left q.input.left p.input.given q.input.given names ⊎ IsRingOfFile words p.files.bytes names)
+      at None x = tt
+      at (Some names) x = inl (record { source = source; read = whole; ring = x })
 
-pub told_loaded : (os : List Origin) (p q : Seen) (texts : List (List ℕ)) (e : Refused) → AreLoaded os p q texts → IsOfLoaded os texts e → IsOfInput p.input.left q.input.left p.input.given q.input.given e
-told_loaded [] p q texts e l h = unnamed_input p.input.left q.input.left p.input.given q.input.given e h
-told_loaded (Origin.a_file name ∷ []) p q texts e l h = unnamed_input p.input.left q.input.left p.input.given q.input.given e h
-told_loaded (Origin.a_file name ∷ (Origin.a_file other ∷ [])) p q texts e l h = unnamed_input p.input.left q.input.left p.input.given q.input.given e h
-told_loaded (Origin.a_file name ∷ (Origin.a_file other ∷ (Origin.a_file third ∷ os))) p q texts e l h = unnamed_input p.input.left q.input.left p.input.given q.input.given e h
-told_loaded (Origin.a_file name ∷ (Origin.a_file other ∷ (Origin.the_input ∷ (o ∷ os)))) p q texts e l h = unnamed_input p.input.left q.input.left p.input.given q.input.given e h
-told_loaded (Origin.a_file name ∷ (Origin.a_file other ∷ (Origin.the_input ∷ []))) p q [] e l h = absurd l
-told_loaded (Origin.a_file name ∷ (Origin.a_file other ∷ (Origin.the_input ∷ []))) p q (file ∷ []) e l h = absurd l.2
-told_loaded (Origin.a_file name ∷ (Origin.a_file other ∷ (Origin.the_input ∷ []))) p q (file ∷ (second ∷ [])) e l h = absurd l.2.2
-told_loaded (Origin.a_file name ∷ (Origin.a_file other ∷ (Origin.the_input ∷ []))) p q (file ∷ (second ∷ (source ∷ []))) e l h =
-    subst (λ (i : InputSeen). IsOfInput i.left q.input.left i.given q.input.given e) (l.2.1.input ∙ l.1.input) (of_input l.2.0 l.2.2.0 q source e l.2.2.1 l.2.2.2 h)
-told_loaded (Origin.a_file name ∷ (Origin.a_file other ∷ (Origin.the_input ∷ []))) p q (file ∷ (second ∷ (source ∷ (more ∷ others)))) e l h = absurd l.2.2.2
-told_loaded (Origin.a_file name ∷ (Origin.the_input ∷ (o ∷ os))) p q texts e l h = unnamed_input p.input.left q.input.left p.input.given q.input.given e h
-told_loaded (Origin.a_file name ∷ (Origin.the_input ∷ [])) p q [] e l h = absurd l
-told_loaded (Origin.a_file name ∷ (Origin.the_input ∷ [])) p q (file ∷ []) e l h = absurd l.2
-told_loaded (Origin.a_file name ∷ (Origin.the_input ∷ [])) p q (file ∷ (source ∷ [])) e l h =
-    subst (λ (i : InputSeen). IsOfInput i.left q.input.left i.given q.input.given e) l.1.input (of_input l.0 l.2.0 q source e l.2.1 l.2.2 h)
-told_loaded (Origin.a_file name ∷ (Origin.the_input ∷ [])) p q (file ∷ (source ∷ (other ∷ others))) e l h = absurd l.2.2
-told_loaded (Origin.the_input ∷ (o ∷ os)) p q texts e l h = unnamed_input p.input.left q.input.left p.input.given q.input.given e h
-told_loaded (Origin.the_input ∷ []) p q [] e l h = absurd l
-told_loaded (Origin.the_input ∷ []) p q (source ∷ []) e l h = of_input p l.0 q source e l.1 l.2 h
-told_loaded (Origin.the_input ∷ []) p q (source ∷ (other ∷ others)) e l h = absurd l.2
+  pub told_loaded : (os : List Origin) (p q : Seen) (texts : List (List ℕ)) (e : Refused) → AreLoaded os p q texts → IsOfLoaded os texts e →
+      IsOfSources words p.files.bytes p.input.left q.input.left p.input.given q.input.given e
+  told_loaded [] p q texts e l h = unnamed_input words p.files.bytes p.input.left q.input.left p.input.given q.input.given e h
+  told_loaded (Origin.a_file name ∷ []) p q texts e l h = unnamed_input words p.files.bytes p.input.left q.input.left p.input.given q.input.given e h
+  told_loaded (Origin.a_file name ∷ (Origin.a_file other ∷ [])) p q texts e l h = unnamed_input words p.files.bytes p.input.left q.input.left p.input.given q.input.given e h
+  told_loaded (Origin.a_file name ∷ (Origin.a_file other ∷ (Origin.a_file third ∷ os))) p q texts e l h = unnamed_input words p.files.bytes p.input.left q.input.left p.input.given q.input.given e h
+  told_loaded (Origin.a_file name ∷ (Origin.a_file other ∷ (Origin.the_input ∷ (o ∷ os)))) p q texts e l h = unnamed_input words p.files.bytes p.input.left q.input.left p.input.given q.input.given e h
+  told_loaded (Origin.a_file name ∷ (Origin.a_file other ∷ (Origin.the_input ∷ []))) p q [] e l h = absurd l
+  told_loaded (Origin.a_file name ∷ (Origin.a_file other ∷ (Origin.the_input ∷ []))) p q (file ∷ []) e l h = absurd l.2
+  told_loaded (Origin.a_file name ∷ (Origin.a_file other ∷ (Origin.the_input ∷ []))) p q (file ∷ (second ∷ [])) e l h = absurd l.2.2
+  told_loaded (Origin.a_file name ∷ (Origin.a_file other ∷ (Origin.the_input ∷ []))) p q (file ∷ (second ∷ (source ∷ []))) e l h =
+      subst (λ (z : List ℕ → Option (List ℕ)). IsOfSources words z p.input.left q.input.left p.input.given q.input.given e) (l.2.1.kept ∙ l.1.kept)
+      (subst (λ (i : InputSeen). IsOfSources words l.2.0.files.bytes i.left q.input.left i.given q.input.given e) (l.2.1.input ∙ l.1.input) (of_input l.2.0 l.2.2.0 q source e l.2.2.1 l.2.2.2 h))
+  told_loaded (Origin.a_file name ∷ (Origin.a_file other ∷ (Origin.the_input ∷ []))) p q (file ∷ (second ∷ (source ∷ (more ∷ others)))) e l h = absurd l.2.2.2
+  told_loaded (Origin.a_file name ∷ (Origin.the_input ∷ (o ∷ os))) p q texts e l h = unnamed_input words p.files.bytes p.input.left q.input.left p.input.given q.input.given e h
+  told_loaded (Origin.a_file name ∷ (Origin.the_input ∷ [])) p q [] e l h = absurd l
+  told_loaded (Origin.a_file name ∷ (Origin.the_input ∷ [])) p q (file ∷ []) e l h = absurd l.2
+  told_loaded (Origin.a_file name ∷ (Origin.the_input ∷ [])) p q (file ∷ (source ∷ [])) e l h =
+      subst (λ (z : List ℕ → Option (List ℕ)). IsOfSources words z p.input.left q.input.left p.input.given q.input.given e) l.1.kept
+      (subst (λ (i : InputSeen). IsOfSources words l.0.files.bytes i.left q.input.left i.given q.input.given e) l.1.input (of_input l.0 l.2.0 q source e l.2.1 l.2.2 h))
+  told_loaded (Origin.a_file name ∷ (Origin.the_input ∷ [])) p q (file ∷ (source ∷ (other ∷ others))) e l h = absurd l.2.2
+  told_loaded (Origin.the_input ∷ (o ∷ os)) p q texts e l h = unnamed_input words p.files.bytes p.input.left q.input.left p.input.given q.input.given e h
+  told_loaded (Origin.the_input ∷ []) p q [] e l h = absurd l
+  told_loaded (Origin.the_input ∷ []) p q (source ∷ []) e l h = of_input p l.0 q source e l.1 l.2 h
+  told_loaded (Origin.the_input ∷ []) p q (source ∷ (other ∷ others)) e l h = absurd l.2
+
+  -- the ring of the text is that of the one file that the job reads
+  told_of_file : (job : Job) (name : List ℕ) (p m q : Seen) (source : List ℕ) (e : Refused) → IsJobOf words job → (command_of job).reads ≡ Origin.a_file name ∷ [] →
+      AreLoaded (Origin.a_file name ∷ []) p m (source ∷ []) → IsOfSource source e → IsOfSources words p.files.bytes p.input.left q.input.left p.input.given q.input.given e
+  told_of_file job name p m q source e asked reads l h = record { named = h.named; ring = at e.ring h.ring }
+    where
+      at : (ring : Option (List (List ℕ))) → IfSome ring (IsRingOf source) → IfSome ring (λ names. IsRingOfInput p.input.left q.input.left p.input.given q.input.given names ⊎ IsRingOfFile words p.files.bytes names)
+      at None x = tt
+      at (Some names) x = inr (record { job = job; asked = asked; name = name; reads = reads; source = source; is = l.1.is; ring = x })
+
+-- ---- in turns
+
+-- a job that takes turns, from the text of its file on
+module _ (words : List (List ℕ)) (p m q : Seen) (o s : OutputSeen) (job : Job) (options : InteractiveOptions) (source : List ℕ) (texts : List (List ℕ)) (asked : IsJobOf words job) (is : job ≡ jobs.Interactive options)
+    (loaded : AreLoaded (command_of job).reads p m texts) (alone : texts ≡ source ∷ []) (files : q.files ≡ m.files) where
+  own_loaded : AreLoaded (Origin.a_file options.file ∷ []) p m (source ∷ [])
+  own_loaded = subst (λ ts. AreLoaded (Origin.a_file options.file ∷ []) p m ts) alone (subst (λ j. AreLoaded (command_of j).reads p m texts) is loaded)
+
+  pub turns_done : IsConversed source m.input q.input o s → IsRunDone command_of words p q o s
+  turns_done c = record { job = job; asked = asked; done = subst (λ j. IsDoneBy (command_of j) p q o s) (sym is) (conversed_done options.file options.pairs p q m o s source own_loaded files c) }
+
+  pub turns_refused : (r : Refusal) → IsNotConversed options.file options.pairs source m.input q.input o s r → IsRunRefused command_of words p q o s r
+  turns_refused r c = IsRunRefused.of_job job asked (subst (λ j. IsStoppedBy (command_of j) p q o s r) (sym is) (conversed_stopped options.file options.pairs p q m o s source own_loaded files r c))
+
+  pub turns_told : (e : Refused) → IsOfSource source e → IsOfSources words p.files.bytes p.input.left q.input.left p.input.given q.input.given e
+  turns_told e h = told_of_file words job options.file p m q source e asked (ap (λ j. (command_of j).reads) is) own_loaded h
+
+-- such a job takes of the input
+pub takes_turns : (job : Job) (options : InteractiveOptions) → job ≡ jobs.Interactive options → ReadsInput (command_of job)
+takes_turns job options is = inr (subst (λ j. TakesTurns (command_of j).writing) (sym is) tt)
 
 -- ---- past the limit of a list
-
-list_alone : (within : Option (List ℕ)) (from_basis : Bool) (o : ListOptions) → TakesTurns (bases_of within from_basis o).writing → ⊥
-list_alone None false o t = t
-list_alone None true o t = t
-list_alone (Some name) false o t = t
-list_alone (Some name) true o t = t
-
-from_alone : (after within : Option (List ℕ)) (from_basis : Bool) (o : ListOptions) → TakesTurns (list_of after within from_basis o).writing → ⊥
-from_alone None within from_basis o t = list_alone within from_basis o t
-from_alone (Some after) within from_basis o t = t
 
 past_alone : (job : Job) (texts : List (List ℕ)) (most : ℕ) → IsPastReach job texts most → TakesTurns (command_of job).writing → ⊥
 past_alone (jobs.Bases o) texts most p t = from_alone o.after o.within o.from_basis (list_options o) t

@@ -1,6 +1,6 @@
 -- What a job is handed, from the texts of its sources as the code lists them.
--- To cite: one_alone, two_alone, texts_length, list_as, within_as, after_as, after_within_as, list_reads, two_as, one_as, none_as, writes_once, not_asked, not_handed. The rest are
--- steps.
+-- To cite: one_alone, two_alone, texts_length, list_as, within_as, after_as, after_within_as, list_reads, two_as, one_as, none_as, writes_once, list_alone, from_alone,
+-- not_asked, not_held, held_alone, not_handed. The rest are steps.
 use Rattle.std.specs.Prelude.{◌≡◌, ◌⊎◌, ℕ, Bool, true, false, List, [], ◌∷◌, length, get_or, Vec, Option, None, Some}
 use Rattle.std.specs.Global.{Global}
 use Rattle.std.proofs.Common.{arith, refl, sym, ap, ◌∙◌, subst, inl, inr}
@@ -11,15 +11,19 @@ use Rattle.gf_front.specs.declared.plain.PlainCommand.TheVariants as plains
 use Rattle.gf_front.specs.declared.options.BasesOptions.{BasesOptions}
 use Rattle.gf_front.specs.declared.options.FanCommonRefinementOptions.{FanCommonRefinementOptions}
 use Rattle.gf_front.specs.declared.options.GeneratedOptions.{GeneratedOptions}
+use Rattle.gf_front.specs.declared.options.InteractiveOptions.{InteractiveOptions}
 use Rattle.gf_frame.specs.Loading.{Origin}
 use Rattle.gf_frame.specs.Origins.{texts_of}
 use Rattle.gf_frame.specs.Commands.{Command, WritesOnce}
+use Rattle.gf_frame.specs.Runs.{TakesTurns}
+use Rattle.gf_frame.proofs.WorkLaws.{once_alone}
 use Rattle.gfan.specs.declared.bases.ListOptions.{ListOptions}
 use Rattle.gfan.specs.declared.told_cone.ConeOptions.{ConeOptions}
 use Rattle.gfan.specs.LeadingTerms.{leading_terms_command}
 use Rattle.gfan.specs.WeightVector.{weight_vector_command}
 use Rattle.gfan.specs.GroebnerCone.{groebner_cone_command}
 use Rattle.gfan.specs.CommonRefinement.{refinement_command}
+use Rattle.gfan.specs.BasisTest.{intersection_command}
 use Rattle.gfan.specs.Generated.{generated_command}
 use Rattle.gfan.specs.After.{after_command}
 use Rattle.gfan.specs.Commands.{list_options, cone_options, plain_command, list_sources, list_command, within_command, bases_of, after_sources, list_of, command_of, ReadsInputAlone}
@@ -162,19 +166,31 @@ cone_once : (vector_input : Bool) (o : ConeOptions) → WritesOnce (groebner_con
 cone_once false o = tt
 cone_once true o = tt
 
--- all but the list do
-pub writes_once : (job : Job) → ((o : BasesOptions) → job ≡ jobs.Bases o → ⊥) → WritesOnce (command_of job).writing
-writes_once (jobs.Plain k) n = plain_once k
-writes_once (jobs.Buchberger o) n = tt
-writes_once (jobs.Bases o) n = absurd (n o refl)
-writes_once (jobs.LeadingTerms o) n = leading_once o.listed
-writes_once (jobs.WeightVector o) n = weight_once o.listed o.echoed
-writes_once (jobs.GroebnerCone o) n = cone_once o.vector_input (cone_options o)
-writes_once (jobs.ToPolyhedralFan o) n = tt
-writes_once (jobs.TropicalIntersection o) n = intersection_once o.basis_test
-writes_once (jobs.FanCommonRefinement o) n = tt
-writes_once (jobs.Generated o) n = tt
-writes_once (jobs.Saturation o) n = tt
+-- all but the list do that take no turns
+pub writes_once : (job : Job) → ((o : BasesOptions) → job ≡ jobs.Bases o → ⊥) → (TakesTurns (command_of job).writing → ⊥) → WritesOnce (command_of job).writing
+writes_once (jobs.Plain k) n a = plain_once k
+writes_once (jobs.Buchberger o) n a = tt
+writes_once (jobs.Bases o) n a = absurd (n o refl)
+writes_once (jobs.LeadingTerms o) n a = leading_once o.listed
+writes_once (jobs.WeightVector o) n a = weight_once o.listed o.echoed
+writes_once (jobs.GroebnerCone o) n a = cone_once o.vector_input (cone_options o)
+writes_once (jobs.ToPolyhedralFan o) n a = tt
+writes_once (jobs.TropicalIntersection o) n a = intersection_once o.basis_test
+writes_once (jobs.FanCommonRefinement o) n a = tt
+writes_once (jobs.Generated o) n a = tt
+writes_once (jobs.Saturation o) n a = tt
+writes_once (jobs.Interactive o) n a = absurd (a tt)
+
+-- the list takes no turns
+pub list_alone : (within : Option (List ℕ)) (from_basis : Bool) (o : ListOptions) → TakesTurns (bases_of within from_basis o).writing → ⊥
+list_alone None false o t = t
+list_alone None true o t = t
+list_alone (Some name) false o t = t
+list_alone (Some name) true o t = t
+
+pub from_alone : (after within : Option (List ℕ)) (from_basis : Bool) (o : ListOptions) → TakesTurns (list_of after within from_basis o).writing → ⊥
+from_alone None within from_basis o t = list_alone within from_basis o t
+from_alone (Some after) within from_basis o t = t
 
 file_not_input : (name : List ℕ) (os ps : List Origin) → Origin.a_file name ∷ os ≡ Origin.the_input ∷ ps → ⊥
 file_not_input name os ps e = cc
@@ -189,6 +205,21 @@ not_asked job once reads h = elim h [
   | inl k ↦ listed_not_once k.0.after k.0.within k.0.from_basis (list_options k.0) (subst (λ j. WritesOnce (command_of j).writing) k.1 once)
   | inr k ↦ file_not_input k.0.first (Origin.a_file k.0.second ∷ []) [] (subst ReadsInputAlone k.1 reads)
 ]
+
+-- nor one that takes turns
+pub not_held : (job : Job) (o : InteractiveOptions) → ReadsInputAlone job → job ≡ jobs.Interactive o → ⊥
+not_held job o reads e = file_not_input o.file [] [] (subst ReadsInputAlone e reads)
+
+-- only one does
+pub held_alone : (job : Job) → ((o : InteractiveOptions) → job ≡ jobs.Interactive o → ⊥) → TakesTurns (command_of job).writing → ⊥
+held_alone (jobs.Interactive o) n t = n o refl
+held_alone (jobs.Plain k) n t = once_alone (plain_command k).writing (plain_once k) t
+held_alone (jobs.Bases o) n t = from_alone o.after o.within o.from_basis (list_options o) t
+held_alone (jobs.LeadingTerms o) n t = once_alone (leading_terms_command o.listed).writing (leading_once o.listed) t
+held_alone (jobs.WeightVector o) n t = once_alone (weight_vector_command o.listed o.echoed).writing (weight_once o.listed o.echoed) t
+held_alone (jobs.GroebnerCone o) n t = once_alone (groebner_cone_command o.vector_input (cone_options o)).writing (cone_once o.vector_input (cone_options o)) t
+held_alone (jobs.TropicalIntersection o) n t = once_alone (intersection_command o.basis_test).writing (intersection_once o.basis_test) t
+held_alone _ n t = t
 
 -- nor one that reads nothing
 pub not_handed : (job : Job) (o : GeneratedOptions) → ReadsInputAlone job → job ≡ jobs.Generated o → ⊥

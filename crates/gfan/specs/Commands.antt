@@ -41,6 +41,7 @@ use Rattle.gfan.specs.CommonRefinement.{refinement_command}
 use Rattle.gfan.specs.MigrateFan.{migrate_fan_command}
 use Rattle.gfan.specs.Generated.{generated_command}
 use Rattle.gfan.specs.Saturation.{saturation_command}
+use Rattle.gfan.specs.Interactive.{interactive_command}
 
 -- what `_buchberger` is asked
 abbrev pub options : BuchbergerOptions → Options
@@ -123,6 +124,7 @@ command_of (jobs.TropicalIntersection o) = intersection_command o.basis_test
 command_of (jobs.FanCommonRefinement o) = refinement_command o.first o.second
 command_of (jobs.Generated o) = generated_command o.number o.limit o.pairs
 command_of (jobs.Saturation o) = saturation_command o.pairs
+command_of (jobs.Interactive o) = interactive_command o.file o.pairs
 
 -- the job reads the input alone
 abbrev pub ReadsInputAlone : Job → Type 0

@@ -36,6 +36,7 @@ pub mod MigrateFan  -- what `_migratefan` reads and writes
 pub mod Generated  -- what `_generated` writes
 pub mod Summaries  -- how `_generated` sums up a list
 pub mod OneSummary  -- `_generated` writes one text for a number and a limit
+pub mod Interactive  -- what `_interactive` reads and writes, and how its session goes
 pub mod Commands  -- the command of each job
 pub mod PlainInputs  -- inputs that are written as monomials and differences of two
 pub mod ListSources  -- the ring and the polynomials that a source of `_bases` says

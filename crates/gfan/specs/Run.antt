@@ -1,13 +1,16 @@
--- The line that tells a refusal of a run. What is left of the input before and after, how many bytes it gave before and after, and what the
--- sink of faults holds before and after stand in this order.
-use Rattle.std.specs.Prelude.{ℕ, ◌≤◌, List, [], ◌∷◌, length, IfSome, Option}
-use Rattle.std.specs.Io.KnownBytes.{IsAtEnd}
+-- The line that tells a refusal of a run. The words, the bytes of files by their names, what is left of the input before and after, how many
+-- bytes it gave before and after, and what the sink of faults holds before and after stand in this order.
+use Rattle.std.specs.Prelude.{◌≡◌, ◌⊎◌, ℕ, ◌≤◌, List, [], ◌∷◌, length, IfSome, Option, Some}
+use Rattle.std.specs.Io.KnownBytes.{IsAtEnd, Keeps}
 use Rattle.gf_outside.specs.Moved.{Took}
 use Rattle.gf_front.specs.declared.refusal.Refusal.{Refusal}
+use Rattle.gf_front.specs.declared.command_line.Job.{Job}
+use Rattle.gf_front.specs.Jobs.{IsJobOf}
 use Rattle.gf_front.specs.Lines.{line}
 use Rattle.gf_frame.specs.Loading.{Origin}
 use Rattle.gfan.specs.declared.refused.Refused.{Refused}
 use Rattle.gfan.specs.BasesWriting.{IsUnnamed}
+use Rattle.gfan.specs.Commands.{command_of}
 use Rattle.gfan.specs.Refused.{names_of, IsNamedBy, IsRingOf, IsOfSource, WrittenAsFar}
 
 -- these bytes are all that was left of the input, and no more than an input may have
@@ -22,10 +25,20 @@ pub record IsRingOfInput (left leaves : Option (List ℕ)) (given gives : ℕ) (
   pub read : ReadWhole left leaves given gives source
   pub ring : IsRingOf source names
 
--- the refusal can be told, and the ring is that of the input
-pub record IsOfInput (left leaves : Option (List ℕ)) (given gives : ℕ) (refused : Refused) : Type 0 where
+-- the words ask for a job that loads one file alone, and that begins with the text of this ring
+pub record IsRingOfFile (words : List (List ℕ)) (bytes : List ℕ → Option (List ℕ)) (names : List (List ℕ)) : Type 0 where
+  pub job : Job
+  pub asked : IsJobOf words job
+  pub name : List ℕ
+  pub reads : (command_of job).reads ≡ Origin.a_file name ∷ []
+  pub source : List ℕ
+  pub is : Keeps (bytes name) (Some source)
+  pub ring : IsRingOf source names
+
+-- the refusal can be told, and the ring is that of the input, or of the one file that the job reads
+pub record IsOfSources (words : List (List ℕ)) (bytes : List ℕ → Option (List ℕ)) (left leaves : Option (List ℕ)) (given gives : ℕ) (refused : Refused) : Type 0 where
   pub named : IsNamedBy refused.ring refused.refusal
-  pub ring : IfSome refused.ring (IsRingOfInput left leaves given gives)
+  pub ring : IfSome refused.ring (λ names. IsRingOfInput left leaves given gives names ⊎ IsRingOfFile words bytes names)
 
 -- the refusal can be told; of the input alone, or behind a file, whose text this is, with the ring of the text, and of any other sources
 -- without a ring
@@ -36,8 +49,8 @@ IsOfLoaded (Origin.a_file name ∷ (Origin.a_file other ∷ (Origin.the_input �
 IsOfLoaded origins texts refused = IsUnnamed refused
 
 -- The sink of faults gained a prefix of the line of the refusal, and the whole line unless its count of faults rose.
--- Monomials are told with the names of the ring that the input begins with.
-pub record IsTold (refusal : Refusal) (left leaves : Option (List ℕ)) (given gives : ℕ) (held holds : Option (List ℕ)) (before now : ℕ) : Type 0 where
+-- Monomials are told with the names of the ring that the input begins with, or the one file that the job reads.
+pub record IsTold (words : List (List ℕ)) (refusal : Refusal) (bytes : List ℕ → Option (List ℕ)) (left leaves : Option (List ℕ)) (given gives : ℕ) (held holds : Option (List ℕ)) (before now : ℕ) : Type 0 where
   pub ring : Option (List (List ℕ))
-  pub of_input : IsOfInput left leaves given gives (record { refusal = refusal; ring = ring })
+  pub of_sources : IsOfSources words bytes left leaves given gives (record { refusal = refusal; ring = ring })
   pub written : WrittenAsFar held holds before now (line (names_of ring) refusal)

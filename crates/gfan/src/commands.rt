@@ -7,7 +7,7 @@ ghost use Rattle.gf_frame.specs.Seen.{seen, output_seen};
 ghost use Rattle.gf_frame.specs.Loading.{AreLoaded, AreUnloaded, HaveInput, HaveFile};
 ghost use Rattle.gf_frame.specs.Origins.{texts_of};
 ghost use Rattle.gf_frame.specs.Commands.{WritesOnce, IsAnswered, IsRefusedOn};
-ghost use Rattle.gf_frame.specs.Runs.{IsDoneOn, IsStoppedOn};
+ghost use Rattle.gf_frame.specs.Runs.{TakesTurns, IsDoneOn, IsStoppedOn};
 ghost use Rattle.gfan.specs.Refused.{IsOfSource};
 ghost use Rattle.gfan.specs.BasisTest.{intersection_command};
 ghost use Rattle.gfan.specs.Commands.{plain_command, list_sources, after_sources, command_of, ReadsInputAlone};
@@ -138,6 +138,9 @@ pub(crate) fn texts_for<S: Source, F: Files>(
             Some(after) => after_texts(alloc, given.within.as_ref(), after, input, files),
         },
         Job::Generated(_) => load_all(alloc, &[], input, files),
+        Job::Interactive(given) => {
+            load_all(alloc, &[LoadFrom::File(given.file.as_str())], input, files)
+        }
         _ => load_all(alloc, &[LoadFrom::Input], input, files),
     }
 }
@@ -215,6 +218,7 @@ fn input_answer<R: Threads + Sync>(
         }
         Job::Bases(_) | Job::FanCommonRefinement(_) => unreachable!(),
         Job::Generated(_) => unreachable!(),
+        Job::Interactive(_) => unreachable!(),
         Job::LeadingTerms(given) => leading_terms::answer(alloc, source, given.listed),
         Job::GroebnerCone(given) => {
             let options = ConeOptions {
@@ -394,7 +398,8 @@ fn perform_after<R: Threads + Sync, K: Sink, G: Gate>(
     }
 }
 
-/// Writes to the output what the job writes for the texts of what it reads: in one piece at its end, or piece by piece as it goes.
+/// Writes to the output what the job writes for the texts of what it reads: in one piece at its end, or piece by piece as it goes. The job takes no
+/// turns with the input.
 pub(crate) fn perform<R: Threads + Sync, K: Sink, G: Gate>(
     rt: &R,
     alloc: Global,
@@ -404,6 +409,7 @@ pub(crate) fn perform<R: Threads + Sync, K: Sink, G: Gate>(
     gate: &G,
 ) -> Result<(), Refused>
     requires limits { HasNumbersInRange job.now }
+    requires alone { TakesTurns (command_of job.now).writing → ⊥ }
     requires all { length texts.now ≡ length (command_of job.now).reads }
     ensures done { OnOk result (IsDoneOn (command_of job.now) (texts_of texts.now) (output_seen (K.held output.old) (K.faults output.old))
         (output_seen (K.held output.new) (K.faults output.new))) }

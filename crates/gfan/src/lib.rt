@@ -8,10 +8,10 @@
 //! `_weightvector` writes weights that give marked bases, `_topolyhedralfan` the fan of the cones of such bases, `_homogeneityspace` the
 //! vectors by which polynomials are homogeneous, `_tropicalhypersurface` the tropical hypersurface of a polynomial, `_tropicalintersection`
 //! the meet of those of a set, `_minkowskisum` the normal fan of the sum of Newton polytopes; `_fancommonrefinement` reads two files and
-//! writes the fan of the meets of the cones of their fans, `_migratefan` reads one and writes its fan anew; `_generated` reads nothing, and sums up
-//! the bases of an ideal; `_saturation` reads a ring and a set, and writes the reduced basis by degree of the saturation of its ideal by the
-//! product of the variables. What a run does is told at `run`, what each command writes in
-//! `specs/Commands.antt` and `specs/CommonRefinement.antt`.
+//! writes the fan of the meets of the cones of their fans, `_migratefan` reads one and writes its fan anew; `_interactive` reads a file, and
+//! answers the input line by line as a walk over bases; `_generated` reads nothing, and sums up the bases of an ideal; `_saturation` reads a
+//! ring and a set, and writes the reduced basis by degree of the saturation of its ideal by the product of the variables. What a run does is
+//! told at `run`, what each command writes in `specs/Commands.antt` and `specs/CommonRefinement.antt`.
 #![tactic(auto)]
 
 mod after;
@@ -30,6 +30,7 @@ mod groebner_cone;
 mod homogeneity_space;
 mod homogenize;
 mod initial_forms;
+mod interactive;
 pub mod laws;
 mod leading_terms;
 mod mark_polynomial_set;

@@ -9,7 +9,11 @@ use gf_reduced::{CheckError, require_reduced};
 use std::alloc::Global;
 
 /// The set at a place as the reduced basis that it is. Sets and members are counted in 32 bits.
-fn reduced_basis(alloc: Global, set: &MarkedSet, place: usize) -> Result<MarkedSet, CheckError>
+pub(crate) fn reduced_basis(
+    alloc: Global,
+    set: &MarkedSet,
+    place: usize,
+) -> Result<MarkedSet, CheckError>
     ensures ok { IfOk result (IsReducedAsRead set.now) }
     ensures err { IfErr result (IsReducedRefusal place set.now) }
 {

@@ -11,11 +11,12 @@ ghost use Rattle.gf_frame.specs.Runs.{AreGivenTexts};
 ghost use Rattle.gf_frame.specs.Programs.{IsRunDone, IsRunRefused, RunClauses, IsRefusedWith, AskForNoInput, AskForNoFile};
 ghost use Rattle.gfan.specs.Commands.{command_of, IsPastReach};
 ghost use Rattle.gfan.specs.PlainInputs.{IsOnBinomials};
-ghost use Rattle.gfan.specs.Run.{IsOfInput, IsTold};
+ghost use Rattle.gfan.specs.Run.{IsOfSources, IsTold};
 
 use crate::commands::{perform, texts_for};
+use crate::interactive;
 use crate::refused::Refused;
-use gf_front::{Refusal, Status};
+use gf_front::{Job, Refusal, Status};
 use gf_outside::{Files, Sink, Source};
 use gf_waves::Gate;
 use std::alloc::Global;
@@ -43,21 +44,27 @@ fn outcome<R: Threads + Sync, S: Source, K: Sink, F: Files, G: Gate>(
         (seen (S.left input.new) (S.given input.new) (S.faults input.new) (F.bytes files.new) (F.left files.new)
         (F.given files.new) (F.unopened files.new) (F.faults files.new))
         (output_seen (K.held output.old) (K.faults output.old)) (output_seen (K.held output.new) (K.faults output.new)) e.refusal) }
-    ensures told { IfErr result (IsOfInput (S.left input.old) (S.left input.new) (S.given input.old)
+    ensures told { IfErr result (IsOfSources (map string_bytes words.now) (F.bytes files.old) (S.left input.old) (S.left input.new) (S.given input.old)
         (S.given input.new)) }
     ensures input_untouched { AskForNoInput command_of (map string_bytes words.now) → input.new ≡ input.old }
     ensures files_untouched { AskForNoFile command_of (map string_bytes words.now) → files.new ≡ files.old }
 {
     let job = gf_front::words(alloc, words)?;
     let texts = texts_for(alloc, &job, input, files)?;
-    perform(rt, alloc, &job, &texts, output, gate)
+    match &job {
+        Job::Interactive(given) => {
+            interactive::perform(alloc, &texts[0], given.pairs, input, output)
+        }
+        other => perform(rt, alloc, other, &texts, output, gate),
+    }
 }
 
 /// Does what the words ask for, and tells a refusal in one line.
 ///
 /// The words are those after the program's name. The job is that of `gf_front::words`; what it reads and writes is told
 /// at its own function. `_fancommonrefinement` loads two of `files`, the first one whole before the second, and doesn't read the input;
-/// `_generated` reads nothing; `_bases --within` loads one of `files`, and then the input; every other job reads the input to its end, and no file. The answer is one piece of the output, or of `_bases` one piece for each basis, and
+/// `_generated` reads nothing; `_bases --within` loads one of `files`, and then the input; `_interactive` loads one, and then takes the input line by line and
+/// writes an answer to each; every other job reads the input to its end, and no file. The answer is one piece of the output, or of `_bases` one piece for each basis, and
 /// nothing else is written there. Of `_bases` several workers may do the jobs of the list, on threads of `rt`: before each of them the gate is
 /// called, on the thread that will do it, and no answer depends on it; of `_generated` they may too, without the gate. `_fancommonrefinement`, `_tropicalintersection` and `_minkowskisum` meet
 /// cones on threads of `rt` too. On Done nothing is written to `faults`. Whether `faults` takes the line changes neither the status nor the output.
@@ -86,7 +93,8 @@ fn outcome<R: Threads + Sync, S: Source, K: Sink, F: Files, G: Gate>(
 ///   `PairBudget` only where the budget of the words is spent.
 /// - `ListLimit` only where the limit of the words is reached, and the list goes on; and always there, unless numbers of the work don't fit.
 /// - `WriteFault` only where a write of this call failed, or took nothing; a prefix of the answer may be
-///   written then. Any other refusal leaves nothing in the output, or the beginning of the text of a job that writes as it goes.
+///   written then. Any other refusal leaves nothing in the output, or the beginning of the text of a job that writes as it goes; a session
+///   that is cut off has answered each line before the last one, and nothing of the last one's answer stands.
 /// - `Memory` at any growth.
 pub fn run<R: Threads + Sync, S: Source, K: Sink, E: Sink, F: Files, G: Gate>(
     rt: &R,
@@ -149,7 +157,7 @@ pub fn run<R: Threads + Sync, S: Source, K: Sink, E: Sink, F: Files, G: Gate>(
     ensures files_untouched { AskForNoFile command_of (map string_bytes words.now) → files.new ≡ files.old }
 
     // The line of a refusal, and none where all was done.
-    ensures told { (refusal : Refusal) → result ≡ Status.Refused refusal → IsTold refusal
+    ensures told { (refusal : Refusal) → result ≡ Status.Refused refusal → IsTold (map string_bytes words.now) refusal (F.bytes files.old)
         (S.left input.old) (S.left input.new) (S.given input.old) (S.given input.new)
         (E.held faults.old) (E.held faults.new) (E.faults faults.old) (E.faults faults.new) }
     ensures silent { result ≡ Status.Done → faults.new ≡ faults.old }

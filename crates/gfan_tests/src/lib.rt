@@ -5,6 +5,8 @@
 #[cfg(test)]
 mod after;
 #[cfg(test)]
+mod interactive;
+#[cfg(test)]
 mod refinement;
 #[cfg(test)]
 mod regions;

@@ -1,6 +1,6 @@
 use Rattle.std.proofs.Common.{refl}
 use Rattle.clap.specs.Words.{found_of, rows_of}
-use Rattle.gf_front.specs.Table.{buchberger, bases, leading_terms, groebner_cone, weight_vector, to_polyhedral_fan, tropical_intersection, fan_common_refinement, generated, saturation}
+use Rattle.gf_front.specs.Table.{buchberger, bases, leading_terms, groebner_cone, weight_vector, to_polyhedral_fan, tropical_intersection, fan_common_refinement, generated, saturation, interactive}
 use Rattle.gf_front.proofs.JobLaws.{choices_hold}
 use Rattle.gf_front.proofs.command_line.job_of.Goals as goal
 
@@ -33,3 +33,6 @@ generated-requires c = choices_hold generated (c.args.name.now, rows_of (found_o
 
 pub saturation-requires : goal.saturation-requires
 saturation-requires c = choices_hold saturation (c.args.name.now, rows_of (found_of c.args.found.now)) refl c.requires c.in-text-10.is
+
+pub interactive-requires : goal.interactive-requires
+interactive-requires c = choices_hold interactive (c.args.name.now, rows_of (found_of c.args.found.now)) refl c.requires c.in-text-11.is

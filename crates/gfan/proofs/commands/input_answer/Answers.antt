@@ -2,7 +2,7 @@ use Rattle.std.proofs.Common.{[], ◌∷◌, IfErr, sym, subst}
 use Rattle.gf_front.specs.declared.command_line.Job.{Job}
 use Rattle.gf_frame.specs.Commands.{IsRefusedOn}
 use Rattle.gfan.specs.Commands.{command_of}
-use Rattle.gfan.proofs.SourceLaws.{not_asked, not_handed}
+use Rattle.gfan.proofs.SourceLaws.{not_asked, not_handed, not_held}
 use Rattle.gfan.proofs.commands.input_answer.Goals as goal
 
 pub unreachable-requires-in-Bases : goal.unreachable-requires-in-Bases
@@ -22,6 +22,9 @@ returns-in-TropicalIntersection-clause-err g c =
 
 pub unreachable-requires : goal.unreachable-requires
 unreachable-requires g c = absurd (not_handed c.args.job.now _ c.requires.input c.in-Generated.is)
+
+pub unreachable-requires-in-Interactive : goal.unreachable-requires-in-Interactive
+unreachable-requires-in-Interactive g c = absurd (not_held c.args.job.now _ c.requires.input c.in-Interactive.is)
 
 pub returns-in-Saturation-clause-err : goal.returns-in-Saturation-clause-err
 returns-in-Saturation-clause-err g c =
