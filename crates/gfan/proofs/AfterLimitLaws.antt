@@ -20,21 +20,21 @@ use Rattle.gf_items.specs.Checks.{AllHold}
 use Rattle.gf_frame.specs.Readings.{of_more, IsReadOfMore}
 use Rattle.gf_frame.specs.Commands.{IsAnswered, IsUnanswered, IsRefusedOn}
 use Rattle.gf_frame.proofs.ReadingLaws.{of_one_text}
-use Rattle.gfan.specs.declared.bases.ListOptions.{ListOptions}
-use Rattle.gfan.specs.BasesList.{AreAllBasesIn}
-use Rattle.gfan.specs.Bases.{of_tree, IsWithinLimit, IsGoingCauseBehind}
-use Rattle.gfan.specs.Certificates.{of_weight_error}
-use Rattle.gfan.specs.Within.{of_region}
-use Rattle.gfan.specs.After.{IsTakenIn, Given, names_given, generators_given, reading_given, reading_cut, IsCauseAfter, IsRefusedAfter, IsAfterPast, AfterValue, checks_after, IsAnswerAfter, AreTextsPastAfter, after_command}
-use Rattle.gfan.proofs.ReadSetLaws.{set_variables}
-use Rattle.gfan.proofs.ExactLaws.{past_limit}
+use Rattle.gfan_lists.specs.declared.bases.ListOptions.{ListOptions}
+use Rattle.gfan_lists.specs.BasesList.{AreAllBasesIn}
+use Rattle.gfan_common.specs.Causes.{of_tree, of_weight_error}
+use Rattle.gfan_lists.specs.Bases.{IsWithinLimit, IsGoingCauseBehind}
+use Rattle.gfan_lists.specs.Within.{of_region}
+use Rattle.gfan_lists.specs.After.{IsTakenIn, Given, names_given, generators_given, reading_given, reading_cut, IsCauseAfter, IsRefusedAfter, IsAfterPast, AfterValue, checks_after, IsAnswerAfter, AreTextsPastAfter, after_command}
+use Rattle.gfan_common.proofs.ReadSetLaws.{set_variables}
+use Rattle.gfan_lists.proofs.ListExactLaws.{past_limit}
 use Rattle.gfan.proofs.LimitLaws.{IsAtLimitOrMemory, one_limit, within_most}
 use Rattle.gfan.proofs.OneTextLaws.{read_variables, given_variables}
-use Rattle.gfan.proofs.PartsLaws.{behind_once}
-use Rattle.gfan.proofs.OneListLaws.{one_list_in}
-use Rattle.gfan.proofs.AfterLaws.{names_check, cut_one, cut_region, taken_once}
-use Rattle.gfan.proofs.AfterCommandLaws.{after_read, file_set, file_given, checked_after, start_within}
-use Rattle.gfan.proofs.AfterWritingLaws.{formed_after}
+use Rattle.gfan_lists.proofs.PartsLaws.{behind_once}
+use Rattle.gfan_lists.proofs.OneListLaws.{one_list_in}
+use Rattle.gfan_lists.proofs.AfterLaws.{names_check, cut_one, cut_region, taken_once}
+use Rattle.gfan_lists.proofs.AfterCommandLaws.{after_read, file_set, file_given, checked_after, start_within}
+use Rattle.gfan_lists.proofs.AfterWritingLaws.{formed_after}
 
 -- ---- what is read
 

@@ -13,45 +13,48 @@ use Rattle.gf_frame.specs.Loading.{Origin}
 use Rattle.gf_frame.specs.Commands.{WritesOnce}
 use Rattle.gf_frame.proofs.CommandLaws.{IsLawful}
 use Rattle.gf_frame.proofs.SoundLaws.{untested, sound_lawful}
-use Rattle.gfan.specs.Buchberger.{generators_of, buchberger_command}
-use Rattle.gfan.specs.Bases.{bases_command}
-use Rattle.gfan.specs.GivenBasis.{given_bases_command}
-use Rattle.gfan.specs.Marked.{marked_command}
-use Rattle.gfan.specs.Containment.{containment_command}
-use Rattle.gfan.specs.LeadingTerms.{leading_terms_command}
-use Rattle.gfan.specs.MarkPolynomialSet.{mark_polynomial_set_command}
-use Rattle.gfan.specs.InitialForms.{initial_forms_command}
-use Rattle.gfan.specs.Homogenize.{homogenize_command}
-use Rattle.gfan.specs.PolynomialSetUnion.{polynomial_set_union_command}
-use Rattle.gfan.specs.Stats.{stats_command}
-use Rattle.gfan.specs.WeightVector.{weight_vector_command}
-use Rattle.gfan.specs.GroebnerCone.{groebner_cone_command}
-use Rattle.gfan.specs.ToPolyhedralFan.{to_polyhedral_fan_command}
-use Rattle.gfan.specs.HomogeneitySpace.{nonzero_of, homogeneity_space_command}
-use Rattle.gfan.specs.declared.tropical.TropicalFan.{TropicalFan}
-use Rattle.gfan.specs.declared.tropical.TropicalFan.TheVariants as fans
-use Rattle.gfan.specs.Tropical.{tropical_command}
-use Rattle.gfan.specs.MigrateFan.{migrate_fan_command}
-use Rattle.gfan.specs.declared.bases.ListOptions.{ListOptions}
-use Rattle.gfan.specs.declared.told_cone.ConeOptions.{ConeOptions}
-use Rattle.gfan.specs.Within.{bases_within_command, given_within_command}
+use Rattle.gfan_common.specs.Forms.{generators_of}
+use Rattle.gfan_sets.specs.Buchberger.{buchberger_command}
+use Rattle.gfan_lists.specs.Bases.{bases_command}
+use Rattle.gfan_lists.specs.GivenBasis.{given_bases_command}
+use Rattle.gfan_sets.specs.Marked.{marked_command}
+use Rattle.gfan_sets.specs.Containment.{containment_command}
+use Rattle.gfan_sets.specs.LeadingTerms.{leading_terms_command}
+use Rattle.gfan_sets.specs.MarkPolynomialSet.{mark_polynomial_set_command}
+use Rattle.gfan_sets.specs.InitialForms.{initial_forms_command}
+use Rattle.gfan_sets.specs.Homogenize.{homogenize_command}
+use Rattle.gfan_sets.specs.PolynomialSetUnion.{polynomial_set_union_command}
+use Rattle.gfan_sets.specs.Stats.{stats_command}
+use Rattle.gfan_sets.specs.WeightVector.{weight_vector_command}
+use Rattle.gfan_fans.specs.GroebnerCone.{groebner_cone_command}
+use Rattle.gfan_fans.specs.ToPolyhedralFan.{to_polyhedral_fan_command}
+use Rattle.gfan_fans.specs.HomogeneitySpace.{nonzero_of, homogeneity_space_command}
+use Rattle.gfan_fans.specs.declared.tropical.TropicalFan.{TropicalFan}
+use Rattle.gfan_fans.specs.declared.tropical.TropicalFan.TheVariants as fans
+use Rattle.gfan_fans.specs.Tropical.{tropical_command}
+use Rattle.gfan_fans.specs.MigrateFan.{migrate_fan_command}
+use Rattle.gfan_lists.specs.declared.bases.ListOptions.{ListOptions}
+use Rattle.gfan_fans.specs.declared.told_cone.ConeOptions.{ConeOptions}
+use Rattle.gfan_lists.specs.Within.{bases_within_command, given_within_command}
 use Rattle.gfan.specs.Commands.{options, list_options, cone_options, plain_command, list_command, within_command, bases_of, list_of, command_of, ReadsInputAlone}
-use Rattle.gfan.proofs.CheckedSetLaws.{check_not_listed, test_cause_untested}
-use Rattle.gfan.proofs.WeightVectorLaws.{weight_vector_exact, weight_vector_tested, unweighed_not_listed}
-use Rattle.gfan.proofs.GroebnerConeLaws.{cone_exact, cone_tested, cone_not_listed}
-use Rattle.gfan.proofs.ToPolyhedralFanLaws.{to_polyhedral_fan_exact, to_polyhedral_fan_tested, no_fan_not_listed}
-use Rattle.gfan.proofs.HomogeneitySpaceLaws.{homogeneity_space_exact, homogeneity_space_tested, no_space_not_listed}
-use Rattle.gfan.proofs.TropicalLaws.{tropical_exact, tropical_tested, tropical_not_listed}
-use Rattle.gfan.proofs.BasisTestLaws.{intersection_lawful, intersection_source}
-use Rattle.gfan.proofs.ToolLaws.{mark_polynomial_set_exact, initial_forms_exact, homogenize_exact, polynomial_set_union_exact, stats_exact, homogenize_not_listed, gordan_not_listed, homogenize_untested, gordan_untested}
-use Rattle.gfan.proofs.ExactLaws.{buchberger_exact, marked_exact, containment_exact, leading_exact, bases_exact, given_exact, basis_not_listed, basis_untested, list_untested, memory_untested, containment_tested, given_tested}
-use Rattle.gfan.proofs.AfterCommandLaws.{after_lawful}
-use Rattle.gfan.proofs.WithinLaws.{within_exact, within_tested, given_within_exact, given_within_tested}
-use Rattle.gfan.proofs.CommonRefinementLaws.{refinement_lawful}
-use Rattle.gfan.proofs.MigrateFanLaws.{migrate_fan_exact, migrate_fan_tested, migration_not_listed}
-use Rattle.gfan.proofs.SummaryLaws.{generated_lawful}
-use Rattle.gfan.proofs.SaturationLaws.{saturation_lawful}
-use Rattle.gfan.proofs.InteractiveLaws.{interactive_lawful}
+use Rattle.gfan_common.proofs.CheckedSetLaws.{check_not_listed, test_cause_untested}
+use Rattle.gfan_sets.proofs.WeightVectorLaws.{weight_vector_exact, weight_vector_tested, unweighed_not_listed}
+use Rattle.gfan_fans.proofs.GroebnerConeLaws.{cone_exact, cone_tested, cone_not_listed}
+use Rattle.gfan_fans.proofs.ToPolyhedralFanLaws.{to_polyhedral_fan_exact, to_polyhedral_fan_tested, no_fan_not_listed}
+use Rattle.gfan_fans.proofs.HomogeneitySpaceLaws.{homogeneity_space_exact, homogeneity_space_tested, no_space_not_listed}
+use Rattle.gfan_fans.proofs.TropicalLaws.{tropical_exact, tropical_tested, tropical_not_listed}
+use Rattle.gfan_fans.proofs.BasisTestLaws.{intersection_lawful, intersection_source}
+use Rattle.gfan_sets.proofs.ToolLaws.{mark_polynomial_set_exact, initial_forms_exact, homogenize_exact, polynomial_set_union_exact, stats_exact, homogenize_not_listed, homogenize_untested}
+use Rattle.gfan_common.proofs.CauseLaws.{gordan_not_listed, gordan_untested, basis_not_listed, basis_untested, memory_untested}
+use Rattle.gfan_sets.proofs.ExactLaws.{buchberger_exact, marked_exact, containment_exact, leading_exact, containment_tested}
+use Rattle.gfan_lists.proofs.ListExactLaws.{bases_exact, given_exact, list_untested, given_tested}
+use Rattle.gfan_lists.proofs.AfterCommandLaws.{after_lawful}
+use Rattle.gfan_lists.proofs.WithinLaws.{within_exact, within_tested, given_within_exact, given_within_tested}
+use Rattle.gfan_fans.proofs.CommonRefinementLaws.{refinement_lawful}
+use Rattle.gfan_fans.proofs.MigrateFanLaws.{migrate_fan_exact, migrate_fan_tested, migration_not_listed}
+use Rattle.gfan_lists.proofs.SummaryLaws.{generated_lawful}
+use Rattle.gfan_sets.proofs.SaturationLaws.{saturation_lawful}
+use Rattle.gfan_interactive.proofs.InteractiveLaws.{interactive_lawful}
 
 tropical_lawful : (which : TropicalFan) → IsLawful (tropical_command which)
 tropical_lawful which = sound_lawful (tropical_command which) (tropical_exact which) (tropical_tested which) (λ h. h) (λ t. t) (λ a m w. tropical_not_listed which (length a.0) (generators_of a.1.0) m w)

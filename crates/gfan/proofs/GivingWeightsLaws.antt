@@ -10,11 +10,11 @@ use Rattle.gf_bases.proofs.LawsHold.{only_ideals_count}
 use Rattle.gf_reduced.proofs.GroebnerLaws.{polys_variables}
 use Rattle.gf_weights.specs.Weights.{IsPrintedWeight}
 use Rattle.gf_weights.proofs.WeightLaws.{weight_basis}
-use Rattle.gfan.specs.WeightVector.{IsWeightOfSet, GivesBasis}
+use Rattle.gfan_sets.specs.WeightVector.{IsWeightOfSet, GivesBasis}
 use Rattle.gfan.specs.GivingWeights.{WrittenWeightsGiveBases}
-use Rattle.gfan.proofs.ReadSetLaws.{IsSetKept, set_variables}
-use Rattle.gfan.proofs.WeightVectorLaws.{one_read}
-use Rattle.gfan.proofs.ReducedListLaws.{list_read}
+use Rattle.gfan_common.proofs.ReadSetLaws.{IsSetKept, set_variables}
+use Rattle.gfan_sets.proofs.WeightVectorLaws.{one_read}
+use Rattle.gfan_common.proofs.ReducedListLaws.{list_read}
 
 gives_basis : (s : MarkedPolynomials) (v : List ℤ) → HaveVariables s.variables s.items → IsWeightOfSet s v → GivesBasis s v
 gives_basis s v h w =

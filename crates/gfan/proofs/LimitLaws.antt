@@ -27,22 +27,22 @@ use Rattle.gf_items.specs.Kinds.{a_set, a_marked_set, vector_where, vector_list}
 use Rattle.gf_items.specs.ReadOnce.{IsReadOnce}
 use Rattle.gf_items.proofs.KindLaws.{items_once, ring_and_once}
 use Rattle.gf_items.proofs.ReadingLaws.{source_once}
-use Rattle.gfan.specs.declared.bases.ListOptions.{ListOptions}
-use Rattle.gfan.specs.Certificates.{of_weight_error}
+use Rattle.gfan_lists.specs.declared.bases.ListOptions.{ListOptions}
+use Rattle.gfan_common.specs.Causes.{of_weight_error, of_tree, of_basis}
 use Rattle.gf_facets.specs.Regions.{Region, IsRegion, all_positive}
 use Rattle.gf_facets.proofs.SystemLaws.{all_positive-region}
-use Rattle.gfan.specs.Bases.{IsWithinLimit, of_tree, IsPastLimit, IsPastLimitIn, IsGoingCause, IsGoingCauseIn, IsGoingPast, IsGoingPastIn, IsListCause, IsListPast, bases_command, IsGoingCauseBehind}
-use Rattle.gfan.specs.GivenBasis.{IsGivenListCause, IsGivenListPast, given_bases_command}
-use Rattle.gfan.specs.BasesList.{AreAllBasesIn, AreAllBases}
-use Rattle.gfan.specs.Buchberger.{generators_of, of_basis}
-use Rattle.gfan.specs.ToolForms.{for_each}
-use Rattle.gfan.specs.Within.{of_region, IsTextWithin, IsCauseWithin, IsPastWithin, IsGivenRegionRootRefusal, IsGivenStartRefusal, IsGivenCauseWithin, IsGivenPastWithin, bases_within_command, given_within_command}
+use Rattle.gfan_lists.specs.Bases.{IsWithinLimit, IsPastLimit, IsPastLimitIn, IsGoingCause, IsGoingCauseIn, IsGoingPast, IsGoingPastIn, IsListCause, IsListPast, bases_command, IsGoingCauseBehind}
+use Rattle.gfan_lists.specs.GivenBasis.{IsGivenListCause, IsGivenListPast, given_bases_command}
+use Rattle.gfan_lists.specs.BasesList.{AreAllBasesIn, AreAllBases}
+use Rattle.gfan_common.specs.Forms.{generators_of}
+use Rattle.gfan_common.specs.ToolForms.{for_each}
+use Rattle.gfan_lists.specs.Within.{of_region, IsTextWithin, IsCauseWithin, IsPastWithin, IsGivenRegionRootRefusal, IsGivenStartRefusal, IsGivenCauseWithin, IsGivenPastWithin, bases_within_command, given_within_command}
 use Rattle.gfan.specs.Commands.{list_command, within_command, bases_of, AreTextsPast, AreTextsPastWithin, AreTextsPastIn}
-use Rattle.gfan.proofs.ToolFormLaws.{each_check}
-use Rattle.gfan.proofs.WithinLaws.{rows_hold}
-use Rattle.gfan.proofs.GivenBasisLaws.{reducing_only, root_past}
-use Rattle.gfan.proofs.ReadSetLaws.{marked_kept}
-use Rattle.gfan.proofs.OneListLaws.{one_list, one_list_in}
+use Rattle.gfan_common.proofs.ToolFormLaws.{each_check}
+use Rattle.gfan_lists.proofs.WithinLaws.{rows_hold}
+use Rattle.gfan_lists.proofs.GivenBasisLaws.{reducing_only, root_past}
+use Rattle.gfan_common.proofs.ReadSetLaws.{marked_kept}
+use Rattle.gfan_lists.proofs.OneListLaws.{one_list, one_list_in}
 use Rattle.gfan.proofs.OneTextLaws.{read_variables, given_variables}
 
 -- ---- the work is refused at the limit, or for want of memory

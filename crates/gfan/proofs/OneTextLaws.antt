@@ -13,20 +13,20 @@ use Rattle.gf_items.specs.Sources.{vectors_alone, ring_set_vector, ring_marked_s
 use Rattle.gf_items.specs.Kinds.{a_set, a_marked_set, vector_where, vector_list}
 use Rattle.gf_items.proofs.KindLaws.{items_once, ring_and_once}
 use Rattle.gf_items.proofs.ReadingLaws.{source_once}
-use Rattle.gfan.specs.declared.bases.ListOptions.{ListOptions}
-use Rattle.gfan.specs.Buchberger.{generators_of}
+use Rattle.gfan_lists.specs.declared.bases.ListOptions.{ListOptions}
+use Rattle.gfan_common.specs.Forms.{generators_of}
 use Rattle.gf_facets.specs.Regions.{Region, IsRegion, all_positive}
 use Rattle.gf_facets.proofs.SystemLaws.{all_positive-region}
 use Rattle.gf_weights.proofs.RegionLaws.{regions_are_one}
 use Rattle.gf_frame.specs.Commands.{IsAnswered}
-use Rattle.gfan.specs.Bases.{AreItemTextsIn, IsTextOfBasesIn, IsTextOfBases, list_text}
-use Rattle.gfan.specs.Within.{IsTextWithin}
+use Rattle.gfan_lists.specs.Bases.{AreItemTextsIn, IsTextOfBasesIn, IsTextOfBases, list_text}
+use Rattle.gfan_lists.specs.Within.{IsTextWithin}
 use Rattle.gfan.specs.OneList.{TextsAreOne, RegionTextsAreOne}
 use Rattle.gfan.specs.ListSources.{HasPolynomials}
 use Rattle.gfan.specs.Commands.{list_job, within_command, IsAnswerTo}
-use Rattle.gfan.proofs.ReadSetLaws.{set_kept, marked_kept}
-use Rattle.gfan.proofs.OneListLaws.{one_list_in}
-use Rattle.gfan.proofs.CertificateLaws.{items_one}
+use Rattle.gfan_common.proofs.ReadSetLaws.{set_kept, marked_kept}
+use Rattle.gfan_lists.proofs.OneListLaws.{one_list_in}
+use Rattle.gfan_lists.proofs.CertificateLaws.{items_one}
 
 -- what is read is in the variables of the ring
 pub read_variables : (source : List ℕ) (v : List (List ℕ) × (List Written × Option (List ℤ))) → IsTextOf (ring_set_vector false) source v → AreInVariables (length v.0) (generators_of v.1.0)

@@ -6,8 +6,9 @@ use Rattle.gf_front.specs.declared.refusal.Refusal.TheVariants as refusals
 use Rattle.gf_front.specs.declared.command_line.Job.{Job}
 use Rattle.gf_front.specs.declared.command_line.Job.TheVariants as jobs
 use Rattle.gf_frame.specs.Commands.{IsAnswered, IsRefusedOn}
-use Rattle.gfan.specs.declared.bases.ListOptions.{ListOptions}
-use Rattle.gfan.specs.Commands.{list_options, after_sources, list_of, command_of, AreTextsPastOf, IsPastReach}
+use Rattle.gfan_lists.specs.declared.bases.ListOptions.{ListOptions}
+use Rattle.gfan.specs.Commands.{list_options, list_of, command_of, AreTextsPastOf, IsPastReach}
+use Rattle.gfan_lists.specs.After.{after_sources}
 use Rattle.gfan.proofs.LimitLaws.{IsAtLimitOrMemory, bases_refused, bases_unanswered}
 use Rattle.gfan.proofs.AfterLimitLaws.{after_past_refused, after_past_unanswered}
 

@@ -70,24 +70,25 @@ use Rattle.gf_frame.specs.Runs.{TakesTurns, AreCut, IsStoppedBy, AreGivenTexts}
 use Rattle.gf_frame.specs.Programs.{IsRunRefused}
 use Rattle.gf_frame.proofs.LoadingLaws.{loaded_known, unloaded_known}
 use Rattle.gf_frame.proofs.ProgramLaws.{stopped_as}
-use Rattle.gfan.specs.declared.buchberger.Options.{Options}
-use Rattle.gfan.specs.declared.bases.ListOptions.{ListOptions}
-use Rattle.gfan.specs.Buchberger.{generators_of, of_basis, form, buchberger_command}
-use Rattle.gfan.specs.CheckedSets.{of_check}
-use Rattle.gfan.specs.Certificates.{of_weight_error}
-use Rattle.gfan.specs.Bases.{of_tree, IsSearchRefusedIn, IsGoingCauseIn, IsGoingCauseBehind, IsListCause, bases_command}
-use Rattle.gfan.specs.GivenBasis.{IsReducedFrom, IsReducingRefusal, IsGivenRootRefusal, IsGivenListCause, given_bases_command}
-use Rattle.gfan.specs.Generated.{list_to, IsSummaryCause, generated_command}
+use Rattle.gfan_sets.specs.declared.buchberger.Options.{Options}
+use Rattle.gfan_lists.specs.declared.bases.ListOptions.{ListOptions}
+use Rattle.gfan_common.specs.Forms.{generators_of, form}
+use Rattle.gfan_common.specs.Causes.{of_basis, of_weight_error, of_tree}
+use Rattle.gfan_sets.specs.Buchberger.{buchberger_command}
+use Rattle.gfan_common.specs.CheckedSets.{of_check}
+use Rattle.gfan_lists.specs.Bases.{IsSearchRefusedIn, IsGoingCauseIn, IsGoingCauseBehind, IsListCause, bases_command}
+use Rattle.gfan_lists.specs.GivenBasis.{IsReducedFrom, IsReducingRefusal, IsGivenRootRefusal, IsGivenListCause, given_bases_command}
+use Rattle.gfan_lists.specs.Generated.{list_to, IsSummaryCause, generated_command}
 use Rattle.gf_exponents.specs.Orders.{gains}
 use Rattle.gf_weights.specs.declared.region.RegionError.{RegionError}
 use Rattle.gf_weights.specs.declared.region.RegionError.TheVariants as region_errors
-use Rattle.gfan.specs.ToolForms.{for_each}
-use Rattle.gfan.specs.Within.{of_region, IsCauseWithin, IsGivenRegionRootRefusal, IsGivenStartRefusal, IsGivenCauseWithin, bases_within_command, given_within_command}
+use Rattle.gfan_common.specs.ToolForms.{for_each}
+use Rattle.gfan_lists.specs.Within.{of_region, IsCauseWithin, IsGivenRegionRootRefusal, IsGivenStartRefusal, IsGivenCauseWithin, bases_within_command, given_within_command}
 use Rattle.gfan.specs.Commands.{options, list_options, list_command, bases_of, list_of, command_of}
 use Rattle.gfan.specs.PlainInputs.{IsPlainList, BeginsPlainly, IsOnBinomials, IsPlainFrom}
-use Rattle.gfan.proofs.ReadSetLaws.{IsKeptMember, marked_kept, one_kept}
-use Rattle.gfan.proofs.BasesListLaws.{given_node}
-use Rattle.gfan.proofs.GivenBasisLaws.{way_in_tree}
+use Rattle.gfan_common.proofs.ReadSetLaws.{IsKeptMember, marked_kept, one_kept}
+use Rattle.gfan_lists.proofs.BasesListLaws.{given_node}
+use Rattle.gfan_lists.proofs.GivenBasisLaws.{way_in_tree}
 use Rattle.gfan.proofs.CommandLaws.{lawful}
 use Rattle.gfan.proofs.SourceLaws.{from_alone}
 

@@ -1,8 +1,8 @@
 -- How a run ends: with which names its refusal is told, and that a list comes to its limit where it goes on past it.
--- To cite: words_named, unloaded_named, unnamed_loaded, told_loaded, one_told, turns_done, turns_refused, turns_told, takes_turns; limit_not_done, limit_told.
+-- To cite: words_named, unloaded_named, unnamed_loaded, told_loaded, one_told, turns_done, turns_refused, turns_told, takes_turns; limit_not_done, limit_told, of_no_source.
 -- The rest are steps.
 use Rattle.std.specs.Prelude.{◌≡◌, ◌⊎◌, ℕ, List, [], ◌∷◌, Option, None, Some, IfSome}
-use Rattle.std.proofs.Common.{sym, ap, ◌∙◌, subst, inl, inr}
+use Rattle.std.proofs.Common.{sym, ap, ◌∙◌, subst, inl, inr, ◌≡◌, List, ℕ, Option, None, Some}
 use Rattle.gf_outside.specs.Faults.{Rose}
 use Rattle.gf_front.specs.declared.command_line.Job.{Job}
 use Rattle.gf_front.specs.declared.command_line.Job.TheVariants as jobs
@@ -18,17 +18,16 @@ use Rattle.gf_frame.specs.Runs.{TakesTurns, IsCarriedOut, IsDoneBy, AreCut, IsSt
 use Rattle.gf_frame.specs.Programs.{IsRunDone, IsRunRefused, IsRefusedWith, ReadsInput}
 use Rattle.gf_frame.proofs.LoadingLaws.{loaded_known, unloaded_known, unloaded_outside}
 use Rattle.gf_frame.proofs.ProgramLaws.{done_as, stopped_as}
-use Rattle.gfan.specs.declared.refused.Refused.{Refused}
-use Rattle.gfan.specs.BasesWriting.{IsUnnamed}
-use Rattle.gfan.specs.Refused.{IsNamedBy, IsRingOf, IsOfSource}
+use Rattle.gfan_common.specs.declared.refused.Refused.{Refused}
+use Rattle.gfan_common.specs.Refused.{IsUnnamed, IsNamedBy, IsRingOf, IsOfSource, without_names}
 use Rattle.gfan.specs.Commands.{list_options, command_of, IsPastReach}
 use Rattle.gfan.specs.Run.{ReadWhole, IsRingOfInput, IsRingOfFile, IsOfSources, IsOfLoaded}
-use Rattle.gfan.proofs.PerformedLaws.{of_unnamed}
+use Rattle.gfan_common.proofs.PerformedLaws.{of_unnamed}
 use Rattle.gfan.proofs.PastLaws.{past_refused, past_unanswered}
 use Rattle.gfan.proofs.CommandLaws.{lawful}
-use Rattle.gfan.specs.Interactive.{IsConversed, IsNotConversed}
+use Rattle.gfan_interactive.specs.Interactive.{IsConversed, IsNotConversed}
 use Rattle.gfan.proofs.SourceLaws.{from_alone}
-use Rattle.gfan.proofs.InteractiveLaws.{conversed_done, conversed_stopped}
+use Rattle.gfan_interactive.proofs.InteractiveLaws.{conversed_done, conversed_stopped}
 
 -- ---- the line of a refusal
 
@@ -183,3 +182,8 @@ module _ (words : List (List ℕ)) (p q : Seen) (o s : OutputSeen) (job : Job) (
     | inl k ↦ told d (stopped d n k)
     | inr m ↦ told d (inr m.0)
   ]
+
+-- ---- a refusal that is told without a ring
+
+pub of_no_source : (words : List (List ℕ)) (bytes : List ℕ → Option (List ℕ)) (left leaves : Option (List ℕ)) (given gives : ℕ) (r : Refusal) → IsNamedBy None r → IsOfSources words bytes left leaves given gives (without_names r)
+of_no_source words bytes left leaves given gives r h = record { named = h; ring = tt }

@@ -5,12 +5,12 @@ use Rattle.std.proofs.Common.{subst}
 use Rattle.gf_poly.specs.Polynomial.{Terms}
 use Rattle.gf_poly.specs.Marking.{MarkedPolynomials}
 use Rattle.gf_ideal.specs.Membership.{AreInVariables}
-use Rattle.gfan.specs.Bases.{IsTextOfBases}
-use Rattle.gfan.specs.BasesList.{AreAllBases}
+use Rattle.gfan_lists.specs.Bases.{IsTextOfBases}
+use Rattle.gfan_lists.specs.BasesList.{AreAllBases}
 use Rattle.gfan.specs.CertifiedBases.{CertificatesHold}
 use Rattle.gfan.specs.Served.{ServesWeights, WrittenListsServe}
-use Rattle.gfan.proofs.BasesListLaws.{weights_are_served}
-use Rattle.gfan.proofs.CertificateLaws.{certified_list}
+use Rattle.gfan_lists.proofs.BasesListLaws.{weights_are_served}
+use Rattle.gfan.proofs.CertifiedLaws.{certified_list}
 use Rattle.gfan.proofs.OneTextLaws.{list_of_source}
 
 list_serves : (n : ℕ) (fs : List Terms) (list : List MarkedPolynomials) → AreInVariables n fs → AreAllBases n fs list → ServesWeights n fs list

@@ -17,18 +17,18 @@ use Rattle.gf_frame.specs.Origins.{texts_of}
 use Rattle.gf_frame.specs.Commands.{Command, WritesOnce}
 use Rattle.gf_frame.specs.Runs.{TakesTurns}
 use Rattle.gf_frame.proofs.WorkLaws.{once_alone}
-use Rattle.gfan.specs.declared.bases.ListOptions.{ListOptions}
-use Rattle.gfan.specs.declared.told_cone.ConeOptions.{ConeOptions}
-use Rattle.gfan.specs.LeadingTerms.{leading_terms_command}
-use Rattle.gfan.specs.WeightVector.{weight_vector_command}
-use Rattle.gfan.specs.GroebnerCone.{groebner_cone_command}
-use Rattle.gfan.specs.CommonRefinement.{refinement_command}
-use Rattle.gfan.specs.BasisTest.{intersection_command}
-use Rattle.gfan.specs.Generated.{generated_command}
-use Rattle.gfan.specs.After.{after_command}
-use Rattle.gfan.specs.Commands.{list_options, cone_options, plain_command, list_sources, list_command, within_command, bases_of, after_sources, list_of, command_of, ReadsInputAlone}
+use Rattle.gfan_lists.specs.declared.bases.ListOptions.{ListOptions}
+use Rattle.gfan_fans.specs.declared.told_cone.ConeOptions.{ConeOptions}
+use Rattle.gfan_sets.specs.LeadingTerms.{leading_terms_command}
+use Rattle.gfan_sets.specs.WeightVector.{weight_vector_command}
+use Rattle.gfan_fans.specs.GroebnerCone.{groebner_cone_command}
+use Rattle.gfan_fans.specs.CommonRefinement.{refinement_command}
+use Rattle.gfan_fans.specs.BasisTest.{intersection_command}
+use Rattle.gfan_lists.specs.Generated.{generated_command}
+use Rattle.gfan_lists.specs.After.{after_command, after_sources}
+use Rattle.gfan.specs.Commands.{list_options, cone_options, plain_command, list_sources, list_command, within_command, bases_of, list_of, command_of, ReadsInputAlone}
 use Rattle.gfan.proofs.CommandLaws.{list_source, listed_not_once}
-use Rattle.gfan.proofs.BasisTestLaws.{intersection_once}
+use Rattle.gfan_fans.proofs.BasisTestLaws.{intersection_once}
 
 -- ---- texts as the code lists them
 

@@ -1,4 +1,4 @@
--- What the certificates show that `_bases` writes. Laws: proofs/CertificateLaws.antt.
+-- What the certificates show that `_bases` writes. Laws: proofs/CertifiedLaws.antt.
 -- Source: Fukuda, Jensen, Thomas, Computing Gröbner fans, 2 and 4.
 use Rattle.std.specs.Prelude.{◌≡◌, ◌↔◌, ℕ, Bool, true, List, ◌++◌, length, All, Contains, ℤ, pos, ◌<ℤ◌, Option}
 use Rattle.std.specs.List.{AllZip}
@@ -11,12 +11,12 @@ use Rattle.gf_ideal.specs.Bases.{IsReducedBasis}
 use Rattle.gf_facets.specs.Regions.{Region, IsRegion, IsInRegion, all_positive}
 use Rattle.gf_facets.specs.Normals.{Ascends}
 use Rattle.gf_facets.specs.Facets.{IsInsideFacet, IsFlippable}
-use Rattle.gfan.specs.declared.bases.ListOptions.{ListOptions}
+use Rattle.gfan_lists.specs.declared.bases.ListOptions.{ListOptions}
 use Rattle.gf_weights.specs.declared.certificates.FacetWitness.{FacetWitness}
 use Rattle.gf_weights.specs.Weights.{normals_of}
-use Rattle.gfan.specs.BasesList.{AreAllBasesIn, AreAllBases}
-use Rattle.gfan.specs.Certificates.{certificates_text}
-use Rattle.gfan.specs.Bases.{list_text, IsTextOfBasesIn, IsTextOfBases}
+use Rattle.gfan_lists.specs.BasesList.{AreAllBasesIn, AreAllBases}
+use Rattle.gfan_lists.specs.Certificates.{certificates_text}
+use Rattle.gfan_lists.specs.Bases.{list_text, IsTextOfBasesIn, IsTextOfBases}
 use Rattle.gfan.specs.Commands.{list_job, IsAnswerTo}
 use Rattle.gfan.specs.ListSources.{HasPolynomials}
 

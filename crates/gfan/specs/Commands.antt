@@ -14,34 +14,35 @@ use Rattle.gf_items.specs.Sources.{vectors_alone, ring_set_vector, ring_marked_s
 use Rattle.gf_frame.specs.Loading.{Origin}
 use Rattle.gf_frame.specs.Readings.{IsReadOfOne}
 use Rattle.gf_frame.specs.Commands.{Command, IsAnswered}
-use Rattle.gfan.specs.declared.buchberger.Options.{Options}
-use Rattle.gfan.specs.declared.bases.ListOptions.{ListOptions}
-use Rattle.gfan.specs.declared.told_cone.ConeOptions.{ConeOptions}
-use Rattle.gfan.specs.Buchberger.{generators_of, buchberger_command}
-use Rattle.gfan.specs.Bases.{IsListPast, bases_command}
-use Rattle.gfan.specs.GivenBasis.{IsGivenListPast, given_bases_command}
-use Rattle.gfan.specs.Within.{IsPastWithin, IsGivenPastWithin, bases_within_command, given_within_command}
-use Rattle.gfan.specs.After.{AreTextsPastAfter, after_command}
-use Rattle.gfan.specs.Marked.{marked_command}
-use Rattle.gfan.specs.Containment.{containment_command}
-use Rattle.gfan.specs.LeadingTerms.{leading_terms_command}
-use Rattle.gfan.specs.MarkPolynomialSet.{mark_polynomial_set_command}
-use Rattle.gfan.specs.InitialForms.{initial_forms_command}
-use Rattle.gfan.specs.Homogenize.{homogenize_command}
-use Rattle.gfan.specs.PolynomialSetUnion.{polynomial_set_union_command}
-use Rattle.gfan.specs.Stats.{stats_command}
-use Rattle.gfan.specs.WeightVector.{weight_vector_command}
-use Rattle.gfan.specs.GroebnerCone.{groebner_cone_command}
-use Rattle.gfan.specs.ToPolyhedralFan.{to_polyhedral_fan_command}
-use Rattle.gfan.specs.HomogeneitySpace.{homogeneity_space_command}
-use Rattle.gfan.specs.declared.tropical.TropicalFan.TheVariants as fans
-use Rattle.gfan.specs.Tropical.{tropical_command}
-use Rattle.gfan.specs.BasisTest.{intersection_command}
-use Rattle.gfan.specs.CommonRefinement.{refinement_command}
-use Rattle.gfan.specs.MigrateFan.{migrate_fan_command}
-use Rattle.gfan.specs.Generated.{generated_command}
-use Rattle.gfan.specs.Saturation.{saturation_command}
-use Rattle.gfan.specs.Interactive.{interactive_command}
+use Rattle.gfan_sets.specs.declared.buchberger.Options.{Options}
+use Rattle.gfan_lists.specs.declared.bases.ListOptions.{ListOptions}
+use Rattle.gfan_fans.specs.declared.told_cone.ConeOptions.{ConeOptions}
+use Rattle.gfan_common.specs.Forms.{generators_of}
+use Rattle.gfan_sets.specs.Buchberger.{buchberger_command}
+use Rattle.gfan_lists.specs.Bases.{IsListPast, bases_command}
+use Rattle.gfan_lists.specs.GivenBasis.{IsGivenListPast, given_bases_command}
+use Rattle.gfan_lists.specs.Within.{IsPastWithin, IsGivenPastWithin, bases_within_command, given_within_command}
+use Rattle.gfan_lists.specs.After.{AreTextsPastAfter, after_command, after_sources}
+use Rattle.gfan_sets.specs.Marked.{marked_command}
+use Rattle.gfan_sets.specs.Containment.{containment_command}
+use Rattle.gfan_sets.specs.LeadingTerms.{leading_terms_command}
+use Rattle.gfan_sets.specs.MarkPolynomialSet.{mark_polynomial_set_command}
+use Rattle.gfan_sets.specs.InitialForms.{initial_forms_command}
+use Rattle.gfan_sets.specs.Homogenize.{homogenize_command}
+use Rattle.gfan_sets.specs.PolynomialSetUnion.{polynomial_set_union_command}
+use Rattle.gfan_sets.specs.Stats.{stats_command}
+use Rattle.gfan_sets.specs.WeightVector.{weight_vector_command}
+use Rattle.gfan_fans.specs.GroebnerCone.{groebner_cone_command}
+use Rattle.gfan_fans.specs.ToPolyhedralFan.{to_polyhedral_fan_command}
+use Rattle.gfan_fans.specs.HomogeneitySpace.{homogeneity_space_command}
+use Rattle.gfan_fans.specs.declared.tropical.TropicalFan.TheVariants as fans
+use Rattle.gfan_fans.specs.Tropical.{tropical_command}
+use Rattle.gfan_fans.specs.BasisTest.{intersection_command}
+use Rattle.gfan_fans.specs.CommonRefinement.{refinement_command}
+use Rattle.gfan_fans.specs.MigrateFan.{migrate_fan_command}
+use Rattle.gfan_lists.specs.Generated.{generated_command}
+use Rattle.gfan_sets.specs.Saturation.{saturation_command}
+use Rattle.gfan_interactive.specs.Interactive.{interactive_command}
 
 -- what `_buchberger` is asked
 abbrev pub options : BuchbergerOptions → Options
@@ -100,11 +101,6 @@ within_command name true o = given_within_command name o
 abbrev pub bases_of : Option (List ℕ) → Bool → ListOptions → Command
 bases_of None from_basis o = list_command from_basis o
 bases_of (Some name) from_basis o = within_command name from_basis o
-
--- what the list of `_bases --after` is of: the input, behind the file of the basis, and that behind the file of its region where one is named
-abbrev pub after_sources : Option (List ℕ) → List ℕ → List Origin
-after_sources None after = Origin.a_file after ∷ (Origin.the_input ∷ [])
-after_sources (Some within) after = Origin.a_file within ∷ (Origin.a_file after ∷ (Origin.the_input ∷ []))
 
 -- the list behind the basis of a file where one is named
 abbrev pub list_of : Option (List ℕ) → Option (List ℕ) → Bool → ListOptions → Command

@@ -5,7 +5,7 @@ use Rattle.gf_poly.specs.Marking.{MarkedPolynomials}
 use Rattle.gf_front.specs.declared.command_line.Job.TheVariants as jobs
 use Rattle.gf_items.specs.Items.{IsTextOf}
 use Rattle.gf_items.specs.Sources.{ring_marked_set, ring_marked_sets}
-use Rattle.gfan.specs.WeightVector.{GivesBasis, weights_text}
+use Rattle.gfan_sets.specs.WeightVector.{GivesBasis, weights_text}
 use Rattle.gfan.specs.Commands.{IsAnswerTo}
 
 -- the source is the text of the ring and of a set in it, the only one, or of a list of sets

@@ -5,7 +5,7 @@ use Rattle.gf_poly.specs.Marking.{MarkedPolynomials, polys}
 use Rattle.gf_text.specs.declared.written.Written.{Written}
 use Rattle.gf_items.specs.Items.{IsTextOf}
 use Rattle.gf_items.specs.Sources.{ring_set_vector, ring_marked_set}
-use Rattle.gfan.specs.Buchberger.{generators_of}
+use Rattle.gfan_common.specs.Forms.{generators_of}
 
 -- the source is the text of the ring and of a set of these polynomials; with `-g` of a marked set of them
 abbrev pub HasPolynomials : Bool → List ℕ → List (List ℕ) → List Terms → Type 0

@@ -1,13 +1,13 @@
 -- An ideal has one list of all bases, and `_bases` writes one text for a source.
--- Laws: proofs/OneListLaws.antt, proofs/OneTextLaws.antt.
+-- Laws: OneListLaws of gfan_lists, proofs/OneTextLaws.antt.
 use Rattle.std.specs.Prelude.{◌≡◌, ℕ, Bool, List, [], ◌∷◌}
 use Rattle.gf_poly.specs.Polynomial.{Terms}
 use Rattle.gf_poly.specs.Marking.{MarkedPolynomials}
 use Rattle.gf_ideal.specs.Membership.{AreInVariables}
-use Rattle.gfan.specs.declared.bases.ListOptions.{ListOptions}
+use Rattle.gfan_lists.specs.declared.bases.ListOptions.{ListOptions}
 use Rattle.gf_facets.specs.Regions.{Region, IsRegion}
 use Rattle.gf_frame.specs.Commands.{IsAnswered}
-use Rattle.gfan.specs.BasesList.{AreAllBasesIn, AreAllBases}
+use Rattle.gfan_lists.specs.BasesList.{AreAllBasesIn, AreAllBases}
 use Rattle.gfan.specs.Commands.{list_job, within_command, IsAnswerTo}
 
 -- each ideal has a list of all its bases

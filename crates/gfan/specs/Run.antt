@@ -8,10 +8,9 @@ use Rattle.gf_front.specs.declared.command_line.Job.{Job}
 use Rattle.gf_front.specs.Jobs.{IsJobOf}
 use Rattle.gf_front.specs.Lines.{line}
 use Rattle.gf_frame.specs.Loading.{Origin}
-use Rattle.gfan.specs.declared.refused.Refused.{Refused}
-use Rattle.gfan.specs.BasesWriting.{IsUnnamed}
+use Rattle.gfan_common.specs.declared.refused.Refused.{Refused}
+use Rattle.gfan_common.specs.Refused.{IsUnnamed, names_of, IsNamedBy, IsRingOf, IsOfSource, WrittenAsFar}
 use Rattle.gfan.specs.Commands.{command_of}
-use Rattle.gfan.specs.Refused.{names_of, IsNamedBy, IsRingOf, IsOfSource, WrittenAsFar}
 
 -- these bytes are all that was left of the input, and no more than an input may have
 pub record ReadWhole (left leaves : Option (List ℕ)) (given gives : ℕ) (source : List ℕ) : Type 0 where

@@ -10,9 +10,9 @@ use Rattle.gf_walk.specs.Listing.{Among}
 use Rattle.gf_facets.specs.Facets.{IsInClosedCone}
 use Rattle.gf_facets.specs.InitialIdeals.{IsMonomialAt}
 use Rattle.gf_reverse.specs.TermOrders.{below_by}
-use Rattle.gfan.specs.declared.bases.ListOptions.{ListOptions}
-use Rattle.gfan.specs.BasesList.{IsGivenByWeight, AreAllBases}
-use Rattle.gfan.specs.Bases.{AreItemTexts, list_text}
+use Rattle.gfan_lists.specs.declared.bases.ListOptions.{ListOptions}
+use Rattle.gfan_lists.specs.BasesList.{IsGivenByWeight, AreAllBases}
+use Rattle.gfan_lists.specs.Bases.{AreItemTexts, list_text}
 use Rattle.gfan.specs.Commands.{list_job, IsAnswerTo}
 use Rattle.gfan.specs.ListSources.{HasPolynomials}
 

@@ -8,26 +8,30 @@ ghost use Rattle.gf_frame.specs.Loading.{AreLoaded, AreUnloaded, HaveInput, Have
 ghost use Rattle.gf_frame.specs.Origins.{texts_of};
 ghost use Rattle.gf_frame.specs.Commands.{WritesOnce, IsAnswered, IsRefusedOn};
 ghost use Rattle.gf_frame.specs.Runs.{TakesTurns, IsDoneOn, IsStoppedOn};
-ghost use Rattle.gfan.specs.Refused.{IsOfSource};
-ghost use Rattle.gfan.specs.BasisTest.{intersection_command};
-ghost use Rattle.gfan.specs.Commands.{plain_command, list_sources, after_sources, command_of, ReadsInputAlone};
+ghost use Rattle.gfan_common.specs.Refused.{IsOfSource};
+ghost use Rattle.gfan_fans.specs.BasisTest.{intersection_command};
+ghost use Rattle.gfan.specs.Commands.{plain_command, list_sources, command_of, ReadsInputAlone};
+ghost use Rattle.gfan_lists.specs.After.{after_sources};
 ghost use Rattle.gfan.specs.Run.{IsOfLoaded};
 
-use crate::bases::ListOptions;
-use crate::buchberger::Options;
-use crate::refused::Refused;
-use crate::told_cone::ConeOptions;
-use crate::tropical::TropicalFan;
-use crate::{
-    after, bases, basis_test, buchberger, common_refinement, containment, generated, given_basis,
-    groebner_cone, homogeneity_space, homogenize, initial_forms, leading_terms,
-    mark_polynomial_set, marked, migrate_fan, polynomial_set_union, saturation, stats,
-    to_polyhedral_fan, tropical, weight_vector, within,
-};
 use gf_frame::{LoadFrom, load_all};
 use gf_front::{BasesOptions, Job, Name, PlainCommand, Refusal};
 use gf_outside::{Files, Sink, Source, WriteFault, write_all};
 use gf_waves::Gate;
+use gfan_common::refused::Refused;
+use gfan_fans::told_cone::ConeOptions;
+use gfan_fans::tropical::TropicalFan;
+use gfan_fans::{
+    basis_test, common_refinement, groebner_cone, homogeneity_space, migrate_fan,
+    to_polyhedral_fan, tropical,
+};
+use gfan_lists::bases::ListOptions;
+use gfan_lists::{after, bases, generated, given_basis, within};
+use gfan_sets::buchberger::Options;
+use gfan_sets::{
+    buchberger, containment, homogenize, initial_forms, leading_terms, mark_polynomial_set, marked,
+    polynomial_set_union, saturation, stats, weight_vector,
+};
 use std::alloc::Global;
 use std::thread::Threads;
 

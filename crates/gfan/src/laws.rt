@@ -1,12 +1,12 @@
 //! What the list of `_bases`, the weights of `_weightvector` and the lines of `_generated` have: laws, each the contract of a function that computes nothing.
-ghost use Rattle.gfan.specs.BasesList.{WeightsAreServed, RegionsAreServed};
+ghost use Rattle.gfan_lists.specs.BasesList.{WeightsAreServed, RegionsAreServed};
 ghost use Rattle.gfan.specs.OneList.{ListsExist, ListsAreOne, TextsAreOne, RegionListsAreOne, RegionTextsAreOne};
-ghost use Rattle.gfan.specs.Parts.{PartsAreJoined};
+ghost use Rattle.gfan_lists.specs.Parts.{PartsAreJoined};
 ghost use Rattle.gfan.specs.Served.{WrittenListsServe};
 ghost use Rattle.gfan.specs.CertifiedBases.{CertificatesHold, RegionCertificatesHold};
 ghost use Rattle.gfan.specs.GivingWeights.{WrittenWeightsGiveBases};
-ghost use Rattle.gfan.specs.OneSummary.{SummariesAreOne};
-ghost use Rattle.gfan.specs.Within.{WideRootsAreTold};
+ghost use Rattle.gfan_lists.specs.OneSummary.{SummariesAreOne};
+ghost use Rattle.gfan_lists.specs.Within.{WideRootsAreTold};
 
 /// A basis is in the list that `_bases` writes exactly where some positive weight gives it. For each positive weight for which monomials
 /// generate the initial ideal its reduced basis is there, once; so is that for each term order; and each positive weight lies in the

@@ -14,11 +14,11 @@ ghost use Rattle.gfan.specs.PlainInputs.{IsOnBinomials};
 ghost use Rattle.gfan.specs.Run.{IsOfSources, IsTold};
 
 use crate::commands::{perform, texts_for};
-use crate::interactive;
-use crate::refused::Refused;
 use gf_front::{Job, Refusal, Status};
 use gf_outside::{Files, Sink, Source};
 use gf_waves::Gate;
+use gfan_common::refused::Refused;
+use gfan_interactive::interactive;
 use std::alloc::Global;
 use std::thread::Threads;
 

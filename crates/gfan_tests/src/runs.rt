@@ -2,8 +2,8 @@
 use gf_front::Refusal;
 use gf_outside::{MAX_INPUT, MemSink, MemSource, SureFiles};
 use gf_waves::FreeGate;
-use gfan::buchberger::{Options, answer};
 use gfan::run::run;
+use gfan_sets::buchberger::{Options, answer};
 use std::alloc::Global;
 use std::test::Fail;
 use std::thread::Threads;

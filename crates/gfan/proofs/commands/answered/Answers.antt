@@ -3,9 +3,9 @@ use Rattle.std.proofs.lemmas.Result.{IfOk-weaker}
 use Rattle.gf_frame.specs.Commands.{IsAnswered, IsRefusedOn}
 use Rattle.gfan.specs.Commands.{command_of}
 use Rattle.gfan.specs.Run.{IsOfLoaded}
-use Rattle.gfan.proofs.CommonRefinementLaws.{refinement_answered, refinement_refused}
+use Rattle.gfan_fans.proofs.CommonRefinementLaws.{refinement_answered, refinement_refused}
 use Rattle.gfan.proofs.CommandLaws.{one_source}
-use Rattle.gfan.proofs.PerformedLaws.{on_err}
+use Rattle.gfan_common.proofs.PerformedLaws.{on_err}
 use Rattle.gfan.proofs.SourceLaws.{one_as, two_as, none_as}
 use Rattle.gfan.proofs.commands.answered.Goals as goal
 

@@ -1,6 +1,6 @@
 use Rattle.std.proofs.Common.{Bool, [], ◌∷◌, IfErr, sym, subst}
 use Rattle.gf_frame.specs.Commands.{IsRefusedOn}
-use Rattle.gfan.specs.BasisTest.{intersection_command}
+use Rattle.gfan_fans.specs.BasisTest.{intersection_command}
 use Rattle.gfan.proofs.commands.intersection_answer.Goals as goal
 
 pub returns-else-basis_test-clause-err : goal.returns-else-basis_test-clause-err

@@ -2,8 +2,8 @@ use Rattle.std.proofs.Common.{◌≡◌, List, ℕ, true, false, Option, Some, N
 use Rattle.std.specs.Prelude.{is_some}
 use Rattle.gf_frame.specs.Seen.{output_seen}
 use Rattle.gf_frame.specs.Runs.{IsDoneOn, IsStoppedOn}
-use Rattle.gfan.specs.Commands.{after_sources}
-use Rattle.gfan.proofs.PerformedLaws.{on_ok, on_err}
+use Rattle.gfan_lists.specs.After.{after_sources}
+use Rattle.gfan_common.proofs.PerformedLaws.{on_ok, on_err}
 use Rattle.gfan.proofs.SourceLaws.{after_as, after_within_as}
 use Rattle.gfan.proofs.commands.perform_after.Goals as goal
 

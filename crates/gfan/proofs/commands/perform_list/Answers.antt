@@ -1,7 +1,7 @@
 use Rattle.std.proofs.Common.{true, false}
 use Rattle.gf_frame.specs.Seen.{output_seen}
 use Rattle.gf_frame.specs.Runs.{IsDoneOn, IsStoppedOn}
-use Rattle.gfan.proofs.PerformedLaws.{on_ok, on_err}
+use Rattle.gfan_common.proofs.PerformedLaws.{on_ok, on_err}
 use Rattle.gfan.proofs.SourceLaws.{list_as, within_as}
 use Rattle.gfan.proofs.commands.perform_list.Goals as goal
 

@@ -7,7 +7,7 @@ use Rattle.gf_frame.specs.Origins.{texts_of}
 use Rattle.gf_frame.proofs.WorkLaws.{once_done, once_cut, once_refused}
 use Rattle.gfan.specs.Commands.{command_of}
 use Rattle.gfan.proofs.CommandLaws.{lawful}
-use Rattle.gfan.proofs.CommonRefinementLaws.{write_unnamed}
+use Rattle.gfan_common.proofs.RefusedLaws.{write_unnamed}
 use Rattle.gfan.proofs.RunLaws.{unnamed_loaded}
 use Rattle.gfan.specs.Run.{IsOfLoaded}
 use Rattle.gfan.proofs.commands.write_answer.Goals as goal

@@ -1,4 +1,4 @@
-use Rattle.gfan.proofs.PartsLaws.{parts_are_joined}
+use Rattle.gfan_lists.proofs.PartsLaws.{parts_are_joined}
 use Rattle.gfan.proofs.laws.parts_are_joined.Goals as goal
 
 pub returns : goal.returns

@@ -1,4 +1,4 @@
-use Rattle.gfan.proofs.CertificateLaws.{certified_list_in}
+use Rattle.gfan.proofs.CertifiedLaws.{certified_list_in}
 use Rattle.gfan.proofs.laws.region_certificates_hold.Goals as goal
 
 pub returns : goal.returns

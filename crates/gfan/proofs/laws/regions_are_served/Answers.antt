@@ -1,4 +1,4 @@
-use Rattle.gfan.proofs.BasesListLaws.{regions_are_served}
+use Rattle.gfan_lists.proofs.BasesListLaws.{regions_are_served}
 use Rattle.gfan.proofs.laws.regions_are_served.Goals as goal
 
 pub returns : goal.returns

@@ -1,4 +1,4 @@
-use Rattle.gfan.proofs.OneListLaws.{one_list_in}
+use Rattle.gfan_lists.proofs.OneListLaws.{one_list_in}
 use Rattle.gfan.proofs.OneTextLaws.{one_region_text}
 use Rattle.gfan.proofs.laws.regions_have_one_text.Goals as goal
 

@@ -1,4 +1,4 @@
-use Rattle.gfan.proofs.SummaryLaws.{one_summary}
+use Rattle.gfan_lists.proofs.SummaryLaws.{one_summary}
 use Rattle.gfan.proofs.laws.summaries_are_one.Goals as goal
 
 pub returns : goal.returns

@@ -1,4 +1,4 @@
-use Rattle.gfan.proofs.WideRootLaws.{wide_roots}
+use Rattle.gfan_lists.proofs.WideRootLaws.{wide_roots}
 use Rattle.gfan.proofs.laws.wide_roots_are_told.Goals as goal
 
 pub returns : goal.returns

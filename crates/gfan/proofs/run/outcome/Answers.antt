@@ -8,10 +8,10 @@ use Rattle.gf_frame.proofs.WorkLaws.{loaded_length}
 use Rattle.gf_frame.proofs.ProgramLaws.{words_refused, loading_refused, texts_done, texts_refused}
 use Rattle.gfan.specs.Commands.{command_of}
 use Rattle.gfan.proofs.CommandLaws.{lawful}
-use Rattle.gfan.proofs.RefusedLaws.{named_words, of_no_source}
-use Rattle.gfan.proofs.PerformedLaws.{on_ok, on_err}
+use Rattle.gfan_common.proofs.RefusedLaws.{named_words}
+use Rattle.gfan.proofs.RunLaws.{of_no_source, unloaded_named, told_loaded, turns_done, turns_refused, turns_told, takes_turns}
+use Rattle.gfan_common.proofs.PerformedLaws.{on_ok, on_err}
 use Rattle.gfan.proofs.SourceLaws.{one_alone, texts_length, held_alone}
-use Rattle.gfan.proofs.RunLaws.{unloaded_named, told_loaded, turns_done, turns_refused, turns_told, takes_turns}
 use Rattle.gfan.proofs.run.outcome.Goals as goal
 
 -- the words ask for no job

@@ -1,7 +1,0 @@
-use Rattle.std.proofs.Common.{◌≡◌}
-use Rattle.std.specs.Prelude.{take}
-use Rattle.gfan.specs.Buchberger.{generators_of}
-use Rattle.gfan.proofs.buchberger.polynomials.Given as goal
-
-abbrev pub invariant-polynomials : goal.invariant-polynomials
-invariant-polynomials l = l.found.items ≡ generators_of (take l.i l.set)

@@ -1,6 +1,0 @@
-use Rattle.gf_poly.specs.Marking.{polys}
-use Rattle.gfan.proofs.ContainmentLaws.{zero_member}
-use Rattle.gfan.proofs.containment.contains_one.Goals as goal
-
-pub returns-in-Zero-clause-ok : goal.returns-in-Zero-clause-ok
-returns-in-Zero-clause-ok c = zero_member c.args.basis.now.variables (polys c.args.basis.now.items) c.args.read.now c.in-Zero.is

@@ -1,6 +1,0 @@
-use Rattle.gfan.proofs.HomogeneitySpaceLaws.{nonzero_more}
-use Rattle.gfan.proofs.homogeneity_space.nonzero.Goals as goal
-
-pub polynomials-preserved : goal.polynomials-preserved
-polynomials-preserved c =
-    nonzero_more c.args.set.now c.polynomials.read-index c.read-item.result c.polynomials.found.items c.push_nonzero.new.found.items c.polynomials-test.true c.read-item.is c.in_ok-push_nonzero.ensures c.polynomials.invariant

@@ -1,8 +1,0 @@
-use Rattle.std.proofs.Common.{take}
-use Rattle.std.specs.List.{AllZip}
-use Rattle.gfan.specs.ReducedSets.{IsReducedAsRead}
-use Rattle.gfan.proofs.reduced_sets.reduced_bases.Given as goal
-
--- the bases of the sets so far
-abbrev pub invariant-sets : goal.invariant-sets
-invariant-sets l = AllZip IsReducedAsRead (take l.i l.sets) l.bases.items

@@ -1,0 +1,86 @@
+-- The polynomials of a set that is read, and what an order needs of a weight and of them.
+use Rattle.std.specs.Prelude.{◌≡◌, ◌≢◌, ℕ, Bool, true, false, List, [], ◌∷◌, length, map, All, Option, None, Some, ℤ, pos, ◌≤ℤ◌}
+use Rattle.gf_order.specs.Weights.{IsFirstBelow}
+use Rattle.gf_poly.specs.Polynomial.{Terms}
+use Rattle.gf_text.specs.declared.written.Written.{Written}
+use Rattle.gf_text.specs.declared.written.Written.TheVariants as written
+use Rattle.gf_buchberger.specs.declared.homogeneity.NotHomogeneous.{NotHomogeneous}
+use Rattle.gf_buchberger.specs.Homogeneity.{IsFirstInhomogeneous}
+use Rattle.gf_buchberger.specs.Jobs.{HaveOneDegree}
+use Rattle.gf_front.specs.declared.refusal.Refusal.{Refusal}
+use Rattle.gf_front.specs.declared.refusal.Refusal.TheVariants as refusals
+use Rattle.gf_items.specs.Checks.{Check}
+
+-- ---- what is read
+
+-- the polynomials of a set; one of which nothing remains is zero
+abbrev pub polynomial_of : Written → Terms
+polynomial_of written.Zero = []
+polynomial_of (written.Nonzero m) = m.poly
+
+-- those of all of them, in order
+abbrev pub generators_of : List Written → List Terms
+generators_of ws = map polynomial_of ws
+
+-- ---- the length of a weight, then the degrees, then the entries of the weight
+
+-- the weight has an entry for each of n variables
+abbrev pub FitsVariables : ℕ → Option (List ℤ) → Type 0
+FitsVariables n None = Unit {0}
+FitsVariables n (Some weight) = length weight ≡ n
+
+-- the least entry of a weight with which the order is a term order
+abbrev pub least_entry : Bool → ℤ
+least_entry false = pos 0
+least_entry true = pos 1
+
+-- with the weight the order is a term order
+abbrev pub IsTermWeight : Bool → Option (List ℤ) → Type 0
+IsTermWeight revlex None = Unit {0}
+IsTermWeight revlex (Some weight) = All (λ k. least_entry revlex ≤ℤ k) weight
+
+-- revlex without a weight takes homogeneous polynomials alone
+abbrev pub AreTaken : Bool → Option (List ℤ) → List Terms → Type 0
+AreTaken false weight fs = Unit {0}
+AreTaken true None fs = HaveOneDegree fs
+AreTaken true (Some weight) fs = Unit {0}
+
+-- the weight has so many entries, which aren't as many as there are variables
+abbrev pub HasOtherLength : ℕ → Option (List ℤ) → ℕ → ℕ → Type 0
+HasOtherLength n None left right = ⊥
+HasOtherLength n (Some weight) left right = (left ≡ length weight) × (right ≡ n) × (left ≢ right)
+
+-- its entry at this place is the first with which the order is no term order
+abbrev pub IsFirstSmall : Bool → Option (List ℤ) → ℕ → Type 0
+IsFirstSmall revlex None index = ⊥
+IsFirstSmall revlex (Some weight) index = IsFirstBelow (least_entry revlex) weight index
+
+-- the order is revlex without a weight, and this is the first polynomial that isn't homogeneous
+abbrev pub IsFirstNotTaken : Bool → Option (List ℤ) → List Terms → NotHomogeneous → Type 0
+IsFirstNotTaken false weight fs e = ⊥
+IsFirstNotTaken true None fs e = IsFirstInhomogeneous fs e
+IsFirstNotTaken true (Some weight) fs e = ⊥
+
+-- how each of these is told
+abbrev pub IsLengthRefusal : ℕ → Option (List ℤ) → Refusal → Type 0
+IsLengthRefusal n weight (refusals.Dimensions left right) = HasOtherLength n weight left right
+IsLengthRefusal n weight _ = ⊥
+
+-- a polynomial that isn't homogeneous, where the order asks for that: the first one, with its first two degrees
+abbrev pub IsDegreeRefusal : Bool → Option (List ℤ) → List Terms → Refusal → Type 0
+IsDegreeRefusal revlex weight fs (refusals.NotHomogeneous polynomial first second) =
+    let e : NotHomogeneous = record { polynomial = polynomial; first = first; second = second } in IsFirstNotTaken revlex weight fs e
+IsDegreeRefusal revlex weight fs _ = ⊥
+
+-- an entry of the weight that gives no term order: the first one
+abbrev pub IsWeightRefusal : Bool → Option (List ℤ) → Refusal → Type 0
+IsWeightRefusal revlex weight (refusals.NotTermOrder index) = IsFirstSmall revlex weight index
+IsWeightRefusal revlex weight _ = ⊥
+
+-- the form of what is read: the length of the weight, then the degrees, then the entries of the weight
+abbrev pub form : Bool → ℕ → Option (List ℤ) → List Terms → List Check
+form revlex n weight fs =
+    record { Holds = FitsVariables n weight; Fails = IsLengthRefusal n weight }
+    ∷ record { Holds = AreTaken revlex weight fs; Fails = IsDegreeRefusal revlex weight fs }
+    ∷ record { Holds = IsTermWeight revlex weight; Fails = IsWeightRefusal revlex weight }
+    ∷ []

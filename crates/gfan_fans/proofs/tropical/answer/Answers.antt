@@ -1,0 +1,35 @@
+use Rattle.std.proofs.Common.{None, refl}
+use Rattle.std.proofs.lemmas.Result.{err_from_is_err_and}
+use Rattle.gf_frame.specs.Commands.{IsRefusedOn}
+use Rattle.gfan_common.proofs.PerformedLaws.{without_vector}
+use Rattle.gfan_common.proofs.RefusedLaws.{of_source, named_text}
+use Rattle.gfan_fans.proofs.tropical.answer.Goals as goal
+
+pub returns-in_err-ring-clause-err : goal.returns-in_err-ring-clause-err
+returns-in_err-ring-clause-err g c =
+    let p = err_from_is_err_and c.from_residual.result c.from_residual.ensures.1 in
+    rw (p.1, p.2) (IsRefusedOn.in_text c.in_err-ring.field-0.0 c.in_err-ring.ensures.err refl)
+
+pub returns-in_err-ring-clause-told : goal.returns-in_err-ring-clause-told
+returns-in_err-ring-clause-told g c =
+    let p = err_from_is_err_and c.from_residual.result c.from_residual.ensures.1 in
+    rw (p.1, p.2) (of_source _ _ (named_text c.in_err-ring.field-0.0))
+
+pub returns-in_err-text-clause-err : goal.returns-in_err-text-clause-err
+returns-in_err-text-clause-err g c =
+    let p = err_from_is_err_and c.from_residual-in_err-text.result c.from_residual-in_err-text.ensures.1 in
+    let r = c.in_ok-ring.field-0 in
+    rw (p.1, p.2) (IsRefusedOn.behind_text (r.ring, (r.set.items, None)) (without_vector c.args.source.now r.ring r.set.items r.vector c.in_ok-ring.ensures.ok) c.in_err-text.ensures.err)
+
+pub returns-in_err-text-clause-told : goal.returns-in_err-text-clause-told
+returns-in_err-text-clause-told g c =
+    let p = err_from_is_err_and c.from_residual-in_err-text.result c.from_residual-in_err-text.ensures.1 in
+    rw (p.1, p.2) (of_source _ _ c.in_err-text.ensures.told)
+
+pub returns-clause-ok : goal.returns-clause-ok
+returns-clause-ok g c =
+    let r = c.in_ok-ring.field-0 in record {
+      value = (r.ring, (r.set.items, None));
+      read = without_vector c.args.source.now r.ring r.set.items r.vector c.in_ok-ring.ensures.ok;
+      answer = c.in_ok-text.ensures.ok;
+    }

@@ -1,0 +1,122 @@
+-- `_fancommonrefinement`: what it writes for the texts of its two files, and why it doesn't.
+use Rattle.std.specs.Prelude.{◌≡◌, ℕ, List, [], ◌∷◌}
+use Rattle.gf_vec.specs.declared.error.WideVector.{WideVector}
+use Rattle.gf_fan.specs.FanLists.{FanLists}
+use Rattle.gf_fanfile.specs.declared.error.FanFileError.{FanFileError}
+use Rattle.gf_fanfile.specs.declared.error.FanFileError.TheVariants as file_errors
+use Rattle.gf_fanfile.specs.declared.file.FanFile.{FanFile}
+use Rattle.gf_fanfile.specs.FanWords.{fan_text}
+use Rattle.gf_fanfile.specs.FanTexts.{parts_of_fan, IsWritingStep}
+use Rattle.gf_fanfile.specs.Files.{IsFileOf, IsSoundFile}
+use Rattle.gf_fanfile.specs.FilesFans.{IsFanOfText, IsFanFileRefusal, IsFileWithinLimits, IsCertifiedFile, AreFileConesMeeting}
+use Rattle.gf_refine.specs.declared.error.RefineError.{RefineError}
+use Rattle.gf_refine.specs.declared.error.RefineError.TheVariants as refine_errors
+use Rattle.gf_refine.specs.FansRefined.{IsRefinementOf}
+use Rattle.gf_refine.specs.Refusals.{IsRefineRefusal, IsRefinedWithinLimits}
+use Rattle.gf_front.specs.declared.refusal.Refusal.{Refusal}
+use Rattle.gf_front.specs.declared.refusal.Refusal.TheVariants as refusals
+use Rattle.gf_items.specs.Checks.{Check}
+use Rattle.gf_frame.specs.Loading.{Origin}
+use Rattle.gf_frame.specs.Readings.{of_two}
+use Rattle.gf_frame.specs.Commands.{Writing, Command}
+use Rattle.gfan_fans.specs.FanTexts.{IsWritingWithin}
+
+-- ---- refusals as ones of the run
+
+-- why a file has no fan
+abbrev pub of_fan_file : FanFileError → Refusal
+of_fan_file (file_errors.Syntax s) = refusals.Syntax s
+of_fan_file (file_errors.TooWide at) = refusals.TooWide at
+of_fan_file (file_errors.TooManyVariables count) = refusals.TooManyVariables count
+of_fan_file (file_errors.Cone o) = refusals.ConeOverflow o.row o.op o.left o.right
+of_fan_file (file_errors.NotAFan first second) = refusals.NotAFan first second
+of_fan_file (file_errors.Missing section) = refusals.Missing section
+of_fan_file (file_errors.BadRay number) = refusals.BadRay number
+of_fan_file (file_errors.Dimensions left right) = refusals.Dimensions left right
+of_fan_file (file_errors.BadVersion number) = refusals.BadVersion number
+of_fan_file (file_errors.BadCertificate cone) = refusals.BadCertificate cone
+of_fan_file (file_errors.Wide w) = refusals.WideVector w
+of_fan_file file_errors.Memory = refusals.Memory
+
+-- why two fans have no refinement
+abbrev pub of_refine : RefineError → Refusal
+of_refine (refine_errors.Cone o) = refusals.ConeOverflow o.row o.op o.left o.right
+of_refine (refine_errors.Dimensions left right) = refusals.Dimensions left right
+of_refine refine_errors.Memory = refusals.Memory
+
+-- ---- what is written
+
+-- two texts say fans of vectors of the same length, and this is the text of the fan of the meets of their cones
+pub record IsRefinementText (a b text : List ℕ) : Type 0 where
+  pub first : FanLists
+  pub second : FanLists
+  pub common : FanLists
+  pub is_first : IsFanOfText a first
+  pub is_second : IsFanOfText b second
+  pub same : second.ambient ≡ first.ambient
+  pub refined : IsRefinementOf first second common
+  pub is_text : text ≡ fan_text (parts_of_fan common)
+
+-- ---- why it isn't written
+
+-- the first text says no fan; or it does, and the second says none; or both do, and the fan of the meets of their cones isn't found; or it is,
+-- and a sum leaves the range where the rays of one of its maximal cones are added up; or there is no memory
+pub data IsRefinementRefused (a b : List ℕ) (r : Refusal) : Type 0 where
+  in_first : (e : FanFileError) → IsFanFileRefusal a e → r ≡ of_fan_file e → IsRefinementRefused a b r
+  in_second : (f : FanLists) (e : FanFileError) → IsFanOfText a f → IsFanFileRefusal b e → r ≡ of_fan_file e → IsRefinementRefused a b r
+  in_work : (f g : FanLists) (e : RefineError) → IsFanOfText a f → IsFanOfText b g → IsRefineRefusal f g e → r ≡ of_refine e → IsRefinementRefused a b r
+  in_writing : (f g h : FanLists) (w : WideVector) → IsFanOfText a f → IsFanOfText b g → IsRefinementOf f g h → IsWritingStep h w → r ≡ refusals.WideVector w → IsRefinementRefused a b r
+  no_memory : r ≡ refusals.Memory → IsRefinementRefused a b r
+
+-- what is found without an operation on vectors: faults of a text, a version that isn't known, sections that aren't there, and lengths
+abbrev pub IsOfWords : FanFileError → Type 0
+IsOfWords (file_errors.Syntax s) = Unit {0}
+IsOfWords (file_errors.TooWide at) = Unit {0}
+IsOfWords (file_errors.TooManyVariables count) = Unit {0}
+IsOfWords (file_errors.BadVersion number) = Unit {0}
+IsOfWords (file_errors.Missing section) = Unit {0}
+IsOfWords (file_errors.Dimensions left right) = Unit {0}
+IsOfWords _ = ⊥
+
+-- the text says no fan, which is found so
+pub record IsRefusedInWords (a : List ℕ) (r : Refusal) : Type 0 where
+  pub error : FanFileError
+  pub of_words : IsOfWords error
+  pub refused : IsFanFileRefusal a error
+  pub is : r ≡ of_fan_file error
+
+-- the text says a file whose rows lie inside its cones and whose cones have a fan, and no operation on it leaves the range
+pub record IsFanTextWithin (source : List ℕ) : Type 0 where
+  pub file : FanFile
+  pub is_file : IsFileOf source file
+  pub sound : IsSoundFile file
+  pub certified : IsCertifiedFile file
+  pub meeting : AreFileConesMeeting file
+  pub within : IsFileWithinLimits file
+
+-- both texts say fans, of vectors of the same length, and no operation on them leaves the range, nor one of writing what is found
+pub record IsRefinementWithin (a b : List ℕ) : Type 0 where
+  pub first : IsFanTextWithin a
+  pub second : IsFanTextWithin b
+  pub same : second.file.ambient ≡ first.file.ambient
+  pub work : (f g : FanLists) → IsFanOfText a f → IsFanOfText b g → IsRefinedWithinLimits f g
+  pub writing : (f g h : FanLists) → IsFanOfText a f → IsFanOfText b g → IsRefinementOf f g h → IsWritingWithin h
+
+-- ---- the command
+
+-- the first text says a file with rows of one length
+abbrev pub in_words : List ℕ → Check
+in_words a = record { Holds = (r : Refusal) → IsRefusedInWords a r → ⊥; Fails = λ r. IsRefusedInWords a r }
+
+-- the command `_fancommonrefinement` on files of these names
+abbrev pub refinement_command : List ℕ → List ℕ → Command
+refinement_command first second = record {
+  Value = List ℕ × List ℕ;
+  reads = Origin.a_file first ∷ (Origin.a_file second ∷ []);
+  reading = of_two;
+  checks = λ v. in_words v.0 ∷ [];
+  IsAnswer = λ v text. IsRefinementText v.0 v.1 text;
+  IsCause = λ v r. IsRefinementRefused v.0 v.1 r;
+  IsWithin = λ v. IsRefinementWithin v.0 v.1;
+  writing = Writing.at_end;
+}

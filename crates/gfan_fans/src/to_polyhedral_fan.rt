@@ -1,0 +1,94 @@
+//! What `_topolyhedralfan` writes for an input.
+ghost use Rattle.std.specs.Prelude.{◌≡◌, ◌≤◌, [], All, IfOk, IfErr, ◌∷◌};
+ghost use Rattle.std.specs.List.{AllZip};
+ghost use Rattle.gf_gordan.specs.Steps.{Failed};
+ghost use Rattle.gf_text.specs.declared.TheConstants.{MOST_VARIABLES};
+ghost use Rattle.gf_frame.specs.Commands.{IsAnswered, IsRefusedOn};
+ghost use Rattle.gfan_common.specs.Refused.{IsOfSource};
+ghost use Rattle.gfan_fans.specs.ToPolyhedralFan.{IsConeOfSet, IsConeStepOfSet, IsConeStepOfSets, IsFanOfSetsText, IsNoFanOfSets, to_polyhedral_fan_command};
+
+use crate::fan_text::fan_text;
+use gf_cone::Cone;
+use gf_front::Refusal;
+use gf_gordan::GordanError;
+use gf_items::{RingAndMarkedSets, ring_and_marked_sets};
+use gf_poly::MarkedSet;
+use gf_rays::Rays;
+use gfan_common::reduced_sets::reduced_bases;
+use gfan_common::refused::{Refused, of_check, of_gordan};
+use std::alloc::Global;
+
+/// The closed cone of a marked set.
+fn cone_of(alloc: Global, set: &MarkedSet, cut: bool) -> Result<Rays, GordanError>
+    ensures ok { IfOk result (IsConeOfSet cut set.now) }
+    ensures err { IfErr result (Failed (IsConeStepOfSet cut set.now)) }
+{
+    let cone = Cone::of(alloc, set)?;
+    let inequalities = if cut { cone.vectors() } else { cone.normals() };
+    Rays::of(alloc, cone.variables(), inequalities, &[])
+}
+
+/// The closed cones of marked sets.
+fn cones_of(alloc: Global, sets: &[MarkedSet], cut: bool) -> Result<Vec<Rays>, GordanError>
+    ensures ok { IfOk result (λ cones. AllZip (IsConeOfSet cut) sets.now cones.items) }
+    ensures err { IfErr result (Failed (IsConeStepOfSets cut sets.now)) }
+{
+    let mut cones = Vec::new(alloc);
+    'sets: for set in sets {
+        let cone = cone_of(alloc, set, cut)?;
+        cones.push(cone)?;
+    }
+    Ok(cones)
+}
+
+/// The text of the fan of the cones of marked sets in `n` variables, where each is a reduced basis: first all are checked.
+fn fan_of_sets(alloc: Global, n: u32, sets: &[MarkedSet], cut: bool) -> Result<Vec<u8>, Refusal>
+    requires few { n ≤ MOST_VARIABLES }
+    requires variables { All (λ s. s.variables ≡ n) sets.now }
+    ensures ok { IfOk result (λ text. IsFanOfSetsText cut n sets.now text.items) }
+    ensures err { IfErr result (IsNoFanOfSets cut n sets.now) }
+{
+    // The cones are those of the sets as they stand.
+    let _bases = match reduced_bases(alloc, sets) {
+        Ok(bases) => bases,
+        Err(error) => return Err(of_check(error)),
+    };
+    let cones = match cones_of(alloc, sets, cut) {
+        Ok(cones) => cones,
+        Err(error) => return Err(of_gordan(error)),
+    };
+    let text = fan_text(alloc, n, cones)?;
+    Ok(text)
+}
+
+/// The fan of all faces of the closed cones of the marked sets of the source, as a fan file. Each set is a reduced Gröbner basis for its
+/// marking, but for factors of its members and their order; on its cone none of its normals is negative, and where it is cut no entry
+/// either.
+///
+/// # Errors
+///
+/// - `Syntax`, `TooWide`, `UnknownName` and `TooManyVariables` exactly where the source isn't the text of a ring and of a list of sets
+///   in it, at the first token after which no such text goes on.
+/// - `ZeroPolynomial` where nothing remains of a polynomial, with the number of the first set that has such a one, and the index of the
+///   first one in it.
+/// - Then of the first set that isn't such a basis: `Inconsistent` exactly where no positive weight gives its marking; `NotReduced`
+///   exactly where one does, and a mark divides a term that it shouldn't; `NotBasis` exactly where none does, and the S-polynomial of
+///   two members made monic has another normal form than zero; each with its first place.
+/// - `NotAFan` exactly where all sets are taken, and the meet of two of their cones isn't a face of both: the first such pair.
+/// - `Overflow` and `ExponentOverflow` only at a sum of the text or an operation of the checks; `ConeOverflow` only at a step of
+///   the elimination of a marking's system, or where all sets are taken at an operation of finding the rays of a cone, of the meet of two
+///   or of a face of one; `WideVector` only at a sum of the rays of a maximal cone.
+pub fn answer(alloc: Global, source: &[u8], cut: bool) -> Result<Vec<u8>, Refused>
+    ensures ok { IfOk result (λ text. IsAnswered (to_polyhedral_fan_command cut) (source.now ∷ []) text.items) }
+    ensures err { IfErr result (λ e. IsRefusedOn (to_polyhedral_fan_command cut) (source.now ∷ []) e.refusal) }
+    ensures told { IfErr result (IsOfSource source.now) }
+{
+    let RingAndMarkedSets { ring, sets } = ring_and_marked_sets(alloc, source)?;
+    match fan_of_sets(alloc, ring.len(), &sets, cut) {
+        Ok(text) => Ok(text),
+        Err(refusal) => Err(Refused {
+            refusal,
+            ring: Some(ring),
+        }),
+    }
+}

@@ -1,0 +1,1 @@
+pub mod InteractiveLaws  -- how the session of `_interactive` goes, and why it is cut off

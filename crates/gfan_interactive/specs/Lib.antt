@@ -1,0 +1,1 @@
+pub mod Interactive  -- what `_interactive` reads and writes, and how its session goes

@@ -1,0 +1,151 @@
+//! What `_interactive` does: a session over the bases of an ideal, from the basis of a file on.
+ghost use Rattle.std.specs.Prelude.{◌≡◌, ℕ, List, length, IfOk, IfErr, OnOk};
+ghost use Rattle.gf_basis_places.specs.BasisRules.{IsPlace};
+ghost use Rattle.gf_frame.specs.Seen.{output_seen};
+ghost use Rattle.gfan_interactive.specs.Interactive.{IsOpening, IsUnopened, IsHeld, IsCutOff, of_session, input_seen, IsConversed, IsNotConversed};
+ghost use Rattle.gfan_common.specs.ReducedSets.{IsReducedAsRead};
+ghost use Rattle.gfan_common.specs.Refused.{IsOfSource};
+
+use gf_basis_places::{BasisPlace, BasisPlaces, push_prompt};
+use gf_front::Refusal;
+use gf_items::{RingAndMarked, ring_and_marked};
+use gf_outside::{Sink, Source, WriteFault, write_all};
+use gf_poly::MarkedSet;
+use gf_session::{SessionError, converse};
+use gf_text::{Printer, Ring};
+use gf_tree::TreeError;
+use gfan_common::reduced_sets::reduced_basis;
+use gfan_common::refused::{Refused, of_check, of_tree};
+use std::alloc::{AllocError, Global};
+
+/// Why a session is cut off, as a refusal of the run.
+fn of_session(error: SessionError<TreeError>) -> Refusal
+    ensures { result ≡ of_session error }
+{
+    match error {
+        SessionError::ReadFault => Refusal::ReadFault,
+        SessionError::InputTooLong => Refusal::InputTooLong,
+        SessionError::WriteFault => Refusal::WriteFault,
+        SessionError::Memory => Refusal::Memory,
+        SessionError::Refused(error) => of_tree(error),
+    }
+}
+
+/// The basis of the set, as the place where a session begins.
+fn start_of(alloc: Global, set: &MarkedSet) -> Result<BasisPlace, Refusal>
+    ensures ok { IfOk result (IsReducedAsRead set.now) }
+    ensures err { (pairs : ℕ) → IfErr result (IsUnopened pairs set.now) }
+{
+    let basis = match reduced_basis(alloc, set, 0) {
+        Ok(basis) => basis,
+        Err(error) => return Err(of_check(error)),
+    };
+    match BasisPlace::new(alloc, basis) {
+        Ok(start) => Ok(start),
+        Err(error) => Err(of_tree(error)),
+    }
+}
+
+/// What stands before the first line: the ring in a line, and what is told of the first basis.
+fn opening(alloc: Global, ring: &Ring, start: &BasisPlace) -> Result<Vec<u8>, AllocError>
+    requires { start.now.variables ≡ length ring.now }
+    ensures { IfOk result (λ text. IsOpening ring.now start.now text.items) }
+{
+    let mut text = Vec::new(alloc);
+    Printer::ring(&mut text, ring)?;
+    push_prompt(&mut text, ring, start.basis(), start.crossable(), 0)?;
+    Ok(text)
+}
+
+/// Writes the opening, and holds the session.
+fn talk<S: Source, K: Sink>(
+    alloc: Global,
+    ring: &Ring,
+    start: BasisPlace,
+    text: &[u8],
+    pairs: u64,
+    input: &mut S,
+    output: &mut K,
+) -> Result<(), Refusal>
+    requires place { IsPlace (length ring.now) start }
+    requires opening { IsOpening ring.now start text.now }
+    ensures held { OnOk result (IsHeld ring.now start (input_seen (S.left input.old) (S.given input.old) (S.faults input.old))
+        (input_seen (S.left input.new) (S.given input.new) (S.faults input.new)) (output_seen (K.held output.old) (K.faults output.old))
+        (output_seen (K.held output.new) (K.faults output.new))) }
+    ensures calm { OnOk result (K.faults output.new ≡ K.faults output.old) }
+    ensures cut { IfErr result (IsCutOff pairs ring.now start (input_seen (S.left input.old) (S.given input.old) (S.faults input.old))
+        (input_seen (S.left input.new) (S.given input.new) (S.faults input.new)) (output_seen (K.held output.old) (K.faults output.old))
+        (output_seen (K.held output.new) (K.faults output.new))) }
+{
+    match write_all(output, text) {
+        Ok(()) => {
+            let places = BasisPlaces { ring, pairs, alloc };
+            match converse(alloc, &places, start, input, output) {
+                Ok(()) => Ok(()),
+                Err(error) => Err(of_session(error)),
+            }
+        }
+        Err(WriteFault) => Err(Refusal::WriteFault),
+    }
+}
+
+/// Holds a session over the bases of the ideal of a file's basis, whose text this is: writes the ring in a line and what is told of the basis,
+/// and then takes lines, one byte a read, and answers each before it takes the next, until `q` or the end of the input.
+///
+/// The set of the text is a reduced Gröbner basis for its marking, but for factors of its members and their order; it is shown monic and
+/// arranged. Of a basis are told the normals that a flip may cross, each with its number, and how many crossings aren't undone. A number
+/// crosses to the basis on the other side, `u` goes back to the one before: by a flip back, which gives that basis.
+///
+/// # Errors
+///
+/// Before anything is written, and before the input is read:
+///
+/// - `Syntax`, `TooWide`, `UnknownName`, `TooManyVariables` and `ZeroPolynomial` as `ring_and_marked` has them.
+/// - `Inconsistent`, `NotReduced` and `NotBasis` exactly where the set isn't such a basis, each with its first place, unless numbers of the checks
+///   don't fit.
+///
+/// In the session, where a piece ends, so that each line before the last one has its answer and nothing of the last one's stands:
+///
+/// - `ReadFault` only where a read failed; `InputTooLong` exactly where one byte more than 67,108,864 was taken.
+///
+/// And at any time:
+///
+/// - `Overflow`, `ExponentOverflow` and `ConeOverflow` only at an operation of the text or the checks, of a flip across a facet of a basis
+///   that the last line looks at, or of the system that tells whether a flip may cross it; `PairBudget` only where a run of such a flip has
+///   more pairs to settle.
+/// - `WriteFault` only where a write failed, or took nothing; a prefix of the transcript stands.
+/// - `Memory` at any growth.
+pub fn perform<S: Source, K: Sink>(
+    alloc: Global,
+    source: &[u8],
+    pairs: u64,
+    input: &mut S,
+    output: &mut K,
+) -> Result<(), Refused>
+    ensures done { OnOk result (IsConversed source.now (input_seen (S.left input.old) (S.given input.old) (S.faults input.old))
+        (input_seen (S.left input.new) (S.given input.new) (S.faults input.new)) (output_seen (K.held output.old) (K.faults output.old))
+        (output_seen (K.held output.new) (K.faults output.new))) }
+    ensures stopped { (name : List ℕ) → IfErr result (λ e. IsNotConversed name pairs source.now
+        (input_seen (S.left input.old) (S.given input.old) (S.faults input.old)) (input_seen (S.left input.new) (S.given input.new) (S.faults input.new))
+        (output_seen (K.held output.old) (K.faults output.old)) (output_seen (K.held output.new) (K.faults output.new)) e.refusal) }
+    ensures told { IfErr result (IsOfSource source.now) }
+{
+    let RingAndMarked { ring, set } = ring_and_marked(alloc, source)?;
+    let start = match start_of(alloc, &set) {
+        Ok(start) => start,
+        Err(refusal) => {
+            return Err(Refused {
+                refusal,
+                ring: Some(ring),
+            });
+        }
+    };
+    let text = opening(alloc, &ring, &start)?;
+    match talk(alloc, &ring, start, &text, pairs, input, output) {
+        Ok(()) => Ok(()),
+        Err(refusal) => Err(Refused {
+            refusal,
+            ring: Some(ring),
+        }),
+    }
+}

@@ -1,0 +1,242 @@
+-- `_bases`: what it writes, and why it doesn't.
+use Rattle.std.specs.Prelude.{◌≡◌, ◌⊎◌, ℕ, ◌<◌, ◌≤◌, Bool, true, false, List, [], ◌∷◌, ◌++◌, flat_map, length, Option, None, Some, ℤ}
+use Rattle.std.specs.List.{AllZip}
+use Rattle.gf_exponents.specs.SixOrders.{MonomialOrder}
+use Rattle.gf_poly.specs.Polynomial.{Terms}
+use Rattle.gf_poly.specs.Marking.{MarkedPolynomials}
+use Rattle.gf_text.specs.RingText.{ring_text}
+use Rattle.gf_text.specs.declared.written.Written.{Written}
+use Rattle.gf_buchberger.specs.declared.bases.BasisError.{BasisError}
+use Rattle.gf_buchberger.specs.Bases.{IsBasisRefusal, AreRunsWithinLimits}
+use Rattle.gf_tree.specs.declared.error.TreeError.{TreeError}
+use Rattle.gf_tree.specs.declared.error.TreeError.TheVariants as tree_errors
+use Rattle.gf_facets.specs.Regions.{Region, all_positive}
+use Rattle.gf_tree.specs.Ideals.{ideal_by, ideal_within}
+use Rattle.gf_tree.specs.Refusals.{IsTreeWithinLimits}
+use Rattle.gf_subtree.specs.Answers.{IsRefusedEarly}
+use Rattle.gf_weights.specs.Refusals.{AreCertificatesFittingIn}
+use Rattle.gf_front.specs.declared.refusal.Refusal.{Refusal}
+use Rattle.gf_front.specs.declared.refusal.Refusal.TheVariants as refusals
+use Rattle.gf_items.specs.Sources.{ring_set_vector}
+use Rattle.gf_items.specs.Refusals.{IsOfNumbers}
+use Rattle.gf_frame.specs.Loading.{Origin}
+use Rattle.gf_frame.specs.Readings.{of_one}
+use Rattle.gf_frame.specs.Commands.{Writing, Command}
+use Rattle.gfan_lists.specs.declared.bases.ListOptions.{ListOptions}
+use Rattle.gfan_common.specs.Forms.{generators_of}
+use Rattle.gfan_common.specs.Causes.{of_basis, of_tree}
+use Rattle.gfan_lists.specs.BasesList.{IsGivenIn, AreAllBasesIn, AreAllBases}
+use Rattle.gfan_lists.specs.Certificates.{IsItemTextIn, IsUncertifiedIn}
+
+-- ---- what is written
+
+-- a line end, a comma, a line end, and what stands for a basis
+abbrev pub later_item_text : List ℕ → List ℕ
+later_item_text t = 10 ∷ 44 ∷ 10 ∷ t
+
+-- what stands for bases, with a comma on a line of its own between them
+abbrev pub items_text : List (List ℕ) → List ℕ
+items_text [] = []
+items_text (t ∷ ts) = t ++ flat_map later_item_text ts
+
+-- the ring in a line, and these items in braces
+abbrev pub list_text : List (List ℕ) → List (List ℕ) → List ℕ
+list_text ring ts = ring_text ring ++ (123 ∷ (items_text ts ++ 125 ∷ 10 ∷ []))
+
+-- its beginning, up to the last of these items; nothing where there are none
+abbrev pub begun_text : List (List ℕ) → List (List ℕ) → List ℕ
+begun_text ring [] = []
+begun_text ring (t ∷ ts) = ring_text ring ++ 123 ∷ items_text (t ∷ ts)
+
+-- what stands for each of these bases in a region
+abbrev pub AreItemTextsIn : Bool → List (List ℕ) → Region → List MarkedPolynomials → List (List ℕ) → Type 0
+AreItemTextsIn certified ring k bs ts = AllZip (IsItemTextIn certified ring k) bs ts
+
+-- the list isn't longer than the limit, where one is given
+abbrev pub IsWithinLimit : Option ℕ → List MarkedPolynomials → Type 0
+IsWithinLimit None list = Unit {0}
+IsWithinLimit (Some most) list = length list ≤ most
+
+-- A list of all bases of an ideal in a region, or what follows some of them in it: those before it, which aren't written, stand first.
+
+-- the ring in a line, and all bases of the ideal of fs in a region behind these, which are no more than the limit, with certificates or
+-- without
+pub record IsTextBehind (before : List MarkedPolynomials) (certified : Bool) (limit : Option ℕ) (ring : List (List ℕ)) (k : Region) (fs : List Terms) (text : List ℕ) : Type 0 where
+  pub list : List MarkedPolynomials
+  pub are_all : AreAllBasesIn (length ring) k fs (before ++ list)
+  pub few : IsWithinLimit limit list
+  pub items : List (List ℕ)
+  pub are_items : AreItemTextsIn certified ring k list items
+  pub is_text : text ≡ list_text ring items
+
+-- ---- what is written before the list is refused
+
+-- the beginning of that text, up to the last of the bases that are written, behind which the rest of the list comes
+pub record IsBegunListBehind (before : List MarkedPolynomials) (certified : Bool) (ring : List (List ℕ)) (k : Region) (fs : List Terms) (written rest : List MarkedPolynomials) (text : List ℕ) : Type 0 where
+  pub are_all : AreAllBasesIn (length ring) k fs (before ++ (written ++ rest))
+  pub items : List (List ℕ)
+  pub are_items : AreItemTextsIn certified ring k written items
+  pub is_text : text ≡ begun_text ring items
+
+-- some of the bases, from the first on, or none; no more than the limit lets through
+abbrev pub IsBegunTextBehind : List MarkedPolynomials → ListOptions → List (List ℕ) → Region → List Terms → List ℕ → Type 0
+IsBegunTextBehind before o ring k fs text = (written : List MarkedPolynomials) × (rest : List MarkedPolynomials) × IsBegunListBehind before o.certified ring k fs written rest text × IsWithinLimit o.limit written
+
+-- just as many as the limit lets through, and a further one in the list
+pub record IsBegunToLimitBehind (before : List MarkedPolynomials) (o : ListOptions) (ring : List (List ℕ)) (k : Region) (fs : List Terms) (most : ℕ) (text : List ℕ) : Type 0 where
+  pub is_limit : o.limit ≡ Some most
+  pub written : List MarkedPolynomials
+  pub next : MarkedPolynomials
+  pub rest : List MarkedPolynomials
+  pub begun : IsBegunListBehind before o.certified ring k fs written (next ∷ rest) text
+  pub just : length written ≡ most
+
+-- all that is written where nothing stops it: the text of the list; or, where that goes on past the limit, its beginning, with just as many
+-- bases as the limit lets through
+pub data IsFullTextBehind (before : List MarkedPolynomials) (o : ListOptions) (ring : List (List ℕ)) (k : Region) (fs : List Terms) (text : List ℕ) : Type 0 where
+  to_its_end : IsTextBehind before o.certified o.limit ring k fs text → IsFullTextBehind before o ring k fs text
+  to_the_limit : (most : ℕ) → IsBegunToLimitBehind before o ring k fs most text → IsFullTextBehind before o ring k fs text
+
+-- ---- why it isn't written
+
+-- there are more bases behind these than the limit lets through
+pub record IsPastLimitBehind (before : List MarkedPolynomials) (limit : Option ℕ) (n : ℕ) (k : Region) (fs : List Terms) (most : ℕ) : Type 0 where
+  pub is_limit : limit ≡ Some most
+  pub list : List MarkedPolynomials
+  pub are_all : AreAllBasesIn n k fs (before ++ list)
+  pub longer : most < length list
+
+-- behind some of the bases, which the limit lets through, a call of the search is refused at a basis that is one of these, or is the next one
+pub record IsSearchRefusedBehind (before : List MarkedPolynomials) (o : ListOptions) (n : ℕ) (k : Region) (fs : List Terms) (e : TreeError) : Type 0 where
+  pub written : List MarkedPolynomials
+  pub rest : List MarkedPolynomials
+  pub are_all : AreAllBasesIn n k fs (before ++ (written ++ rest))
+  pub few : IsWithinLimit o.limit written
+  pub early : IsRefusedEarly (ideal_within n fs k) o.pairs rest e
+
+-- certificates are asked for, and behind some of the bases those of the next one, which the limit lets through, are refused
+pub record AreCertificatesRefusedBehind (before : List MarkedPolynomials) (o : ListOptions) (n : ℕ) (k : Region) (fs : List Terms) (r : Refusal) : Type 0 where
+  pub certified : o.certified ≡ true
+  pub written : List MarkedPolynomials
+  pub basis : MarkedPolynomials
+  pub rest : List MarkedPolynomials
+  pub are_all : AreAllBasesIn n k fs (before ++ (written ++ basis ∷ rest))
+  pub few : IsWithinLimit o.limit (written ++ basis ∷ [])
+  pub uncertified : IsUncertifiedIn k basis r
+
+-- a step of the search is refused, at a basis that isn't behind the limit; or the list is past its limit; or, where certificates are asked
+-- for, those of a basis that the limit lets through are refused
+pub data IsGoingCauseBehind (before : List MarkedPolynomials) (o : ListOptions) (n : ℕ) (k : Region) (fs : List Terms) (r : Refusal) : Type 0 where
+  in_tree : (e : TreeError) → IsSearchRefusedBehind before o n k fs e → r ≡ of_tree e → IsGoingCauseBehind before o n k fs r
+  at_limit : (most : ℕ) → IsPastLimitBehind before o.limit n k fs most → r ≡ refusals.ListLimit most → IsGoingCauseBehind before o n k fs r
+  at_certificates : AreCertificatesRefusedBehind before o n k fs r → IsGoingCauseBehind before o n k fs r
+
+-- what stands where the list is refused so: at the limit just as many bases; at numbers, where the list from its first basis on is refused,
+-- or without memory, some of them, from the first on, or none; and nothing stands at a refusal that isn't one of these
+abbrev pub IsBegunWhereBehind : List MarkedPolynomials → ListOptions → List (List ℕ) → Region → List Terms → List ℕ → Refusal → Type 0
+IsBegunWhereBehind before o ring k fs text (refusals.ListLimit most) = IsBegunToLimitBehind before o ring k fs most text
+IsBegunWhereBehind before o ring k fs text r = IsOfNumbers r × (IsGoingCauseBehind before o (length ring) k fs r ⊎ (r ≡ refusals.Memory)) × IsBegunTextBehind before o ring k fs text
+
+-- ---- behind none: the whole list
+
+abbrev pub IsTextOfBasesIn : Bool → Option ℕ → List (List ℕ) → Region → List Terms → List ℕ → Type 0
+IsTextOfBasesIn certified limit ring k fs text = IsTextBehind [] certified limit ring k fs text
+
+abbrev pub IsFullTextIn : ListOptions → List (List ℕ) → Region → List Terms → List ℕ → Type 0
+IsFullTextIn o ring k fs text = IsFullTextBehind [] o ring k fs text
+
+abbrev pub IsPastLimitIn : Option ℕ → ℕ → Region → List Terms → ℕ → Type 0
+IsPastLimitIn limit n k fs most = IsPastLimitBehind [] limit n k fs most
+
+abbrev pub IsSearchRefusedIn : ListOptions → ℕ → Region → List Terms → TreeError → Type 0
+IsSearchRefusedIn o n k fs e = IsSearchRefusedBehind [] o n k fs e
+
+abbrev pub IsGoingCauseIn : ListOptions → ℕ → Region → List Terms → Refusal → Type 0
+IsGoingCauseIn o n k fs r = IsGoingCauseBehind [] o n k fs r
+
+abbrev pub IsBegunWhereIn : ListOptions → List (List ℕ) → Region → List Terms → List ℕ → Refusal → Type 0
+IsBegunWhereIn o ring k fs text r = IsBegunWhereBehind [] o ring k fs text r
+
+-- ---- where all positive weights are meant
+
+abbrev pub AreItemTexts : Bool → List (List ℕ) → List MarkedPolynomials → List (List ℕ) → Type 0
+AreItemTexts certified ring bs ts = AreItemTextsIn certified ring (all_positive (length ring)) bs ts
+
+abbrev pub IsTextOfBases : Bool → Option ℕ → List (List ℕ) → List Terms → List ℕ → Type 0
+IsTextOfBases certified limit ring fs text = IsTextOfBasesIn certified limit ring (all_positive (length ring)) fs text
+
+abbrev pub IsFullText : ListOptions → List (List ℕ) → List Terms → List ℕ → Type 0
+IsFullText o ring fs text = IsFullTextIn o ring (all_positive (length ring)) fs text
+
+abbrev pub IsPastLimit : Option ℕ → ℕ → List Terms → ℕ → Type 0
+IsPastLimit limit n fs most = IsPastLimitIn limit n (all_positive n) fs most
+
+abbrev pub IsSearchRefused : ListOptions → ℕ → List Terms → TreeError → Type 0
+IsSearchRefused o n fs e = IsSearchRefusedIn o n (all_positive n) fs e
+
+abbrev pub IsGoingCause : ListOptions → ℕ → List Terms → Refusal → Type 0
+IsGoingCause o n fs r = IsGoingCauseIn o n (all_positive n) fs r
+
+abbrev pub IsBegunWhere : ListOptions → List (List ℕ) → List Terms → List ℕ → Refusal → Type 0
+IsBegunWhere o ring fs text r = IsBegunWhereIn o ring (all_positive (length ring)) fs text r
+
+-- ---- from the first basis on
+
+-- the first basis, by degree and then lex, is refused; or the list from it on
+pub data IsListCause (o : ListOptions) (n : ℕ) (fs : List Terms) (r : Refusal) : Type 0 where
+  at_root : (e : BasisError) → IsBasisRefusal MonomialOrder.deglex n fs o.pairs e → r ≡ of_basis e → IsListCause o n fs r
+  going : IsGoingCause o n fs r → IsListCause o n fs r
+
+-- where certificates are asked for, no operation of those of a basis of the ideal in a region leaves its limits
+abbrev pub AreCertifiedWithinIn : ListOptions → ℕ → Region → List Terms → Type 0
+AreCertifiedWithinIn o n k fs = o.certified ≡ true → (b : MarkedPolynomials) → IsGivenIn n k fs b → AreCertificatesFittingIn b.variables k b.items
+
+-- no operation of the search at a basis of the ideal in a region leaves its limits, nor one of its certificates where they are asked for, and
+-- the list isn't longer than its limit
+pub record IsGoingWithin (o : ListOptions) (n : ℕ) (k : Region) (fs : List Terms) : Type 0 where
+  pub tree : IsTreeWithinLimits (ideal_within n fs k) o.pairs
+  pub few : (list : List MarkedPolynomials) → AreAllBasesIn n k fs list → IsWithinLimit o.limit list
+  pub certificates : AreCertifiedWithinIn o n k fs
+
+abbrev pub AreCertifiedWithin : ListOptions → ℕ → List Terms → Type 0
+AreCertifiedWithin o n fs = AreCertifiedWithinIn o n (all_positive n) fs
+
+-- no operation on the way to the first basis leaves its limits, nor one of the search at a basis of the ideal, nor one of its certificates
+-- where they are asked for, and the list isn't longer than its limit
+pub record IsListWithin (o : ListOptions) (n : ℕ) (fs : List Terms) : Type 0 where
+  pub root : AreRunsWithinLimits MonomialOrder.deglex fs o.pairs
+  pub tree : IsTreeWithinLimits (ideal_by n fs) o.pairs
+  pub few : (list : List MarkedPolynomials) → AreAllBases n fs list → IsWithinLimit o.limit list
+  pub certificates : AreCertifiedWithin o n fs
+
+-- the list goes on past its limit, and from its first basis on no operation before that leaves its limits: none of a call at a basis that the
+-- limit lets through, or at the next one, and none of the certificates of one that it lets through, where they are asked for
+pub record IsGoingPastIn (o : ListOptions) (n : ℕ) (k : Region) (fs : List Terms) (most : ℕ) : Type 0 where
+  pub past : IsPastLimitIn o.limit n k fs most
+  pub calls : (written rest : List MarkedPolynomials) (e : TreeError) → past.list ≡ written ++ rest → length written ≤ most →
+      IsRefusedEarly (ideal_within n fs k) o.pairs rest e → e ≡ tree_errors.Memory
+  pub certificates : (written rest : List MarkedPolynomials) (b : MarkedPolynomials) → past.list ≡ written ++ b ∷ rest → length written < most →
+      o.certified ≡ true → AreCertificatesFittingIn b.variables k b.items
+
+abbrev pub IsGoingPast : ListOptions → ℕ → List Terms → ℕ → Type 0
+IsGoingPast o n fs most = IsGoingPastIn o n (all_positive n) fs most
+
+-- so it is, and no operation on the way to the first basis leaves its limits
+pub record IsListPast (o : ListOptions) (n : ℕ) (fs : List Terms) (most : ℕ) : Type 0 where
+  pub root : AreRunsWithinLimits MonomialOrder.deglex fs o.pairs
+  pub going : IsGoingPast o n fs most
+
+-- ---- the command
+
+-- the command `_bases`, whose list begins at the basis by degree of what is read
+abbrev pub bases_command : ListOptions → Command
+bases_command o = record {
+  Value = List (List ℕ) × (List Written × Option (List ℤ));
+  reads = Origin.the_input ∷ [];
+  reading = of_one (ring_set_vector false);
+  checks = λ v. [];
+  IsAnswer = λ v text. IsTextOfBases o.certified o.limit v.0 (generators_of v.1.0) text;
+  IsCause = λ v r. IsListCause o (length v.0) (generators_of v.1.0) r;
+  IsWithin = λ v. IsListWithin o (length v.0) (generators_of v.1.0);
+  writing = Writing.as_it_goes (λ v text. IsFullText o v.0 (generators_of v.1.0) text) (λ v text r. IsBegunWhere o v.0 (generators_of v.1.0) text r);
+}

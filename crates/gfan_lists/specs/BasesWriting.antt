@@ -1,0 +1,156 @@
+-- How `_bases` writes its list: pieces, and how many bases may still be written. Laws: proofs/BasesLaws.antt.
+use Rattle.std.specs.Prelude.{◌≡◌, ◌⊎◌, ℕ, ◌+◌, Bool, true, false, List, [], ◌∷◌, ◌++◌, length, Option, None, Some}
+use Rattle.std.specs.Io.KnownBytes.{Appends, Keeps}
+use Rattle.gf_outside.specs.Faults.{Rose}
+use Rattle.gf_outside.specs.Moved.{AppendsPrefix}
+use Rattle.gf_exponents.specs.SixOrders.{MonomialOrder}
+use Rattle.gf_poly.specs.Polynomial.{Terms}
+use Rattle.gf_poly.specs.Marking.{MarkedPolynomials}
+use Rattle.gf_text.specs.RingText.{ring_text}
+use Rattle.gf_ideal.specs.Membership.{AreInVariables}
+use Rattle.gf_buchberger.specs.declared.bases.BasisError.{BasisError}
+use Rattle.gf_buchberger.specs.Bases.{IsArrangedBasis, IsBasisRefusal}
+use Rattle.gf_exponents.specs.Orders.{gains, IsWeightedBelow}
+use Rattle.gf_ideal.specs.Bases.{IsReducedBasisFor}
+use Rattle.gf_reverse.specs.Upward.{IsNodeIn}
+use Rattle.gf_facets.specs.Regions.{Region}
+use Rattle.gf_tree.specs.Ideals.{ideal_within}
+use Rattle.gf_subtree.specs.Rows.{Row, AreLeftIn}
+use Rattle.gf_front.specs.declared.refusal.Refusal.{Refusal}
+use Rattle.gf_front.specs.declared.refusal.Refusal.TheVariants as refusals
+use Rattle.gfan_lists.specs.declared.bases.ListOptions.{ListOptions}
+use Rattle.gfan_lists.specs.declared.bases.Room.{Room}
+use Rattle.gfan_lists.specs.declared.bases.Room.TheVariants.{Endless, Limited}
+use Rattle.gfan_common.specs.Causes.{of_basis}
+use Rattle.gfan_lists.specs.BasesList.{AreAllBasesIn}
+use Rattle.gfan_lists.specs.Certificates.{IsItemTextIn, IsItemRefusalIn}
+use Rattle.gfan_lists.specs.Bases.{later_item_text, AreItemTextsIn, IsTextBehind, IsFullTextBehind, IsBegunWhereBehind, IsGoingCauseBehind, begun_text}
+
+-- ---- pieces
+
+-- the piece of what stands for a basis: with the first one the line of the ring and a brace, with each other one what parts them
+abbrev pub basis_piece : List (List ℕ) → Bool → List ℕ → List ℕ
+basis_piece ring true t = ring_text ring ++ 123 ∷ t
+basis_piece ring false t = later_item_text t
+
+-- the piece of this basis, in a region
+pub record IsPieceOf (certified : Bool) (ring : List (List ℕ)) (k : Region) (is_first : Bool) (b : MarkedPolynomials) (piece : List ℕ) : Type 0 where
+  pub item : List ℕ
+  pub is_item : IsItemTextIn certified ring k b item
+  pub is_piece : piece ≡ basis_piece ring is_first item
+
+-- it is written
+abbrev pub IsBasisWritten : Bool → List (List ℕ) → Region → Bool → MarkedPolynomials → Option (List ℕ) → Option (List ℕ) → Type 0
+IsBasisWritten certified ring k is_first b held holds = (piece : List ℕ) × IsPieceOf certified ring k is_first b piece × Appends held holds piece
+
+-- why a piece isn't written whole: there is no memory, and nothing is; or a write failed, and a prefix is
+abbrev pub IsUnwritten : Option (List ℕ) → Option (List ℕ) → ℕ → ℕ → List ℕ → Refusal → Type 0
+IsUnwritten held holds written writes piece refusals.WriteFault = Rose written writes × AppendsPrefix held holds piece
+IsUnwritten held holds written writes piece refusals.Memory = Keeps held holds × (writes ≡ written)
+IsUnwritten held holds written writes piece _ = ⊥
+
+-- why a basis isn't written: its piece isn't made, and nothing is written; or it is made, and isn't written whole
+pub data IsBasisUnwritten (certified : Bool) (ring : List (List ℕ)) (k : Region) (is_first : Bool) (b : MarkedPolynomials) (held holds : Option (List ℕ)) (written writes : ℕ) (r : Refusal) : Type 0 where
+  unmade : holds ≡ held → writes ≡ written → IsItemRefusalIn certified k b r → IsBasisUnwritten certified ring k is_first b held holds written writes r
+  cut : (piece : List ℕ) → IsPieceOf certified ring k is_first b piece → IsUnwritten held holds written writes piece r → IsBasisUnwritten certified ring k is_first b held holds written writes r
+
+-- ---- room
+
+-- there is just so much room behind the bases that are written
+abbrev pub HasRoomFor : Option ℕ → Room → List MarkedPolynomials → Type 0
+HasRoomFor None Endless written = Unit {0}
+HasRoomFor None (Limited limit left) written = ⊥
+HasRoomFor (Some most) Endless written = ⊥
+HasRoomFor (Some most) (Limited limit left) written = (limit ≡ most) × (length written + left ≡ most)
+
+-- the room once one more is written
+abbrev pub IsOneLess : Room → Room → Type 0
+IsOneLess Endless Endless = Unit {0}
+IsOneLess Endless (Limited limit left) = ⊥
+IsOneLess (Limited limit left) Endless = ⊥
+IsOneLess (Limited limit left) (Limited same less) = (same ≡ limit) × (less + 1 ≡ left)
+
+-- there is no room, and the limit is told
+abbrev pub IsFull : Room → Refusal → Type 0
+IsFull Endless r = ⊥
+IsFull (Limited limit left) r = (left ≡ 0) × (r ≡ refusals.ListLimit limit)
+
+-- ---- the list
+
+-- the basis at which the list begins
+abbrev pub IsFirstBasis : ℕ → List Terms → MarkedPolynomials → Type 0
+IsFirstBasis n fs root = IsArrangedBasis MonomialOrder.deglex n fs root
+
+-- why there is none
+abbrev pub IsRootRefusal : ℕ → List Terms → ℕ → Refusal → Type 0
+IsRootRefusal n fs pairs r = (e : BasisError) × IsBasisRefusal MonomialOrder.deglex n fs pairs e × (r ≡ of_basis e)
+
+-- the list of the ideal of fs in n variables begins at the root
+pub record StartsAt (n : ℕ) (fs : List Terms) (root : MarkedPolynomials) : Type 0 where
+  pub inside : AreInVariables n fs
+  pub first : IsFirstBasis n fs root
+
+-- the list of the ideal of fs in n variables and in a region begins at the root: the basis by the root of the region and then lex
+pub record StartsIn (n : ℕ) (k : Region) (fs : List Terms) (root : MarkedPolynomials) : Type 0 where
+  pub node : IsNodeIn (ideal_within n fs k) root
+  pub by_root : IsReducedBasisFor n fs (IsWeightedBelow (gains k.root)) root.items
+
+-- a row goes on with the list of all bases of the ideal of fs in n variables and in a region, behind these
+pub record GoesOnBehind (before : List MarkedPolynomials) (n : ℕ) (k : Region) (fs : List Terms) (budget : ℕ) (row : Row) : Type 0 where
+  pub rest : List MarkedPolynomials
+  pub are_all : AreAllBasesIn n k fs (before ++ rest)
+  pub left : AreLeftIn row rest
+  pub basis : IsNodeIn (ideal_within n fs k) row.start
+  pub pairs : row.pairs ≡ budget
+  pub region : row.region ≡ k
+
+-- the output gained all bases of the ideal of fs in a region behind these
+abbrev pub IsListWrittenBehind : List MarkedPolynomials → ListOptions → List (List ℕ) → Region → List Terms → Option (List ℕ) → Option (List ℕ) → Type 0
+IsListWrittenBehind before o ring k fs held holds = (text : List ℕ) × IsTextBehind before o.certified o.limit ring k fs text × Appends held holds text
+
+-- it gained the beginning of that text that may stand where the list is refused so
+abbrev pub IsListBegunBehind : List MarkedPolynomials → ListOptions → List (List ℕ) → Region → List Terms → Option (List ℕ) → Option (List ℕ) → Refusal → Type 0
+IsListBegunBehind before o ring k fs held holds r = (text : List ℕ) × IsBegunWhereBehind before o ring k fs text r × Appends held holds text
+
+-- why the list isn't written from there on, and what stands of it
+abbrev pub IsListStoppedBehind : List MarkedPolynomials → ListOptions → List (List ℕ) → Region → List Terms → Option (List ℕ) → Option (List ℕ) → ℕ → ℕ → Refusal → Type 0
+IsListStoppedBehind before o ring k fs held holds written writes refusals.WriteFault = Rose written writes × ((text : List ℕ) × IsFullTextBehind before o ring k fs text × AppendsPrefix held holds text)
+IsListStoppedBehind before o ring k fs held holds written writes (refusals.ListLimit most) =
+    IsGoingCauseBehind before o (length ring) k fs (refusals.ListLimit most) × IsListBegunBehind before o ring k fs held holds (refusals.ListLimit most)
+IsListStoppedBehind before o ring k fs held holds written writes r =
+    (IsGoingCauseBehind before o (length ring) k fs r ⊎ (r ≡ refusals.Memory)) × (Keeps held holds ⊎ IsListBegunBehind before o ring k fs held holds r)
+
+-- behind none, from the first basis on
+abbrev pub IsListWrittenIn : ListOptions → List (List ℕ) → Region → List Terms → Option (List ℕ) → Option (List ℕ) → Type 0
+IsListWrittenIn o ring k fs held holds = IsListWrittenBehind [] o ring k fs held holds
+
+abbrev pub IsListBegunIn : ListOptions → List (List ℕ) → Region → List Terms → Option (List ℕ) → Option (List ℕ) → Refusal → Type 0
+IsListBegunIn o ring k fs held holds r = IsListBegunBehind [] o ring k fs held holds r
+
+abbrev pub IsListStoppedIn : ListOptions → List (List ℕ) → Region → List Terms → Option (List ℕ) → Option (List ℕ) → ℕ → ℕ → Refusal → Type 0
+IsListStoppedIn o ring k fs held holds written writes r = IsListStoppedBehind [] o ring k fs held holds written writes r
+
+-- the piece that ends the list: a closing brace, with the line of the ring and the opening one where no basis was written
+abbrev pub end_piece : List (List ℕ) → Bool → List ℕ
+end_piece ring true = ring_text ring ++ 123 ∷ 125 ∷ 10 ∷ []
+end_piece ring false = 125 ∷ 10 ∷ []
+
+-- whether nothing is written yet
+abbrev pub is_none_of : List (List ℕ) → Bool
+is_none_of [] = true
+is_none_of (t ∷ ts) = false
+
+-- the list behind these is under way: some of its bases are written, and the rest is left in the row
+pub record IsUnderWay (before : List MarkedPolynomials) (o : ListOptions) (ring : List (List ℕ)) (k : Region) (fs : List Terms) (row : Row) (room : Room) (is_first : Bool) (held holds : Option (List ℕ)) : Type 0 where
+  pub written : List MarkedPolynomials
+  pub rest : List MarkedPolynomials
+  pub are_all : AreAllBasesIn (length ring) k fs (before ++ (written ++ rest))
+  pub left : AreLeftIn row rest
+  pub basis : IsNodeIn (ideal_within (length ring) fs k) row.start
+  pub pairs : row.pairs ≡ o.pairs
+  pub region : row.region ≡ k
+  pub fits : HasRoomFor o.limit room written
+  pub items : List (List ℕ)
+  pub are_items : AreItemTextsIn o.certified ring k written items
+  pub first : is_first ≡ is_none_of items
+  pub gained : Appends held holds (begun_text ring items)

@@ -1,0 +1,116 @@
+-- `_generated`: what it writes of the ideal that a number stands for, and why it doesn't.
+use Rattle.std.specs.Prelude.{◌≡◌, ℕ, ◌<◌, ◌≤◌, nat_le, min, Bool, true, false, List, [], ◌∷◌, ◌++◌, length, take, map, Some, codes, ℤ}
+use Rattle.std.specs.List.{AllZip, concat}
+use Rattle.gf_exponents.specs.SixOrders.{MonomialOrder}
+use Rattle.gf_vec.specs.Vector.{zeros, vector_sum}
+use Rattle.gf_vec.specs.Steps.{IsFirstWide}
+use Rattle.gf_vec.specs.declared.error.WideVector.{WideVector}
+use Rattle.gf_poly.specs.Polynomial.{Terms}
+use Rattle.gf_poly.specs.Marking.{MarkedPolynomials}
+use Rattle.gf_rays.specs.Sums.{adding_steps}
+use Rattle.gf_small.specs.Degrees.{greatest}
+use Rattle.gf_small.specs.Counts.{degree_of_set}
+use Rattle.gf_text.specs.VectorText.{vector_text}
+use Rattle.gf_buchberger.specs.declared.bases.BasisError.{BasisError}
+use Rattle.gf_buchberger.specs.Bases.{IsBasisRefusal}
+use Rattle.gf_tree.specs.declared.error.TreeError.{TreeError}
+use Rattle.gf_weights.specs.declared.error.WeightError.{WeightError}
+use Rattle.gf_weights.specs.Weights.{IsPrintedWeight}
+use Rattle.gf_weights.specs.Refusals.{IsWeightCause}
+use Rattle.gf_generated.specs.Generated.{generated}
+use Rattle.gf_front.specs.declared.refusal.Refusal.{Refusal}
+use Rattle.gf_front.specs.declared.refusal.Refusal.TheVariants as refusals
+use Rattle.gf_frame.specs.Readings.{of_none}
+use Rattle.gf_frame.specs.Commands.{Writing, Command}
+use Rattle.gfan_lists.specs.declared.bases.ListOptions.{ListOptions}
+use Rattle.gfan_common.specs.Printing.{count_line}
+use Rattle.gfan_common.specs.Causes.{of_basis, of_weight_error, of_tree}
+use Rattle.gfan_lists.specs.BasesList.{AreAllBases}
+use Rattle.gfan_lists.specs.Bases.{IsSearchRefused}
+
+-- ---- what is written
+
+-- the weight that is printed of each of these bases
+abbrev pub ArePrintedWeights : List MarkedPolynomials → List (List ℤ) → Type 0
+ArePrintedWeights bs ws = AllZip (λ b w. IsPrintedWeight b.variables b.items w) bs ws
+
+-- vectors added to a sum, from the left
+abbrev pub added : List ℤ → List (List ℤ) → List ℤ
+added sum [] = sum
+added sum (w ∷ ws) = added (vector_sum sum w) ws
+
+-- the number of a truth value
+abbrev pub one_where : Bool → ℕ
+one_where true = 1
+one_where false = 0
+
+-- a line: what is told, and the vector
+abbrev pub vector_line : List ℕ → List ℤ → List ℕ
+vector_line label v = label ++ (vector_text v ++ 10 ∷ [])
+
+-- four lines: how many bases, the greatest total degree of their polynomials, the sum of their weights, and 1 where these are all
+abbrev pub summary_text : ℕ → ℕ → List ℤ → Bool → List ℕ
+summary_text bases degree weights complete = concat (
+    count_line (codes "Bases: ") bases
+    ∷ count_line (codes "Greatest degree: ") degree
+    ∷ vector_line (codes "Sum of weights: ") weights
+    ∷ count_line (codes "Complete: ") (one_where complete)
+    ∷ [])
+
+-- these lines of the first bases of the ideal of fs in four variables, as many as the limit, or all where there are fewer; all of them are
+-- told of exactly where they are no more than the limit
+pub record IsSummaryText (limit : ℕ) (fs : List Terms) (text : List ℕ) : Type 0 where
+  pub list : List MarkedPolynomials
+  pub are_all : AreAllBases 4 fs list
+  pub weights : List (List ℤ)
+  pub are_weights : ArePrintedWeights (take limit list) weights
+  pub is_text : text ≡ summary_text (min limit (length list)) (greatest (map degree_of_set (take limit list))) (added (zeros 4) weights) (nat_le (length list) limit)
+
+-- ---- why it isn't written
+
+-- the list that is asked for, to its limit
+abbrev pub list_to : ℕ → ℕ → ListOptions
+list_to limit pairs = record { limit = Some limit; pairs = pairs; certified = true }
+
+-- the weight of a basis that the limit lets through isn't told
+pub record IsWeightRefused (limit : ℕ) (fs : List Terms) (e : WeightError) : Type 0 where
+  pub before : List MarkedPolynomials
+  pub basis : MarkedPolynomials
+  pub rest : List MarkedPolynomials
+  pub are_all : AreAllBases 4 fs (before ++ basis ∷ rest)
+  pub few : length before < limit
+  pub cause : IsWeightCause basis.variables basis.items e
+
+-- a sum of an entry of a partial sum of the weights of bases that the limit lets through and one of the next weight, the first such, leaves
+-- the range
+pub record IsSumRefused (limit : ℕ) (fs : List Terms) (e : WideVector) : Type 0 where
+  pub summed : List MarkedPolynomials
+  pub rest : List MarkedPolynomials
+  pub are_all : AreAllBases 4 fs (summed ++ rest)
+  pub few : length summed ≤ limit
+  pub weights : List (List ℤ)
+  pub are_weights : ArePrintedWeights summed weights
+  pub wide : IsFirstWide e (adding_steps (zeros 4) weights)
+
+-- the first basis, by degree and then lex, is refused; or a step of the search, at a basis that isn't behind the limit; or a weight, or the
+-- sum of the weights
+pub data IsSummaryCause (limit pairs : ℕ) (fs : List Terms) (r : Refusal) : Type 0 where
+  at_root : (e : BasisError) → IsBasisRefusal MonomialOrder.deglex 4 fs pairs e → r ≡ of_basis e → IsSummaryCause limit pairs fs r
+  in_tree : (e : TreeError) → IsSearchRefused (list_to limit pairs) 4 fs e → r ≡ of_tree e → IsSummaryCause limit pairs fs r
+  at_weight : (e : WeightError) → IsWeightRefused limit fs e → r ≡ of_weight_error e → IsSummaryCause limit pairs fs r
+  at_sum : (e : WideVector) → IsSumRefused limit fs e → r ≡ refusals.WideVector e → IsSummaryCause limit pairs fs r
+
+-- ---- the command
+
+-- it reads nothing; how many workers there are isn't told
+abbrev pub generated_command : ℕ → ℕ → ℕ → Command
+generated_command number limit pairs = record {
+  Value = Unit {0};
+  reads = [];
+  reading = of_none;
+  checks = λ v. [];
+  IsAnswer = λ v text. IsSummaryText limit (generated number) text;
+  IsCause = λ v r. IsSummaryCause limit pairs (generated number) r;
+  IsWithin = λ v. (r : Refusal) → IsSummaryCause limit pairs (generated number) r → r ≡ refusals.Memory;
+  writing = Writing.at_end;
+}

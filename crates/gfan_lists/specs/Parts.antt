@@ -1,0 +1,16 @@
+-- A list that is written in parts. Laws: proofs/PartsLaws.antt.
+use Rattle.std.specs.Prelude.{◌≡◌, ℕ, Bool, List, [], ◌∷◌, ◌++◌, length, Option, None}
+use Rattle.gf_poly.specs.Polynomial.{Terms}
+use Rattle.gf_poly.specs.Marking.{MarkedPolynomials}
+use Rattle.gf_ideal.specs.Membership.{AreInVariables}
+use Rattle.gf_facets.specs.Regions.{Region, IsRegion}
+use Rattle.gfan_lists.specs.Bases.{begun_text, list_text, IsTextBehind, IsBegunListBehind}
+
+-- Where one run wrote the bases up to b, behind some earlier ones or from the first on, and another what follows b, the bases of both, in
+-- this order, are what follows the earlier ones, and the items of both texts make up its text; whatever the limits of the runs were.
+abbrev pub PartsAreJoined : Type 0
+PartsAreJoined = (certified : Bool) (limit : Option ℕ) (ring : List (List ℕ)) (k : Region) (fs : List Terms) (early front before rest : List MarkedPolynomials) (b : MarkedPolynomials) (text behind : List ℕ) →
+    AreInVariables (length ring) fs → IsRegion (length ring) k →
+    IsBegunListBehind early certified ring k fs (front ++ b ∷ []) rest text → IsTextBehind (before ++ b ∷ []) certified limit ring k fs behind →
+    (items : List (List ℕ)) × (others : List (List ℕ)) × (text ≡ begun_text ring items) × (behind ≡ list_text ring others)
+    × IsTextBehind early certified None ring k fs (list_text ring (items ++ others))

@@ -1,0 +1,373 @@
+//! What `_bases` writes for an input, basis by basis.
+ghost use Rattle.std.specs.Prelude.{◌≡◌, ◌≤◌, [], ◌∷◌, length, List, None, IfOk, IfErr, OnOk, MatchResult};
+ghost use Rattle.std.specs.Io.KnownBytes.{Appends};
+ghost use Rattle.gf_poly.specs.Polynomial.{Terms};
+ghost use Rattle.gf_poly.specs.Marking.{MarkedPolynomials, polys};
+ghost use Rattle.gf_facets.specs.Regions.{all_positive};
+ghost use Rattle.gf_reverse.specs.Upward.{IsNodeIn};
+ghost use Rattle.gf_tree.specs.Parents.{ideal_of};
+ghost use Rattle.gf_subtree.specs.Rows.{first_row};
+ghost use Rattle.gf_text.specs.PrintedSets.{basis_text};
+ghost use Rattle.gf_text.specs.Sets.{AreIn};
+ghost use Rattle.gfan_common.specs.Forms.{generators_of};
+ghost use Rattle.gfan_lists.specs.Certificates.{IsItemRefusalIn};
+ghost use Rattle.gfan_lists.specs.Bases.{bases_command};
+ghost use Rattle.gfan_lists.specs.BasesWriting.{basis_piece, end_piece, GoesOnBehind, IsListWrittenBehind, IsListStoppedBehind, IsPieceOf, IsBasisWritten, IsUnwritten, IsBasisUnwritten, HasRoomFor, IsOneLess, IsFull, IsFirstBasis, IsRootRefusal, StartsIn, IsListWrittenIn, IsListStoppedIn};
+ghost use Rattle.gfan_common.specs.Refused.{IsUnnamed, IsOfSource};
+ghost use Rattle.gf_frame.specs.Seen.{output_seen};
+ghost use Rattle.gf_frame.specs.Runs.{IsDoneOn, IsStoppedOn};
+ghost use Rattle.gfan_common.specs.Performed.{IsPerformedFor, IsStoppedFor};
+
+use crate::certificates::push_certified;
+use gf_buchberger::basis;
+use gf_cone::Region;
+use gf_front::Refusal;
+use gf_items::{RingAndSet, ring_and_set};
+use gf_order::Order;
+use gf_outside::{Sink, WriteFault, write_all};
+use gf_poly::MarkedSet;
+use gf_subtree::Waves;
+use gf_text::{Printer, Ring, Written};
+use gf_waves::Gate;
+use gfan_common::refused::Refused;
+use gfan_common::written_sets::polynomials;
+use std::alloc::{AllocError, Global};
+use std::thread::Threads;
+
+/// The options of `_bases`.
+#[derive(Clone, Copy, Debug)]
+pub struct ListOptions {
+    /// So many bases are written at most, where it is given.
+    pub limit: Option<u64>,
+    /// How many pairs each run of Buchberger's algorithm settles at most.
+    pub pairs: u64,
+    /// Each basis is followed by its weight, and by the facets that a flip may cross, each with a witness.
+    pub certified: bool,
+}
+
+// ---- how many may be written
+
+/// How many bases may still be written.
+#[derive(Clone, Copy, Debug)]
+enum Room {
+    Endless,
+    Limited { limit: u64, left: u64 },
+}
+
+impl Room {
+    fn of(limit: Option<u64>) -> Room
+        ensures { HasRoomFor limit result [] }
+    {
+        match limit {
+            None => Room::Endless,
+            Some(limit) => Room::Limited { limit, left: limit },
+        }
+    }
+
+    /// The room once one more is written; where there is none for it the list comes to its limit.
+    fn with_one_more(self) -> Result<Room, Refusal>
+        ensures ok { IfOk result (IsOneLess self) }
+        ensures err { IfErr result (IsFull self) }
+    {
+        match self {
+            Room::Endless => Ok(Room::Endless),
+            Room::Limited { limit, left } => {
+                if left == 0 {
+                    return Err(Refusal::ListLimit { written: limit });
+                }
+                Ok(Room::Limited {
+                    limit,
+                    left: left - 1,
+                })
+            }
+        }
+    }
+}
+
+// ---- pieces of the output
+
+/// Offers a piece to the output.
+fn offer<K: Sink>(output: &mut K, piece: &[u8]) -> Result<(), Refusal>
+    ensures all { OnOk result (Appends (K.held output.old) (K.held output.new) piece.now) }
+    ensures err { IfErr result (IsUnwritten (K.held output.old) (K.held output.new) (K.faults output.old)
+        (K.faults output.new) piece.now) }
+    ensures calm { OnOk result (K.faults output.new ≡ K.faults output.old) }
+{
+    match write_all(output, piece) {
+        Ok(()) => Ok(()),
+        Err(WriteFault) => Err(Refusal::WriteFault),
+    }
+}
+
+/// The piece of a basis alone: with the first one the line of the ring and a brace, with each other one what parts them.
+fn piece(
+    alloc: Global,
+    ring: &Ring,
+    basis: &MarkedSet,
+    is_first: bool,
+) -> Result<Vec<u8>, AllocError>
+    requires { basis.now.variables ≡ length ring.now }
+    ensures { IfOk result (λ text. text.items ≡ basis_piece ring.now is_first (basis_text ring.now basis.now.items)) }
+{
+    let mut text = Vec::new(alloc);
+    if is_first {
+        Printer::ring(&mut text, ring)?;
+        text.push(b'{')?;
+    } else {
+        text.extend_from_slice(b"\n,\n")?;
+    }
+    Printer::basis(&mut text, ring, basis)?;
+    Ok(text)
+}
+
+/// The piece of a basis, with its certificates in the region where they are asked for.
+fn item_piece(
+    alloc: Global,
+    ring: &Ring,
+    basis: &MarkedSet,
+    region: &Region,
+    is_first: bool,
+    certified: bool,
+) -> Result<Vec<u8>, Refusal>
+    requires variables { basis.now.variables ≡ length ring.now }
+    requires region { length region.now.root ≡ basis.now.variables }
+    ensures ok { IfOk result (λ text. IsPieceOf certified ring.now region.now is_first basis.now text.items) }
+    ensures err { IfErr result (IsItemRefusalIn certified region.now basis.now) }
+{
+    let mut text = piece(alloc, ring, basis, is_first)?;
+    if certified {
+        push_certified(&mut text, alloc, basis, region)?;
+    }
+    Ok(text)
+}
+
+/// Writes the piece of a basis.
+fn write_basis<K: Sink>(
+    alloc: Global,
+    ring: &Ring,
+    basis: &MarkedSet,
+    region: &Region,
+    is_first: bool,
+    certified: bool,
+    output: &mut K,
+) -> Result<(), Refusal>
+    requires variables { basis.now.variables ≡ length ring.now }
+    requires region { length region.now.root ≡ basis.now.variables }
+    ensures all { OnOk result (IsBasisWritten certified ring.now region.now is_first basis.now (K.held output.old)
+        (K.held output.new)) }
+    ensures err { IfErr result (IsBasisUnwritten certified ring.now region.now is_first basis.now (K.held output.old)
+        (K.held output.new) (K.faults output.old) (K.faults output.new)) }
+    ensures calm { OnOk result (K.faults output.new ≡ K.faults output.old) }
+{
+    let text = item_piece(alloc, ring, basis, region, is_first, certified)?;
+    offer(output, &text)
+}
+
+// ---- the job
+
+/// The basis of the set's ideal by degree and then lex, at which the list begins.
+pub(crate) fn first_basis(
+    alloc: Global,
+    ring: &Ring,
+    set: &[Written],
+    pairs: u64,
+) -> Result<MarkedSet, Refused>
+    requires { AreIn (length ring.now) set.now }
+    ensures ok { IfOk result (IsFirstBasis (length ring.now) (generators_of set.now)) }
+    ensures err { IfErr result (λ e. IsRootRefusal (length ring.now) (generators_of set.now) pairs e.refusal) }
+    ensures told { IfErr result IsUnnamed }
+{
+    let generators = polynomials(alloc, set)?;
+    match basis(alloc, ring.len(), &generators, &Order::deglex(), pairs) {
+        Ok(root) => Ok(root),
+        Err(error) => Err(Refused::from(error)),
+    }
+}
+
+/// The list of a basis and of all below it, for all positive weights, by so many workers.
+///
+/// # Errors
+///
+/// Want of memory.
+pub(crate) fn waves_of<'g, G: Gate>(
+    alloc: Global,
+    root: MarkedSet,
+    workers: u32,
+    pairs: u64,
+    gate: &'g G,
+) -> Result<Waves<'g, G>, AllocError>
+    requires basis { IsNodeIn (ideal_of root) root }
+    requires some { 1 ≤ workers }
+    requires most { workers ≤ 64 }
+    ensures { IfOk result (λ w. w ≡ first_row alloc root (all_positive root.variables) workers pairs) }
+{
+    let region = Region::positive(alloc, root.variables())?;
+    Waves::new(alloc, root, &region, workers, pairs, gate)
+}
+
+/// The piece that ends the list: a closing brace, with the line of the ring and the opening one where no basis was written.
+fn end_piece(alloc: Global, ring: &Ring, is_first: bool) -> Result<Vec<u8>, AllocError>
+    ensures { IfOk result (λ text. text.items ≡ end_piece ring.now is_first) }
+{
+    let mut text = Vec::new(alloc);
+    if is_first {
+        Printer::ring(&mut text, ring)?;
+        text.push(b'{')?;
+    }
+    text.extend_from_slice(b"}\n")?;
+    Ok(text)
+}
+
+/// Writes what is left of the list of all bases of an ideal in a region: the first of them with the ring, each other one behind a line end,
+/// a comma and a line end, and last the brace that ends the list. Where none is left, the ring and two braces.
+///
+/// # Errors
+///
+/// Those of the list from there on, as `perform` has them.
+pub(crate) fn write_waves<'g, R: Threads + Sync, K: Sink, G: Gate>(
+    rt: &R,
+    alloc: Global,
+    ring: &Ring,
+    mut waves: Waves<'g, G>,
+    region: &Region,
+    options: ListOptions,
+    output: &mut K,
+) -> Result<(), Refused>
+    requires row { (before : List MarkedPolynomials) × (fs : List Terms) × GoesOnBehind before (length ring.now) region.now fs options.pairs waves }
+    ensures done { OnOk result ((before : List MarkedPolynomials) (fs : List Terms) → GoesOnBehind before (length ring.now) region.now fs options.pairs waves.entry
+        → IsListWrittenBehind before options ring.now region.now fs (K.held output.old) (K.held output.new)) }
+    ensures stopped { IfErr result (λ e. (before : List MarkedPolynomials) (fs : List Terms) → GoesOnBehind before (length ring.now) region.now fs options.pairs waves.entry
+        → IsListStoppedBehind before options ring.now region.now fs (K.held output.old) (K.held output.new) (K.faults output.old)
+        (K.faults output.new) e.refusal) }
+    ensures told { IfErr result IsUnnamed }
+    ensures calm { MatchResult result (λ _. K.faults output.new ≡ K.faults output.old)
+        (λ e. (e.refusal ≡ Refusal.WriteFault → ⊥) → K.faults output.new ≡ K.faults output.old) }
+{
+    let mut room = Room::of(options.limit);
+    let mut is_first = true;
+    'list: while let Some(basis) = waves.next_written(rt)? {
+        room = room.with_one_more()?;
+        write_basis(
+            alloc,
+            ring,
+            &basis,
+            region,
+            is_first,
+            options.certified,
+            output,
+        )?;
+        is_first = false;
+    }
+    let end = end_piece(alloc, ring, is_first)?;
+    offer(output, &end)?;
+    Ok(())
+}
+
+/// Writes the list of all bases of an ideal in a region from its first basis on, by so many workers.
+///
+/// The root is the basis, by the root of the region and then lex, of the ideal that it generates.
+///
+/// # Errors
+///
+/// Those of the list from its first basis on, as `perform` has them.
+pub(crate) fn write_from<R: Threads + Sync, K: Sink, G: Gate>(
+    rt: &R,
+    alloc: Global,
+    ring: &Ring,
+    root: MarkedSet,
+    region: &Region,
+    options: ListOptions,
+    workers: u32,
+    output: &mut K,
+    gate: &G,
+) -> Result<(), Refused>
+    requires first { StartsIn (length ring.now) region.now (polys root.items) root }
+    requires some { 1 ≤ workers }
+    requires most { workers ≤ 64 }
+    ensures done { OnOk result ((fs : List Terms) → StartsIn (length ring.now) region.now fs root
+        → IsListWrittenIn options ring.now region.now fs (K.held output.old) (K.held output.new)) }
+    ensures stopped { IfErr result (λ e. (fs : List Terms) → StartsIn (length ring.now) region.now fs root
+        → IsListStoppedIn options ring.now region.now fs (K.held output.old) (K.held output.new) (K.faults output.old)
+        (K.faults output.new) e.refusal) }
+    ensures told { IfErr result IsUnnamed }
+    ensures calm { MatchResult result (λ _. K.faults output.new ≡ K.faults output.old)
+        (λ e. (e.refusal ≡ Refusal.WriteFault → ⊥) → K.faults output.new ≡ K.faults output.old) }
+{
+    let waves = Waves::new(alloc, root, region, workers, options.pairs, gate)?;
+    write_waves(rt, alloc, ring, waves, region, options, output)
+}
+
+/// Writes the list of all bases of the set's ideal.
+fn write_list<R: Threads + Sync, K: Sink, G: Gate>(
+    rt: &R,
+    alloc: Global,
+    ring: &Ring,
+    set: &[Written],
+    options: ListOptions,
+    workers: u32,
+    output: &mut K,
+    gate: &G,
+) -> Result<(), Refused>
+    requires set { AreIn (length ring.now) set.now }
+    requires some { 1 ≤ workers }
+    requires most { workers ≤ 64 }
+    ensures done { OnOk result (IsPerformedFor (bases_command options) (ring.now, (set.now, None))
+        (K.held output.old) (K.held output.new)) }
+    ensures stopped { IfErr result (λ e. IsStoppedFor (bases_command options) (ring.now, (set.now, None))
+        (K.held output.old) (K.held output.new) (K.faults output.old) (K.faults output.new) e.refusal) }
+    ensures told { IfErr result IsUnnamed }
+    ensures calm { MatchResult result (λ _. K.faults output.new ≡ K.faults output.old)
+        (λ e. (e.refusal ≡ Refusal.WriteFault → ⊥) → K.faults output.new ≡ K.faults output.old) }
+{
+    let root = first_basis(alloc, ring, set, options.pairs)?;
+    let region = Region::positive(alloc, ring.len())?;
+    write_from(
+        rt, alloc, ring, root, &region, options, workers, output, gate,
+    )
+}
+
+/// Writes the ring of the source in a line, and then all marked reduced Gröbner bases of the ideal of its set, each as soon as it is
+/// found: the first with the ring, and each other one behind a line end, a comma and a line end; last the brace that ends the list. With
+/// certificates each basis is followed by its printed weight and by the facets that a flip may cross, each with its printed witness.
+///
+/// The list is worked off by so many workers, and it is the same for every number of them; before each of their jobs the gate is called.
+/// It begins at the basis by degree and then lex. Every other basis comes from the one above it, across a facet of its cone; the
+/// way up from a basis is across the least of its flippable normals that are negative at (1, .., 1), and the bases come in the
+/// order of their paths from the first one.
+///
+/// # Errors
+///
+/// - `Syntax`, `TooWide`, `UnknownName` and `TooManyVariables` exactly where the source isn't the text of a ring and of a set
+///   in it, at the first token after which no such text goes on; nothing is written then.
+/// - `Overflow` and `ExponentOverflow` only at a sum of the text, at an operation that a run of Buchberger's algorithm on the set by
+///   degree and then lex may have, or at one of a flip at a basis of the ideal across a flippable normal; the operands don't fit.
+/// - `ConeOverflow` only at a step of the system that tells whether a normal of such a basis is flippable; with certificates also at one of
+///   finding the rays of such a basis's cone, cut with the orthant.
+/// - `WideVector` only with certificates, at a sum of entries of these rays: of all, or of those on which the normal of a facet is zero that
+///   a flip may cross.
+/// - `PairBudget` only where such a run or flip would have to settle more than `pairs` pairs.
+/// - `ListLimit` only where as many bases as the limit are written, and a further one was found; and always where there is a further one and no
+///   number of the work leaves its range.
+/// - `WriteFault` only where a write failed; a prefix is written then of the text of the list, or of what stands at its limit.
+///
+/// On the others from `Overflow` on, what is written ends where a basis ends, or nothing is.
+pub fn perform<R: Threads + Sync, K: Sink, G: Gate>(
+    rt: &R,
+    alloc: Global,
+    source: &[u8],
+    options: ListOptions,
+    workers: u32,
+    output: &mut K,
+    gate: &G,
+) -> Result<(), Refused>
+    requires some { 1 ≤ workers }
+    requires most { workers ≤ 64 }
+    ensures done { OnOk result (IsDoneOn (bases_command options) (source.now ∷ []) (output_seen (K.held output.old) (K.faults output.old))
+        (output_seen (K.held output.new) (K.faults output.new))) }
+    ensures stopped { IfErr result (λ e. IsStoppedOn (bases_command options) (source.now ∷ []) (output_seen (K.held output.old) (K.faults output.old))
+        (output_seen (K.held output.new) (K.faults output.new)) e.refusal) }
+    ensures told { IfErr result (IsOfSource source.now) }
+{
+    let RingAndSet { ring, set, .. } = ring_and_set(alloc, source, false)?;
+    write_list(rt, alloc, &ring, &set, options, workers, output, gate)
+}

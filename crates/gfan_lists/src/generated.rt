@@ -1,0 +1,209 @@
+//! What `_generated` writes: a summary of the bases of the ideal that a number stands for.
+ghost use Rattle.std.specs.Prelude.{◌≡◌, ◌⊎◌, ◌-◌, ◌<◌, ◌≤◌, ◌^◌, ◌++◌, [], length, List, IfOk, IfErr, OnOk};
+ghost use Rattle.gf_vec.specs.Vector.{vector_sum};
+ghost use Rattle.gf_vec.specs.Steps.{sum_steps, NoneWide};
+ghost use Rattle.gf_poly.specs.Polynomial.{Terms};
+ghost use Rattle.gf_poly.specs.Marking.{polys};
+ghost use Rattle.gf_weights.specs.declared.error.WeightError.{WeightError};
+ghost use Rattle.gf_weights.specs.Weights.{IsPrintedWeight};
+ghost use Rattle.gf_weights.specs.Refusals.{IsWeightCause};
+ghost use Rattle.gf_generated.specs.Generated.{generated};
+ghost use Rattle.gf_front.specs.declared.command_line.Job.{Job};
+ghost use Rattle.gf_front.specs.Jobs.{HasNumbersInRange};
+ghost use Rattle.gf_frame.specs.Commands.{IsAnswered, IsRefusedOn};
+ghost use Rattle.gfan_lists.specs.BasesWriting.{IsFirstBasis, IsRootRefusal, StartsAt};
+ghost use Rattle.gfan_common.specs.Refused.{IsUnnamed};
+ghost use Rattle.gfan_common.specs.Causes.{of_weight_error};
+ghost use Rattle.gfan_lists.specs.Generated.{one_where, vector_line, summary_text, IsSummaryCause, generated_command};
+ghost use Rattle.gfan_lists.specs.Summaries.{IsOfNoBasis, IsWideSum, IsWithBasis, IsUnsummed, IsSummary};
+
+use crate::bases::waves_of;
+use gf_buchberger::basis;
+use gf_front::{GeneratedOptions, Refusal};
+use gf_generated::generators;
+use gf_order::Order;
+use gf_poly::MarkedSet;
+use gf_small::degree_of_set;
+use gf_text::Printer;
+use gf_vec::{IntVec, VecError};
+use gf_waves::FreeGate;
+use gf_weights::weight;
+use gfan_common::printing::push_line;
+use gfan_common::refused::{Refused, of_weight_error};
+use std::alloc::{AllocError, Global};
+use std::thread::Threads;
+
+/// What is told of the first bases of a list.
+#[derive(Drop)]
+struct Summary {
+    /// How many they are.
+    bases: u64,
+    /// The greatest total degree of their polynomials.
+    degree: u64,
+    /// The sum of their weights.
+    weights: IntVec,
+    /// These are all.
+    complete: bool,
+}
+
+// ---- the list
+
+/// The first basis, by degree and then lex, of the ideal that the number stands for.
+fn first_basis(alloc: Global, number: u64, pairs: u64) -> Result<MarkedSet, Refused>
+    requires { number < 2147483647 }
+    ensures ok { IfOk result (IsFirstBasis 4 (generated number)) }
+    ensures err { IfErr result (λ e. IsRootRefusal 4 (generated number) pairs e.refusal) }
+    ensures told { IfErr result IsUnnamed }
+{
+    let generators = generators(alloc, number)?;
+    match basis(alloc, 4, &generators, &Order::deglex(), pairs) {
+        Ok(root) => Ok(root),
+        Err(error) => Err(Refused::from(error)),
+    }
+}
+
+/// The summary of no bases.
+fn nothing(alloc: Global) -> Result<Summary, AllocError>
+    ensures { IfOk result IsOfNoBasis }
+{
+    Ok(Summary {
+        bases: 0,
+        degree: 0,
+        weights: IntVec::from_slice(alloc, &[0, 0, 0, 0])?,
+        complete: true,
+    })
+}
+
+/// The weight of a basis.
+fn weight_of(alloc: Global, basis: &MarkedSet) -> Result<IntVec, Refusal>
+    ensures ok { IfOk result (IsPrintedWeight basis.now.variables basis.now.items) }
+    ensures err { IfErr result (λ r. (e : WeightError) × IsWeightCause basis.now.variables basis.now.items e × (r ≡ of_weight_error e)) }
+{
+    match weight(alloc, basis) {
+        Ok(found) => Ok(found),
+        Err(error) => Err(of_weight_error(error)),
+    }
+}
+
+/// The sum of the weights and one more.
+fn with_weight(weights: &IntVec, weight: &IntVec) -> Result<IntVec, Refusal>
+    requires { length weights.now ≡ length weight.now }
+    ensures ok { IfOk result (λ v. (v ≡ vector_sum weights.now weight.now) × NoneWide (sum_steps weights.now weight.now)) }
+    ensures err { IfErr result (IsWideSum weights.now weight.now) }
+{
+    match weights.add(weight) {
+        Ok(sum) => Ok(sum),
+        Err(VecError::Wide(wide)) => Err(Refusal::WideVector(wide)),
+        Err(VecError::Memory) => Err(Refusal::Memory),
+    }
+}
+
+/// The summary with one more basis.
+fn with_basis(alloc: Global, summary: &Summary, basis: &MarkedSet) -> Result<Summary, Refusal>
+    requires variables { basis.now.variables ≡ 4 }
+    requires weights { length summary.now.weights ≡ 4 }
+    requires room { summary.now.bases < 2 ^ 64 - 1 }
+    ensures ok { IfOk result (IsWithBasis summary.now basis.now) }
+    ensures err { IfErr result (IsUnsummed summary.now basis.now) }
+{
+    let weight = weight_of(alloc, basis)?;
+    let weights = with_weight(&summary.weights, &weight)?;
+    Ok(Summary {
+        bases: summary.bases + 1,
+        degree: summary.degree.max(degree_of_set(basis.items())),
+        weights,
+        complete: true,
+    })
+}
+
+/// The summary of the first bases of the list that begins at the root, as many as the limit, or of all where there are fewer. At the limit the
+/// list is asked for one more basis, whose weight isn't.
+fn summed_up<R: Threads + Sync>(
+    rt: &R,
+    alloc: Global,
+    root: MarkedSet,
+    limit: u64,
+    pairs: u64,
+    workers: u32,
+) -> Result<Summary, Refused>
+    requires first { StartsAt 4 (polys root.items) root }
+    requires some { 1 ≤ workers }
+    requires most { workers ≤ 64 }
+    ensures ok { IfOk result (λ s. (fs : List Terms) → StartsAt 4 fs root → IsSummary limit fs s) }
+    ensures err { IfErr result (λ e. (fs : List Terms) → StartsAt 4 fs root
+        → IsSummaryCause limit pairs fs e.refusal ⊎ (e.refusal ≡ Refusal.Memory)) }
+    ensures told { IfErr result IsUnnamed }
+{
+    let gate = FreeGate;
+    let mut waves = waves_of(alloc, root, workers, pairs, &gate)?;
+    let mut summary = nothing(alloc)?;
+    'list: while let Some(basis) = waves.next_written(rt)? {
+        if summary.bases == limit {
+            return Ok(Summary {
+                complete: false,
+                ..summary
+            });
+        }
+        summary = with_basis(alloc, &summary, &basis)?;
+    }
+    Ok(summary)
+}
+
+// ---- the text
+
+/// The number of a truth value.
+fn one_where(truth: bool) -> u128
+    ensures { result ≡ one_where truth }
+{
+    if truth { 1 } else { 0 }
+}
+
+/// Adds a line: what is told, and the vector.
+fn push_vector(text: &mut Vec<u8>, label: &str, vector: &IntVec) -> Result<(), AllocError>
+    ensures { OnOk result (text.new.items ≡ text.old.items ++ vector_line label.now vector.now) }
+{
+    text.extend_from_slice(label.as_bytes())?;
+    Printer::vector(text, vector)?;
+    text.push(b'\n')?;
+    Ok(())
+}
+
+/// The four lines.
+fn printed(alloc: Global, summary: &Summary) -> Result<Vec<u8>, AllocError>
+    ensures { IfOk result (λ text. text.items ≡ summary_text summary.now.bases summary.now.degree summary.now.weights summary.now.complete) }
+{
+    let mut text = Vec::new(alloc);
+    push_line(&mut text, "Bases: ", u128::from(summary.bases))?;
+    push_line(&mut text, "Greatest degree: ", u128::from(summary.degree))?;
+    push_vector(&mut text, "Sum of weights: ", &summary.weights)?;
+    push_line(&mut text, "Complete: ", one_where(summary.complete))?;
+    Ok(text)
+}
+
+/// Four lines of the ideal that the number stands for: how many bases are told of, the greatest total degree of their polynomials, the sum of
+/// the weights that are printed of them, and 1 exactly where these are all bases of the ideal. They are the first ones in the order of
+/// `_bases`, as many as the limit, or all where there are fewer. Nothing is read.
+///
+/// # Errors
+///
+/// - `ExponentOverflow` only at an operation that a run of Buchberger's algorithm on the generators by degree and then lex may have, or at one of
+///   a flip at a basis of the ideal across a flippable normal.
+/// - `ConeOverflow` only at a step of the system that tells whether a normal of such a basis is flippable, or of finding the rays of such a
+///   basis's cone, cut with the orthant.
+/// - `WideVector` only at a sum of entries of these rays, or of the weights.
+/// - `PairBudget` only where such a run or flip would have to settle more than `pairs` pairs.
+pub fn answer<R: Threads + Sync>(
+    rt: &R,
+    alloc: Global,
+    given: &GeneratedOptions,
+) -> Result<Vec<u8>, Refused>
+    requires { HasNumbersInRange (Job.Generated given.now) }
+    ensures ok { IfOk result (λ text. IsAnswered (generated_command given.now.number given.now.limit given.now.pairs) [] text.items) }
+    ensures err { IfErr result (λ e. IsRefusedOn (generated_command given.now.number given.now.limit given.now.pairs) [] e.refusal) }
+    ensures told { IfErr result IsUnnamed }
+{
+    let root = first_basis(alloc, given.number, given.pairs)?;
+    let summary = summed_up(rt, alloc, root, given.limit, given.pairs, given.workers)?;
+    let text = printed(alloc, &summary)?;
+    Ok(text)
+}

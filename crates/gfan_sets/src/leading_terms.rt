@@ -1,0 +1,70 @@
+//! What `_leadingterms` writes for an input.
+ghost use Rattle.std.specs.Prelude.{◌≡◌, true, false, map, IfOk, IfErr, [], ◌∷◌};
+ghost use Rattle.gf_small.specs.LeadingTerms.{leading_set};
+ghost use Rattle.gf_frame.specs.Commands.{IsAnswered, IsRefusedOn};
+ghost use Rattle.gfan_sets.specs.LeadingTerms.{leading_terms_command};
+ghost use Rattle.gfan_common.specs.Refused.{IsOfSource};
+
+use gf_items::{ring_and_marked, ring_and_marked_sets};
+use gf_poly::MarkedSet;
+use gfan_common::printing::{printed, printed_list};
+use gfan_common::refused::Refused;
+use std::alloc::{AllocError, Global};
+
+/// The marked terms of each set.
+fn leading_sets(alloc: Global, sets: &[MarkedSet]) -> Result<Vec<MarkedSet>, AllocError>
+    ensures { IfOk result (λ found. found.items ≡ map leading_set sets.now) }
+{
+    let mut found = Vec::with_capacity(alloc, sets.len())?;
+    'sets: for set in sets {
+        let terms = gf_small::leading_terms(alloc, set)?;
+        found.push(terms)?;
+    }
+    Ok(found)
+}
+
+/// What is written for a source with one set.
+fn of_set(alloc: Global, source: &[u8]) -> Result<Vec<u8>, Refused>
+    ensures ok { IfOk result (λ text. IsAnswered (leading_terms_command false) (source.now ∷ []) text.items) }
+    ensures err { IfErr result (λ e. IsRefusedOn (leading_terms_command false) (source.now ∷ []) e.refusal) }
+    ensures told { IfErr result (IsOfSource source.now) }
+{
+    let read = ring_and_marked(alloc, source)?;
+    let found = gf_small::leading_terms(alloc, &read.set)?;
+    let text = printed(alloc, &read.ring, &found)?;
+    Ok(text)
+}
+
+/// What is written for a source with a list of sets.
+fn of_list(alloc: Global, source: &[u8]) -> Result<Vec<u8>, Refused>
+    ensures ok { IfOk result (λ text. IsAnswered (leading_terms_command true) (source.now ∷ []) text.items) }
+    ensures err { IfErr result (λ e. IsRefusedOn (leading_terms_command true) (source.now ∷ []) e.refusal) }
+    ensures told { IfErr result (IsOfSource source.now) }
+{
+    let read = ring_and_marked_sets(alloc, source)?;
+    let found = leading_sets(alloc, &read.sets)?;
+    let text = printed_list(alloc, &read.ring, &found)?;
+    Ok(text)
+}
+
+/// The ring of the source in a line, and the marked terms of its marked set, or where a list is asked for of each set of its list,
+/// with their coefficients, in the order that was read.
+///
+/// # Errors
+///
+/// - `Syntax`, `TooWide`, `UnknownName` and `TooManyVariables` exactly where the source isn't the text of a ring and of a
+///   set, or a list of sets, in it, at the first token after which no such text goes on.
+/// - `ZeroPolynomial` where nothing remains of a polynomial, with the number of the first set that has such a one, and the index of the
+///   first one in it.
+/// - `Overflow` and `ExponentOverflow` only at a sum of the text.
+pub fn answer(alloc: Global, source: &[u8], listed: bool) -> Result<Vec<u8>, Refused>
+    ensures ok { IfOk result (λ text. IsAnswered (leading_terms_command listed) (source.now ∷ []) text.items) }
+    ensures err { IfErr result (λ e. IsRefusedOn (leading_terms_command listed) (source.now ∷ []) e.refusal) }
+    ensures told { IfErr result (IsOfSource source.now) }
+{
+    if listed {
+        of_list(alloc, source)
+    } else {
+        of_set(alloc, source)
+    }
+}

@@ -1,0 +1,16 @@
+//! The commands on sets of polynomials and on single bases, each a module: from the bytes of the input to the text of the answer.
+//!
+//! What each writes, and why it doesn't, is said in `specs/`, a command a file.
+#![tactic(auto)]
+
+pub mod buchberger;
+pub mod containment;
+pub mod homogenize;
+pub mod initial_forms;
+pub mod leading_terms;
+pub mod mark_polynomial_set;
+pub mod marked;
+pub mod polynomial_set_union;
+pub mod saturation;
+pub mod stats;
+pub mod weight_vector;
