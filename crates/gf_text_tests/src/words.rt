@@ -88,6 +88,7 @@ fn a_list_has_a_limit_and_workers(rt: HostRuntime) -> Result<(), Fail> {
             certificates: false,
             workers,
             within: None,
+            after: None,
         });
         assert!(rt; job == Ok(bases), "{line}");
     }
@@ -103,29 +104,35 @@ fn a_list_has_certificates(rt: HostRuntime) -> Result<(), Fail> {
         certificates: true,
         workers: 1,
         within: None,
+        after: None,
     });
     let job = answered(rt.alloc(), "_bases --certificates --pairs 7 -g")?;
     assert!(rt; job == Ok(certified));
     Ok(())
 }
 
-/// The name of the file of a list's region.
-fn region_file(job: &Result<Job, WordsError>) -> Option<&str> {
+/// The names of the files of a list: of its region, and of the basis behind which it goes on.
+fn list_files(job: &Result<Job, WordsError>) -> Option<(Option<&str>, Option<&str>)> {
     match job {
-        Ok(Job::Bases(asked)) => asked.within.as_ref().map(|name| name.as_str()),
+        Ok(Job::Bases(asked)) => Some((
+            asked.within.as_ref().map(|name| name.as_str()),
+            asked.after.as_ref().map(|name| name.as_str()),
+        )),
         _ => None,
     }
 }
 
 #[test]
-fn a_list_has_a_region(rt: HostRuntime) -> Result<(), Fail> {
-    for (line, file) in [
-        ("_bases --within A", Some("A")),
-        ("_bases --within=a/b -g", Some("a/b")),
-        ("_bases -g", None),
+fn a_list_has_a_region_and_goes_on_behind_a_basis(rt: HostRuntime) -> Result<(), Fail> {
+    for (line, region, basis) in [
+        ("_bases --within A", Some("A"), None),
+        ("_bases --within=a/b -g", Some("a/b"), None),
+        ("_bases --after A", None, Some("A")),
+        ("_bases --after=a/b --within A -g", Some("A"), Some("a/b")),
+        ("_bases -g", None, None),
     ] {
         let job = answered(rt.alloc(), line)?;
-        assert!(rt; region_file(&job) == file, "{line}");
+        assert!(rt; list_files(&job) == Some((region, basis)), "{line}");
     }
     Ok(())
 }
@@ -244,6 +251,27 @@ fn other_commands_have_their_jobs(rt: HostRuntime) -> Result<(), Fail> {
     Ok(())
 }
 
+/// The name of the file of a session, and its budget.
+fn session(job: &Result<Job, WordsError>) -> Option<(&str, u64)> {
+    match job {
+        Ok(Job::Interactive(given)) => Some((given.file.as_str(), given.pairs)),
+        _ => None,
+    }
+}
+
+#[test]
+fn a_session_has_a_file(rt: HostRuntime) -> Result<(), Fail> {
+    for (line, file, pairs) in [
+        ("_interactive F", "F", 100_000_000u64),
+        ("_interactive --pairs 7 a/b", "a/b", 7),
+        ("_interactive -- -u", "-u", 100_000_000),
+    ] {
+        let job = answered(rt.alloc(), line)?;
+        assert!(rt; session(&job) == Some((file, pairs)), "{line}");
+    }
+    Ok(())
+}
+
 /// The names of the two files of a common refinement.
 fn files(job: &Result<Job, WordsError>) -> Option<(&str, &str)> {
     match job {
@@ -355,6 +383,8 @@ fn other_words_are_usage(rt: HostRuntime) -> Result<(), Fail> {
         // A file is missing, or there is one too many.
         "_bases --within",
         "_bases --within A --within B",
+        "_bases --after",
+        "_bases --after A --after B",
         "_fancommonrefinement",
         "_fancommonrefinement -i1 A",
         "_fancommonrefinement --i2 B",
@@ -362,6 +392,10 @@ fn other_words_are_usage(rt: HostRuntime) -> Result<(), Fail> {
         "_fancommonrefinement -i1 A -i2 -i1",
         "_fancommonrefinement -i1 A -i2 B -i1 A",
         "_fancommonrefinement A B",
+        "_interactive",
+        "_interactive F G",
+        "_interactive --pairs 7",
+        "_interactive --pairs 0 F",
         "_tropicalhypersurface -m",
         "_minkowskisum -i1 A",
     ];
