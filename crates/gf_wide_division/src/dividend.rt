@@ -1,0 +1,248 @@
+//! A polynomial with wide coefficients that is being reduced.
+
+ghost use Rattle.std.specs.Prelude.{◌≡◌, ◌≢◌, ◌<◌, ◌≤◌, [], length, IfOk, IfSome, OnOk};
+ghost use Rattle.std.specs.List.{insert};
+ghost use Rattle.gf_frac.specs.Fraction.{zero_ℚ};
+ghost use Rattle.gf_exponents.specs.Exponents.{Divides};
+ghost use Rattle.gf_poly.specs.Polynomial.{IsDescending, HasVariables};
+ghost use Rattle.gf_ideal.specs.Reduction.{IsSPolynomial};
+ghost use Rattle.gf_division.specs.Dividends.{joined_terms, IsSound, Descends, TakesAway, Subtracts, SharesVariables};
+ghost use Rattle.gf_division.specs.SPolynomials.{SharePairVariables, KeepsPairVariables, AreLcmCofactors};
+ghost use Rattle.gf_division.specs.Tables.{StepsFrom, IsCutAt};
+ghost use Rattle.gf_wide_division.specs.Dividends.{whole, cut_at, dividend_of, TakesAt};
+ghost use Rattle.gf_wide_division.specs.Values.{term_value, values};
+
+use crate::polynomial::WidePoly;
+use crate::precedence::Precedence;
+use crate::reducers::is_open;
+use crate::terms::{Beyond, WideTerm, difference, one, product};
+use gf_poly::{Marked, Mono, Poly, Term};
+use gf_wide::WideFrac;
+use std::alloc::Global;
+use std::cmp::Ordering;
+
+/// The terms of the polynomial, the greatest by deglex first; of each it is kept whether it waits to be reduced.
+///
+/// Contracts see a polynomial under reduction with the place above all of its terms.
+#[derive(Drop)]
+pub struct WideDividend {
+    terms: Vec<WideTerm>,
+}
+
+/// What two monomials have to be raised by, to their least common multiple.
+fn cofactors(x: &Mono, y: &Mono) -> (Mono, Mono)
+    requires { length x.now ≡ length y.now }
+    ensures { AreLcmCofactors x.now y.now result.0 result.1 }
+{
+    let multiple = x.lcm(y);
+    (multiple.quotient(x), multiple.quotient(y))
+}
+
+impl WideDividend {
+    /// The polynomial, to be reduced by these members beside the spared monomial.
+    pub fn new(
+        alloc: Global,
+        f: &Poly,
+        by: &[Marked],
+        spared: &Option<Mono>,
+    ) -> Result<WideDividend, Beyond>
+        ensures value { IfOk result (λ d. dividend_of d ≡ whole f.now) }
+        ensures descending { IsDescending f.now }
+    {
+        let all = f.terms();
+        let mut terms = Vec::with_capacity(alloc, all.len())?;
+        let mut i = 0;
+        'terms: while i < all.len() {
+            let t = &all[i];
+            let coef = WideFrac::new(&t.coef);
+            let waits = is_open(&t.mono, by, spared);
+            let mono = t.mono.copy();
+            terms.push(WideTerm { coef, mono, waits })?;
+            i += 1;
+        }
+        Ok(WideDividend { terms })
+    }
+
+    /// No terms yet.
+    fn zero(alloc: Global) -> WideDividend
+        ensures { dividend_of result ≡ whole [] }
+    {
+        WideDividend {
+            terms: Vec::new(alloc),
+        }
+    }
+
+    /// The S-polynomial of two monic ones, to be reduced by these members.
+    pub fn of_pair(
+        alloc: Global,
+        b: &Marked,
+        c: &Marked,
+        by: &[Marked],
+    ) -> Result<WideDividend, Beyond>
+        requires { SharePairVariables b.now c.now }
+        ensures value { IfOk result (λ d. IsSPolynomial b.now c.now (joined_terms (dividend_of d))) }
+        ensures descending { IfOk result (λ d. IsDescending (joined_terms (dividend_of d))) }
+        ensures variables { IfOk result (λ d. KeepsPairVariables b.now c.now (joined_terms (dividend_of d))) }
+    {
+        let (of_b, of_c) = cofactors(b.head(), c.head());
+        let one = one();
+        let mut rest = WideDividend::zero(alloc);
+        rest.subtract(&one.neg(), &of_b, b.poly().terms(), by, &None)?;
+        rest.subtract(&one, &of_c, c.poly().terms(), by, &None)?;
+        Ok(rest)
+    }
+
+    /// The polynomial.
+    pub fn into_poly(self) -> WidePoly
+        requires { IsDescending (joined_terms (dividend_of self)) }
+        ensures { result ≡ joined_terms (dividend_of self) }
+    {
+        let WideDividend { terms } = self;
+        WidePoly::of(terms)
+    }
+
+    /// A copy of the term that is taken first of those that wait.
+    pub fn foremost(&self, first: &Precedence) -> Option<WideTerm>
+        ensures { IfSome result (λ t. IsCutAt (joined_terms (dividend_of self.now)) (term_value t)) }
+    {
+        let i = self.place_of_foremost(first)?;
+        let t = &self.terms[i];
+        Some(t.copy())
+    }
+
+    /// The place of that term.
+    fn place_of_foremost(&self, first: &Precedence) -> Option<usize>
+        ensures { IfSome result (λ i. i < length self.now.terms.items) }
+    {
+        let mut found = None;
+        'terms: for i in 0..self.terms.len() {
+            if !self.terms[i].waits {
+                continue;
+            }
+            found = Some(self.first_of(first, found, i));
+        }
+        found
+    }
+
+    /// Of the place that is found already and the next one that whose term is taken first.
+    fn first_of(&self, first: &Precedence, found: Option<usize>, i: usize) -> usize
+        requires found { IfSome found (λ k. k < length self.now.terms.items) }
+        requires next { i < length self.now.terms.items }
+        ensures { result < length self.now.terms.items }
+    {
+        match found {
+            Some(k) => {
+                if first.is_before(&self.terms[i].mono, &self.terms[k].mono) {
+                    i
+                } else {
+                    k
+                }
+            }
+            None => i,
+        }
+    }
+
+    /// The place of the first term that isn't greater than `x`, and how that one compares with it; where there is none it counts as less.
+    fn place(&self, x: &Mono) -> (usize, Ordering)
+        ensures inside { result.0 ≤ length self.now.terms.items }
+        ensures place { Descends x.now (dividend_of self.now) (cut_at result.0 (values self.now.terms.items)) result.1 }
+    {
+        let mut i = 0;
+        'terms: while i < self.terms.len() {
+            match self.terms[i].mono.compare(x) {
+                Ordering::Greater => i += 1,
+                Ordering::Equal => return (i, Ordering::Equal),
+                Ordering::Less => return (i, Ordering::Less),
+            }
+        }
+        (i, Ordering::Less)
+    }
+
+    /// Takes `coef` from the coefficient of the term at a place; where nothing is left there is no term.
+    fn take_from(&mut self, place: usize, coef: &WideFrac) -> Result<(), Beyond>
+        requires { place < length self.old.terms.items }
+        ensures { OnOk result (TakesAt coef.now place (values self.old.terms.items) (values self.new.terms.items)) }
+    {
+        let t = self.terms.remove(place);
+        let left = difference(&t.coef, coef)?;
+        if left.is_zero() {
+            return Ok(());
+        }
+        let rest = WideTerm {
+            coef: left,
+            mono: t.mono.copy(),
+            waits: t.waits,
+        };
+        self.terms.insert(place, rest)?;
+        Ok(())
+    }
+
+    /// Puts a new term at a place.
+    fn put(&mut self, place: usize, new: WideTerm) -> Result<(), Beyond>
+        requires { place ≤ length self.old.terms.items }
+        ensures { OnOk result (self.new.terms.items ≡ insert self.old.terms.items place new) }
+    {
+        self.terms.insert(place, new)?;
+        Ok(())
+    }
+
+    /// Takes `coef` times `mono` away; a new term waits, or doesn't.
+    fn take_away(&mut self, coef: &WideFrac, mono: Mono, waits: bool) -> Result<(), Beyond>
+        requires sound { IsSound (length mono) (dividend_of self.old) }
+        requires nonzero { coef.now ≢ zero_ℚ }
+        ensures { OnOk result (TakesAway coef.now mono (dividend_of self.old) (dividend_of self.new)) }
+    {
+        let (place, order) = self.place(&mono);
+        let new = WideTerm {
+            coef: coef.neg(),
+            mono,
+            waits,
+        };
+        match order {
+            Ordering::Equal => self.take_from(place, coef),
+            _ => self.put(place, new),
+        }
+    }
+
+    /// Takes `coef` times `shift` times the sum of `terms` away.
+    pub fn subtract(
+        &mut self,
+        coef: &WideFrac,
+        shift: &Mono,
+        terms: &[Term],
+        by: &[Marked],
+        spared: &Option<Mono>,
+    ) -> Result<(), Beyond>
+        requires sound { IsSound (length shift.now) (dividend_of self.old) }
+        requires variables { HasVariables (length shift.now) terms.now }
+        requires descending { IsDescending terms.now }
+        requires nonzero { coef.now ≢ zero_ℚ }
+        ensures { OnOk result (Subtracts coef.now shift.now terms.now (dividend_of self.old) (dividend_of self.new)) }
+    {
+        'terms: for i in 0..terms.len() {
+            let t = &terms[i];
+            let difference = product(coef, &t.coef)?;
+            let mono = shift.mul(&t.mono)?;
+            let waits = is_open(&mono, by, spared);
+            self.take_away(&difference, mono, waits)?;
+        }
+        Ok(())
+    }
+
+    /// The step at a term of the polynomial by `member`, whose mark divides it.
+    pub fn step(
+        &mut self,
+        t: &WideTerm,
+        member: &Marked,
+        by: &[Marked],
+        spared: &Option<Mono>,
+    ) -> Result<(), Beyond>
+        requires there { IsCutAt (joined_terms (dividend_of self.old)) (term_value t.now) }
+        requires variables { SharesVariables member.now (dividend_of self.old) }
+        requires divides { Divides member.now.head t.now.mono }
+        ensures { OnOk result (StepsFrom member.now (joined_terms (dividend_of self.old)) (term_value t.now) (dividend_of self.new)) }
+    {
+        let quotient = t.mono.quotient(member.head());
+        self.subtract(&t.coef, &quotient, member.poly().terms(), by, spared)
+    }
+}

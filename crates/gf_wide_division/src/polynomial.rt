@@ -1,0 +1,119 @@
+//! Polynomials with wide coefficients.
+
+ghost use Rattle.std.specs.Prelude.{◌≡◌, ◌↔◌, ◌<◌, [], length, IfOk, IsTrue};
+ghost use Rattle.gf_frac.specs.Fraction.{reciprocal_ℚ, zero_ℚ};
+ghost use Rattle.gf_poly.specs.Marking.{head_of};
+ghost use Rattle.gf_poly.specs.Polynomial.{IsDescending, times};
+ghost use Rattle.gf_wide_division.specs.Monic.{IsMonicAt};
+ghost use Rattle.gf_wide_division.specs.Values.{values};
+
+use crate::terms::{Beyond, WideTerm, narrow, narrow_quotient};
+use gf_poly::{Marked, Mono, Poly, Term};
+use gf_wide::WideFrac;
+use std::alloc::Global;
+use std::marker::Model;
+
+/// A polynomial with wide coefficients: its terms, descending in deglex, with nonzero coefficients.
+#[derive(Drop)]
+pub struct WidePoly {
+    terms: Vec<WideTerm>,
+}
+
+impl Model for WidePoly {
+    ghost use Rattle.gf_poly.specs.Polynomial.{Terms, IsDescending};
+    ghost use Rattle.gf_wide_division.specs.Values.{values};
+
+    ghost Value = { Terms };
+
+    ghost view = { λ p. values p.terms.items };
+
+    ghost invariant = { λ p. IsDescending (values p.terms.items) };
+}
+
+/// The quotient of each coefficient by `by`, in narrow numbers.
+fn quotients(alloc: Global, terms: &[WideTerm], by: &WideFrac) -> Result<Vec<Term>, Beyond>
+    requires { ¬ (by.now ≡ zero_ℚ) }
+    ensures { IfOk result (λ h. h.items ≡ times (reciprocal_ℚ by.now) [] (values terms.now)) }
+{
+    let mut out = Vec::with_capacity(alloc, terms.len())?;
+    let mut i = 0;
+    'terms: while i < terms.len() {
+        let t = &terms[i];
+        let coef = narrow_quotient(&t.coef, by)?;
+        let mono = t.mono.copy();
+        out.push(Term { coef, mono })?;
+        i += 1;
+    }
+    Ok(out)
+}
+
+impl WidePoly {
+    /// The polynomial with these terms, which descend in deglex and have nonzero coefficients; nothing is copied.
+    pub fn of(terms: Vec<WideTerm>) -> WidePoly
+        requires { IsDescending (values terms.items) }
+        ensures { result ≡ values terms.items }
+    {
+        WidePoly { terms }
+    }
+
+    /// The terms, descending in deglex.
+    pub fn terms(&self) -> &[WideTerm]
+        ensures value { values result.now ≡ self.now }
+        ensures descending { IsDescending self.now }
+    {
+        self.terms.as_slice()
+    }
+
+    /// Whether it is zero.
+    pub fn is_zero(&self) -> bool
+        ensures { IsTrue result ↔ (self.now ≡ []) }
+    {
+        self.terms().is_empty()
+    }
+
+    /// How many terms it has.
+    pub fn len(&self) -> usize
+        ensures { result ≡ length self.now }
+    {
+        self.terms().len()
+    }
+
+    /// The monomial of the term at a place.
+    pub fn mono(&self, place: usize) -> &Mono
+        requires { place < length self.now }
+        ensures { result.now ≡ head_of self.now place }
+    {
+        let terms = self.terms();
+        &terms[place].mono
+    }
+
+    /// The same polynomial in narrow numbers.
+    pub fn narrowed(&self, alloc: Global) -> Result<Poly, Beyond>
+        ensures { IfOk result (λ f. f ≡ self.now) }
+    {
+        let terms = self.terms();
+        let mut out = Vec::with_capacity(alloc, terms.len())?;
+        let mut i = 0;
+        'terms: while i < terms.len() {
+            let t = &terms[i];
+            let coef = narrow(&t.coef)?;
+            let mono = t.mono.copy();
+            out.push(Term { coef, mono })?;
+            i += 1;
+        }
+        Ok(Poly::from_descending(out))
+    }
+
+    /// The polynomial divided by its coefficient at a place and marked there, in narrow numbers: only the quotients have to fit.
+    pub fn monic(&self, alloc: Global, place: usize) -> Result<Marked, Beyond>
+        requires { place < length self.now }
+        ensures monic { IfOk result (IsMonicAt self.now place) }
+        ensures descending { IsDescending self.now }
+    {
+        let terms = self.terms();
+        let t = &terms[place];
+        let quotients = quotients(alloc, terms, &t.coef)?;
+        let poly = Poly::from_descending(quotients);
+        Ok(Marked::mark(poly, place))
+    }
+}
