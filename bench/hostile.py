@@ -60,14 +60,20 @@ LINES = {
 }
 
 # what _bases has written when it stops: the ring, and pieces that end behind a basis and its certificates
+RING = rb"Q\[[A-Za-z0-9_,]+\]\n"
 VECTORS = rb"\{(?:\{[-0-9,()]*\}(?:,\n\{[-0-9,()]*\})*)?\}"
 CERTIFICATES = rb"(?:\n\([0-9,]+\)\n" + VECTORS + rb")?"
-PIECES = re.compile(rb"Q\[[A-Za-z0-9_,]+\]\n\{\{\n[^{}]*\}" + CERTIFICATES + rb"(?:\n,\n\{\n[^{}]*\}" + CERTIFICATES + rb")*")
+PIECES = re.compile(RING + rb"\{\{\n[^{}]*\}" + CERTIFICATES + rb"(?:\n,\n\{\n[^{}]*\}" + CERTIFICATES + rb")*")
+# and _interactive: the ring with a prompt, and then prompts and answers
+PROMPT = rb"\{\n[^{}]*\}\n(?:[0-9]+ " + VECTOR + rb"\n)*history [0-9]+\n"
+SESSION = re.compile(RING + PROMPT + rb"(?:" + PROMPT + rb"|no such facet\n|nothing to undo\n|not understood\n)*")
+WHOLE_PIECES = {"_bases": PIECES, "_interactive": SESSION}
 
 
 @dataclass
 class Option:
-    """A word behind a command, with what follows it: nothing, N for a number, or the items of a file. The word K stands for a number by itself."""
+    """A word behind a command, with what follows it: nothing, N for a number, or the items of a file. The words K and FILE stand for a number and for the
+    name of a file by themselves."""
 
     word: str
     value: str
@@ -85,7 +91,7 @@ class Command:
 
     def options(self):
         """The options of a usage in which those stand in brackets that may be left out, and @ITEM+ITEM for a file of such items."""
-        for bracket, word, value in re.findall(r"(\[?)(-{1,2}[a-z0-9]+|K\b)(?: (N|@[a-z+]+))?\]?", self.usage):
+        for bracket, word, value in re.findall(r"(\[?)(-{1,2}[a-z0-9]+|K\b|FILE\b)(?: (N|@[a-z+]+))?\]?", self.usage):
             yield Option(word, value, not bracket)
 
     def items(self, words):
@@ -97,7 +103,7 @@ class Command:
 
 
 COMMANDS = [
-    Command("_bases", "[-g] [--limit N] [--pairs N] [--certificates] [--workers N]", "ring set"),
+    Command("_bases", "[-g] [--limit N] [--pairs N] [--certificates] [--workers N] [--within @vectors] [--after @ring+basis]", "ring set"),
     Command("_buchberger", "[-w] [-r] [--pairs N]", "ring set", {"-w": "ring set weight"}),
     Command("_doesidealcontain", "", "ring set set"),
     Command("_fancommonrefinement", "--i1 @fan --i2 @fan", ""),
@@ -106,6 +112,7 @@ COMMANDS = [
     Command("_homogeneityspace", "", "ring set"),
     Command("_homogenize", "", "ring set name"),
     Command("_initialforms", "", "ring set vector"),
+    Command("_interactive", "FILE @ring+basis [--pairs N]", "choices"),
     Command("_ismarkedgroebnerbasis", "", "ring set"),
     Command("_leadingterms", "[-m]", "ring set", {"-m": "ring sets"}),
     Command("_markpolynomialset", "", "ring set vector"),
@@ -125,7 +132,7 @@ def untabled():
     """The commands and options of README's table that COMMANDS hasn't."""
     known = {(command.name, option.word) for command in COMMANDS for option in command.options()} | {(command.name, "") for command in COMMANDS}
     for line in (TOP / "README.md").read_text().splitlines():
-        found = re.match(r"\| `(_[a-z]+)((?: K)?)`((?: `[^`]+`)*) \|", line)
+        found = re.match(r"\| `(_[a-z]+)((?: K| FILE)?)`((?: `[^`]+`)*) \|", line)
         if found:
             for word in ["", *found.group(2).split(), *re.findall(r"`(-{1,2}[a-z0-9]+)", found.group(3))]:
                 if (found.group(1), word) not in known:
@@ -265,9 +272,10 @@ def faults_of(case, ended, line_may_be_cut=False):
     if not line_may_be_cut:
         faults += faults_of_line(case, ended)
     if ended.output and ended.status != 6:
-        if "_bases" not in case.words:
+        pieces = [pieces for name, pieces in WHOLE_PIECES.items() if name in case.words]
+        if not pieces:
             faults.append(f"output with status {ended.status}")
-        elif not PIECES.fullmatch(ended.output):
+        elif not any(form.fullmatch(ended.output) for form in pieces):
             faults.append("output that ends inside a piece")
     return faults
 
@@ -292,6 +300,13 @@ SMALL = [
         ("_bases -g", b"Q[a,b,c] {c-b,a-b}"),
         ("_bases --limit 2", b"Q[a,b,c] {a-b,b-c}"),
         ("_bases --pairs 1", b"Q[a,b,c] {aab-c,bbc-a,cca-b}"),
+        ("_bases --within @0", b"Q[a,b] {a^2-b}", b"{(-3,2)}"),
+        ("_bases --within @0 --certificates --workers 4", b"Q[a,b,c] {a-b,b-c}", b"{(1,-1,0)}"),
+        ("_bases --within @0", b"Q[a,b] {a^2-b}", b"{(-1,0)}"),
+        ("_bases --after @0", b"Q[a,b,c] {a-b,b-c}", b"Q[a,b,c]{c-b,a-b}"),
+        ("_bases --after @0 --workers 4", b"Q[a,b,c] {a^2-b,b^2-c}", b"Q[a,b,c]{b^2-c,a^2-b}"),
+        ("_bases --after @0 --within @1", b"Q[a,b,c] {a-b,b-c}", b"Q[a,b,c]{b-c,a-c}", b"{(1,-1,0)}"),
+        ("_bases --after @0", b"Q[a,b,c] {a-b,b-c}", b"Q[a,b,c]{a-b}"),
         ("_buchberger", b"Q[a,b,c] {aab-c,bbc-a,cca-b}"),
         ("_buchberger -w", b"Q[a,b] {a-b} (1,2)"),
         ("_buchberger -r", b"Q[a,b] {a^2-b^2}"),
@@ -328,5 +343,9 @@ SMALL = [
         ("_minkowskisum", b"Q[a,b] {a+1,b+1}"),
         ("_generated 0 --limit 2", b""),
         ("_generated 0 --workers 4", b""),
+        ("_generated 5 --limit 3", b""),
+        ("_interactive @0", b"0\nu\n1\n\nx\nu\nu\nq\n", b"Q[a,b]{b^2-a,a^2-b}"),
+        ("_interactive --pairs 1 @0", b"0\n0\n", b"Q[a,b,c]{b-c,a-c}"),
+        ("_interactive @0", b"0\n", b"Q[a,b]{a-b,b}"),
     ]
 ]

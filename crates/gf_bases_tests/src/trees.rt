@@ -10,7 +10,9 @@ use gf_cone::Region;
 use gf_order::Order;
 use gf_poly::{MarkedSet, Poly, PolyError};
 use gf_samples::{lists_members, polys};
-use gf_tree::{Bases, Node, Parent, Split, TreeError, Walker, list_bases, parent};
+use gf_subtree::Waves;
+use gf_tree::{Bases, Mark, Node, Parent, Split, TreeError, Walker, list_bases, parent};
+use gf_waves::FreeGate;
 use std::alloc::Global;
 use std::test::Fail;
 
@@ -157,6 +159,57 @@ fn parts_of_a_walker_list_what_it_had(rt: HostRuntime) -> Result<(), Fail> {
             assert!(rt; end_of(rest, 2) == Some(3));
         }
         _ => return Err("no parts".into()),
+    }
+    Ok(())
+}
+
+/// Whether a walker stands at the first basis of the linear forms, which it has given.
+fn is_after_the_first(walker: &Walker) -> bool {
+    let place = walker.position();
+    is_listed(place.here, 0) && matches!(place.mark, Mark::Listed)
+}
+
+/// No flip may settle a pair: the first basis is given, and then every call refused.
+#[test]
+fn a_refused_walker_stands(rt: HostRuntime) -> Result<(), Fail> {
+    let alloc = rt.alloc();
+    let root = linear(alloc)?;
+    let region = Region::positive(alloc, 3)?;
+    let mut walker = Walker::at(alloc, root, &region, 0)?;
+    match walker.advance() {
+        Ok(Some(basis)) => assert!(rt; is_listed(&basis, 0)),
+        _ => return Err("no first basis".into()),
+    }
+    for _ in 0..2 {
+        assert!(rt; matches!(walker.advance(), Err(TreeError::PairBudget { .. })));
+        assert!(rt; is_after_the_first(&walker));
+    }
+    let Err((walker, refusal)) = walker.split() else {
+        return Err("parts".into());
+    };
+    assert!(rt; matches!(refusal, TreeError::PairBudget { .. }));
+    assert!(rt; is_after_the_first(&walker));
+    Ok(())
+}
+
+/// So it is with several workers: what is left is the same, and nothing of it is ready.
+#[test]
+fn refused_waves_stand(rt: HostRuntime) -> Result<(), Fail> {
+    let alloc = rt.alloc();
+    for workers in [1, 4] {
+        if 1 <= workers && workers <= 64 {
+            let root = linear(alloc)?;
+            let region = Region::positive(alloc, 3)?;
+            let mut waves = Waves::new(alloc, root, &region, workers, 0, &FreeGate)?;
+            match waves.next_written(&rt) {
+                Ok(Some(basis)) => assert!(rt; is_listed(&basis, 0)),
+                _ => return Err("no first basis".into()),
+            }
+            for _ in 0..2 {
+                assert!(rt; matches!(waves.next_written(&rt), Err(TreeError::PairBudget { .. })));
+                assert!(rt; waves.ready() == 0);
+            }
+        }
     }
     Ok(())
 }

@@ -33,13 +33,24 @@ IsPlainList None texts = IsPlainSource texts
 IsPlainList (Some name) [] = ⊥
 IsPlainList (Some name) (file ∷ texts) = IsPlainSource texts
 
--- the list begins with its first basis, and its texts are so
+-- so are the text of the basis that a list goes on behind, and the only one behind it
+abbrev pub ArePlainBehind : List (List ℕ) → Type 0
+ArePlainBehind [] = ⊥
+ArePlainBehind (after ∷ texts) = BeginsPlainly after × IsPlainSource texts
+
+-- they stand behind the file of a region, where one is named
+abbrev pub IsPlainAfter : Option (List ℕ) → List (List ℕ) → Type 0
+IsPlainAfter None texts = ArePlainBehind texts
+IsPlainAfter (Some name) [] = ⊥
+IsPlainAfter (Some name) (file ∷ texts) = ArePlainBehind texts
+
+-- the texts of a list are so, from its first basis on or behind that of a file
 abbrev pub IsPlainFrom : Option (List ℕ) → Option (List ℕ) → List (List ℕ) → Type 0
 IsPlainFrom None within texts = IsPlainList within texts
-IsPlainFrom (Some after) within texts = ⊥
+IsPlainFrom (Some after) within texts = IsPlainAfter within texts
 
--- the job is `_buchberger`, or `_bases` from its first basis on, from generators or from a basis, on such a source; or `_generated`, whose
--- generators are such
+-- the job is `_buchberger`, or `_bases` from generators or from a basis, on such a source, and behind such a basis where it goes on; or
+-- `_generated`, whose generators are such
 abbrev pub IsOnBinomials : Job → List (List ℕ) → Type 0
 IsOnBinomials (jobs.Buchberger o) texts = IsPlainSource texts
 IsOnBinomials (jobs.Bases o) texts = IsPlainFrom o.after o.within texts

@@ -1,15 +1,9 @@
-//! Tests of `run` over memory: faults of the outside, files, lists that go on, regions of weights, workers, budgets. Other runs are rows of `gfan_runs`. They stand in a crate of their own since a crate with
-//! tests is proved twice, with them and without.
+//! Tests of `run` over memory: faults of the outside, sessions, workers, budgets. Other runs are rows of `gfan_runs`. They stand in a crate of their own since a
+//! crate with tests is proved twice, with them and without.
 #![tactic(auto)]
 
 #[cfg(test)]
-mod after;
-#[cfg(test)]
 mod interactive;
-#[cfg(test)]
-mod refinement;
-#[cfg(test)]
-mod regions;
 #[cfg(test)]
 mod runs;
 #[cfg(test)]
