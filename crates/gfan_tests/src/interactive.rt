@@ -17,7 +17,7 @@ const WALK: &str =
     "Q[a,b]\n{\na-b}\n0 (1,-1)\nhistory 0\n{\nb-a}\n0 (-1,1)\nhistory 1\n{\na-b}\n0 (1,-1)\nhistory 0\n";
 
 /// Whether a session over this text, of whose files, input and output the calls with these numbers fail, ends with this code, writes this
-/// text and tells this line; and the byte of the input that comes next. A read gives one byte, and a write takes eight.
+/// text and tells this line; and the byte of the input that comes next. A read gives as many bytes as are asked for, and a write takes eight.
 fn ends<R: Threads + Sync>(
     rt: &R,
     alloc: Global,
@@ -37,7 +37,7 @@ fn ends<R: Threads + Sync>(
         bytes: basis.as_bytes().to_vec(alloc)?,
     };
     let (of_files, of_input, of_output) = failing;
-    let mut source = MemSource::new(input.as_bytes().to_vec(alloc)?, 1, of_input);
+    let mut source = MemSource::new(input.as_bytes().to_vec(alloc)?, 1_000, of_input);
     let mut output = MemSink::new(alloc, 8, of_output);
     let mut faults = MemSink::new(alloc, 1_000, vec![in alloc]?);
     let mut files = MemFiles::new(vec![in alloc; file]?, 16_384, of_files);
@@ -96,60 +96,49 @@ fn a_session_is_held(rt: HostRuntime) -> Result<(), Fail> {
     Ok(())
 }
 
-/// Four bytes and the end of the input: each line before has its answer.
+/// Four bytes and the end of the input, a read each: each line before has its answer. There is no further read.
 #[test]
 fn each_read_fails_in_turn(rt: HostRuntime) -> Result<(), Fail> {
     let alloc = rt.alloc();
-    let answered = [33usize, 33, 59, 59, 85];
-    for failing in 0usize..5 {
-        let text = &WALK[..answered[failing]];
+    let failed = "gfan: E1 read failed\n";
+    let rows = [
+        (33usize, 5u8, failed),
+        (33, 5, failed),
+        (59, 5, failed),
+        (59, 5, failed),
+        (85, 5, failed),
+        (85, 0, ""),
+    ];
+    for (failing, (answered, code, line)) in rows.into_iter().enumerate() {
         let calls = (
             vec![in alloc]?,
             vec![in alloc; failing as u64]?,
             vec![in alloc]?,
         );
-        assert!(rt;
-            ends(
-                &rt,
-                alloc,
-                BASIS,
-                "0\nu\n",
-                calls,
-                5,
-                text,
-                "gfan: E1 read failed\n"
-            )?
-            .0
-        );
+        let text = &WALK[..answered];
+        assert!(rt; ends(&rt, alloc, BASIS, "0\nu\n", calls, code, text, line)?.0);
     }
     Ok(())
 }
 
-/// Pieces of 33, 26 and 26 bytes, eight a call.
+/// Pieces of 33, 26 and 26 bytes, eight a call. There is no further write.
 #[test]
 fn each_write_fails_in_turn(rt: HostRuntime) -> Result<(), Fail> {
     let alloc = rt.alloc();
-    let written = [0usize, 8, 16, 24, 32, 33, 41, 49, 57, 59, 67, 75, 83];
-    for failing in 0usize..13 {
-        let text = &WALK[..written[failing]];
+    let written = [0usize, 8, 16, 24, 32, 33, 41, 49, 57, 59, 67, 75, 83, 85];
+    for (failing, &bytes) in written.iter().enumerate() {
         let calls = (
             vec![in alloc]?,
             vec![in alloc]?,
             vec![in alloc; failing as u64]?,
         );
-        assert!(rt;
-            ends(
-                &rt,
-                alloc,
-                BASIS,
-                "0\nu\n",
-                calls,
-                6,
-                text,
-                "gfan: E2 write failed\n"
-            )?
-            .0
-        );
+        let (code, line) = if bytes < WALK.len() {
+            (6, "gfan: E2 write failed\n")
+        } else {
+            (0, "")
+        };
+        let text = &WALK[..bytes];
+        assert!(rt; ends(&rt, alloc, BASIS, "0\nu\n", calls, code, text, line)?.0);
     }
     Ok(())
 }
