@@ -1,4 +1,4 @@
-use Rattle.std.proofs.Common.{arith, subst}
+use Rattle.std.proofs.Common.{arith, sym, subst}
 use Rattle.std.specs.Int.{IsGcd}
 use Rattle.std.proofs.lemmas.Nat.Gcd.{IsGcd-from_zero, IsGcd-from_mod}
 use Rattle.gf_int.specs.Gcd.{gcd-same}
@@ -16,3 +16,13 @@ returns-clause-meaning c = c.steps.invariant.0 _ (IsGcd-from_zero _ _ (omega ari
 
 pub returns-clause-value : goal.returns-clause-value
 returns-clause-value c = gcd-same _ _ _ (c.steps.invariant.0 _ (IsGcd-from_zero _ _ (omega arith)))
+
+pub returns-in-Ok-Ok-clause-meaning : goal.returns-in-Ok-Ok-clause-meaning
+returns-in-Ok-Ok-clause-meaning c =
+    let here : IsGcd c.steps.x c.steps.y c.from.result = rw (c.from.ensures, sym c.in-Ok-Ok.ensures.1, sym c.in-Ok-Ok.ensures'.1) c.narrow_gcd.ensures.meaning in
+    c.steps.invariant.0 _ here
+
+pub returns-in-Ok-Ok-clause-value : goal.returns-in-Ok-Ok-clause-value
+returns-in-Ok-Ok-clause-value c =
+    let here : IsGcd c.steps.x c.steps.y c.from.result = rw (c.from.ensures, sym c.in-Ok-Ok.ensures.1, sym c.in-Ok-Ok.ensures'.1) c.narrow_gcd.ensures.meaning in
+    gcd-same _ _ _ (c.steps.invariant.0 _ here)
