@@ -12,6 +12,9 @@ pub fn gcd(a: u128, b: u128) -> u128
     ensures value { result ≡ greatest_common a b }
     ensures bound { result ≤ max a b }
 {
+    if a == 1 {
+        return 1;
+    }
     let mut x = a;
     let mut y = b;
     'steps: while y != 0 {

@@ -1,8 +1,19 @@
-use Rattle.std.proofs.Common.{arith, sym, subst}
+use Rattle.std.proofs.Common.{ℕ, ◌≡◌, arith, subst, sym}
 use Rattle.std.specs.Int.{IsGcd}
+use Rattle.std.proofs.Math.Nat.{one-dvd}
 use Rattle.std.proofs.lemmas.Nat.Gcd.{IsGcd-from_zero, IsGcd-from_mod}
 use Rattle.gf_int.specs.Gcd.{gcd-same}
 use Rattle.gf_gcd.proofs.divisor.gcd.Goals as goal
+
+-- 1 is the greatest common divisor of itself and each number
+by_one : (a b : ℕ) → a ≡ 1 → IsGcd a b 1
+by_one a b e = subst (λ (n : ℕ). IsGcd n b 1) (sym e) (one-dvd 1, one-dvd b, λ d h k. h)
+
+pub returns-then-a-eq1-clause-meaning : goal.returns-then-a-eq1-clause-meaning
+returns-then-a-eq1-clause-meaning c = by_one c.args.a c.args.b c.if-a-eq1.true
+
+pub returns-then-a-eq1-clause-value : goal.returns-then-a-eq1-clause-value
+returns-then-a-eq1-clause-value c = gcd-same _ _ _ (by_one c.args.a c.args.b c.if-a-eq1.true)
 
 pub steps-preserved : goal.steps-preserved
 steps-preserved c = (
