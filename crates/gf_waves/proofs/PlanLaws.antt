@@ -16,10 +16,10 @@ use Rattle.gf_waves.specs.Wave.{IsWaved, ExpandsOn}
 module _ {T N L E : Type 0} where
   -- together they are as many as there were
   cut_length : (c m : ℕ) (ps : List (Piece T N L E)) → length (first_job c m ps) + length (behind_job c m ps) ≡ length ps
-  cut_length zero m ps = refl
-  cut_length (suc c) zero ps = refl
-  cut_length (suc c) (suc m) [] = refl
-  cut_length (suc c) (suc m) (p ∷ ps) = ap suc (cut_length c (suc m - walkers_of p) ps)
+  cut_length zero m ps = omega arith
+  cut_length (suc c) zero ps = omega arith
+  cut_length (suc c) (suc m) [] = omega arith
+  cut_length (suc c) (suc m) (p ∷ ps) = (let k = cut_length c (suc m - walkers_of p) ps in omega (arith, k))
 
   -- one piece more is taken
   first_more : (c m : ℕ) (p : Piece T N L E) (ps : List (Piece T N L E)) → 0 < c → 0 < m → first_job c m (p ∷ ps) ≡ renewed p ∷ first_job (c - 1) (m - walkers_of p) ps

@@ -29,9 +29,9 @@ returns-in-Some-Under-clause-on g c =
     let some = c.requires.some in
     let less : c.args.left ≡ suc (c.args.left - 1) = omega (arith, some) in
     let n = limit - (length dones + length olds) in
-    let open_ : length dones + length olds < limit = search rules in
-    let two : n ≡ suc (n - 1) = omega (arith, open_) in
-    let left : limit - (length dones + length news) ≡ n + 1 + length rest - length news = (let a = ap length whole in omega (arith, a, open_)) in
+    let some_room : length dones + length olds < limit = search rules in
+    let two : n ≡ suc (n - 1) = omega (arith, some_room) in
+    let left : limit - (length dones + length news) ≡ n + 1 + length rest - length news = (let a = ap length whole in omega (arith, a, some_room)) in
     on_first g.T.Tree.before g.T.Tree.up (RefusesAt g.T.Tree.up g.T.Tree.refuses) c.args.left (c.args.left - 1) n (n - 1) (limit - (length dones + length news)) w olds rest news dones two less left whole c.expand_before.ensures.expanded
 
 pub returns-in-Some-Refused-clause-on : goal.returns-in-Some-Refused-clause-on
