@@ -65,8 +65,8 @@ fn cut<T: Tree>(row: &mut VecDeque<Piece<T>>, job: &mut VecDeque<Piece<T>>)
     ensures few { length job.new.items ≤ 32 }
     ensures room { deque_capacity job.old ≤ deque_capacity job.new }
 {
-    let mut walkers = 4;
-    let mut pieces = 32;
+    let mut walkers: usize = 4;
+    let mut pieces: usize = 32;
     while pieces > 0 && walkers > 0 {
         let Some(piece) = row.pop_front() else {
             return;

@@ -9,7 +9,7 @@ use Rattle.gf_waves.proofs.RefusedLaws.{waved_refusals}
 use Rattle.gf_waves.proofs.wave.wave.Goals as goal
 
 pub work_jobs-requires-clause-fit : goal.work_jobs-requires-clause-fit
-work_jobs-requires-clause-fit g c = planned_fit (length c.in_ok-spares.spares.items) c.args.jobs.now c.args.row.now.items c.plan.new.row.items c.plan.new.jobs.items c.plan.ensures
+work_jobs-requires-clause-fit g c κs within = planned_fit (length c.in_ok-spares.spares.items) c.args.jobs.now c.args.row.now.items c.plan.new.row.items c.plan.new.jobs.items c.plan.ensures
 
 pub merge-requires-clause-room : goal.merge-requires-clause-room
 merge-requires-clause-room g c =
