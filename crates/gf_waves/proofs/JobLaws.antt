@@ -1,6 +1,6 @@
 -- The steps of a job.
 -- To cite: on_ready, on_first, on_stopped, on_end, on_full.
-use Rattle.std.proofs.Common.{◌≡◌, ℕ, zero, suc, ◌+◌, ◌-◌, ◌<◌, List, [], ◌∷◌, ◌++◌, length, length-append, refl, sym, ap, subst, ◌∙◌, append-nil, arith}
+use Rattle.std.proofs.Common.{◌≡◌, ℕ, zero, suc, ◌+◌, ◌-◌, List, [], ◌∷◌, ◌++◌, length, length-append, refl, sym, ap, subst, ◌∙◌, append-nil, arith}
 use Rattle.gf_walk.specs.Place.{Place}
 use Rattle.gf_walk.specs.declared.expand.Piece.{Piece}
 use Rattle.gf_walk.specs.declared.expand.Piece.TheVariants.{Ready, Under, Refused}

@@ -2,7 +2,6 @@
 -- To cite: waved_jobs, worked_all, planned_few, planned_fit, spare_more, spare_last, spare_due, cut_more, cut_over, cut_done, goes_job, goes_none.
 use Rattle.std.proofs.Common.{◌≡◌, ℕ, zero, suc, ◌<◌, ◌≤◌, ◌+◌, ◌-◌, ◌*◌, List, [], ◌∷◌, ◌++◌, length, refl, sym, ap, subst, ◌∙◌, append_assoc, arith, get_or, length-append, append-nil}
 use Rattle.std.proofs.Math.Nat.{suc-mul}
-use Rattle.std.specs.VecDeque.{deque_capacity}
 use Rattle.gf_walk.specs.Place.{Place}
 use Rattle.gf_walk.specs.declared.expand.Piece.{Piece}
 use Rattle.gf_waves.specs.declared.job.Job.{Job}
@@ -36,7 +35,7 @@ module _ {T N L E : Type 0} where
       job ++ first_job c m row ≡ first_job 32 4 olds → behind_job c m row ≡ behind_job 32 4 olds → (more ++ first_job d k rest ≡ first_job 32 4 olds) × (behind_job d k rest ≡ behind_job 32 4 olds)
   cut_more c m d k p row rest job more olds h i e f is on first behind = (
     subst (λ x. more ++ first_job x k rest ≡ first_job 32 4 olds) (sym e) (subst (λ x. more ++ first_job (c - 1) x rest ≡ first_job 32 4 olds) (sym f)
-    (ap (λ x. x ++ first_job (c - 1) (m - walkers_of p) rest) on ∙ append_assoc job (renewed p ∷ []) (first_job (c - 1) (m - walkers_of p) rest) ∙ ap (λ x. job ++ x) (sym (first_more c m p rest h i)) ∙ ap (λ x. job ++ first_job c m x) (sym is) ∙ first)),
+        (ap (λ x. x ++ first_job (c - 1) (m - walkers_of p) rest) on ∙ append_assoc job (renewed p ∷ []) (first_job (c - 1) (m - walkers_of p) rest) ∙ ap (λ x. job ++ x) (sym (first_more c m p rest h i)) ∙ ap (λ x. job ++ first_job c m x) (sym is) ∙ first)),
     subst (λ x. behind_job x k rest ≡ behind_job 32 4 olds) (sym e) (subst (λ x. behind_job (c - 1) x rest ≡ behind_job 32 4 olds) (sym f) (sym (behind_more c m p rest h i) ∙ ap (behind_job c m) (sym is) ∙ behind)),
   )
 

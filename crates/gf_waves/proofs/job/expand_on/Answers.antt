@@ -1,4 +1,4 @@
-use Rattle.std.proofs.Common.{◌≡◌, ◌++◌, ◌+◌, ◌-◌, [], length, refl, ◌∙◌, sym, ap, subst, append_assoc, rules, arith}
+use Rattle.std.proofs.Common.{◌≡◌, ◌++◌, ◌+◌, ◌-◌, length, refl, ◌∙◌, sym, ap, subst, append_assoc, rules, arith}
 use Rattle.gf_walk.specs.Pieces.{RefusesAt}
 use Rattle.gf_waves.specs.Wave.{ExpandsOn}
 use Rattle.gf_waves.proofs.job.expand_on.Goals as goal

@@ -1,4 +1,4 @@
-use Rattle.std.proofs.Common.{◌≡◌, ◌≤◌, ◌<◌, ◌+◌, ◌-◌, ◌++◌, ◌∷◌, [], length, ap, refl, rules, arith}
+use Rattle.std.proofs.Common.{◌≡◌, ◌<◌, ◌-◌, ◌∷◌, length, ap, refl, rules, arith}
 use Rattle.std.proofs.lemmas.List.{length_push}
 use Rattle.gf_waves.specs.Frontier.{renewed}
 use Rattle.gf_waves.proofs.PlanLaws.{cut_more, cut_over, cut_done}

@@ -1,6 +1,5 @@
 use Rattle.std.proofs.Common.{◌≡◌, ◌≤◌, ◌+◌, ◌++◌, ◌∷◌, suc, [], length, ap, refl, subst, rules, arith}
 use Rattle.std.proofs.lemmas.List.{length_push}
-use Rattle.std.specs.Vec.{vec_capacity}
 use Rattle.std.specs.VecDeque.{deque_capacity}
 use Rattle.gf_waves.specs.declared.job.Job.TheVariants.{Due}
 use Rattle.gf_waves.specs.Frontier.{job_number}

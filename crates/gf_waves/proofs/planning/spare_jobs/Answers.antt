@@ -1,7 +1,5 @@
-use Rattle.std.proofs.Common.{◌≡◌, ◌≤◌, ◌+◌, ◌++◌, ◌∷◌, [], length, ap, sym, subst, rules, arith}
+use Rattle.std.proofs.Common.{◌≡◌, ◌++◌, ◌∷◌, [], length, ap, sym, subst, rules}
 use Rattle.std.proofs.lemmas.List.{length_push}
-use Rattle.std.specs.Vec.{vec_capacity}
-use Rattle.std.specs.VecDeque.{deque_capacity}
 use Rattle.gf_waves.specs.declared.job.Job.TheVariants.{Due}
 use Rattle.gf_waves.specs.Plans.{AreSpare}
 use Rattle.gf_waves.proofs.PlanLaws.{spare_more}

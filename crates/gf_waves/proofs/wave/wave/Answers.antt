@@ -1,7 +1,7 @@
-use Rattle.std.proofs.Common.{◌≡◌, ◌≤◌, ◌+◌, ◌*◌, length, sym, ap, subst, rules, arith, ◌∙◌}
+use Rattle.std.proofs.Common.{◌≤◌, ◌+◌, ◌*◌, length, sym, ap, subst, rules, arith}
 use Rattle.std.specs.VecDeque.{deque_capacity}
 use Rattle.gf_walk.specs.Pieces.{RefusesAt}
-use Rattle.gf_waves.specs.Frontier.{AreRefusals, job_number}
+use Rattle.gf_waves.specs.Frontier.{AreRefusals}
 use Rattle.gf_waves.specs.Plans.{IsPlanned}
 use Rattle.gf_waves.specs.Wave.{IsWaved}
 use Rattle.gf_waves.proofs.PlanLaws.{planned_few, planned_fit, waved_jobs, worked_all}
