@@ -1,26 +1,25 @@
 -- The word of the variables that occur in a monomial: of products, of least common multiples, of divisors, and in comparisons by lex.
--- To cite: word_set, word_kept, word-ones, word-raised, kept-raised, word-plus, word-join, within_word, compare-by_words. The rest are steps.
-use Rattle.std.specs.Prelude.{◌≡◌, ◌≢◌, ℕ, zero, suc, ◌+◌, ◌-◌, ◌*◌, ◌/◌, ◌%◌, ◌^◌, ◌<◌, ◌≤◌, ◌⊎◌, List, [], ◌∷◌, length, replicate, take, All, min, bit_and, bit_or, bit_xor}
+-- To cite: word_set, word_kept, word-ones, word-raised, word-plus, word-join, within_word, compare-by_words. The rest are steps.
+use Rattle.std.specs.Prelude.{◌≡◌, ◌≢◌, ℕ, zero, suc, ◌+◌, ◌-◌, ◌*◌, ◌/◌, ◌%◌, ◌^◌, ◌<◌, ◌≤◌, ◌⊎◌, [], ◌∷◌, length, replicate, take, min, bit_and, bit_or, bit_xor}
 use Rattle.std.specs.Int.{bit_at, w32}
 use Rattle.std.specs.Ordering.{nat_cmp, ordering_then}
 use Rattle.std.specs.Cmp.{nat_cmp_is}
 use Rattle.std.specs.declared.cmp.Ordering.TheVariants.{Less, Greater}
-use Rattle.std.proofs.Common.{arith, ap, sym, subst, ◌∙◌, inl, inr, get_or}
+use Rattle.std.proofs.Common.{arith, ap, sym, ◌∙◌, inl, inr, get_or}
 use Rattle.std.proofs.Math.ListN.{set}
 use Rattle.std.specs.Int.Bits.{xor_zero_r}
-use Rattle.std.proofs.Math.Seq.{take-set-lt}
-use Rattle.std.proofs.lemmas.List.{length-take, length-set, get_or-take}
+use Rattle.std.proofs.lemmas.List.{length-take}
 use Rattle.std.proofs.lemmas.Bool.{cases_lt}
 use Rattle.std.proofs.lemmas.Nat.{shr_split, div_below, or_lt, xor_lt, and_le_l, pow_pos}
 use Rattle.std.proofs.Math.Nat.{pow-suc, mod-le}
 use Rattle.std.proofs.Math.Pow.{pow-lt}
 use Rattle.std.proofs.lemmas.Nat.Bits.{bit_at-zero, bit_at_and, bit_at_or, bit_at_set_same, bit_at_set_other, bit_at_above, bit_at_xor, same_from_bits_below}
-use Rattle.gf_exponents.specs.Exponents.{Exponents, entry, plus, join, degree, Divides}
+use Rattle.gf_exponents.specs.Exponents.{Exponents, entry, plus, join, Divides}
 use Rattle.gf_exponents.specs.Orders.{lex}
 use Rattle.gf_exponents.proofs.ExponentsLaws.{entry-past, entry-plus, entry-join}
 use Rattle.gf_poly.specs.declared.TheConstants.{ROOM}
-use Rattle.gf_poly.specs.Monomial.{IsWordOf, IsMono}
-use Rattle.gf_poly.proofs.MonomialLaws.{same_or_not, entry-take_more, entry-take_last, entries_by_divides, entry-ones, entry-raised, entry-set_other, degree-raised, limit-raised}
+use Rattle.gf_poly.specs.Monomial.{IsWordOf}
+use Rattle.gf_poly.proofs.MonomialLaws.{same_or_not, entry-take_more, entry-take_last, entries_by_divides, entry-ones, entry-raised, entry-set_other}
 
 -- ---- one variable more
 -- the bit of variable i
@@ -51,29 +50,6 @@ word-ones n = record { fits = pow_pos ROOM; bits = λ i j e. omega (arith, bit_a
 
 pub word-raised : (x : Exponents) (i by w : ℕ) → i < length x → i < ROOM → 0 < by → IsWordOf x w → IsWordOf (set x i (get_or x i 0 + by)) (bit_or w (1 * 2 ^ (ROOM - 1 - i) % 2 ^ 32))
 word-raised x i by w l r p h = word_set x (set x i (get_or x i 0 + by)) i w r (omega (arith, entry-raised x i by l)) (λ k d. entry-set_other x i k (get_or x i 0 + by) d) h
-
--- what is kept of a monomial with one exponent raised, where w is the word of what occurs then
-pub kept-raised : (total word count : ℕ) (all : List ℕ) (i by w : ℕ) → i < length (take count all) → get_or all i 0 + by < 2 ^ 31 → IsMono total word count all →
-    IsWordOf (set (take count all) i (get_or (take count all) i 0 + by)) w → IsMono (total + by) w count (set all i (get_or all i 0 + by))
-kept-raised total word count all i by w l f m o = record {
-  room = m.room;
-  places = length-set all i (get_or all i 0 + by) ∙ m.places;
-  limit = subst (λ z. All (λ k. k < 2 ^ 31) z) (sym same) (limit-raised x i by l (omega (arith, f, read)) m.limit);
-  total_degree = omega (arith, m.total_degree, degree-raised x i by l, ap degree same);
-  occurring = subst (λ z. IsWordOf z w) (sym same) o;
-}
-  where
-    x : Exponents
-    x = take count all
-
-    within : i < count
-    within = omega (arith, l, length-take count all)
-
-    read : get_or x i 0 ≡ get_or all i 0
-    read = get_or-take count all i 0 within
-
-    same : take count (set all i (get_or all i 0 + by)) ≡ set x i (get_or x i 0 + by)
-    same = take-set-lt count all i (get_or all i 0 + by) within ∙ ap (λ e. set x i (e + by)) (sym read)
 
 pub word-plus : (x y : Exponents) (v w : ℕ) → IsWordOf x v → IsWordOf y w → IsWordOf (plus x y) (bit_or v w)
 word-plus x y v w h k = record { fits = or_lt ROOM v w h.fits k.fits; bits = λ i j e. omega (arith, bit_at_or v w j, h.bits i j e, k.bits i j e, entry-plus x y i) }

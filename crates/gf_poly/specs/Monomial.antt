@@ -1,8 +1,9 @@
 -- Monomials as they are kept, and where a product of two has exponents within the limit.
 -- Exponents are below 2^31; a variable past the end has exponent 0, so the words need no equal lengths.
 -- Laws: proofs/MonomialLaws.antt.
-use Rattle.std.specs.Prelude.{◌≡◌, ℕ, ◌+◌, ◌<◌, ◌≤◌, ◌^◌, take, length, All, min, List}
+use Rattle.std.specs.Prelude.{◌≡◌, ℕ, ◌+◌, ◌<◌, ◌≤◌, ◌^◌, length, All, min}
 use Rattle.std.specs.Int.{bit_at}
+use Rattle.smallvec.specs.SmallVec.{SmallVec}
 use Rattle.gf_exponents.specs.Exponents.{Exponents, entry, degree}
 use Rattle.gf_poly.specs.declared.TheConstants.{ROOM}
 use Rattle.gf_poly.specs.declared.monomial.ExponentOverflow.{ExponentOverflow}
@@ -12,14 +13,13 @@ pub record IsWordOf (x : Exponents) (w : ℕ) : Type 0 where
   pub fits : w < 2 ^ ROOM
   pub bits : (i j : ℕ) → i + j + 1 ≡ ROOM → bit_at w j ≡ min (entry x i) 1
 
--- what is kept of a monomial: ROOM places, of which the first ones hold its exponents, how many these are, their sum, and the
--- word of the variables that occur
-pub record IsMono (total word count : ℕ) (all : List ℕ) : Type 0 where
-  pub room : count ≤ ROOM
-  pub places : length all ≡ ROOM
-  pub limit : All (λ x. x < 2 ^ 31) (take count all)
-  pub total_degree : total ≡ degree (take count all)
-  pub occurring : IsWordOf (take count all) word
+-- what is kept of a monomial: its exponents, inline, their sum, and the word of the variables that occur
+pub record IsMono (total word : ℕ) (v : SmallVec ℕ) : Type 0 where
+  pub room : length v.items ≤ ROOM
+  pub limit : All (λ x. x < 2 ^ 31) v.items
+  pub inline : v.capacity ≡ ROOM
+  pub total_degree : total ≡ degree v.items
+  pub occurring : IsWordOf v.items word
 
 -- at most as many variables as there is room for, and exponents within the limit
 pub record IsMonomial (x : Exponents) : Type 0 where

@@ -6,6 +6,7 @@ ghost use Rattle.gf_exponents.specs.Orders.{lex, deglex};
 ghost use Rattle.gf_poly.specs.Monomial.{IsMonomial, IsWordOf, ProductFits, IsFirstOverflow};
 
 use super::ROOM;
+use smallvec::SmallVec;
 use std::alloc::Global;
 use std::cmp::Ordering;
 use std::marker::Model;
@@ -18,21 +19,18 @@ const MOST: u32 = (1 << 31) - 1;
 pub struct Mono {
     total: u64,
     word: u32,
-    count: u32,
-    /// The exponents of the variables, and behind them places that aren't used.
-    all: [u32; ROOM],
+    exponents: SmallVec<u32, ROOM>,
 }
 
 impl Model for Mono {
-    ghost use Rattle.std.specs.Prelude.{take};
     ghost use Rattle.gf_exponents.specs.Exponents.{Exponents};
     ghost use Rattle.gf_poly.specs.Monomial.{IsMono};
 
     ghost Value = { Exponents };
 
-    ghost view = { λ m. take m.count m.all };
+    ghost view = { λ m. m.exponents.items };
 
-    ghost invariant = { λ m. IsMono m.total m.word m.count m.all };
+    ghost invariant = { λ m. IsMono m.total m.word m.exponents };
 }
 
 /// Two exponents of one variable whose sum is above `2^31 - 1`.
@@ -161,11 +159,12 @@ fn padded(exponents: &[u32]) -> [u32; ROOM]
 
 impl Mono {
     /// The monomial with these exponents, one for each variable.
-    pub fn new(_alloc: Global, exponents: &[u32]) -> Mono
+    pub fn new(alloc: Global, exponents: &[u32]) -> Mono
         requires { IsMonomial exponents.now }
         ensures { result ≡ exponents.now }
     {
         Mono::known(
+            alloc,
             padded(exponents),
             exponents.len(),
             total_of(exponents),
@@ -174,20 +173,19 @@ impl Mono {
     }
 
     /// The monomial 1 in n variables, at most `ROOM`.
-    pub fn one(_alloc: Global, n: usize) -> Mono
+    pub fn one(alloc: Global, n: usize) -> Mono
         requires { n ≤ ROOM }
         ensures { result ≡ replicate n 0 }
     {
         Mono {
             total: 0,
             word: 0,
-            count: n as u32,
-            all: [0; ROOM],
+            exponents: SmallVec::from_buf_and_len(alloc, [0; ROOM], n),
         }
     }
 
     /// The monomial with the first `n` of these exponents, whose sum and word are known.
-    fn known(all: [u32; ROOM], n: usize, total: u64, word: u32) -> Mono
+    fn known(alloc: Global, all: [u32; ROOM], n: usize, total: u64, word: u32) -> Mono
         requires room { n ≤ ROOM }
         requires exponents { IsMonomial (take n all) }
         requires total { total ≡ total_degree (take n all) }
@@ -197,8 +195,7 @@ impl Mono {
         Mono {
             total,
             word,
-            count: n as u32,
-            all,
+            exponents: SmallVec::from_buf_and_len(alloc, all, n),
         }
     }
 
@@ -207,19 +204,21 @@ impl Mono {
         ensures value { result.now ≡ self.now }
         ensures valid { IsMonomial self.now }
     {
-        &self.all[..self.count as usize]
+        self.exponents.as_slice()
     }
 
     /// An equal monomial.
     pub fn copy(&self) -> Mono
         ensures { result ≡ self.now }
     {
-        Mono {
-            total: self.total,
-            word: self.word,
-            count: self.count,
-            all: self.all,
-        }
+        let x = self.exponents();
+        Mono::known(
+            *self.exponents.allocator(),
+            padded(x),
+            x.len(),
+            self.total,
+            self.word,
+        )
     }
 
     /// The total degree.
@@ -251,14 +250,15 @@ impl Mono {
         ensures overflow { IfErr result (λ o. o ≡ record { left = slice_index self.old variable; right = by }) }
         ensures unchanged { OnErr result (self.new ≡ self.old) }
     {
-        let exponent = self.exponents()[variable];
+        let exponents = self.exponents.as_mut_slice();
+        let exponent = exponents[variable];
         if by > MOST - exponent {
             return Err(ExponentOverflow {
                 left: u64::from(exponent),
                 right: u64::from(by),
             });
         }
-        self.all[variable] = exponent + by;
+        exponents[variable] = exponent + by;
         self.total += u64::from(by);
         if by != 0 {
             self.word |= 1 << (ROOM - 1 - variable);
@@ -281,6 +281,7 @@ impl Mono {
         let x = self.exponents();
         let all = sums(x, other.exponents())?;
         Ok(Mono::known(
+            *self.exponents.allocator(),
             all,
             x.len(),
             self.total + other.total,
@@ -306,7 +307,13 @@ impl Mono {
         let x = self.exponents();
         let all = differences(x, by.exponents());
         let word = word_of(&all[..x.len()]);
-        Mono::known(all, x.len(), self.total - by.total, word)
+        Mono::known(
+            *self.exponents.allocator(),
+            all,
+            x.len(),
+            self.total - by.total,
+            word,
+        )
     }
 
     /// The least common multiple with `other`, which has the same variables.
@@ -317,7 +324,13 @@ impl Mono {
         let x = self.exponents();
         let all = maxima(x, other.exponents());
         let total = total_of(&all[..x.len()]);
-        Mono::known(all, x.len(), total, self.word | other.word)
+        Mono::known(
+            *self.exponents.allocator(),
+            all,
+            x.len(),
+            total,
+            self.word | other.word,
+        )
     }
 
     /// The comparison by lex: the first exponent that differs decides. Where the words do, no exponent is looked at.
