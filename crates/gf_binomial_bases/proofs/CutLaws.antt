@@ -1,9 +1,9 @@
 -- Monomials without the variables past the first n.
 -- To cite: cut, cut-ring, cut-same, cut-along, cut-plus.
-use Rattle.std.proofs.Common.{◌≡◌, ℕ, zero, suc, ◌<◌, true, [], ◌∷◌, arith, refl, sym, ◌∙◌, inl, inr}
-use Rattle.std.proofs.lemmas.Bool.{cases_lt}
+use Rattle.std.proofs.Common.{◌≡◌, ℕ, zero, suc, ◌<◌, true, [], ◌∷◌, arith, refl, sym, ◌∙◌}
 use Rattle.gf_exponents.specs.Exponents.{Exponents, entry, same, plus, IsInRing}
-use Rattle.gf_exponents.proofs.ExponentsLaws.{entry-plus, entries_same, same_by_entries}
+use Rattle.gf_exponents.proofs.ExponentsLaws.{entry-plus, entries_same}
+use Rattle.gf_ideal.proofs.RingLaws.{same_in_ring}
 
 -- the first n exponents
 abbrev pub cut : ℕ → Exponents → Exponents
@@ -22,10 +22,6 @@ cut-ring zero x i l = refl
 cut-ring (suc n) [] i l = refl
 cut-ring (suc n) (a ∷ x) zero l = absurd (omega arith)
 cut-ring (suc n) (a ∷ x) (suc i) l = cut-ring n x i (omega arith)
-
--- two monomials with the same first n exponents are the same where both are in the ring
-same_in_ring : (n : ℕ) (x y : Exponents) → IsInRing n x → IsInRing n y → ((i : ℕ) → i < n → entry x i ≡ entry y i) → same x y ≡ true
-same_in_ring n x y h k e = same_by_entries x y (λ i. elim (cases_lt i n) [ inl l ↦ e i l | inr l ↦ h i (omega arith) ∙ sym (k i (omega arith)) ])
 
 pub cut-same : (n : ℕ) (x : Exponents) → IsInRing n x → same (cut n x) x ≡ true
 cut-same n x h = same_in_ring n (cut n x) x (cut-ring n x) h (λ i l. entry-cut n x i l)

@@ -2,7 +2,7 @@
 -- exponents but those of the polynomial to 0.
 -- To cite: IsAmong, closed-among, reached_within, shift_short, step_short, tail_within, IsFormOf, form-among, work_forms, run_short.
 use Rattle.std.proofs.Common.{◌≡◌, ◌⊎◌, ℕ, ◌+◌, ◌<◌, ◌≤◌, ◌^◌, true, List, [], ◌∷◌, ◌++◌, length, Contains, max, arith, sym, ap, ap₂, ◌∙◌, subst, inl, inr}
-use Rattle.gf_frac.specs.Fraction.{Fraction, ◌+ℚ◌, ◌*ℚ◌, neg_ℚ, one_ℚ}
+use Rattle.gf_frac.specs.Fraction.{◌+ℚ◌, ◌*ℚ◌, neg_ℚ, one_ℚ}
 use Rattle.gf_frac.proofs.FractionLaws.{one-*ℚ, *ℚ-zero, neg_ℚ-*ℚ, +ℚ-neg_ℚ, *ℚ_cancel}
 use Rattle.gf_exponents.specs.Exponents.{Exponents, entry, same, plus, join}
 use Rattle.gf_exponents.specs.Orders.{IsStrict}
@@ -11,7 +11,7 @@ use Rattle.gf_exponents.proofs.ExponentsLaws.{same-refl, same_flip, same_trans, 
 use Rattle.gf_exponents.proofs.SixOrdersLaws.{order-is}
 use Rattle.gf_poly.specs.Polynomial.{Terms, coefficient, SamePolynomial, times}
 use Rattle.gf_poly.specs.Marking.{MarkedPolynomial}
-use Rattle.gf_poly.proofs.PolynomialLaws.{coefficient-++, coefficient-same, coefficient-times}
+use Rattle.gf_poly.proofs.PolynomialLaws.{coefficient-++, coefficient-same}
 use Rattle.gf_ideal.specs.Membership.{HasMonomial}
 use Rattle.gf_ideal.specs.Marks.{IsMarked}
 use Rattle.gf_ideal.specs.Operands.{AreThese, IsShiftOperation, IsStepExponents}
@@ -19,6 +19,7 @@ use Rattle.gf_ideal.specs.Reduction.{IsDivisible, IsStep, Reached, IsSPolynomial
 use Rattle.gf_ideal.specs.WorkLists.{IsOrigin, IsWorkList, IsTail, IsRunExponents}
 use Rattle.gf_ideal.proofs.ListLaws.{Contains-here, Contains-cases, Contains-last}
 use Rattle.gf_ideal.proofs.StepLaws.{IsClosed, IsWithin, reached-one, taken, monic-monomials}
+use Rattle.gf_ideal.proofs.TermLaws.{coefficient-times-one}
 use Rattle.gf_binomials.specs.Antichains.{IsAntichain, HasShortExponents}
 
 -- ---- members with monomials of f
@@ -99,15 +100,12 @@ forms_alike below f b c o p q = at (p.marked.tail c.head (form_to f b c.head p.f
 abbrev IsWhole : Terms → Terms → Type 0
 IsWhole f g = SamePolynomial g f ⊎ SamePolynomial g []
 
-times_none : (c : Fraction) (u : Exponents) (f : Terms) (y : Exponents) → same u [] ≡ true → coefficient (times c u f) y ≡ c *ℚ coefficient f y
-times_none c u f y s = coefficient-same (times c u f) y (plus u y) (same_flip (plus u y) y (same_shift_right y u [] s)) ∙ coefficient-times c u f y
-
 step_whole : (below : Exponents → Exponents → Type 0) (f : Terms) (bs : List MarkedPolynomial) (g h : Terms) → IsAntichain f → AreFormsOf below f bs → IsWhole f g → IsStep (Contains bs) g h → IsWhole f h
 step_whole below f bs g h a m (inr z) s = absurd (s.there (z s.at))
 step_whole below f bs g h a m (inl e) s = inr (λ y.
     s.equal y
     ∙ coefficient-++ g (times (neg_ℚ (coefficient g s.at)) s.rest s.member.poly) y
-    ∙ ap₂ (λ p q. p +ℚ q) (e y) (times_none (neg_ℚ (coefficient g s.at)) s.rest s.member.poly y none
+    ∙ ap₂ (λ p q. p +ℚ q) (e y) (coefficient-times-one (neg_ℚ (coefficient g s.at)) s.rest s.member.poly y none
     ∙ ap (λ c. neg_ℚ c *ℚ coefficient s.member.poly y) (e s.at ∙ coefficient-same f s.at s.member.head here)
     ∙ neg_ℚ-*ℚ (coefficient f s.member.head) (coefficient s.member.poly y) ∙ ap neg_ℚ (d.form.equation y))
     ∙ +ℚ-neg_ℚ (coefficient f y))
@@ -145,8 +143,8 @@ s_polynomial_none below f b c s o p q h y =
     h.equal y
     ∙ coefficient-++ (times one_ℚ h.left b.poly) (times (neg_ℚ one_ℚ) h.right c.poly) y
     ∙ ap₂ (λ x z. x +ℚ z)
-    (times_none one_ℚ h.left b.poly y (raised_none b c h.left b.head alike (same-refl b.head) h.of_left) ∙ one-*ℚ (coefficient b.poly y))
-    (times_none (neg_ℚ one_ℚ) h.right c.poly y (raised_none b c h.right c.head alike alike h.of_right) ∙ neg_ℚ-*ℚ one_ℚ (coefficient c.poly y) ∙ ap neg_ℚ (one-*ℚ (coefficient c.poly y) ∙ sym (forms_equal f b c p.form q.form alike y)))
+    (coefficient-times-one one_ℚ h.left b.poly y (raised_none b c h.left b.head alike (same-refl b.head) h.of_left) ∙ one-*ℚ (coefficient b.poly y))
+    (coefficient-times-one (neg_ℚ one_ℚ) h.right c.poly y (raised_none b c h.right c.head alike alike h.of_right) ∙ neg_ℚ-*ℚ one_ℚ (coefficient c.poly y) ∙ ap neg_ℚ (one-*ℚ (coefficient c.poly y) ∙ sym (forms_equal f b c p.form q.form alike y)))
     ∙ +ℚ-neg_ℚ (coefficient b.poly y)
   where
     alike : same c.head b.head ≡ true

@@ -1,6 +1,7 @@
 -- Where Buchberger's algorithm stands: the list of members, the marks of their pairs, the pairs that wait.
 -- Laws: proofs/RunLaws.antt. Source: Becker, Weispfenning, Gröbner Bases, 5.5 (criteria, and what settles a pair).
-use Rattle.std.specs.Prelude.{◌≡◌, ◌≢◌, ◌⊎◌, ℕ, ◌+◌, ◌<◌, ◌≤◌, true, false, List, [], ◌∷◌, ◌++◌, length, Contains}
+use Rattle.std.specs.Prelude.{◌≡◌, ◌≢◌, ◌⊎◌, ℕ, ◌+◌, ◌<◌, ◌≤◌, true, false, List, [], ◌∷◌, ◌++◌, length, Contains, MatchOption}
+use Rattle.std.specs.declared.option.Option.{Option}
 use Rattle.gf_frac.specs.Fraction.{Fraction}
 use Rattle.gf_frac.specs.declared.refusal.Op.{Op}
 use Rattle.gf_exponents.specs.Exponents.{Exponents, AreCoprime, Divides, join}
@@ -103,6 +104,34 @@ pub record IsAppended (order : MonomialOrder) (r : Terms) (old new : State) : Ty
   pub table : new.table ≡ with_member old.table
   pub pairs : PairsPushed old.queue new.queue (length old.members) (length old.members)
 
+-- the new member has the variables of the members, and the weight of the order, where it has one, as many entries
+pub record IsJoinable (order : MonomialOrder) (b : MarkedPolynomial) (bs : List MarkedPolynomial) : Type 0 where
+  pub n : ℕ
+  pub head : length b.head ≡ n
+  pub members : MembersHaveVariables n bs
+  pub entries : HasEntries n order
+
+-- b is the last member now, and its pairs wait
+pub record IsJoined (b : MarkedPolynomial) (old new : State) : Type 0 where
+  pub members : new.members ≡ old.members ++ b ∷ []
+  pub table : new.table ≡ with_member old.table
+  pub pairs : PairsPushed old.queue new.queue (length old.members) (length old.members)
+
+-- what is left is the last member now; where nothing is, the state is as before
+abbrev pub IsTakenUp : Option MarkedPolynomial → State → State → Type 0
+IsTakenUp left old new = MatchOption left (new ≡ old) (λ b. IsJoined b old new)
+
+-- b is the monic form of r, marked at its greatest monomial
+pub record IsNewMember (order : MonomialOrder) (r : Terms) (b : MarkedPolynomial) : Type 0 where
+  pub monic : IsMonicForm r b
+  pub marked : IsMarked (below_of order) b
+  pub poly : (n : ℕ) → HasVariables n r → HasVariables n b.poly
+  pub head : (n : ℕ) → HasVariables n r → length b.head ≡ n
+
+-- what is left of r: nothing where it is zero, else its monic form
+abbrev pub IsLeft : MonomialOrder → Terms → Option MarkedPolynomial → Type 0
+IsLeft order r left = MatchOption left (r ≡ []) (λ b. (r ≢ []) × IsNewMember order r b)
+
 -- r has the same variables as the members, and the weight of the order, where it has one
 pub record IsAppendable (order : MonomialOrder) (r : Terms) (bs : List MarkedPolynomial) : Type 0 where
   pub n : ℕ
@@ -158,6 +187,19 @@ pub record IsReducedPair (order : MonomialOrder) (old new : State) (i j : ℕ) :
   pub normal : IsRemainder old.members s r
   pub variables : (n : ℕ) → MembersHaveVariables n old.members → HasVariables n r
   pub left : ((r ≡ []) × (new ≡ old)) ⊎ ((r ≢ []) × IsAppended order r old new)
+
+-- what is left of the S-polynomial of the members at i and j
+pub record IsLeftOfPair (order : MonomialOrder) (at : State) (i j : ℕ) (left : Option MarkedPolynomial) : Type 0 where
+  pub b : MarkedPolynomial
+  pub c : MarkedPolynomial
+  pub at_i : IsAt at.members i b
+  pub at_j : IsAt at.members j c
+  pub s : Terms
+  pub is_s : IsSPolynomial b c s
+  pub r : Terms
+  pub normal : IsRemainder at.members s r
+  pub variables : (n : ℕ) → MembersHaveVariables n at.members → HasVariables n r
+  pub is_left : IsLeft order r left
 
 -- the pair is excused, and nothing was done, or it was reduced
 abbrev pub IsPairWorkedOff : MonomialOrder → State → State → ℕ → ℕ → Type 0

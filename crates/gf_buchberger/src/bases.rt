@@ -2,6 +2,9 @@
 
 ghost use Rattle.std.specs.Prelude.{◌≡◌, IfOk, IfErr};
 ghost use Rattle.gf_order.specs.Comparisons.{HasEntries};
+ghost use Rattle.gf_ideal.specs.Bases.{AreArranged};
+ghost use Rattle.gf_ideal.specs.Marks.{HasPositiveWeight, IsRealisable};
+ghost use Rattle.gf_division.specs.Autoreduction.{IsAutoreduced, IsReducedOf, IsAutoreductionRefusal};
 ghost use Rattle.gf_buchberger.specs.Bases.{IsArrangedBasis, IsBasisRefusal, AreRunsWithinLimits, IsWantOfMemory, IsSpentAnswer, IsStopAnswer, HasStopVariables, of_poly_error};
 ghost use Rattle.gf_buchberger.specs.Jobs.{HaveRingVariables, IsSuited, IsBasisJob};
 ghost use Rattle.gf_buchberger.specs.Runs.{MembersHaveVariables};
@@ -9,11 +12,12 @@ ghost use Rattle.gf_buchberger.specs.Runs.{MembersHaveVariables};
 use crate::generators::entered;
 use crate::guides::guide_of;
 use crate::queue::Strategy;
-use crate::runs::{Run, Stop, settle_all};
-use gf_division::autoreduce_by;
+use crate::runs::{Numbers, Run, Stop, settle_all};
+use gf_division::{Guide, autoreduce_by};
 use gf_frac::Overflow;
 use gf_order::Order;
 use gf_poly::{ExponentOverflow, MarkedSet, Pairs, Poly, PolyError};
+use gf_wide_division::wide_autoreduce;
 use std::alloc::Global;
 
 /// Why there is no basis.
@@ -74,8 +78,39 @@ fn stopped(alloc: Global, n: u32, stop: Stop) -> BasisError
     }
 }
 
-/// The basis by one run, which takes the pairs by this choice.
-pub fn run_by(alloc: Global, job: &Job, strategy: Strategy) -> Result<MarkedSet, BasisError>
+/// The members that are needed, their tails reduced by one another, in these numbers.
+fn interreduced(
+    alloc: Global,
+    set: &MarkedSet,
+    guide: &mut Guide,
+    numbers: &Numbers,
+) -> Result<MarkedSet, PolyError>
+    requires { IsRealisable set.now.variables set.now.items }
+    ensures value { IfOk result (IsAutoreduced set.now) }
+    ensures arranged { IfOk result (λ t. AreArranged set.now.variables t.items) }
+    ensures marked { IfOk result (λ t. HasPositiveWeight set.now.variables t.items) }
+    ensures reduced { IfOk result (λ t. IsReducedOf set.now.variables set.now.items t.items) }
+    ensures cause { IfErr result (IsAutoreductionRefusal set.now.items) }
+{
+    match autoreduce_by(alloc, set, guide) {
+        Ok(basis) => Ok(basis),
+        Err(refusal) => match numbers {
+            Numbers::Narrow => Err(refusal),
+            Numbers::Wide(first) => match wide_autoreduce(alloc, set, guide, first) {
+                Ok(basis) => Ok(basis),
+                Err(_) => Err(refusal),
+            },
+        },
+    }
+}
+
+/// The basis by one run, which takes the pairs by this choice and reduces in these numbers.
+pub fn run_by(
+    alloc: Global,
+    job: &Job,
+    strategy: Strategy,
+    numbers: Numbers,
+) -> Result<MarkedSet, BasisError>
     requires { IsBasisJob job.now.order.now job.now.n job.now.set.now }
     ensures ok { IfOk result (IsArrangedBasis job.now.order.now job.now.n job.now.set.now) }
     ensures err { IfErr result (IsBasisRefusal job.now.order.now job.now.n job.now.set.now job.now.pairs) }
@@ -84,7 +119,7 @@ pub fn run_by(alloc: Global, job: &Job, strategy: Strategy) -> Result<MarkedSet,
         Ok(guide) => guide,
         Err(_) => return Err(BasisError::Memory),
     };
-    let start = match entered(alloc, job.set, job.order, strategy, guide) {
+    let start = match entered(alloc, job.set, job.order, strategy, numbers, guide) {
         Ok(start) => start,
         Err(refusal) => return Err(refused(refusal)),
     };
@@ -95,10 +130,11 @@ pub fn run_by(alloc: Global, job: &Job, strategy: Strategy) -> Result<MarkedSet,
     let Run {
         members,
         mut guide,
+        numbers,
         ..
     } = run;
     let members = MarkedSet::new(job.n, members);
-    match autoreduce_by(alloc, &members, &mut guide) {
+    match interreduced(alloc, &members, &mut guide, &numbers) {
         Ok(basis) => Ok(basis),
         Err(refusal) => Err(refused(refusal)),
     }
@@ -143,5 +179,5 @@ pub fn basis(
         order,
         pairs,
     };
-    run_by(alloc, &job, Strategy::Degree)
+    run_by(alloc, &job, Strategy::Degree, Numbers::Narrow)
 }

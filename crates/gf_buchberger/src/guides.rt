@@ -1,10 +1,11 @@
-//! The order of a run, as one that tells which terms a long reduction takes first.
+//! The order of a run, as one that tells which terms a long reduction takes first, in narrow or in wide numbers.
 
 ghost use Rattle.gf_order.specs.Comparisons.{HasEntries};
 
 use gf_division::Guide;
 use gf_order::Order;
 use gf_poly::ROOM;
+use gf_wide_division::Precedence;
 use std::alloc::{AllocError, Global};
 
 /// How heavy each variable is by the order: 0 by lex and revlex.
@@ -33,4 +34,12 @@ pub fn guide_of(alloc: Global, n: u32, order: &Order) -> Result<Guide, AllocErro
 {
     let weights = weights(alloc, n as usize, order)?;
     Ok(Guide::by(weights, order.is_by_revlex()))
+}
+
+/// The same, of a reduction in wide numbers.
+pub fn precedence_of(alloc: Global, n: u32, order: &Order) -> Result<Precedence, AllocError>
+    requires { HasEntries n order.now }
+{
+    let weights = weights(alloc, n as usize, order)?;
+    Ok(Precedence::by(weights, order.is_by_revlex()))
 }

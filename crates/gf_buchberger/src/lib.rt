@@ -1,6 +1,7 @@
 //! Buchberger's algorithm: the reduced Gröbner basis of an ideal for an order of monomials.
 //!
-//! Start at `basis`, one run; `basis_by_second_run` is another one for where numbers don't fit. What a Gröbner basis is, and why the algorithm is right, stands in `gf_ideal`
+//! Start at `basis`, one run; `basis_by_second_run` is another one for where numbers don't fit, `wide_basis` one that goes on in wide
+//! numbers. What a Gröbner basis is, and why the algorithm is right, stands in `gf_ideal`
 //! (`specs/Bases.antt`, `specs/LawsOfBases.antt`); what a run may have on its way in `specs/WorkLists.antt` there.
 #![tactic(auto)]
 
@@ -10,10 +11,12 @@ mod guides;
 mod homogeneity;
 mod laws;
 mod leading;
+mod left;
 mod pairs;
 mod queue;
 mod runs;
 mod second_run;
+mod wide_run;
 
 pub use bases::{BasisError, basis};
 pub use homogeneity::{NotHomogeneous, homogeneous};
@@ -21,3 +24,4 @@ pub use laws::{monomials_stay_within_limits, orders_that_suit};
 pub use leading::leading as leading_place;
 pub use runs::{are_coprime, is_single};
 pub use second_run::basis_by_second_run;
+pub use wide_run::wide_basis;

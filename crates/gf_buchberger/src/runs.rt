@@ -1,17 +1,19 @@
 //! A run of Buchberger's algorithm: its members, and the pairs that it settles.
 
-ghost use Rattle.std.specs.Prelude.{◌≡◌, ◌≢◌, ◌<◌, ◌^◌, [], length, IfOk, IfErr, OnOk, IsTrue};
+ghost use Rattle.std.specs.Prelude.{◌≡◌, ◌≢◌, ◌<◌, ◌^◌, [], length, IfOk, IfErr, IfSome, OnOk, IsTrue};
 ghost use Rattle.gf_exponents.specs.Exponents.{AreCoprime};
 ghost use Rattle.gf_order.specs.Comparisons.{HasEntries};
+ghost use Rattle.gf_poly.specs.declared.error.PolyError.TheVariants.{Memory};
 ghost use Rattle.gf_ideal.specs.Reduction.{HasOneMonomial};
-ghost use Rattle.gf_buchberger.specs.Runs.{MembersHaveVariables, AreReducers, IsMultipleAt, IsReducedPair, IsPairWorkedOff, IsSettlingRefusal, MembersHaveSomeVariables, state_of, IsState, PairsPushed, IsAppended, IsAppendable, IsAppendRefusal, CountsAsSettled, IsChain, IsExcused, IsSettledBy, IsSomeRun, IsWorkedThrough, IsStop};
+ghost use Rattle.gf_buchberger.specs.Runs.{MembersHaveVariables, AreReducers, IsMultipleAt, IsReducedPair, IsPairWorkedOff, IsSettlingRefusal, MembersHaveSomeVariables, state_of, IsState, PairsPushed, IsJoinable, IsJoined, IsTakenUp, IsLeftOfPair, CountsAsSettled, IsChain, IsExcused, IsSettledBy, IsSomeRun, IsWorkedThrough, IsStop};
 
-use crate::leading::leading;
+use crate::left::{left_of, left_of_wide};
 use crate::pairs::PairTable;
 use crate::queue::{Queue, Strategy, Waiting};
 use gf_division::{Guide, remainder, s_poly};
 use gf_order::Order;
-use gf_poly::{Marked, Mono, Poly, PolyError};
+use gf_poly::{Marked, Mono, PolyError};
+use gf_wide_division::{Beyond, Precedence, wide_remainder_of_pair};
 use std::alloc::{AllocError, Global};
 
 /// The members so far, the marks of their pairs, and the pairs that wait.
@@ -21,7 +23,17 @@ pub struct Run {
     pub table: PairTable,
     pub queue: Queue,
     pub strategy: Strategy,
+    pub numbers: Numbers,
     pub guide: Guide,
+}
+
+/// By which numbers polynomials are reduced.
+#[derive(Drop)]
+pub enum Numbers {
+    /// By fractions of 128 bits.
+    Narrow,
+    /// By wide ones where narrow ones don't fit on the way, and in which order they take terms then.
+    Wide(Precedence),
 }
 
 /// Why not all pairs are settled.
@@ -90,7 +102,7 @@ fn push_pairs(
 
 impl Run {
     /// The run that has no members yet.
-    pub fn new(alloc: Global, strategy: Strategy, guide: Guide) -> Run
+    pub fn new(alloc: Global, strategy: Strategy, numbers: Numbers, guide: Guide) -> Run
         ensures members { result.members.items ≡ [] }
         ensures table { result.table ≡ record { members = 0; marks = [] } }
         ensures queue { result.queue ≡ [] }
@@ -100,28 +112,25 @@ impl Run {
             table: PairTable::new(alloc),
             queue: Queue::new(alloc),
             strategy,
+            numbers,
             guide,
         }
     }
 
-    /// Adds the monic form of `r` as a member, marked at its greatest monomial; its pairs wait.
+    /// Adds a member; its pairs wait.
     ///
     /// # Errors
     ///
-    /// `Overflow` only where the quotient of a coefficient of `r` by that of its greatest monomial doesn't fit; it holds
-    /// the two.
-    pub fn append(&mut self, order: &Order, r: Poly) -> Result<(), PolyError>
-        requires some { r ≢ [] }
+    /// For want of memory alone.
+    fn append(&mut self, order: &Order, member: Marked) -> Result<(), PolyError>
         requires state { IsState (state_of self.old) }
-        requires variables { IsAppendable order.now r self.old.members.items }
-        ensures ok { OnOk result (IsAppended order.now r (state_of self.old) (state_of self.new)) }
-        ensures cause { IfErr result (IsAppendRefusal order.now r) }
+        requires variables { IsJoinable order.now member self.old.members.items }
+        ensures ok { OnOk result (IsJoined member (state_of self.old) (state_of self.new)) }
+        ensures cause { IfErr result (λ e. e ≡ Memory) }
     {
         if self.table.members() == u32::MAX {
             return Err(PolyError::Memory);
         }
-        let at = leading(order, r.terms());
-        let member = Marked::mark(r, at).monic()?;
         push_pairs(
             &mut self.queue,
             self.strategy,
@@ -132,6 +141,19 @@ impl Run {
         self.table.add_member()?;
         self.members.push(member)?;
         Ok(())
+    }
+
+    /// Adds what is left of a polynomial, unless nothing is.
+    pub fn take_up(&mut self, order: &Order, left: Option<Marked>) -> Result<(), PolyError>
+        requires state { IsState (state_of self.old) }
+        requires variables { IfSome left (λ b. IsJoinable order.now b self.old.members.items) }
+        ensures ok { OnOk result (IsTakenUp left (state_of self.old) (state_of self.new)) }
+        ensures cause { IfErr result (λ e. e ≡ Memory) }
+    {
+        match left {
+            Some(member) => self.append(order, member),
+            None => Ok(()),
+        }
     }
 
     /// Whether the pair of the members at p and q counts as settled.
@@ -198,6 +220,98 @@ impl Run {
         false
     }
 
+    /// What is left of the S-polynomial of the members at i and j.
+    fn narrow_left(
+        &mut self,
+        alloc: Global,
+        order: &Order,
+        i: u32,
+        j: u32,
+    ) -> Result<Option<Marked>, PolyError>
+        requires first { i < length self.old.members.items }
+        requires second { j < length self.old.members.items }
+        requires reducers { AreReducers order.now self.old.members.items }
+        ensures same { state_of self.new ≡ state_of self.old }
+        ensures ok { IfOk result (IsLeftOfPair order.now (state_of self.old) i j) }
+        ensures cause { IfErr result (IsSettlingRefusal order.now (state_of self.old) i j) }
+    {
+        let s = s_poly(alloc, &self.members[i as usize], &self.members[j as usize])?;
+        let r = remainder(alloc, s, &self.members, &mut self.guide)?;
+        left_of(order, r)
+    }
+
+    /// The same in wide numbers.
+    fn wide_left(
+        &self,
+        alloc: Global,
+        order: &Order,
+        i: u32,
+        j: u32,
+        first: &Precedence,
+    ) -> Result<Option<Marked>, Beyond>
+        requires first { i < length self.now.members.items }
+        requires second { j < length self.now.members.items }
+        requires reducers { AreReducers order.now self.now.members.items }
+        ensures { IfOk result (IsLeftOfPair order.now (state_of self.now) i j) }
+    {
+        let r = wide_remainder_of_pair(
+            alloc,
+            &self.members[i as usize],
+            &self.members[j as usize],
+            &self.members,
+            first,
+        )?;
+        left_of_wide(alloc, order, &r)
+    }
+
+    /// The same, where the run goes on in wide numbers.
+    #[cold]
+    #[inline(never)]
+    fn left_in_wide_run(
+        &self,
+        alloc: Global,
+        order: &Order,
+        i: u32,
+        j: u32,
+    ) -> Option<Option<Marked>>
+        requires first { i < length self.now.members.items }
+        requires second { j < length self.now.members.items }
+        requires reducers { AreReducers order.now self.now.members.items }
+        ensures { IfSome result (IsLeftOfPair order.now (state_of self.now) i j) }
+    {
+        match &self.numbers {
+            Numbers::Narrow => None,
+            Numbers::Wide(first) => match self.wide_left(alloc, order, i, j, first) {
+                Ok(left) => Some(left),
+                Err(_) => None,
+            },
+        }
+    }
+
+    /// What is left of the S-polynomial of the members at i and j, in the numbers of the run.
+    fn left_of_pair(
+        &mut self,
+        alloc: Global,
+        order: &Order,
+        i: u32,
+        j: u32,
+    ) -> Result<Option<Marked>, PolyError>
+        requires first { i < length self.old.members.items }
+        requires second { j < length self.old.members.items }
+        requires reducers { AreReducers order.now self.old.members.items }
+        ensures same { state_of self.new ≡ state_of self.old }
+        ensures ok { IfOk result (IsLeftOfPair order.now (state_of self.old) i j) }
+        ensures cause { IfErr result (IsSettlingRefusal order.now (state_of self.old) i j) }
+    {
+        match self.narrow_left(alloc, order, i, j) {
+            Ok(left) => Ok(left),
+            Err(refusal) => match self.left_in_wide_run(alloc, order, i, j) {
+                Some(left) => Ok(left),
+                None => Err(refusal),
+            },
+        }
+    }
+
     /// Reduces the S-polynomial of the members at i and j; what is left is a new member.
     fn reduce_pair(&mut self, alloc: Global, order: &Order, i: u32, j: u32) -> Result<(), PolyError>
         requires state { IsState (state_of self.old) }
@@ -207,12 +321,8 @@ impl Run {
         ensures ok { OnOk result (IsReducedPair order.now (state_of self.old) (state_of self.new) i j) }
         ensures cause { IfErr result (IsSettlingRefusal order.now (state_of self.old) i j) }
     {
-        let s = s_poly(alloc, &self.members[i as usize], &self.members[j as usize])?;
-        let r = remainder(alloc, s, &self.members, &mut self.guide)?;
-        if r.is_zero() {
-            return Ok(());
-        }
-        self.append(order, r)
+        let left = self.left_of_pair(alloc, order, i, j)?;
+        self.take_up(order, left)
     }
 
     /// Reduces the pair of i and j, unless it needs no reduction.

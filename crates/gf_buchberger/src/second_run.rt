@@ -7,6 +7,7 @@ ghost use Rattle.gf_buchberger.specs.Jobs.{HaveRingVariables, IsSuited, IsBasisJ
 
 use crate::bases::{BasisError, Job, run_by};
 use crate::queue::Strategy;
+use crate::runs::Numbers;
 use gf_order::Order;
 use gf_poly::{MarkedSet, Poly};
 use std::alloc::Global;
@@ -38,7 +39,7 @@ fn by_second_run(alloc: Global, job: &Job, first: BasisError) -> Result<MarkedSe
     ensures ok { IfOk result (IsArrangedBasis job.now.order.now job.now.n job.now.set.now) }
     ensures err { IfErr result (IsBasisRefusal job.now.order.now job.now.n job.now.set.now job.now.pairs) }
 {
-    match run_by(alloc, job, Strategy::Order) {
+    match run_by(alloc, job, Strategy::Order, Numbers::Narrow) {
         Ok(second) => Ok(second),
         Err(second) => Err(more_telling(first, second)),
     }

@@ -1,16 +1,16 @@
 -- Answers about a normal: what an answer tells of the cone.
 -- To cite: others-append, flip_told, facet_told, crossable_flippable, cone_of, kept_of, kept_wide, positive_for,
 -- answer_for, IfOk-weaker.
-use Rattle.std.proofs.Common.{◌≡◌, ◌⊎◌, ℕ, zero, suc, ◌<◌, ◌≤◌, ◌↔◌, Result, Ok, Err, IfOk, take, drop, List, [], ◌∷◌, ◌++◌, length, get_or, Contains, All, ℤ, pos, ◌<ℤ◌, unsigned_abs, arith, refl, sym, ap, ◌∙◌, subst, inl, inr, append_assoc, length-append}
+use Rattle.std.proofs.Common.{◌≡◌, ◌⊎◌, ℕ, zero, suc, ◌+◌, ◌-◌, ◌<◌, ◌≤◌, ◌↔◌, Result, Ok, Err, IfOk, take, drop, List, [], ◌∷◌, ◌++◌, length, get_or, Contains, All, ℤ, pos, ◌<ℤ◌, unsigned_abs, arith, refl, sym, ap, ◌∙◌, subst, inl, inr, append_assoc, length-append}
 use Rattle.std.proofs.lemmas.List.{get_or_default, take-append-drop}
 use Rattle.std.proofs.Math.Seq.{take-append_seam, drop-append_seam}
 use Rattle.std.proofs.Math.ListN.{get_or-append}
-use Rattle.std.proofs.lemmas.List.Elements.{All-nil, All-cons, All-contains, Contains-append_left, Contains-append_right, Contains-append_cases}
+use Rattle.std.proofs.lemmas.List.Elements.{All-nil, All-cons, All-take, All-drop, All-contains, Contains-append_left, Contains-append_right, Contains-append_cases}
 use Rattle.gf_vec.specs.Vector.{dot}
 use Rattle.gf_gordan.specs.Alternative.{AreRows, IsSolution}
 use Rattle.gf_poly.specs.Marking.{MarkedPolynomial}
 use Rattle.gf_facets.specs.Rows.{IsNormal}
-use Rattle.gf_facets.specs.Systems.{units}
+use Rattle.gf_facets.specs.Systems.{unit, units}
 use Rattle.gf_facets.specs.Normals.{AreNormals, others_of, flip_rows}
 use Rattle.gf_facets.specs.Combinations.{IsCombination}
 use Rattle.gf_facets.specs.Regions.{Region, IsInRegion}
@@ -182,7 +182,7 @@ kept_of n m p rows bs ns more vs e f q g k a s wide = record {
     ]
   ]));
   small = subst (All IsSmall) (sym (ap (λ (j : ℕ). take j vs) f ∙ ap (take (length ns)) parts ∙ take-append_seam ns (rows ++ units m m))) s;
-  units = λ t c. subst (λ (z : List (List ℤ)). Contains z t) (sym (ap (λ (j : ℕ). drop j vs) f ∙ ap (drop (length ns)) parts ∙ drop-append_seam ns (rows ++ units m m))) (Contains-append_right rows (units m m) t c);
+  behind = (rows, ap (λ (j : ℕ). drop j vs) f ∙ ap (drop (length ns)) parts ∙ drop-append_seam ns (rows ++ units m m));
 }
   where
     parts : vs ≡ ns ++ (rows ++ units m m)
@@ -193,7 +193,35 @@ pub kept_units : (c : ConeRows) (m p : ℕ) (vs : List (List ℤ)) → c ≡ rec
     (t : List ℤ) → Contains (units c.variables c.variables) t → Contains c.beside t
 kept_units c m p vs e k =
     let P : ConeRows → Type 0 = λ z. (t : List ℤ) → Contains (units z.variables z.variables) t → Contains z.beside t in
-    subst P (sym e) k.units
+    subst P (sym e) (λ t h. subst (λ (z : List (List ℤ)). Contains z t) (sym k.behind.1) (Contains-append_right k.behind.0 (units m m) t h))
+
+pub length-units : (n m : ℕ) → length (units n m) ≡ m
+length-units n zero = refl
+length-units n (suc m) = length-append (units n m) (unit n m ∷ []) ∙ (let r = length-units n m in omega (arith, r))
+
+-- the rows beside the normals, but for the last, which are the unit vectors
+pub kept_rows : (c : ConeRows) (m p : ℕ) (vs given rows : List (List ℤ)) → c ≡ record { variables = m; normals = take p vs; beside = drop p vs } → AreVectorsKept m vs p →
+    given ≡ drop p vs → rows ≡ take (length given - m) given → c.beside ≡ rows ++ units c.variables c.variables
+kept_rows c m p vs given rows e k g r =
+    let P : ConeRows → Type 0 = λ z. z.beside ≡ rows ++ units z.variables z.variables in
+    let parts : given ≡ k.behind.0 ++ units m m = g ∙ k.behind.1 in
+    let long : length given ≡ length k.behind.0 + m = ap (λ (z : List (List ℤ)). length z) parts ∙ length-append k.behind.0 (units m m) ∙ ap (λ (j : ℕ). length k.behind.0 + j) (length-units m m) in
+    let front : length given - m ≡ length k.behind.0 = omega (arith, long) in
+    let same : rows ≡ k.behind.0 = r ∙ ap (λ (z : List (List ℤ)). take (length given - m) z) parts ∙ ap (λ (j : ℕ). take j (k.behind.0 ++ units m m)) front ∙ take-append_seam k.behind.0 (units m m) in
+    subst P (sym e) (k.behind.1 ∙ ap (λ (z : List (List ℤ)). z ++ units m m) (sym same))
+
+-- there are as many rows beside the normals, at least, as variables
+pub kept_long : (m p : ℕ) (vs given : List (List ℤ)) → AreVectorsKept m vs p → given ≡ drop p vs → m ≤ length given
+kept_long m p vs given k g =
+    let long : length given ≡ length k.behind.0 + m = ap (λ (z : List (List ℤ)). length z) (g ∙ k.behind.1) ∙ length-append k.behind.0 (units m m) ∙ ap (λ (j : ℕ). length k.behind.0 + j) (length-units m m) in
+    omega (arith, long)
+
+pub kept_rows_wide : (c : ConeRows) (m p d : ℕ) (vs given rows : List (List ℤ)) → c ≡ record { variables = m; normals = take p vs; beside = drop p vs } → AreVectorsKept m vs p →
+    given ≡ drop p vs → rows ≡ take d given → AreRows c.variables rows
+kept_rows_wide c m p d vs given rows e k g r =
+    let P : ConeRows → Type 0 = λ z. AreRows z.variables rows in
+    let Q : List (List ℤ) → Type 0 = λ z. AreRows m z in
+    subst P (sym e) (subst Q (sym (r ∙ ap (λ (z : List (List ℤ)). take d z) g)) (All-take (λ (t : List ℤ). length t ≡ m) d (drop p vs) (All-drop (λ (t : List ℤ). length t ≡ m) p vs k.widths)))
 
 -- what is kept is all rows
 pub kept_wide : (c : ConeRows) (m p : ℕ) (vs : List (List ℤ)) → c ≡ record { variables = m; normals = take p vs; beside = drop p vs } → AreVectorsKept m vs p →

@@ -1,5 +1,5 @@
 -- Which normals a flip may cross, shown or refuted without the system; the least of those that lead up.
--- To cite: solution_of_shown, not_crossable_sum, not_crossable_above, sum_by_entries, step_at, first_steps, decided_flip, decided_crossing.
+-- To cite: solution_of_shown, beside_positive, solution_of_parts, interior_of_parts, not_crossable_sum, not_crossable_above, sum_by_entries, step_at, first_steps, decided_flip, decided_crossing.
 use Rattle.std.proofs.Common.{◌≡◌, ℕ, zero, suc, ◌<◌, List, [], ◌∷◌, ◌++◌, length, get_or, Contains, All, ℤ, pos, ◌+ℤ◌, ◌*ℤ◌, ◌<ℤ◌, ◌≤ℤ◌, arith, refl, sym, ap, ◌∙◌, subst, eqb, true, false}
 use Rattle.std.proofs.lemmas.Int.{ints}
 use Rattle.std.specs.Prelude.{◌↔◌, Bool, IsTrue, Option, Some, None, Result, Ok, Err, IfOk, IfSome, IsNone}
@@ -9,14 +9,16 @@ use Rattle.std.proofs.lemmas.Bool.{eq-eqb, ne_eqb, false≢true}
 use Rattle.gf_facets.specs.LexPositive.{IsNegative}
 use Rattle.std.proofs.lemmas.List.{get_or_default}
 use Rattle.std.proofs.Math.ListN.{get_or-append}
-use Rattle.std.proofs.lemmas.List.Elements.{All-cons, All-nil, All-contains, Contains-append_right}
+use Rattle.std.proofs.lemmas.List.Elements.{All-cons, All-nil, All-append, All-contains, Contains-append_right}
 use Rattle.gf_int.proofs.SignLaws.{0≤-*ℤ, 0<-*ℤ}
 use Rattle.gf_vec.specs.Vector.{dot, vector_sum}
 use Rattle.gf_vec.proofs.VectorLaws.{dot-plus}
 use Rattle.gf_gordan.specs.Alternative.{AreRows, IsSolution}
 use Rattle.gf_ideal.proofs.ListLaws.{Contains-here, Contains-there}
 use Rattle.gf_facets.specs.Normals.{others_of}
-use Rattle.gf_facets.proofs.UnitLaws.{positive_by_units}
+use Rattle.gf_facets.specs.Systems.{units}
+use Rattle.gf_facets.proofs.UnitLaws.{positive_by_units, units_on_positive}
+use Rattle.gf_facets.proofs.SystemLaws.{contained_all}
 use Rattle.gf_cone.specs.Small.{IsSmall}
 use Rattle.gf_cone.specs.Cones.{ConeRows, all_rows, normal_at, other_rows, HasUnits}
 use Rattle.gf_cone.specs.Crossing.{IsShownBy, IsCrossable, IsFlipDecided, IsCrossingDecided}
@@ -55,6 +57,32 @@ solution_of_shown c i w l e h = record {
   width = e;
   positive = subst (All (λ t. pos 0 <ℤ dot t w)) (others-append i c.normals c.beside l) (others_by (λ t. pos 0 <ℤ dot t w) (all_rows c) i (in_all c i l) (λ k m n. (h k m).positive n));
   zero = All-cons (λ t. dot t w ≡ pos 0) (normal_at c i) [] (subst (λ (t : List ℤ). dot t w ≡ pos 0) (read_all c i l) ((h i (in_all c i l)).zero refl)) (All-nil (λ t. dot t w ≡ pos 0));
+}
+
+-- the rows of a region and the unit vectors are positive on a vector
+pub beside_positive : (n : ℕ) (beside rows : List (List ℤ)) (w : List ℤ) → beside ≡ rows ++ units n n → length w ≡ n → All (λ x. pos 0 <ℤ x) w → All (λ t. pos 0 <ℤ dot t w) rows →
+    All (λ t. pos 0 <ℤ dot t w) beside
+beside_positive n beside rows w e l p h = subst (All (λ t. pos 0 <ℤ dot t w)) (sym e) (All-append (λ t. pos 0 <ℤ dot t w) rows (units n n) h (contained_all (λ t. pos 0 <ℤ dot t w) (units n n) (units_on_positive n w l p)))
+
+-- so are the normals but for one, and that is zero
+pub solution_of_parts : (c : ConeRows) (i : ℕ) (w : List ℤ) (normals : List (List ℤ)) → normals ≡ c.normals → i < length c.normals → length w ≡ c.variables → All (λ t. pos 0 <ℤ dot t w) c.beside →
+    ((k : ℕ) → k < length normals → IsShownBy normals i w k) → IsSolution c.variables (other_rows c i) (normal_at c i ∷ []) w
+solution_of_parts c i w normals q l e b h = record {
+  width = e;
+  positive = All-append (λ t. pos 0 <ℤ dot t w) (others_of i c.normals) c.beside (others_by (λ t. pos 0 <ℤ dot t w) c.normals i l (λ k m n. (s k m).positive n)) b;
+  zero = All-cons (λ t. dot t w ≡ pos 0) (normal_at c i) [] ((s i l).zero refl) (All-nil (λ t. dot t w ≡ pos 0));
+}
+  where
+    s : (k : ℕ) → k < length c.normals → IsShownBy c.normals i w k
+    s = subst (λ (z : List (List ℤ)). (k : ℕ) → k < length z → IsShownBy z i w k) q h
+
+-- or all of them
+pub interior_of_parts : (c : ConeRows) (w : List ℤ) (normals : List (List ℤ)) → normals ≡ c.normals → length w ≡ c.variables → All (λ t. pos 0 <ℤ dot t w) c.beside →
+    All (λ t. pos 0 <ℤ dot t w) normals → IsSolution c.variables (all_rows c) [] w
+interior_of_parts c w normals q e b h = record {
+  width = e;
+  positive = All-append (λ t. pos 0 <ℤ dot t w) c.normals c.beside (subst (All (λ t. pos 0 <ℤ dot t w)) q h) b;
+  zero = All-nil (λ t. dot t w ≡ pos 0);
 }
 
 -- ---- normals that no flip crosses
@@ -156,11 +184,6 @@ above_at c given i j a entries e wide u l ra re h m p x =
     let qa : a ≡ normal_at c i = ra ∙ ap (λ (z : List (List ℤ)). get_or z i a) e ∙ get_or-append c.normals c.beside a i l ∙ get_or_default c.normals i a [] l in
     let w : AreRows c.variables (all_rows c) = subst (AreRows c.variables) e wide in
     not_crossable_above c i j entries u (re ∙ qa) (sym (ap (λ (t : List ℤ). length t) (read_all c i l)) ∙ w i [] (in_all c i l)) h m p x
-
--- a vector that shows it, of the right length
-pub shown_at : (c : ConeRows) (given : List (List ℤ)) (i : ℕ) (w : List ℤ) → given ≡ all_rows c → i < length c.normals → length w ≡ c.variables →
-    ((k : ℕ) → k < length given → IsShownBy given i w k) → IsSolution c.variables (other_rows c i) (normal_at c i ∷ []) w
-shown_at c given i w e l m h = solution_of_shown c i w l m (subst (λ (z : List (List ℤ)). (k : ℕ) → k < length z → IsShownBy z i w k) e h)
 
 -- what is told of the system is told of the facet
 pub decided_flip : (c : ConeRows) (i : ℕ) → i < length c.normals → (r : Bool) → (IsTrue r ↔ IsCrossable c i) → IsFlipDecided c i r

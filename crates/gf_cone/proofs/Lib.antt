@@ -1,6 +1,6 @@
 mod RowsLaws  -- rows as they are made
 mod ListingLaws  -- ascending lists of vectors
-mod NarrowLaws  -- a dot product, one entry further
+mod NarrowLaws  -- a dot product, one entry further, and the size of its partial sums
 pub mod SmallLaws  -- vectors with small entries
 pub mod AnswerLaws  -- what an answer about a normal tells
 pub mod CrossingLaws  -- normals that a flip may cross, shown or refuted without their systems

@@ -18,7 +18,7 @@ use Rattle.gf_vec.specs.Vector.{dot}
 use Rattle.gf_vec.specs.RootSign.{sign_or, first_sign, root_sign}
 use Rattle.gf_gordan.specs.Alternative.{AreRows}
 use Rattle.gf_poly.specs.Marking.{MarkedPolynomial}
-use Rattle.gf_facets.specs.Systems.{unit, units}
+use Rattle.gf_facets.specs.Systems.{units}
 use Rattle.gf_facets.specs.LexPositive.{rooted, IsNegative, IsBefore}
 use Rattle.gf_facets.specs.Regions.{Region, all_positive}
 use Rattle.gf_facets.proofs.SystemLaws.{contained_all}
@@ -26,7 +26,8 @@ use Rattle.gf_facets.proofs.RootSignLaws.{dot-ones, first-less, less-first}
 use Rattle.gf_cone.specs.Cones.{ConeRows, normal_at, other_rows, all_rows, IsConeOf, in_region, HasRowsOf, HasInterior}
 use Rattle.gf_cone.specs.Answers.{AnswersFlip, IsFlipToldIn}
 use Rattle.gf_cone.specs.declared.answer.FlipAnswer.{FlipAnswer}
-use Rattle.gf_cone.proofs.AnswerLaws.{flip_told, others-append, others_all_of, small_others, small_one}
+use Rattle.gf_cone.proofs.NarrowLaws.{grown}
+use Rattle.gf_cone.proofs.AnswerLaws.{flip_told, length-units, others-append, others_all_of, small_others, small_one}
 
 -- ---- the sign
 
@@ -115,10 +116,6 @@ rows_same k c given rows e f l h n j bs is =
     let long : length given ≡ length j.rows + n = ap (λ (z : List (List ℤ)). length z) parts ∙ length-append j.rows (units n n) ∙ ap (λ (m : ℕ). length j.rows + m) (length-units n n) in
     let same : length j.rows ≡ length rows = (let v = is.variables in omega (arith, long, l, v)) in
     region_moved n j k bs c (front_same j.rows (units n n) rows same (subst (λ (z : List (List ℤ)). AgreeTo z rows (length rows)) parts h) ∙ f) is
-  where
-    length-units : (n m : ℕ) → length (units n m) ≡ m
-    length-units n zero = refl
-    length-units n (suc m) = length-append (units n m) (unit n m ∷ []) ∙ (let r = length-units n m in omega (arith, r))
 
 -- ---- the root, as a program reads it
 
@@ -132,11 +129,6 @@ all_ones (x ∷ xs) zero l h = absurd (omega (arith, l))
 all_ones (x ∷ xs) (suc i) l h = ap₂ ◌∷◌ (h zero (omega arith)) (all_ones xs i (omega (arith, l)) (λ j m. h (suc j) (omega (arith, m))))
 
 -- the product of numbers up to 2^32 and below 2^63
-grown : (a b c d : ℕ) → a ≤ c → b ≤ d → a * b ≤ c * d
-grown zero b c d l m = omega arith
-grown (suc a) b zero d l m = absurd (omega (arith, l))
-grown (suc a) b (suc c) d l m = (let r : a * b ≤ c * d = grown a b c d (omega (arith, l)) m in omega (arith, r, m))
-
 pub product_small : (x y : ℤ) → unsigned_abs x ≤ 2 ^ 32 → unsigned_abs y < 2 ^ 63 → unsigned_abs (x *ℤ y) ≤ 2 ^ 95
 product_small x y l m = (let g : unsigned_abs x * unsigned_abs y ≤ (2 ^ 32) * (2 ^ 63) = grown (unsigned_abs x) (unsigned_abs y) (2 ^ 32) (2 ^ 63) l (omega (arith, m)) in omega (arith, g, unsigned_abs-mul x y))
 

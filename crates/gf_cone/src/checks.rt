@@ -1,49 +1,120 @@
 //! Guesses judged by exact arithmetic.
-ghost use Rattle.std.specs.Prelude.{◌≡◌, ◌<◌, ◌<ℤ◌, ◌≤ℤ◌, ℕ, pos, IsTrue, IsFalse, All, length, slice_index_or};
+ghost use Rattle.std.specs.Prelude.{◌≡◌, ◌<◌, ◌<ℤ◌, ◌≤ℤ◌, ◌∷◌, [], ℕ, pos, IsTrue, IsFalse, All, length, slice_index_or};
 ghost use Rattle.gf_vec.specs.Vector.{dot, vector_sum};
-ghost use Rattle.gf_gordan.specs.Alternative.{AreRows};
+ghost use Rattle.gf_gordan.specs.Alternative.{AreRows, IsSolution};
+ghost use Rattle.gf_cone.specs.Small.{IsSmall, IsShort};
+ghost use Rattle.gf_cone.specs.Cones.{all_rows, normal_at, other_rows};
 ghost use Rattle.gf_cone.specs.Crossing.{IsShownBy};
 
-use crate::narrow::dot_of;
+use crate::cone::Cone;
+use crate::narrow::{dot_of, dot_of_small, is_short};
 use gf_vec::{IntVec, total};
 
-/// Whether a vector is zero on `w`, where it is to be zero, or positive, where it isn't. False where a product or sum leaves
+/// Whether a normal is zero on `w`, where it is to be zero, or positive, where it isn't. False where a product or sum leaves
 /// the range.
-fn is_as_asked(vector: &IntVec, zero: bool, w: &[i128]) -> bool
-    requires { length vector.now ≡ length w.now }
-    ensures zero { IsTrue result → IsTrue zero → dot vector.now w.now ≡ pos 0 }
-    ensures positive { IsTrue result → IsFalse zero → pos 0 <ℤ dot vector.now w.now }
+fn is_as_asked(normal: &IntVec, zero: bool, w: &[i128], short: bool) -> bool
+    requires width { length normal.now ≡ length w.now }
+    requires small { IsSmall normal.now }
+    requires short { IsTrue short → IsShort w.now }
+    ensures zero { IsTrue result → IsTrue zero → dot normal.now w.now ≡ pos 0 }
+    ensures positive { IsTrue result → IsFalse zero → pos 0 <ℤ dot normal.now w.now }
 {
-    match dot_of(vector.as_slice(), w) {
+    match dot_of_small(normal.as_slice(), w, short) {
         Some(value) => { if zero { value == 0 } else { value > 0 } }
         None => false,
     }
 }
 
-/// Whether the vector at a place is zero on `w`, and all others are positive. False where a product or sum leaves the range.
-pub(crate) fn shows(vectors: &[IntVec], place: usize, w: &[i128]) -> bool
-    requires { AreRows (length w.now) vectors.now }
-    ensures { IsTrue result → (k : ℕ) → k < length vectors.now → IsShownBy vectors.now place w.now k }
+/// Whether the normal at a place is zero on `w`, and all others are positive. False where a product or sum leaves the range.
+fn normals_show(normals: &[IntVec], place: usize, w: &[i128], short: bool) -> bool
+    requires widths { AreRows (length w.now) normals.now }
+    requires small { All IsSmall normals.now }
+    requires short { IsTrue short → IsShort w.now }
+    ensures { IsTrue result → (k : ℕ) → k < length normals.now → IsShownBy normals.now place w.now k }
 {
-    for k in 0..vectors.len() {
-        if !is_as_asked(&vectors[k], k == place, w) {
+    for k in 0..normals.len() {
+        if !is_as_asked(&normals[k], k == place, w, short) {
             return false;
         }
     }
     true
 }
 
-/// Whether all vectors are positive on `w`. False where a product or sum leaves the range.
-pub(crate) fn all_positive_on(vectors: &[IntVec], w: &[i128]) -> bool
-    requires { AreRows (length w.now) vectors.now }
-    ensures { IsTrue result → All (λ t. pos 0 <ℤ dot t w.now) vectors.now }
+/// Whether all normals are positive on `w`. False where a product or sum leaves the range.
+fn normals_are_positive(normals: &[IntVec], w: &[i128], short: bool) -> bool
+    requires widths { AreRows (length w.now) normals.now }
+    requires small { All IsSmall normals.now }
+    requires short { IsTrue short → IsShort w.now }
+    ensures { IsTrue result → All (λ t. pos 0 <ℤ dot t w.now) normals.now }
 {
-    for k in 0..vectors.len() {
-        if !is_as_asked(&vectors[k], false, w) {
+    for k in 0..normals.len() {
+        if !is_as_asked(&normals[k], false, w, short) {
             return false;
         }
     }
     true
+}
+
+/// Whether a row of a region is positive on `w`. False where a product or sum leaves the range.
+fn is_positive(row: &IntVec, w: &[i128]) -> bool
+    requires { length row.now ≡ length w.now }
+    ensures { IsTrue result → pos 0 <ℤ dot row.now w.now }
+{
+    match dot_of(row.as_slice(), w) {
+        Some(value) => value > 0,
+        None => false,
+    }
+}
+
+/// Whether all rows of a region are positive on `w`. False where a product or sum leaves the range.
+fn rows_are_positive(rows: &[IntVec], w: &[i128]) -> bool
+    requires { AreRows (length w.now) rows.now }
+    ensures { IsTrue result → All (λ t. pos 0 <ℤ dot t w.now) rows.now }
+{
+    for k in 0..rows.len() {
+        if !is_positive(&rows[k], w) {
+            return false;
+        }
+    }
+    true
+}
+
+/// Whether all entries are positive.
+fn all_positive(w: &[i128]) -> bool
+    ensures { IsTrue result → All (λ x. pos 0 <ℤ x) w.now }
+{
+    for x in w {
+        if *x <= 0 {
+            return false;
+        }
+    }
+    true
+}
+
+/// Whether all rows beside the normals are positive on `w`: the entries of `w` are what the unit vectors give. False where a product
+/// or sum leaves the range.
+fn is_positive_beside(cone: &Cone, w: &[i128]) -> bool
+    requires { length w.now ≡ cone.now.variables }
+    ensures { IsTrue result → All (λ t. pos 0 <ℤ dot t w.now) cone.now.beside }
+{
+    all_positive(w) && rows_are_positive(cone.rows(), w)
+}
+
+/// Whether the normal at a place is zero on `w`, and all other rows are positive. False where a product or sum leaves the range.
+pub(crate) fn shows(cone: &Cone, place: usize, w: &[i128]) -> bool
+    requires place { place < length cone.now.normals }
+    requires width { length w.now ≡ cone.now.variables }
+    ensures { IsTrue result → IsSolution cone.now.variables (other_rows cone.now place) (normal_at cone.now place ∷ []) w.now }
+{
+    is_positive_beside(cone, w) && normals_show(cone.normals(), place, w, is_short(w))
+}
+
+/// Whether all rows are positive on `w`. False where a product or sum leaves the range.
+pub(crate) fn all_positive_on(cone: &Cone, w: &[i128]) -> bool
+    requires { length w.now ≡ cone.now.variables }
+    ensures { IsTrue result → IsSolution cone.now.variables (all_rows cone.now) [] w.now }
+{
+    is_positive_beside(cone, w) && normals_are_positive(cone.normals(), w, is_short(w))
 }
 
 /// Whether `a` is the sum of `b` and `c`. False where a sum leaves the range.

@@ -1,5 +1,5 @@
 //! The cone of a marked set.
-ghost use Rattle.std.specs.Prelude.{◌≡◌, ◌<◌, ◌≤◌, ◌∷◌, [], length, All, IfOk, IfErr, IfSome, IsNone, IsTrue};
+ghost use Rattle.std.specs.Prelude.{◌≡◌, ◌<◌, ◌≤◌, ◌-◌, ◌∷◌, [], ◌++◌, length, take, All, IfOk, IfErr, IfSome, IsNone, IsTrue};
 ghost use Rattle.gf_gordan.specs.Alternative.{AreRows, IsSolution};
 ghost use Rattle.gf_cone.specs.Crossing.{IsCrossable};
 ghost use Rattle.gf_gordan.specs.Steps.{Failed};
@@ -8,13 +8,14 @@ ghost use Rattle.gf_gordan.specs.declared.error.GordanError.TheVariants.{Memory}
 ghost use Rattle.gf_facets.specs.Regions.{all_positive};
 ghost use Rattle.gf_facets.specs.Systems.{units};
 ghost use Rattle.gf_facets.specs.Normals.{others_of};
-ghost use Rattle.gf_cone.specs.Small.{IsSmall};
+ghost use Rattle.gf_cone.specs.Small.{IsSmall, IsShort};
 ghost use Rattle.gf_cone.specs.Cones.{all_rows, normal_at, other_rows, IsConeOf, in_region, HasRowsOf, HasInterior, HasUnits};
 ghost use Rattle.gf_cone.specs.Answers.{AnswersFacet, AnswersFlip, IsFacetAnswered, IsFlipToldIn, IsNormalStep};
 
 use crate::answer::{FacetAnswer, FlipAnswer};
 use crate::listing::normals;
 use crate::marking::with_units;
+use crate::narrow::{dot_of, dot_of_small};
 use crate::region::Region;
 use crate::systems::{others, solution_at, solved, with_copies};
 use gf_gordan::GordanError;
@@ -64,6 +65,15 @@ fn made(alloc: Global, set: &MarkedSet, rows: &[IntVec]) -> Result<Cone, AllocEr
     })
 }
 
+/// All of a list but its last vectors, as many as told.
+fn without_last(list: &[IntVec], last: usize) -> &[IntVec]
+    requires { last ≤ length list.now }
+    ensures { result.now ≡ take (length list.now - last) list.now }
+{
+    let (front, _) = list.split_at(list.len() - last);
+    front
+}
+
 impl Cone {
     /// The cone of a marked set, in the region of all positive vectors.
     ///
@@ -110,6 +120,33 @@ impl Cone {
         ensures units { HasUnits self.now }
     {
         self.vectors.as_slice()
+    }
+
+    /// The rows of the region that the cone was made in.
+    pub(crate) fn rows(&self) -> &[IntVec]
+        ensures value { self.now.beside ≡ result.now ++ units self.now.variables self.now.variables }
+        ensures widths { AreRows self.now.variables result.now }
+    {
+        let (_, beside) = self.vectors.as_slice().split_at(self.count);
+        without_last(beside, self.variables as usize)
+    }
+
+    /// What the vector at a place gives on a list of entries, of which it is told whether it is short: what a unit vector gives is an
+    /// entry. None also where a product or sum leaves the range.
+    pub(crate) fn value_at(&self, place: usize, w: &[i128], short: bool) -> Option<i128>
+        requires width { length w.now ≡ self.now.variables }
+        requires short { IsTrue short → IsShort w.now }
+    {
+        let normals = self.normals();
+        if place < normals.len() {
+            return dot_of_small(normals[place].as_slice(), w, short);
+        }
+        let rows = self.rows();
+        let behind = place - normals.len();
+        if behind < rows.len() {
+            return dot_of(rows[behind].as_slice(), w);
+        }
+        w.get(behind - rows.len()).copied()
     }
 
     /// Whether the region that the cone was made in has the same rows as another one.

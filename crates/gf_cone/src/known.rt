@@ -62,13 +62,25 @@ impl Model for KnownCone {
 ///
 /// # Errors
 /// Want of memory.
-fn hints_of(alloc: Global, vectors: &[IntVec], inner: Option<IntVec>) -> Result<Hints, AllocError> {
-    let keys = keys_of(alloc, vectors)?;
+fn values_of(alloc: Global, cone: &Cone, point: &IntVec) -> Result<Vec<i128>, AllocError> {
+    let entries = point.as_slice();
+    if entries.len() != cone.variables() as usize {
+        return Ok(Vec::new(alloc));
+    }
+    match values_on(alloc, cone, entries)? {
+        Some(values) => Ok(values),
+        None => Ok(Vec::new(alloc)),
+    }
+}
+
+/// What speeds up the search in a cone.
+///
+/// # Errors
+/// Want of memory.
+fn hints_of(alloc: Global, cone: &Cone, inner: Option<IntVec>) -> Result<Hints, AllocError> {
+    let keys = keys_of(alloc, cone)?;
     let values = match &inner {
-        Some(point) => match values_on(alloc, vectors, point.as_slice()) {
-            Ok(values) => values,
-            Err(_error) => Vec::new(alloc),
-        },
+        Some(point) => values_of(alloc, cone, point)?,
         None => Vec::new(alloc),
     };
     Ok(Hints {
@@ -101,7 +113,7 @@ impl KnownCone {
     pub fn new(alloc: Global, cone: Cone, inner: Option<IntVec>) -> Result<KnownCone, AllocError>
         ensures { IfOk result (λ k. k ≡ cone) }
     {
-        let hints = hints_of(alloc, cone.vectors(), inner)?;
+        let hints = hints_of(alloc, &cone, inner)?;
         let known = open_entries(alloc, cone.normals().len())?;
         Ok(KnownCone {
             alloc,
@@ -193,7 +205,7 @@ impl KnownCone {
         if entries.len() != self.variables() as usize {
             return false;
         }
-        shows(self.vectors(), place, entries)
+        shows(&self.cone, place, entries)
     }
 
     /// Remembers a vector that shows that a flip may cross the facet of the normal at a place; one that doesn't is dropped.
@@ -247,16 +259,19 @@ impl KnownCone {
 
     /// The place that a shot against the normal at a place hits, and the point.
     fn hit_against(&self, place: usize) -> Option<(usize, IntVec)> {
-        let vectors = self.vectors();
-        let (Some(inner), Some(normal)) = (&self.hints.inner, vectors.get(place)) else {
+        let normals = self.normals();
+        let Some(inner) = &self.hints.inner else {
             return None;
         };
+        if place >= normals.len() {
+            return None;
+        }
         match shot(
             self.alloc,
-            vectors,
+            &self.cone,
             self.hints.values.as_slice(),
             inner.as_slice(),
-            normal.as_slice(),
+            normals[place].as_slice(),
         ) {
             Ok(hit) => hit,
             Err(_error) => None,

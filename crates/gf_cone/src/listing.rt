@@ -105,7 +105,7 @@ fn with_normals(alloc: Global, list: Vec<IntVec>, b: &Marked) -> Result<Vec<IntV
     Ok(more)
 }
 
-/// The normals of a marked set, ascending, each once.
+/// The normals of a marked set, ascending, each once. The list has room for the unit vectors where each member has one normal.
 ///
 /// # Errors
 /// Want of memory.
@@ -115,7 +115,9 @@ pub(crate) fn normals(alloc: Global, set: &MarkedSet) -> Result<Vec<IntVec>, All
     ensures canonical { IfOk result (λ _. AreCanonical set.now.variables set.now.items) }
 {
     let items = set.items();
-    let mut all = Vec::new(alloc);
+    let room = items.len().saturating_add(set.variables() as usize);
+    let empty = Vec::with_capacity(alloc, room)?;
+    let mut all = empty;
     'members: for i in 0..items.len() {
         all = with_normals(alloc, all, &items[i])?;
     }

@@ -1,36 +1,41 @@
 //! A vector of a cone's inside, from a vector inside a facet that it shares with a neighbour.
-ghost use Rattle.std.specs.Prelude.{[], IfSome, IsTrue};
+ghost use Rattle.std.specs.Prelude.{◌≡◌, [], length, IfSome, IsTrue};
 ghost use Rattle.gf_gordan.specs.Alternative.{IsSolution};
 ghost use Rattle.gf_cone.specs.Cones.{all_rows, HasInterior};
 
 use crate::checks::all_positive_on;
 use crate::cone::Cone;
-use crate::shots::{along, combination, vector_of};
+use crate::narrow::is_short;
+use crate::shots::{combination, vector_of};
 use gf_gordan::{Answer, strict};
-use gf_vec::{IntVec, VecError, WideVector, product, quotient, total};
+use gf_vec::{IntVec, VecError, product, quotient, total};
 use std::alloc::Global;
 
 /// Vectors of the inside are kept with entries up to this one where that can be done.
 const LARGEST: i128 = 16384;
 
-/// The least number from 1 on, so many times `near` less `normal` is positive on the rows; none where a row has no such
-/// number.
-///
-/// # Errors
-/// A product or partial sum that leaves the range.
-fn factor_of(rows: &[IntVec], near: &[i128], normal: &[i128]) -> Result<Option<i128>, WideVector> {
+/// The least number from 1 on, so many times `near` less `normal` is positive on all rows; none where a row has no such number, or a
+/// product or sum leaves the range.
+fn factor_of(cone: &Cone, near: &[i128], normal: &[i128]) -> Option<i128>
+    requires near { length near.now ≡ cone.now.variables }
+    requires normal { length normal.now ≡ cone.now.variables }
+{
+    let near_short = is_short(near);
+    let normal_short = is_short(normal);
     let mut factor = 1;
-    for row in rows {
-        let value = along(row.as_slice(), near)?;
-        let slope = along(row.as_slice(), normal)?;
+    for k in 0..cone.vectors().len() {
+        let value = cone.value_at(k, near, near_short)?;
+        let slope = cone.value_at(k, normal, normal_short)?;
         if value > 0 {
-            let least = quotient(total(slope, value)?, value);
-            factor = if least > factor { least } else { factor };
+            if slope > 0 {
+                let least = quotient(total(slope, value).ok()?, value);
+                factor = if least > factor { least } else { factor };
+            }
         } else if slope >= 0 {
-            return Ok(None);
+            return None;
         }
     }
-    Ok(Some(factor))
+    Some(factor)
 }
 
 /// The least multiple of `near` that, less `normal`, is positive on the rows; divided by its content.
@@ -39,11 +44,15 @@ fn factor_of(rows: &[IntVec], near: &[i128], normal: &[i128]) -> Result<Option<i
 /// An operation that leaves the range; want of memory.
 fn moved(
     alloc: Global,
-    rows: &[IntVec],
+    cone: &Cone,
     near: &[i128],
     normal: &[i128],
 ) -> Result<Option<IntVec>, VecError> {
-    match factor_of(rows, near, normal)? {
+    let n = cone.variables() as usize;
+    if near.len() != n || normal.len() != n {
+        return Ok(None);
+    }
+    match factor_of(cone, near, normal) {
         Some(factor) => Ok(vector_of(combination(alloc, factor, near, 1, normal)?)),
         None => Ok(None),
     }
@@ -89,7 +98,7 @@ pub fn is_inside(cone: &Cone, v: &IntVec) -> bool
     if entries.len() != cone.variables() as usize {
         return false;
     }
-    all_positive_on(cone.vectors(), entries)
+    all_positive_on(cone, entries)
 }
 
 /// A vector of the inside with small entries, near another vector: the first rounding of it that is in the inside.
@@ -133,7 +142,7 @@ pub fn interior_near(
 ) -> Option<IntVec>
     ensures { IfSome result (IsSolution cone.now.variables (all_rows cone.now) []) }
 {
-    match moved(alloc, cone.vectors(), witness.as_slice(), normal.as_slice()) {
+    match moved(alloc, cone, witness.as_slice(), normal.as_slice()) {
         Ok(Some(point)) => kept_small(alloc, cone, point),
         _ => fresh(alloc, cone),
     }

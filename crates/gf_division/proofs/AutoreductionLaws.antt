@@ -10,7 +10,7 @@ use Rattle.gf_frac.specs.Fraction.{◌*ℚ◌}
 use Rattle.gf_frac.proofs.FractionLaws.{*ℚ_cancel}
 use Rattle.gf_exponents.specs.Exponents.{same}
 use Rattle.gf_exponents.specs.Orders.{lighter}
-use Rattle.gf_exponents.proofs.ExponentsLaws.{same-refl, same_flip, same_of, same_trans}
+use Rattle.gf_exponents.proofs.ExponentsLaws.{same_flip, same_of, same_trans}
 use Rattle.gf_exponents.proofs.OrderLaws.{lighter-strict}
 use Rattle.gf_poly.specs.Polynomial.{Terms, coefficient, SamePolynomial, HasVariables}
 use Rattle.gf_poly.specs.Marking.{MarkedPolynomial, MarkedPolynomials, HaveVariables, IsArranged}
@@ -27,6 +27,7 @@ use Rattle.gf_ideal.proofs.MarkWeights.{monic_realised}
 use Rattle.gf_ideal.proofs.InterreductionLaws.{divisible_through, interreduced, reduced-tails, apart-tails, tail-marked, reduced_by_weight}
 use Rattle.gf_ideal.proofs.ArrangementLaws.{reduced-arranged}
 use Rattle.gf_ideal.proofs.KeptForms.{arranged_list}
+use Rattle.gf_ideal.proofs.DividingLaws.{divisible_itself}
 use Rattle.gf_division.specs.MonicForms.{IsMadeMonic}
 use Rattle.gf_division.specs.NormalForms.{HasSomeWeight}
 use Rattle.gf_division.specs.Autoreduction.{IsNeededForm, AreNeededForms, IsAutoreduced, IsBasisOnceMonic, IsReducedOf, ShareSomeVariables, KeepVariables, IsKeptForm, AreKeptForms}
@@ -158,14 +159,11 @@ tails_marked n w bs ks cs t r a = all_marked w ks ks cs (forms_marked w bs ks r 
 pub autoreduced_marked : (n : ℕ) (bs ks cs : List MarkedPolynomial) (t : MarkedPolynomials) → IsRealisable n bs → Autoreducing n bs ks cs t → HasPositiveWeight n t.items
 autoreduced_marked n bs ks cs t r a = (r.0, r.1, λ c l. tails_marked n r.0 bs ks cs t r.2 a c (Contains-permutation t.items cs c (IsPermutation-sym cs t.items a.arranged.members) l))
 
-itself : (ks : List MarkedPolynomial) (k : MarkedPolynomial) → Contains ks k → IsDivisible (Contains ks) k.head
-itself ks k c = record { member = k; contained = c; rest = []; divides = same-refl k.head }
-
 pub autoreduced_reduced : (n : ℕ) (bs ks cs : List MarkedPolynomial) (t : MarkedPolynomials) → Autoreducing n bs ks cs t → IsReducedOf n bs t.items
 autoreduced_reduced n bs ks cs t a = record { at = λ fs w v b p r. record { positive = p; reduced = reduced-arranged n fs (lighter w) (IsHeaviest w) cs t.items a.arranged.members (all fs w v b p r).reduced } }
   where
     all : (fs : List Terms) (w : List ℕ) → AreInVariables n fs → IsBasisOnceMonic n fs bs → IsPositive n w → ((b : MarkedPolynomial) → Contains bs b → IsRealisedBy w b) → IsReducedBasis n fs w cs
     all fs w v b p r =
         reduced_by_weight n fs cs w v
-        (interreduced n fs ks ks cs v (forms_basis n fs w bs ks p r a.needed b) (λ k q. q) (itself ks) a.tails.tails)
+        (interreduced n fs ks ks cs v (forms_basis n fs w bs ks p r a.needed b) (λ k q. q) (divisible_itself ks) a.tails.tails)
         p (tails_marked n w bs ks cs t r a) (reduced-tails ks cs a.tails.tails) (apart n bs ks cs t a)

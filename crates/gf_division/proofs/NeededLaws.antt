@@ -1,6 +1,6 @@
 -- Which members of a marked list are needed: the marks of those divide each mark, and none divides another.
 -- To cite: NeededSoFar, needed_none, needed_by_test, needed_end, Forming, forming-none, forming-more, forming-skipped,
--- forming_end, forming_variables, needed_divisible, member_refused.
+-- forming_end, forming_variables, needed_divisible.
 use Rattle.std.specs.Prelude.{◌≡◌, ◌⊎◌, ℕ, zero, suc, ◌+◌, ◌<◌, ◌≤◌, Bool, true, false, List, [], ◌∷◌, ◌++◌, length, Contains, nat_lt}
 use Rattle.std.proofs.Common.{arith, refl, sym, ◌∙◌, subst, inl, inr, get_or}
 use Rattle.std.proofs.lemmas.Bool.{cases_lt}
@@ -18,6 +18,7 @@ use Rattle.gf_ideal.specs.Reduction.{IsDivisible}
 use Rattle.gf_ideal.specs.Settled.{IsAt}
 use Rattle.gf_ideal.specs.Bases.{AreApart}
 use Rattle.gf_ideal.proofs.ListLaws.{each_contained, contained_each, Contains-here, Contains-there}
+use Rattle.gf_ideal.proofs.RingLaws.{degree-none}
 use Rattle.gf_division.specs.MonicForms.{IsMadeMonic, IsMonicRefusal}
 use Rattle.gf_division.specs.Autoreduction.{IsNeeded, IsNeededForm, AreNeededForms, MakesNeedless, IsNeededAt, KeepVariables, IsNeededRefusal}
 use Rattle.gf_division.proofs.ReducerLaws.{members_equal, member_contained, member_variables}
@@ -49,11 +50,6 @@ divides_or_not x y = elim (multiple_or_not x y) [
         let t : same y (plus x d.rest) ≡ true = same_trans y (plus d.rest x) (plus x d.rest) d.product (same_of (plus d.rest x) (plus x d.rest) (plus_comm d.rest x)) in
         cc
 
-zero_degree : (x : Exponents) → degree x ≡ 0 → same x [] ≡ true
-zero_degree [] e = refl
-zero_degree (zero ∷ x) e = zero_degree x (omega (arith, e))
-zero_degree (suc a ∷ x) e = absurd (omega (arith, e))
-
 -- a divisor of the same degree is the same monomial
 divisor_degree : (x y : Exponents) → Divides x y → (same x y ≡ true) ⊎ (degree x < degree y)
 divisor_degree x y d = at (cases_lt (degree x) (degree y))
@@ -64,7 +60,7 @@ divisor_degree x y d = at (cases_lt (degree x) (degree y))
     at : (degree x < degree y) ⊎ (degree y ≤ degree x) → (same x y ≡ true) ⊎ (degree x < degree y)
     at (inl l) = inr l
     at (inr g) =
-        let z : same d.rest [] ≡ true = zero_degree d.rest (omega (arith, whole, g)) in
+        let z : same d.rest [] ≡ true = degree-none d.rest (omega (arith, whole, g)) in
         inl (same_by_entries x y (λ i. omega (arith, entries_same y (plus d.rest x) d.product i, entry-plus d.rest x i, entries_same d.rest [] z i)))
 
 -- ---- one member

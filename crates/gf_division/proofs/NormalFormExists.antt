@@ -24,7 +24,7 @@ use Rattle.gf_ideal.specs.NormalForms.{IsRuleStep, IsRuleReached, IsNormalForm}
 use Rattle.gf_ideal.specs.Settled.{IsAt}
 use Rattle.gf_ideal.proofs.ListLaws.{Contains-cases, Each-weaker, collect, contained_each}
 use Rattle.gf_ideal.proofs.ListedTerms.{listed, by_terms}
-use Rattle.gf_ideal.proofs.RingLaws.{ring-along, ring-left, ring-plus}
+use Rattle.gf_ideal.proofs.RingLaws.{ring-along, ring-left, ring-plus, entry-degree}
 use Rattle.gf_ideal.proofs.LeadingLaws.{top_greatest}
 use Rattle.gf_ideal.proofs.DivisionLaws.{NoMark, divisible_or_not, undivided}
 use Rattle.gf_ideal.proofs.MeasureLaws.{work_left-at}
@@ -145,11 +145,6 @@ step_or_end bs f = at ((top_greatest IsDeglexBelow deglex-order).some (divisible
 record IsSmallBy (k : ℕ) (x : Exponents) : Type 0 where
   entries : (i : ℕ) → entry x i ≤ k
   ring : IsInRing k x
-
-entry-degree : (x : Exponents) (i : ℕ) → entry x i ≤ degree x
-entry-degree [] i = omega arith
-entry-degree (a ∷ x) zero = omega arith
-entry-degree (a ∷ x) (suc i) = omega (arith, entry-degree x i)
 
 small-more : (x : Exponents) (k l : ℕ) → k ≤ l → IsSmallBy k x → IsSmallBy l x
 small-more x k l h b = record { entries = λ i. omega (arith, h, b.entries i); ring = λ i m. b.ring i (omega arith) }

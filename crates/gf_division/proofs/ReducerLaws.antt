@@ -1,6 +1,5 @@
 -- The search for the first member whose mark divides a monomial, and for a term that a member reduces.
--- To cite: NoneDivides, divisor_at, divides-degree, beside_by_test, not_beside_by_test, Seeking, seeking-more,
--- first_variables, sought_at.
+-- To cite: NoneDivides, divisor_at, divides-degree, beside_by_test, not_beside_by_test, Seeking, seeking-more.
 use Rattle.std.specs.Prelude.{◌≡◌, ℕ, ◌<◌, ◌≤◌, Bool, true, false, List, [], ◌∷◌, length, Contains, Some, IsTrue, not}
 use Rattle.std.specs.declared.option.Option.{Option}
 use Rattle.std.proofs.Common.{arith, refl, sym, ap, ◌∙◌, subst, get_or}
@@ -25,6 +24,7 @@ use Rattle.gf_division.specs.Reducers.{IsDivisorAt, IsBeside, IsSpareIn, AreIrre
 use Rattle.gf_division.specs.MonicForms.{HasSomeVariables}
 use Rattle.gf_division.proofs.DividendLaws.{terms_down, first_length}
 use Rattle.gf_division.proofs.StepLaws.{head_length}
+pub use Rattle.gf_ideal.proofs.DividingLaws.{member_contained}
 
 -- ---- members
 
@@ -38,9 +38,6 @@ member_at bs j b l e = record { within = l; is = sym e }
 
 pub members_equal : (bs : List MarkedPolynomial) (j : ℕ) (b c : MarkedPolynomial) → IsAt bs j b → IsAt bs j c → b ≡ c
 members_equal bs j b c h k = sym h.is ∙ get_or_default bs j b c h.within ∙ k.is
-
-pub member_contained : (bs : List MarkedPolynomial) (j : ℕ) (b : MarkedPolynomial) → IsAt bs j b → Contains bs b
-member_contained bs j b h = (j, h.within, h.is)
 
 pub member_variables : (n : ℕ) (bs : List MarkedPolynomial) (b : MarkedPolynomial) → HaveVariables n bs → Contains bs b → HasVariables n b.poly
 member_variables n bs b v c = contained_each (λ (b : MarkedPolynomial). HasVariables n b.poly) bs v b c

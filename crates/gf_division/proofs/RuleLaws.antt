@@ -1,7 +1,7 @@
 -- The rule of the normal form: the step that the search leads to is the rule's, it leaves less work, and its refusal is one
 -- of the reduction.
--- To cite: share_along, Found, found_at, found_shares, found_divides, RuleFacts, rule_facts, rule_step, step-of_rule, keeps_step, front_irreducible, irreducible_whole,
--- less_work, operation_more, exponents_more, reduction_refused.
+-- To cite: share_along, Found, found_at, found_shares, found_divides, RuleFacts, rule_facts, rule_step, keeps_step,
+-- front_irreducible, irreducible_whole, less_work, operation_more, exponents_more, reduction_refused.
 use Rattle.std.specs.Prelude.{◌≡◌, ◌⊎◌, ℕ, ◌<◌, ◌^◌, Bool, true, false, List, [], ◌∷◌, ◌++◌, length, Contains, None}
 use Rattle.std.specs.declared.option.Option.{Option}
 use Rattle.std.specs.Ordering.{MatchOrdering}
@@ -38,10 +38,11 @@ use Rattle.gf_division.specs.Reducers.{IsBeside, AreIrreducible, ShareVariables,
 use Rattle.gf_division.proofs.DescendingParts.{descending-back, variables-back}
 use Rattle.gf_division.proofs.DividendLaws.{first_head, first_length}
 use Rattle.gf_division.proofs.ReducerLaws.{members_equal, member_contained}
+pub use Rattle.gf_ideal.proofs.DividingLaws.{divisible_along}
 
 -- ---- after a search
 
-sound_same : (n : ℕ) (s t : Split) → joined_terms t ≡ joined_terms s → IsSound n s → IsSound n t
+pub sound_same : (n : ℕ) (s t : Split) → joined_terms t ≡ joined_terms s → IsSound n s → IsSound n t
 sound_same n s t e h = record { descending = subst IsDescending (sym e) h.descending; variables = subst (HasVariables n) (sym e) h.variables }
 
 pub share_along : (s t : Split) (bs : List MarkedPolynomial) (spared : Option Exponents) → joined_terms t ≡ joined_terms s → ShareVariables s bs spared → ShareVariables t bs spared
@@ -104,9 +105,6 @@ below_first n x y l m g = at (deglex x y) (deglex-compares x y (l ∙ sym m)) g
     at Less h e = absurd (cc)
     at Equal h e = absurd (cc)
     at Greater h e = h
-
-pub divisible_along : (by : MarkedPolynomial → Type 0) (x y : Exponents) → same x y ≡ true → IsDivisible by x → IsDivisible by y
-divisible_along by x y s d = record { member = d.member; contained = d.contained; rest = d.rest; divides = sym (same_along x y (plus d.rest d.member.head) s) ∙ d.divides }
 
 -- no multiple, where it doesn't divide
 pub no_multiple : (h x : Exponents) → (Divides h x → ⊥) → NoMultiple h x

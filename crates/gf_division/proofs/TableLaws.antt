@@ -1,6 +1,6 @@
 -- A table of coefficients: where a key stands, what a new coefficient there makes of the terms, and the steps.
--- To cite: new_more, popped_more, popped_all, taken_there, taken_new, refused_there, cut_at, subtracting-none, table_step, table_refused, shares_there,
--- divides_there, stepped, less_stepped, refused_step, started, ended.
+-- To cite: new_more, taken_there, taken_new, refused_there, cut_at, subtracting-none, table_step, table_refused, stepped,
+-- less_stepped, ended.
 use Rattle.std.specs.Prelude.{◌≡◌, ◌≢◌, ◌<◌, ◌^◌, ℕ, List, [], ◌∷◌, ◌++◌, length, cond, Some, None, Ok, Err}
 use Rattle.std.specs.declared.option.Option.{Option}
 use Rattle.std.specs.Ordering.{match_ordering, is_eq, ordering_reverse}
@@ -8,7 +8,7 @@ use Rattle.std.specs.declared.cmp.Ordering.{Ordering}
 use Rattle.std.specs.declared.cmp.Ordering.TheVariants.{Less, Equal, Greater}
 use Rattle.std.specs.BTreeMap.{insert_entry, is_at}
 use Rattle.std.specs.Map.{remove_entry}
-use Rattle.std.proofs.Common.{refl, sym, ap, ◌∙◌, subst, inl, inr, get_or, drop, append_assoc, append-nil, arith}
+use Rattle.std.proofs.Common.{refl, sym, ap, ◌∙◌, subst, inl, inr, get_or, drop, append_assoc, append-nil}
 use Rattle.std.proofs.lemmas.Cmp.{tied_itself}
 use Rattle.gf_frac.specs.Fraction.{Fraction, ◌-ℚ◌, neg_ℚ, zero_ℚ}
 use Rattle.gf_exponents.specs.Exponents.{Exponents, plus, Divides}
@@ -21,20 +21,19 @@ use Rattle.gf_poly.specs.Marking.{MarkedPolynomial}
 use Rattle.gf_poly.proofs.DescendingLaws.{deglex-total, equal_same}
 use Rattle.gf_ideal.specs.Marks.{AreMarked}
 use Rattle.gf_ideal.specs.Measure.{work_left}
-use Rattle.gf_ideal.specs.Settled.{IsAt}
 use Rattle.gf_division.specs.declared.table.Key.{Key}
 use Rattle.gf_division.specs.Steps.{IsStepRefusal}
-use Rattle.gf_division.specs.Dividends.{Split, joined_terms, IsSound, IsTermInFront, AreOver, AreOverProducts, FirstIs, Descends, TakesFromFirst, TakesAway, IsDifferenceRefusal, Subtracts, IsSubtractionRefusal, SharesVariables, TakesStep}
+use Rattle.gf_division.specs.Dividends.{Split, joined_terms, IsSound, IsTermInFront, AreOver, FirstIs, Descends, TakesFromFirst, TakesAway, IsDifferenceRefusal, Subtracts, IsSubtractionRefusal, TakesStep}
 use Rattle.gf_division.specs.Reducers.{IsReducibleFirst, ShareVariables}
-use Rattle.gf_division.specs.Remainders.{IsWorkedOn, IsWorkRefusal}
+use Rattle.gf_division.specs.Remainders.{IsWorkedOn}
 use Rattle.gf_division.specs.Tables.{key_order, terms_in, coefficient_in, Puts, IsCutAt, StepsFrom, IsReducibleAt}
 use Rattle.gf_division.proofs.DescendingParts.{descending-back}
 use Rattle.gf_division.proofs.SubtractionLaws.{Subtracting, neg-nonzero, taken_at, taken_beside, refused_at}
 use Rattle.gf_division.proofs.DividendLaws.{first_head, first_coefficient, first_nonzero, first_length}
 use Rattle.gf_division.proofs.StepLaws.{sound_along, step_facts, step_refused}
-use Rattle.gf_division.proofs.ReducerLaws.{members_equal, member_contained, member_variables}
 use Rattle.gf_division.proofs.RuleLaws.{Found, share_along, found_at}
-use Rattle.gf_division.proofs.RemainderLaws.{worked-none, worked-more, worked-same, worked_along, less_found, work_refused}
+use Rattle.gf_division.proofs.RemainderLaws.{worked-more, worked-same, worked_along, less_found}
+use Rattle.gf_division.proofs.SPolynomialLaws.{over_nothing}
 
 -- ---- one entry
 
@@ -154,13 +153,6 @@ new_more f r g t es new d q e n =
     let a = (descending-back r (t ∷ terms_in es) (subst IsDescending (sym w) d)).1 in
     ap (λ (z : Terms). r ++ z) (ap terms_in n ∙ put_first (record { mono = t.mono }) t.coef es a) ∙ w
 
-pub popped_more : (f g : Terms) (k : Key) (c : Fraction) (es new : List (Key × Fraction)) → es ≡ (k, c) ∷ new → g ++ terms_in es ≡ f → (g ++ record { coef = c; mono = k.mono } ∷ []) ++ terms_in new ≡ f
-popped_more f g k c es new e h = append_assoc g (record { coef = c; mono = k.mono } ∷ []) (terms_in new) ∙ ap (λ (z : Terms). g ++ z) (sym (ap terms_in e)) ∙ h
-
-pub popped_all : (f g : Terms) (es : List (Key × Fraction)) → (0 < length es → ⊥) → g ++ terms_in es ≡ f → g ≡ f
-popped_all f g [] n h = sym (append-nil g) ∙ h
-popped_all f g (e ∷ es) n h = absurd (n (omega arith))
-
 -- ---- a new coefficient
 
 -- the whole below the place
@@ -247,12 +239,8 @@ cut_nonzero n f t v c = first_nonzero n c.cut t (cut_sound n f t v c) c.first
 
 -- ---- a multiple
 
-over_none : (u : Exponents) (g : Terms) → AreOverProducts u g []
-over_none u [] = tt
-over_none u (t ∷ g) = (tt, over_none u g)
-
 pub subtracting-none : (c : Fraction) (u : Exponents) (g f : Terms) → IsSound (length u) (whole f) → Subtracting c u g (whole f) (whole f) 0
-subtracting-none c u g f s = record { same = λ y. ap (λ (z : Terms). coefficient z y) (sym (append-nil f)); sound = s; passed = []; above = refl; over = over_none u (drop 0 g) }
+subtracting-none c u g f s = record { same = λ y. ap (λ (z : Terms). coefficient z y) (sym (append-nil f)); sound = s; passed = []; above = refl; over = over_nothing u (drop 0 g) }
 
 -- ---- a step
 
@@ -291,16 +279,6 @@ reducible_first_in bs spared f t j r = record { term = t; is = r.there.first; di
 abbrev pub found_there : (bs : List MarkedPolynomial) (spared : Option Exponents) (now : Split) (t : Term) (j : ℕ) (b : MarkedPolynomial) → b ≡ get_or bs j b → ShareVariables now bs spared → (r : IsReducibleAt bs spared (joined_terms now) t j) → Found bs spared r.there.cut j b
 found_there bs spared now t j b e v r = found_at bs spared r.there.cut j b e (share_along now r.there.cut bs spared r.there.same v) (reducible_first_in bs spared (joined_terms now) t j r)
 
--- the member as it is read
-member_there : (bs : List MarkedPolynomial) (spared : Option Exponents) (f : Terms) (t : Term) (j : ℕ) (b : MarkedPolynomial) → b ≡ get_or bs j b → IsReducibleAt bs spared f t j → IsAt bs j b
-member_there bs spared f t j b e r = record { within = r.divisor.at.within; is = sym e }
-
-pub shares_there : (bs : List MarkedPolynomial) (spared : Option Exponents) (now : Split) (t : Term) (j : ℕ) (b : MarkedPolynomial) → b ≡ get_or bs j b → ShareVariables now bs spared → IsReducibleAt bs spared (joined_terms now) t j → SharesVariables b now
-shares_there bs spared now t j b e v r = record { n = v.n; sound = v.sound; poly = member_variables v.n bs b v.members (member_contained bs j b (member_there bs spared (joined_terms now) t j b e r)) }
-
-pub divides_there : (bs : List MarkedPolynomial) (spared : Option Exponents) (f : Terms) (t : Term) (j : ℕ) (b : MarkedPolynomial) → b ≡ get_or bs j b → IsReducibleAt bs spared f t j → Divides b.head t.mono
-divides_there bs spared f t j b e r = subst (λ (d : MarkedPolynomial). Divides d.head t.mono) (members_equal bs j r.divisor.member b r.divisor.at (member_there bs spared f t j b e r)) r.divisor.divides
-
 pub stepped : (bs : List MarkedPolynomial) (spared : Option Exponents) (old now new : Split) (t : Term) (j : ℕ) (b : MarkedPolynomial) → b ≡ get_or bs j b → IsReducibleAt bs spared (joined_terms now) t j → StepsFrom b (joined_terms now) t new → IsWorkedOn bs spared old now → IsWorkedOn bs spared old new
 stepped bs spared old now new t j b e r h k =
     let s = h.step r.there.cut r.there.same r.there.first in
@@ -311,16 +289,7 @@ less_stepped bs spared w now new t j b e m v r h =
     let s = h.step r.there.cut r.there.same r.there.first in
     less_found bs spared w now r.there.cut new j b s.0 r.there.same m (found_there bs spared now t j b e v r) s.1
 
-pub refused_step : (bs : List MarkedPolynomial) (spared : Option Exponents) (old now : Split) (t : Term) (j : ℕ) (b : MarkedPolynomial) (e : PolyError) → b ≡ get_or bs j b → IsReducibleAt bs spared (joined_terms now) t j → IsWorkedOn bs spared old now → IsStepRefusal (joined_terms now) b t.mono e → IsWorkRefusal bs spared (joined_terms old) e
-refused_step bs spared old now t j b e q r k w =
-    let s = r.there.cut in
-    work_refused bs spared old now s j b e r.there.same (found_there bs spared now t j b q k.variables r) k
-    (subst (λ (x : Exponents). IsStepRefusal (joined_terms s) b x e) (first_head s.below t r.there.first) (subst (λ (z : Terms). IsStepRefusal z b t.mono e) (sym r.there.same) w))
-
 -- ---- from the lists to the table and back
-
-pub started : (bs : List MarkedPolynomial) (spared : Option Exponents) (old : Split) (f : Terms) (s : Split) → ShareVariables old bs spared → f ≡ joined_terms old → s ≡ whole f → IsWorkedOn bs spared old s
-started bs spared old f s v e q = worked-same bs spared old old s (ap joined_terms q ∙ e) (worked-none bs spared old v)
 
 pub ended : (bs : List MarkedPolynomial) (spared : Option Exponents) (old start now new : Split) (g : Terms) → IsWorkedOn bs spared old start → IsWorkedOn bs spared start now → g ≡ joined_terms now → new ≡ whole g → IsWorkedOn bs spared old new
 ended bs spared old start now new g h k e q = worked-same bs spared old now new (ap joined_terms q ∙ e) (worked_along bs spared old start now h k)

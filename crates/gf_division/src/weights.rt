@@ -118,7 +118,7 @@ fn fits_all(weight: &mut [i64], rows: &[i64], n: usize) -> bool
     is_positive(weight) && fits
 }
 
-// How many rounds there are at most, each of which goes through so many entries.
+/// How many rounds there are at most, each of which goes through so many entries.
 fn rounds_of(most: u64, entries: usize) -> u64 {
     if entries == 0 {
         return most;

@@ -10,6 +10,7 @@ pub mod SystemLaws  -- positive weights are the solutions of a system
 pub mod LexPositiveLaws  -- lex-positive vectors: sums, multiples, combinations
 pub mod PointsByLex  -- points by a linear map with lex-positive values
 pub mod VectorOrder  -- the order of vectors
+pub mod AscendingLaws  -- ascending lists of vectors
 pub mod RootSignLaws  -- the root sign of a program
 pub mod NormalListLaws  -- the list of the normals; the others of one
 pub mod FacetSystems  -- facet or combination, flippable or combination

@@ -1,20 +1,24 @@
 -- A run that takes the pairs in turn, one step further, and its end: a reduced Gröbner basis.
--- To cite: turn_reducers, taken_start, entered-none, entered-more, entered-skipped, entered-all, turning-start, turning-more, turning-row, turn_end.
-use Rattle.std.proofs.Common.{◌≡◌, ◌≢◌, ◌⊎◌, ℕ, zero, suc, ◌+◌, ◌<◌, ◌≤◌, Bool, true, false, List, [], ◌∷◌, ◌++◌, length, Contains, slice_index_or, arith, sym, ap, ◌∙◌, subst, inl, inr}
+-- To cite: turn_reducers, taken_start, entered-none, entered-more, entered-skipped, entered-all, turning-start, front_variables, chained_by, turned_on, turning-more, turning-row, turn_end.
+use Rattle.std.proofs.Common.{◌≡◌, ◌≢◌, ◌⊎◌, ℕ, zero, suc, ◌+◌, ◌<◌, ◌≤◌, Bool, true, false, List, [], ◌∷◌, ◌++◌, length, take, Contains, Some, None, IfSome, slice_index_or, arith, refl, sym, ap, ◌∙◌, subst, inl, inr}
+use Rattle.std.specs.Option.{is_some}
+use Rattle.std.specs.declared.option.Option.{Option}
 use Rattle.std.proofs.lemmas.Bool.{cases_lt}
 use Rattle.std.proofs.lemmas.List.{get_or_default}
 use Rattle.gf_exponents.specs.SixOrders.{MonomialOrder, below_of}
 use Rattle.gf_exponents.proofs.SixOrdersLaws.{order-is}
 use Rattle.gf_poly.specs.Polynomial.{Terms, HasVariables, IsDescending, coefficient}
 use Rattle.gf_frac.specs.Fraction.{one_ℚ}
-use Rattle.gf_exponents.specs.Exponents.{Exponents, same}
-use Rattle.gf_poly.specs.Marking.{MarkedPolynomial, polys, head_of, IsMonicOf, HasMark, HasMarkedTerm}
+use Rattle.gf_exponents.specs.Exponents.{Exponents, same, plus, minus, join, Divides}
+use Rattle.gf_exponents.proofs.ExponentsLaws.{same_of}
+use Rattle.gf_poly.specs.Marking.{MarkedPolynomial, polys, head_of, Each, HaveVariables, IsMonicOf, HasMark, HasMarkedTerm}
+use Rattle.gf_poly.proofs.MonomialLaws.{length-join, plus-minus}
 use Rattle.gf_ideal.specs.Membership.{HasMonomial, AreInVariables, IsInVariables, IsMember}
 use Rattle.gf_ideal.specs.Marks.{AreMarked}
 use Rattle.gf_ideal.specs.Reduction.{Reached, IsKept, IsMonicForm}
 use Rattle.gf_ideal.specs.Settled.{IsAt, IsSettledPair}
 use Rattle.gf_ideal.specs.WorkLists.{IsOrigin, IsWorkList}
-use Rattle.gf_ideal.proofs.CriteriaLaws.{pair_by_steps, pair_by_product, pair_by_monomials, pair_more}
+use Rattle.gf_ideal.proofs.CriteriaLaws.{pair_by_steps, pair_by_product, pair_by_monomials, pair_by_chain, pair_turned, pair_more}
 use Rattle.gf_ideal.proofs.GeneratorLaws.{entered-zero, entered-appended}
 use Rattle.gf_ideal.proofs.KeptForms.{monic_form}
 use Rattle.gf_ideal.proofs.ListLaws.{Contains-last}
@@ -26,6 +30,7 @@ use Rattle.gf_ideal.proofs.StepLaws.{reached-more}
 use Rattle.gf_ideal.proofs.WorkLaws.{run_basis, work-marked}
 use Rattle.gf_division.proofs.MonicLaws.{monic_already}
 use Rattle.gf_division.proofs.StepLaws.{head_length, term_coefficient}
+use Rattle.gf_division.specs.Reducers.{IsDivisorAt}
 use Rattle.gf_division.specs.SPolynomials.{KeepsPairVariables, IsSPolynomialOf}
 use Rattle.gf_buchberger.specs.Leading.{IsComparable, IsLeadingAt}
 use Rattle.gf_buchberger.specs.Jobs.{IsBasisJob}
@@ -33,9 +38,9 @@ use Rattle.gf_buchberger.specs.Runs.{MembersHaveVariables, AreReducers, IsAppend
 use Rattle.gf_buchberger.proofs.AppendLaws.{contained_at, marked_greatest, is_marked, member_length}
 use Rattle.gf_buchberger.proofs.BasesOfRuns.{IsEnd}
 use Rattle.gf_buchberger.proofs.JobLaws.{ring_variables, run_weight}
-use Rattle.gf_buchberger.proofs.ReducedPairLaws.{AreRead, are_read, s_polynomial_is, s_polynomial_variables}
+use Rattle.gf_buchberger.proofs.ReducedPairLaws.{AreRead, are_read, variables_each, s_polynomial_is, s_polynomial_variables}
 use Rattle.gf_buchberger.proofs.RunSteps.{in_variables, length-last, contained_old}
-use Rattle.gf_flip.specs.Turns.{ArePairExcused, IsMadeFrom, IsGrown, IsTakenIn, IsPairTaken, IsUnderway, IsOfKind, AreTakenInWhere, IsEarlier, IsTurning, AreKeptIn}
+use Rattle.gf_flip.specs.Turns.{ArePairExcused, IsChained, IsMadeFrom, IsGrown, IsTakenIn, IsPairTaken, IsUnderway, IsOfKind, AreTakenInWhere, IsEarlier, IsTurning, AreKeptIn}
 use Rattle.gf_division.proofs.ReducerLaws.{members_equal}
 use Rattle.std.proofs.lemmas.List.Elements.{Contains-push}
 
@@ -223,21 +228,101 @@ earlier_or_here : (p q i j : ℕ) → IsEarlier p q (i + 1) j → IsEarlier p q 
 earlier_or_here p q i j (inl l) = inl (inl l)
 earlier_or_here p q i j (inr (e, l)) = elim (cases_lt p i) [ inl m ↦ inl (inr (e, m)) | inr m ↦ inr (omega arith, e) ]
 
+-- with the pair of i and j all pairs before the next one are settled
+settled_to : (order : MonomialOrder) (n : ℕ) (fs : List Terms) (bs : List MarkedPolynomial) (i j : ℕ) (b c : MarkedPolynomial) → IsTurning order n fs bs i j → IsAt bs i b → IsAt bs j c → IsSettledPair n bs (below_of order) b c → IsTurning order n fs bs (i + 1) j
+settled_to order n fs bs i j b c t x y h = record { underway = t.underway; settled = λ p q d g s r u v. at p q d g s (earlier_or_here p q i j r) u v }
+  where
+    at : (p q : ℕ) (d g : MarkedPolynomial) → p < q → IsEarlier p q i j ⊎ ((p ≡ i) × (q ≡ j)) → IsAt bs p d → IsAt bs q g → IsSettledPair n bs (below_of order) d g
+    at p q d g s (inl r) u v = t.settled p q d g s r u v
+    at p q d g s (inr r) u v =
+        subst (λ (z : MarkedPolynomial). IsSettledPair n bs (below_of order) z g) (members_equal bs i b d x (subst (λ (z : ℕ). IsAt bs z d) r.0 u))
+        (subst (λ (z : MarkedPolynomial). IsSettledPair n bs (below_of order) b z) (members_equal bs j c g y (subst (λ (z : ℕ). IsAt bs z g) r.1 v)) h)
+
+-- an excused pair is settled
+excused_pair : (order : MonomialOrder) (n : ℕ) (fs : List Terms) (bs : List MarkedPolynomial) (i j : ℕ) (b c : MarkedPolynomial) → IsUnderway order n fs bs → IsAt bs i b → IsAt bs j c → ArePairExcused b c → IsSettledPair n bs (below_of order) b c
+excused_pair order n fs bs i j b c w x y (inl s) = pair_by_monomials n bs (below_of order) b c (in_variables n bs w.variables) (order-is order).strict (underway_marked order n fs bs w) (contained_at bs i b x) (contained_at bs j c y) s.0 s.1
+excused_pair order n fs bs i j b c w x y (inr s) = pair_by_product n bs (below_of order) b c (in_variables n bs w.variables) (order-is order).strict (underway_marked order n fs bs w) (contained_at bs i b x) (contained_at bs j c y) s
+
+-- the first members, at their places
+at_front : (bs : List MarkedPolynomial) (i k : ℕ) (d : MarkedPolynomial) → IsAt (take i bs) k d → IsAt bs k d × (k < i)
+at_front bs zero k d h = absurd (omega (arith, h.within))
+at_front [] (suc i) k d h = absurd (omega (arith, h.within))
+at_front (a ∷ bs) (suc i) zero d h = (record { within = omega arith; is = h.is }, omega arith)
+at_front (a ∷ bs) (suc i) (suc k) d h =
+    let r = at_front bs i k d (record { within = omega (arith, h.within); is = h.is }) in
+    (record { within = omega (arith, r.0.within); is = r.0.is }, omega (arith, r.1))
+
+each-take : {A : Type 0} (P : A → Type 0) (i : ℕ) (xs : List A) → Each P xs → Each P (take i xs)
+each-take P zero xs h = tt
+each-take P (suc i) [] h = tt
+each-take P (suc i) (x ∷ xs) h = (h.0, each-take P i xs h.1)
+
+-- they have as many variables as the mark of the member at i
+pub front_variables : (n : ℕ) (bs ds : List MarkedPolynomial) (i : ℕ) (b : MarkedPolynomial) → MembersHaveVariables n bs → IsAt bs i b → ds ≡ take i bs → HaveVariables (length b.head) ds
+front_variables n bs ds i b v x e =
+    subst (HaveVariables (length b.head)) (sym e) (each-take (λ (d : MarkedPolynomial). HasVariables (length b.head) d.poly) i bs
+    (subst (λ (m : ℕ). HaveVariables m bs) (sym (v.heads b (contained_at bs i b x))) (variables_each n bs v)))
+
+-- the member that a search for a divisor found
+pub chained_by : (ds : List MarkedPolynomial) (b c : MarkedPolynomial) (m : Exponents) (o : Option ℕ) → m ≡ join b.head c.head → IfSome o (IsDivisorAt ds m) → is_some o ≡ true → IsChained ds b c
+chained_by ds b c m (Some k) e h t = record { place = k; member = h.member; at = h.at; divides = subst (Divides h.member.head) e h.divides }
+chained_by ds b c m None e h t = absurd (let z : false ≡ true = t in cc)
+
+-- a pair is settled by a chain: those of a member before both are
+chained_pair : (order : MonomialOrder) (n : ℕ) (fs : List Terms) (bs : List MarkedPolynomial) (i j : ℕ) (b c : MarkedPolynomial) → i < j → IsTurning order n fs bs i j → IsAt bs i b → IsAt bs j c → IsChained (take i bs) b c → IsSettledPair n bs (below_of order) b c
+chained_pair order n fs bs i j b c l t x y h =
+    pair_by_chain n bs (below_of order) b c d (minus m d.head) ring (order-is order).strict marked hb hc (same_of m (plus (minus m d.head) d.head) e)
+    (pair_turned n bs (below_of order) d b ring (order-is order).strict marked hd hb (t.settled k i d b f.1 (inl l) f.0 x))
+    (t.settled k j d c (omega (arith, f.1, l)) (inr (refl, f.1)) f.0 y)
+  where
+    k : ℕ
+    k = h.place
+
+    d : MarkedPolynomial
+    d = h.member
+
+    f : IsAt bs k d × (k < i)
+    f = at_front bs i k d h.at
+
+    m : Exponents
+    m = join b.head c.head
+
+    ring : AreInVariables n (polys bs)
+    ring = in_variables n bs t.underway.variables
+
+    marked : AreMarked (below_of order) bs
+    marked = underway_marked order n fs bs t.underway
+
+    hb : Contains bs b
+    hb = contained_at bs i b x
+
+    hc : Contains bs c
+    hc = contained_at bs j c y
+
+    hd : Contains bs d
+    hd = contained_at bs k d f.0
+
+    lb : length b.head ≡ n
+    lb = t.underway.variables.heads b hb
+
+    long : length m ≡ length d.head
+    long = length-join b.head c.head (lb ∙ sym (t.underway.variables.heads c hc)) ∙ lb ∙ sym (t.underway.variables.heads d hd)
+
+    e : m ≡ plus (minus m d.head) d.head
+    e = sym (plus-minus m d.head long h.divides)
+
 pub turned_on : (order : MonomialOrder) (n : ℕ) (fs : List Terms) (old new : List MarkedPolynomial) (i j : ℕ) → i < j → j < length old → IsTurning order n fs old i j → IsPairTaken order i j old new →
     IsTurnedOn order n fs old new (i + 1) j
 turned_on order n fs old new i j l m t (IsPairTaken.excused b c x y o e) = subst (λ (z : List MarkedPolynomial). IsTurnedOn order n fs old z (i + 1) j) (sym e) (record {
-  turning = record { underway = t.underway; settled = λ p q d g s r u v. at p q d g s (earlier_or_here p q i j r) u v };
+  turning = settled_to order n fs old i j b c t x y (excused_pair order n fs old i j b c t.underway x y o);
   kept = kept-same old;
   size = omega arith;
 })
-  where
-    settled : (d g : MarkedPolynomial) → b ≡ d → c ≡ g → ArePairExcused b c → IsSettledPair n old (below_of order) d g
-    settled d g eb ec (inl s) = subst (λ (z : MarkedPolynomial). IsSettledPair n old (below_of order) z g) eb (subst (λ (z : MarkedPolynomial). IsSettledPair n old (below_of order) b z) ec (pair_by_monomials n old (below_of order) b c (in_variables n old t.underway.variables) (order-is order).strict (underway_marked order n fs old t.underway) (contained_at old i b x) (contained_at old j c y) s.0 s.1))
-    settled d g eb ec (inr s) = subst (λ (z : MarkedPolynomial). IsSettledPair n old (below_of order) z g) eb (subst (λ (z : MarkedPolynomial). IsSettledPair n old (below_of order) b z) ec (pair_by_product n old (below_of order) b c (in_variables n old t.underway.variables) (order-is order).strict (underway_marked order n fs old t.underway) (contained_at old i b x) (contained_at old j c y) s))
-
-    at : (p q : ℕ) (d g : MarkedPolynomial) → p < q → IsEarlier p q i j ⊎ ((p ≡ i) × (q ≡ j)) → IsAt old p d → IsAt old q g → IsSettledPair n old (below_of order) d g
-    at p q d g s (inl r) u v = t.settled p q d g s r u v
-    at p q d g s (inr r) u v = settled d g (members_equal old i b d x (subst (λ (z : ℕ). IsAt old z d) r.0 u)) (members_equal old j c g y (subst (λ (z : ℕ). IsAt old z g) r.1 v)) o
+turned_on order n fs old new i j l m t (IsPairTaken.chained b c x y h e) = subst (λ (z : List MarkedPolynomial). IsTurnedOn order n fs old z (i + 1) j) (sym e) (record {
+  turning = settled_to order n fs old i j b c t x y (chained_pair order n fs old i j b c l t x y h);
+  kept = kept-same old;
+  size = omega arith;
+})
 turned_on order n fs old new i j l m t (IsPairTaken.reduced b c s x y is_s has taken) = record {
   turning = record { underway = w.underway; settled = λ p q d g o r u v. at p q d g o (earlier_or_here p q i j r) u v };
   kept = w.kept;

@@ -1,9 +1,9 @@
 -- A run of Buchberger's algorithm that takes the pairs in turn: by the second member, then by the first. Where it stands is
 -- told by two places, with no mark of a pair. Laws: proofs/TurnLaws.antt.
 -- Source: Cox, Little, O'Shea, Ideals, Varieties, and Algorithms, 2.7.
-use Rattle.std.specs.Prelude.{◌≡◌, ◌≢◌, ◌⊎◌, ℕ, ◌<◌, Bool, true, false, List, [], ◌∷◌, ◌++◌, length, Contains, slice_index_or}
+use Rattle.std.specs.Prelude.{◌≡◌, ◌≢◌, ◌⊎◌, ℕ, ◌<◌, Bool, true, false, List, [], ◌∷◌, ◌++◌, length, take, Contains, slice_index_or}
 use Rattle.gf_frac.specs.Fraction.{one_ℚ}
-use Rattle.gf_exponents.specs.Exponents.{AreCoprime}
+use Rattle.gf_exponents.specs.Exponents.{AreCoprime, Divides, join}
 use Rattle.gf_exponents.specs.SixOrders.{MonomialOrder, below_of}
 use Rattle.gf_poly.specs.Polynomial.{Terms, HasVariables, KeepsVariables}
 use Rattle.gf_poly.specs.Marking.{MarkedPolynomial, polys, HasMark, IsMonicOf}
@@ -21,6 +21,13 @@ use Rattle.gf_buchberger.specs.Runs.{MembersHaveVariables}
 -- the pair needs no reduction: both have one monomial, or the marks are coprime
 abbrev pub ArePairExcused : MarkedPolynomial → MarkedPolynomial → Type 0
 ArePairExcused b c = (HasOneMonomial b × HasOneMonomial c) ⊎ AreCoprime b.head c.head
+
+-- the mark of one of ds divides the least common multiple of the marks of b and c
+pub record IsChained (ds : List MarkedPolynomial) (b c : MarkedPolynomial) : Type 0 where
+  pub place : ℕ
+  pub member : MarkedPolynomial
+  pub at : IsAt ds place member
+  pub divides : Divides member.head (join b.head c.head)
 
 -- b is f divided by its marked coefficient, or f itself where that is 1
 abbrev pub IsMadeFrom : MarkedPolynomial → MarkedPolynomial → Type 0
@@ -42,9 +49,10 @@ pub record IsTakenIn (order : MonomialOrder) (f : Terms) (old new : List MarkedP
   pub variables : KeepsVariables f r
   pub left : ((r ≡ []) × (new ≡ old)) ⊎ ((r ≢ []) × IsGrown order r old new)
 
--- the pair of the members at i and j is excused, or its S-polynomial was taken in
+-- the pair of the members at i and j is excused, or there is a chain by a member before both, or its S-polynomial was taken in
 pub data IsPairTaken (order : MonomialOrder) (i j : ℕ) (old new : List MarkedPolynomial) : Type 0 where
   excused : (b c : MarkedPolynomial) → IsAt old i b → IsAt old j c → ArePairExcused b c → new ≡ old → IsPairTaken order i j old new
+  chained : (b c : MarkedPolynomial) → IsAt old i b → IsAt old j c → IsChained (take i old) b c → new ≡ old → IsPairTaken order i j old new
   reduced : (b c : MarkedPolynomial) (s : Terms) → IsAt old i b → IsAt old j c → IsSPolynomial b c s →
       ((n : ℕ) → MembersHaveVariables n old → HasVariables n s) → IsTakenIn order s old new → IsPairTaken order i j old new
 

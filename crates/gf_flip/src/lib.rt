@@ -8,6 +8,7 @@ mod flips;
 mod lifts;
 mod limits;
 mod reduction;
+mod room;
 mod tails;
 mod tops;
 mod turns;

@@ -7,6 +7,7 @@ ghost use Rattle.gf_ideal.specs.Marks.{IsRealisable};
 ghost use Rattle.gf_division.specs.Autoreduction.{ShareSomeVariables};
 ghost use Rattle.gf_flip.specs.Settling.{IsSettledAt, IsPick, ArePicked, IsKeptWhere, IsPickedFrom, IsReducedForm};
 
+use crate::room::with_room;
 use crate::tails::is_reduced;
 use crate::turns::is_monic;
 use gf_division::{autoreduce, is_needed};
@@ -47,7 +48,7 @@ fn picks(alloc: Global, items: &[Marked]) -> Option<Vec<bool>>
     requires { ShareSomeVariables items.now }
     ensures { IfSome result (λ flags. ArePicked items.now flags.items (length items.now)) }
 {
-    let mut flags = Vec::new(alloc);
+    let mut flags = with_room(alloc, items.len())?;
     'members: for i in 0..items.len() {
         let needed = pick(items, i)?;
         match flags.push(needed) {
@@ -77,7 +78,7 @@ fn picked(alloc: Global, members: Vec<Marked>, flags: &[bool]) -> Option<Vec<Mar
     ensures { IfSome result (λ kept. IsPickedFrom members.items kept.items) }
 {
     let mut rest = members;
-    let mut kept = Vec::new(alloc);
+    let mut kept = with_room(alloc, flags.len())?;
     'members: for i in 0..flags.len() {
         let member = rest.remove(0);
         keep(&mut kept, member, flags[i])?;

@@ -16,6 +16,7 @@ ghost use Rattle.gf_flip.specs.Tops.{AreOff, IsTopRemainder, IsAlone, IsMarkedAt
 ghost use Rattle.gf_flip.specs.LiftTails.{IsCopy, AreCopies};
 
 use crate::along::{is_apart, pivot_of};
+use crate::room::with_room;
 use gf_division::{Dividend, divisor_of, place_of};
 use gf_poly::{Marked, Mono, Poly, Term};
 use std::alloc::Global;
@@ -437,8 +438,8 @@ pub fn top_lifts(alloc: Global, items: &[Marked], by: &[Marked], normal: &[i128]
 {
     let pivot = pivot_of(normal);
     let mut all = Lifts {
-        members: Vec::new(alloc),
-        copied: Vec::new(alloc),
+        members: with_room(alloc, items.len())?,
+        copied: with_room(alloc, items.len())?,
     };
     'members: for i in 0..items.len() {
         let (lift, is_copy) = lifted(alloc, &items[i], by, i.saturating_sub(2), normal, pivot)?;

@@ -11,9 +11,10 @@ ghost use Rattle.gf_division.specs.NormalForms.{HasSomeWeight, HaveSameVariables
 ghost use Rattle.gf_buchberger.specs.Jobs.{IsBasisJob};
 ghost use Rattle.gf_buchberger.specs.Runs.{IsAppendable};
 ghost use Rattle.gf_buchberger.specs.Bases.{IsArrangedBasis, IsBasisRefusal};
-ghost use Rattle.gf_flip.specs.Turns.{ArePairExcused, IsMadeFrom, IsGrown, IsTakenIn, IsUnderway, IsOfKind, AreTakenInWhere, IsTurning, AreKeptIn};
+ghost use Rattle.gf_flip.specs.Turns.{ArePairExcused, IsChained, IsMadeFrom, IsGrown, IsTakenIn, IsUnderway, IsOfKind, AreTakenInWhere, IsTurning, AreKeptIn};
 
 use crate::reduction::reduced_form;
+use crate::room::with_room;
 use gf_buchberger::{BasisError, are_coprime, basis, is_single, leading_place};
 use gf_division::{divisor_of, reduced, s_poly};
 use gf_frac::Frac;
@@ -38,6 +39,17 @@ fn is_excused(b: &Marked, c: &Marked) -> bool
         return true;
     }
     are_coprime(b.head(), c.head())
+}
+
+/// Whether the mark of one of `before` divides the least common multiple of the marks: where its pairs with both are settled, so is this
+/// one (Buchberger's second criterion; Becker, Weispfenning, *Gröbner Bases*, 5.5).
+fn is_chained(b: &Marked, c: &Marked, before: &[Marked]) -> bool
+    requires marks { length b.now.head ≡ length c.now.head }
+    requires variables { HaveVariables (length b.now.head) before.now }
+    ensures { IsTrue result → IsChained before.now b.now c.now }
+{
+    let multiple = b.head().lcm(c.head());
+    divisor_of(&multiple, before).is_some()
 }
 
 /// The fraction 1.
@@ -190,6 +202,9 @@ fn take_turn(
     if is_excused(b, c) {
         return Some(());
     }
+    if is_chained(b, c, &members[..i]) {
+        return Some(());
+    }
     let s = match s_poly(alloc, b, c) {
         Ok(s) => s,
         Err(_) => return None,
@@ -219,7 +234,7 @@ fn run(alloc: Global, task: &Task, bound: u64) -> Option<Vec<Marked>>
     ensures single { IfSome result (λ bs. AreTakenInWhere task.now.n task.now.list.now true (length task.now.list.now) bs.items) }
     ensures other { IfSome result (λ bs. AreTakenInWhere task.now.n task.now.list.now false (length task.now.list.now) bs.items) }
 {
-    let mut members = Vec::new(alloc);
+    let mut members = with_room(alloc, task.list.len().saturating_mul(2))?;
     enter(alloc, task, &mut members, true)?;
     enter(alloc, task, &mut members, false)?;
     'turns: for j in 0..bound {

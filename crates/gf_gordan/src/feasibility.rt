@@ -17,9 +17,10 @@ use crate::error::GordanError;
 use crate::found::Found;
 use crate::pivoting::candidate;
 use crate::recursion::solve;
+use crate::small::small_candidate;
 use crate::workspace::Workspace;
 use gf_vec::{IntVec, VecError};
-use std::alloc::Global;
+use std::alloc::{AllocError, Global};
 
 /// With at most so many columns elimination is quicker than the pivoting engine.
 const FEW_COLUMNS: u32 = 3;
@@ -114,19 +115,44 @@ fn judged(
     }
 }
 
-/// The answer that the pivoting engine finds, if it finds one.
-fn pivoted(alloc: Global, n: usize, rows: &[IntVec], equations: &[IntVec]) -> Option<Answer>
+/// The answer that a candidate of the pivoting engine is, if there is one and it is right.
+fn answered(
+    alloc: Global,
+    n: usize,
+    rows: &[IntVec],
+    equations: &[IntVec],
+    candidate: Result<Option<Found>, AllocError>,
+) -> Option<Answer>
     requires rows { AreRows n rows.now }
     requires equations { AreRows n equations.now }
     ensures { IfSome result (IsAlternative n rows.now equations.now) }
 {
-    match candidate(alloc, n, rows, equations) {
+    match candidate {
         Ok(Some(found)) => match judged(alloc, n, rows, equations, found) {
             Ok(answer) => answer,
             Err(_error) => None,
         },
         _ => None,
     }
+}
+
+/// The answer that the pivoting engine finds, on small numbers or else on larger ones, if it finds one.
+fn pivoted(alloc: Global, n: usize, rows: &[IntVec], equations: &[IntVec]) -> Option<Answer>
+    requires rows { AreRows n rows.now }
+    requires equations { AreRows n equations.now }
+    ensures { IfSome result (IsAlternative n rows.now equations.now) }
+{
+    let small = small_candidate(alloc, n, rows, equations);
+    if let Some(answer) = answered(alloc, n, rows, equations, small) {
+        return Some(answer);
+    }
+    answered(
+        alloc,
+        n,
+        rows,
+        equations,
+        candidate(alloc, n, rows, equations),
+    )
 }
 
 /// A vector on which every row is positive and every equation zero, or multipliers that show that there is none.

@@ -13,7 +13,7 @@ use gf_vec::IntVec;
 use std::alloc::{AllocError, Global};
 
 /// The vector with these entries, where they are in range.
-fn vector_of(entries: Vec<i128>) -> Option<IntVec> {
+pub(crate) fn vector_of(entries: Vec<i128>) -> Option<IntVec> {
     if has_least(entries.as_slice()) {
         return None;
     }

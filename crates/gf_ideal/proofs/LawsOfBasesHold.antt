@@ -9,7 +9,7 @@ use Rattle.gf_ideal.specs.Membership.{AreInVariables, IsMember}
 use Rattle.gf_ideal.specs.Marks.{AreMarked, IsPositive, HasPositiveWeight}
 use Rattle.gf_ideal.specs.MonomialOrders.{MonomialOrder, below_of, IsOfGrade, IsHomogeneous, IsAdmissible, Comparison, compared_by}
 use Rattle.gf_ideal.specs.Bases.{IsBasis, IsReducedBasis, IsHeaviest, IsGreatest}
-use Rattle.gf_ideal.specs.Settled.{IsAt, ArePairsSettled}
+use Rattle.gf_ideal.specs.Settled.{ArePairsSettled}
 use Rattle.gf_ideal.specs.WorkLists.{IsWorkList}
 use Rattle.gf_ideal.specs.LawsOfBases.{AreHomogeneous, DoPairsReduceToZero, BuchbergersCriterion, PairsAreSettled, BasesGoByTheirMarks, MembershipIsDecided, NormalFormsAreUnique, BasesMayBeInterreduced, BasesMayBeArranged, ReducedBasesAreUnique, RunsEndWithABasis}
 use Rattle.gf_ideal.proofs.MembershipLaws.{member-zero, member-equal, member-generator, spans_of_member}
@@ -27,11 +27,9 @@ use Rattle.gf_ideal.proofs.IntegerPairLaws.{pair_of_settled}
 use Rattle.gf_ideal.proofs.CriteriaLaws.{pair_by_steps, pair_by_product, pair_by_monomials, pair_by_chain, pair_turned, pair_more, pairs_at_join}
 use Rattle.gf_ideal.proofs.NormalFormLaws.{normal_form-reached, normal_form-unique}
 use Rattle.gf_ideal.proofs.WorkLaws.{work-marked, work-members, work-homogeneous, order_basis, run_basis}
+use Rattle.gf_ideal.proofs.DividingLaws.{member_contained}
 
 -- ---- steps
-
-contained : (bs : List MarkedPolynomial) (i : ℕ) (b : MarkedPolynomial) → IsAt bs i b → Contains bs b
-contained bs i b h = (i, h.within, h.is)
 
 compared-strict : (k : Comparison) → IsStrict (compared_by k)
 compared-strict (Comparison.by_weight w) = lighter-strict w
@@ -47,14 +45,14 @@ graded o n grade bs m h b c e k = h b.poly (Contains-polys bs b c) e b.head k (m
 
 settled_by_reduction : (k : Comparison) (n : ℕ) (bs : List MarkedPolynomial) → AreInVariables n (polys bs) →
     AreMarked (compared_by k) bs → DoPairsReduceToZero bs → ArePairsSettled n bs (compared_by k)
-settled_by_reduction k n bs v m h i j b c l p q = let r = h i j b c l p q in pair_by_steps n bs (compared_by k) b c r.0 [] v (compared-strict k) m (contained bs i b p) (contained bs j c q) r.1 r.2 (inl (λ x. refl))
+settled_by_reduction k n bs v m h i j b c l p q = let r = h i j b c l p q in pair_by_steps n bs (compared_by k) b c r.0 [] v (compared-strict k) m (member_contained bs i b p) (member_contained bs j c q) r.1 r.2 (inl (λ x. refl))
 
 -- a basis of its own ideal has settled pairs
 settled_pairs : (k : Comparison) (n : ℕ) (bs : List MarkedPolynomial) → AreInVariables n (polys bs) →
     AreMarked (compared_by k) bs → IsBasis n (polys bs) bs → ArePairsSettled n bs (compared_by k)
 settled_pairs k n bs v m b i j c d l p q =
-    pair_of_settled n bs (compared_by k) c d v (compared-strict k) m (contained bs i c p) (contained bs j d q)
-    (settled_of_basis n (polys bs) bs (compared_by k) c d v b (compared-strict k) m (contained bs i c p) (contained bs j d q))
+    pair_of_settled n bs (compared_by k) c d v (compared-strict k) m (member_contained bs i c p) (member_contained bs j d q)
+    (settled_of_basis n (polys bs) bs (compared_by k) c d v b (compared-strict k) m (member_contained bs i c p) (member_contained bs j d q))
 
 weight_basis : (n : ℕ) (w : List ℕ) (bs : List MarkedPolynomial) → IsPositive n w → AreMarked (lighter w) bs →
     ArePairsSettled n bs (lighter w) → IsBasis n (polys bs) bs

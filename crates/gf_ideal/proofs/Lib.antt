@@ -2,6 +2,7 @@ pub mod Identities  -- identities between fractions
 pub mod ListLaws  -- lists
 pub mod RingLaws  -- monomials in the first n variables
 pub mod TermLaws  -- the monomials of polynomials and of their multiples
+pub mod DividingLaws  -- members of a list, and the monomials that their marks divide
 pub mod SpanLaws  -- sums of multiples: the working form of membership
 pub mod MembershipLaws  -- members, in whole numbers; the bridge to the working form
 pub mod PieceLaws  -- sums of multiples of marked polynomials

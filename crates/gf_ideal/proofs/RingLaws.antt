@@ -1,8 +1,10 @@
 -- Monomials in the first n variables.
--- To cite: in_ring (a monomial is one in the first n variables, or it isn't), beyond, ring-along, ring-left, ring-plus.
-use Rattle.std.proofs.Common.{◌≡◌, ◌⊎◌, ℕ, zero, suc, ◌≤◌, Bool, true, false, [], ◌∷◌, arith, refl, sym, ◌∙◌, inl, inr}
-use Rattle.gf_exponents.specs.Exponents.{Exponents, entry, same, plus, IsInRing}
-use Rattle.gf_exponents.proofs.ExponentsLaws.{entry-plus, entries_same, same_by_entries}
+-- To cite: in_ring (a monomial is one in the first n variables, or it isn't), beyond, ring-along, ring-left, ring-plus, same_in_ring, in_ring_of;
+-- entry-degree, degree-none.
+use Rattle.std.proofs.Common.{◌≡◌, ◌⊎◌, ℕ, zero, suc, ◌≤◌, Bool, true, false, [], ◌∷◌, arith, refl, sym, ◌∙◌, inl, inr, ◌<◌, length}
+use Rattle.std.proofs.lemmas.Bool.{cases_lt}
+use Rattle.gf_exponents.specs.Exponents.{Exponents, entry, same, plus, IsInRing, degree}
+use Rattle.gf_exponents.proofs.ExponentsLaws.{entry-plus, entries_same, same_by_entries, entry-past}
 
 -- without the first variable
 unfoldable pub rest : Exponents → Exponents
@@ -48,3 +50,23 @@ ring-left n u y h = λ i l. omega (arith, h i l, entry-plus u y i)
 -- a product
 pub ring-plus : (n : ℕ) (u y : Exponents) → IsInRing n u → IsInRing n y → IsInRing n (plus u y)
 ring-plus n u y h k = λ i l. omega (arith, h i l, k i l, entry-plus u y i)
+
+-- two monomials in the first n variables are the same where their first n exponents are
+pub same_in_ring : (n : ℕ) (x y : Exponents) → IsInRing n x → IsInRing n y → ((i : ℕ) → i < n → entry x i ≡ entry y i) → same x y ≡ true
+same_in_ring n x y h k e = same_by_entries x y (λ i. elim (cases_lt i n) [ inl l ↦ e i l | inr l ↦ h i (omega arith) ∙ sym (k i (omega arith)) ])
+
+-- n exponents are of the first n variables
+pub in_ring_of : (n : ℕ) (u : Exponents) → length u ≡ n → IsInRing n u
+in_ring_of n u l i h = entry-past u i (omega arith)
+
+-- no exponent is above the degree
+pub entry-degree : (x : Exponents) (i : ℕ) → entry x i ≤ degree x
+entry-degree [] i = omega arith
+entry-degree (a ∷ x) zero = omega arith
+entry-degree (a ∷ x) (suc i) = omega (arith, entry-degree x i)
+
+-- a monomial of degree 0 is 1
+pub degree-none : (x : Exponents) → degree x ≡ 0 → same x [] ≡ true
+degree-none [] e = refl
+degree-none (zero ∷ x) e = degree-none x (omega (arith, e))
+degree-none (suc a ∷ x) e = absurd (omega (arith, e))

@@ -17,16 +17,13 @@ use Rattle.gf_ideal.proofs.InterreductionLaws.{reduced_by_weight}
 use Rattle.gf_ideal.proofs.BasisLaws.{basis_of_groebner}
 use Rattle.gf_ideal.proofs.LawsOfBasesHold.{buchbergers_criterion}
 
-nothing : {A : Type 0} (x : A) → Contains [] x → ⊥
-nothing x c = absurd (omega (arith, c.1))
-
 pub only : {A : Type 0} (x y : A) → Contains (x ∷ []) y → x ≡ y
-only x y c = elim (Contains-cases x y [] c) [ inl e ↦ e | inr k ↦ absurd (nothing y k) ]
+only x y c = elim (Contains-cases x y [] c) [ inl e ↦ e | inr k ↦ absurd (omega (arith, k.1)) ]
 
 -- the members of the zero ideal are zero
 pub spans_nothing : (f : Terms) → Spans [] f → SamePolynomial f []
 spans_nothing f (Spans.none k z) = z
-spans_nothing f (Spans.more c u p k g j s q) = absurd (nothing p j)
+spans_nothing f (Spans.more c u p k g j s q) = absurd (omega (arith, j.1))
 
 -- the zero ideal has the empty basis
 pub zero_ideal : (n : ℕ) (w : List ℕ) → IsPositive n w → IsReducedBasis n [] w []
@@ -34,11 +31,11 @@ zero_ideal n w p = record {
   positive = p;
   reduced = record {
     basis = record {
-      members = λ b c. absurd (nothing b c);
-      marked = λ b c. absurd (nothing b c);
+      members = λ b c. absurd (omega (arith, c.1));
+      marked = λ b c. absurd (omega (arith, c.1));
       initial = λ f m x t. absurd (t.there (spans_nothing f (spans_of_member n [] f m) x));
     };
-    tails = λ b c. absurd (nothing b c);
+    tails = λ b c. absurd (omega (arith, c.1));
     heads = tt;
   };
 }

@@ -1,12 +1,12 @@
 -- Polynomials taken apart at a monomial, and the monomials that they have.
 -- To cite: found and nothing_there (where the monomials of a multiple come from), canonical (each polynomial is one whose
--- listed terms all count), canonical_terms and canonical_exponents. The rest are steps.
+-- listed terms all count), canonical_terms, canonical_exponents, coefficient-times-one and zero_chosen. The rest are steps.
 use Rattle.std.proofs.Common.{◌≡◌, ◌⊎◌, ◌≢◌, ℕ, zero, suc, ◌≤◌, Bool, true, false, if◌then◌else◌, [], ◌∷◌, length, arith, refl, sym, ap, ◌∙◌, inl, inr}
 use Rattle.gf_frac.specs.Fraction.{Fraction, ◌+ℚ◌, ◌*ℚ◌, zero_ℚ, one_ℚ}
 use Rattle.gf_frac.proofs.FractionLaws.{+ℚ_assoc, +ℚ_comm, +ℚ-zero, *ℚ-zero, zero-+ℚ, zero_or_not}
 use Rattle.gf_poly.specs.declared.Term.{Term}
 use Rattle.gf_exponents.specs.Exponents.{Exponents, plus, same}
-use Rattle.gf_exponents.proofs.ExponentsLaws.{same-sym, same_along, same-refl, same_flip, multiple_or_not}
+use Rattle.gf_exponents.proofs.ExponentsLaws.{same-sym, same_along, same-refl, same_flip, multiple_or_not, same_shift_right}
 use Rattle.gf_poly.specs.Polynomial.{Terms, coefficient, SamePolynomial, times}
 use Rattle.gf_poly.proofs.PolynomialLaws.{coefficient-same, coefficient-times, coefficient-times-none, times-plain}
 use Rattle.gf_poly.specs.Marking.{Each}
@@ -156,3 +156,12 @@ pub canonical_exponents : (B : Exponents → Type 0) (f : Terms) (c : Canonical 
 canonical_exponents B f c along h e n =
     let r = found_term (λ (t : Term). B t.mono) one_ℚ [] c.terms e h (λ z. n (c.equal e ∙ ap (λ g. coefficient g e) (sym (times-plain c.terms)) ∙ z)) in
     along r.0.mono e (same_flip e r.0.mono r.2) r.1
+
+-- a multiple by a monomial that is 1
+pub coefficient-times-one : (c : Fraction) (u : Exponents) (f : Terms) (y : Exponents) → same u [] ≡ true → coefficient (times c u f) y ≡ c *ℚ coefficient f y
+coefficient-times-one c u f y s = coefficient-same (times c u f) y (plus u y) (same_flip (plus u y) y (same_shift_right y u [] s)) ∙ coefficient-times c u f y
+
+-- zero, or zero
+pub zero_chosen : (b : Bool) (c : Fraction) → c ≡ zero_ℚ → (if b then c else zero_ℚ) ≡ zero_ℚ
+zero_chosen true c z = z
+zero_chosen false c z = refl

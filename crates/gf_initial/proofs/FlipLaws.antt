@@ -2,13 +2,13 @@
 -- the reduced basis of the parts are autoreduced to is one.
 -- To cite: side_of_inside, side_there, adjacent_unique, adjacent_turned, adjacent_back, normal-further, along_negated,
 -- further_beyond, ArePartFacts, part_facts, lifted_all, lifted_tops, other_side, adjacent_of_side, crossed, both_sides.
-use Rattle.std.specs.Prelude.{◌≡◌, ℕ, List, [], length, get_or, Contains, IsPermutation, ℤ, pos, neg_ℤ}
+use Rattle.std.specs.Prelude.{◌≡◌, ℕ, List, length, get_or, Contains, IsPermutation, ℤ, pos, neg_ℤ}
 use Rattle.std.proofs.Common.{arith, sym, ap, ◌∙◌, subst, inl, inr}
 use Rattle.std.proofs.lemmas.Int.{ints}
 use Rattle.std.proofs.lemmas.List.Sorted.{Contains-permutation, IsPermutation-sym}
 use Rattle.gf_exponents.specs.Exponents.{Exponents, plus}
 use Rattle.gf_exponents.specs.Orders.{IsStrict, IsFacetBelow, negated_row_of, lighter, gains}
-use Rattle.gf_exponents.proofs.ExponentsLaws.{same-refl, same_trans, same_shift}
+use Rattle.gf_exponents.proofs.ExponentsLaws.{same_trans, same_shift}
 use Rattle.gf_exponents.proofs.OrderLaws.{lighter-strict}
 use Rattle.gf_exponents.proofs.WholeWeightLaws.{row-order}
 use Rattle.gf_poly.specs.Polynomial.{Terms}
@@ -24,6 +24,7 @@ use Rattle.gf_ideal.proofs.BasisLaws.{basis_of_groebner_for, basis_along}
 use Rattle.gf_ideal.proofs.InterreductionLaws.{interreduced, reduced-tails, apart-tails, tail-marked, tails-of_place}
 use Rattle.gf_ideal.proofs.ArrangementLaws.{basis-arranged, apart-arranged}
 use Rattle.gf_ideal.proofs.ArrangedLists.{arranged_equal}
+use Rattle.gf_ideal.proofs.DividingLaws.{divisible_itself}
 use Rattle.gf_facets.specs.Rows.{IsNormal, negated}
 use Rattle.gf_facets.specs.Regions.{Region, IsInRegion}
 use Rattle.gf_facets.specs.Facets.{IsInsideFacet}
@@ -139,9 +140,6 @@ twins_basis n fs bs cs s b = record {
         let c = s.there d.member d.contained in
         record { member = c.0; contained = c.1; rest = d.rest; divides = same_trans x (plus d.rest d.member.head) (plus d.rest c.0.head) d.divides (same_shift d.rest d.member.head c.0.head c.2.head) }
 
-itself : (bs : List MarkedPolynomial) (b : MarkedPolynomial) → Contains bs b → IsDivisible (Contains bs) b.head
-itself bs b c = record { member = b; contained = c; rest = []; divides = same-refl b.head }
-
 -- ---- in any order
 
 permuted-tails : (bs cs : List MarkedPolynomial) → IsPermutation bs cs → HasReducedTails bs → HasReducedTails cs
@@ -215,7 +213,7 @@ pub other_side : (n : ℕ) (fs : List Terms) (k : Region) (bs ps hs ls ks ts cs 
     AreSameBasis ls ks → AreApart ks → AreReducedTails ks ks ts → IsPermutation ts cs → IsSide n fs v a cs
 other_side n fs k bs ps hs ls ks ts cs a v vars r o q lifts twins heads tails moved = record {
   reduced = record {
-    basis = basis-arranged n fs ts cs moved (interreduced n fs ks ks ts vars (twins_basis n fs ls ks twins lifted) (λ d c. c) (itself ks) tails);
+    basis = basis-arranged n fs ts cs moved (interreduced n fs ks ks ts vars (twins_basis n fs ls ks twins lifted) (λ d c. c) (divisible_itself ks) tails);
     tails = permuted-tails ts cs moved (reduced-tails ks ts tails);
     heads = apart-arranged ts cs moved (apart-tails ks ks ts tails heads);
   };

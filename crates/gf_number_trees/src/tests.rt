@@ -250,7 +250,7 @@ fn jobs_are_numbered_in_turn(rt: HostRuntime) -> Result<(), Fail> {
     Ok(())
 }
 
-/// Lets jobs 1 and 2 meet, the first of one wave that are two: each sets its own flag and looks for the other's, for so many turns.
+/// Lets jobs 3 and 4 meet, the first of one wave that are two: each sets its own flag and looks for the other's, for so many turns.
 #[derive(Drop)]
 struct Meeting {
     first: AtomicU64,
@@ -274,10 +274,10 @@ impl Meeting {
 
 impl Gate for Meeting {
     fn at(&self, job: u64) {
-        if job == 1 {
+        if job == 3 {
             self.meet(&self.first, &self.second);
         }
-        if job == 2 {
+        if job == 4 {
             self.meet(&self.second, &self.first);
         }
     }

@@ -1,5 +1,5 @@
 -- Where bounds on the rows of two fans have room, no operation of finding their common refinement leaves the range.
-use Rattle.std.proofs.Common.{◌≡◌, ◌∙◌, ◌+◌, [], length, length-append, subst, inl, inr}
+use Rattle.std.proofs.Common.{◌∙◌, ◌+◌, [], length, length-append, subst, inl, inr}
 use Rattle.gf_duality.specs.Faces.{Rows}
 use Rattle.gf_rays.specs.Reached.{IsRaysStep}
 use Rattle.gf_fans.specs.Fans.{meet}

@@ -28,6 +28,7 @@ use Rattle.gf_ideal.proofs.MembershipLaws.{spans_of_member, member_of_spans, var
 use Rattle.gf_ideal.proofs.PieceLaws.{spans_value}
 use Rattle.gf_ideal.proofs.StepLaws.{IsClosed, IsPieceIn, IsWithin, closed-both, closed-ring}
 use Rattle.gf_ideal.proofs.DivisionLaws.{Divided, divided, irreducible_terms}
+use Rattle.gf_ideal.proofs.DividingLaws.{divisible_along}
 use Rattle.gf_facets.specs.Beyond.{IsStepsFrom}
 use Rattle.gf_facets.specs.InitialIdeals.{monomial}
 use Rattle.gf_facets.proofs.RegionLaws.{dot-itself}
@@ -55,9 +56,6 @@ steps-more j k a x u h t p q i =
 
 coefficient-at : (x y : Exponents) → same y x ≡ true → coefficient (monomial x) y ≡ one_ℚ
 coefficient-at x y s = ap (λ b. (if b then one_ℚ else zero_ℚ) +ℚ zero_ℚ) s ∙ +ℚ-zero one_ℚ
-
-pub along_divisible : (by : MarkedPolynomial → Type 0) (x y : Exponents) → same x y ≡ true → IsDivisible by x → IsDivisible by y
-along_divisible by x y s d = record { member = d.member; contained = d.contained; rest = d.rest; divides = same_trans y x _ (same_flip x y s) d.divides }
 
 -- some monomial is x and at least one times a, leads in bs, and doesn't lead in cs
 pub record IsPulledOut (a : List ℤ) (bs cs : List MarkedPolynomial) (x : Exponents) : Type 0 where
@@ -133,7 +131,7 @@ what_enters_pulls n a bs cs x h r out enters =
         found (inr y) = leaving (same y.0 x) refl
           where
             leaving : (b : Bool) → same y.0 x ≡ b → IsPulledOut a bs cs x
-            leaving true s = absurd (out ((h.lead_here x).0 (along_divisible (Contains h.here) y.0 x s y.2)))
+            leaving true s = absurd (out ((h.lead_here x).0 (divisible_along (Contains h.here) y.0 x s y.2)))
             leaving false s = record {
               at = y.0;
               steps = (kept y.0 remains).0.0;

@@ -86,11 +86,11 @@ no_cycle F top c q h = let r = ways_rise F top (c ∷ q) top h in let w = r.1 r.
 abbrev pub bases_of : Fan → List (List MarkedPolynomial)
 bases_of F = all_bases F.variables F.region F.ideal
 
-among_of : {X : Type 0} (xs : List X) (x : X) → Contains xs x → Among xs x
+pub among_of : {X : Type 0} (xs : List X) (x : X) → Contains xs x → Among xs x
 among_of [] x c = absurd (omega (arith, c.1))
 among_of (y ∷ xs) x c = elim (Contains-cases y x xs c) [ inl e ↦ inl e | inr k ↦ inr (among_of xs x k) ]
 
-of_among : {X : Type 0} (xs : List X) (x : X) → Among xs x → Contains xs x
+pub of_among : {X : Type 0} (xs : List X) (x : X) → Among xs x → Contains xs x
 of_among [] x a = elim a [ ]
 of_among (y ∷ xs) x (inl e) = subst (Contains (y ∷ xs)) e (Contains-here y xs)
 of_among (y ∷ xs) x (inr a) = Contains-there y x xs (of_among xs x a)

@@ -17,13 +17,14 @@ use Rattle.gf_ideal.specs.Membership.{HasMonomial}
 use Rattle.gf_ideal.specs.Marks.{IsPositive}
 use Rattle.gf_ideal.specs.Reduction.{IsDivisible}
 use Rattle.gf_ideal.proofs.ListLaws.{Contains-here, Contains-there, Contains-cases}
+use Rattle.gf_ideal.proofs.DividingLaws.{divisible_along}
 use Rattle.gf_walk.specs.Listing.{Among}
 use Rattle.gf_facets.specs.LexPositive.{IsNegative}
 use Rattle.gf_facets.specs.Beyond.{IsStepsFrom}
 use Rattle.gf_initial.specs.Crossings.{HaveParts}
 use Rattle.gf_reverse.specs.LeadingNumber.{below_weight, is_led, leading_number}
 use Rattle.gf_reverse.proofs.StepsLaws.{below_by_negative}
-use Rattle.gf_reverse.proofs.CrossingLaws.{IsPulledOut, Enters, what_enters_pulls, something_enters, along_divisible}
+use Rattle.gf_reverse.proofs.CrossingLaws.{IsPulledOut, Enters, what_enters_pulls, something_enters}
 use Rattle.gf_reverse.proofs.NumberLaws.{Turns, binary_falls}
 use Rattle.gf_reverse.proofs.WeightListLaws.{below-is, among_below, below-ascends}
 use Rattle.std.proofs.lemmas.Bool.{or_right, or_left, or_cases}
@@ -99,10 +100,10 @@ leading_number_falls n root d a bs cs lr p la nz neg h small =
     s = small e.member e.contained e.at e.there
 
     onto : (by : MarkedPolynomial → Type 0) (x : Exponents) → IsInRing n x → IsDivisible by x → IsDivisible by (padded n x)
-    onto by x i v = along_divisible by x (padded n x) (same-padded n x i) v
+    onto by x i v = divisible_along by x (padded n x) (same-padded n x i) v
 
     back : (by : MarkedPolynomial → Type 0) (x : Exponents) → IsInRing n x → IsDivisible by (padded n x) → IsDivisible by x
-    back by x i v = along_divisible by (padded n x) x (same_flip x (padded n x) (same-padded n x i)) v
+    back by x i v = divisible_along by (padded n x) x (same_flip x (padded n x) (same-padded n x i)) v
 
     listed : (x : Exponents) → IsInRing n x → weight r x < d → Among (below_weight r d) (padded n x)
     listed x i l = among_below r d (padded n x) (subst (λ k. IsPositive k r) (sym (length-gains root)) (positive-gains root (at_least_one root p))) (length-padded n x ∙ sym wide) (omega (arith, weight-same r x (padded n x) (same-padded n x i)))

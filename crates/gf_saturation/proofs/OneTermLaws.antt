@@ -1,6 +1,6 @@
 -- Polynomials of one term in an ideal, and 1 in its saturation.
 -- To cite: saturated_one, one_term_of_saturated, one_by_mark, mark_of_one.
-use Rattle.std.proofs.Common.{◌≡◌, ◌≢◌, ◌⊎◌, ℕ, zero, suc, ◌<◌, ◌≤◌, Bool, true, false, if◌then◌else◌, List, [], ◌∷◌, Contains, arith, refl, sym, ap, ◌∙◌, inl, inr}
+use Rattle.std.proofs.Common.{◌≡◌, ◌≢◌, ◌⊎◌, ℕ, ◌<◌, ◌≤◌, Bool, true, false, if◌then◌else◌, List, [], ◌∷◌, Contains, arith, refl, sym, ap, ◌∙◌, inl, inr}
 use Rattle.std.proofs.lemmas.Bool.{cases_lt}
 use Rattle.gf_frac.specs.Fraction.{Fraction, ◌+ℚ◌, ◌*ℚ◌, reciprocal_ℚ, zero_ℚ, one_ℚ}
 use Rattle.gf_frac.proofs.FractionLaws.{+ℚ-zero, one-*ℚ, zero_or_not, reciprocal_ℚ-*ℚ}
@@ -17,6 +17,7 @@ use Rattle.gf_ideal.specs.Bases.{IsGreatest, IsReducedBasisFor}
 use Rattle.gf_ideal.specs.Reduction.{IsDivisible}
 use Rattle.gf_ideal.proofs.Identities.{one_not_zero}
 use Rattle.gf_ideal.proofs.MembershipLaws.{variables_of_member, member-times, member-equal}
+use Rattle.gf_ideal.proofs.RingLaws.{entry-degree}
 use Rattle.gf_saturation.specs.Saturations.{product_power, IsSaturated, IsOfOneTerm, HasOneTermMember, one_polynomial}
 use Rattle.gf_saturation.proofs.SubstitutionLaws.{entry-product_power, ring-product_power}
 
@@ -49,11 +50,6 @@ one_term_alone c x n = record { there = λ z. n (sym (+ℚ-zero c) ∙ ap (λ b.
     at y false s m = absurd (m (+ℚ-zero zero_ℚ))
 
 -- ---- 1 in the saturation
-
-entry-degree : (x : Exponents) (i : ℕ) → entry x i ≤ degree x
-entry-degree [] i = omega arith
-entry-degree (a ∷ x) zero = omega arith
-entry-degree (a ∷ x) (suc i) = omega (arith, entry-degree x i)
 
 pub saturated_one : (n : ℕ) (fs : List Terms) → AreInVariables n fs → HasOneTermMember n fs → IsSaturated n fs one_polynomial
 saturated_one n fs v h = record { power = k; member = member-equal n fs (times r u f) (times one_ℚ (product_power n k) one_polynomial) equal (member-times n fs f r u in_ring h.2) }

@@ -1,20 +1,19 @@
 -- Monomials of a polynomial exchanged one by one, and the last variable exchanged for the inverse of the product of the others,
 -- with a power of the product that clears the fractions.
--- To cite: mapped, mapped_same, mapped-++, lowered, inverted, inverted_multiple, inverted_trick, entry-product_power.
-use Rattle.std.proofs.Common.{◌≡◌, ◌⊎◌, ℕ, zero, suc, ◌+◌, ◌-◌, ◌<◌, ◌≤◌, Bool, true, false, if◌then◌else◌, [], ◌∷◌, ◌++◌, length, arith, refl, sym, ap, ◌∙◌, inl, inr}
-use Rattle.std.proofs.lemmas.Bool.{cases_lt}
+-- To cite: mapped, mapped_same, mapped-++, inverted, inverted_multiple, inverted_trick, entry-product_power.
+use Rattle.std.proofs.Common.{◌≡◌, ℕ, zero, suc, ◌+◌, ◌-◌, ◌<◌, ◌≤◌, Bool, true, false, if◌then◌else◌, [], ◌∷◌, ◌++◌, length, arith, refl, sym, ap, ◌∙◌}
 use Rattle.gf_frac.specs.Fraction.{Fraction, ◌+ℚ◌, ◌*ℚ◌, neg_ℚ, zero_ℚ, one_ℚ}
 use Rattle.gf_frac.proofs.FractionLaws.{+ℚ_assoc, +ℚ_comm, +ℚ-zero, zero-+ℚ, +ℚ-neg_ℚ, *ℚ-neg_ℚ}
 use Rattle.gf_exponents.specs.Exponents.{Exponents, entry, same, plus, IsInRing}
-use Rattle.gf_exponents.proofs.ExponentsLaws.{same-sym, same_along, same-refl, same_by_entries, entries_same, entry-plus, plus-nil}
+use Rattle.gf_exponents.proofs.ExponentsLaws.{same-sym, same_along, same-refl, entries_same, entry-plus, plus-nil}
 use Rattle.gf_poly.specs.declared.Term.{Term}
 use Rattle.gf_poly.specs.Polynomial.{Terms, coefficient, SamePolynomial, times}
 use Rattle.gf_poly.specs.Marking.{Each}
 use Rattle.gf_poly.proofs.PolynomialLaws.{coefficient-++, coefficient-times, SamePolynomial-times}
 use Rattle.gf_ideal.specs.Membership.{IsInVariables}
 use Rattle.gf_ideal.proofs.Identities.{neg_one}
-use Rattle.gf_ideal.proofs.TermLaws.{without, apart, length-without, canonical, canonical_terms}
-use Rattle.gf_ideal.proofs.RingLaws.{ring-plus}
+use Rattle.gf_ideal.proofs.TermLaws.{without, apart, length-without, canonical, canonical_terms, zero_chosen}
+use Rattle.gf_ideal.proofs.RingLaws.{ring-plus, same_in_ring}
 use Rattle.gf_saturation.specs.Saturations.{powered, product_power, next_variable, rabinowitsch}
 
 -- ---- monomials exchanged
@@ -65,17 +64,13 @@ apart_mapped s k x (t ∷ f) e = ap (λ z. (if same e (s t.mono) then t.coef els
         front : (a b c : Fraction) → a +ℚ (b +ℚ c) ≡ b +ℚ (a +ℚ c)
         front a b c = sym (+ℚ_assoc a b c) ∙ ap (λ z. z +ℚ c) (+ℚ_comm a b) ∙ +ℚ_assoc b a c
 
-nothing_chosen : (b : Bool) (c : Fraction) → c ≡ zero_ℚ → (if b then c else zero_ℚ) ≡ zero_ℚ
-nothing_chosen true c z = z
-nothing_chosen false c z = refl
-
 -- zero stays zero
 mapped_zero_of : (s : Exponents → Exponents) → Keeps s → (n : ℕ) (f : Terms) → length f ≤ n → SamePolynomial f [] → SamePolynomial (mapped s f) []
 mapped_zero_of s k n [] l z e = refl
 mapped_zero_of s k zero (t ∷ f) l z e = absurd (omega arith)
 mapped_zero_of s k (suc n) (t ∷ f) l z e =
     apart_mapped s k x (t ∷ f) e
-    ∙ ap (λ y. y +ℚ coefficient (mapped s (without x (t ∷ f))) e) (nothing_chosen (same e (s x)) (coefficient (t ∷ f) x) (z x))
+    ∙ ap (λ y. y +ℚ coefficient (mapped s (without x (t ∷ f))) e) (zero_chosen (same e (s x)) (coefficient (t ∷ f) x) (z x))
     ∙ zero-+ℚ _
     ∙ ap (λ b. coefficient (mapped s (if b then without x f else (t ∷ without x f))) e) (same-refl x)
     ∙ mapped_zero_of s k n (without x f) (omega (arith, length-without x f)) left e
@@ -86,7 +81,7 @@ mapped_zero_of s k (suc n) (t ∷ f) l z e =
     left : SamePolynomial (without x f) []
     left y =
         sym (zero-+ℚ _)
-        ∙ ap (λ c. c +ℚ coefficient (without x f) y) (sym (nothing_chosen (same y x) (coefficient (t ∷ f) x) (z x)))
+        ∙ ap (λ c. c +ℚ coefficient (without x f) y) (sym (zero_chosen (same y x) (coefficient (t ∷ f) x) (z x)))
         ∙ ap (λ b. (if same y x then coefficient (t ∷ f) x else zero_ℚ) +ℚ coefficient (if b then without x f else (t ∷ without x f)) y) (sym (same-refl x))
         ∙ sym (apart x (t ∷ f) y)
         ∙ z y
@@ -158,14 +153,6 @@ ring-next (suc n) (suc i) l = ring-next n i (omega arith)
 pub ring-powered : (n k : ℕ) (u : Exponents) → IsInRing n u → IsInRing n (powered k u)
 ring-powered n zero u r = λ i l. refl
 ring-powered n (suc k) u r = ring-plus n u (powered k u) r (ring-powered n k u r)
-
--- two monomials in the first n variables are the same where their first n exponents are
-pub same_in_ring : (n : ℕ) (x y : Exponents) → IsInRing n x → IsInRing n y → ((i : ℕ) → i < n → entry x i ≡ entry y i) → same x y ≡ true
-same_in_ring n x y r q h = same_by_entries x y (λ i. at i (cases_lt i n))
-  where
-    at : (i : ℕ) → (i < n) ⊎ (n ≤ i) → entry x i ≡ entry y i
-    at i (inl l) = h i l
-    at i (inr g) = r i g ∙ sym (q i g)
 
 -- u to the power k less the exponent of the variable after the first n, in place of that variable
 abbrev pub inverted : ℕ → Exponents → ℕ → Exponents → Exponents

@@ -1,5 +1,5 @@
 -- A session line by line.
--- To cite: cut-exactly. The proofs of converse cite the rest.
+-- The proofs of converse cite these.
 use Rattle.std.proofs.Common.{◌≡◌, ℕ, ◌+◌, ◌≤◌, true, false, List, [], ◌∷◌, ◌++◌, length, map, flat_map, All, refl, ap, sym, ◌∙◌, arith, length-append, take, subst}
 use Rattle.std.proofs.lemmas.List.{append_assoc, append-nil, map-append}
 use Rattle.std.proofs.lemmas.Grind.{flat_map-append}
@@ -8,7 +8,7 @@ use Rattle.std.proofs.Math.Seq.{take-append-add}
 use Rattle.std.proofs.KnownBytes.{Appends-nil, Appends-trans, Appends-kept, Consumes-nil}
 use Rattle.std.specs.declared.option.Option.{Option}
 use Rattle.std.specs.Io.KnownBytes.{Appends, Keeps}
-use Rattle.gf_outside.specs.Moved.{Took, TookExactly, TookAtMost, AppendsPrefix}
+use Rattle.gf_outside.specs.Moved.{Took, TookAtMost, AppendsPrefix}
 use Rattle.gf_outside.proofs.MovedLaws.{Took-append}
 use Rattle.gf_session.specs.declared.choice.Choice.{Choice}
 use Rattle.gf_session.specs.declared.choice.Choice.TheVariants as choices
@@ -225,11 +225,6 @@ turn-cause r joins refuses s here steps left middle leaves given between gives h
     (cause so.t (choice_of h.line) (heard-on r joins s here steps left middle leaves given between gives held holds taken heard so h))
 
 -- ---- how much was taken
-
--- a session that is cut off in a line took just so many bytes
-pub cut-exactly : {P : Type 0} (r : Rules P) (s : Trail P) (left leaves : Option (List ℕ)) (given gives : ℕ) (held holds : Option (List ℕ)) (n : ℕ) →
-    IsCutOff r s left leaves given gives held holds n → TookExactly left leaves given gives n
-cut-exactly r s left leaves given gives held holds n cut = record { bytes = flat_map ended cut.lines ++ cut.rest; took = cut.talk.took; exactly = cut.exactly }
 
 -- and no more than an input may have
 pub cut-short : {P : Type 0} (r : Rules P) (s : Trail P) (left leaves : Option (List ℕ)) (given gives : ℕ) (held holds : Option (List ℕ)) (n : ℕ) →

@@ -1,7 +1,7 @@
 -- Steps and trails, and what a turn does with them. The proofs of the functions of session cite these.
-use Rattle.std.proofs.Common.{◌≡◌, ℕ, suc, ◌-◌, ◌^◌, ◌≤◌, min, List, [], ◌∷◌, ◌++◌, length, reverse, refl, ap, sym, ◌∙◌, arith, inl, inr, Result, Ok, Err, OnOk, IfErr}
+use Rattle.std.proofs.Common.{◌≡◌, ℕ, suc, ◌-◌, ◌^◌, ◌≤◌, min, List, [], ◌∷◌, length, reverse, refl, ap, sym, ◌∙◌, arith, inl, inr, Result, Ok, Err, OnOk, IfErr}
 use Rattle.std.proofs.lemmas.List.{reverse-append, length-reverse}
-use Rattle.std.proofs.KnownBytes.{Appends-nil, Keeps-refl}
+use Rattle.std.proofs.KnownBytes.{Appends-nil}
 use Rattle.std.specs.declared.option.Option.{Option}
 use Rattle.std.specs.Io.KnownBytes.{Appends}
 use Rattle.gf_outside.specs.Moved.{AppendsPrefix}
@@ -10,27 +10,9 @@ use Rattle.gf_session.specs.declared.choice.Choice.TheVariants as choices
 use Rattle.gf_session.specs.declared.session.SessionError.{SessionError}
 use Rattle.gf_session.specs.declared.session.SessionError.TheVariants as errors
 use Rattle.gf_session.specs.Sessions.{Rules, Trail, IsTurn, IsNear, IsUndone, Joins, AreSteps, no_such_facet, nothing_to_undo, not_understood}
-use Rattle.gf_session.specs.Moves.{IsGone, IsBefore, IsBack, IsOn, IsSomeTrail, IsMoveRefusal, IsOfferCause, IsPromptCause, IsTurnTaken, IsTurnUnwritten, IsTurnCause, IsWriteCalm}
+use Rattle.gf_session.specs.Moves.{IsGone, IsBack, IsOn, IsOfferCause, IsPromptCause, IsTurnTaken, IsTurnUnwritten, IsTurnCause}
 
 -- ---- steps
-
--- the latest step leads here from the place before
-pub record IsLast {P S : Type 0} (joins : P → S → P → Type 0) (x : S) (xs : List S) (here : P) (before : List P) : Type 0 where
-  pub p : P
-  pub ps : List P
-  pub was : before ≡ p ∷ ps
-  pub joined : joins p x here
-  pub others : Joins joins xs p ps
-
-split_last : {P S : Type 0} (joins : P → S → P → Type 0) (x : S) (xs : List S) (here : P) (before : List P) → Joins joins (x ∷ xs) here before → IsLast joins x xs here before
-split_last joins x xs here [] e = absurd e
-split_last joins x xs here (p ∷ ps) e = record { p = p; ps = ps; was = refl; joined = e.0; others = e.1 }
-
-pub last-step : {P S : Type 0} (joins : P → S → P → Type 0) (steps less : List S) (x : S) (here : P) (before : List P) → steps ≡ less ++ x ∷ [] → Joins joins (reverse steps) here before →
-    IsLast joins x (reverse less) here before
-last-step joins steps less x here before e are =
-    let turned : reverse steps ≡ x ∷ reverse less = ap reverse e ∙ reverse-append less (x ∷ []) in
-    split_last joins x (reverse less) here before (rw turned at are)
 
 -- as many places are before as there are steps
 joins-length : {P S : Type 0} (joins : P → S → P → Type 0) (xs : List S) (here : P) (before : List P) → Joins joins xs here before → length before ≡ length xs
@@ -40,20 +22,6 @@ joins-length joins (x ∷ xs) here (p ∷ ps) e = ap suc (joins-length joins xs 
 
 pub steps-length : {P S : Type 0} (joins : P → S → P → Type 0) (steps : List S) (s : Trail P) → AreSteps joins steps s → length s.before ≡ length steps
 steps-length joins steps s are = joins-length joins (reverse steps) s.here s.before are ∙ length-reverse steps
-
--- ---- back
-
-pub came-from : {P S : Type 0} (joins : P → S → P → Type 0) (here : P) (steps less : List S) (x : S) → IsSomeTrail joins here steps → steps ≡ less ++ x ∷ [] → (before : P) × joins before x here
-came-from joins here steps less x some e =
-    let last = last-step joins steps less x here some.s.before e (rw some.is_here at some.are_steps) in
-    (last.p, last.joined)
-
-pub back-to : {P S : Type 0} (joins : P → S → P → Type 0) (here there : P) (steps less : List S) (x : S) → steps ≡ less ++ x ∷ [] → ((before : P) → joins before x here → there ≡ before) →
-    (s : Trail P) → s.here ≡ here → AreSteps joins steps s → IsBefore joins s there less
-back-to joins here there steps less x e only s is are =
-    let last = last-step joins steps less x here s.before e (rw is at are) in
-    let same : last.p ≡ there = sym (only last.p last.joined) in
-    record { rest = last.ps; was = last.was ∙ ap (λ p. p ∷ last.ps) same; are_steps = rw same at last.others }
 
 -- ---- turns
 
@@ -223,16 +191,6 @@ cause-prompt r joins refuses here there steps more choice held holds written wri
 cause-prompt r joins refuses here there steps more choice held holds written writes errors.InputTooLong led near cause = absurd cause
 cause-prompt r joins refuses here there steps more choice held holds written writes errors.Memory led near cause = absurd cause
 
--- why a move isn't made
-pub cause-move : {P S E : Type 0} (r : Rules P) (joins : P → S → P → Type 0) (refuses : P → E → Type 0) (here : P) (steps : List S) (choice : Choice) (held : Option (List ℕ)) (written writes : ℕ)
-    (e : SessionError E) → IsMoveRefusal (refuses here) e → IsTurnCause r joins refuses here steps choice held held written writes e
-cause-move r joins refuses here steps choice held written writes errors.Memory cause = Keeps-refl held
-cause-move r joins refuses here steps choice held written writes (errors.Refused x) cause =
-    λ s asked on. record { kept = Keeps-refl held; place = here; near = IsNear.at_hand (sym on.is_here); refused = cause }
-cause-move r joins refuses here steps choice held written writes errors.ReadFault cause = absurd cause
-cause-move r joins refuses here steps choice held written writes errors.InputTooLong cause = absurd cause
-cause-move r joins refuses here steps choice held written writes errors.WriteFault cause = absurd cause
-
 pub near-across : {P S : Type 0} (r : Rules P) (joins : P → S → P → Type 0) (is_place : P → Type 0) (here there : P) (steps more : List S) (k : ℕ) (s : Trail P) → IsGone r joins is_place here steps k there more →
     s.here ≡ here → IsNear r s there
 near-across r joins is_place here there steps more k s gone is = IsNear.beyond k (rw is gone.across)
@@ -241,15 +199,3 @@ pub near-before : {P S : Type 0} (r : Rules P) (joins : P → S → P → Type 0
     s.here ≡ here → AreSteps joins steps s → IsNear r s there
 near-before r joins is_place here there steps less s back is are =
     let b = back.before s is are in IsNear.behind (rw b.was (0, omega arith, refl))
-
--- nothing was written
-pub write-calm-kept : {E : Type 0} (written : ℕ) (e : SessionError E) → IsWriteCalm written written e
-write-calm-kept written errors.ReadFault = refl
-write-calm-kept written errors.InputTooLong = refl
-write-calm-kept written errors.WriteFault = tt
-write-calm-kept written errors.Memory = refl
-write-calm-kept written (errors.Refused x) = refl
-
-pub calm-result : {T E : Type 0} (written : ℕ) (r : Result T (SessionError E)) → IfErr r (IsWriteCalm written written)
-calm-result written (Ok x) = tt
-calm-result written (Err e) = write-calm-kept written e

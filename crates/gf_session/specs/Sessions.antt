@@ -25,12 +25,15 @@ pub record Trail (P : Type 0) : Type 0 where
 
 -- ---- answers
 
+-- to a number that leads nowhere
 abbrev pub no_such_facet : List ℕ
 no_such_facet = codes "no such facet\n"
 
+-- to `u` where no step was taken
 abbrev pub nothing_to_undo : List ℕ
 nothing_to_undo = codes "nothing to undo\n"
 
+-- to any other line
 abbrev pub not_understood : List ℕ
 not_understood = codes "not understood\n"
 

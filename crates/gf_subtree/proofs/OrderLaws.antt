@@ -1,7 +1,7 @@
 -- No walker of a row stands behind a node that is left from it on; a wave and a call keep that.
 -- `early v x` says that v doesn't come behind x.
 -- To cite: AreSorted, sorted_right, IsInOrderAfter, call_order. The rest are steps.
-use Rattle.std.proofs.Common.{◌≡◌, ℕ, zero, suc, List, [], ◌∷◌, ◌++◌, ◌⊎◌, length, refl, sym, ap, inl, inr, subst, ◌∙◌, append_assoc, append-nil, Option, Some, None, Ok, Err}
+use Rattle.std.proofs.Common.{◌≡◌, ℕ, zero, suc, ◌+◌, ◌-◌, List, [], ◌∷◌, ◌++◌, ◌⊎◌, length, refl, sym, ap, inl, inr, subst, ◌∙◌, append_assoc, append-nil, Option, Some, None, Ok, Err}
 use Rattle.std.specs.declared.result.Result.{Result}
 use Rattle.gf_walk.specs.declared.mark.Mark.{Mark}
 use Rattle.gf_walk.specs.declared.mark.Mark.TheVariants.{Before, Listed, After}
@@ -14,11 +14,11 @@ use Rattle.gf_walk.specs.Pieces.{ArePiecesBelow, Follows, GoesDown, PiecesLeave}
 use Rattle.gf_walk.proofs.ListLaws.{gives}
 use Rattle.gf_walk.proofs.SearchLaws.{listed_here}
 use Rattle.gf_walk.proofs.PiecesLaws.{expansion_leaves}
-use Rattle.gf_waves.specs.Frontier.{Frontier, due_at, times_at}
+use Rattle.gf_waves.specs.Frontier.{Frontier, due_at, room_at, times_at, first_job, behind_job}
 use Rattle.gf_waves.specs.Wave.{IsWaved, IsExpansion, ExpandsOn, IsAsked, IsGiven, IsReadied, IsCall}
 use Rattle.gf_waves.proofs.WaveLaws.{over_leaves}
 use Rattle.gf_subtree.specs.Rows.{AreAmong, LeaveInOrder}
-use Rattle.gf_subtree.proofs.RowLaws.{among_both, one_among}
+use Rattle.gf_subtree.proofs.RowLaws.{among_both, one_among, cut_among}
 use Rattle.gf_reverse.proofs.WeightListLaws.{among-right}
 
 -- ---- nodes in order
@@ -146,9 +146,9 @@ module _ {T N L E : Type 0} (lt : L → L → Type 0) (up : T → N → L → N 
   on_order (suc k) zero olds news h later nodes a s l = subst (λ r. Orders later r nodes) (sym h) l
   on_order (suc k) (suc n) [] news h later nodes a s l = subst (λ r. Orders later r nodes) (sym h) l
   on_order (suc k) (suc n) (Ready v ∷ ps) news h later nodes a s l =
-      subst (λ r. Orders later r nodes) (sym h.1) (l.0, l.1, on_order (suc k) n ps h.0 h.2 later l.0 a.1 (subst (AreSorted early) (ap (λ z. z ++ later) l.1) s).2 l.2)
+      subst (λ r. Orders later r nodes) (sym h.1) (l.0, l.1, on_order (suc k) (suc n) ps h.0 h.2 later l.0 a.1 (subst (AreSorted early) (ap (λ z. z ++ later) l.1) s).2 l.2)
   on_order (suc k) (suc n) (Under w ∷ ps) news h later nodes a s l =
-      on_order k (suc n) (h.0 ++ ps) news h.2 later nodes
+      on_order k (n + 2 - length h.0) (h.0 ++ ps) news h.2 later nodes
       (among_both lt up refuses In Is ready down rise h.0 ps (one_among lt up refuses In Is ready down rise w h.0 h.1 a.0) a.1) s
       (subst (Orders later (h.0 ++ ps)) (sym l.2) (order_both later h.0 ps l.0 l.1
       (arrange (l.1 ++ later) h.0 l.0 (leaves_expanded w h.0 h.1 l.0 l.3) (subst (AreSorted early) (over_both later nodes l.0 l.1 l.2) s)
@@ -158,28 +158,34 @@ module _ {T N L E : Type 0} (lt : L → L → Type 0) (up : T → N → L → N 
 
   -- ---- a wave
 
-  join_order : (times : ℕ) (w : Place T N L) (front rest news : List (Piece T N L E)) (f b later nodes : List N) → news ≡ front ++ rest → nodes ≡ f ++ b → ExpandsOn lt up refuses times 8 (Under w ∷ []) front → In w.tree w.here →
-      AreSorted early (nodes ++ later) → IsLeftAt lt up w f → ((x : N) → Among (nodes ++ later) x → early w.here x) → Orders later rest b → Orders later news nodes
-  join_order times w front rest news f b later nodes e n x i s l h k =
-      subst (λ r. Orders later r nodes) (sym e) (subst (Orders later (front ++ rest)) (sym n) (order_both later front rest f b
-      (on_order times 8 (Under w ∷ []) front x (b ++ later) f (i, tt) (subst (AreSorted early) (over_both later nodes f b n) s)
-      (f, [], sym (append-nil f), l, (λ y j. h y (subst (λ z. Among z y) (sym (over_both later nodes f b n)) j)), refl))
-      k))
+  -- the pieces of a job, and then those behind it
+  cut_order : (c m : ℕ) (ps : List (Piece T N L E)) (later nodes : List N) → Orders later ps nodes →
+      (front : List N) × (back : List N) × (nodes ≡ front ++ back) × Orders (back ++ later) (first_job c m ps) front × Orders later (behind_job c m ps) back
+  cut_order zero m ps later nodes l = ([], nodes, refl, refl, l)
+  cut_order (suc c) zero ps later nodes l = ([], nodes, refl, refl, l)
+  cut_order (suc c) (suc m) [] later nodes l = ([], nodes, refl, refl, l)
+  cut_order (suc c) (suc m) (Ready v ∷ ps) later nodes l = (let k = cut_order c (suc m - 0) ps later l.0 l.2 in (v ∷ k.0, k.1, l.1 ∙ ap (λ r. v ∷ r) k.2, (k.0, refl, k.3), k.4))
+  cut_order (suc c) (suc m) (Under w ∷ ps) later nodes l =
+      let k = cut_order c (suc m - 1) ps later l.1 l.5 in
+      let whole : nodes ≡ (l.0 ++ k.0) ++ k.1 = l.2 ∙ ap (λ r. l.0 ++ r) k.2 ∙ sym (append_assoc l.0 k.0 k.1) in
+      (l.0 ++ k.0, k.1, whole, (l.0, k.0, refl, l.3, (λ x j. l.4 x (subst (λ z. Among z x) (sym (over_both later nodes (l.0 ++ k.0) k.1 whole)) j)), k.3), k.4)
+  cut_order (suc c) (suc m) (Refused w e ∷ ps) later nodes l =
+      let k = cut_order c (suc m - 1) ps later l.1 l.5 in
+      let whole : nodes ≡ (l.0 ++ k.0) ++ k.1 = l.2 ∙ ap (λ r. l.0 ++ r) k.2 ∙ sym (append_assoc l.0 k.0 k.1) in
+      (l.0 ++ k.0, k.1, whole, (l.0, k.0, refl, l.3, (λ x j. l.4 x (subst (λ z. Among z x) (sym (over_both later nodes (l.0 ++ k.0) k.1 whole)) j)), k.3), k.4)
 
-  waved_order : (times m : ℕ) (olds news : List (Piece T N L E)) → IsWaved lt up refuses times m olds news → (later nodes : List N) → AreAmong In Is olds → AreSorted early (nodes ++ later) → Orders later olds nodes → Orders later news nodes
-  waved_order times zero olds news h later nodes a s l = subst (λ r. Orders later r nodes) (sym h) l
-  waved_order times (suc m) [] news h later nodes a s l = subst (λ r. Orders later r nodes) (sym h) l
-  waved_order times (suc m) (Ready v ∷ ps) news h later nodes a s l =
-      subst (λ r. Orders later r nodes) (sym h.1) (l.0, l.1, waved_order times (suc m) ps h.0 h.2 later l.0 a.1 (subst (AreSorted early) (ap (λ z. z ++ later) l.1) s).2 l.2)
-  waved_order times (suc m) (Under w ∷ ps) news h later nodes a s l =
-      join_order times w h.0 h.1 news l.0 l.1 later nodes h.2 l.2 h.3 a.0 s l.3 l.4
-      (waved_order times m ps h.1 h.4 later l.1 a.1 (sorted_right early l.0 (l.1 ++ later) (subst (AreSorted early) (over_both later nodes l.0 l.1 l.2) s)) l.5)
-  waved_order times (suc m) (Refused w e ∷ ps) news h later nodes a s l =
-      join_order times w h.0 h.1 news l.0 l.1 later nodes h.2 l.2 h.3 a.0 s l.3 l.4
-      (waved_order times m ps h.1 h.4 later l.1 a.1 (sorted_right early l.0 (l.1 ++ later) (subst (AreSorted early) (over_both later nodes l.0 l.1 l.2) s)) l.5)
+  waved_order : (times room m : ℕ) (olds news : List (Piece T N L E)) → IsWaved lt up refuses times room m olds news → (later nodes : List N) → AreAmong In Is olds → AreSorted early (nodes ++ later) → Orders later olds nodes → Orders later news nodes
+  waved_order times room zero olds news h later nodes a s l = subst (λ r. Orders later r nodes) (sym h) l
+  waved_order times room (suc m) olds news h later nodes a s l =
+      let k = cut_order 32 4 olds later nodes l in
+      let b = cut_among lt up refuses In Is ready down rise 32 4 olds a in
+      let sorted = subst (AreSorted early) (over_both later nodes k.0 k.1 k.2) s in
+      subst (λ r. Orders later r nodes) (sym h.2) (subst (Orders later (h.0 ++ h.1)) (sym k.2) (order_both later h.0 h.1 k.0 k.1
+      (on_order times room (first_job 32 4 olds) h.0 h.3 (k.1 ++ later) k.0 b.0 sorted k.3)
+      (waved_order times room m (behind_job 32 4 olds) h.1 h.4 later k.1 b.1 (sorted_right early k.0 (k.1 ++ later) sorted) k.4)))
 
   readied_order : (workers jobs next : ℕ) (olds worked : List (Piece T N L E)) → IsReadied lt up refuses workers jobs olds next worked → (nodes : List N) → AreAmong In Is olds → AreSorted early (nodes ++ []) → Orders [] olds nodes → Orders [] worked nodes
-  readied_order workers jobs next olds worked (inl h) nodes a s l = waved_order (times_at workers jobs (length olds)) (due_at workers (length olds)) olds worked h.3 [] nodes a s l
+  readied_order workers jobs next olds worked (inl h) nodes a s l = waved_order (times_at jobs) (room_at workers olds) (due_at workers olds) olds worked h.3 [] nodes a s l
   readied_order workers jobs next olds worked (inr h) nodes a s l = subst (λ r. Orders [] r nodes) (sym h.2) l
 
   -- ---- an answer

@@ -1,47 +1,102 @@
 -- How a row is cut up for a wave, and put together again.
--- To cite: waved_jobs, worked_all, planned_few, planned_count, goes_ready, goes_under, goes_refused, goes_none, goes_end.
-use Rattle.std.proofs.Common.{◌≡◌, ℕ, zero, suc, ◌<◌, ◌≤◌, ◌+◌, ◌*◌, List, [], ◌∷◌, ◌++◌, Option, Some, None, length, refl, sym, ap, subst, ◌∙◌, append_assoc, arith, get_or, length-append, append-nil}
+-- To cite: waved_jobs, worked_all, planned_few, planned_fit, spare_more, spare_last, spare_due, cut_more, cut_over, cut_done, goes_job, goes_none.
+use Rattle.std.proofs.Common.{◌≡◌, ℕ, zero, suc, ◌<◌, ◌≤◌, ◌+◌, ◌-◌, ◌*◌, List, [], ◌∷◌, ◌++◌, length, refl, sym, ap, subst, ◌∙◌, append_assoc, arith, get_or, length-append, append-nil}
 use Rattle.std.proofs.Math.Nat.{suc-mul}
 use Rattle.gf_walk.specs.Place.{Place}
 use Rattle.gf_walk.specs.declared.expand.Piece.{Piece}
-use Rattle.gf_walk.specs.declared.expand.Piece.TheVariants.{Ready, Under, Refused}
 use Rattle.gf_waves.specs.declared.job.Job.{Job}
-use Rattle.gf_waves.specs.declared.job.Job.TheVariants.{Due, Stopped, Done}
-use Rattle.gf_waves.specs.Frontier.{job_number, walkers_up_to}
-use Rattle.gf_waves.specs.Plans.{IsPlanned, IsWorked, AreWorked, job_pieces, pieces_of}
+use Rattle.gf_waves.specs.declared.job.Job.TheVariants.{Due, Done}
+use Rattle.gf_waves.specs.Frontier.{job_number, first_job, behind_job, renewed, walkers_of}
+use Rattle.gf_waves.specs.Plans.{IsPlanned, IsSpare, AreSpare, IsDue, IsFit, IsWorked, AreWorked, job_pieces, pieces_of}
 use Rattle.gf_waves.specs.Wave.{IsWaved, ExpandsOn}
-use Rattle.gf_waves.proofs.JobLaws.{on_refused}
+
+-- ---- the pieces of a job
+
+module _ {T N L E : Type 0} where
+  -- together they are as many as there were
+  cut_length : (c m : ℕ) (ps : List (Piece T N L E)) → length (first_job c m ps) + length (behind_job c m ps) ≡ length ps
+  cut_length zero m ps = omega arith
+  cut_length (suc c) zero ps = omega arith
+  cut_length (suc c) (suc m) [] = omega arith
+  cut_length (suc c) (suc m) (p ∷ ps) = (let k = cut_length c (suc m - walkers_of p) ps in omega (arith, k))
+
+  -- one piece more is taken
+  first_more : (c m : ℕ) (p : Piece T N L E) (ps : List (Piece T N L E)) → 0 < c → 0 < m → first_job c m (p ∷ ps) ≡ renewed p ∷ first_job (c - 1) (m - walkers_of p) ps
+  first_more zero m p ps h k = absurd (omega arith)
+  first_more (suc c) zero p ps h k = absurd (omega arith)
+  first_more (suc c) (suc m) p ps h k = ap (λ d. renewed p ∷ first_job d (suc m - walkers_of p) ps) (let e : c ≡ suc c - 1 = omega arith in e)
+
+  behind_more : (c m : ℕ) (p : Piece T N L E) (ps : List (Piece T N L E)) → 0 < c → 0 < m → behind_job c m (p ∷ ps) ≡ behind_job (c - 1) (m - walkers_of p) ps
+  behind_more zero m p ps h k = absurd (omega arith)
+  behind_more (suc c) zero p ps h k = absurd (omega arith)
+  behind_more (suc c) (suc m) p ps h k = ap (λ d. behind_job d (suc m - walkers_of p) ps) (let e : c ≡ suc c - 1 = omega arith in e)
+
+  pub cut_more : (c m d k : ℕ) (p : Piece T N L E) (row rest job more olds : List (Piece T N L E)) → 0 < c → 0 < m → d ≡ c - 1 → k ≡ m - walkers_of p → row ≡ p ∷ rest → more ≡ job ++ renewed p ∷ [] →
+      job ++ first_job c m row ≡ first_job 32 4 olds → behind_job c m row ≡ behind_job 32 4 olds → (more ++ first_job d k rest ≡ first_job 32 4 olds) × (behind_job d k rest ≡ behind_job 32 4 olds)
+  cut_more c m d k p row rest job more olds h i e f is on first behind = (
+    subst (λ x. more ++ first_job x k rest ≡ first_job 32 4 olds) (sym e) (subst (λ x. more ++ first_job (c - 1) x rest ≡ first_job 32 4 olds) (sym f)
+        (ap (λ x. x ++ first_job (c - 1) (m - walkers_of p) rest) on ∙ append_assoc job (renewed p ∷ []) (first_job (c - 1) (m - walkers_of p) rest) ∙ ap (λ x. job ++ x) (sym (first_more c m p rest h i)) ∙ ap (λ x. job ++ first_job c m x) (sym is) ∙ first)),
+    subst (λ x. behind_job x k rest ≡ behind_job 32 4 olds) (sym e) (subst (λ x. behind_job (c - 1) x rest ≡ behind_job 32 4 olds) (sym f) (sym (behind_more c m p rest h i) ∙ ap (behind_job c m) (sym is) ∙ behind)),
+  )
+
+  none_first : (c m : ℕ) → first_job {T = T} {N = N} {L = L} {E = E} c m [] ≡ []
+  none_first zero m = refl
+  none_first (suc c) zero = refl
+  none_first (suc c) (suc m) = refl
+
+  none_behind : (c m : ℕ) → behind_job {T = T} {N = N} {L = L} {E = E} c m [] ≡ []
+  none_behind zero m = refl
+  none_behind (suc c) zero = refl
+  none_behind (suc c) (suc m) = refl
+
+  -- no piece is left
+  pub cut_over : (c m : ℕ) (row rest job olds : List (Piece T N L E)) → row ≡ [] → rest ≡ [] → job ++ first_job c m row ≡ first_job 32 4 olds → behind_job c m row ≡ behind_job 32 4 olds → (job ≡ first_job 32 4 olds) × (rest ≡ behind_job 32 4 olds)
+  cut_over c m row rest job olds e f first behind = (
+    sym (ap (λ x. job ++ x) (ap (first_job c m) e ∙ none_first c m) ∙ append-nil job) ∙ first,
+    f ∙ sym (ap (behind_job c m) e ∙ none_behind c m) ∙ behind,
+  )
+
+  -- no piece is to be taken
+  pub cut_done : (c m : ℕ) (row job olds : List (Piece T N L E)) → (0 < c → 0 < m → ⊥) → job ++ first_job c m row ≡ first_job 32 4 olds → behind_job c m row ≡ behind_job 32 4 olds → (job ≡ first_job 32 4 olds) × (row ≡ behind_job 32 4 olds)
+  cut_done zero m row job olds none first behind = (sym (append-nil job) ∙ first, behind)
+  cut_done (suc c) zero row job olds none first behind = (sym (append-nil job) ∙ first, behind)
+  cut_done (suc c) (suc m) row job olds none first behind = absurd (none (omega arith) (omega arith))
+
+-- ---- spare jobs
+
+module _ {T N L E : Type 0} where
+  pub spare_more : (js : List (Job T N L E)) (j : Job T N L E) → AreSpare js → IsSpare j → AreSpare (js ++ j ∷ [])
+  spare_more [] j a s = (s, tt)
+  spare_more (i ∷ js) j a s = (a.0, spare_more js j a.1 s)
+
+  pub spare_last : (js : List (Job T N L E)) (j : Job T N L E) → AreSpare (js ++ j ∷ []) → AreSpare js × IsSpare j
+  spare_last [] j a = (tt, a.0)
+  spare_last (i ∷ js) j a = (let k = spare_last js j a.1 in ((a.0, k.0), k.1))
 
 -- ---- a row that was cut up, worked on and put together again
 
-module _ {T N L E : Type 0} (lt : L → L → Type 0) (up : T → N → L → N → Type 0) (refuses : Place T N L → E → Type 0) (times : ℕ) (some : 0 < times) where
-  -- what a walker that was due became
-  expanded : (w : Place T N L) (n : ℕ) (t : Job T N L E) → IsWorked lt up refuses times (Due w n) t → ExpandsOn lt up refuses times 8 (Under w ∷ []) (job_pieces t)
-  expanded w n (Due x k) h = absurd h
-  expanded w n (Stopped x e) h = subst (λ y. ExpandsOn lt up refuses times 8 (Under w ∷ []) (Refused y e ∷ [])) (sym h.0) (on_refused lt up refuses times 7 some w e h.1)
-  expanded w n (Done ps) h = h.0
+module _ {T N L E : Type 0} (lt : L → L → Type 0) (up : T → N → L → N → Type 0) (refuses : Place T N L → E → Type 0) (times room : ℕ) where
+  -- what a job that was due became
+  expanded : (n : ℕ) (pieces : List (Piece T N L E)) (s t : Job T N L E) → IsDue n pieces s → IsWorked lt up refuses times room s t → ExpandsOn lt up refuses times room pieces (job_pieces t)
+  expanded n pieces (Due row done k) (Due more dones i) d h = absurd h
+  expanded n pieces (Due row done k) (Done ps) d h = subst (λ x. ExpandsOn lt up refuses times room x ps.items) d.0 h.0
+  expanded n pieces (Done ps) t d h = absurd d
 
-  expanded_few : (w : Place T N L) (n : ℕ) (t : Job T N L E) → IsWorked lt up refuses times (Due w n) t → length (job_pieces t) ≤ times * 2 + 1
-  expanded_few w n (Due x k) h = absurd h
-  expanded_few w n (Stopped x e) h = omega arith
-  expanded_few w n (Done ps) h = h.1
+  expanded_few : (n : ℕ) (pieces : List (Piece T N L E)) (s t : Job T N L E) → IsDue n pieces s → IsWorked lt up refuses times room s t → length (job_pieces t) ≤ length pieces + room + 1
+  expanded_few n pieces (Due row done k) (Due more dones i) d h = absurd h
+  expanded_few n pieces (Due row done k) (Done ps) d h = subst (λ x. length ps.items ≤ length x + room + 1) d.0 h.1
+  expanded_few n pieces (Done ps) t d h = absurd d
 
-  -- the first place of a plan is a job
-  job_first : (m n : ℕ) (ps tail : List (Piece T N L E)) (w : Place T N L) (places qs : List (Option N)) (js dones : List (Job T N L E)) → places ≡ None ∷ qs → AreWorked lt up refuses times (Due w (job_number n) ∷ js) dones →
-      ((ts : List (Job T N L E)) → AreWorked lt up refuses times js ts → IsWaved lt up refuses times m ps (pieces_of qs ts ++ tail)) →
-      (front : List (Piece T N L E)) × (rest : List (Piece T N L E)) × (pieces_of places dones ++ tail ≡ front ++ rest) × ExpandsOn lt up refuses times 8 (Under w ∷ []) front × IsWaved lt up refuses times m ps rest
-  job_first m n ps tail w places qs js [] e a rec = absurd a
-  job_first m n ps tail w places qs js (t ∷ ts) e a rec = (job_pieces t, pieces_of qs ts ++ tail, ap (λ q. pieces_of q (t ∷ ts) ++ tail) e ∙ append_assoc (job_pieces t) (pieces_of qs ts) tail, expanded w (job_number n) t a.0, rec ts a.1)
-
-  pub waved_jobs : (m n : ℕ) (olds tail : List (Piece T N L E)) (places : List (Option N)) (jobs dones : List (Job T N L E)) → IsPlanned m n olds places jobs tail → AreWorked lt up refuses times jobs dones → IsWaved lt up refuses times m olds (pieces_of places dones ++ tail)
-  waved_jobs zero n olds tail places jobs dones p a = ap (λ q. pieces_of q dones ++ tail) p.0 ∙ p.2
-  waved_jobs (suc m) n [] tail places jobs dones p a = ap (λ q. pieces_of q dones ++ tail) p.0 ∙ p.2
-  waved_jobs (suc m) n (Ready v ∷ ps) tail places jobs dones p a = (pieces_of p.0 dones ++ tail, ap (λ q. pieces_of q dones ++ tail) p.1, waved_jobs (suc m) n ps tail p.0 jobs dones p.2 a)
-  waved_jobs (suc m) n (Under w ∷ ps) tail places jobs dones p a = job_first m n ps tail w places p.0 p.1 dones p.2 (subst (λ s. AreWorked lt up refuses times s dones) p.3 a) (λ ts h. waved_jobs m (n + 1) ps tail p.0 p.1 ts p.4 h)
-  waved_jobs (suc m) n (Refused w e ∷ ps) tail places jobs dones p a = job_first m n ps tail w places p.0 p.1 dones p.2 (subst (λ s. AreWorked lt up refuses times s dones) p.3 a) (λ ts h. waved_jobs m (n + 1) ps tail p.0 p.1 ts p.4 h)
+  pub waved_jobs : (m n : ℕ) (olds tail : List (Piece T N L E)) (jobs dones : List (Job T N L E)) → IsPlanned m n olds jobs tail → AreWorked lt up refuses times room jobs dones → IsWaved lt up refuses times room m olds (pieces_of dones ++ tail)
+  waved_jobs zero n olds tail jobs [] p a = p.1
+  waved_jobs zero n olds tail jobs (t ∷ ts) p a = absurd (subst (λ s. AreWorked lt up refuses times room s (t ∷ ts)) p.0 a)
+  waved_jobs (suc m) n olds tail jobs [] p a = absurd (subst (λ s. AreWorked lt up refuses times room s []) p.2 a)
+  waved_jobs (suc m) n olds tail jobs (t ∷ ts) p a =
+      let k = subst (λ s. AreWorked lt up refuses times room s (t ∷ ts)) p.2 a in
+      (job_pieces t, pieces_of ts ++ tail, append_assoc (job_pieces t) (pieces_of ts) tail, expanded (job_number n) (first_job 32 4 olds) p.0 t p.3 k.0, waved_jobs m (n + 1) (behind_job 32 4 olds) tail p.1 ts p.4 k.1)
 
   -- job by job from index by index
-  pub worked_all : (ss ts : List (Job T N L E)) → length ts ≡ length ss → ((i : ℕ) (d : Job T N L E) → i < length ss → IsWorked lt up refuses times (get_or ss i d) (get_or ts i d)) → AreWorked lt up refuses times ss ts
+  pub worked_all : (ss ts : List (Job T N L E)) → length ts ≡ length ss → ((i : ℕ) (d : Job T N L E) → i < length ss → IsWorked lt up refuses times room (get_or ss i d) (get_or ts i d)) → AreWorked lt up refuses times room ss ts
   worked_all [] [] e z = tt
   worked_all [] (t ∷ ts) e z = absurd (omega arith)
   worked_all (s ∷ ss) [] e z = absurd (omega arith)
@@ -49,91 +104,53 @@ module _ {T N L E : Type 0} (lt : L → L → Type 0) (up : T → N → L → N 
 
   -- ---- its length
 
-  longer : (m a b c k : ℕ) → a ≤ times * 2 + 1 → b ≤ c + m * (times * 2) → k ≡ a + b → k ≤ suc c + suc m * (times * 2)
-  longer m a b c k h j e = (let x : suc m * (times * 2) ≡ times * 2 + m * (times * 2) = (let y = suc-mul m (times * 2) in omega (arith, y)) in omega (arith, x))
-
-  few_first : (m n : ℕ) (ps tail : List (Piece T N L E)) (w : Place T N L) (places qs : List (Option N)) (js dones : List (Job T N L E)) → places ≡ None ∷ qs → AreWorked lt up refuses times (Due w (job_number n) ∷ js) dones →
-      ((ts : List (Job T N L E)) → AreWorked lt up refuses times js ts → length (pieces_of qs ts ++ tail) ≤ length ps + m * (times * 2)) → length (pieces_of places dones ++ tail) ≤ suc (length ps) + suc m * (times * 2)
-  few_first m n ps tail w places qs js [] e a rec = absurd a
-  few_first m n ps tail w places qs js (t ∷ ts) e a rec = longer m (length (job_pieces t)) (length (pieces_of qs ts ++ tail)) (length ps) (length (pieces_of places (t ∷ ts) ++ tail)) (expanded_few w (job_number n) t a.0) (rec ts a.1)
-      (ap (λ q. length (pieces_of q (t ∷ ts) ++ tail)) e ∙ ap length (append_assoc (job_pieces t) (pieces_of qs ts) tail) ∙ length-append (job_pieces t) (pieces_of qs ts ++ tail))
+  longer : (m a b c d k l : ℕ) → a ≤ c + room + 1 → b ≤ d + m * (room + 1) → c + d ≡ l → k ≡ a + b → k ≤ l + suc m * (room + 1)
+  longer m a b c d k l h j s e = (let x : suc m * (room + 1) ≡ room + 1 + m * (room + 1) = (let y = suc-mul m (room + 1) in omega (arith, y)) in omega (arith, x, h, j, s, e))
 
   -- the row is longer by at most so much a job
-  pub planned_few : (m n : ℕ) (olds tail : List (Piece T N L E)) (places : List (Option N)) (jobs dones : List (Job T N L E)) → IsPlanned m n olds places jobs tail → AreWorked lt up refuses times jobs dones → length (pieces_of places dones ++ tail) ≤ length olds + m * (times * 2)
-  planned_few zero n olds tail places jobs dones p a = (let k : length (pieces_of places dones ++ tail) ≡ length olds = ap length (ap (λ q. pieces_of q dones ++ tail) p.0 ∙ p.2) in omega arith)
-  planned_few (suc m) n [] tail places jobs dones p a = (let k : length (pieces_of places dones ++ tail) ≡ 0 = ap length (ap (λ q. pieces_of q dones ++ tail) p.0 ∙ p.2) in omega arith)
-  planned_few (suc m) n (Ready v ∷ ps) tail places jobs dones p a =
-      let h = planned_few (suc m) n ps tail p.0 jobs dones p.2 a in
-      let k : length (pieces_of places dones ++ tail) ≡ suc (length (pieces_of p.0 dones ++ tail)) = ap (λ q. length (pieces_of q dones ++ tail)) p.1 in
-      omega (arith, h, k)
-  planned_few (suc m) n (Under w ∷ ps) tail places jobs dones p a = few_first m n ps tail w places p.0 p.1 dones p.2 (subst (λ s. AreWorked lt up refuses times s dones) p.3 a) (λ ts h. planned_few m (n + 1) ps tail p.0 p.1 ts p.4 h)
-  planned_few (suc m) n (Refused w e ∷ ps) tail places jobs dones p a = few_first m n ps tail w places p.0 p.1 dones p.2 (subst (λ s. AreWorked lt up refuses times s dones) p.3 a) (λ ts h. planned_few m (n + 1) ps tail p.0 p.1 ts p.4 h)
+  pub planned_few : (m n : ℕ) (olds tail : List (Piece T N L E)) (jobs dones : List (Job T N L E)) → IsPlanned m n olds jobs tail → AreWorked lt up refuses times room jobs dones → length (pieces_of dones ++ tail) ≤ length olds + m * (room + 1)
+  planned_few zero n olds tail jobs [] p a = (let k : length tail ≡ length olds = ap length p.1 in omega (arith, k))
+  planned_few zero n olds tail jobs (t ∷ ts) p a = absurd (subst (λ s. AreWorked lt up refuses times room s (t ∷ ts)) p.0 a)
+  planned_few (suc m) n olds tail jobs [] p a = absurd (subst (λ s. AreWorked lt up refuses times room s []) p.2 a)
+  planned_few (suc m) n olds tail jobs (t ∷ ts) p a =
+      let k = subst (λ s. AreWorked lt up refuses times room s (t ∷ ts)) p.2 a in
+      longer m (length (job_pieces t)) (length (pieces_of ts ++ tail)) (length (first_job 32 4 olds)) (length (behind_job 32 4 olds)) (length (pieces_of (t ∷ ts) ++ tail)) (length olds)
+      (expanded_few (job_number n) (first_job 32 4 olds) p.0 t p.3 k.0) (planned_few m (n + 1) (behind_job 32 4 olds) tail p.1 ts p.4 k.1) (cut_length 32 4 olds)
+      (ap length (append_assoc (job_pieces t) (pieces_of ts) tail) ∙ length-append (job_pieces t) (pieces_of ts ++ tail))
 
--- ---- how many jobs there are
+-- ---- each job of a plan has room
 
-pub planned_count : {T N L E : Type 0} (m n : ℕ) (olds tail : List (Piece T N L E)) (places : List (Option N)) (jobs : List (Job T N L E)) → IsPlanned m n olds places jobs tail → length jobs ≡ walkers_up_to m olds
-planned_count zero n olds tail places jobs p = ap length p.1
-planned_count (suc m) n [] tail places jobs p = ap length p.1
-planned_count (suc m) n (Ready v ∷ ps) tail places jobs p = planned_count (suc m) n ps tail p.0 jobs p.2
-planned_count (suc m) n (Under w ∷ ps) tail places jobs p = ap length p.3 ∙ ap suc (planned_count m (n + 1) ps tail p.0 p.1 p.4)
-planned_count (suc m) n (Refused w e ∷ ps) tail places jobs p = ap length p.3 ∙ ap suc (planned_count m (n + 1) ps tail p.0 p.1 p.4)
+module _ {T N L E : Type 0} where
+  due_fit : (n : ℕ) (pieces : List (Piece T N L E)) (j : Job T N L E) → IsDue n pieces j → IsFit j
+  due_fit n pieces (Due row done k) d = (d.2, d.3, d.4, d.5)
+  due_fit n pieces (Done ps) d = absurd d
+
+  fit_at : (m n : ℕ) (olds tail : List (Piece T N L E)) (jobs : List (Job T N L E)) → IsPlanned m n olds jobs tail → (i : ℕ) (d : Job T N L E) → i < length jobs → IsFit (get_or jobs i d)
+  fit_at zero n olds tail jobs p i d h = absurd (let k : length jobs ≡ 0 = ap length p.0 in omega (arith, h, k))
+  fit_at (suc m) n olds tail jobs p zero d h = subst (λ s. IsFit (get_or s zero d)) (sym p.2) (due_fit (job_number n) (first_job 32 4 olds) p.0 p.3)
+  fit_at (suc m) n olds tail jobs p (suc i) d h = subst (λ s. IsFit (get_or s (suc i) d)) (sym p.2) (fit_at m (n + 1) (behind_job 32 4 olds) tail p.1 p.4 i d (let k : length jobs ≡ suc (length p.1) = ap length p.2 in omega (arith, h, k)))
+
+  pub planned_fit : (m n : ℕ) (olds tail : List (Piece T N L E)) (jobs : List (Job T N L E)) → IsPlanned m n olds jobs tail → (i : ℕ) (d : Job T N L E) → i < length jobs → IsFit (get_or jobs i d)
+  planned_fit = fit_at
 
 -- ---- a plan that goes on
 
 module _ {T N L E : Type 0} (due first : ℕ) (olds : List (Piece T N L E)) where
-  -- a plan of what is left of the row, for so many walkers more, goes on from the places and jobs that are there
-  abbrev pub Goes : ℕ → List (Piece T N L E) → List (Option N) → List (Job T N L E) → Type 0
-  Goes m row places jobs = (qs : List (Option N)) (js : List (Job T N L E)) (tail : List (Piece T N L E)) → IsPlanned m (first + length jobs) row qs js tail → IsPlanned due first olds (places ++ qs) (jobs ++ js) tail
+  -- a plan of what is left of the row, for so many jobs more, goes on from the jobs that are there
+  abbrev pub Goes : ℕ → List (Piece T N L E) → List (Job T N L E) → Type 0
+  Goes m row jobs = (js : List (Job T N L E)) (tail : List (Piece T N L E)) → IsPlanned m (first + length jobs) row js tail → IsPlanned due first olds (jobs ++ js) tail
 
   behind : {X : Type 0} (xs news ys : List X) (x : X) → news ≡ xs ++ x ∷ [] → news ++ ys ≡ xs ++ (x ∷ ys)
   behind xs news ys x e = ap (λ n. n ++ ys) e ∙ append_assoc xs (x ∷ []) ys
 
-  ready_one : (m : ℕ) (row rest : List (Piece T N L E)) (places news : List (Option N)) (jobs : List (Job T N L E)) (v : N) → 0 < m → row ≡ Ready v ∷ rest → news ≡ places ++ Some v ∷ [] → Goes m row places jobs → Goes m rest news jobs
-  ready_one zero row rest places news jobs v h e is goes = absurd (omega arith)
-  ready_one (suc m) row rest places news jobs v h e is goes = λ qs js tail p.
-      subst (λ x. IsPlanned due first olds x (jobs ++ js) tail) (sym (behind places news qs (Some v) is))
-      (goes (Some v ∷ qs) js tail (subst (λ r. IsPlanned (suc m) (first + length jobs) r (Some v ∷ qs) js tail) (sym e) (qs, refl, p)))
+  -- past a job
+  pub goes_job : (m k : ℕ) (row rest : List (Piece T N L E)) (jobs more : List (Job T N L E)) (job : Job T N L E) → m ≡ suc k → rest ≡ behind_job 32 4 row → IsDue (job_number (first + length jobs)) (first_job 32 4 row) job → more ≡ jobs ++ job ∷ [] → Goes m row jobs → Goes k rest more
+  goes_job m k row rest jobs more job e f is on goes = λ js tail p.
+      let long : first + length more ≡ (first + length jobs) + 1 = (let g = ap length on ∙ length-append jobs (job ∷ []) in omega (arith, g)) in
+      subst (λ x. IsPlanned due first olds x tail) (sym (behind jobs more js job on))
+      (goes (job ∷ js) tail (subst (λ j. IsPlanned j (first + length jobs) row (job ∷ js) tail) (sym e)
+      (job, js, refl, is, subst (λ n. IsPlanned k n (behind_job 32 4 row) js tail) long (subst (λ r. IsPlanned k (first + length more) r js tail) f p))))
 
-  -- past a ready node
-  pub goes_ready : (m k : ℕ) (row rest : List (Piece T N L E)) (places news : List (Option N)) (jobs more : List (Job T N L E)) (v : N) → 0 < m → k ≡ m → more ≡ jobs → row ≡ Ready v ∷ rest → news ≡ places ++ Some v ∷ [] → Goes m row places jobs → Goes k rest news more
-  goes_ready m k row rest places news jobs more v h e f is on goes = subst (λ j. Goes j rest news more) (sym e) (subst (λ s. Goes m rest news s) (sym f) (ready_one m row rest places news jobs v h is on goes))
-
-  -- the jobs with one more, for a walker
-  abbrev WithJob : List (Job T N L E) → Place T N L → List (Job T N L E) → Type 0
-  WithJob jobs w more = more ≡ jobs ++ Due w (job_number (first + length jobs)) ∷ []
-
-  goes_job : (m k : ℕ) (row rest : List (Piece T N L E)) (places news : List (Option N)) (jobs more : List (Job T N L E)) (w : Place T N L) → news ≡ places ++ None ∷ [] → WithJob jobs w more →
-      ((qs : List (Option N)) (js : List (Job T N L E)) (tail : List (Piece T N L E)) → IsPlanned k ((first + length jobs) + 1) rest qs js tail → IsPlanned m (first + length jobs) row (None ∷ qs) (Due w (job_number (first + length jobs)) ∷ js) tail) → Goes m row places jobs → Goes k rest news more
-  goes_job m k row rest places news jobs more w is on one goes = λ qs js tail p.
-      let job = Due w (job_number (first + length jobs)) in
-      let long : first + length more ≡ (first + length jobs) + 1 = (let e = ap length on ∙ length-append jobs (job ∷ []) in omega (arith, e)) in
-      subst (λ x. IsPlanned due first olds x (more ++ js) tail) (sym (behind places news qs None is))
-      (subst (λ x. IsPlanned due first olds (places ++ (None ∷ qs)) x tail) (sym (behind jobs more js job on))
-      (goes (None ∷ qs) (job ∷ js) tail (one qs js tail (subst (λ n. IsPlanned k n rest qs js tail) long p))))
-
-  -- past a walker
-  pub goes_under : (m k : ℕ) (row rest : List (Piece T N L E)) (places news : List (Option N)) (jobs more : List (Job T N L E)) (w : Place T N L) → m ≡ suc k → row ≡ Under w ∷ rest → news ≡ places ++ None ∷ [] → WithJob jobs w more → Goes m row places jobs → Goes k rest news more
-  goes_under m k row rest places news jobs more w e f is on goes =
-      let job = Due w (job_number (first + length jobs)) in
-      goes_job m k row rest places news jobs more w is on
-      (λ qs js tail p. subst (λ j. IsPlanned j (first + length jobs) row (None ∷ qs) (job ∷ js) tail) (sym e) (subst (λ r. IsPlanned (suc k) (first + length jobs) r (None ∷ qs) (job ∷ js) tail) (sym f) (qs, js, refl, refl, p))) goes
-
-  pub goes_refused : (m k : ℕ) (row rest : List (Piece T N L E)) (places news : List (Option N)) (jobs more : List (Job T N L E)) (w : Place T N L) (x : E) → m ≡ suc k → row ≡ Refused w x ∷ rest → news ≡ places ++ None ∷ [] → WithJob jobs w more → Goes m row places jobs → Goes k rest news more
-  goes_refused m k row rest places news jobs more w x e f is on goes =
-      let job = Due w (job_number (first + length jobs)) in
-      goes_job m k row rest places news jobs more w is on
-      (λ qs js tail p. subst (λ j. IsPlanned j (first + length jobs) row (None ∷ qs) (job ∷ js) tail) (sym e) (subst (λ r. IsPlanned (suc k) (first + length jobs) r (None ∷ qs) (job ∷ js) tail) (sym f) (qs, js, refl, refl, p))) goes
-
-  goes_to : (m : ℕ) (row : List (Piece T N L E)) (places : List (Option N)) (jobs : List (Job T N L E)) → IsPlanned m (first + length jobs) row [] [] row → Goes m row places jobs → IsPlanned due first olds places jobs row
-  goes_to m row places jobs p goes = subst (λ x. IsPlanned due first olds x jobs row) (append-nil places) (subst (λ x. IsPlanned due first olds (places ++ []) x row) (append-nil jobs) (goes [] [] row p))
-
-  pub goes_none : (m : ℕ) (row : List (Piece T N L E)) (places : List (Option N)) (jobs : List (Job T N L E)) → m ≡ 0 → Goes m row places jobs → IsPlanned due first olds places jobs row
-  goes_none m row places jobs e goes = goes_to m row places jobs (subst (λ j. IsPlanned j (first + length jobs) row [] [] row) (sym e) (refl, refl, refl)) goes
-
-  nothing_due : (m n : ℕ) → IsPlanned {T = T} {N = N} {L = L} {E = E} m n [] [] [] []
-  nothing_due zero n = (refl, refl, refl)
-  nothing_due (suc m) n = (refl, refl, refl)
-
-  pub goes_end : (m : ℕ) (row rest : List (Piece T N L E)) (places : List (Option N)) (jobs : List (Job T N L E)) → row ≡ [] → rest ≡ [] → Goes m row places jobs → IsPlanned due first olds places jobs rest
-  goes_end m row rest places jobs e f goes = subst (λ r. IsPlanned due first olds places jobs r) (e ∙ sym f)
-      (goes_to m row places jobs (subst (λ r. IsPlanned m (first + length jobs) r [] [] r) (sym e) (nothing_due m (first + length jobs))) goes)
+  -- no job is to be made any more
+  pub goes_none : (m : ℕ) (row : List (Piece T N L E)) (jobs : List (Job T N L E)) → m ≡ 0 → Goes m row jobs → IsPlanned due first olds jobs row
+  goes_none m row jobs e goes = subst (λ x. IsPlanned due first olds x row) (append-nil jobs) (goes [] row (subst (λ j. IsPlanned j (first + length jobs) row [] row) (sym e) (refl, refl)))

@@ -1,6 +1,6 @@
 -- A wave and a call keep that each refusal in the row is its walker's, and a refusal that is told is that of the walker in front.
 -- To cite: waved_refusals, given_refusals, given_refused_any, starved_refused.
-use Rattle.std.proofs.Common.{IfErr, ◌≡◌, ℕ, zero, suc, List, [], ◌∷◌, ◌++◌, refl, sym, inl, inr, subst, Option, Some, None, Ok, Err, true, false}
+use Rattle.std.proofs.Common.{IfErr, ◌≡◌, ℕ, zero, suc, ◌+◌, ◌-◌, length, List, [], ◌∷◌, ◌++◌, refl, sym, inl, inr, subst, Option, Some, None, Ok, Err, true, false}
 use Rattle.std.specs.declared.result.Result.{Result}
 use Rattle.gf_walk.specs.declared.mark.Mark.{Mark}
 use Rattle.gf_walk.specs.declared.mark.Mark.TheVariants.{After}
@@ -8,7 +8,7 @@ use Rattle.gf_walk.specs.Place.{Place}
 use Rattle.gf_walk.specs.Pieces.{ArePiecesBelow, Follows, GoesDown}
 use Rattle.gf_walk.specs.declared.expand.Piece.{Piece}
 use Rattle.gf_walk.specs.declared.expand.Piece.TheVariants.{Ready, Under, Refused}
-use Rattle.gf_waves.specs.Frontier.{AreRefusals, IsFrontRefused}
+use Rattle.gf_waves.specs.Frontier.{AreRefusals, IsFrontRefused, first_job, behind_job}
 use Rattle.gf_waves.specs.Wave.{IsWaved, IsExpansion, ExpandsOn, IsGiven, is_served}
 
 module _ {T N L E : Type 0} (lt : L → L → Type 0) (up : T → N → L → N → Type 0) (refuses : Place T N L → E → Type 0) where
@@ -46,18 +46,33 @@ module _ {T N L E : Type 0} (lt : L → L → Type 0) (up : T → N → L → N 
   on_refusals zero n olds news h a = subst (AreRefusals refuses) (sym h) a
   on_refusals (suc k) zero olds news h a = subst (AreRefusals refuses) (sym h) a
   on_refusals (suc k) (suc n) [] news h a = subst (AreRefusals refuses) (sym h) a
-  on_refusals (suc k) (suc n) (Ready v ∷ ps) news h a = subst (AreRefusals refuses) (sym h.1) (on_refusals (suc k) n ps h.0 h.2 a)
-  on_refusals (suc k) (suc n) (Under w ∷ ps) news h a = on_refusals k (suc n) (h.0 ++ ps) news h.2 (refusals_both h.0 ps (one_refusals w h.0 h.1) a)
+  on_refusals (suc k) (suc n) (Ready v ∷ ps) news h a = subst (AreRefusals refuses) (sym h.1) (on_refusals (suc k) (suc n) ps h.0 h.2 a)
+  on_refusals (suc k) (suc n) (Under w ∷ ps) news h a = on_refusals k (n + 2 - length h.0) (h.0 ++ ps) news h.2 (refusals_both h.0 ps (one_refusals w h.0 h.1) a)
   on_refusals (suc k) (suc n) (Refused w e ∷ ps) news h a = subst (AreRefusals refuses) (sym h) a
 
   -- ---- a wave
 
-  pub waved_refusals : (times m : ℕ) (olds news : List (Piece T N L E)) → IsWaved lt up refuses times m olds news → AreRefusals refuses olds → AreRefusals refuses news
-  waved_refusals times zero olds news h a = subst (AreRefusals refuses) (sym h) a
-  waved_refusals times (suc m) [] news h a = subst (AreRefusals refuses) (sym h) a
-  waved_refusals times (suc m) (Ready v ∷ ps) news h a = subst (AreRefusals refuses) (sym h.1) (waved_refusals times (suc m) ps h.0 h.2 a)
-  waved_refusals times (suc m) (Under w ∷ ps) news h a = subst (AreRefusals refuses) (sym h.2) (refusals_both h.0 h.1 (on_refusals times 8 (Under w ∷ []) h.0 h.3 tt) (waved_refusals times m ps h.1 h.4 a))
-  waved_refusals times (suc m) (Refused w e ∷ ps) news h a = subst (AreRefusals refuses) (sym h.2) (refusals_both h.0 h.1 (on_refusals times 8 (Under w ∷ []) h.0 h.3 tt) (waved_refusals times m ps h.1 h.4 a.1))
+  -- the pieces of a job have none
+  first_refusals : (c m : ℕ) (ps : List (Piece T N L E)) → AreRefusals refuses (first_job c m ps)
+  first_refusals zero m ps = tt
+  first_refusals (suc c) zero ps = tt
+  first_refusals (suc c) (suc m) [] = tt
+  first_refusals (suc c) (suc m) (Ready v ∷ ps) = first_refusals c (suc m - 0) ps
+  first_refusals (suc c) (suc m) (Under w ∷ ps) = first_refusals c (suc m - 1) ps
+  first_refusals (suc c) (suc m) (Refused w e ∷ ps) = first_refusals c (suc m - 1) ps
+
+  behind_refusals : (c m : ℕ) (ps : List (Piece T N L E)) → AreRefusals refuses ps → AreRefusals refuses (behind_job c m ps)
+  behind_refusals zero m ps a = a
+  behind_refusals (suc c) zero ps a = a
+  behind_refusals (suc c) (suc m) [] a = a
+  behind_refusals (suc c) (suc m) (Ready v ∷ ps) a = behind_refusals c (suc m - 0) ps a
+  behind_refusals (suc c) (suc m) (Under w ∷ ps) a = behind_refusals c (suc m - 1) ps a
+  behind_refusals (suc c) (suc m) (Refused w e ∷ ps) a = behind_refusals c (suc m - 1) ps a.1
+
+  pub waved_refusals : (times room m : ℕ) (olds news : List (Piece T N L E)) → IsWaved lt up refuses times room m olds news → AreRefusals refuses olds → AreRefusals refuses news
+  waved_refusals times room zero olds news h a = subst (AreRefusals refuses) (sym h) a
+  waved_refusals times room (suc m) olds news h a =
+      subst (AreRefusals refuses) (sym h.2) (refusals_both h.0 h.1 (on_refusals times room (first_job 32 4 olds) h.0 h.3 (first_refusals 32 4 olds)) (waved_refusals times room m (behind_job 32 4 olds) h.1 h.4 (behind_refusals 32 4 olds a)))
 
   -- ---- an answer
 

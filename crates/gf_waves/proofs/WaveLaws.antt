@@ -1,6 +1,6 @@
 -- A wave and a call keep what is left.
 -- To cite: over_leaves, given_leaves, readied_leaves.
-use Rattle.std.proofs.Common.{◌≡◌, ℕ, zero, suc, List, [], ◌∷◌, ◌++◌, length, refl, sym, ap, inl, inr, subst, ◌∙◌, append_assoc, append-nil, Option, Some, None, Ok, Err}
+use Rattle.std.proofs.Common.{◌≡◌, ℕ, zero, suc, ◌+◌, ◌-◌, List, [], ◌∷◌, ◌++◌, length, refl, sym, ap, inl, inr, subst, ◌∙◌, append_assoc, append-nil, Option, Some, None, Ok, Err}
 use Rattle.std.specs.declared.result.Result.{Result}
 use Rattle.gf_walk.specs.Path.{IsPath, IsStrictOrder, IsTree}
 use Rattle.gf_walk.specs.Place.{Place}
@@ -10,7 +10,7 @@ use Rattle.gf_walk.specs.declared.expand.Piece.{Piece}
 use Rattle.gf_walk.specs.declared.expand.Piece.TheVariants.{Ready, Under, Refused}
 use Rattle.gf_walk.proofs.PiecesLaws.{expansion_leaves}
 use Rattle.gf_waves.specs.Wave.{IsWaved, IsExpansion, ExpandsOn, IsGiven, IsAsked, IsReadied, IsAfter}
-use Rattle.gf_waves.specs.Frontier.{due_at, times_at}
+use Rattle.gf_waves.specs.Frontier.{due_at, room_at, times_at, first_job, behind_job}
 use Rattle.gf_walk.specs.Walk.{IsOver}
 use Rattle.gf_walk.proofs.ListLaws.{gives}
 
@@ -20,6 +20,16 @@ leave_both left [] qs front back a b = subst (λ f. PiecesLeave left qs (f ++ ba
 leave_both left (Ready v ∷ ps) qs front back a b = (a.0 ++ back, ap (λ f. f ++ back) a.1, leave_both left ps qs a.0 back a.2 b)
 leave_both left (Under w ∷ ps) qs front back a b = (a.0, a.1 ++ back, ap (λ f. f ++ back) a.2 ∙ append_assoc a.0 a.1 back, a.3, leave_both left ps qs a.1 back a.4 b)
 leave_both left (Refused w e ∷ ps) qs front back a b = (a.0, a.1 ++ back, ap (λ f. f ++ back) a.2 ∙ append_assoc a.0 a.1 back, a.3, leave_both left ps qs a.1 back a.4 b)
+
+-- the pieces of a job, and then those behind it
+cut_leaves : {T N L E : Type 0} (left : Place T N L → List N → Type 0) (c m : ℕ) (ps : List (Piece T N L E)) (nodes : List N) → PiecesLeave left ps nodes →
+    (front : List N) × (back : List N) × (nodes ≡ front ++ back) × PiecesLeave left (first_job c m ps) front × PiecesLeave left (behind_job c m ps) back
+cut_leaves left zero m ps nodes l = ([], nodes, refl, refl, l)
+cut_leaves left (suc c) zero ps nodes l = ([], nodes, refl, refl, l)
+cut_leaves left (suc c) (suc m) [] nodes l = ([], nodes, refl, refl, l)
+cut_leaves left (suc c) (suc m) (Ready v ∷ ps) nodes l = (let k = cut_leaves left c (suc m - 0) ps l.0 l.2 in (v ∷ k.0, k.1, l.1 ∙ ap (λ r. v ∷ r) k.2, (k.0, refl, k.3), k.4))
+cut_leaves left (suc c) (suc m) (Under w ∷ ps) nodes l = (let k = cut_leaves left c (suc m - 1) ps l.1 l.4 in (l.0 ++ k.0, k.1, l.2 ∙ ap (λ r. l.0 ++ r) k.2 ∙ sym (append_assoc l.0 k.0 k.1), (l.0, k.0, refl, l.3, k.3), k.4))
+cut_leaves left (suc c) (suc m) (Refused w e ∷ ps) nodes l = (let k = cut_leaves left c (suc m - 1) ps l.1 l.4 in (l.0 ++ k.0, k.1, l.2 ∙ ap (λ r. l.0 ++ r) k.2 ∙ sym (append_assoc l.0 k.0 k.1), (l.0, k.0, refl, l.3, k.3), k.4))
 
 module _ {T N L E : Type 0} (lt : L → L → Type 0) (up : T → N → L → N → Type 0) (strict : IsStrictOrder lt) (trees : (t : T) → IsTree (up t)) (refuses : Place T N L → E → Type 0) where
   one_leaves : (w : Place T N L) (ps : List (Piece T N L E)) → IsExpansion lt up refuses w ps → (nodes : List N) → IsLeftAt lt up w nodes → PiecesLeave (IsLeftAt lt up) ps nodes
@@ -31,20 +41,17 @@ module _ {T N L E : Type 0} (lt : L → L → Type 0) (up : T → N → L → N 
   on_leaves zero n olds news h nodes l = subst (λ r. PiecesLeave (IsLeftAt lt up) r nodes) (sym h) l
   on_leaves (suc k) zero olds news h nodes l = subst (λ r. PiecesLeave (IsLeftAt lt up) r nodes) (sym h) l
   on_leaves (suc k) (suc n) [] news h nodes l = subst (λ r. PiecesLeave (IsLeftAt lt up) r nodes) (sym h) l
-  on_leaves (suc k) (suc n) (Ready v ∷ ps) news h nodes l = subst (λ r. PiecesLeave (IsLeftAt lt up) r nodes) (sym h.1) (l.0, l.1, on_leaves (suc k) n ps h.0 h.2 l.0 l.2)
-  on_leaves (suc k) (suc n) (Under w ∷ ps) news h nodes l = on_leaves k (suc n) (h.0 ++ ps) news h.2 nodes (subst (PiecesLeave (IsLeftAt lt up) (h.0 ++ ps)) (sym l.2) (leave_both (IsLeftAt lt up) h.0 ps l.0 l.1 (one_leaves w h.0 h.1 l.0 l.3) l.4))
+  on_leaves (suc k) (suc n) (Ready v ∷ ps) news h nodes l = subst (λ r. PiecesLeave (IsLeftAt lt up) r nodes) (sym h.1) (l.0, l.1, on_leaves (suc k) (suc n) ps h.0 h.2 l.0 l.2)
+  on_leaves (suc k) (suc n) (Under w ∷ ps) news h nodes l = on_leaves k (n + 2 - length h.0) (h.0 ++ ps) news h.2 nodes (subst (PiecesLeave (IsLeftAt lt up) (h.0 ++ ps)) (sym l.2) (leave_both (IsLeftAt lt up) h.0 ps l.0 l.1 (one_leaves w h.0 h.1 l.0 l.3) l.4))
   on_leaves (suc k) (suc n) (Refused w e ∷ ps) news h nodes l = subst (λ r. PiecesLeave (IsLeftAt lt up) r nodes) (sym h) l
 
-  join_waved : (times : ℕ) (w : Place T N L) (front rest news : List (Piece T N L E)) (f b nodes : List N) → news ≡ front ++ rest → nodes ≡ f ++ b → ExpandsOn lt up refuses times 8 (Under w ∷ []) front → IsLeftAt lt up w f → PiecesLeave (IsLeftAt lt up) rest b → PiecesLeave (IsLeftAt lt up) news nodes
-  join_waved times w front rest news f b nodes e n x l k = subst (λ r. PiecesLeave (IsLeftAt lt up) r nodes) (sym e) (subst (λ r. PiecesLeave (IsLeftAt lt up) (front ++ rest) r) (sym n) (leave_both (IsLeftAt lt up) front rest f b (on_leaves times 8 (Under w ∷ []) front x f (f, [], sym (append-nil f), l, refl)) k))
-
   -- a wave leaves what was left
-  pub waved_leaves : (times m : ℕ) (olds news : List (Piece T N L E)) → IsWaved lt up refuses times m olds news → (nodes : List N) → PiecesLeave (IsLeftAt lt up) olds nodes → PiecesLeave (IsLeftAt lt up) news nodes
-  waved_leaves times zero olds news h nodes l = subst (λ r. PiecesLeave (IsLeftAt lt up) r nodes) (sym h) l
-  waved_leaves times (suc m) [] news h nodes l = subst (λ r. PiecesLeave (IsLeftAt lt up) r nodes) (sym h) l
-  waved_leaves times (suc m) (Ready v ∷ ps) news h nodes l = subst (λ r. PiecesLeave (IsLeftAt lt up) r nodes) (sym h.1) (l.0, l.1, waved_leaves times (suc m) ps h.0 h.2 l.0 l.2)
-  waved_leaves times (suc m) (Under w ∷ ps) news h nodes l = join_waved times w h.0 h.1 news l.0 l.1 nodes h.2 l.2 h.3 l.3 (waved_leaves times m ps h.1 h.4 l.1 l.4)
-  waved_leaves times (suc m) (Refused w e ∷ ps) news h nodes l = join_waved times w h.0 h.1 news l.0 l.1 nodes h.2 l.2 h.3 l.3 (waved_leaves times m ps h.1 h.4 l.1 l.4)
+  pub waved_leaves : (times room m : ℕ) (olds news : List (Piece T N L E)) → IsWaved lt up refuses times room m olds news → (nodes : List N) → PiecesLeave (IsLeftAt lt up) olds nodes → PiecesLeave (IsLeftAt lt up) news nodes
+  waved_leaves times room zero olds news h nodes l = subst (λ r. PiecesLeave (IsLeftAt lt up) r nodes) (sym h) l
+  waved_leaves times room (suc m) olds news h nodes l =
+      let k = cut_leaves (IsLeftAt lt up) 32 4 olds nodes l in
+      subst (λ r. PiecesLeave (IsLeftAt lt up) r nodes) (sym h.2) (subst (PiecesLeave (IsLeftAt lt up) (h.0 ++ h.1)) (sym k.2)
+      (leave_both (IsLeftAt lt up) h.0 h.1 k.0 k.1 (on_leaves times room (first_job 32 4 olds) h.0 h.3 k.0 k.3) (waved_leaves times room m (behind_job 32 4 olds) h.1 h.4 k.1 k.4)))
 
 -- ---- an answer
 
@@ -75,5 +82,5 @@ module _ {T N L E : Type 0} (lt : L → L → Type 0) (up : T → N → L → N 
   given_leaves (Under w ∷ ps) answer news (inr h) nodes l = given_leaves ps answer news h.1 nodes (subst (λ k. PiecesLeave (IsLeftAt lt up) ps k) (sym (l.2 ∙ ap (λ f. f ++ l.1) (over_leaves w h.0 l.0 l.3))) l.4)
 
   pub readied_leaves : (workers jobs next : ℕ) (olds worked : List (Piece T N L E)) → IsReadied lt up refuses workers jobs olds next worked → (nodes : List N) → PiecesLeave (IsLeftAt lt up) olds nodes → PiecesLeave (IsLeftAt lt up) worked nodes
-  readied_leaves workers jobs next olds worked (inl h) nodes l = waved_leaves lt up strict trees refuses (times_at workers jobs (length olds)) (due_at workers (length olds)) olds worked h.3 nodes l
+  readied_leaves workers jobs next olds worked (inl h) nodes l = waved_leaves lt up strict trees refuses (times_at jobs) (room_at workers olds) (due_at workers olds) olds worked h.3 nodes l
   readied_leaves workers jobs next olds worked (inr h) nodes l = subst (λ r. PiecesLeave (IsLeftAt lt up) r nodes) (sym h.2) l

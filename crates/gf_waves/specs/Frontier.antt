@@ -1,6 +1,6 @@
 -- A list as a row of pieces: ready nodes, and walkers for what is between and behind them.
 -- Laws: proofs/RefusedLaws.antt.
-use Rattle.std.specs.Prelude.{ℕ, zero, suc, List, [], ◌∷◌, length, ◌≤◌, ◌*◌, ◌+◌, ◌-◌, ◌/◌, ◌^◌, min, Bool, true, false}
+use Rattle.std.specs.Prelude.{ℕ, zero, suc, List, [], ◌∷◌, length, count_by, ◌≤◌, ◌*◌, ◌+◌, ◌-◌, ◌/◌, ◌^◌, min, Bool, true, false}
 use Rattle.gf_walk.specs.Place.{Place}
 use Rattle.gf_walk.specs.declared.expand.Piece.{Piece}
 use Rattle.gf_walk.specs.declared.expand.Piece.TheVariants.{Ready, Under, Refused}
@@ -10,21 +10,6 @@ pub record Frontier (T N L E : Type 0) : Type 0 where
   pub workers : ℕ
   pub jobs : ℕ
   pub pieces : List (Piece T N L E)
-
--- ---- how long a row may be
-
--- how many pieces a row has at most
-abbrev pub most_pieces : ℕ → ℕ
-most_pieces workers = (workers + 1) * 32
-
--- how many walkers a wave works on, one a job: one for each worker, and no more than leave each four places
-abbrev pub due_at : ℕ → ℕ → ℕ
-due_at workers length = min workers ((most_pieces workers - length) / 4)
-
--- how often each of these jobs expands at most: 24 times, but no more often than its share of the places allows, two each time; and the first
--- jobs no more often than there were jobs before, and once, so that there is soon work for all
-abbrev pub times_at : ℕ → ℕ → ℕ → ℕ
-times_at workers jobs length = min (jobs + 1) (min 24 ((most_pieces workers - length) / due_at workers length / 2))
 
 -- ---- pieces
 
@@ -40,13 +25,52 @@ is_refused (Ready v) = false
 is_refused (Under w) = false
 is_refused (Refused w e) = true
 
--- how many walkers are among the pieces, counted up to so many
-abbrev pub walkers_up_to : {T N L E : Type 0} → ℕ → List (Piece T N L E) → ℕ
-walkers_up_to zero ps = 0
-walkers_up_to (suc m) [] = 0
-walkers_up_to (suc m) (Ready v ∷ ps) = walkers_up_to (suc m) ps
-walkers_up_to (suc m) (Under w ∷ ps) = suc (walkers_up_to m ps)
-walkers_up_to (suc m) (Refused w e ∷ ps) = suc (walkers_up_to m ps)
+-- the piece, a walker without its refusal
+abbrev pub renewed : {T N L E : Type 0} → Piece T N L E → Piece T N L E
+renewed (Ready v) = Ready v
+renewed (Under w) = Under w
+renewed (Refused w e) = Under w
+
+-- how many walkers a piece is
+abbrev pub walkers_of : {T N L E : Type 0} → Piece T N L E → ℕ
+walkers_of (Ready v) = 0
+walkers_of (Under w) = 1
+walkers_of (Refused w e) = 1
+
+-- ---- a job's pieces
+
+-- the first pieces of a row up to the last of so many walkers, at most so many in all; the walkers without refusals
+abbrev pub first_job : {T N L E : Type 0} → ℕ → ℕ → List (Piece T N L E) → List (Piece T N L E)
+first_job zero m ps = []
+first_job (suc c) zero ps = []
+first_job (suc c) (suc m) [] = []
+first_job (suc c) (suc m) (p ∷ ps) = renewed p ∷ first_job c (suc m - walkers_of p) ps
+
+-- the pieces behind these
+abbrev pub behind_job : {T N L E : Type 0} → ℕ → ℕ → List (Piece T N L E) → List (Piece T N L E)
+behind_job zero m ps = ps
+behind_job (suc c) zero ps = ps
+behind_job (suc c) (suc m) [] = []
+behind_job (suc c) (suc m) (p ∷ ps) = behind_job c (suc m - walkers_of p) ps
+
+-- ---- how long a row may be
+
+-- how many pieces a row has at most
+abbrev pub most_pieces : ℕ → ℕ
+most_pieces workers = (workers + 1) * 32
+
+-- how many jobs a wave has: one for each worker, no more than leave each four places, and no more than there are walkers for, four to a job
+abbrev pub due_at : {T N L E : Type 0} → ℕ → List (Piece T N L E) → ℕ
+due_at workers ps = min (min workers ((most_pieces workers - length ps) / 4)) ((length ps - count_by is_ready ps + 3) / 4)
+
+-- a job may add so many pieces and one: twelve, and no more than its share of the places
+abbrev pub room_at : {T N L E : Type 0} → ℕ → List (Piece T N L E) → ℕ
+room_at workers ps = min 11 ((most_pieces workers - length ps) / due_at workers ps - 1)
+
+-- how often a job expands at most: ten times; and the first jobs no more often than there were jobs before, and once, so that there is soon work
+-- for all
+abbrev pub times_at : ℕ → ℕ
+times_at jobs = min (jobs + 1) 10
 
 -- at its last value a job's number stays
 abbrev pub job_number : ℕ → ℕ

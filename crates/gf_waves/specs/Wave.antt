@@ -1,11 +1,11 @@
 -- What a wave and a call do to a row.
 -- lt orders labels, `up t` is the parent relation of the tree t, and `refuses w e` says that the walker at w may be refused so.
 -- Laws: proofs/WaveLaws.antt.
-use Rattle.std.specs.Prelude.{◌≡◌, ℕ, zero, suc, ◌+◌, ◌<◌, length, List, [], ◌∷◌, ◌++◌, ◌⊎◌, Option, Some, None, Bool, true, false}
+use Rattle.std.specs.Prelude.{◌≡◌, ℕ, zero, suc, ◌+◌, ◌-◌, ◌<◌, length, List, [], ◌∷◌, ◌++◌, ◌⊎◌, Option, Some, None, Bool, true, false}
 use Rattle.std.specs.declared.result.Result.{Result}
 use Rattle.std.specs.declared.result.Result.TheVariants.{Ok, Err}
 use Rattle.gf_walk.specs.Place.{Place}
-use Rattle.gf_waves.specs.Frontier.{Frontier, due_at, times_at, job_number, walkers_up_to}
+use Rattle.gf_waves.specs.Frontier.{Frontier, due_at, room_at, times_at, job_number, first_job, behind_job}
 use Rattle.gf_walk.specs.Walk.{Advances, IsOver}
 use Rattle.gf_walk.specs.Listing.{IsFirstOf}
 use Rattle.gf_walk.specs.Pieces.{Expands, PiecesLeave}
@@ -19,25 +19,24 @@ use Rattle.gf_walk.specs.declared.expand.Piece.TheVariants.{Ready, Under, Refuse
 abbrev pub IsExpansion : {T N L E : Type 0} → (L → L → Type 0) → (T → N → L → N → Type 0) → (Place T N L → E → Type 0) → Place T N L → List (Piece T N L E) → Type 0
 IsExpansion {E = E} lt up refuses w ps = Expands lt up refuses 1 w ps ⊎ ((e : E) × (ps ≡ Refused w e ∷ []) × refuses w e)
 
--- at most so many times the first walker of a row is expanded in place, unless it stands refused, until so many nodes are in front of what is left
+-- at most so many times the first walker of a row is expanded in place, unless it stands refused, and as long as two pieces may be added: as many as
+-- n and one may be in all
 abbrev pub ExpandsOn : {T N L E : Type 0} → (L → L → Type 0) → (T → N → L → N → Type 0) → (Place T N L → E → Type 0) → ℕ → ℕ → List (Piece T N L E) → List (Piece T N L E) → Type 0
 ExpandsOn lt up refuses zero n olds news = news ≡ olds
 ExpandsOn lt up refuses (suc k) zero olds news = news ≡ olds
 ExpandsOn lt up refuses (suc k) (suc n) [] news = news ≡ []
-ExpandsOn {T} {N} {L} {E} lt up refuses (suc k) (suc n) (Ready v ∷ ps) news = (rest : List (Piece T N L E)) × (news ≡ Ready v ∷ rest) × ExpandsOn lt up refuses (suc k) n ps rest
-ExpandsOn {T} {N} {L} {E} lt up refuses (suc k) (suc n) (Under w ∷ ps) news = (front : List (Piece T N L E)) × IsExpansion lt up refuses w front × ExpandsOn lt up refuses k (suc n) (front ++ ps) news
+ExpandsOn {T} {N} {L} {E} lt up refuses (suc k) (suc n) (Ready v ∷ ps) news = (rest : List (Piece T N L E)) × (news ≡ Ready v ∷ rest) × ExpandsOn lt up refuses (suc k) (suc n) ps rest
+ExpandsOn {T} {N} {L} {E} lt up refuses (suc k) (suc n) (Under w ∷ ps) news = (front : List (Piece T N L E)) × IsExpansion lt up refuses w front × ExpandsOn lt up refuses k (n + 2 - length front) (front ++ ps) news
 ExpandsOn lt up refuses (suc k) (suc n) (Refused w e ∷ ps) news = news ≡ Refused w e ∷ ps
 
 -- ---- a wave
 
--- the first so many walkers of a row, each by itself, are expanded in place, at most so many times, until each has eight nodes in front; and the
--- other pieces stay
-abbrev pub IsWaved : {T N L E : Type 0} → (L → L → Type 0) → (T → N → L → N → Type 0) → (Place T N L → E → Type 0) → ℕ → ℕ → List (Piece T N L E) → List (Piece T N L E) → Type 0
-IsWaved lt up refuses times zero olds news = news ≡ olds
-IsWaved lt up refuses times (suc m) [] news = news ≡ []
-IsWaved {T} {N} {L} {E} lt up refuses times (suc m) (Ready v ∷ ps) news = (rest : List (Piece T N L E)) × (news ≡ Ready v ∷ rest) × IsWaved lt up refuses times (suc m) ps rest
-IsWaved {T} {N} {L} {E} lt up refuses times (suc m) (Under w ∷ ps) news = (front : List (Piece T N L E)) × (rest : List (Piece T N L E)) × (news ≡ front ++ rest) × ExpandsOn lt up refuses times 8 (Under w ∷ []) front × IsWaved lt up refuses times m ps rest
-IsWaved {T} {N} {L} {E} lt up refuses times (suc m) (Refused w f ∷ ps) news = (front : List (Piece T N L E)) × (rest : List (Piece T N L E)) × (news ≡ front ++ rest) × ExpandsOn lt up refuses times 8 (Under w ∷ []) front × IsWaved lt up refuses times m ps rest
+-- so many jobs, one after another: each has the next four walkers of the row and the nodes before and between them, at most 32 pieces, and expands
+-- walkers among them, at most so many times, in room for so many pieces and one; and the other pieces stay
+abbrev pub IsWaved : {T N L E : Type 0} → (L → L → Type 0) → (T → N → L → N → Type 0) → (Place T N L → E → Type 0) → ℕ → ℕ → ℕ → List (Piece T N L E) → List (Piece T N L E) → Type 0
+IsWaved lt up refuses times room zero olds news = news ≡ olds
+IsWaved {T} {N} {L} {E} lt up refuses times room (suc m) olds news =
+    (front : List (Piece T N L E)) × (rest : List (Piece T N L E)) × (news ≡ front ++ rest) × ExpandsOn lt up refuses times room (first_job 32 4 olds) front × IsWaved lt up refuses times room m (behind_job 32 4 olds) rest
 
 -- a node is ready in front, or nothing is left
 abbrev pub is_served : {T N L E : Type 0} → List (Piece T N L E) → Bool
@@ -66,15 +65,15 @@ IsGiven lt up refuses (Under w ∷ ps) answer news = IsAsked lt up refuses w ps 
 -- what is done before the answer: a wave, where no node is ready in front and there is room for one, and its jobs are counted; and else nothing
 abbrev pub IsReadied : {T N L E : Type 0} → (L → L → Type 0) → (T → N → L → N → Type 0) → (Place T N L → E → Type 0) → ℕ → ℕ → List (Piece T N L E) → ℕ → List (Piece T N L E) → Type 0
 IsReadied lt up refuses workers jobs olds next news =
-    let due = due_at workers (length olds) in
-    ((is_served olds ≡ false) × (0 < due) × (next ≡ job_number (jobs + walkers_up_to due olds)) × IsWaved lt up refuses (times_at workers jobs (length olds)) due olds news)
+    let due = due_at workers olds in
+    ((is_served olds ≡ false) × (0 < due) × (next ≡ job_number (jobs + due)) × IsWaved lt up refuses (times_at jobs) (room_at workers olds) due olds news)
     ⊎ (((is_served olds ≡ true) ⊎ (due ≡ 0)) × (next ≡ jobs) × (news ≡ olds))
 
 -- what is left is worked off, and the answer is taken out of that; or there was no memory for a wave, and nothing is done
 abbrev pub IsCall : {T N L E : Type 0} → (L → L → Type 0) → (T → N → L → N → Type 0) → (Place T N L → E → Type 0) → (E → Type 0) → Frontier T N L E → Result (Option N) E → Frontier T N L E → Type 0
 IsCall {T} {N} {L} {E} lt up refuses is_memory old answer new =
     ((worked : List (Piece T N L E)) × IsReadied lt up refuses old.workers old.jobs old.pieces new.jobs worked × IsGiven lt up refuses worked answer new.pieces)
-    ⊎ ((e : E) × (answer ≡ Err e) × is_memory e × (is_served old.pieces ≡ false) × (0 < due_at old.workers (length old.pieces)) × (new ≡ old))
+    ⊎ ((e : E) × (answer ≡ Err e) × is_memory e × (is_served old.pieces ≡ false) × (0 < due_at old.workers old.pieces) × (new ≡ old))
 
 -- what is left after an answer: the rest, or all where it was a refusal
 abbrev pub IsAfter : {T N L E : Type 0} → (Place T N L → List N → Type 0) → Result (Option N) E → List N → List (Piece T N L E) → Type 0

@@ -1,14 +1,12 @@
-//! A job of a wave: one walker is worked on.
-ghost use Rattle.std.specs.Prelude.{◌≡◌, ◌<◌, ◌≤◌, ◌+◌, ◌*◌, length, [], ◌∷◌, IfOk, IfErr};
+//! A job of a wave: some pieces of the row are worked on.
+ghost use Rattle.std.specs.Prelude.{◌≡◌, ◌<◌, ◌≤◌, ◌+◌, ◌-◌, ◌*◌, length, []};
 ghost use Rattle.std.specs.VecDeque.{deque_capacity};
 ghost use Rattle.gf_walk.specs.Pieces.{RefusesAt};
-ghost use Rattle.gf_walk.specs.declared.expand.Piece.TheVariants.{Under};
-ghost use Rattle.gf_waves.specs.Plans.{IsExpanded, IsOn, IsWorked};
+ghost use Rattle.gf_waves.specs.Plans.{IsExpanded, IsFit, IsOn, IsWorked};
 ghost use Rattle.gf_waves.specs.Wave.{ExpandsOn};
 
 use crate::Gate;
 use crate::rows::{push, push_before, put_before, put_behind};
-use crate::serving::no_memory;
 use gf_walk::{Piece, Tree, Walker};
 use std::alloc::Global;
 use std::collections::VecDeque;
@@ -16,11 +14,9 @@ use std::collections::VecDeque;
 /// A job of a wave.
 #[derive(Drop)]
 pub enum Job<T: Tree> {
-    /// A walker that is to be worked on, with the job's number.
-    Due(Walker<T>, u64),
-    /// A walker for whose pieces there was no memory.
-    Stopped(Walker<T>, T::Error),
-    /// What a walker was expanded into.
+    /// Pieces that are to be worked on, a row for what is done with, and the job's number.
+    Due(VecDeque<Piece<T>>, VecDeque<Piece<T>>, u64),
+    /// What the pieces became.
     Done(VecDeque<Piece<T>>),
 }
 
@@ -37,94 +33,93 @@ fn expand_before<T: Tree>(alloc: Global, row: &mut VecDeque<Piece<T>>, walker: W
     }
 }
 
-/// Works on the piece in front of a row, where so many expansions are left, and so many nodes: a node goes behind those that are done,
-/// and a walker is expanded. How many are left of both; no expansion, where the walker in front stands refused, where there is no
-/// piece, and where no node is left.
+/// Works on the piece in front of a row, where so many expansions are left: a node goes behind those that are done, and a walker is
+/// expanded. How many expansions are left: none where the walker in front stands refused, where there is no piece, and where fewer
+/// than two pieces may be added; `limit` and one may be there in all.
 fn step<T: Tree>(
     alloc: Global,
     done: &mut VecDeque<Piece<T>>,
     row: &mut VecDeque<Piece<T>>,
     left: usize,
-    nodes: usize,
-) -> (usize, usize)
+    limit: usize,
+) -> usize
     requires some { 0 < left }
-    requires room { length row.old.items + 2 ≤ deque_capacity row.old }
-    requires room_for_done { length done.old.items < deque_capacity done.old }
-    ensures on { IsOn T.before T.up (RefusesAt T.up T.refuses) left nodes done.old.items row.old.items result.0 result.1 done.new.items row.new.items }
-    ensures falls { 3 * result.0 + length row.new.items < 3 * left + length row.old.items }
-    ensures few { length done.new.items + length row.new.items + 2 * result.0 ≤ length done.old.items + length row.old.items + 2 * left }
+    requires limit { limit ≤ 43 }
+    requires few { length done.old.items + length row.old.items ≤ limit + 1 }
+    requires room { 44 ≤ deque_capacity row.old }
+    requires room_for_done { 44 ≤ deque_capacity done.old }
+    ensures on { IsOn T.before T.up (RefusesAt T.up T.refuses) left (limit - (length done.old.items + length row.old.items)) done.old.items row.old.items result (limit - (length done.new.items + length row.new.items)) done.new.items row.new.items }
+    ensures falls { 3 * result + length row.new.items < 3 * left + length row.old.items }
+    ensures few { length done.new.items + length row.new.items ≤ limit + 1 }
     ensures room { deque_capacity row.old ≤ deque_capacity row.new }
     ensures room_for_done { deque_capacity done.old ≤ deque_capacity done.new }
 {
-    if nodes == 0 {
-        return (0, nodes);
+    let is_full = done.len() + row.len() >= limit;
+    if is_full {
+        return 0;
     }
     match row.pop_front() {
         Some(Piece::Ready(node)) => {
             push(done, Piece::Ready(node));
-            (left, nodes - 1)
+            left
         }
         Some(Piece::Under(walker)) => {
             expand_before(alloc, row, walker);
-            (left - 1, nodes)
+            left - 1
         }
         Some(Piece::Refused(walker, refusal)) => {
             push_before(row, Piece::Refused(walker, refusal));
-            (0, nodes)
+            0
         }
-        None => (0, nodes),
+        None => 0,
     }
 }
 
-/// What a walker becomes by so many expansions of the first walker that there is, or by fewer, where eight nodes are in front.
-///
-/// # Errors
-///
-/// Want of memory, before anything is done. The walker comes back as it was.
+/// What a row of pieces becomes by so many expansions of the first walker that there is, or by fewer, where there is no room for more:
+/// `room` pieces and one may be added. What is done with is put behind an empty row.
 fn expand_on<T: Tree>(
     alloc: Global,
-    walker: Walker<T>,
+    mut done: VecDeque<Piece<T>>,
+    mut row: VecDeque<Piece<T>>,
     times: usize,
-) -> Result<VecDeque<Piece<T>>, (Walker<T>, T::Error)>
-    requires { times ≤ 24 }
-    ensures on { IfOk result (λ ps. ExpandsOn T.before T.up (RefusesAt T.up T.refuses) times 8 (Under walker ∷ []) ps.items) }
-    ensures few { IfOk result (λ ps. length ps.items ≤ times * 2 + 1) }
-    ensures unchanged { IfErr result (λ p. p.0 ≡ walker) }
-    ensures refused { IfErr result (λ p. RefusesAt T.up T.refuses walker p.1) }
+    room: usize,
+) -> VecDeque<Piece<T>>
+    requires empty { done.items ≡ [] }
+    requires few { length row.items ≤ 32 }
+    requires few_more { room ≤ 11 }
+    requires room { 44 ≤ deque_capacity row }
+    requires room_for_done { 44 ≤ deque_capacity done }
+    requires times { times ≤ 24 }
+    ensures on { ExpandsOn T.before T.up (RefusesAt T.up T.refuses) times room row.items result.items }
+    ensures few { length result.items ≤ length row.items + room + 1 }
 {
-    let room = 2 * times + 1;
-    let mut done = match VecDeque::with_capacity(alloc, room) {
-        Ok(done) => done,
-        Err(refused) => return Err((walker, no_memory::<T>(refused))),
-    };
-    let mut row = match VecDeque::with_capacity(alloc, room) {
-        Ok(row) => row,
-        Err(refused) => return Err((walker, no_memory::<T>(refused))),
-    };
-    push(&mut row, Piece::Under(walker));
+    let limit = row.len() + room;
     let mut left = times;
-    let mut nodes = 8;
     while left > 0 {
-        (left, nodes) = step(alloc, &mut done, &mut row, left, nodes);
+        left = step(alloc, &mut done, &mut row, left, limit);
     }
     put_behind(&mut done, row);
-    Ok(done)
+    done
 }
 
-/// What becomes of a job: a walker that is due is worked on, with so many expansions.
-pub fn work<T: Tree, G: Gate>(alloc: Global, gate: &G, job: Job<T>, times: usize) -> Job<T>
-    requires { times ≤ 24 }
-    ensures { IsWorked T.before T.up (RefusesAt T.up T.refuses) times job result }
+/// What becomes of a job: where it is due, it is worked on, with so many expansions and room for so many pieces and one.
+pub fn work<T: Tree, G: Gate>(
+    alloc: Global,
+    gate: &G,
+    job: Job<T>,
+    times: usize,
+    room: usize,
+) -> Job<T>
+    requires times { times ≤ 24 }
+    requires room { room ≤ 11 }
+    requires fit { IsFit job }
+    ensures { IsWorked T.before T.up (RefusesAt T.up T.refuses) times room job result }
 {
     match job {
-        Job::Due(walker, number) => {
+        Job::Due(row, done, number) => {
             gate.at(number);
-            match expand_on(alloc, walker, times) {
-                Ok(pieces) => Job::Done(pieces),
-                Err((walker, refusal)) => Job::Stopped(walker, refusal),
-            }
+            Job::Done(expand_on(alloc, done, row, times, room))
         }
-        Job::Stopped(walker, refusal) => Job::Stopped(walker, refusal),
         Job::Done(pieces) => Job::Done(pieces),
     }
 }

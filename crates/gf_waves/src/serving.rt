@@ -1,10 +1,10 @@
 //! The next node of a row.
-ghost use Rattle.std.specs.Prelude.{ℕ, ◌≡◌, ◌+◌, ◌-◌, ◌*◌, ◌≤◌, ◌<◌, ◌/◌, length, List, IfErr, OnOk, OnErr, true, false};
+ghost use Rattle.std.specs.Prelude.{ℕ, ◌≡◌, ◌+◌, ◌-◌, ◌*◌, ◌≤◌, ◌<◌, ◌/◌, length, count_by, List, IfErr, OnOk, OnErr, true, false};
 ghost use Rattle.gf_walk.specs.Pieces.{PiecesLeave, RefusesAt};
 ghost use Rattle.gf_walk.specs.Listing.{IsLeftAt};
 ghost use Rattle.gf_walk.specs.declared.expand.Piece.{Piece};
 ghost use Rattle.gf_walk.specs.declared.expand.Piece.TheVariants.{Under};
-ghost use Rattle.gf_waves.specs.Frontier.{AreRefusals, IsFrontRefused, IsHeld, due_at, times_at, most_pieces};
+ghost use Rattle.gf_waves.specs.Frontier.{AreRefusals, IsFrontRefused, IsHeld, due_at, is_ready, most_pieces, room_at, times_at};
 ghost use Rattle.gf_waves.specs.Wave.{IsAfter, IsGiven, IsReadied, is_served};
 
 use crate::Gate;
@@ -26,29 +26,48 @@ fn is_served<T: Tree>(row: &VecDeque<Piece<T>>) -> bool
     }
 }
 
-/// How many walkers are due in a wave over a row: one for each worker, and no more than leave each four places.
-fn due(workers: u32, length: usize) -> usize
-    requires { workers ≤ 64 }
-    ensures is { result ≡ due_at workers length }
-    ensures fits { result * 4 ≤ most_pieces workers - length }
+/// How many nodes of a row are ready.
+fn ready<T: Tree>(row: &VecDeque<Piece<T>>) -> usize
+    ensures { result ≡ count_by is_ready row.now.items }
 {
-    let free = ((workers as usize + 1) * 32).saturating_sub(length);
-    (workers as usize).min(free / 4)
+    row.iter()
+        .filter(|piece| matches!(piece, Piece::Ready(_)))
+        .count()
 }
 
-/// How often the job of each of them expands: at most 24 times, by the places that there are and by the jobs before.
-fn times(workers: u32, jobs: u64, length: usize, due: usize) -> usize
+/// How many jobs are due in a wave over a row: one for each worker, no more than leave each four places, and no more than there are
+/// walkers for, four to a job.
+fn due<T: Tree>(workers: u32, row: &VecDeque<Piece<T>>) -> usize
+    requires workers { workers ≤ 64 }
+    requires few { length row.now.items ≤ most_pieces workers }
+    ensures is { result ≡ due_at workers row.now.items }
+    ensures fits { result * 4 ≤ most_pieces workers - length row.now.items }
+{
+    let free = ((workers as usize + 1) * 32).saturating_sub(row.len());
+    let walkers = row.len().saturating_sub(ready(row));
+    (workers as usize).min(free / 4).min((walkers + 3) / 4)
+}
+
+/// How many pieces each of them may add, less one: twelve, and no more than its share of the places.
+fn room<T: Tree>(workers: u32, row: &VecDeque<Piece<T>>, due: usize) -> usize
     requires workers { workers ≤ 64 }
     requires some { 0 < due }
-    requires due { due ≡ due_at workers length }
-    ensures is { result ≡ times_at workers jobs length }
-    ensures fits { due * (result * 2) ≤ most_pieces workers - length }
-    ensures few { result ≤ 24 }
-    ensures some { 1 ≤ result }
+    requires due { due ≡ due_at workers row.now.items }
+    requires fits { due * 4 ≤ most_pieces workers - length row.now.items }
+    ensures is { result ≡ room_at workers row.now.items }
+    ensures fits { due * (result + 1) ≤ most_pieces workers - length row.now.items }
+    ensures few { result ≤ 11 }
 {
-    let free = ((workers as usize + 1) * 32).saturating_sub(length);
-    let most = (free / due / 2).min(24);
-    jobs.saturating_add(1).min(most as u64) as usize
+    let free = ((workers as usize + 1) * 32).saturating_sub(row.len());
+    (free / due).saturating_sub(1).min(11)
+}
+
+/// How often each of them expands: at most ten times, and by the jobs before.
+fn times(jobs: u64) -> usize
+    ensures is { result ≡ times_at jobs }
+    ensures few { result ≤ 24 }
+{
+    jobs.saturating_add(1).min(10) as usize
 }
 
 /// The refusal that stands for want of memory. Any call of any tree may be refused so.
@@ -81,17 +100,17 @@ where
     ensures unchanged { OnErr result (row.new.items ≡ row.old.items) }
     ensures uncounted { OnErr result (jobs.new ≡ jobs.old) }
     ensures starved { OnErr result (is_served row.old.items ≡ false) }
-    ensures due { OnErr result (0 < due_at workers (length row.old.items)) }
+    ensures due { OnErr result (0 < due_at workers row.old.items) }
 {
     if is_served(row) {
         return Ok(());
     }
-    let due = due(workers, row.len());
+    let due = due(workers, row);
     if due == 0 {
         return Ok(());
     }
-    let times = times(workers, *jobs, row.len(), due);
-    wave(rt, gate, row, workers, due, times, jobs)
+    let room = room(workers, row, due);
+    wave(rt, gate, row, workers, due, times(*jobs), room, jobs)
 }
 
 /// The first node of a row. A walker in front is asked for it.

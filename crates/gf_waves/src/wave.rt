@@ -1,13 +1,13 @@
-//! One wave: the first walkers of the row are worked on, side by side.
+//! One wave: the first pieces of the row are worked on, side by side.
 ghost use Rattle.std.specs.Prelude.{◌≡◌, ◌≤◌, ◌+◌, ◌*◌, length, OnOk, OnErr};
 ghost use Rattle.gf_walk.specs.Pieces.{RefusesAt};
-ghost use Rattle.gf_waves.specs.Frontier.{AreRefusals, job_number, walkers_up_to};
+ghost use Rattle.gf_waves.specs.Frontier.{AreRefusals, job_number};
 ghost use Rattle.gf_waves.specs.Wave.{IsWaved};
-ghost use Rattle.gf_waves.specs.Plans.{IsWorked, AreWorkedAt};
+ghost use Rattle.gf_waves.specs.Plans.{AreFitAt, AreWorkedAt, IsFit, IsWorked};
 
 use crate::Gate;
 use crate::job::{Job, work};
-use crate::planning::{merge, plan};
+use crate::planning::{merge, plan, spare_jobs};
 use gf_walk::{Piece, Tree};
 use std::alloc::{AllocError, Global};
 use std::collections::VecDeque;
@@ -22,6 +22,7 @@ fn work_all<R: Threads + Sync, T: Tree + Send, G: Gate>(
     jobs: &mut [Job<T>],
     workers: usize,
     times: usize,
+    room: usize,
 )
 where
     T::Node: Send,
@@ -29,14 +30,16 @@ where
     T::Error: Send,
     requires some { 1 ≤ workers }
     requires times { times ≤ 24 }
-    ensures { AreWorkedAt T.before T.up (RefusesAt T.up T.refuses) times jobs.old jobs.new }
+    requires room { room ≤ 11 }
+    requires fit { AreFitAt jobs.old }
+    ensures { AreWorkedAt T.before T.up (RefusesAt T.up T.refuses) times room jobs.old jobs.new }
 {
     let each = |_: usize, job: &mut Job<T>|
-        requires { times ≤ 24 }
-        ensures { IsWorked T.before T.up (RefusesAt T.up T.refuses) times job.entry.now job.exit.now }
+        requires { (times ≤ 24) × (room ≤ 11) × IsFit job.now }
+        ensures { IsWorked T.before T.up (RefusesAt T.up T.refuses) times room job.entry.now job.exit.now }
     {
         let old = mem::replace(job, Job::Done(VecDeque::new(alloc)));
-        *job = work(alloc, gate, old, times);
+        *job = work(alloc, gate, old, times, room);
     };
     thread::for_each_mut(rt, jobs, workers, &each);
 }
@@ -49,6 +52,7 @@ fn work_jobs<R: Threads + Sync, T: Tree + Send, G: Gate>(
     jobs: &mut Vec<Job<T>>,
     workers: usize,
     times: usize,
+    room: usize,
 )
 where
     T::Node: Send,
@@ -56,12 +60,14 @@ where
     T::Error: Send,
     requires some { 1 ≤ workers }
     requires times { times ≤ 24 }
-    ensures { AreWorkedAt T.before T.up (RefusesAt T.up T.refuses) times jobs.old.items jobs.new.items }
+    requires room { room ≤ 11 }
+    requires fit { AreFitAt jobs.old.items }
+    ensures { AreWorkedAt T.before T.up (RefusesAt T.up T.refuses) times room jobs.old.items jobs.new.items }
 {
-    work_all(rt, alloc, gate, jobs.as_mut_slice(), workers, times);
+    work_all(rt, alloc, gate, jobs.as_mut_slice(), workers, times, room);
 }
 
-/// A wave: the first walkers of the row, as many as are due, are worked on, each with so many expansions.
+/// A wave: so many jobs have the first pieces of the row, each so many expansions and room for so many pieces and one.
 ///
 /// # Errors
 ///
@@ -73,6 +79,7 @@ pub fn wave<R: Threads + Sync, T: Tree + Send, G: Gate>(
     workers: u32,
     due: usize,
     times: usize,
+    room: usize,
     jobs: &mut u64,
 ) -> Result<(), AllocError>
 where
@@ -82,24 +89,24 @@ where
     requires some { 1 ≤ workers }
     requires few_workers { workers ≤ 64 }
     requires few_times { times ≤ 24 }
-    requires some_times { 1 ≤ times }
-    requires fits { length row.old.items + due * (times * 2) ≤ (workers + 1) * 32 }
+    requires few_more { room ≤ 11 }
+    requires fits { length row.old.items + due * (room + 1) ≤ (workers + 1) * 32 }
     requires refused { AreRefusals (RefusesAt T.up T.refuses) row.old.items }
-    ensures waved { OnOk result (IsWaved T.before T.up (RefusesAt T.up T.refuses) times due row.old.items row.new.items) }
-    ensures counted { OnOk result (jobs.new ≡ job_number (jobs.old + walkers_up_to due row.old.items)) }
+    ensures waved { OnOk result (IsWaved T.before T.up (RefusesAt T.up T.refuses) times room due row.old.items row.new.items) }
+    ensures counted { OnOk result (jobs.new ≡ job_number (jobs.old + due)) }
     ensures few { length row.new.items ≤ (workers + 1) * 32 }
     ensures refused { AreRefusals (RefusesAt T.up T.refuses) row.new.items }
     ensures unchanged { OnErr result (row.new.items ≡ row.old.items) }
     ensures uncounted { OnErr result (jobs.new ≡ jobs.old) }
 {
     let alloc = *row.allocator();
-    let mut places = VecDeque::with_capacity(alloc, row.len())?;
+    let spares = spare_jobs(alloc, due)?;
     let mut slots = Vec::with_capacity(alloc, due)?;
     let mut news = VecDeque::with_capacity(alloc, (workers as usize + 1) * 32)?;
-    plan(row, &mut places, &mut slots, due, *jobs);
-    *jobs = jobs.saturating_add(slots.len() as u64);
-    work_jobs(rt, alloc, gate, &mut slots, workers as usize, times);
-    merge(&mut places, &mut slots, row, &mut news);
+    plan(row, spares, &mut slots, *jobs);
+    *jobs = jobs.saturating_add(due as u64);
+    work_jobs(rt, alloc, gate, &mut slots, workers as usize, times, room);
+    merge(&mut slots, row, &mut news);
     *row = news;
     Ok(())
 }

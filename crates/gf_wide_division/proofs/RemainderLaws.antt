@@ -1,11 +1,11 @@
 -- What is left of a dividend: terms that no member reduces.
--- To cite: term_members, term_spare, irreducible_more, irreducible_all, whole_worked, whole_shares, pair_shares, if_remainder,
+-- To cite: shares_there, divides_there, term_members, term_spare, irreducible_more, irreducible_all, whole_worked, whole_shares, pair_shares, if_remainder,
 -- if_normal_form, if_kept, if_pair_remainder.
 use Rattle.std.specs.Prelude.{◌≡◌, ℕ, ◌+◌, ◌<◌, ◌≤◌, List, [], ◌∷◌, ◌++◌, length, Contains, None, take, Result, Ok, Err, IfOk}
 use Rattle.std.specs.declared.option.Option.{Option}
 use Rattle.std.proofs.Common.{arith, refl, sym, ap, ◌∙◌, subst, get_or}
 use Rattle.std.proofs.lemmas.List.{take_all, take_more}
-use Rattle.gf_exponents.specs.Exponents.{Exponents}
+use Rattle.gf_exponents.specs.Exponents.{Exponents, Divides}
 use Rattle.gf_exponents.specs.Orders.{lighter}
 use Rattle.gf_poly.specs.declared.Term.{Term}
 use Rattle.gf_poly.specs.Polynomial.{Terms, IsDescending, HasVariables, KeepsVariables}
@@ -14,17 +14,34 @@ use Rattle.gf_poly.proofs.ProductLaws.{HasVariables-at}
 use Rattle.gf_ideal.specs.Marks.{AreMarked}
 use Rattle.gf_ideal.specs.NormalForms.{IsNormalForm}
 use Rattle.gf_ideal.specs.Reduction.{IsDivisible, IsSPolynomial}
+use Rattle.gf_ideal.specs.Settled.{IsAt}
 use Rattle.gf_ideal.proofs.ListLaws.{Each-++}
-use Rattle.gf_division.specs.Dividends.{Split, joined_terms, IsSound}
+use Rattle.gf_division.specs.Dividends.{Split, joined_terms, IsSound, SharesVariables}
 use Rattle.gf_division.specs.Reducers.{IsBeside, IsSpareIn, AreIrreducible, ShareVariables}
 use Rattle.gf_division.specs.Remainders.{IsRemainder, IsWorkedOn}
 use Rattle.gf_division.specs.SPolynomials.{KeepsPairVariables}
+use Rattle.gf_division.specs.Tables.{IsReducibleAt}
+use Rattle.gf_division.proofs.ReducerLaws.{members_equal, member_contained, member_variables}
 use Rattle.gf_division.proofs.RemainderLaws.{worked-same, remainder_at, normal_form_of, remainder_keeps}
 use Rattle.gf_wide_division.specs.declared.terms.WideTerm.{WideTerm}
 use Rattle.gf_wide_division.specs.Dividends.{whole}
 use Rattle.gf_wide_division.specs.Pairs.{IsPairRemainder, SharePairMembers}
 use Rattle.gf_wide_division.specs.Values.{term_value, values}
 use Rattle.gf_wide_division.proofs.ValueLaws.{length-values, value_at}
+
+-- ---- the member that reduces the foremost term
+
+-- as it is read
+member_there : (bs : List MarkedPolynomial) (spared : Option Exponents) (f : Terms) (t : Term) (j : ℕ) (b : MarkedPolynomial) → b ≡ get_or bs j b → IsReducibleAt bs spared f t j → IsAt bs j b
+member_there bs spared f t j b e r = record { within = r.divisor.at.within; is = sym e }
+
+pub shares_there : (bs : List MarkedPolynomial) (spared : Option Exponents) (now : Split) (t : Term) (j : ℕ) (b : MarkedPolynomial) → b ≡ get_or bs j b → ShareVariables now bs spared → IsReducibleAt bs spared (joined_terms now) t j → SharesVariables b now
+shares_there bs spared now t j b e v r = record { n = v.n; sound = v.sound; poly = member_variables v.n bs b v.members (member_contained bs j b (member_there bs spared (joined_terms now) t j b e r)) }
+
+pub divides_there : (bs : List MarkedPolynomial) (spared : Option Exponents) (f : Terms) (t : Term) (j : ℕ) (b : MarkedPolynomial) → b ≡ get_or bs j b → IsReducibleAt bs spared f t j → Divides b.head t.mono
+divides_there bs spared f t j b e r = subst (λ (d : MarkedPolynomial). Divides d.head t.mono) (members_equal bs j r.divisor.member b r.divisor.at (member_there bs spared f t j b e r)) r.divisor.divides
+
+-- ---- terms
 
 -- the variables of a term
 pub term_variables : (bs : List MarkedPolynomial) (spared : Option Exponents) (f : List WideTerm) (g : Terms) (i : ℕ) (t : WideTerm) → values f ≡ g → i < length f → t ≡ get_or f i t → (v : ShareVariables (whole g) bs spared) → length t.mono ≡ v.n

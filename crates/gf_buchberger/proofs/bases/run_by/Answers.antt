@@ -23,17 +23,17 @@ new-members-requires c =
     let e = is_end c.args.job.now.order.now c.args.job.now.n c.args.job.now.pairs c.args.job.now.set.now (state_of c.in-Ok-entered.start) (state_of c.in-Ok-settle_all.run') c.requires c.in-Ok-entered.ensures.ok c.in-Ok-settle_all.ensures.done in
     variables_each c.args.job.now.n _ e.variables
 
-pub autoreduce_by-requires : goal.autoreduce_by-requires
-autoreduce_by-requires c =
+pub interreduced-requires : goal.interreduced-requires
+interreduced-requires c =
     let e = is_end c.args.job.now.order.now c.args.job.now.n c.args.job.now.pairs c.args.job.now.set.now (state_of c.in-Ok-entered.start) (state_of c.in-Ok-settle_all.run') c.requires c.in-Ok-entered.ensures.ok c.in-Ok-settle_all.ensures.done in
     end_realisable c.args.job.now.order.now c.args.job.now.n c.args.job.now.set.now _ c.new-members.result e c.new-members.ensures
 
-pub returns-in-Ok-autoreduce_by-clause-ok : goal.returns-in-Ok-autoreduce_by-clause-ok
-returns-in-Ok-autoreduce_by-clause-ok c =
+pub returns-in-Ok-interreduced-clause-ok : goal.returns-in-Ok-interreduced-clause-ok
+returns-in-Ok-interreduced-clause-ok c =
     let e = is_end c.args.job.now.order.now c.args.job.now.n c.args.job.now.pairs c.args.job.now.set.now (state_of c.in-Ok-entered.start) (state_of c.in-Ok-settle_all.run') c.requires c.in-Ok-entered.ensures.ok c.in-Ok-settle_all.ensures.done in
-    arranged_basis c.args.job.now.order.now c.args.job.now.n c.args.job.now.set.now _ c.new-members.result c.in-Ok-autoreduce_by.basis e c.new-members.ensures c.in-Ok-autoreduce_by.ensures.value c.in-Ok-autoreduce_by.ensures.arranged c.in-Ok-autoreduce_by.ensures.marked c.in-Ok-autoreduce_by.ensures.reduced
+    arranged_basis c.args.job.now.order.now c.args.job.now.n c.args.job.now.set.now _ c.new-members.result c.in-Ok-interreduced.basis e c.new-members.ensures c.in-Ok-interreduced.ensures.value c.in-Ok-interreduced.ensures.arranged c.in-Ok-interreduced.ensures.marked c.in-Ok-interreduced.ensures.reduced
 
 pub returns-clause-err : goal.returns-clause-err
 returns-clause-err c =
     let e = is_end c.args.job.now.order.now c.args.job.now.n c.args.job.now.pairs c.args.job.now.set.now (state_of c.in-Ok-entered.start) (state_of c.in-Ok-settle_all.run') c.requires c.in-Ok-entered.ensures.ok c.in-Ok-settle_all.ensures.done in
-    autoreduction_stops c.args.job.now.order.now c.args.job.now.n c.args.job.now.pairs c.args.job.now.set.now _ c.new-members.result c.in-Err-autoreduce_by.refusal c.refused-in-Err-autoreduce_by.result e c.new-members.ensures c.in-Err-autoreduce_by.ensures.cause c.refused-in-Err-autoreduce_by.ensures
+    autoreduction_stops c.args.job.now.order.now c.args.job.now.n c.args.job.now.pairs c.args.job.now.set.now _ c.new-members.result c.in-Err-interreduced.refusal c.refused-in-Err-interreduced.result e c.new-members.ensures c.in-Err-interreduced.ensures.cause c.refused-in-Err-interreduced.ensures

@@ -4,7 +4,7 @@ use Rattle.gf_flip.proofs.TurnLaws.{underway-none, whole-start, whole-more}
 use Rattle.gf_flip.proofs.turns.run.Goals as goal
 
 pub enter-requires : goal.enter-requires
-enter-requires c = subst (IsUnderway c.args.task.now.order.now c.args.task.now.n c.args.task.now.list.now) (sym c.new-members.ensures.items) (underway-none c.args.task.now.order.now c.args.task.now.n c.args.task.now.list.now c.requires)
+enter-requires c = subst (IsUnderway c.args.task.now.order.now c.args.task.now.n c.args.task.now.list.now) (sym c.in_ok-members.ensures) (underway-none c.args.task.now.order.now c.args.task.now.n c.args.task.now.list.now c.requires)
 
 pub turns-init : goal.turns-init
 turns-init c = whole-start c.args.task.now.order.now c.args.task.now.n c.args.task.now.list.now c.enter.new.members.items c.enter-2.new.members.items c.in_ok-enter-2.ensures.underway c.in_ok-enter-2.ensures.kept c.in_ok-enter.ensures.entered c.in_ok-enter-2.ensures.entered

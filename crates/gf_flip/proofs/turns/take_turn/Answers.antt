@@ -1,7 +1,8 @@
-use Rattle.std.proofs.Common.{refl}
+use Rattle.std.proofs.Common.{List, take, ap, refl, subst}
+use Rattle.gf_poly.specs.Marking.{MarkedPolynomial}
 use Rattle.gf_buchberger.proofs.ReducedPairLaws.{pair_variables, s_polynomial_variables}
-use Rattle.gf_flip.specs.Turns.{IsPairTaken}
-use Rattle.gf_flip.proofs.TurnLaws.{turn_reducers, turned_on, pair_read, turned_pair}
+use Rattle.gf_flip.specs.Turns.{IsChained, IsPairTaken}
+use Rattle.gf_flip.proofs.TurnLaws.{turn_reducers, turned_on, front_variables, pair_read, turned_pair}
 use Rattle.gf_flip.proofs.turns.take_turn.Goals as goal
 
 pub returns-then-is_excused-clause-turning : goal.returns-then-is_excused-clause-turning
@@ -30,3 +31,14 @@ returns-clause-kept c = (turned_pair c.args.task.now.order.now c.args.task.now.n
 
 pub returns-clause-size : goal.returns-clause-size
 returns-clause-size c = (turned_pair c.args.task.now.order.now c.args.task.now.n c.args.task.now.list.now c.args.members.now.items c.take_in.new.members.items c.args.i c.args.j c.index.result.now c.index-2.result.now c.in-Ok.s c.requires.pair c.requires.second c.requires.turning (pair_read c.args.members.now.items c.args.i c.args.j c.index.result.now c.index-2.result.now c.requires.pair c.requires.second c.index.ensures c.index-2.ensures) c.in-Ok.ensures.value c.in-Ok.ensures.variables c.in_ok-take_in.ensures).size
+
+pub is_chained-requires-clause-variables : goal.is_chained-requires-clause-variables
+is_chained-requires-clause-variables c =
+    let r = pair_read c.args.members.now.items c.args.i c.args.j c.index.result.now c.index-2.result.now c.requires.pair c.requires.second c.index.ensures c.index-2.ensures in
+    front_variables c.args.task.now.n c.args.members.now.items (take c.args.i c.deref.result.now) c.args.i c.index.result.now c.requires.turning.underway.variables r.at_i (ap (take c.args.i) c.deref.ensures.value)
+
+pub returns-then-is_chained-clause-turning : goal.returns-then-is_chained-clause-turning
+returns-then-is_chained-clause-turning c =
+    let r = pair_read c.args.members.now.items c.args.i c.args.j c.index.result.now c.index-2.result.now c.requires.pair c.requires.second c.index.ensures c.index-2.ensures in
+    let chain = subst (λ (ds : List MarkedPolynomial). IsChained (take c.args.i ds) c.index.result.now c.index-2.result.now) c.deref.ensures.value (c.is_chained.ensures c.if-is_chained.true) in
+    (turned_on c.args.task.now.order.now c.args.task.now.n c.args.task.now.list.now c.args.members.now.items c.args.members.now.items c.args.i c.args.j c.requires.pair c.requires.second c.requires.turning (IsPairTaken.chained c.index.result.now c.index-2.result.now r.at_i r.at_j chain refl)).turning

@@ -1,7 +1,8 @@
 use Rattle.gf_division.proofs.RemainderLaws.{worked-none}
-use Rattle.gf_division.proofs.TableLaws.{stepped, less_stepped, shares_there, divides_there}
+use Rattle.gf_division.proofs.TableLaws.{stepped, less_stepped}
 use Rattle.gf_wide_division.specs.Dividends.{dividend_of}
 use Rattle.gf_wide_division.specs.Values.{term_value}
+use Rattle.gf_wide_division.proofs.RemainderLaws.{shares_there, divides_there}
 use Rattle.gf_wide_division.proofs.remainders.through.Goals as goal
 
 pub steps-init : goal.steps-init

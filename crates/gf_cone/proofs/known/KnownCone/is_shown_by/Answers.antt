@@ -1,9 +1,9 @@
-use Rattle.std.proofs.Common.{arith, sym, ap, subst, ◌∙◌, List, ℤ, ℕ, ◌<◌, length}
-use Rattle.gf_cone.specs.Crossing.{IsShownBy}
-use Rattle.gf_cone.proofs.CrossingLaws.{shown_at}
+use Rattle.std.proofs.Common.{subst, [], ◌∷◌, List, ℤ}
+use Rattle.gf_gordan.specs.Alternative.{IsSolution}
+use Rattle.gf_cone.specs.Cones.{ConeRows, other_rows, normal_at}
 use Rattle.gf_cone.proofs.known.KnownCone.is_shown_by.Goals as goal
 
 pub returns : goal.returns
-returns c = λ t. shown_at c.args.self.now c.vectors.result.now c.args.place c.args.witness.now c.vectors.ensures.value c.requires
-    (sym (ap (λ (z : List ℤ). length z) c.as_slice-entries.ensures.value) ∙ search (arith, c))
-    (subst (λ (z : List ℤ). (k : ℕ) → k < length c.vectors.result.now → IsShownBy c.vectors.result.now c.args.place z k) c.as_slice-entries.ensures.value (c.shows.ensures t))
+returns c = λ t.
+    let P : ConeRows → List ℤ → Type 0 = λ k w. IsSolution k.variables (other_rows k c.args.place) (normal_at k c.args.place ∷ []) w in
+    subst (λ (k : ConeRows). P k c.args.witness.now) c.self.view_is (subst (P c.self.inside.cone) c.as_slice-entries.ensures.value (c.shows.ensures t))
