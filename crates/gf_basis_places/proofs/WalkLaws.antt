@@ -7,19 +7,19 @@ use Rattle.gf_initial.proofs.LawsHold.{neighbours_are_unique}
 use Rattle.gf_session.proofs.TranscriptLaws.{determined}
 use Rattle.gf_session.specs.Transcripts.{AreFunctions}
 use Rattle.gf_basis_places.specs.Prompts.{prompt_text}
-use Rattle.gf_basis_places.specs.BasisRules.{IsStep, IsNumbered, IsPastAll, IsPrompt, basis_rules}
+use Rattle.gf_basis_places.specs.BasisRules.{IsCrossingStep, IsNumbered, IsPastAll, IsPrompt, basis_rules}
 use Rattle.gf_basis_places.specs.Walks.{WalksAreDetermined}
 use Rattle.gf_basis_places.proofs.CrossableLaws.{one_list}
 
 -- a step leads to one basis
-one_step : (p q u : MarkedPolynomials) (a : List ℤ) → IsStep p a q → IsStep p a u → q ≡ u
+one_step : (p q u : MarkedPolynomials) (a : List ℤ) → IsCrossingStep p a q → IsCrossingStep p a u → q ≡ u
 one_step p q u a s t = ap₂ (λ (n : ℕ) (bs : List MarkedPolynomial). record { variables = n; items = bs }) (s.across.0 ∙ sym t.across.0)
     (neighbours_are_unique.unique p.variables (polys p.items) (all_positive p.variables) (all_positive p.variables) p.items a q.items u.items s.node.fan.ideal s.across.1 t.across.1)
 
 one_place : (p q u : MarkedPolynomials) (n : ℕ) → IsNumbered p n q → IsNumbered p n u → q ≡ u
 one_place p q u n h g =
     let e : h.normals ≡ g.normals = one_list p.variables (all_positive p.variables) p.items h.normals g.normals h.crossable g.crossable in
-    one_step p q u (slice_index_or g.normals n []) (subst (λ (ns : List (List ℤ)). IsStep p (slice_index_or ns n []) q) e h.step) g.step
+    one_step p q u (slice_index_or g.normals n []) (subst (λ (ns : List (List ℤ)). IsCrossingStep p (slice_index_or ns n []) q) e h.step) g.step
 
 no_place : (p q : MarkedPolynomials) (n : ℕ) → IsNumbered p n q → IsPastAll p n → ⊥
 no_place p q n h g =

@@ -11,12 +11,12 @@ use Rattle.gf_basis_places.specs.Crossable.{AreCrossable}
 use Rattle.gf_basis_places.specs.Prompts.{prompt_text}
 
 -- p is a basis, for some positive weight, of the ideal that it generates, in the variables of a ring of so many
-pub record IsPlace (variables : ℕ) (p : MarkedPolynomials) : Type 0 where
+pub record IsBasisPlace (variables : ℕ) (p : MarkedPolynomials) : Type 0 where
   pub node : IsNode (all_positive p.variables) p
   pub ring : p.variables ≡ variables
 
 -- q is on the other side of the facet of p with normal a, of the ideal of p, which is a basis of it
-pub record IsStep (p : MarkedPolynomials) (a : List ℤ) (q : MarkedPolynomials) : Type 0 where
+pub record IsCrossingStep (p : MarkedPolynomials) (a : List ℤ) (q : MarkedPolynomials) : Type 0 where
   pub node : IsNode (all_positive p.variables) p
   pub across : IsAcross (all_positive p.variables) p a (Some q)
 
@@ -25,7 +25,7 @@ pub record IsNumbered (p : MarkedPolynomials) (number : ℕ) (q : MarkedPolynomi
   pub normals : List (List ℤ)
   pub crossable : AreCrossable p.variables (all_positive p.variables) p.items normals
   pub inside : number < length normals
-  pub step : IsStep p (slice_index_or normals number []) q
+  pub step : IsCrossingStep p (slice_index_or normals number []) q
 
 -- fewer normals may be crossed
 pub record IsPastAll (p : MarkedPolynomials) (number : ℕ) : Type 0 where
@@ -44,5 +44,5 @@ abbrev pub basis_rules : List (List ℕ) → Rules MarkedPolynomials
 basis_rules names = record { IsAcross = IsNumbered; IsLacking = IsPastAll; IsTold = IsPrompt names }
 
 -- why a call at p is refused: as a call of the search is, at p or at a basis on the other side of a facet
-abbrev pub IsRefusedAt : ℕ → MarkedPolynomials → TreeError → Type 0
-IsRefusedAt pairs p = IsCallRefusal (all_positive p.variables) pairs p
+abbrev pub IsPlaceRefusal : ℕ → MarkedPolynomials → TreeError → Type 0
+IsPlaceRefusal pairs p = IsCallRefusal (all_positive p.variables) pairs p

@@ -3,7 +3,7 @@ use Rattle.std.specs.Prelude.{◌≡◌, ℕ, List}
 use Rattle.gf_poly.specs.Marking.{MarkedPolynomials}
 use Rattle.gf_session.specs.declared.choice.Choice.{Choice}
 use Rattle.gf_session.specs.declared.choice.Choice.TheVariants as choices
-use Rattle.gf_session.specs.Sessions.{Trail, AreTurns, IsTurn, IsCrossed}
+use Rattle.gf_session.specs.Sessions.{Trail, AreTurns, IsLineTurn, IsWalkedOn}
 use Rattle.gf_session.specs.Transcripts.{AreFunctions}
 use Rattle.gf_basis_places.specs.BasisRules.{basis_rules}
 
@@ -13,4 +13,4 @@ pub record WalksAreDetermined (names : List (List ℕ)) : Type 0 where
   pub functions : AreFunctions (basis_rules names)
   pub one : (s t u : Trail MarkedPolynomials) (cs : List Choice) (x y : List ℕ) → AreTurns (basis_rules names) s cs t x → AreTurns (basis_rules names) s cs u y →
       (t ≡ u) × (x ≡ y)
-  pub undone : (s t u : Trail MarkedPolynomials) (n : ℕ) (x y : List ℕ) → IsCrossed (basis_rules names) s n t x → IsTurn (basis_rules names) t choices.Undo u y → u ≡ s
+  pub undone : (s t u : Trail MarkedPolynomials) (n : ℕ) (x y : List ℕ) → IsWalkedOn (basis_rules names) s n t x → IsLineTurn (basis_rules names) t choices.Undo u y → u ≡ s

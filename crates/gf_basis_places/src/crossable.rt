@@ -1,7 +1,6 @@
 //! The normals of a basis that a flip may cross.
 ghost use Rattle.std.specs.Prelude.{◌≡◌, ◌<◌, ℕ, length, IfOk, IfErr};
 ghost use Rattle.gf_tree.specs.Refusals.{IsRefusedAtBasis};
-ghost use Rattle.gf_cone.specs.Cones.{IsConeOf};
 ghost use Rattle.gf_basis_places.specs.Crossable.{AreCrossable, IsWithPlace, IsRefusedAtPlace};
 
 use gf_cone::{Cone, KnownCone, Region};

@@ -1,8 +1,6 @@
 //! The bases of an ideal as places.
 ghost use Rattle.std.specs.Prelude.{◌≡◌, length};
-ghost use Rattle.gf_facets.specs.Regions.{all_positive};
-ghost use Rattle.gf_tree.specs.Refusals.{IsCallRefusal};
-ghost use Rattle.gf_basis_places.specs.BasisRules.{IsPlace, IsStep, IsRefusedAt, basis_rules};
+ghost use Rattle.gf_basis_places.specs.BasisRules.{IsBasisPlace, IsCrossingStep, IsPlaceRefusal, basis_rules};
 
 use crate::place::BasisPlace;
 use crate::prompt::push_prompt;
@@ -36,13 +34,13 @@ impl<'r> Moves for BasisPlaces<'r> {
 
     type Error = TreeError;
 
-    ghost is_place = { λ t p. IsPlace (length t.ring.now) p };
+    ghost is_place = { λ t p. IsBasisPlace (length t.ring.now) p };
 
     ghost rules = { λ t. basis_rules t.ring.now };
 
-    ghost joins = { λ _. IsStep };
+    ghost joins = { λ _. IsCrossingStep };
 
-    ghost refuses = { λ t. IsRefusedAt t.pairs };
+    ghost refuses = { λ t. IsPlaceRefusal t.pairs };
 
     fn cross(
         &self,

@@ -1,21 +1,19 @@
 -- The faces of the maximal cones of a prevariety are all its cones. To cite: maximal_patterns.
 use Rattle.std.proofs.Common.{ℕ, List, ℤ, Contains, subst}
-use Rattle.gf_gordan.specs.Alternative.{AreRows, GordansAlternative}
-use Rattle.gf_duality.specs.Faces.{Rows, SameCone, IsFaceOf}
+use Rattle.gf_gordan.specs.Alternative.{GordansAlternative}
+use Rattle.gf_duality.specs.Faces.{Rows, SameCone}
 use Rattle.gf_fans.proofs.FanLaws.{own_face, same_turned}
-use Rattle.gf_fans.proofs.PartNumbers.{in_map, of_map}
-use Rattle.gf_rays.specs.Cones.{RowsAndRays, rows_of}
+use Rattle.gf_fans.proofs.PartNumbers.{in_map}
+use Rattle.gf_rays.specs.Cones.{rows_of}
 use Rattle.gf_fan.specs.declared.cones.FanCone.{FanCone}
 use Rattle.gf_fan.specs.FanLists.{FanLists}
 use Rattle.gf_fan.specs.FansOfCones.{IsFanOf}
-use Rattle.gf_fan.specs.MaximalCones.{maximal_of}
-use Rattle.gf_fan.proofs.UnderMaximal.{maximal_some, under_maximal, inside_face}
 use Rattle.gf_refine.specs.FanRows.{fan_rows}
 use Rattle.gf_refine.specs.Laws.{FansAreConeLists}
-use Rattle.gf_patterns.specs.Refinements.{HaveEntries, IsFaceOfSome, IsCoveredBy}
+use Rattle.gf_refine.proofs.MaximalLaws.{maximal_faces}
+use Rattle.gf_patterns.specs.Refinements.{IsFaceOfSome}
 use Rattle.gf_patterns.specs.Patterns.{IsClosedConeOf, IsOnPrevariety, ArePatternCones}
-use Rattle.gf_patterns.proofs.MeetLaws.{same_refl}
-use Rattle.gf_patterns.proofs.CoverLaws.{covered_same, patterns_same}
+use Rattle.gf_patterns.proofs.CoverLaws.{patterns_same}
 use Rattle.gf_tropical.specs.TropicalFans.{IsPrevarietyFan}
 use Rattle.gf_basis_test.specs.Verdicts.{maximal_rows}
 
@@ -47,30 +45,8 @@ all_patterns n As h law p = record {
 
 -- ---- the maximal ones
 
-covered : (n : ℕ) (given : List RowsAndRays) (h : FanLists) → IsFanOf n given h → IsCoveredBy n (fan_rows h) (maximal_rows h)
-covered n given h s = record {
-  each = λ c m.
-      let x = of_map row h.cones c m in let k : FanCone = x.0 in
-      let u = under_maximal n given h k s x.1.0 in (
-        rows_of u.over.cone,
-        (
-          in_map row (maximal_of h) u.over u.listed,
-          subst (λ (z : Rows). IsFaceOf n z (rows_of u.over.cone)) x.1.1 (inside_face n given h k u.over s x.1.0 (maximal_some n given h s u.over u.listed) u.within),
-        ),
-      );
-  some = λ c m.
-      let x = of_map row (maximal_of h) c m in let k : FanCone = x.0 in
-      (rows_of k.cone, (in_map row h.cones k (maximal_some n given h s k x.1.0), subst (λ (z : Rows). SameCone n z (rows_of k.cone)) x.1.1 (same_refl n (rows_of k.cone))));
-}
-
-maximal_width : (n : ℕ) (given : List RowsAndRays) (h : FanLists) → IsFanOf n given h → HaveEntries n (fan_rows h) → HaveEntries n (maximal_rows h)
-maximal_width n given h s w c m =
-    let x = of_map row (maximal_of h) c m in let k : FanCone = x.0 in
-    subst (λ (z : Rows). AreRows n z.inequalities × AreRows n z.equations) x.1.1 (w (rows_of k.cone) (in_map row h.cones k (maximal_some n given h s k x.1.0)))
-
 pub maximal_patterns : (n : ℕ) (As : List (List (List ℤ))) (h : FanLists) → GordansAlternative → FansAreConeLists → IsPrevarietyFan n As h → ArePatternCones IsOnPrevariety n As (maximal_rows h)
 maximal_patterns n As h gordan law p =
     let s : IsFanOf n p.fan.0 h = subst (λ z. IsFanOf z p.fan.0 h) p.ambient p.fan.1 in
-    let w : HaveEntries n (fan_rows h) = subst (λ m. HaveEntries m (fan_rows h)) p.ambient (law.width h p.fan) in
     patterns_same IsOnPrevariety n As (fan_rows h) (maximal_rows h)
-    (covered_same n (fan_rows h) (maximal_rows h) gordan w (maximal_width n p.fan.0 h s w) (covered n p.fan.0 h s)) (all_patterns n As h law p)
+    (λ x. let e = maximal_faces n p.fan.0 h gordan s x in (e.1, e.0)) (all_patterns n As h law p)

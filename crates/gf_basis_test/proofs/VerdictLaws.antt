@@ -1,12 +1,10 @@
--- The first verdict is right. To cite: in_among, verdict_right.
+-- The first verdict is right. To cite: verdict_right.
 use Rattle.std.specs.Prelude.{None, Some}
-use Rattle.std.proofs.Common.{◌≡◌, ◌⊎◌, ℕ, List, [], ◌∷◌, ℤ, map, Contains, length, arith, refl, subst, inl, inr}
+use Rattle.std.proofs.Common.{◌≡◌, ℕ, List, ℤ, map, length, refl}
 use Rattle.gf_exponents.specs.SixOrders.{MonomialOrder}
 use Rattle.gf_poly.specs.Polynomial.{Terms}
 use Rattle.gf_poly.specs.Marking.{MarkedPolynomial, MarkedPolynomials}
-use Rattle.gf_ideal.proofs.ListLaws.{Contains-here, Contains-there, Contains-cases}
 use Rattle.gf_gordan.specs.Alternative.{GordansAlternative}
-use Rattle.gf_walk.specs.Listing.{Among}
 use Rattle.gf_buchberger.specs.Jobs.{HaveRingVariables, HaveOneDegree, IsSuited}
 use Rattle.gf_buchberger.proofs.JobLaws.{orders_that_suit, ring_variables}
 use Rattle.gf_fan.specs.FanLists.{FanLists}
@@ -17,6 +15,7 @@ use Rattle.gf_facets.specs.MarkedBases.{IsMarkedReducedBasis}
 use Rattle.gf_facets.proofs.SystemLaws.{all_positive-region}
 use Rattle.gf_bases.proofs.FiniteLaws.{basis_everywhere}
 use Rattle.gf_reverse.specs.Upward.{IsNodeIn}
+use Rattle.gf_reverse.proofs.FanLaws.{of_among, among_of}
 use Rattle.gf_tree.specs.Ideals.{ideal_by}
 use Rattle.gf_tropical_bases.specs.Tests.{IsFailedAt}
 use Rattle.gf_tropical_bases.specs.Laws.{IsBasisTest}
@@ -27,19 +26,6 @@ use Rattle.gf_basis_test.specs.declared.verdict.Verdict.TheVariants.{Yes, No}
 use Rattle.gf_basis_test.specs.Verdicts.{IsVerdict, IsFirstVerdict, HasBasisOutcome, HaveBasesOutcome, maximal_rows}
 use Rattle.gf_basis_test.proofs.MaximalConeLaws.{maximal_patterns}
 use Rattle.gf_basis_test.proofs.FaceTestLaws.{passes, fails}
-
-among_in : {X : Type 0} (xs : List X) (x : X) → Among xs x → Contains xs x
-among_in [] x h = absurd h
-among_in {X} (y ∷ xs) x (inl e) = subst (λ (z : X). Contains (y ∷ xs) z) e (Contains-here y xs)
-among_in (y ∷ xs) x (inr k) = Contains-there y x xs (among_in xs x k)
-
-pub in_among : {X : Type 0} (xs : List X) (x : X) → Contains xs x → Among xs x
-in_among [] x c = absurd (omega (arith, c.1))
-in_among {X} (y ∷ xs) x c = at (λ k. in_among xs x k) (Contains-cases y x xs c)
-  where
-    at : (Contains xs x → Among xs x) → (y ≡ x) ⊎ Contains xs x → (y ≡ x) ⊎ Among xs x
-    at r (inl e) = inl e
-    at r (inr k) = inr (r k)
 
 -- ---- the test
 
@@ -68,13 +54,13 @@ yes_right : (n : ℕ) (fs : List Terms) (h : FanLists) (v : HaveRingVariables n 
     IsVerdict n fs Yes
 yes_right n fs h v one t o = tropical_bases_are_tested.yes n (suited n fs v one).grade fs (maximal_rows h) t (λ bs b.
     let x : MarkedPolynomials = record { variables = n; items = bs } in
-    passes n bs (maximal_rows h) b.arranged.canonical (o.outcome x (among_in o.bases x (o.are_bases.all x (listed n fs bs v b)))))
+    passes n bs (maximal_rows h) b.arranged.canonical (o.outcome x (of_among o.bases x (o.are_bases.all x (listed n fs bs v b)))))
 
 no_right : (n : ℕ) (fs : List Terms) (h : FanLists) (u : List ℤ) (v : HaveRingVariables n fs) (one : HaveOneDegree fs) → IsBasisTest n (suited n fs v one).grade fs (maximal_rows h) → HaveBasesOutcome n fs (maximal_rows h) (Some u) →
     IsVerdict n fs (No u)
 no_right n fs h u v one t o =
     let b : MarkedPolynomials = o.outcome.0 in
-    let node : IsNodeIn (ideal_by n fs) b = o.are_bases.only b (in_among o.bases b (reached_in (λ (c : MarkedPolynomials). HasBasisOutcome n (maximal_rows h) c.items None) o.bases b o.outcome.1)) in
+    let node : IsNodeIn (ideal_by n fs) b = o.are_bases.only b (among_of o.bases b (reached_in (λ (c : MarkedPolynomials). HasBasisOutcome n (maximal_rows h) c.items None) o.bases b o.outcome.1)) in
     let f : (length u ≡ n) × IsFailedAt n fs (maximal_rows h) u = fails n fs (maximal_rows h) b.items u (of_listed n fs b node) o.outcome.2 in
     let w = tropical_bases_are_tested.no n (suited n fs v one).grade fs (maximal_rows h) u t f.0 f.1 in
     (f.0, w.0, w.1)

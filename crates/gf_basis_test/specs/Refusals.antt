@@ -28,24 +28,24 @@ use Rattle.gf_basis_test.specs.Verdicts.{HasBasisOutcome, maximal_rows}
 -- ---- one basis
 
 -- a refusal at one of the cones, all before which pass with the basis bs; or there is no memory
-pub data IsRefusedAtBasis (n : ℕ) (cones : List Rows) (bs : List MarkedPolynomial) (pairs : ℕ) (e : InitialError) : Type 0 where
-  at_cone : (normals : List (List ℤ)) (c : Rows) → AreNormals bs normals → IsReached (λ (d : Rows). HasOutcome n bs normals d None) cones c → IsConeRefusal n bs normals c pairs e → IsRefusedAtBasis n cones bs pairs e
-  no_memory : e ≡ initial.Memory → IsRefusedAtBasis n cones bs pairs e
+pub data IsRefusedWithBasis (n : ℕ) (cones : List Rows) (bs : List MarkedPolynomial) (pairs : ℕ) (e : InitialError) : Type 0 where
+  at_cone : (normals : List (List ℤ)) (c : Rows) → AreNormals bs normals → IsReached (λ (d : Rows). HasOutcome n bs normals d None) cones c → IsConeRefusal n bs normals c pairs e → IsRefusedWithBasis n cones bs pairs e
+  no_memory : e ≡ initial.Memory → IsRefusedWithBasis n cones bs pairs e
 
 -- ---- all bases of the ideal of fs
 
 -- a refusal at one of the bases, all before which pass; one of the search; or there is no memory
 pub data AreBasesRefused (n : ℕ) (fs : List Terms) (cones : List Rows) (pairs : ℕ) (e : BasisTestError) : Type 0 where
   at_basis : (bases : List MarkedPolynomials) (b : MarkedPolynomials) (r : InitialError) → IsListFor (ideal_by n fs) bases → IsReached (λ (c : MarkedPolynomials). HasBasisOutcome n cones c.items None) bases b →
-      IsRefusedAtBasis n cones b.items pairs r → e ≡ Initial r → AreBasesRefused n fs cones pairs e
+      IsRefusedWithBasis n cones b.items pairs r → e ≡ Initial r → AreBasesRefused n fs cones pairs e
   at_search : (r : TreeError) → IsTreeRefusal (ideal_by n fs) pairs r → e ≡ Search r → AreBasesRefused n fs cones pairs e
   no_memory : e ≡ Memory → AreBasesRefused n fs cones pairs e
 
 -- ---- the whole
 
 -- at the prevariety; at the first basis, by degree and then lex; at the bases, with the maximal cones of the prevariety
-pub data IsTestRefusal (n : ℕ) (fs : List Terms) (pairs : ℕ) (e : BasisTestError) : Type 0 where
-  at_prevariety : (r : TropicalError) → IsTropicalRefusal IsPairSystem n fs r → e ≡ Prevariety r → IsTestRefusal n fs pairs e
-  at_root : (r : BasisError) → IsBasisRefusal MonomialOrder.deglex n fs pairs r → e ≡ Root r → IsTestRefusal n fs pairs e
-  at_bases : (h : FanLists) → IsPrevarietyFan n (map points fs) h → AreBasesRefused n fs (maximal_rows h) pairs e → IsTestRefusal n fs pairs e
-  no_memory : e ≡ Memory → IsTestRefusal n fs pairs e
+pub data IsVerdictRefusal (n : ℕ) (fs : List Terms) (pairs : ℕ) (e : BasisTestError) : Type 0 where
+  at_prevariety : (r : TropicalError) → IsTropicalRefusal IsPairSystem n fs r → e ≡ Prevariety r → IsVerdictRefusal n fs pairs e
+  at_root : (r : BasisError) → IsBasisRefusal MonomialOrder.deglex n fs pairs r → e ≡ Root r → IsVerdictRefusal n fs pairs e
+  at_bases : (h : FanLists) → IsPrevarietyFan n (map points fs) h → AreBasesRefused n fs (maximal_rows h) pairs e → IsVerdictRefusal n fs pairs e
+  no_memory : e ≡ Memory → IsVerdictRefusal n fs pairs e

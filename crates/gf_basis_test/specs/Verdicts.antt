@@ -13,7 +13,7 @@ use Rattle.gf_facets.specs.Normals.{AreNormals}
 use Rattle.gf_reverse.specs.Lists.{IsListFor}
 use Rattle.gf_tree.specs.Ideals.{ideal_by}
 use Rattle.gf_tropical_bases.specs.Tests.{IsMonomialFree}
-use Rattle.gf_initial_monomials.specs.Outcomes.{IsOutcome, HasOutcome}
+use Rattle.gf_initial_monomials.specs.Outcomes.{IsFirstThatFails, HasOutcome}
 use Rattle.gf_basis_test.specs.declared.verdict.Verdict.{Verdict}
 use Rattle.gf_basis_test.specs.declared.verdict.Verdict.TheVariants.{Yes, No}
 
@@ -34,13 +34,13 @@ maximal_rows h = cone_rows (maximal_of h)
 pub record HasBasisOutcome (n : ℕ) (cones : List Rows) (bs : List MarkedPolynomial) (v : Option (List ℤ)) : Type 0 where
   pub normals : List (List ℤ)
   pub are_normals : AreNormals bs normals
-  pub outcome : IsOutcome (λ (c : Rows). HasOutcome n bs normals c None) (λ (u : List ℤ) (c : Rows). HasOutcome n bs normals c (Some u)) cones v
+  pub outcome : IsFirstThatFails (λ (c : Rows). HasOutcome n bs normals c None) (λ (u : List ℤ) (c : Rows). HasOutcome n bs normals c (Some u)) cones v
 
 -- the bases of the ideal of fs one after another, in the order of their paths
 pub record HaveBasesOutcome (n : ℕ) (fs : List Terms) (cones : List Rows) (v : Option (List ℤ)) : Type 0 where
   pub bases : List MarkedPolynomials
   pub are_bases : IsListFor (ideal_by n fs) bases
-  pub outcome : IsOutcome (λ (b : MarkedPolynomials). HasBasisOutcome n cones b.items None) (λ (u : List ℤ) (b : MarkedPolynomials). HasBasisOutcome n cones b.items (Some u)) bases v
+  pub outcome : IsFirstThatFails (λ (b : MarkedPolynomials). HasBasisOutcome n cones b.items None) (λ (u : List ℤ) (b : MarkedPolynomials). HasBasisOutcome n cones b.items (Some u)) bases v
 
 -- the vector that a verdict of no tells
 abbrev pub outcome_of : Verdict → Option (List ℤ)

@@ -4,7 +4,7 @@ ghost use Rattle.gf_rays.specs.Cones.{rows_of};
 ghost use Rattle.gf_facets.specs.Regions.{all_positive};
 ghost use Rattle.gf_cone.specs.Cones.{IsConeOf};
 ghost use Rattle.gf_basis_test.specs.Verdicts.{HasBasisOutcome, maximal_rows};
-ghost use Rattle.gf_basis_test.specs.Refusals.{IsRefusedAtBasis};
+ghost use Rattle.gf_basis_test.specs.Refusals.{IsRefusedWithBasis};
 
 use gf_cone::Cone;
 use gf_fan::Fan;
@@ -40,7 +40,7 @@ fn at_cones(
     requires ambient { fan.now.ambient ≡ basis.now.variables }
     requires cone { IsConeOf basis.now.variables (all_positive basis.now.variables) basis.now.items cone.now }
     ensures ok { IfOk result (HasBasisOutcome basis.now.variables (maximal_rows fan.now) basis.now.items) }
-    ensures err { IfErr result (IsRefusedAtBasis basis.now.variables (maximal_rows fan.now) basis.now.items pairs) }
+    ensures err { IfErr result (IsRefusedWithBasis basis.now.variables (maximal_rows fan.now) basis.now.items pairs) }
 {
     let mut seen = Seen::new(alloc, basis.variables());
     let places = fan.maximal();
@@ -67,7 +67,7 @@ pub(crate) fn at_basis(
     requires room { basis.now.variables < ROOM }
     requires ambient { fan.now.ambient ≡ basis.now.variables }
     ensures ok { IfOk result (HasBasisOutcome basis.now.variables (maximal_rows fan.now) basis.now.items) }
-    ensures err { IfErr result (IsRefusedAtBasis basis.now.variables (maximal_rows fan.now) basis.now.items pairs) }
+    ensures err { IfErr result (IsRefusedWithBasis basis.now.variables (maximal_rows fan.now) basis.now.items pairs) }
 {
     let cone = Cone::of(alloc, basis)?;
     at_cones(alloc, basis, &cone, fan, pairs)

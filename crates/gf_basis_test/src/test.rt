@@ -6,7 +6,7 @@ ghost use Rattle.gf_tropical.specs.Refusals.{IsFirstZeroPolynomial};
 ghost use Rattle.gf_tropical.specs.declared.error.TropicalError.TheVariants.{ZeroPolynomial};
 ghost use Rattle.gf_basis_test.specs.declared.error.BasisTestError.TheVariants.{Prevariety};
 ghost use Rattle.gf_basis_test.specs.Verdicts.{IsFirstVerdict, IsVerdict};
-ghost use Rattle.gf_basis_test.specs.Refusals.{IsTestRefusal};
+ghost use Rattle.gf_basis_test.specs.Refusals.{IsVerdictRefusal};
 ghost use Rattle.gf_basis_test.specs.Limits.{IsTestWithinLimits, HasNoMemory};
 
 use crate::bases::at_bases;
@@ -43,7 +43,7 @@ fn tested<R: Threads + Sync>(
     requires variables { HaveRingVariables n set.now }
     requires count { length set.now < 2 ^ 32 }
     ensures first { IfOk result (IsFirstVerdict n set.now) }
-    ensures err { IfErr result (IsTestRefusal n set.now pairs) }
+    ensures err { IfErr result (IsVerdictRefusal n set.now pairs) }
     ensures zero { (i : ℕ) → IsFirstZeroPolynomial set.now i → result ≡ Err (Prevariety (ZeroPolynomial 0 i)) }
 {
     are_in(n, set);
@@ -80,7 +80,7 @@ pub fn tropical_basis<R: Threads + Sync>(
     requires count { length set.now < 2 ^ 32 }
     ensures verdict { IfOk result (IsVerdict n set.now) }
     ensures first { IfOk result (IsFirstVerdict n set.now) }
-    ensures err { IfErr result (IsTestRefusal n set.now pairs) }
+    ensures err { IfErr result (IsVerdictRefusal n set.now pairs) }
     ensures zero_always { (i : ℕ) → IsFirstZeroPolynomial set.now i → result ≡ Err (Prevariety (ZeroPolynomial 0 i)) }
     ensures complete { IsTestWithinLimits n set.now pairs → IfErr result HasNoMemory }
 {

@@ -10,15 +10,16 @@ use Rattle.gf_frac.proofs.FractionLaws.{+ℚ-zero, one-*ℚ, *ℚ-zero, *ℚ-one
 use Rattle.gf_int.specs.Gcd.{gcd}
 use Rattle.gf_exponents.specs.Exponents.{Exponents, entry, same, plus, join}
 use Rattle.gf_exponents.specs.SixOrders.{below_of}
-use Rattle.gf_exponents.proofs.ExponentsLaws.{same_flip, same_trans, same_shift_right, cancel, entries_same, same_by_entries, entry-join}
+use Rattle.gf_exponents.proofs.ExponentsLaws.{same_flip, same_trans, cancel, entries_same, same_by_entries, entry-join}
 use Rattle.gf_poly.specs.Polynomial.{Terms, coefficient, times, SamePolynomial}
 use Rattle.gf_poly.specs.Marking.{MarkedPolynomial}
-use Rattle.gf_poly.proofs.PolynomialLaws.{coefficient-++, coefficient-times, coefficient-same}
+use Rattle.gf_poly.proofs.PolynomialLaws.{coefficient-++}
 use Rattle.gf_ideal.specs.Membership.{HasMonomial}
 use Rattle.gf_ideal.specs.Operands.{AreThese, IsStepOperation, IsStepExponents, IsShiftOperation, IsSPolynomialOperation}
 use Rattle.gf_ideal.specs.Reduction.{IsDivisible, IsStep, Reached, IsSPolynomial, IsMonicForm}
 use Rattle.gf_ideal.specs.WorkLists.{IsOrigin, IsWorkList, IsTail, IsRunOperation, IsRunExponents}
 use Rattle.gf_ideal.proofs.ListLaws.{Contains-here, Contains-cases, Contains-last}
+use Rattle.gf_ideal.proofs.TermLaws.{coefficient-times-one}
 use Rattle.gf_buchberger.specs.Bases.{unit_monomial, MonomialsStayWithinLimits}
 use Rattle.gf_buchberger.specs.Pairs.{pairs_below}
 
@@ -137,15 +138,12 @@ AreUnits e bs = (b : MarkedPolynomial) → Contains bs b → IsUnit e b
 unraised : (e u : Exponents) (b : MarkedPolynomial) → IsUnit e b → same (plus u b.head) e ≡ true → same u [] ≡ true
 unraised e u b h s = cancel b.head u [] (same_trans (plus u b.head) e b.head s (same_flip b.head e h.head))
 
-scaled : (c : Fraction) (u : Exponents) (f : Terms) (y : Exponents) → same u [] ≡ true → coefficient (times c u f) y ≡ c *ℚ coefficient f y
-scaled c u f y s = coefficient-same (times c u f) y (plus u y) (same_flip (plus u y) y (same_shift_right y u [] s)) ∙ coefficient-times c u f y
-
 -- a step leaves nothing
 step_leaves : (e : Exponents) (bs : List MarkedPolynomial) (g h : Terms) → AreUnits e bs → IsSmall e g → IsStep (Contains bs) g h → SamePolynomial h []
 step_leaves e bs g h u s t y =
     t.equal y
     ∙ coefficient-++ g (times (neg_ℚ (coefficient g t.at)) t.rest t.member.poly) y
-    ∙ ap (λ z. coefficient g y +ℚ z) (scaled (neg_ℚ (coefficient g t.at)) t.rest t.member.poly y none ∙ ap₂ (λ c x. neg_ℚ c *ℚ x) (there.0 t.at ∙ coefficient_there e t.at there.1) (unit.poly y ∙ sym (there.0 y)))
+    ∙ ap (λ z. coefficient g y +ℚ z) (coefficient-times-one (neg_ℚ (coefficient g t.at)) t.rest t.member.poly y none ∙ ap₂ (λ c x. neg_ℚ c *ℚ x) (there.0 t.at ∙ coefficient_there e t.at there.1) (unit.poly y ∙ sym (there.0 y)))
     ∙ opposite (coefficient g y)
   where
     unit : IsUnit e t.member
@@ -173,8 +171,8 @@ s_polynomial_none e b c s p q h y =
     h.equal y
     ∙ coefficient-++ (times one_ℚ h.left b.poly) (times (neg_ℚ one_ℚ) h.right c.poly) y
     ∙ ap₂ (λ x z. x +ℚ z)
-    (scaled one_ℚ h.left b.poly y (raised_none e h.left b b c p p q h.of_left) ∙ one-*ℚ (coefficient b.poly y) ∙ p.poly y)
-    (scaled (neg_ℚ one_ℚ) h.right c.poly y (raised_none e h.right c b c q p q h.of_right) ∙ ap (λ z. neg_ℚ one_ℚ *ℚ z) (q.poly y))
+    (coefficient-times-one one_ℚ h.left b.poly y (raised_none e h.left b b c p p q h.of_left) ∙ one-*ℚ (coefficient b.poly y) ∙ p.poly y)
+    (coefficient-times-one (neg_ℚ one_ℚ) h.right c.poly y (raised_none e h.right c b c q p q h.of_right) ∙ ap (λ z. neg_ℚ one_ℚ *ℚ z) (q.poly y))
     ∙ opposite (coefficient (unit_monomial e) y)
 
 -- ---- work lists
@@ -243,7 +241,7 @@ s_polynomial_fits e b c op left right p q h = subst (λ o. Fits o left right) (s
     (subst IsBit (sym (h.is_right ∙ plain c h.of_c (raised_none e h.of_c c b c q p q h.shift_c))) (small_bit e c.poly (inl q.poly) h.exponents)))
   where
     plain : (a : MarkedPolynomial) (u : Exponents) → same u [] ≡ true → coefficient (times one_ℚ u a.poly) h.exponents ≡ coefficient a.poly h.exponents
-    plain a u s = scaled one_ℚ u a.poly h.exponents s ∙ one-*ℚ (coefficient a.poly h.exponents)
+    plain a u s = coefficient-times-one one_ℚ u a.poly h.exponents s ∙ one-*ℚ (coefficient a.poly h.exponents)
 
 operation_fits : (e : Exponents) (below : Exponents → Exponents → Type 0) (op : Op) (left right : Fraction) → IsRunOperation (unit_monomial e ∷ []) below op left right → Fits op left right
 operation_fits e below op left right (IsRunOperation.step bs f w o h) =

@@ -22,12 +22,13 @@ use Rattle.gf_ideal.proofs.ListedTerms.{variables_by_terms}
 use Rattle.gf_ideal.proofs.PieceLaws.{Contains-marked}
 use Rattle.gf_ideal.proofs.StepLaws.{reached-more}
 use Rattle.gf_ideal.proofs.WorkLaws.{work-marked}
+use Rattle.gf_ideal.proofs.DividingLaws.{member_contained}
 use Rattle.gf_division.proofs.ReducerLaws.{members_equal}
 use Rattle.gf_buchberger.specs.declared.queue.Waiting.{Waiting}
 use Rattle.gf_buchberger.specs.Pairs.{PairMarks, is_settled, with_settled, with_member}
 use Rattle.gf_buchberger.specs.Runs.{MembersHaveVariables, State, with_pair, IsWaiting, IsState, IsRun, PairsPushed, IsAppended, CountsAsSettled, IsExcused, IsReducedPair}
 use Rattle.gf_buchberger.proofs.PairsLaws.{settled-here, settled-before, settled-stays, settled-member_old, settled-member_new, IsPairTable-member, IsPairTable-settled}
-use Rattle.gf_buchberger.proofs.AppendLaws.{member_at, contained_at}
+use Rattle.gf_buchberger.proofs.AppendLaws.{member_at}
 
 -- ---- states
 
@@ -42,7 +43,7 @@ in_variables n bs v f c = let m = Contains-marked bs f c in subst (IsInVariables
 
 -- ---- places in a longer list
 
-at_old : (bs : List MarkedPolynomial) (b c : MarkedPolynomial) (i : ℕ) → i < length bs → IsAt (bs ++ b ∷ []) i c → IsAt bs i c
+pub at_old : (bs : List MarkedPolynomial) (b c : MarkedPolynomial) (i : ℕ) → i < length bs → IsAt (bs ++ b ∷ []) i c → IsAt bs i c
 at_old [] b c i l h = absurd (omega arith)
 at_old (a ∷ bs) b c zero l h = record { within = l; is = h.is }
 at_old (a ∷ bs) b c (suc i) l h = record { within = l; is = (at_old bs b c i (omega arith) (record { within = omega (arith, h.within); is = h.is })).is }
@@ -70,23 +71,23 @@ run-marked order n fs s r = work-marked fs (below_of order) s.members r.work
 
 settled_of_counts : (order : MonomialOrder) (n : ℕ) (fs : List Terms) (s : State) (p q : ℕ) (b c : MarkedPolynomial) → IsRun order n fs s → CountsAsSettled s p q → IsAt s.members p b → IsAt s.members q c → IsSettledPair n s.members (below_of order) b c
 settled_of_counts order n fs s p q b c r (inl h) x y = r.settled p q b c h.0 x y h.1
-settled_of_counts order n fs s p q b c r (inr (inl h)) x y = pair_turned n s.members (below_of order) c b (in_variables n s.members r.variables) (order-is order).strict (run-marked order n fs s r) (contained_at s.members q c y) (contained_at s.members p b x) (r.settled q p c b h.0 y x h.1)
-settled_of_counts order n fs s p q b c r (inr (inr h)) x y = pair_by_product n s.members (below_of order) b c (in_variables n s.members r.variables) (order-is order).strict (run-marked order n fs s r) (contained_at s.members p b x) (contained_at s.members q c y) (h b c x y)
+settled_of_counts order n fs s p q b c r (inr (inl h)) x y = pair_turned n s.members (below_of order) c b (in_variables n s.members r.variables) (order-is order).strict (run-marked order n fs s r) (member_contained s.members q c y) (member_contained s.members p b x) (r.settled q p c b h.0 y x h.1)
+settled_of_counts order n fs s p q b c r (inr (inr h)) x y = pair_by_product n s.members (below_of order) b c (in_variables n s.members r.variables) (order-is order).strict (run-marked order n fs s r) (member_contained s.members p b x) (member_contained s.members q c y) (h b c x y)
 
 -- an excused pair is settled: Buchberger's product and chain criteria
 pub excused_pair : (order : MonomialOrder) (n : ℕ) (fs : List Terms) (s : State) (i j : ℕ) (b c : MarkedPolynomial) → IsRun order n fs s → IsExcused s i j → IsAt s.members i b → IsAt s.members j c → IsSettledPair n s.members (below_of order) b c
-excused_pair order n fs s i j b c r (inl h) x y = pair_by_product n s.members (below_of order) b c (in_variables n s.members r.variables) (order-is order).strict (run-marked order n fs s r) (contained_at s.members i b x) (contained_at s.members j c y) (h b c x y)
-excused_pair order n fs s i j b c r (inr (inl h)) x y = let o = h b c x y in pair_by_monomials n s.members (below_of order) b c (in_variables n s.members r.variables) (order-is order).strict (run-marked order n fs s r) (contained_at s.members i b x) (contained_at s.members j c y) o.0 o.1
+excused_pair order n fs s i j b c r (inl h) x y = pair_by_product n s.members (below_of order) b c (in_variables n s.members r.variables) (order-is order).strict (run-marked order n fs s r) (member_contained s.members i b x) (member_contained s.members j c y) (h b c x y)
+excused_pair order n fs s i j b c r (inr (inl h)) x y = let o = h b c x y in pair_by_monomials n s.members (below_of order) b c (in_variables n s.members r.variables) (order-is order).strict (run-marked order n fs s r) (member_contained s.members i b x) (member_contained s.members j c y) o.0 o.1
 excused_pair order n fs s i j b c r (inr (inr (k, h))) x y = at (member_at s.members k h.inside)
   where
     at : (d : MarkedPolynomial) × IsAt s.members k d → IsSettledPair n s.members (below_of order) b c
     at d =
-        let lb : length b.head ≡ n = r.variables.heads b (contained_at s.members i b x) in
-        let lc : length c.head ≡ n = r.variables.heads c (contained_at s.members j c y) in
-        let ld : length d.0.head ≡ n = r.variables.heads d.0 (contained_at s.members k d.0 d.1) in
+        let lb : length b.head ≡ n = r.variables.heads b (member_contained s.members i b x) in
+        let lc : length c.head ≡ n = r.variables.heads c (member_contained s.members j c y) in
+        let ld : length d.0.head ≡ n = r.variables.heads d.0 (member_contained s.members k d.0 d.1) in
         let long : length (join b.head c.head) ≡ length d.0.head = length-join b.head c.head (lb ∙ sym lc) ∙ lb ∙ sym ld in
         let e : join b.head c.head ≡ plus (minus (join b.head c.head) d.0.head) d.0.head = sym (plus-minus (join b.head c.head) d.0.head long (h.divides b c d.0 x y d.1)) in
-        pair_by_chain n s.members (below_of order) b c d.0 (minus (join b.head c.head) d.0.head) (in_variables n s.members r.variables) (order-is order).strict (run-marked order n fs s r) (contained_at s.members i b x) (contained_at s.members j c y) (same_of (join b.head c.head) (plus (minus (join b.head c.head) d.0.head) d.0.head) e) (settled_of_counts order n fs s i k b d.0 r h.left x d.1) (settled_of_counts order n fs s k j d.0 c r h.right d.1 y)
+        pair_by_chain n s.members (below_of order) b c d.0 (minus (join b.head c.head) d.0.head) (in_variables n s.members r.variables) (order-is order).strict (run-marked order n fs s r) (member_contained s.members i b x) (member_contained s.members j c y) (same_of (join b.head c.head) (plus (minus (join b.head c.head) d.0.head) d.0.head) e) (settled_of_counts order n fs s i k b d.0 r h.left x d.1) (settled_of_counts order n fs s k j d.0 c r h.right d.1 y)
 
 -- ---- a new member
 
@@ -111,7 +112,7 @@ appended-settled order n fs old d i j b c r l x y e = at (cases_lt j (length old
         let f : is_settled (with_member old.table) i j ≡ false = subst (λ (z : ℕ). is_settled (with_member old.table) i z ≡ false) (sym s) (settled-member_new old.table i r.state.table (omega arith)) in
         absurd (cc)
 
-appended-variables : (n : ℕ) (bs : List MarkedPolynomial) (d : MarkedPolynomial) → MembersHaveVariables n bs → length d.head ≡ n → HasVariables n d.poly → MembersHaveVariables n (bs ++ d ∷ [])
+pub appended-variables : (n : ℕ) (bs : List MarkedPolynomial) (d : MarkedPolynomial) → MembersHaveVariables n bs → length d.head ≡ n → HasVariables n d.poly → MembersHaveVariables n (bs ++ d ∷ [])
 appended-variables n bs d v h p = record { heads = λ b c. head b (Contains-last bs d b c); polys = λ b c. poly b (Contains-last bs d b c) }
   where
     head : (b : MarkedPolynomial) → Contains bs b ⊎ (b ≡ d) → length b.head ≡ n
@@ -219,10 +220,10 @@ reduced_pair order n fs w old new run h = at h.left
     steps = h.normal.reached
 
     in_b : Contains old.members h.b
-    in_b = contained_at old.members w.first h.b h.at_i
+    in_b = member_contained old.members w.first h.b h.at_i
 
     in_c : Contains old.members h.c
-    in_c = contained_at old.members w.second h.c h.at_j
+    in_c = member_contained old.members w.second h.c h.at_j
 
     gone : h.r ≡ [] → (b c : MarkedPolynomial) → IsAt old.members w.first b → IsAt old.members w.second c → IsSettledPair n old.members (below_of order) b c
     gone z b c x y =

@@ -129,8 +129,8 @@ pub record IsNewMember (order : MonomialOrder) (r : Terms) (b : MarkedPolynomial
   pub head : (n : ℕ) → HasVariables n r → length b.head ≡ n
 
 -- what is left of r: nothing where it is zero, else its monic form
-abbrev pub IsLeft : MonomialOrder → Terms → Option MarkedPolynomial → Type 0
-IsLeft order r left = MatchOption left (r ≡ []) (λ b. (r ≢ []) × IsNewMember order r b)
+abbrev pub IsLeftMember : MonomialOrder → Terms → Option MarkedPolynomial → Type 0
+IsLeftMember order r left = MatchOption left (r ≡ []) (λ b. (r ≢ []) × IsNewMember order r b)
 
 -- r has the same variables as the members, and the weight of the order, where it has one
 pub record IsAppendable (order : MonomialOrder) (r : Terms) (bs : List MarkedPolynomial) : Type 0 where
@@ -199,7 +199,7 @@ pub record IsLeftOfPair (order : MonomialOrder) (at : State) (i j : ℕ) (left :
   pub r : Terms
   pub normal : IsRemainder at.members s r
   pub variables : (n : ℕ) → MembersHaveVariables n at.members → HasVariables n r
-  pub is_left : IsLeft order r left
+  pub is_left : IsLeftMember order r left
 
 -- the pair is excused, and nothing was done, or it was reduced
 abbrev pub IsPairWorkedOff : MonomialOrder → State → State → ℕ → ℕ → Type 0

@@ -1,10 +1,9 @@
 //! What is left of a polynomial that the members have reduced: nothing, or a new member, which is monic and marked at its greatest
 //! monomial.
 
-ghost use Rattle.std.specs.Prelude.{◌≡◌, ◌<◌, length, IfOk, IfErr};
-ghost use Rattle.gf_poly.specs.Marking.{head_of};
+ghost use Rattle.std.specs.Prelude.{◌<◌, length, IfOk, IfErr};
 ghost use Rattle.gf_buchberger.specs.Leading.{IsComparable, IsLeadingAt, IsGreaterOf};
-ghost use Rattle.gf_buchberger.specs.Runs.{IsAppendRefusal, IsLeft};
+ghost use Rattle.gf_buchberger.specs.Runs.{IsAppendRefusal, IsLeftMember};
 
 use crate::leading::{compare, leading};
 use gf_order::Order;
@@ -20,7 +19,7 @@ use std::cmp::Ordering;
 /// `Overflow` only where the quotient of a coefficient of `r` by that of its greatest monomial doesn't fit; it holds the two.
 pub fn left_of(order: &Order, r: Poly) -> Result<Option<Marked>, PolyError>
     requires { IsComparable order.now r }
-    ensures ok { IfOk result (IsLeft order.now r) }
+    ensures ok { IfOk result (IsLeftMember order.now r) }
     ensures cause { IfErr result (IsAppendRefusal order.now r) }
 {
     if r.is_zero() {
@@ -63,7 +62,7 @@ fn leading_of_wide(order: &Order, f: &WidePoly) -> usize
 /// The monic form of `r`, marked at its greatest monomial, unless `r` is zero; only what is answered has to fit.
 pub fn left_of_wide(alloc: Global, order: &Order, r: &WidePoly) -> Result<Option<Marked>, Beyond>
     requires { IsComparable order.now r.now }
-    ensures { IfOk result (IsLeft order.now r.now) }
+    ensures { IfOk result (IsLeftMember order.now r.now) }
 {
     if r.is_zero() {
         return Ok(None);

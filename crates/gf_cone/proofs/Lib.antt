@@ -1,4 +1,4 @@
-mod RowsLaws  -- rows as they are made
+pub mod RowsLaws  -- rows as they are made
 mod ListingLaws  -- ascending lists of vectors
 mod NarrowLaws  -- a dot product, one entry further, and the size of its partial sums
 pub mod SmallLaws  -- vectors with small entries

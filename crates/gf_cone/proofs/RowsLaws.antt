@@ -1,9 +1,9 @@
 -- Rows as they are made, one by one.
 -- To cite: Differing, differing_next, same_row, other_row, lengths_at, rows_more, Collecting, Collecting-more, all_collected, unit_set.
-use Rattle.std.proofs.Common.{◌≡◌, ◌⊎◌, if◌then◌else◌, ℕ, zero, suc, ◌+◌, ◌<◌, ◌≤◌, ◌^◌, Bool, true, false, List, [], ◌∷◌, ◌++◌, length, ℤ, pos, ◌-ℤ◌, All, unsigned_abs, arith, refl, sym, ap, ◌∙◌, subst, inl, inr, get_or, take, set, append_assoc}
+use Rattle.std.proofs.Common.{◌≡◌, ◌⊎◌, if◌then◌else◌, ℕ, zero, suc, ◌+◌, ◌<◌, ◌≤◌, ◌^◌, Bool, true, false, List, [], ◌∷◌, ◌++◌, length, ℤ, pos, ◌-ℤ◌, All, unsigned_abs, arith, refl, sym, ap, ◌∙◌, subst, inl, inr, get_or, take, set, append_assoc, min}
 use Rattle.std.proofs.lemmas.Bool.{cases_lt}
 use Rattle.std.proofs.lemmas.Int.{ints}
-use Rattle.std.proofs.lemmas.List.{take_more, take_all, get_or_default, append-nil}
+use Rattle.std.proofs.lemmas.List.{take_more, take_all, get_or_default, append-nil, length-take}
 use Rattle.std.proofs.lemmas.List.Elements.{All-push}
 use Rattle.std.proofs.lemmas.Slice.Eq.{slice_eq-Decides}
 use Rattle.std.proofs.lemmas.Bool.Decides.{Decides-eqb}
@@ -32,13 +32,6 @@ differences-push [] (d ∷ y) a b e = absurd (omega arith)
 differences-push (c ∷ x) [] a b e = absurd (omega arith)
 differences-push (c ∷ x) (d ∷ y) a b e = ap (λ z. (pos c -ℤ pos d) ∷ z) (differences-push x y a b (omega arith))
 
-length-take_both : (x y : Exponents) (i : ℕ) → length x ≡ length y → length (take i x) ≡ length (take i y)
-length-take_both x y zero e = refl
-length-take_both [] [] (suc i) e = refl
-length-take_both [] (d ∷ y) (suc i) e = absurd (omega arith)
-length-take_both (c ∷ x) [] (suc i) e = absurd (omega arith)
-length-take_both (c ∷ x) (d ∷ y) (suc i) e = ap suc (length-take_both x y i (omega arith))
-
 -- the first i entries of a row
 pub record Differing (x y : Exponents) (entries : List ℤ) (i : ℕ) : Type 0 where
   pub items : entries ≡ differences (take i x) (take i y)
@@ -49,7 +42,7 @@ Differing-more : (x y : Exponents) (entries new : List ℤ) (i : ℕ) (z : ℤ) 
 Differing-more x y entries new i z e l q a b n d = record {
   items =
       n ∙ ap (λ w. w ++ z ∷ []) d.items ∙ ap (λ w. differences (take i x) (take i y) ++ w ∷ []) q
-      ∙ sym (differences-push (take i x) (take i y) (get_or x i 0) (get_or y i 0) (length-take_both x y i e))
+      ∙ sym (differences-push (take i x) (take i y) (get_or x i 0) (get_or y i 0) (length-take i x ∙ ap (min i) e ∙ sym (length-take i y)))
       ∙ ap (λ w. differences w (take i y ++ get_or y i 0 ∷ [])) (sym (take_more x i 0 l))
       ∙ ap (λ w. differences (take (i + 1) x) w) (sym (take_more y i 0 (omega arith)));
   range = subst (All InRange) (sym n) (All-push InRange entries z d.range (record { within = omega (arith, ints, q, a, b) }));
@@ -97,7 +90,7 @@ rows_more x f i t start now new l e n h =
     ∙ ap (λ w. start ++ w) (sym (rows-append x (take i f) (t ∷ [])))
     ∙ ap (λ w. start ++ rows_of_terms x w) (ap (λ (s : Term). take i f ++ s ∷ []) e ∙ sym (take_more f i t l))
 
-members-append : (bs cs : List MarkedPolynomial) → rows_of_polynomials (bs ++ cs) ≡ rows_of_polynomials bs ++ rows_of_polynomials cs
+pub members-append : (bs cs : List MarkedPolynomial) → rows_of_polynomials (bs ++ cs) ≡ rows_of_polynomials bs ++ rows_of_polynomials cs
 members-append [] cs = refl
 members-append (b ∷ bs) cs = ap (λ w. rows_of_terms b.head b.poly ++ w) (members-append bs cs) ∙ sym (append_assoc (rows_of_terms b.head b.poly) (rows_of_polynomials bs) (rows_of_polynomials cs))
 

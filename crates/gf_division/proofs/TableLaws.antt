@@ -26,7 +26,7 @@ use Rattle.gf_division.specs.Steps.{IsStepRefusal}
 use Rattle.gf_division.specs.Dividends.{Split, joined_terms, IsSound, IsTermInFront, AreOver, FirstIs, Descends, TakesFromFirst, TakesAway, IsDifferenceRefusal, Subtracts, IsSubtractionRefusal, TakesStep}
 use Rattle.gf_division.specs.Reducers.{IsReducibleFirst, ShareVariables}
 use Rattle.gf_division.specs.Remainders.{IsWorkedOn}
-use Rattle.gf_division.specs.Tables.{key_order, terms_in, coefficient_in, Puts, IsCutAt, StepsFrom, IsReducibleAt}
+use Rattle.gf_division.specs.Tables.{key_order, terms_in, coefficient_in, Puts, IsCutBefore, StepsFrom, IsReducibleAt}
 use Rattle.gf_division.proofs.DescendingParts.{descending-back}
 use Rattle.gf_division.proofs.SubtractionLaws.{Subtracting, neg-nonzero, taken_at, taken_beside, refused_at}
 use Rattle.gf_division.proofs.DividendLaws.{first_head, first_coefficient, first_nonzero, first_length}
@@ -223,18 +223,18 @@ refused_there k es a c e s h w =
     refused_at {T = Unit {0}} c k.mono (whole (terms_in es)) (record { above = r.before; below = record { coef = a; mono = k.mono } ∷ r.after }) Equal (Err e) refl s tt (down_there k es a r) w
 
 -- the term at a key
-pub cut_at : (k : Key) (es : List (Key × Fraction)) (a : Fraction) → IsDescending (terms_in es) → coefficient_in k es ≡ Some a → IsCutAt (terms_in es) (record { coef = a; mono = k.mono })
+pub cut_at : (k : Key) (es : List (Key × Fraction)) (a : Fraction) → IsDescending (terms_in es) → coefficient_in k es ≡ Some a → IsCutBefore (terms_in es) (record { coef = a; mono = k.mono })
 cut_at k es a d h =
     let r = present k es a d h in
     record { cut = record { above = r.before; below = record { coef = a; mono = k.mono } ∷ r.after }; same = sym r.is; first = record { rest = r.after; is = refl } }
 
-cut_sound : (n : ℕ) (f : Terms) (t : Term) → IsSound n (whole f) → (c : IsCutAt f t) → IsSound n c.cut
+cut_sound : (n : ℕ) (f : Terms) (t : Term) → IsSound n (whole f) → (c : IsCutBefore f t) → IsSound n c.cut
 cut_sound n f t v c = record { descending = subst IsDescending (sym c.same) v.descending; variables = subst (HasVariables n) (sym c.same) v.variables }
 
-pub cut_length : (n : ℕ) (f : Terms) (t : Term) → IsSound n (whole f) → IsCutAt f t → length t.mono ≡ n
+pub cut_length : (n : ℕ) (f : Terms) (t : Term) → IsSound n (whole f) → IsCutBefore f t → length t.mono ≡ n
 cut_length n f t v c = first_length n c.cut t (cut_sound n f t v c) c.first
 
-pub cut_nonzero : (n : ℕ) (f : Terms) (t : Term) → IsSound n (whole f) → IsCutAt f t → t.coef ≢ zero_ℚ
+pub cut_nonzero : (n : ℕ) (f : Terms) (t : Term) → IsSound n (whole f) → IsCutBefore f t → t.coef ≢ zero_ℚ
 cut_nonzero n f t v c = first_nonzero n c.cut t (cut_sound n f t v c) c.first
 
 -- ---- a multiple
@@ -263,7 +263,7 @@ table_step b f g t shift new none eg v d l p e sub = record { step = at }
           },
         )
 
-pub table_refused : (b : MarkedPolynomial) (f g : Terms) (t : Term) (shift : Exponents) (e : PolyError) → g ≡ b.poly → IsDescending g → HasVariables (length b.head) b.poly → IsSound (length b.head) (whole f) → IsCutAt f t → plus shift b.head ≡ t.mono → IsSubtractionRefusal f t.coef shift g e → IsStepRefusal f b t.mono e
+pub table_refused : (b : MarkedPolynomial) (f g : Terms) (t : Term) (shift : Exponents) (e : PolyError) → g ≡ b.poly → IsDescending g → HasVariables (length b.head) b.poly → IsSound (length b.head) (whole f) → IsCutBefore f t → plus shift b.head ≡ t.mono → IsSubtractionRefusal f t.coef shift g e → IsStepRefusal f b t.mono e
 table_refused b f g t shift e eg d w v c p r =
     let s = c.cut in
     let n : IsSound (length b.head) s = record { descending = subst IsDescending (sym c.same) v.descending; variables = subst (HasVariables (length b.head)) (sym c.same) v.variables } in

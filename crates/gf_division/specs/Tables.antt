@@ -38,7 +38,7 @@ abbrev pub Puts : Key → Fraction → List (Key × Fraction) → List (Key × F
 Puts k c old new = ((c ≡ zero_ℚ) × (new ≡ remove_entry (is_at (key_order k)) old)) ⊎ ((c ≢ zero_ℚ) × (new ≡ insert_entry key_order old k c))
 
 -- t is a term of f: f is cut before it
-pub record IsCutAt (f : Terms) (t : Term) : Type 0 where
+pub record IsCutBefore (f : Terms) (t : Term) : Type 0 where
   pub cut : Split
   pub same : joined_terms cut ≡ f
   pub first : IsTermInFront cut.below t
@@ -49,7 +49,7 @@ pub record StepsFrom (b : MarkedPolynomial) (f : Terms) (t : Term) (new : Split)
 
 -- t is a term of f, and the member at the place j is the first one whose mark divides it
 pub record IsReducibleAt (bs : List MarkedPolynomial) (spared : Option (List ℕ)) (f : Terms) (t : Term) (j : ℕ) : Type 0 where
-  pub there : IsCutAt f t
+  pub there : IsCutBefore f t
   pub divisor : IsDivisorAt bs t.mono j
   pub beside : IsBeside spared t.mono
   pub monomial : IsMonomial t.mono

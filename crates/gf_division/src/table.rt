@@ -6,7 +6,7 @@ ghost use Rattle.gf_exponents.specs.Exponents.{Divides};
 ghost use Rattle.gf_poly.specs.Polynomial.{coefficient as coefficient_at, IsDescending, HasVariables};
 ghost use Rattle.gf_division.specs.Steps.{IsStepRefusal};
 ghost use Rattle.gf_division.specs.Dividends.{joined_terms, IsSound, TakesAway, IsDifferenceOverflow, IsDifferenceRefusal, Subtracts, IsSubtractionRefusal, SharesVariables};
-ghost use Rattle.gf_division.specs.Tables.{table_of, coefficient_in, Puts, IsCutAt, StepsFrom};
+ghost use Rattle.gf_division.specs.Tables.{table_of, coefficient_in, Puts, IsCutBefore, StepsFrom};
 
 use crate::dividend::product;
 use crate::front::{Front, Guide};
@@ -155,7 +155,7 @@ impl Table {
     /// The term at `x`, if there is one.
     pub fn term_at(&self, x: Mono) -> Option<Term>
         requires { IsDescending (joined_terms (table_of self.now)) }
-        ensures { IfSome result (IsCutAt (joined_terms (table_of self.now))) }
+        ensures { IfSome result (IsCutBefore (joined_terms (table_of self.now))) }
     {
         let key = Key { mono: x };
         match self.coefficient(&key) {
@@ -224,7 +224,7 @@ impl Table {
     ///
     /// `Overflow` and `Exponent` only where two numbers of this step don't fit, which it holds.
     pub fn step(&mut self, t: &Term, by: &Marked) -> Result<(), PolyError>
-        requires there { IsCutAt (joined_terms (table_of self.old)) t.now }
+        requires there { IsCutBefore (joined_terms (table_of self.old)) t.now }
         requires variables { SharesVariables by.now (table_of self.old) }
         requires divides { Divides by.now.head t.now.mono }
         ensures step { OnOk result (StepsFrom by.now (joined_terms (table_of self.old)) t.now (table_of self.new)) }

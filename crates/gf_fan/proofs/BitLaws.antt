@@ -9,7 +9,7 @@ use Rattle.std.proofs.lemmas.List.{get_or_default, take_all, take_more}
 use Rattle.std.proofs.lemmas.List.Elements.{All-append, All-contains, Contains-get_or, Contains-push, Contains-append_left, Contains-append_right}
 use Rattle.gf_vec.specs.Vector.{dot}
 use Rattle.gf_gordan.specs.Alternative.{AreRows}
-use Rattle.gf_duality.proofs.ListLaws.{all_by, place, less, at, more, first_in, snoc_cases, none_in, in_cons, in_head, in_tail}
+use Rattle.gf_duality.proofs.ListLaws.{all_by, more, first_in, snoc_cases, none_in, in_cons, in_head, in_tail}
 use Rattle.gf_fans.specs.FaceLists.{numbered}
 use Rattle.gf_fans.specs.Separating.{IsNowherePositive, IsCutOff, AreSeparating, AreSettled}
 use Rattle.gf_fans.proofs.PartNumbers.{of_map, in_map}
@@ -17,10 +17,9 @@ use Rattle.gf_rays.specs.Cones.{RowsAndRays}
 use Rattle.gf_fan.specs.declared.bits.RowBits.{RowBits}
 use Rattle.gf_fan.specs.declared.bits.ConeBits.{ConeBits}
 use Rattle.gf_fan.specs.declared.table.Table.{Table}
-use Rattle.gf_fan.specs.declared.signs.ConeSigns.{ConeSigns}
 use Rattle.gf_fan.specs.Numbered.{AreAdded}
-use Rattle.gf_fan.specs.Signs.{AreEach, AreSignsOfFirst}
-use Rattle.gf_fan.specs.Bits.{AreBitsOfRow, AreBitsOfRows, AreBitsOfCone, AreBitsOfFirst, IsCutBy, AreToldByBits, IsTableOf, IsTableOfTwo}
+use Rattle.gf_fan.specs.Signs.{AreEach}
+use Rattle.gf_fan.specs.Bits.{AreBitsOfRow, AreBitsOfRows, AreBitsOfCone, AreBitsOfFirst, IsExcludedBy, AreToldByBits, IsTableOf, IsTableOfTwo}
 use Rattle.gf_fan.proofs.SettledLaws.{HasSeparated}
 use Rattle.gf_fan.proofs.SignLaws.{each_more, two_of}
 
@@ -29,19 +28,6 @@ use Rattle.gf_fan.proofs.SignLaws.{each_more, two_of}
 pub record AreBitsBelow (Q : ℕ → ℕ → Type 0) (n word : ℕ) : Type 0 where
   pub clear : (j : ℕ) → n ≤ j → bit_at word j ≡ 0
   pub each : (j : ℕ) → j < n → Q j (bit_at word j)
-
-pub none_below : (Q : ℕ → ℕ → Type 0) → AreBitsBelow Q 0 0
-none_below Q = record { clear = λ j h. bit_at-zero j; each = λ j h. absurd (omega (arith, h)) }
-
-pub bit_more : (Q : ℕ → ℕ → Type 0) (i old new : ℕ) → Q i (bit_at new i) → ((j : ℕ) → (j ≡ i → ⊥) → bit_at new j ≡ bit_at old j) → AreBitsBelow Q i old → AreBitsBelow Q (i + 1) new
-bit_more Q i old new q others s = record {
-  clear = λ j h. others j (λ e. omega (arith, e, h)) ∙ s.clear j (omega (arith, h));
-  each = λ j h. elim (place j i) [
-    | less b ↦ absurd (omega (arith, h, b))
-    | more b ↦ subst (Q j) (sym (others j (λ e. omega (arith, e, b)))) (s.each j b)
-    | at e ↦ subst (λ k. Q k (bit_at new k)) (sym e) q
-  ];
-}
 
 abbrev pub IsHighBit : List (List ℤ) → List ℤ → ℕ → ℕ → Type 0
 IsHighBit rays h j b = b ≡ 0 → dot h (get_or rays j []) ≤ℤ pos 0
@@ -98,12 +84,6 @@ cone_bits_more rays cones i c s out new h e en p a = each_more (λ k (z : ConeBi
 pub first_bits : (rays : List (List ℤ)) (cones : List RowsAndRays) (i : ℕ) (out : List ConeBits) → AreEach (λ k (z : ConeBits). (d : RowsAndRays) → AreBitsOfCone rays (get_or cones k d) z) i out → AreBitsOfFirst cones out
 first_bits rays cones i out a = record { rays = rays; each = λ k c s h. a.each k s (let e = a.long in omega (arith, h, e)) c }
 
-pub no_bits : (cones : List RowsAndRays) (bits : List ConeBits) → bits ≡ [] → AreBitsOfFirst cones bits
-no_bits cones bits e = subst (AreBitsOfFirst cones) (sym e) (record { rays = []; each = λ k c s h. absurd (omega (arith, h)) })
-
-pub no_signs : (cones : List RowsAndRays) (signs : List ConeSigns) → signs ≡ [] → AreSignsOfFirst cones signs
-no_signs cones signs e = subst (AreSignsOfFirst cones) (sym e) (record { rays = []; each = λ k c s h. absurd (omega (arith, h)) })
-
 pub table_of_two : (cones : List RowsAndRays) (t : Table) (i j : ℕ) (c d : RowsAndRays) → IsTableOf cones t → i < length cones → j < length cones → c ≡ get_or cones i c → d ≡ get_or cones j d → IsTableOfTwo c d t i j
 table_of_two cones t i j c d a hi hj ec ed = record {
   one = λ o.
@@ -150,7 +130,7 @@ differing a b x y i h = elim (cases_eq (bit_at a i) (bit_at b i)) [
 abbrev IsCut : RowsAndRays → RowsAndRays → List ℤ → Type 0
 IsCut c d r = (h : List ℤ) × (Contains c.inequalities h × IsNowherePositive d.rays h × (dot h r ≢ pos 0))
 
-cut_of : (rays : List (List ℤ)) (c d : RowsAndRays) (s t : ConeBits) (i : ℕ) → AreBitsOfCone rays c s → AreBitsOfCone rays d t → i < length rays → IsCutBy s.rows.items t.own i → IsCut c d (get_or rays i [])
+cut_of : (rays : List (List ℤ)) (c d : RowsAndRays) (s t : ConeBits) (i : ℕ) → AreBitsOfCone rays c s → AreBitsOfCone rays d t → i < length rays → IsExcludedBy s.rows.items t.own i → IsCut c d (get_or rays i [])
 cut_of rays c d s t i a b hi (k, row, l, e, p) =
     let hk : k < length c.inequalities = let g = a.rows.long in omega (arith, l, g) in
     let h : List ℤ = get_or c.inequalities k [] in
@@ -223,7 +203,7 @@ collected c d others (r ∷ rays) f =
     ]
 
 -- what is told of a ray of the one cone
-ray_told : (rays : List (List ℤ)) (c d : RowsAndRays) (s t : ConeBits) → AreBitsOfCone rays c s → AreBitsOfCone rays d t → ((i : ℕ) → (bit_at s.own i ≡ bit_at t.own i) ⊎ IsCutBy s.rows.items t.own i ⊎ IsCutBy t.rows.items s.own i) →
+ray_told : (rays : List (List ℤ)) (c d : RowsAndRays) (s t : ConeBits) → AreBitsOfCone rays c s → AreBitsOfCone rays d t → ((i : ℕ) → (bit_at s.own i ≡ bit_at t.own i) ⊎ IsExcludedBy s.rows.items t.own i ⊎ IsExcludedBy t.rows.items s.own i) →
     (r : List ℤ) → Contains c.rays r → Contains d.rays r ⊎ IsCut c d r ⊎ IsCut d c r
 ray_told rays c d s t a b h r k =
     let q = a.every r k in

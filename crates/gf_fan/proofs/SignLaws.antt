@@ -14,7 +14,7 @@ use Rattle.gf_fan.specs.declared.signs.ConeSigns.{ConeSigns}
 use Rattle.gf_fan.specs.Pairs.{AreOfAmbient}
 use Rattle.gf_fan.specs.Parts.{HasItsRays}
 use Rattle.gf_fan.specs.FansOfCones.{AreCommonRays}
-use Rattle.gf_fan.specs.Signs.{IsSign, AreEach, AreSignsOfCone, AreSignsOfFirst, AreSignsOfTwo, IsLowAt, AreLowRows, IsCutAt, AreSettledAt, AreToldApart}
+use Rattle.gf_fan.specs.Signs.{IsSign, AreEach, AreSignsOfCone, AreSignsOfFirst, AreSignsOfTwo, IsLowAt, AreLowRows, IsExcludedAt, AreSettledAt, AreToldApart}
 use Rattle.gf_fan.proofs.SettledLaws.{HasSeparated}
 
 -- ---- one further
@@ -96,7 +96,7 @@ low_at rays c s numbers places a inside low = all_by (λ h. Contains c.inequalit
           subst (λ z. dot h z ≤ℤ pos 0) q.1.1 (subst (λ z. dot z (get_or rays q.0 []) ≤ℤ pos 0) m.1.1 ((sign_of rays c s m.0 q.0 a l li).low (p.1 [] q.0 no_sign q.1.0)))),
     ))
 
-cut_at : (rays : List (List ℤ)) (c : RowsAndRays) (s : ConeSigns) (numbers places : List ℕ) (i : ℕ) → AreSignsOfCone rays c s → AreLowRows s.rows.items numbers places → i < length rays → IsCutAt s.rows.items places i → IsCutOff (rows_at c.inequalities places) (get_or rays i [])
+cut_at : (rays : List (List ℤ)) (c : RowsAndRays) (s : ConeSigns) (numbers places : List ℕ) (i : ℕ) → AreSignsOfCone rays c s → AreLowRows s.rows.items numbers places → i < length rays → IsExcludedAt s.rows.items places i → IsCutOff (rows_at c.inequalities places) (get_or rays i [])
 cut_at rays c s numbers places i a low hi cut =
     let p = All-contains (IsLowRow s.rows.items numbers) places cut.0 low cut.1.0 in
     let l : cut.0 < length c.inequalities = let e = a.rows.long in let b = p.0 in omega (arith, b, e) in
@@ -112,7 +112,7 @@ settled_of : (rays : List (List ℤ)) (c d : RowsAndRays) (s t : ConeSigns) (lef
 settled_of rays c d s t left right others numbers low high a b al bl inside st = all_by (IsSettledAs c d left right rays others) (numbered rays numbers) (λ v kv.
     let q = of_map (λ i. get_or rays i []) numbers v kv in
     let li : q.0 < length rays = All-contains (λ i. i < length rays) numbers q.0 inside q.1.0 in
-    subst (λ (z : List ℤ). Contains (numbered rays others) z ⊎ IsCutOff (rows_at c.inequalities left) z ⊎ IsCutOff (rows_at d.inequalities right) z) q.1.1 (elim (All-contains (λ i. Contains others i ⊎ IsCutAt s.rows.items left i ⊎ IsCutAt t.rows.items right i) numbers q.0 st q.1.0) [
+    subst (λ (z : List ℤ). Contains (numbered rays others) z ⊎ IsCutOff (rows_at c.inequalities left) z ⊎ IsCutOff (rows_at d.inequalities right) z) q.1.1 (elim (All-contains (λ i. Contains others i ⊎ IsExcludedAt s.rows.items left i ⊎ IsExcludedAt t.rows.items right i) numbers q.0 st q.1.0) [
       | inl o ↦ inl (at_number rays others q.0 o)
       | inr w ↦ elim w [
         | inl x ↦ inr (inl (cut_at rays c s low left q.0 a al li x))

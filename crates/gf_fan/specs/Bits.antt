@@ -39,12 +39,12 @@ abbrev pub IsLowOn : RowBits → ℕ → Type 0
 IsLowOn row own = (i : ℕ) → bit_at own i ≡ 1 → bit_at row.high i ≡ 0
 
 -- one of the rows that are positive at none of the bits isn't zero at i
-abbrev pub IsCutBy : List RowBits → ℕ → ℕ → Type 0
-IsCutBy rows own i = Any (λ (s : RowBits). IsLowOn s own × (bit_at s.cut i ≡ 1)) rows
+abbrev pub IsExcludedBy : List RowBits → ℕ → ℕ → Type 0
+IsExcludedBy rows own i = Any (λ (s : RowBits). IsLowOn s own × (bit_at s.cut i ≡ 1)) rows
 
 -- rows of two cones that are told to keep them apart but for the rays that they share
 abbrev pub AreToldByBits : ConeBits → ConeBits → Type 0
-AreToldByBits s t = (i : ℕ) → (bit_at s.own i ≡ bit_at t.own i) ⊎ IsCutBy s.rows.items t.own i ⊎ IsCutBy t.rows.items s.own i
+AreToldByBits s t = (i : ℕ) → (bit_at s.own i ≡ bit_at t.own i) ⊎ IsExcludedBy s.rows.items t.own i ⊎ IsExcludedBy t.rows.items s.own i
 
 -- ---- of cones before their pairs are looked at
 

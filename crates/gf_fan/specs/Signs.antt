@@ -50,12 +50,12 @@ abbrev pub AreLowRows : List (List Sign) → List ℕ → List ℕ → Type 0
 AreLowRows rows numbers out = All (λ k. (k < length rows) × ((d : List Sign) → IsLowAt (slice_index_or rows k d) numbers)) out
 
 -- one of the rows at these places is told not to be zero at i
-abbrev pub IsCutAt : List (List Sign) → List ℕ → ℕ → Type 0
-IsCutAt rows places i = (k : ℕ) × (Contains places k × ((d : List Sign) (e : Sign) → IsTrue (slice_index_or (slice_index_or rows k d) i e).not_zero))
+abbrev pub IsExcludedAt : List (List Sign) → List ℕ → ℕ → Type 0
+IsExcludedAt rows places i = (k : ℕ) × (Contains places k × ((d : List Sign) (e : Sign) → IsTrue (slice_index_or (slice_index_or rows k d) i e).not_zero))
 
 -- each number is one of the others, or one of the rows at these places of one or other is told not to be zero there
 abbrev pub AreSettledAt : List (List Sign) → List ℕ → List (List Sign) → List ℕ → List ℕ → List ℕ → Type 0
-AreSettledAt rows places more spots others numbers = All (λ i. Contains others i ⊎ IsCutAt rows places i ⊎ IsCutAt more spots i) numbers
+AreSettledAt rows places more spots others numbers = All (λ i. Contains others i ⊎ IsExcludedAt rows places i ⊎ IsExcludedAt more spots i) numbers
 
 -- rows of two cones that are told to keep them apart but for the rays that they share, by places
 pub record AreToldApart (s t : ConeSigns) : Type 0 where

@@ -5,7 +5,7 @@ ghost use Rattle.gf_gordan.specs.Alternative.{AreRows};
 ghost use Rattle.gf_fan.specs.Pairs.{AreOfAmbient};
 ghost use Rattle.gf_fan.specs.Parts.{HasItsRays};
 ghost use Rattle.gf_fan.specs.FansOfCones.{AreCommonRays};
-ghost use Rattle.gf_fan.specs.Bits.{AreBitsOfRow, AreBitsOfRows, AreBitsOfCone, AreBitsOfFirst, AreToldByBits, IsCutBy, IsLowOn};
+ghost use Rattle.gf_fan.specs.Bits.{AreBitsOfRow, AreBitsOfRows, AreBitsOfCone, AreBitsOfFirst, AreToldByBits, IsExcludedBy, IsLowOn};
 
 use crate::numbering::{Numbering, insert_all};
 use crate::signs::{Sign, sign_at};
@@ -207,7 +207,7 @@ fn with_cut(cut: u128, row: RowBits, own: u128) -> u128
 
 /// The bits where one of the rows isn't zero that are positive at none of the bits of `own`.
 fn cut_by(rows: &[RowBits], own: u128) -> u128
-    ensures { (i : ℕ) → bit_at result i ≡ 1 → IsCutBy rows.now own i }
+    ensures { (i : ℕ) → bit_at result i ≡ 1 → IsExcludedBy rows.now own i }
 {
     let mut cut = 0;
     for row in rows {

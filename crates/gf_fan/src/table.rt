@@ -1,5 +1,5 @@
 //! What is known of cones before their pairs are looked at.
-ghost use Rattle.std.specs.Prelude.{◌≡◌, List, ℤ, All, IfOk, IsTrue};
+ghost use Rattle.std.specs.Prelude.{◌≡◌, All, IfOk, IsTrue};
 ghost use Rattle.gf_rays.specs.Cones.{RowsAndRays};
 ghost use Rattle.gf_fan.specs.Pairs.{AreOfAmbient};
 ghost use Rattle.gf_fan.specs.Bits.{AreOfOneBasis, IsTableOf};

@@ -8,6 +8,7 @@ use Rattle.gf_text.specs.declared.TheConstants.{MOST_VARIABLES}
 use Rattle.gf_text.specs.Machine.{Lexeme, texts}
 use Rattle.gf_text.specs.Tokens.{is_number, decimal_value}
 use Rattle.gf_text.specs.RingText.{has, is_name}
+use Rattle.gf_text.proofs.SetTokensLaws.{le_test}
 use Rattle.gf_fanfile.specs.declared.parts.ListedCone.{ListedCone}
 use Rattle.gf_fanfile.specs.Lines.{Section, sections, before_comment, is_section_name, content_tokens, end_before}
 use Rattle.gf_fanfile.specs.NumberText.{IsOneNumberText}
@@ -16,7 +17,6 @@ use Rattle.gf_fanfile.specs.FanText.{number_to, rows, cones, any, Content, the_n
 use Rattle.gf_fanfile.specs.FanWords.{FanWords, section, greatest_dim, count_of, f_vector, is_simplicial, is_pure, spaced_entries, comment, ray_lines, number_lines, cone_text, told_cone, cone_line, cone_lines, truth_line, dim_line, front_sections, back_sections, fan_text}
 use Rattle.gf_fanfile.specs.FansAgain.{AreWritable, IsWritableCone, IsWritable, file_of, FansAreReadAgain}
 use Rattle.gf_fanfile.specs.Files.{AreInteriorsOf, IsFileOf}
-use Rattle.gf_fanfile.proofs.ConeTextLaws.{le_test}
 use Rattle.gf_fanfile.proofs.WrittenLaws.{no_byte, IsContentLine, AreContentLines, ArePlain, contents, IsSaid, AreSaid, written_again}
 use Rattle.gf_fanfile.proofs.PrintedRowsLaws.{no_tail, comment_tail, IsSmall, AreSmall, IsRowLine, AreRowLines, row_as_line, rows_hold, rows_content, rows_plain, first_digit}
 use Rattle.gf_fanfile.proofs.PrintedConesLaws.{IsNumber, AreNumbers, number_is, number_no, number_holds, IsConeLine, AreConeLines, cone_as_line, cones_hold, cones_content, cones_plain, numbers_content, numbers_no}

@@ -1,13 +1,12 @@
 -- The machine of lists of ray numbers reads exactly what their grammar says.
--- To cite: cone_machine, le_test. The rest are steps.
-use Rattle.std.proofs.Common.{◌≡◌, ◌≤◌, ℕ, Bool, true, false, nat_le, List, [], ◌∷◌, ◌++◌, refl, sym, ap, subst, ◌∙◌, ◌⊎◌, inl, inr, append_assoc, append-nil, bytes_eq, arith, if◌then◌else◌}
+-- To cite: cone_machine. The rest are steps.
+use Rattle.std.proofs.Common.{◌≡◌, ℕ, Bool, true, false, nat_le, List, [], ◌∷◌, ◌++◌, refl, sym, ap, subst, ◌∙◌, ◌⊎◌, inl, inr, append_assoc, append-nil, bytes_eq, arith, if◌then◌else◌}
 use Rattle.gf_text.specs.declared.error.Cause.{Cause}
 use Rattle.gf_text.specs.declared.error.Cause.TheVariants.{Ended, Unexpected, TooWide}
 use Rattle.gf_text.specs.Machine.{go, done, halt, after, followed}
 use Rattle.gf_text.specs.Tokens.{is_number, decimal_value}
 use Rattle.gf_text.proofs.MachineLaws.{after-go, after-done, not_yet, IsMachineOf}
-use Rattle.gf_text.proofs.SetTokensLaws.{number_no_mark, is_mark, le_from}
-use Rattle.std.proofs.lemmas.Bool.Decides.{leb_tells}
+use Rattle.gf_text.proofs.SetTokensLaws.{number_no_mark, is_mark, le_from, le_test}
 use Rattle.gf_text.specs.Marks.{brace, brace_end}
 use Rattle.gf_text.specs.SetText.{IsNumberText}
 use Rattle.gf_fanfile.specs.Lines.{line_end, section_end}
@@ -159,9 +158,6 @@ unfolding Said Later
 cones_said ts all e = let s = said ts [] before all e in subst (λ l. AreConeTexts ts l) (sym s.whole) s.lists
 
 -- ---- the text of lists is read
-
-pub le_test : (a b : ℕ) → a ≤ b → nat_le a b ≡ true
-le_test a b h = elim (leb_tells a b) [ inl k ↦ k.0 | inr k ↦ absurd (omega arith) ]
 
 number_goes : (cs : Cones) (ns : List ℕ) (t : List ℕ) (n : ℕ) → IsNumberText t n most_number → cone_step (cs, inside ns) t ≡ goes (cs, inside (ns ++ n ∷ []))
 number_goes cs ns t n h =

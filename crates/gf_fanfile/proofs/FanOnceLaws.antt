@@ -19,7 +19,7 @@ use Rattle.gf_fanfile.specs.declared.error.FanFileError.{FanFileError}
 use Rattle.gf_fanfile.specs.declared.error.FanFileError.TheVariants as errors
 use Rattle.gf_fanfile.specs.declared.file.FanFile.{FanFile}
 use Rattle.gf_fanfile.specs.Files.{IsOfLimits}
-use Rattle.gf_fanfile.specs.Certificates.{IsInsideAt, AreInside, AreCertified, IsFirstOutside, IsCertificateFault, other_count, at_row, too_wide}
+use Rattle.gf_fanfile.specs.Certificates.{IsInsideAt, AreInsideCones, AreCertified, IsFirstRowOutside, IsCertificateFault, other_count, at_row, too_wide}
 use Rattle.gf_fanfile.specs.FilesFans.{IsConeOfFile, AreConesOfFile, IsFanOfFile, IsFanOfText, refusal_of_fan, IsFanFault, in_cone, in_certificate, in_fan, IsFanFileRefusal, before_cones, behind_form}
 use Rattle.gf_fanfile.proofs.FilesLaws.{file_once}
 use Rattle.gf_fanfile.proofs.OnceLaws.{refused_once, refused_unsound}
@@ -70,7 +70,7 @@ module _ (f : FanFile) where
   inside_along : (cs ds : List RowsAndRays) (rows : List (List ℤ)) (i : ℕ) → AreConesOfFile f cs → AreConesOfFile f ds → i < length cs → IsInsideAt f.ambient cs rows i → IsInsideAt f.ambient ds rows i
   inside_along cs ds rows i a b l h = λ c r. subst (λ (x : Rows). IsInterior f.ambient x (get_or rows i r)) (place_same f.cones cs ds a b i c l) (h c r)
 
-  outside_along : (cs ds : List RowsAndRays) (rows : List (List ℤ)) (i : ℕ) → AreConesOfFile f cs → AreConesOfFile f ds → IsFirstOutside f.ambient cs rows i → IsFirstOutside f.ambient ds rows i
+  outside_along : (cs ds : List RowsAndRays) (rows : List (List ℤ)) (i : ℕ) → AreConesOfFile f cs → AreConesOfFile f ds → IsFirstRowOutside f.ambient cs rows i → IsFirstRowOutside f.ambient ds rows i
   outside_along cs ds rows i a b h =
       let long = long_same cs ds a b in
       let count = h.count in
@@ -84,7 +84,7 @@ module _ (f : FanFile) where
 
 -- ---- there is one first row
 
-row_once : (n : ℕ) (cs : List RowsAndRays) (rows : List (List ℤ)) (i j : ℕ) → IsFirstOutside n cs rows i → IsFirstOutside n cs rows j → j ≡ i
+row_once : (n : ℕ) (cs : List RowsAndRays) (rows : List (List ℤ)) (i j : ℕ) → IsFirstRowOutside n cs rows i → IsFirstRowOutside n cs rows j → j ≡ i
 row_once n cs rows i j h g = at (cases_lt i j) (cases_lt j i)
   where
     at : (i < j) ⊎ (j ≤ i) → (j < i) ⊎ (i ≤ j) → j ≡ i
@@ -94,7 +94,7 @@ row_once n cs rows i j h g = at (cases_lt i j) (cases_lt j i)
 
 -- ---- there is one first pair
 
-first_place : (n : ℕ) (cs : List RowsAndRays) (i j k l : ℕ) → IsFirstPair n cs i j → IsFirstPair n cs k l → k ≡ i
+pub first_place : (n : ℕ) (cs : List RowsAndRays) (i j k l : ℕ) → IsFirstPair n cs i j → IsFirstPair n cs k l → k ≡ i
 first_place n cs i j k l h g = at (cases_lt i k) (cases_lt k i)
   where
     at : (i < k) ⊎ (k ≤ i) → (k < i) ⊎ (i ≤ k) → k ≡ i
@@ -102,7 +102,7 @@ first_place n cs i j k l h g = at (cases_lt i k) (cases_lt k i)
     at (inr p) (inl q) = absurd (g.after.clash (h.before k l q g.after.ordered g.after.inside))
     at (inr p) (inr q) = omega arith
 
-second_place : (n : ℕ) (cs : List RowsAndRays) (i j l : ℕ) → IsFirstPair n cs i j → IsFirstPair n cs i l → l ≡ j
+pub second_place : (n : ℕ) (cs : List RowsAndRays) (i j l : ℕ) → IsFirstPair n cs i j → IsFirstPair n cs i l → l ≡ j
 second_place n cs i j l h g = at (cases_lt j l) (cases_lt l j)
   where
     at : (j < l) ⊎ (l ≤ j) → (l < j) ⊎ (j ≤ l) → l ≡ j
@@ -125,7 +125,7 @@ fan_once f cs ds (fan_errors.NotAFan i j) fan_errors.Memory told a b h g = inr t
 fan_once f cs ds (fan_errors.NotAFan i j) (fan_errors.NotAFan k l) told a b h g = inl (pair_once f.ambient cs i j k l h (pair_along f ds cs b a k l g))
 
 -- rows that lie inside their cones aren't refused, but for limits
-certificate_refutes : (f : FanFile) (cs ds : List RowsAndRays) (rows : List (List ℤ)) (e : FanFileError) → AreConesOfFile f cs → AreConesOfFile f ds → AreInside f.ambient ds rows → IsCertificateFault f.ambient cs rows e → IsOfLimits e
+certificate_refutes : (f : FanFile) (cs ds : List RowsAndRays) (rows : List (List ℤ)) (e : FanFileError) → AreConesOfFile f cs → AreConesOfFile f ds → AreInsideCones f.ambient ds rows → IsCertificateFault f.ambient cs rows e → IsOfLimits e
 certificate_refutes f cs ds rows e a b k (other_count other is) = absurd (other (k.count ∙ sym (long_same f cs ds a b)))
 certificate_refutes f cs ds rows e a b k (at_row place h is) = absurd (h.here (let within = h.within in let count = k.count in inside_along f ds cs rows place b a (omega (arith, within, count)) (k.each place within)))
 certificate_refutes f cs ds rows e a b k (too_wide w h is) = subst IsOfLimits (sym is) tt
@@ -141,7 +141,7 @@ certificate_once f cs ds rows e d told a b (at_row place h is) (at_row other g s
 rows_one : (f : FanFile) (rows others : List (List ℤ)) → f.interiors ≡ Some rows → f.interiors ≡ Some others → others ≡ rows
 rows_one f rows others h g = cc
 
-certified_rows : (f : FanFile) (cs : List RowsAndRays) (rows : List (List ℤ)) → f.interiors ≡ Some rows → AreCertified f.ambient cs f.interiors → AreInside f.ambient cs rows
+certified_rows : (f : FanFile) (cs : List RowsAndRays) (rows : List (List ℤ)) → f.interiors ≡ Some rows → AreCertified f.ambient cs f.interiors → AreInsideCones f.ambient cs rows
 certified_rows f cs rows is h = subst (λ (i : Option (List (List ℤ))). AreCertified f.ambient cs i) is h
 
 fault_once : (f : FanFile) (e d : FanFileError) → (IsOfLimits e → ⊥) → IsFanFault f e → IsFanFault f d → (d ≡ e) ⊎ IsOfLimits d

@@ -11,7 +11,7 @@ use Rattle.gf_text.specs.Tokens.{is_number, decimal_value}
 use Rattle.gf_text.specs.RingText.{has}
 use Rattle.gf_text.specs.VectorText.{signed_entry}
 use Rattle.gf_text.proofs.MachineLaws.{read, fault, IsMachineOf}
-use Rattle.gf_text.proofs.SetTokensLaws.{is_mark, le_from, not_le, le_false}
+use Rattle.gf_text.proofs.SetTokensLaws.{is_mark, le_from, not_le, le_test, le_false}
 use Rattle.gf_text.specs.Marks.{minus_mark, brace, brace_end}
 use Rattle.gf_fanfile.specs.Lines.{line_end, section_end, Section, sections, content_tokens, end_before}
 use Rattle.gf_fanfile.specs.RowText.{most_row_entry, RowMove, row_state, row_size_step, row_entry_step, row_step_at, row_step}
@@ -23,7 +23,7 @@ use Rattle.gf_fanfile.specs.FanText.{ContentKind, number_to, rows, cones, any, C
 use Rattle.gf_text.specs.Kinds.{IsNumberKind}
 use Rattle.gf_fanfile.proofs.KindsLaws.{row_kind, cone_kind, number_kind}
 use Rattle.gf_fanfile.proofs.RowTextLaws.{row_machine}
-use Rattle.gf_fanfile.proofs.ConeTextLaws.{cone_machine, le_test}
+use Rattle.gf_fanfile.proofs.ConeTextLaws.{cone_machine}
 use Rattle.gf_fanfile.proofs.NumberTextLaws.{number_machine}
 use Rattle.gf_fanfile.proofs.ContentLaws.{SectionsSome, sections_some, EndsOnce, ends_once, whole_read}
 

@@ -28,7 +28,7 @@ use Rattle.gf_fanfile.specs.declared.error.FanFileError.TheVariants as errors
 use Rattle.gf_fanfile.specs.declared.file.FanFile.{FanFile}
 use Rattle.gf_fanfile.specs.Duals.{DualsOfDuals}
 use Rattle.gf_fanfile.specs.Files.{IsFileOf, AreBelow, IsSoundFile, no_memory}
-use Rattle.gf_fanfile.specs.Certificates.{AreInside, AreCertified, IsCertificateFault, other_count, at_row, too_wide}
+use Rattle.gf_fanfile.specs.Certificates.{AreInsideCones, AreCertified, IsCertificateFault, other_count, at_row, too_wide}
 use Rattle.gf_fanfile.specs.FilesFans.{IsGeneratedCone, IsConeOfFile, AreConesOfFile, IsFanOfFile, IsFanOfText, IsGeneratingStep, of_dual, of_cone, IsConesStep, IsFileWithinLimits, IsCertifiedFile, AreFileConesMeeting, refusal_of_gordan, refusal_of_fan, IsFanFault, in_cone, in_certificate, in_fan, IsFanFileRefusal, before_cones, behind_form}
 use Rattle.gf_fanfile.proofs.FilesLaws.{file_once, file_within}
 
@@ -91,7 +91,7 @@ pub fan_refused : (f : FanFile) (cones : List RowsAndRays) (d : FanError) (e : F
 fan_refused f cones d e a k h q = inl (in_fan cones d a k h q)
 
 -- what its rows are refused for
-pub certificate_fault : {X : Type 0} (f : FanFile) (cones : List RowsAndRays) (rows given : List (List ℤ)) (r : Result X FanFileError) → AreConesOfFile f cones → f.interiors ≡ Some rows → given ≡ rows → MatchResult r (λ _. AreInside f.ambient cones given) (IsCertificateFault f.ambient cones given) → IfErr r (IsFanFault f)
+pub certificate_fault : {X : Type 0} (f : FanFile) (cones : List RowsAndRays) (rows given : List (List ℤ)) (r : Result X FanFileError) → AreConesOfFile f cones → f.interiors ≡ Some rows → given ≡ rows → MatchResult r (λ _. AreInsideCones f.ambient cones given) (IsCertificateFault f.ambient cones given) → IfErr r (IsFanFault f)
 certificate_fault f cones rows given (Ok x) a is q h = tt
 certificate_fault f cones rows given (Err e) a is q h = in_certificate cones rows a is (subst (λ (rs : List (List ℤ)). IsCertificateFault f.ambient cones rs e) q h)
 
@@ -112,7 +112,7 @@ fan_within n cones fan_errors.Memory w m h = refl
 certificate_within : (f : FanFile) (cones : List RowsAndRays) (rows : List (List ℤ)) (e : FanFileError) → IsFileWithinLimits f → IsCertifiedFile f → AreConesOfFile f cones → f.interiors ≡ Some rows → IsCertificateFault f.ambient cones rows e → ⊥
 certificate_within f cones rows e w k a is h = by h
   where
-    inside : AreInside f.ambient cones rows
+    inside : AreInsideCones f.ambient cones rows
     inside = subst (λ (i : Option (List (List ℤ))). AreCertified f.ambient cones i) is (k cones a)
 
     by : IsCertificateFault f.ambient cones rows e → ⊥

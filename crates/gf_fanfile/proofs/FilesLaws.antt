@@ -12,7 +12,7 @@ use Rattle.gf_text.specs.declared.error.Section.TheVariants as names
 use Rattle.gf_fanfile.specs.declared.file.FanFile.{FanFile}
 use Rattle.gf_fanfile.specs.declared.sections.Contents.{Contents}
 use Rattle.gf_fanfile.specs.Lines.{Section, sections, content_tokens, end_before}
-use Rattle.gf_fanfile.specs.FanText.{ContentKind, number_to, Content, the_number, the_rows, the_cones, IsContentText, kind_in, Named, is_second, told_version, IsKnownVersion, fan_table, table_of, text_read, AreHeld, found, wanted, wanted_last, first_missing, ambient_dim, rays_name, lineality_space, maximal_cones, maximal_interiors}
+use Rattle.gf_fanfile.specs.FanText.{ContentKind, number_to, Content, the_number, the_rows, the_cones, IsContentText, kind_in, Named, is_second, told_version, IsKnownVersion, fan_table, told_table, text_read, AreHeld, found, wanted, wanted_last, first_missing, ambient_dim, rays_name, lineality_space, maximal_cones, maximal_interiors}
 use Rattle.gf_fanfile.specs.Found.{IsRefusedSo}
 use Rattle.gf_fanfile.specs.Contents.{Says, number_kept, rows_kept, cones_kept, AreInteriorsKept}
 use Rattle.gf_fanfile.specs.Files.{AreSectionsOf, AreInteriorsOf, interior_rows, IsFileOf, IsOutside, AreBelow, IsSoundFile, IsTestStep, AreTestsWithin, IsBehind, IsLengthFault, IsFormFault, zero_dimension, at_rays, at_lineality, at_interiors, at_ray, at_number, IsFileRefused, in_text, bad_version, not_there, in_form, no_memory}
@@ -47,7 +47,7 @@ dimension_within source c s = by c.ambient refl
   where
     by : (o : Option ℕ) → c.ambient ≡ o → IfSome o (λ n. n ≤ MOST_VARIABLES)
     by None is = tt
-    by (Some n) is = held_within (told_version source) (length source) [] (sections source) s.all n (text_said (table_of source) source s.all s.read) (s.kept.ambient ∙ ap number_kept is)
+    by (Some n) is = held_within (told_version source) (length source) [] (sections source) s.all n (text_said (told_table source) source s.all s.read) (s.kept.ambient ∙ ap number_kept is)
 
 pub file_within : (source : List ℕ) (f : FanFile) → IsFileOf source f → f.ambient ≤ MOST_VARIABLES
 file_within source f h = held_within (told_version source) (length source) [] (sections source) h.all f.ambient h.held h.ambient
@@ -66,7 +66,7 @@ file_of_contents source c f s known a r l m i whole =
     let rows : AreInteriorsOf (is_second c.version) (found maximal_interiors s.all) c.interiors = interiors_whole (is_second c.version) (found maximal_interiors s.all) c.interiors whole s.kept.interiors in
     record {
       all = s.all;
-      held = text_said (table_of source) source s.all s.read;
+      held = text_said (told_table source) source s.all s.read;
       known = subst IsKnownVersion s.version known;
       ambient = s.kept.ambient ∙ ap number_kept a;
       rays = s.kept.rays ∙ ap rows_kept r;
@@ -77,18 +77,18 @@ file_of_contents source c f s known a r l m i whole =
     }
 
 -- what refuses a text refuses its file
-pub text_refused : (source : List ℕ) (e : FanFileError) → IsRefusedSo e (text_read (table_of source) source) → IsFileRefused source e
-text_refused source (errors.Syntax s) h = in_text (text_fault (table_of source) source (errors.Syntax s) h)
-text_refused source (errors.TooWide at) h = in_text (text_fault (table_of source) source (errors.TooWide at) h)
-text_refused source (errors.TooManyVariables count) h = in_text (text_fault (table_of source) source (errors.TooManyVariables count) h)
-text_refused source (errors.Cone step) h = in_text (text_fault (table_of source) source (errors.Cone step) h)
-text_refused source (errors.NotAFan i j) h = in_text (text_fault (table_of source) source (errors.NotAFan i j) h)
-text_refused source (errors.Missing section) h = in_text (text_fault (table_of source) source (errors.Missing section) h)
-text_refused source (errors.BadRay number) h = in_text (text_fault (table_of source) source (errors.BadRay number) h)
-text_refused source (errors.Dimensions left right) h = in_text (text_fault (table_of source) source (errors.Dimensions left right) h)
-text_refused source (errors.BadVersion number) h = in_text (text_fault (table_of source) source (errors.BadVersion number) h)
-text_refused source (errors.BadCertificate cone) h = in_text (text_fault (table_of source) source (errors.BadCertificate cone) h)
-text_refused source (errors.Wide w) h = in_text (text_fault (table_of source) source (errors.Wide w) h)
+pub text_refused : (source : List ℕ) (e : FanFileError) → IsRefusedSo e (text_read (told_table source) source) → IsFileRefused source e
+text_refused source (errors.Syntax s) h = in_text (text_fault (told_table source) source (errors.Syntax s) h)
+text_refused source (errors.TooWide at) h = in_text (text_fault (told_table source) source (errors.TooWide at) h)
+text_refused source (errors.TooManyVariables count) h = in_text (text_fault (told_table source) source (errors.TooManyVariables count) h)
+text_refused source (errors.Cone step) h = in_text (text_fault (told_table source) source (errors.Cone step) h)
+text_refused source (errors.NotAFan i j) h = in_text (text_fault (told_table source) source (errors.NotAFan i j) h)
+text_refused source (errors.Missing section) h = in_text (text_fault (told_table source) source (errors.Missing section) h)
+text_refused source (errors.BadRay number) h = in_text (text_fault (told_table source) source (errors.BadRay number) h)
+text_refused source (errors.Dimensions left right) h = in_text (text_fault (told_table source) source (errors.Dimensions left right) h)
+text_refused source (errors.BadVersion number) h = in_text (text_fault (told_table source) source (errors.BadVersion number) h)
+text_refused source (errors.BadCertificate cone) h = in_text (text_fault (told_table source) source (errors.BadCertificate cone) h)
+text_refused source (errors.Wide w) h = in_text (text_fault (told_table source) source (errors.Wide w) h)
 text_refused source errors.Memory h = no_memory refl
 
 -- so does what refuses its form
@@ -98,7 +98,7 @@ form_refused source f e h (inr none) = no_memory none
 
 -- its version
 pub version_refused : (source : List ℕ) (c : Contents) (number : ℕ) → Says source c → c.version ≡ Some number → (number ≡ 1 → ⊥) → (number ≡ 2 → ⊥) → IsFileRefused source (errors.BadVersion number)
-version_refused source c number s is no_first no_second = bad_version s.all number (text_said (table_of source) source s.all s.read) (sym s.version ∙ is) no_first no_second refl
+version_refused source c number s is no_first no_second = bad_version s.all number (text_said (told_table source) source s.all s.read) (sym s.version ∙ is) no_first no_second refl
 
 module _ (source : List ℕ) (c : Contents) (s : Says source c) (known : IsKnownVersion c.version) where
   here_known : IsKnownVersion (told_version source)
@@ -117,25 +117,25 @@ module _ (source : List ℕ) (c : Contents) (s : Says source c) (known : IsKnown
   missing_ambient a = (
       let e : found ambient_dim s.all ≡ None = s.kept.ambient ∙ ap number_kept a in
       let first : first_missing (wanted (told_version source)) s.all ≡ Some ambient_dim = rw e refl in
-      not_there s.all names.AmbientDim (text_said (table_of source) source s.all s.read) here_known first refl)
+      not_there s.all names.AmbientDim (text_said (told_table source) source s.all s.read) here_known first refl)
 
   pub missing_rays : (n : ℕ) → c.ambient ≡ Some n → c.rays ≡ None → IsFileRefused source (errors.Missing names.Rays)
   missing_rays n a r = (
       let e : found rays_name s.all ≡ None = s.kept.rays ∙ ap rows_kept r in
       let first : first_missing (wanted (told_version source)) s.all ≡ Some rays_name = rw (the_ambient n a, e) refl in
-      not_there s.all names.Rays (text_said (table_of source) source s.all s.read) here_known first refl)
+      not_there s.all names.Rays (text_said (told_table source) source s.all s.read) here_known first refl)
 
   pub missing_lineality : (n : ℕ) (rs : List (List ℤ)) → c.ambient ≡ Some n → c.rays ≡ Some rs → c.lineality ≡ None → IsFileRefused source (errors.Missing names.LinealitySpace)
   missing_lineality n rs a r l = (
       let e : found lineality_space s.all ≡ None = s.kept.lineality ∙ ap rows_kept l in
       let first : first_missing (wanted (told_version source)) s.all ≡ Some lineality_space = rw (the_ambient n a, the_rays rs r, e) refl in
-      not_there s.all names.LinealitySpace (text_said (table_of source) source s.all s.read) here_known first refl)
+      not_there s.all names.LinealitySpace (text_said (told_table source) source s.all s.read) here_known first refl)
 
   pub missing_cones : (n : ℕ) (rs ls : List (List ℤ)) → c.ambient ≡ Some n → c.rays ≡ Some rs → c.lineality ≡ Some ls → c.cones ≡ None → IsFileRefused source (errors.Missing names.MaximalCones)
   missing_cones n rs ls a r l m = (
       let e : found maximal_cones s.all ≡ None = s.kept.cones ∙ ap cones_kept m in
       let first : first_missing (wanted (told_version source)) s.all ≡ Some maximal_cones = rw (the_ambient n a, the_rays rs r, the_lineality ls l, e) refl in
-      not_there s.all names.MaximalCones (text_said (table_of source) source s.all s.read) here_known first refl)
+      not_there s.all names.MaximalCones (text_said (told_table source) source s.all s.read) here_known first refl)
 
   pub missing_interiors : (n : ℕ) (rs ls : List (List ℤ)) (ms : List (List ℕ)) → c.ambient ≡ Some n → c.rays ≡ Some rs → c.lineality ≡ Some ls → c.cones ≡ Some ms → (is_second c.version && is_none c.interiors) ≡ true → IsFileRefused source (errors.Missing names.MaximalInteriors)
   missing_interiors n rs ls ms a r l m lacks = by (is_second c.version) c.interiors refl refl lacks
@@ -149,7 +149,7 @@ module _ (source : List ℕ) (c : Contents) (s : Says source c) (known : IsKnown
           let none_found : found maximal_interiors s.all ≡ None = kept ∙ ap rows_kept none in
           let told : is_second (told_version source) ≡ true = ap is_second (sym s.version) ∙ is in
           let first : first_missing (wanted (told_version source)) s.all ≡ Some maximal_interiors = rw (told, the_ambient n a, the_rays rs r, the_lineality ls l, the_cones_are, none_found) refl in
-          not_there s.all names.MaximalInteriors (text_said (table_of source) source s.all s.read) here_known first refl
+          not_there s.all names.MaximalInteriors (text_said (told_table source) source s.all s.read) here_known first refl
       by true (Some rows) is none e = absurd (cc)
       by false i is none e = absurd (cc)
 
@@ -157,8 +157,8 @@ module _ (source : List ℕ) (c : Contents) (s : Says source c) (known : IsKnown
 
 pub sections_once : (source : List ℕ) (all other : Named) → AreSectionsOf source all → AreSectionsOf source other → all ≡ other
 sections_once source all other h k =
-    let e = text_given (table_of source) source all h in
-    let f = text_given (table_of source) source other k in
+    let e = text_given (told_table source) source all h in
+    let f = text_given (told_table source) source other k in
     cc
 
 interiors_once : (second : Bool) (o : Option Content) (i j : Option (List (List ℤ))) → AreInteriorsOf second o i → AreInteriorsOf second o j → j ≡ i
@@ -224,7 +224,7 @@ version_known source f number h is no_first no_second = elim (subst IsKnownVersi
 
 -- and a text that says it for memory alone, or for such an operation
 pub sound_refused : (source : List ℕ) (f : FanFile) (e : FanFileError) → IsFileOf source f → IsSoundFile f → IsFileRefused source e → (e ≡ errors.Memory) ⊎ ((s : ConeOverflow) × (IsTestStep f s × (e ≡ errors.Cone s)))
-sound_refused source f e h s (in_text fault) = absurd (text_sound (table_of source) source h.all e h.held fault)
+sound_refused source f e h s (in_text fault) = absurd (text_sound (told_table source) source h.all e h.held fault)
 sound_refused source f e h s (bad_version all number held told no_first no_second is) = absurd (version_known source f number h told no_first no_second)
 sound_refused source f e h s (not_there all section held known missing is) =
     let same : first_missing (wanted (told_version source)) all ≡ first_missing (wanted (told_version source)) h.all = ap (first_missing (wanted (told_version source))) (sections_once source all h.all held h.held) in

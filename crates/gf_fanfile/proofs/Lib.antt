@@ -1,4 +1,3 @@
-pub mod NumbersSame  -- a number is equal to itself
 pub mod LinesLaws  -- lines are found from left to right
 pub mod RowTextLaws  -- the machine of rows reads what the grammar says
 pub mod ConeTextLaws  -- the machine of lists of ray numbers reads what the grammar says
@@ -11,7 +10,6 @@ pub mod SectionsLaws  -- sections are read one after another
 pub mod SpanLaws  -- vectors in the span of others, by Gordan's alternative
 pub mod FilesLaws  -- a text says one file at most, and a sound one isn't refused
 pub mod FanWordsLaws  -- numbers of cones, and lines that are written one after another
-pub mod LexedLaws  -- tokens at the front of a text
 pub mod WrittenLaws  -- sections that are written are read again
 pub mod PrintedRowsLaws  -- tokens of printed rows
 pub mod PrintedConesLaws  -- tokens of printed numbers and cones

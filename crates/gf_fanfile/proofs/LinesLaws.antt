@@ -10,7 +10,7 @@ use Rattle.gf_text.specs.Machine.{Lexeme, behind}
 use Rattle.gf_text.specs.Marks.{minus_mark}
 use Rattle.gf_text.specs.Tokens.{lex_tokens, lexemes, lexeme, word_more}
 use Rattle.gf_text.proofs.TokensLaws.{behind-lexeme}
-use Rattle.gf_fanfile.proofs.NumbersSame.{same_number}
+use Rattle.gf_text.proofs.PrintedTokensLaws.{byte_itself}
 use Rattle.gf_fanfile.specs.Lines.{blank, parted, before_line, lines, goes_on_line, is_no_comment, before_comment, all_parted, line_tokens, tokens_between, Sections, no_sections, with_name, with_line, with_tokens, sections_of, sections_from, is_section_name}
 
 -- ---- the first line
@@ -128,7 +128,7 @@ cut_lexeme source end s b rises within =
 module _ (source : List ℕ) (at end s b : ℕ) (is_behind_minus : Bool) (here : lexemes word_more (take end source) at ≡ lexeme (take end source) s b ∷ lexemes word_more (take end source) b) where
   -- nothing parts the token from a minus before it
   not_parted : (place : ℕ) (x : Lexeme) → ((is_behind_minus ≡ true) × (place ≡ x.at)) ⊎ (is_behind_minus ≡ false) → parted is_behind_minus place x ≡ x
-  not_parted place x (inl (is, same)) = ap (λ n. if is_behind_minus && not (n == x.at) then record { text = blank; at = x.at } else x) same ∙ ap (λ v. if is_behind_minus && not v then record { text = blank; at = x.at } else x) (same_number x.at) ∙ never is_behind_minus
+  not_parted place x (inl (is, same)) = ap (λ n. if is_behind_minus && not (n == x.at) then record { text = blank; at = x.at } else x) same ∙ ap (λ v. if is_behind_minus && not v then record { text = blank; at = x.at } else x) (byte_itself x.at) ∙ never is_behind_minus
     where
       never : (v : Bool) → (if v && false then record { text = blank; at = x.at } else x) ≡ x
       never true = refl

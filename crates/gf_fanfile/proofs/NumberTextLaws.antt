@@ -6,13 +6,12 @@ use Rattle.gf_text.specs.declared.error.Cause.TheVariants.{Ended, Unexpected, To
 use Rattle.gf_text.specs.Machine.{Move, go, done, halt, after, followed}
 use Rattle.gf_text.specs.Tokens.{is_number, decimal_value}
 use Rattle.gf_text.proofs.MachineLaws.{after-go, after-done, not_yet, IsMachineOf}
-use Rattle.gf_text.proofs.SetTokensLaws.{is_mark, le_from}
+use Rattle.gf_text.proofs.SetTokensLaws.{is_mark, le_from, le_test}
 use Rattle.gf_fanfile.specs.Lines.{line_end, section_end}
 use Rattle.gf_fanfile.specs.ConeText.{most_number}
 use Rattle.gf_fanfile.specs.declared.numbers.NumberState.{NumberState}
 use Rattle.gf_fanfile.specs.declared.numbers.NumberState.TheVariants.{Unread, Read, Finished}
 use Rattle.gf_fanfile.specs.NumberText.{IsOneNumberText, number_step}
-use Rattle.gf_fanfile.proofs.ConeTextLaws.{le_test}
 
 abbrev Texts : Type 0
 Texts = List (List ℕ)

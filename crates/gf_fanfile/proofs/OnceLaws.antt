@@ -15,7 +15,7 @@ use Rattle.gf_fanfile.specs.Lines.{Section as TextSection, sections, content_tok
 use Rattle.gf_fanfile.specs.RowText.{AreRowTexts}
 use Rattle.gf_fanfile.specs.ConeText.{AreConeTexts}
 use Rattle.gf_fanfile.specs.NumberText.{IsOneNumberText}
-use Rattle.gf_fanfile.specs.FanText.{ContentKind, number_to, rows, cones, any, kind_in, Table, Named, told_version, IsKnownVersion, table_of, IsFaultOf, IsContentFault, IsFirstFault, wanted, first_missing}
+use Rattle.gf_fanfile.specs.FanText.{ContentKind, number_to, rows, cones, any, kind_in, Table, Named, told_version, IsKnownVersion, told_table, IsFaultOf, IsContentFault, IsFirstFault, wanted, first_missing}
 use Rattle.gf_fanfile.specs.Files.{AreSectionsOf, IsFileOf, section_name, interior_rows, IsOutside, AreBelow, IsSoundFile, IsBehind, IsLengthFault, IsRayFault, IsNumberFault, IsFormFault, zero_dimension, at_rays, at_lineality, at_interiors, at_ray, at_number, IsFileRefused, in_text, bad_version, not_there, in_form, no_memory, IsOfLimits}
 use Rattle.gf_fanfile.proofs.FanTextLaws.{content_sound, text_sound}
 use Rattle.gf_fanfile.proofs.FilesLaws.{sections_once, file_once, behind_holds, length_sound, none_missing, version_known, sound_refused}
@@ -179,15 +179,15 @@ missing_same source all other h g = ap (first_missing (wanted (told_version sour
 pub refused_once : (source : List ℕ) (e d : FanFileError) → (IsOfLimits e → ⊥) → IsFileRefused source e → IsFileRefused source d → (d ≡ e) ⊎ IsOfLimits d
 refused_once source e d told (no_memory is) g = absurd (told (subst IsOfLimits (sym is) tt))
 refused_once source e d told h (no_memory is) = inr (subst IsOfLimits (sym is) tt)
-refused_once source e d told (in_text h) (in_text g) = inl (first_once (table_of source) (length source) [] (sections source) e d h g)
-refused_once source e d told (in_text h) (bad_version all number held v a b is) = absurd (text_sound (table_of source) source all e held h)
-refused_once source e d told (in_text h) (not_there all section held known missing is) = absurd (text_sound (table_of source) source all e held h)
-refused_once source e d told (in_text h) (in_form f is g) = absurd (text_sound (table_of source) source is.all e is.held h)
-refused_once source e d told (bad_version all number held v a b is) (in_text g) = absurd (text_sound (table_of source) source all d held g)
+refused_once source e d told (in_text h) (in_text g) = inl (first_once (told_table source) (length source) [] (sections source) e d h g)
+refused_once source e d told (in_text h) (bad_version all number held v a b is) = absurd (text_sound (told_table source) source all e held h)
+refused_once source e d told (in_text h) (not_there all section held known missing is) = absurd (text_sound (told_table source) source all e held h)
+refused_once source e d told (in_text h) (in_form f is g) = absurd (text_sound (told_table source) source is.all e is.held h)
+refused_once source e d told (bad_version all number held v a b is) (in_text g) = absurd (text_sound (told_table source) source all d held g)
 refused_once source e d told (bad_version all number held v a b is) (bad_version some other holds w p q so) = inl (so ∙ ap (λ n. errors.BadVersion n) (version_once source number other v w) ∙ sym is)
 refused_once source e d told (bad_version all number held v a b is) (not_there some section holds known missing so) = absurd (version_unknown source number v a b known)
 refused_once source e d told (bad_version all number held v a b is) (in_form f said g) = absurd (version_known source f number said v a b)
-refused_once source e d told (not_there all section held known missing is) (in_text g) = absurd (text_sound (table_of source) source all d held g)
+refused_once source e d told (not_there all section held known missing is) (in_text g) = absurd (text_sound (told_table source) source all d held g)
 refused_once source e d told (not_there all section held known missing is) (bad_version some other holds w p q so) = absurd (version_unknown source other w p q known)
 refused_once source e d told (not_there all section held known missing is) (not_there other name there also none so) =
     let same = missing_same source other all there held in
@@ -197,7 +197,7 @@ refused_once source e d told (not_there all section held known missing is) (in_f
     let same = missing_same source all said.all held said.held in
     let none = none_missing source f said in
     absurd (cc)
-refused_once source e d told (in_form f said h) (in_text g) = absurd (text_sound (table_of source) source said.all d said.held g)
+refused_once source e d told (in_form f said h) (in_text g) = absurd (text_sound (told_table source) source said.all d said.held g)
 refused_once source e d told (in_form f said h) (bad_version all number held v a b is) = absurd (version_known source f number said v a b)
 refused_once source e d told (in_form f said h) (not_there all section held known missing is) =
     let same = missing_same source all said.all held said.held in

@@ -2,27 +2,26 @@
 -- To cite: no_byte-++, digits_no, number_digits, IsTail, no_tail, comment_tail, IsSmall, AreSmall, IsRowLine, AreRowLines, row_as_line, rows_hold, rows_content, rows_plain, line_texts, first_digit. The rest are steps.
 use Rattle.std.proofs.Common.{◌≡◌, ◌≤◌, ℕ, suc, ◌+◌, Bool, true, false, ◌==◌, not, List, [], ◌∷◌, ◌++◌, length, flat_map, decimal, refl, sym, ap, subst, ◌∙◌, inl, inr, append_assoc, bytes_eq, arith, if◌then◌else◌, ℤ, pos, negsuc, unsigned_abs}
 use Rattle.std.proofs.lemmas.Bool.Decides.{nat_tests, eqb_tells}
+use Rattle.std.proofs.lemmas.Bool.{and_parts}
 use Rattle.std.specs.List.{list_all, prefix_len, AllByRecursion}
 use Rattle.gf_text.specs.Machine.{Lexeme, texts, behind}
 use Rattle.gf_text.specs.Marks.{minus_mark}
-use Rattle.gf_text.specs.Tokens.{is_space, is_digit, is_number, decimal_value, lex_tokens, word_more}
+use Rattle.gf_text.specs.Tokens.{is_digit, is_number, decimal_value, lex_tokens, word_more}
 use Rattle.gf_text.specs.PrintedText.{is_below_zero}
 use Rattle.gf_text.specs.VectorText.{entry_text}
 use Rattle.gf_text.proofs.SetTokensLaws.{number_no_mark}
-use Rattle.gf_text.proofs.SpelledLaws.{goes_on, mark_token}
-use Rattle.gf_text.proofs.PrintedTokensLaws.{decimal_number, number_word}
+use Rattle.gf_text.proofs.SpelledLaws.{goes_on, mark_token, lex-space, lex-token, texts-++}
+use Rattle.gf_text.proofs.PrintedTokensLaws.{decimal_number, number_word, digit_visible, byte_itself}
 use Rattle.gf_fanfile.specs.Lines.{before_comment, parted, all_parted, line_tokens, is_capital, line_end, content_tokens, place_from}
 use Rattle.gf_fanfile.specs.RowText.{most_row_entry, IsRowEntryText, AreRowEntryTexts, IsRowText, AreRowTexts}
 use Rattle.gf_fanfile.specs.FanWords.{spaced_entries, comment}
-use Rattle.gf_fanfile.proofs.NumbersSame.{same_number}
-use Rattle.gf_fanfile.proofs.LexedLaws.{lex_space, lex_token}
-use Rattle.gf_fanfile.proofs.WrittenLaws.{and_both, no_byte, IsContentLine, AreContentLines, ArePlain, contents}
+use Rattle.gf_fanfile.proofs.WrittenLaws.{no_byte, IsContentLine, AreContentLines, ArePlain, contents}
 
 -- ---- bytes
 
 pub no_byte-++ : (c : ℕ) (xs ys : List ℕ) → no_byte c xs ≡ true → no_byte c ys ≡ true → no_byte c (xs ++ ys) ≡ true
 no_byte-++ c [] ys h k = k
-no_byte-++ c (x ∷ xs) ys h k = let both = and_both (not (x == c)) (no_byte c xs) h in rw both.0 (no_byte-++ c xs ys both.1 k)
+no_byte-++ c (x ∷ xs) ys h k = let both = and_parts (not (x == c)) (no_byte c xs) h in rw both.0 (no_byte-++ c xs ys both.1 k)
 
 digit_no : (b c : ℕ) → is_digit b ≡ true → is_digit c ≡ false → not (b == c) ≡ true
 digit_no b c h k = elim (eqb_tells b c) [
@@ -32,7 +31,7 @@ digit_no b c h k = elim (eqb_tells b c) [
 
 pub digits_no : (c : ℕ) (ds : List ℕ) → list_all is_digit ds ≡ true → is_digit c ≡ false → no_byte c ds ≡ true
 digits_no c [] h k = refl
-digits_no c (d ∷ ds) h k = let both = and_both (is_digit d) (list_all is_digit ds) h in rw (digit_no d c both.0 k) (digits_no c ds both.1 k)
+digits_no c (d ∷ ds) h k = let both = and_parts (is_digit d) (list_all is_digit ds) h in rw (digit_no d c both.0 k) (digits_no c ds both.1 k)
 
 pub number_digits : (ds : List ℕ) → is_number ds ≡ true → list_all is_digit ds ≡ true
 number_digits [] h = refl
@@ -56,14 +55,14 @@ left_by b bs rest more h e =
 
 uncommented_all : (bs : List ℕ) → no_byte 35 bs ≡ true → before_comment (bs ++ []) ≡ bs ++ []
 uncommented_all [] h = refl
-uncommented_all (b ∷ bs) h = let both = and_both (not (b == 35)) (no_byte 35 bs) h in left_by b bs [] (bs ++ []) both.0 (uncommented_all bs both.1)
+uncommented_all (b ∷ bs) h = let both = and_parts (not (b == 35)) (no_byte 35 bs) h in left_by b bs [] (bs ++ []) both.0 (uncommented_all bs both.1)
 
 tab_left : (rest : List ℕ) → before_comment (9 ∷ 35 ∷ rest) ≡ 9 ∷ []
 tab_left rest = refl
 
 uncommented_front : (bs rest : List ℕ) → no_byte 35 bs ≡ true → before_comment (bs ++ (9 ∷ 35 ∷ rest)) ≡ bs ++ 9 ∷ []
 uncommented_front [] rest h = tab_left rest
-uncommented_front (b ∷ bs) rest h = let both = and_both (not (b == 35)) (no_byte 35 bs) h in left_by b bs (9 ∷ 35 ∷ rest) (bs ++ 9 ∷ []) both.0 (uncommented_front bs rest both.1)
+uncommented_front (b ∷ bs) rest h = let both = and_parts (not (b == 35)) (no_byte 35 bs) h in left_by b bs (9 ∷ 35 ∷ rest) (bs ++ 9 ∷ []) both.0 (uncommented_front bs rest both.1)
 
 no_lexed : (at : ℕ) → lex_tokens word_more 0 at [] ≡ []
 unfolding lex_tokens
@@ -76,7 +75,7 @@ pub comment_tail : (bs : List ℕ) → no_byte 10 bs ≡ true → IsTail (commen
 comment_tail bs h = record {
   blank = 9 ∷ [];
   left = λ cs k. uncommented_front cs (32 ∷ bs) k;
-  none = λ at. lex_space word_more 9 at [] refl ∙ no_lexed (at + 1);
+  none = λ at. lex-space word_more 9 at [] refl ∙ no_lexed (at + 1);
   stops = refl;
   plain = h;
 }
@@ -104,20 +103,20 @@ entry_lexed : (at : ℕ) (z : ℤ) (rest : List ℕ) → IsSmall z → goes_on r
 entry_lexed at z rest small stops = by (is_below_zero z)
   where
     number : (p : ℕ) → lex_tokens word_more 0 p (digits z ++ rest) ≡ record { text = digits z; at = p } ∷ lex_tokens word_more 0 (p + length (digits z)) rest
-    number p = lex_token word_more p (digits z) rest (number_word (digits z) rest (digits_number z small).0 stops)
+    number p = lex-token word_more p (digits z) rest (number_word (digits z) rest (digits_number z small).0 stops)
 
     by : (v : Bool) → lex_tokens word_more 0 at ((if v then 45 ∷ digits z else digits z) ++ rest)
         ≡ (if v then record { text = minus_mark; at = at } ∷ record { text = digits z; at = at + 1 } ∷ [] else record { text = digits z; at = at } ∷ []) ++ lex_tokens word_more 0 (at + length (if v then 45 ∷ digits z else digits z)) rest
     by true =
         let place : (at + 1) + length (digits z) ≡ at + length (45 ∷ digits z) = omega arith in
-        lex_token word_more at minus_mark (digits z ++ rest) (mark_token 45 (digits z ++ rest) refl refl)
+        lex-token word_more at minus_mark (digits z ++ rest) (mark_token 45 (digits z ++ rest) refl refl)
         ∙ ap (λ l. record { text = minus_mark; at = at } ∷ l) (number (at + 1))
         ∙ ap (λ p. record { text = minus_mark; at = at } ∷ record { text = digits z; at = at + 1 } ∷ lex_tokens word_more 0 p rest) place
     by false = number at
 
 -- a minus stands right before its number
 parted_next : (at : ℕ) (t : List ℕ) → parted true (at + 1) (record { text = t; at = at + 1 }) ≡ record { text = t; at = at + 1 }
-parted_next at t = let same = same_number (at + 1) in rw same refl
+parted_next at t = let same = byte_itself (at + 1) in rw same refl
 
 -- behind a token that is no minus, these are left as they are
 Kept : List Lexeme → Type 0
@@ -161,7 +160,7 @@ more_stops (z ∷ zs) rest h = refl
 more_lexed : (at : ℕ) (zs : List ℤ) (rest : List ℕ) → AreSmall zs → goes_on rest ≡ false → ((p : ℕ) → lex_tokens word_more 0 p rest ≡ []) → lex_tokens word_more 0 at (more_text zs ++ rest) ≡ more_tokens at zs
 more_lexed at [] rest small stops none = none at
 more_lexed at (z ∷ zs) rest small stops none =
-    lex_space word_more 32 at ((entry_text z ++ more_text zs) ++ rest) refl
+    lex-space word_more 32 at ((entry_text z ++ more_text zs) ++ rest) refl
     ∙ ap (lex_tokens word_more 0 (at + 1)) (append_assoc (entry_text z) (more_text zs) rest)
     ∙ entry_lexed (at + 1) z (more_text zs ++ rest) small.0 (more_stops zs rest stops)
     ∙ ap (λ l. entry_tokens (at + 1) z ++ l) (more_lexed ((at + 1) + length (entry_text z)) zs rest small.1 stops none)
@@ -170,10 +169,6 @@ more_kept : (at : ℕ) (zs : List ℤ) → AreSmall zs → Kept (more_tokens at 
 unfolding Kept
 more_kept at [] small place = refl
 more_kept at (z ∷ zs) small place = entry_kept (at + 1) z (more_tokens ((at + 1) + length (entry_text z)) zs) small.0 (more_kept ((at + 1) + length (entry_text z)) zs small.1) place
-
-texts-++ : (xs ys : List Lexeme) → texts (xs ++ ys) ≡ texts xs ++ texts ys
-texts-++ [] ys = refl
-texts-++ (x ∷ xs) ys = ap (λ l. x.text ∷ l) (texts-++ xs ys)
 
 -- tokens of an entry, and of entries behind it
 said_by : (first : List Lexeme) (later : List Lexeme) (z : ℤ) (zs : List ℤ) → IsRowEntryText (texts first) z → AreRowEntryTexts (texts later ++ line_end ∷ []) zs → AreRowEntryTexts (texts (first ++ later) ++ line_end ∷ []) (z ∷ zs)
@@ -205,9 +200,6 @@ row_no c z zs small other line space = no_byte-++ c (entry_text z) (more_text zs
 digit_small : (b : ℕ) → is_digit b ≡ true → is_capital b ≡ false
 digit_small b h = grind (arith, nat_tests, h)
 
-digit_visible : (b : ℕ) → is_digit b ≡ true → is_space b ≡ false
-digit_visible b h = grind (arith, nat_tests, h)
-
 digit_bare : (b : ℕ) → is_digit b ≡ true → (b == 35) ≡ false
 digit_bare b h = grind (arith, nat_tests, h)
 
@@ -215,7 +207,7 @@ digit_bare b h = grind (arith, nat_tests, h)
 pub first_digit : (ds rest : List ℕ) → is_number ds ≡ true → IsContentLine (ds ++ rest)
 first_digit [] rest h = cc
 first_digit (d ∷ ds) rest h =
-    let digit = (and_both (is_digit d) (list_all is_digit ds) h).0 in
+    let digit = (and_parts (is_digit d) (list_all is_digit ds) h).0 in
     record { first = d; others = ds ++ rest; shape = refl; visible = digit_visible d digit; small = digit_small d digit; bare = digit_bare d digit }
 
 pub first_integer : (z : ℤ) (rest : List ℕ) → IsSmall z → IsContentLine (entry_text z ++ rest)

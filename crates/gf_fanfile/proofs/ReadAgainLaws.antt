@@ -37,7 +37,7 @@ use Rattle.gf_fanfile.specs.Files.{IsFileOf, IsSoundFile}
 use Rattle.gf_fanfile.specs.FanWords.{fan_text}
 use Rattle.gf_fanfile.specs.FansAgain.{IsWritable, file_of}
 use Rattle.gf_fanfile.specs.FanTexts.{listed_cone, listed_cones, one_listed, listed_at, interiors_of, parts_of_fan, IsWritingStep}
-use Rattle.gf_fanfile.specs.Certificates.{AreCertified, AreInside, IsCertificateFault, other_count, at_row, too_wide}
+use Rattle.gf_fanfile.specs.Certificates.{AreCertified, AreInsideCones, IsCertificateFault, other_count, at_row, too_wide}
 use Rattle.gf_fanfile.specs.FilesFans.{IsConeOfFile, AreConesOfFile, IsFanOfFile, IsFanOfText, IsCertifiedFile, AreFileConesMeeting, testing, finding, making, IsFileLimit, refusal_of_vectors, refusal_of_fan, IsFanFault, in_cone, in_certificate, in_fan, IsFanFileRefusal, before_cones, behind_form}
 use Rattle.gf_fanfile.specs.WrittenFans.{IsConeAt, IsAgainLimit, WrittenFansAreRead}
 use Rattle.gf_fanfile.proofs.AgainLaws.{fans_again}
@@ -135,7 +135,7 @@ written_certified f s cones a =
 certificate_limit : (f : FanFile) (e : FanFileError) (cones : List RowsAndRays) (rows : List (List ℤ)) → IsCertifiedFile f → AreConesOfFile f cones → f.interiors ≡ Some rows → IsCertificateFault f.ambient cones rows e → IsFileLimit f e
 certificate_limit f e cones rows k a is h = by h
   where
-    inside : AreInside f.ambient cones rows
+    inside : AreInsideCones f.ambient cones rows
     inside = subst (λ (i : Option (List (List ℤ))). AreCertified f.ambient cones i) is (k cones a)
 
     by : IsCertificateFault f.ambient cones rows e → IsFileLimit f e

@@ -5,6 +5,7 @@ use Rattle.gf_text.specs.declared.error.Cause.{Cause}
 use Rattle.gf_text.specs.declared.error.Cause.TheVariants.{Ended, Unexpected}
 use Rattle.gf_text.specs.Machine.{Lexeme, behind, Fault, Move, done, halt, run}
 use Rattle.gf_text.proofs.MachineLaws.{run_done, run_halt, run_ended}
+use Rattle.gf_text.proofs.PrintedTokensLaws.{byte_itself}
 use Rattle.gf_fanfile.specs.declared.error.FanFileError.{FanFileError}
 use Rattle.gf_fanfile.specs.declared.error.FanFileError.TheVariants as errors
 use Rattle.gf_fanfile.specs.declared.error.Reason.{Reason}
@@ -13,7 +14,6 @@ use Rattle.gf_fanfile.specs.FanText.{Content, the_number, number_to, held, is_ab
 use Rattle.gf_fanfile.specs.declared.numbers.NumberState.TheVariants.{Unread}
 use Rattle.gf_fanfile.specs.NumberText.{number_step}
 use Rattle.gf_fanfile.specs.Found.{IsRefusedSo}
-use Rattle.gf_fanfile.proofs.NumbersSame.{same_number}
 
 -- what is refused is refused so
 pub is_refused : {Y : Type 0} (e : FanFileError) (read : Result Y FanFileError) → read ≡ Err e → IsRefusedSo e read
@@ -48,8 +48,8 @@ refused_on errors.Memory there read on h = tt
 -- behind the last token the text has ended, whatever is wrong there
 ended_there : (length : ℕ) (c d : Cause) → refused_before length (record { at = length; cause = c }) ≡ refused_before length (record { at = length; cause = d })
 ended_there length c d =
-    ap (λ b. if b then refused_at length Ended else refused_at length c) (same_number length)
-    ∙ sym (ap (λ b. if b then refused_at length Ended else refused_at length d) (same_number length))
+    ap (λ b. if b then refused_at length Ended else refused_at length c) (byte_itself length)
+    ∙ sym (ap (λ b. if b then refused_at length Ended else refused_at length d) (byte_itself length))
 
 module _ {S A : Type 0} (step : S → List ℕ → Move S A) (make : A → Content) (length : ℕ) (read : Result Content FanFileError) (start : S) (content : List Lexeme) (is_read : read ≡ held make length (run step start length content)) where
   module _ (s : S) (all : List Lexeme) (same : run step s length all ≡ run step start length content) where

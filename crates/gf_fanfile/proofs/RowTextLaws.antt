@@ -7,12 +7,11 @@ use Rattle.gf_text.specs.Machine.{go, done, halt, after, followed}
 use Rattle.gf_text.specs.Tokens.{is_number, decimal_value}
 use Rattle.gf_text.specs.VectorText.{signed_entry}
 use Rattle.gf_text.proofs.MachineLaws.{after-go, after-done, not_yet, IsMachineOf}
-use Rattle.gf_text.proofs.SetTokensLaws.{number_no_mark, is_mark, le_from}
+use Rattle.gf_text.proofs.SetTokensLaws.{number_no_mark, is_mark, le_from, le_test}
 use Rattle.gf_text.specs.Marks.{minus_mark}
 use Rattle.gf_text.specs.SetText.{IsNumberText}
 use Rattle.gf_fanfile.specs.Lines.{line_end, section_end}
 use Rattle.gf_fanfile.specs.RowText.{most_row_entry, IsRowEntryText, AreRowEntryTexts, IsRowText, AreRowTexts, RowState, RowMove, row_state, row_size_step, row_entry_step, row_step_at, row_step, row_start}
-use Rattle.gf_fanfile.proofs.ConeTextLaws.{le_test}
 
 abbrev Texts : Type 0
 Texts = List (List ℕ)

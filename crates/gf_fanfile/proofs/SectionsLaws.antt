@@ -13,7 +13,7 @@ use Rattle.gf_fanfile.specs.declared.sections.Contents.{Contents}
 use Rattle.gf_fanfile.specs.Lines.{with_name, sections_from, content_from}
 use Rattle.gf_fanfile.specs.Refused.{refused_at}
 use Rattle.gf_fanfile.specs.ConeText.{most_number}
-use Rattle.gf_fanfile.specs.FanText.{ContentKind, Content, number_to, rows, cones, any, the_number, the_rows, the_cones, passed, Named, is_second, told_version, version_kind, interiors_kind, fan_table, table_of, kind_in, content_read, then_content, sections_read, text_read, found, file_version, ambient_dim, rays_name, lineality_space, maximal_cones, maximal_interiors}
+use Rattle.gf_fanfile.specs.FanText.{ContentKind, Content, number_to, rows, cones, any, the_number, the_rows, the_cones, passed, Named, is_second, told_version, version_kind, interiors_kind, fan_table, told_table, kind_in, content_read, then_content, sections_read, text_read, found, file_version, ambient_dim, rays_name, lineality_space, maximal_cones, maximal_interiors}
 use Rattle.gf_fanfile.specs.Found.{IsRefusedSo}
 use Rattle.gf_fanfile.specs.Contents.{no_contents, IsSectionKept, at_ambient, at_rays, at_lineality, at_cones, at_interiors, at_other, number_kept, rows_kept, cones_kept, AreInteriorsKept, AreSectionsKept, Says}
 
@@ -244,7 +244,7 @@ pub record IsReadUpTo (source : List ℕ) (at : ℕ) (names : List (List ℕ)) (
   pub version : c.version ≡ told_version source
   pub done : Named
   pub names_are : names_of done ≡ names
-  pub left : text_read (table_of source) source ≡ all_behind done (sections_read (table_of source) (length source) names (sections_from source at).all)
+  pub left : text_read (told_table source) source ≡ all_behind done (sections_read (told_table source) (length source) names (sections_from source at).all)
   pub kept : AreSectionsKept done c
 
 behind_none : (r : Result Named FanFileError) → r ≡ all_behind [] r
@@ -260,7 +260,7 @@ begun source v is = record {
   version = is;
   done = [];
   names_are = refl;
-  left = behind_none (text_read (table_of source) source);
+  left = behind_none (text_read (told_table source) source);
   kept = record { ambient = refl; rays = refl; lineality = refl; cones = refl; interiors = none_kept (is_second v) };
 }
 
@@ -275,19 +275,19 @@ names_more (h ∷ done) name c = ap (λ l. h.0 ∷ l) (names_more done name c)
 module _ (source : List ℕ) (at : ℕ) (names : List (List ℕ)) (b : Contents) (r : IsReadUpTo source at names b) where
   module _ (x : Lexeme) (next : ℕ) (is : (sections_from source at).all ≡ (with_name x (sections_from source next)).all) where
     abbrev Reading : Result Content FanFileError
-    Reading = content_read (length source) (kind_in (table_of source) x.text) (content_from source next)
+    Reading = content_read (length source) (kind_in (told_table source) x.text) (content_from source next)
 
     abbrev Later : Result Named FanFileError
-    Later = sections_read (table_of source) (length source) (names ++ x.text ∷ []) (sections_from source next).all
+    Later = sections_read (told_table source) (length source) (names ++ x.text ∷ []) (sections_from source next).all
 
-    here : text_read (table_of source) source ≡ all_behind r.done (if has names x.text then Err (refused_at x.at RepeatedName) else then_content Reading x.text Later)
-    here = r.left ∙ ap (λ ss. all_behind r.done (sections_read (table_of source) (length source) names ss)) is
+    here : text_read (told_table source) source ≡ all_behind r.done (if has names x.text then Err (refused_at x.at RepeatedName) else then_content Reading x.text Later)
+    here = r.left ∙ ap (λ ss. all_behind r.done (sections_read (told_table source) (length source) names ss)) is
 
     -- its name was there already
-    pub repeated : has names x.text ≡ true → text_read (table_of source) source ≡ Err (refused_at x.at RepeatedName)
+    pub repeated : has names x.text ≡ true → text_read (told_table source) source ≡ Err (refused_at x.at RepeatedName)
     repeated e = here ∙ ap (λ v. all_behind r.done (if v then Err (refused_at x.at RepeatedName) else then_content Reading x.text Later)) e
 
-    fresh : has names x.text ≡ false → text_read (table_of source) source ≡ all_behind r.done (then_content Reading x.text Later)
+    fresh : has names x.text ≡ false → text_read (told_table source) source ≡ all_behind r.done (then_content Reading x.text Later)
     fresh e = here ∙ ap (λ v. all_behind r.done (if v then Err (refused_at x.at RepeatedName) else then_content Reading x.text Later)) e
 
     -- what is read of it by the version of the contents
@@ -298,7 +298,7 @@ module _ (source : List ℕ) (at : ℕ) (names : List (List ℕ)) (b : Contents)
     same_reading = ap (λ (v : Option ℕ). content_read (length source) (kind_in (fan_table v) x.text) (content_from source next)) r.version
 
     -- its content is at fault
-    pub faulty : has names x.text ≡ false → (e : FanFileError) → ByVersion ≡ Err e → text_read (table_of source) source ≡ Err e
+    pub faulty : has names x.text ≡ false → (e : FanFileError) → ByVersion ≡ Err e → text_read (told_table source) source ≡ Err e
     faulty new e is_fault = fresh new ∙ ap (λ c. all_behind r.done (then_content c x.text Later)) (sym same_reading ∙ is_fault)
 
     -- its content is kept
@@ -319,6 +319,6 @@ module _ (source : List ℕ) (at : ℕ) (names : List (List ℕ)) (b : Contents)
   finished none = record {
     version = r.version;
     all = r.done;
-    read = r.left ∙ ap (λ ss. all_behind r.done (sections_read (table_of source) (length source) names ss)) none ∙ ap (λ l. Ok l) (append-nil r.done);
+    read = r.left ∙ ap (λ ss. all_behind r.done (sections_read (told_table source) (length source) names ss)) none ∙ ap (λ l. Ok l) (append-nil r.done);
     kept = r.kept;
   }

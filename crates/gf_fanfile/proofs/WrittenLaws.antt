@@ -1,27 +1,22 @@
 -- Sections that are written, whatever they are, are read again, where the lines of each are those of its content.
--- To cite: and_both, no_byte, IsContentLine, AreContentLines, ArePlain, contents, IsSaid, AreSaid, written_again. The rest are steps.
-use Rattle.std.proofs.Common.{◌≡◌, ℕ, suc, ◌+◌, Bool, true, false, ◌&&◌, ◌==◌, not, List, [], ◌∷◌, ◌++◌, length, take, flat_map, refl, sym, ap, subst, ◌∙◌, append_assoc, append-nil, bytes_eq, arith}
+-- To cite: no_byte, IsContentLine, AreContentLines, ArePlain, contents, IsSaid, AreSaid, written_again. The rest are steps.
+use Rattle.std.proofs.Common.{◌≡◌, ℕ, suc, ◌+◌, Bool, true, false, ◌==◌, not, List, [], ◌∷◌, ◌++◌, length, take, flat_map, refl, sym, ap, subst, ◌∙◌, append_assoc, append-nil, bytes_eq, arith}
+use Rattle.std.proofs.lemmas.Bool.{and_parts}
 use Rattle.std.specs.List.{list_all, prefix_len}
 use Rattle.gf_text.specs.Machine.{Lexeme, texts, behind}
 use Rattle.gf_text.specs.Marks.{minus_mark}
 use Rattle.gf_text.specs.Tokens.{is_space, lex_tokens, word_more}
 use Rattle.gf_text.specs.RingText.{has, is_name}
-use Rattle.gf_text.proofs.SpelledLaws.{word_token}
+use Rattle.gf_text.proofs.SpelledLaws.{word_token, lex-token}
 use Rattle.gf_fanfile.specs.Lines.{before_line, lines, before_comment, all_parted, line_tokens, is_capital, is_section_name, Sections, with_name, with_line, with_tokens, sections_of, sections, content_tokens, end_before}
 use Rattle.gf_fanfile.specs.FanText.{Content, IsContentText, Table, kind_in, Named, AreHeld}
 use Rattle.gf_fanfile.specs.FanWords.{TextSection, lines_text, section_text, sections_text}
-use Rattle.gf_fanfile.proofs.LexedLaws.{lex_token}
 
 -- ---- lines
 
 -- none of these is the byte c
 abbrev pub no_byte : ℕ → List ℕ → Bool
 no_byte c bs = list_all (λ b. not (b == c)) bs
-
-pub and_both : (a b : Bool) → (a && b) ≡ true → (a ≡ true) × (b ≡ true)
-and_both true true e = (refl, refl)
-and_both true false e = cc
-and_both false b e = cc
 
 not_true : (v : Bool) → not v ≡ true → v ≡ false
 not_true true e = cc
@@ -31,7 +26,7 @@ line_first : (l rest : List ℕ) (at : ℕ) → no_byte 10 l ≡ true → lines 
 unfolding lines
 line_first [] rest at h = let place : at + 1 ≡ at + 0 + 1 = omega arith in ap (λ n. record { text = []; at = at } ∷ lines n rest) place
 line_first (b ∷ l) rest at h =
-    let both = and_both (not (b == 10)) (no_byte 10 l) h in
+    let both = and_parts (not (b == 10)) (no_byte 10 l) h in
     let other = not_true (b == 10) both.0 in
     let place : (at + 1) + length l + 1 ≡ at + length (b ∷ l) + 1 = omega arith in
     rw other (ap (before_line b at) (line_first l rest (at + 1) both.1) ∙ ap (λ n. record { text = b ∷ l; at = at } ∷ lines n rest) place)
@@ -131,7 +126,7 @@ content_front (l ∷ ls) tail at h none =
 name_line : (n : List ℕ) (at : ℕ) → is_name n ≡ true → before_comment n ≡ n → line_tokens (record { text = n; at = at }) ≡ record { text = n; at = at } ∷ []
 unfolding lex_tokens
 name_line n at word bare =
-    ap (λ t. all_parted false at (lex_tokens word_more 0 at t)) (bare ∙ sym (append-nil n)) ∙ ap (all_parted false at) (lex_token word_more at n [] (word_token n [] word refl))
+    ap (λ t. all_parted false at (lex_tokens word_more 0 at t)) (bare ∙ sym (append-nil n)) ∙ ap (all_parted false at) (lex-token word_more at n [] (word_token n [] word refl))
 
 name_by : (x : Lexeme) (s : Sections) → is_section_name x.text ≡ true → with_tokens (x ∷ []) s ≡ with_name x s
 name_by x s h = rw h refl

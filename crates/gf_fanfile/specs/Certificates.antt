@@ -13,21 +13,21 @@ abbrev pub IsInsideAt : ℕ → List RowsAndRays → List (List ℤ) → ℕ →
 IsInsideAt n cones rows place = (c : RowsAndRays) (r : List ℤ) → IsInterior n (rows_of (slice_index_or cones place c)) (slice_index_or rows place r)
 
 -- there are as many rows as cones, and each lies inside its cone
-pub record AreInside (n : ℕ) (cones : List RowsAndRays) (rows : List (List ℤ)) : Type 0 where
+pub record AreInsideCones (n : ℕ) (cones : List RowsAndRays) (rows : List (List ℤ)) : Type 0 where
   pub count : length rows ≡ length cones
   pub each : (place : ℕ) → place < length rows → IsInsideAt n cones rows place
 
 -- the rows of a file, where it has such
 abbrev pub AreCertified : ℕ → List RowsAndRays → Option (List (List ℤ)) → Type 0
 AreCertified n cones None = Unit {0}
-AreCertified n cones (Some rows) = AreInside n cones rows
+AreCertified n cones (Some rows) = AreInsideCones n cones rows
 
 -- the first product or partial sum of a vector with a row of this cone that leaves the range
 abbrev pub IsInsideStep : RowsAndRays → List ℤ → WideVector → Type 0
 IsInsideStep c v w = (row : List ℤ) × ((Contains c.inequalities row ⊎ Contains c.equations row) × IsFirstWide w (dot_steps (pos 0) row v))
 
 -- such an operation of the row at this place, where those before lie inside their cones
-pub record IsCertificateStep (n : ℕ) (cones : List RowsAndRays) (rows : List (List ℤ)) (w : WideVector) : Type 0 where
+pub record IsCertificateRowStep (n : ℕ) (cones : List RowsAndRays) (rows : List (List ℤ)) (w : WideVector) : Type 0 where
   pub place : ℕ
   pub count : length rows ≡ length cones
   pub within : place < length rows
@@ -35,7 +35,7 @@ pub record IsCertificateStep (n : ℕ) (cones : List RowsAndRays) (rows : List (
   pub step : (c : RowsAndRays) (r : List ℤ) → IsInsideStep (slice_index_or cones place c) (slice_index_or rows place r) w
 
 -- the first row that doesn't lie inside its cone
-pub record IsFirstOutside (n : ℕ) (cones : List RowsAndRays) (rows : List (List ℤ)) (place : ℕ) : Type 0 where
+pub record IsFirstRowOutside (n : ℕ) (cones : List RowsAndRays) (rows : List (List ℤ)) (place : ℕ) : Type 0 where
   pub count : length rows ≡ length cones
   pub within : place < length rows
   pub before : (k : ℕ) → k < place → IsInsideAt n cones rows k
@@ -45,5 +45,5 @@ pub record IsFirstOutside (n : ℕ) (cones : List RowsAndRays) (rows : List (Lis
 -- such an operation leaves the range.
 pub data IsCertificateFault (n : ℕ) (cones : List RowsAndRays) (rows : List (List ℤ)) (e : FanFileError) : Type 0 where
   other_count : (length rows ≡ length cones → ⊥) → e ≡ errors.BadCertificate (min (length rows) (length cones)) → IsCertificateFault n cones rows e
-  at_row : (place : ℕ) → IsFirstOutside n cones rows place → e ≡ errors.BadCertificate place → IsCertificateFault n cones rows e
-  too_wide : (w : WideVector) → IsCertificateStep n cones rows w → e ≡ errors.Wide w → IsCertificateFault n cones rows e
+  at_row : (place : ℕ) → IsFirstRowOutside n cones rows place → e ≡ errors.BadCertificate place → IsCertificateFault n cones rows e
+  too_wide : (w : WideVector) → IsCertificateRowStep n cones rows w → e ≡ errors.Wide w → IsCertificateFault n cones rows e

@@ -2,7 +2,7 @@
 use Rattle.std.specs.Prelude.{◌≡◌, ◌⊎◌, ℕ, ℤ, Bool, true, false, List, bytes_eq, Option, Some, None, Result, Ok}
 use Rattle.gf_fanfile.specs.declared.error.FanFileError.{FanFileError}
 use Rattle.gf_fanfile.specs.declared.sections.Contents.{Contents}
-use Rattle.gf_fanfile.specs.FanText.{Content, the_number, the_rows, the_cones, Named, is_second, told_version, table_of, text_read, found, ambient_dim, rays_name, lineality_space, maximal_cones, maximal_interiors}
+use Rattle.gf_fanfile.specs.FanText.{Content, the_number, the_rows, the_cones, Named, is_second, told_version, told_table, text_read, found, ambient_dim, rays_name, lineality_space, maximal_cones, maximal_interiors}
 
 -- nothing is known of the file yet but its version
 abbrev pub no_contents : Option ℕ → Contents
@@ -49,5 +49,5 @@ pub record AreSectionsKept (all : Named) (c : Contents) : Type 0 where
 pub record Says (source : List ℕ) (c : Contents) : Type 0 where
   pub version : c.version ≡ told_version source
   pub all : Named
-  pub read : text_read (table_of source) source ≡ Ok all
+  pub read : text_read (told_table source) source ≡ Ok all
   pub kept : AreSectionsKept all c

@@ -140,8 +140,8 @@ abbrev pub fan_table : Option ℕ → Table
 fan_table v = (ambient_dim, number_to MOST_VARIABLES) ∷ (rays_name, rows) ∷ (lineality_space, rows) ∷ (maximal_cones, cones) ∷ (file_version, version_kind v) ∷ (maximal_interiors, interiors_kind (is_second v)) ∷ []
 
 -- the table of the version that the text tells
-abbrev pub table_of : List ℕ → Table
-table_of source = fan_table (told_version source)
+abbrev pub told_table : List ℕ → Table
+told_table source = fan_table (told_version source)
 
 -- the name that is looked for in the version 2 alone
 abbrev pub wanted_last : Bool → List (List ℕ)

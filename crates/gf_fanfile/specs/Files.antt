@@ -14,13 +14,13 @@ use Rattle.gf_text.specs.declared.error.Section.{Section}
 use Rattle.gf_text.specs.declared.error.Section.TheVariants as names
 use Rattle.gf_fanfile.specs.declared.file.FanFile.{FanFile}
 use Rattle.gf_fanfile.specs.Lines.{sections}
-use Rattle.gf_fanfile.specs.FanText.{Content, the_number, the_rows, the_cones, Named, is_second, told_version, IsKnownVersion, table_of, AreHeld, IsFirstFault, found, wanted, first_missing, ambient_dim, rays_name, lineality_space, maximal_cones, maximal_interiors}
+use Rattle.gf_fanfile.specs.FanText.{Content, the_number, the_rows, the_cones, Named, is_second, told_version, IsKnownVersion, told_table, AreHeld, IsFirstFault, found, wanted, first_missing, ambient_dim, rays_name, lineality_space, maximal_cones, maximal_interiors}
 
 -- ---- what a file says
 
 -- the sections of the text hold this
 abbrev pub AreSectionsOf : List ℕ → Named → Type 0
-AreSectionsOf source all = AreHeld (table_of source) (length source) [] (sections source) all
+AreSectionsOf source all = AreHeld (told_table source) (length source) [] (sections source) all
 
 -- what was found of MAXIMAL_INTERIORS says these rows in the version 2; others have none
 abbrev pub AreInteriorsOf : Bool → Option Content → Option (List (List ℤ)) → Type 0
@@ -129,7 +129,7 @@ pub data IsFormFault (f : FanFile) (e : FanFileError) : Type 0 where
 -- the text is refused so: it has a fault, and this is the first; its version isn't known; a section isn't there, and this is the first; it
 -- says a file, which is refused; or there is no memory
 pub data IsFileRefused (source : List ℕ) (e : FanFileError) : Type 0 where
-  in_text : IsFirstFault (table_of source) (length source) [] (sections source) e → IsFileRefused source e
+  in_text : IsFirstFault (told_table source) (length source) [] (sections source) e → IsFileRefused source e
   bad_version : (all : Named) (number : ℕ) → AreSectionsOf source all → told_version source ≡ Some number → (number ≡ 1 → ⊥) → (number ≡ 2 → ⊥) → e ≡ errors.BadVersion number → IsFileRefused source e
   not_there : (all : Named) (section : Section) → AreSectionsOf source all → IsKnownVersion (told_version source) → first_missing (wanted (told_version source)) all ≡ Some (section_name section) → e ≡ errors.Missing section → IsFileRefused source e
   in_form : (f : FanFile) → IsFileOf source f → IsFormFault f e → IsFileRefused source e

@@ -25,7 +25,7 @@ use Rattle.gf_fanfile.specs.declared.error.FanFileError.{FanFileError}
 use Rattle.gf_fanfile.specs.declared.error.FanFileError.TheVariants as errors
 use Rattle.gf_fanfile.specs.declared.file.FanFile.{FanFile}
 use Rattle.gf_fanfile.specs.Files.{IsFileOf, IsSoundFile, IsTestStep, AreTestsWithin, IsFileRefused}
-use Rattle.gf_fanfile.specs.Certificates.{AreCertified, IsCertificateStep, IsCertificateFault}
+use Rattle.gf_fanfile.specs.Certificates.{AreCertified, IsCertificateRowStep, IsCertificateFault}
 
 -- ---- the fan
 
@@ -83,7 +83,7 @@ pub record IsFileCertificateStep (f : FanFile) (w : WideVector) : Type 0 where
   pub rows : List (List ℤ)
   pub of_file : AreConesOfFile f cones
   pub has : f.interiors ≡ Some rows
-  pub step : IsCertificateStep f.ambient cones rows w
+  pub step : IsCertificateRowStep f.ambient cones rows w
 
 -- No operation on this file leaves the range: of the tests of its rays, of finding its cones, of testing its rows, of making their fan.
 pub record IsFileWithinLimits (f : FanFile) : Type 0 where

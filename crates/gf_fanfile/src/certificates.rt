@@ -6,7 +6,7 @@ ghost use Rattle.gf_gordan.specs.Alternative.{AreRows};
 ghost use Rattle.gf_duality.specs.Faces.{IsInterior};
 ghost use Rattle.gf_duality.specs.Rays.{IsZeroOn};
 ghost use Rattle.gf_rays.specs.Cones.{RowsAndRays, rows_of};
-ghost use Rattle.gf_fanfile.specs.Certificates.{AreInside, IsInsideStep, IsCertificateFault};
+ghost use Rattle.gf_fanfile.specs.Certificates.{AreInsideCones, IsInsideStep, IsCertificateFault};
 
 use crate::error::FanFileError;
 use gf_rays::Rays;
@@ -85,7 +85,7 @@ pub(crate) fn check_certificates(
     requires proper { All (λ (c : RowsAndRays). (h : List ℤ) → Contains c.inequalities h → IsZeroOn c.ambient c.inequalities c.equations h → ⊥) cones.now }
     requires count { length cones.now < 2 ^ 32 }
     requires width { AreRows n rows.now }
-    ensures { MatchResult result (λ _. AreInside n cones.now rows.now) (IsCertificateFault n cones.now rows.now) }
+    ensures { MatchResult result (λ _. AreInsideCones n cones.now rows.now) (IsCertificateFault n cones.now rows.now) }
 {
     if rows.len() != cones.len() {
         return Err(FanFileError::BadCertificate {

@@ -2,7 +2,7 @@
 ghost use Rattle.std.specs.Prelude.{◌≡◌, ◌≤◌, ◌<◌, [], None, Some, Ok, List, ℤ, false, length, bytes_eq, IfOk, IfSome, MatchBool, MatchOption, MatchResult};
 ghost use Rattle.gf_text.specs.Tokens.{lexeme};
 ghost use Rattle.gf_fanfile.specs.Lines.{sections_from, content_from, with_name};
-ghost use Rattle.gf_fanfile.specs.FanText.{Content, the_rows, passed, content_read, kind_in, is_second, told_version, version_kind, interiors_kind, fan_table, table_of, text_read, ambient_dim, rays_name, lineality_space, maximal_cones};
+ghost use Rattle.gf_fanfile.specs.FanText.{Content, the_rows, passed, content_read, kind_in, is_second, told_version, version_kind, interiors_kind, fan_table, told_table, text_read, ambient_dim, rays_name, lineality_space, maximal_cones};
 ghost use Rattle.gf_fanfile.specs.Found.{IsRefusedSo};
 ghost use Rattle.gf_fanfile.specs.Contents.{IsSectionKept, Says, no_contents};
 
@@ -237,7 +237,7 @@ fn with_section(
 
 /// What the sections of a text hold.
 pub(crate) fn contents_of(alloc: Global, source: &[u8]) -> Result<Contents, FanFileError>
-    ensures says { MatchResult result (Says source.now) (λ e. IsRefusedSo e (text_read (table_of source.now) source.now)) }
+    ensures says { MatchResult result (Says source.now) (λ e. IsRefusedSo e (text_read (told_table source.now) source.now)) }
     ensures dimension { IfOk result (λ c. IfSome c.ambient (λ n. n ≤ MOST_VARIABLES)) }
 {
     let mut names = DifferentNames::new(alloc);

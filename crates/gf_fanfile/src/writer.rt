@@ -1,31 +1,13 @@
 //! The writing of fans.
 ghost use Rattle.std.specs.Prelude.{◌≡◌, ◌++◌, ◌∷◌, [], Option, OnOk, IfOk, codes, decimal, flat_map, map};
-ghost use Rattle.gf_text.specs.PrintedText.{is_below_zero};
 ghost use Rattle.gf_text.specs.VectorText.{entry_text};
 ghost use Rattle.gf_fanfile.specs.FanText.{rays_name};
 ghost use Rattle.gf_fanfile.specs.FanWords.{spaced_entries, spaced_numbers, comment, ray_lines, number_lines, cone_text, told_cone, cone_line, cone_lines, truth_line, dim_line, section, lines_text, section_text, sections_text, front_sections, back_sections, fan_text};
 
 use crate::parts::{FanParts, ListedCone, f_vector, greatest_dim, is_pure, is_simplicial};
-use gf_text::push_number;
+use gf_text::{push_entry, push_number};
 use gf_vec::IntVec;
 use std::alloc::{AllocError, Global};
-
-/// Whether an entry is below zero.
-fn is_below_zero(entry: i128) -> bool
-    ensures { result ≡ is_below_zero entry }
-{
-    entry < 0
-}
-
-/// Adds an entry.
-fn push_entry(out: &mut Vec<u8>, entry: i128) -> Result<(), AllocError>
-    ensures { OnOk result (out.new.items ≡ out.old.items ++ entry_text entry) }
-{
-    if is_below_zero(entry) {
-        out.push(b'-')?;
-    }
-    push_number(out, entry.unsigned_abs())
-}
 
 /// Adds entries, each behind a space.
 fn push_later_entries(out: &mut Vec<u8>, entries: &[i128]) -> Result<(), AllocError>

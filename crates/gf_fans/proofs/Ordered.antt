@@ -60,7 +60,7 @@ strictly key xs s a i j d h l = rises (slice_cmp nat_cmp (key (get_or xs i d)) (
 
 -- ---- lists with different keys, in another order
 
-decide_same : (xs ys : List ℕ) → Decides (pointwise nat_eq xs ys) (xs ≡ ys)
+pub decide_same : (xs ys : List ℕ) → Decides (pointwise nat_eq xs ys) (xs ≡ ys)
 decide_same xs ys = slice_eq-Decides Decides-eqb xs ys _ refl
 
 false_of : (b : Bool) (xs ys : List ℕ) → b ≡ pointwise nat_eq xs ys → xs ≢ ys → b ≡ false

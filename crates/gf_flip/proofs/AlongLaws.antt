@@ -1,5 +1,5 @@
 -- The terms along a vector, one term and one member after another.
--- To cite: selected-none, selected-kept, selected-dropped, along_selected, along_more, along_end, width_at.
+-- To cite: selected-kept, selected-dropped, along_selected, along_more, width_at.
 use Rattle.std.proofs.Common.{◌≡◌, ℕ, zero, suc, ◌+◌, ◌<◌, ◌≤◌, if◌then◌else◌, List, [], ◌∷◌, ◌++◌, length, take, get_or, ℤ, arith, refl, sym, ap, ◌∙◌, subst, inl, inr}
 use Rattle.std.proofs.lemmas.List.{take_more, take_all}
 use Rattle.std.proofs.lemmas.List.Elements.{Contains-append_left, Contains-append_right, Contains-append_cases}
@@ -11,8 +11,9 @@ use Rattle.gf_poly.specs.Marking.{MarkedPolynomial}
 use Rattle.gf_ideal.specs.OrderTable.{AreMultipleApart}
 use Rattle.gf_ideal.proofs.ListLaws.{Contains-cases, Contains-here}
 use Rattle.gf_ideal.proofs.GeneratorLaws.{polys-++}
-use Rattle.gf_initial.specs.Parts.{Matching, IsPartAlong}
+use Rattle.gf_initial.specs.Parts.{IsPartAlong}
 use Rattle.gf_initial.proofs.ClassLaws.{multiple-grading}
+use Rattle.gf_initial.proofs.MatchingLaws.{matched-push}
 use Rattle.gf_flip.specs.Along.{HasNonzero, IsSelected, IsAlong, AreAlong}
 use Rattle.gf_ideal.proofs.CriterionLaws.{not_same}
 use Rattle.gf_poly.proofs.InitialFormLaws.{elsewhere, take-next}
@@ -74,14 +75,6 @@ along_selected a b f g n e d s = record {
 }
 
 -- ---- members
-
--- one place more
-pub matched-push : {A B : Type 0} (R : A → B → Type 0) (xs : List A) (ys : List B) (x : A) (y : B) → Matching R xs ys → R x y →
-    Matching R (xs ++ x ∷ []) (ys ++ y ∷ [])
-matched-push R [] [] x y m r = (r, tt)
-matched-push R [] (z ∷ ys) x y m r = elim m [ ]
-matched-push R (w ∷ xs) [] x y m r = elim m [ ]
-matched-push R (w ∷ xs) (z ∷ ys) x y m r = (m.0, matched-push R xs ys x y m.1 r)
 
 -- and one more
 pub along_more : (a : List ℤ) (bs : List MarkedPolynomial) (b : MarkedPolynomial) (fs : List Terms) (f : Terms) → AreAlong a bs fs →

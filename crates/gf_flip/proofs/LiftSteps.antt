@@ -14,9 +14,9 @@ use Rattle.gf_ideal.proofs.Identities.{one_not_zero}
 use Rattle.gf_ideal.proofs.NormalFormLaws.{normal_form-reached}
 use Rattle.gf_ideal.proofs.ListLaws.{Each-++}
 use Rattle.gf_initial.specs.Lifts.{IsLift, AreLifts}
+use Rattle.gf_initial.proofs.MatchingLaws.{matched-push}
 use Rattle.gf_bases.proofs.DifferenceLaws.{difference, less_zero}
 use Rattle.gf_flip.specs.Lifting.{IsLiftable}
-use Rattle.gf_flip.proofs.AlongLaws.{matched-push}
 
 -- ---- one
 

@@ -17,8 +17,8 @@ use Rattle.gf_division.specs.Autoreduction.{IsKeptForm}
 use Rattle.gf_division.proofs.ReducerLaws.{members_equal}
 use Rattle.gf_division.proofs.StepLaws.{head_length}
 use Rattle.gf_division.proofs.TailLaws.{head_at}
+use Rattle.gf_initial.proofs.MatchingLaws.{matched-push}
 use Rattle.gf_flip.specs.LiftTails.{IsCopy, AreCopies, AreUndivided, HasUndividedTail, HasUndividedTailAt, HasReducedTail}
-use Rattle.gf_flip.proofs.AlongLaws.{matched-push}
 
 -- ---- the terms of a lift
 

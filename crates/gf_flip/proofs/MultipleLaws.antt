@@ -1,10 +1,11 @@
 -- Whether exponents are a multiple of a vector apart, as the code tests it: an exact quotient, then entry by entry.
--- To cite: exact, small_factor, apart_more, apart_end, apart_first, not_apart.
+-- To cite: exact, small_factor, apart_more, apart_end, not_apart.
 use Rattle.std.specs.Prelude.{◌≡◌, ◌≢◌, ◌⊎◌, ℕ, zero, suc, ◌+◌, ◌*◌, ◌<◌, ◌≤◌, ◌^◌, List, [], ◌∷◌, length, get_or, ℤ, pos, ◌+ℤ◌, ◌-ℤ◌, ◌*ℤ◌, unsigned_abs, int_div, int_rem}
 use Rattle.std.proofs.Common.{arith, refl, sym, ap, ◌∙◌, inl, inr, to_z, of_z}
 use Rattle.std.proofs.lemmas.Bool.{cases_lt}
 use Rattle.std.specs.Int.{w128}
 use Rattle.std.proofs.lemmas.Int.{ints, unsigned_abs-mul, quot-rem, rem_below, to_z-of_z, fits_signed_from_abs}
+use Rattle.std.proofs.lemmas.Nat.{mul-le}
 use Rattle.gf_order.specs.Weights.{AreBounded}
 use Rattle.gf_int.proofs.RingLaws.{dv, dn, ◌⊖◌, ◌⊗◌, same as same_number}
 use Rattle.gf_exponents.specs.Exponents.{Exponents, entry}
@@ -30,12 +31,9 @@ exact d a k n e =
     rest : (q r : ℤ) → q *ℤ a +ℤ r ≡ d → (k -ℤ q) *ℤ a ≡ r
     rest q r h = same_number ((dv k ⊖ dv q) ⊗ dv a) (dv k ⊗ dv a ⊖ dv q ⊗ dv a) (omega arith) ∙ omega (arith, ints, h, e)
 
-more : (k z : ℕ) → 1 ≤ z → k ≤ k * z
-more k z l = grind arith
-
 -- and its size
 pub small_factor : (d a k : ℤ) → a ≢ pos 0 → d ≡ k *ℤ a → unsigned_abs k ≤ unsigned_abs d
-small_factor d a k n e = omega (arith, more (unsigned_abs k) (unsigned_abs a) (abs_positive a n), unsigned_abs-mul k a, ap unsigned_abs e)
+small_factor d a k n e = omega (arith, mul-le (unsigned_abs k) 1 (unsigned_abs k) (unsigned_abs a) (omega arith) (abs_positive a n), unsigned_abs-mul k a, ap unsigned_abs e)
 
 -- ---- entry by entry
 

@@ -27,7 +27,7 @@ use Rattle.gf_division.proofs.TailLaws.{irreducible_beside}
 use Rattle.gf_division.proofs.MonicLaws.{monic_already}
 use Rattle.gf_division.proofs.NeededLaws.{Forming, forming-none, forming-more, forming-skipped, forming_end, forming_variables}
 use Rattle.gf_division.proofs.AutoreductionLaws.{Autoreducing, autoreducing, autoreduced_value, autoreduced_arranged, autoreduced_marked, autoreduced_reduced}
-use Rattle.gf_flip.specs.Settling.{IsSettled, IsSettledAt, IsPick, ArePicked, IsKeptWhere, IsPickedFrom, IsReducedForm}
+use Rattle.gf_flip.specs.Settling.{IsSettled, IsSettledAt, IsPick, ArePickFlags, IsKeptWhere, IsPickedFrom, IsReducedForm}
 use Rattle.gf_flip.proofs.TailsInTurn.{by_place}
 
 -- ---- one polynomial
@@ -65,8 +65,8 @@ settled_at bs b i h f v l q m o eh ef a = record { at = λ c p. subst (IsSettled
 
 -- ---- the flags
 
-pub picked-more : (bs : List MarkedPolynomial) (flags new : List Bool) (i : ℕ) (f : Bool) → IsPick bs i f → new ≡ flags ++ f ∷ [] → ArePicked bs flags i → ArePicked bs new (i + 1)
-picked-more bs flags new i f p e h = subst (λ (z : List Bool). ArePicked bs z (i + 1)) (sym e) (record { size = size; at = λ j l. at j (cases_lt j i) l })
+pub picked-more : (bs : List MarkedPolynomial) (flags new : List Bool) (i : ℕ) (f : Bool) → IsPick bs i f → new ≡ flags ++ f ∷ [] → ArePickFlags bs flags i → ArePickFlags bs new (i + 1)
+picked-more bs flags new i f p e h = subst (λ (z : List Bool). ArePickFlags bs z (i + 1)) (sym e) (record { size = size; at = λ j l. at j (cases_lt j i) l })
   where
     longer : (xs : List Bool) → length (xs ++ f ∷ []) ≡ length xs + 1
     longer [] = refl
@@ -93,7 +93,7 @@ pub record AreKeptUp (bs left ks : List MarkedPolynomial) (i : ℕ) : Type 0 whe
 pub kept_up-none : (bs left ks : List MarkedPolynomial) → left ≡ bs → ks ≡ [] → AreKeptUp bs left ks 0
 kept_up-none bs left ks e q = subst (λ (z : List MarkedPolynomial). AreKeptUp bs left z 0) (sym q) (record { rest = e; size = omega (arith, ap length e); forming = forming-none bs; inside = λ k c. absurd (omega (arith, c.1)) })
 
-pub kept_up-more : (bs left next ks new : List MarkedPolynomial) (flags : List Bool) (i : ℕ) (b : MarkedPolynomial) → ArePicked bs flags (length bs) → i < length flags → b ≡ get_or left 0 b → next ≡ remove left 0 →
+pub kept_up-more : (bs left next ks new : List MarkedPolynomial) (flags : List Bool) (i : ℕ) (b : MarkedPolynomial) → ArePickFlags bs flags (length bs) → i < length flags → b ≡ get_or left 0 b → next ≡ remove left 0 →
     IsKeptWhere (get_or flags i false) b ks new → AreKeptUp bs left ks i → AreKeptUp bs next new (i + 1)
 kept_up-more bs left next ks new flags i b p l e n k h = at (get_or flags i false) (p.at i within) k
   where
@@ -125,7 +125,7 @@ kept_up-more bs left next ks new flags i b p l e n k h = at (get_or flags i fals
         one c (inr r) = subst (λ (z : MarkedPolynomial). Contains bs z × IsSettled bs z) r (member_contained bs i b here, g.1.at b here)
     at false g k = subst (λ (z : List MarkedPolynomial). AreKeptUp bs next z (i + 1)) (sym k) (record { rest = after; size = size; forming = forming-skipped bs i ks g h.forming; inside = h.inside })
 
-pub kept_up_end : (bs left ks : List MarkedPolynomial) (flags : List Bool) (i : ℕ) → ArePicked bs flags (length bs) → length flags ≤ i → AreKeptUp bs left ks i → IsPickedFrom bs ks
+pub kept_up_end : (bs left ks : List MarkedPolynomial) (flags : List Bool) (i : ℕ) → ArePickFlags bs flags (length bs) → length flags ≤ i → AreKeptUp bs left ks i → IsPickedFrom bs ks
 kept_up_end bs left ks flags i p l h = record {
   forms = forming_end bs i ks (omega (arith, l, p.size)) h.forming;
   variables = forming_variables bs i ks h.forming;

@@ -1,6 +1,6 @@
 -- Lifts that end once nothing is left along the normal, as the code works them out.
--- To cite: sound_same, reducible_there, SeekingLine, seeking_more, Topping, topping-none, topping_more, topping_less, top_step, shares_at,
--- divides_at, off_more, off_end, top_remainder_at, top_there, top_lift_at, AreTopping, topping_all.
+-- To cite: reducible_there, SeekingLine, seeking_more, Topping, topping-none, topping_more, topping_less, top_step,
+-- shares_at, divides_at, off_more, off_end, top_remainder_at, top_there, top_lift_at, AreTopping, topping_all.
 use Rattle.std.specs.declared.option.Option.{Option}
 use Rattle.std.proofs.Common.{◌≡◌, ℕ, ◌+◌, ◌<◌, ◌≤◌, ◌^◌, true, Some, None, IfSome, List, [], ◌∷◌, ◌++◌, length, take, get_or, Contains, ℤ, pos, ◌+ℤ◌, ◌*ℤ◌, arith, refl, sym, ap, ◌∙◌, subst, inl, inr}
 use Rattle.std.proofs.lemmas.List.{take_more, take_all}
@@ -32,19 +32,16 @@ use Rattle.gf_poly.proofs.PolynomialLaws.{coefficient-same}
 use Rattle.gf_division.specs.Reducers.{IsDivisorAt, IsReducibleFirst}
 use Rattle.gf_division.proofs.DividendLaws.{terms_down, first_head, first_length}
 use Rattle.gf_division.proofs.ReducerLaws.{member_at, members_equal, member_contained, member_variables}
-use Rattle.gf_division.proofs.RuleLaws.{keeps_along}
+use Rattle.gf_division.proofs.RuleLaws.{keeps_along, sound_same}
 use Rattle.gf_division.proofs.StepLaws.{head_length}
 use Rattle.gf_initial.specs.Lifts.{IsTopLift, AreTopLifts}
 use Rattle.gf_bases.proofs.DifferenceLaws.{difference, less_zero, less_summand}
 use Rattle.gf_initial.proofs.ClassLaws.{multiple-grading}
+use Rattle.gf_initial.proofs.MatchingLaws.{matched-push}
 use Rattle.gf_flip.specs.Along.{HasNonzero}
 use Rattle.gf_flip.specs.Tops.{AreOff, IsTopRemainder, IsAlone}
-use Rattle.gf_flip.proofs.AlongLaws.{matched-push}
 
 -- ---- the search
-
-pub sound_same : (n : ℕ) (s t : Split) → joined_terms t ≡ joined_terms s → IsSound n s → IsSound n t
-sound_same n s t e h = record { descending = subst IsDescending (sym e) h.descending; variables = subst (HasVariables n) (sym e) h.variables }
 
 -- the terms are the same after some moves, and sound
 pub record SeekingLine (n : ℕ) (old new : Split) : Type 0 where

@@ -1,5 +1,5 @@
 -- A run that takes the pairs in turn, one step further, and its end: a reduced Gröbner basis.
--- To cite: turn_reducers, taken_start, entered-none, entered-more, entered-skipped, entered-all, turning-start, front_variables, chained_by, turned_on, turning-more, turning-row, turn_end.
+-- To cite: turn_reducers, entered-none, turning-start, chained_by, turned_on, turning-row, turn_end.
 use Rattle.std.proofs.Common.{◌≡◌, ◌≢◌, ◌⊎◌, ℕ, zero, suc, ◌+◌, ◌<◌, ◌≤◌, Bool, true, false, List, [], ◌∷◌, ◌++◌, length, take, Contains, Some, None, IfSome, slice_index_or, arith, refl, sym, ap, ◌∙◌, subst, inl, inr}
 use Rattle.std.specs.Option.{is_some}
 use Rattle.std.specs.declared.option.Option.{Option}
@@ -21,13 +21,13 @@ use Rattle.gf_ideal.specs.WorkLists.{IsOrigin, IsWorkList}
 use Rattle.gf_ideal.proofs.CriteriaLaws.{pair_by_steps, pair_by_product, pair_by_monomials, pair_by_chain, pair_turned, pair_more}
 use Rattle.gf_ideal.proofs.GeneratorLaws.{entered-zero, entered-appended}
 use Rattle.gf_ideal.proofs.KeptForms.{monic_form}
-use Rattle.gf_ideal.proofs.ListLaws.{Contains-last}
 use Rattle.gf_ideal.proofs.ListedTerms.{variables_by_terms}
 use Rattle.gf_ideal.proofs.MembershipLaws.{member-generator, member-trans}
 use Rattle.gf_ideal.proofs.NormalFormLaws.{normal_form-reached}
 use Rattle.gf_ideal.proofs.PieceLaws.{Contains-polys, Contains-marked}
 use Rattle.gf_ideal.proofs.StepLaws.{reached-more}
 use Rattle.gf_ideal.proofs.WorkLaws.{run_basis, work-marked}
+use Rattle.gf_ideal.proofs.DividingLaws.{member_contained}
 use Rattle.gf_division.proofs.MonicLaws.{monic_already}
 use Rattle.gf_division.proofs.StepLaws.{head_length, term_coefficient}
 use Rattle.gf_division.specs.Reducers.{IsDivisorAt}
@@ -35,11 +35,11 @@ use Rattle.gf_division.specs.SPolynomials.{KeepsPairVariables, IsSPolynomialOf}
 use Rattle.gf_buchberger.specs.Leading.{IsComparable, IsLeadingAt}
 use Rattle.gf_buchberger.specs.Jobs.{IsBasisJob}
 use Rattle.gf_buchberger.specs.Runs.{MembersHaveVariables, AreReducers, IsAppendable}
-use Rattle.gf_buchberger.proofs.AppendLaws.{contained_at, marked_greatest, is_marked, member_length}
+use Rattle.gf_buchberger.proofs.AppendLaws.{marked_greatest, is_marked, member_length}
 use Rattle.gf_buchberger.proofs.BasesOfRuns.{IsEnd}
 use Rattle.gf_buchberger.proofs.JobLaws.{ring_variables, run_weight}
 use Rattle.gf_buchberger.proofs.ReducedPairLaws.{AreRead, are_read, variables_each, s_polynomial_is, s_polynomial_variables}
-use Rattle.gf_buchberger.proofs.RunSteps.{in_variables, length-last, contained_old}
+use Rattle.gf_buchberger.proofs.RunSteps.{in_variables, length-last, contained_old, at_old, appended-variables}
 use Rattle.gf_flip.specs.Turns.{ArePairExcused, IsChained, IsMadeFrom, IsGrown, IsTakenIn, IsPairTaken, IsUnderway, IsOfKind, AreTakenInWhere, IsEarlier, IsTurning, AreKeptIn}
 use Rattle.gf_division.proofs.ReducerLaws.{members_equal}
 use Rattle.std.proofs.lemmas.List.Elements.{Contains-push}
@@ -85,17 +85,6 @@ record IsFurtherOn (order : MonomialOrder) (n : ℕ) (fs : List Terms) (f : Term
   reached : Reached (Contains new) f remainder
   settled : IsKept (Contains new) remainder
 
-longer_variables : (n : ℕ) (bs : List MarkedPolynomial) (d : MarkedPolynomial) → MembersHaveVariables n bs → length d.head ≡ n → HasVariables n d.poly → MembersHaveVariables n (bs ++ d ∷ [])
-longer_variables n bs d v h p = record { heads = λ b c. head b (Contains-last bs d b c); polys = λ b c. poly b (Contains-last bs d b c) }
-  where
-    head : (b : MarkedPolynomial) → Contains bs b ⊎ (b ≡ d) → length b.head ≡ n
-    head b (inl c) = v.heads b c
-    head b (inr e) = ap (λ (z : MarkedPolynomial). length z.head) e ∙ h
-
-    poly : (b : MarkedPolynomial) → Contains bs b ⊎ (b ≡ d) → HasVariables n b.poly
-    poly b (inl c) = v.polys b c
-    poly b (inr e) = subst (λ (z : MarkedPolynomial). HasVariables n z.poly) (sym e) p
-
 further_on : (order : MonomialOrder) (n : ℕ) (fs : List Terms) (f : Terms) (old new : List MarkedPolynomial) → IsUnderway order n fs old → IsOrigin fs old f → HasVariables n f →
     IsTakenIn order f old new → IsFurtherOn order n fs f old new
 further_on order n fs f old new u origin v t = at t.left
@@ -108,7 +97,7 @@ further_on order n fs f old new u origin v t = at t.left
       underway = record {
         job = u.job;
         work = IsWorkList.more old f t.r g.member u.work origin steps g.monic g.marked (λ d. t.normal.irreducible g.member.head g.monic.there d);
-        variables = longer_variables n old g.member u.variables (g.head n (t.variables.at n v)) (g.poly n (t.variables.at n v));
+        variables = appended-variables n old g.member u.variables (g.head n (t.variables.at n v)) (g.poly n (t.variables.at n v));
       };
       kept = record { at = λ b c. contained_old old g.member b c };
       size = omega (arith, length-last old g.member);
@@ -206,16 +195,10 @@ turning-row order n fs bs i j l t = record { underway = t.underway; settled = λ
     at p q m (inl s) (inr k) = inr (omega arith, omega arith)
     at p q m (inr s) (inr k) = absurd (omega (arith, s.1))
 
--- members keep their places
-at_before : (bs : List MarkedPolynomial) (d c : MarkedPolynomial) (i : ℕ) → i < length bs → IsAt (bs ++ d ∷ []) i c → IsAt bs i c
-at_before [] d c i l h = absurd (omega arith)
-at_before (a ∷ bs) d c zero l h = record { within = l; is = h.is }
-at_before (a ∷ bs) d c (suc i) l h = record { within = l; is = (at_before bs d c i (omega arith) (record { within = omega (arith, h.within); is = h.is })).is }
-
 before_of_taken : (order : MonomialOrder) (f : Terms) (old new : List MarkedPolynomial) (i : ℕ) (c : MarkedPolynomial) → IsTakenIn order f old new → i < length old → IsAt new i c → IsAt old i c
 before_of_taken order f old new i c t l h = elim t.left [
   | inl z ↦ subst (λ (m : List MarkedPolynomial). IsAt m i c) z.1 h
-  | inr z ↦ at_before old z.1.member c i l (subst (λ (m : List MarkedPolynomial). IsAt m i c) z.1.members h)
+  | inr z ↦ at_old old z.1.member c i l (subst (λ (m : List MarkedPolynomial). IsAt m i c) z.1.members h)
 ]
 
 -- one pair more
@@ -240,8 +223,8 @@ settled_to order n fs bs i j b c t x y h = record { underway = t.underway; settl
 
 -- an excused pair is settled
 excused_pair : (order : MonomialOrder) (n : ℕ) (fs : List Terms) (bs : List MarkedPolynomial) (i j : ℕ) (b c : MarkedPolynomial) → IsUnderway order n fs bs → IsAt bs i b → IsAt bs j c → ArePairExcused b c → IsSettledPair n bs (below_of order) b c
-excused_pair order n fs bs i j b c w x y (inl s) = pair_by_monomials n bs (below_of order) b c (in_variables n bs w.variables) (order-is order).strict (underway_marked order n fs bs w) (contained_at bs i b x) (contained_at bs j c y) s.0 s.1
-excused_pair order n fs bs i j b c w x y (inr s) = pair_by_product n bs (below_of order) b c (in_variables n bs w.variables) (order-is order).strict (underway_marked order n fs bs w) (contained_at bs i b x) (contained_at bs j c y) s
+excused_pair order n fs bs i j b c w x y (inl s) = pair_by_monomials n bs (below_of order) b c (in_variables n bs w.variables) (order-is order).strict (underway_marked order n fs bs w) (member_contained bs i b x) (member_contained bs j c y) s.0 s.1
+excused_pair order n fs bs i j b c w x y (inr s) = pair_by_product n bs (below_of order) b c (in_variables n bs w.variables) (order-is order).strict (underway_marked order n fs bs w) (member_contained bs i b x) (member_contained bs j c y) s
 
 -- the first members, at their places
 at_front : (bs : List MarkedPolynomial) (i k : ℕ) (d : MarkedPolynomial) → IsAt (take i bs) k d → IsAt bs k d × (k < i)
@@ -261,7 +244,7 @@ each-take P (suc i) (x ∷ xs) h = (h.0, each-take P i xs h.1)
 pub front_variables : (n : ℕ) (bs ds : List MarkedPolynomial) (i : ℕ) (b : MarkedPolynomial) → MembersHaveVariables n bs → IsAt bs i b → ds ≡ take i bs → HaveVariables (length b.head) ds
 front_variables n bs ds i b v x e =
     subst (HaveVariables (length b.head)) (sym e) (each-take (λ (d : MarkedPolynomial). HasVariables (length b.head) d.poly) i bs
-    (subst (λ (m : ℕ). HaveVariables m bs) (sym (v.heads b (contained_at bs i b x))) (variables_each n bs v)))
+    (subst (λ (m : ℕ). HaveVariables m bs) (sym (v.heads b (member_contained bs i b x))) (variables_each n bs v)))
 
 -- the member that a search for a divisor found
 pub chained_by : (ds : List MarkedPolynomial) (b c : MarkedPolynomial) (m : Exponents) (o : Option ℕ) → m ≡ join b.head c.head → IfSome o (IsDivisorAt ds m) → is_some o ≡ true → IsChained ds b c
@@ -294,13 +277,13 @@ chained_pair order n fs bs i j b c l t x y h =
     marked = underway_marked order n fs bs t.underway
 
     hb : Contains bs b
-    hb = contained_at bs i b x
+    hb = member_contained bs i b x
 
     hc : Contains bs c
-    hc = contained_at bs j c y
+    hc = member_contained bs j c y
 
     hd : Contains bs d
-    hd = contained_at bs k d f.0
+    hd = member_contained bs k d f.0
 
     lb : length b.head ≡ n
     lb = t.underway.variables.heads b hb
@@ -330,10 +313,10 @@ turned_on order n fs old new i j l m t (IsPairTaken.reduced b c s x y is_s has t
 }
   where
     in_b : Contains old b
-    in_b = contained_at old i b x
+    in_b = member_contained old i b x
 
     in_c : Contains old c
-    in_c = contained_at old j c y
+    in_c = member_contained old j c y
 
     w : IsFurtherOn order n fs s old new
     w = further_on order n fs s old new t.underway (inr (b, c, in_b, in_c, is_s)) (has n t.underway.variables) taken

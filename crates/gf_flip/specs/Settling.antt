@@ -27,7 +27,7 @@ IsPick bs i true = IsNeededAt bs i × IsSettledAt bs i
 IsPick bs i false = IsNeededAt bs i → ⊥
 
 -- the flags tell it of the first i members
-pub record ArePicked (bs : List MarkedPolynomial) (flags : List Bool) (i : ℕ) : Type 0 where
+pub record ArePickFlags (bs : List MarkedPolynomial) (flags : List Bool) (i : ℕ) : Type 0 where
   pub size : length flags ≡ i
   pub at : (j : ℕ) → j < i → IsPick bs j (slice_index_or flags j false)
 

@@ -5,7 +5,7 @@ ghost use Rattle.std.specs.Prelude.{◌<◌, false, length, IfSome, IsTrue};
 ghost use Rattle.gf_poly.specs.Marking.{HaveVariables};
 ghost use Rattle.gf_ideal.specs.Marks.{IsRealisable};
 ghost use Rattle.gf_division.specs.Autoreduction.{ShareSomeVariables};
-ghost use Rattle.gf_flip.specs.Settling.{IsSettledAt, IsPick, ArePicked, IsKeptWhere, IsPickedFrom, IsReducedForm};
+ghost use Rattle.gf_flip.specs.Settling.{IsSettledAt, IsPick, ArePickFlags, IsKeptWhere, IsPickedFrom, IsReducedForm};
 
 use crate::room::with_room;
 use crate::tails::is_reduced;
@@ -46,7 +46,7 @@ fn pick(items: &[Marked], i: usize) -> Option<bool>
 /// Of each member whether it is needed; nothing where a needed one has to be worked on.
 fn picks(alloc: Global, items: &[Marked]) -> Option<Vec<bool>>
     requires { ShareSomeVariables items.now }
-    ensures { IfSome result (λ flags. ArePicked items.now flags.items (length items.now)) }
+    ensures { IfSome result (λ flags. ArePickFlags items.now flags.items (length items.now)) }
 {
     let mut flags = with_room(alloc, items.len())?;
     'members: for i in 0..items.len() {
@@ -74,7 +74,7 @@ fn keep(kept: &mut Vec<Marked>, member: Marked, needed: bool) -> Option<()>
 
 /// The picked members.
 fn picked(alloc: Global, members: Vec<Marked>, flags: &[bool]) -> Option<Vec<Marked>>
-    requires { ArePicked members.items flags.now (length members.items) }
+    requires { ArePickFlags members.items flags.now (length members.items) }
     ensures { IfSome result (λ kept. IsPickedFrom members.items kept.items) }
 {
     let mut rest = members;
@@ -103,7 +103,7 @@ fn autoreduced(alloc: Global, n: u32, members: Vec<Marked>) -> Option<MarkedSet>
 fn arranged(alloc: Global, n: u32, members: Vec<Marked>, flags: &[bool]) -> Option<MarkedSet>
     requires variables { HaveVariables n members.items }
     requires realisable { IsRealisable n members.items }
-    requires picked { ArePicked members.items flags.now (length members.items) }
+    requires picked { ArePickFlags members.items flags.now (length members.items) }
     ensures { IfSome result (IsReducedForm n members.items) }
 {
     let kept = picked(alloc, members, flags)?;

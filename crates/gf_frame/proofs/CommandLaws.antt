@@ -7,7 +7,7 @@ use Rattle.gf_text.specs.declared.error.TextError.{TextError}
 use Rattle.gf_text.specs.declared.error.TextError.TheVariants as errors
 use Rattle.gf_front.specs.declared.refusal.Refusal.{Refusal}
 use Rattle.gf_front.specs.declared.refusal.Refusal.TheVariants as refusals
-use Rattle.gf_front.specs.Kinds.{RefusalKind, kind_of_refusal}
+use Rattle.gf_front.specs.Kinds.{RefusalKind, kind_of_refusal, IsTextKind, IsFormKind}
 use Rattle.gf_items.specs.Checks.{AllHold, FirstFails}
 use Rattle.gf_items.specs.Refusals.{of_text, IsExactRefusal, IsOfNumbers, IsOfTest, TellsSame}
 use Rattle.gf_items.proofs.ReadingLaws.{said, exact_said}
@@ -16,7 +16,7 @@ use Rattle.gf_frame.specs.Seen.{InputSeen, OutputSeen}
 use Rattle.gf_frame.specs.Loading.{HaveInput, HaveInputOnce}
 use Rattle.gf_frame.specs.Runs.{TakesTurns}
 use Rattle.gf_frame.specs.Readings.{AreReadOnce}
-use Rattle.gf_frame.specs.Commands.{Turns, Writing, Command, IsWholeBy, IsOfWriting, IsUnanswered, IsAnswered, IsWholeFor, IsRefusedAtOnce, IsRefusedOn, IsInReach, IsFixed}
+use Rattle.gf_frame.specs.Commands.{Turns, Writing, Command, IsWholeBy, IsKindOfWriting, IsOfWriting, IsUnanswered, IsAnswered, IsWholeFor, IsRefusedAtOnce, IsRefusedOn, IsInReach, IsFixed}
 
 -- ---- what a command owes
 
@@ -68,7 +68,7 @@ pub record IsLawful (c : Command) : Type 0 where
 
 -- ---- kinds
 
-tells_itself : (r : Refusal) → TellsSame r r
+pub tells_itself : (r : Refusal) → TellsSame r r
 tells_itself (refusals.Inconsistent set multipliers) = refl
 tells_itself (refusals.EmptyRegion multipliers) = tt
 tells_itself _ = refl
@@ -100,19 +100,13 @@ text_kind writing (errors.TooManyVariables count) = tt
 text_kind writing (errors.ZeroPolynomial set index) = tt
 text_kind writing errors.Memory = tt
 
+kind_of_exact : {A : Type 0} (writing : Writing A) (k : RefusalKind) → IsTextKind k ⊎ IsFormKind k → IsKindOfWriting writing k
+kind_of_exact writing RefusalKind.text e = tt
+kind_of_exact writing RefusalKind.form e = tt
+kind_of_exact writing _ e = elim e [ inl x ↦ absurd x | inr x ↦ absurd x ]
+
 exact_kind : {A : Type 0} (writing : Writing A) (r : Refusal) → IsExactRefusal r → IsOfWriting writing r
-exact_kind writing (refusals.Syntax s) e = tt
-exact_kind writing (refusals.TooWide at) e = tt
-exact_kind writing (refusals.UnknownName at) e = tt
-exact_kind writing (refusals.TooManyVariables count) e = tt
-exact_kind writing (refusals.NotTermOrder index) e = tt
-exact_kind writing (refusals.Missing section) e = tt
-exact_kind writing (refusals.BadVersion number) e = tt
-exact_kind writing (refusals.OtherRing index) e = tt
-exact_kind writing (refusals.Dimensions left right) e = tt
-exact_kind writing (refusals.ZeroPolynomial set index) e = tt
-exact_kind writing (refusals.NotHomogeneous polynomial first second) e = tt
-exact_kind writing _ e = elim e [ inl x ↦ absurd x | inr x ↦ absurd x ]
+exact_kind writing r e = kind_of_exact writing (kind_of_refusal r) e
 
 module _ (c : Command) (laws : IsLawful c) (texts : List (List ℕ)) where
   -- ---- a refusal before any work

@@ -4,11 +4,12 @@ use Rattle.std.specs.Prelude.{◌≡◌, ◌⊎◌, ℕ, List}
 use Rattle.std.proofs.Common.{refl, subst, inl, inr}
 use Rattle.gf_front.specs.declared.refusal.Refusal.{Refusal}
 use Rattle.gf_front.specs.declared.refusal.Refusal.TheVariants as refusals
+use Rattle.gf_front.specs.Kinds.{RefusalKind, kind_of_refusal, IsTextKind, IsFormKind, IsWorkKind}
 use Rattle.gf_items.specs.Refusals.{IsExactRefusal, IsOfNumbers, IsOfTest, TellsSame, IsOfWork}
 use Rattle.gf_items.proofs.CheckLaws.{AreCheckedOnce}
 use Rattle.gf_frame.specs.Loading.{HaveInputOnce}
 use Rattle.gf_frame.specs.Readings.{AreReadOnce}
-use Rattle.gf_frame.specs.Commands.{Writing, Command, IsWholeBy, GoesAlong, IsOfWriting, IsFixed}
+use Rattle.gf_frame.specs.Commands.{Writing, Command, IsWholeBy, GoesAlong, IsKindOfWriting, IsOfWriting, IsFixed}
 use Rattle.gf_frame.specs.Runs.{TakesTurns}
 use Rattle.gf_frame.proofs.CommandLaws.{TurnsHold, IsLawful}
 
@@ -35,44 +36,32 @@ untested c never = record {
 }
 
 -- a refusal is of one kind
+kinds_apart : (k : RefusalKind) → IsWorkKind k → IsTextKind k ⊎ IsFormKind k → ⊥
+kinds_apart RefusalKind.text w e = w
+kinds_apart RefusalKind.form w e = w
+kinds_apart _ w e = elim e [ inl x ↦ x | inr x ↦ x ]
+
 pub work_apart : (r : Refusal) → IsOfWork r → IsExactRefusal r → ⊥
-work_apart (refusals.WideVector o) w e = elim e [ inl x ↦ x | inr x ↦ x ]
-work_apart (refusals.Overflow o) w e = elim e [ inl x ↦ x | inr x ↦ x ]
-work_apart (refusals.ExponentOverflow o) w e = elim e [ inl x ↦ x | inr x ↦ x ]
-work_apart (refusals.ConeOverflow row op left right) w e = elim e [ inl x ↦ x | inr x ↦ x ]
-work_apart (refusals.PairBudget basis unsettled) w e = elim e [ inl x ↦ x | inr x ↦ x ]
-work_apart (refusals.WideRoot index value) w e = elim e [ inl x ↦ x | inr x ↦ x ]
-work_apart (refusals.NotReduced set polynomial term) w e = elim e [ inl x ↦ x | inr x ↦ x ]
-work_apart (refusals.NotBasis set first second remainder) w e = elim e [ inl x ↦ x | inr x ↦ x ]
-work_apart (refusals.Inconsistent set multipliers) w e = elim e [ inl x ↦ x | inr x ↦ x ]
-work_apart (refusals.NotAFan first second) w e = elim e [ inl x ↦ x | inr x ↦ x ]
-work_apart (refusals.BadRay number) w e = elim e [ inl x ↦ x | inr x ↦ x ]
-work_apart (refusals.BadCertificate cone) w e = elim e [ inl x ↦ x | inr x ↦ x ]
-work_apart (refusals.NotListed side index remainder) w e = elim e [ inl x ↦ x | inr x ↦ x ]
-work_apart (refusals.EmptyRegion multipliers) w e = elim e [ inl x ↦ x | inr x ↦ x ]
-work_apart (refusals.ListLimit written) w e = elim e [ inl x ↦ x | inr x ↦ x ]
-work_apart refusals.Memory w e = elim e [ inl x ↦ x | inr x ↦ x ]
-work_apart _ w e = absurd w
+work_apart r w e = kinds_apart (kind_of_refusal r) w e
+
+-- only the limit of a list is of this kind
+abbrev IsLimitKind : RefusalKind → Type 0
+IsLimitKind RefusalKind.limit = Unit {0}
+IsLimitKind _ = ⊥
+
+limit_of : (r : Refusal) → IsLimitKind (kind_of_refusal r) → (most : ℕ) × (r ≡ refusals.ListLimit most)
+limit_of (refusals.ListLimit most) e = (most, refl)
+limit_of _ e = absurd e
+
+kind_of_work : {A : Type 0} (writing : Writing A) (k : RefusalKind) → IsWorkKind k → (IsLimitKind k → GoesAlong writing) → IsKindOfWriting writing k
+kind_of_work writing RefusalKind.words w n = absurd w
+kind_of_work writing RefusalKind.outside w n = absurd w
+kind_of_work writing RefusalKind.limit w n = n tt
+kind_of_work writing _ w n = tt
 
 -- a refusal of the work; of a list at its limit only where it is written as it goes
 pub writing_kind : {A : Type 0} (writing : Writing A) (r : Refusal) → IsOfWork r → ((most : ℕ) → r ≡ refusals.ListLimit most → GoesAlong writing) → IsOfWriting writing r
-writing_kind writing (refusals.WideVector o) w n = tt
-writing_kind writing (refusals.Overflow o) w n = tt
-writing_kind writing (refusals.ExponentOverflow o) w n = tt
-writing_kind writing (refusals.ConeOverflow row op left right) w n = tt
-writing_kind writing (refusals.PairBudget basis unsettled) w n = tt
-writing_kind writing (refusals.WideRoot index value) w n = tt
-writing_kind writing (refusals.NotReduced set polynomial term) w n = tt
-writing_kind writing (refusals.NotBasis set first second remainder) w n = tt
-writing_kind writing (refusals.Inconsistent set multipliers) w n = tt
-writing_kind writing (refusals.NotAFan first second) w n = tt
-writing_kind writing (refusals.BadRay number) w n = tt
-writing_kind writing (refusals.BadCertificate cone) w n = tt
-writing_kind writing (refusals.NotListed side index remainder) w n = tt
-writing_kind writing (refusals.EmptyRegion multipliers) w n = tt
-writing_kind writing (refusals.ListLimit written) w n = n written refl
-writing_kind writing refusals.Memory w n = tt
-writing_kind writing _ w n = absurd w
+writing_kind writing r w n = kind_of_work writing (kind_of_refusal r) w (λ e. let l = limit_of r e in n l.0 l.1)
 
 -- one that takes no turns owes none
 no_turns : {A : Type 0} (IsCause : A → Refusal → Type 0) (IsWithin : A → Type 0) (writing : Writing A) → (TakesTurns writing → ⊥) → TurnsHold IsCause IsWithin writing

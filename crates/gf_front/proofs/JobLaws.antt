@@ -1,13 +1,14 @@
 -- Words that the table has a match for name one of its commands, each of whose options holds what it takes.
--- To cite: parsed_as, job_is, no_match, within_limits, choices_hold, plain_job, with_its_options. The rest are steps.
-use Rattle.std.proofs.Common.{◌≡◌, ◌≤◌, ℕ, Bool, true, false, not, ◌&&◌, ◌||◌, cond, List, [], ◌∷◌, ◌++◌, Option, Some, None, IfSome, is_some, codes, map, inl, inr, arith, refl, sym, ap, ◌∙◌, subst}
+-- To cite: parsed_as, job_is, no_match, within_limits, choices_hold. The rest are steps.
+use Rattle.std.proofs.Common.{◌≡◌, ◌≤◌, ℕ, Bool, true, false, not, ◌&&◌, ◌||◌, cond, List, [], ◌∷◌, ◌++◌, Option, Some, None, is_some, codes, map, inl, inr, arith, refl, sym, ap, ◌∙◌, subst}
 use Rattle.std.specs.Prelude.{min, option_map, option_and_then}
 use Rattle.std.specs.List.{find, list_all, list_any}
 use Rattle.std.specs.Str.{bytes_eq}
 use Rattle.std.proofs.lemmas.Slice.Eq.{bytes_eq-Decides}
+use Rattle.std.proofs.lemmas.Bool.{and_parts, or_parts}
 use Rattle.clap.specs.declared.error.Error.{Error}
 use Rattle.clap.specs.declared.error.kind.ErrorKind.TheVariants as kinds
-use Rattle.clap.specs.Words.{App, kind_of, HasMatchesOf, Row, Rule, Shape, Text, built, fault_of, is_simple_and_free, one_of, subcommand_name_of, subcommand_rows_of}
+use Rattle.clap.specs.Words.{App, kind_of, HasMatchesOf, Row, Rule, Shape, Text, built, fault_of, is_simple_and_free, subcommand_name_of, subcommand_rows_of}
 use Rattle.clap.specs.declared.parser.matches.ArgMatches.{ArgMatches}
 use Rattle.clap.specs.declared.parser.matches.ArgMatches.TheViews.{out-ArgMatches}
 use Rattle.clap.specs.Facts.{explicit_source}
@@ -18,14 +19,13 @@ use Rattle.clap.specs.Walk.{answers_to, nothing_held, walk, rows_after}
 use Rattle.clap.specs.Simple.{argument_words, built_leaf, entered, filled, filled_from, index_after, inherited, label_of, marked_built, names_of, with_index, with_leaf_noted}
 use Rattle.clap.specs.Faults.{check_fault, entered_fault}
 use Rattle.gf_front.specs.declared.command_line.Job.{Job}
-use Rattle.gf_front.specs.declared.command_line.Job.TheVariants as jobs
 use Rattle.gf_front.specs.declared.choice.Choice.{Choice}
 use Rattle.gf_front.specs.declared.choice.Choice.TheVariants as choices
 use Rattle.gf_front.specs.declared.plain.PlainCommand.{PlainCommand}
-use Rattle.gf_front.specs.Table.{Entry, table, commands, with_options, plain_commands, plain_named, rule, is_needed, shape, most_pairs, most_workers, most_number, usual_pairs, number_of, buchberger, bases, plain, leading_terms, groebner_cone, weight_vector, to_polyhedral_fan, tropical_intersection, fan_common_refinement, generated, saturation, interactive}
+use Rattle.gf_front.specs.Table.{Entry, table, commands, with_options, plain_commands, rule, is_needed, shape, most_pairs, most_workers, most_ideal, usual_pairs, number_of, buchberger, bases, plain, leading_terms, groebner_cone, weight_vector, to_polyhedral_fan, tropical_intersection, fan_common_refinement, generated, saturation, interactive}
 use Rattle.gf_front.specs.Jobs.{HasMatch, HasNumbersInRange, IsJobOfMatch, match_of, job_in, job_of}
 use Rattle.gf_front.specs.Options.{HoldsChoice, HoldChoices, LiesBetween, NamesEntry, IsCommand}
-use Rattle.gf_front.proofs.MatchLaws.{Enters, accepted, both, entered_rows, level_rows, rows_pass}
+use Rattle.gf_front.proofs.MatchLaws.{Enters, accepted, entered_rows, level_rows, rows_pass}
 use Rattle.gf_front.proofs.OptionLaws.{is_flag, is_number, is_text, number_within, limit_within}
 
 -- ---- the command
@@ -78,10 +78,6 @@ none_lacks s rows e =
 own_name : (b rest : Bool) → (not b && rest) ≡ true → (b ≡ false) × (rest ≡ true)
 own_name true rest e = cc
 own_name false rest e = (refl, e)
-
-either : (a b : Bool) → (a || b) ≡ false → (a ≡ false) × (b ≡ false)
-either true b e = cc
-either false b e = (refl, e)
 
 -- ---- the options of a command
 
@@ -191,7 +187,7 @@ choices_held : (c : List Rule) (os : List (Text × Choice)) (i : ℕ) (rows : Li
     → rows_pass c rows ≡ true → lacks (built_from i os) rows ≡ false → HoldChoices os rows
 choices_held c [] i rows own ok there = tt
 choices_held c (o ∷ os) i rows own ok there =
-    let p = either (is_needed o.1 && not (is_given o.0 rows)) (lacks (built_from (index_after i (filled (listed_rule o))) os) rows) there in (
+    let p = or_parts (is_needed o.1 && not (is_given o.0 rows)) (lacks (built_from (index_after i (filled (listed_rule o))) os) rows) there in (
       choice_held c o.0 o.1 rows (own o (IsOneOf.at_head os)) ok p.0,
       choices_held c os (index_after i (filled (listed_rule o))) rows (λ x among. own x (IsOneOf.behind o os among)) ok p.1,
     )
@@ -226,7 +222,7 @@ entry_found [] p m s apart found name rows there = cc
 entry_found (e ∷ es) p m s apart found name rows there = by (p (as_built (shape e))) found (λ rest. entry_found es p m s each.1 rest name rows there)
   where
     each : (are_apart e.options ≡ true) × (have_options_apart es ≡ true)
-    each = both (are_apart e.options) (have_options_apart es) apart
+    each = and_parts (are_apart e.options) (have_options_apart es) apart
 
     by : (b : Bool) → cond b (Some (as_built (shape e))) (find p (map (λ f. as_built (shape f)) es)) ≡ Some s → (find p (map (λ f. as_built (shape f)) es) ≡ Some s → NamesEntry es m) → NamesEntry (e ∷ es) m
     by true here later =
@@ -241,10 +237,10 @@ other_name : (es : List Entry) (name : Text) (m : Text × List Row) → list_any
 other_name [] name m d h e = h
 other_name (f ∷ es) name m d (inl h) e =
     let yes = (bytes_eq-Decides name f.name).1 (sym e ∙ h.0) in
-    let no = (either (bytes_eq name f.name) (list_any (λ (g : Entry). bytes_eq name g.name) es) d).0 in
+    let no = (or_parts (bytes_eq name f.name) (list_any (λ (g : Entry). bytes_eq name g.name) es) d).0 in
     let none : true ≡ false = sym yes ∙ no in
     cc
-other_name (f ∷ es) name m d (inr h) e = other_name es name m (either (bytes_eq name f.name) (list_any (λ (g : Entry). bytes_eq name g.name) es) d).1 h e
+other_name (f ∷ es) name m d (inr h) e = other_name es name m (or_parts (bytes_eq name f.name) (list_any (λ (g : Entry). bytes_eq name g.name) es) d).1 h e
 
 -- the numbers of its job are in their ranges
 limits_of : (es : List Entry) (m : Text × List Row) (job : Job) → AllKeepRanges es → have_own_names es ≡ true → NamesEntry es m → job_in es m ≡ Some job → HasNumbersInRange job
@@ -291,7 +287,7 @@ bases_keeps rows h =
 
 generated_keeps : (rows : List Row) → HoldChoices generated.options rows → HasNumbersInRange (generated.job rows)
 generated_keeps rows h =
-    let k = number_within (codes "number") 0 most_number 0 rows h.0.0.1 (omega arith) (omega arith) in
+    let k = number_within (codes "number") 0 most_ideal 0 rows h.0.0.1 (omega arith) (omega arith) in
     let l = number_within (codes "limit") 1 most_pairs 1000 rows h.1.0.1 (omega arith) (omega arith) in
     let p = pairs_within rows h.1.1.0.1 in
     let w = number_within (codes "workers") 1 most_workers 1 rows h.1.1.1.0.1 (omega arith) (omega arith) in
@@ -351,33 +347,6 @@ pub choices_hold : (e : Entry) (m : Text × List Row) → find (λ f. bytes_eq e
 choices_hold e m found h same = entry_holds commands e m own_names found h same
 
 -- ---- the job of a name
-
--- a command without options has its job
-plain_job_in : (cs : List (Text × PlainCommand)) (es : List Entry) (m : Text × List Row) (k : PlainCommand) → plain_named m.0 cs ≡ Some k → job_in (map plain cs ++ es) m ≡ Some (jobs.Plain k)
-plain_job_in [] es m k named = cc
-plain_job_in (c ∷ cs) es m k named = by (bytes_eq m.0 c.0) named (plain_job_in cs es m k)
-  where
-    by : (b : Bool) → cond b (Some c.1) (plain_named m.0 cs) ≡ Some k → (plain_named m.0 cs ≡ Some k → job_in (map plain cs ++ es) m ≡ Some (jobs.Plain k))
-        → cond b (Some (jobs.Plain c.1)) (job_in (map plain cs ++ es) m) ≡ Some (jobs.Plain k)
-    by true here later = let same : c.1 ≡ k = cc in ap (λ x. Some (jobs.Plain x)) same
-    by false here later = later here
-
-pub plain_job : (m : Text × List Row) (k : PlainCommand) → plain_named m.0 plain_commands ≡ Some k → job_of m ≡ Some (jobs.Plain k)
-plain_job m k named = plain_job_in plain_commands with_options m k named
-
--- any other command has options
-other_entry : (cs : List (Text × PlainCommand)) (es : List Entry) (m : Text × List Row) → plain_named m.0 cs ≡ None → NamesEntry (map plain cs ++ es) m → NamesEntry es m
-other_entry [] es m none h = h
-other_entry (c ∷ cs) es m none h = by (bytes_eq m.0 c.0) refl none h (other_entry cs es m)
-  where
-    by : (b : Bool) → bytes_eq m.0 c.0 ≡ b → cond b (Some c.1) (plain_named m.0 cs) ≡ None → NamesEntry (plain c ∷ (map plain cs ++ es)) m
-        → (plain_named m.0 cs ≡ None → NamesEntry (map plain cs ++ es) m → NamesEntry es m) → NamesEntry es m
-    by true is here k later = cc
-    by false is here (inl k) later = absurd (let yes = (bytes_eq-Decides m.0 c.0).1 k.0 in let none : false ≡ true = sym is ∙ yes in cc)
-    by false is here (inr k) later = later here k
-
-pub with_its_options : (m : Text × List Row) → plain_named m.0 plain_commands ≡ None → IsCommand m → NamesEntry with_options m
-with_its_options m none h = other_entry plain_commands with_options m none h
 
 -- the rows of each command hold what its options take
 command_of : (m : Text × List Row) → Enters program m → IsCommand m

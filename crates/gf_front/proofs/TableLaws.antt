@@ -11,7 +11,7 @@ use Rattle.clap.specs.declared.builder.command.Command.{Command}
 use Rattle.clap.specs.declared.builder.command.Command.TheViews.{out-Command}
 use Rattle.gf_front.specs.declared.choice.Choice.{Choice}
 use Rattle.gf_front.specs.Table.{rule, shape_with}
-use Rattle.gf_front.specs.Choices.{choice_of, choices_of, listed_shape, plain_shape}
+use Rattle.gf_front.specs.Choices.{named_choice, choices_of, listed_shape, plain_shape}
 use Rattle.gf_front.specs.declared.plain.PlainCommand.{PlainCommand}
 
 -- one more option
@@ -27,7 +27,7 @@ pub one_listed : (c d : Command) (a : Arg) (name : Text) (xs : List (Bor Text ×
     → rule_of a ≡ rule (get_or xs i x).0.now (get_or xs i x).1
     → shape_of c ≡ shape_with name (choices_of (take i xs)) → shape_of d ≡ shape_with name (choices_of (take (i + 1) xs))
 one_listed c d a name xs i x l adds local is so =
-    one_more c d a name (choices_of (take i xs)) (choice_of (get_or xs i x)) adds local is so ∙ ap (shape_with name) (sym (map_more choice_of xs i x l))
+    one_more c d a name (choices_of (take i xs)) (named_choice (get_or xs i x)) adds local is so ∙ ap (shape_with name) (sym (map_more named_choice xs i x l))
 
 -- which isn't global
 pub still_local : (c d : Command) (a : Arg) → AddsArg c a d → a.global ≡ false → (out-Command c).has_globals ≡ false → (out-Command d).has_globals ≡ false

@@ -7,12 +7,12 @@ use Rattle.gf_front.specs.declared.plain.PlainCommand.{PlainCommand}
 use Rattle.gf_front.specs.Table.{shape_with}
 
 -- options with their names
-abbrev pub choice_of : Bor Text × Choice → Text × Choice
-choice_of o = (o.0.now, o.1)
+abbrev pub named_choice : Bor Text × Choice → Text × Choice
+named_choice o = (o.0.now, o.1)
 
 -- so with each of them
 abbrev pub choices_of : List (Bor Text × Choice) → List (Text × Choice)
-choices_of = map choice_of
+choices_of = map named_choice
 
 -- a command with its options
 abbrev pub listed_shape : Bor Text × Bor (List (Bor Text × Choice)) → Shape

@@ -8,7 +8,7 @@ use Rattle.std.specs.Str.{bytes_eq}
 use Rattle.clap.specs.Words.{Row, Text, fault_of, subcommand_of}
 use Rattle.gf_front.specs.declared.command_line.Job.{Job}
 use Rattle.gf_front.specs.declared.command_line.Job.TheVariants as jobs
-use Rattle.gf_front.specs.Table.{Entry, table, commands, most_pairs, most_workers, most_number}
+use Rattle.gf_front.specs.Table.{Entry, table, commands, most_pairs, most_workers, most_ideal}
 
 -- ---- jobs
 
@@ -27,7 +27,7 @@ HasNumbersInRange (jobs.Buchberger o) = (1 ≤ o.pairs) × (o.pairs ≤ most_pai
 HasNumbersInRange (jobs.Bases o) =
     IfSome o.limit (λ n. (1 ≤ n) × (n ≤ most_pairs)) × (1 ≤ o.pairs) × (o.pairs ≤ most_pairs) × (1 ≤ o.workers) × (o.workers ≤ most_workers)
 HasNumbersInRange (jobs.Generated o) =
-    (o.number ≤ most_number) × (1 ≤ o.limit) × (o.limit ≤ most_pairs) × (1 ≤ o.pairs) × (o.pairs ≤ most_pairs) × (1 ≤ o.workers) × (o.workers ≤ most_workers)
+    (o.number ≤ most_ideal) × (1 ≤ o.limit) × (o.limit ≤ most_pairs) × (1 ≤ o.pairs) × (o.pairs ≤ most_pairs) × (1 ≤ o.workers) × (o.workers ≤ most_workers)
 HasNumbersInRange (jobs.Saturation o) = (1 ≤ o.pairs) × (o.pairs ≤ most_pairs)
 HasNumbersInRange (jobs.Interactive o) = (1 ≤ o.pairs) × (o.pairs ≤ most_pairs)
 HasNumbersInRange _ = Unit {0}

@@ -52,14 +52,17 @@ kind_of_refusal refusals.Memory = RefusalKind.memory
 
 -- ---- what is said of kinds
 
+-- a text has a first offending place
 abbrev pub IsTextKind : RefusalKind → Type 0
 IsTextKind RefusalKind.text = Unit {0}
 IsTextKind _ = ⊥
 
+-- what is read isn't of the form that is needed
 abbrev pub IsFormKind : RefusalKind → Type 0
 IsFormKind RefusalKind.form = Unit {0}
 IsFormKind _ = ⊥
 
+-- it fails a test that takes work
 abbrev pub IsTestKind : RefusalKind → Type 0
 IsTestKind RefusalKind.test = Unit {0}
 IsTestKind _ = ⊥

@@ -216,15 +216,15 @@ fan_common_refinement = record {
 }
 
 -- the greatest number that stands for an ideal
-abbrev pub most_number : ℕ
-most_number = 2147483646
+abbrev pub most_ideal : ℕ
+most_ideal = 2147483646
 
 -- `_generated` with its options
 abbrev pub generated : Entry
 generated = record {
   name = codes "_generated";
   options =
-      (codes "number", choices.BareNumber 0 most_number)
+      (codes "number", choices.BareNumber 0 most_ideal)
       ∷ (codes "limit", an_amount)
       ∷ (codes "pairs", an_amount)
       ∷ (codes "workers", choices.Number 1 most_workers)

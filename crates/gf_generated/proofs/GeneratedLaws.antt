@@ -18,24 +18,24 @@ use Rattle.gf_ideal.proofs.Identities.{one_not_zero}
 use Rattle.gf_ideal.proofs.ListLaws.{contained_each}
 use Rattle.gf_binomials.specs.Binomials.{indicator, IsBinomial}
 use Rattle.gf_binomials.proofs.MonomialLaws.{neg-zero}
-use Rattle.gf_generated.specs.Generated.{next, number, rest, in_order, difference, generated}
+use Rattle.gf_generated.specs.Generated.{next, number_after, rest_by_three, in_order, difference, generated_set}
 use Rattle.gf_generated.specs.Laws.{GeneratorsAreBinomials}
 
 -- ---- numbers
 
-number_zero : (k : ℕ) → number k 0 ≡ k
-unfolding number
+number_zero : (k : ℕ) → number_after k 0 ≡ k
+unfolding number_after
 number_zero k = refl
 
-number_suc : (k i : ℕ) → number k (suc i) ≡ next (number k i)
-unfolding number
+number_suc : (k i : ℕ) → number_after k (suc i) ≡ next (number_after k i)
+unfolding number_after
 number_suc k i = refl
 
-pub number_none : (k t i : ℕ) → t ≡ k → i ≡ 0 → t ≡ number k i
-number_none k t i e z = e ∙ sym (number_zero k) ∙ ap (number k) (sym z)
+pub number_none : (k t i : ℕ) → t ≡ k → i ≡ 0 → t ≡ number_after k i
+number_none k t i e z = e ∙ sym (number_zero k) ∙ ap (number_after k) (sym z)
 
-pub number_more : (k i t u : ℕ) → t ≡ number k i → u ≡ next t → u ≡ number k (i + 1)
-number_more k i t u e q = let s : suc i ≡ i + 1 = omega arith in q ∙ ap next e ∙ sym (number_suc k i) ∙ ap (number k) s
+pub number_more : (k i t u : ℕ) → t ≡ number_after k i → u ≡ next t → u ≡ number_after k (i + 1)
+number_more k i t u e q = let s : suc i ≡ i + 1 = omega arith in q ∙ ap next e ∙ sym (number_suc k i) ∙ ap (number_after k) s
 
 pub next_below : (t : ℕ) → next t < 2147483647
 next_below t = omega arith
@@ -106,42 +106,42 @@ in_order-binomial Greater x y = record { first = Some x; second = Some y; binomi
 difference-nonzero : (x y : Exponents) (i : ℕ) → entry x i ≢ entry y i → difference x y ≢ []
 difference-nonzero x y i n = in_order-nonzero (deglex x y) (plus_term x) (minus_term y) (λ e. n (ap (λ z. entry z i) (equal_same x y e)))
 
-each_binomial : (k : ℕ) → Each IsBinomial (generated k)
+each_binomial : (k : ℕ) → Each IsBinomial (generated_set k)
 each_binomial k = (in_order-binomial _ _ _, (in_order-binomial _ _ _, (in_order-binomial _ _ _, tt)))
 
-each_variables : (k : ℕ) → Each (HasVariables 4) (generated k)
+each_variables : (k : ℕ) → Each (HasVariables 4) (generated_set k)
 each_variables k = (in_order-variables _ 4 _ _ refl refl, (in_order-variables _ 4 _ _ refl refl, (in_order-variables _ 4 _ _ refl refl, tt)))
 
 -- the first monomial of each has a variable that the second hasn't
 some_more : (a : ℕ) → 1 + a ≢ 0
 some_more a e = omega (arith, e)
 
-each_nonzero : (k : ℕ) → Each (λ f. f ≢ []) (generated k)
+each_nonzero : (k : ℕ) → Each (λ f. f ≢ []) (generated_set k)
 each_nonzero k = (
-  difference-nonzero ((1 + rest k 1) ∷ 0 ∷ rest k 2 ∷ rest k 3 ∷ []) (0 ∷ (1 + rest k 4) ∷ 0 ∷ 0 ∷ []) 0 (some_more (rest k 1)),
+  difference-nonzero ((1 + rest_by_three k 1) ∷ 0 ∷ rest_by_three k 2 ∷ rest_by_three k 3 ∷ []) (0 ∷ (1 + rest_by_three k 4) ∷ 0 ∷ 0 ∷ []) 0 (some_more (rest_by_three k 1)),
   (
-    difference-nonzero (rest k 7 ∷ (1 + rest k 5) ∷ 0 ∷ rest k 6 ∷ []) (0 ∷ 0 ∷ (1 + rest k 8) ∷ 0 ∷ []) 1 (some_more (rest k 5)),
-    (difference-nonzero (rest k 10 ∷ rest k 11 ∷ (1 + rest k 9) ∷ 0 ∷ []) (0 ∷ 0 ∷ 0 ∷ (1 + rest k 12) ∷ []) 2 (some_more (rest k 9)), tt),
+    difference-nonzero (rest_by_three k 7 ∷ (1 + rest_by_three k 5) ∷ 0 ∷ rest_by_three k 6 ∷ []) (0 ∷ 0 ∷ (1 + rest_by_three k 8) ∷ 0 ∷ []) 1 (some_more (rest_by_three k 5)),
+    (difference-nonzero (rest_by_three k 10 ∷ rest_by_three k 11 ∷ (1 + rest_by_three k 9) ∷ 0 ∷ []) (0 ∷ 0 ∷ 0 ∷ (1 + rest_by_three k 12) ∷ []) 2 (some_more (rest_by_three k 9)), tt),
   ),
 )
 
 -- ---- two of them
 
-zero_stands_for : generated 0 ≡
+zero_stands_for : generated_set 0 ≡
     difference (1 ∷ 0 ∷ 0 ∷ 0 ∷ []) (0 ∷ 1 ∷ 0 ∷ 0 ∷ []) ∷ difference (0 ∷ 1 ∷ 0 ∷ 0 ∷ []) (0 ∷ 0 ∷ 1 ∷ 0 ∷ []) ∷ difference (0 ∷ 0 ∷ 1 ∷ 0 ∷ []) (0 ∷ 0 ∷ 0 ∷ 1 ∷ []) ∷ []
-unfolding number
+unfolding number_after
 zero_stands_for = refl
 
-one_stands_for : generated 1 ≡
+one_stands_for : generated_set 1 ≡
     difference (2 ∷ 0 ∷ 0 ∷ 0 ∷ []) (0 ∷ 2 ∷ 0 ∷ 0 ∷ []) ∷ difference (2 ∷ 2 ∷ 0 ∷ 2 ∷ []) (0 ∷ 0 ∷ 3 ∷ 0 ∷ []) ∷ difference (2 ∷ 1 ∷ 3 ∷ 0 ∷ []) (0 ∷ 0 ∷ 0 ∷ 3 ∷ []) ∷ []
-unfolding number
+unfolding number_after
 one_stands_for = refl
 
 pub generators_are_binomials : GeneratorsAreBinomials
 generators_are_binomials = record {
-  binomials = λ k f c. contained_each IsBinomial (generated k) (each_binomial k) f c;
-  variables = λ k f c. contained_each (HasVariables 4) (generated k) (each_variables k) f c;
-  nonzero = λ k f c. contained_each (λ f. f ≢ []) (generated k) (each_nonzero k) f c;
+  binomials = λ k f c. contained_each IsBinomial (generated_set k) (each_binomial k) f c;
+  variables = λ k f c. contained_each (HasVariables 4) (generated_set k) (each_variables k) f c;
+  nonzero = λ k f c. contained_each (λ f. f ≢ []) (generated_set k) (each_nonzero k) f c;
   zero = zero_stands_for;
   one = one_stands_for;
 }

@@ -1,7 +1,7 @@
 //! The generators that a number stands for.
 ghost use Rattle.std.specs.Prelude.{◌≡◌, ◌<◌, ◌≤◌, All, IfOk};
 ghost use Rattle.gf_frac.specs.Fraction.{neg_ℚ, one_ℚ};
-ghost use Rattle.gf_generated.specs.Generated.{number, rest, in_order, difference, generated};
+ghost use Rattle.gf_generated.specs.Generated.{number_after, rest_by_three, in_order, difference, generated_set};
 
 use gf_frac::Frac;
 use gf_poly::{Mono, Poly, Term};
@@ -11,7 +11,7 @@ use std::cmp::Ordering;
 /// The number so many steps behind `first`.
 fn number_behind(first: u64, steps: u64) -> u64
     requires { first < 2147483647 }
-    ensures value { result ≡ number first steps }
+    ensures value { result ≡ number_after first steps }
     ensures below { result < 2147483647 }
 {
     let mut at = first;
@@ -24,7 +24,7 @@ fn number_behind(first: u64, steps: u64) -> u64
 /// The rest by 3 of the number so many steps behind `first`.
 fn rest(first: u64, steps: u64) -> u32
     requires { first < 2147483647 }
-    ensures value { result ≡ rest first steps }
+    ensures value { result ≡ rest_by_three first steps }
     ensures small { result ≤ 2 }
 {
     (number_behind(first, steps) % 3) as u32
@@ -88,7 +88,7 @@ fn difference(alloc: Global, first: [u32; 4], second: [u32; 4]) -> Result<Poly, 
 /// Want of memory alone.
 pub fn generators(alloc: Global, first: u64) -> Result<Vec<Poly>, AllocError>
     requires { first < 2147483647 }
-    ensures { IfOk result (λ fs. fs.items ≡ generated first) }
+    ensures { IfOk result (λ fs. fs.items ≡ generated_set first) }
 {
     let f = difference(
         alloc,

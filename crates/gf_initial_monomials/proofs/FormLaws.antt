@@ -7,13 +7,8 @@ use Rattle.gf_poly.specs.InitialForms.{IsInitialForm}
 use Rattle.gf_ideal.proofs.ListLaws.{Contains-last}
 use Rattle.gf_buchberger.specs.Jobs.{HaveRingVariables}
 use Rattle.gf_initial.specs.Parts.{Matching, IsInitialPart}
+use Rattle.gf_initial.proofs.MatchingLaws.{matched-push}
 use Rattle.gf_initial_monomials.specs.Outcomes.{AreFormsAt}
-
-matching_last : {A B : Type 0} (R : A → B → Type 0) (xs : List A) (ys : List B) (x : A) (y : B) → Matching R xs ys → R x y → Matching R (xs ++ x ∷ []) (ys ++ y ∷ [])
-matching_last R [] [] x y h r = (r, tt)
-matching_last R [] (z ∷ ys) x y h r = elim h [ ]
-matching_last R (w ∷ xs) [] x y h r = elim h [ ]
-matching_last R (w ∷ xs) (z ∷ ys) x y h r = (h.0, matching_last R xs ys x y h.1 r)
 
 polys_last : (ps : List MarkedPolynomial) (p : MarkedPolynomial) → polys (ps ++ p ∷ []) ≡ polys ps ++ p.poly ∷ []
 polys_last [] p = refl
@@ -27,7 +22,7 @@ pub forms_more : (v : List ℤ) (bs : List MarkedPolynomial) (i : ℕ) (b : Mark
 forms_more v bs i b f fs next l e h q a = record {
   parts = a.parts ++ p ∷ [];
   are_parts = subst (λ (z : List MarkedPolynomial). Matching (IsInitialPart v) z (a.parts ++ p ∷ [])) (sym (take_more bs i b l ∙ ap (λ (c : MarkedPolynomial). take i bs ++ c ∷ []) (sym e)))
-      (matching_last (IsInitialPart v) (take i bs) a.parts b p a.are_parts (record { head = refl; form = h }));
+      (matched-push (IsInitialPart v) (take i bs) a.parts b p a.are_parts (record { head = refl; form = h }));
   polys_are = polys_last a.parts p ∙ ap (λ (z : List Terms). z ++ f ∷ []) a.polys_are ∙ sym q;
 }
   where

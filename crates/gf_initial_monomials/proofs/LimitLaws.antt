@@ -14,7 +14,7 @@ use Rattle.gf_rays.specs.declared.faces.Face.{Face}
 use Rattle.gf_initial_monomials.specs.declared.error.InitialError.{InitialError}
 use Rattle.gf_initial_monomials.specs.declared.error.InitialError.TheVariants.{Cone, Wide, Entry, Saturation, Memory}
 use Rattle.gf_initial_monomials.specs.Outcomes.{AreFormsAt, PassesAt, vector_of}
-use Rattle.gf_initial_monomials.specs.Refusals.{IsVectorRefusal, IsRefusedAt, IsFaceRefusal, IsConeRefusal}
+use Rattle.gf_initial_monomials.specs.Refusals.{IsVectorRefusal, IsRefusedAtFace, IsFaceRefusal, IsConeRefusal}
 use Rattle.gf_initial_monomials.specs.Limits.{IsMemoryWanted, IsFaceWithinLimits, AreFacesWithinLimits}
 use Rattle.gf_initial_monomials.proofs.OutcomeLaws.{reached_in}
 
@@ -36,7 +36,7 @@ vector_memory n bs v pairs (Entry i x) b w h = let past = h.0.past in let small 
 vector_memory n bs v pairs (Saturation r) b w h = if_memory {A = ℕ} n pairs h.0 (Err r) (w h.0 h.1) h.2
 vector_memory n bs v pairs Memory b w h = tt
 
-face_memory : (bs : List MarkedPolynomial) (c : RowsAndRays) (pairs : ℕ) (f : Face) (e : InitialError) → IsFaceWithinLimits bs c pairs f → IsRefusedAt bs c pairs e f → IsMemoryWanted e
+face_memory : (bs : List MarkedPolynomial) (c : RowsAndRays) (pairs : ℕ) (f : Face) (e : InitialError) → IsFaceWithinLimits bs c pairs f → IsRefusedAtFace bs c pairs e f → IsMemoryWanted e
 face_memory bs c pairs f (Cone s) l h = absurd h
 face_memory bs c pairs f (Wide w) l h = absurd (none_first w _ l.sums h)
 face_memory bs c pairs f (Entry i x) l h = vector_memory c.ambient bs (vector_of c f) pairs (Entry i x) l.entries l.runs h

@@ -34,9 +34,9 @@ pub record HasNoMonomialAt (n : ℕ) (bs : List MarkedPolynomial) (v : List ℤ)
   pub none : HasOneTermMember n forms → ⊥
 
 -- yes or no says which
-abbrev pub IsTold : ℕ → List MarkedPolynomial → List ℤ → Bool → Type 0
-IsTold n bs v true = HasMonomialAt n bs v
-IsTold n bs v false = HasNoMonomialAt n bs v
+abbrev pub TellsMonomial : ℕ → List MarkedPolynomial → List ℤ → Bool → Type 0
+TellsMonomial n bs v true = HasMonomialAt n bs v
+TellsMonomial n bs v false = HasNoMonomialAt n bs v
 
 -- ---- one after another
 
@@ -48,9 +48,9 @@ pub record IsReached {A : Type 0} (Passes : A → Type 0) (xs : List A) (x : A) 
   pub earlier : (y : A) → Contains (take place xs) y → Passes y
 
 -- where v is told, the first in the list that doesn't pass fails at v; where none is told, all pass
-abbrev pub IsOutcome : {A : Type 0} → (A → Type 0) → (List ℤ → A → Type 0) → List A → Option (List ℤ) → Type 0
-IsOutcome {A} Passes Fails xs None = (x : A) → Contains xs x → Passes x
-IsOutcome {A} Passes Fails xs (Some v) = (x : A) × IsReached Passes xs x × Fails v x
+abbrev pub IsFirstThatFails : {A : Type 0} → (A → Type 0) → (List ℤ → A → Type 0) → List A → Option (List ℤ) → Type 0
+IsFirstThatFails {A} Passes Fails xs None = (x : A) → Contains xs x → Passes x
+IsFirstThatFails {A} Passes Fails xs (Some v) = (x : A) × IsReached Passes xs x × Fails v x
 
 -- ---- the faces of a cone
 
@@ -81,4 +81,4 @@ pub record HasOutcome (n : ℕ) (bs : List MarkedPolynomial) (rows : List (List 
   pub is_cut : IsCutBy c n rows cut
   pub faces : List Face
   pub are_faces : AreFaces cut faces
-  pub outcome : IsOutcome (PassesAt bs cut) (FailsAt bs cut) faces v
+  pub outcome : IsFirstThatFails (PassesAt bs cut) (FailsAt bs cut) faces v

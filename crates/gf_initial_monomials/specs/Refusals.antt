@@ -24,19 +24,19 @@ use Rattle.gf_initial_monomials.specs.Outcomes.{AreFormsAt, IsReached, IsCutBy, 
 -- ---- the same refusal, here
 
 -- a refusal of cones: the step that leaves the range, or want of memory
-abbrev pub of_gordan : GordanError → InitialError
-of_gordan (cones.Cone s) = Cone s
-of_gordan cones.Memory = Memory
+abbrev pub of_cone_refusal : GordanError → InitialError
+of_cone_refusal (cones.Cone s) = Cone s
+of_cone_refusal cones.Memory = Memory
 
 -- a refusal of vectors: the operation that leaves the range, or want of memory
-abbrev pub of_vector : VecError → InitialError
-of_vector (vectors.Wide w) = Wide w
-of_vector vectors.Memory = Memory
+abbrev pub of_vector_refusal : VecError → InitialError
+of_vector_refusal (vectors.Wide w) = Wide w
+of_vector_refusal vectors.Memory = Memory
 
 -- ---- causes
 
 -- the entry at i is past 2^63 in absolute value, and none before it
-pub record IsFirstPast (v : List ℤ) (i : ℕ) : Type 0 where
+pub record IsFirstWideEntry (v : List ℤ) (i : ℕ) : Type 0 where
   pub inside : i < length v
   pub past : 2 ^ 63 < unsigned_abs (get_or v i (pos 0))
   pub earlier : (j : ℕ) → j < i → unsigned_abs (get_or v j (pos 0)) ≤ 2 ^ 63
@@ -45,21 +45,21 @@ pub record IsFirstPast (v : List ℤ) (i : ℕ) : Type 0 where
 abbrev pub IsVectorRefusal : ℕ → List MarkedPolynomial → List ℤ → ℕ → InitialError → Type 0
 IsVectorRefusal n bs v pairs (Cone s) = ⊥
 IsVectorRefusal n bs v pairs (Wide w) = ⊥
-IsVectorRefusal n bs v pairs (Entry i x) = IsFirstPast v i × (x ≡ get_or v i (pos 0))
+IsVectorRefusal n bs v pairs (Entry i x) = IsFirstWideEntry v i × (x ≡ get_or v i (pos 0))
 IsVectorRefusal n bs v pairs (Saturation r) = (forms : List Terms) × AreFormsAt v bs forms × IsSaturateRefusal n forms pairs r
 IsVectorRefusal n bs v pairs Memory = Unit {0}
 
 -- at a face of the cone c: the first partial sum of its rays that leaves the range, or a refusal at the sum
-abbrev pub IsRefusedAt : List MarkedPolynomial → RowsAndRays → ℕ → InitialError → Face → Type 0
-IsRefusedAt bs c pairs (Wide w) f = IsFirstWide w (adding_steps (zeros c.ambient) (numbered c.rays f.rays))
-IsRefusedAt bs c pairs (Cone s) f = ⊥
-IsRefusedAt bs c pairs (Entry i x) f = IsVectorRefusal c.ambient bs (vector_of c f) pairs (Entry i x)
-IsRefusedAt bs c pairs (Saturation r) f = IsVectorRefusal c.ambient bs (vector_of c f) pairs (Saturation r)
-IsRefusedAt bs c pairs Memory f = Unit {0}
+abbrev pub IsRefusedAtFace : List MarkedPolynomial → RowsAndRays → ℕ → InitialError → Face → Type 0
+IsRefusedAtFace bs c pairs (Wide w) f = IsFirstWide w (adding_steps (zeros c.ambient) (numbered c.rays f.rays))
+IsRefusedAtFace bs c pairs (Cone s) f = ⊥
+IsRefusedAtFace bs c pairs (Entry i x) f = IsVectorRefusal c.ambient bs (vector_of c f) pairs (Entry i x)
+IsRefusedAtFace bs c pairs (Saturation r) f = IsVectorRefusal c.ambient bs (vector_of c f) pairs (Saturation r)
+IsRefusedAtFace bs c pairs Memory f = Unit {0}
 
 -- at one of these faces, all before which pass; or there is no memory
 pub data IsFaceRefusal (bs : List MarkedPolynomial) (c : RowsAndRays) (faces : List Face) (pairs : ℕ) (e : InitialError) : Type 0 where
-  at_face : (f : Face) → IsReached (PassesAt bs c) faces f → IsRefusedAt bs c pairs e f → IsFaceRefusal bs c faces pairs e
+  at_face : (f : Face) → IsReached (PassesAt bs c) faces f → IsRefusedAtFace bs c pairs e f → IsFaceRefusal bs c faces pairs e
   no_memory : e ≡ Memory → IsFaceRefusal bs c faces pairs e
 
 -- at finding the rays of what the cone c and these rows share, or at one of its faces

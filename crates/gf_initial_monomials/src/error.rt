@@ -39,9 +39,9 @@ impl<T: Drop> From<AllocFailed<T>> for InitialError {
 }
 
 impl From<GordanError> for InitialError {
-    ghost use Rattle.gf_initial_monomials.specs.Refusals.{of_gordan};
+    ghost use Rattle.gf_initial_monomials.specs.Refusals.{of_cone_refusal};
 
-    ghost from_gives = { λ g e. e ≡ of_gordan g };
+    ghost from_gives = { λ g e. e ≡ of_cone_refusal g };
 
     fn from(error: GordanError) -> InitialError {
         match error {
@@ -52,9 +52,9 @@ impl From<GordanError> for InitialError {
 }
 
 impl From<VecError> for InitialError {
-    ghost use Rattle.gf_initial_monomials.specs.Refusals.{of_vector};
+    ghost use Rattle.gf_initial_monomials.specs.Refusals.{of_vector_refusal};
 
-    ghost from_gives = { λ v e. e ≡ of_vector v };
+    ghost from_gives = { λ v e. e ≡ of_vector_refusal v };
 
     fn from(error: VecError) -> InitialError {
         match error {

@@ -1,7 +1,7 @@
 //! The faces of a cone, one after another.
 ghost use Rattle.std.specs.Prelude.{◌≡◌, ◌<◌, IfOk, IfErr};
 ghost use Rattle.gf_rays.specs.Faces.{AreFaces};
-ghost use Rattle.gf_initial_monomials.specs.Outcomes.{IsOutcome, PassesAt, FailsAt};
+ghost use Rattle.gf_initial_monomials.specs.Outcomes.{IsFirstThatFails, PassesAt, FailsAt};
 ghost use Rattle.gf_initial_monomials.specs.Refusals.{IsFaceRefusal};
 
 use crate::error::InitialError;
@@ -30,7 +30,7 @@ pub(crate) fn at_faces(
     requires seen { seen.old ≡ basis.now.variables }
     requires faces { AreFaces cone.now faces.now }
     ensures seen { seen.new ≡ seen.old }
-    ensures ok { IfOk result (IsOutcome (PassesAt basis.now.items cone.now) (FailsAt basis.now.items cone.now) faces.now) }
+    ensures ok { IfOk result (IsFirstThatFails (PassesAt basis.now.items cone.now) (FailsAt basis.now.items cone.now) faces.now) }
     ensures err { IfErr result (IsFaceRefusal basis.now.items cone.now faces.now pairs) }
 {
     'faces: for i in 0..faces.len() {

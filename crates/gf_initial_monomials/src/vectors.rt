@@ -1,8 +1,8 @@
 //! Whether the initial ideal at one vector has a polynomial of one term.
 ghost use Rattle.std.specs.Prelude.{◌≡◌, ◌<◌, IfOk, IfErr, MatchOption, length};
 ghost use Rattle.gf_order.specs.Weights.{AreBounded};
-ghost use Rattle.gf_initial_monomials.specs.Outcomes.{IsTold};
-ghost use Rattle.gf_initial_monomials.specs.Refusals.{IsFirstPast, IsVectorRefusal};
+ghost use Rattle.gf_initial_monomials.specs.Outcomes.{TellsMonomial};
+ghost use Rattle.gf_initial_monomials.specs.Refusals.{IsFirstWideEntry, IsVectorRefusal};
 
 use crate::error::InitialError;
 use crate::forms::forms_at;
@@ -14,7 +14,7 @@ use std::alloc::Global;
 
 /// The place of the first entry past `2^63` in absolute value, where there is one.
 fn first_past(v: &IntVec) -> Option<usize>
-    ensures { MatchOption result (AreBounded v.now) (IsFirstPast v.now) }
+    ensures { MatchOption result (AreBounded v.now) (IsFirstWideEntry v.now) }
 {
     v.as_slice().iter().position(|x| x.unsigned_abs() > 1 << 63)
 }
@@ -35,7 +35,7 @@ pub(crate) fn told_at(
     requires long { length v.now ≡ basis.now.variables }
     requires seen { seen.old ≡ basis.now.variables }
     ensures seen { seen.new ≡ seen.old }
-    ensures ok { IfOk result (IsTold basis.now.variables basis.now.items v.now) }
+    ensures ok { IfOk result (TellsMonomial basis.now.variables basis.now.items v.now) }
     ensures err { IfErr result (IsVectorRefusal basis.now.variables basis.now.items v.now pairs) }
 {
     if let Some(index) = first_past(v) {

@@ -1,6 +1,6 @@
 //! The numbers up to a limit as places.
 ghost use Rattle.std.specs.Prelude.{◌≡◌, ◌≤◌, IfErr, IfOk};
-ghost use Rattle.gf_number_sessions.specs.Numbers.{IsStep, IsRefusedAt, digit_of, number_rules, text_of};
+ghost use Rattle.gf_number_sessions.specs.Numbers.{IsNumberStep, IsRefusedAtNumber, digit_of, number_rules, number_and_steps};
 
 use gf_session::Moves;
 use std::alloc::{AllocError, Global};
@@ -31,7 +31,7 @@ fn digit(number: u64) -> u8
 
 /// What is told of a number with so many steps behind it: their last digits.
 fn text_of(alloc: Global, number: u64, behind: usize) -> Result<Vec<u8>, AllocError>
-    ensures { IfOk result (λ text. text.items ≡ text_of number behind) }
+    ensures { IfOk result (λ text. text.items ≡ number_and_steps number behind) }
 {
     let text = [digit(number), b' ', digit(behind as u64), b'\n'];
     text.to_vec(alloc)
@@ -40,7 +40,7 @@ fn text_of(alloc: Global, number: u64, behind: usize) -> Result<Vec<u8>, AllocEr
 impl Numbers {
     /// Refuses at the chosen number, and only there.
     fn ask(&self, number: u64) -> Result<(), NumberError>
-        ensures { IfErr result (IsRefusedAt self.now.chosen number) }
+        ensures { IfErr result (IsRefusedAtNumber self.now.chosen number) }
     {
         if number == self.chosen {
             return Err(NumberError::Chosen(number));
@@ -60,9 +60,9 @@ impl Moves for Numbers {
 
     ghost rules = { λ t. number_rules t.limit };
 
-    ghost joins = { λ t. IsStep t.limit };
+    ghost joins = { λ t. IsNumberStep t.limit };
 
-    ghost refuses = { λ t. IsRefusedAt t.chosen };
+    ghost refuses = { λ t. IsRefusedAtNumber t.chosen };
 
     fn cross(&self, here: &u64, number: u64) -> Result<Option<(u64, u64)>, NumberError> {
         self.ask(*here)?;

@@ -1,9 +1,10 @@
--- What a polynomial of one term, or a mark that is 1, says of the ideal. To cite: one_term_member, is_one, is_not_one, unit_mark, told_as.
+-- What a polynomial of one term, or a mark that is 1, says of the ideal. To cite: one_term_member, is_one, is_not_one,
+-- told_as.
 use Rattle.std.specs.Prelude.{IsTrue}
-use Rattle.std.proofs.Common.{◌≡◌, ◌↔◌, ◌==◌, ℕ, zero, suc, ◌≤◌, Bool, true, false, List, [], ◌∷◌, Contains, length, arith, subst}
+use Rattle.std.proofs.Common.{◌≡◌, ◌↔◌, ◌==◌, ℕ, Bool, true, false, List, [], ◌∷◌, Contains, length, arith, subst}
 use Rattle.std.proofs.lemmas.Bool.Decides.{nat_tests}
-use Rattle.gf_exponents.specs.Exponents.{Exponents, entry, same, degree}
-use Rattle.gf_exponents.proofs.ExponentsLaws.{same_by_entries, same-refl, same_flip, same_trans, eq_by}
+use Rattle.gf_exponents.specs.Exponents.{Exponents, same}
+use Rattle.gf_exponents.proofs.ExponentsLaws.{same-refl, same_flip, same_trans, eq_by}
 use Rattle.gf_poly.specs.declared.Term.{Term}
 use Rattle.gf_poly.specs.Polynomial.{Terms, IsDescending, HasVariables}
 use Rattle.gf_poly.specs.Marking.{MarkedPolynomials, polys}
@@ -41,15 +42,6 @@ pub is_not_one : (a : ℕ) → (a == 1) ≡ false → a ≡ 1 → ⊥
 is_not_one a h e = absurd (grind (arith, nat_tests))
 
 -- ---- a mark that is 1
-
-entry_degree : (x : Exponents) (i : ℕ) → entry x i ≤ degree x
-entry_degree [] i = omega arith
-entry_degree (a ∷ x) zero = omega arith
-entry_degree (a ∷ x) (suc i) = omega (arith, entry_degree x i)
-
--- a monomial of degree 0 is 1
-pub unit_mark : (x : Exponents) → degree x ≡ 0 → same x [] ≡ true
-unit_mark x z = same_by_entries x [] (λ i. omega (arith, entry_degree x i, z))
 
 -- a saturation whose basis has the mark 1 is that of an ideal with a polynomial of one term
 told_by_marks : (n : ℕ) (fs : List Terms) (s : MarkedPolynomials) → HaveRingVariables n fs → IsSaturation n fs s → HasUnitMark s.items ↔ HasOneTermMember n fs

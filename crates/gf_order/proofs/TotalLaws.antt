@@ -23,7 +23,7 @@ decided o x y e = elim ((order-is o).total x y) [
 never : (o : MonomialOrder) (x y : Exponents) → x ≡ y → below_of o x y → ⊥
 never o x y e l = (order-is o).strict.irreflexive x y (same_of x y e) l
 
-not_both : (o : MonomialOrder) (x y : Exponents) → below_of o x y → below_of o y x → ⊥
+pub not_both : (o : MonomialOrder) (x y : Exponents) → below_of o x y → below_of o y x → ⊥
 not_both o x y l m = (order-is o).strict.irreflexive x x (same-refl x) ((order-is o).strict.transitive x y x l m)
 
 unique : (o : MonomialOrder) (x y : Exponents) (r s : Ordering) → IsOutcome o x y r → IsOutcome o x y s → r ≡ s

@@ -1,5 +1,5 @@
 -- The part next below another one: of those with some flag the last.
-use Rattle.std.proofs.Common.{◌≡◌, ℕ, ◌+◌, ◌<◌, ◌≤◌, max, List, [], ◌∷◌, length, All, arith, refl, sym, ap, ◌∙◌, subst, Contains, ◌⊎◌, inl, inr, AllPairs, get_or, Option, Some, None, MatchOption, nat_eq}
+use Rattle.std.proofs.Common.{◌≡◌, ℕ, ◌+◌, ◌<◌, ◌≤◌, max, List, [], ◌∷◌, length, arith, refl, sym, ap, ◌∙◌, subst, Contains, ◌⊎◌, inl, inr, AllPairs, get_or, Option, Some, None, MatchOption, nat_eq}
 use Rattle.std.specs.List.{position}
 use Rattle.std.specs.List.Sorted.{IsSortedByKey, IsPermutation}
 use Rattle.std.specs.Ordering.{nat_cmp}
@@ -11,10 +11,9 @@ use Rattle.std.proofs.lemmas.Option.{none-some, same_Some}
 use Rattle.std.proofs.lemmas.List.Sorted.{Contains-permutation, IsPermutation-sym}
 use Rattle.gf_duality.proofs.ListLaws.{none_in, in_head, in_tail, in_cons, all_by, place, less, at, more}
 use Rattle.gf_fans.specs.Heights.{IsWithinPart, IsNextBelow}
-use Rattle.gf_fans.proofs.Ordered.{by_lengths, within_short, within_all, same_numbers, still_apart}
+use Rattle.gf_fans.proofs.Ordered.{by_lengths, within_short, within_all, same_numbers, still_apart, decide_same}
 use Rattle.gf_rays.specs.declared.ray.Ray.{Ray}
 use Rattle.gf_rays.specs.FlagFaces.{IsNarrowed, AreFlagFaces, AreSortedParts, IsFlatPart, IsPartAtFlag, later_place, IsLastAtFlags}
-use Rattle.gf_rays.proofs.FlagFaceLaws.{decide_same}
 
 -- ---- faces in another order
 

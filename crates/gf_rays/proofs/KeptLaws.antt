@@ -1,5 +1,5 @@
 -- Rays with one flag more, where an inequality is negative on none of them, from the last on.
-use Rattle.std.proofs.Common.{◌≡◌, ℕ, ◌+◌, ◌<◌, ◌≤◌, List, [], ◌∷◌, ◌++◌, length, take, get_or, ℤ, pos, ◌<ℤ◌, ◌≤ℤ◌, All, Contains, Bool, IsTrue, ◌↔◌, arith, refl, sym, ap, ◌∙◌, subst, inl, inr}
+use Rattle.std.proofs.Common.{◌≡◌, ℕ, ◌+◌, ◌<◌, ◌≤◌, List, [], ◌∷◌, ◌++◌, length, take, get_or, ℤ, pos, ◌≤ℤ◌, All, Contains, Bool, IsTrue, ◌↔◌, arith, refl, sym, ap, ◌∙◌, subst, inl, inr}
 use Rattle.std.proofs.lemmas.Int.{ints}
 use Rattle.std.proofs.lemmas.List.{get_or_append_left, get_or_default, length-append, take_more}
 use Rattle.std.proofs.lemmas.List.Elements.{All-push, Contains-push}

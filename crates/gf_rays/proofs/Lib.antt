@@ -14,7 +14,7 @@ pub mod ReachedLaws  -- what holds of the states that are reached
 pub mod ReachedSizes  -- how large the entries of reached states are
 pub mod RoomLaws  -- bounds with room for any equations and lineality space
 mod ImpliedLaws  -- inequalities that are zero on all rays
-mod SumLaws  -- sums of lists of vectors
+pub mod SumLaws  -- sums of lists of vectors
 pub mod OrderLaws  -- vectors in lexicographic order: sorted, ascending, each once
 mod FacetLoops  -- rows that a loop takes, one place further
 mod LeastLaws  -- among inequalities with the same flags there is a least one
@@ -25,7 +25,7 @@ pub mod FlagFaceLaws  -- faces by flags, one inequality further
 mod HeightLaws  -- the part next below another one
 mod MemberLaws  -- flags at numbers, and parts inside one another by them
 pub mod FaceNumbers  -- faces by the numbers of their rays, from flags
-mod PickedLaws  -- rays picked by their numbers, one further
+pub mod PickedLaws  -- rays picked by their numbers, one further
 mod FurtherLaws  -- a double description taken further from the rays of a cone
 mod KeptLaws  -- rays with one flag more, where an inequality is negative on none of them
 mod TurnLaws  -- rows that are zero in the column already

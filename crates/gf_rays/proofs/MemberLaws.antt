@@ -1,13 +1,12 @@
 -- Flags at numbers, set one by one, and parts inside one another by their flags.
-use Rattle.std.proofs.Common.{◌≡◌, ◌↔◌, ℕ, ◌+◌, ◌-◌, ◌/◌, ◌%◌, ◌<◌, ◌≤◌, List, [], ◌∷◌, ◌++◌, length, take, get_or, replicate, Bool, eq-eqb, arith, refl, sym, ap, ◌∙◌, subst, inl, inr, All, Contains, length-append, Option, Some, None, MatchOption}
-use Rattle.std.specs.Int.{bit_at}
-use Rattle.std.proofs.Math.ListN.{get_or-append, get_or-eq_default}
+use Rattle.std.proofs.Common.{◌≡◌, ◌↔◌, ℕ, ◌+◌, ◌-◌, ◌/◌, ◌%◌, ◌<◌, ◌≤◌, List, [], ◌∷◌, ◌++◌, length, take, get_or, Bool, eq-eqb, arith, refl, sym, ap, ◌∙◌, subst, inl, inr, All, Contains, length-append, Option, Some, None, MatchOption}
+use Rattle.std.proofs.Math.ListN.{get_or-append}
 use Rattle.std.proofs.Math.Seq.{get_or-append_seam}
-use Rattle.std.proofs.lemmas.Bool.{cases_lt, eqb-true}
-use Rattle.std.proofs.lemmas.List.{get_or_default, get_or-replicate, length-replicate, take_more}
+use Rattle.std.proofs.lemmas.Bool.{eqb-true}
+use Rattle.std.proofs.lemmas.List.{get_or_default, take_more}
 use Rattle.std.proofs.lemmas.List.Elements.{All-contains, Contains-push}
-use Rattle.std.proofs.lemmas.Nat.Bits.{bit_at-lt, bit_at-zero}
-use Rattle.gf_duality.proofs.ListLaws.{none_in, first_in, snoc_cases, all_by, place, less, at, more}
+use Rattle.std.proofs.lemmas.Nat.Bits.{bit_at-lt}
+use Rattle.gf_duality.proofs.ListLaws.{first_in, snoc_cases, all_by, place, less, at, more}
 use Rattle.gf_fans.specs.Heights.{IsWithinPart, IsNextBelow}
 use Rattle.gf_rays.specs.Flags.{IsBelow, IsRoomFor, bit_of, flags_of}
 use Rattle.gf_rays.specs.FlagFaces.{AreInside, AreFlagsAt, ArePartFlags, IsLastBelow}
@@ -19,18 +18,6 @@ use Rattle.gf_rays.proofs.FlagLaws.{flags_long, flag_is}
 pub record AreBitsAt (count : ℕ) (numbers words : List ℕ) : Type 0 where
   pub long : length words ≡ count / 64 + 1
   pub each : (i : ℕ) → (bit_of words i ≡ 1) ↔ Contains numbers i
-
-zero_bit : (n i : ℕ) → bit_of (replicate n 0) i ≡ 0
-zero_bit n i = elim (cases_lt (i / 64) n) [
-  | inl h ↦ ap (λ w. bit_at w (i % 64)) (get_or-replicate n (i / 64) 0 0 h) ∙ bit_at-zero (i % 64)
-  | inr h ↦ let l : length (replicate n 0) ≡ n = length-replicate {A = ℕ} n 0 in ap (λ w. bit_at w (i % 64)) (get_or-eq_default (replicate n 0) 0 (let q : length (replicate n 0) ≤ i / 64 = omega (arith, l, h) in q)) ∙ bit_at-zero (i % 64)
-]
-
-pub bits_none : (count : ℕ) (words : List ℕ) → words ≡ replicate (count / 64 + 1) 0 → AreBitsAt count [] words
-bits_none count words e = subst (AreBitsAt count []) (sym e) (record {
-  long = length-replicate (count / 64 + 1) 0;
-  each = λ i. ((λ b. absurd (let z = zero_bit (count / 64 + 1) i in omega (arith, b, z))), λ c. absurd (none_in i c));
-})
 
 pub bits_more : (count k x : ℕ) (numbers old new : List ℕ) → k < length numbers → x ≡ get_or numbers k 0 → length new ≡ length old → bit_of new x ≡ 1 → ((j : ℕ) → (j ≡ x → ⊥) → bit_of new j ≡ bit_of old j) → AreBitsAt count (take k numbers) old → AreBitsAt count (take (k + 1) numbers) new
 bits_more count k x numbers old new h e l b others a =

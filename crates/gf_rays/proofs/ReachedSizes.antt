@@ -22,7 +22,7 @@ use Rattle.gf_gordan.specs.declared.error.ConeOverflow.{ConeOverflow}
 use Rattle.gf_duality.specs.Combining.{IsMixStep, IsCombining, pair}
 use Rattle.gf_duality.specs.Generators.{unit_vectors}
 use Rattle.gf_duality.specs.Rays.{IsZeroOn}
-use Rattle.gf_duality.specs.Elimination.{IsTurned, IsEliminated, begun as eliminated_begun, skipped, turned, IsEliminationStep, IsNormalised, IsNullSpace, IsNullStep, eliminating, reducing, with_values, columns}
+use Rattle.gf_duality.specs.Elimination.{IsTurned, IsEliminated, begun as eliminated_begun, skipped, turned, IsEliminationStep, IsNormalised, IsNullSpace, IsNullStep, eliminating, reducing, columns}
 use Rattle.gf_duality.specs.Straightening.{IsLeveled, IsStraightened, done as straight_done, next as straight_next, IsOrthogonalized, start, added, gone, IsOrthogonalizing}
 use Rattle.gf_duality.proofs.ListLaws.{none_in, snoc_cases, first_in, zip_from, of_rest, all_by, place, less, at, more}
 use Rattle.gf_duality.proofs.Echelon.{turn_in}
@@ -293,10 +293,6 @@ none_eliminated : (n : ℕ) (rows : List (List ℤ)) (j : ℕ) (done left : List
 none_eliminated n rows j out left z eliminated_begun = refl
 none_eliminated n rows m out left z (skipped j k done rest e y p) = none_eliminated n rows j out left z p
 none_eliminated n rows m out left z (turned j k done from others rest whole i e h f za zb eo p) = absurd (omega (arith, z, snoc_long others (row_at from i) out eo))
-
-dropped : (es : List (List ℤ)) (x : List ℤ) → drop (length es) (with_values es x) ≡ x
-dropped [] x = refl
-dropped (e ∷ es) x = dropped es x
 
 pub begin_rows : (m n j : ℕ) (es done left : List (List ℤ)) → length done ≡ 0 → IsEliminated m (columns n es) j done left → AreUnitary (map (drop (length es)) left)
 begin_rows m n j es done left z e = subst AreUnitary (sym (ap (map (drop (length es))) (none_eliminated m (columns n es) j done left z e) ∙ right_columns es (unit_vectors n))) (units_unitary n)

@@ -1,16 +1,17 @@
 -- A row that is zero in the column already: brought to zero there, it is itself divided by its content.
-use Rattle.std.proofs.Common.{◌≡◌, ℕ, zero, suc, ◌*◌, ◌<◌, List, [], ◌∷◌, length, ℤ, pos, ◌*ℤ◌, ◌<ℤ◌, neg_ℤ, unsigned_abs, ◌⊎◌, inl, inr, arith, sym, refl, ap, ap₂, ◌∙◌, subst}
+use Rattle.std.proofs.Common.{◌≡◌, ℕ, ◌*◌, ◌<◌, List, [], ◌∷◌, length, ℤ, pos, ◌*ℤ◌, ◌<ℤ◌, neg_ℤ, unsigned_abs, ◌⊎◌, inl, inr, arith, sym, refl, ap, ap₂, ◌∙◌, subst}
 use Rattle.std.proofs.lemmas.Int.{ints}
 use Rattle.std.proofs.lemmas.Bool.{cases_eq}
 use Rattle.gf_int.specs.Content.{AllZero, scaled, quotients}
 use Rattle.gf_int.proofs.ContentLaws.{IsContent-exists}
 use Rattle.gf_int.proofs.RingLaws.{dn, ◌⊗◌}
+use Rattle.gf_int.proofs.SignLaws.{mul_positive}
 use Rattle.gf_vec.specs.Vector.{vector_sum, entry_at}
 use Rattle.gf_vec.specs.Primitive.{IsDivided, IsPrimitivePart}
 use Rattle.gf_vec.proofs.DividedLaws.{IsDivided-quotients}
 use Rattle.gf_vec.proofs.PrimitiveLaws.{times_cancel, primitive_of, primitive_same}
 use Rattle.gf_vec.proofs.VectorIdentities.{vv, ◌⊞◌, ◌⊡◌, vsame}
-use Rattle.gf_gordan.specs.Elimination.{size_at, signed_at}
+use Rattle.gf_gordan.specs.Elimination.{signed_at}
 use Rattle.gf_duality.specs.Elimination.{IsTurned}
 
 zero_or : (xs : List ℤ) → AllZero xs ⊎ (AllZero xs → ⊥)
@@ -19,11 +20,6 @@ zero_or (x ∷ xs) = elim (cases_eq (unsigned_abs x) 0) [
   | inr n ↦ inr (λ z. n (ap unsigned_abs z.0))
   | inl e ↦ elim (zero_or xs) [ inl z ↦ inl (let q : x ≡ pos 0 = omega (arith, ints, e) in (q, z)) | inr m ↦ inr (λ z. m z.1) ]
 ]
-
-mul_positive : (k n : ℕ) → 0 < k → 0 < n → 0 < k * n
-mul_positive (suc k) (suc n) h g = omega arith
-mul_positive zero n h g = absurd (omega (arith, h))
-mul_positive (suc k) zero h g = absurd (omega (arith, g))
 
 zero_scaled : (a b : ℤ) (xs : List ℤ) → AllZero xs → scaled a xs ≡ scaled b xs
 zero_scaled a b [] z = refl

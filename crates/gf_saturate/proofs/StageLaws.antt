@@ -15,6 +15,7 @@ use Rattle.gf_ideal.specs.Membership.{IsMember}
 use Rattle.gf_ideal.specs.Bases.{IsBasis, IsReducedBasisFor}
 use Rattle.gf_ideal.proofs.MembershipLaws.{member-equal, member-generator}
 use Rattle.gf_ideal.proofs.PieceLaws.{Contains-marked, Contains-polys}
+use Rattle.gf_ideal.proofs.RingLaws.{in_ring_of}
 use Rattle.gf_buchberger.specs.Jobs.{HaveRingVariables}
 use Rattle.gf_buchberger.specs.declared.bases.BasisError.{BasisError}
 use Rattle.gf_buchberger.specs.Bases.{IsArrangedBasis, IsWantOfMemory}
@@ -26,19 +27,19 @@ use Rattle.gf_saturation.proofs.OneByOneLaws.{saturated_none, saturated_next}
 use Rattle.gf_saturation.proofs.EliminationLaws.{deglex_basis, member_of_basis, basis_of_member}
 use Rattle.gf_saturation.proofs.LawsHold.{saturations_are_worked_out}
 use Rattle.gf_saturate.specs.declared.stages.Stage.{Stage}
-use Rattle.gf_saturate.specs.Widening.{extended_list, left_over, variable}
+use Rattle.gf_saturate.specs.Widening.{extended_list, left_over, variable_at}
 use Rattle.gf_saturate.specs.Marks.{CoverHeads, CoverFreeHeads}
-use Rattle.gf_saturate.specs.Saturating.{AddsNothing, IsStep, IsOnTheWay, IsStage, IsSaturation, IsSaturateRefusal, AreStepsWithinLimits, step_order, step_list}
+use Rattle.gf_saturate.specs.Saturating.{AddsNothing, IsVariableStep, IsOnTheWay, IsStage, IsSaturation, IsSaturateRefusal, AreStepsWithinLimits, step_order, step_list}
 use Rattle.gf_saturate.proofs.WideningLaws.{length-variable}
-use Rattle.gf_saturate.proofs.StepLaws.{extended, left_over-are, left_over-ring, to_eliminate, in_ring_of, reduced_of}
+use Rattle.gf_saturate.proofs.StepLaws.{extended, left_over-are, left_over-ring, to_eliminate, reduced_of}
 use Rattle.gf_saturate.proofs.SparedLaws.{adds_nothing, left_over_spared}
 
 -- ---- the variable as it is kept
 
-variable-same : (n k : ℕ) → k < n → same (variable n k) (next_variable k) ≡ true
-variable-same n k l = same_by_entries (variable n k) (next_variable k) (λ i. at n k i l)
+variable-same : (n k : ℕ) → k < n → same (variable_at n k) (next_variable k) ≡ true
+variable-same n k l = same_by_entries (variable_at n k) (next_variable k) (λ i. at n k i l)
   where
-    at : (n k i : ℕ) → k < n → entry (variable n k) i ≡ entry (next_variable k) i
+    at : (n k i : ℕ) → k < n → entry (variable_at n k) i ≡ entry (next_variable k) i
     at zero k i l = absurd (omega arith)
     at (suc n) zero zero l = refl
     at (suc n) zero (suc i) l = entry-ones n i
@@ -58,7 +59,7 @@ step_generates n k fs s l v b f = (
 )
   where
     u : Exponents
-    u = variable n k
+    u = variable_at n k
 
     one : IsMember n (left_over n s.items) f ↔ IsSaturatedBy n fs u f
     one = saturations_are_worked_out.left_over n u fs (extended_list u fs) (left_over n s.items) s.items f (in_ring_of n u (length-variable n k l)) (ring_variables n fs v)
@@ -70,7 +71,7 @@ step_ring n k fs s b = left_over-ring n s.items (λ c m. (b.arranged.canonical c
 step_spared : (n k j : ℕ) (fs : List Terms) (s : MarkedPolynomials) → k < n → j < n → HaveRingVariables n fs → IsArrangedBasis (step_order n) (n + 1) (step_list n k fs) s →
     ((b : MarkedPolynomial) → Contains s.items b → entry b.head n ≡ 0 → entry b.head j ≡ 0) → AddsNothing n j (left_over n s.items)
 step_spared n k j fs s l m v b none =
-    let u : Exponents = variable n k in
+    let u : Exponents = variable_at n k in
     left_over_spared n j (step_list n k fs) (left_over n s.items) s.items m
     (extended_variables n u fs (step_list n k fs) (in_ring_of n u (length-variable n k l)) (ring_variables n fs v) (extended n u fs (length-variable n k l)))
     (reduced_of n (step_list n k fs) s b) (step_left n k fs s b) none
@@ -139,7 +140,7 @@ at_first n fs hs v (inr h) = subst (StandsFor n fs zero) (sym h.2) (record {
 by_no_power : (n : ℕ) (u : Exponents) (gs : List Terms) (f : Terms) → IsMember n gs f → IsSaturatedBy n gs u f
 by_no_power n u gs f m = record { power = 0; member = member-equal n gs f (times one_ℚ [] f) (λ e. ap (λ g. coefficient g e) (sym (times-plain f))) m }
 
-at_next : (n k : ℕ) (fs gs hs : List Terms) → k < n → HaveRingVariables n fs → StandsFor n fs k gs → IsStep n k gs hs ⊎ (AddsNothing n k gs × (hs ≡ gs)) → StandsFor n fs (suc k) hs
+at_next : (n k : ℕ) (fs gs hs : List Terms) → k < n → HaveRingVariables n fs → StandsFor n fs k gs → IsVariableStep n k gs hs ⊎ (AddsNothing n k gs × (hs ≡ gs)) → StandsFor n fs (suc k) hs
 at_next n k fs gs hs l v w (inl s) = subst (StandsFor n fs (suc k)) (sym s.is) (record {
   ring = step_ring n k gs s.basis s.is_basis;
   members = λ f.
@@ -186,7 +187,7 @@ left_stage n k fs b s i v h e l covers u = record {
 }
 
 -- by one variable more
-pub way_next : (n : ℕ) (fs : List Terms) (k : ℕ) (gs hs : List Terms) → IsOnTheWay n fs k gs → IsStep n k gs hs ⊎ (AddsNothing n k gs × (hs ≡ gs)) → IsOnTheWay n fs (k + 1) hs
+pub way_next : (n : ℕ) (fs : List Terms) (k : ℕ) (gs hs : List Terms) → IsOnTheWay n fs k gs → IsVariableStep n k gs hs ⊎ (AddsNothing n k gs × (hs ≡ gs)) → IsOnTheWay n fs (k + 1) hs
 way_next n fs k gs hs w h = let e : suc k ≡ k + 1 = omega arith in subst (λ (j : ℕ). IsOnTheWay n fs j hs) e (gs, w, h)
 
 -- ---- the answer

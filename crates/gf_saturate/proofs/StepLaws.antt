@@ -1,16 +1,16 @@
 -- The lists that the code makes are those of the laws.
 -- To cite: extended, extended-ring, left_over-are, left_over-ring, member-back, length-last, to_eliminate, reduced_of,
--- in_ring_of, if_ok, if_err, contains_at. The rest are steps.
+-- if_ok, if_err, contains_at. The rest are steps.
 use Rattle.std.specs.Prelude.{◌≡◌, ◌⊎◌, ℕ, zero, suc, ◌+◌, ◌<◌, ◌≤◌, ◌==◌, Bool, true, false, if◌then◌else◌, List, [], ◌∷◌, ◌++◌, map, take, length, replicate, Contains, ℤ, pos, All, IfOk, IfErr, unsigned_abs, ◌^◌}
 use Rattle.std.proofs.Common.{arith, refl, sym, ap, ◌∙◌, subst, inl, inr, append_assoc, length-append, set, get_or, Result, Ok, Err}
 use Rattle.std.proofs.lemmas.Bool.Decides.{nat_tests}
 use Rattle.std.proofs.lemmas.List.{take_more, take_more_set, take-replicate, length-replicate}
 use Rattle.std.proofs.lemmas.List.Elements.{All-push, All-replicate}
 use Rattle.gf_frac.specs.Fraction.{◌+ℚ◌, zero_ℚ, one_ℚ, neg_ℚ}
-use Rattle.gf_exponents.specs.Exponents.{Exponents, entry, same, plus, IsInRing}
+use Rattle.gf_exponents.specs.Exponents.{Exponents, entry, same, plus}
 use Rattle.gf_exponents.specs.Orders.{IsWeightedBelow, gains}
 use Rattle.gf_exponents.specs.SixOrders.{MonomialOrder}
-use Rattle.gf_exponents.proofs.ExponentsLaws.{same-sym, same_along, same_by_entries, eq_by, entry-plus, entry-past}
+use Rattle.gf_exponents.proofs.ExponentsLaws.{same-sym, same_along, same_by_entries, eq_by, entry-plus}
 use Rattle.gf_poly.specs.declared.Term.{Term}
 use Rattle.gf_poly.specs.Polynomial.{Terms, coefficient, SamePolynomial, HasVariables}
 use Rattle.gf_poly.specs.Marking.{MarkedPolynomial, MarkedPolynomials, Each}
@@ -254,9 +254,6 @@ to_eliminate n gs s b = record {
   heads = λ c k. (b.arranged.canonical c k).head;
   marked = b.marked;
 }
-
-pub in_ring_of : (n : ℕ) (u : Exponents) → length u ≡ n → IsInRing n u
-in_ring_of n u l i h = entry-past u i (omega arith)
 
 pub reduced_of : (n : ℕ) (gs : List Terms) (s : MarkedPolynomials) → IsArrangedBasis (step_order n) (n + 1) gs s →
     IsReducedBasisFor (suc n) gs (IsWeightedBelow (last_weight n)) s.items

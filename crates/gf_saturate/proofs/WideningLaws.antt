@@ -21,7 +21,7 @@ use Rattle.gf_ideal.proofs.Identities.{one_not_zero}
 use Rattle.gf_poly.specs.Monomial.{IsMonomial}
 use Rattle.gf_poly.proofs.MonomialLaws.{limit_by_entries, entry-ones, degree-ones}
 use Rattle.gf_poly.specs.declared.TheConstants.{ROOM}
-use Rattle.gf_saturate.specs.Widening.{widened_term, narrowed_term, rabinowitsch_terms, variable}
+use Rattle.gf_saturate.specs.Widening.{widened_term, narrowed_term, rabinowitsch_terms, variable_at}
 
 degree-push : (x : Exponents) → degree (x ++ 0 ∷ []) ≡ degree x
 degree-push [] = refl
@@ -144,21 +144,21 @@ same-widened (t ∷ f) e =
 
 -- ---- the variable
 
-pub variable-take : (n k m : ℕ) → k < n → n ≤ m → take n (set (replicate m 0) k 1) ≡ variable n k
+pub variable-take : (n k m : ℕ) → k < n → n ≤ m → take n (set (replicate m 0) k 1) ≡ variable_at n k
 variable-take zero k m l h = absurd (omega arith)
 variable-take (suc n) k zero l h = absurd (omega arith)
 variable-take (suc n) zero (suc m) l h = ap (λ (z : Exponents). 1 ∷ z) (take-replicate n m 0 (omega arith))
 variable-take (suc n) (suc k) (suc m) l h = ap (λ (z : Exponents). 0 ∷ z) (variable-take n k m (omega arith) (omega arith))
 
-pub length-variable : (n k : ℕ) → k < n → length (variable n k) ≡ n
+pub length-variable : (n k : ℕ) → k < n → length (variable_at n k) ≡ n
 length-variable zero k l = absurd (omega arith)
 length-variable (suc n) zero l = omega (arith, length-replicate {A = ℕ} n 0)
 length-variable (suc n) (suc k) l = omega (arith, length-variable n k (omega arith))
 
-pub variable-monomial : (n k : ℕ) → n ≤ ROOM → k < n → IsMonomial (variable n k)
-variable-monomial n k h l = record { room = omega (arith, length-variable n k l); limit = limit_by_entries (variable n k) (λ i. small n k i) }
+pub variable-monomial : (n k : ℕ) → n ≤ ROOM → k < n → IsMonomial (variable_at n k)
+variable-monomial n k h l = record { room = omega (arith, length-variable n k l); limit = limit_by_entries (variable_at n k) (λ i. small n k i) }
   where
-    small : (n k i : ℕ) → entry (variable n k) i < 2 ^ 31
+    small : (n k i : ℕ) → entry (variable_at n k) i < 2 ^ 31
     small zero k i = omega arith
     small (suc n) zero zero = omega arith
     small (suc n) zero (suc i) = omega (arith, entry-ones n i)

@@ -14,7 +14,7 @@ use Rattle.gf_buchberger.specs.declared.bases.BasisError.{BasisError}
 use Rattle.gf_buchberger.specs.Bases.{IsArrangedBasis, IsBasisRefusal, AreRunsWithinLimits, IsWantOfMemory}
 use Rattle.gf_saturation.specs.Saturations.{IsSaturatedBy, IsSaturated, next_variable, last_weight}
 use Rattle.gf_saturate.specs.declared.stages.Stage.{Stage}
-use Rattle.gf_saturate.specs.Widening.{extended_list, left_over, variable}
+use Rattle.gf_saturate.specs.Widening.{extended_list, left_over, variable_at}
 
 -- ---- the answer
 
@@ -33,14 +33,14 @@ step_order n = MonomialOrder.weighted (last_weight n)
 
 -- what a step works on: fs, and the inverse of the variable at place k
 abbrev pub step_list : ℕ → ℕ → List Terms → List Terms
-step_list n k fs = extended_list (variable n k) fs
+step_list n k fs = extended_list (variable_at n k) fs
 
 -- saturating the ideal of fs by the variable at place k adds nothing
 abbrev pub AddsNothing : ℕ → ℕ → List Terms → Type 0
 AddsNothing n k fs = (f : Terms) → IsSaturatedBy n fs (next_variable k) f → IsMember n fs f
 
 -- hs is what the reduced basis of such a list has without the last variable
-pub record IsStep (n k : ℕ) (fs hs : List Terms) : Type 0 where
+pub record IsVariableStep (n k : ℕ) (fs hs : List Terms) : Type 0 where
   pub basis : MarkedPolynomials
   pub is_basis : IsArrangedBasis (step_order n) (n + 1) (step_list n k fs) basis
   pub is : hs ≡ left_over n basis.items
@@ -49,7 +49,7 @@ pub record IsStep (n k : ℕ) (fs hs : List Terms) : Type 0 where
 -- what a step leaves, or the same where that variable adds nothing
 abbrev pub IsOnTheWay : ℕ → List Terms → ℕ → List Terms → Type 0
 IsOnTheWay n fs zero hs = (hs ≡ fs) ⊎ ((s : MarkedPolynomials) × IsArrangedBasis MonomialOrder.deglex n fs s × (hs ≡ polys s.items))
-IsOnTheWay n fs (suc k) hs = (gs : List Terms) × IsOnTheWay n fs k gs × (IsStep n k gs hs ⊎ (AddsNothing n k gs × (hs ≡ gs)))
+IsOnTheWay n fs (suc k) hs = (gs : List Terms) × IsOnTheWay n fs k gs × (IsVariableStep n k gs hs ⊎ (AddsNothing n k gs × (hs ≡ gs)))
 
 -- the polynomials are in n variables, those variables add nothing that don't occur in the monomial beside them, and a basis
 -- that is there is the reduced one by deglex
@@ -62,12 +62,12 @@ pub record IsStage (n : ℕ) (s : Stage) : Type 0 where
 -- ---- refusals
 
 -- why a step has no basis
-abbrev pub IsStepRefusal : ℕ → ℕ → List Terms → ℕ → BasisError → Type 0
-IsStepRefusal n k fs budget e = IsBasisRefusal (step_order n) (n + 1) (step_list n k fs) budget e
+abbrev pub IsVariableStepRefusal : ℕ → ℕ → List Terms → ℕ → BasisError → Type 0
+IsVariableStepRefusal n k fs budget e = IsBasisRefusal (step_order n) (n + 1) (step_list n k fs) budget e
 
 -- why there is no saturation: no basis of a step by a variable, none by deglex of what stands for the saturation by all, or no memory
 pub data IsSaturateRefusal (n : ℕ) (fs : List Terms) (budget : ℕ) (e : BasisError) : Type 0 where
-  at_step : (k : ℕ) (hs : List Terms) → k < n → IsOnTheWay n fs k hs → IsStepRefusal n k hs budget e → IsSaturateRefusal n fs budget e
+  at_step : (k : ℕ) (hs : List Terms) → k < n → IsOnTheWay n fs k hs → IsVariableStepRefusal n k hs budget e → IsSaturateRefusal n fs budget e
   at_end : (hs : List Terms) → IsOnTheWay n fs n hs → IsBasisRefusal MonomialOrder.deglex n hs budget e → IsSaturateRefusal n fs budget e
   no_memory : IsWantOfMemory e → IsSaturateRefusal n fs budget e
 

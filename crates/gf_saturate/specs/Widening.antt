@@ -28,7 +28,7 @@ left_over n [] = []
 left_over n (b ∷ bs) = (if entry b.head n == 0 then (map (narrowed_term n) b.poly ∷ []) else []) ++ left_over n bs
 
 -- the variable at place k, from 0, of n
-abbrev pub variable : ℕ → ℕ → Exponents
-variable zero k = []
-variable (suc n) zero = 1 ∷ replicate n 0
-variable (suc n) (suc k) = 0 ∷ variable n k
+abbrev pub variable_at : ℕ → ℕ → Exponents
+variable_at zero k = []
+variable_at (suc n) zero = 1 ∷ replicate n 0
+variable_at (suc n) (suc k) = 0 ∷ variable_at n k

@@ -1,6 +1,6 @@
 //! A variable, and the generator that makes a monomial invertible.
 ghost use Rattle.std.specs.Prelude.{◌≡◌, ◌<◌, ◌≤◌, length, IfOk};
-ghost use Rattle.gf_saturate.specs.Widening.{rabinowitsch_terms, variable};
+ghost use Rattle.gf_saturate.specs.Widening.{rabinowitsch_terms, variable_at};
 
 use crate::widening::filled;
 use gf_frac::constants;
@@ -11,7 +11,7 @@ use std::alloc::{AllocError, Global};
 pub(crate) fn variable(alloc: Global, n: u32, k: u32) -> Mono
     requires room { n ≤ ROOM }
     requires inside { k < n }
-    ensures { result ≡ variable n k }
+    ensures { result ≡ variable_at n k }
 {
     let mut exponents = [0; ROOM];
     exponents[k as usize] = 1;

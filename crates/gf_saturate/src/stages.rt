@@ -6,8 +6,8 @@ ghost use Rattle.gf_exponents.specs.SixOrders.{MonomialOrder};
 ghost use Rattle.gf_buchberger.specs.Bases.{IsArrangedBasis};
 ghost use Rattle.gf_buchberger.specs.Jobs.{HaveRingVariables};
 ghost use Rattle.gf_saturation.specs.Saturations.{last_weight};
-ghost use Rattle.gf_saturate.specs.Widening.{extended_list, variable};
-ghost use Rattle.gf_saturate.specs.Saturating.{IsStep, IsStepRefusal, IsOnTheWay, IsStage};
+ghost use Rattle.gf_saturate.specs.Widening.{extended_list, variable_at};
+ghost use Rattle.gf_saturate.specs.Saturating.{IsVariableStep, IsVariableStepRefusal, IsOnTheWay, IsStage};
 
 use crate::elimination::{extended, last_first, left_over_of};
 use crate::marks::{marks_left_over, marks_of};
@@ -126,8 +126,8 @@ fn step_basis(
     requires room { n < ROOM }
     requires inside { k < n }
     requires variables { HaveRingVariables n set.now }
-    ensures ok { IfOk result (IsArrangedBasis (MonomialOrder.weighted (last_weight n)) (n + 1) (extended_list (variable n k) set.now)) }
-    ensures err { IfErr result (IsStepRefusal n k set.now pairs) }
+    ensures ok { IfOk result (IsArrangedBasis (MonomialOrder.weighted (last_weight n)) (n + 1) (extended_list (variable_at n k) set.now)) }
+    ensures err { IfErr result (IsVariableStepRefusal n k set.now pairs) }
 {
     let by = variable(alloc, n, k);
     let Ok(generators) = extended(alloc, n, &by, set) else {
@@ -144,8 +144,8 @@ fn left(alloc: Global, n: u32, k: u32, set: &[Poly], found: &MarkedSet) -> Resul
     requires room { n < ROOM }
     requires inside { k < n }
     requires variables { HaveRingVariables n set.now }
-    requires basis { IsArrangedBasis (MonomialOrder.weighted (last_weight n)) (n + 1) (extended_list (variable n k) set.now) found.now }
-    ensures step { IfOk result (λ s. IsStep n k set.now s.polys.items) }
+    requires basis { IsArrangedBasis (MonomialOrder.weighted (last_weight n)) (n + 1) (extended_list (variable_at n k) set.now) found.now }
+    ensures step { IfOk result (λ s. IsVariableStep n k set.now s.polys.items) }
     ensures stage { IfOk result (IsStage n) }
 {
     let polys = left_over_of(alloc, n, found)?;
@@ -167,9 +167,9 @@ pub(crate) fn step(
     requires room { n < ROOM }
     requires inside { k < n }
     requires variables { HaveRingVariables n set.now }
-    ensures step { IfOk result (λ s. IsStep n k set.now s.polys.items) }
+    ensures step { IfOk result (λ s. IsVariableStep n k set.now s.polys.items) }
     ensures stage { IfOk result (IsStage n) }
-    ensures err { IfErr result (IsStepRefusal n k set.now pairs) }
+    ensures err { IfErr result (IsVariableStepRefusal n k set.now pairs) }
 {
     let found = match step_basis(alloc, n, k, set, pairs) {
         Ok(found) => found,

@@ -8,7 +8,7 @@ use Rattle.std.specs.Io.KnownBytes.{Consumes, Keeps, IsAtEnd}
 use Rattle.std.proofs.KnownBytes.{Consumes-kept}
 use Rattle.gf_session.specs.declared.choice.Choice.{Choice}
 use Rattle.gf_session.specs.Choices.{choice_of, narrowed}
-use Rattle.gf_session.specs.Lines.{HasNoFeed, IsBegun, IsHeard}
+use Rattle.gf_session.specs.Lines.{HasNoFeed, IsBegun, IsLineHeard}
 use Rattle.gf_session.proofs.ChoiceLaws.{choice-kept}
 use Rattle.gf_outside.specs.Moved.{Counts, Took}
 use Rattle.gf_outside.proofs.MovedLaws.{Took-append}
@@ -72,7 +72,7 @@ count-more bytes b before taken e = omega (arith, length-append bytes (b ∷ [])
 -- a line that is heard at its line feed
 pub IsHeard-ended : (left leaves : Option (List ℕ)) (given gives before taken : ℕ) (choice : Choice) (bytes : List ℕ) (b : ℕ) → HasNoFeed bytes → choice ≡ narrowed (choice_of (take 81 bytes)) →
     Took left leaves given gives (bytes ++ b ∷ []) → b ≡ 10 → taken ≡ before + length bytes →
-    IsHeard left leaves given gives before (record { choice = choice; is_last = false; taken = taken + 1 })
+    IsLineHeard left leaves given gives before (record { choice = choice; is_last = false; taken = taken + 1 })
 IsHeard-ended left leaves given gives before taken choice bytes b pure asks took feed count = record {
   line = bytes;
   pure = pure;
@@ -85,7 +85,7 @@ IsHeard-ended left leaves given gives before taken choice bytes b pure asks took
 -- a line that is heard at the end
 pub IsHeard-last : (left leaves : Option (List ℕ)) (given gives before taken : ℕ) (choice : Choice) (bytes : List ℕ) → HasNoFeed bytes → choice ≡ narrowed (choice_of (take 81 bytes)) →
     Took left leaves given gives bytes → IsAtEnd leaves → taken ≡ before + length bytes →
-    IsHeard left leaves given gives before (record { choice = choice; is_last = true; taken = taken })
+    IsLineHeard left leaves given gives before (record { choice = choice; is_last = true; taken = taken })
 IsHeard-last left leaves given gives before taken choice bytes pure asks took end count = record {
   line = bytes;
   pure = pure;

@@ -3,46 +3,46 @@
 use Rattle.std.proofs.Common.{◌≡◌, ◌<◌, ℕ, zero, suc, List, [], ◌∷◌, length, Contains, slice_index_or, arith, sym, subst, inl, inr}
 use Rattle.gf_session.specs.declared.choice.Choice.{Choice}
 use Rattle.gf_session.specs.declared.choice.Choice.TheVariants as choices
-use Rattle.gf_session.specs.Sessions.{Rules, Trail, IsTurn, AreTurns, IsUndone, IsNear}
-use Rattle.gf_session.specs.Transcripts.{AreOver, IsOver}
+use Rattle.gf_session.specs.Sessions.{Rules, Trail, IsLineTurn, AreTurns, IsUndone, IsNear}
+use Rattle.gf_session.specs.Transcripts.{HoldsOfPlaces, HoldsOverTrail}
 
 -- ---- one place
 
-over-each : {P : Type 0} (Q : P → Type 0) (ps : List P) (p : P) → AreOver Q ps → Contains ps p → Q p
+over-each : {P : Type 0} (Q : P → Type 0) (ps : List P) (p : P) → HoldsOfPlaces Q ps → Contains ps p → Q p
 over-each {P} Q ps p h c = at ps c.0 h c.1 c.2
   where
-    at : (qs : List P) (k : ℕ) → AreOver Q qs → k < length qs → slice_index_or qs k p ≡ p → Q p
+    at : (qs : List P) (k : ℕ) → HoldsOfPlaces Q qs → k < length qs → slice_index_or qs k p ≡ p → Q p
     at [] k h l e = absurd (omega arith)
     at (q ∷ qs) zero h l e = subst Q e h.0
     at (q ∷ qs) (suc k) h l e = at qs k h.1 (omega arith) e
 
 -- a place where a line of the trail may look
-pub near-over : {P : Type 0} (r : Rules P) (Q : P → Type 0) → ((p q : P) (n : ℕ) → Q p → r.IsAcross p n q → Q q) → (s : Trail P) (p : P) → IsOver Q s → IsNear r s p → Q p
+pub near-over : {P : Type 0} (r : Rules P) (Q : P → Type 0) → ((p q : P) (n : ℕ) → Q p → r.IsAcross p n q → Q q) → (s : Trail P) (p : P) → HoldsOverTrail Q s → IsNear r s p → Q p
 near-over r Q stays s p over (IsNear.at_hand e) = subst Q (sym e) over.here
 near-over r Q stays s p over (IsNear.behind c) = over-each Q s.before p over.before c
 near-over r Q stays s p over (IsNear.beyond n across) = stays s.here p n over.here across
 
 -- ---- lines
 
-undo-over : {P : Type 0} (r : Rules P) (Q : P → Type 0) (here : P) (before : List P) (t : Trail P) (text : List ℕ) → Q here → AreOver Q before → IsUndone r here before t text → IsOver Q t
+undo-over : {P : Type 0} (r : Rules P) (Q : P → Type 0) (here : P) (before : List P) (t : Trail P) (text : List ℕ) → Q here → HoldsOfPlaces Q before → IsUndone r here before t text → HoldsOverTrail Q t
 undo-over r Q here [] t text h b a =
-    let over : IsOver Q (record { here = here; before = [] }) = record { here = h; before = tt } in
-    subst (IsOver Q) (sym a.stays) over
+    let over : HoldsOverTrail Q (record { here = here; before = [] }) = record { here = h; before = tt } in
+    subst (HoldsOverTrail Q) (sym a.stays) over
 undo-over r Q here (p ∷ ps) t text h b a =
-    let over : IsOver Q (record { here = p; before = ps }) = record { here = b.0; before = b.1 } in
-    subst (IsOver Q) (sym a.0) over
+    let over : HoldsOverTrail Q (record { here = p; before = ps }) = record { here = b.0; before = b.1 } in
+    subst (HoldsOverTrail Q) (sym a.0) over
 
-turn-over : {P : Type 0} (r : Rules P) (Q : P → Type 0) → ((p q : P) (n : ℕ) → Q p → r.IsAcross p n q → Q q) → (s : Trail P) (c : Choice) (t : Trail P) (text : List ℕ) → IsOver Q s → IsTurn r s c t text → IsOver Q t
-turn-over r Q stays s choices.Blank t text over turn = subst (IsOver Q) (sym turn.stays) over
+turn-over : {P : Type 0} (r : Rules P) (Q : P → Type 0) → ((p q : P) (n : ℕ) → Q p → r.IsAcross p n q → Q q) → (s : Trail P) (c : Choice) (t : Trail P) (text : List ℕ) → HoldsOverTrail Q s → IsLineTurn r s c t text → HoldsOverTrail Q t
+turn-over r Q stays s choices.Blank t text over turn = subst (HoldsOverTrail Q) (sym turn.stays) over
 turn-over r Q stays s (choices.Across n) t text over (inl x) =
-    let both : AreOver Q (s.here ∷ s.before) = (over.here, over.before) in
-    record { here = stays s.here t.here n over.here x.across; before = subst (AreOver Q) (sym x.before) both }
-turn-over r Q stays s (choices.Across n) t text over (inr x) = subst (IsOver Q) (sym x.1.stays) over
+    let both : HoldsOfPlaces Q (s.here ∷ s.before) = (over.here, over.before) in
+    record { here = stays s.here t.here n over.here x.across; before = subst (HoldsOfPlaces Q) (sym x.before) both }
+turn-over r Q stays s (choices.Across n) t text over (inr x) = subst (HoldsOverTrail Q) (sym x.1.stays) over
 turn-over r Q stays s choices.Undo t text over turn = undo-over r Q s.here s.before t text over.here over.before turn
 turn-over r Q stays s choices.Quit t text over turn = absurd turn
-turn-over r Q stays s choices.Unknown t text over turn = subst (IsOver Q) (sym turn.stays) over
+turn-over r Q stays s choices.Unknown t text over turn = subst (HoldsOverTrail Q) (sym turn.stays) over
 
 -- each place of the trail that lines lead to
-pub turns-over : {P : Type 0} (r : Rules P) (Q : P → Type 0) → ((p q : P) (n : ℕ) → Q p → r.IsAcross p n q → Q q) → (s : Trail P) (cs : List Choice) (t : Trail P) (text : List ℕ) → IsOver Q s → AreTurns r s cs t text → IsOver Q t
-turns-over r Q stays s [] t text over a = subst (IsOver Q) (sym a.0) over
+pub turns-over : {P : Type 0} (r : Rules P) (Q : P → Type 0) → ((p q : P) (n : ℕ) → Q p → r.IsAcross p n q → Q q) → (s : Trail P) (cs : List Choice) (t : Trail P) (text : List ℕ) → HoldsOverTrail Q s → AreTurns r s cs t text → HoldsOverTrail Q t
+turns-over r Q stays s [] t text over a = subst (HoldsOverTrail Q) (sym a.0) over
 turns-over r Q stays s (c ∷ cs) t text over a = turns-over r Q stays a.0 cs t a.2 (turn-over r Q stays s c a.0 a.1 over a.3) a.4

@@ -16,21 +16,21 @@ use Rattle.gf_session.specs.declared.line.Heard.{Heard}
 use Rattle.gf_session.specs.declared.session.SessionError.{SessionError}
 use Rattle.gf_session.specs.declared.session.SessionError.TheVariants as errors
 use Rattle.gf_session.specs.Choices.{choice_of, narrowed}
-use Rattle.gf_session.specs.Lines.{HasNoFeed, IsHeard, IsCut, ended, as_taken}
-use Rattle.gf_session.specs.Sessions.{Rules, Trail, IsTurn, AreTurns, IsTalk, IsEndedByInput, IsEndedByLine, IsCutOff, IsUnwritten, IsStuck}
-use Rattle.gf_session.specs.Moves.{IsOn, IsTurnTaken, IsTurnUnwritten, IsTurnRefused, IsTurnCause, IsWriteCalm}
+use Rattle.gf_session.specs.Lines.{HasNoFeed, IsLineHeard, IsCut, ended, as_taken}
+use Rattle.gf_session.specs.Sessions.{Rules, Trail, IsLineTurn, AreTurns, IsTalk, IsEndedByInput, IsEndedByLine, IsBrokenOff, IsReplyUnwritten, IsStuck}
+use Rattle.gf_session.specs.Moves.{IsSessionAt, IsTurnTaken, IsTurnUnwritten, IsTurnRefused, IsTurnCause, IsWriteCalm}
 use Rattle.gf_session.specs.Endings.{IsTalking, IsLeftOff, IsCause, IsReadCalm, IsWithinInput}
 
 -- ---- turns in turn
 
-pub turns-more : {P : Type 0} (r : Rules P) (s : Trail P) (cs : List Choice) (t : Trail P) (c : Choice) (u : Trail P) (text piece : List ℕ) → AreTurns r s cs t text → IsTurn r t c u piece →
+pub turns-more : {P : Type 0} (r : Rules P) (s : Trail P) (cs : List Choice) (t : Trail P) (c : Choice) (u : Trail P) (text piece : List ℕ) → AreTurns r s cs t text → IsLineTurn r t c u piece →
     AreTurns r s (cs ++ c ∷ []) u (text ++ piece)
 turns-more r s [] t c u text piece a turn = (u, piece, [], rw a.0 at turn, (refl, refl), rw (a.1, append-nil) refl)
 turns-more r s (d ∷ cs) t c u text piece a turn =
     (a.0, a.1, a.2 ++ piece, a.3, turns-more r a.0 cs t c u a.2 piece a.4 turn, rw (a.5, append_assoc) refl)
 
 -- one line more
-pub lines-more : {P : Type 0} (r : Rules P) (s : Trail P) (lines : List (List ℕ)) (line : List ℕ) (t u : Trail P) (text piece : List ℕ) → AreTurns r s (map choice_of lines) t text → IsTurn r t (choice_of line) u piece →
+pub lines-more : {P : Type 0} (r : Rules P) (s : Trail P) (lines : List (List ℕ)) (line : List ℕ) (t u : Trail P) (text piece : List ℕ) → AreTurns r s (map choice_of lines) t text → IsLineTurn r t (choice_of line) u piece →
     AreTurns r s (map choice_of (lines ++ line ∷ [])) u (text ++ piece)
 lines-more r s lines line t u text piece a turn = rw map-append (turns-more r s (map choice_of lines) t (choice_of line) u text piece a turn)
 
@@ -86,7 +86,7 @@ quits choices.Unknown e = absurd (cc e)
 
 -- q
 pub ended-by-line : {P S : Type 0} (r : Rules P) (joins : P → S → P → Type 0) (s : Trail P) (here : P) (steps : List S) (left middle leaves : Option (List ℕ)) (given between gives : ℕ) (held holds : Option (List ℕ)) (taken : ℕ) (heard : Heard) →
-    IsTalking r joins s here steps left middle given between held holds taken → IsHeard middle leaves between gives taken heard → heard.choice ≡ choices.Quit → Keeps holds holds →
+    IsTalking r joins s here steps left middle given between held holds taken → IsLineHeard middle leaves between gives taken heard → heard.choice ≡ choices.Quit → Keeps holds holds →
     IsEndedByLine r s left leaves given gives held holds
 ended-by-line r joins s here steps left middle leaves given between gives held holds taken heard so h quit kept = record {
   lines = so.lines;
@@ -101,12 +101,12 @@ ended-by-line r joins s here steps left middle leaves given between gives held h
 
 -- the line is one of the trail that the session has come to
 pub heard-on : {P S : Type 0} (r : Rules P) (joins : P → S → P → Type 0) (s : Trail P) (here : P) (steps : List S) (left middle leaves : Option (List ℕ)) (given between gives : ℕ) (held holds : Option (List ℕ)) (taken : ℕ) (heard : Heard)
-    (so : IsTalking r joins s here steps left middle given between held holds taken) (h : IsHeard middle leaves between gives taken heard) → IsOn joins here steps heard.choice so.t (choice_of h.line)
+    (so : IsTalking r joins s here steps left middle given between held holds taken) (h : IsLineHeard middle leaves between gives taken heard) → IsSessionAt joins here steps heard.choice so.t (choice_of h.line)
 heard-on r joins s here steps left middle leaves given between gives held holds taken heard so h = record { is_here = so.is_here; are_steps = so.are_steps; is_choice = h.choice }
 
 -- the last line was answered
 pub ended-by-input : {P S : Type 0} (r : Rules P) (joins : P → S → P → Type 0) (s : Trail P) (here there : P) (steps more : List S) (left middle leaves : Option (List ℕ)) (given between gives : ℕ) (held holds gained : Option (List ℕ)) (taken : ℕ) (heard : Heard)
-    (so : IsTalking r joins s here steps left middle given between held holds taken) (h : IsHeard middle leaves between gives taken heard) → heard.is_last ≡ true →
+    (so : IsTalking r joins s here steps left middle given between held holds taken) (h : IsLineHeard middle leaves between gives taken heard) → heard.is_last ≡ true →
     IsTurnTaken r joins so.t (choice_of h.line) there more holds gained → IsEndedByInput r s left leaves given gives held gained
 ended-by-input r joins s here there steps more left middle leaves given between gives held holds gained taken heard so h last turn = record {
   lines = so.lines;
@@ -122,7 +122,7 @@ ended-by-input r joins s here there steps more left middle leaves given between 
 
 -- another line was answered
 pub talk-more : {P S : Type 0} (r : Rules P) (joins : P → S → P → Type 0) (s : Trail P) (here there : P) (steps more : List S) (left middle leaves : Option (List ℕ)) (given between gives : ℕ) (held holds gained : Option (List ℕ)) (taken : ℕ) (heard : Heard)
-    (so : IsTalking r joins s here steps left middle given between held holds taken) (h : IsHeard middle leaves between gives taken heard) → heard.is_last ≡ false →
+    (so : IsTalking r joins s here steps left middle given between held holds taken) (h : IsLineHeard middle leaves between gives taken heard) → heard.is_last ≡ false →
     IsTurnTaken r joins so.t (choice_of h.line) there more holds gained → IsTalking r joins s there more left leaves given gives held gained heard.taken
 talk-more r joins s here there steps more left middle leaves given between gives held holds gained taken heard so h last turn =
     let took : Took middle leaves between gives (ended h.line) = rw last at h.took in
@@ -147,7 +147,7 @@ talk-more r joins s here there steps more left middle leaves given between gives
 
 -- in a line
 pub cut-off : {P S : Type 0} (r : Rules P) (joins : P → S → P → Type 0) (s : Trail P) (here : P) (steps : List S) (left middle leaves : Option (List ℕ)) (given between gives : ℕ) (held holds : Option (List ℕ)) (taken n : ℕ) →
-    IsTalking r joins s here steps left middle given between held holds taken → IsCut middle leaves between gives n → Keeps holds holds → IsCutOff r s left leaves given gives held holds (taken + n)
+    IsTalking r joins s here steps left middle given between held holds taken → IsCut middle leaves between gives n → Keeps holds holds → IsBrokenOff r s left leaves given gives held holds (taken + n)
 cut-off r joins s here steps left middle leaves given between gives held holds taken n so cut kept = record {
   lines = so.lines;
   rest = cut.bytes;
@@ -159,8 +159,8 @@ cut-off r joins s here steps left middle leaves given between gives held holds t
 
 -- in its answer
 pub left-unwritten : {P S : Type 0} (r : Rules P) (joins : P → S → P → Type 0) (s : Trail P) (here : P) (steps : List S) (left middle leaves : Option (List ℕ)) (given between gives : ℕ) (held holds gained : Option (List ℕ)) (taken : ℕ) (heard : Heard)
-    (so : IsTalking r joins s here steps left middle given between held holds taken) (h : IsHeard middle leaves between gives taken heard) →
-    IsTurnUnwritten r so.t (choice_of h.line) holds gained → IsUnwritten r s left leaves given gives held gained
+    (so : IsTalking r joins s here steps left middle given between held holds taken) (h : IsLineHeard middle leaves between gives taken heard) →
+    IsTurnUnwritten r so.t (choice_of h.line) holds gained → IsReplyUnwritten r s left leaves given gives held gained
 left-unwritten r joins s here steps left middle leaves given between gives held holds gained taken heard so h turn = record {
   lines = so.lines;
   last = h.line;
@@ -179,7 +179,7 @@ left-unwritten r joins s here steps left middle leaves given between gives held 
 
 -- at a place
 pub left-stuck : {P S E : Type 0} (r : Rules P) (joins : P → S → P → Type 0) (refuses : P → E → Type 0) (s : Trail P) (here : P) (steps : List S) (left middle leaves : Option (List ℕ)) (given between gives : ℕ) (held holds gained : Option (List ℕ)) (taken : ℕ) (heard : Heard) (e : E)
-    (so : IsTalking r joins s here steps left middle given between held holds taken) (h : IsHeard middle leaves between gives taken heard) →
+    (so : IsTalking r joins s here steps left middle given between held holds taken) (h : IsLineHeard middle leaves between gives taken heard) →
     IsTurnRefused r refuses so.t holds gained e → IsStuck r refuses s left leaves given gives held gained e
 left-stuck r joins refuses s here steps left middle leaves given between gives held holds gained taken heard e so h turn = record {
   lines = so.lines;
@@ -196,7 +196,7 @@ left-stuck r joins refuses s here steps left middle leaves given between gives h
 
 -- for want of memory
 pub left-off : {P S : Type 0} (r : Rules P) (joins : P → S → P → Type 0) (s : Trail P) (here : P) (steps : List S) (left middle leaves : Option (List ℕ)) (given between gives : ℕ) (held holds gained : Option (List ℕ)) (taken : ℕ) (heard : Heard) →
-    IsTalking r joins s here steps left middle given between held holds taken → IsHeard middle leaves between gives taken heard → Keeps holds gained → IsLeftOff r s left leaves given gives held gained
+    IsTalking r joins s here steps left middle given between held holds taken → IsLineHeard middle leaves between gives taken heard → Keeps holds gained → IsLeftOff r s left leaves given gives held gained
 left-off r joins s here steps left middle leaves given between gives held holds gained taken heard so h kept = record {
   lines = so.lines;
   last = h.line;
@@ -209,7 +209,7 @@ left-off r joins s here steps left middle leaves given between gives held holds 
 
 -- as its turn is
 pub turn-cause : {P S E : Type 0} (r : Rules P) (joins : P → S → P → Type 0) (refuses : P → E → Type 0) (s : Trail P) (here : P) (steps : List S) (left middle leaves : Option (List ℕ)) (given between gives : ℕ) (held holds gained : Option (List ℕ)) (read reads start written writes taken : ℕ) (heard : Heard) (e : SessionError E)
-    (so : IsTalking r joins s here steps left middle given between held holds taken) (h : IsHeard middle leaves between gives taken heard) → written ≡ start →
+    (so : IsTalking r joins s here steps left middle given between held holds taken) (h : IsLineHeard middle leaves between gives taken heard) → written ≡ start →
     IsTurnCause r joins refuses here steps heard.choice holds gained written writes e → IsCause r refuses s left leaves given gives held gained read reads start writes e
 turn-cause r joins refuses s here steps left middle leaves given between gives held holds gained read reads start written writes taken heard errors.ReadFault so h calm cause = absurd cause
 turn-cause r joins refuses s here steps left middle leaves given between gives held holds gained read reads start written writes taken heard errors.InputTooLong so h calm cause = absurd cause
@@ -228,12 +228,12 @@ turn-cause r joins refuses s here steps left middle leaves given between gives h
 
 -- and no more than an input may have
 pub cut-short : {P : Type 0} (r : Rules P) (s : Trail P) (left leaves : Option (List ℕ)) (given gives : ℕ) (held holds : Option (List ℕ)) (n : ℕ) →
-    IsCutOff r s left leaves given gives held holds n → n ≤ 67108864 → TookAtMost left leaves given gives 67108864
+    IsBrokenOff r s left leaves given gives held holds n → n ≤ 67108864 → TookAtMost left leaves given gives 67108864
 cut-short r s left leaves given gives held holds n cut fits = record { bytes = flat_map ended cut.lines ++ cut.rest; took = cut.talk.took; at_most = omega (arith, cut.exactly, fits) }
 
 -- what a session took with a line
 pub line-short : {P S : Type 0} (r : Rules P) (joins : P → S → P → Type 0) (s : Trail P) (here : P) (steps : List S) (left middle leaves : Option (List ℕ)) (given between gives : ℕ) (held holds : Option (List ℕ)) (taken : ℕ) (heard : Heard) →
-    IsTalking r joins s here steps left middle given between held holds taken → IsHeard middle leaves between gives taken heard → heard.taken ≤ 67108864 → TookAtMost left leaves given gives 67108864
+    IsTalking r joins s here steps left middle given between held holds taken → IsLineHeard middle leaves between gives taken heard → heard.taken ≤ 67108864 → TookAtMost left leaves given gives 67108864
 line-short r joins s here steps left middle leaves given between gives held holds taken heard so h fits = record {
   bytes = flat_map ended so.lines ++ as_taken heard.is_last h.line;
   took = took-line r joins s here steps left middle leaves given between gives held holds taken (as_taken heard.is_last h.line) so h.took;

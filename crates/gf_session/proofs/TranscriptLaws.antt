@@ -3,20 +3,20 @@
 use Rattle.std.proofs.Common.{◌≡◌, ◌⊎◌, ℕ, List, [], ◌∷◌, ◌++◌, length, refl, sym, ap₂, ◌∙◌, subst, inl, inr}
 use Rattle.gf_session.specs.declared.choice.Choice.{Choice}
 use Rattle.gf_session.specs.declared.choice.Choice.TheVariants as choices
-use Rattle.gf_session.specs.Sessions.{Rules, Trail, IsTurn, AreTurns, IsCrossed, IsAnswered, IsUndone, no_such_facet, nothing_to_undo, not_understood}
-use Rattle.gf_session.specs.Transcripts.{AreFunctions, AreDetermined, NoneQuits, AreOver, IsOver, AreTotal, HaveTranscripts}
+use Rattle.gf_session.specs.Sessions.{Rules, Trail, IsLineTurn, AreTurns, IsWalkedOn, IsReply, IsUndone, no_such_facet, nothing_to_undo, not_understood}
+use Rattle.gf_session.specs.Transcripts.{AreFunctions, AreDetermined, NoneQuits, HoldsOfPlaces, HoldsOverTrail, AreTotal, HaveTranscripts}
 
 -- ---- one at most
 
-same_answer : {P : Type 0} (s t u : Trail P) (answer x y : List ℕ) → IsAnswered s t answer x → IsAnswered s u answer y → (t ≡ u) × (x ≡ y)
+same_answer : {P : Type 0} (s t u : Trail P) (answer x y : List ℕ) → IsReply s t answer x → IsReply s u answer y → (t ≡ u) × (x ≡ y)
 same_answer s t u answer x y a b = (a.stays ∙ sym b.stays, a.is_answer ∙ sym b.is_answer)
 
-same_crossing : {P : Type 0} (r : Rules P) → AreFunctions r → (s t u : Trail P) (n : ℕ) (x y : List ℕ) → IsCrossed r s n t x → IsCrossed r s n u y → (t ≡ u) × (x ≡ y)
+same_crossing : {P : Type 0} (r : Rules P) → AreFunctions r → (s t u : Trail P) (n : ℕ) (x y : List ℕ) → IsWalkedOn r s n t x → IsWalkedOn r s n u y → (t ≡ u) × (x ≡ y)
 same_crossing {P} r f s t u n x y a b =
     let same : t ≡ u = ap₂ (λ (h : P) (ps : List P). record { here = h; before = ps }) (f.one_place s.here t.here u.here n a.across b.across) (a.before ∙ sym b.before) in
     (same, f.one_text t.here (length t.before) x y a.told (subst (λ (v : Trail P). r.IsTold v.here (length v.before) y) (sym same) b.told))
 
-same_across : {P : Type 0} (r : Rules P) → AreFunctions r → (s t u : Trail P) (n : ℕ) (x y : List ℕ) → IsTurn r s (choices.Across n) t x → IsTurn r s (choices.Across n) u y → (t ≡ u) × (x ≡ y)
+same_across : {P : Type 0} (r : Rules P) → AreFunctions r → (s t u : Trail P) (n : ℕ) (x y : List ℕ) → IsLineTurn r s (choices.Across n) t x → IsLineTurn r s (choices.Across n) u y → (t ≡ u) × (x ≡ y)
 same_across r f s t u n x y (inl a) (inl b) = same_crossing r f s t u n x y a b
 same_across r f s t u n x y (inl a) (inr b) = absurd (f.no_place s.here t.here n a.across b.0)
 same_across r f s t u n x y (inr a) (inl b) = absurd (f.no_place s.here u.here n b.across a.0)
@@ -26,7 +26,7 @@ same_undoing : {P : Type 0} (r : Rules P) → AreFunctions r → (here : P) (bef
 same_undoing r f here [] t u x y a b = same_answer _ t u _ x y a b
 same_undoing r f here (p ∷ ps) t u x y a b = (a.0 ∙ sym b.0, f.one_text p (length ps) x y a.1 b.1)
 
-same_turn : {P : Type 0} (r : Rules P) → AreFunctions r → (s : Trail P) (c : Choice) (t u : Trail P) (x y : List ℕ) → IsTurn r s c t x → IsTurn r s c u y → (t ≡ u) × (x ≡ y)
+same_turn : {P : Type 0} (r : Rules P) → AreFunctions r → (s : Trail P) (c : Choice) (t u : Trail P) (x y : List ℕ) → IsLineTurn r s c t x → IsLineTurn r s c u y → (t ≡ u) × (x ≡ y)
 same_turn r f s choices.Blank t u x y a b = same_answer s t u _ x y a b
 same_turn r f s (choices.Across n) t u x y a b = same_across r f s t u n x y a b
 same_turn r f s choices.Undo t u x y a b = same_undoing r f s.here s.before t u x y a b
@@ -55,10 +55,10 @@ determined r = record {
 record IsLedOn {P : Type 0} (r : Rules P) (Q : P → Type 0) (s : Trail P) (c : Choice) : Type 0 where
   t : Trail P
   piece : List ℕ
-  turn : IsTurn r s c t piece
-  over : IsOver Q t
+  turn : IsLineTurn r s c t piece
+  over : HoldsOverTrail Q t
 
-crossing : {P : Type 0} (r : Rules P) (Q : P → Type 0) → AreTotal r Q → (s : Trail P) (n : ℕ) → IsOver Q s → (((q : P) × r.IsAcross s.here n q) ⊎ r.IsLacking s.here n) → IsLedOn r Q s (choices.Across n)
+crossing : {P : Type 0} (r : Rules P) (Q : P → Type 0) → AreTotal r Q → (s : Trail P) (n : ℕ) → HoldsOverTrail Q s → (((q : P) × r.IsAcross s.here n q) ⊎ r.IsLacking s.here n) → IsLedOn r Q s (choices.Across n)
 crossing r Q total s n over (inl q) =
     let there = total.stays s.here q.0 n over.here q.1 in
     let told = total.told q.0 (length (s.here ∷ s.before)) there in
@@ -76,9 +76,9 @@ record IsLedBack {P : Type 0} (r : Rules P) (Q : P → Type 0) (here : P) (befor
   t : Trail P
   piece : List ℕ
   undone : IsUndone r here before t piece
-  over : IsOver Q t
+  over : HoldsOverTrail Q t
 
-undoing : {P : Type 0} (r : Rules P) (Q : P → Type 0) → AreTotal r Q → (here : P) (before : List P) → Q here → AreOver Q before → IsLedBack r Q here before
+undoing : {P : Type 0} (r : Rules P) (Q : P → Type 0) → AreTotal r Q → (here : P) (before : List P) → Q here → HoldsOfPlaces Q before → IsLedBack r Q here before
 undoing r Q total here [] h b = record {
   t = record { here = here; before = [] };
   piece = nothing_to_undo;
@@ -94,7 +94,7 @@ undoing r Q total here (p ∷ ps) h b =
       over = record { here = b.0; before = b.1 };
     }
 
-one_turn : {P : Type 0} (r : Rules P) (Q : P → Type 0) → AreTotal r Q → (s : Trail P) (c : Choice) → IsOver Q s → (c ≡ choices.Quit → ⊥) → IsLedOn r Q s c
+one_turn : {P : Type 0} (r : Rules P) (Q : P → Type 0) → AreTotal r Q → (s : Trail P) (c : Choice) → HoldsOverTrail Q s → (c ≡ choices.Quit → ⊥) → IsLedOn r Q s c
 one_turn r Q total s choices.Blank over goes = record { t = s; piece = []; turn = record { stays = refl; is_answer = refl }; over = over }
 one_turn r Q total s (choices.Across n) over goes = crossing r Q total s n over (total.across s.here n over.here)
 one_turn r Q total s choices.Undo over goes =
@@ -103,7 +103,7 @@ one_turn r Q total s choices.Undo over goes =
 one_turn r Q total s choices.Quit over goes = absurd (goes refl)
 one_turn r Q total s choices.Unknown over goes = record { t = s; piece = not_understood; turn = record { stays = refl; is_answer = refl }; over = over }
 
-some_turns : {P : Type 0} (r : Rules P) (Q : P → Type 0) → AreTotal r Q → (s : Trail P) (cs : List Choice) → IsOver Q s → NoneQuits cs → (t : Trail P) × (text : List ℕ) × AreTurns r s cs t text
+some_turns : {P : Type 0} (r : Rules P) (Q : P → Type 0) → AreTotal r Q → (s : Trail P) (cs : List Choice) → HoldsOverTrail Q s → NoneQuits cs → (t : Trail P) × (text : List ℕ) × AreTurns r s cs t text
 some_turns r Q total s [] over goes = (s, [], (refl, refl))
 some_turns r Q total s (c ∷ cs) over goes =
     let led = one_turn r Q total s c over goes.0 in

@@ -9,8 +9,8 @@ use Rattle.gf_session.specs.declared.choice.Choice.{Choice}
 use Rattle.gf_session.specs.declared.choice.Choice.TheVariants as choices
 use Rattle.gf_session.specs.declared.session.SessionError.{SessionError}
 use Rattle.gf_session.specs.declared.session.SessionError.TheVariants as errors
-use Rattle.gf_session.specs.Sessions.{Rules, Trail, IsTurn, IsNear, IsUndone, Joins, AreSteps, no_such_facet, nothing_to_undo, not_understood}
-use Rattle.gf_session.specs.Moves.{IsGone, IsBack, IsOn, IsOfferCause, IsPromptCause, IsTurnTaken, IsTurnUnwritten, IsTurnCause}
+use Rattle.gf_session.specs.Sessions.{Rules, Trail, IsLineTurn, IsNear, IsUndone, Joins, AreSteps, no_such_facet, nothing_to_undo, not_understood}
+use Rattle.gf_session.specs.Moves.{IsGone, IsBack, IsSessionAt, IsOfferCause, IsPromptCause, IsTurnTaken, IsTurnUnwritten, IsTurnCause}
 
 -- ---- steps
 
@@ -27,7 +27,7 @@ steps-length joins steps s are = joins-length joins (reverse steps) s.here s.bef
 
 -- a line without an answer
 pub turn-blank : {P S : Type 0} (r : Rules P) (joins : P → S → P → Type 0) (here : P) (steps : List S) (held : Option (List ℕ)) (s : Trail P) (asked : Choice) →
-    IsOn joins here steps choices.Blank s asked → IsTurnTaken r joins s asked here steps held held
+    IsSessionAt joins here steps choices.Blank s asked → IsTurnTaken r joins s asked here steps held held
 turn-blank r joins here steps held s choices.Blank on = record {
   t = s;
   is_here = on.is_here;
@@ -46,7 +46,7 @@ pub record IsLed {P S : Type 0} (r : Rules P) (joins : P → S → P → Type 0)
   pub t : Trail P
   pub is_here : t.here ≡ here
   pub are_steps : AreSteps joins steps t
-  pub turn : IsTurn r s asked t piece
+  pub turn : IsLineTurn r s asked t piece
 
 pub taken : {P S : Type 0} (r : Rules P) (joins : P → S → P → Type 0) (s : Trail P) (asked : Choice) (here : P) (steps : List S) (piece : List ℕ) (held holds : Option (List ℕ)) →
     IsLed r joins s asked here steps piece → Appends held holds piece → IsTurnTaken r joins s asked here steps held holds
@@ -58,7 +58,7 @@ unwritten r joins s asked here steps piece held holds led gained = record { t = 
 
 -- a line that isn't understood
 pub led-unknown : {P S : Type 0} (r : Rules P) (joins : P → S → P → Type 0) (here : P) (steps : List S) (s : Trail P) (asked : Choice) →
-    IsOn joins here steps choices.Unknown s asked → IsLed r joins s asked here steps not_understood
+    IsSessionAt joins here steps choices.Unknown s asked → IsLed r joins s asked here steps not_understood
 led-unknown r joins here steps s choices.Unknown on = record { t = s; is_here = on.is_here; are_steps = on.are_steps; turn = record { stays = refl; is_answer = refl } }
 led-unknown r joins here steps s choices.Blank on = absurd (cc on.is_choice)
 led-unknown r joins here steps s (choices.Across n) on = absurd (cc on.is_choice)
@@ -67,7 +67,7 @@ led-unknown r joins here steps s choices.Quit on = absurd (cc on.is_choice)
 
 -- a number that leads nowhere
 pub led-nowhere : {P S : Type 0} (r : Rules P) (joins : P → S → P → Type 0) (here : P) (steps : List S) (k : ℕ) (s : Trail P) (asked : Choice) → ((m : ℕ) → k ≤ m → r.IsLacking here m) →
-    IsOn joins here steps (choices.Across k) s asked → IsLed r joins s asked here steps no_such_facet
+    IsSessionAt joins here steps (choices.Across k) s asked → IsLed r joins s asked here steps no_such_facet
 led-nowhere r joins here steps k s (choices.Across n) none on =
     let small : k ≡ min n (2 ^ 64 - 1) = ap number on.is_choice in
     record { t = s; is_here = on.is_here; are_steps = on.are_steps; turn = inr (rw on.is_here (none n (omega (arith, small))), record { stays = refl; is_answer = refl }) }
@@ -83,7 +83,7 @@ led-nowhere r joins here steps k s choices.Unknown none on = absurd (cc on.is_ch
 -- a number that leads on
 pub led-on : {P S : Type 0} (r : Rules P) (joins : P → S → P → Type 0) (is_place : P → Type 0) (here there : P) (steps more : List S) (k : ℕ) (s : Trail P) (asked : Choice) (text : List ℕ) →
     IsGone r joins is_place here steps k there more → r.IsTold there (length more) text →
-    IsOn joins here steps (choices.Across k) s asked → IsLed r joins s asked there more text
+    IsSessionAt joins here steps (choices.Across k) s asked → IsLed r joins s asked there more text
 led-on r joins is_place here there steps more k s (choices.Across n) text gone told on =
     let same : k ≡ n = omega (arith, ap number on.is_choice, gone.fits) in
     let turned : reverse more ≡ gone.step ∷ reverse steps = ap reverse gone.pushed ∙ reverse-append steps (gone.step ∷ []) in
@@ -118,7 +118,7 @@ stays_first r here before e = rw e (record { stays = refl; is_answer = refl })
 -- the way back
 pub led-back : {P S : Type 0} (r : Rules P) (joins : P → S → P → Type 0) (is_place : P → Type 0) (here there : P) (steps less : List S) (s : Trail P) (asked : Choice) (text : List ℕ) →
     IsBack joins is_place here steps there less → r.IsTold there (length less) text →
-    IsOn joins here steps choices.Undo s asked → IsLed r joins s asked there less text
+    IsSessionAt joins here steps choices.Undo s asked → IsLed r joins s asked there less text
 led-back r joins is_place here there steps less s choices.Undo text back told on =
     let b = back.before s on.is_here on.are_steps in
     record {
@@ -134,7 +134,7 @@ led-back r joins is_place here there steps less s choices.Unknown text back told
 
 -- no way back
 pub led-nowhere_back : {P S : Type 0} (r : Rules P) (joins : P → S → P → Type 0) (here : P) (steps : List S) (s : Trail P) (asked : Choice) → steps ≡ [] →
-    IsOn joins here steps choices.Undo s asked → IsLed r joins s asked here steps nothing_to_undo
+    IsSessionAt joins here steps choices.Undo s asked → IsLed r joins s asked here steps nothing_to_undo
 led-nowhere_back r joins here steps s choices.Undo none on =
     let first : s.before ≡ [] = rw none at on.are_steps in
     record {
@@ -159,12 +159,12 @@ if-err A B (Ok x) a f = a
 if-err A B (Err e) a f = f e a
 
 pub on-as : {P S : Type 0} (joins : P → S → P → Type 0) (here : P) (steps : List S) (choice known : Choice) (s : Trail P) (asked : Choice) → choice ≡ known →
-    IsOn joins here steps choice s asked → IsOn joins here steps known s asked
+    IsSessionAt joins here steps choice s asked → IsSessionAt joins here steps known s asked
 on-as joins here steps choice known s asked e on = record { is_here = on.is_here; are_steps = on.are_steps; is_choice = sym e ∙ on.is_choice }
 
 -- each trail that ends here is led there by this answer
 abbrev pub AreLed : {P S : Type 0} → Rules P → (P → S → P → Type 0) → P → List S → Choice → P → List S → List ℕ → Type 0
-AreLed {P} r joins here steps choice there more piece = (s : Trail P) (asked : Choice) → IsOn joins here steps choice s asked → IsLed r joins s asked there more piece
+AreLed {P} r joins here steps choice there more piece = (s : Trail P) (asked : Choice) → IsSessionAt joins here steps choice s asked → IsLed r joins s asked there more piece
 
 -- why an answer isn't written
 pub cause-offer : {P S E : Type 0} (r : Rules P) (joins : P → S → P → Type 0) (refuses : P → E → Type 0) (here there : P) (steps more : List S) (choice : Choice) (held holds : Option (List ℕ)) (written writes : ℕ)
@@ -180,7 +180,7 @@ cause-offer r joins refuses here there steps more choice held holds written writ
 -- why a prompt isn't written
 pub cause-prompt : {P S E : Type 0} (r : Rules P) (joins : P → S → P → Type 0) (refuses : P → E → Type 0) (here there : P) (steps more : List S) (choice : Choice) (held holds : Option (List ℕ)) (written writes : ℕ)
     (e : SessionError E) → ((text : List ℕ) → r.IsTold there (length more) text → AreLed r joins here steps choice there more text) →
-    ((s : Trail P) (asked : Choice) → IsOn joins here steps choice s asked → IsNear r s there) →
+    ((s : Trail P) (asked : Choice) → IsSessionAt joins here steps choice s asked → IsNear r s there) →
     IsPromptCause r refuses there (length more) held holds written writes e →
     IsTurnCause r joins refuses here steps choice held holds written writes e
 cause-prompt r joins refuses here there steps more choice held holds written writes errors.WriteFault led near cause =

@@ -6,7 +6,7 @@ use Rattle.gf_outside.specs.Moved.{TookAtMost}
 use Rattle.gf_session.specs.declared.session.SessionError.{SessionError}
 use Rattle.gf_session.specs.declared.session.SessionError.TheVariants as errors
 use Rattle.gf_session.specs.Lines.{HasNoFeed, ended, as_taken}
-use Rattle.gf_session.specs.Sessions.{Rules, Trail, AreSteps, IsTalk, IsCutOff, IsUnwritten, IsStuck}
+use Rattle.gf_session.specs.Sessions.{Rules, Trail, AreSteps, IsTalk, IsBrokenOff, IsReplyUnwritten, IsStuck}
 
 -- the walk is here by these steps, and each line that was taken was answered
 pub record IsTalking {P S : Type 0} (r : Rules P) (joins : P → S → P → Type 0) (s : Trail P) (here : P) (steps : List S) (left leaves : Option (List ℕ)) (given gives : ℕ) (held holds : Option (List ℕ)) (taken : ℕ) : Type 0 where
@@ -31,9 +31,9 @@ pub record IsLeftOff {P : Type 0} (r : Rules P) (s : Trail P) (left leaves : Opt
 -- stand last
 abbrev pub IsCause : {P E : Type 0} → Rules P → (P → E → Type 0) → Trail P → Option (List ℕ) → Option (List ℕ) → ℕ → ℕ → Option (List ℕ) → Option (List ℕ) → ℕ → ℕ → ℕ → ℕ → SessionError E → Type 0
 IsCause r refuses s left leaves given gives held holds read reads written writes errors.ReadFault =
-    Rose read reads × ((n : ℕ) × (n ≤ 67108864) × IsCutOff r s left leaves given gives held holds n)
-IsCause r refuses s left leaves given gives held holds read reads written writes errors.InputTooLong = IsCutOff r s left leaves given gives held holds 67108865
-IsCause r refuses s left leaves given gives held holds read reads written writes errors.WriteFault = Rose written writes × IsUnwritten r s left leaves given gives held holds
+    Rose read reads × ((n : ℕ) × (n ≤ 67108864) × IsBrokenOff r s left leaves given gives held holds n)
+IsCause r refuses s left leaves given gives held holds read reads written writes errors.InputTooLong = IsBrokenOff r s left leaves given gives held holds 67108865
+IsCause r refuses s left leaves given gives held holds read reads written writes errors.WriteFault = Rose written writes × IsReplyUnwritten r s left leaves given gives held holds
 IsCause r refuses s left leaves given gives held holds read reads written writes errors.Memory = IsLeftOff r s left leaves given gives held holds
 IsCause r refuses s left leaves given gives held holds read reads written writes (errors.Refused e) = IsStuck r refuses s left leaves given gives held holds e
 

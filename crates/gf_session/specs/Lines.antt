@@ -19,7 +19,7 @@ abbrev pub as_taken : Bool → List ℕ → List ℕ
 as_taken is_last line = if is_last then line else ended line
 
 -- a line was taken, and what is heard is what it asks for; the last one is followed by nothing. So many bytes were taken before
-pub record IsHeard (left leaves : Option (List ℕ)) (given gives before : ℕ) (heard : Heard) : Type 0 where
+pub record IsLineHeard (left leaves : Option (List ℕ)) (given gives before : ℕ) (heard : Heard) : Type 0 where
   pub line : List ℕ
   pub pure : HasNoFeed line
   pub choice : heard.choice ≡ narrowed (choice_of line)

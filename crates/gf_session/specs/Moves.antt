@@ -8,7 +8,7 @@ use Rattle.gf_session.specs.declared.choice.Choice.{Choice}
 use Rattle.gf_session.specs.declared.session.SessionError.{SessionError}
 use Rattle.gf_session.specs.declared.session.SessionError.TheVariants as errors
 use Rattle.gf_session.specs.Choices.{narrowed}
-use Rattle.gf_session.specs.Sessions.{Rules, Trail, IsTurn, IsNear, AreSteps}
+use Rattle.gf_session.specs.Sessions.{Rules, Trail, IsLineTurn, IsNear, AreSteps}
 
 -- ---- one move
 
@@ -32,7 +32,7 @@ IsGoing r joins is_place here steps n there more true = IsGone r joins is_place 
 IsGoing r joins is_place here steps n there more false = (there ≡ here) × (more ≡ steps) × ((m : ℕ) → n ≤ m → r.IsLacking here m)
 
 -- there is the place before on this trail
-pub record IsBefore {P S : Type 0} (joins : P → S → P → Type 0) (s : Trail P) (there : P) (less : List S) : Type 0 where
+pub record IsPlaceBefore {P S : Type 0} (joins : P → S → P → Type 0) (s : Trail P) (there : P) (less : List S) : Type 0 where
   pub rest : List P
   pub was : s.before ≡ there ∷ rest
   pub are_steps : AreSteps joins less (record { here = there; before = rest })
@@ -40,7 +40,7 @@ pub record IsBefore {P S : Type 0} (joins : P → S → P → Type 0) (s : Trail
 -- the walk went back, on each trail that ends here and has these steps
 pub record IsBack {P S : Type 0} (joins : P → S → P → Type 0) (is_place : P → Type 0) (here : P) (steps : List S) (there : P) (less : List S) : Type 0 where
   pub place : is_place there
-  pub before : (s : Trail P) → s.here ≡ here → AreSteps joins steps s → IsBefore joins s there less
+  pub before : (s : Trail P) → s.here ≡ here → AreSteps joins steps s → IsPlaceBefore joins s there less
 
 -- it went back; or it stays, and there is no step
 abbrev pub IsGoingBack : {P S : Type 0} → (P → S → P → Type 0) → (P → Type 0) → P → List S → P → List S → Bool → Type 0
@@ -86,7 +86,7 @@ IsPromptCause r refuses here behind held holds written writes _ = ⊥
 -- ---- turns
 
 -- the trail ends here and has these steps, and the line asks for this, of which the program keeps a number of 64 bits
-pub record IsOn {P S : Type 0} (joins : P → S → P → Type 0) (here : P) (steps : List S) (choice : Choice) (s : Trail P) (asked : Choice) : Type 0 where
+pub record IsSessionAt {P S : Type 0} (joins : P → S → P → Type 0) (here : P) (steps : List S) (choice : Choice) (s : Trail P) (asked : Choice) : Type 0 where
   pub is_here : s.here ≡ here
   pub are_steps : AreSteps joins steps s
   pub is_choice : choice ≡ narrowed asked
@@ -97,14 +97,14 @@ pub record IsTurnTaken {P S : Type 0} (r : Rules P) (joins : P → S → P → T
   pub is_here : t.here ≡ here
   pub are_steps : AreSteps joins steps t
   pub piece : List ℕ
-  pub turn : IsTurn r s asked t piece
+  pub turn : IsLineTurn r s asked t piece
   pub gained : Appends held holds piece
 
 -- a prefix of its answer was written
 pub record IsTurnUnwritten {P : Type 0} (r : Rules P) (s : Trail P) (asked : Choice) (held holds : Option (List ℕ)) : Type 0 where
   pub t : Trail P
   pub piece : List ℕ
-  pub turn : IsTurn r s asked t piece
+  pub turn : IsLineTurn r s asked t piece
   pub gained : AppendsPrefix held holds piece
 
 -- nothing was written: the line is refused at a place that it looks at
@@ -119,7 +119,7 @@ abbrev pub IsTurnCause : {P S E : Type 0} → Rules P → (P → S → P → Typ
 IsTurnCause r joins refuses here steps choice held holds written writes errors.ReadFault = ⊥
 IsTurnCause r joins refuses here steps choice held holds written writes errors.InputTooLong = ⊥
 IsTurnCause {P} r joins refuses here steps choice held holds written writes errors.WriteFault =
-    Rose written writes × ((s : Trail P) (asked : Choice) → IsOn joins here steps choice s asked → IsTurnUnwritten r s asked held holds)
+    Rose written writes × ((s : Trail P) (asked : Choice) → IsSessionAt joins here steps choice s asked → IsTurnUnwritten r s asked held holds)
 IsTurnCause r joins refuses here steps choice held holds written writes errors.Memory = Keeps held holds
 IsTurnCause {P} r joins refuses here steps choice held holds written writes (errors.Refused e) =
-    (s : Trail P) (asked : Choice) → IsOn joins here steps choice s asked → IsTurnRefused r refuses s held holds e
+    (s : Trail P) (asked : Choice) → IsSessionAt joins here steps choice s asked → IsTurnRefused r refuses s held holds e

@@ -40,33 +40,33 @@ not_understood = codes "not understood\n"
 -- ---- turns
 
 -- the walk goes on to where the choice of this number leads, and what is told of the new place is the answer
-pub record IsCrossed {P : Type 0} (r : Rules P) (s : Trail P) (n : ℕ) (t : Trail P) (text : List ℕ) : Type 0 where
+pub record IsWalkedOn {P : Type 0} (r : Rules P) (s : Trail P) (n : ℕ) (t : Trail P) (text : List ℕ) : Type 0 where
   pub before : t.before ≡ s.here ∷ s.before
   pub across : r.IsAcross s.here n t.here
   pub told : r.IsTold t.here (length t.before) text
 
 -- the walk stays, and this is the answer
-pub record IsAnswered {P : Type 0} (s t : Trail P) (answer text : List ℕ) : Type 0 where
+pub record IsReply {P : Type 0} (s t : Trail P) (answer text : List ℕ) : Type 0 where
   pub stays : t ≡ s
   pub is_answer : text ≡ answer
 
 -- the walk goes back to the place before
 abbrev pub IsUndone : {P : Type 0} → Rules P → P → List P → Trail P → List ℕ → Type 0
-IsUndone r here [] t text = IsAnswered (record { here = here; before = [] }) t nothing_to_undo text
+IsUndone r here [] t text = IsReply (record { here = here; before = [] }) t nothing_to_undo text
 IsUndone r here (p ∷ ps) t text = (t ≡ record { here = p; before = ps }) × r.IsTold p (length ps) text
 
 -- from one trail a line leads to another, and this is its answer; the line that ends the session leads nowhere
-abbrev pub IsTurn : {P : Type 0} → Rules P → Trail P → Choice → Trail P → List ℕ → Type 0
-IsTurn r s choices.Blank t text = IsAnswered s t [] text
-IsTurn r s (choices.Across n) t text = IsCrossed r s n t text ⊎ (r.IsLacking s.here n × IsAnswered s t no_such_facet text)
-IsTurn r s choices.Undo t text = IsUndone r s.here s.before t text
-IsTurn r s choices.Quit t text = ⊥
-IsTurn r s choices.Unknown t text = IsAnswered s t not_understood text
+abbrev pub IsLineTurn : {P : Type 0} → Rules P → Trail P → Choice → Trail P → List ℕ → Type 0
+IsLineTurn r s choices.Blank t text = IsReply s t [] text
+IsLineTurn r s (choices.Across n) t text = IsWalkedOn r s n t text ⊎ (r.IsLacking s.here n × IsReply s t no_such_facet text)
+IsLineTurn r s choices.Undo t text = IsUndone r s.here s.before t text
+IsLineTurn r s choices.Quit t text = ⊥
+IsLineTurn r s choices.Unknown t text = IsReply s t not_understood text
 
 -- so do several lines, and their answers in turn are this text
 abbrev pub AreTurns : {P : Type 0} → Rules P → Trail P → List Choice → Trail P → List ℕ → Type 0
 AreTurns r s [] t text = (t ≡ s) × (text ≡ [])
-AreTurns {P} r s (c ∷ cs) t text = (u : Trail P) × (piece : List ℕ) × (rest : List ℕ) × IsTurn r s c u piece × AreTurns r u cs t rest × (text ≡ piece ++ rest)
+AreTurns {P} r s (c ∷ cs) t text = (u : Trail P) × (piece : List ℕ) × (rest : List ℕ) × IsLineTurn r s c u piece × AreTurns r u cs t rest × (text ≡ piece ++ rest)
 
 -- ---- sessions
 -- What is left of the source before and after, how many bytes it gave before and after, and what the sink holds before and after stand in
@@ -108,7 +108,7 @@ abbrev pub IsEnded : {P : Type 0} → Rules P → Trail P → Option (List ℕ) 
 IsEnded r s left leaves given gives held holds = IsEndedByInput r s left leaves given gives held holds ⊎ IsEndedByLine r s left leaves given gives held holds
 
 -- a session that is cut off in a line, of which so many bytes were taken in all; each line before was answered
-pub record IsCutOff {P : Type 0} (r : Rules P) (s : Trail P) (left leaves : Option (List ℕ)) (given gives : ℕ) (held holds : Option (List ℕ)) (count : ℕ) : Type 0 where
+pub record IsBrokenOff {P : Type 0} (r : Rules P) (s : Trail P) (left leaves : Option (List ℕ)) (given gives : ℕ) (held holds : Option (List ℕ)) (count : ℕ) : Type 0 where
   pub lines : List (List ℕ)
   pub rest : List ℕ
   pub t : Trail P
@@ -117,7 +117,7 @@ pub record IsCutOff {P : Type 0} (r : Rules P) (s : Trail P) (left leaves : Opti
   pub exactly : length (flat_map ended lines ++ rest) ≡ count
 
 -- a session of which an answer couldn't be written: the output gained a prefix of the answers of all lines that were taken
-pub record IsUnwritten {P : Type 0} (r : Rules P) (s : Trail P) (left leaves : Option (List ℕ)) (given gives : ℕ) (held holds : Option (List ℕ)) : Type 0 where
+pub record IsReplyUnwritten {P : Type 0} (r : Rules P) (s : Trail P) (left leaves : Option (List ℕ)) (given gives : ℕ) (held holds : Option (List ℕ)) : Type 0 where
   pub lines : List (List ℕ)
   pub last : List ℕ
   pub is_last : Bool

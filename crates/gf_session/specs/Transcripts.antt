@@ -2,7 +2,7 @@
 use Rattle.std.specs.Prelude.{◌≡◌, ◌⊎◌, ℕ, List, [], ◌∷◌}
 use Rattle.gf_session.specs.declared.choice.Choice.{Choice}
 use Rattle.gf_session.specs.declared.choice.Choice.TheVariants as choices
-use Rattle.gf_session.specs.Sessions.{Rules, Trail, IsTurn, AreTurns, IsCrossed}
+use Rattle.gf_session.specs.Sessions.{Rules, Trail, IsLineTurn, AreTurns, IsWalkedOn}
 
 -- ---- one at most
 
@@ -15,7 +15,7 @@ pub record AreFunctions {P : Type 0} (r : Rules P) : Type 0 where
 -- lines lead from a trail to one trail, and have one transcript; and a choice followed by u gives the trail before it
 pub record AreDetermined {P : Type 0} (r : Rules P) : Type 0 where
   pub one : AreFunctions r → (s : Trail P) (cs : List Choice) (t u : Trail P) (x y : List ℕ) → AreTurns r s cs t x → AreTurns r s cs u y → (t ≡ u) × (x ≡ y)
-  pub undone : (s t u : Trail P) (n : ℕ) (x y : List ℕ) → IsCrossed r s n t x → IsTurn r t choices.Undo u y → u ≡ s
+  pub undone : (s t u : Trail P) (n : ℕ) (x y : List ℕ) → IsWalkedOn r s n t x → IsLineTurn r t choices.Undo u y → u ≡ s
 
 -- ---- one at least
 
@@ -25,14 +25,14 @@ NoneQuits [] = Unit {0}
 NoneQuits (c ∷ cs) = (c ≡ choices.Quit → ⊥) × NoneQuits cs
 
 -- Q holds of each place
-abbrev pub AreOver : {P : Type 0} → (P → Type 0) → List P → Type 0
-AreOver Q [] = Unit {0}
-AreOver Q (p ∷ ps) = Q p × AreOver Q ps
+abbrev pub HoldsOfPlaces : {P : Type 0} → (P → Type 0) → List P → Type 0
+HoldsOfPlaces Q [] = Unit {0}
+HoldsOfPlaces Q (p ∷ ps) = Q p × HoldsOfPlaces Q ps
 
 -- Q holds of each place of the trail
-pub record IsOver {P : Type 0} (Q : P → Type 0) (s : Trail P) : Type 0 where
+pub record HoldsOverTrail {P : Type 0} (Q : P → Type 0) (s : Trail P) : Type 0 where
   pub here : Q s.here
-  pub before : AreOver Q s.before
+  pub before : HoldsOfPlaces Q s.before
 
 -- where Q holds, each number leads to a place where it holds, or nowhere, and something is told
 pub record AreTotal {P : Type 0} (r : Rules P) (Q : P → Type 0) : Type 0 where
@@ -42,4 +42,4 @@ pub record AreTotal {P : Type 0} (r : Rules P) (Q : P → Type 0) : Type 0 where
 
 -- lines lead on from each trail of such places, and have a transcript
 pub record HaveTranscripts {P : Type 0} (r : Rules P) (Q : P → Type 0) : Type 0 where
-  pub some : AreTotal r Q → (s : Trail P) (cs : List Choice) → IsOver Q s → NoneQuits cs → (t : Trail P) × (text : List ℕ) × AreTurns r s cs t text
+  pub some : AreTotal r Q → (s : Trail P) (cs : List Choice) → HoldsOverTrail Q s → NoneQuits cs → (t : Trail P) × (text : List ℕ) × AreTurns r s cs t text

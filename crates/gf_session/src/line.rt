@@ -4,7 +4,7 @@
 ghost use Rattle.std.specs.Prelude.{◌≡◌, ◌≤◌, ◌+◌, ◌++◌, ◌∷◌, [], take, IfOk, IsErrOf, ℕ};
 ghost use Rattle.gf_outside.specs.Faults.{Rose};
 ghost use Rattle.gf_session.specs.Choices.{choice_of, narrowed};
-ghost use Rattle.gf_session.specs.Lines.{IsHeard, IsCut};
+ghost use Rattle.gf_session.specs.Lines.{IsLineHeard, IsCut};
 
 use crate::choice::{Choice, choice_of};
 use gf_outside::{MAX_INPUT, Source};
@@ -87,7 +87,7 @@ pub(crate) enum HearingError {
 /// - `InputTooLong` exactly where one byte more than `MAX_INPUT` was taken in all.
 pub(crate) fn next_line<S: Source>(source: &mut S, before: usize) -> Result<Heard, HearingError>
     requires { before ≤ 67_108_864 }
-    ensures heard { IfOk result (IsHeard (S.left source.old) (S.left source.new) (S.given source.old) (S.given source.new) before) }
+    ensures heard { IfOk result (IsLineHeard (S.left source.old) (S.left source.new) (S.given source.old) (S.given source.new) before) }
     ensures short { IfOk result (λ h. h.taken ≤ 67_108_864) }
     ensures fault { IsErrOf result HearingError.ReadFault → Rose (S.faults source.old) (S.faults source.new) }
     ensures before_fault { IsErrOf result HearingError.ReadFault → (n : ℕ) × (before + n ≤ 67_108_864)

@@ -4,7 +4,7 @@ ghost use Rattle.std.specs.Io.KnownBytes.{Appends};
 ghost use Rattle.gf_outside.specs.Moved.{TookAtMost};
 ghost use Rattle.gf_session.specs.Sessions.{Trail, IsEnded};
 ghost use Rattle.gf_session.specs.Endings.{IsCause, IsReadCalm, IsWithinInput};
-ghost use Rattle.gf_session.specs.Moves.{IsGoing, IsGoingBack, IsOn, IsSomeTrail, IsMoveRefusal, IsOfferCause, IsPrompted, IsPromptCause, IsTurnTaken, IsTurnCause, IsWriteCalm};
+ghost use Rattle.gf_session.specs.Moves.{IsGoing, IsGoingBack, IsSessionAt, IsSomeTrail, IsMoveRefusal, IsOfferCause, IsPrompted, IsPromptCause, IsTurnTaken, IsTurnCause, IsWriteCalm};
 
 use crate::choice::Choice;
 use crate::line::{HearingError, next_line};
@@ -122,7 +122,7 @@ fn turn<M: Moves, K: Sink>(
     requires trail { IsSomeTrail (M.joins moves.now) here.old crossed.old.items }
     requires goes_on { choice ≡ Choice.Quit → ⊥ }
     ensures place { OnOk result (M.is_place moves.now here.new) }
-    ensures taken { OnOk result ((s : Trail M.Place) (asked : Choice) → IsOn (M.joins moves.now) here.old crossed.old.items choice s asked
+    ensures taken { OnOk result ((s : Trail M.Place) (asked : Choice) → IsSessionAt (M.joins moves.now) here.old crossed.old.items choice s asked
         → IsTurnTaken (M.rules moves.now) (M.joins moves.now) s asked here.new crossed.new.items (K.held output.old)
         (K.held output.new)) }
     ensures cause { IfErr result (IsTurnCause (M.rules moves.now) (M.joins moves.now) (M.refuses moves.now) here.old crossed.old.items

@@ -13,9 +13,9 @@ use Rattle.gf_poly.specs.Marking.{MarkedPolynomial, MarkedPolynomials}
 use Rattle.gf_poly.proofs.CollectLaws.{nonempty_by_test}
 use Rattle.gf_small.specs.declared.counts.Counts.{Counts}
 use Rattle.gf_small.specs.Degrees.{greatest}
-use Rattle.gf_small.specs.Counts.{least, degree_of_set, terms_in, AreSetCounts}
+use Rattle.gf_small.specs.Counts.{least, degree_of_set, count_of_terms, AreSetCounts}
 
-greatest-push : (ks : List ℕ) (k : ℕ) → greatest (ks ++ k ∷ []) ≡ max (greatest ks) k
+pub greatest-push : (ks : List ℕ) (k : ℕ) → greatest (ks ++ k ∷ []) ≡ max (greatest ks) k
 greatest-push [] k = omega arith
 greatest-push (l ∷ ks) k = omega (arith, greatest-push ks k)
 
@@ -47,18 +47,18 @@ whole g xs i b l e = e ∙ ap g (take_all i xs l)
 
 -- ---- terms
 
-pub terms_in-push : (bs : List MarkedPolynomial) (b : MarkedPolynomial) → terms_in (bs ++ b ∷ []) ≡ terms_in bs + length b.poly
+pub terms_in-push : (bs : List MarkedPolynomial) (b : MarkedPolynomial) → count_of_terms (bs ++ b ∷ []) ≡ count_of_terms bs + length b.poly
 terms_in-push [] b = omega arith
 terms_in-push (d ∷ bs) b = omega (arith, terms_in-push bs b)
 
 -- the terms of the first i polynomials, which have fewer than 2^64 each
 pub record TermsSoFar (bs : List MarkedPolynomial) (sum i : ℕ) : Type 0 where
-  pub terms : sum ≡ terms_in (take i bs)
+  pub terms : sum ≡ count_of_terms (take i bs)
   pub bound : sum ≤ i * (2 ^ 64 - 1)
 
 pub terms-more : (bs : List MarkedPolynomial) (sum next i : ℕ) (b : MarkedPolynomial) → i < length bs → b ≡ get_or bs i b → length b.poly < 2 ^ 64 → next ≡ sum + length b.poly → TermsSoFar bs sum i → TermsSoFar bs next (i + 1)
 terms-more bs sum next i b l e few q h = record {
-  terms = q ∙ ap (λ z. z + length b.poly) h.terms ∙ sym (terms_in-push (take i bs) b) ∙ ap terms_in (sym (take_more bs i b l ∙ ap (λ (z : MarkedPolynomial). take i bs ++ z ∷ []) (sym e)));
+  terms = q ∙ ap (λ z. z + length b.poly) h.terms ∙ sym (terms_in-push (take i bs) b) ∙ ap count_of_terms (sym (take_more bs i b l ∙ ap (λ (z : MarkedPolynomial). take i bs ++ z ∷ []) (sym e)));
   bound = omega (arith, h.bound);
 }
 
@@ -69,12 +69,12 @@ abbrev pub CountsSoFar : List MarkedPolynomials → Counts → ℕ → Type 0
 CountsSoFar sets c i = AreSetCounts (take i sets) c
 
 pub counts-more : (sets : List MarkedPolynomials) (c d : Counts) (i : ℕ) (s : MarkedPolynomials) (first : Bool) → i < length sets → s ≡ get_or sets i s → first ≡ (i == 0) → d.max_degree ≡ max c.max_degree (degree_of_set s) →
-    d.min_degree ≡ (if first then degree_of_set s else min c.min_degree (degree_of_set s)) → d.max_polynomials ≡ max c.max_polynomials (length s.items) → d.max_terms ≡ max c.max_terms (terms_in s.items) → CountsSoFar sets c i → CountsSoFar sets d (i + 1)
+    d.min_degree ≡ (if first then degree_of_set s else min c.min_degree (degree_of_set s)) → d.max_polynomials ≡ max c.max_polynomials (length s.items) → d.max_terms ≡ max c.max_terms (count_of_terms s.items) → CountsSoFar sets c i → CountsSoFar sets d (i + 1)
 counts-more sets c d i s first l e f g m p t h = record {
   max_degree = greatest-more degree_of_set sets i s c.max_degree d.max_degree l e g h.max_degree;
   min_degree = by first f m;
   max_polynomials = greatest-more (λ (z : MarkedPolynomials). length z.items) sets i s c.max_polynomials d.max_polynomials l e p h.max_polynomials;
-  max_terms = greatest-more (λ (z : MarkedPolynomials). terms_in z.items) sets i s c.max_terms d.max_terms l e t h.max_terms;
+  max_terms = greatest-more (λ (z : MarkedPolynomials). count_of_terms z.items) sets i s c.max_terms d.max_terms l e t h.max_terms;
 }
   where
     by : (b : Bool) → b ≡ (i == 0) → d.min_degree ≡ (if b then degree_of_set s else min c.min_degree (degree_of_set s)) → d.min_degree ≡ least (map degree_of_set (take (i + 1) sets))

@@ -1,7 +1,7 @@
 -- The homogeneity space as the null space of rows.
 -- To cite: RowsSoFar and its steps, basis_of, dimension_of.
 use Rattle.std.specs.Prelude.{◌≡◌, ◌↔◌, ◌⊎◌, ℕ, zero, suc, ◌+◌, ◌<◌, true, false, List, [], ◌∷◌, ◌++◌, length, take, get_or, All, Contains, ℤ, pos}
-use Rattle.std.proofs.Common.{arith, refl, sym, ap, subst, ◌∙◌, inl, inr, append_assoc, append-nil}
+use Rattle.std.proofs.Common.{arith, sym, ap, subst, ◌∙◌, inl, inr, append_assoc, append-nil}
 use Rattle.std.proofs.lemmas.Int.{ints}
 use Rattle.std.proofs.lemmas.List.{take_more}
 use Rattle.std.proofs.lemmas.List.Elements.{All-contains, Contains-get_or}
@@ -15,17 +15,14 @@ use Rattle.gf_poly.proofs.CoefficientLaws.{term_length}
 use Rattle.gf_ideal.proofs.ListLaws.{Each-++}
 use Rattle.gf_gordan.specs.Alternative.{AreRows}
 use Rattle.gf_duality.specs.Rays.{IsLineal, IsRays}
-use Rattle.gf_facets.specs.Rows.{rows_of_polynomials, rows_of_terms, differences}
+use Rattle.gf_facets.specs.Rows.{rows_of_polynomials, differences}
 use Rattle.gf_facets.proofs.RowLaws.{row-in, row-from, IsTermRow, length-differences, dot-differences}
 use Rattle.gf_small.specs.HomogeneitySpace.{IsInSpace, IsBasisOfSpace, HasSpaceDimension}
 use Rattle.gf_small.specs.Statistics.{members_of}
 use Rattle.gf_poly.proofs.InitialFormLaws.{same_or_not}
+use Rattle.gf_cone.proofs.RowsLaws.{members-append}
 
 -- ---- the rows of lists
-
-rows_of-++ : (bs cs : List MarkedPolynomial) → rows_of_polynomials (bs ++ cs) ≡ rows_of_polynomials bs ++ rows_of_polynomials cs
-rows_of-++ [] cs = refl
-rows_of-++ (b ∷ bs) cs = ap (λ z. rows_of_terms b.head b.poly ++ z) (rows_of-++ bs cs) ∙ sym (append_assoc (rows_of_terms b.head b.poly) (rows_of_polynomials bs) (rows_of_polynomials cs))
 
 members_of-push : (sets : List MarkedPolynomials) (s : MarkedPolynomials) → members_of (sets ++ s ∷ []) ≡ members_of sets ++ s.items
 members_of-push [] s = append-nil s.items
@@ -45,7 +42,7 @@ pub rows-more : (n : ℕ) (sets : List MarkedPolynomials) (rows next : List (Lis
 rows-more n sets rows next i s l e q m v r h =
     let more = next_members sets i s l e in
     record {
-      items = r ∙ ap (λ (z : List (List ℤ)). z ++ rows_of_polynomials s.items) h.items ∙ sym (rows_of-++ (members_of (take i sets)) s.items) ∙ ap rows_of_polynomials (sym more);
+      items = r ∙ ap (λ (z : List (List ℤ)). z ++ rows_of_polynomials s.items) h.items ∙ sym (members-append (members_of (take i sets)) s.items) ∙ ap rows_of_polynomials (sym more);
       marked = subst (Each HasMarkedTerm) (sym more) (Each-++ HasMarkedTerm (members_of (take i sets)) s.items h.marked m);
       variables = subst (HaveVariables n) (sym more) (Each-++ (λ (b : MarkedPolynomial). HasVariables n b.poly) (members_of (take i sets)) s.items h.variables (subst (λ (k : ℕ). HaveVariables k s.items) q v));
     }

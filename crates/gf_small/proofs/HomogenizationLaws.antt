@@ -26,7 +26,7 @@ use Rattle.gf_text.specs.declared.written.Written.{Written}
 use Rattle.gf_text.specs.declared.written.Written.TheVariants as written
 use Rattle.gf_text.specs.Sets.{IsIn, AreIn}
 use Rattle.gf_small.specs.Degrees.{total_degree}
-use Rattle.gf_small.specs.Homogenization.{new_exponent, filled, filled_term, ExponentsFit, IsExponentPastLimit, IsFirstPastLimit, IsHomogenizedWithinLimit, IsPastLimitIn, IsFirstExponentPastLimit, IsMarkedHomogenization, IsWrittenHomogenization, AreHomogenizations, HasExponent}
+use Rattle.gf_small.specs.Homogenization.{new_exponent, filled, filled_term, ExponentsFit, IsExponentPastLimit, IsFirstPastLimit, IsHomogenizedWithinLimit, IsWrittenPastLimit, IsFirstExponentPastLimit, IsMarkedHomogenization, IsWrittenHomogenization, AreHomogenizations, HasExponent}
 use Rattle.gf_small.specs.declared.homogenization.SmallError.{SmallError}
 use Rattle.gf_small.specs.declared.homogenization.SmallError.TheVariants as errors
 use Rattle.gf_poly.proofs.MarkingLaws.{mark_at}
@@ -187,7 +187,7 @@ done-more n fs gs next i f g l e v h w q k = record {
   fits = subst (All IsHomogenizedWithinLimit) (sym (next_of fs i f l e)) (All-push IsHomogenizedWithinLimit (take i fs) f k.fits w);
 }
 
-pub done-past : (n : ℕ) (fs gs : List Written) (i : ℕ) (f : Written) (o : ExponentOverflow) → i < length fs → f ≡ get_or fs i f → IsPastLimitIn f o → DoneSoFar n fs gs i → IsFirstExponentPastLimit fs o
+pub done-past : (n : ℕ) (fs gs : List Written) (i : ℕ) (f : Written) (o : ExponentOverflow) → i < length fs → f ≡ get_or fs i f → IsWrittenPastLimit f o → DoneSoFar n fs gs i → IsFirstExponentPastLimit fs o
 done-past n fs gs i f o l e p k = record {
   earlier = take i fs;
   polynomial = f;
@@ -287,7 +287,7 @@ exponent_along errors.Memory f h = tt
 pub never_past : (fs : List Written) (o : ExponentOverflow) → All IsHomogenizedWithinLimit fs → IsFirstExponentPastLimit fs o → ⊥
 never_past fs o h v = by v.polynomial (All-contains IsHomogenizedWithinLimit fs v.polynomial h (subst (λ (z : List Written). Contains z v.polynomial) (sym v.split) (Contains-append_right v.earlier (v.polynomial ∷ v.later) v.polynomial (0, omega arith, refl)))) v.past
   where
-    by : (f : Written) → IsHomogenizedWithinLimit f → IsPastLimitIn f o → ⊥
+    by : (f : Written) → IsHomogenizedWithinLimit f → IsWrittenPastLimit f o → ⊥
     by written.Zero w p = absurd p
     by (written.Nonzero b) w p = absurd (omega (arith, All-contains (λ (t : Term). new_exponent (total_degree b.poly) t.mono < 2 ^ 31) b.poly p.term w (subst (λ (z : Terms). Contains z p.term) (sym p.split) (Contains-append_right p.earlier (p.term ∷ p.later) p.term (0, omega arith, refl))), p.past.leaves))
 

@@ -2,7 +2,7 @@ mod LeadingTermsLaws  -- marked terms as code finds them
 mod MarksByWeightLaws  -- the greatest term by a weight, as a search finds it
 mod WrittenLaws  -- polynomials that may be zero, one after another
 mod InitialFormsLaws  -- initial forms aren't zero, and their marks
-mod HomogenizationLaws  -- homogenisation, term by term and polynomial by polynomial
+pub mod HomogenizationLaws  -- homogenisation, term by term and polynomial by polynomial
 mod UnionsLaws  -- the union of sets, polynomial by polynomial
 mod HomogeneitySpaceLaws  -- the homogeneity space as the null space of rows
-mod CountsLaws  -- counts of sets, one after another
+pub mod CountsLaws  -- counts of sets, one after another

@@ -16,13 +16,13 @@ abbrev pub degree_of_set : MarkedPolynomials → ℕ
 degree_of_set s = greatest (map (λ b. total_degree b.poly) s.items)
 
 -- the number of terms of these polynomials together
-abbrev pub terms_in : List MarkedPolynomial → ℕ
-terms_in [] = 0
-terms_in (b ∷ bs) = length b.poly + terms_in bs
+abbrev pub count_of_terms : List MarkedPolynomial → ℕ
+count_of_terms [] = 0
+count_of_terms (b ∷ bs) = length b.poly + count_of_terms bs
 
 -- what is counted of these sets without vectors
 pub record AreSetCounts (sets : List MarkedPolynomials) (c : Counts) : Type 0 where
   pub max_degree : c.max_degree ≡ greatest (map degree_of_set sets)
   pub min_degree : c.min_degree ≡ least (map degree_of_set sets)
   pub max_polynomials : c.max_polynomials ≡ greatest (map (λ t. length t.items) sets)
-  pub max_terms : c.max_terms ≡ greatest (map (λ t. terms_in t.items) sets)
+  pub max_terms : c.max_terms ≡ greatest (map (λ t. count_of_terms t.items) sets)

@@ -77,9 +77,9 @@ pub record IsFirstPastLimit (d : ℕ) (f : Terms) (o : ExponentOverflow) : Type 
   pub past : IsExponentPastLimit (new_exponent d term.mono) o
 
 -- the polynomial has such a term, and o is told of it
-abbrev pub IsPastLimitIn : Written → ExponentOverflow → Type 0
-IsPastLimitIn written.Zero o = ⊥
-IsPastLimitIn (written.Nonzero b) o = IsFirstPastLimit (total_degree b.poly) b.poly o
+abbrev pub IsWrittenPastLimit : Written → ExponentOverflow → Type 0
+IsWrittenPastLimit written.Zero o = ⊥
+IsWrittenPastLimit (written.Nonzero b) o = IsFirstPastLimit (total_degree b.poly) b.poly o
 
 -- and of the first polynomial with such a term
 pub record IsFirstExponentPastLimit (fs : List Written) (o : ExponentOverflow) : Type 0 where
@@ -88,7 +88,7 @@ pub record IsFirstExponentPastLimit (fs : List Written) (o : ExponentOverflow) :
   pub later : List Written
   pub split : fs ≡ earlier ++ polynomial ∷ later
   pub before : All IsHomogenizedWithinLimit earlier
-  pub past : IsPastLimitIn polynomial o
+  pub past : IsWrittenPastLimit polynomial o
 
 -- why polynomials in n variables aren't homogenised: there would be more than MOST_VARIABLES; or there is room, and a new
 -- exponent passes the limit; or there is no memory

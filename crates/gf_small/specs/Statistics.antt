@@ -6,7 +6,7 @@ use Rattle.gf_rays.specs.Cones.{AreRaysWithinLimits}
 use Rattle.gf_facets.specs.Rows.{rows_of_polynomials}
 use Rattle.gf_small.specs.declared.counts.Stats.{Stats}
 use Rattle.gf_small.specs.Degrees.{greatest}
-use Rattle.gf_small.specs.Counts.{least, degree_of_set, terms_in}
+use Rattle.gf_small.specs.Counts.{least, degree_of_set, count_of_terms}
 use Rattle.gf_small.specs.HomogeneitySpace.{HasSpaceDimension, IsSpaceCause}
 
 -- all polynomials of these sets
@@ -21,7 +21,7 @@ pub record AreStatistics (n : ℕ) (sets : List MarkedPolynomials) (s : Stats) :
   pub max_degree : s.max_degree ≡ greatest (map degree_of_set sets)
   pub min_degree : s.min_degree ≡ least (map degree_of_set sets)
   pub max_polynomials : s.max_polynomials ≡ greatest (map (λ t. length t.items) sets)
-  pub max_terms : s.max_terms ≡ greatest (map (λ t. terms_in t.items) sets)
+  pub max_terms : s.max_terms ≡ greatest (map (λ t. count_of_terms t.items) sets)
 
 -- each set has n variables
 abbrev pub AreSetsIn : ℕ → List MarkedPolynomials → Type 0

@@ -1,7 +1,7 @@
 //! What is counted of a list of marked sets.
 ghost use Rattle.std.specs.Prelude.{◌≡◌, map, max, min, length, if◌then◌else◌};
 ghost use Rattle.gf_small.specs.Degrees.{greatest, total_degree as degree_of};
-ghost use Rattle.gf_small.specs.Counts.{degree_of_set as set_degree_of, terms_in, AreSetCounts};
+ghost use Rattle.gf_small.specs.Counts.{degree_of_set as set_degree_of, count_of_terms, AreSetCounts};
 
 use crate::degrees::total_degree;
 use gf_poly::{Marked, MarkedSet};
@@ -54,7 +54,7 @@ fn term_count(b: &Marked) -> u64
 
 /// The number of terms of a set. There are fewer than `2^64` polynomials with fewer than `2^64` terms each.
 fn terms_of_set(items: &[Marked]) -> u128
-    ensures { result ≡ terms_in items.now }
+    ensures { result ≡ count_of_terms items.now }
 {
     let mut sum = 0;
     'members: for i in 0..items.len() {
@@ -68,7 +68,7 @@ fn with_set(counts: &Counts, is_first: bool, set: &MarkedSet) -> Counts
     ensures max_degree { result.max_degree ≡ max counts.now.max_degree (set_degree_of set.now) }
     ensures min_degree { result.min_degree ≡ (if is_first then set_degree_of set.now else min counts.now.min_degree (set_degree_of set.now)) }
     ensures max_polynomials { result.max_polynomials ≡ max counts.now.max_polynomials (length set.now.items) }
-    ensures max_terms { result.max_terms ≡ max counts.now.max_terms (terms_in set.now.items) }
+    ensures max_terms { result.max_terms ≡ max counts.now.max_terms (count_of_terms set.now.items) }
 {
     let items = set.items();
     let degree = degree_of_set(items);

@@ -7,7 +7,7 @@ ghost use Rattle.gf_text.specs.RingText.{is_name, has};
 ghost use Rattle.gf_text.specs.Sets.{IsIn, AreIn};
 ghost use Rattle.gf_small.specs.declared.homogenization.SmallError.TheVariants.{Memory};
 ghost use Rattle.gf_small.specs.Degrees.{total_degree as degree_of};
-ghost use Rattle.gf_small.specs.Homogenization.{new_exponent as exponent_of, filled_term as term_of, ExponentsFit, IsHomogenizedWithinLimit, IsExponentPastLimit, IsFirstPastLimit, IsPastLimitIn, IsFirstExponentPastLimit, IsMarkedHomogenization, IsWrittenHomogenization, AreHomogenizations, IsHomogenizeCause, HasExponent};
+ghost use Rattle.gf_small.specs.Homogenization.{new_exponent as exponent_of, filled_term as term_of, ExponentsFit, IsHomogenizedWithinLimit, IsExponentPastLimit, IsFirstPastLimit, IsWrittenPastLimit, IsFirstExponentPastLimit, IsMarkedHomogenization, IsWrittenHomogenization, AreHomogenizations, IsHomogenizeCause, HasExponent};
 
 use crate::degrees::total_degree;
 use gf_division::place_of;
@@ -157,7 +157,7 @@ fn written_homogenization(alloc: Global, f: &Written) -> Result<Written, SmallEr
     requires { (n : ℕ) × ((n < ROOM) × IsIn n f.now) }
     ensures value { IfOk result (IsWrittenHomogenization f.now) }
     ensures fits { IfOk result (λ _. IsHomogenizedWithinLimit f.now) }
-    ensures cause { IfErr result (HasExponent (IsPastLimitIn f.now)) }
+    ensures cause { IfErr result (HasExponent (IsWrittenPastLimit f.now)) }
 {
     match f {
         Written::Zero => Ok(Written::Zero),

@@ -1,5 +1,5 @@
 -- The tokens of printed numbers, names and powers, where no letter, digit or _ follows.
--- To cite: IsPiece, piece-none, piece-token, piece-++, piece-joined; number_word, decimal_number, number_piece, names_of_ring, Names. The rest are steps.
+-- To cite: IsPiece, piece-none, piece-token, piece-++; number_word, decimal_number, number_piece, names_of_ring. The rest are steps.
 use Rattle.std.proofs.Common.{◌≡◌, ◌≤◌, ◌<◌, ◌^◌, ◌*◌, ◌/◌, ◌%◌, ◌+◌, ◌-◌, ℕ, zero, suc, Bool, true, false, ◌||◌, ◌==◌, nat_eq, max, List, [], ◌∷◌, ◌++◌, length, get_or, decimal, Some, refl, sym, ap, ◌∙◌, subst, arith, inl, inr, bytes_eq, if◌then◌else◌}
 use Rattle.std.proofs.lemmas.Bool.Decides.{nat_tests, eqb_tells}
 use Rattle.std.proofs.lemmas.Fmt.{decimal_by_steps_wide}
@@ -10,7 +10,7 @@ use Rattle.gf_text.specs.Tokens.{is_space, is_digit, is_letter, is_name_byte, is
 use Rattle.gf_text.specs.RingText.{is_name, has, AreNew, IsRing}
 use Rattle.gf_text.specs.SetText.{variable}
 use Rattle.gf_text.proofs.SpelledLaws.{IsToken, IsSpelled, goes_on, spelled-none, spelled-token, spelled-++}
-use Rattle.std.proofs.lemmas.Bool.{and_parts}
+use Rattle.std.proofs.lemmas.Bool.{and_parts, or_parts}
 
 -- ---- decimal digits
 
@@ -59,7 +59,7 @@ digits_end (d ∷ ds) rest all stops =
     let both = and_parts (is_digit d) (list_all is_digit ds) all in
     rw both.0 (omega (arith, digits_end ds rest both.1 stops))
 
-digit_visible : (b : ℕ) → is_digit b ≡ true → is_space b ≡ false
+pub digit_visible : (b : ℕ) → is_digit b ≡ true → is_space b ≡ false
 digit_visible b h = grind (arith, nat_tests, h)
 
 letter_visible : (b : ℕ) → is_letter b ≡ true → is_space b ≡ false
@@ -107,7 +107,7 @@ name_bytes (b ∷ bs) named = let both = and_parts (is_letter b) (list_all is_na
 same_byte : (a b : ℕ) → nat_eq a b ≡ true → a ≡ b
 same_byte a b h = elim (eqb_tells a b) [ inl k ↦ k.1 | inr k ↦ let no = k.0 in cc ]
 
-byte_itself : (b : ℕ) → nat_eq b b ≡ true
+pub byte_itself : (b : ℕ) → nat_eq b b ≡ true
 byte_itself b = elim (eqb_tells b b) [ inl k ↦ k.0 | inr k ↦ absurd (k.1 refl) ]
 
 -- a name that stands where another one stands is no longer, where no name goes on behind this one
@@ -166,15 +166,11 @@ name_token ring (c ∷ cs) rest named most =
 same_name : (n : List ℕ) → bytes_eq n n ≡ true
 same_name n = (bytes_eq-Decides n n).1 refl
 
-or_false : (a b : Bool) → (a || b) ≡ false → (a ≡ false) × (b ≡ false)
-or_false true b e = cc
-or_false false b e = (refl, e)
-
 -- a name that isn't one of these isn't one of the first, nor the last
 not_before : (before : List (List ℕ)) (n y : List ℕ) → has (before ++ n ∷ []) y ≡ false → (has before y ≡ false) × (bytes_eq n y ≡ false)
 not_before before n y h =
-    let both = or_false (has before y) (bytes_eq n y || false) (sym (list_any-append (λ x. bytes_eq x y) before (n ∷ [])) ∙ h) in
-    (both.0, (or_false (bytes_eq n y) false both.1).0)
+    let both = or_parts (has before y) (bytes_eq n y || false) (sym (list_any-append (λ x. bytes_eq x y) before (n ∷ [])) ∙ h) in
+    (both.0, (or_parts (bytes_eq n y) false both.1).0)
 
 -- a name that stands before isn't one of the new ones
 different : (n : List ℕ) (before ns : List (List ℕ)) (v : ℕ) → ((y : List ℕ) → has before y ≡ false → bytes_eq n y ≡ false) → AreNew before ns → v < length ns → bytes_eq n (get_or ns v []) ≡ false

@@ -1,5 +1,5 @@
 -- The tokens of a set: no token is two of a name of the ring, a number, a mark; and what the tests of the machine say.
--- To cite: named_word, no_name, word_no_number, word_no_mark, number_no_word, number_no_mark, is_mark, number_within, le_from, not_le, le_false, not_zero, zero_number, positive. The rest are steps.
+-- To cite: named_word, no_name, word_no_number, word_no_mark, number_no_word, number_no_mark, is_mark, number_within, le_test, le_from, not_le, le_false, not_zero, zero_number, positive. The rest are steps.
 use Rattle.std.proofs.Common.{◌≡◌, ◌<◌, ◌≤◌, ℕ, ◌+◌, Bool, true, false, cond, ◌&&◌, ◌==◌, nat_le, List, [], ◌∷◌, ◌++◌, Option, Some, None, refl, sym, ap, ◌∙◌, inl, inr, bytes_eq, arith}
 use Rattle.std.proofs.lemmas.Bool.Decides.{leb_tells, eqb_tells}
 use Rattle.std.proofs.lemmas.Slice.Eq.{bytes_eq-Decides}
@@ -73,7 +73,7 @@ no_name ring is t h = by (variable ring t) refl
 
 -- ---- numbers
 
-le_test : (a b : ℕ) → a ≤ b → nat_le a b ≡ true
+pub le_test : (a b : ℕ) → a ≤ b → nat_le a b ≡ true
 le_test a b h = elim (leb_tells a b) [ inl k ↦ k.0 | inr k ↦ absurd (omega arith) ]
 
 -- a number within its limit

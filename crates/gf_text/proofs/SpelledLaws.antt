@@ -25,7 +25,7 @@ pub record IsSpelled (more : List ℕ → ℕ) (bs rest : List ℕ) (ts : List (
   pub lexed : (at : ℕ) → lex_tokens more 0 at (bs ++ rest) ≡ tokens at ++ lex_tokens more 0 (at + length bs) rest
   pub said : (at : ℕ) → texts (tokens at) ≡ ts
 
-texts-++ : (xs ys : List Lexeme) → texts (xs ++ ys) ≡ texts xs ++ texts ys
+pub texts-++ : (xs ys : List Lexeme) → texts (xs ++ ys) ≡ texts xs ++ texts ys
 texts-++ [] ys = refl
 texts-++ (x ∷ xs) ys = ap (λ l. x.text ∷ l) (texts-++ xs ys)
 
@@ -41,11 +41,11 @@ module _ (more : List ℕ → ℕ) where
   unfolding lex_tokens
   lex-first b at bs visible = rw visible refl
 
-  lex-space : (b at : ℕ) (bs : List ℕ) → is_space b ≡ true → lex_tokens more 0 at (b ∷ bs) ≡ lex_tokens more 0 (at + 1) bs
+  pub lex-space : (b at : ℕ) (bs : List ℕ) → is_space b ≡ true → lex_tokens more 0 at (b ∷ bs) ≡ lex_tokens more 0 (at + 1) bs
   unfolding lex_tokens
   lex-space b at bs space = rw space refl
 
-  lex-token : (at : ℕ) (t rest : List ℕ) → IsToken more t rest → lex_tokens more 0 at (t ++ rest) ≡ record { text = t; at = at } ∷ lex_tokens more 0 (at + length t) rest
+  pub lex-token : (at : ℕ) (t rest : List ℕ) → IsToken more t rest → lex_tokens more 0 at (t ++ rest) ≡ record { text = t; at = at } ∷ lex_tokens more 0 (at + length t) rest
   lex-token at t rest h =
       let b = h.first in
       let bs = h.others in

@@ -32,6 +32,7 @@ pub use printer::{
 pub use reader::Reader;
 pub use term_printer::push_number;
 pub use tokens::{Number, Token, number_of, word_from};
+pub use vector_printer::push_entry;
 pub use vector_reader::vectors_have_one_meaning;
 pub use written::Written;
 

@@ -13,8 +13,11 @@ fn is_below_zero(entry: i128) -> bool
     entry < 0
 }
 
-/// Adds an entry.
-fn push_entry(out: &mut Vec<u8>, entry: i128) -> Result<(), AllocError>
+/// Adds an entry in decimal digits, behind a minus where it is below zero.
+///
+/// # Errors
+/// Want of memory.
+pub fn push_entry(out: &mut Vec<u8>, entry: i128) -> Result<(), AllocError>
     ensures { OnOk result (out.new.items ≡ out.old.items ++ entry_text entry) }
 {
     if is_below_zero(entry) {

@@ -1,36 +1,19 @@
 -- The loop over the normals of a cone, one place further.
-use Rattle.std.proofs.Common.{◌≡◌, ℕ, zero, suc, ◌+◌, ◌<◌, ◌≤◌, List, [], ◌∷◌, ◌++◌, length, ℤ, arith, refl, sym, ap, ◌∙◌, subst, Contains, get_or, inl, inr}
+use Rattle.std.proofs.Common.{◌≡◌, ℕ, ◌+◌, ◌<◌, ◌≤◌, List, [], ◌∷◌, ◌++◌, length, ℤ, arith, refl, sym, ap, ◌∙◌, subst, Contains, inl, inr}
 use Rattle.std.proofs.lemmas.Bool.{cases_lt}
 use Rattle.std.proofs.lemmas.List.{get_or_default}
 use Rattle.std.proofs.lemmas.List.Elements.{Contains-append_left, Contains-append_right, Contains-append_cases}
 use Rattle.gf_poly.specs.Marking.{MarkedPolynomial}
-use Rattle.gf_duality.proofs.ListLaws.{none_in, in_head, in_tail, in_cons}
+use Rattle.gf_duality.proofs.ListLaws.{none_in, in_head, in_cons}
 use Rattle.gf_facets.specs.LexPositive.{IsBefore}
 use Rattle.gf_facets.specs.Regions.{Region}
 use Rattle.gf_facets.specs.Normals.{Ascends}
 use Rattle.gf_facets.specs.Facets.{IsFlippable}
+use Rattle.gf_facets.proofs.AscendingLaws.{ascends_more, ascends_at}
 use Rattle.gf_cone.specs.Cones.{ConeRows, normal_at, IsConeOf}
 use Rattle.gf_weights.specs.declared.certificates.FacetWitness.{FacetWitness}
 use Rattle.gf_weights.specs.Weights.{IsWitnessIn, AreWitnessedIn, normals_of}
 use Rattle.gf_weights.specs.Cuts.{AreWitnessedBefore}
-
--- an ascending list and one more behind it
-ascends_more : (xs : List (List ℤ)) (x : List ℤ) → Ascends xs → ((y : List ℤ) → Contains xs y → IsBefore y x) → Ascends (xs ++ x ∷ [])
-ascends_more [] x p f = (λ y c. absurd (none_in y c), tt)
-ascends_more (y ∷ xs) x p f = (
-  λ z c. elim (Contains-append_cases xs (x ∷ []) z c) [
-    | inl a ↦ p.0 z a
-    | inr b ↦ elim (in_cons x [] z b) [ inl e ↦ subst (IsBefore y) (sym e) (f y (in_head y xs)) | inr k ↦ absurd (none_in z k) ]
-  ],
-  ascends_more xs x p.1 (λ z c. f z (in_tail y xs z c)),
-)
-
--- an earlier member of an ascending list is before a later one
-pub ascends_at : (ns : List (List ℤ)) (i j : ℕ) → Ascends ns → i < j → j < length ns → IsBefore (get_or ns i []) (get_or ns j [])
-ascends_at [] i j p l m = absurd (omega (arith, m))
-ascends_at (x ∷ ns) i zero p l m = absurd (omega (arith, l))
-ascends_at (x ∷ ns) zero (suc j) p l m = p.0 (get_or ns j []) (j, omega (arith, m), get_or_default ns j _ [] (omega (arith, m)))
-ascends_at (x ∷ ns) (suc i) (suc j) p l m = ascends_at ns i j p.1 (omega (arith, l)) (omega (arith, m))
 
 normals_append : (fs : List FacetWitness) (f : FacetWitness) → normals_of (fs ++ f ∷ []) ≡ normals_of fs ++ f.normal ∷ []
 normals_append [] f = refl

@@ -41,7 +41,7 @@ use Rattle.gf_facets.specs.Normals.{Ascends, AreNormals}
 use Rattle.gf_facets.proofs.PrimitiveLaws.{primitive_unique}
 use Rattle.gf_facets.proofs.UnitLaws.{dot-unit, unit_of, unit_there}
 use Rattle.gf_facets.proofs.VectorOrder.{before_strict, vectors_compare}
-use Rattle.gf_weights.proofs.FacetLoop.{ascends_at}
+use Rattle.gf_facets.proofs.AscendingLaws.{ascends_at}
 use Rattle.gf_gordan.proofs.ExistenceLaws.{divided_exists}
 
 -- ---- ascending lists

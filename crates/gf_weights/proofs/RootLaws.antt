@@ -33,7 +33,7 @@ use Rattle.gf_weights.specs.declared.error.WeightError.TheVariants as weight_err
 use Rattle.gf_weights.specs.declared.region.RegionError.{RegionError}
 use Rattle.gf_weights.specs.declared.region.RegionError.TheVariants as region_errors
 use Rattle.gf_weights.specs.Refusals.{weight_of_gordan, of_vector}
-use Rattle.gf_weights.specs.Roots.{IsSumOfRays, IsRegionOf, IsSystemRefusal, IsSumRefusal, region_of_weight, IsRegionRefusal}
+use Rattle.gf_weights.specs.Roots.{IsSumOfRays, IsRegionOf, IsSystemRefusal, IsRaySumRefusal, region_of_weight, IsRegionRefusal}
 use Rattle.gf_weights.proofs.CutLaws.{pointed}
 
 -- the rows of the closed region have n entries
@@ -75,12 +75,12 @@ sum_is n all none c r p z a h s = record {
   sum = s ∙ ap (λ (m : ℕ). sum_of m c.rays) a;
 }
 
-pub rays_refused : (n : ℕ) (all none : List (List ℤ)) (e : GordanError) → none ≡ [] → Failed (IsRaysStep n all none) e → IsSumRefusal n all (weight_of_gordan e)
+pub rays_refused : (n : ℕ) (all none : List (List ℤ)) (e : GordanError) → none ≡ [] → Failed (IsRaysStep n all none) e → IsRaySumRefusal n all (weight_of_gordan e)
 rays_refused n all none (gordan_errors.Cone s) z h = subst (λ (y : List (List ℤ)). IsRaysStep n all y s) z h
 rays_refused n all none gordan_errors.Memory z h = tt
 
 pub sum_refused : (n : ℕ) (all none : List (List ℤ)) (c : RowsAndRays) (e : VecError) → ((rows : List (List ℤ)) × (all ≡ rows ++ units n n)) → none ≡ [] → c.ambient ≡ n → IsRays n all none c.lineality c.rays →
-    IfWide (λ w. IsFirstWide w (adding_steps (zeros c.ambient) c.rays)) e → IsSumRefusal n all (of_vector e)
+    IfWide (λ w. IsFirstWide w (adding_steps (zeros c.ambient) c.rays)) e → IsRaySumRefusal n all (of_vector e)
 sum_refused n all none c (vec_errors.Wide w) p z a h f =
     (c.rays, no_lines n p.0 all c.lineality c.rays p.1 (subst (λ (y : List (List ℤ)). IsRays n all y c.lineality c.rays) z h), subst (λ (m : ℕ). IsFirstWide w (adding_steps (zeros m) c.rays)) a f)
 sum_refused n all none c vec_errors.Memory p z a h f = tt
@@ -120,11 +120,11 @@ region_is n rows all r k e w s p l q = subst (IsRegionOf n rows) (sym q) (record
 
 -- ---- refusals of a region
 
-pub refused_sum : (n : ℕ) (rows all : List (List ℤ)) (e : WeightError) → all ≡ rows ++ units n n → IsSolvable n all [] → IsSumRefusal n all e → IsRegionRefusal n rows (region_of_weight e)
+pub refused_sum : (n : ℕ) (rows all : List (List ℤ)) (e : WeightError) → all ≡ rows ++ units n n → IsSolvable n all [] → IsRaySumRefusal n all e → IsRegionRefusal n rows (region_of_weight e)
 refused_sum n rows all (weight_errors.Cone s) q v h =
-    inr (subst (λ (z : List (List ℤ)). IsSolvable n z []) q v, subst (λ (z : List (List ℤ)). IsSumRefusal n z (weight_errors.Cone s)) q h)
+    inr (subst (λ (z : List (List ℤ)). IsSolvable n z []) q v, subst (λ (z : List (List ℤ)). IsRaySumRefusal n z (weight_errors.Cone s)) q h)
 refused_sum n rows all (weight_errors.Wide w) q v h =
-    (subst (λ (z : List (List ℤ)). IsSolvable n z []) q v, subst (λ (z : List (List ℤ)). IsSumRefusal n z (weight_errors.Wide w)) q h)
+    (subst (λ (z : List (List ℤ)). IsSolvable n z []) q v, subst (λ (z : List (List ℤ)). IsRaySumRefusal n z (weight_errors.Wide w)) q h)
 refused_sum n rows all weight_errors.Memory q v h = tt
 
 -- where nothing leaves its limits, only memory may be wanting

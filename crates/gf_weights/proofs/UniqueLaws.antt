@@ -7,33 +7,13 @@ use Rattle.gf_duality.specs.Faces.{sum_of}
 use Rattle.gf_duality.proofs.Determined.{rays_determined}
 use Rattle.gf_rays.specs.Parts.{zeros_of}
 use Rattle.gf_facets.specs.Systems.{units}
-use Rattle.gf_facets.specs.LexPositive.{IsBefore}
-use Rattle.gf_facets.specs.Normals.{Ascends}
 use Rattle.gf_facets.specs.Regions.{Region}
 use Rattle.gf_facets.specs.Facets.{IsFlippable}
-use Rattle.gf_facets.proofs.VectorOrder.{before_strict}
+use Rattle.gf_facets.proofs.AscendingLaws.{same_ascending}
 use Rattle.gf_duality.proofs.ListLaws.{none_in, in_head, in_tail, in_cons}
 use Rattle.gf_weights.specs.declared.certificates.FacetWitness.{FacetWitness}
 use Rattle.gf_weights.specs.declared.certificates.Certificates.{Certificates}
 use Rattle.gf_weights.specs.Weights.{AreCutRows, AreCutRays, IsWeightIn, IsWitnessIn, AreWitnessedIn, AreCertificatesIn, normals_of}
-
--- ascending lists with the same members are one
-pub same_ascending : (xs ys : List (List ℤ)) → Ascends xs → Ascends ys → ((x : List ℤ) → Contains xs x → Contains ys x) → ((x : List ℤ) → Contains ys x → Contains xs x) → xs ≡ ys
-same_ascending [] [] p q f g = refl
-same_ascending [] (y ∷ ys) p q f g = absurd (none_in y (g y (in_head y ys)))
-same_ascending (x ∷ xs) [] p q f g = absurd (none_in x (f x (in_head x xs)))
-same_ascending (x ∷ xs) (y ∷ ys) p q f g =
-    let e : x ≡ y = elim (in_cons y ys x (f x (in_head x xs))) [
-      | inl e ↦ e
-      | inr c ↦ elim (in_cons x xs y (g y (in_head y ys))) [
-        | inl e ↦ sym e
-        | inr d ↦ absurd (before_strict.irreflexive x (before_strict.transitive x y x (p.0 y d) (q.0 x c)))
-      ]
-    ] in
-    let rest : xs ≡ ys = same_ascending xs ys p.1 q.1
-    (λ z c. elim (in_cons y ys z (f z (in_tail x xs z c))) [ inr d ↦ d | inl i ↦ absurd (before_strict.irreflexive x (subst (IsBefore x) (i ∙ sym e) (p.0 z c))) ])
-    (λ z c. elim (in_cons x xs z (g z (in_tail y ys z c))) [ inr d ↦ d | inl i ↦ absurd (before_strict.irreflexive y (subst (IsBefore y) (i ∙ e) (q.0 z c))) ]) in
-    ap₂ (λ (u : List ℤ) (us : List (List ℤ)). u ∷ us) e rest
 
 one_rows : (n : ℕ) (j : Region) (bs : List MarkedPolynomial) (rows others : List (List ℤ)) → AreCutRows n j bs rows → AreCutRows n j bs others → rows ≡ others
 one_rows n j bs rows others k l =

@@ -47,10 +47,10 @@ IsSystemRefusal n all weight_errors.Memory = Unit {0}
 
 -- an operation of finding the rays of these rows leaves the range; or the first sum, from the left, of an entry of a partial sum of the
 -- rays and one of the next ray does
-abbrev pub IsSumRefusal : ℕ → List (List ℤ) → WeightError → Type 0
-IsSumRefusal n all (weight_errors.Cone s) = IsRaysStep n all [] s
-IsSumRefusal n all (weight_errors.Wide w) = (rays : List (List ℤ)) × IsRays n all [] [] rays × IsFirstWide w (adding_steps (zeros n) rays)
-IsSumRefusal n all weight_errors.Memory = Unit {0}
+abbrev pub IsRaySumRefusal : ℕ → List (List ℤ) → WeightError → Type 0
+IsRaySumRefusal n all (weight_errors.Cone s) = IsRaysStep n all [] s
+IsRaySumRefusal n all (weight_errors.Wide w) = (rays : List (List ℤ)) × IsRays n all [] [] rays × IsFirstWide w (adding_steps (zeros n) rays)
+IsRaySumRefusal n all weight_errors.Memory = Unit {0}
 
 -- these, as refusals of a region
 abbrev pub region_of_weight : WeightError → RegionError
@@ -65,8 +65,8 @@ IsRegionRefusal n rows (region_errors.Empty ms) = IsFarkas n (rows ++ units n n)
 IsRegionRefusal n rows (region_errors.WideRoot i x) = IsSolvable n (rows ++ units n n) [] ×
     ((r : List ℤ) × IsSumOfRays n (rows ++ units n n) r × IsFirstPast r i × (x ≡ slice_index_or r i (pos 0)))
 IsRegionRefusal n rows (region_errors.Cone s) = IsSystemRefusal n (rows ++ units n n) (weight_errors.Cone s) ⊎
-    (IsSolvable n (rows ++ units n n) [] × IsSumRefusal n (rows ++ units n n) (weight_errors.Cone s))
-IsRegionRefusal n rows (region_errors.Wide w) = IsSolvable n (rows ++ units n n) [] × IsSumRefusal n (rows ++ units n n) (weight_errors.Wide w)
+    (IsSolvable n (rows ++ units n n) [] × IsRaySumRefusal n (rows ++ units n n) (weight_errors.Cone s))
+IsRegionRefusal n rows (region_errors.Wide w) = IsSolvable n (rows ++ units n n) [] × IsRaySumRefusal n (rows ++ units n n) (weight_errors.Wide w)
 IsRegionRefusal n rows region_errors.Memory = Unit {0}
 
 -- the region isn't empty, nothing that is worked out for its root leaves the range, and no entry of the root is too great

@@ -62,10 +62,6 @@ pub record AreCertificatesIn (n : ℕ) (k : Region) (bs : List MarkedPolynomial)
 abbrev pub IsPrintedWeight : ℕ → List MarkedPolynomial → List ℤ → Type 0
 IsPrintedWeight n bs v = IsWeightIn n (all_positive n) bs v
 
--- exactly the normals of the facets that a flip may cross, each with its witness
-abbrev pub AreWitnessed : ℕ → List MarkedPolynomial → List FacetWitness → Type 0
-AreWitnessed n bs fs = AreWitnessedIn n (all_positive n) bs fs
-
 -- the weight, and these facets
 abbrev pub AreBasisCertificates : ℕ → List MarkedPolynomial → Certificates → Type 0
 AreBasisCertificates n bs c = AreCertificatesIn n (all_positive n) bs c

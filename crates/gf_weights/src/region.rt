@@ -2,7 +2,7 @@
 ghost use Rattle.std.specs.Prelude.{◌≡◌, ◌<ℤ◌, ◌^◌, ◌++◌, ℤ, [], List, pos, All, IfOk, IfErr, IfSome, IsNone};
 ghost use Rattle.gf_gordan.specs.Alternative.{AreRows, IsFarkas, IsSolvable};
 ghost use Rattle.gf_facets.specs.Systems.{units};
-ghost use Rattle.gf_weights.specs.Roots.{IsSumOfRays, IsFirstPast, IsSystemRefusal, IsSumRefusal, IsRegionOf, IsRegionRefusal, IsRegionWithinLimits};
+ghost use Rattle.gf_weights.specs.Roots.{IsSumOfRays, IsFirstPast, IsSystemRefusal, IsRaySumRefusal, IsRegionOf, IsRegionRefusal, IsRegionWithinLimits};
 ghost use Rattle.gf_weights.specs.declared.region.RegionError.TheVariants.{Memory};
 
 use crate::error::WeightError;
@@ -91,7 +91,7 @@ fn sum_of_rays(alloc: Global, n: u32, all: &[IntVec]) -> Result<IntVec, WeightEr
     requires wide { AreRows n all.now }
     requires closed { (rows : List (List ℤ)) × (all.now ≡ rows ++ units n n) }
     ensures value { IfOk result (IsSumOfRays n all.now) }
-    ensures err { IfErr result (IsSumRefusal n all.now) }
+    ensures err { IfErr result (IsRaySumRefusal n all.now) }
 {
     let none = Vec::new(alloc);
     let rays = Rays::of(alloc, n, all, none.as_slice())?;

@@ -12,7 +12,7 @@ use Rattle.gf_poly.proofs.MarkingLaws.{mark_at, nonzero_at, nonzero_reciprocal}
 use Rattle.gf_poly.proofs.ProductLaws.{IsDescending-scaled, IsScaled-products, KeepsVariables-scaled}
 use Rattle.gf_wide_division.specs.declared.terms.WideTerm.{WideTerm}
 use Rattle.gf_wide_division.specs.Monic.{IsMonicAt}
-use Rattle.gf_wide_division.specs.Values.{term_value, values}
+use Rattle.gf_wide_division.specs.Values.{term_value, value_terms}
 use Rattle.gf_wide_division.proofs.ValueLaws.{length-values, value_at}
 
 -- ---- places of a multiple
@@ -28,21 +28,21 @@ length-times c (t ∷ f) = ap suc (length-times c f)
 
 -- ---- the divisor
 
-pub nonzero_there : (f : List WideTerm) (g : Terms) (i : ℕ) (t : WideTerm) → values f ≡ g → i < length g → t ≡ get_or f i t → IsDescending g → t.coef ≡ zero_ℚ → ⊥
-nonzero_there f g i t e l is d = nonzero_at (values f) i (term_value t) (subst (λ (z : Terms). i < length z) (sym e) l) (value_at f i t is) (subst IsDescending (sym e) d)
+pub nonzero_there : (f : List WideTerm) (g : Terms) (i : ℕ) (t : WideTerm) → value_terms f ≡ g → i < length g → t ≡ get_or f i t → IsDescending g → t.coef ≡ zero_ℚ → ⊥
+nonzero_there f g i t e l is d = nonzero_at (value_terms f) i (term_value t) (subst (λ (z : Terms). i < length z) (sym e) l) (value_at f i t is) (subst IsDescending (sym e) d)
 
 products_of : (k : Fraction) (f h : Terms) → k ≢ zero_ℚ → h ≡ times (reciprocal_ℚ k) [] f → HasProducts (reciprocal_ℚ k) [] f h
 products_of k f h n e = record { nonzero = λ _. e; zero = λ z. absurd (nonzero_reciprocal k n z) }
 
 -- all quotients
-pub quotients_all : (c : Fraction) (f : List WideTerm) (out : Terms) (i : ℕ) → length f ≤ i → out ≡ times c [] (take i (values f)) → out ≡ times c [] (values f)
-quotients_all c f out i l e = e ∙ ap (times c []) (take_all i (values f) (omega (arith, l, length-values f)))
+pub quotients_all : (c : Fraction) (f : List WideTerm) (out : Terms) (i : ℕ) → length f ≤ i → out ≡ times c [] (take i (value_terms f)) → out ≡ times c [] (value_terms f)
+quotients_all c f out i l e = e ∙ ap (times c []) (take_all i (value_terms f) (omega (arith, l, length-values f)))
 
-pub quotients_descend : (f : List WideTerm) (g h : Terms) (i : ℕ) (t : WideTerm) → values f ≡ g → i < length g → t ≡ get_or f i t → IsDescending g → h ≡ times (reciprocal_ℚ t.coef) [] (values f) → IsDescending h
-quotients_descend f g h i t e l is d q = IsDescending-scaled (reciprocal_ℚ t.coef) (values f) h (subst IsDescending (sym e) d) (products_of t.coef (values f) h (nonzero_there f g i t e l is d) q)
+pub quotients_descend : (f : List WideTerm) (g h : Terms) (i : ℕ) (t : WideTerm) → value_terms f ≡ g → i < length g → t ≡ get_or f i t → IsDescending g → h ≡ times (reciprocal_ℚ t.coef) [] (value_terms f) → IsDescending h
+quotients_descend f g h i t e l is d q = IsDescending-scaled (reciprocal_ℚ t.coef) (value_terms f) h (subst IsDescending (sym e) d) (products_of t.coef (value_terms f) h (nonzero_there f g i t e l is d) q)
 
-pub quotients_inside : (c : Fraction) (f : List WideTerm) (g h : Terms) (i : ℕ) → values f ≡ g → i < length g → h ≡ times c [] (values f) → i < length h
-quotients_inside c f g h i e l q = omega (arith, l, ap length e, ap length q, length-times c (values f))
+pub quotients_inside : (c : Fraction) (f : List WideTerm) (g h : Terms) (i : ℕ) → value_terms f ≡ g → i < length g → h ≡ times c [] (value_terms f) → i < length h
+quotients_inside c f g h i e l q = omega (arith, l, ap length e, ap length q, length-times c (value_terms f))
 
 monic_here : (f h : Terms) (i : ℕ) (t : Term) → i < length f → t ≡ get_or f i t → IsDescending f → h ≡ times (reciprocal_ℚ t.coef) [] f → IsMonicAt f i (record { poly = h; head = head_of h i })
 monic_here f h i t l is d e =
@@ -58,7 +58,7 @@ monic_here f h i t l is d e =
       variables = KeepsVariables-scaled (reciprocal_ℚ k) f h p;
     }
 
-pub monic_of_quotients : (f : List WideTerm) (g h : Terms) (i : ℕ) (t : WideTerm) (b : MarkedPolynomial) → values f ≡ g → i < length g → t ≡ get_or f i t → IsDescending g → h ≡ times (reciprocal_ℚ t.coef) [] (values f) → b ≡ record { poly = h; head = head_of h i } → IsMonicAt g i b
+pub monic_of_quotients : (f : List WideTerm) (g h : Terms) (i : ℕ) (t : WideTerm) (b : MarkedPolynomial) → value_terms f ≡ g → i < length g → t ≡ get_or f i t → IsDescending g → h ≡ times (reciprocal_ℚ t.coef) [] (value_terms f) → b ≡ record { poly = h; head = head_of h i } → IsMonicAt g i b
 monic_of_quotients f g h i t b e l is d q m =
-    let v : i < length (values f) = subst (λ (z : Terms). i < length z) (sym e) l in
-    subst (IsMonicAt g i) (sym m) (subst (λ (z : Terms). IsMonicAt z i (record { poly = h; head = head_of h i })) e (monic_here (values f) h i (term_value t) v (value_at f i t is) (subst IsDescending (sym e) d) q))
+    let v : i < length (value_terms f) = subst (λ (z : Terms). i < length z) (sym e) l in
+    subst (IsMonicAt g i) (sym m) (subst (λ (z : Terms). IsMonicAt z i (record { poly = h; head = head_of h i })) e (monic_here (value_terms f) h i (term_value t) v (value_at f i t is) (subst IsDescending (sym e) d) q))

@@ -6,22 +6,22 @@ use Rattle.gf_frac.specs.Fraction.{Fraction, ◌+ℚ◌, neg_ℚ, one_ℚ}
 use Rattle.gf_frac.proofs.FractionLaws.{neg_ℚ-neg_ℚ}
 use Rattle.gf_exponents.specs.Exponents.{Exponents, plus, join}
 use Rattle.gf_exponents.proofs.ExponentsLaws.{same_of}
-use Rattle.gf_poly.specs.Polynomial.{Terms, coefficient, times, IsDescending, HasVariables}
+use Rattle.gf_poly.specs.Polynomial.{Terms, coefficient, times}
 use Rattle.gf_poly.specs.Marking.{MarkedPolynomial, HasMarkedTerm}
 use Rattle.gf_poly.proofs.PolynomialLaws.{coefficient-++}
 use Rattle.gf_ideal.specs.Reduction.{IsSPolynomial}
 use Rattle.gf_division.specs.Dividends.{Split, joined_terms, IsSound, Subtracts}
 use Rattle.gf_division.specs.SPolynomials.{KeepsPairVariables}
 use Rattle.gf_division.proofs.SPolynomialLaws.{PairFacts, s_variables}
-use Rattle.gf_wide_division.specs.Dividends.{whole}
+use Rattle.gf_wide_division.specs.Dividends.{uncut}
 
-pub nothing_sound : (n : ℕ) (s : Split) → s ≡ whole [] → IsSound n s
+pub nothing_sound : (n : ℕ) (s : Split) → s ≡ uncut [] → IsSound n s
 nothing_sound n s e = subst (IsSound n) (sym e) (record { descending = tt; variables = tt })
 
 pub second_sound : (b c : MarkedPolynomial) (u v : Exponents) (m : Fraction) (f : Terms) (s t : Split) → PairFacts b c u v → Subtracts m u f s t → IsSound (length v) t
 second_sound b c u v m f s t k d = subst (λ (n : ℕ). IsSound n t) (k.left ∙ sym k.right) d.sound
 
-pub pair_value : (b c : MarkedPolynomial) (u v : Exponents) (m o : Fraction) (f g : Terms) (r s t : Split) → f ≡ b.poly → g ≡ c.poly → o ≡ one_ℚ → m ≡ neg_ℚ o → PairFacts b c u v → r ≡ whole [] → Subtracts m u f r s → Subtracts o v g s t → IsSPolynomial b c (joined_terms t)
+pub pair_value : (b c : MarkedPolynomial) (u v : Exponents) (m o : Fraction) (f g : Terms) (r s t : Split) → f ≡ b.poly → g ≡ c.poly → o ≡ one_ℚ → m ≡ neg_ℚ o → PairFacts b c u v → r ≡ uncut [] → Subtracts m u f r s → Subtracts o v g s t → IsSPolynomial b c (joined_terms t)
 pair_value b c u v m o f g r s t ef eg eo em k er d h = record {
   left = u;
   right = v;

@@ -6,11 +6,11 @@ use Rattle.gf_frac.specs.Fraction.{Fraction}
 use Rattle.gf_poly.specs.Polynomial.{Terms}
 use Rattle.gf_division.specs.Dividends.{Split, joined_terms, TakesFromFirst}
 use Rattle.gf_wide_division.specs.declared.dividend.WideDividend.{WideDividend}
-use Rattle.gf_wide_division.specs.Values.{values}
+use Rattle.gf_wide_division.specs.Values.{value_terms}
 
 -- all terms, below the place
-abbrev pub whole : Terms → Split
-whole f = record { above = []; below = f }
+abbrev pub uncut : Terms → Split
+uncut f = record { above = []; below = f }
 
 -- the place before the term at i
 abbrev pub cut_at : ℕ → Terms → Split
@@ -18,7 +18,7 @@ cut_at i f = record { above = take i f; below = drop i f }
 
 -- the polynomial
 abbrev pub dividend_of : WideDividend → Split
-dividend_of d = whole (values d.terms.items)
+dividend_of d = uncut (value_terms d.terms.items)
 
 -- c is taken from the coefficient of the term at i of old; new has what is left
 pub record TakesAt (c : Fraction) (i : ℕ) (old new : Terms) : Type 0 where

@@ -9,5 +9,5 @@ abbrev pub term_value : WideTerm → Term
 term_value t = record { coef = t.coef; mono = t.mono }
 
 -- the polynomial
-abbrev pub values : List WideTerm → Terms
-values f = map term_value f
+abbrev pub value_terms : List WideTerm → Terms
+value_terms f = map term_value f

@@ -1,7 +1,6 @@
 //! Autoreduction where the numbers of a tail don't fit on the way.
 
 ghost use Rattle.std.specs.Prelude.{Contains, IfOk, IsTrue};
-ghost use Rattle.gf_frac.specs.Fraction.{one_ℚ};
 ghost use Rattle.gf_poly.specs.Polynomial.{KeepsVariables};
 ghost use Rattle.gf_ideal.specs.Bases.{AreArranged};
 ghost use Rattle.gf_ideal.specs.Marks.{HasPositiveWeight, IsRealisable};

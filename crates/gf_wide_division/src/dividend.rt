@@ -8,9 +8,9 @@ ghost use Rattle.gf_poly.specs.Polynomial.{IsDescending, HasVariables};
 ghost use Rattle.gf_ideal.specs.Reduction.{IsSPolynomial};
 ghost use Rattle.gf_division.specs.Dividends.{joined_terms, IsSound, Descends, TakesAway, Subtracts, SharesVariables};
 ghost use Rattle.gf_division.specs.SPolynomials.{SharePairVariables, KeepsPairVariables, AreLcmCofactors};
-ghost use Rattle.gf_division.specs.Tables.{StepsFrom, IsCutAt};
-ghost use Rattle.gf_wide_division.specs.Dividends.{whole, cut_at, dividend_of, TakesAt};
-ghost use Rattle.gf_wide_division.specs.Values.{term_value, values};
+ghost use Rattle.gf_division.specs.Tables.{StepsFrom, IsCutBefore};
+ghost use Rattle.gf_wide_division.specs.Dividends.{uncut, cut_at, dividend_of, TakesAt};
+ghost use Rattle.gf_wide_division.specs.Values.{term_value, value_terms};
 
 use crate::polynomial::WidePoly;
 use crate::precedence::Precedence;
@@ -46,7 +46,7 @@ impl WideDividend {
         by: &[Marked],
         spared: &Option<Mono>,
     ) -> Result<WideDividend, Beyond>
-        ensures value { IfOk result (λ d. dividend_of d ≡ whole f.now) }
+        ensures value { IfOk result (λ d. dividend_of d ≡ uncut f.now) }
         ensures descending { IsDescending f.now }
     {
         let all = f.terms();
@@ -65,7 +65,7 @@ impl WideDividend {
 
     /// No terms yet.
     fn zero(alloc: Global) -> WideDividend
-        ensures { dividend_of result ≡ whole [] }
+        ensures { dividend_of result ≡ uncut [] }
     {
         WideDividend {
             terms: Vec::new(alloc),
@@ -103,7 +103,7 @@ impl WideDividend {
 
     /// A copy of the term that is taken first of those that wait.
     pub fn foremost(&self, first: &Precedence) -> Option<WideTerm>
-        ensures { IfSome result (λ t. IsCutAt (joined_terms (dividend_of self.now)) (term_value t)) }
+        ensures { IfSome result (λ t. IsCutBefore (joined_terms (dividend_of self.now)) (term_value t)) }
     {
         let i = self.place_of_foremost(first)?;
         let t = &self.terms[i];
@@ -145,7 +145,7 @@ impl WideDividend {
     /// The place of the first term that isn't greater than `x`, and how that one compares with it; where there is none it counts as less.
     fn place(&self, x: &Mono) -> (usize, Ordering)
         ensures inside { result.0 ≤ length self.now.terms.items }
-        ensures place { Descends x.now (dividend_of self.now) (cut_at result.0 (values self.now.terms.items)) result.1 }
+        ensures place { Descends x.now (dividend_of self.now) (cut_at result.0 (value_terms self.now.terms.items)) result.1 }
     {
         let mut i = 0;
         'terms: while i < self.terms.len() {
@@ -161,7 +161,7 @@ impl WideDividend {
     /// Takes `coef` from the coefficient of the term at a place; where nothing is left there is no term.
     fn take_from(&mut self, place: usize, coef: &WideFrac) -> Result<(), Beyond>
         requires { place < length self.old.terms.items }
-        ensures { OnOk result (TakesAt coef.now place (values self.old.terms.items) (values self.new.terms.items)) }
+        ensures { OnOk result (TakesAt coef.now place (value_terms self.old.terms.items) (value_terms self.new.terms.items)) }
     {
         let t = self.terms.remove(place);
         let left = difference(&t.coef, coef)?;
@@ -237,7 +237,7 @@ impl WideDividend {
         by: &[Marked],
         spared: &Option<Mono>,
     ) -> Result<(), Beyond>
-        requires there { IsCutAt (joined_terms (dividend_of self.old)) (term_value t.now) }
+        requires there { IsCutBefore (joined_terms (dividend_of self.old)) (term_value t.now) }
         requires variables { SharesVariables member.now (dividend_of self.old) }
         requires divides { Divides member.now.head t.now.mono }
         ensures { OnOk result (StepsFrom member.now (joined_terms (dividend_of self.old)) (term_value t.now) (dividend_of self.new)) }

@@ -5,7 +5,7 @@ ghost use Rattle.gf_frac.specs.Fraction.{reciprocal_ℚ, zero_ℚ};
 ghost use Rattle.gf_poly.specs.Marking.{head_of};
 ghost use Rattle.gf_poly.specs.Polynomial.{IsDescending, times};
 ghost use Rattle.gf_wide_division.specs.Monic.{IsMonicAt};
-ghost use Rattle.gf_wide_division.specs.Values.{values};
+ghost use Rattle.gf_wide_division.specs.Values.{value_terms};
 
 use crate::terms::{Beyond, WideTerm, narrow, narrow_quotient};
 use gf_poly::{Marked, Mono, Poly, Term};
@@ -21,19 +21,19 @@ pub struct WidePoly {
 
 impl Model for WidePoly {
     ghost use Rattle.gf_poly.specs.Polynomial.{Terms, IsDescending};
-    ghost use Rattle.gf_wide_division.specs.Values.{values};
+    ghost use Rattle.gf_wide_division.specs.Values.{value_terms};
 
     ghost Value = { Terms };
 
-    ghost view = { λ p. values p.terms.items };
+    ghost view = { λ p. value_terms p.terms.items };
 
-    ghost invariant = { λ p. IsDescending (values p.terms.items) };
+    ghost invariant = { λ p. IsDescending (value_terms p.terms.items) };
 }
 
 /// The quotient of each coefficient by `by`, in narrow numbers.
 fn quotients(alloc: Global, terms: &[WideTerm], by: &WideFrac) -> Result<Vec<Term>, Beyond>
     requires { ¬ (by.now ≡ zero_ℚ) }
-    ensures { IfOk result (λ h. h.items ≡ times (reciprocal_ℚ by.now) [] (values terms.now)) }
+    ensures { IfOk result (λ h. h.items ≡ times (reciprocal_ℚ by.now) [] (value_terms terms.now)) }
 {
     let mut out = Vec::with_capacity(alloc, terms.len())?;
     let mut i = 0;
@@ -50,15 +50,15 @@ fn quotients(alloc: Global, terms: &[WideTerm], by: &WideFrac) -> Result<Vec<Ter
 impl WidePoly {
     /// The polynomial with these terms, which descend in deglex and have nonzero coefficients; nothing is copied.
     pub fn of(terms: Vec<WideTerm>) -> WidePoly
-        requires { IsDescending (values terms.items) }
-        ensures { result ≡ values terms.items }
+        requires { IsDescending (value_terms terms.items) }
+        ensures { result ≡ value_terms terms.items }
     {
         WidePoly { terms }
     }
 
     /// The terms, descending in deglex.
     pub fn terms(&self) -> &[WideTerm]
-        ensures value { values result.now ≡ self.now }
+        ensures value { value_terms result.now ≡ self.now }
         ensures descending { IsDescending self.now }
     {
         self.terms.as_slice()

@@ -1,6 +1,6 @@
 //! Remainders by a dividend with wide coefficients: what the narrow calls answer, where their numbers don't fit on the way.
 
-ghost use Rattle.std.specs.Prelude.{◌≡◌, Contains, IfOk, IfSome, IsTrue, OnOk};
+ghost use Rattle.std.specs.Prelude.{Contains, IfOk, IfSome, IsTrue, OnOk};
 ghost use Rattle.gf_poly.specs.Polynomial.{KeepsVariables};
 ghost use Rattle.gf_ideal.specs.NormalForms.{IsNormalForm};
 ghost use Rattle.gf_ideal.specs.WorkLists.{IsReducedTail};
@@ -10,7 +10,7 @@ ghost use Rattle.gf_division.specs.Dividends.{joined_terms};
 ghost use Rattle.gf_division.specs.Reducers.{AreIrreducible, ShareVariables};
 ghost use Rattle.gf_division.specs.Remainders.{IsRemainder, IsWorkedOn, HasTailReached};
 ghost use Rattle.gf_division.specs.Tables.{IsReducibleAt};
-ghost use Rattle.gf_wide_division.specs.Dividends.{whole, dividend_of};
+ghost use Rattle.gf_wide_division.specs.Dividends.{uncut, dividend_of};
 ghost use Rattle.gf_wide_division.specs.Pairs.{IsPairRemainder, SharePairMembers};
 ghost use Rattle.gf_wide_division.specs.Values.{term_value};
 
@@ -61,7 +61,7 @@ fn through(
 
 /// Whether no member reduces a term that isn't spared.
 fn is_irreducible(f: &WidePoly, by: &[Marked], spared: &Option<Mono>) -> bool
-    requires { ShareVariables (whole f.now) by.now spared.now }
+    requires { ShareVariables (uncut f.now) by.now spared.now }
     ensures { IsTrue result → AreIrreducible by.now spared.now f.now }
 {
     let terms = f.terms();
@@ -84,7 +84,7 @@ fn worked_off(
 ) -> Result<WidePoly, Beyond>
     requires marked { HasSomeWeight by.now }
     requires variables { ShareVariables (dividend_of start) by.now spared.now }
-    ensures worked { IfOk result (λ f. IsWorkedOn by.now spared.now (dividend_of start) (whole f)) }
+    ensures worked { IfOk result (λ f. IsWorkedOn by.now spared.now (dividend_of start) (uncut f)) }
     ensures done { IfOk result (AreIrreducible by.now spared.now) }
 {
     let mut rest = start;

@@ -25,7 +25,7 @@ use Rattle.gfan_lists.specs.BasesList.{AreAllBasesIn}
 use Rattle.gfan_common.specs.Causes.{of_tree, of_weight_error}
 use Rattle.gfan_lists.specs.Bases.{IsWithinLimit, IsGoingCauseBehind}
 use Rattle.gfan_lists.specs.Within.{of_region}
-use Rattle.gfan_lists.specs.After.{IsTakenIn, Given, names_given, generators_given, reading_given, reading_cut, IsCauseAfter, IsRefusedAfter, IsAfterPast, AfterValue, checks_after, IsAnswerAfter, AreTextsPastAfter, after_command}
+use Rattle.gfan_lists.specs.After.{IsBasisTaken, Given, names_given, generators_given, reading_given, reading_cut, IsCauseAfter, IsRefusedAfter, IsAfterPast, AfterValue, checks_after, IsAnswerAfter, AreTextsPastAfter, after_command}
 use Rattle.gfan_common.proofs.ReadSetLaws.{set_variables}
 use Rattle.gfan_lists.proofs.ListExactLaws.{past_limit}
 use Rattle.gfan.proofs.LimitLaws.{IsAtLimitOrMemory, one_limit, within_most}
@@ -64,7 +64,7 @@ same_behind n k fs front before rest list b c v g q all other =
 
 module _ (from_basis is_cut : Bool) (o : ListOptions) (k : Region) (v : Given from_basis) (s : MarkedPolynomials) (most : ℕ) (w : IsAfterPast from_basis is_cut o k v s most)
     (in_ring : AreInVariables (length (names_given from_basis v)) (generators_given from_basis v)) (region : IsRegion (length (names_given from_basis v)) k) where
-  going_past : (b : MarkedPolynomials) (front : List MarkedPolynomials) (r : Refusal) → IsTakenIn k s b → IsGoingCauseBehind (front ++ b ∷ []) o (length (names_given from_basis v)) k (generators_given from_basis v) r → IsAtLimitOrMemory most r
+  going_past : (b : MarkedPolynomials) (front : List MarkedPolynomials) (r : Refusal) → IsBasisTaken k s b → IsGoingCauseBehind (front ++ b ∷ []) o (length (names_given from_basis v)) k (generators_given from_basis v) r → IsAtLimitOrMemory most r
   going_past b front r t (IsGoingCauseBehind.in_tree e h q) =
       inr (q ∙ ap of_tree (within_memory (ideal_within (length (names_given from_basis v)) (generators_given from_basis v) k) o.pairs e w.start.tree (early_refused (ideal_within (length (names_given from_basis v)) (generators_given from_basis v) k) o.pairs h.rest e h.early)))
   going_past b front r t (IsGoingCauseBehind.at_limit m h q) = inl (q ∙ ap (λ z. refusals.ListLimit z) (one_limit o.limit m most h.is_limit w.past.is_limit))
@@ -75,7 +75,7 @@ module _ (from_basis is_cut : Bool) (o : ListOptions) (k : Region) (v : Given fr
       inr (c.uncertified.2 ∙ ap of_weight_error (w.certificates c.written c.rest c.basis same short c.certified c.uncertified.0 c.uncertified.1))
 
   -- and what follows isn't a list within the limit
-  no_list : (b : MarkedPolynomials) (front list : List MarkedPolynomials) → IsTakenIn k s b → AreAllBasesIn (length (names_given from_basis v)) k (generators_given from_basis v) ((front ++ b ∷ []) ++ list) → IsWithinLimit o.limit list → ⊥
+  no_list : (b : MarkedPolynomials) (front list : List MarkedPolynomials) → IsBasisTaken k s b → AreAllBasesIn (length (names_given from_basis v)) k (generators_given from_basis v) ((front ++ b ∷ []) ++ list) → IsWithinLimit o.limit list → ⊥
   no_list b front list t all few =
       let same = same_behind (length (names_given from_basis v)) k (generators_given from_basis v) w.front front w.past.list list w.last b in_ring region (taken_once k s w.last b w.taken t) w.past.are_all all in
       past_limit o.limit most w.past.list w.past.is_limit w.past.longer (subst (IsWithinLimit o.limit) (sym same) few)
@@ -109,6 +109,6 @@ module _ (from_basis is_cut : Bool) (sources : List Origin) (o : ListOptions) (t
   pub after_past_unanswered : (text : List ℕ) → IsAnswered (after_command from_basis is_cut sources o) texts text → ⊥
   after_past_unanswered text a =
       let x = subst (λ z. IsAnswerAfter from_basis is_cut o z text) (once a.value a.read) a.answer.is_answer in
-      let t = subst (λ z. IsTakenIn z p.0.1.0.1 x.4.basis) (cut_one is_cut (length (names_given from_basis p.0.1.1)) p.0.0 x.0 p.4.0 x.1 p.4.1) x.4.taken in
+      let t = subst (λ z. IsBasisTaken z p.0.1.0.1 x.4.basis) (cut_one is_cut (length (names_given from_basis p.0.1.1)) p.0.0 x.0 p.4.0 x.1 p.4.1) x.4.taken in
       let all = subst (λ z. AreAllBasesIn (length (names_given from_basis p.0.1.1)) z (generators_given from_basis p.0.1.1) ((x.4.front ++ x.4.basis ∷ []) ++ x.4.list.list)) (cut_one is_cut (length (names_given from_basis p.0.1.1)) p.0.0 x.0 p.4.0 x.1 p.4.1) x.4.list.are_all in
       no_list from_basis is_cut o p.4.0 p.0.1.1 p.0.1.0.1 most p.4.2 (inside from_basis is_cut texts p.0 p.1) (cut_region is_cut (length (names_given from_basis p.0.1.1)) p.0.0 p.4.0 p.4.1) x.4.basis x.4.front x.4.list.list t all x.4.list.few

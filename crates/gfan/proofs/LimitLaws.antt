@@ -43,6 +43,7 @@ use Rattle.gfan_lists.proofs.WithinLaws.{rows_hold}
 use Rattle.gfan_lists.proofs.GivenBasisLaws.{reducing_only, root_past}
 use Rattle.gfan_common.proofs.ReadSetLaws.{marked_kept}
 use Rattle.gfan_lists.proofs.OneListLaws.{one_list, one_list_in}
+use Rattle.gfan_lists.proofs.ListExactLaws.{past_limit}
 use Rattle.gfan.proofs.OneTextLaws.{read_variables, given_variables}
 
 -- ---- the work is refused at the limit, or for want of memory
@@ -191,12 +192,8 @@ bases_refused (Some name) from_basis o texts most d p h = within_refused name fr
 
 -- ---- and it isn't answered
 
-too_long : (limit : Option ℕ) (most : ℕ) (list : List MarkedPolynomials) → limit ≡ Some most → most < length list → IsWithinLimit limit list → ⊥
-too_long None most list e l w = cc
-too_long (Some n) most list e l w = let same : n ≡ most = cc in omega arith
-
 no_text : (n : ℕ) (fs : List Terms) (limit : Option ℕ) (most : ℕ) (list : List MarkedPolynomials) → AreInVariables n fs → IsPastLimit limit n fs most → AreAllBases n fs list → IsWithinLimit limit list → ⊥
-no_text n fs limit most list v p all few = too_long limit most p.list p.is_limit p.longer (subst (IsWithinLimit limit) (one_list n fs list p.list v all p.are_all) few)
+no_text n fs limit most list v p all few = past_limit limit most p.list p.is_limit p.longer (subst (IsWithinLimit limit) (one_list n fs list p.list v all p.are_all) few)
 
 list_unanswered : (from_basis : Bool) (o : ListOptions) (texts : List (List ℕ)) (most : ℕ) (text : List ℕ) → AreTextsPast from_basis o texts most → IsAnswered (list_command from_basis o) texts text → ⊥
 list_unanswered false o [] most text p a = p.1
@@ -214,7 +211,7 @@ list_unanswered true o (source ∷ (other ∷ others)) most text p a = p.1
 
 -- in a region
 no_text_in : (n : ℕ) (k : Region) (fs : List Terms) (limit : Option ℕ) (most : ℕ) (list : List MarkedPolynomials) → AreInVariables n fs → IsRegion n k → IsPastLimitIn limit n k fs most → AreAllBasesIn n k fs list → IsWithinLimit limit list → ⊥
-no_text_in n k fs limit most list v g p all few = too_long limit most p.list p.is_limit p.longer (subst (IsWithinLimit limit) (one_list_in n k fs list p.list v g all p.are_all) few)
+no_text_in n k fs limit most list v g p all few = past_limit limit most p.list p.is_limit p.longer (subst (IsWithinLimit limit) (one_list_in n k fs list p.list v g all p.are_all) few)
 
 within_no_text : (o : ListOptions) (rows : List (List ℤ)) (ring : List (List ℕ)) (fs : List Terms) (k : Region) (most : ℕ) (text : List ℕ) → AreInVariables (length ring) fs → IsRegionOf (length ring) rows k → IsPastLimitIn o.limit (length ring) k fs most → IsTextWithin o rows ring fs text → ⊥
 within_no_text o rows ring fs k most text v i p a =

@@ -53,7 +53,7 @@ use Rattle.gf_binomial_calls.specs.Sets.{IsBinomialSet}
 use Rattle.gf_binomial_calls.specs.Written.{ArePlainlyWritten, written_polynomials}
 use Rattle.gf_binomial_calls.proofs.CheckLaws.{member_fits, polys_binomial, forms_binomial, pairs_fit}
 use Rattle.gf_binomial_calls.proofs.LawsHold.{refusals_tell_no_overflow, plain_sets_are_binomials}
-use Rattle.gf_generated.specs.Generated.{generated}
+use Rattle.gf_generated.specs.Generated.{generated_set}
 use Rattle.gf_generated.proofs.GeneratedLaws.{generators_are_binomials}
 use Rattle.gf_front.specs.declared.command_line.Job.{Job}
 use Rattle.gf_front.specs.declared.command_line.Job.TheVariants as jobs
@@ -80,7 +80,7 @@ use Rattle.gfan_common.specs.Causes.{of_basis, of_weight_error, of_tree}
 use Rattle.gfan_sets.specs.Buchberger.{buchberger_command}
 use Rattle.gfan_lists.specs.BasesWriting.{StartsIn}
 use Rattle.gfan_common.specs.CheckedSets.{of_check, IsSomeReductionRefusal}
-use Rattle.gfan_lists.specs.After.{IsTakenIn, IsUnlisted, Given, names_given, generators_given, reading_given, IsUnrooted, IsStartRefused, IsCauseAfter, IsRefusedAfter, after_command, after_sources}
+use Rattle.gfan_lists.specs.After.{IsBasisTaken, IsUnlisted, Given, names_given, generators_given, reading_given, IsUnrooted, IsStartRefused, IsCauseAfter, IsRefusedAfter, after_command, after_sources}
 use Rattle.gfan_lists.specs.Bases.{IsSearchRefusedBehind, IsGoingCauseBehind, IsListCause, bases_command}
 use Rattle.gfan_lists.specs.GivenBasis.{IsReducedFrom, IsReducingRefusal, IsGivenRootRefusal, IsGivenListCause, given_bases_command}
 use Rattle.gfan_lists.specs.Generated.{list_to, IsSummaryCause, generated_command}
@@ -341,7 +341,7 @@ module _ (source : List ℕ) (b : BeginsPlainly source) where
 generated_never : (number limit pairs : ℕ) (texts : List (List ℕ)) (x : Overflow) → IsRefusedOn (generated_command number limit pairs) texts (refusals.Overflow x) → ⊥
 generated_never number limit pairs texts x (IsRefusedOn.in_text e h q) = h
 generated_never number limit pairs texts x (IsRefusedOn.behind_text v r (IsUnanswered.in_form f)) = f
-generated_never number limit pairs texts x (IsRefusedOn.behind_text v r (IsUnanswered.in_work f w)) = summary_never limit pairs (generated number) x (generators_are_binomials.binomials number) w
+generated_never number limit pairs texts x (IsRefusedOn.behind_text v r (IsUnanswered.in_work f w)) = summary_never limit pairs (generated_set number) x (generators_are_binomials.binomials number) w
 generated_never number limit pairs texts x (IsRefusedOn.behind_text v r (IsUnanswered.no_memory m)) = cc
 generated_never number limit pairs texts x (IsRefusedOn.no_memory m) = cc
 
@@ -398,10 +398,10 @@ reduced_never bs fs (errors.Exponent o) x two b h q = cc
 reduced_never bs fs errors.Memory x two b h q = cc
 
 -- the members of the basis are such
-taken_binomials : (k : Region) (s b : MarkedPolynomials) → IsBinomialSet s → IsTakenIn k s b → AreMarkedBinomials (Contains b.items)
+taken_binomials : (k : Region) (s b : MarkedPolynomials) → IsBinomialSet s → IsBasisTaken k s b → AreMarkedBinomials (Contains b.items)
 taken_binomials k s b z t c h = forms_binomial s z c (Contains-permutation b.items (map monic_of s.items) c (IsPermutation-sym (map monic_of s.items) b.items t.arranged.members) h)
 
-unlisted_never : (n : ℕ) (k : Region) (fs : List Terms) (s root b : MarkedPolynomials) (x : Overflow) → IsBinomialSet s → AreBinomials fs → StartsIn n k fs root → IsTakenIn k s b → IsUnlisted fs s root b (refusals.Overflow x) → ⊥
+unlisted_never : (n : ℕ) (k : Region) (fs : List Terms) (s root b : MarkedPolynomials) (x : Overflow) → IsBinomialSet s → AreBinomials fs → StartsIn n k fs root → IsBasisTaken k s b → IsUnlisted fs s root b (refusals.Overflow x) → ⊥
 unlisted_never n k fs s root b x z g f t (IsUnlisted.at_basis i y h e) = cc
 unlisted_never n k fs s root b x z g f t (IsUnlisted.at_generator i y a h e) = cc
 unlisted_never n k fs s root b x z g f t (IsUnlisted.in_basis d h e) = reduced_never root.items (polys s.items) d x (bases_of_binomials n fs root.items f.node.fan.ideal g f.node.basis.reduced) (polys_binomial s z) h e

@@ -1,6 +1,6 @@
 -- What a job is handed, from the texts of its sources as the code lists them.
--- To cite: one_alone, two_alone, texts_length, list_as, within_as, after_as, after_within_as, list_reads, two_as, one_as, none_as, writes_once, list_alone, from_alone,
--- not_asked, not_held, held_alone, not_handed. The rest are steps.
+-- To cite: one_alone, two_alone, texts_length, list_as, within_as, after_as, after_within_as, two_as, one_as, none_as,
+-- writes_once, list_alone, from_alone, not_asked, not_held, held_alone, not_handed. The rest are steps.
 use Rattle.std.specs.Prelude.{◌≡◌, ◌⊎◌, ℕ, Bool, true, false, List, [], ◌∷◌, length, get_or, Vec, Option, None, Some}
 use Rattle.std.specs.Global.{Global}
 use Rattle.std.proofs.Common.{arith, refl, sym, ap, ◌∙◌, subst, inl, inr}
@@ -26,7 +26,7 @@ use Rattle.gfan_fans.specs.CommonRefinement.{refinement_command}
 use Rattle.gfan_fans.specs.BasisTest.{intersection_command}
 use Rattle.gfan_lists.specs.Generated.{generated_command}
 use Rattle.gfan_lists.specs.After.{after_command, after_sources}
-use Rattle.gfan.specs.Commands.{list_options, cone_options, plain_command, list_sources, list_command, within_command, bases_of, list_of, command_of, ReadsInputAlone}
+use Rattle.gfan.specs.Commands.{list_options, cone_options, plain_command, list_command, within_command, bases_of, list_of, command_of, ReadsInputAlone}
 use Rattle.gfan.proofs.CommandLaws.{list_source, listed_not_once}
 use Rattle.gfan_fans.proofs.BasisTestLaws.{intersection_once}
 
@@ -123,11 +123,6 @@ pub after_within_as : (P : Command → List (List ℕ) → Type 0) (o : BasesOpt
     → P (after_command from_basis true (after_sources (Some within) name) (list_options o)) (a ∷ (b ∷ (c ∷ []))) → P (command_of (jobs.Bases o)) (texts_of ts)
 after_within_as P o name within from_basis ts x y w a b c z e f l i j k p q r h =
     subst (P (command_of (jobs.Bases o))) (three_alone ts x y w a b c (behind_length o name (Some within) ts z e l) i j k p q r) (behind_as P o name (Some within) from_basis (a ∷ (b ∷ (c ∷ []))) z e f h)
-
--- the sources of the list
-pub list_reads : (within : Option (List ℕ)) (from_basis : Bool) (o : ListOptions) → (bases_of within from_basis o).reads ≡ list_sources within
-list_reads None from_basis o = list_source from_basis o
-list_reads (Some name) from_basis o = within_sources name from_basis o
 
 -- a job on two files has two
 pub two_as : (P : Command → List (List ℕ) → Type 0) (job : Job) (o : FanCommonRefinementOptions) (ts : List (Vec ℕ Global)) (x y : Vec ℕ Global) (a b : List ℕ)

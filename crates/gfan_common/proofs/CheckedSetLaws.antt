@@ -1,7 +1,7 @@
 -- Why a marked set isn't taken: each reason is told in one way, with the ring of the set.
--- To cite: lent_terms, lent_monomial, printed_length, failing_once, offending_once; of_this_ring, named_test, named_check, named_numbers; check_work,
--- check_not_listed, poly_numbers, poly_untested, test_cause_untested, paired_once, paired_refutes; reduced_refutes, reduced_once, named_reduced. The
--- rest are steps.
+-- To cite: lent_terms, printed_length, failing_once, offending_once; of_this_ring, named_test, named_check, named_numbers;
+-- check_work, check_not_listed, poly_numbers, poly_untested, test_cause_untested, paired_once, paired_refutes;
+-- reduced_refutes, reduced_once, named_reduced. The rest are steps.
 use Rattle.std.specs.Prelude.{◌≡◌, ◌≢◌, ◌⊎◌, ℕ, ◌<◌, ◌≤◌, Bool, true, false, if◌then◌else◌, List, [], ◌∷◌, ◌++◌, length, map, Option, None, Some}
 use Rattle.std.specs.Borrow.{Bor}
 use Rattle.std.specs.Option.{option_copied}
@@ -33,7 +33,7 @@ use Rattle.gf_reduced.proofs.GroebnerLaws.{s_at, failing_refutes}
 use Rattle.gf_reduced.proofs.RefusalLaws.{not_excluded, no_first}
 use Rattle.gf_front.specs.declared.refusal.Refusal.{Refusal}
 use Rattle.gf_front.specs.declared.refusal.Refusal.TheVariants as refusals
-use Rattle.gf_front.specs.Lines.{IsNamed, AreNamed}
+use Rattle.gf_front.specs.Lines.{AreNamed}
 use Rattle.gf_items.specs.Items.{IsTextOf}
 use Rattle.gf_items.specs.Kinds.{ItemKind, ItemValues, ring_and}
 use Rattle.gf_items.specs.Refusals.{IsOfTest, IsOfNumbers, TellsSame, IsOfWork}
@@ -41,6 +41,7 @@ use Rattle.gfan_common.specs.declared.refused.Refused.{Refused}
 use Rattle.gfan_common.specs.CheckedSets.{of_check}
 use Rattle.gfan_common.specs.Refused.{IsNamedBy, IsOfSource}
 use Rattle.gfan_common.proofs.ReadSetLaws.{IsKeptMember, IsSetKept, set_variables}
+use Rattle.gfan_common.proofs.WrittenSetLaws.{lent_names}
 
 -- ---- the names of the ring
 
@@ -300,15 +301,11 @@ other_lengths n h (t ∷ f) v = at (same t.mono h) (other_lengths n h f v.1)
 pub printed_length : (n : ℕ) (b : MarkedPolynomial) (earlier later : List Exponents) (x : Exponents) → IsKeptMember n b → printed_monomials b ≡ earlier ++ x ∷ later → length x ≡ n
 printed_length n b earlier later x v e = each_middle (λ (y : Exponents). length y ≡ n) earlier later x (subst (Each (λ (y : Exponents). length y ≡ n)) e (v.1, other_lengths n b.head b.poly v.0))
 
-pub lent_monomial : (ring : List (List ℕ)) (x : Exponents) (lent : Option (Bor (List (List ℕ)))) → option_copied lent ≡ Some ring → length x ≡ length ring → IsNamed lent x
-lent_monomial ring x None e h = let p : None ≡ Some ring = e in cc
-lent_monomial ring x (Some b) e h = let p : Some b.now ≡ Some ring = e in let q : b.now ≡ ring = cc in subst (λ (names : List (List ℕ)). length x ≡ length names) (sym q) h
-
 -- a check names a term, or a remainder, that has them
 pub named_reduced : (k : ℕ) (ring : List (List ℕ)) (s : MarkedPolynomials) (e : CheckError) → IsSetKept (length ring) s → IsReducedRefusal k s e → IsNamedBy (Some ring) (of_check e)
 named_reduced k ring s (check_errors.NotReduced set i x) v h = λ lent is.
     let f = h.2.first in
-    lent_monomial ring x lent is (printed_length (length ring) f.member f.earlier f.later x (contained_each (IsKeptMember (length ring)) s.items v.1 f.member (member_contained s.items i f.member f.at)) f.printed)
+    lent_names ring x lent is (printed_length (length ring) f.member f.earlier f.later x (contained_each (IsKeptMember (length ring)) s.items v.1 f.member (member_contained s.items i f.member f.at)) f.printed)
 named_reduced k ring s (check_errors.Overflow o) v h = λ lent is. tt
 named_reduced k ring s (check_errors.Exponent o) v h = λ lent is. tt
 named_reduced k ring s (check_errors.NotBasis set i j r) v h = named_check (AreReduced s.items) k ring s (check_errors.NotBasis set i j r) v.0 (set_variables (length ring) s v) h

@@ -12,8 +12,8 @@ verdict_text true = 49 ∷ 10 ∷ []
 verdict_text false = 48 ∷ 10 ∷ []
 
 -- 1 where P holds, and 0 where it doesn't
-abbrev pub IsVerdict : Type 0 → List ℕ → Type 0
-IsVerdict P text = (P × (text ≡ verdict_text true)) ⊎ ((P → ⊥) × (text ≡ verdict_text false))
+abbrev pub IsVerdictText : Type 0 → List ℕ → Type 0
+IsVerdictText P text = (P × (text ≡ verdict_text true)) ⊎ ((P → ⊥) × (text ≡ verdict_text false))
 
 -- the text is the ring's line, then the set and a line end
 abbrev pub IsPrinted : List (List ℕ) → MarkedPolynomials → List ℕ → Type 0

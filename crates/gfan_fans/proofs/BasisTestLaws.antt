@@ -19,7 +19,7 @@ use Rattle.gf_basis_test.specs.declared.error.BasisTestError.{BasisTestError}
 use Rattle.gf_basis_test.specs.declared.error.BasisTestError.TheVariants as test_errors
 use Rattle.gf_basis_test.specs.declared.verdict.Verdict.{Verdict}
 use Rattle.gf_basis_test.specs.Verdicts.{IsVerdict, IsFirstVerdict, maximal_rows}
-use Rattle.gf_basis_test.specs.Refusals.{AreBasesRefused, IsTestRefusal}
+use Rattle.gf_basis_test.specs.Refusals.{AreBasesRefused, IsVerdictRefusal}
 use Rattle.gf_basis_test.specs.Limits.{HasNoMemory}
 use Rattle.gf_basis_test.proofs.LimitLaws.{test_memory}
 use Rattle.gf_text.specs.declared.written.Written.{Written}
@@ -41,7 +41,7 @@ use Rattle.gfan_common.specs.Forms.{generators_of, IsDegreeRefusal}
 use Rattle.gfan_common.specs.Causes.{of_basis, of_tree}
 use Rattle.gfan_common.specs.ToolForms.{HasNoZero, IsZeroRefusal}
 use Rattle.gfan_fans.specs.Tropical.{of_tropical}
-use Rattle.gfan_fans.specs.BasisTest.{of_initial, of_basis_test, verdict_text, basis_test_command, intersection_command}
+use Rattle.gfan_fans.specs.BasisTest.{of_initial, of_basis_test, basis_test_text, basis_test_command, intersection_command}
 use Rattle.gfan_common.specs.Refused.{IsNamedBy, IsOfSource}
 use Rattle.gfan_common.proofs.WrittenSetLaws.{lent_names, first_variables}
 use Rattle.gfan_common.proofs.CauseLaws.{basis_work, basis_not_listed, basis_untested, tree_work, tree_untested, tree_not_listed, basis_named_by}
@@ -56,7 +56,7 @@ pub ring_of_all : (n : ℕ) (fs : List Terms) → All (HasVariables n) fs → Ha
 ring_of_all n fs a = record { each = λ f c. All-contains (HasVariables n) fs f a c }
 
 pub verdict_answered : (n : ℕ) (ring : List (List ℕ)) (ws : List Written) (fs : List Terms) (v : Verdict) (text : List ℕ) → n ≡ length ring → fs ≡ generators_of ws → HasNoZero ws → HaveOneDegree fs →
-    IsVerdict n fs v → IsFirstVerdict n fs v → text ≡ verdict_text v → IsAnswerFor basis_test_command (ring, (ws, None)) text
+    IsVerdict n fs v → IsFirstVerdict n fs v → text ≡ basis_test_text v → IsAnswerFor basis_test_command (ring, (ws, None)) text
 verdict_answered n ring ws fs v text p q z d r f t = record {
   formed = (z, (subst HaveOneDegree q d, tt));
   is_answer = record {
@@ -68,12 +68,12 @@ verdict_answered n ring ws fs v text p q z d r f t = record {
 }
 
 pub test_unanswered : (n : ℕ) (ring : List (List ℕ)) (ws : List Written) (fs : List Terms) (e : BasisTestError) → n ≡ length ring → fs ≡ generators_of ws → HasNoZero ws → HaveOneDegree fs → NoneIsZero fs →
-    IsTestRefusal n fs usual_pairs e → IsUnanswered basis_test_command (ring, (ws, None)) (of_basis_test e)
+    IsVerdictRefusal n fs usual_pairs e → IsUnanswered basis_test_command (ring, (ws, None)) (of_basis_test e)
 test_unanswered n ring ws fs e p q z d s h = IsUnanswered.in_work (z, (subst HaveOneDegree q d, tt)) (record {
   error = e;
   told = refl;
   nonzero = subst NoneIsZero q s;
-  refused = subst (λ k. IsTestRefusal k (generators_of ws) usual_pairs e) p (subst (λ (gs : List Terms). IsTestRefusal n gs usual_pairs e) q h);
+  refused = subst (λ k. IsVerdictRefusal k (generators_of ws) usual_pairs e) p (subst (λ (gs : List Terms). IsVerdictRefusal n gs usual_pairs e) q h);
 })
 
 pub degree_unanswered : (ring : List (List ℕ)) (ws : List Written) (fs : List Terms) (r : Refusal) → fs ≡ generators_of ws → HasNoZero ws → IsDegreeRefusal true None fs r ⊎ (r ≡ refusals.Memory) →
@@ -84,18 +84,18 @@ degree_unanswered ring ws fs r q z (inr m) = IsUnanswered.no_memory m
 -- ---- refusals
 
 -- none is told of a zero polynomial
-not_zero : (n : ℕ) (fs : List Terms) (set index : ℕ) → NoneIsZero fs → IsTestRefusal n fs usual_pairs (test_errors.Prevariety (tropical_errors.ZeroPolynomial set index)) → ⊥
-not_zero n fs set index some (IsTestRefusal.at_prevariety r h q) =
+not_zero : (n : ℕ) (fs : List Terms) (set index : ℕ) → NoneIsZero fs → IsVerdictRefusal n fs usual_pairs (test_errors.Prevariety (tropical_errors.ZeroPolynomial set index)) → ⊥
+not_zero n fs set index some (IsVerdictRefusal.at_prevariety r h q) =
     let e : r ≡ tropical_errors.ZeroPolynomial set index = cc in
     no_first_zero fs index some (subst (IsTropicalRefusal IsPairSystem n fs) e h).1
-not_zero n fs set index some (IsTestRefusal.at_root r h q) = cc
-not_zero n fs set index some (IsTestRefusal.at_bases fan p h) = at h
+not_zero n fs set index some (IsVerdictRefusal.at_root r h q) = cc
+not_zero n fs set index some (IsVerdictRefusal.at_bases fan p h) = at h
   where
     at : AreBasesRefused n fs (maximal_rows fan) usual_pairs (test_errors.Prevariety (tropical_errors.ZeroPolynomial set index)) → ⊥
     at (AreBasesRefused.at_basis bases b r l k x q) = cc
     at (AreBasesRefused.at_search r x q) = cc
     at (AreBasesRefused.no_memory q) = cc
-not_zero n fs set index some (IsTestRefusal.no_memory q) = cc
+not_zero n fs set index some (IsVerdictRefusal.no_memory q) = cc
 
 initial_work : (e : InitialError) → IsOfWork (of_initial e)
 initial_work (initial_errors.Cone o) = tt
@@ -104,7 +104,7 @@ initial_work (initial_errors.Entry i x) = tt
 initial_work (initial_errors.Saturation e) = basis_work e
 initial_work initial_errors.Memory = tt
 
-test_work : (n : ℕ) (fs : List Terms) (e : BasisTestError) → NoneIsZero fs → IsTestRefusal n fs usual_pairs e → IsOfWork (of_basis_test e)
+test_work : (n : ℕ) (fs : List Terms) (e : BasisTestError) → NoneIsZero fs → IsVerdictRefusal n fs usual_pairs e → IsOfWork (of_basis_test e)
 test_work n fs (test_errors.Prevariety (tropical_errors.Cone o)) s h = tt
 test_work n fs (test_errors.Prevariety (tropical_errors.ZeroPolynomial set index)) s h = absurd (not_zero n fs set index s h)
 test_work n fs (test_errors.Prevariety tropical_errors.Memory) s h = tt

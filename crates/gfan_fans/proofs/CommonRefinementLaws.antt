@@ -1,7 +1,7 @@
 -- What `_fancommonrefinement` answers, why it doesn't, and that two texts are answered in one way.
--- To cite: fan_unrefused, told_file, of_numbers, file_refused_once, tells_itself, in_words_once, fan_in_words; refined_told, words_once, words_no_text,
--- once_no_text, within_answered; refinement_refused, refinement_answered, refinement_lawful; file_named, refine_named, writing_named, refinement_unwritten. The
--- rest are steps.
+-- To cite: fan_unrefused, told_file, of_numbers, file_refused_once, in_words_once, fan_in_words; refined_told, words_once,
+-- words_no_text, once_no_text, within_answered; refinement_refused, refinement_answered, refinement_lawful; file_named,
+-- refine_named, writing_named, refinement_unwritten. The rest are steps.
 use Rattle.std.specs.Prelude.{◌≡◌, ◌⊎◌, ℕ, List, [], ◌∷◌, None}
 use Rattle.std.proofs.Common.{refl, sym, ap, ◌∙◌, subst, inl, inr}
 use Rattle.gf_fan.specs.FanLists.{FanLists}
@@ -11,7 +11,7 @@ use Rattle.gf_items.specs.Refusals.{IsExactRefusal, IsOfNumbers, TellsSame}
 use Rattle.gf_items.proofs.CheckLaws.{IsCheckedOnce}
 use Rattle.gf_frame.specs.Commands.{Writing, IsOfWriting, IsFixed, IsUnanswered, IsAnswered, IsRefusedOn}
 use Rattle.gf_frame.proofs.ReadingLaws.{two_once}
-use Rattle.gf_frame.proofs.CommandLaws.{IsLawful}
+use Rattle.gf_frame.proofs.CommandLaws.{IsLawful, tells_itself}
 use Rattle.gf_fanfile.specs.declared.error.FanFileError.{FanFileError}
 use Rattle.gf_fanfile.specs.declared.error.FanFileError.TheVariants as file_errors
 use Rattle.gf_fanfile.specs.declared.file.FanFile.{FanFile}
@@ -97,11 +97,6 @@ refined_once a b r d n (IsRefinementRefused.in_second f e i h q) (IsRefinementRe
 refined_once a b r d n (IsRefinementRefused.in_work f g e i j h q) (IsRefinementRefused.in_first x k p) = inr (of_numbers a f d x i k p)
 refined_once a b r d n (IsRefinementRefused.in_work f g e i j h q) (IsRefinementRefused.in_second s x t k p) = inr (of_numbers b g d x j k p)
 refined_once a b r d n (IsRefinementRefused.in_work f g e i j h q) (IsRefinementRefused.in_work s t x u v k p) = work_refused_once a b r d f g s t e x n i j u v h q k p
-
-pub tells_itself : (r : Refusal) → TellsSame r r
-tells_itself (refusals.Inconsistent set multipliers) = refl
-tells_itself (refusals.EmptyRegion multipliers) = tt
-tells_itself _ = refl
 
 pub refined_told : (a b : List ℕ) (r d : Refusal) → (IsOfNumbers r → ⊥) → IsRefinementRefused a b r → IsRefinementRefused a b d → TellsSame r d ⊎ IsOfNumbers d
 refined_told a b r d n h k = elim (refined_once a b r d n h k) [

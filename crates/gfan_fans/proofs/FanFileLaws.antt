@@ -17,7 +17,7 @@ use Rattle.gf_fanfile.specs.Lines.{Section, sections, content_tokens, end_before
 use Rattle.gf_fanfile.specs.RowText.{AreRowTexts}
 use Rattle.gf_fanfile.specs.ConeText.{AreConeTexts}
 use Rattle.gf_fanfile.specs.NumberText.{IsOneNumberText}
-use Rattle.gf_fanfile.specs.FanText.{ContentKind, number_to, rows, cones, any, told_version, kind_in, Table, table_of, IsFaultOf, IsContentFault, IsFirstFault, first_missing, wanted}
+use Rattle.gf_fanfile.specs.FanText.{ContentKind, number_to, rows, cones, any, told_version, kind_in, Table, told_table, IsFaultOf, IsContentFault, IsFirstFault, first_missing, wanted}
 use Rattle.gf_fanfile.specs.Files.{IsOfLimits, interior_rows, IsFormFault, zero_dimension, at_rays, at_lineality, at_interiors, at_ray, at_number, IsFileRefused, in_text, bad_version, not_there, in_form, no_memory}
 use Rattle.gf_fanfile.specs.Certificates.{IsCertificateFault, other_count, at_row, too_wide}
 use Rattle.gf_fanfile.specs.FilesFans.{IsFanOfText, refusal_of_fan, IsFanFault, in_cone, in_certificate, in_fan, IsFanFileRefusal, before_cones, behind_form}
@@ -95,10 +95,10 @@ told_words _ w l = l
 file_words : (source : List ℕ) (e d : FanFileError) → IsOfWords e → (d ≡ errors.Memory → ⊥) → IsFileRefused source e → IsFileRefused source d → IsOfLimits d → ⊥
 file_words source e d w m (no_memory is) k l = subst IsOfWords is w
 file_words source e d w m h (no_memory so) l = m so
-file_words source e d w m h (in_text g) l = first_told (table_of source) (length source) [] (sections source) d g l
+file_words source e d w m h (in_text g) l = first_told (told_table source) (length source) [] (sections source) d g l
 file_words source e d w m h (bad_version other number there told first second so) l = subst IsOfLimits so l
 file_words source e d w m h (not_there other name there known none so) l = subst IsOfLimits so l
-file_words source e d w m (in_text h) (in_form g read k) l = text_sound (table_of source) source read.all e read.held h
+file_words source e d w m (in_text h) (in_form g read k) l = text_sound (told_table source) source read.all e read.held h
 file_words source e d w m (bad_version all number held told first second is) (in_form g read k) l = version_known source g number read told first second
 file_words source e d w m (not_there all section held known missing is) (in_form f said g) l =
     let same : first_missing (wanted (told_version source)) all ≡ first_missing (wanted (told_version source)) said.all = ap (first_missing (wanted (told_version source))) (sections_once source all said.all held said.held) in

@@ -34,8 +34,9 @@ use Rattle.gfan_fans.specs.ToldCones.{cut_of, IsToldAs, IsUntoldAs, IsUntold}
 use Rattle.gfan_common.specs.Refused.{IsNamedBy}
 use Rattle.gfan_common.proofs.ReadSetLaws.{read_variables, one_kept}
 use Rattle.gfan_common.proofs.CheckedSetLaws.{check_work, check_not_listed, named_reduced, reduced_once, reduced_refutes}
-use Rattle.gfan_fans.proofs.ToldConeLaws.{untold_numbers, untold_within, numbers_work, numbers_untested, numbers_named}
+use Rattle.gfan_fans.proofs.ToldConeLaws.{untold_numbers, untold_within}
 use Rattle.gfan_common.proofs.ToolFormLaws.{each_joined, first_in_front, first_behind, space_check, each_check}
+use Rattle.gfan_common.proofs.CauseLaws.{numbers_work, numbers_untested, numbers_named}
 
 -- ---- a cone that isn't told
 

@@ -12,11 +12,12 @@ use Rattle.gf_items.specs.Refusals.{IsOfNumbers, IsOfTest, TellsSame, IsOfWork}
 use Rattle.gf_frame.specs.Commands.{IsAnswered, IsUnanswered, IsRefusedOn}
 use Rattle.gf_frame.proofs.ReadingLaws.{whole_once}
 use Rattle.gf_frame.proofs.SoundLaws.{IsExactCommand, IsTestedCommand}
+use Rattle.gf_frame.proofs.CommandLaws.{tells_itself}
+use Rattle.gfan_common.proofs.CauseLaws.{numbers_untested}
 use Rattle.gfan_fans.specs.CommonRefinement.{of_fan_file, IsOfWords, IsRefusedInWords}
 use Rattle.gfan_fans.specs.MigrateFan.{IsNoMigration, IsMigrationWithin, migrate_fan_command}
 use Rattle.gfan_fans.proofs.FanFileLaws.{words_refused_once, within_memory}
-use Rattle.gfan_fans.proofs.CommonRefinementLaws.{fan_unrefused, told_file, file_refused_once, tells_itself, in_words_once, fan_in_words}
-use Rattle.gfan_fans.proofs.ToldConeLaws.{numbers_untested}
+use Rattle.gfan_fans.proofs.CommonRefinementLaws.{fan_unrefused, told_file, file_refused_once, in_words_once, fan_in_words}
 
 -- ---- from a source on
 

@@ -1,10 +1,9 @@
 -- The fan of the cones of marked sets: how it is found, why it isn't, and that a source is answered in one way.
 -- To cite: cones_ambient, step_of_sets, set_no_fan, cone_no_fan, fan_no_fan, fan_told; fan_answered, no_fan_refused, no_fan_named; to_polyhedral_fan_exact,
 -- to_polyhedral_fan_tested, no_fan_not_listed. The rest are steps.
-use Rattle.std.specs.Prelude.{◌≡◌, ◌⊎◌, ℕ, zero, suc, ◌<◌, ◌≤◌, Bool, List, [], ◌∷◌, length, get_or, All, Some, ℤ}
+use Rattle.std.specs.Prelude.{◌≡◌, ◌⊎◌, ℕ, zero, suc, ◌<◌, Bool, List, [], ◌∷◌, length, get_or, All, Some, ℤ}
 use Rattle.std.specs.List.{AllZip}
 use Rattle.std.proofs.Common.{arith, sym, ap, ◌∙◌, subst, inl, inr}
-use Rattle.std.proofs.lemmas.Bool.{cases_lt}
 use Rattle.std.proofs.lemmas.List.{get_or_default}
 use Rattle.std.proofs.lemmas.Slice.Zip.{AllZip-long}
 use Rattle.gf_poly.specs.Marking.{MarkedPolynomials, Each}
@@ -15,7 +14,7 @@ use Rattle.gf_duality.specs.Faces.{Rows}
 use Rattle.gf_facets.specs.Normals.{AreNormals}
 use Rattle.gf_fans.specs.Fans.{MeetInFaces}
 use Rattle.gf_rays.specs.Cones.{RowsAndRays, rows_of}
-use Rattle.gf_weights.proofs.UniqueLaws.{same_ascending}
+use Rattle.gf_facets.proofs.AscendingLaws.{same_ascending}
 use Rattle.gf_reduced.specs.declared.error.CheckError.{CheckError}
 use Rattle.gf_reduced.specs.declared.error.CheckError.TheVariants as check_errors
 use Rattle.gf_fan.specs.declared.error.FanError.{FanError}
@@ -36,6 +35,7 @@ use Rattle.gfan_common.specs.CheckedSets.{of_check}
 use Rattle.gfan_common.specs.Causes.{of_gordan}
 use Rattle.gfan_common.specs.ReducedSets.{IsReducedAsRead, IsRefusedFrom}
 use Rattle.gf_fanfile.specs.FanTexts.{IsFanText}
+use Rattle.gf_fanfile.proofs.FanOnceLaws.{first_place, second_place}
 use Rattle.gfan_fans.specs.FanTexts.{of_fan, IsNoFanText}
 use Rattle.gfan_fans.specs.ToPolyhedralFan.{inequalities_of, IsConeOfSet, IsFanOfSetsText, IsConeStepOfSet, IsConeStepOfSets, IsNoFanOfSets, AreSetsWithin, to_polyhedral_fan_command}
 use Rattle.gfan_common.specs.Refused.{IsNamedBy}
@@ -168,23 +168,6 @@ module _ (cut : Bool) (n : ℕ) (sets : List MarkedPolynomials) where
         };
         before = λ g k p q r. meeting_along cs ds a b g k (omega (arith, p, o, u)) (omega (arith, r, long)) (h.before g k p q (omega (arith, r, long)));
       }
-
--- there is one first pair
-first_place : (n : ℕ) (cs : List RowsAndRays) (i j k l : ℕ) → IsFirstPair n cs i j → IsFirstPair n cs k l → k ≡ i
-first_place n cs i j k l h g = at (cases_lt i k) (cases_lt k i)
-  where
-    at : (i < k) ⊎ (k ≤ i) → (k < i) ⊎ (i ≤ k) → k ≡ i
-    at (inl p) q = absurd (h.after.clash (g.before i j p h.after.ordered h.after.inside))
-    at (inr p) (inl q) = absurd (g.after.clash (h.before k l q g.after.ordered g.after.inside))
-    at (inr p) (inr q) = omega arith
-
-second_place : (n : ℕ) (cs : List RowsAndRays) (i j l : ℕ) → IsFirstPair n cs i j → IsFirstPair n cs i l → l ≡ j
-second_place n cs i j l h g = at (cases_lt j l) (cases_lt l j)
-  where
-    at : (j < l) ⊎ (l ≤ j) → (l < j) ⊎ (j ≤ l) → l ≡ j
-    at (inl p) q = absurd (h.after.clash (g.after.earlier j h.after.ordered p))
-    at (inr p) (inl q) = absurd (g.after.clash (h.after.earlier l g.after.ordered q))
-    at (inr p) (inr q) = omega arith
 
 pair_once : (n : ℕ) (cs : List RowsAndRays) (i j k l : ℕ) → IsFirstPair n cs i j → IsFirstPair n cs k l → (k ≡ i) × (l ≡ j)
 pair_once n cs i j k l h g = let e = first_place n cs i j k l h g in (e, second_place n cs i j l h (subst (λ m. IsFirstPair n cs m l) e g))

@@ -1,7 +1,6 @@
 -- What is told of a cone, and that only numbers keep it from being told.
--- To cite: untold_numbers, untold_within, rays_untold, fan_untold, numbers_work, numbers_untested, numbers_named. The rest
--- are steps.
-use Rattle.std.specs.Prelude.{◌≡◌, ℕ, Bool, true, false, List, [], ◌∷◌, Option, ℤ}
+-- To cite: untold_numbers, untold_within, rays_untold, fan_untold. The rest are steps.
+use Rattle.std.specs.Prelude.{◌≡◌, ℕ, Bool, true, false, List, [], ◌∷◌, ℤ}
 use Rattle.std.proofs.Common.{sym, ap, ◌∙◌, subst}
 use Rattle.gf_gordan.specs.declared.error.GordanError.{GordanError}
 use Rattle.gf_gordan.specs.declared.error.GordanError.TheVariants as gordan_errors
@@ -15,46 +14,12 @@ use Rattle.gf_fan.specs.declared.error.FanError.TheVariants as fan_errors
 use Rattle.gf_fan.specs.Refusals.{IsFanRefusal}
 use Rattle.gf_front.specs.declared.refusal.Refusal.{Refusal}
 use Rattle.gf_front.specs.declared.refusal.Refusal.TheVariants as refusals
-use Rattle.gf_items.specs.Refusals.{IsOfNumbers, IsOfTest, IsOfWork}
-use Rattle.gfan_common.specs.Refused.{IsNamedBy}
+use Rattle.gf_items.specs.Refusals.{IsOfNumbers}
 use Rattle.gfan_common.specs.Causes.{of_gordan}
 use Rattle.gfan_fans.specs.FanTexts.{of_fan, IsNoFanText}
 use Rattle.gfan_fans.specs.ToldCones.{of_sections, IsConeFanCause, IsConeFanWithin, IsUntoldAs, IsToldWithin}
 use Rattle.gfan_fans.proofs.FanTextLaws.{meeting_refutes, text_within}
 use Rattle.gfan_fans.proofs.HomogeneitySpaceLaws.{one_meets}
-
--- ---- refusals of numbers
-
-pub numbers_work : (r : Refusal) → IsOfNumbers r → IsOfWork r
-numbers_work (refusals.WideVector w) h = tt
-numbers_work (refusals.Overflow o) h = tt
-numbers_work (refusals.ExponentOverflow o) h = tt
-numbers_work (refusals.ConeOverflow row op left right) h = tt
-numbers_work (refusals.PairBudget basis unsettled) h = tt
-numbers_work (refusals.WideRoot index value) h = tt
-numbers_work refusals.Memory h = tt
-numbers_work _ h = absurd h
-
-pub numbers_untested : (r : Refusal) → IsOfNumbers r → IsOfTest r → ⊥
-numbers_untested (refusals.WideVector w) h t = t
-numbers_untested (refusals.Overflow o) h t = t
-numbers_untested (refusals.ExponentOverflow o) h t = t
-numbers_untested (refusals.ConeOverflow row op left right) h t = t
-numbers_untested (refusals.PairBudget basis unsettled) h t = t
-numbers_untested (refusals.WideRoot index value) h t = t
-numbers_untested refusals.Memory h t = t
-numbers_untested _ h t = h
-
--- it names no monomials
-pub numbers_named : (ring : Option (List (List ℕ))) (r : Refusal) → IsOfNumbers r → IsNamedBy ring r
-numbers_named ring (refusals.WideVector w) h = λ lent is. tt
-numbers_named ring (refusals.Overflow o) h = λ lent is. tt
-numbers_named ring (refusals.ExponentOverflow o) h = λ lent is. tt
-numbers_named ring (refusals.ConeOverflow row op left right) h = λ lent is. tt
-numbers_named ring (refusals.PairBudget basis unsettled) h = λ lent is. tt
-numbers_named ring (refusals.WideRoot index value) h = λ lent is. tt
-numbers_named ring refusals.Memory h = λ lent is. tt
-numbers_named ring _ h = absurd h
 
 -- ---- a cone that isn't told
 

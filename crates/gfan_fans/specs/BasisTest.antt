@@ -9,7 +9,7 @@ use Rattle.gf_basis_test.specs.declared.error.BasisTestError.TheVariants as test
 use Rattle.gf_basis_test.specs.declared.verdict.Verdict.{Verdict}
 use Rattle.gf_basis_test.specs.declared.verdict.Verdict.TheVariants as verdicts
 use Rattle.gf_basis_test.specs.Verdicts.{IsVerdict, IsFirstVerdict}
-use Rattle.gf_basis_test.specs.Refusals.{IsTestRefusal}
+use Rattle.gf_basis_test.specs.Refusals.{IsVerdictRefusal}
 use Rattle.gf_basis_test.specs.Limits.{IsTestWithinLimits}
 use Rattle.gf_text.specs.declared.written.Written.{Written}
 use Rattle.gf_text.specs.VectorText.{vector_text}
@@ -48,23 +48,23 @@ of_basis_test test_errors.Memory = refusals.Memory
 -- ---- what is written
 
 -- 1 in a line; or 0 in a line, and the vector in another
-abbrev pub verdict_text : Verdict → List ℕ
-verdict_text verdicts.Yes = 49 ∷ 10 ∷ []
-verdict_text (verdicts.No v) = 48 ∷ 10 ∷ (vector_text v ++ 10 ∷ [])
+abbrev pub basis_test_text : Verdict → List ℕ
+basis_test_text verdicts.Yes = 49 ∷ 10 ∷ []
+basis_test_text (verdicts.No v) = 48 ∷ 10 ∷ (vector_text v ++ 10 ∷ [])
 
 -- the verdict on these polynomials, and where it is no the first vector that fails
 pub record IsBasisTestText (n : ℕ) (fs : List Terms) (text : List ℕ) : Type 0 where
   pub verdict : Verdict
   pub right : IsVerdict n fs verdict
   pub first : IsFirstVerdict n fs verdict
-  pub is_text : text ≡ verdict_text verdict
+  pub is_text : text ≡ basis_test_text verdict
 
 -- a refusal of the test of these polynomials, none of which is zero
 pub record IsNoBasisTestText (n : ℕ) (fs : List Terms) (r : Refusal) : Type 0 where
   pub error : BasisTestError
   pub told : r ≡ of_basis_test error
   pub nonzero : NoneIsZero fs
-  pub refused : IsTestRefusal n fs usual_pairs error
+  pub refused : IsVerdictRefusal n fs usual_pairs error
 
 -- ---- the command
 

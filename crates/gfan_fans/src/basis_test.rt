@@ -3,7 +3,7 @@ ghost use Rattle.std.specs.Prelude.{◌≡◌, ◌∷◌, [], None, length, IfOk
 ghost use Rattle.gf_text.specs.Sets.{AreIn};
 ghost use Rattle.gf_frame.specs.Commands.{IsAnswerFor, IsUnanswered, IsAnswered, IsRefusedOn};
 ghost use Rattle.gfan_common.specs.Refused.{IsOfSource};
-ghost use Rattle.gfan_fans.specs.BasisTest.{of_initial, of_basis_test, verdict_text, basis_test_command};
+ghost use Rattle.gfan_fans.specs.BasisTest.{of_initial, of_basis_test, basis_test_text, basis_test_command};
 
 use crate::tropical::{nonzero_polynomials, of_tropical};
 use gf_basis_test::{BasisTestError, Verdict, tropical_basis};
@@ -55,7 +55,7 @@ fn of_basis_test(error: BasisTestError) -> Refusal
 
 /// The text of a verdict: `1`; or `0`, and the vector on the next line.
 fn verdict_text(alloc: Global, verdict: &Verdict) -> Result<Vec<u8>, AllocError>
-    ensures { IfOk result (λ text. text.items ≡ verdict_text verdict.now) }
+    ensures { IfOk result (λ text. text.items ≡ basis_test_text verdict.now) }
 {
     let mut text = Vec::new(alloc);
     match verdict {

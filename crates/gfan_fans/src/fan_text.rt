@@ -37,7 +37,7 @@ pub(crate) fn fan_text(alloc: Global, n: u32, cones: Vec<Rays>) -> Result<Vec<u8
     }
 }
 
-// Why there is no fan, as a refusal of the run.
+/// Why there is no fan, as a refusal of the run.
 fn of_fan(error: FanError) -> Refusal
     ensures { result ≡ of_fan error }
 {

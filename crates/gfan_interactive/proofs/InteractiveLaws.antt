@@ -29,7 +29,7 @@ use Rattle.gf_session.specs.declared.session.SessionError.{SessionError}
 use Rattle.gf_session.specs.declared.session.SessionError.TheVariants as errors
 use Rattle.gf_session.specs.Sessions.{IsStuck}
 use Rattle.gf_session.proofs.PlaceLaws.{turns-over, near-over}
-use Rattle.gf_basis_places.specs.BasisRules.{IsPlace, IsNumbered, basis_rules}
+use Rattle.gf_basis_places.specs.BasisRules.{IsBasisPlace, IsNumbered, basis_rules}
 use Rattle.gf_front.specs.declared.refusal.Refusal.{Refusal}
 use Rattle.gf_front.specs.declared.refusal.Refusal.TheVariants as refusals
 use Rattle.gf_items.specs.Items.{IsTextOf, from}
@@ -48,7 +48,7 @@ use Rattle.gfan_common.specs.Causes.{of_tree}
 use Rattle.gfan_common.specs.CheckedSets.{of_check}
 use Rattle.gfan_common.specs.ReducedSets.{IsReducedAsRead}
 use Rattle.gfan_common.specs.Refused.{IsNamedBy}
-use Rattle.gfan_interactive.specs.Interactive.{IsStart, IsUnopened, walk_from, of_session, IsCutOff, IsHeldFrom, IsCutFrom, IsWalkedWithin, interactive_command, IsConversed, IsNotConversed}
+use Rattle.gfan_interactive.specs.Interactive.{IsStart, IsUnopened, walk_from, of_session, IsSessionCutOff, IsHeldFrom, IsCutFrom, IsWalkedWithin, interactive_command, IsConversed, IsNotConversed}
 use Rattle.gfan_common.proofs.ReadSetLaws.{IsSetKept, one_kept, read_variables}
 use Rattle.gfan_common.proofs.CheckedSetLaws.{named_reduced, reduced_once, reduced_refutes}
 use Rattle.gfan_common.proofs.CauseLaws.{tree_numbers, named_tree}
@@ -78,7 +78,7 @@ start_node s start h =
 own_node : (n : ℕ) (F : Fan) (p : MarkedPolynomials) → F.region ≡ all_positive n → F.variables ≡ n → IsNodeIn F p → IsNode (all_positive p.variables) p
 own_node n F p e v h = subst (λ m. IsNode (all_positive m) p) (sym (h.variables ∙ v)) (subst (λ k. IsNode k p) e (own F.region F p refl h))
 
-pub start_place : (n : ℕ) (s start : MarkedPolynomials) → s.variables ≡ n → IsStart s start → IsPlace n start
+pub start_place : (n : ℕ) (s start : MarkedPolynomials) → s.variables ≡ n → IsStart s start → IsBasisPlace n start
 start_place n s start e h = record {
   node = own_node s.variables (ideal_by s.variables (polys s.items)) start refl refl (start_node s start h);
   ring = h.read.arranged.variables ∙ e;
@@ -205,9 +205,9 @@ named_session ring errors.WriteFault = λ lent is. tt
 named_session ring errors.Memory = λ lent is. tt
 named_session ring (errors.Refused e) = named_tree ring e
 
-pub named_cut : (pairs : ℕ) (ring : List (List ℕ)) (start : MarkedPolynomials) (i j : InputSeen) (o k : OutputSeen) (r : Refusal) → IsCutOff pairs ring start i j o k r → IsNamedBy (Some ring) r
-named_cut pairs ring start i j o k r (IsCutOff.in_opening text h q f a e) = subst (IsNamedBy (Some ring)) (sym q) (λ lent is. tt)
-named_cut pairs ring start i j o k r (IsCutOff.in_session text then e h a c t x y q) = subst (IsNamedBy (Some ring)) (sym q) (named_session ring e)
+pub named_cut : (pairs : ℕ) (ring : List (List ℕ)) (start : MarkedPolynomials) (i j : InputSeen) (o k : OutputSeen) (r : Refusal) → IsSessionCutOff pairs ring start i j o k r → IsNamedBy (Some ring) r
+named_cut pairs ring start i j o k r (IsSessionCutOff.in_opening text h q f a e) = subst (IsNamedBy (Some ring)) (sym q) (λ lent is. tt)
+named_cut pairs ring start i j o k r (IsSessionCutOff.in_session text then e h a c t x y q) = subst (IsNamedBy (Some ring)) (sym q) (named_session ring e)
 
 -- ---- from the text of the file on
 
@@ -229,59 +229,59 @@ session_kind (errors.Refused (tree_errors.Cone s)) = tt
 session_kind (errors.Refused tree_errors.Memory) = tt
 
 module _ (pairs : ℕ) (ring : List (List ℕ)) (start : MarkedPolynomials) (i j : InputSeen) (o k : OutputSeen) where
-  cut_kind : (r : Refusal) → IsCutOff pairs ring start i j o k r → IsOfTurns r
-  cut_kind r (IsCutOff.in_opening text h q f a e) = subst IsOfTurns (sym q) tt
-  cut_kind r (IsCutOff.in_session text then e h a c t x y q) = subst IsOfTurns (sym q) (session_kind e)
+  cut_kind : (r : Refusal) → IsSessionCutOff pairs ring start i j o k r → IsOfTurns r
+  cut_kind r (IsSessionCutOff.in_opening text h q f a e) = subst IsOfTurns (sym q) tt
+  cut_kind r (IsSessionCutOff.in_session text then e h a c t x y q) = subst IsOfTurns (sym q) (session_kind e)
 
-  cut_read : IsCutOff pairs ring start i j o k refusals.ReadFault → Rose i.faults j.faults
-  cut_read (IsCutOff.in_opening text h q f a e) = cc
-  cut_read (IsCutOff.in_session text then errors.ReadFault h a c t x y q) = c.0
-  cut_read (IsCutOff.in_session text then errors.InputTooLong h a c t x y q) = cc
-  cut_read (IsCutOff.in_session text then errors.WriteFault h a c t x y q) = cc
-  cut_read (IsCutOff.in_session text then errors.Memory h a c t x y q) = cc
-  cut_read (IsCutOff.in_session text then (errors.Refused (tree_errors.Overflow z)) h a c t x y q) = cc
-  cut_read (IsCutOff.in_session text then (errors.Refused (tree_errors.Exponent z)) h a c t x y q) = cc
-  cut_read (IsCutOff.in_session text then (errors.Refused (tree_errors.PairBudget b u)) h a c t x y q) = cc
-  cut_read (IsCutOff.in_session text then (errors.Refused (tree_errors.Cone z)) h a c t x y q) = cc
-  cut_read (IsCutOff.in_session text then (errors.Refused tree_errors.Memory) h a c t x y q) = cc
+  cut_read : IsSessionCutOff pairs ring start i j o k refusals.ReadFault → Rose i.faults j.faults
+  cut_read (IsSessionCutOff.in_opening text h q f a e) = cc
+  cut_read (IsSessionCutOff.in_session text then errors.ReadFault h a c t x y q) = c.0
+  cut_read (IsSessionCutOff.in_session text then errors.InputTooLong h a c t x y q) = cc
+  cut_read (IsSessionCutOff.in_session text then errors.WriteFault h a c t x y q) = cc
+  cut_read (IsSessionCutOff.in_session text then errors.Memory h a c t x y q) = cc
+  cut_read (IsSessionCutOff.in_session text then (errors.Refused (tree_errors.Overflow z)) h a c t x y q) = cc
+  cut_read (IsSessionCutOff.in_session text then (errors.Refused (tree_errors.Exponent z)) h a c t x y q) = cc
+  cut_read (IsSessionCutOff.in_session text then (errors.Refused (tree_errors.PairBudget b u)) h a c t x y q) = cc
+  cut_read (IsSessionCutOff.in_session text then (errors.Refused (tree_errors.Cone z)) h a c t x y q) = cc
+  cut_read (IsSessionCutOff.in_session text then (errors.Refused tree_errors.Memory) h a c t x y q) = cc
 
-  cut_write : IsCutOff pairs ring start i j o k refusals.WriteFault → Rose o.faults k.faults
-  cut_write (IsCutOff.in_opening text h q f a e) = f
-  cut_write (IsCutOff.in_session text then errors.ReadFault h a c t x y q) = cc
-  cut_write (IsCutOff.in_session text then errors.InputTooLong h a c t x y q) = cc
-  cut_write (IsCutOff.in_session text then errors.WriteFault h a c t x y q) = c.0
-  cut_write (IsCutOff.in_session text then errors.Memory h a c t x y q) = cc
-  cut_write (IsCutOff.in_session text then (errors.Refused (tree_errors.Overflow z)) h a c t x y q) = cc
-  cut_write (IsCutOff.in_session text then (errors.Refused (tree_errors.Exponent z)) h a c t x y q) = cc
-  cut_write (IsCutOff.in_session text then (errors.Refused (tree_errors.PairBudget b u)) h a c t x y q) = cc
-  cut_write (IsCutOff.in_session text then (errors.Refused (tree_errors.Cone z)) h a c t x y q) = cc
-  cut_write (IsCutOff.in_session text then (errors.Refused tree_errors.Memory) h a c t x y q) = cc
+  cut_write : IsSessionCutOff pairs ring start i j o k refusals.WriteFault → Rose o.faults k.faults
+  cut_write (IsSessionCutOff.in_opening text h q f a e) = f
+  cut_write (IsSessionCutOff.in_session text then errors.ReadFault h a c t x y q) = cc
+  cut_write (IsSessionCutOff.in_session text then errors.InputTooLong h a c t x y q) = cc
+  cut_write (IsSessionCutOff.in_session text then errors.WriteFault h a c t x y q) = c.0
+  cut_write (IsSessionCutOff.in_session text then errors.Memory h a c t x y q) = cc
+  cut_write (IsSessionCutOff.in_session text then (errors.Refused (tree_errors.Overflow z)) h a c t x y q) = cc
+  cut_write (IsSessionCutOff.in_session text then (errors.Refused (tree_errors.Exponent z)) h a c t x y q) = cc
+  cut_write (IsSessionCutOff.in_session text then (errors.Refused (tree_errors.PairBudget b u)) h a c t x y q) = cc
+  cut_write (IsSessionCutOff.in_session text then (errors.Refused (tree_errors.Cone z)) h a c t x y q) = cc
+  cut_write (IsSessionCutOff.in_session text then (errors.Refused tree_errors.Memory) h a c t x y q) = cc
 
-  cut_read_calm : (r : Refusal) → (r ≡ refusals.ReadFault → ⊥) → IsCutOff pairs ring start i j o k r → j.faults ≡ i.faults
-  cut_read_calm r n (IsCutOff.in_opening text h q f a e) = ap (λ (x : InputSeen). x.faults) e
-  cut_read_calm r n (IsCutOff.in_session text then errors.ReadFault h a c t x y q) = absurd (n q)
-  cut_read_calm r n (IsCutOff.in_session text then errors.InputTooLong h a c t x y q) = x
-  cut_read_calm r n (IsCutOff.in_session text then errors.WriteFault h a c t x y q) = x
-  cut_read_calm r n (IsCutOff.in_session text then errors.Memory h a c t x y q) = x
-  cut_read_calm r n (IsCutOff.in_session text then (errors.Refused z) h a c t x y q) = x
+  cut_read_calm : (r : Refusal) → (r ≡ refusals.ReadFault → ⊥) → IsSessionCutOff pairs ring start i j o k r → j.faults ≡ i.faults
+  cut_read_calm r n (IsSessionCutOff.in_opening text h q f a e) = ap (λ (x : InputSeen). x.faults) e
+  cut_read_calm r n (IsSessionCutOff.in_session text then errors.ReadFault h a c t x y q) = absurd (n q)
+  cut_read_calm r n (IsSessionCutOff.in_session text then errors.InputTooLong h a c t x y q) = x
+  cut_read_calm r n (IsSessionCutOff.in_session text then errors.WriteFault h a c t x y q) = x
+  cut_read_calm r n (IsSessionCutOff.in_session text then errors.Memory h a c t x y q) = x
+  cut_read_calm r n (IsSessionCutOff.in_session text then (errors.Refused z) h a c t x y q) = x
 
-  cut_write_calm : (r : Refusal) → (r ≡ refusals.WriteFault → ⊥) → IsCutOff pairs ring start i j o k r → k.faults ≡ o.faults
-  cut_write_calm r n (IsCutOff.in_opening text h q f a e) = absurd (n q)
-  cut_write_calm r n (IsCutOff.in_session text then errors.ReadFault h a c t x y q) = y
-  cut_write_calm r n (IsCutOff.in_session text then errors.InputTooLong h a c t x y q) = y
-  cut_write_calm r n (IsCutOff.in_session text then errors.WriteFault h a c t x y q) = absurd (n q)
-  cut_write_calm r n (IsCutOff.in_session text then errors.Memory h a c t x y q) = y
-  cut_write_calm r n (IsCutOff.in_session text then (errors.Refused z) h a c t x y q) = y
+  cut_write_calm : (r : Refusal) → (r ≡ refusals.WriteFault → ⊥) → IsSessionCutOff pairs ring start i j o k r → k.faults ≡ o.faults
+  cut_write_calm r n (IsSessionCutOff.in_opening text h q f a e) = absurd (n q)
+  cut_write_calm r n (IsSessionCutOff.in_session text then errors.ReadFault h a c t x y q) = y
+  cut_write_calm r n (IsSessionCutOff.in_session text then errors.InputTooLong h a c t x y q) = y
+  cut_write_calm r n (IsSessionCutOff.in_session text then errors.WriteFault h a c t x y q) = absurd (n q)
+  cut_write_calm r n (IsSessionCutOff.in_session text then errors.Memory h a c t x y q) = y
+  cut_write_calm r n (IsSessionCutOff.in_session text then (errors.Refused z) h a c t x y q) = y
 
   cut_reach : (n : ℕ) (s : MarkedPolynomials) (r : Refusal) (source : List ℕ) → IsWalkedWithin pairs n s → IsStart s start → i.left ≡ Some source → length source ≤ 67108864 →
-      (Rose i.faults j.faults → ⊥) → (Rose o.faults k.faults → ⊥) → IsCutOff pairs ring start i j o k r → r ≡ refusals.Memory
-  cut_reach n s r source w b l m nr nw (IsCutOff.in_opening text h q f a e) = absurd (nw f)
-  cut_reach n s r source w b l m nr nw (IsCutOff.in_session text then errors.ReadFault h a c t x y q) = absurd (nr c.0)
-  cut_reach n s r source w b l m nr nw (IsCutOff.in_session text then errors.InputTooLong h a c t x y q) =
+      (Rose i.faults j.faults → ⊥) → (Rose o.faults k.faults → ⊥) → IsSessionCutOff pairs ring start i j o k r → r ≡ refusals.Memory
+  cut_reach n s r source w b l m nr nw (IsSessionCutOff.in_opening text h q f a e) = absurd (nw f)
+  cut_reach n s r source w b l m nr nw (IsSessionCutOff.in_session text then errors.ReadFault h a c t x y q) = absurd (nr c.0)
+  cut_reach n s r source w b l m nr nw (IsSessionCutOff.in_session text then errors.InputTooLong h a c t x y q) =
       let z = no_more i.left j.left i.given j.given source _ l c.talk.took in absurd (omega (arith, z, m, c.exactly))
-  cut_reach n s r source w b l m nr nw (IsCutOff.in_session text then errors.WriteFault h a c t x y q) = absurd (nw c.0)
-  cut_reach n s r source w b l m nr nw (IsCutOff.in_session text then errors.Memory h a c t x y q) = q
-  cut_reach n s r source w b l m nr nw (IsCutOff.in_session text then (errors.Refused e) h a c t x y q) =
+  cut_reach n s r source w b l m nr nw (IsSessionCutOff.in_session text then errors.WriteFault h a c t x y q) = absurd (nw c.0)
+  cut_reach n s r source w b l m nr nw (IsSessionCutOff.in_session text then errors.Memory h a c t x y q) = q
+  cut_reach n s r source w b l m nr nw (IsSessionCutOff.in_session text then (errors.Refused e) h a c t x y q) =
       q ∙ ap of_tree (stuck_memory pairs n ring s start w b i.left j.left i.given j.given then k.held e c)
 
 -- ---- the command

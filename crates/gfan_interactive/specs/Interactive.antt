@@ -16,7 +16,7 @@ use Rattle.gf_session.specs.declared.session.SessionError.TheVariants as errors
 use Rattle.gf_session.specs.Sessions.{Trail, IsEnded}
 use Rattle.gf_session.specs.Endings.{IsCause, IsReadCalm, IsWithinInput}
 use Rattle.gf_session.specs.Moves.{IsWriteCalm}
-use Rattle.gf_basis_places.specs.BasisRules.{IsPrompt, IsRefusedAt, basis_rules}
+use Rattle.gf_basis_places.specs.BasisRules.{IsPrompt, IsPlaceRefusal, basis_rules}
 use Rattle.gf_text.specs.RingText.{ring_text}
 use Rattle.gf_front.specs.declared.refusal.Refusal.{Refusal}
 use Rattle.gf_front.specs.declared.refusal.Refusal.TheVariants as refusals
@@ -57,7 +57,7 @@ walk_from start = record { here = start; before = [] }
 
 -- The opening is written, and the session that begins at this basis ended: at the line `q` or at the end of the input, with the answers to all
 -- lines that were taken before. No more was taken than an input may have, and no fault is counted.
-pub record IsHeld (ring : List (List ℕ)) (start : MarkedPolynomials) (i j : InputSeen) (o k : OutputSeen) : Type 0 where
+pub record IsSessionHeld (ring : List (List ℕ)) (start : MarkedPolynomials) (i j : InputSeen) (o k : OutputSeen) : Type 0 where
   pub text : List ℕ
   pub opening : IsOpening ring start text
   pub then : Option (List ℕ)
@@ -76,25 +76,25 @@ of_session (errors.Refused e) = of_tree e
 
 -- The opening isn't written whole, since a write failed, and no line is taken; or it is, and the session is cut off, with the answers to all
 -- lines before the last one, and where a write failed a prefix of them all.
-pub data IsCutOff (pairs : ℕ) (ring : List (List ℕ)) (start : MarkedPolynomials) (i j : InputSeen) (o k : OutputSeen) (r : Refusal) : Type 0 where
+pub data IsSessionCutOff (pairs : ℕ) (ring : List (List ℕ)) (start : MarkedPolynomials) (i j : InputSeen) (o k : OutputSeen) (r : Refusal) : Type 0 where
   in_opening : (text : List ℕ) → IsOpening ring start text → r ≡ refusals.WriteFault → Rose o.faults k.faults → AppendsPrefix o.held k.held text → j ≡ i →
-      IsCutOff pairs ring start i j o k r
+      IsSessionCutOff pairs ring start i j o k r
   in_session : (text : List ℕ) (then : Option (List ℕ)) (e : SessionError TreeError) → IsOpening ring start text → Appends o.held then text →
-      IsCause (basis_rules ring) (IsRefusedAt pairs) (walk_from start) i.left j.left i.given j.given then k.held i.faults j.faults o.faults k.faults e →
+      IsCause (basis_rules ring) (IsPlaceRefusal pairs) (walk_from start) i.left j.left i.given j.given then k.held i.faults j.faults o.faults k.faults e →
       IsWithinInput i.left j.left i.given j.given e → IsReadCalm i.faults j.faults e → IsWriteCalm o.faults k.faults e → r ≡ of_session e →
-      IsCutOff pairs ring start i j o k r
+      IsSessionCutOff pairs ring start i j o k r
 
 -- a session from the basis that the set is
 pub record IsHeldFrom (ring : List (List ℕ)) (s : MarkedPolynomials) (i j : InputSeen) (o k : OutputSeen) : Type 0 where
   pub start : MarkedPolynomials
   pub is_start : IsStart s start
-  pub held : IsHeld ring start i j o k
+  pub held : IsSessionHeld ring start i j o k
 
 -- it is cut off
 pub record IsCutFrom (pairs : ℕ) (ring : List (List ℕ)) (s : MarkedPolynomials) (i j : InputSeen) (o k : OutputSeen) (r : Refusal) : Type 0 where
   pub start : MarkedPolynomials
   pub is_start : IsStart s start
-  pub cut : IsCutOff pairs ring start i j o k r
+  pub cut : IsSessionCutOff pairs ring start i j o k r
 
 -- the set is a reduced basis, no operation of its checks leaves its limits, and none of the search over the bases of its ideal
 pub record IsWalkedWithin (pairs n : ℕ) (s : MarkedPolynomials) : Type 0 where

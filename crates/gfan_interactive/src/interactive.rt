@@ -1,8 +1,8 @@
 //! What `_interactive` does: a session over the bases of an ideal, from the basis of a file on.
 ghost use Rattle.std.specs.Prelude.{◌≡◌, ℕ, List, length, IfOk, IfErr, OnOk};
-ghost use Rattle.gf_basis_places.specs.BasisRules.{IsPlace};
+ghost use Rattle.gf_basis_places.specs.BasisRules.{IsBasisPlace};
 ghost use Rattle.gf_frame.specs.Seen.{output_seen};
-ghost use Rattle.gfan_interactive.specs.Interactive.{IsOpening, IsUnopened, IsHeld, IsCutOff, of_session, input_seen, IsConversed, IsNotConversed};
+ghost use Rattle.gfan_interactive.specs.Interactive.{IsOpening, IsUnopened, IsSessionHeld, IsSessionCutOff, of_session, input_seen, IsConversed, IsNotConversed};
 ghost use Rattle.gfan_common.specs.ReducedSets.{IsReducedAsRead};
 ghost use Rattle.gfan_common.specs.Refused.{IsOfSource};
 
@@ -67,13 +67,13 @@ fn talk<S: Source, K: Sink>(
     input: &mut S,
     output: &mut K,
 ) -> Result<(), Refusal>
-    requires place { IsPlace (length ring.now) start }
+    requires place { IsBasisPlace (length ring.now) start }
     requires opening { IsOpening ring.now start text.now }
-    ensures held { OnOk result (IsHeld ring.now start (input_seen (S.left input.old) (S.given input.old) (S.faults input.old))
+    ensures held { OnOk result (IsSessionHeld ring.now start (input_seen (S.left input.old) (S.given input.old) (S.faults input.old))
         (input_seen (S.left input.new) (S.given input.new) (S.faults input.new)) (output_seen (K.held output.old) (K.faults output.old))
         (output_seen (K.held output.new) (K.faults output.new))) }
     ensures calm { OnOk result (K.faults output.new ≡ K.faults output.old) }
-    ensures cut { IfErr result (IsCutOff pairs ring.now start (input_seen (S.left input.old) (S.given input.old) (S.faults input.old))
+    ensures cut { IfErr result (IsSessionCutOff pairs ring.now start (input_seen (S.left input.old) (S.given input.old) (S.faults input.old))
         (input_seen (S.left input.new) (S.given input.new) (S.faults input.new)) (output_seen (K.held output.old) (K.faults output.old))
         (output_seen (K.held output.new) (K.faults output.new))) }
 {

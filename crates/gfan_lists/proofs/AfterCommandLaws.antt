@@ -40,15 +40,15 @@ use Rattle.gfan_common.specs.CheckedSets.{of_check}
 use Rattle.gfan_lists.specs.GivenBasis.{IsGivenRootRefusal}
 use Rattle.gfan_common.specs.Refused.{IsNamedBy}
 use Rattle.gfan_lists.specs.Within.{of_region, IsNoRegion, IsGivenRegionRootRefusal}
-use Rattle.gfan_lists.specs.After.{IsOtherRing, IsTakenIn, IsUnlisted, Given, names_given, generators_given, reading_given, IsBasisGiven, IsUnrooted, with_none, reading_cut, IsRegionCut, IsStartRefused, IsCauseAfter, IsRefusedAfter, IsStartWithin, IsAfterWithin, IsWithinAfter, AfterValue, checks_after, after_command, after_sources}
+use Rattle.gfan_lists.specs.After.{IsOtherRing, IsBasisTaken, IsUnlisted, Given, names_given, generators_given, reading_given, IsBasisGiven, IsUnrooted, with_none, reading_cut, IsRegionCut, IsStartRefused, IsCauseAfter, IsRefusedAfter, IsStartWithin, IsAfterWithin, IsWithinAfter, AfterValue, checks_after, after_command, after_sources}
 use Rattle.gfan_common.proofs.ReadSetLaws.{IsSetKept, one_kept, set_variables, read_variables}
 use Rattle.gfan_common.proofs.CheckedSetLaws.{lent_terms, named_check, named_numbers, check_work, check_not_listed, poly_numbers, poly_untested, paired_refutes}
 use Rattle.gfan_lists.proofs.BasesListLaws.{among_left, among_right, given_in_node}
-use Rattle.gfan_common.proofs.CauseLaws.{weight_work, weight_untested, tree_work, tree_numbers, tree_untested, tree_no_limit, named_tree, basis_work, basis_not_listed, basis_untested, basis_named_by}
+use Rattle.gfan_common.proofs.CauseLaws.{weight_work, weight_untested, tree_work, tree_numbers, tree_untested, tree_no_limit, named_tree, basis_work, basis_not_listed, basis_untested, basis_named_by, numbers_untested, basis_numbers}
 use Rattle.gfan_lists.proofs.GivenBasisLaws.{not_reduced, root_work, root_once, root_tested, root_no_limit}
 use Rattle.gfan_lists.proofs.ListExactLaws.{past_limit}
 use Rattle.gfan_common.proofs.ToolFormLaws.{each_check}
-use Rattle.gfan_lists.proofs.WithinLaws.{region_work, no_region_same, no_region_there, region_numbers, basis_numbers, given_root_work, given_root_same, given_root_refutes, root_unlisted}
+use Rattle.gfan_lists.proofs.WithinLaws.{region_work, no_region_same, no_region_there, region_numbers, given_root_work, given_root_same, given_root_refutes, root_unlisted}
 use Rattle.gfan_lists.proofs.AfterLaws.{names_check, beside_numbers, beside_once, named_beside, cut_one, taken_once, starts_once, outside_once, inside_apart, listed_refutes, listed_node}
 
 -- ---- what is read
@@ -229,20 +229,10 @@ unlisted_unlimited fs s root b r (IsUnlisted.in_generators d h e) most l = check
 
 -- ---- a set that is taken
 
-numbers_untested : (r : Refusal) → IsOfNumbers r → IsOfTest r → ⊥
-numbers_untested (refusals.WideVector w) n t = t
-numbers_untested (refusals.Overflow o) n t = t
-numbers_untested (refusals.ExponentOverflow o) n t = t
-numbers_untested (refusals.ConeOverflow row op left right) n t = t
-numbers_untested (refusals.PairBudget basis unsettled) n t = t
-numbers_untested (refusals.WideRoot index value) n t = t
-numbers_untested refusals.Memory n t = t
-numbers_untested _ n t = absurd n
-
-taken_numbers : (k : Region) (s b : MarkedPolynomials) (e : CheckError) → HaveVariables s.variables s.items → IsTakenIn k s b → IsReducedRefusalBeside k.rows 0 s e → IsOfNumbers (of_check e)
+taken_numbers : (k : Region) (s b : MarkedPolynomials) (e : CheckError) → HaveVariables s.variables s.items → IsBasisTaken k s b → IsReducedRefusalBeside k.rows 0 s e → IsOfNumbers (of_check e)
 taken_numbers k s b e v t h = beside_numbers k.rows s e v t.weight t.basis.basis.marked t.terms h
 
-taken_refutes : (k : Region) (s b : MarkedPolynomials) (e : CheckError) (r : Refusal) → HaveVariables s.variables s.items → IsOfTest r → IsTakenIn k s b → IsReducedRefusalBeside k.rows 0 s e → r ≡ of_check e → ⊥
+taken_refutes : (k : Region) (s b : MarkedPolynomials) (e : CheckError) (r : Refusal) → HaveVariables s.variables s.items → IsOfTest r → IsBasisTaken k s b → IsReducedRefusalBeside k.rows 0 s e → r ≡ of_check e → ⊥
 taken_refutes k s b e r v o t h q = numbers_untested (of_check e) (taken_numbers k s b e v t h) (subst IsOfTest q o)
 
 -- ---- in one region
@@ -266,13 +256,13 @@ module _ (from_basis is_cut : Bool) (k : Region) (v : Given from_basis) (s : Mar
 
   module _ (q : s.variables ≡ length (names_given from_basis v)) (kept : HaveVariables s.variables s.items) (input : IsGivenKept from_basis v) where
     -- a basis that isn't listed is none of the ideal
-    unlisted_refutes : (b c root : MarkedPolynomials) (r : Refusal) → IsOfTest r → IsTakenIn k s b → IsTakenIn k s c → StartsIn (length (names_given from_basis v)) k (generators_given from_basis v) root →
+    unlisted_refutes : (b c root : MarkedPolynomials) (r : Refusal) → IsOfTest r → IsBasisTaken k s b → IsBasisTaken k s c → StartsIn (length (names_given from_basis v)) k (generators_given from_basis v) root →
         IsNodeIn (ideal_within (length (names_given from_basis v)) (generators_given from_basis v) k) c → IsUnlisted (generators_given from_basis v) s root b r → ⊥
     unlisted_refutes b c root r o t a f j u =
         listed_refutes (length (names_given from_basis v)) k (generators_given from_basis v) s root c q f a j r o (subst (λ z. IsUnlisted (generators_given from_basis v) s root z r) (taken_once k s b c t a) u)
 
     -- a test that fails isn't passed
-    start_refutes : (pairs : ℕ) (b : MarkedPolynomials) (front list : List MarkedPolynomials) (r : Refusal) → IsOfTest r → IsStartRefused from_basis is_cut pairs k v s r → IsTakenIn k s b → IsBasisGiven from_basis v →
+    start_refutes : (pairs : ℕ) (b : MarkedPolynomials) (front list : List MarkedPolynomials) (r : Refusal) → IsOfTest r → IsStartRefused from_basis is_cut pairs k v s r → IsBasisTaken k s b → IsBasisGiven from_basis v →
         AreAllBasesIn (length (names_given from_basis v)) k (generators_given from_basis v) ((front ++ b ∷ []) ++ list) → ⊥
     start_refutes pairs b front list r o (IsStartRefused.at_basis e h p) t g all = taken_refutes k s b e r kept o t h p
     start_refutes pairs b front list r o (IsStartRefused.at_root c a u) t g all = unrooted_refutes from_basis is_cut v k pairs r input o u g
@@ -307,7 +297,7 @@ module _ (from_basis is_cut : Bool) (k : Region) (v : Given from_basis) (s : Mar
         absurd (start_refutes o.pairs b front all.0 r x h t g all.1)
     cause_same o r d x (IsCauseAfter.going b front t g c) l = absurd (going_behind_untested (front ++ b ∷ []) o (length (names_given from_basis v)) k (generators_given from_basis v) r x c)
 
-    cause_refutes : (o : ListOptions) (b : MarkedPolynomials) (front list : List MarkedPolynomials) (r : Refusal) → IsOfTest r → IsCauseAfter from_basis is_cut o k v s r → IsTakenIn k s b → IsBasisGiven from_basis v →
+    cause_refutes : (o : ListOptions) (b : MarkedPolynomials) (front list : List MarkedPolynomials) (r : Refusal) → IsOfTest r → IsCauseAfter from_basis is_cut o k v s r → IsBasisTaken k s b → IsBasisGiven from_basis v →
         AreAllBasesIn (length (names_given from_basis v)) k (generators_given from_basis v) ((front ++ b ∷ []) ++ list) → ⊥
     cause_refutes o b front list r x (IsCauseAfter.at_start h) t g all = start_refutes o.pairs b front list r x h t g all
     cause_refutes o b front list r x (IsCauseAfter.going c before a m h) t g all = going_behind_untested (before ++ c ∷ []) o (length (names_given from_basis v)) k (generators_given from_basis v) r x h
@@ -329,11 +319,6 @@ fixed_cause : (r : Refusal) → IsOfWork r → IsFixed r → IsOfTest r
 fixed_cause r w (inl e) = absurd (work_apart r w e)
 fixed_cause r w (inr t) = t
 
--- a check of form is no test
-not_other : (found names : List (List ℕ)) (r : Refusal) → IsOtherRing found names r → IsOfTest r → ⊥
-not_other found names (refusals.OtherRing i) h t = t
-not_other found names _ h t = absurd h
-
 no_region_work : (n : ℕ) (rows : List (List ℤ)) (r : Refusal) → IsNoRegion n rows r → IsOfWork r
 no_region_work n rows r (w, (e, h, q)) = subst IsOfWork (sym q) (region_work e)
 
@@ -343,9 +328,6 @@ no_region_numbers n rows k r p (w, (e, h, q)) = subst IsOfNumbers (sym q) (regio
 -- where there is a file of vectors, the region is that which they cut out
 of_cut : (is_cut : Bool) (n : ℕ) (rows : List (List ℤ)) (k : Region) → is_cut ≡ true → IsRegionCut is_cut n rows k → IsRegionOf n rows k
 of_cut is_cut n rows k e i = subst (λ c. IsRegionCut c n rows k) e i
-
-to_cut : (is_cut : Bool) (n : ℕ) (rows : List (List ℤ)) (k : Region) → is_cut ≡ true → IsRegionOf n rows k → IsRegionCut is_cut n rows k
-to_cut is_cut n rows k e i = subst (λ c. IsRegionCut c n rows k) (sym e) i
 
 module _ (from_basis is_cut : Bool) (o : ListOptions) (rows : List (List ℤ)) (found : List (List ℕ)) (v : Given from_basis) (s : MarkedPolynomials) where
   refused_kind : (r : Refusal) → IsRefusedAfter from_basis is_cut o rows found v s r → IsOfWriting (after_command from_basis is_cut [] o).writing r
@@ -381,7 +363,7 @@ module _ (from_basis is_cut : Bool) (o : ListOptions) (rows : List (List ℤ)) (
         (subst (λ z. IsCauseAfter from_basis is_cut o z v s d) (sym (cut_one is_cut (length (names_given from_basis v)) rows k j i m)) g)
 
     refused_refutes : (k : Region) (b : MarkedPolynomials) (front list : List MarkedPolynomials) (r : Refusal) → IsFixed r → IsRefusedAfter from_basis is_cut o rows found v s r → IsRegionCut is_cut (length (names_given from_basis v)) rows k →
-        found ≡ names_given from_basis v → IsBasisGiven from_basis v → IsTakenIn k s b → AreAllBasesIn (length (names_given from_basis v)) k (generators_given from_basis v) ((front ++ b ∷ []) ++ list) → ⊥
+        found ≡ names_given from_basis v → IsBasisGiven from_basis v → IsBasisTaken k s b → AreAllBasesIn (length (names_given from_basis v)) k (generators_given from_basis v) ((front ++ b ∷ []) ++ list) → ⊥
     refused_refutes k b front list r f (IsRefusedAfter.at_region c h) i e g t all =
         no_region_there (length (names_given from_basis v)) rows k r (fixed_cause r (no_region_work (length (names_given from_basis v)) rows r h) f) h (of_cut is_cut (length (names_given from_basis v)) rows k c i)
     refused_refutes k b front list r f (IsRefusedAfter.at_ring j c m h) i e g t all = (names_check found (names_given from_basis v)).apart r e h

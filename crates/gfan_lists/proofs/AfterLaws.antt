@@ -56,10 +56,10 @@ use Rattle.gfan_common.specs.Forms.{generators_of}
 use Rattle.gfan_lists.specs.BasesWriting.{StartsIn}
 use Rattle.gfan_common.specs.CheckedSets.{of_check}
 use Rattle.gfan_common.specs.Refused.{IsNamedBy}
-use Rattle.gfan_lists.specs.After.{IsFirstDifference, IsOtherRing, same_names, IsTakenIn, AreInside, IsFirstOutside, IsSomeOutside, IsListedBy, IsUnlisted, IsRegionCut}
-use Rattle.gfan_common.proofs.WrittenSetLaws.{in_ring}
+use Rattle.gfan_lists.specs.After.{IsFirstDifference, IsOtherRing, same_names, IsBasisTaken, LeaveZero, IsFirstOutside, IsSomeOutside, IsListedBy, IsUnlisted, IsRegionCut}
+use Rattle.gfan_common.proofs.WrittenSetLaws.{in_ring, lent_names}
 use Rattle.gfan_common.proofs.ReadSetLaws.{IsKeptMember, IsSetKept, set_variables}
-use Rattle.gfan_common.proofs.CheckedSetLaws.{lent_terms, lent_monomial, printed_length, named_numbers, poly_numbers, poly_untested, failing_once, offending_once}
+use Rattle.gfan_common.proofs.CheckedSetLaws.{lent_terms, printed_length, named_numbers, poly_numbers, poly_untested, failing_once, offending_once}
 
 -- ---- the names of a ring
 
@@ -265,7 +265,7 @@ module _ (rows : List (List ℤ)) (s : MarkedPolynomials) where
     named_terms (check_errors.Exponent o) h = λ lent is. tt
     named_terms (check_errors.NotReduced set i x) h = λ lent is.
         let f = h.1.first in
-        lent_monomial ring x lent is (printed_length (length ring) f.member f.earlier f.later x (contained_each (IsKeptMember (length ring)) s.items v.1 f.member (member_contained s.items i f.member f.at)) f.printed)
+        lent_names ring x lent is (printed_length (length ring) f.member f.earlier f.later x (contained_each (IsKeptMember (length ring)) s.items v.1 f.member (member_contained s.items i f.member f.at)) f.printed)
     named_terms (check_errors.NotBasis set i j t) h = absurd h
     named_terms (check_errors.Inconsistent set ms) h = λ lent is. tt
     named_terms (check_errors.Cone o) h = λ lent is. tt
@@ -294,7 +294,7 @@ among_both : (s b c : MarkedPolynomials) → IsArranged (monic_set s) b → IsAr
 among_both s b c p q x h =
     Contains-permutation (map monic_of s.items) c.items x q.members (Contains-permutation b.items (map monic_of s.items) x (IsPermutation-sym (map monic_of s.items) b.items p.members) h)
 
-pub taken_once : (k : Region) (s b c : MarkedPolynomials) → IsTakenIn k s b → IsTakenIn k s c → b ≡ c
+pub taken_once : (k : Region) (s b c : MarkedPolynomials) → IsBasisTaken k s b → IsBasisTaken k s c → b ≡ c
 taken_once k s b c p q = ap₂ (λ (n : ℕ) (bs : List MarkedPolynomial). record { variables = n; items = bs }) (p.arranged.variables ∙ sym q.arranged.variables) same
   where
     first : AreArranged s.variables b.items
@@ -324,7 +324,7 @@ place_contained (g ∷ gs) (suc i) l = Contains-there g (slice_index_or gs i [])
 zero_apart : (by : MarkedPolynomials) (h f : Terms) → HasVariables by.variables f → IsDescending f → f ≢ [] → IsNormalForm by.items h f → IsNormalForm by.items h [] → ⊥
 zero_apart by h f v d z p q = z (descending_unique by.variables f [] v tt d tt (normal_form-unique by.items h h f [] (λ x. refl) p q))
 
-pub inside_apart : (by : MarkedPolynomials) (gs : List Terms) (i : ℕ) (f : Terms) → AreInside by.items gs → IsFirstOutside by gs i f → ⊥
+pub inside_apart : (by : MarkedPolynomials) (gs : List Terms) (i : ℕ) (f : Terms) → LeaveZero by.items gs → IsFirstOutside by gs i f → ⊥
 inside_apart by gs i f a p = zero_apart by (slice_index_or gs i []) f p.variables p.descending p.nonzero p.remainder (a (slice_index_or gs i []) (place_contained gs i p.inside))
 
 pub outside_once : (by : MarkedPolynomials) (gs : List Terms) (i j : ℕ) (f g : Terms) → IsFirstOutside by gs i f → IsFirstOutside by gs j g → (j ≡ i) × (g ≡ f)
@@ -358,13 +358,13 @@ unlisted_set fs ms s root b r q h = at (subst (λ (gs : List Terms). IsSomeOutsi
     at (inl x) = IsUnlisted.at_basis x.0 x.1 x.2 x.3
     at (inr x) = IsUnlisted.in_basis x.0 x.1 x.2
 
-pub unlisted_generators : (fs : List Terms) (s root b : MarkedPolynomials) (r : Refusal) → AreInside root.items (polys s.items) → IsSomeOutside 1 b fs r → IsUnlisted fs s root b r
+pub unlisted_generators : (fs : List Terms) (s root b : MarkedPolynomials) (r : Refusal) → LeaveZero root.items (polys s.items) → IsSomeOutside 1 b fs r → IsUnlisted fs s root b r
 unlisted_generators fs s root b r a (inl x) = IsUnlisted.at_generator x.0 x.1 a x.2 x.3
 unlisted_generators fs s root b r a (inr x) = IsUnlisted.in_generators x.0 x.1 x.2
 
 -- ---- the basis is listed below the root exactly where it is one of the ideal
 
-module _ (n : ℕ) (k : Region) (fs : List Terms) (s root b : MarkedPolynomials) (q : s.variables ≡ n) (first : StartsIn n k fs root) (t : IsTakenIn k s b) where
+module _ (n : ℕ) (k : Region) (fs : List Terms) (s root b : MarkedPolynomials) (q : s.variables ≡ n) (first : StartsIn n k fs root) (t : IsBasisTaken k s b) where
   counted : b.variables ≡ n
   counted = t.arranged.variables ∙ q
 

@@ -26,7 +26,7 @@ use Rattle.gfan_lists.specs.Bases.{IsGoingCauseBehind}
 use Rattle.gfan_common.specs.Performed.{IsBegunAs, IsStoppedFor}
 use Rattle.gfan_common.specs.Refused.{without_names, IsNamedBy, IsOfSource}
 use Rattle.gfan_common.specs.ToolForms.{for_each}
-use Rattle.gfan_lists.specs.After.{IsOtherRing, IsTakenIn, names_given, generators_given, reading_given, IsBasisGiven, IsRegionCut, cut_texts, IsOfCutFile, IsCutFileRefused, IsUnbegun, IsStartRefused, IsCauseAfter, IsRefusedAfter, AfterValue, checks_after, after_command}
+use Rattle.gfan_lists.specs.After.{IsOtherRing, IsBasisTaken, names_given, generators_given, reading_given, IsBasisGiven, IsRegionCut, cut_texts, IsOfCutFile, IsCutFileRefused, IsUnbegun, IsStartRefused, IsCauseAfter, IsRefusedAfter, AfterValue, checks_after, after_command}
 use Rattle.gfan_common.proofs.PerformedLaws.{performed_on, stopped_on}
 use Rattle.gfan_common.proofs.RefusedLaws.{of_source}
 use Rattle.gfan_lists.proofs.WithinLaws.{stopped_in_form, stopped_in_work, form_unlisted, region_unlisted, region_told, rows_hold}
@@ -124,7 +124,7 @@ module _ (from_basis is_cut : Bool) (sources : List Origin) (o : ListOptions) (t
       (IsRefusedAfter.behind k i e (IsCauseAfter.at_start h))
   start_stopped held n r (inr m) = memory_stopped (after_command from_basis is_cut sources o) texts held n r m
 
-  module _ (g : IsBasisGiven from_basis v.1.1) (b : MarkedPolynomials) (front : List MarkedPolynomials) (t : IsTakenIn k v.1.0.1 b) (held holds : Option (List ℕ)) (n m : ℕ) where
+  module _ (g : IsBasisGiven from_basis v.1.1) (b : MarkedPolynomials) (front : List MarkedPolynomials) (t : IsBasisTaken k v.1.0.1 b) (held holds : Option (List ℕ)) (n m : ℕ) where
     -- what follows is written
     pub after_done : IsListWrittenBehind (front ++ b ∷ []) o (names_given from_basis v.1.1) k (generators_given from_basis v.1.1) held holds → m ≡ n →
         IsDoneOn (after_command from_basis is_cut sources o) texts (output_seen held n) (output_seen holds m)

@@ -49,6 +49,7 @@ use Rattle.gfan_lists.specs.BasesWriting.{basis_piece, IsBasisWritten, IsUnwritt
 use Rattle.gfan_common.specs.Refused.{IsUnnamed, without_names}
 use Rattle.gfan_common.specs.Performed.{IsStoppedFor}
 use Rattle.gfan_common.proofs.WrittenSetLaws.{in_ring}
+use Rattle.gfan_common.proofs.CauseLaws.{unnamed_weight}
 use Rattle.gfan_lists.proofs.BasesListLaws.{among_left, among_right, root_marks, all_bases_in}
 use Rattle.gfan_lists.proofs.CertificateLaws.{AllZip-append, items_exist}
 use Rattle.gfan_lists.proofs.BasesTextLaws.{begun_next, whole_begun, prefix_on, prefix_piece, prefix_begun}
@@ -450,14 +451,9 @@ unnamed_write held holds n m piece refusals.WriteFault u = record { ring = refl;
 unnamed_write held holds n m piece refusals.Memory u = record { ring = refl; named = λ lent is. tt }
 unnamed_write held holds n m piece _ u = absurd u
 
-unnamed_certificate : (e : WeightError) → IsUnnamed (without_names (of_weight_error e))
-unnamed_certificate (weight_errors.Cone x) = record { ring = refl; named = λ lent is. tt }
-unnamed_certificate (weight_errors.Wide x) = record { ring = refl; named = λ lent is. tt }
-unnamed_certificate weight_errors.Memory = record { ring = refl; named = λ lent is. tt }
-
 unnamed_item : (certified : Bool) (j : Region) (b : MarkedPolynomials) (r : Refusal) → IsItemRefusalIn certified j b r → IsUnnamed (without_names r)
 unnamed_item false j b r e = subst (λ z. IsUnnamed (without_names z)) (sym e) (record { ring = refl; named = λ lent is. tt })
-unnamed_item true j b r (e, h, q) = subst (λ z. IsUnnamed (without_names z)) (sym q) (unnamed_certificate e)
+unnamed_item true j b r (e, h, q) = subst (λ z. IsUnnamed (without_names z)) (sym q) (unnamed_weight e)
 
 pub unnamed_piece : (certified : Bool) (ring : List (List ℕ)) (j : Region) (is_first : Bool) (b : MarkedPolynomials) (held holds : Option (List ℕ)) (n m : ℕ) (r : Refusal) → IsBasisUnwritten certified ring j is_first b held holds n m r → IsUnnamed (without_names r)
 unnamed_piece certified ring j is_first b held holds n m r (IsBasisUnwritten.unmade same calm h) = unnamed_item certified j b r h

@@ -1,6 +1,7 @@
 -- The list of all bases in a region, from the basis by its root and then lex on, or by degree and then lex; and what such a list has.
--- To cite: among_left, among_right, given_in_node, node_given_in, given_node, node_given, first_node, first_own, first_top, first_in, start_in, root_marks, own_start_in, start_moved, own_start,
--- start_of_root, all_bases_in, all_bases_from, weights_are_served, regions_are_served. The rest are steps.
+-- To cite: among_left, among_right, given_in_node, node_given_in, given_node, node_given, first_node, first_own, first_in,
+-- start_in, root_marks, own_start_in, start_moved, own_start, start_of_root, all_bases_in, all_bases_from,
+-- weights_are_served, regions_are_served. The rest are steps.
 use Rattle.std.specs.Prelude.{◌≡◌, ◌⊎◌, ℕ, zero, suc, ◌≤◌, Bool, true, List, [], ◌∷◌, ◌++◌, length, replicate, Contains, All, ℤ, pos, ◌<ℤ◌}
 use Rattle.std.proofs.Common.{arith, refl, sym, ap, ◌∙◌, subst, inl, inr}
 use Rattle.std.proofs.lemmas.List.Elements.{All-nil}
@@ -31,6 +32,7 @@ use Rattle.gf_facets.proofs.SystemLaws.{all_positive-region}
 use Rattle.gf_facets.proofs.VectorOrder.{before_strict}
 use Rattle.gf_ideal.proofs.ArrangedLists.{arranged_equal}
 use Rattle.gf_ideal.proofs.UniquenessLaws.{unique_by_weight}
+use Rattle.gf_ideal.proofs.RingLaws.{in_ring_of}
 use Rattle.gf_bases.proofs.LawsHold.{of_reduced, marked_bases_are_reduced, only_ideals_count, weights_have_bases}
 use Rattle.gf_initial.proofs.LawsHold.{monomial_ideals_are_of_bases}
 use Rattle.gf_reverse.specs.Upward.{IsNodeIn, fan_of, IsNode, IsParent}
@@ -91,9 +93,6 @@ node_given_in n k fs x h = record {
 pub given_node : (n : ℕ) (fs : List Terms) (x : MarkedPolynomials) → AreInVariables n fs → IsGivenByWeight n fs x → IsNodeIn (ideal_by n fs) x
 given_node n fs x v g = given_in_node n (all_positive n) fs x v (all_positive-region n) g
 
-reduced_node : (n : ℕ) (fs : List Terms) (x : MarkedPolynomials) → IsNodeIn (ideal_by n fs) x → IsMarkedReducedBasis n fs x.items
-reduced_node n fs x h = reduced_in n (all_positive n) fs x h
-
 pub node_given : (n : ℕ) (fs : List Terms) (x : MarkedPolynomials) → IsNodeIn (ideal_by n fs) x → IsGivenByWeight n fs x
 node_given n fs x h = node_given_in n (all_positive n) fs x h
 
@@ -124,32 +123,12 @@ degree_marks n bs ring heads m b c = record { monic = (m b c).monic; tail = tail
         by (inr (inl l)) = inr (inl (omega (arith, l, ex, eh)))
         by (inr (inr l)) = inr (inr (ex ∙ l.0 ∙ sym eh, l.1))
 
-short_head : (n : ℕ) (x : Exponents) → length x ≡ n → IsInRing n x
-short_head n [] e i l = refl
-short_head zero (a ∷ x) e i l = absurd (omega arith)
-short_head (suc n) (a ∷ x) e zero l = absurd (omega arith)
-short_head (suc n) (a ∷ x) e (suc i) l = short_head n x (omega arith) i (omega arith)
-
 pub first_node : (n : ℕ) (fs : List Terms) (root : MarkedPolynomials) → AreInVariables n fs → root.variables ≡ n → IsReducedBasisFor n fs IsDeglexBelow root.items → AreArranged n root.items →
     IsNodeIn (ideal_by n fs) root
 first_node n fs root v e r a = (basis_is_node n fs IsDeglexBelow root v deglex-order (marks_have_weights.by_deglex n root.items r.basis.marked) e r a).0
 
 pub first_own : (n : ℕ) (fs : List Terms) (root : MarkedPolynomials) → IsNodeIn (ideal_by n fs) root → IsNode (all_positive n) root
 first_own n fs root h = own (all_positive n) (ideal_by n fs) root refl h
-
--- nothing is above it
-pub first_top : (n : ℕ) (fs : List Terms) (root : MarkedPolynomials) → root.variables ≡ n → IsReducedBasisFor n fs IsDeglexBelow root.items → IsNodeIn (ideal_by n fs) root →
-    IsRoot (IsParent (all_positive n)) root
-first_top n fs root e r h = (bases_make_a_tree.root (all_positive n) root mine).1 by_weight
-  where
-    mine : IsNode (all_positive n) root
-    mine = first_own n fs root h
-
-    marks : AreMarked (IsWeightedBelow (gains (replicate n (pos 1)))) root.items
-    marks = degree_marks n root.items (λ b c x k. variables_of_member n fs b.poly h.fan.ideal (h.basis.reduced.basis.members b c) x k) (λ b c. short_head n b.head (h.basis.arranged.canonical b c).head) r.basis.marked
-
-    by_weight : IsReducedBasisFor root.variables (polys root.items) (IsWeightedBelow (gains (replicate n (pos 1)))) root.items
-    by_weight = (marked_bases_are_reduced.at_order (MonomialOrder.weighted (gains (replicate n (pos 1)))) root.variables (polys root.items) root.items mine.fan.ideal (record { reduced = mine.basis.reduced; arranged = mine.basis.arranged })).1 marks
 
 -- ---- where a list in a region starts
 
@@ -165,8 +144,8 @@ pub first_in : (n : ℕ) (fs : List Terms) (root : MarkedPolynomials) → AreInV
     StartsIn n (all_positive n) fs root
 first_in n fs root v e r a = record {
   node = node;
-  by_root = (marked_bases_are_reduced.at_order (MonomialOrder.weighted (gains (replicate n (pos 1)))) n fs root.items v (reduced_node n fs root node)).1
-      (degree_marks n root.items (λ b c x k. variables_of_member n fs b.poly v (node.basis.reduced.basis.members b c) x k) (λ b c. short_head n b.head (node.basis.arranged.canonical b c).head) r.basis.marked);
+  by_root = (marked_bases_are_reduced.at_order (MonomialOrder.weighted (gains (replicate n (pos 1)))) n fs root.items v (reduced_in n (all_positive n) fs root node)).1
+      (degree_marks n root.items (λ b c x k. variables_of_member n fs b.poly v (node.basis.reduced.basis.members b c) x k) (λ b c. in_ring_of n b.head (node.basis.arranged.canonical b c).head) r.basis.marked);
 }
   where
     node : IsNodeIn (ideal_by n fs) root
@@ -221,7 +200,7 @@ own_start n fs root s = record {
 }
   where
     generated : AreInVariables n (polys root.items) × AreSameIdeal n fs (polys root.items)
-    generated = only_ideals_count.generated n fs root.items s.inside (reduced_node n fs root (first_node n fs root s.inside s.first.variables s.first.reduced s.first.arranged))
+    generated = only_ideals_count.generated n fs root.items s.inside (reduced_in n (all_positive n) fs root (first_node n fs root s.inside s.first.variables s.first.reduced s.first.arranged))
 
 -- marks that are greatest by the weight (1, .., 1) and then lex are so by degree and then lex
 weight_marks : (n : ℕ) (bs : List MarkedPolynomial) → ((b : MarkedPolynomial) → Contains bs b → (x : Exponents) → HasMonomial b.poly x → IsInRing n x) →
@@ -248,7 +227,7 @@ start_of_root n fs v root h r = record {
   inside = node.fan.ideal;
   first = record {
     variables = node.variables;
-    reduced = (marked_bases_are_reduced.at_order MonomialOrder.deglex n fs root.items node.fan.ideal (reduced_node n fs root node)).1 marks;
+    reduced = (marked_bases_are_reduced.at_order MonomialOrder.deglex n fs root.items node.fan.ideal (reduced_in n (all_positive n) fs root node)).1 marks;
     arranged = node.basis.arranged;
     marked = marks;
     inside = λ b c. node.basis.reduced.basis.members b c;
@@ -260,10 +239,10 @@ start_of_root n fs v root h r = record {
     node = node_moved (fan_of (all_positive v.variables) v) (ideal_by n fs) root (subst (λ m. SameFan (fan_of (all_positive m) v) (ideal_by n fs)) (sym h.variables) (back_fan (ideal_by n fs) (fan_of (all_positive n) v) (own_fan (ideal_by n fs) v h))) r.basis
 
     generated : AreInVariables n (polys root.items) × AreSameIdeal n fs (polys root.items)
-    generated = only_ideals_count.generated n fs root.items node.fan.ideal (reduced_node n fs root node)
+    generated = only_ideals_count.generated n fs root.items node.fan.ideal (reduced_in n (all_positive n) fs root node)
 
     marks : AreMarked IsDeglexBelow root.items
-    marks = weight_marks n root.items (λ b c x k. variables_of_member n fs b.poly node.fan.ideal (node.basis.reduced.basis.members b c) x k) (λ b c. short_head n b.head (node.basis.arranged.canonical b c).head)
+    marks = weight_marks n root.items (λ b c x k. variables_of_member n fs b.poly node.fan.ideal (node.basis.reduced.basis.members b c) x k) (λ b c. in_ring_of n b.head (node.basis.arranged.canonical b c).head)
         (subst (λ m. AreMarked (IsWeightedBelow (gains (replicate m (pos 1)))) root.items) h.variables r.by_root.basis.marked)
 
 -- ---- the list
@@ -353,7 +332,7 @@ orders n fs list less v all t = (x, all.all x given, found.2, one)
     one : (y : MarkedPolynomials) → Among list y → IsReducedBasisFor n fs (below_by less) y.items → x ≡ y
     one y j r =
         let g = all.only y j in
-        let same : found.0 ≡ y.items = found.3 y.items (reduced_node n fs y (given_node n fs y v g)) r in
+        let same : found.0 ≡ y.items = found.3 y.items (reduced_in n (all_positive n) fs y (given_node n fs y v g)) r in
         ap (λ cs. record { variables = n; items = cs }) same ∙ ap (λ k. record { variables = k; items = y.items }) (sym g.variables)
 
 pub weights_are_served : WeightsAreServed

@@ -1,7 +1,7 @@
 -- The list of `_bases -g`: a marked Gröbner basis is reduced and taken up to the root; and why it isn't written.
--- To cite: few_members, reducible, reduced_from, reduced_own, root_starts, way_from, not_reduced, root_starts_at, way_of_set; given_performed,
--- given_stopped_root, given_stopped_memory, given_stopped_list, named_root, root_no_limit, way_in_tree; given_work, root_work, reducing_only,
--- root_within, root_past, root_tested, root_once, given_once, given_refuses. The rest are steps.
+-- To cite: reducible, reduced_from, reduced_own, not_reduced, root_starts_at, way_of_set; given_performed,
+-- given_stopped_root, given_stopped_memory, given_stopped_list, named_root, root_no_limit, way_in_tree; given_work,
+-- root_work, reducing_only, root_within, root_past, root_tested, root_once, given_once, given_refuses. The rest are steps.
 use Rattle.std.specs.Prelude.{◌≡◌, ◌⊎◌, ℕ, List, [], ◌∷◌, length, map, Contains, Option, Some, Err}
 use Rattle.std.specs.Io.KnownBytes.{Keeps}
 use Rattle.std.proofs.KnownBytes.{Keeps-refl}
@@ -111,14 +111,6 @@ module _ (s t : MarkedPolynomials) (v : HaveVariables s.variables s.items) (a : 
     -- it is a basis of the ideal that it generates
     pub reduced_own : IsNodeIn (ideal_of u) u
     reduced_own = subst (λ n. IsNode (all_positive n) u) (sym reduced_is_node.variables) (own (all_positive s.variables) (ideal_by s.variables (polys s.items)) u refl reduced_is_node)
-
-    -- the root above it is the first basis of the list
-    pub root_starts : (root : MarkedPolynomials) → IsRootFor (all_positive u.variables) u root → StartsAt s.variables (polys s.items) root
-    root_starts root q = start_of_root s.variables (polys s.items) u root reduced_is_node q
-
-    -- why the way up is refused, in the variables of the set
-    pub way_from : (pairs : ℕ) (e : TreeError) → IsWayRefused (all_positive u.variables) pairs u e → IsWayRefused (all_positive s.variables) pairs u e
-    way_from pairs e q = subst (λ n. IsWayRefused (all_positive n) pairs u e) reduced_is_node.variables q
 
 -- ---- the root
 

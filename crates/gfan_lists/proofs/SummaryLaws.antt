@@ -6,7 +6,6 @@ use Rattle.std.specs.Prelude.{◌≡◌, ◌≢◌, ◌⊎◌, ℕ, ◌<◌, ◌
 use Rattle.std.specs.Global.{Global}
 use Rattle.std.proofs.Common.{arith, refl, sym, ap, ap₂, ◌∙◌, subst, inl, inr, append_assoc, append-nil, length-append}
 use Rattle.std.proofs.lemmas.Bool.{cases_lt}
-use Rattle.std.proofs.lemmas.Bool.Decides.{leb_tells}
 use Rattle.std.proofs.lemmas.List.{take_all, take-append-le, map-append}
 use Rattle.gf_vec.specs.Vector.{zeros, vector_sum}
 use Rattle.gf_vec.specs.Steps.{sum_steps, NoneWide, IsFirstWide}
@@ -17,6 +16,7 @@ use Rattle.gf_ideal.specs.Membership.{AreInVariables}
 use Rattle.gf_duality.proofs.RaySums.{sum_long}
 use Rattle.std.proofs.lemmas.List.Elements.{All-contains}
 use Rattle.gf_rays.specs.Sums.{adding_steps}
+use Rattle.gf_rays.proofs.SumLaws.{none_append, none_left, none_right, first_before, first_after}
 use Rattle.gf_vec.proofs.VectorLaws.{length-plus}
 use Rattle.gf_buchberger.specs.Jobs.{HaveRingVariables}
 use Rattle.gf_buchberger.proofs.JobLaws.{ring_variables}
@@ -32,8 +32,7 @@ use Rattle.gf_subtree.specs.Answers.{IsNextRow, IsRowEnd, IsRefusedEarly}
 use Rattle.gf_subtree.proofs.BasisRowLaws.{start_leaves, early_moved}
 use Rattle.gf_small.specs.Degrees.{greatest}
 use Rattle.gf_small.specs.Counts.{degree_of_set}
-use Rattle.gf_weights.specs.declared.error.WeightError.{WeightError}
-use Rattle.gf_weights.specs.declared.error.WeightError.TheVariants as weight_errors
+use Rattle.gf_small.proofs.CountsLaws.{greatest-push}
 use Rattle.gf_weights.specs.Weights.{IsPrintedWeight}
 use Rattle.gf_weights.proofs.UniqueLaws.{one_weight}
 use Rattle.gf_front.specs.declared.refusal.Refusal.{Refusal}
@@ -43,11 +42,11 @@ use Rattle.gf_frame.specs.Commands.{IsUnanswered, IsAnswered, IsRefusedOn}
 use Rattle.gf_frame.proofs.CommandLaws.{IsLawful}
 use Rattle.gf_frame.proofs.ReadingLaws.{none_once}
 use Rattle.gf_frame.proofs.SoundLaws.{IsExactCommand, untested, sound_lawful}
-use Rattle.gf_generated.specs.Generated.{generated}
+use Rattle.gf_generated.specs.Generated.{generated_set}
 use Rattle.gf_generated.proofs.GeneratedLaws.{generators_are_binomials}
 use Rattle.gfan_lists.specs.declared.generated.Summary.{Summary}
 use Rattle.gfan_lists.specs.BasesList.{AreAllBases}
-use Rattle.gfan_common.specs.Causes.{of_tree, of_weight_error}
+use Rattle.gfan_common.specs.Causes.{of_tree}
 use Rattle.gfan_lists.specs.BasesWriting.{IsFirstBasis, StartsAt, IsRootRefusal}
 use Rattle.gfan_common.specs.Refused.{IsUnnamed, without_names}
 use Rattle.gfan_lists.specs.Generated.{ArePrintedWeights, added, summary_text, IsSummaryText, IsSummaryCause, generated_command}
@@ -56,9 +55,10 @@ use Rattle.gfan_lists.specs.OneSummary.{SummariesAreOne}
 use Rattle.gfan_lists.proofs.BasesListLaws.{first_node, first_own, own_start, all_bases_from}
 use Rattle.gfan_lists.proofs.OneListLaws.{one_list}
 use Rattle.gfan_lists.proofs.CertificateLaws.{AllZip-append}
-use Rattle.gfan_common.proofs.CauseLaws.{weight_work, weight_untested, tree_work, tree_untested, basis_work, basis_not_listed, basis_untested, tree_not_listed}
+use Rattle.gfan_common.proofs.CauseLaws.{weight_work, weight_untested, tree_work, tree_untested, basis_work, basis_not_listed, basis_untested, tree_not_listed, unnamed_weight, weight_not_listed}
 use Rattle.std.specs.List.{concat}
 use Rattle.gf_text.specs.declared.written.Written.TheVariants as written
+use Rattle.gf_text.proofs.SetTokensLaws.{le_test, le_false}
 
 -- ---- sums of weights
 
@@ -70,27 +70,6 @@ weight_long n bs v p = ap length p.sum ∙ sum_long n p.rays (λ x c. All-contai
 added_push : (s : List ℤ) (xs : List (List ℤ)) (x : List ℤ) → added s (xs ++ x ∷ []) ≡ vector_sum (added s xs) x
 added_push s [] x = refl
 added_push s (y ∷ xs) x = added_push (vector_sum s y) xs x
-
-none_append : (a b : List WideVector) → NoneWide a → NoneWide b → NoneWide (a ++ b)
-none_append [] b f g = g
-none_append (x ∷ a) b f g = (f.0, none_append a b f.1 g)
-
-none_left : (a b : List WideVector) → NoneWide (a ++ b) → NoneWide a
-none_left [] b f = tt
-none_left (x ∷ a) b f = (f.0, none_left a b f.1)
-
-none_right : (a b : List WideVector) → NoneWide (a ++ b) → NoneWide b
-none_right [] b f = f
-none_right (x ∷ a) b f = none_right a b f.1
-
-first_before : (e : WideVector) (a b : List WideVector) → IsFirstWide e a → IsFirstWide e (a ++ b)
-first_before e [] b f = absurd f
-first_before e (x ∷ a) b (inl f) = inl f
-first_before e (x ∷ a) b (inr f) = inr (f.0, first_before e a b f.1)
-
-first_after : (e : WideVector) (a b : List WideVector) → NoneWide a → IsFirstWide e b → IsFirstWide e (a ++ b)
-first_after e [] b f g = g
-first_after e (x ∷ a) b f g = inr (f.0, first_after e a b f.1 g)
 
 none_push : (s : List ℤ) (xs : List (List ℤ)) (x : List ℤ) → NoneWide (adding_steps s xs) → NoneWide (sum_steps (added s xs) x) → NoneWide (adding_steps s (xs ++ x ∷ []))
 none_push s [] x f g = none_append (sum_steps s x) [] g tt
@@ -126,12 +105,6 @@ module _ (ws : List (List ℤ)) (s w : List ℤ) (g : IsSumOf ws s) where
   sum_leaves : (e : WideVector) → IsFirstWide e (sum_steps s w) → IsFirstWide e (adding_steps (zeros 4) (ws ++ w ∷ []))
   sum_leaves e f = first_push (zeros 4) ws w e g.none (subst (λ t. IsFirstWide e (sum_steps t w)) g.value f)
 
--- ---- degrees
-
-greatest_last : (ks : List ℕ) (k : ℕ) → greatest (ks ++ k ∷ []) ≡ max (greatest ks) k
-greatest_last [] k = omega arith
-greatest_last (l ∷ ks) k = omega (arith, greatest_last ks k)
-
 -- ---- summaries of bases
 
 -- these bases are summed up
@@ -149,18 +122,12 @@ none_told s h = record { bases = h.bases; degree = h.degree; weights = []; are_w
 one_told : (bs : List MarkedPolynomials) (b : MarkedPolynomials) (old new : Summary) → b.variables ≡ 4 → AreSummed bs old → IsWithBasis old b new → AreSummed (bs ++ b ∷ []) new
 one_told bs b old new v t h = record {
   bases = h.bases ∙ omega (arith, t.bases, length-append bs (b ∷ []));
-  degree = h.degree ∙ ap (λ k. max k (degree_of_set b)) t.degree ∙ sym (greatest_last (map degree_of_set bs) (degree_of_set b)) ∙ ap greatest (sym (map-append degree_of_set bs (b ∷ [])));
+  degree = h.degree ∙ ap (λ k. max k (degree_of_set b)) t.degree ∙ sym (greatest-push (map degree_of_set bs) (degree_of_set b)) ∙ ap greatest (sym (map-append degree_of_set bs (b ∷ [])));
   weights = t.weights ++ h.weight ∷ [];
   are_weights = AllZip-append (λ b w. IsPrintedWeight b.variables b.items w) bs (b ∷ []) t.weights (h.weight ∷ []) t.are_weights (h.is_weight, tt);
   sum = sum_next t.weights old.weights h.weight t.sum new.weights (weight_long b.variables b.items h.weight h.is_weight ∙ v) h.weights h.fits;
   complete = h.complete;
 }
-
-le_true : (a b : ℕ) → a ≤ b → nat_le a b ≡ true
-le_true a b h = elim (leb_tells a b) [ inl k ↦ k.0 | inr k ↦ absurd (omega (arith, h, k.1)) ]
-
-le_false : (a b : ℕ) → b < a → nat_le a b ≡ false
-le_false a b h = elim (leb_tells a b) [ inl k ↦ absurd (omega (arith, h, k.1)) | inr k ↦ k.0 ]
 
 -- ---- the list under way
 
@@ -227,7 +194,7 @@ module _ (limit pairs : ℕ) (fs : List Terms) where
           bases = omega (arith, way.told.bases, way.few);
           degree = way.told.degree ∙ ap (λ l. greatest (map degree_of_set l)) (sym whole);
           sum = way.told.sum.value;
-          complete = way.told.complete ∙ sym (le_true (length way.summed) limit way.few);
+          complete = way.told.complete ∙ sym (le_test (length way.summed) limit way.few);
         }
 
     module _ (new : Row) (b : MarkedPolynomials) (step : IsNextRow row new b) where
@@ -297,11 +264,6 @@ module _ (limit pairs : ℕ) (fs : List Terms) where
 
 -- ---- lines without a ring
 
-unnamed_weight : (e : WeightError) → IsUnnamed (without_names (of_weight_error e))
-unnamed_weight (weight_errors.Cone x) = record { ring = refl; named = λ lent is. tt }
-unnamed_weight (weight_errors.Wide x) = record { ring = refl; named = λ lent is. tt }
-unnamed_weight weight_errors.Memory = record { ring = refl; named = λ lent is. tt }
-
 pub unnamed_unsummed : (s : Summary) (b : MarkedPolynomials) (r : Refusal) → IsUnsummed s b r → IsUnnamed (without_names r)
 unnamed_unsummed s b r (IsUnsummed.at_weight e h q) = subst (λ z. IsUnnamed (without_names z)) (sym q) (unnamed_weight e)
 unnamed_unsummed s b r (IsUnsummed.at_sum w h (IsWideSum.no_memory q)) = subst (λ z. IsUnnamed (without_names z)) (sym q) (record { ring = refl; named = λ lent is. tt })
@@ -310,7 +272,7 @@ unnamed_unsummed s b r (IsUnsummed.at_sum w h (IsWideSum.wide e f q)) = subst (�
 -- ---- the command
 
 -- four lines of a summary
-pub summary_answers : (number limit pairs : ℕ) (s : Summary) (text : List ℕ) → IsSummary limit (generated number) s → text ≡ summary_text s.bases s.degree s.weights s.complete →
+pub summary_answers : (number limit pairs : ℕ) (s : Summary) (text : List ℕ) → IsSummary limit (generated_set number) s → text ≡ summary_text s.bases s.degree s.weights s.complete →
     IsAnswered (generated_command number limit pairs) [] text
 summary_answers number limit pairs s text h e = record {
   value = tt;
@@ -327,11 +289,11 @@ summary_answers number limit pairs s text h e = record {
   };
 }
 
-pub summary_refuses : (number limit pairs : ℕ) (r : Refusal) → IsSummaryCause limit pairs (generated number) r ⊎ (r ≡ refusals.Memory) → IsRefusedOn (generated_command number limit pairs) [] r
+pub summary_refuses : (number limit pairs : ℕ) (r : Refusal) → IsSummaryCause limit pairs (generated_set number) r ⊎ (r ≡ refusals.Memory) → IsRefusedOn (generated_command number limit pairs) [] r
 summary_refuses number limit pairs r (inl h) = IsRefusedOn.behind_text tt tt (IsUnanswered.in_work tt h)
 summary_refuses number limit pairs r (inr m) = IsRefusedOn.no_memory m
 
-pub root_refuses : (number limit pairs : ℕ) (r : Refusal) → IsRootRefusal 4 (generated number) pairs r → IsRefusedOn (generated_command number limit pairs) [] r
+pub root_refuses : (number limit pairs : ℕ) (r : Refusal) → IsRootRefusal 4 (generated_set number) pairs r → IsRefusedOn (generated_command number limit pairs) [] r
 root_refuses number limit pairs r h = summary_refuses number limit pairs r (inl (IsSummaryCause.at_root h.0 h.1 h.2))
 
 -- ---- it is lawful
@@ -348,11 +310,6 @@ summary_untested limit pairs fs r t (IsSummaryCause.in_tree e h q) = tree_untest
 summary_untested limit pairs fs r t (IsSummaryCause.at_weight e h q) = weight_untested e (subst IsOfTest q t)
 summary_untested limit pairs fs r t (IsSummaryCause.at_sum e h q) = subst IsOfTest q t
 
-weight_not_listed : (e : WeightError) (most : ℕ) → refusals.ListLimit most ≡ of_weight_error e → ⊥
-weight_not_listed (weight_errors.Cone o) most q = cc
-weight_not_listed (weight_errors.Wide w) most q = cc
-weight_not_listed weight_errors.Memory most q = cc
-
 summary_not_listed : (limit pairs : ℕ) (fs : List Terms) (most : ℕ) → IsSummaryCause limit pairs fs (refusals.ListLimit most) → ⊥
 summary_not_listed limit pairs fs most (IsSummaryCause.at_root e h q) = basis_not_listed e most q
 summary_not_listed limit pairs fs most (IsSummaryCause.in_tree e h q) = tree_not_listed e most q
@@ -363,14 +320,14 @@ generated_exact : (number limit pairs : ℕ) → IsExactCommand (generated_comma
 generated_exact number limit pairs = record {
   reading = none_once;
   checks = λ texts v h. tt;
-  work = λ v r h. summary_work limit pairs (generated number) r h;
+  work = λ v r h. summary_work limit pairs (generated_set number) r h;
   within = λ v r w h. w r h;
 }
 
 pub generated_lawful : (number limit pairs : ℕ) → IsLawful (generated_command number limit pairs)
 generated_lawful number limit pairs =
     let c = generated_command number limit pairs in
-    sound_lawful c (generated_exact number limit pairs) (untested c (λ v r t h. summary_untested limit pairs (generated number) r t h)) tt (λ t. t) (λ a m w. summary_not_listed limit pairs (generated number) m w)
+    sound_lawful c (generated_exact number limit pairs) (untested c (λ v r t h. summary_untested limit pairs (generated_set number) r t h)) tt (λ t. t) (λ a m w. summary_not_listed limit pairs (generated_set number) m w)
 
 -- ---- it writes one text
 
@@ -390,19 +347,19 @@ summaries_one limit fs text same v h k =
     ∙ ap₂ (λ (l : List MarkedPolynomials) (ws : List (List ℤ)). summary_text (min limit (length l)) (greatest (map degree_of_set (take limit l))) (added (zeros 4) ws) (nat_le (length l) limit)) lists weights
     ∙ sym k.is_text
 
-pub generated_ring : (k : ℕ) → HaveRingVariables 4 (generated k)
+pub generated_ring : (k : ℕ) → HaveRingVariables 4 (generated_set k)
 generated_ring k = record { each = λ f c. generators_are_binomials.variables k f c }
 
 -- the list of the ideal that a number stands for begins at the first basis, and so does that of the ideal that this basis generates
-pub generated_begins : (k : ℕ) (root : MarkedPolynomials) → IsFirstBasis 4 (generated k) root → StartsAt 4 (generated k) root
-generated_begins k root h = record { inside = ring_variables 4 (generated k) (generated_ring k); first = h }
+pub generated_begins : (k : ℕ) (root : MarkedPolynomials) → IsFirstBasis 4 (generated_set k) root → StartsAt 4 (generated_set k) root
+generated_begins k root h = record { inside = ring_variables 4 (generated_set k) (generated_ring k); first = h }
 
-pub generated_start : (k : ℕ) (root : MarkedPolynomials) → IsFirstBasis 4 (generated k) root → StartsAt 4 (polys root.items) root
-generated_start k root h = own_start 4 (generated k) root (generated_begins k root h)
+pub generated_start : (k : ℕ) (root : MarkedPolynomials) → IsFirstBasis 4 (generated_set k) root → StartsAt 4 (polys root.items) root
+generated_start k root h = own_start 4 (generated_set k) root (generated_begins k root h)
 
 pub one_summary : SummariesAreOne
 one_summary number limit pairs others text same h k =
-    summaries_one limit (generated number) text same (ring_variables 4 (generated number) (generated_ring number)) h.answer.is_answer k.answer.is_answer
+    summaries_one limit (generated_set number) text same (ring_variables 4 (generated_set number) (generated_ring number)) h.answer.is_answer k.answer.is_answer
 
 -- ---- lines
 

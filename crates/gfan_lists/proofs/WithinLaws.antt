@@ -1,7 +1,10 @@
 -- `_bases --within`: its region, its first basis, its list; and each refusal of it is told in one way.
--- To cite: region_work, region_numbers, no_region_same, no_region_there, basis_numbers, given_root_work, given_root_same, given_root_refutes; within_exact, within_tested, given_within_exact, given_within_tested; within_performed, within_stopped, given_within_performed, given_within_stopped,
--- stopped_in_form, stopped_in_work, form_unlisted, region_unlisted, root_unlisted, start_unlisted; no_region_named, region_told, named_start; root_in_starts, given_region_starts; rows_hold, no_region_stopped, no_root_stopped, within_done,
--- within_cut, no_start_stopped, given_within_done, given_within_cut. The rest are steps.
+-- To cite: region_work, region_numbers, no_region_same, no_region_there, given_root_work, given_root_same,
+-- given_root_refutes; within_exact, within_tested, given_within_exact, given_within_tested; within_performed,
+-- within_stopped, given_within_performed, given_within_stopped, stopped_in_form, stopped_in_work, form_unlisted,
+-- region_unlisted, root_unlisted, start_unlisted; no_region_named, region_told, named_start; root_in_starts,
+-- given_region_starts; rows_hold, no_region_stopped, no_root_stopped, within_done, within_cut, no_start_stopped,
+-- given_within_done, given_within_cut. The rest are steps.
 use Rattle.std.specs.Prelude.{◌≡◌, ◌⊎◌, ℕ, false, List, [], ◌∷◌, length, Option, Some, None, Err, ℤ}
 use Rattle.std.proofs.Common.{refl, sym, ap, ◌∙◌, subst, inl, inr}
 use Rattle.gf_exponents.specs.Orders.{gains}
@@ -9,8 +12,6 @@ use Rattle.gf_exponents.specs.SixOrders.{MonomialOrder}
 use Rattle.gf_poly.specs.Polynomial.{Terms}
 use Rattle.gf_poly.specs.Marking.{MarkedPolynomials, HaveVariables, polys}
 use Rattle.gf_ideal.specs.Membership.{AreInVariables}
-use Rattle.gf_buchberger.specs.declared.bases.BasisError.{BasisError}
-use Rattle.gf_buchberger.specs.declared.bases.BasisError.TheVariants as basis_errors
 use Rattle.gf_buchberger.specs.Bases.{IsArrangedBasis}
 use Rattle.gf_buchberger.proofs.BasesOfRuns.{if_within}
 use Rattle.gf_gordan.specs.Alternative.{AreRows}
@@ -52,7 +53,7 @@ use Rattle.gfan_lists.proofs.BasesListLaws.{given_node, start_moved}
 use Rattle.gfan_lists.proofs.GivenBasisLaws.{not_reduced, root_work, reducing_only, root_once, root_tested, root_no_limit, named_root}
 use Rattle.gfan_common.specs.ToolForms.{for_each}
 use Rattle.std.proofs.lemmas.List.Elements.{All-nil}
-use Rattle.gfan_common.proofs.CauseLaws.{basis_named_by, basis_work, basis_not_listed, basis_untested}
+use Rattle.gfan_common.proofs.CauseLaws.{basis_named_by, basis_work, basis_not_listed, basis_untested, basis_numbers}
 use Rattle.gfan_common.proofs.RefusedLaws.{of_source}
 use Rattle.gfan_common.proofs.PerformedLaws.{performed_on, stopped_on}
 use Rattle.gfan_common.proofs.ToolFormLaws.{each_check, each_joined}
@@ -144,12 +145,6 @@ within_tested name o = record {
 }
 
 -- ---- from a marked basis
-
-pub basis_numbers : (e : BasisError) → IsOfNumbers (of_basis e)
-basis_numbers (basis_errors.Overflow x) = tt
-basis_numbers (basis_errors.Exponent x) = tt
-basis_numbers (basis_errors.PairBudget b u) = tt
-basis_numbers basis_errors.Memory = tt
 
 -- a refusal of a region that is there is of numbers
 pub region_numbers : (n : ℕ) (rows : List (List ℤ)) (k : Region) (e : RegionError) → IsRegionOf n rows k → IsRegionRefusal n rows e → IsOfNumbers (of_region e)

@@ -58,15 +58,15 @@ same_names found names = record { Holds = found ≡ names; Fails = IsOtherRing f
 -- ---- the basis
 
 -- b are the members of s made monic and arranged: the reduced basis of the ideal of s for its marking, which a weight of the region gives
-pub record IsTakenIn (k : Region) (s b : MarkedPolynomials) : Type 0 where
+pub record IsBasisTaken (k : Region) (s b : MarkedPolynomials) : Type 0 where
   pub arranged : IsArranged (monic_set s) b
   pub basis : IsReducedBasisOf s b
   pub terms : AreReduced s.items
   pub weight : IsRealisableBeside s.variables k.rows s.items
 
 -- each of these polynomials leaves zero by bs
-abbrev pub AreInside : List MarkedPolynomial → List Terms → Type 0
-AreInside bs fs = (f : Terms) → Contains fs f → IsNormalForm bs f []
+abbrev pub LeaveZero : List MarkedPolynomial → List Terms → Type 0
+LeaveZero bs fs = (f : Terms) → Contains fs f → IsNormalForm bs f []
 
 -- the polynomial at the place i is the first one that leaves another remainder than zero by this set, and it is r, as a polynomial is kept: terms
 -- that descend and count
@@ -84,14 +84,14 @@ IsSomeOutside side by fs r = ((i : ℕ) × (f : Terms) × IsFirstOutside by fs i
 
 -- the polynomials of s leave zero by the root, and the generators by the basis of s
 pub record IsListedBy (fs : List Terms) (s root b : MarkedPolynomials) : Type 0 where
-  pub basis : AreInside root.items (polys s.items)
-  pub generators : AreInside b.items fs
+  pub basis : LeaveZero root.items (polys s.items)
+  pub generators : LeaveZero b.items fs
 
 -- a polynomial of s leaves a remainder by the root, the first one; or none does, and a generator leaves one by the basis of s, the first one;
 -- or an operation of these reductions leaves its range
 pub data IsUnlisted (fs : List Terms) (s root b : MarkedPolynomials) (r : Refusal) : Type 0 where
   at_basis : (i : ℕ) (f : Terms) → IsFirstOutside root (polys s.items) i f → r ≡ refusals.NotListed 0 i f → IsUnlisted fs s root b r
-  at_generator : (i : ℕ) (f : Terms) → AreInside root.items (polys s.items) → IsFirstOutside b fs i f → r ≡ refusals.NotListed 1 i f → IsUnlisted fs s root b r
+  at_generator : (i : ℕ) (f : Terms) → LeaveZero root.items (polys s.items) → IsFirstOutside b fs i f → r ≡ refusals.NotListed 1 i f → IsUnlisted fs s root b r
   in_basis : (d : PolyError) → IsSomeReductionRefusal root.items (polys s.items) d → r ≡ of_check (of_poly d) → IsUnlisted fs s root b r
   in_generators : (d : PolyError) → IsSomeReductionRefusal b.items fs d → r ≡ of_check (of_poly d) → IsUnlisted fs s root b r
 
@@ -102,14 +102,17 @@ abbrev pub Given : Bool → Type 0
 Given false = List (List ℕ) × (List Written × Option (List ℤ))
 Given true = List (List ℕ) × MarkedPolynomials
 
+-- the names of its ring
 abbrev pub names_given : (from_basis : Bool) → Given from_basis → List (List ℕ)
 names_given false v = v.0
 names_given true v = v.0
 
+-- the polynomials whose ideal is meant: those of the set, or of the basis
 abbrev pub generators_given : (from_basis : Bool) → Given from_basis → List Terms
 generators_given false v = generators_of v.1.0
 generators_given true v = polys v.1.items
 
+-- how the input is read
 abbrev pub reading_given : (from_basis : Bool) → Reading (Given from_basis)
 reading_given false = of_one (ring_set_vector false)
 reading_given true = of_one ring_marked_set
@@ -152,6 +155,7 @@ abbrev pub IsOfCutFile : Option (Bor (List ℕ)) → List (List ℤ) → Type 0
 IsOfCutFile None rows = rows ≡ []
 IsOfCutFile (Some file) rows = IsTextOf vectors_alone file.now rows
 
+-- why that file isn't read
 abbrev pub IsCutFileRefused : Option (Bor (List ℕ)) → Refusal → Type 0
 IsCutFileRefused None r = ⊥
 IsCutFileRefused (Some file) r = (e : TextError) × IsTextRefused vectors_alone file.now e × (r ≡ of_text e)
@@ -166,21 +170,21 @@ IsUnbegun is_cut n rows found names r =
 -- the text of what follows the basis of s in the list of all bases in the region, which are no more than the limit
 pub record IsTextAfter (o : ListOptions) (k : Region) (ring : List (List ℕ)) (fs : List Terms) (s : MarkedPolynomials) (text : List ℕ) : Type 0 where
   pub basis : MarkedPolynomials
-  pub taken : IsTakenIn k s basis
+  pub taken : IsBasisTaken k s basis
   pub front : List MarkedPolynomials
   pub list : IsTextBehind (front ++ basis ∷ []) o.certified o.limit ring k fs text
 
 -- the same with all that is written of that list where nothing stops it
 pub record IsFullAfter (o : ListOptions) (k : Region) (ring : List (List ℕ)) (fs : List Terms) (s : MarkedPolynomials) (text : List ℕ) : Type 0 where
   pub basis : MarkedPolynomials
-  pub taken : IsTakenIn k s basis
+  pub taken : IsBasisTaken k s basis
   pub front : List MarkedPolynomials
   pub list : IsFullTextBehind (front ++ basis ∷ []) o ring k fs text
 
 -- and with what stands of it where it is refused so; so nothing stands where the basis isn't one of the list
 pub record IsBegunAfter (o : ListOptions) (k : Region) (ring : List (List ℕ)) (fs : List Terms) (s : MarkedPolynomials) (text : List ℕ) (r : Refusal) : Type 0 where
   pub basis : MarkedPolynomials
-  pub taken : IsTakenIn k s basis
+  pub taken : IsBasisTaken k s basis
   pub front : List MarkedPolynomials
   pub begun : IsBegunWhereBehind (front ++ basis ∷ []) o ring k fs text r
 
@@ -190,17 +194,17 @@ pub record IsBegunAfter (o : ListOptions) (k : Region) (ring : List (List ℕ)) 
 -- it; or a call of the search is refused on the way up from the basis, which is in the list
 pub data IsStartRefused (from_basis is_cut : Bool) (pairs : ℕ) (k : Region) (v : Given from_basis) (s : MarkedPolynomials) (r : Refusal) : Type 0 where
   at_basis : (e : CheckError) → IsReducedRefusalBeside k.rows 0 s e → r ≡ of_check e → IsStartRefused from_basis is_cut pairs k v s r
-  at_root : (b : MarkedPolynomials) → IsTakenIn k s b → IsUnrooted from_basis is_cut v k pairs r → IsStartRefused from_basis is_cut pairs k v s r
-  unlisted : (b root : MarkedPolynomials) → IsTakenIn k s b → IsBasisGiven from_basis v → StartsIn (length (names_given from_basis v)) k (generators_given from_basis v) root →
+  at_root : (b : MarkedPolynomials) → IsBasisTaken k s b → IsUnrooted from_basis is_cut v k pairs r → IsStartRefused from_basis is_cut pairs k v s r
+  unlisted : (b root : MarkedPolynomials) → IsBasisTaken k s b → IsBasisGiven from_basis v → StartsIn (length (names_given from_basis v)) k (generators_given from_basis v) root →
       IsUnlisted (generators_given from_basis v) s root b r → IsStartRefused from_basis is_cut pairs k v s r
-  on_the_way : (b root : MarkedPolynomials) (e : TreeError) → IsTakenIn k s b → IsBasisGiven from_basis v → StartsIn (length (names_given from_basis v)) k (generators_given from_basis v) root →
+  on_the_way : (b root : MarkedPolynomials) (e : TreeError) → IsBasisTaken k s b → IsBasisGiven from_basis v → StartsIn (length (names_given from_basis v)) k (generators_given from_basis v) root →
       IsListedBy (generators_given from_basis v) s root b → IsTreeRefusal (ideal_within (length (names_given from_basis v)) (generators_given from_basis v) k) pairs e → r ≡ of_tree e →
       IsStartRefused from_basis is_cut pairs k v s r
 
 -- so it is; or the list is refused behind the basis
 pub data IsCauseAfter (from_basis is_cut : Bool) (o : ListOptions) (k : Region) (v : Given from_basis) (s : MarkedPolynomials) (r : Refusal) : Type 0 where
   at_start : IsStartRefused from_basis is_cut o.pairs k v s r → IsCauseAfter from_basis is_cut o k v s r
-  going : (b : MarkedPolynomials) (front : List MarkedPolynomials) → IsTakenIn k s b → IsBasisGiven from_basis v →
+  going : (b : MarkedPolynomials) (front : List MarkedPolynomials) → IsBasisTaken k s b → IsBasisGiven from_basis v →
       IsGoingCauseBehind (front ++ b ∷ []) o (length (names_given from_basis v)) k (generators_given from_basis v) r → IsCauseAfter from_basis is_cut o k v s r
 
 -- there is no region, or the names of the ring are others, where that isn't judged before the region; or it is refused so in the region
@@ -219,7 +223,7 @@ pub record IsStartWithin (from_basis is_cut : Bool) (pairs : ℕ) (k : Region) (
   pub reduced : AreReduced s.items
   pub checks : AreChecksWithinLimitsBeside k.rows s
   pub root : (r : Refusal) → IsUnrooted from_basis is_cut v k pairs r → r ≡ refusals.Memory
-  pub listed : (b root : MarkedPolynomials) (r : Refusal) → IsTakenIn k s b → StartsIn (length (names_given from_basis v)) k (generators_given from_basis v) root →
+  pub listed : (b root : MarkedPolynomials) (r : Refusal) → IsBasisTaken k s b → StartsIn (length (names_given from_basis v)) k (generators_given from_basis v) root →
       IsUnlisted (generators_given from_basis v) s root b r → r ≡ refusals.Memory
   pub tree : IsTreeWithinLimits (ideal_within (length (names_given from_basis v)) (generators_given from_basis v) k) pairs
 
@@ -227,7 +231,7 @@ pub record IsStartWithin (from_basis is_cut : Bool) (pairs : ℕ) (k : Region) (
 -- isn't longer than the limit
 pub record IsAfterWithin (from_basis is_cut : Bool) (o : ListOptions) (k : Region) (v : Given from_basis) (s : MarkedPolynomials) : Type 0 where
   pub start : IsStartWithin from_basis is_cut o.pairs k v s
-  pub few : (b : MarkedPolynomials) (front list : List MarkedPolynomials) → IsTakenIn k s b →
+  pub few : (b : MarkedPolynomials) (front list : List MarkedPolynomials) → IsBasisTaken k s b →
       AreAllBasesIn (length (names_given from_basis v)) k (generators_given from_basis v) ((front ++ b ∷ []) ++ list) → IsWithinLimit o.limit list
   pub certificates : AreCertifiedWithinIn o (length (names_given from_basis v)) k (generators_given from_basis v)
 
@@ -237,7 +241,7 @@ pub record IsAfterPast (from_basis is_cut : Bool) (o : ListOptions) (k : Region)
   pub start : IsStartWithin from_basis is_cut o.pairs k v s
   pub given : IsBasisGiven from_basis v
   pub last : MarkedPolynomials
-  pub taken : IsTakenIn k s last
+  pub taken : IsBasisTaken k s last
   pub front : List MarkedPolynomials
   pub past : IsPastLimitBehind (front ++ last ∷ []) o.limit (length (names_given from_basis v)) k (generators_given from_basis v) most
   pub certificates : (written rest : List MarkedPolynomials) (b : MarkedPolynomials) → past.list ≡ written ++ b ∷ rest → length written < most → o.certified ≡ true →
@@ -266,11 +270,13 @@ IsAnswerAfter from_basis is_cut o v text =
     (k : Region) × IsRegionCut is_cut (length (names_given from_basis v.1.1)) v.0 k × (v.1.0.0 ≡ names_given from_basis v.1.1) × IsBasisGiven from_basis v.1.1
     × IsTextAfter o k (names_given from_basis v.1.1) (generators_given from_basis v.1.1) v.1.0.1 text
 
+-- all that is written where nothing stops it: that text, or as much of it as the limit lets through
 abbrev pub IsWholeAfter : (from_basis is_cut : Bool) → ListOptions → AfterValue from_basis → List ℕ → Type 0
 IsWholeAfter from_basis is_cut o v text =
     (k : Region) × IsRegionCut is_cut (length (names_given from_basis v.1.1)) v.0 k × (v.1.0.0 ≡ names_given from_basis v.1.1) × IsBasisGiven from_basis v.1.1
     × IsFullAfter o k (names_given from_basis v.1.1) (generators_given from_basis v.1.1) v.1.0.1 text
 
+-- the beginning of it that stands where the list is refused so
 abbrev pub IsPartAfter : (from_basis is_cut : Bool) → ListOptions → AfterValue from_basis → List ℕ → Refusal → Type 0
 IsPartAfter from_basis is_cut o v text r =
     (k : Region) × IsRegionCut is_cut (length (names_given from_basis v.1.1)) v.0 k × (v.1.0.0 ≡ names_given from_basis v.1.1) × IsBasisGiven from_basis v.1.1

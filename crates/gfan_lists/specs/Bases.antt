@@ -139,44 +139,57 @@ IsBegunWhereBehind before o ring k fs text r = IsOfNumbers r × (IsGoingCauseBeh
 
 -- ---- behind none: the whole list
 
+-- the ring in a line, and all bases of the ideal in the region, no more than the limit
 abbrev pub IsTextOfBasesIn : Bool → Option ℕ → List (List ℕ) → Region → List Terms → List ℕ → Type 0
 IsTextOfBasesIn certified limit ring k fs text = IsTextBehind [] certified limit ring k fs text
 
+-- that text, or as much of it as the limit lets through
 abbrev pub IsFullTextIn : ListOptions → List (List ℕ) → Region → List Terms → List ℕ → Type 0
 IsFullTextIn o ring k fs text = IsFullTextBehind [] o ring k fs text
 
+-- there are more bases than the limit lets through
 abbrev pub IsPastLimitIn : Option ℕ → ℕ → Region → List Terms → ℕ → Type 0
 IsPastLimitIn limit n k fs most = IsPastLimitBehind [] limit n k fs most
 
+-- a call of the search is refused before the limit is reached
 abbrev pub IsSearchRefusedIn : ListOptions → ℕ → Region → List Terms → TreeError → Type 0
 IsSearchRefusedIn o n k fs e = IsSearchRefusedBehind [] o n k fs e
 
+-- why the list isn't written from its first basis on
 abbrev pub IsGoingCauseIn : ListOptions → ℕ → Region → List Terms → Refusal → Type 0
 IsGoingCauseIn o n k fs r = IsGoingCauseBehind [] o n k fs r
 
+-- what stands where it is refused so
 abbrev pub IsBegunWhereIn : ListOptions → List (List ℕ) → Region → List Terms → List ℕ → Refusal → Type 0
 IsBegunWhereIn o ring k fs text r = IsBegunWhereBehind [] o ring k fs text r
 
 -- ---- where all positive weights are meant
 
+-- the bases as they are written, with certificates or without
 abbrev pub AreItemTexts : Bool → List (List ℕ) → List MarkedPolynomials → List (List ℕ) → Type 0
 AreItemTexts certified ring bs ts = AreItemTextsIn certified ring (all_positive (length ring)) bs ts
 
+-- the ring in a line, and all bases of the ideal, no more than the limit
 abbrev pub IsTextOfBases : Bool → Option ℕ → List (List ℕ) → List Terms → List ℕ → Type 0
 IsTextOfBases certified limit ring fs text = IsTextOfBasesIn certified limit ring (all_positive (length ring)) fs text
 
+-- that text, or as much of it as the limit lets through
 abbrev pub IsFullText : ListOptions → List (List ℕ) → List Terms → List ℕ → Type 0
 IsFullText o ring fs text = IsFullTextIn o ring (all_positive (length ring)) fs text
 
+-- the ideal has more bases than the limit lets through
 abbrev pub IsPastLimit : Option ℕ → ℕ → List Terms → ℕ → Type 0
 IsPastLimit limit n fs most = IsPastLimitIn limit n (all_positive n) fs most
 
+-- a call of the search over all of them is refused before the limit is reached
 abbrev pub IsSearchRefused : ListOptions → ℕ → List Terms → TreeError → Type 0
 IsSearchRefused o n fs e = IsSearchRefusedIn o n (all_positive n) fs e
 
+-- why the list of all of them isn't written from its first basis on
 abbrev pub IsGoingCause : ListOptions → ℕ → List Terms → Refusal → Type 0
 IsGoingCause o n fs r = IsGoingCauseIn o n (all_positive n) fs r
 
+-- what stands of it where it is refused so
 abbrev pub IsBegunWhere : ListOptions → List (List ℕ) → List Terms → List ℕ → Refusal → Type 0
 IsBegunWhere o ring fs text r = IsBegunWhereIn o ring (all_positive (length ring)) fs text r
 
@@ -198,6 +211,7 @@ pub record IsGoingWithin (o : ListOptions) (n : ℕ) (k : Region) (fs : List Ter
   pub few : (list : List MarkedPolynomials) → AreAllBasesIn n k fs list → IsWithinLimit o.limit list
   pub certificates : AreCertifiedWithinIn o n k fs
 
+-- so for each basis of the ideal
 abbrev pub AreCertifiedWithin : ListOptions → ℕ → List Terms → Type 0
 AreCertifiedWithin o n fs = AreCertifiedWithinIn o n (all_positive n) fs
 
@@ -218,6 +232,7 @@ pub record IsGoingPastIn (o : ListOptions) (n : ℕ) (k : Region) (fs : List Ter
   pub certificates : (written rest : List MarkedPolynomials) (b : MarkedPolynomials) → past.list ≡ written ++ b ∷ rest → length written < most →
       o.certified ≡ true → AreCertificatesFittingIn b.variables k b.items
 
+-- so for the list of all bases of the ideal
 abbrev pub IsGoingPast : ListOptions → ℕ → List Terms → ℕ → Type 0
 IsGoingPast o n fs most = IsGoingPastIn o n (all_positive n) fs most
 

@@ -45,6 +45,7 @@ pub record AreAllBasesIn (n : ℕ) (k : Region) (fs : List Terms) (list : List M
 abbrev pub IsGivenByWeight : ℕ → List Terms → MarkedPolynomials → Type 0
 IsGivenByWeight n fs x = IsGivenIn n (all_positive n) fs x
 
+-- all bases of the ideal, each once, by paths from that one
 abbrev pub AreAllBases : ℕ → List Terms → List MarkedPolynomials → Type 0
 AreAllBases n fs list = AreAllBasesIn n (all_positive n) fs list
 

@@ -124,9 +124,11 @@ IsListStoppedBehind before o ring k fs held holds written writes r =
 abbrev pub IsListWrittenIn : ListOptions → List (List ℕ) → Region → List Terms → Option (List ℕ) → Option (List ℕ) → Type 0
 IsListWrittenIn o ring k fs held holds = IsListWrittenBehind [] o ring k fs held holds
 
+-- the beginning of the whole list that may stand where it is refused so
 abbrev pub IsListBegunIn : ListOptions → List (List ℕ) → Region → List Terms → Option (List ℕ) → Option (List ℕ) → Refusal → Type 0
 IsListBegunIn o ring k fs held holds r = IsListBegunBehind [] o ring k fs held holds r
 
+-- why the whole list isn't written, and what stands of it
 abbrev pub IsListStoppedIn : ListOptions → List (List ℕ) → Region → List Terms → Option (List ℕ) → Option (List ℕ) → ℕ → ℕ → Refusal → Type 0
 IsListStoppedIn o ring k fs held holds written writes r = IsListStoppedBehind [] o ring k fs held holds written writes r
 

@@ -17,7 +17,7 @@ use Rattle.gf_tree.specs.declared.error.TreeError.{TreeError}
 use Rattle.gf_weights.specs.declared.error.WeightError.{WeightError}
 use Rattle.gf_weights.specs.Weights.{IsPrintedWeight}
 use Rattle.gf_weights.specs.Refusals.{IsWeightCause}
-use Rattle.gf_generated.specs.Generated.{generated}
+use Rattle.gf_generated.specs.Generated.{generated_set}
 use Rattle.gf_front.specs.declared.refusal.Refusal.{Refusal}
 use Rattle.gf_front.specs.declared.refusal.Refusal.TheVariants as refusals
 use Rattle.gf_frame.specs.Readings.{of_none}
@@ -109,8 +109,8 @@ generated_command number limit pairs = record {
   reads = [];
   reading = of_none;
   checks = λ v. [];
-  IsAnswer = λ v text. IsSummaryText limit (generated number) text;
-  IsCause = λ v r. IsSummaryCause limit pairs (generated number) r;
-  IsWithin = λ v. (r : Refusal) → IsSummaryCause limit pairs (generated number) r → r ≡ refusals.Memory;
+  IsAnswer = λ v text. IsSummaryText limit (generated_set number) text;
+  IsCause = λ v r. IsSummaryCause limit pairs (generated_set number) r;
+  IsWithin = λ v. (r : Refusal) → IsSummaryCause limit pairs (generated_set number) r → r ≡ refusals.Memory;
   writing = Writing.at_end;
 }

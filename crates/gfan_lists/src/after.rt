@@ -22,7 +22,7 @@ ghost use Rattle.gfan_lists.specs.BasesWriting.{GoesOnBehind, StartsIn};
 ghost use Rattle.gfan_common.specs.Refused.{IsUnnamed, IsOfSource};
 ghost use Rattle.gfan_lists.specs.Within.{IsNoRegion};
 ghost use Rattle.gfan_common.specs.ToolForms.{for_each};
-ghost use Rattle.gfan_lists.specs.After.{IsFirstDifference, IsOtherRing, IsTakenIn, AreInside, IsFirstOutside, IsSomeOutside, IsListedBy, IsUnlisted, IsUnrooted, IsRegionCut, IsOfCutFile, IsCutFileRefused, cut_texts, IsUnbegun, IsStartRefused, after_command};
+ghost use Rattle.gfan_lists.specs.After.{IsFirstDifference, IsOtherRing, IsBasisTaken, LeaveZero, IsFirstOutside, IsSomeOutside, IsListedBy, IsUnlisted, IsUnrooted, IsRegionCut, IsOfCutFile, IsCutFileRefused, cut_texts, IsUnbegun, IsStartRefused, after_command};
 
 use crate::bases::{self, ListOptions, write_waves};
 use crate::{given_basis, within};
@@ -80,7 +80,7 @@ fn check_ring(found: &Ring, ring: &Ring) -> Result<(), Refusal>
 /// The set as the reduced basis of its ideal that some weight of the region gives. Its members are counted in 32 bits.
 fn taken_in(alloc: Global, marked: &MarkedSet, region: &Region) -> Result<MarkedSet, Refusal>
     requires { length region.now.root ≡ marked.now.variables }
-    ensures ok { IfOk result (IsTakenIn region.now marked.now) }
+    ensures ok { IfOk result (IsBasisTaken region.now marked.now) }
     ensures err { IfErr result (λ r. (e : CheckError) × IsReducedRefusalBeside region.now.rows 0 marked.now e × (r ≡ of_check e)) }
 {
     if marked.items().len() > u32::MAX as usize {
@@ -101,7 +101,7 @@ fn first_outside(
     requires marked { HasPositiveWeight by.now.variables by.now.items }
     requires variables { All (HasVariables by.now.variables) polynomials.now }
     ensures some { IfOk result (λ o. IfSome o (λ found. IsFirstOutside by.now polynomials.now found.0 found.1)) }
-    ensures none { IfOk result (λ o. IsNone o → AreInside by.now.items polynomials.now) }
+    ensures none { IfOk result (λ o. IsNone o → LeaveZero by.now.items polynomials.now) }
     ensures err { IfErr result (IsSomeReductionRefusal by.now.items polynomials.now) }
 {
     'polynomials: for i in 0..polynomials.len() {
@@ -122,7 +122,7 @@ fn check_inside(
 ) -> Result<(), Refusal>
     requires marked { HasPositiveWeight by.now.variables by.now.items }
     requires variables { All (HasVariables by.now.variables) polynomials.now }
-    ensures ok { OnOk result (AreInside by.now.items polynomials.now) }
+    ensures ok { OnOk result (LeaveZero by.now.items polynomials.now) }
     ensures err { IfErr result (IsSomeOutside side by.now polynomials.now) }
 {
     if polynomials.len() > u32::MAX as usize {
@@ -260,7 +260,7 @@ fn start<'g, G: Gate>(
     requires region { (rows : List (List ℤ)) × IsRegionCut is_cut (length ring.now) rows region.now }
     requires some { 1 ≤ workers }
     requires most { workers ≤ 64 }
-    ensures ok { IfOk result (λ waves. (b : MarkedPolynomials) × (front : List MarkedPolynomials) × IsTakenIn region.now marked.now b
+    ensures ok { IfOk result (λ waves. (b : MarkedPolynomials) × (front : List MarkedPolynomials) × IsBasisTaken region.now marked.now b
         × GoesOnBehind (front ++ b ∷ []) (length ring.now) region.now (generators_of set.now) options.pairs waves) }
     ensures err { IfErr result (λ r. IsStartRefused false is_cut options.pairs region.now (ring.now, (set.now, None)) marked.now r ⊎ (r ≡ Refusal.Memory)) }
 {
@@ -287,7 +287,7 @@ fn given_start<'g, G: Gate>(
     requires some { 1 ≤ workers }
     requires most { workers ≤ 64 }
     ensures basis { IfOk result (λ _. IsMarkedGroebnerBasis set.now.variables set.now.items) }
-    ensures ok { IfOk result (λ waves. (b : MarkedPolynomials) × (front : List MarkedPolynomials) × IsTakenIn region.now marked.now b
+    ensures ok { IfOk result (λ waves. (b : MarkedPolynomials) × (front : List MarkedPolynomials) × IsBasisTaken region.now marked.now b
         × GoesOnBehind (front ++ b ∷ []) set.now.variables region.now (polys set.now.items) options.pairs waves) }
     ensures err { IfErr result (λ r. (ring : List (List ℕ)) → length ring ≡ set.now.variables → IsStartRefused true is_cut options.pairs region.now (ring, set.now) marked.now r ⊎ (r ≡ Refusal.Memory)) }
 {

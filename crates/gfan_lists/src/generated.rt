@@ -7,7 +7,7 @@ ghost use Rattle.gf_poly.specs.Marking.{polys};
 ghost use Rattle.gf_weights.specs.declared.error.WeightError.{WeightError};
 ghost use Rattle.gf_weights.specs.Weights.{IsPrintedWeight};
 ghost use Rattle.gf_weights.specs.Refusals.{IsWeightCause};
-ghost use Rattle.gf_generated.specs.Generated.{generated};
+ghost use Rattle.gf_generated.specs.Generated.{generated_set};
 ghost use Rattle.gf_front.specs.declared.command_line.Job.{Job};
 ghost use Rattle.gf_front.specs.Jobs.{HasNumbersInRange};
 ghost use Rattle.gf_frame.specs.Commands.{IsAnswered, IsRefusedOn};
@@ -51,8 +51,8 @@ struct Summary {
 /// The first basis, by degree and then lex, of the ideal that the number stands for.
 fn first_basis(alloc: Global, number: u64, pairs: u64) -> Result<MarkedSet, Refused>
     requires { number < 2147483647 }
-    ensures ok { IfOk result (IsFirstBasis 4 (generated number)) }
-    ensures err { IfErr result (λ e. IsRootRefusal 4 (generated number) pairs e.refusal) }
+    ensures ok { IfOk result (IsFirstBasis 4 (generated_set number)) }
+    ensures err { IfErr result (λ e. IsRootRefusal 4 (generated_set number) pairs e.refusal) }
     ensures told { IfErr result IsUnnamed }
 {
     let generators = generators(alloc, number)?;

@@ -1,25 +1,22 @@
 -- Each of the small tools answers a source in one way: its record has the laws of an exact command, and names no limit of a list.
 -- To cite: mark_polynomial_set_exact, initial_forms_exact, homogenize_exact, polynomial_set_union_exact, stats_exact; homogenize_not_listed,
--- homogenize_untested; length_unanswered, zero_unanswered, marked_answered; entries_unanswered, forms_answered; room_unanswered, homogenized_answered;
+-- homogenize_untested; length_unanswered, zero_unanswered, marked_answered; entries_unanswered, forms_answered;
 -- stats_unanswered, stats_answered, seven_pieces. The rest are steps.
-use Rattle.std.specs.Prelude.{◌≡◌, ◌⊎◌, ℕ, ◌^◌, ◌<◌, All, List, [], ◌∷◌, ◌++◌, length, Some, ℤ}
+use Rattle.std.specs.Prelude.{◌≡◌, ◌⊎◌, ℕ, All, List, [], ◌∷◌, ◌++◌, length, Some, ℤ}
 use Rattle.std.specs.List.{concat}
-use Rattle.std.proofs.Common.{arith, refl, sym, ap, ◌∙◌, subst, inl, inr, append_assoc, append-nil}
-use Rattle.std.proofs.lemmas.List.Elements.{All-head, All-tail}
-use Rattle.gf_poly.specs.declared.Term.{Term}
+use Rattle.std.proofs.Common.{refl, sym, ap, ◌∙◌, subst, inl, inr, append_assoc, append-nil}
 use Rattle.gf_poly.specs.declared.monomial.ExponentOverflow.{ExponentOverflow}
 use Rattle.gf_poly.specs.Polynomial.{Terms}
 use Rattle.gf_poly.specs.Marking.{MarkedPolynomials, polys}
 use Rattle.gf_text.specs.declared.written.Written.{Written}
-use Rattle.gf_text.specs.declared.written.Written.TheVariants as written
 use Rattle.gf_text.specs.Sets.{AreNonzero}
 use Rattle.gf_gordan.specs.declared.error.GordanError.{GordanError}
 use Rattle.gf_small.specs.MarksByWeight.{AreMarkedByWeight}
-use Rattle.gf_small.specs.Degrees.{total_degree}
 use Rattle.gf_small.specs.InitialForms.{AreInitialForms}
-use Rattle.gf_small.specs.Homogenization.{new_exponent, ExponentsFit, IsHomogenizedWithinLimit, IsPastLimitIn, IsFirstExponentPastLimit}
+use Rattle.gf_small.specs.Homogenization.{IsHomogenizedWithinLimit}
 use Rattle.gf_small.specs.declared.counts.Stats.{Stats}
 use Rattle.gf_small.specs.Statistics.{AreStatistics, IsStatisticsCause}
+use Rattle.gf_small.proofs.HomogenizationLaws.{never_past}
 use Rattle.gf_front.specs.declared.refusal.Refusal.{Refusal}
 use Rattle.gf_front.specs.declared.refusal.Refusal.TheVariants as refusals
 use Rattle.gf_items.specs.Refusals.{IsOfTest, IsOfWork}
@@ -100,24 +97,8 @@ homogenize_work ws (refusals.ExponentOverflow o) h = tt
 homogenize_work ws refusals.Memory h = tt
 homogenize_work ws _ h = absurd h
 
--- what holds of all holds of one in the middle
-at_middle : {A : Type 0} (P : A → Type 0) (front back : List A) (x : A) → All P (front ++ x ∷ back) → P x
-at_middle P [] back x all = All-head P x back all
-at_middle P (f ∷ front) back x all = at_middle P front back x (All-tail P f (front ++ x ∷ back) all)
-
-past_apart : (w : Written) (o : ExponentOverflow) → IsHomogenizedWithinLimit w → IsPastLimitIn w o → ⊥
-past_apart written.Zero o w h = h
-past_apart (written.Nonzero b) o w h =
-    let d = total_degree b.poly in
-    let one : new_exponent d h.term.mono < 2 ^ 31 = at_middle (λ (t : Term). new_exponent d t.mono < 2 ^ 31) h.earlier h.later h.term (subst (ExponentsFit d) h.split w) in
-    let past = h.past.leaves in
-    omega arith
-
-none_past : (ws : List Written) (o : ExponentOverflow) → All IsHomogenizedWithinLimit ws → IsFirstExponentPastLimit ws o → ⊥
-none_past ws o w h = past_apart h.polynomial o (at_middle IsHomogenizedWithinLimit h.earlier h.later h.polynomial (subst (All IsHomogenizedWithinLimit) h.split w)) h.past
-
 homogenize_within : (ws : List Written) (r : Refusal) → All IsHomogenizedWithinLimit ws → IsHomogenizeRefusal ws r → r ≡ refusals.Memory
-homogenize_within ws (refusals.ExponentOverflow o) w h = absurd (none_past ws o w h)
+homogenize_within ws (refusals.ExponentOverflow o) w h = absurd (never_past ws o w h)
 homogenize_within ws refusals.Memory w h = refl
 homogenize_within ws _ w h = absurd h
 

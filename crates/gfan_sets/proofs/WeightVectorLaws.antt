@@ -32,7 +32,7 @@ use Rattle.gfan_common.specs.ReducedSets.{IsReducedAsRead, IsRefusedFrom}
 use Rattle.gfan_common.specs.Refused.{IsNamedBy}
 use Rattle.gfan_common.proofs.ReadSetLaws.{IsSetKept, one_kept}
 use Rattle.gfan_common.proofs.CheckedSetLaws.{check_work, check_not_listed}
-use Rattle.gfan_common.proofs.CauseLaws.{weight_work, weight_untested}
+use Rattle.gfan_common.proofs.CauseLaws.{weight_work, weight_untested, weight_not_listed, weight_numbers}
 use Rattle.gfan_common.proofs.ReducedListLaws.{refused_named, refused_within, refused_once, refused_refutes, list_read}
 use Rattle.gfan_common.proofs.ZipLaws.{zip_there, zip_back}
 
@@ -141,22 +141,12 @@ weight_vector_exact true echoed = record {
 
 -- ---- no limit of a list
 
-weight_not_listed : (e : WeightError) (most : ℕ) → refusals.ListLimit most ≡ of_weight_error e → ⊥
-weight_not_listed (weight_errors.Cone o) most q = cc
-weight_not_listed (weight_errors.Wide w) most q = cc
-weight_not_listed weight_errors.Memory most q = cc
-
 pub unweighed_not_listed : (sets : List MarkedPolynomials) (most : ℕ) → IsUnweighed sets (refusals.ListLimit most) → ⊥
 unweighed_not_listed sets most (IsUnweighed.at_set e h q) = check_not_listed e most q
 unweighed_not_listed sets most (IsUnweighed.at_weight e a h q) = weight_not_listed e most q
 unweighed_not_listed sets most (IsUnweighed.no_memory m) = cc
 
 -- ---- sets that aren't reduced bases
-
-weight_numbers : (e : WeightError) → IsOfNumbers (of_weight_error e)
-weight_numbers (weight_errors.Cone o) = tt
-weight_numbers (weight_errors.Wide w) = tt
-weight_numbers weight_errors.Memory = tt
 
 unweighed_once : (n : ℕ) (sets : List MarkedPolynomials) (r d : Refusal) → Each (IsSetKept n) sets → IsOfTest r → IsUnweighed sets r → IsUnweighed sets d → TellsSame r d ⊎ IsOfNumbers d
 unweighed_once n sets r d v t (IsUnweighed.at_set e h q) (IsUnweighed.at_set f k p) =

@@ -14,7 +14,7 @@ use Rattle.gf_frame.specs.Loading.{Origin}
 use Rattle.gf_frame.specs.Readings.{of_one}
 use Rattle.gf_frame.specs.Commands.{Writing, Command}
 use Rattle.gfan_common.specs.Forms.{generators_of}
-use Rattle.gfan_common.specs.Printing.{IsVerdict}
+use Rattle.gfan_common.specs.Printing.{IsVerdictText}
 use Rattle.gfan_common.specs.CheckedSets.{of_check, IsSomeReductionRefusal}
 
 -- ---- what is written
@@ -26,7 +26,7 @@ AllAreMembers n gs fs = (f : Terms) → Contains fs f → IsMember n gs f
 -- the set is a Gröbner basis for its marking; 1 where its ideal contains each of the polynomials, and 0 where it doesn't
 pub record IsContainmentText (s : MarkedPolynomials) (fs : List Terms) (text : List ℕ) : Type 0 where
   pub basis : IsMarkedGroebnerBasis s.variables s.items
-  pub verdict : IsVerdict (AllAreMembers s.variables (polys s.items) fs) text
+  pub verdict : IsVerdictText (AllAreMembers s.variables (polys s.items) fs) text
 
 -- ---- why it isn't written
 

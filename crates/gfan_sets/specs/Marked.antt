@@ -9,7 +9,7 @@ use Rattle.gf_items.specs.Sources.{ring_marked_set}
 use Rattle.gf_frame.specs.Loading.{Origin}
 use Rattle.gf_frame.specs.Readings.{of_one}
 use Rattle.gf_frame.specs.Commands.{Writing, Command}
-use Rattle.gfan_common.specs.Printing.{IsVerdict}
+use Rattle.gfan_common.specs.Printing.{IsVerdictText}
 use Rattle.gfan_common.specs.CheckedSets.{of_check}
 
 -- 1 where the set is a Gröbner basis of the ideal that it generates, for its marking
@@ -19,7 +19,7 @@ marked_command = record {
   reads = Origin.the_input ∷ [];
   reading = of_one ring_marked_set;
   checks = λ v. [];
-  IsAnswer = λ v text. IsVerdict (IsMarkedGroebnerBasis v.1.variables v.1.items) text;
+  IsAnswer = λ v text. IsVerdictText (IsMarkedGroebnerBasis v.1.variables v.1.items) text;
   IsCause = λ v r. (e : CheckError) × (r ≡ of_check e) × IsTestRefusal v.1 e;
   IsWithin = λ v. (e : CheckError) → IsTestRefusal v.1 e → e ≡ check_errors.Memory;
   writing = Writing.at_end;

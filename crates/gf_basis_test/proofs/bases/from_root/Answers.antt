@@ -7,7 +7,7 @@ use Rattle.gf_tree.specs.Parents.{IsRootFor}
 use Rattle.gf_tree.specs.Walks.{walk_at}
 use Rattle.gf_tree.specs.Steps.{IsAdvance, IsStepTo, IsEnd}
 use Rattle.gf_basis_test.specs.Verdicts.{HasBasisOutcome, maximal_rows}
-use Rattle.gf_basis_test.specs.Refusals.{AreBasesRefused, IsRefusedAtBasis}
+use Rattle.gf_basis_test.specs.Refusals.{AreBasesRefused, IsRefusedWithBasis}
 use Rattle.gf_basis_test.proofs.WalkLaws.{PassedSoFar, passed_none, passed_more, step_variables, all_passed, one_failed, reached_refused, search_refused}
 use Rattle.gf_basis_test.proofs.bases.from_root.Goals as goal
 
@@ -45,7 +45,7 @@ returns-in_err-found-clause-err c =
     let so_far : PassedSoFar start.variables (maximal_rows c.args.fan.now) (walk_at c.args.root (all_positive start.variables) c.args.pairs) c.loop-walker.walker =
     subst (λ m. PassedSoFar m (maximal_rows c.args.fan.now) (walk_at c.args.root (all_positive start.variables) c.args.pairs) c.loop-walker.walker) top.basis.variables (subst (λ (k : Region). PassedSoFar c.args.root.variables (maximal_rows c.args.fan.now) (walk_at c.args.root k c.args.pairs) c.loop-walker.walker) h.region_is c.loop-walker.invariant) in
     let r = reached_refused fs start c.args.root c.args.pairs (maximal_rows c.args.fan.now) c.loop-walker.walker c.advance.new.self c.in-Some.basis h.node top so_far s in
-    AreBasesRefused.at_basis r.0 c.in-Some.basis _ r.1 r.2 (subst (λ m. IsRefusedAtBasis m (maximal_rows c.args.fan.now) c.in-Some.basis.items c.args.pairs c.in_err-found.field-0.0) (n ∙ top.basis.variables) c.in_err-found.ensures.err) refl)
+    AreBasesRefused.at_basis r.0 c.in-Some.basis _ r.1 r.2 (subst (λ m. IsRefusedWithBasis m (maximal_rows c.args.fan.now) c.in-Some.basis.items c.args.pairs c.in_err-found.field-0.0) (n ∙ top.basis.variables) c.in_err-found.ensures.err) refl)
 
 pub returns-in-Some-found-clause-ok : goal.returns-in-Some-found-clause-ok
 returns-in-Some-found-clause-ok c = λ fs start h.

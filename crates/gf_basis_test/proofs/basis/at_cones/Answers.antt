@@ -8,7 +8,7 @@ use Rattle.gf_initial_monomials.specs.Outcomes.{HasOutcome}
 use Rattle.gf_initial_monomials.specs.Refusals.{IsConeRefusal}
 use Rattle.gf_initial_monomials.proofs.OutcomeLaws.{pass_none, pass_more, pass_all, reached}
 use Rattle.gf_basis_test.specs.Verdicts.{maximal_rows}
-use Rattle.gf_basis_test.specs.Refusals.{IsRefusedAtBasis}
+use Rattle.gf_basis_test.specs.Refusals.{IsRefusedWithBasis}
 use Rattle.gf_basis_test.proofs.PlaceLaws.{rows_long}
 use Rattle.gf_basis_test.proofs.basis.at_cones.Goals as goal
 
@@ -34,8 +34,8 @@ returns-in_err-found-clause-err c =
     let p = err_from_is_err_and c.from_residual.result c.from_residual.ensures.1 in
     let r = reached (λ (d : Rows). HasOutcome c.args.basis.now.variables c.args.basis.now.items c.args.cone.now.normals d None) (maximal_rows c.args.fan.now) c.places.i (rows_of c.maximal_cone-maximal.result.now) (omega (arith, l, long)) c.maximal_cone-maximal.ensures.value c.places.invariant.0 in
     let h = subst (λ (z : List (List ℤ)). IsConeRefusal c.args.basis.now.variables c.args.basis.now.items z (rows_of c.maximal_cone-maximal.result.now) c.args.pairs c.in_err-found.field-0.0) c.normals.ensures.value c.in_err-found.ensures.err in
-    rw p.1 (subst (IsRefusedAtBasis c.args.basis.now.variables (maximal_rows c.args.fan.now) c.args.basis.now.items c.args.pairs) (sym p.2)
-    (IsRefusedAtBasis.at_cone c.args.cone.now.normals (rows_of c.maximal_cone-maximal.result.now) c.requires.cone.normals r h))
+    rw p.1 (subst (IsRefusedWithBasis c.args.basis.now.variables (maximal_rows c.args.fan.now) c.args.basis.now.items c.args.pairs) (sym p.2)
+    (IsRefusedWithBasis.at_cone c.args.cone.now.normals (rows_of c.maximal_cone-maximal.result.now) c.requires.cone.normals r h))
 
 pub returns-in-Some-clause-ok : goal.returns-in-Some-clause-ok
 returns-in-Some-clause-ok c =

@@ -1,8 +1,9 @@
 use Rattle.std.proofs.Common.{◌≡◌, get_or, subst}
 use Rattle.gf_rays.specs.Cones.{rows_of}
 use Rattle.gf_fan.specs.declared.cones.FanCone.{FanCone}
+use Rattle.gf_refine.proofs.MeetLaws.{place_inside}
 use Rattle.gf_basis_test.specs.Verdicts.{maximal_rows}
-use Rattle.gf_basis_test.proofs.PlaceLaws.{place_inside, place_is, place_ambient}
+use Rattle.gf_basis_test.proofs.PlaceLaws.{place_is, place_ambient}
 use Rattle.gf_basis_test.proofs.basis.maximal_cone.Goals as goal
 
 pub bounds-cones-place : goal.bounds-cones-place

@@ -13,7 +13,7 @@ use Rattle.gf_facets.specs.Regions.{Region, all_positive}
 use Rattle.gf_tree.specs.Ideals.{ideal_by}
 use Rattle.gf_tree.proofs.IdealLaws.{start_of_ideal}
 use Rattle.gf_basis_test.specs.declared.error.BasisTestError.TheVariants.{Prevariety}
-use Rattle.gf_basis_test.specs.Refusals.{IsTestRefusal}
+use Rattle.gf_basis_test.specs.Refusals.{IsVerdictRefusal}
 use Rattle.gf_basis_test.proofs.EndLaws.{first_of, refused_at_bases}
 use Rattle.gf_basis_test.proofs.test.tested.Goals as goal
 
@@ -26,7 +26,7 @@ basis-requires-clause-suited g c = subst (λ (o : MonomialOrder). IsSuited o c.a
 pub returns-in_err-fan-clause-err : goal.returns-in_err-fan-clause-err
 returns-in_err-fan-clause-err g c =
     let p = err_from_is_err_and c.from_residual.result c.from_residual.ensures.1 in
-    rw (p.1, p.2) (IsTestRefusal.at_prevariety _ c.in_err-fan.ensures.err refl)
+    rw (p.1, p.2) (IsVerdictRefusal.at_prevariety _ c.in_err-fan.ensures.err refl)
 
 pub returns-in_err-fan-clause-zero : goal.returns-in_err-fan-clause-zero
 returns-in_err-fan-clause-zero g c = λ i z.
@@ -44,7 +44,7 @@ returns-in_err-start-clause-zero g c = λ i z. let e = c.in_ok-fan.ensures.zero_
 pub returns-in_err-start-clause-err : goal.returns-in_err-start-clause-err
 returns-in_err-start-clause-err g c =
     let p = err_from_is_err_and c.from_residual-in_err-start.result c.from_residual-in_err-start.ensures.1 in
-    rw (p.1, p.2) (IsTestRefusal.at_root _ (subst (λ (o : MonomialOrder). IsBasisRefusal o c.args.n c.args.set.now c.args.pairs c.in_err-start.field-0.0) c.deglex.ensures c.in_err-start.ensures.err) refl)
+    rw (p.1, p.2) (IsVerdictRefusal.at_root _ (subst (λ (o : MonomialOrder). IsBasisRefusal o c.args.n c.args.set.now c.args.pairs c.in_err-start.field-0.0) c.deglex.ensures c.in_err-start.ensures.err) refl)
 
 pub at_bases-requires-clause-room : goal.at_bases-requires-clause-room
 at_bases-requires-clause-room g c = subst (λ m. m < ROOM) (sym c.in_ok-start.ensures.ok.variables) c.requires.room

@@ -1,12 +1,12 @@
 use Rattle.std.proofs.Common.{ℕ, get_or, IsTrue, Contains, ◌⊎◌, List, rules}
 use Rattle.std.proofs.lemmas.List.{get_or_default}
 use Rattle.gf_fan.specs.declared.signs.Sign.{Sign}
-use Rattle.gf_fan.specs.Signs.{IsCutAt}
+use Rattle.gf_fan.specs.Signs.{IsExcludedAt}
 use Rattle.gf_fan.proofs.SettledLaws.{all_more, all_done}
 use Rattle.gf_fan.proofs.apart.are_settled_at.Goals as goal
 
 abbrev Settled : List (List Sign) → List ℕ → List (List Sign) → List ℕ → List ℕ → ℕ → Type 0
-Settled rows places more spots others i = Contains others i ⊎ IsCutAt rows places i ⊎ IsCutAt more spots i
+Settled rows places more spots others i = Contains others i ⊎ IsExcludedAt rows places i ⊎ IsExcludedAt more spots i
 
 pub loop-i-preserved : goal.loop-i-preserved
 loop-i-preserved c =

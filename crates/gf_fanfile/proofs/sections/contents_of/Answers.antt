@@ -3,7 +3,7 @@ use Rattle.std.proofs.Common.{rules, ◌≡◌, ◌∙◌, ◌++◌, ◌∷◌, 
 use Rattle.gf_text.specs.RingText.{has}
 use Rattle.gf_text.specs.Tokens.{lexeme}
 use Rattle.gf_fanfile.specs.Lines.{content_from}
-use Rattle.gf_fanfile.specs.FanText.{content_read, kind_in, fan_table, table_of, text_read}
+use Rattle.gf_fanfile.specs.FanText.{content_read, kind_in, fan_table, told_table, text_read}
 use Rattle.gf_fanfile.proofs.ReadingLaws.{refused_on}
 use Rattle.gf_fanfile.proofs.FilesLaws.{dimension_within}
 use Rattle.gf_fanfile.proofs.SectionsLaws.{IsReadUpTo, begun, one_more, faulty, finished}
@@ -44,6 +44,6 @@ returns-in_err-contents-clause-says c =
     let fresh = not_there (has l.names x.text) c.in_ok-new.new c.in_ok-new.ensures.new c.if-not-new.false in
     let p = err_from_is_err_and c.from_residual-in_err-contents.result c.from_residual-in_err-contents.ensures.1 in
     rw (p.1, p.2) (
-    refused_on c.in_err-contents.field-0.0 (content_read (length source) (kind_in (fan_table l.contents.version) x.text) (content_from source c.in-Some.next)) (text_read (table_of source) source)
+    refused_on c.in_err-contents.field-0.0 (content_read (length source) (kind_in (fan_table l.contents.version) x.text) (content_from source c.in-Some.next)) (text_read (told_table source) source)
     (λ d is. faulty source l.at l.names l.contents l.invariant.read x c.in-Some.next c.in-Some.ensures.section fresh d is) c.in_err-contents.ensures
     )

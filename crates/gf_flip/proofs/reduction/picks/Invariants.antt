@@ -1,5 +1,5 @@
-use Rattle.gf_flip.specs.Settling.{ArePicked}
+use Rattle.gf_flip.specs.Settling.{ArePickFlags}
 use Rattle.gf_flip.proofs.reduction.picks.Given as goal
 
 abbrev pub invariant-members : goal.invariant-members
-invariant-members l = ArePicked l.items l.flags.items l.i
+invariant-members l = ArePickFlags l.items l.flags.items l.i

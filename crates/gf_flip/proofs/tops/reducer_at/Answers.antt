@@ -1,7 +1,8 @@
 use Rattle.std.proofs.Common.{length}
 use Rattle.gf_division.specs.Dividends.{split_of}
 use Rattle.gf_division.proofs.DividendLaws.{first_length}
-use Rattle.gf_flip.proofs.TopLaws.{sound_same, reducible_there}
+use Rattle.gf_division.proofs.RuleLaws.{sound_same}
+use Rattle.gf_flip.proofs.TopLaws.{reducible_there}
 use Rattle.gf_flip.proofs.tops.reducer_at.Goals as goal
 
 pub reducer_on_line-requires-clause-same_length : goal.reducer_on_line-requires-clause-same_length

@@ -1,7 +1,8 @@
 use Rattle.std.proofs.Common.{length, refl}
 use Rattle.gf_division.specs.Dividends.{split_of}
 use Rattle.gf_division.proofs.DividendLaws.{shorter}
-use Rattle.gf_flip.proofs.TopLaws.{sound_same, first_width, seeking_more}
+use Rattle.gf_division.proofs.RuleLaws.{sound_same}
+use Rattle.gf_flip.proofs.TopLaws.{first_width, seeking_more}
 use Rattle.gf_flip.proofs.tops.seek_last.Goals as goal
 
 pub terms-init : goal.terms-init

@@ -3,7 +3,7 @@ use Rattle.std.proofs.lemmas.Result.{err_from_is_err_and, IfOk-weaker, IfErr-wea
 use Rattle.gf_gordan.specs.Alternative.{AreRows}
 use Rattle.gf_rays.specs.Cones.{rows_of}
 use Rattle.gf_rays.specs.declared.faces.Face.{Face}
-use Rattle.gf_initial_monomials.specs.Outcomes.{IsCutBy, IsOutcome, PassesAt, FailsAt}
+use Rattle.gf_initial_monomials.specs.Outcomes.{IsCutBy, IsFirstThatFails, PassesAt, FailsAt}
 use Rattle.gf_initial_monomials.specs.Refusals.{IsConeRefusal, IsFaceRefusal}
 use Rattle.gf_initial_monomials.proofs.FaceLaws.{rays_refused}
 use Rattle.gf_initial_monomials.proofs.cones.first_failing.Goals as goal
@@ -27,7 +27,7 @@ returns-clause-ok c =
       is_cut = is;
       faces = c.in_ok-faces.faces.items;
       are_faces = c.in_ok-faces.ensures;
-      outcome = subst (λ (z : List Face). IsOutcome (PassesAt c.args.basis.now.items c.in_ok-cut.cut) (FailsAt c.args.basis.now.items c.in_ok-cut.cut) z v) c.deref.ensures.value o;
+      outcome = subst (λ (z : List Face). IsFirstThatFails (PassesAt c.args.basis.now.items c.in_ok-cut.cut) (FailsAt c.args.basis.now.items c.in_ok-cut.cut) z v) c.deref.ensures.value o;
     }) c.at_faces.ensures.ok
 
 pub returns-clause-err : goal.returns-clause-err

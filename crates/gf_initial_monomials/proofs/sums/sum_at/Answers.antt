@@ -6,7 +6,8 @@ use Rattle.gf_vec.specs.Vector.{zeros}
 use Rattle.gf_vec.specs.Steps.{sum_steps, IsFirstWide}
 use Rattle.gf_fans.specs.FaceLists.{numbered}
 use Rattle.gf_rays.specs.Sums.{adding_steps}
-use Rattle.gf_initial_monomials.proofs.SumLaws.{sum_none, sum_more, sum_all, sum_wide, ray_long, IfWide-weaker}
+use Rattle.gf_rays.proofs.SumLaws.{IfWide-weaker}
+use Rattle.gf_initial_monomials.proofs.SumLaws.{sum_none, sum_more, sum_all, sum_wide, ray_long}
 use Rattle.gf_initial_monomials.proofs.sums.sum_at.Goals as goal
 
 pub loop-i-init : goal.loop-i-init

@@ -3,7 +3,7 @@ use Rattle.std.proofs.Common.{◌↔◌, sym, subst, List}
 use Rattle.gf_poly.specs.Polynomial.{Terms}
 use Rattle.gf_saturation.specs.Saturations.{HasOneTermMember}
 use Rattle.gf_saturate.specs.Saturating.{IsSaturateRefusal}
-use Rattle.gf_initial_monomials.specs.Outcomes.{IsTold}
+use Rattle.gf_initial_monomials.specs.Outcomes.{TellsMonomial}
 use Rattle.gf_initial_monomials.proofs.FaceLaws.{told_of}
 use Rattle.gf_initial_monomials.proofs.vectors.told_at.Goals as goal
 
@@ -15,12 +15,12 @@ returns-then-has-clause-ok c = record {
 }
 
 pub returns-in-Ok-true-clause-ok : goal.returns-in-Ok-true-clause-ok
-returns-in-Ok-true-clause-ok c = subst (IsTold c.args.basis.now.variables c.args.basis.now.items c.args.v.now) c.in-Ok-true.field-0-test
+returns-in-Ok-true-clause-ok c = subst (TellsMonomial c.args.basis.now.variables c.args.basis.now.items c.args.v.now) c.in-Ok-true.field-0-test
     (told_of c.args.basis.now.variables c.args.basis.now.items c.args.v.now c.in_ok-forms.forms.items c.in-Ok-true.field-0 c.in_ok-forms.ensures.forms
     (subst (λ m. IsTrue c.in-Ok-true.field-0 ↔ HasOneTermMember m c.in_ok-forms.forms.items) c.variables.ensures (subst (λ (z : List Terms). IsTrue c.in-Ok-true.field-0 ↔ HasOneTermMember c.variables.result z) c.deref-2.ensures.value c.in-Ok-true.ensures.ok)))
 
 pub returns-in_ok-keep-in-Ok-false-clause-ok : goal.returns-in_ok-keep-in-Ok-false-clause-ok
-returns-in_ok-keep-in-Ok-false-clause-ok c = subst (IsTold c.args.basis.now.variables c.args.basis.now.items c.args.v.now) c.in-Ok-false.field-0-test
+returns-in_ok-keep-in-Ok-false-clause-ok c = subst (TellsMonomial c.args.basis.now.variables c.args.basis.now.items c.args.v.now) c.in-Ok-false.field-0-test
     (told_of c.args.basis.now.variables c.args.basis.now.items c.args.v.now c.in_ok-forms.forms.items c.in-Ok-false.field-0 c.in_ok-forms.ensures.forms
     (subst (λ m. IsTrue c.in-Ok-false.field-0 ↔ HasOneTermMember m c.in_ok-forms.forms.items) c.variables.ensures (subst (λ (z : List Terms). IsTrue c.in-Ok-false.field-0 ↔ HasOneTermMember c.variables.result z) c.deref-2.ensures.value c.in-Ok-false.ensures.ok)))
 

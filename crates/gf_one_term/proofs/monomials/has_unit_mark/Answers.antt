@@ -2,16 +2,16 @@ use Rattle.std.proofs.Common.{rules, ◌≡◌, arith, sym, subst, ap, true, []}
 use Rattle.gf_exponents.specs.Exponents.{degree, same}
 use Rattle.gf_exponents.proofs.WeightLaws.{degree-same}
 use Rattle.gf_poly.specs.Marking.{MarkedPolynomial}
+use Rattle.gf_ideal.proofs.RingLaws.{degree-none}
 use Rattle.gf_one_term.specs.OneTerm.{HasUnitMark}
 use Rattle.gf_one_term.proofs.SearchLaws.{found_here, not_yet, nowhere}
-use Rattle.gf_one_term.proofs.OneTermLaws.{unit_mark}
 use Rattle.gf_one_term.proofs.monomials.has_unit_mark.Goals as goal
 
 pub returns-then-degree-eq0 : goal.returns-then-degree-eq0
 returns-then-degree-eq0 c =
     let b : MarkedPolynomial = c.index-items-i.result in
     let z : degree b.head ≡ 0 = omega (arith, c.degree.ensures, ap degree c.head.ensures.value, c.if-degree-eq0.true) in
-    (λ t. subst HasUnitMark c.items-items.ensures.value (found_here (λ (d : MarkedPolynomial). same d.head [] ≡ true) c.items-items.result.now c.members.i b c.members-test.true c.index-items-i.is (unit_mark b.head z)), λ h. search rules)
+    (λ t. subst HasUnitMark c.items-items.ensures.value (found_here (λ (d : MarkedPolynomial). same d.head [] ≡ true) c.items-items.result.now c.members.i b c.members-test.true c.index-items-i.is (degree-none b.head z)), λ h. search rules)
 
 pub members-preserved : goal.members-preserved
 members-preserved c =

@@ -1,4 +1,3 @@
-use Rattle.std.proofs.Common.{IsTrue, rules}
 use Rattle.gf_rays.proofs.FlagFaceLaws.{faces_inside, faces_further}
 use Rattle.gf_rays.proofs.face_lists.narrow_by.Goals as goal
 

@@ -1,7 +1,6 @@
-use Rattle.std.proofs.Common.{◌≡◌, ℕ, ◌+◌, List, [], ◌∷◌, pos, FitsSigned, get_or, length, length-append, sym, ap, ◌∙◌, subst, arith, rules}
+use Rattle.std.proofs.Common.{◌≡◌, ◌+◌, [], ◌∷◌, pos, FitsSigned, get_or, length, length-append, sym, ap, ◌∙◌, subst, arith, rules}
 use Rattle.std.specs.Int.{w128}
 use Rattle.std.proofs.lemmas.Int.{to_z-of_z}
-use Rattle.gf_rays.specs.declared.ray.Ray.{Ray}
 use Rattle.gf_rays.proofs.SplitLoops.{values_long}
 use Rattle.gf_rays.proofs.KeptLaws.{FlaggedSoFar, flagged_none, flagged_more, flagged_done}
 use Rattle.gf_rays.proofs.split.flagged.Goals as goal

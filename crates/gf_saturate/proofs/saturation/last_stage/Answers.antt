@@ -3,7 +3,7 @@ use Rattle.gf_exponents.specs.Exponents.{Exponents, entry}
 use Rattle.gf_exponents.proofs.ExponentsLaws.{entry-get_or}
 use Rattle.gf_poly.specs.Polynomial.{Terms}
 use Rattle.gf_buchberger.specs.Jobs.{HaveRingVariables}
-use Rattle.gf_saturate.specs.Saturating.{IsStep, IsStepRefusal, IsSaturateRefusal}
+use Rattle.gf_saturate.specs.Saturating.{IsVariableStep, IsVariableStepRefusal, IsSaturateRefusal}
 use Rattle.gf_saturate.proofs.StageLaws.{way_next}
 use Rattle.gf_saturate.proofs.saturation.last_stage.Goals as goal
 
@@ -20,11 +20,11 @@ step-requires-clause-variables c = subst (HaveRingVariables c.args.n) (sym c.der
 pub returns-in-Err-clause-err : goal.returns-in-Err-clause-err
 returns-in-Err-clause-err c =
     IsSaturateRefusal.at_step c.variables.k c.variables.stage.polys.items c.variables-test.true c.variables.invariant.0
-    (subst (λ (fs : List Terms). IsStepRefusal c.args.n c.variables.k fs c.args.pairs c.in-Err.refusal) c.deref.ensures.value c.in-Err.ensures.err)
+    (subst (λ (fs : List Terms). IsVariableStepRefusal c.args.n c.variables.k fs c.args.pairs c.in-Err.refusal) c.deref.ensures.value c.in-Err.ensures.err)
 
 pub variables-preserved : goal.variables-preserved
 variables-preserved c = (
   way_next c.args.n c.args.set.now c.variables.k c.variables.stage.polys.items c.in-Ok-step.next.polys.items c.variables.invariant.0
-      (inl (subst (λ (fs : List Terms). IsStep c.args.n c.variables.k fs c.in-Ok-step.next.polys.items) c.deref.ensures.value c.in-Ok-step.ensures.step)),
+      (inl (subst (λ (fs : List Terms). IsVariableStep c.args.n c.variables.k fs c.in-Ok-step.next.polys.items) c.deref.ensures.value c.in-Ok-step.ensures.step)),
   c.in-Ok-step.ensures.stage,
 )

@@ -6,7 +6,7 @@ use Rattle.gf_buchberger.specs.Jobs.{HaveRingVariables, IsSuited}
 use Rattle.gf_buchberger.proofs.JobLaws.{orders_that_suit}
 use Rattle.gf_buchberger.specs.Bases.{IsArrangedBasis, IsBasisRefusal}
 use Rattle.gf_saturation.specs.Saturations.{last_weight}
-use Rattle.gf_saturate.specs.Widening.{extended_list, variable}
+use Rattle.gf_saturate.specs.Widening.{extended_list, variable_at}
 use Rattle.gf_saturate.specs.Saturating.{step_order, step_list}
 use Rattle.gf_saturate.proofs.WideningLaws.{length-variable}
 use Rattle.gf_saturate.proofs.StepLaws.{extended-ring, length-last, if_ok, if_err, arranged-as, refusal-as}
@@ -18,7 +18,7 @@ extended-requires-clause-by c = ap length c.variable-by.ensures ∙ length-varia
 pub basis-requires-clause-variables : goal.basis-requires-clause-variables
 basis-requires-clause-variables c =
     let is : c.deref.result.now ≡ step_list c.args.n c.args.k c.args.set.now = c.deref.ensures.value ∙ c.in-Ok.ensures ∙ ap (λ (u : Exponents). extended_list u c.args.set.now) c.variable-by.ensures in
-    subst (HaveRingVariables (c.args.n + 1)) (sym is) (extended-ring c.args.n (variable c.args.n c.args.k) c.args.set.now (length-variable c.args.n c.args.k c.requires.inside) c.requires.variables)
+    subst (HaveRingVariables (c.args.n + 1)) (sym is) (extended-ring c.args.n (variable_at c.args.n c.args.k) c.args.set.now (length-variable c.args.n c.args.k c.requires.inside) c.requires.variables)
 
 pub basis-requires-clause-entries : goal.basis-requires-clause-entries
 basis-requires-clause-entries c = subst (HasEntries (c.args.n + 1)) (sym c.in-Ok-last_first.ensures) (length-last c.args.n)
@@ -26,7 +26,7 @@ basis-requires-clause-entries c = subst (HasEntries (c.args.n + 1)) (sym c.in-Ok
 pub basis-requires-clause-suited : goal.basis-requires-clause-suited
 basis-requires-clause-suited c =
     let is : c.deref.result.now ≡ step_list c.args.n c.args.k c.args.set.now = c.deref.ensures.value ∙ c.in-Ok.ensures ∙ ap (λ (u : Exponents). extended_list u c.args.set.now) c.variable-by.ensures in
-    let v : HaveRingVariables (c.args.n + 1) c.deref.result.now = subst (HaveRingVariables (c.args.n + 1)) (sym is) (extended-ring c.args.n (variable c.args.n c.args.k) c.args.set.now (length-variable c.args.n c.args.k c.requires.inside) c.requires.variables) in
+    let v : HaveRingVariables (c.args.n + 1) c.deref.result.now = subst (HaveRingVariables (c.args.n + 1)) (sym is) (extended-ring c.args.n (variable_at c.args.n c.args.k) c.args.set.now (length-variable c.args.n c.args.k c.requires.inside) c.requires.variables) in
     subst (λ (o : MonomialOrder). IsSuited o (c.args.n + 1) c.deref.result.now) (sym c.in-Ok-last_first.ensures) (orders_that_suit.weighted (c.args.n + 1) (last_weight c.args.n) c.deref.result.now v)
 
 pub returns-clause-ok : goal.returns-clause-ok

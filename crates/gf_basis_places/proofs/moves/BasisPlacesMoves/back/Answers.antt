@@ -6,7 +6,7 @@ use Rattle.gf_facets.specs.Regions.{all_positive}
 use Rattle.gf_flip.specs.Operations.{IsFlipRefusal}
 use Rattle.gf_back.specs.Back.{IsCrossed}
 use Rattle.gf_tree.specs.Refusals.{IsRefusedAtBasis}
-use Rattle.gf_basis_places.specs.BasisRules.{IsPlace}
+use Rattle.gf_basis_places.specs.BasisRules.{IsBasisPlace}
 use Rattle.gf_basis_places.proofs.StepLaws.{was_crossed, came_back, before_place, step_back, back_here, beside}
 use Rattle.gf_basis_places.proofs.moves.BasisPlacesMoves.back.Goals as goal
 
@@ -41,7 +41,7 @@ returns-clause-place c =
     let t = c.in_ok-before.before in
     let back = came_back j.0 here t a j.1 (λ bs h. c.in_ok-before.ensures.value bs (subst (λ (z : MarkedPolynomials). IsCrossed z.variables bs a z.items) (sym c.basis.ensures) h))
     (c.in_ok-before.ensures.variables ∙ ap (λ (z : MarkedPolynomials). z.variables) c.basis.ensures) in
-    IfOk-weaker c.new.result (λ p. p ≡ t) _ (λ p e. subst (IsPlace _) (sym (e ∙ back)) (before_place _ j.0 here a c.requires.place j.1)) c.new.ensures.ok
+    IfOk-weaker c.new.result (λ p. p ≡ t) _ (λ p e. subst (IsBasisPlace _) (sym (e ∙ back)) (before_place _ j.0 here a c.requires.place j.1)) c.new.ensures.ok
 
 pub returns-clause-err : goal.returns-clause-err
 returns-clause-err c =

@@ -4,7 +4,7 @@ use Rattle.std.proofs.lemmas.Result.{err_from_is_err_and}
 use Rattle.gf_poly.specs.Marking.{MarkedPolynomials}
 use Rattle.gf_flip.specs.Crossings.{IsNeighbour}
 use Rattle.gf_flip.specs.Operations.{IsFlipRefusal}
-use Rattle.gf_basis_places.specs.BasisRules.{IsStep, IsRefusedAt}
+use Rattle.gf_basis_places.specs.BasisRules.{IsCrossingStep, IsPlaceRefusal}
 use Rattle.gf_basis_places.proofs.StepLaws.{step_across, step_place, flip_here, beside}
 use Rattle.gf_basis_places.proofs.moves.BasisPlacesMoves.cross.Goals as goal
 
@@ -27,10 +27,10 @@ returns-in_err-there-clause-err c =
     let w = c.in_ok-across.across in
     let l : c.args.number < length c.crossable-normals.result.now = omega (arith, c.if-number-count_of.false, c.count_of.ensures) in
     let flip = c.crossable-normals.ensures.only a (c.args.number, l, sym c.index-normals-number.is) in
-    let step : IsStep v a w = step_across v w a c.requires.node flip (subst (λ (z : MarkedPolynomials). IsNeighbour z.variables z.items a w.items) c.basis.ensures c.in_ok-across.ensures.value)
+    let step : IsCrossingStep v a w = step_across v w a c.requires.node flip (subst (λ (z : MarkedPolynomials). IsNeighbour z.variables z.items a w.items) c.basis.ensures c.in_ok-across.ensures.value)
     (c.in_ok-across.ensures.variables ∙ ap (λ (z : MarkedPolynomials). z.variables) c.basis.ensures) in
     let p = err_from_is_err_and c.from_residual-in_err-there.result c.from_residual-in_err-there.ensures.1 in
-    rw p.1 (subst (IsRefusedAt pairs v) (sym p.2) (beside pairs v w a c.in_err-there.field-0.0 step (c.in_err-there.ensures.err pairs)))
+    rw p.1 (subst (IsPlaceRefusal pairs v) (sym p.2) (beside pairs v w a c.in_err-there.field-0.0 step (c.in_err-there.ensures.err pairs)))
 
 pub returns-clause-ok : goal.returns-clause-ok
 returns-clause-ok c =
@@ -42,13 +42,13 @@ returns-clause-ok c =
     let l : n < length ns = omega (arith, c.if-number-count_of.false, c.count_of.ensures) in
     let least : n < 18446744073709551615 = omega (arith, l, c.count_of.ensures, c.count_of.type_inv) in
     let flip = c.crossable-normals.ensures.only a (n, l, sym c.index-normals-number.is) in
-    let step : IsStep v a w = step_across v w a c.requires.node flip (subst (λ (z : MarkedPolynomials). IsNeighbour z.variables z.items a w.items) c.basis.ensures c.in_ok-across.ensures.value)
+    let step : IsCrossingStep v a w = step_across v w a c.requires.node flip (subst (λ (z : MarkedPolynomials). IsNeighbour z.variables z.items a w.items) c.basis.ensures c.in_ok-across.ensures.value)
     (c.in_ok-across.ensures.variables ∙ ap (λ (z : MarkedPolynomials). z.variables) c.basis.ensures) in
     let same = c.in_ok-there.ensures.ok in
-    let there : IsStep v a c.in_ok-there.there = subst (IsStep v a) (sym same) step in
+    let there : IsCrossingStep v a c.in_ok-there.there = subst (IsCrossingStep v a) (sym same) step in
     let at : a ≡ get_or ns n [] = c.index-normals-number.is ∙ get_or_default ns n a [] l in (
       least,
-      record { normals = ns; crossable = c.crossable-normals.ensures; inside = l; step = subst (λ (z : List ℤ). IsStep v z c.in_ok-there.there) at there },
-      subst (λ (z : List ℤ). IsStep v z c.in_ok-there.there) (sym c.in_ok-step.ensures) there,
+      record { normals = ns; crossable = c.crossable-normals.ensures; inside = l; step = subst (λ (z : List ℤ). IsCrossingStep v z c.in_ok-there.there) at there },
+      subst (λ (z : List ℤ). IsCrossingStep v z c.in_ok-there.there) (sym c.in_ok-step.ensures) there,
       step_place _ v c.in_ok-there.there a c.requires there,
     )

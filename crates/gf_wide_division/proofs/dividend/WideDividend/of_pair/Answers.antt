@@ -1,6 +1,5 @@
-use Rattle.std.proofs.Common.{sym, ◌∙◌, subst, length}
+use Rattle.std.proofs.Common.{sym, ◌∙◌, length}
 use Rattle.gf_frac.proofs.FractionLaws.{zero-not-one}
-use Rattle.gf_poly.specs.Polynomial.{IsDescending}
 use Rattle.gf_division.proofs.SubtractionLaws.{neg-nonzero}
 use Rattle.gf_division.proofs.SPolynomialLaws.{multiple_length, pair_facts, left_variables, right_variables}
 use Rattle.gf_wide_division.specs.Dividends.{dividend_of}
