@@ -331,3 +331,150 @@ fn second_polynomial_inhomogeneous(rt: HostRuntime) -> Result<(), Fail> {
     assert!(rt; refusal.second.exponents() == [0, 1, 0].as_slice());
     Ok(())
 }
+
+/// The basis of the ideal of these polynomials by deglex, in wide numbers on the way.
+fn wide_basis_of(
+    alloc: Global,
+    rows: &[&[(i128, [u32; 3])]],
+) -> Result<Result<MarkedSet, BasisError>, Fail> {
+    let set = polys(alloc, rows)?;
+    let order = by_deglex();
+    Ok(wide_basis(alloc, 3, &set, &order, 1000))
+}
+
+/// 2^70
+const W: i128 = 1 << 70;
+
+/// by hand: of the third what is left is -(2W^2 + W)c
+#[test]
+fn wide_generator(rt: HostRuntime) -> Result<(), Fail> {
+    let alloc = rt.alloc();
+    let first = [(1, [0, 1, 1]), (W, [0, 0, 1])];
+    let second = [(1, [1, 0, 1]), (W, [0, 0, 1])];
+    let third = [(W, [0, 1, 1]), (W + 1, [1, 0, 1])];
+    let rows: [&[(i128, [u32; 3])]; 3] = [&first, &second, &third];
+    assert!(rt;
+        refuses_product(
+            &basis_of(alloc, &rows, &by_deglex(), 1000)?,
+            W.unsigned_abs(),
+            W.unsigned_abs() + 1
+        )
+    );
+    let found = wide_basis_of(alloc, &rows)?.ok().ok_or("a basis")?;
+    assert!(rt; lists_members(&found, &[(0, &[(1, 1, [0, 0, 1])])]));
+    Ok(())
+}
+
+/// by hand: in the tail of the first W^2 - (W+1)(W-1) is left, which is 1; and M^6 less itself where the members are b + M and c + M and the
+/// powers are fifth ones, but M^6 is beyond 2^512, so that the product of M and M is told
+#[test]
+fn wide_tail(rt: HostRuntime) -> Result<(), Fail> {
+    let alloc = rt.alloc();
+    let first = [(1, [3, 0, 0]), (-W, [0, 2, 0]), (W + 1, [0, 0, 2])];
+    let second = [(1, [0, 2, 0]), (-W, [0, 0, 0])];
+    let third = [(1, [0, 0, 2]), (1 - W, [0, 0, 0])];
+    let rows: [&[(i128, [u32; 3])]; 3] = [&first, &second, &third];
+    assert!(rt;
+        matches!(
+            basis_of(alloc, &rows, &by_deglex(), 1000)?,
+            Err(BasisError::Overflow(_))
+        )
+    );
+    let found = wide_basis_of(alloc, &rows)?.ok().ok_or("a basis")?;
+    assert!(rt;
+        lists_members(
+            &found,
+            &[
+                (0, &[(1, 1, [0, 0, 2]), (1 - W, 1, [0, 0, 0])]),
+                (0, &[(1, 1, [0, 2, 0]), (-W, 1, [0, 0, 0])]),
+                (0, &[(1, 1, [3, 0, 0]), (-1, 1, [0, 0, 0])]),
+            ]
+        )
+    );
+    let first = [(1, [6, 0, 0]), (M, [0, 5, 0]), (-M, [0, 0, 5])];
+    let second = [(1, [0, 1, 0]), (M, [0, 0, 0])];
+    let third = [(1, [0, 0, 1]), (M, [0, 0, 0])];
+    let found = wide_basis_of(alloc, &[&first, &second, &third])?;
+    assert!(rt; refuses_product(&found, M.unsigned_abs(), M.unsigned_abs()));
+    Ok(())
+}
+
+/// Katsura's system in six variables by deglex, as Singular 4.3 and Gfan 0.6.2 have it: 32 members, the last mark f^6, and in its member
+/// f^5 has -1933357/4282980 and f a numerator of 66 bits. The narrow run is refused.
+#[test]
+fn katsura_in_six_variables(rt: HostRuntime) -> Result<(), Fail> {
+    let alloc = rt.alloc();
+    let linear = [
+        (1, [1, 0, 0, 0, 0, 0]),
+        (2, [0, 1, 0, 0, 0, 0]),
+        (2, [0, 0, 1, 0, 0, 0]),
+        (2, [0, 0, 0, 1, 0, 0]),
+        (2, [0, 0, 0, 0, 1, 0]),
+        (2, [0, 0, 0, 0, 0, 1]),
+        (-1, [0, 0, 0, 0, 0, 0]),
+    ];
+    let squares = [
+        (1, [2, 0, 0, 0, 0, 0]),
+        (2, [0, 2, 0, 0, 0, 0]),
+        (2, [0, 0, 2, 0, 0, 0]),
+        (2, [0, 0, 0, 2, 0, 0]),
+        (2, [0, 0, 0, 0, 2, 0]),
+        (2, [0, 0, 0, 0, 0, 2]),
+        (-1, [1, 0, 0, 0, 0, 0]),
+    ];
+    let first = [
+        (2, [0, 0, 0, 0, 1, 1]),
+        (2, [0, 0, 0, 1, 1, 0]),
+        (2, [0, 0, 1, 1, 0, 0]),
+        (2, [0, 1, 1, 0, 0, 0]),
+        (2, [1, 1, 0, 0, 0, 0]),
+        (-1, [0, 1, 0, 0, 0, 0]),
+    ];
+    let second = [
+        (2, [0, 0, 0, 1, 0, 1]),
+        (2, [0, 0, 1, 0, 1, 0]),
+        (2, [0, 1, 0, 1, 0, 0]),
+        (2, [1, 0, 1, 0, 0, 0]),
+        (1, [0, 2, 0, 0, 0, 0]),
+        (-1, [0, 0, 1, 0, 0, 0]),
+    ];
+    let third = [
+        (2, [0, 0, 1, 0, 0, 1]),
+        (2, [0, 1, 0, 0, 1, 0]),
+        (2, [1, 0, 0, 1, 0, 0]),
+        (2, [0, 1, 1, 0, 0, 0]),
+        (-1, [0, 0, 0, 1, 0, 0]),
+    ];
+    let fourth = [
+        (2, [0, 1, 0, 0, 0, 1]),
+        (2, [1, 0, 0, 0, 1, 0]),
+        (2, [0, 1, 0, 1, 0, 0]),
+        (1, [0, 0, 2, 0, 0, 0]),
+        (-1, [0, 0, 0, 0, 1, 0]),
+    ];
+    let set = polys(
+        alloc,
+        &[&linear, &squares, &first, &second, &third, &fourth],
+    )?;
+    let order = Order::deglex();
+    assert!(rt;
+        matches!(
+            basis(alloc, 6, &set, &order, 1000),
+            Err(BasisError::Overflow(_))
+        )
+    );
+    let found = wide_basis(alloc, 6, &set, &order, 1000)
+        .ok()
+        .ok_or("a basis")?;
+    let items = found.items();
+    assert!(rt; items.len() == 32);
+    let last = items[0].poly().terms();
+    assert!(rt; last.len() == 32);
+    assert!(rt; last[0].mono.exponents() == [0, 0, 0, 0, 0, 6].as_slice());
+    assert!(rt; last[1].coef.numer() == -1_933_357);
+    assert!(rt; last[1].coef.denom() == 4_282_980);
+    let f = last[31].coef;
+    assert!(rt; f.numer() == -40_604_874_377_002_236_929);
+    assert!(rt; f.denom() == 26_977_857_479_542_569_600_000);
+    Ok(())
+}

@@ -7,7 +7,7 @@ ghost use Rattle.gf_buchberger.specs.Jobs.{HaveRingVariables, IsSuited};
 
 use crate::walk::walked;
 use crate::weights::weight_of;
-use gf_buchberger::{BasisError, basis, basis_by_second_run};
+use gf_buchberger::{BasisError, basis, basis_by_second_run, wide_basis};
 use gf_order::Order;
 use gf_poly::{MarkedSet, Poly};
 use std::alloc::Global;
@@ -31,6 +31,29 @@ fn by_walk(alloc: Global, n: u32, set: &[Poly], order: &Order, pairs: u64) -> Op
     walked(alloc, start, &weight, pairs)
 }
 
+/// The basis by a run that goes on in wide numbers, where the narrow ways were refused since numbers don't fit.
+fn by_wide_run(
+    alloc: Global,
+    n: u32,
+    set: &[Poly],
+    order: &Order,
+    pairs: u64,
+    refusal: &BasisError,
+) -> Option<MarkedSet>
+    requires variables { HaveRingVariables n set.now }
+    requires entries { HasEntries n order.now }
+    requires suited { IsSuited order.now n set.now }
+    ensures { IfSome result (IsArrangedBasis order.now n set.now) }
+{
+    if !refusal.is_of_numbers() {
+        return None;
+    }
+    match wide_basis(alloc, n, set, order, pairs) {
+        Ok(found) => Some(found),
+        Err(_) => None,
+    }
+}
+
 /// The basis by other ways than the first run, which was refused since numbers don't fit.
 fn by_other_ways(
     alloc: Global,
@@ -52,7 +75,13 @@ fn by_other_ways(
             return Ok(found);
         }
     }
-    basis_by_second_run(alloc, n, set, order, pairs, first)
+    match basis_by_second_run(alloc, n, set, order, pairs, first) {
+        Ok(found) => Ok(found),
+        Err(refusal) => match by_wide_run(alloc, n, set, order, pairs, &refusal) {
+            Some(found) => Ok(found),
+            None => Err(refusal),
+        },
+    }
 }
 
 /// The basis by the first way that ends.
@@ -85,8 +114,8 @@ fn by_ways(
 /// The first way is the run of `basis`. Where two of its numbers don't fit and the order is lex, or a weight before lex, the second one
 /// is a walk: it begins at the basis by degree, which a run of its own works out, and crosses one facet after another, each time
 /// the one with the least normal of those that are negative at the weight and that a flip may cross. Where no normal is left it has
-/// arrived. It takes at most `pairs` steps. The last way is `basis_by_second_run`. Each run and each flip may settle
-/// `pairs` pairs. The first way that ends is answered; else the refusal of the first run, or, where the budget of the
+/// arrived. It takes at most `pairs` steps. Then comes `basis_by_second_run`, and last, where numbers of that don't fit either, `wide_basis`.
+/// Each run and each flip may settle `pairs` pairs. The first way that ends is answered; else the refusal of the first run, or, where the budget of the
 /// second run was spent, that.
 ///
 /// The conditions are those of `basis`.

@@ -14,6 +14,7 @@ use crate::limits::see_members;
 use crate::tails::reduced_tails;
 use crate::tops::top_lifts;
 use crate::turns::{Task, basis_for};
+use crate::wide::wide_crossed;
 use gf_buchberger::BasisError;
 use gf_division::autoreduce;
 use gf_order::Order;
@@ -81,6 +82,29 @@ fn crossed(
     autoreduce(alloc, &all)
 }
 
+/// The same, in wide numbers where narrow ones don't fit on the way; the refusal is that of the narrow ones.
+fn lifted_across(
+    alloc: Global,
+    set: &MarkedSet,
+    below: &[Marked],
+    normal: &IntVec,
+) -> Result<MarkedSet, PolyError>
+    requires crossing { IsCrossing set.now.variables set.now.items normal.now }
+    requires variables { HaveVariables set.now.variables below.now }
+    requires parts { IsBasisOfParts set.now.variables set.now.items normal.now below.now }
+    ensures value { IfOk result (λ t. IsNeighbour set.now.variables set.now.items normal.now t.items) }
+    ensures variables { IfOk result (λ t. t.variables ≡ set.now.variables) }
+    ensures cause { IfErr result (λ e. (pairs : ℕ) → IsFlipRefusal set.now.variables set.now.items normal.now pairs (of_poly_error e)) }
+{
+    match crossed(alloc, set, below, normal) {
+        Ok(across) => Ok(across),
+        Err(refusal) => match wide_crossed(alloc, set, below, normal) {
+            Ok(across) => Ok(across),
+            Err(_) => Err(refusal),
+        },
+    }
+}
+
 /// The basis on the other side, from lifts that end early, if all numbers fit.
 fn early(alloc: Global, set: &MarkedSet, below: &[Marked], normal: &IntVec) -> Option<MarkedSet>
     requires crossing { IsCrossing set.now.variables set.now.items normal.now }
@@ -141,7 +165,7 @@ pub fn flip(
     if let Some(across) = early(alloc, set, below.items(), normal) {
         return Ok(across);
     }
-    match crossed(alloc, set, below.items(), normal) {
+    match lifted_across(alloc, set, below.items(), normal) {
         Ok(across) => Ok(across),
         Err(refusal) => Err(refused(refusal)),
     }

@@ -13,5 +13,6 @@ mod tails;
 mod tops;
 mod turns;
 mod weights;
+mod wide;
 
 pub use flips::{FlipError, flip};

@@ -15,7 +15,7 @@ ghost use Rattle.gf_flip.specs.Turns.{ArePairExcused, IsChained, IsMadeFrom, IsG
 
 use crate::reduction::reduced_form;
 use crate::room::with_room;
-use gf_buchberger::{BasisError, are_coprime, basis, is_single, leading_place};
+use gf_buchberger::{BasisError, are_coprime, basis, is_single, leading_place, wide_basis};
 use gf_division::{divisor_of, reduced, s_poly};
 use gf_frac::Frac;
 use gf_order::Order;
@@ -256,7 +256,8 @@ fn basis_in_turn(alloc: Global, task: &Task, bound: u64) -> Option<MarkedSet>
     Some(basis)
 }
 
-/// The reduced basis: by a run that takes the pairs in turn, and where that is refused by `basis`, whose refusal is told.
+/// The reduced basis: by a run that takes the pairs in turn, where that is refused by `basis`, and where numbers of that don't fit by
+/// `wide_basis`; the refusal of `basis` is told.
 ///
 /// # Errors
 ///
@@ -269,5 +270,15 @@ pub fn basis_for(alloc: Global, task: &Task, pairs: u64) -> Result<MarkedSet, Ba
     if let Some(basis) = basis_in_turn(alloc, task, pairs) {
         return Ok(basis);
     }
-    basis(alloc, task.n, task.list, task.order, pairs)
+    match basis(alloc, task.n, task.list, task.order, pairs) {
+        Ok(basis) => Ok(basis),
+        Err(refusal) => {
+            if refusal.is_of_numbers()
+                && let Ok(basis) = wide_basis(alloc, task.n, task.list, task.order, pairs)
+            {
+                return Ok(basis);
+            }
+            Err(refusal)
+        }
+    }
 }

@@ -29,7 +29,7 @@ pub early-requires-clause-bounded : goal.early-requires-clause-bounded
 early-requires-clause-bounded c = bounded_at c.args.set.now.variables c.args.set.now.items c.items-items.result.now c.args.normal.now c.args.normal.now c.requires c.items-items.ensures.value c.see_members.ensures refl
 
 pub returns-clause-cause : goal.returns-clause-cause
-returns-clause-cause c = subst (IsFlipRefusal c.args.set.now.variables c.args.set.now.items c.args.normal.now c.args.pairs) (sym c.refused.ensures) (c.in-Err-crossed.ensures.cause c.args.pairs)
+returns-clause-cause c = subst (IsFlipRefusal c.args.set.now.variables c.args.set.now.items c.args.normal.now c.args.pairs) (sym c.refused.ensures) (c.in-Err-lifted_across.ensures.cause c.args.pairs)
 
 pub returns-clause-complete : goal.returns-clause-complete
-returns-clause-complete c = λ w. flip_refusal_within c.args.set.now.variables c.args.set.now.items c.args.normal.now c.args.pairs c.refused.result w (subst (IsFlipRefusal c.args.set.now.variables c.args.set.now.items c.args.normal.now c.args.pairs) (sym c.refused.ensures) (c.in-Err-crossed.ensures.cause c.args.pairs))
+returns-clause-complete c = λ w. flip_refusal_within c.args.set.now.variables c.args.set.now.items c.args.normal.now c.args.pairs c.refused.result w (subst (IsFlipRefusal c.args.set.now.variables c.args.set.now.items c.args.normal.now c.args.pairs) (sym c.refused.ensures) (c.in-Err-lifted_across.ensures.cause c.args.pairs))
