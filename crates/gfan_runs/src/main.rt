@@ -48,6 +48,13 @@ const WRITE_FAILED: &[u8] = b"gfan: E2 write failed\n";
 
 const OPEN_FAILED: &[u8] = b"gfan: E3 open failed\n";
 
+/// What a row puts other texts in place of.
+#[derive(Clone, Copy)]
+enum Place {
+    Input,
+    LastFile,
+}
+
 /// The bytes of a field, in which a backslash stands before the letter of a line end, a tab or a carriage return, or before a byte as it is.
 fn bytes_of(alloc: Global, field: &str) -> Result<Vec<u8>, AllocError> {
     let mut bytes = Vec::new(alloc);
@@ -122,6 +129,34 @@ fn listed(alloc: Global, call: Option<u64>) -> Result<Vec<u64>, AllocError> {
 fn sink(alloc: Global, is_stuck: bool, failing: Option<u64>) -> Result<MemSink, AllocError> {
     let most = if is_stuck { 0 } else { 1 };
     Ok(MemSink::new(alloc, most, listed(alloc, failing)?))
+}
+
+/// A row with other bytes in its last file.
+fn with_last_file(alloc: Global, row: &Row, text: &[u8]) -> Result<Row, AllocError> {
+    let mut other = Row {
+        words: Vec::new(alloc),
+        input: row.input.to_vec(alloc)?,
+        code: row.code,
+        written: Vec::new(alloc),
+        told: Vec::new(alloc),
+        files: Vec::new(alloc),
+    };
+    for word in &row.words {
+        other.words.push(String::from_str(alloc, word)?)?;
+    }
+    let last = row.files.len().saturating_sub(1);
+    for (place, file) in row.files.iter().enumerate() {
+        let bytes = if place == last {
+            text
+        } else {
+            file.bytes.as_slice()
+        };
+        other.files.push(MemFile {
+            name: String::from_str(alloc, &file.name)?,
+            bytes: bytes.to_vec(alloc)?,
+        })?;
+    }
+    Ok(other)
 }
 
 /// What runs rows.
@@ -248,16 +283,58 @@ impl<'r, R: Threads + Sync> Runner<'r, R> {
         self.tells(row, faults, b"")
     }
 
-    /// Whether each proper prefix of the input is refused at its end.
-    fn are_prefixes_refused(&self, row: &Row) -> Result<bool, AllocError> {
+    /// Whether a run over this text, in place of the input or of the last file, is refused and tells this.
+    fn refuses(
+        &self,
+        row: &Row,
+        place: Place,
+        text: &[u8],
+        told: &[u8],
+    ) -> Result<bool, AllocError> {
+        match place {
+            Place::Input => self.ends(row, text, NO_FAULTS, 1, b"", told),
+            Place::LastFile => {
+                let other = with_last_file(self.alloc, row, text)?;
+                self.ends(&other, &other.input, NO_FAULTS, 1, b"", told)
+            }
+        }
+    }
+
+    /// Whether each proper prefix of the input, or of the last file, is refused at its end.
+    fn are_prefixes_refused(&self, row: &Row, place: Place) -> Result<bool, AllocError> {
+        let whole = match (place, row.files.last()) {
+            (Place::Input, _) => &row.input,
+            (Place::LastFile, Some(file)) => &file.bytes,
+            (Place::LastFile, None) => return Ok(false),
+        };
         let mut prefix = Vec::new(self.alloc);
-        for &byte in &row.input {
+        for &byte in whole {
             let at = prefix.len();
             let told = format!(in self.alloc; "gfan: E8 syntax at byte {at}: ended\n")?;
-            if !self.ends(row, &prefix, NO_FAULTS, 1, b"", told.as_bytes())? {
+            if !self.refuses(row, place, &prefix, told.as_bytes())? {
                 return Ok(false);
             }
             prefix.push(byte)?;
+        }
+        Ok(true)
+    }
+
+    /// Whether texts that are no ring and set are refused in place of the input, or of the last file.
+    fn are_wrong_texts_refused(&self, row: &Row, place: Place) -> Result<bool, AllocError> {
+        let texts = [
+            ("", "E8 syntax at byte 0: ended"),
+            ("Q[]{}", "E8 syntax at byte 2: unexpected"),
+            ("Q[a]{a^}", "E8 syntax at byte 7: unexpected"),
+            ("Q[a]{1/0}", "E8 syntax at byte 7: zero denominator"),
+            ("Q[a]{2 3}", "E8 syntax at byte 7: unexpected"),
+            ("Q[a]{a}x", "E8 syntax at byte 7: unexpected"),
+            ("Q[a]{a^4294967296}", "E9 number too wide at byte 7"),
+        ];
+        for (text, cause) in texts {
+            let told = format!(in self.alloc; "gfan: {cause}\n")?;
+            if !self.refuses(row, place, text.as_bytes(), told.as_bytes())? {
+                return Ok(false);
+            }
         }
         Ok(true)
     }
@@ -273,7 +350,10 @@ impl<'r, R: Threads + Sync> Runner<'r, R> {
                     "file" => self.do_files_fail(row)?,
                     "write" => self.do_writes_fail(row)?,
                     "line" => self.do_lines_fail(row)?,
-                    "prefix" => self.are_prefixes_refused(row)?,
+                    "prefix" => self.are_prefixes_refused(row, Place::Input)?,
+                    "file-prefix" => self.are_prefixes_refused(row, Place::LastFile)?,
+                    "wrong" => self.are_wrong_texts_refused(row, Place::Input)?,
+                    "file-wrong" => self.are_wrong_texts_refused(row, Place::LastFile)?,
                     _ => false,
                 };
         }

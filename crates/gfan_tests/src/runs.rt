@@ -1,4 +1,4 @@
-//! Whole runs over memory whose reads, writes or lines fail, or of which no row of `gfan_runs` can say the line.
+//! Whole runs over memory of which no row of `gfan_runs` can say the words, the input or the line.
 use gf_front::Refusal;
 use gf_outside::{MAX_INPUT, MemSink, MemSource, SureFiles};
 use gf_waves::FreeGate;
@@ -11,12 +11,6 @@ use std::thread::Threads;
 /// Three cubics in three variables.
 const THREE_CUBICS: &[u8] = b"Q[a,b,c] {aab-c,bbc-a,cca-b}";
 
-/// Two differences in three variables.
-const TWO_DIFFERENCES: &[u8] = b"Q[a,b,c] {a-b,b-c}";
-
-/// The beginning of that list, up to the second basis.
-const TWO_BASES: &[u8] = b"Q[a,b,c]\n{{\nb-c,\na-c}\n,\n{\nc-b,\na-b}";
-
 /// The words are no command.
 const USAGE: &[u8] = b"gfan: E23 usage: gfan _COMMAND [OPTIONS]\n";
 
@@ -28,38 +22,20 @@ struct Ending {
     told: Vec<u8>,
 }
 
-/// Numbers of calls that fail, counted from 0.
-#[derive(Drop)]
-struct Failing {
-    reads: Vec<u64>,
-    writes: Vec<u64>,
-    lines: Vec<u64>,
-}
-
-/// No call fails.
-fn nowhere(alloc: Global) -> Result<Failing, Fail> {
-    Ok(Failing {
-        reads: vec![in alloc]?,
-        writes: vec![in alloc]?,
-        lines: vec![in alloc]?,
-    })
-}
-
 /// Runs the words, which are parted by spaces. The source gives 16,384 bytes a call at most, and the output takes 8.
 fn ended<R: Threads + Sync>(
     rt: &R,
     alloc: Global,
     line: &str,
     input: Vec<u8>,
-    failing: Failing,
 ) -> Result<Ending, Fail> {
     let mut words = Vec::new(alloc);
     for word in line.split(' ') {
         words.push(String::from_str(alloc, word)?)?;
     }
-    let mut source = MemSource::new(input, 16_384, failing.reads);
-    let mut output = MemSink::new(alloc, 8, failing.writes);
-    let mut faults = MemSink::new(alloc, 1_000, failing.lines);
+    let mut source = MemSource::new(input, 16_384, vec![in alloc]?);
+    let mut output = MemSink::new(alloc, 8, vec![in alloc]?);
+    let mut faults = MemSink::new(alloc, 1_000, vec![in alloc]?);
     let mut files = SureFiles::new(vec![in alloc]?);
     let status = run(
         rt,
@@ -83,7 +59,7 @@ fn ended<R: Threads + Sync>(
 fn an_overflow_of_the_work_is_told(rt: HostRuntime) -> Result<(), Fail> {
     let alloc = rt.alloc();
     let input = b"Q[a,b] {a-170141183460469231731687303715884105727b,b-2}".to_vec(alloc)?;
-    let end = ended(&rt, alloc, "_buchberger", input, nowhere(alloc)?)?;
+    let end = ended(&rt, alloc, "_buchberger", input)?;
     assert!(rt; end.code == 3);
     assert!(rt; end.written.as_slice() == b"".as_slice());
     let products = [
@@ -105,36 +81,9 @@ fn an_overflow_of_the_work_is_told(rt: HostRuntime) -> Result<(), Fail> {
 fn a_budget_ends_a_list(rt: HostRuntime) -> Result<(), Fail> {
     let alloc = rt.alloc();
     let input = THREE_CUBICS.to_vec(alloc)?;
-    let end = ended(&rt, alloc, "_bases --pairs 1", input, nowhere(alloc)?)?;
+    let end = ended(&rt, alloc, "_bases --pairs 1", input)?;
     assert!(rt; end.code == 4);
     assert!(rt; end.written.as_slice() == b"".as_slice());
-    Ok(())
-}
-
-/// The output takes 8 bytes a call: three calls for the first basis with the ring, two for each other one. The first call for the third
-/// one fails, and then the second.
-#[test]
-fn a_failed_write_ends_the_list(rt: HostRuntime) -> Result<(), Fail> {
-    let alloc = rt.alloc();
-    for (call, more) in [(5u64, b"".as_slice()), (6, b"\n,\n{\nc-a".as_slice())] {
-        let failing = Failing {
-            reads: vec![in alloc]?,
-            writes: vec![in alloc; call]?,
-            lines: vec![in alloc]?,
-        };
-        let end = ended(
-            &rt,
-            alloc,
-            "_bases",
-            TWO_DIFFERENCES.to_vec(alloc)?,
-            failing,
-        )?;
-        let mut text = TWO_BASES.to_vec(alloc)?;
-        text.extend_from_slice(more)?;
-        assert!(rt; end.code == 6);
-        assert!(rt; end.written == text);
-        assert!(rt; end.told.as_slice() == b"gfan: E2 write failed\n".as_slice());
-    }
     Ok(())
 }
 
@@ -162,100 +111,14 @@ fn no_words_are_usage(rt: HostRuntime) -> Result<(), Fail> {
     Ok(())
 }
 
-/// The second read would find the end.
-#[test]
-fn a_failed_read_is_told(rt: HostRuntime) -> Result<(), Fail> {
-    let alloc = rt.alloc();
-    let failing = Failing {
-        reads: vec![in alloc; 1]?,
-        writes: vec![in alloc]?,
-        lines: vec![in alloc]?,
-    };
-    let end = ended(
-        &rt,
-        alloc,
-        "_buchberger",
-        THREE_CUBICS.to_vec(alloc)?,
-        failing,
-    )?;
-    assert!(rt; end.code == 5);
-    assert!(rt; end.written.as_slice() == b"".as_slice());
-    assert!(rt; end.told.as_slice() == b"gfan: E1 read failed\n".as_slice());
-    Ok(())
-}
-
-/// The output takes 8 bytes a call, and its second call fails.
-#[test]
-fn a_failed_write_leaves_a_prefix(rt: HostRuntime) -> Result<(), Fail> {
-    let alloc = rt.alloc();
-    let failing = Failing {
-        reads: vec![in alloc]?,
-        writes: vec![in alloc; 1]?,
-        lines: vec![in alloc]?,
-    };
-    let end = ended(
-        &rt,
-        alloc,
-        "_buchberger",
-        THREE_CUBICS.to_vec(alloc)?,
-        failing,
-    )?;
-    assert!(rt; end.code == 6);
-    assert!(rt; end.written.as_slice() == b"Q[a,b,c]".as_slice());
-    assert!(rt; end.told.as_slice() == b"gfan: E2 write failed\n".as_slice());
-    Ok(())
-}
-
 #[test]
 fn a_byte_too_many_is_told(rt: HostRuntime) -> Result<(), Fail> {
     let alloc = rt.alloc();
     let input = vec![in alloc; b' '; MAX_INPUT + 1]?;
-    let end = ended(&rt, alloc, "_buchberger", input, nowhere(alloc)?)?;
+    let end = ended(&rt, alloc, "_buchberger", input)?;
     assert!(rt; end.code == 1);
     assert!(rt; end.written.as_slice() == b"".as_slice());
     assert!(rt; end.told.as_slice() == b"gfan: E12 input too long\n".as_slice());
-    Ok(())
-}
-
-/// Each piece of a line fails in turn, and each time the line breaks off there.
-#[test]
-fn a_line_that_fails_changes_nothing_else(rt: HostRuntime) -> Result<(), Fail> {
-    let alloc = rt.alloc();
-    let pieces = [
-        b"gfan: ".as_slice(),
-        b"E9 number too wide at byte ",
-        b"6",
-        b"\n",
-    ];
-    let input = b"Q[a] {170141183460469231731687303715884105728a}";
-    let mut line = Vec::new(alloc);
-    for (failing, piece) in pieces.iter().enumerate() {
-        let failing = Failing {
-            reads: vec![in alloc]?,
-            writes: vec![in alloc]?,
-            lines: vec![in alloc; failing as u64]?,
-        };
-        let end = ended(&rt, alloc, "_buchberger", input.to_vec(alloc)?, failing)?;
-        assert!(rt; end.code == 1);
-        assert!(rt; end.written.as_slice() == b"".as_slice());
-        assert!(rt; end.told.as_slice() == line.as_slice());
-        line.extend_from_slice(piece)?;
-    }
-    let failing = Failing {
-        reads: vec![in alloc]?,
-        writes: vec![in alloc; 1]?,
-        lines: vec![in alloc; 1]?,
-    };
-    let end = ended(
-        &rt,
-        alloc,
-        "_buchberger",
-        THREE_CUBICS.to_vec(alloc)?,
-        failing,
-    )?;
-    assert!(rt; end.code == 6);
-    assert!(rt; end.written.as_slice() == b"Q[a,b,c]".as_slice());
-    assert!(rt; end.told.as_slice() == b"gfan: ".as_slice());
     Ok(())
 }
 
@@ -290,7 +153,7 @@ fn a_small_budget_is_spent(rt: HostRuntime) -> Result<(), Fail> {
         assert_ne!(rt; pairs, 0usize);
     }
     let input = THREE_CUBICS.to_vec(alloc)?;
-    let end = ended(&rt, alloc, "_buchberger --pairs 1", input, nowhere(alloc)?)?;
+    let end = ended(&rt, alloc, "_buchberger --pairs 1", input)?;
     assert!(rt; end.code == 4);
     assert!(rt; end.written.as_slice() == b"".as_slice());
     assert!(rt; end.told.starts_with(b"gfan: E13 pair budget: "));

@@ -23,6 +23,13 @@ const WIDE: &str = "Q[a,b,c,d,e] {170141183460469231731687303715884105727a-c,b-2
 const BEGINNING: &str =
     "Q[a,b,c,d,e]\n{{\nd-e,\nb-2*c,\na-1/170141183460469231731687303715884105727*c}\n,\n{\ne-d,\nb-2*c,\na-1/170141183460469231731687303715884105727*c}";
 
+/// Where b is greater than d, twice the greatest number comes up.
+const LAST_WIDE: &str = "Q[a,b,c,d] {a-170141183460469231731687303715884105727d,2b-d,c-d}";
+
+/// What is written of it until then, by hand: the first basis, and the one in which d is greater than c.
+const LAST_BEGINNING: &str =
+    "Q[a,b,c,d]\n{{\nc-d,\nb-1/2*d,\na-170141183460469231731687303715884105727*d}\n,\n{\nd-c,\nb-1/2*c,\na-170141183460469231731687303715884105727*c}";
+
 /// How a run ended.
 #[derive(Drop, PartialEq)]
 struct Ending {
@@ -98,13 +105,15 @@ fn workers_write_the_same_bytes(rt: HostRuntime) -> Result<(), Fail> {
 #[test]
 fn workers_tell_the_same_refusal(rt: HostRuntime) -> Result<(), Fail> {
     let alloc = rt.alloc();
-    let first = ended(&rt, alloc, "_bases", WIDE, &FreeGate)?;
-    assert!(rt; first.code == 3);
-    assert!(rt; first.written.as_slice() == BEGINNING.as_bytes());
-    for workers in ["2", "4", "64"] {
-        let line = format!(in alloc; "_bases --workers {workers}")?;
-        let end = ended(&rt, alloc, line.as_str(), WIDE, &FreeGate)?;
-        assert!(rt; end == first);
+    for (input, beginning) in [(WIDE, BEGINNING), (LAST_WIDE, LAST_BEGINNING)] {
+        let first = ended(&rt, alloc, "_bases", input, &FreeGate)?;
+        assert!(rt; first.code == 3);
+        assert!(rt; first.written.as_slice() == beginning.as_bytes());
+        for workers in ["2", "4", "64"] {
+            let line = format!(in alloc; "_bases --workers {workers}")?;
+            let end = ended(&rt, alloc, line.as_str(), input, &FreeGate)?;
+            assert!(rt; end == first);
+        }
     }
     Ok(())
 }
