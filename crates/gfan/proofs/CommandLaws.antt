@@ -19,14 +19,11 @@ use Rattle.gfan_lists.specs.Bases.{bases_command}
 use Rattle.gfan_lists.specs.GivenBasis.{given_bases_command}
 use Rattle.gfan_sets.specs.Marked.{marked_command}
 use Rattle.gfan_sets.specs.Containment.{containment_command}
-use Rattle.gfan_sets.specs.LeadingTerms.{leading_terms_command}
 use Rattle.gfan_sets.specs.MarkPolynomialSet.{mark_polynomial_set_command}
 use Rattle.gfan_sets.specs.InitialForms.{initial_forms_command}
 use Rattle.gfan_sets.specs.Homogenize.{homogenize_command}
 use Rattle.gfan_sets.specs.PolynomialSetUnion.{polynomial_set_union_command}
 use Rattle.gfan_sets.specs.Stats.{stats_command}
-use Rattle.gfan_sets.specs.WeightVector.{weight_vector_command}
-use Rattle.gfan_fans.specs.GroebnerCone.{groebner_cone_command}
 use Rattle.gfan_fans.specs.ToPolyhedralFan.{to_polyhedral_fan_command}
 use Rattle.gfan_fans.specs.HomogeneitySpace.{nonzero_of, homogeneity_space_command}
 use Rattle.gfan_fans.specs.declared.tropical.TropicalFan.{TropicalFan}
@@ -34,19 +31,18 @@ use Rattle.gfan_fans.specs.declared.tropical.TropicalFan.TheVariants as fans
 use Rattle.gfan_fans.specs.Tropical.{tropical_command}
 use Rattle.gfan_fans.specs.MigrateFan.{migrate_fan_command}
 use Rattle.gfan_lists.specs.declared.bases.ListOptions.{ListOptions}
-use Rattle.gfan_fans.specs.declared.told_cone.ConeOptions.{ConeOptions}
 use Rattle.gfan_lists.specs.Within.{bases_within_command, given_within_command}
-use Rattle.gfan.specs.Commands.{options, list_options, cone_options, plain_command, list_command, within_command, bases_of, list_of, command_of, ReadsInputAlone}
+use Rattle.gfan.specs.Commands.{list_options, plain_command, list_command, within_command, bases_of, list_of, command_of, ReadsInputAlone}
 use Rattle.gfan_common.proofs.CheckedSetLaws.{check_not_listed, test_cause_untested}
-use Rattle.gfan_sets.proofs.WeightVectorLaws.{weight_vector_exact, weight_vector_tested, unweighed_not_listed}
-use Rattle.gfan_fans.proofs.GroebnerConeLaws.{cone_exact, cone_tested, cone_not_listed}
+use Rattle.gfan_sets.proofs.WeightVectorLaws.{weight_lawful, weight_source}
+use Rattle.gfan_fans.proofs.GroebnerConeLaws.{cone_lawful, cone_source}
 use Rattle.gfan_fans.proofs.ToPolyhedralFanLaws.{to_polyhedral_fan_exact, to_polyhedral_fan_tested, no_fan_not_listed}
 use Rattle.gfan_fans.proofs.HomogeneitySpaceLaws.{homogeneity_space_exact, homogeneity_space_tested, no_space_not_listed}
 use Rattle.gfan_fans.proofs.TropicalLaws.{tropical_exact, tropical_tested, tropical_not_listed}
 use Rattle.gfan_fans.proofs.BasisTestLaws.{intersection_lawful, intersection_source}
 use Rattle.gfan_sets.proofs.ToolLaws.{mark_polynomial_set_exact, initial_forms_exact, homogenize_exact, polynomial_set_union_exact, stats_exact, homogenize_not_listed, homogenize_untested}
 use Rattle.gfan_common.proofs.CauseLaws.{gordan_not_listed, gordan_untested, basis_not_listed, basis_untested, memory_untested}
-use Rattle.gfan_sets.proofs.ExactLaws.{buchberger_exact, marked_exact, containment_exact, leading_exact, containment_tested}
+use Rattle.gfan_sets.proofs.ExactLaws.{buchberger_exact, marked_exact, containment_exact, leading_lawful, leading_source, containment_tested}
 use Rattle.gfan_lists.proofs.ListExactLaws.{bases_exact, given_exact, list_untested, given_tested}
 use Rattle.gfan_lists.proofs.AfterCommandLaws.{after_lawful}
 use Rattle.gfan_lists.proofs.WithinLaws.{within_exact, within_tested, given_within_exact, given_within_tested}
@@ -80,18 +76,6 @@ list_lawful : (from_basis : Bool) (o : ListOptions) → IsLawful (list_command f
 list_lawful false o = sound_lawful (bases_command o) (bases_exact o) (untested (bases_command o) (λ v r t h. list_untested o (length v.0) (generators_of v.1.0) r t h)) (λ h. h) (λ t. t) (λ a m w. tt)
 list_lawful true o = sound_lawful (given_bases_command o) (given_exact o) (given_tested o) (λ h. h) (λ t. t) (λ a m w. tt)
 
-leading_lawful : (listed : Bool) → IsLawful (leading_terms_command listed)
-leading_lawful false = sound_lawful (leading_terms_command false) (leading_exact false) (untested (leading_terms_command false) (λ v r t h. memory_untested r t h)) (λ h. h) (λ t. t) (λ a m w. cc)
-leading_lawful true = sound_lawful (leading_terms_command true) (leading_exact true) (untested (leading_terms_command true) (λ v r t h. memory_untested r t h)) (λ h. h) (λ t. t) (λ a m w. cc)
-
-weight_lawful : (listed echoed : Bool) → IsLawful (weight_vector_command listed echoed)
-weight_lawful false echoed = sound_lawful (weight_vector_command false echoed) (weight_vector_exact false echoed) (weight_vector_tested false echoed) (λ h. h) (λ t. t) (λ a m w. unweighed_not_listed (a.1 ∷ []) m w)
-weight_lawful true echoed = sound_lawful (weight_vector_command true echoed) (weight_vector_exact true echoed) (weight_vector_tested true echoed) (λ h. h) (λ t. t) (λ a m w. unweighed_not_listed a.1 m w)
-
-cone_lawful : (vector_input : Bool) (o : ConeOptions) → IsLawful (groebner_cone_command vector_input o)
-cone_lawful false o = sound_lawful (groebner_cone_command false o) (cone_exact false o) (cone_tested false o) (λ h. h) (λ t. t) (λ a m w. cone_not_listed false o a m w)
-cone_lawful true o = sound_lawful (groebner_cone_command true o) (cone_exact true o) (cone_tested true o) (λ h. h) (λ t. t) (λ a m w. cone_not_listed true o a m w)
-
 -- in a region, too
 within_lawful : (name : List ℕ) (from_basis : Bool) (o : ListOptions) → IsLawful (within_command name from_basis o)
 within_lawful name false o = sound_lawful (bases_within_command name o) (within_exact name o) (within_tested name o) (λ h. h) (λ t. t) (λ a m w. tt)
@@ -109,18 +93,18 @@ listed_lawful (Some after) within from_basis o = after_lawful from_basis within 
 pub lawful : (job : Job) → IsLawful (command_of job)
 lawful (jobs.Plain k) = plain_lawful k
 lawful (jobs.Buchberger o) =
-    let c = buchberger_command (options o) in
-    sound_lawful c (buchberger_exact (options o)) (untested c (λ v r t h. basis_untested h.0 (subst IsOfTest h.1 t))) (λ h. h) (λ t. t) (λ a m w. basis_not_listed w.0 m w.1)
+    let c = buchberger_command o in
+    sound_lawful c (buchberger_exact o) (untested c (λ v r t h. basis_untested h.0 (subst IsOfTest h.1 t))) (λ h. h) (λ t. t) (λ a m w. basis_not_listed w.0 m w.1)
 lawful (jobs.Bases o) = listed_lawful o.after o.within o.from_basis (list_options o)
-lawful (jobs.LeadingTerms o) = leading_lawful o.listed
-lawful (jobs.WeightVector o) = weight_lawful o.listed o.echoed
-lawful (jobs.GroebnerCone o) = cone_lawful o.vector_input (cone_options o)
+lawful (jobs.LeadingTerms o) = leading_lawful o
+lawful (jobs.WeightVector o) = weight_lawful o
+lawful (jobs.GroebnerCone o) = cone_lawful o
 lawful (jobs.ToPolyhedralFan o) =
-    sound_lawful (to_polyhedral_fan_command o.restrict) (to_polyhedral_fan_exact o.restrict) (to_polyhedral_fan_tested o.restrict) (λ h. h) (λ t. t) (λ a m w. no_fan_not_listed o.restrict (length a.0) a.1 m w)
-lawful (jobs.TropicalIntersection o) = intersection_lawful o.basis_test
+    sound_lawful (to_polyhedral_fan_command o) (to_polyhedral_fan_exact o) (to_polyhedral_fan_tested o) (λ h. h) (λ t. t) (λ a m w. no_fan_not_listed o.restrict (length a.0) a.1 m w)
+lawful (jobs.TropicalIntersection o) = intersection_lawful o
 lawful (jobs.FanCommonRefinement o) = refinement_lawful o.first o.second
-lawful (jobs.Generated o) = generated_lawful o.number o.limit o.pairs
-lawful (jobs.Saturation o) = saturation_lawful o.pairs
+lawful (jobs.Generated o) = generated_lawful o
+lawful (jobs.Saturation o) = saturation_lawful o
 lawful (jobs.Interactive o) = interactive_lawful o.file o.pairs
 
 -- ---- what a job reads
@@ -132,18 +116,6 @@ plain_source _ = refl
 pub list_source : (from_basis : Bool) (o : ListOptions) → (list_command from_basis o).reads ≡ Origin.the_input ∷ []
 list_source false o = refl
 list_source true o = refl
-
-leading_source : (listed : Bool) → (leading_terms_command listed).reads ≡ Origin.the_input ∷ []
-leading_source false = refl
-leading_source true = refl
-
-weight_source : (listed echoed : Bool) → (weight_vector_command listed echoed).reads ≡ Origin.the_input ∷ []
-weight_source false echoed = refl
-weight_source true echoed = refl
-
-cone_source : (vector_input : Bool) (o : ConeOptions) → (groebner_cone_command vector_input o).reads ≡ Origin.the_input ∷ []
-cone_source false o = refl
-cone_source true o = refl
 
 -- a list is written as it goes
 pub bases_not_once : (within : Option (List ℕ)) (from_basis : Bool) (o : ListOptions) → WritesOnce (bases_of within from_basis o).writing → ⊥
@@ -164,8 +136,8 @@ one_source (jobs.Generated o) w n m = absurd (m o refl)
 one_source (jobs.Interactive o) w n m = absurd w
 one_source (jobs.Plain k) w n m = plain_source k
 one_source (jobs.Bases o) w n m = absurd (listed_not_once o.after o.within o.from_basis (list_options o) w)
-one_source (jobs.LeadingTerms o) w n m = leading_source o.listed
-one_source (jobs.WeightVector o) w n m = weight_source o.listed o.echoed
-one_source (jobs.TropicalIntersection o) w n m = intersection_source o.basis_test
-one_source (jobs.GroebnerCone o) w n m = cone_source o.vector_input (cone_options o)
+one_source (jobs.LeadingTerms o) w n m = leading_source o
+one_source (jobs.WeightVector o) w n m = weight_source o
+one_source (jobs.TropicalIntersection o) w n m = intersection_source o
+one_source (jobs.GroebnerCone o) w n m = cone_source o
 one_source _ w n m = refl

@@ -55,6 +55,8 @@ use Rattle.gf_binomial_calls.proofs.CheckLaws.{member_fits, polys_binomial, form
 use Rattle.gf_binomial_calls.proofs.LawsHold.{refusals_tell_no_overflow, plain_sets_are_binomials}
 use Rattle.gf_generated.specs.Generated.{generated_set}
 use Rattle.gf_generated.proofs.GeneratedLaws.{generators_are_binomials}
+use Rattle.gf_front.specs.declared.options.BuchbergerOptions.{BuchbergerOptions}
+use Rattle.gf_front.specs.declared.options.GeneratedOptions.{GeneratedOptions}
 use Rattle.gf_front.specs.declared.command_line.Job.{Job}
 use Rattle.gf_front.specs.declared.command_line.Job.TheVariants as jobs
 use Rattle.gf_front.specs.declared.refusal.Refusal.{Refusal}
@@ -73,7 +75,6 @@ use Rattle.gf_frame.specs.Runs.{TakesTurns, AreCut, IsStoppedBy, AreGivenTexts}
 use Rattle.gf_frame.specs.Programs.{IsRunRefused}
 use Rattle.gf_frame.proofs.LoadingLaws.{loaded_known, unloaded_known}
 use Rattle.gf_frame.proofs.ProgramLaws.{stopped_as}
-use Rattle.gfan_sets.specs.declared.buchberger.Options.{Options}
 use Rattle.gfan_lists.specs.declared.bases.ListOptions.{ListOptions}
 use Rattle.gfan_common.specs.Forms.{generators_of, form}
 use Rattle.gfan_common.specs.Causes.{of_basis, of_weight_error, of_tree}
@@ -89,7 +90,7 @@ use Rattle.gf_weights.specs.declared.region.RegionError.{RegionError}
 use Rattle.gf_weights.specs.declared.region.RegionError.TheVariants as region_errors
 use Rattle.gfan_common.specs.ToolForms.{for_each}
 use Rattle.gfan_lists.specs.Within.{of_region, IsCauseWithin, IsGivenRegionRootRefusal, IsGivenStartRefusal, IsGivenCauseWithin, bases_within_command, given_within_command}
-use Rattle.gfan.specs.Commands.{options, list_options, list_command, bases_of, list_of, command_of}
+use Rattle.gfan.specs.Commands.{list_options, list_command, bases_of, list_of, command_of}
 use Rattle.gfan.specs.PlainInputs.{IsPlainList, BeginsPlainly, IsPlainAfter, IsOnBinomials, IsPlainFrom}
 use Rattle.gfan_common.proofs.ReadSetLaws.{IsKeptMember, marked_kept, one_kept}
 use Rattle.gfan_lists.proofs.BasesListLaws.{given_node}
@@ -277,7 +278,7 @@ module _ (source : List ℕ) (b : BeginsPlainly source) where
   form_never revlex n weight fs x (inr (k, inr (l, inl h))) = h
   form_never revlex n weight fs x (inr (k, inr (l, inr (m, h)))) = h
 
-  buchberger_never : (o : Options) (x : Overflow) → IsRefusedOn (buchberger_command o) (source ∷ []) (refusals.Overflow x) → ⊥
+  buchberger_never : (o : BuchbergerOptions) (x : Overflow) → IsRefusedOn (buchberger_command o) (source ∷ []) (refusals.Overflow x) → ⊥
   buchberger_never o x (IsRefusedOn.in_text e h q) = set_text_never o.weighted x (subst (λ d. IsTextRefused (ring_set_vector o.weighted) source d) (tells_text e x q) h)
   buchberger_never o x (IsRefusedOn.behind_text v r (IsUnanswered.in_form f)) = form_never o.revlex (length v.0) v.1.1 (generators_of v.1.0) x f
   buchberger_never o x (IsRefusedOn.behind_text v r (IsUnanswered.in_work f w)) =
@@ -338,12 +339,12 @@ module _ (source : List ℕ) (b : BeginsPlainly source) where
   given_within_never name o file x (IsRefusedOn.behind_text v r (IsUnanswered.no_memory m)) = cc
   given_within_never name o file x (IsRefusedOn.no_memory m) = cc
 
-generated_never : (number limit pairs : ℕ) (texts : List (List ℕ)) (x : Overflow) → IsRefusedOn (generated_command number limit pairs) texts (refusals.Overflow x) → ⊥
-generated_never number limit pairs texts x (IsRefusedOn.in_text e h q) = h
-generated_never number limit pairs texts x (IsRefusedOn.behind_text v r (IsUnanswered.in_form f)) = f
-generated_never number limit pairs texts x (IsRefusedOn.behind_text v r (IsUnanswered.in_work f w)) = summary_never limit pairs (generated_set number) x (generators_are_binomials.binomials number) w
-generated_never number limit pairs texts x (IsRefusedOn.behind_text v r (IsUnanswered.no_memory m)) = cc
-generated_never number limit pairs texts x (IsRefusedOn.no_memory m) = cc
+generated_never : (o : GeneratedOptions) (texts : List (List ℕ)) (x : Overflow) → IsRefusedOn (generated_command o) texts (refusals.Overflow x) → ⊥
+generated_never o texts x (IsRefusedOn.in_text e h q) = h
+generated_never o texts x (IsRefusedOn.behind_text v r (IsUnanswered.in_form f)) = f
+generated_never o texts x (IsRefusedOn.behind_text v r (IsUnanswered.in_work f w)) = summary_never o.limit o.pairs (generated_set o.number) x (generators_are_binomials.binomials o.number) w
+generated_never o texts x (IsRefusedOn.behind_text v r (IsUnanswered.no_memory m)) = cc
+generated_never o texts x (IsRefusedOn.no_memory m) = cc
 
 -- the list, for all positive weights or in a region
 bases_of_never : (within : Option (List ℕ)) (from_basis : Bool) (o : ListOptions) (texts : List (List ℕ)) (x : Overflow) → IsPlainList within texts → IsRefusedOn (bases_of within from_basis o) texts (refusals.Overflow x) → ⊥
@@ -473,10 +474,10 @@ list_of_never (Some after) within from_basis o texts x b h = after_never from_ba
 -- no job on such a source is refused so
 job_never : (job : Job) (texts : List (List ℕ)) (x : Overflow) → IsOnBinomials job texts → IsRefusedOn (command_of job) texts (refusals.Overflow x) → ⊥
 job_never (jobs.Buchberger o) [] x b h = b
-job_never (jobs.Buchberger o) (source ∷ []) x b h = buchberger_never source b (options o) x h
+job_never (jobs.Buchberger o) (source ∷ []) x b h = buchberger_never source b o x h
 job_never (jobs.Buchberger o) (source ∷ (other ∷ others)) x b h = b
 job_never (jobs.Bases o) texts x b h = list_of_never o.after o.within o.from_basis (list_options o) texts x b h
-job_never (jobs.Generated o) texts x b h = generated_never o.number o.limit o.pairs texts x h
+job_never (jobs.Generated o) texts x b h = generated_never o texts x h
 job_never _ texts x b h = absurd b
 
 -- ---- the run

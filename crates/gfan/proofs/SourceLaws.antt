@@ -18,7 +18,6 @@ use Rattle.gf_frame.specs.Commands.{Command, WritesOnce}
 use Rattle.gf_frame.specs.Runs.{TakesTurns}
 use Rattle.gf_frame.proofs.WorkLaws.{once_alone}
 use Rattle.gfan_lists.specs.declared.bases.ListOptions.{ListOptions}
-use Rattle.gfan_fans.specs.declared.told_cone.ConeOptions.{ConeOptions}
 use Rattle.gfan_sets.specs.LeadingTerms.{leading_terms_command}
 use Rattle.gfan_sets.specs.WeightVector.{weight_vector_command}
 use Rattle.gfan_fans.specs.GroebnerCone.{groebner_cone_command}
@@ -26,8 +25,11 @@ use Rattle.gfan_fans.specs.CommonRefinement.{refinement_command}
 use Rattle.gfan_fans.specs.BasisTest.{intersection_command}
 use Rattle.gfan_lists.specs.Generated.{generated_command}
 use Rattle.gfan_lists.specs.After.{after_command, after_sources}
-use Rattle.gfan.specs.Commands.{list_options, cone_options, plain_command, list_command, within_command, bases_of, list_of, command_of, ReadsInputAlone}
+use Rattle.gfan.specs.Commands.{list_options, plain_command, list_command, within_command, bases_of, list_of, command_of, ReadsInputAlone}
 use Rattle.gfan.proofs.CommandLaws.{list_source, listed_not_once}
+use Rattle.gfan_sets.proofs.ExactLaws.{leading_once}
+use Rattle.gfan_sets.proofs.WeightVectorLaws.{weight_once}
+use Rattle.gfan_fans.proofs.GroebnerConeLaws.{cone_once}
 use Rattle.gfan_fans.proofs.BasisTestLaws.{intersection_once}
 
 -- ---- texts as the code lists them
@@ -138,7 +140,7 @@ none_alone [] e = refl
 none_alone (t ∷ ts) e = absurd (omega (arith, e))
 
 pub none_as : (P : Command → List (List ℕ) → Type 0) (job : Job) (o : GeneratedOptions) (ts : List (Vec ℕ Global)) → job ≡ jobs.Generated o → length ts ≡ length (command_of job).reads
-    → P (generated_command o.number o.limit o.pairs) [] → P (command_of job) (texts_of ts)
+    → P (generated_command o) [] → P (command_of job) (texts_of ts)
 none_as P job o ts e l h =
     subst (P (command_of job)) (none_alone ts (subst (λ k. length ts ≡ length (command_of k).reads) e l))
     (subst (λ k. P (command_of k) []) (sym e) h)
@@ -149,28 +151,16 @@ plain_once : (k : PlainCommand) → WritesOnce (plain_command k).writing
 plain_once plains.Stats = tt
 plain_once _ = tt
 
-leading_once : (listed : Bool) → WritesOnce (leading_terms_command listed).writing
-leading_once false = tt
-leading_once true = tt
-
-weight_once : (listed echoed : Bool) → WritesOnce (weight_vector_command listed echoed).writing
-weight_once false echoed = tt
-weight_once true echoed = tt
-
-cone_once : (vector_input : Bool) (o : ConeOptions) → WritesOnce (groebner_cone_command vector_input o).writing
-cone_once false o = tt
-cone_once true o = tt
-
 -- all but the list do that take no turns
 pub writes_once : (job : Job) → ((o : BasesOptions) → job ≡ jobs.Bases o → ⊥) → (TakesTurns (command_of job).writing → ⊥) → WritesOnce (command_of job).writing
 writes_once (jobs.Plain k) n a = plain_once k
 writes_once (jobs.Buchberger o) n a = tt
 writes_once (jobs.Bases o) n a = absurd (n o refl)
-writes_once (jobs.LeadingTerms o) n a = leading_once o.listed
-writes_once (jobs.WeightVector o) n a = weight_once o.listed o.echoed
-writes_once (jobs.GroebnerCone o) n a = cone_once o.vector_input (cone_options o)
+writes_once (jobs.LeadingTerms o) n a = leading_once o
+writes_once (jobs.WeightVector o) n a = weight_once o
+writes_once (jobs.GroebnerCone o) n a = cone_once o
 writes_once (jobs.ToPolyhedralFan o) n a = tt
-writes_once (jobs.TropicalIntersection o) n a = intersection_once o.basis_test
+writes_once (jobs.TropicalIntersection o) n a = intersection_once o
 writes_once (jobs.FanCommonRefinement o) n a = tt
 writes_once (jobs.Generated o) n a = tt
 writes_once (jobs.Saturation o) n a = tt
@@ -210,10 +200,10 @@ pub held_alone : (job : Job) → ((o : InteractiveOptions) → job ≡ jobs.Inte
 held_alone (jobs.Interactive o) n t = n o refl
 held_alone (jobs.Plain k) n t = once_alone (plain_command k).writing (plain_once k) t
 held_alone (jobs.Bases o) n t = from_alone o.after o.within o.from_basis (list_options o) t
-held_alone (jobs.LeadingTerms o) n t = once_alone (leading_terms_command o.listed).writing (leading_once o.listed) t
-held_alone (jobs.WeightVector o) n t = once_alone (weight_vector_command o.listed o.echoed).writing (weight_once o.listed o.echoed) t
-held_alone (jobs.GroebnerCone o) n t = once_alone (groebner_cone_command o.vector_input (cone_options o)).writing (cone_once o.vector_input (cone_options o)) t
-held_alone (jobs.TropicalIntersection o) n t = once_alone (intersection_command o.basis_test).writing (intersection_once o.basis_test) t
+held_alone (jobs.LeadingTerms o) n t = once_alone (leading_terms_command o).writing (leading_once o) t
+held_alone (jobs.WeightVector o) n t = once_alone (weight_vector_command o).writing (weight_once o) t
+held_alone (jobs.GroebnerCone o) n t = once_alone (groebner_cone_command o).writing (cone_once o) t
+held_alone (jobs.TropicalIntersection o) n t = once_alone (intersection_command o).writing (intersection_once o) t
 held_alone _ n t = t
 
 -- nor one that reads nothing

@@ -6,17 +6,13 @@ use Rattle.gf_front.specs.declared.command_line.Job.{Job}
 use Rattle.gf_front.specs.declared.command_line.Job.TheVariants as jobs
 use Rattle.gf_front.specs.declared.plain.PlainCommand.{PlainCommand}
 use Rattle.gf_front.specs.declared.plain.PlainCommand.TheVariants as plains
-use Rattle.gf_front.specs.declared.options.BuchbergerOptions.{BuchbergerOptions}
 use Rattle.gf_front.specs.declared.options.BasesOptions.{BasesOptions}
-use Rattle.gf_front.specs.declared.options.GroebnerConeOptions.{GroebnerConeOptions}
 use Rattle.gf_items.specs.Items.{IsTextOf}
 use Rattle.gf_items.specs.Sources.{vectors_alone, ring_set_vector, ring_marked_set}
 use Rattle.gf_frame.specs.Loading.{Origin}
 use Rattle.gf_frame.specs.Readings.{IsReadOfOne}
 use Rattle.gf_frame.specs.Commands.{Command, IsAnswered}
-use Rattle.gfan_sets.specs.declared.buchberger.Options.{Options}
 use Rattle.gfan_lists.specs.declared.bases.ListOptions.{ListOptions}
-use Rattle.gfan_fans.specs.declared.told_cone.ConeOptions.{ConeOptions}
 use Rattle.gfan_common.specs.Forms.{generators_of}
 use Rattle.gfan_sets.specs.Buchberger.{buchberger_command}
 use Rattle.gfan_lists.specs.Bases.{IsListPast, bases_command}
@@ -44,17 +40,9 @@ use Rattle.gfan_lists.specs.Generated.{generated_command}
 use Rattle.gfan_sets.specs.Saturation.{saturation_command}
 use Rattle.gfan_interactive.specs.Interactive.{interactive_command}
 
--- what `_buchberger` is asked
-abbrev pub options : BuchbergerOptions → Options
-options o = record { weighted = o.weighted; revlex = o.revlex; pairs = o.pairs }
-
 -- what `_bases` is asked, besides what it reads and how many workers there are
 abbrev pub list_options : BasesOptions → ListOptions
 list_options o = record { limit = o.limit; pairs = o.pairs; certified = o.certificates }
-
--- what `_groebnercone` is asked to tell of the cone
-abbrev pub cone_options : GroebnerConeOptions → ConeOptions
-cone_options o = record { certificates = o.certificates; restricted = o.restricted; as_fan = o.as_fan }
 
 -- the job of `_bases` that asks this for all positive weights, from a basis or from generators
 abbrev pub list_job : Bool → ListOptions → ℕ → Job
@@ -110,16 +98,16 @@ list_of (Some after) within from_basis o = after_command from_basis (is_some wit
 -- the command of each job; those of `_bases` and `_generated` are the same for every number of workers
 abbrev pub command_of : Job → Command
 command_of (jobs.Plain c) = plain_command c
-command_of (jobs.Buchberger o) = buchberger_command (options o)
+command_of (jobs.Buchberger o) = buchberger_command o
 command_of (jobs.Bases o) = list_of o.after o.within o.from_basis (list_options o)
-command_of (jobs.LeadingTerms o) = leading_terms_command o.listed
-command_of (jobs.WeightVector o) = weight_vector_command o.listed o.echoed
-command_of (jobs.GroebnerCone o) = groebner_cone_command o.vector_input (cone_options o)
-command_of (jobs.ToPolyhedralFan o) = to_polyhedral_fan_command o.restrict
-command_of (jobs.TropicalIntersection o) = intersection_command o.basis_test
+command_of (jobs.LeadingTerms o) = leading_terms_command o
+command_of (jobs.WeightVector o) = weight_vector_command o
+command_of (jobs.GroebnerCone o) = groebner_cone_command o
+command_of (jobs.ToPolyhedralFan o) = to_polyhedral_fan_command o
+command_of (jobs.TropicalIntersection o) = intersection_command o
 command_of (jobs.FanCommonRefinement o) = refinement_command o.first o.second
-command_of (jobs.Generated o) = generated_command o.number o.limit o.pairs
-command_of (jobs.Saturation o) = saturation_command o.pairs
+command_of (jobs.Generated o) = generated_command o
+command_of (jobs.Saturation o) = saturation_command o
 command_of (jobs.Interactive o) = interactive_command o.file o.pairs
 
 -- the job reads the input alone

@@ -9,7 +9,6 @@ ghost use Rattle.gf_frame.specs.Origins.{texts_of};
 ghost use Rattle.gf_frame.specs.Commands.{WritesOnce, IsAnswered, IsRefusedOn};
 ghost use Rattle.gf_frame.specs.Runs.{TakesTurns, IsDoneOn, IsStoppedOn};
 ghost use Rattle.gfan_common.specs.Refused.{IsOfSource};
-ghost use Rattle.gfan_fans.specs.BasisTest.{intersection_command};
 ghost use Rattle.gfan.specs.Commands.{plain_command, list_sources, command_of, ReadsInputAlone};
 ghost use Rattle.gfan_lists.specs.After.{after_sources};
 ghost use Rattle.gfan.specs.Run.{IsOfLoaded};
@@ -19,15 +18,13 @@ use gf_front::{BasesOptions, Job, Name, PlainCommand, Refusal};
 use gf_outside::{Files, Sink, Source, WriteFault, write_all};
 use gf_waves::Gate;
 use gfan_common::refused::Refused;
-use gfan_fans::told_cone::ConeOptions;
 use gfan_fans::tropical::TropicalFan;
 use gfan_fans::{
-    basis_test, common_refinement, groebner_cone, homogeneity_space, migrate_fan,
-    to_polyhedral_fan, tropical,
+    common_refinement, groebner_cone, homogeneity_space, migrate_fan, to_polyhedral_fan, tropical,
+    tropical_intersection,
 };
 use gfan_lists::bases::ListOptions;
 use gfan_lists::{after, bases, generated, given_basis, within};
-use gfan_sets::buchberger::Options;
 use gfan_sets::{
     buchberger, containment, homogenize, initial_forms, leading_terms, mark_polynomial_set, marked,
     polynomial_set_union, saturation, stats, weight_vector,
@@ -179,24 +176,6 @@ fn plain_answer<R: Threads + Sync>(
     }
 }
 
-/// What `_tropicalintersection` writes for the source: the fan, or with `--basistest` the verdict.
-fn intersection_answer<R: Threads + Sync>(
-    rt: &R,
-    alloc: Global,
-    source: &[u8],
-    basis_test: bool,
-) -> Result<Vec<u8>, Refused>
-    ensures ok { IfOk result (λ text. IsAnswered (intersection_command basis_test) (source.now ∷ []) text.items) }
-    ensures err { IfErr result (λ e. IsRefusedOn (intersection_command basis_test) (source.now ∷ []) e.refusal) }
-    ensures told { IfErr result (IsOfSource source.now) }
-{
-    if basis_test {
-        basis_test::answer(rt, alloc, source)
-    } else {
-        tropical::answer(rt, alloc, source, TropicalFan::Intersection)
-    }
-}
-
 /// What a job on the input that writes once writes for the source.
 fn input_answer<R: Threads + Sync>(
     rt: &R,
@@ -212,34 +191,18 @@ fn input_answer<R: Threads + Sync>(
 {
     match job {
         Job::Plain(command) => plain_answer(rt, alloc, *command, source),
-        Job::Buchberger(given) => {
-            let options = Options {
-                weighted: given.weighted,
-                revlex: given.revlex,
-                pairs: given.pairs,
-            };
-            buchberger::answer(alloc, source, options)
-        }
+        Job::Buchberger(given) => buchberger::answer(alloc, source, *given),
         Job::Bases(_) | Job::FanCommonRefinement(_) => unreachable!(),
         Job::Generated(_) => unreachable!(),
         Job::Interactive(_) => unreachable!(),
-        Job::LeadingTerms(given) => leading_terms::answer(alloc, source, given.listed),
-        Job::GroebnerCone(given) => {
-            let options = ConeOptions {
-                certificates: given.certificates,
-                restricted: given.restricted,
-                as_fan: given.as_fan,
-            };
-            groebner_cone::answer(alloc, source, given.vector_input, options)
-        }
-        Job::WeightVector(given) => {
-            weight_vector::answer(alloc, source, given.listed, given.echoed)
-        }
-        Job::ToPolyhedralFan(given) => to_polyhedral_fan::answer(alloc, source, given.restrict),
+        Job::LeadingTerms(given) => leading_terms::answer(alloc, source, *given),
+        Job::GroebnerCone(given) => groebner_cone::answer(alloc, source, *given),
+        Job::WeightVector(given) => weight_vector::answer(alloc, source, *given),
+        Job::ToPolyhedralFan(given) => to_polyhedral_fan::answer(alloc, source, *given),
         Job::TropicalIntersection(given) => {
-            intersection_answer(rt, alloc, source, given.basis_test)
+            tropical_intersection::answer(rt, alloc, source, *given)
         }
-        Job::Saturation(given) => saturation::answer(alloc, source, given.pairs),
+        Job::Saturation(given) => saturation::answer(alloc, source, *given),
     }
 }
 

@@ -23,6 +23,7 @@ use Rattle.gf_basis_test.specs.Refusals.{AreBasesRefused, IsVerdictRefusal}
 use Rattle.gf_basis_test.specs.Limits.{HasNoMemory}
 use Rattle.gf_basis_test.proofs.LimitLaws.{test_memory}
 use Rattle.gf_text.specs.declared.written.Written.{Written}
+use Rattle.gf_front.specs.declared.options.TropicalIntersectionOptions.{TropicalIntersectionOptions}
 use Rattle.gf_front.specs.declared.refusal.Refusal.{Refusal}
 use Rattle.gf_front.specs.declared.refusal.Refusal.TheVariants as refusals
 use Rattle.gf_front.specs.Table.{usual_pairs}
@@ -41,7 +42,7 @@ use Rattle.gfan_common.specs.Forms.{generators_of, IsDegreeRefusal}
 use Rattle.gfan_common.specs.Causes.{of_basis, of_tree}
 use Rattle.gfan_common.specs.ToolForms.{HasNoZero, IsZeroRefusal}
 use Rattle.gfan_fans.specs.Tropical.{of_tropical}
-use Rattle.gfan_fans.specs.BasisTest.{of_initial, of_basis_test, basis_test_text, basis_test_command, intersection_command}
+use Rattle.gfan_fans.specs.BasisTest.{of_initial, of_basis_test, basis_test_text, basis_test_command, intersection_by, intersection_command}
 use Rattle.gfan_common.specs.Refused.{IsNamedBy, IsOfSource}
 use Rattle.gfan_common.proofs.WrittenSetLaws.{lent_names, first_variables}
 use Rattle.gfan_common.proofs.CauseLaws.{basis_work, basis_not_listed, basis_untested, tree_work, tree_untested, tree_not_listed, basis_named_by}
@@ -217,16 +218,26 @@ basis_test_exact = record {
   within = λ v r w h. h.told ∙ no_memory h.error (test_memory (length v.0) (generators_of v.1.0) usual_pairs h.error w h.refused);
 }
 
-pub intersection_lawful : (basis_test : Bool) → IsLawful (intersection_command basis_test)
-intersection_lawful false =
-    sound_lawful (intersection_command false) (tropical_exact fans.Intersection) (tropical_tested fans.Intersection) (λ h. h) (λ t. t) (λ a m w. tropical_not_listed fans.Intersection (length a.0) (generators_of a.1.0) m w)
-intersection_lawful true =
+-- each of the two
+lawful_by : (basis_test : Bool) → IsLawful (intersection_by basis_test)
+lawful_by false =
+    sound_lawful (intersection_by false) (tropical_exact fans.Intersection) (tropical_tested fans.Intersection) (λ h. h) (λ t. t) (λ a m w. tropical_not_listed fans.Intersection (length a.0) (generators_of a.1.0) m w)
+lawful_by true =
     sound_lawful basis_test_command basis_test_exact (untested basis_test_command (λ v r t h. test_untested h.error (subst IsOfTest h.told t))) (λ h. h) (λ t. t) (λ a m w. test_not_listed w.error m w.told)
 
-pub intersection_source : (basis_test : Bool) → (intersection_command basis_test).reads ≡ Origin.the_input ∷ []
-intersection_source false = refl
-intersection_source true = refl
+source_by : (basis_test : Bool) → (intersection_by basis_test).reads ≡ Origin.the_input ∷ []
+source_by false = refl
+source_by true = refl
 
-pub intersection_once : (basis_test : Bool) → WritesOnce (intersection_command basis_test).writing
-intersection_once false = tt
-intersection_once true = tt
+once_by : (basis_test : Bool) → WritesOnce (intersection_by basis_test).writing
+once_by false = tt
+once_by true = tt
+
+pub intersection_lawful : (o : TropicalIntersectionOptions) → IsLawful (intersection_command o)
+intersection_lawful o = lawful_by o.basis_test
+
+pub intersection_source : (o : TropicalIntersectionOptions) → (intersection_command o).reads ≡ Origin.the_input ∷ []
+intersection_source o = source_by o.basis_test
+
+pub intersection_once : (o : TropicalIntersectionOptions) → WritesOnce (intersection_command o).writing
+intersection_once o = once_by o.basis_test

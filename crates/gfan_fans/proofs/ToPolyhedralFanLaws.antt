@@ -21,6 +21,7 @@ use Rattle.gf_fan.specs.declared.error.FanError.{FanError}
 use Rattle.gf_fan.specs.declared.error.FanError.TheVariants as fan_errors
 use Rattle.gf_fan.specs.Pairs.{AreOfAmbient, AreMeetingAt, IsFirstPair}
 use Rattle.gf_fan.specs.Refusals.{IsFanRefusal}
+use Rattle.gf_front.specs.declared.options.ToPolyhedralFanOptions.{ToPolyhedralFanOptions}
 use Rattle.gf_front.specs.declared.refusal.Refusal.{Refusal}
 use Rattle.gf_front.specs.declared.refusal.Refusal.TheVariants as refusals
 use Rattle.gf_items.specs.Items.{IsTextOf}
@@ -75,18 +76,18 @@ fan_told cut n sets bases cones text a z h = record { reduced = all_reduced sets
 
 -- ---- from a source on
 
-pub fan_answered : (cut : Bool) (source text : List ℕ) (ring : List (List ℕ)) (sets given : List MarkedPolynomials) (n : ℕ) → IsTextOf ring_marked_sets source (ring, sets) → n ≡ length ring → given ≡ sets → IsFanOfSetsText cut n given text → IsAnswered (to_polyhedral_fan_command cut) (source ∷ []) text
-fan_answered cut source text ring sets given n read e p h = record {
+pub fan_answered : (o : ToPolyhedralFanOptions) (source text : List ℕ) (ring : List (List ℕ)) (sets given : List MarkedPolynomials) (n : ℕ) → IsTextOf ring_marked_sets source (ring, sets) → n ≡ length ring → given ≡ sets → IsFanOfSetsText o.restrict n given text → IsAnswered (to_polyhedral_fan_command o) (source ∷ []) text
+fan_answered o source text ring sets given n read e p h = record {
   value = (ring, sets);
   read = read;
-  answer = record { formed = tt; is_answer = subst (λ k. IsFanOfSetsText cut k sets text) e (subst (λ (ss : List MarkedPolynomials). IsFanOfSetsText cut n ss text) p h) };
+  answer = record { formed = tt; is_answer = subst (λ k. IsFanOfSetsText o.restrict k sets text) e (subst (λ (ss : List MarkedPolynomials). IsFanOfSetsText o.restrict n ss text) p h) };
 }
 
 along_ring : (cut : Bool) (r : Refusal) (ring : List (List ℕ)) (sets given : List MarkedPolynomials) (n : ℕ) → n ≡ length ring → given ≡ sets → IsNoFanOfSets cut n given r → IsNoFanOfSets cut (length ring) sets r
 along_ring cut r ring sets given n e p h = subst (λ k. IsNoFanOfSets cut k sets r) e (subst (λ (ss : List MarkedPolynomials). IsNoFanOfSets cut n ss r) p h)
 
-pub no_fan_refused : (cut : Bool) (source : List ℕ) (r : Refusal) (ring : List (List ℕ)) (sets given : List MarkedPolynomials) (n : ℕ) → IsTextOf ring_marked_sets source (ring, sets) → n ≡ length ring → given ≡ sets → IsNoFanOfSets cut n given r → IsRefusedOn (to_polyhedral_fan_command cut) (source ∷ []) r
-no_fan_refused cut source r ring sets given n read e p h = IsRefusedOn.behind_text (ring, sets) read (IsUnanswered.in_work tt (along_ring cut r ring sets given n e p h))
+pub no_fan_refused : (o : ToPolyhedralFanOptions) (source : List ℕ) (r : Refusal) (ring : List (List ℕ)) (sets given : List MarkedPolynomials) (n : ℕ) → IsTextOf ring_marked_sets source (ring, sets) → n ≡ length ring → given ≡ sets → IsNoFanOfSets o.restrict n given r → IsRefusedOn (to_polyhedral_fan_command o) (source ∷ []) r
+no_fan_refused o source r ring sets given n read e p h = IsRefusedOn.behind_text (ring, sets) read (IsUnanswered.in_work tt (along_ring o.restrict r ring sets given n e p h))
 
 -- it is told with the names of the ring
 named_no_fan : (cut : Bool) (n : ℕ) (ring : List (List ℕ)) (sets : List MarkedPolynomials) (r : Refusal) → Each (IsSetKept (length ring)) sets → IsNoFanOfSets cut n sets r → IsNamedBy (Some ring) r
@@ -112,12 +113,12 @@ no_fan_within cut n sets r w (IsNoFanOfSets.at_cone o a h q) = absurd ((w.each h
 no_fan_within cut n sets r w (IsNoFanOfSets.at_fan cones a z h) = text_within n cones r (w.fan cones z) (w.meeting cones z) h
 no_fan_within cut n sets r w (IsNoFanOfSets.no_memory m) = m
 
-pub to_polyhedral_fan_exact : (cut : Bool) → IsExactCommand (to_polyhedral_fan_command cut)
-to_polyhedral_fan_exact cut = record {
+pub to_polyhedral_fan_exact : (o : ToPolyhedralFanOptions) → IsExactCommand (to_polyhedral_fan_command o)
+to_polyhedral_fan_exact o = record {
   reading = one_once _ (ring_and_once marked_set_list []);
   checks = λ texts v h. tt;
-  work = λ v r h. no_fan_work cut (length v.0) v.1 r h;
-  within = λ v r w h. no_fan_within cut (length v.0) v.1 r w h;
+  work = λ v r h. no_fan_work o.restrict (length v.0) v.1 r h;
+  within = λ v r w h. no_fan_within o.restrict (length v.0) v.1 r w h;
 }
 
 pub no_fan_not_listed : (cut : Bool) (n : ℕ) (sets : List MarkedPolynomials) (most : ℕ) → IsNoFanOfSets cut n sets (refusals.ListLimit most) → ⊥
@@ -223,9 +224,9 @@ no_fan_refutes cut m n sets r text v t (IsNoFanOfSets.at_cone o b h q) a = subst
 no_fan_refutes cut m n sets r text v t (IsNoFanOfSets.at_fan cones b z h) a = text_refutes cut n sets cones r text t z h a
 no_fan_refutes cut m n sets r text v t (IsNoFanOfSets.no_memory p) a = subst IsOfTest p t
 
-pub to_polyhedral_fan_tested : (cut : Bool) → IsTestedCommand (to_polyhedral_fan_command cut)
-to_polyhedral_fan_tested cut = record {
-  tests = λ texts v r d read t h k. of_one_text ring_marked_sets _ texts v read (λ source x. no_fan_once cut (length v.0) (length v.0) v.1 r d (list_read source v x) t h k);
-  answers = λ texts v r text read t h a. of_one_text ring_marked_sets _ texts v read (λ source x. no_fan_refutes cut (length v.0) (length v.0) v.1 r text (list_read source v x) t h a);
-  wholes = λ texts v r text read t h a. of_one_text ring_marked_sets _ texts v read (λ source x. no_fan_refutes cut (length v.0) (length v.0) v.1 r text (list_read source v x) t h a);
+pub to_polyhedral_fan_tested : (o : ToPolyhedralFanOptions) → IsTestedCommand (to_polyhedral_fan_command o)
+to_polyhedral_fan_tested o = record {
+  tests = λ texts v r d read t h k. of_one_text ring_marked_sets _ texts v read (λ source x. no_fan_once o.restrict (length v.0) (length v.0) v.1 r d (list_read source v x) t h k);
+  answers = λ texts v r text read t h a. of_one_text ring_marked_sets _ texts v read (λ source x. no_fan_refutes o.restrict (length v.0) (length v.0) v.1 r text (list_read source v x) t h a);
+  wholes = λ texts v r text read t h a. of_one_text ring_marked_sets _ texts v read (λ source x. no_fan_refutes o.restrict (length v.0) (length v.0) v.1 r text (list_read source v x) t h a);
 }

@@ -13,6 +13,7 @@ use Rattle.gf_basis_test.specs.Refusals.{IsVerdictRefusal}
 use Rattle.gf_basis_test.specs.Limits.{IsTestWithinLimits}
 use Rattle.gf_text.specs.declared.written.Written.{Written}
 use Rattle.gf_text.specs.VectorText.{vector_text}
+use Rattle.gf_front.specs.declared.options.TropicalIntersectionOptions.{TropicalIntersectionOptions}
 use Rattle.gf_front.specs.declared.refusal.Refusal.{Refusal}
 use Rattle.gf_front.specs.declared.refusal.Refusal.TheVariants as refusals
 use Rattle.gf_front.specs.Table.{usual_pairs}
@@ -85,7 +86,11 @@ basis_test_command = record {
   writing = Writing.at_end;
 }
 
--- the fan, or with `--basistest` the test
-abbrev pub intersection_command : Bool → Command
-intersection_command false = tropical_command fans.Intersection
-intersection_command true = basis_test_command
+-- the fan, or the test
+abbrev pub intersection_by : (basis_test : Bool) → Command
+intersection_by false = tropical_command fans.Intersection
+intersection_by true = basis_test_command
+
+-- as the options say
+abbrev pub intersection_command : TropicalIntersectionOptions → Command
+intersection_command o = intersection_by o.basis_test

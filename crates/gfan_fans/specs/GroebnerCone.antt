@@ -6,12 +6,12 @@ use Rattle.gf_reduced.specs.declared.error.CheckError.{CheckError}
 use Rattle.gf_reduced.specs.Markings.{IsMarkedGroebnerBasis}
 use Rattle.gf_reduced.specs.Terms.{AreReduced}
 use Rattle.gf_reduced.specs.Refusals.{IsReducedRefusal, AreChecksWithinLimits}
+use Rattle.gf_front.specs.declared.options.GroebnerConeOptions.{GroebnerConeOptions}
 use Rattle.gf_front.specs.declared.refusal.Refusal.{Refusal}
 use Rattle.gf_items.specs.Sources.{ring_marked_set, dimension_two_lists}
 use Rattle.gf_frame.specs.Loading.{Origin}
 use Rattle.gf_frame.specs.Readings.{of_one}
 use Rattle.gf_frame.specs.Commands.{Writing, Command}
-use Rattle.gfan_fans.specs.declared.told_cone.ConeOptions.{ConeOptions}
 use Rattle.gfan_common.specs.CheckedSets.{of_check}
 use Rattle.gfan_common.specs.ToolForms.{for_space, for_each}
 use Rattle.gfan_fans.specs.ToldCones.{IsConeTold, IsUntold, IsTellingWithin}
@@ -19,7 +19,7 @@ use Rattle.gfan_fans.specs.ToldCones.{IsConeTold, IsUntold, IsTellingWithin}
 -- ---- the cone of a marked reduced basis
 
 -- the set is the reduced Gröbner basis for its marking, and the text tells the cone of all vectors on which none of its normals is negative
-pub record IsBasisConeText (o : ConeOptions) (s : MarkedPolynomials) (text : List ℕ) : Type 0 where
+pub record IsBasisConeText (o : GroebnerConeOptions) (s : MarkedPolynomials) (text : List ℕ) : Type 0 where
   pub basis : IsMarkedGroebnerBasis s.variables s.items
   pub reduced : AreReduced s.items
   pub normals : List (List ℤ)
@@ -27,14 +27,14 @@ pub record IsBasisConeText (o : ConeOptions) (s : MarkedPolynomials) (text : Lis
   pub cone : IsConeTold o s.variables normals [] text
 
 -- the set isn't taken as a reduced basis; or it is one, and its cone isn't told
-pub data IsBasisConeCause (o : ConeOptions) (s : MarkedPolynomials) (r : Refusal) : Type 0 where
+pub data IsBasisConeCause (o : GroebnerConeOptions) (s : MarkedPolynomials) (r : Refusal) : Type 0 where
   at_check : (e : CheckError) → IsReducedRefusal 0 s e → r ≡ of_check e → IsBasisConeCause o s r
   at_cone : (normals : List (List ℤ)) → IsMarkedGroebnerBasis s.variables s.items → AreReduced s.items → AreNormals s.items normals →
       IsUntold o s.variables normals [] r → IsBasisConeCause o s r
 
 -- the set, in its variables as any that is read, is a reduced basis, and no operation of its checks leaves its limits, nor one that tells
 -- its cone
-pub record IsBasisConeWithin (o : ConeOptions) (s : MarkedPolynomials) : Type 0 where
+pub record IsBasisConeWithin (o : GroebnerConeOptions) (s : MarkedPolynomials) : Type 0 where
   pub variables : HaveVariables s.variables s.items
   pub basis : IsMarkedGroebnerBasis s.variables s.items
   pub reduced : AreReduced s.items
@@ -45,8 +45,8 @@ pub record IsBasisConeWithin (o : ConeOptions) (s : MarkedPolynomials) : Type 0 
 
 -- the cone of a marked reduced basis; or with vectors for input that of the inequalities and equations in a space of the dimension that is
 -- read, each of them with an entry for each variable, the inequalities looked at first
-abbrev pub groebner_cone_command : Bool → ConeOptions → Command
-groebner_cone_command false o = record {
+abbrev pub cone_command : (vector_input : Bool) → GroebnerConeOptions → Command
+cone_command false o = record {
   Value = List (List ℕ) × MarkedPolynomials;
   reads = Origin.the_input ∷ [];
   reading = of_one ring_marked_set;
@@ -56,7 +56,7 @@ groebner_cone_command false o = record {
   IsWithin = λ v. IsBasisConeWithin o v.1;
   writing = Writing.at_end;
 }
-groebner_cone_command true o = record {
+cone_command true o = record {
   Value = ℕ × (List (List ℤ) × List (List ℤ));
   reads = Origin.the_input ∷ [];
   reading = of_one dimension_two_lists;
@@ -66,3 +66,7 @@ groebner_cone_command true o = record {
   IsWithin = λ v. IsTellingWithin o v.0 v.1.0 v.1.1;
   writing = Writing.at_end;
 }
+
+-- as the options say
+abbrev pub groebner_cone_command : GroebnerConeOptions → Command
+groebner_cone_command o = cone_command o.vector_input o

@@ -10,6 +10,7 @@ use Rattle.gf_facets.specs.Systems.{units}
 use Rattle.gf_rays.specs.Cones.{RowsAndRays}
 use Rattle.gf_reduced.specs.declared.error.CheckError.{CheckError}
 use Rattle.gf_fan.specs.Pairs.{AreMeeting}
+use Rattle.gf_front.specs.declared.options.ToPolyhedralFanOptions.{ToPolyhedralFanOptions}
 use Rattle.gf_front.specs.declared.refusal.Refusal.{Refusal}
 use Rattle.gf_front.specs.declared.refusal.Refusal.TheVariants as refusals
 use Rattle.gf_items.specs.Sources.{ring_marked_sets}
@@ -86,14 +87,14 @@ pub record AreSetsWithin (cut : Bool) (n : ℕ) (sets : List MarkedPolynomials) 
 -- ---- the command
 
 -- the fan of the cones of a list of marked reduced bases, each of them cut with the non-negative orthant where that is asked for
-abbrev pub to_polyhedral_fan_command : Bool → Command
-to_polyhedral_fan_command cut = record {
+abbrev pub to_polyhedral_fan_command : ToPolyhedralFanOptions → Command
+to_polyhedral_fan_command o = record {
   Value = List (List ℕ) × List MarkedPolynomials;
   reads = Origin.the_input ∷ [];
   reading = of_one ring_marked_sets;
   checks = λ v. [];
-  IsAnswer = λ v text. IsFanOfSetsText cut (length v.0) v.1 text;
-  IsCause = λ v r. IsNoFanOfSets cut (length v.0) v.1 r;
-  IsWithin = λ v. AreSetsWithin cut (length v.0) v.1;
+  IsAnswer = λ v text. IsFanOfSetsText o.restrict (length v.0) v.1 text;
+  IsCause = λ v r. IsNoFanOfSets o.restrict (length v.0) v.1 r;
+  IsWithin = λ v. AreSetsWithin o.restrict (length v.0) v.1;
   writing = Writing.at_end;
 }

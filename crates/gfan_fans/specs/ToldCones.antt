@@ -7,9 +7,9 @@ use Rattle.gf_sections.specs.declared.error.SectionsError.{SectionsError}
 use Rattle.gf_sections.specs.declared.error.SectionsError.TheVariants as sections_errors
 use Rattle.gf_sections.specs.ConeByRows.{IsConeByRows, IsByRowsStep}
 use Rattle.gf_sections.specs.ConeText.{IsConeText, IsConeCause, IsConeWithinLimits}
+use Rattle.gf_front.specs.declared.options.GroebnerConeOptions.{GroebnerConeOptions}
 use Rattle.gf_front.specs.declared.refusal.Refusal.{Refusal}
 use Rattle.gf_front.specs.declared.refusal.Refusal.TheVariants as refusals
-use Rattle.gfan_fans.specs.declared.told_cone.ConeOptions.{ConeOptions}
 use Rattle.gf_fanfile.specs.FanTexts.{IsFanText}
 use Rattle.gfan_fans.specs.FanTexts.{IsNoFanText, IsFanOfConesWithin}
 use Rattle.gfan_fans.specs.ToPolyhedralFan.{inequalities_of}
@@ -63,13 +63,13 @@ IsToldWithin true certified n inequalities equations = IsConeFanWithin n inequal
 
 -- the text tells the cone of these inequalities and equations by the options: with the unit vectors as further inequalities where it is cut
 -- with the non-negative orthant
-abbrev pub IsConeTold : ConeOptions → ℕ → List (List ℤ) → List (List ℤ) → List ℕ → Type 0
+abbrev pub IsConeTold : GroebnerConeOptions → ℕ → List (List ℤ) → List (List ℤ) → List ℕ → Type 0
 IsConeTold o n inequalities equations text = IsToldAs o.as_fan o.certificates n (inequalities_of o.restricted n inequalities) equations text
 
 -- it isn't told for this reason
-abbrev pub IsUntold : ConeOptions → ℕ → List (List ℤ) → List (List ℤ) → Refusal → Type 0
+abbrev pub IsUntold : GroebnerConeOptions → ℕ → List (List ℤ) → List (List ℤ) → Refusal → Type 0
 IsUntold o n inequalities equations r = IsUntoldAs o.as_fan o.certificates n (inequalities_of o.restricted n inequalities) equations r
 
 -- no operation of telling it leaves its range
-abbrev pub IsTellingWithin : ConeOptions → ℕ → List (List ℤ) → List (List ℤ) → Type 0
+abbrev pub IsTellingWithin : GroebnerConeOptions → ℕ → List (List ℤ) → List (List ℤ) → Type 0
 IsTellingWithin o n inequalities equations = IsToldWithin o.as_fan o.certificates n (inequalities_of o.restricted n inequalities) equations

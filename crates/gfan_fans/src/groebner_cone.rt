@@ -3,13 +3,13 @@ ghost use Rattle.std.specs.Prelude.{◌≡◌, ◌≤◌, true, false, IfOk, IfE
 ghost use Rattle.gf_gordan.specs.Alternative.{AreRows};
 ghost use Rattle.gf_text.specs.declared.TheConstants.{MOST_VARIABLES};
 ghost use Rattle.gf_frame.specs.Commands.{IsAnswered, IsRefusedOn, IsAnswerFor, IsUnanswered};
-ghost use Rattle.gfan_fans.specs.GroebnerCone.{IsBasisConeText, IsBasisConeCause, groebner_cone_command};
+ghost use Rattle.gfan_fans.specs.GroebnerCone.{IsBasisConeText, IsBasisConeCause, cone_command, groebner_cone_command};
 ghost use Rattle.gfan_common.specs.Refused.{IsNamedBy, IsOfSource};
 ghost use Rattle.gfan_fans.specs.ToldCones.{cut_of};
 
-use crate::told_cone::{ConeOptions, restricted, told};
+use crate::told_cone::{restricted, told};
 use gf_cone::Cone;
-use gf_front::Refusal;
+use gf_front::{GroebnerConeOptions, Refusal};
 use gf_items::{RingAndMarked, dimension_and_lists, ring_and_marked};
 use gf_poly::MarkedSet;
 use gf_reduced::require_reduced;
@@ -31,7 +31,7 @@ fn basis_cone(
     alloc: Global,
     n: u32,
     marked: &MarkedSet,
-    options: ConeOptions,
+    options: GroebnerConeOptions,
 ) -> Result<Vec<u8>, Refusal>
     requires few { n ≤ MOST_VARIABLES }
     requires variables { marked.now.variables ≡ n }
@@ -56,11 +56,11 @@ fn vector_cone(
     n: u32,
     inequalities: Vec<IntVec>,
     equations: &[IntVec],
-    options: ConeOptions,
+    options: GroebnerConeOptions,
 ) -> Result<Vec<u8>, Refusal>
     requires few { n ≤ MOST_VARIABLES }
-    ensures ok { IfOk result (λ text. IsAnswerFor (groebner_cone_command true options) (n, (inequalities.items, equations.now)) text.items) }
-    ensures err { IfErr result (IsUnanswered (groebner_cone_command true options) (n, (inequalities.items, equations.now))) }
+    ensures ok { IfOk result (λ text. IsAnswerFor (cone_command true options) (n, (inequalities.items, equations.now)) text.items) }
+    ensures err { IfErr result (IsUnanswered (cone_command true options) (n, (inequalities.items, equations.now))) }
     ensures told { IfErr result (IsNamedBy None) }
 {
     check_space(n)?;
@@ -71,9 +71,9 @@ fn vector_cone(
 }
 
 /// What is written for a source with a marked set.
-fn of_basis(alloc: Global, source: &[u8], options: ConeOptions) -> Result<Vec<u8>, Refused>
-    ensures ok { IfOk result (λ text. IsAnswered (groebner_cone_command false options) (source.now ∷ []) text.items) }
-    ensures err { IfErr result (λ e. IsRefusedOn (groebner_cone_command false options) (source.now ∷ []) e.refusal) }
+fn of_basis(alloc: Global, source: &[u8], options: GroebnerConeOptions) -> Result<Vec<u8>, Refused>
+    ensures ok { IfOk result (λ text. IsAnswered (cone_command false options) (source.now ∷ []) text.items) }
+    ensures err { IfErr result (λ e. IsRefusedOn (cone_command false options) (source.now ∷ []) e.refusal) }
     ensures told { IfErr result (IsOfSource source.now) }
 {
     let RingAndMarked { ring, set } = ring_and_marked(alloc, source)?;
@@ -87,9 +87,13 @@ fn of_basis(alloc: Global, source: &[u8], options: ConeOptions) -> Result<Vec<u8
 }
 
 /// What is written for a source with inequalities and equations.
-fn of_vectors(alloc: Global, source: &[u8], options: ConeOptions) -> Result<Vec<u8>, Refused>
-    ensures ok { IfOk result (λ text. IsAnswered (groebner_cone_command true options) (source.now ∷ []) text.items) }
-    ensures err { IfErr result (λ e. IsRefusedOn (groebner_cone_command true options) (source.now ∷ []) e.refusal) }
+fn of_vectors(
+    alloc: Global,
+    source: &[u8],
+    options: GroebnerConeOptions,
+) -> Result<Vec<u8>, Refused>
+    ensures ok { IfOk result (λ text. IsAnswered (cone_command true options) (source.now ∷ []) text.items) }
+    ensures err { IfErr result (λ e. IsRefusedOn (cone_command true options) (source.now ∷ []) e.refusal) }
     ensures told { IfErr result (IsOfSource source.now) }
 {
     let read = dimension_and_lists(alloc, source)?;
@@ -126,14 +130,13 @@ fn of_vectors(alloc: Global, source: &[u8], options: ConeOptions) -> Result<Vec<
 pub fn answer(
     alloc: Global,
     source: &[u8],
-    vector_input: bool,
-    options: ConeOptions,
+    options: GroebnerConeOptions,
 ) -> Result<Vec<u8>, Refused>
-    ensures ok { IfOk result (λ text. IsAnswered (groebner_cone_command vector_input options) (source.now ∷ []) text.items) }
-    ensures err { IfErr result (λ e. IsRefusedOn (groebner_cone_command vector_input options) (source.now ∷ []) e.refusal) }
+    ensures ok { IfOk result (λ text. IsAnswered (groebner_cone_command options) (source.now ∷ []) text.items) }
+    ensures err { IfErr result (λ e. IsRefusedOn (groebner_cone_command options) (source.now ∷ []) e.refusal) }
     ensures told { IfErr result (IsOfSource source.now) }
 {
-    if vector_input {
+    if options.vector_input {
         of_vectors(alloc, source, options)
     } else {
         of_basis(alloc, source, options)

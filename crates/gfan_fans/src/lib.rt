@@ -12,3 +12,4 @@ pub mod migrate_fan;
 pub mod to_polyhedral_fan;
 pub mod told_cone;
 pub mod tropical;
+pub mod tropical_intersection;

@@ -9,7 +9,7 @@ ghost use Rattle.gfan_fans.specs.ToPolyhedralFan.{IsConeOfSet, IsConeStepOfSet, 
 
 use crate::fan_text::fan_text;
 use gf_cone::Cone;
-use gf_front::Refusal;
+use gf_front::{Refusal, ToPolyhedralFanOptions};
 use gf_gordan::GordanError;
 use gf_items::{RingAndMarkedSets, ring_and_marked_sets};
 use gf_poly::MarkedSet;
@@ -78,13 +78,17 @@ fn fan_of_sets(alloc: Global, n: u32, sets: &[MarkedSet], cut: bool) -> Result<V
 /// - `Overflow` and `ExponentOverflow` only at a sum of the text or an operation of the checks; `ConeOverflow` only at a step of
 ///   the elimination of a marking's system, or where all sets are taken at an operation of finding the rays of a cone, of the meet of two
 ///   or of a face of one; `WideVector` only at a sum of the rays of a maximal cone.
-pub fn answer(alloc: Global, source: &[u8], cut: bool) -> Result<Vec<u8>, Refused>
-    ensures ok { IfOk result (λ text. IsAnswered (to_polyhedral_fan_command cut) (source.now ∷ []) text.items) }
-    ensures err { IfErr result (λ e. IsRefusedOn (to_polyhedral_fan_command cut) (source.now ∷ []) e.refusal) }
+pub fn answer(
+    alloc: Global,
+    source: &[u8],
+    options: ToPolyhedralFanOptions,
+) -> Result<Vec<u8>, Refused>
+    ensures ok { IfOk result (λ text. IsAnswered (to_polyhedral_fan_command options) (source.now ∷ []) text.items) }
+    ensures err { IfErr result (λ e. IsRefusedOn (to_polyhedral_fan_command options) (source.now ∷ []) e.refusal) }
     ensures told { IfErr result (IsOfSource source.now) }
 {
     let RingAndMarkedSets { ring, sets } = ring_and_marked_sets(alloc, source)?;
-    match fan_of_sets(alloc, ring.len(), &sets, cut) {
+    match fan_of_sets(alloc, ring.len(), &sets, options.restrict) {
         Ok(text) => Ok(text),
         Err(refusal) => Err(Refused {
             refusal,

@@ -7,22 +7,11 @@ ghost use Rattle.gfan_fans.specs.ToldCones.{IsConeFanText, IsConeFanCause, IsTol
 
 use crate::fan_text::fan_text;
 use crate::homogeneity_space::alone;
-use gf_front::Refusal;
+use gf_front::{GroebnerConeOptions, Refusal};
 use gf_sections::{SectionsError, cone_by_rows, cone_text};
 use gf_vec::IntVec;
 use gfan_common::refused::of_gordan;
 use std::alloc::{AllocError, Global};
-
-/// What is told of a cone, and of which.
-#[derive(Clone, Copy, Debug)]
-pub struct ConeOptions {
-    /// A witness of each facet, and a combination for each row that is none, are told too; it says nothing of a fan.
-    pub certificates: bool,
-    /// The cone is cut with the non-negative orthant.
-    pub restricted: bool,
-    /// The fan of all its faces is told in place of sections.
-    pub as_fan: bool,
-}
 
 /// Why the sections of a cone aren't told, as a refusal of the run.
 fn of_sections(error: SectionsError) -> Refusal
@@ -84,7 +73,7 @@ pub(crate) fn told(
     n: u32,
     inequalities: &[IntVec],
     equations: &[IntVec],
-    options: ConeOptions,
+    options: GroebnerConeOptions,
 ) -> Result<Vec<u8>, Refusal>
     requires few { n ≤ MOST_VARIABLES }
     requires inequalities { AreRows n inequalities.now }

@@ -35,6 +35,7 @@ use Rattle.gf_small.specs.Counts.{degree_of_set}
 use Rattle.gf_small.proofs.CountsLaws.{greatest-push}
 use Rattle.gf_weights.specs.Weights.{IsPrintedWeight}
 use Rattle.gf_weights.proofs.UniqueLaws.{one_weight}
+use Rattle.gf_front.specs.declared.options.GeneratedOptions.{GeneratedOptions}
 use Rattle.gf_front.specs.declared.refusal.Refusal.{Refusal}
 use Rattle.gf_front.specs.declared.refusal.Refusal.TheVariants as refusals
 use Rattle.gf_items.specs.Refusals.{IsOfWork, IsOfTest}
@@ -49,7 +50,7 @@ use Rattle.gfan_lists.specs.BasesList.{AreAllBases}
 use Rattle.gfan_common.specs.Causes.{of_tree}
 use Rattle.gfan_lists.specs.BasesWriting.{IsFirstBasis, StartsAt, IsRootRefusal}
 use Rattle.gfan_common.specs.Refused.{IsUnnamed, without_names}
-use Rattle.gfan_lists.specs.Generated.{ArePrintedWeights, added, summary_text, IsSummaryText, IsSummaryCause, generated_command}
+use Rattle.gfan_lists.specs.Generated.{ArePrintedWeights, added, summary_text, IsSummaryText, IsSummaryCause, summary_command, generated_command}
 use Rattle.gfan_lists.specs.Summaries.{IsOfNoBasis, IsWithBasis, IsWideSum, IsUnsummed, IsSummary}
 use Rattle.gfan_lists.specs.OneSummary.{SummariesAreOne}
 use Rattle.gfan_lists.proofs.BasesListLaws.{first_node, first_own, own_start, all_bases_from}
@@ -273,7 +274,7 @@ unnamed_unsummed s b r (IsUnsummed.at_sum w h (IsWideSum.wide e f q)) = subst (�
 
 -- four lines of a summary
 pub summary_answers : (number limit pairs : ℕ) (s : Summary) (text : List ℕ) → IsSummary limit (generated_set number) s → text ≡ summary_text s.bases s.degree s.weights s.complete →
-    IsAnswered (generated_command number limit pairs) [] text
+    IsAnswered (summary_command number limit pairs) [] text
 summary_answers number limit pairs s text h e = record {
   value = tt;
   read = tt;
@@ -289,11 +290,11 @@ summary_answers number limit pairs s text h e = record {
   };
 }
 
-pub summary_refuses : (number limit pairs : ℕ) (r : Refusal) → IsSummaryCause limit pairs (generated_set number) r ⊎ (r ≡ refusals.Memory) → IsRefusedOn (generated_command number limit pairs) [] r
+pub summary_refuses : (number limit pairs : ℕ) (r : Refusal) → IsSummaryCause limit pairs (generated_set number) r ⊎ (r ≡ refusals.Memory) → IsRefusedOn (summary_command number limit pairs) [] r
 summary_refuses number limit pairs r (inl h) = IsRefusedOn.behind_text tt tt (IsUnanswered.in_work tt h)
 summary_refuses number limit pairs r (inr m) = IsRefusedOn.no_memory m
 
-pub root_refuses : (number limit pairs : ℕ) (r : Refusal) → IsRootRefusal 4 (generated_set number) pairs r → IsRefusedOn (generated_command number limit pairs) [] r
+pub root_refuses : (number limit pairs : ℕ) (r : Refusal) → IsRootRefusal 4 (generated_set number) pairs r → IsRefusedOn (summary_command number limit pairs) [] r
 root_refuses number limit pairs r h = summary_refuses number limit pairs r (inl (IsSummaryCause.at_root h.0 h.1 h.2))
 
 -- ---- it is lawful
@@ -316,7 +317,7 @@ summary_not_listed limit pairs fs most (IsSummaryCause.in_tree e h q) = tree_not
 summary_not_listed limit pairs fs most (IsSummaryCause.at_weight e h q) = weight_not_listed e most q
 summary_not_listed limit pairs fs most (IsSummaryCause.at_sum e h q) = cc
 
-generated_exact : (number limit pairs : ℕ) → IsExactCommand (generated_command number limit pairs)
+generated_exact : (number limit pairs : ℕ) → IsExactCommand (summary_command number limit pairs)
 generated_exact number limit pairs = record {
   reading = none_once;
   checks = λ texts v h. tt;
@@ -324,10 +325,13 @@ generated_exact number limit pairs = record {
   within = λ v r w h. w r h;
 }
 
-pub generated_lawful : (number limit pairs : ℕ) → IsLawful (generated_command number limit pairs)
-generated_lawful number limit pairs =
-    let c = generated_command number limit pairs in
+summary_lawful : (number limit pairs : ℕ) → IsLawful (summary_command number limit pairs)
+summary_lawful number limit pairs =
+    let c = summary_command number limit pairs in
     sound_lawful c (generated_exact number limit pairs) (untested c (λ v r t h. summary_untested limit pairs (generated_set number) r t h)) tt (λ t. t) (λ a m w. summary_not_listed limit pairs (generated_set number) m w)
+
+pub generated_lawful : (o : GeneratedOptions) → IsLawful (generated_command o)
+generated_lawful o = summary_lawful o.number o.limit o.pairs
 
 -- ---- it writes one text
 

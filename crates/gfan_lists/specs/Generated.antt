@@ -18,6 +18,7 @@ use Rattle.gf_weights.specs.declared.error.WeightError.{WeightError}
 use Rattle.gf_weights.specs.Weights.{IsPrintedWeight}
 use Rattle.gf_weights.specs.Refusals.{IsWeightCause}
 use Rattle.gf_generated.specs.Generated.{generated_set}
+use Rattle.gf_front.specs.declared.options.GeneratedOptions.{GeneratedOptions}
 use Rattle.gf_front.specs.declared.refusal.Refusal.{Refusal}
 use Rattle.gf_front.specs.declared.refusal.Refusal.TheVariants as refusals
 use Rattle.gf_frame.specs.Readings.{of_none}
@@ -103,8 +104,8 @@ pub data IsSummaryCause (limit pairs : ℕ) (fs : List Terms) (r : Refusal) : Ty
 -- ---- the command
 
 -- it reads nothing; how many workers there are isn't told
-abbrev pub generated_command : ℕ → ℕ → ℕ → Command
-generated_command number limit pairs = record {
+abbrev pub summary_command : ℕ → ℕ → ℕ → Command
+summary_command number limit pairs = record {
   Value = Unit {0};
   reads = [];
   reading = of_none;
@@ -114,3 +115,7 @@ generated_command number limit pairs = record {
   IsWithin = λ v. (r : Refusal) → IsSummaryCause limit pairs (generated_set number) r → r ≡ refusals.Memory;
   writing = Writing.at_end;
 }
+
+-- as the options say
+abbrev pub generated_command : GeneratedOptions → Command
+generated_command o = summary_command o.number o.limit o.pairs

@@ -198,8 +198,8 @@ pub fn answer<R: Threads + Sync>(
     given: &GeneratedOptions,
 ) -> Result<Vec<u8>, Refused>
     requires { HasNumbersInRange (Job.Generated given.now) }
-    ensures ok { IfOk result (λ text. IsAnswered (generated_command given.now.number given.now.limit given.now.pairs) [] text.items) }
-    ensures err { IfErr result (λ e. IsRefusedOn (generated_command given.now.number given.now.limit given.now.pairs) [] e.refusal) }
+    ensures ok { IfOk result (λ text. IsAnswered (generated_command given.now) [] text.items) }
+    ensures err { IfErr result (λ e. IsRefusedOn (generated_command given.now) [] e.refusal) }
     ensures told { IfErr result IsUnnamed }
 {
     let root = first_basis(alloc, given.number, given.pairs)?;

@@ -18,9 +18,9 @@ use Rattle.gf_buchberger.specs.Bases.{IsBasisRefusal}
 use Rattle.gf_buchberger.specs.declared.homogeneity.NotHomogeneous.{NotHomogeneous}
 use Rattle.gf_buchberger.specs.Jobs.{HaveRingVariables, IsSuited}
 use Rattle.gf_buchberger.proofs.JobLaws.{orders_that_suit}
+use Rattle.gf_front.specs.declared.options.BuchbergerOptions.{BuchbergerOptions}
 use Rattle.gf_front.specs.declared.refusal.Refusal.{Refusal}
 use Rattle.gf_front.specs.declared.refusal.Refusal.TheVariants as refusals
-use Rattle.gfan_sets.specs.declared.buchberger.Options.{Options}
 use Rattle.gf_items.specs.Items.{IsTextOf}
 use Rattle.gf_items.specs.Sources.{ring_set_vector}
 use Rattle.gf_items.specs.Checks.{AllHold, FirstFails}
@@ -59,12 +59,12 @@ entries_by n k r revlex weight order p q d h = subst (HasEntries k) (sym d) (ord
 
 -- ---- the command
 
-pub basis_refused : (o : Options) (n k : ℕ) (ring : List (List ℕ)) (weight : Option (List ℤ)) (ws : List Written) (fs : List Terms) (order : MonomialOrder) (e : BasisError) → n ≡ length ring → k ≡ length ring → fs ≡ generators_of ws → order ≡ asked_order o.revlex weight → AllHold (form o.revlex n weight (generators_of ws)) → IsBasisRefusal order k fs o.pairs e → IsUnanswered (buchberger_command o) (ring, (ws, weight)) (of_basis e)
+pub basis_refused : (o : BuchbergerOptions) (n k : ℕ) (ring : List (List ℕ)) (weight : Option (List ℤ)) (ws : List Written) (fs : List Terms) (order : MonomialOrder) (e : BasisError) → n ≡ length ring → k ≡ length ring → fs ≡ generators_of ws → order ≡ asked_order o.revlex weight → AllHold (form o.revlex n weight (generators_of ws)) → IsBasisRefusal order k fs o.pairs e → IsUnanswered (buchberger_command o) (ring, (ws, weight)) (of_basis e)
 basis_refused o n k ring weight ws fs order e p q f d g h =
     IsUnanswered.in_work (subst (λ z. AllHold (form o.revlex z weight (generators_of ws))) p g)
     (e, refl, subst (λ z. IsBasisRefusal z (length ring) (generators_of ws) o.pairs e) d (subst (λ z. IsBasisRefusal order z (generators_of ws) o.pairs e) q (subst (λ z. IsBasisRefusal order k z o.pairs e) f h)))
 
-pub of_ring : (o : Options) (source : List ℕ) (ring : List (List ℕ)) (set : List Written) (w : Option (List ℤ)) → IsTextOf (ring_set_vector o.weighted) source (ring, (set, w)) → (e : Refusal) → IsNamedBy (Some ring) e → IsOfSource source (record { refusal = e; ring = Some ring })
+pub of_ring : (o : BuchbergerOptions) (source : List ℕ) (ring : List (List ℕ)) (set : List Written) (w : Option (List ℤ)) → IsTextOf (ring_set_vector o.weighted) source (ring, (set, w)) → (e : Refusal) → IsNamedBy (Some ring) e → IsOfSource source (record { refusal = e; ring = Some ring })
 of_ring o source ring set w r e h = record { named = h; ring = (r.read.behind, r.read.one) }
 
 -- ---- the names of monomials
@@ -80,7 +80,7 @@ no_basis (basis_errors.Exponent o) p x y e = cc
 no_basis (basis_errors.PairBudget b u) p x y e = cc
 no_basis basis_errors.Memory p x y e = cc
 
-not_taken : (o : Options) (ring : List (List ℕ)) (set : List Written) (weight : Option (List ℤ)) (p : ℕ) (x y : Exponents) → IsUnanswered (buchberger_command o) (ring, (set, weight)) (refusals.NotHomogeneous p x y)
+not_taken : (o : BuchbergerOptions) (ring : List (List ℕ)) (set : List Written) (weight : Option (List ℤ)) (p : ℕ) (x y : Exponents) → IsUnanswered (buchberger_command o) (ring, (set, weight)) (refusals.NotHomogeneous p x y)
     → IsFirstNotTaken o.revlex weight (generators_of set) (record { polynomial = p; first = x; second = y })
 not_taken o ring set weight p x y (IsUnanswered.in_form (inl h)) = absurd h
 not_taken o ring set weight p x y (IsUnanswered.in_form (inr (l, inl h))) = h
@@ -117,12 +117,12 @@ no_form revlex n weight fs (refusals.NotListed s i r) (inr (l, inr (d, inl h))) 
 no_form revlex n weight fs (refusals.NotListed s i r) (inr (l, inr (d, inr (w, h)))) k = h
 no_form revlex n weight fs _ h k = k
 
-not_of_checks : (o : Options) (ring : List (List ℕ)) (set : List Written) (weight : Option (List ℤ)) (r : Refusal) → IsUnanswered (buchberger_command o) (ring, (set, weight)) r → IsOfChecks r → ⊥
+not_of_checks : (o : BuchbergerOptions) (ring : List (List ℕ)) (set : List Written) (weight : Option (List ℤ)) (r : Refusal) → IsUnanswered (buchberger_command o) (ring, (set, weight)) r → IsOfChecks r → ⊥
 not_of_checks o ring set weight r (IsUnanswered.in_form h) k = no_form o.revlex (length ring) weight (generators_of set) r h k
 not_of_checks o ring set weight r (IsUnanswered.in_work g (e, q, h)) k = no_check e (subst IsOfChecks q k)
 not_of_checks o ring set weight r (IsUnanswered.no_memory m) k = subst IsOfChecks m k
 
-pub named_job : (o : Options) (ring : List (List ℕ)) (set : List Written) (weight : Option (List ℤ)) (e : Refusal) → HaveRingVariables (length ring) (generators_of set) → IsUnanswered (buchberger_command o) (ring, (set, weight)) e → IsNamedBy (Some ring) e
+pub named_job : (o : BuchbergerOptions) (ring : List (List ℕ)) (set : List Written) (weight : Option (List ℤ)) (e : Refusal) → HaveRingVariables (length ring) (generators_of set) → IsUnanswered (buchberger_command o) (ring, (set, weight)) e → IsNamedBy (Some ring) e
 named_job o ring set weight (refusals.NotHomogeneous p x y) v h = λ lent is.
     let variables = not_taken_variables (length ring) o.revlex weight (generators_of set) (record { polynomial = p; first = x; second = y }) v (not_taken o ring set weight p x y h) in
     (lent_names ring x lent is variables.0, lent_names ring y lent is variables.1)

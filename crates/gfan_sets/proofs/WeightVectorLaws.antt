@@ -1,9 +1,9 @@
 -- The weights of sets: how they are found, why they aren't, and that a source is answered in one way.
 -- To cite: weights_joined, set_unweighed, weight_unweighed, items_more, items_all, one_read, named_one, named_list, one_unweighed, list_unweighed;
--- weight_vector_exact, weight_vector_tested, unweighed_not_listed. The rest are steps.
+-- weight_lawful, weight_source, weight_once. The rest are steps.
 use Rattle.std.specs.Prelude.{◌≡◌, ◌⊎◌, ℕ, ◌+◌, ◌<◌, ◌≤◌, Bool, true, false, List, [], ◌∷◌, ◌++◌, length, take, zip, flat_map, Contains, Some, ℤ}
 use Rattle.std.specs.List.{AllZip}
-use Rattle.std.proofs.Common.{arith, sym, ap, ◌∙◌, subst, inl, inr, get_or, append_assoc, append-nil}
+use Rattle.std.proofs.Common.{arith, refl, sym, ap, ◌∙◌, subst, inl, inr, get_or, append_assoc, append-nil}
 use Rattle.std.proofs.lemmas.List.{take_more, take_all}
 use Rattle.std.proofs.lemmas.List.Concat.{flat_map-append}
 use Rattle.std.proofs.lemmas.Slice.Zip.{length-zip, get_or-zip}
@@ -15,19 +15,22 @@ use Rattle.gf_weights.specs.declared.error.WeightError.{WeightError}
 use Rattle.gf_weights.specs.declared.error.WeightError.TheVariants as weight_errors
 use Rattle.gf_weights.specs.Weights.{IsPrintedWeight}
 use Rattle.gf_weights.specs.Refusals.{IsWeightCause}
+use Rattle.gf_front.specs.declared.options.WeightVectorOptions.{WeightVectorOptions}
 use Rattle.gf_front.specs.declared.refusal.Refusal.{Refusal}
 use Rattle.gf_front.specs.declared.refusal.Refusal.TheVariants as refusals
 use Rattle.gf_items.specs.Items.{IsTextOf, from}
 use Rattle.gf_items.specs.Sources.{ring_marked_set, ring_marked_sets}
 use Rattle.gf_items.specs.Kinds.{a_marked_set, marked_set_list}
 use Rattle.gf_items.specs.Refusals.{IsOfTest, IsOfNumbers, TellsSame, IsOfWork}
-use Rattle.gf_frame.specs.Commands.{IsUnanswered, IsRefusedOn}
+use Rattle.gf_frame.specs.Loading.{Origin}
+use Rattle.gf_frame.specs.Commands.{WritesOnce, IsUnanswered, IsRefusedOn}
 use Rattle.gf_items.proofs.KindLaws.{ring_and_once}
 use Rattle.gf_frame.proofs.ReadingLaws.{one_once, of_one_text}
-use Rattle.gf_frame.proofs.SoundLaws.{IsExactCommand, IsTestedCommand}
+use Rattle.gf_frame.proofs.CommandLaws.{IsLawful}
+use Rattle.gf_frame.proofs.SoundLaws.{IsExactCommand, IsTestedCommand, sound_lawful}
 use Rattle.gfan_common.specs.CheckedSets.{of_check}
 use Rattle.gfan_common.specs.Causes.{of_weight_error}
-use Rattle.gfan_sets.specs.WeightVector.{IsWeightOfSet, IsUnweighed, IsWeighedWithin, weight_item, later_weight_item, weight_vector_command}
+use Rattle.gfan_sets.specs.WeightVector.{IsWeightOfSet, IsUnweighed, IsWeighedWithin, weight_item, later_weight_item, weights_command, weight_vector_command}
 use Rattle.gfan_common.specs.ReducedSets.{IsReducedAsRead, IsRefusedFrom}
 use Rattle.gfan_common.specs.Refused.{IsNamedBy}
 use Rattle.gfan_common.proofs.ReadSetLaws.{IsSetKept, one_kept}
@@ -103,10 +106,10 @@ named_list source ring sets r read h = unweighed_named ring sets r (list_read so
 
 -- ---- from a source on
 
-pub one_unweighed : (echoed : Bool) (source : List ℕ) (ring : List (List ℕ)) (s : MarkedPolynomials) (r : Refusal) → IsTextOf ring_marked_set source (ring, s) → IsUnweighed (s ∷ []) r → IsRefusedOn (weight_vector_command false echoed) (source ∷ []) r
+pub one_unweighed : (echoed : Bool) (source : List ℕ) (ring : List (List ℕ)) (s : MarkedPolynomials) (r : Refusal) → IsTextOf ring_marked_set source (ring, s) → IsUnweighed (s ∷ []) r → IsRefusedOn (weights_command false echoed) (source ∷ []) r
 one_unweighed echoed source ring s r read h = IsRefusedOn.behind_text (ring, s) read (IsUnanswered.in_work tt h)
 
-pub list_unweighed : (echoed : Bool) (source : List ℕ) (ring : List (List ℕ)) (sets : List MarkedPolynomials) (r : Refusal) → IsTextOf ring_marked_sets source (ring, sets) → IsUnweighed sets r → IsRefusedOn (weight_vector_command true echoed) (source ∷ []) r
+pub list_unweighed : (echoed : Bool) (source : List ℕ) (ring : List (List ℕ)) (sets : List MarkedPolynomials) (r : Refusal) → IsTextOf ring_marked_sets source (ring, sets) → IsUnweighed sets r → IsRefusedOn (weights_command true echoed) (source ∷ []) r
 list_unweighed echoed source ring sets r read h = IsRefusedOn.behind_text (ring, sets) read (IsUnanswered.in_work tt h)
 
 -- ---- within limits
@@ -125,7 +128,7 @@ unweighed_within sets r w (IsUnweighed.no_memory m) = m
 only : (s : MarkedPolynomials) → IsWeighedWithin s → (r : MarkedPolynomials) → Contains (s ∷ []) r → IsWeighedWithin r
 only s w r c = contained_each IsWeighedWithin (s ∷ []) (w, tt) r c
 
-pub weight_vector_exact : (listed echoed : Bool) → IsExactCommand (weight_vector_command listed echoed)
+weight_vector_exact : (listed echoed : Bool) → IsExactCommand (weights_command listed echoed)
 weight_vector_exact false echoed = record {
   reading = one_once _ (ring_and_once a_marked_set []);
   checks = λ texts v h. tt;
@@ -141,7 +144,7 @@ weight_vector_exact true echoed = record {
 
 -- ---- no limit of a list
 
-pub unweighed_not_listed : (sets : List MarkedPolynomials) (most : ℕ) → IsUnweighed sets (refusals.ListLimit most) → ⊥
+unweighed_not_listed : (sets : List MarkedPolynomials) (most : ℕ) → IsUnweighed sets (refusals.ListLimit most) → ⊥
 unweighed_not_listed sets most (IsUnweighed.at_set e h q) = check_not_listed e most q
 unweighed_not_listed sets most (IsUnweighed.at_weight e a h q) = weight_not_listed e most q
 unweighed_not_listed sets most (IsUnweighed.no_memory m) = cc
@@ -162,7 +165,7 @@ unweighed_refutes n sets weights r v t (IsUnweighed.at_set e h q) a =
 unweighed_refutes n sets weights r v t (IsUnweighed.at_weight e b h q) a = weight_untested e (subst IsOfTest q t)
 unweighed_refutes n sets weights r v t (IsUnweighed.no_memory m) a = subst IsOfTest m t
 
-pub weight_vector_tested : (listed echoed : Bool) → IsTestedCommand (weight_vector_command listed echoed)
+weight_vector_tested : (listed echoed : Bool) → IsTestedCommand (weights_command listed echoed)
 weight_vector_tested false echoed = record {
   tests = λ texts v r d read t h k. of_one_text ring_marked_set _ texts v read (λ source x. unweighed_once (length v.0) (v.1 ∷ []) r d (one_read source v x) t h k);
   answers = λ texts v r text read t h a. of_one_text ring_marked_set _ texts v read (λ source x. unweighed_refutes (length v.0) (v.1 ∷ []) a.weights r (one_read source v x) t h a.are_weights);
@@ -173,3 +176,26 @@ weight_vector_tested true echoed = record {
   answers = λ texts v r text read t h a. of_one_text ring_marked_sets _ texts v read (λ source x. unweighed_refutes (length v.0) v.1 a.weights r (list_read source v x) t h a.are_weights);
   wholes = λ texts v r text read t h a. of_one_text ring_marked_sets _ texts v read (λ source x. unweighed_refutes (length v.0) v.1 a.weights r (list_read source v x) t h a.are_weights);
 }
+
+-- ---- its laws
+
+lawful_by : (listed echoed : Bool) → IsLawful (weights_command listed echoed)
+lawful_by false echoed = sound_lawful (weights_command false echoed) (weight_vector_exact false echoed) (weight_vector_tested false echoed) (λ h. h) (λ t. t) (λ a m w. unweighed_not_listed (a.1 ∷ []) m w)
+lawful_by true echoed = sound_lawful (weights_command true echoed) (weight_vector_exact true echoed) (weight_vector_tested true echoed) (λ h. h) (λ t. t) (λ a m w. unweighed_not_listed a.1 m w)
+
+source_by : (listed echoed : Bool) → (weights_command listed echoed).reads ≡ Origin.the_input ∷ []
+source_by false echoed = refl
+source_by true echoed = refl
+
+once_by : (listed echoed : Bool) → WritesOnce (weights_command listed echoed).writing
+once_by false echoed = tt
+once_by true echoed = tt
+
+pub weight_lawful : (o : WeightVectorOptions) → IsLawful (weight_vector_command o)
+weight_lawful o = lawful_by o.listed o.echoed
+
+pub weight_source : (o : WeightVectorOptions) → (weight_vector_command o).reads ≡ Origin.the_input ∷ []
+weight_source o = source_by o.listed o.echoed
+
+pub weight_once : (o : WeightVectorOptions) → WritesOnce (weight_vector_command o).writing
+weight_once o = once_by o.listed o.echoed

@@ -7,11 +7,11 @@ use Rattle.gf_poly.specs.Marking.{MarkedPolynomials}
 use Rattle.gf_text.specs.declared.written.Written.{Written}
 use Rattle.gf_buchberger.specs.declared.bases.BasisError.{BasisError}
 use Rattle.gf_buchberger.specs.Bases.{IsArrangedBasis, IsBasisRefusal, AreRunsWithinLimits}
+use Rattle.gf_front.specs.declared.options.BuchbergerOptions.{BuchbergerOptions}
 use Rattle.gf_items.specs.Sources.{ring_set_vector}
 use Rattle.gf_frame.specs.Loading.{Origin}
 use Rattle.gf_frame.specs.Readings.{of_one}
 use Rattle.gf_frame.specs.Commands.{Writing, Command}
-use Rattle.gfan_sets.specs.declared.buchberger.Options.{Options}
 use Rattle.gfan_common.specs.Printing.{IsPrinted}
 use Rattle.gfan_common.specs.Forms.{form, generators_of}
 use Rattle.gfan_common.specs.Causes.{of_basis}
@@ -36,7 +36,7 @@ pub record IsBasisText (order : MonomialOrder) (ring : List (List ℕ)) (fs : Li
 -- ---- the command
 
 -- the command `_buchberger`
-abbrev pub buchberger_command : Options → Command
+abbrev pub buchberger_command : BuchbergerOptions → Command
 buchberger_command o = record {
   Value = List (List ℕ) × (List Written × Option (List ℤ));
   reads = Origin.the_input ∷ [];

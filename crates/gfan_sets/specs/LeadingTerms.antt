@@ -2,6 +2,7 @@
 use Rattle.std.specs.Prelude.{◌≡◌, ℕ, Bool, true, false, List, [], map, ◌∷◌}
 use Rattle.gf_poly.specs.Marking.{MarkedPolynomials}
 use Rattle.gf_small.specs.LeadingTerms.{leading_set}
+use Rattle.gf_front.specs.declared.options.LeadingTermsOptions.{LeadingTermsOptions}
 use Rattle.gf_front.specs.declared.refusal.Refusal.TheVariants as refusals
 use Rattle.gf_items.specs.Sources.{ring_marked_set, ring_marked_sets}
 use Rattle.gf_frame.specs.Loading.{Origin}
@@ -10,8 +11,8 @@ use Rattle.gf_frame.specs.Commands.{Writing, Command}
 use Rattle.gfan_common.specs.Printing.{IsPrinted, IsPrintedList}
 
 -- the ring in a line, and the marked terms of the set, or of each set of a list, in the order that was read
-abbrev pub leading_terms_command : Bool → Command
-leading_terms_command false = record {
+abbrev pub leading_command : (listed : Bool) → Command
+leading_command false = record {
   Value = List (List ℕ) × MarkedPolynomials;
   reads = Origin.the_input ∷ [];
   reading = of_one ring_marked_set;
@@ -21,7 +22,7 @@ leading_terms_command false = record {
   IsWithin = λ v. Unit {0};
   writing = Writing.at_end;
 }
-leading_terms_command true = record {
+leading_command true = record {
   Value = List (List ℕ) × List MarkedPolynomials;
   reads = Origin.the_input ∷ [];
   reading = of_one ring_marked_sets;
@@ -31,3 +32,7 @@ leading_terms_command true = record {
   IsWithin = λ v. Unit {0};
   writing = Writing.at_end;
 }
+
+-- as the options say
+abbrev pub leading_terms_command : LeadingTermsOptions → Command
+leading_terms_command o = leading_command o.listed

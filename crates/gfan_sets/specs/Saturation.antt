@@ -5,6 +5,7 @@ use Rattle.gf_poly.specs.Marking.{MarkedPolynomials}
 use Rattle.gf_buchberger.specs.declared.bases.BasisError.{BasisError}
 use Rattle.gf_saturate.specs.Saturating.{IsSaturation, IsSaturateRefusal, AreStepsWithinLimits}
 use Rattle.gf_text.specs.declared.written.Written.{Written}
+use Rattle.gf_front.specs.declared.options.SaturationOptions.{SaturationOptions}
 use Rattle.gf_items.specs.Sources.{ring_set_vector}
 use Rattle.gf_frame.specs.Loading.{Origin}
 use Rattle.gf_frame.specs.Readings.{of_one}
@@ -20,14 +21,14 @@ pub record IsSaturationText (ring : List (List ℕ)) (fs : List Terms) (text : L
   pub is_text : IsPrinted ring saturation text
 
 -- the command, with this budget of pairs for each run
-abbrev pub saturation_command : ℕ → Command
-saturation_command pairs = record {
+abbrev pub saturation_command : SaturationOptions → Command
+saturation_command o = record {
   Value = List (List ℕ) × (List Written × Option (List ℤ));
   reads = Origin.the_input ∷ [];
   reading = of_one (ring_set_vector false);
   checks = λ v. [];
   IsAnswer = λ v text. IsSaturationText v.0 (generators_of v.1.0) text;
-  IsCause = λ v r. (e : BasisError) × (r ≡ of_basis e) × IsSaturateRefusal (length v.0) (generators_of v.1.0) pairs e;
-  IsWithin = λ v. AreStepsWithinLimits (length v.0) (generators_of v.1.0) pairs;
+  IsCause = λ v r. (e : BasisError) × (r ≡ of_basis e) × IsSaturateRefusal (length v.0) (generators_of v.1.0) o.pairs e;
+  IsWithin = λ v. AreStepsWithinLimits (length v.0) (generators_of v.1.0) o.pairs;
   writing = Writing.at_end;
 }

@@ -15,6 +15,7 @@ use Rattle.gf_weights.specs.Refusals.{IsWeightCause, IsWeightWithinLimits}
 use Rattle.gf_text.specs.RingText.{ring_text}
 use Rattle.gf_text.specs.PrintedSets.{basis_text}
 use Rattle.gf_text.specs.VectorText.{vector_text}
+use Rattle.gf_front.specs.declared.options.WeightVectorOptions.{WeightVectorOptions}
 use Rattle.gf_front.specs.declared.refusal.Refusal.{Refusal}
 use Rattle.gf_front.specs.declared.refusal.Refusal.TheVariants as refusals
 use Rattle.gf_items.specs.Sources.{ring_marked_set, ring_marked_sets}
@@ -105,8 +106,8 @@ pub record IsWeighedWithin (s : MarkedPolynomials) : Type 0 where
 -- ---- the command
 
 -- of a set, or of each set of a list
-abbrev pub weight_vector_command : Bool → Bool → Command
-weight_vector_command false echoed = record {
+abbrev pub weights_command : (listed echoed : Bool) → Command
+weights_command false echoed = record {
   Value = List (List ℕ) × MarkedPolynomials;
   reads = Origin.the_input ∷ [];
   reading = of_one ring_marked_set;
@@ -116,7 +117,7 @@ weight_vector_command false echoed = record {
   IsWithin = λ v. IsWeighedWithin v.1;
   writing = Writing.at_end;
 }
-weight_vector_command true echoed = record {
+weights_command true echoed = record {
   Value = List (List ℕ) × List MarkedPolynomials;
   reads = Origin.the_input ∷ [];
   reading = of_one ring_marked_sets;
@@ -126,3 +127,7 @@ weight_vector_command true echoed = record {
   IsWithin = λ v. (s : MarkedPolynomials) → Contains v.1 s → IsWeighedWithin s;
   writing = Writing.at_end;
 }
+
+-- as the options say
+abbrev pub weight_vector_command : WeightVectorOptions → Command
+weight_vector_command o = weights_command o.listed o.echoed

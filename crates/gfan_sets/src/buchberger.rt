@@ -11,7 +11,7 @@ ghost use Rattle.gfan_sets.specs.Questions.{IsCountable, IsQuestion};
 ghost use Rattle.gfan_common.specs.Refused.{IsOfSource};
 
 use gf_conversion::basis_by_several_ways;
-use gf_front::Refusal;
+use gf_front::{BuchbergerOptions, Refusal};
 use gf_items::{RingAndSet, ring_and_set};
 use gf_order::{NotTermOrder, Order};
 use gf_poly::Poly;
@@ -22,17 +22,6 @@ use gfan_common::printing::printed;
 use gfan_common::refused::{Refused, of_basis};
 use gfan_common::written_sets::polynomials;
 use std::alloc::Global;
-
-/// The options of `_buchberger`.
-#[derive(Clone, Copy, Debug)]
-pub struct Options {
-    /// A weight is read behind the set, and compared first.
-    pub weighted: bool,
-    /// The order is revlex, or ties of the weight are broken by revlex; else by lex.
-    pub revlex: bool,
-    /// How many pairs each run of Buchberger's algorithm settles at most.
-    pub pairs: u64,
-}
 
 /// What is to be worked out: the basis of these polynomials by this order.
 #[derive(Drop)]
@@ -75,7 +64,7 @@ fn checked(
     n: u32,
     set: &[Written],
     weight: Option<IntVec>,
-    options: Options,
+    options: BuchbergerOptions,
 ) -> Result<Question, Refusal>
     requires { ForSome weight AreEntriesWithin }
     ensures ok { IfOk result (IsQuestion options.revlex n weight (generators_of set.now)) }
@@ -98,7 +87,7 @@ fn job(
     ring: &Ring,
     set: &[Written],
     weight: Option<IntVec>,
-    options: Options,
+    options: BuchbergerOptions,
 ) -> Result<Vec<u8>, Refusal>
     requires variables { AreIn (length ring.now) set.now }
     requires within { ForSome weight AreEntriesWithin }
@@ -138,7 +127,7 @@ fn job(
 /// - `Overflow` and `ExponentOverflow` only at a sum of the text, or at an operation that a run of Buchberger's algorithm on the
 ///   set by this order may have, and whose operands don't fit.
 /// - `PairBudget` only where a run on the set by this order would have to settle more than `pairs` pairs.
-pub fn answer(alloc: Global, source: &[u8], options: Options) -> Result<Vec<u8>, Refused>
+pub fn answer(alloc: Global, source: &[u8], options: BuchbergerOptions) -> Result<Vec<u8>, Refused>
     ensures ok { IfOk result (λ text. IsAnswered (buchberger_command options) (source.now ∷ []) text.items) }
     ensures err { IfErr result (λ e. IsRefusedOn (buchberger_command options) (source.now ∷ []) e.refusal) }
     ensures told { IfErr result (IsOfSource source.now) }

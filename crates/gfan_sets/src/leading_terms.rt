@@ -2,9 +2,10 @@
 ghost use Rattle.std.specs.Prelude.{◌≡◌, true, false, map, IfOk, IfErr, [], ◌∷◌};
 ghost use Rattle.gf_small.specs.LeadingTerms.{leading_set};
 ghost use Rattle.gf_frame.specs.Commands.{IsAnswered, IsRefusedOn};
-ghost use Rattle.gfan_sets.specs.LeadingTerms.{leading_terms_command};
+ghost use Rattle.gfan_sets.specs.LeadingTerms.{leading_command, leading_terms_command};
 ghost use Rattle.gfan_common.specs.Refused.{IsOfSource};
 
+use gf_front::LeadingTermsOptions;
 use gf_items::{ring_and_marked, ring_and_marked_sets};
 use gf_poly::MarkedSet;
 use gfan_common::printing::{printed, printed_list};
@@ -25,8 +26,8 @@ fn leading_sets(alloc: Global, sets: &[MarkedSet]) -> Result<Vec<MarkedSet>, All
 
 /// What is written for a source with one set.
 fn of_set(alloc: Global, source: &[u8]) -> Result<Vec<u8>, Refused>
-    ensures ok { IfOk result (λ text. IsAnswered (leading_terms_command false) (source.now ∷ []) text.items) }
-    ensures err { IfErr result (λ e. IsRefusedOn (leading_terms_command false) (source.now ∷ []) e.refusal) }
+    ensures ok { IfOk result (λ text. IsAnswered (leading_command false) (source.now ∷ []) text.items) }
+    ensures err { IfErr result (λ e. IsRefusedOn (leading_command false) (source.now ∷ []) e.refusal) }
     ensures told { IfErr result (IsOfSource source.now) }
 {
     let read = ring_and_marked(alloc, source)?;
@@ -37,8 +38,8 @@ fn of_set(alloc: Global, source: &[u8]) -> Result<Vec<u8>, Refused>
 
 /// What is written for a source with a list of sets.
 fn of_list(alloc: Global, source: &[u8]) -> Result<Vec<u8>, Refused>
-    ensures ok { IfOk result (λ text. IsAnswered (leading_terms_command true) (source.now ∷ []) text.items) }
-    ensures err { IfErr result (λ e. IsRefusedOn (leading_terms_command true) (source.now ∷ []) e.refusal) }
+    ensures ok { IfOk result (λ text. IsAnswered (leading_command true) (source.now ∷ []) text.items) }
+    ensures err { IfErr result (λ e. IsRefusedOn (leading_command true) (source.now ∷ []) e.refusal) }
     ensures told { IfErr result (IsOfSource source.now) }
 {
     let read = ring_and_marked_sets(alloc, source)?;
@@ -57,12 +58,16 @@ fn of_list(alloc: Global, source: &[u8]) -> Result<Vec<u8>, Refused>
 /// - `ZeroPolynomial` where nothing remains of a polynomial, with the number of the first set that has such a one, and the index of the
 ///   first one in it.
 /// - `Overflow` and `ExponentOverflow` only at a sum of the text.
-pub fn answer(alloc: Global, source: &[u8], listed: bool) -> Result<Vec<u8>, Refused>
-    ensures ok { IfOk result (λ text. IsAnswered (leading_terms_command listed) (source.now ∷ []) text.items) }
-    ensures err { IfErr result (λ e. IsRefusedOn (leading_terms_command listed) (source.now ∷ []) e.refusal) }
+pub fn answer(
+    alloc: Global,
+    source: &[u8],
+    options: LeadingTermsOptions,
+) -> Result<Vec<u8>, Refused>
+    ensures ok { IfOk result (λ text. IsAnswered (leading_terms_command options) (source.now ∷ []) text.items) }
+    ensures err { IfErr result (λ e. IsRefusedOn (leading_terms_command options) (source.now ∷ []) e.refusal) }
     ensures told { IfErr result (IsOfSource source.now) }
 {
-    if listed {
+    if options.listed {
         of_list(alloc, source)
     } else {
         of_set(alloc, source)

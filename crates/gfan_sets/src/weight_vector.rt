@@ -6,9 +6,9 @@ ghost use Rattle.gf_weights.specs.Weights.{IsPrintedWeight};
 ghost use Rattle.gf_weights.specs.Refusals.{IsWeightCause};
 ghost use Rattle.gf_frame.specs.Commands.{IsAnswered, IsRefusedOn};
 ghost use Rattle.gfan_common.specs.Refused.{IsOfSource};
-ghost use Rattle.gfan_sets.specs.WeightVector.{IsWeightOfSet, IsUnweighed, IsWeightsText, weight_item, later_weight_item, weight_items, echoed_ring, enclosed, weight_vector_command};
+ghost use Rattle.gfan_sets.specs.WeightVector.{IsWeightOfSet, IsUnweighed, IsWeightsText, weight_item, later_weight_item, weight_items, echoed_ring, enclosed, weights_command, weight_vector_command};
 
-use gf_front::Refusal;
+use gf_front::{Refusal, WeightVectorOptions};
 use gf_items::{ring_and_marked, ring_and_marked_sets};
 use gf_poly::MarkedSet;
 use gf_text::{Printer, Ring};
@@ -167,8 +167,8 @@ fn text_of(
 
 /// What is written for a source with one set.
 fn of_set(alloc: Global, source: &[u8], echoed: bool) -> Result<Vec<u8>, Refused>
-    ensures ok { IfOk result (λ text. IsAnswered (weight_vector_command false echoed) (source.now ∷ []) text.items) }
-    ensures err { IfErr result (λ e. IsRefusedOn (weight_vector_command false echoed) (source.now ∷ []) e.refusal) }
+    ensures ok { IfOk result (λ text. IsAnswered (weights_command false echoed) (source.now ∷ []) text.items) }
+    ensures err { IfErr result (λ e. IsRefusedOn (weights_command false echoed) (source.now ∷ []) e.refusal) }
     ensures told { IfErr result (IsOfSource source.now) }
 {
     let read = ring_and_marked(alloc, source)?;
@@ -183,8 +183,8 @@ fn of_set(alloc: Global, source: &[u8], echoed: bool) -> Result<Vec<u8>, Refused
 
 /// What is written for a source with a list of sets.
 fn of_list(alloc: Global, source: &[u8], echoed: bool) -> Result<Vec<u8>, Refused>
-    ensures ok { IfOk result (λ text. IsAnswered (weight_vector_command true echoed) (source.now ∷ []) text.items) }
-    ensures err { IfErr result (λ e. IsRefusedOn (weight_vector_command true echoed) (source.now ∷ []) e.refusal) }
+    ensures ok { IfOk result (λ text. IsAnswered (weights_command true echoed) (source.now ∷ []) text.items) }
+    ensures err { IfErr result (λ e. IsRefusedOn (weights_command true echoed) (source.now ∷ []) e.refusal) }
     ensures told { IfErr result (IsOfSource source.now) }
 {
     let read = ring_and_marked_sets(alloc, source)?;
@@ -214,14 +214,18 @@ fn of_list(alloc: Global, source: &[u8], echoed: bool) -> Result<Vec<u8>, Refuse
 /// - `Overflow` and `ExponentOverflow` only at a sum of the text or an operation of these checks; `ConeOverflow` only at a step of
 ///   the elimination of a marking's system, or where all sets are taken at an operation of finding the rays of a set's cone; `WideVector`
 ///   only where all sets are taken, at the first sum of two entries of a set's rays that leaves the range.
-pub fn answer(alloc: Global, source: &[u8], listed: bool, echoed: bool) -> Result<Vec<u8>, Refused>
-    ensures ok { IfOk result (λ text. IsAnswered (weight_vector_command listed echoed) (source.now ∷ []) text.items) }
-    ensures err { IfErr result (λ e. IsRefusedOn (weight_vector_command listed echoed) (source.now ∷ []) e.refusal) }
+pub fn answer(
+    alloc: Global,
+    source: &[u8],
+    options: WeightVectorOptions,
+) -> Result<Vec<u8>, Refused>
+    ensures ok { IfOk result (λ text. IsAnswered (weight_vector_command options) (source.now ∷ []) text.items) }
+    ensures err { IfErr result (λ e. IsRefusedOn (weight_vector_command options) (source.now ∷ []) e.refusal) }
     ensures told { IfErr result (IsOfSource source.now) }
 {
-    if listed {
-        of_list(alloc, source, echoed)
+    if options.listed {
+        of_list(alloc, source, options.echoed)
     } else {
-        of_set(alloc, source, echoed)
+        of_set(alloc, source, options.echoed)
     }
 }

@@ -18,7 +18,7 @@ returns-in-ToPolyhedralFan-clause-err g c =
 
 pub returns-in-TropicalIntersection-clause-err : goal.returns-in-TropicalIntersection-clause-err
 returns-in-TropicalIntersection-clause-err g c =
-    subst (λ (j : Job). IfErr c.intersection_answer.result (λ e. IsRefusedOn (command_of j) (c.args.source.now ∷ []) e.refusal)) (sym c.in-TropicalIntersection.is) c.intersection_answer.ensures.err
+    subst (λ (j : Job). IfErr c.answer-in-TropicalIntersection.result (λ e. IsRefusedOn (command_of j) (c.args.source.now ∷ []) e.refusal)) (sym c.in-TropicalIntersection.is) c.answer-in-TropicalIntersection.ensures.err
 
 pub unreachable-requires : goal.unreachable-requires
 unreachable-requires g c = absurd (not_handed c.args.job.now _ c.requires.input c.in-Generated.is)
