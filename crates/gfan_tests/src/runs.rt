@@ -1,9 +1,9 @@
 //! Whole runs over memory of which no row of `gfan_runs` can say the words, the input or the line.
-use gf_front::Refusal;
+use gf_front::{BuchbergerOptions, Refusal};
 use gf_outside::{MAX_INPUT, MemSink, MemSource, SureFiles};
 use gf_waves::FreeGate;
 use gfan::run::run;
-use gfan_sets::buchberger::{Options, answer};
+use gfan_sets::buchberger::answer;
 use std::alloc::Global;
 use std::test::Fail;
 use std::thread::Threads;
@@ -137,7 +137,7 @@ fn left(refusal: &Refusal) -> Option<(usize, usize)> {
 fn a_small_budget_is_spent(rt: HostRuntime) -> Result<(), Fail> {
     let alloc = rt.alloc();
     for budget in 0usize..3 {
-        let options = Options {
+        let options = BuchbergerOptions {
             weighted: false,
             revlex: false,
             pairs: budget as u64,

@@ -16,6 +16,9 @@ const THREE_BASES: &str = "Q[a,b,c]\n{{\nb-c,\na-c}\n,\n{\nc-b,\na-b}\n,\n{\nc-a
 /// The beginning of that list, up to the second basis.
 const TWO_BASES: &str = "Q[a,b,c]\n{{\nb-c,\na-c}\n,\n{\nc-b,\na-b}";
 
+/// The 2-minors of a 3 by 3 matrix.
+const MINORS: &str = "Q[a,b,c,d,e,f,g,h,i] {ae-bd,af-cd,bf-ce,ah-bg,ai-cg,bi-ch,dh-eg,di-fg,ei-fh}";
+
 /// Where a or b is written by the others, twice the greatest number comes up.
 const WIDE: &str = "Q[a,b,c,d,e] {170141183460469231731687303715884105727a-c,b-2c,d-e}";
 
@@ -118,52 +121,42 @@ fn workers_tell_the_same_refusal(rt: HostRuntime) -> Result<(), Fail> {
     Ok(())
 }
 
-/// Lets jobs 1 and 2 meet, the first of one wave that are two: each sets its own flag and looks for the other's, for so many turns.
+/// Lets jobs meet: before it begins each counts itself, and looks for another that comes, for so many turns.
 #[derive(Drop)]
 struct Meeting {
-    first: AtomicU64,
-    second: AtomicU64,
-    spent: AtomicU64,
+    arrived: AtomicU64,
+    met: AtomicU64,
 }
 
 const TURNS: u64 = 100_000_000;
 
-impl Meeting {
-    fn meet(&self, own: &AtomicU64, other: &AtomicU64) {
-        own.store(1, Ordering::SeqCst);
+impl Gate for Meeting {
+    fn at(&self, _job: u64) {
+        let before = self.arrived.fetch_add(1, Ordering::SeqCst);
         for _ in 0..TURNS {
-            if other.load(Ordering::SeqCst) == 1 {
+            if self.met.load(Ordering::SeqCst) == 1 {
+                return;
+            }
+            if self.arrived.load(Ordering::SeqCst) != before.wrapping_add(1) {
+                self.met.store(1, Ordering::SeqCst);
                 return;
             }
         }
-        self.spent.store(1, Ordering::SeqCst);
     }
 }
 
-impl Gate for Meeting {
-    fn at(&self, job: u64) {
-        if job == 1 {
-            self.meet(&self.first, &self.second);
-        }
-        if job == 2 {
-            self.meet(&self.second, &self.first);
-        }
-    }
-}
-
-/// Below the first of the three bases are the two others, which two workers expand.
+/// The list has 108 bases, more than one job works off.
 #[test]
 fn two_jobs_run_at_the_same_time(rt: HostRuntime) -> Result<(), Fail> {
     let alloc = rt.alloc();
     let gate = Meeting {
-        first: AtomicU64::new(0),
-        second: AtomicU64::new(0),
-        spent: AtomicU64::new(0),
+        arrived: AtomicU64::new(0),
+        met: AtomicU64::new(0),
     };
-    let end = ended(&rt, alloc, "_bases --workers 2", TWO_DIFFERENCES, &gate)?;
-    assert!(rt; end.written.as_slice() == THREE_BASES.as_bytes());
-    assert!(rt; gate.first.load(Ordering::SeqCst) == 1);
-    assert!(rt; gate.second.load(Ordering::SeqCst) == 1);
-    assert!(rt; gate.spent.load(Ordering::SeqCst) == 0);
+    let end = ended(&rt, alloc, "_bases --workers 2", MINORS, &gate)?;
+    assert!(rt; gate.met.load(Ordering::SeqCst) == 1);
+    let alone = ended(&rt, alloc, "_bases", MINORS, &FreeGate)?;
+    assert!(rt; alone.code == 0);
+    assert!(rt; end == alone);
     Ok(())
 }
