@@ -250,7 +250,7 @@ fn jobs_are_numbered_in_turn(rt: HostRuntime) -> Result<(), Fail> {
     Ok(())
 }
 
-/// Lets jobs 3 and 4 meet, the first of one wave that are two: each sets its own flag and looks for the other's, for so many turns.
+/// Lets jobs 3 and 4 meet, those of one wave: each sets its own flag and looks for the other's, for so many turns.
 #[derive(Drop)]
 struct Meeting {
     first: AtomicU64,

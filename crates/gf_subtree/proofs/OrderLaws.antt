@@ -1,7 +1,7 @@
 -- No walker of a row stands behind a node that is left from it on; a wave and a call keep that.
 -- `early v x` says that v doesn't come behind x.
 -- To cite: AreSorted, sorted_right, IsInOrderAfter, call_order. The rest are steps.
-use Rattle.std.proofs.Common.{◌≡◌, ℕ, zero, suc, ◌+◌, ◌-◌, List, [], ◌∷◌, ◌++◌, ◌⊎◌, length, refl, sym, ap, inl, inr, subst, ◌∙◌, append_assoc, append-nil, Option, Some, None, Ok, Err}
+use Rattle.std.proofs.Common.{◌≡◌, ℕ, zero, suc, ◌+◌, ◌-◌, ◌*◌, min, replicate, List, [], ◌∷◌, ◌++◌, ◌⊎◌, length, refl, sym, ap, inl, inr, subst, ◌∙◌, append_assoc, append-nil, Option, Some, None, Ok, Err}
 use Rattle.std.specs.declared.result.Result.{Result}
 use Rattle.gf_walk.specs.declared.mark.Mark.{Mark}
 use Rattle.gf_walk.specs.declared.mark.Mark.TheVariants.{Before, Listed, After}
@@ -141,20 +141,21 @@ module _ {T N L E : Type 0} (lt : L → L → Type 0) (up : T → N → L → N 
 
   -- ---- a job
 
-  on_order : (k n : ℕ) (olds news : List (Piece T N L E)) → ExpandsOn lt up refuses k n olds news → (later nodes : List N) → AreAmong In Is olds → AreSorted early (nodes ++ later) → Orders later olds nodes → Orders later news nodes
-  on_order zero n olds news h later nodes a s l = subst (λ r. Orders later r nodes) (sym h) l
-  on_order (suc k) zero olds news h later nodes a s l = subst (λ r. Orders later r nodes) (sym h) l
-  on_order (suc k) (suc n) [] news h later nodes a s l = subst (λ r. Orders later r nodes) (sym h) l
-  on_order (suc k) (suc n) (Ready v ∷ ps) news h later nodes a s l =
-      subst (λ r. Orders later r nodes) (sym h.1) (l.0, l.1, on_order (suc k) (suc n) ps h.0 h.2 later l.0 a.1 (subst (AreSorted early) (ap (λ z. z ++ later) l.1) s).2 l.2)
-  on_order (suc k) (suc n) (Under w ∷ ps) news h later nodes a s l =
-      on_order k (n + 2 - length h.0) (h.0 ++ ps) news h.2 later nodes
+  on_order : (k n : ℕ) (olds : List (Piece T N L E)) (j i : ℕ) (news : List (Piece T N L E)) → ExpandsOn lt up refuses k n olds j i news → (later nodes : List N) → AreAmong In Is olds → AreSorted early (nodes ++ later) → Orders later olds nodes → Orders later news nodes
+  on_order zero n olds j i news h later nodes a s l = subst (λ r. Orders later r nodes) (sym h.0) l
+  on_order (suc k) zero olds j i news h later nodes a s l = subst (λ r. Orders later r nodes) (sym h.0) l
+  on_order (suc k) (suc zero) olds j i news h later nodes a s l = subst (λ r. Orders later r nodes) (sym h.0) l
+  on_order (suc k) (suc (suc n)) [] j i news h later nodes a s l = subst (λ r. Orders later r nodes) (sym h.0) l
+  on_order (suc k) (suc (suc n)) (Ready v ∷ ps) j i news h later nodes a s l =
+      subst (λ r. Orders later r nodes) (sym h.1) (l.0, l.1, on_order (suc k) (suc (suc n)) ps j i h.0 h.2 later l.0 a.1 (subst (AreSorted early) (ap (λ z. z ++ later) l.1) s).2 l.2)
+  on_order (suc k) (suc (suc n)) (Under w ∷ ps) j i news h later nodes a s l =
+      on_order k (n + 3 - length h.0) (h.0 ++ ps) j i news h.2 later nodes
       (among_both lt up refuses In Is ready down rise h.0 ps (one_among lt up refuses In Is ready down rise w h.0 h.1 a.0) a.1) s
       (subst (Orders later (h.0 ++ ps)) (sym l.2) (order_both later h.0 ps l.0 l.1
       (arrange (l.1 ++ later) h.0 l.0 (leaves_expanded w h.0 h.1 l.0 l.3) (subst (AreSorted early) (over_both later nodes l.0 l.1 l.2) s)
       (fine_expansion (l.0 ++ (l.1 ++ later)) w h.0 h.1 a.0 (λ x j. l.4 x (subst (λ z. Among z x) (sym (over_both later nodes l.0 l.1 l.2)) j))))
       l.5))
-  on_order (suc k) (suc n) (Refused w e ∷ ps) news h later nodes a s l = subst (λ r. Orders later r nodes) (sym h) l
+  on_order (suc k) (suc (suc n)) (Refused w e ∷ ps) j i news h later nodes a s l = subst (λ r. Orders later r nodes) (sym h.0) l
 
   -- ---- a wave
 
@@ -174,18 +175,19 @@ module _ {T N L E : Type 0} (lt : L → L → Type 0) (up : T → N → L → N 
       let whole : nodes ≡ (l.0 ++ k.0) ++ k.1 = l.2 ∙ ap (λ r. l.0 ++ r) k.2 ∙ sym (append_assoc l.0 k.0 k.1) in
       (l.0 ++ k.0, k.1, whole, (l.0, k.0, refl, l.3, (λ x j. l.4 x (subst (λ z. Among z x) (sym (over_both later nodes (l.0 ++ k.0) k.1 whole)) j)), k.3), k.4)
 
-  waved_order : (times room m : ℕ) (olds news : List (Piece T N L E)) → IsWaved lt up refuses times room m olds news → (later nodes : List N) → AreAmong In Is olds → AreSorted early (nodes ++ later) → Orders later olds nodes → Orders later news nodes
-  waved_order times room zero olds news h later nodes a s l = subst (λ r. Orders later r nodes) (sym h) l
-  waved_order times room (suc m) olds news h later nodes a s l =
-      let k = cut_order 32 4 olds later nodes l in
-      let b = cut_among lt up refuses In Is ready down rise 32 4 olds a in
+  waved_order : (m : ℕ) (jobs : List (ℕ × ℕ)) (olds news : List (Piece T N L E)) → IsWaved lt up refuses m jobs olds news → (later nodes : List N) → AreAmong In Is olds → AreSorted early (nodes ++ later) → Orders later olds nodes → Orders later news nodes
+  waved_order zero jobs olds news h later nodes a s l = subst (λ r. Orders later r nodes) (sym h) l
+  waved_order (suc m) [] olds news h later nodes a s l = absurd h
+  waved_order (suc m) (b ∷ jobs) olds news h later nodes a s l =
+      let k = cut_order 8 1 olds later nodes l in
+      let among = cut_among lt up refuses In Is ready down rise 8 1 olds a in
       let sorted = subst (AreSorted early) (over_both later nodes k.0 k.1 k.2) s in
-      subst (λ r. Orders later r nodes) (sym h.2) (subst (Orders later (h.0 ++ h.1)) (sym k.2) (order_both later h.0 h.1 k.0 k.1
-      (on_order times room (first_job 32 4 olds) h.0 h.3 (k.1 ++ later) k.0 b.0 sorted k.3)
-      (waved_order times room m (behind_job 32 4 olds) h.1 h.4 later k.1 b.1 (sorted_right early k.0 (k.1 ++ later) sorted) k.4)))
+      subst (λ r. Orders later r nodes) (sym h.4) (subst (Orders later (h.0 ++ h.1)) (sym k.2) (order_both later h.0 h.1 k.0 k.1
+      (on_order b.0 b.1 (first_job 8 1 olds) h.2 h.3 h.0 h.5 (k.1 ++ later) k.0 among.0 sorted k.3)
+      (waved_order m (jobs ++ (h.2, min h.3 16) ∷ []) (behind_job 8 1 olds) h.1 h.6 later k.1 among.1 (sorted_right early k.0 (k.1 ++ later) sorted) k.4)))
 
   readied_order : (workers jobs next : ℕ) (olds worked : List (Piece T N L E)) → IsReadied lt up refuses workers jobs olds next worked → (nodes : List N) → AreAmong In Is olds → AreSorted early (nodes ++ []) → Orders [] olds nodes → Orders [] worked nodes
-  readied_order workers jobs next olds worked (inl h) nodes a s l = waved_order (times_at jobs) (room_at workers olds) (due_at workers olds) olds worked h.3 [] nodes a s l
+  readied_order workers jobs next olds worked (inl h) nodes a s l = waved_order (due_at workers olds * 6) (replicate (due_at workers olds) (times_at jobs, room_at workers olds)) olds worked h.3 [] nodes a s l
   readied_order workers jobs next olds worked (inr h) nodes a s l = subst (λ r. Orders [] r nodes) (sym h.2) l
 
   -- ---- an answer

@@ -1,67 +1,70 @@
 -- The steps of a job.
--- To cite: on_ready, on_first, on_stopped, on_end, on_full.
-use Rattle.std.proofs.Common.{◌≡◌, ℕ, zero, suc, ◌+◌, ◌-◌, List, [], ◌∷◌, ◌++◌, length, length-append, refl, sym, ap, subst, ◌∙◌, append-nil, arith}
+-- To cite: map_more, on_ready, on_first, on_stopped, on_over, worked_more, worked_over.
+use Rattle.std.proofs.Common.{◌≡◌, ℕ, zero, suc, ◌≤◌, ◌+◌, ◌-◌, min, map, List, [], ◌∷◌, ◌++◌, ◌⊎◌, length, length-append, refl, sym, ap, inl, inr, subst, ◌∙◌, append-nil, append_assoc, arith}
+use Rattle.std.proofs.lemmas.List.{map-append}
 use Rattle.gf_walk.specs.Place.{Place}
 use Rattle.gf_walk.specs.declared.expand.Piece.{Piece}
 use Rattle.gf_walk.specs.declared.expand.Piece.TheVariants.{Ready, Under, Refused}
+use Rattle.gf_waves.specs.declared.job.Slot.{Slot}
 use Rattle.gf_waves.specs.Wave.{ExpandsOn}
-use Rattle.gf_waves.specs.Plans.{IsExpanded, IsOn}
+use Rattle.gf_waves.specs.Plans.{IsExpanded, IsOn, AreExpanded}
+
+pub map_more : {A B : Type 0} (f : A → B) (xs news : List A) (x : A) → news ≡ xs ++ x ∷ [] → map f news ≡ map f xs ++ f x ∷ []
+map_more f xs news x e = ap (map f) e ∙ map-append f xs (x ∷ [])
 
 module _ {T N L E : Type 0} (lt : L → L → Type 0) (up : T → N → L → N → Type 0) (refuses : Place T N L → E → Type 0) where
-  -- a walker that stands refused stays
-  stays : (k n : ℕ) (w : Place T N L) (e : E) (ps : List (Piece T N L E)) → ExpandsOn lt up refuses k n (Refused w e ∷ ps) (Refused w e ∷ ps)
-  stays zero n w e ps = refl
-  stays (suc k) zero w e ps = refl
-  stays (suc k) (suc n) w e ps = refl
+  -- where no expansion is left, no piece, or no room, nothing is done
+  pub on_over : (k n : ℕ) (ps : List (Piece T N L E)) → (k ≡ 0) ⊎ ((length ps ≡ 0) ⊎ (n ≤ 1)) → ExpandsOn lt up refuses k n ps k n ps
+  on_over zero n ps h = (refl, refl, refl)
+  on_over (suc k) zero ps h = (refl, refl, refl)
+  on_over (suc k) (suc zero) ps h = (refl, refl, refl)
+  on_over (suc k) (suc (suc n)) [] h = (refl, refl, refl)
+  on_over (suc k) (suc (suc n)) (p ∷ ps) (inl h) = absurd (omega (arith, h))
+  on_over (suc k) (suc (suc n)) (p ∷ ps) (inr (inl h)) = absurd (omega (arith, h))
+  on_over (suc k) (suc (suc n)) (p ∷ ps) (inr (inr h)) = absurd (omega (arith, h))
 
-  nothing : (k n : ℕ) → ExpandsOn lt up refuses k n [] []
-  nothing zero n = refl
-  nothing (suc k) zero = refl
-  nothing (suc k) (suc n) = refl
-
-  full : (k : ℕ) (ps : List (Piece T N L E)) → ExpandsOn lt up refuses k 0 ps ps
-  full zero ps = refl
-  full (suc k) ps = refl
-
-  past_ready : (k n : ℕ) (v : N) (ps news : List (Piece T N L E)) → ExpandsOn lt up refuses k n ps news → ExpandsOn lt up refuses k n (Ready v ∷ ps) (Ready v ∷ news)
-  past_ready zero n v ps news h = ap (λ r. Ready v ∷ r) h
-  past_ready (suc k) zero v ps news h = ap (λ r. Ready v ∷ r) h
-  past_ready (suc k) (suc n) v ps news h = (news, refl, h)
+  -- the same for other numbers, and from other pieces
+  onward : (k q n m : ℕ) (olds ps : List (Piece T N L E)) (j i : ℕ) (news : List (Piece T N L E)) → k ≡ q → n ≡ m → olds ≡ ps → ExpandsOn lt up refuses q m ps j i news → ExpandsOn lt up refuses k n olds j i news
+  onward k q n m olds ps j i news d e f h = subst (λ x. ExpandsOn lt up refuses x n olds j i news) (sym d) (subst (λ x. ExpandsOn lt up refuses q x olds j i news) (sym e) (subst (λ x. ExpandsOn lt up refuses q m x j i news) (sym f) h))
 
   -- a node goes behind what is done
-  pub on_ready : (k n m : ℕ) (v : N) (olds rest dones more : List (Piece T N L E)) → n ≡ m → olds ≡ Ready v ∷ rest → more ≡ dones ++ Ready v ∷ [] → IsOn lt up refuses k n dones olds k m more rest
-  on_ready k n m v olds rest dones more d e f = (
+  pub on_ready : (k q n m r : ℕ) (v : N) (olds rest dones more : List (Piece T N L E)) → k ≡ suc q → n ≡ suc (suc m) → r ≡ n → olds ≡ Ready v ∷ rest → more ≡ dones ++ Ready v ∷ [] → IsOn lt up refuses k n dones olds k r more rest
+  on_ready k q n m r v olds rest dones more d e s f g = (
     Ready v ∷ [],
-    f,
-    λ news h.
-        subst (λ i. ExpandsOn lt up refuses k i olds (Ready v ∷ news)) (sym d) (subst (λ r. ExpandsOn lt up refuses k m r (Ready v ∷ news)) (sym e) (past_ready k m v rest news h)),
+    g,
+    λ j i news h. onward k (suc q) n (suc (suc m)) olds (Ready v ∷ rest) j i (Ready v ∷ news) d e f (news, refl, onward (suc q) k (suc (suc m)) r rest rest j i news (sym d) (sym (s ∙ e)) refl h),
   )
 
   -- a walker is expanded
-  pub on_first : (k j n m i : ℕ) (w : Place T N L) (olds rest news dones : List (Piece T N L E)) → n ≡ suc m → k ≡ suc j → i ≡ n + 1 + length rest - length news → olds ≡ Under w ∷ rest → IsExpanded lt up refuses w rest news → IsOn lt up refuses k n dones olds j i dones news
-  on_first k j n m i w olds rest news dones d e s f x =
+  pub on_first : (k q n m r : ℕ) (w : Place T N L) (olds rest news dones : List (Piece T N L E)) → k ≡ suc q → n ≡ suc (suc m) → r ≡ n + 1 + length rest - length news → olds ≡ Under w ∷ rest → IsExpanded lt up refuses w rest news → IsOn lt up refuses k n dones olds q r dones news
+  on_first k q n m r w olds rest news dones d e s f x =
       let long : length news ≡ length x.0 + length rest = ap length x.1 ∙ length-append x.0 rest in
-      let less : i ≡ m + 2 - length x.0 = omega (arith, d, s, long) in (
+      let less : m + 3 - length x.0 ≡ r = omega (arith, e, s, long) in (
         [],
         sym (append-nil dones),
-        λ more h.
-            subst (λ q. ExpandsOn lt up refuses q n olds more) (sym e) (subst (λ q. ExpandsOn lt up refuses (suc j) q olds more) (sym d) (subst (λ r. ExpandsOn lt up refuses (suc j) (suc m) r more) (sym f)
-            (x.0, x.2, subst (λ q. ExpandsOn lt up refuses j q (x.0 ++ rest) more) less (subst (λ r. ExpandsOn lt up refuses j i r more) x.1 h)))),
+        λ j i more h. onward k (suc q) n (suc (suc m)) olds (Under w ∷ rest) j i more d e f (x.0, x.2, onward q q (m + 3 - length x.0) r (x.0 ++ rest) news j i more refl less (sym x.1) h),
       )
 
   -- a walker that stands refused ends it
-  pub on_stopped : (k n m : ℕ) (w : Place T N L) (x : E) (olds rest news dones : List (Piece T N L E)) → olds ≡ Refused w x ∷ rest → news ≡ Refused w x ∷ rest → IsOn lt up refuses k n dones olds 0 m dones news
-  on_stopped k n m w x olds rest news dones e f = (
+  pub on_stopped : (k q n m r : ℕ) (w : Place T N L) (x : E) (olds rest news dones : List (Piece T N L E)) → k ≡ suc q → n ≡ suc (suc m) → r ≡ n → olds ≡ Refused w x ∷ rest → news ≡ Refused w x ∷ rest → IsOn lt up refuses k n dones olds 0 r dones news
+  on_stopped k q n m r w x olds rest news dones d e s f g = (
     [],
     sym (append-nil dones),
-    λ more h.
-        subst (λ r. ExpandsOn lt up refuses k n r more) (sym e) (subst (ExpandsOn lt up refuses k n (Refused w x ∷ rest)) (sym (h ∙ f)) (stays k n w x rest)),
+    λ j i more h. onward k (suc q) n (suc (suc m)) olds (Refused w x ∷ rest) j i more d e f (h.0 ∙ g, h.1, h.2 ∙ s ∙ e),
   )
 
-  -- where there is no piece, it ends
-  pub on_end : (k n m : ℕ) (olds rest dones : List (Piece T N L E)) → olds ≡ [] → rest ≡ [] → IsOn lt up refuses k n dones olds 0 m dones rest
-  on_end k n m olds rest dones e f = ([], sym (append-nil dones), λ more h. subst (λ r. ExpandsOn lt up refuses k n r more) (sym e) (subst (ExpandsOn lt up refuses k n []) (sym (h ∙ f)) (nothing k n)))
+  -- ---- place after place
 
-  -- and so it does where there is no room for two pieces more
-  pub on_full : (k n m : ℕ) (olds dones : List (Piece T N L E)) → n ≡ 0 → IsOn lt up refuses k n dones olds 0 m dones olds
-  on_full k n m olds dones e = ([], sym (append-nil dones), λ more h. subst (λ i. ExpandsOn lt up refuses k i olds more) (sym e) (subst (ExpandsOn lt up refuses k 0 olds) (sym h) (full k olds)))
+  -- what is still to be worked on with what is left, behind what is worked on, is the whole
+  abbrev pub GoesOn : ℕ → ℕ → List (Slot T N L E) → List (List (Piece T N L E)) → ℕ → ℕ → List (Slot T N L E) → Type 0
+  GoesOn k n all dones j i slots = (rows : List (List (Piece T N L E))) → AreExpanded lt up refuses j i slots rows → AreExpanded lt up refuses k n all (dones ++ rows)
+
+  pub worked_more : (k n j i q m free : ℕ) (all slots rest : List (Slot T N L E)) (s : Slot T N L E) (dones more : List (List (Piece T N L E))) (row : List (Piece T N L E)) → slots ≡ s ∷ rest → more ≡ dones ++ row ∷ [] → ExpandsOn lt up refuses j i s.row.items q m row →
+      length row + m ≤ length s.row.items + i → free ≡ min m 16 → GoesOn k n all dones j i slots → GoesOn k n all more q free rest
+  worked_more k n j i q m free all slots rest s dones more row e f h few less goes = λ rows a.
+      subst (AreExpanded lt up refuses k n all) (sym (ap (λ x. x ++ rows) f ∙ append_assoc dones (row ∷ []) rows)) (goes (row ∷ rows) (subst (λ x. AreExpanded lt up refuses j i x (row ∷ rows)) (sym e) (q, m, h, few, subst (λ x. AreExpanded lt up refuses q x rest rows) less a)))
+
+  -- no place is left
+  pub worked_over : (k n j i : ℕ) (all slots : List (Slot T N L E)) (dones : List (List (Piece T N L E))) → length slots ≡ 0 → GoesOn k n all dones j i slots → AreExpanded lt up refuses k n all dones
+  worked_over k n j i all [] dones e goes = subst (AreExpanded lt up refuses k n all) (append-nil dones) (goes [] refl)
+  worked_over k n j i all (s ∷ slots) dones e goes = absurd (omega (arith, e))

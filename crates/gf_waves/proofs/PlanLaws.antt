@@ -1,13 +1,15 @@
--- How a row is cut up for a wave, and put together again.
--- To cite: waved_jobs, worked_all, planned_few, planned_fit, spare_more, spare_last, spare_due, cut_more, cut_over, cut_done, goes_job, goes_none.
-use Rattle.std.proofs.Common.{◌≡◌, ℕ, zero, suc, ◌<◌, ◌≤◌, ◌+◌, ◌-◌, ◌*◌, List, [], ◌∷◌, ◌++◌, length, refl, sym, ap, subst, ◌∙◌, append_assoc, arith, get_or, length-append, append-nil}
+-- How a row is cut up for a wave, dealt out, and put together again.
+-- To cite: cut_more, cut_over, cut_done, first_out, last_over, spare_more, spare_last, free_more, numbered_more, goes_place, goes_none, planned_fits, fit_last, dealt_first, free_hands,
+-- free_dealt, hands_last, hands_fewer, hands_fit, wave_of, gathered_more, gathered_fits.
+use Rattle.std.proofs.Common.{◌≡◌, ℕ, zero, suc, ◌<◌, ◌≤◌, ◌+◌, ◌-◌, ◌*◌, min, List, [], ◌∷◌, ◌++◌, length, refl, sym, ap, subst, ◌∙◌, append_assoc, arith, get_or, length-append, append-nil, replicate, take, drop}
+use Rattle.std.specs.Vec.{vec_capacity}
 use Rattle.std.proofs.Math.Nat.{suc-mul}
 use Rattle.gf_walk.specs.Place.{Place}
 use Rattle.gf_walk.specs.declared.expand.Piece.{Piece}
+use Rattle.gf_waves.specs.declared.job.Slot.{Slot}
 use Rattle.gf_waves.specs.declared.job.Job.{Job}
-use Rattle.gf_waves.specs.declared.job.Job.TheVariants.{Due, Done}
 use Rattle.gf_waves.specs.Frontier.{job_number, first_job, behind_job, renewed, walkers_of}
-use Rattle.gf_waves.specs.Plans.{IsPlanned, IsSpare, AreSpare, IsDue, IsFit, IsWorked, AreWorked, job_pieces, pieces_of}
+use Rattle.gf_waves.specs.Plans.{IsPlanned, IsSpare, AreSpare, IsFit, AreFit, IsJobFit, AreFree, AreNumbered, IsDealt, hands_of, AreExpanded, IsWorked, rows_of, piles_of, gather}
 use Rattle.gf_waves.specs.Wave.{IsWaved, ExpandsOn}
 
 -- ---- the pieces of a job
@@ -32,11 +34,11 @@ module _ {T N L E : Type 0} where
   behind_more (suc c) (suc m) p ps h k = ap (λ d. behind_job d (suc m - walkers_of p) ps) (let e : c ≡ suc c - 1 = omega arith in e)
 
   pub cut_more : (c m d k : ℕ) (p : Piece T N L E) (row rest job more olds : List (Piece T N L E)) → 0 < c → 0 < m → d ≡ c - 1 → k ≡ m - walkers_of p → row ≡ p ∷ rest → more ≡ job ++ renewed p ∷ [] →
-      job ++ first_job c m row ≡ first_job 32 4 olds → behind_job c m row ≡ behind_job 32 4 olds → (more ++ first_job d k rest ≡ first_job 32 4 olds) × (behind_job d k rest ≡ behind_job 32 4 olds)
+      job ++ first_job c m row ≡ first_job 8 1 olds → behind_job c m row ≡ behind_job 8 1 olds → (more ++ first_job d k rest ≡ first_job 8 1 olds) × (behind_job d k rest ≡ behind_job 8 1 olds)
   cut_more c m d k p row rest job more olds h i e f is on first behind = (
-    subst (λ x. more ++ first_job x k rest ≡ first_job 32 4 olds) (sym e) (subst (λ x. more ++ first_job (c - 1) x rest ≡ first_job 32 4 olds) (sym f)
+    subst (λ x. more ++ first_job x k rest ≡ first_job 8 1 olds) (sym e) (subst (λ x. more ++ first_job (c - 1) x rest ≡ first_job 8 1 olds) (sym f)
         (ap (λ x. x ++ first_job (c - 1) (m - walkers_of p) rest) on ∙ append_assoc job (renewed p ∷ []) (first_job (c - 1) (m - walkers_of p) rest) ∙ ap (λ x. job ++ x) (sym (first_more c m p rest h i)) ∙ ap (λ x. job ++ first_job c m x) (sym is) ∙ first)),
-    subst (λ x. behind_job x k rest ≡ behind_job 32 4 olds) (sym e) (subst (λ x. behind_job (c - 1) x rest ≡ behind_job 32 4 olds) (sym f) (sym (behind_more c m p rest h i) ∙ ap (behind_job c m) (sym is) ∙ behind)),
+    subst (λ x. behind_job x k rest ≡ behind_job 8 1 olds) (sym e) (subst (λ x. behind_job (c - 1) x rest ≡ behind_job 8 1 olds) (sym f) (sym (behind_more c m p rest h i) ∙ ap (behind_job c m) (sym is) ∙ behind)),
   )
 
   none_first : (c m : ℕ) → first_job {T = T} {N = N} {L = L} {E = E} c m [] ≡ []
@@ -50,107 +52,237 @@ module _ {T N L E : Type 0} where
   none_behind (suc c) (suc m) = refl
 
   -- no piece is left
-  pub cut_over : (c m : ℕ) (row rest job olds : List (Piece T N L E)) → row ≡ [] → rest ≡ [] → job ++ first_job c m row ≡ first_job 32 4 olds → behind_job c m row ≡ behind_job 32 4 olds → (job ≡ first_job 32 4 olds) × (rest ≡ behind_job 32 4 olds)
+  pub cut_over : (c m : ℕ) (row rest job olds : List (Piece T N L E)) → row ≡ [] → rest ≡ [] → job ++ first_job c m row ≡ first_job 8 1 olds → behind_job c m row ≡ behind_job 8 1 olds → (job ≡ first_job 8 1 olds) × (rest ≡ behind_job 8 1 olds)
   cut_over c m row rest job olds e f first behind = (
     sym (ap (λ x. job ++ x) (ap (first_job c m) e ∙ none_first c m) ∙ append-nil job) ∙ first,
     f ∙ sym (ap (behind_job c m) e ∙ none_behind c m) ∙ behind,
   )
 
   -- no piece is to be taken
-  pub cut_done : (c m : ℕ) (row job olds : List (Piece T N L E)) → (0 < c → 0 < m → ⊥) → job ++ first_job c m row ≡ first_job 32 4 olds → behind_job c m row ≡ behind_job 32 4 olds → (job ≡ first_job 32 4 olds) × (row ≡ behind_job 32 4 olds)
+  pub cut_done : (c m : ℕ) (row job olds : List (Piece T N L E)) → (0 < c → 0 < m → ⊥) → job ++ first_job c m row ≡ first_job 8 1 olds → behind_job c m row ≡ behind_job 8 1 olds → (job ≡ first_job 8 1 olds) × (row ≡ behind_job 8 1 olds)
   cut_done zero m row job olds none first behind = (sym (append-nil job) ∙ first, behind)
   cut_done (suc c) zero row job olds none first behind = (sym (append-nil job) ∙ first, behind)
   cut_done (suc c) (suc m) row job olds none first behind = absurd (none (omega arith) (omega arith))
 
--- ---- spare jobs
+-- ---- lists
+
+-- the first element is taken out
+pub first_out : {A : Type 0} (xs ys : List A) (x : A) → 0 < length xs → x ≡ get_or xs 0 x → ys ≡ take 0 xs ++ drop (0 + 1) xs → xs ≡ x ∷ ys
+first_out [] ys x h e f = absurd (omega (arith, h))
+first_out (z ∷ xs) ys x h e f = sym (ap (λ k. k ∷ ys) e ∙ ap (λ k. z ∷ k) f)
+
+-- the last element of the first of two lists is put before the second
+pub last_over : {A : Type 0} (all xs rest ys : List A) (x : A) → all ≡ xs ++ ys → xs ≡ rest ++ x ∷ [] → all ≡ rest ++ x ∷ ys
+last_over all xs rest ys x e f = e ∙ ap (λ k. k ++ ys) f ∙ append_assoc rest (x ∷ []) ys
+
+-- ---- spare places and jobs
 
 module _ {T N L E : Type 0} where
-  pub spare_more : (js : List (Job T N L E)) (j : Job T N L E) → AreSpare js → IsSpare j → AreSpare (js ++ j ∷ [])
-  spare_more [] j a s = (s, tt)
-  spare_more (i ∷ js) j a s = (a.0, spare_more js j a.1 s)
+  pub spare_more : (ss : List (Slot T N L E)) (s : Slot T N L E) → AreSpare ss → IsSpare s → AreSpare (ss ++ s ∷ [])
+  spare_more [] s a b = (b, tt)
+  spare_more (r ∷ ss) s a b = (a.0, spare_more ss s a.1 b)
 
-  pub spare_last : (js : List (Job T N L E)) (j : Job T N L E) → AreSpare (js ++ j ∷ []) → AreSpare js × IsSpare j
-  spare_last [] j a = (tt, a.0)
-  spare_last (i ∷ js) j a = (let k = spare_last js j a.1 in ((a.0, k.0), k.1))
+  pub spare_last : (ss : List (Slot T N L E)) (s : Slot T N L E) → AreSpare (ss ++ s ∷ []) → AreSpare ss × IsSpare s
+  spare_last [] s a = (tt, a.0)
+  spare_last (r ∷ ss) s a = (let k = spare_last ss s a.1 in ((a.0, k.0), k.1))
 
--- ---- a row that was cut up, worked on and put together again
+  pub free_more : (m : ℕ) (js : List (Job T N L E)) (j : Job T N L E) → AreFree m js → AreFree m (j ∷ []) → AreFree m (js ++ j ∷ [])
+  free_more m [] j a b = b
+  free_more m (i ∷ js) j a b = (a.0, a.1, a.2, a.3, free_more m js j a.4 b)
 
-module _ {T N L E : Type 0} (lt : L → L → Type 0) (up : T → N → L → N → Type 0) (refuses : Place T N L → E → Type 0) (times room : ℕ) where
-  -- what a job that was due became
-  expanded : (n : ℕ) (pieces : List (Piece T N L E)) (s t : Job T N L E) → IsDue n pieces s → IsWorked lt up refuses times room s t → ExpandsOn lt up refuses times room pieces (job_pieces t)
-  expanded n pieces (Due row done k) (Due more dones i) d h = absurd h
-  expanded n pieces (Due row done k) (Done ps) d h = subst (λ x. ExpandsOn lt up refuses times room x ps.items) d.0 h.0
-  expanded n pieces (Done ps) t d h = absurd d
-
-  expanded_few : (n : ℕ) (pieces : List (Piece T N L E)) (s t : Job T N L E) → IsDue n pieces s → IsWorked lt up refuses times room s t → length (job_pieces t) ≤ length pieces + room + 1
-  expanded_few n pieces (Due row done k) (Due more dones i) d h = absurd h
-  expanded_few n pieces (Due row done k) (Done ps) d h = subst (λ x. length ps.items ≤ length x + room + 1) d.0 h.1
-  expanded_few n pieces (Done ps) t d h = absurd d
-
-  pub waved_jobs : (m n : ℕ) (olds tail : List (Piece T N L E)) (jobs dones : List (Job T N L E)) → IsPlanned m n olds jobs tail → AreWorked lt up refuses times room jobs dones → IsWaved lt up refuses times room m olds (pieces_of dones ++ tail)
-  waved_jobs zero n olds tail jobs [] p a = p.1
-  waved_jobs zero n olds tail jobs (t ∷ ts) p a = absurd (subst (λ s. AreWorked lt up refuses times room s (t ∷ ts)) p.0 a)
-  waved_jobs (suc m) n olds tail jobs [] p a = absurd (subst (λ s. AreWorked lt up refuses times room s []) p.2 a)
-  waved_jobs (suc m) n olds tail jobs (t ∷ ts) p a =
-      let k = subst (λ s. AreWorked lt up refuses times room s (t ∷ ts)) p.2 a in
-      (job_pieces t, pieces_of ts ++ tail, append_assoc (job_pieces t) (pieces_of ts) tail, expanded (job_number n) (first_job 32 4 olds) p.0 t p.3 k.0, waved_jobs m (n + 1) (behind_job 32 4 olds) tail p.1 ts p.4 k.1)
-
-  -- job by job from index by index
-  pub worked_all : (ss ts : List (Job T N L E)) → length ts ≡ length ss → ((i : ℕ) (d : Job T N L E) → i < length ss → IsWorked lt up refuses times room (get_or ss i d) (get_or ts i d)) → AreWorked lt up refuses times room ss ts
-  worked_all [] [] e z = tt
-  worked_all [] (t ∷ ts) e z = absurd (omega arith)
-  worked_all (s ∷ ss) [] e z = absurd (omega arith)
-  worked_all (s ∷ ss) (t ∷ ts) e z = (z zero s (omega arith), worked_all ss ts (omega arith) (λ i d h. z (suc i) d (omega arith)))
-
-  -- ---- its length
-
-  longer : (m a b c d k l : ℕ) → a ≤ c + room + 1 → b ≤ d + m * (room + 1) → c + d ≡ l → k ≡ a + b → k ≤ l + suc m * (room + 1)
-  longer m a b c d k l h j s e = (let x : suc m * (room + 1) ≡ room + 1 + m * (room + 1) = (let y = suc-mul m (room + 1) in omega (arith, y)) in omega (arith, x, h, j, s, e))
-
-  -- the row is longer by at most so much a job
-  pub planned_few : (m n : ℕ) (olds tail : List (Piece T N L E)) (jobs dones : List (Job T N L E)) → IsPlanned m n olds jobs tail → AreWorked lt up refuses times room jobs dones → length (pieces_of dones ++ tail) ≤ length olds + m * (room + 1)
-  planned_few zero n olds tail jobs [] p a = (let k : length tail ≡ length olds = ap length p.1 in omega (arith, k))
-  planned_few zero n olds tail jobs (t ∷ ts) p a = absurd (subst (λ s. AreWorked lt up refuses times room s (t ∷ ts)) p.0 a)
-  planned_few (suc m) n olds tail jobs [] p a = absurd (subst (λ s. AreWorked lt up refuses times room s []) p.2 a)
-  planned_few (suc m) n olds tail jobs (t ∷ ts) p a =
-      let k = subst (λ s. AreWorked lt up refuses times room s (t ∷ ts)) p.2 a in
-      longer m (length (job_pieces t)) (length (pieces_of ts ++ tail)) (length (first_job 32 4 olds)) (length (behind_job 32 4 olds)) (length (pieces_of (t ∷ ts) ++ tail)) (length olds)
-      (expanded_few (job_number n) (first_job 32 4 olds) p.0 t p.3 k.0) (planned_few m (n + 1) (behind_job 32 4 olds) tail p.1 ts p.4 k.1) (cut_length 32 4 olds)
-      (ap length (append_assoc (job_pieces t) (pieces_of ts) tail) ∙ length-append (job_pieces t) (pieces_of ts ++ tail))
-
--- ---- each job of a plan has room
-
-module _ {T N L E : Type 0} where
-  due_fit : (n : ℕ) (pieces : List (Piece T N L E)) (j : Job T N L E) → IsDue n pieces j → IsFit j
-  due_fit n pieces (Due row done k) d = (d.2, d.3, d.4, d.5)
-  due_fit n pieces (Done ps) d = absurd d
-
-  fit_at : (m n : ℕ) (olds tail : List (Piece T N L E)) (jobs : List (Job T N L E)) → IsPlanned m n olds jobs tail → (i : ℕ) (d : Job T N L E) → i < length jobs → IsFit (get_or jobs i d)
-  fit_at zero n olds tail jobs p i d h = absurd (let k : length jobs ≡ 0 = ap length p.0 in omega (arith, h, k))
-  fit_at (suc m) n olds tail jobs p zero d h = subst (λ s. IsFit (get_or s zero d)) (sym p.2) (due_fit (job_number n) (first_job 32 4 olds) p.0 p.3)
-  fit_at (suc m) n olds tail jobs p (suc i) d h = subst (λ s. IsFit (get_or s (suc i) d)) (sym p.2) (fit_at m (n + 1) (behind_job 32 4 olds) tail p.1 p.4 i d (let k : length jobs ≡ suc (length p.1) = ap length p.2 in omega (arith, h, k)))
-
-  pub planned_fit : (m n : ℕ) (olds tail : List (Piece T N L E)) (jobs : List (Job T N L E)) → IsPlanned m n olds jobs tail → (i : ℕ) (d : Job T N L E) → i < length jobs → IsFit (get_or jobs i d)
-  planned_fit = fit_at
+  pub numbered_more : (n : ℕ) (js : List (Job T N L E)) (j : Job T N L E) → AreNumbered n js → j.number ≡ job_number (n + length js) → AreNumbered n (js ++ j ∷ [])
+  numbered_more n [] j a e = (e ∙ ap job_number (let k : n + 0 ≡ n = omega arith in k), tt)
+  numbered_more n (i ∷ js) j a e = (a.0, numbered_more (n + 1) js j a.1 (e ∙ ap job_number (let k : n + suc (length js) ≡ n + 1 + length js = omega arith in k)))
 
 -- ---- a plan that goes on
 
-module _ {T N L E : Type 0} (due first : ℕ) (olds : List (Piece T N L E)) where
-  -- a plan of what is left of the row, for so many jobs more, goes on from the jobs that are there
-  abbrev pub Goes : ℕ → List (Piece T N L E) → List (Job T N L E) → Type 0
-  Goes m row jobs = (js : List (Job T N L E)) (tail : List (Piece T N L E)) → IsPlanned m (first + length jobs) row js tail → IsPlanned due first olds (jobs ++ js) tail
+module _ {T N L E : Type 0} (count : ℕ) (olds : List (Piece T N L E)) where
+  -- a plan of what is left of the row, for so many places more, goes on from the places that are there
+  abbrev pub Goes : ℕ → List (Piece T N L E) → List (Slot T N L E) → Type 0
+  Goes m row slots = (ss : List (Slot T N L E)) (tail : List (Piece T N L E)) → IsPlanned m row ss tail → IsPlanned count olds (slots ++ ss) tail
 
   behind : {X : Type 0} (xs news ys : List X) (x : X) → news ≡ xs ++ x ∷ [] → news ++ ys ≡ xs ++ (x ∷ ys)
   behind xs news ys x e = ap (λ n. n ++ ys) e ∙ append_assoc xs (x ∷ []) ys
 
-  -- past a job
-  pub goes_job : (m k : ℕ) (row rest : List (Piece T N L E)) (jobs more : List (Job T N L E)) (job : Job T N L E) → m ≡ suc k → rest ≡ behind_job 32 4 row → IsDue (job_number (first + length jobs)) (first_job 32 4 row) job → more ≡ jobs ++ job ∷ [] → Goes m row jobs → Goes k rest more
-  goes_job m k row rest jobs more job e f is on goes = λ js tail p.
-      let long : first + length more ≡ (first + length jobs) + 1 = (let g = ap length on ∙ length-append jobs (job ∷ []) in omega (arith, g)) in
-      subst (λ x. IsPlanned due first olds x tail) (sym (behind jobs more js job on))
-      (goes (job ∷ js) tail (subst (λ j. IsPlanned j (first + length jobs) row (job ∷ js) tail) (sym e)
-      (job, js, refl, is, subst (λ n. IsPlanned k n (behind_job 32 4 row) js tail) long (subst (λ r. IsPlanned k (first + length more) r js tail) f p))))
+  -- past a place
+  pub goes_place : (m k : ℕ) (row rest : List (Piece T N L E)) (slots more : List (Slot T N L E)) (slot : Slot T N L E) → m ≡ suc k → rest ≡ behind_job 8 1 row → IsFit slot → slot.row.items ≡ first_job 8 1 row → more ≡ slots ++ slot ∷ [] → Goes m row slots → Goes k rest more
+  goes_place m k row rest slots more slot e f fit is on goes = λ ss tail p.
+      subst (λ x. IsPlanned count olds x tail) (sym (behind slots more ss slot on))
+      (goes (slot ∷ ss) tail (subst (λ j. IsPlanned j row (slot ∷ ss) tail) (sym e) (slot, ss, refl, fit, is, subst (λ r. IsPlanned k r ss tail) f p)))
 
-  -- no job is to be made any more
-  pub goes_none : (m : ℕ) (row : List (Piece T N L E)) (jobs : List (Job T N L E)) → m ≡ 0 → Goes m row jobs → IsPlanned due first olds jobs row
-  goes_none m row jobs e goes = subst (λ x. IsPlanned due first olds x row) (append-nil jobs) (goes [] row (subst (λ j. IsPlanned j (first + length jobs) row [] row) (sym e) (refl, refl)))
+  -- no place is to be made any more
+  pub goes_none : (m : ℕ) (row : List (Piece T N L E)) (slots : List (Slot T N L E)) → m ≡ 0 → Goes m row slots → IsPlanned count olds slots row
+  goes_none m row slots e goes = subst (λ x. IsPlanned count olds x row) (append-nil slots) (goes [] row (subst (λ j. IsPlanned j row [] row) (sym e) (refl, refl)))
+
+-- ---- dealing out
+
+module _ {T N L E : Type 0} where
+  pub planned_fits : (m : ℕ) (olds tail : List (Piece T N L E)) (slots : List (Slot T N L E)) → IsPlanned m olds slots tail → AreFit slots × (length slots ≡ m)
+  planned_fits zero olds tail slots p = (subst AreFit (sym p.0) tt, ap length p.0)
+  planned_fits (suc m) olds tail slots p = (let k = planned_fits m (behind_job 8 1 olds) tail p.1 p.5 in (subst AreFit (sym p.2) (p.3, k.0), ap length p.2 ∙ ap suc k.1))
+
+  pub fit_last : (ss : List (Slot T N L E)) (s : Slot T N L E) → AreFit (ss ++ s ∷ []) → AreFit ss × IsFit s
+  fit_last [] s a = (tt, a.0)
+  fit_last (r ∷ ss) s a = (let k = fit_last ss s a.1 in ((a.0, k.0), k.1))
+
+  hands_more : (js : List (Job T N L E)) (j : Job T N L E) → hands_of (js ++ j ∷ []) ≡ hands_of js ++ j.slots.items ∷ []
+  hands_more [] j = refl
+  hands_more (i ∷ js) j = ap (λ x. i.slots.items ∷ x) (hands_more js j)
+
+  -- one place more, in front: the last job has it, and comes first
+  pub dealt_first : (s : Slot T N L E) (ss : List (Slot T N L E)) (jobs init news : List (Job T N L E)) (j k : Job T N L E) → jobs ≡ init ++ j ∷ [] → news ≡ k ∷ init → k.slots.items ≡ s ∷ j.slots.items → IsDealt ss (hands_of jobs) → IsDealt (s ∷ ss) (hands_of news)
+  dealt_first s ss jobs init news j k e f g d = subst (λ x. IsDealt (s ∷ ss) (hands_of x)) (sym f) (j.slots.items, g, subst (IsDealt ss) (ap hands_of e ∙ hands_more init j) d)
+
+  -- the jobs, while so many places are to be dealt out
+  abbrev pub IsOpenHand : ℕ → Job T N L E → Type 0
+  IsOpenHand m j = AreFit j.slots.items × (j.worked.items ≡ []) × (length j.slots.items + m ≤ vec_capacity j.slots) × (length j.slots.items + m ≤ vec_capacity j.worked)
+
+  abbrev pub AreOpenHands : ℕ → List (Job T N L E) → Type 0
+  AreOpenHands m [] = Unit {0}
+  AreOpenHands m (j ∷ js) = IsOpenHand m j × AreOpenHands m js
+
+  pub free_hands : (m : ℕ) (js : List (Job T N L E)) → AreFree m js → AreOpenHands m js
+  free_hands m [] a = tt
+  free_hands m (j ∷ js) a =
+      let none : length j.slots.items ≡ 0 = ap length a.0 in
+      let room = a.2 in
+      let place = a.3 in
+      ((subst AreFit (sym a.0) tt, a.1, omega (arith, none, room), omega (arith, none, place)), free_hands m js a.4)
+
+  none_at : (m : ℕ) (js : List (Job T N L E)) → AreFree m js → (i : ℕ) (d : List (Slot T N L E)) → i < length (hands_of js) → get_or (hands_of js) i d ≡ []
+  none_at m [] a i d h = absurd (omega (arith, h))
+  none_at m (j ∷ js) a zero d h = a.0
+  none_at m (j ∷ js) a (suc i) d h = none_at m js a.4 i d (omega (arith, h))
+
+  pub free_dealt : (m : ℕ) (js : List (Job T N L E)) → AreFree m js → IsDealt [] (hands_of js)
+  free_dealt m js a = none_at m js a
+
+  pub hands_last : (m : ℕ) (js : List (Job T N L E)) (j : Job T N L E) → AreOpenHands m (js ++ j ∷ []) → AreOpenHands m js × IsOpenHand m j
+  hands_last m [] j a = (tt, a.0)
+  hands_last m (i ∷ js) j a = (let k = hands_last m js j a.1 in ((a.0, k.0), k.1))
+
+  pub hands_fewer : (m : ℕ) (js : List (Job T N L E)) → AreOpenHands (suc m) js → AreOpenHands m js
+  hands_fewer m [] a = tt
+  hands_fewer m (j ∷ js) a = (let h = a.0 in let x = h.2 in let y = h.3 in ((h.0, h.1, omega (arith, x), omega (arith, y)), hands_fewer m js a.1))
+
+  pub hands_fit : (m : ℕ) (js : List (Job T N L E)) → AreOpenHands m js → (i : ℕ) (d : Job T N L E) → i < length js → IsJobFit (get_or js i d)
+  hands_fit m [] a i d h = absurd (omega (arith, h))
+  hands_fit m (j ∷ js) a zero d h = (let x = a.0 in let y = x.3 in (x.0, x.1, omega (arith, y)))
+  hands_fit m (j ∷ js) a (suc i) d h = hands_fit m js a.1 i d (omega (arith, h))
+
+-- ---- a row that was cut up, dealt out, worked on and put together again
+
+module _ {T N L E : Type 0} (lt : L → L → Type 0) (up : T → N → L → N → Type 0) (refuses : Place T N L → E → Type 0) where
+  -- job by job, each with its own expansions and room
+  abbrev AreHandsWorked : List (ℕ × ℕ) → List (List (Slot T N L E)) → List (List (List (Piece T N L E))) → Type 0
+  AreHandsWorked [] [] [] = Unit {0}
+  AreHandsWorked [] [] (p ∷ piles) = ⊥
+  AreHandsWorked [] (h ∷ hands) piles = ⊥
+  AreHandsWorked (b ∷ bs) [] piles = ⊥
+  AreHandsWorked (b ∷ bs) (h ∷ hands) [] = ⊥
+  AreHandsWorked (b ∷ bs) (h ∷ hands) (p ∷ piles) = AreExpanded lt up refuses b.0 b.1 h p × AreHandsWorked bs hands piles
+
+  hands_worked_more : (bs : List (ℕ × ℕ)) (hands : List (List (Slot T N L E))) (piles : List (List (List (Piece T N L E)))) (b : ℕ × ℕ) (h : List (Slot T N L E)) (p : List (List (Piece T N L E))) → AreHandsWorked bs hands piles → AreExpanded lt up refuses b.0 b.1 h p → AreHandsWorked (bs ++ b ∷ []) (hands ++ h ∷ []) (piles ++ p ∷ [])
+  hands_worked_more [] [] [] b h p a e = (e, tt)
+  hands_worked_more [] [] (q ∷ piles) b h p a e = absurd a
+  hands_worked_more [] (g ∷ hands) piles b h p a e = absurd a
+  hands_worked_more (c ∷ bs) [] piles b h p a e = absurd a
+  hands_worked_more (c ∷ bs) (g ∷ hands) [] b h p a e = absurd a
+  hands_worked_more (c ∷ bs) (g ∷ hands) (q ∷ piles) b h p a e = (a.0, hands_worked_more bs hands piles b h p a.1 e)
+
+  -- the room of all jobs
+  abbrev total : List (ℕ × ℕ) → ℕ
+  total [] = 0
+  total (b ∷ bs) = b.1 + total bs
+
+  total_more : (bs : List (ℕ × ℕ)) (b : ℕ × ℕ) → total (bs ++ b ∷ []) ≡ total bs + b.1
+  total_more [] b = omega arith
+  total_more (c ∷ bs) b = (let k = total_more bs b in omega (arith, k))
+
+  total_even : (due times room : ℕ) → total (replicate due (times, room)) ≡ due * room
+  total_even zero times room = omega arith
+  total_even (suc due) times room = (let k = total_even due times room in let x = suc-mul due room in omega (arith, k, x))
+
+  -- the first place is worked on, and the next job's turn comes
+  waved_dealt : (m : ℕ) (olds tail : List (Piece T N L E)) (slots : List (Slot T N L E)) (bs : List (ℕ × ℕ)) (hands : List (List (Slot T N L E))) (piles : List (List (List (Piece T N L E)))) → IsPlanned m olds slots tail → IsDealt slots hands → AreHandsWorked bs hands piles →
+      IsWaved lt up refuses m bs olds (gather m piles ++ tail) × (length (gather m piles ++ tail) ≤ length olds + total bs)
+  waved_dealt zero olds tail slots bs hands piles p d a = (p.1, let k : length tail ≡ length olds = ap length p.1 in omega (arith, k))
+  waved_dealt (suc m) olds tail slots bs hands piles p d a = at_first (λ cs gs qs e b. waved_dealt m (behind_job 8 1 olds) tail p.1 cs gs qs p.5 e b) bs hands piles (subst (λ x. IsDealt x hands) p.2 d) a
+    where
+      at_pile : ((bs : List (ℕ × ℕ)) (hands : List (List (Slot T N L E))) (piles : List (List (List (Piece T N L E)))) → IsDealt p.1 hands → AreHandsWorked bs hands piles → IsWaved lt up refuses m bs (behind_job 8 1 olds) (gather m piles ++ tail) × (length (gather m piles ++ tail) ≤ length (behind_job 8 1 olds) + total bs)) → (b : ℕ × ℕ) (bs : List (ℕ × ℕ)) (hands : List (List (Slot T N L E))) (q : List (List (Piece T N L E))) (piles : List (List (List (Piece T N L E)))) (rest : List (Slot T N L E)) → AreExpanded lt up refuses b.0 b.1 (p.0 ∷ rest) q → IsDealt p.1 (hands ++ rest ∷ []) → AreHandsWorked bs hands piles →
+          IsWaved lt up refuses (suc m) (b ∷ bs) olds (gather (suc m) (q ∷ piles) ++ tail) × (length (gather (suc m) (q ∷ piles) ++ tail) ≤ length olds + total (b ∷ bs))
+      at_pile go b bs hands [] piles rest e d a = absurd e
+      at_pile go b bs hands (row ∷ rows) piles rest e d a =
+          let j = e.0 in
+          let i = e.1 in
+          let few = e.3 in
+          let news = gather m (piles ++ rows ∷ []) in
+          let k = go (bs ++ (j, min i 16) ∷ []) (hands ++ rest ∷ []) (piles ++ rows ∷ []) d (hands_worked_more bs hands piles (j, min i 16) rest rows a e.4) in
+          let whole = append_assoc row news tail in
+          let bound = k.1 in
+          let sum = total_more bs (j, min i 16) in
+          let cut = cut_length 8 1 olds in
+          let slot = ap length p.4 in
+          let long = ap length whole in
+          let parts = length-append row (news ++ tail) in (
+            (row, news ++ tail, j, i, whole, subst (λ x. ExpandsOn lt up refuses b.0 b.1 x j i row) p.4 e.2, k.0),
+            omega (arith, few, bound, sum, cut, slot, long, parts),
+          )
+
+      at_first : ((bs : List (ℕ × ℕ)) (hands : List (List (Slot T N L E))) (piles : List (List (List (Piece T N L E)))) → IsDealt p.1 hands → AreHandsWorked bs hands piles → IsWaved lt up refuses m bs (behind_job 8 1 olds) (gather m piles ++ tail) × (length (gather m piles ++ tail) ≤ length (behind_job 8 1 olds) + total bs)) → (bs : List (ℕ × ℕ)) (hands : List (List (Slot T N L E))) (piles : List (List (List (Piece T N L E)))) → IsDealt (p.0 ∷ p.1) hands → AreHandsWorked bs hands piles →
+          IsWaved lt up refuses (suc m) bs olds (gather (suc m) piles ++ tail) × (length (gather (suc m) piles ++ tail) ≤ length olds + total bs)
+      at_first go bs [] piles d a = absurd d
+      at_first go [] (h ∷ hands) piles d a = absurd a
+      at_first go (b ∷ bs) (h ∷ hands) [] d a = absurd a
+      at_first go (b ∷ bs) (h ∷ hands) (q ∷ piles) d a = at_pile go b bs hands q piles d.0 (subst (λ x. AreExpanded lt up refuses b.0 b.1 x q) d.1 a.0) d.2 a.1
+
+  -- job by job from index by index
+  worked_hands : (times room : ℕ) (js ds : List (Job T N L E)) → length ds ≡ length js → ((i : ℕ) (d : Job T N L E) → i < length js → IsWorked lt up refuses times room (get_or js i d) (get_or ds i d)) → AreHandsWorked (replicate (length js) (times, room)) (hands_of js) (piles_of ds)
+  worked_hands times room [] [] e z = tt
+  worked_hands times room [] (d ∷ ds) e z = absurd (omega (arith, e))
+  worked_hands times room (j ∷ js) [] e z = absurd (omega (arith, e))
+  worked_hands times room (j ∷ js) (d ∷ ds) e z = (z zero j (omega arith), worked_hands times room js ds (omega (arith, e)) (λ i x h. z (suc i) x (omega (arith, h))))
+
+  -- a row that is cut up into places, dealt out, worked on by job and put together again
+  pub wave_of : (due times room m : ℕ) (olds tail : List (Piece T N L E)) (slots : List (Slot T N L E)) (js ds : List (Job T N L E)) (n : ℕ) → m ≡ due * 6 → IsPlanned m olds slots tail → IsDealt slots (hands_of js) → length js ≡ n → n ≡ due → length ds ≡ length js →
+      ((i : ℕ) (d : Job T N L E) → i < length js → IsWorked lt up refuses times room (get_or js i d) (get_or ds i d)) →
+      IsWaved lt up refuses (due * 6) (replicate due (times, room)) olds (gather (due * 6) (piles_of ds) ++ tail) × (length (gather (due * 6) (piles_of ds) ++ tail) ≤ length olds + due * room)
+  wave_of due times room m olds tail slots js ds n e planned dealt long count same each =
+      let worked = subst (λ x. AreHandsWorked (replicate x (times, room)) (hands_of js) (piles_of ds)) (long ∙ count) (worked_hands times room js ds same each) in
+      let k = waved_dealt (due * 6) olds tail slots (replicate due (times, room)) (hands_of js) (piles_of ds) (subst (λ x. IsPlanned x olds slots tail) e planned) dealt worked in
+      let bound = k.1 in
+      let sum = total_even due times room in
+      (k.0, omega (arith, bound, sum))
+
+-- ---- putting together
+
+module _ {T N L E : Type 0} where
+  piles_more : (js : List (Job T N L E)) (j : Job T N L E) → piles_of (js ++ j ∷ []) ≡ piles_of js ++ rows_of j ∷ []
+  piles_more [] j = refl
+  piles_more (i ∷ js) j = ap (λ x. rows_of i ∷ x) (piles_more js j)
+
+  gather_next : (k : ℕ) (p : List (List (Piece T N L E))) (piles : List (List (List (Piece T N L E)))) → gather (suc k) (p ∷ piles) ≡ get_or p 0 [] ++ gather k (piles ++ drop 1 p ∷ [])
+  gather_next k [] piles = refl
+  gather_next k (row ∷ rows) piles = refl
+
+  -- the first job's next row, if there is one, and then the others'
+  gathered_next : (m k : ℕ) (jobs rest news : List (Job T N L E)) (j d : Job T N L E) → m ≡ suc k → jobs ≡ j ∷ rest → news ≡ rest ++ d ∷ [] → rows_of d ≡ drop 1 (rows_of j) → gather m (piles_of jobs) ≡ get_or (rows_of j) 0 [] ++ gather k (piles_of news)
+  gathered_next m k jobs rest news j d e f g h =
+      ap (λ x. gather x (piles_of jobs)) e ∙ ap (λ x. gather (suc k) (piles_of x)) f ∙ gather_next k (rows_of j) (piles_of rest) ∙ ap (λ x. get_or (rows_of j) 0 [] ++ gather k (piles_of rest ++ x ∷ [])) (sym h) ∙ ap (λ x. get_or (rows_of j) 0 [] ++ gather k x) (sym (ap piles_of g ∙ piles_more rest d))
+
+  -- it is put behind a row
+  pub gathered_more : (m k : ℕ) (jobs rest news : List (Job T N L E)) (j d : Job T N L E) (row more whole : List (Piece T N L E)) → m ≡ suc k → jobs ≡ j ∷ rest → news ≡ rest ++ d ∷ [] → rows_of d ≡ drop 1 (rows_of j) → more ≡ row ++ get_or (rows_of j) 0 [] →
+      row ++ gather m (piles_of jobs) ≡ whole → more ++ gather k (piles_of news) ≡ whole
+  gathered_more m k jobs rest news j d row more whole e f g h on all =
+      ap (λ x. x ++ gather k (piles_of news)) on ∙ append_assoc row (get_or (rows_of j) 0 []) (gather k (piles_of news)) ∙ ap (λ x. row ++ x) (sym (gathered_next m k jobs rest news j d e f g h)) ∙ all
+
+  -- and is no longer than all
+  pub gathered_fits : (m k : ℕ) (jobs rest : List (Job T N L E)) (j : Job T N L E) (row whole : List (Piece T N L E)) → m ≡ suc k → jobs ≡ j ∷ rest → row ++ gather m (piles_of jobs) ≡ whole → length row + length (get_or (rows_of j) 0 []) ≤ length whole
+  gathered_fits m k jobs rest j row whole e f all =
+      let first = get_or (rows_of j) 0 [] in
+      let back = gather k (piles_of rest ++ drop 1 (rows_of j) ∷ []) in
+      let parts = ap length (ap (λ x. gather x (piles_of jobs)) e ∙ ap (λ x. gather (suc k) (piles_of x)) f ∙ gather_next k (rows_of j) (piles_of rest)) in
+      let both = length-append first back in
+      let long = ap length all in
+      let sum = length-append row (gather m (piles_of jobs)) in
+      omega (arith, parts, both, long, sum)

@@ -1,6 +1,6 @@
 -- A wave and a call keep that each refusal in the row is its walker's, and a refusal that is told is that of the walker in front.
 -- To cite: waved_refusals, given_refusals, given_refused_any, starved_refused.
-use Rattle.std.proofs.Common.{IfErr, ◌≡◌, ℕ, zero, suc, ◌+◌, ◌-◌, length, List, [], ◌∷◌, ◌++◌, refl, sym, inl, inr, subst, Option, Some, None, Ok, Err, true, false}
+use Rattle.std.proofs.Common.{IfErr, ◌≡◌, ℕ, zero, suc, ◌+◌, ◌-◌, min, length, List, [], ◌∷◌, ◌++◌, refl, sym, inl, inr, subst, Option, Some, None, Ok, Err, true, false}
 use Rattle.std.specs.declared.result.Result.{Result}
 use Rattle.gf_walk.specs.declared.mark.Mark.{Mark}
 use Rattle.gf_walk.specs.declared.mark.Mark.TheVariants.{After}
@@ -42,13 +42,14 @@ module _ {T N L E : Type 0} (lt : L → L → Type 0) (up : T → N → L → N 
 
   -- ---- a job
 
-  on_refusals : (k n : ℕ) (olds news : List (Piece T N L E)) → ExpandsOn lt up refuses k n olds news → AreRefusals refuses olds → AreRefusals refuses news
-  on_refusals zero n olds news h a = subst (AreRefusals refuses) (sym h) a
-  on_refusals (suc k) zero olds news h a = subst (AreRefusals refuses) (sym h) a
-  on_refusals (suc k) (suc n) [] news h a = subst (AreRefusals refuses) (sym h) a
-  on_refusals (suc k) (suc n) (Ready v ∷ ps) news h a = subst (AreRefusals refuses) (sym h.1) (on_refusals (suc k) (suc n) ps h.0 h.2 a)
-  on_refusals (suc k) (suc n) (Under w ∷ ps) news h a = on_refusals k (n + 2 - length h.0) (h.0 ++ ps) news h.2 (refusals_both h.0 ps (one_refusals w h.0 h.1) a)
-  on_refusals (suc k) (suc n) (Refused w e ∷ ps) news h a = subst (AreRefusals refuses) (sym h) a
+  on_refusals : (k n : ℕ) (olds : List (Piece T N L E)) (j i : ℕ) (news : List (Piece T N L E)) → ExpandsOn lt up refuses k n olds j i news → AreRefusals refuses olds → AreRefusals refuses news
+  on_refusals zero n olds j i news h a = subst (AreRefusals refuses) (sym h.0) a
+  on_refusals (suc k) zero olds j i news h a = subst (AreRefusals refuses) (sym h.0) a
+  on_refusals (suc k) (suc zero) olds j i news h a = subst (AreRefusals refuses) (sym h.0) a
+  on_refusals (suc k) (suc (suc n)) [] j i news h a = subst (AreRefusals refuses) (sym h.0) a
+  on_refusals (suc k) (suc (suc n)) (Ready v ∷ ps) j i news h a = subst (AreRefusals refuses) (sym h.1) (on_refusals (suc k) (suc (suc n)) ps j i h.0 h.2 a)
+  on_refusals (suc k) (suc (suc n)) (Under w ∷ ps) j i news h a = on_refusals k (n + 3 - length h.0) (h.0 ++ ps) j i news h.2 (refusals_both h.0 ps (one_refusals w h.0 h.1) a)
+  on_refusals (suc k) (suc (suc n)) (Refused w e ∷ ps) j i news h a = subst (AreRefusals refuses) (sym h.0) a
 
   -- ---- a wave
 
@@ -69,10 +70,11 @@ module _ {T N L E : Type 0} (lt : L → L → Type 0) (up : T → N → L → N 
   behind_refusals (suc c) (suc m) (Under w ∷ ps) a = behind_refusals c (suc m - 1) ps a
   behind_refusals (suc c) (suc m) (Refused w e ∷ ps) a = behind_refusals c (suc m - 1) ps a.1
 
-  pub waved_refusals : (times room m : ℕ) (olds news : List (Piece T N L E)) → IsWaved lt up refuses times room m olds news → AreRefusals refuses olds → AreRefusals refuses news
-  waved_refusals times room zero olds news h a = subst (AreRefusals refuses) (sym h) a
-  waved_refusals times room (suc m) olds news h a =
-      subst (AreRefusals refuses) (sym h.2) (refusals_both h.0 h.1 (on_refusals times room (first_job 32 4 olds) h.0 h.3 (first_refusals 32 4 olds)) (waved_refusals times room m (behind_job 32 4 olds) h.1 h.4 (behind_refusals 32 4 olds a)))
+  pub waved_refusals : (m : ℕ) (jobs : List (ℕ × ℕ)) (olds news : List (Piece T N L E)) → IsWaved lt up refuses m jobs olds news → AreRefusals refuses olds → AreRefusals refuses news
+  waved_refusals zero jobs olds news h a = subst (AreRefusals refuses) (sym h) a
+  waved_refusals (suc m) [] olds news h a = absurd h
+  waved_refusals (suc m) (b ∷ jobs) olds news h a =
+      subst (AreRefusals refuses) (sym h.4) (refusals_both h.0 h.1 (on_refusals b.0 b.1 (first_job 8 1 olds) h.2 h.3 h.0 h.5 (first_refusals 8 1 olds)) (waved_refusals m (jobs ++ (h.2, min h.3 16) ∷ []) (behind_job 8 1 olds) h.1 h.6 (behind_refusals 8 1 olds a)))
 
   -- ---- an answer
 

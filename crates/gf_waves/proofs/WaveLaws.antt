@@ -1,6 +1,6 @@
 -- A wave and a call keep what is left.
 -- To cite: over_leaves, given_leaves, readied_leaves.
-use Rattle.std.proofs.Common.{◌≡◌, ℕ, zero, suc, ◌+◌, ◌-◌, List, [], ◌∷◌, ◌++◌, length, refl, sym, ap, inl, inr, subst, ◌∙◌, append_assoc, append-nil, Option, Some, None, Ok, Err}
+use Rattle.std.proofs.Common.{◌≡◌, ℕ, zero, suc, ◌+◌, ◌-◌, ◌*◌, min, replicate, List, [], ◌∷◌, ◌++◌, length, refl, sym, ap, inl, inr, subst, ◌∙◌, append_assoc, append-nil, Option, Some, None, Ok, Err}
 use Rattle.std.specs.declared.result.Result.{Result}
 use Rattle.gf_walk.specs.Path.{IsPath, IsStrictOrder, IsTree}
 use Rattle.gf_walk.specs.Place.{Place}
@@ -37,21 +37,23 @@ module _ {T N L E : Type 0} (lt : L → L → Type 0) (up : T → N → L → N 
   one_leaves w ps (inr h) nodes l = subst (λ k. PiecesLeave (IsLeftAt lt up) k nodes) (sym h.1) (nodes, [], sym (append-nil nodes), l, refl)
 
   -- a job leaves what was left
-  on_leaves : (k n : ℕ) (olds news : List (Piece T N L E)) → ExpandsOn lt up refuses k n olds news → (nodes : List N) → PiecesLeave (IsLeftAt lt up) olds nodes → PiecesLeave (IsLeftAt lt up) news nodes
-  on_leaves zero n olds news h nodes l = subst (λ r. PiecesLeave (IsLeftAt lt up) r nodes) (sym h) l
-  on_leaves (suc k) zero olds news h nodes l = subst (λ r. PiecesLeave (IsLeftAt lt up) r nodes) (sym h) l
-  on_leaves (suc k) (suc n) [] news h nodes l = subst (λ r. PiecesLeave (IsLeftAt lt up) r nodes) (sym h) l
-  on_leaves (suc k) (suc n) (Ready v ∷ ps) news h nodes l = subst (λ r. PiecesLeave (IsLeftAt lt up) r nodes) (sym h.1) (l.0, l.1, on_leaves (suc k) (suc n) ps h.0 h.2 l.0 l.2)
-  on_leaves (suc k) (suc n) (Under w ∷ ps) news h nodes l = on_leaves k (n + 2 - length h.0) (h.0 ++ ps) news h.2 nodes (subst (PiecesLeave (IsLeftAt lt up) (h.0 ++ ps)) (sym l.2) (leave_both (IsLeftAt lt up) h.0 ps l.0 l.1 (one_leaves w h.0 h.1 l.0 l.3) l.4))
-  on_leaves (suc k) (suc n) (Refused w e ∷ ps) news h nodes l = subst (λ r. PiecesLeave (IsLeftAt lt up) r nodes) (sym h) l
+  on_leaves : (k n : ℕ) (olds : List (Piece T N L E)) (j i : ℕ) (news : List (Piece T N L E)) → ExpandsOn lt up refuses k n olds j i news → (nodes : List N) → PiecesLeave (IsLeftAt lt up) olds nodes → PiecesLeave (IsLeftAt lt up) news nodes
+  on_leaves zero n olds j i news h nodes l = subst (λ r. PiecesLeave (IsLeftAt lt up) r nodes) (sym h.0) l
+  on_leaves (suc k) zero olds j i news h nodes l = subst (λ r. PiecesLeave (IsLeftAt lt up) r nodes) (sym h.0) l
+  on_leaves (suc k) (suc zero) olds j i news h nodes l = subst (λ r. PiecesLeave (IsLeftAt lt up) r nodes) (sym h.0) l
+  on_leaves (suc k) (suc (suc n)) [] j i news h nodes l = subst (λ r. PiecesLeave (IsLeftAt lt up) r nodes) (sym h.0) l
+  on_leaves (suc k) (suc (suc n)) (Ready v ∷ ps) j i news h nodes l = subst (λ r. PiecesLeave (IsLeftAt lt up) r nodes) (sym h.1) (l.0, l.1, on_leaves (suc k) (suc (suc n)) ps j i h.0 h.2 l.0 l.2)
+  on_leaves (suc k) (suc (suc n)) (Under w ∷ ps) j i news h nodes l = on_leaves k (n + 3 - length h.0) (h.0 ++ ps) j i news h.2 nodes (subst (PiecesLeave (IsLeftAt lt up) (h.0 ++ ps)) (sym l.2) (leave_both (IsLeftAt lt up) h.0 ps l.0 l.1 (one_leaves w h.0 h.1 l.0 l.3) l.4))
+  on_leaves (suc k) (suc (suc n)) (Refused w e ∷ ps) j i news h nodes l = subst (λ r. PiecesLeave (IsLeftAt lt up) r nodes) (sym h.0) l
 
   -- a wave leaves what was left
-  pub waved_leaves : (times room m : ℕ) (olds news : List (Piece T N L E)) → IsWaved lt up refuses times room m olds news → (nodes : List N) → PiecesLeave (IsLeftAt lt up) olds nodes → PiecesLeave (IsLeftAt lt up) news nodes
-  waved_leaves times room zero olds news h nodes l = subst (λ r. PiecesLeave (IsLeftAt lt up) r nodes) (sym h) l
-  waved_leaves times room (suc m) olds news h nodes l =
-      let k = cut_leaves (IsLeftAt lt up) 32 4 olds nodes l in
-      subst (λ r. PiecesLeave (IsLeftAt lt up) r nodes) (sym h.2) (subst (PiecesLeave (IsLeftAt lt up) (h.0 ++ h.1)) (sym k.2)
-      (leave_both (IsLeftAt lt up) h.0 h.1 k.0 k.1 (on_leaves times room (first_job 32 4 olds) h.0 h.3 k.0 k.3) (waved_leaves times room m (behind_job 32 4 olds) h.1 h.4 k.1 k.4)))
+  pub waved_leaves : (m : ℕ) (jobs : List (ℕ × ℕ)) (olds news : List (Piece T N L E)) → IsWaved lt up refuses m jobs olds news → (nodes : List N) → PiecesLeave (IsLeftAt lt up) olds nodes → PiecesLeave (IsLeftAt lt up) news nodes
+  waved_leaves zero jobs olds news h nodes l = subst (λ r. PiecesLeave (IsLeftAt lt up) r nodes) (sym h) l
+  waved_leaves (suc m) [] olds news h nodes l = absurd h
+  waved_leaves (suc m) (b ∷ jobs) olds news h nodes l =
+      let k = cut_leaves (IsLeftAt lt up) 8 1 olds nodes l in
+      subst (λ r. PiecesLeave (IsLeftAt lt up) r nodes) (sym h.4) (subst (PiecesLeave (IsLeftAt lt up) (h.0 ++ h.1)) (sym k.2)
+      (leave_both (IsLeftAt lt up) h.0 h.1 k.0 k.1 (on_leaves b.0 b.1 (first_job 8 1 olds) h.2 h.3 h.0 h.5 k.0 k.3) (waved_leaves m (jobs ++ (h.2, min h.3 16) ∷ []) (behind_job 8 1 olds) h.1 h.6 k.1 k.4)))
 
 -- ---- an answer
 
@@ -82,5 +84,5 @@ module _ {T N L E : Type 0} (lt : L → L → Type 0) (up : T → N → L → N 
   given_leaves (Under w ∷ ps) answer news (inr h) nodes l = given_leaves ps answer news h.1 nodes (subst (λ k. PiecesLeave (IsLeftAt lt up) ps k) (sym (l.2 ∙ ap (λ f. f ++ l.1) (over_leaves w h.0 l.0 l.3))) l.4)
 
   pub readied_leaves : (workers jobs next : ℕ) (olds worked : List (Piece T N L E)) → IsReadied lt up refuses workers jobs olds next worked → (nodes : List N) → PiecesLeave (IsLeftAt lt up) olds nodes → PiecesLeave (IsLeftAt lt up) worked nodes
-  readied_leaves workers jobs next olds worked (inl h) nodes l = waved_leaves lt up strict trees refuses (times_at jobs) (room_at workers olds) (due_at workers olds) olds worked h.3 nodes l
+  readied_leaves workers jobs next olds worked (inl h) nodes l = waved_leaves lt up strict trees refuses (due_at workers olds * 6) (replicate (due_at workers olds) (times_at jobs, room_at workers olds)) olds worked h.3 nodes l
   readied_leaves workers jobs next olds worked (inr h) nodes l = subst (λ r. PiecesLeave (IsLeftAt lt up) r nodes) (sym h.2) l

@@ -37,7 +37,7 @@ walkers_of (Ready v) = 0
 walkers_of (Under w) = 1
 walkers_of (Refused w e) = 1
 
--- ---- a job's pieces
+-- ---- the pieces of a place
 
 -- the first pieces of a row up to the last of so many walkers, at most so many in all; the walkers without refusals
 abbrev pub first_job : {T N L E : Type 0} → ℕ → ℕ → List (Piece T N L E) → List (Piece T N L E)
@@ -59,18 +59,18 @@ behind_job (suc c) (suc m) (p ∷ ps) = behind_job c (suc m - walkers_of p) ps
 abbrev pub most_pieces : ℕ → ℕ
 most_pieces workers = (workers + 1) * 32
 
--- how many jobs a wave has: one for each worker, no more than leave each four places, and no more than there are walkers for, four to a job
+-- how many jobs a wave has: one for each worker, no more than leave each four places, and no more than there are walkers
 abbrev pub due_at : {T N L E : Type 0} → ℕ → List (Piece T N L E) → ℕ
-due_at workers ps = min (min workers ((most_pieces workers - length ps) / 4)) ((length ps - count_by is_ready ps + 3) / 4)
+due_at workers ps = min (min workers ((most_pieces workers - length ps) / 4)) (length ps - count_by is_ready ps)
 
--- a job may add so many pieces and one: twelve, and no more than its share of the places
+-- a job may add so many pieces: twelve, and no more than its share of the places
 abbrev pub room_at : {T N L E : Type 0} → ℕ → List (Piece T N L E) → ℕ
-room_at workers ps = min 11 ((most_pieces workers - length ps) / due_at workers ps - 1)
+room_at workers ps = min 12 ((most_pieces workers - length ps) / due_at workers ps)
 
--- how often a job expands at most: ten times; and the first jobs no more often than there were jobs before, and once, so that there is soon work
+-- how often a job expands at most: twelve times; and the first jobs no more often than there were jobs before, and once, so that there is soon work
 -- for all
 abbrev pub times_at : ℕ → ℕ
-times_at jobs = min (jobs + 1) 10
+times_at jobs = min (jobs + 1) 12
 
 -- at its last value a job's number stays
 abbrev pub job_number : ℕ → ℕ

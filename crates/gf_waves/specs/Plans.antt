@@ -1,45 +1,64 @@
--- How a row is cut up for a wave, and put together again: its first pieces become jobs, side by side.
+-- How a row is cut up for a wave, dealt out to jobs, and put together again.
 -- Laws: proofs/PlanLaws.antt.
-use Rattle.std.specs.Prelude.{◌≡◌, ◌<◌, ◌≤◌, ◌+◌, length, slice_index_or, ℕ, zero, suc, List, [], ◌∷◌, ◌++◌}
+use Rattle.std.specs.Prelude.{◌≡◌, ◌<◌, ◌≤◌, ◌+◌, min, length, map, slice_index_or, ℕ, zero, suc, List, [], ◌∷◌, ◌++◌}
+use Rattle.std.specs.List.{All}
+use Rattle.std.specs.Vec.{vec_capacity}
 use Rattle.std.specs.VecDeque.{deque_capacity}
 use Rattle.gf_walk.specs.Place.{Place}
 use Rattle.gf_walk.specs.declared.expand.Piece.{Piece}
+use Rattle.gf_waves.specs.declared.job.Slot.{Slot}
 use Rattle.gf_waves.specs.declared.job.Job.{Job}
-use Rattle.gf_waves.specs.declared.job.Job.TheVariants.{Due, Done}
 use Rattle.gf_waves.specs.Frontier.{job_number, first_job, behind_job}
 use Rattle.gf_waves.specs.Wave.{ExpandsOn, IsExpansion}
 
 -- ---- cutting up
 
--- the job has no pieces yet, and room for those that it may have
-abbrev pub IsSpare : {T N L E : Type 0} → Job T N L E → Type 0
-IsSpare (Due row done n) = (row.items ≡ []) × (done.items ≡ []) × (44 ≤ deque_capacity row) × (44 ≤ deque_capacity done)
-IsSpare (Done ps) = ⊥
+-- the place has no pieces yet, and room for those that it may have
+abbrev pub IsSpare : {T N L E : Type 0} → Slot T N L E → Type 0
+IsSpare s = (s.row.items ≡ []) × (s.done.items ≡ []) × (24 ≤ deque_capacity s.row) × (24 ≤ deque_capacity s.done)
 
 -- each of them
-abbrev pub AreSpare : {T N L E : Type 0} → List (Job T N L E) → Type 0
+abbrev pub AreSpare : {T N L E : Type 0} → List (Slot T N L E) → Type 0
 AreSpare [] = Unit {0}
-AreSpare (j ∷ js) = IsSpare j × AreSpare js
+AreSpare (s ∷ ss) = IsSpare s × AreSpare ss
 
--- the job has these pieces and this number, and room for all that they may become
-abbrev pub IsDue : {T N L E : Type 0} → ℕ → List (Piece T N L E) → Job T N L E → Type 0
-IsDue n pieces (Due row done k) = (row.items ≡ pieces) × (k ≡ n) × (done.items ≡ []) × (length row.items ≤ 32) × (44 ≤ deque_capacity row) × (44 ≤ deque_capacity done)
-IsDue n pieces (Done ps) = ⊥
+-- the place has at most eight pieces, and room for all that they may become
+abbrev pub IsFit : {T N L E : Type 0} → Slot T N L E → Type 0
+IsFit s = (s.done.items ≡ []) × (length s.row.items ≤ 8) × (24 ≤ deque_capacity s.row) × (24 ≤ deque_capacity s.done)
 
--- a job that is due has room for all that its pieces may become
-abbrev pub IsFit : {T N L E : Type 0} → Job T N L E → Type 0
-IsFit (Due row done k) = (done.items ≡ []) × (length row.items ≤ 32) × (44 ≤ deque_capacity row) × (44 ≤ deque_capacity done)
-IsFit (Done ps) = Unit {0}
+-- each of them
+abbrev pub AreFit : {T N L E : Type 0} → List (Slot T N L E) → Type 0
+AreFit [] = Unit {0}
+AreFit (s ∷ ss) = IsFit s × AreFit ss
 
--- each of them, by its index
-abbrev pub AreFitAt : {T N L E : Type 0} → List (Job T N L E) → Type 0
-AreFitAt {T} {N} {L} {E} js = (i : ℕ) (d : Job T N L E) → i < length js → IsFit (slice_index_or js i d)
+-- so many places have the first pieces of a row, one after another; and the tail is what is behind
+abbrev pub IsPlanned : {T N L E : Type 0} → ℕ → List (Piece T N L E) → List (Slot T N L E) → List (Piece T N L E) → Type 0
+IsPlanned zero olds slots tail = (slots ≡ []) × (tail ≡ olds)
+IsPlanned {T} {N} {L} {E} (suc m) olds slots tail =
+    (slot : Slot T N L E) × (ss : List (Slot T N L E)) × (slots ≡ slot ∷ ss) × IsFit slot × (slot.row.items ≡ first_job 8 1 olds) × IsPlanned m (behind_job 8 1 olds) ss tail
 
--- so many jobs have the first pieces of a row, one after another, with numbers from n on; and the tail is what is behind
-abbrev pub IsPlanned : {T N L E : Type 0} → ℕ → ℕ → List (Piece T N L E) → List (Job T N L E) → List (Piece T N L E) → Type 0
-IsPlanned zero n olds jobs tail = (jobs ≡ []) × (tail ≡ olds)
-IsPlanned {T} {N} {L} {E} (suc m) n olds jobs tail =
-    (job : Job T N L E) × (js : List (Job T N L E)) × (jobs ≡ job ∷ js) × IsDue (job_number n) (first_job 32 4 olds) job × IsPlanned m (n + 1) (behind_job 32 4 olds) js tail
+-- ---- dealing out
+
+-- the jobs have no places yet, and room for so many
+abbrev pub AreFree : {T N L E : Type 0} → ℕ → List (Job T N L E) → Type 0
+AreFree m [] = Unit {0}
+AreFree m (j ∷ js) = (j.slots.items ≡ []) × (j.worked.items ≡ []) × (m ≤ vec_capacity j.slots) × (m ≤ vec_capacity j.worked) × AreFree m js
+
+-- their numbers are n and those after it; at its last value a number stays
+abbrev pub AreNumbered : {T N L E : Type 0} → ℕ → List (Job T N L E) → Type 0
+AreNumbered n [] = Unit {0}
+AreNumbered n (j ∷ js) = (j.number ≡ job_number n) × AreNumbered (n + 1) js
+
+-- the first place is the first job's, and the others are dealt out from the next job on, the first job last
+abbrev pub IsDealt : {T N L E : Type 0} → List (Slot T N L E) → List (List (Slot T N L E)) → Type 0
+IsDealt [] hands = All (λ ss. ss ≡ []) hands
+IsDealt (s ∷ ss) [] = ⊥
+IsDealt {T} {N} {L} {E} (s ∷ ss) (h ∷ hands) = (rest : List (Slot T N L E)) × (h ≡ s ∷ rest) × IsDealt ss (hands ++ rest ∷ [])
+
+-- the places of each job
+abbrev pub hands_of : {T N L E : Type 0} → List (Job T N L E) → List (List (Slot T N L E))
+hands_of [] = []
+hands_of (j ∷ js) = j.slots.items ∷ hands_of js
 
 -- ---- working
 
@@ -50,34 +69,51 @@ IsExpanded {T} {N} {L} {E} lt up refuses w olds news = (front : List (Piece T N 
 -- some pieces are done with: what the others may become with the expansions and the room that are left, that stands behind these
 abbrev pub IsOn : {T N L E : Type 0} → (L → L → Type 0) → (T → N → L → N → Type 0) → (Place T N L → E → Type 0) → ℕ → ℕ → List (Piece T N L E) → List (Piece T N L E) → ℕ → ℕ → List (Piece T N L E) → List (Piece T N L E) → Type 0
 IsOn {T} {N} {L} {E} lt up refuses left room dones olds less fewer more rest =
-    (first : List (Piece T N L E)) × (more ≡ dones ++ first) × ((news : List (Piece T N L E)) → ExpandsOn lt up refuses less fewer rest news → ExpandsOn lt up refuses left room olds (first ++ news))
+    (first : List (Piece T N L E)) × (more ≡ dones ++ first) × ((j i : ℕ) (news : List (Piece T N L E)) → ExpandsOn lt up refuses less fewer rest j i news → ExpandsOn lt up refuses left room olds j i (first ++ news))
 
--- a job that was due is worked on; other jobs stay
+-- a job's places are worked on, one after another, with what the ones before have left, room for sixteen pieces at most; and none grows by more
+-- than it uses up
+abbrev pub AreExpanded : {T N L E : Type 0} → (L → L → Type 0) → (T → N → L → N → Type 0) → (Place T N L → E → Type 0) → ℕ → ℕ → List (Slot T N L E) → List (List (Piece T N L E)) → Type 0
+AreExpanded lt up refuses k n [] rows = rows ≡ []
+AreExpanded lt up refuses k n (s ∷ ss) [] = ⊥
+AreExpanded lt up refuses k n (s ∷ ss) (row ∷ rows) =
+    (j : ℕ) × (i : ℕ) × ExpandsOn lt up refuses k n s.row.items j i row × (length row + i ≤ length s.row.items + n) × AreExpanded lt up refuses j (min i 16) ss rows
+
+-- the job has places that are to be worked on, and room for what they become
+abbrev pub IsJobFit : {T N L E : Type 0} → Job T N L E → Type 0
+IsJobFit j = AreFit j.slots.items × (j.worked.items ≡ []) × (length j.slots.items ≤ vec_capacity j.worked)
+
+-- each of them, by its index
+abbrev pub AreFitAt : {T N L E : Type 0} → List (Job T N L E) → Type 0
+AreFitAt {T} {N} {L} {E} js = (i : ℕ) (d : Job T N L E) → i < length js → IsJobFit (slice_index_or js i d)
+
+-- what a job has made of its places
+abbrev pub rows_of : {T N L E : Type 0} → Job T N L E → List (List (Piece T N L E))
+rows_of j = map (λ d. d.items) j.worked.items
+
+-- a job's places are worked on
 abbrev pub IsWorked : {T N L E : Type 0} → (L → L → Type 0) → (T → N → L → N → Type 0) → (Place T N L → E → Type 0) → ℕ → ℕ → Job T N L E → Job T N L E → Type 0
-IsWorked lt up refuses times room (Due row done n) (Due more dones k) = ⊥
-IsWorked lt up refuses times room (Due row done n) (Done ps) = ExpandsOn lt up refuses times room row.items ps.items × (length ps.items ≤ length row.items + room + 1)
-IsWorked lt up refuses times room (Done ps) new = new ≡ Done ps
+IsWorked lt up refuses times room old new = AreExpanded lt up refuses times room old.slots.items (rows_of new)
 
--- job by job
-abbrev pub AreWorked : {T N L E : Type 0} → (L → L → Type 0) → (T → N → L → N → Type 0) → (Place T N L → E → Type 0) → ℕ → ℕ → List (Job T N L E) → List (Job T N L E) → Type 0
-AreWorked lt up refuses times room [] [] = Unit {0}
-AreWorked lt up refuses times room [] (t ∷ ts) = ⊥
-AreWorked lt up refuses times room (s ∷ ss) [] = ⊥
-AreWorked lt up refuses times room (s ∷ ss) (t ∷ ts) = IsWorked lt up refuses times room s t × AreWorked lt up refuses times room ss ts
-
--- the same, index by index
+-- the same of several jobs, index by index
 pub record AreWorkedAt {T N L E : Type 0} (lt : L → L → Type 0) (up : T → N → L → N → Type 0) (refuses : Place T N L → E → Type 0) (times room : ℕ) (olds news : List (Job T N L E)) : Type 0 where
   pub same_length : length news ≡ length olds
   pub each : (i : ℕ) (d : Job T N L E) → i < length olds → IsWorked lt up refuses times room (slice_index_or olds i d) (slice_index_or news i d)
 
 -- ---- putting together
 
--- the pieces of a job
-abbrev pub job_pieces : {T N L E : Type 0} → Job T N L E → List (Piece T N L E)
-job_pieces (Due row done n) = row.items
-job_pieces (Done ps) = ps.items
+-- what the jobs have made of so many places, taken from the jobs in turn, a row from each, one after another
+abbrev pub gather : {T N L E : Type 0} → ℕ → List (List (List (Piece T N L E))) → List (Piece T N L E)
+gather zero piles = []
+gather (suc m) [] = []
+gather (suc m) ([] ∷ piles) = gather m (piles ++ [] ∷ [])
+gather (suc m) ((row ∷ rows) ∷ piles) = row ++ gather m (piles ++ rows ∷ [])
 
--- those of several, one after another
-abbrev pub pieces_of : {T N L E : Type 0} → List (Job T N L E) → List (Piece T N L E)
-pieces_of [] = []
-pieces_of (j ∷ js) = job_pieces j ++ pieces_of js
+-- what each job has made
+abbrev pub piles_of : {T N L E : Type 0} → List (Job T N L E) → List (List (List (Piece T N L E)))
+piles_of [] = []
+piles_of (j ∷ js) = rows_of j ∷ piles_of js
+
+-- the rows of these jobs in turn
+abbrev pub gathered : {T N L E : Type 0} → ℕ → List (Job T N L E) → List (Piece T N L E)
+gathered m js = gather m (piles_of js)

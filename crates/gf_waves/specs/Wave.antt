@@ -1,7 +1,7 @@
 -- What a wave and a call do to a row.
 -- lt orders labels, `up t` is the parent relation of the tree t, and `refuses w e` says that the walker at w may be refused so.
 -- Laws: proofs/WaveLaws.antt.
-use Rattle.std.specs.Prelude.{◌≡◌, ℕ, zero, suc, ◌+◌, ◌-◌, ◌<◌, length, List, [], ◌∷◌, ◌++◌, ◌⊎◌, Option, Some, None, Bool, true, false}
+use Rattle.std.specs.Prelude.{◌≡◌, ℕ, zero, suc, ◌+◌, ◌-◌, ◌*◌, ◌<◌, min, length, replicate, List, [], ◌∷◌, ◌++◌, ◌⊎◌, Option, Some, None, Bool, true, false}
 use Rattle.std.specs.declared.result.Result.{Result}
 use Rattle.std.specs.declared.result.Result.TheVariants.{Ok, Err}
 use Rattle.gf_walk.specs.Place.{Place}
@@ -19,24 +19,27 @@ use Rattle.gf_walk.specs.declared.expand.Piece.TheVariants.{Ready, Under, Refuse
 abbrev pub IsExpansion : {T N L E : Type 0} → (L → L → Type 0) → (T → N → L → N → Type 0) → (Place T N L → E → Type 0) → Place T N L → List (Piece T N L E) → Type 0
 IsExpansion {E = E} lt up refuses w ps = Expands lt up refuses 1 w ps ⊎ ((e : E) × (ps ≡ Refused w e ∷ []) × refuses w e)
 
--- at most so many times the first walker of a row is expanded in place, unless it stands refused, and as long as two pieces may be added: as many as
--- n and one may be in all
-abbrev pub ExpandsOn : {T N L E : Type 0} → (L → L → Type 0) → (T → N → L → N → Type 0) → (Place T N L → E → Type 0) → ℕ → ℕ → List (Piece T N L E) → List (Piece T N L E) → Type 0
-ExpandsOn lt up refuses zero n olds news = news ≡ olds
-ExpandsOn lt up refuses (suc k) zero olds news = news ≡ olds
-ExpandsOn lt up refuses (suc k) (suc n) [] news = news ≡ []
-ExpandsOn {T} {N} {L} {E} lt up refuses (suc k) (suc n) (Ready v ∷ ps) news = (rest : List (Piece T N L E)) × (news ≡ Ready v ∷ rest) × ExpandsOn lt up refuses (suc k) (suc n) ps rest
-ExpandsOn {T} {N} {L} {E} lt up refuses (suc k) (suc n) (Under w ∷ ps) news = (front : List (Piece T N L E)) × IsExpansion lt up refuses w front × ExpandsOn lt up refuses k (n + 2 - length front) (front ++ ps) news
-ExpandsOn lt up refuses (suc k) (suc n) (Refused w e ∷ ps) news = news ≡ Refused w e ∷ ps
+-- at most k times the first walker of a row is expanded in place, unless it stands refused, and as long as there is room for two pieces more, of n
+-- in all; j expansions and room for i are left, and no expansion where the first walker stands refused
+abbrev pub ExpandsOn : {T N L E : Type 0} → (L → L → Type 0) → (T → N → L → N → Type 0) → (Place T N L → E → Type 0) → ℕ → ℕ → List (Piece T N L E) → ℕ → ℕ → List (Piece T N L E) → Type 0
+ExpandsOn lt up refuses zero n olds j i news = (news ≡ olds) × (j ≡ 0) × (i ≡ n)
+ExpandsOn lt up refuses (suc k) zero olds j i news = (news ≡ olds) × (j ≡ suc k) × (i ≡ 0)
+ExpandsOn lt up refuses (suc k) (suc zero) olds j i news = (news ≡ olds) × (j ≡ suc k) × (i ≡ 1)
+ExpandsOn lt up refuses (suc k) (suc (suc n)) [] j i news = (news ≡ []) × (j ≡ suc k) × (i ≡ suc (suc n))
+ExpandsOn {T} {N} {L} {E} lt up refuses (suc k) (suc (suc n)) (Ready v ∷ ps) j i news = (rest : List (Piece T N L E)) × (news ≡ Ready v ∷ rest) × ExpandsOn lt up refuses (suc k) (suc (suc n)) ps j i rest
+ExpandsOn {T} {N} {L} {E} lt up refuses (suc k) (suc (suc n)) (Under w ∷ ps) j i news = (front : List (Piece T N L E)) × IsExpansion lt up refuses w front × ExpandsOn lt up refuses k (n + 3 - length front) (front ++ ps) j i news
+ExpandsOn lt up refuses (suc k) (suc (suc n)) (Refused w e ∷ ps) j i news = (news ≡ Refused w e ∷ ps) × (j ≡ 0) × (i ≡ suc (suc n))
 
 -- ---- a wave
 
--- so many jobs, one after another: each has the next four walkers of the row and the nodes before and between them, at most 32 pieces, and expands
--- walkers among them, at most so many times, in room for so many pieces and one; and the other pieces stay
-abbrev pub IsWaved : {T N L E : Type 0} → (L → L → Type 0) → (T → N → L → N → Type 0) → (Place T N L → E → Type 0) → ℕ → ℕ → ℕ → List (Piece T N L E) → List (Piece T N L E) → Type 0
-IsWaved lt up refuses times room zero olds news = news ≡ olds
-IsWaved {T} {N} {L} {E} lt up refuses times room (suc m) olds news =
-    (front : List (Piece T N L E)) × (rest : List (Piece T N L E)) × (news ≡ front ++ rest) × ExpandsOn lt up refuses times room (first_job 32 4 olds) front × IsWaved lt up refuses times room m (behind_job 32 4 olds) rest
+-- so many places, each with the next walker of the row and the nodes before it, at most eight pieces, are dealt out to jobs in turn: the job whose
+-- turn it is goes on there with the expansions and the room that it has left, for sixteen pieces at most (`jobs`, the next one in front). The
+-- other pieces stay
+abbrev pub IsWaved : {T N L E : Type 0} → (L → L → Type 0) → (T → N → L → N → Type 0) → (Place T N L → E → Type 0) → ℕ → List (ℕ × ℕ) → List (Piece T N L E) → List (Piece T N L E) → Type 0
+IsWaved lt up refuses zero jobs olds news = news ≡ olds
+IsWaved lt up refuses (suc m) [] olds news = ⊥
+IsWaved {T} {N} {L} {E} lt up refuses (suc m) (b ∷ jobs) olds news =
+    (front : List (Piece T N L E)) × (rest : List (Piece T N L E)) × (j : ℕ) × (i : ℕ) × (news ≡ front ++ rest) × ExpandsOn lt up refuses b.0 b.1 (first_job 8 1 olds) j i front × IsWaved lt up refuses m (jobs ++ (j, min i 16) ∷ []) (behind_job 8 1 olds) rest
 
 -- a node is ready in front, or nothing is left
 abbrev pub is_served : {T N L E : Type 0} → List (Piece T N L E) → Bool
@@ -66,7 +69,7 @@ IsGiven lt up refuses (Under w ∷ ps) answer news = IsAsked lt up refuses w ps 
 abbrev pub IsReadied : {T N L E : Type 0} → (L → L → Type 0) → (T → N → L → N → Type 0) → (Place T N L → E → Type 0) → ℕ → ℕ → List (Piece T N L E) → ℕ → List (Piece T N L E) → Type 0
 IsReadied lt up refuses workers jobs olds next news =
     let due = due_at workers olds in
-    ((is_served olds ≡ false) × (0 < due) × (next ≡ job_number (jobs + due)) × IsWaved lt up refuses (times_at jobs) (room_at workers olds) due olds news)
+    ((is_served olds ≡ false) × (0 < due) × (next ≡ job_number (jobs + due)) × IsWaved lt up refuses (due * 6) (replicate due (times_at jobs, room_at workers olds)) olds news)
     ⊎ (((is_served olds ≡ true) ⊎ (due ≡ 0)) × (next ≡ jobs) × (news ≡ olds))
 
 -- what is left is worked off, and the answer is taken out of that; or there was no memory for a wave, and nothing is done

@@ -1,8 +1,9 @@
 //! A job of a wave: some pieces of the row are worked on.
-ghost use Rattle.std.specs.Prelude.{◌≡◌, ◌<◌, ◌≤◌, ◌+◌, ◌-◌, ◌*◌, length, []};
+ghost use Rattle.std.specs.Prelude.{◌<◌, ◌≤◌, ◌+◌, ◌-◌, ◌*◌, ◌≡◌, length, [], ◌∷◌, ◌++◌};
+ghost use Rattle.std.specs.Vec.{vec_capacity};
 ghost use Rattle.std.specs.VecDeque.{deque_capacity};
 ghost use Rattle.gf_walk.specs.Pieces.{RefusesAt};
-ghost use Rattle.gf_waves.specs.Plans.{IsExpanded, IsFit, IsOn, IsWorked};
+ghost use Rattle.gf_waves.specs.Plans.{IsExpanded, IsFit, IsJobFit, IsOn, IsWorked};
 ghost use Rattle.gf_waves.specs.Wave.{ExpandsOn};
 
 use crate::Gate;
@@ -11,13 +12,19 @@ use gf_walk::{Piece, Tree, Walker};
 use std::alloc::Global;
 use std::collections::VecDeque;
 
-/// A job of a wave.
+/// A place of a job: the pieces of the row that stand there, and a row for what is done with.
 #[derive(Drop)]
-pub enum Job<T: Tree> {
-    /// Pieces that are to be worked on, a row for what is done with, and the job's number.
-    Due(VecDeque<Piece<T>>, VecDeque<Piece<T>>, u64),
-    /// What the pieces became.
-    Done(VecDeque<Piece<T>>),
+pub struct Slot<T: Tree> {
+    pub row: VecDeque<Piece<T>>,
+    pub done: VecDeque<Piece<T>>,
+}
+
+/// A job of a wave: its places in list order, what the places became that were worked on, and its number.
+#[derive(Drop)]
+pub struct Job<T: Tree> {
+    pub slots: Vec<Slot<T>>,
+    pub worked: Vec<VecDeque<Piece<T>>>,
+    pub number: u64,
 }
 
 /// Expands a walker before a row: into its node, its next child's subtree and what follows. A refusal stays with the walker.
@@ -33,9 +40,8 @@ fn expand_before<T: Tree>(alloc: Global, row: &mut VecDeque<Piece<T>>, walker: W
     }
 }
 
-/// Works on the piece in front of a row, where so many expansions are left: a node goes behind those that are done, and a walker is
-/// expanded. How many expansions are left: none where the walker in front stands refused, where there is no piece, and where fewer
-/// than two pieces may be added; `limit` and one may be there in all.
+/// Works on the piece in front of a row, where so many expansions are left and there is room for two pieces more: a node goes behind
+/// those that are done, and a walker is expanded. How many expansions are left: none where the walker in front stands refused.
 fn step<T: Tree>(
     alloc: Global,
     done: &mut VecDeque<Piece<T>>,
@@ -44,20 +50,17 @@ fn step<T: Tree>(
     limit: usize,
 ) -> usize
     requires some { 0 < left }
-    requires limit { limit ≤ 43 }
-    requires few { length done.old.items + length row.old.items ≤ limit + 1 }
-    requires room { 44 ≤ deque_capacity row.old }
-    requires room_for_done { 44 ≤ deque_capacity done.old }
+    requires piece { 0 < length row.old.items }
+    requires limit { limit ≤ 24 }
+    requires few { length done.old.items + length row.old.items + 1 < limit }
+    requires room { 24 ≤ deque_capacity row.old }
+    requires room_for_done { 24 ≤ deque_capacity done.old }
     ensures on { IsOn T.before T.up (RefusesAt T.up T.refuses) left (limit - (length done.old.items + length row.old.items)) done.old.items row.old.items result (limit - (length done.new.items + length row.new.items)) done.new.items row.new.items }
     ensures falls { 3 * result + length row.new.items < 3 * left + length row.old.items }
-    ensures few { length done.new.items + length row.new.items ≤ limit + 1 }
+    ensures few { length done.new.items + length row.new.items ≤ limit }
     ensures room { deque_capacity row.old ≤ deque_capacity row.new }
     ensures room_for_done { deque_capacity done.old ≤ deque_capacity done.new }
 {
-    let is_full = done.len() + row.len() >= limit;
-    if is_full {
-        return 0;
-    }
     match row.pop_front() {
         Some(Piece::Ready(node)) => {
             push(done, Piece::Ready(node));
@@ -71,38 +74,47 @@ fn step<T: Tree>(
             push_before(row, Piece::Refused(walker, refusal));
             0
         }
-        None => 0,
+        None => left,
     }
 }
 
-/// What a row of pieces becomes by so many expansions of the first walker that there is, or by fewer, where there is no room for more:
-/// `room` pieces and one may be added. What is done with is put behind an empty row.
+/// What the row of a place becomes by so many expansions of the first walker that there is, or by fewer, where there is no room for
+/// two pieces more, of so many; and how many expansions and how much room are left.
 fn expand_on<T: Tree>(
     alloc: Global,
-    mut done: VecDeque<Piece<T>>,
-    mut row: VecDeque<Piece<T>>,
+    slot: Slot<T>,
     times: usize,
     room: usize,
-) -> VecDeque<Piece<T>>
-    requires empty { done.items ≡ [] }
-    requires few { length row.items ≤ 32 }
-    requires few_more { room ≤ 11 }
-    requires room { 44 ≤ deque_capacity row }
-    requires room_for_done { 44 ≤ deque_capacity done }
-    requires times { times ≤ 24 }
-    ensures on { ExpandsOn T.before T.up (RefusesAt T.up T.refuses) times room row.items result.items }
-    ensures few { length result.items ≤ length row.items + room + 1 }
+) -> (VecDeque<Piece<T>>, usize, usize)
+    requires fit { IsFit slot }
+    requires few_more { room ≤ 16 }
+    ensures on { ExpandsOn T.before T.up (RefusesAt T.up T.refuses) times room slot.row.items result.1 result.2 result.0.items }
+    ensures few { length result.0.items + result.2 ≤ length slot.row.items + room }
 {
+    let Slot { mut row, mut done } = slot;
     let limit = row.len() + room;
     let mut left = times;
-    while left > 0 {
+    while left > 0 && !row.is_empty() && done.len() + row.len() + 1 < limit {
         left = step(alloc, &mut done, &mut row, left, limit);
     }
     put_behind(&mut done, row);
-    done
+    let rest = limit - done.len();
+    (done, left, rest)
 }
 
-/// What becomes of a job: where it is due, it is worked on, with so many expansions and room for so many pieces and one.
+/// Puts what a place became behind what those before became, where there is room.
+fn keep<T: Tree>(worked: &mut Vec<VecDeque<Piece<T>>>, row: VecDeque<Piece<T>>)
+    requires { length worked.old.items < vec_capacity worked.old }
+    ensures items { worked.new.items ≡ worked.old.items ++ row ∷ [] }
+    ensures room { vec_capacity worked.old ≤ vec_capacity worked.new }
+{
+    if worked.push(row).is_err() {
+        unreachable!();
+    }
+}
+
+/// A job worked on, place after place, with so many expansions and room for so many pieces in all: each place with what the ones
+/// before have left, room for sixteen pieces at most.
 pub fn work<T: Tree, G: Gate>(
     alloc: Global,
     gate: &G,
@@ -110,16 +122,27 @@ pub fn work<T: Tree, G: Gate>(
     times: usize,
     room: usize,
 ) -> Job<T>
-    requires times { times ≤ 24 }
-    requires room { room ≤ 11 }
-    requires fit { IsFit job }
+    requires room { room ≤ 12 }
+    requires fit { IsJobFit job }
     ensures { IsWorked T.before T.up (RefusesAt T.up T.refuses) times room job result }
 {
-    match job {
-        Job::Due(row, done, number) => {
-            gate.at(number);
-            Job::Done(expand_on(alloc, done, row, times, room))
-        }
-        Job::Done(pieces) => Job::Done(pieces),
+    gate.at(job.number);
+    let Job {
+        mut slots,
+        mut worked,
+        number,
+    } = job;
+    let mut left = times;
+    let mut free = room;
+    while !slots.is_empty() {
+        let (row, fewer, less) = expand_on(alloc, slots.remove(0), left, free);
+        keep(&mut worked, row);
+        left = fewer;
+        free = less.min(16);
+    }
+    Job {
+        slots,
+        worked,
+        number,
     }
 }

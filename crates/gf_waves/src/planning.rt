@@ -1,31 +1,63 @@
 //! Cutting a row up into jobs, and putting it together again.
-ghost use Rattle.std.specs.Prelude.{◌≡◌, ◌<◌, ◌≤◌, ◌+◌, ◌-◌, length, [], ◌∷◌, ◌++◌, IfOk};
+ghost use Rattle.std.specs.Prelude.{◌≡◌, ◌<◌, ◌≤◌, ◌+◌, ◌-◌, length, drop, slice_index_or, [], ◌∷◌, ◌++◌, IfOk};
 ghost use Rattle.std.specs.Vec.{vec_capacity};
 ghost use Rattle.std.specs.VecDeque.{deque_capacity};
-ghost use Rattle.gf_waves.specs.declared.job.Job.TheVariants.{Due};
-ghost use Rattle.gf_waves.specs.Frontier.{behind_job, first_job, job_number, renewed, walkers_of};
-ghost use Rattle.gf_waves.specs.Plans.{AreSpare, IsPlanned, job_pieces, pieces_of};
+ghost use Rattle.gf_waves.specs.Frontier.{behind_job, first_job, renewed, walkers_of};
+ghost use Rattle.gf_waves.specs.Plans.{AreFit, AreFitAt, AreFree, AreNumbered, AreSpare, IsDealt, IsPlanned, gathered, hands_of, rows_of};
 
-use crate::job::Job;
+use crate::job::{Job, Slot};
 use crate::rows::{push, put_behind};
 use gf_walk::{Piece, Tree};
 use std::alloc::{AllocError, Global};
 use std::collections::VecDeque;
 
-/// So many jobs without pieces, each with room for those that it may have.
+/// So many places without pieces, each with room for those that it may have.
 ///
 /// # Errors
 ///
 /// Want of memory.
-pub fn spare_jobs<T: Tree>(alloc: Global, count: usize) -> Result<Vec<Job<T>>, AllocError>
+pub fn spare_slots<T: Tree>(alloc: Global, count: usize) -> Result<Vec<Slot<T>>, AllocError>
     ensures spare { IfOk result (λ v. AreSpare v.items) }
     ensures count { IfOk result (λ v. length v.items ≡ count) }
 {
+    let mut slots = Vec::with_capacity(alloc, count)?;
+    while slots.len() < count {
+        let row = VecDeque::with_capacity(alloc, 24)?;
+        let done = VecDeque::with_capacity(alloc, 24)?;
+        if slots.push(Slot { row, done }).is_err() {
+            unreachable!();
+        }
+    }
+    Ok(slots)
+}
+
+/// So many jobs without places, each with room for so many, numbered from `first` on. At its last value the number stays.
+///
+/// # Errors
+///
+/// Want of memory.
+pub fn spare_jobs<T: Tree>(
+    alloc: Global,
+    count: usize,
+    places: usize,
+    first: u64,
+) -> Result<Vec<Job<T>>, AllocError>
+    ensures free { IfOk result (λ v. AreFree places v.items) }
+    ensures count { IfOk result (λ v. length v.items ≡ count) }
+    ensures numbers { IfOk result (λ v. AreNumbered first v.items) }
+    ensures room { IfOk result (λ v. count ≤ vec_capacity v) }
+{
     let mut jobs = Vec::with_capacity(alloc, count)?;
     while jobs.len() < count {
-        let row = VecDeque::with_capacity(alloc, 44)?;
-        let done = VecDeque::with_capacity(alloc, 44)?;
-        if jobs.push(Job::Due(row, done, 0)).is_err() {
+        let slots = Vec::with_capacity(alloc, places)?;
+        let worked = Vec::with_capacity(alloc, places)?;
+        let number = first.saturating_add(jobs.len() as u64);
+        let job = Job {
+            slots,
+            worked,
+            number,
+        };
+        if jobs.push(job).is_err() {
             unreachable!();
         }
     }
@@ -56,91 +88,113 @@ fn take<T: Tree>(job: &mut VecDeque<Piece<T>>, piece: Piece<T>, walkers: usize) 
     }
 }
 
-/// Takes the pieces of a job out of a row: up to its fourth walker, and at most 32.
-fn cut<T: Tree>(row: &mut VecDeque<Piece<T>>, job: &mut VecDeque<Piece<T>>)
-    requires empty { job.old.items ≡ [] }
-    requires room { 44 ≤ deque_capacity job.old }
-    ensures job { job.new.items ≡ first_job 32 4 row.old.items }
-    ensures rest { row.new.items ≡ behind_job 32 4 row.old.items }
-    ensures few { length job.new.items ≤ 32 }
-    ensures room { deque_capacity job.old ≤ deque_capacity job.new }
+/// Takes the pieces of a place out of a row: up to its first walker, and at most eight.
+fn cut<T: Tree>(row: &mut VecDeque<Piece<T>>, slot: &mut VecDeque<Piece<T>>)
+    requires empty { slot.old.items ≡ [] }
+    requires room { 24 ≤ deque_capacity slot.old }
+    ensures job { slot.new.items ≡ first_job 8 1 row.old.items }
+    ensures rest { row.new.items ≡ behind_job 8 1 row.old.items }
+    ensures few { length slot.new.items ≤ 8 }
+    ensures room { deque_capacity slot.old ≤ deque_capacity slot.new }
 {
-    let mut walkers: usize = 4;
-    let mut pieces: usize = 32;
+    let mut walkers: usize = 1;
+    let mut pieces: usize = 8;
     while pieces > 0 && walkers > 0 {
         let Some(piece) = row.pop_front() else {
             return;
         };
-        walkers = take(job, piece, walkers);
+        walkers = take(slot, piece, walkers);
         pieces -= 1;
     }
 }
 
-/// One job more, behind those that are there. At its last value a job's number stays.
-fn add_job<T: Tree>(
-    jobs: &mut Vec<Job<T>>,
-    row: VecDeque<Piece<T>>,
-    done: VecDeque<Piece<T>>,
-    first: u64,
-)
-    requires { length jobs.old.items < vec_capacity jobs.old }
-    ensures items { jobs.new.items ≡ jobs.old.items ++ Due row done (job_number (first + length jobs.old.items)) ∷ [] }
-    ensures room { vec_capacity jobs.old ≤ vec_capacity jobs.new }
+/// Puts a place behind others, where there is room.
+fn add<T: Tree>(slots: &mut Vec<Slot<T>>, slot: Slot<T>)
+    requires { length slots.old.items < vec_capacity slots.old }
+    ensures items { slots.new.items ≡ slots.old.items ++ slot ∷ [] }
+    ensures room { vec_capacity slots.old ≤ vec_capacity slots.new }
 {
-    let number = first.saturating_add(jobs.len() as u64);
-    if jobs.push(Job::Due(row, done, number)).is_err() {
+    if slots.push(slot).is_err() {
         unreachable!();
     }
 }
 
-/// A row cut up for a wave: its first pieces become jobs with numbers from `first` on, as many as there are spare ones. What is behind
-/// stays in the row.
+/// A row cut up for a wave: its first pieces become places, as many as there are spare ones. What is behind stays in the row.
 pub fn plan<T: Tree>(
     row: &mut VecDeque<Piece<T>>,
-    mut spares: Vec<Job<T>>,
-    jobs: &mut Vec<Job<T>>,
-    first: u64,
+    mut spares: Vec<Slot<T>>,
+    slots: &mut Vec<Slot<T>>,
 )
     requires spare { AreSpare spares.items }
-    requires no_jobs { jobs.old.items ≡ [] }
-    requires room_for_jobs { length spares.items ≤ vec_capacity jobs.old }
-    ensures { IsPlanned (length spares.items) first row.old.items jobs.new.items row.new.items }
+    requires empty { slots.old.items ≡ [] }
+    requires room { length spares.items ≤ vec_capacity slots.old }
+    ensures { IsPlanned (length spares.items) row.old.items slots.new.items row.new.items }
 {
     while let Some(spare) = spares.pop() {
-        match spare {
-            Job::Due(mut pieces, done, _number) => {
-                cut(row, &mut pieces);
-                add_job(jobs, pieces, done, first);
-            }
-            Job::Done(_pieces) => unreachable!(),
+        let Slot {
+            row: mut pieces,
+            done,
+        } = spare;
+        cut(row, &mut pieces);
+        let slot = Slot { row: pieces, done };
+        add(slots, slot);
+    }
+}
+
+/// Deals places out to jobs: the first to the first job, the next to the next, and again from the first job on. The last place goes
+/// to the last job.
+pub fn deal<T: Tree>(mut slots: Vec<Slot<T>>, jobs: &mut Vec<Job<T>>)
+    requires some { 0 < length jobs.old.items }
+    requires free { AreFree (length slots.items) jobs.old.items }
+    requires fit { AreFit slots.items }
+    ensures dealt { IsDealt slots.items (hands_of jobs.new.items) }
+    ensures fit { AreFitAt jobs.new.items }
+    ensures count { length jobs.new.items ≡ length jobs.old.items }
+{
+    while let Some(slot) = slots.pop() {
+        let Some(mut job) = jobs.pop() else {
+            unreachable!();
+        };
+        if job.slots.insert(0, slot).is_err() {
+            unreachable!();
+        }
+        if jobs.insert(0, job).is_err() {
+            unreachable!();
         }
     }
 }
 
-/// Puts the pieces of a job behind a row that has room for them.
-fn put<T: Tree>(row: &mut VecDeque<Piece<T>>, job: Job<T>)
-    requires { length row.old.items + length (job_pieces job) ≤ deque_capacity row.old }
-    ensures items { row.new.items ≡ row.old.items ++ job_pieces job }
+/// Puts what the first place of a job became behind a row that has room for it; nothing, where the job has no place any more.
+fn put_next<T: Tree>(job: &mut Job<T>, row: &mut VecDeque<Piece<T>>)
+    requires { length row.old.items + length (slice_index_or (rows_of job.old) 0 []) ≤ deque_capacity row.old }
+    ensures items { row.new.items ≡ row.old.items ++ slice_index_or (rows_of job.old) 0 [] }
+    ensures rest { rows_of job.new ≡ drop 1 (rows_of job.old) }
     ensures room { deque_capacity row.old ≤ deque_capacity row.new }
 {
-    match job {
-        Job::Due(pieces, _done, _number) => put_behind(row, pieces),
-        Job::Done(pieces) => put_behind(row, pieces),
+    if !job.worked.is_empty() {
+        put_behind(row, job.worked.remove(0));
     }
 }
 
-/// The pieces of the jobs, one after another, and then what is behind.
+/// So many places of the jobs, as they were dealt out, one after another, and then what is behind.
 pub fn merge<T: Tree>(
     jobs: &mut Vec<Job<T>>,
+    places: usize,
     tail: &mut VecDeque<Piece<T>>,
     row: &mut VecDeque<Piece<T>>,
 )
     requires empty { row.old.items ≡ [] }
-    requires room { length (pieces_of jobs.old.items ++ tail.old.items) ≤ deque_capacity row.old }
-    ensures { row.new.items ≡ pieces_of jobs.old.items ++ tail.old.items }
+    requires room { length (gathered places jobs.old.items ++ tail.old.items) ≤ deque_capacity row.old }
+    ensures { row.new.items ≡ gathered places jobs.old.items ++ tail.old.items }
 {
-    while !jobs.is_empty() {
-        put(row, jobs.remove(0));
+    let mut left = places;
+    while left > 0 && !jobs.is_empty() {
+        let mut job = jobs.remove(0);
+        put_next(&mut job, row);
+        if jobs.push(job).is_err() {
+            unreachable!();
+        }
+        left -= 1;
     }
     if row.append(tail).is_err() {
         unreachable!();

@@ -1,5 +1,5 @@
 //! The next node of a row.
-ghost use Rattle.std.specs.Prelude.{ℕ, ◌≡◌, ◌+◌, ◌-◌, ◌*◌, ◌≤◌, ◌<◌, ◌/◌, length, count_by, List, IfErr, OnOk, OnErr, true, false};
+ghost use Rattle.std.specs.Prelude.{ℕ, ◌≡◌, ◌-◌, ◌*◌, ◌≤◌, ◌<◌, ◌/◌, length, count_by, List, IfErr, OnOk, OnErr, true, false};
 ghost use Rattle.gf_walk.specs.Pieces.{PiecesLeave, RefusesAt};
 ghost use Rattle.gf_walk.specs.Listing.{IsLeftAt};
 ghost use Rattle.gf_walk.specs.declared.expand.Piece.{Piece};
@@ -36,38 +36,38 @@ fn ready<T: Tree>(row: &VecDeque<Piece<T>>) -> usize
 }
 
 /// How many jobs are due in a wave over a row: one for each worker, no more than leave each four places, and no more than there are
-/// walkers for, four to a job.
+/// walkers.
 fn due<T: Tree>(workers: u32, row: &VecDeque<Piece<T>>) -> usize
     requires workers { workers ≤ 64 }
     requires few { length row.now.items ≤ most_pieces workers }
     ensures is { result ≡ due_at workers row.now.items }
     ensures fits { result * 4 ≤ most_pieces workers - length row.now.items }
+    ensures few { result ≤ workers }
 {
     let free = ((workers as usize + 1) * 32).saturating_sub(row.len());
     let walkers = row.len().saturating_sub(ready(row));
-    (workers as usize).min(free / 4).min((walkers + 3) / 4)
+    (workers as usize).min(free / 4).min(walkers)
 }
 
-/// How many pieces each of them may add, less one: twelve, and no more than its share of the places.
+/// How many pieces each of them may add: twelve, and no more than its share of the places.
 fn room<T: Tree>(workers: u32, row: &VecDeque<Piece<T>>, due: usize) -> usize
     requires workers { workers ≤ 64 }
     requires some { 0 < due }
     requires due { due ≡ due_at workers row.now.items }
     requires fits { due * 4 ≤ most_pieces workers - length row.now.items }
     ensures is { result ≡ room_at workers row.now.items }
-    ensures fits { due * (result + 1) ≤ most_pieces workers - length row.now.items }
-    ensures few { result ≤ 11 }
+    ensures fits { due * result ≤ most_pieces workers - length row.now.items }
+    ensures few { result ≤ 12 }
 {
     let free = ((workers as usize + 1) * 32).saturating_sub(row.len());
-    (free / due).saturating_sub(1).min(11)
+    (free / due).min(12)
 }
 
-/// How often each of them expands: at most ten times, and by the jobs before.
+/// How often each of them expands: at most twelve times, and by the jobs before.
 fn times(jobs: u64) -> usize
     ensures is { result ≡ times_at jobs }
-    ensures few { result ≤ 24 }
 {
-    jobs.saturating_add(1).min(10) as usize
+    jobs.saturating_add(1).min(12) as usize
 }
 
 /// The refusal that stands for want of memory. Any call of any tree may be refused so.

@@ -1,13 +1,13 @@
 //! One wave: the first pieces of the row are worked on, side by side.
-ghost use Rattle.std.specs.Prelude.{◌≡◌, ◌≤◌, ◌+◌, ◌*◌, length, OnOk, OnErr};
+ghost use Rattle.std.specs.Prelude.{◌≡◌, ◌≤◌, ◌<◌, ◌+◌, ◌*◌, length, replicate, OnOk, OnErr};
 ghost use Rattle.gf_walk.specs.Pieces.{RefusesAt};
 ghost use Rattle.gf_waves.specs.Frontier.{AreRefusals, job_number};
 ghost use Rattle.gf_waves.specs.Wave.{IsWaved};
-ghost use Rattle.gf_waves.specs.Plans.{AreFitAt, AreWorkedAt, IsFit, IsWorked};
+ghost use Rattle.gf_waves.specs.Plans.{AreFitAt, AreWorkedAt, IsJobFit, IsWorked};
 
 use crate::Gate;
 use crate::job::{Job, work};
-use crate::planning::{merge, plan, spare_jobs};
+use crate::planning::{deal, merge, plan, spare_jobs, spare_slots};
 use gf_walk::{Piece, Tree};
 use std::alloc::{AllocError, Global};
 use std::collections::VecDeque;
@@ -29,16 +29,20 @@ where
     T::Label: Send,
     T::Error: Send,
     requires some { 1 ≤ workers }
-    requires times { times ≤ 24 }
-    requires room { room ≤ 11 }
+    requires room { room ≤ 12 }
     requires fit { AreFitAt jobs.old }
     ensures { AreWorkedAt T.before T.up (RefusesAt T.up T.refuses) times room jobs.old jobs.new }
 {
     let each = |_: usize, job: &mut Job<T>|
-        requires { (times ≤ 24) × (room ≤ 11) × IsFit job.now }
+        requires { (room ≤ 12) × IsJobFit job.now }
         ensures { IsWorked T.before T.up (RefusesAt T.up T.refuses) times room job.entry.now job.exit.now }
     {
-        let old = mem::replace(job, Job::Done(VecDeque::new(alloc)));
+        let none = Job {
+            slots: Vec::new(alloc),
+            worked: Vec::new(alloc),
+            number: 0,
+        };
+        let old = mem::replace(job, none);
         *job = work(alloc, gate, old, times, room);
     };
     thread::for_each_mut(rt, jobs, workers, &each);
@@ -59,15 +63,15 @@ where
     T::Label: Send,
     T::Error: Send,
     requires some { 1 ≤ workers }
-    requires times { times ≤ 24 }
-    requires room { room ≤ 11 }
+    requires room { room ≤ 12 }
     requires fit { AreFitAt jobs.old.items }
     ensures { AreWorkedAt T.before T.up (RefusesAt T.up T.refuses) times room jobs.old.items jobs.new.items }
 {
     work_all(rt, alloc, gate, jobs.as_mut_slice(), workers, times, room);
 }
 
-/// A wave: so many jobs have the first pieces of the row, each so many expansions and room for so many pieces and one.
+/// A wave: the first pieces of the row are dealt out to so many jobs, six walkers to each, which have so many expansions each and room for so
+/// many pieces.
 ///
 /// # Errors
 ///
@@ -88,11 +92,12 @@ where
     T::Error: Send,
     requires some { 1 ≤ workers }
     requires few_workers { workers ≤ 64 }
-    requires few_times { times ≤ 24 }
-    requires few_more { room ≤ 11 }
-    requires fits { length row.old.items + due * (room + 1) ≤ (workers + 1) * 32 }
+    requires due { 0 < due }
+    requires few_jobs { due ≤ workers }
+    requires few_more { room ≤ 12 }
+    requires fits { length row.old.items + due * room ≤ (workers + 1) * 32 }
     requires refused { AreRefusals (RefusesAt T.up T.refuses) row.old.items }
-    ensures waved { OnOk result (IsWaved T.before T.up (RefusesAt T.up T.refuses) times room due row.old.items row.new.items) }
+    ensures waved { OnOk result (IsWaved T.before T.up (RefusesAt T.up T.refuses) (due * 6) (replicate due (times, room)) row.old.items row.new.items) }
     ensures counted { OnOk result (jobs.new ≡ job_number (jobs.old + due)) }
     ensures few { length row.new.items ≤ (workers + 1) * 32 }
     ensures refused { AreRefusals (RefusesAt T.up T.refuses) row.new.items }
@@ -100,13 +105,16 @@ where
     ensures uncounted { OnErr result (jobs.new ≡ jobs.old) }
 {
     let alloc = *row.allocator();
-    let spares = spare_jobs(alloc, due)?;
-    let mut slots = Vec::with_capacity(alloc, due)?;
+    let places = due * 6;
+    let spares = spare_slots(alloc, places)?;
+    let mut slots = Vec::with_capacity(alloc, places)?;
+    let mut shared = spare_jobs(alloc, due, places, *jobs)?;
     let mut news = VecDeque::with_capacity(alloc, (workers as usize + 1) * 32)?;
-    plan(row, spares, &mut slots, *jobs);
+    plan(row, spares, &mut slots);
+    deal(slots, &mut shared);
     *jobs = jobs.saturating_add(due as u64);
-    work_jobs(rt, alloc, gate, &mut slots, workers as usize, times, room);
-    merge(&mut slots, row, &mut news);
+    work_jobs(rt, alloc, gate, &mut shared, workers as usize, times, room);
+    merge(&mut shared, places, row, &mut news);
     *row = news;
     Ok(())
 }

@@ -15,11 +15,11 @@ loop-pieces-preserved g c =
     let whole : l.row.items ≡ p ∷ rest = search rules in
     let some : 0 < l.pieces = search rules in
     let wanted : 0 < l.walkers = search rules in
-    let k = cut_more l.pieces l.walkers (l.pieces - 1) c.take-walkers.result p l.row.items rest l.job.items more c.args.row.now.items some wanted refl t.left whole t.items l.invariant.first l.invariant.behind in
+    let k = cut_more l.pieces l.walkers (l.pieces - 1) c.take-walkers.result p l.row.items rest l.slot.items more c.args.row.now.items some wanted refl t.left whole t.items l.invariant.first l.invariant.behind in
     record {
       first = k.0;
       behind = k.1;
-      few = (let a = ap length t.items in let b = length_push l.job.items (renewed p) in let d = l.invariant.few in omega (arith, a, b, d, some));
+      few = (let a = ap length t.items in let b = length_push l.slot.items (renewed p) in let d = l.invariant.few in omega (arith, a, b, d, some));
       room = search rules;
       kept = search rules;
     }
@@ -27,33 +27,33 @@ loop-pieces-preserved g c =
 pub returns-in_default-clause-job : goal.returns-in_default-clause-job
 returns-in_default-clause-job g c =
     let l = c.loop-pieces in
-    (cut_over l.pieces l.walkers l.row.items c.pop_front.new.self.items l.job.items c.args.row.now.items (search rules) (search rules) l.invariant.first l.invariant.behind).0
+    (cut_over l.pieces l.walkers l.row.items c.pop_front.new.self.items l.slot.items c.args.row.now.items (search rules) (search rules) l.invariant.first l.invariant.behind).0
 
 pub returns-in_default-clause-rest : goal.returns-in_default-clause-rest
 returns-in_default-clause-rest g c =
     let l = c.loop-pieces in
-    (cut_over l.pieces l.walkers l.row.items c.pop_front.new.self.items l.job.items c.args.row.now.items (search rules) (search rules) l.invariant.first l.invariant.behind).1
+    (cut_over l.pieces l.walkers l.row.items c.pop_front.new.self.items l.slot.items c.args.row.now.items (search rules) (search rules) l.invariant.first l.invariant.behind).1
 
 pub returns-else-walkers-gt0-clause-job : goal.returns-else-walkers-gt0-clause-job
 returns-else-walkers-gt0-clause-job g c =
     let l = c.loop-pieces in
     let none : l.walkers ≡ 0 = search rules in
-    (cut_done l.pieces l.walkers l.row.items l.job.items c.args.row.now.items (λ h k. omega (arith, k, none)) l.invariant.first l.invariant.behind).0
+    (cut_done l.pieces l.walkers l.row.items l.slot.items c.args.row.now.items (λ h k. omega (arith, k, none)) l.invariant.first l.invariant.behind).0
 
 pub returns-else-walkers-gt0-clause-rest : goal.returns-else-walkers-gt0-clause-rest
 returns-else-walkers-gt0-clause-rest g c =
     let l = c.loop-pieces in
     let none : l.walkers ≡ 0 = search rules in
-    (cut_done l.pieces l.walkers l.row.items l.job.items c.args.row.now.items (λ h k. omega (arith, k, none)) l.invariant.first l.invariant.behind).1
+    (cut_done l.pieces l.walkers l.row.items l.slot.items c.args.row.now.items (λ h k. omega (arith, k, none)) l.invariant.first l.invariant.behind).1
 
 pub returns-after-loop-pieces-clause-job : goal.returns-after-loop-pieces-clause-job
 returns-after-loop-pieces-clause-job g c =
     let l = c.loop-pieces in
     let none : l.pieces ≡ 0 = search rules in
-    (cut_done l.pieces l.walkers l.row.items l.job.items c.args.row.now.items (λ h k. omega (arith, h, none)) l.invariant.first l.invariant.behind).0
+    (cut_done l.pieces l.walkers l.row.items l.slot.items c.args.row.now.items (λ h k. omega (arith, h, none)) l.invariant.first l.invariant.behind).0
 
 pub returns-after-loop-pieces-clause-rest : goal.returns-after-loop-pieces-clause-rest
 returns-after-loop-pieces-clause-rest g c =
     let l = c.loop-pieces in
     let none : l.pieces ≡ 0 = search rules in
-    (cut_done l.pieces l.walkers l.row.items l.job.items c.args.row.now.items (λ h k. omega (arith, h, none)) l.invariant.first l.invariant.behind).1
+    (cut_done l.pieces l.walkers l.row.items l.slot.items c.args.row.now.items (λ h k. omega (arith, h, none)) l.invariant.first l.invariant.behind).1

@@ -3,14 +3,14 @@ use Rattle.std.specs.VecDeque.{deque_capacity}
 use Rattle.gf_waves.specs.Frontier.{first_job, behind_job}
 use Rattle.gf_waves.proofs.planning.cut.Given as goal
 
--- the pieces that are taken, and then those that are to be taken of what is left of the row, are those of the job
+-- the pieces that are taken, and then those that are to be taken of what is left of the row, are those of the place
 abbrev pub invariant-loop-pieces : goal.invariant-loop-pieces
 invariant-loop-pieces g l = record {
-  first : l.job.items ++ first_job l.pieces l.walkers l.row.items ≡ first_job 32 4 l.fn.row.items;
-  behind : behind_job l.pieces l.walkers l.row.items ≡ behind_job 32 4 l.fn.row.items;
-  few : length l.job.items + l.pieces ≤ 32;
-  room : 44 ≤ deque_capacity l.job;
-  kept : deque_capacity l.fn.job ≤ deque_capacity l.job;
+  first : l.slot.items ++ first_job l.pieces l.walkers l.row.items ≡ first_job 8 1 l.fn.row.items;
+  behind : behind_job l.pieces l.walkers l.row.items ≡ behind_job 8 1 l.fn.row.items;
+  few : length l.slot.items + l.pieces ≤ 8;
+  room : 24 ≤ deque_capacity l.slot;
+  kept : deque_capacity l.fn.slot ≤ deque_capacity l.slot;
 }
 
 abbrev pub decreases-loop-pieces : goal.decreases-loop-pieces

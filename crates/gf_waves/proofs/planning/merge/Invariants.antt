@@ -1,14 +1,16 @@
 use Rattle.std.proofs.Common.{◌≡◌, ◌++◌, ◌≤◌, length}
+use Rattle.std.specs.Vec.{vec_capacity}
 use Rattle.std.specs.VecDeque.{deque_capacity}
-use Rattle.gf_waves.specs.Plans.{pieces_of}
+use Rattle.gf_waves.specs.Plans.{gathered}
 use Rattle.gf_waves.proofs.planning.merge.Given as goal
 
--- the pieces that are there, and then those of the jobs that are left and of the tail, are all
-abbrev pub invariant-loop-row : goal.invariant-loop-row
-invariant-loop-row g l = record {
-  all : l.row.items ++ (pieces_of l.jobs.items ++ l.fn.tail.items) ≡ pieces_of l.fn.jobs.items ++ l.fn.tail.items;
-  room : length (pieces_of l.fn.jobs.items ++ l.fn.tail.items) ≤ deque_capacity l.row;
+-- the pieces that are there, and then those of the places that are left, are all
+abbrev pub invariant-loop-left : goal.invariant-loop-left
+invariant-loop-left g l = record {
+  all : l.row.items ++ gathered l.left l.jobs.items ≡ gathered l.fn.places l.fn.jobs.items;
+  room : length (gathered l.fn.places l.fn.jobs.items ++ l.fn.tail.items) ≤ deque_capacity l.row;
+  few : length l.jobs.items ≤ vec_capacity l.jobs;
 }
 
-abbrev pub decreases-loop-row : goal.decreases-loop-row
-decreases-loop-row g l = length l.jobs.items
+abbrev pub decreases-loop-left : goal.decreases-loop-left
+decreases-loop-left g l = l.left

@@ -1,11 +1,12 @@
 use Rattle.std.proofs.Common.{◌≤◌, ◌-◌, length}
 use Rattle.std.specs.Vec.{vec_capacity}
-use Rattle.gf_waves.specs.Plans.{AreSpare}
+use Rattle.gf_waves.specs.Plans.{AreFree, AreNumbered}
 use Rattle.gf_waves.proofs.planning.spare_jobs.Given as goal
 
 abbrev pub invariant-loop-alloc : goal.invariant-loop-alloc
 invariant-loop-alloc g l = record {
-  spare : AreSpare l.jobs.items;
+  free : AreFree l.fn.places l.jobs.items;
+  numbered : AreNumbered l.fn.first l.jobs.items;
   few : length l.jobs.items ≤ l.fn.count;
   room : l.fn.count ≤ vec_capacity l.jobs;
 }
