@@ -9,6 +9,7 @@ use Rattle.gf_exponents.specs.Exponents.{Exponents, same, plus, IsInRing}
 use Rattle.gf_exponents.specs.Orders.{lighter, IsWeightedBelow, IsMonomialOrder}
 use Rattle.gf_exponents.proofs.ExponentsLaws.{same-refl, same_flip, same_trans}
 use Rattle.gf_exponents.proofs.OrderLaws.{lighter-strict, weighted-order}
+use Rattle.gf_int.proofs.ListLaws.{Contains-here}
 use Rattle.gf_poly.specs.declared.Term.{Term}
 use Rattle.gf_poly.specs.Polynomial.{Terms, coefficient, SamePolynomial}
 use Rattle.gf_poly.specs.Marking.{MarkedPolynomial, Each}
@@ -18,7 +19,7 @@ use Rattle.gf_ideal.specs.Marks.{level, value, IsMarked, AreMarked, IsPositive, 
 use Rattle.gf_ideal.specs.Reduction.{IsDivisible}
 use Rattle.gf_ideal.specs.Bases.{AreMembers, IsTwin, IsCanonical, IsGreatest}
 use Rattle.gf_ideal.proofs.Identities.{one_not_zero}
-use Rattle.gf_ideal.proofs.ListLaws.{Each-weaker, each_contained, contained_each, Contains-here, Contains-there, Contains-cases}
+use Rattle.gf_ideal.proofs.ListLaws.{Each-weaker, each_contained, contained_each, Contains-there, Contains-cases}
 use Rattle.gf_ideal.proofs.TermLaws.{Canonical, canonical}
 use Rattle.gf_ideal.proofs.ListedTerms.{listed}
 use Rattle.gf_ideal.proofs.MembershipLaws.{member-equal, variables_of_member}

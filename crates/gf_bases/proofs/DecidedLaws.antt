@@ -1,8 +1,9 @@
 -- What is decided: that numbers are equal, what holds of the elements of a list, and which elements something holds of.
 -- To cite: same_or_not, search, each_or_not, Chosen, chosen.
 use Rattle.std.proofs.Common.{◌≡◌, ◌⊎◌, List, [], ◌∷◌, Contains, arith, sym, subst, inl, inr}
+use Rattle.gf_int.proofs.ListLaws.{Contains-here}
 use Rattle.gf_poly.specs.Marking.{Each}
-use Rattle.gf_ideal.proofs.ListLaws.{Contains-here, Contains-there, Contains-cases}
+use Rattle.gf_ideal.proofs.ListLaws.{Contains-there, Contains-cases}
 
 -- each element is good, or one of them gives something else
 pub search : {A : Type 0} (Good : A → Type 0) (Other : Type 0) (xs : List A) →

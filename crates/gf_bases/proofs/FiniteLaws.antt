@@ -16,10 +16,11 @@ use Rattle.gf_ideal.proofs.TermLaws.{Canonical, canonical, canonical_exponents}
 use Rattle.gf_ideal.proofs.MarkWeights.{realised_of_marked}
 use Rattle.gf_facets.specs.Regions.{Region, all_positive}
 use Rattle.gf_facets.specs.MarkedBases.{IsMarkedReducedBasis, IsBasisInRegion}
-use Rattle.gf_facets.proofs.SystemLaws.{contained_all, HasVector, vector_or_none, marks_of_open, open_of_marks, whole_of, whole-in_region, open_of_weight}
+use Rattle.gf_facets.proofs.SystemLaws.{HasVector, vector_or_none, marks_of_open, open_of_marks, whole_of, whole-in_region, open_of_weight}
 use Rattle.gf_bases.proofs.DecidedLaws.{each_or_not, Chosen, chosen}
 use Rattle.gf_bases.proofs.AllBasesLaws.{Listed, bases_exist}
 use Rattle.std.proofs.lemmas.Bool.{cases_eq}
+use Rattle.gf_int.proofs.ListLaws.{all_by}
 
 -- ---- n variables
 
@@ -52,7 +53,7 @@ suits_or_not n k fs = at (each_or_not (IsInVariables n) (variables_or_not n) fs)
     at : Each (IsInVariables n) fs ⊎ (Each (IsInVariables n) fs → ⊥) →
         Each (λ (c : List ℤ). length c ≡ n) k.rows ⊎ (Each (λ (c : List ℤ). length c ≡ n) k.rows → ⊥) →
         AreOfVariables n k fs ⊎ (AreOfVariables n k fs → ⊥)
-    at (inl v) (inl w) = inl (record { generators = λ f c. contained_each (IsInVariables n) fs v f c; widths = contained_all (λ c. length c ≡ n) k.rows (λ c i. contained_each (λ (c : List ℤ). length c ≡ n) k.rows w c i) })
+    at (inl v) (inl w) = inl (record { generators = λ f c. contained_each (IsInVariables n) fs v f c; widths = all_by (λ c. length c ≡ n) k.rows (λ c i. contained_each (λ (c : List ℤ). length c ≡ n) k.rows w c i) })
     at (inl v) (inr m) = inr (λ h. m (each_contained (λ (c : List ℤ). length c ≡ n) k.rows (λ c i. All-contains (λ c. length c ≡ n) k.rows c h.widths i)))
     at (inr m) q = inr (λ h. m (each_contained (IsInVariables n) fs h.generators))
 

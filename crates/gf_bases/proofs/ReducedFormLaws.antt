@@ -8,6 +8,7 @@ use Rattle.gf_exponents.specs.Exponents.{Exponents, same, plus, IsInRing, NoMult
 use Rattle.gf_exponents.specs.Orders.{lighter, IsStrict, IsLexBelow}
 use Rattle.gf_exponents.proofs.ExponentsLaws.{plus_comm, same-refl, same_flip, same_trans, multiple_or_not, entry-plus, entries_same, same_by_entries}
 use Rattle.gf_exponents.proofs.OrderLaws.{lighter-strict, lex-strict, lex-total}
+use Rattle.gf_int.proofs.ListLaws.{Contains-here}
 use Rattle.gf_poly.specs.Polynomial.{Terms, coefficient, times}
 use Rattle.gf_poly.specs.Marking.{MarkedPolynomial}
 use Rattle.gf_poly.proofs.PolynomialLaws.{coefficient-++, coefficient-same}
@@ -15,7 +16,7 @@ use Rattle.gf_ideal.specs.Membership.{HasMonomial, IsInVariables, AreInVariables
 use Rattle.gf_ideal.specs.Marks.{Piece, value, IsMarked, AreMarked}
 use Rattle.gf_ideal.specs.Reduction.{IsDivisible}
 use Rattle.gf_ideal.specs.Bases.{AreMembers, IsBasis, IsTwin, IsCanonical, AreApart, HaveAscendingMarks}
-use Rattle.gf_ideal.proofs.ListLaws.{Each-weaker, each_contained, contained_each, Contains-here, Contains-there, Contains-cases}
+use Rattle.gf_ideal.proofs.ListLaws.{Each-weaker, each_contained, contained_each, Contains-there, Contains-cases}
 use Rattle.gf_ideal.proofs.ListedTerms.{by_terms}
 use Rattle.gf_ideal.proofs.SpanLaws.{Spans-equal, Spans-difference}
 use Rattle.gf_ideal.proofs.MembershipLaws.{member-equal, variables_of_member, spans_of_member, member_of_spans}

@@ -7,6 +7,7 @@ use Rattle.std.proofs.lemmas.Int.{ints}
 use Rattle.std.proofs.lemmas.List.Elements.{All-contains, All-from_recursion, recursion_from_All}
 use Rattle.gf_int.specs.Content.{scaled}
 use Rattle.gf_int.proofs.SignLaws.{0≤-*ℤ, ≤ℤ-*ℤ}
+use Rattle.gf_int.proofs.ListLaws.{all_by}
 use Rattle.gf_vec.specs.Vector.{dot, vector_sum}
 use Rattle.gf_vec.proofs.VectorLaws.{dot_comm, dot-plus, dot-times, length-plus, length-times}
 use Rattle.gf_exponents.specs.Exponents.{Exponents, same, weight, whole_weight}
@@ -22,7 +23,7 @@ use Rattle.gf_facets.specs.Facets.{IsInClosedCone, IsInOpenCone}
 use Rattle.gf_facets.specs.MarkedBases.{IsMarkedReducedBasis, IsBasisInRegion}
 use Rattle.gf_facets.proofs.WholeLaws.{weight-sum, weight-multiple}
 use Rattle.gf_facets.proofs.RegionLaws.{region-weight, bounds, beats}
-use Rattle.gf_facets.proofs.SystemLaws.{contained_all, open_of_marks}
+use Rattle.gf_facets.proofs.SystemLaws.{open_of_marks}
 use Rattle.gf_bases.proofs.ExistenceLaws.{weighted_exists}
 use Rattle.gf_bases.proofs.FiniteLaws.{basis_of_vector, basis_everywhere}
 
@@ -43,7 +44,7 @@ beside_inside n k v u r e p = at (bounds (λ c. neg_ℤ (dot c u)) k.rows)
       record {
         width = length-plus (scaled (pos m.0) v) u (length-times (pos m.0) v ∙ r.width ∙ sym e) ∙ length-times (pos m.0) v ∙ r.width;
         positive = All-from_recursion (λ x. pos 0 <ℤ x) (vector_sum (scaled (pos m.0) v) u) (entries v u (r.width ∙ sym e) (recursion_from_All (λ x. pos 0 <ℤ x) v r.positive) (recursion_from_All (λ x. pos 0 <ℤ x) u p));
-        rows = contained_all (λ c. pos 0 <ℤ dot c (vector_sum (scaled (pos m.0) v) u)) k.rows (λ c i. omega (arith, ints, beside_value (pos m.0) v u c (r.width ∙ sym e), beats m.0 (dot c v) (neg_ℤ (dot c u)) (All-contains (λ c. pos 0 <ℤ dot c v) k.rows c r.rows i) (contained_each (λ c. neg_ℤ (dot c u) <ℤ pos m.0) k.rows m.1 c i)));
+        rows = all_by (λ c. pos 0 <ℤ dot c (vector_sum (scaled (pos m.0) v) u)) k.rows (λ c i. omega (arith, ints, beside_value (pos m.0) v u c (r.width ∙ sym e), beats m.0 (dot c v) (neg_ℤ (dot c u)) (All-contains (λ c. pos 0 <ℤ dot c v) k.rows c r.rows i) (contained_each (λ c. neg_ℤ (dot c u) <ℤ pos m.0) k.rows m.1 c i)));
       },
     )
       where

@@ -8,6 +8,7 @@ use Rattle.gf_frac.proofs.FractionLaws.{zero-+ℚ}
 use Rattle.gf_exponents.specs.Exponents.{Exponents, same, plus, minus, join, IsInRing, NoMultiple}
 use Rattle.gf_exponents.specs.Orders.{lighter, IsMonomialOrder}
 use Rattle.gf_exponents.proofs.ExponentsLaws.{same-refl, same_flip, minus_left, minus_right, multiple_or_not, entry-plus, entries_same, same_by_entries}
+use Rattle.gf_int.proofs.ListLaws.{Contains-last, Contains-here}
 use Rattle.gf_poly.specs.Polynomial.{Terms, coefficient, SamePolynomial, times}
 use Rattle.gf_poly.specs.Marking.{MarkedPolynomial, Each}
 use Rattle.gf_poly.proofs.PolynomialLaws.{coefficient-++, coefficient-factor}
@@ -17,7 +18,7 @@ use Rattle.gf_ideal.specs.Reduction.{IsDivisible, IsSPolynomial}
 use Rattle.gf_ideal.specs.Bases.{AreMembers, IsBasis, IsGreatest, IsHeaviest}
 use Rattle.gf_ideal.specs.Settled.{IsPieceBelow, IsSettledAtJoin}
 use Rattle.gf_ideal.proofs.Identities.{neg_one, taken_over}
-use Rattle.gf_ideal.proofs.ListLaws.{Each-weaker, contained_each, Contains-last, Contains-here}
+use Rattle.gf_ideal.proofs.ListLaws.{Each-weaker, contained_each}
 use Rattle.gf_ideal.proofs.MembershipLaws.{member-generator, variables_of_member, spans_of_member}
 use Rattle.gf_ideal.proofs.PieceLaws.{combined_of_spans}
 use Rattle.gf_ideal.proofs.StepLaws.{IsClosed, closed-below, closed-both, multiple_within, sum_within, IsPieceIn, IsWithin, member-s_polynomial, monic-monomials}

@@ -1,7 +1,7 @@
 -- The verdict of the whole. To cite: all_have, first_of, refused_at_bases.
 use Rattle.std.proofs.Common.{◌≡◌, ℕ, List, map, All, subst}
+use Rattle.gf_int.proofs.ListLaws.{all_by}
 use Rattle.gf_poly.specs.Polynomial.{Terms, HasVariables}
-use Rattle.gf_duality.proofs.ListLaws.{all_by}
 use Rattle.gf_buchberger.specs.Jobs.{HaveRingVariables}
 use Rattle.gf_fan.specs.FanLists.{FanLists}
 use Rattle.gf_patterns.specs.Patterns.{points}

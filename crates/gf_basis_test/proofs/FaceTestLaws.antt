@@ -3,10 +3,11 @@ use Rattle.std.specs.Prelude.{None, Some}
 use Rattle.std.proofs.Common.{◌≡◌, ℕ, List, ◌++◌, ℤ, All, Contains, length, sym, ap₂, ◌∙◌, subst}
 use Rattle.std.proofs.lemmas.List.{append-nil}
 use Rattle.std.proofs.lemmas.List.Elements.{All-contains}
+use Rattle.gf_int.proofs.ListLaws.{all_by}
 use Rattle.gf_poly.specs.Polynomial.{Terms}
 use Rattle.gf_poly.specs.Marking.{MarkedPolynomial}
 use Rattle.gf_duality.specs.Faces.{Rows, IsInCone, IsInterior, part, cone_of}
-use Rattle.gf_duality.proofs.ListLaws.{none_in, all_by}
+use Rattle.gf_duality.proofs.ListLaws.{none_in}
 use Rattle.gf_duality.proofs.Interior.{interior}
 use Rattle.gf_fans.specs.Fans.{meet}
 use Rattle.gf_fans.specs.FaceLists.{numbered}

@@ -4,10 +4,11 @@ use Rattle.gf_frac.specs.Fraction.{one_ℚ}
 use Rattle.gf_exponents.specs.Exponents.{Exponents, same}
 use Rattle.gf_exponents.specs.SixOrders.{MonomialOrder}
 use Rattle.gf_exponents.proofs.ExponentsLaws.{same_flip, same_trans}
+use Rattle.gf_int.proofs.ListLaws.{Contains-here, all_by}
 use Rattle.gf_poly.specs.declared.Term.{Term}
 use Rattle.gf_poly.specs.Polynomial.{Terms, HasVariables}
 use Rattle.gf_ideal.specs.Membership.{HasMonomial}
-use Rattle.gf_duality.proofs.ListLaws.{in_cons, in_head, none_in, all_by}
+use Rattle.gf_duality.proofs.ListLaws.{in_cons, none_in}
 use Rattle.gf_buchberger.specs.Bases.{unit_monomial}
 use Rattle.gf_buchberger.proofs.MonomialRuns.{monomials_stay_within_limits}
 use Rattle.gf_facets.proofs.RowLaws.{term_of}
@@ -52,7 +53,7 @@ one_monomial e f c x y hx hy =
 
 no_vector : (e : Exponents) (w : List ℤ) → IsOnPrevariety (map points (unit_monomial e ∷ [])) w → ⊥
 no_vector e w h =
-    let o : IsOnHypersurface (points (unit_monomial e)) w = h (points (unit_monomial e)) (in_head (points (unit_monomial e)) []) in
+    let o : IsOnHypersurface (points (unit_monomial e)) w = h (points (unit_monomial e)) (Contains-here (points (unit_monomial e)) []) in
     o.other (only (map pos e) o.one o.first.listed ∙ sym (only (map pos e) o.two o.second.listed))
 
 no_cone_of : (n : ℕ) (e : Exponents) (h : FanLists) (c : Rows) → IsPrevarietyFan n (map points (unit_monomial e ∷ [])) h → Contains (maximal_rows h) c → ⊥

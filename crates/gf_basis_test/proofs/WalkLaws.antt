@@ -1,9 +1,9 @@
 -- The bases one after another. To cite: PassedSoFar, passed_none, passed_more, step_variables, all_passed, one_failed, reached_refused, way_refused_by, search_refused.
 use Rattle.std.specs.Prelude.{None, Some}
 use Rattle.std.proofs.Common.{◌≡◌, ◌⊎◌, ℕ, ◌<◌, List, [], ◌∷◌, ◌++◌, ℤ, Contains, length, take, get_or, arith, refl, sym, ap, ◌∙◌, subst, inl, inr}
+use Rattle.gf_int.proofs.ListLaws.{Contains-last}
 use Rattle.gf_poly.specs.Polynomial.{Terms}
 use Rattle.gf_poly.specs.Marking.{MarkedPolynomials}
-use Rattle.gf_ideal.proofs.ListLaws.{Contains-last}
 use Rattle.gf_duality.specs.Faces.{Rows}
 use Rattle.gf_facets.specs.Regions.{Region, all_positive}
 use Rattle.gf_reverse.specs.Upward.{Fan, IsNodeIn, fan_of}

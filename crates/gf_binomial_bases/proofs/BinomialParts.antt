@@ -1,15 +1,14 @@
 -- The part of a marked difference of two monomials, of the weight of its mark: itself, or the mark alone.
 -- To cite: IsPartOf, part_of, binomial-part, parts_binomials.
-use Rattle.std.proofs.Common.{◌≡◌, ◌⊎◌, Bool, true, false, if◌then◌else◌, List, Contains, ℤ, Option, Some, None, arith, refl, ap, sym, ◌∙◌, subst, inl, inr}
-use Rattle.std.proofs.lemmas.Int.{ints}
+use Rattle.std.proofs.Common.{◌≡◌, ◌⊎◌, Bool, true, false, if◌then◌else◌, List, Contains, ℤ, Option, Some, None, refl, ap, sym, ◌∙◌, subst, inl, inr}
 use Rattle.gf_frac.specs.Fraction.{◌+ℚ◌, neg_ℚ, zero_ℚ, one_ℚ}
 use Rattle.gf_frac.proofs.FractionLaws.{+ℚ-neg_ℚ}
 use Rattle.gf_exponents.specs.Exponents.{Exponents, same, whole_weight}
 use Rattle.gf_exponents.proofs.WholeWeightLaws.{whole_weight-same}
+use Rattle.gf_int.proofs.SignLaws.{equal_or_not}
 use Rattle.gf_poly.specs.Polynomial.{Terms}
 use Rattle.gf_poly.specs.Marking.{MarkedPolynomial, polys}
 use Rattle.gf_ideal.proofs.PieceLaws.{Contains-marked}
-use Rattle.gf_facets.proofs.VectorLaws.{three}
 use Rattle.gf_initial.specs.Parts.{Matching}
 use Rattle.gf_initial.proofs.MatchingLaws.{matched-from}
 use Rattle.gf_initial.proofs.PartLaws.{IsLevelPart}
@@ -21,12 +20,6 @@ pub data IsPartOf (h : Exponents) (t : Option Exponents) (p : Terms) : Type 0 wh
   mark : IsBinomialOf (Some h) None p → IsPartOf h t p
 
 -- ---- monomials of another weight
-
-equal_or_not : (a b : ℤ) → (a ≡ b) ⊎ (a ≡ b → ⊥)
-equal_or_not a b = elim (three a b) [
-  | inl l ↦ inr (λ e. absurd (omega (arith, ints, l, e)))
-  | inr k ↦ elim k [ inl e ↦ inl e | inr l ↦ inr (λ e. absurd (omega (arith, ints, l, e))) ]
-]
 
 off_monomial : (x e : Exponents) → (same e x ≡ true → ⊥) → indicator (Some x) e ≡ zero_ℚ
 off_monomial x e n = at (same e x) refl

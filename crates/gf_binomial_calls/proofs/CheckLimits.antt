@@ -5,6 +5,7 @@ use Rattle.std.proofs.lemmas.List.Sorted.{Contains-permutation, IsPermutation-sy
 use Rattle.gf_frac.specs.Fraction.{neg_ℚ, one_ℚ}
 use Rattle.gf_exponents.specs.Exponents.{Exponents, same, plus, join}
 use Rattle.gf_exponents.proofs.ExponentsLaws.{same_flip, same_by_entries, entry-join}
+use Rattle.gf_int.proofs.ListLaws.{Contains-here}
 use Rattle.gf_poly.specs.declared.error.PolyError.{PolyError}
 use Rattle.gf_poly.specs.declared.error.PolyError.TheVariants as errors
 use Rattle.gf_poly.specs.Polynomial.{Terms, times}
@@ -12,7 +13,6 @@ use Rattle.gf_poly.specs.Marking.{MarkedPolynomial, MarkedPolynomials, IsArrange
 use Rattle.gf_ideal.specs.Membership.{HasMonomial}
 use Rattle.gf_ideal.specs.Operands.{IsShiftOperation}
 use Rattle.gf_ideal.specs.Reduction.{IsSPolynomial, IsMonicForm}
-use Rattle.gf_ideal.proofs.ListLaws.{Contains-here}
 use Rattle.gf_ideal.proofs.SmallBases.{only}
 use Rattle.gf_ideal.proofs.StepLaws.{IsClosed, IsWithin, multiple_within, sum_within, monic-monomials}
 use Rattle.gf_division.specs.MonicForms.{IsMadeMonic}

@@ -6,6 +6,7 @@ use Rattle.std.proofs.lemmas.Int.{ints}
 use Rattle.std.proofs.lemmas.List.{get_or_default}
 use Rattle.std.proofs.lemmas.List.Elements.{All-nil, All-contains, Contains-get_or, Contains-append_cases}
 use Rattle.gf_exponents.specs.Exponents.{Exponents, entry}
+use Rattle.gf_int.proofs.ListLaws.{all_by}
 use Rattle.gf_poly.specs.Marking.{MarkedPolynomial, MarkedPolynomials, HaveVariables, HasMarkedTerm, Each}
 use Rattle.gf_poly.specs.Polynomial.{Terms, HasVariables}
 use Rattle.gf_ideal.specs.Membership.{AreInVariables}
@@ -25,7 +26,7 @@ use Rattle.gf_facets.specs.MarkedBases.{AreCanonical, IsBasisInRegion}
 use Rattle.gf_facets.proofs.RowLaws.{IsTermRow, row-from}
 use Rattle.gf_facets.proofs.NormalLaws.{normal-length}
 use Rattle.gf_facets.proofs.NormalListLaws.{others_only}
-use Rattle.gf_facets.proofs.SystemLaws.{contained_all, region_rows_wide, canonical_all, marked_system_wide}
+use Rattle.gf_facets.proofs.SystemLaws.{region_rows_wide, canonical_all, marked_system_wide}
 use Rattle.gf_facets.proofs.UnitLaws.{unit_of}
 use Rattle.gf_reduced.specs.Refusals.{IsSystemWithinLimits}
 use Rattle.gf_cone.specs.Cones.{ConeRows, normal_at, other_rows}
@@ -111,13 +112,13 @@ systems_within F f e few low short v s node step =
     other t k = step.is_cone.normals.only t (others_only c.normals step.place t step.is_cone.normals.rises step.inside k).0
 
     rows_wide : AreRows c.variables rows
-    rows_wide = contained_all (λ t. length t ≡ c.variables) rows (λ t k. elim (Contains-append_cases (others_of step.place c.normals) c.beside t k) [
+    rows_wide = all_by (λ t. length t ≡ c.variables) rows (λ t k. elim (Contains-append_cases (others_of step.place c.normals) c.beside t k) [
       | inl o ↦ normal_long t (other t o)
       | inr i ↦ All-contains (λ t. length t ≡ n) (F.region.rows ++ units n n) t (region_rows_wide n F.region region_wide) (subst (λ (z : List (List ℤ)). Contains z t) step.is_cone.beside i) ∙ sym step.is_cone.variables
     ])
 
     rows_low : HaveEntriesUpTo 500 rows
-    rows_low = contained_all (All (λ x. unsigned_abs x ≤ 500)) rows (λ t k. elim (Contains-append_cases (others_of step.place c.normals) c.beside t k) [
+    rows_low = all_by (All (λ x. unsigned_abs x ≤ 500)) rows (λ t k. elim (Contains-append_cases (others_of step.place c.normals) c.beside t k) [
       | inl o ↦ all_up 500 t (normal_up t (other t o))
       | inr i ↦ elim (Contains-append_cases F.region.rows (units n n) t (subst (λ (z : List (List ℤ)). Contains z t) step.is_cone.beside i)) [
         | inl r ↦ All-contains (All (λ x. unsigned_abs x ≤ 500)) F.region.rows t low r
@@ -126,10 +127,10 @@ systems_within F f e few low short v s node step =
     ])
 
     equation_wide : AreRows c.variables (a ∷ [])
-    equation_wide = contained_all (λ t. length t ≡ c.variables) (a ∷ []) (λ t k. subst (λ (z : List ℤ). length z ≡ c.variables) (only a t k) (normal_long a is_normal))
+    equation_wide = all_by (λ t. length t ≡ c.variables) (a ∷ []) (λ t k. subst (λ (z : List ℤ). length z ≡ c.variables) (only a t k) (normal_long a is_normal))
 
     equation_low : HaveEntriesUpTo 500 (a ∷ [])
-    equation_low = contained_all (All (λ x. unsigned_abs x ≤ 500)) (a ∷ []) (λ t k. subst (λ (z : List ℤ). All (λ x. unsigned_abs x ≤ 500) z) (only a t k) (all_up 500 a (normal_up a is_normal)))
+    equation_low = all_by (All (λ x. unsigned_abs x ≤ 500)) (a ∷ []) (λ t k. subst (λ (z : List ℤ). All (λ x. unsigned_abs x ≤ 500) z) (only a t k) (all_up 500 a (normal_up a is_normal)))
 
 -- so a search over the bases of such an ideal stays within its limits
 pub small_search : (F : Fan) (f : Terms) (pairs : ℕ) → F.ideal ≡ f ∷ [] → IsPlainGenerator f → F.variables ≤ 3 → HaveEntriesUpTo 500 F.region.rows → HasExponentsUpTo 500 f → IsTreeWithinLimits F pairs
@@ -157,7 +158,7 @@ marking_within n bs v m few low o step =
             subst (UpTo 500) (sym d.2.row) (differences_up 500 d.0.head t.mono (low d.0 d.1 d.0.head head) (low d.0 d.1 t.mono (term_there n d.0.poly t w.variables w.descending d.2.inside)))
 
     rows_low : HaveEntriesUpTo 500 (system_of n bs)
-    rows_low = contained_all (All (λ x. unsigned_abs x ≤ 500)) (system_of n bs) (λ t k. elim (Contains-append_cases (rows_of_polynomials bs) (units n n) t k) [
+    rows_low = all_by (All (λ x. unsigned_abs x ≤ 500)) (system_of n bs) (λ t k. elim (Contains-append_cases (rows_of_polynomials bs) (units n n) t k) [
       | inl r ↦ all_up 500 t (row_up t r)
       | inr u ↦ let p = unit_of n n t u in all_up 500 t (subst (UpTo 500) (sym p.2) (unit_up n p.0))
     ])

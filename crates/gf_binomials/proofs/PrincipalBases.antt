@@ -8,6 +8,7 @@ use Rattle.gf_exponents.specs.Orders.{IsWeightedBelow}
 use Rattle.gf_exponents.specs.SixOrders.{MonomialOrder}
 use Rattle.gf_exponents.proofs.ExponentsLaws.{same_flip, same_trans, plus-nil}
 use Rattle.gf_exponents.proofs.OrderLaws.{weighted-order}
+use Rattle.gf_int.proofs.ListLaws.{Contains-here}
 use Rattle.gf_poly.specs.Polynomial.{Terms, coefficient, SamePolynomial, times}
 use Rattle.gf_poly.specs.Marking.{MarkedPolynomial}
 use Rattle.gf_poly.proofs.PolynomialLaws.{coefficient-same, coefficient-times}
@@ -16,7 +17,7 @@ use Rattle.gf_ideal.specs.Marks.{IsMarked, AreMarked, HasPositiveWeight}
 use Rattle.gf_ideal.specs.Reduction.{IsMonicForm}
 use Rattle.gf_ideal.specs.Bases.{IsBasis, IsGreatest, HasReducedTails, AreApart, AreSameBasis, IsTwin}
 use Rattle.gf_ideal.proofs.Identities.{one_not_zero}
-use Rattle.gf_ideal.proofs.ListLaws.{Contains-here, Contains-there}
+use Rattle.gf_ideal.proofs.ListLaws.{Contains-there}
 use Rattle.gf_ideal.proofs.SpanLaws.{Spans-trans}
 use Rattle.gf_ideal.proofs.MembershipLaws.{spans_of_member}
 use Rattle.gf_ideal.proofs.GeneratorLaws.{monic_generator}

@@ -9,6 +9,7 @@ use Rattle.gf_exponents.specs.Orders.{IsStrict}
 use Rattle.gf_exponents.specs.SixOrders.{MonomialOrder, below_of}
 use Rattle.gf_exponents.proofs.ExponentsLaws.{same-refl, same_flip, same_trans, same_shift_right, same_by_entries, entries_same, entry-join, cancel}
 use Rattle.gf_exponents.proofs.SixOrdersLaws.{order-is}
+use Rattle.gf_int.proofs.ListLaws.{Contains-here, Contains-last}
 use Rattle.gf_poly.specs.Polynomial.{Terms, coefficient, SamePolynomial, times}
 use Rattle.gf_poly.specs.Marking.{MarkedPolynomial}
 use Rattle.gf_poly.proofs.PolynomialLaws.{coefficient-++, coefficient-same}
@@ -17,7 +18,7 @@ use Rattle.gf_ideal.specs.Marks.{IsMarked}
 use Rattle.gf_ideal.specs.Operands.{AreThese, IsShiftOperation, IsStepExponents}
 use Rattle.gf_ideal.specs.Reduction.{IsDivisible, IsStep, Reached, IsSPolynomial, IsMonicForm}
 use Rattle.gf_ideal.specs.WorkLists.{IsOrigin, IsWorkList, IsTail, IsRunExponents}
-use Rattle.gf_ideal.proofs.ListLaws.{Contains-here, Contains-cases, Contains-last}
+use Rattle.gf_ideal.proofs.ListLaws.{Contains-cases}
 use Rattle.gf_ideal.proofs.StepLaws.{IsClosed, IsWithin, reached-one, taken, monic-monomials}
 use Rattle.gf_ideal.proofs.TermLaws.{coefficient-times-one}
 use Rattle.gf_binomials.specs.Antichains.{IsAntichain, HasShortExponents}

@@ -5,11 +5,11 @@ use Rattle.gf_frac.specs.Fraction.{Fraction}
 use Rattle.gf_frac.specs.Fits.{Fits}
 use Rattle.gf_frac.specs.declared.refusal.Op.{Op}
 use Rattle.gf_exponents.specs.Exponents.{Exponents}
+use Rattle.gf_int.proofs.ListLaws.{Contains-last}
 use Rattle.gf_poly.specs.Polynomial.{Terms}
 use Rattle.gf_poly.specs.Marking.{MarkedPolynomial}
 use Rattle.gf_ideal.specs.Operands.{IsStepOperation}
 use Rattle.gf_ideal.specs.WorkLists.{IsOrigin, IsWorkList, IsTail, IsRunOperation}
-use Rattle.gf_ideal.proofs.ListLaws.{Contains-last}
 use Rattle.gf_binomials.specs.Binomials.{IsBinomial, AreBinomials, IsMarkedBinomial, AreMarkedBinomials}
 use Rattle.gf_binomials.proofs.BinomialLaws.{binomial_step, binomial-reached, binomial-s_polynomial, binomial-monic, binomial-marked, step_fits, reduction_fits, s_polynomial_fits, monic_fits}
 

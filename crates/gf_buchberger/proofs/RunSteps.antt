@@ -8,6 +8,7 @@ use Rattle.gf_exponents.specs.Exponents.{join, minus, plus}
 use Rattle.gf_exponents.proofs.ExponentsLaws.{same_of}
 use Rattle.gf_exponents.specs.SixOrders.{MonomialOrder, below_of}
 use Rattle.gf_exponents.proofs.SixOrdersLaws.{order-is}
+use Rattle.gf_int.proofs.ListLaws.{Contains-here, Contains-last}
 use Rattle.gf_poly.specs.Polynomial.{Terms, HasVariables, coefficient}
 use Rattle.gf_poly.specs.Marking.{MarkedPolynomial, polys}
 use Rattle.gf_poly.proofs.MonomialLaws.{length-join, plus-minus}
@@ -17,7 +18,7 @@ use Rattle.gf_ideal.specs.Reduction.{Reached, IsIrreducible}
 use Rattle.gf_ideal.specs.Settled.{IsAt, IsSettledPair}
 use Rattle.gf_ideal.specs.WorkLists.{IsOrigin, IsWorkList}
 use Rattle.gf_ideal.proofs.CriteriaLaws.{pair_by_steps, pair_by_product, pair_by_monomials, pair_by_chain, pair_turned, pair_more}
-use Rattle.gf_ideal.proofs.ListLaws.{Contains-here, Contains-there, Contains-cases, Contains-last}
+use Rattle.gf_ideal.proofs.ListLaws.{Contains-there, Contains-cases}
 use Rattle.gf_ideal.proofs.ListedTerms.{variables_by_terms}
 use Rattle.gf_ideal.proofs.PieceLaws.{Contains-marked}
 use Rattle.gf_ideal.proofs.StepLaws.{reached-more}

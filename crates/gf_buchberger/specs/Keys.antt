@@ -1,7 +1,7 @@
 -- What a pair waits by: how a key is made of the least common multiple of its marks.
 -- Laws: proofs/KeyLaws.antt.
-use Rattle.std.specs.Prelude.{◌≡◌, ℕ, ◌-◌, ◌<◌, ◌≤◌, ◌^◌, Bool, true, false, List, length}
-use Rattle.gf_exponents.specs.Exponents.{Exponents, entry, degree}
+use Rattle.std.specs.Prelude.{ℕ}
+use Rattle.gf_exponents.specs.Exponents.{Exponents, degree}
 use Rattle.gf_buchberger.specs.declared.queue.Strategy.{Strategy}
 use Rattle.gf_buchberger.specs.declared.queue.Strategy.TheVariants as strategies
 
@@ -9,14 +9,3 @@ use Rattle.gf_buchberger.specs.declared.queue.Strategy.TheVariants as strategies
 abbrev pub degree_for : Strategy → Exponents → ℕ
 degree_for strategies.Degree x = degree x
 degree_for strategies.Order x = 0
-
--- entry i of the exponents arranged for a comparison: the exponent itself by lex; by revlex, turned, the exponent of the
--- variable that is as far from the last one as i is from the first
-abbrev pub arranged_entry : Bool → Exponents → ℕ → ℕ
-arranged_entry false x i = entry x i
-arranged_entry true x i = 2 ^ 32 - 1 - entry x (length x - 1 - i)
-
--- these are the exponents of x arranged so, and zeros past them
-pub record AreKeyExponents (by_revlex : Bool) (x : Exponents) (all : List ℕ) : Type 0 where
-  pub inside : (i : ℕ) → i < length x → entry all i ≡ arranged_entry by_revlex x i
-  pub past : (i : ℕ) → length x ≤ i → entry all i ≡ 0

@@ -43,7 +43,7 @@ pub struct Job<'a> {
 }
 
 /// The same refusal, of a basis.
-fn refused(refusal: PolyError) -> BasisError
+pub fn refused(refusal: PolyError) -> BasisError
     ensures { result ≡ of_poly_error refusal }
 {
     match refusal {

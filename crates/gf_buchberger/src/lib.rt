@@ -18,7 +18,7 @@ mod runs;
 mod second_run;
 mod wide_run;
 
-pub use bases::{BasisError, basis};
+pub use bases::{BasisError, basis, refused};
 pub use homogeneity::{NotHomogeneous, homogeneous};
 pub use laws::{monomials_stay_within_limits, orders_that_suit};
 pub use leading::leading as leading_place;

@@ -3,11 +3,13 @@
 //! How keys are made is proved; that `pop` takes the pair of least key isn't, and what is proved of a run holds of any
 //! choice.
 
-ghost use Rattle.std.specs.Prelude.{◌≡◌, ◌≤◌, ◌∷◌, length, OnOk, OnErr, IfSome, IfNone, []};
+ghost use Rattle.std.specs.Prelude.{◌≡◌, ◌∷◌, length, OnOk, OnErr, IfSome, IfNone, []};
 ghost use Rattle.std.specs.List.Sorted.{IsPermutation};
 ghost use Rattle.gf_order.specs.Comparisons.{HasEntries, ends_by_revlex, level_of};
-ghost use Rattle.gf_buchberger.specs.Keys.{AreKeyExponents, degree_for};
+ghost use Rattle.gf_division.specs.Keys.{AreKeyExponents};
+ghost use Rattle.gf_buchberger.specs.Keys.{degree_for};
 
+use gf_division::arranged;
 use gf_order::Order;
 use gf_poly::{Mono, ROOM};
 use std::alloc::{AllocError, Global};
@@ -38,24 +40,6 @@ pub struct Waiting {
     pub key: Key,
     pub second: u32,
     pub first: u32,
-}
-
-/// The exponents arranged so that lists compare as monomials do by lex or by revlex: by revlex the last exponent decides,
-/// and the smaller one is greater.
-fn arranged(x: &[u32], by_revlex: bool) -> [u32; ROOM]
-    requires { length x.now ≤ ROOM }
-    ensures { AreKeyExponents by_revlex x.now result }
-{
-    let mut all = [0; ROOM];
-    let n = x.len();
-    'variables: for i in 0..n {
-        all[i] = if by_revlex {
-            u32::MAX - x[n - 1 - i]
-        } else {
-            x[i]
-        };
-    }
-    all
 }
 
 impl Strategy {

@@ -6,6 +6,7 @@ use Rattle.std.proofs.lemmas.List.{get_or_default, take-append-drop}
 use Rattle.std.proofs.Math.Seq.{take-append_seam, drop-append_seam}
 use Rattle.std.proofs.Math.ListN.{get_or-append}
 use Rattle.std.proofs.lemmas.List.Elements.{All-nil, All-cons, All-take, All-drop, All-contains, Contains-append_left, Contains-append_right, Contains-append_cases}
+use Rattle.gf_int.proofs.ListLaws.{all_by}
 use Rattle.gf_vec.specs.Vector.{dot}
 use Rattle.gf_gordan.specs.Alternative.{AreRows, IsSolution}
 use Rattle.gf_poly.specs.Marking.{MarkedPolynomial}
@@ -20,7 +21,6 @@ use Rattle.gf_gordan.specs.Sizes.{HaveEntriesUpTo}
 use Rattle.gf_facets.specs.MarkedBases.{AreCanonical}
 use Rattle.gf_facets.proofs.NormalLaws.{normal-length}
 use Rattle.gf_facets.proofs.UnitLaws.{units_wide, units_on_positive, positive_by_units}
-use Rattle.gf_facets.proofs.SystemLaws.{contained_all}
 use Rattle.gf_facets.proofs.FacetSystems.{IsFacetSystem, facet_system, flip_system, point_of_solution, solution_of_point, not_redundant}
 use Rattle.gf_cone.specs.Small.{IsSmall}
 use Rattle.gf_cone.specs.Keeping.{AreVectorsKept}
@@ -62,7 +62,7 @@ system_for P n m rows given a b em er ea h = rw (← em, ← er, ← ea) h
 
 -- what holds of all vectors holds of the others, and of the one
 pub others_all_of : (P : List ℤ → Type 0) (vs : List (List ℤ)) (i : ℕ) → All P vs → All P (others_of i vs)
-others_all_of P vs i h = contained_all P (others_of i vs) (λ t c. All-contains P vs t h (others_inside vs i t c))
+others_all_of P vs i h = all_by P (others_of i vs) (λ t c. All-contains P vs t h (others_inside vs i t c))
 
 -- a vector of the interior is positive on the others and on the normal
 pub interior_of_others : (c : ConeRows) (i : ℕ) → i < length c.normals → HasInterior c → IsPositiveOn (other_rows c i) (normal_at c i)
@@ -75,7 +75,7 @@ interior_of_others c i l h = (
 pub interior_of_normals : (c : ConeRows) (i : ℕ) → i < length c.normals → HasInterior c → IsPositiveOn (others_of i c.normals) (normal_at c i)
 interior_of_normals c i l h =
     let p = interior_of_others c i l h in
-    (p.0, contained_all (λ t. pos 0 <ℤ dot t p.0) (others_of i c.normals) (λ t k. All-contains (λ t. pos 0 <ℤ dot t p.0) (other_rows c i) t p.1 (Contains-append_left (others_of i c.normals) c.beside t k)), p.2)
+    (p.0, all_by (λ t. pos 0 <ℤ dot t p.0) (others_of i c.normals) (λ t k. All-contains (λ t. pos 0 <ℤ dot t p.0) (other_rows c i) t p.1 (Contains-append_left (others_of i c.normals) c.beside t k)), p.2)
 
 -- ---- what an answer tells
 
@@ -101,7 +101,7 @@ module _ (n : ℕ) (k : Region) (bs : List MarkedPolynomial) (c : ConeRows) (i :
         record {
           width = solution.width;
           positive = positive_by_units n w solution.width (λ t d. All-contains (λ t. pos 0 <ℤ dot t w) (k.rows ++ units n n) t p.1 (Contains-append_right k.rows (units n n) t d));
-          rows = contained_all (λ t. pos 0 <ℤ dot t w) k.rows (λ t d. All-contains (λ t. pos 0 <ℤ dot t w) (k.rows ++ units n n) t p.1 (Contains-append_left k.rows (units n n) t d));
+          rows = all_by (λ t. pos 0 <ℤ dot t w) k.rows (λ t d. All-contains (λ t. pos 0 <ℤ dot t w) (k.rows ++ units n n) t p.1 (Contains-append_left k.rows (units n n) t d));
         },
         p.0,
       )
@@ -109,7 +109,7 @@ module _ (n : ℕ) (k : Region) (bs : List MarkedPolynomial) (c : ConeRows) (i :
   -- and the other way
   pub solution_of_flip : (f : IsFlippable n k bs (normal_at c i)) → IsSolution n (other_rows c i) (normal_at c i ∷ []) f.point
   solution_of_flip f = solution_of_point n bs (normal_at c i) f.point (k.rows ++ units n n) (other_rows c i) system f.region.width f.inside
-      (contained_all (λ t. pos 0 <ℤ dot t f.point) (k.rows ++ units n n) (λ t d. elim (Contains-append_cases k.rows (units n n) t d) [
+      (all_by (λ t. pos 0 <ℤ dot t f.point) (k.rows ++ units n n) (λ t d. elim (Contains-append_cases k.rows (units n n) t d) [
         | inl e ↦ All-contains (λ t. pos 0 <ℤ dot t f.point) k.rows t f.region.rows e
         | inr e ↦ units_on_positive n f.point f.region.width f.region.positive t e
       ]))
@@ -132,7 +132,7 @@ module _ (n : ℕ) (k : Region) (bs : List MarkedPolynomial) (c : ConeRows) (i :
         not_redundant n (normal_at c i) f.point p.0 (other_rows c i) others_wide p.2 (solution_of_flip f) (factor, ms, subst (λ (m : ℕ). IsCombination m (other_rows c i) (normal_at c i) factor ms) is.variables s)
 
     normals_wide : AreRows n (others_of i c.normals)
-    normals_wide = contained_all (λ t. length t ≡ n) (others_of i c.normals) (λ t d. All-contains (λ t. length t ≡ n) (other_rows c i) t others_wide (Contains-append_left (others_of i c.normals) c.beside t d))
+    normals_wide = all_by (λ t. length t ≡ n) (others_of i c.normals) (λ t d. All-contains (λ t. length t ≡ n) (other_rows c i) t others_wide (Contains-append_left (others_of i c.normals) c.beside t d))
 
     pub facet_tells : HasInterior c → (answer : FacetAnswer) → AnswersFacet c i answer → TellsFacet n bs (normal_at c i) answer
     facet_tells h (Facet w) s =
@@ -174,7 +174,7 @@ pub kept_of : (n m p : ℕ) (rows : List (List ℤ)) (bs : List MarkedPolynomial
     AreRows n rows → AreVectorsKept m vs p
 kept_of n m p rows bs ns more vs e f q g k a s wide = record {
   inside = subst (λ (z : List (List ℤ)). p ≤ length z) (sym parts) (omega (arith, f, length-append ns (rows ++ units m m)));
-  widths = subst (AreRows m) (sym parts) (contained_all (λ t. length t ≡ m) (ns ++ (rows ++ units m m)) (λ t c. elim (Contains-append_cases ns (rows ++ units m m) t c) [
+  widths = subst (AreRows m) (sym parts) (all_by (λ t. length t ≡ m) (ns ++ (rows ++ units m m)) (λ t c. elim (Contains-append_cases ns (rows ++ units m m) t c) [
     | inl h ↦ normal-length n bs t k (a.only t h) ∙ sym e
     | inr h ↦ elim (Contains-append_cases rows (units m m) t h) [
       | inl d ↦ All-contains (λ z. length z ≡ n) rows t wide d ∙ sym e
@@ -259,7 +259,7 @@ row_read c given i a l e f = f ∙ ap (λ (z : List (List ℤ)). get_or z i a) e
 
 -- a vector of the region that sets each mark above the rest is positive on all rows
 pub interior_of_weight : (n : ℕ) (k : Region) (bs : List MarkedPolynomial) (c : ConeRows) (w : List ℤ) → IsConeOf n k bs c → IsInRegion n k w → IsInOpenCone w bs → HasInterior c
-interior_of_weight n k bs c w is r o = (w, record { width = r.width ∙ sym is.variables; positive = contained_all (λ t. pos 0 <ℤ dot t w) (all_rows c) (λ t d. first t (Contains-append_cases c.normals c.beside t d)); zero = All-nil (λ t. dot t w ≡ pos 0) })
+interior_of_weight n k bs c w is r o = (w, record { width = r.width ∙ sym is.variables; positive = all_by (λ t. pos 0 <ℤ dot t w) (all_rows c) (λ t d. first t (Contains-append_cases c.normals c.beside t d)); zero = All-nil (λ t. dot t w ≡ pos 0) })
   where
     second : (t : List ℤ) → Contains k.rows t ⊎ Contains (units n n) t → pos 0 <ℤ dot t w
     second t (inl d) = All-contains (λ t. pos 0 <ℤ dot t w) k.rows t r.rows d

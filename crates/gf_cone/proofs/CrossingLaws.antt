@@ -11,14 +11,14 @@ use Rattle.std.proofs.lemmas.List.{get_or_default}
 use Rattle.std.proofs.Math.ListN.{get_or-append}
 use Rattle.std.proofs.lemmas.List.Elements.{All-cons, All-nil, All-append, All-contains, Contains-append_right}
 use Rattle.gf_int.proofs.SignLaws.{0≤-*ℤ, 0<-*ℤ}
+use Rattle.gf_int.proofs.ListLaws.{Contains-here, all_by}
 use Rattle.gf_vec.specs.Vector.{dot, vector_sum}
 use Rattle.gf_vec.proofs.VectorLaws.{dot-plus}
 use Rattle.gf_gordan.specs.Alternative.{AreRows, IsSolution}
-use Rattle.gf_ideal.proofs.ListLaws.{Contains-here, Contains-there}
+use Rattle.gf_ideal.proofs.ListLaws.{Contains-there}
 use Rattle.gf_facets.specs.Normals.{others_of}
 use Rattle.gf_facets.specs.Systems.{units}
 use Rattle.gf_facets.proofs.UnitLaws.{positive_by_units, units_on_positive}
-use Rattle.gf_facets.proofs.SystemLaws.{contained_all}
 use Rattle.gf_cone.specs.Small.{IsSmall}
 use Rattle.gf_cone.specs.Cones.{ConeRows, all_rows, normal_at, other_rows, HasUnits}
 use Rattle.gf_cone.specs.Crossing.{IsShownBy, IsCrossable, IsFlipDecided, IsCrossingDecided}
@@ -62,7 +62,7 @@ solution_of_shown c i w l e h = record {
 -- the rows of a region and the unit vectors are positive on a vector
 pub beside_positive : (n : ℕ) (beside rows : List (List ℤ)) (w : List ℤ) → beside ≡ rows ++ units n n → length w ≡ n → All (λ x. pos 0 <ℤ x) w → All (λ t. pos 0 <ℤ dot t w) rows →
     All (λ t. pos 0 <ℤ dot t w) beside
-beside_positive n beside rows w e l p h = subst (All (λ t. pos 0 <ℤ dot t w)) (sym e) (All-append (λ t. pos 0 <ℤ dot t w) rows (units n n) h (contained_all (λ t. pos 0 <ℤ dot t w) (units n n) (units_on_positive n w l p)))
+beside_positive n beside rows w e l p h = subst (All (λ t. pos 0 <ℤ dot t w)) (sym e) (All-append (λ t. pos 0 <ℤ dot t w) rows (units n n) h (all_by (λ t. pos 0 <ℤ dot t w) (units n n) (units_on_positive n w l p)))
 
 -- so are the normals but for one, and that is zero
 pub solution_of_parts : (c : ConeRows) (i : ℕ) (w : List ℤ) (normals : List (List ℤ)) → normals ≡ c.normals → i < length c.normals → length w ≡ c.variables → All (λ t. pos 0 <ℤ dot t w) c.beside →

@@ -9,15 +9,15 @@ use Rattle.std.proofs.Common.{◌≡◌, ◌⊎◌, ◌↔◌, ℕ, zero, suc, �
 use Rattle.std.proofs.lemmas.Bool.{cases_lt}
 use Rattle.std.proofs.lemmas.List.{take_more, take_all, get_or_default}
 use Rattle.std.proofs.lemmas.List.Elements.{All-contains, Contains-append_left, Contains-append_right, Contains-append_cases}
+use Rattle.gf_int.proofs.ListLaws.{Contains-here, all_by}
 use Rattle.gf_vec.specs.Primitive.{IsPrimitivePart}
 use Rattle.gf_poly.specs.Marking.{MarkedPolynomial}
-use Rattle.gf_ideal.proofs.ListLaws.{Contains-here, Contains-there, Contains-cases}
+use Rattle.gf_ideal.proofs.ListLaws.{Contains-there, Contains-cases}
 use Rattle.gf_walk.specs.Path.{Precedes}
 use Rattle.gf_facets.specs.Rows.{rows_of_polynomials}
 use Rattle.gf_facets.proofs.PrimitiveLaws.{primitive_unique}
 use Rattle.gf_facets.proofs.VectorOrder.{vectors_compare, before_strict}
 use Rattle.gf_facets.specs.Normals.{Ascends, AreNormals}
-use Rattle.gf_facets.proofs.SystemLaws.{contained_all}
 use Rattle.gf_cone.specs.Small.{IsSmall}
 use Rattle.gf_cone.specs.Placing.{GoesInAt, Gathers}
 
@@ -168,7 +168,7 @@ gathers_append xs r s ys zs g h = record { rises = h.rises; has = λ a. (only a,
 
 -- a small vector more leaves a list small
 pub has_small : (xs more : List (List ℤ)) (v : List ℤ) → IsSmall v → All IsSmall xs → HasMore xs v more → All IsSmall more
-has_small xs more v s k m = contained_all IsSmall more (λ a c. elim ((m.has a).0 c) [ inl e ↦ subst IsSmall (sym e) s | inr n ↦ All-contains IsSmall xs a k n ])
+has_small xs more v s k m = all_by IsSmall more (λ a c. elim ((m.has a).0 c) [ inl e ↦ subst IsSmall (sym e) s | inr n ↦ All-contains IsSmall xs a k n ])
 
 -- the primitive parts of all rows
 pub gathered : (bs : List MarkedPolynomial) (all : List (List ℤ)) → Gathers [] (rows_of_polynomials bs) all → AreNormals bs all

@@ -10,6 +10,7 @@ use Rattle.std.proofs.lemmas.Bool.{cases_lt}
 use Rattle.std.proofs.lemmas.Int.{ints, unsigned_abs-mul}
 use Rattle.std.proofs.lemmas.List.{get_or_default, length-replicate, drop_more, take-append-drop}
 use Rattle.std.proofs.lemmas.List.Elements.{All-contains, Contains-append_left, Contains-append_cases}
+use Rattle.gf_int.proofs.ListLaws.{all_by}
 use Rattle.gf_gordan.specs.Sizes.{HaveEntriesUpTo}
 use Rattle.gf_facets.specs.Normals.{others_of}
 use Rattle.gf_facets.proofs.UnitLaws.{units_wide}
@@ -21,7 +22,6 @@ use Rattle.gf_poly.specs.Marking.{MarkedPolynomial}
 use Rattle.gf_facets.specs.Systems.{units}
 use Rattle.gf_facets.specs.LexPositive.{rooted, IsNegative, IsBefore}
 use Rattle.gf_facets.specs.Regions.{Region, all_positive}
-use Rattle.gf_facets.proofs.SystemLaws.{contained_all}
 use Rattle.gf_facets.proofs.RootSignLaws.{dot-ones, first-less, less-first}
 use Rattle.gf_cone.specs.Cones.{ConeRows, normal_at, other_rows, all_rows, IsConeOf, in_region, HasRowsOf, HasInterior}
 use Rattle.gf_cone.specs.Answers.{AnswersFlip, IsFlipToldIn}
@@ -70,7 +70,7 @@ flip_told_in k c i l wide h answer s n j bs is = flip_told (in_region k c) i l w
 -- ---- the system of a normal in a region, as a program makes it
 
 pub region_wide : (k : Region) (c : ConeRows) → AreRows c.variables c.normals → AreRows c.variables k.rows → AreRows c.variables (all_rows (in_region k c))
-region_wide k c wide rows = contained_all (λ t. length t ≡ c.variables) (all_rows (in_region k c)) (λ t m. elim (Contains-append_cases c.normals (k.rows ++ units c.variables c.variables) t m) [
+region_wide k c wide rows = all_by (λ t. length t ≡ c.variables) (all_rows (in_region k c)) (λ t m. elim (Contains-append_cases c.normals (k.rows ++ units c.variables c.variables) t m) [
   | inl h ↦ All-contains (λ z. length z ≡ c.variables) c.normals t wide h
   | inr h ↦ elim (Contains-append_cases k.rows (units c.variables c.variables) t h) [
     | inl d ↦ All-contains (λ z. length z ≡ c.variables) k.rows t rows d

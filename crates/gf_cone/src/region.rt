@@ -9,7 +9,7 @@ ghost use Rattle.gf_cone.specs.Weights.{IsForSign};
 ghost use Rattle.std.specs.declared.cmp.Ordering.TheVariants.{Less};
 
 use crate::systems::with_copies;
-use gf_vec::IntVec;
+use gf_vec::{IntVec, leading_sign};
 use std::alloc::{AllocError, Global};
 use std::cmp::Ordering;
 use std::marker::Model;
@@ -80,18 +80,6 @@ fn dot_of(xs: &[i128], ys: &[i128]) -> i128
         sum += product(xs[i], ys[i]);
     }
     sum
-}
-
-/// The sign of the first entry that isn't zero.
-fn leading_sign(xs: &[i128]) -> Ordering
-    ensures { result ≡ first_sign xs.now }
-{
-    for x in xs {
-        if *x != 0 {
-            return x.cmp(&0);
-        }
-    }
-    Ordering::Equal
 }
 
 impl Region {

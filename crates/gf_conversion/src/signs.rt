@@ -1,23 +1,10 @@
 //! The sign of a normal at a weight.
 
 ghost use Rattle.std.specs.Prelude.{◌≡◌, ◌↔◌, length, IfOk, IsTrue};
-ghost use Rattle.gf_vec.specs.RootSign.{first_sign};
 ghost use Rattle.gf_facets.specs.LexPositive.{IsNegative};
 
-use gf_vec::{IntVec, WideVector};
+use gf_vec::{IntVec, WideVector, leading_sign};
 use std::cmp::Ordering;
-
-/// The sign of the first entry that isn't zero.
-fn leading_sign(entries: &[i128]) -> Ordering
-    ensures { result ≡ first_sign entries.now }
-{
-    for x in entries {
-        if *x != 0 {
-            return x.cmp(&0);
-        }
-    }
-    Ordering::Equal
-}
 
 /// Whether a normal is negative at a weight: the first number that isn't zero among their dot product and the entries of the normal
 /// is negative.

@@ -12,6 +12,7 @@ use Rattle.gf_exponents.specs.Exponents.{same}
 use Rattle.gf_exponents.specs.Orders.{lighter}
 use Rattle.gf_exponents.proofs.ExponentsLaws.{same_flip, same_of, same_trans}
 use Rattle.gf_exponents.proofs.OrderLaws.{lighter-strict}
+use Rattle.gf_int.proofs.ListLaws.{Contains-here}
 use Rattle.gf_poly.specs.Polynomial.{Terms, coefficient, SamePolynomial, HasVariables}
 use Rattle.gf_poly.specs.Marking.{MarkedPolynomial, MarkedPolynomials, HaveVariables, IsArranged}
 use Rattle.gf_poly.proofs.PolynomialLaws.{coefficient-same}
@@ -20,7 +21,7 @@ use Rattle.gf_ideal.specs.Marks.{IsMarked, AreMarked, IsPositive, HasPositiveWei
 use Rattle.gf_ideal.specs.Reduction.{IsMonicForm, AreMonicForms, IsDivisible}
 use Rattle.gf_ideal.specs.Bases.{IsBasis, AreApart, IsReducedBasis, IsHeaviest, IsCanonical, AreArranged}
 use Rattle.gf_ideal.specs.WorkLists.{IsReducedTail, AreReducedTails}
-use Rattle.gf_ideal.proofs.ListLaws.{each_contained, Contains-here, Contains-there, Contains-cases}
+use Rattle.gf_ideal.proofs.ListLaws.{each_contained, Contains-there, Contains-cases}
 use Rattle.gf_ideal.proofs.MembershipLaws.{member-equal}
 use Rattle.gf_ideal.proofs.GeneratorLaws.{monic-from}
 use Rattle.gf_ideal.proofs.MarkWeights.{monic_realised}

@@ -18,3 +18,4 @@ pub mod AutoreductionLaws  -- all tails, and the whole
 pub mod QuotientLaws  -- quotients as they are kept
 pub mod DivisionLaws  -- the loop of a division
 pub mod WeighedMarks  -- tests of weights
+pub mod KeyLaws  -- exponents arranged in keys

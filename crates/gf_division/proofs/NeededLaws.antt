@@ -10,6 +10,7 @@ use Rattle.std.proofs.lemmas.List.Elements.{Contains-push, Contains-push_cases, 
 use Rattle.gf_exponents.specs.Exponents.{Exponents, same, plus, degree, Divides, NoMultiple}
 use Rattle.gf_exponents.proofs.ExponentsLaws.{plus_comm, same-refl, same_of, same_flip, same_trans, same_by_entries, entries_same, entry-plus, multiple_or_not}
 use Rattle.gf_exponents.proofs.WeightLaws.{degree-plus, degree-same}
+use Rattle.gf_int.proofs.ListLaws.{Contains-here}
 use Rattle.gf_poly.specs.declared.error.PolyError.{PolyError}
 use Rattle.gf_poly.specs.declared.error.PolyError.TheVariants as errors
 use Rattle.gf_poly.specs.Polynomial.{HasVariables, KeepsVariables}
@@ -17,7 +18,7 @@ use Rattle.gf_poly.specs.Marking.{MarkedPolynomial, HaveVariables}
 use Rattle.gf_ideal.specs.Reduction.{IsDivisible}
 use Rattle.gf_ideal.specs.Settled.{IsAt}
 use Rattle.gf_ideal.specs.Bases.{AreApart}
-use Rattle.gf_ideal.proofs.ListLaws.{each_contained, contained_each, Contains-here, Contains-there}
+use Rattle.gf_ideal.proofs.ListLaws.{each_contained, contained_each, Contains-there}
 use Rattle.gf_ideal.proofs.RingLaws.{degree-none}
 use Rattle.gf_division.specs.MonicForms.{IsMadeMonic, IsMonicRefusal}
 use Rattle.gf_division.specs.Autoreduction.{IsNeeded, IsNeededForm, AreNeededForms, MakesNeedless, IsNeededAt, KeepVariables, IsNeededRefusal}

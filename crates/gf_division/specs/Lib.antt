@@ -8,3 +8,4 @@ pub mod Dividends  -- a polynomial under reduction, with a place in it
 pub mod Reducers  -- which member reduces a term
 pub mod Remainders  -- remainders by any steps
 pub mod Tables  -- a polynomial under reduction as a table
+pub mod Keys  -- exponents arranged so that lists compare as monomials do

@@ -3,6 +3,7 @@
 
 ghost use Rattle.std.specs.Prelude.{◌≤◌, length};
 ghost use Rattle.gf_poly.specs.declared.TheConstants.{ROOM};
+ghost use Rattle.gf_division.specs.Keys.{AreKeyExponents};
 
 use crate::weights::{heft_of, weight_of};
 use gf_poly::{Marked, Mono, ROOM};
@@ -98,9 +99,11 @@ struct Waiting {
     exponents: [u32; ROOM],
 }
 
-/// The exponents arranged so that lists compare as monomials do by lex or by revlex; twice gives them back.
-fn arranged(x: &[u32], by_revlex: bool) -> [u32; ROOM]
+/// The exponents arranged so that lists compare as monomials do by lex or by revlex: by revlex the last exponent decides,
+/// and the smaller one is greater. Twice gives them back. At most `ROOM` exponents; behind them stand zeros.
+pub fn arranged(x: &[u32], by_revlex: bool) -> [u32; ROOM]
     requires { length x.now ≤ ROOM }
+    ensures { AreKeyExponents by_revlex x.now result }
 {
     let mut all = [0; ROOM];
     let n = x.len();

@@ -52,7 +52,7 @@ fn is_beside(spared: &Option<Mono>, x: &Mono) -> bool
 }
 
 /// The place of the first member that reduces a term at `x`, if there is one and `x` isn't spared.
-pub(crate) fn reducer_of(x: &Mono, by: &[Marked], spared: &Option<Mono>) -> Option<usize>
+pub fn reducer_of(x: &Mono, by: &[Marked], spared: &Option<Mono>) -> Option<usize>
     requires members { HaveVariables (length x.now) by.now }
     requires spare { IsSpareIn (length x.now) spared.now }
     ensures found { IfSome result (IsDivisorAt by.now x.now) }

@@ -1,5 +1,5 @@
 -- What holds of the lineality vectors and the rays after each inequality.
-use Rattle.gf_duality.proofs.ListLaws.{none_in, in_head, in_tail, in_cons, in_rest, stood, of_rest, rest_cover, in_more}
+use Rattle.gf_duality.proofs.ListLaws.{none_in, in_tail, in_cons, in_rest, stood, of_rest, rest_cover, in_more}
 use Rattle.gf_duality.specs.Straightening.{IsLeveled}
 use Rattle.gf_duality.specs.Combining.{pair}
 use Rattle.gf_duality.specs.Generators.{Made, nothing, ray, line, multiplied, AreValid, IsDescribed, divided}
@@ -11,6 +11,7 @@ use Rattle.gf_int.specs.Content.{scaled}
 use Rattle.gf_vec.specs.Vector.{dot, vector_sum, zeros}
 use Rattle.gf_int.proofs.RingLaws.{same, dv, dn, dneg, ◌⊕◌, ◌⊗◌, ◌⊖◌}
 use Rattle.gf_int.proofs.SignLaws.{0≤-*ℤ, 0<-*ℤ, 0≤-cancel, 0<-cancel, zero-cancel, sign_of, negative, none, positive}
+use Rattle.gf_int.proofs.ListLaws.{Contains-here}
 use Rattle.gf_vec.proofs.VectorLaws.{length-times}
 use Rattle.gf_vec.proofs.DotLaws.{dot-times_right}
 use Rattle.gf_vec.specs.Primitive.{IsPrimitivePart}
@@ -185,11 +186,11 @@ parts h (r ∷ rays) =
         ps = r ∷ t.ps;
         qs = t.qs;
         cover = λ x c. elim (in_cons r rays x c) [
-          | inl e ↦ inl (subst (Contains (r ∷ t.ps)) (sym e) (in_head r t.ps))
+          | inl e ↦ inl (subst (Contains (r ∷ t.ps)) (sym e) (Contains-here r t.ps))
           | inr b ↦ elim (t.cover x b) [ inl a ↦ inl (in_tail r t.ps x a) | inr a ↦ inr a ]
         ];
         of_p = λ x c. elim (in_cons r t.ps x c) [
-          | inl e ↦ (subst (Contains (r ∷ rays)) (sym e) (in_head r rays), subst (λ z. pos 0 ≤ℤ dot h z) (sym e) g)
+          | inl e ↦ (subst (Contains (r ∷ rays)) (sym e) (Contains-here r rays), subst (λ z. pos 0 ≤ℤ dot h z) (sym e) g)
           | inr b ↦ (in_tail r rays x (t.of_p x b).0, (t.of_p x b).1)
         ];
         of_q = λ x c. (in_tail r rays x (t.of_q x c).0, (t.of_q x c).1);
@@ -198,12 +199,12 @@ parts h (r ∷ rays) =
         ps = t.ps;
         qs = r ∷ t.qs;
         cover = λ x c. elim (in_cons r rays x c) [
-          | inl e ↦ inr (subst (Contains (r ∷ t.qs)) (sym e) (in_head r t.qs))
+          | inl e ↦ inr (subst (Contains (r ∷ t.qs)) (sym e) (Contains-here r t.qs))
           | inr b ↦ elim (t.cover x b) [ inl a ↦ inl a | inr a ↦ inr (in_tail r t.qs x a) ]
         ];
         of_p = λ x c. (in_tail r rays x (t.of_p x c).0, (t.of_p x c).1);
         of_q = λ x c. elim (in_cons r t.qs x c) [
-          | inl e ↦ (subst (Contains (r ∷ rays)) (sym e) (in_head r rays), subst (λ z. dot h z <ℤ pos 0) (sym e) g)
+          | inl e ↦ (subst (Contains (r ∷ rays)) (sym e) (Contains-here r rays), subst (λ z. dot h z <ℤ pos 0) (sym e) g)
           | inr b ↦ (in_tail r rays x (t.of_q x b).0, (t.of_q x b).1)
         ];
       }

@@ -10,13 +10,14 @@ use Rattle.std.proofs.lemmas.List.Elements.{All-contains}
 use Rattle.gf_int.specs.Content.{AllZero, IsPrimitive}
 use Rattle.gf_int.proofs.RingLaws.{same, dn, dneg}
 use Rattle.gf_int.proofs.SignLaws.{sign_of, negative, none, positive, zero-cancel}
+use Rattle.gf_int.proofs.ListLaws.{Contains-here, all_by}
 use Rattle.gf_vec.specs.Vector.{dot, zeros, opposite}
 use Rattle.gf_vec.proofs.VectorLaws.{length-times}
 use Rattle.gf_gordan.specs.Alternative.{AreRows}
 use Rattle.gf_duality.specs.Generators.{Made, nothing, ray, IsDescribed}
 use Rattle.gf_duality.specs.Rays.{Satisfies, IsLineal, Generated, IsRays}
 use Rattle.gf_duality.specs.Faces.{Rows, IsInCone, SameCone}
-use Rattle.gf_duality.proofs.ListLaws.{none_in, in_head, in_tail, in_cons, all_by, of_rest}
+use Rattle.gf_duality.proofs.ListLaws.{none_in, in_tail, in_cons, of_rest}
 use Rattle.gf_vec.proofs.DotLaws.{own_zero, dot-times_right}
 use Rattle.gf_vec.proofs.VectorIdentities.{vv, ◌⊡◌, by}
 use Rattle.gf_duality.proofs.Made.{Made-dot_zero}
@@ -33,8 +34,8 @@ use Rattle.std.proofs.lemmas.Bool.{cases_eq}
 pub some_positive : (hs : List (List ℤ)) (x : List ℤ) → ((h : List ℤ) → Contains hs h → pos 0 ≤ℤ dot h x) → ((h : List ℤ) × (Contains hs h × (pos 0 <ℤ dot h x))) ⊎ ((h : List ℤ) → Contains hs h → dot h x ≡ pos 0)
 some_positive [] x f = inr (λ h c. absurd (none_in h c))
 some_positive (t ∷ hs) x f = elim (sign_of (dot t x)) [
-  | negative g ↦ let k : pos 0 ≤ℤ dot t x = f t (in_head t hs) in absurd (omega (arith, ints))
-  | positive g ↦ inl (t, (in_head t hs, g))
+  | negative g ↦ let k : pos 0 ≤ℤ dot t x = f t (Contains-here t hs) in absurd (omega (arith, ints))
+  | positive g ↦ inl (t, (Contains-here t hs, g))
   | none g ↦ elim (some_positive hs x (λ h c. f h (in_tail t hs h c))) [
     | inl r ↦ inl (r.0, (in_tail t hs r.0 r.1.0, r.1.1))
     | inr z ↦ inr (λ h c. elim (in_cons t hs h c) [ inl e ↦ subst (λ (k : List ℤ). dot k x ≡ pos 0) (sym e) g | inr d ↦ z h d ])

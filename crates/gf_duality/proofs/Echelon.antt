@@ -9,13 +9,14 @@ use Rattle.std.proofs.lemmas.List.Quantifiers.{all_pairs_push}
 use Rattle.gf_int.specs.Content.{IsPrimitive, scaled}
 use Rattle.gf_int.proofs.RingLaws.{same, dv, dn, dneg, ◌⊗◌, ◌⊕◌}
 use Rattle.gf_int.proofs.SignLaws.{zero-cancel, zero_product}
+use Rattle.gf_int.proofs.ListLaws.{Contains-last, all_by}
 use Rattle.gf_vec.specs.Vector.{vector_sum, zeros, entry_at}
 use Rattle.gf_vec.proofs.VectorLaws.{length-times, length-plus}
 use Rattle.gf_gordan.specs.Elimination.{IsPivot, row_at, size_at, signed_at}
 use Rattle.gf_duality.specs.Generators.{Made, nothing, line, summed, divided}
 use Rattle.gf_duality.specs.Rays.{IsEchelon}
 use Rattle.gf_duality.specs.Elimination.{IsTurned, IsFirstAt, IsEliminated, begun, skipped, turned, IsNormalised, IsEchelonBasis}
-use Rattle.gf_duality.proofs.ListLaws.{none_in, in_cons, in_more, snoc_cases, zip_from, zip_to, all_by, place, less, at, more, of_rest, rest_cover}
+use Rattle.gf_duality.proofs.ListLaws.{none_in, in_cons, in_more, zip_from, zip_to, place, less, at, more, of_rest, rest_cover}
 use Rattle.gf_vec.proofs.EntryLaws.{signum_up, entry_times, entry_plus, cancel, all_zero}
 use Rattle.gf_duality.proofs.PivotLaws.{pivot_unique}
 use Rattle.gf_vec.proofs.VectorIdentities.{vv, ◌⊞◌, ◌⊡◌, vsame}
@@ -140,12 +141,12 @@ shape n rows j done left w (turned b m old from others rest out kk e hb f zd zr 
         | more k ↦ absurd (omega arith)
       ];
       pivoted = in_more (λ u. (p : ℕ) × ((p < m) × IsPivot u p)) others r (λ u c. let p = pivot_of u c in (p.0, (omega (arith, p.1.0, e), p.1.2))) (b, (omega (arith, e), rp));
-      alone = λ x y p k cx cy px py ne. elim (snoc_cases others r x cx) [
+      alone = λ x y p k cx cy px py ne. elim (Contains-last others r x cx) [
         | inl ax ↦
             let tx = back x ax in let hx = pivot_of x ax in
             let ep : hx.0 ≡ p = pivot_unique x hx.0 p hx.1.2 px in
             let lp : p < b = subst (λ t. t < b) ep hx.1.0 in
-            elim (snoc_cases others r y cy) [
+            elim (Contains-last others r y cy) [
               | inl ay ↦
                   let ty = back y ay in let hy = pivot_of y ay in
                   let eq : hy.0 ≡ k = pivot_unique y hy.0 k hy.1.2 py in
@@ -155,7 +156,7 @@ shape n rows j done left w (turned b m old from others rest out kk e hb f zd zr 
             ]
         | inr ex ↦
             let ep : b ≡ p = pivot_unique r b p rp (subst (λ t. IsPivot t p) ex px) in
-            elim (snoc_cases others r y cy) [
+            elim (Contains-last others r y cy) [
               | inl ay ↦ let ty = back y ay in subst (λ t. entry_at y t ≡ pos 0) ep ty.1.1.at
               | inr ey ↦ absurd (ne (sym ep ∙ pivot_unique r b k rp (subst (λ t. IsPivot t k) ey py)))
             ]
@@ -221,7 +222,7 @@ eliminated_span n rows j done left w (turned b m old from others rest out k e hb
     let of_left : (t u : List ℤ) → Contains from t → IsTurned r b t u → Turned n b r t u = λ t u c i. turned_of n b r t u (sh.left_width t c) lr nz i in
     let result : SameSpan n rows now = record {
       width = λ u c. elim (Contains-append_cases (others ++ r ∷ []) rest u c) [
-        | inl a ↦ elim (snoc_cases others r u a) [
+        | inl a ↦ elim (Contains-last others r u a) [
           | inl i ↦ let t = zip_from (IsTurned r b) old others u zd i in (of_done t.0 u t.1.0 t.1.1).long
           | inr i ↦ ap length i ∙ lr
         ]
@@ -237,7 +238,7 @@ eliminated_span n rows j done left w (turned b m old from others rest out k e hb
         ]
       ]) (s.to x c);
       from = λ u c. elim (Contains-append_cases (others ++ r ∷ []) rest u c) [
-        | inl a ↦ elim (snoc_cases others r u a) [
+        | inl a ↦ elim (Contains-last others r u a) [
           | inl i ↦ let t = zip_from (IsTurned r b) old others u zd i in turned_on n b rows r t.0 u (of_done t.0 u t.1.0 t.1.1) mr (s.from t.0 (Contains-append_left old from t.0 t.1.0))
           | inr i ↦ subst (Made n [] rows) (sym i) mr
         ]

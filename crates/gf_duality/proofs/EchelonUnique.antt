@@ -6,13 +6,14 @@ use Rattle.std.proofs.lemmas.List.Elements.{All-contains, recursion_from_All}
 use Rattle.gf_int.specs.Content.{AllZero, IsPrimitive, scaled}
 use Rattle.gf_int.proofs.RingLaws.{same, dv, dn, dneg, ◌⊗◌, ◌⊕◌}
 use Rattle.gf_int.proofs.SignLaws.{positive, zero_product, positive_not_zero, zero_or_not}
+use Rattle.gf_int.proofs.ListLaws.{Contains-here}
 use Rattle.gf_vec.specs.Vector.{vector_sum, zeros, combined, entry_at}
 use Rattle.gf_vec.proofs.VectorLaws.{length-times, length-combined}
 use Rattle.gf_gordan.specs.Alternative.{AreRows}
 use Rattle.gf_gordan.specs.Elimination.{IsPivot}
 use Rattle.gf_duality.specs.Generators.{Made, summed}
 use Rattle.gf_duality.specs.Rays.{IsEchelon}
-use Rattle.gf_duality.proofs.ListLaws.{none_in, in_head, in_tail, in_cons}
+use Rattle.gf_duality.proofs.ListLaws.{none_in, in_tail, in_cons}
 use Rattle.gf_vec.proofs.EntryLaws.{entry_times, entry_plus, cancel}
 use Rattle.gf_duality.proofs.PivotLaws.{pivot_unique}
 use Rattle.gf_vec.proofs.VectorIdentities.{vv, vz, ◌⊞◌, ◌⊡◌, vsame}
@@ -28,26 +29,26 @@ use Rattle.std.proofs.lemmas.Bool.{cases_eq}
 pub same_ordered : {X : Type 0} (R : X → X → Type 0) (xs ys : List X) → ((x y : X) → Contains xs x → Contains xs y → R x y → R y x → ⊥) → AllPairs R xs → AllPairs R ys →
     ((x : X) → Contains xs x → Contains ys x) → ((x : X) → Contains ys x → Contains xs x) → xs ≡ ys
 same_ordered R [] [] a p q f g = refl
-same_ordered R [] (y ∷ ys) a p q f g = absurd (none_in y (g y (in_head y ys)))
-same_ordered R (x ∷ xs) [] a p q f g = absurd (none_in x (f x (in_head x xs)))
+same_ordered R [] (y ∷ ys) a p q f g = absurd (none_in y (g y (Contains-here y ys)))
+same_ordered R (x ∷ xs) [] a p q f g = absurd (none_in x (f x (Contains-here x xs)))
 same_ordered {X} R (x ∷ xs) (y ∷ ys) a p q f g =
     let after : (z : X) → Contains xs z → R x z = λ z c. subst (R x) (c.2) (p 0 (suc c.0) z (omega arith) (omega (arith, c.1))) in
     let after_y : (z : X) → Contains ys z → R y z = λ z c. subst (R y) (c.2) (q 0 (suc c.0) z (omega arith) (omega (arith, c.1))) in
-    let e : x ≡ y = elim (in_cons y ys x (f x (in_head x xs))) [
+    let e : x ≡ y = elim (in_cons y ys x (f x (Contains-here x xs))) [
       | inl e ↦ e
-      | inr c ↦ elim (in_cons x xs y (g y (in_head y ys))) [
+      | inr c ↦ elim (in_cons x xs y (g y (Contains-here y ys))) [
         | inl e ↦ sym e
-        | inr d ↦ absurd (a x y (in_head x xs) (in_tail x xs y d) (after y d) (after_y x c))
+        | inr d ↦ absurd (a x y (Contains-here x xs) (in_tail x xs y d) (after y d) (after_y x c))
       ]
     ] in
     let rest : xs ≡ ys = same_ordered R xs ys (λ u v cu cv. a u v (in_tail x xs u cu) (in_tail x xs v cv)) (λ i k d h l. p (suc i) (suc k) d (omega arith) (omega arith)) (λ i k d h l. q (suc i) (suc k) d (omega arith) (omega arith))
     (λ z c. elim (in_cons y ys z (f z (in_tail x xs z c))) [
       | inr d ↦ d
-      | inl i ↦ let r : R x x = subst (R x) (i ∙ sym e) (after z c) in absurd (a x x (in_head x xs) (in_head x xs) r r)
+      | inl i ↦ let r : R x x = subst (R x) (i ∙ sym e) (after z c) in absurd (a x x (Contains-here x xs) (Contains-here x xs) r r)
     ])
     (λ z c. elim (in_cons x xs z (g z (in_tail y ys z c))) [
       | inr d ↦ d
-      | inl i ↦ let r : R y y = subst (R y) (i ∙ e) (after_y z c) in let s : R x x = subst (λ t. R t t) (sym e) r in absurd (a x x (in_head x xs) (in_head x xs) s s)
+      | inl i ↦ let r : R y y = subst (R y) (i ∙ e) (after_y z c) in let s : R x x = subst (λ t. R t t) (sym e) r in absurd (a x x (Contains-here x xs) (Contains-here x xs) s s)
     ]) in
     ap₂ ◌∷◌ e rest
 
@@ -61,7 +62,7 @@ IsStaircase (b ∷ rows) = ((p : ℕ) × (IsPivot b p × ((y : List ℤ) (i : �
 staircase_of : (rows whole : List (List ℤ)) → IsEchelon whole → ((x : List ℤ) → Contains rows x → Contains whole x) → AllPairs (λ x y. (p q : ℕ) → IsPivot x p → IsPivot y q → p < q) rows → IsStaircase rows
 staircase_of [] whole e s r = tt
 staircase_of (b ∷ rows) whole e s r =
-    let cb = s b (in_head b rows) in
+    let cb = s b (Contains-here b rows) in
     let lead : (y : List ℤ) → Contains whole y → (p : ℕ) × (IsPivot y p × (pos 0 <ℤ entry_at y p)) = λ y c. All-contains (λ x. (p : ℕ) × (IsPivot x p × (pos 0 <ℤ entry_at x p))) whole y e.leading c in
     let p = lead b cb in (
       (
@@ -89,7 +90,7 @@ combined_entry n m ms t ts i w = entry_plus (scaled m t) (combined n ms ts) i (l
 combined_zero : (n : ℕ) (ms : List ℤ) (rows : List (List ℤ)) (i : ℕ) → AllByRecursion (λ t. length t ≡ n) rows → ((y : List ℤ) → Contains rows y → entry_at y i ≡ pos 0) → entry_at (combined n ms rows) i ≡ pos 0
 combined_zero n [] rows i w f = entry_zeros n i
 combined_zero n (m ∷ ms) [] i w f = entry_zeros n i
-combined_zero n (m ∷ ms) (t ∷ ts) i w f = combined_entry n m ms t ts i w ∙ ap₂ ◌+ℤ◌ (zero_product m (entry_at t i) (f t (in_head t ts))) (combined_zero n ms ts i w.1 (λ y c. f y (in_tail t ts y c)))
+combined_zero n (m ∷ ms) (t ∷ ts) i w f = combined_entry n m ms t ts i w ∙ ap₂ ◌+ℤ◌ (zero_product m (entry_at t i) (f t (Contains-here t ts))) (combined_zero n ms ts i w.1 (λ y c. f y (in_tail t ts y c)))
 
 no_more : (x : ℤ) → x +ℤ pos 0 ≡ x
 no_more x = omega (arith, ints)
@@ -112,7 +113,7 @@ combined_none n [] rows w s f = refl
 combined_none n (m ∷ ms) [] w s f = refl
 combined_none n (m ∷ ms) (t ∷ ts) w s f =
     let p = s.0 in
-    let z : m ≡ pos 0 = factor_zero m (entry_at t p.0) p.1.0.not_zero (sym (combined_head n m ms t ts p.0 w (λ y c. p.1.1 y p.0 c (omega arith))) ∙ f t p.0 (in_head t ts) p.1.0) in
+    let z : m ≡ pos 0 = factor_zero m (entry_at t p.0) p.1.0.not_zero (sym (combined_head n m ms t ts p.0 w (λ y c. p.1.1 y p.0 c (omega arith))) ∙ f t p.0 (Contains-here t ts) p.1.0) in
     let e = combined_rest n m ms t ts w z in
     e ∙ combined_none n ms ts w.1 s.1 (λ y q c k. ap (λ v. entry_at v q) (sym e) ∙ f y q (in_tail t ts y c) k)
 
@@ -130,7 +131,7 @@ combined_pivot n (m ∷ ms) (t ∷ ts) q w s k = elim (zero_or_not m) [
         not_zero = λ e. p.1.0.not_zero (cancel m (entry_at t p.0) nz (sym (combined_head n m ms t ts p.0 w (λ y c. p.1.1 y p.0 c (omega arith))) ∙ e));
         first = λ i h. combined_head n m ms t ts i w (λ y c. p.1.1 y i c (omega (arith, h))) ∙ zero_product m (entry_at t i) (p.1.0.first i h);
       } in
-      (t, (in_head t ts, subst (IsPivot t) (pivot_unique whole p.0 q own k) p.1.0))
+      (t, (Contains-here t ts, subst (IsPivot t) (pivot_unique whole p.0 q own k) p.1.0))
 ]
 
 -- ---- members of the span

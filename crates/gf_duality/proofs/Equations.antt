@@ -1,5 +1,5 @@
 -- The solutions of equations, one after another, from the unit vectors on.
-use Rattle.gf_duality.proofs.ListLaws.{none_in, in_head, in_tail, in_cons, in_more}
+use Rattle.gf_duality.proofs.ListLaws.{none_in, in_tail, in_cons, in_more}
 use Rattle.gf_duality.specs.Combining.{pair}
 use Rattle.gf_duality.specs.Generators.{Made, nothing, ray, line, summed, multiplied, divided, AreValid, IsDescribed, unit_vectors}
 use Rattle.std.proofs.Common.{◌≡◌, ℕ, zero, suc, List, [], ◌∷◌, ◌++◌, length, ℤ, pos, ◌+ℤ◌, ◌*ℤ◌, ◌<ℤ◌, arith, sym, refl, ap, ap₂, ◌∙◌, subst, Contains, ◌⊎◌, inl, inr, map}
@@ -8,6 +8,7 @@ use Rattle.std.proofs.lemmas.List.Elements.{Contains-append_left, Contains-push}
 use Rattle.gf_int.specs.Content.{scaled}
 use Rattle.gf_vec.specs.Vector.{dot, vector_sum, zeros}
 use Rattle.gf_int.proofs.RingLaws.{dv, ◌⊗◌}
+use Rattle.gf_int.proofs.ListLaws.{Contains-here}
 use Rattle.gf_vec.proofs.VectorLaws.{length-zeros}
 use Rattle.gf_vec.proofs.VectorIdentities.{vv, vz, ◌⊞◌, ◌⊡◌, vsame}
 use Rattle.gf_duality.proofs.Made.{Made-into}
@@ -53,11 +54,11 @@ equation_lined n es lin lines e l d ll g zl from to =
 
 pub in_map : (f : List ℤ → List ℤ) (xs : List (List ℤ)) (y : List ℤ) → Contains (map f xs) y → (x : List ℤ) × (Contains xs x × (y ≡ f x))
 in_map f [] y c = absurd (none_in y c)
-in_map f (x ∷ xs) y c = elim (in_cons (f x) (map f xs) y c) [ inl e ↦ (x, (in_head x xs, e)) | inr d ↦ let t = in_map f xs y d in (t.0, (in_tail x xs t.0 t.1.0, t.1.1)) ]
+in_map f (x ∷ xs) y c = elim (in_cons (f x) (map f xs) y c) [ inl e ↦ (x, (Contains-here x xs, e)) | inr d ↦ let t = in_map f xs y d in (t.0, (in_tail x xs t.0 t.1.0, t.1.1)) ]
 
 pub map_in : (f : List ℤ → List ℤ) (xs : List (List ℤ)) (x : List ℤ) → Contains xs x → Contains (map f xs) (f x)
 map_in f [] x c = absurd (none_in x c)
-map_in f (y ∷ xs) x c = elim (in_cons y xs x c) [ inl e ↦ subst (λ t. Contains (f y ∷ map f xs) (f t)) (sym e) (in_head (f y) (map f xs)) | inr d ↦ in_tail (f y) (map f xs) (f x) (map_in f xs x d) ]
+map_in f (y ∷ xs) x c = elim (in_cons y xs x c) [ inl e ↦ subst (λ t. Contains (f y ∷ map f xs) (f t)) (sym e) (Contains-here (f y) (map f xs)) | inr d ↦ in_tail (f y) (map f xs) (f x) (map_in f xs x d) ]
 
 pub units_width : (n : ℕ) (x : List ℤ) → Contains (unit_vectors n) x → length x ≡ n
 units_width zero x c = absurd (none_in x c)
@@ -90,7 +91,7 @@ spans_all (suc n) (x ∷ v) l =
     let all = unit_vectors (suc n) in
     summed (suc n) [] all (scaled x (pos 1 ∷ zeros n)) (pos 0 ∷ v) (x ∷ v)
     (ap₂ ◌∷◌ (let e : x ≡ x *ℤ pos 1 +ℤ pos 0 = omega (arith, ints) in e) (vsame (vv v lv) (dv x ⊡ vz n ⊞ vv v lv) (λ w. omega arith)))
-    (line (suc n) [] all x (pos 1 ∷ zeros n) _ (ap suc (length-zeros n)) (in_head (pos 1 ∷ zeros n) (map (λ v. pos 0 ∷ v) (unit_vectors n))) refl)
+    (line (suc n) [] all x (pos 1 ∷ zeros n) _ (ap suc (length-zeros n)) (Contains-here (pos 1 ∷ zeros n) (map (λ v. pos 0 ∷ v) (unit_vectors n))) refl)
     (Made-into (suc n) [] (map (λ v. pos 0 ∷ v) (unit_vectors n)) [] all (pos 0 ∷ v) (λ y i c. absurd (none_in y c)) (λ a y i c. line (suc n) [] all a y _ i (in_tail (pos 1 ∷ zeros n) (map (λ v. pos 0 ∷ v) (unit_vectors n)) y c) refl)
     (fronted n [] (unit_vectors n) v (λ y c. none_in y c) (spans_all n v lv)))
 

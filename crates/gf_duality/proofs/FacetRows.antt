@@ -6,10 +6,11 @@ use Rattle.std.proofs.lemmas.List.Elements.{All-contains}
 use Rattle.gf_int.specs.Content.{scaled}
 use Rattle.gf_int.proofs.RingLaws.{same, dv, dn, dneg, ◌⊗◌, ◌⊕◌, ◌⊖◌}
 use Rattle.gf_int.proofs.SignLaws.{0≤-*ℤ, 0<-*ℤ, sign_of, negative, none, positive, 0≤-cancel, zero_or_not, not_negative}
+use Rattle.gf_int.proofs.ListLaws.{Contains-here, all_by}
 use Rattle.gf_vec.specs.Vector.{dot, vector_sum}
 use Rattle.gf_duality.specs.Generators.{Made, IsDescribed}
 use Rattle.gf_duality.specs.Faces.{IsInCone, IsFacetRow, IsWitness, IsOfFullDimension, cone_of}
-use Rattle.gf_duality.proofs.ListLaws.{none_in, in_head, in_tail, in_cons, all_by}
+use Rattle.gf_duality.proofs.ListLaws.{none_in, in_tail, in_cons}
 use Rattle.gf_vec.proofs.VectorIdentities.{vv, ◌⊞◌, ◌⊡◌, by}
 
 -- ---- the rays on which a row is zero
@@ -27,10 +28,10 @@ part_of (r ∷ rays) t =
       | inl z ↦ record {
         part = r ∷ p.part;
         of_part = λ x c. elim (in_cons r p.part x c) [
-          | inl e ↦ (subst (Contains (r ∷ rays)) (sym e) (in_head r rays), subst (λ (k : List ℤ). dot t k ≡ pos 0) (sym e) z)
+          | inl e ↦ (subst (Contains (r ∷ rays)) (sym e) (Contains-here r rays), subst (λ (k : List ℤ). dot t k ≡ pos 0) (sym e) z)
           | inr d ↦ (in_tail r rays x (p.of_part x d).0, (p.of_part x d).1)
         ];
-        all = λ x c k. elim (in_cons r rays x c) [ inl e ↦ subst (Contains (r ∷ p.part)) (sym e) (in_head r p.part) | inr d ↦ in_tail r p.part x (p.all x d k) ];
+        all = λ x c k. elim (in_cons r rays x c) [ inl e ↦ subst (Contains (r ∷ p.part)) (sym e) (Contains-here r p.part) | inr d ↦ in_tail r p.part x (p.all x d k) ];
       }
       | inr n ↦ record {
         part = p.part;
@@ -78,7 +79,7 @@ reached (t ∷ rows) v x f =
       big = r.big +ℤ l.0;
       big_fits = let p = l.1.0 in omega (arith, ints, rb, p);
       within = λ h c. elim (in_cons t rows h c) [
-        | inl e ↦ subst (λ (k : List ℤ). pos 0 ≤ℤ ((r.big +ℤ l.0) *ℤ dot k v +ℤ dot k x)) (sym e) (elim (f t (in_head t rows)) [
+        | inl e ↦ subst (λ (k : List ℤ). pos 0 ≤ℤ ((r.big +ℤ l.0) *ℤ dot k v +ℤ dot k x)) (sym e) (elim (f t (Contains-here t rows)) [
           | inl g ↦ reach r.big l.0 (dot t v) (dot t x) rb l.1.0 l.1.1 g
           | inr z ↦ let w : (r.big +ℤ l.0) *ℤ dot t v ≡ pos 0 = ap (λ q. (r.big +ℤ l.0) *ℤ q) z.0 ∙ omega (arith, ints) in let u = z.1 in omega (arith, ints, w, u)
         ])
@@ -131,11 +132,11 @@ least_of (t ∷ rows) v x r s z g f =
     elim (zero_or_not (dot t v)) [
       | inr n ↦ keep (λ e. absurd (n e))
       | inl tz ↦
-          let tr : pos 0 <ℤ dot t r = f t (in_head t rows) tz in
+          let tr : pos 0 <ℤ dot t r = f t (Contains-here t rows) tz in
           let test : ℤ = dot t x *ℤ dot l.u r -ℤ dot l.u x *ℤ dot t r in
           let take : pos 0 ≤ℤ (dot l.u x *ℤ dot t r -ℤ dot t x *ℤ dot l.u r) → Least (t ∷ rows) v x r s = λ k. record {
             u = t;
-            in_u = inr (in_head t rows);
+            in_u = inr (Contains-here t rows);
             zero = tz;
             under = follows (dot t x) (dot t r) (dot l.u x) (dot l.u r) (dot s x) (dot s r) up (omega (arith, ints, tr)) (omega (arith, ints, g)) k l.under;
             least = λ h c hz. elim (in_cons t rows h c) [

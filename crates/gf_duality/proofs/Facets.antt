@@ -5,10 +5,11 @@ use Rattle.std.proofs.lemmas.List.Elements.{All-contains}
 use Rattle.gf_int.specs.Content.{AllZero, IsPrimitive, scaled}
 use Rattle.gf_int.proofs.RingLaws.{same, dv, dn, dneg, ◌⊗◌, ◌⊕◌}
 use Rattle.gf_int.proofs.SignLaws.{sign_of, negative, none, positive}
+use Rattle.gf_int.proofs.ListLaws.{Contains-here}
 use Rattle.gf_vec.specs.Vector.{dot, vector_sum, zeros}
 use Rattle.gf_duality.specs.Generators.{Made, AreValid}
 use Rattle.gf_duality.specs.Faces.{IsInCone, IsFacetRow, sum_of, IsWitness, IsOfFullDimension, cone_of}
-use Rattle.gf_duality.proofs.ListLaws.{none_in, in_head, in_cons}
+use Rattle.gf_duality.proofs.ListLaws.{none_in, in_cons}
 use Rattle.gf_vec.proofs.DotLaws.{own_zero, own_not_negative}
 use Rattle.gf_vec.proofs.VectorIdentities.{vv, vz, ◌⊞◌, ◌⊡◌, by, vsame}
 use Rattle.gf_duality.proofs.Made.{Made-dot_zero}
@@ -68,7 +69,7 @@ facet_witness n rows lin rays w t p f c =
       flat = λ h x k i. elim (in_cons t [] h k) [ inl e ↦ subst (λ (q : List ℤ). dot q x ≡ pos 0) (sym e) (flat_t x i) | inr j ↦ absurd (none_in h j) ];
     } in
     let of_part : (y : List ℤ) → length y ≡ n → IsInCone (cone_of rows) y → dot t y ≡ pos 0 → Made n part lin y = λ y ly iy zy.
-    face_made n (t ∷ []) rays part lin v y one (λ x k z. p.all x k (z t (in_head t []) tv)) (made_in n rows lin rays y d ly iy)
+    face_made n (t ∷ []) rays part lin v y one (λ x k z. p.all x k (z t (Contains-here t []) tv)) (made_in n rows lin rays y d ly iy)
     (λ h k z. elim (in_cons t [] h k) [ inl e ↦ ap (λ (q : List ℤ). dot q y) e ∙ zy | inr j ↦ absurd (none_in h j) ]) in
     let back : (h y : List ℤ) → Contains rows h → dot h v ≡ pos 0 → length y ≡ n → IsInCone (cone_of rows) y → dot h y ≡ pos 0 → dot t y ≡ pos 0 = λ h y k z ly iy zy.
     c.greatest h w k f.width (full_in n rows lin rays w f) (f.inside h k)

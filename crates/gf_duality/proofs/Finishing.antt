@@ -1,5 +1,5 @@
 -- From the state after all inequalities to what the rays of a cone are.
-use Rattle.gf_duality.proofs.ListLaws.{none_in, of_rest, all_by}
+use Rattle.gf_duality.proofs.ListLaws.{none_in, of_rest}
 use Rattle.gf_duality.specs.Generators.{IsDescribed, Made, nothing, ray, line, summed, multiplied, divided, AreValid}
 use Rattle.std.proofs.Common.{◌≡◌, ◌≢◌, ℕ, ◌<◌, List, [], length, ℤ, pos, ◌+ℤ◌, ◌*ℤ◌, ◌<ℤ◌, ◌≤ℤ◌, arith, sym, ap, ◌∙◌, subst, Contains, remove, get_or, All, AllPairs}
 use Rattle.std.specs.Ordering.{int_cmp}
@@ -15,6 +15,7 @@ use Rattle.gf_vec.proofs.DotLaws.{dot-plus_right, dot-times_right}
 use Rattle.gf_duality.specs.Rays.{IsEchelon, IsRays}
 use Rattle.gf_vec.proofs.VectorIdentities.{vv, vz, ◌⊡◌, vsame}
 use Rattle.gf_int.proofs.SignLaws.{sign_of, negative, none, positive, zero-cancel}
+use Rattle.gf_int.proofs.ListLaws.{all_by}
 use Rattle.gf_duality.proofs.Made.{Made-length, Made-into, Made-dot, Made-dot_zero, span-times, span-made}
 use Rattle.gf_duality.proofs.Taking.{IsFlat, ZeroWhere}
 use Rattle.gf_duality.proofs.Described.{minimal}

@@ -1,5 +1,5 @@
 -- What is made, as a combination with multipliers, and back.
-use Rattle.gf_duality.proofs.ListLaws.{in_head, in_tail}
+use Rattle.gf_duality.proofs.ListLaws.{in_tail}
 use Rattle.gf_duality.specs.Generators.{Made, nothing, ray, line, summed, multiplied, divided}
 use Rattle.std.proofs.Common.{◌≡◌, ℕ, zero, suc, ◌<◌, List, [], ◌∷◌, length, ℤ, pos, ◌+ℤ◌, ◌*ℤ◌, ◌<ℤ◌, ◌≤ℤ◌, arith, sym, refl, ap, ◌∙◌, Contains, slice_index_or}
 use Rattle.std.specs.List.{AllByRecursion}
@@ -9,6 +9,7 @@ use Rattle.gf_int.specs.Content.{scaled}
 use Rattle.gf_vec.specs.Vector.{dot, vector_sum, zeros, combined, values}
 use Rattle.gf_int.proofs.RingLaws.{dv, dn, ◌⊗◌}
 use Rattle.gf_int.proofs.SignLaws.{0<-*ℤ}
+use Rattle.gf_int.proofs.ListLaws.{Contains-here}
 use Rattle.gf_vec.proofs.VectorLaws.{dot-zeros, dot-combined, length-combined, length-zeros, length-times}
 use Rattle.gf_gordan.specs.Alternative.{AreRows}
 use Rattle.gf_duality.specs.Rays.{Generated}
@@ -150,13 +151,13 @@ rays_made : (n : ℕ) (rays lin rows : List (List ℤ)) (ms : List ℤ) → Have
 rays_made n rays lin rows [] w s a = nothing n rays lin
 rays_made n rays lin [] (m ∷ ms) w s a = nothing n rays lin
 rays_made n rays lin (t ∷ ts) (m ∷ ms) w s a =
-    summed n rays lin (scaled m t) (combined n ms ts) _ refl (multiplied n rays lin m t _ a.0 refl (ray n rays lin t w.0 (s t (in_head t ts)))) (rays_made n rays lin ts ms w.1 (λ x c. s x (in_tail t ts x c)) a.1)
+    summed n rays lin (scaled m t) (combined n ms ts) _ refl (multiplied n rays lin m t _ a.0 refl (ray n rays lin t w.0 (s t (Contains-here t ts)))) (rays_made n rays lin ts ms w.1 (λ x c. s x (in_tail t ts x c)) a.1)
 
 lines_made : (n : ℕ) (rays lin rows : List (List ℤ)) (ms : List ℤ) → HaveWidth n rows → ((x : List ℤ) → Contains rows x → Contains lin x) → Made n rays lin (combined n ms rows)
 lines_made n rays lin rows [] w s = nothing n rays lin
 lines_made n rays lin [] (m ∷ ms) w s = nothing n rays lin
 lines_made n rays lin (t ∷ ts) (m ∷ ms) w s =
-    summed n rays lin (scaled m t) (combined n ms ts) _ refl (line n rays lin m t _ w.0 (s t (in_head t ts)) refl) (lines_made n rays lin ts ms w.1 (λ x c. s x (in_tail t ts x c)))
+    summed n rays lin (scaled m t) (combined n ms ts) _ refl (line n rays lin m t _ w.0 (s t (Contains-here t ts)) refl) (lines_made n rays lin ts ms w.1 (λ x c. s x (in_tail t ts x c)))
 
 pub generated-made : (n : ℕ) (rays lin : List (List ℤ)) (v : List ℤ) → AreRows n rays → AreRows n lin → Generated n rays lin v → Made n rays lin v
 generated-made n rays lin v wr wl g =

@@ -1,13 +1,14 @@
 -- Rows that are zero on the whole cone, and an echelon basis of their span.
 use Rattle.std.proofs.Common.{◌≡◌, ℕ, zero, suc, ◌<◌, ◌≤◌, List, [], length, ℤ, pos, ◌≤ℤ◌, arith, refl, Contains, ◌⊎◌, get_or}
 use Rattle.std.proofs.lemmas.List.Elements.{All-contains}
+use Rattle.gf_int.proofs.ListLaws.{all_by}
 use Rattle.gf_vec.specs.Vector.{dot}
 use Rattle.gf_gordan.specs.Alternative.{AreRows}
 use Rattle.gf_gordan.specs.Elimination.{IsPivot}
 use Rattle.gf_duality.specs.Generators.{IsDescribed}
 use Rattle.gf_duality.specs.Rays.{IsEchelon, IsZeroOn, IsImplied, Satisfies}
 use Rattle.gf_duality.specs.Elimination.{IsEchelonBasis}
-use Rattle.gf_duality.proofs.ListLaws.{none_in, all_by}
+use Rattle.gf_duality.proofs.ListLaws.{none_in}
 use Rattle.gf_duality.proofs.Made.{Made-dot_zero, Made-into, span-times}
 use Rattle.gf_duality.proofs.Generated.{made-generated, generated-made}
 use Rattle.gf_duality.proofs.Echelon.{SameSpan, basis_echelon, basis_span}

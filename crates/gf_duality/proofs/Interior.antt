@@ -3,11 +3,12 @@ use Rattle.std.proofs.Common.{◌≡◌, ℕ, List, [], ◌∷◌, length, ℤ, 
 use Rattle.std.proofs.lemmas.Int.{ints}
 use Rattle.std.proofs.lemmas.List.Elements.{All-contains}
 use Rattle.gf_int.proofs.SignLaws.{sign_of, negative, none, positive}
+use Rattle.gf_int.proofs.ListLaws.{Contains-here, all_by}
 use Rattle.gf_vec.specs.Vector.{dot}
 use Rattle.gf_duality.specs.Generators.{IsDescribed}
 use Rattle.gf_duality.specs.Rays.{Satisfies, IsRays}
 use Rattle.gf_duality.specs.Faces.{Rows, IsInCone, IsInterior, sum_of}
-use Rattle.gf_duality.proofs.ListLaws.{none_in, in_head, in_tail, in_cons, all_by}
+use Rattle.gf_duality.proofs.ListLaws.{none_in, in_tail, in_cons}
 use Rattle.gf_duality.proofs.Made.{Made-dot, Made-dot_zero}
 use Rattle.gf_duality.proofs.RaySums.{sum_made, sum_long, sum_zero}
 use Rattle.gf_duality.proofs.Determined.{described_of}
@@ -16,8 +17,8 @@ use Rattle.gf_duality.proofs.Determined.{described_of}
 pub some_above : (xs : List (List ℤ)) (h : List ℤ) → ((x : List ℤ) → Contains xs x → pos 0 ≤ℤ dot h x) → ((x : List ℤ) × (Contains xs x × (pos 0 <ℤ dot h x))) ⊎ ((x : List ℤ) → Contains xs x → dot h x ≡ pos 0)
 some_above [] h f = inr (λ x c. absurd (none_in x c))
 some_above (t ∷ xs) h f = elim (sign_of (dot h t)) [
-  | negative g ↦ let k : pos 0 ≤ℤ dot h t = f t (in_head t xs) in absurd (omega (arith, ints))
-  | positive g ↦ inl (t, (in_head t xs, g))
+  | negative g ↦ let k : pos 0 ≤ℤ dot h t = f t (Contains-here t xs) in absurd (omega (arith, ints))
+  | positive g ↦ inl (t, (Contains-here t xs, g))
   | none g ↦ elim (some_above xs h (λ x c. f x (in_tail t xs x c))) [
     | inl r ↦ inl (r.0, (in_tail t xs r.0 r.1.0, r.1.1))
     | inr z ↦ inr (λ x c. elim (in_cons t xs x c) [ inl e ↦ subst (λ (k : List ℤ). dot h k ≡ pos 0) (sym e) g | inr d ↦ z x d ])

@@ -1,5 +1,5 @@
 -- Orthogonal lineality vectors, and rays brought to be orthogonal to them.
-use Rattle.gf_duality.proofs.ListLaws.{none_in, in_head, in_tail, in_cons, in_more}
+use Rattle.gf_duality.proofs.ListLaws.{none_in, in_tail, in_cons, in_more}
 use Rattle.gf_duality.specs.Straightening.{IsStraightened, done, next, IsOrthogonalized, start, added, gone}
 use Rattle.gf_duality.specs.Generators.{Made, nothing, ray, line, summed, multiplied, divided, IsDescribed}
 use Rattle.std.proofs.Common.{◌≡◌, ℕ, List, [], ◌∷◌, ◌++◌, length, ℤ, pos, ◌+ℤ◌, ◌*ℤ◌, neg_ℤ, ◌<ℤ◌, ◌≤ℤ◌, arith, sym, refl, ap, ◌∙◌, subst, Contains, inl, inr}
@@ -9,6 +9,7 @@ use Rattle.gf_int.specs.Content.{scaled}
 use Rattle.gf_vec.specs.Vector.{dot, vector_sum, zeros}
 use Rattle.gf_int.proofs.RingLaws.{same, dv, dn, dneg, ◌⊕◌, ◌⊗◌}
 use Rattle.gf_int.proofs.SignLaws.{0≤-*ℤ, 0<-*ℤ, 0≤-cancel, 0<-cancel, zero-cancel}
+use Rattle.gf_int.proofs.ListLaws.{Contains-here}
 use Rattle.gf_vec.proofs.DotLaws.{own_zero, dot-times_right}
 use Rattle.gf_vec.proofs.VectorIdentities.{vv, vz, ◌⊞◌, ◌⊡◌, by, vsame}
 use Rattle.gf_duality.proofs.Made.{Made-length, Made-into, Made-dot_zero, span-times, span-made}
@@ -34,7 +35,7 @@ tail_base : (n : ℕ) (y : List ℤ) (ys whole : List (List ℤ)) → whole ≡ 
 tail_base n y ys whole e b = record { width = λ z c. b.width z (subst (λ t. Contains t z) (sym e) (in_tail y ys z c)); positive = λ z c. b.positive z (subst (λ t. Contains t z) (sym e) (in_tail y ys z c)) }
 
 pub head_in : (y : List ℤ) (ys whole : List (List ℤ)) → whole ≡ y ∷ ys → Contains whole y
-head_in y ys whole e = subst (λ t. Contains t y) (sym e) (in_head y ys)
+head_in y ys whole e = subst (λ t. Contains t y) (sym e) (Contains-here y ys)
 
 span_tail : (n : ℕ) (y : List ℤ) (ys whole : List (List ℤ)) (v : List ℤ) → whole ≡ y ∷ ys → Made n [] ys v → Made n [] whole v
 span_tail n y ys whole v e m = Made-into n [] ys [] whole v (λ z l c. absurd (none_in z c)) (λ a z l c. line n [] whole a z _ l (subst (λ t. Contains t z) (sym e) (in_tail y ys z c)) refl) m
@@ -91,7 +92,7 @@ straight_zero n ys x w y b o lx (next h rest v z u whole e f g) c =
 
 orthogonal_more : (ys : List (List ℤ)) (w : List ℤ) → IsOrthogonal ys → ((y : List ℤ) → Contains ys y → dot y w ≡ pos 0) → IsOrthogonal (ys ++ w ∷ [])
 orthogonal_more [] w o f = (λ z c. absurd (none_in z c), tt)
-orthogonal_more (y ∷ ys) w o f = (in_more (λ z. dot y z ≡ pos 0) ys w o.0 (f y (in_head y ys)), orthogonal_more ys w o.1 (λ z c. f z (in_tail y ys z c)))
+orthogonal_more (y ∷ ys) w o f = (in_more (λ z. dot y z ≡ pos 0) ys w o.0 (f y (Contains-here y ys)), orthogonal_more ys w o.1 (λ z c. f z (in_tail y ys z c)))
 
 pub record Basis (n : ℕ) (lin out : List (List ℤ)) : Type 0 where
   pub base : AreBase n out

@@ -3,11 +3,12 @@ use Rattle.std.proofs.Common.{◌≡◌, ℕ, List, [], ◌∷◌, length, ℤ, 
 use Rattle.std.proofs.lemmas.Int.{ints}
 use Rattle.std.proofs.lemmas.List.Elements.{All-contains}
 use Rattle.gf_int.proofs.SignLaws.{sign_of, negative, none, positive, not_negative}
+use Rattle.gf_int.proofs.ListLaws.{Contains-here}
 use Rattle.gf_vec.specs.Vector.{dot}
 use Rattle.gf_duality.specs.Generators.{Made, IsDescribed, AreValid}
 use Rattle.gf_duality.specs.Rays.{IsRays, Satisfies}
 use Rattle.gf_duality.specs.Faces.{IsInCone, sum_of, IsWitness, cone_of}
-use Rattle.gf_duality.proofs.ListLaws.{none_in, in_head, in_cons}
+use Rattle.gf_duality.proofs.ListLaws.{none_in, in_cons}
 use Rattle.gf_duality.proofs.Made.{Made-dot, Made-dot_zero}
 use Rattle.gf_duality.proofs.RaySums.{sum_made, sum_long, sum_zero}
 use Rattle.gf_duality.proofs.Determined.{described_of}
@@ -39,7 +40,7 @@ sum_witness n rows lin rays a v p r ca s =
     } in
     let v_in : IsInCone (cone_of rows) v = in_cone rows v (λ h k. elim (s.others h k) [ inl e ↦ let z : dot h v ≡ pos 0 = ap (λ (q : List ℤ). dot q v) e ∙ s.zero in omega (arith, ints, z) | inr g ↦ not_negative (dot h v) g ]) in
     let zero : dot a t ≡ pos 0 = Made-dot_zero n part [] a t (λ x k. (p.of_part x k).1) (λ x k. absurd (none_in x k)) m in
-    let of_part : Made n part lin v = face_made n (a ∷ []) rays part lin t v one (λ x k z. p.all x k (z a (in_head a []) zero)) (made_in n rows lin rays v d s.width v_in)
+    let of_part : Made n part lin v = face_made n (a ∷ []) rays part lin t v one (λ x k z. p.all x k (z a (Contains-here a []) zero)) (made_in n rows lin rays v d s.width v_in)
     (λ h k z. elim (in_cons a [] h k) [ inl e ↦ ap (λ (q : List ℤ). dot q v) e ∙ s.zero | inr j ↦ absurd (none_in h j) ]) in
     record {
       width = sum_long n part wp;
@@ -65,4 +66,4 @@ within_zero n hs es lin rays s t y d cs ct f ly iy z =
       flat = λ h x k i. elim (in_cons s [] h k) [ inl e ↦ subst (λ (q : List ℤ). dot q x ≡ pos 0) (sym e) (d.valid.flat s x cs i) | inr j ↦ absurd (none_in h j) ];
     } in
     let m : Made n rays lin y = d.complete y ly (λ h c. All-contains (λ k. pos 0 ≤ℤ dot k y) hs h iy.not_negative c) (λ e c. All-contains (λ k. dot k y ≡ pos 0) es e iy.zero c) in
-    Made-dot_zero n p.part lin t y (λ x k. let q = p.of_part x k in f x q.0 q.1) (λ x i. d.valid.flat t x ct i) (face_made n (s ∷ []) rays p.part lin y y one (λ x k g. p.all x k (g s (in_head s []) z)) m (λ h k g. g))
+    Made-dot_zero n p.part lin t y (λ x k. let q = p.of_part x k in f x q.0 q.1) (λ x i. d.valid.flat t x ct i) (face_made n (s ∷ []) rays p.part lin y y one (λ x k g. p.all x k (g s (Contains-here s []) z)) m (λ h k g. g))

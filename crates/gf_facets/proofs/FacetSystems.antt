@@ -13,12 +13,12 @@ use Rattle.std.proofs.lemmas.List.Elements.{All-nil, All-cons, All-contains, rec
 use Rattle.gf_int.specs.Content.{scaled}
 use Rattle.gf_int.proofs.RingLaws.{dv, dneg, ◌⊗◌, same as same_number}
 use Rattle.gf_int.proofs.SignLaws.{0≤-*ℤ, 0<-*ℤ, <0-cancel, zero_of_*ℤ}
+use Rattle.gf_int.proofs.ListLaws.{Contains-here, all_by}
 use Rattle.gf_vec.specs.Vector.{dot, vector_sum, zeros, combined, values}
 use Rattle.gf_vec.proofs.VectorLaws.{dot-plus, dot-times, dot-zeros, dot-combined, dot-not_negative, dot-positive, length-times, length-combined, plus-zeros}
 use Rattle.gf_gordan.specs.Alternative.{AreRows, IsSolution, IsSolvable, IsFarkas, IsRefutable}
 use Rattle.gf_gordan.proofs.ExistenceLaws.{alternative}
 use Rattle.gf_poly.specs.Marking.{MarkedPolynomial}
-use Rattle.gf_ideal.proofs.ListLaws.{Contains-here}
 use Rattle.gf_facets.specs.Rows.{IsNormal}
 use Rattle.gf_facets.specs.Systems.{units}
 use Rattle.gf_facets.specs.Normals.{AreNormals, others_of, flip_rows}
@@ -29,7 +29,7 @@ use Rattle.gf_facets.specs.MarkedBases.{AreCanonical}
 use Rattle.gf_facets.proofs.NormalLaws.{normal-length}
 use Rattle.gf_facets.proofs.NormalListLaws.{NormalsListed, normals_listed, OthersListed, others_listed, others_only, others_all}
 use Rattle.gf_facets.proofs.ConeLaws.{normals_open}
-use Rattle.gf_facets.proofs.SystemLaws.{contained_all, region_rows_wide, rows_of_region, region_of_rows}
+use Rattle.gf_facets.proofs.SystemLaws.{region_rows_wide, rows_of_region, region_of_rows}
 
 -- ---- the system of a normal
 
@@ -75,13 +75,13 @@ one_row P a h = All-cons P a [] h (All-nil P)
 
 rows_by : (P : List ℤ → Type 0) (bs : List MarkedPolynomial) (a : List ℤ) (beside rows : List (List ℤ)) → IsFacetSystem bs a beside rows →
     ((b : List ℤ) → IsNormal bs b → (b ≡ a → ⊥) → P b) → ((t : List ℤ) → Contains beside t → P t) → All P rows
-rows_by P bs a beside rows s f g = contained_all P rows (λ t c. elim (s.only t c) [ inl h ↦ f t h.0 h.1 | inr h ↦ g t h ])
+rows_by P bs a beside rows s f g = all_by P rows (λ t c. elim (s.only t c) [ inl h ↦ f t h.0 h.1 | inr h ↦ g t h ])
 
 pub point_of_solution : (n : ℕ) (bs : List MarkedPolynomial) (a v : List ℤ) (beside rows : List (List ℤ)) → IsFacetSystem bs a beside rows →
     IsNormal bs a → IsSolution n rows (a ∷ []) v → IsInsideFacet bs a v × All (λ t. pos 0 <ℤ dot t v) beside
 point_of_solution n bs a v beside rows s q h = (
   record { normal = q; zero = All-contains (λ t. dot t v ≡ pos 0) (a ∷ []) a h.zero (Contains-here a []); positive = λ b i o. row b (s.normals b i o) },
-  contained_all (λ t. pos 0 <ℤ dot t v) beside (λ t c. row t (s.others t c)),
+  all_by (λ t. pos 0 <ℤ dot t v) beside (λ t c. row t (s.others t c)),
 )
   where
     row : (t : List ℤ) → Contains rows t → pos 0 <ℤ dot t v

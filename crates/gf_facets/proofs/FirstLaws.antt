@@ -4,10 +4,11 @@
 use Rattle.std.proofs.Common.{◌≡◌, ◌⊎◌, ℕ, suc, List, [], ◌∷◌, ◌++◌, length, Contains, All, ℤ, pos, ◌<ℤ◌, arith, sym, ◌∙◌, subst, inl, inr}
 use Rattle.std.proofs.lemmas.List.Elements.{All-from_recursion, All-append, All-contains, Contains-append_left, Contains-append_right}
 use Rattle.gf_int.specs.Content.{scaled}
+use Rattle.gf_int.proofs.ListLaws.{Contains-here, all_by}
 use Rattle.gf_poly.specs.Marking.{MarkedPolynomial}
 use Rattle.gf_vec.specs.Vector.{dot, zeros}
 use Rattle.gf_gordan.specs.Alternative.{AreRows, IsSolvable}
-use Rattle.gf_ideal.proofs.ListLaws.{Contains-here, Contains-there, Contains-cases}
+use Rattle.gf_ideal.proofs.ListLaws.{Contains-there, Contains-cases}
 use Rattle.gf_facets.specs.Rows.{IsNormal}
 use Rattle.gf_facets.specs.Systems.{units}
 use Rattle.gf_facets.specs.LexPositive.{IsLexPositive, IsNegative}
@@ -19,7 +20,7 @@ use Rattle.gf_facets.proofs.PrimitiveLaws.{not_all_zero}
 use Rattle.gf_facets.proofs.NormalLaws.{normal-length, normal-primitive, normal-nonzero}
 use Rattle.gf_facets.proofs.NormalListLaws.{NormalsListed, normals_listed}
 use Rattle.gf_facets.proofs.ConeLaws.{normals_open}
-use Rattle.gf_facets.proofs.SystemLaws.{contained_all, region_rows_wide, rows_of_region, region_of_rows}
+use Rattle.gf_facets.proofs.SystemLaws.{region_rows_wide, rows_of_region, region_of_rows}
 use Rattle.gf_facets.proofs.PointsByLex.{solvable_by_lex}
 use Rattle.gf_facets.proofs.TurningLaws.{turned, turned-linear, turned-self, turned_cases, turned_trans, turned_negative, turned_far, turned_beyond}
 
@@ -131,12 +132,12 @@ crossed_first n bs w r b rows k o wide here there q neg = at (normals_listed bs)
         ]
 
         widths : AreRows n (f.others ++ rows)
-        widths = All-append (λ t. length t ≡ n) f.others rows (contained_all (λ t. length t ≡ n) f.others (λ c i. (f.later c i).0.width)) wide
+        widths = All-append (λ t. length t ≡ n) f.others rows (all_by (λ t. length t ≡ n) f.others (λ c i. (f.later c i).0.width)) wide
 
         later : All (λ t. IsLexPositive (turned w r f.first t)) (f.others ++ rows)
         later = All-append (λ t. IsLexPositive (turned w r f.first t)) f.others rows
-            (contained_all (λ t. IsLexPositive (turned w r f.first t)) f.others (λ c i. (f.later c i).1))
-            (contained_all (λ t. IsLexPositive (turned w r f.first t)) rows (λ c i. turned_beyond w r f.first c f.plain.positive (All-contains (λ t. pos 0 <ℤ dot t w) rows c here i) (All-contains (λ t. pos 0 <ℤ dot t r) rows c there i) negative))
+            (all_by (λ t. IsLexPositive (turned w r f.first t)) f.others (λ c i. (f.later c i).1))
+            (all_by (λ t. IsLexPositive (turned w r f.first t)) rows (λ c i. turned_beyond w r f.first c f.plain.positive (All-contains (λ t. pos 0 <ℤ dot t w) rows c here i) (All-contains (λ t. pos 0 <ℤ dot t r) rows c there i) negative))
 
         found : IsSolvable n (f.others ++ rows) (f.first ∷ []) → CrossedFirst n bs r rows b
         found s = record {
@@ -150,7 +151,7 @@ crossed_first n bs w r b rows k o wide here there q neg = at (normals_listed bs)
             zero = All-contains (λ t. dot t s.0 ≡ pos 0) (f.first ∷ []) f.first s.1.zero (Contains-here f.first []);
             positive = λ c h other. elim (f.covers c (all c h)) [ inl e ↦ absurd (other (sym e)) | inr i ↦ All-contains (λ t. pos 0 <ℤ dot t s.0) (f.others ++ rows) c s.1.positive (Contains-append_left f.others rows c i) ];
           };
-          rows_positive = contained_all (λ t. pos 0 <ℤ dot t s.0) rows (λ c i. All-contains (λ t. pos 0 <ℤ dot t s.0) (f.others ++ rows) c s.1.positive (Contains-append_right f.others rows c i));
+          rows_positive = all_by (λ t. pos 0 <ℤ dot t s.0) rows (λ c i. All-contains (λ t. pos 0 <ℤ dot t s.0) (f.others ++ rows) c s.1.positive (Contains-append_right f.others rows c i));
         }
 
     at : NormalsListed bs → CrossedFirst n bs r rows b

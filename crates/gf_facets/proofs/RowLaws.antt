@@ -5,6 +5,7 @@ use Rattle.std.proofs.Common.{◌≡◌, ◌⊎◌, ℕ, zero, suc, true, false,
 use Rattle.std.proofs.lemmas.Int.{ints}
 use Rattle.std.proofs.lemmas.List.Elements.{Contains-append_left, Contains-append_right, Contains-append_cases}
 use Rattle.gf_int.proofs.RingLaws.{dv, ◌⊕◌, ◌⊖◌, ◌⊗◌, same as same_number}
+use Rattle.gf_int.proofs.ListLaws.{Contains-here}
 use Rattle.gf_vec.specs.Vector.{dot}
 use Rattle.gf_exponents.specs.Exponents.{Exponents, entry, same, whole_weight}
 use Rattle.gf_exponents.proofs.OrderLaws.{lex-total}
@@ -13,7 +14,7 @@ use Rattle.gf_poly.specs.Polynomial.{Terms}
 use Rattle.gf_poly.specs.Marking.{MarkedPolynomial}
 use Rattle.gf_ideal.specs.Membership.{HasMonomial}
 use Rattle.gf_ideal.specs.Bases.{IsCanonical}
-use Rattle.gf_ideal.proofs.ListLaws.{Contains-here, Contains-there, Contains-cases, each_contained}
+use Rattle.gf_ideal.proofs.ListLaws.{Contains-there, Contains-cases, each_contained}
 use Rattle.gf_ideal.proofs.ListedTerms.{listed}
 use Rattle.gf_ideal.proofs.KeptForms.{term_there}
 use Rattle.gf_facets.specs.Rows.{differences, row_between, rows_of_terms, rows_of_polynomials}

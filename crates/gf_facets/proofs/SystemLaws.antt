@@ -1,8 +1,9 @@
 -- The system of a marked list: its solutions are the vectors of the open cone that are positive, and these are the positive
 -- weights that give the marks. So whether a region has such a vector is decided.
--- To cite: contained_all, region_rows_wide, rows_of_region, region_of_rows, all_positive-region, system_wide, solution_of_inside, inside_of_solution, HasVector, vector_or_none,
--- marks_of_open, open_of_marks, whole_of, length-whole, whole-in_region, whole-weight, open_of_weight, positive_or_none,
--- canonical_all, solvable_of_realisable, realisable_of_solution, marked_system_wide.
+-- To cite: region_rows_wide, rows_of_region, region_of_rows, all_positive-region, system_wide, solution_of_inside,
+-- inside_of_solution, HasVector, vector_or_none, marks_of_open, open_of_marks, whole_of, length-whole, whole-in_region,
+-- whole-weight, open_of_weight, positive_or_none, canonical_all, solvable_of_realisable, realisable_of_solution,
+-- marked_system_wide.
 use Rattle.std.proofs.Common.{◌≡◌, ◌⊎◌, ℕ, zero, suc, ◌<◌, true, List, [], ◌∷◌, ◌++◌, length, get_or, replicate, Contains, All, ℤ, pos, ◌<ℤ◌, arith, refl, sym, ap, ◌∙◌, inl, inr}
 use Rattle.std.proofs.lemmas.Int.{ints}
 use Rattle.std.proofs.lemmas.List.{get_or_default}
@@ -15,6 +16,7 @@ use Rattle.gf_exponents.specs.Exponents.{Exponents, entry, same, weight, whole_w
 use Rattle.gf_exponents.specs.Orders.{lighter, gains}
 use Rattle.gf_exponents.proofs.ExponentsLaws.{same_by_entries}
 use Rattle.gf_exponents.proofs.WeightLaws.{weight-nil, weight-same}
+use Rattle.gf_int.proofs.ListLaws.{all_by}
 use Rattle.gf_poly.specs.Polynomial.{coefficient, HasVariables}
 use Rattle.gf_poly.specs.Marking.{MarkedPolynomial, Each, HaveVariables, HasMarkedTerm}
 use Rattle.gf_ideal.specs.Membership.{HasMonomial}
@@ -34,27 +36,21 @@ use Rattle.gf_facets.proofs.UnitLaws.{units_wide, units_on_positive, positive_by
 use Rattle.gf_poly.proofs.CoefficientLaws.{term_length}
 use Rattle.gf_facets.proofs.RegionLaws.{region-positive, region-weight}
 
--- ---- lists
-
--- what holds of each that is contained holds of all
-pub contained_all : {X : Type 0} (P : X → Type 0) (xs : List X) → ((x : X) → Contains xs x → P x) → All P xs
-contained_all P xs h k d l = h (get_or xs k d) (k, l, get_or_default xs k _ d l)
-
 -- ---- the rows of a region, and the unit vectors
 
 pub region_rows_wide : (n : ℕ) (k : Region) → AreRows n k.rows → AreRows n (k.rows ++ units n n)
-region_rows_wide n k wide = All-append (λ t. length t ≡ n) k.rows (units n n) wide (contained_all (λ t. length t ≡ n) (units n n) (units_wide n n))
+region_rows_wide n k wide = All-append (λ t. length t ≡ n) k.rows (units n n) wide (all_by (λ t. length t ≡ n) (units n n) (units_wide n n))
 
 -- they are positive on the vectors of the region
 pub rows_of_region : (n : ℕ) (k : Region) (v : List ℤ) → IsInRegion n k v → All (λ t. pos 0 <ℤ dot t v) (k.rows ++ units n n)
-rows_of_region n k v r = All-append (λ t. pos 0 <ℤ dot t v) k.rows (units n n) r.rows (contained_all (λ t. pos 0 <ℤ dot t v) (units n n) (units_on_positive n v r.width r.positive))
+rows_of_region n k v r = All-append (λ t. pos 0 <ℤ dot t v) k.rows (units n n) r.rows (all_by (λ t. pos 0 <ℤ dot t v) (units n n) (units_on_positive n v r.width r.positive))
 
 -- and on no others
 pub region_of_rows : (n : ℕ) (k : Region) (v : List ℤ) → length v ≡ n → All (λ t. pos 0 <ℤ dot t v) (k.rows ++ units n n) → IsInRegion n k v
 region_of_rows n k v e h = record {
   width = e;
   positive = positive_by_units n v e (λ t c. All-contains (λ t. pos 0 <ℤ dot t v) (k.rows ++ units n n) t h (Contains-append_right k.rows (units n n) t c));
-  rows = contained_all (λ t. pos 0 <ℤ dot t v) k.rows (λ t c. All-contains (λ t. pos 0 <ℤ dot t v) (k.rows ++ units n n) t h (Contains-append_left k.rows (units n n) t c));
+  rows = all_by (λ t. pos 0 <ℤ dot t v) k.rows (λ t c. All-contains (λ t. pos 0 <ℤ dot t v) (k.rows ++ units n n) t h (Contains-append_left k.rows (units n n) t c));
 }
 
 -- all positive vectors are a region
@@ -81,7 +77,7 @@ row_wide n bs k t c = at (row-from bs t c)
 
 by_row : (P : List ℤ → Type 0) (n : ℕ) (rows : List (List ℤ)) (bs : List MarkedPolynomial) → ((t : List ℤ) → Contains rows t → P t) →
     ((t : List ℤ) → Contains (rows_of_polynomials bs) t → P t) → ((t : List ℤ) → Contains (units n n) t → P t) → All P (rows ++ system_of n bs)
-by_row P n rows bs f g h = contained_all P (rows ++ system_of n bs) (λ t c. first t (Contains-append_cases rows (system_of n bs) t c))
+by_row P n rows bs f g h = all_by P (rows ++ system_of n bs) (λ t c. first t (Contains-append_cases rows (system_of n bs) t c))
   where
     second : (t : List ℤ) → Contains (rows_of_polynomials bs) t ⊎ Contains (units n n) t → P t
     second t (inl c) = g t c
@@ -111,7 +107,7 @@ inside_of_solution n k bs v c s = (
   record {
     width = s.width;
     positive = positive_by_units n v s.width (λ t i. row t (Contains-append_right k.rows (system_of n bs) t (Contains-append_right (rows_of_polynomials bs) (units n n) t i)));
-    rows = contained_all (λ t. pos 0 <ℤ dot t v) k.rows (λ t i. row t (Contains-append_left k.rows (system_of n bs) t i));
+    rows = all_by (λ t. pos 0 <ℤ dot t v) k.rows (λ t i. row t (Contains-append_left k.rows (system_of n bs) t i));
   },
   open_by_rows n bs v c (λ t i. row t (Contains-append_right k.rows (system_of n bs) t (Contains-append_left (rows_of_polynomials bs) (units n n) t i))),
 )

@@ -5,9 +5,10 @@ use Rattle.std.proofs.lemmas.Bool.{cases_lt}
 use Rattle.std.proofs.lemmas.Int.{ints}
 use Rattle.std.proofs.lemmas.List.{get_or_default}
 use Rattle.std.proofs.lemmas.List.Elements.{Contains-append_left, Contains-append_right, Contains-append_cases}
+use Rattle.gf_int.proofs.ListLaws.{Contains-here}
 use Rattle.gf_vec.specs.Vector.{dot}
 use Rattle.gf_vec.proofs.VectorLaws.{dot-zeros, length-zeros}
-use Rattle.gf_ideal.proofs.ListLaws.{Contains-here, Contains-cases}
+use Rattle.gf_ideal.proofs.ListLaws.{Contains-cases}
 use Rattle.gf_facets.specs.Systems.{unit, units}
 
 pub length-unit : (n i : ℕ) → length (unit n i) ≡ n

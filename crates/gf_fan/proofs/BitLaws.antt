@@ -7,9 +7,10 @@ use Rattle.std.proofs.lemmas.Bool.{cases_eq}
 use Rattle.std.proofs.lemmas.Nat.Bits.{bit_at_and, bit_at_or, bit_at_xor, bit_at-lt, bit_at-zero}
 use Rattle.std.proofs.lemmas.List.{get_or_default, take_all, take_more}
 use Rattle.std.proofs.lemmas.List.Elements.{All-append, All-contains, Contains-get_or, Contains-push, Contains-append_left, Contains-append_right}
+use Rattle.gf_int.proofs.ListLaws.{all_by, Contains-last, Contains-here}
 use Rattle.gf_vec.specs.Vector.{dot}
 use Rattle.gf_gordan.specs.Alternative.{AreRows}
-use Rattle.gf_duality.proofs.ListLaws.{all_by, more, first_in, snoc_cases, none_in, in_cons, in_head, in_tail}
+use Rattle.gf_duality.proofs.ListLaws.{more, first_in, none_in, in_cons, in_tail}
 use Rattle.gf_fans.specs.FaceLists.{numbered}
 use Rattle.gf_fans.specs.Separating.{IsNowherePositive, IsCutOff, AreSeparating, AreSettled}
 use Rattle.gf_fans.proofs.PartNumbers.{of_map, in_map}
@@ -48,7 +49,7 @@ own_more numbers i x y old new h e ey set others s j =
       | inl q ↦ (λ _. subst (Contains (take i numbers ++ x ∷ [])) (sym (q ∙ ey)) (Contains-push (take i numbers) x), λ _. ap (bit_at new) q ∙ set)
       | inr n ↦ (
         λ t. first_in (take i numbers) x j ((s j).0 (sym (others j n) ∙ t)),
-        λ c. others j n ∙ (s j).1 (elim (snoc_cases (take i numbers) x j c) [ inl d ↦ d | inr q ↦ absurd (n (q ∙ sym ey)) ]),
+        λ c. others j n ∙ (s j).1 (elim (Contains-last (take i numbers) x j c) [ inl d ↦ d | inr q ↦ absurd (n (q ∙ sym ey)) ]),
       )
     ])
 
@@ -155,7 +156,7 @@ cut_wider : (rows wide : List (List ℤ)) → ((t : List ℤ) → Contains rows 
 cut_wider rows wide f v (i, t, l, e, n) = let c = f t (i, l, e) in (c.0, t, c.1, c.2, n)
 
 cut_first : (h v : List ℤ) (rows : List (List ℤ)) → dot h v ≢ pos 0 → IsCutOff (h ∷ rows) v
-cut_first h v rows n = let c = in_head h rows in (c.0, h, c.1, c.2, n)
+cut_first h v rows n = let c = Contains-here h rows in (c.0, h, c.1, c.2, n)
 
 abbrev IsSettledBy : List (List ℤ) → List (List ℤ) → List (List ℤ) → List ℤ → Type 0
 IsSettledBy left right others r = Contains others r ⊎ IsCutOff left r ⊎ IsCutOff right r
@@ -182,7 +183,7 @@ collected : (c d : RowsAndRays) (others rays : List (List ℤ)) → ((r : List �
 collected c d others [] f = record { left = []; right = []; of_left = all_by _ [] (λ t k. absurd (none_in t k)); of_right = all_by _ [] (λ t k. absurd (none_in t k)); settled = all_by _ [] (λ t k. absurd (none_in t k)) }
 collected c d others (r ∷ rays) f =
     let rest = collected c d others rays (λ v k. f v (in_tail r rays v k)) in
-    elim (f r (in_head r rays)) [
+    elim (f r (Contains-here r rays)) [
       | inl o ↦ record { left = rest.left; right = rest.right; of_left = rest.of_left; of_right = rest.of_right; settled = settled_cons rest.left rest.right others rays r (inl o) rest.settled }
       | inr w ↦ elim w [
         | inl x ↦ record {

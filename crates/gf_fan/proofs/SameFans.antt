@@ -5,10 +5,11 @@ use Rattle.std.specs.Cmp.Lexicographic.{slice_cmp}
 use Rattle.std.specs.declared.cmp.Ordering.TheVariants.{Less}
 use Rattle.std.proofs.lemmas.List.{get_or-map, length-map}
 use Rattle.std.proofs.lemmas.List.Elements.{All-contains, Contains-get_or}
+use Rattle.gf_int.proofs.ListLaws.{Contains-here, all_by}
 use Rattle.gf_duality.specs.Generators.{Made}
 use Rattle.gf_duality.specs.Rays.{IsRays}
 use Rattle.gf_duality.specs.Faces.{SameCone}
-use Rattle.gf_duality.proofs.ListLaws.{none_in, in_head, all_by}
+use Rattle.gf_duality.proofs.ListLaws.{none_in}
 use Rattle.gf_duality.proofs.Generated.{made-generated, generated-made}
 use Rattle.gf_duality.proofs.Echelon.{own_member}
 use Rattle.gf_duality.proofs.EchelonUnique.{same_ordered, no_widths, one_basis}
@@ -69,7 +70,7 @@ same_numbered rays xs ys a p q e = same_numbers xs ys p.ascending q.ascending
 
 none_given : {X : Type 0} (xs : List X) → ((x : X) → Contains xs x → ⊥) → xs ≡ []
 none_given [] f = refl
-none_given (x ∷ xs) f = absurd (f x (in_head x xs))
+none_given (x ∷ xs) f = absurd (f x (Contains-here x xs))
 
 -- one basis of what is orthogonal
 one_complement : (n : ℕ) (lin lines xs ys : List (List ℤ)) → lines ≡ lin → IsComplementBasis n lin xs → IsComplementBasis n lines ys → ys ≡ xs
@@ -120,7 +121,7 @@ module _ (n : ℕ) (ps qs : List RowsAndRays) (f g : FanLists) (s : IsFanOf n ps
   same_lineality : AreAmong n f g → AreAmong n g f → (own : f.cones ≡ [] → ps ≡ []) → (ks : List FanCone) → f.cones ≡ ks → f.lineality ≡ g.lineality
   same_lineality w u own [] e = s.lineality.none (own e) ∙ sym (t.lineality.none (none_among u e))
   same_lineality w u own (k ∷ ks) e =
-      let c : Contains f.cones k = subst (λ z. Contains z k) (sym e) (in_head k ks) in
+      let c : Contains f.cones k = subst (λ z. Contains z k) (sym e) (Contains-here k ks) in
       let l = w k c in
       (parts_of k l.0 c l.1.0 l.1.1).0
 

@@ -7,10 +7,11 @@ use Rattle.std.proofs.lemmas.Bool.{cases_eq}
 use Rattle.std.proofs.lemmas.Option.{same_Some}
 use Rattle.std.proofs.lemmas.List.{get_or_default, get_or-map, take_more}
 use Rattle.std.proofs.lemmas.List.Elements.{All-contains, Contains-get_or, Contains-push}
+use Rattle.gf_int.proofs.ListLaws.{Contains-last, all_by}
 use Rattle.gf_duality.specs.Faces.{Rows, SameCone, part}
 use Rattle.gf_duality.specs.Rays.{IsRays}
 use Rattle.gf_duality.proofs.Determined.{rays_determined}
-use Rattle.gf_duality.proofs.ListLaws.{none_in, first_in, snoc_cases, all_by, place, less, at, more}
+use Rattle.gf_duality.proofs.ListLaws.{none_in, first_in, place, less, at, more}
 use Rattle.gf_fans.specs.FaceLists.{IsFaceBy, AreNumbers, numbered}
 use Rattle.gf_fans.proofs.FanLaws.{face_has, part_in, of_part}
 use Rattle.gf_fans.proofs.Ordered.{within_all, same_numbers}
@@ -60,7 +61,7 @@ not_maximal lists tops i t a c d w m =
 -- one list further
 pub none_further : (own : List ℕ) (tops : List (List ℕ)) (k : ℕ) (t : List ℕ) → k < length tops → t ≡ get_or tops k t → ((length t ≡ length own → ⊥) → All (Contains t) own → ⊥) → ((s : List ℕ) → Contains (take k tops) s → (length s ≡ length own → ⊥) → All (Contains s) own → ⊥) →
     (s : List ℕ) → Contains (take (k + 1) tops) s → (length s ≡ length own → ⊥) → All (Contains s) own → ⊥
-none_further own tops k t h e n f s c = elim (snoc_cases (take k tops) t s (subst (λ (z : List (List ℕ)). Contains z s) (take_more tops k t h ∙ ap (λ (z : List ℕ). take k tops ++ z ∷ []) (sym e)) c)) [
+none_further own tops k t h e n f s c = elim (Contains-last (take k tops) t s (subst (λ (z : List (List ℕ)). Contains z s) (take_more tops k t h ∙ ap (λ (z : List ℕ). take k tops ++ z ∷ []) (sym e)) c)) [
   | inl b ↦ f s b
   | inr q ↦ λ d w. n (λ z. d (ap (λ (x : List ℕ). length x) q ∙ z)) (subst (λ (z : List ℕ). All (Contains z) own) q w)
 ]
@@ -69,7 +70,7 @@ none_further own tops k t h e n f s c = elim (snoc_cases (take k tops) t s (subs
 
 pub tops_more : (cones : List RowsAndRays) (rays : List (List ℤ)) (i : ℕ) (c : RowsAndRays) (t : List ℕ) (out new : List (List ℕ)) → i < length cones → c ≡ get_or cones i c → new ≡ out ++ t ∷ [] → IsTop rays c t → AreTopsBefore cones rays i out → AreTopsBefore cones rays (i + 1) new
 tops_more cones rays i c t out new h e en top s = subst (AreTopsBefore cones rays (i + 1)) (sym en) (record {
-  each = λ x k. elim (snoc_cases out t x k) [ inl d ↦ s.each x d | inr q ↦ (c, ((i, h, sym e), subst (IsTop rays c) (sym q) top)) ];
+  each = λ x k. elim (Contains-last out t x k) [ inl d ↦ s.each x d | inr q ↦ (c, ((i, h, sym e), subst (IsTop rays c) (sym q) top)) ];
   every = λ j d hj there. elim (cases_eq j i) [
     | inr n ↦ let w = s.every j d (omega (arith, hj, n)) there in (w.0, (first_in out t w.0 w.1.0, w.1.1))
     | inl q ↦

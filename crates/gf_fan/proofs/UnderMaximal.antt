@@ -7,8 +7,9 @@ use Rattle.std.proofs.lemmas.Bool.{cases_eq}
 use Rattle.std.proofs.lemmas.Cmp.{nat_list_cmp_total, tied_itself}
 use Rattle.std.proofs.lemmas.List.{get_or_default}
 use Rattle.std.proofs.lemmas.List.Elements.{All-contains, Contains-get_or, Contains-append_cases}
+use Rattle.gf_int.proofs.ListLaws.{all_by}
 use Rattle.gf_duality.specs.Faces.{Rows, SameCone, IsFaceOf, part}
-use Rattle.gf_duality.proofs.ListLaws.{all_by, place, less, at, more}
+use Rattle.gf_duality.proofs.ListLaws.{place, less, at, more}
 use Rattle.gf_fans.specs.FaceLists.{numbered}
 use Rattle.gf_fans.specs.Heights.{IsWithinPart}
 use Rattle.gf_fans.specs.Fans.{meet}

@@ -4,6 +4,7 @@ use Rattle.std.proofs.Common.{◌≡◌, ◌⊎◌, ◌↔◌, ℕ, ◌+◌, ◌
 use Rattle.std.proofs.lemmas.Bool.{cases_lt}
 use Rattle.std.proofs.lemmas.List.{get_or_default}
 use Rattle.std.proofs.lemmas.List.Elements.{All-contains}
+use Rattle.gf_int.proofs.ListLaws.{all_by}
 use Rattle.gf_vec.specs.declared.error.WideVector.{WideVector}
 use Rattle.gf_vec.specs.Vector.{dot}
 use Rattle.gf_vec.proofs.VectorLaws.{dot_comm}
@@ -12,7 +13,7 @@ use Rattle.gf_duality.specs.Rays.{IsZeroOn}
 use Rattle.gf_duality.specs.Faces.{IsInterior}
 use Rattle.gf_duality.specs.Generators.{ray}
 use Rattle.gf_duality.proofs.Generated.{made-generated}
-use Rattle.gf_duality.proofs.ListLaws.{all_by, zip_from}
+use Rattle.gf_duality.proofs.ListLaws.{zip_from}
 use Rattle.gf_fans.specs.FaceLists.{numbered}
 use Rattle.gf_rays.specs.Cones.{RowsAndRays, rows_of}
 use Rattle.gf_fanfile.specs.declared.file.FanFile.{FanFile}

@@ -6,12 +6,13 @@ use Rattle.std.proofs.lemmas.List.{take_more, get_or_default, length-map, map-ap
 use Rattle.std.proofs.lemmas.List.Elements.{Contains-append_right}
 use Rattle.std.proofs.lemmas.Grind.{flat_map-append}
 use Rattle.std.proofs.lemmas.Option.{slice_get_read}
+use Rattle.gf_int.proofs.ListLaws.{Contains-here}
 use Rattle.gf_vec.specs.declared.error.VecError.{VecError}
 use Rattle.gf_vec.specs.declared.error.VecError.TheVariants as vec_errors
 use Rattle.gf_vec.specs.Vector.{zeros}
 use Rattle.gf_vec.specs.Steps.{IsFirstWide, IfWide}
 use Rattle.gf_duality.specs.Faces.{sum_of}
-use Rattle.gf_duality.proofs.ListLaws.{in_head, in_cons, none_in}
+use Rattle.gf_duality.proofs.ListLaws.{in_cons, none_in}
 use Rattle.gf_fans.specs.FaceLists.{numbered}
 use Rattle.gf_rays.specs.Sums.{adding_steps}
 use Rattle.gf_fan.specs.declared.cones.FanCone.{FanCone}
@@ -48,7 +49,7 @@ in_listed cones [] p k c e = absurd (none_in p c)
 in_listed cones (q ∷ places) p k c e = elim (in_cons q places p c) [
   | inl same ↦
       let here : slice_get cones q ≡ Some k = ap (slice_get cones) (sym same) ∙ e in
-      subst (λ (o : Option FanCone). Contains (one_listed o ++ listed_at cones places) (listed_cone k)) (sym here) (in_head (listed_cone k) (listed_at cones places))
+      subst (λ (o : Option FanCone). Contains (one_listed o ++ listed_at cones places) (listed_cone k)) (sym here) (Contains-here (listed_cone k) (listed_at cones places))
   | inr later ↦ Contains-append_right (one_listed (slice_get cones q)) (listed_at cones places) (listed_cone k) (in_listed cones places p k later e)
 ]
 

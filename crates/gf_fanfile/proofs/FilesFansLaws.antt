@@ -7,13 +7,14 @@ use Rattle.std.proofs.Common.{refl, sym, ap, ◌∙◌, subst, inl, inr}
 use Rattle.std.proofs.lemmas.List.{take_more}
 use Rattle.std.proofs.lemmas.List.Elements.{All-contains}
 use Rattle.std.proofs.lemmas.Slice.Zip.{all_zipped_more}
+use Rattle.gf_int.proofs.ListLaws.{all_by}
 use Rattle.gf_gordan.specs.Alternative.{AreRows}
 use Rattle.gf_gordan.specs.Steps.{Failed}
 use Rattle.gf_gordan.specs.declared.error.GordanError.{GordanError}
 use Rattle.gf_gordan.specs.declared.error.GordanError.TheVariants as gordan_errors
 use Rattle.gf_duality.specs.Rays.{IsRays, Satisfies}
 use Rattle.gf_rays.specs.Reached.{IsRaysStep}
-use Rattle.gf_duality.proofs.ListLaws.{all_by, zip_from}
+use Rattle.gf_duality.proofs.ListLaws.{zip_from}
 use Rattle.gf_fans.specs.FaceLists.{numbered}
 use Rattle.gf_fans.proofs.PartNumbers.{of_number}
 use Rattle.gf_rays.specs.Cones.{RowsAndRays}

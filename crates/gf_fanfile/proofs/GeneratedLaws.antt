@@ -8,6 +8,7 @@ use Rattle.std.proofs.lemmas.List.Elements.{All-contains}
 use Rattle.gf_int.specs.Content.{scaled}
 use Rattle.gf_int.proofs.RingLaws.{same, dv, dn, dneg, ◌⊕◌, ◌⊗◌}
 use Rattle.gf_int.proofs.SignLaws.{sign_of, negative, none, positive}
+use Rattle.gf_int.proofs.ListLaws.{Contains-here, all_by}
 use Rattle.gf_vec.specs.Vector.{dot, vector_sum}
 use Rattle.gf_vec.proofs.VectorLaws.{dot_comm, length-times}
 use Rattle.gf_vec.proofs.DotLaws.{dot-plus_right, dot-times_right}
@@ -15,7 +16,7 @@ use Rattle.gf_vec.proofs.VectorIdentities.{vv, ◌⊞◌, ◌⊡◌, vsame}
 use Rattle.gf_gordan.specs.Alternative.{AreRows, GordansAlternative}
 use Rattle.gf_duality.specs.Rays.{Satisfies, IsLineal, Generated, IsRays}
 use Rattle.gf_duality.specs.Generators.{Made, ray, line, summed, multiplied, divided}
-use Rattle.gf_duality.proofs.ListLaws.{none_in, in_head, in_tail, in_cons, all_by}
+use Rattle.gf_duality.proofs.ListLaws.{none_in, in_tail, in_cons}
 use Rattle.gf_duality.proofs.Made.{Made-into, Made-dot, Made-dot_zero}
 use Rattle.gf_duality.proofs.Generated.{made-generated, generated-made}
 use Rattle.gf_duality.proofs.EchelonUnique.{no_widths}
@@ -43,7 +44,7 @@ by_lines : (n : ℕ) (lin : List (List ℤ)) (v : List ℤ) → GordansAlternati
 by_lines n lin v g w l = elim (g.one n (v ∷ []) lin (all_by (λ (t : List ℤ). length t ≡ n) (v ∷ []) (λ x c. elim (in_cons v [] x c) [ inl e ↦ ap length e ∙ l | inr d ↦ absurd (none_in x d) ])) w) [
   | inl s ↦
       let y = s.0 in
-      let up : pos 0 <ℤ dot v y = All-contains (λ (t : List ℤ). pos 0 <ℤ dot t y) (v ∷ []) v s.1.positive (in_head v []) in
+      let up : pos 0 <ℤ dot v y = All-contains (λ (t : List ℤ). pos 0 <ℤ dot t y) (v ∷ []) v s.1.positive (Contains-here v []) in
       let turned : dot v (scaled (negsuc 0) y) ≡ negsuc 0 *ℤ dot v y = dot-times_right (negsuc 0) v y in
       inr (
         scaled (negsuc 0) y,
@@ -100,7 +101,7 @@ pushed_made n rays lin y r v wr lr lv up below vy m =
     let d = neg_ℤ (dot v y) in
     let d_fits : pos 0 ≤ℤ d = omega (arith, ints) in
     let c_fits : pos 0 ≤ℤ c = omega (arith, ints) in
-    let r_made : Made n (r ∷ rays) lin r = ray n (r ∷ rays) lin r lr (in_head r rays) in
+    let r_made : Made n (r ∷ rays) lin r = ray n (r ∷ rays) lin r lr (Contains-here r rays) in
     let each : (x : List ℤ) → length x ≡ n → Contains (map (pushed y r) rays) x → Made n (r ∷ rays) lin x = λ x l k.
     let o = of_map (pushed y r) rays x k in
     let x_made : Made n (r ∷ rays) lin o.0 = ray n (r ∷ rays) lin o.0 (wr o.0 o.1.0) (in_tail r rays o.0 o.1.0) in
@@ -159,7 +160,7 @@ by_count (suc k) n (r ∷ rays) lin v g e wr wl lv =
     let rest : AreLong n rays = λ x c. wr x (in_tail r rays x c) in
     elim (by_count k n rays lin v g fewer rest wl lv) [
       | inl m ↦ inl (wider n rays lin r v m)
-      | inr s ↦ further k n rays lin r v s.0 fewer rest (wr r (in_head r rays)) lv (λ next w f long l. by_count k n next lin w g f long wl l) s.1
+      | inr s ↦ further k n rays lin r v s.0 fewer rest (wr r (Contains-here r rays)) lv (λ next w f long l. by_count k n next lin w g f long wl l) s.1
     ]
 
 -- ---- Farkas' lemma

@@ -10,8 +10,9 @@ use Rattle.gf_vec.specs.declared.error.VecError.TheVariants as vec_errors
 use Rattle.gf_vec.specs.Steps.{IfWide}
 use Rattle.std.proofs.lemmas.List.Elements.{Contains-get_or}
 use Rattle.std.proofs.lemmas.Option.{slice_get_within, get_or_from_slice_get, slice_get-map}
+use Rattle.gf_int.proofs.ListLaws.{Contains-here}
 use Rattle.gf_duality.specs.Faces.{SameCone, IsFaceOf, IsInterior, sum_of}
-use Rattle.gf_duality.proofs.ListLaws.{zip_to, zip_from, in_head, in_tail}
+use Rattle.gf_duality.proofs.ListLaws.{zip_to, zip_from, in_tail}
 use Rattle.gf_fans.specs.FaceLists.{numbered}
 use Rattle.gf_fans.specs.Laws.{HasRays}
 use Rattle.gf_fans.proofs.FanLaws.{same_turned}
@@ -112,7 +113,7 @@ module _ (n : ℕ) (value : ListedCone → List ℤ) (R : List ℕ → RowsAndRa
       → (place : ℕ) → place < length (map value listed) → (c : RowsAndRays) (r : List ℤ) → IsInterior n (rows_of (get_or cones place c)) (get_or (map value listed) place r)
   inside_zip [] cones h a place l c r = absurd (omega (arith, l))
   inside_zip (k ∷ listed) [] h a place l c r = absurd a
-  inside_zip (k ∷ listed) (x ∷ cones) h a zero l c r = h k x (in_head k listed) a.0
+  inside_zip (k ∷ listed) (x ∷ cones) h a zero l c r = h k x (Contains-here k listed) a.0
   inside_zip (k ∷ listed) (x ∷ cones) h a (suc place) l c r = inside_zip listed cones (λ m d i t. h m d (in_tail k listed m i) t) a.1 place (omega (arith, l)) c r
 
 written_certified : (f : FanLists) → IsFan f → IsCertifiedFile (file_of (parts_of_fan f))

@@ -11,11 +11,12 @@ use Rattle.gf_vec.proofs.VectorLaws.{dot_comm, dot-plus, dot-times, dot-zeros, l
 use Rattle.gf_vec.proofs.DotLaws.{vector_ext}
 use Rattle.gf_gordan.specs.Alternative.{AreRows, IsSolution, IsFarkas}
 use Rattle.gf_duality.specs.Rays.{Generated}
-use Rattle.gf_duality.proofs.ListLaws.{none_in, in_head}
+use Rattle.gf_duality.proofs.ListLaws.{none_in}
 use Rattle.gf_duality.proofs.Made.{Made-dot_zero}
 use Rattle.gf_duality.proofs.Generated.{generated-made}
 use Rattle.gf_duality.proofs.EchelonUnique.{no_widths}
 use Rattle.gf_int.proofs.SignLaws.{zero_product}
+use Rattle.gf_int.proofs.ListLaws.{Contains-here}
 
 -- a combination by so many times the multipliers gives so many times the values
 times_sum : (k e q y : ℤ) → (k *ℤ e) *ℤ q +ℤ k *ℤ y ≡ k *ℤ (e *ℤ q +ℤ y)
@@ -72,6 +73,6 @@ pub outside_by : (n : ℕ) (span : List (List ℤ)) (v x : List ℤ) → AreRows
 outside_by n span v x w s g =
     let made = generated-made n [] span v (no_widths n) w g in
     let zero : dot x v ≡ pos 0 = Made-dot_zero n [] span x v (λ t c. absurd (none_in t c)) (λ t c. dot_comm x t ∙ All-contains (λ q. dot q x ≡ pos 0) span t s.zero c) made in
-    let positive : pos 0 <ℤ dot v x = All-contains (λ q. pos 0 <ℤ dot q x) (v ∷ []) v s.positive (in_head v []) in
+    let positive : pos 0 <ℤ dot v x = All-contains (λ q. pos 0 <ℤ dot q x) (v ∷ []) v s.positive (Contains-here v []) in
     let turned : dot x v ≡ dot v x = dot_comm x v in
     omega (arith, ints, zero, positive, turned)

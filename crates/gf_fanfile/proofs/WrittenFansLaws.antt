@@ -5,9 +5,10 @@ use Rattle.std.specs.List.{AllZip}
 use Rattle.std.proofs.lemmas.List.{get_or_default, length-map}
 use Rattle.std.proofs.lemmas.List.Elements.{All-contains}
 use Rattle.std.proofs.lemmas.Option.{slice_get_within, get_or_from_slice_get}
+use Rattle.gf_int.proofs.ListLaws.{all_by, Contains-here}
 use Rattle.gf_gordan.specs.Alternative.{AreRows}
 use Rattle.gf_duality.specs.Rays.{IsRays, Generated}
-use Rattle.gf_duality.proofs.ListLaws.{all_by, in_head, in_tail, in_cons, none_in, of_rest}
+use Rattle.gf_duality.proofs.ListLaws.{in_tail, in_cons, none_in, of_rest}
 use Rattle.gf_duality.proofs.Made.{span-made}
 use Rattle.gf_duality.proofs.Generated.{made-generated, generated-made}
 use Rattle.gf_duality.proofs.EchelonUnique.{no_widths}
@@ -46,7 +47,7 @@ ray_outside n hs es lin rays r s c g =
 
 lineality_rows : (n : ℕ) (given : List RowsAndRays) (lin : List (List ℤ)) → HaveTheirRays n given → IsCommonLineality given lin → AreRows n lin
 lineality_rows n [] lin h c = subst (AreRows n) (sym (c.none refl)) (no_widths n)
-lineality_rows n (x ∷ given) lin h c = subst (AreRows n) (c.each x (in_head x given)) (h x (in_head x given)).lin_width
+lineality_rows n (x ∷ given) lin h c = subst (AreRows n) (c.each x (Contains-here x given)) (h x (Contains-here x given)).lin_width
 
 module _ (n : ℕ) (given : List RowsAndRays) (f : FanLists) (s : IsFanOf n given f) where
   fan_rays : AreRows n f.rays
@@ -149,7 +150,7 @@ cones_at n given f (i ∷ places) cs s w a = at (slice_get f.cones i) refl cs a 
   where
     at : (o : Option FanCone) → slice_get f.cones i ≡ o → (ds : List RowsAndRays) → AllZip (IsGenerated n f) (map (λ (c : ListedCone). c.rays) (one_listed o ++ listed_at f.cones places)) ds →
         ((es : List RowsAndRays) → AllZip (IsGenerated n f) (map (λ (c : ListedCone). c.rays) (listed_at f.cones places)) es → AllZip (IsConeAt n f.cones) places es) → AllZip (IsConeAt n f.cones) (i ∷ places) ds
-    at None e ds b later = absurd (let x = none_past f.cones i e in let y = w i (in_head i places) in omega (arith, x, y))
+    at None e ds b later = absurd (let x = none_past f.cones i e in let y = w i (Contains-here i places) in omega (arith, x, y))
     at (Some k) e [] b later = absurd b
     at (Some k) e (d ∷ ds) b later =
         (record { cone = k; at = e; same = cone_same n given f k d s (i, slice_get_within f.cones i k e, get_or_from_slice_get f.cones i k k e) b.0 }, later ds b.1)

@@ -5,6 +5,7 @@ use Rattle.std.proofs.lemmas.List.Elements.{All-contains, Contains-append_left, 
 use Rattle.gf_int.specs.Content.{scaled}
 use Rattle.gf_int.proofs.RingLaws.{same, dv, dn, dneg, ◌⊕◌, ◌⊗◌}
 use Rattle.gf_int.proofs.SignLaws.{sign_of, negative, none, positive, positive_not_zero, above_zero, zero_or_not}
+use Rattle.gf_int.proofs.ListLaws.{Contains-here}
 use Rattle.gf_vec.specs.Vector.{dot, vector_sum}
 use Rattle.gf_duality.specs.Combining.{pair}
 use Rattle.gf_duality.specs.Generators.{Made, line, summed, divided, IsDescribed, AreValid}
@@ -12,7 +13,7 @@ use Rattle.gf_duality.specs.Faces.{sum_of}
 use Rattle.gf_fans.specs.Dimension.{HasDimension}
 use Rattle.gf_fans.specs.FaceLists.{IsPartOn}
 use Rattle.gf_fans.specs.Laws.{IsGreatestPart}
-use Rattle.gf_duality.proofs.ListLaws.{none_in, in_head, in_tail, in_cons}
+use Rattle.gf_duality.proofs.ListLaws.{none_in, in_tail, in_cons}
 use Rattle.gf_vec.proofs.EntryLaws.{cancel}
 use Rattle.gf_vec.proofs.VectorIdentities.{vv, ◌⊞◌, ◌⊡◌, by, vsame}
 use Rattle.gf_duality.proofs.Made.{Made-length, Made-dot, Made-dot_zero, Made-into, span-times}
@@ -38,7 +39,7 @@ decide_within (x ∷ rays) t s = elim (decide_within rays t s) [
       let more : (dot t x ≡ pos 0 → dot s x ≡ pos 0) → IsZeroWithin (x ∷ rays) t s = λ f r c e. elim (in_cons x rays r c) [ inl q ↦ ap (dot s) q ∙ f (ap (dot t) (sym q) ∙ e) | inr i ↦ w r i e ] in
       elim (zero_or_not (dot t x)) [
         | inr n ↦ inl (more (λ e. absurd (n e)))
-        | inl z ↦ elim (zero_or_not (dot s x)) [ inl g ↦ inl (more (λ e. g)) | inr n ↦ inr (λ u. n (u x (in_head x rays) z)) ]
+        | inl z ↦ elim (zero_or_not (dot s x)) [ inl g ↦ inl (more (λ e. g)) | inr n ↦ inr (λ u. n (u x (Contains-here x rays) z)) ]
       ]
 ]
 
@@ -63,7 +64,7 @@ greatest_of (s ∷ rows) rays start up a =
         greatest = λ h c w. elim (in_cons s rows h c) [ inl e ↦ inl (λ r i. ap (λ (q : List ℤ). dot q r) e ∙ f g.0 k.wider (λ r i z. ap (λ (q : List ℤ). dot q r) (sym e) ∙ w r i z) r i) | inr d ↦ k.greatest h d w ];
       },
     ) in
-    elim (some_above rays s (λ r c. up s r (in_head s rows) c)) [
+    elim (some_above rays s (λ r c. up s r (Contains-here s rows) c)) [
       | inr z ↦ keep (λ t w u r c. z r c)
       | inl b ↦ elim (decide_within rays start s) [
         | inr n ↦ keep (λ t w u r c. absurd (n (λ r c e. u r c (w r c e))))
@@ -72,7 +73,7 @@ greatest_of (s ∷ rows) rays start up a =
               g.0,
               record {
                 above = k.above;
-                from = elim k.from [ inl e ↦ inr (subst (Contains (s ∷ rows)) (sym e) (in_head s rows)) | inr c ↦ inr (in_tail s rows g.0 c) ];
+                from = elim k.from [ inl e ↦ inr (subst (Contains (s ∷ rows)) (sym e) (Contains-here s rows)) | inr c ↦ inr (in_tail s rows g.0 c) ];
                 wider = λ r c e. k.wider r c (w r c e);
                 greatest = λ h c u. elim (in_cons s rows h c) [ inl e ↦ inr (λ r i z. k.wider r i (ap (λ (q : List ℤ). dot q r) (sym e) ∙ z)) | inr d ↦ k.greatest h d u ];
               },
@@ -90,7 +91,7 @@ above_rows : (rows rays : List (List ℤ)) → ((s r : List ℤ) → Contains ro
 above_rows [] rays up = record { some = []; each = λ s c. absurd (none_in s c); every = λ s c. absurd (none_in s c) }
 above_rows (h ∷ rows) rays up =
     let a = above_rows rows rays (λ s r c i. up s r (in_tail h rows s c) i) in
-    elim (some_above rays h (λ r c. up h r (in_head h rows) c)) [
+    elim (some_above rays h (λ r c. up h r (Contains-here h rows) c)) [
       | inr z ↦ record {
         some = a.some;
         each = λ s c. let e = a.each s c in (in_tail h rows s e.0, e.1);
@@ -99,10 +100,10 @@ above_rows (h ∷ rows) rays up =
       | inl b ↦ record {
         some = h ∷ a.some;
         each = λ s c. elim (in_cons h a.some s c) [
-          | inl e ↦ (subst (Contains (h ∷ rows)) (sym e) (in_head h rows), subst (λ (q : List ℤ). (r : List ℤ) × (Contains rays r × (pos 0 <ℤ dot q r))) (sym e) b)
+          | inl e ↦ (subst (Contains (h ∷ rows)) (sym e) (Contains-here h rows), subst (λ (q : List ℤ). (r : List ℤ) × (Contains rays r × (pos 0 <ℤ dot q r))) (sym e) b)
           | inr d ↦ let e = a.each s d in (in_tail h rows s e.0, e.1)
         ];
-        every = λ s c. elim (in_cons h rows s c) [ inl e ↦ inl (subst (Contains (h ∷ a.some)) (sym e) (in_head h a.some)) | inr d ↦ elim (a.every s d) [ inl i ↦ inl (in_tail h a.some s i) | inr z ↦ inr z ] ];
+        every = λ s c. elim (in_cons h rows s c) [ inl e ↦ inl (subst (Contains (h ∷ a.some)) (sym e) (Contains-here h a.some)) | inr d ↦ elim (a.every s d) [ inl i ↦ inl (in_tail h a.some s i) | inr z ↦ inr z ] ];
       }
     ]
 
@@ -202,7 +203,7 @@ facet_step n hs es lin rays start d cs up_start =
                 flat = λ h q k i. elim (in_cons u [] h k) [ inl e ↦ subst (λ (z : List ℤ). dot z q ≡ pos 0) (sym e) (d.valid.flat u q cu i) | inr j ↦ absurd (none_in h j) ];
               } in
               let narrow : IsZeroWithin rays u t = elim (g.greatest u cu (flat_at u cu l.zero)) [ inl f ↦ absurd (positive_not_zero (dot u r) up_u (f r cr)) | inr k ↦ k ] in
-              let of_part : Made n p.part lin w = part_made n (u ∷ []) rays p.part lin w one (λ q c f. p.all q c (narrow q c (f u (in_head u [])))) mw
+              let of_part : Made n p.part lin w = part_made n (u ∷ []) rays p.part lin w one (λ q c f. p.all q c (narrow q c (f u (Contains-here u [])))) mw
               (λ h k. elim (in_cons u [] h k) [ inl e ↦ ap (λ (z : List ℤ). dot z w) e ∙ uw | inr j ↦ absurd (none_in h j) ]) in
               let tw : dot t w ≡ pos 0 = Made-dot_zero n p.part lin t w (λ q c. (p.of_part q c).1) (λ q c. d.valid.flat t q ct c) of_part in
               let ty : dot t y ≡ pos 0 = up_zero b (dot t v) (dot t y) (dot t w) (at_w t) tv tw in
@@ -224,7 +225,7 @@ facet_step n hs es lin rays start d cs up_start =
 some_not : (flat : List (List ℤ)) (r : List ℤ) → (((t : List ℤ) → Contains flat t → dot t r ≡ pos 0) → ⊥) → (t : List ℤ) × (Contains flat t × (dot t r ≢ pos 0))
 some_not [] r n = absurd (n (λ t c. absurd (none_in t c)))
 some_not (h ∷ flat) r n = elim (zero_or_not (dot h r)) [
-  | inr g ↦ (h, (in_head h flat, g))
+  | inr g ↦ (h, (Contains-here h flat, g))
   | inl z ↦ let s = some_not flat r (λ f. n (λ t c. elim (in_cons h flat t c) [ inl e ↦ ap (λ (q : List ℤ). dot q r) e ∙ z | inr d ↦ f t d ])) in (s.0, (in_tail h flat s.0 s.1.0, s.1.1))
 ]
 
@@ -254,7 +255,7 @@ dimension_above n hs es lin rays flat some r d q sub p cr out most h =
           let zero_some : (x : List ℤ) → Contains some x → dot t x ≡ pos 0 = λ x c. f.1.1 x (p.each x c).0 ((p.each x c).1 s s0.1.0) in
           let m = part_on (t ∷ []) rays q.ascending in
           let within : (x : List ℤ) → Contains some x → Contains m.0 x = λ x c. m.1.every x (p.each x c).0 (λ u i. elim (in_cons t [] u i) [ inl e ↦ ap (λ (y : List ℤ). dot y x) e ∙ zero_some x c | inr j ↦ absurd (none_in u j) ]) in
-          let less : ((x : List ℤ) → Contains rays x → Contains m.0 x) → ⊥ = λ all. positive_not_zero (dot t a) up_a ((m.1.each a (all a ca)).1 t (in_head t [])) in
+          let less : ((x : List ℤ) → Contains rays x → Contains m.0 x) → ⊥ = λ all. positive_not_zero (dot t a) up_a ((m.1.each a (all a ca)).1 t (Contains-here t [])) in
           let back : (x : List ℤ) → Contains m.0 x → Contains some x = most (t ∷ []) m.0 one m.1 within less in
           dimension_step n (some ++ lin) (rays ++ lin) d t a (joined_width n hs es lin rays k) h (joined_sub n hs es lin rays some k (λ x c. (p.each x c).0))
           (λ x c. elim (Contains-append_cases some lin x c) [ inl i ↦ zero_some x i | inr b ↦ k.valid.flat t x g.listed b ])

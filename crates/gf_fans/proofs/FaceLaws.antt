@@ -12,12 +12,13 @@ use Rattle.gf_gordan.specs.Alternative.{AreRows}
 use Rattle.gf_duality.specs.Generators.{Made, ray, line, AreValid}
 use Rattle.gf_duality.specs.Rays.{IsRays, Generated}
 use Rattle.gf_fans.specs.FaceLists.{IsPartOn}
-use Rattle.gf_duality.proofs.ListLaws.{none_in, in_head, in_tail, in_cons, all_by, of_rest, in_rest, stood, place, less, at, more}
+use Rattle.gf_duality.proofs.ListLaws.{none_in, in_tail, in_cons, of_rest, in_rest, stood, place, less, at, more}
 use Rattle.gf_duality.proofs.Made.{Made-dot, Made-dot_zero, Made-into}
 use Rattle.gf_duality.proofs.Generated.{made-generated, generated-made}
 use Rattle.gf_duality.proofs.Uniqueness.{face_made}
 use Rattle.gf_duality.proofs.Determined.{described_of, less_never}
 use Rattle.gf_int.proofs.SignLaws.{zero_or_not}
+use Rattle.gf_int.proofs.ListLaws.{Contains-here, all_by}
 
 zero_at : (n : ℕ) (t : List ℤ) → dot t (zeros n) ≡ pos 0
 zero_at n t = dot_comm t (zeros n) ∙ dot-zeros n t
@@ -100,7 +101,7 @@ face_rays n hs es lin rays flat part r sub p =
 pub all_zero_or : (flat : List (List ℤ)) (x : List ℤ) → ((t : List ℤ) → Contains flat t → dot t x ≡ pos 0) ⊎ (((t : List ℤ) → Contains flat t → dot t x ≡ pos 0) → ⊥)
 all_zero_or [] x = inl (λ t k. absurd (none_in t k))
 all_zero_or (h ∷ flat) x = elim (zero_or_not (dot h x)) [
-  | inr n ↦ inr (λ f. n (f h (in_head h flat)))
+  | inr n ↦ inr (λ f. n (f h (Contains-here h flat)))
   | inl z ↦ elim (all_zero_or flat x) [
     | inr n ↦ inr (λ f. n (λ t k. f t (in_tail h flat t k)))
     | inl g ↦ inl (λ t k. elim (in_cons h flat t k) [ inl e ↦ ap (λ (q : List ℤ). dot q x) e ∙ z | inr d ↦ g t d ])
@@ -124,8 +125,8 @@ part_on flat (x ∷ rays) a =
         x ∷ s.0,
         record {
           ascending = pairs_cons x s.0 (λ y c. after y (p.each y c).0) p.ascending;
-          each = λ r c. elim (in_cons x s.0 r c) [ inl e ↦ (subst (Contains (x ∷ rays)) (sym e) (in_head x rays), λ t k. ap (dot t) e ∙ z t k) | inr d ↦ (in_tail x rays r (p.each r d).0, (p.each r d).1) ];
-          every = λ r c f. elim (in_cons x rays r c) [ inl e ↦ subst (Contains (x ∷ s.0)) (sym e) (in_head x s.0) | inr d ↦ in_tail x s.0 r (p.every r d f) ];
+          each = λ r c. elim (in_cons x s.0 r c) [ inl e ↦ (subst (Contains (x ∷ rays)) (sym e) (Contains-here x rays), λ t k. ap (dot t) e ∙ z t k) | inr d ↦ (in_tail x rays r (p.each r d).0, (p.each r d).1) ];
+          every = λ r c f. elim (in_cons x rays r c) [ inl e ↦ subst (Contains (x ∷ s.0)) (sym e) (Contains-here x s.0) | inr d ↦ in_tail x s.0 r (p.every r d f) ];
         },
       )
       | inr n ↦ (

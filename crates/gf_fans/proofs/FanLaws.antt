@@ -16,7 +16,7 @@ use Rattle.gf_duality.specs.Faces.{Rows, IsInCone, SameCone, part, IsFaceOf, sum
 use Rattle.gf_fans.specs.FaceLists.{IsPartOn, AreZeroRows}
 use Rattle.gf_fans.specs.Fans.{meet, MeetInFaces, MeetPairwise, FacesAreFan}
 use Rattle.gf_fans.specs.Laws.{HasRays}
-use Rattle.gf_duality.proofs.ListLaws.{none_in, in_head, in_tail, in_cons, all_by, place, less, at, more}
+use Rattle.gf_duality.proofs.ListLaws.{none_in, in_tail, in_cons, place, less, at, more}
 use Rattle.gf_vec.proofs.VectorIdentities.{vv, ◌⊞◌, ◌⊡◌, by}
 use Rattle.gf_duality.proofs.Made.{Made-dot_zero}
 use Rattle.gf_duality.proofs.Taking.{enough}
@@ -28,6 +28,7 @@ use Rattle.gf_duality.proofs.EchelonUnique.{same_ordered}
 use Rattle.gf_duality.proofs.Determined.{described_of, same_rays_of, rays_determined, less_never, opposite_dot, minus_up, zero_up, minus_zero}
 use Rattle.gf_fans.proofs.FaceLaws.{part_made, part_on, face_rays}
 use Rattle.gf_int.proofs.SignLaws.{zero_or_not}
+use Rattle.gf_int.proofs.ListLaws.{Contains-here, all_by}
 
 -- ---- membership
 
@@ -201,7 +202,7 @@ one_lineality n c d lin rays lines others r s m =
 zero_on_all : (h : List ℤ) (rays : List (List ℤ)) → ((r : List ℤ) → Contains rays r → dot h r ≡ pos 0) ⊎ (((r : List ℤ) → Contains rays r → dot h r ≡ pos 0) → ⊥)
 zero_on_all h [] = inl (λ r k. absurd (none_in r k))
 zero_on_all h (x ∷ rays) = elim (zero_or_not (dot h x)) [
-  | inr n ↦ inr (λ f. n (f x (in_head x rays)))
+  | inr n ↦ inr (λ f. n (f x (Contains-here x rays)))
   | inl z ↦ elim (zero_on_all h rays) [
     | inr n ↦ inr (λ f. n (λ r k. f r (in_tail x rays r k)))
     | inl g ↦ inl (λ r k. elim (in_cons x rays r k) [ inl e ↦ ap (dot h) e ∙ z | inr d ↦ g r d ])
@@ -217,8 +218,8 @@ zero_rows_on (h ∷ rows) rays =
       | inl z ↦ (
         h ∷ s.0,
         record {
-          each = λ t c. elim (in_cons h s.0 t c) [ inl e ↦ (subst (Contains (h ∷ rows)) (sym e) (in_head h rows), λ r k. ap (λ (q : List ℤ). dot q r) e ∙ z r k) | inr d ↦ (in_tail h rows t (s.1.each t d).0, (s.1.each t d).1) ];
-          every = λ t c f. elim (in_cons h rows t c) [ inl e ↦ subst (Contains (h ∷ s.0)) (sym e) (in_head h s.0) | inr d ↦ in_tail h s.0 t (s.1.every t d f) ];
+          each = λ t c. elim (in_cons h s.0 t c) [ inl e ↦ (subst (Contains (h ∷ rows)) (sym e) (Contains-here h rows), λ r k. ap (λ (q : List ℤ). dot q r) e ∙ z r k) | inr d ↦ (in_tail h rows t (s.1.each t d).0, (s.1.each t d).1) ];
+          every = λ t c f. elim (in_cons h rows t c) [ inl e ↦ subst (Contains (h ∷ s.0)) (sym e) (Contains-here h s.0) | inr d ↦ in_tail h s.0 t (s.1.every t d f) ];
         },
       )
       | inr n ↦ (

@@ -2,16 +2,17 @@
 use Rattle.std.proofs.Common.{◌≡◌, ℕ, ◌+◌, ◌-◌, ◌<◌, List, [], ◌∷◌, ◌++◌, length, arith, sym, ap, ◌∙◌, subst, Contains, ◌⊎◌, inl, inr, get_or}
 use Rattle.std.proofs.lemmas.List.{get_or_default, get_or_append_left, get_or-append_right, length-append}
 use Rattle.std.proofs.lemmas.List.Quantifiers.{all_pairs_push}
-use Rattle.gf_duality.proofs.ListLaws.{place, less, at, more, first_in, snoc_cases}
+use Rattle.gf_duality.proofs.ListLaws.{place, less, at, more, first_in}
 use Rattle.gf_fans.specs.Heights.{AreFirst, IsWithinPart, IsNextBelow, IsHeight, AreHeights}
 use Rattle.std.proofs.lemmas.List.Elements.{Contains-push}
+use Rattle.gf_int.proofs.ListLaws.{Contains-last}
 
 -- ---- the first part, all numbers
 
 pub first_more : (n : ℕ) (out new : List ℕ) → new ≡ out ++ n ∷ [] → AreFirst n out → AreFirst (n + 1) new
 first_more n out new e s = subst (AreFirst (n + 1)) (sym e) (record {
   ascending = all_pairs_push (λ i j. i < j) out n s.ascending (λ j d h. s.each (get_or out j d) (j, h, get_or_default out j (get_or out j d) d h));
-  each = λ i c. elim (snoc_cases out n i c) [ inl a ↦ let h = s.each i a in omega (arith, h) | inr q ↦ omega (arith, q) ];
+  each = λ i c. elim (Contains-last out n i c) [ inl a ↦ let h = s.each i a in omega (arith, h) | inr q ↦ omega (arith, q) ];
   every = λ i h. elim (place i n) [ more k ↦ first_in out n i (s.every i k) | at q ↦ subst (Contains (out ++ n ∷ [])) (sym q) (Contains-push out n) | less k ↦ absurd (omega (arith, h, k)) ];
 })
 

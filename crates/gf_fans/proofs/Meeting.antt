@@ -3,9 +3,10 @@ use Rattle.std.proofs.Common.{◌≡◌, List, [], ◌∷◌, ◌++◌, ℤ, pos
 use Rattle.std.proofs.lemmas.Int.{ints}
 use Rattle.std.proofs.lemmas.List.Elements.{All-contains, Contains-append_left, Contains-append_right}
 use Rattle.gf_int.proofs.SignLaws.{sign_of, negative, none, positive}
+use Rattle.gf_int.proofs.ListLaws.{Contains-here, all_by}
 use Rattle.gf_vec.specs.Vector.{dot}
 use Rattle.gf_duality.specs.Faces.{Rows, IsInCone}
-use Rattle.gf_duality.proofs.ListLaws.{none_in, in_head, in_tail, in_cons, all_by}
+use Rattle.gf_duality.proofs.ListLaws.{none_in, in_tail, in_cons}
 use Rattle.gf_fans.specs.Fans.{meet}
 
 -- the rows that are zero on v
@@ -36,9 +37,9 @@ zero_rows (h ∷ hs) v =
       | positive g ↦ skip_row h hs v (λ e. not_zero (dot h v) (inr g) e) s
       | none g ↦ record {
         rows = h ∷ s.rows;
-        listed = λ t c. elim (in_cons h s.rows t c) [ inl e ↦ subst (Contains (h ∷ hs)) (sym e) (in_head h hs) | inr k ↦ in_tail h hs t (s.listed t k) ];
+        listed = λ t c. elim (in_cons h s.rows t c) [ inl e ↦ subst (Contains (h ∷ hs)) (sym e) (Contains-here h hs) | inr k ↦ in_tail h hs t (s.listed t k) ];
         zero = λ t c. elim (in_cons h s.rows t c) [ inl e ↦ ap (λ k. dot k v) e ∙ g | inr k ↦ s.zero t k ];
-        all = λ t c z. elim (in_cons h hs t c) [ inl e ↦ subst (Contains (h ∷ s.rows)) (sym e) (in_head h s.rows) | inr k ↦ in_tail h s.rows t (s.all t k z) ];
+        all = λ t c z. elim (in_cons h hs t c) [ inl e ↦ subst (Contains (h ∷ s.rows)) (sym e) (Contains-here h s.rows) | inr k ↦ in_tail h s.rows t (s.all t k z) ];
       }
     ]
 

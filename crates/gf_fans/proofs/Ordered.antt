@@ -14,7 +14,8 @@ use Rattle.std.proofs.lemmas.Cmp.{nat_cmp_total, nat_list_cmp_total, ranked, tie
 use Rattle.std.proofs.lemmas.List.Sorted.{ranks_by}
 use Rattle.std.proofs.lemmas.Map.Keys.{IsDistinct-IsPermutation, IsDistinct-from_apart, apart_from_distinct}
 use Rattle.std.proofs.lemmas.Slice.Eq.{slice_eq-Decides}
-use Rattle.gf_duality.proofs.ListLaws.{none_in, in_head, in_tail, in_cons}
+use Rattle.gf_int.proofs.ListLaws.{Contains-here}
+use Rattle.gf_duality.proofs.ListLaws.{none_in, in_tail, in_cons}
 
 -- ---- sorted by a key
 
@@ -93,8 +94,8 @@ rest_ascends x xs a i j d h l = a (suc i) (suc j) d (omega (arith, h)) (omega (a
 -- numbers that are all among others are no more
 pub within_short : (xs ys : List ℕ) → AllPairs (λ i j. i < j) xs → AllPairs (λ i j. i < j) ys → ((x : ℕ) → Contains xs x → Contains ys x) → length xs ≤ length ys
 within_short [] ys a b f = omega arith
-within_short (x ∷ xs) [] a b f = absurd (none_in x (f x (in_head x xs)))
-within_short (x ∷ xs) (y ∷ ys) a b f = elim (in_cons y ys x (f x (in_head x xs))) [
+within_short (x ∷ xs) [] a b f = absurd (none_in x (f x (Contains-here x xs)))
+within_short (x ∷ xs) (y ∷ ys) a b f = elim (in_cons y ys x (f x (Contains-here x xs))) [
   | inl e ↦
       let r = within_short xs ys (rest_ascends x xs a) (rest_ascends y ys b) (λ z c. elim (in_cons y ys z (f z (in_tail x xs z c))) [
         | inl q ↦ let h = above_head x xs a z c in absurd (omega (arith, h, q, e))
@@ -112,9 +113,9 @@ within_short (x ∷ xs) (y ∷ ys) a b f = elim (in_cons y ys x (f x (in_head x 
 pub within_all : (xs ys : List ℕ) → AllPairs (λ i j. i < j) xs → AllPairs (λ i j. i < j) ys → ((x : ℕ) → Contains xs x → Contains ys x) → length ys ≤ length xs → (y : ℕ) → Contains ys y → Contains xs y
 within_all [] ys a b f l y c = absurd (let h = c.1 in omega (arith, l, h))
 within_all (x ∷ xs) [] a b f l y c = absurd (none_in y c)
-within_all (x ∷ xs) (y ∷ ys) a b f l z c = elim (in_cons y ys x (f x (in_head x xs))) [
+within_all (x ∷ xs) (y ∷ ys) a b f l z c = elim (in_cons y ys x (f x (Contains-here x xs))) [
   | inl e ↦ elim (in_cons y ys z c) [
-    | inl q ↦ subst (Contains (x ∷ xs)) (e ∙ sym q) (in_head x xs)
+    | inl q ↦ subst (Contains (x ∷ xs)) (e ∙ sym q) (Contains-here x xs)
     | inr d ↦ in_tail x xs z (within_all xs ys (rest_ascends x xs a) (rest_ascends y ys b) (λ w k. elim (in_cons y ys w (f w (in_tail x xs w k))) [
       | inl q ↦ let h = above_head x xs a w k in absurd (omega (arith, h, q, e))
       | inr i ↦ i
@@ -131,12 +132,12 @@ within_all (x ∷ xs) (y ∷ ys) a b f l z c = elim (in_cons y ys x (f x (in_hea
 -- ascending lists with the same numbers are the same
 pub same_numbers : (xs ys : List ℕ) → AllPairs (λ i j. i < j) xs → AllPairs (λ i j. i < j) ys → ((x : ℕ) → Contains xs x → Contains ys x) → ((y : ℕ) → Contains ys y → Contains xs y) → xs ≡ ys
 same_numbers [] [] a b f g = refl
-same_numbers [] (y ∷ ys) a b f g = absurd (none_in y (g y (in_head y ys)))
-same_numbers (x ∷ xs) [] a b f g = absurd (none_in x (f x (in_head x xs)))
+same_numbers [] (y ∷ ys) a b f g = absurd (none_in y (g y (Contains-here y ys)))
+same_numbers (x ∷ xs) [] a b f g = absurd (none_in x (f x (Contains-here x xs)))
 same_numbers (x ∷ xs) (y ∷ ys) a b f g =
-    let e : x ≡ y = elim (in_cons y ys x (f x (in_head x xs))) [
+    let e : x ≡ y = elim (in_cons y ys x (f x (Contains-here x xs))) [
       | inl q ↦ q
-      | inr c ↦ elim (in_cons x xs y (g y (in_head y ys))) [ inl q ↦ sym q | inr d ↦ let h = above_head y ys b x c in let k = above_head x xs a y d in absurd (omega (arith, h, k)) ]
+      | inr c ↦ elim (in_cons x xs y (g y (Contains-here y ys))) [ inl q ↦ sym q | inr d ↦ let h = above_head y ys b x c in let k = above_head x xs a y d in absurd (omega (arith, h, k)) ]
     ] in
     ap (λ t. t ∷ xs) e ∙ ap (λ l. y ∷ l) (same_numbers xs ys (rest_ascends x xs a) (rest_ascends y ys b)
     (λ z c. elim (in_cons y ys z (f z (in_tail x xs z c))) [ inl q ↦ let h = above_head x xs a z c in absurd (omega (arith, h, q, e)) | inr d ↦ d ])
@@ -145,7 +146,7 @@ same_numbers (x ∷ xs) (y ∷ ys) a b f g =
 listed_or : (ys : List ℕ) (x : ℕ) → Contains ys x ⊎ (Contains ys x → ⊥)
 listed_or [] x = inr (none_in x)
 listed_or (y ∷ ys) x = elim (cases_eq x y) [
-  | inl e ↦ inl (subst (Contains (y ∷ ys)) (sym e) (in_head y ys))
+  | inl e ↦ inl (subst (Contains (y ∷ ys)) (sym e) (Contains-here y ys))
   | inr n ↦ elim (listed_or ys x) [ inl c ↦ inl (in_tail y ys x c) | inr m ↦ inr (λ c. elim (in_cons y ys x c) [ inl e ↦ n e | inr d ↦ m d ]) ]
 ]
 
@@ -153,6 +154,6 @@ listed_or (y ∷ ys) x = elim (cases_eq x y) [
 pub missing : (xs ys : List ℕ) → ((x : ℕ) × (Contains xs x × (Contains ys x → ⊥))) ⊎ ((x : ℕ) → Contains xs x → Contains ys x)
 missing [] ys = inr (λ x c. absurd (none_in x c))
 missing (x ∷ xs) ys = elim (listed_or ys x) [
-  | inr n ↦ inl (x, (in_head x xs, n))
+  | inr n ↦ inl (x, (Contains-here x xs, n))
   | inl c ↦ elim (missing xs ys) [ inl m ↦ inl (m.0, (in_tail x xs m.0 m.1.0, m.1.1)) | inr f ↦ inr (λ z d. elim (in_cons x xs z d) [ inl e ↦ subst (Contains ys) (sym e) c | inr w ↦ f z w ]) ]
 ]

@@ -7,9 +7,10 @@ use Rattle.std.specs.List.Sorted.{IsSortedByKey}
 use Rattle.std.proofs.lemmas.Int.{ints}
 use Rattle.std.proofs.lemmas.List.{get_or_default, get_or-map, length-map}
 use Rattle.std.proofs.lemmas.List.Elements.{All-contains, Contains-append_cases}
+use Rattle.gf_int.proofs.ListLaws.{Contains-here, all_by}
 use Rattle.gf_vec.specs.Vector.{dot}
 use Rattle.gf_duality.specs.Rays.{IsRays}
-use Rattle.gf_duality.proofs.ListLaws.{none_in, in_head, in_tail, in_cons, all_by, place, less, at, more}
+use Rattle.gf_duality.proofs.ListLaws.{none_in, in_tail, in_cons, place, less, at, more}
 use Rattle.gf_duality.proofs.Determined.{described_of, less_never}
 use Rattle.gf_fans.specs.Dimension.{HasDimension}
 use Rattle.gf_fans.specs.FaceLists.{IsPartOn, AreNumbers, IsFaceBy, numbered}
@@ -23,11 +24,11 @@ use Rattle.gf_fans.proofs.Ordered.{by_lengths, within_all, same_numbers, missing
 
 pub in_map : {X Y : Type 0} (f : X → Y) (xs : List X) (x : X) → Contains xs x → Contains (map f xs) (f x)
 in_map f [] x c = absurd (none_in x c)
-in_map f (y ∷ xs) x c = elim (in_cons y xs x c) [ inl e ↦ subst (λ t. Contains (f y ∷ map f xs) (f t)) (sym e) (in_head (f y) (map f xs)) | inr d ↦ in_tail (f y) (map f xs) (f x) (in_map f xs x d) ]
+in_map f (y ∷ xs) x c = elim (in_cons y xs x c) [ inl e ↦ subst (λ t. Contains (f y ∷ map f xs) (f t)) (sym e) (Contains-here (f y) (map f xs)) | inr d ↦ in_tail (f y) (map f xs) (f x) (in_map f xs x d) ]
 
 pub of_map : {X Y : Type 0} (f : X → Y) (xs : List X) (y : Y) → Contains (map f xs) y → (x : X) × (Contains xs x × (f x ≡ y))
 of_map f [] y c = absurd (none_in y c)
-of_map f (x ∷ xs) y c = elim (in_cons (f x) (map f xs) y c) [ inl e ↦ (x, (in_head x xs, sym e)) | inr d ↦ let m = of_map f xs y d in (m.0, (in_tail x xs m.0 m.1.0, m.1.1)) ]
+of_map f (x ∷ xs) y c = elim (in_cons (f x) (map f xs) y c) [ inl e ↦ (x, (Contains-here x xs, sym e)) | inr d ↦ let m = of_map f xs y d in (m.0, (in_tail x xs m.0 m.1.0, m.1.1)) ]
 
 -- the vector at a number
 pub at_number : (rays : List (List ℤ)) (numbers : List ℕ) (i : ℕ) → Contains numbers i → Contains (numbered rays numbers) (get_or rays i [])
@@ -68,7 +69,7 @@ number_in rays numbers i a n hi c =
 pub places_of : (hs zero_rows : List (List ℤ)) → ((t : List ℤ) → Contains zero_rows t → Contains hs t) → (ks : List ℕ) × (((k : ℕ) → Contains ks k → k < length hs) × (numbered hs ks ≡ zero_rows))
 places_of hs [] f = ([], ((λ k c. absurd (none_in k c)), refl))
 places_of hs (t ∷ ts) f =
-    let c = f t (in_head t ts) in
+    let c = f t (Contains-here t ts) in
     let r = places_of hs ts (λ u d. f u (in_tail t ts u d)) in
     (c.0 ∷ r.0, ((λ k d. elim (in_cons c.0 r.0 k d) [ inl e ↦ subst (λ j. j < length hs) (sym e) c.1 | inr i ↦ r.1.0 k i ]), ap (λ v. v ∷ numbered hs r.0) (get_or_default hs c.0 [] t c.1 ∙ c.2) ∙ ap (λ l. t ∷ l) r.1.1))
 
@@ -124,7 +125,7 @@ least_dimension n hs es lin vs parts i s a sorted h none =
     let f = flat_part n hs es lin vs parts s a in
     let j : ℕ = f.1.0.0 in
     let e : get_or parts j [] ≡ f.0 = get_or_default parts j [] f.0 f.1.0.1 ∙ f.1.0.2 in
-    let empty : (x : List ℕ) → ((y : ℕ) → Contains x y → ⊥) → length x ≤ 0 = λ x g. elim x as (λ (x : List ℕ). ((y : ℕ) → Contains x y → ⊥) → length x ≤ 0) [ [] ↦ λ g. omega arith | y ∷ ys ↦ λ g. absurd (g y (in_head y ys)) ] g in
+    let empty : (x : List ℕ) → ((y : ℕ) → Contains x y → ⊥) → length x ≤ 0 = λ x g. elim x as (λ (x : List ℕ). ((y : ℕ) → Contains x y → ⊥) → length x ≤ 0) [ [] ↦ λ g. omega arith | y ∷ ys ↦ λ g. absurd (g y (Contains-here y ys)) ] g in
     let z : get_or parts i [] ≡ [] = elim (place j i) [
       | more k ↦ absurd (none j k (all_by (Contains (get_or parts i [])) (get_or parts j []) (λ y c. absurd (f.1.1 y (subst (λ l. Contains l y) e c)))))
       | at q ↦ none_left (get_or parts i []) (empty (get_or parts i []) (λ y c. f.1.1 y (subst (λ l. Contains l y) (ap (λ t. get_or parts t []) (sym q) ∙ e) c)))

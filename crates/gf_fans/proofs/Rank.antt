@@ -5,13 +5,14 @@ use Rattle.std.proofs.lemmas.List.Elements.{All-contains}
 use Rattle.gf_int.specs.Content.{scaled}
 use Rattle.gf_int.proofs.RingLaws.{dv, dn, dneg, ◌⊗◌, ◌⊕◌}
 use Rattle.gf_int.proofs.SignLaws.{0<-*ℤ, sign_of, negative, none, positive, zero_product, positive_not_zero}
+use Rattle.gf_int.proofs.ListLaws.{Contains-here}
 use Rattle.gf_vec.specs.Vector.{dot, vector_sum, zeros, entry_at}
 use Rattle.gf_vec.proofs.VectorLaws.{length-times}
 use Rattle.gf_gordan.specs.Elimination.{IsPivot}
 use Rattle.gf_duality.specs.Generators.{Made, nothing, ray, line, summed, multiplied, divided}
 use Rattle.gf_duality.specs.Rays.{IsEchelon}
 use Rattle.gf_fans.specs.Dimension.{AreFree, HasDimension}
-use Rattle.gf_duality.proofs.ListLaws.{none_in, in_head, in_tail, in_cons}
+use Rattle.gf_duality.proofs.ListLaws.{none_in, in_tail, in_cons}
 use Rattle.gf_vec.proofs.EntryLaws.{entry_times, entry_plus, cancel}
 use Rattle.gf_vec.proofs.VectorIdentities.{vv, vz, ◌⊞◌, ◌⊡◌, vsame}
 use Rattle.gf_duality.proofs.Described.{pair_zero}
@@ -102,14 +103,14 @@ exchange : (n : ℕ) (y : List ℤ) (ys xs : List (List ℤ)) → length y ≡ n
 exchange n y ys [] ly w f i = inl (λ z c. absurd (none_in z c))
 exchange n y ys (x ∷ xs) ly w f i =
     let wt : (z : List ℤ) → Contains xs z → length z ≡ n = λ z c. w z (in_tail x xs z c) in
-    let lx : length x ≡ n = w x (in_head x xs) in
-    let p = apart n [] (y ∷ ys) y ys x ly (λ z c. none_in z c) (λ z c. in_cons y ys z c) (i x (in_head x xs)) in
+    let lx : length x ≡ n = w x (Contains-here x xs) in
+    let p = apart n [] (y ∷ ys) y ys x ly (λ z c. none_in z c) (λ z c. in_cons y ys z c) (i x (Contains-here x xs)) in
     let k = p.k in let a = p.a in
     elim (exchange n y ys xs ly wt f.1 (λ z c. i z (in_tail x xs z c))) [
       | inl all ↦ elim (sign_of a) [
         | none e ↦ inl (λ z c. elim (in_cons x xs z c) [ inl q ↦ subst (Made n [] ys) (sym q) (zero_left n y p.w x ys k a ly lx p.k_positive e p.of_w p.is) | inr d ↦ all z d ])
-        | positive g ↦ inr (record { rest = xs; one = refl; free = f.1; inside = all; below = λ z c. own_member n (x ∷ xs) z (wt z c) (in_tail x xs z c); top = x; of_top = own_member n (x ∷ xs) x lx (in_head x xs); parts = p; not_zero = λ e. omega (arith, ints, g, e) })
-        | negative g ↦ inr (record { rest = xs; one = refl; free = f.1; inside = all; below = λ z c. own_member n (x ∷ xs) z (wt z c) (in_tail x xs z c); top = x; of_top = own_member n (x ∷ xs) x lx (in_head x xs); parts = p; not_zero = λ e. omega (arith, ints, g, e) })
+        | positive g ↦ inr (record { rest = xs; one = refl; free = f.1; inside = all; below = λ z c. own_member n (x ∷ xs) z (wt z c) (in_tail x xs z c); top = x; of_top = own_member n (x ∷ xs) x lx (Contains-here x xs); parts = p; not_zero = λ e. omega (arith, ints, g, e) })
+        | negative g ↦ inr (record { rest = xs; one = refl; free = f.1; inside = all; below = λ z c. own_member n (x ∷ xs) z (wt z c) (in_tail x xs z c); top = x; of_top = own_member n (x ∷ xs) x lx (Contains-here x xs); parts = p; not_zero = λ e. omega (arith, ints, g, e) })
       ]
       | inr r ↦
           let q = r.parts in let l = q.k in let b = q.a in let z : List ℤ = r.top in
@@ -133,7 +134,7 @@ exchange n y ys (x ∷ xs) ly w f i =
             );
             inside = λ t c. elim (in_cons v r.rest t c) [ inl h ↦ subst (Made n [] ys) (sym h) of_v | inr d ↦ r.inside t d ];
             below = λ t c. elim (in_cons v r.rest t c) [
-              | inl h ↦ subst (Made n [] (x ∷ xs)) (sym h) (summed n [] (x ∷ xs) _ _ v refl (span-times n (x ∷ xs) (b *ℤ k) x (own_member n (x ∷ xs) x lx (in_head x xs))) (span-times n (x ∷ xs) (neg_ℤ (a *ℤ l)) z (more_span n x xs z wt r.of_top)))
+              | inl h ↦ subst (Made n [] (x ∷ xs)) (sym h) (summed n [] (x ∷ xs) _ _ v refl (span-times n (x ∷ xs) (b *ℤ k) x (own_member n (x ∷ xs) x lx (Contains-here x xs))) (span-times n (x ∷ xs) (neg_ℤ (a *ℤ l)) z (more_span n x xs z wt r.of_top)))
               | inr d ↦ more_span n x xs t wt (r.below t d)
             ];
             top = z;
@@ -145,8 +146,8 @@ exchange n y ys (x ∷ xs) ly w f i =
 
 pub free_short : (n : ℕ) (ys xs : List (List ℤ)) → ((z : List ℤ) → Contains ys z → length z ≡ n) → ((z : List ℤ) → Contains xs z → length z ≡ n) → AreFree n xs → ((z : List ℤ) → Contains xs z → Made n [] ys z) → length xs ≤ length ys
 free_short n [] [] wy wx f i = omega arith
-free_short n [] (x ∷ xs) wy wx f i = absurd (f.0 (span_into n [] xs x (λ z c. absurd (none_in z c)) (i x (in_head x xs))))
-free_short n (y ∷ ys) xs wy wx f i = elim (exchange n y ys xs (wy y (in_head y ys)) wx f i) [
+free_short n [] (x ∷ xs) wy wx f i = absurd (f.0 (span_into n [] xs x (λ z c. absurd (none_in z c)) (i x (Contains-here x xs))))
+free_short n (y ∷ ys) xs wy wx f i = elim (exchange n y ys xs (wy y (Contains-here y ys)) wx f i) [
   | inl all ↦ let h : length xs ≤ length ys = free_short n ys xs (λ z c. wy z (in_tail y ys z c)) wx f all in omega (arith, h)
   | inr r ↦ let h : length r.rest ≤ length ys = free_short n ys r.rest (λ z c. wy z (in_tail y ys z c)) (λ z c. Made-length n [] ys z (r.inside z c)) r.free r.inside in let o = r.one in omega (arith, h, o)
 ]
@@ -167,7 +168,7 @@ span_entry n rays lin v p never f (divided m rs ls b u w k e g) = cancel b (entr
 free_of : (n : ℕ) (rows whole : List (List ℤ)) → IsEchelon whole → ((x : List ℤ) → Contains rows x → Contains whole x) → AllPairs (λ x y. (p q : ℕ) → IsPivot x p → IsPivot y q → p < q) rows → AreFree n rows
 free_of n [] whole e i r = tt
 free_of n (x ∷ rows) whole e i r =
-    let cx = i x (in_head x rows) in
+    let cx = i x (Contains-here x rows) in
     let l = All-contains (λ x. (p : ℕ) × (IsPivot x p × (pos 0 <ℤ entry_at x p))) whole x e.leading cx in
     let p = l.0 in
     let after : (y : List ℤ) → Contains rows y → (q : ℕ) → IsPivot y q → p < q = λ y c q k. subst (λ (t : List ℤ). (p q : ℕ) → IsPivot x p → IsPivot t q → p < q) c.2 (r 0 (suc c.0) y (omega arith) (omega (arith, c.1))) p q l.1.0 k in (
@@ -220,7 +221,7 @@ pub dimension_step : (n : ℕ) (small large : List (List ℤ)) (d : ℕ) (t y : 
 dimension_step n small large d t y wl hs sub flat my nz all =
     let ly = Made-length n [] large y my in
     let wy : (x : List ℤ) → Contains (y ∷ hs.basis) x → length x ≡ n = λ x c. elim (in_cons y hs.basis x c) [ inl q ↦ ap length q ∙ ly | inr k ↦ hs.width x k ] in
-    let own : Made n [] (y ∷ hs.basis) y = own_member n (y ∷ hs.basis) y ly (in_head y hs.basis) in
+    let own : Made n [] (y ∷ hs.basis) y = own_member n (y ∷ hs.basis) y ly (Contains-here y hs.basis) in
     let k : ℤ = dot t y in
     record {
       basis = y ∷ hs.basis;

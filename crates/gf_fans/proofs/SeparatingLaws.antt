@@ -2,12 +2,13 @@
 use Rattle.std.proofs.Common.{◌≡◌, ℕ, List, [], ◌∷◌, ◌++◌, length, ℤ, pos, negsuc, ◌*ℤ◌, ◌≤ℤ◌, arith, refl, sym, subst, ap, ◌∙◌, Contains, ◌⊎◌, inl, inr}
 use Rattle.std.proofs.lemmas.Int.{ints}
 use Rattle.std.proofs.lemmas.List.Elements.{All-contains, Contains-append_left, Contains-append_right, Contains-append_cases}
+use Rattle.gf_int.proofs.ListLaws.{Contains-here}
 use Rattle.gf_vec.specs.Vector.{dot, opposite}
 use Rattle.gf_vec.proofs.VectorLaws.{dot-times}
 use Rattle.gf_duality.specs.Generators.{Made, ray, line, AreValid}
 use Rattle.gf_duality.specs.Rays.{IsRays}
 use Rattle.gf_duality.specs.Faces.{Rows, SameCone, IsInCone, part, IsFaceOf}
-use Rattle.gf_duality.proofs.ListLaws.{none_in, in_head, in_tail, in_cons}
+use Rattle.gf_duality.proofs.ListLaws.{none_in, in_tail, in_cons}
 use Rattle.gf_duality.proofs.Made.{Made-dot, Made-into}
 use Rattle.gf_duality.proofs.Generated.{made-generated}
 use Rattle.gf_duality.proofs.Determined.{described_of}
@@ -26,11 +27,11 @@ opposites (h ∷ hs) = opposite h ∷ opposites hs
 
 opposite_in : (hs : List (List ℤ)) (h : List ℤ) → Contains hs h → Contains (opposites hs) (opposite h)
 opposite_in [] h c = absurd (none_in h c)
-opposite_in (k ∷ hs) h c = elim (in_cons k hs h c) [ inl e ↦ subst (λ t. Contains (opposite k ∷ opposites hs) (opposite t)) (sym e) (in_head (opposite k) (opposites hs)) | inr d ↦ in_tail (opposite k) (opposites hs) (opposite h) (opposite_in hs h d) ]
+opposite_in (k ∷ hs) h c = elim (in_cons k hs h c) [ inl e ↦ subst (λ t. Contains (opposite k ∷ opposites hs) (opposite t)) (sym e) (Contains-here (opposite k) (opposites hs)) | inr d ↦ in_tail (opposite k) (opposites hs) (opposite h) (opposite_in hs h d) ]
 
 of_opposite : (hs : List (List ℤ)) (t : List ℤ) → Contains (opposites hs) t → (h : List ℤ) × (Contains hs h × (t ≡ opposite h))
 of_opposite [] t c = absurd (none_in t c)
-of_opposite (k ∷ hs) t c = elim (in_cons (opposite k) (opposites hs) t c) [ inl e ↦ (k, (in_head k hs, e)) | inr d ↦ let f = of_opposite hs t d in (f.0, (in_tail k hs f.0 f.1.0, f.1.1)) ]
+of_opposite (k ∷ hs) t c = elim (in_cons (opposite k) (opposites hs) t c) [ inl e ↦ (k, (Contains-here k hs, e)) | inr d ↦ let f = of_opposite hs t d in (f.0, (in_tail k hs f.0 f.1.0, f.1.1)) ]
 
 turned_at : (h x : List ℤ) → dot (opposite h) x ≡ negsuc 0 *ℤ dot h x
 turned_at h x = dot-times (negsuc 0) h x

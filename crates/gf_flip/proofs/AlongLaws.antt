@@ -5,11 +5,12 @@ use Rattle.std.proofs.lemmas.List.{take_more, take_all}
 use Rattle.std.proofs.lemmas.List.Elements.{Contains-append_left, Contains-append_right, Contains-append_cases}
 use Rattle.gf_frac.specs.Fraction.{◌+ℚ◌, zero_ℚ}
 use Rattle.gf_exponents.specs.Exponents.{Exponents, same}
+use Rattle.gf_int.proofs.ListLaws.{Contains-here}
 use Rattle.gf_poly.specs.declared.Term.{Term}
 use Rattle.gf_poly.specs.Polynomial.{Terms, coefficient, HasVariables, IsAbove, IsDescending}
 use Rattle.gf_poly.specs.Marking.{MarkedPolynomial}
 use Rattle.gf_ideal.specs.OrderTable.{AreMultipleApart}
-use Rattle.gf_ideal.proofs.ListLaws.{Contains-cases, Contains-here}
+use Rattle.gf_ideal.proofs.ListLaws.{Contains-cases}
 use Rattle.gf_ideal.proofs.GeneratorLaws.{polys-++}
 use Rattle.gf_initial.specs.Parts.{IsPartAlong}
 use Rattle.gf_initial.proofs.ClassLaws.{multiple-grading}

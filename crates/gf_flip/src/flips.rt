@@ -15,7 +15,7 @@ use crate::tails::reduced_tails;
 use crate::tops::top_lifts;
 use crate::turns::{Task, basis_for};
 use crate::wide::wide_crossed;
-use gf_buchberger::BasisError;
+use gf_buchberger::{BasisError, refused};
 use gf_division::autoreduce;
 use gf_order::Order;
 use gf_poly::{Marked, MarkedSet, Poly, PolyError};
@@ -24,17 +24,6 @@ use std::alloc::Global;
 
 /// Why there is no flip: as there may be no basis.
 pub type FlipError = BasisError;
-
-/// The same refusal, of a flip.
-fn refused(refusal: PolyError) -> FlipError
-    ensures { result ≡ of_poly_error refusal }
-{
-    match refusal {
-        PolyError::Overflow(o) => BasisError::Overflow(o),
-        PolyError::Exponent(o) => BasisError::Exponent(o),
-        PolyError::Memory => BasisError::Memory,
-    }
-}
 
 /// The reduced basis of the parts, for the order along the facet.
 fn basis_of_parts(

@@ -6,6 +6,7 @@
 
 ghost use Rattle.std.specs.Prelude.{◌<◌};
 
+use crate::entries::{entry_at, last_of};
 use crate::found::Found;
 use crate::pivoting::vector_of;
 use crate::table::Column;
@@ -39,22 +40,6 @@ fn along(line: &[i64], vector: &[i64]) -> i64 {
         sum = sum.wrapping_add(x.wrapping_mul(*y));
     }
     sum
-}
-
-/// The last entry, or 0.
-fn last_of(xs: &[i64]) -> i64 {
-    match xs.last() {
-        Some(x) => *x,
-        None => 0,
-    }
-}
-
-/// The entry at a place, or 0.
-fn entry_at(xs: &[i64], place: usize) -> i64 {
-    match xs.get(place) {
-        Some(x) => *x,
-        None => 0,
-    }
 }
 
 /// Whether a number is within the limit of the table.

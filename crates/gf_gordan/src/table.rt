@@ -6,6 +6,7 @@
 //! lines hold the inverse of the basic columns times one common denominator (Edmonds, Systems of distinct representatives
 //! and linear algebra, 1967), so their entries are minors of the system, and the divisions are exact.
 
+use crate::entries::{entry_at, last_of};
 use gf_vec::quotient;
 use std::alloc::{AllocError, Global};
 
@@ -77,22 +78,6 @@ fn add_line(sum: &mut [i128], line: &[i128]) {
         if let Some(x) = line.get(c) {
             *s = s.wrapping_add(*x);
         }
-    }
-}
-
-/// The entry at a place, or 0.
-fn entry_at(xs: &[i128], place: usize) -> i128 {
-    match xs.get(place) {
-        Some(x) => *x,
-        None => 0,
-    }
-}
-
-/// The last entry, or 0.
-fn last_of(xs: &[i128]) -> i128 {
-    match xs.last() {
-        Some(x) => *x,
-        None => 0,
     }
 }
 

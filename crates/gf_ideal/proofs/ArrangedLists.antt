@@ -5,11 +5,12 @@ use Rattle.gf_exponents.specs.Exponents.{Exponents}
 use Rattle.gf_exponents.specs.Orders.{IsLexBelow}
 use Rattle.gf_exponents.proofs.ExponentsLaws.{same-refl, entries_same}
 use Rattle.gf_exponents.proofs.OrderLaws.{lex-strict}
+use Rattle.gf_int.proofs.ListLaws.{Contains-here}
 use Rattle.gf_poly.specs.Marking.{MarkedPolynomial}
 use Rattle.gf_poly.proofs.MonomialLaws.{same_lists}
 use Rattle.gf_poly.proofs.CoefficientLaws.{descending_unique}
 use Rattle.gf_ideal.specs.Bases.{IsTwin, AreSameBasis, IsCanonical, HaveAscendingMarks, AreArranged}
-use Rattle.gf_ideal.proofs.ListLaws.{Contains-here, Contains-there, Contains-cases, contained_each}
+use Rattle.gf_ideal.proofs.ListLaws.{Contains-there, Contains-cases, contained_each}
 
 -- twins as a program keeps them are equal
 twins_equal : (n : ℕ) (b c : MarkedPolynomial) → IsCanonical n b → IsCanonical n c → IsTwin b c → b ≡ c

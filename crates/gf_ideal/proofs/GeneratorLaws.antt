@@ -5,11 +5,12 @@
 use Rattle.std.proofs.Common.{◌≡◌, ◌⊎◌, ℕ, true, List, [], ◌∷◌, ◌++◌, Contains, arith, refl, sym, ap, subst, inl, inr}
 use Rattle.std.proofs.lemmas.List.Elements.{Contains-append_left, Contains-append_right, Contains-append_cases}
 use Rattle.gf_exponents.specs.Exponents.{same}
+use Rattle.gf_int.proofs.ListLaws.{Contains-here}
 use Rattle.gf_poly.specs.Polynomial.{Terms, SamePolynomial}
 use Rattle.gf_poly.specs.Marking.{MarkedPolynomial, polys}
 use Rattle.gf_ideal.specs.Membership.{IsInVariables, AreInVariables, IsMember, AreSameIdeal}
 use Rattle.gf_ideal.specs.Reduction.{Reached, IsMonicForm, AreMonicForms}
-use Rattle.gf_ideal.proofs.ListLaws.{Contains-here, Contains-there, Contains-cases}
+use Rattle.gf_ideal.proofs.ListLaws.{Contains-there, Contains-cases}
 use Rattle.gf_ideal.proofs.MembershipLaws.{member-equal, member-zero, member-generator, variables_of_member, spans_of_member, member_of_spans, member-trans, same_ideal}
 use Rattle.gf_ideal.proofs.PieceLaws.{Contains-polys, Contains-marked}
 use Rattle.gf_ideal.proofs.StepLaws.{variables-reached, member-reached, member-reached_back, spans-monic, spans-of_monic, monic-monomials}

@@ -7,6 +7,7 @@ use Rattle.gf_exponents.specs.Exponents.{Exponents, plus, same, NoMultiple}
 use Rattle.gf_exponents.specs.Orders.{lighter, IsStrict}
 use Rattle.gf_exponents.proofs.ExponentsLaws.{plus_assoc, same-refl, same_flip, same_shift, same_trans, same_of, same_shift_right}
 use Rattle.gf_exponents.proofs.OrderLaws.{lighter-strict}
+use Rattle.gf_int.proofs.ListLaws.{Contains-here}
 use Rattle.gf_poly.specs.Polynomial.{Terms, coefficient, times}
 use Rattle.gf_poly.specs.Marking.{MarkedPolynomial, Each}
 use Rattle.gf_poly.proofs.PolynomialLaws.{coefficient-++, coefficient-same}
@@ -15,7 +16,7 @@ use Rattle.gf_ideal.specs.Marks.{IsMarked, AreMarked, IsPositive}
 use Rattle.gf_ideal.specs.Reduction.{IsDivisible, IsStep}
 use Rattle.gf_ideal.specs.Bases.{AreMembers, IsBasis, HasReducedTails, AreApart, IsReducedBasis, IsReducedBasisFor}
 use Rattle.gf_ideal.specs.WorkLists.{IsTail, IsReducedTail, AreReducedTails}
-use Rattle.gf_ideal.proofs.ListLaws.{Contains-here, Contains-there, Contains-cases}
+use Rattle.gf_ideal.proofs.ListLaws.{Contains-there, Contains-cases}
 use Rattle.gf_ideal.proofs.StepLaws.{IsWithin, IsUpTo, IsClosed, closed-below, closed-up_to, multiple_within, sum_within, member-reached, reached-one}
 use Rattle.gf_ideal.proofs.BasisLaws.{groebner_by_weight, groebner_by_order}
 

@@ -1,5 +1,6 @@
 -- Lists: what holds of each element, and of each that is contained.
-use Rattle.std.proofs.Common.{◌≡◌, ◌⊎◌, ℕ, zero, suc, ◌<◌, ◌≤◌, List, [], ◌∷◌, ◌++◌, length, Contains, slice_index_or, max, arith, refl, sym, subst, inl, inr}
+use Rattle.std.proofs.Common.{◌≡◌, ◌⊎◌, ℕ, zero, suc, ◌<◌, ◌≤◌, List, [], ◌∷◌, ◌++◌, length, Contains, slice_index_or, max, arith, subst, inl, inr}
+use Rattle.gf_int.proofs.ListLaws.{Contains-here}
 use Rattle.gf_poly.specs.Marking.{Each}
 
 -- two lists, one after the other
@@ -11,10 +12,6 @@ Each-++ P (x ∷ xs) ys h k = (h.0, Each-++ P xs ys h.1 k)
 pub Each-weaker : {A : Type 0} (P Q : A → Type 0) → ((x : A) → P x → Q x) → (xs : List A) → Each P xs → Each Q xs
 Each-weaker P Q w [] h = tt
 Each-weaker P Q w (x ∷ xs) h = (w x h.0, Each-weaker P Q w xs h.1)
-
--- the first
-pub Contains-here : {A : Type 0} (x : A) (xs : List A) → Contains (x ∷ xs) x
-Contains-here x xs = (0, omega arith, refl)
 
 -- and those after it
 pub Contains-there : {A : Type 0} (x y : A) (xs : List A) → Contains xs y → Contains (x ∷ xs) y
@@ -41,17 +38,6 @@ Contains-cases {A} x y xs c = at c.0 c.1 c.2
     at : (k : ℕ) → k < length (x ∷ xs) → slice_index_or (x ∷ xs) k y ≡ y → (x ≡ y) ⊎ Contains xs y
     at zero l e = inl e
     at (suc k) l e = inr (k, omega arith, e)
-
--- an element appended last
-pub Contains-last : {A : Type 0} (xs : List A) (x y : A) → Contains (xs ++ x ∷ []) y → Contains xs y ⊎ (y ≡ x)
-Contains-last {A} xs x y h = at xs h.0 h.1 h.2
-  where
-    at : (xs : List A) (i : ℕ) → i < length (xs ++ x ∷ []) → slice_index_or (xs ++ x ∷ []) i y ≡ y →
-        Contains xs y ⊎ (y ≡ x)
-    at [] zero l e = inr (sym e)
-    at [] (suc i) l e = absurd (omega arith)
-    at (z ∷ xs) zero l e = inl (0, omega arith, e)
-    at (z ∷ xs) (suc i) l e = elim (at xs i (omega arith) e) [ inl k ↦ inl (suc k.0, omega (arith, k.1), k.2) | inr q ↦ inr q ]
 
 -- numbers that bound each element one by one have one that bounds all
 pub collect : {A : Type 0} (P : A → ℕ → Type 0) → ((a : A) (k l : ℕ) → k ≤ l → P a k → P a l) → (xs : List A) →

@@ -7,12 +7,13 @@ use Rattle.gf_frac.specs.Fraction.{Fraction, over, whole, ◌+ℚ◌, ◌*ℚ◌
 use Rattle.gf_frac.proofs.FractionLaws.{+ℚ-zero, *ℚ-zero, *ℚ-+ℚ, *ℚ_assoc, *ℚ_comm, zero-+ℚ, zero_or_not, one-*ℚ, +ℚ-middle}
 use Rattle.gf_exponents.specs.Exponents.{Exponents, plus, IsInRing}
 use Rattle.gf_exponents.proofs.ExponentsLaws.{plus-nil, same_flip}
+use Rattle.gf_int.proofs.ListLaws.{Contains-here}
 use Rattle.gf_poly.specs.Polynomial.{Terms, coefficient, SamePolynomial, times}
 use Rattle.gf_poly.specs.Marking.{Each}
 use Rattle.gf_poly.proofs.PolynomialLaws.{coefficient-++, coefficient-times, coefficient-times_factor, SamePolynomial-times, times-times, times-++}
 use Rattle.gf_ideal.specs.Membership.{HasMonomial, IsInVariables, AreInVariables, IntegerTerms, product, combination, IsMultiplier, IsMember, AreSameIdeal, Spans}
 use Rattle.gf_ideal.proofs.Identities.{whole-*, den_times, divided_by, exchange}
-use Rattle.gf_ideal.proofs.ListLaws.{Each-++, Contains-here, Contains-there, Contains-cases, each_contained}
+use Rattle.gf_ideal.proofs.ListLaws.{Each-++, Contains-there, Contains-cases, each_contained}
 use Rattle.gf_ideal.proofs.RingLaws.{in_ring, ring-along, ring-left, ring-plus}
 use Rattle.gf_ideal.proofs.TermLaws.{nothing_there}
 use Rattle.gf_ideal.proofs.SpanLaws.{Spans-equal, Spans-zero, Spans-generator, Spans-++, Spans-times, Spans-trans}

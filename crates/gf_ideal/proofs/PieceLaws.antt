@@ -6,12 +6,13 @@ use Rattle.gf_frac.specs.Fraction.{Fraction, ◌+ℚ◌, ◌*ℚ◌, one_ℚ}
 use Rattle.gf_frac.proofs.FractionLaws.{+ℚ-zero}
 use Rattle.gf_exponents.specs.Exponents.{Exponents, plus, same}
 use Rattle.gf_exponents.proofs.ExponentsLaws.{plus_assoc}
+use Rattle.gf_int.proofs.ListLaws.{Contains-here}
 use Rattle.gf_poly.specs.Polynomial.{Terms, coefficient, times}
 use Rattle.gf_poly.specs.Marking.{MarkedPolynomial, polys, Each}
 use Rattle.gf_poly.proofs.PolynomialLaws.{coefficient-++, SamePolynomial-times, times-times, times-++, times-plain}
 use Rattle.gf_ideal.specs.Membership.{Spans}
 use Rattle.gf_ideal.specs.Marks.{Piece, level, value, IsCombined}
-use Rattle.gf_ideal.proofs.ListLaws.{Contains-here, Contains-there, Contains-cases, Each-++}
+use Rattle.gf_ideal.proofs.ListLaws.{Contains-there, Contains-cases, Each-++}
 use Rattle.gf_ideal.proofs.SpanLaws.{Spans-zero, Spans-++, Spans-times}
 use Rattle.gf_poly.proofs.MergeLaws.{swap_first}
 

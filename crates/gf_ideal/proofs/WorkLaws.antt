@@ -4,6 +4,7 @@
 use Rattle.std.proofs.Common.{◌⊎◌, ℕ, List, [], Contains, arith, sym, subst, inl, inr}
 use Rattle.gf_frac.specs.Fraction.{Fraction, neg_ℚ, one_ℚ}
 use Rattle.gf_exponents.specs.Exponents.{Exponents, plus, join}
+use Rattle.gf_int.proofs.ListLaws.{Contains-last}
 use Rattle.gf_poly.specs.Polynomial.{Terms, SamePolynomial, times}
 use Rattle.gf_poly.specs.Marking.{MarkedPolynomial, polys}
 use Rattle.gf_ideal.specs.Membership.{HasMonomial, AreInVariables, IsMember}
@@ -12,7 +13,6 @@ use Rattle.gf_ideal.specs.MonomialOrders.{MonomialOrder, below_of, IsOfGrade, Is
 use Rattle.gf_ideal.specs.Bases.{AreMembers, IsBasis, IsHeaviest}
 use Rattle.gf_ideal.specs.Settled.{ArePairsSettled}
 use Rattle.gf_ideal.specs.WorkLists.{IsOrigin, IsWorkList}
-use Rattle.gf_ideal.proofs.ListLaws.{Contains-last}
 use Rattle.gf_ideal.proofs.TermLaws.{found}
 use Rattle.gf_ideal.proofs.MembershipLaws.{member-generator, spans_of_member}
 use Rattle.gf_ideal.proofs.PieceLaws.{combined_of_spans, combined_of_polys}

@@ -8,6 +8,7 @@ use Rattle.gf_frac.proofs.FractionLaws.{zero_or_not}
 use Rattle.gf_exponents.specs.Exponents.{Exponents, same, whole_weight}
 use Rattle.gf_exponents.proofs.ExponentsLaws.{same_flip}
 use Rattle.gf_exponents.proofs.WholeWeightLaws.{whole_weight-same}
+use Rattle.gf_int.proofs.ListLaws.{Contains-here}
 use Rattle.gf_poly.specs.Polynomial.{Terms, coefficient, SamePolynomial, times}
 use Rattle.gf_poly.specs.Marking.{MarkedPolynomial, polys}
 use Rattle.gf_poly.specs.InitialForms.{IsInitialForm, IsOfGreatestWeight}
@@ -17,7 +18,7 @@ use Rattle.gf_ideal.specs.Marks.{IsMarked, AreMarked}
 use Rattle.gf_ideal.specs.Reduction.{IsIrreducible}
 use Rattle.gf_ideal.specs.OrderTable.{AreMultipleApart}
 use Rattle.gf_ideal.specs.Bases.{AreMembers, IsBasis}
-use Rattle.gf_ideal.proofs.ListLaws.{Contains-here, Contains-there}
+use Rattle.gf_ideal.proofs.ListLaws.{Contains-there}
 use Rattle.gf_ideal.proofs.Identities.{one_not_zero}
 use Rattle.gf_ideal.proofs.OrderWeights.{IsGrading}
 use Rattle.gf_ideal.proofs.StepLaws.{IsClosed, closed_downward, AreTaken, taken}

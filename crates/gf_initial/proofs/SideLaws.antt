@@ -6,6 +6,7 @@
 use Rattle.std.proofs.Common.{◌≡◌, ◌⊎◌, ℕ, true, false, if◌then◌else◌, List, [], ◌∷◌, Contains, get_or, ℤ, pos, neg_ℤ, ◌+ℤ◌, ◌*ℤ◌, ◌≤ℤ◌, arith, refl, sym, ap, ◌∙◌, subst, inl, inr}
 use Rattle.std.proofs.lemmas.Int.{ints}
 use Rattle.gf_int.proofs.RingLaws.{dv, dn, dneg, ◌⊕◌, ◌⊗◌, same as same_number}
+use Rattle.gf_int.proofs.ListLaws.{Contains-here}
 use Rattle.gf_frac.specs.Fraction.{◌+ℚ◌, zero_ℚ}
 use Rattle.gf_frac.proofs.FractionLaws.{zero-+ℚ, zero_or_not}
 use Rattle.gf_exponents.specs.Exponents.{Exponents, entry, same, whole_weight}
@@ -19,7 +20,7 @@ use Rattle.gf_ideal.specs.Membership.{HasMonomial, AreInVariables, AreSameIdeal}
 use Rattle.gf_ideal.specs.Marks.{IsMarked, AreMarked}
 use Rattle.gf_ideal.specs.OrderTable.{AreMultipleApart}
 use Rattle.gf_ideal.specs.Bases.{IsBasis, IsHeaviest, IsReducedBasisFor, IsTwin, AreSameBasis}
-use Rattle.gf_ideal.proofs.ListLaws.{Contains-here, Contains-there, Contains-cases}
+use Rattle.gf_ideal.proofs.ListLaws.{Contains-there, Contains-cases}
 use Rattle.gf_ideal.proofs.TermLaws.{without, apart, none_left}
 use Rattle.gf_ideal.proofs.MembershipLaws.{variables_of_member}
 use Rattle.gf_ideal.proofs.PieceLaws.{Contains-marked}

@@ -18,6 +18,10 @@ sign_of (pos zero) = none (omega (arith, ints))
 sign_of (pos (suc n)) = positive (omega (arith, ints))
 sign_of (negsuc n) = negative (omega (arith, ints))
 
+-- two numbers are equal, or they aren't
+pub equal_or_not : (x y : ℤ) → (x ≡ y) ⊎ (x ≡ y → ⊥)
+equal_or_not x y = elim (sign_of (x -ℤ y)) [ none g ↦ inl (omega (arith, ints, g)) | positive g ↦ inr (λ e. omega (arith, ints, g, e)) | negative g ↦ inr (λ e. omega (arith, ints, g, e)) ]
+
 -- ---- zero and signs
 
 -- each number is zero or isn't

@@ -5,12 +5,12 @@ use Rattle.std.proofs.Common.{◌≡◌, ◌↔◌, ◌==◌, ℕ, Bool, true, f
 use Rattle.std.proofs.lemmas.Bool.Decides.{nat_tests}
 use Rattle.gf_exponents.specs.Exponents.{Exponents, same}
 use Rattle.gf_exponents.proofs.ExponentsLaws.{same-refl, same_flip, same_trans, eq_by}
+use Rattle.gf_int.proofs.ListLaws.{Contains-here}
 use Rattle.gf_poly.specs.declared.Term.{Term}
 use Rattle.gf_poly.specs.Polynomial.{Terms, IsDescending, HasVariables}
 use Rattle.gf_poly.specs.Marking.{MarkedPolynomials, polys}
 use Rattle.gf_ideal.specs.Membership.{AreInVariables, IsInVariables}
 use Rattle.gf_ideal.proofs.KeptForms.{term_there}
-use Rattle.gf_ideal.proofs.ListLaws.{Contains-here}
 use Rattle.gf_ideal.proofs.ListedTerms.{by_terms, variables_by_terms}
 use Rattle.gf_ideal.proofs.MembershipLaws.{member-generator}
 use Rattle.gf_ideal.proofs.PieceLaws.{Contains-marked}

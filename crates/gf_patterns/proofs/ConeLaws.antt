@@ -4,10 +4,11 @@ use Rattle.std.proofs.lemmas.Int.{ints}
 use Rattle.std.proofs.lemmas.List.{get_or_default}
 use Rattle.std.proofs.lemmas.List.Elements.{All-contains, Contains-get_or}
 use Rattle.std.proofs.lemmas.List.Edits.{get_or-remove_below, length-remove}
+use Rattle.gf_int.proofs.ListLaws.{Contains-here}
 use Rattle.gf_vec.specs.Vector.{dot}
 use Rattle.gf_gordan.specs.Alternative.{AreRows}
 use Rattle.gf_duality.specs.Faces.{Rows, IsInCone, IsFaceOf}
-use Rattle.gf_duality.proofs.ListLaws.{none_in, in_head, in_tail, in_cons, of_rest, rest_cover, less, at, more, place}
+use Rattle.gf_duality.proofs.ListLaws.{none_in, in_tail, in_cons, of_rest, rest_cover, less, at, more, place}
 use Rattle.gf_fans.specs.Fans.{MeetInFaces, MeetPairwise}
 use Rattle.gf_fans.proofs.FanLaws.{is_in, up_in, zero_in, of_part}
 use Rattle.gf_patterns.specs.Refinements.{IsFaceOfSome}
@@ -33,7 +34,7 @@ pub single_is : (n : ℕ) (A : List (List ℤ)) (i : ℕ) → AreRows n A → i 
 single_is n A i w li =
     let a : List ℤ = point_at A i in let rest : List (List ℤ) = remove A i in let ka = point_in A i li in
     record {
-      first = in_head a [];
+      first = Contains-here a [];
       inside = λ s k. subst (Contains A) (sym (elim (in_cons a [] s k) [ inl e ↦ e | inr j ↦ absurd (none_in s j) ])) ka;
       wide = wide_at n A w;
       same_as = λ u lu. (
@@ -45,7 +46,7 @@ single_is n A i w li =
           ]
         ]),
         (λ p. is_in (single_rows A i) u
-            (λ h k. let o = in_map (vector_difference a) rest h k in let kg = of_rest A i o.0 li o.1.0 in let v = difference_up n A a o.0 u w ka kg in let g = p a o.0 (in_head a []) kg in let e : dot h u ≡ dot (vector_difference a o.0) u = ap (λ z. dot z u) o.1.1 in omega (arith, ints, v, g, e))
+            (λ h k. let o = in_map (vector_difference a) rest h k in let kg = of_rest A i o.0 li o.1.0 in let v = difference_up n A a o.0 u w ka kg in let g = p a o.0 (Contains-here a []) kg in let e : dot h u ≡ dot (vector_difference a o.0) u = ap (λ z. dot z u) o.1.1 in omega (arith, ints, v, g, e))
             (λ h k. absurd (none_in h k))),
       );
       each = λ h k. let o = in_map (vector_difference a) rest h k in (o.0, (of_rest A i o.0 li o.1.0, o.1.1));
@@ -61,7 +62,7 @@ rest_of_two A i j g l lj k =
       | inr x ↦ inl (in_tail a (b ∷ []) g x)
       | inl x ↦ elim (rest_cover (remove A j) i [] g li x) [
         | inl y ↦ inr y
-        | inr y ↦ inl (elim (in_cons (get_or (remove A j) i []) [] g y) [ inl e ↦ subst (Contains (a ∷ b ∷ [])) (sym (e ∙ get_or-remove_below A j [] i l lj)) (in_head a (b ∷ [])) | inr z ↦ absurd (none_in g z) ])
+        | inr y ↦ inl (elim (in_cons (get_or (remove A j) i []) [] g y) [ inl e ↦ subst (Contains (a ∷ b ∷ [])) (sym (e ∙ get_or-remove_below A j [] i l lj)) (Contains-here a (b ∷ [])) | inr z ↦ absurd (none_in g z) ])
       ]
     ]
 
@@ -75,13 +76,13 @@ pair_is n A i j w l lj =
     let ka = point_in A i (omega (arith, l, lj)) in let kb = point_in A j lj in
     let two : List (List ℤ) = a ∷ b ∷ [] in
     record {
-      first = in_head a (b ∷ []);
+      first = Contains-here a (b ∷ []);
       inside = λ s k. elim (in_cons a (b ∷ []) s k) [ inl e ↦ subst (Contains A) (sym e) ka | inr x ↦ elim (in_cons b [] s x) [ inl e ↦ subst (Contains A) (sym e) kb | inr y ↦ absurd (none_in s y) ] ];
       wide = wide_at n A w;
       same_as = λ u lu. (
         (λ c s g ks kg.
             let vb = difference_up n A a b u w ka kb in
-            let zb : dot (vector_difference a b) u ≡ pos 0 = zero_in (pair_rows A i j) u (vector_difference a b) c (in_head (vector_difference a b) []) in
+            let zb : dot (vector_difference a b) u ≡ pos 0 = zero_in (pair_rows A i j) u (vector_difference a b) c (Contains-here (vector_difference a b) []) in
             let level_of : (x : List ℤ) → Contains two x → dot x u ≡ dot a u = λ x kx. elim (in_cons a (b ∷ []) x kx) [
               | inl e ↦ ap (λ z. dot z u) e
               | inr y ↦ elim (in_cons b [] x y) [ inl e ↦ let q : dot x u ≡ dot b u = ap (λ z. dot z u) e in omega (arith, ints, q, vb, zb) | inr z ↦ absurd (none_in x z) ]
@@ -94,12 +95,12 @@ pair_is n A i j w l lj =
         (λ p. is_in (pair_rows A i j) u
             (λ h k.
             let o = in_map (vector_difference a) rest h k in let kg = of_rest_of_two A i j o.0 l lj o.1.0 in
-            let v = difference_up n A a o.0 u w ka kg in let g = p a o.0 (in_head a (b ∷ [])) kg in let e : dot h u ≡ dot (vector_difference a o.0) u = ap (λ z. dot z u) o.1.1 in
+            let v = difference_up n A a o.0 u w ka kg in let g = p a o.0 (Contains-here a (b ∷ [])) kg in let e : dot h u ≡ dot (vector_difference a o.0) u = ap (λ z. dot z u) o.1.1 in
             omega (arith, ints, v, g, e))
             (λ h k. elim (in_cons (vector_difference a b) [] h k) [
               | inr y ↦ absurd (none_in h y)
               | inl e ↦
-                  let v = difference_up n A a b u w ka kb in let f = p a b (in_head a (b ∷ [])) kb in let g = p b a (in_tail a (b ∷ []) b (in_head b [])) ka in
+                  let v = difference_up n A a b u w ka kb in let f = p a b (Contains-here a (b ∷ [])) kb in let g = p b a (in_tail a (b ∷ []) b (Contains-here b [])) ka in
                   let q : dot h u ≡ dot (vector_difference a b) u = ap (λ z. dot z u) e in
                   omega (arith, ints, v, f, g, q)
             ])),
@@ -165,13 +166,13 @@ pairs_hypersurface n A cones w different s inner = record {
           one = a;
           two = b;
           other = different p.0 p.1 [] p.2.0 p.2.1;
-          first = top n A (a ∷ b ∷ []) a (pair_rows A p.0 p.1) a i.0 is (in_head a (b ∷ [])) i.1.width iw;
-          second = top n A (a ∷ b ∷ []) a (pair_rows A p.0 p.1) b i.0 is (in_tail a (b ∷ []) b (in_head b [])) i.1.width iw;
+          first = top n A (a ∷ b ∷ []) a (pair_rows A p.0 p.1) a i.0 is (Contains-here a (b ∷ [])) i.1.width iw;
+          second = top n A (a ∷ b ∷ []) a (pair_rows A p.0 p.1) b i.0 is (in_tail a (b ∷ []) b (Contains-here b [])) i.1.width iw;
         });
         closed = face_closed n A (a ∷ b ∷ []) a i.0 (pair_rows A p.0 p.1) f is fk i.1;
       };
   every = λ v lv on.
-      let h = two_vertices n A v (wide_at n A w) lv (on A (in_head A [])) in
+      let h = two_vertices n A v (wide_at n A w) lv (on A (Contains-here A [])) in
       let i : ℕ = h.first.listed.0 in let li = h.first.listed.1 in let j : ℕ = h.second.listed.0 in let lj = h.second.listed.1 in
       let ei : point_at A i ≡ h.one = get_or_default A i [] h.one li ∙ h.first.listed.2 in
       let ej : point_at A j ≡ h.two = get_or_default A j [] h.two lj ∙ h.second.listed.2 in

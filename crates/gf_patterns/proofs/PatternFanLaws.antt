@@ -3,12 +3,13 @@ use Rattle.std.proofs.Common.{◌≡◌, ◌≢◌, ℕ, ◌<◌, List, [], ◌�
 use Rattle.std.proofs.lemmas.Int.{ints}
 use Rattle.std.proofs.lemmas.List.{get_or_default}
 use Rattle.std.proofs.lemmas.List.Elements.{All-contains, All-append}
+use Rattle.gf_int.proofs.ListLaws.{Contains-here, all_by}
 use Rattle.gf_vec.specs.Vector.{dot, zeros}
 use Rattle.gf_vec.proofs.VectorLaws.{length-zeros}
 use Rattle.gf_gordan.specs.Alternative.{AreRows, GordansAlternative, IsSolvable}
 use Rattle.gf_duality.specs.Faces.{Rows, IsInCone, IsFaceOf, part}
 use Rattle.gf_duality.proofs.Equations.{in_map}
-use Rattle.gf_duality.proofs.ListLaws.{none_in, in_head, in_tail, in_cons, all_by, of_rest, stood, place, less, at, more}
+use Rattle.gf_duality.proofs.ListLaws.{none_in, in_tail, in_cons, of_rest, stood, place, less, at, more}
 use Rattle.gf_fans.specs.Fans.{MeetInFaces}
 use Rattle.gf_fans.proofs.FanLaws.{is_in, own_face, same_turned}
 use Rattle.gf_patterns.specs.Refinements.{HaveEntries}
@@ -51,7 +52,7 @@ pair_width n A cones w s c k =
     let p = s.each c k in let a : List ℤ = point_at A p.0 in let b : List ℤ = point_at A p.1 in
     let is = pair_is n A p.0 p.1 w p.2.0 p.2.1 in
     let one : AreRows n (vector_difference a b ∷ []) = all_by (λ t. length t ≡ n) (vector_difference a b ∷ []) (λ t i. elim (in_cons (vector_difference a b) [] t i) [
-      | inl e ↦ ap length e ∙ minus_long n a b (is.wide a (is.inside a is.first)) (is.wide b (is.inside b (in_tail a (b ∷ []) b (in_head b []))))
+      | inl e ↦ ap length e ∙ minus_long n a b (is.wide a (is.inside a is.first)) (is.wide b (is.inside b (in_tail a (b ∷ []) b (Contains-here b []))))
       | inr j ↦ absurd (none_in t j)
     ]) in
     subst (λ z. AreRows n z.inequalities × AreRows n z.equations) (sym p.2.2) (rows_wide n A (a ∷ b ∷ []) a (pair_rows A p.0 p.1) is, one)
@@ -93,7 +94,7 @@ whole_list Admitted n ad =
                 (λ z. (face.1.1 u lu).1 (is_in (part whole_space zs) u (λ h kh. absurd (none_in h kh)) (λ h kh. absurd (none_in h (All-contains (Contains whole_space.inequalities) zs h face.1.0 kh))))),
               );
             };
-        every = λ w lw h. (whole_space, (record { cone = whole_space; listed = in_head whole_space []; face = own_face n whole_space }, λ u lu. (λ i A ka. absurd (none_in A ka), λ z. all_in u)));
+        every = λ w lw h. (whole_space, (record { cone = whole_space; listed = Contains-here whole_space []; face = own_face n whole_space }, λ u lu. (λ i A ka. absurd (none_in A ka), λ z. all_in u)));
       };
     }
 

@@ -3,10 +3,11 @@ use Rattle.std.proofs.Common.{◌≡◌, ℕ, zero, suc, List, [], ◌∷◌, le
 use Rattle.std.proofs.lemmas.Int.{ints}
 use Rattle.std.proofs.lemmas.List.Elements.{All-contains}
 use Rattle.gf_int.proofs.RingLaws.{same, dv, ◌⊗◌, ◌⊕◌, ◌⊖◌}
-use Rattle.gf_int.proofs.SignLaws.{sign_of, negative, none, positive}
+use Rattle.gf_int.proofs.SignLaws.{equal_or_not}
+use Rattle.gf_int.proofs.ListLaws.{Contains-here, all_by}
 use Rattle.gf_vec.specs.Vector.{dot}
 use Rattle.gf_duality.specs.Faces.{Rows, IsInCone, part, IsFaceOf}
-use Rattle.gf_duality.proofs.ListLaws.{none_in, in_head, in_tail, in_cons, all_by}
+use Rattle.gf_duality.proofs.ListLaws.{none_in, in_tail, in_cons}
 use Rattle.gf_fans.specs.Fans.{meet, MeetInFaces}
 use Rattle.gf_fans.proofs.Meeting.{left_in, right_in}
 use Rattle.gf_fans.proofs.FanLaws.{both_in, part_in, of_part, face_same, meet_turned}
@@ -65,16 +66,16 @@ rows_at A S a c P (t ∷ T) dec f =
       of = λ h k. let o = r.of h k in (o.0, (in_tail t T o.0 o.1.0, o.1.1, o.1.2));
       all = λ x k p. elim (in_cons t T x k) [ inl e ↦ inl (subst (Contains S) (sym e) (g (subst P e p))) | inr i ↦ r.all x i p ];
     } in
-    elim (dec t (in_head t T)) [
+    elim (dec t (Contains-here t T)) [
       | inr n ↦ skip (λ p. absurd (n p))
-      | inl given ↦ elim (f t (in_head t T)) [
+      | inl given ↦ elim (f t (Contains-here t T)) [
         | inl s ↦ skip (λ p. s)
         | inr i ↦ record {
           rows = vector_difference a t ∷ r.rows;
           listed = λ h k. elim (in_cons (vector_difference a t) r.rows h k) [ inl e ↦ subst (Contains c.inequalities) (sym e) i | inr j ↦ r.listed h j ];
-          of = λ h k. elim (in_cons (vector_difference a t) r.rows h k) [ inl e ↦ (t, (in_head t T, given, e)) | inr j ↦ let o = r.of h j in (o.0, (in_tail t T o.0 o.1.0, o.1.1, o.1.2)) ];
+          of = λ h k. elim (in_cons (vector_difference a t) r.rows h k) [ inl e ↦ (t, (Contains-here t T, given, e)) | inr j ↦ let o = r.of h j in (o.0, (in_tail t T o.0 o.1.0, o.1.1, o.1.2)) ];
           all = λ x k p. elim (in_cons t T x k) [
-            | inl e ↦ inr (subst (λ z. Contains (vector_difference a t ∷ r.rows) (vector_difference a z)) (sym e) (in_head (vector_difference a t) r.rows))
+            | inl e ↦ inr (subst (λ z. Contains (vector_difference a t ∷ r.rows) (vector_difference a z)) (sym e) (Contains-here (vector_difference a t) r.rows))
             | inr j ↦ elim (r.all x j p) [ inl u ↦ inl u | inr u ↦ inr (in_tail (vector_difference a t) r.rows (vector_difference a x) u) ]
           ];
         }
@@ -134,7 +135,7 @@ face_closed n A S a w c f r (zs, (listed, e)) i u lu =
     let cw : IsInCone c w = of_c w lw i.inside in (
       (λ iu B k. subst (λ z. ContainsPattern z w u) (sym (one_list A B k)) (relative_keeps n A f a w u (λ x lx ix. top n A S a c a x r r.first lx (of_c x lx ix)) i lu iu)),
       (λ g.
-          let k = g A (in_head A []) in
+          let k = g A (Contains-here A []) in
           (e u lu).1 (part_in c zs u (kept_in n A S a w u c r lu (λ s cs. top n A S a c s w r cs lw cw) k) (λ h ch.
           let o = r.each h (All-contains (Contains c.inequalities) zs h listed ch) in
           let v = row_value n A S a c o.0 w r o.1.0 in
@@ -142,13 +143,10 @@ face_closed n A S a w c f r (zs, (listed, e)) i u lu =
           ap (λ y. dot y u) o.1.1 ∙ kept_zero n A S a w u o.0 c r (top n A S a c a w r r.first lw cw) o.1.0 (omega (arith, ints, v, t)) k))),
     )
 
-pub decide_level : (x y : ℤ) → (x ≡ y) ⊎ (x ≡ y → ⊥)
-decide_level x y = elim (sign_of (x -ℤ y)) [ none g ↦ inl (omega (arith, ints, g)) | positive g ↦ inr (λ e. omega (arith, ints, g, e)) | negative g ↦ inr (λ e. omega (arith, ints, g, e)) ]
-
 -- the closed cone of a pattern with all of S is a face of the cone of S
 pub closed_face : (n : ℕ) (A S : List (List ℤ)) (a w : List ℤ) (c : Rows) → IsRowsOf n A S a c → ((s : List ℤ) → Contains S s → IsHighest A w s) → (f : Rows) × (IsFaceOf n f c × IsClosedCone n (A ∷ []) w f)
 closed_face n A S a w c r hw =
-    let z = rows_at A S a c (λ t. dot t w ≡ dot a w) A (λ t k. decide_level (dot t w) (dot a w)) r.every in
+    let z = rows_at A S a c (λ t. dot t w ≡ dot a w) A (λ t k. equal_or_not (dot t w) (dot a w)) r.every in
     let f : Rows = part c z.rows in (
       f,
       (
@@ -161,7 +159,7 @@ closed_face n A S a w c r hw =
                 | inr y ↦ let v = row_value n A S a c s u r hs.listed in let t = flat_in c z.rows u iu (vector_difference a s) y in as_high A u a s (top n A S a c a u r r.first lu cu) hs.listed (omega (arith, ints, v, t))
               ])),
           (λ g.
-              let k = g A (in_head A []) in
+              let k = g A (Contains-here A []) in
               part_in c z.rows u (kept_in n A S a w u c r lu hw k) (λ h ch.
               let o = z.of h ch in ap (λ y. dot y u) o.1.2 ∙ kept_zero n A S a w u o.0 c r (hw a r.first) o.1.0 o.1.1 k)),
         ),

@@ -2,18 +2,19 @@
 use Rattle.std.proofs.Common.{◌≡◌, ◌≢◌, ℕ, List, [], ◌∷◌, length, ℤ, pos, ◌+ℤ◌, ◌-ℤ◌, ◌*ℤ◌, ◌<ℤ◌, ◌≤ℤ◌, arith, sym, ap, ◌∙◌, Contains, ◌⊎◌, inl, inr}
 use Rattle.std.proofs.lemmas.Int.{ints}
 use Rattle.gf_int.proofs.RingLaws.{same, dv, ◌⊗◌, ◌⊖◌}
-use Rattle.gf_int.proofs.SignLaws.{sign_of, negative, none, positive}
+use Rattle.gf_int.proofs.SignLaws.{sign_of, negative, none, positive, equal_or_not}
+use Rattle.gf_int.proofs.ListLaws.{Contains-here}
 use Rattle.gf_vec.specs.Vector.{dot}
 use Rattle.gf_vec.proofs.DotLaws.{vector_ext, own_not_negative, own_zero}
 use Rattle.gf_vec.proofs.VectorLaws.{dot_comm, dot-zeros}
-use Rattle.gf_duality.proofs.ListLaws.{none_in, in_head, in_tail, in_cons}
+use Rattle.gf_duality.proofs.ListLaws.{none_in, in_tail, in_cons}
 use Rattle.gf_patterns.specs.Interiors.{beyond}
 use Rattle.gf_patterns.specs.Patterns.{IsHighest, IsOnHypersurface}
 use Rattle.gf_patterns.specs.PatternRows.{vector_difference}
 use Rattle.gf_patterns.specs.Vertices.{IsVertex}
 use Rattle.gf_patterns.proofs.InteriorLaws.{beyond_vec, dot_beyond, bound_of, times_up}
 use Rattle.gf_patterns.proofs.PatternLaws.{as_high, level, highest_of}
-use Rattle.gf_patterns.proofs.RowLaws.{minus_long, dot_minus, decide_level}
+use Rattle.gf_patterns.proofs.RowLaws.{minus_long, dot_minus}
 
 -- points are the same, or their difference tells them apart
 apart : (n : ℕ) (t s : List ℤ) → length t ≡ n → length s ≡ n → (t ≡ s) ⊎ (dot s (vector_difference t s) <ℤ dot t (vector_difference t s))
@@ -69,10 +70,10 @@ other : (n : ℕ) (A B : List (List ℤ)) (a t w : List ℤ) → ((x : List ℤ)
     ((s : List ℤ) × (IsHighest A w s × (dot s (vector_difference t s) <ℤ dot t (vector_difference t s)))) ⊎ ((s : List ℤ) → Contains B s → IsHighest A w s → s ≡ t)
 other n A [] a t w wide lt inside h = inr (λ s k hs. absurd (none_in s k))
 other n A (x ∷ B) a t w wide lt inside h =
-    let kx : Contains A x = inside x (in_head x B) in
+    let kx : Contains A x = inside x (Contains-here x B) in
     elim (other n A B a t w wide lt (λ z k. inside z (in_tail x B z k)) h) [
       | inl p ↦ inl p
-      | inr rest ↦ elim (decide_level (dot x w) (dot a w)) [
+      | inr rest ↦ elim (equal_or_not (dot x w) (dot a w)) [
         | inr unlike ↦ inr (λ s k hs. elim (in_cons x B s k) [ inl e ↦ absurd (unlike (ap (λ z. dot z w) (sym e) ∙ level A w a s h hs)) | inr i ↦ rest s i hs ])
         | inl alike ↦ elim (apart n t x lt (wide x kx)) [
           | inl e ↦ inr (λ s k hs. elim (in_cons x B s k) [ inl q ↦ q ∙ sym e | inr i ↦ rest s i hs ])
@@ -87,9 +88,9 @@ vertex_among : (n : ℕ) (A T : List (List ℤ)) (w b : List ℤ) → ((x : List
 vertex_among n A [] w b wide lw inside all kb = let h = highest_of A w b kb in absurd (none_in h.0 (all h.0 h.1))
 vertex_among n A (t ∷ T) w b wide lw inside all kb =
     let h = highest_of A w b kb in let a : List ℤ = h.0 in
-    let kt : Contains A t = inside t (in_head t T) in let lt = wide t kt in
+    let kt : Contains A t = inside t (Contains-here t T) in let lt = wide t kt in
     let inner : (x : List ℤ) → Contains T x → Contains A x = λ x k. inside x (in_tail t T x k) in
-    elim (decide_level (dot t w) (dot a w)) [
+    elim (equal_or_not (dot t w) (dot a w)) [
       | inr unlike ↦ vertex_among n A T w b wide lw inner (λ s hs. elim (in_cons t T s (all s hs)) [
         | inl e ↦ absurd (unlike (ap (λ z. dot z w) (sym e) ∙ level A w a s h.1 hs))
         | inr i ↦ i
@@ -104,7 +105,7 @@ vertex_among n A (t ∷ T) w b wide lw inside all kb =
                 record {
                   vector = w;
                   width = lw;
-                  alone = λ x kx d. elim (decide_level (dot x w) (dot t w)) [
+                  alone = λ x kx d. elim (equal_or_not (dot x w) (dot t w)) [
                     | inl e ↦ absurd (d (only x kx (as_high A w t x ht kx e)))
                     | inr unlike ↦ let g = ht.highest x kx in less_than (dot x w) (dot t w) g unlike
                   ];

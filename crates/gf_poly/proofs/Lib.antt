@@ -1,4 +1,5 @@
 pub mod MonomialLaws  -- exponents entry by entry, and as slices
+pub mod FillingLaws  -- monomials in one more variable
 pub mod WordLaws  -- the word of the variables that occur
 pub mod PolynomialLaws  -- sums and products of polynomials
 pub mod DescendingLaws  -- deglex, descending lists

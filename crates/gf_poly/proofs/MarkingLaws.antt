@@ -42,12 +42,12 @@ nonzero_at (s ∷ f) (suc i) t h is d = nonzero_at f i t (omega arith) is d.2
 pub nonzero_reciprocal : (k : Fraction) → k ≢ zero_ℚ → reciprocal_ℚ k ≢ zero_ℚ
 nonzero_reciprocal k n z = zero-not-one (sym (zero-*ℚ k) ∙ ap (λ x. x *ℚ k) (sym z) ∙ reciprocal_ℚ-*ℚ k n)
 
-head_of-times : (c : Fraction) (f : Terms) (i : ℕ) → head_of (times c [] f) i ≡ head_of f i
+pub head_of-times : (c : Fraction) (f : Terms) (i : ℕ) → head_of (times c [] f) i ≡ head_of f i
 head_of-times c [] i = refl
 head_of-times c (t ∷ f) zero = refl
 head_of-times c (t ∷ f) (suc i) = head_of-times c f i
 
-length-times : (c : Fraction) (f : Terms) → length (times c [] f) ≡ length f
+pub length-times : (c : Fraction) (f : Terms) → length (times c [] f) ≡ length f
 length-times c [] = refl
 length-times c (t ∷ f) = ap suc (length-times c f)
 

@@ -10,6 +10,7 @@ ghost use Rattle.std.specs.Prelude.{◌≡◌};
 mod collect;
 mod descending;
 mod error;
+mod filling;
 mod laws;
 mod lists;
 mod marked;
@@ -21,11 +22,12 @@ mod products;
 
 pub use descending::descend;
 pub use error::PolyError;
+pub use filling::filled;
 use gf_frac::Frac;
 pub use laws::{unique_initial_forms, unique_terms};
 pub use lists::{Pairs, Polys};
 pub use marked::Marked;
-pub use marked_set::MarkedSet;
+pub use marked_set::{MarkedSet, copied};
 pub use monomial::{ExponentOverflow, Mono};
 pub use polynomial::Poly;
 

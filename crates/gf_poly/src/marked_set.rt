@@ -24,8 +24,11 @@ impl Model for MarkedSet {
     ghost invariant = { λ s. HaveVariables s.variables s.items.items };
 }
 
-/// Equal marked polynomials.
-fn copied(alloc: Global, items: &[Marked]) -> Result<Vec<Marked>, AllocError>
+/// Equal marked polynomials, in their order.
+///
+/// # Errors
+/// Want of memory.
+pub fn copied(alloc: Global, items: &[Marked]) -> Result<Vec<Marked>, AllocError>
     ensures { IfOk result (λ h. h.items ≡ items.now) }
 {
     let mut out = Vec::with_capacity(alloc, items.len())?;

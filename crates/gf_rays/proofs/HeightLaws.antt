@@ -9,7 +9,8 @@ use Rattle.std.proofs.lemmas.List.Elements.{All-contains, Contains-get_or}
 use Rattle.std.proofs.lemmas.List.Quantifiers.{position-Some}
 use Rattle.std.proofs.lemmas.Option.{none-some, same_Some}
 use Rattle.std.proofs.lemmas.List.Sorted.{Contains-permutation, IsPermutation-sym}
-use Rattle.gf_duality.proofs.ListLaws.{none_in, in_head, in_tail, in_cons, all_by, place, less, at, more}
+use Rattle.gf_int.proofs.ListLaws.{Contains-here, all_by}
+use Rattle.gf_duality.proofs.ListLaws.{none_in, in_tail, in_cons, place, less, at, more}
 use Rattle.gf_fans.specs.Heights.{IsWithinPart, IsNextBelow}
 use Rattle.gf_fans.proofs.Ordered.{by_lengths, within_short, within_all, same_numbers, still_apart, decide_same}
 use Rattle.gf_rays.specs.declared.ray.Ray.{Ray}
@@ -92,8 +93,8 @@ last_more k rays parts i (Some l) (Some j) s p =
 flat_or : (m : ℕ) (rays : List Ray) (parts : List (List ℕ)) (i : ℕ) (last : Option ℕ) (ks : List ℕ) → IsLastAtFlags m rays parts i last → ((k : ℕ) → Contains ks k → k < m) →
     ((k : ℕ) → Contains ks k → IsFlatPart k rays parts i) ⊎ ((k : ℕ) × (j : ℕ) × (l : ℕ) × (Contains ks k × IsPartAtFlag k rays parts i j × (last ≡ Some l) × (j ≤ l)))
 flat_or m rays parts i last [] s f = inl (λ k c. absurd (none_in k c))
-flat_or m rays parts i last (k ∷ ks) s f = elim (s.every k (f k (in_head k ks))) [
-  | inr x ↦ inr (k, x.0, x.1, (in_head k ks, x.2.0, x.2.1, x.2.2))
+flat_or m rays parts i last (k ∷ ks) s f = elim (s.every k (f k (Contains-here k ks))) [
+  | inr x ↦ inr (k, x.0, x.1, (Contains-here k ks, x.2.0, x.2.1, x.2.2))
   | inl flat ↦ elim (flat_or m rays parts i last ks s (λ q c. f q (in_tail k ks q c))) [
     | inr x ↦ inr (x.0, x.1, x.2, (in_tail k ks x.0 x.3.0, x.3.1, x.3.2, x.3.3))
     | inl all ↦ inl (λ q c. elim (in_cons k ks q c) [ inl e ↦ subst (λ t. IsFlatPart t rays parts i) (sym e) flat | inr d ↦ all q d ])

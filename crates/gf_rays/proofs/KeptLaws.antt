@@ -4,8 +4,9 @@ use Rattle.std.proofs.lemmas.Int.{ints}
 use Rattle.std.proofs.lemmas.List.{get_or_append_left, get_or_default, length-append, take_more}
 use Rattle.std.proofs.lemmas.List.Elements.{All-push, Contains-push}
 use Rattle.std.proofs.Math.Seq.{get_or-append_seam}
+use Rattle.gf_int.proofs.ListLaws.{Contains-last}
 use Rattle.gf_vec.specs.Vector.{dot}
-use Rattle.gf_duality.proofs.ListLaws.{first_in, snoc_cases, place, less, at, more}
+use Rattle.gf_duality.proofs.ListLaws.{first_in, place, less, at, more}
 use Rattle.gf_rays.specs.declared.ray.Ray.{Ray}
 use Rattle.gf_rays.specs.Splitting.{IsRayKept, IsSplit, AreValues}
 use Rattle.gf_rays.proofs.SplitLoops.{value_of, values_long}
@@ -43,7 +44,7 @@ flagged_more rays values left rest out new r y bit z el ez ev ef eb en s =
     subst (λ (l : List Ray). FlaggedSoFar rays values rest l) (sym en) (record {
       few = omega (arith, few, long);
       front = λ j d l. sym (get_or_append_left rest (r ∷ []) d j l) ∙ ap (λ (x : List Ray). get_or x j d) (sym el) ∙ s.front j d (omega (arith, long, l));
-      drawn = λ h a p x c. elim (snoc_cases out y x c) [
+      drawn = λ h a p x c. elim (Contains-last out y x c) [
         | inl b ↦ s.drawn h a p x b
         | inr q ↦
             let w = not_negative_at h rays values n r a p hn in

@@ -6,7 +6,8 @@ use Rattle.std.proofs.lemmas.Bool.{eqb-true}
 use Rattle.std.proofs.lemmas.List.{get_or_default, take_more}
 use Rattle.std.proofs.lemmas.List.Elements.{All-contains, Contains-push}
 use Rattle.std.proofs.lemmas.Nat.Bits.{bit_at-lt}
-use Rattle.gf_duality.proofs.ListLaws.{first_in, snoc_cases, all_by, place, less, at, more}
+use Rattle.gf_int.proofs.ListLaws.{Contains-last, all_by}
+use Rattle.gf_duality.proofs.ListLaws.{first_in, place, less, at, more}
 use Rattle.gf_fans.specs.Heights.{IsWithinPart, IsNextBelow}
 use Rattle.gf_rays.specs.Flags.{IsBelow, IsRoomFor, bit_of, flags_of}
 use Rattle.gf_rays.specs.FlagFaces.{AreInside, AreFlagsAt, ArePartFlags, IsLastBelow}
@@ -32,8 +33,8 @@ bits_more count k x numbers old new h e l b others a =
         ]),
         λ c. elim (place i x) [
           | at g ↦ subst (λ z. bit_of new z ≡ 1) (sym g) b
-          | less g ↦ others i (λ z. omega (arith, g, z)) ∙ (a.each i).1 (elim (snoc_cases (take k numbers) x i c) [ inl d ↦ d | inr d ↦ absurd (omega (arith, g, d)) ])
-          | more g ↦ others i (λ z. omega (arith, g, z)) ∙ (a.each i).1 (elim (snoc_cases (take k numbers) x i c) [ inl d ↦ d | inr d ↦ absurd (omega (arith, g, d)) ])
+          | less g ↦ others i (λ z. omega (arith, g, z)) ∙ (a.each i).1 (elim (Contains-last (take k numbers) x i c) [ inl d ↦ d | inr d ↦ absurd (omega (arith, g, d)) ])
+          | more g ↦ others i (λ z. omega (arith, g, z)) ∙ (a.each i).1 (elim (Contains-last (take k numbers) x i c) [ inl d ↦ d | inr d ↦ absurd (omega (arith, g, d)) ])
         ],
       );
     })

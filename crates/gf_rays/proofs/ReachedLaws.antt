@@ -5,7 +5,7 @@ use Rattle.gf_gordan.specs.Alternative.{AreRows}
 use Rattle.gf_gordan.specs.declared.error.ConeOverflow.{ConeOverflow}
 use Rattle.gf_duality.specs.Rays.{IsZeroOn}
 use Rattle.gf_duality.specs.Elimination.{IsEliminationStep}
-use Rattle.gf_duality.proofs.ListLaws.{none_in, snoc_cases, first_in}
+use Rattle.gf_duality.proofs.ListLaws.{none_in, first_in}
 use Rattle.gf_rays.specs.declared.ray.Ray.{Ray}
 use Rattle.gf_rays.specs.FlatRows.{AreFlatRows, AreFlatFirst, none as first_none, taken as first_taken, left as first_left}
 use Rattle.gf_rays.specs.Leveling.{IsRowStep}
@@ -19,6 +19,7 @@ use Rattle.gf_rays.proofs.StepLaws.{length-take-within}
 use Rattle.gf_rays.proofs.StraightLaws.{parts_at}
 use Rattle.gf_rays.proofs.ImpliedLaws.{flat_zero, zero_flat}
 use Rattle.std.proofs.lemmas.List.Elements.{Contains-push}
+use Rattle.gf_int.proofs.ListLaws.{Contains-last}
 
 -- each reached state is one
 pub reached_state : (n : ℕ) (es hs lin : List (List ℤ)) (rays : List Ray) → AreRows n es → IsReachedState n es hs lin rays → IsConeState n hs es lin rays
@@ -69,5 +70,5 @@ reached_end n hs es lin rays s r (end_implied k) = implied_step n hs es s k
 pub chosen_in : (P : List ℤ → Type 0) (rows out : List (List ℤ)) (t : List ℤ) → AreChosen P rows out → Contains out t → Contains rows t
 chosen_in P rows out t none c = absurd (none_in t c)
 chosen_in P rows out t (taken before some x whole all e f p k) c =
-    subst (λ (l : List (List ℤ)). Contains l t) (sym e) (elim (snoc_cases some x t (subst (λ (l : List (List ℤ)). Contains l t) f c)) [ inl i ↦ first_in before x t (chosen_in P before some t k i) | inr g ↦ subst (Contains (before ++ x ∷ [])) (sym g) (Contains-push before x) ])
+    subst (λ (l : List (List ℤ)). Contains l t) (sym e) (elim (Contains-last some x t (subst (λ (l : List (List ℤ)). Contains l t) f c)) [ inl i ↦ first_in before x t (chosen_in P before some t k i) | inr g ↦ subst (Contains (before ++ x ∷ [])) (sym g) (Contains-push before x) ])
 chosen_in P rows out t (left before some x whole e p k) c = subst (λ (l : List (List ℤ)). Contains l t) (sym e) (first_in before x t (chosen_in P before out t k c))

@@ -8,6 +8,7 @@ use Rattle.std.proofs.lemmas.Slice.Zip.{AllZip-long}
 use Rattle.std.proofs.lemmas.List.Elements.{All-contains, Contains-append_cases, Contains-append_left, Contains-push}
 use Rattle.gf_int.specs.Content.{scaled}
 use Rattle.gf_int.proofs.SignLaws.{zero-cancel, 0<-cancel, zero_product, mul_positive}
+use Rattle.gf_int.proofs.ListLaws.{Contains-last, all_by}
 use Rattle.gf_vec.specs.declared.error.VecOp.{VecOp}
 use Rattle.gf_vec.specs.declared.error.VecOp.TheVariants.{Add, Sub, Mul}
 use Rattle.gf_vec.specs.Vector.{dot, vector_sum, zeros, values, entry_at, opposite}
@@ -24,7 +25,7 @@ use Rattle.gf_duality.specs.Generators.{unit_vectors}
 use Rattle.gf_duality.specs.Rays.{IsZeroOn}
 use Rattle.gf_duality.specs.Elimination.{IsTurned, IsEliminated, begun as eliminated_begun, skipped, turned, IsEliminationStep, IsNormalised, IsNullSpace, IsNullStep, eliminating, reducing, columns}
 use Rattle.gf_duality.specs.Straightening.{IsLeveled, IsStraightened, done as straight_done, next as straight_next, IsOrthogonalized, start, added, gone, IsOrthogonalizing}
-use Rattle.gf_duality.proofs.ListLaws.{none_in, snoc_cases, first_in, zip_from, of_rest, all_by, place, less, at, more}
+use Rattle.gf_duality.proofs.ListLaws.{none_in, first_in, zip_from, of_rest, place, less, at, more}
 use Rattle.gf_duality.proofs.Echelon.{turn_in}
 use Rattle.gf_rays.specs.declared.ray.Ray.{Ray}
 use Rattle.gf_rays.specs.Leveling.{IsLine, IsLinedBy, IsLeveledRay, IsLeveling, IsRowStep, lineal, splitting, leveling}
@@ -123,7 +124,7 @@ eliminated_up n b rows m out left u (turned j k done from others rest whole i e 
     let ur : UpTo c (row_at from i) = q.second.each (row_at from i) (turn_in from j i f) in
     record {
       first = record {
-        each = λ x k. subst (λ l. UpTo (turned_bound b l) x) (sym em) (elim (snoc_cases others (row_at from i) x (subst (λ (l : List (List ℤ)). Contains l x) eo k)) [
+        each = λ x k. subst (λ l. UpTo (turned_bound b l) x) (sym em) (elim (Contains-last others (row_at from i) x (subst (λ (l : List (List ℤ)). Contains l x) eo k)) [
           | inl a ↦ let t = zip_from (IsTurned (row_at from i) j) done others x za a in turned_up c (row_at from i) j t.0 x ur (q.first.each t.0 t.1.0) t.1.1
           | inr g ↦ subst (UpTo (turned_bound b (suc (length done)))) (sym g) (up_weaker _ _ (row_at from i) (turned_step b (length done)) ur)
         ]);
@@ -255,7 +256,7 @@ unitary_eliminated n rows m out left u (turned j k done from others rest whole i
     let ur : IsUnitary (row_at from i) = q.second.each (row_at from i) (turn_in from j i f) in
     record {
       first = record {
-        each = λ x c. elim (snoc_cases others (row_at from i) x (subst (λ (l : List (List ℤ)). Contains l x) eo c)) [
+        each = λ x c. elim (Contains-last others (row_at from i) x (subst (λ (l : List (List ℤ)). Contains l x) eo c)) [
           | inl a ↦ let t = zip_from (IsTurned (row_at from i) j) done others x za a in unitary_turned (row_at from i) j t.0 x ur (q.first.each t.0 t.1.0) f.not_zero t.1.1
           | inr g ↦ subst IsUnitary (sym g) ur
         ];
@@ -373,7 +374,7 @@ lined_up n b m h l whole lines i count old out hn hb one lh uh k z q =
       second = record {
         each = λ x c.
             let y = of_vector out x c in
-            subst (UpTo (next_bound n b m)) (sym y.1.1) (elim (snoc_cases z.middle z.ray y.0 (subst (λ (o : List Ray). Contains o y.0) z.all y.1.0)) [
+            subst (UpTo (next_bound n b m)) (sym y.1.1) (elim (Contains-last z.middle z.ray y.0 (subst (λ (o : List Ray). Contains o y.0) z.all y.1.0)) [
               | inl a ↦ let t = zip_from (IsLeveledRay h l) old z.middle y.0 z.rays_leveled a in leveled_up n b m h l t.0.vector y.0.vector hn hb one lh uh ul (q.second.each t.0.vector (vector_in old t.0 t.1.0)) t.1.1.0
               | inr g ↦ subst (UpTo (next_bound n b m)) (sym (ap (λ (o : Ray). o.vector) g ∙ z.vector)) (up_weaker m (next_bound n b m) l step ul)
             ]);
@@ -507,7 +508,7 @@ reached_unitary n hs lin rays f (lined before whole lines old next h l i all e k
       second = record {
         each = λ x c.
             let y = of_vector rays x c in
-            subst IsUnitary (sym y.1.1) (elim (snoc_cases z.middle z.ray y.0 (subst (λ (o : List Ray). Contains o y.0) z.all y.1.0)) [
+            subst IsUnitary (sym y.1.1) (elim (Contains-last z.middle z.ray y.0 (subst (λ (o : List Ray). Contains o y.0) z.all y.1.0)) [
               | inl a ↦
                   let t = zip_from (IsLeveledRay h l) old z.middle y.0 z.rays_leveled a in
                   let ct = vector_in old t.0 t.1.0 in

@@ -17,7 +17,7 @@ use Rattle.gf_duality.specs.Generators.{unit_vectors}
 use Rattle.gf_duality.specs.Rays.{IsRays, IsZeroOn}
 use Rattle.gf_duality.specs.Elimination.{IsEliminated, IsNormalised, IsNullSpace, IsNullStep, eliminating, reducing, with_values, columns}
 use Rattle.gf_duality.specs.Straightening.{IsLeveled, IsStraightened, done as straight_done, next as straight_next, IsOrthogonalized, start, added, gone, IsStraightening, IsOrthogonalizing}
-use Rattle.gf_duality.proofs.ListLaws.{none_in, snoc_cases, first_in, zip_from, all_by, place, less, at, more}
+use Rattle.gf_duality.proofs.ListLaws.{none_in, first_in, zip_from, place, less, at, more}
 use Rattle.gf_duality.proofs.Orthogonal.{basis as orthogonal_basis, straightened, head_in}
 use Rattle.gf_fans.proofs.PartNumbers.{of_map}
 use Rattle.gf_rays.specs.declared.ray.Ray.{Ray}
@@ -35,6 +35,7 @@ use Rattle.gf_rays.proofs.SplitLaws.{vector_in, of_vector}
 use Rattle.gf_rays.proofs.ReachedSizes.{AreUpTo, BothUpTo, mono, turned_step, next_step, no_combining, not_sub, eliminated_up, elimination_counts, no_elimination, begin_rows, normal_up, unitary_eliminated, unitary_up, units_unitary, entry_up, sized_last, snoc_long, split_up, lined_up, no_row_step, room_below, middle_in, front_in}
 use Rattle.gf_gordan.proofs.StepSizes.{no_dot}
 use Rattle.gf_int.proofs.SignLaws.{mul_positive}
+use Rattle.gf_int.proofs.ListLaws.{Contains-last, all_by}
 
 -- ---- along vectors, to be orthogonal to them
 
@@ -151,7 +152,7 @@ orthogonal_up n m lin out hn w (added before old x z whole all e f r s up) =
     record {
       fewer = omega (arith, es, snoc_long old z out f, q.fewer);
       small = record {
-        each = λ y c. subst (λ k. UpTo (orthogonal_bound n m k) y) (sym es) (elim (snoc_cases old z y (subst (λ (l : List (List ℤ)). Contains l y) f c)) [
+        each = λ y c. subst (λ k. UpTo (orthogonal_bound n m k) y) (sym es) (elim (Contains-last old z y (subst (λ (l : List (List ℤ)). Contains l y) f c)) [
           | inl a ↦ up_weaker b (b + t) y (omega arith) (q.small.each y a)
           | inr g ↦ subst (UpTo (b + t)) (sym g) (up_weaker t (b + t) z (omega arith) (last_up n m before old x z hn wb ux r q s))
         ]);

@@ -17,13 +17,14 @@ use Rattle.gf_poly.proofs.PolynomialLaws.{coefficient-times}
 use Rattle.gf_poly.proofs.ProductLaws.{IsDescending-scaled, KeepsVariables-scaled, IsScaled-products, HasVariables-scale}
 use Rattle.gf_poly.proofs.MarkingLaws.{nonzero_reciprocal}
 use Rattle.gf_exponents.specs.Orders.{lighter}
+use Rattle.gf_int.proofs.ListLaws.{Contains-here}
 use Rattle.gf_ideal.specs.Membership.{HasMonomial}
 use Rattle.gf_ideal.specs.Marks.{AreMarked, IsRealisedBy, IsRealisable}
 use Rattle.gf_ideal.specs.Reduction.{IsMonicForm, AreMonicForms}
 use Rattle.gf_ideal.specs.Bases.{IsCanonical}
 use Rattle.gf_ideal.proofs.KeptForms.{marked_there, canonical_marked}
 use Rattle.gf_ideal.proofs.GeneratorLaws.{monic-from}
-use Rattle.gf_ideal.proofs.ListLaws.{Contains-cases, Contains-here, Contains-there}
+use Rattle.gf_ideal.proofs.ListLaws.{Contains-cases, Contains-there}
 use Rattle.gf_ideal.proofs.MarkWeights.{monic_realised}
 use Rattle.gf_division.proofs.ReducerLaws.{member_at, member_contained}
 use Rattle.gf_reduced.specs.Forms.{monic_of, IsFormRefusal}

@@ -5,6 +5,7 @@
 use Rattle.std.specs.Prelude.{◌≡◌, ◌↔◌, ℕ, ◌+◌, true, false, List, [], ◌∷◌, ◌++◌, length, ℤ, pos, ◌<ℤ◌, Contains, IsTrue, Result, Ok, Err, IfOk}
 use Rattle.std.proofs.Common.{arith, refl, sym, subst}
 use Rattle.std.proofs.lemmas.List.Elements.{All-nil, All-append, All-contains, Contains-append_left, Contains-append_right}
+use Rattle.gf_int.proofs.ListLaws.{all_by}
 use Rattle.gf_vec.specs.Vector.{dot}
 use Rattle.gf_gordan.specs.Alternative.{AreRows, IsSolution, IsFarkas, GordansAlternative}
 use Rattle.gf_gordan.specs.Answers.{IsAlternative}
@@ -22,7 +23,7 @@ use Rattle.gf_facets.specs.Regions.{IsInRegion}
 use Rattle.gf_facets.specs.Facets.{IsInOpenCone}
 use Rattle.gf_facets.specs.MarkedBases.{AreCanonical}
 use Rattle.gf_facets.proofs.ConeLaws.{rows_open, open_by_rows}
-use Rattle.gf_facets.proofs.SystemLaws.{contained_all, region_rows_wide, rows_of_region, region_of_rows, canonical_all, marked_system_wide, whole_of, whole-in_region, open_of_weight, realisable_of_solution}
+use Rattle.gf_facets.proofs.SystemLaws.{region_rows_wide, rows_of_region, region_of_rows, canonical_all, marked_system_wide, whole_of, whole-in_region, open_of_weight, realisable_of_solution}
 use Rattle.gf_reduced.specs.Markings.{GivesMarks, IsInconsistent, IsWeightAnswer, IsMarkingStep, cut_by, system_beside, IsRealisableBeside, IsInconsistentBeside, IsAnswerBeside, IsStepBeside}
 use Rattle.gf_reduced.specs.Refusals.{check_of_gordan, IsSetWeightRefusal, IsWeightRefusalBeside}
 use Rattle.gf_reduced.specs.declared.error.CheckError.{CheckError}
@@ -36,7 +37,7 @@ module _ (n : ℕ) (beside : List (List ℤ)) (bs : List MarkedPolynomial) (h : 
 
   wide : AreRows n beside → AreRows n (system_beside n beside bs)
   wide w = All-append (λ t. length t ≡ n) (rows_of_polynomials bs) (beside ++ units n n)
-      (contained_all (λ t. length t ≡ n) (rows_of_polynomials bs) (λ t c. All-contains (λ t. length t ≡ n) (system_of n bs) t (marked_system_wide n bs h m) (Contains-append_left (rows_of_polynomials bs) (units n n) t c)))
+      (all_by (λ t. length t ≡ n) (rows_of_polynomials bs) (λ t c. All-contains (λ t. length t ≡ n) (system_of n bs) t (marked_system_wide n bs h m) (Contains-append_left (rows_of_polynomials bs) (units n n) t c)))
       (region_rows_wide n (cut_by beside) w)
 
   -- its solutions are the vectors on which the rows are positive and that give the marks
@@ -44,13 +45,13 @@ module _ (n : ℕ) (beside : List (List ℤ)) (bs : List MarkedPolynomial) (h : 
   solution v r o = record {
     width = r.width;
     positive = All-append (λ t. pos 0 <ℤ dot t v) (rows_of_polynomials bs) (beside ++ units n n)
-        (contained_all (λ t. pos 0 <ℤ dot t v) (rows_of_polynomials bs) (rows_open n bs v canonical o)) (rows_of_region n (cut_by beside) v r);
+        (all_by (λ t. pos 0 <ℤ dot t v) (rows_of_polynomials bs) (rows_open n bs v canonical o)) (rows_of_region n (cut_by beside) v r);
     zero = All-nil (λ t. dot t v ≡ pos 0);
   }
 
   inside : (v : List ℤ) → IsSolution n (system_beside n beside bs) [] v → IsInRegion n (cut_by beside) v × IsInOpenCone v bs
   inside v s = (
-    region_of_rows n (cut_by beside) v s.width (contained_all (λ t. pos 0 <ℤ dot t v) (beside ++ units n n) (λ t c. row t (Contains-append_right (rows_of_polynomials bs) (beside ++ units n n) t c))),
+    region_of_rows n (cut_by beside) v s.width (all_by (λ t. pos 0 <ℤ dot t v) (beside ++ units n n) (λ t c. row t (Contains-append_right (rows_of_polynomials bs) (beside ++ units n n) t c))),
     open_by_rows n bs v canonical (λ t c. row t (Contains-append_left (rows_of_polynomials bs) (beside ++ units n n) t c)),
   )
     where

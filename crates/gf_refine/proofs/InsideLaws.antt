@@ -2,11 +2,12 @@
 use Rattle.std.proofs.Common.{◌≡◌, ℕ, ◌+◌, ◌<◌, ◌≤ℤ◌, List, [], ◌∷◌, ◌++◌, length, take, get_or, ℤ, pos, sym, ap, ◌∙◌, subst, inl, inr, All}
 use Rattle.std.proofs.lemmas.List.{take_more}
 use Rattle.std.proofs.lemmas.List.Elements.{All-contains}
+use Rattle.gf_int.proofs.ListLaws.{Contains-last, all_by}
 use Rattle.gf_vec.specs.Vector.{dot}
 use Rattle.gf_duality.specs.Faces.{Rows, IsFaceOf}
 use Rattle.gf_duality.specs.Rays.{IsRays}
 use Rattle.gf_duality.proofs.Determined.{described_of}
-use Rattle.gf_duality.proofs.ListLaws.{none_in, snoc_cases, all_by}
+use Rattle.gf_duality.proofs.ListLaws.{none_in}
 use Rattle.gf_duality.proofs.Made.{Made-dot, Made-dot_zero}
 use Rattle.gf_fans.specs.Fans.{meet, MeetInFaces}
 use Rattle.gf_fans.proofs.FanLaws.{is_in, up_in, zero_in, both_in, face_same}
@@ -28,8 +29,8 @@ pub up_more : (rows rays lin : List (List ℤ)) (h : List ℤ) (k : ℕ) → k <
 up_more rows rays lin h k l e u f a =
     let t : take (k + 1) rows ≡ take k rows ++ h ∷ [] = take_more rows k h l ∙ ap (λ z. take k rows ++ z ∷ []) (sym e) in
     subst (λ z. AreUpOn z rays lin) (sym t) (record {
-      up = λ g x c j. elim (snoc_cases (take k rows) h g c) [ inl i ↦ a.up g x i j | inr q ↦ subst (λ z. pos 0 ≤ℤ dot z x) (sym q) (All-contains (λ x. pos 0 ≤ℤ dot h x) rays x u j) ];
-      flat = λ g x c j. elim (snoc_cases (take k rows) h g c) [ inl i ↦ a.flat g x i j | inr q ↦ subst (λ z. dot z x ≡ pos 0) (sym q) (All-contains (λ x. dot h x ≡ pos 0) lin x f j) ];
+      up = λ g x c j. elim (Contains-last (take k rows) h g c) [ inl i ↦ a.up g x i j | inr q ↦ subst (λ z. pos 0 ≤ℤ dot z x) (sym q) (All-contains (λ x. pos 0 ≤ℤ dot h x) rays x u j) ];
+      flat = λ g x c j. elim (Contains-last (take k rows) h g c) [ inl i ↦ a.flat g x i j | inr q ↦ subst (λ z. dot z x ≡ pos 0) (sym q) (All-contains (λ x. dot h x ≡ pos 0) lin x f j) ];
     })
 
 pub zero_none : (rays lin : List (List ℤ)) → AreZeroOn [] rays lin
@@ -39,13 +40,13 @@ pub zero_more : (rows rays lin : List (List ℤ)) (h : List ℤ) (k : ℕ) → k
 zero_more rows rays lin h k l e u f a =
     let t : take (k + 1) rows ≡ take k rows ++ h ∷ [] = take_more rows k h l ∙ ap (λ z. take k rows ++ z ∷ []) (sym e) in
     subst (λ z. AreZeroOn z rays lin) (sym t) (record {
-      rays_flat = λ g x c j. elim (snoc_cases (take k rows) h g c) [ inl i ↦ a.rays_flat g x i j | inr q ↦ subst (λ z. dot z x ≡ pos 0) (sym q) (All-contains (λ x. dot h x ≡ pos 0) rays x u j) ];
-      flat = λ g x c j. elim (snoc_cases (take k rows) h g c) [ inl i ↦ a.flat g x i j | inr q ↦ subst (λ z. dot z x ≡ pos 0) (sym q) (All-contains (λ x. dot h x ≡ pos 0) lin x f j) ];
+      rays_flat = λ g x c j. elim (Contains-last (take k rows) h g c) [ inl i ↦ a.rays_flat g x i j | inr q ↦ subst (λ z. dot z x ≡ pos 0) (sym q) (All-contains (λ x. dot h x ≡ pos 0) rays x u j) ];
+      flat = λ g x c j. elim (Contains-last (take k rows) h g c) [ inl i ↦ a.flat g x i j | inr q ↦ subst (λ z. dot z x ≡ pos 0) (sym q) (All-contains (λ x. dot h x ≡ pos 0) lin x f j) ];
     })
 
 -- what holds of all so far, one further
 pub all_more : (P : List ℤ → Type 0) (xs : List (List ℤ)) (x : List ℤ) (k : ℕ) → k < length xs → x ≡ get_or xs k x → P x → All P (take k xs) → All P (take (k + 1) xs)
-all_more P xs x k l e p a = subst (All P) (sym (take_more xs k x l ∙ ap (λ z. take k xs ++ z ∷ []) (sym e))) (all_by P (take k xs ++ x ∷ []) (λ y c. elim (snoc_cases (take k xs) x y c) [
+all_more P xs x k l e p a = subst (All P) (sym (take_more xs k x l ∙ ap (λ z. take k xs ++ z ∷ []) (sym e))) (all_by P (take k xs ++ x ∷ []) (λ y c. elim (Contains-last (take k xs) x y c) [
   | inl i ↦ All-contains P (take k xs) y a i
   | inr q ↦ subst P (sym q) p
 ]))

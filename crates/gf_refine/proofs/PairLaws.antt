@@ -5,8 +5,9 @@ use Rattle.std.proofs.Math.Seq.{get_or-append_seam}
 use Rattle.std.proofs.lemmas.List.{get_or_default}
 use Rattle.std.proofs.lemmas.List.Elements.{Contains-push}
 use Rattle.std.proofs.lemmas.Nat.{div-mul-add, mod-mul-add}
+use Rattle.gf_int.proofs.ListLaws.{Contains-last}
 use Rattle.gf_duality.specs.Faces.{Rows}
-use Rattle.gf_duality.proofs.ListLaws.{none_in, first_in, snoc_cases, place, less, at, more}
+use Rattle.gf_duality.proofs.ListLaws.{none_in, first_in, place, less, at, more}
 use Rattle.gf_fan.specs.declared.cones.FanCone.{FanCone}
 use Rattle.gf_fans.specs.Fans.{meet}
 use Rattle.gf_refine.specs.Inside.{LiesInside, cone_at, meet_at, IsHolder, AreHolders, IsMet, AreMetPairs}
@@ -24,7 +25,7 @@ met_none held others width = record { each = λ x c. absurd (none_in x c); every
 
 pub met_taken : (held others : List (Option ℕ)) (width k : ℕ) (out new : List ℕ) → new ≡ out ++ k ∷ [] → MetSoFar held others width k out → MetSoFar held others width (k + 1) new
 met_taken held others width k out new e m = subst (MetSoFar held others width (k + 1)) (sym e) (record {
-  each = λ x c. elim (snoc_cases out k x c) [ inl i ↦ (let h = m.each x i in omega (arith, h)) | inr q ↦ omega (arith, q) ];
+  each = λ x c. elim (Contains-last out k x c) [ inl i ↦ (let h = m.each x i in omega (arith, h)) | inr q ↦ omega (arith, q) ];
   every = λ x h t. elim (place x k) [ more l ↦ first_in out k x (m.every x l t) | at q ↦ subst (Contains (out ++ k ∷ [])) (sym q) (Contains-push out k) | less l ↦ absurd (omega (arith, h, l)) ];
   long = let l = m.long in omega (arith, l, length-append out (k ∷ []));
 })

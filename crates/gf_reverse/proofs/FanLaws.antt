@@ -7,11 +7,12 @@ use Rattle.gf_gordan.specs.Alternative.{AreRows}
 use Rattle.gf_exponents.specs.Exponents.{Exponents, weight}
 use Rattle.gf_exponents.specs.Orders.{gains}
 use Rattle.gf_exponents.proofs.WeightLaws.{weight-same}
+use Rattle.gf_int.proofs.ListLaws.{Contains-here}
 use Rattle.gf_poly.specs.declared.Term.{Term}
 use Rattle.gf_poly.specs.Polynomial.{Terms}
 use Rattle.gf_poly.specs.Marking.{MarkedPolynomial, MarkedPolynomials, Each}
 use Rattle.gf_ideal.specs.Membership.{HasMonomial, AreInVariables}
-use Rattle.gf_ideal.proofs.ListLaws.{Contains-here, Contains-there, Contains-cases}
+use Rattle.gf_ideal.proofs.ListLaws.{Contains-there, Contains-cases}
 use Rattle.gf_ideal.proofs.ListedTerms.{by_terms, variables_by_terms}
 use Rattle.gf_walk.specs.Path.{IsRoot, Leads}
 use Rattle.gf_walk.specs.Listing.{Among}

@@ -16,7 +16,7 @@ use Rattle.gf_facets.proofs.VectorLaws.{IsNonzero}
 use Rattle.gf_ideal.specs.Membership.{HasMonomial}
 use Rattle.gf_ideal.specs.Marks.{IsPositive}
 use Rattle.gf_ideal.specs.Reduction.{IsDivisible}
-use Rattle.gf_ideal.proofs.ListLaws.{Contains-here, Contains-there, Contains-cases}
+use Rattle.gf_ideal.proofs.ListLaws.{Contains-there, Contains-cases}
 use Rattle.gf_ideal.proofs.DividingLaws.{divisible_along}
 use Rattle.gf_walk.specs.Listing.{Among}
 use Rattle.gf_facets.specs.LexPositive.{IsNegative}
@@ -28,6 +28,7 @@ use Rattle.gf_reverse.proofs.CrossingLaws.{IsPulledOut, Enters, what_enters_pull
 use Rattle.gf_reverse.proofs.NumberLaws.{Turns, binary_falls}
 use Rattle.gf_reverse.proofs.WeightListLaws.{below-is, among_below, below-ascends}
 use Rattle.std.proofs.lemmas.Bool.{or_right, or_left, or_cases}
+use Rattle.gf_int.proofs.ListLaws.{Contains-here}
 
 -- ---- the test of a mark
 led-divisible : (bs : List MarkedPolynomial) (x : Exponents) → is_led bs x ≡ true → IsDivisible (Contains bs) x

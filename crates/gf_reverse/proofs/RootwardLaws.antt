@@ -5,11 +5,12 @@ use Rattle.std.proofs.Common.{◌≡◌, ◌⊎◌, ℕ, zero, suc, ◌<◌, Lis
 use Rattle.std.proofs.lemmas.Int.{ints}
 use Rattle.std.proofs.lemmas.List.Elements.{All-nil, All-append, All-contains, Contains-append_left, Contains-append_right}
 use Rattle.gf_int.specs.Content.{AllZero, scaled}
+use Rattle.gf_int.proofs.ListLaws.{Contains-here, all_by}
 use Rattle.gf_poly.specs.Marking.{MarkedPolynomial}
 use Rattle.gf_vec.specs.Vector.{dot, zeros, vector_sum}
 use Rattle.gf_vec.proofs.VectorLaws.{dot-plus, dot-times, dot-zeros}
 use Rattle.gf_gordan.specs.Alternative.{AreRows, IsSolvable}
-use Rattle.gf_ideal.proofs.ListLaws.{Contains-here, Contains-there, Contains-cases}
+use Rattle.gf_ideal.proofs.ListLaws.{Contains-there, Contains-cases}
 use Rattle.gf_facets.specs.Rows.{IsNormal, negated}
 use Rattle.gf_facets.specs.Systems.{unit, units}
 use Rattle.gf_facets.specs.LexPositive.{IsLexPositive, rooted, IsNegative}
@@ -23,7 +24,7 @@ use Rattle.gf_facets.proofs.NormalLaws.{normal-length, normal-nonzero}
 use Rattle.gf_facets.proofs.NormalListLaws.{NormalsListed, normals_listed}
 use Rattle.gf_facets.proofs.LexPositiveLaws.{lex-cases, lex-not_both}
 use Rattle.gf_facets.proofs.UnitLaws.{dot-unit, unit_of}
-use Rattle.gf_facets.proofs.SystemLaws.{contained_all, region_rows_wide, region_of_rows}
+use Rattle.gf_facets.proofs.SystemLaws.{region_rows_wide, region_of_rows}
 use Rattle.gf_facets.proofs.PointsByLex.{solvable_by_lex}
 use Rattle.gf_facets.proofs.FirstLaws.{flippable_towards_root}
 use Rattle.gf_reverse.specs.Upward.{IsRootWeight, LeadsTowards}
@@ -63,7 +64,7 @@ unit-positive (suc n) zero l = inl (omega (arith, ints))
 unit-positive (suc n) (suc i) l = inr (refl, unit-positive n i (omega arith))
 
 units-positive : (n : ℕ) (r : List ℤ) → length r ≡ n → All (λ c. pos 0 ≤ℤ c) r → All (λ t. IsLexPositive (rooted r t)) (units n n)
-units-positive n r w p = contained_all (λ t. IsLexPositive (rooted r t)) (units n n) (λ t c. at t (unit_of n n t c))
+units-positive n r w p = all_by (λ t. IsLexPositive (rooted r t)) (units n n) (λ t c. at t (unit_of n n t c))
   where
     lexed : (i : ℕ) (d : ℤ) → i < n → pos 0 ≤ℤ d → IsLexPositive (d ∷ unit n i)
     lexed i (pos zero) l h = inr (refl, unit-positive n i l)
@@ -137,16 +138,16 @@ near_root n k r ns wide rw h = with_signs (signed_vectors n r ns h)
   where
     with_signs : SignedVectors n r ns → NearRoot n k r ns
     with_signs s = found (solvable_by_lex n (suc n) (rooted r) (s.list ++ (k.rows ++ units n n)) [] (rooted-linear n r)
-        (All-append (λ t. length t ≡ n) s.list (k.rows ++ units n n) (contained_all (λ t. length t ≡ n) s.list s.widths) (region_rows_wide n k wide))
+        (All-append (λ t. length t ≡ n) s.list (k.rows ++ units n n) (all_by (λ t. length t ≡ n) s.list s.widths) (region_rows_wide n k wide))
         (All-nil (λ t. length t ≡ n))
-        (All-append (λ t. IsLexPositive (rooted r t)) s.list (k.rows ++ units n n) (contained_all (λ t. IsLexPositive (rooted r t)) s.list s.positive)
+        (All-append (λ t. IsLexPositive (rooted r t)) s.list (k.rows ++ units n n) (all_by (λ t. IsLexPositive (rooted r t)) s.list s.positive)
         (All-append (λ t. IsLexPositive (rooted r t)) k.rows (units n n) rw.rows (units-positive n r rw.width rw.natural)))
         (All-nil (λ t. rooted r t ≡ zeros (suc n))))
       where
         found : IsSolvable n (s.list ++ (k.rows ++ units n n)) [] → NearRoot n k r ns
         found v = record {
           point = v.0;
-          region = region_of_rows n k v.0 v.1.width (contained_all (λ t. pos 0 <ℤ dot t v.0) (k.rows ++ units n n) (λ t i. on t (Contains-append_right s.list (k.rows ++ units n n) t i)));
+          region = region_of_rows n k v.0 v.1.width (all_by (λ t. pos 0 <ℤ dot t v.0) (k.rows ++ units n n) (λ t i. on t (Contains-append_right s.list (k.rows ++ units n n) t i)));
           positive = λ a q p. elim (s.each a q) [
             | inl u ↦ on a (Contains-append_left s.list (k.rows ++ units n n) a u.1)
             | inr u ↦ absurd (lex-not_both (rooted r a) p u.0)

@@ -1,9 +1,10 @@
 -- Whether a facet leads up is decided, and the least of those that do is found.
 -- To cite: way_or_none.
 use Rattle.std.proofs.Common.{◌≡◌, ◌⊎◌, ℕ, List, [], ◌∷◌, Contains, ℤ, arith, sym, subst, inl, inr}
+use Rattle.gf_int.proofs.ListLaws.{Contains-here}
 use Rattle.gf_poly.specs.Marking.{MarkedPolynomial}
 use Rattle.gf_gordan.specs.Alternative.{AreRows}
-use Rattle.gf_ideal.proofs.ListLaws.{Contains-here, Contains-there, Contains-cases}
+use Rattle.gf_ideal.proofs.ListLaws.{Contains-there, Contains-cases}
 use Rattle.gf_facets.specs.Rows.{IsNormal}
 use Rattle.gf_facets.specs.Regions.{Region}
 use Rattle.gf_facets.specs.LexPositive.{rooted, IsBefore}

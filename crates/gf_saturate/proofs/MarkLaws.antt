@@ -5,8 +5,8 @@ use Rattle.std.proofs.lemmas.Bool.Decides.{nat_tests}
 use Rattle.std.proofs.lemmas.List.{take_more, take_all}
 use Rattle.gf_exponents.specs.Exponents.{Exponents, entry, join}
 use Rattle.gf_exponents.proofs.ExponentsLaws.{entry-join}
+use Rattle.gf_int.proofs.ListLaws.{Contains-last}
 use Rattle.gf_poly.specs.Marking.{MarkedPolynomial}
-use Rattle.gf_ideal.proofs.ListLaws.{Contains-last}
 use Rattle.gf_saturate.specs.Marks.{CoverHeads, CoverFreeHeads}
 
 -- what the list to the next place has

@@ -1,8 +1,8 @@
 -- The lists that the code makes are those of the laws.
 -- To cite: extended, extended-ring, left_over-are, left_over-ring, member-back, length-last, to_eliminate, reduced_of,
--- if_ok, if_err, contains_at. The rest are steps.
-use Rattle.std.specs.Prelude.{◌≡◌, ◌⊎◌, ℕ, zero, suc, ◌+◌, ◌<◌, ◌≤◌, ◌==◌, Bool, true, false, if◌then◌else◌, List, [], ◌∷◌, ◌++◌, map, take, length, replicate, Contains, ℤ, pos, All, IfOk, IfErr, unsigned_abs, ◌^◌}
-use Rattle.std.proofs.Common.{arith, refl, sym, ap, ◌∙◌, subst, inl, inr, append_assoc, length-append, set, get_or, Result, Ok, Err}
+-- contains_at. The rest are steps.
+use Rattle.std.specs.Prelude.{◌≡◌, ◌⊎◌, ℕ, zero, suc, ◌+◌, ◌<◌, ◌≤◌, ◌==◌, Bool, true, false, if◌then◌else◌, List, [], ◌∷◌, ◌++◌, map, take, length, replicate, Contains, ℤ, pos, All, unsigned_abs, ◌^◌}
+use Rattle.std.proofs.Common.{arith, refl, sym, ap, ◌∙◌, subst, inl, inr, append_assoc, length-append, set, get_or}
 use Rattle.std.proofs.lemmas.Bool.Decides.{nat_tests}
 use Rattle.std.proofs.lemmas.List.{take_more, take_more_set, take-replicate, length-replicate}
 use Rattle.std.proofs.lemmas.List.Elements.{All-push, All-replicate}
@@ -11,13 +11,14 @@ use Rattle.gf_exponents.specs.Exponents.{Exponents, entry, same, plus}
 use Rattle.gf_exponents.specs.Orders.{IsWeightedBelow, gains}
 use Rattle.gf_exponents.specs.SixOrders.{MonomialOrder}
 use Rattle.gf_exponents.proofs.ExponentsLaws.{same-sym, same_along, same_by_entries, eq_by, entry-plus}
+use Rattle.gf_int.proofs.ListLaws.{Contains-here, Contains-last}
 use Rattle.gf_poly.specs.declared.Term.{Term}
 use Rattle.gf_poly.specs.Polynomial.{Terms, coefficient, SamePolynomial, HasVariables}
 use Rattle.gf_poly.specs.Marking.{MarkedPolynomial, MarkedPolynomials, Each}
 use Rattle.gf_poly.proofs.MonomialLaws.{entry-ones}
 use Rattle.gf_ideal.specs.Membership.{IsInVariables}
 use Rattle.gf_ideal.specs.Bases.{IsReducedBasisFor}
-use Rattle.gf_ideal.proofs.ListLaws.{Contains-here, Contains-there, Contains-cases, Contains-last, each_contained}
+use Rattle.gf_ideal.proofs.ListLaws.{Contains-there, Contains-cases, each_contained}
 use Rattle.gf_ideal.proofs.ListedTerms.{variables_by_terms}
 use Rattle.gf_ideal.proofs.KeptForms.{term_there}
 use Rattle.gf_order.specs.Weights.{AreBounded}
@@ -205,16 +206,6 @@ entries-long n m w l e = ap length (e ∙ one_at_last n m l) ∙ omega (arith, l
 
 pub bounded-of : (n m : ℕ) (w : List ℤ) → n < m → w ≡ take (n + 1) (set (replicate m (pos 0)) n (pos 1)) → AreBounded w
 bounded-of n m w l e = subst AreBounded (sym e) (entries-all (λ z. unsigned_abs z ≤ 2 ^ 63) (omega arith) (omega arith) n m l)
-
--- ---- answers
-
-pub if_ok : {A E : Type 0} (P Q : A → Type 0) (r : Result A E) → IfOk r P → ((x : A) → P x → Q x) → IfOk r Q
-if_ok P Q (Ok x) h f = f x h
-if_ok P Q (Err e) h f = h
-
-pub if_err : {A E : Type 0} (P Q : E → Type 0) (r : Result A E) → IfErr r P → ((x : E) → P x → Q x) → IfErr r Q
-if_err P Q (Ok x) h f = h
-if_err P Q (Err e) h f = f e h
 
 pub contains_at : {A : Type 0} (xs : List A) (i : ℕ) (x : A) → i < length xs → x ≡ get_or xs i x → Contains xs x
 contains_at xs i x l e = (i, l, sym e)

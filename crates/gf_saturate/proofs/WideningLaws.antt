@@ -6,9 +6,8 @@ use Rattle.std.specs.Ordering.{MatchOrdering}
 use Rattle.std.specs.declared.cmp.Ordering.{Ordering}
 use Rattle.std.specs.declared.cmp.Ordering.TheVariants.{Less, Equal, Greater}
 use Rattle.std.proofs.lemmas.Cmp.{ranked}
-use Rattle.std.proofs.Common.{arith, refl, sym, ap, ◌∙◌, subst, set, get_or, length-append}
-use Rattle.std.proofs.lemmas.List.{take_more, take_all, take_more_set, take-replicate, length-replicate}
-use Rattle.std.proofs.lemmas.List.Elements.{All-push}
+use Rattle.std.proofs.Common.{arith, refl, sym, ap, ◌∙◌, set, length-append}
+use Rattle.std.proofs.lemmas.List.{take-replicate, length-replicate}
 use Rattle.gf_exponents.specs.Exponents.{Exponents, entry, same, degree}
 use Rattle.gf_exponents.specs.Orders.{deglex, lex}
 use Rattle.gf_poly.specs.declared.Term.{Term}
@@ -55,19 +54,6 @@ descending-narrowed n (t ∷ f) v d = (d.0, above-narrowed n t.mono f v.0 v.1 d.
 pub variables-widened : (n : ℕ) (f : Terms) → HasVariables n f → HasVariables (n + 1) (map widened_term f)
 variables-widened n [] v = tt
 variables-widened n (t ∷ f) v = (omega (arith, length-append t.mono (0 ∷ []), v.0), variables-widened n f v.1)
-
--- ---- copying
-
-pub widened-monomial : (x : Exponents) (e : ℕ) → length x < ROOM → IsMonomial x → e < 2 ^ 31 → IsMonomial (x ++ e ∷ [])
-widened-monomial x e l m h = record { room = omega (arith, length-append x (e ∷ [])); limit = All-push (λ (k : ℕ). k < 2 ^ 31) x e m.limit h }
-
-pub entries-more : (all old : Exponents) (i v : ℕ) → i < length all → i < length old → v ≡ get_or old i 0 → take i all ≡ take i old → take (i + 1) (set all i v) ≡ take (i + 1) old
-entries-more all old i v l k e h = take_more_set all i v l ∙ ap (λ (z : Exponents). z ++ v ∷ []) h ∙ ap (λ (z : ℕ). take i old ++ z ∷ []) e ∙ sym (take_more old i 0 k)
-
-pub filled-array : (all old : Exponents) (i e : ℕ) → length old ≤ i → i ≤ length old → length old < length all → take i all ≡ take i old → take (length old + 1) (set all (length old) e) ≡ old ++ e ∷ []
-filled-array all old i e l k r h =
-    let at : i ≡ length old = omega arith in
-    take_more_set all (length old) e r ∙ ap (λ (z : Exponents). z ++ e ∷ []) (subst (λ (j : ℕ). take j all ≡ take j old) at h ∙ take_all (length old) old (omega arith))
 
 -- ---- the relation
 

@@ -2,9 +2,8 @@
 ghost use Rattle.std.specs.Prelude.{◌≡◌, ◌<◌, ◌≤◌, length, IfOk};
 ghost use Rattle.gf_saturate.specs.Widening.{rabinowitsch_terms, variable_at};
 
-use crate::widening::filled;
 use gf_frac::constants;
-use gf_poly::{Mono, Poly, ROOM, Term};
+use gf_poly::{Mono, Poly, ROOM, Term, filled};
 use std::alloc::{AllocError, Global};
 
 /// The variable at place `k`, from 0, of `n`.

@@ -1,25 +1,10 @@
 //! Polynomials in one more variable, which doesn't occur.
-ghost use Rattle.std.specs.Prelude.{◌≡◌, ◌<◌, ◌+◌, ◌^◌, ◌++◌, ◌∷◌, [], ℕ, IfOk, length, map};
+ghost use Rattle.std.specs.Prelude.{◌≡◌, ◌<◌, ℕ, IfOk, map};
 ghost use Rattle.gf_poly.specs.Polynomial.{HasVariables};
 ghost use Rattle.gf_saturate.specs.Widening.{widened_term};
 
-use gf_poly::{Mono, Poly, ROOM, Term};
+use gf_poly::{Poly, ROOM, Term, filled};
 use std::alloc::{AllocError, Global};
-
-/// The monomial times a power of one more variable.
-pub(crate) fn filled(alloc: Global, x: &Mono, exponent: u32) -> Mono
-    requires room { length x.now < ROOM }
-    requires limit { exponent < 2 ^ 31 }
-    ensures { result ≡ x.now ++ exponent ∷ [] }
-{
-    let old = x.exponents();
-    let mut all = [0; ROOM];
-    'entries: for i in 0..old.len() {
-        all[i] = old[i];
-    }
-    all[old.len()] = exponent;
-    Mono::new(alloc, &all[..old.len() + 1])
-}
 
 /// The same terms in one more variable.
 fn widened_terms(alloc: Global, terms: &[Term]) -> Result<Vec<Term>, AllocError>

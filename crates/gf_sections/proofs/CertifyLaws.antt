@@ -3,6 +3,7 @@ use Rattle.std.proofs.Common.{◌≡◌, ℕ, ◌+◌, ◌++◌, Bool, true, fal
 use Rattle.std.specs.List.{AllZip}
 use Rattle.std.proofs.lemmas.List.{append-nil}
 use Rattle.std.proofs.lemmas.List.Elements.{All-contains}
+use Rattle.gf_int.proofs.ListLaws.{all_by}
 use Rattle.gf_gordan.specs.declared.error.ConeOverflow.{ConeOverflow}
 use Rattle.gf_gordan.specs.declared.error.GordanError.{GordanError}
 use Rattle.gf_gordan.specs.declared.error.GordanError.TheVariants.{Cone, Memory}
@@ -13,7 +14,6 @@ use Rattle.gf_duality.specs.Generators.{unit_vectors}
 use Rattle.gf_duality.specs.Rays.{IsRays, IsImplied, IsZeroOn}
 use Rattle.gf_duality.specs.Faces.{IsFacetRow, AreFacetRows, cone_of}
 use Rattle.gf_rays.specs.Reached.{IsRaysStep}
-use Rattle.gf_duality.proofs.ListLaws.{all_by}
 use Rattle.gf_sections.specs.ConeRows.{AreAscending}
 use Rattle.gf_sections.specs.Flagged.{AreFlagsOf, flagged}
 use Rattle.gf_sections.specs.Errors.{of_system}

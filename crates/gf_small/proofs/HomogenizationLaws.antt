@@ -1,22 +1,20 @@
 -- Homogenisation, term by term and polynomial by polynomial.
--- To cite: degree_first, degree_at, filled-monomial, copied_more, FilledSoFar and its steps, filled-short, filled-variables,
+-- To cite: degree_first, degree_at, copied_more, FilledSoFar and its steps, filled-short, filled-variables,
 -- filled-monomial_there, AllDone and its steps. The rest are steps.
 use Rattle.std.specs.Prelude.{◌≡◌, ◌≢◌, ℕ, zero, suc, ◌+◌, ◌^◌, ◌<◌, ◌≤◌, ◌==◌, ◌&&◌, Bool, true, false, cond, if◌then◌else◌, List, [], ◌∷◌, ◌++◌, length, take, drop, get_or, map, All, Contains}
 use Rattle.std.specs.Ordering.{nat_cmp, ordering_then, is_eq, MatchOrdering}
 use Rattle.std.specs.declared.cmp.Ordering.{Ordering}
 use Rattle.std.specs.declared.cmp.Ordering.TheVariants.{Less, Equal, Greater}
-use Rattle.std.proofs.Common.{arith, refl, sym, ap, subst, ◌∙◌, set, length-append, take-append-drop}
+use Rattle.std.proofs.Common.{arith, refl, sym, ap, subst, ◌∙◌, length-append, take-append-drop}
 use Rattle.std.proofs.lemmas.Cmp.{ranked}
-use Rattle.std.proofs.lemmas.List.{take_more, take_all, take_more_set, drop_more, map-append, same_from_push}
+use Rattle.std.proofs.lemmas.List.{take_more, drop_more, map-append, same_from_push}
 use Rattle.std.proofs.lemmas.List.Elements.{All-push, All-contains, Contains-append_right, all_zip_more}
 use Rattle.gf_frac.specs.Fraction.{◌+ℚ◌, zero_ℚ}
 use Rattle.gf_exponents.specs.Exponents.{Exponents, same, degree}
 use Rattle.gf_exponents.specs.Orders.{deglex, lex}
 use Rattle.gf_exponents.proofs.ExponentsLaws.{entries_same, same_lists}
-use Rattle.gf_poly.specs.declared.TheConstants.{ROOM}
 use Rattle.gf_poly.specs.declared.Term.{Term}
 use Rattle.gf_poly.specs.declared.monomial.ExponentOverflow.{ExponentOverflow}
-use Rattle.gf_poly.specs.Monomial.{IsMonomial}
 use Rattle.gf_poly.specs.Polynomial.{Terms, coefficient, SamePolynomial, IsAbove, IsDescending, HasVariables, KeepsVariables}
 use Rattle.gf_poly.specs.Collecting.{like}
 use Rattle.gf_poly.specs.Marking.{MarkedPolynomial, HasMarkedTerm, head_of}
@@ -57,11 +55,6 @@ pub degree_at : (f : Terms) (i : ℕ) (t : Term) → i < length f → t ≡ get_
 degree_at [] i t l e = absurd (omega arith)
 degree_at (s ∷ f) zero t l e = omega (arith, ap (λ (z : Term). degree z.mono) e)
 degree_at (s ∷ f) (suc i) t l e = omega (arith, degree_at f i t (omega arith) e)
-
--- ---- a monomial
-
-pub filled-monomial : (x : Exponents) (e : ℕ) → length x < ROOM → IsMonomial x → e < 2 ^ 31 → IsMonomial (x ++ e ∷ [])
-filled-monomial x e l m h = record { room = omega (arith, length-append x (e ∷ [])); limit = All-push (λ (k : ℕ). k < 2 ^ 31) x e m.limit h }
 
 -- ---- the terms
 
@@ -196,16 +189,6 @@ done-past n fs gs i f o l e p k = record {
   before = k.fits;
   past = p;
 }
-
--- ---- the exponents of a filled monomial
-
-pub entries-more : (all old : Exponents) (i v : ℕ) → i < length all → i < length old → v ≡ get_or old i 0 → take i all ≡ take i old → take (i + 1) (set all i v) ≡ take (i + 1) old
-entries-more all old i v l k e h = take_more_set all i v l ∙ ap (λ (z : Exponents). z ++ v ∷ []) h ∙ ap (λ (z : ℕ). take i old ++ z ∷ []) e ∙ sym (take_more old i 0 k)
-
-pub filled-array : (all old : Exponents) (i e : ℕ) → length old ≤ i → i ≤ length old → length old < length all → take i all ≡ take i old → take (length old + 1) (set all (length old) e) ≡ old ++ e ∷ []
-filled-array all old i e l k r h =
-    let at : i ≡ length old = omega arith in
-    take_more_set all (length old) e r ∙ ap (λ (z : Exponents). z ++ e ∷ []) (subst (λ (j : ℕ). take j all ≡ take j old) at h ∙ take_all (length old) old (omega arith))
 
 -- ---- a marked polynomial
 

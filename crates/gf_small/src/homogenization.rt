@@ -11,7 +11,7 @@ ghost use Rattle.gf_small.specs.Homogenization.{new_exponent as exponent_of, fil
 
 use crate::degrees::total_degree;
 use gf_division::place_of;
-use gf_poly::{ExponentOverflow, Marked, Mono, Poly, PolyError, ROOM, Term};
+use gf_poly::{ExponentOverflow, Marked, Mono, Poly, PolyError, ROOM, Term, filled};
 use gf_text::{MOST_VARIABLES, Ring, Written};
 use std::alloc::{AllocError, AllocFailed, Global};
 
@@ -74,21 +74,6 @@ fn new_exponent(d: u64, x: &Mono) -> Result<u32, ExponentOverflow>
         });
     }
     Ok(exponent as u32)
-}
-
-/// The monomial times a power of the new variable.
-fn filled(alloc: Global, x: &Mono, exponent: u32) -> Mono
-    requires room { length x.now < ROOM }
-    requires limit { exponent < 2 ^ 31 }
-    ensures { result ≡ x.now ++ exponent ∷ [] }
-{
-    let old = x.exponents();
-    let mut all = [0; ROOM];
-    'entries: for i in 0..old.len() {
-        all[i] = old[i];
-    }
-    all[old.len()] = exponent;
-    Mono::new(alloc, &all[..old.len() + 1])
 }
 
 /// The term filled up to the degree `d`.

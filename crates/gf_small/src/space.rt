@@ -7,22 +7,10 @@ ghost use Rattle.gf_facets.specs.Rows.{rows_of_polynomials};
 ghost use Rattle.gf_small.specs.HomogeneitySpace.{IsBasisOfSpace, IsSpaceCause};
 
 use gf_gordan::GordanError;
-use gf_poly::{Marked, MarkedSet};
+use gf_poly::{Marked, MarkedSet, copied};
 use gf_rays::Rays;
 use gf_vec::IntVec;
 use std::alloc::{AllocError, Global};
-
-/// Equal marked polynomials.
-fn copied(alloc: Global, items: &[Marked]) -> Result<Vec<Marked>, AllocError>
-    ensures { IfOk result (λ h. h.items ≡ items.now) }
-{
-    let mut out = Vec::with_capacity(alloc, items.len())?;
-    'items: for i in 0..items.len() {
-        let item = items[i].copy()?;
-        out.push(item)?;
-    }
-    Ok(out)
-}
 
 /// The differences of a marked exponent vector and each other one of its polynomial, of all polynomials.
 fn differences(alloc: Global, n: u32, set: &[Marked]) -> Result<Vec<IntVec>, AllocError>

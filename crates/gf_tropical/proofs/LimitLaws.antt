@@ -4,11 +4,12 @@ use Rattle.std.proofs.lemmas.Int.{ints}
 use Rattle.std.proofs.lemmas.List.{get_or_default, length-map}
 use Rattle.std.proofs.lemmas.List.Edits.{length-remove}
 use Rattle.std.proofs.lemmas.List.Elements.{All-contains, Contains-append_left, Contains-append_right}
+use Rattle.gf_int.proofs.ListLaws.{Contains-here, all_by}
 use Rattle.gf_gordan.specs.Alternative.{AreRows}
 use Rattle.gf_gordan.specs.Sizes.{HaveEntriesUpTo}
 use Rattle.gf_gordan.specs.declared.error.ConeOverflow.{ConeOverflow}
 use Rattle.gf_duality.specs.Faces.{Rows}
-use Rattle.gf_duality.proofs.ListLaws.{none_in, in_head, in_cons, of_rest, all_by}
+use Rattle.gf_duality.proofs.ListLaws.{none_in, in_cons, of_rest}
 use Rattle.gf_fans.specs.Fans.{meet}
 use Rattle.gf_fans.proofs.PartNumbers.{of_map}
 use Rattle.gf_rays.specs.Limits.{IsSmallSystem, has_room}
@@ -110,7 +111,7 @@ module _ (First : List (List (List ℤ)) → Rows → Type 0) (Admitted : List (
   fan_sized Bs f of (none g e) = subst (IsSized n b 0) (sym e) (sized_whole n b)
   fan_sized Bs f of (one A Cs c g e q x m) =
       subst (λ (l : List (List (List ℤ))). IsSized n b (points_but k l) f) (sym e)
-      (sized_more n b (length A - k) (points_but k (A ∷ [])) f (omega arith) (sized_face n b (length A - k) c f (firsts A c (of A (subst (λ (l : List (List (List ℤ))). Contains l A) (sym e) (in_head A []))) q) (inr x.face)))
+      (sized_more n b (length A - k) (points_but k (A ∷ [])) f (omega arith) (sized_face n b (length A - k) c f (firsts A c (of A (subst (λ (l : List (List (List ℤ))). Contains l A) (sym e) (Contains-here A []))) q) (inr x.face)))
   fan_sized Bs f of (more Cs all A c d g e nz p q x m) =
       let front : (B : List (List ℤ)) → Contains Cs B → Contains As B = λ B i. of B (subst (λ (l : List (List (List ℤ))). Contains l B) (sym e) (Contains-append_left Cs (A ∷ []) B i)) in
       let last : (B : List (List ℤ)) → Contains (A ∷ []) B → Contains As B = λ B i. of B (subst (λ (l : List (List (List ℤ))). Contains l B) (sym e) (Contains-append_right Cs (A ∷ []) B i)) in
@@ -122,7 +123,7 @@ module _ (First : List (List (List ℤ)) → Rows → Type 0) (Admitted : List (
   system_sized f (own A c g i q x) = sized_more n b (length A - k) (points_but k As) f (but_one k As A i) (sized_face n b (length A - k) c f (firsts A c i q) x)
   system_sized f (both before after A c d g e nz p q x) =
       let front : (B : List (List ℤ)) → Contains before B → Contains As B = λ B i. subst (λ (l : List (List (List ℤ))). Contains l B) (sym e) (Contains-append_left before (A ∷ after) B i) in
-      let last : (B : List (List ℤ)) → Contains (A ∷ []) B → Contains As B = λ B i. subst (λ (l : List (List (List ℤ))). Contains l B) (sym e) (Contains-append_right before (A ∷ after) B (elim (in_cons A [] B i) [ inl j ↦ subst (Contains (A ∷ after)) (sym j) (in_head A after) | inr j ↦ absurd (none_in B j) ])) in
+      let last : (B : List (List ℤ)) → Contains (A ∷ []) B → Contains As B = λ B i. subst (λ (l : List (List (List ℤ))). Contains l B) (sym e) (Contains-append_right before (A ∷ after) B (elim (in_cons A [] B i) [ inl j ↦ subst (Contains (A ∷ after)) (sym j) (Contains-here A after) | inr j ↦ absurd (none_in B j) ])) in
       let up : points_but k before + points_but k (A ∷ []) ≤ points_but k As = let l = but_append k before (A ∷ after) in let m = ap (points_but k) e in omega (arith, l, m) in
       sized_more n b (points_but k before + points_but k (A ∷ [])) (points_but k As) f up
       (sized_face n b (points_but k before + points_but k (A ∷ [])) (meet c d) f (sized_meet n b (points_but k before) (points_but k (A ∷ [])) c d (fan_sized before c front p) (fan_sized (A ∷ []) d last q)) x)

@@ -2,8 +2,9 @@
 use Rattle.std.proofs.Common.{◌≡◌, ◌<◌, ℕ, List, [], length, get_or, ℤ, Contains, arith, sym, ap, ◌∙◌, subst, inl, inr}
 use Rattle.std.proofs.lemmas.Bool.{cases_eq}
 use Rattle.std.proofs.lemmas.List.{get_or_default}
+use Rattle.gf_int.proofs.ListLaws.{all_by}
 use Rattle.gf_duality.specs.Faces.{Rows, SameCone, IsInCone, part}
-use Rattle.gf_duality.proofs.ListLaws.{none_in, all_by}
+use Rattle.gf_duality.proofs.ListLaws.{none_in}
 use Rattle.gf_fans.proofs.FanLaws.{of_part, part_in, same_turned}
 use Rattle.gf_fans.proofs.PartNumbers.{of_map}
 use Rattle.gf_rays.specs.Cones.{RowsAndRays, rows_of}

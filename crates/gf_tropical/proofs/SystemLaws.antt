@@ -1,12 +1,13 @@
 -- The systems of rows that fans come of.
 use Rattle.std.proofs.Common.{◌≡◌, ℕ, List, [], ◌∷◌, ◌++◌, map, length, length-append, ℤ, ◌≢◌, Any, Contains, arith, refl, sym, ap, ap₂, ◌∙◌, subst, inl, inr}
+use Rattle.gf_int.proofs.ListLaws.{Contains-here}
 use Rattle.gf_gordan.specs.declared.error.ConeOverflow.{ConeOverflow}
 use Rattle.gf_gordan.specs.declared.error.GordanError.{GordanError}
 use Rattle.gf_gordan.specs.declared.error.GordanError.TheVariants as gordan
 use Rattle.gf_gordan.specs.Steps.{Failed}
 use Rattle.gf_duality.specs.Faces.{Rows, SameCone, part}
 use Rattle.gf_rays.specs.Reached.{IsRaysStep}
-use Rattle.gf_duality.proofs.ListLaws.{none_in, in_head, in_cons}
+use Rattle.gf_duality.proofs.ListLaws.{none_in, in_cons}
 use Rattle.gf_fans.specs.Fans.{meet}
 use Rattle.gf_fans.specs.FaceLists.{numbered}
 use Rattle.gf_fans.proofs.FanLaws.{same_turned}
@@ -48,10 +49,10 @@ failed_width P gordan.Memory e q x = subst (IsWidthRefusal P) (sym q) tt
 -- ---- the cones of one polynomial
 
 pub pair_cones_by : (A : List (List ℤ)) (cones : List Rows) (n : ℕ) → AreVertexPairCones n A cones → (c : Rows) → Contains cones c → IsConeBy Prevariety (A ∷ []) c
-pair_cones_by A cones n s c k = let p = s.each c k in record { of = A; listed = in_head A []; i = p.0; j = p.1; ordered = p.2.0; inside = p.2.1; rows = p.2.2 }
+pair_cones_by A cones n s c k = let p = s.each c k in record { of = A; listed = Contains-here A []; i = p.0; j = p.1; ordered = p.2.0; inside = p.2.1; rows = p.2.2 }
 
 pub single_cones_by : (A : List (List ℤ)) (cones : List Rows) (n : ℕ) → AreVertexCones n A cones → (c : Rows) → Contains cones c → IsConeBy Minkowski (A ∷ []) c
-single_cones_by A cones n s c k = let p = s.each c k in record { of = A; listed = in_head A []; i = p.0; inside = p.1.0; rows = p.1.1 }
+single_cones_by A cones n s c k = let p = s.each c k in record { of = A; listed = Contains-here A []; i = p.0; inside = p.1.0; rows = p.1.1 }
 
 -- ---- the fan of cones by rows
 

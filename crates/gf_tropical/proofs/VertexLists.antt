@@ -3,6 +3,7 @@ use Rattle.std.proofs.Common.{◌≡◌, ℕ, ◌+◌, ◌<◌, ◌≤◌, List,
 use Rattle.std.proofs.lemmas.List.{get_or_append_left}
 use Rattle.std.proofs.lemmas.List.Elements.{Contains-push}
 use Rattle.std.proofs.lemmas.Bool.{true≢false}
+use Rattle.gf_int.proofs.ListLaws.{all_by, Contains-last}
 use Rattle.gf_gordan.specs.Alternative.{AreRows, IsFarkas, GordansAlternative}
 use Rattle.gf_gordan.specs.Answers.{IsAlternative}
 use Rattle.gf_gordan.specs.declared.answer.Answer.{Answer}
@@ -13,14 +14,14 @@ use Rattle.gf_patterns.specs.Laws.{VerticesSuffice}
 use Rattle.gf_patterns.proofs.PatternFanLaws.{single_wide}
 use Rattle.gf_patterns.proofs.PointLaws.{points_wide, length-points}
 use Rattle.gf_duality.specs.Faces.{Rows}
-use Rattle.gf_duality.proofs.ListLaws.{all_by, none_in, first_in, snoc_cases, place, less, at, more}
+use Rattle.gf_duality.proofs.ListLaws.{none_in, first_in, place, less, at, more}
 use Rattle.gf_patterns.specs.PatternRows.{point_at, single_rows, pair_rows}
 use Rattle.gf_patterns.specs.Vertices.{IsVertex, AreVertexCones, AreVertexPairCones}
 use Rattle.gf_tropical.specs.VertexLists.{AreVertexFlags, HaveVertexFlags, VerticesSoFar, VertexPairsSoFar}
 
 pub vertices_more : (n : ℕ) (A : List (List ℤ)) (i : ℕ) (cones : List Rows) (c : Rows) → i < length A → c ≡ single_rows A i → VerticesSoFar n A i cones → VerticesSoFar n A (i + 1) (cones ++ c ∷ [])
 vertices_more n A i cones c l e s = record {
-  each = λ d k. elim (snoc_cases cones c d k) [ inl x ↦ s.each d x | inr q ↦ (i, (l, q ∙ e)) ];
+  each = λ d k. elim (Contains-last cones c d k) [ inl x ↦ s.each d x | inr q ↦ (i, (l, q ∙ e)) ];
   every = λ k h v. elim (place i k) [
     | less g ↦ first_in cones c (single_rows A k) (s.every k g v)
     | at g ↦ subst (λ z. Contains (cones ++ c ∷ []) (single_rows A z)) g (subst (Contains (cones ++ c ∷ [])) e (Contains-push cones c))
@@ -46,7 +47,7 @@ vertex_pairs_start n A i cones s = record { each = s.each; every = λ a b l m q.
 
 pub vertex_pairs_more : (n : ℕ) (A : List (List ℤ)) (i j : ℕ) (cones : List Rows) (c : Rows) → i < j → j < length A → c ≡ pair_rows A i j → VertexPairsSoFar n A i j cones → VertexPairsSoFar n A i (j + 1) (cones ++ c ∷ [])
 vertex_pairs_more n A i j cones c l m e s = record {
-  each = λ d k. elim (snoc_cases cones c d k) [ inl x ↦ s.each d x | inr q ↦ (i, j, (l, m, q ∙ e)) ];
+  each = λ d k. elim (Contains-last cones c d k) [ inl x ↦ s.each d x | inr q ↦ (i, j, (l, m, q ∙ e)) ];
   every = λ a b la mb q v u. elim q [
     | inl h ↦ first_in cones c (pair_rows A a b) (s.every a b la mb (inl h) v u)
     | inr h ↦ elim (place j b) [

@@ -8,6 +8,7 @@ use Rattle.gf_frac.proofs.FractionLaws.{+ℚ-zero, zero_or_not}
 use Rattle.gf_exponents.specs.Exponents.{Exponents, same, whole_weight}
 use Rattle.gf_exponents.proofs.ExponentsLaws.{same-refl, same_trans}
 use Rattle.gf_exponents.proofs.WholeWeightLaws.{whole_weight-same}
+use Rattle.gf_int.proofs.ListLaws.{Contains-here}
 use Rattle.gf_poly.specs.declared.Term.{Term}
 use Rattle.gf_poly.specs.Polynomial.{Terms, HasVariables, IsDescending, coefficient}
 use Rattle.gf_poly.specs.InitialForms.{IsOfGreatestWeight, IsInitialForm}
@@ -15,7 +16,7 @@ use Rattle.gf_poly.proofs.CoefficientLaws.{term_coefficient}
 use Rattle.gf_poly.proofs.PolynomialLaws.{coefficient-same}
 use Rattle.gf_poly.proofs.InitialFormLaws.{occurs}
 use Rattle.gf_ideal.specs.Membership.{HasMonomial}
-use Rattle.gf_ideal.proofs.ListLaws.{Contains-here, Contains-there, Contains-cases}
+use Rattle.gf_ideal.proofs.ListLaws.{Contains-there, Contains-cases}
 use Rattle.gf_ideal.proofs.KeptForms.{term_there}
 use Rattle.gf_ideal.proofs.MembershipLaws.{member-generator}
 use Rattle.gf_facets.proofs.VectorLaws.{three}

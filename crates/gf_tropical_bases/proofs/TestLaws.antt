@@ -5,6 +5,8 @@ use Rattle.std.proofs.lemmas.Int.{ints}
 use Rattle.gf_frac.specs.Fraction.{zero_ℚ}
 use Rattle.gf_frac.proofs.FractionLaws.{zero_or_not}
 use Rattle.gf_int.specs.Content.{scaled}
+use Rattle.gf_int.proofs.ListLaws.{all_by}
+use Rattle.gf_int.proofs.SignLaws.{equal_or_not}
 use Rattle.gf_exponents.specs.Exponents.{Exponents, whole_weight}
 use Rattle.gf_exponents.specs.Orders.{lighter}
 use Rattle.gf_poly.specs.Polynomial.{Terms, coefficient}
@@ -16,7 +18,7 @@ use Rattle.gf_ideal.proofs.PieceLaws.{Contains-polys}
 use Rattle.gf_vec.specs.Vector.{dot, opposite}
 use Rattle.gf_vec.proofs.VectorLaws.{length-times}
 use Rattle.gf_duality.specs.Faces.{Rows, IsInCone, IsFaceOf, part}
-use Rattle.gf_duality.proofs.ListLaws.{all_by, none_in}
+use Rattle.gf_duality.proofs.ListLaws.{none_in}
 use Rattle.gf_fans.specs.Fans.{meet}
 use Rattle.gf_fans.proofs.Meeting.{ZeroRows, zero_rows, right_in}
 use Rattle.gf_fans.proofs.FanLaws.{both_in, face_in, part_in, of_part, part_zero, up_in}
@@ -75,23 +77,14 @@ level_moved : (v w : List ℤ) (b p : MarkedPolynomial) →
     ((x : Exponents) → HasMonomial b.poly x → whole_weight v x ≡ whole_weight v b.head → whole_weight w x ≡ whole_weight w b.head) →
     ((x : Exponents) → HasMonomial b.poly x → whole_weight w x ≡ whole_weight w b.head → whole_weight v x ≡ whole_weight v b.head) →
     IsLevelPart v b p → IsLevelPart w b p
-level_moved v w b p to from i = record { head = i.head; level = λ x e. up x e (zero_or_not (coefficient b.poly x)); off = λ x n. out x n (equal_or_not v x) }
+level_moved v w b p to from i = record { head = i.head; level = λ x e. up x e (zero_or_not (coefficient b.poly x)); off = λ x n. out x n (equal_or_not (whole_weight v x) (whole_weight v b.head)) }
   where
-    equal_or_not : (u : List ℤ) (x : Exponents) → (whole_weight u x ≡ whole_weight u b.head) ⊎ (whole_weight u x ≡ whole_weight u b.head → ⊥)
-    equal_or_not u x = at (three (whole_weight u x) (whole_weight u b.head))
-      where
-        at : (whole_weight u x <ℤ whole_weight u b.head) ⊎ ((whole_weight u x ≡ whole_weight u b.head) ⊎ (whole_weight u b.head <ℤ whole_weight u x)) →
-            (whole_weight u x ≡ whole_weight u b.head) ⊎ (whole_weight u x ≡ whole_weight u b.head → ⊥)
-        at (inl l) = inr (λ e. absurd (omega (arith, ints, l, e)))
-        at (inr (inl e)) = inl e
-        at (inr (inr l)) = inr (λ e. absurd (omega (arith, ints, l, e)))
-
     nothing : (x : Exponents) → coefficient b.poly x ≡ zero_ℚ → (whole_weight v x ≡ whole_weight v b.head) ⊎ (whole_weight v x ≡ whole_weight v b.head → ⊥) → coefficient p.poly x ≡ zero_ℚ
     nothing x z (inl e) = i.level x e ∙ z
     nothing x z (inr n) = i.off x n
 
     up : (x : Exponents) → whole_weight w x ≡ whole_weight w b.head → (coefficient b.poly x ≡ zero_ℚ) ⊎ (coefficient b.poly x ≢ zero_ℚ) → coefficient p.poly x ≡ coefficient b.poly x
-    up x e (inl z) = nothing x z (equal_or_not v x) ∙ sym z
+    up x e (inl z) = nothing x z (equal_or_not (whole_weight v x) (whole_weight v b.head)) ∙ sym z
     up x e (inr m) = i.level x (from x m e)
 
     out : (x : Exponents) → (whole_weight w x ≡ whole_weight w b.head → ⊥) → (whole_weight v x ≡ whole_weight v b.head) ⊎ (whole_weight v x ≡ whole_weight v b.head → ⊥) → coefficient p.poly x ≡ zero_ℚ

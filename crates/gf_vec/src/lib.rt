@@ -20,5 +20,6 @@ pub use content::divide_by_content;
 pub use dot::dot_slices;
 pub use error::{VecError, VecOp, WideVector};
 pub use lists::{copied, is_one_of, is_same, joined, same_vectors};
+pub use root_sign::leading_sign;
 pub use vector::IntVec;
 pub use weight::{share, weight_of};

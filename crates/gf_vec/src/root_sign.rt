@@ -17,8 +17,8 @@ fn sum_of(xs: &[i128]) -> i128
     sum
 }
 
-/// The sign of the first entry that isn't zero.
-fn leading_sign(xs: &[i128]) -> Ordering
+/// The sign, against zero, of the first entry that isn't zero; `Equal` where all are.
+pub fn leading_sign(xs: &[i128]) -> Ordering
     ensures { result ≡ first_sign xs.now }
 {
     for x in xs {

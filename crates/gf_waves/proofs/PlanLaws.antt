@@ -9,7 +9,7 @@ use Rattle.gf_walk.specs.declared.expand.Piece.{Piece}
 use Rattle.gf_waves.specs.declared.job.Slot.{Slot}
 use Rattle.gf_waves.specs.declared.job.Job.{Job}
 use Rattle.gf_waves.specs.Frontier.{job_number, first_job, behind_job, renewed, walkers_of}
-use Rattle.gf_waves.specs.Plans.{IsPlanned, IsSpare, AreSpare, IsFit, AreFit, IsJobFit, AreFree, AreNumbered, IsDealt, hands_of, AreExpanded, IsWorked, rows_of, piles_of, gather}
+use Rattle.gf_waves.specs.Plans.{IsPlanned, IsSpare, AreSpare, IsFit, AreFit, IsJobFit, AreFreeJobs, AreNumbered, IsDealt, hands_of, AreExpanded, IsWorked, worked_rows, piles_of, gather}
 use Rattle.gf_waves.specs.Wave.{IsWaved, ExpandsOn}
 
 -- ---- the pieces of a job
@@ -86,7 +86,7 @@ module _ {T N L E : Type 0} where
   spare_last [] s a = (tt, a.0)
   spare_last (r ∷ ss) s a = (let k = spare_last ss s a.1 in ((a.0, k.0), k.1))
 
-  pub free_more : (m : ℕ) (js : List (Job T N L E)) (j : Job T N L E) → AreFree m js → AreFree m (j ∷ []) → AreFree m (js ++ j ∷ [])
+  pub free_more : (m : ℕ) (js : List (Job T N L E)) (j : Job T N L E) → AreFreeJobs m js → AreFreeJobs m (j ∷ []) → AreFreeJobs m (js ++ j ∷ [])
   free_more m [] j a b = b
   free_more m (i ∷ js) j a b = (a.0, a.1, a.2, a.3, free_more m js j a.4 b)
 
@@ -141,7 +141,7 @@ module _ {T N L E : Type 0} where
   AreOpenHands m [] = Unit {0}
   AreOpenHands m (j ∷ js) = IsOpenHand m j × AreOpenHands m js
 
-  pub free_hands : (m : ℕ) (js : List (Job T N L E)) → AreFree m js → AreOpenHands m js
+  pub free_hands : (m : ℕ) (js : List (Job T N L E)) → AreFreeJobs m js → AreOpenHands m js
   free_hands m [] a = tt
   free_hands m (j ∷ js) a =
       let none : length j.slots.items ≡ 0 = ap length a.0 in
@@ -149,12 +149,12 @@ module _ {T N L E : Type 0} where
       let place = a.3 in
       ((subst AreFit (sym a.0) tt, a.1, omega (arith, none, room), omega (arith, none, place)), free_hands m js a.4)
 
-  none_at : (m : ℕ) (js : List (Job T N L E)) → AreFree m js → (i : ℕ) (d : List (Slot T N L E)) → i < length (hands_of js) → get_or (hands_of js) i d ≡ []
+  none_at : (m : ℕ) (js : List (Job T N L E)) → AreFreeJobs m js → (i : ℕ) (d : List (Slot T N L E)) → i < length (hands_of js) → get_or (hands_of js) i d ≡ []
   none_at m [] a i d h = absurd (omega (arith, h))
   none_at m (j ∷ js) a zero d h = a.0
   none_at m (j ∷ js) a (suc i) d h = none_at m js a.4 i d (omega (arith, h))
 
-  pub free_dealt : (m : ℕ) (js : List (Job T N L E)) → AreFree m js → IsDealt [] (hands_of js)
+  pub free_dealt : (m : ℕ) (js : List (Job T N L E)) → AreFreeJobs m js → IsDealt [] (hands_of js)
   free_dealt m js a = none_at m js a
 
   pub hands_last : (m : ℕ) (js : List (Job T N L E)) (j : Job T N L E) → AreOpenHands m (js ++ j ∷ []) → AreOpenHands m js × IsOpenHand m j
@@ -257,31 +257,31 @@ module _ {T N L E : Type 0} (lt : L → L → Type 0) (up : T → N → L → N 
 -- ---- putting together
 
 module _ {T N L E : Type 0} where
-  piles_more : (js : List (Job T N L E)) (j : Job T N L E) → piles_of (js ++ j ∷ []) ≡ piles_of js ++ rows_of j ∷ []
+  piles_more : (js : List (Job T N L E)) (j : Job T N L E) → piles_of (js ++ j ∷ []) ≡ piles_of js ++ worked_rows j ∷ []
   piles_more [] j = refl
-  piles_more (i ∷ js) j = ap (λ x. rows_of i ∷ x) (piles_more js j)
+  piles_more (i ∷ js) j = ap (λ x. worked_rows i ∷ x) (piles_more js j)
 
   gather_next : (k : ℕ) (p : List (List (Piece T N L E))) (piles : List (List (List (Piece T N L E)))) → gather (suc k) (p ∷ piles) ≡ get_or p 0 [] ++ gather k (piles ++ drop 1 p ∷ [])
   gather_next k [] piles = refl
   gather_next k (row ∷ rows) piles = refl
 
   -- the first job's next row, if there is one, and then the others'
-  gathered_next : (m k : ℕ) (jobs rest news : List (Job T N L E)) (j d : Job T N L E) → m ≡ suc k → jobs ≡ j ∷ rest → news ≡ rest ++ d ∷ [] → rows_of d ≡ drop 1 (rows_of j) → gather m (piles_of jobs) ≡ get_or (rows_of j) 0 [] ++ gather k (piles_of news)
+  gathered_next : (m k : ℕ) (jobs rest news : List (Job T N L E)) (j d : Job T N L E) → m ≡ suc k → jobs ≡ j ∷ rest → news ≡ rest ++ d ∷ [] → worked_rows d ≡ drop 1 (worked_rows j) → gather m (piles_of jobs) ≡ get_or (worked_rows j) 0 [] ++ gather k (piles_of news)
   gathered_next m k jobs rest news j d e f g h =
-      ap (λ x. gather x (piles_of jobs)) e ∙ ap (λ x. gather (suc k) (piles_of x)) f ∙ gather_next k (rows_of j) (piles_of rest) ∙ ap (λ x. get_or (rows_of j) 0 [] ++ gather k (piles_of rest ++ x ∷ [])) (sym h) ∙ ap (λ x. get_or (rows_of j) 0 [] ++ gather k x) (sym (ap piles_of g ∙ piles_more rest d))
+      ap (λ x. gather x (piles_of jobs)) e ∙ ap (λ x. gather (suc k) (piles_of x)) f ∙ gather_next k (worked_rows j) (piles_of rest) ∙ ap (λ x. get_or (worked_rows j) 0 [] ++ gather k (piles_of rest ++ x ∷ [])) (sym h) ∙ ap (λ x. get_or (worked_rows j) 0 [] ++ gather k x) (sym (ap piles_of g ∙ piles_more rest d))
 
   -- it is put behind a row
-  pub gathered_more : (m k : ℕ) (jobs rest news : List (Job T N L E)) (j d : Job T N L E) (row more whole : List (Piece T N L E)) → m ≡ suc k → jobs ≡ j ∷ rest → news ≡ rest ++ d ∷ [] → rows_of d ≡ drop 1 (rows_of j) → more ≡ row ++ get_or (rows_of j) 0 [] →
+  pub gathered_more : (m k : ℕ) (jobs rest news : List (Job T N L E)) (j d : Job T N L E) (row more whole : List (Piece T N L E)) → m ≡ suc k → jobs ≡ j ∷ rest → news ≡ rest ++ d ∷ [] → worked_rows d ≡ drop 1 (worked_rows j) → more ≡ row ++ get_or (worked_rows j) 0 [] →
       row ++ gather m (piles_of jobs) ≡ whole → more ++ gather k (piles_of news) ≡ whole
   gathered_more m k jobs rest news j d row more whole e f g h on all =
-      ap (λ x. x ++ gather k (piles_of news)) on ∙ append_assoc row (get_or (rows_of j) 0 []) (gather k (piles_of news)) ∙ ap (λ x. row ++ x) (sym (gathered_next m k jobs rest news j d e f g h)) ∙ all
+      ap (λ x. x ++ gather k (piles_of news)) on ∙ append_assoc row (get_or (worked_rows j) 0 []) (gather k (piles_of news)) ∙ ap (λ x. row ++ x) (sym (gathered_next m k jobs rest news j d e f g h)) ∙ all
 
   -- and is no longer than all
-  pub gathered_fits : (m k : ℕ) (jobs rest : List (Job T N L E)) (j : Job T N L E) (row whole : List (Piece T N L E)) → m ≡ suc k → jobs ≡ j ∷ rest → row ++ gather m (piles_of jobs) ≡ whole → length row + length (get_or (rows_of j) 0 []) ≤ length whole
+  pub gathered_fits : (m k : ℕ) (jobs rest : List (Job T N L E)) (j : Job T N L E) (row whole : List (Piece T N L E)) → m ≡ suc k → jobs ≡ j ∷ rest → row ++ gather m (piles_of jobs) ≡ whole → length row + length (get_or (worked_rows j) 0 []) ≤ length whole
   gathered_fits m k jobs rest j row whole e f all =
-      let first = get_or (rows_of j) 0 [] in
-      let back = gather k (piles_of rest ++ drop 1 (rows_of j) ∷ []) in
-      let parts = ap length (ap (λ x. gather x (piles_of jobs)) e ∙ ap (λ x. gather (suc k) (piles_of x)) f ∙ gather_next k (rows_of j) (piles_of rest)) in
+      let first = get_or (worked_rows j) 0 [] in
+      let back = gather k (piles_of rest ++ drop 1 (worked_rows j) ∷ []) in
+      let parts = ap length (ap (λ x. gather x (piles_of jobs)) e ∙ ap (λ x. gather (suc k) (piles_of x)) f ∙ gather_next k (worked_rows j) (piles_of rest)) in
       let both = length-append first back in
       let long = ap length all in
       let sum = length-append row (gather m (piles_of jobs)) in

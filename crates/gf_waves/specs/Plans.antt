@@ -40,9 +40,9 @@ IsPlanned {T} {N} {L} {E} (suc m) olds slots tail =
 -- ---- dealing out
 
 -- the jobs have no places yet, and room for so many
-abbrev pub AreFree : {T N L E : Type 0} → ℕ → List (Job T N L E) → Type 0
-AreFree m [] = Unit {0}
-AreFree m (j ∷ js) = (j.slots.items ≡ []) × (j.worked.items ≡ []) × (m ≤ vec_capacity j.slots) × (m ≤ vec_capacity j.worked) × AreFree m js
+abbrev pub AreFreeJobs : {T N L E : Type 0} → ℕ → List (Job T N L E) → Type 0
+AreFreeJobs m [] = Unit {0}
+AreFreeJobs m (j ∷ js) = (j.slots.items ≡ []) × (j.worked.items ≡ []) × (m ≤ vec_capacity j.slots) × (m ≤ vec_capacity j.worked) × AreFreeJobs m js
 
 -- their numbers are n and those after it; at its last value a number stays
 abbrev pub AreNumbered : {T N L E : Type 0} → ℕ → List (Job T N L E) → Type 0
@@ -88,12 +88,12 @@ abbrev pub AreFitAt : {T N L E : Type 0} → List (Job T N L E) → Type 0
 AreFitAt {T} {N} {L} {E} js = (i : ℕ) (d : Job T N L E) → i < length js → IsJobFit (slice_index_or js i d)
 
 -- what a job has made of its places
-abbrev pub rows_of : {T N L E : Type 0} → Job T N L E → List (List (Piece T N L E))
-rows_of j = map (λ d. d.items) j.worked.items
+abbrev pub worked_rows : {T N L E : Type 0} → Job T N L E → List (List (Piece T N L E))
+worked_rows j = map (λ d. d.items) j.worked.items
 
 -- a job's places are worked on
 abbrev pub IsWorked : {T N L E : Type 0} → (L → L → Type 0) → (T → N → L → N → Type 0) → (Place T N L → E → Type 0) → ℕ → ℕ → Job T N L E → Job T N L E → Type 0
-IsWorked lt up refuses times room old new = AreExpanded lt up refuses times room old.slots.items (rows_of new)
+IsWorked lt up refuses times room old new = AreExpanded lt up refuses times room old.slots.items (worked_rows new)
 
 -- the same of several jobs, index by index
 pub record AreWorkedAt {T N L E : Type 0} (lt : L → L → Type 0) (up : T → N → L → N → Type 0) (refuses : Place T N L → E → Type 0) (times room : ℕ) (olds news : List (Job T N L E)) : Type 0 where
@@ -112,7 +112,7 @@ gather (suc m) ((row ∷ rows) ∷ piles) = row ++ gather m (piles ++ rows ∷ [
 -- what each job has made
 abbrev pub piles_of : {T N L E : Type 0} → List (Job T N L E) → List (List (List (Piece T N L E)))
 piles_of [] = []
-piles_of (j ∷ js) = rows_of j ∷ piles_of js
+piles_of (j ∷ js) = worked_rows j ∷ piles_of js
 
 -- the rows of these jobs in turn
 abbrev pub gathered : {T N L E : Type 0} → ℕ → List (Job T N L E) → List (Piece T N L E)

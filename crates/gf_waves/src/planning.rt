@@ -3,7 +3,7 @@ ghost use Rattle.std.specs.Prelude.{◌≡◌, ◌<◌, ◌≤◌, ◌+◌, ◌-
 ghost use Rattle.std.specs.Vec.{vec_capacity};
 ghost use Rattle.std.specs.VecDeque.{deque_capacity};
 ghost use Rattle.gf_waves.specs.Frontier.{behind_job, first_job, renewed, walkers_of};
-ghost use Rattle.gf_waves.specs.Plans.{AreFit, AreFitAt, AreFree, AreNumbered, AreSpare, IsDealt, IsPlanned, gathered, hands_of, rows_of};
+ghost use Rattle.gf_waves.specs.Plans.{AreFit, AreFitAt, AreFreeJobs, AreNumbered, AreSpare, IsDealt, IsPlanned, gathered, hands_of, worked_rows};
 
 use crate::job::{Job, Slot};
 use crate::rows::{push, put_behind};
@@ -42,7 +42,7 @@ pub fn spare_jobs<T: Tree>(
     places: usize,
     first: u64,
 ) -> Result<Vec<Job<T>>, AllocError>
-    ensures free { IfOk result (λ v. AreFree places v.items) }
+    ensures free { IfOk result (λ v. AreFreeJobs places v.items) }
     ensures count { IfOk result (λ v. length v.items ≡ count) }
     ensures numbers { IfOk result (λ v. AreNumbered first v.items) }
     ensures room { IfOk result (λ v. count ≤ vec_capacity v) }
@@ -145,7 +145,7 @@ pub fn plan<T: Tree>(
 /// to the last job.
 pub fn deal<T: Tree>(mut slots: Vec<Slot<T>>, jobs: &mut Vec<Job<T>>)
     requires some { 0 < length jobs.old.items }
-    requires free { AreFree (length slots.items) jobs.old.items }
+    requires free { AreFreeJobs (length slots.items) jobs.old.items }
     requires fit { AreFit slots.items }
     ensures dealt { IsDealt slots.items (hands_of jobs.new.items) }
     ensures fit { AreFitAt jobs.new.items }
@@ -166,9 +166,9 @@ pub fn deal<T: Tree>(mut slots: Vec<Slot<T>>, jobs: &mut Vec<Job<T>>)
 
 /// Puts what the first place of a job became behind a row that has room for it; nothing, where the job has no place any more.
 fn put_next<T: Tree>(job: &mut Job<T>, row: &mut VecDeque<Piece<T>>)
-    requires { length row.old.items + length (slice_index_or (rows_of job.old) 0 []) ≤ deque_capacity row.old }
-    ensures items { row.new.items ≡ row.old.items ++ slice_index_or (rows_of job.old) 0 [] }
-    ensures rest { rows_of job.new ≡ drop 1 (rows_of job.old) }
+    requires { length row.old.items + length (slice_index_or (worked_rows job.old) 0 []) ≤ deque_capacity row.old }
+    ensures items { row.new.items ≡ row.old.items ++ slice_index_or (worked_rows job.old) 0 [] }
+    ensures rest { worked_rows job.new ≡ drop 1 (worked_rows job.old) }
     ensures room { deque_capacity row.old ≤ deque_capacity row.new }
 {
     if !job.worked.is_empty() {

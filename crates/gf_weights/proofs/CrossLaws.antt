@@ -6,10 +6,11 @@ use Rattle.std.proofs.lemmas.Bool.{cases_eq}
 use Rattle.std.proofs.Math.ListN.{get_or-append}
 use Rattle.std.proofs.lemmas.List.Elements.{All-contains}
 use Rattle.gf_int.proofs.SignLaws.{sign_of, negative, none, positive}
+use Rattle.gf_int.proofs.ListLaws.{Contains-here}
 use Rattle.gf_vec.specs.Vector.{dot}
 use Rattle.gf_duality.specs.Generators.{Made, IsDescribed}
 use Rattle.gf_duality.specs.Faces.{sum_of}
-use Rattle.gf_duality.proofs.ListLaws.{none_in, in_head, in_tail}
+use Rattle.gf_duality.proofs.ListLaws.{none_in, in_tail}
 use Rattle.gf_duality.proofs.Made.{Made-dot, Made-dot_zero}
 use Rattle.gf_duality.proofs.RaySums.{sum_made, sum_long, sum_zero}
 use Rattle.gf_duality.proofs.Determined.{described_of}
@@ -30,7 +31,7 @@ other_row : (ns beside : List (List ℤ)) (i k : ℕ) → i < length ns → k < 
 other_row [] beside i k l m d = absurd (omega (arith, l))
 other_row (x ∷ ns) beside zero zero l m d = absurd (d refl)
 other_row (x ∷ ns) beside zero (suc k) l m d = row_in (ns ++ beside) k (omega (arith, m))
-other_row (x ∷ ns) beside (suc i) zero l m d = in_head x (others_of i ns ++ beside)
+other_row (x ∷ ns) beside (suc i) zero l m d = Contains-here x (others_of i ns ++ beside)
 other_row (x ∷ ns) beside (suc i) (suc k) l m d = in_tail x (others_of i ns ++ beside) (get_or (ns ++ beside) k []) (other_row ns beside i k (omega (arith, l)) (omega (arith, m)) (λ e. d (ap suc e)))
 
 -- ---- the sum of the rays on which a row is zero

@@ -3,11 +3,11 @@ use Rattle.std.proofs.Common.{◌≡◌, ℕ, ◌<◌, List, [], ◌∷◌, ◌+
 use Rattle.std.proofs.lemmas.Int.{ints}
 use Rattle.std.proofs.Math.ListN.{get_or-append}
 use Rattle.std.proofs.lemmas.List.Elements.{Contains-append_right}
+use Rattle.gf_int.proofs.ListLaws.{Contains-here}
 use Rattle.gf_vec.specs.Vector.{dot, entry_at}
 use Rattle.gf_poly.specs.Marking.{MarkedPolynomial}
 use Rattle.gf_duality.specs.Rays.{IsRays}
 use Rattle.gf_duality.specs.Faces.{sum_of}
-use Rattle.gf_duality.proofs.ListLaws.{in_head}
 use Rattle.gf_duality.proofs.Determined.{described_of}
 use Rattle.gf_rays.specs.Cones.{RowsAndRays}
 use Rattle.gf_rays.specs.Parts.{zeros_of}
@@ -27,7 +27,7 @@ pointed n ns (l ∷ lin) rays r =
     let inside = q.1.0.inside in
     let below : q.0 < n = omega (arith, inside, wide) in
     let d = described_of n (ns ++ units n n) [] (l ∷ lin) rays r in
-    let flat : dot (unit n q.0) l ≡ pos 0 = d.valid.flat (unit n q.0) l (Contains-append_right ns (units n n) (unit n q.0) (unit_there n n q.0 below)) (in_head l lin) in
+    let flat : dot (unit n q.0) l ≡ pos 0 = d.valid.flat (unit n q.0) l (Contains-append_right ns (units n n) (unit n q.0) (unit_there n n q.0 below)) (Contains-here l lin) in
     let same : dot (unit n q.0) l ≡ get_or l q.0 (pos 0) = dot-unit n q.0 l below wide in
     let up : pos 0 <ℤ entry_at l q.0 = q.1.1 in
     absurd (omega (arith, ints, flat, same, up))

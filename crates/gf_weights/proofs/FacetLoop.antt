@@ -3,8 +3,9 @@ use Rattle.std.proofs.Common.{◌≡◌, ℕ, ◌+◌, ◌<◌, ◌≤◌, List,
 use Rattle.std.proofs.lemmas.Bool.{cases_lt}
 use Rattle.std.proofs.lemmas.List.{get_or_default}
 use Rattle.std.proofs.lemmas.List.Elements.{Contains-append_left, Contains-append_right, Contains-append_cases}
+use Rattle.gf_int.proofs.ListLaws.{Contains-here}
 use Rattle.gf_poly.specs.Marking.{MarkedPolynomial}
-use Rattle.gf_duality.proofs.ListLaws.{none_in, in_head, in_cons}
+use Rattle.gf_duality.proofs.ListLaws.{none_in, in_cons}
 use Rattle.gf_facets.specs.LexPositive.{IsBefore}
 use Rattle.gf_facets.specs.Regions.{Region}
 use Rattle.gf_facets.specs.Normals.{Ascends}
@@ -63,7 +64,7 @@ module _ (n : ℕ) (region : Region) (bs : List MarkedPolynomial) (c : ConeRows)
     ];
     all = λ j m g. subst (λ (z : List (List ℤ)). Contains z (normal_at c j)) (sym (normals_append fs f)) (elim (cases_lt j i) [
       | inl d ↦ Contains-append_left (normals_of fs) (f.normal ∷ []) (normal_at c j) (h.all j d g)
-      | inr d ↦ let ej : j ≡ i = omega (arith, m, d) in subst (λ (z : List ℤ). Contains (normals_of fs ++ f.normal ∷ []) z) (e ∙ ap (normal_at c) (sym ej)) (Contains-append_right (normals_of fs) (f.normal ∷ []) f.normal (in_head f.normal []))
+      | inr d ↦ let ej : j ≡ i = omega (arith, m, d) in subst (λ (z : List ℤ). Contains (normals_of fs ++ f.normal ∷ []) z) (e ∙ ap (normal_at c) (sym ej)) (Contains-append_right (normals_of fs) (f.normal ∷ []) f.normal (Contains-here f.normal []))
     ]);
   })
 

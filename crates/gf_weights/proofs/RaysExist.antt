@@ -13,6 +13,7 @@ use Rattle.gf_int.specs.Content.{IsPrimitive, scaled}
 use Rattle.gf_int.proofs.ContentLaws.{IsPrimitive-one}
 use Rattle.gf_int.proofs.RingLaws.{dv}
 use Rattle.gf_int.proofs.SignLaws.{sign_of, negative, none, positive, zero_or_not}
+use Rattle.gf_int.proofs.ListLaws.{Contains-here, all_by}
 use Rattle.gf_vec.specs.Vector.{dot, zeros}
 use Rattle.gf_vec.specs.Primitive.{IsPrimitivePart}
 use Rattle.gf_vec.proofs.DividedLaws.{IsContent-unit}
@@ -25,7 +26,7 @@ use Rattle.gf_duality.specs.Faces.{Rows}
 use Rattle.gf_duality.specs.Rays.{IsRays}
 use Rattle.gf_duality.specs.Generators.{Made, nothing, ray, line, summed, multiplied, divided, IsDescribed, unit_vectors}
 use Rattle.gf_duality.specs.Straightening.{start}
-use Rattle.gf_duality.proofs.ListLaws.{none_in, in_head, in_tail, in_cons, all_by}
+use Rattle.gf_duality.proofs.ListLaws.{none_in, in_tail, in_cons}
 use Rattle.gf_duality.proofs.Made.{Made-into}
 use Rattle.gf_duality.proofs.Equations.{in_map, map_in, units_width}
 use Rattle.gf_duality.proofs.Orthogonal.{basis}
@@ -56,7 +57,7 @@ put_in [] v p = (
   v ∷ [],
   record {
     rises = (λ y c. absurd (none_in y c), tt);
-    has = λ a. (λ c. in_cons v [] a c, λ k. elim k [ inl e ↦ subst (Contains (v ∷ [])) (sym e) (in_head v []) | inr c ↦ absurd (none_in a c) ]);
+    has = λ a. (λ c. in_cons v [] a c, λ k. elim k [ inl e ↦ subst (Contains (v ∷ [])) (sym e) (Contains-here v []) | inr c ↦ absurd (none_in a c) ]);
   },
 )
 put_in (x ∷ xs) v p = elim (before_strict.total v x) [
@@ -64,23 +65,23 @@ put_in (x ∷ xs) v p = elim (before_strict.total v x) [
     v ∷ x ∷ xs,
     record {
       rises = (λ y c. elim (in_cons x xs y c) [ inl e ↦ subst (IsBefore v) (sym e) b | inr k ↦ before_strict.transitive v x y b (p.0 y k) ], p);
-      has = λ a. (λ c. in_cons v (x ∷ xs) a c, λ k. elim k [ inl e ↦ subst (Contains (v ∷ x ∷ xs)) (sym e) (in_head v (x ∷ xs)) | inr c ↦ in_tail v (x ∷ xs) a c ]);
+      has = λ a. (λ c. in_cons v (x ∷ xs) a c, λ k. elim k [ inl e ↦ subst (Contains (v ∷ x ∷ xs)) (sym e) (Contains-here v (x ∷ xs)) | inr c ↦ in_tail v (x ∷ xs) a c ]);
     },
   )
   | inr o ↦ elim o [
-    | inl e ↦ (x ∷ xs, record { rises = p; has = λ a. (inr, λ k. elim k [ inl f ↦ subst (Contains (x ∷ xs)) (sym (f ∙ e)) (in_head x xs) | inr c ↦ c ]) })
+    | inl e ↦ (x ∷ xs, record { rises = p; has = λ a. (inr, λ k. elim k [ inl f ↦ subst (Contains (x ∷ xs)) (sym (f ∙ e)) (Contains-here x xs) | inr c ↦ c ]) })
     | inr b ↦ let r = put_in xs v p.1 in (
       x ∷ r.0,
       record {
         rises = (λ y c. elim ((r.1.has y).0 c) [ inl e ↦ subst (IsBefore x) (sym e) b | inr k ↦ p.0 y k ], r.1.rises);
         has = λ a. (
           λ c. elim (in_cons x r.0 a c) [
-            | inl e ↦ inr (subst (Contains (x ∷ xs)) (sym e) (in_head x xs))
+            | inl e ↦ inr (subst (Contains (x ∷ xs)) (sym e) (Contains-here x xs))
             | inr k ↦ elim ((r.1.has a).0 k) [ inl e ↦ inl e | inr m ↦ inr (in_tail x xs a m) ]
           ],
           λ k. elim k [
             | inl e ↦ in_tail x r.0 a ((r.1.has a).1 (inl e))
-            | inr c ↦ elim (in_cons x xs a c) [ inl e ↦ subst (Contains (x ∷ r.0)) (sym e) (in_head x r.0) | inr m ↦ in_tail x r.0 a ((r.1.has a).1 (inr m)) ]
+            | inr c ↦ elim (in_cons x xs a c) [ inl e ↦ subst (Contains (x ∷ r.0)) (sym e) (Contains-here x r.0) | inr m ↦ in_tail x r.0 a ((r.1.has a).1 (inr m)) ]
           ],
         );
       },
@@ -104,7 +105,7 @@ collected (t ∷ r) =
       record {
         rises = m.1.rises;
         only = λ a c. elim ((m.1.has a).0 c) [
-          | inl e ↦ (t, in_head t r, subst (IsPrimitivePart t) (sym e) v.1)
+          | inl e ↦ (t, Contains-here t r, subst (IsPrimitivePart t) (sym e) v.1)
           | inr k ↦ let q = rest.1.only a k in (q.0, in_tail t r q.0 q.1, q.2)
         ];
         all = λ a s c p. elim (in_cons t r s c) [
@@ -139,7 +140,7 @@ made_of_units (suc n) (x ∷ v) l up =
     let later : List (List ℤ) = map (λ u. pos 0 ∷ u) (unit_vectors n) in
     summed (suc n) (first ∷ later) [] (scaled x first) (pos 0 ∷ v) (x ∷ v)
     (ap₂ ◌∷◌ (let e : x ≡ x *ℤ pos 1 +ℤ pos 0 = omega (arith, ints) in e) (vsame (vv v lv) (dv x ⊡ vz n ⊞ vv v lv) (λ w. omega arith)))
-    (multiplied (suc n) (first ∷ later) [] x first (scaled x first) (up 0 (omega arith)) refl (ray (suc n) (first ∷ later) [] first (ap suc (length-zeros n)) (in_head first later)))
+    (multiplied (suc n) (first ∷ later) [] x first (scaled x first) (up 0 (omega arith)) refl (ray (suc n) (first ∷ later) [] first (ap suc (length-zeros n)) (Contains-here first later)))
     (Made-into (suc n) later [] (first ∷ later) [] (pos 0 ∷ v) (λ y i c. ray (suc n) (first ∷ later) [] y i (in_tail first later y c)) (λ a y i c. absurd (none_in y c))
     (fronted n (unit_vectors n) [] v (λ y c. none_in y c) (made_of_units n v lv (λ i k. up (suc i) (omega (arith, k))))))
 
@@ -210,10 +211,10 @@ kept_of h (x ∷ rays) =
     let with : pos 0 ≤ℤ dot h x → Kept h (x ∷ rays) = λ u. record {
       kept = x ∷ k.kept;
       from = λ y c. elim (in_cons x k.kept y c) [
-        | inl e ↦ (subst (Contains (x ∷ rays)) (sym e) (in_head x rays), subst (λ (t : List ℤ). pos 0 ≤ℤ dot h t) (sym e) u)
+        | inl e ↦ (subst (Contains (x ∷ rays)) (sym e) (Contains-here x rays), subst (λ (t : List ℤ). pos 0 ≤ℤ dot h t) (sym e) u)
         | inr d ↦ (in_tail x rays y (k.from y d).0, (k.from y d).1)
       ];
-      to = λ y c v. elim (in_cons x rays y c) [ inl e ↦ subst (Contains (x ∷ k.kept)) (sym e) (in_head x k.kept) | inr d ↦ in_tail x k.kept y (k.to y d v) ];
+      to = λ y c v. elim (in_cons x rays y c) [ inl e ↦ subst (Contains (x ∷ k.kept)) (sym e) (Contains-here x k.kept) | inr d ↦ in_tail x k.kept y (k.to y d v) ];
     } in
     elim (sign_of (dot h x)) [
       | positive g ↦ with (omega (arith, ints, g))
@@ -250,11 +251,11 @@ mates_of h p (x ∷ rays) =
       | negative g ↦ let v = divided_exists (pair h p x) in record {
         mates = v.0 ∷ k.mates;
         from = λ y c. elim (in_cons v.0 k.mates y c) [
-          | inl e ↦ (x, in_head x rays, g, subst (IsPrimitivePart (pair h p x)) (sym e) v.1)
+          | inl e ↦ (x, Contains-here x rays, g, subst (IsPrimitivePart (pair h p x)) (sym e) v.1)
           | inr d ↦ later y (k.from y d)
         ];
         to = λ q c d. elim (in_cons x rays q c) [
-          | inl e ↦ (v.0, in_head v.0 k.mates, subst (λ (t : List ℤ). IsPrimitivePart (pair h p t) v.0) (sym e) v.1)
+          | inl e ↦ (v.0, Contains-here v.0 k.mates, subst (λ (t : List ℤ). IsPrimitivePart (pair h p t) v.0) (sym e) v.1)
           | inr i ↦ let t = k.to q i d in (t.0, in_tail v.0 k.mates t.0 t.1, t.2)
         ];
       }
@@ -280,7 +281,7 @@ pairs_of h (x ∷ ps) rays =
       | positive g ↦ let m = mates_of h x rays in record {
         pairs = m.mates ++ k.pairs;
         from = λ y c. elim (Contains-append_cases m.mates k.pairs y c) [
-          | inl i ↦ (x, in_head x ps, g, m.from y i)
+          | inl i ↦ (x, Contains-here x ps, g, m.from y i)
           | inr i ↦ let t = k.from y i in (t.0, in_tail x ps t.0 t.1, t.2, t.3)
         ];
         to = λ p q c d u v. elim (in_cons x ps p c) [
@@ -332,7 +333,7 @@ zero_where (h ∷ hs) x y = elim (zero_where hs x y) [
     | inr out ↦ inl (λ k c z. elim (in_cons h hs k c) [ inl e ↦ absurd (out (ap (λ (t : List ℤ). dot t x) (sym e) ∙ z)) | inr d ↦ always k d z ])
     | inl zx ↦ elim (zero_or_not (dot h y)) [
       | inl zy ↦ inl (λ k c z. elim (in_cons h hs k c) [ inl e ↦ ap (λ (t : List ℤ). dot t y) e ∙ zy | inr d ↦ always k d z ])
-      | inr out ↦ inr (λ w. out (w h (in_head h hs) zx))
+      | inr out ↦ inr (λ w. out (w h (Contains-here h hs) zx))
     ]
   ]
 ]
@@ -367,7 +368,7 @@ thin n hs (x ∷ left) out s p a = elim (inside_one hs x (left ++ out)) [
       let m = put_in out x p in
       let back : (y : List ℤ) → Contains (left ++ m.0) y → Contains (x ∷ (left ++ out)) y = λ y c. elim (Contains-append_cases left m.0 y c) [
         | inl i ↦ in_tail x (left ++ out) y (Contains-append_left left out y i)
-        | inr i ↦ elim ((m.1.has y).0 i) [ inl e ↦ subst (Contains (x ∷ (left ++ out))) (sym e) (in_head x (left ++ out)) | inr k ↦ in_tail x (left ++ out) y (Contains-append_right left out y k) ]
+        | inr i ↦ elim ((m.1.has y).0 i) [ inl e ↦ subst (Contains (x ∷ (left ++ out))) (sym e) (Contains-here x (left ++ out)) | inr k ↦ in_tail x (left ++ out) y (Contains-append_right left out y k) ]
       ] in
       let on : (y : List ℤ) → Contains (x ∷ (left ++ out)) y → Contains (left ++ m.0) y = λ y c. elim (in_cons x (left ++ out) y c) [
         | inl e ↦ Contains-append_right left m.0 y ((m.1.has y).1 (inl e))

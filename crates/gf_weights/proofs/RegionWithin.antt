@@ -8,6 +8,7 @@ use Rattle.std.proofs.lemmas.Int.{ints}
 use Rattle.std.proofs.lemmas.Nat.Gcd.{dvd_refl}
 use Rattle.std.proofs.lemmas.List.Elements.{All-nil, All-contains, All-from_recursion}
 use Rattle.gf_int.specs.Content.{IsPrimitive, scaled}
+use Rattle.gf_int.proofs.ListLaws.{Contains-here}
 use Rattle.gf_vec.specs.Vector.{dot, zeros, vector_sum, combined}
 use Rattle.gf_vec.specs.Steps.{IsFirstWide, IsWide}
 use Rattle.gf_gordan.specs.Alternative.{AreRows}
@@ -17,7 +18,7 @@ use Rattle.gf_gordan.specs.declared.error.GordanError.TheVariants as gordan_erro
 use Rattle.gf_gordan.proofs.ThreeColumns.{not_refused}
 use Rattle.gf_duality.specs.Rays.{IsRays}
 use Rattle.gf_duality.specs.Faces.{sum_of}
-use Rattle.gf_duality.proofs.ListLaws.{in_head, in_tail, in_cons, none_in}
+use Rattle.gf_duality.proofs.ListLaws.{in_tail, in_cons, none_in}
 use Rattle.gf_duality.proofs.Determined.{described_of}
 use Rattle.gf_rays.specs.Sums.{adding_steps}
 use Rattle.gf_rays.proofs.RoomLaws.{systems_with_room_stay_within_limits}
@@ -67,10 +68,10 @@ rays_are : (rays : List (List ℤ)) → IsRays 1 the_row [] [] rays → rays ≡
 rays_are [] h =
     let g = (h.generates (pos 1 ∷ []) refl).0 (record { not_negative = All-from_recursion (λ t. pos 0 ≤ℤ dot t (pos 1 ∷ [])) the_row (omega (arith, ints), tt); zero = All-nil _ }) in
     absurd (none_made g.factor g.rays_by g.lin_by g.rays_len g.lin_len g.positive g.is)
-rays_are (x ∷ []) h = ap (λ (z : List ℤ). z ∷ []) (each (x ∷ []) h x (in_head x []))
+rays_are (x ∷ []) h = ap (λ (z : List ℤ). z ∷ []) (each (x ∷ []) h x (Contains-here x []))
 rays_are (x ∷ (y ∷ ys)) h =
-    let one : x ≡ pos 1 ∷ [] = each (x ∷ (y ∷ ys)) h x (in_head x (y ∷ ys)) in
-    let two : y ≡ pos 1 ∷ [] = each (x ∷ (y ∷ ys)) h y (in_tail x (y ∷ ys) y (in_head y ys)) in
+    let one : x ≡ pos 1 ∷ [] = each (x ∷ (y ∷ ys)) h x (Contains-here x (y ∷ ys)) in
+    let two : y ≡ pos 1 ∷ [] = each (x ∷ (y ∷ ys)) h y (in_tail x (y ∷ ys) y (Contains-here y ys)) in
     let up : slice_cmp int_cmp x y ≡ Less = h.ascending 0 1 [] (omega arith) (omega arith) in
     absurd (let same : slice_cmp int_cmp (pos 1 ∷ []) (pos 1 ∷ []) ≡ Less = subst (λ (z : List ℤ). slice_cmp int_cmp (pos 1 ∷ []) z ≡ Less) two (subst (λ (z : List ℤ). slice_cmp int_cmp z y ≡ Less) one up) in cc)
 

@@ -4,6 +4,7 @@
 use Rattle.std.proofs.Common.{◌≡◌, ℕ, ◌+◌, ◌<◌, ◌^◌, List, [], ◌∷◌, ◌++◌, length, ℤ, pos, ◌<ℤ◌, arith, refl, sym, ap, ◌∙◌, subst, unsigned_abs, Contains, All, Result, Ok, Err, IfErr, inl, inr}
 use Rattle.std.proofs.lemmas.Int.{ints}
 use Rattle.std.proofs.lemmas.List.Elements.{All-contains, Contains-append_left, Contains-append_right, Contains-append_cases}
+use Rattle.gf_int.proofs.ListLaws.{all_by}
 use Rattle.gf_vec.specs.Vector.{dot, zeros}
 use Rattle.gf_vec.specs.Steps.{IsFirstWide, IfWide}
 use Rattle.gf_vec.specs.declared.error.VecError.{VecError}
@@ -27,7 +28,6 @@ use Rattle.gf_rays.specs.Sums.{adding_steps}
 use Rattle.gf_facets.specs.Systems.{units}
 use Rattle.gf_facets.specs.Regions.{Region, IsRegion}
 use Rattle.gf_facets.proofs.UnitLaws.{units_wide, positive_by_units}
-use Rattle.gf_facets.proofs.SystemLaws.{contained_all}
 use Rattle.gf_weights.specs.declared.error.WeightError.{WeightError}
 use Rattle.gf_weights.specs.declared.error.WeightError.TheVariants as weight_errors
 use Rattle.gf_weights.specs.declared.region.RegionError.{RegionError}
@@ -38,7 +38,7 @@ use Rattle.gf_weights.proofs.CutLaws.{pointed}
 
 -- the rows of the closed region have n entries
 pub closed_wide : (n : ℕ) (rows all : List (List ℤ)) → all ≡ rows ++ units n n → AreRows n rows → AreRows n all
-closed_wide n rows all e w = subst (AreRows n) (sym e) (contained_all (λ t. length t ≡ n) (rows ++ units n n) (λ t m. elim (Contains-append_cases rows (units n n) t m) [
+closed_wide n rows all e w = subst (AreRows n) (sym e) (all_by (λ t. length t ≡ n) (rows ++ units n n) (λ t m. elim (Contains-append_cases rows (units n n) t m) [
   | inl h ↦ All-contains (λ z. length z ≡ n) rows t w h
   | inr h ↦ units_wide n n t h
 ]))
@@ -101,7 +101,7 @@ root_inside n rows all r e w s p =
       root = record {
         width = wide;
         positive = positive_by_units n r wide (λ t c. up t (subst (λ (z : List (List ℤ)). Contains z t) (sym e) (Contains-append_right rows (units n n) t c)));
-        rows = contained_all (λ c. pos 0 <ℤ dot c r) rows (λ t c. up t (subst (λ (z : List (List ℤ)). Contains z t) (sym e) (Contains-append_left rows (units n n) t c)));
+        rows = all_by (λ c. pos 0 <ℤ dot c r) rows (λ t c. up t (subst (λ (z : List (List ℤ)). Contains z t) (sym e) (Contains-append_left rows (units n n) t c)));
       };
     }
 

@@ -1,6 +1,7 @@
 -- A marked list has one printed weight, and each facet one witness.
 -- To cite: one_weight, one_witness, normal_there, one_facets, one_certificates.
 use Rattle.std.proofs.Common.{◌≡◌, ℕ, List, [], ◌∷◌, ◌++◌, length, ℤ, arith, refl, sym, ap, ap₂, ◌∙◌, subst, Contains, get_or, drop, inl, inr}
+use Rattle.gf_int.proofs.ListLaws.{Contains-here}
 use Rattle.gf_poly.specs.Marking.{MarkedPolynomial}
 use Rattle.gf_duality.specs.Rays.{IsRays}
 use Rattle.gf_duality.specs.Faces.{sum_of}
@@ -10,7 +11,7 @@ use Rattle.gf_facets.specs.Systems.{units}
 use Rattle.gf_facets.specs.Regions.{Region}
 use Rattle.gf_facets.specs.Facets.{IsFlippable}
 use Rattle.gf_facets.proofs.AscendingLaws.{same_ascending}
-use Rattle.gf_duality.proofs.ListLaws.{none_in, in_head, in_tail, in_cons}
+use Rattle.gf_duality.proofs.ListLaws.{none_in, in_tail, in_cons}
 use Rattle.gf_weights.specs.declared.certificates.FacetWitness.{FacetWitness}
 use Rattle.gf_weights.specs.declared.certificates.Certificates.{Certificates}
 use Rattle.gf_weights.specs.Weights.{AreCutRows, AreCutRays, IsWeightIn, IsWitnessIn, AreWitnessedIn, AreCertificatesIn, normals_of}
@@ -41,7 +42,7 @@ same_facets n j bs [] (g ∷ gs) p q e = absurd (omega (arith, ap length e))
 same_facets n j bs (f ∷ fs) [] p q e = absurd (omega (arith, ap length e))
 same_facets n j bs (f ∷ fs) (g ∷ gs) p q e =
     let a : f.normal ≡ g.normal = ap (λ (z : List (List ℤ)). get_or z 0 []) e in
-    let w : f.witness ≡ g.witness = one_witness n j bs g.normal f.witness g.witness (subst (λ (z : List ℤ). IsWitnessIn n j bs z f.witness) a (p f (in_head f fs))) (q g (in_head g gs)) in
+    let w : f.witness ≡ g.witness = one_witness n j bs g.normal f.witness g.witness (subst (λ (z : List ℤ). IsWitnessIn n j bs z f.witness) a (p f (Contains-here f fs))) (q g (Contains-here g gs)) in
     let rest : fs ≡ gs = same_facets n j bs fs gs (λ h c. p h (in_tail f fs h c)) (λ h c. q h (in_tail g gs h c)) (ap (λ (z : List (List ℤ)). drop 1 z) e) in
     ap₂ (λ (x : FacetWitness) (xs : List FacetWitness). x ∷ xs) (ap₂ (λ (x y : List ℤ). record { normal = x; witness = y }) a w) rest
 
@@ -49,7 +50,7 @@ same_facets n j bs (f ∷ fs) (g ∷ gs) p q e =
 pub normal_there : (fs : List FacetWitness) (a : List ℤ) → Contains (normals_of fs) a → (f : FacetWitness) × (Contains fs f × (f.normal ≡ a))
 normal_there [] a c = absurd (none_in a c)
 normal_there (f ∷ fs) a c = elim (in_cons f.normal (normals_of fs) a c) [
-  | inl e ↦ (f, (in_head f fs, sym e))
+  | inl e ↦ (f, (Contains-here f fs, sym e))
   | inr k ↦ let r = normal_there fs a k in (r.0, (in_tail f fs r.0 r.1.0, r.1.1))
 ]
 

@@ -5,6 +5,7 @@ use Rattle.std.proofs.lemmas.Int.{ints}
 use Rattle.std.proofs.lemmas.List.Elements.{All-contains, Contains-append_left, Contains-append_right, Contains-append_cases}
 use Rattle.gf_frac.specs.Fraction.{one_ℚ}
 use Rattle.gf_exponents.specs.Orders.{gains}
+use Rattle.gf_int.proofs.ListLaws.{all_by}
 use Rattle.gf_vec.specs.Vector.{dot}
 use Rattle.gf_poly.specs.Polynomial.{Terms, coefficient}
 use Rattle.gf_poly.specs.Marking.{MarkedPolynomial}
@@ -24,7 +25,7 @@ use Rattle.gf_facets.specs.MarkedBases.{AreCanonical, IsMarkedReducedBasis, IsBa
 use Rattle.gf_facets.proofs.ConeLaws.{normals_open, open_by_normals}
 use Rattle.gf_facets.proofs.UnitLaws.{units_on_positive, positive_by_units}
 use Rattle.gf_facets.proofs.RegionLaws.{region-positive}
-use Rattle.gf_facets.proofs.SystemLaws.{contained_all, marks_of_open, open_of_marks}
+use Rattle.gf_facets.proofs.SystemLaws.{marks_of_open, open_of_marks}
 use Rattle.gf_facets.proofs.VectorLaws.{vector_or_not}
 use Rattle.gf_bases.proofs.LawsHold.{marked_bases_are_reduced}
 use Rattle.gf_weights.specs.Weights.{AreCutRows, IsWeightIn, IsWitnessIn, IsPrintedWeight}
@@ -72,7 +73,7 @@ weight_marks n j bs v w can p r o =
       record {
         width = wide;
         positive = positive_by_units n v wide (λ t c. up t (unit_row n j bs rows t k c));
-        rows = contained_all (λ c. pos 0 <ℤ dot c v) j.rows (λ t c. up t (region_row n j bs rows t k c));
+        rows = all_by (λ c. pos 0 <ℤ dot c v) j.rows (λ t c. up t (region_row n j bs rows t k c));
       },
       open_by_normals n bs v can (λ a i. up a (normal_row n j bs rows a k i)),
     )
@@ -116,7 +117,7 @@ witness_inside n j bs a v can f p =
       record {
         width = s.width;
         positive = positive_by_units n v s.width (λ t c. up t (unit_row n j bs rows t k c) (region_up n j f.point t f.region (inr c)));
-        rows = contained_all (λ c. pos 0 <ℤ dot c v) j.rows (λ t c. up t (region_row n j bs rows t k c) (region_up n j f.point t f.region (inl c)));
+        rows = all_by (λ c. pos 0 <ℤ dot c v) j.rows (λ t c. up t (region_row n j bs rows t k c) (region_up n j f.point t f.region (inl c)));
       },
       record {
         normal = f.inside.normal;

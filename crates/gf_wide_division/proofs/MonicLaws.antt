@@ -1,30 +1,19 @@
 -- A polynomial divided by one of its coefficients.
 -- To cite: quotients_all, quotients_descend, quotients_inside, nonzero_there, monic_of_quotients.
-use Rattle.std.specs.Prelude.{◌≡◌, ◌≢◌, ℕ, zero, suc, ◌<◌, ◌≤◌, List, [], ◌∷◌, length, take}
-use Rattle.std.proofs.Common.{arith, refl, sym, ap, ◌∙◌, subst, get_or}
+use Rattle.std.specs.Prelude.{◌≡◌, ◌≢◌, ℕ, zero, ◌<◌, ◌≤◌, List, [], length, take}
+use Rattle.std.proofs.Common.{arith, sym, ap, ◌∙◌, subst, get_or}
 use Rattle.std.proofs.lemmas.List.{take_all}
 use Rattle.gf_frac.specs.Fraction.{Fraction, reciprocal_ℚ, zero_ℚ}
 use Rattle.gf_poly.specs.declared.Term.{Term}
 use Rattle.gf_poly.specs.Polynomial.{Terms, times, IsDescending}
 use Rattle.gf_poly.specs.Products.{HasProducts}
 use Rattle.gf_poly.specs.Marking.{MarkedPolynomial, head_of}
-use Rattle.gf_poly.proofs.MarkingLaws.{mark_at, nonzero_at, nonzero_reciprocal}
+use Rattle.gf_poly.proofs.MarkingLaws.{mark_at, nonzero_at, nonzero_reciprocal, head_of-times, length-times}
 use Rattle.gf_poly.proofs.ProductLaws.{IsDescending-scaled, IsScaled-products, KeepsVariables-scaled}
 use Rattle.gf_wide_division.specs.declared.terms.WideTerm.{WideTerm}
 use Rattle.gf_wide_division.specs.Monic.{IsMonicAt}
 use Rattle.gf_wide_division.specs.Values.{term_value, value_terms}
 use Rattle.gf_wide_division.proofs.ValueLaws.{length-values, value_at}
-
--- ---- places of a multiple
-
-head_of-times : (c : Fraction) (f : Terms) (i : ℕ) → head_of (times c [] f) i ≡ head_of f i
-head_of-times c [] i = refl
-head_of-times c (t ∷ f) zero = refl
-head_of-times c (t ∷ f) (suc i) = head_of-times c f i
-
-length-times : (c : Fraction) (f : Terms) → length (times c [] f) ≡ length f
-length-times c [] = refl
-length-times c (t ∷ f) = ap suc (length-times c f)
 
 -- ---- the divisor
 

@@ -17,9 +17,8 @@ ghost use Rattle.gf_wide_division.specs.Values.{term_value};
 use crate::dividend::WideDividend;
 use crate::polynomial::WidePoly;
 use crate::precedence::Precedence;
-use crate::reducers::reducer_of;
 use crate::terms::{Beyond, WideTerm};
-use gf_division::place_of;
+use gf_division::{place_of, reducer_of};
 use gf_poly::{Marked, Mono, Poly};
 use std::alloc::Global;
 

@@ -6,7 +6,7 @@ use Rattle.std.proofs.Common.{refl, sym, ap, ◌∙◌, subst, inl, inr, length}
 use Rattle.gf_poly.specs.Marking.{MarkedPolynomials, HaveVariables}
 use Rattle.gf_gordan.specs.Alternative.{AreRows}
 use Rattle.std.proofs.lemmas.List.Elements.{All-append}
-use Rattle.gf_facets.proofs.SystemLaws.{contained_all}
+use Rattle.gf_int.proofs.ListLaws.{all_by}
 use Rattle.gf_facets.proofs.UnitLaws.{units_wide}
 use Rattle.gf_facets.specs.Regions.{all_positive}
 use Rattle.gf_facets.specs.Systems.{units}
@@ -130,7 +130,7 @@ vectors_answered o n hs rows es text s w u e h = record {
 -- the rows have the entries of the space
 pub restricted_width : (cut : Bool) (n : ℕ) (hs rows : List (List ℤ)) → rows ≡ inequalities_of cut n hs → AreRows n hs → AreRows n rows
 restricted_width false n hs rows e w = subst (AreRows n) (sym e) w
-restricted_width true n hs rows e w = subst (AreRows n) (sym e) (All-append (λ (t : List ℤ). length t ≡ n) hs (units n n) w (contained_all (λ (t : List ℤ). length t ≡ n) (units n n) (units_wide n n)))
+restricted_width true n hs rows e w = subst (AreRows n) (sym e) (All-append (λ (t : List ℤ). length t ≡ n) hs (units n n) w (all_by (λ (t : List ℤ). length t ≡ n) (units n n) (units_wide n n)))
 
 -- by what is read
 pub vectors_refused : (o : GroebnerConeOptions) (source : List ℕ) (n : ℕ) (hs es given others : List (List ℤ)) (r : Refusal) → IsTextOf dimension_two_lists source (n, (hs, es)) → given ≡ hs → others ≡ es → IsUnanswered (cone_command true o) (n, (given, others)) r

@@ -9,6 +9,7 @@ use Rattle.gf_exponents.specs.Exponents.{Exponents}
 use Rattle.gf_exponents.specs.Orders.{gains, IsWeightedBelow}
 use Rattle.gf_exponents.proofs.ExponentsLaws.{same-refl}
 use Rattle.gf_exponents.proofs.OrderLaws.{weighted-order}
+use Rattle.gf_int.proofs.ListLaws.{Contains-here, all_by}
 use Rattle.gf_poly.specs.Polynomial.{Terms, HasVariables, IsDescending}
 use Rattle.gf_poly.specs.Marking.{MarkedPolynomial, MarkedPolynomials, HaveVariables, polys, IsArranged}
 use Rattle.gf_poly.proofs.CoefficientLaws.{descending_unique}
@@ -16,7 +17,7 @@ use Rattle.gf_ideal.specs.Membership.{IsMember, IsInVariables, AreInVariables, A
 use Rattle.gf_ideal.specs.NormalForms.{IsNormalForm}
 use Rattle.gf_ideal.specs.Bases.{IsBasis, AreArranged}
 use Rattle.gf_ideal.proofs.ArrangedLists.{arranged_equal}
-use Rattle.gf_ideal.proofs.ListLaws.{Contains-here, Contains-there, contained_each}
+use Rattle.gf_ideal.proofs.ListLaws.{Contains-there, contained_each}
 use Rattle.gf_ideal.proofs.ListedTerms.{variables_by_terms}
 use Rattle.gf_ideal.proofs.PieceLaws.{Contains-marked}
 use Rattle.gf_ideal.proofs.LawsOfBasesHold.{membership_is_decided}
@@ -37,7 +38,7 @@ use Rattle.gf_reduced.proofs.GroebnerLaws.{failing_refutes}
 use Rattle.gf_reduced.proofs.RefusalLaws.{no_first}
 use Rattle.gf_facets.specs.Regions.{Region, IsRegion, IsInRegion}
 use Rattle.gf_facets.specs.Facets.{IsInOpenCone, IsStrictlyMarked}
-use Rattle.gf_facets.proofs.SystemLaws.{contained_all, all_positive-region, marks_of_open}
+use Rattle.gf_facets.proofs.SystemLaws.{all_positive-region, marks_of_open}
 use Rattle.gf_bases.proofs.LawsHold.{only_ideals_count}
 use Rattle.gf_reverse.specs.Upward.{IsNode, IsNodeIn, fan_of}
 use Rattle.gf_reverse.proofs.TreeLaws.{node_moved, own_fan, back_fan}
@@ -133,7 +134,7 @@ cut_region true n rows k i = i.region
 -- ---- generators
 
 pub generators_have : (n : ℕ) (set : List Written) → AreIn n set → All (HasVariables n) (generators_of set)
-generators_have n set v = contained_all (HasVariables n) (generators_of set) (λ f c. (in_ring n set (generators_of set) v refl).each f c)
+generators_have n set v = all_by (HasVariables n) (generators_of set) (λ f c. (in_ring n set (generators_of set) v refl).each f c)
 
 -- ---- a set is taken as a reduced basis
 

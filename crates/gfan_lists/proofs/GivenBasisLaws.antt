@@ -11,13 +11,14 @@ use Rattle.gf_frac.specs.Fraction.{◌*ℚ◌}
 use Rattle.gf_frac.proofs.FractionLaws.{one-*ℚ}
 use Rattle.gf_exponents.specs.Orders.{lighter}
 use Rattle.gf_exponents.proofs.ExponentsLaws.{same-refl}
+use Rattle.gf_int.proofs.ListLaws.{Contains-here}
 use Rattle.gf_poly.specs.Polynomial.{coefficient}
 use Rattle.gf_poly.specs.Marking.{MarkedPolynomial, MarkedPolynomials, HaveVariables, polys, IsArranged}
 use Rattle.gf_ideal.specs.Membership.{AreInVariables}
 use Rattle.gf_ideal.specs.Marks.{AreMarked, IsRealisedBy, IsRealisable}
 use Rattle.gf_ideal.specs.Reduction.{AreMonicForms}
 use Rattle.gf_ideal.specs.Bases.{IsBasis, IsReducedBasis, AreArranged}
-use Rattle.gf_ideal.proofs.ListLaws.{Contains-here, Contains-there}
+use Rattle.gf_ideal.proofs.ListLaws.{Contains-there}
 use Rattle.gf_ideal.proofs.MarkWeights.{mark-there}
 use Rattle.gf_ideal.proofs.BasisLaws.{basis_along}
 use Rattle.gf_poly.specs.declared.error.PolyError.{PolyError}

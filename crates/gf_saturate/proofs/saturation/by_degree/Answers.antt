@@ -1,4 +1,5 @@
 use Rattle.std.proofs.Common.{sym, subst}
+use Rattle.std.proofs.lemmas.Result.{IfOk-weaker, IfErr-weaker}
 use Rattle.gf_exponents.specs.SixOrders.{MonomialOrder}
 use Rattle.gf_order.specs.Comparisons.{HasEntries}
 use Rattle.gf_buchberger.specs.Jobs.{HaveRingVariables, IsSuited}
@@ -7,7 +8,7 @@ use Rattle.gf_poly.specs.Marking.{MarkedPolynomials}
 use Rattle.std.specs.Prelude.{IfSome, Option}
 use Rattle.gf_buchberger.proofs.JobLaws.{orders_that_suit}
 use Rattle.gf_saturate.specs.Saturating.{IsSaturation, IsSaturateRefusal}
-use Rattle.gf_saturate.proofs.StepLaws.{arranged-as, refusal-as, if_ok, if_err}
+use Rattle.gf_saturate.proofs.StepLaws.{arranged-as, refusal-as}
 use Rattle.gf_saturate.proofs.StageLaws.{way_ring, saturation_of}
 use Rattle.gf_saturate.proofs.saturation.by_degree.Goals as goal
 
@@ -23,12 +24,12 @@ basis-requires-clause-suited c =
     subst (λ (o : MonomialOrder). IsSuited o c.args.n c.deref.result.now) (sym c.deglex.ensures) (orders_that_suit.deglex c.args.n c.deref.result.now v)
 
 pub returns-clause-ok : goal.returns-clause-ok
-returns-clause-ok c = if_ok _ (IsSaturation c.args.n c.args.set.now) c.basis-in-None.result c.basis-in-None.ensures.ok
-    (λ s b. saturation_of c.args.n c.args.set.now c.in-Ok.last.polys.items s c.requires.variables c.in-Ok.ensures.way (arranged-as _ _ c.args.n _ _ s c.deglex.ensures c.deref.ensures.value b))
+returns-clause-ok c = IfOk-weaker c.basis-in-None.result _ (IsSaturation c.args.n c.args.set.now)
+    (λ s b. saturation_of c.args.n c.args.set.now c.in-Ok.last.polys.items s c.requires.variables c.in-Ok.ensures.way (arranged-as _ _ c.args.n _ _ s c.deglex.ensures c.deref.ensures.value b)) c.basis-in-None.ensures.ok
 
 pub returns-clause-err : goal.returns-clause-err
-returns-clause-err c = if_err _ (IsSaturateRefusal c.args.n c.args.set.now c.args.pairs) c.basis-in-None.result c.basis-in-None.ensures.err
-    (λ e r. IsSaturateRefusal.at_end c.in-Ok.last.polys.items c.in-Ok.ensures.way (refusal-as _ _ c.args.n c.args.pairs _ _ e c.deglex.ensures c.deref.ensures.value r))
+returns-clause-err c = IfErr-weaker c.basis-in-None.result _ (IsSaturateRefusal c.args.n c.args.set.now c.args.pairs)
+    (λ e r. IsSaturateRefusal.at_end c.in-Ok.last.polys.items c.in-Ok.ensures.way (refusal-as _ _ c.args.n c.args.pairs _ _ e c.deglex.ensures c.deref.ensures.value r)) c.basis-in-None.ensures.err
 
 pub returns-in-Some-clause-ok : goal.returns-in-Some-clause-ok
 returns-in-Some-clause-ok c =

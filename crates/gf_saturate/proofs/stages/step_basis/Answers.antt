@@ -1,4 +1,5 @@
 use Rattle.std.proofs.Common.{◌≡◌, ◌+◌, ◌∙◌, length, sym, subst, ap}
+use Rattle.std.proofs.lemmas.Result.{IfOk-weaker, IfErr-weaker}
 use Rattle.gf_exponents.specs.Exponents.{Exponents}
 use Rattle.gf_exponents.specs.SixOrders.{MonomialOrder}
 use Rattle.gf_order.specs.Comparisons.{HasEntries}
@@ -9,7 +10,7 @@ use Rattle.gf_saturation.specs.Saturations.{last_weight}
 use Rattle.gf_saturate.specs.Widening.{extended_list, variable_at}
 use Rattle.gf_saturate.specs.Saturating.{step_order, step_list}
 use Rattle.gf_saturate.proofs.WideningLaws.{length-variable}
-use Rattle.gf_saturate.proofs.StepLaws.{extended-ring, length-last, if_ok, if_err, arranged-as, refusal-as}
+use Rattle.gf_saturate.proofs.StepLaws.{extended-ring, length-last, arranged-as, refusal-as}
 use Rattle.gf_saturate.proofs.stages.step_basis.Goals as goal
 
 pub extended-requires-clause-by : goal.extended-requires-clause-by
@@ -32,11 +33,11 @@ basis-requires-clause-suited c =
 pub returns-clause-ok : goal.returns-clause-ok
 returns-clause-ok c =
     let is : c.deref.result.now ≡ step_list c.args.n c.args.k c.args.set.now = c.deref.ensures.value ∙ c.in-Ok.ensures ∙ ap (λ (u : Exponents). extended_list u c.args.set.now) c.variable-by.ensures in
-    if_ok _ (IsArrangedBasis (step_order c.args.n) (c.args.n + 1) (step_list c.args.n c.args.k c.args.set.now)) c.basis.result c.basis.ensures.ok
-    (λ s b. arranged-as _ _ (c.args.n + 1) _ _ s c.in-Ok-last_first.ensures is b)
+    IfOk-weaker c.basis.result _ (IsArrangedBasis (step_order c.args.n) (c.args.n + 1) (step_list c.args.n c.args.k c.args.set.now))
+    (λ s b. arranged-as _ _ (c.args.n + 1) _ _ s c.in-Ok-last_first.ensures is b) c.basis.ensures.ok
 
 pub returns-clause-err : goal.returns-clause-err
 returns-clause-err c =
     let is : c.deref.result.now ≡ step_list c.args.n c.args.k c.args.set.now = c.deref.ensures.value ∙ c.in-Ok.ensures ∙ ap (λ (u : Exponents). extended_list u c.args.set.now) c.variable-by.ensures in
-    if_err _ (IsBasisRefusal (step_order c.args.n) (c.args.n + 1) (step_list c.args.n c.args.k c.args.set.now) c.args.pairs) c.basis.result c.basis.ensures.err
-    (λ e r. refusal-as _ _ (c.args.n + 1) c.args.pairs _ _ e c.in-Ok-last_first.ensures is r)
+    IfErr-weaker c.basis.result _ (IsBasisRefusal (step_order c.args.n) (c.args.n + 1) (step_list c.args.n c.args.k c.args.set.now) c.args.pairs)
+    (λ e r. refusal-as _ _ (c.args.n + 1) c.args.pairs _ _ e c.in-Ok-last_first.ensures is r) c.basis.ensures.err

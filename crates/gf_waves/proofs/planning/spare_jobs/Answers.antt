@@ -1,5 +1,5 @@
 use Rattle.std.proofs.Common.{◌≡◌, ◌++◌, ◌∷◌, [], sym, subst, rules}
-use Rattle.gf_waves.specs.Plans.{AreFree, AreNumbered}
+use Rattle.gf_waves.specs.Plans.{AreFreeJobs, AreNumbered}
 use Rattle.gf_waves.proofs.PlanLaws.{free_more, numbered_more}
 use Rattle.gf_waves.proofs.planning.spare_jobs.Goals as goal
 
@@ -10,7 +10,7 @@ loop-alloc-preserved g c =
     let number = c.saturating_add-number.result in
     let is : c.push.new.self.items ≡ l.jobs.items ++ record { slots = c.in_ok-slots.slots; worked = c.in_ok-worked.worked; number = number } ∷ [] = search rules in
     record {
-      free = subst (AreFree c.args.places) (sym is)
+      free = subst (AreFreeJobs c.args.places) (sym is)
           (free_more c.args.places l.jobs.items (record { slots = c.in_ok-slots.slots; worked = c.in_ok-worked.worked; number = number }) l.invariant.free (search rules, search rules, search rules, search rules, tt));
       numbered = subst (AreNumbered c.args.first) (sym is)
           (numbered_more c.args.first l.jobs.items (record { slots = c.in_ok-slots.slots; worked = c.in_ok-worked.worked; number = number }) l.invariant.numbered (search rules));

@@ -2,7 +2,7 @@ use Rattle.std.proofs.Common.{◌≤◌, ◌+◌, ◌*◌, length, replicate, sy
 use Rattle.std.specs.VecDeque.{deque_capacity}
 use Rattle.gf_walk.specs.Pieces.{RefusesAt}
 use Rattle.gf_waves.specs.Frontier.{AreRefusals}
-use Rattle.gf_waves.specs.Plans.{AreFree}
+use Rattle.gf_waves.specs.Plans.{AreFreeJobs}
 use Rattle.gf_waves.specs.Wave.{IsWaved}
 use Rattle.gf_waves.proofs.PlanLaws.{planned_fits, wave_of}
 use Rattle.gf_waves.proofs.RefusedLaws.{waved_refusals}
@@ -11,7 +11,7 @@ use Rattle.gf_waves.proofs.wave.wave.Goals as goal
 pub deal-requires-clause-free : goal.deal-requires-clause-free
 deal-requires-clause-free g c =
     let count = (planned_fits (length c.in_ok-spares.spares.items) c.args.row.now.items c.plan.new.row.items c.plan.new.slots.items c.plan.ensures).1 in
-    subst (λ m. AreFree m c.in_ok-shared.shared.items) (sym (count ∙ c.in_ok-spares.ensures.count)) c.in_ok-shared.ensures.free
+    subst (λ m. AreFreeJobs m c.in_ok-shared.shared.items) (sym (count ∙ c.in_ok-spares.ensures.count)) c.in_ok-shared.ensures.free
 
 pub deal-requires-clause-fit : goal.deal-requires-clause-fit
 deal-requires-clause-fit g c = (planned_fits (length c.in_ok-spares.spares.items) c.args.row.now.items c.plan.new.row.items c.plan.new.slots.items c.plan.ensures).0

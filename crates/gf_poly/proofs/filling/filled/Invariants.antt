@@ -1,6 +1,6 @@
 use Rattle.std.proofs.Common.{◌≡◌, length, take}
 use Rattle.gf_poly.specs.declared.TheConstants.{ROOM}
-use Rattle.gf_saturate.proofs.widening.filled.Given as goal
+use Rattle.gf_poly.proofs.filling.filled.Given as goal
 
 -- the exponents so far
 abbrev pub invariant-entries : goal.invariant-entries
