@@ -1,5 +1,5 @@
 -- Terms with wide coefficients, and the polynomials that they stand for.
--- To cite: length-values, values-at, values_append, values_take, values_drop, value_at, head_value, widened_term, narrowed_term,
+-- To cite: length-values, values-at, values_append, values_take, values_drop, value_at, head_value, widened_term, copied_term, narrowed_term,
 -- quotient_term, all_widened.
 use Rattle.std.specs.Prelude.{◌≡◌, ℕ, zero, suc, ◌+◌, ◌<◌, ◌≤◌, List, [], ◌∷◌, ◌++◌, length}
 use Rattle.std.proofs.Common.{arith, refl, ap, sym, ◌∙◌, get_or, take, drop}
@@ -53,6 +53,11 @@ widened_term f out new i t u h is ex em push inv =
     ap value_terms push ∙ values_append out (u ∷ [])
     ∙ ap (λ (z : Terms). z ++ term_value u ∷ []) inv
     ∙ ap (λ (z : Term). take i f ++ z ∷ []) (e ∙ is) ∙ sym (take_more f i t h)
+
+-- the same term
+pub copied_term : (f out new : List WideTerm) (i : ℕ) (t u : WideTerm) → i < length f → t ≡ get_or f i t → u.coef ≡ t.coef → u.mono ≡ t.mono → new ≡ out ++ u ∷ [] → value_terms out ≡ take i (value_terms f) → value_terms new ≡ take (i + 1) (value_terms f)
+copied_term f out new i t u h is ex em push inv =
+    widened_term (value_terms f) out new i (term_value t) u (omega (arith, h, length-values f)) (value_at f i t is) ex em push inv
 
 pub all_widened : (f : Terms) (out : List WideTerm) (i : ℕ) → length f ≤ i → value_terms out ≡ take i f → value_terms out ≡ f
 all_widened f out i l e = e ∙ take_all i f l

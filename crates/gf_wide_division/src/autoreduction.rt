@@ -13,7 +13,7 @@ use crate::precedence::Precedence;
 use crate::remainders::wide_tail;
 use crate::terms::{Beyond, narrow_one};
 use gf_division::{Guide, is_needed, reduced_tail};
-use gf_poly::{Marked, MarkedSet};
+use gf_poly::{Marked, MarkedSet, PolyError};
 use std::alloc::Global;
 
 /// Whether the marked coefficient is 1, so that the polynomial is its own monic form.
@@ -54,7 +54,7 @@ fn needed_forms(alloc: Global, items: &[Marked]) -> Result<Vec<Marked>, Beyond>
     Ok(forms)
 }
 
-/// A member with its tail reduced, in wide numbers where narrow ones don't fit.
+/// A member with its tail reduced, in wide numbers where narrow ones don't fit; another refusal is none of numbers, and stays one.
 fn tail(
     alloc: Global,
     member: &Marked,
@@ -70,7 +70,8 @@ fn tail(
 {
     match reduced_tail(alloc, member, by, guide) {
         Ok(reduced) => Ok(reduced),
-        Err(_) => wide_tail(alloc, member, by, first),
+        Err(PolyError::Overflow(_)) => wide_tail(alloc, member, by, first),
+        Err(_) => Err(Beyond),
     }
 }
 

@@ -63,6 +63,30 @@ impl WideDividend {
         Ok(WideDividend { terms })
     }
 
+    /// What is left of a reduction, to be reduced by these members beside the spared monomial.
+    pub fn of_poly(
+        alloc: Global,
+        f: &WidePoly,
+        by: &[Marked],
+        spared: &Option<Mono>,
+    ) -> Result<WideDividend, Beyond>
+        ensures value { IfOk result (λ d. dividend_of d ≡ uncut f.now) }
+        ensures descending { IsDescending f.now }
+    {
+        let all = f.terms();
+        let mut terms = Vec::with_capacity(alloc, all.len())?;
+        let mut i = 0;
+        'terms: while i < all.len() {
+            let t = &all[i];
+            let coef = t.coef.copy();
+            let waits = is_open(&t.mono, by, spared);
+            let mono = t.mono.copy();
+            terms.push(WideTerm { coef, mono, waits })?;
+            i += 1;
+        }
+        Ok(WideDividend { terms })
+    }
+
     /// No terms yet.
     fn zero(alloc: Global) -> WideDividend
         ensures { dividend_of result ≡ uncut [] }

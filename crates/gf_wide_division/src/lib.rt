@@ -19,5 +19,5 @@ pub use autoreduction::wide_autoreduce;
 pub use dividend::WideDividend;
 pub use polynomial::WidePoly;
 pub use precedence::Precedence;
-pub use remainders::{wide_remainder, wide_remainder_of_pair, wide_tail};
+pub use remainders::{wide_remainder, wide_remainder_again, wide_remainder_of_pair, wide_tail};
 pub use terms::{Beyond, WideTerm};

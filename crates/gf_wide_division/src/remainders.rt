@@ -114,6 +114,24 @@ pub fn wide_remainder(
     worked_off(rest, by, &None, first)
 }
 
+/// A remainder of what another reduction leaves.
+#[cold]
+#[inline(never)]
+pub fn wide_remainder_again(
+    alloc: Global,
+    f: &WidePoly,
+    by: &[Marked],
+    first: &Precedence,
+) -> Result<WidePoly, Beyond>
+    requires marked { HasSomeWeight by.now }
+    requires variables { HaveSameVariables f.now by.now }
+    ensures value { IfOk result (IsRemainder by.now f.now) }
+    ensures variables { IfOk result (KeepsVariables f.now) }
+{
+    let rest = WideDividend::of_poly(alloc, f, by, &None)?;
+    worked_off(rest, by, &None, first)
+}
+
 /// The remainder of the S-polynomial of two monic members.
 #[cold]
 #[inline(never)]
