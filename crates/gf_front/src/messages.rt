@@ -1,7 +1,7 @@
 //! What each refusal says that names something, with its number. Nothing here takes memory.
 ghost use Rattle.std.specs.Prelude.{◌≡◌, [], length};
 ghost use Rattle.gf_poly.specs.Polynomial.{HasVariables};
-ghost use Rattle.gf_front.specs.Told.{Told};
+ghost use Rattle.gf_text.specs.Told.{Told};
 ghost use Rattle.gf_front.specs.Lines.{message};
 
 use crate::pieces::{Piece, write_numbered, write_pieces};

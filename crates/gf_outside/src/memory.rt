@@ -1,7 +1,7 @@
-//! A source and a sink in memory that move a few bytes a call and fail at given calls.
+//! A source and a sink in memory that move a few bytes a call and fail at given calls; and a list of bytes as a sink.
 //!
 //! Calls are counted from 0, the failing ones too.
-ghost use Rattle.std.specs.Prelude.{◌≡◌, ◌⊎◌, ◌≤◌, ◌<◌, ◌↔◌, [], length, min, Ok, Some, IsErr, IfOk, OnOk};
+ghost use Rattle.std.specs.Prelude.{◌≡◌, ◌⊎◌, ◌≤◌, ◌<◌, ◌↔◌, ◌-◌, ◌^◌, [], length, min, Ok, Some, IsErr, IfOk, OnOk};
 ghost use Rattle.std.specs.Io.{ReadsAtMost, WritesAtMost};
 ghost use Rattle.std.specs.Io.KnownBytes.{ReadConsumes, WriteAppends};
 ghost use Rattle.gf_outside.specs.Faults.{HasCause, Rose};
@@ -174,5 +174,20 @@ impl Sink for MemSink {
             self.faults = self.faults.saturating_add(1);
         }
         Ok(count)
+    }
+}
+
+/// A list of bytes keeps what is written behind what it holds. A write fails for want of memory alone, which isn't
+/// counted: the count stands at its last value from the beginning.
+impl Sink for Vec<u8> {
+    ghost held = { λ s. Some s.items };
+
+    ghost faults = { λ s. 2 ^ 64 - 1 };
+
+    fn write(&mut self, piece: &[u8]) -> Result<usize, Failed> {
+        match self.extend_from_slice(piece) {
+            Ok(()) => Ok(piece.len()),
+            Err(_) => Err(Failed),
+        }
     }
 }

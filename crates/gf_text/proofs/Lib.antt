@@ -13,7 +13,8 @@ pub mod VectorTextLaws  -- the machine of vectors reads what the grammar says
 pub mod VectorListsLaws  -- lists of vectors are read as the grammar says
 pub mod SingleTextLaws  -- dimensions and names of new variables are read as the grammar says
 pub mod VectorKindsLaws  -- of which kind a fault of a vector is
-pub mod PrintedTextLaws  -- the pieces of printed terms
+pub mod ToldLaws  -- what a sink gained of texts, one after another
+pub mod PrintedTextLaws  -- the parts of printed terms and vectors
 pub mod LimitsLaws  -- what a text says is within its limits
 pub mod CombiningLaws  -- terms and sums of terms, one after another
 pub mod SetsLaws  -- sums of terms, one after another

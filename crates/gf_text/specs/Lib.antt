@@ -12,6 +12,7 @@ pub mod Limits  -- what a text may say
 pub mod Combining  -- products of powers, sums of terms, the marked term
 pub mod WrittenText  -- the tokens by which a set is said
 pub mod PrintedText  -- signs, coefficients, powers, terms as they are printed
+pub mod Told  -- what a sink gained of a text
 pub mod SingleText  -- dimensions and names of new variables: grammar
 pub mod Given  -- what a reader gave
 pub mod GivenSet  -- the same of sets

@@ -1,9 +1,11 @@
 -- What is printed of terms: signs, coefficients, powers.
 -- Names are those of the variables, in the order of the exponents.
 -- Laws: proofs/PrintedTextLaws.antt.
-use Rattle.std.specs.Prelude.{ℕ, ℤ, pos, negsuc, Bool, true, false, ◌==◌, ◌&&◌, List, [], ◌∷◌, ◌++◌, decimal, flat_map, if◌then◌else◌}
+use Rattle.std.specs.Prelude.{ℕ, ℤ, pos, negsuc, Bool, true, false, ◌==◌, ◌&&◌, List, [], ◌∷◌, ◌++◌, codes, decimal, flat_map, if◌then◌else◌}
 use Rattle.std.specs.Int.RustNames.{unsigned_abs}
+use Rattle.gf_exponents.specs.Exponents.{Exponents}
 use Rattle.gf_frac.specs.Fraction.{Fraction}
+use Rattle.gf_poly.specs.Polynomial.{Terms}
 
 -- pieces of text with a separator between them
 abbrev pub joined : List ℕ → List (List ℕ) → List ℕ
@@ -11,6 +13,14 @@ joined separator [] = []
 joined separator (p ∷ ps) = p ++ flat_map (λ q. separator ++ q) ps
 
 -- ---- monomials
+
+-- a * where something stands before
+abbrev pub times_text : Bool → List ℕ
+times_text some = if some then 42 ∷ [] else []
+
+-- an exponent, with a ^ before it; 1 is left out
+abbrev pub raised_text : ℕ → List ℕ
+raised_text exponent = if exponent == 1 then [] else 94 ∷ decimal exponent
 
 -- a power of a variable: its name, and from 2 on ^ and the exponent
 abbrev pub power_text : List ℕ → ℕ → List ℕ
@@ -21,11 +31,6 @@ abbrev pub powers : List (List ℕ) → List ℕ → List (List ℕ)
 powers [] es = []
 powers (n ∷ ns) [] = []
 powers (n ∷ ns) (e ∷ es) = if e == 0 then powers ns es else power_text n e ∷ powers ns es
-
--- powers with a * before each, and before the first where something stands before it
-abbrev pub powers_text : Bool → List (List ℕ) → List ℕ
-powers_text true ps = flat_map (λ p. 42 ∷ p) ps
-powers_text false ps = joined (42 ∷ []) ps
 
 -- one of them, or nothing where its exponent is 0
 abbrev pub next_text : Bool → List ℕ → ℕ → List ℕ
@@ -42,6 +47,10 @@ is_below_zero (negsuc n) = true
 abbrev pub size_text : Fraction → List ℕ
 size_text c = if c.den == 1 then decimal (unsigned_abs c.num) else decimal (unsigned_abs c.num) ++ (47 ∷ decimal c.den)
 
+-- a denominator, with a / before it; 1 is left out
+abbrev pub over_text : ℕ → List ℕ
+over_text denominator = if denominator == 1 then [] else 47 ∷ decimal denominator
+
 -- 1 or -1
 abbrev pub is_unit : Fraction → Bool
 is_unit c = (unsigned_abs c.num == 1) && (c.den == 1)
@@ -54,6 +63,15 @@ pieces unit size [] = size ∷ []
 pieces true size (p ∷ ps) = p ∷ ps
 pieces false size (p ∷ ps) = size ∷ p ∷ ps
 
+-- what is left of a monomial, whether something stands before, and the powers that are left
+abbrev pub left_text : Bool → List (List ℕ) → List ℕ
+left_text true powers = flat_map (λ p. 42 ∷ p) powers
+left_text false powers = joined (codes "*") (pieces true (codes "1") powers)
+
+-- a monomial: its powers joined by *, or 1 where it has none
+abbrev pub monomial_text : List (List ℕ) → Exponents → List ℕ
+monomial_text names exponents = joined (codes "*") (pieces true (codes "1") (powers names exponents))
+
 -- a term without its sign: its pieces joined by *
 abbrev pub unsigned_text : List (List ℕ) → Fraction → List ℕ → List ℕ
 unsigned_text names c es = joined (42 ∷ []) (pieces (is_unit c) (size_text c) (powers names es))
@@ -61,6 +79,10 @@ unsigned_text names c es = joined (42 ∷ []) (pieces (is_unit c) (size_text c) 
 -- a minus, or nothing
 abbrev pub leading_sign : Fraction → List ℕ
 leading_sign c = if is_below_zero c.num then 45 ∷ [] else []
+
+-- a fraction: p or p/q, with a minus where it is below zero
+abbrev pub fraction_text : Fraction → List ℕ
+fraction_text c = leading_sign c ++ size_text c
 
 -- a minus or a plus
 abbrev pub inner_sign : Fraction → List ℕ
@@ -73,3 +95,10 @@ first_text names c es = leading_sign c ++ unsigned_text names c es
 -- a term behind another: its sign is always written
 abbrev pub later_text : List (List ℕ) → Fraction → List ℕ → List ℕ
 later_text names c es = inner_sign c ++ unsigned_text names c es
+
+-- ---- polynomials
+
+-- a polynomial: its terms as they stand, each with its sign, or 0 where it has none
+abbrev pub terms_text : List (List ℕ) → Terms → List ℕ
+terms_text names [] = codes "0"
+terms_text names (t ∷ f) = first_text names t.coef t.mono ++ flat_map (λ u. later_text names u.coef u.mono) f

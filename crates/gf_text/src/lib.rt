@@ -25,14 +25,16 @@ mod written;
 pub use error::{Kind, Section, Syntax, TextError};
 pub use names::{DifferentNames, Ring};
 pub use printer::{
-    Printer, marked_sets_are_kept, polynomials_are_kept, rings_are_read_again,
-    rings_have_one_meaning, sets_are_read_again, sets_are_read_in_one_way, sets_have_one_meaning,
-    vectors_are_read_again,
+    Printer, marked_sets_are_kept, polynomials_are_kept, push_entry, push_number,
+    rings_are_read_again, rings_have_one_meaning, sets_are_read_again, sets_are_read_in_one_way,
+    sets_have_one_meaning, vectors_are_read_again,
 };
 pub use reader::Reader;
-pub use term_printer::push_number;
+pub use term_printer::{
+    write_fraction, write_monomial, write_number, write_terms, write_text, write_whole,
+};
 pub use tokens::{Number, Token, number_of, word_from};
-pub use vector_printer::push_entry;
+pub use vector_printer::write_vector;
 pub use vector_reader::vectors_have_one_meaning;
 pub use written::Written;
 

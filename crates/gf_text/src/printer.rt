@@ -1,19 +1,22 @@
 //! The writing of rings, polynomials and vectors.
-ghost use Rattle.std.specs.Prelude.{◌≡◌, ℕ, ◌++◌, ◌∷◌, OnOk, OnErr, flat_map, length};
+ghost use Rattle.std.specs.Prelude.{◌≡◌, ℕ, List, Some, ◌++◌, ◌∷◌, OnOk, OnErr, decimal, flat_map, length};
 ghost use Rattle.gf_poly.specs.Polynomial.{HasVariables};
 ghost use Rattle.gf_text.specs.RingText.{ring_text, names_text, IsRingText};
 ghost use Rattle.gf_text.specs.Rings.{RingsAreReadAgain};
 ghost use Rattle.gf_text.specs.Machine.{HasOneMeaning};
 ghost use Rattle.gf_text.specs.PrintedSets.{polynomial_text, basis_text};
 ghost use Rattle.gf_text.specs.Sets.{IsIn};
-ghost use Rattle.gf_text.specs.VectorText.{vector_text};
+ghost use Rattle.gf_text.specs.Told.{Told};
+ghost use Rattle.gf_text.specs.VectorText.{entry_text, vector_text};
 ghost use Rattle.gf_text.specs.Vectors.{VectorsAreReadAgain};
 ghost use Rattle.gf_text.specs.WrittenText.{SetsHaveOneMeaning, SetsAreReadInOneWay, SetsAreReadAgain, BasesAreReadAgain, IsTermInRange, AreInRange, IsKeptMarked, IsWrittenKept, AreKept};
 
 use crate::names::{Name, Ring};
-use crate::set_printer::{push_marked, push_members};
-use crate::vector_printer::push_entries;
+use crate::set_printer::{write_marked, write_members};
+use crate::term_printer::{write_number, write_text};
+use crate::vector_printer::{write_entry, write_vector};
 use crate::written::Written;
+use gf_outside::{Sink, WriteFault};
 use gf_poly::{Marked, MarkedSet, Term};
 use gf_vec::IntVec;
 use std::alloc::AllocError;
@@ -44,6 +47,71 @@ fn push_names(out: &mut Vec<u8>, names: &[Name]) -> Result<(), AllocError>
     Ok(())
 }
 
+/// Writes a polynomial; the zero polynomial is `0`.
+fn write_polynomial<E: Sink>(sink: &mut E, ring: &Ring, poly: &Written) -> Result<(), WriteFault>
+    requires { IsIn (length ring.now) poly.now }
+    ensures { Told (E.held sink.old) (E.held sink.new) (E.faults sink.old) (E.faults sink.new)
+        (polynomial_text ring.now poly.now) result }
+{
+    match poly {
+        Written::Zero => write_text(sink, "0"),
+        Written::Nonzero(marked) => write_marked(sink, ring, marked),
+    }
+}
+
+/// Writes polynomials between braces.
+fn write_basis<E: Sink>(sink: &mut E, ring: &Ring, set: &MarkedSet) -> Result<(), WriteFault>
+    requires { set.now.variables ≡ length ring.now }
+    ensures { Told (E.held sink.old) (E.held sink.new) (E.faults sink.old) (E.faults sink.new)
+        (basis_text ring.now set.now.items) result }
+{
+    write_text(sink, "{\n")?;
+    write_members(sink, ring, set.items())?;
+    write_text(sink, "}")
+}
+
+/// What was written to a vector of bytes of this length stays there whole, or is taken back.
+fn settled(
+    out: &mut Vec<u8>,
+    before: usize,
+    written: Result<(), WriteFault>,
+) -> Result<(), AllocError>
+    ensures ok { (held text : List ℕ) (m n : ℕ) → Told (Some held) (Some out.old.items) m n text written
+        → OnOk result (out.new.items ≡ held ++ text) }
+    ensures err { (held text : List ℕ) (m n : ℕ) → before ≡ length held
+        → Told (Some held) (Some out.old.items) m n text written → OnErr result (out.new.items ≡ held) }
+{
+    if written.is_ok() {
+        return Ok(());
+    }
+    out.truncate(before);
+    Err(AllocError)
+}
+
+/// Adds a number in decimal.
+///
+/// # Errors
+/// Want of memory.
+pub fn push_number(out: &mut Vec<u8>, n: u128) -> Result<(), AllocError>
+    ensures { OnOk result (out.new.items ≡ out.old.items ++ decimal n) }
+{
+    let before = out.len();
+    let written = write_number(out, n);
+    settled(out, before, written)
+}
+
+/// Adds an entry in decimal digits, behind a minus where it is below zero.
+///
+/// # Errors
+/// Want of memory.
+pub fn push_entry(out: &mut Vec<u8>, entry: i128) -> Result<(), AllocError>
+    ensures { OnOk result (out.new.items ≡ out.old.items ++ entry_text entry) }
+{
+    let before = out.len();
+    let written = write_entry(out, "", &entry);
+    settled(out, before, written)
+}
+
 impl Printer {
     /// Adds the line of a ring: `Q[`, its names joined by commas, `]` and a line end.
     ///
@@ -69,12 +137,9 @@ impl Printer {
         ensures ok { OnOk result (out.new.items ≡ out.old.items ++ polynomial_text ring.now poly.now) }
         ensures err { OnErr result (out.new.items ≡ out.old.items) }
     {
-        let mut text = Vec::new(*out.allocator());
-        match poly {
-            Written::Zero => text.push(b'0')?,
-            Written::Nonzero(marked) => push_marked(&mut text, ring, marked)?,
-        }
-        out.extend_from_slice(&text)
+        let before = out.len();
+        let written = write_polynomial(out, ring, poly);
+        settled(out, before, written)
     }
 
     /// Adds a basis in the ring's variables: a brace and a line end, its members in their order with a comma and a line
@@ -87,10 +152,9 @@ impl Printer {
         ensures ok { OnOk result (out.new.items ≡ out.old.items ++ basis_text ring.now set.now.items) }
         ensures err { OnErr result (out.new.items ≡ out.old.items) }
     {
-        let mut text = Vec::from_slice(*out.allocator(), b"{\n")?;
-        push_members(&mut text, ring, set.items())?;
-        text.extend_from_slice(b"}")?;
-        out.extend_from_slice(&text)
+        let before = out.len();
+        let written = write_basis(out, ring, set);
+        settled(out, before, written)
     }
 
     /// Adds a vector: `(`, its entries joined by `,`, `)`.
@@ -101,10 +165,9 @@ impl Printer {
         ensures ok { OnOk result (out.new.items ≡ out.old.items ++ vector_text vector.now) }
         ensures err { OnErr result (out.new.items ≡ out.old.items) }
     {
-        let mut text = Vec::from_slice(*out.allocator(), b"(")?;
-        push_entries(&mut text, vector.as_slice())?;
-        text.extend_from_slice(b")")?;
-        out.extend_from_slice(&text)
+        let before = out.len();
+        let written = write_vector(out, vector);
+        settled(out, before, written)
     }
 }
 

@@ -1,80 +1,100 @@
-//! The writing of polynomials and sets.
-ghost use Rattle.std.specs.Prelude.{◌≡◌, ◌++◌, ◌∷◌, OnOk, flat_map, length};
+//! The writing of polynomials and sets, to any sink.
+ghost use Rattle.std.specs.Prelude.{◌≡◌, ◌∷◌, flat_map, length};
 ghost use Rattle.gf_poly.specs.Polynomial.{HasVariables};
 ghost use Rattle.gf_poly.specs.Marking.{HaveVariables};
 ghost use Rattle.gf_text.specs.PrintedSets.{other_text, marked_text, members_text};
+ghost use Rattle.gf_text.specs.Told.{Told};
 
 use crate::names::Ring;
-use crate::term_printer::{push_first, push_later};
+use crate::term_printer::{write_term, write_text};
+use gf_outside::{Sink, WriteFault};
 use gf_poly::{Marked, Term};
-use std::alloc::AllocError;
 
-/// Adds a term, unless it is at the marked monomial.
-fn push_other(out: &mut Vec<u8>, ring: &Ring, head: &[u32], term: &Term) -> Result<(), AllocError>
+/// Writes a term, unless it is at the marked monomial.
+fn write_other<E: Sink>(
+    sink: &mut E,
+    ring: &Ring,
+    head: &[u32],
+    term: &Term,
+) -> Result<(), WriteFault>
     requires { length term.now.mono ≡ length ring.now }
-    ensures { OnOk result (out.new.items ≡ out.old.items ++ other_text ring.now head.now term.now) }
+    ensures { Told (E.held sink.old) (E.held sink.new) (E.faults sink.old) (E.faults sink.new)
+        (other_text ring.now head.now term.now) result }
 {
-    let exponents = term.mono.exponents();
-    if exponents == head {
+    if term.mono.exponents() == head {
         return Ok(());
     }
-    push_later(out, ring, &term.coef, exponents)
+    write_term(sink, "+", ring, term)
 }
 
-/// Adds the terms that aren't at the marked monomial.
-fn push_others(
-    out: &mut Vec<u8>,
+/// Writes the terms that aren't at the marked monomial.
+fn write_others<E: Sink>(
+    sink: &mut E,
     ring: &Ring,
     head: &[u32],
     terms: &[Term],
-) -> Result<(), AllocError>
+) -> Result<(), WriteFault>
     requires { HasVariables (length ring.now) terms.now }
-    ensures { OnOk result (out.new.items ≡ out.old.items ++ flat_map (other_text ring.now head.now) terms.now) }
+    ensures { Told (E.held sink.old) (E.held sink.new) (E.faults sink.old) (E.faults sink.new)
+        (flat_map (other_text ring.now head.now) terms.now) result }
 {
-    'terms: for term in terms {
-        push_other(out, ring, head, term)?;
+    for term in terms {
+        write_other(sink, ring, head, term)?;
     }
     Ok(())
 }
 
-/// Adds a polynomial: the marked term first, then the others.
-pub(crate) fn push_marked(out: &mut Vec<u8>, ring: &Ring, marked: &Marked) -> Result<(), AllocError>
+/// Writes a polynomial: the marked term first, then the others.
+pub(crate) fn write_marked<E: Sink>(
+    sink: &mut E,
+    ring: &Ring,
+    marked: &Marked,
+) -> Result<(), WriteFault>
     requires { HasVariables (length ring.now) marked.now.poly }
-    ensures { OnOk result (out.new.items ≡ out.old.items ++ marked_text ring.now marked.now) }
+    ensures { Told (E.held sink.old) (E.held sink.new) (E.faults sink.old) (E.faults sink.new)
+        (marked_text ring.now marked.now) result }
 {
     let terms = marked.poly().terms();
     let head = &terms[marked.index()];
-    let exponents = head.mono.exponents();
-    push_first(out, ring, &head.coef, exponents)?;
-    push_others(out, ring, exponents, terms)?;
-    Ok(())
+    write_term(sink, "", ring, head)?;
+    write_others(sink, ring, head.mono.exponents(), terms)
 }
 
-/// Adds polynomials, each behind a comma and a line end.
-fn push_more(out: &mut Vec<u8>, ring: &Ring, items: &[Marked]) -> Result<(), AllocError>
-    requires { HaveVariables (length ring.now) items.now }
-    ensures { OnOk result (out.new.items ≡ out.old.items ++ flat_map (λ k. 44 ∷ 10 ∷ marked_text ring.now k) items.now) }
+/// Writes a polynomial behind a comma and a line end.
+fn write_next<E: Sink>(sink: &mut E, ring: &Ring, marked: &Marked) -> Result<(), WriteFault>
+    requires { HasVariables (length ring.now) marked.now.poly }
+    ensures { Told (E.held sink.old) (E.held sink.new) (E.faults sink.old) (E.faults sink.new)
+        (44 ∷ 10 ∷ marked_text ring.now marked.now) result }
 {
-    'items: for marked in items {
-        out.push(b',')?;
-        out.push(b'\n')?;
-        push_marked(out, ring, marked)?;
+    write_text(sink, ",\n")?;
+    write_marked(sink, ring, marked)
+}
+
+/// Writes polynomials, each behind a comma and a line end.
+fn write_more<E: Sink>(sink: &mut E, ring: &Ring, items: &[Marked]) -> Result<(), WriteFault>
+    requires { HaveVariables (length ring.now) items.now }
+    ensures { Told (E.held sink.old) (E.held sink.new) (E.faults sink.old) (E.faults sink.new)
+        (flat_map (λ k. 44 ∷ 10 ∷ marked_text ring.now k) items.now) result }
+{
+    for marked in items {
+        write_next(sink, ring, marked)?;
     }
     Ok(())
 }
 
-/// Adds polynomials with a comma and a line end between them.
-pub(crate) fn push_members(
-    out: &mut Vec<u8>,
+/// Writes polynomials with a comma and a line end between them.
+pub(crate) fn write_members<E: Sink>(
+    sink: &mut E,
     ring: &Ring,
     items: &[Marked],
-) -> Result<(), AllocError>
+) -> Result<(), WriteFault>
     requires { HaveVariables (length ring.now) items.now }
-    ensures { OnOk result (out.new.items ≡ out.old.items ++ members_text ring.now items.now) }
+    ensures { Told (E.held sink.old) (E.held sink.new) (E.faults sink.old) (E.faults sink.new)
+        (members_text ring.now items.now) result }
 {
-    if let [first, rest @ ..] = items {
-        push_marked(out, ring, first)?;
-        push_more(out, ring, rest)?;
-    }
-    Ok(())
+    let [first, rest @ ..] = items else {
+        return Ok(());
+    };
+    write_marked(sink, ring, first)?;
+    write_more(sink, ring, rest)
 }

@@ -1,49 +1,55 @@
-//! The writing of vectors.
-ghost use Rattle.std.specs.Prelude.{◌≡◌, ◌++◌, ◌∷◌, OnOk, flat_map};
-ghost use Rattle.gf_text.specs.PrintedText.{is_below_zero};
-ghost use Rattle.gf_text.specs.VectorText.{entry_text, entries_text};
+//! The writing of vectors, to any sink.
+ghost use Rattle.std.specs.Prelude.{◌++◌, ◌∷◌, flat_map};
+ghost use Rattle.gf_text.specs.Told.{Told};
+ghost use Rattle.gf_text.specs.VectorText.{entry_text, entries_text, vector_text};
 
-use crate::term_printer::push_number;
-use std::alloc::AllocError;
+use crate::term_printer::{write_text, write_whole};
+use gf_outside::{Sink, WriteFault};
+use gf_vec::IntVec;
 
-/// Whether an entry is below zero.
-fn is_below_zero(entry: i128) -> bool
-    ensures { result ≡ is_below_zero entry }
+/// Writes an entry of a vector, with this text before it.
+pub(crate) fn write_entry<E: Sink>(
+    sink: &mut E,
+    before: &str,
+    entry: &i128,
+) -> Result<(), WriteFault>
+    ensures { Told (E.held sink.old) (E.held sink.new) (E.faults sink.old) (E.faults sink.new)
+        (before.now ++ entry_text entry.now) result }
 {
-    entry < 0
+    let value = *entry;
+    write_text(sink, before)?;
+    write_whole(sink, value)
 }
 
-/// Adds an entry in decimal digits, behind a minus where it is below zero.
-///
-/// # Errors
-/// Want of memory.
-pub fn push_entry(out: &mut Vec<u8>, entry: i128) -> Result<(), AllocError>
-    ensures { OnOk result (out.new.items ≡ out.old.items ++ entry_text entry) }
-{
-    if is_below_zero(entry) {
-        out.push(b'-')?;
-    }
-    push_number(out, entry.unsigned_abs())
-}
-
-/// Adds entries, each behind a comma.
-fn push_more(out: &mut Vec<u8>, entries: &[i128]) -> Result<(), AllocError>
-    ensures { OnOk result (out.new.items ≡ out.old.items ++ flat_map (λ y. 44 ∷ entry_text y) entries.now) }
+/// Writes the entries behind the first, each with a comma before it.
+fn write_later_entries<E: Sink>(sink: &mut E, entries: &[i128]) -> Result<(), WriteFault>
+    ensures { Told (E.held sink.old) (E.held sink.new) (E.faults sink.old) (E.faults sink.new)
+        (flat_map (λ x. 44 ∷ entry_text x) entries.now) result }
 {
     for entry in entries {
-        out.push(b',')?;
-        push_entry(out, *entry)?;
+        write_entry(sink, ",", entry)?;
     }
     Ok(())
 }
 
-/// Adds entries with commas between them.
-pub(crate) fn push_entries(out: &mut Vec<u8>, entries: &[i128]) -> Result<(), AllocError>
-    ensures { OnOk result (out.new.items ≡ out.old.items ++ entries_text entries.now) }
+/// Writes entries joined by commas.
+fn write_entries<E: Sink>(sink: &mut E, entries: &[i128]) -> Result<(), WriteFault>
+    ensures { Told (E.held sink.old) (E.held sink.new) (E.faults sink.old) (E.faults sink.new)
+        (entries_text entries.now) result }
 {
-    if let [first, rest @ ..] = entries {
-        push_entry(out, *first)?;
-        push_more(out, rest)?;
-    }
-    Ok(())
+    let [first, rest @ ..] = entries else {
+        return Ok(());
+    };
+    write_entry(sink, "", first)?;
+    write_later_entries(sink, rest)
+}
+
+/// Writes a vector: its entries joined by commas, between parentheses.
+pub fn write_vector<E: Sink>(sink: &mut E, vector: &IntVec) -> Result<(), WriteFault>
+    ensures { Told (E.held sink.old) (E.held sink.new) (E.faults sink.old) (E.faults sink.new)
+        (vector_text vector.now) result }
+{
+    write_text(sink, "(")?;
+    write_entries(sink, vector.as_slice())?;
+    write_text(sink, ")")
 }

@@ -3,7 +3,7 @@ use mir.Syntax.{w128}
 use Rattle.std.proofs.lemmas.Int.{to_z-of_z}
 use Rattle.gf_front.specs.declared.refusal.Refusal.TheVariants as refusals
 use Rattle.gf_front.specs.Lines.{message}
-use Rattle.gf_front.proofs.ToldLaws.{told_as}
+use Rattle.gf_text.proofs.ToldLaws.{told_as}
 use Rattle.gf_front.proofs.messages.cone_overflow.Goals as goal
 
 pub returns : goal.returns

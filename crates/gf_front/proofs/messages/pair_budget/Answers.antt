@@ -1,7 +1,7 @@
 use Rattle.std.proofs.Common.{◌∙◌, [], ap}
 use Rattle.gf_front.specs.declared.refusal.Refusal.TheVariants as refusals
 use Rattle.gf_front.specs.Lines.{message}
-use Rattle.gf_front.proofs.ToldLaws.{told_as}
+use Rattle.gf_text.proofs.ToldLaws.{told_as}
 use Rattle.gf_front.proofs.messages.pair_budget.Goals as goal
 
 pub returns : goal.returns
