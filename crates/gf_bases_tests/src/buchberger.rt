@@ -478,3 +478,60 @@ fn katsura_in_six_variables(rt: HostRuntime) -> Result<(), Fail> {
     assert!(rt; f.denom() == 26_977_857_479_542_569_600_000);
     Ok(())
 }
+
+/// -46b - 36c^2, 2acd - ad^2 + c, 4abc - 6abd, 3ac^2 - ad^2, -10ce - 7e - 85, -3a^2 - 3bc + 3c^2 - d^2, -40a - 41d by deglex, as
+/// Singular 4.3 has it: e + 85/7, d^2, c, b, a + 41/40 d. Neither narrow run answers, and in wide numbers only the one by sugar does.
+#[test]
+fn found_by_sugar(rt: HostRuntime) -> Result<(), Fail> {
+    let alloc = rt.alloc();
+    let set = polys(
+        alloc,
+        &[
+            &[(-36, [0, 0, 2, 0, 0]), (-46, [0, 1, 0, 0, 0])],
+            &[
+                (2, [1, 0, 1, 1, 0]),
+                (-1, [1, 0, 0, 2, 0]),
+                (1, [0, 0, 1, 0, 0]),
+            ],
+            &[(4, [1, 1, 1, 0, 0]), (-6, [1, 1, 0, 1, 0])],
+            &[(3, [1, 0, 2, 0, 0]), (-1, [1, 0, 0, 2, 0])],
+            &[
+                (-10, [0, 0, 1, 0, 1]),
+                (-7, [0, 0, 0, 0, 1]),
+                (-85, [0, 0, 0, 0, 0]),
+            ],
+            &[
+                (-3, [2, 0, 0, 0, 0]),
+                (-3, [0, 1, 1, 0, 0]),
+                (3, [0, 0, 2, 0, 0]),
+                (-1, [0, 0, 0, 2, 0]),
+            ],
+            &[(-40, [1, 0, 0, 0, 0]), (-41, [0, 0, 0, 1, 0])],
+        ],
+    )?;
+    let order = Order::deglex();
+    let refusal = basis(alloc, 5, &set, &order, 1000)
+        .err()
+        .ok_or("a refusal")?;
+    assert!(rt; refusal.is_of_numbers());
+    let refusal = basis_by_second_run(alloc, 5, &set, &order, 1000, refusal)
+        .err()
+        .ok_or("a refusal")?;
+    assert!(rt; refusal.is_of_numbers());
+    let found = wide_basis(alloc, 5, &set, &order, 1000)
+        .ok()
+        .ok_or("a basis")?;
+    assert!(rt;
+        lists_members(
+            &found,
+            &[
+                (0, &[(1, 1, [0, 0, 0, 0, 1]), (85, 7, [0, 0, 0, 0, 0])]),
+                (0, &[(1, 1, [0, 0, 0, 2, 0])]),
+                (0, &[(1, 1, [0, 0, 1, 0, 0])]),
+                (0, &[(1, 1, [0, 1, 0, 0, 0])]),
+                (0, &[(1, 1, [1, 0, 0, 0, 0]), (41, 40, [0, 0, 0, 1, 0])]),
+            ]
+        )
+    );
+    Ok(())
+}

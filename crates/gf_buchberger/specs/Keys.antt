@@ -1,11 +1,25 @@
 -- What a pair waits by: how a key is made of the least common multiple of its marks.
--- Laws: proofs/KeyLaws.antt.
-use Rattle.std.specs.Prelude.{ℕ}
+-- Laws: gf_division's proofs/KeyLaws.antt.
+use Rattle.std.specs.Prelude.{ℕ, ◌+◌, ◌-◌, ◌^◌, min, List, [], ◌∷◌, ◌++◌}
 use Rattle.gf_exponents.specs.Exponents.{Exponents, degree}
 use Rattle.gf_buchberger.specs.declared.queue.Strategy.{Strategy}
 use Rattle.gf_buchberger.specs.declared.queue.Strategy.TheVariants as strategies
 
--- the degree that pairs compare by first, or none
-abbrev pub degree_for : Strategy → Exponents → ℕ
-degree_for strategies.Degree x = degree x
-degree_for strategies.Order x = 0
+-- what pairs compare by first: the degree of the least common multiple x, or none, or the sugar, which is by `excess` more than that degree
+abbrev pub degree_for : Strategy → ℕ → Exponents → ℕ
+degree_for strategies.Degree excess x = degree x
+degree_for strategies.Order excess x = 0
+degree_for strategies.Sugar excess x = min (degree x + excess) (2 ^ 64 - 1)
+
+-- by how much the sugar of a member with the mark x is more than the degree of that, where what it was reduced from had this sugar; 0 where pairs
+-- don't go by it
+abbrev pub excess_for : Strategy → ℕ → Exponents → ℕ
+excess_for strategies.Degree sugar x = 0
+excess_for strategies.Order sugar x = 0
+excess_for strategies.Sugar sugar x = sugar - degree x
+
+-- the excesses of the members, one more added; they are kept only where pairs go by sugar
+abbrev pub kept_excesses : Strategy → List ℕ → ℕ → List ℕ
+kept_excesses strategies.Degree excesses excess = excesses
+kept_excesses strategies.Order excesses excess = excesses
+kept_excesses strategies.Sugar excesses excess = excesses ++ excess ∷ []

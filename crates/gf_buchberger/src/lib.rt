@@ -16,6 +16,7 @@ mod pairs;
 mod queue;
 mod runs;
 mod second_run;
+mod sugars;
 mod wide_run;
 
 pub use bases::{BasisError, basis, refused};

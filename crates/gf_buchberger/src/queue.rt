@@ -24,6 +24,8 @@ pub enum Strategy {
     Degree,
     /// Those whose least common multiple is least by the order.
     Order,
+    /// Those of least sugar, then those where the least common multiple is least by the order.
+    Sugar,
 }
 
 /// What a pair waits by: the least common multiple of its marks, arranged so that keys compare as it is to be.
@@ -43,10 +45,10 @@ pub struct Waiting {
 }
 
 impl Strategy {
-    /// The key of a pair with this least common multiple.
-    pub fn key(self, order: &Order, multiple: &Mono) -> Key
+    /// The key of a pair with this least common multiple, whose sugar is by so much more than the degree of that.
+    pub fn key(self, order: &Order, multiple: &Mono, excess: u64) -> Key
         requires { HasEntries (length multiple.now) order.now }
-        ensures degree { result.degree ≡ degree_for self multiple.now }
+        ensures degree { result.degree ≡ degree_for self excess multiple.now }
         ensures level { result.level ≡ level_of order.now multiple.now }
         ensures exponents { AreKeyExponents (ends_by_revlex order.now) multiple.now result.exponents }
     {
@@ -54,6 +56,7 @@ impl Strategy {
         let degree = match self {
             Strategy::Degree => multiple.degree(),
             Strategy::Order => 0,
+            Strategy::Sugar => multiple.degree().saturating_add(excess),
         };
         Key {
             degree,

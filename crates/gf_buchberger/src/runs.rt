@@ -10,6 +10,7 @@ ghost use Rattle.gf_buchberger.specs.Runs.{MembersHaveVariables, AreReducers, Is
 use crate::left::{left_of, left_of_wide};
 use crate::pairs::PairTable;
 use crate::queue::{Queue, Strategy, Waiting};
+use crate::sugars::Sugars;
 use gf_division::{Guide, remainder, s_poly};
 use gf_order::Order;
 use gf_poly::{Marked, Mono, PolyError};
@@ -23,6 +24,7 @@ pub struct Run {
     pub table: PairTable,
     pub queue: Queue,
     pub strategy: Strategy,
+    pub sugars: Sugars,
     pub numbers: Numbers,
     pub guide: Guide,
 }
@@ -75,13 +77,15 @@ fn are_single(b: &Marked, c: &Marked) -> bool
     is_single(b) && is_single(c)
 }
 
-/// Adds the pairs of these members with a new one, whose mark is `head`.
+/// Adds the pairs of these members with a new one, whose mark is `head`, and whose sugar is by so much more than the degree of that.
 fn push_pairs(
     queue: &mut Queue,
     strategy: Strategy,
     order: &Order,
     members: &[Marked],
+    sugars: &Sugars,
     head: &Mono,
+    excess: u64,
 ) -> Result<(), AllocError>
     requires room { length members.now < 2 ^ 32 }
     requires variables { MembersHaveVariables (length head.now) members.now }
@@ -92,7 +96,7 @@ fn push_pairs(
     'members: for i in 0..members.len() {
         let multiple = members[i].head().lcm(head);
         queue.push(Waiting {
-            key: strategy.key(order, &multiple),
+            key: strategy.key(order, &multiple, sugars.of_pair(i, excess)),
             second,
             first: i as u32,
         })?;
@@ -112,6 +116,7 @@ impl Run {
             table: PairTable::new(alloc),
             queue: Queue::new(alloc),
             strategy,
+            sugars: Sugars::new(alloc),
             numbers,
             guide,
         }
@@ -131,12 +136,15 @@ impl Run {
         if self.table.members() == u32::MAX {
             return Err(PolyError::Memory);
         }
+        let excess = self.sugars.add(self.strategy, member.head())?;
         push_pairs(
             &mut self.queue,
             self.strategy,
             order,
             &self.members,
+            &self.sugars,
             member.head(),
+            excess,
         )?;
         self.table.add_member()?;
         self.members.push(member)?;
@@ -379,6 +387,7 @@ pub fn settle_all(alloc: Global, start: Run, order: &Order, budget: u64) -> Resu
         if done == budget {
             return Err(Stop::Spent(run));
         }
+        run.sugars.current = pair.key.degree;
         if let Err(refusal) = run.settle(alloc, order, i, j) {
             return Err(Stop::Refused(refusal));
         }

@@ -23,7 +23,7 @@ impl BasisError {
 
 /// Which of two refusals is told, where numbers of the first run don't fit: that of the second run, by the same polynomials and
 /// order, where its budget was spent, since a greater one may help.
-fn more_telling(first: BasisError, second: BasisError) -> BasisError
+pub fn more_telling(first: BasisError, second: BasisError) -> BasisError
     ensures { result ≡ refusal_told first second }
 {
     match second {

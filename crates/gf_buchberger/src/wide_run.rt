@@ -1,27 +1,70 @@
-//! The reduced Gröbner basis, by a run that reduces in wide numbers.
+//! The reduced Gröbner basis, by runs that reduce in wide numbers.
 
 ghost use Rattle.std.specs.Prelude.{IfOk, IfErr};
 ghost use Rattle.gf_order.specs.Comparisons.{HasEntries};
 ghost use Rattle.gf_buchberger.specs.Bases.{IsArrangedBasis, IsBasisRefusal, AreRunsWithinLimits, IsWantOfMemory};
-ghost use Rattle.gf_buchberger.specs.Jobs.{HaveRingVariables, IsSuited};
+ghost use Rattle.gf_buchberger.specs.Jobs.{HaveRingVariables, IsSuited, IsBasisJob};
 
 use crate::bases::{BasisError, Job, run_by};
 use crate::guides::precedence_of;
 use crate::queue::Strategy;
 use crate::runs::Numbers;
+use crate::second_run::more_telling;
 use gf_order::Order;
 use gf_poly::{MarkedSet, Poly};
+use gf_wide_division::Precedence;
 use std::alloc::Global;
+
+/// The basis by a run in wide numbers that takes the pairs by their sugar, or the refusal that is told.
+fn by_sugar(
+    alloc: Global,
+    job: &Job,
+    precedence: Precedence,
+    first: BasisError,
+) -> Result<MarkedSet, BasisError>
+    requires good { IsBasisJob job.now.order.now job.now.n job.now.set.now }
+    requires first { IsBasisRefusal job.now.order.now job.now.n job.now.set.now job.now.pairs first }
+    ensures ok { IfOk result (IsArrangedBasis job.now.order.now job.now.n job.now.set.now) }
+    ensures err { IfErr result (IsBasisRefusal job.now.order.now job.now.n job.now.set.now job.now.pairs) }
+{
+    match run_by(alloc, job, Strategy::Sugar, Numbers::Wide(precedence)) {
+        Ok(found) => Ok(found),
+        Err(second) => Err(more_telling(first, second)),
+    }
+}
+
+/// The basis by a run in wide numbers, and by another one, by sugar, where numbers of that don't fit.
+fn by_wide_runs(alloc: Global, job: &Job) -> Result<MarkedSet, BasisError>
+    requires { IsBasisJob job.now.order.now job.now.n job.now.set.now }
+    ensures ok { IfOk result (IsArrangedBasis job.now.order.now job.now.n job.now.set.now) }
+    ensures err { IfErr result (IsBasisRefusal job.now.order.now job.now.n job.now.set.now job.now.pairs) }
+{
+    let Ok(precedence) = precedence_of(alloc, job.n, job.order) else {
+        return Err(BasisError::Memory);
+    };
+    let refusal = match run_by(alloc, job, Strategy::Degree, Numbers::Wide(precedence)) {
+        Ok(found) => return Ok(found),
+        Err(refusal) => refusal,
+    };
+    if !refusal.is_of_numbers() {
+        return Err(refusal);
+    }
+    match precedence_of(alloc, job.n, job.order) {
+        Ok(precedence) => by_sugar(alloc, job, precedence, refusal),
+        Err(_) => Err(refusal),
+    }
+}
 
 /// The same basis as by `basis`, by a run that goes on in wide numbers where those of a reduction don't fit on the way.
 ///
 /// Members are kept in 127 bits. Where a generator, an S-polynomial or a tail isn't reduced in them, the same reduction is done with
 /// fractions of 512 bits (`gf_wide_division`), from the beginning, and what is left is made monic and narrowed. The pairs are taken as by
-/// `basis`, whose conditions are those here.
+/// `basis`, whose conditions are those here; where numbers don't fit on that way either, another such run takes the pair of least sugar first.
 ///
 /// # Errors
 ///
-/// As those of `basis`: the refusal that is told is that of the reduction in narrow numbers, where the wide one isn't answered either.
+/// As those of `basis`: the refusal that is told is that of the reduction in narrow numbers, where the wide one isn't answered either, in the
+/// first of both runs; but where the budget of the other one was spent, that is told.
 pub fn wide_basis(
     alloc: Global,
     n: u32,
@@ -42,8 +85,5 @@ pub fn wide_basis(
         order,
         pairs,
     };
-    let Ok(first) = precedence_of(alloc, n, order) else {
-        return Err(BasisError::Memory);
-    };
-    run_by(alloc, &job, Strategy::Degree, Numbers::Wide(first))
+    by_wide_runs(alloc, &job)
 }
