@@ -46,6 +46,16 @@ bounded_at n bs items a b c e h q = subst AreBounded (sym q) (normal_bounded bs 
 
 -- ---- the basis of the parts
 
+pub along_at : (a x : List ℤ) (bs items : List MarkedPolynomial) (fs : List Terms) → x ≡ a → items ≡ bs → AreAlong x items fs → AreAlong a bs fs
+along_at a x bs items fs e q h = subst (λ (z : List ℤ). AreAlong z bs fs) e (subst (λ (z : List MarkedPolynomial). AreAlong x z fs) q h)
+
+-- the order along the facet, from a copy of the normal
+pub facet_at : (a b : List ℤ) (o : MonomialOrder) → b ≡ a → o ≡ MonomialOrder.facet (negated_row_of b) → o ≡ MonomialOrder.facet (negated_row_of a)
+facet_at a b o e q = q ∙ ap (λ (z : List ℤ). MonomialOrder.facet (negated_row_of z)) e
+
+pub facet_entries : (a b : List ℤ) (o : MonomialOrder) → b ≡ a → HasEntries (length b) o → HasEntries (length a) o
+facet_entries a b o e h = subst (λ (z : List ℤ). HasEntries (length z) o) e h
+
 pub job_at : (n m : ℕ) (bs : List MarkedPolynomial) (a : List ℤ) (fs : List Terms) (o : MonomialOrder) → IsCrossing n bs a → AreAlong a bs fs → m ≡ n →
     o ≡ MonomialOrder.facet (negated_row_of a) → HasEntries (length a) o → IsBasisJob o m fs
 job_at n m bs a fs o c h e q w = subst (λ (z : ℕ). IsBasisJob o z fs) (sym e) (subst (λ (z : MonomialOrder). IsBasisJob z n fs) (sym q) (record {

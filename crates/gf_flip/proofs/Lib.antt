@@ -5,11 +5,14 @@ pub mod CrossingMath  -- from a crossing to its neighbour
 pub mod LiftSteps  -- the lifts, one after another
 pub mod RefusalSteps  -- refusals are operations of the flip
 pub mod TopLaws  -- lifts that end early, one after another
+pub mod AloneLaws  -- members of which one term is along the vector
 pub mod LiftTailLaws  -- tails of lifts that stay
 pub mod TailsInTurn  -- tails of lifts, one after another
 pub mod LiftedTails  -- lifts with reduced tails are lifts
+pub mod LiftsInTurnLaws  -- lifts with reduced tails, each at once, are lifts
 pub mod TailSteps  -- the tail of one lift
 pub mod SettlingLaws  -- members of a run that need no work, one after another
+pub mod CoverLaws  -- pairs that members with one monomial settle
 pub mod TurnLaws  -- a run that takes the pairs in turn
 pub mod FlipSteps  -- the steps of a flip
 pub mod ReachedLaws  -- bases that a walk reaches

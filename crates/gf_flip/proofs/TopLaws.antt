@@ -247,23 +247,6 @@ untouched_at bs a h b l one unit single c e alone q = subst (IsTopLift bs a h) (
     back : (p q : Fraction) → q ≡ p +ℚ neg_ℚ (p +ℚ neg_ℚ q)
     back p q = sym (less_summand q (p +ℚ neg_ℚ q) p (sym (+ℚ_comm q (p +ℚ neg_ℚ q) ∙ +ℚ_assoc p (neg_ℚ q) q ∙ ap (λ z. p +ℚ z) (+ℚ_comm (neg_ℚ q) q ∙ +ℚ-neg_ℚ q) ∙ +ℚ-zero p)))
 
--- the terms before i are the mark, or off the line
-abbrev pub AreBeside : List ℤ → Exponents → ℕ → Terms → Type 0
-AreBeside a x i f = Each (λ (t : Term). AreMultipleApart a t.mono x → t.mono ≡ x) (take i f)
-
-pub beside_more : (a : List ℤ) (x : Exponents) (i : ℕ) (f : Terms) (t : Term) → i < length f → t ≡ get_or f i t → (AreMultipleApart a t.mono x → t.mono ≡ x) →
-    AreBeside a x i f → AreBeside a x (i + 1) f
-beside_more a x i f t l e n h = subst (Each (λ (t : Term). AreMultipleApart a t.mono x → t.mono ≡ x)) (sym (take_more f i t l ∙ ap (λ (z : Term). take i f ++ z ∷ []) (sym e))) (Each-++ (λ (t : Term). AreMultipleApart a t.mono x → t.mono ≡ x) (take i f) (t ∷ []) h (n, tt))
-
-pub beside_end : (a : List ℤ) (nz : HasNonzero a) (b : MarkedPolynomial) (x : Exponents) (i : ℕ) (f : Terms) → f ≡ b.poly → x ≡ b.head → length f ≤ i → AreBeside a x i f → IsAlone a b
-beside_end a nz b x i f ef ex l h y m p = at (listed (λ (t : Term). AreMultipleApart a t.mono x → t.mono ≡ x) f y (subst (Each (λ (t : Term). AreMultipleApart a t.mono x → t.mono ≡ x)) (take_all i f l) h) (subst (λ (z : Terms). HasMonomial z y) (sym ef) m))
-  where
-    at : (t : Term) × (AreMultipleApart a t.mono x → t.mono ≡ x) × (same y t.mono ≡ true) → same y b.head ≡ true
-    at t =
-        let g = multiple-grading a nz in
-        let on : AreMultipleApart a t.0.mono x = g.transitive t.0.mono y x (g.symmetric y t.0.mono (g.along y t.0.mono t.2)) (subst (λ (z : Exponents). AreMultipleApart a y z) (sym ex) p) in
-        subst (λ (z : Exponents). same y z ≡ true) (t.1 on ∙ ex) t.2
-
 -- a monic member
 pub monic_member : (bs : List MarkedPolynomial) (b : MarkedPolynomial) (j : ℕ) → HasSomeWeight bs → j < length bs → b ≡ get_or bs j b → coefficient b.poly b.head ≡ one_ℚ
 monic_member bs b j w l e = (w.1 b (j, l, sym e)).monic

@@ -1,15 +1,14 @@
 -- A run that takes the pairs in turn, one step further, and its end: a reduced Gröbner basis.
--- To cite: turn_reducers, entered-none, turning-start, chained_by, turned_on, turning-row, turn_end.
-use Rattle.std.proofs.Common.{◌≡◌, ◌≢◌, ◌⊎◌, ℕ, zero, suc, ◌+◌, ◌<◌, ◌≤◌, Bool, true, false, List, [], ◌∷◌, ◌++◌, length, take, Contains, Some, None, IfSome, slice_index_or, arith, refl, sym, ap, ◌∙◌, subst, inl, inr}
+-- To cite: turn_reducers, entering-start, entering-sorted, entering-taken, entering_end, turning-start, chained_by, turned_on, turning-row, turn_end.
+use Rattle.std.proofs.Common.{◌≡◌, ◌≢◌, ◌⊎◌, ℕ, zero, suc, ◌+◌, ◌<◌, ◌≤◌, true, false, List, [], ◌∷◌, ◌++◌, length, take, Contains, Some, None, IfSome, slice_index_or, arith, refl, sym, ap, ◌∙◌, subst, inl, inr}
 use Rattle.std.specs.Option.{is_some}
 use Rattle.std.specs.declared.option.Option.{Option}
 use Rattle.std.proofs.lemmas.Bool.{cases_lt}
-use Rattle.std.proofs.lemmas.List.{get_or_default}
 use Rattle.gf_exponents.specs.SixOrders.{MonomialOrder, below_of}
 use Rattle.gf_exponents.proofs.SixOrdersLaws.{order-is}
 use Rattle.gf_poly.specs.Polynomial.{Terms, HasVariables, IsDescending, coefficient}
 use Rattle.gf_frac.specs.Fraction.{one_ℚ}
-use Rattle.gf_exponents.specs.Exponents.{Exponents, same, plus, minus, join, Divides}
+use Rattle.gf_exponents.specs.Exponents.{Exponents, same, plus, minus, join}
 use Rattle.gf_exponents.proofs.ExponentsLaws.{same_of}
 use Rattle.gf_poly.specs.Marking.{MarkedPolynomial, polys, head_of, Each, HaveVariables, IsMonicOf, HasMark, HasMarkedTerm}
 use Rattle.gf_poly.proofs.MonomialLaws.{length-join, plus-minus}
@@ -24,6 +23,7 @@ use Rattle.gf_ideal.proofs.KeptForms.{monic_form}
 use Rattle.gf_ideal.proofs.ListedTerms.{variables_by_terms}
 use Rattle.gf_ideal.proofs.MembershipLaws.{member-generator, member-trans}
 use Rattle.gf_ideal.proofs.NormalFormLaws.{normal_form-reached}
+use Rattle.gf_ideal.proofs.ListLaws.{Contains-cases, Contains-there}
 use Rattle.gf_ideal.proofs.PieceLaws.{Contains-polys, Contains-marked}
 use Rattle.gf_ideal.proofs.StepLaws.{reached-more}
 use Rattle.gf_ideal.proofs.WorkLaws.{run_basis, work-marked}
@@ -40,9 +40,11 @@ use Rattle.gf_buchberger.proofs.BasesOfRuns.{IsEnd}
 use Rattle.gf_buchberger.proofs.JobLaws.{ring_variables, run_weight}
 use Rattle.gf_buchberger.proofs.ReducedPairLaws.{AreRead, are_read, variables_each, s_polynomial_is, s_polynomial_variables}
 use Rattle.gf_buchberger.proofs.RunSteps.{in_variables, length-last, contained_old, at_old, appended-variables}
-use Rattle.gf_flip.specs.Turns.{ArePairExcused, IsChained, IsMadeFrom, IsGrown, IsTakenIn, IsPairTaken, IsUnderway, IsOfKind, AreTakenInWhere, IsEarlier, IsTurning, AreKeptIn}
+use Rattle.gf_flip.proofs.CoverLaws.{covered_pair}
+use Rattle.gf_flip.specs.Turns.{ArePairExcused, IsChained, IsMadeFrom, IsGrown, IsTakenIn, IsPairTaken, IsSortedIn, IsUnderway, AreTakenIn, IsEarlier, HasTurning, KeepsTurning, IsTurning, AreKeptIn}
 use Rattle.gf_division.proofs.ReducerLaws.{members_equal}
-use Rattle.std.proofs.lemmas.List.Elements.{Contains-push}
+use Rattle.std.proofs.lemmas.List.Elements.{Contains-push, Contains-append_left, Contains-append_right, Contains-append_cases}
+use Rattle.gf_int.proofs.ListLaws.{Contains-here}
 
 -- ---- lists of a run
 
@@ -119,67 +121,96 @@ further_on order n fs f old new u origin v t = at t.left
 
 -- ---- the polynomials
 
-pub entered-none : (n : ℕ) (fs : List Terms) (single : Bool) (bs : List MarkedPolynomial) → AreTakenInWhere n fs single 0 bs
-entered-none n fs single bs = record { inside = λ k f l e s. absurd (omega arith) }
-
--- those that are taken in stay so
-pub entered-kept : (order : MonomialOrder) (n : ℕ) (fs : List Terms) (single : Bool) (i : ℕ) (old new : List MarkedPolynomial) → IsUnderway order n fs new → AreKeptIn old new → AreTakenInWhere n fs single i old → AreTakenInWhere n fs single i new
-entered-kept order n fs single i old new u k h = record { inside = λ j f l e s. member_kept n old new f (in_variables n new u.variables) k (h.inside j f l e s) }
-
--- where the code stands
-pub record IsEntering (order : MonomialOrder) (n : ℕ) (fs : List Terms) (single : Bool) (i : ℕ) (start bs : List MarkedPolynomial) : Type 0 where
+-- those that aren't in the ideal yet wait
+pub record IsEntering (order : MonomialOrder) (n : ℕ) (fs : List Terms) (ws : List Terms) (bs : List MarkedPolynomial) : Type 0 where
   pub underway : IsUnderway order n fs bs
-  pub kept : AreKeptIn start bs
-  pub entered : AreTakenInWhere n fs single i bs
+  pub inside : (f : Terms) → Contains fs f → IsMember n (polys bs) f ⊎ Contains ws f
+  pub within : (f : Terms) → Contains ws f → Contains fs f
 
-pub entering-none : (order : MonomialOrder) (n : ℕ) (fs : List Terms) (single : Bool) (bs : List MarkedPolynomial) → IsUnderway order n fs bs → IsEntering order n fs single 0 bs bs
-entering-none order n fs single bs u = record { underway = u; kept = kept-same bs; entered = entered-none n fs single bs }
+pub entering-start : (order : MonomialOrder) (n : ℕ) (fs : List Terms) (bs : List MarkedPolynomial) → IsUnderway order n fs bs → IsEntering order n fs fs bs
+entering-start order n fs bs u = record { underway = u; inside = λ f c. inr c; within = λ f c. c }
 
-one_place : (fs : List Terms) (i k : ℕ) (f d : Terms) → i < length fs → f ≡ slice_index_or fs i f → k ≡ i → slice_index_or fs k d ≡ d → f ≡ d
-one_place fs i k f d l e r p = e ∙ get_or_default fs i f d l ∙ ap (λ (z : ℕ). slice_index_or fs z d) (sym r) ∙ p
+-- in another order
+entering-along : (order : MonomialOrder) (n : ℕ) (fs ws vs : List Terms) (bs : List MarkedPolynomial) → ((f : Terms) → Contains ws f → Contains vs f) → ((f : Terms) → Contains vs f → Contains ws f) →
+    IsEntering order n fs ws bs → IsEntering order n fs vs bs
+entering-along order n fs ws vs bs to from h = record { underway = h.underway; inside = λ f c. elim (h.inside f c) [ inl m ↦ inl m | inr w ↦ inr (to f w) ]; within = λ f c. h.within f (from f c) }
 
--- the next one is of the other kind
-pub entering-skipped : (order : MonomialOrder) (n : ℕ) (fs : List Terms) (single : Bool) (i : ℕ) (start bs : List MarkedPolynomial) (f g : Terms) → i < length fs → f ≡ slice_index_or fs i f → g ≡ f →
-    (IsOfKind single g → ⊥) → IsEntering order n fs single i start bs → IsEntering order n fs single (i + 1) start bs
-entering-skipped order n fs single i start bs f g l e q x h = record { underway = h.underway; kept = h.kept; entered = record { inside = λ k d m p s. at k d m p s (cases_lt k i) } }
-  where
-    at : (k : ℕ) (d : Terms) → k < i + 1 → slice_index_or fs k d ≡ d → IsOfKind single d → (k < i) ⊎ (i ≤ k) → IsMember n (polys bs) d
-    at k d m p s (inl b) = h.entered.inside k d b p s
-    at k d m p s (inr b) = absurd (x (subst (IsOfKind single) (sym (q ∙ one_place fs i k f d l e (omega arith) p)) s))
-
--- it is of this kind
-pub entering-more : (order : MonomialOrder) (n : ℕ) (fs : List Terms) (single : Bool) (i : ℕ) (start old new : List MarkedPolynomial) (f g : Terms) → i < length fs → f ≡ slice_index_or fs i f → g ≡ f →
-    IsTakenIn order g old new → IsEntering order n fs single i start old → IsEntering order n fs single (i + 1) start new
-entering-more order n fs single i start old new f g l e q t h = record {
+-- the first of them is taken in
+pub entering-taken : (order : MonomialOrder) (n : ℕ) (fs : List Terms) (f : Terms) (ws : List Terms) (old new : List MarkedPolynomial) → IsTakenIn order f old new → IsEntering order n fs (f ∷ ws) old → IsEntering order n fs ws new
+entering-taken order n fs f ws old new t h = record {
   underway = w.underway;
-  kept = kept-more start old new h.kept w.kept;
-  entered = record { inside = λ k d m p s. at k d m p s (cases_lt k i) };
+  inside = λ g c. at g (h.inside g c);
+  within = λ g c. h.within g (Contains-there f g ws c);
 }
   where
-    has : HasVariables n f
-    has = h.underway.job.ring.each f (i, l, sym e)
+    there : Contains fs f
+    there = h.within f (Contains-here f ws)
 
-    taken : IsTakenIn order f old new
-    taken = subst (λ (z : Terms). IsTakenIn order z old new) q t
+    has : HasVariables n f
+    has = h.underway.job.ring.each f there
 
     w : IsFurtherOn order n fs f old new
-    w = further_on order n fs f old new h.underway (inl (i, l, sym e)) has taken
+    w = further_on order n fs f old new h.underway (inl there) has t
 
     in_ring : IsInVariables n f
     in_ring = variables_by_terms n f has
 
-    steps : Reached (Contains old) f taken.r
-    steps = normal_form-reached old f taken.r taken.normal.reached
+    steps : Reached (Contains old) f t.r
+    steps = normal_form-reached old f t.r t.normal.reached
 
     here : IsMember n (polys new) f
-    here = elim taken.left [
-      | inl z ↦ subst (λ (m : List MarkedPolynomial). IsMember n (polys m) f) (sym z.1) (entered-zero n old f taken.r (in_variables n old h.underway.variables) in_ring steps (λ x. ap (λ (g : Terms). coefficient g x) z.0))
-      | inr z ↦ subst (λ (m : List MarkedPolynomial). IsMember n (polys m) f) (sym z.1.members) (entered-appended n old f taken.r z.1.member (subst (λ (m : List MarkedPolynomial). AreInVariables n (polys m)) z.1.members (in_variables n new w.underway.variables)) in_ring steps z.1.monic)
+    here = elim t.left [
+      | inl z ↦ subst (λ (m : List MarkedPolynomial). IsMember n (polys m) f) (sym z.1) (entered-zero n old f t.r (in_variables n old h.underway.variables) in_ring steps (λ x. ap (λ (g : Terms). coefficient g x) z.0))
+      | inr z ↦ subst (λ (m : List MarkedPolynomial). IsMember n (polys m) f) (sym z.1.members) (entered-appended n old f t.r z.1.member (subst (λ (m : List MarkedPolynomial). AreInVariables n (polys m)) z.1.members (in_variables n new w.underway.variables)) in_ring steps z.1.monic)
     ]
 
-    at : (k : ℕ) (d : Terms) → k < i + 1 → slice_index_or fs k d ≡ d → IsOfKind single d → (k < i) ⊎ (i ≤ k) → IsMember n (polys new) d
-    at k d m p s (inl b) = member_kept n old new d (in_variables n new w.underway.variables) w.kept (h.entered.inside k d b p s)
-    at k d m p s (inr b) = subst (IsMember n (polys new)) (one_place fs i k f d l e (omega arith) p) here
+    at : (g : Terms) → IsMember n (polys old) g ⊎ Contains (f ∷ ws) g → IsMember n (polys new) g ⊎ Contains ws g
+    at g (inl m) = inl (member_kept n old new g (in_variables n new w.underway.variables) w.kept m)
+    at g (inr c) = elim (Contains-cases f g ws c) [ inl e ↦ inl (subst (IsMember n (polys new)) e here) | inr k ↦ inr k ]
+
+-- the next one is taken in, or waits behind the others
+pub entering-sorted : (order : MonomialOrder) (n : ℕ) (fs : List Terms) (f : Terms) (rest left before after : List Terms) (old new : List MarkedPolynomial) → rest ≡ f ∷ left → IsSortedIn order f old new before after →
+    IsEntering order n fs (rest ++ before) old → IsEntering order n fs (left ++ after) new
+entering-sorted order n fs f rest left before after old new e s h = at s (subst (λ (z : List Terms). IsEntering order n fs (z ++ before) old) e h)
+  where
+    to : (g : Terms) → Contains (f ∷ (left ++ before)) g → Contains (left ++ (before ++ f ∷ [])) g
+    to g c = elim (Contains-cases f g (left ++ before) c) [
+      | inl q ↦ Contains-append_right left (before ++ f ∷ []) g (Contains-append_right before (f ∷ []) g (subst (Contains (f ∷ [])) q (Contains-here f [])))
+      | inr k ↦ elim (Contains-append_cases left before g k) [
+        | inl a ↦ Contains-append_left left (before ++ f ∷ []) g a
+        | inr b ↦ Contains-append_right left (before ++ f ∷ []) g (Contains-append_left before (f ∷ []) g b)
+      ]
+    ]
+
+    from : (g : Terms) → Contains (left ++ (before ++ f ∷ [])) g → Contains (f ∷ (left ++ before)) g
+    from g c = elim (Contains-append_cases left (before ++ f ∷ []) g c) [
+      | inl a ↦ Contains-there f g (left ++ before) (Contains-append_left left before g a)
+      | inr b ↦ elim (Contains-append_cases before (f ∷ []) g b) [
+        | inl k ↦ Contains-there f g (left ++ before) (Contains-append_right left before g k)
+        | inr k ↦ elim (Contains-cases f g [] k) [ inl q ↦ subst (Contains (f ∷ (left ++ before))) q (Contains-here f (left ++ before)) | inr m ↦ absurd (omega (arith, m.1)) ]
+      ]
+    ]
+
+    at : IsSortedIn order f old new before after → IsEntering order n fs (f ∷ (left ++ before)) old → IsEntering order n fs (left ++ after) new
+    at (inl t) k = subst (λ (z : List Terms). IsEntering order n fs (left ++ z) new) (sym t.1) (entering-taken order n fs f (left ++ before) old new t.0 k)
+    at (inr t) k = subst (λ (z : List Terms). IsEntering order n fs (left ++ z) new) (sym t.1) (subst (IsEntering order n fs (left ++ (before ++ f ∷ []))) (sym t.0) (entering-along order n fs (f ∷ (left ++ before)) (left ++ (before ++ f ∷ [])) old to from k))
+
+-- taking the first of them in asks for this
+pub entering_appendable : (order : MonomialOrder) (n : ℕ) (fs : List Terms) (f : Terms) (ws left : List Terms) (bs : List MarkedPolynomial) → ws ≡ f ∷ left → IsEntering order n fs ws bs → IsAppendable order f bs
+entering_appendable order n fs f ws left bs e h = record {
+  n = n;
+  poly = h.underway.job.ring.each f (h.within f (subst (λ (z : List Terms). Contains z f) (sym e) (Contains-here f left)));
+  members = h.underway.variables;
+  entries = h.underway.job.entries;
+}
+
+-- none waits
+pub entering_end : (order : MonomialOrder) (n : ℕ) (fs ws : List Terms) (bs : List MarkedPolynomial) → ws ≡ [] → IsEntering order n fs ws bs → AreTakenIn n fs bs
+entering_end order n fs ws bs e h = record { inside = λ f c. elim (h.inside f c) [ inl m ↦ m | inr w ↦ (let k : Contains [] f = subst (λ (z : List Terms). Contains z f) e w in absurd (omega (arith, k.1))) ] }
+
+-- those that are taken in stay so
+entered-kept : (n : ℕ) (fs : List Terms) (old new : List MarkedPolynomial) → MembersHaveVariables n new → AreKeptIn old new → AreTakenIn n fs old → AreTakenIn n fs new
+entered-kept n fs old new v k h = record { inside = λ f c. member_kept n old new f (in_variables n new v) k (h.inside f c) }
 
 -- ---- the pairs
 
@@ -240,19 +271,44 @@ each-take P zero xs h = tt
 each-take P (suc i) [] h = tt
 each-take P (suc i) (x ∷ xs) h = (h.0, each-take P i xs h.1)
 
--- they have as many variables as the mark of the member at i
-pub front_variables : (n : ℕ) (bs ds : List MarkedPolynomial) (i : ℕ) (b : MarkedPolynomial) → MembersHaveVariables n bs → IsAt bs i b → ds ≡ take i bs → HaveVariables (length b.head) ds
-front_variables n bs ds i b v x e =
-    subst (HaveVariables (length b.head)) (sym e) (each-take (λ (d : MarkedPolynomial). HasVariables (length b.head) d.poly) i bs
-    (subst (λ (m : ℕ). HaveVariables m bs) (sym (v.heads b (member_contained bs i b x))) (variables_each n bs v)))
+-- the least common multiple of the marks of two members has as many variables as each of them
+pub record IsWide (n : ℕ) (bs : List MarkedPolynomial) (i : ℕ) (b c : MarkedPolynomial) (m : Exponents) : Type 0 where
+  pub multiple : m ≡ join b.head c.head
+  pub marks : length b.head ≡ length c.head
+  pub first : HasVariables (length m) b.poly
+  pub second : HasVariables (length m) c.poly
+  pub members : HaveVariables (length m) bs
+  pub front : HaveVariables (length m) (take i bs)
+
+pub pair_width : (n : ℕ) (bs : List MarkedPolynomial) (i j : ℕ) (b c : MarkedPolynomial) → MembersHaveVariables n bs → AreRead bs i j b c → length b.head ≡ length c.head
+pair_width n bs i j b c v r = v.heads b (member_contained bs i b r.at_i) ∙ sym (v.heads c (member_contained bs j c r.at_j))
+
+pub pair_wide : (n : ℕ) (bs : List MarkedPolynomial) (i j : ℕ) (b c : MarkedPolynomial) (m : Exponents) → MembersHaveVariables n bs → AreRead bs i j b c → m ≡ join b.head c.head → IsWide n bs i b c m
+pair_wide n bs i j b c m v r e = record {
+  multiple = e;
+  marks = marks;
+  first = subst (λ (k : ℕ). HasVariables k b.poly) (sym width) (v.polys b (member_contained bs i b r.at_i));
+  second = subst (λ (k : ℕ). HasVariables k c.poly) (sym width) (v.polys c (member_contained bs j c r.at_j));
+  members = all;
+  front = each-take (λ (d : MarkedPolynomial). HasVariables (length m) d.poly) i bs all;
+}
+  where
+    marks : length b.head ≡ length c.head
+    marks = pair_width n bs i j b c v r
+
+    width : length m ≡ n
+    width = ap length e ∙ length-join b.head c.head marks ∙ v.heads b (member_contained bs i b r.at_i)
+
+    all : HaveVariables (length m) bs
+    all = subst (λ (k : ℕ). HaveVariables k bs) (sym width) (variables_each n bs v)
 
 -- the member that a search for a divisor found
-pub chained_by : (ds : List MarkedPolynomial) (b c : MarkedPolynomial) (m : Exponents) (o : Option ℕ) → m ≡ join b.head c.head → IfSome o (IsDivisorAt ds m) → is_some o ≡ true → IsChained ds b c
-chained_by ds b c m (Some k) e h t = record { place = k; member = h.member; at = h.at; divides = subst (Divides h.member.head) e h.divides }
-chained_by ds b c m None e h t = absurd (let z : false ≡ true = t in cc)
+pub chained_by : (ds : List MarkedPolynomial) (m : Exponents) (o : Option ℕ) → IfSome o (IsDivisorAt ds m) → is_some o ≡ true → IsChained ds m
+chained_by ds m (Some k) h t = record { place = k; member = h.member; at = h.at; divides = h.divides }
+chained_by ds m None h t = absurd (let z : false ≡ true = t in cc)
 
 -- a pair is settled by a chain: those of a member before both are
-chained_pair : (order : MonomialOrder) (n : ℕ) (fs : List Terms) (bs : List MarkedPolynomial) (i j : ℕ) (b c : MarkedPolynomial) → i < j → IsTurning order n fs bs i j → IsAt bs i b → IsAt bs j c → IsChained (take i bs) b c → IsSettledPair n bs (below_of order) b c
+chained_pair : (order : MonomialOrder) (n : ℕ) (fs : List Terms) (bs : List MarkedPolynomial) (i j : ℕ) (b c : MarkedPolynomial) → i < j → IsTurning order n fs bs i j → IsAt bs i b → IsAt bs j c → IsChained (take i bs) (join b.head c.head) → IsSettledPair n bs (below_of order) b c
 chained_pair order n fs bs i j b c l t x y h =
     pair_by_chain n bs (below_of order) b c d (minus m d.head) ring (order-is order).strict marked hb hc (same_of m (plus (minus m d.head) d.head) e)
     (pair_turned n bs (below_of order) d b ring (order-is order).strict marked hd hb (t.settled k i d b f.1 (inl l) f.0 x))
@@ -306,6 +362,11 @@ turned_on order n fs old new i j l m t (IsPairTaken.chained b c x y h e) = subst
   kept = kept-same old;
   size = omega arith;
 })
+turned_on order n fs old new i j l m t (IsPairTaken.covered b c x y h e) = subst (λ (z : List MarkedPolynomial). IsTurnedOn order n fs old z (i + 1) j) (sym e) (record {
+  turning = settled_to order n fs old i j b c t x y (covered_pair n old (below_of order) b c (in_variables n old t.underway.variables) (order-is order).strict (underway_marked order n fs old t.underway) (member_contained old i b x) (member_contained old j c y) h);
+  kept = kept-same old;
+  size = omega arith;
+})
 turned_on order n fs old new i j l m t (IsPairTaken.reduced b c s x y is_s has taken) = record {
   turning = record { underway = w.underway; settled = λ p q d g o r u v. at p q d g o (earlier_or_here p q i j r) u v };
   kept = w.kept;
@@ -338,41 +399,28 @@ turned_on order n fs old new i j l m t (IsPairTaken.reduced b c s x y is_s has t
 -- ---- the end
 
 -- all pairs are settled, and all polynomials are in the ideal: the members are a basis
-pub turn_end : (order : MonomialOrder) (n : ℕ) (fs : List Terms) (bs : List MarkedPolynomial) (j : ℕ) → j ≡ length bs → IsTurning order n fs bs 0 j → AreTakenInWhere n fs true (length fs) bs → AreTakenInWhere n fs false (length fs) bs → IsEnd order n fs bs
-turn_end order n fs bs j e t h k = record {
+pub turn_end : (order : MonomialOrder) (n : ℕ) (fs : List Terms) (bs : List MarkedPolynomial) (j : ℕ) → j ≡ length bs → IsTurning order n fs bs 0 j → AreTakenIn n fs bs → IsEnd order n fs bs
+turn_end order n fs bs j e t h = record {
   job = t.underway.job;
   work = t.underway.work;
   variables = t.underway.variables;
-  basis = run_basis order n t.underway.job.suited.grade fs bs t.underway.job.suited.admissible (ring_variables n fs t.underway.job.ring) t.underway.job.suited.homogeneous t.underway.work inside
+  basis = run_basis order n t.underway.job.suited.grade fs bs t.underway.job.suited.admissible (ring_variables n fs t.underway.job.ring) t.underway.job.suited.homogeneous t.underway.work h.inside
       (λ p q b c l x y. t.settled p q b c l (inl (omega (arith, y.within))) x y);
 }
-  where
-    inside : (f : Terms) → Contains fs f → IsMember n (polys bs) f
-    inside f c = at (one_or_not (length f))
-      where
-        one_or_not : (k : ℕ) → (k ≡ 1) ⊎ (k ≡ 1 → ⊥)
-        one_or_not zero = inr (λ e. absurd (omega arith))
-        one_or_not (suc zero) = inl (omega arith)
-        one_or_not (suc (suc k)) = inr (λ e. absurd (omega arith))
-
-        at : (length f ≡ 1) ⊎ (length f ≡ 1 → ⊥) → IsMember n (polys bs) f
-        at (inl s) = h.inside c.0 f c.1 c.2 s
-        at (inr s) = k.inside c.0 f c.1 c.2 s
 
 -- ---- as the code stands
 
 -- all polynomials are taken in, and the pairs of the members before j are settled
 pub record IsWhole (order : MonomialOrder) (n : ℕ) (fs : List Terms) (bs : List MarkedPolynomial) (j : ℕ) : Type 0 where
   pub turning : IsTurning order n fs bs 0 j
-  pub single : AreTakenInWhere n fs true (length fs) bs
-  pub other : AreTakenInWhere n fs false (length fs) bs
+  pub entered : AreTakenIn n fs bs
   pub within : j ≤ length bs
 
-pub whole-start : (order : MonomialOrder) (n : ℕ) (fs : List Terms) (old new : List MarkedPolynomial) → IsUnderway order n fs new → AreKeptIn old new → AreTakenInWhere n fs true (length fs) old → AreTakenInWhere n fs false (length fs) new → IsWhole order n fs new 0
-whole-start order n fs old new u k h m = record { turning = turning-start order n fs new u; single = entered-kept order n fs true (length fs) old new u k h; other = m; within = omega arith }
+pub whole-start : (order : MonomialOrder) (n : ℕ) (fs : List Terms) (bs : List MarkedPolynomial) → IsUnderway order n fs bs → AreTakenIn n fs bs → IsWhole order n fs bs 0
+whole-start order n fs bs u h = record { turning = turning-start order n fs bs u; entered = h; within = omega arith }
 
-pub whole-more : (order : MonomialOrder) (n : ℕ) (fs : List Terms) (old new : List MarkedPolynomial) (j : ℕ) → IsTurning order n fs new 0 (j + 1) → AreKeptIn old new → length old ≤ length new → j < length old → IsWhole order n fs old j → IsWhole order n fs new (j + 1)
-whole-more order n fs old new j t k l m h = record { turning = t; single = entered-kept order n fs true (length fs) old new t.underway k h.single; other = entered-kept order n fs false (length fs) old new t.underway k h.other; within = omega (arith, l, m) }
+pub whole-more : (order : MonomialOrder) (n : ℕ) (fs : List Terms) (old new : List MarkedPolynomial) (j : ℕ) → KeepsTurning order n old 0 j new 0 (j + 1) → AreKeptIn old new → length old ≤ length new → j < length old → IsWhole order n fs old j → IsWhole order n fs new (j + 1)
+whole-more order n fs old new j t k l m h = let s = t.at fs h.turning in record { turning = s; entered = entered-kept n fs old new s.underway.variables k h.entered; within = omega (arith, l, m) }
 
 pub pair_read : (bs : List MarkedPolynomial) (i j : ℕ) (b c : MarkedPolynomial) → i < j → j < length bs → b ≡ slice_index_or bs i b → c ≡ slice_index_or bs j c → AreRead bs i j b c
 pair_read bs i j b c l m e f = are_read bs i j b c (omega arith) m e f
@@ -432,21 +480,20 @@ grown_from order r g f b at old new v eg d l h q (inr m) k em = record {
     own : IsMonicForm b.poly b
     own = (monic_already b (record { n = v.n; each = of_b }) k mark).form
 
--- what taking the next polynomial in asks for
-pub entering_appendable : (order : MonomialOrder) (n : ℕ) (fs : List Terms) (single : Bool) (i : ℕ) (start bs : List MarkedPolynomial) (f g : Terms) → i < length fs → f ≡ slice_index_or fs i f → g ≡ f →
-    IsEntering order n fs single i start bs → IsAppendable order g bs
-entering_appendable order n fs single i start bs f g l e q h = record {
-  n = n;
-  poly = subst (HasVariables n) (sym q) (h.underway.job.ring.each f (i, l, sym e));
-  members = h.underway.variables;
-  entries = h.underway.job.entries;
-}
+-- ---- a row, as the code stands
 
-pub entered-end : (n : ℕ) (fs : List Terms) (single : Bool) (i : ℕ) (bs : List MarkedPolynomial) → length fs ≤ i → AreTakenInWhere n fs single i bs → AreTakenInWhere n fs single (length fs) bs
-entered-end n fs single i bs l h = record { inside = λ k f m e s. h.inside k f (omega arith) e s }
+-- from the start of the row to the pair of i and j
+pub record IsRowTaken (order : MonomialOrder) (n : ℕ) (start bs : List MarkedPolynomial) (i j : ℕ) : Type 0 where
+  pub turning : KeepsTurning order n start 0 j bs i j
+  pub kept : AreKeptIn start bs
+  pub size : length start ≤ length bs
 
-pub turned-none : (order : MonomialOrder) (n : ℕ) (fs : List Terms) (bs : List MarkedPolynomial) (i j : ℕ) → IsTurning order n fs bs i j → IsTurnedOn order n fs bs bs i j
-turned-none order n fs bs i j t = record { turning = t; kept = kept-same bs; size = omega arith }
+pub row-none : (order : MonomialOrder) (n : ℕ) (bs : List MarkedPolynomial) (j : ℕ) → IsRowTaken order n bs bs 0 j
+row-none order n bs j = record { turning = record { at = λ fs t. t }; kept = kept-same bs; size = omega arith }
 
-pub turned-more : (order : MonomialOrder) (n : ℕ) (fs : List Terms) (start old new : List MarkedPolynomial) (i k j : ℕ) → IsTurnedOn order n fs start old i j → IsTurning order n fs new k j → AreKeptIn old new → length old ≤ length new → IsTurnedOn order n fs start new k j
-turned-more order n fs start old new i k j h t m l = record { turning = t; kept = kept-more start old new h.kept m; size = omega (arith, l, h.size) }
+pub row-more : (order : MonomialOrder) (n : ℕ) (start old new : List MarkedPolynomial) (i k j : ℕ) → KeepsTurning order n old i j new k j → AreKeptIn old new → length old ≤ length new → IsRowTaken order n start old i j → IsRowTaken order n start new k j
+row-more order n start old new i k j t m l h = record { turning = record { at = λ fs s. t.at fs (h.turning.at fs s) }; kept = kept-more start old new h.kept m; size = omega (arith, l, h.size) }
+
+-- what it goes on with
+pub row_turning : (order : MonomialOrder) (n : ℕ) (start bs : List MarkedPolynomial) (i j : ℕ) → HasTurning order n start 0 j → IsRowTaken order n start bs i j → HasTurning order n bs i j
+row_turning order n start bs i j t h = record { polynomials = t.polynomials; turning = h.turning.at t.polynomials t.turning }

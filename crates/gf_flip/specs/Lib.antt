@@ -5,6 +5,7 @@ pub mod Lifting  -- members of the basis of the parts, and their lifts
 pub mod Operations  -- the operations of a flip, and why it is refused
 pub mod Tops  -- lifts that end early
 pub mod LiftTails  -- tails of lifts
+pub mod LiftsInTurn  -- lifts with reduced tails, each at once
 pub mod Settling  -- members of a run that need no work
 pub mod Turns  -- a run that takes the pairs in turn
 pub mod Reached  -- bases that a walk reaches

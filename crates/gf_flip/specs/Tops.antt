@@ -1,5 +1,5 @@
 -- Lifts that end once nothing is left along the normal. Laws: proofs/TopLaws.antt.
-use Rattle.std.specs.Prelude.{◌≡◌, ℕ, true, List, ℤ, Contains}
+use Rattle.std.specs.Prelude.{◌≡◌, ℕ, Bool, true, false, List, length, get_or, ℤ, Contains}
 use Rattle.gf_exponents.specs.Exponents.{Exponents, same}
 use Rattle.gf_poly.specs.declared.Term.{Term}
 use Rattle.gf_poly.specs.Polynomial.{Terms, IsDescending, KeepsVariables}
@@ -23,6 +23,11 @@ pub record IsTopRemainder (bs : List MarkedPolynomial) (a : List ℤ) (x : Expon
 -- no monomial of b but the mark is a multiple of a apart from it
 abbrev pub IsAlone : List ℤ → MarkedPolynomial → Type 0
 IsAlone a b = (x : Exponents) → HasMonomial b.poly x → AreMultipleApart a x b.head → same x b.head ≡ true
+
+-- so is each member whose flag is set
+pub record AreAloneWhere (a : List ℤ) (bs : List MarkedPolynomial) (flags : List Bool) : Type 0 where
+  pub size : length flags ≡ length bs
+  pub at : (j : ℕ) (b : MarkedPolynomial) → IsAt bs j b → get_or flags j false ≡ true → IsAlone a b
 
 -- the member at the place j has the mark h
 pub record IsMarkedAt (bs : List MarkedPolynomial) (h : Exponents) (j : ℕ) : Type 0 where

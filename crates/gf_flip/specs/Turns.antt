@@ -1,13 +1,13 @@
 -- A run of Buchberger's algorithm that takes the pairs in turn: by the second member, then by the first. Where it stands is
 -- told by two places, with no mark of a pair. Laws: proofs/TurnLaws.antt.
 -- Source: Cox, Little, O'Shea, Ideals, Varieties, and Algorithms, 2.7.
-use Rattle.std.specs.Prelude.{◌≡◌, ◌≢◌, ◌⊎◌, ℕ, ◌<◌, Bool, true, false, List, [], ◌∷◌, ◌++◌, length, take, Contains, slice_index_or}
+use Rattle.std.specs.Prelude.{◌≡◌, ◌≢◌, ◌⊎◌, ℕ, ◌<◌, true, List, [], ◌∷◌, ◌++◌, length, take, Contains}
 use Rattle.gf_frac.specs.Fraction.{one_ℚ}
-use Rattle.gf_exponents.specs.Exponents.{AreCoprime, Divides, join}
+use Rattle.gf_exponents.specs.Exponents.{Exponents, AreCoprime, Divides, join, minus, plus, same}
 use Rattle.gf_exponents.specs.SixOrders.{MonomialOrder, below_of}
 use Rattle.gf_poly.specs.Polynomial.{Terms, HasVariables, KeepsVariables}
 use Rattle.gf_poly.specs.Marking.{MarkedPolynomial, polys, HasMark, IsMonicOf}
-use Rattle.gf_ideal.specs.Membership.{IsMember}
+use Rattle.gf_ideal.specs.Membership.{HasMonomial, IsMember}
 use Rattle.gf_ideal.specs.Marks.{IsMarked}
 use Rattle.gf_ideal.specs.Reduction.{IsMonicForm, IsSPolynomial, HasOneMonomial}
 use Rattle.gf_ideal.specs.NormalForms.{IsNormalForm}
@@ -22,12 +22,28 @@ use Rattle.gf_buchberger.specs.Runs.{MembersHaveVariables}
 abbrev pub ArePairExcused : MarkedPolynomial → MarkedPolynomial → Type 0
 ArePairExcused b c = (HasOneMonomial b × HasOneMonomial c) ⊎ AreCoprime b.head c.head
 
--- the mark of one of ds divides the least common multiple of the marks of b and c
-pub record IsChained (ds : List MarkedPolynomial) (b c : MarkedPolynomial) : Type 0 where
+-- the mark of one of ds divides x
+pub record IsChained (ds : List MarkedPolynomial) (x : Exponents) : Type 0 where
   pub place : ℕ
   pub member : MarkedPolynomial
   pub at : IsAt ds place member
-  pub divides : Divides member.head (join b.head c.head)
+  pub divides : Divides member.head x
+
+-- the mark of a member with one monomial divides x
+pub record HasCover (bs : List MarkedPolynomial) (x : Exponents) : Type 0 where
+  pub member : MarkedPolynomial
+  pub contained : Contains bs member
+  pub single : HasOneMonomial member
+  pub divides : Divides member.head x
+
+-- so it is of each monomial of b but the marked one, multiplied by u
+pub record HasCoveredTail (bs : List MarkedPolynomial) (u : Exponents) (b : MarkedPolynomial) : Type 0 where
+  pub at : (y : Exponents) → HasMonomial b.poly y → (same y b.head ≡ true) ⊎ HasCover bs (plus u y)
+
+-- so it is of both, raised to the least common multiple of the marks
+pub record IsPairCovered (bs : List MarkedPolynomial) (b c : MarkedPolynomial) : Type 0 where
+  pub first : HasCoveredTail bs (minus (join b.head c.head) b.head) b
+  pub second : HasCoveredTail bs (minus (join b.head c.head) c.head) c
 
 -- b is f divided by its marked coefficient, or f itself where that is 1
 abbrev pub IsMadeFrom : MarkedPolynomial → MarkedPolynomial → Type 0
@@ -49,10 +65,16 @@ pub record IsTakenIn (order : MonomialOrder) (f : Terms) (old new : List MarkedP
   pub variables : KeepsVariables f r
   pub left : ((r ≡ []) × (new ≡ old)) ⊎ ((r ≢ []) × IsGrown order r old new)
 
--- the pair of the members at i and j is excused, or there is a chain by a member before both, or its S-polynomial was taken in
+-- f was taken in, or it waits now
+abbrev pub IsSortedIn : MonomialOrder → Terms → List MarkedPolynomial → List MarkedPolynomial → List Terms → List Terms → Type 0
+IsSortedIn order f old new before after = (IsTakenIn order f old new × (after ≡ before)) ⊎ ((new ≡ old) × (after ≡ before ++ f ∷ []))
+
+-- the pair of the members at i and j is excused, or there is a chain by a member before both, or members with one monomial cover it, or
+-- its S-polynomial was taken in
 pub data IsPairTaken (order : MonomialOrder) (i j : ℕ) (old new : List MarkedPolynomial) : Type 0 where
   excused : (b c : MarkedPolynomial) → IsAt old i b → IsAt old j c → ArePairExcused b c → new ≡ old → IsPairTaken order i j old new
-  chained : (b c : MarkedPolynomial) → IsAt old i b → IsAt old j c → IsChained (take i old) b c → new ≡ old → IsPairTaken order i j old new
+  chained : (b c : MarkedPolynomial) → IsAt old i b → IsAt old j c → IsChained (take i old) (join b.head c.head) → new ≡ old → IsPairTaken order i j old new
+  covered : (b c : MarkedPolynomial) → IsAt old i b → IsAt old j c → IsPairCovered old b c → new ≡ old → IsPairTaken order i j old new
   reduced : (b c : MarkedPolynomial) (s : Terms) → IsAt old i b → IsAt old j c → IsSPolynomial b c s →
       ((n : ℕ) → MembersHaveVariables n old → HasVariables n s) → IsTakenIn order s old new → IsPairTaken order i j old new
 
@@ -64,14 +86,9 @@ pub record IsUnderway (order : MonomialOrder) (n : ℕ) (fs : List Terms) (bs : 
   pub work : IsWorkList fs (below_of order) bs
   pub variables : MembersHaveVariables n bs
 
--- f is one term alone, or it isn't
-abbrev pub IsOfKind : Bool → Terms → Type 0
-IsOfKind true f = length f ≡ 1
-IsOfKind false f = length f ≢ 1
-
--- the first i of the polynomials that are one term alone, or that aren't, are in the ideal of bs
-pub record AreTakenInWhere (n : ℕ) (fs : List Terms) (single : Bool) (i : ℕ) (bs : List MarkedPolynomial) : Type 0 where
-  pub inside : (k : ℕ) (f : Terms) → k < i → slice_index_or fs k f ≡ f → IsOfKind single f → IsMember n (polys bs) f
+-- each polynomial of fs is in the ideal of bs
+pub record AreTakenIn (n : ℕ) (fs : List Terms) (bs : List MarkedPolynomial) : Type 0 where
+  pub inside : (f : Terms) → Contains fs f → IsMember n (polys bs) f
 
 -- the pair of p and q is taken before that of i and j
 abbrev pub IsEarlier : ℕ → ℕ → ℕ → ℕ → Type 0
@@ -81,6 +98,16 @@ IsEarlier p q i j = (q < j) ⊎ ((q ≡ j) × (p < i))
 pub record IsTurning (order : MonomialOrder) (n : ℕ) (fs : List Terms) (bs : List MarkedPolynomial) (i j : ℕ) : Type 0 where
   pub underway : IsUnderway order n fs bs
   pub settled : (p q : ℕ) (b c : MarkedPolynomial) → p < q → IsEarlier p q i j → IsAt bs p b → IsAt bs q c → IsSettledPair n bs (below_of order) b c
+
+-- so it is for some list fs
+pub record HasTurning (order : MonomialOrder) (n : ℕ) (bs : List MarkedPolynomial) (i j : ℕ) : Type 0 where
+  pub polynomials : List Terms
+  pub turning : IsTurning order n polynomials bs i j
+
+-- where the pairs before that of i and j are settled among the old members, those before that of p and q are among the new ones, whatever
+-- list the run is on
+pub record KeepsTurning (order : MonomialOrder) (n : ℕ) (old : List MarkedPolynomial) (i j : ℕ) (new : List MarkedPolynomial) (p q : ℕ) : Type 0 where
+  pub at : (fs : List Terms) → IsTurning order n fs old i j → IsTurning order n fs new p q
 
 -- each member of the one list is one of the other
 pub record AreKeptIn (old new : List MarkedPolynomial) : Type 0 where

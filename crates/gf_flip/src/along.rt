@@ -1,6 +1,6 @@
 //! The terms of a polynomial whose exponents are multiples of a vector apart from the mark.
 
-ghost use Rattle.std.specs.Prelude.{◌≡◌, ◌≢◌, ◌<◌, ◌≤◌, ◌^◌, ℤ, pos, ◌-ℤ◌, ◌*ℤ◌, false, IfOk, IsTrue, length, get_or, unsigned_abs};
+ghost use Rattle.std.specs.Prelude.{◌≡◌, ◌≢◌, ◌==◌, ◌<◌, ◌≤◌, ◌^◌, ℤ, map, pos, ◌-ℤ◌, ◌*ℤ◌, false, IfOk, IsTrue, length, get_or, unsigned_abs};
 ghost use Rattle.gf_ideal.specs.OrderTable.{AreMultipleApart};
 ghost use Rattle.gf_poly.specs.Polynomial.{HasVariables};
 ghost use Rattle.gf_poly.specs.Marking.{HaveVariables};
@@ -41,7 +41,7 @@ fn multiple(k: i128, a: i128) -> i128
     k * a
 }
 
-/// The number k for which d is k times a, if there is one.
+/// The number k for which d is k times a, if there is one; nothing is divided by 1 or -1.
 fn multiplier(d: i128, a: i128) -> i128
     requires small { unsigned_abs d ≤ 2 ^ 32 }
     requires nonzero { a ≢ pos 0 }
@@ -49,6 +49,12 @@ fn multiplier(d: i128, a: i128) -> i128
     ensures bound { unsigned_abs result ≤ 2 ^ 32 }
     ensures value { (k : ℤ) → d ≡ k *ℤ a → result ≡ k }
 {
+    if a == 1 {
+        return d;
+    }
+    if a == -1 {
+        return -d;
+    }
     d / a
 }
 
@@ -106,4 +112,11 @@ pub fn parts(alloc: Global, items: &[Marked], normal: &[i128]) -> Result<Vec<Pol
         all.push(poly)?;
     }
     Ok(all)
+}
+
+/// Of each part whether it is one term alone.
+pub fn are_single(alloc: Global, list: &[Poly]) -> Result<Vec<bool>, AllocError>
+    ensures { IfOk result (λ flags. flags.items ≡ map (λ f. length f == 1) list.now) }
+{
+    list.iter().map(|f| f.terms().len() == 1).collect(alloc)
 }

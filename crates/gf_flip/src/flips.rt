@@ -7,13 +7,14 @@ ghost use Rattle.gf_buchberger.specs.Bases.{IsWantOfMemory, of_poly_error};
 ghost use Rattle.gf_flip.specs.Crossings.{IsCrossing, IsNeighbour};
 ghost use Rattle.gf_flip.specs.Along.{AreAlong, IsBasisOfParts};
 ghost use Rattle.gf_flip.specs.Operations.{IsFlipRefusal, IsFlipWithinLimits};
+ghost use Rattle.gf_flip.specs.Tops.{AreAloneWhere};
 
-use crate::along::parts;
+use crate::along::{are_single, parts};
 use crate::lifts::lifts;
 use crate::limits::see_members;
 use crate::tails::reduced_tails;
 use crate::tops::top_lifts;
-use crate::turns::{Task, basis_for};
+use crate::turns::{Task, basis_by_queue, basis_in_turn};
 use crate::wide::wide_crossed;
 use gf_buchberger::{BasisError, refused};
 use gf_division::autoreduce;
@@ -25,28 +26,41 @@ use std::alloc::Global;
 /// Why there is no flip: as there may be no basis.
 pub type FlipError = BasisError;
 
-/// The reduced basis of the parts, for the order along the facet.
+/// The reduced basis of the parts, for the order along the facet. The parts are moved into a run that takes the pairs in turn; where that is
+/// refused, they are taken out anew.
 fn basis_of_parts(
     alloc: Global,
     set: &MarkedSet,
-    list: &[Poly],
-    normal: IntVec,
+    list: Vec<Poly>,
+    normal: &IntVec,
     pairs: u64,
 ) -> Result<MarkedSet, FlipError>
-    requires crossing { IsCrossing set.now.variables set.now.items normal }
-    requires bounded { AreBounded normal }
-    requires along { AreAlong normal set.now.items list.now }
-    ensures value { IfOk result (λ s. IsBasisOfParts set.now.variables set.now.items normal s.items) }
+    requires crossing { IsCrossing set.now.variables set.now.items normal.now }
+    requires bounded { AreBounded normal.now }
+    requires along { AreAlong normal.now set.now.items list.items }
+    ensures value { IfOk result (λ s. IsBasisOfParts set.now.variables set.now.items normal.now s.items) }
     ensures variables { IfOk result (λ s. HaveVariables set.now.variables s.items) }
-    ensures cause { IfErr result (IsFlipRefusal set.now.variables set.now.items normal pairs) }
+    ensures cause { IfErr result (IsFlipRefusal set.now.variables set.now.items normal.now pairs) }
 {
-    let order = Order::facet(normal);
+    let along = match normal.copy() {
+        Ok(along) => along,
+        Err(_) => return Err(BasisError::Memory),
+    };
+    let order = Order::facet(along);
     let task = Task {
         n: set.variables(),
-        list,
         order: &order,
     };
-    let below = basis_for(alloc, &task, pairs)?;
+    if let Some(below) = basis_in_turn(alloc, &task, list, pairs) {
+        // Called for the proof alone: the members have the variables of their set.
+        let _ = below.items();
+        return Ok(below);
+    }
+    let again = match parts(alloc, set.items(), normal.as_slice()) {
+        Ok(again) => again,
+        Err(_) => return Err(BasisError::Memory),
+    };
+    let below = basis_by_queue(alloc, &task, &again, pairs)?;
     // Called for the proof alone: the members have the variables of their set.
     let _ = below.items();
     Ok(below)
@@ -87,16 +101,27 @@ fn lifted_across(
 {
     match crossed(alloc, set, below, normal) {
         Ok(across) => Ok(across),
-        Err(refusal) => match wide_crossed(alloc, set, below, normal) {
-            Ok(across) => Ok(across),
-            Err(_) => Err(refusal),
-        },
+        Err(refusal) => {
+            if let PolyError::Overflow(_) = refusal
+                && let Ok(across) = wide_crossed(alloc, set, below, normal)
+            {
+                return Ok(across);
+            }
+            Err(refusal)
+        }
     }
 }
 
 /// The basis on the other side, from lifts that end early, if all numbers fit.
-fn early(alloc: Global, set: &MarkedSet, below: &[Marked], normal: &IntVec) -> Option<MarkedSet>
+fn early(
+    alloc: Global,
+    set: &MarkedSet,
+    below: &[Marked],
+    alone: &[bool],
+    normal: &IntVec,
+) -> Option<MarkedSet>
     requires crossing { IsCrossing set.now.variables set.now.items normal.now }
+    requires alone { AreAloneWhere normal.now set.now.items alone.now }
     requires bounded { AreBounded normal.now }
     requires variables { HaveVariables set.now.variables below.now }
     requires parts { IsBasisOfParts set.now.variables set.now.items normal.now below.now }
@@ -104,7 +129,7 @@ fn early(alloc: Global, set: &MarkedSet, below: &[Marked], normal: &IntVec) -> O
     ensures variables { IfSome result (λ t. t.variables ≡ set.now.variables) }
 {
     let n = set.variables();
-    let lifted = top_lifts(alloc, below, set.items(), normal.as_slice())?;
+    let lifted = top_lifts(alloc, below, set.items(), alone, normal.as_slice())?;
     let members = reduced_tails(alloc, n, lifted)?;
     let all = MarkedSet::new(n, members);
     match all.arrange() {
@@ -146,12 +171,12 @@ pub fn flip(
         Ok(list) => list,
         Err(_) => return Err(BasisError::Memory),
     };
-    let along = match normal.copy() {
-        Ok(along) => along,
+    let alone = match are_single(alloc, &list) {
+        Ok(alone) => alone,
         Err(_) => return Err(BasisError::Memory),
     };
-    let below = basis_of_parts(alloc, set, &list, along, pairs)?;
-    if let Some(across) = early(alloc, set, below.items(), normal) {
+    let below = basis_of_parts(alloc, set, list, normal, pairs)?;
+    if let Some(across) = early(alloc, set, below.items(), &alone, normal) {
         return Ok(across);
     }
     match lifted_across(alloc, set, below.items(), normal) {

@@ -1,6 +1,6 @@
 //! Lifts that end once nothing is left along the normal: members of the basis of the parts, less what steps lead to.
 
-ghost use Rattle.std.specs.Prelude.{◌≡◌, ◌≢◌, ◌<◌, ◌++◌, ◌∷◌, pos, false, None, [], length, get_or, Contains, IfSome, IsTrue};
+ghost use Rattle.std.specs.Prelude.{◌≡◌, ◌≢◌, ◌<◌, ◌++◌, ◌∷◌, pos, false, true, None, [], length, get_or, IfSome, IsTrue};
 ghost use Rattle.gf_frac.specs.Fraction.{one_ℚ};
 ghost use Rattle.gf_poly.specs.Marking.{HaveVariables};
 ghost use Rattle.gf_poly.specs.Polynomial.{coefficient, HasVariables};
@@ -11,12 +11,13 @@ ghost use Rattle.gf_initial.specs.Lifts.{IsTopLift, AreTopLifts};
 ghost use Rattle.gf_order.specs.Weights.{AreBounded};
 ghost use Rattle.gf_flip.specs.Along.{HasNonzero};
 ghost use Rattle.gf_flip.specs.Lifting.{AreMonic};
-ghost use Rattle.gf_ideal.specs.OrderTable.{AreMultipleApart};
-ghost use Rattle.gf_flip.specs.Tops.{AreOff, IsTopRemainder, IsAlone, IsMarkedAt};
+ghost use Rattle.gf_ideal.specs.Reduction.{HasOneMonomial};
+ghost use Rattle.gf_flip.specs.Tops.{AreOff, IsTopRemainder, AreAloneWhere, IsMarkedAt};
 ghost use Rattle.gf_flip.specs.LiftTails.{IsCopy, AreCopies};
 
 use crate::along::{is_apart, pivot_of};
 use crate::room::with_room;
+use gf_buchberger::is_single;
 use gf_division::{Dividend, divisor_of, place_of};
 use gf_poly::{Marked, Mono, Poly, Term};
 use std::alloc::Global;
@@ -292,10 +293,12 @@ fn lifted(
     member: &Marked,
     by: &[Marked],
     from: usize,
+    alone: &[bool],
     normal: &[i128],
     pivot: usize,
 ) -> Option<(Marked, bool)>
     requires marked { HasSomeWeight by.now }
+    requires alone { AreAloneWhere normal.now by.now alone.now }
     requires poly { HasVariables (length normal.now) member.now.poly }
     requires monic { coefficient member.now.poly member.now.head ≡ one_ℚ }
     requires members { HaveVariables (length normal.now) by.now }
@@ -306,45 +309,14 @@ fn lifted(
     ensures variables { IfSome result (λ l. HasVariables (length normal.now) l.0.poly) }
     ensures copied { IfSome result (λ l. IsCopy by.now l.0 l.1) }
 {
-    if let Some(copy) = untouched(alloc, member, by, from, normal, pivot) {
-        return Some((copy, true));
+    if let Some(j) = untouched(member, by, from, alone) {
+        return match by[j].copy() {
+            Ok(copy) => Some((copy, true)),
+            Err(_) => None,
+        };
     }
     let lift = top_lift(alloc, member, by, normal, pivot)?;
     Some((lift, false))
-}
-
-/// Whether no term of the member but the marked one is a multiple of the normal apart from the mark.
-fn is_alone(member: &Marked, normal: &[i128], pivot: usize) -> bool
-    requires variables { HasVariables (length normal.now) member.now.poly }
-    requires bounded { AreBounded normal.now }
-    requires inside { pivot < length normal.now }
-    requires nonzero { get_or normal.now pivot (pos 0) ≢ pos 0 }
-    ensures { IsTrue result → IsAlone normal.now member.now }
-{
-    let head = member.head();
-    let terms = member.poly().terms();
-    'terms: for i in 0..terms.len() {
-        let t = &terms[i];
-        if is_beside_on_line(&t.mono, head, normal, pivot) {
-            return false;
-        }
-    }
-    true
-}
-
-/// Whether `x` is another monomial than the head, and a multiple of the normal apart from it.
-fn is_beside_on_line(x: &Mono, head: &Mono, normal: &[i128], pivot: usize) -> bool
-    requires same_length { length x.now ≡ length normal.now }
-    requires same_variables { length head.now ≡ length normal.now }
-    requires bounded { AreBounded normal.now }
-    requires inside { pivot < length normal.now }
-    requires nonzero { get_or normal.now pivot (pos 0) ≢ pos 0 }
-    ensures { result ≡ false → AreMultipleApart normal.now x.now head.now → x.now ≡ head.now }
-{
-    match x.compare(head) {
-        Ordering::Equal => false,
-        _ => is_apart(x.exponents(), head.exponents(), normal, pivot),
-    }
 }
 
 /// Whether the member has this mark.
@@ -358,7 +330,7 @@ fn has_mark(member: &Marked, head: &Mono) -> bool
 }
 
 /// The place of a member with this mark, looked for from a place on, and then before it.
-fn place_of_mark(head: &Mono, by: &[Marked], from: usize) -> Option<usize>
+pub fn place_of_mark(head: &Mono, by: &[Marked], from: usize) -> Option<usize>
     ensures { IfSome result (λ j. IsMarkedAt by.now head.now j) }
 {
     'after: for j in from..by.len() {
@@ -374,38 +346,21 @@ fn place_of_mark(head: &Mono, by: &[Marked], from: usize) -> Option<usize>
     None
 }
 
-/// The member of the set with the mark of a monomial, if no other term of it is along the normal. It is looked for from a place on.
-fn untouched(
-    alloc: Global,
-    member: &Marked,
-    by: &[Marked],
-    from: usize,
-    normal: &[i128],
-    pivot: usize,
-) -> Option<Marked>
-    requires marked { HasSomeWeight by.now }
-    requires poly { HasVariables (length normal.now) member.now.poly }
-    requires monic { coefficient member.now.poly member.now.head ≡ one_ℚ }
-    requires members { HaveVariables (length normal.now) by.now }
-    requires bounded { AreBounded normal.now }
-    requires inside { pivot < length normal.now }
-    requires nonzero { get_or normal.now pivot (pos 0) ≢ pos 0 }
-    ensures value { IfSome result (IsTopLift by.now normal.now member.now) }
-    ensures variables { IfSome result (λ l. HasVariables (length normal.now) l.poly) }
-    ensures copied { IfSome result (Contains by.now) }
+/// The place of the member of the set with the mark of a monomial, if the flag of that member is set. It is looked for from a place on.
+fn untouched(member: &Marked, by: &[Marked], from: usize, alone: &[bool]) -> Option<usize>
+    requires { length alone.now ≡ length by.now }
+    ensures single { IfSome result (λ _. HasOneMonomial member.now) }
+    ensures place { IfSome result (IsMarkedAt by.now member.now.head) }
+    ensures alone { IfSome result (λ j. get_or alone.now j false ≡ true) }
 {
-    if member.poly().terms().len() != 1 {
+    if !is_single(member) {
         return None;
     }
     let j = place_of_mark(member.head(), by, from)?;
-    let other = &by[j];
-    if !is_alone(other, normal, pivot) {
+    if !alone[j] {
         return None;
     }
-    match other.copy() {
-        Ok(copy) => Some(copy),
-        Err(_) => None,
-    }
+    Some(j)
 }
 
 /// Adds a lift.
@@ -424,9 +379,17 @@ fn push(lifts: &mut Lifts, lift: Marked, is_copy: bool) -> Option<()>
 }
 
 /// The members less what steps by the set lead to, marked as they are, if nothing of a remainder is a multiple of the
-/// normal apart from the mark, and all numbers fit.
-pub fn top_lifts(alloc: Global, items: &[Marked], by: &[Marked], normal: &[i128]) -> Option<Lifts>
+/// normal apart from the mark, and all numbers fit. The flags say of which members of the set no term but the marked one is
+/// along the normal.
+pub fn top_lifts(
+    alloc: Global,
+    items: &[Marked],
+    by: &[Marked],
+    alone: &[bool],
+    normal: &[i128],
+) -> Option<Lifts>
     requires marked { HasSomeWeight by.now }
+    requires alone { AreAloneWhere normal.now by.now alone.now }
     requires variables { HaveVariables (length normal.now) items.now }
     requires monic { AreMonic items.now }
     requires members { HaveVariables (length normal.now) by.now }
@@ -442,7 +405,8 @@ pub fn top_lifts(alloc: Global, items: &[Marked], by: &[Marked], normal: &[i128]
         copied: with_room(alloc, items.len())?,
     };
     'members: for i in 0..items.len() {
-        let (lift, is_copy) = lifted(alloc, &items[i], by, i.saturating_sub(2), normal, pivot)?;
+        let from = i.saturating_sub(2);
+        let (lift, is_copy) = lifted(alloc, &items[i], by, from, alone, normal, pivot)?;
         push(&mut all, lift, is_copy)?;
     }
     Some(all)

@@ -3,15 +3,16 @@
 
 ghost use Rattle.std.specs.Prelude.{◌≡◌, ◌≢◌, ◌+◌, ◌<◌, ◌≤◌, true, false, [], length, Contains, IfSome, IfOk, IfErr, IsTrue};
 ghost use Rattle.gf_frac.specs.Fraction.{one_ℚ};
-ghost use Rattle.gf_poly.specs.Polynomial.{KeepsVariables};
+ghost use Rattle.gf_exponents.specs.Exponents.{Divides, join, minus, plus};
+ghost use Rattle.gf_poly.specs.Polynomial.{HasVariables, KeepsVariables};
 ghost use Rattle.gf_poly.specs.Marking.{HasMark, HaveVariables};
 ghost use Rattle.gf_ideal.specs.NormalForms.{IsNormalForm};
-ghost use Rattle.gf_ideal.specs.Reduction.{IsDivisible, IsIrreducible};
+ghost use Rattle.gf_ideal.specs.Reduction.{HasOneMonomial, IsDivisible, IsIrreducible};
 ghost use Rattle.gf_division.specs.NormalForms.{HasSomeWeight, HaveSameVariables};
 ghost use Rattle.gf_buchberger.specs.Jobs.{IsBasisJob};
 ghost use Rattle.gf_buchberger.specs.Runs.{IsAppendable};
 ghost use Rattle.gf_buchberger.specs.Bases.{IsArrangedBasis, IsBasisRefusal};
-ghost use Rattle.gf_flip.specs.Turns.{ArePairExcused, IsChained, IsMadeFrom, IsGrown, IsTakenIn, IsUnderway, IsOfKind, AreTakenInWhere, IsTurning, AreKeptIn};
+ghost use Rattle.gf_flip.specs.Turns.{ArePairExcused, IsChained, HasCover, HasCoveredTail, IsPairCovered, IsMadeFrom, IsGrown, IsTakenIn, IsSortedIn, IsUnderway, AreTakenIn, HasTurning, KeepsTurning, IsTurning, AreKeptIn};
 
 use crate::reduction::reduced_form;
 use crate::room::with_room;
@@ -22,11 +23,10 @@ use gf_order::Order;
 use gf_poly::{Marked, MarkedSet, Mono, Poly};
 use std::alloc::Global;
 
-/// What a run works on: the polynomials in `n` variables, and the order.
+/// What a run goes by: the number of variables, and the order.
 #[derive(Clone, Copy)]
 pub struct Task<'a> {
     pub n: u32,
-    pub list: &'a [Poly],
     pub order: &'a Order,
 }
 
@@ -43,13 +43,98 @@ fn is_excused(b: &Marked, c: &Marked) -> bool
 
 /// Whether the mark of one of `before` divides the least common multiple of the marks: where its pairs with both are settled, so is this
 /// one (Buchberger's second criterion; Becker, Weispfenning, *Gröbner Bases*, 5.5).
-fn is_chained(b: &Marked, c: &Marked, before: &[Marked]) -> bool
-    requires marks { length b.now.head ≡ length c.now.head }
-    requires variables { HaveVariables (length b.now.head) before.now }
-    ensures { IsTrue result → IsChained before.now b.now c.now }
+fn is_chained(multiple: &Mono, before: &[Marked]) -> bool
+    requires { HaveVariables (length multiple.now) before.now }
+    ensures { IsTrue result → IsChained before.now multiple.now }
 {
-    let multiple = b.head().lcm(c.head());
-    divisor_of(&multiple, before).is_some()
+    divisor_of(multiple, before).is_some()
+}
+
+/// Whether the member is one term alone, and its mark divides `x`.
+fn covers(member: &Marked, x: &Mono) -> bool
+    requires { HasVariables (length x.now) member.now.poly }
+    ensures single { IsTrue result → HasOneMonomial member.now }
+    ensures divides { IsTrue result → Divides member.now.head x.now }
+{
+    if !is_single(member) {
+        return false;
+    }
+    member.head().divides(x)
+}
+
+/// Whether the mark of a member that is one term alone divides `x`.
+fn is_covered(x: &Mono, by: &[Marked]) -> bool
+    requires { HaveVariables (length x.now) by.now }
+    ensures { IsTrue result → HasCover by.now x.now }
+{
+    'members: for j in 0..by.len() {
+        let member = &by[j];
+        if covers(member, x) {
+            return true;
+        }
+    }
+    false
+}
+
+/// Whether a term at `x` is the marked one, or a member covers the product with `shift`.
+fn is_term_covered(x: &Mono, shift: &Mono, by: &[Marked], is_marked: bool) -> bool
+    requires same_variables { length shift.now ≡ length x.now }
+    requires members { HaveVariables (length x.now) by.now }
+    ensures { IsTrue result → is_marked ≡ false → HasCover by.now (plus shift.now x.now) }
+{
+    if is_marked {
+        return true;
+    }
+    match shift.mul(x) {
+        Ok(product) => is_covered(&product, by),
+        Err(_) => false,
+    }
+}
+
+/// Whether the product of each unmarked term with the shift is covered.
+fn is_shifted_covered(member: &Marked, shift: &Mono, by: &[Marked]) -> bool
+    requires variables { HasVariables (length shift.now) member.now.poly }
+    requires members { HaveVariables (length shift.now) by.now }
+    ensures { IsTrue result → HasCoveredTail by.now shift.now member.now }
+{
+    // Called for the proof alone: the mark is that of a term.
+    let _ = member.head();
+    let terms = member.poly().terms();
+    'terms: for k in 0..terms.len() {
+        let t = &terms[k];
+        if !is_term_covered(&t.mono, shift, by, k == member.index()) {
+            return false;
+        }
+    }
+    true
+}
+
+/// Whether each unmarked term, raised as the mark is to the multiple, is covered.
+fn is_tail_covered(member: &Marked, multiple: &Mono, by: &[Marked]) -> bool
+    requires multiple { Divides member.now.head multiple.now }
+    requires variables { HasVariables (length multiple.now) member.now.poly }
+    requires members { HaveVariables (length multiple.now) by.now }
+    ensures { IsTrue result → HasCoveredTail by.now (minus multiple.now member.now.head) member.now }
+{
+    if is_single(member) {
+        return true;
+    }
+    let shift = multiple.quotient(member.head());
+    is_shifted_covered(member, &shift, by)
+}
+
+/// Whether each term that the S-polynomial may have is covered: steps at single terms lead to zero, and it needn't be made.
+fn is_pair_covered(b: &Marked, c: &Marked, multiple: &Mono, by: &[Marked]) -> bool
+    requires multiple { multiple.now ≡ join b.now.head c.now.head }
+    requires first { HasVariables (length multiple.now) b.now.poly }
+    requires second { HasVariables (length multiple.now) c.now.poly }
+    requires members { HaveVariables (length multiple.now) by.now }
+    ensures { IsTrue result → IsPairCovered by.now b.now c.now }
+{
+    if !is_tail_covered(b, multiple, by) {
+        return false;
+    }
+    is_tail_covered(c, multiple, by)
 }
 
 /// The fraction 1.
@@ -152,33 +237,41 @@ fn take_in(alloc: Global, members: &mut Vec<Marked>, order: &Order, f: Poly) -> 
     Some(())
 }
 
-/// Whether the polynomial is one term alone, or isn't.
-fn is_of_kind(f: &Poly, single: bool) -> bool
-    ensures yes { IsTrue result → IsOfKind single f.now }
-    ensures no { result ≡ false → IsOfKind single f.now → ⊥ }
+/// Takes a polynomial in that is one term alone; another one waits.
+fn sort_in(
+    alloc: Global,
+    members: &mut Vec<Marked>,
+    waiting: &mut Vec<Poly>,
+    order: &Order,
+    f: Poly,
+) -> Option<()>
+    requires variables { IsAppendable order.now f members.old.items }
+    requires marked { HasSomeWeight members.old.items }
+    ensures { IfSome result (λ _. IsSortedIn order.now f members.old.items members.new.items waiting.old.items waiting.new.items) }
 {
-    if single {
-        return f.terms().len() == 1;
+    if f.terms().len() == 1 {
+        take_in(alloc, members, order, f)?;
+        return Some(());
     }
-    f.terms().len() != 1
+    match waiting.push(f) {
+        Ok(()) => {}
+        Err(_) => return None,
+    }
+    Some(())
 }
 
-/// Each of the polynomials is taken in that is one term alone, or that isn't.
-fn enter(alloc: Global, task: &Task, members: &mut Vec<Marked>, single: bool) -> Option<()>
-    requires { IsUnderway task.now.order.now task.now.n task.now.list.now members.old.items }
-    ensures underway { IfSome result (λ _. IsUnderway task.now.order.now task.now.n task.now.list.now members.new.items) }
-    ensures kept { IfSome result (λ _. AreKeptIn members.old.items members.new.items) }
-    ensures entered { IfSome result (λ _. AreTakenInWhere task.now.n task.now.list.now single (length task.now.list.now) members.new.items) }
+/// The polynomials are taken in, those first that are one term alone; each is moved.
+fn enter(alloc: Global, task: &Task, members: &mut Vec<Marked>, list: Vec<Poly>) -> Option<()>
+    requires { IsUnderway task.now.order.now task.now.n list.items members.old.items }
+    ensures underway { IfSome result (λ _. IsUnderway task.now.order.now task.now.n list.items members.new.items) }
+    ensures entered { IfSome result (λ _. AreTakenIn task.now.n list.items members.new.items) }
 {
-    'list: for i in 0..task.list.len() {
-        let f = &task.list[i];
-        if is_of_kind(f, single) {
-            let copy = match f.copy() {
-                Ok(copy) => copy,
-                Err(_) => return None,
-            };
-            take_in(alloc, members, task.order, copy)?;
-        }
+    let mut waiting = with_room(alloc, list.len())?;
+    'list: for f in list {
+        sort_in(alloc, members, &mut waiting, task.order, f)?;
+    }
+    'waiting: for f in waiting {
+        take_in(alloc, members, task.order, f)?;
     }
     Some(())
 }
@@ -191,10 +284,10 @@ fn take_turn(
     i: usize,
     j: usize,
 ) -> Option<()>
-    requires turning { IsTurning task.now.order.now task.now.n task.now.list.now members.old.items i j }
+    requires turning { HasTurning task.now.order.now task.now.n members.old.items i j }
     requires pair { i < j }
     requires second { j < length members.old.items }
-    ensures turning { IfSome result (λ _. IsTurning task.now.order.now task.now.n task.now.list.now members.new.items (i + 1) j) }
+    ensures turning { IfSome result (λ _. KeepsTurning task.now.order.now task.now.n members.old.items i j members.new.items (i + 1) j) }
     ensures kept { IfSome result (λ _. AreKeptIn members.old.items members.new.items) }
     ensures size { IfSome result (λ _. length members.old.items ≤ length members.new.items) }
 {
@@ -202,7 +295,11 @@ fn take_turn(
     if is_excused(b, c) {
         return Some(());
     }
-    if is_chained(b, c, &members[..i]) {
+    let multiple = b.head().lcm(c.head());
+    if is_chained(&multiple, &members[..i]) {
+        return Some(());
+    }
+    if is_pair_covered(b, c, &multiple, members) {
         return Some(());
     }
     let s = match s_poly(alloc, b, c) {
@@ -215,9 +312,9 @@ fn take_turn(
 
 /// Settles the pairs of j with the members before it.
 fn take_row(alloc: Global, members: &mut Vec<Marked>, task: &Task, j: usize) -> Option<()>
-    requires turning { IsTurning task.now.order.now task.now.n task.now.list.now members.old.items 0 j }
+    requires turning { HasTurning task.now.order.now task.now.n members.old.items 0 j }
     requires second { j < length members.old.items }
-    ensures turning { IfSome result (λ _. IsTurning task.now.order.now task.now.n task.now.list.now members.new.items 0 (j + 1)) }
+    ensures turning { IfSome result (λ _. KeepsTurning task.now.order.now task.now.n members.old.items 0 j members.new.items 0 (j + 1)) }
     ensures kept { IfSome result (λ _. AreKeptIn members.old.items members.new.items) }
     ensures size { IfSome result (λ _. length members.old.items ≤ length members.new.items) }
 {
@@ -228,15 +325,13 @@ fn take_row(alloc: Global, members: &mut Vec<Marked>, task: &Task, j: usize) -> 
 }
 
 /// All polynomials are taken in, and all pairs are settled; at most `bound` members are worked off.
-fn run(alloc: Global, task: &Task, bound: u64) -> Option<Vec<Marked>>
-    requires { IsBasisJob task.now.order.now task.now.n task.now.list.now }
-    ensures turning { IfSome result (λ bs. IsTurning task.now.order.now task.now.n task.now.list.now bs.items 0 (length bs.items)) }
-    ensures single { IfSome result (λ bs. AreTakenInWhere task.now.n task.now.list.now true (length task.now.list.now) bs.items) }
-    ensures other { IfSome result (λ bs. AreTakenInWhere task.now.n task.now.list.now false (length task.now.list.now) bs.items) }
+fn run(alloc: Global, task: &Task, list: Vec<Poly>, bound: u64) -> Option<Vec<Marked>>
+    requires { IsBasisJob task.now.order.now task.now.n list.items }
+    ensures turning { IfSome result (λ bs. IsTurning task.now.order.now task.now.n list.items bs.items 0 (length bs.items)) }
+    ensures entered { IfSome result (λ bs. AreTakenIn task.now.n list.items bs.items) }
 {
-    let mut members = with_room(alloc, task.list.len().saturating_mul(2))?;
-    enter(alloc, task, &mut members, true)?;
-    enter(alloc, task, &mut members, false)?;
+    let mut members = with_room(alloc, list.len().saturating_mul(2))?;
+    enter(alloc, task, &mut members, list)?;
     'turns: for j in 0..bound {
         if j as usize == members.len() {
             return Some(members);
@@ -246,35 +341,36 @@ fn run(alloc: Global, task: &Task, bound: u64) -> Option<Vec<Marked>>
     None
 }
 
-/// The reduced basis, if all numbers fit and no list has more members than `bound`.
-fn basis_in_turn(alloc: Global, task: &Task, bound: u64) -> Option<MarkedSet>
-    requires { IsBasisJob task.now.order.now task.now.n task.now.list.now }
-    ensures { IfSome result (IsArrangedBasis task.now.order.now task.now.n task.now.list.now) }
+/// The reduced basis by a run that takes the pairs in turn, if all numbers fit and no list has more members than `bound`.
+pub fn basis_in_turn(alloc: Global, task: &Task, list: Vec<Poly>, bound: u64) -> Option<MarkedSet>
+    requires { IsBasisJob task.now.order.now task.now.n list.items }
+    ensures { IfSome result (IsArrangedBasis task.now.order.now task.now.n list.items) }
 {
-    let members = run(alloc, task, bound)?;
+    let members = run(alloc, task, list, bound)?;
     let basis = reduced_form(alloc, task.n, members)?;
     Some(basis)
 }
 
-/// The reduced basis: by a run that takes the pairs in turn, where that is refused by `basis`, and where numbers of that don't fit by
-/// `wide_basis`; the refusal of `basis` is told.
+/// The reduced basis by `basis`, and where numbers of that don't fit by `wide_basis`; the refusal of `basis` is told.
 ///
 /// # Errors
 ///
 /// Those of `basis`.
-pub fn basis_for(alloc: Global, task: &Task, pairs: u64) -> Result<MarkedSet, BasisError>
-    requires { IsBasisJob task.now.order.now task.now.n task.now.list.now }
-    ensures value { IfOk result (IsArrangedBasis task.now.order.now task.now.n task.now.list.now) }
-    ensures cause { IfErr result (IsBasisRefusal task.now.order.now task.now.n task.now.list.now pairs) }
+pub fn basis_by_queue(
+    alloc: Global,
+    task: &Task,
+    list: &[Poly],
+    pairs: u64,
+) -> Result<MarkedSet, BasisError>
+    requires { IsBasisJob task.now.order.now task.now.n list.now }
+    ensures value { IfOk result (IsArrangedBasis task.now.order.now task.now.n list.now) }
+    ensures cause { IfErr result (IsBasisRefusal task.now.order.now task.now.n list.now pairs) }
 {
-    if let Some(basis) = basis_in_turn(alloc, task, pairs) {
-        return Ok(basis);
-    }
-    match basis(alloc, task.n, task.list, task.order, pairs) {
+    match basis(alloc, task.n, list, task.order, pairs) {
         Ok(basis) => Ok(basis),
         Err(refusal) => {
             if refusal.is_of_numbers()
-                && let Ok(basis) = wide_basis(alloc, task.n, task.list, task.order, pairs)
+                && let Ok(basis) = wide_basis(alloc, task.n, list, task.order, pairs)
             {
                 return Ok(basis);
             }

@@ -11,7 +11,7 @@ use gf_vec::IntVec;
 use std::alloc::Global;
 
 /// How many rounds a weight is looked for near equal entries: mostly few are enough, and where the cone is thin none would be.
-const ROUNDS: u64 = 32;
+pub const ROUNDS: u64 = 32;
 
 /// The lifts, copied.
 fn copies(alloc: Global, n: u32, lifts: &[Marked]) -> Option<Vec<Marked>>

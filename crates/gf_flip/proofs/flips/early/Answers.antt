@@ -1,12 +1,16 @@
 use Rattle.std.proofs.Common.{length, refl, sym, ap, ◌∙◌, subst}
 use Rattle.gf_flip.specs.Along.{HasNonzero}
 use Rattle.gf_flip.proofs.CrossingMath.{crossing_width, crossing_nonzero, monic_parts}
+use Rattle.gf_flip.proofs.AloneLaws.{alone_at}
 use Rattle.gf_flip.proofs.LiftTailLaws.{copies-length}
 use Rattle.gf_flip.proofs.FlipSteps.{have_at, weight_at, ending_at, lifts_weight, ended_variables, ended_neighbour}
 use Rattle.gf_flip.proofs.flips.early.Goals as goal
 
 pub top_lifts-requires-clause-marked : goal.top_lifts-requires-clause-marked
 top_lifts-requires-clause-marked c = weight_at c.args.set.now.variables c.args.set.now.items c.items.result.now c.args.normal.now c.requires.crossing c.items.ensures.value
+
+pub top_lifts-requires-clause-alone : goal.top_lifts-requires-clause-alone
+top_lifts-requires-clause-alone c = alone_at c.args.normal.now c.as_slice.result.now c.args.set.now.items c.items.result.now c.args.alone.now c.as_slice.ensures.value c.items.ensures.value c.requires.alone
 
 pub top_lifts-requires-clause-variables : goal.top_lifts-requires-clause-variables
 top_lifts-requires-clause-variables c = have_at c.args.set.now.variables (length c.as_slice.result.now) c.args.below.now c.args.below.now c.requires.variables refl (ap length c.as_slice.ensures.value ∙ crossing_width c.args.set.now.variables c.args.set.now.items c.args.normal.now c.requires.crossing)

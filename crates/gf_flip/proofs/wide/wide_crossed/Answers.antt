@@ -1,18 +1,34 @@
-use Rattle.gf_flip.proofs.CrossingMath.{liftable, ever_lifted}
-use Rattle.gf_flip.proofs.FlipSteps.{have_at, realisable_at, if_neighbour, if_variables}
+use Rattle.std.proofs.Common.{List, refl, ◌∙◌, subst}
+use Rattle.gf_poly.specs.Marking.{MarkedPolynomial}
+use Rattle.gf_flip.specs.LiftsInTurn.{AreLiftsIn}
+use Rattle.gf_flip.proofs.CrossingMath.{crossing_weight}
+use Rattle.gf_flip.proofs.FlipSteps.{have_at, realisable_at, neighbour_at}
+use Rattle.gf_flip.proofs.LiftsInTurnLaws.{ever_in_turn, placed_variables}
 use Rattle.gf_flip.proofs.wide.wide_crossed.Goals as goal
 
 pub precedence_for-requires : goal.precedence_for-requires
 precedence_for-requires c = have_at c.args.set.now.variables c.variables.result c.args.set.now.items c.items.result.now c.items.ensures.variables c.items.ensures.value c.variables.ensures
 
-pub wide_lifts-requires-clause-liftable : goal.wide_lifts-requires-clause-liftable
-wide_lifts-requires-clause-liftable c = liftable c.args.set.now.variables c.args.set.now.items c.args.normal.now c.args.below.now c.requires.crossing c.requires.parts
+pub rests-requires-clause-marked : goal.rests-requires-clause-marked
+rests-requires-clause-marked c = crossing_weight c.args.set.now.variables c.args.set.now.items c.args.normal.now c.requires.crossing
 
-pub wide_across-requires : goal.wide_across-requires
-wide_across-requires c = realisable_at c.args.set.now.variables c.variables-2.result c.args.set.now.items c.args.normal.now c.args.below.now c.in_ok-lifted.lifted.items c.new-all.result c.requires.crossing c.requires.parts (ever_lifted c.args.set.now.variables c.args.set.now.items c.args.normal.now c.args.below.now c.in_ok-lifted.lifted.items c.requires.parts c.in_ok-lifted.ensures.value) c.variables-2.ensures c.new-all.ensures
+pub reduced_form-requires-clause-variables : goal.reduced_form-requires-clause-variables
+reduced_form-requires-clause-variables c = have_at c.args.set.now.variables c.variables-2.result c.in_ok-members.members.items c.in_ok-members.members.items
+    (placed_variables c.args.set.now.variables c.in_ok-done.done.items c.args.below.now c.in_ok-members.members.items c.in_ok-done.ensures.variables
+    (subst (λ (z : List MarkedPolynomial). AreLiftsIn z c.args.below.now c.in_ok-members.members.items) c.deref-4.ensures.value c.in_ok-members.ensures)) refl c.variables-2.ensures
 
-pub returns-clause-value : goal.returns-clause-value
-returns-clause-value c = if_neighbour c.args.set.now.variables c.variables-2.result c.args.set.now.items c.args.normal.now c.args.below.now c.in_ok-lifted.lifted.items c.new-all.result c.wide_across.result c.requires.crossing c.requires.parts (ever_lifted c.args.set.now.variables c.args.set.now.items c.args.normal.now c.args.below.now c.in_ok-lifted.lifted.items c.requires.parts c.in_ok-lifted.ensures.value) c.variables-2.ensures c.new-all.ensures c.wide_across.ensures.value c.wide_across.ensures.arranged
+pub reduced_form-requires-clause-realisable : goal.reduced_form-requires-clause-realisable
+reduced_form-requires-clause-realisable c = realisable_at c.args.set.now.variables c.variables-2.result c.args.set.now.items c.args.normal.now c.args.below.now c.in_ok-members.members.items
+    (record { variables = c.variables-2.result; items = c.in_ok-members.members.items }) c.requires.crossing c.requires.parts
+    (ever_in_turn c.args.set.now.variables c.args.set.now.items c.args.normal.now c.args.below.now c.in_ok-done.done.items c.in_ok-members.members.items c.requires.parts c.in_ok-done.ensures.value
+    (subst (λ (z : List MarkedPolynomial). AreLiftsIn z c.args.below.now c.in_ok-members.members.items) c.deref-4.ensures.value c.in_ok-members.ensures)) c.variables-2.ensures refl
 
-pub returns-clause-variables : goal.returns-clause-variables
-returns-clause-variables c = if_variables c.args.set.now.variables c.variables-2.result c.in_ok-lifted.lifted.items c.new-all.result c.wide_across.result c.variables-2.ensures c.new-all.ensures c.wide_across.ensures.value
+pub returns-in-Some-clause-value : goal.returns-in-Some-clause-value
+returns-in-Some-clause-value c = neighbour_at c.args.set.now.variables c.variables-2.result c.args.set.now.items c.args.normal.now c.args.below.now c.in_ok-members.members.items
+    (record { variables = c.variables-2.result; items = c.in_ok-members.members.items }) c.in-Some.across c.requires.crossing c.requires.parts
+    (ever_in_turn c.args.set.now.variables c.args.set.now.items c.args.normal.now c.args.below.now c.in_ok-done.done.items c.in_ok-members.members.items c.requires.parts c.in_ok-done.ensures.value
+    (subst (λ (z : List MarkedPolynomial). AreLiftsIn z c.args.below.now c.in_ok-members.members.items) c.deref-4.ensures.value c.in_ok-members.ensures)) c.variables-2.ensures refl
+    c.in-Some.ensures.value c.in-Some.ensures.arranged
+
+pub returns-in-Some-clause-variables : goal.returns-in-Some-clause-variables
+returns-in-Some-clause-variables c = c.in-Some.ensures.value.arranged.variables ∙ c.variables-2.ensures

@@ -1,6 +1,0 @@
-use Rattle.std.proofs.Common.{take}
-use Rattle.gf_flip.proofs.LiftSteps.{AreLifting}
-use Rattle.gf_flip.proofs.wide.wide_lifts.Given as goal
-
-abbrev pub invariant-members : goal.invariant-members
-invariant-members l = AreLifting l.by.variables l.by.items (take l.i l.items) l.all.items
