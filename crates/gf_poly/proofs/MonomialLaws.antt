@@ -1,10 +1,10 @@
 -- Exponents as slices, and what a loop over the variables has done.
 -- To cite: entry-get_or, taken_is, same_or_not, entry-take_more, entry-take_last, entry-ones, degree-ones, entry-raised, degree-raised, limit-raised, plus-minus, length-plus, length-minus, length-join, divides_by_entries, entries_by_divides.
-use Rattle.std.specs.Prelude.{◌≡◌, ◌≢◌, ℕ, zero, suc, ◌+◌, ◌*◌, ◌<◌, ◌≤◌, ◌^◌, ◌⊎◌, List, [], ◌∷◌, length, take, replicate, All}
+use Rattle.std.specs.Prelude.{◌≡◌, ◌≢◌, ℕ, zero, suc, Bool, IsTrue, ◌+◌, ◌*◌, ◌<◌, ◌≤◌, ◌^◌, ◌⊎◌, List, [], ◌∷◌, length, take, replicate, All}
 use Rattle.std.proofs.Common.{arith, refl, sym, ap, subst, ◌∙◌, inl, inr, get_or, add-one}
 use Rattle.std.proofs.Math.ListN.{set}
 use Rattle.std.proofs.lemmas.Bool.{cases_lt}
-use Rattle.std.proofs.lemmas.List.{get_or-set_same, get_or-set_other, length-set}
+use Rattle.std.proofs.lemmas.List.{get_or-set_same, get_or-set_other, length-set, take_all}
 use Rattle.std.proofs.lemmas.List.Elements.{All-get_or, All-from_get_or}
 use Rattle.std.proofs.lemmas.Grind.{get_or-set_at}
 use Rattle.gf_exponents.specs.Exponents.{Exponents, entry, plus, minus, join, degree, Divides}
@@ -12,7 +12,7 @@ use Rattle.gf_poly.specs.declared.TheConstants.{ROOM}
 use Rattle.gf_poly.specs.Monomial.{IsMonomial, ProductFits}
 pub use Rattle.gf_exponents.proofs.ExponentsLaws.{entry-get_or, same_lists}
 use Rattle.gf_exponents.proofs.WeightLaws.{degree-plus}
-use Rattle.gf_exponents.proofs.ExponentsLaws.{entry-past, entry-plus, entry-minus, entry-join, entries_same, same_by_entries}
+use Rattle.gf_exponents.proofs.ExponentsLaws.{entry-past, entry-plus, entry-minus, entries_same, same_by_entries}
 
 -- ---- entries
 -- the first n entries of all are x
@@ -46,6 +46,10 @@ entry-take_last x i = ap (λ n. entry (take n x) i) (add-one i) ∙ at x i
     at [] i = refl
     at (a ∷ x) zero = refl
     at (a ∷ x) (suc i) = at x i
+
+-- ---- one place set
+pub entry-set_other : (x : Exponents) (i k a : ℕ) → k ≢ i → entry (set x i a) k ≡ entry x k
+entry-set_other x i k a other = sym (entry-get_or (set x i a) k) ∙ get_or-set_other x i k a 0 other ∙ entry-get_or x k
 
 -- ---- lengths
 pub length-plus : (x y : Exponents) → length x ≡ length y → length (plus x y) ≡ length x
@@ -100,6 +104,29 @@ AreEntries-more f x y all i v l e h = record { room = length-set all i v ∙ h.r
 pub AreEntries-end : (f : ℕ → ℕ → ℕ) (x y z : Exponents) (all : List ℕ) (i : ℕ) → length x ≤ i → length x ≤ ROOM → length z ≡ length x → ((k : ℕ) → entry z k ≡ f (entry x k) (entry y k)) → AreEntries f x y all i → take (length x) all ≡ z
 AreEntries-end f x y z all i l r e g h = taken_is (length x) all z e (omega (arith, h.room)) (λ k b. h.at k (omega arith) ∙ sym (g k))
 
+-- all ROOM places are done
+pub AreEntries-all : (f : ℕ → ℕ → ℕ) (x y z : Exponents) (all : List ℕ) (i : ℕ) → length x ≡ ROOM → ROOM ≤ i → length z ≡ ROOM → ((k : ℕ) → entry z k ≡ f (entry x k) (entry y k)) → AreEntries f x y all i → all ≡ z
+AreEntries-all f x y z all i e l r g h = sym (take_all ROOM all (omega (arith, h.room))) ∙ ap (λ n. take n all) (sym e) ∙ AreEntries-end f x y z all i (omega (arith, e, l)) (omega (arith, e)) (r ∙ sym e) g h
+
+-- the first i places of all hold the exponents of x, and zeros stand behind them
+pub record ArePlacedUpTo (x : Exponents) (all : List ℕ) (i : ℕ) : Type 0 where
+  pub room : length all ≡ ROOM
+  pub at : (k : ℕ) → k < i → entry all k ≡ entry x k
+  pub behind : (k : ℕ) → i ≤ k → entry all k ≡ 0
+
+pub ArePlacedUpTo-more : (x : Exponents) (all : List ℕ) (i v : ℕ) → i < ROOM → v ≡ entry x i → ArePlacedUpTo x all i → ArePlacedUpTo x (set all i v) (i + 1)
+ArePlacedUpTo-more x all i v l e h = record {
+  room = length-set all i v ∙ h.room;
+  at = λ k b. place k b (cases_lt k i);
+  behind = λ k b. entry-set_other all i k v (λ q. absurd (omega arith)) ∙ h.behind k (omega arith);
+}
+  where
+    place : (k : ℕ) → k < i + 1 → (k < i) ⊎ (i ≤ k) → entry (set all i v) k ≡ entry x k
+    place k b (inl m) = entry-set_other all i k v (λ q. absurd (omega arith)) ∙ h.at k m
+    place k b (inr m) =
+        let q : k ≡ i = omega arith in
+        sym (entry-get_or (set all i v) k) ∙ get_or-set_at all i k v 0 q (omega (arith, h.room)) ∙ e ∙ ap (λ j. entry x j) (sym q)
+
 -- so far the sums of the exponents are below the limit
 pub record FitsBelow (x y : Exponents) (i : ℕ) : Type 0 where
   pub at : (k : ℕ) → k < i → entry x k + entry y k < 2 ^ 31
@@ -110,6 +137,17 @@ FitsBelow-more x y i l h = record { at = λ k b. place k b (cases_lt k i) }
     place : (k : ℕ) → k < i + 1 → (k < i) ⊎ (i ≤ k) → entry x k + entry y k < 2 ^ 31
     place k b (inl m) = h.at k m
     place k b (inr m) = let q : i ≡ k = omega arith in subst (λ (j : ℕ). entry x j + entry y j < 2 ^ 31) q l
+
+-- whether the sums so far are below the limit, as a flag says
+pub record IsFitting (x y : Exponents) (fits : Bool) (i : ℕ) : Type 0 where
+  pub so : IsTrue fits → FitsBelow x y i
+  pub all : ProductFits x y → IsTrue fits
+
+pub IsFitting-more : (x y : Exponents) (i sum : ℕ) (old new : Bool) → sum ≡ entry x i + entry y i → (IsTrue new → IsTrue old × (sum < 2 ^ 31)) → (IsTrue old → sum < 2 ^ 31 → IsTrue new) → IsFitting x y old i → IsFitting x y new (i + 1)
+IsFitting-more x y i sum old new e g k h = record {
+  so = λ t. FitsBelow-more x y i (omega (arith, e, (g t).1)) (h.so (g t).0);
+  all = λ p. k (h.all p) (omega (arith, e, p.at i));
+}
 
 pub FitsBelow-end : (x y : Exponents) (i : ℕ) → length x ≡ length y → length x ≤ i → FitsBelow x y i → ProductFits x y
 FitsBelow-end x y i e l h = record { at = λ k. place k (cases_lt k i) }
@@ -155,9 +193,6 @@ degree-ones (suc n) = omega (arith, degree-ones n)
 pub entry-raised : (x : Exponents) (i by : ℕ) → i < length x → entry (set x i (get_or x i 0 + by)) i ≡ entry x i + by
 entry-raised x i by l = omega (arith, entry-get_or (set x i (get_or x i 0 + by)) i, get_or-set_same x i (get_or x i 0 + by) 0 l, entry-get_or x i)
 
-pub entry-set_other : (x : Exponents) (i k a : ℕ) → k ≢ i → entry (set x i a) k ≡ entry x k
-entry-set_other x i k a other = sym (entry-get_or (set x i a) k) ∙ get_or-set_other x i k a 0 other ∙ entry-get_or x k
-
 pub degree-raised : (x : Exponents) (i by : ℕ) → i < length x → degree (set x i (get_or x i 0 + by)) ≡ degree x + by
 degree-raised [] i by l = absurd (omega arith)
 degree-raised (a ∷ x) zero by l = omega arith
@@ -179,15 +214,6 @@ limit-raised x i by l less h = limit_by_entries (set x i (get_or x i 0 + by)) (�
     place : (k : ℕ) → (k ≡ i) ⊎ (k ≢ i) → entry (set x i (get_or x i 0 + by)) k < 2 ^ 31
     place k (inl q) = omega (arith, ap (λ j. entry (set x i (get_or x i 0 + by)) j) q, entry-raised x i by l, entry-get_or x i)
     place k (inr d) = omega (arith, entry-set_other x i k (get_or x i 0 + by) d, entry-limit x h k)
-
-pub IsMonomial-plus : (x y : Exponents) → length x ≡ length y → IsMonomial x → ProductFits x y → IsMonomial (plus x y)
-IsMonomial-plus x y e h p = record { room = omega (arith, length-plus x y e, h.room); limit = limit_by_entries (plus x y) (λ i. omega (arith, p.at i, entry-plus x y i)) }
-
-pub IsMonomial-minus : (x y : Exponents) → length x ≡ length y → IsMonomial x → IsMonomial (minus x y)
-IsMonomial-minus x y e h = record { room = omega (arith, length-minus x y e, h.room); limit = limit_by_entries (minus x y) (λ i. omega (arith, entry-limit x h.limit i, entry-minus x y i)) }
-
-pub IsMonomial-join : (x y : Exponents) → length x ≡ length y → IsMonomial x → IsMonomial y → IsMonomial (join x y)
-IsMonomial-join x y e h k = record { room = omega (arith, length-join x y e, h.room); limit = limit_by_entries (join x y) (λ i. omega (arith, entry-limit x h.limit i, entry-limit y k.limit i, entry-join x y i)) }
 
 -- ---- the total degree, entry by entry
 pub degree-take : (x : List ℕ) (i : ℕ) → i < length x → degree (take (i + 1) x) ≡ degree (take i x) + get_or x i 0

@@ -1,7 +1,7 @@
 -- Monomials as they are kept, and where a product of two has exponents within the limit.
 -- Exponents are below 2^31; a variable past the end has exponent 0, so the words need no equal lengths.
 -- Laws: proofs/MonomialLaws.antt.
-use Rattle.std.specs.Prelude.{◌≡◌, ℕ, ◌+◌, ◌<◌, ◌≤◌, ◌^◌, length, All, min}
+use Rattle.std.specs.Prelude.{◌≡◌, ℕ, ◌+◌, ◌<◌, ◌≤◌, ◌^◌, length, take, All, min}
 use Rattle.std.specs.Int.{bit_at}
 use Rattle.smallvec.specs.SmallVec.{SmallVec}
 use Rattle.gf_exponents.specs.Exponents.{Exponents, entry, degree}
@@ -13,13 +13,20 @@ pub record IsWordOf (x : Exponents) (w : ℕ) : Type 0 where
   pub fits : w < 2 ^ ROOM
   pub bits : (i j : ℕ) → i + j + 1 ≡ ROOM → bit_at w j ≡ min (entry x i) 1
 
--- what is kept of a monomial: its exponents, inline, their sum, and the word of the variables that occur
-pub record IsMono (total word : ℕ) (v : SmallVec ℕ) : Type 0 where
-  pub room : length v.items ≤ ROOM
-  pub limit : All (λ x. x < 2 ^ 31) v.items
+-- ROOM places with the exponents of x, which are within the limit, and zeros behind them
+pub record IsPlaced (x places : Exponents) : Type 0 where
+  pub room : length x ≤ ROOM
+  pub full : length places ≡ ROOM
+  pub limit : All (λ k. k < 2 ^ 31) places
+  pub at : (i : ℕ) → entry places i ≡ entry x i
+
+-- what is kept of a monomial in n variables: its exponents, inline, their sum, and the word of the variables that occur
+pub record IsMono (total word n : ℕ) (v : SmallVec ℕ) : Type 0 where
+  pub room : n ≤ ROOM
+  pub placed : IsPlaced (take n v.items) v.items
   pub inline : v.capacity ≡ ROOM
-  pub total_degree : total ≡ degree v.items
-  pub occurring : IsWordOf v.items word
+  pub total_degree : total ≡ degree (take n v.items)
+  pub occurring : IsWordOf (take n v.items) word
 
 -- at most as many variables as there is room for, and exponents within the limit
 pub record IsMonomial (x : Exponents) : Type 0 where

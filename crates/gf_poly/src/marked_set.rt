@@ -83,7 +83,7 @@ impl MarkedSet {
     {
         let MarkedSet { variables, items } = self;
         let mut all = items;
-        all.sort_by(|x, y| x.head().exponents().cmp(y.head().exponents()))?;
+        all.sort_by(|x, y| x.head().compare_by_lex(y.head()))?;
         Ok(MarkedSet {
             variables,
             items: all,

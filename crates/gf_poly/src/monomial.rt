@@ -1,9 +1,10 @@
-//! Monomials: up to `ROOM` exponents, kept inline with their sum and with a word of the variables that occur.
+//! Monomials: up to `ROOM` exponents, kept inline with zeros behind them, with their sum and with a word of the variables that occur. Loops
+//! that go over all places are unrolled, so that they take a few wide instructions.
 
 ghost use Rattle.std.specs.Prelude.{◌≡◌, ◌+◌, ◌≤◌, ◌<◌, ◌^◌, ◌↔◌, length, take, replicate, slice_index, slice_set, bit_and, bit_xor, All, IfOk, IfErr, OnOk, OnErr, IsOk, IsTrue};
 ghost use Rattle.gf_exponents.specs.Exponents.{plus, minus, join, Divides, degree as total_degree};
 ghost use Rattle.gf_exponents.specs.Orders.{lex, deglex};
-ghost use Rattle.gf_poly.specs.Monomial.{IsMonomial, IsWordOf, ProductFits, IsFirstOverflow};
+ghost use Rattle.gf_poly.specs.Monomial.{IsMonomial, IsPlaced, IsWordOf, ProductFits, IsFirstOverflow};
 
 use super::ROOM;
 use smallvec::SmallVec;
@@ -19,18 +20,20 @@ const MOST: u32 = (1 << 31) - 1;
 pub struct Mono {
     total: u64,
     word: u32,
-    exponents: SmallVec<u32, ROOM>,
+    count: u32,
+    places: SmallVec<u32, ROOM>,
 }
 
 impl Model for Mono {
+    ghost use Rattle.std.specs.Prelude.{take};
     ghost use Rattle.gf_exponents.specs.Exponents.{Exponents};
     ghost use Rattle.gf_poly.specs.Monomial.{IsMono};
 
     ghost Value = { Exponents };
 
-    ghost view = { λ m. m.exponents.items };
+    ghost view = { λ m. take m.count m.places.items };
 
-    ghost invariant = { λ m. IsMono m.total m.word m.exponents };
+    ghost invariant = { λ m. IsMono m.total m.word m.count m.places };
 }
 
 /// Two exponents of one variable whose sum is above `2^31 - 1`.
@@ -67,25 +70,59 @@ fn word_of(exponents: &[u32]) -> u32
     word
 }
 
+/// The sum of two exponents.
+fn sum_of(x: u32, y: u32) -> u32
+    requires left { x < 2 ^ 31 }
+    requires right { y < 2 ^ 31 }
+    ensures { result ≡ x + y }
+{
+    x + y
+}
+
+/// Whether sums are within the limit, one more among them.
+fn still_fits(fits: bool, sum: u32) -> bool
+    ensures yes { IsTrue result → IsTrue fits × (sum < 2 ^ 31) }
+    ensures no { IsTrue fits → sum < 2 ^ 31 → IsTrue result }
+{
+    fits & (sum <= MOST)
+}
+
+/// The exponents of the first variable whose sum is above the limit.
+fn first_overflow(x: &[u32], y: &[u32]) -> ExponentOverflow
+    requires left { length x.now ≡ ROOM }
+    requires right { length y.now ≡ ROOM }
+    requires some { ProductFits x.now y.now → ⊥ }
+    ensures { IsFirstOverflow x.now y.now result }
+{
+    'entries: for i in 0..ROOM {
+        let left = u64::from(x[i]);
+        let right = u64::from(y[i]);
+        if left + right > u64::from(MOST) {
+            return ExponentOverflow { left, right };
+        }
+    }
+    unreachable!()
+}
+
 /// The exponents of the product, or the first two whose sum is above the limit.
 fn sums(x: &[u32], y: &[u32]) -> Result<[u32; ROOM], ExponentOverflow>
-    requires same_variables { length x.now ≡ length y.now }
-    requires left { IsMonomial x.now }
-    requires right { IsMonomial y.now }
-    ensures product { IfOk result (λ s. take (length x.now) s ≡ plus x.now y.now) }
+    requires left { length x.now ≡ ROOM }
+    requires right { length y.now ≡ ROOM }
+    requires left_limit { All (λ k. k < 2 ^ 31) x.now }
+    requires right_limit { All (λ k. k < 2 ^ 31) y.now }
+    ensures product { IfOk result (λ s. s ≡ plus x.now y.now) }
     ensures fits { IfOk result (λ s. ProductFits x.now y.now) }
     ensures overflow { IfErr result (IsFirstOverflow x.now y.now) }
 {
     let mut all = [0; ROOM];
-    'entries: for i in 0..x.len() {
-        let sum = u64::from(x[i]) + u64::from(y[i]);
-        if sum >> 31 != 0 {
-            return Err(ExponentOverflow {
-                left: u64::from(x[i]),
-                right: u64::from(y[i]),
-            });
-        }
-        all[i] = sum as u32;
+    let mut fits = true;
+    'entries: for i in 0..ROOM {
+        let sum = sum_of(x[i], y[i]);
+        fits = still_fits(fits, sum);
+        all[i] = sum;
+    }
+    if !fits {
+        return Err(first_overflow(x, y));
     }
     Ok(all)
 }
@@ -105,6 +142,41 @@ fn words_decide(x: u32, y: u32) -> bool
     x & y < x ^ y
 }
 
+/// Whether two monomials have the same exponents in all places.
+fn are_same(x: &[u32], y: &[u32]) -> bool
+    requires left { length x.now ≡ ROOM }
+    requires right { length y.now ≡ ROOM }
+    ensures { IsTrue result ↔ (x.now ≡ y.now) }
+{
+    let mut same = true;
+    'entries: for i in 0..ROOM {
+        same = still_same(same, x[i], y[i]);
+    }
+    same
+}
+
+/// Whether exponents are the same, two more among them.
+fn still_same(same: bool, x: u32, y: u32) -> bool
+    ensures { IsTrue result ↔ (IsTrue same × (x ≡ y)) }
+{
+    same & (x == y)
+}
+
+/// The comparison of lists by the first entry that differs, and then by their lengths.
+fn lex_order(x: &[u32], y: &[u32]) -> Ordering
+    ensures { result ≡ lex x.now y.now }
+{
+    'entries: for i in 0..x.len().min(y.len()) {
+        if x[i] < y[i] {
+            return Ordering::Less;
+        }
+        if x[i] > y[i] {
+            return Ordering::Greater;
+        }
+    }
+    x.len().cmp(&y.len())
+}
+
 /// Whether each exponent of `x` is at most that of `y`.
 fn is_below(x: &[u32], y: &[u32]) -> bool
     requires { length x.now ≡ length y.now }
@@ -120,13 +192,13 @@ fn is_below(x: &[u32], y: &[u32]) -> bool
 
 /// The exponents of `x` less those of `y`.
 fn differences(x: &[u32], y: &[u32]) -> [u32; ROOM]
-    requires same_variables { length x.now ≡ length y.now }
-    requires room { length x.now ≤ ROOM }
+    requires left { length x.now ≡ ROOM }
+    requires right { length y.now ≡ ROOM }
     requires divides { Divides y.now x.now }
-    ensures { take (length x.now) result ≡ minus x.now y.now }
+    ensures { result ≡ minus x.now y.now }
 {
     let mut all = [0; ROOM];
-    'entries: for i in 0..x.len() {
+    'entries: for i in 0..ROOM {
         all[i] = x[i] - y[i];
     }
     all
@@ -134,21 +206,33 @@ fn differences(x: &[u32], y: &[u32]) -> [u32; ROOM]
 
 /// The greater exponent of each variable.
 fn maxima(x: &[u32], y: &[u32]) -> [u32; ROOM]
-    requires same_variables { length x.now ≡ length y.now }
-    requires room { length x.now ≤ ROOM }
-    ensures { take (length x.now) result ≡ join x.now y.now }
+    requires left { length x.now ≡ ROOM }
+    requires right { length y.now ≡ ROOM }
+    ensures { result ≡ join x.now y.now }
 {
     let mut all = [0; ROOM];
-    'entries: for i in 0..x.len() {
+    'entries: for i in 0..ROOM {
         all[i] = if x[i] < y[i] { y[i] } else { x[i] };
+    }
+    all
+}
+
+/// All places of a monomial.
+fn whole(x: &[u32]) -> [u32; ROOM]
+    requires { length x.now ≡ ROOM }
+    ensures { result ≡ x.now }
+{
+    let mut all = [0; ROOM];
+    'entries: for i in 0..ROOM {
+        all[i] = x[i];
     }
     all
 }
 
 /// The exponents, and zeros behind them.
 fn padded(exponents: &[u32]) -> [u32; ROOM]
-    requires { length exponents.now ≤ ROOM }
-    ensures { take (length exponents.now) result ≡ exponents.now }
+    requires { IsMonomial exponents.now }
+    ensures { IsPlaced exponents.now result }
 {
     let mut all = [0; ROOM];
     'entries: for i in 0..exponents.len() {
@@ -177,17 +261,13 @@ impl Mono {
         requires { n ≤ ROOM }
         ensures { result ≡ replicate n 0 }
     {
-        Mono {
-            total: 0,
-            word: 0,
-            exponents: SmallVec::from_buf_and_len(alloc, [0; ROOM], n),
-        }
+        Mono::known(alloc, [0; ROOM], n, 0, 0)
     }
 
     /// The monomial with the first `n` of these exponents, whose sum and word are known.
     fn known(alloc: Global, all: [u32; ROOM], n: usize, total: u64, word: u32) -> Mono
         requires room { n ≤ ROOM }
-        requires exponents { IsMonomial (take n all) }
+        requires placed { IsPlaced (take n all) all }
         requires total { total ≡ total_degree (take n all) }
         requires word { IsWordOf (take n all) word }
         ensures { result ≡ take n all }
@@ -195,8 +275,23 @@ impl Mono {
         Mono {
             total,
             word,
-            exponents: SmallVec::from_buf_and_len(alloc, all, n),
+            count: n as u32,
+            places: SmallVec::from_buf(alloc, all),
         }
+    }
+
+    /// How many variables there are.
+    fn variables(&self) -> usize
+        ensures { result ≡ length self.now }
+    {
+        self.count as usize
+    }
+
+    /// All places, the exponents first.
+    fn places(&self) -> &[u32]
+        ensures { IsPlaced self.now result.now }
+    {
+        self.places.as_slice()
     }
 
     /// The exponents, the first variable first.
@@ -204,18 +299,17 @@ impl Mono {
         ensures value { result.now ≡ self.now }
         ensures valid { IsMonomial self.now }
     {
-        self.exponents.as_slice()
+        &self.places.as_slice()[..self.count as usize]
     }
 
     /// An equal monomial.
     pub fn copy(&self) -> Mono
         ensures { result ≡ self.now }
     {
-        let x = self.exponents();
         Mono::known(
-            *self.exponents.allocator(),
-            padded(x),
-            x.len(),
+            *self.places.allocator(),
+            whole(self.places()),
+            self.variables(),
             self.total,
             self.word,
         )
@@ -250,15 +344,15 @@ impl Mono {
         ensures overflow { IfErr result (λ o. o ≡ record { left = slice_index self.old variable; right = by }) }
         ensures unchanged { OnErr result (self.new ≡ self.old) }
     {
-        let exponents = self.exponents.as_mut_slice();
-        let exponent = exponents[variable];
+        let places = self.places.as_mut_slice();
+        let exponent = places[variable];
         if by > MOST - exponent {
             return Err(ExponentOverflow {
                 left: u64::from(exponent),
                 right: u64::from(by),
             });
         }
-        exponents[variable] = exponent + by;
+        places[variable] = exponent + by;
         self.total += u64::from(by);
         if by != 0 {
             self.word |= 1 << (ROOM - 1 - variable);
@@ -278,12 +372,11 @@ impl Mono {
         ensures fits { IsOk result ↔ ProductFits self.now other.now }
         ensures overflow { IfErr result (IsFirstOverflow self.now other.now) }
     {
-        let x = self.exponents();
-        let all = sums(x, other.exponents())?;
+        let all = sums(self.places(), other.places())?;
         Ok(Mono::known(
-            *self.exponents.allocator(),
+            *self.places.allocator(),
             all,
-            x.len(),
+            self.variables(),
             self.total + other.total,
             self.word | other.word,
         ))
@@ -304,13 +397,13 @@ impl Mono {
         ensures value { result ≡ minus self.now by.now }
         ensures product { plus result by.now ≡ self.now }
     {
-        let x = self.exponents();
-        let all = differences(x, by.exponents());
-        let word = word_of(&all[..x.len()]);
+        let n = self.variables();
+        let all = differences(self.places(), by.places());
+        let word = word_of(&all[..n]);
         Mono::known(
-            *self.exponents.allocator(),
+            *self.places.allocator(),
             all,
-            x.len(),
+            n,
             self.total - by.total,
             word,
         )
@@ -321,20 +414,31 @@ impl Mono {
         requires { length self.now ≡ length other.now }
         ensures { result ≡ join self.now other.now }
     {
-        let x = self.exponents();
-        let all = maxima(x, other.exponents());
-        let total = total_of(&all[..x.len()]);
+        let n = self.variables();
+        let all = maxima(self.places(), other.places());
+        let total = total_of(&all[..n]);
         Mono::known(
-            *self.exponents.allocator(),
+            *self.places.allocator(),
             all,
-            x.len(),
+            n,
             total,
             self.word | other.word,
         )
     }
 
+    /// Whether `other`, which has the same variables, is the same monomial.
+    pub fn is_same(&self, other: &Mono) -> bool
+        requires { length self.now ≡ length other.now }
+        ensures { IsTrue result ↔ (self.now ≡ other.now) }
+    {
+        if self.word() != other.word() {
+            return false;
+        }
+        are_same(self.places(), other.places())
+    }
+
     /// The comparison by lex: the first exponent that differs decides. Where the words do, no exponent is looked at.
-    fn compare_by_lex(&self, other: &Mono) -> Ordering
+    pub(crate) fn compare_by_lex(&self, other: &Mono) -> Ordering
         ensures { result ≡ lex self.now other.now }
     {
         let x = self.word();
@@ -342,7 +446,7 @@ impl Mono {
         if words_decide(x, y) {
             x.cmp(&y)
         } else {
-            self.exponents().cmp(other.exponents())
+            lex_order(self.exponents(), other.exponents())
         }
     }
 

@@ -1,7 +1,7 @@
-use Rattle.std.proofs.Common.{ℕ, ◌-◌, arith}
+use Rattle.std.proofs.Common.{ℕ, ◌-◌, arith, ◌∙◌, sym}
 use Rattle.gf_exponents.specs.Exponents.{minus}
 use Rattle.gf_exponents.proofs.ExponentsLaws.{entry-minus}
-use Rattle.gf_poly.proofs.MonomialLaws.{AreEntries-more, AreEntries-end, entry-get_or, entries_by_divides, length-minus}
+use Rattle.gf_poly.proofs.MonomialLaws.{AreEntries-more, AreEntries-all, entry-get_or, entries_by_divides, length-minus}
 use Rattle.gf_poly.proofs.monomial.differences.Goals as goal
 
 pub overflow_sub-all : goal.overflow_sub-all
@@ -11,4 +11,4 @@ pub entries-preserved : goal.entries-preserved
 entries-preserved c = AreEntries-more (λ (a b : ℕ). a - b) c.args.x.now c.args.y.now c.entries.all c.entries.i _ (omega arith) (omega (arith, entry-get_or c.args.x.now c.entries.i, entry-get_or c.args.y.now c.entries.i)) c.entries.invariant
 
 pub returns : goal.returns
-returns c = AreEntries-end (λ (a b : ℕ). a - b) c.args.x.now c.args.y.now (minus c.args.x.now c.args.y.now) c.entries.all c.entries.i c.entries-test.false c.requires.room (length-minus c.args.x.now c.args.y.now c.requires.same_variables) (entry-minus c.args.x.now c.args.y.now) c.entries.invariant
+returns c = AreEntries-all (λ (a b : ℕ). a - b) c.args.x.now c.args.y.now (minus c.args.x.now c.args.y.now) c.entries.all c.entries.i c.requires.left (omega arith) (length-minus c.args.x.now c.args.y.now (c.requires.left ∙ sym c.requires.right) ∙ c.requires.left) (entry-minus c.args.x.now c.args.y.now) c.entries.invariant

@@ -1,8 +1,8 @@
-use Rattle.std.proofs.Common.{ℕ, arith}
+use Rattle.std.proofs.Common.{ℕ, arith, ◌∙◌, sym}
 use Rattle.std.specs.Prelude.{max}
 use Rattle.gf_exponents.specs.Exponents.{join}
 use Rattle.gf_exponents.proofs.ExponentsLaws.{entry-join}
-use Rattle.gf_poly.proofs.MonomialLaws.{AreEntries-more, AreEntries-end, entry-get_or, length-join}
+use Rattle.gf_poly.proofs.MonomialLaws.{AreEntries-more, AreEntries-all, entry-get_or, length-join}
 use Rattle.gf_poly.proofs.monomial.maxima.Goals as goal
 use Rattle.gf_poly.proofs.monomial.maxima.Goals.{then-x-i, else-x-i}
 
@@ -13,4 +13,4 @@ entries-preserved c = AreEntries-more (λ (a b : ℕ). max a b) c.args.x.now c.a
 ]) c.entries.invariant
 
 pub returns : goal.returns
-returns c = AreEntries-end (λ (a b : ℕ). max a b) c.args.x.now c.args.y.now (join c.args.x.now c.args.y.now) c.entries.all c.entries.i c.entries-test.false c.requires.room (length-join c.args.x.now c.args.y.now c.requires.same_variables) (entry-join c.args.x.now c.args.y.now) c.entries.invariant
+returns c = AreEntries-all (λ (a b : ℕ). max a b) c.args.x.now c.args.y.now (join c.args.x.now c.args.y.now) c.entries.all c.entries.i c.requires.left (omega arith) (length-join c.args.x.now c.args.y.now (c.requires.left ∙ sym c.requires.right) ∙ c.requires.left) (entry-join c.args.x.now c.args.y.now) c.entries.invariant
