@@ -10,6 +10,7 @@ ghost use Rattle.gf_cone.specs.Cones.{all_rows, normal_at, other_rows, HasRowsOf
 ghost use Rattle.gf_cone.specs.Answers.{IsNormalStep};
 ghost use Rattle.gf_cone.specs.Crossing.{IsCrossable, IsRemembered, LeadsUpAt, IsFlipDecided, IsCrossingDecided, IsLeastUp, IsWayFrom, IsWayShown, SomeUpBefore, IsStepBefore};
 
+use crate::aims::aimed;
 use crate::answer::Way;
 use crate::checks::{is_sum, none_negative, shows, some_positive};
 use crate::cone::Cone;
@@ -342,6 +343,10 @@ impl KnownCone {
         if let Some(known) = self.told(place) {
             return Ok(known);
         }
+        if let Some(witness) = self.point_of_shot(place) {
+            self.set(place, Known::Yes(witness));
+            return Ok(true);
+        }
         self.settle(place)
     }
 
@@ -531,20 +536,37 @@ impl KnownCone {
         Ok(true)
     }
 
-    /// The point of a shot against the normal at a place, where it is seen to show that a flip may cross its facet.
+    /// The point of one of a few shots aimed at the normal at a place.
+    fn aim(&self, place: usize) -> Option<IntVec> {
+        let Some(inner) = &self.hints.inner else {
+            return None;
+        };
+        match aimed(
+            self.alloc,
+            &self.cone,
+            self.hints.values.as_slice(),
+            inner.as_slice(),
+            place,
+        ) {
+            Ok(point) => point,
+            Err(_error) => None,
+        }
+    }
+
+    /// The point of a shot aimed at the normal at a place, where it is seen to show that a flip may cross its facet.
     fn point_of_shot(&self, place: usize) -> Option<IntVec>
         requires { place < length self.now.normals }
         ensures { IfSome result (IsSolution self.now.variables (other_rows self.now place) (normal_at self.now place ∷ [])) }
     {
-        let (hit, point) = self.hit_against(place)?;
-        if hit == place && self.is_shown_by(place, &point) {
+        let point = self.aim(place)?;
+        if self.is_shown_by(place, &point) {
             Some(point)
         } else {
             None
         }
     }
 
-    /// What `crossing` answers where nothing is known: sums of two, a shot and the system itself decide, in this order.
+    /// What `crossing` answers where nothing is known: sums of two, a few shots and the system itself decide, in this order.
     ///
     /// # Errors
     /// A step of the system that leaves the range; want of memory.
@@ -590,7 +612,7 @@ impl KnownCone {
     /// A vector that shows that a flip may cross the facet of the normal at a place, counted from 0: it is positive, zero on
     /// the normal, and positive on all other normals. None where no flip may cross it.
     ///
-    /// What is known is told; else sums of two, a shot and the system itself decide, in this order. Nothing is learned.
+    /// What is known is told; else sums of two, a few shots and the system itself decide, in this order. Nothing is learned.
     ///
     /// # Errors
     /// What `is_flippable` refuses at this place.
