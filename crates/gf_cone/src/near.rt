@@ -12,7 +12,7 @@ use gf_vec::{IntVec, VecError, product, quotient, total};
 use std::alloc::Global;
 
 /// Vectors of the inside are kept with entries up to this one where that can be done.
-const LARGEST: i128 = 16384;
+const LARGEST: i128 = 32768;
 
 /// The least number from 1 on, so many times `near` less `normal` is positive on all rows; none where a row has no such number, or a
 /// product or sum leaves the range.
@@ -105,14 +105,14 @@ pub fn is_inside(cone: &Cone, v: &IntVec) -> bool
 fn small_near(alloc: Global, cone: &Cone, v: &[i128]) -> Option<IntVec>
     ensures { IfSome result (IsSolution cone.now.variables (all_rows cone.now) []) }
 {
-    let mut scale = 6;
-    for _ in 0..12 {
+    let mut scale = 32;
+    for _ in 0..6 {
         if let Ok(Some(small)) = rounded(alloc, v, scale)
             && is_inside(cone, &small)
         {
             return Some(small);
         }
-        match product(scale, 2) {
+        match product(scale, 4) {
             Ok(next) => scale = next,
             Err(_error) => return None,
         }
