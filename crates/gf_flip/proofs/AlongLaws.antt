@@ -1,17 +1,20 @@
 -- The terms along a vector, one term and one member after another.
--- To cite: selected-kept, selected-dropped, along_selected, along_more, width_at.
-use Rattle.std.proofs.Common.{◌≡◌, ℕ, zero, suc, ◌+◌, ◌<◌, ◌≤◌, if◌then◌else◌, List, [], ◌∷◌, ◌++◌, length, take, get_or, ℤ, arith, refl, sym, ap, ◌∙◌, subst, inl, inr}
+-- To cite: selected-kept, selected-dropped, marked_along, marked_here, along_selected, along_more, width_at.
+use Rattle.std.proofs.Common.{◌≡◌, ◌⊎◌, true, eqb, ℕ, zero, suc, ◌+◌, ◌<◌, ◌≤◌, if◌then◌else◌, List, [], ◌∷◌, ◌++◌, length, take, get_or, ℤ, arith, refl, sym, ap, ◌∙◌, subst, inl, inr}
+use Rattle.std.proofs.lemmas.Bool.{cases_eq, ne_eqb, false≢true}
 use Rattle.std.proofs.lemmas.List.{take_more, take_all}
 use Rattle.std.proofs.lemmas.List.Elements.{Contains-append_left, Contains-append_right, Contains-append_cases}
 use Rattle.gf_frac.specs.Fraction.{◌+ℚ◌, zero_ℚ}
 use Rattle.gf_exponents.specs.Exponents.{Exponents, same}
+use Rattle.gf_exponents.proofs.ExponentsLaws.{same_of}
 use Rattle.gf_int.proofs.ListLaws.{Contains-here}
 use Rattle.gf_poly.specs.declared.Term.{Term}
 use Rattle.gf_poly.specs.Polynomial.{Terms, coefficient, HasVariables, IsAbove, IsDescending}
-use Rattle.gf_poly.specs.Marking.{MarkedPolynomial}
+use Rattle.gf_poly.specs.Marking.{MarkedPolynomial, head_of}
 use Rattle.gf_ideal.specs.OrderTable.{AreMultipleApart}
 use Rattle.gf_ideal.proofs.ListLaws.{Contains-cases}
 use Rattle.gf_ideal.proofs.GeneratorLaws.{polys-++}
+use Rattle.gf_division.proofs.TailLaws.{head_at}
 use Rattle.gf_initial.specs.Parts.{IsPartAlong}
 use Rattle.gf_initial.proofs.ClassLaws.{multiple-grading}
 use Rattle.gf_initial.proofs.MatchingLaws.{matched-push}
@@ -66,6 +69,21 @@ off_selected a n h f g x (IsSelected.kept s k l q r) p =
     elsewhere s l x (not_same x s.mono (λ e. p (m.transitive x s.mono h (m.along x s.mono e) q))) ∙ off_selected a n h k l x r p
 off_selected a n h f g x (IsSelected.dropped s k l q r) p = off_selected a n h k g x r p
 
+-- the term at the marked place is along
+pub marked_along : (a : List ℤ) (x h : Exponents) → HasNonzero a → x ≡ h → AreMultipleApart a x h
+marked_along a x h n e = (multiple-grading a n).along x h (same_of x h e)
+
+pub same_apart : (a : List ℤ) (x y z w : Exponents) → x ≡ z → y ≡ w → (AreMultipleApart a x y → AreMultipleApart a z w) × (AreMultipleApart a z w → AreMultipleApart a x y)
+same_apart a x y z w e q = (λ m. subst (λ (u : Exponents). AreMultipleApart a u w) e (subst (AreMultipleApart a x) q m), λ m. subst (λ (u : Exponents). AreMultipleApart a u y) (sym e) (subst (AreMultipleApart a z) (sym q) m))
+
+-- and the term at the place i is it where i is that place
+pub marked_here : (b : MarkedPolynomial) (i m : ℕ) (f : Terms) (t : Term) → f ≡ b.poly → i < length f → t ≡ get_or f i t → head_of b.poly m ≡ b.head → eqb i m ≡ true → t.mono ≡ b.head
+marked_here b i m f t q l e h r = at (cases_eq i m)
+  where
+    at : (i ≡ m) ⊎ (i ≡ m → ⊥) → t.mono ≡ b.head
+    at (inl p) = sym (head_at f i t l e) ∙ ap (λ (z : Terms). head_of z i) q ∙ ap (head_of b.poly) p ∙ h
+    at (inr p) = absurd (false≢true (sym (ne_eqb i m p) ∙ r))
+
 -- all terms along a vector
 pub along_selected : (a : List ℤ) (b : MarkedPolynomial) (f g : Terms) → HasNonzero a → f ≡ b.poly → IsDescending f →
     IsSelected (IsTermAlong a b.head) f g → IsAlong a b g
@@ -106,21 +124,21 @@ width_at n f g t i v e l q = at f i (subst (HasVariables n) (sym e) v) l q
     at (s ∷ f) (suc i) v l q = at f i v.1 (omega arith) q
 
 -- a term that is kept
-pub more_kept : (a : List ℤ) (h x y : Exponents) (f old new : Terms) (t : Term) (i : ℕ) → i < length f → t ≡ get_or f i t →
-    x ≡ t.mono → y ≡ h → AreMultipleApart a x y → new ≡ old ++ t ∷ [] → IsSelected (IsTermAlong a h) (take i f) old →
+pub more_kept : (a : List ℤ) (h : Exponents) (f old new : Terms) (t : Term) (i : ℕ) → i < length f → t ≡ get_or f i t →
+    AreMultipleApart a t.mono h → new ≡ old ++ t ∷ [] → IsSelected (IsTermAlong a h) (take i f) old →
     IsSelected (IsTermAlong a h) (take (i + 1) f) new
-more_kept a h x y f old new t i l q ex ey m e s =
+more_kept a h f old new t i l q m e s =
     subst (λ (z : Terms). IsSelected (IsTermAlong a h) z new) (sym (take-next f i t l q))
     (subst (λ (z : Terms). IsSelected (IsTermAlong a h) (take i f ++ t ∷ []) z) (sym e)
-    (selected-kept (IsTermAlong a h) (take i f) old t s (subst (λ (z : Exponents). AreMultipleApart a z h) ex (subst (λ (z : Exponents). AreMultipleApart a x z) ey m))))
+    (selected-kept (IsTermAlong a h) (take i f) old t s m))
 
 -- and one that isn't
-pub more_dropped : (a : List ℤ) (h x y : Exponents) (f old : Terms) (t : Term) (i : ℕ) → i < length f → t ≡ get_or f i t →
-    x ≡ t.mono → y ≡ h → (AreMultipleApart a x y → ⊥) → IsSelected (IsTermAlong a h) (take i f) old →
+pub more_dropped : (a : List ℤ) (h : Exponents) (f old : Terms) (t : Term) (i : ℕ) → i < length f → t ≡ get_or f i t →
+    (AreMultipleApart a t.mono h → ⊥) → IsSelected (IsTermAlong a h) (take i f) old →
     IsSelected (IsTermAlong a h) (take (i + 1) f) old
-more_dropped a h x y f old t i l q ex ey n s =
+more_dropped a h f old t i l q n s =
     subst (λ (z : Terms). IsSelected (IsTermAlong a h) z old) (sym (take-next f i t l q))
-    (selected-dropped (IsTermAlong a h) (take i f) old t s (λ m. n (subst (λ (z : Exponents). AreMultipleApart a x z) (sym ey) (subst (λ (z : Exponents). AreMultipleApart a z h) (sym ex) m))))
+    (selected-dropped (IsTermAlong a h) (take i f) old t s n)
 
 -- at the end
 pub all_selected : (a : List ℤ) (h : Exponents) (f g : Terms) (i : ℕ) → length f ≤ i → IsSelected (IsTermAlong a h) (take i f) g →

@@ -1,8 +1,8 @@
 -- Tails of lifts: which stay as they are, and that the others are reduced by all of them.
--- To cite: ArePassed, passed_at, passed_more, stays_at, copies_more, copies-length, copied_at,
+-- To cite: copied_to-more, undivided-start, undivided-end, ArePassed, passed_at, passed_more, stays_at, copies_more, copies-length, copied_at,
 -- undivided_along, stay_reduced.
 use Rattle.std.proofs.Common.{◌≡◌, ◌⊎◌, ℕ, zero, suc, ◌+◌, ◌<◌, ◌≤◌, Bool, true, false, List, [], ◌∷◌, ◌++◌, length, take, get_or, Contains, arith, refl, sym, ap, ◌∙◌, subst, inl, inr, eqb}
-use Rattle.std.proofs.lemmas.Bool.{cases_eq, ne_eqb, false≢true}
+use Rattle.std.proofs.lemmas.Bool.{cases_eq, cases_lt, ne_eqb, false≢true}
 use Rattle.std.proofs.lemmas.List.{take_more, take_all, get_or_default}
 use Rattle.gf_exponents.specs.Exponents.{Exponents, same, plus, Divides}
 use Rattle.gf_exponents.proofs.ExponentsLaws.{same_of, same_along, same_trans}
@@ -18,7 +18,29 @@ use Rattle.gf_division.proofs.ReducerLaws.{members_equal}
 use Rattle.gf_division.proofs.StepLaws.{head_length}
 use Rattle.gf_division.proofs.TailLaws.{head_at}
 use Rattle.gf_initial.proofs.MatchingLaws.{matched-push}
-use Rattle.gf_flip.specs.LiftTails.{IsCopy, AreCopies, AreUndivided, HasUndividedTail, HasUndividedTailAt, HasReducedTail}
+use Rattle.gf_flip.specs.LiftTails.{IsCopy, AreCopies, AreCopiedTo, AreSparedBeside, AreUndivided, HasUndividedTail, HasUndividedTailAt, HasReducedTail}
+
+-- ---- where the lifts are that aren't copied
+
+pub copied_to-more : (flags : List Bool) (j : ℕ) → get_or flags j false ≡ true → AreCopiedTo flags j → AreCopiedTo flags (j + 1)
+copied_to-more flags j e h k l = at (cases_lt k j)
+  where
+    at : (k < j) ⊎ (j ≤ k) → get_or flags k false ≡ true
+    at (inl m) = h k m
+    at (inr m) = subst (λ (z : ℕ). get_or flags z false ≡ true) (omega (arith, l, m)) e
+
+-- before the first place of those that are tried nothing divides that is tried
+pub undivided-start : (ls : List MarkedPolynomial) (flags : List Bool) (copied : Bool) (x : Exponents) (first end : ℕ) → AreSparedBeside flags copied first end → AreUndivided ls flags copied x first
+undivided-start ls flags copied x first end s = record { none = λ j b l a n d. n (s.front j l).0 (s.front j l).1 }
+
+-- nor from the end on
+pub undivided-end : (ls : List MarkedPolynomial) (flags : List Bool) (copied : Bool) (x : Exponents) (first end i : ℕ) → length flags ≡ length ls → AreSparedBeside flags copied first end → end ≤ i →
+    AreUndivided ls flags copied x i → AreUndivided ls flags copied x (length ls)
+undivided-end ls flags copied x first end i e s l u = record { none = λ j b m a n d. at j b m a n d (cases_lt j i) }
+  where
+    at : (j : ℕ) (b : MarkedPolynomial) → j < length ls → IsAt ls j b → (copied ≡ true → get_or flags j false ≡ true → ⊥) → Divides b.head x → (j < i) ⊎ (i ≤ j) → ⊥
+    at j b m a n d (inl r) = u.none j b r a n d
+    at j b m a n d (inr r) = let w = s.back j (omega (arith, l, r)) (omega (arith, m, e)) in n w.0 w.1
 
 -- ---- the terms of a lift
 

@@ -1,16 +1,15 @@
 -- Members that are needed and settled: kept one after another, they are the list autoreduced.
--- To cite: undivided_more, undivided_form, settled_at, picked-more, AreKeptUp, kept_up-none, kept_up-more, kept_up_end, kept_variables, reduced_form, reduced_as.
+-- To cite: undivided_more, undivided_form, settled_at, standing_itself, picked-more, AreKeptUp, kept_up-none, kept_up-next, kept_up-flag, kept_up_end, kept_variables, reduced_form, reduced_as.
 use Rattle.std.proofs.Common.{◌≡◌, ◌⊎◌, ℕ, ◌+◌, ◌<◌, ◌≤◌, Bool, true, false, List, [], ◌∷◌, ◌++◌, length, take, drop, remove, get_or, Contains, Some, None, arith, refl, sym, ap, ◌∙◌, subst, inl, inr}
 use Rattle.std.proofs.lemmas.Bool.{cases_lt}
 use Rattle.std.proofs.lemmas.List.{take_more, take_all, drop_more, get_or_append_left, get_or_push}
 use Rattle.std.proofs.lemmas.List.Elements.{Contains-push_cases}
 use Rattle.gf_frac.specs.Fraction.{one_ℚ}
-use Rattle.gf_exponents.specs.Exponents.{Exponents, same}
-use Rattle.gf_exponents.proofs.ExponentsLaws.{same-refl}
+use Rattle.gf_exponents.specs.Exponents.{Exponents, same, Divides}
+use Rattle.gf_exponents.proofs.ExponentsLaws.{same-refl, same_of}
 use Rattle.gf_poly.specs.declared.Term.{Term}
 use Rattle.gf_poly.specs.Polynomial.{Terms, HasVariables}
 use Rattle.gf_poly.specs.Marking.{MarkedPolynomial, MarkedPolynomials, HaveVariables, HasMark, HasMarkedTerm, IsArranged}
-use Rattle.gf_ideal.specs.Membership.{HasMonomial}
 use Rattle.gf_ideal.specs.Marks.{HasPositiveWeight, IsRealisable}
 use Rattle.gf_ideal.specs.Reduction.{IsDivisible, IsIrreducible}
 use Rattle.gf_ideal.specs.NormalForms.{IsNormalForm, IsRuleReached}
@@ -25,7 +24,7 @@ use Rattle.gf_division.proofs.StepLaws.{head_length}
 use Rattle.gf_division.proofs.RuleLaws.{irreducible_whole}
 use Rattle.gf_division.proofs.TailLaws.{irreducible_beside}
 use Rattle.gf_division.proofs.MonicLaws.{monic_already}
-use Rattle.gf_division.proofs.NeededLaws.{Forming, forming-none, forming-more, forming-skipped, forming_end, forming_variables}
+use Rattle.gf_division.proofs.NeededLaws.{NeededSoFar, Forming, forming-none, forming-more, forming-skipped, forming_end, forming_variables}
 use Rattle.gf_division.proofs.AutoreductionLaws.{Autoreducing, autoreducing, autoreduced_value, autoreduced_arranged, autoreduced_marked, autoreduced_reduced}
 use Rattle.gf_flip.specs.Settling.{IsSettled, IsSettledAt, IsPick, ArePickFlags, IsKeptWhere, IsPickedFrom, IsReducedForm}
 use Rattle.gf_flip.proofs.TailsInTurn.{by_place}
@@ -49,9 +48,9 @@ undivided_form bs f n = record { reached = IsRuleReached.here f (λ x. refl); ir
 
 -- ---- one member
 
-pub settled_at : (bs : List MarkedPolynomial) (b : MarkedPolynomial) (i : ℕ) (h : Exponents) (f : Terms) → ShareSomeVariables bs → i < length bs → b ≡ get_or bs i b → HasMarkedTerm b → HasMark b one_ℚ →
-    h ≡ b.head → f ≡ b.poly → AreIrreducible bs (Some h) f → IsSettledAt bs i
-settled_at bs b i h f v l q m o eh ef a = record { at = λ c p. subst (IsSettled bs) (members_equal bs i b c (member_at bs i b l q) p) here }
+pub settled_at : (bs : List MarkedPolynomial) (b : MarkedPolynomial) (i : ℕ) → ShareSomeVariables bs → i < length bs → b ≡ get_or bs i b → HasMarkedTerm b → HasMark b one_ℚ →
+    AreIrreducible bs (Some b.head) b.poly → IsSettledAt bs i
+settled_at bs b i v l q m o a = record { at = λ c p. subst (IsSettled bs) (members_equal bs i b c (member_at bs i b l q) p) here }
   where
     vars : HasVariables v.n b.poly
     vars = member_variables v.n bs b v.each (member_contained bs i b (member_at bs i b l q))
@@ -59,9 +58,19 @@ settled_at bs b i h f v l q m o eh ef a = record { at = λ c p. subst (IsSettled
     here : IsSettled bs b
     here = record {
       monic = monic_already b (record { n = v.n; each = vars }) m o;
-      tail = λ x t d. subst (λ (z : Exponents). same x z ≡ true) eh (irreducible_beside bs h f a x (subst (λ (z : Terms). HasMonomial z x) (sym ef) t) d);
+      tail = irreducible_beside bs b.head b.poly a;
       kept = record { at = λ w u. record { variables = u; descending = m.descending; head = head_length w b u m } };
     }
+
+-- the member at the place i doesn't make itself needless
+pub standing_itself : (bs : List MarkedPolynomial) (i : ℕ) (b : MarkedPolynomial) (x : Exponents) → IsAt bs i b → x ≡ b.head → NeededSoFar bs i i x → NeededSoFar bs i (i + 1) x
+standing_itself bs i b x p e h = record { least = λ k c l m d. at k c (cases_lt k i) l m d }
+  where
+    at : (k : ℕ) (c : MarkedPolynomial) → (k < i) ⊎ (i ≤ k) → k < i + 1 → IsAt bs k c → Divides c.head x → (same c.head x ≡ true) × (i ≤ k)
+    at k c (inl q) l m d = h.least k c q m d
+    at k c (inr q) l m d =
+        let r : k ≡ i = omega (arith, q, l) in
+        (same_of c.head x (ap (λ (z : MarkedPolynomial). z.head) (members_equal bs i c b (subst (λ (z : ℕ). IsAt bs z c) r m) p) ∙ sym e), q)
 
 -- ---- the flags
 
@@ -93,7 +102,7 @@ pub record AreKeptUp (bs left ks : List MarkedPolynomial) (i : ℕ) : Type 0 whe
 pub kept_up-none : (bs left ks : List MarkedPolynomial) → left ≡ bs → ks ≡ [] → AreKeptUp bs left ks 0
 kept_up-none bs left ks e q = subst (λ (z : List MarkedPolynomial). AreKeptUp bs left z 0) (sym q) (record { rest = e; size = omega (arith, ap length e); forming = forming-none bs; inside = λ k c. absurd (omega (arith, c.1)) })
 
-pub kept_up-more : (bs left next ks new : List MarkedPolynomial) (flags : List Bool) (i : ℕ) (b : MarkedPolynomial) → ArePickFlags bs flags (length bs) → i < length flags → b ≡ get_or left 0 b → next ≡ remove left 0 →
+kept_up-more : (bs left next ks new : List MarkedPolynomial) (flags : List Bool) (i : ℕ) (b : MarkedPolynomial) → ArePickFlags bs flags (length bs) → i < length flags → b ≡ get_or left 0 b → next ≡ remove left 0 →
     IsKeptWhere (get_or flags i false) b ks new → AreKeptUp bs left ks i → AreKeptUp bs next new (i + 1)
 kept_up-more bs left next ks new flags i b p l e n k h = at (get_or flags i false) (p.at i within) k
   where
@@ -124,6 +133,15 @@ kept_up-more bs left next ks new flags i b p l e n k h = at (get_or flags i fals
         one c (inl m) = h.inside c m
         one c (inr r) = subst (λ (z : MarkedPolynomial). Contains bs z × IsSettled bs z) r (member_contained bs i b here, g.1.at b here)
     at false g k = subst (λ (z : List MarkedPolynomial). AreKeptUp bs next z (i + 1)) (sym k) (record { rest = after; size = size; forming = forming-skipped bs i ks g h.forming; inside = h.inside })
+
+-- where a member is left, there is a flag for it
+pub kept_up-flag : (bs left next ks : List MarkedPolynomial) (flags : List Bool) (i : ℕ) (b : MarkedPolynomial) → ArePickFlags bs flags (length bs) → left ≡ b ∷ next → AreKeptUp bs left ks i → i < length flags
+kept_up-flag bs left next ks flags i b p e h = omega (arith, p.size, h.size, ap (λ (z : List MarkedPolynomial). length z) e)
+
+pub kept_up-next : (bs left next ks new : List MarkedPolynomial) (flags : List Bool) (i : ℕ) (b : MarkedPolynomial) → ArePickFlags bs flags (length bs) → left ≡ b ∷ next →
+    IsKeptWhere (get_or flags i false) b ks new → AreKeptUp bs left ks i → AreKeptUp bs next new (i + 1)
+kept_up-next bs left next ks new flags i b p e k h =
+    kept_up-more bs left next ks new flags i b p (kept_up-flag bs left next ks flags i b p e h) (sym (ap (λ (z : List MarkedPolynomial). get_or z 0 b) e)) (sym (ap (λ (z : List MarkedPolynomial). remove z 0) e)) k h
 
 pub kept_up_end : (bs left ks : List MarkedPolynomial) (flags : List Bool) (i : ℕ) → ArePickFlags bs flags (length bs) → length flags ≤ i → AreKeptUp bs left ks i → IsPickedFrom bs ks
 kept_up_end bs left ks flags i p l h = record {

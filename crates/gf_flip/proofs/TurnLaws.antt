@@ -1,5 +1,5 @@
 -- A run that takes the pairs in turn, one step further, and its end: a reduced Gröbner basis.
--- To cite: turn_reducers, entering-start, entering-sorted, entering-taken, entering_end, turning-start, chained_by, turned_on, turning-row, turn_end.
+-- To cite: turn_reducers, entering-start, entering-sorted, entering-taken, entering_end, whole-start, single_more, chained_by, turned_on, turning-row, turn_end.
 use Rattle.std.proofs.Common.{◌≡◌, ◌≢◌, ◌⊎◌, ℕ, zero, suc, ◌+◌, ◌<◌, ◌≤◌, true, false, List, [], ◌∷◌, ◌++◌, length, take, Contains, Some, None, IfSome, slice_index_or, arith, refl, sym, ap, ◌∙◌, subst, inl, inr}
 use Rattle.std.specs.Option.{is_some}
 use Rattle.std.specs.declared.option.Option.{Option}
@@ -14,7 +14,7 @@ use Rattle.gf_poly.specs.Marking.{MarkedPolynomial, polys, head_of, Each, HaveVa
 use Rattle.gf_poly.proofs.MonomialLaws.{length-join, plus-minus}
 use Rattle.gf_ideal.specs.Membership.{HasMonomial, AreInVariables, IsInVariables, IsMember}
 use Rattle.gf_ideal.specs.Marks.{AreMarked}
-use Rattle.gf_ideal.specs.Reduction.{Reached, IsKept, IsMonicForm}
+use Rattle.gf_ideal.specs.Reduction.{Reached, IsKept, IsMonicForm, HasOneMonomial}
 use Rattle.gf_ideal.specs.Settled.{IsAt, IsSettledPair}
 use Rattle.gf_ideal.specs.WorkLists.{IsOrigin, IsWorkList}
 use Rattle.gf_ideal.proofs.CriteriaLaws.{pair_by_steps, pair_by_product, pair_by_monomials, pair_by_chain, pair_turned, pair_more}
@@ -41,8 +41,8 @@ use Rattle.gf_buchberger.proofs.JobLaws.{ring_variables, run_weight}
 use Rattle.gf_buchberger.proofs.ReducedPairLaws.{AreRead, are_read, variables_each, s_polynomial_is, s_polynomial_variables}
 use Rattle.gf_buchberger.proofs.RunSteps.{in_variables, length-last, contained_old, at_old, appended-variables}
 use Rattle.gf_flip.proofs.CoverLaws.{covered_pair}
-use Rattle.gf_flip.specs.Turns.{ArePairExcused, IsChained, IsMadeFrom, IsGrown, IsTakenIn, IsPairTaken, IsSortedIn, IsUnderway, AreTakenIn, IsEarlier, HasTurning, KeepsTurning, IsTurning, AreKeptIn}
-use Rattle.gf_division.proofs.ReducerLaws.{members_equal}
+use Rattle.gf_flip.specs.Turns.{ArePairExcused, IsChained, IsMadeFrom, IsGrown, IsTakenIn, IsPairTaken, IsSortedIn, IsUnderway, AreTakenIn, AreSingleTo, IsEarlier, HasTurning, KeepsTurning, IsTurning, AreKeptIn}
+use Rattle.gf_division.proofs.ReducerLaws.{member_at, members_equal}
 use Rattle.std.proofs.lemmas.List.Elements.{Contains-push, Contains-append_left, Contains-append_right, Contains-append_cases}
 use Rattle.gf_int.proofs.ListLaws.{Contains-here}
 
@@ -213,9 +213,6 @@ entered-kept : (n : ℕ) (fs : List Terms) (old new : List MarkedPolynomial) →
 entered-kept n fs old new v k h = record { inside = λ f c. member_kept n old new f (in_variables n new v) k (h.inside f c) }
 
 -- ---- the pairs
-
-pub turning-start : (order : MonomialOrder) (n : ℕ) (fs : List Terms) (bs : List MarkedPolynomial) → IsUnderway order n fs bs → IsTurning order n fs bs 0 0
-turning-start order n fs bs u = record { underway = u; settled = λ p q b c l e x y. elim e [ inl m ↦ absurd (omega arith) | inr m ↦ absurd (omega (arith, m.1)) ] }
 
 -- the row is done
 pub turning-row : (order : MonomialOrder) (n : ℕ) (fs : List Terms) (bs : List MarkedPolynomial) (i j : ℕ) → j ≤ i → IsTurning order n fs bs i j → IsTurning order n fs bs 0 (j + 1)
@@ -416,8 +413,20 @@ pub record IsWhole (order : MonomialOrder) (n : ℕ) (fs : List Terms) (bs : Lis
   pub entered : AreTakenIn n fs bs
   pub within : j ≤ length bs
 
-pub whole-start : (order : MonomialOrder) (n : ℕ) (fs : List Terms) (bs : List MarkedPolynomial) → IsUnderway order n fs bs → AreTakenIn n fs bs → IsWhole order n fs bs 0
-whole-start order n fs bs u h = record { turning = turning-start order n fs bs u; entered = h; within = omega arith }
+-- the pairs of members that are one term alone are settled
+pub whole-start : (order : MonomialOrder) (n : ℕ) (fs : List Terms) (bs : List MarkedPolynomial) (k : ℕ) → IsUnderway order n fs bs → AreTakenIn n fs bs → k ≤ length bs → AreSingleTo bs k → IsWhole order n fs bs k
+whole-start order n fs bs k u h l s = record { turning = record { underway = u; settled = λ p q b c m e x y. at p q b c m e x y }; entered = h; within = l }
+  where
+    at : (p q : ℕ) (b c : MarkedPolynomial) → p < q → IsEarlier p q 0 k → IsAt bs p b → IsAt bs q c → IsSettledPair n bs (below_of order) b c
+    at p q b c m (inl e) x y = excused_pair order n fs bs p q b c u x y (inl (s p b (omega (arith, m, e)) x, s q c e y))
+    at p q b c m (inr e) x y = absurd (omega (arith, e.1))
+
+pub single_more : (bs : List MarkedPolynomial) (k : ℕ) (b : MarkedPolynomial) → k < length bs → b ≡ slice_index_or bs k b → HasOneMonomial b → AreSingleTo bs k → AreSingleTo bs (k + 1)
+single_more bs k b l e o s j c m a = at (cases_lt j k)
+  where
+    at : (j < k) ⊎ (k ≤ j) → HasOneMonomial c
+    at (inl r) = s j c r a
+    at (inr r) = subst HasOneMonomial (members_equal bs j b c (subst (λ (z : ℕ). IsAt bs z b) (omega (arith, r, m)) (member_at bs k b l e)) a) o
 
 pub whole-more : (order : MonomialOrder) (n : ℕ) (fs : List Terms) (old new : List MarkedPolynomial) (j : ℕ) → KeepsTurning order n old 0 j new 0 (j + 1) → AreKeptIn old new → length old ≤ length new → j < length old → IsWhole order n fs old j → IsWhole order n fs new (j + 1)
 whole-more order n fs old new j t k l m h = let s = t.at fs h.turning in record { turning = s; entered = entered-kept n fs old new s.underway.variables k h.entered; within = omega (arith, l, m) }

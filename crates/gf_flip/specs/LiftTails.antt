@@ -1,6 +1,6 @@
 -- Tails of lifts, as the code reduces them in place, one lift after another: which stay as they are, and what the others
 -- become. Laws: proofs/LiftTailLaws.antt, proofs/TailsInTurn.antt, proofs/LiftedTails.antt.
-use Rattle.std.specs.Prelude.{◌≡◌, ◌⊎◌, ℕ, ◌+◌, ◌<◌, Bool, true, false, Some, List, length, set, Contains, slice_index_or}
+use Rattle.std.specs.Prelude.{◌≡◌, ◌⊎◌, ℕ, ◌+◌, ◌<◌, ◌≤◌, Bool, true, false, Some, List, length, set, Contains, slice_index_or}
 use Rattle.gf_exponents.specs.Exponents.{Exponents, same, Divides}
 use Rattle.gf_poly.specs.declared.Term.{Term}
 use Rattle.gf_poly.specs.Marking.{MarkedPolynomial, Each}
@@ -19,6 +19,26 @@ IsCopy bs l false = Unit {0}
 -- so it is with each
 abbrev pub AreCopies : List MarkedPolynomial → List MarkedPolynomial → List Bool → Type 0
 AreCopies bs ls flags = Matching (IsCopy bs) ls flags
+
+-- the first k flags are set
+abbrev pub AreCopiedTo : List Bool → ℕ → Type 0
+AreCopiedTo flags k = (j : ℕ) → j < k → slice_index_or flags j false ≡ true
+
+-- so are those from the place k on that are before the place i
+abbrev pub AreCopiedFrom : List Bool → ℕ → ℕ → Type 0
+AreCopiedFrom flags k i = (j : ℕ) → k ≤ j → j < i → slice_index_or flags j false ≡ true
+
+-- so are all before the first place and from the end on
+pub record AreCopiedBeside (flags : List Bool) (first end : ℕ) : Type 0 where
+  pub front : AreCopiedTo flags first
+  pub back : AreCopiedFrom flags end (length flags)
+  pub within : end ≤ length flags
+
+-- so it is where a lift is copied too; for another one there are none beside
+pub record AreSparedBeside (flags : List Bool) (copied : Bool) (first end : ℕ) : Type 0 where
+  pub front : (j : ℕ) → j < first → (copied ≡ true) × (slice_index_or flags j false ≡ true)
+  pub back : (j : ℕ) → end ≤ j → j < length flags → (copied ≡ true) × (slice_index_or flags j false ≡ true)
+  pub within : end ≤ length flags
 
 -- no mark of the lifts before the place i divides x, but that of a copied one where x is of a copied one
 pub record AreUndivided (ls : List MarkedPolynomial) (flags : List Bool) (copied : Bool) (x : Exponents) (i : ℕ) : Type 0 where

@@ -78,6 +78,10 @@ pub data IsPairTaken (order : MonomialOrder) (i j : ℕ) (old new : List MarkedP
   reduced : (b c : MarkedPolynomial) (s : Terms) → IsAt old i b → IsAt old j c → IsSPolynomial b c s →
       ((n : ℕ) → MembersHaveVariables n old → HasVariables n s) → IsTakenIn order s old new → IsPairTaken order i j old new
 
+-- each of the first k members has one monomial
+abbrev pub AreSingleTo : List MarkedPolynomial → ℕ → Type 0
+AreSingleTo bs k = (j : ℕ) (b : MarkedPolynomial) → j < k → IsAt bs j b → HasOneMonomial b
+
 -- ---- where a run stands
 
 -- bs is a list of a run on fs in n variables by the order

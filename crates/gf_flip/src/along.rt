@@ -1,13 +1,13 @@
 //! The terms of a polynomial whose exponents are multiples of a vector apart from the mark.
 
-ghost use Rattle.std.specs.Prelude.{◌≡◌, ◌≢◌, ◌==◌, ◌<◌, ◌≤◌, ◌^◌, ℤ, map, pos, ◌-ℤ◌, ◌*ℤ◌, false, IfOk, IsTrue, length, get_or, unsigned_abs};
+ghost use Rattle.std.specs.Prelude.{◌≡◌, ◌≢◌, ◌==◌, ◌<◌, ◌≤◌, ◌^◌, ℤ, map, pos, ◌-ℤ◌, ◌*ℤ◌, true, false, IfOk, IsTrue, length, get_or, unsigned_abs};
 ghost use Rattle.gf_ideal.specs.OrderTable.{AreMultipleApart};
 ghost use Rattle.gf_poly.specs.Polynomial.{HasVariables};
 ghost use Rattle.gf_poly.specs.Marking.{HaveVariables};
 ghost use Rattle.gf_order.specs.Weights.{AreBounded};
 ghost use Rattle.gf_flip.specs.Along.{HasNonzero, IsAlong, AreAlong};
 
-use gf_poly::{Marked, Poly};
+use gf_poly::{Marked, Mono, Poly};
 use std::alloc::{AllocError, Global};
 
 /// The place of an entry that isn't zero.
@@ -77,6 +77,23 @@ pub fn is_apart(x: &[u32], y: &[u32], normal: &[i128], pivot: usize) -> bool
     true
 }
 
+/// Whether the exponents of a term at `x` are those of the head and a multiple of the normal; those of the marked one are.
+fn is_along(x: &Mono, head: &Mono, normal: &[i128], pivot: usize, is_marked: bool) -> bool
+    requires same_length { length x.now ≡ length normal.now }
+    requires same_variables { length head.now ≡ length normal.now }
+    requires bounded { AreBounded normal.now }
+    requires inside { pivot < length normal.now }
+    requires nonzero { get_or normal.now pivot (pos 0) ≢ pos 0 }
+    requires marked { is_marked ≡ true → x.now ≡ head.now }
+    ensures yes { IsTrue result → AreMultipleApart normal.now x.now head.now }
+    ensures no { result ≡ false → AreMultipleApart normal.now x.now head.now → ⊥ }
+{
+    if is_marked {
+        return true;
+    }
+    is_apart(x.exponents(), head.exponents(), normal, pivot)
+}
+
 /// The terms of a member along the normal.
 fn part(alloc: Global, member: &Marked, normal: &[i128], pivot: usize) -> Result<Poly, AllocError>
     requires variables { HasVariables (length normal.now) member.now.poly }
@@ -87,10 +104,10 @@ fn part(alloc: Global, member: &Marked, normal: &[i128], pivot: usize) -> Result
 {
     let terms = member.poly().terms();
     let head = member.head();
-    let mut kept = Vec::new(alloc);
+    let mut kept = Vec::with_capacity(alloc, 1)?;
     'terms: for i in 0..terms.len() {
         let t = &terms[i];
-        if is_apart(t.mono.exponents(), head.exponents(), normal, pivot) {
+        if is_along(&t.mono, head, normal, pivot, i == member.index()) {
             kept.push(t.copy())?;
         }
     }

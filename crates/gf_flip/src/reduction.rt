@@ -4,7 +4,7 @@
 ghost use Rattle.std.specs.Prelude.{◌<◌, false, length, IfSome, IsTrue};
 ghost use Rattle.gf_poly.specs.Marking.{HaveVariables};
 ghost use Rattle.gf_ideal.specs.Marks.{IsRealisable};
-ghost use Rattle.gf_division.specs.Autoreduction.{ShareSomeVariables};
+ghost use Rattle.gf_division.specs.Autoreduction.{ShareSomeVariables, IsNeededAt};
 ghost use Rattle.gf_flip.specs.Settling.{IsSettledAt, IsPick, ArePickFlags, IsKeptWhere, IsPickedFrom, IsReducedForm};
 
 use crate::room::with_room;
@@ -24,8 +24,29 @@ fn is_settled(items: &[Marked], i: usize) -> bool
     if !is_monic(member) {
         return false;
     }
-    let head = member.head();
-    is_reduced(member.poly().terms(), items, head)
+    // Called for the proof alone: the mark is that of a term.
+    let _ = member.head();
+    is_reduced(member, items)
+}
+
+/// Whether no other mark divides that of the member at the place `i`, which is needed then.
+fn stands(items: &[Marked], i: usize) -> bool
+    requires within { i < length items.now }
+    requires variables { ShareSomeVariables items.now }
+    ensures { IsTrue result → IsNeededAt items.now i }
+{
+    let head = items[i].head();
+    'earlier: for j in 0..i {
+        if items[j].head().divides(head) {
+            return false;
+        }
+    }
+    'later: for j in i + 1..items.len() {
+        if items[j].head().divides(head) {
+            return false;
+        }
+    }
+    true
 }
 
 /// Whether the member at the place `i` is needed; nothing where it is and has to be worked on.
@@ -34,7 +55,7 @@ fn pick(items: &[Marked], i: usize) -> Option<bool>
     requires variables { ShareSomeVariables items.now }
     ensures { IfSome result (IsPick items.now i) }
 {
-    if !is_needed(items, i) {
+    if !stands(items, i) && !is_needed(items, i) {
         return Some(false);
     }
     if !is_settled(items, i) {
@@ -77,11 +98,11 @@ fn picked(alloc: Global, members: Vec<Marked>, flags: &[bool]) -> Option<Vec<Mar
     requires { ArePickFlags members.items flags.now (length members.items) }
     ensures { IfSome result (λ kept. IsPickedFrom members.items kept.items) }
 {
-    let mut rest = members;
     let mut kept = with_room(alloc, flags.len())?;
-    'members: for i in 0..flags.len() {
-        let member = rest.remove(0);
+    let mut i = 0;
+    'members: for member in members {
         keep(&mut kept, member, flags[i])?;
+        i += 1;
     }
     Some(kept)
 }

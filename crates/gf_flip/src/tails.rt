@@ -3,20 +3,21 @@
 //! others each time the heaviest term is reduced that a mark divides, by a weight for which the marks are heaviest, which keeps
 //! the numbers small.
 
-ghost use Rattle.std.specs.Prelude.{◌≡◌, ◌<◌, false, true, Some, length, Contains, IfNone, IfSome, IsTrue};
-ghost use Rattle.gf_exponents.specs.Exponents.{Divides, same};
+ghost use Rattle.std.specs.Prelude.{◌≡◌, ◌<◌, ◌≤◌, false, true, Some, length, Contains, IfSome, IsTrue};
+ghost use Rattle.gf_exponents.specs.Exponents.{Divides};
 ghost use Rattle.gf_poly.specs.Marking.{HaveVariables};
 ghost use Rattle.gf_poly.specs.Polynomial.{HasVariables};
 ghost use Rattle.gf_ideal.specs.Reduction.{IsDivisible};
 ghost use Rattle.gf_division.specs.NormalForms.{HasSomeWeight};
 ghost use Rattle.gf_division.specs.Autoreduction.{ShareSomeVariables};
-ghost use Rattle.gf_division.specs.Reducers.{IsDivisorAt, AreIrreducible};
-ghost use Rattle.gf_flip.specs.LiftTails.{AreUndivided, HasUndividedTailAt, IsReducedLiftAt, IsNextInTurn, AreTailsInTurn};
+ghost use Rattle.gf_division.specs.Reducers.{AreIrreducible};
+ghost use Rattle.gf_flip.specs.LiftTails.{AreCopiedTo, AreCopiedFrom, AreCopiedBeside, AreSparedBeside, AreUndivided, HasUndividedTailAt, IsReducedLiftAt, IsNextInTurn, AreTailsInTurn};
 
 use crate::tops::Lifts;
+use crate::turns::is_divisible;
 use crate::weights::weight_for;
-use gf_division::{Guide, divisor_of, reduced_tail};
-use gf_poly::{Marked, Mono, Term};
+use gf_division::{Guide, reduced_tail};
+use gf_poly::{Marked, Mono};
 use std::alloc::Global;
 
 /// Whether the mark of a lift divides `x`; it isn't tried where both are of copied lifts.
@@ -30,13 +31,72 @@ fn reduces(lift: &Marked, is_copy: bool, x: &Mono, of_copy: bool) -> bool
     lift.head().divides(x)
 }
 
+/// A stretch of places, from the first one on and before the end.
+#[derive(Clone, Copy)]
+struct Span {
+    first: usize,
+    end: usize,
+}
+
+/// How many lifts at the front are copied.
+fn copied_front(copied: &[bool]) -> usize
+    ensures within { result ≤ length copied.now }
+    ensures copied { AreCopiedTo copied.now result }
+{
+    'lifts: for j in 0..copied.len() {
+        if !copied[j] {
+            return j;
+        }
+    }
+    copied.len()
+}
+
+/// The place behind the last lift that isn't copied.
+fn copied_back(copied: &[bool]) -> usize
+    ensures within { result ≤ length copied.now }
+    ensures copied { AreCopiedFrom copied.now result (length copied.now) }
+{
+    let mut end = 0;
+    'lifts: for j in 0..copied.len() {
+        if !copied[j] {
+            end = j + 1;
+        }
+    }
+    end
+}
+
+/// Where the lifts are that aren't copied: beside it all are.
+fn fresh_of(copied: &[bool]) -> Span
+    ensures { AreCopiedBeside copied.now result.first result.end }
+{
+    Span {
+        first: copied_front(copied),
+        end: copied_back(copied),
+    }
+}
+
+/// Where the lifts are whose marks are tried for the tail of a lift: for a copied one those that aren't copied, for another all.
+fn tried_for(copied: &[bool], fresh: Span, of_copy: bool) -> Span
+    requires { AreCopiedBeside copied.now fresh.first fresh.end }
+    ensures { AreSparedBeside copied.now of_copy result.first result.end }
+{
+    if of_copy {
+        return fresh;
+    }
+    Span {
+        first: 0,
+        end: copied.len(),
+    }
+}
+
 /// Whether the mark of one of the lifts that are tried divides `x`.
-fn is_divided(lifts: &[Marked], copied: &[bool], x: &Mono, of_copy: bool) -> bool
+fn is_divided(lifts: &[Marked], copied: &[bool], tried: Span, x: &Mono, of_copy: bool) -> bool
     requires variables { HaveVariables (length x.now) lifts.now }
     requires flags { length copied.now ≡ length lifts.now }
+    requires tried { AreSparedBeside copied.now of_copy tried.first tried.end }
     ensures { result ≡ false → AreUndivided lifts.now copied.now of_copy x.now (length lifts.now) }
 {
-    'lifts: for j in 0..lifts.len() {
+    'lifts: for j in tried.first..tried.end {
         let lift = &lifts[j];
         if reduces(lift, copied[j], x, of_copy) {
             return true;
@@ -49,73 +109,66 @@ fn is_divided(lifts: &[Marked], copied: &[bool], x: &Mono, of_copy: bool) -> boo
 fn is_divided_beside(
     lifts: &[Marked],
     copied: &[bool],
+    tried: Span,
     x: &Mono,
     of_copy: bool,
     is_marked: bool,
 ) -> bool
     requires variables { HaveVariables (length x.now) lifts.now }
     requires flags { length copied.now ≡ length lifts.now }
+    requires tried { AreSparedBeside copied.now of_copy tried.first tried.end }
     ensures { result ≡ false → is_marked ≡ false → AreUndivided lifts.now copied.now of_copy x.now (length lifts.now) }
 {
     if is_marked {
         return false;
     }
-    is_divided(lifts, copied, x, of_copy)
+    is_divided(lifts, copied, tried, x, of_copy)
 }
 
 /// Whether no unmarked term of the lift at a place is divided by a mark that is tried.
-fn stays(lifts: &[Marked], copied: &[bool], at: usize) -> bool
+fn stays(lifts: &[Marked], copied: &[bool], fresh: Span, at: usize) -> bool
     requires inside { at < length lifts.now }
     requires flags { length copied.now ≡ length lifts.now }
+    requires fresh { AreCopiedBeside copied.now fresh.first fresh.end }
     requires variables { ShareSomeVariables lifts.now }
     ensures { IsTrue result → HasUndividedTailAt lifts.now copied.now at }
 {
     let lift = &lifts[at];
     let of_copy = copied[at];
+    let tried = tried_for(copied, fresh, of_copy);
     // Called for the proof alone: the terms descend, and the mark is that of one of them.
     let _ = lift.head();
     let terms = lift.poly().terms();
     'terms: for k in 0..terms.len() {
         let t = &terms[k];
-        if is_divided_beside(lifts, copied, &t.mono, of_copy, k == lift.index()) {
+        if is_divided_beside(lifts, copied, tried, &t.mono, of_copy, k == lift.index()) {
             return false;
         }
     }
     true
 }
 
-/// Whether `y` is another monomial than the head.
-fn is_unmarked(head: &Mono, y: &Mono) -> bool
-    requires { length head.now ≡ length y.now }
-    ensures yes { IsTrue result → same y.now head.now ≡ false }
-    ensures no { result ≡ false → same y.now head.now ≡ false → ⊥ }
+/// Whether a mark divides a term at `x` that isn't the marked one.
+fn is_divisible_beside(x: &Mono, lifts: &[Marked], is_marked: bool) -> bool
+    requires { HaveVariables (length x.now) lifts.now }
+    ensures { result ≡ false → is_marked ≡ false → IsDivisible (Contains lifts.now) x.now → ⊥ }
 {
-    head.exponents() != y.exponents()
-}
-
-/// The lift that reduces a term at `y`, which isn't the marked one.
-fn divisor_beside(y: &Mono, lifts: &[Marked], head: &Mono) -> Option<usize>
-    requires members { HaveVariables (length y.now) lifts.now }
-    requires head { length head.now ≡ length y.now }
-    ensures found { IfSome result (IsDivisorAt lifts.now y.now) }
-    ensures beside { IfSome result (λ _. same y.now head.now ≡ false) }
-    ensures none { IfNone result (same y.now head.now ≡ false → IsDivisible (Contains lifts.now) y.now → ⊥) }
-{
-    match divisor_of(y, lifts) {
-        Some(j) if is_unmarked(head, y) => Some(j),
-        _ => None,
+    if is_marked {
+        return false;
     }
+    is_divisible(x, lifts)
 }
 
-/// Whether no mark divides an unmarked term.
-pub fn is_reduced(terms: &[Term], lifts: &[Marked], head: &Mono) -> bool
-    requires members { HaveVariables (length head.now) lifts.now }
-    requires terms { HasVariables (length head.now) terms.now }
-    ensures { IsTrue result → AreIrreducible lifts.now (Some head.now) terms.now }
+/// Whether no mark divides an unmarked term of the member.
+pub fn is_reduced(member: &Marked, lifts: &[Marked]) -> bool
+    requires members { HaveVariables (length member.now.head) lifts.now }
+    requires terms { HasVariables (length member.now.head) member.now.poly }
+    ensures { IsTrue result → AreIrreducible lifts.now (Some member.now.head) member.now.poly }
 {
+    let terms = member.poly().terms();
     'terms: for k in 0..terms.len() {
         let t = &terms[k];
-        if let Some(_) = divisor_beside(&t.mono, lifts, head) {
+        if is_divisible_beside(&t.mono, lifts, k == member.index()) {
             return false;
         }
     }
@@ -145,16 +198,18 @@ fn settle(
     n: u32,
     all: &mut Vec<Marked>,
     copied: &[bool],
+    fresh: Span,
     at: usize,
     weight: &mut Vec<i64>,
 ) -> Option<()>
     requires inside { at < length all.old.items }
     requires marked { HasSomeWeight all.old.items }
     requires flags { length copied.now ≡ length all.old.items }
+    requires fresh { AreCopiedBeside copied.now fresh.first fresh.end }
     requires variables { HaveVariables n all.old.items }
     ensures { IfSome result (λ _. IsNextInTurn all.old.items copied.now at all.new.items) }
 {
-    if stays(all, copied, at) {
+    if stays(all, copied, fresh, at) {
         return Some(());
     }
     if weight.is_empty() {
@@ -174,9 +229,10 @@ pub fn reduced_tails(alloc: Global, n: u32, lifts: Lifts) -> Option<Vec<Marked>>
 {
     let Lifts { members, copied } = lifts;
     let mut all = members;
+    let fresh = fresh_of(&copied);
     let mut weight = Vec::new(alloc);
     'lifts: for at in 0..all.len() {
-        settle(alloc, n, &mut all, &copied, at, &mut weight)?;
+        settle(alloc, n, &mut all, &copied, fresh, at, &mut weight)?;
     }
     Some(all)
 }

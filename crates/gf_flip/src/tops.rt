@@ -286,8 +286,8 @@ fn top_lift(
     Some(Marked::mark(poly, place))
 }
 
-/// The lift, of the one kind or the other, and whether it is copied from the set. A member of the set with the same mark is looked
-/// for from a place on.
+/// The lift, of the one kind or the other, whether it is copied from the set, and where to look on for the next one. A member of the
+/// set with the same mark is looked for from a place on.
 fn lifted(
     alloc: Global,
     member: &Marked,
@@ -296,7 +296,7 @@ fn lifted(
     alone: &[bool],
     normal: &[i128],
     pivot: usize,
-) -> Option<(Marked, bool)>
+) -> Option<(Marked, bool, usize)>
     requires marked { HasSomeWeight by.now }
     requires alone { AreAloneWhere normal.now by.now alone.now }
     requires poly { HasVariables (length normal.now) member.now.poly }
@@ -311,12 +311,12 @@ fn lifted(
 {
     if let Some(j) = untouched(member, by, from, alone) {
         return match by[j].copy() {
-            Ok(copy) => Some((copy, true)),
+            Ok(copy) => Some((copy, true, j + 1)),
             Err(_) => None,
         };
     }
     let lift = top_lift(alloc, member, by, normal, pivot)?;
-    Some((lift, false))
+    Some((lift, false, from))
 }
 
 /// Whether the member has this mark.
@@ -404,10 +404,11 @@ pub fn top_lifts(
         members: with_room(alloc, items.len())?,
         copied: with_room(alloc, items.len())?,
     };
+    let mut from = 0;
     'members: for i in 0..items.len() {
-        let from = i.saturating_sub(2);
-        let (lift, is_copy) = lifted(alloc, &items[i], by, from, alone, normal, pivot)?;
+        let (lift, is_copy, next) = lifted(alloc, &items[i], by, from, alone, normal, pivot)?;
         push(&mut all, lift, is_copy)?;
+        from = next;
     }
     Some(all)
 }

@@ -12,7 +12,7 @@ ghost use Rattle.gf_division.specs.NormalForms.{HasSomeWeight, HaveSameVariables
 ghost use Rattle.gf_buchberger.specs.Jobs.{IsBasisJob};
 ghost use Rattle.gf_buchberger.specs.Runs.{IsAppendable};
 ghost use Rattle.gf_buchberger.specs.Bases.{IsArrangedBasis, IsBasisRefusal};
-ghost use Rattle.gf_flip.specs.Turns.{ArePairExcused, IsChained, HasCover, HasCoveredTail, IsPairCovered, IsMadeFrom, IsGrown, IsTakenIn, IsSortedIn, IsUnderway, AreTakenIn, HasTurning, KeepsTurning, IsTurning, AreKeptIn};
+ghost use Rattle.gf_flip.specs.Turns.{ArePairExcused, IsChained, HasCover, HasCoveredTail, IsPairCovered, IsMadeFrom, IsGrown, IsTakenIn, IsSortedIn, IsUnderway, AreTakenIn, AreSingleTo, HasTurning, KeepsTurning, IsTurning, AreKeptIn};
 
 use crate::reduction::reduced_form;
 use crate::room::with_room;
@@ -138,7 +138,7 @@ fn is_pair_covered(b: &Marked, c: &Marked, multiple: &Mono, by: &[Marked]) -> bo
 }
 
 /// The fraction 1.
-fn one() -> Frac
+pub fn one() -> Frac
     ensures { result ≡ one_ℚ }
 {
     Frac::ONE
@@ -182,7 +182,7 @@ fn grow(members: &mut Vec<Marked>, order: &Order, r: Poly) -> Option<()>
 }
 
 /// Whether a mark divides `x`.
-fn is_divisible(x: &Mono, by: &[Marked]) -> bool
+pub fn is_divisible(x: &Mono, by: &[Marked]) -> bool
     requires { HaveVariables (length x.now) by.now }
     ensures { result ≡ false → IsDivisible (Contains by.now) x.now → ⊥ }
 {
@@ -276,6 +276,37 @@ fn enter(alloc: Global, task: &Task, members: &mut Vec<Marked>, list: Vec<Poly>)
     Some(())
 }
 
+/// Settles the pair of i and j: by a chain, by covers, or by its S-polynomial.
+fn take_pair(
+    alloc: Global,
+    members: &mut Vec<Marked>,
+    task: &Task,
+    i: usize,
+    j: usize,
+) -> Option<()>
+    requires turning { HasTurning task.now.order.now task.now.n members.old.items i j }
+    requires pair { i < j }
+    requires second { j < length members.old.items }
+    ensures turning { IfSome result (λ _. KeepsTurning task.now.order.now task.now.n members.old.items i j members.new.items (i + 1) j) }
+    ensures kept { IfSome result (λ _. AreKeptIn members.old.items members.new.items) }
+    ensures size { IfSome result (λ _. length members.old.items ≤ length members.new.items) }
+{
+    let (b, c) = (&members[i], &members[j]);
+    let multiple = b.head().lcm(c.head());
+    if is_chained(&multiple, &members[..i]) {
+        return Some(());
+    }
+    if is_pair_covered(b, c, &multiple, members) {
+        return Some(());
+    }
+    let s = match s_poly(alloc, b, c) {
+        Ok(s) => s,
+        Err(_) => return None,
+    };
+    take_in(alloc, members, task.order, s)?;
+    Some(())
+}
+
 /// Settles the pair of i and j.
 fn take_turn(
     alloc: Global,
@@ -291,23 +322,10 @@ fn take_turn(
     ensures kept { IfSome result (λ _. AreKeptIn members.old.items members.new.items) }
     ensures size { IfSome result (λ _. length members.old.items ≤ length members.new.items) }
 {
-    let (b, c) = (&members[i], &members[j]);
-    if is_excused(b, c) {
+    if is_excused(&members[i], &members[j]) {
         return Some(());
     }
-    let multiple = b.head().lcm(c.head());
-    if is_chained(&multiple, &members[..i]) {
-        return Some(());
-    }
-    if is_pair_covered(b, c, &multiple, members) {
-        return Some(());
-    }
-    let s = match s_poly(alloc, b, c) {
-        Ok(s) => s,
-        Err(_) => return None,
-    };
-    take_in(alloc, members, task.order, s)?;
-    Some(())
+    take_pair(alloc, members, task, i, j)
 }
 
 /// Settles the pairs of j with the members before it.
@@ -324,7 +342,21 @@ fn take_row(alloc: Global, members: &mut Vec<Marked>, task: &Task, j: usize) -> 
     Some(())
 }
 
-/// All polynomials are taken in, and all pairs are settled; at most `bound` members are worked off.
+/// How many members at the front are one term alone.
+fn singles(members: &[Marked]) -> usize
+    ensures within { result ≤ length members.now }
+    ensures single { AreSingleTo members.now result }
+{
+    'members: for k in 0..members.len() {
+        if !is_single(&members[k]) {
+            return k;
+        }
+    }
+    members.len()
+}
+
+/// All polynomials are taken in, and all pairs are settled; at most `bound` members are worked off. Those at the front that are one term
+/// alone have no pair to settle.
 fn run(alloc: Global, task: &Task, list: Vec<Poly>, bound: u64) -> Option<Vec<Marked>>
     requires { IsBasisJob task.now.order.now task.now.n list.items }
     ensures turning { IfSome result (λ bs. IsTurning task.now.order.now task.now.n list.items bs.items 0 (length bs.items)) }
@@ -332,7 +364,8 @@ fn run(alloc: Global, task: &Task, list: Vec<Poly>, bound: u64) -> Option<Vec<Ma
 {
     let mut members = with_room(alloc, list.len().saturating_mul(2))?;
     enter(alloc, task, &mut members, list)?;
-    'turns: for j in 0..bound {
+    let first = singles(&members);
+    'turns: for j in first as u64..bound {
         if j as usize == members.len() {
             return Some(members);
         }

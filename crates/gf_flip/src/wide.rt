@@ -13,9 +13,9 @@ ghost use Rattle.gf_flip.specs.LiftsInTurn.{IsRest, AreRests, IsLessBy, AreLifts
 
 use crate::reduction::reduced_form;
 use crate::tops::place_of_mark;
+use crate::turns::one;
 use crate::weights::{ROUNDS, weight_for};
 use gf_division::weight_of;
-use gf_frac::Frac;
 use gf_poly::{Marked, MarkedSet, Mono, Poly, Term};
 use gf_vec::IntVec;
 use gf_wide_division::{Beyond, Precedence, WidePoly, wide_remainder, wide_remainder_again};
@@ -151,7 +151,7 @@ fn lifts_in(alloc: Global, done: &[Marked], below: &[Marked]) -> Result<Vec<Mark
 /// A term with the coefficient 1.
 fn unit(mono: &Mono) -> Term {
     Term {
-        coef: Frac::ONE,
+        coef: one(),
         mono: mono.copy(),
     }
 }

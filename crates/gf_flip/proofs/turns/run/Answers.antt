@@ -1,5 +1,6 @@
-use Rattle.std.proofs.Common.{arith, sym, subst}
-use Rattle.gf_flip.specs.Turns.{IsUnderway}
+use Rattle.std.proofs.Common.{List, ◌≤◌, length, arith, sym, subst}
+use Rattle.gf_poly.specs.Marking.{MarkedPolynomial}
+use Rattle.gf_flip.specs.Turns.{IsUnderway, AreSingleTo}
 use Rattle.gf_flip.proofs.TurnLaws.{underway-none, whole-start, whole-more}
 use Rattle.gf_flip.proofs.turns.run.Goals as goal
 
@@ -7,7 +8,9 @@ pub enter-requires : goal.enter-requires
 enter-requires c = subst (IsUnderway c.args.task.now.order.now c.args.task.now.n c.args.list.items) (sym c.in_ok-members.ensures) (underway-none c.args.task.now.order.now c.args.task.now.n c.args.list.items c.requires)
 
 pub turns-init : goal.turns-init
-turns-init c = whole-start c.args.task.now.order.now c.args.task.now.n c.args.list.items c.enter.new.members.items c.in_ok-enter.ensures.underway c.in_ok-enter.ensures.entered
+turns-init c = whole-start c.args.task.now.order.now c.args.task.now.n c.args.list.items c.enter.new.members.items c.singles-first.result c.in_ok-enter.ensures.underway c.in_ok-enter.ensures.entered
+    (subst (λ (z : List MarkedPolynomial). c.singles-first.result ≤ length z) c.deref.ensures.value c.singles-first.ensures.within)
+    (subst (λ (z : List MarkedPolynomial). AreSingleTo z c.singles-first.result) c.deref.ensures.value c.singles-first.ensures.single)
 
 pub take_row-requires-clause-turning : goal.take_row-requires-clause-turning
 take_row-requires-clause-turning c = record { polynomials = c.args.list.items; turning = c.turns.invariant.turning }
