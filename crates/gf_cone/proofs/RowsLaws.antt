@@ -1,14 +1,10 @@
 -- Rows as they are made, one by one.
 -- To cite: Differing, differing_next, same_row, other_row, lengths_at, rows_more, Collecting, Collecting-more, all_collected, unit_set.
-use Rattle.std.proofs.Common.{◌≡◌, ◌⊎◌, if◌then◌else◌, ℕ, zero, suc, ◌+◌, ◌<◌, ◌≤◌, ◌^◌, Bool, true, false, List, [], ◌∷◌, ◌++◌, length, ℤ, pos, ◌-ℤ◌, All, unsigned_abs, arith, refl, sym, ap, ◌∙◌, subst, inl, inr, get_or, take, set, append_assoc, min}
+use Rattle.std.proofs.Common.{◌≡◌, ◌⊎◌, if◌then◌else◌, ℕ, zero, suc, ◌+◌, ◌<◌, ◌≤◌, ◌^◌, true, List, [], ◌∷◌, ◌++◌, length, ℤ, pos, ◌-ℤ◌, All, unsigned_abs, arith, refl, sym, ap, ◌∙◌, subst, inl, inr, get_or, take, set, append_assoc, min}
 use Rattle.std.proofs.lemmas.Bool.{cases_lt}
 use Rattle.std.proofs.lemmas.Int.{ints}
 use Rattle.std.proofs.lemmas.List.{take_more, take_all, get_or_default, append-nil, length-take}
 use Rattle.std.proofs.lemmas.List.Elements.{All-push}
-use Rattle.std.proofs.lemmas.Slice.Eq.{slice_eq-Decides}
-use Rattle.std.proofs.lemmas.Bool.Decides.{Decides-eqb}
-use lib.Pointwise.{pointwise}
-use lib.Dec.{eqb}
 use Rattle.gf_int.specs.Range.{InRange}
 use Rattle.gf_vec.specs.Vector.{zeros}
 use Rattle.gf_exponents.specs.Exponents.{Exponents, same}
@@ -59,19 +55,12 @@ differing_next x y left right entries new i z ex ey e mx my l q n d =
 row-none : (x y : Exponents) → x ≡ y → row_between x y ≡ []
 row-none x y e = ap (λ b. if b then [] else (differences x y ∷ [])) (subst (λ z. same x z ≡ true) e (same-refl x))
 
-equal_by_test : (a b : Exponents) (r : Bool) → r ≡ pointwise eqb a b → r ≡ true → a ≡ b
-equal_by_test a b r e t = (slice_eq-Decides Decides-eqb a b (pointwise eqb a b) refl).0 (sym e ∙ t)
+-- rows, and one more unless the two monomials are the same
+pub same_row : (x y : Exponents) (rows : List (List ℤ)) → x ≡ y → rows ≡ rows ++ row_between x y
+same_row x y rows e = sym (append-nil rows) ∙ ap (λ w. rows ++ w) (sym (row-none x y e))
 
-other_by_test : (a b : Exponents) (r : Bool) → r ≡ pointwise eqb a b → r ≡ false → a ≡ b → ⊥
-other_by_test a b r e f q = let m : pointwise eqb a b ≡ true = (slice_eq-Decides Decides-eqb a b (pointwise eqb a b) refl).1 q in let n : pointwise eqb a b ≡ false = sym e ∙ f in absurd (cc)
-
--- rows, and one more unless the exponents a of x and b of y are equal
-pub same_row : (x y a b : Exponents) (rows : List (List ℤ)) (r : Bool) → a ≡ x → b ≡ y → r ≡ pointwise eqb a b → r ≡ true → rows ≡ rows ++ row_between x y
-same_row x y a b rows r ea eb e t = sym (append-nil rows) ∙ ap (λ w. rows ++ w) (sym (row-none x y (sym ea ∙ equal_by_test a b r e t ∙ eb)))
-
-pub other_row : (x y a b : Exponents) (rows new : List (List ℤ)) (d : List ℤ) (r : Bool) → length x ≡ length y → a ≡ x → b ≡ y → r ≡ pointwise eqb a b → r ≡ false → d ≡ differences x y → new ≡ rows ++ d ∷ [] → new ≡ rows ++ row_between x y
-other_row x y a b rows new d r l ea eb e f q n =
-    n ∙ ap (λ w. rows ++ w ∷ []) q ∙ ap (λ w. rows ++ w) (sym (row-is x y (apart x y l (λ p. other_by_test a b r e f (ea ∙ p ∙ sym eb)))))
+pub other_row : (x y : Exponents) (rows new : List (List ℤ)) (d : List ℤ) → length x ≡ length y → (x ≡ y → ⊥) → d ≡ differences x y → new ≡ rows ++ d ∷ [] → new ≡ rows ++ row_between x y
+other_row x y rows new d l f q n = n ∙ ap (λ w. rows ++ w ∷ []) q ∙ ap (λ w. rows ++ w) (sym (row-is x y (apart x y l f)))
 
 -- a row's two monomials have the same variables
 pub lengths_at : (b : MarkedPolynomial) (x : Exponents) (f : Terms) (i : ℕ) (t : Term) → ((n : ℕ) × HasVariables n b.poly) → HasMarkedTerm b → x ≡ b.head → f ≡ b.poly → i < length f → t ≡ get_or f i t → length x ≡ length t.mono

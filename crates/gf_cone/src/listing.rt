@@ -74,7 +74,7 @@ fn with_normal(
     ensures gathers { IfOk result (λ more. Gathers list.items (row_between x.now y.now) more.items) }
     ensures small { IfOk result (λ more. All IsSmall more.items) }
 {
-    if x.exponents() == y.exponents() {
+    if x.is_same(y) {
         return Ok(list);
     }
     let mut normal = difference(alloc, x, y)?;

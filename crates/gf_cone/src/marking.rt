@@ -47,7 +47,7 @@ fn with_row(alloc: Global, rows: Vec<IntVec>, x: &Mono, y: &Mono) -> Result<Vec<
     ensures rows { IfOk result (λ more. more.items ≡ rows.items ++ row_between x.now y.now) }
     ensures small { IfOk result (λ more. All IsSmall more.items) }
 {
-    if x.exponents() == y.exponents() {
+    if x.is_same(y) {
         return Ok(rows);
     }
     let mut more = rows;
