@@ -1,11 +1,11 @@
 -- Answers about a normal: what an answer tells of the cone.
--- To cite: others-append, flip_told, facet_told, crossable_flippable, cone_of, kept_of, kept_wide, positive_for,
--- answer_for, IfOk-weaker.
-use Rattle.std.proofs.Common.{◌≡◌, ◌⊎◌, ℕ, zero, suc, ◌+◌, ◌-◌, ◌<◌, ◌≤◌, ◌↔◌, Result, Ok, Err, IfOk, take, drop, List, [], ◌∷◌, ◌++◌, length, get_or, Contains, All, ℤ, pos, ◌<ℤ◌, unsigned_abs, arith, refl, sym, ap, ◌∙◌, subst, inl, inr, append_assoc, length-append}
+-- To cite: others-append, flip_told, facet_told, crossable_flippable, cone_of, kept_of, kept_all, kept_front, kept_wide, kept_rows, positive_for,
+-- answer_for, row_read, given_rows_are, given_rows_all, IfOk-weaker.
+use Rattle.std.proofs.Common.{◌≡◌, ◌⊎◌, ℕ, zero, suc, ◌<◌, ◌≤◌, ◌↔◌, Result, Ok, Err, IfOk, take, drop, List, [], ◌∷◌, ◌++◌, length, get_or, Contains, All, ℤ, pos, ◌<ℤ◌, unsigned_abs, arith, refl, sym, ap, ◌∙◌, subst, inl, inr, append_assoc, length-append}
 use Rattle.std.proofs.lemmas.List.{get_or_default, take-append-drop}
 use Rattle.std.proofs.Math.Seq.{take-append_seam, drop-append_seam}
 use Rattle.std.proofs.Math.ListN.{get_or-append}
-use Rattle.std.proofs.lemmas.List.Elements.{All-nil, All-cons, All-take, All-drop, All-contains, Contains-append_left, Contains-append_right, Contains-append_cases}
+use Rattle.std.proofs.lemmas.List.Elements.{All-nil, All-cons, All-drop, All-contains, Contains-append_left, Contains-append_right, Contains-append_cases}
 use Rattle.gf_int.proofs.ListLaws.{all_by}
 use Rattle.gf_vec.specs.Vector.{dot}
 use Rattle.gf_gordan.specs.Alternative.{AreRows, IsSolution}
@@ -51,10 +51,6 @@ others_inside [] (suc i) t c = c
 others_inside (x ∷ vs) zero t c = let k = c in (suc k.0, omega (arith, k.1), k.2)
 others_inside (x ∷ vs) (suc i) t (zero, l, e) = (zero, omega arith, e)
 others_inside (x ∷ vs) (suc i) t (suc j, l, e) = let k = others_inside vs i t (j, omega (arith, l), e) in (suc k.0, omega (arith, k.1), k.2)
-
--- the rows of the system of a normal
-pub given_rows_are : (c : ConeRows) (i : ℕ) (vs given rows : List (List ℤ)) → given ≡ rows → rows ≡ others_of i vs → vs ≡ all_rows c → others_of i (all_rows c) ≡ other_rows c i → given ≡ other_rows c i
-given_rows_are c i vs given rows e f g h = e ∙ f ∙ ap (others_of i) g ∙ h
 
 -- what holds of a system holds of one with as many columns, the same rows and the same normal
 pub system_for : (P : ℕ → List (List ℤ) → List ℤ → Type 0) (n m : ℕ) (rows given : List (List ℤ)) (a b : List ℤ) → m ≡ n → given ≡ rows → b ≡ a → P m given b → P n rows a
@@ -152,83 +148,75 @@ facet_told c i l wide h answer s n k bs is = facet_tells n k bs c i l is wide h 
 -- ---- as a program asks
 
 -- the cone that is made of a marked list
-pub cone_of : (n m p : ℕ) (k : Region) (bs : List MarkedPolynomial) (ns more vs : List (List ℤ)) → m ≡ n → p ≡ length ns → more ≡ ns ++ k.rows → vs ≡ more ++ units m m → AreCanonical n bs → AreNormals bs ns →
-    IsConeOf n k bs (record { variables = m; normals = take p vs; beside = drop p vs })
-cone_of n m p k bs ns more vs e f q g c a = record {
+pub cone_of : (n m p : ℕ) (k : Region) (bs : List MarkedPolynomial) (ns vs : List (List ℤ)) → m ≡ n → p ≡ length ns → vs ≡ ns ++ k.rows → AreCanonical n bs → AreNormals bs ns →
+    IsConeOf n k bs (record { variables = m; normals = take p vs; beside = drop p vs ++ units m m })
+cone_of n m p k bs ns vs e f q c a = record {
   variables = e;
   canonical = c;
   normals = subst (AreNormals bs) (sym front) a;
-  beside = back ∙ ap (λ (j : ℕ). k.rows ++ units j j) e;
+  beside = ap (λ (z : List (List ℤ)). z ++ units m m) back ∙ ap (λ (j : ℕ). k.rows ++ units j j) e;
 }
   where
-    parts : vs ≡ ns ++ (k.rows ++ units m m)
-    parts = g ∙ ap (λ (z : List (List ℤ)). z ++ units m m) q ∙ append_assoc ns k.rows (units m m)
-
     front : take p vs ≡ ns
-    front = ap (λ (j : ℕ). take j vs) f ∙ ap (take (length ns)) parts ∙ take-append_seam ns (k.rows ++ units m m)
+    front = ap (λ (j : ℕ). take j vs) f ∙ ap (take (length ns)) q ∙ take-append_seam ns k.rows
 
-    back : drop p vs ≡ k.rows ++ units m m
-    back = ap (λ (j : ℕ). drop j vs) f ∙ ap (drop (length ns)) parts ∙ drop-append_seam ns (k.rows ++ units m m)
+    back : drop p vs ≡ k.rows
+    back = ap (λ (j : ℕ). drop j vs) f ∙ ap (drop (length ns)) q ∙ drop-append_seam ns k.rows
 
-pub kept_of : (n m p : ℕ) (rows : List (List ℤ)) (bs : List MarkedPolynomial) (ns more vs : List (List ℤ)) → m ≡ n → p ≡ length ns → more ≡ ns ++ rows → vs ≡ more ++ units m m → AreCanonical n bs → AreNormals bs ns → All IsSmall ns →
-    AreRows n rows → AreVectorsKept m vs p
-kept_of n m p rows bs ns more vs e f q g k a s wide = record {
-  inside = subst (λ (z : List (List ℤ)). p ≤ length z) (sym parts) (omega (arith, f, length-append ns (rows ++ units m m)));
-  widths = subst (AreRows m) (sym parts) (all_by (λ t. length t ≡ m) (ns ++ (rows ++ units m m)) (λ t c. elim (Contains-append_cases ns (rows ++ units m m) t c) [
+pub kept_of : (n m p : ℕ) (rows : List (List ℤ)) (bs : List MarkedPolynomial) (ns vs : List (List ℤ)) → m ≡ n → p ≡ length ns → vs ≡ ns ++ rows → AreCanonical n bs → AreNormals bs ns → All IsSmall ns → AreRows n rows →
+    AreVectorsKept m vs p
+kept_of n m p rows bs ns vs e f q k a s wide = record {
+  inside = subst (λ (z : List (List ℤ)). p ≤ length z) (sym q) (omega (arith, f, length-append ns rows));
+  widths = subst (AreRows m) (sym q) (all_by (λ t. length t ≡ m) (ns ++ rows) (λ t c. elim (Contains-append_cases ns rows t c) [
     | inl h ↦ normal-length n bs t k (a.only t h) ∙ sym e
-    | inr h ↦ elim (Contains-append_cases rows (units m m) t h) [
-      | inl d ↦ All-contains (λ z. length z ≡ n) rows t wide d ∙ sym e
-      | inr d ↦ units_wide m m t d
-    ]
+    | inr h ↦ All-contains (λ z. length z ≡ n) rows t wide h ∙ sym e
   ]));
-  small = subst (All IsSmall) (sym (ap (λ (j : ℕ). take j vs) f ∙ ap (take (length ns)) parts ∙ take-append_seam ns (rows ++ units m m))) s;
-  behind = (rows, ap (λ (j : ℕ). drop j vs) f ∙ ap (drop (length ns)) parts ∙ drop-append_seam ns (rows ++ units m m));
+  small = subst (All IsSmall) (sym (ap (λ (j : ℕ). take j vs) f ∙ ap (take (length ns)) q ∙ take-append_seam ns rows)) s;
 }
-  where
-    parts : vs ≡ ns ++ (rows ++ units m m)
-    parts = g ∙ ap (λ (z : List (List ℤ)). z ++ units m m) q ∙ append_assoc ns rows (units m m)
-
--- with the unit vectors beside
-pub kept_units : (c : ConeRows) (m p : ℕ) (vs : List (List ℤ)) → c ≡ record { variables = m; normals = take p vs; beside = drop p vs } → AreVectorsKept m vs p →
-    (t : List ℤ) → Contains (units c.variables c.variables) t → Contains c.beside t
-kept_units c m p vs e k =
-    let P : ConeRows → Type 0 = λ z. (t : List ℤ) → Contains (units z.variables z.variables) t → Contains z.beside t in
-    subst P (sym e) (λ t h. subst (λ (z : List (List ℤ)). Contains z t) (sym k.behind.1) (Contains-append_right k.behind.0 (units m m) t h))
 
 pub length-units : (n m : ℕ) → length (units n m) ≡ m
 length-units n zero = refl
 length-units n (suc m) = length-append (units n m) (unit n m ∷ []) ∙ (let r = length-units n m in omega (arith, r))
 
--- the rows beside the normals, but for the last, which are the unit vectors
-pub kept_rows : (c : ConeRows) (m p : ℕ) (vs given rows : List (List ℤ)) → c ≡ record { variables = m; normals = take p vs; beside = drop p vs } → AreVectorsKept m vs p →
-    given ≡ drop p vs → rows ≡ take (length given - m) given → c.beside ≡ rows ++ units c.variables c.variables
-kept_rows c m p vs given rows e k g r =
-    let P : ConeRows → Type 0 = λ z. z.beside ≡ rows ++ units z.variables z.variables in
-    let parts : given ≡ k.behind.0 ++ units m m = g ∙ k.behind.1 in
-    let long : length given ≡ length k.behind.0 + m = ap (λ (z : List (List ℤ)). length z) parts ∙ length-append k.behind.0 (units m m) ∙ ap (λ (j : ℕ). length k.behind.0 + j) (length-units m m) in
-    let front : length given - m ≡ length k.behind.0 = omega (arith, long) in
-    let same : rows ≡ k.behind.0 = r ∙ ap (λ (z : List (List ℤ)). take (length given - m) z) parts ∙ ap (λ (j : ℕ). take j (k.behind.0 ++ units m m)) front ∙ take-append_seam k.behind.0 (units m m) in
-    subst P (sym e) (k.behind.1 ∙ ap (λ (z : List (List ℤ)). z ++ units m m) (sym same))
+-- vectors of a width, and then the unit vectors
+pub units_behind_wide : (n : ℕ) (vs : List (List ℤ)) → AreRows n vs → AreRows n (vs ++ units n n)
+units_behind_wide n vs h = all_by (λ t. length t ≡ n) (vs ++ units n n) (λ t c. elim (Contains-append_cases vs (units n n) t c) [
+  | inl d ↦ All-contains (λ z. length z ≡ n) vs t h d
+  | inr d ↦ units_wide n n t d
+])
 
--- there are as many rows beside the normals, at least, as variables
-pub kept_long : (m p : ℕ) (vs given : List (List ℤ)) → AreVectorsKept m vs p → given ≡ drop p vs → m ≤ length given
-kept_long m p vs given k g =
-    let long : length given ≡ length k.behind.0 + m = ap (λ (z : List (List ℤ)). length z) (g ∙ k.behind.1) ∙ length-append k.behind.0 (units m m) ∙ ap (λ (j : ℕ). length k.behind.0 + j) (length-units m m) in
-    omega (arith, long)
+-- with the unit vectors beside
+pub kept_units : (c : ConeRows) (m p : ℕ) (vs : List (List ℤ)) → c ≡ record { variables = m; normals = take p vs; beside = drop p vs ++ units m m } → (t : List ℤ) → Contains (units c.variables c.variables) t → Contains c.beside t
+kept_units c m p vs e =
+    let P : ConeRows → Type 0 = λ z. (t : List ℤ) → Contains (units z.variables z.variables) t → Contains z.beside t in
+    subst P (sym e) (λ t h. Contains-append_right (drop p vs) (units m m) t h)
 
-pub kept_rows_wide : (c : ConeRows) (m p d : ℕ) (vs given rows : List (List ℤ)) → c ≡ record { variables = m; normals = take p vs; beside = drop p vs } → AreVectorsKept m vs p →
-    given ≡ drop p vs → rows ≡ take d given → AreRows c.variables rows
-kept_rows_wide c m p d vs given rows e k g r =
-    let P : ConeRows → Type 0 = λ z. AreRows z.variables rows in
-    let Q : List (List ℤ) → Type 0 = λ z. AreRows m z in
-    subst P (sym e) (subst Q (sym (r ∙ ap (λ (z : List (List ℤ)). take d z) g)) (All-take (λ (t : List ℤ). length t ≡ m) d (drop p vs) (All-drop (λ (t : List ℤ). length t ≡ m) p vs k.widths)))
+-- what is kept, and then the unit vectors, are all rows
+pub kept_all : (c : ConeRows) (m p : ℕ) (vs : List (List ℤ)) → c ≡ record { variables = m; normals = take p vs; beside = drop p vs ++ units m m } → all_rows c ≡ vs ++ units c.variables c.variables
+kept_all c m p vs e =
+    let P : ConeRows → Type 0 = λ z. all_rows z ≡ vs ++ units z.variables z.variables in
+    subst P (sym e) (sym (append_assoc (take p vs) (drop p vs) (units m m)) ∙ ap (λ (z : List (List ℤ)). z ++ units m m) (take-append-drop p vs))
 
--- what is kept is all rows
-pub kept_wide : (c : ConeRows) (m p : ℕ) (vs : List (List ℤ)) → c ≡ record { variables = m; normals = take p vs; beside = drop p vs } → AreVectorsKept m vs p →
-    AreRows c.variables (all_rows c)
-kept_wide c m p vs e k =
-    let P : ConeRows → Type 0 = λ z. AreRows z.variables (all_rows z) in
-    subst P (sym e) (subst (AreRows m) (sym (take-append-drop p vs)) k.widths)
+-- the normals are the first of them
+pub kept_front : (c : ConeRows) (m p : ℕ) (vs : List (List ℤ)) → c ≡ record { variables = m; normals = take p vs; beside = drop p vs ++ units m m } → length c.normals ≤ length vs
+kept_front c m p vs e =
+    let P : ConeRows → Type 0 = λ z. length z.normals ≤ length vs in
+    subst P (sym e) (subst (λ (z : List (List ℤ)). length (take p vs) ≤ length z) (take-append-drop p vs) (omega (arith, length-append (take p vs) (drop p vs))))
+
+-- all of them have the width of the cone
+pub kept_wide : (c : ConeRows) (m p : ℕ) (vs : List (List ℤ)) → c ≡ record { variables = m; normals = take p vs; beside = drop p vs ++ units m m } → AreVectorsKept m vs p → AreRows c.variables (all_rows c)
+kept_wide c m p vs e k = subst (AreRows c.variables) (sym (kept_all c m p vs e)) (units_behind_wide c.variables vs (subst (λ (j : ℕ). AreRows j vs) (sym (ap (λ (z : ConeRows). z.variables) e)) k.widths))
+
+-- the rows of the region that are kept
+pub kept_rows : (c : ConeRows) (m p : ℕ) (vs given : List (List ℤ)) → c ≡ record { variables = m; normals = take p vs; beside = drop p vs ++ units m m } → given ≡ drop p vs → c.beside ≡ given ++ units c.variables c.variables
+kept_rows c m p vs given e g =
+    let P : ConeRows → Type 0 = λ z. z.beside ≡ given ++ units z.variables z.variables in
+    subst P (sym e) (ap (λ (z : List (List ℤ)). z ++ units m m) (sym g))
+
+pub kept_rows_wide : (c : ConeRows) (m p : ℕ) (vs given : List (List ℤ)) → c ≡ record { variables = m; normals = take p vs; beside = drop p vs ++ units m m } → AreVectorsKept m vs p → given ≡ drop p vs → AreRows c.variables given
+kept_rows_wide c m p vs given e k g =
+    let P : ConeRows → Type 0 = λ z. AreRows z.variables given in
+    subst P (sym e) (subst (AreRows m) (sym g) (All-drop (λ (t : List ℤ). length t ≡ m) p vs k.widths))
 
 pub positive_for : (rows given : List (List ℤ)) (a b : List ℤ) → given ≡ rows → b ≡ a → IsPositiveOn rows a → IsPositiveOn given b
 positive_for rows given a b e f h = subst (λ (z : List (List ℤ)). IsPositiveOn z b) (sym e) (subst (IsPositiveOn rows) (sym f) h)
@@ -252,8 +240,22 @@ one_equation (x ∷ (y ∷ es)) entries l e = absurd (omega (arith, l))
 pub normal_read : (ns given : List (List ℤ)) (i : ℕ) (a : List ℤ) → i < length ns → given ≡ ns → a ≡ get_or given i a → a ≡ get_or ns i []
 normal_read ns given i a l e f = f ∙ ap (λ (z : List (List ℤ)). get_or z i a) e ∙ get_or_default ns i a [] l
 
-pub row_read : (c : ConeRows) (given : List (List ℤ)) (i : ℕ) (a : List ℤ) → i < length c.normals → given ≡ all_rows c → a ≡ get_or given i a → a ≡ normal_at c i
-row_read c given i a l e f = f ∙ ap (λ (z : List (List ℤ)). get_or z i a) e ∙ get_or-append c.normals c.beside a i l ∙ get_or_default c.normals i a [] l
+-- where vectors are kept, and the unit vectors stand behind them: a vector at a place of the kept ones is the row there
+pub kept_in_all : (c : ConeRows) (kept behind : List (List ℤ)) (i : ℕ) (a : List ℤ) → all_rows c ≡ kept ++ behind → i < length kept → a ≡ get_or kept i a → a ≡ get_or (all_rows c) i a
+kept_in_all c kept behind i a e l f = f ∙ sym (get_or-append kept behind a i l) ∙ ap (λ (z : List (List ℤ)). get_or z i a) (sym e)
+
+pub row_read : (c : ConeRows) (kept behind : List (List ℤ)) (i : ℕ) (a : List ℤ) → i < length c.normals → all_rows c ≡ kept ++ behind → i < length kept → a ≡ get_or kept i a → a ≡ normal_at c i
+row_read c kept behind i a l e m f = kept_in_all c kept behind i a e m f ∙ get_or-append c.normals c.beside a i l ∙ get_or_default c.normals i a [] l
+
+-- the rows of the system of a normal
+pub given_rows_are : (c : ConeRows) (i m : ℕ) (kept given rows list : List (List ℤ)) → given ≡ rows → rows ≡ list ++ units m m → list ≡ others_of i kept → all_rows c ≡ kept ++ units c.variables c.variables → m ≡ c.variables →
+    i < length c.normals → i < length kept → given ≡ other_rows c i
+given_rows_are c i m kept given rows list e f g h v l k =
+    e ∙ f ∙ ap (λ (j : ℕ). list ++ units j j) v ∙ ap (λ (z : List (List ℤ)). z ++ units c.variables c.variables) g ∙ sym (others-append i kept (units c.variables c.variables) k) ∙ ap (others_of i) (sym h) ∙ others-append i c.normals c.beside l
+
+-- what holds of all rows holds of those of the system
+pub given_rows_all : (P : List ℤ → Type 0) (c : ConeRows) (i : ℕ) (given : List (List ℤ)) → i < length c.normals → given ≡ other_rows c i → All P (all_rows c) → All P given
+given_rows_all P c i given l e h = subst (All P) (others-append i c.normals c.beside l ∙ sym e) (others_all_of P (all_rows c) i h)
 
 -- ---- cones of bases have an interior
 

@@ -1,28 +1,29 @@
 -- Which normals a flip may cross, shown or refuted without the system; the least of those that lead up.
--- To cite: solution_of_shown, beside_positive, solution_of_parts, interior_of_parts, not_crossable_sum, not_crossable_above, sum_by_entries, step_at, first_steps, decided_flip, decided_crossing.
-use Rattle.std.proofs.Common.{◌≡◌, ℕ, zero, suc, ◌<◌, List, [], ◌∷◌, ◌++◌, length, get_or, Contains, All, ℤ, pos, ◌+ℤ◌, ◌*ℤ◌, ◌<ℤ◌, ◌≤ℤ◌, arith, refl, sym, ap, ◌∙◌, subst, eqb, true, false}
+-- To cite: solution_of_shown, beside_positive, solution_of_parts, interior_of_parts, not_crossable_sum, not_crossable_above, sum_at, raised_at, sum_by_entries, step_at, first_steps, decided_flip, decided_crossing.
+use Rattle.std.proofs.Common.{◌≡◌, ℕ, zero, suc, ◌<◌, List, [], ◌∷◌, ◌++◌, length, get_or, Contains, All, ℤ, pos, ◌+◌, ◌≤◌, ◌+ℤ◌, ◌*ℤ◌, ◌<ℤ◌, ◌≤ℤ◌, arith, refl, sym, ap, ◌∙◌, subst, inl, inr, eqb, true, false, length-append}
 use Rattle.std.proofs.lemmas.Int.{ints}
 use Rattle.std.specs.Prelude.{◌↔◌, Bool, IsTrue, Option, Some, None, Result, Ok, Err, IfOk, IfSome, IsNone}
 use Rattle.std.specs.declared.cmp.Ordering.{Ordering}
 use Rattle.std.specs.declared.cmp.Ordering.TheVariants.{Less}
-use Rattle.std.proofs.lemmas.Bool.{eq-eqb, ne_eqb, false≢true}
+use Rattle.std.proofs.lemmas.Bool.{cases_lt, eq-eqb, ne_eqb, false≢true}
 use Rattle.gf_facets.specs.LexPositive.{IsNegative}
-use Rattle.std.proofs.lemmas.List.{get_or_default}
+use Rattle.std.proofs.lemmas.List.{get_or_default, get_or-append-add}
+use Rattle.std.proofs.Math.Seq.{get_or-append_seam}
 use Rattle.std.proofs.Math.ListN.{get_or-append}
 use Rattle.std.proofs.lemmas.List.Elements.{All-cons, All-nil, All-append, All-contains, Contains-append_right}
 use Rattle.gf_int.proofs.SignLaws.{0≤-*ℤ, 0<-*ℤ}
 use Rattle.gf_int.proofs.ListLaws.{Contains-here, all_by}
-use Rattle.gf_vec.specs.Vector.{dot, vector_sum}
+use Rattle.gf_vec.specs.Vector.{dot, vector_sum, zeros}
 use Rattle.gf_vec.proofs.VectorLaws.{dot-plus}
 use Rattle.gf_gordan.specs.Alternative.{AreRows, IsSolution}
 use Rattle.gf_ideal.proofs.ListLaws.{Contains-there}
 use Rattle.gf_facets.specs.Normals.{others_of}
-use Rattle.gf_facets.specs.Systems.{units}
-use Rattle.gf_facets.proofs.UnitLaws.{positive_by_units, units_on_positive}
+use Rattle.gf_facets.specs.Systems.{unit, units}
+use Rattle.gf_facets.proofs.UnitLaws.{length-unit, positive_by_units, units_on_positive}
 use Rattle.gf_cone.specs.Small.{IsSmall}
 use Rattle.gf_cone.specs.Cones.{ConeRows, all_rows, normal_at, other_rows, HasUnits}
 use Rattle.gf_cone.specs.Crossing.{IsShownBy, IsCrossable, IsFlipDecided, IsCrossingDecided}
-use Rattle.gf_cone.proofs.AnswerLaws.{others-append, crossable_flippable}
+use Rattle.gf_cone.proofs.AnswerLaws.{others-append, crossable_flippable, kept_in_all, row_read, length-units}
 
 -- ---- the others of one, by places
 
@@ -164,26 +165,73 @@ shown_next vectors place k w v l e z p =
       positive = λ n. subst (λ (t : List ℤ). pos 0 <ℤ dot t w) r (p (ne_eqb k place n));
     }
 
--- the rows at two places make the normal
-pub sum_at : (c : ConeRows) (given : List (List ℤ)) (i j k : ℕ) (a b d : List ℤ) → given ≡ all_rows c → AreRows c.variables given → i < length c.normals → j < length given → k < length given →
-    (j ≡ i → ⊥) → (k ≡ i → ⊥) → a ≡ get_or given i a → b ≡ get_or given j b → d ≡ get_or given k d → a ≡ vector_sum b d → IsCrossable c i → ⊥
-sum_at c given i j k a b d e wide l lj lk nj nk ra rb rd s x =
-    let P : List (List ℤ) → ℕ → Type 0 = λ z m. m < length z in
-    let jl : j < length (all_rows c) = subst (λ (z : List (List ℤ)). j < length z) e lj in
-    let kl : k < length (all_rows c) = subst (λ (z : List (List ℤ)). k < length z) e lk in
-    let qa : a ≡ normal_at c i = ra ∙ ap (λ (z : List (List ℤ)). get_or z i a) e ∙ get_or-append c.normals c.beside a i l ∙ get_or_default c.normals i a [] l in
-    let qb : b ≡ get_or (all_rows c) j [] = rb ∙ ap (λ (z : List (List ℤ)). get_or z j b) e ∙ get_or_default (all_rows c) j b [] jl in
-    let qd : d ≡ get_or (all_rows c) k [] = rd ∙ ap (λ (z : List (List ℤ)). get_or z k d) e ∙ get_or_default (all_rows c) k d [] kl in
-    let w : AreRows c.variables (all_rows c) = subst (AreRows c.variables) e wide in
-    not_crossable_sum c i j k l jl kl nj nk (w j [] jl ∙ sym (w k [] kl)) (sym qa ∙ s ∙ ap (λ (z : List ℤ). vector_sum z d) qb ∙ ap (λ (z : List ℤ). vector_sum (get_or (all_rows c) j []) z) qd) x
+-- where vectors are kept and the unit vectors stand behind them: two kept ones make the normal
+pub sum_at : (c : ConeRows) (kept behind : List (List ℤ)) (i j k : ℕ) (a b d : List ℤ) → all_rows c ≡ kept ++ behind → AreRows c.variables kept → i < length c.normals → j < length kept → k < length kept →
+    (j ≡ i → ⊥) → (k ≡ i → ⊥) → a ≡ normal_at c i → b ≡ get_or kept j b → d ≡ get_or kept k d → a ≡ vector_sum b d → IsCrossable c i → ⊥
+sum_at c kept behind i j k a b d e wide l lj lk nj nk qa rb rd s x =
+    let jl : j < length (all_rows c) = subst (λ (z : List (List ℤ)). j < length z) (sym e) (omega (arith, lj, length-append kept behind)) in
+    let kl : k < length (all_rows c) = subst (λ (z : List (List ℤ)). k < length z) (sym e) (omega (arith, lk, length-append kept behind)) in
+    let qb : b ≡ get_or (all_rows c) j [] = kept_in_all c kept behind j b e lj rb ∙ get_or_default (all_rows c) j b [] jl in
+    let qd : d ≡ get_or (all_rows c) k [] = kept_in_all c kept behind k d e lk rd ∙ get_or_default (all_rows c) k d [] kl in
+    let wb : length b ≡ c.variables = subst (λ (z : List ℤ). length z ≡ c.variables) (sym rb) (wide j b lj) in
+    let wd : length d ≡ c.variables = subst (λ (z : List ℤ). length z ≡ c.variables) (sym rd) (wide k d lk) in
+    not_crossable_sum c i j k l jl kl nj nk (sym (ap (λ (z : List ℤ). length z) qb) ∙ wb ∙ sym wd ∙ ap (λ (z : List ℤ). length z) qd) (sym qa ∙ s ∙ ap (λ (z : List ℤ). vector_sum z d) qb ∙ ap (λ (z : List ℤ). vector_sum (get_or (all_rows c) j []) z) qd) x
+
+-- a unit vector at its place behind them
+unit_in_all : (n i : ℕ) (kept : List (List ℤ)) → i < n → get_or (kept ++ units n n) (length kept + i) [] ≡ unit n i
+unit_in_all n i kept l = get_or-append-add kept (units n n) i [] ∙ at n l
+  where
+    at : (k : ℕ) → i < k → get_or (units n k) i [] ≡ unit n i
+    at zero m = absurd (omega (arith, m))
+    at (suc k) m = elim (cases_lt i k) [
+      | inl s ↦ get_or-append (units n k) (unit n k ∷ []) [] i (omega (arith, s, length-units n k)) ∙ at k s
+      | inr g ↦ (
+          let e : i ≡ k = omega (arith, m, g) in
+          let f : i ≡ length (units n k) = omega (arith, e, length-units n k) in
+          ap (λ (z : ℕ). get_or (units n k ++ unit n k ∷ []) z []) f ∙ get_or-append_seam (units n k) (unit n k) [] [] ∙ ap (unit n) (sym e)
+          )
+    ]
+
+-- a kept one and a unit vector make the normal
+pub raised_at : (c : ConeRows) (kept : List (List ℤ)) (i j u m : ℕ) (a b : List ℤ) → all_rows c ≡ kept ++ units c.variables c.variables → AreRows c.variables kept → length c.normals ≤ length kept → i < length c.normals → j < length kept → u < c.variables →
+    (j ≡ i → ⊥) → m ≡ c.variables → a ≡ normal_at c i → b ≡ get_or kept j b → a ≡ vector_sum b (unit m u) → IsCrossable c i → ⊥
+raised_at c kept i j u m a b e wide front l lj lu nj em qa rb s x =
+    let jl : j < length (all_rows c) = subst (λ (z : List (List ℤ)). j < length z) (sym e) (omega (arith, lj, length-append kept (units c.variables c.variables))) in
+    let ul : length kept + u < length (all_rows c) = subst (λ (z : List (List ℤ)). length kept + u < length z) (sym e) (omega (arith, lu, length-append kept (units c.variables c.variables), length-units c.variables c.variables)) in
+    let qb : b ≡ get_or (all_rows c) j [] = kept_in_all c kept (units c.variables c.variables) j b e lj rb ∙ get_or_default (all_rows c) j b [] jl in
+    let qu : unit m u ≡ get_or (all_rows c) (length kept + u) [] = ap (λ (z : ℕ). unit z u) em ∙ sym (unit_in_all c.variables u kept lu) ∙ ap (λ (z : List (List ℤ)). get_or z (length kept + u) []) (sym e) in
+    let wb : length b ≡ c.variables = subst (λ (z : List ℤ). length z ≡ c.variables) (sym rb) (wide j b lj) in
+    let wu : length (unit m u) ≡ c.variables = length-unit m u ∙ em in
+    not_crossable_sum c i j (length kept + u) l jl ul nj (λ q. omega (arith, q, front, l)) (sym (ap (λ (z : List ℤ). length z) qb) ∙ wb ∙ sym wu ∙ ap (λ (z : List ℤ). length z) qu)
+    (sym qa ∙ s ∙ ap (λ (z : List ℤ). vector_sum z (unit m u)) qb ∙ ap (λ (z : List ℤ). vector_sum (get_or (all_rows c) j []) z) qu) x
+
+-- the entries of a unit vector
+zeros_entry : (n i : ℕ) → get_or (zeros n) i (pos 0) ≡ pos 0
+zeros_entry zero i = refl
+zeros_entry (suc n) zero = refl
+zeros_entry (suc n) (suc i) = zeros_entry n i
+
+pub unit_one : (n i k : ℕ) → k < n → k ≡ i → get_or (unit n i) k (pos 0) ≡ pos 1
+unit_one zero i k l e = absurd (omega (arith, l))
+unit_one (suc n) zero zero l e = refl
+unit_one (suc n) zero (suc k) l e = absurd (omega (arith, e))
+unit_one (suc n) (suc i) zero l e = absurd (omega (arith, e))
+unit_one (suc n) (suc i) (suc k) l e = unit_one n i k (omega (arith, l)) (omega (arith, e))
+
+pub unit_zero : (n i k : ℕ) → (k ≡ i → ⊥) → get_or (unit n i) k (pos 0) ≡ pos 0
+unit_zero zero i k e = refl
+unit_zero (suc n) zero zero e = absurd (e refl)
+unit_zero (suc n) zero (suc k) e = zeros_entry n k
+unit_zero (suc n) (suc i) zero e = refl
+unit_zero (suc n) (suc i) (suc k) e = unit_zero n i k (λ q. e (ap suc q))
 
 -- the normal at a place is above zero
-pub above_at : (c : ConeRows) (given : List (List ℤ)) (i j : ℕ) (a entries : List ℤ) → given ≡ all_rows c → AreRows c.variables given → HasUnits c → i < length c.normals → a ≡ get_or given i a → entries ≡ a →
-    All (λ x. pos 0 ≤ℤ x) entries → j < length entries → pos 0 <ℤ get_or entries j (pos 0) → IsCrossable c i → ⊥
-above_at c given i j a entries e wide u l ra re h m p x =
-    let qa : a ≡ normal_at c i = ra ∙ ap (λ (z : List (List ℤ)). get_or z i a) e ∙ get_or-append c.normals c.beside a i l ∙ get_or_default c.normals i a [] l in
-    let w : AreRows c.variables (all_rows c) = subst (AreRows c.variables) e wide in
-    not_crossable_above c i j entries u (re ∙ qa) (sym (ap (λ (t : List ℤ). length t) (read_all c i l)) ∙ w i [] (in_all c i l)) h m p x
+pub above_at : (c : ConeRows) (kept : List (List ℤ)) (i j : ℕ) (a entries : List ℤ) → all_rows c ≡ kept ++ units c.variables c.variables → AreRows c.variables kept → length c.normals ≤ length kept → HasUnits c → i < length c.normals →
+    a ≡ get_or kept i a → entries ≡ a → All (λ x. pos 0 ≤ℤ x) entries → j < length entries → pos 0 <ℤ get_or entries j (pos 0) → IsCrossable c i → ⊥
+above_at c kept i j a entries e wide front u l ra re h m p x =
+    let k : i < length kept = omega (arith, l, front) in
+    let qa : a ≡ normal_at c i = row_read c kept (units c.variables c.variables) i a l e k ra in
+    not_crossable_above c i j entries u (re ∙ qa) (ap (λ (t : List ℤ). length t) (sym qa ∙ ra) ∙ subst (λ (t : List ℤ). length t ≡ c.variables) refl (wide i a k)) h m p x
 
 -- what is told of the system is told of the facet
 pub decided_flip : (c : ConeRows) (i : ℕ) → i < length c.normals → (r : Bool) → (IsTrue r ↔ IsCrossable c i) → IsFlipDecided c i r

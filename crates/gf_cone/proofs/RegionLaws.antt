@@ -5,10 +5,11 @@ use Rattle.std.specs.Ordering.{int_cmp, MatchOrdering}
 use Rattle.std.specs.Cmp.Lexicographic.{slice_cmp}
 use Rattle.std.specs.declared.cmp.Ordering.{Ordering}
 use Rattle.std.specs.declared.cmp.Ordering.TheVariants.{Less, Equal}
-use Rattle.std.proofs.Common.{◌≡◌, ◌↔◌, ℕ, zero, suc, ◌+◌, ◌*◌, ◌<◌, ◌≤◌, ◌^◌, List, [], ◌∷◌, ◌++◌, length, get_or, take, drop, replicate, All, ℤ, pos, ◌+ℤ◌, ◌*ℤ◌, unsigned_abs, arith, refl, sym, ap, ap₂, ◌∙◌, subst, inl, inr, append_assoc, length-append}
+use Rattle.std.proofs.Common.{◌≡◌, ◌↔◌, ℕ, zero, suc, ◌+◌, ◌*◌, ◌<◌, ◌≤◌, ◌^◌, List, [], ◌∷◌, ◌++◌, length, get_or, drop, replicate, All, ℤ, pos, ◌+ℤ◌, ◌*ℤ◌, unsigned_abs, arith, refl, sym, ap, ap₂, ◌∙◌, subst, inl, inr, append_assoc, length-append}
 use Rattle.std.proofs.lemmas.Bool.{cases_lt}
 use Rattle.std.proofs.lemmas.Int.{ints, unsigned_abs-mul}
-use Rattle.std.proofs.lemmas.List.{get_or_default, length-replicate, drop_more, take-append-drop}
+use Rattle.std.proofs.lemmas.List.{get_or_default, length-replicate, drop_more}
+use Rattle.std.proofs.Math.ListN.{get_or-append}
 use Rattle.std.proofs.lemmas.List.Elements.{All-contains, Contains-append_left, Contains-append_cases}
 use Rattle.gf_int.proofs.ListLaws.{all_by}
 use Rattle.gf_gordan.specs.Sizes.{HaveEntriesUpTo}
@@ -110,12 +111,13 @@ front_same [] more (y ∷ ys) e h = absurd (omega (arith, e))
 front_same (x ∷ xs) more [] e h = absurd (omega (arith, e))
 front_same (x ∷ xs) more (y ∷ ys) e h = ap₂ ◌∷◌ (h zero (omega arith)) (front_same xs more ys (omega (arith, e)) (λ j l. h (suc j) (omega (arith, l))))
 
-pub rows_same : (k : Region) (c : ConeRows) (given rows : List (List ℤ)) → given ≡ c.beside → rows ≡ k.rows → length given ≡ length rows + c.variables → AgreeTo given rows (length rows) → HasRowsOf k c
+pub rows_same : (k : Region) (c : ConeRows) (given rows : List (List ℤ)) → c.beside ≡ given ++ units c.variables c.variables → rows ≡ k.rows → length given ≡ length rows → AgreeTo given rows (length rows) → HasRowsOf k c
 rows_same k c given rows e f l h n j bs is =
-    let parts : given ≡ j.rows ++ units n n = e ∙ is.beside in
-    let long : length given ≡ length j.rows + n = ap (λ (z : List (List ℤ)). length z) parts ∙ length-append j.rows (units n n) ∙ ap (λ (m : ℕ). length j.rows + m) (length-units n n) in
-    let same : length j.rows ≡ length rows = (let v = is.variables in omega (arith, long, l, v)) in
-    region_moved n j k bs c (front_same j.rows (units n n) rows same (subst (λ (z : List (List ℤ)). AgreeTo z rows (length rows)) parts h) ∙ f) is
+    let wide : AgreeTo c.beside rows (length rows) = subst (λ (z : List (List ℤ)). AgreeTo z rows (length rows)) (sym e) (λ i m. get_or-append given (units c.variables c.variables) [] i (omega (arith, l, m)) ∙ h i m) in
+    let own : length c.beside ≡ length given + c.variables = ap (λ (z : List (List ℤ)). length z) e ∙ length-append given (units c.variables c.variables) ∙ ap (λ (m : ℕ). length given + m) (length-units c.variables c.variables) in
+    let other : length c.beside ≡ length j.rows + n = ap (λ (z : List (List ℤ)). length z) is.beside ∙ length-append j.rows (units n n) ∙ ap (λ (m : ℕ). length j.rows + m) (length-units n n) in
+    let same : length j.rows ≡ length rows = (let v = is.variables in omega (arith, own, other, l, v)) in
+    region_moved n j k bs c (front_same j.rows (units n n) rows same (subst (λ (z : List (List ℤ)). AgreeTo z rows (length rows)) is.beside wide) ∙ f) is
 
 -- ---- the root, as a program reads it
 
@@ -148,8 +150,3 @@ product_fits z h = omega (arith, h)
 
 pub agree_next : (xs ys : List (List ℤ)) (i : ℕ) (x y : List ℤ) (o : Ordering) → i < length xs → i < length ys → x ≡ get_or xs i x → y ≡ get_or ys i y → o ≡ slice_cmp int_cmp x y → o ≡ Equal → AgreeTo xs ys i → AgreeTo xs ys (i + 1)
 agree_next xs ys i x y o l m p q r e h = agree_more xs ys i h (sym (p ∙ get_or_default xs i x [] l) ∙ subst (λ c. MatchOrdering c (IsBefore x y) (x ≡ y) (IsBefore y x)) (sym r ∙ e) (vectors_compare x y) ∙ (q ∙ get_or_default ys i y [] m))
-
-pub beside_read : (c : ConeRows) (m p : ℕ) (vs given all : List (List ℤ)) → c ≡ record { variables = m; normals = take p vs; beside = drop p vs } → all ≡ all_rows c → given ≡ drop p all → given ≡ c.beside
-beside_read c m p vs given all e f g =
-    let P : ConeRows → Type 0 = λ z. all ≡ all_rows z → given ≡ z.beside in
-    subst P (sym e) (λ h. g ∙ ap (drop p) (h ∙ take-append-drop p vs)) f

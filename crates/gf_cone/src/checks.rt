@@ -4,7 +4,8 @@ ghost use Rattle.gf_vec.specs.Vector.{dot, vector_sum};
 ghost use Rattle.gf_gordan.specs.Alternative.{AreRows, IsSolution};
 ghost use Rattle.gf_cone.specs.Small.{IsSmall, IsShort};
 ghost use Rattle.gf_cone.specs.Cones.{all_rows, normal_at, other_rows};
-ghost use Rattle.gf_cone.specs.Crossing.{IsShownBy};
+ghost use Rattle.gf_facets.specs.Systems.{unit};
+ghost use Rattle.gf_cone.specs.Crossing.{IsShownBy, IsCrossable};
 
 use crate::cone::Cone;
 use crate::narrow::{dot_of, dot_of_small, is_short};
@@ -118,7 +119,7 @@ pub(crate) fn all_positive_on(cone: &Cone, w: &[i128]) -> bool
 }
 
 /// Whether `a` is the sum of `b` and `c`. False where a sum leaves the range.
-pub(crate) fn is_sum(a: &[i128], b: &[i128], c: &[i128]) -> bool
+fn is_sum(a: &[i128], b: &[i128], c: &[i128]) -> bool
     requires second { length b.now ≡ length a.now }
     requires third { length c.now ≡ length a.now }
     ensures { IsTrue result → a.now ≡ vector_sum b.now c.now }
@@ -137,7 +138,7 @@ pub(crate) fn is_sum(a: &[i128], b: &[i128], c: &[i128]) -> bool
 }
 
 /// Whether no entry is negative.
-pub(crate) fn none_negative(a: &[i128]) -> bool
+fn none_negative(a: &[i128]) -> bool
     ensures { IsTrue result → All (λ x. pos 0 ≤ℤ x) a.now }
 {
     for x in a {
@@ -149,7 +150,7 @@ pub(crate) fn none_negative(a: &[i128]) -> bool
 }
 
 /// Whether some entry is positive.
-pub(crate) fn some_positive(a: &[i128]) -> bool
+fn some_positive(a: &[i128]) -> bool
     ensures { IsTrue result → (i : ℕ) × (i < length a.now) × (pos 0 <ℤ slice_index_or a.now i (pos 0)) }
 {
     for x in a {
@@ -158,4 +159,76 @@ pub(crate) fn some_positive(a: &[i128]) -> bool
         }
     }
     false
+}
+
+/// Whether the normal at a place is seen to be a sum of unit vectors.
+pub(crate) fn is_above_zero(cone: &Cone, place: usize) -> bool
+    requires { place < length cone.now.normals }
+    ensures { IsTrue result → IsCrossable cone.now place → ⊥ }
+{
+    let normal = cone.kept()[place].as_slice();
+    none_negative(normal) && some_positive(normal)
+}
+
+/// The entry at a place of the unit vector of the variable `at`, of `n`.
+fn unit_entry(n: usize, at: usize, place: usize) -> i128
+    requires { place < n }
+    ensures { result ≡ slice_index_or (unit n at) place (pos 0) }
+{
+    if place == at { 1 } else { 0 }
+}
+
+/// Whether `a` is the sum of `b` and the unit vector of the variable `at`. False where a sum leaves the range.
+fn is_raised(a: &[i128], b: &[i128], at: usize) -> bool
+    requires { length b.now ≡ length a.now }
+    ensures { IsTrue result → a.now ≡ vector_sum b.now (unit (length a.now) at) }
+{
+    let n = a.len();
+    for i in 0..n {
+        match total(b[i], unit_entry(n, at, i)) {
+            Ok(sum) => {
+                if sum != a[i] {
+                    return false;
+                }
+            }
+            Err(_error) => return false,
+        }
+    }
+    true
+}
+
+/// Whether the normal at a place is the sum of the kept vector at another place and the unit vector of the variable `at`. False where
+/// a sum leaves the range.
+fn is_raised_to(cone: &Cone, place: usize, other: usize, at: usize) -> bool
+    requires { place < length cone.now.normals }
+    ensures { IsTrue result → IsCrossable cone.now place → ⊥ }
+{
+    let kept = cone.kept();
+    if other >= kept.len() || other == place || at >= cone.variables() as usize {
+        return false;
+    }
+    is_raised(kept[place].as_slice(), kept[other].as_slice(), at)
+}
+
+/// Whether the normal at a place is the sum of the vectors at two other places, which aren't both unit vectors. False where a sum
+/// leaves the range.
+pub(crate) fn is_sum_of(cone: &Cone, place: usize, b: usize, c: usize) -> bool
+    requires { place < length cone.now.normals }
+    ensures { IsTrue result → IsCrossable cone.now place → ⊥ }
+{
+    let kept = cone.kept();
+    if b >= kept.len() {
+        return is_raised_to(cone, place, c, b - kept.len());
+    }
+    if c >= kept.len() {
+        return is_raised_to(cone, place, b, c - kept.len());
+    }
+    if b == place || c == place {
+        return false;
+    }
+    is_sum(
+        kept[place].as_slice(),
+        kept[b].as_slice(),
+        kept[c].as_slice(),
+    )
 }

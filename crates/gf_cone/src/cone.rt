@@ -1,5 +1,5 @@
 //! The cone of a marked set.
-ghost use Rattle.std.specs.Prelude.{◌≡◌, ◌<◌, ◌≤◌, ◌-◌, ◌∷◌, [], ◌++◌, length, take, All, IfOk, IfErr, IfSome, IsNone, IsTrue};
+ghost use Rattle.std.specs.Prelude.{◌≡◌, ◌<◌, ◌≤◌, ◌∷◌, [], ◌++◌, length, All, IfOk, IfErr, IfSome, IsNone, IsTrue};
 ghost use Rattle.gf_gordan.specs.Alternative.{AreRows, IsSolution};
 ghost use Rattle.gf_cone.specs.Crossing.{IsCrossable};
 ghost use Rattle.gf_gordan.specs.Steps.{Failed};
@@ -25,7 +25,7 @@ use std::alloc::{AllocError, Global};
 use std::cmp::Ordering;
 use std::marker::Model;
 
-/// The normals of a marked set; behind them the rows of a region, and the unit vectors.
+/// The normals of a marked set; behind them the rows of a region. The unit vectors, which are rows too, aren't kept.
 #[derive(Drop)]
 pub struct Cone {
     variables: u32,
@@ -34,18 +34,19 @@ pub struct Cone {
 }
 
 impl Model for Cone {
-    ghost use Rattle.std.specs.Prelude.{◌≤◌, length, take, drop};
+    ghost use Rattle.std.specs.Prelude.{◌++◌, take, drop};
+    ghost use Rattle.gf_facets.specs.Systems.{units};
     ghost use Rattle.gf_cone.specs.Cones.{ConeRows};
     ghost use Rattle.gf_cone.specs.Keeping.{AreVectorsKept};
 
     ghost Value = { ConeRows };
 
-    ghost view = { λ c. record { variables = c.variables; normals = take c.count c.vectors.items; beside = drop c.count c.vectors.items } };
+    ghost view = { λ c. record { variables = c.variables; normals = take c.count c.vectors.items; beside = drop c.count c.vectors.items ++ units c.variables c.variables } };
 
     ghost invariant = { λ c. AreVectorsKept c.variables c.vectors.items c.count };
 }
 
-/// The cone of a marked set, with rows behind its normals and then the unit vectors.
+/// The cone of a marked set, with rows behind its normals.
 ///
 /// # Errors
 /// Want of memory.
@@ -56,22 +57,12 @@ fn made(alloc: Global, set: &MarkedSet, rows: &[IntVec]) -> Result<Cone, AllocEr
     let normals = normals(alloc, set)?;
     let variables = set.variables();
     let count = normals.len();
-    let more = with_copies(normals, rows)?;
-    let vectors = with_units(alloc, more, variables as usize)?;
+    let vectors = with_copies(normals, rows)?;
     Ok(Cone {
         variables,
         vectors,
         count,
     })
-}
-
-/// All of a list but its last vectors, as many as told.
-fn without_last(list: &[IntVec], last: usize) -> &[IntVec]
-    requires { last ≤ length list.now }
-    ensures { result.now ≡ take (length list.now - last) list.now }
-{
-    let (front, _) = list.split_at(list.len() - last);
-    front
 }
 
 impl Cone {
@@ -113,13 +104,33 @@ impl Cone {
         &self.vectors.as_slice()[..self.count]
     }
 
-    /// The normals, and then the rows beside them: those of the region, and the unit vectors.
-    pub fn vectors(&self) -> &[IntVec]
-        ensures value { result.now ≡ all_rows self.now }
+    /// The normals, and then the rows of the region that the cone was made in.
+    pub(crate) fn kept(&self) -> &[IntVec]
+        ensures value { all_rows self.now ≡ result.now ++ units self.now.variables self.now.variables }
         ensures widths { AreRows self.now.variables result.now }
+        ensures front { length self.now.normals ≤ length result.now }
         ensures units { HasUnits self.now }
     {
         self.vectors.as_slice()
+    }
+
+    /// Copies of the normals, and then of the rows beside them: those of the region, and the unit vectors.
+    ///
+    /// # Errors
+    /// Want of memory.
+    pub fn vectors(&self) -> Result<Vec<IntVec>, AllocError>
+        ensures value { IfOk result (λ v. v.items ≡ all_rows self.now) }
+        ensures widths { IfOk result (λ v. AreRows self.now.variables v.items) }
+        ensures units { HasUnits self.now }
+    {
+        let alloc = *self.vectors.allocator();
+        let list = with_copies(Vec::with_capacity(alloc, self.len())?, self.kept())?;
+        with_units(alloc, list, self.variables as usize)
+    }
+
+    /// How many normals and rows beside them there are, the unit vectors among them.
+    pub(crate) fn len(&self) -> usize {
+        self.vectors.len().saturating_add(self.variables as usize)
     }
 
     /// The rows of the region that the cone was made in.
@@ -127,8 +138,8 @@ impl Cone {
         ensures value { self.now.beside ≡ result.now ++ units self.now.variables self.now.variables }
         ensures widths { AreRows self.now.variables result.now }
     {
-        let (_, beside) = self.vectors.as_slice().split_at(self.count);
-        without_last(beside, self.variables as usize)
+        let (_, rows) = self.vectors.as_slice().split_at(self.count);
+        rows
     }
 
     /// What the vector at a place gives on a list of entries, of which it is told whether it is short: what a unit vector gives is an
@@ -153,13 +164,13 @@ impl Cone {
     pub fn is_within(&self, region: &Region) -> bool
         ensures { IsTrue result → HasRowsOf region.now self.now }
     {
-        let (_, beside) = self.vectors().split_at(self.count);
+        let own = self.rows();
         let rows = region.rows();
-        if beside.len() < rows.len() || beside.len() - rows.len() != self.variables as usize {
+        if own.len() != rows.len() {
             return false;
         }
         'rows: for i in 0..rows.len() {
-            match beside[i].lex_cmp(&rows[i]) {
+            match own[i].lex_cmp(&rows[i]) {
                 Ordering::Equal => {}
                 _ => return false,
             }
@@ -235,9 +246,10 @@ impl Cone {
         // no step leaves the range with three variables and entries up to 500
         ensures three_columns { self.now.variables ≤ 3 → HaveEntriesUpTo 500 (all_rows self.now) → IfErr result (λ e. e ≡ Memory) }
     {
-        let vectors = self.vectors();
+        let kept = self.kept();
         let alloc = *self.vectors.allocator();
-        let rows = others(alloc, vectors, place)?;
-        solution_at(alloc, self.variables, rows.as_slice(), &vectors[place])
+        let list = others(alloc, kept, place)?;
+        let rows = with_units(alloc, list, self.variables as usize)?;
+        solution_at(alloc, self.variables, rows.as_slice(), &kept[place])
     }
 }

@@ -6,13 +6,13 @@ ghost use Rattle.gf_gordan.specs.Sizes.{HaveEntriesUpTo};
 ghost use Rattle.gf_gordan.specs.declared.error.GordanError.TheVariants.{Memory};
 ghost use Rattle.gf_facets.specs.LexPositive.{IsNegative};
 ghost use Rattle.gf_cone.specs.Small.{IsSmall};
-ghost use Rattle.gf_cone.specs.Cones.{all_rows, normal_at, other_rows, HasRowsOf, HasUnits};
+ghost use Rattle.gf_cone.specs.Cones.{all_rows, normal_at, other_rows, HasRowsOf};
 ghost use Rattle.gf_cone.specs.Answers.{IsNormalStep};
 ghost use Rattle.gf_cone.specs.Crossing.{IsCrossable, IsRemembered, LeadsUpAt, IsFlipDecided, IsCrossingDecided, IsLeastUp, IsWayFrom, IsWayShown, SomeUpBefore, IsStepBefore};
 
 use crate::aims::aimed;
 use crate::answer::Way;
-use crate::checks::{is_sum, none_negative, shows, some_positive};
+use crate::checks::{is_above_zero, is_sum_of, shows};
 use crate::cone::Cone;
 use crate::region::Region;
 use crate::shots::{shot, values_on};
@@ -148,15 +148,6 @@ impl KnownCone {
         self.cone.normals()
     }
 
-    /// The normals, and then the rows beside them.
-    fn vectors(&self) -> &[IntVec]
-        ensures value { result.now ≡ all_rows self.now }
-        ensures widths { AreRows self.now.variables result.now }
-        ensures units { HasUnits self.now }
-    {
-        self.cone.vectors()
-    }
-
     /// The number of variables.
     fn variables(&self) -> u32
         ensures { result ≡ self.now.variables }
@@ -219,29 +210,22 @@ impl KnownCone {
         }
     }
 
-    /// Whether the normal at a place is seen to be a sum of unit vectors.
-    fn is_above_zero(&self, place: usize) -> bool
+    /// Whether the normal at a place is seen to be a sum of unit vectors, or of two other vectors.
+    fn is_sum(&self, place: usize) -> bool
         requires { place < length self.now.normals }
         ensures { IsTrue result → IsCrossable self.now place → ⊥ }
     {
-        let normal = self.vectors()[place].as_slice();
-        none_negative(normal) && some_positive(normal)
-    }
-
-    /// Whether the normal at a place is seen to be the sum of two other vectors.
-    fn is_sum_of_two(&self, place: usize) -> bool
-        requires { place < length self.now.normals }
-        ensures { IsTrue result → IsCrossable self.now place → ⊥ }
-    {
-        let vectors = self.vectors();
-        let normal = vectors[place].as_slice();
-        let Some((b, c)) = two_places(self.hints.keys.as_slice(), normal, place) else {
-            return false;
-        };
-        if b >= vectors.len() || c >= vectors.len() || b == place || c == place {
-            return false;
+        if is_above_zero(&self.cone, place) {
+            return true;
         }
-        is_sum(normal, vectors[b].as_slice(), vectors[c].as_slice())
+        match two_places(
+            self.hints.keys.as_slice(),
+            self.normals()[place].as_slice(),
+            place,
+        ) {
+            Some((b, c)) => is_sum_of(&self.cone, place, b, c),
+            None => false,
+        }
     }
 
     /// Remembers that no flip crosses the facet of a normal that is seen to be a sum.
@@ -249,11 +233,7 @@ impl KnownCone {
         requires { place < length self.old.normals }
         ensures { self.new ≡ self.old }
     {
-        if self.is_above_zero(place) {
-            self.set(place, Known::No);
-            return;
-        }
-        if self.is_sum_of_two(place) {
+        if self.is_sum(place) {
             self.set(place, Known::No);
         }
     }
@@ -578,7 +558,7 @@ impl KnownCone {
         // no step leaves the range with three variables and entries up to 500
         ensures three_columns { self.now.variables ≤ 3 → HaveEntriesUpTo 500 (all_rows self.now) → IfErr result (λ e. e ≡ Memory) }
     {
-        if self.is_above_zero(place) || self.is_sum_of_two(place) {
+        if self.is_sum(place) {
             return Ok(None);
         }
         match self.point_of_shot(place) {

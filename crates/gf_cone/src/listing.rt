@@ -105,7 +105,7 @@ fn with_normals(alloc: Global, list: Vec<IntVec>, b: &Marked) -> Result<Vec<IntV
     Ok(more)
 }
 
-/// The normals of a marked set, ascending, each once. The list has room for the unit vectors where each member has one normal.
+/// The normals of a marked set, ascending, each once. The list has room for one of each member, and as many more as there are variables.
 ///
 /// # Errors
 /// Want of memory.

@@ -23,7 +23,7 @@ fn factor_of(cone: &Cone, near: &[i128], normal: &[i128]) -> Option<i128>
     let near_short = is_short(near);
     let normal_short = is_short(normal);
     let mut factor = 1;
-    for k in 0..cone.vectors().len() {
+    for k in 0..cone.len() {
         let value = cone.value_at(k, near, near_short)?;
         let slope = cone.value_at(k, normal, normal_short)?;
         if value > 0 {
@@ -124,7 +124,10 @@ fn small_near(alloc: Global, cone: &Cone, v: &[i128]) -> Option<IntVec>
 fn fresh(alloc: Global, cone: &Cone) -> Option<IntVec>
     ensures { IfSome result (IsSolution cone.now.variables (all_rows cone.now) []) }
 {
-    match strict(alloc, cone.variables(), cone.vectors(), &[]) {
+    let Ok(vectors) = cone.vectors() else {
+        return None;
+    };
+    match strict(alloc, cone.variables(), vectors.as_slice(), &[]) {
         Ok(Answer::Point(point)) => Some(point),
         _ => None,
     }

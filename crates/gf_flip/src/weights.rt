@@ -41,7 +41,11 @@ fn inner(alloc: Global, n: u32, lifts: &[Marked]) -> Option<IntVec>
         Ok(cone) => cone,
         Err(_) => return None,
     };
-    match strict(alloc, cone.variables(), cone.vectors(), &[]) {
+    let vectors = match cone.vectors() {
+        Ok(vectors) => vectors,
+        Err(_) => return None,
+    };
+    match strict(alloc, cone.variables(), vectors.as_slice(), &[]) {
         Ok(Answer::Point(point)) => Some(point),
         _ => None,
     }

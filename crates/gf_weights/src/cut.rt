@@ -27,8 +27,9 @@ pub(crate) fn cut_cone(alloc: Global, set: &MarkedSet, region: &Region) -> Resul
     ensures err { IfErr result (IsWeightCauseIn set.now.variables region.now set.now.items) }
 {
     let cone = Cone::within(alloc, set, region)?;
+    let vectors = cone.vectors()?;
     let none = Vec::new(alloc);
-    let rays = Rays::of(alloc, cone.variables(), cone.vectors(), none.as_slice())?;
+    let rays = Rays::of(alloc, cone.variables(), vectors.as_slice(), none.as_slice())?;
     Ok(Cut { cone, rays })
 }
 

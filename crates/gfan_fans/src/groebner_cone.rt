@@ -1,5 +1,6 @@
 //! What `_groebnercone` writes for an input.
 ghost use Rattle.std.specs.Prelude.{◌≡◌, ◌≤◌, true, false, IfOk, IfErr, [], ◌∷◌};
+ghost use Rattle.gf_cone.specs.Cones.{all_rows};
 ghost use Rattle.gf_gordan.specs.Alternative.{AreRows};
 ghost use Rattle.gf_text.specs.declared.TheConstants.{MOST_VARIABLES};
 ghost use Rattle.gf_frame.specs.Commands.{IsAnswered, IsRefusedOn, IsAnswerFor, IsUnanswered};
@@ -18,12 +19,15 @@ use gfan_common::checks::{check_each, check_space};
 use gfan_common::refused::{Refused, of_check};
 use std::alloc::Global;
 
-/// The rows of a cone that are told: its normals, and the unit vectors behind them where it is cut with the non-negative orthant.
-fn rows_told(cone: &Cone, cut: bool) -> &[IntVec]
+/// The rows of a cone that are told, of its vectors: its normals, and the unit vectors behind them where it is cut with the non-negative
+/// orthant.
+fn rows_told<'a>(cone: &'a Cone, vectors: &'a [IntVec], cut: bool) -> &'a [IntVec]
+    requires value { vectors.now ≡ all_rows cone.now }
+    requires widths { AreRows cone.now.variables vectors.now }
     ensures rows { result.now ≡ cut_of cut cone.now }
     ensures widths { AreRows cone.now.variables result.now }
 {
-    if cut { cone.vectors() } else { cone.normals() }
+    if cut { vectors } else { cone.normals() }
 }
 
 /// The text of the cone of a marked set, where it is the reduced Gröbner basis for its marking. Its members are counted in 32 bits.
@@ -47,7 +51,14 @@ fn basis_cone(
         Err(error) => return Err(of_check(error)),
     };
     let cone = Cone::of(alloc, marked)?;
-    told(alloc, n, rows_told(&cone, options.restricted), &[], options)
+    let vectors = cone.vectors()?;
+    told(
+        alloc,
+        n,
+        rows_told(&cone, vectors.as_slice(), options.restricted),
+        &[],
+        options,
+    )
 }
 
 /// The text of the cone of inequalities and equations in `n` variables, each with an entry for each variable.

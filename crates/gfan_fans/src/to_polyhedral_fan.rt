@@ -24,7 +24,12 @@ fn cone_of(alloc: Global, set: &MarkedSet, cut: bool) -> Result<Rays, GordanErro
     ensures err { IfErr result (Failed (IsConeStepOfSet cut set.now)) }
 {
     let cone = Cone::of(alloc, set)?;
-    let inequalities = if cut { cone.vectors() } else { cone.normals() };
+    let vectors = cone.vectors()?;
+    let inequalities = if cut {
+        vectors.as_slice()
+    } else {
+        cone.normals()
+    };
     Rays::of(alloc, cone.variables(), inequalities, &[])
 }
 

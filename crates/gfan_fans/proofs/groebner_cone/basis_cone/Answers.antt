@@ -17,6 +17,11 @@ returns-in_err-cone-clause-err c =
     let p = err_from_is_err_and c.from_residual.result c.from_residual.ensures.1 in
     rw (p.1, p.2) (IsBasisConeCause.at_check check_errors.Memory tt refl)
 
+pub returns-in_err-vectors-clause-err : goal.returns-in_err-vectors-clause-err
+returns-in_err-vectors-clause-err c =
+    let p = err_from_is_err_and c.from_residual-in_err-vectors.result c.from_residual-in_err-vectors.ensures.1 in
+    rw (p.1, p.2) (IsBasisConeCause.at_check check_errors.Memory tt refl)
+
 pub told-requires-clause-inequalities : goal.told-requires-clause-inequalities
 told-requires-clause-inequalities c = subst (λ (k : ℕ). AreRows k c.rows_told.result.now) (c.in_ok-cone.ensures.variables ∙ c.requires.variables) c.rows_told.ensures.widths
 
