@@ -1,11 +1,11 @@
 //! The steps of the search: the way up from a basis, and what is across a facet.
 ghost use Rattle.std.specs.Prelude.{◌≡◌, IfOk, IfErr, IfSome, Some};
 ghost use Rattle.gf_facets.specs.Facets.{IsFlippable};
-ghost use Rattle.gf_facets.specs.Normals.{AreNormals};
+ghost use Rattle.gf_facets.specs.Normals.{Ascends};
 ghost use Rattle.gf_cone.specs.Cones.{IsConeOf};
 ghost use Rattle.gf_reverse.specs.Upward.{IsNode, fan_of};
 ghost use Rattle.gf_reverse.specs.Answers.{IsAcross, IsWayAnswer};
-ghost use Rattle.gf_tree.specs.Places.{IsVectorPlace};
+ghost use Rattle.gf_tree.specs.Places.{IsVectorPlace, AreDownward};
 ghost use Rattle.gf_tree.specs.Parents.{IsBelowTold, IsLedBack};
 ghost use Rattle.gf_tree.specs.Refusals.{IsTreeRefusal, IsRefusedAtBasis};
 
@@ -15,17 +15,22 @@ use gf_cone::KnownCone;
 use gf_flip::flip;
 use gf_poly::MarkedSet;
 use gf_vec::IntVec;
-use std::alloc::{AllocError, Global};
+use std::alloc::AllocError;
 use std::cmp::Ordering;
 
-/// The place of a vector in a list.
+/// The place of a vector in an ascending list, which is halved until it is found.
 fn place_of(list: &[IntVec], v: &IntVec) -> Option<usize>
+    requires { Ascends list.now }
     ensures { IsVectorPlace list.now v.now result }
 {
-    'places: for i in 0..list.len() {
-        match list[i].lex_cmp(v) {
-            Ordering::Equal => return Some(i),
-            _ => {}
+    let mut low = 0;
+    let mut high = list.len();
+    'places: while low < high {
+        let middle = low + (high - low) / 2;
+        match list[middle].lex_cmp(v) {
+            Ordering::Less => low = middle + 1,
+            Ordering::Equal => return Some(middle),
+            Ordering::Greater => high = middle,
         }
     }
     None
@@ -194,28 +199,40 @@ pub(crate) fn led_back(
     }
 }
 
-/// These vectors again.
-fn copied(alloc: Global, list: &[IntVec]) -> Result<Vec<IntVec>, AllocError>
-    ensures { IfOk result (λ v. v.items ≡ list.now) }
+/// What `downward` answers, by the cone of the basis.
+fn downward_in(
+    tree: &BasisTree,
+    set: &MarkedSet,
+    cone: &KnownCone,
+) -> Result<Vec<IntVec>, AllocError>
+    requires node { IsNode tree.now.region set.now }
+    requires cone { IsConeOf set.now.variables tree.now.region set.now.items cone.now }
+    ensures { IfOk result (λ ns. AreDownward tree.now.region.root set.now.items ns.items) }
 {
-    let mut out = Vec::with_capacity(alloc, list.len())?;
-    'items: for i in 0..list.len() {
-        let item = list[i].copy()?;
-        out.push(item)?;
+    let list = cone.normals();
+    let mut out = Vec::with_capacity(tree.alloc, list.len())?;
+    'normals: for i in 0..list.len() {
+        let item = &list[i];
+        match tree.region.sign(item) {
+            Ordering::Less => continue,
+            _ => {}
+        }
+        let normal = item.copy()?;
+        out.push(normal)?;
     }
     Ok(out)
 }
 
-/// The normals of a basis, each once, ascending.
-pub(crate) fn normals(tree: &BasisTree, node: &Node) -> Result<Vec<IntVec>, AllocError>
+/// The normals of a basis that aren't negative at the root, each once, ascending. A basis below lies across one of them.
+pub(crate) fn downward(tree: &BasisTree, node: &Node) -> Result<Vec<IntVec>, AllocError>
     requires { IsNode tree.now.region node.now }
-    ensures { IfOk result (λ ns. AreNormals node.now.items ns.items) }
+    ensures { IfOk result (λ ns. AreDownward tree.now.region.root node.now.items ns.items) }
 {
     match cone_in(tree, node) {
-        Some(cone) => copied(tree.alloc, cone.normals()),
+        Some(cone) => downward_in(tree, &node.basis, cone),
         None => {
             let cone = cone_of(tree.alloc, &node.basis, &tree.region)?;
-            copied(tree.alloc, cone.normals())
+            downward_in(tree, &node.basis, &cone)
         }
     }
 }

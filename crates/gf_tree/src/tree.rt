@@ -6,7 +6,7 @@ ghost use Rattle.gf_tree.specs.FanTree.{before_strict, rank, count, upward_tree,
 ghost use Rattle.gf_tree.specs.Refusals.{IsCallRefusal};
 ghost use Rattle.gf_tree.specs.declared.error.TreeError.TheVariants.{Memory};
 
-use crate::steps::{arrived, below, led_back, normals, way_up};
+use crate::steps::{arrived, below, downward, led_back, way_up};
 use crate::{Node, TreeError};
 use gf_cone::Region;
 use gf_vec::IntVec;
@@ -53,7 +53,7 @@ impl Tree for BasisTree {
     ghost nodes = { λ t. upward_nodes t.region };
 
     fn labels(&self, node: &Node) -> Result<Vec<IntVec>, TreeError> {
-        let labels = normals(self, node)?;
+        let labels = downward(self, node)?;
         Ok(labels)
     }
 

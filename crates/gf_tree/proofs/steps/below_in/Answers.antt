@@ -1,10 +1,14 @@
-use Rattle.std.proofs.Common.{subst}
+use Rattle.std.proofs.Common.{sym, subst}
 use Rattle.std.proofs.lemmas.Result.{err_from_is_err_and}
+use Rattle.gf_facets.specs.Normals.{Ascends}
 use Rattle.gf_tree.specs.Places.{IsVectorPlace}
 use Rattle.gf_tree.proofs.LabelLaws.{child_none, child_upward}
 use Rattle.gf_tree.proofs.RefusalLaws.{place_at}
 use Rattle.gf_tree.proofs.WayLaws.{no_crossing, place_read, missing_read, shown_crossing, refuted_crossing, negative_read, wide_at, small_at}
 use Rattle.gf_tree.proofs.steps.below_in.Goals as goal
+
+pub place_of-requires : goal.place_of-requires
+place_of-requires c = subst Ascends (sym c.normals-list.ensures.value) c.requires.cone.normals.rises
 
 pub returns-in-None-clause-ok : goal.returns-in-None-clause-ok
 returns-in-None-clause-ok c =

@@ -3,10 +3,14 @@ use Rattle.std.proofs.lemmas.Result.{err_from_is_err_and}
 use Rattle.gf_poly.specs.Marking.{MarkedPolynomials}
 use Rattle.gf_cone.specs.Cones.{ConeRows, normal_at, IsConeOf}
 use Rattle.gf_reverse.specs.Upward.{IsWayUp}
+use Rattle.gf_facets.specs.Normals.{Ascends}
 use Rattle.gf_tree.specs.Places.{IsVectorPlace}
 use Rattle.gf_tree.proofs.RefusalLaws.{cone_at}
 use Rattle.gf_tree.proofs.WayLaws.{no_way, place_read, missing_read, told_way, not_told}
 use Rattle.gf_tree.proofs.steps.led_back.Goals as goal
+
+pub place_of-requires : goal.place_of-requires
+place_of-requires c = subst Ascends (sym c.normals.ensures.value) c.in_ok-cone.ensures.normals.rises
 
 pub returns-in-None-clause-ok : goal.returns-in-None-clause-ok
 returns-in-None-clause-ok c =
