@@ -323,10 +323,11 @@ fn lifted(
 fn has_mark(member: &Marked, head: &Mono) -> bool
     ensures { IsTrue result → member.now.head ≡ head.now }
 {
-    match member.head().compare(head) {
-        Ordering::Equal => true,
-        _ => false,
+    let mark = member.head();
+    if mark.exponents().len() != head.exponents().len() {
+        return false;
     }
+    mark.is_same(head)
 }
 
 /// The place of a member with this mark, looked for from a place on, and then before it.

@@ -1,6 +1,8 @@
-use Rattle.std.proofs.Common.{sym, ◌∙◌}
-use Rattle.gf_poly.proofs.DescendingLaws.{equal_same}
+use Rattle.std.proofs.Common.{ap, sym, ◌∙◌, length}
 use Rattle.gf_flip.proofs.tops.has_mark.Goals as goal
 
-pub returns-in-Equal : goal.returns-in-Equal
-returns-in-Equal c = λ _. sym c.head.ensures.value ∙ equal_same c.head.result.now c.args.head.now (sym c.compare.ensures ∙ c.in-Equal.is)
+pub is_same-requires : goal.is_same-requires
+is_same-requires c = sym (ap length c.exponents.ensures.value) ∙ c.if-exponents.false ∙ ap length c.exponents-2.ensures.value
+
+pub returns : goal.returns
+returns c = λ t. sym c.head-mark.ensures.value ∙ c.is_same.ensures.0 t
