@@ -98,7 +98,7 @@ pub(crate) fn aimed(
         if along.len() != cone.variables() as usize {
             return Ok(None);
         }
-        let Some(hit) = first_hit(cone, values, along) else {
+        let Some(hit) = first_hit(alloc, cone, values, along)? else {
             return Ok(None);
         };
         let next = match in_the_way(&hit, place) {

@@ -15,7 +15,6 @@ ghost use Rattle.gf_cone.specs.Answers.{AnswersFacet, AnswersFlip, IsFacetAnswer
 use crate::answer::{FacetAnswer, FlipAnswer};
 use crate::listing::normals;
 use crate::marking::with_units;
-use crate::narrow::{dot_of, dot_of_small};
 use crate::region::Region;
 use crate::systems::{others, solution_at, solved, with_copies};
 use gf_gordan::GordanError;
@@ -140,24 +139,6 @@ impl Cone {
     {
         let (_, rows) = self.vectors.as_slice().split_at(self.count);
         rows
-    }
-
-    /// What the vector at a place gives on a list of entries, of which it is told whether it is short: what a unit vector gives is an
-    /// entry. None also where a product or sum leaves the range.
-    pub(crate) fn value_at(&self, place: usize, w: &[i128], short: bool) -> Option<i128>
-        requires width { length w.now ≡ self.now.variables }
-        requires short { IsTrue short → IsShort w.now }
-    {
-        let normals = self.normals();
-        if place < normals.len() {
-            return dot_of_small(normals[place].as_slice(), w, short);
-        }
-        let rows = self.rows();
-        let behind = place - normals.len();
-        if behind < rows.len() {
-            return dot_of(rows[behind].as_slice(), w);
-        }
-        w.get(behind - rows.len()).copied()
     }
 
     /// Whether the region that the cone was made in has the same rows as another one.

@@ -16,7 +16,7 @@ use crate::checks::{is_above_zero, is_sum_of, shows};
 use crate::cone::Cone;
 use crate::region::Region;
 use crate::shots::{shot, values_on};
-use crate::sums::{Keyed, keys_of, two_places};
+use crate::sums::{Keys, keys_of, two_places};
 use gf_gordan::GordanError;
 use gf_vec::IntVec;
 use std::alloc::{AllocError, Global};
@@ -36,7 +36,7 @@ pub(crate) enum Known {
 struct Hints {
     inner: Option<IntVec>,
     values: Vec<i128>,
-    keys: Vec<Keyed>,
+    keys: Keys,
 }
 
 /// A cone, and what was found out about its normals: nothing is worked out twice.
@@ -218,11 +218,7 @@ impl KnownCone {
         if is_above_zero(&self.cone, place) {
             return true;
         }
-        match two_places(
-            self.hints.keys.as_slice(),
-            self.normals()[place].as_slice(),
-            place,
-        ) {
+        match two_places(&self.hints.keys, place) {
             Some((b, c)) => is_sum_of(&self.cone, place, b, c),
             None => false,
         }

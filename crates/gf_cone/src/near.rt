@@ -5,8 +5,7 @@ ghost use Rattle.gf_cone.specs.Cones.{all_rows, HasInterior};
 
 use crate::checks::all_positive_on;
 use crate::cone::Cone;
-use crate::narrow::is_short;
-use crate::shots::{combination, vector_of};
+use crate::shots::{combination, values_on, vector_of};
 use gf_gordan::{Answer, strict};
 use gf_vec::{IntVec, VecError, product, quotient, total};
 use std::alloc::Global;
@@ -14,24 +13,17 @@ use std::alloc::Global;
 /// Vectors of the inside are kept with entries up to this one where that can be done.
 const LARGEST: i128 = 32768;
 
-/// The least number from 1 on, so many times `near` less `normal` is positive on all rows; none where a row has no such number, or a
-/// product or sum leaves the range.
-fn factor_of(cone: &Cone, near: &[i128], normal: &[i128]) -> Option<i128>
-    requires near { length near.now ≡ cone.now.variables }
-    requires normal { length normal.now ≡ cone.now.variables }
-{
-    let near_short = is_short(near);
-    let normal_short = is_short(normal);
+/// The least number from 1 on, so many times `near` less `normal` is positive on all rows, which give so much on `near` and so much on `normal`; none where
+/// a row has no such number, or a sum leaves the range.
+fn factor_of(values: &[i128], slopes: &[i128]) -> Option<i128> {
     let mut factor = 1;
-    for k in 0..cone.len() {
-        let value = cone.value_at(k, near, near_short)?;
-        let slope = cone.value_at(k, normal, normal_short)?;
-        if value > 0 {
-            if slope > 0 {
-                let least = quotient(total(slope, value).ok()?, value);
+    for (value, slope) in values.iter().zip(slopes.iter()) {
+        if *value > 0 {
+            if *slope > 0 {
+                let least = quotient(total(*slope, *value).ok()?, *value);
                 factor = if least > factor { least } else { factor };
             }
-        } else if slope >= 0 {
+        } else if *slope >= 0 {
             return None;
         }
     }
@@ -52,10 +44,13 @@ fn moved(
     if near.len() != n || normal.len() != n {
         return Ok(None);
     }
-    match factor_of(cone, near, normal) {
-        Some(factor) => Ok(vector_of(combination(alloc, factor, near, 1, normal)?)),
-        None => Ok(None),
+    if let Some(values) = values_on(alloc, cone, near)?
+        && let Some(slopes) = values_on(alloc, cone, normal)?
+        && let Some(factor) = factor_of(values.as_slice(), slopes.as_slice())
+    {
+        return Ok(vector_of(combination(alloc, factor, near, 1, normal)?));
     }
+    Ok(None)
 }
 
 /// The greatest entry, at least 1.
