@@ -2,8 +2,6 @@
 //!
 //! What is found here is a guess; `checks.rt` judges it.
 
-ghost use Rattle.std.specs.Prelude.{◌≡◌, length};
-
 use crate::cone::Cone;
 use crate::narrow::dot_of;
 use crate::shots::{Hit, combination, first_hit, vector_of};

@@ -8,7 +8,7 @@ ghost use Rattle.gf_gordan.specs.declared.error.GordanError.TheVariants.{Memory}
 ghost use Rattle.gf_facets.specs.Regions.{all_positive};
 ghost use Rattle.gf_facets.specs.Systems.{units};
 ghost use Rattle.gf_facets.specs.Normals.{others_of};
-ghost use Rattle.gf_cone.specs.Small.{IsSmall, IsShort};
+ghost use Rattle.gf_cone.specs.Small.{IsSmall};
 ghost use Rattle.gf_cone.specs.Cones.{all_rows, normal_at, other_rows, IsConeOf, in_region, HasRowsOf, HasInterior, HasUnits};
 ghost use Rattle.gf_cone.specs.Answers.{AnswersFacet, AnswersFlip, IsFacetAnswered, IsFlipToldIn, IsNormalStep};
 

@@ -1,5 +1,5 @@
 //! A vector of a cone's inside, from a vector inside a facet that it shares with a neighbour.
-ghost use Rattle.std.specs.Prelude.{◌≡◌, [], length, IfSome, IsTrue};
+ghost use Rattle.std.specs.Prelude.{[], IfSome, IsTrue};
 ghost use Rattle.gf_gordan.specs.Alternative.{IsSolution};
 ghost use Rattle.gf_cone.specs.Cones.{all_rows, HasInterior};
 

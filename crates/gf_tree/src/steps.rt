@@ -1,5 +1,5 @@
 //! The steps of the search: the way up from a basis, and what is across a facet.
-ghost use Rattle.std.specs.Prelude.{◌≡◌, IfOk, IfErr, IfSome, Some};
+ghost use Rattle.std.specs.Prelude.{IfOk, IfErr, IfSome, Some};
 ghost use Rattle.gf_facets.specs.Facets.{IsFlippable};
 ghost use Rattle.gf_facets.specs.Normals.{Ascends};
 ghost use Rattle.gf_cone.specs.Cones.{IsConeOf};

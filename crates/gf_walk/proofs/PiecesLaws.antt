@@ -8,7 +8,7 @@ use Rattle.gf_walk.specs.declared.expand.Piece.{Piece}
 use Rattle.gf_walk.specs.declared.expand.Piece.TheVariants.{Ready, Under, Refused}
 use Rattle.gf_walk.specs.Path.{IsStrictOrder, IsTree, Leads, IsPath}
 use Rattle.gf_walk.specs.Left.{IsBelowMark, IsOpen}
-use Rattle.gf_walk.specs.Place.{Place, IsPlaced}
+use Rattle.gf_walk.specs.Place.{Place, IsBelowSomeTop}
 use Rattle.gf_walk.specs.Tree.{RisesBy}
 use Rattle.gf_walk.specs.Walk.{HasNoChild, IsLeastChild, Steps}
 use Rattle.gf_walk.specs.Listing.{Among, LeadTo, Leaves, IsLeftAt}
@@ -200,9 +200,9 @@ module _ {T N L E : Type 0} (lt : L → L → Type 0) (up : T → N → L → N 
 
 -- a walker a step up stands in its tree
 pub placed_above : {T N L : Type 0} (is_node : T → N → Type 0) (up : T → N → L → N → Type 0) (w x : Place T N L) → IsTree (up w.tree) → ((v : N) (c : L) (u : N) → up w.tree v c u → is_node w.tree v × is_node w.tree u) →
-    IsPlaced is_node up w → x.tree ≡ w.tree → (c : L) → up w.tree w.here c x.here → x.depth + 1 ≡ w.depth → IsPlaced is_node up x
+    IsBelowSomeTop is_node up w → x.tree ≡ w.tree → (c : L) → up w.tree w.here c x.here → x.depth + 1 ≡ w.depth → IsBelowSomeTop is_node up x
 placed_above is_node up w x tree nodes p same c step less =
-    elim p.path as (λ r. r ≡ p.path → IsPlaced is_node up x) [
+    elim p.path as (λ r. r ≡ p.path → IsBelowSomeTop is_node up x) [
       | [] ↦ λ is. absurd (let k : length p.path ≡ w.depth = p.at.long in let j : length p.path ≡ 0 = ap length (sym is) in omega arith)
       | b ∷ r ↦ λ is. (let s = last_step (up w.tree) p.top b r w.here (subst (λ k. Leads (up w.tree) p.top k w.here) (sym is) p.at.leads) in
           let e : s.above ≡ x.here = tree.one_parent w.here s.above x.here s.label c s.step step in
