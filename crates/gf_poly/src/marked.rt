@@ -80,6 +80,20 @@ impl Marked {
         })
     }
 
+    /// An equal marked polynomial, in the memory of another one, which is dropped; more is asked for only where that has too little.
+    ///
+    /// # Errors
+    /// Want of memory.
+    pub fn copy_over(&self, old: Marked) -> Result<Marked, AllocError>
+        ensures { IfOk result (λ b. b ≡ self.now) }
+    {
+        let poly = self.poly.copy_over(old.poly)?;
+        Ok(Marked {
+            poly,
+            index: self.index,
+        })
+    }
+
     /// The polynomial divided by its marked coefficient, with the same mark.
     ///
     /// # Errors

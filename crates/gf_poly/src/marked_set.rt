@@ -66,6 +66,18 @@ impl MarkedSet {
         self.items.as_slice()
     }
 
+    /// The marked polynomials alone; nothing is copied.
+    pub fn into_items(self) -> Vec<Marked>
+        ensures value { result.items ≡ self.items }
+        ensures variables { HaveVariables self.variables self.items }
+    {
+        let MarkedSet {
+            variables: _number,
+            items,
+        } = self;
+        items
+    }
+
     /// An equal list.
     pub fn copy(&self) -> Result<MarkedSet, AllocError>
         ensures { IfOk result (λ s. s ≡ self.now) }

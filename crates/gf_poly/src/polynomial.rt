@@ -64,11 +64,12 @@ fn found(terms: &[Term], at: &Mono) -> Frac
     zero_coefficient()
 }
 
-/// Equal terms.
-fn copied(alloc: Global, terms: &[Term]) -> Result<Vec<Term>, AllocError>
+/// Equal terms, in a list whose own are dropped.
+fn refilled(list: Vec<Term>, terms: &[Term]) -> Result<Vec<Term>, AllocError>
     ensures { IfOk result (λ h. h.items ≡ terms.now) }
 {
-    let mut out = Vec::with_capacity(alloc, terms.len())?;
+    let mut out = list;
+    out.clear();
     'terms: for i in 0..terms.len() {
         out.push(terms[i].copy())?;
     }
@@ -138,7 +139,19 @@ impl Poly {
     pub fn copy(&self) -> Result<Poly, AllocError>
         ensures { IfOk result (λ p. p ≡ self.now) }
     {
-        let terms = copied(*self.terms.allocator(), self.terms())?;
+        let list = Vec::with_capacity(*self.terms.allocator(), self.terms.len())?;
+        let terms = refilled(list, self.terms())?;
+        Ok(Poly { terms })
+    }
+
+    /// An equal polynomial, in the memory of another one, which is dropped; more is asked for only where that has too little.
+    ///
+    /// # Errors
+    /// Want of memory.
+    pub fn copy_over(&self, old: Poly) -> Result<Poly, AllocError>
+        ensures { IfOk result (λ p. p ≡ self.now) }
+    {
+        let terms = refilled(old.terms, self.terms())?;
         Ok(Poly { terms })
     }
 
