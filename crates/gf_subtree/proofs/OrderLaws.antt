@@ -187,7 +187,7 @@ module _ {T N L E : Type 0} (lt : L → L → Type 0) (up : T → N → L → N 
       (waved_order m (jobs ++ (h.2, min h.3 16) ∷ []) (behind_job 8 1 olds) h.1 h.6 later k.1 among.1 (sorted_right early k.0 (k.1 ++ later) sorted) k.4)))
 
   readied_order : (workers jobs next : ℕ) (olds worked : List (Piece T N L E)) → IsReadied lt up refuses workers jobs olds next worked → (nodes : List N) → AreAmong In Is olds → AreSorted early (nodes ++ []) → Orders [] olds nodes → Orders [] worked nodes
-  readied_order workers jobs next olds worked (inl h) nodes a s l = waved_order (due_at workers olds * 6) (replicate (due_at workers olds) (times_at jobs, room_at workers olds)) olds worked h.3 [] nodes a s l
+  readied_order workers jobs next olds worked (inl h) nodes a s l = waved_order (due_at workers olds * 8) (replicate (due_at workers olds) (times_at jobs, room_at workers olds)) olds worked h.3 [] nodes a s l
   readied_order workers jobs next olds worked (inr h) nodes a s l = subst (λ r. Orders [] r nodes) (sym h.2) l
 
   -- ---- an answer

@@ -244,12 +244,12 @@ module _ {T N L E : Type 0} (lt : L → L → Type 0) (up : T → N → L → N 
   worked_hands times room (j ∷ js) (d ∷ ds) e z = (z zero j (omega arith), worked_hands times room js ds (omega (arith, e)) (λ i x h. z (suc i) x (omega (arith, h))))
 
   -- a row that is cut up into places, dealt out, worked on by job and put together again
-  pub wave_of : (due times room m : ℕ) (olds tail : List (Piece T N L E)) (slots : List (Slot T N L E)) (js ds : List (Job T N L E)) (n : ℕ) → m ≡ due * 6 → IsPlanned m olds slots tail → IsDealt slots (hands_of js) → length js ≡ n → n ≡ due → length ds ≡ length js →
+  pub wave_of : (due times room m : ℕ) (olds tail : List (Piece T N L E)) (slots : List (Slot T N L E)) (js ds : List (Job T N L E)) (n : ℕ) → m ≡ due * 8 → IsPlanned m olds slots tail → IsDealt slots (hands_of js) → length js ≡ n → n ≡ due → length ds ≡ length js →
       ((i : ℕ) (d : Job T N L E) → i < length js → IsWorked lt up refuses times room (get_or js i d) (get_or ds i d)) →
-      IsWaved lt up refuses (due * 6) (replicate due (times, room)) olds (gather (due * 6) (piles_of ds) ++ tail) × (length (gather (due * 6) (piles_of ds) ++ tail) ≤ length olds + due * room)
+      IsWaved lt up refuses (due * 8) (replicate due (times, room)) olds (gather (due * 8) (piles_of ds) ++ tail) × (length (gather (due * 8) (piles_of ds) ++ tail) ≤ length olds + due * room)
   wave_of due times room m olds tail slots js ds n e planned dealt long count same each =
       let worked = subst (λ x. AreHandsWorked (replicate x (times, room)) (hands_of js) (piles_of ds)) (long ∙ count) (worked_hands times room js ds same each) in
-      let k = waved_dealt (due * 6) olds tail slots (replicate due (times, room)) (hands_of js) (piles_of ds) (subst (λ x. IsPlanned x olds slots tail) e planned) dealt worked in
+      let k = waved_dealt (due * 8) olds tail slots (replicate due (times, room)) (hands_of js) (piles_of ds) (subst (λ x. IsPlanned x olds slots tail) e planned) dealt worked in
       let bound = k.1 in
       let sum = total_even due times room in
       (k.0, omega (arith, bound, sum))

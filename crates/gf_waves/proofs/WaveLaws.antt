@@ -84,5 +84,5 @@ module _ {T N L E : Type 0} (lt : L → L → Type 0) (up : T → N → L → N 
   given_leaves (Under w ∷ ps) answer news (inr h) nodes l = given_leaves ps answer news h.1 nodes (subst (λ k. PiecesLeave (IsLeftAt lt up) ps k) (sym (l.2 ∙ ap (λ f. f ++ l.1) (over_leaves w h.0 l.0 l.3))) l.4)
 
   pub readied_leaves : (workers jobs next : ℕ) (olds worked : List (Piece T N L E)) → IsReadied lt up refuses workers jobs olds next worked → (nodes : List N) → PiecesLeave (IsLeftAt lt up) olds nodes → PiecesLeave (IsLeftAt lt up) worked nodes
-  readied_leaves workers jobs next olds worked (inl h) nodes l = waved_leaves lt up strict trees refuses (due_at workers olds * 6) (replicate (due_at workers olds) (times_at jobs, room_at workers olds)) olds worked h.3 nodes l
+  readied_leaves workers jobs next olds worked (inl h) nodes l = waved_leaves lt up strict trees refuses (due_at workers olds * 8) (replicate (due_at workers olds) (times_at jobs, room_at workers olds)) olds worked h.3 nodes l
   readied_leaves workers jobs next olds worked (inr h) nodes l = subst (λ r. PiecesLeave (IsLeftAt lt up) r nodes) (sym h.2) l

@@ -69,7 +69,7 @@ IsGiven lt up refuses (Under w ∷ ps) answer news = IsAsked lt up refuses w ps 
 abbrev pub IsReadied : {T N L E : Type 0} → (L → L → Type 0) → (T → N → L → N → Type 0) → (Place T N L → E → Type 0) → ℕ → ℕ → List (Piece T N L E) → ℕ → List (Piece T N L E) → Type 0
 IsReadied lt up refuses workers jobs olds next news =
     let due = due_at workers olds in
-    ((is_served olds ≡ false) × (0 < due) × (next ≡ job_number (jobs + due)) × IsWaved lt up refuses (due * 6) (replicate due (times_at jobs, room_at workers olds)) olds news)
+    ((is_served olds ≡ false) × (0 < due) × (next ≡ job_number (jobs + due)) × IsWaved lt up refuses (due * 8) (replicate due (times_at jobs, room_at workers olds)) olds news)
     ⊎ (((is_served olds ≡ true) ⊎ (due ≡ 0)) × (next ≡ jobs) × (news ≡ olds))
 
 -- what is left is worked off, and the answer is taken out of that; or there was no memory for a wave, and nothing is done

@@ -122,7 +122,7 @@ pub fn work<T: Tree, G: Gate>(
     times: usize,
     room: usize,
 ) -> Job<T>
-    requires room { room ≤ 12 }
+    requires room { room ≤ 16 }
     requires fit { IsJobFit job }
     ensures { IsWorked T.before T.up (RefusesAt T.up T.refuses) times room job result }
 {

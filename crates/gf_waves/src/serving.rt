@@ -49,7 +49,7 @@ fn due<T: Tree>(workers: u32, row: &VecDeque<Piece<T>>) -> usize
     (workers as usize).min(free / 4).min(walkers)
 }
 
-/// How many pieces each of them may add: twelve, and no more than its share of the places.
+/// How many pieces each of them may add: sixteen, and no more than its share of the places.
 fn room<T: Tree>(workers: u32, row: &VecDeque<Piece<T>>, due: usize) -> usize
     requires workers { workers ≤ 64 }
     requires some { 0 < due }
@@ -57,17 +57,17 @@ fn room<T: Tree>(workers: u32, row: &VecDeque<Piece<T>>, due: usize) -> usize
     requires fits { due * 4 ≤ most_pieces workers - length row.now.items }
     ensures is { result ≡ room_at workers row.now.items }
     ensures fits { due * result ≤ most_pieces workers - length row.now.items }
-    ensures few { result ≤ 12 }
+    ensures few { result ≤ 16 }
 {
     let free = ((workers as usize + 1) * 32).saturating_sub(row.len());
-    (free / due).min(12)
+    (free / due).min(16)
 }
 
-/// How often each of them expands: at most twelve times, and by the jobs before.
+/// How often each of them expands: at most sixteen times, and by the jobs before.
 fn times(jobs: u64) -> usize
     ensures is { result ≡ times_at jobs }
 {
-    jobs.saturating_add(1).min(12) as usize
+    jobs.saturating_add(1).min(16) as usize
 }
 
 /// The refusal that stands for want of memory. Any call of any tree may be refused so.

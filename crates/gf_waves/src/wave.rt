@@ -29,12 +29,12 @@ where
     T::Label: Send,
     T::Error: Send,
     requires some { 1 ≤ workers }
-    requires room { room ≤ 12 }
+    requires room { room ≤ 16 }
     requires fit { AreFitAt jobs.old }
     ensures { AreWorkedAt T.before T.up (RefusesAt T.up T.refuses) times room jobs.old jobs.new }
 {
     let each = |_: usize, job: &mut Job<T>|
-        requires { (room ≤ 12) × IsJobFit job.now }
+        requires { (room ≤ 16) × IsJobFit job.now }
         ensures { IsWorked T.before T.up (RefusesAt T.up T.refuses) times room job.entry.now job.exit.now }
     {
         let none = Job {
@@ -63,14 +63,14 @@ where
     T::Label: Send,
     T::Error: Send,
     requires some { 1 ≤ workers }
-    requires room { room ≤ 12 }
+    requires room { room ≤ 16 }
     requires fit { AreFitAt jobs.old.items }
     ensures { AreWorkedAt T.before T.up (RefusesAt T.up T.refuses) times room jobs.old.items jobs.new.items }
 {
     work_all(rt, alloc, gate, jobs.as_mut_slice(), workers, times, room);
 }
 
-/// A wave: the first pieces of the row are dealt out to so many jobs, six walkers to each, which have so many expansions each and room for so
+/// A wave: the first pieces of the row are dealt out to so many jobs, eight walkers to each, which have so many expansions each and room for so
 /// many pieces.
 ///
 /// # Errors
@@ -94,10 +94,10 @@ where
     requires few_workers { workers ≤ 64 }
     requires due { 0 < due }
     requires few_jobs { due ≤ workers }
-    requires few_more { room ≤ 12 }
+    requires few_more { room ≤ 16 }
     requires fits { length row.old.items + due * room ≤ (workers + 1) * 32 }
     requires refused { AreRefusals (RefusesAt T.up T.refuses) row.old.items }
-    ensures waved { OnOk result (IsWaved T.before T.up (RefusesAt T.up T.refuses) (due * 6) (replicate due (times, room)) row.old.items row.new.items) }
+    ensures waved { OnOk result (IsWaved T.before T.up (RefusesAt T.up T.refuses) (due * 8) (replicate due (times, room)) row.old.items row.new.items) }
     ensures counted { OnOk result (jobs.new ≡ job_number (jobs.old + due)) }
     ensures few { length row.new.items ≤ (workers + 1) * 32 }
     ensures refused { AreRefusals (RefusesAt T.up T.refuses) row.new.items }
@@ -105,7 +105,7 @@ where
     ensures uncounted { OnErr result (jobs.new ≡ jobs.old) }
 {
     let alloc = *row.allocator();
-    let places = due * 6;
+    let places = due * 8;
     let spares = spare_slots(alloc, places)?;
     let mut slots = Vec::with_capacity(alloc, places)?;
     let mut shared = spare_jobs(alloc, due, places, *jobs)?;
