@@ -89,12 +89,12 @@ interior_of_parts c w normals q e b h = record {
 -- ---- normals that no flip crosses
 
 -- another row is positive on a solution
-other_positive : (c : ConeRows) (i j : ℕ) (w : List ℤ) → i < length c.normals → j < length (all_rows c) → (j ≡ i → ⊥) →
+pub other_positive : (c : ConeRows) (i j : ℕ) (w : List ℤ) → i < length c.normals → j < length (all_rows c) → (j ≡ i → ⊥) →
     IsSolution c.variables (other_rows c i) (normal_at c i ∷ []) w → pos 0 <ℤ dot (get_or (all_rows c) j []) w
 other_positive c i j w l m n s = All-contains (λ t. pos 0 <ℤ dot t w) (other_rows c i) (get_or (all_rows c) j []) s.positive
     (subst (λ (z : List (List ℤ)). Contains z (get_or (all_rows c) j [])) (others-append i c.normals c.beside l) (others_at (all_rows c) i j (in_all c i l) m n))
 
-normal_zero : (c : ConeRows) (i : ℕ) (w : List ℤ) → IsSolution c.variables (other_rows c i) (normal_at c i ∷ []) w → dot (normal_at c i) w ≡ pos 0
+pub normal_zero : (c : ConeRows) (i : ℕ) (w : List ℤ) → IsSolution c.variables (other_rows c i) (normal_at c i ∷ []) w → dot (normal_at c i) w ≡ pos 0
 normal_zero c i w s = s.zero 0 [] (omega arith)
 
 -- a sum of two others
@@ -178,7 +178,7 @@ sum_at c kept behind i j k a b d e wide l lj lk nj nk qa rb rd s x =
     not_crossable_sum c i j k l jl kl nj nk (sym (ap (λ (z : List ℤ). length z) qb) ∙ wb ∙ sym wd ∙ ap (λ (z : List ℤ). length z) qd) (sym qa ∙ s ∙ ap (λ (z : List ℤ). vector_sum z d) qb ∙ ap (λ (z : List ℤ). vector_sum (get_or (all_rows c) j []) z) qd) x
 
 -- a unit vector at its place behind them
-unit_in_all : (n i : ℕ) (kept : List (List ℤ)) → i < n → get_or (kept ++ units n n) (length kept + i) [] ≡ unit n i
+pub unit_in_all : (n i : ℕ) (kept : List (List ℤ)) → i < n → get_or (kept ++ units n n) (length kept + i) [] ≡ unit n i
 unit_in_all n i kept l = get_or-append-add kept (units n n) i [] ∙ at n l
   where
     at : (k : ℕ) → i < k → get_or (units n k) i [] ≡ unit n i

@@ -4,4 +4,5 @@ mod NarrowLaws  -- a dot product, one entry further, and the size of its partial
 pub mod SmallLaws  -- vectors with small entries
 pub mod AnswerLaws  -- what an answer about a normal tells
 pub mod CrossingLaws  -- normals that a flip may cross, shown or refuted without their systems
+mod SpanLaws  -- what shows that a normal is in the cone of other vectors
 pub mod RegionLaws  -- regions of weights, the sign at a root, cones in a region

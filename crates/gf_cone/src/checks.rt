@@ -171,7 +171,7 @@ pub(crate) fn is_above_zero(cone: &Cone, place: usize) -> bool
 }
 
 /// The entry at a place of the unit vector of the variable `at`, of `n`.
-fn unit_entry(n: usize, at: usize, place: usize) -> i128
+pub(crate) fn unit_entry(n: usize, at: usize, place: usize) -> i128
     requires { place < n }
     ensures { result ≡ slice_index_or (unit n at) place (pos 0) }
 {

@@ -14,8 +14,10 @@ use crate::aims::aimed;
 use crate::answer::Way;
 use crate::checks::{is_above_zero, is_sum_of, shows};
 use crate::cone::Cone;
+use crate::planar::{Guess, guessed};
 use crate::region::Region;
 use crate::shots::{shot, values_on};
+use crate::spans::is_spanned;
 use crate::sums::{Keys, keys_of, two_places};
 use gf_gordan::GordanError;
 use gf_vec::IntVec;
@@ -296,6 +298,27 @@ impl KnownCone {
         }
     }
 
+    /// What is seen in the plane modulo the normal at a place, in three variables.
+    fn seen(&self, place: usize) -> Known
+        requires { place < length self.now.normals }
+        ensures { IsRemembered self.now place result }
+    {
+        match guessed(self.alloc, &self.cone, place) {
+            Some(Guess::Point(point)) if self.is_shown_by(place, &point) => Known::Yes(point),
+            Some(Guess::Spanned(span)) if is_spanned(&self.cone, place, &span) => Known::No,
+            _ => Known::Open,
+        }
+    }
+
+    /// Remembers what is seen in the plane modulo the normal at a place.
+    fn look(&mut self, place: usize)
+        requires { place < length self.old.normals }
+        ensures { self.new ≡ self.old }
+    {
+        let known = self.seen(place);
+        self.set(place, known);
+    }
+
     /// What `is_flippable` answers.
     ///
     /// # Errors
@@ -312,6 +335,10 @@ impl KnownCone {
             return Ok(known);
         }
         self.look_for_sum(place);
+        if let Some(known) = self.told(place) {
+            return Ok(known);
+        }
+        self.look(place);
         if let Some(known) = self.told(place) {
             return Ok(known);
         }
@@ -424,6 +451,9 @@ impl KnownCone {
         ensures same { self.new ≡ self.old }
         ensures found { IsTrue result → SomeUpBefore region.now.root self.old end }
     {
+        if self.variables() == 3 {
+            return false;
+        }
         for place in 0..end {
             if self.is_candidate(place, region) {
                 match self.shoot(place) {
@@ -556,6 +586,11 @@ impl KnownCone {
     {
         if self.is_sum(place) {
             return Ok(None);
+        }
+        match self.seen(place) {
+            Known::Yes(point) => return Ok(Some(point)),
+            Known::No => return Ok(None),
+            Known::Open => {}
         }
         match self.point_of_shot(place) {
             Some(point) => Ok(Some(point)),

@@ -1,0 +1,143 @@
+//! Normals that are seen to be in the cone of other vectors, up to a multiple.
+ghost use Rattle.std.specs.Prelude.{◌≡◌, ◌+ℤ◌, ◌*ℤ◌, ◌<◌, [], pos, length, slice_index_or, IfSome, IsTrue};
+ghost use Rattle.gf_cone.specs.Cones.{all_rows, normal_at};
+ghost use Rattle.gf_cone.specs.Crossing.{IsCrossable};
+ghost use Rattle.gf_cone.specs.Spans.{IsShare, IsSomePositive, part_at, IsBalancedAt};
+
+use crate::checks::unit_entry;
+use crate::cone::Cone;
+use gf_vec::{product, total};
+
+/// So many times the vector at a place: a normal, a row of the region or a unit vector, in this order.
+#[derive(Clone, Copy)]
+pub(crate) struct Share {
+    pub(crate) place: usize,
+    pub(crate) times: i128,
+}
+
+/// Three shares, and how many times a normal they are together.
+#[derive(Clone, Copy)]
+pub(crate) struct Span {
+    pub(crate) first: Share,
+    pub(crate) second: Share,
+    pub(crate) third: Share,
+    pub(crate) normal: i128,
+}
+
+/// Whether it is a share of another vector than the normal at a place, and not negative.
+fn is_share(cone: &Cone, place: usize, share: Share) -> bool
+    ensures { IsTrue result → IsShare cone.now place share }
+{
+    let kept = cone.kept();
+    if share.place == place || share.times < 0 {
+        return false;
+    }
+    if share.place < kept.len() {
+        return true;
+    }
+    if share.place - kept.len() >= cone.variables() as usize {
+        return false;
+    }
+    true
+}
+
+/// Whether one of the three shares is positive.
+fn is_some_positive(span: &Span) -> bool
+    ensures { IsTrue result → IsSomePositive span.now }
+{
+    span.first.times > 0 || span.second.times > 0 || span.third.times > 0
+}
+
+/// The entry of the vector at a place.
+fn entry_at(cone: &Cone, place: usize, i: usize) -> i128
+    requires place { place < length (all_rows cone.now) }
+    requires entry { i < cone.now.variables }
+    ensures { result ≡ slice_index_or (slice_index_or (all_rows cone.now) place []) i (pos 0) }
+{
+    let kept = cone.kept();
+    if place < kept.len() {
+        return kept[place].as_slice()[i];
+    }
+    unit_entry(cone.variables() as usize, place - kept.len(), i)
+}
+
+/// The entry of a share. None where it leaves the range.
+fn part(cone: &Cone, share: Share, i: usize) -> Option<i128>
+    requires place { share.place < length (all_rows cone.now) }
+    requires entry { i < cone.now.variables }
+    ensures { IfSome result (λ x. x ≡ part_at cone.now share i) }
+{
+    match product(share.times, entry_at(cone, share.place, i)) {
+        Ok(x) => Some(x),
+        Err(_error) => None,
+    }
+}
+
+/// The entry of so many times the normal at a place. None where it leaves the range.
+fn of_normal(cone: &Cone, place: usize, span: &Span, i: usize) -> Option<i128>
+    requires place { place < length cone.now.normals }
+    requires entry { i < cone.now.variables }
+    ensures { IfSome result (λ x. x ≡ span.now.normal *ℤ slice_index_or (normal_at cone.now place) i (pos 0)) }
+{
+    match product(span.normal, cone.normals()[place].as_slice()[i]) {
+        Ok(x) => Some(x),
+        Err(_error) => None,
+    }
+}
+
+/// Whether three numbers are another one together. False where a sum leaves the range.
+fn is_total(x: i128, y: i128, z: i128, all: i128) -> bool
+    ensures { IsTrue result → x +ℤ y +ℤ z ≡ all }
+{
+    match total(x, y) {
+        Ok(two) => match total(two, z) {
+            Ok(three) => three == all,
+            Err(_error) => false,
+        },
+        Err(_error) => false,
+    }
+}
+
+/// Whether an entry of the three shares together is that of so many times the normal at a place. False where a product or sum leaves the range.
+fn balances(cone: &Cone, place: usize, span: &Span, i: usize) -> bool
+    requires place { place < length cone.now.normals }
+    requires first { span.now.first.place < length (all_rows cone.now) }
+    requires second { span.now.second.place < length (all_rows cone.now) }
+    requires third { span.now.third.place < length (all_rows cone.now) }
+    requires entry { i < cone.now.variables }
+    ensures { IsTrue result → IsBalancedAt cone.now place span.now i }
+{
+    let first = part(cone, span.first, i);
+    let second = part(cone, span.second, i);
+    let third = part(cone, span.third, i);
+    let all = of_normal(cone, place, span, i);
+    match (first, second, third, all) {
+        (Some(x), Some(y), Some(z), Some(all)) => is_total(x, y, z, all),
+        _ => false,
+    }
+}
+
+/// Whether three shares, some of which are positive, are seen to be so many times the normal at a place.
+pub(crate) fn is_spanned(cone: &Cone, place: usize, span: &Span) -> bool
+    requires { place < length cone.now.normals }
+    ensures { IsTrue result → IsCrossable cone.now place → ⊥ }
+{
+    if !is_share(cone, place, span.first)
+        || !is_share(cone, place, span.second)
+        || !is_share(cone, place, span.third)
+    {
+        return false;
+    }
+    if !is_some_positive(span) {
+        return false;
+    }
+    // Called for the proof alone: what the rows of the cone are.
+    let _ = cone.kept();
+    let n = cone.variables() as usize;
+    'entries: for i in 0..n {
+        if !balances(cone, place, span, i) {
+            return false;
+        }
+    }
+    true
+}
