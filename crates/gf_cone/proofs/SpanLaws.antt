@@ -1,5 +1,5 @@
 -- What shows that a normal is in the cone of other vectors, up to a multiple.
--- To cite: rows_wide, place_in_all, kept_entry, unit_entry_in, balanced_more, not_crossable_spanned.
+-- To cite: rows_wide, place_in_all, unit_entry_in, not_crossable_spanned.
 use Rattle.std.proofs.Common.{◌≡◌, ◌⊎◌, ℕ, ◌+◌, ◌-◌, ◌<◌, ◌≤◌, List, [], ◌++◌, length, get_or, ℤ, pos, ◌+ℤ◌, ◌*ℤ◌, ◌<ℤ◌, ◌≤ℤ◌, arith, sym, ap, ap₂, ◌∙◌, subst, inl, inr, length-append}
 use Rattle.std.proofs.lemmas.Int.{ints}
 use Rattle.std.proofs.lemmas.List.{get_or_default, ext_get_or}
@@ -19,7 +19,7 @@ use Rattle.gf_cone.specs.Crossing.{IsCrossable}
 use Rattle.gf_cone.specs.Spans.{IsShare, IsSomePositive, IsBalancedAt}
 use Rattle.gf_cone.specs.declared.spans.Share.{Share}
 use Rattle.gf_cone.specs.declared.spans.Span.{Span}
-use Rattle.gf_cone.proofs.AnswerLaws.{kept_in_all, length-units}
+use Rattle.gf_cone.proofs.AnswerLaws.{length-units}
 use Rattle.gf_cone.proofs.CrossingLaws.{in_all, other_positive, normal_zero, unit_in_all}
 
 -- ---- rows by their places
@@ -39,11 +39,6 @@ place_in_all c kept j e h = subst (λ (z : List (List ℤ)). j < length z) (sym 
     at : (j < length kept) ⊎ (j - length kept < c.variables) → j < length (kept ++ units c.variables c.variables)
     at (inl l) = omega (arith, l, length-append kept (units c.variables c.variables))
     at (inr l) = omega (arith, l, length-append kept (units c.variables c.variables), length-units c.variables c.variables)
-
--- the entry of a kept vector
-pub kept_entry : (c : ConeRows) (kept : List (List ℤ)) (j i : ℕ) (a : List ℤ) → all_rows c ≡ kept ++ units c.variables c.variables → j < length kept → j < length (all_rows c) →
-    a ≡ get_or kept j a → get_or a i (pos 0) ≡ get_or (get_or (all_rows c) j []) i (pos 0)
-kept_entry c kept j i a e l m r = ap (λ (z : List ℤ). get_or z i (pos 0)) (kept_in_all c kept (units c.variables c.variables) j a e l r ∙ get_or_default (all_rows c) j a [] m)
 
 -- the entry of a unit vector
 pub unit_entry_in : (c : ConeRows) (kept : List (List ℤ)) (j i : ℕ) → all_rows c ≡ kept ++ units c.variables c.variables → length kept ≤ j → j < length (all_rows c) →

@@ -20,6 +20,10 @@ pub record IsShownBy (vectors : List (List ℤ)) (i : ℕ) (w : List ℤ) (k : �
   pub zero : k ≡ i → dot (slice_index_or vectors k []) w ≡ pos 0
   pub positive : (k ≡ i → ⊥) → pos 0 <ℤ dot (slice_index_or vectors k []) w
 
+-- w is zero on the normal at the place i and positive on all other rows
+abbrev pub IsShownAt : ConeRows → List ℤ → ℕ → Type 0
+IsShownAt c w i = (i < length c.normals) × IsSolution c.variables (other_rows c i) (normal_at c i ∷ []) w
+
 -- some vector is zero on the normal at a place and positive on all other rows: a flip may cross its facet
 abbrev pub IsCrossable : ConeRows → ℕ → Type 0
 IsCrossable c i = IsSolvable c.variables (other_rows c i) (normal_at c i ∷ [])

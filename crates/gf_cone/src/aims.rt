@@ -4,7 +4,7 @@
 
 use crate::cone::Cone;
 use crate::narrow::dot_of;
-use crate::shots::{Hit, combination, first_hit, vector_of};
+use crate::shots::{Hit, first_hit, point_hit, point_of, vector_of};
 use gf_vec::{IntVec, VecError};
 use std::alloc::{AllocError, Global};
 
@@ -22,7 +22,7 @@ fn without(alloc: Global, direction: &[i128], row: &[i128]) -> Result<Option<Int
     if let Some(own) = dot_of(row, row)
         && let Some(along) = dot_of(row, direction)
     {
-        return Ok(vector_of(combination(alloc, own, direction, along, row)?));
+        return point_of(alloc, own, direction, along, row);
     }
     Ok(None)
 }
@@ -82,7 +82,7 @@ fn in_the_way(hit: &Hit, place: usize) -> Option<usize> {
 pub(crate) fn aimed(
     alloc: Global,
     cone: &Cone,
-    values: &[i128],
+    values: &[i64],
     inner: &[i128],
     place: usize,
 ) -> Result<Option<IntVec>, VecError> {
@@ -96,12 +96,12 @@ pub(crate) fn aimed(
         if along.len() != cone.variables() as usize {
             return Ok(None);
         }
-        let Some(hit) = first_hit(alloc, cone, values, along)? else {
+        let Some(hit) = first_hit(cone, values, along) else {
             return Ok(None);
         };
         let next = match in_the_way(&hit, place) {
             Some(other) => turned(alloc, cone, along, other)?,
-            None => return Ok(vector_of(combination(alloc, hit.inner, inner, hit.against, along)?)),
+            None => return point_hit(alloc, &hit, inner, along),
         };
         match next {
             Some(turned) => direction = turned,

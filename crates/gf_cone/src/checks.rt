@@ -1,5 +1,5 @@
 //! Guesses judged by exact arithmetic.
-ghost use Rattle.std.specs.Prelude.{◌≡◌, ◌<◌, ◌<ℤ◌, ◌≤ℤ◌, ◌∷◌, [], ℕ, pos, IsTrue, IsFalse, All, length, slice_index_or};
+ghost use Rattle.std.specs.Prelude.{◌≡◌, ◌<◌, ◌<ℤ◌, ◌≤ℤ◌, ◌+ℤ◌, ◌∷◌, [], ℕ, pos, IsTrue, IsFalse, All, length, slice_index_or};
 ghost use Rattle.gf_vec.specs.Vector.{dot, vector_sum};
 ghost use Rattle.gf_gordan.specs.Alternative.{AreRows, IsSolution};
 ghost use Rattle.gf_cone.specs.Small.{IsSmall, IsShort};
@@ -9,7 +9,7 @@ ghost use Rattle.gf_cone.specs.Crossing.{IsShownBy, IsCrossable};
 
 use crate::cone::Cone;
 use crate::narrow::{dot_of, dot_of_small, is_short};
-use gf_vec::{IntVec, total};
+use gf_vec::IntVec;
 
 /// Whether a normal is zero on `w`, where it is to be zero, or positive, where it isn't. False where a product or sum leaves
 /// the range.
@@ -94,7 +94,7 @@ fn all_positive(w: &[i128]) -> bool
 
 /// Whether all rows beside the normals are positive on `w`: the entries of `w` are what the unit vectors give. False where a product
 /// or sum leaves the range.
-fn is_positive_beside(cone: &Cone, w: &[i128]) -> bool
+pub(crate) fn is_positive_beside(cone: &Cone, w: &[i128]) -> bool
     requires { length w.now ≡ cone.now.variables }
     ensures { IsTrue result → All (λ t. pos 0 <ℤ dot t w.now) cone.now.beside }
 {
@@ -118,20 +118,32 @@ pub(crate) fn all_positive_on(cone: &Cone, w: &[i128]) -> bool
     is_positive_beside(cone, w) && normals_are_positive(cone.normals(), w, is_short(w))
 }
 
-/// Whether `a` is the sum of `b` and `c`. False where a sum leaves the range.
+/// The sum of two numbers of 32 bits.
+fn small_sum(x: i32, y: i32) -> i64
+    ensures { result ≡ x +ℤ y }
+{
+    i64::from(x) + i64::from(y)
+}
+
+/// Whether `a` is the sum of `b` and `c`. False where `b` or `c` has more than 32 bits.
+fn is_total(a: i128, b: i128, c: i128) -> bool
+    ensures { IsTrue result → a ≡ b +ℤ c }
+{
+    match (i32::try_from(b), i32::try_from(c)) {
+        (Ok(x), Ok(y)) => a == i128::from(small_sum(x, y)),
+        _ => false,
+    }
+}
+
+/// Whether `a` is the sum of `b` and `c`. False where one of these has an entry of more than 32 bits.
 fn is_sum(a: &[i128], b: &[i128], c: &[i128]) -> bool
     requires second { length b.now ≡ length a.now }
     requires third { length c.now ≡ length a.now }
     ensures { IsTrue result → a.now ≡ vector_sum b.now c.now }
 {
     for i in 0..a.len() {
-        match total(b[i], c[i]) {
-            Ok(sum) => {
-                if sum != a[i] {
-                    return false;
-                }
-            }
-            Err(_error) => return false,
+        if !is_total(a[i], b[i], c[i]) {
+            return false;
         }
     }
     true
@@ -178,27 +190,22 @@ pub(crate) fn unit_entry(n: usize, at: usize, place: usize) -> i128
     if place == at { 1 } else { 0 }
 }
 
-/// Whether `a` is the sum of `b` and the unit vector of the variable `at`. False where a sum leaves the range.
+/// Whether `a` is the sum of `b` and the unit vector of the variable `at`. False where `b` has an entry of more than 32 bits.
 fn is_raised(a: &[i128], b: &[i128], at: usize) -> bool
     requires { length b.now ≡ length a.now }
     ensures { IsTrue result → a.now ≡ vector_sum b.now (unit (length a.now) at) }
 {
     let n = a.len();
     for i in 0..n {
-        match total(b[i], unit_entry(n, at, i)) {
-            Ok(sum) => {
-                if sum != a[i] {
-                    return false;
-                }
-            }
-            Err(_error) => return false,
+        if !is_total(a[i], b[i], unit_entry(n, at, i)) {
+            return false;
         }
     }
     true
 }
 
 /// Whether the normal at a place is the sum of the kept vector at another place and the unit vector of the variable `at`. False where
-/// a sum leaves the range.
+/// an entry has more than 32 bits.
 fn is_raised_to(cone: &Cone, place: usize, other: usize, at: usize) -> bool
     requires { place < length cone.now.normals }
     ensures { IsTrue result → IsCrossable cone.now place → ⊥ }
@@ -210,8 +217,8 @@ fn is_raised_to(cone: &Cone, place: usize, other: usize, at: usize) -> bool
     is_raised(kept[place].as_slice(), kept[other].as_slice(), at)
 }
 
-/// Whether the normal at a place is the sum of the vectors at two other places, which aren't both unit vectors. False where a sum
-/// leaves the range.
+/// Whether the normal at a place is the sum of the vectors at two other places, which aren't both unit vectors. False where one of these has
+/// an entry of more than 32 bits.
 pub(crate) fn is_sum_of(cone: &Cone, place: usize, b: usize, c: usize) -> bool
     requires { place < length cone.now.normals }
     ensures { IsTrue result → IsCrossable cone.now place → ⊥ }

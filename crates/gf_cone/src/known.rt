@@ -14,9 +14,10 @@ use crate::aims::aimed;
 use crate::answer::Way;
 use crate::checks::{is_above_zero, is_sum_of, shows};
 use crate::cone::Cone;
+use crate::near::{inside_near, values_of};
 use crate::planar::{Guess, guessed};
 use crate::region::Region;
-use crate::shots::{shot, values_on};
+use crate::shots::{Hit, first_hit, point_hit};
 use crate::spans::is_spanned;
 use crate::sums::{Keys, keys_of, two_places};
 use gf_gordan::GordanError;
@@ -37,7 +38,7 @@ pub(crate) enum Known {
 #[derive(Drop)]
 struct Hints {
     inner: Option<IntVec>,
-    values: Vec<i128>,
+    values: Vec<i64>,
     keys: Keys,
 }
 
@@ -61,22 +62,7 @@ impl Model for KnownCone {
     ghost invariant = { λ c. AreRemembered c.cone c.known.items };
 }
 
-/// The values of the vectors on an inner one, none where they leave the range.
-///
-/// # Errors
-/// Want of memory.
-fn values_of(alloc: Global, cone: &Cone, point: &IntVec) -> Result<Vec<i128>, AllocError> {
-    let entries = point.as_slice();
-    if entries.len() != cone.variables() as usize {
-        return Ok(Vec::new(alloc));
-    }
-    match values_on(alloc, cone, entries)? {
-        Some(values) => Ok(values),
-        None => Ok(Vec::new(alloc)),
-    }
-}
-
-/// What speeds up the search in a cone.
+/// What speeds up the search in a cone, by an inner vector.
 ///
 /// # Errors
 /// Want of memory.
@@ -84,6 +70,10 @@ fn hints_of(alloc: Global, cone: &Cone, inner: Option<IntVec>) -> Result<Hints, 
     let keys = keys_of(alloc, cone)?;
     let values = match &inner {
         Some(point) => values_of(alloc, cone, point)?,
+        None => None,
+    };
+    let values = match values {
+        Some(values) => values,
         None => Vec::new(alloc),
     };
     Ok(Hints {
@@ -124,6 +114,39 @@ impl KnownCone {
             known,
             hints,
         })
+    }
+
+    /// A cone of which nothing is known yet but what a vector inside a facet shows that it shares with a neighbour, whose normal there is `normal`. A vector
+    /// of the inside is looked for near it, as `interior_near` does; any other one is safe, too.
+    ///
+    /// # Errors
+    /// Want of memory.
+    pub fn near(
+        alloc: Global,
+        cone: Cone,
+        witness: &IntVec,
+        normal: &IntVec,
+    ) -> Result<KnownCone, AllocError>
+        ensures { IfOk result (λ k. k ≡ cone) }
+    {
+        let inside = inside_near(alloc, &cone, witness, normal)?;
+        let keys = keys_of(alloc, &cone)?;
+        let known = open_entries(alloc, cone.normals().len())?;
+        let mut made = KnownCone {
+            alloc,
+            cone,
+            known,
+            hints: Hints {
+                inner: inside.inner,
+                values: inside.values,
+                keys,
+            },
+        };
+        if let Some(place) = inside.shown {
+            let copy = witness.copy()?;
+            made.set(place, Known::Yes(copy));
+        }
+        Ok(made)
     }
 
     /// The cone.
@@ -202,12 +225,15 @@ impl KnownCone {
         shows(&self.cone, place, entries)
     }
 
-    /// Remembers a vector that shows that a flip may cross the facet of the normal at a place; one that doesn't is dropped.
+    /// Remembers a vector that shows that a flip may cross the facet of the normal at a place; one that doesn't is dropped, and so is one of a normal of which
+    /// it is known already.
     pub fn learn(&mut self, place: usize, witness: IntVec)
         requires { place < length self.old.normals }
         ensures { self.new ≡ self.old }
     {
-        if self.is_shown_by(place, &witness) {
+        if let None = self.told(place)
+            && self.is_shown_by(place, &witness)
+        {
             self.set(place, Known::Yes(witness));
         }
     }
@@ -236,42 +262,45 @@ impl KnownCone {
         }
     }
 
-    /// The place that a shot against the normal at a place hits, and the point.
-    fn hit_against(&self, place: usize) -> Option<(usize, IntVec)> {
+    /// What a shot against the normal at a place hits first, and alone.
+    fn hit_against(&self, place: usize) -> Option<Hit> {
         let normals = self.normals();
-        let Some(inner) = &self.hints.inner else {
-            return None;
-        };
         if place >= normals.len() {
             return None;
         }
-        match shot(
-            self.alloc,
+        let hit = first_hit(
             &self.cone,
             self.hints.values.as_slice(),
-            inner.as_slice(),
             normals[place].as_slice(),
-        ) {
-            Ok(hit) => hit,
+        )?;
+        if hit.tied.is_some() { None } else { Some(hit) }
+    }
+
+    /// The point that a shot against the normal at a place hits.
+    fn point_against(&self, place: usize, hit: &Hit) -> Option<IntVec> {
+        let inner = self.hints.inner.as_ref()?;
+        let normal = self.normals().get(place)?;
+        match point_hit(self.alloc, hit, inner.as_slice(), normal.as_slice()) {
+            Ok(point) => point,
             Err(_error) => None,
         }
     }
 
-    /// Shoots against the normal at a place, and remembers the point for the normal that is hit; its place, if it is one.
+    /// Shoots against the normal at a place, and remembers the point for the normal that is hit, unless that is known; its place, if it is one.
     fn shoot(&mut self, place: usize) -> Option<usize>
         ensures same { self.new ≡ self.old }
         ensures inside { IfSome result (λ hit. hit < length self.old.normals) }
     {
-        match self.hit_against(place) {
-            Some((hit, point)) => {
-                if hit >= self.normals().len() {
-                    return None;
-                }
-                self.learn(hit, point);
-                Some(hit)
-            }
-            None => None,
+        let hit = self.hit_against(place)?;
+        if hit.place >= self.normals().len() {
+            return None;
         }
+        if let None = self.told(hit.place)
+            && let Some(point) = self.point_against(place, &hit)
+        {
+            self.learn(hit.place, point);
+        }
+        Some(hit.place)
     }
 
     /// Settles the normal at a place by its system.
