@@ -1,9 +1,9 @@
 -- Lifts that end once nothing is left along the normal, as the code works them out.
 -- To cite: reducible_there, SeekingLine, seeking_more, Topping, topping-none, topping_more, topping_less, top_step,
--- shares_at, divides_at, off_more, off_end, top_remainder_at, top_there, top_lift_at, AreTopping, topping_all.
+-- shares_at, divides_at, off_more, off_end, top_remainder_at, top_there, top_lift_at, AreTopping, topping_push, AreToppingBefore, before-more.
 use Rattle.std.specs.declared.option.Option.{Option}
 use Rattle.std.proofs.Common.{◌≡◌, ℕ, ◌+◌, ◌<◌, ◌≤◌, ◌^◌, true, Some, None, IfSome, List, [], ◌∷◌, ◌++◌, length, take, get_or, Contains, ℤ, pos, ◌+ℤ◌, ◌*ℤ◌, arith, refl, sym, ap, ◌∙◌, subst, inl, inr}
-use Rattle.std.proofs.lemmas.List.{take_more, take_all}
+use Rattle.std.proofs.lemmas.List.{take_more, take_all, append_assoc}
 use Rattle.gf_int.proofs.RingLaws.{dv, dn, ◌⊕◌, ◌⊗◌, same as same_number}
 use Rattle.gf_frac.specs.Fraction.{Fraction, ◌+ℚ◌, neg_ℚ, zero_ℚ, one_ℚ}
 use Rattle.gf_frac.proofs.FractionLaws.{zero_or_not, +ℚ-zero, +ℚ-neg_ℚ, +ℚ_assoc, +ℚ_comm}
@@ -257,11 +257,23 @@ pub record AreTopping (n : ℕ) (bs : List MarkedPolynomial) (a : List ℤ) (hs 
   pub lifts : AreTopLifts bs a hs ls
   pub variables : HaveVariables n ls
 
-pub topping_all : (n : ℕ) (bs : List MarkedPolynomial) (a : List ℤ) (hs : List MarkedPolynomial) (i : ℕ) (h l : MarkedPolynomial) (old new : List MarkedPolynomial) → i < length hs →
-    h ≡ get_or hs i h → IsTopLift bs a h l → HasVariables n l.poly → new ≡ old ++ l ∷ [] → AreTopping n bs a (take i hs) old →
-    AreTopping n bs a (take (i + 1) hs) new
-topping_all n bs a hs i h l old new k q t v e s = record {
-  lifts = subst (λ (z : List MarkedPolynomial). AreTopLifts bs a z new) (sym (take_more hs i h k ∙ ap (λ (z : MarkedPolynomial). take i hs ++ z ∷ []) (sym q)))
-      (subst (λ (z : List MarkedPolynomial). AreTopLifts bs a (take i hs ++ h ∷ []) z) (sym e) (matched-push (IsTopLift bs a) (take i hs) old h l s.lifts t));
+pub topping_push : (n : ℕ) (bs : List MarkedPolynomial) (a : List ℤ) (hs : List MarkedPolynomial) (h l : MarkedPolynomial) (old new : List MarkedPolynomial) →
+    IsTopLift bs a h l → HasVariables n l.poly → new ≡ old ++ l ∷ [] → AreTopping n bs a hs old → AreTopping n bs a (hs ++ h ∷ []) new
+topping_push n bs a hs h l old new t v e s = record {
+  lifts = subst (λ (z : List MarkedPolynomial). AreTopLifts bs a (hs ++ h ∷ []) z) (sym e) (matched-push (IsTopLift bs a) hs old h l s.lifts t);
   variables = subst (HaveVariables n) (sym e) (Each-++ (λ (b : MarkedPolynomial). HasVariables n b.poly) old (l ∷ []) s.variables (v, tt));
+}
+
+-- so it is with those of hs before what is left
+pub record AreToppingBefore (n : ℕ) (bs : List MarkedPolynomial) (a : List ℤ) (hs left ls : List MarkedPolynomial) : Type 0 where
+  pub done : List MarkedPolynomial
+  pub split : done ++ left ≡ hs
+  pub topping : AreTopping n bs a done ls
+
+pub before-more : (n : ℕ) (bs : List MarkedPolynomial) (a : List ℤ) (hs left next : List MarkedPolynomial) (h l : MarkedPolynomial) (old new : List MarkedPolynomial) →
+    left ≡ h ∷ next → IsTopLift bs a h l → HasVariables n l.poly → new ≡ old ++ l ∷ [] → AreToppingBefore n bs a hs left old → AreToppingBefore n bs a hs next new
+before-more n bs a hs left next h l old new e t v q s = record {
+  done = s.done ++ h ∷ [];
+  split = append_assoc s.done (h ∷ []) next ∙ ap (λ (z : List MarkedPolynomial). s.done ++ z) (sym e) ∙ s.split;
+  topping = topping_push n bs a s.done h l old new t v q s.topping;
 }

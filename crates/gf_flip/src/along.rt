@@ -94,7 +94,7 @@ fn is_along(x: &Mono, head: &Mono, normal: &[i128], pivot: usize, is_marked: boo
     is_apart(x.exponents(), head.exponents(), normal, pivot)
 }
 
-/// The terms of a member along the normal.
+/// The terms of a member along the normal, in a list with room for all its terms, so that the member can be copied there.
 fn part(alloc: Global, member: &Marked, normal: &[i128], pivot: usize) -> Result<Poly, AllocError>
     requires variables { HasVariables (length normal.now) member.now.poly }
     requires bounded { AreBounded normal.now }
@@ -104,7 +104,7 @@ fn part(alloc: Global, member: &Marked, normal: &[i128], pivot: usize) -> Result
 {
     let terms = member.poly().terms();
     let head = member.head();
-    let mut kept = Vec::with_capacity(alloc, 1)?;
+    let mut kept = Vec::with_capacity(alloc, terms.len())?;
     'terms: for i in 0..terms.len() {
         let t = &terms[i];
         if is_along(&t.mono, head, normal, pivot, i == member.index()) {

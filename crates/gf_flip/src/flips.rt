@@ -15,6 +15,7 @@ use crate::limits::see_members;
 use crate::tails::reduced_tails;
 use crate::tops::top_lifts;
 use crate::turns::{Task, basis_by_queue, basis_in_turn};
+use crate::weights::Facet;
 use crate::wide::wide_crossed;
 use gf_buchberger::{BasisError, refused};
 use gf_division::autoreduce;
@@ -112,30 +113,93 @@ fn lifted_across(
     }
 }
 
+/// The basis on the other side, by the parts, the remainders by the set, and their differences; in wide numbers where narrow ones don't fit on
+/// the way.
+fn literal(
+    alloc: Global,
+    set: &MarkedSet,
+    normal: &IntVec,
+    pairs: u64,
+) -> Result<MarkedSet, FlipError>
+    requires crossing { IsCrossing set.now.variables set.now.items normal.now }
+    requires bounded { AreBounded normal.now }
+    ensures value { IfOk result (λ t. IsNeighbour set.now.variables set.now.items normal.now t.items) }
+    ensures variables { IfOk result (λ t. t.variables ≡ set.now.variables) }
+    ensures cause { IfErr result (IsFlipRefusal set.now.variables set.now.items normal.now pairs) }
+{
+    let list = match parts(alloc, set.items(), normal.as_slice()) {
+        Ok(list) => list,
+        Err(_) => return Err(BasisError::Memory),
+    };
+    let below = basis_of_parts(alloc, set, list, normal, pairs)?;
+    match lifted_across(alloc, set, below.items(), normal) {
+        Ok(across) => Ok(across),
+        Err(refusal) => Err(refused(refusal)),
+    }
+}
+
 /// The basis on the other side, from lifts that end early, if all numbers fit.
 fn early(
     alloc: Global,
     set: &MarkedSet,
-    below: &[Marked],
+    below: MarkedSet,
     alone: &[bool],
     normal: &IntVec,
+    inside: &[i128],
 ) -> Option<MarkedSet>
     requires crossing { IsCrossing set.now.variables set.now.items normal.now }
     requires alone { AreAloneWhere normal.now set.now.items alone.now }
     requires bounded { AreBounded normal.now }
-    requires variables { HaveVariables set.now.variables below.now }
-    requires parts { IsBasisOfParts set.now.variables set.now.items normal.now below.now }
+    requires variables { HaveVariables set.now.variables below.items }
+    requires parts { IsBasisOfParts set.now.variables set.now.items normal.now below.items }
     ensures value { IfSome result (λ t. IsNeighbour set.now.variables set.now.items normal.now t.items) }
     ensures variables { IfSome result (λ t. t.variables ≡ set.now.variables) }
 {
     let n = set.variables();
-    let lifted = top_lifts(alloc, below, set.items(), alone, normal.as_slice())?;
-    let members = reduced_tails(alloc, n, lifted)?;
+    let normal = normal.as_slice();
+    let lifted = top_lifts(alloc, below.into_items(), set.items(), alone, normal)?;
+    let members = reduced_tails(alloc, n, lifted, Facet { inside, normal })?;
     let all = MarkedSet::new(n, members);
     match all.arrange() {
         Ok(across) => Some(across),
         Err(_) => None,
     }
+}
+
+/// What `flip` answers, in fewer steps where `inside` is a vector inside the facet: positive, zero on the normal, and positive on the other
+/// normals. Each other list is safe, too, and takes as many steps as `flip`.
+///
+/// # Errors
+///
+/// Those of `flip`.
+pub fn flip_near(
+    alloc: Global,
+    set: &MarkedSet,
+    normal: &IntVec,
+    inside: &[i128],
+    pairs: u64,
+) -> Result<MarkedSet, FlipError>
+    requires { IsCrossing set.now.variables set.now.items normal.now }
+    ensures value { IfOk result (λ t. IsNeighbour set.now.variables set.now.items normal.now t.items) }
+    ensures variables { IfOk result (λ t. t.variables ≡ set.now.variables) }
+    ensures cause { IfErr result (IsFlipRefusal set.now.variables set.now.items normal.now pairs) }
+    ensures complete { IsFlipWithinLimits set.now.variables set.now.items normal.now pairs → IfErr result IsWantOfMemory }
+{
+    let items = set.items();
+    see_members(items);
+    let list = match parts(alloc, items, normal.as_slice()) {
+        Ok(list) => list,
+        Err(_) => return Err(BasisError::Memory),
+    };
+    let alone = match are_single(alloc, &list) {
+        Ok(alone) => alone,
+        Err(_) => return Err(BasisError::Memory),
+    };
+    let below = basis_of_parts(alloc, set, list, normal, pairs)?;
+    if let Some(across) = early(alloc, set, below, &alone, normal, inside) {
+        return Ok(across);
+    }
+    literal(alloc, set, normal, pairs)
 }
 
 /// The basis on the other side of the facet with this normal.
@@ -165,22 +229,5 @@ pub fn flip(
     ensures cause { IfErr result (IsFlipRefusal set.now.variables set.now.items normal.now pairs) }
     ensures complete { IsFlipWithinLimits set.now.variables set.now.items normal.now pairs → IfErr result IsWantOfMemory }
 {
-    let items = set.items();
-    see_members(items);
-    let list = match parts(alloc, items, normal.as_slice()) {
-        Ok(list) => list,
-        Err(_) => return Err(BasisError::Memory),
-    };
-    let alone = match are_single(alloc, &list) {
-        Ok(alone) => alone,
-        Err(_) => return Err(BasisError::Memory),
-    };
-    let below = basis_of_parts(alloc, set, list, normal, pairs)?;
-    if let Some(across) = early(alloc, set, below.items(), &alone, normal) {
-        return Ok(across);
-    }
-    match lifted_across(alloc, set, below.items(), normal) {
-        Ok(across) => Ok(across),
-        Err(refusal) => Err(refused(refusal)),
-    }
+    flip_near(alloc, set, normal, &[], pairs)
 }

@@ -15,4 +15,4 @@ mod turns;
 mod weights;
 mod wide;
 
-pub use flips::{FlipError, flip};
+pub use flips::{FlipError, flip, flip_near};

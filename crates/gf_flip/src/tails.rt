@@ -15,7 +15,7 @@ ghost use Rattle.gf_flip.specs.LiftTails.{AreCopiedTo, AreCopiedFrom, AreCopiedB
 
 use crate::tops::Lifts;
 use crate::turns::is_divisible;
-use crate::weights::weight_for;
+use crate::weights::{Facet, weight_for};
 use gf_division::{Guide, reduced_tail};
 use gf_poly::{Marked, Mono};
 use std::alloc::Global;
@@ -200,6 +200,7 @@ fn settle(
     copied: &[bool],
     fresh: Span,
     at: usize,
+    facet: Facet,
     weight: &mut Vec<i64>,
 ) -> Option<()>
     requires inside { at < length all.old.items }
@@ -213,7 +214,7 @@ fn settle(
         return Some(());
     }
     if weight.is_empty() {
-        *weight = weight_for(alloc, n, all)?;
+        *weight = weight_for(alloc, n, all, facet)?;
     }
     let member = reduced_lift(alloc, all, at, weight)?;
     all[at] = member;
@@ -221,7 +222,7 @@ fn settle(
 }
 
 /// The lifts with their tails reduced, one after another by the lifts as they are then, in their order, if all numbers fit.
-pub fn reduced_tails(alloc: Global, n: u32, lifts: Lifts) -> Option<Vec<Marked>>
+pub fn reduced_tails(alloc: Global, n: u32, lifts: Lifts, facet: Facet) -> Option<Vec<Marked>>
     requires marked { HasSomeWeight lifts.members.items }
     requires flags { length lifts.copied.items ≡ length lifts.members.items }
     requires variables { HaveVariables n lifts.members.items }
@@ -232,7 +233,7 @@ pub fn reduced_tails(alloc: Global, n: u32, lifts: Lifts) -> Option<Vec<Marked>>
     let fresh = fresh_of(&copied);
     let mut weight = Vec::new(alloc);
     'lifts: for at in 0..all.len() {
-        settle(alloc, n, &mut all, &copied, fresh, at, &mut weight)?;
+        settle(alloc, n, &mut all, &copied, fresh, at, facet, &mut weight)?;
     }
     Some(all)
 }

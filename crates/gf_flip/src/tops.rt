@@ -287,10 +287,10 @@ fn top_lift(
 }
 
 /// The lift, of the one kind or the other, whether it is copied from the set, and where to look on for the next one. A member of the
-/// set with the same mark is looked for from a place on.
+/// set with the same mark is looked for from a place on; it is copied into the memory of the member that is lifted.
 fn lifted(
     alloc: Global,
-    member: &Marked,
+    member: Marked,
     by: &[Marked],
     from: usize,
     alone: &[bool],
@@ -299,23 +299,23 @@ fn lifted(
 ) -> Option<(Marked, bool, usize)>
     requires marked { HasSomeWeight by.now }
     requires alone { AreAloneWhere normal.now by.now alone.now }
-    requires poly { HasVariables (length normal.now) member.now.poly }
-    requires monic { coefficient member.now.poly member.now.head ≡ one_ℚ }
+    requires poly { HasVariables (length normal.now) member.poly }
+    requires monic { coefficient member.poly member.head ≡ one_ℚ }
     requires members { HaveVariables (length normal.now) by.now }
     requires bounded { AreBounded normal.now }
     requires inside { pivot < length normal.now }
     requires nonzero { get_or normal.now pivot (pos 0) ≢ pos 0 }
-    ensures value { IfSome result (λ l. IsTopLift by.now normal.now member.now l.0) }
+    ensures value { IfSome result (λ l. IsTopLift by.now normal.now member l.0) }
     ensures variables { IfSome result (λ l. HasVariables (length normal.now) l.0.poly) }
     ensures copied { IfSome result (λ l. IsCopy by.now l.0 l.1) }
 {
-    if let Some(j) = untouched(member, by, from, alone) {
-        return match by[j].copy() {
+    if let Some(j) = untouched(&member, by, from, alone) {
+        return match by[j].copy_over(member) {
             Ok(copy) => Some((copy, true, j + 1)),
             Err(_) => None,
         };
     }
-    let lift = top_lift(alloc, member, by, normal, pivot)?;
+    let lift = top_lift(alloc, &member, by, normal, pivot)?;
     Some((lift, false, from))
 }
 
@@ -384,19 +384,19 @@ fn push(lifts: &mut Lifts, lift: Marked, is_copy: bool) -> Option<()>
 /// along the normal.
 pub fn top_lifts(
     alloc: Global,
-    items: &[Marked],
+    items: Vec<Marked>,
     by: &[Marked],
     alone: &[bool],
     normal: &[i128],
 ) -> Option<Lifts>
     requires marked { HasSomeWeight by.now }
     requires alone { AreAloneWhere normal.now by.now alone.now }
-    requires variables { HaveVariables (length normal.now) items.now }
-    requires monic { AreMonic items.now }
+    requires variables { HaveVariables (length normal.now) items.items }
+    requires monic { AreMonic items.items }
     requires members { HaveVariables (length normal.now) by.now }
     requires bounded { AreBounded normal.now }
     requires nonzero { HasNonzero normal.now }
-    ensures value { IfSome result (λ ls. AreTopLifts by.now normal.now items.now ls.members.items) }
+    ensures value { IfSome result (λ ls. AreTopLifts by.now normal.now items.items ls.members.items) }
     ensures variables { IfSome result (λ ls. HaveVariables (length normal.now) ls.members.items) }
     ensures copied { IfSome result (λ ls. AreCopies by.now ls.members.items ls.copied.items) }
 {
@@ -406,8 +406,8 @@ pub fn top_lifts(
         copied: with_room(alloc, items.len())?,
     };
     let mut from = 0;
-    'members: for i in 0..items.len() {
-        let (lift, is_copy, next) = lifted(alloc, &items[i], by, from, alone, normal, pivot)?;
+    'members: for member in items {
+        let (lift, is_copy, next) = lifted(alloc, member, by, from, alone, normal, pivot)?;
         push(&mut all, lift, is_copy)?;
         from = next;
     }

@@ -3,6 +3,7 @@
 ghost use Rattle.std.specs.Prelude.{IfSome};
 ghost use Rattle.gf_poly.specs.Marking.{HaveVariables};
 
+use crate::room::with_room;
 use gf_cone::Cone;
 use gf_division::weight_of;
 use gf_gordan::{Answer, strict};
@@ -69,7 +70,7 @@ fn narrowed(alloc: Global, point: &[i128]) -> Option<Vec<i64>> {
 
 /// A weight by which the marks of the lifts are heaviest, or one by which nearly all are. It is looked for near equal entries first, and
 /// then inside their cone.
-pub fn weight_for(alloc: Global, n: u32, lifts: &[Marked]) -> Option<Vec<i64>>
+pub fn weight_found(alloc: Global, n: u32, lifts: &[Marked]) -> Option<Vec<i64>>
     requires { HaveVariables n lifts.now }
 {
     let (reached, is_found) = weight_of(alloc, lifts, ROUNDS)?;
@@ -82,4 +83,84 @@ pub fn weight_for(alloc: Global, n: u32, lifts: &[Marked]) -> Option<Vec<i64>>
         return Some(weight);
     }
     Some(reached)
+}
+
+/// A facet that is crossed: a vector inside it, and its normal.
+#[derive(Clone, Copy)]
+pub struct Facet<'a> {
+    pub inside: &'a [i128],
+    pub normal: &'a [i128],
+}
+
+/// What a vector gives on the exponents of `x` less those of `y`.
+fn gain_of(vector: &[i64], x: &[u32], y: &[u32]) -> i64 {
+    let mut sum = 0i64;
+    'entries: for (v, (a, b)) in vector.iter().zip(x.iter().zip(y)) {
+        sum = sum.wrapping_add(v.wrapping_mul(i64::from(*a) - i64::from(*b)));
+    }
+    sum
+}
+
+/// The least factor from another one on, so many times what the vector inside the facet gives is above what the normal gives.
+fn raised(factor: i64, inside: i64, normal: i64) -> Option<i64> {
+    if inside > 0 {
+        if normal < 0 {
+            return Some(factor);
+        }
+        return Some(factor.max((normal / inside).wrapping_add(1)));
+    }
+    if inside == 0 && normal < 0 {
+        return Some(factor);
+    }
+    None
+}
+
+/// The least factor from another one on that serves for the mark of a lift and its other terms.
+fn raised_by(factor: i64, lift: &Marked, inside: &[i64], normal: &[i64]) -> Option<i64> {
+    let head = lift.head().exponents();
+    let terms = lift.poly().terms();
+    let mut most = factor;
+    'terms: for k in 0..terms.len() {
+        if k != lift.index() {
+            let x = terms[k].mono.exponents();
+            most = raised(most, gain_of(inside, head, x), gain_of(normal, head, x))?;
+        }
+    }
+    Some(most)
+}
+
+/// The least multiple of the vector inside the facet that, less the normal, is positive and heavier at the marks of the lifts than at their other
+/// terms. Once the lifts have the initial forms of the parts there is one.
+fn weight_across(alloc: Global, lifts: &[Marked], facet: Facet) -> Option<Vec<i64>> {
+    let inside = narrowed(alloc, facet.inside)?;
+    let normal = narrowed(alloc, facet.normal)?;
+    if inside.is_empty() || inside.len() != normal.len() {
+        return None;
+    }
+    let mut factor = 1;
+    'entries: for (v, a) in inside.iter().zip(&normal) {
+        factor = raised(factor, *v, *a)?;
+    }
+    'lifts: for i in 0..lifts.len() {
+        factor = raised_by(factor, &lifts[i], &inside, &normal)?;
+    }
+    let mut weight = with_room(alloc, inside.len())?;
+    'sums: for (v, a) in inside.iter().zip(&normal) {
+        match weight.push(factor.checked_mul(*v)?.checked_sub(*a)?) {
+            Ok(()) => {}
+            Err(_) => return None,
+        }
+    }
+    Some(weight)
+}
+
+/// A weight by which the marks of the lifts are heaviest, or one by which nearly all are: one just across the facet, or else one that is looked
+/// for anew.
+pub fn weight_for(alloc: Global, n: u32, lifts: &[Marked], facet: Facet) -> Option<Vec<i64>>
+    requires { HaveVariables n lifts.now }
+{
+    match weight_across(alloc, lifts, facet) {
+        Some(weight) => Some(weight),
+        None => weight_found(alloc, n, lifts),
+    }
 }

@@ -14,7 +14,7 @@ ghost use Rattle.gf_flip.specs.LiftsInTurn.{IsRest, AreRests, IsLessBy, AreLifts
 use crate::reduction::reduced_form;
 use crate::tops::place_of_mark;
 use crate::turns::one;
-use crate::weights::{ROUNDS, weight_for};
+use crate::weights::{ROUNDS, weight_found};
 use gf_division::weight_of;
 use gf_poly::{Marked, MarkedSet, Mono, Poly, Term};
 use gf_vec::IntVec;
@@ -198,7 +198,7 @@ fn precedence_across(
 fn precedence_for(alloc: Global, n: u32, members: &[Marked]) -> Result<Precedence, Beyond>
     requires { HaveVariables n members.now }
 {
-    match weight_for(alloc, n, members) {
+    match weight_found(alloc, n, members) {
         Some(weight) => Ok(Precedence::by(weight, false)),
         None => Err(Beyond),
     }

@@ -8,7 +8,6 @@ use Rattle.gf_gordan.specs.declared.error.GordanError.{GordanError}
 use Rattle.gf_gordan.specs.declared.error.GordanError.TheVariants as cones
 use Rattle.gf_gordan.specs.Steps.{Failed}
 use Rattle.gf_buchberger.specs.declared.bases.BasisError.{BasisError}
-use Rattle.gf_buchberger.specs.declared.bases.BasisError.TheVariants as flips
 use Rattle.gf_facets.specs.Regions.{Region}
 use Rattle.gf_facets.specs.Facets.{IsFlippable}
 use Rattle.gf_cone.specs.Cones.{ConeRows, normal_at, other_rows, IsConeOf}
@@ -23,7 +22,7 @@ use Rattle.gf_reverse.proofs.TreeLaws.{SameFan, own_fan, back_fan, node_moved}
 use Rattle.gf_reverse.proofs.ListLaws.{root_above, root_own}
 use Rattle.gf_tree.proofs.LabelLaws.{across_in}
 use Rattle.gf_tree.specs.declared.error.TreeError.{TreeError}
-use Rattle.gf_tree.specs.declared.error.TreeError.TheVariants.{Memory, Cone}
+use Rattle.gf_tree.specs.declared.error.TreeError.TheVariants.{Memory}
 use Rattle.gf_tree.specs.Refusals.{of_flip_error, of_cone_error, IsTreeRefusal, IsRefusedAtBasis, IsWayRefused, IsCallRefusal, IsTreeWithinLimits}
 
 -- ---- steps

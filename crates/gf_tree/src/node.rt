@@ -3,7 +3,7 @@ ghost use Rattle.std.specs.Prelude.{◌≡◌, length, IfOk};
 ghost use Rattle.gf_cone.specs.Cones.{IsConeOf};
 
 use crate::BasisTree;
-use gf_cone::{Cone, KnownCone, Region, interior_near};
+use gf_cone::{Cone, KnownCone, Region};
 use gf_poly::MarkedSet;
 use gf_vec::IntVec;
 use std::alloc::{AllocError, Global};
@@ -84,8 +84,7 @@ pub(crate) fn cone_near(
     ensures { IfOk result (IsConeOf set.now.variables tree.now.region set.now.items) }
 {
     let cone = Cone::within(tree.alloc, set, &tree.region)?;
-    let inner = interior_near(tree.alloc, &cone, witness, normal);
-    KnownCone::new(tree.alloc, cone, inner)
+    KnownCone::near(tree.alloc, cone, witness, normal)
 }
 
 /// A normal, and a vector inside its facet.

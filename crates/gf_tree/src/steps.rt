@@ -12,7 +12,7 @@ ghost use Rattle.gf_tree.specs.Refusals.{IsTreeRefusal, IsRefusedAtBasis};
 use crate::node::{Facet, Neighbour, cone_near, cone_of};
 use crate::{BasisTree, Node, TreeError};
 use gf_cone::KnownCone;
-use gf_flip::flip;
+use gf_flip::flip_near;
 use gf_poly::MarkedSet;
 use gf_vec::IntVec;
 use std::alloc::AllocError;
@@ -52,11 +52,12 @@ fn cone_in<'a>(tree: &BasisTree, node: &'a Node) -> Option<&'a KnownCone>
     }
 }
 
-/// The neighbour across a flippable normal.
+/// The neighbour across a flippable normal, found faster where the vector is inside the facet.
 pub(crate) fn crossed(
     tree: &BasisTree,
     set: &MarkedSet,
     normal: &IntVec,
+    inside: &IntVec,
 ) -> Result<MarkedSet, TreeError>
     requires node { IsNode tree.now.region set.now }
     requires flippable { IsFlippable set.now.variables tree.now.region set.now.items normal.now }
@@ -64,7 +65,7 @@ pub(crate) fn crossed(
     ensures cause { IfErr result (IsTreeRefusal (fan_of tree.now.region set.now) tree.now.pairs) }
     ensures at { IfErr result (IsRefusedAtBasis tree.now.region tree.now.pairs set.now) }
 {
-    let across = flip(tree.alloc, set, normal, tree.pairs)?;
+    let across = flip_near(tree.alloc, set, normal, inside.as_slice(), tree.pairs)?;
     Ok(across)
 }
 
@@ -75,7 +76,7 @@ pub(crate) fn arrived(tree: &BasisTree, node: &Node, facet: &Facet) -> Result<No
     ensures ok { IfOk result (λ w. IsAcross tree.now.region node.now facet.now (Some w)) }
     ensures cause { IfErr result (IsRefusedAtBasis tree.now.region tree.now.pairs node.now) }
 {
-    let basis = crossed(tree, &node.basis, &facet.normal)?;
+    let basis = crossed(tree, &node.basis, &facet.normal, &facet.witness)?;
     let cone = cone_near(tree, &basis, &facet.witness, &facet.normal)?;
     Ok(Node {
         basis,
@@ -107,7 +108,7 @@ fn below_in(
     let crossing = cone.crossing(place)?;
     match crossing {
         Some(witness) => {
-            let basis = crossed(tree, set, normal)?;
+            let basis = crossed(tree, set, normal, &witness)?;
             Ok(Some(Neighbour { basis, witness }))
         }
         None => Ok(None),
@@ -189,7 +190,6 @@ pub(crate) fn led_back(
         Some(place) => place,
         None => return Ok(None),
     };
-    cone.learn(place, witness);
     match cone.is_way_up(place, &tree.region)? {
         true => Ok(Some(Node {
             basis,

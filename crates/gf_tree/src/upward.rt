@@ -24,7 +24,7 @@ fn above(tree: &BasisTree, set: &MarkedSet) -> Result<Parent, TreeError>
         Some(facet) => facet,
         None => return Ok(Parent::Root),
     };
-    let basis = crossed(tree, set, &facet.normal)?;
+    let basis = crossed(tree, set, &facet.normal, &facet.witness)?;
     Ok(Parent::Up {
         normal: facet.normal,
         basis,

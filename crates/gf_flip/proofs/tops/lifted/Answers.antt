@@ -8,7 +8,7 @@ pub returns-in-Ok-clause-value : goal.returns-in-Ok-clause-value
 returns-in-Ok-clause-value c =
     let m = c.in-Some.ensures.place in
     let h = member_at c.args.by.now c.in-Some.j c.index-by-j.result m.at.within c.index-by-j.is in
-    untouched_at c.args.by.now c.args.normal.now c.args.member.now c.index-by-j.result c.in-Ok.copy c.requires.monic
+    untouched_at c.args.by.now c.args.normal.now c.args.member c.index-by-j.result c.in-Ok.copy c.requires.monic
     (monic_member c.args.by.now c.index-by-j.result c.in-Some.j c.requires.marked m.at.within c.index-by-j.is)
     c.in-Some.ensures.single
     (c.in-Some.j, m.at.within, sym c.index-by-j.is)

@@ -1,7 +1,7 @@
-use Rattle.std.proofs.Common.{◌≡◌, ◌<◌, length, arith, sym, subst}
+use Rattle.std.proofs.Common.{arith, sym, subst}
 use Rattle.std.proofs.lemmas.Result.{err_from_is_err_and}
 use Rattle.gf_poly.specs.Marking.{MarkedPolynomials}
-use Rattle.gf_cone.specs.Cones.{ConeRows, normal_at, IsConeOf}
+use Rattle.gf_cone.specs.Cones.{IsConeOf}
 use Rattle.gf_reverse.specs.Upward.{IsWayUp}
 use Rattle.gf_facets.specs.Normals.{Ascends}
 use Rattle.gf_tree.specs.Places.{IsVectorPlace}
@@ -30,11 +30,8 @@ returns-in_err-is_way_up-clause-cause c =
     let shown = subst (λ (w : MarkedPolynomials). IsConeOf w.variables k w.items cone) c.neighbour.view_is c.in_ok-cone.ensures in
     let is = shown in
     let at = place_read v.variables k v.items cone is c.normals.result.now c.args.back.now c.in-Some.place c.normals.ensures.value (subst (IsVectorPlace c.normals.result.now c.args.back.now) c.in-Some.is c.place_of.ensures) in
-    let learned = c.learn.new.self in
-    let is_still = subst (λ (z : ConeRows). IsConeOf v.variables k v.items z) (sym c.learn.ensures) is in
-    let still = subst (λ (z : ConeRows). (c.in-Some.place < length z.normals) × (normal_at z c.in-Some.place ≡ c.args.back.now)) (sym c.learn.ensures) at in
     let p = err_from_is_err_and c.from_residual-in_err-is_way_up.result c.from_residual-in_err-is_way_up.ensures.1 in
-    rw p.1 (cone_at k c.args.tree.now.pairs v learned _ c.in_err-is_way_up.field-0.0 p.0 is_still (let l = still.0 in omega (arith, l)) c.in_err-is_way_up.ensures.err p.2)
+    rw p.1 (cone_at k c.args.tree.now.pairs v cone _ c.in_err-is_way_up.field-0.0 p.0 is (let l = at.0 in omega (arith, l)) c.in_err-is_way_up.ensures.err p.2)
 
 pub returns-in-true-clause-ok : goal.returns-in-true-clause-ok
 returns-in-true-clause-ok c =
@@ -44,10 +41,7 @@ returns-in-true-clause-ok c =
     let shown = subst (λ (w : MarkedPolynomials). IsConeOf w.variables k w.items cone) c.neighbour.view_is c.in_ok-cone.ensures in
     let is = shown in
     let at = place_read v.variables k v.items cone is c.normals.result.now c.args.back.now c.in-Some.place c.normals.ensures.value (subst (IsVectorPlace c.normals.result.now c.args.back.now) c.in-Some.is c.place_of.ensures) in
-    let learned = c.learn.new.self in
-    let is_still = subst (λ (z : ConeRows). IsConeOf v.variables k v.items z) (sym c.learn.ensures) is in
-    let still = subst (λ (z : ConeRows). (c.in-Some.place < length z.normals) × (normal_at z c.in-Some.place ≡ c.args.back.now)) (sym c.learn.ensures) at in
-    (c.neighbour.view_is, (told_way v.variables k v.items learned is_still c.args.back.now c.in-Some.place c.in_ok-is_way_up.field-0 still c.in_ok-is_way_up.ensures.ok).0 c.in-true.is)
+    (c.neighbour.view_is, (told_way v.variables k v.items cone is c.args.back.now c.in-Some.place c.in_ok-is_way_up.field-0 at c.in_ok-is_way_up.ensures.ok).0 c.in-true.is)
 
 pub returns-in-false-clause-ok : goal.returns-in-false-clause-ok
 returns-in-false-clause-ok c =
@@ -57,8 +51,5 @@ returns-in-false-clause-ok c =
     let shown = subst (λ (w : MarkedPolynomials). IsConeOf w.variables k w.items cone) c.neighbour.view_is c.in_ok-cone.ensures in
     let is = shown in
     let at = place_read v.variables k v.items cone is c.normals.result.now c.args.back.now c.in-Some.place c.normals.ensures.value (subst (IsVectorPlace c.normals.result.now c.args.back.now) c.in-Some.is c.place_of.ensures) in
-    let learned = c.learn.new.self in
-    let is_still = subst (λ (z : ConeRows). IsConeOf v.variables k v.items z) (sym c.learn.ensures) is in
-    let still = subst (λ (z : ConeRows). (c.in-Some.place < length z.normals) × (normal_at z c.in-Some.place ≡ c.args.back.now)) (sym c.learn.ensures) at in
     not_told c.in_ok-is_way_up.field-0 (IsWayUp v.variables k v.items c.args.back.now)
-    (told_way v.variables k v.items learned is_still c.args.back.now c.in-Some.place c.in_ok-is_way_up.field-0 still c.in_ok-is_way_up.ensures.ok) c.in-false.is
+    (told_way v.variables k v.items cone is c.args.back.now c.in-Some.place c.in_ok-is_way_up.field-0 at c.in_ok-is_way_up.ensures.ok) c.in-false.is

@@ -7,8 +7,8 @@ use Rattle.gf_flip.proofs.CrossingMath.{crossing_width, crossing_nonzero}
 use Rattle.gf_flip.specs.Tops.{AreAloneWhere}
 use Rattle.gf_flip.proofs.AloneLaws.{alone_where}
 use Rattle.gf_flip.proofs.FlipSteps.{along_at, have_at, weight_at, bounded_at}
-use Rattle.gf_flip.proofs.RefusalSteps.{flip_refusal_within, flip_within}
-use Rattle.gf_flip.proofs.flips.flip.Goals as goal
+use Rattle.gf_flip.proofs.RefusalSteps.{flip_within}
+use Rattle.gf_flip.proofs.flips.flip_near.Goals as goal
 
 pub parts-requires-clause-variables : goal.parts-requires-clause-variables
 parts-requires-clause-variables c = have_at c.args.set.now.variables (length c.as_slice.result.now) c.args.set.now.items c.items-items.result.now c.items-items.ensures.variables c.items-items.ensures.value (ap length c.as_slice.ensures.value ∙ crossing_width c.args.set.now.variables c.args.set.now.items c.args.normal.now c.requires)
@@ -41,8 +41,8 @@ early-requires-clause-alone c = subst (AreAloneWhere c.args.normal.now c.args.se
 pub early-requires-clause-bounded : goal.early-requires-clause-bounded
 early-requires-clause-bounded c = bounded_at c.args.set.now.variables c.args.set.now.items c.items-items.result.now c.args.normal.now c.args.normal.now c.requires c.items-items.ensures.value c.see_members.ensures refl
 
-pub returns-clause-cause : goal.returns-clause-cause
-returns-clause-cause c = subst (IsFlipRefusal c.args.set.now.variables c.args.set.now.items c.args.normal.now c.args.pairs) (sym c.refused.ensures) (c.in-Err-lifted_across.ensures.cause c.args.pairs)
-
 pub returns-clause-complete : goal.returns-clause-complete
-returns-clause-complete c = λ w. flip_refusal_within c.args.set.now.variables c.args.set.now.items c.args.normal.now c.args.pairs c.refused.result w (subst (IsFlipRefusal c.args.set.now.variables c.args.set.now.items c.args.normal.now c.args.pairs) (sym c.refused.ensures) (c.in-Err-lifted_across.ensures.cause c.args.pairs))
+returns-clause-complete c = λ w. flip_within c.args.set.now.variables c.args.set.now.items c.args.normal.now c.args.pairs c.literal.result w c.literal.ensures.cause
+
+pub literal-requires-clause-bounded : goal.literal-requires-clause-bounded
+literal-requires-clause-bounded c = bounded_at c.args.set.now.variables c.args.set.now.items c.items-items.result.now c.args.normal.now c.args.normal.now c.requires c.items-items.ensures.value c.see_members.ensures refl
