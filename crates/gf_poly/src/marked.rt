@@ -45,6 +45,13 @@ impl Marked {
         &self.poly
     }
 
+    /// The polynomial alone; nothing is copied.
+    pub fn into_poly(self) -> Poly
+        ensures { result ≡ self.poly }
+    {
+        self.poly
+    }
+
     /// The place of the marked term.
     pub fn index(&self) -> usize
         ensures inside { result < length self.now.poly }
