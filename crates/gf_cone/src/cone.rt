@@ -12,6 +12,7 @@ ghost use Rattle.gf_cone.specs.Small.{IsSmall};
 ghost use Rattle.gf_cone.specs.Cones.{all_rows, normal_at, other_rows, IsConeOf, in_region, HasRowsOf, HasInterior, HasUnits};
 ghost use Rattle.gf_cone.specs.Answers.{AnswersFacet, AnswersFlip, IsFacetAnswered, IsFlipToldIn, IsNormalStep};
 
+use crate::SpareVectors;
 use crate::answer::{FacetAnswer, FlipAnswer};
 use crate::listing::normals;
 use crate::marking::with_units;
@@ -45,15 +46,20 @@ impl Model for Cone {
     ghost invariant = { λ c. AreVectorsKept c.variables c.vectors.items c.count };
 }
 
-/// The cone of a marked set, with rows behind its normals.
+/// The cone of a marked set, with rows behind its normals, which are in the memory of spare vectors.
 ///
 /// # Errors
 /// Want of memory.
-fn made(alloc: Global, set: &MarkedSet, rows: &[IntVec]) -> Result<Cone, AllocError>
+fn made(
+    alloc: Global,
+    set: &MarkedSet,
+    rows: &[IntVec],
+    spare: &mut SpareVectors,
+) -> Result<Cone, AllocError>
     requires { AreRows set.now.variables rows.now }
     ensures { IfOk result (IsConeOf set.now.variables (record { rows = rows.now; root = [] }) set.now.items) }
 {
-    let normals = normals(alloc, set)?;
+    let normals = normals(alloc, set, spare)?;
     let variables = set.variables();
     let count = normals.len();
     let vectors = with_copies(normals, rows)?;
@@ -72,7 +78,7 @@ impl Cone {
     pub fn of(alloc: Global, set: &MarkedSet) -> Result<Cone, AllocError>
         ensures { IfOk result (IsConeOf set.now.variables (all_positive set.now.variables) set.now.items) }
     {
-        made(alloc, set, &[])
+        made(alloc, set, &[], &mut SpareVectors::new(alloc))
     }
 
     /// The cone of a marked set, in a region.
@@ -83,7 +89,30 @@ impl Cone {
         requires { length region.now.root ≡ set.now.variables }
         ensures { IfOk result (IsConeOf set.now.variables region.now set.now.items) }
     {
-        made(alloc, set, region.rows())
+        Cone::within_over(alloc, set, region, &mut SpareVectors::new(alloc))
+    }
+
+    /// The cone of a marked set, in a region; its normals are in the memory of spare vectors, as far as there are some.
+    ///
+    /// # Errors
+    /// Want of memory.
+    pub fn within_over(
+        alloc: Global,
+        set: &MarkedSet,
+        region: &Region,
+        spare: &mut SpareVectors,
+    ) -> Result<Cone, AllocError>
+        requires { length region.now.root ≡ set.now.variables }
+        ensures { IfOk result (IsConeOf set.now.variables region.now set.now.items) }
+    {
+        made(alloc, set, region.rows(), spare)
+    }
+
+    /// Leaves the memory of the normals.
+    pub fn leave(self, spare: &mut SpareVectors) {
+        'vectors: for vector in self.vectors {
+            spare.keep(vector);
+        }
     }
 
     /// The number of variables.

@@ -10,6 +10,7 @@ ghost use Rattle.gf_cone.specs.Cones.{all_rows, normal_at, other_rows, HasRowsOf
 ghost use Rattle.gf_cone.specs.Answers.{IsNormalStep};
 ghost use Rattle.gf_cone.specs.Crossing.{IsCrossable, IsRemembered, LeadsUpAt, IsFlipDecided, IsCrossingDecided, IsLeastUp, IsWayFrom, IsWayShown, SomeUpBefore, IsStepBefore};
 
+use crate::SpareVectors;
 use crate::aims::aimed;
 use crate::answer::Way;
 use crate::checks::{is_above_zero, is_sum_of, shows};
@@ -147,6 +148,11 @@ impl KnownCone {
             made.set(place, Known::Yes(copy));
         }
         Ok(made)
+    }
+
+    /// Leaves the memory of the normals.
+    pub fn leave(self, spare: &mut SpareVectors) {
+        self.cone.leave(spare);
     }
 
     /// The cone.

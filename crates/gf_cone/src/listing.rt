@@ -8,6 +8,7 @@ ghost use Rattle.gf_facets.specs.MarkedBases.{AreCanonical};
 ghost use Rattle.gf_cone.specs.Small.{IsSmall};
 ghost use Rattle.gf_cone.specs.Placing.{IsPlacing, Gathers};
 
+use crate::SpareVectors;
 use crate::marking::difference;
 use gf_poly::{Marked, MarkedSet, Mono};
 use gf_vec::IntVec;
@@ -39,17 +40,24 @@ fn place_in(list: &[IntVec], v: &IntVec) -> Placing
     Placing::New(low)
 }
 
-/// An ascending list with one more vector, unless it has it.
+/// An ascending list with one more vector, unless it has it; then the vector is spare.
 ///
 /// # Errors
 /// Want of memory.
-fn with_vector(list: Vec<IntVec>, v: IntVec) -> Result<Vec<IntVec>, AllocError>
+fn with_vector(
+    list: Vec<IntVec>,
+    v: IntVec,
+    spare: &mut SpareVectors,
+) -> Result<Vec<IntVec>, AllocError>
     requires { Ascends list.items }
     ensures rises { IfOk result (λ more. Ascends more.items) }
     ensures has { IfOk result (λ more. (a : List ℤ) → Contains more.items a ↔ ((a ≡ v) ⊎ Contains list.items a)) }
 {
     match place_in(list.as_slice(), &v) {
-        Placing::Known => Ok(list),
+        Placing::Known => {
+            spare.keep(v);
+            Ok(list)
+        }
         Placing::New(place) => {
             let mut more = list;
             more.insert(place, v)?;
@@ -67,6 +75,7 @@ fn with_normal(
     list: Vec<IntVec>,
     x: &Mono,
     y: &Mono,
+    spare: &mut SpareVectors,
 ) -> Result<Vec<IntVec>, AllocError>
     requires widths { length x.now ≡ length y.now }
     requires rises { Ascends list.items }
@@ -77,9 +86,10 @@ fn with_normal(
     if x.is_same(y) {
         return Ok(list);
     }
-    let mut normal = difference(alloc, x, y)?;
+    let entries = spare.room(alloc, x.exponents().len())?;
+    let mut normal = difference(entries, x, y)?;
     normal.primitive();
-    let more = with_vector(list, normal)?;
+    let more = with_vector(list, normal, spare)?;
     Ok(more)
 }
 
@@ -87,7 +97,12 @@ fn with_normal(
 ///
 /// # Errors
 /// Want of memory.
-fn with_normals(alloc: Global, list: Vec<IntVec>, b: &Marked) -> Result<Vec<IntVec>, AllocError>
+fn with_normals(
+    alloc: Global,
+    list: Vec<IntVec>,
+    b: &Marked,
+    spare: &mut SpareVectors,
+) -> Result<Vec<IntVec>, AllocError>
     requires variables { (n : ℕ) × HasVariables n b.now.poly }
     requires rises { Ascends list.items }
     requires small { All IsSmall list.items }
@@ -100,16 +115,21 @@ fn with_normals(alloc: Global, list: Vec<IntVec>, b: &Marked) -> Result<Vec<IntV
     let mut more = list;
     'terms: for i in 0..terms.len() {
         let t = &terms[i];
-        more = with_normal(alloc, more, head, &t.mono)?;
+        more = with_normal(alloc, more, head, &t.mono, spare)?;
     }
     Ok(more)
 }
 
-/// The normals of a marked set, ascending, each once. The list has room for one of each member, and as many more as there are variables.
+/// The normals of a marked set, ascending, each once, in the memory of spare vectors. The list has room for one of each member, and as many more as there are
+/// variables.
 ///
 /// # Errors
 /// Want of memory.
-pub(crate) fn normals(alloc: Global, set: &MarkedSet) -> Result<Vec<IntVec>, AllocError>
+pub(crate) fn normals(
+    alloc: Global,
+    set: &MarkedSet,
+    spare: &mut SpareVectors,
+) -> Result<Vec<IntVec>, AllocError>
     ensures normals { IfOk result (λ ns. AreNormals set.now.items ns.items) }
     ensures small { IfOk result (λ ns. All IsSmall ns.items) }
     ensures canonical { IfOk result (λ _. AreCanonical set.now.variables set.now.items) }
@@ -119,7 +139,7 @@ pub(crate) fn normals(alloc: Global, set: &MarkedSet) -> Result<Vec<IntVec>, All
     let empty = Vec::with_capacity(alloc, room)?;
     let mut all = empty;
     'members: for i in 0..items.len() {
-        all = with_normals(alloc, all, &items[i])?;
+        all = with_normals(alloc, all, &items[i], spare)?;
     }
     Ok(all)
 }

@@ -1,5 +1,5 @@
 //! The rows of a marked set, and the unit vectors.
-ghost use Rattle.std.specs.Prelude.{◌≡◌, ◌++◌, ◌<◌, ◌-ℤ◌, ℕ, pos, length, slice_set, All, IfOk};
+ghost use Rattle.std.specs.Prelude.{◌≡◌, ◌++◌, ◌<◌, ◌-ℤ◌, ℕ, [], pos, length, slice_set, All, IfOk};
 ghost use Rattle.gf_int.specs.Range.{InRange};
 ghost use Rattle.gf_vec.specs.Vector.{zeros};
 ghost use Rattle.gf_poly.specs.Marking.{Each, HaveVariables, HasMarkedTerm};
@@ -19,18 +19,19 @@ fn entry_of(x: u32, y: u32) -> i128
     i128::from(x) - i128::from(y)
 }
 
-/// The exponents of `x` less those of `y`.
+/// The exponents of `x` less those of `y`, in an empty list.
 ///
 /// # Errors
 /// Want of memory.
-pub(crate) fn difference(alloc: Global, x: &Mono, y: &Mono) -> Result<IntVec, AllocError>
-    requires { length x.now ≡ length y.now }
+pub(crate) fn difference(list: Vec<i128>, x: &Mono, y: &Mono) -> Result<IntVec, AllocError>
+    requires empty { list.items ≡ [] }
+    requires widths { length x.now ≡ length y.now }
     ensures value { IfOk result (λ v. v ≡ differences x.now y.now) }
     ensures small { IfOk result IsSmall }
 {
     let left = x.exponents();
     let right = y.exponents();
-    let mut entries = Vec::with_capacity(alloc, left.len())?;
+    let mut entries = list;
     'entries: for i in 0..left.len() {
         entries.push(entry_of(left[i], right[i]))?;
     }
@@ -51,7 +52,8 @@ fn with_row(alloc: Global, rows: Vec<IntVec>, x: &Mono, y: &Mono) -> Result<Vec<
         return Ok(rows);
     }
     let mut more = rows;
-    more.push(difference(alloc, x, y)?)?;
+    let list = Vec::with_capacity(alloc, x.exponents().len())?;
+    more.push(difference(list, x, y)?)?;
     Ok(more)
 }
 
