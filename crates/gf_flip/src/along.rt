@@ -7,6 +7,7 @@ ghost use Rattle.gf_poly.specs.Marking.{HaveVariables};
 ghost use Rattle.gf_order.specs.Weights.{AreBounded};
 ghost use Rattle.gf_flip.specs.Along.{HasNonzero, IsAlong, AreAlong};
 
+use crate::SpareLists;
 use gf_poly::{Marked, Mono, Poly};
 use std::alloc::{AllocError, Global};
 
@@ -94,8 +95,14 @@ fn is_along(x: &Mono, head: &Mono, normal: &[i128], pivot: usize, is_marked: boo
     is_apart(x.exponents(), head.exponents(), normal, pivot)
 }
 
-/// The terms of a member along the normal, in a list with room for all its terms, so that the member can be copied there.
-fn part(alloc: Global, member: &Marked, normal: &[i128], pivot: usize) -> Result<Poly, AllocError>
+/// The terms of a member along the normal, in a list with room for all its terms, so that the member can be copied there: a spare one, if there is one.
+fn part(
+    alloc: Global,
+    member: &Marked,
+    normal: &[i128],
+    pivot: usize,
+    spare: &mut SpareLists,
+) -> Result<Poly, AllocError>
     requires variables { HasVariables (length normal.now) member.now.poly }
     requires bounded { AreBounded normal.now }
     requires inside { pivot < length normal.now }
@@ -104,7 +111,7 @@ fn part(alloc: Global, member: &Marked, normal: &[i128], pivot: usize) -> Result
 {
     let terms = member.poly().terms();
     let head = member.head();
-    let mut kept = Vec::with_capacity(alloc, terms.len())?;
+    let mut kept = spare.room(alloc, terms.len())?;
     'terms: for i in 0..terms.len() {
         let t = &terms[i];
         if is_along(&t.mono, head, normal, pivot, i == member.index()) {
@@ -114,8 +121,13 @@ fn part(alloc: Global, member: &Marked, normal: &[i128], pivot: usize) -> Result
     Ok(Poly::from_descending(kept))
 }
 
-/// The polynomials of the members' parts along the normal.
-pub fn parts(alloc: Global, items: &[Marked], normal: &[i128]) -> Result<Vec<Poly>, AllocError>
+/// The polynomials of the members' parts along the normal, in spare lists, as far as there are some.
+pub fn parts(
+    alloc: Global,
+    items: &[Marked],
+    normal: &[i128],
+    spare: &mut SpareLists,
+) -> Result<Vec<Poly>, AllocError>
     requires variables { HaveVariables (length normal.now) items.now }
     requires bounded { AreBounded normal.now }
     requires nonzero { HasNonzero normal.now }
@@ -125,7 +137,7 @@ pub fn parts(alloc: Global, items: &[Marked], normal: &[i128]) -> Result<Vec<Pol
     let mut all = Vec::with_capacity(alloc, items.len())?;
     'members: for i in 0..items.len() {
         let member = &items[i];
-        let poly = part(alloc, member, normal, pivot)?;
+        let poly = part(alloc, member, normal, pivot, spare)?;
         all.push(poly)?;
     }
     Ok(all)

@@ -9,6 +9,7 @@ ghost use Rattle.gf_flip.specs.Along.{AreAlong, IsBasisOfParts};
 ghost use Rattle.gf_flip.specs.Operations.{IsFlipRefusal, IsFlipWithinLimits};
 ghost use Rattle.gf_flip.specs.Tops.{AreAloneWhere};
 
+use crate::SpareLists;
 use crate::along::{are_single, parts};
 use crate::lifts::lifts;
 use crate::limits::see_members;
@@ -57,7 +58,12 @@ fn basis_of_parts(
         let _ = below.items();
         return Ok(below);
     }
-    let again = match parts(alloc, set.items(), normal.as_slice()) {
+    let again = match parts(
+        alloc,
+        set.items(),
+        normal.as_slice(),
+        &mut SpareLists::new(alloc),
+    ) {
         Ok(again) => again,
         Err(_) => return Err(BasisError::Memory),
     };
@@ -127,7 +133,12 @@ fn literal(
     ensures variables { IfOk result (λ t. t.variables ≡ set.now.variables) }
     ensures cause { IfErr result (IsFlipRefusal set.now.variables set.now.items normal.now pairs) }
 {
-    let list = match parts(alloc, set.items(), normal.as_slice()) {
+    let list = match parts(
+        alloc,
+        set.items(),
+        normal.as_slice(),
+        &mut SpareLists::new(alloc),
+    ) {
         Ok(list) => list,
         Err(_) => return Err(BasisError::Memory),
     };
@@ -167,7 +178,7 @@ fn early(
 }
 
 /// What `flip` answers, in fewer steps where `inside` is a vector inside the facet: positive, zero on the normal, and positive on the other
-/// normals. Each other list is safe, too, and takes as many steps as `flip`.
+/// normals. Each other list is safe, too, and takes as many steps as `flip`. The members are in spare lists, as far as there are some.
 ///
 /// # Errors
 ///
@@ -178,6 +189,7 @@ pub fn flip_near(
     normal: &IntVec,
     inside: &[i128],
     pairs: u64,
+    spare: &mut SpareLists,
 ) -> Result<MarkedSet, FlipError>
     requires { IsCrossing set.now.variables set.now.items normal.now }
     ensures value { IfOk result (λ t. IsNeighbour set.now.variables set.now.items normal.now t.items) }
@@ -187,7 +199,7 @@ pub fn flip_near(
 {
     let items = set.items();
     see_members(items);
-    let list = match parts(alloc, items, normal.as_slice()) {
+    let list = match parts(alloc, items, normal.as_slice(), spare) {
         Ok(list) => list,
         Err(_) => return Err(BasisError::Memory),
     };
@@ -229,5 +241,5 @@ pub fn flip(
     ensures cause { IfErr result (IsFlipRefusal set.now.variables set.now.items normal.now pairs) }
     ensures complete { IsFlipWithinLimits set.now.variables set.now.items normal.now pairs → IfErr result IsWantOfMemory }
 {
-    flip_near(alloc, set, normal, &[], pairs)
+    flip_near(alloc, set, normal, &[], pairs, &mut SpareLists::new(alloc))
 }

@@ -9,6 +9,7 @@ mod lifts;
 mod limits;
 mod reduction;
 mod room;
+mod spare;
 mod tails;
 mod tops;
 mod turns;
@@ -16,3 +17,4 @@ mod weights;
 mod wide;
 
 pub use flips::{FlipError, flip, flip_near};
+pub use spare::SpareLists;

@@ -6,7 +6,7 @@ ghost use Rattle.gf_number_trees.specs.Finite.{down_to_one, numbers_fall, number
 ghost use Rattle.gf_number_trees.specs.declared.numbers.NumberError.TheVariants.{Memory, Chosen};
 ghost use Rattle.std.proofs.Common.{refl, rules};
 
-use gf_walk::{FiniteTree, Tree};
+use gf_walk::{FiniteTree, ReusingTree, Tree};
 use std::alloc::{AllocError, Global};
 
 /// What a call of the tree is refused by.
@@ -136,6 +136,33 @@ impl Tree for Numbers {
             chosen: self.chosen,
             alloc: self.alloc,
         })
+    }
+}
+
+impl ReusingTree for Numbers {
+    type Store = ();
+
+    fn store(_alloc: Global) {}
+
+    fn leave(&self, _node: u64, _store: &mut ()) {}
+
+    fn bare(&self, node: u64, _store: &mut ()) -> u64 {
+        node
+    }
+
+    fn leave_label(&self, _label: u64, _store: &mut ()) {}
+
+    fn labels_by(&self, node: &u64, _store: &mut ()) -> Result<Vec<u64>, NumberError> {
+        self.labels(node)
+    }
+
+    fn child_by(
+        &self,
+        node: &u64,
+        label: &u64,
+        _store: &mut (),
+    ) -> Result<Option<u64>, NumberError> {
+        self.child(node, label)
     }
 }
 

@@ -132,7 +132,7 @@ module _ {T N L E : Type 0} (lt : L → L → Type 0) (up : T → N → L → N 
 
   fine_expansion : (nodes : List N) (w : Place T N L) (ps : List (Piece T N L E)) → IsExpansion lt up refuses w ps → In w.tree w.here → ((x : N) → Among nodes x → early w.here x) → AreFine nodes ps
   fine_expansion nodes w ps (inl (inl g)) i h = fine_down nodes 1 w ps g i h
-  fine_expansion nodes w ps (inl (inr q)) i h = subst (AreFine nodes) (sym q.2) (fine_down nodes 1 _ q.1 q.3 i h)
+  fine_expansion nodes w ps (inl (inr q)) i h = subst (AreFine nodes) (sym q.1.1) (fine_down nodes 1 _ q.1.0 q.1.2 i h)
   fine_expansion nodes w ps (inr q) i h = subst (AreFine nodes) (sym q.1) (inr h, tt)
 
   leaves_expanded : (w : Place T N L) (ps : List (Piece T N L E)) → IsExpansion lt up refuses w ps → (nodes : List N) → IsLeftAt lt up w nodes → PiecesLeave (IsLeftAt lt up) ps nodes

@@ -3,7 +3,7 @@ ghost use Rattle.std.specs.Prelude.{◌≡◌, length, IfOk};
 ghost use Rattle.gf_cone.specs.Cones.{IsConeOf};
 
 use crate::BasisTree;
-use gf_cone::{Cone, KnownCone, Region};
+use gf_cone::{Cone, KnownCone, Region, SpareVectors};
 use gf_poly::MarkedSet;
 use gf_vec::IntVec;
 use std::alloc::{AllocError, Global};
@@ -73,17 +73,18 @@ pub(crate) fn cone_of(
 }
 
 /// The cone of a basis, with a vector of its inside. That is looked for near a vector inside the facet that the cone shares with a
-/// neighbour, whose normal there is `normal`.
+/// neighbour, whose normal there is `normal`. The memory of spare vectors is used.
 pub(crate) fn cone_near(
     tree: &BasisTree,
     set: &MarkedSet,
     witness: &IntVec,
     normal: &IntVec,
+    spare: &mut SpareVectors,
 ) -> Result<KnownCone, AllocError>
     requires { length tree.now.region.root ≡ set.now.variables }
     ensures { IfOk result (IsConeOf set.now.variables tree.now.region set.now.items) }
 {
-    let cone = Cone::within(tree.alloc, set, &tree.region)?;
+    let cone = Cone::within_over(tree.alloc, set, &tree.region, spare)?;
     KnownCone::near(tree.alloc, cone, witness, normal)
 }
 

@@ -10,9 +10,9 @@ ghost use Rattle.gf_tree.specs.Parents.{IsBelowTold, IsLedBack};
 ghost use Rattle.gf_tree.specs.Refusals.{IsTreeRefusal, IsRefusedAtBasis};
 
 use crate::node::{Facet, Neighbour, cone_near, cone_of};
-use crate::{BasisTree, Node, TreeError};
-use gf_cone::KnownCone;
-use gf_flip::flip_near;
+use crate::{BasisTree, Node, Store, TreeError};
+use gf_cone::{KnownCone, SpareVectors};
+use gf_flip::{SpareLists, flip_near};
 use gf_poly::MarkedSet;
 use gf_vec::IntVec;
 use std::alloc::AllocError;
@@ -58,6 +58,7 @@ pub(crate) fn crossed(
     set: &MarkedSet,
     normal: &IntVec,
     inside: &IntVec,
+    spare: &mut SpareLists,
 ) -> Result<MarkedSet, TreeError>
     requires node { IsNode tree.now.region set.now }
     requires flippable { IsFlippable set.now.variables tree.now.region set.now.items normal.now }
@@ -65,7 +66,14 @@ pub(crate) fn crossed(
     ensures cause { IfErr result (IsTreeRefusal (fan_of tree.now.region set.now) tree.now.pairs) }
     ensures at { IfErr result (IsRefusedAtBasis tree.now.region tree.now.pairs set.now) }
 {
-    let across = flip_near(tree.alloc, set, normal, inside.as_slice(), tree.pairs)?;
+    let across = flip_near(
+        tree.alloc,
+        set,
+        normal,
+        inside.as_slice(),
+        tree.pairs,
+        spare,
+    )?;
     Ok(across)
 }
 
@@ -76,8 +84,21 @@ pub(crate) fn arrived(tree: &BasisTree, node: &Node, facet: &Facet) -> Result<No
     ensures ok { IfOk result (λ w. IsAcross tree.now.region node.now facet.now (Some w)) }
     ensures cause { IfErr result (IsRefusedAtBasis tree.now.region tree.now.pairs node.now) }
 {
-    let basis = crossed(tree, &node.basis, &facet.normal, &facet.witness)?;
-    let cone = cone_near(tree, &basis, &facet.witness, &facet.normal)?;
+    let mut none = Store::new(tree.alloc);
+    let basis = crossed(
+        tree,
+        &node.basis,
+        &facet.normal,
+        &facet.witness,
+        &mut none.lists,
+    )?;
+    let cone = cone_near(
+        tree,
+        &basis,
+        &facet.witness,
+        &facet.normal,
+        &mut none.vectors,
+    )?;
     Ok(Node {
         basis,
         cone: Some(cone),
@@ -90,6 +111,7 @@ fn below_in(
     set: &MarkedSet,
     cone: &KnownCone,
     normal: &IntVec,
+    spare: &mut SpareLists,
 ) -> Result<Option<Neighbour>, TreeError>
     requires node { IsNode tree.now.region set.now }
     requires cone { IsConeOf set.now.variables tree.now.region set.now.items cone.now }
@@ -108,7 +130,7 @@ fn below_in(
     let crossing = cone.crossing(place)?;
     match crossing {
         Some(witness) => {
-            let basis = crossed(tree, set, normal, &witness)?;
+            let basis = crossed(tree, set, normal, &witness, spare)?;
             Ok(Some(Neighbour { basis, witness }))
         }
         None => Ok(None),
@@ -120,16 +142,17 @@ pub(crate) fn below(
     tree: &BasisTree,
     node: &Node,
     normal: &IntVec,
+    spare: &mut SpareLists,
 ) -> Result<Option<Neighbour>, TreeError>
     requires { IsNode tree.now.region node.now }
     ensures ok { IfOk result (IsBelowTold tree.now.region node.now normal.now) }
     ensures cause { IfErr result (IsRefusedAtBasis tree.now.region tree.now.pairs node.now) }
 {
     match cone_in(tree, node) {
-        Some(cone) => below_in(tree, &node.basis, cone, normal),
+        Some(cone) => below_in(tree, &node.basis, cone, normal, spare),
         None => {
             let cone = cone_of(tree.alloc, &node.basis, &tree.region)?;
-            below_in(tree, &node.basis, &cone, normal)
+            below_in(tree, &node.basis, &cone, normal, spare)
         }
     }
 }
@@ -173,19 +196,20 @@ pub(crate) fn way_up(tree: &BasisTree, node: &Node) -> Result<Option<Facet>, Tre
 }
 
 /// A neighbour with its cone, where the facet that was crossed is its way up; `normal` is its normal on the other side, and `back`
-/// on this one. The cone knows a vector inside that facet, and keeps what is found out.
+/// on this one. The cone knows a vector inside that facet, and keeps what is found out. The memory of another neighbour is left.
 pub(crate) fn led_back(
     tree: &BasisTree,
     neighbour: Neighbour,
     normal: &IntVec,
     back: &IntVec,
+    store: &mut Store,
 ) -> Result<Option<Node>, TreeError>
     requires { IsNode tree.now.region neighbour }
     ensures ok { IfOk result (IsLedBack tree.now.region neighbour back.now) }
     ensures cause { IfErr result (IsRefusedAtBasis tree.now.region tree.now.pairs neighbour) }
 {
     let Neighbour { basis, witness } = neighbour;
-    let mut cone = cone_near(tree, &basis, &witness, normal)?;
+    let mut cone = cone_near(tree, &basis, &witness, normal, &mut store.vectors)?;
     let place = match place_of(cone.normals(), back) {
         Some(place) => place,
         None => return Ok(None),
@@ -195,7 +219,10 @@ pub(crate) fn led_back(
             basis,
             cone: Some(cone),
         })),
-        false => Ok(None),
+        false => {
+            store.leave(basis, Some(cone));
+            Ok(None)
+        }
     }
 }
 
@@ -204,6 +231,7 @@ fn downward_in(
     tree: &BasisTree,
     set: &MarkedSet,
     cone: &KnownCone,
+    spare: &mut SpareVectors,
 ) -> Result<Vec<IntVec>, AllocError>
     requires node { IsNode tree.now.region set.now }
     requires cone { IsConeOf set.now.variables tree.now.region set.now.items cone.now }
@@ -217,22 +245,26 @@ fn downward_in(
             Ordering::Less => continue,
             _ => {}
         }
-        let normal = item.copy()?;
+        let normal = spare.copy(tree.alloc, item)?;
         out.push(normal)?;
     }
     Ok(out)
 }
 
-/// The normals of a basis that aren't negative at the root, each once, ascending. A basis below lies across one of them.
-pub(crate) fn downward(tree: &BasisTree, node: &Node) -> Result<Vec<IntVec>, AllocError>
+/// The normals of a basis that aren't negative at the root, each once, ascending. A basis below lies across one of them. The memory of spare vectors is used.
+pub(crate) fn downward(
+    tree: &BasisTree,
+    node: &Node,
+    spare: &mut SpareVectors,
+) -> Result<Vec<IntVec>, AllocError>
     requires { IsNode tree.now.region node.now }
     ensures { IfOk result (λ ns. AreDownward tree.now.region.root node.now.items ns.items) }
 {
     match cone_in(tree, node) {
-        Some(cone) => downward_in(tree, &node.basis, cone),
+        Some(cone) => downward_in(tree, &node.basis, cone, spare),
         None => {
             let cone = cone_of(tree.alloc, &node.basis, &tree.region)?;
-            downward_in(tree, &node.basis, &cone)
+            downward_in(tree, &node.basis, &cone, spare)
         }
     }
 }

@@ -7,10 +7,10 @@ ghost use Rattle.gf_tree.specs.Refusals.{IsCallRefusal};
 ghost use Rattle.gf_tree.specs.declared.error.TreeError.TheVariants.{Memory};
 
 use crate::steps::{arrived, below, downward, led_back, way_up};
-use crate::{Node, TreeError};
+use crate::{Node, Store, TreeError};
 use gf_cone::Region;
 use gf_vec::IntVec;
-use gf_walk::{FiniteTree, Tree};
+use gf_walk::{FiniteTree, ReusingTree, Tree};
 use std::alloc::Global;
 use std::cmp::Ordering;
 
@@ -53,8 +53,7 @@ impl Tree for BasisTree {
     ghost nodes = { λ t. upward_nodes t.region };
 
     fn labels(&self, node: &Node) -> Result<Vec<IntVec>, TreeError> {
-        let labels = downward(self, node)?;
-        Ok(labels)
+        self.labels_by(node, &mut BasisTree::store(self.alloc))
     }
 
     fn precedes(&self, a: &IntVec, b: &IntVec) -> bool {
@@ -62,14 +61,7 @@ impl Tree for BasisTree {
     }
 
     fn child(&self, node: &Node, label: &IntVec) -> Result<Option<Node>, TreeError> {
-        let neighbour = match below(self, node, label)? {
-            Some(neighbour) => neighbour,
-            None => return Ok(None),
-        };
-        let mut back = label.copy()?;
-        back.negate();
-        let child = led_back(self, neighbour, label, &back)?;
-        Ok(child)
+        self.child_by(node, label, &mut BasisTree::store(self.alloc))
     }
 
     fn parent(&self, node: &Node) -> Result<Option<(IntVec, Node)>, TreeError> {
@@ -94,6 +86,50 @@ impl Tree for BasisTree {
             region: self.region.copy()?,
             pairs: self.pairs,
         })
+    }
+}
+
+impl ReusingTree for BasisTree {
+    type Store = Store;
+
+    fn store(alloc: Global) -> Store {
+        Store::new(alloc)
+    }
+
+    fn leave(&self, node: Node, store: &mut Store) {
+        store.leave(node.basis, node.cone);
+    }
+
+    fn bare(&self, node: Node, store: &mut Store) -> Node {
+        let Node { basis, cone } = node;
+        store.leave_cone(cone);
+        Node { basis, cone: None }
+    }
+
+    fn leave_label(&self, label: IntVec, store: &mut Store) {
+        store.vectors.keep(label);
+    }
+
+    fn labels_by(&self, node: &Node, store: &mut Store) -> Result<Vec<IntVec>, TreeError> {
+        let labels = downward(self, node, &mut store.vectors)?;
+        Ok(labels)
+    }
+
+    fn child_by(
+        &self,
+        node: &Node,
+        label: &IntVec,
+        store: &mut Store,
+    ) -> Result<Option<Node>, TreeError> {
+        let neighbour = match below(self, node, label, &mut store.lists)? {
+            Some(neighbour) => neighbour,
+            None => return Ok(None),
+        };
+        let mut back = store.vectors.copy(self.alloc, label)?;
+        back.negate();
+        let child = led_back(self, neighbour, label, &back, store)?;
+        store.vectors.keep(back);
+        Ok(child)
     }
 }
 

@@ -10,6 +10,7 @@ use crate::node::cone_of;
 use crate::steps::{arrived, crossed, way_in, way_up};
 use crate::{BasisTree, Node, Parent, TreeError};
 use gf_cone::Region;
+use gf_flip::SpareLists;
 use gf_poly::MarkedSet;
 use std::alloc::Global;
 
@@ -24,7 +25,13 @@ fn above(tree: &BasisTree, set: &MarkedSet) -> Result<Parent, TreeError>
         Some(facet) => facet,
         None => return Ok(Parent::Root),
     };
-    let basis = crossed(tree, set, &facet.normal, &facet.witness)?;
+    let basis = crossed(
+        tree,
+        set,
+        &facet.normal,
+        &facet.witness,
+        &mut SpareLists::new(tree.alloc),
+    )?;
     Ok(Parent::Up {
         normal: facet.normal,
         basis,

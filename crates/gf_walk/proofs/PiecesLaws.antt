@@ -196,7 +196,7 @@ module _ {T N L E : Type 0} (lt : L → L → Type 0) (up : T → N → L → N 
   expansion_leaves refuses most w ps (inl g) nodes l = down_leaves refuses most w ps g nodes l
   expansion_leaves refuses most w ps (inr h) nodes l =
       let g = gives lt (up w.tree) strict (trees w.tree) Before w.here w.depth Listed w.here w.depth (Some w.here) (λ top r at. listed_here lt (up w.tree) top r w.here w.here w.depth refl at) nodes (subst (λ m. Leaves lt (up w.tree) m w.here w.depth nodes) h.0 l) in
-      subst (λ k. PiecesLeave (IsLeftAt lt up) k nodes) (sym h.2) (g.0, g.1, down_leaves refuses most (record { tree = w.tree; here = w.here; mark = Listed; depth = w.depth }) h.1 h.3 g.0 g.2)
+      subst (λ k. PiecesLeave (IsLeftAt lt up) k nodes) (sym h.1.1) (g.0, g.1, down_leaves refuses most (record { tree = w.tree; here = w.here; mark = Listed; depth = w.depth }) h.1.0 h.1.2 g.0 g.2)
 
 -- a walker a step up stands in its tree
 pub placed_above : {T N L : Type 0} (is_node : T → N → Type 0) (up : T → N → L → N → Type 0) (w x : Place T N L) → IsTree (up w.tree) → ((v : N) (c : L) (u : N) → up w.tree v c u → is_node w.tree v × is_node w.tree u) →

@@ -37,7 +37,7 @@ module _ {T N L E : Type 0} (lt : L → L → Type 0) (up : T → N → L → N 
 
   one_refusals : (w : Place T N L) (ps : List (Piece T N L E)) → IsExpansion lt up refuses w ps → AreRefusals refuses ps
   one_refusals w ps (inl (inl g)) = down_refusals 1 w ps g
-  one_refusals w ps (inl (inr h)) = subst (AreRefusals refuses) (sym h.2) (down_refusals 1 _ h.1 h.3)
+  one_refusals w ps (inl (inr h)) = subst (AreRefusals refuses) (sym h.1.1) (down_refusals 1 _ h.1.0 h.1.2)
   one_refusals w ps (inr h) = subst (AreRefusals refuses) (sym h.1) (h.2, tt)
 
   -- ---- a job

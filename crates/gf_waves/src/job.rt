@@ -8,7 +8,7 @@ ghost use Rattle.gf_waves.specs.Wave.{ExpandsOn};
 
 use crate::Gate;
 use crate::rows::{push, push_before, put_before, put_behind};
-use gf_walk::{Piece, Tree, Walker};
+use gf_walk::{Piece, ReusingTree, Tree, Walker};
 use std::alloc::Global;
 use std::collections::VecDeque;
 
@@ -28,13 +28,18 @@ pub struct Job<T: Tree> {
 }
 
 /// Expands a walker before a row: into its node, its next child's subtree and what follows. A refusal stays with the walker.
-fn expand_before<T: Tree>(alloc: Global, row: &mut VecDeque<Piece<T>>, walker: Walker<T>)
+fn expand_before<T: ReusingTree>(
+    alloc: Global,
+    row: &mut VecDeque<Piece<T>>,
+    walker: Walker<T>,
+    store: &mut T::Store,
+)
     requires { length row.old.items + 3 ≤ deque_capacity row.old }
     ensures expanded { IsExpanded T.before T.up (RefusesAt T.up T.refuses) walker row.old.items row.new.items }
     ensures few { length row.new.items ≤ length row.old.items + 3 }
     ensures room { deque_capacity row.old ≤ deque_capacity row.new }
 {
-    match walker.expand(alloc, 1) {
+    match walker.expand(alloc, 1, store) {
         Ok(pieces) => put_before(row, pieces),
         Err((walker, refusal)) => push_before(row, Piece::Refused(walker, refusal)),
     }
@@ -42,12 +47,13 @@ fn expand_before<T: Tree>(alloc: Global, row: &mut VecDeque<Piece<T>>, walker: W
 
 /// Works on the piece in front of a row, where so many expansions are left and there is room for two pieces more: a node goes behind
 /// those that are done, and a walker is expanded. How many expansions are left: none where the walker in front stands refused.
-fn step<T: Tree>(
+fn step<T: ReusingTree>(
     alloc: Global,
     done: &mut VecDeque<Piece<T>>,
     row: &mut VecDeque<Piece<T>>,
     left: usize,
     limit: usize,
+    store: &mut T::Store,
 ) -> usize
     requires some { 0 < left }
     requires piece { 0 < length row.old.items }
@@ -67,7 +73,7 @@ fn step<T: Tree>(
             left
         }
         Some(Piece::Under(walker)) => {
-            expand_before(alloc, row, walker);
+            expand_before(alloc, row, walker, store);
             left - 1
         }
         Some(Piece::Refused(walker, refusal)) => {
@@ -80,11 +86,12 @@ fn step<T: Tree>(
 
 /// What the row of a place becomes by so many expansions of the first walker that there is, or by fewer, where there is no room for
 /// two pieces more, of so many; and how many expansions and how much room are left.
-fn expand_on<T: Tree>(
+fn expand_on<T: ReusingTree>(
     alloc: Global,
     slot: Slot<T>,
     times: usize,
     room: usize,
+    store: &mut T::Store,
 ) -> (VecDeque<Piece<T>>, usize, usize)
     requires fit { IsFit slot }
     requires few_more { room ≤ 16 }
@@ -95,7 +102,7 @@ fn expand_on<T: Tree>(
     let limit = row.len() + room;
     let mut left = times;
     while left > 0 && !row.is_empty() && done.len() + row.len() + 1 < limit {
-        left = step(alloc, &mut done, &mut row, left, limit);
+        left = step(alloc, &mut done, &mut row, left, limit, store);
     }
     put_behind(&mut done, row);
     let rest = limit - done.len();
@@ -114,8 +121,8 @@ fn keep<T: Tree>(worked: &mut Vec<VecDeque<Piece<T>>>, row: VecDeque<Piece<T>>)
 }
 
 /// A job worked on, place after place, with so many expansions and room for so many pieces in all: each place with what the ones
-/// before have left, room for sixteen pieces at most.
-pub fn work<T: Tree, G: Gate>(
+/// before have left, room for sixteen pieces at most. The memory that an expansion leaves serves the next ones of the job.
+pub fn work<T: ReusingTree, G: Gate>(
     alloc: Global,
     gate: &G,
     job: Job<T>,
@@ -132,10 +139,11 @@ pub fn work<T: Tree, G: Gate>(
         mut worked,
         number,
     } = job;
+    let mut store = T::store(alloc);
     let mut left = times;
     let mut free = room;
     while !slots.is_empty() {
-        let (row, fewer, less) = expand_on(alloc, slots.remove(0), left, free);
+        let (row, fewer, less) = expand_on(alloc, slots.remove(0), left, free, &mut store);
         keep(&mut worked, row);
         left = fewer;
         free = less.min(16);

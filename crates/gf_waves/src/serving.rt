@@ -10,7 +10,7 @@ ghost use Rattle.gf_waves.specs.Wave.{IsAfter, IsGiven, IsReadied, is_served};
 use crate::Gate;
 use crate::rows::push_before;
 use crate::wave::wave;
-use gf_walk::{Piece, Tree};
+use gf_walk::{Piece, ReusingTree, Tree};
 use std::alloc::AllocError;
 use std::collections::VecDeque;
 use std::thread::Threads;
@@ -83,7 +83,7 @@ pub fn no_memory<T: Tree>(refused: AllocError) -> T::Error
 /// # Errors
 ///
 /// Want of memory for a wave. The row is as it was.
-pub fn work_off<R: Threads + Sync, T: Tree + Send, G: Gate>(
+pub fn work_off<R: Threads + Sync, T: ReusingTree + Send, G: Gate>(
     rt: &R,
     gate: &G,
     row: &mut VecDeque<Piece<T>>,
@@ -94,6 +94,7 @@ where
     T::Node: Send,
     T::Label: Send,
     T::Error: Send,
+    T::Store: Send,
     requires { IsHeld (RefusesAt T.up T.refuses) workers row.old.items }
     ensures worked { OnOk result (IsReadied T.before T.up (RefusesAt T.up T.refuses) workers jobs.old row.old.items jobs.new row.new.items) }
     ensures held { IsHeld (RefusesAt T.up T.refuses) workers row.new.items }

@@ -8,14 +8,14 @@ ghost use Rattle.gf_waves.specs.Plans.{AreFitAt, AreWorkedAt, IsJobFit, IsWorked
 use crate::Gate;
 use crate::job::{Job, work};
 use crate::planning::{deal, merge, plan, spare_jobs, spare_slots};
-use gf_walk::{Piece, Tree};
+use gf_walk::{Piece, ReusingTree};
 use std::alloc::{AllocError, Global};
 use std::collections::VecDeque;
 use std::mem;
 use std::thread::{self, Threads};
 
 /// Each job is worked on, by so many workers.
-fn work_all<R: Threads + Sync, T: Tree + Send, G: Gate>(
+fn work_all<R: Threads + Sync, T: ReusingTree + Send, G: Gate>(
     rt: &R,
     alloc: Global,
     gate: &G,
@@ -28,6 +28,7 @@ where
     T::Node: Send,
     T::Label: Send,
     T::Error: Send,
+    T::Store: Send,
     requires some { 1 ≤ workers }
     requires room { room ≤ 16 }
     requires fit { AreFitAt jobs.old }
@@ -49,7 +50,7 @@ where
 }
 
 /// The same over a vector.
-fn work_jobs<R: Threads + Sync, T: Tree + Send, G: Gate>(
+fn work_jobs<R: Threads + Sync, T: ReusingTree + Send, G: Gate>(
     rt: &R,
     alloc: Global,
     gate: &G,
@@ -62,6 +63,7 @@ where
     T::Node: Send,
     T::Label: Send,
     T::Error: Send,
+    T::Store: Send,
     requires some { 1 ≤ workers }
     requires room { room ≤ 16 }
     requires fit { AreFitAt jobs.old.items }
@@ -76,7 +78,7 @@ where
 /// # Errors
 ///
 /// Want of memory, before anything is done.
-pub fn wave<R: Threads + Sync, T: Tree + Send, G: Gate>(
+pub fn wave<R: Threads + Sync, T: ReusingTree + Send, G: Gate>(
     rt: &R,
     gate: &G,
     row: &mut VecDeque<Piece<T>>,
@@ -90,6 +92,7 @@ where
     T::Node: Send,
     T::Label: Send,
     T::Error: Send,
+    T::Store: Send,
     requires some { 1 ≤ workers }
     requires few_workers { workers ≤ 64 }
     requires due { 0 < due }

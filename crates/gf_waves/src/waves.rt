@@ -12,7 +12,7 @@ ghost use Rattle.gf_waves.specs.Wave.{IsAfter, IsCall};
 use crate::Gate;
 use crate::rows::push;
 use crate::serving::{give, no_memory, work_off};
-use gf_walk::{Piece, Tree, Walker};
+use gf_walk::{Piece, ReusingTree, Tree, Walker};
 use std::alloc::Global;
 use std::collections::VecDeque;
 use std::marker::Model;
@@ -132,11 +132,12 @@ impl<'g, T: Tree, G: Gate> Waves<'g, T, G> {
     }
 }
 
-impl<'g, T: Tree + Send, G: Gate> Waves<'g, T, G>
+impl<'g, T: ReusingTree + Send, G: Gate> Waves<'g, T, G>
 where
     T::Node: Send,
     T::Label: Send,
     T::Error: Send,
+    T::Store: Send,
 {
     /// The next node of the list, whichever job came back first; none where nothing is left, and from then on.
     ///

@@ -43,8 +43,8 @@ returns-in-true-clause-ok c =
     let at = place_read v.variables k v.items cone is c.normals.result.now c.args.back.now c.in-Some.place c.normals.ensures.value (subst (IsVectorPlace c.normals.result.now c.args.back.now) c.in-Some.is c.place_of.ensures) in
     (c.neighbour.view_is, (told_way v.variables k v.items cone is c.args.back.now c.in-Some.place c.in_ok-is_way_up.field-0 at c.in_ok-is_way_up.ensures.ok).0 c.in-true.is)
 
-pub returns-in-false-clause-ok : goal.returns-in-false-clause-ok
-returns-in-false-clause-ok c =
+pub returns-clause-ok : goal.returns-clause-ok
+returns-clause-ok c =
     let k = c.args.tree.now.region in
     let v = c.args.neighbour in
     let cone = c.in_ok-cone.cone in

@@ -13,9 +13,10 @@ for_each_mut-requires-clause-accepts g c κs within =
       (c.requires.room, subst IsJobFit (sym at) (c.requires.fit i p.now inside)),
       (
         record { owned = b.send-T.owned; leaving = λ k. Quiet-if (k (of_param 0)) unseen unseen (λ x w. tt) (λ x w. tt) },
-        record { owned = b.send-T-Node.owned; leaving = λ k. Quiet-if (k (of_param 2)) unseen unseen (λ x w. tt) (λ x w. tt) },
-        record { owned = b.send-T-Label.owned; leaving = λ k. Quiet-if (k (of_param 3)) unseen unseen (λ x w. tt) (λ x w. tt) },
-        record { owned = b.send-T-Error.owned; leaving = λ k. Quiet-if (k (of_param 4)) unseen unseen (λ x w. tt) (λ x w. tt) },
+        record { owned = b.send-T-Store.owned; leaving = λ k. Quiet-if (k (of_param 2)) unseen unseen (λ x w. tt) (λ x w. tt) },
+        record { owned = b.send-T-Node.owned; leaving = λ k. Quiet-if (k (of_param 3)) unseen unseen (λ x w. tt) (λ x w. tt) },
+        record { owned = b.send-T-Label.owned; leaving = λ k. Quiet-if (k (of_param 4)) unseen unseen (λ x w. tt) (λ x w. tt) },
+        record { owned = b.send-T-Error.owned; leaving = λ k. Quiet-if (k (of_param 5)) unseen unseen (λ x w. tt) (λ x w. tt) },
         record { shared = b.sync-G.shared },
       ),
     )

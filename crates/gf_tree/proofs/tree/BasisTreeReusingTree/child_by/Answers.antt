@@ -5,7 +5,7 @@ use Rattle.gf_reverse.specs.Answers.{IsAcross}
 use Rattle.gf_tree.specs.Parents.{IsBelowTold}
 use Rattle.gf_tree.specs.Refusals.{IsCallRefusal}
 use Rattle.gf_tree.proofs.LabelLaws.{child_led, across_node}
-use Rattle.gf_tree.proofs.tree.BasisTreeTree.child.Goals as goal
+use Rattle.gf_tree.proofs.tree.BasisTreeReusingTree.child_by.Goals as goal
 
 pub returns-in_err-neighbour-clause-err : goal.returns-in_err-neighbour-clause-err
 returns-in_err-neighbour-clause-err c =

@@ -1,0 +1,36 @@
+//! Memory that one step of the search leaves for the next ones.
+
+use gf_cone::{KnownCone, SpareVectors};
+use gf_flip::SpareLists;
+use gf_poly::MarkedSet;
+use std::alloc::Global;
+
+/// The memory of bases and cones that nobody needs any more. Nothing that is told rests on it.
+#[derive(Drop)]
+pub struct Store {
+    pub(crate) lists: SpareLists,
+    pub(crate) vectors: SpareVectors,
+}
+
+impl Store {
+    /// Nothing is left yet.
+    pub(crate) fn new(alloc: Global) -> Store {
+        Store {
+            lists: SpareLists::new(alloc),
+            vectors: SpareVectors::new(alloc),
+        }
+    }
+
+    /// Leaves a basis and its cone.
+    pub(crate) fn leave(&mut self, basis: MarkedSet, cone: Option<KnownCone>) {
+        self.lists.keep_all(basis);
+        self.leave_cone(cone);
+    }
+
+    /// Leaves a cone.
+    pub(crate) fn leave_cone(&mut self, cone: Option<KnownCone>) {
+        if let Some(cone) = cone {
+            cone.leave(&mut self.vectors);
+        }
+    }
+}
