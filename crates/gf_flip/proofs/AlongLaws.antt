@@ -1,10 +1,10 @@
 -- The terms along a vector, one term and one member after another.
--- To cite: selected-kept, selected-dropped, marked_along, marked_here, along_selected, along_more, width_at.
-use Rattle.std.proofs.Common.{◌≡◌, ◌⊎◌, true, eqb, ℕ, zero, suc, ◌+◌, ◌<◌, ◌≤◌, if◌then◌else◌, List, [], ◌∷◌, ◌++◌, length, take, get_or, ℤ, arith, refl, sym, ap, ◌∙◌, subst, inl, inr}
+-- To cite: selected-kept, selected-dropped, marked_along, marked_here, along_selected, along_more, width_at, at_place, IsMatchedTo, matched_more, matched_all.
+use Rattle.std.proofs.Common.{◌≡◌, ◌⊎◌, Bool, true, false, eqb, ℕ, zero, suc, ◌+◌, ◌<◌, ◌≤◌, if◌then◌else◌, List, [], ◌∷◌, ◌++◌, length, take, get_or, ℤ, arith, refl, sym, ap, ◌∙◌, subst, inl, inr}
 use Rattle.std.proofs.lemmas.Bool.{cases_eq, ne_eqb, false≢true}
 use Rattle.std.proofs.lemmas.List.{take_more, take_all}
 use Rattle.std.proofs.lemmas.List.Elements.{Contains-append_left, Contains-append_right, Contains-append_cases}
-use Rattle.gf_frac.specs.Fraction.{◌+ℚ◌, zero_ℚ}
+use Rattle.gf_frac.specs.Fraction.{Fraction, ◌+ℚ◌, zero_ℚ}
 use Rattle.gf_exponents.specs.Exponents.{Exponents, same}
 use Rattle.gf_exponents.proofs.ExponentsLaws.{same_of}
 use Rattle.gf_int.proofs.ListLaws.{Contains-here}
@@ -18,7 +18,7 @@ use Rattle.gf_division.proofs.TailLaws.{head_at}
 use Rattle.gf_initial.specs.Parts.{IsPartAlong}
 use Rattle.gf_initial.proofs.ClassLaws.{multiple-grading}
 use Rattle.gf_initial.proofs.MatchingLaws.{matched-push}
-use Rattle.gf_flip.specs.Along.{HasNonzero, IsSelected, IsAlong, AreAlong}
+use Rattle.gf_flip.specs.Along.{HasNonzero, IsSelected, IsAlong, AreAlong, IsPassed}
 use Rattle.gf_ideal.proofs.CriterionLaws.{not_same}
 use Rattle.gf_poly.proofs.InitialFormLaws.{elsewhere, take-next}
 
@@ -152,3 +152,37 @@ pub members_more : (a : List ℤ) (bs : List MarkedPolynomial) (i : ℕ) (b : Ma
 members_more a bs i b old new f l q k e h =
     subst (λ (z : List MarkedPolynomial). AreAlong a z new) (sym (take_more bs i b l ∙ ap (λ (z : MarkedPolynomial). take i bs ++ z ∷ []) (sym q)))
     (subst (λ (z : List Terms). AreAlong a (take i bs ++ b ∷ []) z) (sym e) (along_more a (take i bs) b old f h k))
+
+-- ---- a list that is compared with the terms along
+
+pub equal_terms : (s t : Term) → s.coef ≡ t.coef → s.mono ≡ t.mono → s ≡ t
+equal_terms s t e q = ap (λ (c : Fraction). record { coef = c; mono = s.mono }) e ∙ ap (λ (m : Exponents). record { coef = t.coef; mono = m }) q
+
+-- a listed term that is equal to t
+pub at_place : (f : Terms) (s t : Term) (i : ℕ) → s ≡ get_or f i s → s.coef ≡ t.coef → s.mono ≡ t.mono → t ≡ get_or f i t
+at_place f s t i is e q = subst (λ (z : Term). z ≡ get_or f i z) (equal_terms s t e q) is
+
+-- the terms along among the first i are the first ones of the list
+pub record IsMatchedTo (a : List ℤ) (h : Exponents) (f g : Terms) (i j : ℕ) : Type 0 where
+  pub within : j ≤ length g
+  pub selected : IsSelected (IsTermAlong a h) (take i f) (take j g)
+
+pub matched_more : (a : List ℤ) (h : Exponents) (f g : Terms) (t : Term) (along : Bool) (i j k : ℕ) → i < length f → t ≡ get_or f i t →
+    (along ≡ true → AreMultipleApart a t.mono h) → (along ≡ false → AreMultipleApart a t.mono h → ⊥) → IsPassed along g j t k → IsMatchedTo a h f g i j → IsMatchedTo a h f g (i + 1) k
+matched_more a h f g t true i j k l q on off p m = record {
+  within = (let w : j < length g = p.0 in let e : k ≡ j + 1 = p.2 in omega (arith, w, e));
+  selected = subst (λ (z : ℕ). IsSelected (IsTermAlong a h) (take (i + 1) f) (take z g)) (sym p.2)
+      (more_kept a h f (take j g) (take (j + 1) g) t i l q (on refl) (take-next g j t p.0 p.1) m.selected);
+}
+matched_more a h f g t false i j k l q on off p m = record {
+  within = (let w : j ≤ length g = m.within in let e : k ≡ j = p in omega (arith, w, e));
+  selected = subst (λ (z : ℕ). IsSelected (IsTermAlong a h) (take (i + 1) f) (take z g)) (sym p) (more_dropped a h f (take j g) t i l q (off refl) m.selected);
+}
+
+-- at the end of both
+pub matched_all : (a : List ℤ) (b : MarkedPolynomial) (h : Exponents) (f g : Terms) (i j : ℕ) → HasNonzero a → f ≡ b.poly → h ≡ b.head → IsDescending f → length f ≤ i → length g ≤ j →
+    IsMatchedTo a h f g i j → IsAlong a b g
+matched_all a b h f g i j n e eh d l k m =
+    along_selected a b f g n e d
+    (subst (λ (z : Exponents). IsSelected (IsTermAlong a z) f g) eh
+    (subst (λ (z : Terms). IsSelected (IsTermAlong a h) f z) (take_all j g k) (all_selected a h f (take j g) i l m.selected)))

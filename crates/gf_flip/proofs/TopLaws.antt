@@ -2,11 +2,11 @@
 -- To cite: reducible_there, SeekingLine, seeking_more, Topping, topping-none, topping_more, topping_less, top_step,
 -- shares_at, divides_at, off_more, off_end, top_remainder_at, top_there, top_lift_at, AreTopping, topping_push, AreToppingBefore, before-more.
 use Rattle.std.specs.declared.option.Option.{Option}
-use Rattle.std.proofs.Common.{◌≡◌, ℕ, ◌+◌, ◌<◌, ◌≤◌, ◌^◌, true, Some, None, IfSome, List, [], ◌∷◌, ◌++◌, length, take, get_or, Contains, ℤ, pos, ◌+ℤ◌, ◌*ℤ◌, arith, refl, sym, ap, ◌∙◌, subst, inl, inr}
+use Rattle.std.proofs.Common.{◌≡◌, ◌≢◌, ℕ, ◌+◌, ◌<◌, ◌≤◌, ◌^◌, true, Some, None, IfSome, List, [], ◌∷◌, ◌++◌, length, take, get_or, Contains, ℤ, pos, ◌+ℤ◌, ◌*ℤ◌, arith, refl, sym, ap, ◌∙◌, subst, inl, inr}
 use Rattle.std.proofs.lemmas.List.{take_more, take_all, append_assoc}
 use Rattle.gf_int.proofs.RingLaws.{dv, dn, ◌⊕◌, ◌⊗◌, same as same_number}
-use Rattle.gf_frac.specs.Fraction.{Fraction, ◌+ℚ◌, neg_ℚ, zero_ℚ, one_ℚ}
-use Rattle.gf_frac.proofs.FractionLaws.{zero_or_not, +ℚ-zero, +ℚ-neg_ℚ, +ℚ_assoc, +ℚ_comm}
+use Rattle.gf_frac.specs.Fraction.{Fraction, ◌+ℚ◌, ◌*ℚ◌, neg_ℚ, reciprocal_ℚ, zero_ℚ, one_ℚ}
+use Rattle.gf_frac.proofs.FractionLaws.{zero_or_not, +ℚ-zero, +ℚ-neg_ℚ, +ℚ_assoc, +ℚ_comm, *ℚ-one, zero-*ℚ, neg_ℚ-*ℚ}
 use Rattle.gf_exponents.specs.Exponents.{Exponents, same, plus, entry, Divides}
 use Rattle.gf_exponents.specs.Orders.{lighter}
 use Rattle.gf_exponents.proofs.ExponentsLaws.{same_of, same-refl}
@@ -16,6 +16,9 @@ use Rattle.gf_poly.specs.Monomial.{IsMonomial}
 use Rattle.gf_poly.specs.Polynomial.{Terms, coefficient, times, HasVariables, IsDescending, KeepsVariables, KeepsBothVariables}
 use Rattle.gf_poly.specs.Marking.{MarkedPolynomial, Each, HaveVariables, head_of, HasMarkedTerm}
 use Rattle.gf_poly.specs.Sums.{IsDifference}
+use Rattle.gf_poly.specs.Products.{HasProducts}
+use Rattle.gf_poly.proofs.ProductLaws.{IsScaled-products, KeepsVariables-scaled}
+use Rattle.gf_poly.proofs.MarkingLaws.{nonzero_reciprocal, head_of-times}
 use Rattle.gf_ideal.specs.Membership.{HasMonomial}
 use Rattle.gf_ideal.specs.Marks.{AreMarked}
 use Rattle.gf_ideal.specs.Measure.{work_left}
@@ -28,7 +31,7 @@ use Rattle.gf_ideal.proofs.MeasureLaws.{work_left-at}
 use Rattle.gf_ideal.proofs.Identities.{one_not_zero}
 use Rattle.gf_division.specs.Dividends.{Split, joined_terms, IsSound, IsTermInFront, PassesOne, SharesVariables, DividesFirst, TakesStep}
 use Rattle.gf_division.specs.NormalForms.{HasSomeWeight}
-use Rattle.gf_poly.proofs.PolynomialLaws.{coefficient-same}
+use Rattle.gf_poly.proofs.PolynomialLaws.{coefficient-same, coefficient-++, coefficient-times}
 use Rattle.gf_division.specs.Reducers.{IsDivisorAt, IsReducibleFirst}
 use Rattle.gf_division.proofs.DividendLaws.{terms_down, first_head, first_length}
 use Rattle.gf_division.proofs.ReducerLaws.{member_at, members_equal, member_contained, member_variables}
@@ -38,8 +41,8 @@ use Rattle.gf_initial.specs.Lifts.{IsTopLift, AreTopLifts}
 use Rattle.gf_bases.proofs.DifferenceLaws.{difference, less_zero, less_summand}
 use Rattle.gf_initial.proofs.ClassLaws.{multiple-grading}
 use Rattle.gf_initial.proofs.MatchingLaws.{matched-push}
-use Rattle.gf_flip.specs.Along.{HasNonzero}
-use Rattle.gf_flip.specs.Tops.{AreOff, IsTopRemainder, IsAlone}
+use Rattle.gf_flip.specs.Along.{HasNonzero, IsAlong}
+use Rattle.gf_flip.specs.Tops.{AreOff, IsTopRemainder, IsAlone, IsDividedAt}
 
 -- ---- the search
 
@@ -246,6 +249,61 @@ untouched_at bs a h b l one unit single c e alone q = subst (IsTopLift bs a h) (
 
     back : (p q : Fraction) → q ≡ p +ℚ neg_ℚ (p +ℚ neg_ℚ q)
     back p q = sym (less_summand q (p +ℚ neg_ℚ q) p (sym (+ℚ_comm q (p +ℚ neg_ℚ q) ∙ +ℚ_assoc p (neg_ℚ q) q ∙ ap (λ z. p +ℚ z) (+ℚ_comm (neg_ℚ q) q ∙ +ℚ-neg_ℚ q) ∙ +ℚ-zero p)))
+
+-- ---- members whose parts are only marked elsewhere
+
+-- a member divided by its coefficient at a place, and marked there
+pub divided_by : (b l : MarkedPolynomial) (f h : Terms) (k : Fraction) (i : ℕ) (x : Exponents) → f ≡ b.poly → k ≢ zero_ℚ → HasProducts (reciprocal_ℚ k) [] b.poly h → head_of f i ≡ x →
+    l ≡ record { poly = h; head = head_of h i } → IsDividedAt b x l
+divided_by b l f h k i x e n p q o = subst (IsDividedAt b x) (sym o) (record {
+  factor = reciprocal_ℚ k;
+  scaled = IsScaled-products (reciprocal_ℚ k) b.poly h p;
+  head = ap (λ (z : Terms). head_of z i) (p.nonzero (nonzero_reciprocal k n)) ∙ head_of-times (reciprocal_ℚ k) b.poly i ∙ ap (λ (z : Terms). head_of z i) (sym e) ∙ q;
+  variables = KeepsVariables-scaled (reciprocal_ℚ k) b.poly h p;
+})
+
+-- a member's part, divided by a number and marked elsewhere, less the step by that member is the member divided by the number
+pub divided_at : (bs : List MarkedPolynomial) (a : List ℤ) (h b l : MarkedPolynomial) → coefficient h.poly h.head ≡ one_ℚ → coefficient b.poly b.head ≡ one_ℚ →
+    Contains bs b → AreMultipleApart a b.head h.head → IsDividedAt b h.head l → IsAlong a l h.poly → IsTopLift bs a h l
+divided_at bs a h b l one unit c apart d p = record {
+  remainder = rest;
+  reached = Reached.next h.poly rest (Reached.here h.poly (λ x. refl)) (record {
+    at = b.head;
+    member = b;
+    rest = [];
+    contained = c;
+    there = λ z. nonzero (sym q ∙ z);
+    divides = same-refl b.head;
+    equal = λ x. refl;
+  });
+  off = λ x m s. m (value x ∙ ap (λ k. k +ℚ neg_ℚ (coefficient l.poly x)) (on x s) ∙ +ℚ-neg_ℚ (coefficient l.poly x));
+  head = d.head;
+  poly = λ x. back (coefficient h.poly x) (coefficient l.poly x) ∙ ap (λ k. coefficient h.poly x +ℚ neg_ℚ k) (sym (value x)) ∙ sym (difference h.poly rest x);
+}
+  where
+    rest : Terms
+    rest = h.poly ++ times (neg_ℚ (coefficient h.poly b.head)) [] b.poly
+
+    on : (x : Exponents) → AreMultipleApart a x h.head → coefficient h.poly x ≡ coefficient l.poly x
+    on x s = p.part.along x (subst (AreMultipleApart a x) (sym d.head) s)
+
+    q : coefficient h.poly b.head ≡ d.factor
+    q = on b.head apart ∙ d.scaled b.head ∙ ap (λ k. d.factor *ℚ k) unit ∙ *ℚ-one d.factor
+
+    nonzero : d.factor ≡ zero_ℚ → ⊥
+    nonzero z = one_not_zero (sym one ∙ on h.head (zero_apart a h.head) ∙ d.scaled h.head ∙ ap (λ k. k *ℚ coefficient b.poly h.head) z ∙ zero-*ℚ (coefficient b.poly h.head))
+
+    value : (x : Exponents) → coefficient rest x ≡ coefficient h.poly x +ℚ neg_ℚ (coefficient l.poly x)
+    value x = coefficient-++ h.poly (times (neg_ℚ (coefficient h.poly b.head)) [] b.poly) x
+        ∙ ap (λ k. coefficient h.poly x +ℚ k) (coefficient-times (neg_ℚ (coefficient h.poly b.head)) [] b.poly x ∙ neg_ℚ-*ℚ (coefficient h.poly b.head) (coefficient b.poly x) ∙ ap (λ k. neg_ℚ (k *ℚ coefficient b.poly x)) q ∙ ap neg_ℚ (sym (d.scaled x)))
+
+    back : (p q : Fraction) → q ≡ p +ℚ neg_ℚ (p +ℚ neg_ℚ q)
+    back p q = sym (less_summand q (p +ℚ neg_ℚ q) p (sym (+ℚ_comm q (p +ℚ neg_ℚ q) ∙ +ℚ_assoc p (neg_ℚ q) q ∙ ap (λ z. p +ℚ z) (+ℚ_comm (neg_ℚ q) q ∙ +ℚ-neg_ℚ q) ∙ +ℚ-zero p)))
+
+pub divided_lift_at : (bs : List MarkedPolynomial) (a : List ℤ) (h b l : MarkedPolynomial) (x y z : Exponents) (f : Terms) → coefficient h.poly h.head ≡ one_ℚ → coefficient b.poly b.head ≡ one_ℚ →
+    Contains bs b → AreMultipleApart a y z → y ≡ b.head → z ≡ h.head → IsDividedAt b x l → x ≡ h.head → IsAlong a l f → f ≡ h.poly → IsTopLift bs a h l
+divided_lift_at bs a h b l x y z f one unit c apart ey ez d ex p ef =
+    divided_at bs a h b l one unit c (subst (λ (w : Exponents). AreMultipleApart a w h.head) ey (subst (AreMultipleApart a y) ez apart)) (subst (λ (w : Exponents). IsDividedAt b w l) ex d) (subst (IsAlong a l) ef p)
 
 -- a monic member
 pub monic_member : (bs : List MarkedPolynomial) (b : MarkedPolynomial) (j : ℕ) → HasSomeWeight bs → j < length bs → b ≡ get_or bs j b → coefficient b.poly b.head ≡ one_ℚ

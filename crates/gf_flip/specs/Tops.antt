@@ -4,6 +4,8 @@ use Rattle.gf_exponents.specs.Exponents.{Exponents, same}
 use Rattle.gf_poly.specs.declared.Term.{Term}
 use Rattle.gf_poly.specs.Polynomial.{Terms, IsDescending, KeepsVariables}
 use Rattle.gf_poly.specs.Marking.{MarkedPolynomial, Each}
+use Rattle.gf_frac.specs.Fraction.{Fraction}
+use Rattle.gf_poly.specs.Products.{IsScaled}
 use Rattle.gf_ideal.specs.Membership.{HasMonomial}
 use Rattle.gf_ideal.specs.Reduction.{Reached}
 use Rattle.gf_ideal.specs.Settled.{IsAt}
@@ -34,3 +36,10 @@ pub record IsMarkedAt (bs : List MarkedPolynomial) (h : Exponents) (j : ℕ) : T
   pub member : MarkedPolynomial
   pub at : IsAt bs j member
   pub head : member.head ≡ h
+
+-- l is b divided by its coefficient at x, and marked there
+pub record IsDividedAt (b : MarkedPolynomial) (x : Exponents) (l : MarkedPolynomial) : Type 0 where
+  pub factor : Fraction
+  pub scaled : IsScaled factor b.poly l.poly
+  pub head : l.head ≡ x
+  pub variables : KeepsVariables b.poly l.poly

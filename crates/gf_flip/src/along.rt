@@ -1,14 +1,14 @@
 //! The terms of a polynomial whose exponents are multiples of a vector apart from the mark.
 
-ghost use Rattle.std.specs.Prelude.{◌≡◌, ◌≢◌, ◌==◌, ◌<◌, ◌≤◌, ◌^◌, ℤ, map, pos, ◌-ℤ◌, ◌*ℤ◌, true, false, IfOk, IsTrue, length, get_or, unsigned_abs};
+ghost use Rattle.std.specs.Prelude.{◌≡◌, ◌≢◌, ◌==◌, ◌<◌, ◌≤◌, ◌^◌, ℤ, map, pos, ◌-ℤ◌, ◌*ℤ◌, true, false, IfOk, IfSome, IsTrue, length, get_or, unsigned_abs};
 ghost use Rattle.gf_ideal.specs.OrderTable.{AreMultipleApart};
 ghost use Rattle.gf_poly.specs.Polynomial.{HasVariables};
 ghost use Rattle.gf_poly.specs.Marking.{HaveVariables};
 ghost use Rattle.gf_order.specs.Weights.{AreBounded};
-ghost use Rattle.gf_flip.specs.Along.{HasNonzero, IsAlong, AreAlong};
+ghost use Rattle.gf_flip.specs.Along.{HasNonzero, IsAlong, AreAlong, IsPassed};
 
 use crate::SpareLists;
-use gf_poly::{Marked, Mono, Poly};
+use gf_poly::{Marked, Mono, Poly, Term};
 use std::alloc::{AllocError, Global};
 
 /// The place of an entry that isn't zero.
@@ -141,6 +141,56 @@ pub fn parts(
         all.push(poly)?;
     }
     Ok(all)
+}
+
+/// Whether there is a term at a place, and it is equal to another one.
+fn is_at(list: &[Term], place: usize, t: &Term) -> bool
+    requires { HasVariables (length t.now.mono) list.now }
+    ensures within { IsTrue result → place < length list.now }
+    ensures equal { IsTrue result → t.now ≡ get_or list.now place t.now }
+{
+    if place >= list.len() {
+        return false;
+    }
+    let s = &list[place];
+    s.coef == t.coef && s.mono.is_same(&t.mono)
+}
+
+/// The place behind one where a term is that is equal to this one, if that is along; none where there is no such term.
+fn passed(list: &[Term], place: usize, t: &Term, along: bool) -> Option<usize>
+    requires { HasVariables (length t.now.mono) list.now }
+    ensures { IfSome result (IsPassed along list.now place t.now) }
+{
+    if !along {
+        return Some(place);
+    }
+    if !is_at(list, place, t) {
+        return None;
+    }
+    Some(place + 1)
+}
+
+/// Whether the terms are those of a member along the normal.
+pub fn is_part(list: &[Term], member: &Marked, normal: &[i128], pivot: usize) -> bool
+    requires variables { HasVariables (length normal.now) member.now.poly }
+    requires terms { HasVariables (length normal.now) list.now }
+    requires bounded { AreBounded normal.now }
+    requires inside { pivot < length normal.now }
+    requires nonzero { get_or normal.now pivot (pos 0) ≢ pos 0 }
+    ensures { IsTrue result → IsAlong normal.now member.now list.now }
+{
+    let terms = member.poly().terms();
+    let head = member.head();
+    let mut next = 0;
+    'terms: for i in 0..terms.len() {
+        let t = &terms[i];
+        let along = is_along(&t.mono, head, normal, pivot, i == member.index());
+        match passed(list, next, t, along) {
+            Some(past) => next = past,
+            None => return false,
+        }
+    }
+    next >= list.len()
 }
 
 /// Of each part whether it is one term alone.
