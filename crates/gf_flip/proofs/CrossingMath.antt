@@ -1,6 +1,6 @@
 -- What the code of a flip meets, from its crossing on: the parts, the reduced basis of the parts, and what lifts of it lead to.
 -- To cite: crossing_width, crossing_nonzero, crossing_weight, in_ring, suited, parts_of, monic_parts, liftable, AreEverLifted,
--- ever_lifted, ever_topped, realisable, needed_same, neighbour.
+-- ever_lifted, ever_topped, realisable, one_place, needed_same, neighbour.
 use Rattle.std.specs.Prelude.{◌≡◌, ℕ, zero, suc, ◌<◌, true, false, List, [], ◌∷◌, ◌++◌, length, slice_index_or, Contains, All, IsPermutation, ℤ, pos, negsuc, ◌+ℤ◌, ◌*ℤ◌, ◌≤ℤ◌}
 use Rattle.std.specs.List.{AllByRecursion}
 use Rattle.std.proofs.Common.{arith, refl, sym, ap, ◌∙◌, subst}
@@ -172,7 +172,7 @@ lifts_apart n bs a hs ls c p l = matched-apart (IsLifted n c.generators c.flippa
 not_multiple : (x y : Exponents) → NoMultiple x y → Divides x y → ⊥
 not_multiple x y n d = let f : same y (plus x d.rest) ≡ false = n d.rest in let t : same y (plus x d.rest) ≡ true = ap (same y) (plus_comm x d.rest) ∙ d.product in absurd (cc)
 
-one_place : (bs : List MarkedPolynomial) (i j : ℕ) (b c : MarkedPolynomial) → AreApart bs → IsAt bs i b → IsAt bs j c →
+pub one_place : (bs : List MarkedPolynomial) (i j : ℕ) (b c : MarkedPolynomial) → AreApart bs → IsAt bs i b → IsAt bs j c →
     Divides c.head b.head → i ≡ j
 one_place [] i j b c a p q d = absurd (omega (arith, p.within))
 one_place (e ∷ bs) zero zero b c a p q d = refl

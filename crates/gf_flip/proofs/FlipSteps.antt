@@ -5,7 +5,6 @@ use Rattle.std.proofs.Common.{◌≡◌, ℕ, Bool, List, length, Contains, Resu
 use Rattle.gf_exponents.specs.Orders.{negated_row_of}
 use Rattle.gf_exponents.specs.SixOrders.{MonomialOrder}
 use Rattle.gf_order.specs.Comparisons.{HasEntries}
-use Rattle.gf_order.specs.Weights.{AreBounded}
 use Rattle.gf_poly.specs.declared.error.PolyError.{PolyError}
 use Rattle.gf_exponents.proofs.ExponentsLaws.{same-refl}
 use Rattle.gf_poly.specs.Polynomial.{Terms, HasVariables}
@@ -22,13 +21,13 @@ use Rattle.gf_buchberger.specs.Bases.{IsArrangedBasis, IsBasisRefusal, of_poly_e
 use Rattle.gf_buchberger.specs.declared.bases.BasisError.{BasisError}
 use Rattle.gf_initial.specs.Lifts.{AreLifts, AreTopLifts}
 use Rattle.gf_flip.specs.Crossings.{IsCrossing, IsNeighbour}
-use Rattle.gf_flip.specs.Along.{AreAlong, IsBasisOfParts}
+use Rattle.gf_flip.specs.Along.{AreSmall, AreAlong, IsBasisOfParts}
 use Rattle.gf_flip.specs.Limits.{HaveMonomialsAlone}
 use Rattle.gf_flip.specs.LiftTails.{AreCopies, AreTailsInTurn}
 use Rattle.gf_flip.proofs.TailsInTurn.{turned_tails, turned_canonical}
 use Rattle.gf_flip.proofs.LiftedTails.{ever_turned}
 use Rattle.gf_flip.specs.Operations.{IsFlipRefusal}
-use Rattle.gf_flip.proofs.SmallNormals.{normal_bounded}
+use Rattle.gf_flip.proofs.SmallNormals.{normal_small}
 use Rattle.gf_flip.proofs.CrossingMath.{AreEverLifted, ever_topped, crossing_width, crossing_weight, in_ring, suited, realisable, lifts_marked, lifts_apart, needed_same, neighbour}
 use Rattle.gf_flip.proofs.RefusalSteps.{parts_refused, tails_refused}
 
@@ -41,8 +40,8 @@ pub weight_at : (n : ℕ) (bs items : List MarkedPolynomial) (a : List ℤ) → 
 weight_at n bs items a c e = let w = crossing_weight n bs a c in subst HasSomeWeight (sym e) (w.0, w.2)
 
 -- the normal is within the limit
-pub bounded_at : (n : ℕ) (bs items : List MarkedPolynomial) (a b : List ℤ) → IsCrossing n bs a → items ≡ bs → HaveMonomialsAlone items → b ≡ a → AreBounded b
-bounded_at n bs items a b c e h q = subst AreBounded (sym q) (normal_bounded bs a (subst HaveMonomialsAlone e h) c.flippable.inside.normal)
+pub bounded_at : (n : ℕ) (bs items : List MarkedPolynomial) (a b : List ℤ) → IsCrossing n bs a → items ≡ bs → HaveMonomialsAlone items → b ≡ a → AreSmall b
+bounded_at n bs items a b c e h q = subst AreSmall (sym q) (normal_small bs a (subst HaveMonomialsAlone e h) c.flippable.inside.normal)
 
 -- ---- the basis of the parts
 

@@ -1,16 +1,16 @@
 -- Whether exponents are a multiple of a vector apart, as the code tests it: an exact quotient, then entry by entry.
--- To cite: exact, small_factor, apart_more, apart_end, not_apart.
+-- To cite: exact, small_factor, apart_more, apart_end, not_apart, kept, narrow_entry.
 use Rattle.std.specs.Prelude.{◌≡◌, ◌≢◌, ◌⊎◌, ℕ, zero, suc, ◌+◌, ◌*◌, ◌<◌, ◌≤◌, ◌^◌, List, [], ◌∷◌, length, get_or, ℤ, pos, ◌+ℤ◌, ◌-ℤ◌, ◌*ℤ◌, unsigned_abs, int_div, int_rem}
 use Rattle.std.proofs.Common.{arith, refl, sym, ap, ◌∙◌, inl, inr, to_z, of_z}
 use Rattle.std.proofs.lemmas.Bool.{cases_lt}
-use Rattle.std.specs.Int.{w128}
+use Rattle.std.specs.Int.{w64, w128}
 use Rattle.std.proofs.lemmas.Int.{ints, unsigned_abs-mul, quot-rem, rem_below, to_z-of_z, fits_signed_from_abs}
 use Rattle.std.proofs.lemmas.Nat.{mul-le}
-use Rattle.gf_order.specs.Weights.{AreBounded}
 use Rattle.gf_int.proofs.RingLaws.{dv, dn, ◌⊖◌, ◌⊗◌, same as same_number}
 use Rattle.gf_exponents.specs.Exponents.{Exponents, entry}
 use Rattle.gf_exponents.proofs.ExponentsLaws.{entry-get_or, entry-past}
 use Rattle.gf_ideal.specs.OrderTable.{AreMultipleApart}
+use Rattle.gf_flip.specs.Along.{AreSmall}
 use Rattle.gf_int.proofs.SignLaws.{abs_positive}
 use Rattle.gf_int.proofs.ContentLaws.{abs_zero}
 
@@ -82,9 +82,20 @@ not_apart a x y k c d m p i e f g h n r =
 -- ---- what the code keeps of a number
 
 -- a number within the range is kept
-pub kept : (z : ℤ) (n : ℕ) → unsigned_abs z ≤ n → n < 2 ^ 127 → to_z w128 (of_z w128 z) ≡ z
-kept z n h l = to_z-of_z w128 z (fits_signed_from_abs w128 z (omega (arith, h, l)))
+pub kept : (z : ℤ) (n : ℕ) → unsigned_abs z ≤ n → n < 2 ^ 63 → to_z w64 (of_z w64 z) ≡ z
+kept z n h l = to_z-of_z w64 z (fits_signed_from_abs w64 z (omega (arith, h, l)))
 
--- so are the entries of a bounded vector
-pub kept_entry : (a : List ℤ) (i : ℕ) → AreBounded a → i < length a → to_z w128 (of_z w128 (get_or a i (pos 0))) ≡ get_or a i (pos 0)
-kept_entry a i h l = kept (get_or a i (pos 0)) (2 ^ 63) (h i (pos 0) l) (omega arith)
+-- an entry of a vector with small ones
+small_entry : (a : List ℤ) (i : ℕ) → AreSmall a → i < length a → unsigned_abs (get_or a i (pos 0)) < 2 ^ 31
+small_entry a i h l = h i (pos 0) l
+
+-- is kept
+kept_entry : (a : List ℤ) (i : ℕ) → AreSmall a → i < length a → to_z w64 (of_z w64 (get_or a i (pos 0))) ≡ get_or a i (pos 0)
+kept_entry a i h l = kept (get_or a i (pos 0)) (2 ^ 31) (omega (arith, small_entry a i h l)) (omega arith)
+
+-- as it is narrowed
+pub narrow_entry : (a : List ℤ) (i : ℕ) (z : ℤ) → AreSmall a → i < length a → z ≡ to_z w128 (of_z w128 (get_or a i (pos 0))) → to_z w64 (of_z w64 z) ≡ get_or a i (pos 0)
+narrow_entry a i z h l e = ap (λ (y : ℤ). to_z w64 (of_z w64 y)) (e ∙ whole) ∙ kept_entry a i h l
+  where
+    whole : to_z w128 (of_z w128 (get_or a i (pos 0))) ≡ get_or a i (pos 0)
+    whole = to_z-of_z w128 (get_or a i (pos 0)) (fits_signed_from_abs w128 (get_or a i (pos 0)) (omega (arith, small_entry a i h l)))

@@ -1,16 +1,15 @@
--- Members that are needed and settled: kept one after another, they are the list autoreduced.
--- To cite: undivided_more, undivided_form, settled_at, standing_itself, picked-more, AreKeptUp, kept_up-none, kept_up-next, kept_up-flag, kept_up_end, kept_variables, reduced_form, reduced_as.
-use Rattle.std.proofs.Common.{◌≡◌, ◌⊎◌, ℕ, ◌+◌, ◌<◌, ◌≤◌, Bool, true, false, List, [], ◌∷◌, ◌++◌, length, take, drop, remove, get_or, Contains, Some, None, arith, refl, sym, ap, ◌∙◌, subst, inl, inr}
+-- Members that are needed and settled, kept one after another.
+-- To cite: undivided_more, undivided_end, undivided_form, settled_at, picked-more, IsKeptWhere, AreKeptUp, kept_up-none, kept_up-next, kept_up_end, kept_variables, reduced_as.
+use Rattle.std.proofs.Common.{◌≡◌, ◌⊎◌, ℕ, ◌+◌, ◌<◌, ◌≤◌, Bool, true, false, List, [], ◌∷◌, ◌++◌, length, take, drop, remove, get_or, Contains, None, arith, refl, sym, ap, ◌∙◌, subst, inl, inr}
 use Rattle.std.proofs.lemmas.Bool.{cases_lt}
 use Rattle.std.proofs.lemmas.List.{take_more, take_all, drop_more, get_or_append_left, get_or_push}
 use Rattle.std.proofs.lemmas.List.Elements.{Contains-push_cases}
 use Rattle.gf_frac.specs.Fraction.{one_ℚ}
-use Rattle.gf_exponents.specs.Exponents.{Exponents, same, Divides}
-use Rattle.gf_exponents.proofs.ExponentsLaws.{same-refl, same_of}
+use Rattle.gf_exponents.proofs.ExponentsLaws.{same-refl}
 use Rattle.gf_poly.specs.declared.Term.{Term}
 use Rattle.gf_poly.specs.Polynomial.{Terms, HasVariables}
-use Rattle.gf_poly.specs.Marking.{MarkedPolynomial, MarkedPolynomials, HaveVariables, HasMark, HasMarkedTerm, IsArranged}
-use Rattle.gf_ideal.specs.Marks.{HasPositiveWeight, IsRealisable}
+use Rattle.gf_poly.specs.Marking.{MarkedPolynomial, MarkedPolynomials, HaveVariables, HasMark, HasMarkedTerm}
+use Rattle.gf_ideal.specs.Marks.{HasPositiveWeight}
 use Rattle.gf_ideal.specs.Reduction.{IsDivisible, IsIrreducible}
 use Rattle.gf_ideal.specs.NormalForms.{IsNormalForm, IsRuleReached}
 use Rattle.gf_ideal.specs.Settled.{IsAt}
@@ -22,11 +21,10 @@ use Rattle.gf_division.specs.Reducers.{AreIrreducible, IsBeside}
 use Rattle.gf_division.proofs.ReducerLaws.{member_at, members_equal, member_contained, member_variables}
 use Rattle.gf_division.proofs.StepLaws.{head_length}
 use Rattle.gf_division.proofs.RuleLaws.{irreducible_whole}
-use Rattle.gf_division.proofs.TailLaws.{irreducible_beside}
 use Rattle.gf_division.proofs.MonicLaws.{monic_already}
-use Rattle.gf_division.proofs.NeededLaws.{NeededSoFar, Forming, forming-none, forming-more, forming-skipped, forming_end, forming_variables}
-use Rattle.gf_division.proofs.AutoreductionLaws.{Autoreducing, autoreducing, autoreduced_value, autoreduced_arranged, autoreduced_marked, autoreduced_reduced}
-use Rattle.gf_flip.specs.Settling.{IsSettled, IsSettledAt, IsPick, ArePickFlags, IsKeptWhere, IsPickedFrom, IsReducedForm}
+use Rattle.gf_division.proofs.NeededLaws.{Forming, forming-none, forming-more, forming-skipped, forming_end, forming_variables}
+use Rattle.gf_flip.specs.LiftTails.{HasReducedTail}
+use Rattle.gf_flip.specs.Settling.{IsSettled, IsSettledAt, IsPick, ArePickFlags, IsPickedFrom, IsReducedForm}
 use Rattle.gf_flip.proofs.TailsInTurn.{by_place}
 
 -- ---- one polynomial
@@ -49,7 +47,7 @@ undivided_form bs f n = record { reached = IsRuleReached.here f (λ x. refl); ir
 -- ---- one member
 
 pub settled_at : (bs : List MarkedPolynomial) (b : MarkedPolynomial) (i : ℕ) → ShareSomeVariables bs → i < length bs → b ≡ get_or bs i b → HasMarkedTerm b → HasMark b one_ℚ →
-    AreIrreducible bs (Some b.head) b.poly → IsSettledAt bs i
+    HasReducedTail bs b → IsSettledAt bs i
 settled_at bs b i v l q m o a = record { at = λ c p. subst (IsSettled bs) (members_equal bs i b c (member_at bs i b l q) p) here }
   where
     vars : HasVariables v.n b.poly
@@ -58,19 +56,9 @@ settled_at bs b i v l q m o a = record { at = λ c p. subst (IsSettled bs) (memb
     here : IsSettled bs b
     here = record {
       monic = monic_already b (record { n = v.n; each = vars }) m o;
-      tail = irreducible_beside bs b.head b.poly a;
+      tail = a;
       kept = record { at = λ w u. record { variables = u; descending = m.descending; head = head_length w b u m } };
     }
-
--- the member at the place i doesn't make itself needless
-pub standing_itself : (bs : List MarkedPolynomial) (i : ℕ) (b : MarkedPolynomial) (x : Exponents) → IsAt bs i b → x ≡ b.head → NeededSoFar bs i i x → NeededSoFar bs i (i + 1) x
-standing_itself bs i b x p e h = record { least = λ k c l m d. at k c (cases_lt k i) l m d }
-  where
-    at : (k : ℕ) (c : MarkedPolynomial) → (k < i) ⊎ (i ≤ k) → k < i + 1 → IsAt bs k c → Divides c.head x → (same c.head x ≡ true) × (i ≤ k)
-    at k c (inl q) l m d = h.least k c q m d
-    at k c (inr q) l m d =
-        let r : k ≡ i = omega (arith, q, l) in
-        (same_of c.head x (ap (λ (z : MarkedPolynomial). z.head) (members_equal bs i c b (subst (λ (z : ℕ). IsAt bs z c) r m) p) ∙ sym e), q)
 
 -- ---- the flags
 
@@ -91,6 +79,11 @@ picked-more bs flags new i f p e h = subst (λ (z : List Bool). ArePickFlags bs 
         subst (IsPick bs j) (sym (get_or_push flags f false j (h.size ∙ r))) (subst (λ (z : ℕ). IsPick bs z f) r p)
 
 -- ---- the members that are kept
+
+-- b is added, or the list stays
+abbrev pub IsKeptWhere : Bool → MarkedPolynomial → List MarkedPolynomial → List MarkedPolynomial → Type 0
+IsKeptWhere true b old new = new ≡ old ++ b ∷ []
+IsKeptWhere false b old new = new ≡ old
 
 -- ks are those of the first i members that are needed, and the rest is still there
 pub record AreKeptUp (bs left ks : List MarkedPolynomial) (i : ℕ) : Type 0 where
@@ -135,7 +128,7 @@ kept_up-more bs left next ks new flags i b p l e n k h = at (get_or flags i fals
     at false g k = subst (λ (z : List MarkedPolynomial). AreKeptUp bs next z (i + 1)) (sym k) (record { rest = after; size = size; forming = forming-skipped bs i ks g h.forming; inside = h.inside })
 
 -- where a member is left, there is a flag for it
-pub kept_up-flag : (bs left next ks : List MarkedPolynomial) (flags : List Bool) (i : ℕ) (b : MarkedPolynomial) → ArePickFlags bs flags (length bs) → left ≡ b ∷ next → AreKeptUp bs left ks i → i < length flags
+kept_up-flag : (bs left next ks : List MarkedPolynomial) (flags : List Bool) (i : ℕ) (b : MarkedPolynomial) → ArePickFlags bs flags (length bs) → left ≡ b ∷ next → AreKeptUp bs left ks i → i < length flags
 kept_up-flag bs left next ks flags i b p e h = omega (arith, p.size, h.size, ap (λ (z : List MarkedPolynomial). length z) e)
 
 pub kept_up-next : (bs left next ks new : List MarkedPolynomial) (flags : List Bool) (i : ℕ) (b : MarkedPolynomial) → ArePickFlags bs flags (length bs) → left ≡ b ∷ next →
@@ -162,16 +155,6 @@ pub kept_variables : (n : ℕ) (bs ks : List MarkedPolynomial) → HaveVariables
 kept_variables n bs ks v p = p.variables.at n v
 
 -- ---- the whole
-
-pub reduced_form : (n : ℕ) (bs ks : List MarkedPolynomial) (s t : MarkedPolynomials) → HaveVariables n bs → IsRealisable n bs → IsPickedFrom bs ks → ◌≡◌ {A = MarkedPolynomials} s (record { variables = n; items = ks }) → IsArranged s t → IsReducedForm n bs t
-reduced_form n bs ks s t v r p e a =
-    let w : Autoreducing n bs ks ks t = autoreducing n n bs bs ks ks ks s t refl refl refl e v p.forms p.variables p.tails p.kept a in
-    record {
-      value = autoreduced_value n bs ks ks t w;
-      arranged = autoreduced_arranged n bs ks ks t w;
-      marked = autoreduced_marked n bs ks ks t r w;
-      reduced = autoreduced_reduced n bs ks ks t w;
-    }
 
 pub reduced_as : (n : ℕ) (bs : List MarkedPolynomial) (s t : MarkedPolynomials) → ◌≡◌ {A = MarkedPolynomials} s (record { variables = n; items = bs }) → IsAutoreduced s t → AreArranged s.variables t.items → HasPositiveWeight s.variables t.items → IsReducedOf s.variables s.items t.items → IsReducedForm n bs t
 reduced_as n bs s t e a r p d = record {

@@ -1,5 +1,5 @@
 -- Exponents below 2^31 give rows and normals with entries below 2^31 in absolute value.
--- To cite: normal_bounded.
+-- To cite: normal_small, small_bounded.
 use Rattle.std.proofs.Common.{ℕ, zero, suc, ◌<◌, ◌^◌, List, [], ◌∷◌, All, ℤ, pos, ◌-ℤ◌, unsigned_abs, arith, sym, subst}
 use Rattle.std.proofs.lemmas.Int.{ints}
 use Rattle.gf_exponents.specs.Exponents.{Exponents}
@@ -11,6 +11,7 @@ use Rattle.gf_ideal.proofs.ListLaws.{contained_each}
 use Rattle.gf_facets.specs.Rows.{differences, IsNormal}
 use Rattle.gf_facets.proofs.RowLaws.{row-from}
 use Rattle.gf_cone.proofs.SmallLaws.{primitive_small}
+use Rattle.gf_flip.specs.Along.{AreSmall}
 use Rattle.gf_flip.specs.Limits.{HasMonomialsAlone, HaveMonomialsAlone}
 
 -- ---- small numbers
@@ -27,11 +28,15 @@ small_differences (a ∷ x) (b ∷ y) p q (suc i) d l = small_differences x y (�
 -- ---- normals
 
 -- a normal of a set whose exponents are within the limit
-pub normal_bounded : (bs : List MarkedPolynomial) (a : List ℤ) → HaveMonomialsAlone bs → IsNormal bs a → AreBounded a
-normal_bounded bs a h p =
+pub normal_small : (bs : List MarkedPolynomial) (a : List ℤ) → HaveMonomialsAlone bs → IsNormal bs a → AreSmall a
+normal_small bs a h p =
     let b = row-from bs p.0 p.1 in
     let t = b.2 in
     let m = contained_each HasMonomialsAlone bs h b.0 b.1 in
     let q = contained_each (λ (t : Term). IsMonomial t.mono) b.0.poly m.terms t.term t.inside in
     let s = primitive_small p.0 a p.2 (record { entries = subst (All (λ z. unsigned_abs z < 2 ^ 31)) (sym t.row) (small_differences b.0.head t.term.mono m.head.limit q.limit) }) in
     λ i d l. omega (arith, s.entries i d l)
+
+-- so they are within the bound of an order's weights
+pub small_bounded : (a : List ℤ) → AreSmall a → AreBounded a
+small_bounded a h i d l = omega (arith, h i d l)

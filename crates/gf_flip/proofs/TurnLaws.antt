@@ -4,17 +4,18 @@ use Rattle.std.proofs.Common.{◌≡◌, ◌≢◌, ◌⊎◌, ℕ, zero, suc, �
 use Rattle.std.specs.Option.{is_some}
 use Rattle.std.specs.declared.option.Option.{Option}
 use Rattle.std.proofs.lemmas.Bool.{cases_lt}
+use Rattle.std.proofs.lemmas.List.{get_or_push}
 use Rattle.gf_exponents.specs.SixOrders.{MonomialOrder, below_of}
 use Rattle.gf_exponents.proofs.SixOrdersLaws.{order-is}
 use Rattle.gf_poly.specs.Polynomial.{Terms, HasVariables, IsDescending, coefficient}
 use Rattle.gf_frac.specs.Fraction.{one_ℚ}
-use Rattle.gf_exponents.specs.Exponents.{Exponents, same, plus, minus, join}
+use Rattle.gf_exponents.specs.Exponents.{Exponents, Divides, same, plus, minus, join}
 use Rattle.gf_exponents.proofs.ExponentsLaws.{same_of}
 use Rattle.gf_poly.specs.Marking.{MarkedPolynomial, polys, head_of, Each, HaveVariables, IsMonicOf, HasMark, HasMarkedTerm}
 use Rattle.gf_poly.proofs.MonomialLaws.{length-join, plus-minus}
 use Rattle.gf_ideal.specs.Membership.{HasMonomial, AreInVariables, IsInVariables, IsMember}
 use Rattle.gf_ideal.specs.Marks.{AreMarked}
-use Rattle.gf_ideal.specs.Reduction.{Reached, IsKept, IsMonicForm, HasOneMonomial}
+use Rattle.gf_ideal.specs.Reduction.{IsIrreducible, Reached, IsKept, IsMonicForm}
 use Rattle.gf_ideal.specs.Settled.{IsAt, IsSettledPair}
 use Rattle.gf_ideal.specs.WorkLists.{IsOrigin, IsWorkList}
 use Rattle.gf_ideal.proofs.CriteriaLaws.{pair_by_steps, pair_by_product, pair_by_monomials, pair_by_chain, pair_turned, pair_more}
@@ -22,10 +23,9 @@ use Rattle.gf_ideal.proofs.GeneratorLaws.{entered-zero, entered-appended}
 use Rattle.gf_ideal.proofs.KeptForms.{monic_form}
 use Rattle.gf_ideal.proofs.ListedTerms.{variables_by_terms}
 use Rattle.gf_ideal.proofs.MembershipLaws.{member-generator, member-trans}
-use Rattle.gf_ideal.proofs.NormalFormLaws.{normal_form-reached}
 use Rattle.gf_ideal.proofs.ListLaws.{Contains-cases, Contains-there}
 use Rattle.gf_ideal.proofs.PieceLaws.{Contains-polys, Contains-marked}
-use Rattle.gf_ideal.proofs.StepLaws.{reached-more}
+use Rattle.gf_ideal.proofs.StepLaws.{monic-monomials, reached-more}
 use Rattle.gf_ideal.proofs.WorkLaws.{run_basis, work-marked}
 use Rattle.gf_ideal.proofs.DividingLaws.{member_contained}
 use Rattle.gf_division.proofs.MonicLaws.{monic_already}
@@ -33,7 +33,6 @@ use Rattle.gf_division.proofs.StepLaws.{head_length, term_coefficient}
 use Rattle.gf_division.specs.Reducers.{IsDivisorAt}
 use Rattle.gf_division.specs.SPolynomials.{KeepsPairVariables, IsSPolynomialOf}
 use Rattle.gf_buchberger.specs.Leading.{IsComparable, IsLeadingAt}
-use Rattle.gf_buchberger.specs.Jobs.{IsBasisJob}
 use Rattle.gf_buchberger.specs.Runs.{MembersHaveVariables, AreReducers, IsAppendable}
 use Rattle.gf_buchberger.proofs.AppendLaws.{marked_greatest, is_marked, member_length}
 use Rattle.gf_buchberger.proofs.BasesOfRuns.{IsEnd}
@@ -41,9 +40,10 @@ use Rattle.gf_buchberger.proofs.JobLaws.{ring_variables, run_weight}
 use Rattle.gf_buchberger.proofs.ReducedPairLaws.{AreRead, are_read, variables_each, s_polynomial_is, s_polynomial_variables}
 use Rattle.gf_buchberger.proofs.RunSteps.{in_variables, length-last, contained_old, at_old, appended-variables}
 use Rattle.gf_flip.proofs.CoverLaws.{covered_pair}
-use Rattle.gf_flip.specs.Turns.{ArePairExcused, IsChained, IsMadeFrom, IsGrown, IsTakenIn, IsPairTaken, IsSortedIn, IsUnderway, AreTakenIn, AreSingleTo, IsEarlier, HasTurning, KeepsTurning, IsTurning, AreKeptIn}
-use Rattle.gf_division.proofs.ReducerLaws.{member_at, members_equal}
-use Rattle.std.proofs.lemmas.List.Elements.{Contains-push, Contains-append_left, Contains-append_right, Contains-append_cases}
+use Rattle.gf_flip.specs.Monomials.{AreLaterUndivided}
+use Rattle.gf_flip.specs.Turns.{ArePairExcused, IsChained, IsMadeFrom, IsGrown, IsTakenIn, IsPairTaken, IsUnderway, AreTakenIn, IsEntering, AreSingleTo, IsEarlier, HasTurning, KeepsTurning, IsTurning, AreKeptIn}
+use Rattle.gf_division.proofs.ReducerLaws.{members_equal}
+use Rattle.std.proofs.lemmas.List.Elements.{Contains-push}
 use Rattle.gf_int.proofs.ListLaws.{Contains-here}
 
 -- ---- lists of a run
@@ -54,14 +54,6 @@ underway_marked order n fs bs u = work-marked fs (below_of order) bs u.work
 -- its members reduce
 pub turn_reducers : (order : MonomialOrder) (n : ℕ) (fs : List Terms) (bs : List MarkedPolynomial) → IsUnderway order n fs bs → AreReducers order bs
 turn_reducers order n fs bs u = let w = run_weight order n fs bs u.job u.work in record { n = n; each = u.variables; entries = u.job.entries; weight = (w.0, w.2) }
-
--- no members
-pub underway-none : (order : MonomialOrder) (n : ℕ) (fs : List Terms) → IsBasisJob order n fs → IsUnderway order n fs []
-underway-none order n fs j = record {
-  job = j;
-  work = IsWorkList.start;
-  variables = record { heads = λ b c. absurd (omega (arith, c.1)); polys = λ b c. absurd (omega (arith, c.1)) };
-}
 
 pub kept-same : (bs : List MarkedPolynomial) → AreKeptIn bs bs
 kept-same bs = record { at = λ b c. c }
@@ -87,12 +79,23 @@ record IsFurtherOn (order : MonomialOrder) (n : ℕ) (fs : List Terms) (f : Term
   reached : Reached (Contains new) f remainder
   settled : IsKept (Contains new) remainder
 
+-- no mark of the old members divides a monomial of the new one
+later_more : (bs : List MarkedPolynomial) (b : MarkedPolynomial) → AreLaterUndivided bs → IsIrreducible (Contains bs) b.poly → AreLaterUndivided (bs ++ b ∷ [])
+later_more bs b r n = record { none = λ i j c d l x y m h v. at i j c d l x y (cases_lt j (length bs)) m h v }
+  where
+    at : (i j : ℕ) (c d : MarkedPolynomial) → i < j → IsAt (bs ++ b ∷ []) i c → IsAt (bs ++ b ∷ []) j d → (j < length bs) ⊎ (length bs ≤ j) → (m : Exponents) → HasMonomial d.poly m → Divides c.head m → ⊥
+    at i j c d l x y (inl k) m h v = r.none i j c d l (at_old bs b c i (omega (arith, l, k)) x) (at_old bs b d j k y) m h v
+    at i j c d l x y (inr k) m h v =
+        let s : length bs ≡ j = omega (arith, k, y.within, length-last bs b) in
+        let e : d ≡ b = sym y.is ∙ get_or_push bs b d j s in
+        n m (subst (λ (z : MarkedPolynomial). HasMonomial z.poly m) e h) (record { member = c; contained = member_contained bs i c (at_old bs b c i (omega (arith, l, s)) x); rest = v.rest; divides = v.product })
+
 further_on : (order : MonomialOrder) (n : ℕ) (fs : List Terms) (f : Terms) (old new : List MarkedPolynomial) → IsUnderway order n fs old → IsOrigin fs old f → HasVariables n f →
     IsTakenIn order f old new → IsFurtherOn order n fs f old new
 further_on order n fs f old new u origin v t = at t.left
   where
     steps : Reached (Contains old) f t.r
-    steps = normal_form-reached old f t.r t.normal.reached
+    steps = t.normal.reached
 
     grown : (t.r ≢ []) → (g : IsGrown order t.r old new) → IsFurtherOn order n fs f old new
     grown z g = subst (IsFurtherOn order n fs f old) (sym g.members) (record {
@@ -100,6 +103,7 @@ further_on order n fs f old new u origin v t = at t.left
         job = u.job;
         work = IsWorkList.more old f t.r g.member u.work origin steps g.monic g.marked (λ d. t.normal.irreducible g.member.head g.monic.there d);
         variables = appended-variables n old g.member u.variables (g.head n (t.variables.at n v)) (g.poly n (t.variables.at n v));
+        later = later_more old g.member u.later (λ x h d. t.normal.irreducible x (monic-monomials t.r g.member g.monic x h) d);
       };
       kept = record { at = λ b c. contained_old old g.member b c };
       size = omega (arith, length-last old g.member);
@@ -120,20 +124,6 @@ further_on order n fs f old new u origin v t = at t.left
     at (inr (z, g)) = grown z g
 
 -- ---- the polynomials
-
--- those that aren't in the ideal yet wait
-pub record IsEntering (order : MonomialOrder) (n : ℕ) (fs : List Terms) (ws : List Terms) (bs : List MarkedPolynomial) : Type 0 where
-  pub underway : IsUnderway order n fs bs
-  pub inside : (f : Terms) → Contains fs f → IsMember n (polys bs) f ⊎ Contains ws f
-  pub within : (f : Terms) → Contains ws f → Contains fs f
-
-pub entering-start : (order : MonomialOrder) (n : ℕ) (fs : List Terms) (bs : List MarkedPolynomial) → IsUnderway order n fs bs → IsEntering order n fs fs bs
-entering-start order n fs bs u = record { underway = u; inside = λ f c. inr c; within = λ f c. c }
-
--- in another order
-entering-along : (order : MonomialOrder) (n : ℕ) (fs ws vs : List Terms) (bs : List MarkedPolynomial) → ((f : Terms) → Contains ws f → Contains vs f) → ((f : Terms) → Contains vs f → Contains ws f) →
-    IsEntering order n fs ws bs → IsEntering order n fs vs bs
-entering-along order n fs ws vs bs to from h = record { underway = h.underway; inside = λ f c. elim (h.inside f c) [ inl m ↦ inl m | inr w ↦ inr (to f w) ]; within = λ f c. h.within f (from f c) }
 
 -- the first of them is taken in
 pub entering-taken : (order : MonomialOrder) (n : ℕ) (fs : List Terms) (f : Terms) (ws : List Terms) (old new : List MarkedPolynomial) → IsTakenIn order f old new → IsEntering order n fs (f ∷ ws) old → IsEntering order n fs ws new
@@ -156,7 +146,7 @@ entering-taken order n fs f ws old new t h = record {
     in_ring = variables_by_terms n f has
 
     steps : Reached (Contains old) f t.r
-    steps = normal_form-reached old f t.r t.normal.reached
+    steps = t.normal.reached
 
     here : IsMember n (polys new) f
     here = elim t.left [
@@ -167,33 +157,6 @@ entering-taken order n fs f ws old new t h = record {
     at : (g : Terms) → IsMember n (polys old) g ⊎ Contains (f ∷ ws) g → IsMember n (polys new) g ⊎ Contains ws g
     at g (inl m) = inl (member_kept n old new g (in_variables n new w.underway.variables) w.kept m)
     at g (inr c) = elim (Contains-cases f g ws c) [ inl e ↦ inl (subst (IsMember n (polys new)) e here) | inr k ↦ inr k ]
-
--- the next one is taken in, or waits behind the others
-pub entering-sorted : (order : MonomialOrder) (n : ℕ) (fs : List Terms) (f : Terms) (rest left before after : List Terms) (old new : List MarkedPolynomial) → rest ≡ f ∷ left → IsSortedIn order f old new before after →
-    IsEntering order n fs (rest ++ before) old → IsEntering order n fs (left ++ after) new
-entering-sorted order n fs f rest left before after old new e s h = at s (subst (λ (z : List Terms). IsEntering order n fs (z ++ before) old) e h)
-  where
-    to : (g : Terms) → Contains (f ∷ (left ++ before)) g → Contains (left ++ (before ++ f ∷ [])) g
-    to g c = elim (Contains-cases f g (left ++ before) c) [
-      | inl q ↦ Contains-append_right left (before ++ f ∷ []) g (Contains-append_right before (f ∷ []) g (subst (Contains (f ∷ [])) q (Contains-here f [])))
-      | inr k ↦ elim (Contains-append_cases left before g k) [
-        | inl a ↦ Contains-append_left left (before ++ f ∷ []) g a
-        | inr b ↦ Contains-append_right left (before ++ f ∷ []) g (Contains-append_left before (f ∷ []) g b)
-      ]
-    ]
-
-    from : (g : Terms) → Contains (left ++ (before ++ f ∷ [])) g → Contains (f ∷ (left ++ before)) g
-    from g c = elim (Contains-append_cases left (before ++ f ∷ []) g c) [
-      | inl a ↦ Contains-there f g (left ++ before) (Contains-append_left left before g a)
-      | inr b ↦ elim (Contains-append_cases before (f ∷ []) g b) [
-        | inl k ↦ Contains-there f g (left ++ before) (Contains-append_right left before g k)
-        | inr k ↦ elim (Contains-cases f g [] k) [ inl q ↦ subst (Contains (f ∷ (left ++ before))) q (Contains-here f (left ++ before)) | inr m ↦ absurd (omega (arith, m.1)) ]
-      ]
-    ]
-
-    at : IsSortedIn order f old new before after → IsEntering order n fs (f ∷ (left ++ before)) old → IsEntering order n fs (left ++ after) new
-    at (inl t) k = subst (λ (z : List Terms). IsEntering order n fs (left ++ z) new) (sym t.1) (entering-taken order n fs f (left ++ before) old new t.0 k)
-    at (inr t) k = subst (λ (z : List Terms). IsEntering order n fs (left ++ z) new) (sym t.1) (subst (IsEntering order n fs (left ++ (before ++ f ∷ []))) (sym t.0) (entering-along order n fs (f ∷ (left ++ before)) (left ++ (before ++ f ∷ [])) old to from k))
 
 -- taking the first of them in asks for this
 pub entering_appendable : (order : MonomialOrder) (n : ℕ) (fs : List Terms) (f : Terms) (ws left : List Terms) (bs : List MarkedPolynomial) → ws ≡ f ∷ left → IsEntering order n fs ws bs → IsAppendable order f bs
@@ -263,7 +226,7 @@ at_front (a ∷ bs) (suc i) (suc k) d h =
     let r = at_front bs i k d (record { within = omega (arith, h.within); is = h.is }) in
     (record { within = omega (arith, r.0.within); is = r.0.is }, omega (arith, r.1))
 
-each-take : {A : Type 0} (P : A → Type 0) (i : ℕ) (xs : List A) → Each P xs → Each P (take i xs)
+pub each-take : {A : Type 0} (P : A → Type 0) (i : ℕ) (xs : List A) → Each P xs → Each P (take i xs)
 each-take P zero xs h = tt
 each-take P (suc i) [] h = tt
 each-take P (suc i) (x ∷ xs) h = (h.0, each-take P i xs h.1)
@@ -420,13 +383,6 @@ whole-start order n fs bs k u h l s = record { turning = record { underway = u; 
     at : (p q : ℕ) (b c : MarkedPolynomial) → p < q → IsEarlier p q 0 k → IsAt bs p b → IsAt bs q c → IsSettledPair n bs (below_of order) b c
     at p q b c m (inl e) x y = excused_pair order n fs bs p q b c u x y (inl (s p b (omega (arith, m, e)) x, s q c e y))
     at p q b c m (inr e) x y = absurd (omega (arith, e.1))
-
-pub single_more : (bs : List MarkedPolynomial) (k : ℕ) (b : MarkedPolynomial) → k < length bs → b ≡ slice_index_or bs k b → HasOneMonomial b → AreSingleTo bs k → AreSingleTo bs (k + 1)
-single_more bs k b l e o s j c m a = at (cases_lt j k)
-  where
-    at : (j < k) ⊎ (k ≤ j) → HasOneMonomial c
-    at (inl r) = s j c r a
-    at (inr r) = subst HasOneMonomial (members_equal bs j b c (subst (λ (z : ℕ). IsAt bs z b) (omega (arith, r, m)) (member_at bs k b l e)) a) o
 
 pub whole-more : (order : MonomialOrder) (n : ℕ) (fs : List Terms) (old new : List MarkedPolynomial) (j : ℕ) → KeepsTurning order n old 0 j new 0 (j + 1) → AreKeptIn old new → length old ≤ length new → j < length old → IsWhole order n fs old j → IsWhole order n fs new (j + 1)
 whole-more order n fs old new j t k l m h = let s = t.at fs h.turning in record { turning = s; entered = entered-kept n fs old new s.underway.variables k h.entered; within = omega (arith, l, m) }

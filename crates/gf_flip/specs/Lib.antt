@@ -7,5 +7,9 @@ pub mod Tops  -- lifts that end early
 pub mod LiftTails  -- tails of lifts
 pub mod LiftsInTurn  -- lifts with reduced tails, each at once
 pub mod Settling  -- members of a run that need no work
+pub mod Monomials  -- members that are monomials alone
+pub mod Forms  -- remainders by monomials and members
+pub mod Splits  -- the parts along a vector, as they are kept
 pub mod Turns  -- a run that takes the pairs in turn
+pub mod Chosen  -- lifts of chosen members
 pub mod Reached  -- bases that a walk reaches

@@ -1,7 +1,8 @@
 -- The reduced basis of the members of a run: where those that are needed are monic and have tails that no mark divides, the others
--- are dropped, and nothing is worked out. Laws: proofs/SettlingLaws.antt.
+-- are dropped, and nothing is worked out. Laws: proofs/SettlingLaws.antt, proofs/PickLaws.antt.
 -- Source: Cox, Little, O'Shea, Ideals, Varieties, and Algorithms, 2.7.
-use Rattle.std.specs.Prelude.{◌≡◌, ℕ, ◌<◌, Bool, true, false, List, [], ◌∷◌, ◌++◌, length, slice_index_or}
+use Rattle.std.specs.Prelude.{◌≡◌, ℕ, ◌<◌, ◌≤◌, Bool, true, false, List, length, slice_index_or}
+use Rattle.gf_exponents.specs.Exponents.{Exponents, Divides}
 use Rattle.gf_poly.specs.Marking.{MarkedPolynomial, MarkedPolynomials}
 use Rattle.gf_ideal.specs.Marks.{HasPositiveWeight}
 use Rattle.gf_ideal.specs.Settled.{IsAt}
@@ -31,10 +32,17 @@ pub record ArePickFlags (bs : List MarkedPolynomial) (flags : List Bool) (i : �
   pub size : length flags ≡ i
   pub at : (j : ℕ) → j < i → IsPick bs j (slice_index_or flags j false)
 
--- b is added, or the list stays
-abbrev pub IsKeptWhere : Bool → MarkedPolynomial → List MarkedPolynomial → List MarkedPolynomial → Type 0
-IsKeptWhere true b old new = new ≡ old ++ b ∷ []
-IsKeptWhere false b old new = new ≡ old
+-- no mark from the place i on divides x
+pub record AreUndividedFrom (bs : List MarkedPolynomial) (i : ℕ) (x : Exponents) : Type 0 where
+  pub none : (k : ℕ) (c : MarkedPolynomial) → i ≤ k → IsAt bs k c → Divides c.head x → ⊥
+
+-- one does
+pub record IsDividedFrom (bs : List MarkedPolynomial) (i : ℕ) (x : Exponents) : Type 0 where
+  pub place : ℕ
+  pub from : i ≤ place
+  pub member : MarkedPolynomial
+  pub at : IsAt bs place member
+  pub divides : Divides member.head x
 
 -- ks are the needed members of bs, and each is settled
 pub record IsPickedFrom (bs ks : List MarkedPolynomial) : Type 0 where

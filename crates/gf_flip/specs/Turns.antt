@@ -9,12 +9,13 @@ use Rattle.gf_poly.specs.Polynomial.{Terms, HasVariables, KeepsVariables}
 use Rattle.gf_poly.specs.Marking.{MarkedPolynomial, polys, HasMark, IsMonicOf}
 use Rattle.gf_ideal.specs.Membership.{HasMonomial, IsMember}
 use Rattle.gf_ideal.specs.Marks.{IsMarked}
-use Rattle.gf_ideal.specs.Reduction.{IsMonicForm, IsSPolynomial, HasOneMonomial}
-use Rattle.gf_ideal.specs.NormalForms.{IsNormalForm}
+use Rattle.gf_ideal.specs.Reduction.{IsIrreducible, IsMonicForm, IsSPolynomial, HasOneMonomial}
 use Rattle.gf_ideal.specs.Settled.{IsAt, IsSettledPair}
 use Rattle.gf_ideal.specs.WorkLists.{IsWorkList}
+use Rattle.gf_division.specs.Remainders.{IsRemainder}
 use Rattle.gf_buchberger.specs.Jobs.{IsBasisJob}
 use Rattle.gf_buchberger.specs.Runs.{MembersHaveVariables}
+use Rattle.gf_flip.specs.Monomials.{AreLaterUndivided}
 
 -- ---- one step
 
@@ -61,7 +62,7 @@ pub record IsGrown (order : MonomialOrder) (r : Terms) (old new : List MarkedPol
 -- f was reduced by the members: to zero, and they are as before, or what is left is a new member
 pub record IsTakenIn (order : MonomialOrder) (f : Terms) (old new : List MarkedPolynomial) : Type 0 where
   pub r : Terms
-  pub normal : IsNormalForm old f r
+  pub normal : IsRemainder old f r
   pub variables : KeepsVariables f r
   pub left : ((r ≡ []) × (new ≡ old)) ⊎ ((r ≢ []) × IsGrown order r old new)
 
@@ -84,15 +85,35 @@ AreSingleTo bs k = (j : ℕ) (b : MarkedPolynomial) → j < k → IsAt bs j b �
 
 -- ---- where a run stands
 
--- bs is a list of a run on fs in n variables by the order
+-- bs is a list of a run on fs in n variables by the order, where no mark divides a monomial of a later member
 pub record IsUnderway (order : MonomialOrder) (n : ℕ) (fs : List Terms) (bs : List MarkedPolynomial) : Type 0 where
   pub job : IsBasisJob order n fs
   pub work : IsWorkList fs (below_of order) bs
   pub variables : MembersHaveVariables n bs
+  pub later : AreLaterUndivided bs
+
+-- no mark of bs divides a monomial of one of fs
+pub record AreUndividedBy (bs : List MarkedPolynomial) (fs : List Terms) : Type 0 where
+  pub at : (f : Terms) → Contains fs f → IsIrreducible (Contains bs) f
 
 -- each polynomial of fs is in the ideal of bs
 pub record AreTakenIn (n : ℕ) (fs : List Terms) (bs : List MarkedPolynomial) : Type 0 where
   pub inside : (f : Terms) → Contains fs f → IsMember n (polys bs) f
+
+-- bs is a list of such a run; those polynomials wait that aren't in its ideal yet
+pub record IsEntering (order : MonomialOrder) (n : ℕ) (fs : List Terms) (waiting : List Terms) (bs : List MarkedPolynomial) : Type 0 where
+  pub underway : IsUnderway order n fs bs
+  pub inside : (f : Terms) → Contains fs f → IsMember n (polys bs) f ⊎ Contains waiting f
+  pub within : (f : Terms) → Contains waiting f → Contains fs f
+
+-- so it is for some list fs
+pub record HasEntering (order : MonomialOrder) (n : ℕ) (waiting : List Terms) (bs : List MarkedPolynomial) : Type 0 where
+  pub polynomials : List Terms
+  pub entering : IsEntering order n polynomials waiting bs
+
+-- where the old members are such a list, so are the new ones, of which others wait, whatever list the run is on
+pub record KeepsEntering (order : MonomialOrder) (n : ℕ) (before : List Terms) (old : List MarkedPolynomial) (after : List Terms) (new : List MarkedPolynomial) : Type 0 where
+  pub at : (fs : List Terms) → IsEntering order n fs before old → IsEntering order n fs after new
 
 -- the pair of p and q is taken before that of i and j
 abbrev pub IsEarlier : ℕ → ℕ → ℕ → ℕ → Type 0
@@ -116,3 +137,9 @@ pub record KeepsTurning (order : MonomialOrder) (n : ℕ) (old : List MarkedPoly
 -- each member of the one list is one of the other
 pub record AreKeptIn (old new : List MarkedPolynomial) : Type 0 where
   pub at : (b : MarkedPolynomial) → Contains old b → Contains new b
+
+-- where the members at the start are such a list, all polynomials are in the ideal at the end, and all pairs are settled, whatever list the run
+-- is on
+pub record LeadsToEnd (order : MonomialOrder) (n : ℕ) (waiting : List Terms) (start end : List MarkedPolynomial) : Type 0 where
+  pub turning : (fs : List Terms) → IsEntering order n fs waiting start → IsTurning order n fs end 0 (length end)
+  pub entered : (fs : List Terms) → IsEntering order n fs waiting start → AreTakenIn n fs end

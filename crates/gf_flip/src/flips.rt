@@ -2,44 +2,164 @@
 
 ghost use Rattle.std.specs.Prelude.{◌≡◌, ℕ, IfOk, IfErr, IfSome};
 ghost use Rattle.gf_poly.specs.Marking.{HaveVariables};
-ghost use Rattle.gf_order.specs.Weights.{AreBounded};
 ghost use Rattle.gf_buchberger.specs.Bases.{IsWantOfMemory, of_poly_error};
 ghost use Rattle.gf_flip.specs.Crossings.{IsCrossing, IsNeighbour};
-ghost use Rattle.gf_flip.specs.Along.{AreAlong, IsBasisOfParts};
+ghost use Rattle.gf_flip.specs.Along.{AreAlong, IsBasisOfParts, AreSmall};
 ghost use Rattle.gf_flip.specs.Operations.{IsFlipRefusal, IsFlipWithinLimits};
-ghost use Rattle.gf_flip.specs.Tops.{AreAloneWhere};
+ghost use Rattle.gf_flip.specs.Chosen.{IsRunOnParts, HasRunOnParts, AreLiftsOfParts};
 
 use crate::SpareLists;
-use crate::along::{are_single, parts};
+use crate::along::{Split, are_single, parts, split_parts};
+use crate::chosen::{all_members, alone_flags, chosen_lifts};
 use crate::lifts::lifts;
 use crate::limits::see_members;
+use crate::reduction::{autoreduced, picks};
 use crate::tails::reduced_tails;
-use crate::tops::top_lifts;
-use crate::turns::{Task, basis_by_queue, basis_in_turn};
+use crate::tops::{Lifts, top_lifts};
+use crate::turns::{Task, basis_by_queue, members_in_turn};
 use crate::weights::Facet;
 use crate::wide::wide_crossed;
 use gf_buchberger::{BasisError, refused};
 use gf_division::autoreduce;
 use gf_order::Order;
-use gf_poly::{Marked, MarkedSet, Poly, PolyError};
+use gf_poly::{Marked, MarkedSet, Mono, Poly, PolyError};
 use gf_vec::IntVec;
 use std::alloc::Global;
 
 /// Why there is no flip: as there may be no basis.
 pub type FlipError = BasisError;
 
-/// The reduced basis of the parts, for the order along the facet. The parts are moved into a run that takes the pairs in turn; where that is
-/// refused, they are taken out anew.
+/// A run on the parts: the monomials, which are the parts of the members at these places, and the members behind them.
+#[derive(Drop)]
+struct Run {
+    places: Vec<usize>,
+    marks: Vec<Mono>,
+    members: Vec<Marked>,
+}
+
+/// A run on the parts that takes the pairs in turn, by the order along the facet, if all numbers fit.
+fn run_in_turn(
+    alloc: Global,
+    set: &MarkedSet,
+    normal: &IntVec,
+    pairs: u64,
+    spare: &mut SpareLists,
+) -> Option<Run>
+    requires crossing { IsCrossing set.now.variables set.now.items normal.now }
+    requires bounded { AreSmall normal.now }
+    ensures { IfSome result (λ r. IsRunOnParts set.now.variables set.now.items normal.now r.places.items r.marks.items r.members.items) }
+{
+    let along = match normal.copy() {
+        Ok(along) => along,
+        Err(_) => return None,
+    };
+    let order = Order::facet(along);
+    let task = Task {
+        n: set.variables(),
+        order: &order,
+    };
+    let Split {
+        places,
+        marks,
+        list,
+    } = match split_parts(alloc, set.items(), normal.as_slice(), spare) {
+        Ok(split) => split,
+        Err(_) => return None,
+    };
+    let members = members_in_turn(alloc, &task, &marks, list, pairs)?;
+    Some(Run {
+        places,
+        marks,
+        members,
+    })
+}
+
+/// The lifts of the reduced basis of the parts, which end early, where members of the run have to be worked on.
+fn worked_lifts(
+    alloc: Global,
+    set: &MarkedSet,
+    normal: &IntVec,
+    marks: &[Mono],
+    members: Vec<Marked>,
+) -> Option<Lifts>
+    requires crossing { IsCrossing set.now.variables set.now.items normal.now }
+    requires bounded { AreSmall normal.now }
+    requires run { HasRunOnParts set.now.variables set.now.items normal.now marks.now members.items }
+    ensures { IfSome result (λ ls. AreLiftsOfParts set.now.variables set.now.items normal.now ls.members.items ls.copied.items) }
+{
+    let all = all_members(alloc, marks, members)?;
+    let below = autoreduced(alloc, set.variables(), all)?;
+    // Called for the proof alone: the members have the variables of their set.
+    let _ = below.items();
+    let items = set.items();
+    let normal = normal.as_slice();
+    let alone = alone_flags(alloc, items, normal)?;
+    top_lifts(alloc, below.into_items(), items, &alone, normal)
+}
+
+/// The lifts of the reduced basis of the parts, which end early, from a run on the parts, if all numbers fit.
+fn lifts_of_run(
+    alloc: Global,
+    set: &MarkedSet,
+    normal: &IntVec,
+    places: &[usize],
+    marks: &[Mono],
+    members: Vec<Marked>,
+    spare: &mut SpareLists,
+) -> Option<Lifts>
+    requires crossing { IsCrossing set.now.variables set.now.items normal.now }
+    requires bounded { AreSmall normal.now }
+    requires run { IsRunOnParts set.now.variables set.now.items normal.now places.now marks.now members.items }
+    ensures { IfSome result (λ ls. AreLiftsOfParts set.now.variables set.now.items normal.now ls.members.items ls.copied.items) }
+{
+    match picks(alloc, marks, &members) {
+        Some(flags) => chosen_lifts(
+            alloc,
+            set.items(),
+            normal.as_slice(),
+            places,
+            marks,
+            &members,
+            &flags,
+            spare,
+        ),
+        None => worked_lifts(alloc, set, normal, marks, members),
+    }
+}
+
+/// The same by a run that takes the pairs in turn.
+fn lifts_in_turn(
+    alloc: Global,
+    set: &MarkedSet,
+    normal: &IntVec,
+    pairs: u64,
+    spare: &mut SpareLists,
+) -> Option<Lifts>
+    requires crossing { IsCrossing set.now.variables set.now.items normal.now }
+    requires bounded { AreSmall normal.now }
+    ensures { IfSome result (λ ls. AreLiftsOfParts set.now.variables set.now.items normal.now ls.members.items ls.copied.items) }
+{
+    let Run {
+        places,
+        marks,
+        members,
+    } = run_in_turn(alloc, set, normal, pairs, spare)?;
+    let lifts = lifts_of_run(alloc, set, normal, &places, &marks, members, spare);
+    spare.leave(places, marks);
+    lifts
+}
+
+/// The reduced basis of the parts, for the order along the facet, by a queue of pairs.
 fn basis_of_parts(
     alloc: Global,
     set: &MarkedSet,
-    list: Vec<Poly>,
+    list: &[Poly],
     normal: &IntVec,
     pairs: u64,
 ) -> Result<MarkedSet, FlipError>
     requires crossing { IsCrossing set.now.variables set.now.items normal.now }
-    requires bounded { AreBounded normal.now }
-    requires along { AreAlong normal.now set.now.items list.items }
+    requires bounded { AreSmall normal.now }
+    requires along { AreAlong normal.now set.now.items list.now }
     ensures value { IfOk result (λ s. IsBasisOfParts set.now.variables set.now.items normal.now s.items) }
     ensures variables { IfOk result (λ s. HaveVariables set.now.variables s.items) }
     ensures cause { IfErr result (IsFlipRefusal set.now.variables set.now.items normal.now pairs) }
@@ -53,24 +173,54 @@ fn basis_of_parts(
         n: set.variables(),
         order: &order,
     };
-    if let Some(below) = basis_in_turn(alloc, &task, list, pairs) {
-        // Called for the proof alone: the members have the variables of their set.
-        let _ = below.items();
-        return Ok(below);
-    }
-    let again = match parts(
-        alloc,
-        set.items(),
-        normal.as_slice(),
-        &mut SpareLists::new(alloc),
-    ) {
-        Ok(again) => again,
-        Err(_) => return Err(BasisError::Memory),
-    };
-    let below = basis_by_queue(alloc, &task, &again, pairs)?;
+    let below = basis_by_queue(alloc, &task, list, pairs)?;
     // Called for the proof alone: the members have the variables of their set.
     let _ = below.items();
     Ok(below)
+}
+
+/// The lifts of that basis, which end early; none where numbers don't fit.
+fn lifts_by_queue(
+    alloc: Global,
+    set: &MarkedSet,
+    normal: &IntVec,
+    pairs: u64,
+) -> Result<Option<Lifts>, FlipError>
+    requires crossing { IsCrossing set.now.variables set.now.items normal.now }
+    requires bounded { AreSmall normal.now }
+    ensures value { IfOk result (λ lifts. IfSome lifts (λ ls. AreLiftsOfParts set.now.variables set.now.items normal.now ls.members.items ls.copied.items)) }
+    ensures cause { IfErr result (IsFlipRefusal set.now.variables set.now.items normal.now pairs) }
+{
+    let items = set.items();
+    let list = match parts(alloc, items, normal.as_slice(), &mut SpareLists::new(alloc)) {
+        Ok(list) => list,
+        Err(_) => return Err(BasisError::Memory),
+    };
+    let alone = match are_single(alloc, &list) {
+        Ok(alone) => alone,
+        Err(_) => return Err(BasisError::Memory),
+    };
+    let below = basis_of_parts(alloc, set, &list, normal, pairs)?;
+    Ok(top_lifts(alloc, below.into_items(), items, &alone, normal.as_slice()))
+}
+
+/// Lifts of the reduced basis of the parts, which end early, by the one way or, where numbers don't fit in that, by the other.
+fn early_lifts(
+    alloc: Global,
+    set: &MarkedSet,
+    normal: &IntVec,
+    pairs: u64,
+    spare: &mut SpareLists,
+) -> Result<Option<Lifts>, FlipError>
+    requires crossing { IsCrossing set.now.variables set.now.items normal.now }
+    requires bounded { AreSmall normal.now }
+    ensures value { IfOk result (λ lifts. IfSome lifts (λ ls. AreLiftsOfParts set.now.variables set.now.items normal.now ls.members.items ls.copied.items)) }
+    ensures cause { IfErr result (IsFlipRefusal set.now.variables set.now.items normal.now pairs) }
+{
+    if let Some(lifts) = lifts_in_turn(alloc, set, normal, pairs, spare) {
+        return Ok(Some(lifts));
+    }
+    lifts_by_queue(alloc, set, normal, pairs)
 }
 
 /// The basis on the other side, from the remainders by the set.
@@ -128,7 +278,7 @@ fn literal(
     pairs: u64,
 ) -> Result<MarkedSet, FlipError>
     requires crossing { IsCrossing set.now.variables set.now.items normal.now }
-    requires bounded { AreBounded normal.now }
+    requires bounded { AreSmall normal.now }
     ensures value { IfOk result (λ t. IsNeighbour set.now.variables set.now.items normal.now t.items) }
     ensures variables { IfOk result (λ t. t.variables ≡ set.now.variables) }
     ensures cause { IfErr result (IsFlipRefusal set.now.variables set.now.items normal.now pairs) }
@@ -142,7 +292,7 @@ fn literal(
         Ok(list) => list,
         Err(_) => return Err(BasisError::Memory),
     };
-    let below = basis_of_parts(alloc, set, list, normal, pairs)?;
+    let below = basis_of_parts(alloc, set, &list, normal, pairs)?;
     match lifted_across(alloc, set, below.items(), normal) {
         Ok(across) => Ok(across),
         Err(refusal) => Err(refused(refusal)),
@@ -150,26 +300,21 @@ fn literal(
 }
 
 /// The basis on the other side, from lifts that end early, if all numbers fit.
-fn early(
+fn across(
     alloc: Global,
     set: &MarkedSet,
-    below: MarkedSet,
-    alone: &[bool],
+    lifts: Lifts,
     normal: &IntVec,
     inside: &[i128],
 ) -> Option<MarkedSet>
     requires crossing { IsCrossing set.now.variables set.now.items normal.now }
-    requires alone { AreAloneWhere normal.now set.now.items alone.now }
-    requires bounded { AreBounded normal.now }
-    requires variables { HaveVariables set.now.variables below.items }
-    requires parts { IsBasisOfParts set.now.variables set.now.items normal.now below.items }
+    requires lifts { AreLiftsOfParts set.now.variables set.now.items normal.now lifts.members.items lifts.copied.items }
     ensures value { IfSome result (λ t. IsNeighbour set.now.variables set.now.items normal.now t.items) }
     ensures variables { IfSome result (λ t. t.variables ≡ set.now.variables) }
 {
     let n = set.variables();
     let normal = normal.as_slice();
-    let lifted = top_lifts(alloc, below.into_items(), set.items(), alone, normal)?;
-    let members = reduced_tails(alloc, n, lifted, Facet { inside, normal })?;
+    let members = reduced_tails(alloc, n, lifts, Facet { inside, normal })?;
     let all = MarkedSet::new(n, members);
     match all.arrange() {
         Ok(across) => Some(across),
@@ -197,18 +342,10 @@ pub fn flip_near(
     ensures cause { IfErr result (IsFlipRefusal set.now.variables set.now.items normal.now pairs) }
     ensures complete { IsFlipWithinLimits set.now.variables set.now.items normal.now pairs → IfErr result IsWantOfMemory }
 {
-    let items = set.items();
-    see_members(items);
-    let list = match parts(alloc, items, normal.as_slice(), spare) {
-        Ok(list) => list,
-        Err(_) => return Err(BasisError::Memory),
-    };
-    let alone = match are_single(alloc, &list) {
-        Ok(alone) => alone,
-        Err(_) => return Err(BasisError::Memory),
-    };
-    let below = basis_of_parts(alloc, set, list, normal, pairs)?;
-    if let Some(across) = early(alloc, set, below, &alone, normal, inside) {
+    see_members(set.items());
+    if let Some(lifts) = early_lifts(alloc, set, normal, pairs, spare)?
+        && let Some(across) = across(alloc, set, lifts, normal, inside)
+    {
         return Ok(across);
     }
     literal(alloc, set, normal, pairs)

@@ -4,7 +4,9 @@
 #![tactic(auto)]
 
 mod along;
+mod chosen;
 mod flips;
+mod forms;
 mod lifts;
 mod limits;
 mod reduction;

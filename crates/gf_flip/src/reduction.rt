@@ -1,77 +1,72 @@
-//! The reduced basis of the members of a run. Where no mark divides a tail, which is usual for few small polynomials, nothing is
-//! worked out or copied: the members that aren't needed are dropped.
+//! Which monomials and members of a run are needed, and the reduced basis of members. Where no mark divides a tail, which is usual for few
+//! small polynomials, nothing is worked out or copied: the members that aren't needed are dropped.
 
-ghost use Rattle.std.specs.Prelude.{◌<◌, false, length, IfSome, IsTrue};
+ghost use Rattle.std.specs.Prelude.{◌≡◌, ◌<◌, false, length, IfSome, IsTrue};
 ghost use Rattle.gf_poly.specs.Marking.{HaveVariables};
 ghost use Rattle.gf_ideal.specs.Marks.{IsRealisable};
-ghost use Rattle.gf_division.specs.Autoreduction.{ShareSomeVariables, IsNeededAt};
-ghost use Rattle.gf_flip.specs.Settling.{IsSettledAt, IsPick, ArePickFlags, IsKeptWhere, IsPickedFrom, IsReducedForm};
+ghost use Rattle.gf_division.specs.Autoreduction.{ShareSomeVariables};
+ghost use Rattle.gf_flip.specs.Lifting.{AreMonic};
+ghost use Rattle.gf_flip.specs.Monomials.{with_monomials, AreMonomialsApart, AreLaterUndivided};
+ghost use Rattle.gf_flip.specs.Settling.{AreUndividedFrom, IsDividedFrom, IsPick, ArePickFlags, IsReducedForm};
 
 use crate::room::with_room;
 use crate::tails::is_reduced;
-use crate::turns::is_monic;
-use gf_division::{autoreduce, is_needed};
-use gf_poly::{Marked, MarkedSet};
+use gf_division::autoreduce;
+use gf_poly::{Marked, MarkedSet, Mono};
 use std::alloc::Global;
 
-/// Whether the member at the place `i` is monic, and no mark divides its tail.
-fn is_settled(items: &[Marked], i: usize) -> bool
-    requires within { i < length items.now }
-    requires variables { ShareSomeVariables items.now }
-    ensures { IsTrue result → IsSettledAt items.now i }
+/// Whether no mark from a place on divides `x`.
+fn is_left(x: &Mono, members: &[Marked], from: usize) -> bool
+    requires { HaveVariables (length x.now) members.now }
+    ensures left { IsTrue result → AreUndividedFrom members.now from x.now }
+    ensures divided { result ≡ false → IsDividedFrom members.now from x.now }
 {
-    let member = &items[i];
-    if !is_monic(member) {
-        return false;
-    }
-    // Called for the proof alone: the mark is that of a term.
-    let _ = member.head();
-    is_reduced(member, items)
-}
-
-/// Whether no other mark divides that of the member at the place `i`, which is needed then.
-fn stands(items: &[Marked], i: usize) -> bool
-    requires within { i < length items.now }
-    requires variables { ShareSomeVariables items.now }
-    ensures { IsTrue result → IsNeededAt items.now i }
-{
-    let head = items[i].head();
-    'earlier: for j in 0..i {
-        if items[j].head().divides(head) {
-            return false;
-        }
-    }
-    'later: for j in i + 1..items.len() {
-        if items[j].head().divides(head) {
+    'members: for j in from..members.len() {
+        if members[j].head().divides(x) {
             return false;
         }
     }
     true
 }
 
-/// Whether the member at the place `i` is needed; nothing where it is and has to be worked on.
-fn pick(items: &[Marked], i: usize) -> Option<bool>
-    requires within { i < length items.now }
-    requires variables { ShareSomeVariables items.now }
-    ensures { IfSome result (IsPick items.now i) }
+/// Whether the member at the place `j` is needed; nothing where it is, but its tail has to be worked on.
+fn pick(members: &[Marked], j: usize) -> Option<bool>
+    requires within { j < length members.now }
+    requires variables { ShareSomeVariables members.now }
+    requires monic { AreMonic members.now }
+    requires later { AreLaterUndivided members.now }
+    ensures { IfSome result (IsPick members.now j) }
 {
-    if !stands(items, i) && !is_needed(items, i) {
+    let member = &members[j];
+    if !is_left(member.head(), members, j + 1) {
         return Some(false);
     }
-    if !is_settled(items, i) {
+    // No earlier mark divides a term of it.
+    if !is_reduced(member, &members[j..]) {
         return None;
     }
     Some(true)
 }
 
-/// Of each member whether it is needed; nothing where a needed one has to be worked on.
-fn picks(alloc: Global, items: &[Marked]) -> Option<Vec<bool>>
-    requires { ShareSomeVariables items.now }
-    ensures { IfSome result (λ flags. ArePickFlags items.now flags.items (length items.now)) }
+/// Of each member whether it is needed, first of the monomials and then of the others; nothing where a needed one has to be worked on.
+/// No mark divides a monomial of a later one, and no monomial another one.
+pub fn picks(alloc: Global, marks: &[Mono], members: &[Marked]) -> Option<Vec<bool>>
+    requires variables { ShareSomeVariables (with_monomials marks.now members.now) }
+    requires monic { AreMonic members.now }
+    requires apart { AreMonomialsApart marks.now }
+    requires later { AreLaterUndivided (with_monomials marks.now members.now) }
+    ensures { IfSome result (λ flags. ArePickFlags (with_monomials marks.now members.now) flags.items (length (with_monomials marks.now members.now))) }
 {
-    let mut flags = with_room(alloc, items.len())?;
-    'members: for i in 0..items.len() {
-        let needed = pick(items, i)?;
+    let mut flags = with_room(alloc, marks.len().saturating_add(members.len()))?;
+    'marks: for i in 0..marks.len() {
+        let needed = is_left(&marks[i], members, 0);
+        match flags.push(needed) {
+            Ok(()) => {}
+            Err(_) => return None,
+        }
+    }
+    'members: for j in 0..members.len() {
+        let needed = pick(members, j)?;
         match flags.push(needed) {
             Ok(()) => {}
             Err(_) => return None,
@@ -80,35 +75,8 @@ fn picks(alloc: Global, items: &[Marked]) -> Option<Vec<bool>>
     Some(flags)
 }
 
-/// Adds a member, unless it isn't picked.
-fn keep(kept: &mut Vec<Marked>, member: Marked, needed: bool) -> Option<()>
-    ensures { IfSome result (λ _. IsKeptWhere needed member kept.old.items kept.new.items) }
-{
-    if !needed {
-        return Some(());
-    }
-    match kept.push(member) {
-        Ok(()) => Some(()),
-        Err(_) => None,
-    }
-}
-
-/// The picked members.
-fn picked(alloc: Global, members: Vec<Marked>, flags: &[bool]) -> Option<Vec<Marked>>
-    requires { ArePickFlags members.items flags.now (length members.items) }
-    ensures { IfSome result (λ kept. IsPickedFrom members.items kept.items) }
-{
-    let mut kept = with_room(alloc, flags.len())?;
-    let mut i = 0;
-    'members: for member in members {
-        keep(&mut kept, member, flags[i])?;
-        i += 1;
-    }
-    Some(kept)
-}
-
-/// The members autoreduced.
-fn autoreduced(alloc: Global, n: u32, members: Vec<Marked>) -> Option<MarkedSet>
+/// The members autoreduced, if all numbers fit.
+pub fn autoreduced(alloc: Global, n: u32, members: Vec<Marked>) -> Option<MarkedSet>
     requires variables { HaveVariables n members.items }
     requires realisable { IsRealisable n members.items }
     ensures { IfSome result (IsReducedForm n members.items) }
@@ -117,31 +85,5 @@ fn autoreduced(alloc: Global, n: u32, members: Vec<Marked>) -> Option<MarkedSet>
     match autoreduce(alloc, &set) {
         Ok(basis) => Some(basis),
         Err(_) => None,
-    }
-}
-
-/// The picked members arranged.
-fn arranged(alloc: Global, n: u32, members: Vec<Marked>, flags: &[bool]) -> Option<MarkedSet>
-    requires variables { HaveVariables n members.items }
-    requires realisable { IsRealisable n members.items }
-    requires picked { ArePickFlags members.items flags.now (length members.items) }
-    ensures { IfSome result (IsReducedForm n members.items) }
-{
-    let kept = picked(alloc, members, flags)?;
-    match MarkedSet::new(n, kept).arrange() {
-        Ok(basis) => Some(basis),
-        Err(_) => None,
-    }
-}
-
-/// The members autoreduced, if all numbers fit.
-pub fn reduced_form(alloc: Global, n: u32, members: Vec<Marked>) -> Option<MarkedSet>
-    requires variables { HaveVariables n members.items }
-    requires realisable { IsRealisable n members.items }
-    ensures { IfSome result (IsReducedForm n members.items) }
-{
-    match picks(alloc, &members) {
-        Some(flags) => arranged(alloc, n, members, &flags),
-        None => autoreduced(alloc, n, members),
     }
 }

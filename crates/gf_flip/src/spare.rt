@@ -2,13 +2,25 @@
 
 ghost use Rattle.std.specs.Prelude.{◌≡◌, [], IfOk};
 
-use gf_poly::{Marked, MarkedSet, Poly, Term};
+use gf_poly::{Marked, MarkedSet, Mono, Poly, Term};
 use std::alloc::{AllocError, Global};
+use std::mem;
 
-/// Lists of terms that nobody needs any more. Nothing that is told rests on them.
+/// Lists of terms, of places and of monomials that nobody needs any more. Nothing that is told rests on them.
 #[derive(Drop)]
 pub struct SpareLists {
     lists: Vec<Poly>,
+    places: Vec<usize>,
+    marks: Vec<Mono>,
+}
+
+/// The memory of a list, emptied; an empty list stays.
+fn emptied<T: Drop>(alloc: Global, list: &mut Vec<T>) -> Vec<T>
+    ensures { result.items ≡ [] }
+{
+    let mut old = mem::replace(list, Vec::new(alloc));
+    old.clear();
+    old
 }
 
 impl SpareLists {
@@ -16,6 +28,8 @@ impl SpareLists {
     pub fn new(alloc: Global) -> SpareLists {
         SpareLists {
             lists: Vec::new(alloc),
+            places: Vec::new(alloc),
+            marks: Vec::new(alloc),
         }
     }
 
@@ -50,5 +64,25 @@ impl SpareLists {
         }
         let list = Vec::with_capacity(alloc, n)?;
         Ok(list)
+    }
+
+    /// An empty list of places, in the memory of an old one.
+    pub(crate) fn places(&mut self, alloc: Global) -> Vec<usize>
+        ensures { result.items ≡ [] }
+    {
+        emptied(alloc, &mut self.places)
+    }
+
+    /// An empty list of monomials, in the memory of an old one.
+    pub(crate) fn marks(&mut self, alloc: Global) -> Vec<Mono>
+        ensures { result.items ≡ [] }
+    {
+        emptied(alloc, &mut self.marks)
+    }
+
+    /// Keeps the memory of a list of places and of one of monomials.
+    pub(crate) fn leave(&mut self, places: Vec<usize>, marks: Vec<Mono>) {
+        self.places = places;
+        self.marks = marks;
     }
 }

@@ -8,8 +8,7 @@ ghost use Rattle.gf_division.specs.NormalForms.{HasSomeWeight};
 ghost use Rattle.gf_division.specs.Dividends.{split_of, joined_terms, IsSound};
 ghost use Rattle.gf_division.specs.Reducers.{IsDivisorAt, IsReducibleFirst, IsSought};
 ghost use Rattle.gf_initial.specs.Lifts.{IsTopLift, AreTopLifts};
-ghost use Rattle.gf_order.specs.Weights.{AreBounded};
-ghost use Rattle.gf_flip.specs.Along.{HasNonzero};
+ghost use Rattle.gf_flip.specs.Along.{HasNonzero, AreSmall};
 ghost use Rattle.gf_flip.specs.Lifting.{AreMonic};
 ghost use Rattle.gf_ideal.specs.Reduction.{HasOneMonomial};
 ghost use Rattle.gf_flip.specs.Tops.{AreOff, IsTopRemainder, AreAloneWhere, IsDividedAt, IsMarkedAt};
@@ -44,7 +43,7 @@ fn reducer_on_line(
     requires members { HaveVariables (length normal.now) by.now }
     requires same_length { length y.now ≡ length normal.now }
     requires same_variables { length x.now ≡ length normal.now }
-    requires bounded { AreBounded normal.now }
+    requires bounded { AreSmall normal.now }
     requires inside { pivot < length normal.now }
     requires nonzero { get_or normal.now pivot (pos 0) ≢ pos 0 }
     ensures { IfSome result (IsDivisorAt by.now y.now) }
@@ -67,7 +66,7 @@ fn seek_line(
     requires sound { IsSound (length normal.now) (split_of rest.old) }
     requires members { HaveVariables (length normal.now) by.now }
     requires variables { length x.now ≡ length normal.now }
-    requires bounded { AreBounded normal.now }
+    requires bounded { AreSmall normal.now }
     requires inside { pivot < length normal.now }
     requires nonzero { get_or normal.now pivot (pos 0) ≢ pos 0 }
     ensures same { IfSome result (λ _. joined_terms (split_of rest.new) ≡ joined_terms (split_of rest.old)) }
@@ -99,7 +98,7 @@ fn reducer_at(
     requires sound { IsSound (length normal.now) (split_of rest.old) }
     requires members { HaveVariables (length normal.now) by.now }
     requires variables { length x.now ≡ length normal.now }
-    requires bounded { AreBounded normal.now }
+    requires bounded { AreSmall normal.now }
     requires inside { pivot < length normal.now }
     requires nonzero { get_or normal.now pivot (pos 0) ≢ pos 0 }
     ensures same { IfSome result (λ _. joined_terms (split_of rest.new) ≡ joined_terms (split_of rest.old)) }
@@ -127,7 +126,7 @@ fn seek_last(
     requires sound { IsSound (length normal.now) (split_of rest.old) }
     requires members { HaveVariables (length normal.now) by.now }
     requires variables { length x.now ≡ length normal.now }
-    requires bounded { AreBounded normal.now }
+    requires bounded { AreSmall normal.now }
     requires inside { pivot < length normal.now }
     requires nonzero { get_or normal.now pivot (pos 0) ≢ pos 0 }
     ensures same { IfSome result (λ _. joined_terms (split_of rest.new) ≡ joined_terms (split_of rest.old)) }
@@ -168,7 +167,7 @@ fn seek(
     requires sound { IsSound (length normal.now) (split_of rest.old) }
     requires members { HaveVariables (length normal.now) by.now }
     requires variables { length x.now ≡ length normal.now }
-    requires bounded { AreBounded normal.now }
+    requires bounded { AreSmall normal.now }
     requires inside { pivot < length normal.now }
     requires nonzero { get_or normal.now pivot (pos 0) ≢ pos 0 }
     ensures same { IfSome result (λ _. joined_terms (split_of rest.new) ≡ joined_terms (split_of rest.old)) }
@@ -200,7 +199,7 @@ fn leads_up(normal: &[i128]) -> bool {
 fn is_off(terms: &[Term], x: &Mono, normal: &[i128], pivot: usize) -> bool
     requires terms { HasVariables (length normal.now) terms.now }
     requires variables { length x.now ≡ length normal.now }
-    requires bounded { AreBounded normal.now }
+    requires bounded { AreSmall normal.now }
     requires inside { pivot < length normal.now }
     requires nonzero { get_or normal.now pivot (pos 0) ≢ pos 0 }
     ensures { IsTrue result → AreOff normal.now x.now terms.now }
@@ -229,7 +228,7 @@ fn top_remainder(
     requires poly { HasVariables (length normal.now) f }
     requires members { HaveVariables (length normal.now) by.now }
     requires variables { length x.now ≡ length normal.now }
-    requires bounded { AreBounded normal.now }
+    requires bounded { AreSmall normal.now }
     requires inside { pivot < length normal.now }
     requires nonzero { get_or normal.now pivot (pos 0) ≢ pos 0 }
     ensures { IfSome result (IsTopRemainder by.now normal.now x.now f) }
@@ -256,7 +255,7 @@ fn top_remainder(
 }
 
 /// A member less what steps by the set lead to, marked as it is.
-fn top_lift(
+pub fn top_lift(
     alloc: Global,
     member: &Marked,
     by: &[Marked],
@@ -267,7 +266,7 @@ fn top_lift(
     requires poly { HasVariables (length normal.now) member.now.poly }
     requires monic { coefficient member.now.poly member.now.head ≡ one_ℚ }
     requires members { HaveVariables (length normal.now) by.now }
-    requires bounded { AreBounded normal.now }
+    requires bounded { AreSmall normal.now }
     requires inside { pivot < length normal.now }
     requires nonzero { get_or normal.now pivot (pos 0) ≢ pos 0 }
     ensures value { IfSome result (IsTopLift by.now normal.now member.now) }
@@ -325,12 +324,12 @@ fn other_end(member: &Marked) -> &Mono {
 
 /// The lift where the member is the part of a member of the set, divided by a number and marked elsewhere: that member divided by the number. A step by it
 /// leads to what isn't a multiple of the normal apart from the mark.
-fn divided_lift(member: &Marked, by: &[Marked], normal: &[i128], pivot: usize) -> Option<Marked>
+pub fn divided_lift(member: &Marked, by: &[Marked], normal: &[i128], pivot: usize) -> Option<Marked>
     requires marked { HasSomeWeight by.now }
     requires poly { HasVariables (length normal.now) member.now.poly }
     requires monic { coefficient member.now.poly member.now.head ≡ one_ℚ }
     requires members { HaveVariables (length normal.now) by.now }
-    requires bounded { AreBounded normal.now }
+    requires bounded { AreSmall normal.now }
     requires inside { pivot < length normal.now }
     requires nonzero { get_or normal.now pivot (pos 0) ≢ pos 0 }
     ensures value { IfSome result (IsTopLift by.now normal.now member.now) }
@@ -368,7 +367,7 @@ fn lifted(
     requires poly { HasVariables (length normal.now) member.poly }
     requires monic { coefficient member.poly member.head ≡ one_ℚ }
     requires members { HaveVariables (length normal.now) by.now }
-    requires bounded { AreBounded normal.now }
+    requires bounded { AreSmall normal.now }
     requires inside { pivot < length normal.now }
     requires nonzero { get_or normal.now pivot (pos 0) ≢ pos 0 }
     ensures value { IfSome result (λ l. IsTopLift by.now normal.now member l.0) }
@@ -434,7 +433,7 @@ fn untouched(member: &Marked, by: &[Marked], from: usize, alone: &[bool]) -> Opt
 }
 
 /// Adds a lift.
-fn push(lifts: &mut Lifts, lift: Marked, is_copy: bool) -> Option<()>
+pub fn push(lifts: &mut Lifts, lift: Marked, is_copy: bool) -> Option<()>
     ensures members { IfSome result (λ _. lifts.new.members.items ≡ lifts.old.members.items ++ lift ∷ []) }
     ensures copied { IfSome result (λ _. lifts.new.copied.items ≡ lifts.old.copied.items ++ is_copy ∷ []) }
 {
@@ -463,7 +462,7 @@ pub fn top_lifts(
     requires variables { HaveVariables (length normal.now) items.items }
     requires monic { AreMonic items.items }
     requires members { HaveVariables (length normal.now) by.now }
-    requires bounded { AreBounded normal.now }
+    requires bounded { AreSmall normal.now }
     requires nonzero { HasNonzero normal.now }
     ensures value { IfSome result (λ ls. AreTopLifts by.now normal.now items.items ls.members.items) }
     ensures variables { IfSome result (λ ls. HaveVariables (length normal.now) ls.members.items) }

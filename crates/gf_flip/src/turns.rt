@@ -1,23 +1,24 @@
-//! The reduced basis of few small polynomials by a run that takes the pairs in turn: no pair waits in a queue, and none is
-//! marked. Nothing is told of a refusal.
+//! A run that takes the pairs in turn, on few small polynomials: no pair waits in a queue, and none is marked. Polynomials that are one term
+//! alone are given by their monomials, which stand in front of the members, and have no pair among themselves. Nothing is told of a
+//! refusal.
 
 ghost use Rattle.std.specs.Prelude.{◌≡◌, ◌≢◌, ◌+◌, ◌<◌, ◌≤◌, true, false, [], length, Contains, IfSome, IfOk, IfErr, IsTrue};
 ghost use Rattle.gf_frac.specs.Fraction.{one_ℚ};
 ghost use Rattle.gf_exponents.specs.Exponents.{Divides, join, minus, plus};
-ghost use Rattle.gf_poly.specs.Polynomial.{HasVariables, KeepsVariables};
+ghost use Rattle.gf_poly.specs.Polynomial.{HasVariables};
 ghost use Rattle.gf_poly.specs.Marking.{HasMark, HaveVariables};
-ghost use Rattle.gf_ideal.specs.NormalForms.{IsNormalForm};
-ghost use Rattle.gf_ideal.specs.Reduction.{HasOneMonomial, IsDivisible, IsIrreducible};
-ghost use Rattle.gf_division.specs.NormalForms.{HasSomeWeight, HaveSameVariables};
+ghost use Rattle.gf_ideal.specs.Reduction.{IsDivisible, IsIrreducible};
+ghost use Rattle.gf_division.specs.NormalForms.{HasSomeWeight};
 ghost use Rattle.gf_buchberger.specs.Jobs.{IsBasisJob};
 ghost use Rattle.gf_buchberger.specs.Runs.{IsAppendable};
 ghost use Rattle.gf_buchberger.specs.Bases.{IsArrangedBasis, IsBasisRefusal};
-ghost use Rattle.gf_flip.specs.Turns.{ArePairExcused, IsChained, HasCover, HasCoveredTail, IsPairCovered, IsMadeFrom, IsGrown, IsTakenIn, IsSortedIn, IsUnderway, AreTakenIn, AreSingleTo, HasTurning, KeepsTurning, IsTurning, AreKeptIn};
+ghost use Rattle.gf_flip.specs.Monomials.{with_monomials};
+ghost use Rattle.gf_flip.specs.Turns.{AreUndividedBy, ArePairExcused, IsChained, HasCover, HasCoveredTail, IsPairCovered, IsMadeFrom, IsGrown, IsTakenIn, HasEntering, KeepsEntering, LeadsToEnd, HasTurning, KeepsTurning, AreKeptIn};
 
-use crate::reduction::reduced_form;
+use crate::forms::{monomial, monomial_below, remainder_of, remainder_of_part};
 use crate::room::with_room;
 use gf_buchberger::{BasisError, are_coprime, basis, is_single, leading_place, wide_basis};
-use gf_division::{divisor_of, reduced, s_poly};
+use gf_division::{divisor_of, s_poly};
 use gf_frac::Frac;
 use gf_order::Order;
 use gf_poly::{Marked, MarkedSet, Mono, Poly};
@@ -41,68 +42,54 @@ fn is_excused(b: &Marked, c: &Marked) -> bool
     are_coprime(b.head(), c.head())
 }
 
-/// Whether the mark of one of `before` divides the least common multiple of the marks: where its pairs with both are settled, so is this
-/// one (Buchberger's second criterion; Becker, Weispfenning, *Gröbner Bases*, 5.5).
-fn is_chained(multiple: &Mono, before: &[Marked]) -> bool
-    requires { HaveVariables (length multiple.now) before.now }
-    ensures { IsTrue result → IsChained before.now multiple.now }
+/// Whether a monomial divides `x`.
+fn is_covered(x: &Mono, marks: &[Mono]) -> bool
+    requires { HaveVariables (length x.now) (with_monomials marks.now []) }
+    ensures { IsTrue result → HasCover (with_monomials marks.now []) x.now }
 {
+    monomial_below(x, marks).is_some()
+}
+
+/// Whether a monomial or the mark of one of `before` divides the least common multiple of the marks: where its pairs with both are settled,
+/// so is this one (Buchberger's second criterion; Becker, Weispfenning, *Gröbner Bases*, 5.5).
+fn is_chained(multiple: &Mono, marks: &[Mono], before: &[Marked]) -> bool
+    requires monomials { HaveVariables (length multiple.now) (with_monomials marks.now []) }
+    requires members { HaveVariables (length multiple.now) before.now }
+    ensures { IsTrue result → IsChained (with_monomials marks.now before.now) multiple.now }
+{
+    if is_covered(multiple, marks) {
+        return true;
+    }
     divisor_of(multiple, before).is_some()
 }
 
-/// Whether the member is one term alone, and its mark divides `x`.
-fn covers(member: &Marked, x: &Mono) -> bool
-    requires { HasVariables (length x.now) member.now.poly }
-    ensures single { IsTrue result → HasOneMonomial member.now }
-    ensures divides { IsTrue result → Divides member.now.head x.now }
-{
-    if !is_single(member) {
-        return false;
-    }
-    member.head().divides(x)
-}
-
-/// Whether the mark of a member that is one term alone divides `x`.
-fn is_covered(x: &Mono, by: &[Marked]) -> bool
-    requires { HaveVariables (length x.now) by.now }
-    ensures { IsTrue result → HasCover by.now x.now }
-{
-    'members: for j in 0..by.len() {
-        let member = &by[j];
-        if covers(member, x) {
-            return true;
-        }
-    }
-    false
-}
-
-/// Whether a term at `x` is the marked one, or a member covers the product with `shift`.
-fn is_term_covered(x: &Mono, shift: &Mono, by: &[Marked], is_marked: bool) -> bool
+/// Whether a term at `x` is the marked one, or a monomial divides the product with `shift`.
+fn is_term_covered(x: &Mono, shift: &Mono, marks: &[Mono], is_marked: bool) -> bool
     requires same_variables { length shift.now ≡ length x.now }
-    requires members { HaveVariables (length x.now) by.now }
-    ensures { IsTrue result → is_marked ≡ false → HasCover by.now (plus shift.now x.now) }
+    requires monomials { HaveVariables (length x.now) (with_monomials marks.now []) }
+    ensures { IsTrue result → is_marked ≡ false → HasCover (with_monomials marks.now []) (plus shift.now x.now) }
 {
     if is_marked {
         return true;
     }
     match shift.mul(x) {
-        Ok(product) => is_covered(&product, by),
+        Ok(product) => is_covered(&product, marks),
         Err(_) => false,
     }
 }
 
 /// Whether the product of each unmarked term with the shift is covered.
-fn is_shifted_covered(member: &Marked, shift: &Mono, by: &[Marked]) -> bool
+fn is_shifted_covered(member: &Marked, shift: &Mono, marks: &[Mono]) -> bool
     requires variables { HasVariables (length shift.now) member.now.poly }
-    requires members { HaveVariables (length shift.now) by.now }
-    ensures { IsTrue result → HasCoveredTail by.now shift.now member.now }
+    requires monomials { HaveVariables (length shift.now) (with_monomials marks.now []) }
+    ensures { IsTrue result → HasCoveredTail (with_monomials marks.now []) shift.now member.now }
 {
     // Called for the proof alone: the mark is that of a term.
     let _ = member.head();
     let terms = member.poly().terms();
     'terms: for k in 0..terms.len() {
         let t = &terms[k];
-        if !is_term_covered(&t.mono, shift, by, k == member.index()) {
+        if !is_term_covered(&t.mono, shift, marks, k == member.index()) {
             return false;
         }
     }
@@ -110,31 +97,31 @@ fn is_shifted_covered(member: &Marked, shift: &Mono, by: &[Marked]) -> bool
 }
 
 /// Whether each unmarked term, raised as the mark is to the multiple, is covered.
-fn is_tail_covered(member: &Marked, multiple: &Mono, by: &[Marked]) -> bool
+fn is_tail_covered(member: &Marked, multiple: &Mono, marks: &[Mono]) -> bool
     requires multiple { Divides member.now.head multiple.now }
     requires variables { HasVariables (length multiple.now) member.now.poly }
-    requires members { HaveVariables (length multiple.now) by.now }
-    ensures { IsTrue result → HasCoveredTail by.now (minus multiple.now member.now.head) member.now }
+    requires monomials { HaveVariables (length multiple.now) (with_monomials marks.now []) }
+    ensures { IsTrue result → HasCoveredTail (with_monomials marks.now []) (minus multiple.now member.now.head) member.now }
 {
     if is_single(member) {
         return true;
     }
     let shift = multiple.quotient(member.head());
-    is_shifted_covered(member, &shift, by)
+    is_shifted_covered(member, &shift, marks)
 }
 
 /// Whether each term that the S-polynomial may have is covered: steps at single terms lead to zero, and it needn't be made.
-fn is_pair_covered(b: &Marked, c: &Marked, multiple: &Mono, by: &[Marked]) -> bool
+fn is_pair_covered(b: &Marked, c: &Marked, multiple: &Mono, marks: &[Mono]) -> bool
     requires multiple { multiple.now ≡ join b.now.head c.now.head }
     requires first { HasVariables (length multiple.now) b.now.poly }
     requires second { HasVariables (length multiple.now) c.now.poly }
-    requires members { HaveVariables (length multiple.now) by.now }
-    ensures { IsTrue result → IsPairCovered by.now b.now c.now }
+    requires monomials { HaveVariables (length multiple.now) (with_monomials marks.now []) }
+    ensures { IsTrue result → IsPairCovered (with_monomials marks.now []) b.now c.now }
 {
-    if !is_tail_covered(b, multiple, by) {
+    if !is_tail_covered(b, multiple, marks) {
         return false;
     }
-    is_tail_covered(c, multiple, by)
+    is_tail_covered(c, multiple, marks)
 }
 
 /// The fraction 1.
@@ -145,7 +132,7 @@ pub fn one() -> Frac
 }
 
 /// Whether the marked coefficient is 1.
-pub fn is_monic(member: &Marked) -> bool
+fn is_monic(member: &Marked) -> bool
     ensures { IsTrue result → HasMark member.now one_ℚ }
 {
     member.coefficient() == one()
@@ -192,44 +179,19 @@ pub fn is_divisible(x: &Mono, by: &[Marked]) -> bool
     }
 }
 
-/// Whether no mark divides a term.
-fn is_irreducible(f: &Poly, by: &[Marked]) -> bool
-    requires { HaveSameVariables f.now by.now }
-    ensures { IsTrue result → IsIrreducible (Contains by.now) f.now }
+/// Reduces a polynomial by the monomials and the members; what is left is a new member.
+fn take_in(
+    alloc: Global,
+    members: &mut Vec<Marked>,
+    marks: &[Mono],
+    order: &Order,
+    f: Poly,
+) -> Option<()>
+    requires variables { IsAppendable order.now f (with_monomials marks.now members.old.items) }
+    requires marked { HasSomeWeight (with_monomials marks.now members.old.items) }
+    ensures { IfSome result (λ _. IsTakenIn order.now f (with_monomials marks.now members.old.items) (with_monomials marks.now members.new.items)) }
 {
-    let terms = f.terms();
-    'terms: for k in 0..terms.len() {
-        let t = &terms[k];
-        if is_divisible(&t.mono, by) {
-            return false;
-        }
-    }
-    true
-}
-
-/// The normal form by the members, if all numbers fit; where no mark divides a term it is the polynomial, which is moved.
-fn normal_of(alloc: Global, f: Poly, by: &[Marked]) -> Option<Poly>
-    requires marked { HasSomeWeight by.now }
-    requires variables { HaveSameVariables f by.now }
-    ensures value { IfSome result (IsNormalForm by.now f) }
-    ensures variables { IfSome result (KeepsVariables f) }
-{
-    if is_irreducible(&f, by) {
-        return Some(f);
-    }
-    match reduced(alloc, f, by) {
-        Ok(r) => Some(r),
-        Err(_) => None,
-    }
-}
-
-/// Reduces a polynomial by the members; what is left is a new member.
-fn take_in(alloc: Global, members: &mut Vec<Marked>, order: &Order, f: Poly) -> Option<()>
-    requires variables { IsAppendable order.now f members.old.items }
-    requires marked { HasSomeWeight members.old.items }
-    ensures { IfSome result (λ _. IsTakenIn order.now f members.old.items members.new.items) }
-{
-    let r = normal_of(alloc, f, members)?;
+    let r = remainder_of(alloc, f, marks, members)?;
     if r.is_zero() {
         return Some(());
     }
@@ -237,151 +199,180 @@ fn take_in(alloc: Global, members: &mut Vec<Marked>, order: &Order, f: Poly) -> 
     Some(())
 }
 
-/// Takes a polynomial in that is one term alone; another one waits.
-fn sort_in(
+/// The same of a polynomial of which no monomial divides a term.
+fn take_part(
     alloc: Global,
     members: &mut Vec<Marked>,
-    waiting: &mut Vec<Poly>,
+    marks: &[Mono],
     order: &Order,
     f: Poly,
 ) -> Option<()>
-    requires variables { IsAppendable order.now f members.old.items }
-    requires marked { HasSomeWeight members.old.items }
-    ensures { IfSome result (λ _. IsSortedIn order.now f members.old.items members.new.items waiting.old.items waiting.new.items) }
+    requires variables { IsAppendable order.now f (with_monomials marks.now members.old.items) }
+    requires marked { HasSomeWeight (with_monomials marks.now members.old.items) }
+    requires clear { IsIrreducible (Contains (with_monomials marks.now [])) f }
+    ensures { IfSome result (λ _. IsTakenIn order.now f (with_monomials marks.now members.old.items) (with_monomials marks.now members.new.items)) }
 {
-    if f.terms().len() == 1 {
-        take_in(alloc, members, order, f)?;
+    let r = remainder_of_part(alloc, f, marks, members)?;
+    if r.is_zero() {
         return Some(());
     }
-    match waiting.push(f) {
-        Ok(()) => {}
-        Err(_) => return None,
-    }
+    grow(members, order, r)?;
     Some(())
 }
 
-/// The polynomials are taken in, those first that are one term alone; each is moved.
-fn enter(alloc: Global, task: &Task, members: &mut Vec<Marked>, list: Vec<Poly>) -> Option<()>
-    requires { IsUnderway task.now.order.now task.now.n list.items members.old.items }
-    ensures underway { IfSome result (λ _. IsUnderway task.now.order.now task.now.n list.items members.new.items) }
-    ensures entered { IfSome result (λ _. AreTakenIn task.now.n list.items members.new.items) }
+/// The polynomials, of which no monomial divides a term, are taken in; each is moved.
+fn enter(
+    alloc: Global,
+    task: &Task,
+    marks: &[Mono],
+    members: &mut Vec<Marked>,
+    list: Vec<Poly>,
+) -> Option<()>
+    requires entering { HasEntering task.now.order.now task.now.n list.items (with_monomials marks.now members.old.items) }
+    requires clear { AreUndividedBy (with_monomials marks.now []) list.items }
+    ensures { IfSome result (λ _. KeepsEntering task.now.order.now task.now.n list.items (with_monomials marks.now members.old.items) [] (with_monomials marks.now members.new.items)) }
 {
-    let mut waiting = with_room(alloc, list.len())?;
     'list: for f in list {
-        sort_in(alloc, members, &mut waiting, task.order, f)?;
-    }
-    'waiting: for f in waiting {
-        take_in(alloc, members, task.order, f)?;
+        take_part(alloc, members, marks, task.order, f)?;
     }
     Some(())
 }
 
-/// Settles the pair of i and j: by a chain, by covers, or by its S-polynomial.
-fn take_pair(
+/// Settles the pair of the monomial at i and the member at j: by coprime marks, by covers, by a chain, or by its S-polynomial.
+fn take_monomial(
     alloc: Global,
     members: &mut Vec<Marked>,
+    marks: &[Mono],
     task: &Task,
     i: usize,
     j: usize,
 ) -> Option<()>
-    requires turning { HasTurning task.now.order.now task.now.n members.old.items i j }
+    requires turning { HasTurning task.now.order.now task.now.n (with_monomials marks.now members.old.items) i (length marks.now + j) }
+    requires first { i < length marks.now }
+    requires second { j < length members.old.items }
+    ensures turning { IfSome result (λ _. KeepsTurning task.now.order.now task.now.n (with_monomials marks.now members.old.items) i (length marks.now + j) (with_monomials marks.now members.new.items) (i + 1) (length marks.now + j)) }
+    ensures kept { IfSome result (λ _. AreKeptIn (with_monomials marks.now members.old.items) (with_monomials marks.now members.new.items)) }
+    ensures size { IfSome result (λ _. length members.old.items ≤ length members.new.items) }
+{
+    let (x, c) = (&marks[i], &members[j]);
+    if are_coprime(x, c.head()) {
+        return Some(());
+    }
+    let multiple = x.lcm(c.head());
+    if is_tail_covered(c, &multiple, marks) {
+        return Some(());
+    }
+    if is_covered(&multiple, &marks[..i]) {
+        return Some(());
+    }
+    let b = monomial(alloc, x)?;
+    let s = match s_poly(alloc, &b, c) {
+        Ok(s) => s,
+        Err(_) => return None,
+    };
+    take_in(alloc, members, marks, task.order, s)?;
+    Some(())
+}
+
+/// Settles the pair of the members at i and j: by a chain, by covers, or by its S-polynomial.
+fn take_pair(
+    alloc: Global,
+    members: &mut Vec<Marked>,
+    marks: &[Mono],
+    task: &Task,
+    i: usize,
+    j: usize,
+) -> Option<()>
+    requires turning { HasTurning task.now.order.now task.now.n (with_monomials marks.now members.old.items) (length marks.now + i) (length marks.now + j) }
     requires pair { i < j }
     requires second { j < length members.old.items }
-    ensures turning { IfSome result (λ _. KeepsTurning task.now.order.now task.now.n members.old.items i j members.new.items (i + 1) j) }
-    ensures kept { IfSome result (λ _. AreKeptIn members.old.items members.new.items) }
+    ensures turning { IfSome result (λ _. KeepsTurning task.now.order.now task.now.n (with_monomials marks.now members.old.items) (length marks.now + i) (length marks.now + j) (with_monomials marks.now members.new.items) ((length marks.now + i) + 1) (length marks.now + j)) }
+    ensures kept { IfSome result (λ _. AreKeptIn (with_monomials marks.now members.old.items) (with_monomials marks.now members.new.items)) }
     ensures size { IfSome result (λ _. length members.old.items ≤ length members.new.items) }
 {
     let (b, c) = (&members[i], &members[j]);
     let multiple = b.head().lcm(c.head());
-    if is_chained(&multiple, &members[..i]) {
+    if is_chained(&multiple, marks, &members[..i]) {
         return Some(());
     }
-    if is_pair_covered(b, c, &multiple, members) {
+    if is_pair_covered(b, c, &multiple, marks) {
         return Some(());
     }
     let s = match s_poly(alloc, b, c) {
         Ok(s) => s,
         Err(_) => return None,
     };
-    take_in(alloc, members, task.order, s)?;
+    take_in(alloc, members, marks, task.order, s)?;
     Some(())
 }
 
-/// Settles the pair of i and j.
+/// Settles the pair of the members at i and j.
 fn take_turn(
     alloc: Global,
     members: &mut Vec<Marked>,
+    marks: &[Mono],
     task: &Task,
     i: usize,
     j: usize,
 ) -> Option<()>
-    requires turning { HasTurning task.now.order.now task.now.n members.old.items i j }
+    requires turning { HasTurning task.now.order.now task.now.n (with_monomials marks.now members.old.items) (length marks.now + i) (length marks.now + j) }
     requires pair { i < j }
     requires second { j < length members.old.items }
-    ensures turning { IfSome result (λ _. KeepsTurning task.now.order.now task.now.n members.old.items i j members.new.items (i + 1) j) }
-    ensures kept { IfSome result (λ _. AreKeptIn members.old.items members.new.items) }
+    ensures turning { IfSome result (λ _. KeepsTurning task.now.order.now task.now.n (with_monomials marks.now members.old.items) (length marks.now + i) (length marks.now + j) (with_monomials marks.now members.new.items) ((length marks.now + i) + 1) (length marks.now + j)) }
+    ensures kept { IfSome result (λ _. AreKeptIn (with_monomials marks.now members.old.items) (with_monomials marks.now members.new.items)) }
     ensures size { IfSome result (λ _. length members.old.items ≤ length members.new.items) }
 {
     if is_excused(&members[i], &members[j]) {
         return Some(());
     }
-    take_pair(alloc, members, task, i, j)
+    take_pair(alloc, members, marks, task, i, j)
 }
 
-/// Settles the pairs of j with the members before it.
-fn take_row(alloc: Global, members: &mut Vec<Marked>, task: &Task, j: usize) -> Option<()>
-    requires turning { HasTurning task.now.order.now task.now.n members.old.items 0 j }
+/// Settles the pairs of the member at j with the monomials and the members before it.
+fn take_row(
+    alloc: Global,
+    members: &mut Vec<Marked>,
+    marks: &[Mono],
+    task: &Task,
+    j: usize,
+) -> Option<()>
+    requires turning { HasTurning task.now.order.now task.now.n (with_monomials marks.now members.old.items) 0 (length marks.now + j) }
     requires second { j < length members.old.items }
-    ensures turning { IfSome result (λ _. KeepsTurning task.now.order.now task.now.n members.old.items 0 j members.new.items 0 (j + 1)) }
-    ensures kept { IfSome result (λ _. AreKeptIn members.old.items members.new.items) }
+    ensures turning { IfSome result (λ _. KeepsTurning task.now.order.now task.now.n (with_monomials marks.now members.old.items) 0 (length marks.now + j) (with_monomials marks.now members.new.items) 0 ((length marks.now + j) + 1)) }
+    ensures kept { IfSome result (λ _. AreKeptIn (with_monomials marks.now members.old.items) (with_monomials marks.now members.new.items)) }
     ensures size { IfSome result (λ _. length members.old.items ≤ length members.new.items) }
 {
+    'marks: for i in 0..marks.len() {
+        take_monomial(alloc, members, marks, task, i, j)?;
+    }
     'members: for i in 0..j {
-        take_turn(alloc, members, task, i, j)?;
+        take_turn(alloc, members, marks, task, i, j)?;
     }
     Some(())
 }
 
-/// How many members at the front are one term alone.
-fn singles(members: &[Marked]) -> usize
-    ensures within { result ≤ length members.now }
-    ensures single { AreSingleTo members.now result }
-{
-    'members: for k in 0..members.len() {
-        if !is_single(&members[k]) {
-            return k;
-        }
-    }
-    members.len()
-}
-
-/// All polynomials are taken in, and all pairs are settled; at most `bound` members are worked off. Those at the front that are one term
-/// alone have no pair to settle.
-fn run(alloc: Global, task: &Task, list: Vec<Poly>, bound: u64) -> Option<Vec<Marked>>
-    requires { IsBasisJob task.now.order.now task.now.n list.items }
-    ensures turning { IfSome result (λ bs. IsTurning task.now.order.now task.now.n list.items bs.items 0 (length bs.items)) }
-    ensures entered { IfSome result (λ bs. AreTakenIn task.now.n list.items bs.items) }
+/// The members of a run that takes the pairs in turn, if all numbers fit and no more than `bound` members are worked off. All polynomials, of
+/// which no monomial divides a term, are taken in, and all pairs are settled, with the monomials in front of the members.
+pub fn members_in_turn(
+    alloc: Global,
+    task: &Task,
+    marks: &[Mono],
+    list: Vec<Poly>,
+    bound: u64,
+) -> Option<Vec<Marked>>
+    requires entering { HasEntering task.now.order.now task.now.n list.items (with_monomials marks.now []) }
+    requires clear { AreUndividedBy (with_monomials marks.now []) list.items }
+    ensures { IfSome result (λ bs. LeadsToEnd task.now.order.now task.now.n list.items (with_monomials marks.now []) (with_monomials marks.now bs.items)) }
 {
     let mut members = with_room(alloc, list.len().saturating_mul(2))?;
-    enter(alloc, task, &mut members, list)?;
-    let first = singles(&members);
-    'turns: for j in first as u64..bound {
+    enter(alloc, task, marks, &mut members, list)?;
+    'turns: for j in 0..bound {
         if j as usize == members.len() {
             return Some(members);
         }
-        take_row(alloc, &mut members, task, j as usize)?;
+        take_row(alloc, &mut members, marks, task, j as usize)?;
     }
     None
-}
-
-/// The reduced basis by a run that takes the pairs in turn, if all numbers fit and no list has more members than `bound`.
-pub fn basis_in_turn(alloc: Global, task: &Task, list: Vec<Poly>, bound: u64) -> Option<MarkedSet>
-    requires { IsBasisJob task.now.order.now task.now.n list.items }
-    ensures { IfSome result (IsArrangedBasis task.now.order.now task.now.n list.items) }
-{
-    let members = run(alloc, task, list, bound)?;
-    let basis = reduced_form(alloc, task.n, members)?;
-    Some(basis)
 }
 
 /// The reduced basis by `basis`, and where numbers of that don't fit by `wide_basis`; the refusal of `basis` is told.

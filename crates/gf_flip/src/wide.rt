@@ -11,7 +11,7 @@ ghost use Rattle.gf_flip.specs.Along.{IsBasisOfParts};
 ghost use Rattle.gf_flip.specs.Crossings.{IsCrossing, IsNeighbour};
 ghost use Rattle.gf_flip.specs.LiftsInTurn.{IsRest, AreRests, IsLessBy, AreLiftsInTurn, IsLiftIn, AreLiftsIn};
 
-use crate::reduction::reduced_form;
+use crate::reduction::autoreduced;
 use crate::tops::place_of_mark;
 use crate::turns::one;
 use crate::weights::{ROUNDS, weight_found};
@@ -255,7 +255,7 @@ pub fn wide_crossed(
     let turns = turns_by(alloc, below, &then)?;
     let done = lifts_in_turn(alloc, below, &rests, set, normal, &turns, &then)?;
     let members = lifts_in(alloc, &done, below)?;
-    match reduced_form(alloc, set.variables(), members) {
+    match autoreduced(alloc, set.variables(), members) {
         Some(across) => Ok(across),
         None => Err(Beyond),
     }

@@ -1,4 +1,5 @@
-use Rattle.std.proofs.Common.{ℕ, length, ap, sym, subst, ◌∙◌, inl}
+use Rattle.gf_flip.specs.Monomials.{with_monomials}
+use Rattle.std.proofs.Common.{[], ℕ, length, ap, sym, subst, ◌∙◌, inl}
 use Rattle.gf_exponents.specs.Exponents.{Exponents, Divides, minus}
 use Rattle.gf_poly.specs.Polynomial.{HasVariables}
 use Rattle.gf_poly.specs.Marking.{HaveVariables}
@@ -21,10 +22,10 @@ is_shifted_covered-requires-clause-variables c =
     let h = ap length c.head.ensures.value ∙ head_length (length c.args.multiple.now) c.args.member.now c.requires.variables c.head.ensures.marked in
     subst (λ (k : ℕ). HasVariables k c.args.member.now.poly) (sym (ap length c.quotient-shift.ensures.value ∙ length-minus c.args.multiple.now c.head.result.now (sym h))) c.requires.variables
 
-pub is_shifted_covered-requires-clause-members : goal.is_shifted_covered-requires-clause-members
-is_shifted_covered-requires-clause-members c =
+pub is_shifted_covered-requires-clause-monomials : goal.is_shifted_covered-requires-clause-monomials
+is_shifted_covered-requires-clause-monomials c =
     let h = ap length c.head.ensures.value ∙ head_length (length c.args.multiple.now) c.args.member.now c.requires.variables c.head.ensures.marked in
-    subst (λ (k : ℕ). HaveVariables k c.args.by.now) (sym (ap length c.quotient-shift.ensures.value ∙ length-minus c.args.multiple.now c.head.result.now (sym h))) c.requires.members
+    subst (λ (k : ℕ). HaveVariables k (with_monomials c.args.marks.now [])) (sym (ap length c.quotient-shift.ensures.value ∙ length-minus c.args.multiple.now c.head.result.now (sym h))) c.requires.monomials
 
 pub returns : goal.returns
-returns c = λ t. subst (λ (z : Exponents). HasCoveredTail c.args.by.now z c.args.member.now) (c.quotient-shift.ensures.value ∙ ap (minus c.args.multiple.now) c.head.ensures.value) (c.is_shifted_covered.ensures t)
+returns c = λ t. subst (λ (z : Exponents). HasCoveredTail (with_monomials c.args.marks.now []) z c.args.member.now) (c.quotient-shift.ensures.value ∙ ap (minus c.args.multiple.now) c.head.ensures.value) (c.is_shifted_covered.ensures t)

@@ -12,13 +12,13 @@ precedence_for-requires c = have_at c.args.set.now.variables c.variables.result 
 pub rests-requires-clause-marked : goal.rests-requires-clause-marked
 rests-requires-clause-marked c = crossing_weight c.args.set.now.variables c.args.set.now.items c.args.normal.now c.requires.crossing
 
-pub reduced_form-requires-clause-variables : goal.reduced_form-requires-clause-variables
-reduced_form-requires-clause-variables c = have_at c.args.set.now.variables c.variables-2.result c.in_ok-members.members.items c.in_ok-members.members.items
+pub autoreduced-requires-clause-variables : goal.autoreduced-requires-clause-variables
+autoreduced-requires-clause-variables c = have_at c.args.set.now.variables c.variables-2.result c.in_ok-members.members.items c.in_ok-members.members.items
     (placed_variables c.args.set.now.variables c.in_ok-done.done.items c.args.below.now c.in_ok-members.members.items c.in_ok-done.ensures.variables
     (subst (λ (z : List MarkedPolynomial). AreLiftsIn z c.args.below.now c.in_ok-members.members.items) c.deref-4.ensures.value c.in_ok-members.ensures)) refl c.variables-2.ensures
 
-pub reduced_form-requires-clause-realisable : goal.reduced_form-requires-clause-realisable
-reduced_form-requires-clause-realisable c = realisable_at c.args.set.now.variables c.variables-2.result c.args.set.now.items c.args.normal.now c.args.below.now c.in_ok-members.members.items
+pub autoreduced-requires-clause-realisable : goal.autoreduced-requires-clause-realisable
+autoreduced-requires-clause-realisable c = realisable_at c.args.set.now.variables c.variables-2.result c.args.set.now.items c.args.normal.now c.args.below.now c.in_ok-members.members.items
     (record { variables = c.variables-2.result; items = c.in_ok-members.members.items }) c.requires.crossing c.requires.parts
     (ever_in_turn c.args.set.now.variables c.args.set.now.items c.args.normal.now c.args.below.now c.in_ok-done.done.items c.in_ok-members.members.items c.requires.parts c.in_ok-done.ensures.value
     (subst (λ (z : List MarkedPolynomial). AreLiftsIn z c.args.below.now c.in_ok-members.members.items) c.deref-4.ensures.value c.in_ok-members.ensures)) c.variables-2.ensures refl
