@@ -1,24 +1,32 @@
 -- The terms along a vector, one term and one member after another.
--- To cite: selected-kept, selected-dropped, marked_along, marked_here, along_selected, along_more, width_at, at_place, IsMatchedTo, matched_more, matched_all.
-use Rattle.std.proofs.Common.{◌≡◌, ◌⊎◌, Bool, true, false, eqb, ℕ, zero, suc, ◌+◌, ◌<◌, ◌≤◌, if◌then◌else◌, List, [], ◌∷◌, ◌++◌, length, take, get_or, ℤ, arith, refl, sym, ap, ◌∙◌, subst, inl, inr}
+-- To cite: selected-kept, selected-dropped, marked_along, marked_here, along_selected, part_of, along_more, width_at, added_coefficient, added_on, term_added, term_off,
+-- IsLineTo, line_start, line_more_of, line_all, line_end.
+use Rattle.std.proofs.Common.{◌≡◌, ◌⊎◌, Bool, true, false, eqb, ℕ, zero, suc, ◌+◌, ◌<◌, ◌≤◌, if◌then◌else◌, List, [], ◌∷◌, ◌++◌, length, take, get_or, ℤ, Option, None, Some, IfSome, arith, refl, sym, ap, ap₂, ◌∙◌, subst, inl, inr}
 use Rattle.std.proofs.lemmas.Bool.{cases_eq, ne_eqb, false≢true}
-use Rattle.std.proofs.lemmas.List.{take_more, take_all}
+use Rattle.std.proofs.lemmas.List.{take_more, take_all, map-append}
 use Rattle.std.proofs.lemmas.List.Elements.{Contains-append_left, Contains-append_right, Contains-append_cases}
 use Rattle.gf_frac.specs.Fraction.{Fraction, ◌+ℚ◌, zero_ℚ}
+use Rattle.gf_frac.proofs.FractionLaws.{+ℚ_comm, +ℚ_assoc, +ℚ-zero}
 use Rattle.gf_exponents.specs.Exponents.{Exponents, same}
 use Rattle.gf_exponents.proofs.ExponentsLaws.{same_of}
 use Rattle.gf_int.proofs.ListLaws.{Contains-here}
 use Rattle.gf_poly.specs.declared.Term.{Term}
 use Rattle.gf_poly.specs.Polynomial.{Terms, coefficient, HasVariables, IsAbove, IsDescending}
-use Rattle.gf_poly.specs.Marking.{MarkedPolynomial, head_of}
+use Rattle.gf_poly.specs.Marking.{MarkedPolynomial, HasMarkedTerm, Each, head_of}
+use Rattle.gf_poly.proofs.PolynomialLaws.{coefficient-++}
 use Rattle.gf_ideal.specs.OrderTable.{AreMultipleApart}
-use Rattle.gf_ideal.proofs.ListLaws.{Contains-cases}
+use Rattle.gf_ideal.proofs.ListLaws.{Contains-cases, Each-++}
 use Rattle.gf_ideal.proofs.GeneratorLaws.{polys-++}
 use Rattle.gf_division.proofs.TailLaws.{head_at}
+use Rattle.gf_division.proofs.StepLaws.{head_length}
 use Rattle.gf_initial.specs.Parts.{IsPartAlong}
 use Rattle.gf_initial.proofs.ClassLaws.{multiple-grading}
 use Rattle.gf_initial.proofs.MatchingLaws.{matched-push}
-use Rattle.gf_flip.specs.Along.{HasNonzero, IsSelected, IsAlong, AreAlong, IsPassed}
+use Rattle.gf_flip.specs.Along.{HasNonzero, IsSelected, IsAlong, AreAlong}
+use Rattle.gf_flip.specs.declared.lines.Point.{Point}
+use Rattle.gf_flip.specs.Lines.{moved, IsDistance, IsSpot, AreSpots, AreFalling, point_term, line_terms, IsPartOf, IsPointAdded, IsTermAdded}
+use Rattle.gf_flip.proofs.MoveLaws.{moved_is, on_is, moved_apart}
+use Rattle.gf_flip.proofs.LineLaws.{line_variables}
 use Rattle.gf_ideal.proofs.CriterionLaws.{not_same}
 use Rattle.gf_poly.proofs.InitialFormLaws.{elsewhere, take-next}
 
@@ -95,17 +103,21 @@ along_selected a b f g n e d s = record {
 
 -- ---- members
 
+-- the terms along in their order are such a part
+pub part_of : (a : List ℤ) (b : MarkedPolynomial) (f : Terms) → IsAlong a b f → IsPartOf a b f
+part_of a b f k = record { along = k.part; variables = record { at = k.variables } }
+
 -- and one more
 pub along_more : (a : List ℤ) (bs : List MarkedPolynomial) (b : MarkedPolynomial) (fs : List Terms) (f : Terms) → AreAlong a bs fs →
-    IsAlong a b f → AreAlong a (bs ++ b ∷ []) (fs ++ f ∷ [])
+    IsPartOf a b f → AreAlong a (bs ++ b ∷ []) (fs ++ f ∷ [])
 along_more a bs b fs f h k = record {
   parts = h.parts ++ record { poly = f; head = b.head } ∷ [];
-  each = matched-push (IsPartAlong a) bs h.parts b (record { poly = f; head = b.head }) h.each k.part;
+  each = matched-push (IsPartAlong a) bs h.parts b (record { poly = f; head = b.head }) h.each k.along;
   polynomials = ap (λ z. z ++ f ∷ []) h.polynomials ∙ sym (polys-++ h.parts (record { poly = f; head = b.head } ∷ []));
   variables = λ n v g c. elim (Contains-append_cases fs (f ∷ []) g c) [
     | inl l ↦ h.variables n (λ d e. v d (Contains-append_left bs (b ∷ []) d e)) g l
     | inr r ↦ elim (Contains-cases f g [] r) [
-      | inl e ↦ subst (HasVariables n) e (k.variables n (v b (Contains-append_right bs (b ∷ []) b (Contains-here b []))))
+      | inl e ↦ subst (HasVariables n) e (k.variables.at n (v b (Contains-append_right bs (b ∷ []) b (Contains-here b []))))
       | inr z ↦ absurd (omega (arith, z.1))
     ]
   ];
@@ -151,38 +163,125 @@ pub members_more : (a : List ℤ) (bs : List MarkedPolynomial) (i : ℕ) (b : Ma
     AreAlong a (take (i + 1) bs) new
 members_more a bs i b old new f l q k e h =
     subst (λ (z : List MarkedPolynomial). AreAlong a z new) (sym (take_more bs i b l ∙ ap (λ (z : MarkedPolynomial). take i bs ++ z ∷ []) (sym q)))
-    (subst (λ (z : List Terms). AreAlong a (take i bs ++ b ∷ []) z) (sym e) (along_more a (take i bs) b old f h k))
+    (subst (λ (z : List Terms). AreAlong a (take i bs ++ b ∷ []) z) (sym e) (along_more a (take i bs) b old f h (part_of a b f k)))
 
--- ---- a list that is compared with the terms along
+-- ---- on the line through the mark
 
-pub equal_terms : (s t : Term) → s.coef ≡ t.coef → s.mono ≡ t.mono → s ≡ t
-equal_terms s t e q = ap (λ (c : Fraction). record { coef = c; mono = s.mono }) e ∙ ap (λ (m : Exponents). record { coef = t.coef; mono = m }) q
+with_more : (s : Bool) (b a d c : Fraction) → b +ℚ ((if s then d +ℚ c else zero_ℚ) +ℚ a) ≡ (b +ℚ ((if s then d else zero_ℚ) +ℚ a)) +ℚ (if s then c else zero_ℚ)
+with_more true b a d c = ap (λ z. b +ℚ z) (+ℚ_assoc d c a ∙ ap (λ z. d +ℚ z) (+ℚ_comm c a) ∙ sym (+ℚ_assoc d a c)) ∙ sym (+ℚ_assoc b (d +ℚ a) c)
+with_more false b a d c = sym (+ℚ-zero _)
 
--- a listed term that is equal to t
-pub at_place : (f : Terms) (s t : Term) (i : ℕ) → s ≡ get_or f i s → s.coef ≡ t.coef → s.mono ≡ t.mono → t ≡ get_or f i t
-at_place f s t i is e q = subst (λ (z : Term). z ≡ get_or f i z) (equal_terms s t e q) is
+between : (b a c : Fraction) → b +ℚ (c +ℚ a) ≡ (b +ℚ a) +ℚ c
+between b a c = ap (λ z. b +ℚ z) (+ℚ_comm c a) ∙ sym (+ℚ_assoc b a c)
 
--- the terms along among the first i are the first ones of the list
-pub record IsMatchedTo (a : List ℤ) (h : Exponents) (f g : Terms) (i j : ℕ) : Type 0 where
-  pub within : j ≤ length g
-  pub selected : IsSelected (IsTermAlong a h) (take i f) (take j g)
+-- the coefficient with a point between others
+with_point : (a : List ℤ) (x y : Exponents) (before after : List Point) (p : Point) →
+    coefficient (line_terms a x (before ++ p ∷ after)) y ≡ coefficient (line_terms a x before) y +ℚ ((if same y (moved a x p.k) then p.coef else zero_ℚ) +ℚ coefficient (line_terms a x after) y)
+with_point a x y before after p = ap (λ z. coefficient z y) (map-append (point_term a x) before (p ∷ after)) ∙ coefficient-++ (line_terms a x before) (line_terms a x (p ∷ after)) y
 
-pub matched_more : (a : List ℤ) (h : Exponents) (f g : Terms) (t : Term) (along : Bool) (i j k : ℕ) → i < length f → t ≡ get_or f i t →
-    (along ≡ true → AreMultipleApart a t.mono h) → (along ≡ false → AreMultipleApart a t.mono h → ⊥) → IsPassed along g j t k → IsMatchedTo a h f g i j → IsMatchedTo a h f g (i + 1) k
-matched_more a h f g t true i j k l q on off p m = record {
-  within = (let w : j < length g = p.0 in let e : k ≡ j + 1 = p.2 in omega (arith, w, e));
-  selected = subst (λ (z : ℕ). IsSelected (IsTermAlong a h) (take (i + 1) f) (take z g)) (sym p.2)
-      (more_kept a h f (take j g) (take (j + 1) g) t i l q (on refl) (take-next g j t p.0 p.1) m.selected);
+-- what is added at a multiple is added to the coefficient at the monomial there
+pub added_coefficient : (a : List ℤ) (x y : Exponents) (k : ℤ) (c : Fraction) (old new : List Point) → IsPointAdded k c old new →
+    coefficient (line_terms a x new) y ≡ coefficient (line_terms a x old) y +ℚ (if same y (moved a x k) then c else zero_ℚ)
+added_coefficient a x y k c old new (IsPointAdded.joined before after d e q) =
+    ap (λ (z : List Point). coefficient (line_terms a x z) y) q
+    ∙ with_point a x y before after (record { k = k; coef = d +ℚ c })
+    ∙ with_more (same y (moved a x k)) (coefficient (line_terms a x before) y) (coefficient (line_terms a x after) y) d c
+    ∙ ap (λ z. z +ℚ (if same y (moved a x k) then c else zero_ℚ)) (sym (ap (λ (z : List Point). coefficient (line_terms a x z) y) e ∙ with_point a x y before after (record { k = k; coef = d })))
+added_coefficient a x y k c old new (IsPointAdded.entered before after e q) =
+    ap (λ (z : List Point). coefficient (line_terms a x z) y) q
+    ∙ with_point a x y before after (record { k = k; coef = c })
+    ∙ between (coefficient (line_terms a x before) y) (coefficient (line_terms a x after) y) (if same y (moved a x k) then c else zero_ℚ)
+    ∙ ap (λ z. z +ℚ (if same y (moved a x k) then c else zero_ℚ)) (sym (ap (λ (z : List Point). coefficient (line_terms a x z) y) e
+    ∙ ap (λ z. coefficient z y) (map-append (point_term a x) before after) ∙ coefficient-++ (line_terms a x before) (line_terms a x after) y))
+
+-- what holds of all holds of the first ones, and of the later ones
+each_first : (P : Point → Type 0) (ps qs : List Point) → Each P (ps ++ qs) → Each P ps
+each_first P [] qs h = tt
+each_first P (p ∷ ps) qs h = (h.0, each_first P ps qs h.1)
+
+each_later : (P : Point → Type 0) (ps qs : List Point) → Each P (ps ++ qs) → Each P qs
+each_later P [] qs h = h
+each_later P (p ∷ ps) qs h = each_later P ps qs h.1
+
+-- points that all have P, where the new one has it
+pub added_each : (P : ℤ → Type 0) (k : ℤ) (c : Fraction) (old new : List Point) → IsPointAdded k c old new → P k → Each (λ (p : Point). P p.k) old → Each (λ (p : Point). P p.k) new
+added_each P k c old new (IsPointAdded.joined before after d e q) h o = subst (Each (λ (p : Point). P p.k)) (sym q)
+    (let r : Each (λ (p : Point). P p.k) (before ++ record { k = k; coef = d } ∷ after) = subst (Each (λ (p : Point). P p.k)) e o in
+    Each-++ (λ (p : Point). P p.k) before (record { k = k; coef = d +ℚ c } ∷ after) (each_first (λ (p : Point). P p.k) before (record { k = k; coef = d } ∷ after) r)
+    (h, (each_later (λ (p : Point). P p.k) before (record { k = k; coef = d } ∷ after) r).1))
+added_each P k c old new (IsPointAdded.entered before after e q) h o = subst (Each (λ (p : Point). P p.k)) (sym q)
+    (let r : Each (λ (p : Point). P p.k) (before ++ after) = subst (Each (λ (p : Point). P p.k)) e o in
+    Each-++ (λ (p : Point). P p.k) before (record { k = k; coef = c } ∷ after) (each_first (λ (p : Point). P p.k) before after r) (h, each_later (λ (p : Point). P p.k) before after r))
+
+-- so exponents stay exponents
+pub added_on : (a : List ℤ) (x : Exponents) (k : ℤ) (c : Fraction) (old new : List Point) → IsPointAdded k c old new → IsSpot a x k → AreSpots a x old → AreSpots a x new
+added_on a x k c old new i h o = added_each (IsSpot a x) k c old new i h o
+
+-- the point of a term is added, if numbers fit
+pub term_added : (a : List ℤ) (x : Exponents) (t : Term) (y z : Exponents) (j k : ℤ) (old new : List Point) (r : Option (Unit {0})) → y ≡ t.mono → z ≡ x → k ≡ j → IsDistance a y z j →
+    IfSome r (λ _. IsPointAdded k t.coef old new) → IfSome r (λ _. AreFalling old → AreFalling new) → IfSome r (λ _. IsTermAdded a x t old new)
+term_added a x t y z j k old new None ey ez ek d p f = tt
+term_added a x t y z j k old new (Some u) ey ez ek d p f = IsTermAdded.on k
+    (subst (λ (w : Exponents). IsDistance a w x k) ey (subst (λ (w : Exponents). IsDistance a y w k) ez (subst (IsDistance a y z) (sym ek) d))) p f
+
+-- one that isn't on the line isn't
+pub term_off : (a : List ℤ) (x : Exponents) (t : Term) (y z : Exponents) (ps : List Point) → y ≡ t.mono → z ≡ x → (AreMultipleApart a y z → ⊥) → IsTermAdded a x t ps ps
+term_off a x t y z ps ey ez n = IsTermAdded.off (λ m. n ((same_apart a y z t.mono x ey ez).1 m)) refl
+
+-- the points have the terms of f that are a multiple of a apart from h
+pub record IsLineTo (a : List ℤ) (h : Exponents) (f : Terms) (ps : List Point) : Type 0 where
+  pub along : (x : Exponents) → AreMultipleApart a x h → coefficient (line_terms a h ps) x ≡ coefficient f x
+  pub on : AreSpots a h ps
+  pub falling : AreFalling ps
+
+pub line_start : (a : List ℤ) (h : Exponents) (ps : List Point) → ps ≡ [] → IsLineTo a h [] ps
+line_start a h ps e = subst (IsLineTo a h []) (sym e) (record { along = λ x p. refl; on = tt; falling = tt })
+
+-- one term more
+last_coefficient : (f : Terms) (t : Term) (x : Exponents) → coefficient (f ++ t ∷ []) x ≡ coefficient f x +ℚ (if same x t.mono then t.coef else zero_ℚ)
+last_coefficient f t x = coefficient-++ f (t ∷ []) x ∙ ap (λ z. coefficient f x +ℚ z) (+ℚ-zero _)
+
+line_added : (a : List ℤ) (h : Exponents) (f : Terms) (t : Term) (old new : List Point) → HasNonzero a → length t.mono ≡ length h → IsTermAdded a h t old new →
+    IsLineTo a h f old → IsLineTo a h (f ++ t ∷ []) new
+line_added a h f t old new n l (IsTermAdded.on k d i g) o = record {
+  along = λ x p. added_coefficient a h x k t.coef old new i
+      ∙ ap₂ (λ y z. y +ℚ z) (o.along x p) (ap (λ (m : Exponents). if same x m then t.coef else zero_ℚ) (sym (moved_is a h t.mono k l d)))
+      ∙ sym (last_coefficient f t x);
+  on = added_on a h k t.coef old new i (on_is a h t.mono k l d) o.on;
+  falling = g o.falling;
 }
-matched_more a h f g t false i j k l q on off p m = record {
-  within = (let w : j ≤ length g = m.within in let e : k ≡ j = p in omega (arith, w, e));
-  selected = subst (λ (z : ℕ). IsSelected (IsTermAlong a h) (take (i + 1) f) (take z g)) (sym p) (more_dropped a h f (take j g) t i l q (off refl) m.selected);
-}
+line_added a h f t old new n l (IsTermAdded.off q e) o = subst (IsLineTo a h (f ++ t ∷ [])) (sym e) (record {
+  along = λ x p. o.along x p ∙ sym (coefficient-++ f (t ∷ []) x ∙ ap (λ z. coefficient f x +ℚ z) (elsewhere t [] x (other x p)) ∙ +ℚ-zero (coefficient f x));
+  on = o.on;
+  falling = o.falling;
+})
+  where
+    other : (x : Exponents) → AreMultipleApart a x h → same x t.mono ≡ false
+    other x p = let m = multiple-grading a n in not_same x t.mono (λ s. q (m.transitive t.mono x h (m.symmetric x t.mono (m.along x t.mono s)) p))
 
--- at the end of both
-pub matched_all : (a : List ℤ) (b : MarkedPolynomial) (h : Exponents) (f g : Terms) (i j : ℕ) → HasNonzero a → f ≡ b.poly → h ≡ b.head → IsDescending f → length f ≤ i → length g ≤ j →
-    IsMatchedTo a h f g i j → IsAlong a b g
-matched_all a b h f g i j n e eh d l k m =
-    along_selected a b f g n e d
-    (subst (λ (z : Exponents). IsSelected (IsTermAlong a z) f g) eh
-    (subst (λ (z : Terms). IsSelected (IsTermAlong a h) f z) (take_all j g k) (all_selected a h f (take j g) i l m.selected)))
+pub line_more : (a : List ℤ) (h : Exponents) (f : Terms) (t : Term) (i : ℕ) (old new : List Point) → HasNonzero a → length t.mono ≡ length a → length h ≡ length a → i < length f → t ≡ get_or f i t →
+    IsTermAdded a h t old new → IsLineTo a h (take i f) old → IsLineTo a h (take (i + 1) f) new
+line_more a h f t i old new n l w k e d o = subst (λ (z : Terms). IsLineTo a h z new) (sym (take-next f i t k e)) (line_added a h (take i f) t old new n (l ∙ sym w) d o)
+
+-- of a member
+pub line_more_of : (a : List ℤ) (b : MarkedPolynomial) (f : Terms) (h : Exponents) (t : Term) (i : ℕ) (old new : List Point) → HasNonzero a → HasVariables (length a) b.poly → HasMarkedTerm b → f ≡ b.poly → h ≡ b.head →
+    i < length f → t ≡ get_or f i t → IsTermAdded a h t old new → IsLineTo a b.head (take i f) old → IsLineTo a b.head (take (i + 1) f) new
+line_more_of a b f h t i old new n v m q e k s d o = line_more a b.head f t i old new n (width_at (length a) f b.poly t i v q k s) (head_length (length a) b v m) k s (subst (λ (z : Exponents). IsTermAdded a z t old new) e d) o
+
+-- elsewhere there is nothing
+off_line : (a : List ℤ) (h x : Exponents) (ps : List Point) → HasNonzero a → AreSpots a h ps → (AreMultipleApart a x h → ⊥) → coefficient (line_terms a h ps) x ≡ zero_ℚ
+off_line a h x [] n o q = refl
+off_line a h x (p ∷ ps) n o q =
+    let m = multiple-grading a n in
+    elsewhere (point_term a h p) (line_terms a h ps) x (not_same x (moved a h p.k) (λ s. q (m.transitive x (moved a h p.k) h (m.along x (moved a h p.k) s) (moved_apart a h p.k o.0))))
+    ∙ off_line a h x ps n o.1 q
+
+-- all terms
+pub line_all : (a : List ℤ) (h : Exponents) (f g : Terms) (ps : List Point) (i : ℕ) → f ≡ g → length f ≤ i → IsLineTo a h (take i f) ps → IsLineTo a h g ps
+line_all a h f g ps i e l o = subst (λ (z : Terms). IsLineTo a h z ps) (take_all i f l ∙ e) o
+
+pub line_end : (a : List ℤ) (b : MarkedPolynomial) (ps : List Point) → HasNonzero a → HasMarkedTerm b → IsLineTo a b.head b.poly ps → IsPartOf a b (line_terms a b.head ps)
+line_end a b ps n m o = record {
+  along = record { head = refl; along = o.along; off = λ x q. off_line a b.head x ps n o.on q };
+  variables = record { at = λ k v. line_variables a b.head ps k (head_length k b v m) };
+}

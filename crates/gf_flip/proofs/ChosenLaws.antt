@@ -1,25 +1,32 @@
 -- Lifts of chosen members, one after another.
--- To cite: descending_one, chosen_more, AreLiftedTo, lifted_to-none, lifted_to-more, lifted_to-end, copy_lifted, lift_lifted, front_more, AreAloneTo, alone_to-none, alone_to-more, alone_to-end, lifted_front, lifted_behind.
-use Rattle.std.proofs.Common.{◌≡◌, ◌≢◌, ◌⊎◌, ℕ, zero, suc, ◌+◌, ◌<◌, ◌≤◌, Bool, true, false, List, [], ◌∷◌, ◌++◌, length, take, map, get_or, Contains, ℤ, arith, refl, sym, ap, ◌∙◌, subst, inl, inr}
-use Rattle.std.proofs.lemmas.Bool.{cases_lt}
-use Rattle.std.proofs.lemmas.List.{take_all, take_more, map_push, length-append, get_or_default, get_or_append_left, get_or_push}
-use Rattle.gf_frac.specs.Fraction.{zero_ℚ}
+-- To cite: descending_one, chosen_more, AreLiftedTo, lifted_to-none, lifted_to-more, lifted_to-end, copy_lifted, origin_lifted, if_origin_lifted, if_origin_variables, if_twin_lifted, twin_monic, terms_end, lifted_front, lifted_line.
+use Rattle.std.specs.declared.option.Option.{Option}
+use Rattle.std.proofs.Common.{Some, None, IfSome, ◌≡◌, ◌≢◌, ℕ, zero, suc, ◌+◌, ◌<◌, ◌≤◌, Bool, true, false, List, [], ◌∷◌, length, take, get_or, Contains, ℤ, arith, refl, sym, ap, ◌∙◌, subst}
+use Rattle.std.proofs.lemmas.List.{take_all, length-map, get_or-map, get_or_default}
+use Rattle.gf_frac.specs.Fraction.{◌*ℚ◌, zero_ℚ, one_ℚ}
 use Rattle.gf_exponents.specs.Exponents.{Exponents}
 use Rattle.gf_poly.specs.declared.Term.{Term}
-use Rattle.gf_poly.specs.Polynomial.{Terms, HasVariables, IsDescending}
+use Rattle.gf_poly.specs.Polynomial.{Terms, coefficient, SamePolynomial, HasVariables, IsDescending}
 use Rattle.gf_poly.specs.Marking.{MarkedPolynomial, HaveVariables}
 use Rattle.gf_ideal.specs.Settled.{IsAt}
 use Rattle.gf_division.specs.NormalForms.{HasSomeWeight}
 use Rattle.gf_division.proofs.ReducerLaws.{member_at, members_equal, member_contained, member_variables}
 use Rattle.gf_initial.specs.Lifts.{IsTopLift, AreTopLifts}
-use Rattle.gf_flip.specs.Chosen.{IsLiftAdded, IsLiftedWhere}
+use Rattle.gf_ideal.specs.OrderTable.{AreMultipleApart}
+use Rattle.gf_initial.proofs.ClassLaws.{multiple-grading}
+use Rattle.gf_flip.specs.declared.lines.Point.{Point}
+use Rattle.gf_flip.specs.declared.lines.Line.{Line}
+use Rattle.gf_flip.specs.Along.{HasNonzero}
+use Rattle.gf_flip.specs.Lines.{line_terms, line_member, line_members, IsLineAlong, IsLineOf, HasOrigin}
+use Rattle.gf_flip.proofs.LineLaws.{line_marked}
+use Rattle.gf_flip.specs.Chosen.{IsLiftedWhere}
 use Rattle.gf_flip.specs.LiftTails.{AreCopies}
 use Rattle.gf_flip.specs.Monomials.{monomial_member, with_monomials, chosen, IsAddedWhere}
 use Rattle.gf_flip.specs.Splits.{IsAloneAt}
-use Rattle.gf_flip.specs.Tops.{IsAlone, AreAloneWhere}
+use Rattle.gf_flip.specs.Tops.{IsAlone, IsQuotientAt}
 use Rattle.gf_flip.proofs.MonomialLaws.{monomial_single, monomial_one, joined_length, front_at, behind_at}
 use Rattle.gf_flip.proofs.LiftTailLaws.{copies_more}
-use Rattle.gf_flip.proofs.TopLaws.{AreTopping, topping_push, untouched_at}
+use Rattle.gf_flip.proofs.TopLaws.{AreTopping, topping_push, untouched_at, top_twin, divided_lift}
 
 -- a term of a descending list is a descending list by itself
 pub descending_one : (f : Terms) (i : ℕ) (t : Term) → IsDescending f → i < length f → t ≡ get_or f i t → IsDescending (t ∷ [])
@@ -100,37 +107,49 @@ copy_lifted n bs a p x b f old new before after w v o e m c = at f m c
     }
     at false m c = (m, c)
 
--- the lift of a member
-pub lift_lifted : (n : ℕ) (bs : List MarkedPolynomial) (a : List ℤ) (h l : MarkedPolynomial) (old new : List MarkedPolynomial) (before after : List Bool) → IsTopLift bs a h l → HasVariables n l.poly → new ≡ old ++ l ∷ [] → after ≡ before ++ false ∷ [] →
-    IsLiftAdded n bs a h old new before after
-lift_lifted n bs a h l old new before after t v m c = record { lift = l; flag = false; top = t; variables = v; copy = tt; members = m; copied = c }
+-- ---- lines
 
--- ---- the monomials and the members in one list
-
-pub front_more : (xs : List Exponents) (i : ℕ) (x : Exponents) (old new : List MarkedPolynomial) → i < length xs → x ≡ get_or xs i x → new ≡ old ++ monomial_member x ∷ [] → old ≡ map monomial_member (take i xs) → new ≡ map monomial_member (take (i + 1) xs)
-front_more xs i x old new l e q h = q ∙ ap (λ (z : List MarkedPolynomial). z ++ monomial_member x ∷ []) h ∙ sym (map_push monomial_member (take i xs) x) ∙ ap (map monomial_member) (ap (λ (z : Exponents). take i xs ++ z ∷ []) e ∙ sym (take_more xs i x l))
-
--- ---- members whose parts are one term alone
-
-pub record AreAloneTo (a : List ℤ) (bs : List MarkedPolynomial) (flags : List Bool) (i : ℕ) : Type 0 where
-  pub size : length flags ≡ i
-  pub within : i ≤ length bs
-  pub at : (j : ℕ) (b : MarkedPolynomial) → j < i → IsAt bs j b → get_or flags j false ≡ true → IsAlone a b
-
-pub alone_to-none : (a : List ℤ) (bs : List MarkedPolynomial) (flags : List Bool) → flags ≡ [] → AreAloneTo a bs flags 0
-alone_to-none a bs flags e = record { size = omega (arith, ap (λ (z : List Bool). length z) e); within = omega arith; at = λ j b l. absurd (omega (arith, l)) }
-
-pub alone_to-more : (a : List ℤ) (bs : List MarkedPolynomial) (flags new : List Bool) (i : ℕ) (b : MarkedPolynomial) (f : Bool) → i < length bs → b ≡ get_or bs i b → (f ≡ true → IsAlone a b) → new ≡ flags ++ f ∷ [] → AreAloneTo a bs flags i → AreAloneTo a bs new (i + 1)
-alone_to-more a bs flags new i b f l e p q h = subst (λ (z : List Bool). AreAloneTo a bs z (i + 1)) (sym q) (record { size = omega (arith, length-append flags (f ∷ []), h.size); within = omega (arith, l); at = λ j c m. at j c (cases_lt j i) m })
+-- what the part of a member on a line is lifted to
+pub origin_lifted : (bs : List MarkedPolynomial) (a : List ℤ) (l : Line) (p : ℕ) (b k : MarkedPolynomial) (x : Exponents) → HasNonzero a → HasSomeWeight bs → IsLineAlong a l → HasOrigin a bs l p → b ≡ get_or bs p b → x ≡ l.mark →
+    IsQuotientAt b x k → IsTopLift bs a (line_member a l) k
+origin_lifted bs a l p b k x n w h o e ex d =
+    divided_lift bs a (line_member a l) b k (line_marked a l n h).monic (w.1 b in_bs).monic in_bs
+    ((multiple-grading a n).symmetric l.mark b.head (subst (λ (z : MarkedPolynomial). AreMultipleApart a l.mark z.head) is o.apart))
+    (subst (λ (z : Exponents). IsQuotientAt b z k) ex d)
+    (λ y q. subst (λ (z : MarkedPolynomial). coefficient z.poly l.mark *ℚ coefficient (line_member a l).poly y ≡ coefficient z.poly y) is (o.part y q))
   where
-    at : (j : ℕ) (c : MarkedPolynomial) → (j < i) ⊎ (i ≤ j) → j < i + 1 → IsAt bs j c → get_or (flags ++ f ∷ []) j false ≡ true → IsAlone a c
-    at j c (inl k) m x y = h.at j c k x (sym (get_or_append_left flags (f ∷ []) false j (omega (arith, k, h.size))) ∙ y)
-    at j c (inr k) m x y =
-        let r : i ≡ j = omega (arith, k, m) in
-        subst (IsAlone a) (members_equal bs j b c (subst (λ (z : ℕ). IsAt bs z b) r (member_at bs i b l e)) x) (p (sym (get_or_push flags f false j (h.size ∙ r)) ∙ y))
+    here : IsAt bs p b
+    here = member_at bs p b o.at.within e
 
-pub alone_to-end : (a : List ℤ) (bs : List MarkedPolynomial) (flags : List Bool) (i : ℕ) → length bs ≤ i → AreAloneTo a bs flags i → AreAloneWhere a bs flags
-alone_to-end a bs flags i l h = record { size = omega (arith, h.size, h.within, l); at = λ j b x y. h.at j b (omega (arith, l, x.within)) x y }
+    in_bs : Contains bs b
+    in_bs = member_contained bs p b here
+
+    is : o.member ≡ b
+    is = members_equal bs p o.member b o.at here
+
+-- as the code has it
+pub if_origin_lifted : (bs : List MarkedPolynomial) (a : List ℤ) (l : Line) (p : ℕ) (b : MarkedPolynomial) (o : Option MarkedPolynomial) → HasNonzero a → HasSomeWeight bs → IsLineOf a bs l → l.origin ≡ Some p → b ≡ get_or bs p b →
+    IfSome o (IsQuotientAt b l.mark) → IfSome o (IsTopLift bs a (line_member a l))
+if_origin_lifted bs a l p b (Some k) n w h e q d = origin_lifted bs a l p b k l.mark n w h.0 (subst (λ (z : Option ℕ). IfSome z (HasOrigin a bs l)) e h.1) q refl d
+if_origin_lifted bs a l p b None n w h e q d = tt
+
+pub if_origin_variables : (n : ℕ) (bs : List MarkedPolynomial) (a : List ℤ) (l : Line) (p : ℕ) (b : MarkedPolynomial) (o : Option MarkedPolynomial) → HaveVariables n bs → IsLineOf a bs l → l.origin ≡ Some p → b ≡ get_or bs p b →
+    IfSome o (IsQuotientAt b l.mark) → IfSome o (λ k. HasVariables n k.poly)
+if_origin_variables n bs a l p b (Some k) v h e q d =
+    let w : HasOrigin a bs l p = subst (λ (z : Option ℕ). IfSome z (HasOrigin a bs l)) e h.1 in
+    d.variables.at n (member_variables n bs b v (member_contained bs p b (member_at bs p b w.at.within q)))
+if_origin_variables n bs a l p b None v h e q d = tt
+
+pub if_twin_lifted : (bs : List MarkedPolynomial) (a : List ℤ) (l : Line) (m : MarkedPolynomial) (o : Option MarkedPolynomial) → SamePolynomial m.poly (line_member a l).poly → m.head ≡ l.mark → IfSome o (IsTopLift bs a m) → IfSome o (IsTopLift bs a (line_member a l))
+if_twin_lifted bs a l m (Some k) s e t = top_twin bs a m (line_member a l) k s e t
+if_twin_lifted bs a l m None s e t = tt
+
+-- a polynomial that is the same, with the same mark, is monic
+pub twin_monic : (a : List ℤ) (l : Line) (m : MarkedPolynomial) → HasNonzero a → IsLineAlong a l → SamePolynomial m.poly (line_member a l).poly → m.head ≡ l.mark → coefficient m.poly m.head ≡ one_ℚ
+twin_monic a l m n h s e = s m.head ∙ ap (coefficient (line_member a l).poly) e ∙ (line_marked a l n h).monic
+
+pub terms_end : (a : List ℤ) (l : Line) (i : ℕ) (f : Terms) → length l.rest.items ≤ i → f ≡ record { coef = one_ℚ; mono = l.mark } ∷ line_terms a l.mark (take i l.rest.items) → f ≡ (line_member a l).poly
+terms_end a l i f n e = e ∙ ap (λ (z : List Point). record { coef = one_ℚ; mono = l.mark } ∷ line_terms a l.mark z) (take_all i l.rest.items n)
 
 -- ---- the lifts, as the code has them
 
@@ -150,3 +169,10 @@ lifted_behind n bs a xs ms flags j b old new before after e l q k h =
   where
     next : (length xs + j) + 1 ≡ length xs + (j + 1)
     next = omega arith
+
+-- the same of a line
+pub lifted_line : (n : ℕ) (bs : List MarkedPolynomial) (a : List ℤ) (xs : List Exponents) (ls : List Line) (flags : List Bool) (j : ℕ) (l : Line) (old new : List MarkedPolynomial) (before after : List Bool) →
+    length flags ≡ length (with_monomials xs (line_members a ls)) → j < length ls → l ≡ get_or ls j l → IsLiftedWhere (get_or flags (length xs + j) false) n bs a (line_member a l) old new before after →
+    AreLiftedTo n bs a (with_monomials xs (line_members a ls)) flags (length xs + j) old before → AreLiftedTo n bs a (with_monomials xs (line_members a ls)) flags (length xs + (j + 1)) new after
+lifted_line n bs a xs ls flags j l old new before after e m q k h =
+    lifted_behind n bs a xs (line_members a ls) flags j (line_member a l) old new before after e (omega (arith, m, length-map ls (line_member a))) (ap (line_member a) q ∙ sym (get_or-map (line_member a) ls j l (line_member a l) m)) k h

@@ -1,16 +1,14 @@
 -- Pairs that members with one monomial settle: each term that the S-polynomial may have is a multiple of such a member below the least
 -- common multiple of the marks.
--- To cite: join_left, join_right, covered_by, passed_cover, passed_cover_more, cover_end, covered_pair.
-use Rattle.std.proofs.Common.{◌≡◌, ◌⊎◌, ℕ, ◌+◌, ◌<◌, ◌≤◌, Bool, true, false, if◌then◌else◌, List, [], ◌∷◌, ◌++◌, length, take, get_or, Contains, refl, sym, ap, ◌∙◌, subst, inl, inr, eqb}
-use Rattle.std.proofs.lemmas.Bool.{cases_eq, ne_eqb}
-use Rattle.std.proofs.lemmas.List.{take_more, take_all}
+-- To cite: join_left, join_right, cover_all, covered_pair.
+use Rattle.std.proofs.Common.{◌≡◌, ◌⊎◌, ℕ, Bool, true, false, if◌then◌else◌, List, [], ◌∷◌, ◌++◌, Contains, refl, sym, ap, ◌∙◌, inl, inr}
 use Rattle.gf_frac.specs.Fraction.{Fraction, ◌+ℚ◌, ◌*ℚ◌, neg_ℚ, zero_ℚ, one_ℚ}
 use Rattle.gf_exponents.specs.Exponents.{Exponents, plus, minus, join, same, Divides}
 use Rattle.gf_exponents.specs.Orders.{IsStrict}
-use Rattle.gf_exponents.proofs.ExponentsLaws.{same-refl, same-sym, same_along, same_flip, same_shift, same_trans, same_of, minus_left, minus_right}
+use Rattle.gf_exponents.proofs.ExponentsLaws.{same-refl, same-sym, same_along, same_flip, same_shift, same_trans, minus_left, minus_right}
 use Rattle.gf_poly.specs.declared.Term.{Term}
 use Rattle.gf_poly.specs.Polynomial.{Terms, coefficient, times}
-use Rattle.gf_poly.specs.Marking.{MarkedPolynomial, polys, Each, head_of}
+use Rattle.gf_poly.specs.Marking.{MarkedPolynomial, polys, Each}
 use Rattle.gf_poly.proofs.PolynomialLaws.{coefficient-++, coefficient-factor, SamePolynomial-times, times-plain}
 use Rattle.gf_ideal.specs.Membership.{HasMonomial, AreInVariables}
 use Rattle.gf_ideal.specs.Marks.{AreMarked, IsMarked, Piece, level, value}
@@ -23,7 +21,6 @@ use Rattle.gf_ideal.proofs.ListedTerms.{listed}
 use Rattle.gf_ideal.proofs.PieceLaws.{coefficient-value-++, scale, value-scale, Each-scale}
 use Rattle.gf_ideal.proofs.StepLaws.{coefficient-mark}
 use Rattle.gf_ideal.proofs.TermLaws.{Canonical, canonical, canonical_terms, without, apart, nothing_there}
-use Rattle.gf_division.proofs.TailLaws.{head_at}
 use Rattle.gf_division.proofs.SubtractionLaws.{swap_last}
 use Rattle.gf_flip.specs.Turns.{HasCover, HasCoveredTail, IsPairCovered}
 
@@ -37,40 +34,18 @@ join_right h k = record { rest = minus (join h k) k; product = same_flip (plus (
 
 -- ---- the terms, one after another
 
-pub covered_by : (bs : List MarkedPolynomial) (x : Exponents) (j : ℕ) (d : MarkedPolynomial) → j < length bs → d ≡ get_or bs j d → HasOneMonomial d → Divides d.head x → HasCover bs x
-covered_by bs x j d l e s v = record { member = d; contained = (j, l, sym e); single = s; divides = v }
-
 -- the term is at the mark, or what it is raised to has a cover
 abbrev pub IsCovered : List MarkedPolynomial → Exponents → Exponents → Term → Type 0
 IsCovered bs u h t = (same t.mono h ≡ true) ⊎ HasCover bs (plus u t.mono)
-
--- so are the terms before the place k
-abbrev pub AreCovered : List MarkedPolynomial → Exponents → Exponents → ℕ → Terms → Type 0
-AreCovered bs u h k f = Each (IsCovered bs u h) (take k f)
-
-pub passed_cover : (bs : List MarkedPolynomial) (u : Exponents) (b : MarkedPolynomial) (k m : ℕ) (f : Terms) (t : Term) → f ≡ b.poly → k < length f → t ≡ get_or f k t → head_of b.poly m ≡ b.head →
-    (eqb k m ≡ false → HasCover bs (plus u t.mono)) → IsCovered bs u b.head t
-passed_cover bs u b k m f t q l e h n = at (cases_eq k m)
-  where
-    at : (k ≡ m) ⊎ (k ≡ m → ⊥) → IsCovered bs u b.head t
-    at (inl p) = inl (same_of t.mono b.head (sym (head_at f k t l e) ∙ ap (λ (z : Terms). head_of z k) q ∙ ap (head_of b.poly) p ∙ h))
-    at (inr p) = inr (n (ne_eqb k m p))
-
-pub passed_cover_more : (bs : List MarkedPolynomial) (u h : Exponents) (k : ℕ) (f : Terms) (t : Term) → k < length f → t ≡ get_or f k t → IsCovered bs u h t → AreCovered bs u h k f → AreCovered bs u h (k + 1) f
-passed_cover_more bs u h k f t l e p c = subst (Each (IsCovered bs u h)) (sym (take_more f k t l ∙ ap (λ (z : Term). take k f ++ z ∷ []) (sym e)))
-    (Each-++ (IsCovered bs u h) (take k f) (t ∷ []) c (p, tt))
 
 -- a cover of a monomial is one of each that is the same
 cover_along : (bs : List MarkedPolynomial) (x y : Exponents) → same x y ≡ true → HasCover bs x → HasCover bs y
 cover_along bs x y s c = record { member = c.member; contained = c.contained; single = c.single; divides = record { rest = c.divides.rest; product = same_trans y x (plus c.divides.rest c.member.head) (same_flip x y s) c.divides.product } }
 
--- all of them are
-pub cover_end : (bs : List MarkedPolynomial) (u : Exponents) (b : MarkedPolynomial) (k : ℕ) (f : Terms) → f ≡ b.poly → length f ≤ k → AreCovered bs u b.head k f → HasCoveredTail bs u b
-cover_end bs u b k f q n h = record { at = λ y m. at y (listed (IsCovered bs u b.head) b.poly y all m) }
+-- each term is so: the tail is covered
+pub cover_all : (bs : List MarkedPolynomial) (u : Exponents) (b : MarkedPolynomial) → Each (IsCovered bs u b.head) b.poly → HasCoveredTail bs u b
+cover_all bs u b h = record { at = λ y m. at y (listed (IsCovered bs u b.head) b.poly y h m) }
   where
-    all : Each (IsCovered bs u b.head) b.poly
-    all = subst (Each (IsCovered bs u b.head)) (take_all k f n ∙ q) h
-
     at : (y : Exponents) → (t : Term) × IsCovered bs u b.head t × (same y t.mono ≡ true) → (same y b.head ≡ true) ⊎ HasCover bs (plus u y)
     at y t = elim t.1 [
       | inl s ↦ inl (same_trans y t.0.mono b.head t.2 s)

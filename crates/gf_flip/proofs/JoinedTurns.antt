@@ -1,41 +1,23 @@
 -- A run with monomials in front of its members.
--- To cite: covered_by_monomial, cover_chain, chained_behind, chained_turn, cover_more, tail_cover_monomial, behind_members, behind_appendable, grown_behind, read_monomial, read_members, IsWideWith, pair_wide_with, whole_with-start, fronts_single, undivided-first, undivided-rest.
-use Rattle.std.specs.Option.{is_some}
-use Rattle.std.specs.declared.option.Option.{Option}
-use Rattle.std.proofs.lemmas.List.{get_or_default}
-use Rattle.std.proofs.Common.{◌≡◌, ◌⊎◌, ℕ, zero, suc, ◌+◌, ◌<◌, ◌≤◌, true, false, Some, None, IfSome, List, [], ◌∷◌, length, take, get_or, Contains, arith, refl, sym, ap, ◌∙◌, subst, inl, inr}
-use Rattle.gf_exponents.specs.Exponents.{Exponents, Divides, join, minus, plus}
+-- To cite: cover_more, tail_cover_monomial, cover_chain, front_chain, front_take, chained_behind, chained_turn, read_monomial, read_members, AreSettledTo, settled_to-start, settled_to-more, settled_within, settled_turning,
+-- settled_entered, row_next, row_start, first_behind, pair_behind, behind_second, behind_size, row_second, undivided-first, undivided-rest.
+use Rattle.std.proofs.Common.{◌≡◌, ◌⊎◌, ℕ, zero, suc, ◌+◌, ◌<◌, ◌≤◌, List, [], ◌∷◌, length, take, get_or, Contains, arith, refl, sym, ap, ◌∙◌, subst, inl, inr}
+use Rattle.gf_exponents.specs.Exponents.{Exponents, join, minus, plus}
 use Rattle.gf_exponents.specs.SixOrders.{MonomialOrder}
-use Rattle.gf_poly.specs.Polynomial.{Terms, HasVariables}
+use Rattle.gf_poly.specs.Polynomial.{Terms}
 use Rattle.gf_poly.specs.Marking.{MarkedPolynomial, HaveVariables}
 use Rattle.gf_ideal.specs.Reduction.{HasOneMonomial, IsIrreducible}
 use Rattle.gf_ideal.specs.Settled.{IsAt}
 use Rattle.gf_int.proofs.ListLaws.{Contains-here}
-use Rattle.gf_ideal.proofs.DividingLaws.{member_contained}
 use Rattle.gf_ideal.proofs.ListLaws.{Contains-there}
 use Rattle.gf_division.proofs.ReducerLaws.{member_at}
-use Rattle.gf_buchberger.specs.Runs.{MembersHaveVariables}
 use Rattle.gf_buchberger.proofs.ReducedPairLaws.{AreRead}
-use Rattle.gf_flip.specs.Forms.{IsMonomialFor}
 use Rattle.gf_flip.specs.Monomials.{monomial_member, with_monomials}
-use Rattle.gf_flip.specs.Turns.{AreUndividedBy, IsChained, HasCover, HasCoveredTail, IsPairCovered, IsGrown, IsEntering, AreSingleTo, IsTurning, KeepsTurning, AreKeptIn, AreTakenIn}
-use Rattle.gf_flip.proofs.MonomialLaws.{monomial_single, joined_length, front_at, behind_at, AtFront, AtBehind, joined_cases, joined_push, behind_contained, front_contained, behind_variables}
-use Rattle.gf_flip.proofs.TurnLaws.{entering_end, IsWhole, whole-start, whole-more, pair_wide, each-take, IsRowTaken, row-more}
+use Rattle.gf_flip.specs.Turns.{AreUndividedBy, IsChained, HasCover, HasCoveredTail, IsPairCovered, IsEntering, AreSingleTo, IsTurning, KeepsTurning, AreKeptIn, AreTakenIn}
+use Rattle.gf_flip.proofs.MonomialLaws.{monomial_single, joined_length, front_at, behind_at, AtFront, AtBehind, joined_cases, front_contained}
+use Rattle.gf_flip.proofs.TurnLaws.{entering_end, IsWhole, whole-start, whole-more, IsRowTaken, row-more}
 
 -- ---- covers and chains
-
-covered_by_monomial : (xs : List Exponents) (x : Exponents) (j : ℕ) (m : Exponents) → j < length xs → m ≡ get_or xs j m → Divides m x → HasCover (with_monomials xs []) x
-covered_by_monomial xs x j m l e d = record {
-  member = monomial_member m;
-  contained = member_contained (with_monomials xs []) j (monomial_member m) (front_at xs [] j m l e);
-  single = monomial_single m;
-  divides = d;
-}
-
--- the monomial that a search found
-pub covered_if : (xs : List Exponents) (x : Exponents) (o : Option ℕ) → IfSome o (IsMonomialFor xs x) → is_some o ≡ true → HasCover (with_monomials xs []) x
-covered_if xs x (Some j) h t = covered_by_monomial xs x j (get_or xs j []) h.within (get_or_default xs j [] (get_or xs j []) h.within) h.divides
-covered_if xs x None h t = absurd (let z : false ≡ true = t in cc)
 
 -- the members in front are among all
 pub cover_more : (xs : List Exponents) (bs : List MarkedPolynomial) (x : Exponents) → HasCover (with_monomials xs []) x → HasCover (with_monomials xs bs) x
@@ -43,12 +25,6 @@ cover_more xs bs x h = record { member = h.member; contained = front_contained x
 
 tail_cover_more : (xs : List Exponents) (bs : List MarkedPolynomial) (u : Exponents) (b : MarkedPolynomial) → HasCoveredTail (with_monomials xs []) u b → HasCoveredTail (with_monomials xs bs) u b
 tail_cover_more xs bs u b h = record { at = λ y m. elim (h.at y m) [ inl s ↦ inl s | inr k ↦ inr (cover_more xs bs (plus u y) k) ] }
-
-pub pair_cover_more : (xs : List Exponents) (bs : List MarkedPolynomial) (b c : MarkedPolynomial) → IsPairCovered (with_monomials xs []) b c → IsPairCovered (with_monomials xs bs) b c
-pair_cover_more xs bs b c h = record {
-  first = tail_cover_more xs bs (minus (join b.head c.head) b.head) b h.first;
-  second = tail_cover_more xs bs (minus (join b.head c.head) c.head) c h.second;
-}
 
 -- a monomial has no tail
 pub tail_cover_monomial : (xs : List Exponents) (bs : List MarkedPolynomial) (x : Exponents) (c : MarkedPolynomial) → HasCoveredTail (with_monomials xs []) (minus (join x c.head) c.head) c → IsPairCovered (with_monomials xs bs) (monomial_member x) c
@@ -102,19 +78,6 @@ chained_turn xs bs i x h = subst (λ (z : List MarkedPolynomial). IsChained z x)
 
 -- ---- members that are read
 
-pub behind_members : (n : ℕ) (xs : List Exponents) (bs : List MarkedPolynomial) → MembersHaveVariables n (with_monomials xs bs) → MembersHaveVariables n bs
-behind_members n xs bs v = record { heads = λ b c. v.heads b (behind_contained xs bs b c); polys = λ b c. v.polys b (behind_contained xs bs b c) }
-
-pub grown_behind : (order : MonomialOrder) (r : Terms) (xs : List Exponents) (old new : List MarkedPolynomial) → IsGrown order r old new → IsGrown order r (with_monomials xs old) (with_monomials xs new)
-grown_behind order r xs old new g = record {
-  member = g.member;
-  monic = g.monic;
-  marked = g.marked;
-  poly = g.poly;
-  head = g.head;
-  members = ap (λ (z : List MarkedPolynomial). with_monomials xs z) g.members ∙ joined_push xs old g.member;
-}
-
 pub read_monomial : (xs : List Exponents) (bs : List MarkedPolynomial) (i j : ℕ) (x : Exponents) (c : MarkedPolynomial) → i < length xs → x ≡ get_or xs i x → j < length bs → c ≡ get_or bs j c →
     AreRead (with_monomials xs bs) i (length xs + j) (monomial_member x) c
 read_monomial xs bs i j x c l e m q = record { at_i = front_at xs bs i x l e; at_j = behind_at xs bs j c (member_at bs j c m q) }
@@ -122,28 +85,6 @@ read_monomial xs bs i j x c l e m q = record { at_i = front_at xs bs i x l e; at
 pub read_members : (xs : List Exponents) (bs : List MarkedPolynomial) (i j : ℕ) (b c : MarkedPolynomial) → i < j → j < length bs → b ≡ get_or bs i b → c ≡ get_or bs j c →
     AreRead (with_monomials xs bs) (length xs + i) (length xs + j) b c
 read_members xs bs i j b c l m e q = record { at_i = behind_at xs bs i b (member_at bs i b (omega arith) e); at_j = behind_at xs bs j c (member_at bs j c m q) }
-
-front_all : (n : ℕ) (xs : List Exponents) (bs : List MarkedPolynomial) → HaveVariables n (with_monomials xs bs) → HaveVariables n (with_monomials xs [])
-front_all n [] bs v = tt
-front_all n (x ∷ xs) bs v = (v.0, front_all n xs bs v.1)
-
--- the least common multiple of the marks of two members has as many variables as each of them, as the monomials, and as the members before
-pub record IsWideWith (xs : List Exponents) (bs : List MarkedPolynomial) (i : ℕ) (b c : MarkedPolynomial) (m : Exponents) : Type 0 where
-  pub first : HasVariables (length m) b.poly
-  pub second : HasVariables (length m) c.poly
-  pub monomials : HaveVariables (length m) (with_monomials xs [])
-  pub front : HaveVariables (length m) (take i bs)
-
-pub pair_wide_with : (n : ℕ) (xs : List Exponents) (bs : List MarkedPolynomial) (p q i : ℕ) (b c : MarkedPolynomial) (m : Exponents) → MembersHaveVariables n (with_monomials xs bs) →
-    AreRead (with_monomials xs bs) p q b c → m ≡ join b.head c.head → IsWideWith xs bs i b c m
-pair_wide_with n xs bs p q i b c m v r e =
-    let w = pair_wide n (with_monomials xs bs) p q b c m v r e in
-    record {
-      first = w.first;
-      second = w.second;
-      monomials = front_all (length m) xs bs w.members;
-      front = each-take (λ (d : MarkedPolynomial). HasVariables (length m) d.poly) i bs (behind_variables (length m) xs bs w.members);
-    }
 
 -- ---- the whole run
 

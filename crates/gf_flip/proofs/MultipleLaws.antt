@@ -1,7 +1,9 @@
 -- Whether exponents are a multiple of a vector apart, as the code tests it: an exact quotient, then entry by entry.
--- To cite: exact, small_factor, apart_more, apart_end, not_apart, kept, narrow_entry.
+-- To cite: exact, small_factor, apart_more, distance_end, apart_end, not_apart, kept, narrow_entry, apart_found.
 use Rattle.std.specs.Prelude.{◌≡◌, ◌≢◌, ◌⊎◌, ℕ, zero, suc, ◌+◌, ◌*◌, ◌<◌, ◌≤◌, ◌^◌, List, [], ◌∷◌, length, get_or, ℤ, pos, ◌+ℤ◌, ◌-ℤ◌, ◌*ℤ◌, unsigned_abs, int_div, int_rem}
-use Rattle.std.proofs.Common.{arith, refl, sym, ap, ◌∙◌, inl, inr, to_z, of_z}
+use Rattle.std.specs.declared.option.Option.{Option}
+use Rattle.std.specs.Option.{is_some}
+use Rattle.std.proofs.Common.{true, false, Some, None, IfSome, arith, refl, sym, ap, ◌∙◌, inl, inr, to_z, of_z}
 use Rattle.std.proofs.lemmas.Bool.{cases_lt}
 use Rattle.std.specs.Int.{w64, w128}
 use Rattle.std.proofs.lemmas.Int.{ints, unsigned_abs-mul, quot-rem, rem_below, to_z-of_z, fits_signed_from_abs}
@@ -11,6 +13,7 @@ use Rattle.gf_exponents.specs.Exponents.{Exponents, entry}
 use Rattle.gf_exponents.proofs.ExponentsLaws.{entry-get_or, entry-past}
 use Rattle.gf_ideal.specs.OrderTable.{AreMultipleApart}
 use Rattle.gf_flip.specs.Along.{AreSmall}
+use Rattle.gf_flip.specs.Lines.{IsDistance}
 use Rattle.gf_int.proofs.SignLaws.{abs_positive}
 use Rattle.gf_int.proofs.ContentLaws.{abs_zero}
 
@@ -60,9 +63,9 @@ past (x ∷ a) zero l = absurd (omega arith)
 past (x ∷ a) (suc i) l = past a i (omega arith)
 
 -- all
-pub apart_end : (a : List ℤ) (x y : Exponents) (k : ℤ) (i : ℕ) → length x ≡ length a → length y ≡ length a →
-    length a ≤ i → AreApartTo a x y k i → AreMultipleApart a x y
-apart_end a x y k i p q l h = (k, λ j. at j (cases_lt j i))
+pub distance_end : (a : List ℤ) (x y : Exponents) (k : ℤ) (i : ℕ) → length x ≡ length a → length y ≡ length a →
+    length a ≤ i → AreApartTo a x y k i → (j : ℕ) → pos (entry x j) ≡ pos (entry y j) +ℤ k *ℤ get_or a j (pos 0)
+distance_end a x y k i p q l h j = at j (cases_lt j i)
   where
     zero_times : (k : ℤ) → k *ℤ pos 0 ≡ pos 0
     zero_times k = same_number (dv k ⊗ dn 0) (dn 0) (omega arith)
@@ -70,6 +73,10 @@ apart_end a x y k i p q l h = (k, λ j. at j (cases_lt j i))
     at : (j : ℕ) → (j < i) ⊎ (i ≤ j) → pos (entry x j) ≡ pos (entry y j) +ℤ k *ℤ get_or a j (pos 0)
     at j (inl s) = h j s
     at j (inr s) = omega (arith, ints, entry-past x j (omega arith), entry-past y j (omega arith), ap (λ z. k *ℤ z) (past a j (omega arith)), zero_times k)
+
+pub apart_end : (a : List ℤ) (x y : Exponents) (k : ℤ) (i : ℕ) → length x ≡ length a → length y ≡ length a →
+    length a ≤ i → AreApartTo a x y k i → AreMultipleApart a x y
+apart_end a x y k i p q l h = (k, distance_end a x y k i p q l h)
 
 -- the multiplier of monomials that are apart is the exact quotient at the pivot, so each entry is as it says
 pub not_apart : (a : List ℤ) (x y : Exponents) (k c : ℤ) (d m : ℤ) (p i : ℕ) →
@@ -99,3 +106,8 @@ narrow_entry a i z h l e = ap (λ (y : ℤ). to_z w64 (of_z w64 y)) (e ∙ whole
   where
     whole : to_z w128 (of_z w128 (get_or a i (pos 0))) ≡ get_or a i (pos 0)
     whole = to_z-of_z w128 (get_or a i (pos 0)) (fits_signed_from_abs w128 (get_or a i (pos 0)) (omega (arith, small_entry a i h l)))
+
+-- a multiple that was found
+pub apart_found : (a : List ℤ) (x y : Exponents) (o : Option ℤ) → IfSome o (IsDistance a x y) → is_some o ≡ true → AreMultipleApart a x y
+apart_found a x y (Some k) h e = (k, h)
+apart_found a x y None h e = absurd (let z : false ≡ true = e in cc)

@@ -1,7 +1,7 @@
 -- The parts along a vector, as they are kept: one member after another, and what a run on them begins with.
--- To cite: AreTermsAlone, passed_alone, passed_alone_more, alone_end, split_none, split_more, split_size, split_alone,
+-- To cite: AreTermsAlone, passed_alone, passed_alone_more, alone_end, split_none, split_more, split_end, mark_added, part_added, parts_none, parts_more, split_size, split_alone,
 -- split_rising, split_clear, IsStart, split_start.
-use Rattle.std.proofs.Common.{◌≡◌, ◌⊎◌, ℕ, ◌+◌, ◌<◌, ◌≤◌, Bool, true, false, eqb, if◌then◌else◌, List, [], ◌∷◌, ◌++◌, length, take, map, get_or, Contains, ℤ, arith, refl, sym, ap, ◌∙◌, subst, inl, inr}
+use Rattle.std.proofs.Common.{◌≡◌, ◌⊎◌, ℕ, ◌+◌, ◌<◌, ◌≤◌, Bool, true, false, eqb, if◌then◌else◌, List, [], ◌∷◌, ◌++◌, length, take, map, get_or, Contains, ℤ, Option, None, Some, IfSome, arith, refl, sym, ap, ◌∙◌, subst, inl, inr}
 use Rattle.std.proofs.lemmas.Bool.{cases_eq, cases_lt, ne_eqb, false≢true}
 use Rattle.std.proofs.lemmas.List.{take_more, take_all, length-take-le, length-append, append-nil, map_push, get_or_append_left, get_or_push}
 use Rattle.std.proofs.lemmas.List.Elements.{Contains-append_left, Contains-push, Contains-push_cases}
@@ -35,7 +35,9 @@ use Rattle.gf_buchberger.proofs.RunSteps.{contained_old}
 use Rattle.gf_initial.proofs.ClassLaws.{multiple-grading}
 use Rattle.gf_flip.specs.declared.along.Split.{Split}
 use Rattle.gf_flip.specs.Crossings.{IsCrossing}
-use Rattle.gf_flip.specs.Along.{HasNonzero, IsAlong, AreAlong}
+use Rattle.gf_flip.specs.Along.{HasNonzero, AreAlong}
+use Rattle.gf_flip.specs.declared.lines.Part.{Part}
+use Rattle.gf_flip.specs.Lines.{IsPartOf, IsPartOnLine, ArePartsOnLines, AreSpots, AreFalling, line_terms, terms_of_part, terms_of_parts}
 use Rattle.gf_flip.specs.Tops.{IsAlone}
 use Rattle.gf_flip.specs.Monomials.{monomial_member, with_monomials, AreMonomialsApart}
 use Rattle.gf_flip.specs.Splits.{IsAloneAt, AreSplit, IsSplitOn}
@@ -81,30 +83,70 @@ alone_end a b k f z q n h x m s = at (listed (IsTermAlone a b.head) b.poly x all
 
 -- ---- the members, one after another
 
-pub split_none : (a : List ℤ) (places : List ℕ) (xs : List Exponents) (fs : List Terms) → places ≡ [] → xs ≡ [] → fs ≡ [] → AreSplit a [] places xs fs
-split_none a places xs fs p q r =
-    subst (λ (z : List ℕ). AreSplit a [] z xs fs) (sym p)
-    (subst (λ (z : List Exponents). AreSplit a [] [] z fs) (sym q)
-    (subst (λ (z : List Terms). AreSplit a [] [] [] z) (sym r) AreSplit.none))
+pub split_none : (a : List ℤ) (places : List ℕ) (xs : List Exponents) (ps : List Part) → places ≡ [] → xs ≡ [] → ps ≡ [] → AreSplit a [] places xs (terms_of_parts a ps)
+split_none a places xs ps p q r =
+    subst (λ (z : List ℕ). AreSplit a [] z xs (terms_of_parts a ps)) (sym p)
+    (subst (λ (z : List Exponents). AreSplit a [] [] z (terms_of_parts a ps)) (sym q)
+    (subst (λ (z : List Part). AreSplit a [] [] [] (terms_of_parts a z)) (sym r) AreSplit.none))
 
 pub split_more : (a : List ℤ) (bs : List MarkedPolynomial) (i : ℕ) (b : MarkedPolynomial) (old new : Split) → i < length bs → b ≡ get_or bs i b → IsSplitOn a i b old new →
-    AreSplit a (take i bs) old.places.items old.marks.items old.list.items → AreSplit a (take (i + 1) bs) new.places.items new.marks.items new.list.items
-split_more a bs i b old new l q s h = subst (λ (z : List MarkedPolynomial). AreSplit a z new.places.items new.marks.items new.list.items) (sym (take_more bs i b l ∙ ap (λ (z : MarkedPolynomial). take i bs ++ z ∷ []) (sym q))) (at s)
+    AreSplit a (take i bs) old.places.items old.marks.items (terms_of_parts a old.list.items) → AreSplit a (take (i + 1) bs) new.places.items new.marks.items (terms_of_parts a new.list.items)
+split_more a bs i b old new l q s h = subst (λ (z : List MarkedPolynomial). AreSplit a z new.places.items new.marks.items (terms_of_parts a new.list.items)) (sym (take_more bs i b l ∙ ap (λ (z : MarkedPolynomial). take i bs ++ z ∷ []) (sym q))) (at s)
   where
     size : length (take i bs) ≡ i
     size = length-take-le i bs (omega arith)
 
-    at : IsSplitOn a i b old new → AreSplit a (take i bs ++ b ∷ []) new.places.items new.marks.items new.list.items
+    at : IsSplitOn a i b old new → AreSplit a (take i bs ++ b ∷ []) new.places.items new.marks.items (terms_of_parts a new.list.items)
     at (IsSplitOn.alone o ep ex ef) =
-        subst (λ (z : List ℕ). AreSplit a (take i bs ++ b ∷ []) z new.marks.items new.list.items) (ap (λ (k : ℕ). old.places.items ++ k ∷ []) size ∙ sym ep)
-        (subst (λ (z : List Exponents). AreSplit a (take i bs ++ b ∷ []) (old.places.items ++ length (take i bs) ∷ []) z new.list.items) (sym ex)
-        (subst (λ (z : List Terms). AreSplit a (take i bs ++ b ∷ []) (old.places.items ++ length (take i bs) ∷ []) (old.marks.items ++ b.head ∷ []) z) (sym ef)
-        (AreSplit.alone (take i bs) old.places.items old.marks.items old.list.items b h o)))
-    at (IsSplitOn.part f p ep ex ef) =
-        subst (λ (z : List ℕ). AreSplit a (take i bs ++ b ∷ []) z new.marks.items new.list.items) (sym ep)
-        (subst (λ (z : List Exponents). AreSplit a (take i bs ++ b ∷ []) old.places.items z new.list.items) (sym ex)
-        (subst (λ (z : List Terms). AreSplit a (take i bs ++ b ∷ []) old.places.items old.marks.items z) (sym ef)
-        (AreSplit.part (take i bs) old.places.items old.marks.items old.list.items b f h p)))
+        subst (λ (z : List ℕ). AreSplit a (take i bs ++ b ∷ []) z new.marks.items (terms_of_parts a new.list.items)) (ap (λ (k : ℕ). old.places.items ++ k ∷ []) size ∙ sym ep)
+        (subst (λ (z : List Exponents). AreSplit a (take i bs ++ b ∷ []) (old.places.items ++ length (take i bs) ∷ []) z (terms_of_parts a new.list.items)) (sym ex)
+        (subst (λ (z : List Part). AreSplit a (take i bs ++ b ∷ []) (old.places.items ++ length (take i bs) ∷ []) (old.marks.items ++ b.head ∷ []) (terms_of_parts a z)) (sym ef)
+        (AreSplit.alone (take i bs) old.places.items old.marks.items (terms_of_parts a old.list.items) b h o)))
+    at (IsSplitOn.part p pi pb w t on falling ep ex ef) =
+        subst (λ (z : List ℕ). AreSplit a (take i bs ++ b ∷ []) z new.marks.items (terms_of_parts a new.list.items)) (sym ep)
+        (subst (λ (z : List Exponents). AreSplit a (take i bs ++ b ∷ []) old.places.items z (terms_of_parts a new.list.items)) (sym ex)
+        (subst (λ (z : List Terms). AreSplit a (take i bs ++ b ∷ []) old.places.items old.marks.items z) (sym (ap (terms_of_parts a) ef ∙ map_push (terms_of_part a) old.list.items p))
+        (AreSplit.part (take i bs) old.places.items old.marks.items (terms_of_parts a old.list.items) b (terms_of_part a p) h t)))
+
+-- all of them
+pub split_end : (a : List ℤ) (bs : List MarkedPolynomial) (i : ℕ) (s : Split) → length bs ≤ i → AreSplit a (take i bs) s.places.items s.marks.items (terms_of_parts a s.list.items) →
+    AreSplit a bs s.places.items s.marks.items (terms_of_parts a s.list.items)
+split_end a bs i s l h = subst (λ (z : List MarkedPolynomial). AreSplit a z s.places.items s.marks.items (terms_of_parts a s.list.items)) (take_all i bs l) h
+
+-- a place and a mark are added, or a part, if there is memory
+pub mark_added : (a : List ℤ) (i : ℕ) (b : MarkedPolynomial) (old new : Split) (h : Exponents) (r : Option (Unit {0})) → IsAlone a b → h ≡ b.head →
+    IfSome r (λ _. new.places.items ≡ old.places.items ++ i ∷ []) → IfSome r (λ _. new.marks.items ≡ old.marks.items ++ h ∷ []) → IfSome r (λ _. new.list.items ≡ old.list.items) →
+    IfSome r (λ _. IsSplitOn a i b old new)
+mark_added a i b old new h None o e p m l = tt
+mark_added a i b old new h (Some x) o e p m l = IsSplitOn.alone o p (m ∙ ap (λ (z : Exponents). old.marks.items ++ z ∷ []) e) l
+
+pub part_added : (a : List ℤ) (i : ℕ) (b : MarkedPolynomial) (old new : Split) (q : Part) (r : Option (Unit {0})) → q.place ≡ i → q.base ≡ b.head → length q.base ≡ length a →
+    IsPartOf a b (line_terms a b.head q.points.items) → AreSpots a b.head q.points.items → AreFalling q.points.items →
+    IfSome r (λ _. new.places.items ≡ old.places.items) → IfSome r (λ _. new.marks.items ≡ old.marks.items) → IfSome r (λ _. new.list.items ≡ old.list.items ++ q ∷ []) →
+    IfSome r (λ _. IsSplitOn a i b old new)
+part_added a i b old new q None ei eb w t on falling p m l = tt
+part_added a i b old new q (Some x) ei eb w t on falling p m l = IsSplitOn.part q ei eb w
+    (subst (λ (z : Exponents). IsPartOf a b (line_terms a z q.points.items)) (sym eb) t) (subst (λ (z : Exponents). AreSpots a z q.points.items) (sym eb) on) falling p m l
+
+-- each part is of the member at its place
+pub parts_none : (a : List ℤ) (bs : List MarkedPolynomial) (ps : List Part) → ps ≡ [] → ArePartsOnLines a bs ps
+parts_none a bs ps e = subst (ArePartsOnLines a bs) (sym e) tt
+
+pub parts_more : (a : List ℤ) (bs : List MarkedPolynomial) (i : ℕ) (b : MarkedPolynomial) (old new : Split) → i < length bs → b ≡ get_or bs i b → IsSplitOn a i b old new →
+    ArePartsOnLines a bs old.list.items → ArePartsOnLines a bs new.list.items
+parts_more a bs i b old new l q (IsSplitOn.alone o ep ex ef) h = subst (ArePartsOnLines a bs) (sym ef) h
+parts_more a bs i b old new l q (IsSplitOn.part p pi pb w t on falling ep ex ef) h = subst (ArePartsOnLines a bs) (sym ef) (Each-++ (IsPartOnLine a bs) old.list.items (p ∷ []) h (
+  record {
+    member = b;
+    at = subst (λ (k : ℕ). IsAt bs k b) (sym pi) (record { within = l; is = sym q });
+    base = pb;
+    width = w;
+    part = t;
+    on = on;
+    falling = falling;
+  },
+  tt,
+))
 
 -- ---- what stands at a place
 
@@ -199,11 +241,10 @@ one_width [] x m n h v w = absurd (h refl)
 one_width (t ∷ f) x m n h v w = sym v.0 ∙ w.0
 
 -- the part of a monic member of which one term is along
-alone_along : (a : List ℤ) (n : ℕ) (b : MarkedPolynomial) → HasNonzero a → coefficient b.poly b.head ≡ one_ℚ → IsCanonical n b → IsAlone a b → IsAlong a b (monomial b.head)
+alone_along : (a : List ℤ) (n : ℕ) (b : MarkedPolynomial) → HasNonzero a → coefficient b.poly b.head ≡ one_ℚ → IsCanonical n b → IsAlone a b → IsPartOf a b (monomial b.head)
 alone_along a n b z one k o = record {
-  part = record { head = refl; along = λ x p. along x p (same x b.head) refl; off = λ x p. off x p (same x b.head) refl };
-  descending = (one_not_zero, tt, tt);
-  variables = λ m v. (k.head ∙ sym (one_width b.poly b.head m n (λ e. one_not_zero (sym one ∙ e)) v k.variables), tt);
+  along = record { head = refl; along = λ x p. along x p (same x b.head) refl; off = λ x p. off x p (same x b.head) refl };
+  variables = record { at = λ m v. (k.head ∙ sym (one_width b.poly b.head m n (λ e. one_not_zero (sym one ∙ e)) v k.variables), tt) };
 }
   where
     nothing : (x : Exponents) → AreMultipleApart a x b.head → same x b.head ≡ false → (coefficient b.poly x ≡ zero_ℚ) ⊎ HasMonomial b.poly x → coefficient b.poly x ≡ zero_ℚ
@@ -237,7 +278,7 @@ generated-none a = record {
   each = λ f c. inr c;
 }
 
-generated-alone : (a : List ℤ) (bs : List MarkedPolynomial) (xs : List Exponents) (fs : List Terms) (b : MarkedPolynomial) → IsAlong a b (monomial b.head) → IsGenerated a bs xs fs → IsGenerated a (bs ++ b ∷ []) (xs ++ b.head ∷ []) fs
+generated-alone : (a : List ℤ) (bs : List MarkedPolynomial) (xs : List Exponents) (fs : List Terms) (b : MarkedPolynomial) → IsPartOf a b (monomial b.head) → IsGenerated a bs xs fs → IsGenerated a (bs ++ b ∷ []) (xs ++ b.head ∷ []) fs
 generated-alone a bs xs fs b p w = record {
   generators = w.generators ++ monomial b.head ∷ [];
   along = along_more a bs b w.generators (monomial b.head) w.along p;
@@ -254,7 +295,7 @@ generated-alone a bs xs fs b p w = record {
     at f (inl c) = elim (w.each f c) [ inl q ↦ inl (q.0, Contains-append_left xs (b.head ∷ []) q.0 q.1, q.2) | inr m ↦ inr m ]
     at f (inr e) = inl (b.head, Contains-push xs b.head, e)
 
-generated-part : (a : List ℤ) (bs : List MarkedPolynomial) (xs : List Exponents) (fs : List Terms) (b : MarkedPolynomial) (f : Terms) → IsAlong a b f → IsGenerated a bs xs fs → IsGenerated a (bs ++ b ∷ []) xs (fs ++ f ∷ [])
+generated-part : (a : List ℤ) (bs : List MarkedPolynomial) (xs : List Exponents) (fs : List Terms) (b : MarkedPolynomial) (f : Terms) → IsPartOf a b f → IsGenerated a bs xs fs → IsGenerated a (bs ++ b ∷ []) xs (fs ++ f ∷ [])
 generated-part a bs xs fs b f p w = record {
   generators = w.generators ++ f ∷ [];
   along = along_more a bs b w.generators f w.along p;
@@ -368,14 +409,14 @@ split_apart a bs places xs fs r h = record { none = λ i j l m d. at i j (omega 
 -- ---- the parts and the monomials
 
 -- each polynomial is the part of a member
-split_origin : (a : List ℤ) (bs : List MarkedPolynomial) (places : List ℕ) (xs : List Exponents) (fs : List Terms) → AreSplit a bs places xs fs → (f : Terms) → Contains fs f → (b : MarkedPolynomial) × Contains bs b × IsAlong a b f
+split_origin : (a : List ℤ) (bs : List MarkedPolynomial) (places : List ℕ) (xs : List Exponents) (fs : List Terms) → AreSplit a bs places xs fs → (f : Terms) → Contains fs f → (b : MarkedPolynomial) × Contains bs b × IsPartOf a b f
 split_origin a bs places xs fs AreSplit.none f c = absurd (omega (arith, c.1))
 split_origin a bs places xs fs (AreSplit.alone cs ps ys gs b h o) f c = let q = split_origin a cs ps ys gs h f c in (q.0, contained_old cs b q.0 q.1, q.2)
 split_origin a bs places xs fs (AreSplit.part cs ps ys gs b g h p) f c = at (Contains-push_cases gs g f c) (λ k. split_origin a cs ps ys gs h f k)
   where
-    at : Contains gs f ⊎ (g ≡ f) → (Contains gs f → (d : MarkedPolynomial) × Contains cs d × IsAlong a d f) → (d : MarkedPolynomial) × Contains (cs ++ b ∷ []) d × IsAlong a d f
+    at : Contains gs f ⊎ (g ≡ f) → (Contains gs f → (d : MarkedPolynomial) × Contains cs d × IsPartOf a d f) → (d : MarkedPolynomial) × Contains (cs ++ b ∷ []) d × IsPartOf a d f
     at (inl k) r = let q = r k in (q.0, contained_old cs b q.0 q.1, q.2)
-    at (inr e) r = (b, Contains-push cs b, subst (IsAlong a b) e p)
+    at (inr e) r = (b, Contains-push cs b, subst (IsPartOf a b) e p)
 
 -- f is the part of a member, and x the mark of one at another place
 record AreOfTwo (a : List ℤ) (bs : List MarkedPolynomial) (f : Terms) (x : Exponents) : Type 0 where
@@ -386,7 +427,7 @@ record AreOfTwo (a : List ℤ) (bs : List MarkedPolynomial) (f : Terms) (x : Exp
   at_i : IsAt bs i b
   at_j : IsAt bs j c
   apart : i ≡ j → ⊥
-  part : IsAlong a b f
+  part : IsPartOf a b f
   head : c.head ≡ x
 
 of_two_kept : (a : List ℤ) (bs : List MarkedPolynomial) (b : MarkedPolynomial) (f : Terms) (x : Exponents) → AreOfTwo a bs f x → AreOfTwo a (bs ++ b ∷ []) f x
@@ -426,7 +467,7 @@ split_of_two a bs places xs fs (AreSplit.part cs ps ys gs b g h p) f c x k = at 
           at_i = at_last cs b;
           at_j = at_kept cs b q.0 q.1.0 (record { within = q.1.1; is = q.1.2 });
           apart = λ s. omega (arith, s, q.1.1);
-          part = subst (IsAlong a b) e p;
+          part = subst (IsPartOf a b) e p;
           head = q.2;
         }
 
@@ -438,7 +479,7 @@ part_undivided a bs f y x t r w m d = w.apart (one_place bs w.i w.j w.b w.c r w.
     e = subst (λ (z : Exponents). Divides z y) (sym w.head) d
 
     there : HasMonomial w.b.poly y
-    there z = m (w.part.part.off y (λ p. m (w.part.part.along y p ∙ z)))
+    there z = m (w.part.along.off y (λ p. m (w.part.along.along y p ∙ z)))
 
     same_mark : same y w.b.head ≡ true
     same_mark = t w.b (member_contained bs w.i w.b w.at_i) y there (record { member = w.c; contained = member_contained bs w.j w.c w.at_j; rest = e.rest; divides = e.product })

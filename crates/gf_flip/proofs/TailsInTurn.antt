@@ -1,5 +1,5 @@
 -- Tails of lifts reduced in place, one lift after another: what the list is, and that each tail is reduced in the end.
--- To cite: set_cases, turned-length, turned_weight, turned_variables, turned_tails, turned_canonical.
+-- To cite: at_place, set_cases, put_same, put_other, divisible_along, turned-length, turned_weight, turned_variables, turned_tails, turned_canonical.
 use Rattle.std.proofs.Common.{◌≡◌, ◌⊎◌, ℕ, zero, suc, ◌+◌, ◌<◌, ◌≤◌, Bool, true, false, List, [], ◌∷◌, length, get_or, set, Contains, arith, refl, sym, ap, ◌∙◌, subst, inl, inr}
 use Rattle.std.proofs.lemmas.Bool.{cases_lt, cases_eq}
 use Rattle.std.proofs.lemmas.List.{get_or_default, get_or-set_same, get_or-set_other, length-set}
@@ -34,7 +34,7 @@ reduced_marked w bs b c m k r = subst (λ (x : Exponents). IsMarked (lighter w) 
 
 -- ---- one lift put in
 
-at_place : (bs : List MarkedPolynomial) (i : ℕ) (d : MarkedPolynomial) → i < length bs → IsAt bs i (get_or bs i d)
+pub at_place : (bs : List MarkedPolynomial) (i : ℕ) (d : MarkedPolynomial) → i < length bs → IsAt bs i (get_or bs i d)
 at_place bs i d l = record { within = l; is = get_or_default bs i (get_or bs i d) d l }
 
 -- a member is that one or one as before
@@ -49,10 +49,10 @@ set_cases bs i c d k = at (cases_eq k.0 i)
     at (inr n) = inr (k.0, inside, sym (get_or-set_other bs i k.0 c d n) ∙ k.2)
 
 -- at its place, and at another
-put_same : (bs : List MarkedPolynomial) (i j : ℕ) (c d : MarkedPolynomial) → i < length bs → j ≡ i → IsAt (set bs i c) j d → c ≡ d
+pub put_same : (bs : List MarkedPolynomial) (i j : ℕ) (c d : MarkedPolynomial) → i < length bs → j ≡ i → IsAt (set bs i c) j d → c ≡ d
 put_same bs i j c d l e a = sym (get_or-set_same bs i c d l) ∙ ap (λ (z : ℕ). get_or (set bs i c) z d) (sym e) ∙ a.is
 
-put_other : (bs : List MarkedPolynomial) (i j : ℕ) (c d : MarkedPolynomial) → (j ≡ i → ⊥) → IsAt (set bs i c) j d → IsAt bs j d
+pub put_other : (bs : List MarkedPolynomial) (i j : ℕ) (c d : MarkedPolynomial) → (j ≡ i → ⊥) → IsAt (set bs i c) j d → IsAt bs j d
 put_other bs i j c d n a = record { within = omega (arith, a.within, length-set bs i c); is = sym (get_or-set_other bs i j c d n) ∙ a.is }
 
 -- ---- one lift after another
@@ -105,7 +105,7 @@ pub record AreTurned (ls : List MarkedPolynomial) (i : ℕ) (ms : List MarkedPol
   pub done : (j : ℕ) (b c : MarkedPolynomial) → j < i → IsAt ls j b → IsAt ms j c → HasReducedTail ls c × IsKeptForm b c
 
 -- what a mark of the one list divides, one of another with the same marks does
-divisible_along : (ls ms : List MarkedPolynomial) → length ms ≡ length ls →
+pub divisible_along : (ls ms : List MarkedPolynomial) → length ms ≡ length ls →
     ((j : ℕ) (b c : MarkedPolynomial) → IsAt ls j b → IsAt ms j c → c.head ≡ b.head) → (x : Exponents) → IsDivisible (Contains ls) x → IsDivisible (Contains ms) x
 divisible_along ls ms e h x d =
     let j = d.contained.0 in

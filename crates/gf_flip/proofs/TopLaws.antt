@@ -1,22 +1,25 @@
 -- Lifts that end once nothing is left along the normal, as the code works them out.
 -- To cite: reducible_there, SeekingLine, seeking_more, Topping, topping-none, topping_more, topping_less, top_step,
--- shares_at, divides_at, off_more, off_end, top_remainder_at, top_there, top_lift_at, AreTopping, topping_push, AreToppingBefore, before-more.
+-- shares_at, divides_at, off_more, off_end, top_remainder_at, top_there, top_lift_at, divided_by, top_twin, divided_lift, AreTopping, topping_push, AreToppingBefore, before-more.
 use Rattle.std.specs.declared.option.Option.{Option}
 use Rattle.std.proofs.Common.{◌≡◌, ◌≢◌, ℕ, ◌+◌, ◌<◌, ◌≤◌, ◌^◌, true, Some, None, IfSome, List, [], ◌∷◌, ◌++◌, length, take, get_or, Contains, ℤ, pos, ◌+ℤ◌, ◌*ℤ◌, arith, refl, sym, ap, ◌∙◌, subst, inl, inr}
 use Rattle.std.proofs.lemmas.List.{take_more, take_all, append_assoc}
 use Rattle.gf_int.proofs.RingLaws.{dv, dn, ◌⊕◌, ◌⊗◌, same as same_number}
 use Rattle.gf_frac.specs.Fraction.{Fraction, ◌+ℚ◌, ◌*ℚ◌, neg_ℚ, reciprocal_ℚ, zero_ℚ, one_ℚ}
-use Rattle.gf_frac.proofs.FractionLaws.{zero_or_not, +ℚ-zero, +ℚ-neg_ℚ, +ℚ_assoc, +ℚ_comm, *ℚ-one, zero-*ℚ, neg_ℚ-*ℚ}
+use Rattle.gf_frac.proofs.FractionLaws.{zero_or_not, +ℚ-zero, +ℚ-neg_ℚ, +ℚ_assoc, +ℚ_comm, *ℚ-one, one-*ℚ, *ℚ_assoc, reciprocal_ℚ-*ℚ, zero-*ℚ, neg_ℚ-*ℚ}
 use Rattle.gf_exponents.specs.Exponents.{Exponents, same, plus, entry, Divides}
 use Rattle.gf_exponents.specs.Orders.{lighter}
 use Rattle.gf_exponents.proofs.ExponentsLaws.{same_of, same-refl}
 use Rattle.gf_poly.specs.declared.Term.{Term}
 use Rattle.gf_poly.specs.declared.TheConstants.{ROOM}
 use Rattle.gf_poly.specs.Monomial.{IsMonomial}
-use Rattle.gf_poly.specs.Polynomial.{Terms, coefficient, times, HasVariables, IsDescending, KeepsVariables, KeepsBothVariables}
+use Rattle.gf_poly.specs.Polynomial.{Terms, coefficient, SamePolynomial, times, HasVariables, IsDescending, KeepsVariables, KeepsBothVariables}
 use Rattle.gf_poly.specs.Marking.{MarkedPolynomial, Each, HaveVariables, head_of, HasMarkedTerm}
 use Rattle.gf_poly.specs.Sums.{IsDifference}
-use Rattle.gf_poly.specs.Products.{HasProducts}
+use Rattle.gf_poly.specs.Products.{HasProducts, IsScaled}
+use Rattle.gf_poly.proofs.CoefficientLaws.{term_coefficient}
+use Rattle.gf_division.proofs.TailLaws.{head_at}
+use Rattle.gf_ideal.proofs.StepLaws.{reached_trans}
 use Rattle.gf_poly.proofs.ProductLaws.{IsScaled-products, KeepsVariables-scaled}
 use Rattle.gf_poly.proofs.MarkingLaws.{nonzero_reciprocal, head_of-times}
 use Rattle.gf_ideal.specs.Membership.{HasMonomial}
@@ -41,8 +44,8 @@ use Rattle.gf_initial.specs.Lifts.{IsTopLift, AreTopLifts}
 use Rattle.gf_bases.proofs.DifferenceLaws.{difference, less_zero, less_summand}
 use Rattle.gf_initial.proofs.ClassLaws.{multiple-grading}
 use Rattle.gf_initial.proofs.MatchingLaws.{matched-push}
-use Rattle.gf_flip.specs.Along.{HasNonzero, IsAlong}
-use Rattle.gf_flip.specs.Tops.{AreOff, IsTopRemainder, IsAlone, IsDividedAt}
+use Rattle.gf_flip.specs.Along.{HasNonzero}
+use Rattle.gf_flip.specs.Tops.{AreOff, IsTopRemainder, IsAlone, IsQuotientAt}
 
 -- ---- the search
 
@@ -253,19 +256,36 @@ untouched_at bs a h b l one unit single c e alone q = subst (IsTopLift bs a h) (
 -- ---- members whose parts are only marked elsewhere
 
 -- a member divided by its coefficient at a place, and marked there
-pub divided_by : (b l : MarkedPolynomial) (f h : Terms) (k : Fraction) (i : ℕ) (x : Exponents) → f ≡ b.poly → k ≢ zero_ℚ → HasProducts (reciprocal_ℚ k) [] b.poly h → head_of f i ≡ x →
-    l ≡ record { poly = h; head = head_of h i } → IsDividedAt b x l
-divided_by b l f h k i x e n p q o = subst (IsDividedAt b x) (sym o) (record {
-  factor = reciprocal_ℚ k;
-  scaled = IsScaled-products (reciprocal_ℚ k) b.poly h p;
-  head = ap (λ (z : Terms). head_of z i) (p.nonzero (nonzero_reciprocal k n)) ∙ head_of-times (reciprocal_ℚ k) b.poly i ∙ ap (λ (z : Terms). head_of z i) (sym e) ∙ q;
-  variables = KeepsVariables-scaled (reciprocal_ℚ k) b.poly h p;
+pub divided_by : (b l : MarkedPolynomial) (f h : Terms) (t : Term) (i : ℕ) (x : Exponents) → f ≡ b.poly → IsDescending f → HasVariables (length x) b.poly → i < length f → t ≡ get_or f i t → t.coef ≢ zero_ℚ →
+    HasProducts (reciprocal_ℚ t.coef) [] b.poly h → head_of f i ≡ x → l ≡ record { poly = h; head = head_of h i } → IsQuotientAt b x l
+divided_by b l f h t i x e d v w r n p q o = subst (IsQuotientAt b x) (sym o) (record {
+  there = λ z. n (sym value ∙ z);
+  scaled = subst (λ (k : Fraction). IsScaled (reciprocal_ℚ k) b.poly h) (sym value) (IsScaled-products (reciprocal_ℚ t.coef) b.poly h p);
+  head = ap (λ (z : Terms). head_of z i) (p.nonzero (nonzero_reciprocal t.coef n)) ∙ head_of-times (reciprocal_ℚ t.coef) b.poly i ∙ ap (λ (z : Terms). head_of z i) (sym e) ∙ q;
+  variables = KeepsVariables-scaled (reciprocal_ℚ t.coef) b.poly h p;
 })
+  where
+    at : t.mono ≡ x
+    at = sym (head_at f i t w r) ∙ q
 
--- a member's part, divided by a number and marked elsewhere, less the step by that member is the member divided by the number
-pub divided_at : (bs : List MarkedPolynomial) (a : List ℤ) (h b l : MarkedPolynomial) → coefficient h.poly h.head ≡ one_ℚ → coefficient b.poly b.head ≡ one_ℚ →
-    Contains bs b → AreMultipleApart a b.head h.head → IsDividedAt b h.head l → IsAlong a l h.poly → IsTopLift bs a h l
-divided_at bs a h b l one unit c apart d p = record {
+    value : coefficient b.poly x ≡ t.coef
+    value = ap (coefficient b.poly) (sym at) ∙ term_coefficient (length x) b.poly t v (subst IsDescending e d) (subst (λ (z : Terms). Contains z t) e (i, w, sym r))
+
+-- the lift of a polynomial is that of each one that is the same, with the same mark
+pub top_twin : (bs : List MarkedPolynomial) (a : List ℤ) (h k l : MarkedPolynomial) → SamePolynomial h.poly k.poly → h.head ≡ k.head → IsTopLift bs a h l → IsTopLift bs a k l
+top_twin bs a h k l s e t = record {
+  remainder = t.remainder;
+  reached = reached_trans (Contains bs) k.poly h.poly t.remainder (Reached.here h.poly (λ x. sym (s x))) t.reached;
+  off = λ x m p. t.off x m (subst (AreMultipleApart a x) (sym e) p);
+  head = t.head ∙ e;
+  poly = λ x. t.poly x ∙ coefficient-++ h.poly (times (neg_ℚ one_ℚ) [] t.remainder) x ∙ ap (λ z. z +ℚ coefficient (times (neg_ℚ one_ℚ) [] t.remainder) x) (s x) ∙ sym (coefficient-++ k.poly (times (neg_ℚ one_ℚ) [] t.remainder) x);
+}
+
+-- where the terms of b that are multiples of a apart from the mark of h are c times those of h, b divided by c is the lift of h: h less a step by b
+pub divided_lift : (bs : List MarkedPolynomial) (a : List ℤ) (h b l : MarkedPolynomial) → coefficient h.poly h.head ≡ one_ℚ → coefficient b.poly b.head ≡ one_ℚ →
+    Contains bs b → AreMultipleApart a b.head h.head → IsQuotientAt b h.head l →
+    ((x : Exponents) → AreMultipleApart a x h.head → coefficient b.poly h.head *ℚ coefficient h.poly x ≡ coefficient b.poly x) → IsTopLift bs a h l
+divided_lift bs a h b l one unit c apart d p = record {
   remainder = rest;
   reached = Reached.next h.poly rest (Reached.here h.poly (λ x. refl)) (record {
     at = b.head;
@@ -284,14 +304,18 @@ divided_at bs a h b l one unit c apart d p = record {
     rest : Terms
     rest = h.poly ++ times (neg_ℚ (coefficient h.poly b.head)) [] b.poly
 
+    factor : Fraction
+    factor = reciprocal_ℚ (coefficient b.poly h.head)
+
     on : (x : Exponents) → AreMultipleApart a x h.head → coefficient h.poly x ≡ coefficient l.poly x
-    on x s = p.part.along x (subst (AreMultipleApart a x) (sym d.head) s)
+    on x s = sym (one-*ℚ (coefficient h.poly x)) ∙ ap (λ k. k *ℚ coefficient h.poly x) (sym (reciprocal_ℚ-*ℚ (coefficient b.poly h.head) d.there))
+        ∙ *ℚ_assoc factor (coefficient b.poly h.head) (coefficient h.poly x) ∙ ap (λ k. factor *ℚ k) (p x s) ∙ sym (d.scaled x)
 
-    q : coefficient h.poly b.head ≡ d.factor
-    q = on b.head apart ∙ d.scaled b.head ∙ ap (λ k. d.factor *ℚ k) unit ∙ *ℚ-one d.factor
+    q : coefficient h.poly b.head ≡ factor
+    q = on b.head apart ∙ d.scaled b.head ∙ ap (λ k. factor *ℚ k) unit ∙ *ℚ-one factor
 
-    nonzero : d.factor ≡ zero_ℚ → ⊥
-    nonzero z = one_not_zero (sym one ∙ on h.head (zero_apart a h.head) ∙ d.scaled h.head ∙ ap (λ k. k *ℚ coefficient b.poly h.head) z ∙ zero-*ℚ (coefficient b.poly h.head))
+    nonzero : factor ≡ zero_ℚ → ⊥
+    nonzero z = one_not_zero (sym (reciprocal_ℚ-*ℚ (coefficient b.poly h.head) d.there) ∙ ap (λ k. k *ℚ coefficient b.poly h.head) z ∙ zero-*ℚ (coefficient b.poly h.head))
 
     value : (x : Exponents) → coefficient rest x ≡ coefficient h.poly x +ℚ neg_ℚ (coefficient l.poly x)
     value x = coefficient-++ h.poly (times (neg_ℚ (coefficient h.poly b.head)) [] b.poly) x
@@ -299,11 +323,6 @@ divided_at bs a h b l one unit c apart d p = record {
 
     back : (p q : Fraction) → q ≡ p +ℚ neg_ℚ (p +ℚ neg_ℚ q)
     back p q = sym (less_summand q (p +ℚ neg_ℚ q) p (sym (+ℚ_comm q (p +ℚ neg_ℚ q) ∙ +ℚ_assoc p (neg_ℚ q) q ∙ ap (λ z. p +ℚ z) (+ℚ_comm (neg_ℚ q) q ∙ +ℚ-neg_ℚ q) ∙ +ℚ-zero p)))
-
-pub divided_lift_at : (bs : List MarkedPolynomial) (a : List ℤ) (h b l : MarkedPolynomial) (x y z : Exponents) (f : Terms) → coefficient h.poly h.head ≡ one_ℚ → coefficient b.poly b.head ≡ one_ℚ →
-    Contains bs b → AreMultipleApart a y z → y ≡ b.head → z ≡ h.head → IsDividedAt b x l → x ≡ h.head → IsAlong a l f → f ≡ h.poly → IsTopLift bs a h l
-divided_lift_at bs a h b l x y z f one unit c apart ey ez d ex p ef =
-    divided_at bs a h b l one unit c (subst (λ (w : Exponents). AreMultipleApart a w h.head) ey (subst (AreMultipleApart a y) ez apart)) (subst (λ (w : Exponents). IsDividedAt b w l) ex d) (subst (IsAlong a l) ef p)
 
 -- a monic member
 pub monic_member : (bs : List MarkedPolynomial) (b : MarkedPolynomial) (j : ℕ) → HasSomeWeight bs → j < length bs → b ≡ get_or bs j b → coefficient b.poly b.head ≡ one_ℚ

@@ -1,26 +1,22 @@
 -- A run that takes the pairs in turn, one step further, and its end: a reduced Gröbner basis.
--- To cite: turn_reducers, entering-start, entering-sorted, entering-taken, entering_end, whole-start, single_more, chained_by, turned_on, turning-row, turn_end.
-use Rattle.std.proofs.Common.{◌≡◌, ◌≢◌, ◌⊎◌, ℕ, zero, suc, ◌+◌, ◌<◌, ◌≤◌, true, false, List, [], ◌∷◌, ◌++◌, length, take, Contains, Some, None, IfSome, slice_index_or, arith, refl, sym, ap, ◌∙◌, subst, inl, inr}
-use Rattle.std.specs.Option.{is_some}
-use Rattle.std.specs.declared.option.Option.{Option}
+-- To cite: kept-same, kept-more, entering-taken, entering_end, turning-row, IsTurnedOn, each-take, turned_on, turn_end, IsWhole, whole-start, whole-more, IsRowTaken, row-none, row-more, row_turning.
+use Rattle.std.proofs.Common.{◌≡◌, ◌≢◌, ◌⊎◌, ℕ, zero, suc, ◌+◌, ◌<◌, ◌≤◌, List, [], ◌∷◌, ◌++◌, length, take, Contains, arith, refl, sym, ap, ◌∙◌, subst, inl, inr}
 use Rattle.std.proofs.lemmas.Bool.{cases_lt}
 use Rattle.std.proofs.lemmas.List.{get_or_push}
 use Rattle.gf_exponents.specs.SixOrders.{MonomialOrder, below_of}
 use Rattle.gf_exponents.proofs.SixOrdersLaws.{order-is}
-use Rattle.gf_poly.specs.Polynomial.{Terms, HasVariables, IsDescending, coefficient}
-use Rattle.gf_frac.specs.Fraction.{one_ℚ}
-use Rattle.gf_exponents.specs.Exponents.{Exponents, Divides, same, plus, minus, join}
+use Rattle.gf_poly.specs.Polynomial.{Terms, HasVariables, coefficient}
+use Rattle.gf_exponents.specs.Exponents.{Exponents, Divides, plus, minus, join}
 use Rattle.gf_exponents.proofs.ExponentsLaws.{same_of}
-use Rattle.gf_poly.specs.Marking.{MarkedPolynomial, polys, head_of, Each, HaveVariables, IsMonicOf, HasMark, HasMarkedTerm}
+use Rattle.gf_poly.specs.Marking.{MarkedPolynomial, polys, Each}
 use Rattle.gf_poly.proofs.MonomialLaws.{length-join, plus-minus}
 use Rattle.gf_ideal.specs.Membership.{HasMonomial, AreInVariables, IsInVariables, IsMember}
 use Rattle.gf_ideal.specs.Marks.{AreMarked}
-use Rattle.gf_ideal.specs.Reduction.{IsIrreducible, Reached, IsKept, IsMonicForm}
+use Rattle.gf_ideal.specs.Reduction.{IsIrreducible, Reached, IsKept}
 use Rattle.gf_ideal.specs.Settled.{IsAt, IsSettledPair}
 use Rattle.gf_ideal.specs.WorkLists.{IsOrigin, IsWorkList}
 use Rattle.gf_ideal.proofs.CriteriaLaws.{pair_by_steps, pair_by_product, pair_by_monomials, pair_by_chain, pair_turned, pair_more}
 use Rattle.gf_ideal.proofs.GeneratorLaws.{entered-zero, entered-appended}
-use Rattle.gf_ideal.proofs.KeptForms.{monic_form}
 use Rattle.gf_ideal.proofs.ListedTerms.{variables_by_terms}
 use Rattle.gf_ideal.proofs.MembershipLaws.{member-generator, member-trans}
 use Rattle.gf_ideal.proofs.ListLaws.{Contains-cases, Contains-there}
@@ -28,20 +24,13 @@ use Rattle.gf_ideal.proofs.PieceLaws.{Contains-polys, Contains-marked}
 use Rattle.gf_ideal.proofs.StepLaws.{monic-monomials, reached-more}
 use Rattle.gf_ideal.proofs.WorkLaws.{run_basis, work-marked}
 use Rattle.gf_ideal.proofs.DividingLaws.{member_contained}
-use Rattle.gf_division.proofs.MonicLaws.{monic_already}
-use Rattle.gf_division.proofs.StepLaws.{head_length, term_coefficient}
-use Rattle.gf_division.specs.Reducers.{IsDivisorAt}
-use Rattle.gf_division.specs.SPolynomials.{KeepsPairVariables, IsSPolynomialOf}
-use Rattle.gf_buchberger.specs.Leading.{IsComparable, IsLeadingAt}
-use Rattle.gf_buchberger.specs.Runs.{MembersHaveVariables, AreReducers, IsAppendable}
-use Rattle.gf_buchberger.proofs.AppendLaws.{marked_greatest, is_marked, member_length}
+use Rattle.gf_buchberger.specs.Runs.{MembersHaveVariables}
 use Rattle.gf_buchberger.proofs.BasesOfRuns.{IsEnd}
-use Rattle.gf_buchberger.proofs.JobLaws.{ring_variables, run_weight}
-use Rattle.gf_buchberger.proofs.ReducedPairLaws.{AreRead, are_read, variables_each, s_polynomial_is, s_polynomial_variables}
+use Rattle.gf_buchberger.proofs.JobLaws.{ring_variables}
 use Rattle.gf_buchberger.proofs.RunSteps.{in_variables, length-last, contained_old, at_old, appended-variables}
 use Rattle.gf_flip.proofs.CoverLaws.{covered_pair}
 use Rattle.gf_flip.specs.Monomials.{AreLaterUndivided}
-use Rattle.gf_flip.specs.Turns.{ArePairExcused, IsChained, IsMadeFrom, IsGrown, IsTakenIn, IsPairTaken, IsUnderway, AreTakenIn, IsEntering, AreSingleTo, IsEarlier, HasTurning, KeepsTurning, IsTurning, AreKeptIn}
+use Rattle.gf_flip.specs.Turns.{ArePairExcused, IsChained, IsGrown, IsTakenIn, IsPairTaken, IsUnderway, AreTakenIn, IsEntering, AreSingleTo, IsEarlier, HasTurning, KeepsTurning, IsTurning, AreKeptIn}
 use Rattle.gf_division.proofs.ReducerLaws.{members_equal}
 use Rattle.std.proofs.lemmas.List.Elements.{Contains-push}
 use Rattle.gf_int.proofs.ListLaws.{Contains-here}
@@ -50,10 +39,6 @@ use Rattle.gf_int.proofs.ListLaws.{Contains-here}
 
 underway_marked : (order : MonomialOrder) (n : ℕ) (fs : List Terms) (bs : List MarkedPolynomial) → IsUnderway order n fs bs → AreMarked (below_of order) bs
 underway_marked order n fs bs u = work-marked fs (below_of order) bs u.work
-
--- its members reduce
-pub turn_reducers : (order : MonomialOrder) (n : ℕ) (fs : List Terms) (bs : List MarkedPolynomial) → IsUnderway order n fs bs → AreReducers order bs
-turn_reducers order n fs bs u = let w = run_weight order n fs bs u.job u.work in record { n = n; each = u.variables; entries = u.job.entries; weight = (w.0, w.2) }
 
 pub kept-same : (bs : List MarkedPolynomial) → AreKeptIn bs bs
 kept-same bs = record { at = λ b c. c }
@@ -158,15 +143,6 @@ entering-taken order n fs f ws old new t h = record {
     at g (inl m) = inl (member_kept n old new g (in_variables n new w.underway.variables) w.kept m)
     at g (inr c) = elim (Contains-cases f g ws c) [ inl e ↦ inl (subst (IsMember n (polys new)) e here) | inr k ↦ inr k ]
 
--- taking the first of them in asks for this
-pub entering_appendable : (order : MonomialOrder) (n : ℕ) (fs : List Terms) (f : Terms) (ws left : List Terms) (bs : List MarkedPolynomial) → ws ≡ f ∷ left → IsEntering order n fs ws bs → IsAppendable order f bs
-entering_appendable order n fs f ws left bs e h = record {
-  n = n;
-  poly = h.underway.job.ring.each f (h.within f (subst (λ (z : List Terms). Contains z f) (sym e) (Contains-here f left)));
-  members = h.underway.variables;
-  entries = h.underway.job.entries;
-}
-
 -- none waits
 pub entering_end : (order : MonomialOrder) (n : ℕ) (fs ws : List Terms) (bs : List MarkedPolynomial) → ws ≡ [] → IsEntering order n fs ws bs → AreTakenIn n fs bs
 entering_end order n fs ws bs e h = record { inside = λ f c. elim (h.inside f c) [ inl m ↦ m | inr w ↦ (let k : Contains [] f = subst (λ (z : List Terms). Contains z f) e w in absurd (omega (arith, k.1))) ] }
@@ -230,42 +206,6 @@ pub each-take : {A : Type 0} (P : A → Type 0) (i : ℕ) (xs : List A) → Each
 each-take P zero xs h = tt
 each-take P (suc i) [] h = tt
 each-take P (suc i) (x ∷ xs) h = (h.0, each-take P i xs h.1)
-
--- the least common multiple of the marks of two members has as many variables as each of them
-pub record IsWide (n : ℕ) (bs : List MarkedPolynomial) (i : ℕ) (b c : MarkedPolynomial) (m : Exponents) : Type 0 where
-  pub multiple : m ≡ join b.head c.head
-  pub marks : length b.head ≡ length c.head
-  pub first : HasVariables (length m) b.poly
-  pub second : HasVariables (length m) c.poly
-  pub members : HaveVariables (length m) bs
-  pub front : HaveVariables (length m) (take i bs)
-
-pub pair_width : (n : ℕ) (bs : List MarkedPolynomial) (i j : ℕ) (b c : MarkedPolynomial) → MembersHaveVariables n bs → AreRead bs i j b c → length b.head ≡ length c.head
-pair_width n bs i j b c v r = v.heads b (member_contained bs i b r.at_i) ∙ sym (v.heads c (member_contained bs j c r.at_j))
-
-pub pair_wide : (n : ℕ) (bs : List MarkedPolynomial) (i j : ℕ) (b c : MarkedPolynomial) (m : Exponents) → MembersHaveVariables n bs → AreRead bs i j b c → m ≡ join b.head c.head → IsWide n bs i b c m
-pair_wide n bs i j b c m v r e = record {
-  multiple = e;
-  marks = marks;
-  first = subst (λ (k : ℕ). HasVariables k b.poly) (sym width) (v.polys b (member_contained bs i b r.at_i));
-  second = subst (λ (k : ℕ). HasVariables k c.poly) (sym width) (v.polys c (member_contained bs j c r.at_j));
-  members = all;
-  front = each-take (λ (d : MarkedPolynomial). HasVariables (length m) d.poly) i bs all;
-}
-  where
-    marks : length b.head ≡ length c.head
-    marks = pair_width n bs i j b c v r
-
-    width : length m ≡ n
-    width = ap length e ∙ length-join b.head c.head marks ∙ v.heads b (member_contained bs i b r.at_i)
-
-    all : HaveVariables (length m) bs
-    all = subst (λ (k : ℕ). HaveVariables k bs) (sym width) (variables_each n bs v)
-
--- the member that a search for a divisor found
-pub chained_by : (ds : List MarkedPolynomial) (m : Exponents) (o : Option ℕ) → IfSome o (IsDivisorAt ds m) → is_some o ≡ true → IsChained ds m
-chained_by ds m (Some k) h t = record { place = k; member = h.member; at = h.at; divides = h.divides }
-chained_by ds m None h t = absurd (let z : false ≡ true = t in cc)
 
 -- a pair is settled by a chain: those of a member before both are
 chained_pair : (order : MonomialOrder) (n : ℕ) (fs : List Terms) (bs : List MarkedPolynomial) (i j : ℕ) (b c : MarkedPolynomial) → i < j → IsTurning order n fs bs i j → IsAt bs i b → IsAt bs j c → IsChained (take i bs) (join b.head c.head) → IsSettledPair n bs (below_of order) b c
@@ -386,64 +326,6 @@ whole-start order n fs bs k u h l s = record { turning = record { underway = u; 
 
 pub whole-more : (order : MonomialOrder) (n : ℕ) (fs : List Terms) (old new : List MarkedPolynomial) (j : ℕ) → KeepsTurning order n old 0 j new 0 (j + 1) → AreKeptIn old new → length old ≤ length new → j < length old → IsWhole order n fs old j → IsWhole order n fs new (j + 1)
 whole-more order n fs old new j t k l m h = let s = t.at fs h.turning in record { turning = s; entered = entered-kept n fs old new s.underway.variables k h.entered; within = omega (arith, l, m) }
-
-pub pair_read : (bs : List MarkedPolynomial) (i j : ℕ) (b c : MarkedPolynomial) → i < j → j < length bs → b ≡ slice_index_or bs i b → c ≡ slice_index_or bs j c → AreRead bs i j b c
-pair_read bs i j b c l m e f = are_read bs i j b c (omega arith) m e f
-
--- the S-polynomial of the pair was taken in
-pub turned_pair : (order : MonomialOrder) (n : ℕ) (fs : List Terms) (old new : List MarkedPolynomial) (i j : ℕ) (b c : MarkedPolynomial) (s : Terms) → i < j → j < length old → IsTurning order n fs old i j →
-    AreRead old i j b c → IsSPolynomialOf b c s → KeepsPairVariables b c s → IsTakenIn order s old new → IsTurnedOn order n fs old new (i + 1) j
-turned_pair order n fs old new i j b c s l m t r p k h =
-    turned_on order n fs old new i j l m t (IsPairTaken.reduced b c s r.at_i r.at_j (s_polynomial_is old i j b c s (turn_reducers order n fs old t.underway).weight r p) (λ n v. s_polynomial_variables n old i j b c s v r k) h)
-
--- a new member
-pub grown_at : (order : MonomialOrder) (r g : Terms) (f b : MarkedPolynomial) (at : ℕ) (old new : List MarkedPolynomial) → IsComparable order r → g ≡ r → IsDescending r → at < length g → IsLeadingAt order g at (length g) →
-    f ≡ record { poly = r; head = head_of r at } → IsMonicOf f b → HasMarkedTerm b → new ≡ old ++ b ∷ [] → IsGrown order r old new
-grown_at order r g f b at old new v eg d l h q m k em = record {
-  member = b;
-  monic = subst (λ (z : Terms). IsMonicForm z b) e (monic_form v.n f b of_f (subst IsDescending (sym e) d) m);
-  marked = is_marked order v.n f b of_f k.descending (marked_greatest order r g f at v eg d l h q) m;
-  poly = λ n w. m.variables.at n (subst (HasVariables n) (sym e) w);
-  head = λ n w. member_length n r (head_of r at) f b w q m;
-  members = em;
-}
-  where
-    e : f.poly ≡ r
-    e = ap (λ (z : MarkedPolynomial). z.poly) q
-
-    of_f : HasVariables v.n f.poly
-    of_f = subst (HasVariables v.n) (sym e) v.each
-
--- the same where it was monic already, and was moved
-pub grown_from : (order : MonomialOrder) (r g : Terms) (f b : MarkedPolynomial) (at : ℕ) (old new : List MarkedPolynomial) → IsComparable order r → g ≡ r → IsDescending r → at < length g → IsLeadingAt order g at (length g) →
-    f ≡ record { poly = r; head = head_of r at } → IsMadeFrom f b → HasMarkedTerm b → new ≡ old ++ b ∷ [] → IsGrown order r old new
-grown_from order r g f b at old new v eg d l h q (inl m) k em = grown_at order r g f b at old new v eg d l h q m k em
-grown_from order r g f b at old new v eg d l h q (inr m) k em = record {
-  member = b;
-  monic = subst (λ (z : Terms). IsMonicForm z b) p own;
-  marked = record {
-    monic = term_coefficient v.n b.poly (record { coef = one_ℚ; mono = b.head }) of_b k.descending mark;
-    tail = subst (λ (z : MarkedPolynomial). (x : Exponents) → HasMonomial z.poly x → (same x z.head ≡ true) ⊎ below_of order x z.head) (sym m.0) (λ x c. (marked_greatest order r g f at v eg d l h q).greatest x c);
-  };
-  poly = λ n w. subst (HasVariables n) (sym p) w;
-  head = λ n w. head_length n b (subst (HasVariables n) (sym p) w) k;
-  members = em;
-}
-  where
-    e : f.poly ≡ r
-    e = ap (λ (z : MarkedPolynomial). z.poly) q
-
-    p : b.poly ≡ r
-    p = ap (λ (z : MarkedPolynomial). z.poly) m.0 ∙ e
-
-    of_b : HasVariables v.n b.poly
-    of_b = subst (HasVariables v.n) (sym p) v.each
-
-    mark : HasMark b one_ℚ
-    mark = subst (λ (z : MarkedPolynomial). HasMark z one_ℚ) (sym m.0) m.1
-
-    own : IsMonicForm b.poly b
-    own = (monic_already b (record { n = v.n; each = of_b }) k mark).form
 
 -- ---- a row, as the code stands
 

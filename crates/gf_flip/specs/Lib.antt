@@ -6,9 +6,9 @@ pub mod Operations  -- the operations of a flip, and why it is refused
 pub mod Tops  -- lifts that end early
 pub mod LiftTails  -- tails of lifts
 pub mod LiftsInTurn  -- lifts with reduced tails, each at once
-pub mod Settling  -- members of a run that need no work
+pub mod Settling  -- the reduced basis of the lines of a run
 pub mod Monomials  -- members that are monomials alone
-pub mod Forms  -- remainders by monomials and members
+pub mod Lines  -- polynomials on lines
 pub mod Splits  -- the parts along a vector, as they are kept
 pub mod Turns  -- a run that takes the pairs in turn
 pub mod Chosen  -- lifts of chosen members

@@ -6,7 +6,8 @@ use Rattle.gf_poly.specs.Polynomial.{Terms}
 use Rattle.gf_poly.specs.Marking.{MarkedPolynomial}
 use Rattle.gf_ideal.specs.Settled.{IsAt}
 use Rattle.gf_flip.specs.declared.along.Split.{Split}
-use Rattle.gf_flip.specs.Along.{IsAlong}
+use Rattle.gf_flip.specs.declared.lines.Part.{Part}
+use Rattle.gf_flip.specs.Lines.{IsPartOf, terms_of_part, AreSpots, AreFalling}
 use Rattle.gf_flip.specs.Tops.{IsAlone}
 
 -- the member at the place p has the mark x, and no other monomial of it is a multiple of a apart from that
@@ -23,11 +24,11 @@ pub data AreSplit (a : List ℤ) : List MarkedPolynomial → List ℕ → List E
   alone : (bs : List MarkedPolynomial) (places : List ℕ) (xs : List Exponents) (fs : List Terms) (b : MarkedPolynomial) →
       AreSplit a bs places xs fs → IsAlone a b → AreSplit a (bs ++ b ∷ []) (places ++ length bs ∷ []) (xs ++ b.head ∷ []) fs
   part : (bs : List MarkedPolynomial) (places : List ℕ) (xs : List Exponents) (fs : List Terms) (b : MarkedPolynomial) (f : Terms) →
-      AreSplit a bs places xs fs → IsAlong a b f → AreSplit a (bs ++ b ∷ []) places xs (fs ++ f ∷ [])
+      AreSplit a bs places xs fs → IsPartOf a b f → AreSplit a (bs ++ b ∷ []) places xs (fs ++ f ∷ [])
 
 -- the member b, which is at the place i, is the next one
 pub data IsSplitOn (a : List ℤ) (i : ℕ) (b : MarkedPolynomial) (old new : Split) : Type 0 where
   alone : IsAlone a b → new.places.items ≡ old.places.items ++ i ∷ [] → new.marks.items ≡ old.marks.items ++ b.head ∷ [] →
       new.list.items ≡ old.list.items → IsSplitOn a i b old new
-  part : (f : Terms) → IsAlong a b f → new.places.items ≡ old.places.items → new.marks.items ≡ old.marks.items →
-      new.list.items ≡ old.list.items ++ f ∷ [] → IsSplitOn a i b old new
+  part : (p : Part) → p.place ≡ i → p.base ≡ b.head → length p.base ≡ length a → IsPartOf a b (terms_of_part a p) → AreSpots a p.base p.points.items → AreFalling p.points.items →
+      new.places.items ≡ old.places.items → new.marks.items ≡ old.marks.items → new.list.items ≡ old.list.items ++ p ∷ [] → IsSplitOn a i b old new

@@ -2,9 +2,9 @@
 use Rattle.std.specs.Prelude.{◌≡◌, ℕ, Bool, true, false, List, length, get_or, ℤ, Contains}
 use Rattle.gf_exponents.specs.Exponents.{Exponents, same}
 use Rattle.gf_poly.specs.declared.Term.{Term}
-use Rattle.gf_poly.specs.Polynomial.{Terms, IsDescending, KeepsVariables}
+use Rattle.gf_poly.specs.Polynomial.{Terms, coefficient, IsDescending, KeepsVariables}
 use Rattle.gf_poly.specs.Marking.{MarkedPolynomial, Each}
-use Rattle.gf_frac.specs.Fraction.{Fraction}
+use Rattle.gf_frac.specs.Fraction.{reciprocal_ℚ}
 use Rattle.gf_poly.specs.Products.{IsScaled}
 use Rattle.gf_ideal.specs.Membership.{HasMonomial}
 use Rattle.gf_ideal.specs.Reduction.{Reached}
@@ -38,8 +38,8 @@ pub record IsMarkedAt (bs : List MarkedPolynomial) (h : Exponents) (j : ℕ) : T
   pub head : member.head ≡ h
 
 -- l is b divided by its coefficient at x, and marked there
-pub record IsDividedAt (b : MarkedPolynomial) (x : Exponents) (l : MarkedPolynomial) : Type 0 where
-  pub factor : Fraction
-  pub scaled : IsScaled factor b.poly l.poly
+pub record IsQuotientAt (b : MarkedPolynomial) (x : Exponents) (l : MarkedPolynomial) : Type 0 where
+  pub there : HasMonomial b.poly x
+  pub scaled : IsScaled (reciprocal_ℚ (coefficient b.poly x)) b.poly l.poly
   pub head : l.head ≡ x
   pub variables : KeepsVariables b.poly l.poly

@@ -2,11 +2,10 @@
 -- told by two places, with no mark of a pair. Laws: proofs/TurnLaws.antt.
 -- Source: Cox, Little, O'Shea, Ideals, Varieties, and Algorithms, 2.7.
 use Rattle.std.specs.Prelude.{◌≡◌, ◌≢◌, ◌⊎◌, ℕ, ◌<◌, true, List, [], ◌∷◌, ◌++◌, length, take, Contains}
-use Rattle.gf_frac.specs.Fraction.{one_ℚ}
 use Rattle.gf_exponents.specs.Exponents.{Exponents, AreCoprime, Divides, join, minus, plus, same}
 use Rattle.gf_exponents.specs.SixOrders.{MonomialOrder, below_of}
 use Rattle.gf_poly.specs.Polynomial.{Terms, HasVariables, KeepsVariables}
-use Rattle.gf_poly.specs.Marking.{MarkedPolynomial, polys, HasMark, IsMonicOf}
+use Rattle.gf_poly.specs.Marking.{MarkedPolynomial, polys}
 use Rattle.gf_ideal.specs.Membership.{HasMonomial, IsMember}
 use Rattle.gf_ideal.specs.Marks.{IsMarked}
 use Rattle.gf_ideal.specs.Reduction.{IsIrreducible, IsMonicForm, IsSPolynomial, HasOneMonomial}
@@ -46,10 +45,6 @@ pub record IsPairCovered (bs : List MarkedPolynomial) (b c : MarkedPolynomial) :
   pub first : HasCoveredTail bs (minus (join b.head c.head) b.head) b
   pub second : HasCoveredTail bs (minus (join b.head c.head) c.head) c
 
--- b is f divided by its marked coefficient, or f itself where that is 1
-abbrev pub IsMadeFrom : MarkedPolynomial → MarkedPolynomial → Type 0
-IsMadeFrom f b = IsMonicOf f b ⊎ ((b ≡ f) × HasMark f one_ℚ)
-
 -- the monic form of r, marked at its greatest monomial, is the last member now
 pub record IsGrown (order : MonomialOrder) (r : Terms) (old new : List MarkedPolynomial) : Type 0 where
   pub member : MarkedPolynomial
@@ -65,10 +60,6 @@ pub record IsTakenIn (order : MonomialOrder) (f : Terms) (old new : List MarkedP
   pub normal : IsRemainder old f r
   pub variables : KeepsVariables f r
   pub left : ((r ≡ []) × (new ≡ old)) ⊎ ((r ≢ []) × IsGrown order r old new)
-
--- f was taken in, or it waits now
-abbrev pub IsSortedIn : MonomialOrder → Terms → List MarkedPolynomial → List MarkedPolynomial → List Terms → List Terms → Type 0
-IsSortedIn order f old new before after = (IsTakenIn order f old new × (after ≡ before)) ⊎ ((new ≡ old) × (after ≡ before ++ f ∷ []))
 
 -- the pair of the members at i and j is excused, or there is a chain by a member before both, or members with one monomial cover it, or
 -- its S-polynomial was taken in

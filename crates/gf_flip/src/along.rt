@@ -1,14 +1,16 @@
 //! The terms of a polynomial whose exponents are multiples of a vector apart from the mark.
 
-ghost use Rattle.std.specs.Prelude.{◌≡◌, ◌≢◌, ◌==◌, ◌<◌, ◌≤◌, ◌^◌, ℤ, map, pos, ◌-ℤ◌, ◌*ℤ◌, true, false, IfOk, IfSome, IsTrue, length, get_or, unsigned_abs};
-ghost use Rattle.gf_ideal.specs.OrderTable.{AreMultipleApart};
-ghost use Rattle.gf_poly.specs.Polynomial.{HasVariables};
-ghost use Rattle.gf_poly.specs.Marking.{HaveVariables};
-ghost use Rattle.gf_flip.specs.Along.{HasNonzero, IsAlong, AreAlong, IsPassed, AreSmall};
-ghost use Rattle.gf_flip.specs.Tops.{IsAlone};
+ghost use Rattle.gf_flip.specs.Along.{AreAlong, AreSmall, HasNonzero, IsAlong};
+ghost use Rattle.gf_flip.specs.Lines.{AreFalling, AreSpots, ArePartsOnLines, IsDistance, IsPartOf, IsTermAdded, line_terms, terms_of_parts};
 ghost use Rattle.gf_flip.specs.Splits.{AreSplit, IsSplitOn};
+ghost use Rattle.gf_flip.specs.Tops.{IsAlone};
+ghost use Rattle.gf_ideal.specs.OrderTable.{AreMultipleApart};
+ghost use Rattle.gf_poly.specs.Marking.{HaveVariables};
+ghost use Rattle.gf_poly.specs.Polynomial.{HasVariables};
+ghost use Rattle.std.specs.Prelude.{IfNone, IfOk, IfSome, IsTrue, [], false, get_or, length, map, pos, true, unsigned_abs, ℤ, ◌*ℤ◌, ◌++◌, ◌-ℤ◌, ◌<◌, ◌==◌, ◌^◌, ◌∷◌, ◌≡◌, ◌≢◌, ◌≤◌};
 
 use crate::SpareLists;
+use crate::lines::{Part, Point, add_point};
 use gf_poly::{Marked, Mono, Poly, Term};
 use std::alloc::{AllocError, Global};
 
@@ -40,7 +42,7 @@ fn less(x: u32, y: u32) -> i64
 }
 
 /// An entry in 64 bits.
-fn narrow(a: i128) -> i64
+pub fn narrow(a: i128) -> i64
     requires small { unsigned_abs a < 2 ^ 31 }
     ensures { result ≡ a }
 {
@@ -73,6 +75,26 @@ fn multiplier(d: i64, a: i64) -> i64
     d / a
 }
 
+/// How many multiples of the normal the exponents of x are apart from those of y, if they are.
+fn distance(x: &[u32], y: &[u32], normal: &[i128], pivot: usize) -> Option<i64>
+    requires same_length { length x.now ≡ length normal.now }
+    requires same_variables { length y.now ≡ length normal.now }
+    requires bounded { AreSmall normal.now }
+    requires inside { pivot < length normal.now }
+    requires nonzero { get_or normal.now pivot (pos 0) ≢ pos 0 }
+    ensures some { IfSome result (IsDistance normal.now x.now y.now) }
+    ensures bound { IfSome result (λ k. unsigned_abs k ≤ 2 ^ 32) }
+    ensures none { IfNone result (AreMultipleApart normal.now x.now y.now → ⊥) }
+{
+    let k = multiplier(less(x[pivot], y[pivot]), narrow(normal[pivot]));
+    'entries: for i in 0..normal.len() {
+        if less(x[i], y[i]) != multiple(k, narrow(normal[i])) {
+            return None;
+        }
+    }
+    Some(k)
+}
+
 /// Whether the exponents of x are those of y and a multiple of the normal.
 pub fn is_apart(x: &[u32], y: &[u32], normal: &[i128], pivot: usize) -> bool
     requires same_length { length x.now ≡ length normal.now }
@@ -83,13 +105,7 @@ pub fn is_apart(x: &[u32], y: &[u32], normal: &[i128], pivot: usize) -> bool
     ensures yes { IsTrue result → AreMultipleApart normal.now x.now y.now }
     ensures no { result ≡ false → AreMultipleApart normal.now x.now y.now → ⊥ }
 {
-    let k = multiplier(less(x[pivot], y[pivot]), narrow(normal[pivot]));
-    'entries: for i in 0..normal.len() {
-        if less(x[i], y[i]) != multiple(k, narrow(normal[i])) {
-            return false;
-        }
-    }
-    true
+    distance(x, y, normal, pivot).is_some()
 }
 
 /// Whether the exponents of a term at `x` are those of the head and a multiple of the normal; those of the marked one are.
@@ -109,14 +125,8 @@ fn is_along(x: &Mono, head: &Mono, normal: &[i128], pivot: usize, is_marked: boo
     is_apart(x.exponents(), head.exponents(), normal, pivot)
 }
 
-/// The terms of a member along the normal, in a list with room for all its terms, so that the member can be copied there: a spare one, if there is one.
-fn part(
-    alloc: Global,
-    member: &Marked,
-    normal: &[i128],
-    pivot: usize,
-    spare: &mut SpareLists,
-) -> Result<Poly, AllocError>
+/// The terms of a member along the normal.
+fn part(alloc: Global, member: &Marked, normal: &[i128], pivot: usize) -> Result<Poly, AllocError>
     requires variables { HasVariables (length normal.now) member.now.poly }
     requires bounded { AreSmall normal.now }
     requires inside { pivot < length normal.now }
@@ -125,7 +135,7 @@ fn part(
 {
     let terms = member.poly().terms();
     let head = member.head();
-    let mut kept = spare.room(alloc, terms.len())?;
+    let mut kept = Vec::with_capacity(alloc, terms.len())?;
     'terms: for i in 0..terms.len() {
         let t = &terms[i];
         if is_along(&t.mono, head, normal, pivot, i == member.index()) {
@@ -135,13 +145,8 @@ fn part(
     Ok(Poly::from_descending(kept))
 }
 
-/// The polynomials of the members' parts along the normal, in spare lists, as far as there are some.
-pub fn parts(
-    alloc: Global,
-    items: &[Marked],
-    normal: &[i128],
-    spare: &mut SpareLists,
-) -> Result<Vec<Poly>, AllocError>
+/// The polynomials of the members' parts along the normal.
+pub fn parts(alloc: Global, items: &[Marked], normal: &[i128]) -> Result<Vec<Poly>, AllocError>
     requires variables { HaveVariables (length normal.now) items.now }
     requires bounded { AreSmall normal.now }
     requires nonzero { HasNonzero normal.now }
@@ -151,18 +156,18 @@ pub fn parts(
     let mut all = Vec::with_capacity(alloc, items.len())?;
     'members: for i in 0..items.len() {
         let member = &items[i];
-        let poly = part(alloc, member, normal, pivot, spare)?;
+        let poly = part(alloc, member, normal, pivot)?;
         all.push(poly)?;
     }
     Ok(all)
 }
 
-/// The parts of members: of those that are one term alone the places and the marks, of the others the terms.
+/// The parts of members: of those that are one term alone the places and the marks, the others on lines.
 #[derive(Drop)]
 pub struct Split {
     pub places: Vec<usize>,
     pub marks: Vec<Mono>,
-    pub list: Vec<Poly>,
+    pub list: Vec<Part>,
 }
 
 /// Whether a term at `x` isn't the marked one, and its exponents are those of the head and a multiple of the normal.
@@ -199,7 +204,50 @@ pub fn is_alone(member: &Marked, normal: &[i128], pivot: usize) -> bool
     true
 }
 
-/// Adds the part of a member: where that is one term alone the place and the mark, else the terms, in a spare list, if there is one.
+/// Adds the point of a term at `x`, if its exponents are those of the head and a multiple of the normal.
+fn add_term(
+    points: &mut Vec<Point>,
+    t: &Term,
+    head: &Mono,
+    normal: &[i128],
+    pivot: usize,
+) -> Option<()>
+    requires same_length { length t.now.mono ≡ length normal.now }
+    requires same_variables { length head.now ≡ length normal.now }
+    requires bounded { AreSmall normal.now }
+    requires inside { pivot < length normal.now }
+    requires nonzero { get_or normal.now pivot (pos 0) ≢ pos 0 }
+    ensures { IfSome result (λ _. IsTermAdded normal.now head.now t.now points.old.items points.new.items) }
+{
+    match distance(t.mono.exponents(), head.exponents(), normal, pivot) {
+        Some(k) => match i32::try_from(k) {
+            Ok(k) => add_point(points, k, t.coef),
+            Err(_) => None,
+        },
+        None => Some(()),
+    }
+}
+
+/// The part of a member along the normal, on the line through its mark.
+fn part_on_line(alloc: Global, member: &Marked, normal: &[i128], pivot: usize) -> Option<Vec<Point>>
+    requires variables { HasVariables (length normal.now) member.now.poly }
+    requires bounded { AreSmall normal.now }
+    requires inside { pivot < length normal.now }
+    requires nonzero { get_or normal.now pivot (pos 0) ≢ pos 0 }
+    ensures part { IfSome result (λ ps. IsPartOf normal.now member.now (line_terms normal.now member.now.head ps.items)) }
+    ensures on { IfSome result (λ ps. AreSpots normal.now member.now.head ps.items) }
+    ensures falling { IfSome result (λ ps. AreFalling ps.items) }
+{
+    let terms = member.poly().terms();
+    let head = member.head();
+    let mut points = Vec::new(alloc);
+    'terms: for i in 0..terms.len() {
+        add_term(&mut points, &terms[i], head, normal, pivot)?;
+    }
+    Some(points)
+}
+
+/// Adds the part of a member: where that is one term alone the place and the mark, else the part on a line.
 fn add(
     alloc: Global,
     member: &Marked,
@@ -207,35 +255,66 @@ fn add(
     normal: &[i128],
     pivot: usize,
     all: &mut Split,
-    spare: &mut SpareLists,
-) -> Result<(), AllocError>
+) -> Option<()>
     requires variables { HasVariables (length normal.now) member.now.poly }
     requires bounded { AreSmall normal.now }
     requires inside { pivot < length normal.now }
     requires nonzero { get_or normal.now pivot (pos 0) ≢ pos 0 }
-    ensures { IfOk result (λ _. IsSplitOn normal.now place member.now all.old all.new) }
+    ensures { IfSome result (λ _. IsSplitOn normal.now place member.now all.old all.new) }
 {
     if is_alone(member, normal, pivot) {
-        all.places.push(place)?;
-        all.marks.push(member.head().copy())?;
-        return Ok(());
+        return add_mark(all, place, member.head());
     }
-    let poly = part(alloc, member, normal, pivot, spare)?;
-    all.list.push(poly)?;
-    Ok(())
+    let points = part_on_line(alloc, member, normal, pivot)?;
+    let base = member.head().copy();
+    let part = Part {
+        place,
+        base,
+        points,
+    };
+    add_part(all, part)
 }
 
-/// The parts of the members along the normal; the terms are in spare lists, as far as there are some.
+/// Adds a place and a mark.
+fn add_mark(all: &mut Split, place: usize, mark: &Mono) -> Option<()>
+    ensures places { IfSome result (λ _. all.new.places.items ≡ all.old.places.items ++ place ∷ []) }
+    ensures marks { IfSome result (λ _. all.new.marks.items ≡ all.old.marks.items ++ mark.now ∷ []) }
+    ensures list { IfSome result (λ _. all.new.list.items ≡ all.old.list.items) }
+{
+    match all.places.push(place) {
+        Ok(()) => {}
+        Err(_) => return None,
+    }
+    match all.marks.push(mark.copy()) {
+        Ok(()) => Some(()),
+        Err(_) => None,
+    }
+}
+
+/// Adds a part.
+fn add_part(all: &mut Split, part: Part) -> Option<()>
+    ensures places { IfSome result (λ _. all.new.places.items ≡ all.old.places.items) }
+    ensures marks { IfSome result (λ _. all.new.marks.items ≡ all.old.marks.items) }
+    ensures list { IfSome result (λ _. all.new.list.items ≡ all.old.list.items ++ part ∷ []) }
+{
+    match all.list.push(part) {
+        Ok(()) => Some(()),
+        Err(_) => None,
+    }
+}
+
+/// The parts of the members along the normal, if there is memory.
 pub fn split_parts(
     alloc: Global,
     items: &[Marked],
     normal: &[i128],
     spare: &mut SpareLists,
-) -> Result<Split, AllocError>
+) -> Option<Split>
     requires variables { HaveVariables (length normal.now) items.now }
     requires bounded { AreSmall normal.now }
     requires nonzero { HasNonzero normal.now }
-    ensures { IfOk result (λ s. AreSplit normal.now items.now s.places.items s.marks.items s.list.items) }
+    ensures split { IfSome result (λ s. AreSplit normal.now items.now s.places.items s.marks.items (terms_of_parts normal.now s.list.items)) }
+    ensures parts { IfSome result (λ s. ArePartsOnLines normal.now items.now s.list.items) }
 {
     let pivot = pivot_of(normal);
     let mut all = Split {
@@ -245,59 +324,9 @@ pub fn split_parts(
     };
     'members: for i in 0..items.len() {
         let member = &items[i];
-        add(alloc, member, i, normal, pivot, &mut all, spare)?;
+        add(alloc, member, i, normal, pivot, &mut all)?;
     }
-    Ok(all)
-}
-
-/// Whether there is a term at a place, and it is equal to another one.
-fn is_at(list: &[Term], place: usize, t: &Term) -> bool
-    requires { HasVariables (length t.now.mono) list.now }
-    ensures within { IsTrue result → place < length list.now }
-    ensures equal { IsTrue result → t.now ≡ get_or list.now place t.now }
-{
-    if place >= list.len() {
-        return false;
-    }
-    let s = &list[place];
-    s.coef == t.coef && s.mono.is_same(&t.mono)
-}
-
-/// The place behind one where a term is that is equal to this one, if that is along; none where there is no such term.
-fn passed(list: &[Term], place: usize, t: &Term, along: bool) -> Option<usize>
-    requires { HasVariables (length t.now.mono) list.now }
-    ensures { IfSome result (IsPassed along list.now place t.now) }
-{
-    if !along {
-        return Some(place);
-    }
-    if !is_at(list, place, t) {
-        return None;
-    }
-    Some(place + 1)
-}
-
-/// Whether the terms are those of a member along the normal.
-pub fn is_part(list: &[Term], member: &Marked, normal: &[i128], pivot: usize) -> bool
-    requires variables { HasVariables (length normal.now) member.now.poly }
-    requires terms { HasVariables (length normal.now) list.now }
-    requires bounded { AreSmall normal.now }
-    requires inside { pivot < length normal.now }
-    requires nonzero { get_or normal.now pivot (pos 0) ≢ pos 0 }
-    ensures { IsTrue result → IsAlong normal.now member.now list.now }
-{
-    let terms = member.poly().terms();
-    let head = member.head();
-    let mut next = 0;
-    'terms: for i in 0..terms.len() {
-        let t = &terms[i];
-        let along = is_along(&t.mono, head, normal, pivot, i == member.index());
-        match passed(list, next, t, along) {
-            Some(past) => next = past,
-            None => return false,
-        }
-    }
-    next >= list.len()
+    Some(all)
 }
 
 /// Of each part whether it is one term alone.

@@ -1,26 +1,24 @@
 //! Lifts of the chosen ones of the monomials and the members of a run on the parts. A monomial is the part of a member of the set, which is
 //! copied; another member is lifted by steps that end once nothing is left along the normal.
 
-ghost use Rattle.std.specs.Prelude.{◌≡◌, ◌≢◌, ◌<◌, ◌++◌, ◌∷◌, ℕ, true, [], pos, get_or, length, IfSome};
-ghost use Rattle.gf_frac.specs.Fraction.{one_ℚ};
-ghost use Rattle.gf_poly.specs.Marking.{HaveVariables};
-ghost use Rattle.gf_poly.specs.Polynomial.{coefficient, HasVariables};
 ghost use Rattle.gf_division.specs.NormalForms.{HasSomeWeight};
-ghost use Rattle.gf_initial.specs.Lifts.{IsTopLift, AreTopLifts};
-ghost use Rattle.gf_flip.specs.Along.{HasNonzero, AreSmall};
+ghost use Rattle.gf_flip.specs.Along.{AreSmall, HasNonzero};
 ghost use Rattle.gf_flip.specs.Chosen.{IsLiftedWhere};
 ghost use Rattle.gf_flip.specs.LiftTails.{AreCopies};
-ghost use Rattle.gf_flip.specs.Lifting.{AreMonic};
-ghost use Rattle.gf_flip.specs.Monomials.{with_monomials, chosen, IsAddedWhere};
+ghost use Rattle.gf_flip.specs.Lines.{AreLinesOf, IsGround, IsLineAlong, IsLineOf, line_member, line_members};
+ghost use Rattle.gf_flip.specs.Monomials.{IsAddedWhere, chosen, with_monomials};
 ghost use Rattle.gf_flip.specs.Splits.{IsAloneAt};
-ghost use Rattle.gf_flip.specs.Tops.{AreAloneWhere};
+ghost use Rattle.gf_initial.specs.Lifts.{AreTopLifts, IsTopLift};
+ghost use Rattle.gf_poly.specs.Marking.{HaveVariables};
+ghost use Rattle.gf_poly.specs.Polynomial.{HasVariables, SamePolynomial};
+ghost use Rattle.std.specs.Prelude.{IfSome, [], get_or, length, pos, true, ℕ, ◌<◌, ◌≡◌, ◌≢◌};
 
 use crate::SpareLists;
-use crate::along::{is_alone, pivot_of};
-use crate::forms::monomial;
+use crate::along::pivot_of;
+use crate::lines::{Ground, Line, one, spot};
 use crate::room::with_room;
-use crate::tops::{Lifts, divided_lift, push, top_lift};
-use gf_poly::{Marked, Mono, Poly, Term};
+use crate::tops::{Lifts, divided_at, place_at, push, top_lift};
+use gf_poly::{Marked, Poly, Term};
 use std::alloc::Global;
 
 /// A copy of a member, in a spare list, if there is one.
@@ -62,144 +60,123 @@ fn add_copy(
     Some(())
 }
 
-/// The lift of a member that is no monomial of the front: where it is a part divided by a number, the member of that part divided by the number, else
-/// what steps lead to.
-fn lift(
-    alloc: Global,
-    member: &Marked,
-    by: &[Marked],
-    normal: &[i128],
-    pivot: usize,
-) -> Option<Marked>
-    requires marked { HasSomeWeight by.now }
-    requires poly { HasVariables (length normal.now) member.now.poly }
-    requires monic { coefficient member.now.poly member.now.head ≡ one_ℚ }
-    requires members { HaveVariables (length normal.now) by.now }
-    requires bounded { AreSmall normal.now }
-    requires inside { pivot < length normal.now }
-    requires nonzero { get_or normal.now pivot (pos 0) ≢ pos 0 }
-    ensures value { IfSome result (IsTopLift by.now normal.now member.now) }
-    ensures variables { IfSome result (λ l. HasVariables (length normal.now) l.poly) }
-{
-    if let Some(lift) = divided_lift(member, by, normal, pivot) {
-        return Some(lift);
-    }
-    top_lift(alloc, member, by, normal, pivot)
-}
-
-/// Adds the lift of a member, if it is chosen.
-fn add_lift(
-    alloc: Global,
-    lifts: &mut Lifts,
-    member: &Marked,
-    is_chosen: bool,
-    by: &[Marked],
-    normal: &[i128],
-    pivot: usize,
-) -> Option<()>
-    requires marked { HasSomeWeight by.now }
-    requires poly { HasVariables (length normal.now) member.now.poly }
-    requires monic { coefficient member.now.poly member.now.head ≡ one_ℚ }
-    requires members { HaveVariables (length normal.now) by.now }
-    requires bounded { AreSmall normal.now }
-    requires inside { pivot < length normal.now }
-    requires nonzero { get_or normal.now pivot (pos 0) ≢ pos 0 }
-    ensures { IfSome result (λ _. IsLiftedWhere is_chosen (length normal.now) by.now normal.now member.now lifts.old.members.items lifts.new.members.items lifts.old.copied.items lifts.new.copied.items) }
-{
-    if !is_chosen {
-        return Some(());
-    }
-    let lift = lift(alloc, member, by, normal, pivot)?;
-    push(lifts, lift, false)?;
-    Some(())
-}
-
-/// The lifts of the monomials, which are the parts of the members at these places of the set, and of the members behind them, as far as their flags
-/// are set, if all numbers fit.
-pub fn chosen_lifts(
-    alloc: Global,
-    by: &[Marked],
-    normal: &[i128],
-    places: &[usize],
-    marks: &[Mono],
-    members: &[Marked],
-    flags: &[bool],
-    spare: &mut SpareLists,
-) -> Option<Lifts>
-    requires marked { HasSomeWeight by.now }
-    requires set { HaveVariables (length normal.now) by.now }
+/// The polynomial on a line, marked where it begins, if numbers fit.
+fn member_of(alloc: Global, line: &Line, normal: &[i128]) -> Option<Marked>
     requires bounded { AreSmall normal.now }
     requires nonzero { HasNonzero normal.now }
-    requires size { length marks.now ≡ length places.now }
-    requires alone { (i : ℕ) → i < length places.now → IsAloneAt normal.now by.now (get_or places.now i 0) (get_or marks.now i []) }
-    requires variables { HaveVariables (length normal.now) members.now }
-    requires monic { AreMonic members.now }
-    requires flags { length flags.now ≡ length (with_monomials marks.now members.now) }
-    ensures value { IfSome result (λ ls. AreTopLifts by.now normal.now (chosen flags.now (with_monomials marks.now members.now)) ls.members.items) }
-    ensures variables { IfSome result (λ ls. HaveVariables (length normal.now) ls.members.items) }
-    ensures copied { IfSome result (λ ls. AreCopies by.now ls.members.items ls.copied.items) }
+    requires line { IsLineAlong normal.now line.now }
+    ensures twin { IfSome result (λ b. SamePolynomial b.poly (line_member normal.now line.now).poly) }
+    ensures head { IfSome result (λ b. b.head ≡ line.now.mark) }
+    ensures variables { IfSome result (λ b. HasVariables (length normal.now) b.poly) }
 {
-    let pivot = pivot_of(normal);
-    let mut lifts = Lifts {
-        members: with_room(alloc, flags.len())?,
-        copied: with_room(alloc, flags.len())?,
-    };
-    let first = marks.len();
-    'marks: for i in 0..first {
-        add_copy(alloc, &mut lifts, &by[places[i]], flags[i], spare)?;
+    let mut terms = with_room(alloc, line.rest.len().saturating_add(1))?;
+    match terms.push(Term {
+        coef: one(),
+        mono: line.mark.copy(),
+    }) {
+        Ok(()) => {}
+        Err(_) => return None,
     }
-    'members: for j in 0..members.len() {
-        add_lift(
-            alloc,
-            &mut lifts,
-            &members[j],
-            flags[first + j],
-            by,
-            normal,
-            pivot,
-        )?;
-    }
-    Some(lifts)
-}
-
-/// Adds a member, if there is memory.
-fn add_member(all: &mut Vec<Marked>, member: Marked) -> Option<()>
-    ensures { IfSome result (λ _. all.new.items ≡ all.old.items ++ member ∷ []) }
-{
-    match all.push(member) {
-        Ok(()) => Some(()),
-        Err(_) => None,
-    }
-}
-
-/// The monomials and the members in one list, if there is memory.
-pub fn all_members(alloc: Global, marks: &[Mono], members: Vec<Marked>) -> Option<Vec<Marked>>
-    ensures { IfSome result (λ all. all.items ≡ with_monomials marks.now members.items) }
-{
-    let mut all = with_room(alloc, marks.len().saturating_add(members.len()))?;
-    'marks: for i in 0..marks.len() {
-        add_member(&mut all, monomial(alloc, &marks[i])?)?;
-    }
-    'members: for member in members {
-        add_member(&mut all, member)?;
-    }
-    Some(all)
-}
-
-/// Of each member of the set whether its part is one term alone, if there is memory.
-pub fn alone_flags(alloc: Global, by: &[Marked], normal: &[i128]) -> Option<Vec<bool>>
-    requires variables { HaveVariables (length normal.now) by.now }
-    requires bounded { AreSmall normal.now }
-    requires nonzero { HasNonzero normal.now }
-    ensures { IfSome result (λ flags. AreAloneWhere normal.now by.now flags.items) }
-{
-    let pivot = pivot_of(normal);
-    let mut flags = with_room(alloc, by.len())?;
-    'members: for i in 0..by.len() {
-        match flags.push(is_alone(&by[i], normal, pivot)) {
+    'points: for i in 0..line.rest.len() {
+        let p = &line.rest[i];
+        match terms.push(Term {
+            coef: p.coef,
+            mono: spot(alloc, &line.mark, normal, p.k)?,
+        }) {
             Ok(()) => {}
             Err(_) => return None,
         }
     }
-    Some(flags)
+    let poly = match Poly::from_terms(terms) {
+        Ok(poly) => poly,
+        Err(_) => return None,
+    };
+    let place = place_at(poly.terms(), &line.mark)?;
+    Some(Marked::mark(poly, place))
+}
+
+/// The lift of a line: where it is the part of a member divided by a number, the member divided by that number, else what steps lead to.
+fn lift(alloc: Global, line: &Line, ground: &Ground, pivot: usize) -> Option<Marked>
+    requires marked { HasSomeWeight ground.now.by.now }
+    requires ground { IsGround ground.now.normal.now ground.now.marks.now }
+    requires line { IsLineOf ground.now.normal.now ground.now.by.now line.now }
+    requires set { HaveVariables (length ground.now.normal.now) ground.now.by.now }
+    requires inside { pivot < length ground.now.normal.now }
+    requires nonzero { get_or ground.now.normal.now pivot (pos 0) ≢ pos 0 }
+    ensures value { IfSome result (IsTopLift ground.now.by.now ground.now.normal.now (line_member ground.now.normal.now line.now)) }
+    ensures variables { IfSome result (λ l. HasVariables (length ground.now.normal.now) l.poly) }
+{
+    if let Some(place) = line.origin {
+        return divided_at(&ground.by[place], &line.mark);
+    }
+    let member = member_of(alloc, line, ground.normal)?;
+    top_lift(alloc, &member, ground.by, ground.normal, pivot)
+}
+
+/// Adds the lift of a line, if it is chosen.
+fn add_lift(
+    alloc: Global,
+    lifts: &mut Lifts,
+    line: &Line,
+    is_chosen: bool,
+    ground: &Ground,
+    pivot: usize,
+) -> Option<()>
+    requires marked { HasSomeWeight ground.now.by.now }
+    requires ground { IsGround ground.now.normal.now ground.now.marks.now }
+    requires line { IsLineOf ground.now.normal.now ground.now.by.now line.now }
+    requires set { HaveVariables (length ground.now.normal.now) ground.now.by.now }
+    requires inside { pivot < length ground.now.normal.now }
+    requires nonzero { get_or ground.now.normal.now pivot (pos 0) ≢ pos 0 }
+    ensures { IfSome result (λ _. IsLiftedWhere is_chosen (length ground.now.normal.now) ground.now.by.now ground.now.normal.now (line_member ground.now.normal.now line.now) lifts.old.members.items lifts.new.members.items lifts.old.copied.items lifts.new.copied.items) }
+{
+    if !is_chosen {
+        return Some(());
+    }
+    let lift = lift(alloc, line, ground, pivot)?;
+    push(lifts, lift, false)?;
+    Some(())
+}
+
+/// The lifts of the monomials, which are the parts of the members at these places of the set, and of the lines behind them, as far as their flags
+/// are set, if all numbers fit.
+pub fn chosen_lifts(
+    alloc: Global,
+    ground: &Ground,
+    places: &[usize],
+    lines: &[Line],
+    flags: &[bool],
+    spare: &mut SpareLists,
+) -> Option<Lifts>
+    requires marked { HasSomeWeight ground.now.by.now }
+    requires ground { IsGround ground.now.normal.now ground.now.marks.now }
+    requires set { HaveVariables (length ground.now.normal.now) ground.now.by.now }
+    requires lines { AreLinesOf ground.now.normal.now ground.now.by.now lines.now }
+    requires size { length ground.now.marks.now ≡ length places.now }
+    requires alone { (i : ℕ) → i < length places.now → IsAloneAt ground.now.normal.now ground.now.by.now (get_or places.now i 0) (get_or ground.now.marks.now i []) }
+    requires flags { length flags.now ≡ length (with_monomials ground.now.marks.now (line_members ground.now.normal.now lines.now)) }
+    ensures value { IfSome result (λ ls. AreTopLifts ground.now.by.now ground.now.normal.now (chosen flags.now (with_monomials ground.now.marks.now (line_members ground.now.normal.now lines.now))) ls.members.items) }
+    ensures variables { IfSome result (λ ls. HaveVariables (length ground.now.normal.now) ls.members.items) }
+    ensures copied { IfSome result (λ ls. AreCopies ground.now.by.now ls.members.items ls.copied.items) }
+{
+    let pivot = pivot_of(ground.normal);
+    let mut lifts = Lifts {
+        members: with_room(alloc, flags.len())?,
+        copied: with_room(alloc, flags.len())?,
+    };
+    let first = ground.marks.len();
+    'marks: for i in 0..first {
+        add_copy(alloc, &mut lifts, &ground.by[places[i]], flags[i], spare)?;
+    }
+    'lines: for j in 0..lines.len() {
+        add_lift(
+            alloc,
+            &mut lifts,
+            &lines[j],
+            flags[first + j],
+            ground,
+            pivot,
+        )?;
+    }
+    Some(lifts)
 }

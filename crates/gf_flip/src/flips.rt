@@ -1,133 +1,58 @@
 //! The flip.
 
-ghost use Rattle.std.specs.Prelude.{◌≡◌, ℕ, IfOk, IfErr, IfSome};
+ghost use Rattle.std.specs.Prelude.{◌≡◌, ℕ, length, IfOk, IfErr, IfSome};
 ghost use Rattle.gf_poly.specs.Marking.{HaveVariables};
 ghost use Rattle.gf_buchberger.specs.Bases.{IsWantOfMemory, of_poly_error};
 ghost use Rattle.gf_flip.specs.Crossings.{IsCrossing, IsNeighbour};
 ghost use Rattle.gf_flip.specs.Along.{AreAlong, IsBasisOfParts, AreSmall};
 ghost use Rattle.gf_flip.specs.Operations.{IsFlipRefusal, IsFlipWithinLimits};
-ghost use Rattle.gf_flip.specs.Chosen.{IsRunOnParts, HasRunOnParts, AreLiftsOfParts};
+ghost use Rattle.gf_flip.specs.Chosen.{AreLiftsOfParts};
+ghost use Rattle.gf_flip.specs.Lines.{ArePartsOnLines, terms_of_parts};
+ghost use Rattle.gf_flip.specs.Splits.{AreSplit};
 
 use crate::SpareLists;
 use crate::along::{Split, are_single, parts, split_parts};
-use crate::chosen::{all_members, alone_flags, chosen_lifts};
+use crate::chosen::chosen_lifts;
 use crate::lifts::lifts;
 use crate::limits::see_members;
-use crate::reduction::{autoreduced, picks};
+use crate::lines::{Ground, Part};
+use crate::reduction::settled;
 use crate::tails::reduced_tails;
 use crate::tops::{Lifts, top_lifts};
-use crate::turns::{Task, basis_by_queue, members_in_turn};
+use crate::turns::{Task, basis_by_queue, lines_in_turn};
 use crate::weights::Facet;
 use crate::wide::wide_crossed;
 use gf_buchberger::{BasisError, refused};
 use gf_division::autoreduce;
 use gf_order::Order;
-use gf_poly::{Marked, MarkedSet, Mono, Poly, PolyError};
+use gf_poly::{Marked, MarkedSet, Poly, PolyError};
 use gf_vec::IntVec;
 use std::alloc::Global;
 
 /// Why there is no flip: as there may be no basis.
 pub type FlipError = BasisError;
 
-/// A run on the parts: the monomials, which are the parts of the members at these places, and the members behind them.
-#[derive(Drop)]
-struct Run {
-    places: Vec<usize>,
-    marks: Vec<Mono>,
-    members: Vec<Marked>,
-}
-
-/// A run on the parts that takes the pairs in turn, by the order along the facet, if all numbers fit.
-fn run_in_turn(
+/// Lifts of the reduced basis of the parts, which end early, by a run on lines that takes the pairs in turn, if all numbers fit.
+fn lifts_of_split(
     alloc: Global,
-    set: &MarkedSet,
-    normal: &IntVec,
+    ground: &Ground,
+    places: &[usize],
+    list: Vec<Part>,
     pairs: u64,
     spare: &mut SpareLists,
-) -> Option<Run>
-    requires crossing { IsCrossing set.now.variables set.now.items normal.now }
-    requires bounded { AreSmall normal.now }
-    ensures { IfSome result (λ r. IsRunOnParts set.now.variables set.now.items normal.now r.places.items r.marks.items r.members.items) }
-{
-    let along = match normal.copy() {
-        Ok(along) => along,
-        Err(_) => return None,
-    };
-    let order = Order::facet(along);
-    let task = Task {
-        n: set.variables(),
-        order: &order,
-    };
-    let Split {
-        places,
-        marks,
-        list,
-    } = match split_parts(alloc, set.items(), normal.as_slice(), spare) {
-        Ok(split) => split,
-        Err(_) => return None,
-    };
-    let members = members_in_turn(alloc, &task, &marks, list, pairs)?;
-    Some(Run {
-        places,
-        marks,
-        members,
-    })
-}
-
-/// The lifts of the reduced basis of the parts, which end early, where members of the run have to be worked on.
-fn worked_lifts(
-    alloc: Global,
-    set: &MarkedSet,
-    normal: &IntVec,
-    marks: &[Mono],
-    members: Vec<Marked>,
 ) -> Option<Lifts>
-    requires crossing { IsCrossing set.now.variables set.now.items normal.now }
-    requires bounded { AreSmall normal.now }
-    requires run { HasRunOnParts set.now.variables set.now.items normal.now marks.now members.items }
-    ensures { IfSome result (λ ls. AreLiftsOfParts set.now.variables set.now.items normal.now ls.members.items ls.copied.items) }
+    requires crossing { IsCrossing (length ground.now.normal.now) ground.now.by.now ground.now.normal.now }
+    requires bounded { AreSmall ground.now.normal.now }
+    requires split { AreSplit ground.now.normal.now ground.now.by.now places.now ground.now.marks.now (terms_of_parts ground.now.normal.now list.items) }
+    requires parts { ArePartsOnLines ground.now.normal.now ground.now.by.now list.items }
+    ensures { IfSome result (λ ls. AreLiftsOfParts (length ground.now.normal.now) ground.now.by.now ground.now.normal.now ls.members.items ls.copied.items) }
 {
-    let all = all_members(alloc, marks, members)?;
-    let below = autoreduced(alloc, set.variables(), all)?;
-    // Called for the proof alone: the members have the variables of their set.
-    let _ = below.items();
-    let items = set.items();
-    let normal = normal.as_slice();
-    let alone = alone_flags(alloc, items, normal)?;
-    top_lifts(alloc, below.into_items(), items, &alone, normal)
+    let mut lines = lines_in_turn(alloc, ground, list, pairs)?;
+    let flags = settled(alloc, ground, &mut lines)?;
+    chosen_lifts(alloc, ground, places, &lines, &flags, spare)
 }
 
-/// The lifts of the reduced basis of the parts, which end early, from a run on the parts, if all numbers fit.
-fn lifts_of_run(
-    alloc: Global,
-    set: &MarkedSet,
-    normal: &IntVec,
-    places: &[usize],
-    marks: &[Mono],
-    members: Vec<Marked>,
-    spare: &mut SpareLists,
-) -> Option<Lifts>
-    requires crossing { IsCrossing set.now.variables set.now.items normal.now }
-    requires bounded { AreSmall normal.now }
-    requires run { IsRunOnParts set.now.variables set.now.items normal.now places.now marks.now members.items }
-    ensures { IfSome result (λ ls. AreLiftsOfParts set.now.variables set.now.items normal.now ls.members.items ls.copied.items) }
-{
-    match picks(alloc, marks, &members) {
-        Some(flags) => chosen_lifts(
-            alloc,
-            set.items(),
-            normal.as_slice(),
-            places,
-            marks,
-            &members,
-            &flags,
-            spare,
-        ),
-        None => worked_lifts(alloc, set, normal, marks, members),
-    }
-}
-
-/// The same by a run that takes the pairs in turn.
+/// The same, from the set.
 fn lifts_in_turn(
     alloc: Global,
     set: &MarkedSet,
@@ -139,12 +64,19 @@ fn lifts_in_turn(
     requires bounded { AreSmall normal.now }
     ensures { IfSome result (λ ls. AreLiftsOfParts set.now.variables set.now.items normal.now ls.members.items ls.copied.items) }
 {
-    let Run {
+    let by = set.items();
+    let normal = normal.as_slice();
+    let Split {
         places,
         marks,
-        members,
-    } = run_in_turn(alloc, set, normal, pairs, spare)?;
-    let lifts = lifts_of_run(alloc, set, normal, &places, &marks, members, spare);
+        list,
+    } = split_parts(alloc, by, normal, spare)?;
+    let ground = Ground {
+        by,
+        normal,
+        marks: &marks,
+    };
+    let lifts = lifts_of_split(alloc, &ground, &places, list, pairs, spare);
     spare.leave(places, marks);
     lifts
 }
@@ -192,7 +124,7 @@ fn lifts_by_queue(
     ensures cause { IfErr result (IsFlipRefusal set.now.variables set.now.items normal.now pairs) }
 {
     let items = set.items();
-    let list = match parts(alloc, items, normal.as_slice(), &mut SpareLists::new(alloc)) {
+    let list = match parts(alloc, items, normal.as_slice()) {
         Ok(list) => list,
         Err(_) => return Err(BasisError::Memory),
     };
@@ -283,12 +215,7 @@ fn literal(
     ensures variables { IfOk result (λ t. t.variables ≡ set.now.variables) }
     ensures cause { IfErr result (IsFlipRefusal set.now.variables set.now.items normal.now pairs) }
 {
-    let list = match parts(
-        alloc,
-        set.items(),
-        normal.as_slice(),
-        &mut SpareLists::new(alloc),
-    ) {
+    let list = match parts(alloc, set.items(), normal.as_slice()) {
         Ok(list) => list,
         Err(_) => return Err(BasisError::Memory),
     };

@@ -1,40 +1,24 @@
-//! Remainders by monomials, of which the exponents alone are kept, and by members behind them. A monomial becomes a member only where a
-//! step is taken by it.
+//! Remainders on lines, by monomials, of which the exponents alone are kept, and by lines; and new lines.
 
-ghost use Rattle.std.specs.Prelude.{◌≡◌, false, None, [], length, Contains, IfNone, IfSome, IsTrue};
-ghost use Rattle.gf_poly.specs.Polynomial.{KeepsVariables};
-ghost use Rattle.gf_poly.specs.Marking.{HaveVariables};
-ghost use Rattle.gf_ideal.specs.Reduction.{IsDivisible, IsIrreducible};
-ghost use Rattle.gf_division.specs.Dividends.{split_of, joined_terms, SharesVariables, DividesFirst};
-ghost use Rattle.gf_division.specs.NormalForms.{HasSomeWeight, HaveSameVariables};
-ghost use Rattle.gf_division.specs.Reducers.{AreIrreducible, IsDivisorAt, IsReducibleFirst, IsSought, ShareVariables};
 ghost use Rattle.gf_division.specs.Remainders.{IsRemainder};
-ghost use Rattle.gf_flip.specs.Monomials.{monomial_member, with_monomials};
-ghost use Rattle.gf_flip.specs.Forms.{HasSomeStep, IsMonomialFor, IsStepAt, NoneDividesTo};
+ghost use Rattle.gf_flip.specs.Along.{AreSmall};
+ghost use Rattle.gf_flip.specs.Lines.{AreFalling, AreLinesOf, AreSpots, HasLineBelow, IsGround, IsLineAlong, IsMonomialFor, IsPartOnLine, KeepsFurther, KeepsWork, NoLineBelow, NoneDividesTo, facet_order, line_members, line_terms, moved, terms_of_part};
+ghost use Rattle.gf_flip.specs.Monomials.{with_monomials};
+ghost use Rattle.gf_flip.specs.Settling.{HasLineFrom, NoLineFrom};
+ghost use Rattle.gf_flip.specs.Turns.{HasCover, IsTakenIn};
+ghost use Rattle.gf_ideal.specs.Reduction.{IsDivisible, IsIrreducible};
+ghost use Rattle.gf_poly.specs.Marking.{Each, HaveVariables};
+ghost use Rattle.std.specs.Prelude.{Contains, IfNone, IfSome, IsTrue, [], false, length, pos, ◌++◌, ◌<ℤ◌, ◌∷◌, ◌≡◌};
 
-use crate::room::with_room;
-use crate::turns::{is_divisible, one};
-use gf_division::{Dividend, divisor_of};
-use gf_poly::{Marked, Mono, Poly, Term};
+use crate::lines::{Ground, Line, Part, Point, line_of, spot, subtract};
+use gf_poly::Mono;
 use std::alloc::Global;
 
-/// The monomial, its coefficient 1, as a member, if there is memory.
-pub fn monomial(alloc: Global, x: &Mono) -> Option<Marked>
-    ensures { IfSome result (λ b. b ≡ monomial_member x.now) }
-{
-    let mut terms = with_room(alloc, 1)?;
-    match terms.push(Term {
-        coef: one(),
-        mono: x.copy(),
-    }) {
-        Ok(()) => {}
-        Err(_) => return None,
-    }
-    Some(Marked::mark(Poly::from_descending(terms), 0))
-}
+/// How many points one remainder may work off.
+const STEPS: u32 = 1 << 20;
 
 /// The place of the first monomial that divides `x`.
-pub fn monomial_below(x: &Mono, marks: &[Mono]) -> Option<usize>
+fn monomial_below(x: &Mono, marks: &[Mono]) -> Option<usize>
     requires { HaveVariables (length x.now) (with_monomials marks.now []) }
     ensures found { IfSome result (IsMonomialFor marks.now x.now) }
     ensures none { IfNone result (NoneDividesTo marks.now (length marks.now) x.now) }
@@ -47,159 +31,186 @@ pub fn monomial_below(x: &Mono, marks: &[Mono]) -> Option<usize>
     None
 }
 
-/// The member that reduces a term at `x`, by its place among the monomials and the members behind them.
-pub fn reducer(x: &Mono, marks: &[Mono], members: &[Marked]) -> Option<usize>
-    requires { HaveVariables (length x.now) (with_monomials marks.now members.now) }
-    ensures found { IfSome result (IsDivisorAt (with_monomials marks.now members.now) x.now) }
-    ensures none { IfNone result (IsDivisible (Contains (with_monomials marks.now members.now)) x.now → ⊥) }
+/// Whether a monomial divides `x`.
+pub fn is_covered(x: &Mono, marks: &[Mono]) -> bool
+    requires { HaveVariables (length x.now) (with_monomials marks.now []) }
+    ensures yes { IsTrue result → HasCover (with_monomials marks.now []) x.now }
+    ensures no { result ≡ false → IsDivisible (Contains (with_monomials marks.now [])) x.now → ⊥ }
 {
-    match monomial_below(x, marks) {
-        Some(j) => Some(j),
-        None => match divisor_of(x, members) {
-            Some(k) => Some(marks.len() + k),
-            None => None,
-        },
-    }
+    monomial_below(x, marks).is_some()
 }
 
-/// Whether a mark divides `x`.
-fn is_reducible(x: &Mono, marks: &[Mono], members: &[Marked]) -> bool
-    requires { HaveVariables (length x.now) (with_monomials marks.now members.now) }
-    ensures { result ≡ false → IsDivisible (Contains (with_monomials marks.now members.now)) x.now → ⊥ }
+/// The place of the first line whose mark divides `x`.
+pub fn line_below(x: &Mono, lines: &[Line]) -> Option<usize>
+    requires { Each (λ (l : Line). length l.mark ≡ length x.now) lines.now }
+    ensures found { IfSome result (HasLineBelow lines.now x.now) }
+    ensures none { IfNone result (NoLineBelow lines.now x.now) }
 {
-    match reducer(x, marks, members) {
-        Some(_) => true,
-        None => false,
+    'lines: for j in 0..lines.len() {
+        if lines[j].mark.divides(x) {
+            return Some(j);
+        }
     }
+    None
 }
 
-/// Whether no mark divides a term.
-pub fn is_irreducible(f: &Poly, marks: &[Mono], members: &[Marked]) -> bool
-    requires { HaveSameVariables f.now (with_monomials marks.now members.now) }
-    ensures { IsTrue result → IsIrreducible (Contains (with_monomials marks.now members.now)) f.now }
+/// Whether no mark of a line from a place on divides `x`.
+pub fn is_left(x: &Mono, lines: &[Line], from: usize) -> bool
+    requires { Each (λ (l : Line). length l.mark ≡ length x.now) lines.now }
+    ensures left { IsTrue result → NoLineFrom lines.now from x.now }
+    ensures divided { result ≡ false → HasLineFrom lines.now from x.now }
 {
-    let terms = f.terms();
-    'terms: for k in 0..terms.len() {
-        let t = &terms[k];
-        if is_reducible(&t.mono, marks, members) {
+    'lines: for j in from..lines.len() {
+        if lines[j].mark.divides(x) {
             return false;
         }
     }
     true
 }
 
-/// Moves the place down to the first term that a member reduces; the place of that member, if there is such a term.
-fn seek(rest: &mut Dividend, marks: &[Mono], members: &[Marked]) -> Option<Option<usize>>
-    requires variables { ShareVariables (split_of rest.old) (with_monomials marks.now members.now) None }
-    requires above { AreIrreducible (with_monomials marks.now members.now) None (split_of rest.old).above }
-    ensures same { IfSome result (λ _. joined_terms (split_of rest.new) ≡ joined_terms (split_of rest.old)) }
-    ensures above { IfSome result (λ _. AreIrreducible (with_monomials marks.now members.now) None (split_of rest.new).above) }
-    ensures found { IfSome result (IsSought (with_monomials marks.now members.now) None (split_of rest.new)) }
+/// Whether no mark of a line from a place on divides one of these terms on the line through `base`.
+pub fn are_left(
+    alloc: Global,
+    normal: &[i128],
+    base: &Mono,
+    points: &[Point],
+    lines: &[Line],
+    from: usize,
+) -> bool
+    requires bounded { AreSmall normal.now }
+    requires base { length base.now ≡ length normal.now }
+    requires lines { Each (IsLineAlong normal.now) lines.now }
+    ensures { IsTrue result → Each (λ (p : Point). NoLineFrom lines.now from (moved normal.now base.now p.k)) points.now }
 {
-    'terms: while let Some(t) = rest.next() {
-        // Its exponents are within the limit: the accessor says so.
-        let _ = t.mono.exponents();
-        match reducer(&t.mono, marks, members) {
-            Some(j) => return Some(Some(j)),
-            None => match rest.advance() {
-                Ok(()) => {}
-                Err(_) => return None,
-            },
+    if from >= lines.len() {
+        return true;
+    }
+    'points: for i in 0..points.len() {
+        let x = match spot(alloc, base, normal, points[i].k) {
+            Some(x) => x,
+            None => return false,
+        };
+        if !is_left(&x, lines, from) {
+            return false;
         }
     }
-    Some(None)
+    true
 }
 
-/// The step at the first term below the place, if all numbers fit.
-fn step_by(rest: &mut Dividend, member: &Marked) -> Option<()>
-    requires variables { SharesVariables member.now (split_of rest.old) }
-    requires divides { DividesFirst member.now.head (split_of rest.old).below }
-    ensures { IfSome result (λ _. HasSomeStep member.now (split_of rest.old) (split_of rest.new)) }
-{
-    match rest.step(member) {
-        Ok(_) => {}
-        Err(_) => return None,
-    }
-    Some(())
-}
-
-/// The step at the first term below the place by the member at a place, if all numbers fit.
-fn step(
+/// Works a point off that was the last one of `work`: it is left out, reduced, or kept.
+fn work_off(
     alloc: Global,
-    rest: &mut Dividend,
-    j: usize,
-    marks: &[Mono],
-    members: &[Marked],
+    ground: &Ground,
+    base: &Mono,
+    p: Point,
+    work: &mut Vec<Point>,
+    kept: &mut Vec<Point>,
+    lines: &[Line],
 ) -> Option<()>
-    requires variables { ShareVariables (split_of rest.old) (with_monomials marks.now members.now) None }
-    requires found { IsReducibleFirst (with_monomials marks.now members.now) None (split_of rest.old) j }
-    ensures { IfSome result (λ _. IsStepAt (with_monomials marks.now members.now) j (split_of rest.old) (split_of rest.new)) }
+    requires ground { IsGround ground.now.normal.now ground.now.marks.now }
+    requires base { length base.now ≡ length ground.now.normal.now }
+    requires lines { Each (IsLineAlong ground.now.normal.now) lines.now }
+    ensures worked { IfSome result (λ _. KeepsWork ground.now.normal.now base.now (with_monomials ground.now.marks.now (line_members ground.now.normal.now lines.now)) (work.old.items ++ p ∷ []) kept.old.items work.new.items kept.new.items) }
+    ensures further { IfSome result (λ _. KeepsFurther (work.old.items ++ p ∷ []) kept.old.items work.new.items kept.new.items) }
 {
-    if j < marks.len() {
-        let member = monomial(alloc, &marks[j])?;
-        step_by(rest, &member)?;
+    if p.coef.is_zero() {
         return Some(());
     }
-    step_by(rest, &members[j - marks.len()])?;
-    Some(())
-}
-
-/// What is left of the polynomial by steps at the first term that a member reduces, once no member reduces one, if all numbers fit.
-fn left_by_steps(alloc: Global, f: Poly, marks: &[Mono], members: &[Marked]) -> Option<Poly>
-    requires marked { HasSomeWeight (with_monomials marks.now members.now) }
-    requires variables { HaveSameVariables f (with_monomials marks.now members.now) }
-    ensures value { IfSome result (IsRemainder (with_monomials marks.now members.now) f) }
-    ensures variables { IfSome result (KeepsVariables f) }
-{
-    let mut rest = Dividend::new(alloc, f);
-    'steps: while let Some(j) = seek(&mut rest, marks, members)? {
-        step(alloc, &mut rest, j, marks, members)?;
+    let x = spot(alloc, base, ground.normal, p.k)?;
+    if is_covered(&x, ground.marks) {
+        return Some(());
     }
-    match rest.into_poly() {
-        Ok(left) => Some(left),
+    if let Some(j) = line_below(&x, lines) {
+        return subtract(work, p, &lines[j].rest);
+    }
+    match kept.insert(0, p) {
+        Ok(()) => Some(()),
         Err(_) => None,
     }
 }
 
-/// What is left of the polynomial by steps at the first term that a member reduces, once no member reduces one, if all numbers fit; where
-/// no mark divides a term it is the polynomial, which is moved.
-pub fn remainder_of(alloc: Global, f: Poly, marks: &[Mono], members: &[Marked]) -> Option<Poly>
-    requires marked { HasSomeWeight (with_monomials marks.now members.now) }
-    requires variables { HaveSameVariables f (with_monomials marks.now members.now) }
-    ensures value { IfSome result (IsRemainder (with_monomials marks.now members.now) f) }
-    ensures variables { IfSome result (KeepsVariables f) }
+/// The remainder of points on the line through `base` by the monomials and the lines, if all numbers fit.
+pub fn remainder(
+    alloc: Global,
+    ground: &Ground,
+    base: &Mono,
+    points: Vec<Point>,
+    lines: &[Line],
+) -> Option<Vec<Point>>
+    requires ground { IsGround ground.now.normal.now ground.now.marks.now }
+    requires base { length base.now ≡ length ground.now.normal.now }
+    requires lines { Each (IsLineAlong ground.now.normal.now) lines.now }
+    requires on { AreSpots ground.now.normal.now base.now points.items }
+    requires falling { AreFalling points.items }
+    ensures value { IfSome result (λ r. IsRemainder (with_monomials ground.now.marks.now (line_members ground.now.normal.now lines.now)) (line_terms ground.now.normal.now base.now points.items) (line_terms ground.now.normal.now base.now r.items)) }
+    ensures on { IfSome result (λ r. AreSpots ground.now.normal.now base.now r.items) }
+    ensures falling { IfSome result (λ r. AreFalling r.items) }
+    ensures further { IfSome result (λ r. Each (λ (q : Point). pos 0 <ℤ q.k) points.items → Each (λ (q : Point). pos 0 <ℤ q.k) r.items) }
 {
-    if is_irreducible(&f, marks, members) {
-        return Some(f);
+    let mut work = points;
+    let mut kept = Vec::new(alloc);
+    'steps: for _ in 0..STEPS {
+        let p = match work.pop() {
+            Some(p) => p,
+            None => return Some(kept),
+        };
+        work_off(alloc, ground, base, p, &mut work, &mut kept, lines)?;
     }
-    left_by_steps(alloc, f, marks, members)
+    None
 }
 
-/// Whether the mark of no member divides a term.
-fn is_undivided(f: &Poly, members: &[Marked]) -> bool
-    requires { HaveSameVariables f.now members.now }
-    ensures { IsTrue result → IsIrreducible (Contains members.now) f.now }
+/// Adds a line, if there is memory.
+pub fn push_line(lines: &mut Vec<Line>, line: Line) -> Option<()>
+    ensures { IfSome result (λ _. lines.new.items ≡ lines.old.items ++ line ∷ []) }
 {
-    let terms = f.terms();
-    'terms: for k in 0..terms.len() {
-        let t = &terms[k];
-        if is_divisible(&t.mono, members) {
-            return false;
-        }
+    match lines.push(line) {
+        Ok(()) => Some(()),
+        Err(_) => None,
     }
-    true
 }
 
-/// What `remainder_of` gives for a polynomial of which no monomial divides a term: before the first step the members alone are tried.
-pub fn remainder_of_part(alloc: Global, f: Poly, marks: &[Mono], members: &[Marked]) -> Option<Poly>
-    requires marked { HasSomeWeight (with_monomials marks.now members.now) }
-    requires variables { HaveSameVariables f (with_monomials marks.now members.now) }
-    requires clear { IsIrreducible (Contains (with_monomials marks.now [])) f }
-    ensures value { IfSome result (IsRemainder (with_monomials marks.now members.now) f) }
-    ensures variables { IfSome result (KeepsVariables f) }
+/// Reduces points on the line through `base` by the monomials and the lines; what is left is a new line.
+pub fn take_in(
+    alloc: Global,
+    ground: &Ground,
+    base: &Mono,
+    points: Vec<Point>,
+    lines: &mut Vec<Line>,
+) -> Option<()>
+    requires ground { IsGround ground.now.normal.now ground.now.marks.now }
+    requires base { length base.now ≡ length ground.now.normal.now }
+    requires lines { AreLinesOf ground.now.normal.now ground.now.by.now lines.old.items }
+    requires on { AreSpots ground.now.normal.now base.now points.items }
+    requires falling { AreFalling points.items }
+    ensures taken { IfSome result (λ _. IsTakenIn (facet_order ground.now.normal.now) (line_terms ground.now.normal.now base.now points.items) (with_monomials ground.now.marks.now (line_members ground.now.normal.now lines.old.items)) (with_monomials ground.now.marks.now (line_members ground.now.normal.now lines.new.items))) }
+    ensures lines { IfSome result (λ _. AreLinesOf ground.now.normal.now ground.now.by.now lines.new.items) }
 {
-    if is_undivided(&f, members) {
-        return Some(f);
+    let left = remainder(alloc, ground, base, points, lines)?;
+    if left.is_empty() {
+        return Some(());
     }
-    left_by_steps(alloc, f, marks, members)
+    let line = line_of(alloc, ground.normal, base, left, None)?;
+    push_line(lines, line)
+}
+
+/// The same of a part of which no monomial divides a term. Where no mark of a line divides one either, it is moved.
+pub fn take_part(alloc: Global, ground: &Ground, part: Part, lines: &mut Vec<Line>) -> Option<()>
+    requires ground { IsGround ground.now.normal.now ground.now.marks.now }
+    requires lines { AreLinesOf ground.now.normal.now ground.now.by.now lines.old.items }
+    requires part { IsPartOnLine ground.now.normal.now ground.now.by.now part }
+    requires clear { IsIrreducible (Contains (with_monomials ground.now.marks.now [])) (terms_of_part ground.now.normal.now part) }
+    ensures taken { IfSome result (λ _. IsTakenIn (facet_order ground.now.normal.now) (terms_of_part ground.now.normal.now part) (with_monomials ground.now.marks.now (line_members ground.now.normal.now lines.old.items)) (with_monomials ground.now.marks.now (line_members ground.now.normal.now lines.new.items))) }
+    ensures lines { IfSome result (λ _. AreLinesOf ground.now.normal.now ground.now.by.now lines.new.items) }
+{
+    if are_left(alloc, ground.normal, &part.base, &part.points, lines, 0) {
+        let Part {
+            place,
+            base,
+            points,
+        } = part;
+        let line = line_of(alloc, ground.normal, &base, points, Some(place))?;
+        return push_line(lines, line);
+    }
+    let Part { base, points, .. } = part;
+    take_in(alloc, ground, &base, points, lines)
 }

@@ -9,6 +9,7 @@ mod flips;
 mod forms;
 mod lifts;
 mod limits;
+mod lines;
 mod reduction;
 mod room;
 mod spare;

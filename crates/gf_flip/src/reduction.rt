@@ -1,72 +1,36 @@
-//! Which monomials and members of a run are needed, and the reduced basis of members. Where no mark divides a tail, which is usual for few
-//! small polynomials, nothing is worked out or copied: the members that aren't needed are dropped.
+//! Which monomials and lines of a run are needed, and the tails of those that are, reduced in place.
 
-ghost use Rattle.std.specs.Prelude.{◌≡◌, ◌<◌, false, length, IfSome, IsTrue};
-ghost use Rattle.gf_poly.specs.Marking.{HaveVariables};
-ghost use Rattle.gf_ideal.specs.Marks.{IsRealisable};
-ghost use Rattle.gf_division.specs.Autoreduction.{ShareSomeVariables};
-ghost use Rattle.gf_flip.specs.Lifting.{AreMonic};
-ghost use Rattle.gf_flip.specs.Monomials.{with_monomials, AreMonomialsApart, AreLaterUndivided};
-ghost use Rattle.gf_flip.specs.Settling.{AreUndividedFrom, IsDividedFrom, IsPick, ArePickFlags, IsReducedForm};
+ghost use Rattle.gf_flip.specs.Lines.{AreLinesOf, IsGround, IsLineAlong, facet_order, line_members};
+ghost use Rattle.gf_flip.specs.Monomials.{AreLaterUndivided, AreMonomialsApart, chosen, with_monomials};
+ghost use Rattle.gf_flip.specs.Settling.{AreNeededFlags, IsTailSettled, SettlesTo};
+ghost use Rattle.gf_poly.specs.Marking.{Each};
+ghost use Rattle.std.specs.Prelude.{IfSome, length, ◌<◌, ◌≡◌};
 
+use crate::forms::{are_left, is_left, remainder};
+use crate::lines::{Ground, Line};
 use crate::room::with_room;
-use crate::tails::is_reduced;
-use gf_division::autoreduce;
-use gf_poly::{Marked, MarkedSet, Mono};
+use crate::turns::copied;
 use std::alloc::Global;
 
-/// Whether no mark from a place on divides `x`.
-fn is_left(x: &Mono, members: &[Marked], from: usize) -> bool
-    requires { HaveVariables (length x.now) members.now }
-    ensures left { IsTrue result → AreUndividedFrom members.now from x.now }
-    ensures divided { result ≡ false → IsDividedFrom members.now from x.now }
+/// Of each monomial and then of each line whether it is needed. No mark divides a monomial of a later one, and no monomial another one.
+fn needed_flags(alloc: Global, ground: &Ground, lines: &[Line]) -> Option<Vec<bool>>
+    requires ground { IsGround ground.now.normal.now ground.now.marks.now }
+    requires lines { Each (IsLineAlong ground.now.normal.now) lines.now }
+    requires apart { AreMonomialsApart ground.now.marks.now }
+    requires later { AreLaterUndivided (with_monomials ground.now.marks.now (line_members ground.now.normal.now lines.now)) }
+    ensures { IfSome result (λ flags. AreNeededFlags (with_monomials ground.now.marks.now (line_members ground.now.normal.now lines.now)) flags.items) }
 {
-    'members: for j in from..members.len() {
-        if members[j].head().divides(x) {
-            return false;
-        }
-    }
-    true
-}
-
-/// Whether the member at the place `j` is needed; nothing where it is, but its tail has to be worked on.
-fn pick(members: &[Marked], j: usize) -> Option<bool>
-    requires within { j < length members.now }
-    requires variables { ShareSomeVariables members.now }
-    requires monic { AreMonic members.now }
-    requires later { AreLaterUndivided members.now }
-    ensures { IfSome result (IsPick members.now j) }
-{
-    let member = &members[j];
-    if !is_left(member.head(), members, j + 1) {
-        return Some(false);
-    }
-    // No earlier mark divides a term of it.
-    if !is_reduced(member, &members[j..]) {
-        return None;
-    }
-    Some(true)
-}
-
-/// Of each member whether it is needed, first of the monomials and then of the others; nothing where a needed one has to be worked on.
-/// No mark divides a monomial of a later one, and no monomial another one.
-pub fn picks(alloc: Global, marks: &[Mono], members: &[Marked]) -> Option<Vec<bool>>
-    requires variables { ShareSomeVariables (with_monomials marks.now members.now) }
-    requires monic { AreMonic members.now }
-    requires apart { AreMonomialsApart marks.now }
-    requires later { AreLaterUndivided (with_monomials marks.now members.now) }
-    ensures { IfSome result (λ flags. ArePickFlags (with_monomials marks.now members.now) flags.items (length (with_monomials marks.now members.now))) }
-{
-    let mut flags = with_room(alloc, marks.len().saturating_add(members.len()))?;
+    let marks = ground.marks;
+    let mut flags = with_room(alloc, marks.len().saturating_add(lines.len()))?;
     'marks: for i in 0..marks.len() {
-        let needed = is_left(&marks[i], members, 0);
+        let needed = is_left(&marks[i], lines, 0);
         match flags.push(needed) {
             Ok(()) => {}
             Err(_) => return None,
         }
     }
-    'members: for j in 0..members.len() {
-        let needed = pick(members, j)?;
+    'lines: for j in 0..lines.len() {
+        let needed = is_left(&lines[j].mark, lines, j + 1);
         match flags.push(needed) {
             Ok(()) => {}
             Err(_) => return None,
@@ -75,15 +39,42 @@ pub fn picks(alloc: Global, marks: &[Mono], members: &[Marked]) -> Option<Vec<bo
     Some(flags)
 }
 
-/// The members autoreduced, if all numbers fit.
-pub fn autoreduced(alloc: Global, n: u32, members: Vec<Marked>) -> Option<MarkedSet>
-    requires variables { HaveVariables n members.items }
-    requires realisable { IsRealisable n members.items }
-    ensures { IfSome result (IsReducedForm n members.items) }
+/// Reduces the tail of the line at the place `j`, if a mark from there on divides a term of it.
+fn settle_tail(alloc: Global, ground: &Ground, lines: &mut Vec<Line>, j: usize) -> Option<()>
+    requires ground { IsGround ground.now.normal.now ground.now.marks.now }
+    requires lines { AreLinesOf ground.now.normal.now ground.now.by.now lines.old.items }
+    requires within { j < length lines.old.items }
+    ensures settled { IfSome result (λ _. IsTailSettled ground.now.normal.now ground.now.marks.now j lines.old.items lines.new.items) }
+    ensures lines { IfSome result (λ _. AreLinesOf ground.now.normal.now ground.now.by.now lines.new.items) }
 {
-    let set = MarkedSet::new(n, members);
-    match autoreduce(alloc, &set) {
-        Ok(basis) => Some(basis),
-        Err(_) => None,
+    let line = &lines[j];
+    if are_left(alloc, ground.normal, &line.mark, &line.rest, lines, j) {
+        return Some(());
     }
+    let points = copied(alloc, &line.rest)?;
+    let rest = remainder(alloc, ground, &line.mark, points, lines)?;
+    let line = &mut lines[j];
+    line.rest = rest;
+    line.origin = None;
+    Some(())
+}
+
+/// Of each monomial and then of each line of a run whether it is needed; the tails of the lines that are get reduced, if all numbers fit.
+pub fn settled(alloc: Global, ground: &Ground, lines: &mut Vec<Line>) -> Option<Vec<bool>>
+    requires ground { IsGround ground.now.normal.now ground.now.marks.now }
+    requires lines { AreLinesOf ground.now.normal.now ground.now.by.now lines.old.items }
+    requires apart { AreMonomialsApart ground.now.marks.now }
+    requires later { AreLaterUndivided (with_monomials ground.now.marks.now (line_members ground.now.normal.now lines.old.items)) }
+    ensures basis { IfSome result (λ flags. SettlesTo (facet_order ground.now.normal.now) (length ground.now.normal.now) (with_monomials ground.now.marks.now (line_members ground.now.normal.now lines.old.items)) (chosen flags.items (with_monomials ground.now.marks.now (line_members ground.now.normal.now lines.new.items)))) }
+    ensures size { IfSome result (λ flags. length flags.items ≡ length (with_monomials ground.now.marks.now (line_members ground.now.normal.now lines.new.items))) }
+    ensures lines { IfSome result (λ _. AreLinesOf ground.now.normal.now ground.now.by.now lines.new.items) }
+{
+    let flags = needed_flags(alloc, ground, lines)?;
+    let first = ground.marks.len();
+    'lines: for j in 0..lines.len() {
+        if flags[first + j] {
+            settle_tail(alloc, ground, lines, j)?;
+        }
+    }
+    Some(flags)
 }

@@ -14,9 +14,8 @@ ghost use Rattle.gf_division.specs.Reducers.{AreIrreducible};
 ghost use Rattle.gf_flip.specs.LiftTails.{AreCopiedTo, AreCopiedFrom, AreCopiedBeside, AreSparedBeside, AreUndivided, HasUndividedTailAt, IsReducedLiftAt, IsNextInTurn, AreTailsInTurn};
 
 use crate::tops::Lifts;
-use crate::turns::is_divisible;
 use crate::weights::{Facet, weight_for};
-use gf_division::{Guide, reduced_tail};
+use gf_division::{Guide, divisor_of, reduced_tail};
 use gf_poly::{Marked, Mono};
 use std::alloc::Global;
 
@@ -146,6 +145,17 @@ fn stays(lifts: &[Marked], copied: &[bool], fresh: Span, at: usize) -> bool
         }
     }
     true
+}
+
+/// Whether a mark divides `x`.
+fn is_divisible(x: &Mono, by: &[Marked]) -> bool
+    requires { HaveVariables (length x.now) by.now }
+    ensures { result ≡ false → IsDivisible (Contains by.now) x.now → ⊥ }
+{
+    match divisor_of(x, by) {
+        Some(_) => true,
+        None => false,
+    }
 }
 
 /// Whether a mark divides a term at `x` that isn't the marked one.

@@ -11,10 +11,10 @@ ghost use Rattle.gf_initial.specs.Lifts.{IsTopLift, AreTopLifts};
 ghost use Rattle.gf_flip.specs.Along.{HasNonzero, AreSmall};
 ghost use Rattle.gf_flip.specs.Lifting.{AreMonic};
 ghost use Rattle.gf_ideal.specs.Reduction.{HasOneMonomial};
-ghost use Rattle.gf_flip.specs.Tops.{AreOff, IsTopRemainder, AreAloneWhere, IsDividedAt, IsMarkedAt};
+ghost use Rattle.gf_flip.specs.Tops.{AreOff, IsTopRemainder, AreAloneWhere, IsQuotientAt, IsMarkedAt};
 ghost use Rattle.gf_flip.specs.LiftTails.{IsCopy, AreCopies};
 
-use crate::along::{is_apart, is_part, pivot_of};
+use crate::along::{is_apart, pivot_of};
 use crate::room::with_room;
 use gf_buchberger::is_single;
 use gf_division::{Dividend, divisor_of, place_of};
@@ -286,7 +286,7 @@ pub fn top_lift(
 }
 
 /// The place of the first term at `x`, if there is one.
-fn place_at(terms: &[Term], x: &Mono) -> Option<usize>
+pub fn place_at(terms: &[Term], x: &Mono) -> Option<usize>
     requires { HasVariables (length x.now) terms.now }
     ensures within { IfSome result (λ k. k < length terms.now) }
     ensures head { IfSome result (λ k. head_of terms.now k ≡ x.now) }
@@ -300,10 +300,10 @@ fn place_at(terms: &[Term], x: &Mono) -> Option<usize>
     None
 }
 
-/// A member divided by its coefficient at the mark of another polynomial, and marked there; none where it has none, or a number doesn't fit.
-fn marked_as(member: &Marked, x: &Mono) -> Option<Marked>
+/// A member divided by its coefficient at `x`, and marked there; none where it has none, or a number doesn't fit.
+pub fn divided_at(member: &Marked, x: &Mono) -> Option<Marked>
     requires { HasVariables (length x.now) member.now.poly }
-    ensures { IfSome result (IsDividedAt member.now x.now) }
+    ensures { IfSome result (IsQuotientAt member.now x.now) }
 {
     let terms = member.poly().terms();
     let at = place_at(terms, x)?;
@@ -313,45 +313,7 @@ fn marked_as(member: &Marked, x: &Mono) -> Option<Marked>
     }
 }
 
-/// The monomial at the one end of a polynomial, or at the other where that is its mark.
-fn other_end(member: &Marked) -> &Mono {
-    let terms = member.poly().terms();
-    if member.index() == 0 {
-        return &terms[terms.len() - 1].mono;
-    }
-    &terms[0].mono
-}
-
-/// The lift where the member is the part of a member of the set, divided by a number and marked elsewhere: that member divided by the number. A step by it
-/// leads to what isn't a multiple of the normal apart from the mark.
-pub fn divided_lift(member: &Marked, by: &[Marked], normal: &[i128], pivot: usize) -> Option<Marked>
-    requires marked { HasSomeWeight by.now }
-    requires poly { HasVariables (length normal.now) member.now.poly }
-    requires monic { coefficient member.now.poly member.now.head ≡ one_ℚ }
-    requires members { HaveVariables (length normal.now) by.now }
-    requires bounded { AreSmall normal.now }
-    requires inside { pivot < length normal.now }
-    requires nonzero { get_or normal.now pivot (pos 0) ≢ pos 0 }
-    ensures value { IfSome result (IsTopLift by.now normal.now member.now) }
-    ensures variables { IfSome result (λ l. HasVariables (length normal.now) l.poly) }
-{
-    if is_single(member) {
-        return None;
-    }
-    let head = member.head();
-    let j = place_of_mark(other_end(member), by, 0)?;
-    let origin = &by[j];
-    if !is_apart(origin.head().exponents(), head.exponents(), normal, pivot) {
-        return None;
-    }
-    let lift = marked_as(origin, head)?;
-    if !is_part(member.poly().terms(), &lift, normal, pivot) {
-        return None;
-    }
-    Some(lift)
-}
-
-/// The lift, of the one kind or the other, whether it is copied from the set, and where to look on for the next one. A member of the
+/// The lift, whether it is copied from the set, and where to look on for the next one. A member of the
 /// set with the same mark is looked for from a place on; it is copied into the memory of the member that is lifted.
 fn lifted(
     alloc: Global,
@@ -379,9 +341,6 @@ fn lifted(
             Ok(copy) => Some((copy, true, j + 1)),
             Err(_) => None,
         };
-    }
-    if let Some(lift) = divided_lift(&member, by, normal, pivot) {
-        return Some((lift, false, from));
     }
     let lift = top_lift(alloc, &member, by, normal, pivot)?;
     Some((lift, false, from))

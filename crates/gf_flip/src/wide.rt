@@ -5,17 +5,17 @@
 ghost use Rattle.std.specs.Prelude.{◌≡◌, ◌<◌, ◌≤◌, length, IfOk, IfSome};
 ghost use Rattle.gf_poly.specs.Marking.{HaveVariables, head_of};
 ghost use Rattle.gf_poly.specs.Polynomial.{HasVariables, KeepsVariables};
-ghost use Rattle.gf_ideal.specs.Marks.{HasPositiveWeight};
+ghost use Rattle.gf_ideal.specs.Marks.{HasPositiveWeight, IsRealisable};
 ghost use Rattle.gf_division.specs.NormalForms.{HasSomeWeight, HaveSameVariables};
 ghost use Rattle.gf_flip.specs.Along.{IsBasisOfParts};
 ghost use Rattle.gf_flip.specs.Crossings.{IsCrossing, IsNeighbour};
+ghost use Rattle.gf_flip.specs.Settling.{IsReducedForm};
 ghost use Rattle.gf_flip.specs.LiftsInTurn.{IsRest, AreRests, IsLessBy, AreLiftsInTurn, IsLiftIn, AreLiftsIn};
 
-use crate::reduction::autoreduced;
+use crate::lines::one;
 use crate::tops::place_of_mark;
-use crate::turns::one;
 use crate::weights::{ROUNDS, weight_found};
-use gf_division::weight_of;
+use gf_division::{autoreduce, weight_of};
 use gf_poly::{Marked, MarkedSet, Mono, Poly, Term};
 use gf_vec::IntVec;
 use gf_wide_division::{Beyond, Precedence, WidePoly, wide_remainder, wide_remainder_again};
@@ -232,6 +232,19 @@ fn turns_by(alloc: Global, below: &[Marked], then: &Precedence) -> Result<Vec<us
         turns.insert(at, i)?;
     }
     Ok(turns)
+}
+
+/// The members autoreduced, if all numbers fit.
+fn autoreduced(alloc: Global, n: u32, members: Vec<Marked>) -> Option<MarkedSet>
+    requires variables { HaveVariables n members.items }
+    requires realisable { IsRealisable n members.items }
+    ensures { IfSome result (IsReducedForm n members.items) }
+{
+    let set = MarkedSet::new(n, members);
+    match autoreduce(alloc, &set) {
+        Ok(basis) => Some(basis),
+        Err(_) => None,
+    }
 }
 
 /// The basis on the other side, from the remainders by the set.

@@ -1,10 +1,12 @@
-use Rattle.std.proofs.Common.{refl, ap, ◌∙◌, ◌++◌, [], ◌∷◌}
-use Rattle.gf_exponents.specs.Exponents.{Exponents}
-use Rattle.gf_flip.specs.Splits.{IsSplitOn}
+use Rattle.std.proofs.Common.{ap, ◌∙◌, length, refl}
+use Rattle.gf_division.proofs.StepLaws.{head_length}
+use Rattle.gf_flip.proofs.SplitLaws.{mark_added, part_added}
 use Rattle.gf_flip.proofs.along.add.Goals as goal
 
 pub returns-then-is_alone : goal.returns-then-is_alone
-returns-then-is_alone c = IsSplitOn.alone (c.is_alone.ensures c.if-is_alone.true) c.in_ok-push.ensures.items (c.in_ok-push-2.ensures.items ∙ ap (λ (z : Exponents). c.args.all.now.marks.items ++ z ∷ []) (c.copy.ensures ∙ c.head.ensures.value)) refl
+returns-then-is_alone c = mark_added c.args.normal.now c.args.place c.args.member.now c.args.all.now c.add_mark.new.all c.head.result.now c.add_mark.result (c.if-is_alone.ensures refl) c.head.ensures.value c.add_mark.ensures.places c.add_mark.ensures.marks c.add_mark.ensures.list
 
 pub returns : goal.returns
-returns c = IsSplitOn.part c.in_ok-poly.poly c.in_ok-poly.ensures refl refl c.in_ok-push-3.ensures.items
+returns c = part_added c.args.normal.now c.args.place c.args.member.now c.args.all.now c.add_part.new.all _ c.add_part.result refl (c.copy-base.ensures ∙ c.head-2.ensures.value)
+    (ap length (c.copy-base.ensures ∙ c.head-2.ensures.value) ∙ head_length (length c.args.normal.now) c.args.member.now c.requires.variables c.head-2.ensures.marked)
+    c.in_ok-points.ensures.part c.in_ok-points.ensures.on c.in_ok-points.ensures.falling c.add_part.ensures.places c.add_part.ensures.marks c.add_part.ensures.list

@@ -7,7 +7,7 @@ use Rattle.gf_flip.proofs.along.part.Goals as goal
 use Rattle.gf_flip.proofs.along.part.Goals.{then-is_along+in_ok-push, else-is_along}
 
 pub terms-init : goal.terms-init
-terms-init c = subst (λ (z : Terms). IsSelected (IsTermAlong c.args.normal.now c.head-head.result.now) [] z) (sym c.in_ok-kept.ensures) IsSelected.none
+terms-init c = subst (λ (z : Terms). IsSelected (IsTermAlong c.args.normal.now c.head-head.result.now) [] z) (sym c.in_ok-kept.ensures.items) IsSelected.none
 
 pub is_along-requires-clause-same_length : goal.is_along-requires-clause-same_length
 is_along-requires-clause-same_length c = width_at (length c.args.normal.now) c.terms-terms.result.now c.args.member.now.poly c.index-terms-i.result c.terms.i c.requires.variables (c.terms-terms.ensures.value ∙ c.poly.ensures) c.terms-test.true c.index-terms-i.is

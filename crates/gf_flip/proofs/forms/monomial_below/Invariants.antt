@@ -1,4 +1,4 @@
-use Rattle.gf_flip.specs.Forms.{NoneDividesTo}
+use Rattle.gf_flip.specs.Lines.{NoneDividesTo}
 use Rattle.gf_flip.proofs.forms.monomial_below.Given as goal
 
 abbrev pub invariant-marks : goal.invariant-marks

@@ -1,10 +1,13 @@
-use Rattle.std.proofs.Common.{[]}
+use Rattle.std.proofs.Common.{[], length}
+use Rattle.gf_flip.specs.Lines.{AreLinesOf, ArePartsOnLines, facet_order, line_members, terms_of_parts}
 use Rattle.gf_flip.specs.Monomials.{with_monomials}
 use Rattle.gf_flip.specs.Turns.{AreUndividedBy, KeepsEntering}
 use Rattle.gf_flip.proofs.turns.enter.Given as goal
 
 abbrev pub invariant-list : goal.invariant-list
 invariant-list l = record {
-  kept : KeepsEntering l.task.order.now l.task.n l.fn.list.items (with_monomials l.marks l.initial.members.items) l.f-iterator.rest.items (with_monomials l.marks l.members.items);
-  clear : AreUndividedBy (with_monomials l.marks []) l.f-iterator.rest.items;
+  kept : KeepsEntering (facet_order l.ground.normal.now) (length l.ground.normal.now) (terms_of_parts l.ground.normal.now l.fn.list.items) (with_monomials l.ground.marks.now (line_members l.ground.normal.now l.initial.lines.items)) (terms_of_parts l.ground.normal.now l.part-iterator.rest.items) (with_monomials l.ground.marks.now (line_members l.ground.normal.now l.lines.items));
+  clear : AreUndividedBy (with_monomials l.ground.marks.now []) (terms_of_parts l.ground.normal.now l.part-iterator.rest.items);
+  parts : ArePartsOnLines l.ground.normal.now l.ground.by.now l.part-iterator.rest.items;
+  lines : AreLinesOf l.ground.normal.now l.ground.by.now l.lines.items;
 }

@@ -1,13 +1,18 @@
 use Rattle.std.proofs.Common.{◌+◌, ◌≤◌, length}
+use Rattle.gf_flip.specs.Lines.{AreLinesOf, facet_order, line_members}
 use Rattle.gf_flip.specs.Monomials.{with_monomials}
 use Rattle.gf_flip.proofs.TurnLaws.{IsRowTaken}
 use Rattle.gf_flip.proofs.turns.take_row.Given as goal
 
 abbrev pub invariant-marks : goal.invariant-marks
 invariant-marks l = record {
-  row : IsRowTaken l.task.order.now l.task.n (with_monomials l.marks l.fn.members.items) (with_monomials l.marks l.members.items) l.i (length l.marks + l.j);
-  within : l.i ≤ length l.marks;
+  row : IsRowTaken (facet_order l.ground.normal.now) (length l.ground.normal.now) (with_monomials l.ground.marks.now (line_members l.ground.normal.now l.fn.lines.items)) (with_monomials l.ground.marks.now (line_members l.ground.normal.now l.lines.items)) l.i (length l.ground.marks.now + l.j);
+  within : l.i ≤ length l.ground.marks.now;
+  lines : AreLinesOf l.ground.normal.now l.ground.by.now l.lines.items;
 }
 
-abbrev pub invariant-members : goal.invariant-members
-invariant-members l = IsRowTaken l.task.order.now l.task.n (with_monomials l.marks l.fn.members.items) (with_monomials l.marks l.members.items) (length l.marks + l.i) (length l.marks + l.j)
+abbrev pub invariant-lines : goal.invariant-lines
+invariant-lines l = record {
+  row : IsRowTaken (facet_order l.ground.normal.now) (length l.ground.normal.now) (with_monomials l.ground.marks.now (line_members l.ground.normal.now l.fn.lines.items)) (with_monomials l.ground.marks.now (line_members l.ground.normal.now l.lines.items)) (length l.ground.marks.now + l.i) (length l.ground.marks.now + l.j);
+  lines : AreLinesOf l.ground.normal.now l.ground.by.now l.lines.items;
+}
