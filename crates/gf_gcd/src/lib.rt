@@ -8,6 +8,3 @@ mod entries;
 
 pub use divisor::gcd;
 pub use entries::content;
-
-#[cfg(test)]
-mod tests;

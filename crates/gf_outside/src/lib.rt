@@ -27,6 +27,3 @@ pub use sink::{Sink, write_all};
 pub use source::{MAX_INPUT, Source, read_all};
 pub use streams::{StdSink, StdSource};
 pub use sure::{SureFiles, SureSink, SureSource};
-
-#[cfg(test)]
-mod tests;

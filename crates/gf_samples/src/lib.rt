@@ -6,6 +6,3 @@ mod terms;
 
 pub use sets::{lists_members, marked, marked_set, polys};
 pub use terms::{lists, poly};
-
-#[cfg(test)]
-mod tests;

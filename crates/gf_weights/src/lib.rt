@@ -17,6 +17,3 @@ pub use laws::{
     weights_give_bases, witnesses_are_inside,
 };
 pub use region::{RegionError, region_of};
-
-#[cfg(test)]
-mod tests;
