@@ -27,11 +27,11 @@ pub record LeadsTowards (n : ℕ) (k : Region) (r : List ℤ) (bs : List MarkedP
   pub flippable : IsFlippable n k bs a
   pub negative : IsNegative r a
 
--- one that is negative at the region's own root
+-- a facet that a flip may cross, with a normal that is negative at the region's own root
 abbrev pub LeadsUp : ℕ → Region → List MarkedPolynomial → List ℤ → Type 0
 LeadsUp n k bs a = LeadsTowards n k k.root bs a
 
--- the least of them
+-- a is the way up from bs: the least of the normals of facets that a flip may cross and that are negative at the region's own root
 pub record IsWayUp (n : ℕ) (k : Region) (bs : List MarkedPolynomial) (a : List ℤ) : Type 0 where
   pub leads : LeadsUp n k bs a
   pub least : (b : List ℤ) → LeadsUp n k bs b → (a ≡ b) ⊎ IsBefore a b
@@ -42,7 +42,7 @@ pub record Fan : Type 0 where
   pub ideal : List Terms
   pub region : Region
 
--- its generators are in its variables, and its region has its root
+-- the generators of the ideal are in its variables, and the region has its root
 pub record IsFanOfIdeal (F : Fan) : Type 0 where
   pub ideal : AreInVariables F.variables F.ideal
   pub region : IsRegion F.variables F.region
@@ -53,7 +53,7 @@ pub record IsNodeIn (F : Fan) (v : MarkedPolynomials) : Type 0 where
   pub variables : v.variables ≡ F.variables
   pub basis : IsBasisInRegion F.variables F.ideal F.region v.items
 
--- u is across the way up from v, and c leads back
+-- u is the parent of v: it is across the way up from v, and c is the normal by which a flip leads back
 pub record IsParentIn (F : Fan) (v : MarkedPolynomials) (c : List ℤ) (u : MarkedPolynomials) : Type 0 where
   pub fan : IsFanOfIdeal F
   pub child : v.variables ≡ F.variables
@@ -65,7 +65,7 @@ pub record IsParentIn (F : Fan) (v : MarkedPolynomials) (c : List ℤ) (u : Mark
 
 -- ---- the ideal that a node generates
 
--- the ideal of v, in a region
+-- the ideal that the polynomials of v generate, in a region
 abbrev pub fan_of : Region → MarkedPolynomials → Fan
 fan_of k v = record { variables = v.variables; ideal = polys v.items; region = k }
 
@@ -73,6 +73,6 @@ fan_of k v = record { variables = v.variables; ideal = polys v.items; region = k
 abbrev pub IsNode : Region → MarkedPolynomials → Type 0
 IsNode k v = IsNodeIn (fan_of k v) v
 
--- u is across the way up from v, and c leads back
+-- u is the parent of v in the fan of the ideal that v generates, and c is the normal by which a flip leads back
 abbrev pub IsParent : Region → MarkedPolynomials → List ℤ → MarkedPolynomials → Type 0
 IsParent k v c u = IsParentIn (fan_of k v) v c u

@@ -22,19 +22,19 @@ pub record AreCutRows (n : ℕ) (k : Region) (bs : List MarkedPolynomial) (rows 
   pub are_normals : AreNormals bs normals
   pub all : rows ≡ normals ++ (k.rows ++ units n n)
 
--- its rays, the primitive vectors along its extreme rays, ascending; it has no lineality space
+-- the primitive vectors along the extreme rays of the cone of bs, cut with the closed region, ascending; it has no lineality space
 pub record AreCutRays (n : ℕ) (k : Region) (bs : List MarkedPolynomial) (rays : List (List ℤ)) : Type 0 where
   pub rows : List (List ℤ)
   pub are_rows : AreCutRows n k bs rows
   pub are_rays : IsRays n rows [] [] rays
 
--- v is the weight that is printed of bs: the sum of these rays
+-- v is the weight that is printed of bs: the sum of the vectors of `AreCutRays`
 pub record IsWeightIn (n : ℕ) (k : Region) (bs : List MarkedPolynomial) (v : List ℤ) : Type 0 where
   pub rays : List (List ℤ)
   pub cut : AreCutRays n k bs rays
   pub sum : v ≡ sum_of n rays
 
--- v is the witness that is printed of the facet with normal a: the sum of the rays on which a is zero
+-- v is the witness that is printed of the facet with normal a: the sum of the vectors of `AreCutRays` on which a is zero
 pub record IsWitnessIn (n : ℕ) (k : Region) (bs : List MarkedPolynomial) (a v : List ℤ) : Type 0 where
   pub rays : List (List ℤ)
   pub cut : AreCutRays n k bs rays

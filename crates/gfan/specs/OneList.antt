@@ -14,7 +14,7 @@ use Rattle.gfan.specs.Commands.{list_job, within_command, IsAnswerTo}
 abbrev pub ListsExist : Type 0
 ListsExist = (n : ℕ) (fs : List Terms) → AreInVariables n fs → (list : List MarkedPolynomials) × AreAllBases n fs list
 
--- and no two, so that what is written for an ideal is one text
+-- an ideal has no two lists of all its bases, so that what is written for it is one text
 abbrev pub ListsAreOne : Type 0
 ListsAreOne = (n : ℕ) (fs : List Terms) (list other : List MarkedPolynomials) → AreInVariables n fs → AreAllBases n fs list → AreAllBases n fs other → list ≡ other
 

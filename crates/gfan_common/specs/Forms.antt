@@ -13,12 +13,12 @@ use Rattle.gf_items.specs.Checks.{Check}
 
 -- ---- what is read
 
--- the polynomials of a set; one of which nothing remains is zero
+-- the polynomial that is read; one of which nothing remains is zero
 abbrev pub polynomial_of : Written → Terms
 polynomial_of written.Zero = []
 polynomial_of (written.Nonzero m) = m.poly
 
--- those of all of them, in order
+-- the polynomials of a set that is read, in order
 abbrev pub generators_of : List Written → List Terms
 generators_of ws = map polynomial_of ws
 

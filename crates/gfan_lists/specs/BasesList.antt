@@ -41,11 +41,12 @@ pub record AreAllBasesIn (n : ℕ) (k : Region) (fs : List Terms) (list : List M
   pub lead : LeadTo (IsParent k) root paths list
   pub rises : Rises IsBefore paths
 
--- the same for all positive weights, from the basis by degree and then lex, which is that by (1, .., 1) and then lex
+-- some positive weight gives the basis: it is the reduced Gröbner basis of the ideal of fs in n variables for this weight, arranged
 abbrev pub IsGivenByWeight : ℕ → List Terms → MarkedPolynomials → Type 0
 IsGivenByWeight n fs x = IsGivenIn n (all_positive n) fs x
 
--- all bases of the ideal, each once, by paths from that one
+-- the list has exactly the bases that some positive weight gives, each once, in the order of their paths from the basis by degree and then lex, which is
+-- that by the weight (1, .., 1) and then lex
 abbrev pub AreAllBases : ℕ → List Terms → List MarkedPolynomials → Type 0
 AreAllBases n fs list = AreAllBasesIn n (all_positive n) fs list
 
